@@ -1,0 +1,6 @@
+pub mod Again
+pub mod Found
+pub mod Stepping
+pub mod Scanning
+pub mod TextTokens
+pub mod FaultLines

@@ -1,0 +1,129 @@
+//! The tokens of a source.
+
+ghost use Rattle.std.specs.Prelude.{◌≡◌, ◌<◌, ◌≤◌, ◌++◌, ◌∷◌, [], length, List, IfOk, OnOk};
+ghost use Rattle.asm_lex.specs.declared.token.Token.{Token};
+ghost use Rattle.asm_lex.specs.declared.fault.SourceCause.TheVariants.{TooLong};
+ghost use Rattle.asm_lex.specs.declared.fault.SourceFault.TheVariants.{At};
+ghost use Rattle.asm_lex.specs.Tokens as spec;
+ghost use Rattle.asm_lex.specs.Lines.{RefusedAt};
+ghost use Rattle.asm_lex.specs.Words as words;
+
+use crate::fault::{SourceCause, SourceFault};
+use crate::machine::{Mode, Next, step};
+use crate::token::Token;
+use std::alloc::{AllocError, Global};
+
+fn push(tokens: &mut Vec<Token>, token: Option<Token>) -> Result<(), AllocError>
+    ensures { OnOk result (tokens.new.items ≡ tokens.old.items ++ spec.listed token) }
+{
+    if let Some(token) = token {
+        tokens.push(token)?;
+    }
+    Ok(())
+}
+
+fn push_both(
+    tokens: &mut Vec<Token>,
+    first: Option<Token>,
+    second: Option<Token>,
+) -> Result<(), AllocError>
+    ensures { OnOk result (tokens.new.items ≡ tokens.old.items ++ (spec.listed first ++ spec.listed second)) }
+{
+    push(tokens, first)?;
+    push(tokens, second)?;
+    Ok(())
+}
+
+/// The line behind a byte.
+#[tactic(auto, unfolding(crate::specs::Words::line_after))]
+fn line_after(line: u32, b: u8) -> u32
+    requires { line < 4294967295 }
+    ensures { result ≡ words.line_after line b }
+{
+    if b == b'\n' { line + 1 } else { line }
+}
+
+/// The tokens of a source that ends with a newline, and what is open at its end.
+pub fn tokens(alloc: Global, source: &[u8]) -> Result<(Vec<Token>, Mode), SourceFault>
+    requires { length source.now < 4294967295 }
+    ensures { spec.ScansTo result (spec.token_scan spec.between 0 1 source.now) }
+{
+    let mut tokens = Vec::new(alloc);
+    let mut mode = Mode::Between;
+    let mut line = 1u32;
+    for (i, b) in source.iter().enumerate() {
+        let stepped = step(mode, i as u32, line, *b);
+        match push_both(&mut tokens, stepped.first, stepped.second) {
+            Err(_) => return Err(SourceFault::Memory),
+            Ok(()) => {}
+        }
+        match stepped.next {
+            Next::Stops(line, cause) => return Err(SourceFault::At { line, cause }),
+            Next::Goes(next) => mode = next,
+        }
+        line = line_after(line, *b);
+    }
+    Ok((tokens, mode))
+}
+
+/// The longest source.
+pub const LIMIT: usize = 4194304;
+
+/// The source with a newline at its end.
+fn with_newline(alloc: Global, text: &[u8]) -> Result<Vec<u8>, AllocError>
+    ensures { IfOk result (λ v. v.items ≡ text.now ++ 10 ∷ []) }
+{
+    let mut source = Vec::from_slice(alloc, text)?;
+    source.push(b'\n')?;
+    Ok(source)
+}
+
+/// The tokens of a text that isn't too long.
+fn lexed(alloc: Global, text: &[u8]) -> Result<Vec<Token>, SourceFault>
+    requires { length text.now ≤ LIMIT }
+    ensures { spec.LexesTo result (spec.token_scan spec.between 0 1 (text.now ++ 10 ∷ [])) }
+{
+    let source = match with_newline(alloc, text) {
+        Err(_) => return Err(SourceFault::Memory),
+        Ok(source) => source,
+    };
+    match tokens(alloc, &source) {
+        Err(fault) => Err(fault),
+        Ok((mut tokens, mode)) => match mode {
+            Mode::Block(line) => Err(SourceFault::At {
+                line,
+                cause: SourceCause::OpenComment,
+            }),
+            _ => {
+                let _ = tokens.pop();
+                Ok(tokens)
+            }
+        },
+    }
+}
+
+/// The tokens of the text. A last line that lacks its newline is read as if it had one.
+#[tactic(auto, using(crate::proofs::TextTokens::are_tokens, crate::proofs::TextTokens::are_found, crate::proofs::FaultLines::refused_at))]
+pub fn lex(alloc: Global, text: &[u8]) -> Result<Vec<Token>, SourceFault>
+    ensures long { LIMIT < length text.now → result ≡ Err (At 1 TooLong) }
+
+    // Each is as long as it can be, and between them stand blanks and comments alone.
+    ensures read { IfOk result (λ v. spec.AreTokens text.now v.items) }
+
+    // A text that has tokens is read, unless memory runs out.
+    ensures only { length text.now ≤ LIMIT → (tokens : List Token) → spec.AreTokens text.now tokens → spec.LexedAs tokens result }
+
+    // The first line from which no text that has tokens goes on; that of a comment that doesn't end is where it begins.
+    ensures line { length text.now ≤ LIMIT → RefusedAt text.now result }
+
+    // The scan from left to right, with the first fault and its line.
+    ensures exact { length text.now ≤ LIMIT → spec.LexesTo result (spec.token_scan spec.between 0 1 (text.now ++ 10 ∷ [])) }
+{
+    if text.len() > LIMIT {
+        return Err(SourceFault::At {
+            line: 1,
+            cause: SourceCause::TooLong,
+        });
+    }
+    lexed(alloc, text)
+}

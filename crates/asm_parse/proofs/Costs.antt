@@ -1,0 +1,106 @@
+-- What a symbol says has no more bytes than its token.
+use Rattle.std.proofs.Common.{◌≡◌, ℕ, zero, suc, ◌+◌, ◌≤◌, Bool, true, false, cond, List, [], ◌∷◌, ◌++◌, length, Option, Some, None, refl, sym, ap, subst, ◌∙◌, arith}
+use Rattle.std.proofs.lemmas.List.{length-append}
+use Rattle.std.specs.Prelude.{◌==◌, nat_lt, ◌^◌}
+use Rattle.asm_lex.specs.declared.token.TokenKind.{TokenKind}
+use Rattle.asm_lex.specs.declared.token.TokenKind.TheVariants as kind
+use Rattle.asm_lex.specs.Words.{Word}
+use Rattle.asm_lex.specs.Source.{IsGap, IsToken, Lexed}
+use Rattle.asm_parse.specs.declared.symbol.Symbol.{Symbol}
+use Rattle.asm_parse.specs.declared.symbol.Symbol.TheVariants as symbol
+use Rattle.asm_parse.specs.declared.escapes.Escape.{Escape}
+use Rattle.asm_parse.specs.declared.escapes.Escape.TheVariants as escape
+use Rattle.asm_parse.specs.declared.escapes.Unescaped.{Unescaped}
+use Rattle.asm_parse.specs.Escapes.{gives, is_octal_digit, joined, escaped, plain, escape_step, listed, opening, string_text}
+use Rattle.asm_parse.specs.Reading.{number_value, mark_symbol, number_symbol, symbol_of}
+use Rattle.asm_parse.specs.Statements.{symbols}
+
+-- the bytes that a symbol stands for, or one
+abbrev pub cost : Symbol → ℕ
+cost (symbol.Name n) = length n
+cost (symbol.Text t) = length t
+cost _ = 1
+
+abbrev pub costs : List Symbol → ℕ
+costs [] = 0
+costs (s ∷ ss) = cost s + costs ss
+
+pub costs-append : (ss ts : List Symbol) → costs (ss ++ ts) ≡ costs ss + costs ts
+costs-append [] ts = omega arith
+costs-append (s ∷ ss) ts = omega (arith, costs-append ss ts)
+
+-- ---- strings
+
+-- the bytes that are still to come of an escape
+abbrev owed : Escape → ℕ
+owed (escape.One v) = 1
+owed (escape.Two v) = 1
+owed _ = 0
+
+abbrev Gives : ℕ → Unescaped → Type 0
+Gives o g = length (listed g.first ++ listed g.second) + owed g.next ≤ o + 1
+
+gives_either : (o : ℕ) (t : Bool) (a b : Unescaped) → Gives o a → Gives o b → Gives o (cond t a b)
+gives_either o true a b p q = p
+gives_either o false a b p q = q
+
+plain_none : (b : ℕ) → Gives 0 (plain None b)
+plain_none b = gives_either 0 (b == 92) _ _ (omega arith) (gives_either 0 (b == 34) _ _ (omega arith) (omega arith))
+
+plain_some : (v b : ℕ) → Gives 1 (plain (Some v) b)
+plain_some v b = gives_either 1 (b == 92) _ _ (omega arith) (gives_either 1 (b == 34) _ _ (omega arith) (omega arith))
+
+step_gives : (e : Escape) (b : ℕ) → Gives (owed e) (escape_step e b)
+step_gives escape.Open b = omega arith
+step_gives escape.Plain b = plain_none b
+step_gives escape.Slash b = gives_either 0 (is_octal_digit b) _ _ (omega arith) (omega arith)
+step_gives (escape.One v) b = gives_either 1 (is_octal_digit b) _ _ (omega arith) (plain_some v b)
+step_gives (escape.Two v) b = gives_either 1 (is_octal_digit b) _ _ (omega arith) (plain_some v b)
+step_gives escape.Done b = omega arith
+
+string_shorter : (e : Escape) (bs : List ℕ) → length (string_text e bs) ≤ owed e + length bs
+string_shorter e [] = omega arith
+string_shorter e (b ∷ bs) =
+    let g = escape_step e b in
+    omega (arith, step_gives e b, string_shorter (escape_step e b).next bs, length-append (listed (escape_step e b).first ++ listed (escape_step e b).second) (string_text (escape_step e b).next bs))
+
+-- ---- tokens
+
+one_either : (t : Bool) (a b : Symbol) → cost a ≡ 1 → cost b ≡ 1 → cost (cond t a b) ≡ 1
+one_either true a b p q = p
+one_either false a b p q = q
+
+mark_cost : (m : ℕ) → cost (mark_symbol m) ≡ 1
+mark_cost m =
+    one_either (m == 36) _ _ refl (one_either (m == 37) _ _ refl (one_either (m == 40) _ _ refl (one_either (m == 41) _ _ refl (one_either (m == 42) _ _ refl
+    (one_either (m == 43) _ _ refl (one_either (m == 44) _ _ refl (one_either (m == 45) _ _ refl (one_either (m == 58) _ _ refl refl))))))))
+
+number_cost : (n : ℕ) → cost (number_symbol n) ≡ 1
+number_cost n = one_either (nat_lt n (2 ^ 32)) _ _ refl refl
+
+record Pays (k : TokenKind) (bytes : List ℕ) : Type 0 where
+  some : 1 ≤ length bytes
+  pays : cost (symbol_of k bytes) ≤ length bytes
+
+token_pays : (k : TokenKind) (piece rest : List ℕ) → IsToken k piece rest → Pays k piece
+token_pays k piece rest (IsToken.end h) = record { some = omega arith; pays = omega arith }
+token_pays k piece rest (IsToken.mark {b} h) = record { some = omega arith; pays = omega (arith, mark_cost b) }
+token_pays k piece rest (IsToken.name {b} {bs} h g f) = record { some = omega arith; pays = omega arith }
+token_pays k piece rest (IsToken.number {b} {bs} h g f e) = record { some = omega arith; pays = omega (arith, number_cost (number_value (b ∷ bs))) }
+token_pays k piece rest (IsToken.character {b} {c} h g) = record { some = omega arith; pays = omega (arith, number_cost (number_value (b ∷ c ∷ []))) }
+token_pays k piece rest (IsToken.string {b} {bs} h g) = record { some = omega arith; pays = omega (arith, string_shorter opening (b ∷ bs)) }
+
+pub record Paid (text : List ℕ) (ws : List Word) : Type 0 where
+  pub count : length ws ≤ length text
+  pub bytes : costs (symbols ws) ≤ length text
+
+-- Words have no more bytes than the text, and are no more.
+pub lexed_pays : {at line : ℕ} {text : List ℕ} {ws : List Word} → Lexed at line text ws → Paid text ws
+lexed_pays Lexed.none = record { count = omega arith; bytes = omega arith }
+lexed_pays (Lexed.gap piece rest e gap l) =
+    let p = lexed_pays l in
+    record { count = omega (arith, ap length e, length-append piece rest, p.count); bytes = omega (arith, ap length e, length-append piece rest, p.bytes) }
+lexed_pays (Lexed.token k piece rest e is l) =
+    let p = lexed_pays l in
+    let t = token_pays k piece rest is in
+    record { count = omega (arith, ap length e, length-append piece rest, p.count, t.some); bytes = omega (arith, ap length e, length-append piece rest, p.bytes, t.pays) }

@@ -1,0 +1,17 @@
+pub mod Operands
+pub mod Names
+pub mod Words
+pub mod Quiet
+pub mod Lines
+pub mod Feeding
+pub mod Stepping
+pub mod Advancing
+pub mod Linking
+pub mod Alive
+pub mod Dying
+pub mod Stated
+pub mod Said
+pub mod Sources
+pub mod Keyed
+pub mod Costs
+pub mod Sizes

@@ -1,0 +1,194 @@
+-- The name in an argument: where it is seen, and that it stays.
+use Rattle.std.proofs.Common.{◌≡◌, ℕ, Bool, true, false, cond, List, [], ◌∷◌, Option, Some, None, Result, Ok, Err, refl, ap, subst, ◌∙◌, ◌⊎◌, inl, inr}
+use Rattle.std.specs.Prelude.{pos, not}
+use Rattle.asm_lex.specs.declared.fault.SourceCause.{SourceCause}
+use Rattle.asm_lex.specs.declared.fault.SourceCause.TheVariants as cause
+use Rattle.asm_parse.specs.declared.symbol.Symbol.{Symbol}
+use Rattle.asm_parse.specs.declared.symbol.Symbol.TheVariants as symbol
+use Rattle.asm_parse.specs.declared.operand.Shape.{Shape}
+use Rattle.asm_parse.specs.declared.operand.Place.TheVariants as place
+use Rattle.asm_parse.specs.declared.operand.Partial.{Partial}
+use Rattle.asm_parse.specs.declared.operand.Partial.TheVariants as partial
+use Rattle.asm_parse.specs.declared.tree.Form.{Form}
+use Rattle.asm_parse.specs.declared.tree.Form.TheVariants as form
+use Rattle.asm_parse.specs.ScopeView.{ScopeView}
+use Rattle.asm_parse.specs.Scope.{holds, has_room, noted, defined_too}
+use Rattle.asm_parse.specs.Operand.{is_operand, takes_names, takes_sums, takes_minus, takes_numbers, takes_text, fits, signed, turned, named, plain, of_memory, is_register, next_symbol, operand_step, finished, is_finished, name_in}
+use Rattle.asm_parse.specs.Statement.{noting}
+use Rattle.asm_parse.specs.Statements.{IsSeen, name_of, symbol_in}
+use Rattle.asm_parse.proofs.Operands.{ok, registered_ok, allowed_ok, counted_ok, lowered_ok, scale_ok, ok_is, operand_run}
+
+pub seen_noting : {sc sc2 : ScopeView} {d : Bool} {n : List ℕ} → IsSeen sc d n sc2 → noting sc d n ≡ Ok sc2
+seen_noting (IsSeen.used room) = rw room refl
+seen_noting (IsSeen.defined new room) = rw (new, room) refl
+
+pub noting_seen : (sc sc2 : ScopeView) (d : Bool) (n : List ℕ) → noting sc d n ≡ Ok sc2 → IsSeen sc d n sc2
+noting_seen sc sc2 true n h = by_tests (holds sc.defined n) (has_room sc n) refl refl h
+  where
+    by_tests : (t u : Bool) → holds sc.defined n ≡ t → has_room sc n ≡ u
+        → ◌≡◌ {A = Result ScopeView SourceCause} (cond t (Err cause.DoubledLabel) (cond (not u) (Err cause.TooManySymbols) (Ok (defined_too (noted sc n) n)))) (Ok sc2) → IsSeen sc true n sc2
+    by_tests true u e f h = absurd cc
+    by_tests false false e f h = absurd cc
+    by_tests false true e f h = let g : defined_too (noted sc n) n ≡ sc2 = cc in subst (IsSeen sc true n) g (IsSeen.defined e f)
+noting_seen sc sc2 false n h = by_test (has_room sc n) refl h
+  where
+    by_test : (u : Bool) → has_room sc n ≡ u → ◌≡◌ {A = Result ScopeView SourceCause} (cond (not u) (Err cause.TooManySymbols) (Ok (noted sc n))) (Ok sc2) → IsSeen sc false n sc2
+    by_test false f h = absurd cc
+    by_test true f h = let g : noted sc n ≡ sc2 = cc in subst (IsSeen sc false n) g (IsSeen.used f)
+
+-- the name in what has been read of an argument
+abbrev pub named_in : Partial → Option (List ℕ)
+named_in (partial.Name p n) = Some n
+named_in (partial.Sign p n neg) = Some n
+named_in (partial.SignMinus p n neg) = Some n
+named_in (partial.Number p v) = v.name
+named_in (partial.Open v) = name_of v
+named_in (partial.BasePercent v) = name_of v
+named_in (partial.Base v b) = name_of v
+named_in (partial.IndexComma v b) = name_of v
+named_in (partial.IndexPercent v b) = name_of v
+named_in (partial.Index v b i) = name_of v
+named_in (partial.Scale v b i) = name_of v
+named_in (partial.Scaled v b i s) = name_of v
+named_in (partial.Whole f) = symbol_in f
+named_in _ = None
+
+-- one symbol more: no name is read, or the first one
+abbrev pub Keeps : Partial → Partial → Type 0
+Keeps p q = ((name_in q ≡ None) × (named_in q ≡ named_in p)) ⊎ ((n : List ℕ) × (name_in q ≡ Some n) × (named_in q ≡ Some n) × (named_in p ≡ None))
+
+pub name_step : (sh : Shape) (p : Partial) (s : Symbol) (q : Partial) → next_symbol sh p s ≡ ok q → Keeps p q
+name_step sh partial.Nothing symbol.Percent q h = subst (Keeps partial.Nothing) (allowed_ok (is_operand sh) partial.Percent q h).1 (inl (refl, refl))
+name_step sh partial.Nothing symbol.Dollar q h = subst (Keeps partial.Nothing) (allowed_ok (is_operand sh) partial.Dollar q h).1 (inl (refl, refl))
+name_step sh partial.Nothing symbol.Open q h = subst (Keeps partial.Nothing) (allowed_ok (is_operand sh) (partial.Open None) q h).1 (inl (refl, refl))
+name_step sh partial.Nothing symbol.Minus q h = subst (Keeps partial.Nothing) (allowed_ok (takes_minus sh) (partial.Minus place.Memory) q h).1 (inl (refl, refl))
+name_step sh partial.Nothing (symbol.Number n) q h = subst (Keeps partial.Nothing) (counted_ok (takes_numbers sh) (fits sh false n) (partial.Number place.Memory (plain (pos n))) q h).2 (inl (refl, refl))
+name_step sh partial.Nothing (symbol.Name n) q h = subst (Keeps partial.Nothing) (allowed_ok (takes_names sh) (partial.Name place.Memory n) q h).1 (inr (n, refl, refl, refl))
+name_step sh partial.Nothing (symbol.Text t) q h = subst (Keeps partial.Nothing) (allowed_ok (takes_text sh) (partial.Whole (form.Text t)) q h).1 (inl (refl, refl))
+name_step sh partial.Nothing _ q h = absurd cc
+name_step sh partial.Absent symbol.Percent q h = subst (Keeps partial.Absent) (allowed_ok (is_operand sh) partial.Percent q h).1 (inl (refl, refl))
+name_step sh partial.Absent symbol.Dollar q h = subst (Keeps partial.Absent) (allowed_ok (is_operand sh) partial.Dollar q h).1 (inl (refl, refl))
+name_step sh partial.Absent symbol.Open q h = subst (Keeps partial.Absent) (allowed_ok (is_operand sh) (partial.Open None) q h).1 (inl (refl, refl))
+name_step sh partial.Absent symbol.Minus q h = subst (Keeps partial.Absent) (allowed_ok (takes_minus sh) (partial.Minus place.Memory) q h).1 (inl (refl, refl))
+name_step sh partial.Absent (symbol.Number n) q h = subst (Keeps partial.Absent) (counted_ok (takes_numbers sh) (fits sh false n) (partial.Number place.Memory (plain (pos n))) q h).2 (inl (refl, refl))
+name_step sh partial.Absent (symbol.Name n) q h = subst (Keeps partial.Absent) (allowed_ok (takes_names sh) (partial.Name place.Memory n) q h).1 (inr (n, refl, refl, refl))
+name_step sh partial.Absent (symbol.Text t) q h = subst (Keeps partial.Absent) (allowed_ok (takes_text sh) (partial.Whole (form.Text t)) q h).1 (inl (refl, refl))
+name_step sh partial.Absent _ q h = absurd cc
+name_step sh partial.Percent (symbol.Name r) q h = subst (Keeps partial.Percent) (registered_ok (is_register r) (partial.Whole (form.Register r)) q h).1 (inl (refl, refl))
+name_step sh partial.Percent _ q h = absurd cc
+name_step sh partial.Dollar symbol.Minus q h = subst (Keeps partial.Dollar) (ok_is (partial.Minus place.Immediate) q h) (inl (refl, refl))
+name_step sh partial.Dollar (symbol.Number n) q h = subst (Keeps partial.Dollar) (ok_is (partial.Number place.Immediate (plain (pos n))) q h) (inl (refl, refl))
+name_step sh partial.Dollar (symbol.Name n) q h = subst (Keeps partial.Dollar) (ok_is (partial.Name place.Immediate n) q h) (inr (n, refl, refl, refl))
+name_step sh partial.Dollar _ q h = absurd cc
+name_step sh (partial.Minus a) (symbol.Number n) q h = subst (Keeps (partial.Minus a)) (lowered_ok n (fits sh true n) (partial.Number a (plain (signed true n))) q h).2 (inl (refl, refl))
+name_step sh (partial.Minus a) _ q h = absurd cc
+name_step sh (partial.Name a n) symbol.Plus q h = subst (Keeps (partial.Name a n)) (allowed_ok (takes_sums sh) (partial.Sign a n false) q h).1 (inl (refl, refl))
+name_step sh (partial.Name a n) symbol.Minus q h = subst (Keeps (partial.Name a n)) (allowed_ok (takes_sums sh) (partial.Sign a n true) q h).1 (inl (refl, refl))
+name_step sh (partial.Name place.Memory n) symbol.Open q h = subst (Keeps (partial.Name place.Memory n)) (allowed_ok (is_operand sh) (partial.Open (Some (named n (pos 0)))) q h).1 (inl (refl, refl))
+name_step sh (partial.Name place.Immediate n) symbol.Open q h = absurd cc
+name_step sh (partial.Name a n) _ q h = absurd cc
+name_step sh (partial.Sign a n neg) symbol.Minus q h = subst (Keeps (partial.Sign a n neg)) (ok_is (partial.SignMinus a n neg) q h) (inl (refl, refl))
+name_step sh (partial.Sign a n neg) (symbol.Number k) q h = subst (Keeps (partial.Sign a n neg)) (ok_is (partial.Number a (named n (signed neg k))) q h) (inl (refl, refl))
+name_step sh (partial.Sign a n neg) _ q h = absurd cc
+name_step sh (partial.SignMinus a n neg) (symbol.Number k) q h = subst (Keeps (partial.SignMinus a n neg)) (lowered_ok k true (partial.Number a (named n (turned neg k))) q h).2 (inl (refl, refl))
+name_step sh (partial.SignMinus a n neg) _ q h = absurd cc
+name_step sh (partial.Number place.Memory v) symbol.Open q h = subst (Keeps (partial.Number place.Memory v)) (allowed_ok (is_operand sh) (partial.Open (Some v)) q h).1 (inl (refl, refl))
+name_step sh (partial.Number place.Immediate v) symbol.Open q h = absurd cc
+name_step sh (partial.Number a v) _ q h = absurd cc
+name_step sh (partial.Open v) symbol.Percent q h = subst (Keeps (partial.Open v)) (ok_is (partial.BasePercent v) q h) (inl (refl, refl))
+name_step sh (partial.Open v) symbol.Comma q h = subst (Keeps (partial.Open v)) (ok_is (partial.IndexComma v None) q h) (inl (refl, refl))
+name_step sh (partial.Open v) _ q h = absurd cc
+name_step sh (partial.BasePercent v) (symbol.Name r) q h = subst (Keeps (partial.BasePercent v)) (registered_ok (is_register r) (partial.Base v r) q h).1 (inl (refl, refl))
+name_step sh (partial.BasePercent v) _ q h = absurd cc
+name_step sh (partial.Base v b) symbol.Close q h = subst (Keeps (partial.Base v b)) (ok_is (partial.Whole (of_memory v (Some b) None 1)) q h) (inl (refl, refl))
+name_step sh (partial.Base v b) symbol.Comma q h = subst (Keeps (partial.Base v b)) (ok_is (partial.IndexComma v (Some b)) q h) (inl (refl, refl))
+name_step sh (partial.Base v b) _ q h = absurd cc
+name_step sh (partial.IndexComma v b) symbol.Percent q h = subst (Keeps (partial.IndexComma v b)) (ok_is (partial.IndexPercent v b) q h) (inl (refl, refl))
+name_step sh (partial.IndexComma v b) _ q h = absurd cc
+name_step sh (partial.IndexPercent v b) (symbol.Name r) q h = subst (Keeps (partial.IndexPercent v b)) (registered_ok (is_register r) (partial.Index v b r) q h).1 (inl (refl, refl))
+name_step sh (partial.IndexPercent v b) _ q h = absurd cc
+name_step sh (partial.Index v b i) symbol.Close q h = subst (Keeps (partial.Index v b i)) (ok_is (partial.Whole (of_memory v b (Some i) 1)) q h) (inl (refl, refl))
+name_step sh (partial.Index v b i) symbol.Comma q h = subst (Keeps (partial.Index v b i)) (ok_is (partial.Scale v b i) q h) (inl (refl, refl))
+name_step sh (partial.Index v b i) _ q h = absurd cc
+name_step sh (partial.Scale v b i) (symbol.Number n) q h = subst (Keeps (partial.Scale v b i)) (scale_ok n (partial.Scaled v b i n) q h).1 (inl (refl, refl))
+name_step sh (partial.Scale v b i) _ q h = absurd cc
+name_step sh (partial.Scaled v b i n) symbol.Close q h = subst (Keeps (partial.Scaled v b i n)) (ok_is (partial.Whole (of_memory v b (Some i) n)) q h) (inl (refl, refl))
+name_step sh (partial.Scaled v b i n) _ q h = absurd cc
+name_step sh (partial.Whole f) _ q h = absurd cc
+
+none_some : {A : Type 0} {a : A} (o : Option A) → o ≡ None → o ≡ Some a → ⊥
+none_some o e f = absurd cc
+
+-- a name stays
+pub name_stays : (sh : Shape) (ss : List Symbol) (p q : Partial) (n : List ℕ) → operand_run sh p ss ≡ ok q → named_in p ≡ Some n → named_in q ≡ Some n
+name_stays sh [] p q n h e = let g : p ≡ q = cc in subst (λ (x : Partial). named_in x ≡ Some n) g e
+name_stays sh (s ∷ ss) p q n h e = by_step (next_symbol sh p s) refl h (λ x f g. name_stays sh ss x q n f g)
+  where
+    by_step : (r : Result Partial SourceCause) → next_symbol sh p s ≡ r → ◌≡◌ {A = Result Partial SourceCause} (elim r [ Ok x ↦ operand_run sh x ss | Err c ↦ Err c ]) (Ok q)
+        → ((x : Partial) → operand_run sh x ss ≡ ok q → named_in x ≡ Some n → named_in q ≡ Some n) → named_in q ≡ Some n
+    by_step (Ok x) f h ih = elim (name_step sh p s x f) [
+      | inl k ↦ ih x h (k.1 ∙ e)
+      | inr (m, a, b, c) ↦ absurd (none_some (named_in p) c e)
+    ]
+    by_step (Err c) f h ih = absurd cc
+
+pub finished_named : (p : Partial) (f : Form) → finished p ≡ Some f → named_in p ≡ symbol_in f
+finished_named (partial.Name place.Immediate n) f h = let g : form.Immediate (named n (pos 0)) ≡ f = cc in ap symbol_in g
+finished_named (partial.Name place.Memory n) f h = let g : of_memory (Some (named n (pos 0))) None None 1 ≡ f = cc in ap symbol_in g
+finished_named (partial.Number place.Immediate v) f h = let g : form.Immediate v ≡ f = cc in ap symbol_in g
+finished_named (partial.Number place.Memory v) f h = let g : of_memory (Some v) None None 1 ≡ f = cc in ap symbol_in g
+finished_named (partial.Whole x) f h = let g : x ≡ f = cc in ap symbol_in g
+finished_named partial.Absent f h = let g : form.Absent ≡ f = cc in ap symbol_in g
+finished_named _ f h = absurd cc
+
+pub finished_is : (p : Partial) (f : Form) → finished p ≡ Some f → is_finished p ≡ true
+finished_is (partial.Name a n) f h = refl
+finished_is (partial.Number a v) f h = refl
+finished_is (partial.Whole x) f h = refl
+finished_is partial.Absent f h = refl
+finished_is _ f h = absurd cc
+
+pub is_finished_some : (p : Partial) → is_finished p ≡ true → (f : Form) × (finished p ≡ Some f)
+is_finished_some (partial.Name place.Immediate n) h = (_, refl)
+is_finished_some (partial.Name place.Memory n) h = (_, refl)
+is_finished_some (partial.Number place.Immediate v) h = (_, refl)
+is_finished_some (partial.Number place.Memory v) h = (_, refl)
+is_finished_some (partial.Whole x) h = (_, refl)
+is_finished_some partial.Absent h = (_, refl)
+is_finished_some _ h = absurd cc
+
+-- the symbols with which no argument goes on
+pub no_star : (sh : Shape) (p q : Partial) → next_symbol sh p symbol.Star ≡ ok q → ⊥
+no_star sh p q h = by_partial p h
+  where
+    by_partial : (p : Partial) → next_symbol sh p symbol.Star ≡ ok q → ⊥
+    by_partial partial.Nothing h = absurd cc
+    by_partial partial.Absent h = absurd cc
+    by_partial _ h = absurd cc
+
+pub no_end_symbol : (sh : Shape) (p q : Partial) → next_symbol sh p symbol.End ≡ ok q → ⊥
+no_end_symbol sh p q h = by_partial p h
+  where
+    by_partial : (p : Partial) → next_symbol sh p symbol.End ≡ ok q → ⊥
+    by_partial partial.Nothing h = absurd cc
+    by_partial partial.Absent h = absurd cc
+    by_partial _ h = absurd cc
+
+pub no_big : (sh : Shape) (p q : Partial) → next_symbol sh p symbol.Big ≡ ok q → ⊥
+no_big sh p q h = by_partial p h
+  where
+    by_partial : (p : Partial) → next_symbol sh p symbol.Big ≡ ok q → ⊥
+    by_partial partial.Nothing h = absurd cc
+    by_partial partial.Absent h = absurd cc
+    by_partial _ h = absurd cc
+
+pub no_comma : (sh : Shape) (p q : Partial) → next_symbol sh p symbol.Comma ≡ ok q → is_finished p ≡ false
+no_comma sh (partial.Name a n) q h = absurd cc
+no_comma sh (partial.Number a v) q h = absurd cc
+no_comma sh (partial.Whole f) q h = absurd cc
+no_comma sh partial.Absent q h = absurd cc
+no_comma sh _ q h = refl
+
+pub operand_next : (sh : Shape) (p : Partial) (s : Symbol) (q : Partial) → operand_step sh p s ≡ ok q → next_symbol sh p s ≡ ok q
+operand_next sh p symbol.Big q h = absurd cc
+operand_next sh p _ q h = h

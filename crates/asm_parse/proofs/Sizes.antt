@@ -1,0 +1,232 @@
+-- What is read is no more than the text.
+use Rattle.std.proofs.Common.{◌≡◌, ℕ, zero, suc, ◌+◌, ◌≤◌, Bool, true, false, List, [], ◌∷◌, ◌++◌, length, Option, Some, None, refl, sym, ap, subst, ◌∙◌, ◌⊎◌, inl, inr, arith}
+use Rattle.std.proofs.lemmas.List.{length-append}
+use Rattle.std.specs.Prelude.{ℤ, pos}
+use Rattle.asm_lex.specs.Words.{Word}
+use Rattle.asm_parse.specs.declared.symbol.Symbol.{Symbol}
+use Rattle.asm_parse.specs.declared.symbol.Symbol.TheVariants as symbol
+use Rattle.asm_parse.specs.declared.operand.Shape.{Shape}
+use Rattle.asm_parse.specs.declared.operand.Partial.TheVariants as partial
+use Rattle.asm_parse.specs.declared.operand.Partial.{Partial}
+use Rattle.asm_parse.specs.declared.tree.Value.{Value}
+use Rattle.asm_parse.specs.declared.tree.Form.{Form}
+use Rattle.asm_parse.specs.declared.tree.Form.TheVariants as form
+use Rattle.asm_parse.specs.declared.tree.Argument.{Argument}
+use Rattle.asm_parse.specs.declared.tree.Body.TheVariants as body
+use Rattle.asm_parse.specs.declared.tree.SourceItem.{SourceItem}
+use Rattle.asm_parse.specs.declared.directive.Directive.{Directive}
+use Rattle.asm_parse.specs.declared.directive.Directive.TheVariants as kind
+use Rattle.asm_parse.specs.declared.directive.Head.{Head}
+use Rattle.asm_parse.specs.declared.directive.Head.TheVariants as head
+use Rattle.asm_parse.specs.ScopeView.{ScopeView}
+use Rattle.asm_parse.specs.Scope.{fresh, pushed}
+use Rattle.asm_parse.specs.Operand.{begun, takes_absent}
+use Rattle.asm_parse.specs.Grammar.{IsConstant, IsValue, IsAddress, IsForm}
+use Rattle.asm_parse.specs.Statement.{shape_at, item_of, resumed, sectioned}
+use Rattle.asm_parse.specs.Statements.{IsSeen, Sees, IsArgument, IsNext, Separated, HasArguments, IsSectionName, Statement, Statements, symbols}
+use Rattle.std.specs.Prelude.{IfOk, Result, Ok, Err}
+use Rattle.asm_lex.specs.declared.fault.SourceFault.{SourceFault}
+use Rattle.asm_parse.specs.Reading.{symbol_of}
+use Rattle.asm_parse.specs.Running.{Says, Parses, read}
+use Rattle.asm_parse.proofs.Sources.{parsed_is}
+use Rattle.asm_parse.specs.Size.{name_size, value_size, form_size, arguments_size, body_size, body_count, items_size, items_count}
+use Rattle.asm_parse.proofs.Operands.{absent_begun}
+use Rattle.asm_parse.proofs.Stated.{first_shape}
+use Rattle.asm_parse.proofs.Costs.{cost, costs, costs-append, Paid, lexed_pays}
+
+-- ---- one argument
+
+value_pays : {sh : Shape} {ss : List Symbol} {v : Value} → IsValue sh ss v → (name_size v.name ≤ costs ss) × (1 ≤ length ss)
+value_pays (IsValue.number t f) = (omega arith, omega arith)
+value_pays (IsValue.negative t l f) = (omega arith, omega arith)
+value_pays (IsValue.name t) = (omega arith, omega arith)
+value_pays (IsValue.sum t u c) = (omega arith, omega arith)
+value_pays (IsValue.difference t u c) = (omega arith, omega arith)
+
+address_pays : {ss : List Symbol} {b i : Option (List ℕ)} {s : ℕ} → IsAddress ss b i s → (name_size b + name_size i ≤ costs ss) × (1 ≤ length ss)
+address_pays (IsAddress.base r) = (omega arith, omega arith)
+address_pays (IsAddress.index r) = (omega arith, omega arith)
+address_pays (IsAddress.scaled r t) = (omega arith, omega arith)
+address_pays (IsAddress.base_index r t) = (omega arith, omega arith)
+address_pays (IsAddress.base_scaled r t u) = (omega arith, omega arith)
+
+record FormPays (sh : Shape) (ss : List Symbol) (f : Form) : Type 0 where
+  size : form_size f ≤ costs ss
+  some : (takes_absent sh ≡ true) ⊎ (1 ≤ length ss)
+
+form_pays : {sh : Shape} {ss : List Symbol} {f : Form} → IsForm sh ss f → FormPays sh ss f
+form_pays (IsForm.absent h) = record { size = omega arith; some = inl h }
+form_pays (IsForm.text h) = record { size = omega arith; some = inr (omega arith) }
+form_pays (IsForm.register h g) = record { size = omega arith; some = inr (omega arith) }
+form_pays (IsForm.immediate h v) = let p = value_pays v in record { size = omega (arith, p.0); some = inr (omega arith) }
+form_pays (IsForm.value v) = let p = value_pays v in record { size = omega (arith, p.0); some = inr p.1 }
+form_pays (IsForm.address h a) = let p = address_pays a in record { size = omega (arith, p.0); some = inr p.1 }
+form_pays (IsForm.value_address vs ps h e v a) =
+    let p = value_pays v in
+    let q = address_pays a in
+    record { size = omega (arith, ap costs e, costs-append vs ps, p.0, q.0); some = inr (omega (arith, ap length e, length-append vs ps, p.1)) }
+
+argument_pays : {sh : Shape} {ss : List Symbol} {a : Argument} → IsArgument sh ss a → FormPays sh ss a.form
+argument_pays (IsArgument.plain f) = form_pays f
+argument_pays (IsArgument.starred h f) = let p = form_pays f in record { size = omega (arith, p.size); some = inr (omega arith) }
+
+-- ---- arguments
+
+size-append : (xs ys : List Argument) → arguments_size (xs ++ ys) ≡ arguments_size xs + arguments_size ys
+size-append [] ys = omega arith
+size-append (x ∷ xs) ys = omega (arith, size-append xs ys)
+
+sees_same : (sc sc2 : ScopeView) (d : Bool) (n : Option (List ℕ)) → Sees sc d n sc2 → sc2.items ≡ sc.items
+sees_same sc sc2 d None h = ap (λ (x : ScopeView). x.items) (sym h)
+sees_same sc sc2 d (Some n) (IsSeen.used room) = refl
+sees_same sc sc2 d (Some n) (IsSeen.defined new room) = refl
+
+nothing_absent : {A : Type 0} (p : Partial) → p ≡ partial.Nothing → p ≡ partial.Absent → A
+nothing_absent p e f = absurd cc
+
+-- a first argument is there
+first_some : (h : Head) (sh : Shape) (n : ℕ) → shape_at h 0 ≡ Some sh → (takes_absent sh ≡ true) ⊎ (1 ≤ n) → 1 ≤ n
+first_some h sh n may (inr le) = le
+first_some h sh n may (inl absent) = nothing_absent (begun sh) (first_shape h sh may) (absent_begun sh absent)
+
+record ListPays (h : Head) (sc sc2 : ScopeView) (ss : List Symbol) (args : List Argument) : Type 0 where
+  size : arguments_size args ≤ costs ss
+  count : length args ≤ length ss
+  same : sc2.items ≡ sc.items
+
+record SeparatedPays (h : Head) (sc sc2 : ScopeView) (ss : List Symbol) (args : List Argument) : Type 0 where
+  size : arguments_size args ≤ costs ss
+  count : (args ≡ []) ⊎ (length args + 1 ≤ length ss)
+  same : sc2.items ≡ sc.items
+
+separated_pays : {h : Head} {sc sc2 : ScopeView} {ss : List Symbol} {args : List Argument} → Separated h sc ss args sc2 → SeparatedPays h sc sc2 ss args
+separated_pays Separated.none = record { size = omega arith; count = inl refl; same = refl }
+separated_pays {h} (Separated.more {ss} {ts} {before} {a} {sc1} {sc2} sep next) =
+    let p = separated_pays sep in
+    let q = argument_pays next.is in
+    record {
+      size = omega (arith, size-append before (a ∷ []), costs-append ss (ts ++ symbol.Comma ∷ []), costs-append ts (symbol.Comma ∷ []), p.size, q.size);
+      count = inr (elim p.count [
+        | inl e ↦
+            let may : shape_at h 0 ≡ Some next.shape = ap (λ (x : List Argument). shape_at h (length x)) (sym e) ∙ next.may in
+            let one = first_some h next.shape (length ts) may q.some in
+            omega (arith, one, ap length e, length-append before (a ∷ []), length-append ss (ts ++ symbol.Comma ∷ []), length-append ts (symbol.Comma ∷ []))
+        | inr le ↦ omega (arith, le, length-append before (a ∷ []), length-append ss (ts ++ symbol.Comma ∷ []), length-append ts (symbol.Comma ∷ []))
+      ]);
+      same = sees_same sc1 sc2 _ _ next.sees ∙ p.same;
+    }
+
+arguments_pay : {h : Head} {sc sc2 : ScopeView} {ss : List Symbol} {args : List Argument} → HasArguments h sc ss args sc2 → ListPays h sc sc2 ss args
+arguments_pay HasArguments.none = record { size = omega arith; count = omega arith; same = refl }
+arguments_pay {h} (HasArguments.some {ss} {ts} {before} {a} {sc1} {sc2} sep next) =
+    let p = separated_pays sep in
+    let q = argument_pays next.is in
+    record {
+      size = omega (arith, size-append before (a ∷ []), costs-append ss ts, p.size, q.size);
+      count = elim p.count [
+        | inl e ↦
+            let may : shape_at h 0 ≡ Some next.shape = ap (λ (x : List Argument). shape_at h (length x)) (sym e) ∙ next.may in
+            let one = first_some h next.shape (length ts) may q.some in
+            omega (arith, one, ap length e, length-append before (a ∷ []), length-append ss ts)
+        | inr le ↦ omega (arith, le, length-append before (a ∷ []), length-append ss ts)
+      ];
+      same = sees_same sc1 sc2 _ _ next.sees ∙ p.same;
+    }
+
+-- ---- statements
+
+names_pay : {d : Bool} {ms : List Symbol} {m : List ℕ} → IsSectionName d ms m → (length m ≤ costs ms) × (1 ≤ length ms)
+names_pay (IsSectionName.name is) = (omega arith, omega arith)
+names_pay (IsSectionName.dash {ss} {m} n) = let p = names_pay n in (omega (arith, p.0, length-append m (45 ∷ []), costs-append ss (symbol.Minus ∷ [])), omega (arith, p.1, length-append ss (symbol.Minus ∷ [])))
+names_pay (IsSectionName.joined {ss} {m} k n) = let p = names_pay n in (omega (arith, p.0, length-append m k, costs-append ss (symbol.Name k ∷ [])), omega (arith, p.1, length-append ss (symbol.Name k ∷ [])))
+
+items_end : (xs : List SourceItem) (x : SourceItem) → (items_size (xs ++ x ∷ []) ≡ items_size xs + body_size x.body) × (items_count (xs ++ x ∷ []) ≡ items_count xs + body_count x.body)
+items_end [] x = (omega arith, omega arith)
+items_end (y ∷ xs) x = let p = items_end xs x in (omega (arith, p.0), omega (arith, p.1))
+
+resumed_same : (sc : ScopeView) (h : Head) → (resumed sc h).items ≡ sc.items
+resumed_same sc (head.Instruction r n) = refl
+resumed_same sc (head.Directive kind.Plain n) = refl
+resumed_same sc (head.Directive _ n) = refl
+
+pub record StatementPays (sc sc2 : ScopeView) (ss : List Symbol) : Type 0 where
+  pub size : items_size sc2.items + 1 ≤ items_size sc.items + costs ss
+  pub count : items_count sc2.items + 1 ≤ items_count sc.items + length ss
+
+-- an item behind those of a scope that has the same
+pushed_pays : (sc sc1 sc2 : ScopeView) (x : SourceItem) (ss : List Symbol) → sc1.items ≡ sc.items → sc2.items ≡ sc1.items ++ x ∷ [] → body_size x.body + 1 ≤ costs ss → body_count x.body + 1 ≤ length ss → StatementPays sc sc2 ss
+pushed_pays sc sc1 sc2 x ss same new size count =
+    let e : sc2.items ≡ sc.items ++ x ∷ [] = new ∙ ap (λ (xs : List SourceItem). xs ++ x ∷ []) same in
+    let p = items_end sc.items x in
+    record { size = omega (arith, ap items_size e, p.0, size); count = omega (arith, ap items_count e, p.1, count) }
+
+same_pays : (sc : ScopeView) (s : Symbol) (ss : List Symbol) → StatementPays sc sc (s ∷ (ss ++ symbol.End ∷ []))
+same_pays sc s ss = record { size = omega (arith, costs-append ss (symbol.End ∷ [])); count = omega (arith, length-append ss (symbol.End ∷ [])) }
+
+statement_pays : {sc sc2 : ScopeView} {line : ℕ} {ss : List Symbol} → Statement sc line ss sc2 → StatementPays sc sc2 ss
+statement_pays Statement.empty = record { size = omega arith; count = omega arith }
+statement_pays {sc} {line} (Statement.label {sc2} {n} sk seen) =
+    pushed_pays sc sc2 _ (record { line = line; body = body.Label n }) (symbol.Name n ∷ symbol.Colon ∷ []) (sees_same sc sc2 true (Some n) seen) refl (omega arith) (omega arith)
+statement_pays {sc} {line} (Statement.instruction {sc2} {n} {ss} {args} passed dotted rep has) =
+    let p = arguments_pay has in
+    pushed_pays sc sc2 _ (item_of line (head.Instruction false n) args) (symbol.Name n ∷ (ss ++ symbol.End ∷ [])) p.same refl (omega (arith, p.size, costs-append ss (symbol.End ∷ []))) (omega (arith, p.count, length-append ss (symbol.End ∷ [])))
+statement_pays {sc} {line} (Statement.repeated {sc2} {r} {n} {ss} {args} passed dotted rep has) =
+    let p = arguments_pay has in
+    pushed_pays sc sc2 _ (item_of line (head.Instruction true n) args) (symbol.Name r ∷ symbol.Name n ∷ (ss ++ symbol.End ∷ [])) p.same refl (omega (arith, p.size, costs-append ss (symbol.End ∷ []))) (omega (arith, p.count, length-append ss (symbol.End ∷ [])))
+statement_pays {sc} {line} (Statement.directive {sc2} {n} {k} {ss} {args} passed dotted dir list has count) =
+    let p = arguments_pay has in
+    pushed_pays sc sc2 _ (item_of line (head.Directive k n) args) (symbol.Name n ∷ (ss ++ symbol.End ∷ [])) p.same (resumed_same (pushed sc2 (item_of line (head.Directive k n) args)) (head.Directive k n))
+    (omega (arith, p.size, costs-append ss (symbol.End ∷ []))) (omega (arith, p.count, length-append ss (symbol.End ∷ [])))
+statement_pays {sc} {line} (Statement.section {n} {m} ms ss passed dotted dir names flags) =
+    let p = names_pay names in
+    pushed_pays sc sc _ (record { line = line; body = body.Directive n (record { star = false; form = form.Text m } ∷ []) }) (symbol.Name n ∷ (ms ++ (ss ++ symbol.End ∷ []))) refl refl
+    (omega (arith, p.0, costs-append ms (ss ++ symbol.End ∷ []), costs-append ss (symbol.End ∷ []))) (omega (arith, p.1, length-append ms (ss ++ symbol.End ∷ []), length-append ss (symbol.End ∷ [])))
+statement_pays {sc} (Statement.skipped_directive {n} ss passed dotted dir u h) = same_pays sc (symbol.Name n) ss
+statement_pays {sc} (Statement.skipped_label {n} sk) = record { size = omega arith; count = omega arith }
+statement_pays {sc} (Statement.skipped {n} ss passed u h) = same_pays sc (symbol.Name n) ss
+statement_pays {sc} (Statement.nameless {s} ss sk k h) = same_pays sc s ss
+
+-- ---- a source
+
+symbols-append : (ws vs : List Word) → symbols (ws ++ vs) ≡ symbols ws ++ symbols vs
+symbols-append [] vs = refl
+symbols-append (w ∷ ws) vs = ap (λ (x : List Symbol). symbol_of w.kind w.bytes ∷ x) (symbols-append ws vs)
+
+symbols-length : (ws : List Word) → length (symbols ws) ≡ length ws
+symbols-length [] = refl
+symbols-length (w ∷ ws) = omega (arith, symbols-length ws)
+
+-- with one to spare where there is a statement
+record SourcePays (sc sc2 : ScopeView) (ws : List Word) : Type 0 where
+  size : (sc2.items ≡ sc.items) ⊎ (items_size sc2.items + 1 ≤ items_size sc.items + costs (symbols ws))
+  count : (sc2.items ≡ sc.items) ⊎ (items_count sc2.items + 1 ≤ items_count sc.items + length ws)
+
+statements_pay : {sc sc2 : ScopeView} {ws : List Word} → Statements sc ws sc2 → SourcePays sc sc2 ws
+statements_pay Statements.none = record { size = inl refl; count = inl refl }
+statements_pay {sc} {sc2} {ws} (Statements.more {sc2 = mid} w piece rest e st tail) =
+    let p = statement_pays st in
+    let q = statements_pay tail in
+    let whole : symbols ws ≡ symbols (w ∷ piece) ++ symbols rest = ap symbols e ∙ symbols-append (w ∷ piece) rest in
+    let bytes : costs (symbols ws) ≡ costs (symbols (w ∷ piece)) + costs (symbols rest) = ap costs whole ∙ costs-append (symbols (w ∷ piece)) (symbols rest) in
+    let number : length ws ≡ length (symbols (w ∷ piece)) + length rest = ap length e ∙ (length-append (w ∷ piece) rest ∙ ap (λ (n : ℕ). n + length rest) (sym (symbols-length (w ∷ piece)))) in
+    record {
+      size = inr (elim q.size [ inl s ↦ omega (arith, ap items_size s, p.size, bytes) | inr le ↦ omega (arith, le, p.size, bytes) ]);
+      count = inr (elim q.count [ inl s ↦ omega (arith, ap items_count s, p.count, number) | inr le ↦ omega (arith, le, p.count, number) ]);
+    }
+
+-- All names and strings are no longer than the text, and items and arguments no more than its bytes.
+pub source_pays : (text : List ℕ) (items : List SourceItem) → Says text items → (items_size items ≤ length text) × (items_count items ≤ length text)
+source_pays text items (ws, sc, lexed, statements, is) =
+    let p = statements_pay statements in
+    let l = lexed_pays lexed in (
+      elim p.size [ inl e ↦ omega (arith, ap items_size (sym is ∙ e)) | inr le ↦ omega (arith, le, ap items_size is, l.bytes, length-append text (10 ∷ [])) ],
+      elim p.count [ inl e ↦ omega (arith, ap items_count (sym is ∙ e)) | inr le ↦ omega (arith, le, ap items_count is, l.count, length-append text (10 ∷ [])) ],
+    )
+
+pub parsed_size : (text : List ℕ) (x : Result (List SourceItem) SourceFault) → length text ≤ 4194304 → Parses x (read text) → IfOk x (λ s. items_size s ≤ length text)
+parsed_size text (Ok x) small p = let s = parsed_is text (Ok x) small p in (source_pays text x s.1).0
+parsed_size text (Err e) small p = tt
+
+pub parsed_count : (text : List ℕ) (x : Result (List SourceItem) SourceFault) → length text ≤ 4194304 → Parses x (read text) → IfOk x (λ s. items_count s ≤ length text)
+parsed_count text (Ok x) small p = let s = parsed_is text (Ok x) small p in (source_pays text x s.1).1
+parsed_count text (Err e) small p = tt

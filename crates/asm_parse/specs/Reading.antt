@@ -1,0 +1,84 @@
+-- A source, read from left to right.
+use Rattle.std.specs.Prelude.{◌≡◌, ℕ, ◌+◌, ◌-◌, ◌*◌, ◌^◌, ◌≤◌, ◌==◌, nat_lt, nat_le, List, [], ◌∷◌, length, take, drop, Option, Some, None, Result, Ok, Err, if◌then◌else◌}
+use Rattle.asm_lex.specs.declared.fault.SourceCause.{SourceCause}
+use Rattle.asm_lex.specs.declared.fault.SourceFault.{SourceFault}
+use Rattle.asm_lex.specs.declared.fault.SourceFault.TheVariants as fault
+use Rattle.asm_lex.specs.declared.token.Token.{Token}
+use Rattle.asm_lex.specs.declared.token.TokenKind.{TokenKind}
+use Rattle.asm_lex.specs.declared.token.TokenKind.TheVariants as kind
+use Rattle.asm_parse.specs.declared.symbol.Symbol.{Symbol}
+use Rattle.asm_parse.specs.declared.symbol.Symbol.TheVariants as symbol
+use Rattle.asm_parse.specs.declared.state.State.{State}
+use Rattle.asm_parse.specs.declared.stop.Stop.{Stop}
+use Rattle.asm_parse.specs.declared.stop.Stop.TheVariants as stop
+use Rattle.asm_parse.specs.ScopeView.{ScopeView}
+use Rattle.asm_parse.specs.Escapes.{string_text, opening}
+use Rattle.asm_parse.specs.Statement.{next_step, fault_line}
+
+abbrev pub digit_of : ℕ → ℕ
+digit_of b = if nat_le b 57 then b - 48 else if nat_le b 70 then b - 55 else b - 87
+
+abbrev pub digits_value : ℕ → ℕ → List ℕ → ℕ
+digits_value base so_far [] = so_far
+digits_value base so_far (b ∷ bs) = digits_value base (so_far * base + digit_of b) bs
+
+-- what a number behind its first byte says
+abbrev pub tail_value : ℕ → List ℕ → ℕ
+tail_value first [] = digit_of first
+tail_value first (b ∷ bs) =
+    if first == 39 then b
+    else if first == 48 then (if b == 120 then digits_value 16 0 bs else digits_value 8 0 (b ∷ bs))
+    else digits_value 10 (digit_of first) (b ∷ bs)
+
+abbrev pub number_value : List ℕ → ℕ
+number_value [] = 0
+number_value (b ∷ bs) = tail_value b bs
+
+abbrev pub mark_symbol : ℕ → Symbol
+mark_symbol m =
+    if m == 36 then symbol.Dollar
+    else if m == 37 then symbol.Percent
+    else if m == 40 then symbol.Open
+    else if m == 41 then symbol.Close
+    else if m == 42 then symbol.Star
+    else if m == 43 then symbol.Plus
+    else if m == 44 then symbol.Comma
+    else if m == 45 then symbol.Minus
+    else if m == 58 then symbol.Colon
+    else symbol.At
+
+abbrev pub number_symbol : ℕ → Symbol
+number_symbol n = if nat_lt n (2 ^ 32) then symbol.Number n else symbol.Big
+
+-- a token as the grammar sees it
+abbrev pub symbol_of : TokenKind → List ℕ → Symbol
+symbol_of kind.Name bytes = symbol.Name bytes
+symbol_of kind.Number bytes = number_symbol (number_value bytes)
+symbol_of kind.Text bytes = symbol.Text (string_text opening bytes)
+symbol_of (kind.Mark m) bytes = mark_symbol m
+symbol_of kind.End bytes = symbol.End
+
+abbrev pub Fault : Type 0
+Fault = ℕ × SourceCause
+
+abbrev pub placed : ℕ → Result (ScopeView × State) SourceCause → Result (ScopeView × State) Fault
+placed line (Ok r) = Ok r
+placed line (Err c) = Err (line, c)
+
+abbrev pub fed : ScopeView → State → List ℕ → ℕ → Option Token → Result (ScopeView × State) Fault
+fed sc st seen line None = Ok (sc, st)
+fed sc st seen line (Some t) = placed (fault_line sc st line) (next_step sc st line (symbol_of t.kind (take t.len (drop t.at seen))))
+
+abbrev pub at_line : ℕ → Result State Stop → Result State SourceFault
+at_line line (Ok st) = Ok st
+at_line line (Err (stop.Cause c)) = Err (fault.At line c)
+at_line line (Err stop.Memory) = Err fault.Memory
+
+abbrev pub Feeds : ScopeView → Result State SourceFault → Result (ScopeView × State) Fault → Type 0
+Feeds new (Ok st) r = r ≡ Ok (new, st)
+Feeds new (Err (fault.At l c)) r = r ≡ Err (l, c)
+Feeds new (Err fault.Memory) r = Unit {0}
+
+abbrev pub Fits : List ℕ → Option Token → Type 0
+Fits seen None = Unit {0}
+Fits seen (Some t) = t.at + t.len ≤ length seen

@@ -1,0 +1,29 @@
+-- What the statements before say, and how it grows.
+use Rattle.std.specs.Prelude.{ℕ, Bool, false, ◌||◌, nat_lt, List, [], ◌∷◌, ◌++◌, length, if◌then◌else◌}
+use Rattle.std.specs.List.{list_any}
+use Rattle.std.specs.Str.{bytes_eq}
+use Rattle.asm_parse.specs.declared.tree.SourceItem.{SourceItem}
+use Rattle.asm_parse.specs.ScopeView.{ScopeView}
+
+abbrev pub holds : List (List ℕ) → List ℕ → Bool
+holds names name = list_any (λ n. bytes_eq name n) names
+
+-- a name at the end of those before it, where it is not among them
+abbrev pub added : List (List ℕ) → List ℕ → List (List ℕ)
+added names name = if holds names name then names else names ++ name ∷ []
+
+abbrev pub fresh : ScopeView
+fresh = record { items = []; names = []; defined = []; skipping = false }
+
+-- at most 65,536 different names
+abbrev pub has_room : ScopeView → List ℕ → Bool
+has_room s name = holds s.names name || nat_lt (length s.names) 65536
+
+abbrev pub pushed : ScopeView → SourceItem → ScopeView
+pushed s item = record s { items = s.items ++ item ∷ [] }
+
+abbrev pub noted : ScopeView → List ℕ → ScopeView
+noted s name = record s { names = added s.names name }
+
+abbrev pub defined_too : ScopeView → List ℕ → ScopeView
+defined_too s name = record s { defined = added s.defined name }

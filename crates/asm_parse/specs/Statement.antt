@@ -1,0 +1,425 @@
+-- One statement, symbol by symbol.
+use Rattle.std.specs.Str.{bytes_eq}
+use Rattle.std.specs.List.{starts_with}
+use Rattle.std.specs.Prelude.{codes, nat_eq, is_none, nat_lt, ◌≡◌, ℕ, ◌==◌, Bool, true, false, not, ◌&&◌, ◌||◌, List, [], ◌∷◌, ◌++◌, length, Option, Some, None, Result, Ok, Err, if◌then◌else◌}
+use Rattle.asm_lex.specs.declared.fault.SourceCause.{SourceCause}
+use Rattle.asm_lex.specs.declared.fault.SourceCause.TheVariants as cause
+use Rattle.asm_parse.specs.declared.symbol.Symbol.{Symbol}
+use Rattle.asm_parse.specs.declared.symbol.Symbol.TheVariants as symbol
+use Rattle.asm_parse.specs.declared.operand.Shape.{Shape}
+use Rattle.asm_parse.specs.declared.operand.Shape.TheVariants as shape
+use Rattle.asm_parse.specs.declared.operand.Partial.{Partial}
+use Rattle.asm_parse.specs.declared.operand.Partial.TheVariants as partial
+use Rattle.asm_parse.specs.declared.tree.Argument.{Argument}
+use Rattle.asm_parse.specs.declared.tree.Form.{Form}
+use Rattle.asm_parse.specs.declared.tree.Form.TheVariants as form
+use Rattle.asm_parse.specs.declared.tree.Body.TheVariants as body
+use Rattle.asm_parse.specs.declared.tree.SourceItem.{SourceItem}
+use Rattle.asm_parse.specs.declared.directive.Directive.{Directive}
+use Rattle.asm_parse.specs.declared.directive.Directive.TheVariants as directive
+use Rattle.asm_parse.specs.declared.directive.Head.{Head}
+use Rattle.asm_parse.specs.declared.directive.Head.TheVariants as head
+use Rattle.asm_parse.specs.declared.state.Open.{Open}
+use Rattle.asm_parse.specs.declared.state.State.{State}
+use Rattle.asm_parse.specs.declared.state.State.TheVariants as state
+use Rattle.asm_parse.specs.declared.stop.Stop.{Stop}
+use Rattle.asm_parse.specs.declared.stop.Stop.TheVariants as stop
+use Rattle.asm_parse.specs.ScopeView.{ScopeView}
+use Rattle.asm_parse.specs.Scope.{holds, has_room, fresh, pushed, noted, defined_too}
+use Rattle.asm_parse.specs.Operand.{operand_step, begun, finished, is_finished, is_nothing, is_unbegun, awaits_register, is_register, name_in}
+
+abbrev pub begins : List ℕ → List ℕ → Bool
+begins name text = starts_with nat_eq name text
+
+abbrev pub directive_shape : Directive → ℕ → Option Shape
+directive_shape directive.Bytes i = Some shape.Number
+directive_shape directive.Longs i = Some shape.Value
+directive_shape directive.Strings i = Some shape.Text
+directive_shape directive.Global i = if i == 0 then Some shape.Name else None
+directive_shape directive.Zero i = if i == 0 then Some shape.Count else None
+directive_shape directive.Aligned i = if i == 0 then Some shape.Alignment else None
+directive_shape directive.Powered i = if i == 0 then Some shape.Power else if i == 1 then Some shape.Fill else if i == 2 then Some shape.Count else None
+directive_shape directive.Common i = if i == 0 then Some shape.Name else if i == 1 then Some shape.Count else if i == 2 then Some shape.Alignment else None
+directive_shape directive.Local i = if i == 0 then Some shape.Name else if i == 1 then Some shape.Count else None
+directive_shape _ i = None
+
+-- what may stand as this argument
+abbrev pub shape_at : Head → ℕ → Option Shape
+shape_at (head.Instruction r n) i = Some shape.Operand
+shape_at (head.Directive k n) i = directive_shape k i
+
+abbrev pub directive_least : Directive → ℕ
+directive_least directive.Plain = 0
+directive_least directive.Common = 2
+directive_least directive.Local = 2
+directive_least _ = 1
+
+-- how many arguments there are at least
+abbrev pub least : Head → ℕ
+least (head.Instruction r n) = 0
+least (head.Directive k n) = directive_least k
+
+abbrev pub is_instruction : Head → Bool
+is_instruction (head.Instruction r n) = true
+is_instruction (head.Directive k n) = false
+
+abbrev pub directive_defines : Directive → ℕ → Bool
+directive_defines directive.Common i = i == 0
+directive_defines directive.Local i = i == 0
+directive_defines _ i = false
+
+abbrev pub defines : Head → ℕ → Bool
+defines (head.Instruction r n) i = false
+defines (head.Directive k n) i = directive_defines k i
+
+-- a token with which no argument begins
+abbrev pub begins_nothing : Symbol → Bool
+begins_nothing symbol.Plus = true
+begins_nothing symbol.Close = true
+begins_nothing symbol.Colon = true
+begins_nothing symbol.At = true
+begins_nothing _ = false
+
+-- where an argument of another kind, or none, stands in an argument's place
+abbrev pub misplaced : Symbol → SourceCause
+misplaced symbol.Big = cause.BadNumber
+misplaced s = if begins_nothing s then cause.BadOperand else cause.BadArgument
+
+-- a fault in an argument of a directive
+abbrev pub argument_cause : Bool → SourceCause → SourceCause → SourceCause
+argument_cause nothing other cause.BadNumber = cause.BadNumber
+argument_cause nothing other cause.BadArgument = cause.BadArgument
+argument_cause nothing other c = if nothing then other else cause.BadOperand
+
+abbrev pub cause_in : Head → Bool → SourceCause → SourceCause → SourceCause
+cause_in h nothing other c = if is_instruction h then c else argument_cause nothing other c
+
+-- a name is seen, and maybe defined
+abbrev pub noting : ScopeView → Bool → List ℕ → Result ScopeView SourceCause
+noting sc def n =
+    if def && holds sc.defined n then Err cause.DoubledLabel
+    else if not (has_room sc n) then Err cause.TooManySymbols
+    else if def then Ok (defined_too (noted sc n) n)
+    else Ok (noted sc n)
+
+abbrev pub Notes : ScopeView → Result (Unit {0}) Stop → Result ScopeView SourceCause → Type 0
+Notes new (Ok u) r = r ≡ Ok new
+Notes new (Err (stop.Cause c)) r = r ≡ Err c
+Notes new (Err stop.Memory) r = Unit {0}
+
+abbrev pub Does : ScopeView → Result State Stop → Result (ScopeView × State) SourceCause → Type 0
+Does new (Ok st) r = r ≡ Ok (new, st)
+Does new (Err (stop.Cause c)) r = r ≡ Err c
+Does new (Err stop.Memory) r = Unit {0}
+
+abbrev pub arguments_of : ScopeView → Open → ScopeView × State
+arguments_of sc o = (sc, state.Arguments o)
+
+abbrev pub after_noting : Open → Result ScopeView SourceCause → Result (ScopeView × State) SourceCause
+after_noting o (Ok sc) = Ok (arguments_of sc o)
+after_noting o (Err c) = Err c
+
+abbrev pub with_name : ScopeView → Open → Option (List ℕ) → Result (ScopeView × State) SourceCause
+with_name sc o None = Ok (arguments_of sc o)
+with_name sc o (Some n) = after_noting o (noting sc (defines o.head (length o.done)) n)
+
+abbrev pub after_step : ScopeView → Open → Symbol → Result Partial SourceCause → Result (ScopeView × State) SourceCause
+after_step sc o s (Err c) = Err (cause_in o.head (is_unbegun o.so_far) (misplaced s) c)
+after_step sc o s (Ok q) = with_name sc (record o { so_far = q }) (name_in q)
+
+abbrev pub at_shape : ScopeView → Open → Symbol → Option Shape → Result (ScopeView × State) SourceCause
+at_shape sc o s None = Err (misplaced s)
+at_shape sc o s (Some sh) = after_step sc o s (operand_step sh o.so_far s)
+
+-- the next symbol of an argument
+abbrev pub within : ScopeView → Open → Symbol → Result (ScopeView × State) SourceCause
+within sc o s = at_shape sc o s (shape_at o.head (length o.done))
+
+-- the argument that has been read, where it may end here
+abbrev pub ended_as : Open → Option Form → Option (ℕ × Head × List Argument × Argument)
+ended_as o None = None
+ended_as o (Some f) = Some (o.line, o.head, o.done, record { star = o.star; form = f })
+
+abbrev pub ended : Open → Option (ℕ × Head × List Argument × Argument)
+ended o = ended_as o (finished o.so_far)
+
+abbrev pub Makes : Result State Stop → Result State SourceCause → Type 0
+Makes (Ok st) r = r ≡ Ok st
+Makes (Err (stop.Cause c)) r = r ≡ Err c
+Makes (Err stop.Memory) r = Unit {0}
+
+abbrev pub nothing_yet : ℕ → Head → Open
+nothing_yet line h = record { line = line; head = h; done = []; star = false; so_far = partial.Nothing }
+
+-- an argument of this shape behind these
+abbrev pub argument_of : ℕ → Head → List Argument → Option Shape → Result State SourceCause
+argument_of line h done None = Err cause.BadArgument
+argument_of line h done (Some sh) = Ok (state.Arguments (record { line = line; head = h; done = done; star = false; so_far = begun sh }))
+
+-- a comma behind a whole argument
+abbrev pub next_argument : ℕ → Head → List Argument → Argument → Result State SourceCause
+next_argument line h done last = argument_of line h (done ++ last ∷ []) (shape_at h (length (done ++ last ∷ [])))
+
+abbrev pub item_of : ℕ → Head → List Argument → SourceItem
+item_of line (head.Instruction r n) args = record { line = line; body = body.Instruction r n args }
+item_of line (head.Directive k n) args = record { line = line; body = body.Directive n args }
+
+-- a change of the section ends the skipping
+abbrev pub resumed : ScopeView → Head → ScopeView
+resumed sc (head.Directive directive.Plain n) = record sc { skipping = false }
+resumed sc _ = sc
+
+abbrev pub complete : ScopeView → ℕ → Head → List Argument → Result (ScopeView × State) SourceCause
+complete sc line h args = if nat_lt (length args) (least h) then Err cause.BadArgument else Ok (resumed (pushed sc (item_of line h args)) h, state.Start)
+
+abbrev pub complete_with : ScopeView → ℕ → Head → List Argument → Argument → Result (ScopeView × State) SourceCause
+complete_with sc line h done last = complete sc line h (done ++ last ∷ [])
+
+abbrev pub is_bare : Open → Bool
+is_bare o = is_nothing o.so_far && not o.star && (length o.done == 0)
+
+abbrev pub takes_star : Open → Bool
+takes_star o = is_nothing o.so_far && not o.star && is_instruction o.head
+
+abbrev pub with_scope : ScopeView → Result State SourceCause → Result (ScopeView × State) SourceCause
+with_scope sc (Ok st) = Ok (sc, st)
+with_scope sc (Err c) = Err c
+
+abbrev pub comma_behind : ScopeView → Option (ℕ × Head × List Argument × Argument) → Result (ScopeView × State) SourceCause
+comma_behind sc None = Err cause.BadOperand
+comma_behind sc (Some e) = with_scope sc (next_argument e.0 e.1 e.2 e.3)
+
+abbrev pub end_behind : ScopeView → Option (ℕ × Head × List Argument × Argument) → Result (ScopeView × State) SourceCause
+end_behind sc None = Err cause.BadOperand
+end_behind sc (Some e) = complete_with sc e.0 e.1 e.2 e.3
+
+-- a symbol of a directive or an instruction
+abbrev pub argument_step : ScopeView → Open → Symbol → Result (ScopeView × State) SourceCause
+argument_step sc o symbol.Comma = if is_finished o.so_far then comma_behind sc (ended o) else within sc o symbol.Comma
+argument_step sc o symbol.End =
+    if is_bare o then complete sc o.line o.head o.done
+    else if is_finished o.so_far then end_behind sc (ended o)
+    else within sc o symbol.End
+argument_step sc o symbol.Star = if takes_star o then Ok (sc, state.Arguments (record o { star = true })) else within sc o symbol.Star
+argument_step sc o s = within sc o s
+
+-- the rest of a statement that isn't read
+abbrev pub skip : Symbol → State
+skip symbol.End = state.Start
+skip _ = state.Skip
+
+abbrev pub labelled : ℕ → List ℕ → Result ScopeView SourceCause → Result (ScopeView × State) SourceCause
+labelled line n (Ok sc) = Ok (pushed sc (record { line = line; body = body.Label n }), state.Start)
+labelled line n (Err c) = Err c
+
+abbrev pub label : ScopeView → ℕ → List ℕ → Result (ScopeView × State) SourceCause
+label sc line n = labelled line n (noting sc true n)
+
+unfoldable pub is_rep : List ℕ → Bool
+is_rep n = bytes_eq n (codes "rep")
+
+-- a symbol behind `rep`
+abbrev pub rep_step : ScopeView → ℕ → Symbol → Result (ScopeView × State) SourceCause
+rep_step sc line (symbol.Name m) = Ok (sc, state.Arguments (nothing_yet line (head.Instruction true m)))
+rep_step sc line symbol.Big = Err cause.BadNumber
+rep_step sc line _ = Err cause.BadOperand
+
+-- a symbol behind an instruction's name
+abbrev pub instruction_step : ScopeView → ℕ → List ℕ → Symbol → Result (ScopeView × State) SourceCause
+instruction_step sc line n s = if is_rep n then rep_step sc line s else argument_step sc (nothing_yet line (head.Instruction false n)) s
+
+unfoldable pub directive_of : List ℕ → Option Directive
+directive_of n =
+    if bytes_eq n (codes ".text") || bytes_eq n (codes ".data") || bytes_eq n (codes ".bss") then Some directive.Plain else
+    if bytes_eq n (codes ".section") then Some directive.Section else
+    if bytes_eq n (codes ".globl") || bytes_eq n (codes ".global") || bytes_eq n (codes ".local") then Some directive.Global else
+    if bytes_eq n (codes ".byte") || bytes_eq n (codes ".short") || bytes_eq n (codes ".word") || bytes_eq n (codes ".value") then Some directive.Bytes else
+    if bytes_eq n (codes ".long") || bytes_eq n (codes ".int") then Some directive.Longs else
+    if bytes_eq n (codes ".ascii") || bytes_eq n (codes ".asciz") || bytes_eq n (codes ".string") then Some directive.Strings else
+    if bytes_eq n (codes ".zero") || bytes_eq n (codes ".skip") || bytes_eq n (codes ".space") then Some directive.Zero else
+    if bytes_eq n (codes ".align") || bytes_eq n (codes ".balign") then Some directive.Aligned else
+    if bytes_eq n (codes ".p2align") then Some directive.Powered else
+    if bytes_eq n (codes ".comm") then Some directive.Common else
+    if bytes_eq n (codes ".lcomm") then Some directive.Local else
+    if bytes_eq n (codes ".file") || bytes_eq n (codes ".type") || bytes_eq n (codes ".size") || bytes_eq n (codes ".ident") || bytes_eq n (codes ".code32") || bytes_eq n (codes ".loc") || begins n (codes ".cfi_") then Some directive.Skipped else
+    None
+
+abbrev pub is_dotted : List ℕ → Bool
+is_dotted [] = false
+is_dotted (b ∷ bs) = b == 46
+
+-- the sections that are read
+unfoldable pub is_known : List ℕ → Bool
+is_known n = begins n (codes ".text") || begins n (codes ".bss") || begins n (codes ".rodata") || begins n (codes ".data")
+
+-- the sections that aren't read
+unfoldable pub is_unread : List ℕ → Bool
+is_unread n = begins n (codes ".note") || begins n (codes ".comment") || begins n (codes ".debug") || begins n (codes ".eh_frame")
+
+abbrev pub is_change : Option Directive → Bool
+is_change (Some directive.Plain) = true
+is_change (Some directive.Section) = true
+is_change _ = false
+
+abbrev pub changes_section : List ℕ → Bool
+changes_section n = is_dotted n && is_change (directive_of n)
+
+-- the statement of this name is skipped
+abbrev pub is_passed : ScopeView → List ℕ → Bool
+is_passed sc n = sc.skipping && not (changes_section n)
+
+abbrev pub is_section : List ℕ → Bool
+is_section m = is_known m || is_unread m
+
+abbrev pub section_name : ℕ → List ℕ → Symbol → Result State SourceCause
+section_name line n (symbol.Name m) = if is_section m then Ok (state.Sectioned line n m) else Err cause.BadArgument
+section_name line n s = Err (misplaced s)
+
+abbrev pub of_directive : Option Directive → ScopeView → ℕ → List ℕ → Symbol → Result (ScopeView × State) SourceCause
+of_directive None sc line n s = Err cause.UnknownDirective
+of_directive (Some directive.Skipped) sc line n s = Ok (sc, skip s)
+of_directive (Some directive.Section) sc line n s = with_scope sc (section_name line n s)
+of_directive (Some k) sc line n s = argument_step sc (nothing_yet line (head.Directive k n)) s
+
+-- a symbol behind a directive's name
+abbrev pub directive_step : ScopeView → ℕ → List ℕ → Symbol → Result (ScopeView × State) SourceCause
+directive_step sc line n s = of_directive (directive_of n) sc line n s
+
+abbrev pub sectioned : ScopeView → ℕ → List ℕ → List ℕ → ScopeView
+sectioned sc line n m = record (pushed sc (record { line = line; body = body.Directive n (record { star = false; form = form.Text m } ∷ []) })) { skipping = is_unread m }
+
+abbrev pub section : ScopeView → ℕ → List ℕ → List ℕ → Result (ScopeView × State) SourceCause
+section sc line n m = Ok (sectioned sc line n m, state.Start)
+
+abbrev pub unless_skipping : Bool → SourceCause → Result State SourceCause
+unless_skipping true c = Ok state.Skip
+unless_skipping false c = Err c
+
+abbrev pub start_step : ScopeView → ℕ → Symbol → Result State SourceCause
+start_step sc line symbol.End = Ok state.Start
+start_step sc line (symbol.Name n) = Ok (state.Named line n)
+start_step sc line symbol.Big = unless_skipping sc.skipping cause.BadNumber
+start_step sc line _ = unless_skipping sc.skipping cause.BadOperand
+
+-- a colon behind a name
+abbrev pub colon_behind : ScopeView → ℕ → List ℕ → Result (ScopeView × State) SourceCause
+colon_behind sc begun n = if sc.skipping then Ok (sc, state.Start) else label sc begun n
+
+-- another symbol behind a name
+abbrev pub other_behind : ScopeView → ℕ → List ℕ → Symbol → Result (ScopeView × State) SourceCause
+other_behind sc begun n s =
+    if is_passed sc n then Ok (sc, skip s)
+    else if is_dotted n then directive_step sc begun n s
+    else instruction_step sc begun n s
+
+abbrev pub named_step : ScopeView → ℕ → List ℕ → Symbol → Result (ScopeView × State) SourceCause
+named_step sc begun n symbol.Colon = colon_behind sc begun n
+named_step sc begun n s = other_behind sc begun n s
+
+-- a symbol behind a section's name
+abbrev pub sectioned_step : ScopeView → ℕ → List ℕ → List ℕ → Symbol → Result (ScopeView × State) SourceCause
+sectioned_step sc begun n m symbol.End = section sc begun n m
+sectioned_step sc begun n m symbol.Comma = Ok (sc, state.Flags begun n m)
+sectioned_step sc begun n m symbol.Minus = Ok (sc, state.Joining begun n (m ++ 45 ∷ []))
+sectioned_step sc begun n m symbol.Big = Err cause.BadNumber
+sectioned_step sc begun n m _ = Err cause.BadOperand
+
+-- a symbol behind a section's name that ends with a `-`
+abbrev pub joining_step : ScopeView → ℕ → List ℕ → List ℕ → Symbol → Result (ScopeView × State) SourceCause
+joining_step sc begun n m (symbol.Name k) = Ok (sc, state.Sectioned begun n (m ++ k))
+joining_step sc begun n m s = sectioned_step sc begun n m s
+
+-- a symbol behind a section's name and a comma
+abbrev pub flags_step : ScopeView → ℕ → List ℕ → List ℕ → Symbol → Result (ScopeView × State) SourceCause
+flags_step sc begun n m symbol.End = section sc begun n m
+flags_step sc begun n m _ = Ok (sc, state.Flags begun n m)
+
+-- what stands behind a `%` that may not stand there: a register, or the `%` has that cause of its own
+abbrev pub stray_cause : SourceCause → Symbol → SourceCause
+stray_cause c (symbol.Name n) = if is_register n then c else cause.BadRegister
+stray_cause c _ = cause.BadRegister
+
+-- the next symbol of a source
+abbrev pub step : ScopeView → State → ℕ → Symbol → Result (ScopeView × State) SourceCause
+step sc state.Start line s = with_scope sc (start_step sc line s)
+step sc (state.Named begun n) line s = named_step sc begun n s
+step sc state.Skip line s = Ok (sc, skip s)
+step sc (state.Sectioned begun n m) line s = sectioned_step sc begun n m s
+step sc (state.Joining begun n m) line s = joining_step sc begun n m s
+step sc (state.Flags begun n m) line s = flags_step sc begun n m s
+step sc (state.Arguments o) line s = argument_step sc o s
+step sc (state.Stray l c) line s = Err (stray_cause c s)
+
+-- whether a fault at a `%` is that it stands there
+abbrev pub is_place : SourceCause → Bool
+is_place cause.BadOperand = true
+is_place cause.BadArgument = true
+is_place _ = false
+
+-- a fault at a `%`: its cause rests on what follows, and what was said is of no more use
+abbrev pub stray : ℕ → SourceCause → Result (ScopeView × State) SourceCause
+stray line c = if is_place c then Ok (fresh, state.Stray line c) else Err c
+
+abbrev pub strayed : ℕ → Result (ScopeView × State) SourceCause → Result (ScopeView × State) SourceCause
+strayed line (Ok x) = Ok x
+strayed line (Err c) = stray line c
+
+-- the next symbol, where a `%` may be one that may not stand there
+abbrev pub next_step : ScopeView → State → ℕ → Symbol → Result (ScopeView × State) SourceCause
+next_step sc st line symbol.Percent = strayed line (step sc st line symbol.Percent)
+next_step sc st line s = step sc st line s
+
+-- ---- what is dead already
+
+-- a name that may begin no directive, and that only a colon can make a label
+abbrev pub is_unknown : ScopeView → List ℕ → Bool
+is_unknown sc n = is_dotted n && not sc.skipping && is_none (directive_of n)
+
+-- a label may not have this name
+abbrev pub is_taken : ScopeView → List ℕ → Bool
+is_taken sc n = holds sc.defined n || not (has_room sc n)
+
+abbrev pub if_doomed : Bool → ℕ → Option ℕ
+if_doomed true line = Some line
+if_doomed false line = None
+
+-- the line of a token with which no text goes on, where one has been read
+abbrev pub doom : ScopeView → State → Option ℕ
+doom sc (state.Stray l c) = Some l
+doom sc (state.Named b n) = if_doomed (is_unknown sc n && is_taken sc n) b
+doom sc _ = None
+
+abbrev pub or_line : Option ℕ → ℕ → ℕ
+or_line None line = line
+or_line (Some l) line = l
+
+-- the line of a fault in this line
+abbrev pub fault_line : ScopeView → State → ℕ → ℕ
+fault_line sc st line = or_line (doom sc st) line
+
+abbrev pub if_pending : Bool → SourceCause → Option SourceCause
+if_pending true c = Some c
+if_pending false c = None
+
+-- the cause at a token that has been read, where nothing that is a token follows
+abbrev pub pending : ScopeView → State → Option SourceCause
+pending sc (state.Stray l c) = Some cause.BadRegister
+pending sc (state.Named b n) = if_pending (is_unknown sc n) cause.UnknownDirective
+pending sc (state.Arguments o) = if_pending (awaits_register o.so_far) cause.BadRegister
+pending sc _ = None
+
+abbrev pub or_cause : Option SourceCause → SourceCause → SourceCause
+or_cause None c = c
+or_cause (Some p) c = p
+
+-- a character that is no token in this line, or none of its kind
+abbrev pub stopped : ScopeView → State → ℕ → SourceCause → ℕ × SourceCause
+stopped sc st line c = (fault_line sc st line, or_cause (pending sc st) c)
+
+abbrev pub open_at_end : Option ℕ → Option SourceCause → ℕ → ℕ × SourceCause
+open_at_end None p began = (began, cause.OpenComment)
+open_at_end (Some l) p began = (l, or_cause p cause.OpenComment)
+
+-- a comment that began in this line and doesn't end
+abbrev pub left_open : ScopeView → State → ℕ → ℕ × SourceCause
+left_open sc st began = open_at_end (doom sc st) (pending sc st) began

@@ -1,0 +1,139 @@
+-- What a source may say, by cases, and what each statement adds.
+use Rattle.std.specs.Prelude.{◌≡◌, ℕ, nat_lt, Bool, true, false, List, [], ◌∷◌, ◌++◌, length, Option, Some, None}
+use Rattle.std.specs.List.{list_all}
+use Rattle.asm_lex.specs.Words.{Word}
+use Rattle.asm_parse.specs.declared.symbol.Symbol.{Symbol}
+use Rattle.asm_parse.specs.declared.symbol.Symbol.TheVariants as symbol
+use Rattle.asm_parse.specs.declared.operand.Shape.{Shape}
+use Rattle.asm_parse.specs.declared.tree.Value.{Value}
+use Rattle.asm_parse.specs.declared.tree.Form.{Form}
+use Rattle.asm_parse.specs.declared.tree.Form.TheVariants as form
+use Rattle.asm_parse.specs.declared.tree.Argument.{Argument}
+use Rattle.asm_parse.specs.declared.tree.Body.TheVariants as body
+use Rattle.asm_parse.specs.declared.directive.Directive.{Directive}
+use Rattle.asm_parse.specs.declared.directive.Directive.TheVariants as kind
+use Rattle.asm_parse.specs.declared.directive.Head.{Head}
+use Rattle.asm_parse.specs.declared.directive.Head.TheVariants as head
+use Rattle.asm_parse.specs.ScopeView.{ScopeView}
+use Rattle.asm_parse.specs.Scope.{holds, has_room, pushed, noted, defined_too}
+use Rattle.asm_parse.specs.Operand.{is_operand}
+use Rattle.asm_parse.specs.Grammar.{IsForm}
+use Rattle.asm_parse.specs.Reading.{symbol_of}
+use Rattle.asm_parse.specs.Statement.{shape_at, least, defines, item_of, resumed, sectioned, is_dotted, is_rep, is_section, is_passed, directive_of}
+
+-- ---- names
+
+-- A symbol's name is seen. What it defines must not have been defined before, and there are at most 65,536 names.
+pub data IsSeen : ScopeView → Bool → List ℕ → ScopeView → Type 0 where
+  used : {sc : ScopeView} {n : List ℕ} → has_room sc n ≡ true → IsSeen sc false n (noted sc n)
+  defined : {sc : ScopeView} {n : List ℕ} → holds sc.defined n ≡ false → has_room sc n ≡ true → IsSeen sc true n (defined_too (noted sc n) n)
+
+-- the same for a name that may be there
+abbrev pub Sees : ScopeView → Bool → Option (List ℕ) → ScopeView → Type 0
+Sees sc def None sc2 = sc ≡ sc2
+Sees sc def (Some n) sc2 = IsSeen sc def n sc2
+
+abbrev pub name_of : Option Value → Option (List ℕ)
+name_of None = None
+name_of (Some v) = v.name
+
+-- the symbol's name in an argument
+abbrev pub symbol_in : Form → Option (List ℕ)
+symbol_in (form.Immediate v) = v.name
+symbol_in (form.Memory v b i s) = name_of v
+symbol_in _ = None
+
+-- ---- arguments
+
+-- An operand may have a star.
+pub data IsArgument : Shape → List Symbol → Argument → Type 0 where
+  plain : {sh : Shape} {ss : List Symbol} {f : Form} → IsForm sh ss f → IsArgument sh ss (record { star = false; form = f })
+  starred : {sh : Shape} {ss : List Symbol} {f : Form} → is_operand sh ≡ true → IsForm sh ss f → IsArgument sh (symbol.Star ∷ ss) (record { star = true; form = f })
+
+-- The next argument of this directive or instruction, and the name that is seen in it.
+pub record IsNext (h : Head) (sc : ScopeView) (before : List Argument) (ss : List Symbol) (a : Argument) (sc2 : ScopeView) : Type 0 where
+  pub shape : Shape
+  pub may : shape_at h (length before) ≡ Some shape
+  pub is : IsArgument shape ss a
+  pub sees : Sees sc (defines h (length before)) (symbol_in a.form) sc2
+
+-- arguments with a comma behind each
+pub data Separated (h : Head) (sc : ScopeView) : List Symbol → List Argument → ScopeView → Type 0 where
+  none : Separated h sc [] [] sc
+  more : {ss ts : List Symbol} {before : List Argument} {a : Argument} {sc1 sc2 : ScopeView} → Separated h sc ss before sc1 → IsNext h sc1 before ts a sc2
+      → Separated h sc (ss ++ (ts ++ symbol.Comma ∷ [])) (before ++ a ∷ []) sc2
+
+-- no arguments, or arguments with commas between them
+pub data HasArguments (h : Head) (sc : ScopeView) : List Symbol → List Argument → ScopeView → Type 0 where
+  none : HasArguments h sc [] [] sc
+  some : {ss ts : List Symbol} {before : List Argument} {a : Argument} {sc1 sc2 : ScopeView} → Separated h sc ss before sc1 → IsNext h sc1 before ts a sc2
+      → HasArguments h sc (ss ++ ts) (before ++ a ∷ []) sc2
+
+-- ---- statements
+
+abbrev pub is_inner : Symbol → Bool
+is_inner symbol.End = false
+is_inner _ = true
+
+-- what a skipped statement may go on with behind its name: no colon first, which would make it a label
+abbrev pub is_unlabelled : List Symbol → Bool
+is_unlabelled [] = true
+is_unlabelled (symbol.Colon ∷ ss) = false
+is_unlabelled (s ∷ ss) = true
+
+abbrev pub is_nameless : Symbol → Bool
+is_nameless (symbol.Name n) = false
+is_nameless symbol.End = false
+is_nameless _ = true
+
+-- what may follow a section's name
+abbrev pub are_flags : List Symbol → Bool
+are_flags [] = true
+are_flags (symbol.Comma ∷ ss) = list_all is_inner ss
+are_flags (s ∷ ss) = false
+
+-- These symbols are the name of a section, and whether it ends with a `-`: a name, which `-` and names may follow.
+pub data IsSectionName : Bool → List Symbol → List ℕ → Type 0 where
+  name : {m : List ℕ} → is_section m ≡ true → IsSectionName false (symbol.Name m ∷ []) m
+  dash : {d : Bool} {ss : List Symbol} {m : List ℕ} → IsSectionName d ss m → IsSectionName true (ss ++ symbol.Minus ∷ []) (m ++ 45 ∷ [])
+  joined : {ss : List Symbol} {m : List ℕ} (k : List ℕ) → IsSectionName true ss m → IsSectionName false (ss ++ symbol.Name k ∷ []) (m ++ k)
+
+-- the directives whose arguments are read
+abbrev pub has_list : Directive → Bool
+has_list kind.Section = false
+has_list kind.Skipped = false
+has_list _ = true
+
+-- A label, or a directive or an instruction with its end, that begins in this line.
+pub data Statement : ScopeView → ℕ → List Symbol → ScopeView → Type 0 where
+  empty : {sc : ScopeView} {line : ℕ} → Statement sc line (symbol.End ∷ []) sc
+  label : {sc sc2 : ScopeView} {line : ℕ} {n : List ℕ} → sc.skipping ≡ false → IsSeen sc true n sc2
+      → Statement sc line (symbol.Name n ∷ symbol.Colon ∷ []) (pushed sc2 (record { line = line; body = body.Label n }))
+  instruction : {sc sc2 : ScopeView} {line : ℕ} {n : List ℕ} {ss : List Symbol} {args : List Argument} → is_passed sc n ≡ false → is_dotted n ≡ false → is_rep n ≡ false
+      → HasArguments (head.Instruction false n) sc ss args sc2 → Statement sc line (symbol.Name n ∷ (ss ++ symbol.End ∷ [])) (pushed sc2 (item_of line (head.Instruction false n) args))
+  repeated : {sc sc2 : ScopeView} {line : ℕ} {r n : List ℕ} {ss : List Symbol} {args : List Argument} → is_passed sc r ≡ false → is_dotted r ≡ false → is_rep r ≡ true
+      → HasArguments (head.Instruction true n) sc ss args sc2 → Statement sc line (symbol.Name r ∷ symbol.Name n ∷ (ss ++ symbol.End ∷ [])) (pushed sc2 (item_of line (head.Instruction true n) args))
+  directive : {sc sc2 : ScopeView} {line : ℕ} {n : List ℕ} {k : Directive} {ss : List Symbol} {args : List Argument} → is_passed sc n ≡ false → is_dotted n ≡ true → directive_of n ≡ Some k → has_list k ≡ true
+      → HasArguments (head.Directive k n) sc ss args sc2 → nat_lt (length args) (least (head.Directive k n)) ≡ false
+      → Statement sc line (symbol.Name n ∷ (ss ++ symbol.End ∷ [])) (resumed (pushed sc2 (item_of line (head.Directive k n) args)) (head.Directive k n))
+  section : {sc : ScopeView} {line : ℕ} {n m : List ℕ} {d : Bool} (ms ss : List Symbol) → is_passed sc n ≡ false → is_dotted n ≡ true → directive_of n ≡ Some kind.Section → IsSectionName d ms m
+      → are_flags ss ≡ true → Statement sc line (symbol.Name n ∷ (ms ++ (ss ++ symbol.End ∷ []))) (sectioned sc line n m)
+  skipped_directive : {sc : ScopeView} {line : ℕ} {n : List ℕ} (ss : List Symbol) → is_passed sc n ≡ false → is_dotted n ≡ true → directive_of n ≡ Some kind.Skipped → is_unlabelled ss ≡ true → list_all is_inner ss ≡ true
+      → Statement sc line (symbol.Name n ∷ (ss ++ symbol.End ∷ [])) sc
+  -- in a section that isn't read
+  skipped_label : {sc : ScopeView} {line : ℕ} {n : List ℕ} → sc.skipping ≡ true → Statement sc line (symbol.Name n ∷ symbol.Colon ∷ []) sc
+  skipped : {sc : ScopeView} {line : ℕ} {n : List ℕ} (ss : List Symbol) → is_passed sc n ≡ true → is_unlabelled ss ≡ true → list_all is_inner ss ≡ true
+      → Statement sc line (symbol.Name n ∷ (ss ++ symbol.End ∷ [])) sc
+  nameless : {sc : ScopeView} {line : ℕ} {s : Symbol} (ss : List Symbol) → sc.skipping ≡ true → is_nameless s ≡ true → list_all is_inner ss ≡ true
+      → Statement sc line (s ∷ (ss ++ symbol.End ∷ [])) sc
+
+-- words as the grammar sees them
+abbrev pub symbols : List Word → List Symbol
+symbols [] = []
+symbols (w ∷ ws) = symbol_of w.kind w.bytes ∷ symbols ws
+
+-- These words are statements, which lead from what was said before to what is said then.
+pub data Statements : ScopeView → List Word → ScopeView → Type 0 where
+  none : {sc : ScopeView} → Statements sc [] sc
+  more : {sc sc2 sc3 : ScopeView} {ws : List Word} (w : Word) (piece rest : List Word) → ws ≡ w ∷ (piece ++ rest) → Statement sc w.line (symbols (w ∷ piece)) sc2 → Statements sc2 rest sc3
+      → Statements sc ws sc3

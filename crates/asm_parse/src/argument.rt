@@ -1,0 +1,289 @@
+//! The arguments of one statement, symbol by symbol.
+
+ghost use Rattle.std.specs.Prelude.{◌≡◌, length};
+ghost use Rattle.asm_parse.specs.Statement as spec;
+
+use crate::directive::{Directive, Head, defines, is_instruction, least, shape_at};
+use crate::operand::{
+    Partial, begun, finished, is_finished, is_nothing, is_unbegun, name_in, operand_step,
+};
+use crate::scope::Scope;
+use crate::state::{Open, State};
+use crate::stop::Stop;
+use crate::symbol::Symbol;
+use crate::tree::{Argument, Arguments, Body, Name, SourceItem};
+use asm_lex::SourceCause;
+use std::alloc::Global;
+
+/// Whether no argument begins with the symbol.
+fn begins_nothing(symbol: &Symbol) -> bool
+    ensures { result ≡ spec.begins_nothing symbol.now }
+{
+    match symbol {
+        Symbol::Plus | Symbol::Close | Symbol::Colon | Symbol::At => true,
+        _ => false,
+    }
+}
+
+/// Where an argument of another kind, or none, stands in an argument's place.
+pub fn misplaced(symbol: &Symbol) -> SourceCause
+    ensures { result ≡ spec.misplaced symbol.now }
+{
+    if let Symbol::Big = symbol {
+        return SourceCause::BadNumber;
+    }
+    if begins_nothing(symbol) {
+        SourceCause::BadOperand
+    } else {
+        SourceCause::BadArgument
+    }
+}
+
+/// A fault in an argument of a directive, where nothing of it was read before the symbol, or something.
+fn argument_cause(nothing: bool, misplaced: SourceCause, cause: SourceCause) -> SourceCause
+    ensures { result ≡ spec.argument_cause nothing misplaced cause }
+{
+    match cause {
+        SourceCause::BadNumber => SourceCause::BadNumber,
+        SourceCause::BadArgument => SourceCause::BadArgument,
+        _ => {
+            if nothing {
+                misplaced
+            } else {
+                SourceCause::BadOperand
+            }
+        }
+    }
+}
+
+fn cause_in(head: &Head, nothing: bool, misplaced: SourceCause, cause: SourceCause) -> SourceCause
+    ensures { result ≡ spec.cause_in head.now nothing misplaced cause }
+{
+    if is_instruction(head) {
+        cause
+    } else {
+        argument_cause(nothing, misplaced, cause)
+    }
+}
+
+/// Notes a name, and that it is defined.
+pub fn noting(alloc: Global, scope: &mut Scope, defined: bool, name: &Name) -> Result<(), Stop>
+    ensures { spec.Notes scope.new result (spec.noting scope.old defined name.now) }
+{
+    if defined && scope.is_defined(name) {
+        return Err(Stop::Cause(SourceCause::DoubledLabel));
+    }
+    if !scope.has_room(name) {
+        return Err(Stop::Cause(SourceCause::TooManySymbols));
+    }
+    scope.note(alloc, name)?;
+    if defined {
+        scope.define(alloc, name)?;
+    }
+    Ok(())
+}
+
+/// The next symbol of an argument.
+fn within(alloc: Global, scope: &mut Scope, begun: Open, symbol: Symbol) -> Result<State, Stop>
+    ensures { spec.Does scope.new result (spec.within scope.old begun symbol) }
+{
+    let Open {
+        line,
+        head,
+        done,
+        star,
+        so_far,
+    } = begun;
+    let index = done.list.len();
+    let nothing = is_unbegun(&so_far);
+    let other = misplaced(&symbol);
+    let Some(shape) = shape_at(&head, index) else {
+        return Err(Stop::Cause(other));
+    };
+    match operand_step(shape, so_far, symbol) {
+        Err(cause) => Err(Stop::Cause(cause_in(&head, nothing, other, cause))),
+        Ok(so_far) => {
+            if let Some(name) = name_in(&so_far) {
+                noting(alloc, scope, defines(&head, index), name)?;
+            }
+            Ok(State::Arguments(Open {
+                line,
+                head,
+                done,
+                star,
+                so_far,
+            }))
+        }
+    }
+}
+
+/// The argument that has been read, where it may end here.
+fn ended(begun: Open) -> Option<(u32, Head, Arguments, Argument)>
+    ensures { result ≡ spec.ended begun }
+{
+    let Open {
+        line,
+        head,
+        done,
+        star,
+        so_far,
+    } = begun;
+    match finished(so_far) {
+        Some(form) => Some((line, head, done, Argument { star, form })),
+        None => None,
+    }
+}
+
+/// A comma behind a whole argument.
+fn next_argument(line: u32, head: Head, done: Arguments, last: Argument) -> Result<State, Stop>
+    ensures { spec.Makes result (spec.next_argument line head done last) }
+{
+    let Arguments { list } = done;
+    let mut list = list;
+    list.push(last)?;
+    let Some(shape) = shape_at(&head, list.len()) else {
+        return Err(Stop::Cause(SourceCause::BadArgument));
+    };
+    Ok(State::Arguments(Open {
+        line,
+        head,
+        done: Arguments { list },
+        star: false,
+        so_far: begun(shape),
+    }))
+}
+
+/// The end of a directive or an instruction.
+fn complete(scope: &mut Scope, line: u32, head: Head, done: Arguments) -> Result<State, Stop>
+    ensures { spec.Does scope.new result (spec.complete scope.old line head done) }
+{
+    if done.list.len() < least(&head) {
+        return Err(Stop::Cause(SourceCause::BadArgument));
+    }
+    match head {
+        Head::Instruction { rep, name } => {
+            let body = Body::Instruction {
+                rep,
+                name,
+                arguments: done,
+            };
+            scope.push(SourceItem { line, body })?;
+            Ok(State::Start)
+        }
+        Head::Directive { kind, name } => {
+            let body = Body::Directive {
+                name,
+                arguments: done,
+            };
+            scope.push(SourceItem { line, body })?;
+            if let Directive::Plain = kind {
+                scope.set_skipping(false);
+            }
+            Ok(State::Start)
+        }
+    }
+}
+
+/// The end of a directive or an instruction behind a last argument.
+fn complete_with(
+    scope: &mut Scope,
+    line: u32,
+    head: Head,
+    done: Arguments,
+    last: Argument,
+) -> Result<State, Stop>
+    ensures { spec.Does scope.new result (spec.complete_with scope.old line head done last) }
+{
+    let Arguments { list } = done;
+    let mut list = list;
+    list.push(last)?;
+    complete(scope, line, head, Arguments { list })
+}
+
+/// Whether no argument has begun, and none is owed.
+fn is_bare(begun: &Open) -> bool
+    ensures { result ≡ spec.is_bare begun.now }
+{
+    is_nothing(&begun.so_far) && !begun.star && begun.done.list.len() == 0
+}
+
+fn takes_star(begun: &Open) -> bool
+    ensures { result ≡ spec.takes_star begun.now }
+{
+    is_nothing(&begun.so_far) && !begun.star && is_instruction(&begun.head)
+}
+
+/// A symbol of a directive or an instruction.
+pub fn argument_step(
+    alloc: Global,
+    scope: &mut Scope,
+    begun: Open,
+    symbol: Symbol,
+) -> Result<State, Stop>
+    ensures { spec.Does scope.new result (spec.argument_step scope.old begun symbol) }
+{
+    match symbol {
+        Symbol::Comma => {
+            if !is_finished(&begun.so_far) {
+                return within(alloc, scope, begun, Symbol::Comma);
+            }
+            match ended(begun) {
+                Some((line, head, done, last)) => next_argument(line, head, done, last),
+                None => Err(Stop::Cause(SourceCause::BadOperand)),
+            }
+        }
+        Symbol::End => {
+            if is_bare(&begun) {
+                let Open {
+                    line,
+                    head,
+                    done,
+                    star: _,
+                    so_far: _,
+                } = begun;
+                return complete(scope, line, head, done);
+            }
+            if !is_finished(&begun.so_far) {
+                return within(alloc, scope, begun, Symbol::End);
+            }
+            match ended(begun) {
+                Some((line, head, done, last)) => complete_with(scope, line, head, done, last),
+                None => Err(Stop::Cause(SourceCause::BadOperand)),
+            }
+        }
+        Symbol::Star => {
+            if takes_star(&begun) {
+                let Open {
+                    line,
+                    head,
+                    done,
+                    star: _,
+                    so_far,
+                } = begun;
+                return Ok(State::Arguments(Open {
+                    line,
+                    head,
+                    done,
+                    star: true,
+                    so_far,
+                }));
+            }
+            within(alloc, scope, begun, Symbol::Star)
+        }
+        other => within(alloc, scope, begun, other),
+    }
+}
+
+pub fn nothing_yet(alloc: Global, line: u32, head: Head) -> Open
+    ensures { result ≡ spec.nothing_yet line head }
+{
+    Open {
+        line,
+        head,
+        done: Arguments {
+            list: Vec::new(alloc),
+        },
+        star: false,
+        so_far: Partial::Nothing,
+    }
+}

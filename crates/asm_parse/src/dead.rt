@@ -1,0 +1,147 @@
+//! Where no text goes on any more, though the fault shows only at the next token.
+
+ghost use Rattle.std.specs.Prelude.{◌≡◌};
+ghost use Rattle.std.specs.Option.{option_copied};
+ghost use Rattle.asm_parse.specs.Statement as spec;
+
+use crate::directive::{directive_named, is_dotted};
+use crate::operand::awaits_register;
+use crate::scope::Scope;
+use crate::state::State;
+use crate::statement::step;
+use crate::stop::Stop;
+use crate::symbol::Symbol;
+use crate::tree::Name;
+use asm_lex::SourceCause;
+use std::alloc::Global;
+
+/// Whether a fault at a `%` is that it stands there.
+fn is_place(cause: SourceCause) -> bool
+    ensures { result ≡ spec.is_place cause }
+{
+    match cause {
+        SourceCause::BadOperand | SourceCause::BadArgument => true,
+        _ => false,
+    }
+}
+
+/// A fault at a `%`. Its cause rests on what follows, and what was said is of no more use.
+fn stray(alloc: Global, scope: &mut Scope, line: u32, cause: SourceCause) -> Result<State, Stop>
+    ensures { spec.Does scope.new result (spec.stray line cause) }
+{
+    if is_place(cause) {
+        *scope = Scope::new(alloc);
+        Ok(State::Stray(line, cause))
+    } else {
+        Err(Stop::Cause(cause))
+    }
+}
+
+/// The next symbol of a source, where a `%` may be one that may not stand there.
+pub fn next_step(
+    alloc: Global,
+    scope: &mut Scope,
+    state: State,
+    line: u32,
+    symbol: Symbol,
+) -> Result<State, Stop>
+    ensures { spec.Does scope.new result (spec.next_step scope.old state line symbol) }
+{
+    match symbol {
+        Symbol::Percent => match step(alloc, scope, state, line, Symbol::Percent) {
+            Err(Stop::Cause(cause)) => stray(alloc, scope, line, cause),
+            Err(Stop::Memory) => Err(Stop::Memory),
+            Ok(state) => Ok(state),
+        },
+        other => step(alloc, scope, state, line, other),
+    }
+}
+
+/// Whether the name may begin no directive, so that only a colon can make it a label.
+fn is_unknown(scope: &Scope, name: &Name) -> bool
+    ensures { result ≡ spec.is_unknown scope.now name.now }
+{
+    is_dotted(name) && !scope.is_skipping() && directive_named(name).is_none()
+}
+
+/// Whether a label may not have the name.
+fn is_taken(scope: &Scope, name: &Name) -> bool
+    ensures { result ≡ spec.is_taken scope.now name.now }
+{
+    scope.is_defined(name) || !scope.has_room(name)
+}
+
+/// The line of a token with which no text goes on, where one has been read.
+fn doom(scope: &Scope, state: &State) -> Option<u32>
+    ensures { result ≡ spec.doom scope.now state.now }
+{
+    match state {
+        State::Stray(line, _) => Some(*line),
+        State::Named(begun, name) => {
+            if is_unknown(scope, name) && is_taken(scope, name) {
+                Some(*begun)
+            } else {
+                None
+            }
+        }
+        _ => None,
+    }
+}
+
+/// The line of a fault in this line.
+pub fn fault_line(scope: &Scope, state: &State, line: u32) -> u32
+    ensures { result ≡ spec.fault_line scope.now state.now line }
+{
+    match doom(scope, state) {
+        Some(dead) => dead,
+        None => line,
+    }
+}
+
+/// The cause at a token that has been read, where nothing that is a token follows.
+fn pending(scope: &Scope, state: &State) -> Option<SourceCause>
+    ensures { result ≡ spec.pending scope.now state.now }
+{
+    match state {
+        State::Stray(_, _) => Some(SourceCause::BadRegister),
+        State::Named(_, name) => {
+            if is_unknown(scope, name) {
+                Some(SourceCause::UnknownDirective)
+            } else {
+                None
+            }
+        }
+        State::Arguments(begun) => {
+            if awaits_register(&begun.so_far) {
+                Some(SourceCause::BadRegister)
+            } else {
+                None
+            }
+        }
+        _ => None,
+    }
+}
+
+/// The line and the cause where a character is no token, or none of its kind.
+pub fn stopped(scope: &Scope, state: &State, line: u32, cause: SourceCause) -> (u32, SourceCause)
+    ensures { result ≡ spec.stopped scope.now state.now line cause }
+{
+    let line = fault_line(scope, state, line);
+    match pending(scope, state) {
+        Some(pending) => (line, pending),
+        None => (line, cause),
+    }
+}
+
+/// The line and the cause where a comment that began in this line doesn't end.
+pub fn left_open(scope: &Scope, state: &State, began: u32) -> (u32, SourceCause)
+    ensures { result ≡ spec.left_open scope.now state.now began }
+{
+    match doom(scope, state) {
+        None => (began, SourceCause::OpenComment),
+        Some(line) => match pending(scope, state) {
+            Some(pending) => (line, pending),
+            None => (line, SourceCause::OpenComment),
+        },
+    }
+}

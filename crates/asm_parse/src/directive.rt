@@ -1,0 +1,253 @@
+//! The directives, and what their arguments are.
+
+ghost use Rattle.std.specs.Prelude.{◌≡◌};
+ghost use Rattle.asm_parse.specs.Statement as spec;
+
+use crate::bytes::{begins, is_text};
+use crate::operand::Shape;
+use crate::tree::Name;
+
+/// What a directive's arguments are.
+#[derive(Clone, Copy, Debug, PartialEq, Eq)]
+pub enum Directive {
+    /// A change of the section, without an argument.
+    Plain,
+    Section,
+    Global,
+    Bytes,
+    Longs,
+    Strings,
+    Zero,
+    Aligned,
+    /// `.p2align`.
+    Powered,
+    Common,
+    Local,
+    Skipped,
+}
+
+/// What a directive or an instruction begins with.
+#[derive(Debug, Drop)]
+pub enum Head {
+    Instruction { rep: bool, name: Name },
+    Directive { kind: Directive, name: Name },
+}
+
+pub fn shape_at(head: &Head, index: usize) -> Option<Shape>
+    ensures { result ≡ spec.shape_at head.now index }
+{
+    match head {
+        Head::Instruction { rep: _, name: _ } => Some(Shape::Operand),
+        Head::Directive { kind, name: _ } => directive_shape(*kind, index),
+    }
+}
+
+fn directive_shape(kind: Directive, index: usize) -> Option<Shape>
+    ensures { result ≡ spec.directive_shape kind index }
+{
+    match kind {
+        Directive::Bytes => Some(Shape::Number),
+        Directive::Longs => Some(Shape::Value),
+        Directive::Strings => Some(Shape::Text),
+        Directive::Global => if index == 0 { Some(Shape::Name) } else { None },
+        Directive::Zero => if index == 0 { Some(Shape::Count) } else { None },
+        Directive::Aligned => if index == 0 {
+            Some(Shape::Alignment)
+        } else {
+            None
+        },
+        Directive::Powered => {
+            if index == 0 {
+                Some(Shape::Power)
+            } else if index == 1 {
+                Some(Shape::Fill)
+            } else if index == 2 {
+                Some(Shape::Count)
+            } else {
+                None
+            }
+        }
+        Directive::Common => {
+            if index == 0 {
+                Some(Shape::Name)
+            } else if index == 1 {
+                Some(Shape::Count)
+            } else if index == 2 {
+                Some(Shape::Alignment)
+            } else {
+                None
+            }
+        }
+        Directive::Local => {
+            if index == 0 {
+                Some(Shape::Name)
+            } else if index == 1 {
+                Some(Shape::Count)
+            } else {
+                None
+            }
+        }
+        _ => None,
+    }
+}
+
+pub fn least(head: &Head) -> usize
+    ensures { result ≡ spec.least head.now }
+{
+    match head {
+        Head::Instruction { rep: _, name: _ } => 0,
+        Head::Directive { kind, name: _ } => directive_least(*kind),
+    }
+}
+
+fn directive_least(kind: Directive) -> usize
+    ensures { result ≡ spec.directive_least kind }
+{
+    match kind {
+        Directive::Plain => 0,
+        Directive::Common | Directive::Local => 2,
+        _ => 1,
+    }
+}
+
+pub fn is_instruction(head: &Head) -> bool
+    ensures { result ≡ spec.is_instruction head.now }
+{
+    match head {
+        Head::Instruction { rep: _, name: _ } => true,
+        Head::Directive { kind: _, name: _ } => false,
+    }
+}
+
+/// Whether the argument at this place defines its name.
+pub fn defines(head: &Head, index: usize) -> bool
+    ensures { result ≡ spec.defines head.now index }
+{
+    match head {
+        Head::Instruction { rep: _, name: _ } => false,
+        Head::Directive { kind, name: _ } => match kind {
+            Directive::Common | Directive::Local => index == 0,
+            _ => false,
+        },
+    }
+}
+
+#[tactic(auto, unfolding(crate::specs::Statement::is_rep))]
+pub fn is_rep(name: &Name) -> bool
+    ensures { result ≡ spec.is_rep name.now }
+{
+    is_text(&name.bytes, b"rep")
+}
+
+/// The directive of this name.
+#[tactic(auto, unfolding(crate::specs::Statement::directive_of))]
+fn directive_of(name: &[u8]) -> Option<Directive>
+    ensures { result ≡ spec.directive_of name.now }
+{
+    if is_text(name, b".text") || is_text(name, b".data") || is_text(name, b".bss") {
+        Some(Directive::Plain)
+    } else if is_text(name, b".section") {
+        Some(Directive::Section)
+    } else if is_text(name, b".globl") || is_text(name, b".global") || is_text(name, b".local") {
+        Some(Directive::Global)
+    } else if is_text(name, b".byte")
+        || is_text(name, b".short")
+        || is_text(name, b".word")
+        || is_text(name, b".value")
+    {
+        Some(Directive::Bytes)
+    } else if is_text(name, b".long") || is_text(name, b".int") {
+        Some(Directive::Longs)
+    } else if is_text(name, b".ascii") || is_text(name, b".asciz") || is_text(name, b".string") {
+        Some(Directive::Strings)
+    } else if is_text(name, b".zero") || is_text(name, b".skip") || is_text(name, b".space") {
+        Some(Directive::Zero)
+    } else if is_text(name, b".align") || is_text(name, b".balign") {
+        Some(Directive::Aligned)
+    } else if is_text(name, b".p2align") {
+        Some(Directive::Powered)
+    } else if is_text(name, b".comm") {
+        Some(Directive::Common)
+    } else if is_text(name, b".lcomm") {
+        Some(Directive::Local)
+    } else if is_text(name, b".file")
+        || is_text(name, b".type")
+        || is_text(name, b".size")
+        || is_text(name, b".ident")
+        || is_text(name, b".code32")
+        || is_text(name, b".loc")
+        || begins(name, b".cfi_")
+    {
+        Some(Directive::Skipped)
+    } else {
+        None
+    }
+}
+
+pub fn directive_named(name: &Name) -> Option<Directive>
+    ensures { result ≡ spec.directive_of name.now }
+{
+    directive_of(&name.bytes)
+}
+
+fn begins_with_dot(name: &[u8]) -> bool
+    ensures { result ≡ spec.is_dotted name.now }
+{
+    match name {
+        [first, ..] => *first == b'.',
+        [] => false,
+    }
+}
+
+pub fn is_dotted(name: &Name) -> bool
+    ensures { result ≡ spec.is_dotted name.now }
+{
+    begins_with_dot(&name.bytes)
+}
+
+#[tactic(auto, unfolding(crate::specs::Statement::is_known))]
+fn is_known(name: &[u8]) -> bool
+    ensures { result ≡ spec.is_known name.now }
+{
+    begins(name, b".text")
+        || begins(name, b".bss")
+        || begins(name, b".rodata")
+        || begins(name, b".data")
+}
+
+#[tactic(auto, unfolding(crate::specs::Statement::is_unread))]
+fn is_unread(name: &[u8]) -> bool
+    ensures { result ≡ spec.is_unread name.now }
+{
+    begins(name, b".note")
+        || begins(name, b".comment")
+        || begins(name, b".debug")
+        || begins(name, b".eh_frame")
+}
+
+pub fn is_section(name: &Name) -> bool
+    ensures { result ≡ spec.is_section name.now }
+{
+    is_known(&name.bytes) || is_unread(&name.bytes)
+}
+
+pub fn is_skipped_section(name: &Name) -> bool
+    ensures { result ≡ spec.is_unread name.now }
+{
+    is_unread(&name.bytes)
+}
+
+fn is_change(directive: Option<Directive>) -> bool
+    ensures { result ≡ spec.is_change directive }
+{
+    match directive {
+        Some(Directive::Plain) | Some(Directive::Section) => true,
+        _ => false,
+    }
+}
+
+pub fn changes_section(name: &Name) -> bool
+    ensures { result ≡ spec.changes_section name.now }
+{
+    is_dotted(name) && is_change(directive_named(name))
+}

@@ -1,0 +1,32 @@
+//! The items of an assembler's source.
+#![tactic(auto)]
+
+mod argument;
+mod bytes;
+mod dead;
+mod directive;
+mod escapes;
+mod operand;
+mod parsing;
+mod reading;
+mod register;
+mod scope;
+mod state;
+mod statement;
+mod stop;
+mod symbol;
+mod symbol_set;
+mod tree;
+
+pub use directive::{Directive, Head};
+pub use escapes::{Escape, Unescaped};
+pub use operand::{Partial, Place, Shape};
+pub use parsing::{LIMIT, parse};
+pub use scope::Scope;
+pub use state::{Open, State};
+pub use stop::Stop;
+pub use symbol::Symbol;
+pub use tree::{Argument, Arguments, Body, Form, Name, Source, SourceItem, Value};
+
+#[cfg(test)]
+mod tests;

@@ -1,0 +1,479 @@
+//! One argument, symbol by symbol.
+
+ghost use Rattle.std.specs.Prelude.{◌≡◌};
+ghost use Rattle.std.specs.Option.{option_copied};
+ghost use Rattle.asm_parse.specs.Operand as spec;
+
+use crate::register::is_register;
+use crate::symbol::Symbol;
+use crate::tree::{Form, Name, Value};
+use asm_lex::SourceCause;
+
+/// What may stand in an argument's place.
+#[derive(Clone, Copy, Debug, PartialEq, Eq)]
+pub enum Shape {
+    /// An operand of an instruction.
+    Operand,
+    /// A number, or a name with a constant.
+    Value,
+    Number,
+    /// A number that isn't negative.
+    Count,
+    /// A power of two up to 4,096.
+    Alignment,
+    /// The number of an alignment's power of two, up to 12.
+    Power,
+    /// A number that may be absent.
+    Fill,
+    Name,
+    Text,
+}
+
+/// Where a value stands.
+#[derive(Clone, Copy, Debug, PartialEq, Eq)]
+pub enum Place {
+    Immediate,
+    Memory,
+}
+
+/// An argument as far as it has been read.
+#[derive(Debug, Drop)]
+pub enum Partial {
+    Nothing,
+    /// The same, where the argument may be absent.
+    Absent,
+    Percent,
+    Dollar,
+    Minus(Place),
+    Name(Place, Name),
+    /// Behind a sign: true for a minus.
+    Sign(Place, Name, bool),
+    SignMinus(Place, Name, bool),
+    Number(Place, Value),
+    Open(Option<Value>),
+    BasePercent(Option<Value>),
+    Base(Option<Value>, Name),
+    IndexComma(Option<Value>, Option<Name>),
+    IndexPercent(Option<Value>, Option<Name>),
+    Index(Option<Value>, Option<Name>, Name),
+    Scale(Option<Value>, Option<Name>, Name),
+    Scaled(Option<Value>, Option<Name>, Name, u8),
+    Whole(Form),
+}
+
+fn signed(negative: bool, n: u32) -> i64
+    ensures { result ≡ spec.signed negative n }
+{
+    if negative {
+        0 - i64::from(n)
+    } else {
+        i64::from(n)
+    }
+}
+
+fn turned(negative: bool, n: u32) -> i64
+    ensures { result ≡ spec.turned negative n }
+{
+    if negative {
+        i64::from(n)
+    } else {
+        0 - i64::from(n)
+    }
+}
+
+fn named(name: Name, number: i64) -> Value
+    ensures { result ≡ spec.named name number }
+{
+    Value {
+        name: Some(name),
+        number,
+    }
+}
+
+fn plain(number: i64) -> Value
+    ensures { result ≡ spec.plain number }
+{
+    Value { name: None, number }
+}
+
+fn of_memory(value: Option<Value>, base: Option<Name>, index: Option<Name>, scale: u8) -> Form
+    ensures { result ≡ spec.of_memory value base index scale }
+{
+    Form::Memory {
+        value,
+        base,
+        index,
+        scale,
+    }
+}
+
+impl Shape {
+    fn is_operand(self) -> bool
+        ensures { result ≡ spec.is_operand self }
+    {
+        match self {
+            Shape::Operand => true,
+            _ => false,
+        }
+    }
+
+    fn takes_names(self) -> bool
+        ensures { result ≡ spec.takes_names self }
+    {
+        match self {
+            Shape::Operand | Shape::Value | Shape::Name => true,
+            _ => false,
+        }
+    }
+
+    fn takes_sums(self) -> bool
+        ensures { result ≡ spec.takes_sums self }
+    {
+        match self {
+            Shape::Operand | Shape::Value => true,
+            _ => false,
+        }
+    }
+
+    fn takes_minus(self) -> bool
+        ensures { result ≡ spec.takes_minus self }
+    {
+        match self {
+            Shape::Operand
+            | Shape::Value
+            | Shape::Number
+            | Shape::Count
+            | Shape::Power
+            | Shape::Fill => true,
+            _ => false,
+        }
+    }
+
+    fn takes_numbers(self) -> bool
+        ensures { result ≡ spec.takes_numbers self }
+    {
+        match self {
+            Shape::Operand
+            | Shape::Value
+            | Shape::Number
+            | Shape::Count
+            | Shape::Alignment
+            | Shape::Power
+            | Shape::Fill => true,
+            _ => false,
+        }
+    }
+
+    /// Whether a number, or one behind a minus, is of those that may stand there.
+    fn fits(self, negative: bool, n: u32) -> bool
+        ensures { result ≡ spec.fits self negative n }
+    {
+        match self {
+            Shape::Count => !negative || n == 0,
+            Shape::Alignment => { if negative { n == 0 } else { is_alignment(n) } }
+            Shape::Power => { if negative { n == 0 } else { n <= 12 } }
+            _ => true,
+        }
+    }
+
+    fn takes_text(self) -> bool
+        ensures { result ≡ spec.takes_text self }
+    {
+        match self {
+            Shape::Text => true,
+            _ => false,
+        }
+    }
+}
+
+/// The symbol where it may stand, or a fault.
+fn allowed(may: bool, then: Partial) -> Result<Partial, SourceCause>
+    ensures { result ≡ spec.allowed may then }
+{
+    if may {
+        Ok(then)
+    } else {
+        Err(SourceCause::BadOperand)
+    }
+}
+
+fn is_alignment(n: u32) -> bool
+    ensures { result ≡ spec.is_alignment n }
+{
+    n == 1
+        || n == 2
+        || n == 4
+        || n == 8
+        || n == 16
+        || n == 32
+        || n == 64
+        || n == 128
+        || n == 256
+        || n == 512
+        || n == 1024
+        || n == 2048
+        || n == 4096
+}
+
+/// A number where one may stand and it fits, or a fault.
+fn counted(may: bool, fits: bool, then: Partial) -> Result<Partial, SourceCause>
+    ensures { result ≡ spec.counted may fits then }
+{
+    if !may {
+        Err(SourceCause::BadOperand)
+    } else if fits {
+        Ok(then)
+    } else {
+        Err(SourceCause::BadArgument)
+    }
+}
+
+/// The first symbol of an argument.
+fn first(shape: Shape, symbol: Symbol) -> Result<Partial, SourceCause>
+    ensures { result ≡ spec.first shape symbol }
+{
+    match symbol {
+        Symbol::Percent => allowed(shape.is_operand(), Partial::Percent),
+        Symbol::Dollar => allowed(shape.is_operand(), Partial::Dollar),
+        Symbol::Open => allowed(shape.is_operand(), Partial::Open(None)),
+        Symbol::Minus => allowed(shape.takes_minus(), Partial::Minus(Place::Memory)),
+        Symbol::Number(n) => counted(
+            shape.takes_numbers(),
+            shape.fits(false, n),
+            Partial::Number(Place::Memory, plain(i64::from(n))),
+        ),
+        Symbol::Name(name) => allowed(shape.takes_names(), Partial::Name(Place::Memory, name)),
+        Symbol::Text(bytes) => allowed(shape.takes_text(), Partial::Whole(Form::Text(bytes))),
+        _ => Err(SourceCause::BadOperand),
+    }
+}
+
+/// Whether a number may stand behind a minus.
+fn is_low(n: u32) -> bool
+    ensures { result ≡ spec.is_low n }
+{
+    n <= 2147483648
+}
+
+/// A number behind a minus.
+fn lowered(n: u32, fits: bool, then: Partial) -> Result<Partial, SourceCause>
+    ensures { result ≡ spec.lowered n fits then }
+{
+    if is_low(n) {
+        counted(true, fits, then)
+    } else {
+        Err(SourceCause::BadNumber)
+    }
+}
+
+/// A register's name where it is one.
+fn registered(is: bool, then: Partial) -> Result<Partial, SourceCause>
+    ensures { result ≡ spec.registered is then }
+{
+    if is {
+        Ok(then)
+    } else {
+        Err(SourceCause::BadRegister)
+    }
+}
+
+fn is_scale(n: u32) -> bool
+    ensures { result ≡ spec.is_scale n }
+{
+    n == 1 || n == 2 || n == 4 || n == 8
+}
+
+/// The next symbol of an argument.
+pub fn operand_step(shape: Shape, so_far: Partial, symbol: Symbol) -> Result<Partial, SourceCause>
+    ensures { result ≡ spec.operand_step shape so_far symbol }
+{
+    if let Symbol::Big = symbol {
+        return Err(SourceCause::BadNumber);
+    }
+    match so_far {
+        Partial::Nothing | Partial::Absent => first(shape, symbol),
+        Partial::Percent => match symbol {
+            Symbol::Name(name) => {
+                let is = is_register(&name);
+                registered(is, Partial::Whole(Form::Register(name)))
+            }
+            _ => Err(SourceCause::BadRegister),
+        },
+        Partial::Dollar => match symbol {
+            Symbol::Minus => Ok(Partial::Minus(Place::Immediate)),
+            Symbol::Number(n) => Ok(Partial::Number(Place::Immediate, plain(i64::from(n)))),
+            Symbol::Name(name) => Ok(Partial::Name(Place::Immediate, name)),
+            _ => Err(SourceCause::BadOperand),
+        },
+        Partial::Minus(place) => match symbol {
+            Symbol::Number(n) => lowered(
+                n,
+                shape.fits(true, n),
+                Partial::Number(place, plain(signed(true, n))),
+            ),
+            _ => Err(SourceCause::BadOperand),
+        },
+        Partial::Name(place, name) => match symbol {
+            Symbol::Plus => allowed(shape.takes_sums(), Partial::Sign(place, name, false)),
+            Symbol::Minus => allowed(shape.takes_sums(), Partial::Sign(place, name, true)),
+            Symbol::Open => open(shape, place, named(name, 0)),
+            _ => Err(SourceCause::BadOperand),
+        },
+        Partial::Sign(place, name, negative) => match symbol {
+            Symbol::Minus => Ok(Partial::SignMinus(place, name, negative)),
+            Symbol::Number(n) => Ok(Partial::Number(place, named(name, signed(negative, n)))),
+            _ => Err(SourceCause::BadOperand),
+        },
+        Partial::SignMinus(place, name, negative) => match symbol {
+            Symbol::Number(n) => lowered(
+                n,
+                true,
+                Partial::Number(place, named(name, turned(negative, n))),
+            ),
+            _ => Err(SourceCause::BadOperand),
+        },
+        Partial::Number(place, value) => match symbol {
+            Symbol::Open => open(shape, place, value),
+            _ => Err(SourceCause::BadOperand),
+        },
+        rest => address_step(rest, symbol),
+    }
+}
+
+fn open(shape: Shape, place: Place, value: Value) -> Result<Partial, SourceCause>
+    ensures { result ≡ spec.open_paren shape place value }
+{
+    match place {
+        Place::Memory => allowed(shape.is_operand(), Partial::Open(Some(value))),
+        Place::Immediate => Err(SourceCause::BadOperand),
+    }
+}
+
+/// The next symbol within parentheses.
+fn address_step(so_far: Partial, symbol: Symbol) -> Result<Partial, SourceCause>
+    ensures { result ≡ spec.address_step so_far symbol }
+{
+    match so_far {
+        Partial::Open(value) => match symbol {
+            Symbol::Percent => Ok(Partial::BasePercent(value)),
+            Symbol::Comma => Ok(Partial::IndexComma(value, None)),
+            _ => Err(SourceCause::BadOperand),
+        },
+        Partial::BasePercent(value) => match symbol {
+            Symbol::Name(name) => {
+                let is = is_register(&name);
+                registered(is, Partial::Base(value, name))
+            }
+            _ => Err(SourceCause::BadRegister),
+        },
+        Partial::Base(value, base) => match symbol {
+            Symbol::Close => Ok(Partial::Whole(of_memory(value, Some(base), None, 1))),
+            Symbol::Comma => Ok(Partial::IndexComma(value, Some(base))),
+            _ => Err(SourceCause::BadOperand),
+        },
+        Partial::IndexComma(value, base) => match symbol {
+            Symbol::Percent => Ok(Partial::IndexPercent(value, base)),
+            _ => Err(SourceCause::BadOperand),
+        },
+        Partial::IndexPercent(value, base) => match symbol {
+            Symbol::Name(name) => {
+                let is = is_register(&name);
+                registered(is, Partial::Index(value, base, name))
+            }
+            _ => Err(SourceCause::BadRegister),
+        },
+        Partial::Index(value, base, index) => match symbol {
+            Symbol::Close => Ok(Partial::Whole(of_memory(value, base, Some(index), 1))),
+            Symbol::Comma => Ok(Partial::Scale(value, base, index)),
+            _ => Err(SourceCause::BadOperand),
+        },
+        Partial::Scale(value, base, index) => match symbol {
+            Symbol::Number(n) => {
+                if is_scale(n) {
+                    Ok(Partial::Scaled(value, base, index, n as u8))
+                } else {
+                    Err(SourceCause::BadScale)
+                }
+            }
+            _ => Err(SourceCause::BadOperand),
+        },
+        Partial::Scaled(value, base, index, scale) => match symbol {
+            Symbol::Close => Ok(Partial::Whole(of_memory(value, base, Some(index), scale))),
+            _ => Err(SourceCause::BadOperand),
+        },
+        _ => Err(SourceCause::BadOperand),
+    }
+}
+
+/// The form that has been read, where it may end here.
+pub fn finished(so_far: Partial) -> Option<Form>
+    ensures { result ≡ spec.finished so_far }
+{
+    match so_far {
+        Partial::Name(Place::Immediate, name) => Some(Form::Immediate(named(name, 0))),
+        Partial::Name(Place::Memory, name) => Some(of_memory(Some(named(name, 0)), None, None, 1)),
+        Partial::Number(Place::Immediate, value) => Some(Form::Immediate(value)),
+        Partial::Number(Place::Memory, value) => Some(of_memory(Some(value), None, None, 1)),
+        Partial::Whole(form) => Some(form),
+        Partial::Absent => Some(Form::Absent),
+        _ => None,
+    }
+}
+
+pub fn is_finished(so_far: &Partial) -> bool
+    ensures { result ≡ spec.is_finished so_far.now }
+{
+    match so_far {
+        Partial::Name(_, _) | Partial::Number(_, _) | Partial::Whole(_) | Partial::Absent => true,
+        _ => false,
+    }
+}
+
+pub fn is_nothing(so_far: &Partial) -> bool
+    ensures { result ≡ spec.is_nothing so_far.now }
+{
+    match so_far {
+        Partial::Nothing => true,
+        _ => false,
+    }
+}
+
+/// Whether no symbol of the argument has been read.
+pub fn is_unbegun(so_far: &Partial) -> bool
+    ensures { result ≡ spec.is_unbegun so_far.now }
+{
+    match so_far {
+        Partial::Nothing | Partial::Absent => true,
+        _ => false,
+    }
+}
+
+/// An argument of which nothing has been read.
+pub fn begun(shape: Shape) -> Partial
+    ensures { result ≡ spec.begun shape }
+{
+    match shape {
+        Shape::Fill => Partial::Absent,
+        _ => Partial::Nothing,
+    }
+}
+
+/// Whether a register has to follow.
+pub fn awaits_register(so_far: &Partial) -> bool
+    ensures { result ≡ spec.awaits_register so_far.now }
+{
+    match so_far {
+        Partial::Percent | Partial::BasePercent(_) | Partial::IndexPercent(_, _) => true,
+        _ => false,
+    }
+}
+
+/// The symbol's name that has just been read.
+pub fn name_in(so_far: &Partial) -> Option<&Name>
+    ensures { option_copied result ≡ spec.name_in so_far.now }
+{
+    match so_far {
+        Partial::Name(_, name) => Some(name),
+        _ => None,
+    }
+}

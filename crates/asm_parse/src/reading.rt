@@ -1,0 +1,303 @@
+//! A source, read from left to right.
+
+ghost use Rattle.std.specs.Prelude.{◌≡◌, ◌≤◌, ◌<◌, ◌+◌, ◌^◌, ◌∷◌, ◌++◌, [], length, take, IfOk, Some, None, if◌then◌else◌, nat_lt};
+ghost use Rattle.asm_lex.specs.Machine.{start_of};
+ghost use Rattle.asm_lex.specs.declared.machine.Next.TheVariants.{Goes};
+ghost use Rattle.asm_lex.specs.Words as words;
+ghost use Rattle.asm_parse.specs.Statement.{fault_line, next_step};
+ghost use Rattle.asm_parse.specs.Reading as spec;
+ghost use Rattle.asm_parse.specs.Running as run;
+
+use crate::dead::{fault_line, next_step, stopped};
+use crate::escapes::string_bytes;
+use crate::scope::Scope;
+use crate::state::State;
+use crate::stop::Stop;
+use crate::symbol::Symbol;
+use crate::tree::Name;
+use asm_lex::{Mode, Next, SourceFault, Stepped, Token, TokenKind};
+use std::alloc::{AllocError, Global};
+
+fn digit_of(b: u8) -> u8
+    ensures { result ≡ spec.digit_of b }
+{
+    if b <= b'9' {
+        b.saturating_sub(b'0')
+    } else if b <= b'F' {
+        b - 55
+    } else {
+        b.saturating_sub(87)
+    }
+}
+
+/// The number that these digits go on with, where it is below 2^32.
+fn digits_value(base: u8, so_far: u32, bytes: &[u8]) -> Option<u32>
+    requires base { 1 ≤ base }
+    ensures { result ≡ (if nat_lt (spec.digits_value base so_far bytes.now) (2 ^ 32) then Some (spec.digits_value base so_far bytes.now) else None) }
+{
+    let mut value = so_far;
+    for b in bytes {
+        let Some(product) = value.checked_mul(u32::from(base)) else {
+            return None;
+        };
+        let Some(next) = product.checked_add(u32::from(digit_of(*b))) else {
+            return None;
+        };
+        value = next;
+    }
+    Some(value)
+}
+
+/// The number, where it is below 2^32.
+fn number_value(bytes: &[u8]) -> Option<u32>
+    ensures { result ≡ (if nat_lt (spec.number_value bytes.now) (2 ^ 32) then Some (spec.number_value bytes.now) else None) }
+{
+    match bytes {
+        [] => Some(0),
+        [first] => Some(u32::from(digit_of(*first))),
+        [first, second, rest @ ..] => {
+            if *first == b'\'' {
+                Some(u32::from(*second))
+            } else if *first == b'0' {
+                if *second == b'x' {
+                    digits_value(16, 0, rest)
+                } else {
+                    digits_value(8, 0, &bytes[1..])
+                }
+            } else {
+                digits_value(10, u32::from(digit_of(*first)), &bytes[1..])
+            }
+        }
+    }
+}
+
+fn mark_symbol(m: u8) -> Symbol
+    ensures { result ≡ spec.mark_symbol m }
+{
+    if m == b'$' {
+        Symbol::Dollar
+    } else if m == b'%' {
+        Symbol::Percent
+    } else if m == b'(' {
+        Symbol::Open
+    } else if m == b')' {
+        Symbol::Close
+    } else if m == b'*' {
+        Symbol::Star
+    } else if m == b'+' {
+        Symbol::Plus
+    } else if m == b',' {
+        Symbol::Comma
+    } else if m == b'-' {
+        Symbol::Minus
+    } else if m == b':' {
+        Symbol::Colon
+    } else {
+        Symbol::At
+    }
+}
+
+fn number_symbol(bytes: &[u8]) -> Symbol
+    ensures { result ≡ spec.number_symbol (spec.number_value bytes.now) }
+{
+    match number_value(bytes) {
+        Some(n) => Symbol::Number(n),
+        None => Symbol::Big,
+    }
+}
+
+/// A token as the grammar sees it.
+fn symbol_of(alloc: Global, kind: TokenKind, bytes: &[u8]) -> Result<Symbol, AllocError>
+    ensures { IfOk result (λ s. s ≡ spec.symbol_of kind bytes.now) }
+{
+    match kind {
+        TokenKind::Name => Ok(Symbol::Name(Name {
+            bytes: Vec::from_slice(alloc, bytes)?,
+        })),
+        TokenKind::Number => Ok(number_symbol(bytes)),
+        TokenKind::Text => Ok(Symbol::Text(Name {
+            bytes: string_bytes(alloc, bytes)?,
+        })),
+        TokenKind::Mark(m) => Ok(mark_symbol(m)),
+        TokenKind::End => Ok(Symbol::End),
+    }
+}
+
+/// The answer of a step, with its line.
+fn at_line(line: u32, stepped: Result<State, Stop>) -> Result<State, SourceFault>
+    ensures { result ≡ spec.at_line line stepped }
+{
+    match stepped {
+        Ok(state) => Ok(state),
+        Err(Stop::Cause(cause)) => Err(SourceFault::At { line, cause }),
+        Err(Stop::Memory) => Err(SourceFault::Memory),
+    }
+}
+
+/// A token as the grammar sees it, in this line.
+#[tactic(auto, using(crate::proofs::Feeding::feeds))]
+fn feed_symbol(
+    alloc: Global,
+    scope: &mut Scope,
+    state: State,
+    line: u32,
+    symbol: Symbol,
+) -> Result<State, SourceFault>
+    ensures { spec.Feeds scope.new result (spec.placed (fault_line scope.old state line) (next_step scope.old state line symbol)) }
+{
+    let at = fault_line(scope, &state, line);
+    at_line(at, next_step(alloc, scope, state, line, symbol))
+}
+
+/// A token.
+fn feed_token(
+    alloc: Global,
+    scope: &mut Scope,
+    state: State,
+    seen: &[u8],
+    line: u32,
+    token: Token,
+) -> Result<State, SourceFault>
+    requires { token.at + token.len ≤ length seen.now }
+    ensures { spec.Feeds scope.new result (spec.fed scope.old state seen.now line (Some token)) }
+{
+    let from = token.at as usize;
+    let len = token.len as usize;
+    let bytes = &seen[from..from + len];
+    let symbol = symbol_of(alloc, token.kind, bytes)?;
+    feed_symbol(alloc, scope, state, line, symbol)
+}
+
+/// A token that may be there.
+fn feed(
+    alloc: Global,
+    scope: &mut Scope,
+    state: State,
+    seen: &[u8],
+    line: u32,
+    token: Option<Token>,
+) -> Result<State, SourceFault>
+    requires { spec.Fits seen.now token }
+    ensures { spec.Feeds scope.new result (spec.fed scope.old state seen.now line token) }
+{
+    match token {
+        None => Ok(state),
+        Some(token) => feed_token(alloc, scope, state, seen, line, token),
+    }
+}
+
+/// The token that ends with a byte, and what comes behind it.
+fn second_token(
+    alloc: Global,
+    scope: &mut Scope,
+    state: State,
+    seen: &[u8],
+    line: u32,
+    second: Option<Token>,
+    next: Next,
+) -> Result<(State, Mode), SourceFault>
+    requires { spec.Fits seen.now second }
+    ensures does { run.DoesByte scope.new result (run.second_does scope.old state seen.now line second next) }
+    ensures next { IfOk result (λ x. next ≡ Goes x.1) }
+{
+    match feed(alloc, scope, state, seen, line, second) {
+        Err(fault) => Err(fault),
+        Ok(state) => match next {
+            Next::Goes(mode) => Ok((state, mode)),
+            Next::Stops(_, cause) => {
+                let (line, cause) = stopped(scope, &state, line, cause);
+                Err(SourceFault::At { line, cause })
+            }
+        },
+    }
+}
+
+/// The tokens that end in front of a byte or with it.
+fn tokens(
+    alloc: Global,
+    scope: &mut Scope,
+    state: State,
+    seen: &[u8],
+    line: u32,
+    stepped: Stepped,
+) -> Result<(State, Mode), SourceFault>
+    requires first { spec.Fits seen.now stepped.first }
+    requires second { spec.Fits seen.now stepped.second }
+    ensures does { run.DoesByte scope.new result (run.byte_does scope.old state seen.now line stepped) }
+    ensures next { IfOk result (λ x. stepped.next ≡ Goes x.1) }
+{
+    match feed(alloc, scope, state, seen, line, stepped.first) {
+        Err(fault) => Err(fault),
+        Ok(state) => second_token(
+            alloc,
+            scope,
+            state,
+            seen,
+            line,
+            stepped.second,
+            stepped.next,
+        ),
+    }
+}
+
+/// A byte of the source; `seen` are the bytes up to and including it.
+#[tactic(auto, using(crate::proofs::Stepping::fits_first, crate::proofs::Stepping::fits_second, crate::proofs::Stepping::starts_next), unfolding(crate::specs::Running::one_byte_over))]
+fn one_byte(
+    alloc: Global,
+    scope: &mut Scope,
+    state: State,
+    mode: Mode,
+    seen: &[u8],
+    at: u32,
+    line: u32,
+    b: u8,
+) -> Result<(State, Mode), SourceFault>
+    requires begun { start_of mode at ≤ at }
+    requires within { length seen.now ≡ at + 1 }
+    requires room { at < 4294967295 }
+    ensures does { run.DoesByte scope.new result (run.one_byte_over scope.old state mode seen.now at line b) }
+    ensures begun { IfOk result (λ x. start_of x.1 (at + 1) ≤ at + 1) }
+{
+    let stepped = asm_lex::step(mode, at, line, b);
+    tokens(alloc, scope, state, seen, line, stepped)
+}
+
+/// The line behind a byte.
+#[tactic(auto, unfolding(asm_lex::specs::Words::line_after))]
+fn line_after(line: u32, b: u8) -> u32
+    requires { line < 4294967295 }
+    ensures { result ≡ words.line_after line b }
+{
+    if b == b'\n' { line + 1 } else { line }
+}
+
+/// Reads a source that ends with a newline.
+pub fn read(alloc: Global, source: &[u8]) -> Result<(Scope, State, Mode), SourceFault>
+    requires { length source.now < 4294967295 }
+    ensures { run.Runs result (run.run run.start source.now) }
+{
+    let mut scope = Scope::new(alloc);
+    let mut state = State::Start;
+    let mut mode = Mode::Between;
+    let mut line = 1u32;
+    for (i, b) in source.iter().enumerate() {
+        match one_byte(
+            alloc,
+            &mut scope,
+            state,
+            mode,
+            &source[..i + 1],
+            i as u32,
+            line,
+            *b,
+        ) {
+            Err(fault) => return Err(fault),
+            Ok((next_state, next_mode)) => {
+                state = next_state;
+                mode = next_mode;
+            }
+        }
+        line = line_after(line, *b);
+    }
+    Ok((scope, state, mode))
+}

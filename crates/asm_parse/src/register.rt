@@ -1,0 +1,53 @@
+//! The names of registers.
+
+ghost use Rattle.std.specs.Prelude.{◌≡◌};
+ghost use Rattle.asm_parse.specs.Operand as spec;
+
+use crate::bytes::is_text;
+use crate::tree::Name;
+
+/// Whether the name is one of the 24 general registers, `es`, `cs`, `ss`, `ds`, `cr0`, `cr2`, `cr3`
+/// or `cr4`.
+pub fn is_register(name: &Name) -> bool
+    ensures { result ≡ spec.is_register name.now }
+{
+    is_register_name(&name.bytes)
+}
+
+#[tactic(auto, unfolding(crate::specs::Operand::is_register))]
+fn is_register_name(name: &[u8]) -> bool
+    ensures { result ≡ spec.is_register name.now }
+{
+    is_text(name, b"al")
+        || is_text(name, b"cl")
+        || is_text(name, b"dl")
+        || is_text(name, b"bl")
+        || is_text(name, b"ah")
+        || is_text(name, b"ch")
+        || is_text(name, b"dh")
+        || is_text(name, b"bh")
+        || is_text(name, b"ax")
+        || is_text(name, b"cx")
+        || is_text(name, b"dx")
+        || is_text(name, b"bx")
+        || is_text(name, b"sp")
+        || is_text(name, b"bp")
+        || is_text(name, b"si")
+        || is_text(name, b"di")
+        || is_text(name, b"eax")
+        || is_text(name, b"ecx")
+        || is_text(name, b"edx")
+        || is_text(name, b"ebx")
+        || is_text(name, b"esp")
+        || is_text(name, b"ebp")
+        || is_text(name, b"esi")
+        || is_text(name, b"edi")
+        || is_text(name, b"es")
+        || is_text(name, b"cs")
+        || is_text(name, b"ss")
+        || is_text(name, b"ds")
+        || is_text(name, b"cr0")
+        || is_text(name, b"cr2")
+        || is_text(name, b"cr3")
+        || is_text(name, b"cr4")
+}

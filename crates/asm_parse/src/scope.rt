@@ -1,0 +1,97 @@
+//! What the statements before say.
+
+ghost use Rattle.std.specs.Prelude.{◌≡◌, OnOk};
+ghost use Rattle.asm_parse.specs.Scope as spec;
+
+use crate::symbol_set::SymbolSet;
+use crate::tree::{Name, SourceItem};
+use std::alloc::{AllocError, Global};
+use std::marker::Model;
+
+/// The items so far, the names so far in the order in which they were first seen, which of them are
+/// defined, and whether statements are skipped.
+#[derive(Debug, Drop)]
+pub struct Scope {
+    items: Vec<SourceItem>,
+    names: SymbolSet,
+    defined: SymbolSet,
+    skipping: bool,
+}
+
+impl Model for Scope {
+    ghost use Rattle.asm_parse.specs.ScopeView.{ScopeView};
+
+    ghost Value = { ScopeView };
+
+    ghost view = { λ s. record { items = s.items.items; names = s.names; defined = s.defined; skipping = s.skipping } };
+}
+
+impl Scope {
+    pub fn new(alloc: Global) -> Scope
+        ensures { result ≡ spec.fresh }
+    {
+        Scope {
+            items: Vec::new(alloc),
+            names: SymbolSet::new(alloc),
+            defined: SymbolSet::new(alloc),
+            skipping: false,
+        }
+    }
+
+    pub fn is_skipping(&self) -> bool
+        ensures { result ≡ self.now.skipping }
+    {
+        self.skipping
+    }
+
+    pub fn is_defined(&self, name: &Name) -> bool
+        ensures { result ≡ spec.holds self.now.defined name.now }
+    {
+        self.defined.holds(&name.bytes)
+    }
+
+    pub fn has_room(&self, name: &Name) -> bool
+        ensures { result ≡ spec.has_room self.now name.now }
+    {
+        self.names.holds(&name.bytes) || self.names.len() < 65536
+    }
+
+    pub fn set_skipping(&mut self, skipping: bool)
+        ensures { self.new ≡ record self.old { skipping = skipping } }
+    {
+        self.skipping = skipping;
+    }
+
+    pub fn push(&mut self, item: SourceItem) -> Result<(), AllocError>
+        ensures { OnOk result (self.new ≡ spec.pushed self.old item) }
+    {
+        self.items.push(item)?;
+        Ok(())
+    }
+
+    pub fn note(&mut self, alloc: Global, name: &Name) -> Result<(), AllocError>
+        ensures { OnOk result (self.new ≡ spec.noted self.old name.now) }
+    {
+        self.names.add(alloc, &name.bytes)?;
+        Ok(())
+    }
+
+    pub fn define(&mut self, alloc: Global, name: &Name) -> Result<(), AllocError>
+        ensures { OnOk result (self.new ≡ spec.defined_too self.old name.now) }
+    {
+        self.defined.add(alloc, &name.bytes)?;
+        Ok(())
+    }
+
+    pub fn into_items(self) -> Vec<SourceItem>
+        ensures { result.items ≡ self.items }
+    {
+        let Scope {
+            items,
+            names: _,
+            defined: _,
+            skipping: _,
+        } = self;
+        items
+    }
+}

@@ -1,0 +1,35 @@
+//! What a statement has left open.
+
+use crate::directive::Head;
+use crate::operand::Partial;
+use crate::tree::{Arguments, Name};
+use asm_lex::SourceCause;
+
+/// A directive or an instruction as far as it has been read.
+#[derive(Debug, Drop)]
+pub struct Open {
+    pub line: u32,
+    pub head: Head,
+    pub done: Arguments,
+    pub star: bool,
+    pub so_far: Partial,
+}
+
+/// What a statement has left open.
+#[derive(Debug, Drop)]
+pub enum State {
+    Start,
+    /// A name, which may be a label or begin a directive or an instruction, and its line.
+    Named(u32, Name),
+    /// The rest of the statement isn't read.
+    Skip,
+    /// A change to a named section.
+    Sectioned(u32, Name, Name),
+    /// The same, where the section's name ends with a `-`.
+    Joining(u32, Name, Name),
+    /// The same, behind a comma.
+    Flags(u32, Name, Name),
+    Arguments(Open),
+    /// Behind a `%` that may not stand in its place: its line, and why.
+    Stray(u32, SourceCause),
+}

@@ -1,0 +1,321 @@
+//! One statement, symbol by symbol.
+
+ghost use Rattle.std.specs.Prelude.{◌≡◌, ◌++◌, ◌∷◌, [], IfOk};
+ghost use Rattle.asm_parse.specs.Statement as spec;
+
+use crate::argument::{argument_step, misplaced, nothing_yet, noting};
+use crate::directive::{
+    Directive, Head, changes_section, directive_named, is_dotted, is_rep, is_section,
+    is_skipped_section,
+};
+use crate::register::is_register;
+use crate::scope::Scope;
+use crate::state::State;
+use crate::stop::Stop;
+use crate::symbol::Symbol;
+use crate::tree::{Argument, Arguments, Body, Form, Name, SourceItem};
+use asm_lex::SourceCause;
+use std::alloc::{AllocError, Global};
+
+/// The rest of a statement that isn't read.
+fn skip(symbol: Symbol) -> State
+    ensures { result ≡ spec.skip symbol }
+{
+    match symbol {
+        Symbol::End => State::Start,
+        _ => State::Skip,
+    }
+}
+
+/// A label, and the items that follow it.
+fn label(alloc: Global, scope: &mut Scope, line: u32, name: Name) -> Result<State, Stop>
+    ensures { spec.Does scope.new result (spec.label scope.old line name) }
+{
+    noting(alloc, scope, true, &name)?;
+    let body = Body::Label(name);
+    scope.push(SourceItem { line, body })?;
+    Ok(State::Start)
+}
+
+/// A symbol behind `rep`.
+fn rep_step(alloc: Global, scope: &mut Scope, line: u32, symbol: Symbol) -> Result<State, Stop>
+    ensures { spec.Does scope.new result (spec.rep_step scope.old line symbol) }
+{
+    match symbol {
+        Symbol::Name(name) => Ok(State::Arguments(nothing_yet(
+            alloc,
+            line,
+            Head::Instruction { rep: true, name },
+        ))),
+        Symbol::Big => Err(Stop::Cause(SourceCause::BadNumber)),
+        _ => Err(Stop::Cause(SourceCause::BadOperand)),
+    }
+}
+
+/// A symbol behind an instruction's name.
+fn instruction_step(
+    alloc: Global,
+    scope: &mut Scope,
+    line: u32,
+    name: Name,
+    symbol: Symbol,
+) -> Result<State, Stop>
+    ensures { spec.Does scope.new result (spec.instruction_step scope.old line name symbol) }
+{
+    if is_rep(&name) {
+        rep_step(alloc, scope, line, symbol)
+    } else {
+        let head = Head::Instruction { rep: false, name };
+        argument_step(alloc, scope, nothing_yet(alloc, line, head), symbol)
+    }
+}
+
+/// Whether the statement of this name is skipped.
+fn is_passed(scope: &Scope, name: &Name) -> bool
+    ensures { result ≡ spec.is_passed scope.now name.now }
+{
+    scope.is_skipping() && !changes_section(name)
+}
+
+fn section_name(line: u32, name: Name, symbol: Symbol) -> Result<State, Stop>
+    ensures { spec.Makes result (spec.section_name line name symbol) }
+{
+    match symbol {
+        Symbol::Name(section) => {
+            if is_section(&section) {
+                Ok(State::Sectioned(line, name, section))
+            } else {
+                Err(Stop::Cause(SourceCause::BadArgument))
+            }
+        }
+        other => Err(Stop::Cause(misplaced(&other))),
+    }
+}
+
+/// A symbol behind a directive's name.
+fn directive_step(
+    alloc: Global,
+    scope: &mut Scope,
+    line: u32,
+    name: Name,
+    symbol: Symbol,
+) -> Result<State, Stop>
+    ensures { spec.Does scope.new result (spec.directive_step scope.old line name symbol) }
+{
+    match directive_named(&name) {
+        None => Err(Stop::Cause(SourceCause::UnknownDirective)),
+        Some(kind) => match kind {
+            Directive::Skipped => Ok(skip(symbol)),
+            Directive::Section => section_name(line, name, symbol),
+            _ => {
+                let head = Head::Directive { kind, name };
+                argument_step(alloc, scope, nothing_yet(alloc, line, head), symbol)
+            }
+        },
+    }
+}
+
+/// The end of a change to a named section.
+fn section(
+    alloc: Global,
+    scope: &mut Scope,
+    line: u32,
+    name: Name,
+    section: Name,
+) -> Result<State, Stop>
+    ensures { spec.Does scope.new result (spec.section scope.old line name section) }
+{
+    let skipping = is_skipped_section(&section);
+    let mut list = Vec::new(alloc);
+    list.push(Argument {
+        star: false,
+        form: Form::Text(section),
+    })?;
+    let body = Body::Directive {
+        name,
+        arguments: Arguments { list },
+    };
+    scope.push(SourceItem { line, body })?;
+    scope.set_skipping(skipping);
+    Ok(State::Start)
+}
+
+fn unless_skipping(skipping: bool, cause: SourceCause) -> Result<State, Stop>
+    ensures { spec.Makes result (spec.unless_skipping skipping cause) }
+{
+    if skipping {
+        Ok(State::Skip)
+    } else {
+        Err(Stop::Cause(cause))
+    }
+}
+
+fn start_step(scope: &Scope, line: u32, symbol: Symbol) -> Result<State, Stop>
+    ensures { spec.Makes result (spec.start_step scope.now line symbol) }
+{
+    match symbol {
+        Symbol::End => Ok(State::Start),
+        Symbol::Name(name) => Ok(State::Named(line, name)),
+        Symbol::Big => unless_skipping(scope.is_skipping(), SourceCause::BadNumber),
+        _ => unless_skipping(scope.is_skipping(), SourceCause::BadOperand),
+    }
+}
+
+/// A colon behind a name.
+fn colon_behind(alloc: Global, scope: &mut Scope, begun: u32, name: Name) -> Result<State, Stop>
+    ensures { spec.Does scope.new result (spec.colon_behind scope.old begun name) }
+{
+    if scope.is_skipping() {
+        Ok(State::Start)
+    } else {
+        label(alloc, scope, begun, name)
+    }
+}
+
+/// Another symbol behind a name.
+fn other_behind(
+    alloc: Global,
+    scope: &mut Scope,
+    begun: u32,
+    name: Name,
+    symbol: Symbol,
+) -> Result<State, Stop>
+    ensures { spec.Does scope.new result (spec.other_behind scope.old begun name symbol) }
+{
+    if is_passed(scope, &name) {
+        Ok(skip(symbol))
+    } else if is_dotted(&name) {
+        directive_step(alloc, scope, begun, name, symbol)
+    } else {
+        instruction_step(alloc, scope, begun, name, symbol)
+    }
+}
+
+fn named_step(
+    alloc: Global,
+    scope: &mut Scope,
+    begun: u32,
+    name: Name,
+    symbol: Symbol,
+) -> Result<State, Stop>
+    ensures { spec.Does scope.new result (spec.named_step scope.old begun name symbol) }
+{
+    match symbol {
+        Symbol::Colon => colon_behind(alloc, scope, begun, name),
+        other => other_behind(alloc, scope, begun, name, other),
+    }
+}
+
+/// A section's name with a `-` at its end.
+fn with_dash(name: Name) -> Result<Name, AllocError>
+    ensures { IfOk result (λ m. m ≡ name ++ 45 ∷ []) }
+{
+    let mut bytes = name.bytes;
+    bytes.push(b'-')?;
+    Ok(Name { bytes })
+}
+
+/// A section's name with another name at its end.
+fn joined(name: Name, end: Name) -> Result<Name, AllocError>
+    ensures { IfOk result (λ m. m ≡ name ++ end) }
+{
+    let mut bytes = name.bytes;
+    bytes.extend_from_slice(&end.bytes)?;
+    Ok(Name { bytes })
+}
+
+/// A symbol behind a section's name.
+fn sectioned_step(
+    alloc: Global,
+    scope: &mut Scope,
+    begun: u32,
+    name: Name,
+    named: Name,
+    symbol: Symbol,
+) -> Result<State, Stop>
+    ensures { spec.Does scope.new result (spec.sectioned_step scope.old begun name named symbol) }
+{
+    match symbol {
+        Symbol::End => section(alloc, scope, begun, name, named),
+        Symbol::Comma => Ok(State::Flags(begun, name, named)),
+        Symbol::Minus => Ok(State::Joining(begun, name, with_dash(named)?)),
+        Symbol::Big => Err(Stop::Cause(SourceCause::BadNumber)),
+        _ => Err(Stop::Cause(SourceCause::BadOperand)),
+    }
+}
+
+/// A symbol behind a section's name that ends with a `-`.
+fn joining_step(
+    alloc: Global,
+    scope: &mut Scope,
+    begun: u32,
+    name: Name,
+    named: Name,
+    symbol: Symbol,
+) -> Result<State, Stop>
+    ensures { spec.Does scope.new result (spec.joining_step scope.old begun name named symbol) }
+{
+    match symbol {
+        Symbol::Name(end) => Ok(State::Sectioned(begun, name, joined(named, end)?)),
+        other => sectioned_step(alloc, scope, begun, name, named, other),
+    }
+}
+
+/// A symbol behind a section's name and a comma.
+fn flags_step(
+    alloc: Global,
+    scope: &mut Scope,
+    begun: u32,
+    name: Name,
+    named: Name,
+    symbol: Symbol,
+) -> Result<State, Stop>
+    ensures { spec.Does scope.new result (spec.flags_step scope.old begun name named symbol) }
+{
+    match symbol {
+        Symbol::End => section(alloc, scope, begun, name, named),
+        _ => Ok(State::Flags(begun, name, named)),
+    }
+}
+
+/// The cause at a `%` that may not stand in its place, with what follows it.
+fn stray_cause(cause: SourceCause, symbol: &Symbol) -> SourceCause
+    ensures { result ≡ spec.stray_cause cause symbol.now }
+{
+    match symbol {
+        Symbol::Name(name) => {
+            if is_register(name) {
+                cause
+            } else {
+                SourceCause::BadRegister
+            }
+        }
+        _ => SourceCause::BadRegister,
+    }
+}
+
+/// The next symbol of a source.
+pub fn step(
+    alloc: Global,
+    scope: &mut Scope,
+    state: State,
+    line: u32,
+    symbol: Symbol,
+) -> Result<State, Stop>
+    ensures { spec.Does scope.new result (spec.step scope.old state line symbol) }
+{
+    match state {
+        State::Start => start_step(scope, line, symbol),
+        State::Named(begun, name) => named_step(alloc, scope, begun, name, symbol),
+        State::Skip => Ok(skip(symbol)),
+        State::Sectioned(begun, name, named) => {
+            sectioned_step(alloc, scope, begun, name, named, symbol)
+        }
+        State::Flags(begun, name, named) => flags_step(alloc, scope, begun, name, named, symbol),
+        State::Joining(begun, name, named) => {
+            joining_step(alloc, scope, begun, name, named, symbol)
+        }
+        State::Stray(_, cause) => Err(Stop::Cause(stray_cause(cause, &symbol))),
+        State::Arguments(begun) => argument_step(alloc, scope, begun, symbol),
+    }
+}

@@ -1,0 +1,267 @@
+use super::*;
+use asm_lex::SourceFault;
+use std::alloc::{AllocError, Global};
+use std::test::*;
+
+/// The line and the number of a refusal.
+fn fault(rt: &HostRuntime, text: &[u8]) -> Option<(u32, u8)> {
+    match parse(rt.alloc(), text) {
+        Err(SourceFault::At { line, cause }) => Some((line, cause.number())),
+        _ => None,
+    }
+}
+
+/// The number of items.
+fn items(rt: &HostRuntime, text: &[u8]) -> Option<usize> {
+    match parse(rt.alloc(), text) {
+        Ok(source) => Some(source.items.len()),
+        Err(_) => None,
+    }
+}
+
+const FROM_GCC: &str = "\t.file \"k.c\"
+\t.text
+\t.p2align 4
+\t.globl _start
+\t.type _start, @function
+_start:
+.LFB0:
+\t.cfi_startproc
+\tmovl $1, %eax
+\tjmp *.L4(,%eax,4)
+\t.section .rodata
+\t.align 4
+.L4:
+\t.long .L2
+\t.long .L3
+\t.text
+\t.p2align 4,,10
+\t.p2align 3
+.L3:
+\tmovl $33, %eax
+\toutb %al, $128
+.L2:
+\thlt
+\t.cfi_endproc
+\t.size _start, .-_start
+\t.ident \"GCC: (GNU) 12.2.0\"
+\t.section .note.GNU-stack,\"\",@progbits
+";
+
+#[test]
+fn output_of_gcc_is_read(rt: HostRuntime) {
+    assert_eq!(rt; items(&rt, FROM_GCC.as_bytes()), Some(21));
+}
+
+#[test]
+fn each_directive_is_read(rt: HostRuntime) {
+    let rows: [(&str, usize); 22] = [
+        (".text\n.data\n.bss\n", 3),
+        (".section .rodata.str1.1,\"aMS\",@progbits,1\n", 1),
+        (".globl a; .global b; .local c", 3),
+        (".byte 1,-1,'a,0x1f,017", 1),
+        (".short 1; .word 2; .value 3", 3),
+        (".long a+4,b-8,c,-5; .int a", 2),
+        (".ascii \"a\",\"b\"; .asciz \"\"; .string \"c\"", 3),
+        (".zero 4; .skip 4; .space -0", 3),
+        (
+            ".p2align 4\n.p2align 4,\n.p2align 4,,10\n.p2align 4,144,10\n.p2align 12,-1",
+            5,
+        ),
+        (".align 4096; .balign 1", 2),
+        (".comm a,4; .comm b,4,16; .lcomm c,8", 3),
+        (
+            ".file \"k\"; .type a,@function; .size a,.-a; .ident \"x\"",
+            0,
+        ),
+        (".code32; .loc 1 2; .cfi_startproc", 0),
+        (".section .note\nfoo: .data\na:", 3),
+        (".section .note,\"\"\n 5 5 ( %zz\n.text\nnop", 3),
+        ("_start: cli; hlt", 3),
+        ("rep movsl; ljmp $8,$a+1; in (%dx),%al", 3),
+        ("push %eax; push $a; push $-1; push a; push 4", 5),
+        ("push 4(%eax); push (%eax); push a-4(%eax,%ebx,8)", 3),
+        ("push (,%eax,2); push (%eax,%ebx); push a(,%eax)", 3),
+        ("jmp *%eax; call *4(%eax); call a+4; ret; ret $4", 5),
+        ("a b /* c\n */ # d\n e : f", 3),
+    ];
+    for (text, count) in rows.iter() {
+        assert_eq!(rt; items(&rt, text.as_bytes()), Some(*count));
+    }
+}
+
+#[test]
+fn faults_have_their_lines_and_causes(rt: HostRuntime) {
+    let rows: [(&str, u32, u8); 50] = [
+        ("nop\n\u{1}", 2, 1),
+        ("nop \u{e9}", 1, 1),
+        ("nop\n !", 2, 2),
+        ("nop\n/* a\n", 2, 3),
+        ("nop\n.ascii \"a", 2, 4),
+        (".ascii \"a\\\n\"", 1, 4),
+        (".ascii \"\\q\"", 1, 5),
+        ("\"a\\q", 1, 5),
+        ("push 08", 1, 6),
+        (".long 4294967296", 1, 6),
+        (".long -2147483649", 1, 6),
+        (".long 0X1F", 1, 6),
+        (".text 99999999999", 1, 6),
+        ("push %zz", 1, 7),
+        (".byte %zz", 1, 7),
+        ("%zz", 1, 7),
+        ("push %eax %", 1, 7),
+        ("push %\u{1}", 1, 7),
+        (".byte %/*\n*/ 1", 1, 7),
+        (".byte %/*\n", 1, 7),
+        ("%eax", 1, 8),
+        (".byte +", 1, 8),
+        (".byte 1 2", 1, 8),
+        (".byte /*\n*/ 5(", 2, 8),
+        (".globl a+1", 1, 8),
+        ("rep; movsl", 1, 8),
+        (".section .data foo", 1, 8),
+        ("push 4(,%eax,3)", 1, 9),
+        ("\n\n.foo 1", 3, 10),
+        (".foo /*\n*/ x", 2, 10),
+        (".foo:\n.foo /*\n*/ x", 2, 10),
+        (".foo \u{1}", 1, 10),
+        (".zero -1", 1, 11),
+        (".byte", 1, 11),
+        (".byte 1,,2", 1, 11),
+        (".byte foo", 1, 11),
+        (".byte %eax", 1, 11),
+        (".byte %/*\n*/ eax", 1, 11),
+        (".text 1", 1, 11),
+        (".align 3", 1, 11),
+        (".p2align 13", 1, 11),
+        (".p2align 4,5,", 1, 11),
+        (".p2align 4,5,-1", 1, 11),
+        (".section .init", 1, 11),
+        (".section \".text\"", 1, 11),
+        (".comm a", 1, 11),
+        (".comm a,4,3", 1, 11),
+        ("a:\na: b", 2, 12),
+        ("a:\n\n.comm a,4", 3, 12),
+        (".comm a,4\n.lcomm a,4", 2, 12),
+    ];
+    for (text, line, cause) in rows.iter() {
+        assert_eq!(rt; fault(&rt, text.as_bytes()), Some((*line, *cause)));
+    }
+}
+
+/// As many newlines.
+fn newlines(alloc: Global, count: usize) -> Result<Vec<u8>, AllocError> {
+    let mut text = Vec::new(alloc);
+    for _ in 0..count {
+        text.push(b'\n')?;
+    }
+    Ok(text)
+}
+
+#[test]
+fn longest_source_is_read(rt: HostRuntime) {
+    let text = newlines(rt.alloc(), 4194304).expect(&rt, "memory");
+    assert_eq!(rt; items(&rt, &text), Some(0));
+    let text = newlines(rt.alloc(), 4194305).expect(&rt, "memory");
+    assert_eq!(rt; fault(&rt, &text), Some((1, 13)));
+}
+
+/// A label for each number below this, each in a line.
+fn labels(alloc: Global, count: u32) -> Result<Vec<u8>, AllocError> {
+    let mut text = Vec::new(alloc);
+    for i in 0..count {
+        let line = format!(in alloc; "x{i}:\n")?;
+        for b in line.as_bytes() {
+            text.push(*b)?;
+        }
+    }
+    Ok(text)
+}
+
+#[test]
+fn symbols_are_limited(rt: HostRuntime) {
+    let text = labels(rt.alloc(), 65536).expect(&rt, "memory");
+    assert_eq!(rt; items(&rt, &text), Some(65536));
+    let text = labels(rt.alloc(), 65537).expect(&rt, "memory");
+    assert_eq!(rt; fault(&rt, &text), Some((65537, 14)));
+}
+
+/// The number, the base and the scale of the first argument.
+fn address(rt: &HostRuntime, text: &[u8]) -> Option<(i64, bool, u8)> {
+    let Ok(source) = parse(rt.alloc(), text) else {
+        return None;
+    };
+    let Some(item) = source.items.first() else {
+        return None;
+    };
+    let Body::Instruction {
+        rep: _,
+        name: _,
+        arguments,
+    } = &item.body
+    else {
+        return None;
+    };
+    let Some(argument) = arguments.list.first() else {
+        return None;
+    };
+    match &argument.form {
+        Form::Memory {
+            value: Some(value),
+            base,
+            index: _,
+            scale,
+        } => { Some((value.number, base.is_some(), *scale)) }
+        _ => None,
+    }
+}
+
+#[test]
+fn operands_have_their_numbers(rt: HostRuntime) {
+    assert_eq!(rt; address(&rt, b"push a--5(%eax,%ebx,8)"), Some((5, true, 8)));
+    assert_eq!(rt;
+        address(&rt, b"push -0x80000000(,%eax)"),
+        Some((-2147483648, false, 1))
+    );
+    assert_eq!(rt;
+        address(&rt, b"push 037777777777"),
+        Some((4294967295, false, 1))
+    );
+}
+
+/// The bytes of the first argument of the first directive.
+fn text(rt: &HostRuntime, source: &[u8]) -> Option<Vec<u8>> {
+    let Ok(source) = parse(rt.alloc(), source) else {
+        return None;
+    };
+    let Some(item) = source.items.first() else {
+        return None;
+    };
+    let Body::Directive { name: _, arguments } = &item.body else {
+        return None;
+    };
+    let Some(argument) = arguments.list.first() else {
+        return None;
+    };
+    match &argument.form {
+        Form::Text(text) => Vec::from_slice(rt.alloc(), &text.bytes).ok(),
+        _ => None,
+    }
+}
+
+#[test]
+fn strings_and_sections_have_their_bytes(rt: HostRuntime) {
+    let rows: [(&str, &str); 3] = [
+        (".ascii \"a\\n\\\"b\\101\\11c\\7\"", "a\n\"bA\tc\u{7}"),
+        (".string \"\\t\\r\\b\\f\\\\\\'\"", "\t\r\u{8}\u{c}\\'"),
+        (".section .note.GNU-stack,\"\",@progbits", ".note.GNU-stack"),
+    ];
+    for (source, bytes) in rows.iter() {
+        assert!(rt;
+            text(&rt, source.as_bytes())
+                .expect(&rt, "memory")
+                .as_slice()
+                == bytes.as_bytes()
+        );
+    }
+}

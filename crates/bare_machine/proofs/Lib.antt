@@ -1,0 +1,7 @@
+pub mod Spelled
+pub mod Begun
+pub mod Texts
+pub mod Runs
+pub mod Steps
+pub mod Quiet
+pub mod Answered

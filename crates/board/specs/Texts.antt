@@ -1,0 +1,139 @@
+-- What the text of a script says.
+use Rattle.std.specs.Prelude.{◌≡◌, ℕ, ◌+◌, ◌-◌, ◌*◌, Bool, true, false, ◌&&◌, ◌||◌, not, ◌==◌, nat_lt, nat_le, List, [], ◌∷◌, ◌++◌, length, slice_index, fold, Option, Some, None, Result, Ok, Err, if◌then◌else◌, codes}
+use Rattle.std.specs.List.{slice_split, list_all}
+use Rattle.std.specs.Str.{bytes_eq}
+use Rattle.std.specs.Option.{option_map}
+use Rattle.board.specs.declared.script.Event.{Event}
+use Rattle.board.specs.declared.script.Event.TheVariants.{Rx, Line}
+use Rattle.board.specs.declared.fault.ScriptCause.{ScriptCause}
+use Rattle.board.specs.declared.fault.ScriptCause.TheVariants.{NoForm, BadNumber, StepFalls, TooMany, NotAscii}
+use Rattle.board.specs.Scripts.{Events, max_step, max_events, is_free_line, is_script}
+
+-- numbers
+
+abbrev pub is_digit : ℕ → Bool
+is_digit b = nat_le 48 b && nat_le b 57
+
+-- the number that decimal digits say, after those that said n
+abbrev pub decimal_after : ℕ → List ℕ → ℕ
+decimal_after n [] = n
+decimal_after n (b ∷ rest) = decimal_after (10 * n + (b - 48)) rest
+
+-- a decimal number up to a limit, leading zeros allowed
+unfoldable pub number_after : ℕ → ℕ → List ℕ → Option ℕ
+number_after limit n word =
+    if list_all is_digit word && nat_le (decimal_after n word) limit then Some (decimal_after n word) else None
+
+abbrev pub number_upto : ℕ → List ℕ → Option ℕ
+number_upto limit word = number_after limit 0 word
+
+-- a hexadecimal digit of either case
+abbrev pub hex_digit : ℕ → Option ℕ
+hex_digit b =
+    if nat_le 48 b && nat_le b 57 then Some (b - 48)
+    else if nat_le 65 b && nat_le b 70 then Some (b - 55)
+    else if nat_le 97 b && nat_le b 102 then Some (b - 87)
+    else None
+
+abbrev pub both_digits : Option ℕ → Option ℕ → Option ℕ
+both_digits None low = None
+both_digits (Some high) None = None
+both_digits (Some high) (Some low) = Some (16 * high + low)
+
+-- two hexadecimal digits
+unfoldable pub hex_byte : List ℕ → Option ℕ
+hex_byte word =
+    if length word == 2 then both_digits (hex_digit (slice_index word 0)) (hex_digit (slice_index word 1)) else None
+
+abbrev pub free_line_of : Option ℕ → Option ℕ
+free_line_of None = None
+free_line_of (Some n) = if is_free_line n then Some n else None
+
+-- lines
+
+abbrev pub is_empty : List ℕ → Bool
+is_empty [] = true
+is_empty (b ∷ rest) = false
+
+-- a step and an event, where both could be read
+abbrev pub event_with : Option ℕ → Option Event → Result (ℕ × Event) ScriptCause
+event_with None event = Err BadNumber
+event_with (Some step) None = Err BadNumber
+event_with (Some step) (Some event) = Ok (step, event)
+
+-- the three words of a line
+unfoldable pub event_of : List ℕ → List ℕ → List ℕ → Result (ℕ × Event) ScriptCause
+event_of step kind value =
+    if is_empty step || is_empty value then Err NoForm
+    else if bytes_eq kind (codes "rx") then event_with (number_upto max_step step) (option_map Rx (hex_byte value))
+    else if bytes_eq kind (codes "line") then event_with (number_upto max_step step) (option_map Line (free_line_of (number_upto 15 value)))
+    else Err NoForm
+
+unfoldable pub event_in : List (List ℕ) → Result (ℕ × Event) ScriptCause
+event_in [] = Err NoForm
+event_in (a ∷ []) = Err NoForm
+event_in (a ∷ b ∷ []) = Err NoForm
+event_in (a ∷ b ∷ c ∷ []) = event_of a b c
+event_in (a ∷ b ∷ c ∷ d ∷ rest) = Err NoForm
+
+-- the parts of a text between the bytes c
+abbrev pub cut_at : ℕ → List ℕ → List (List ℕ)
+cut_at c text = slice_split (λ b. b == c) text
+
+abbrev pub is_plain : ℕ → Bool
+is_plain b = nat_le 0x20 b && nat_le b 0x7E
+
+-- an empty line, or one that begins with '#'
+abbrev pub is_skipped : List ℕ → Bool
+is_skipped [] = true
+is_skipped (b ∷ rest) = b == 35
+
+abbrev pub some_event : Result (ℕ × Event) ScriptCause → Result (Option (ℕ × Event)) ScriptCause
+some_event (Ok event) = Ok (Some event)
+some_event (Err cause) = Err cause
+
+-- what a line says: its bytes are tested first, also those of a skipped one
+unfoldable pub line_of : List ℕ → Result (Option (ℕ × Event)) ScriptCause
+line_of line =
+    if not (list_all is_plain line) then Err NotAscii
+    else if is_skipped line then Ok None
+    else some_event (event_in (cut_at 32 line))
+
+-- texts
+
+-- what was read: the number of the next line, the step of the last event, and the events
+pub record Reading : Type 0 where
+  pub line : ℕ
+  pub low : ℕ
+  pub events : Events
+
+-- the events are a script's, and none is after the last step
+abbrev pub IsReading : ℕ → Events → Type 0
+IsReading low events = (is_script events ≡ true) × (list_all (λ e. nat_le e.0 low) events ≡ true)
+
+abbrev pub at_start : Reading
+at_start = record { line = 1; low = 0; events = [] }
+
+abbrev pub line_read : Reading → Result (Option (ℕ × Event)) ScriptCause → Result Reading (ℕ × ScriptCause)
+line_read r (Err cause) = Err (r.line, cause)
+line_read r (Ok None) = Ok (record r { line = r.line + 1 })
+line_read r (Ok (Some event)) =
+    if nat_lt event.0 r.low then Err (r.line, StepFalls)
+    else if nat_le max_events (length r.events) then Err (r.line, TooMany)
+    else Ok (record { line = r.line + 1; low = event.0; events = r.events ++ event ∷ [] })
+
+-- the next line: after the first bad one nothing is read
+abbrev pub next_read : Result Reading (ℕ × ScriptCause) → List ℕ → Result Reading (ℕ × ScriptCause)
+next_read (Err fault) line = Err fault
+next_read (Ok r) line = line_read r (line_of line)
+
+unfoldable pub lines_read : Result Reading (ℕ × ScriptCause) → List (List ℕ) → Result Reading (ℕ × ScriptCause)
+lines_read so_far lines = fold next_read so_far lines
+
+abbrev pub events_of : Result Reading (ℕ × ScriptCause) → Result (Events) (ℕ × ScriptCause)
+events_of (Ok r) = Ok r.events
+events_of (Err fault) = Err fault
+
+-- the events that a text says, or its first bad line with the cause
+abbrev pub script_of : List ℕ → Result (Events) (ℕ × ScriptCause)
+script_of text = events_of (lines_read (Ok at_start) (cut_at 10 text))

@@ -1,0 +1,17 @@
+//! The devices of the board, and the script of what comes to them from outside.
+#![tactic(auto)]
+
+mod devices;
+mod fault;
+mod ports;
+mod read;
+mod reading;
+mod script;
+
+pub use devices::{Board, PortRead};
+pub use fault::{ScriptCause, ScriptFault};
+pub use reading::read_script;
+pub use script::{Event, Script};
+
+#[cfg(test)]
+mod tests;

@@ -1,0 +1,145 @@
+use super::*;
+use ia32_types::Did;
+use std::test::Fail;
+
+fn sent(board: &mut Board, port: u16, v: u8) -> Did {
+    board.port_out(port, false, v as u32)
+}
+
+/// A board with both controllers started: the vector bases are 0x20 and 0x28.
+fn started() -> Board {
+    let mut board = Board::new();
+    for (port, v) in [
+        (0x20, 0x11),
+        (0x21, 0x20),
+        (0x21, 4),
+        (0x21, 1),
+        (0xA0, 0x11),
+        (0xA1, 0x28),
+        (0xA1, 2),
+        (0xA1, 1),
+    ] {
+        let _ = sent(&mut board, port, v);
+    }
+    board
+}
+
+/// Acknowledges what is pending.
+fn taken(board: &mut Board) -> Option<u8> {
+    board.pending()?;
+    Some(board.acknowledge())
+}
+
+#[test]
+fn timer_asks_after_eight_steps_a_count(rt: HostRuntime) {
+    let mut board = started();
+    for (port, v) in [(0x43, 0x34), (0x40, 2), (0x40, 0)] {
+        assert!(rt; sent(&mut board, port, v) == Did::Done);
+    }
+    board.advance(15);
+    assert_eq!(rt; board.pending(), None);
+    board.advance(1);
+    assert_eq!(rt; board.pending(), Some(0x20));
+    board.advance(1 << 60);
+    assert_eq!(rt; taken(&mut board), Some(0x20));
+    assert_eq!(rt; board.pending(), None);
+}
+
+#[test]
+fn ports_are_served_ignored_or_refused(rt: HostRuntime) {
+    let mut board = Board::new();
+    let reads = [
+        (0x40, false, PortRead::Stop),
+        (0x41, false, PortRead::Value(0xFF)),
+        (0x43, false, PortRead::Value(0xFF)),
+        (0x21, false, PortRead::Value(0xFF)),
+        (0x80, true, PortRead::Value(0xFFFF_FFFF)),
+        (0x1C, true, PortRead::Value(0xFFFF_FFFF)),
+        (0x1D, true, PortRead::Stop),
+        (0x22, true, PortRead::Value(0xFFFF_FFFF)),
+        (0x3F4, true, PortRead::Value(0xFFFF_FFFF)),
+        (0x3F5, true, PortRead::Stop),
+        (0x3FF, true, PortRead::Stop),
+        (0x400, true, PortRead::Value(0xFFFF_FFFF)),
+        (0xFFFF, true, PortRead::Value(0xFFFF_FFFF)),
+    ];
+    for (port, wide, want) in reads {
+        assert!(rt; board.port_in(port, wide) == want, "read of {port}");
+    }
+    assert!(rt; board.port_out(0x80, true, 0x1234_5678) == Did::Done);
+    assert!(rt; board.port_out(0x9D, true, 0) == Did::Stop);
+    assert!(rt; sent(&mut board, 0x3F8, 0x48) == Did::Sent(0x48));
+}
+
+#[test]
+fn a_received_byte_asks_once_its_interrupt_is_enabled(rt: HostRuntime) -> Result<(), Fail> {
+    let script = read_script(rt.alloc(), b"4 rx 41\n4 line 12")?;
+    let mut board = started();
+    for step in 0..5 {
+        board.begin(&script, step);
+        let want = if step < 4 { 0x60 } else { 0x61 };
+        assert!(rt;
+            board.port_in(0x3FD, false) == PortRead::Value(want),
+            "at {step}"
+        );
+    }
+    assert_eq!(rt; taken(&mut board), Some(0x2C));
+    assert_eq!(rt; sent(&mut board, 0xA0, 0x64), Did::Done);
+    assert_eq!(rt; sent(&mut board, 0x20, 0x62), Did::Done);
+    assert_eq!(rt; board.pending(), None);
+    assert_eq!(rt; sent(&mut board, 0x3F9, 1), Did::Done);
+    assert_eq!(rt; board.pending(), Some(0x24));
+    Ok(())
+}
+
+#[test]
+fn scripts_are_read_and_refused(rt: HostRuntime) -> Result<(), Fail> {
+    let script = read_script(rt.alloc(), b"# first\n0 rx 4F\n\n007 line 05\n7 rx 0a")?;
+    let events = [
+        (0, Event::Rx(0x4F)),
+        (7, Event::Line(5)),
+        (7, Event::Rx(10)),
+    ];
+    assert!(rt; script.list.as_slice() == events.as_slice());
+    let board = Board::new();
+    assert_eq!(rt; board.next_event(&script, 0), Some(7));
+    assert_eq!(rt; board.next_event(&script, 7), None);
+    let texts: [(&[u8], u64, ScriptCause); 16] = [
+        (b"7 line 2", 1, ScriptCause::BadNumber),
+        (b"0 rx 4G", 1, ScriptCause::BadNumber),
+        (b"x rx 41", 1, ScriptCause::BadNumber),
+        (b"0 rx 4", 1, ScriptCause::BadNumber),
+        (b"0 line 0", 1, ScriptCause::BadNumber),
+        (b"0 line 16", 1, ScriptCause::BadNumber),
+        (b"1099511627777 rx 41", 1, ScriptCause::BadNumber),
+        (b"0 rx 41\n1  rx 41", 2, ScriptCause::NoForm),
+        (b"0 rx", 1, ScriptCause::NoForm),
+        (b"0 tx 41", 1, ScriptCause::NoForm),
+        (b" rx 41", 1, ScriptCause::NoForm),
+        (b"0 rx 41 ", 1, ScriptCause::NoForm),
+        (b"5 rx 41\n3 rx 42", 2, ScriptCause::StepFalls),
+        (b"5 rx 41\n3 rx 4G", 2, ScriptCause::BadNumber),
+        (b"#\t", 1, ScriptCause::NotAscii),
+        (b"0 rx 41\r\n1", 1, ScriptCause::NotAscii),
+    ];
+    for (text, line, cause) in texts {
+        let answer = read_script(rt.alloc(), text).err().ok_or("read")?;
+        assert_eq!(rt; answer, ScriptFault::At { line, cause });
+    }
+    Ok(())
+}
+
+#[test]
+fn a_script_has_room_for_65536_events(rt: HostRuntime) -> Result<(), Fail> {
+    let mut text = Vec::new(rt.alloc());
+    for _ in 0..65536 {
+        text.extend_from_slice(b"1099511627776 rx 41\n")?;
+    }
+    assert_eq!(rt; read_script(rt.alloc(), &text)?.list.len(), 65536);
+    text.extend_from_slice(b"1099511627776 line 3")?;
+    let answer = read_script(rt.alloc(), &text).err().ok_or("read")?;
+    let line = 65537;
+    let cause = ScriptCause::TooMany;
+    assert_eq!(rt; answer, ScriptFault::At { line, cause });
+    Ok(())
+}

@@ -1,0 +1,66 @@
+-- What is known once a test has passed.
+use Rattle.std.proofs.Common.{◌≡◌, ◌≤◌, ◌+◌, ℕ, List, Bool, true, false, cond, ltb, Option, Some, None, Ok, refl}
+use Rattle.std.specs.Prelude.{IfNone}
+use Rattle.std.proofs.lemmas.Bool.{ltb-false}
+use Rattle.guest_ram.specs.Bytes.{word32}
+use Rattle.elf_form.specs.declared.cause.ElfCause.{ElfCause}
+use Rattle.elf_form.specs.declared.segments.Found.{Found}
+use Rattle.elf_form.specs.declared.segments.Found.TheVariants.{Nothing, One, Two, More}
+use Rattle.elf_form.specs.Faults.{test, ◌or_lower◌, bad}
+use Rattle.elf_form.specs.Tables.{AllFound, first_of, second_of}
+use Rattle.elf_form.specs.Segments.{order, memory_sizes, first_size, second_size, sizes, loads, header_size, program_size, section_size, too_long}
+use Rattle.elf_form.specs.Sections.{one_of}
+
+-- no place was found
+pub passed : (cause : ElfCause) (place : Option ℕ) → test cause place ≡ Ok tt → place ≡ None
+passed cause None e = refl
+passed cause (Some at) e = absurd cc
+
+some_stays : (b : Bool) (x y : ℕ) → cond b (Some x) (Some y) ≡ None → ⊥
+some_stays true x y e = cc
+some_stays false x y e = cc
+
+-- neither of two
+pub neither : (a b : Option ℕ) → (a or_lower b) ≡ None → (a ≡ None) × (b ≡ None)
+neither None b e = (refl, e)
+neither (Some a) None e = absurd cc
+neither (Some a) (Some b) e = absurd (some_stays (ltb b a) b a e)
+
+-- a field that is not bad
+pub not_bad : (is_bad : Bool) (at : ℕ) → bad is_bad at ≡ None → is_bad ≡ false
+not_bad true at e = absurd cc
+not_bad false at e = refl
+
+pub two_of : (bytes : List ℕ) (P : ℕ → Type 0) (f : Found) → order bytes f ≡ None → AllFound P f → P (first_of f) × P (second_of f)
+unfolding order
+two_of bytes P Nothing e all = absurd cc
+two_of bytes P (One a) e all = absurd cc
+two_of bytes P (Two a b) e all = all
+two_of bytes P (More a b) e all = absurd cc
+
+pub one_is : (P : ℕ → Type 0) (g : Found) → one_of g ≡ None → AllFound P g → P (first_of g)
+one_is P Nothing e all = absurd cc
+one_is P (One s) e all = all
+one_is P (Two s t) e all = absurd cc
+one_is P (More s t) e all = absurd cc
+
+-- the second program header takes no less memory than it has bytes
+pub second_fits : (bytes : List ℕ) (f : Found) → order bytes f ≡ None → memory_sizes bytes f ≡ None → word32 bytes (second_of f + 16) ≤ word32 bytes (second_of f + 20)
+unfolding order memory_sizes
+second_fits bytes Nothing e m = absurd cc
+second_fits bytes (One a) e m = absurd cc
+second_fits bytes (Two a b) e m = ltb-false _ _ (not_bad (ltb (word32 bytes (b + 20)) (word32 bytes (b + 16))) (b + 20) ((neither (first_size bytes a) (second_size bytes b) m).1))
+second_fits bytes (More a b) e m = absurd cc
+
+-- the sizes that were compared
+pub sizes_memory : (bytes : List ℕ) → sizes bytes ≡ None → memory_sizes bytes (loads bytes) ≡ None
+unfolding sizes
+sizes_memory bytes e =
+    let rest = (neither (header_size bytes) (program_size bytes or_lower (section_size bytes or_lower (memory_sizes bytes (loads bytes) or_lower too_long bytes))) e).1 in
+    let rest = (neither (program_size bytes) (section_size bytes or_lower (memory_sizes bytes (loads bytes) or_lower too_long bytes)) rest).1 in
+    let rest = (neither (section_size bytes) (memory_sizes bytes (loads bytes) or_lower too_long bytes) rest).1 in
+    (neither (memory_sizes bytes (loads bytes)) (too_long bytes) rest).0
+
+pub when_none : (place : Option ℕ) (P : Type 0) → (place ≡ None → P) → IfNone place P
+when_none None P h = h refl
+when_none (Some at) P h = tt

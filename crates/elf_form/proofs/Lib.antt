@@ -1,0 +1,14 @@
+pub mod TableLaws
+pub mod WholeLaws
+pub mod FormLaws
+pub mod AppendLaws
+pub mod RowLaws
+pub mod FileWords
+pub mod RoundTrip
+pub mod Acceptance
+pub mod StringLaws
+pub mod SymbolNames
+pub mod ObjectSizes
+pub mod JoinLaws
+pub mod RecordLaws
+pub mod ObjectAcceptance

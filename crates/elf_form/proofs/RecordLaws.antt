@@ -1,0 +1,19 @@
+-- Walks over the symbols of a table.
+use Rattle.std.proofs.Common.{◌≡◌, ℕ, ◌+◌, ◌-◌, ◌*◌, ◌<◌, ◌≤◌, true, false, List, [], ◌∷◌, ap, ◌∙◌}
+use Rattle.std.proofs.lemmas.Bool.{cond-true, cond-false}
+use Rattle.elf_form.specs.Tables.{entries}
+use Rattle.elf_form.specs.Symbols.{is_listed, numbers}
+use Rattle.elf_form.proofs.TableLaws.{entries-more, entries-end}
+
+module _ (names bytes : List ℕ) (at n i number : ℕ) where
+  pub numbers-yes : i < n → is_listed names bytes (at + 16 * i) ≡ true → numbers names bytes number (entries (at + 16 * i) 16 (n - i)) ≡ number ∷ numbers names bytes (number + 1) (entries (at + 16 * (i + 1)) 16 (n - (i + 1)))
+  unfolding numbers
+  numbers-yes lt is = ap (numbers names bytes number) (entries-more at 16 n i lt) ∙ ap (λ k. number ∷ numbers names bytes k (entries (at + 16 * (i + 1)) 16 (n - (i + 1)))) (cond-true _ _ _ is)
+
+  pub numbers-no : i < n → is_listed names bytes (at + 16 * i) ≡ false → numbers names bytes number (entries (at + 16 * i) 16 (n - i)) ≡ number ∷ numbers names bytes number (entries (at + 16 * (i + 1)) 16 (n - (i + 1)))
+  unfolding numbers
+  numbers-no lt is = ap (numbers names bytes number) (entries-more at 16 n i lt) ∙ ap (λ k. number ∷ numbers names bytes k (entries (at + 16 * (i + 1)) 16 (n - (i + 1)))) (cond-false _ _ _ is)
+
+  pub numbers-end : n ≤ i → numbers names bytes number (entries (at + 16 * i) 16 (n - i)) ≡ []
+  unfolding numbers
+  numbers-end le = ap (numbers names bytes number) (entries-end at 16 n i le)

@@ -1,0 +1,17 @@
+-- The entries of a file in which no part passes the end.
+use Rattle.std.proofs.Common.{◌≡◌, ℕ, ◌+◌, ◌*◌, ◌<◌, List, arith}
+use Rattle.guest_ram.specs.Bytes.{word16, word32}
+use Rattle.elf_form.specs.Header.{header_passes, section_passes, IsWhole, IsHeader, IsSection}
+use Rattle.elf_form.proofs.TableLaws.{none_passes}
+
+pub header_at : (bytes : List ℕ) (table count i : ℕ) → table ≡ word32 bytes 28 → count ≡ word16 bytes 44 → IsWhole bytes → i < count → IsHeader bytes (table + 32 * i)
+header_at bytes table count i t n whole lt =
+    let room = whole.header_room in
+    let below : i < word16 bytes 44 = omega arith in
+    rw t (omega arith, none_passes (header_passes bytes) (word32 bytes 28) 32 (word16 bytes 44) i whole.header_parts below)
+
+pub section_at : (bytes : List ℕ) (table count i : ℕ) → table ≡ word32 bytes 32 → count ≡ word16 bytes 48 → IsWhole bytes → i < count → IsSection bytes (table + 40 * i)
+section_at bytes table count i t n whole lt =
+    let room = whole.section_room in
+    let below : i < word16 bytes 48 = omega arith in
+    rw t (omega arith, none_passes (section_passes bytes) (word32 bytes 32) 40 (word16 bytes 48) i whole.section_parts below)

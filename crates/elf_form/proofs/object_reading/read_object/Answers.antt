@@ -1,0 +1,11 @@
+use Rattle.elf_form.proofs.ObjectAcceptance.{if_read, if_as, if_first}
+use Rattle.elf_form.proofs.object_reading.read_object.Goals as goal
+
+pub returns-clause-object : goal.returns-clause-object
+returns-clause-object c = if_read c.args.bytes.now c.object.result c.object.ensures
+
+pub returns-clause-only : goal.returns-clause-only
+returns-clause-only c = if_as c.args.bytes.now c.object.result c.object.ensures
+
+pub returns-clause-first : goal.returns-clause-first
+returns-clause-first c = if_first c.args.bytes.now c.object.result c.object.ensures

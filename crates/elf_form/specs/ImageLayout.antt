@@ -1,0 +1,65 @@
+-- The one layout of an image file.
+use Rattle.std.specs.Prelude.{ℕ, ◌+◌, ◌%◌, ◌<◌, ◌^◌, List, [], ◌∷◌, ◌++◌, length, replicate, codes}
+use Rattle.elf_form.specs.Output.{halves, longs, pad}
+use Rattle.elf_form.specs.ImageParts.{ImageParts}
+
+-- where the parts begin
+unfoldable pub init_from : ImageParts → ℕ
+init_from p = 4096 + length p.text + pad 4096 (4096 + length p.text)
+
+unfoldable pub sites_from : ImageParts → ℕ
+sites_from p = init_from p + length p.init + pad 4 (init_from p + length p.init)
+
+unfoldable pub names_from : ImageParts → ℕ
+names_from p = sites_from p + length p.sites
+
+unfoldable pub sections_from : ImageParts → ℕ
+sections_from p = names_from p + 38 + pad 4 (names_from p + 38)
+
+-- the names of the sections, each ended by a zero byte
+abbrev pub section_names : List ℕ
+section_names = 0 ∷ codes ".text" ++ 0 ∷ codes ".data" ++ 0 ∷ codes ".bss" ++ 0 ∷ codes ".pv_sites" ++ 0 ∷ codes ".shstrtab" ++ 0 ∷ []
+
+unfoldable pub header : ImageParts → List ℕ
+header p =
+    (127 ∷ 69 ∷ 76 ∷ 70 ∷ 1 ∷ 1 ∷ 1 ∷ 0 ∷ 0 ∷ 0 ∷ 0 ∷ 0 ∷ 0 ∷ 0 ∷ 0 ∷ 0 ∷ [])
+    ++ (halves (2 ∷ 3 ∷ [])
+    ++ (longs (1 ∷ p.entry ∷ 52 ∷ sections_from p ∷ 0 ∷ [])
+    ++ halves (52 ∷ 32 ∷ 2 ∷ 40 ∷ 6 ∷ 5 ∷ [])))
+
+-- type, offset, address (twice), bytes, memory, flags, alignment
+abbrev pub program_numbers : ImageParts → List ℕ
+program_numbers p =
+    1 ∷ 4096 ∷ p.text_at ∷ p.text_at ∷ length p.text ∷ length p.text ∷ 5 ∷ 4096
+    ∷ 1 ∷ init_from p ∷ p.init_at ∷ p.init_at ∷ length p.init ∷ (length p.init + p.bss) ∷ 6 ∷ 4096 ∷ []
+
+-- name, type, flags, address, offset, bytes, link, info, alignment, size of entries
+abbrev pub section_numbers : ImageParts → List ℕ
+section_numbers p =
+    0 ∷ 0 ∷ 0 ∷ 0 ∷ 0 ∷ 0 ∷ 0 ∷ 0 ∷ 0 ∷ 0
+    ∷ 1 ∷ 1 ∷ 6 ∷ p.text_at ∷ 4096 ∷ length p.text ∷ 0 ∷ 0 ∷ 16 ∷ 0
+    ∷ 7 ∷ 1 ∷ 3 ∷ p.init_at ∷ init_from p ∷ length p.init ∷ 0 ∷ 0 ∷ 16 ∷ 0
+    ∷ 13 ∷ 8 ∷ 3 ∷ ((p.init_at + length p.init) % 2 ^ 32) ∷ 0 ∷ p.bss ∷ 0 ∷ 0 ∷ 1 ∷ 0
+    ∷ 18 ∷ 1 ∷ 0 ∷ 0 ∷ sites_from p ∷ length p.sites ∷ 0 ∷ 0 ∷ 4 ∷ 0
+    ∷ 28 ∷ 3 ∷ 0 ∷ 0 ∷ names_from p ∷ 38 ∷ 0 ∷ 0 ∷ 0 ∷ 0 ∷ []
+
+-- the parts between the tables
+unfoldable pub body : ImageParts → List ℕ
+body p =
+    p.text ++ (replicate (pad 4096 (4096 + length p.text)) 0
+    ++ (p.init ++ (replicate (pad 4 (init_from p + length p.init)) 0
+    ++ (p.sites ++ (section_names ++ replicate (pad 4 (names_from p + 38)) 0)))))
+
+unfoldable pub image_bytes : ImageParts → List ℕ
+image_bytes p = header p ++ (longs (program_numbers p) ++ (replicate 3980 0 ++ (body p ++ longs (section_numbers p))))
+
+-- The file, and the data with the zeroed bytes, are shorter than 2 ^ 31 bytes.
+pub record IsWritableImage (p : ImageParts) : Type 0 where
+  pub file : sections_from p + 240 < 2 ^ 31
+  pub memory : length p.init + p.bss < 2 ^ 31
+
+-- Its numbers have four bytes.
+pub record HasLongs (p : ImageParts) : Type 0 where
+  pub entry : p.entry < 2 ^ 32
+  pub text_at : p.text_at < 2 ^ 32
+  pub init_at : p.init_at < 2 ^ 32

@@ -1,0 +1,15 @@
+-- The relocations that were collected.
+use Rattle.std.specs.Prelude.{◌≡◌, ℕ, List, All}
+use Rattle.elf_form.specs.declared.roles.Role.TheVariants as role
+use Rattle.elf_form.specs.declared.object_reading.Kept.{Kept}
+use Rattle.elf_form.specs.Sections.{names}
+use Rattle.elf_form.specs.Symbols.{IsEntry, relocs_of}
+
+-- those of the text, of the data and of the zeroed bytes, each in the file
+pub record AreKept (bytes : List ℕ) (kept : Kept) : Type 0 where
+  pub text : kept.text.items ≡ relocs_of role.Text (names bytes) bytes
+  pub init : kept.init.items ≡ relocs_of role.Init (names bytes) bytes
+  pub bss : kept.bss.items ≡ relocs_of role.Bss (names bytes) bytes
+  pub in_text : All (IsEntry bytes) kept.text.items
+  pub in_init : All (IsEntry bytes) kept.init.items
+  pub in_bss : All (IsEntry bytes) kept.bss.items

@@ -1,0 +1,17 @@
+pub mod StringTable
+pub mod ObjectParts
+pub mod ImageParts
+pub mod Faults
+pub mod Tables
+pub mod Header
+pub mod Segments
+pub mod Sections
+pub mod Reading
+pub mod Output
+pub mod ImageLayout
+pub mod ObjectLayout
+pub mod Accepted
+pub mod Roles
+pub mod Symbols
+pub mod ObjectReading
+pub mod KeptRelocs

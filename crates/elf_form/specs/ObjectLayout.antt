@@ -1,0 +1,128 @@
+-- The one layout of an object file.
+use Rattle.std.specs.Prelude.{◌≡◌, ℕ, ◌+◌, ◌*◌, true, false, ◌<◌, ◌≤◌, ◌^◌, Bool, not, List, [], ◌∷◌, ◌++◌, length, fold, filter, count_by, All, replicate, codes, if◌then◌else◌}
+use Rattle.std.specs.List.{flat_map, position_or_len}
+use Rattle.elf_form.specs.declared.object.Place.{Place}
+use Rattle.elf_form.specs.declared.object.Place.TheVariants.{Undefined, Text, Init, Bss}
+use Rattle.elf_form.specs.declared.object.Symbol.{Symbol}
+use Rattle.elf_form.specs.declared.object.Reloc.{Reloc}
+use Rattle.elf_form.specs.declared.object_writing.Layout.{Layout}
+use Rattle.elf_form.specs.declared.object_writing.Lengths.{Lengths}
+use Rattle.elf_form.specs.ObjectParts.{ObjectParts}
+use Rattle.elf_form.specs.Output.{halves, longs, pad}
+use Rattle.elf_form.specs.StringTable.{with_name, table_bytes, name_place}
+
+-- the next multiple of 4
+unfoldable pub next : ℕ → ℕ
+next n = n + pad 4 n
+
+-- the names of the symbols, each once, in the order of their first use, behind the empty one; and the string table that has them
+unfoldable pub names_of : List Symbol → List (List ℕ)
+names_of symbols = fold (λ names s. with_name names s.name) ([] ∷ []) symbols
+
+unfoldable pub strings_of : List Symbol → List ℕ
+strings_of symbols = table_bytes (names_of symbols)
+
+-- the relocations of the text, or those of the data
+abbrev pub is_of : Bool → Reloc → Bool
+is_of in_text r = if in_text then r.in_text else not r.in_text
+
+-- where the parts begin: the text at 52, and each other at the next multiple of 4
+unfoldable pub layout : ObjectParts → Layout
+layout o =
+    let init = next (52 + length o.text) in
+    let sites = next (init + length o.init) in
+    let text_relocs = next (sites + length o.sites) in
+    let data_relocs = text_relocs + 8 * count_by (is_of true) o.relocs in
+    let symbols = data_relocs + 8 * count_by (is_of false) o.relocs in
+    let strings = symbols + 16 * (length o.symbols + 1) in
+    let names = next (strings + length (strings_of o.symbols)) in
+    record { init = init; sites = sites; text_relocs = text_relocs; data_relocs = data_relocs; symbols = symbols; strings = strings; names = names; sections = next (names + 74) }
+
+-- Section headers 1 to 3 are those of the text, the data and the zeroed bytes.
+abbrev pub place_number : Place → ℕ
+place_number Undefined = 0
+place_number Text = 1
+place_number Init = 2
+place_number Bss = 3
+
+-- name, value, size; binding (1 for global) and type, other, section
+unfoldable pub symbol_bytes : List (List ℕ) → Symbol → List ℕ
+symbol_bytes names s = longs (name_place names s.name ∷ s.value ∷ 0 ∷ []) ++ ((if s.global then 16 else 0) ∷ 0 ∷ halves (place_number s.place ∷ []))
+
+-- the null symbol and the symbols in their order
+unfoldable pub symbol_table : List Symbol → List ℕ
+symbol_table symbols = replicate 16 0 ++ flat_map (symbol_bytes (names_of symbols)) symbols
+
+-- the number in the table of the first global symbol, or of what would follow the last one
+abbrev pub first_global : List Symbol → ℕ
+first_global symbols = position_or_len (λ s. s.global) symbols + 1
+
+-- place; symbol and type: R_386_32 is 1, R_386_PC32 is 2. The null symbol comes before symbol 0.
+unfoldable pub reloc_bytes : Reloc → List ℕ
+reloc_bytes r = longs (r.at ∷ (256 * (r.symbol + 1) + (if r.relative then 2 else 1)) ∷ [])
+
+unfoldable pub reloc_table : Bool → List Reloc → List ℕ
+reloc_table in_text relocs = flat_map reloc_bytes (filter (is_of in_text) relocs)
+
+-- the names of the sections, each ended by a zero byte
+abbrev pub object_names : List ℕ
+object_names = 0 ∷ codes ".text" ++ 0 ∷ codes ".data" ++ 0 ∷ codes ".bss" ++ 0 ∷ codes ".pv_sites" ++ 0 ∷ codes ".rel.text" ++ 0 ∷ codes ".rel.data" ++ 0 ∷ codes ".symtab" ++ 0 ∷ codes ".strtab" ++ 0 ∷ codes ".shstrtab" ++ 0 ∷ []
+
+unfoldable pub object_header : ObjectParts → List ℕ
+object_header o =
+    (127 ∷ 69 ∷ 76 ∷ 70 ∷ 1 ∷ 1 ∷ 1 ∷ 0 ∷ 0 ∷ 0 ∷ 0 ∷ 0 ∷ 0 ∷ 0 ∷ 0 ∷ 0 ∷ [])
+    ++ (halves (1 ∷ 3 ∷ [])
+    ++ (longs (1 ∷ 0 ∷ 0 ∷ (layout o).sections ∷ 0 ∷ [])
+    ++ halves (52 ∷ 0 ∷ 0 ∷ 40 ∷ 10 ∷ 9 ∷ [])))
+
+-- name, type, flags, address, offset, bytes, link, info, alignment, size of entries
+abbrev pub part_sections : ObjectParts → List ℕ
+part_sections o =
+    0 ∷ 0 ∷ 0 ∷ 0 ∷ 0 ∷ 0 ∷ 0 ∷ 0 ∷ 0 ∷ 0
+    ∷ 1 ∷ 1 ∷ 6 ∷ 0 ∷ 52 ∷ length o.text ∷ 0 ∷ 0 ∷ 16 ∷ 0
+    ∷ 7 ∷ 1 ∷ 3 ∷ 0 ∷ (layout o).init ∷ length o.init ∷ 0 ∷ 0 ∷ 16 ∷ 0
+    ∷ 13 ∷ 8 ∷ 3 ∷ 0 ∷ 0 ∷ o.bss ∷ 0 ∷ 0 ∷ 16 ∷ 0
+    ∷ 18 ∷ 1 ∷ 0 ∷ 0 ∷ (layout o).sites ∷ length o.sites ∷ 0 ∷ 0 ∷ 4 ∷ 0 ∷ []
+
+abbrev pub table_sections : ObjectParts → List ℕ
+table_sections o =
+    28 ∷ 9 ∷ 0 ∷ 0 ∷ (layout o).text_relocs ∷ (8 * count_by (is_of true) o.relocs) ∷ 7 ∷ 1 ∷ 0 ∷ 8
+    ∷ 38 ∷ 9 ∷ 0 ∷ 0 ∷ (layout o).data_relocs ∷ (8 * count_by (is_of false) o.relocs) ∷ 7 ∷ 2 ∷ 0 ∷ 8
+    ∷ 48 ∷ 2 ∷ 0 ∷ 0 ∷ (layout o).symbols ∷ (16 * (length o.symbols + 1)) ∷ 8 ∷ first_global o.symbols ∷ 0 ∷ 16
+    ∷ 56 ∷ 3 ∷ 0 ∷ 0 ∷ (layout o).strings ∷ length (strings_of o.symbols) ∷ 0 ∷ 0 ∷ 0 ∷ 0
+    ∷ 64 ∷ 3 ∷ 0 ∷ 0 ∷ (layout o).names ∷ 74 ∷ 0 ∷ 0 ∷ 0 ∷ 0 ∷ []
+
+-- text, data and annotations
+unfoldable pub object_parts : ObjectParts → List ℕ
+object_parts o =
+    o.text ++ (replicate (pad 4 (52 + length o.text)) 0
+    ++ (o.init ++ (replicate (pad 4 ((layout o).init + length o.init)) 0
+    ++ (o.sites ++ replicate (pad 4 ((layout o).sites + length o.sites)) 0))))
+
+-- relocations, symbols and names
+unfoldable pub object_tables : ObjectParts → List ℕ
+object_tables o =
+    reloc_table true o.relocs ++ (reloc_table false o.relocs
+    ++ (symbol_table o.symbols ++ (strings_of o.symbols ++ (replicate (pad 4 ((layout o).strings + length (strings_of o.symbols))) 0
+    ++ (object_names ++ replicate (pad 4 ((layout o).names + 74)) 0)))))
+
+unfoldable pub object_bytes : ObjectParts → List ℕ
+object_bytes o = object_header o ++ (object_parts o ++ (object_tables o ++ (longs (part_sections o) ++ longs (table_sections o))))
+
+-- The file, and the data with the zeroed bytes, are shorter than 2 ^ 31 bytes. There are at most 65,536 symbols, and each relocation names one.
+pub record IsWritableObject (o : ObjectParts) : Type 0 where
+  pub file : (layout o).sections + 400 < 2 ^ 31
+  pub memory : length o.init + o.bss < 2 ^ 31
+  pub count : length o.symbols ≤ 65536
+  pub named : All (λ r. r.symbol < length o.symbols) o.relocs
+
+-- how long the parts are, together less than 2 ^ 31 bytes
+pub record AreLengths (o : ObjectParts) (lengths : Lengths) : Type 0 where
+  pub text : lengths.text ≡ length o.text
+  pub init : lengths.init ≡ length o.init
+  pub sites : lengths.sites ≡ length o.sites
+  pub text_relocs : lengths.text_relocs ≡ count_by (is_of true) o.relocs
+  pub data_relocs : lengths.data_relocs ≡ count_by (is_of false) o.relocs
+  pub symbols : lengths.symbols ≡ length o.symbols
+  pub strings : lengths.strings ≡ length (strings_of o.symbols)
+  pub small : lengths.text + lengths.init + lengths.sites + 8 * lengths.text_relocs + 8 * lengths.data_relocs + 16 * lengths.symbols + lengths.strings < 2 ^ 31

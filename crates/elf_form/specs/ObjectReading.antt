@@ -1,0 +1,193 @@
+-- What is read of an object, or the first fault.
+use Rattle.std.specs.Prelude.{◌≡◌, ◌⊎◌, ℕ, ◌+◌, ◌%◌, ◌^◌, Bool, ◌&&◌, List, [], ◌∷◌, ◌++◌, map, Option, Some, None, Result, Ok, nat_lt, ◌==◌, if◌then◌else◌}
+use Rattle.guest_ram.specs.Bytes.{word16, word32}
+use Rattle.elf_form.specs.declared.cause.ElfCause.{ElfCause}
+use Rattle.elf_form.specs.declared.cause.ElfCause.TheVariants.{Truncated, Magic, Class, Encoding, Version, FileType, Machine, Sizes, SectionForm, Compressed, StringPlace, SymbolForm, RelocForm}
+use Rattle.elf_form.specs.declared.roles.Role.TheVariants as role
+use Rattle.elf_form.specs.declared.symbols.Table.{Table}
+use Rattle.elf_form.specs.declared.symbols.SectionTest.TheVariants.{EntrySizes, Links}
+use Rattle.elf_form.specs.declared.symbols.SymbolTest.TheVariants.{Names, Globals}
+use Rattle.elf_form.specs.declared.symbols.RelocTest.{RelocTest}
+use Rattle.elf_form.specs.declared.symbols.RelocTest.TheVariants.{Named, Form}
+use Rattle.elf_form.specs.declared.segments.Found.{Found}
+use Rattle.elf_form.specs.declared.segments.Found.TheVariants.{Nothing, One, Two, More}
+use Rattle.elf_form.specs.ObjectParts.{ObjectParts}
+use Rattle.elf_form.specs.Faults.{Fault, test, ◌>>=◌, ◌or_lower◌}
+use Rattle.elf_form.specs.Header.{section_count, sections, cut, magic, class, encoding, version, file_type, machine}
+use Rattle.elf_form.specs.Segments.{header_size, section_size, too_long}
+use Rattle.elf_form.specs.Sections.{contents, names, compressed, nameless}
+use Rattle.elf_form.specs.Roles.{with_role, misaligned, joined_fault, joined_end, joined}
+use Rattle.elf_form.specs.Symbols.{table_at, symbols_of, section_of, entries_fault, relocs_of, sections_fault, symbols_fault, relocs_fault, symbols_in, numbers, reloc_at}
+
+-- a section that is there and a string table (3)
+abbrev pub has_strings : List ℕ → ℕ → Bool
+has_strings bytes link = nat_lt link (section_count bytes) && (word32 bytes (section_of bytes link + 4) == 3)
+
+unfoldable pub strings_in : List ℕ → ℕ → List ℕ
+strings_in bytes link = if has_strings bytes link then contents bytes (section_of bytes link) else []
+
+-- the symbol table and the names of its symbols
+unfoldable pub table_of : List ℕ → Table
+table_of bytes = table_at bytes (with_role role.Symbols (names bytes) bytes)
+
+abbrev pub link_of : List ℕ → ℕ
+link_of bytes = word32 bytes ((table_of bytes).section + 24)
+
+unfoldable pub strings_of : List ℕ → List ℕ
+strings_of bytes = strings_in bytes (link_of bytes)
+
+-- ---- sizes
+
+abbrev pub table_fault : List ℕ → Found → Option ℕ
+table_fault bytes Nothing = None
+table_fault bytes (One s) = entries_fault 16 bytes s
+table_fault bytes (Two s t) = entries_fault 16 bytes s
+table_fault bytes (More s t) = entries_fault 16 bytes s
+
+unfoldable pub inner_sizes : List ℕ → Option ℕ
+inner_sizes bytes =
+    header_size bytes or_lower (section_size bytes
+    or_lower (joined_fault role.Init (names bytes) bytes 0 (sections bytes) or_lower (joined_fault role.Bss (names bytes) bytes 0 (sections bytes)
+    or_lower (table_fault bytes (with_role role.Symbols (names bytes) bytes) or_lower sections_fault EntrySizes (table_of bytes) (names bytes) bytes))))
+
+unfoldable pub object_sizes : List ℕ → Option ℕ
+object_sizes bytes = inner_sizes bytes or_lower too_long bytes
+
+-- ---- sections
+
+-- a field of the first, or of the second of the sections that were found
+abbrev pub first_field : ℕ → Found → Option ℕ
+first_field field Nothing = None
+first_field field (One s) = Some (s + field)
+first_field field (Two s t) = Some (s + field)
+first_field field (More s t) = Some (s + field)
+
+abbrev pub second_field : ℕ → Found → Option ℕ
+second_field field Nothing = None
+second_field field (One s) = None
+second_field field (Two s t) = Some (t + field)
+second_field field (More s t) = Some (t + field)
+
+-- an allocated section of another type, at its type; a second text, at its flags; a second section of sites, at its name; a bad alignment
+unfoldable pub object_form : List ℕ → Option ℕ
+object_form bytes =
+    first_field 4 (with_role role.Foreign (names bytes) bytes) or_lower (second_field 8 (with_role role.Text (names bytes) bytes)
+    or_lower (second_field 0 (with_role role.Sites (names bytes) bytes) or_lower misaligned (names bytes) bytes))
+
+-- ---- names
+
+abbrev pub section_names_fault : List ℕ → Option ℕ
+section_names_fault bytes = if has_strings bytes (word16 bytes 50) then nameless bytes else Some 50
+
+abbrev pub symbol_names_fault : List ℕ → Found → Option ℕ
+symbol_names_fault bytes Nothing = None
+symbol_names_fault bytes (One s) = if has_strings bytes (link_of bytes) then symbols_fault Names (table_of bytes) (strings_of bytes) (names bytes) bytes else Some (s + 24)
+symbol_names_fault bytes (Two s t) = if has_strings bytes (link_of bytes) then symbols_fault Names (table_of bytes) (strings_of bytes) (names bytes) bytes else Some (s + 24)
+symbol_names_fault bytes (More s t) = if has_strings bytes (link_of bytes) then symbols_fault Names (table_of bytes) (strings_of bytes) (names bytes) bytes else Some (s + 24)
+
+unfoldable pub string_places : List ℕ → Option ℕ
+string_places bytes = section_names_fault bytes or_lower symbol_names_fault bytes (with_role role.Symbols (names bytes) bytes)
+
+-- ---- symbols and relocations
+
+abbrev pub kept_relocs : RelocTest → List ℕ → Option ℕ
+kept_relocs test bytes =
+    relocs_fault test (table_of bytes) (names bytes) bytes (relocs_of role.Text (names bytes) bytes)
+    or_lower (relocs_fault test (table_of bytes) (names bytes) bytes (relocs_of role.Init (names bytes) bytes)
+    or_lower relocs_fault test (table_of bytes) (names bytes) bytes (relocs_of role.Bss (names bytes) bytes))
+
+unfoldable pub symbol_form : List ℕ → Option ℕ
+symbol_form bytes = symbols_fault Globals (table_of bytes) (strings_of bytes) (names bytes) bytes or_lower kept_relocs Named bytes
+
+unfoldable pub reloc_form : List ℕ → Option ℕ
+reloc_form bytes = sections_fault Links (table_of bytes) (names bytes) bytes or_lower kept_relocs Form bytes
+
+-- ---- the object
+
+abbrev pub text_in : List ℕ → Found → List ℕ
+text_in bytes Nothing = []
+text_in bytes (One s) = contents bytes s
+text_in bytes (Two s t) = contents bytes s
+text_in bytes (More s t) = contents bytes s
+
+-- An absent section of sites counts as one with no sites: "PVS1", and the count 0.
+abbrev pub sites_in : List ℕ → Found → List ℕ
+sites_in bytes Nothing = 80 ∷ 86 ∷ 83 ∷ 49 ∷ 0 ∷ 0 ∷ 0 ∷ 0 ∷ []
+sites_in bytes (One s) = contents bytes s
+sites_in bytes (Two s t) = contents bytes s
+sites_in bytes (More s t) = contents bytes s
+
+unfoldable pub object_at : List ℕ → ObjectParts
+object_at bytes = record {
+  text = text_in bytes (with_role role.Text (names bytes) bytes);
+  init = joined (names bytes) bytes [] (sections bytes);
+  bss = joined_end role.Bss (names bytes) bytes 0 (sections bytes) % 2 ^ 32;
+  sites = sites_in bytes (with_role role.Sites (names bytes) bytes);
+  symbols = symbols_in (table_of bytes) (strings_of bytes) (names bytes) bytes;
+  relocs =
+      map (reloc_at (numbers (names bytes) bytes 0 (symbols_of (table_of bytes))) (names bytes) bytes) (relocs_of role.Text (names bytes) bytes)
+      ++ map (reloc_at (numbers (names bytes) bytes 0 (symbols_of (table_of bytes))) (names bytes) bytes) (relocs_of role.Init (names bytes) bytes);
+}
+
+-- ---- the tests in their order
+
+unfoldable pub late_tests : List ℕ → Result ObjectParts Fault
+late_tests bytes = do
+  _ ← test SymbolForm (symbol_form bytes)
+  _ ← test RelocForm (reloc_form bytes)
+  Ok (object_at bytes)
+
+unfoldable pub middle_tests : List ℕ → Result ObjectParts Fault
+middle_tests bytes = do
+  _ ← test SectionForm (object_form bytes)
+  _ ← test Compressed (compressed bytes)
+  _ ← test StringPlace (string_places bytes)
+  late_tests bytes
+
+unfoldable pub early_tests : List ℕ → Result ObjectParts Fault
+early_tests bytes = do
+  _ ← test Magic (magic bytes)
+  _ ← test Class (class bytes)
+  _ ← test Encoding (encoding bytes)
+  _ ← test Version (version bytes)
+  _ ← test FileType (file_type 1 bytes)
+  _ ← test Machine (machine bytes)
+  _ ← test Sizes (object_sizes bytes)
+  middle_tests bytes
+
+unfoldable pub object_in : List ℕ → Result ObjectParts Fault
+object_in bytes = do
+  _ ← test Truncated (cut bytes)
+  early_tests bytes
+
+-- ---- without an order
+
+-- where a file is wrong by a cause, if it is
+unfoldable pub wrong_object : List ℕ → ElfCause → Option ℕ
+wrong_object bytes Truncated = cut bytes
+wrong_object bytes Magic = magic bytes
+wrong_object bytes Class = class bytes
+wrong_object bytes Encoding = encoding bytes
+wrong_object bytes Version = version bytes
+wrong_object bytes FileType = file_type 1 bytes
+wrong_object bytes Machine = machine bytes
+wrong_object bytes Sizes = object_sizes bytes
+wrong_object bytes SectionForm = object_form bytes
+wrong_object bytes Compressed = compressed bytes
+wrong_object bytes StringPlace = string_places bytes
+wrong_object bytes SymbolForm = symbol_form bytes
+wrong_object bytes RelocForm = reloc_form bytes
+
+-- the causes in the order in which they count
+abbrev pub all_causes : List ElfCause
+all_causes = Truncated ∷ Magic ∷ Class ∷ Encoding ∷ Version ∷ FileType ∷ Machine ∷ Sizes ∷ SectionForm ∷ Compressed ∷ StringPlace ∷ SymbolForm ∷ RelocForm ∷ []
+
+-- The fault is the first cause of a list by which a file is wrong.
+abbrev pub IsFirstOf : (ElfCause → Option ℕ) → List ElfCause → Fault → Type 0
+IsFirstOf wrong [] fault = ⊥
+IsFirstOf wrong (cause ∷ later) fault = ((wrong cause ≡ Some fault.at) × (fault.cause ≡ cause)) ⊎ ((wrong cause ≡ None) × IsFirstOf wrong later fault)
+
+-- A file is an object where it is wrong by no cause.
+pub record ObjectAs (bytes : List ℕ) (object : ObjectParts) : Type 0 where
+  pub sound : (cause : ElfCause) → wrong_object bytes cause ≡ None
+  pub parts : object ≡ object_at bytes

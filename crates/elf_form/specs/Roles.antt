@@ -1,0 +1,107 @@
+-- What each section of an object is read as.
+use Rattle.std.specs.Prelude.{ℕ, ◌+◌, ◌-◌, ◌/◌, ◌%◌, ◌^◌, Bool, true, false, not, ◌&&◌, ◌||◌, List, [], ◌∷◌, ◌++◌, length, filter, replicate, Option, Some, None, nat_lt, ◌==◌, if◌then◌else◌}
+use Rattle.std.specs.List.{list_any}
+use Rattle.guest_ram.specs.Bytes.{word32}
+use Rattle.elf_form.specs.declared.roles.Role.{Role}
+use Rattle.elf_form.specs.declared.roles.Role.TheVariants.{Ignored, Sites, Text, Init, Bss, Foreign, Symbols, Relocs}
+use Rattle.elf_form.specs.declared.segments.Found.{Found}
+use Rattle.elf_form.specs.Output.{pad}
+use Rattle.elf_form.specs.Tables.{found, first}
+use Rattle.elf_form.specs.Header.{sections}
+use Rattle.elf_form.specs.Sections.{contents, is_null, is_sites, field_of}
+
+-- Types: bits of the program (1), symbols (2), a note (7), no bits (8), relocations (9). Flags: 2 allocated, 4 executable.
+abbrev pub allocated_role : ℕ → ℕ → Role
+allocated_role kind flags =
+    if kind == 1 then (if flags / 4 % 2 == 1 then Text else Init)
+    else (if kind == 8 then Bss else (if kind == 7 then Ignored else Foreign))
+
+abbrev pub unallocated_role : ℕ → Role
+unallocated_role kind = if kind == 2 then Symbols else (if kind == 9 then Relocs else Ignored)
+
+abbrev pub role_by : ℕ → ℕ → Role
+role_by kind flags = if flags / 2 % 2 == 1 then allocated_role kind flags else unallocated_role kind
+
+-- The section of sites goes by its name.
+unfoldable pub role : List ℕ → List ℕ → ℕ → Role
+role names bytes s = if is_null bytes s then Ignored else (if is_sites names bytes s then Sites else role_by (word32 bytes (s + 4)) (word32 bytes (s + 8)))
+
+abbrev pub role_number : Role → ℕ
+role_number Ignored = 0
+role_number Sites = 1
+role_number Text = 2
+role_number Init = 3
+role_number Bss = 4
+role_number Foreign = 5
+role_number Symbols = 6
+role_number Relocs = 7
+
+abbrev pub has_role : Role → List ℕ → List ℕ → ℕ → Bool
+has_role r names bytes s = role_number (role names bytes s) == role_number r
+
+-- the sections that have it
+unfoldable pub with_role : Role → List ℕ → List ℕ → Found
+with_role r names bytes = found (filter (has_role r names bytes) (sections bytes))
+
+-- Text, data and zeroed bytes are kept.
+abbrev pub is_kept : Role → Bool
+is_kept Ignored = false
+is_kept Sites = false
+is_kept Text = true
+is_kept Init = true
+is_kept Bss = true
+is_kept Foreign = false
+is_kept Symbols = false
+is_kept Relocs = false
+
+-- ---- joining: each at its alignment, 0 for none
+
+abbrev pub alignment : List ℕ → ℕ → ℕ
+alignment bytes s = word32 bytes (s + 32)
+
+abbrev pub size : List ℕ → ℕ → ℕ
+size bytes s = word32 bytes (s + 20)
+
+abbrev pub up : ℕ → ℕ → ℕ
+up a n = if a == 0 then n else n + pad a n
+
+-- 0, or a power of two up to 4,096
+abbrev pub alignments : List ℕ
+alignments = 0 ∷ 1 ∷ 2 ∷ 4 ∷ 8 ∷ 16 ∷ 32 ∷ 64 ∷ 128 ∷ 256 ∷ 512 ∷ 1024 ∷ 2048 ∷ 4096 ∷ []
+
+abbrev pub is_misaligned : List ℕ → List ℕ → ℕ → Bool
+is_misaligned names bytes s = (has_role Init names bytes s || has_role Bss names bytes s) && not (list_any (λ a. a == alignment bytes s) alignments)
+
+unfoldable pub misaligned : List ℕ → List ℕ → Option ℕ
+misaligned names bytes = field_of 32 (first (is_misaligned names bytes) (sections bytes))
+
+-- the size field of the first section with which the sizes, in whole pages of 4,096 bytes, come to 2 ^ 32 or more
+unfoldable pub joined_fault : Role → List ℕ → List ℕ → ℕ → List ℕ → Option ℕ
+joined_fault r names bytes total [] = None
+joined_fault r names bytes total (s ∷ rest) =
+    if has_role r names bytes s
+    then (if nat_lt (total + (size bytes s + pad 4096 (size bytes s))) 4294967296 then joined_fault r names bytes (total + (size bytes s + pad 4096 (size bytes s))) rest else Some (s + 20))
+    else joined_fault r names bytes total rest
+
+-- where each section begins among those of a role, behind the end so far; 0 for the others
+unfoldable pub starts : Role → List ℕ → List ℕ → ℕ → List ℕ → List ℕ
+starts r names bytes end [] = []
+starts r names bytes end (s ∷ rest) =
+    if has_role r names bytes s
+    then up (alignment bytes s) end % 2 ^ 32 ∷ starts r names bytes (up (alignment bytes s) end + size bytes s) rest
+    else 0 ∷ starts r names bytes end rest
+
+-- where the last of them ends
+unfoldable pub joined_end : Role → List ℕ → List ℕ → ℕ → List ℕ → ℕ
+joined_end r names bytes end [] = end
+joined_end r names bytes end (s ∷ rest) =
+    if has_role r names bytes s then joined_end r names bytes (up (alignment bytes s) end + size bytes s) rest else joined_end r names bytes end rest
+
+unfoldable pub with_section : List ℕ → List ℕ → ℕ → List ℕ
+with_section bytes init s = init ++ (replicate (up (alignment bytes s) (length init) - length init) 0 ++ contents bytes s)
+
+-- the bytes of the data, each section behind zeros up to its alignment
+unfoldable pub joined : List ℕ → List ℕ → List ℕ → List ℕ → List ℕ
+joined names bytes init [] = init
+joined names bytes init (s ∷ rest) =
+    if has_role Init names bytes s then joined names bytes (with_section bytes init s) rest else joined names bytes init rest

@@ -1,0 +1,56 @@
+-- The names of sections, and the one section that is asked for.
+use Rattle.std.specs.Prelude.{ℕ, ◌+◌, ◌*◌, ◌%◌, ◌/◌, Bool, not, ◌&&◌, List, [], ◌∷◌, drop, filter, Option, Some, None, nat_lt, nat_eq, ◌==◌, codes, ◌++◌, if◌then◌else◌}
+use Rattle.std.specs.List.{list_any, starts_with}
+use Rattle.guest_ram.specs.Bytes.{word16, word32, part}
+use Rattle.elf_form.specs.declared.segments.Found.{Found}
+use Rattle.elf_form.specs.declared.segments.Found.TheVariants.{Nothing, One, Two, More}
+use Rattle.elf_form.specs.Tables.{found, first}
+use Rattle.elf_form.specs.Header.{section_table, section_count, sections, has_contents}
+
+-- the bytes of a section
+unfoldable pub contents : List ℕ → ℕ → List ℕ
+contents bytes s = if has_contents bytes s then part bytes (word32 bytes (s + 16)) (word32 bytes (s + 20)) else []
+
+-- The header names the section that holds the names. It is there, and a string table (3); else there are no names.
+abbrev pub names_section : List ℕ → ℕ
+names_section bytes = section_table bytes + 40 * word16 bytes 50
+
+unfoldable pub names : List ℕ → List ℕ
+names bytes = if nat_lt (word16 bytes 50) (section_count bytes) && (word32 bytes (names_section bytes + 4) == 3) then contents bytes (names_section bytes) else []
+
+abbrev pub is_null : List ℕ → ℕ → Bool
+is_null bytes s = word32 bytes (s + 4) == 0
+
+-- A section has a name where a zero byte ends it within the names.
+abbrev pub is_nameless : List ℕ → List ℕ → ℕ → Bool
+is_nameless names bytes s = not (is_null bytes s) && not (list_any (λ b. b == 0) (drop (word32 bytes s) names))
+
+-- ".pv_sites", with the zero byte that ends it
+abbrev pub sites_name : List ℕ
+sites_name = codes ".pv_sites" ++ 0 ∷ []
+
+abbrev pub is_sites : List ℕ → List ℕ → ℕ → Bool
+is_sites names bytes s = not (is_null bytes s) && starts_with nat_eq (drop (word32 bytes s) names) sites_name
+
+unfoldable pub sites_sections : List ℕ → Found
+sites_sections bytes = found (filter (is_sites (names bytes) bytes) (sections bytes))
+
+-- There is one.
+abbrev pub one_of : Found → Option ℕ
+one_of Nothing = Some 48
+one_of (One s) = None
+one_of (Two s t) = Some t
+one_of (More s t) = Some t
+
+abbrev pub is_compressed : List ℕ → ℕ → Bool
+is_compressed bytes s = not (is_null bytes s) && (word32 bytes (s + 8) / 2048 % 2 == 1)
+
+abbrev pub field_of : ℕ → Option ℕ → Option ℕ
+field_of field None = None
+field_of field (Some entry) = Some (entry + field)
+
+unfoldable pub compressed : List ℕ → Option ℕ
+compressed bytes = field_of 8 (first (is_compressed bytes) (sections bytes))
+
+unfoldable pub nameless : List ℕ → Option ℕ
+nameless bytes = first (is_nameless (names bytes) bytes) (sections bytes)

@@ -1,0 +1,53 @@
+-- The two program headers of an image.
+use Rattle.std.specs.Prelude.{ℕ, ◌+◌, ◌%◌, Bool, not, ◌&&◌, List, length, filter, Option, Some, None, nat_lt, ◌==◌}
+use Rattle.guest_ram.specs.Bytes.{word16, word32}
+use Rattle.elf_form.specs.declared.segments.Found.{Found}
+use Rattle.elf_form.specs.declared.segments.Found.TheVariants.{Nothing, One, Two, More}
+use Rattle.elf_form.specs.Faults.{bad, ◌or_lower◌}
+use Rattle.elf_form.specs.Tables.{found}
+use Rattle.elf_form.specs.Header.{headers}
+
+abbrev pub is_load : List ℕ → ℕ → Bool
+is_load bytes h = word32 bytes h == 1
+
+unfoldable pub loads : List ℕ → Found
+loads bytes = found (filter (is_load bytes) (headers bytes))
+
+-- The first takes as much memory as it has bytes, the second no less.
+abbrev pub first_size : List ℕ → ℕ → Option ℕ
+first_size bytes h = bad (not (word32 bytes (h + 20) == word32 bytes (h + 16))) (h + 20)
+
+abbrev pub second_size : List ℕ → ℕ → Option ℕ
+second_size bytes h = bad (nat_lt (word32 bytes (h + 20)) (word32 bytes (h + 16))) (h + 20)
+
+unfoldable pub memory_sizes : List ℕ → Found → Option ℕ
+memory_sizes bytes Nothing = None
+memory_sizes bytes (One a) = first_size bytes a
+memory_sizes bytes (Two a b) = first_size bytes a or_lower second_size bytes b
+memory_sizes bytes (More a b) = first_size bytes a or_lower second_size bytes b
+
+abbrev pub header_size : List ℕ → Option ℕ
+header_size bytes = bad (not (word16 bytes 40 == 52)) 40
+
+abbrev pub program_size : List ℕ → Option ℕ
+program_size bytes = bad (not (word16 bytes 42 == 32)) 42
+
+abbrev pub section_size : List ℕ → Option ℕ
+section_size bytes = bad (not (word16 bytes 46 == 40)) 46
+
+abbrev pub too_long : List ℕ → Option ℕ
+too_long bytes = bad (nat_lt 33554432 (length bytes)) 33554432
+
+-- The lowest size field that is wrong.
+unfoldable pub sizes : List ℕ → Option ℕ
+sizes bytes = header_size bytes or_lower (program_size bytes or_lower (section_size bytes or_lower (memory_sizes bytes (loads bytes) or_lower too_long bytes)))
+
+abbrev pub is_executable : List ℕ → ℕ → Bool
+is_executable bytes h = word32 bytes (h + 24) % 2 == 1
+
+-- There are two, and the first alone is executable.
+unfoldable pub order : List ℕ → Found → Option ℕ
+order bytes (Two a b) = bad (not (is_executable bytes a && not (is_executable bytes b))) 44
+order bytes Nothing = Some 44
+order bytes (One a) = Some 44
+order bytes (More a b) = Some 44

@@ -1,0 +1,40 @@
+-- String tables: names, each ended by a zero byte. The empty name stands first, so a table begins with a zero byte.
+use Rattle.std.specs.Prelude.{◌≡◌, ℕ, ◌+◌, List, [], ◌∷◌, ◌++◌, length, Option, Some, None, unwrap_or, if◌then◌else◌}
+use Rattle.std.specs.List.{flat_map}
+use Rattle.std.specs.Str.{bytes_eq}
+use Rattle.std.specs.HashMap as hash
+use Rattle.std.specs.HashMap.{HashMap}
+use denote.Ref.{Bor}
+
+abbrev pub further : ℕ → Option ℕ → Option ℕ
+further k None = None
+further k (Some at) = Some (k + at)
+
+-- where a name begins among the names of a table, if it is there
+abbrev pub place_in : List (List ℕ) → List ℕ → Option ℕ
+place_in [] name = None
+place_in (n ∷ names) name = if bytes_eq name n then Some 0 else further (length n + 1) (place_in names name)
+
+-- the name at the end, unless it has a place
+abbrev pub unless_placed : List (List ℕ) → List ℕ → Option ℕ → List (List ℕ)
+unless_placed names name None = names ++ name ∷ []
+unless_placed names name (Some at) = names
+
+abbrev pub with_name : List (List ℕ) → List ℕ → List (List ℕ)
+with_name names name = unless_placed names name (place_in names name)
+
+unfoldable pub table_bytes : List (List ℕ) → List ℕ
+table_bytes names = flat_map (λ name. name ++ 0 ∷ []) names
+
+-- where a name begins in a table that has it
+unfoldable pub name_place : List (List ℕ) → List ℕ → ℕ
+name_place names name = unwrap_or (place_in names name) 0
+
+-- a map with the places of a table's names
+pub record HasPlaces {S : Type 0} (names : List (List ℕ)) (map : HashMap (Bor (List ℕ)) ℕ S) : Type 0 where
+  pub places : (name : List ℕ) → hash.get_by (λ k. bytes_eq name k.now) map ≡ place_in names name
+
+-- a table's bytes, and such a map
+pub record IsTable {S : Type 0} (names : List (List ℕ)) (strings : List ℕ) (map : HashMap (Bor (List ℕ)) ℕ S) : Type 0 where
+  pub bytes : strings ≡ table_bytes names
+  pub has : HasPlaces names map

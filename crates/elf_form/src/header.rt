@@ -1,0 +1,146 @@
+//! The header, and the parts that pass the end of the file.
+
+ghost use Rattle.std.specs.Prelude.{◌≡◌, ◌≤◌, ◌<◌, ◌+◌, ◌*◌, ◌^◌, Bool, length, not, ◌||◌, ◌==◌, IfNone, IfSome};
+ghost use Rattle.guest_ram.specs.Bytes.{byte, word16, word32};
+ghost use Rattle.elf_form.specs.Faults.{bad, ◌or_lower◌};
+ghost use Rattle.elf_form.specs.Tables.{entries, first};
+ghost use Rattle.elf_form.specs.Header.{cut, part_of, header_passes, section_passes, passes, IsWhole};
+ghost use Rattle.elf_form.specs.Header.{magic, class, encoding, version, file_type, machine};
+
+use crate::words::{byte, half, word};
+
+/// The place, where it is bad.
+pub fn bad(is_bad: bool, at: usize) -> Option<usize>
+    ensures { result ≡ bad is_bad at }
+{
+    if is_bad { Some(at) } else { None }
+}
+
+/// The lower place.
+pub fn lower(a: Option<usize>, b: Option<usize>) -> Option<usize>
+    ensures { result ≡ a or_lower b }
+{
+    match (a, b) {
+        (None, b) => b,
+        (Some(a), None) => Some(a),
+        (Some(a), Some(b)) => Some(if b < a { b } else { a }),
+    }
+}
+
+fn passes_end(bytes: &[u8], at: u32, size: u64) -> bool
+    requires { size < 2 ^ 62 }
+    ensures { result ≡ passes bytes.now at size }
+{
+    (bytes.len() as u64) < at as u64 + size
+}
+
+fn header_passes_end(bytes: &[u8], h: usize) -> bool
+    requires { h + 32 ≤ length bytes.now }
+    ensures { result ≡ header_passes bytes.now h }
+{
+    passes_end(bytes, word(bytes, h + 4), word(bytes, h + 16) as u64)
+}
+
+fn section_passes_end(bytes: &[u8], s: usize) -> bool
+    requires { s + 40 ≤ length bytes.now }
+    ensures { result ≡ section_passes bytes.now s }
+{
+    let kind = word(bytes, s + 4);
+    if kind == 0 || kind == 8 {
+        return false;
+    }
+    passes_end(bytes, word(bytes, s + 16), word(bytes, s + 20) as u64)
+}
+
+fn cut_header(bytes: &[u8], table: usize, count: usize) -> Option<u32>
+    requires { table + 32 * count ≤ length bytes.now }
+    ensures { result ≡ part_of bytes.now 4 (first (header_passes bytes.now) (entries table 32 count)) }
+{
+    for i in 0..count {
+        let h = table + 32 * i;
+        if header_passes_end(bytes, h) {
+            return Some(word(bytes, h + 4));
+        }
+    }
+    None
+}
+
+fn cut_section(bytes: &[u8], table: usize, count: usize) -> Option<u32>
+    requires { table + 40 * count ≤ length bytes.now }
+    ensures { result ≡ part_of bytes.now 16 (first (section_passes bytes.now) (entries table 40 count)) }
+{
+    for i in 0..count {
+        let s = table + 40 * i;
+        if section_passes_end(bytes, s) {
+            return Some(word(bytes, s + 16));
+        }
+    }
+    None
+}
+
+/// The first part that passes the end.
+#[tactic(auto, unfolding(crate::specs::Header::cut))]
+pub fn cut(bytes: &[u8]) -> Option<u32>
+    ensures place { result ≡ cut bytes.now }
+    ensures whole { IfNone result (IsWhole bytes.now) }
+{
+    if bytes.len() < 52 {
+        return Some(0);
+    }
+    let headers = word(bytes, 28);
+    let header_count = half(bytes, 44);
+    if passes_end(bytes, headers, 32 * header_count as u64) {
+        return Some(headers);
+    }
+    let sections = word(bytes, 32);
+    let section_count = half(bytes, 48);
+    if passes_end(bytes, sections, 40 * section_count as u64) {
+        return Some(sections);
+    }
+    if let Some(at) = cut_header(bytes, headers as usize, header_count as usize) {
+        return Some(at);
+    }
+    cut_section(bytes, sections as usize, section_count as usize)
+}
+
+pub fn magic(bytes: &[u8]) -> Option<usize>
+    requires { 52 ≤ length bytes.now }
+    ensures { result ≡ magic bytes.now }
+{
+    bad(word(bytes, 0) != 0x464C_457F, 0)
+}
+
+pub fn class(bytes: &[u8]) -> Option<usize>
+    requires { 52 ≤ length bytes.now }
+    ensures { result ≡ class bytes.now }
+{
+    bad(byte(bytes, 4) != 1, 4)
+}
+
+pub fn encoding(bytes: &[u8]) -> Option<usize>
+    requires { 52 ≤ length bytes.now }
+    ensures { result ≡ encoding bytes.now }
+{
+    bad(byte(bytes, 5) != 1, 5)
+}
+
+pub fn version(bytes: &[u8]) -> Option<usize>
+    requires { 52 ≤ length bytes.now }
+    ensures { result ≡ version bytes.now }
+{
+    lower(bad(byte(bytes, 6) != 1, 6), bad(word(bytes, 20) != 1, 20))
+}
+
+pub fn file_type(bytes: &[u8], wanted: u16) -> Option<usize>
+    requires { 52 ≤ length bytes.now }
+    ensures { result ≡ file_type wanted bytes.now }
+{
+    bad(half(bytes, 16) != wanted, 16)
+}
+
+pub fn machine(bytes: &[u8]) -> Option<usize>
+    requires { 52 ≤ length bytes.now }
+    ensures { result ≡ machine bytes.now }
+{
+    bad(half(bytes, 18) != 3, 18)
+}

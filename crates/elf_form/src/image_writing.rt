@@ -1,0 +1,182 @@
+//! Writing an image.
+
+ghost use Rattle.std.specs.Prelude.{◌≡◌, ◌<◌, ◌+◌, ◌^◌, ◌++◌, ◌*◌, length, replicate, OnOk, IfOk};
+ghost use Rattle.elf_form.specs.Output.{halves, longs, pad};
+ghost use Rattle.elf_form.specs.ImageLayout.{init_from, sites_from, names_from, sections_from, header, program_numbers, section_numbers, body, image_bytes, IsWritableImage, section_names};
+
+use crate::image::Image;
+use crate::output::{page_pad, put_halves, put_longs, put_zeros, word_pad};
+use std::alloc::{AllocError, Global};
+
+const IDENTITY: [u8; 16] = *b"\x7FELF\x01\x01\x01\0\0\0\0\0\0\0\0\0";
+
+const NAMES: [u8; 38] = *b"\0.text\0.data\0.bss\0.pv_sites\0.shstrtab\0";
+
+#[tactic(auto, unfolding(crate::specs::ImageLayout::init_from, crate::specs::ImageLayout::sites_from, crate::specs::ImageLayout::names_from, crate::specs::ImageLayout::sections_from))]
+fn init_from(image: &Image) -> usize
+    requires { IsWritableImage image.now }
+    ensures { result ≡ init_from image.now }
+{
+    let end = 4096 + image.text.len();
+    end + page_pad(end)
+}
+
+#[tactic(auto, unfolding(crate::specs::ImageLayout::init_from, crate::specs::ImageLayout::sites_from, crate::specs::ImageLayout::names_from, crate::specs::ImageLayout::sections_from))]
+fn sites_from(image: &Image) -> usize
+    requires { IsWritableImage image.now }
+    ensures { result ≡ sites_from image.now }
+{
+    let end = init_from(image) + image.init.len();
+    end + word_pad(end)
+}
+
+#[tactic(auto, unfolding(crate::specs::ImageLayout::init_from, crate::specs::ImageLayout::sites_from, crate::specs::ImageLayout::names_from, crate::specs::ImageLayout::sections_from))]
+fn names_from(image: &Image) -> usize
+    requires { IsWritableImage image.now }
+    ensures { result ≡ names_from image.now }
+{
+    sites_from(image) + image.sites.len()
+}
+
+#[tactic(auto, unfolding(crate::specs::ImageLayout::init_from, crate::specs::ImageLayout::sites_from, crate::specs::ImageLayout::names_from, crate::specs::ImageLayout::sections_from))]
+fn sections_from(image: &Image) -> usize
+    requires { IsWritableImage image.now }
+    ensures { result ≡ sections_from image.now }
+{
+    let end = names_from(image) + NAMES.len();
+    end + word_pad(end)
+}
+
+#[tactic(auto, unfolding(crate::specs::ImageLayout::header, crate::specs::ImageLayout::init_from, crate::specs::ImageLayout::sites_from, crate::specs::ImageLayout::names_from, crate::specs::ImageLayout::sections_from))]
+fn put_header(out: &mut Vec<u8>, image: &Image) -> Result<(), AllocError>
+    requires { IsWritableImage image.now }
+    ensures { OnOk result (out.new.items ≡ out.old.items ++ header image.now) }
+{
+    out.extend_from_slice(&IDENTITY)?;
+    put_halves(out, &[2, 3])?;
+    put_longs(out, &[1, image.entry, 52, sections_from(image) as u32, 0])?;
+    put_halves(out, &[52, 32, 2, 40, 6, 5])?;
+    Ok(())
+}
+
+#[tactic(auto, unfolding(crate::specs::ImageLayout::init_from, crate::specs::ImageLayout::sites_from, crate::specs::ImageLayout::names_from, crate::specs::ImageLayout::sections_from))]
+fn put_programs(out: &mut Vec<u8>, image: &Image) -> Result<(), AllocError>
+    requires { IsWritableImage image.now }
+    ensures { OnOk result (out.new.items ≡ out.old.items ++ longs (program_numbers image.now)) }
+{
+    let (text, init) = (image.text.len() as u32, image.init.len() as u32);
+    let (text_at, init_at) = (image.text_at, image.init_at);
+    let from = init_from(image) as u32;
+    let memory = init + image.bss;
+    let numbers = [
+        1, 4096, text_at, text_at, text, text, 5, 4096, 1, from, init_at, init_at, init, memory, 6,
+        4096,
+    ];
+    put_longs(out, &numbers)
+}
+
+#[tactic(auto, unfolding(crate::specs::ImageLayout::init_from, crate::specs::ImageLayout::sites_from, crate::specs::ImageLayout::names_from, crate::specs::ImageLayout::sections_from))]
+fn put_sections(out: &mut Vec<u8>, image: &Image) -> Result<(), AllocError>
+    requires { IsWritableImage image.now }
+    ensures { OnOk result (out.new.items ≡ out.old.items ++ longs (section_numbers image.now)) }
+{
+    let (text, init) = (image.text.len() as u32, image.init.len() as u32);
+    let sites = image.sites.len() as u32;
+    let init_at = init_from(image) as u32;
+    let sites_at = sites_from(image) as u32;
+    let names_at = names_from(image) as u32;
+    let bss_at = image.init_at.wrapping_add(init);
+    let numbers = [
+        0,
+        0,
+        0,
+        0,
+        0,
+        0,
+        0,
+        0,
+        0,
+        0, //
+        1,
+        1,
+        6,
+        image.text_at,
+        4096,
+        text,
+        0,
+        0,
+        16,
+        0, //
+        7,
+        1,
+        3,
+        image.init_at,
+        init_at,
+        init,
+        0,
+        0,
+        16,
+        0, //
+        13,
+        8,
+        3,
+        bss_at,
+        0,
+        image.bss,
+        0,
+        0,
+        1,
+        0, //
+        18,
+        1,
+        0,
+        0,
+        sites_at,
+        sites,
+        0,
+        0,
+        4,
+        0, //
+        28,
+        3,
+        0,
+        0,
+        names_at,
+        38,
+        0,
+        0,
+        0,
+        0,
+    ];
+    put_longs(out, &numbers)
+}
+
+#[tactic(auto, unfolding(crate::specs::ImageLayout::body, crate::specs::ImageLayout::init_from, crate::specs::ImageLayout::sites_from, crate::specs::ImageLayout::names_from, crate::specs::ImageLayout::sections_from))]
+fn put_body(out: &mut Vec<u8>, image: &Image) -> Result<(), AllocError>
+    requires { IsWritableImage image.now }
+    ensures { OnOk result (out.new.items ≡ out.old.items ++ body image.now) }
+{
+    out.extend_from_slice(&image.text)?;
+    put_zeros(out, page_pad(4096 + image.text.len()))?;
+    out.extend_from_slice(&image.init)?;
+    put_zeros(out, word_pad(init_from(image) + image.init.len()))?;
+    out.extend_from_slice(&image.sites)?;
+    out.extend_from_slice(&NAMES)?;
+    put_zeros(out, word_pad(names_from(image) + NAMES.len()))?;
+    Ok(())
+}
+
+/// The one layout of an image.
+#[tactic(auto, unfolding(crate::specs::ImageLayout::image_bytes))]
+pub fn write_image(alloc: Global, image: &Image) -> Result<Vec<u8>, AllocError>
+    requires { IsWritableImage image.now }
+    ensures { IfOk result (λ v. v.items ≡ image_bytes image.now) }
+{
+    let mut out = Vec::new(alloc);
+    put_header(&mut out, image)?;
+    put_programs(&mut out, image)?;
+    put_zeros(&mut out, 3980)?;
+    put_body(&mut out, image)?;
+    put_sections(&mut out, image)?;
+    Ok(out)
+}

@@ -1,0 +1,35 @@
+//! Objects and images as ELF files of 32 bits: the one layout that is written, and what is read.
+#![tactic(auto)]
+
+mod cause;
+mod entries;
+mod header;
+mod image;
+mod image_writing;
+mod joining;
+mod laws;
+mod object;
+mod object_reading;
+mod object_tests;
+mod object_writing;
+mod output;
+mod reading;
+mod records;
+mod roles;
+mod sections;
+mod segments;
+mod strings;
+mod symbol_walks;
+mod symbols;
+#[cfg(test)]
+mod tests;
+mod words;
+
+pub use cause::{ElfCause, ElfFault};
+pub use image::Image;
+pub use image_writing::write_image;
+pub use laws::reads_back;
+pub use object::{Bytes, Object, Place, Reloc, Symbol};
+pub use object_reading::read_object;
+pub use object_writing::write_object;
+pub use reading::read_image;

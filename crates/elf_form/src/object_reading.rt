@@ -1,0 +1,201 @@
+//! Reading an object.
+
+ghost use Rattle.std.specs.Prelude.{◌≡◌, ℕ, ◌≤◌, ◌<◌, ◌+◌, ◌*◌, ◌^◌, List, length, All, IfNone, IfSome, IfOk};
+ghost use Rattle.elf_form.specs.declared.roles.Role.TheVariants as role;
+ghost use Rattle.elf_form.specs.declared.cause.ElfCause.{ElfCause};
+ghost use Rattle.elf_form.specs.Tables.{AllFound};
+ghost use Rattle.elf_form.specs.Faults.{Gives};
+ghost use Rattle.elf_form.specs.Header.{IsWhole, IsSection, sections};
+ghost use Rattle.elf_form.specs.Sections.{names as names_in};
+ghost use Rattle.elf_form.specs.Roles.{with_role, starts as starts_of};
+ghost use Rattle.elf_form.specs.Symbols.{IsEntry, relocs_of};
+ghost use Rattle.elf_form.specs.KeptRelocs.{AreKept};
+ghost use Rattle.elf_form.specs.ObjectParts.{ObjectParts};
+ghost use Rattle.elf_form.specs.ObjectReading.{table_of as table_in, kept_relocs, symbol_form, reloc_form, text_in, sites_in, object_at, late_tests, middle_tests, early_tests, object_in, wrong_object, all_causes, IsFirstOf, ObjectAs};
+
+use crate::cause::{ElfCause, ElfFault};
+use crate::entries::{entries_of, relocs_fault};
+use crate::header::{class, cut, encoding, file_type, lower, machine, magic, version};
+use crate::joining::{joined, starts};
+use crate::object::Object;
+use crate::object_tests::{object_form, object_sizes, string_places, strings_of, table_of};
+use crate::reading::test;
+use crate::records::{Starts, numbers, put_relocs, symbols_in};
+use crate::roles::{Role, with_role};
+use crate::sections::{compressed, contents, names};
+use crate::segments::{Found, LIMIT};
+use crate::symbol_walks::{sections_fault, symbols_fault};
+use crate::symbols::{Entry, RelocTest, SectionTest, SymbolTest};
+use std::alloc::{AllocError, Global};
+
+/// The relocations of an object's text, of its data, and of its zeroed bytes.
+#[derive(Drop)]
+pub struct Kept {
+    pub text: Vec<Entry>,
+    pub init: Vec<Entry>,
+    pub bss: Vec<Entry>,
+}
+
+fn kept_in(alloc: Global, bytes: &[u8]) -> Result<Kept, AllocError>
+    requires { IsWhole bytes.now }
+    ensures { IfOk result (AreKept bytes.now) }
+{
+    let names = names(bytes);
+    Ok(Kept {
+        text: entries_of(alloc, Role::Text, names, bytes)?,
+        init: entries_of(alloc, Role::Init, names, bytes)?,
+        bss: entries_of(alloc, Role::Bss, names, bytes)?,
+    })
+}
+
+fn kept_fault(test: RelocTest, bytes: &[u8], kept: &Kept) -> Option<usize>
+    requires whole { IsWhole bytes.now }
+    requires kept { AreKept bytes.now kept.now }
+    ensures place { result ≡ kept_relocs test bytes.now }
+    ensures inside { IfSome result (λ at. at < length bytes.now) }
+{
+    let names = names(bytes);
+    let table = table_of(bytes);
+    let text = relocs_fault(test, table, names, bytes, &kept.text);
+    let init = relocs_fault(test, table, names, bytes, &kept.init);
+    let bss = relocs_fault(test, table, names, bytes, &kept.bss);
+    lower(text, lower(init, bss))
+}
+
+#[tactic(auto, unfolding(crate::specs::ObjectReading::symbol_form))]
+fn symbol_form(bytes: &[u8], kept: &Kept) -> Option<usize>
+    requires whole { IsWhole bytes.now }
+    requires kept { AreKept bytes.now kept.now }
+    ensures place { result ≡ symbol_form bytes.now }
+    ensures inside { IfSome result (λ at. at < length bytes.now) }
+{
+    let names = names(bytes);
+    let table = table_of(bytes);
+    let globals = symbols_fault(SymbolTest::Globals, table, strings_of(bytes), names, bytes);
+    lower(globals, kept_fault(RelocTest::Named, bytes, kept))
+}
+
+#[tactic(auto, unfolding(crate::specs::ObjectReading::reloc_form))]
+fn reloc_form(bytes: &[u8], kept: &Kept) -> Option<usize>
+    requires whole { IsWhole bytes.now }
+    requires kept { AreKept bytes.now kept.now }
+    ensures place { result ≡ reloc_form bytes.now }
+    ensures inside { IfSome result (λ at. at < length bytes.now) }
+{
+    let links = sections_fault(SectionTest::Links, table_of(bytes), names(bytes), bytes);
+    lower(links, kept_fault(RelocTest::Form, bytes, kept))
+}
+
+fn text_in(bytes: &[u8], found: Found) -> &[u8]
+    requires { AllFound (IsSection bytes.now) found }
+    ensures { result.now ≡ text_in bytes.now found }
+{
+    match found {
+        Found::Nothing => &[],
+        Found::One(s) | Found::Two(s, _) | Found::More(s, _) => contents(bytes, s),
+    }
+}
+
+/// The section of annotations, or one of no sites.
+fn sites_in(bytes: &[u8], found: Found) -> &[u8]
+    requires { AllFound (IsSection bytes.now) found }
+    ensures { result.now ≡ sites_in bytes.now found }
+{
+    match found {
+        Found::Nothing => b"PVS1\0\0\0\0",
+        Found::One(s) | Found::Two(s, _) | Found::More(s, _) => contents(bytes, s),
+    }
+}
+
+#[tactic(auto, unfolding(crate::specs::ObjectReading::object_at))]
+fn object_at(alloc: Global, bytes: &[u8], kept: &Kept) -> Result<Object, AllocError>
+    requires whole { IsWhole bytes.now }
+    requires kept { AreKept bytes.now kept.now }
+    ensures { IfOk result (λ o. o ≡ object_at bytes.now) }
+{
+    let names = names(bytes);
+    let table = table_of(bytes);
+    let (init, _end) = starts(alloc, Role::Init, names, bytes)?;
+    let (bss, bss_end) = starts(alloc, Role::Bss, names, bytes)?;
+    let starts = Starts {
+        init: &init,
+        bss: &bss,
+    };
+    let numbers = numbers(alloc, table, names, bytes)?;
+    let mut relocs = Vec::new(alloc);
+    put_relocs(&mut relocs, starts, &numbers, names, bytes, &kept.text)?;
+    put_relocs(&mut relocs, starts, &numbers, names, bytes, &kept.init)?;
+    Ok(Object {
+        text: Vec::from_slice(alloc, text_in(bytes, with_role(Role::Text, names, bytes)))?,
+        init: joined(alloc, names, bytes)?,
+        bss: (bss_end % 0x1_0000_0000) as u32,
+        sites: Vec::from_slice(alloc, sites_in(bytes, with_role(Role::Sites, names, bytes)))?,
+        symbols: symbols_in(alloc, starts, table, strings_of(bytes), names, bytes)?,
+        relocs,
+    })
+}
+
+#[tactic(auto, unfolding(crate::specs::ObjectReading::late_tests))]
+fn late_tested(alloc: Global, bytes: &[u8]) -> Result<Object, ElfFault>
+    requires whole { IsWhole bytes.now }
+    requires limit { length bytes.now ≤ LIMIT }
+    ensures { Gives (λ o. o) result (late_tests bytes.now) }
+{
+    let kept = kept_in(alloc, bytes)?;
+    test(ElfCause::SymbolForm, symbol_form(bytes, &kept))?;
+    test(ElfCause::RelocForm, reloc_form(bytes, &kept))?;
+    Ok(object_at(alloc, bytes, &kept)?)
+}
+
+#[tactic(auto, unfolding(crate::specs::ObjectReading::middle_tests))]
+fn middle_tested(alloc: Global, bytes: &[u8]) -> Result<Object, ElfFault>
+    requires whole { IsWhole bytes.now }
+    requires limit { length bytes.now ≤ LIMIT }
+    ensures { Gives (λ o. o) result (middle_tests bytes.now) }
+{
+    test(ElfCause::SectionForm, object_form(bytes))?;
+    test(ElfCause::Compressed, compressed(bytes))?;
+    test(ElfCause::StringPlace, string_places(bytes))?;
+    late_tested(alloc, bytes)
+}
+
+#[tactic(auto, unfolding(crate::specs::ObjectReading::early_tests))]
+fn early_tested(alloc: Global, bytes: &[u8]) -> Result<Object, ElfFault>
+    requires { IsWhole bytes.now }
+    ensures { Gives (λ o. o) result (early_tests bytes.now) }
+{
+    test(ElfCause::Magic, magic(bytes))?;
+    test(ElfCause::Class, class(bytes))?;
+    test(ElfCause::Encoding, encoding(bytes))?;
+    test(ElfCause::Version, version(bytes))?;
+    test(ElfCause::FileType, file_type(bytes, 1))?;
+    test(ElfCause::Machine, machine(bytes))?;
+    test(ElfCause::Sizes, object_sizes(bytes))?;
+    middle_tested(alloc, bytes)
+}
+
+#[tactic(auto, unfolding(crate::specs::ObjectReading::object_in))]
+fn object(alloc: Global, bytes: &[u8]) -> Result<Object, ElfFault>
+    ensures { Gives (λ o. o) result (object_in bytes.now) }
+{
+    if let Some(at) = cut(bytes) {
+        return Err(ElfFault::At {
+            at,
+            cause: ElfCause::Truncated,
+        });
+    }
+    early_tested(alloc, bytes)
+}
+
+/// The object that a file is, or the first of its faults.
+pub fn read_object(alloc: Global, bytes: &[u8]) -> Result<Object, ElfFault>
+    // The value is what the file holds, and the file is wrong by no cause.
+    ensures object { IfOk result (ObjectAs bytes.now) }
+    // Where the file holds an object, it is read, unless memory runs out.
+    ensures only { (object : ObjectParts) → ObjectAs bytes.now object → Gives (λ o. o) result (Ok object) }
+    // A fault is the first cause that holds, at its place.
+    ensures first { (at : ℕ) (cause : ElfCause) → result ≡ Err (ElfFault.At at cause) → IsFirstOf (wrong_object bytes.now) all_causes (record { at = at; cause = cause }) }
+    ensures exact { Gives (λ o. o) result (object_in bytes.now) }
+{
+    object(alloc, bytes)
+}

@@ -1,0 +1,196 @@
+//! The tests of an object's sections and names.
+
+ghost use Rattle.std.specs.Prelude.{◌≡◌, ◌≤◌, ◌<◌, ◌+◌, ◌*◌, ◌^◌, length, IfNone, IfSome};
+ghost use Rattle.guest_ram.specs.Bytes.{word16, word32};
+ghost use Rattle.elf_form.specs.declared.roles.Role.TheVariants as role;
+ghost use Rattle.elf_form.specs.Tables.{AllFound};
+ghost use Rattle.elf_form.specs.Header.{IsWhole, IsSection};
+ghost use Rattle.elf_form.specs.Sections.{names as names_of};
+ghost use Rattle.elf_form.specs.Roles.{with_role};
+ghost use Rattle.elf_form.specs.Symbols.{entries_fault};
+ghost use Rattle.elf_form.specs.ObjectReading.{has_strings, strings_in, table_of, strings_of, link_of, table_fault, inner_sizes, object_sizes, first_field, second_field, object_form, section_names_fault, symbol_names_fault, string_places};
+
+use crate::header::{bad, lower};
+use crate::joining::{joined_fault, misaligned};
+use crate::roles::{Role, with_role};
+use crate::sections::{contents, nameless, names};
+use crate::segments::{Found, LIMIT};
+use crate::symbol_walks::{sections_fault, symbols_fault};
+use crate::symbols::{SectionTest, SymbolTest, Table, entries_fault, table_at};
+use crate::words::{half, word};
+
+fn has_strings(bytes: &[u8], link: usize) -> bool
+    requires { IsWhole bytes.now }
+    ensures { result ≡ has_strings bytes.now link }
+{
+    let table = word(bytes, 32) as usize;
+    link < half(bytes, 48) as usize && word(bytes, table + 40 * link + 4) == 3
+}
+
+/// The bytes of a string table, none where the section is no such table.
+#[tactic(auto, unfolding(crate::specs::ObjectReading::strings_in), using(crate::proofs::WholeLaws::section_at))]
+fn strings_in(bytes: &[u8], link: usize) -> &[u8]
+    requires { IsWhole bytes.now }
+    ensures { result.now ≡ strings_in bytes.now link }
+{
+    let table = word(bytes, 32) as usize;
+    let count = half(bytes, 48) as usize;
+    if link >= count {
+        return &[];
+    }
+    let s = table + 40 * link;
+    if word(bytes, s + 4) != 3 {
+        return &[];
+    }
+    contents(bytes, s)
+}
+
+/// The symbol table of an object.
+#[tactic(auto, unfolding(crate::specs::ObjectReading::table_of))]
+pub fn table_of(bytes: &[u8]) -> Table
+    requires { IsWhole bytes.now }
+    ensures table { result ≡ table_of bytes.now }
+    ensures small { result.count < 2 ^ 28 }
+    ensures inside { 0 < result.count → result.at + 16 * result.count ≤ length bytes.now }
+    ensures section { result.section + 40 ≤ length bytes.now }
+{
+    table_at(bytes, with_role(Role::Symbols, names(bytes), bytes))
+}
+
+/// The names of an object's symbols.
+#[tactic(auto, unfolding(crate::specs::ObjectReading::strings_of))]
+pub fn strings_of(bytes: &[u8]) -> &[u8]
+    requires { IsWhole bytes.now }
+    ensures { result.now ≡ strings_of bytes.now }
+{
+    strings_in(bytes, word(bytes, table_of(bytes).section + 24) as usize)
+}
+
+fn table_fault(bytes: &[u8], found: Found) -> Option<usize>
+    requires { AllFound (IsSection bytes.now) found }
+    ensures place { result ≡ table_fault bytes.now found }
+    ensures inside { IfSome result (λ at. at < length bytes.now) }
+{
+    match found {
+        Found::Nothing => None,
+        Found::One(s) | Found::Two(s, _) | Found::More(s, _) => entries_fault(16, bytes, s),
+    }
+}
+
+#[tactic(auto, unfolding(crate::specs::ObjectReading::inner_sizes))]
+fn inner_sizes(bytes: &[u8]) -> Option<usize>
+    requires { IsWhole bytes.now }
+    ensures place { result ≡ inner_sizes bytes.now }
+    ensures inside { IfSome result (λ at. at < length bytes.now) }
+{
+    let names = names(bytes);
+    let table = table_fault(bytes, with_role(Role::Symbols, names, bytes));
+    let relocs = sections_fault(SectionTest::EntrySizes, table_of(bytes), names, bytes);
+    let init = joined_fault(Role::Init, names, bytes);
+    let bss = joined_fault(Role::Bss, names, bytes);
+    let joined = lower(init, lower(bss, lower(table, relocs)));
+    lower(
+        bad(half(bytes, 40) != 52, 40),
+        lower(bad(half(bytes, 46) != 40, 46), joined),
+    )
+}
+
+/// The lowest size field that is wrong.
+#[tactic(auto, unfolding(crate::specs::ObjectReading::object_sizes))]
+pub fn object_sizes(bytes: &[u8]) -> Option<usize>
+    requires { IsWhole bytes.now }
+    ensures place { result ≡ object_sizes bytes.now }
+    ensures small { IfSome result (λ at. at < 2 ^ 32) }
+    ensures limit { IfNone result (length bytes.now ≤ LIMIT) }
+{
+    lower(inner_sizes(bytes), bad(LIMIT < bytes.len(), LIMIT))
+}
+
+fn first_field(bytes: &[u8], field: usize, found: Found) -> Option<usize>
+    requires inside { AllFound (IsSection bytes.now) found }
+    requires field { field < 40 }
+    ensures place { result ≡ first_field field found }
+    ensures inside { IfSome result (λ at. at < length bytes.now) }
+{
+    let _bytes = bytes.len();
+    match found {
+        Found::Nothing => None,
+        Found::One(s) | Found::Two(s, _) | Found::More(s, _) => Some(s + field),
+    }
+}
+
+fn second_field(bytes: &[u8], field: usize, found: Found) -> Option<usize>
+    requires inside { AllFound (IsSection bytes.now) found }
+    requires field { field < 40 }
+    ensures place { result ≡ second_field field found }
+    ensures inside { IfSome result (λ at. at < length bytes.now) }
+{
+    let _bytes = bytes.len();
+    match found {
+        Found::Nothing | Found::One(_) => None,
+        Found::Two(_, t) | Found::More(_, t) => Some(t + field),
+    }
+}
+
+/// The lowest field of a section that is not allowed.
+#[tactic(auto, unfolding(crate::specs::ObjectReading::object_form))]
+pub fn object_form(bytes: &[u8]) -> Option<usize>
+    requires { IsWhole bytes.now }
+    ensures place { result ≡ object_form bytes.now }
+    ensures inside { IfSome result (λ at. at < length bytes.now) }
+{
+    let names = names(bytes);
+    let foreign = first_field(bytes, 4, with_role(Role::Foreign, names, bytes));
+    let text = second_field(bytes, 8, with_role(Role::Text, names, bytes));
+    let sites = second_field(bytes, 0, with_role(Role::Sites, names, bytes));
+    lower(foreign, lower(text, lower(sites, misaligned(names, bytes))))
+}
+
+fn section_names_fault(bytes: &[u8]) -> Option<usize>
+    requires { IsWhole bytes.now }
+    ensures place { result ≡ section_names_fault bytes.now }
+    ensures inside { IfSome result (λ at. at < length bytes.now) }
+{
+    if !has_strings(bytes, half(bytes, 50) as usize) {
+        return Some(50);
+    }
+    nameless(bytes)
+}
+
+fn symbol_names_fault(bytes: &[u8], found: Found) -> Option<usize>
+    requires whole { IsWhole bytes.now }
+    requires inside { AllFound (IsSection bytes.now) found }
+    ensures place { result ≡ symbol_names_fault bytes.now found }
+    ensures inside { IfSome result (λ at. at < length bytes.now) }
+{
+    match found {
+        Found::Nothing => None,
+        Found::One(s) | Found::Two(s, _) | Found::More(s, _) => {
+            let table = table_of(bytes);
+            if !has_strings(bytes, word(bytes, table.section + 24) as usize) {
+                return Some(s + 24);
+            }
+            symbols_fault(
+                SymbolTest::Names,
+                table,
+                strings_of(bytes),
+                names(bytes),
+                bytes,
+            )
+        }
+    }
+}
+
+/// The lowest field that names no string.
+#[tactic(auto, unfolding(crate::specs::ObjectReading::string_places))]
+pub fn string_places(bytes: &[u8]) -> Option<usize>
+    requires { IsWhole bytes.now }
+    ensures place { result ≡ string_places bytes.now }
+    ensures inside { IfSome result (λ at. at < length bytes.now) }
+{
+    let symbols = with_role(Role::Symbols, names(bytes), bytes);
+    lower(
+        section_names_fault(bytes),
+        symbol_names_fault(bytes, symbols),
+    )
+}

@@ -1,0 +1,50 @@
+//! What files are written of: numbers, the lowest byte first, and zero bytes.
+
+ghost use Rattle.std.specs.Prelude.{◌≡◌, ◌++◌, length, replicate, OnOk};
+ghost use Rattle.elf_form.specs.Output.{halves, longs, pad};
+
+use std::alloc::AllocError;
+
+/// Adds numbers of two bytes.
+pub fn put_halves(out: &mut Vec<u8>, numbers: &[u16]) -> Result<(), AllocError>
+    ensures { OnOk result (out.new.items ≡ out.old.items ++ halves numbers.now) }
+{
+    for n in numbers {
+        out.extend_from_slice(&n.to_le_bytes())?;
+    }
+    Ok(())
+}
+
+/// Adds numbers of four bytes.
+pub fn put_longs(out: &mut Vec<u8>, numbers: &[u32]) -> Result<(), AllocError>
+    ensures { OnOk result (out.new.items ≡ out.old.items ++ longs numbers.now) }
+{
+    for n in numbers {
+        out.extend_from_slice(&n.to_le_bytes())?;
+    }
+    Ok(())
+}
+
+/// Adds zero bytes.
+pub fn put_zeros(out: &mut Vec<u8>, count: usize) -> Result<(), AllocError>
+    ensures { OnOk result (out.new.items ≡ out.old.items ++ replicate count 0) }
+{
+    for _ in 0..count {
+        out.push(0)?;
+    }
+    Ok(())
+}
+
+/// How many bytes lead to the next multiple of 4096.
+pub fn page_pad(n: usize) -> usize
+    ensures { result ≡ pad 4096 n }
+{
+    (4096 - n % 4096) % 4096
+}
+
+/// How many bytes lead to the next multiple of 4.
+pub fn word_pad(n: usize) -> usize
+    ensures { result ≡ pad 4 n }
+{
+    (4 - n % 4) % 4
+}

@@ -1,0 +1,117 @@
+//! Reading an image.
+
+ghost use Rattle.std.specs.Prelude.{◌≡◌, ℕ, ◌≤◌, ◌<◌, ◌+◌, ◌^◌, List, length, IfNone, IfSome, IfOk};
+ghost use Rattle.elf_form.specs.Faults.{test, Gives};
+ghost use Rattle.elf_form.specs.Header.{IsWhole};
+ghost use Rattle.elf_form.specs.Segments.{memory_sizes, loads};
+ghost use Rattle.elf_form.specs.ImageParts.{ImageParts};
+ghost use Rattle.elf_form.specs.declared.cause.ElfCause.{ElfCause};
+ghost use Rattle.elf_form.specs.Accepted.{ImageAs, IsFirst, causes};
+ghost use Rattle.elf_form.specs.Reading.{section_form, section_tests, header_tests, tests, image_in, parts_at, ArePlaces};
+
+use crate::cause::{ElfCause, ElfFault};
+use crate::header::{class, cut, encoding, file_type, lower, machine, magic, version};
+use crate::image::Image;
+use crate::sections::{compressed, contents, nameless, one_of, sites_sections};
+use crate::segments::{LIMIT, loads, order, sizes};
+use crate::words::word;
+use std::alloc::Global;
+
+/// Passes where there is no place.
+pub fn test(cause: ElfCause, place: Option<usize>) -> Result<(), ElfFault>
+    requires { IfSome place (λ at. at < 2 ^ 32) }
+    ensures { Gives (λ _. tt) result (test cause place) }
+{
+    match place {
+        None => Ok(()),
+        Some(at) => Err(ElfFault::At {
+            at: at as u32,
+            cause,
+        }),
+    }
+}
+
+/// The tests of program headers and sections in their order.
+#[tactic(auto, unfolding(crate::specs::Reading::section_tests, crate::specs::Reading::section_form))]
+fn section_tested(bytes: &[u8]) -> Result<(usize, usize, usize), ElfFault>
+    requires whole { IsWhole bytes.now }
+    requires limit { length bytes.now ≤ LIMIT }
+    requires memory { memory_sizes bytes.now (loads bytes.now) ≡ None }
+    ensures exact { Gives (λ at. at) result (section_tests bytes.now) }
+    ensures places { IfOk result (ArePlaces bytes.now) }
+{
+    let headers = loads(bytes);
+    let sites = sites_sections(bytes);
+    test(
+        ElfCause::SectionForm,
+        lower(order(bytes, headers), one_of(sites)),
+    )?;
+    test(ElfCause::Compressed, compressed(bytes))?;
+    test(ElfCause::StringPlace, nameless(bytes))?;
+    Ok((headers.first(), headers.second(), sites.first()))
+}
+
+/// The tests of the header in their order, and those behind them.
+#[tactic(auto, unfolding(crate::specs::Reading::header_tests))]
+fn header_tested(bytes: &[u8]) -> Result<(usize, usize, usize), ElfFault>
+    requires { IsWhole bytes.now }
+    ensures exact { Gives (λ at. at) result (header_tests bytes.now) }
+    ensures places { IfOk result (ArePlaces bytes.now) }
+{
+    test(ElfCause::Magic, magic(bytes))?;
+    test(ElfCause::Class, class(bytes))?;
+    test(ElfCause::Encoding, encoding(bytes))?;
+    test(ElfCause::Version, version(bytes))?;
+    test(ElfCause::FileType, file_type(bytes, 2))?;
+    test(ElfCause::Machine, machine(bytes))?;
+    test(ElfCause::Sizes, sizes(bytes))?;
+    section_tested(bytes)
+}
+
+/// All tests in their order.
+#[tactic(auto, unfolding(crate::specs::Reading::tests))]
+fn tested(bytes: &[u8]) -> Result<(usize, usize, usize), ElfFault>
+    ensures exact { Gives (λ at. at) result (tests bytes.now) }
+    ensures places { IfOk result (ArePlaces bytes.now) }
+{
+    if let Some(at) = cut(bytes) {
+        return Err(ElfFault::At {
+            at,
+            cause: ElfCause::Truncated,
+        });
+    }
+    header_tested(bytes)
+}
+
+#[tactic(auto, unfolding(crate::specs::Reading::image_in, crate::specs::Reading::parts_at, guest_ram::specs::Bytes::part))]
+fn image(alloc: Global, bytes: &[u8]) -> Result<Image, ElfFault>
+    ensures { Gives (λ image. image) result (image_in bytes.now) }
+{
+    let (text, data, sites) = tested(bytes)?;
+    let text_from = word(bytes, text + 4) as usize;
+    let text_size = word(bytes, text + 16) as usize;
+    let init_from = word(bytes, data + 4) as usize;
+    let init_size = word(bytes, data + 16) as usize;
+    Ok(Image {
+        text: Vec::from_slice(alloc, &bytes[text_from..text_from + text_size])?,
+        init: Vec::from_slice(alloc, &bytes[init_from..init_from + init_size])?,
+        bss: word(bytes, data + 20) - word(bytes, data + 16),
+        entry: word(bytes, 24),
+        text_at: word(bytes, text + 8),
+        init_at: word(bytes, data + 8),
+        sites: Vec::from_slice(alloc, contents(bytes, sites))?,
+    })
+}
+
+/// The image that a file is, or the first of its faults.
+pub fn read_image(alloc: Global, bytes: &[u8]) -> Result<Image, ElfFault>
+    // The value is what the file holds, and the file is wrong by no cause.
+    ensures image { IfOk result (ImageAs bytes.now) }
+    // Where the file holds an image, it is read, unless memory runs out.
+    ensures only { (image : ImageParts) → ImageAs bytes.now image → Gives (λ image. image) result (Ok image) }
+    // A fault is the first cause that holds, at its place.
+    ensures first { (at : ℕ) (cause : ElfCause) → result ≡ Err (ElfFault.At at cause) → IsFirst causes bytes.now (record { at = at; cause = cause }) }
+    ensures exact { Gives (λ image. image) result (image_in bytes.now) }
+{
+    image(alloc, bytes)
+}

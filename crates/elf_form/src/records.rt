@@ -1,0 +1,186 @@
+//! Symbols and relocations, as they are read.
+
+ghost use Rattle.std.specs.Prelude.{◌≡◌, ◌≤◌, ◌<◌, ◌+◌, ◌*◌, ◌^◌, ◌++◌, ◌==◌, length, map, All, OnOk, IfOk};
+ghost use Rattle.std.specs.List.{position_or_len};
+ghost use Rattle.guest_ram.specs.Bytes.{word16, word32};
+ghost use Rattle.elf_form.specs.Header.{IsWhole, sections};
+ghost use Rattle.elf_form.specs.declared.roles.Role.TheVariants.{Init, Bss};
+ghost use Rattle.elf_form.specs.Roles.{starts as starts_of};
+ghost use Rattle.elf_form.specs.Symbols.{IsEntry, start_at, name_in, symbol_at, symbols_in, numbers, symbols_of, reloc_at};
+
+use crate::object::{Bytes, Reloc, Symbol};
+use crate::roles::{Role, role_number};
+use crate::sections::from;
+use crate::symbols::{Entry, Table, is_listed, place_by, role_at};
+use crate::words::{byte, half, word};
+use std::alloc::{AllocError, Global};
+
+/// Where each section of data, and of zeroed bytes, begins among those that it is joined to.
+#[derive(Clone, Copy)]
+pub struct Starts<'a> {
+    pub init: &'a [u32],
+    pub bss: &'a [u32],
+}
+
+/// Where a section begins in what it is joined to.
+#[tactic(auto, unfolding(crate::specs::Symbols::start_at))]
+fn start_at(starts: Starts, names: &[u8], bytes: &[u8], index: usize) -> u32
+    requires whole { IsWhole bytes.now }
+    requires init { starts.init.now ≡ starts_of Init names.now bytes.now 0 (sections bytes.now) }
+    requires bss { starts.bss.now ≡ starts_of Bss names.now bytes.now 0 (sections bytes.now) }
+    ensures { result ≡ start_at names.now bytes.now index }
+{
+    match role_at(names, bytes, index) {
+        Role::Init => starts.init.get(index).copied().unwrap_or(0),
+        Role::Bss => starts.bss.get(index).copied().unwrap_or(0),
+        _ => 0,
+    }
+}
+
+/// How many bytes come before the first zero byte.
+fn before_zero(bytes: &[u8]) -> usize
+    ensures count { result ≡ position_or_len (λ b. b == 0) bytes.now }
+    ensures within { result ≤ length bytes.now }
+{
+    for (i, b) in bytes.iter().enumerate() {
+        if *b == 0 {
+            return i;
+        }
+    }
+    bytes.len()
+}
+
+/// The name at an offset of a string table, up to its first zero byte.
+fn name_in(strings: &[u8], at: usize) -> &[u8]
+    ensures { result.now ≡ name_in strings.now at }
+{
+    let rest = from(strings, at);
+    &rest[..before_zero(rest)]
+}
+
+#[tactic(auto, unfolding(crate::specs::Symbols::symbol_at))]
+fn symbol_at(
+    alloc: Global,
+    starts: Starts,
+    strings: &[u8],
+    names: &[u8],
+    bytes: &[u8],
+    y: usize,
+) -> Result<Symbol, AllocError>
+    requires whole { IsWhole bytes.now }
+    requires init { starts.init.now ≡ starts_of Init names.now bytes.now 0 (sections bytes.now) }
+    requires bss { starts.bss.now ≡ starts_of Bss names.now bytes.now 0 (sections bytes.now) }
+    requires inside { y + 16 ≤ length bytes.now }
+    ensures { IfOk result (λ s. s ≡ symbol_at strings.now names.now bytes.now y) }
+{
+    let index = half(bytes, y + 14) as usize;
+    let name = name_in(strings, word(bytes, y) as usize);
+    let start = start_at(starts, names, bytes, index);
+    Ok(Symbol {
+        name: Bytes {
+            list: Vec::from_slice(alloc, name)?,
+        },
+        place: place_by(role_at(names, bytes, index)),
+        value: start.wrapping_add(word(bytes, y + 4)),
+        global: byte(bytes, y + 12) / 16 == 1,
+    })
+}
+
+/// The symbols that are listed, in the order of the table.
+#[tactic(auto, unfolding(crate::specs::Symbols::symbols_in))]
+pub fn symbols_in(
+    alloc: Global,
+    starts: Starts,
+    table: Table,
+    strings: &[u8],
+    names: &[u8],
+    bytes: &[u8],
+) -> Result<Vec<Symbol>, AllocError>
+    requires whole { IsWhole bytes.now }
+    requires init { starts.init.now ≡ starts_of Init names.now bytes.now 0 (sections bytes.now) }
+    requires bss { starts.bss.now ≡ starts_of Bss names.now bytes.now 0 (sections bytes.now) }
+    requires table { 0 < table.count → table.at + 16 * table.count ≤ length bytes.now }
+    ensures { IfOk result (λ v. v.items ≡ symbols_in table strings.now names.now bytes.now) }
+{
+    let mut out = Vec::new(alloc);
+    if table.count == 0 {
+        return Ok(out);
+    }
+    let first = table.at + 16;
+    let count = table.count - 1;
+    for i in 0..count {
+        let y = first + 16 * i;
+        if is_listed(names, bytes, y) {
+            out.push(symbol_at(alloc, starts, strings, names, bytes, y)?)?;
+        }
+    }
+    Ok(out)
+}
+
+/// How many symbols that are listed come before each symbol of the table, the null one apart.
+pub fn numbers(
+    alloc: Global,
+    table: Table,
+    names: &[u8],
+    bytes: &[u8],
+) -> Result<Vec<u32>, AllocError>
+    requires whole { IsWhole bytes.now }
+    requires table { 0 < table.count → table.at + 16 * table.count ≤ length bytes.now }
+    requires count { table.count < 2 ^ 28 }
+    ensures { IfOk result (λ v. v.items ≡ numbers names.now bytes.now 0 (symbols_of table)) }
+{
+    let mut out = Vec::new(alloc);
+    if table.count == 0 {
+        return Ok(out);
+    }
+    let first = table.at + 16;
+    let count = table.count - 1;
+    let mut number: u32 = 0;
+    for i in 0..count {
+        out.push(number)?;
+        if is_listed(names, bytes, first + 16 * i) {
+            number += 1;
+        }
+    }
+    Ok(out)
+}
+
+#[tactic(auto, unfolding(crate::specs::Symbols::reloc_at))]
+fn reloc_at(starts: Starts, numbers: &[u32], names: &[u8], bytes: &[u8], e: Entry) -> Reloc
+    requires whole { IsWhole bytes.now }
+    requires init { starts.init.now ≡ starts_of Init names.now bytes.now 0 (sections bytes.now) }
+    requires bss { starts.bss.now ≡ starts_of Bss names.now bytes.now 0 (sections bytes.now) }
+    requires inside { IsEntry bytes.now e }
+    ensures { result ≡ reloc_at numbers.now names.now bytes.now e }
+{
+    let target = word(bytes, e.section + 28) as usize;
+    let info = word(bytes, e.at + 4);
+    let number = (info / 256) as usize;
+    Reloc {
+        in_text: role_number(role_at(names, bytes, target)) == 2,
+        at: start_at(starts, names, bytes, target).wrapping_add(word(bytes, e.at)),
+        symbol: numbers.get(number.saturating_sub(1)).copied().unwrap_or(0),
+        relative: info % 256 == 2,
+    }
+}
+
+/// Adds the relocations of some entries.
+pub fn put_relocs(
+    out: &mut Vec<Reloc>,
+    starts: Starts,
+    numbers: &[u32],
+    names: &[u8],
+    bytes: &[u8],
+    entries: &[Entry],
+) -> Result<(), AllocError>
+    requires whole { IsWhole bytes.now }
+    requires init { starts.init.now ≡ starts_of Init names.now bytes.now 0 (sections bytes.now) }
+    requires bss { starts.bss.now ≡ starts_of Bss names.now bytes.now 0 (sections bytes.now) }
+    requires entries { All (IsEntry bytes.now) entries.now }
+    ensures { OnOk result (out.new.items ≡ out.old.items ++ map (reloc_at numbers.now names.now bytes.now) entries.now) }
+{
+    for e in entries {
+        out.push(reloc_at(starts, numbers, names, bytes, *e))?;
+    }
+    Ok(())
+}

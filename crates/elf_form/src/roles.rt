@@ -1,0 +1,145 @@
+//! What each section of an object is read as.
+
+ghost use Rattle.std.specs.Prelude.{◌≡◌, ◌≤◌, ◌<◌, ◌+◌, ◌*◌, ◌^◌, length, filter, IfSome};
+ghost use Rattle.guest_ram.specs.Bytes.{word16, word32};
+ghost use Rattle.elf_form.specs.Tables.{entries, found, AllFound};
+ghost use Rattle.elf_form.specs.Header.{IsWhole, IsSection, sections};
+ghost use Rattle.elf_form.specs.Roles.{allocated_role, unallocated_role, role_by, role as role_of, role_number, has_role, with_role, is_kept, alignments, is_misaligned, misaligned, joined_fault, up};
+ghost use Rattle.elf_form.specs.Output.{pad};
+
+use crate::sections::{is_null, is_sites};
+use crate::segments::Found;
+use crate::words::{half, word};
+
+/// What a section is read as: ignored, or the annotations, the text, a part of the data or of the
+/// zeroed bytes, one that is not allowed, the symbol table, or relocations.
+#[derive(Clone, Copy, Debug, PartialEq, Eq)]
+pub enum Role {
+    Ignored,
+    Sites,
+    Text,
+    Init,
+    Bss,
+    Foreign,
+    Symbols,
+    Relocs,
+}
+
+fn allocated_role(kind: u32, flags: u32) -> Role
+    ensures { result ≡ allocated_role kind flags }
+{
+    match kind {
+        1 if flags / 4 % 2 == 1 => Role::Text,
+        1 => Role::Init,
+        8 => Role::Bss,
+        7 => Role::Ignored,
+        _ => Role::Foreign,
+    }
+}
+
+fn unallocated_role(kind: u32) -> Role
+    ensures { result ≡ unallocated_role kind }
+{
+    match kind {
+        2 => Role::Symbols,
+        9 => Role::Relocs,
+        _ => Role::Ignored,
+    }
+}
+
+fn role_by(kind: u32, flags: u32) -> Role
+    ensures { result ≡ role_by kind flags }
+{
+    if flags / 2 % 2 == 1 {
+        allocated_role(kind, flags)
+    } else {
+        unallocated_role(kind)
+    }
+}
+
+#[tactic(auto, unfolding(crate::specs::Roles::role))]
+pub fn section_role(names: &[u8], bytes: &[u8], s: usize) -> Role
+    requires { s + 40 ≤ length bytes.now }
+    ensures { result ≡ role_of names.now bytes.now s }
+{
+    if is_null(bytes, s) {
+        return Role::Ignored;
+    }
+    if is_sites(names, bytes, s) {
+        return Role::Sites;
+    }
+    role_by(word(bytes, s + 4), word(bytes, s + 8))
+}
+
+pub fn role_number(role: Role) -> u8
+    ensures { result ≡ role_number role }
+{
+    match role {
+        Role::Ignored => 0,
+        Role::Sites => 1,
+        Role::Text => 2,
+        Role::Init => 3,
+        Role::Bss => 4,
+        Role::Foreign => 5,
+        Role::Symbols => 6,
+        Role::Relocs => 7,
+    }
+}
+
+pub fn has_role(role: Role, names: &[u8], bytes: &[u8], s: usize) -> bool
+    requires { s + 40 ≤ length bytes.now }
+    ensures { result ≡ has_role role names.now bytes.now s }
+{
+    role_number(section_role(names, bytes, s)) == role_number(role)
+}
+
+pub fn is_kept(role: Role) -> bool
+    ensures { result ≡ is_kept role }
+{
+    match role {
+        Role::Text | Role::Init | Role::Bss => true,
+        Role::Ignored | Role::Sites | Role::Foreign | Role::Symbols | Role::Relocs => false,
+    }
+}
+
+/// The sections that have a role.
+pub fn with_role(role: Role, names: &[u8], bytes: &[u8]) -> Found
+    requires { IsWhole bytes.now }
+    ensures found { result ≡ with_role role names.now bytes.now }
+    ensures inside { AllFound (IsSection bytes.now) result }
+{
+    let table = word(bytes, 32) as usize;
+    let count = half(bytes, 48) as usize;
+    let mut found = Found::Nothing;
+    for i in 0..count {
+        let s = table + 40 * i;
+        if has_role(role, names, bytes, s) {
+            found = found.with(s);
+        }
+    }
+    found
+}
+
+/// The next multiple of an alignment; 0 is none.
+pub fn up(alignment: u32, n: u64) -> u64
+    requires { n ≤ 2 ^ 63 }
+    ensures exact { result ≡ up alignment n }
+    ensures near { result ≤ n + alignment }
+    ensures least { n ≤ result }
+{
+    if alignment == 0 {
+        return n;
+    }
+    let alignment = alignment as u64;
+    n + (alignment - n % alignment) % alignment
+}
+
+const ALIGNMENTS: [u32; 14] = [0, 1, 2, 4, 8, 16, 32, 64, 128, 256, 512, 1024, 2048, 4096];
+
+pub fn is_misaligned(names: &[u8], bytes: &[u8], s: usize) -> bool
+    requires { s + 40 ≤ length bytes.now }
+    ensures { result ≡ is_misaligned names.now bytes.now s }
+{
+    (has_role(Role::Init, names, bytes, s) || has_role(Role::Bss, names, bytes, s))
+        && !ALIGNMENTS.contains(&word(bytes, s + 32))
+}

@@ -1,0 +1,149 @@
+//! The sections of a file, and their names.
+
+ghost use Rattle.std.specs.Prelude.{◌≡◌, ◌≤◌, ◌<◌, ◌+◌, ◌^◌, length, drop, IfSome};
+ghost use Rattle.guest_ram.specs.Bytes.{word16, word32};
+ghost use Rattle.elf_form.specs.Tables.{AllFound};
+ghost use Rattle.elf_form.specs.Header.{IsWhole, IsSection, section_passes};
+ghost use Rattle.elf_form.specs.Sections.{contents, names, is_null, is_nameless, is_sites, is_compressed, sites_sections, one_of, compressed, nameless};
+
+use crate::segments::Found;
+use crate::words::{half, word};
+
+/// The name of the section of sites, with the zero byte that ends it.
+pub const SITES_NAME: [u8; 10] = *b".pv_sites\0";
+
+/// The bytes of a section.
+#[tactic(auto, unfolding(crate::specs::Sections::contents, guest_ram::specs::Bytes::part))]
+pub fn contents(bytes: &[u8], s: usize) -> &[u8]
+    requires { IsSection bytes.now s }
+    ensures bytes { result.now ≡ contents bytes.now s }
+    ensures small { length result.now < 2 ^ 32 }
+    ensures inside { 0 < length result.now → word32 bytes.now (s + 16) + length result.now ≤ length bytes.now }
+{
+    let kind = word(bytes, s + 4);
+    if kind == 0 || kind == 8 {
+        return &[];
+    }
+    let at = word(bytes, s + 16) as usize;
+    let size = word(bytes, s + 20) as usize;
+    &bytes[at..at + size]
+}
+
+/// The bytes of the section that has the names.
+#[tactic(auto, unfolding(crate::specs::Sections::names), using(crate::proofs::WholeLaws::section_at))]
+pub fn names(bytes: &[u8]) -> &[u8]
+    requires { IsWhole bytes.now }
+    ensures { result.now ≡ names bytes.now }
+{
+    let index = half(bytes, 50) as usize;
+    let table = word(bytes, 32) as usize;
+    let count = half(bytes, 48) as usize;
+    if index >= count {
+        return &[];
+    }
+    let s = table + 40 * index;
+    if word(bytes, s + 4) != 3 {
+        return &[];
+    }
+    contents(bytes, s)
+}
+
+/// The names from an offset on.
+pub fn from(names: &[u8], at: usize) -> &[u8]
+    ensures { result.now ≡ drop at names.now }
+{
+    if at > names.len() { &[] } else { &names[at..] }
+}
+
+pub fn is_null(bytes: &[u8], s: usize) -> bool
+    requires { s + 40 ≤ length bytes.now }
+    ensures { result ≡ is_null bytes.now s }
+{
+    word(bytes, s + 4) == 0
+}
+
+fn is_nameless(names: &[u8], bytes: &[u8], s: usize) -> bool
+    requires { s + 40 ≤ length bytes.now }
+    ensures { result ≡ is_nameless names.now bytes.now s }
+{
+    word(bytes, s + 4) != 0 && !from(names, word(bytes, s) as usize).contains(&0)
+}
+
+pub fn is_sites(names: &[u8], bytes: &[u8], s: usize) -> bool
+    requires { s + 40 ≤ length bytes.now }
+    ensures { result ≡ is_sites names.now bytes.now s }
+{
+    word(bytes, s + 4) != 0 && from(names, word(bytes, s) as usize).starts_with(&SITES_NAME)
+}
+
+fn is_compressed(bytes: &[u8], s: usize) -> bool
+    requires { s + 40 ≤ length bytes.now }
+    ensures { result ≡ is_compressed bytes.now s }
+{
+    word(bytes, s + 4) != 0 && word(bytes, s + 8) / 2048 % 2 == 1
+}
+
+/// The sections of sites.
+pub fn sites_sections(bytes: &[u8]) -> Found
+    requires { IsWhole bytes.now }
+    ensures found { result ≡ sites_sections bytes.now }
+    ensures inside { AllFound (IsSection bytes.now) result }
+{
+    let table = word(bytes, 32) as usize;
+    let count = half(bytes, 48) as usize;
+    let names = names(bytes);
+    let mut found = Found::Nothing;
+    for i in 0..count {
+        let s = table + 40 * i;
+        if is_sites(names, bytes, s) {
+            found = found.with(s);
+        }
+    }
+    found
+}
+
+/// The place that says that there is not one section.
+pub fn one_of(sections: Found) -> Option<usize>
+    ensures { result ≡ one_of sections }
+{
+    match sections {
+        Found::Nothing => Some(48),
+        Found::One(_) => None,
+        Found::Two(_, t) | Found::More(_, t) => Some(t),
+    }
+}
+
+/// The flags of the first section that is compressed.
+pub fn compressed(bytes: &[u8]) -> Option<usize>
+    requires { IsWhole bytes.now }
+    ensures place { result ≡ compressed bytes.now }
+    ensures inside { IfSome result (λ at. at < length bytes.now) }
+{
+    let table = word(bytes, 32) as usize;
+    let count = half(bytes, 48) as usize;
+    for i in 0..count {
+        let s = table + 40 * i;
+        if is_compressed(bytes, s) {
+            return Some(s + 8);
+        }
+    }
+    None
+}
+
+/// The first section that has no name.
+pub fn nameless(bytes: &[u8]) -> Option<usize>
+    requires { IsWhole bytes.now }
+    ensures place { result ≡ nameless bytes.now }
+    ensures inside { IfSome result (λ at. at < length bytes.now) }
+{
+    let table = word(bytes, 32) as usize;
+    let count = half(bytes, 48) as usize;
+    let names = names(bytes);
+    for i in 0..count {
+        let s = table + 40 * i;
+        if is_nameless(names, bytes, s) {
+            return Some(s);
+        }
+    }
+    None
+}

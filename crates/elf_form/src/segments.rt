@@ -1,0 +1,138 @@
+//! The program headers of an image.
+
+ghost use Rattle.std.specs.Prelude.{◌≡◌, ◌≤◌, ◌<◌, ◌+◌, ◌*◌, ◌^◌, Bool, length, filter, IfNone, IfSome};
+ghost use Rattle.guest_ram.specs.Bytes.{word16, word32};
+ghost use Rattle.elf_form.specs.Tables.{entries, found, with_one, first_of, second_of, AllFound};
+ghost use Rattle.elf_form.specs.Header.{IsWhole, IsHeader};
+ghost use Rattle.elf_form.specs.Segments.{loads, memory_sizes, first_size, second_size, sizes, order, is_executable};
+
+use crate::header::{bad, lower};
+use crate::words::{half, word};
+
+/// The longest file that is read.
+pub const LIMIT: usize = 33_554_432;
+
+/// The first two of the entries that were looked for.
+#[derive(Clone, Copy, Debug, PartialEq, Eq)]
+pub enum Found {
+    Nothing,
+    One(usize),
+    Two(usize, usize),
+    More(usize, usize),
+}
+
+impl Found {
+    pub fn with(self, at: usize) -> Found
+        ensures { result ≡ with_one self at }
+    {
+        match self {
+            Found::Nothing => Found::One(at),
+            Found::One(a) => Found::Two(a, at),
+            Found::Two(a, b) | Found::More(a, b) => Found::More(a, b),
+        }
+    }
+
+    pub fn first(self) -> usize
+        ensures { result ≡ first_of self }
+    {
+        match self {
+            Found::Nothing => 0,
+            Found::One(a) | Found::Two(a, _) | Found::More(a, _) => a,
+        }
+    }
+
+    pub fn second(self) -> usize
+        ensures { result ≡ second_of self }
+    {
+        match self {
+            Found::Nothing | Found::One(_) => 0,
+            Found::Two(_, b) | Found::More(_, b) => b,
+        }
+    }
+}
+
+/// The program headers that are loaded.
+#[tactic(auto, unfolding(crate::specs::Segments::loads))]
+pub fn loads(bytes: &[u8]) -> Found
+    requires { IsWhole bytes.now }
+    ensures found { result ≡ loads bytes.now }
+    ensures inside { AllFound (IsHeader bytes.now) result }
+{
+    let table = word(bytes, 28) as usize;
+    let count = half(bytes, 44) as usize;
+    let mut found = Found::Nothing;
+    for i in 0..count {
+        let h = table + 32 * i;
+        if word(bytes, h) == 1 {
+            found = found.with(h);
+        }
+    }
+    found
+}
+
+fn first_size(bytes: &[u8], h: usize) -> Option<usize>
+    requires { h + 32 ≤ length bytes.now }
+    ensures { result ≡ first_size bytes.now h }
+{
+    bad(word(bytes, h + 20) != word(bytes, h + 16), h + 20)
+}
+
+fn second_size(bytes: &[u8], h: usize) -> Option<usize>
+    requires { h + 32 ≤ length bytes.now }
+    ensures { result ≡ second_size bytes.now h }
+{
+    bad(word(bytes, h + 20) < word(bytes, h + 16), h + 20)
+}
+
+#[tactic(auto, unfolding(crate::specs::Segments::memory_sizes))]
+fn memory_sizes(bytes: &[u8], headers: Found) -> Option<usize>
+    requires { AllFound (IsHeader bytes.now) headers }
+    ensures place { result ≡ memory_sizes bytes.now headers }
+    ensures inside { IfSome result (λ at. at < length bytes.now) }
+{
+    match headers {
+        Found::Nothing => None,
+        Found::One(a) => first_size(bytes, a),
+        Found::Two(a, b) | Found::More(a, b) => lower(first_size(bytes, a), second_size(bytes, b)),
+    }
+}
+
+/// The lowest size field that is wrong.
+#[tactic(auto, unfolding(crate::specs::Segments::sizes))]
+pub fn sizes(bytes: &[u8]) -> Option<usize>
+    requires { IsWhole bytes.now }
+    ensures place { result ≡ sizes bytes.now }
+    ensures small { IfSome result (λ at. at < 2 ^ 32) }
+    ensures limit { IfNone result (length bytes.now ≤ LIMIT) }
+    ensures memory { IfNone result (memory_sizes bytes.now (loads bytes.now) ≡ None) }
+{
+    let memory = memory_sizes(bytes, loads(bytes));
+    let long = bad(LIMIT < bytes.len(), LIMIT);
+    lower(
+        bad(half(bytes, 40) != 52, 40),
+        lower(
+            bad(half(bytes, 42) != 32, 42),
+            lower(bad(half(bytes, 46) != 40, 46), lower(memory, long)),
+        ),
+    )
+}
+
+fn is_executable(bytes: &[u8], h: usize) -> bool
+    requires { h + 32 ≤ length bytes.now }
+    ensures { result ≡ is_executable bytes.now h }
+{
+    word(bytes, h + 24) % 2 == 1
+}
+
+/// Whether there are two, of which the first alone is executable.
+#[tactic(auto, unfolding(crate::specs::Segments::order))]
+pub fn order(bytes: &[u8], headers: Found) -> Option<usize>
+    requires { AllFound (IsHeader bytes.now) headers }
+    ensures place { result ≡ order bytes.now headers }
+    ensures small { IfSome result (λ at. at ≡ 44) }
+{
+    match headers {
+        Found::Two(a, b) => bad(!(is_executable(bytes, a) && !is_executable(bytes, b)), 44),
+        Found::Nothing | Found::One(_) | Found::More(_, _) => Some(44),
+    }
+}

@@ -1,0 +1,367 @@
+//! The symbol table of an object, its relocations, and their tests.
+
+ghost use Rattle.std.specs.Prelude.{◌≡◌, ◌≤◌, ◌<◌, ◌+◌, ◌*◌, ◌^◌, length, IfSome};
+ghost use Rattle.guest_ram.specs.Bytes.{word16, word32};
+ghost use Rattle.elf_form.specs.Tables.{AllFound};
+ghost use Rattle.elf_form.specs.Header.{IsWhole, IsSection, section_table, section_count};
+ghost use Rattle.elf_form.specs.Faults.{◌or_else◌};
+ghost use Rattle.elf_form.specs.Symbols.{target_role, table_at, is_file, has_binding, has_place, is_listed, place_by, role_at, symbol_fault, global_fault, is_reloc_section, is_reloc_section_of, entries_fault, is_linked, section_test, is_unnamed, symbol_test, has_symbol, size_at, number_of, IsEntry, is_outside, has_kind, names_none, named_fault, form_fault, reloc_test};
+
+use crate::header::bad;
+use crate::object::Place;
+use crate::roles::{Role, has_role, is_kept, role_number, section_role};
+use crate::sections::{contents, from};
+use crate::segments::Found;
+use crate::words::{byte, half, word};
+
+/// The symbol table: its section, where its entries begin, and how many it has with the null one
+/// (0 where there is no table).
+#[derive(Clone, Copy, Debug, PartialEq, Eq)]
+pub struct Table {
+    pub section: usize,
+    pub at: usize,
+    pub count: usize,
+}
+
+/// A relocation: the section that it stands in, and where.
+#[derive(Clone, Copy, Debug, PartialEq, Eq)]
+pub struct Entry {
+    pub section: usize,
+    pub at: usize,
+}
+
+/// What is tested of the sections of relocations.
+#[derive(Clone, Copy, Debug, PartialEq, Eq)]
+pub enum SectionTest {
+    EntrySizes,
+    Links,
+}
+
+/// What is tested of symbols.
+#[derive(Clone, Copy, Debug, PartialEq, Eq)]
+pub enum SymbolTest {
+    Names,
+    Globals,
+}
+
+/// What is tested of relocations: the symbol that one names, or its own form.
+#[derive(Clone, Copy, Debug, PartialEq, Eq)]
+pub enum RelocTest {
+    Named,
+    Form,
+}
+
+/// The first place.
+pub fn first_of_two(a: Option<usize>, b: Option<usize>) -> Option<usize>
+    ensures { result ≡ a or_else b }
+{
+    match a {
+        Some(at) => Some(at),
+        None => b,
+    }
+}
+
+pub fn table_at(bytes: &[u8], found: Found) -> Table
+    requires found { AllFound (IsSection bytes.now) found }
+    requires header { 52 ≤ length bytes.now }
+    ensures table { result ≡ table_at bytes.now found }
+    ensures section { result.section + 40 ≤ length bytes.now }
+    ensures small { result.count < 2 ^ 28 }
+    ensures inside { 0 < result.count → result.at + 16 * result.count ≤ length bytes.now }
+{
+    match found {
+        Found::Nothing => Table {
+            section: 0,
+            at: 0,
+            count: 0,
+        },
+        Found::One(s) | Found::Two(s, _) | Found::More(s, _) => Table {
+            section: s,
+            at: word(bytes, s + 16) as usize,
+            count: contents(bytes, s).len() / 16,
+        },
+    }
+}
+
+pub fn is_file(bytes: &[u8], y: usize) -> bool
+    requires { y + 16 ≤ length bytes.now }
+    ensures { result ≡ is_file bytes.now y }
+{
+    byte(bytes, y + 12) % 16 == 4
+}
+
+fn has_binding(bytes: &[u8], y: usize) -> bool
+    requires { y + 16 ≤ length bytes.now }
+    ensures { result ≡ has_binding bytes.now y }
+{
+    byte(bytes, y + 12) / 16 < 2
+}
+
+pub fn place_by(role: Role) -> Place
+    ensures { result ≡ place_by role }
+{
+    match role {
+        Role::Text => Place::Text,
+        Role::Init => Place::Init,
+        Role::Bss => Place::Bss,
+        Role::Ignored | Role::Sites | Role::Foreign | Role::Symbols | Role::Relocs => {
+            Place::Undefined
+        }
+    }
+}
+
+/// What the section of an index is read as.
+#[tactic(auto, unfolding(crate::specs::Symbols::role_at))]
+pub fn role_at(names: &[u8], bytes: &[u8], index: usize) -> Role
+    requires { IsWhole bytes.now }
+    ensures role { result ≡ role_at names.now bytes.now index }
+{
+    if index >= half(bytes, 48) as usize {
+        return Role::Ignored;
+    }
+    section_role(names, bytes, word(bytes, 32) as usize + 40 * index)
+}
+
+fn has_place(names: &[u8], bytes: &[u8], y: usize) -> bool
+    requires whole { IsWhole bytes.now }
+    requires inside { y + 16 ≤ length bytes.now }
+    ensures { result ≡ has_place names.now bytes.now y }
+{
+    let index = half(bytes, y + 14);
+    index == 0 || is_kept(role_at(names, bytes, index as usize))
+}
+
+pub fn is_listed(names: &[u8], bytes: &[u8], y: usize) -> bool
+    requires whole { IsWhole bytes.now }
+    requires inside { y + 16 ≤ length bytes.now }
+    ensures { result ≡ is_listed names.now bytes.now y }
+{
+    !is_file(bytes, y) && has_binding(bytes, y) && has_place(names, bytes, y)
+}
+
+/// Where a symbol that is needed is bad.
+#[tactic(auto, unfolding(crate::specs::Symbols::symbol_fault))]
+fn symbol_fault(names: &[u8], bytes: &[u8], y: usize) -> Option<usize>
+    requires whole { IsWhole bytes.now }
+    requires inside { y + 16 ≤ length bytes.now }
+    ensures place { result ≡ symbol_fault names.now bytes.now y }
+    ensures small { IfSome result (λ at. at < length bytes.now) }
+{
+    if is_file(bytes, y) {
+        return None;
+    }
+    if !has_binding(bytes, y) {
+        return Some(y + 12);
+    }
+    bad(!has_place(names, bytes, y), y + 14)
+}
+
+fn global_fault(names: &[u8], bytes: &[u8], y: usize) -> Option<usize>
+    requires whole { IsWhole bytes.now }
+    requires inside { y + 16 ≤ length bytes.now }
+    ensures place { result ≡ global_fault names.now bytes.now y }
+    ensures small { IfSome result (λ at. at < length bytes.now) }
+{
+    if byte(bytes, y + 12) / 16 == 0 {
+        return None;
+    }
+    symbol_fault(names, bytes, y)
+}
+
+fn target_role(names: &[u8], bytes: &[u8], s: usize) -> Role
+    requires whole { IsWhole bytes.now }
+    requires inside { s + 40 ≤ length bytes.now }
+    ensures { result ≡ target_role names.now bytes.now s }
+{
+    role_at(names, bytes, word(bytes, s + 28) as usize)
+}
+
+fn is_reloc_section(names: &[u8], bytes: &[u8], s: usize) -> bool
+    requires whole { IsWhole bytes.now }
+    requires inside { s + 40 ≤ length bytes.now }
+    ensures { result ≡ is_reloc_section names.now bytes.now s }
+{
+    has_role(Role::Relocs, names, bytes, s) && is_kept(target_role(names, bytes, s))
+}
+
+pub fn is_reloc_section_of(role: Role, names: &[u8], bytes: &[u8], s: usize) -> bool
+    requires whole { IsWhole bytes.now }
+    requires inside { s + 40 ≤ length bytes.now }
+    ensures { result ≡ is_reloc_section_of role names.now bytes.now s }
+{
+    has_role(Role::Relocs, names, bytes, s)
+        && role_number(target_role(names, bytes, s)) == role_number(role)
+}
+
+pub fn entries_fault(entry: u32, bytes: &[u8], s: usize) -> Option<usize>
+    requires inside { s + 40 ≤ length bytes.now }
+    requires entry { 0 < entry }
+    ensures place { result ≡ entries_fault entry bytes.now s }
+    ensures small { IfSome result (λ at. at < length bytes.now) }
+{
+    if word(bytes, s + 20) % entry != 0 {
+        return Some(s + 20);
+    }
+    bad(word(bytes, s + 36) != entry, s + 36)
+}
+
+fn is_linked(table: Table, names: &[u8], bytes: &[u8], s: usize) -> bool
+    requires whole { IsWhole bytes.now }
+    requires inside { s + 40 ≤ length bytes.now }
+    ensures { result ≡ is_linked table names.now bytes.now s }
+{
+    let link = word(bytes, s + 24) as usize;
+    role_number(role_at(names, bytes, link)) == 6
+        && word(bytes, 32) as usize + 40 * link == table.section
+}
+
+pub fn section_test(
+    test: SectionTest,
+    table: Table,
+    names: &[u8],
+    bytes: &[u8],
+    s: usize,
+) -> Option<usize>
+    requires whole { IsWhole bytes.now }
+    requires inside { s + 40 ≤ length bytes.now }
+    ensures place { result ≡ section_test test table names.now bytes.now s }
+    ensures small { IfSome result (λ at. at < length bytes.now) }
+{
+    if !is_reloc_section(names, bytes, s) {
+        return None;
+    }
+    match test {
+        SectionTest::EntrySizes => entries_fault(8, bytes, s),
+        SectionTest::Links => bad(!is_linked(table, names, bytes, s), s + 24),
+    }
+}
+
+fn is_unnamed(strings: &[u8], bytes: &[u8], y: usize) -> bool
+    requires { y + 16 ≤ length bytes.now }
+    ensures { result ≡ is_unnamed strings.now bytes.now y }
+{
+    !from(strings, word(bytes, y) as usize).contains(&0)
+}
+
+pub fn symbol_test(
+    test: SymbolTest,
+    strings: &[u8],
+    names: &[u8],
+    bytes: &[u8],
+    y: usize,
+) -> Option<usize>
+    requires whole { IsWhole bytes.now }
+    requires inside { y + 16 ≤ length bytes.now }
+    ensures place { result ≡ symbol_test test strings.now names.now bytes.now y }
+    ensures small { IfSome result (λ at. at < length bytes.now) }
+{
+    match test {
+        SymbolTest::Names => bad(is_unnamed(strings, bytes, y), y),
+        SymbolTest::Globals => global_fault(names, bytes, y),
+    }
+}
+
+fn number_of(bytes: &[u8], y: usize) -> usize
+    requires { y + 8 ≤ length bytes.now }
+    ensures number { result ≡ number_of bytes.now y }
+    ensures small { result < 2 ^ 24 }
+{
+    word(bytes, y + 4) as usize / 256
+}
+
+fn has_symbol(table: Table, bytes: &[u8], y: usize) -> bool
+    requires { y + 8 ≤ length bytes.now }
+    ensures { result ≡ has_symbol table bytes.now y }
+{
+    number_of(bytes, y) != 0 && number_of(bytes, y) < table.count
+}
+
+#[tactic(auto, unfolding(crate::specs::Symbols::size_at))]
+fn size_at(bytes: &[u8], index: usize) -> usize
+    requires { IsWhole bytes.now }
+    ensures size { result ≡ size_at bytes.now index }
+{
+    if index >= half(bytes, 48) as usize {
+        return 0;
+    }
+    word(bytes, word(bytes, 32) as usize + 40 * index + 20) as usize
+}
+
+fn is_outside(names: &[u8], bytes: &[u8], e: Entry) -> bool
+    requires whole { IsWhole bytes.now }
+    requires inside { IsEntry bytes.now e }
+    ensures { result ≡ is_outside names.now bytes.now e }
+{
+    let index = word(bytes, e.section + 28) as usize;
+    if role_number(role_at(names, bytes, index)) == 4 {
+        return true;
+    }
+    let size = size_at(bytes, index);
+    size < word(bytes, e.at) as usize + 4
+}
+
+fn has_kind(bytes: &[u8], y: usize) -> bool
+    requires { y + 8 ≤ length bytes.now }
+    ensures { result ≡ has_kind bytes.now y }
+{
+    word(bytes, y + 4) % 256 == 1 || word(bytes, y + 4) % 256 == 2
+}
+
+fn names_none(table: Table, bytes: &[u8], y: usize) -> bool
+    requires inside { y + 8 ≤ length bytes.now }
+    requires table { 0 < table.count → table.at + 16 * table.count ≤ length bytes.now }
+    ensures { result ≡ names_none table bytes.now y }
+{
+    if !has_symbol(table, bytes, y) {
+        return true;
+    }
+    is_file(bytes, table.at + 16 * number_of(bytes, y))
+}
+
+fn named_fault(table: Table, names: &[u8], bytes: &[u8], y: usize) -> Option<usize>
+    requires whole { IsWhole bytes.now }
+    requires inside { y + 8 ≤ length bytes.now }
+    requires table { 0 < table.count → table.at + 16 * table.count ≤ length bytes.now }
+    ensures place { result ≡ named_fault table names.now bytes.now y }
+    ensures small { IfSome result (λ at. at < length bytes.now) }
+{
+    if !has_symbol(table, bytes, y) {
+        return None;
+    }
+    symbol_fault(names, bytes, table.at + 16 * number_of(bytes, y))
+}
+
+fn form_fault(table: Table, names: &[u8], bytes: &[u8], e: Entry) -> Option<usize>
+    requires whole { IsWhole bytes.now }
+    requires entry { IsEntry bytes.now e }
+    requires table { 0 < table.count → table.at + 16 * table.count ≤ length bytes.now }
+    ensures place { result ≡ form_fault table names.now bytes.now e }
+    ensures small { IfSome result (λ at. at < length bytes.now) }
+{
+    if is_outside(names, bytes, e) {
+        return Some(e.at);
+    }
+    bad(
+        !has_kind(bytes, e.at) || names_none(table, bytes, e.at),
+        e.at + 4,
+    )
+}
+
+pub fn reloc_test(
+    test: RelocTest,
+    table: Table,
+    names: &[u8],
+    bytes: &[u8],
+    e: Entry,
+) -> Option<usize>
+    requires whole { IsWhole bytes.now }
+    requires entry { IsEntry bytes.now e }
+    requires table { 0 < table.count → table.at + 16 * table.count ≤ length bytes.now }
+    ensures place { result ≡ reloc_test test table names.now bytes.now e }
+    ensures small { IfSome result (λ at. at < length bytes.now) }
+{
+    match test {
+        RelocTest::Named => named_fault(table, names, bytes, e.at),
+        RelocTest::Form => form_fault(table, names, bytes, e),
+    }
+}

@@ -1,0 +1,31 @@
+//! Little-endian numbers in bytes.
+
+ghost use Rattle.std.specs.Prelude.{◌≡◌, ◌+◌, ◌≤◌, ◌<◌, length};
+ghost use Rattle.guest_ram.specs.Bytes.{word16, word32, byte};
+
+/// The byte there.
+#[tactic(auto, unfolding(guest_ram::specs::Bytes::byte))]
+pub fn byte(bytes: &[u8], at: usize) -> u8
+    requires { at < length bytes.now }
+    ensures { result ≡ byte bytes.now at }
+{
+    bytes[at]
+}
+
+/// The number of four bytes there.
+pub fn word(bytes: &[u8], at: usize) -> u32
+    requires { at + 4 ≤ length bytes.now }
+    ensures { result ≡ word32 bytes.now at }
+{
+    let part = &bytes[at..at + 4];
+    u32::from_le_bytes([part[0], part[1], part[2], part[3]])
+}
+
+/// The number of two bytes there.
+pub fn half(bytes: &[u8], at: usize) -> u16
+    requires { at + 2 ≤ length bytes.now }
+    ensures { result ≡ word16 bytes.now at }
+{
+    let part = &bytes[at..at + 2];
+    u16::from_le_bytes([part[0], part[1]])
+}

@@ -1,0 +1,5 @@
+pub mod Frames
+pub mod Chains
+pub mod Calls
+pub mod Lengths
+pub mod Held

@@ -1,0 +1,10 @@
+pub mod SumRules
+pub mod Small
+pub mod ShiftRules
+pub mod SignedRules
+pub mod ProductRules
+pub mod FlagReads
+pub mod CompareRules
+pub mod RangeRules
+pub mod QuotientRules
+pub mod InverseRules

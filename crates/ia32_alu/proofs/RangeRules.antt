@@ -1,0 +1,122 @@
+-- A sum or a difference that is in range is the result.
+use Rattle.std.proofs.Common.{◌≡◌, ℕ, ◌+◌, ◌-◌, ◌%◌, ◌^◌, ◌<◌, ◌≤◌, Bool, true, false, not, arith, refl, sym, ◌∙◌, inl, inr, pos, ◌+ℤ◌, ◌-ℤ◌}
+use Rattle.std.specs.Prelude.{nat_lt, nat_le}
+use Rattle.std.proofs.lemmas.Int.{ints}
+use Rattle.std.proofs.lemmas.Bool.Decides.{nat_tests}
+use Rattle.ia32_types.specs.declared.size.Size.{Size}
+use Rattle.ia32_types.specs.declared.size.Size.TheVariants.{Byte, Word, Long}
+use Rattle.ia32_types.specs.declared.flags.Flags.{Flags}
+use Rattle.ia32_types.specs.declared.insn.Op.TheVariants.{Add, Adc, Sub, Sbb}
+use Rattle.ia32_types.specs.Size.{span}
+use Rattle.ia32_types.specs.Bits.{bit, worth, signed_at, fits_at, signed, low}
+use Rattle.ia32_types.specs.Flags.{carry_at}
+use Rattle.ia32_alu.specs.Arithmetic.{alu}
+use Rattle.ia32_alu.specs.Sums.{sum, sum_overflows, difference, difference_overflows}
+use Rattle.ia32_alu.specs.Status.{settled, of_result}
+use Rattle.ia32_alu.specs.Range.{TellsSum, TellsDifference}
+use Rattle.ia32_alu.proofs.SumRules.{once}
+use Rattle.ia32_alu.proofs.CompareRules.{low_small}
+use Rattle.ia32_alu.proofs.FlagReads.{read_carry, read_overflow}
+
+kept_low : (h a b c r : ℕ) → a < h + h → b < h + h → c < 2 → 0 < h → r ≡ a + b + c → r < h + h →
+    not (fits_at h (signed_at h a +ℤ signed_at h b +ℤ pos c)) ≡ false → signed_at h r ≡ signed_at h a +ℤ signed_at h b +ℤ pos c
+kept_low h a b c r la lb lc p e le f = grind (arith, ints, nat_tests)
+
+kept_high : (h a b c r : ℕ) → a < h + h → b < h + h → c < 2 → 0 < h → r + (h + h) ≡ a + b + c →
+    not (fits_at h (signed_at h a +ℤ signed_at h b +ℤ pos c)) ≡ false → signed_at h r ≡ signed_at h a +ℤ signed_at h b +ℤ pos c
+kept_high h a b c r la lb lc p e f = grind (arith, ints, nat_tests)
+
+kept : (h a b c r : ℕ) → a < h + h → b < h + h → c < 2 → 0 < h → r ≡ (a + b + c) % (h + h) →
+    not (fits_at h (signed_at h a +ℤ signed_at h b +ℤ pos c)) ≡ false → signed_at h r ≡ signed_at h a +ℤ signed_at h b +ℤ pos c
+kept h a b c r la lb lc p e f =
+    elim (once (a + b + c) (h + h) (omega arith)) [
+      | inl low ↦ kept_low h a b c r la lb lc p (e ∙ low.1) (omega arith) f
+      | inr high ↦ kept_high h a b c r la lb lc p (omega arith) f
+    ]
+
+signed_sum : (s : Size) (a b c : ℕ) → a < span s → b < span s → c < 2 → sum_overflows s a b c ≡ false →
+    signed s ((a + b + c) % span s) ≡ signed s a +ℤ signed s b +ℤ pos c
+unfolding sum_overflows
+signed_sum Byte a b c la lb lc f = kept (2 ^ 7) a b c _ la lb lc (omega arith) refl f
+signed_sum Word a b c la lb lc f = kept (2 ^ 15) a b c _ la lb lc (omega arith) refl f
+signed_sum Long a b c la lb lc f = kept (2 ^ 31) a b c _ la lb lc (omega arith) refl f
+
+left_low : (h a b c r : ℕ) → a < h + h → b < h + h → c < 2 → 0 < h → r + (b + c) ≡ a + (h + h) → r < h + h →
+    not (fits_at h (signed_at h a -ℤ signed_at h b -ℤ pos c)) ≡ false → signed_at h r ≡ signed_at h a -ℤ signed_at h b -ℤ pos c
+left_low h a b c r la lb lc p e le f = grind (arith, ints, nat_tests)
+
+left_high : (h a b c r : ℕ) → a < h + h → b < h + h → c < 2 → 0 < h → r + (b + c) ≡ a →
+    not (fits_at h (signed_at h a -ℤ signed_at h b -ℤ pos c)) ≡ false → signed_at h r ≡ signed_at h a -ℤ signed_at h b -ℤ pos c
+left_high h a b c r la lb lc p e f = grind (arith, ints, nat_tests)
+
+left : (h a b c r : ℕ) → a < h + h → b < h + h → c < 2 → 0 < h → r ≡ (a + (h + h) - (b + c)) % (h + h) →
+    not (fits_at h (signed_at h a -ℤ signed_at h b -ℤ pos c)) ≡ false → signed_at h r ≡ signed_at h a -ℤ signed_at h b -ℤ pos c
+left h a b c r la lb lc p e f =
+    elim (once (a + (h + h) - (b + c)) (h + h) (omega arith)) [
+      | inl low ↦ left_low h a b c r la lb lc p (omega arith) (omega arith) f
+      | inr high ↦ left_high h a b c r la lb lc p (omega arith) f
+    ]
+
+signed_difference : (s : Size) (a b c : ℕ) → a < span s → b < span s → c < 2 → difference_overflows s a b c ≡ false →
+    signed s ((a + span s - (b + c)) % span s) ≡ signed s a -ℤ signed s b -ℤ pos c
+unfolding difference_overflows
+signed_difference Byte a b c la lb lc f = left (2 ^ 7) a b c _ la lb lc (omega arith) refl f
+signed_difference Word a b c la lb lc f = left (2 ^ 15) a b c _ la lb lc (omega arith) refl f
+signed_difference Long a b c la lb lc f = left (2 ^ 31) a b c _ la lb lc (omega arith) refl f
+
+reaches : (m n : ℕ) → nat_le m n ≡ not (nat_lt n m)
+reaches m n = grind (arith, nat_tests)
+
+unsigned_sum : (m n : ℕ) → n < m + m → nat_le m n ≡ false → n % m ≡ n
+unsigned_sum m n l f = grind (arith, nat_tests, once n m l)
+
+unsigned_difference : (m a b : ℕ) → a < m → b ≤ m → nat_lt a b ≡ false → (a + m - b) % m + b ≡ a
+unsigned_difference m a b la lb f = grind (arith, nat_tests, once (a + m - b) m (omega arith))
+
+pub tells_sum : (s : Size) (a b c : ℕ) (f : Flags) → a < span s → b < span s → c < 2 →
+    TellsSum s a b c (sum s a b c).0 (settled (sum s a b c).1 f)
+unfolding sum of_result sum_overflows
+tells_sum s a b c f la lb lc =
+    let carry = read_carry (sum s a b c).1 f in
+    let over = read_overflow (sum s a b c).1 f in
+    record {
+      carry = carry ∙ reaches (span s) (a + b + c);
+      unsigned_sum = λ clear. unsigned_sum (span s) (a + b + c) (omega arith) (sym carry ∙ clear);
+      overflow = over;
+      signed_sum = λ clear. signed_sum s a b c la lb lc (sym over ∙ clear);
+    }
+
+pub tells_difference : (s : Size) (a b c : ℕ) (f : Flags) → a < span s → b < span s → c < 2 →
+    TellsDifference s a b c (difference s a b c).0 (settled (difference s a b c).1 f)
+unfolding difference of_result difference_overflows
+tells_difference s a b c f la lb lc =
+    let carry = read_carry (difference s a b c).1 f in
+    let over = read_overflow (difference s a b c).1 f in
+    record {
+      carry = carry;
+      unsigned_difference = λ clear. unsigned_difference (span s) a (b + c) la (omega arith) (sym carry ∙ clear);
+      overflow = over;
+      signed_difference = λ clear. signed_difference s a b c la lb lc (sym over ∙ clear);
+    }
+
+worth_small : (b : Bool) → worth b < 2
+worth_small true = omega arith
+worth_small false = omega arith
+
+pub added : (s : Size) (a b : ℕ) (f : Flags) → TellsSum s (low s a) (low s b) 0 (alu Add s a b f).0 (alu Add s a b f).1
+unfolding alu
+added s a b f = tells_sum s (low s a) (low s b) 0 f (low_small s a) (low_small s b) (omega arith)
+
+pub added_with_carry : (s : Size) (a b : ℕ) (f : Flags) →
+    TellsSum s (low s a) (low s b) (worth (bit f.bits carry_at)) (alu Adc s a b f).0 (alu Adc s a b f).1
+unfolding alu
+added_with_carry s a b f = tells_sum s (low s a) (low s b) (worth (bit f.bits carry_at)) f (low_small s a) (low_small s b) (worth_small _)
+
+pub subtracted : (s : Size) (a b : ℕ) (f : Flags) → TellsDifference s (low s a) (low s b) 0 (alu Sub s a b f).0 (alu Sub s a b f).1
+unfolding alu
+subtracted s a b f = tells_difference s (low s a) (low s b) 0 f (low_small s a) (low_small s b) (omega arith)
+
+pub subtracted_with_borrow : (s : Size) (a b : ℕ) (f : Flags) →
+    TellsDifference s (low s a) (low s b) (worth (bit f.bits carry_at)) (alu Sbb s a b f).0 (alu Sbb s a b f).1
+unfolding alu
+subtracted_with_borrow s a b f = tells_difference s (low s a) (low s b) (worth (bit f.bits carry_at)) f (low_small s a) (low_small s b) (worth_small _)

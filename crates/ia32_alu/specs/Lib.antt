@@ -1,0 +1,10 @@
+pub mod Status
+pub mod Sums
+pub mod Arithmetic
+pub mod Shift
+pub mod Signed
+pub mod Product
+pub mod Quotient
+pub mod Compare
+pub mod Range
+pub mod Division

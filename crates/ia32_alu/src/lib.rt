@@ -1,0 +1,23 @@
+//! Results and flags of arithmetic, logic, shifts, multiplication and division.
+#![tactic(auto)]
+
+mod arithmetic;
+mod laws;
+mod order;
+mod products;
+mod quotients;
+mod shifts;
+mod signed;
+mod status;
+mod sums;
+
+pub use arithmetic::alu;
+pub use laws::{differences_in_range, divisions, products_divided, sums_in_range};
+pub use order::compare;
+pub use products::multiply;
+pub use quotients::divide;
+pub use shifts::shift;
+pub use status::Status;
+
+#[cfg(test)]
+mod tests;

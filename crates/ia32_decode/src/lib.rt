@@ -1,0 +1,16 @@
+//! From bytes to the instruction that begins them.
+#![tactic(auto)]
+
+mod answer;
+mod fields;
+mod form;
+mod laws;
+mod named;
+mod numbers;
+
+pub use answer::{Decoded, decode};
+pub use laws::{answers, reads_back};
+pub use named::refused;
+
+#[cfg(test)]
+mod tests;

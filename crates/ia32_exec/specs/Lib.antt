@@ -1,0 +1,14 @@
+pub mod Memory
+pub mod Registers
+pub mod Ranges
+pub mod Operands
+pub mod Arithmetic
+pub mod Moves
+pub mod Stack
+pub mod Control
+pub mod Strings
+pub mod Effect
+pub mod Commit
+pub mod Flat
+pub mod Order
+pub mod Turns

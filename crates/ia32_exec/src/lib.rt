@@ -1,0 +1,32 @@
+//! What each insensitive instruction does to the registers and to linear memory.
+#![tactic(auto)]
+
+mod access;
+mod control;
+mod effect_of;
+mod exec_of;
+mod laws;
+mod memory;
+mod moves;
+mod operands;
+mod order;
+mod outcome;
+mod ranges_of;
+mod registers;
+mod results;
+mod stack;
+mod strings;
+
+pub use access::{Range, Ranges};
+pub use effect_of::effect;
+pub use exec_of::exec;
+pub use laws::{push_all_then_pop_all, push_then_pop, repeated_turns};
+pub use memory::LinearMem;
+pub use order::holds_after_compare;
+pub use outcome::{Effect, Outcome, Store, Stores};
+pub use ranges_of::{ranges, segment_of};
+pub use registers::{address_of, with_register};
+pub use stack::{is_foreign, taken};
+
+#[cfg(test)]
+mod tests;

@@ -1,0 +1,150 @@
+ghost use Rattle.std.specs.Prelude.{◌≡◌, ◌<◌, ◌+◌, slice_index};
+ghost use Rattle.ia32_types.specs.declared.size.Size.TheVariants.{Long};
+ghost use Rattle.ia32_exec.specs.Registers.{with_whole};
+ghost use Rattle.ia32_exec.specs.Ranges.{segment_of, operand_range};
+ghost use Rattle.ia32_exec.specs.Effect.{on_stack, reads, writes, either, source_and_target, both_read, element, unless_over, ranges_of};
+
+use crate::access::{Range, Ranges};
+use crate::registers::{address_of, with_whole};
+use ia32_types::{Insn, Op, Operand, Reg, Regs, Seg, Size};
+
+/// The segment of an operand with that base: SS for EBP and ESP, and DS otherwise.
+pub fn segment_of(base: Option<Reg>) -> Seg
+    ensures { result ≡ segment_of base }
+{
+    match base {
+        Some(Reg::Esp) => Seg::Ss,
+        Some(Reg::Ebp) => Seg::Ss,
+        _ => Seg::Ds,
+    }
+}
+
+fn operand_range(operand: Operand, size: Size, regs: &Regs) -> Option<Range>
+    ensures { result ≡ operand_range operand size regs.now }
+{
+    match operand {
+        Operand::Memory(address) => Some(Range {
+            at: address_of(address, regs),
+            len: size.bytes(),
+            seg: segment_of(address.base),
+        }),
+        _ => None,
+    }
+}
+
+fn on_stack(at: u32, len: u32) -> Option<Range>
+    ensures { result ≡ on_stack at len }
+{
+    let seg = Seg::Ss;
+    Some(Range { at, len, seg })
+}
+
+fn reads(read: Option<Range>) -> Ranges
+    ensures { result ≡ reads read }
+{
+    Ranges { read, write: None }
+}
+
+fn writes(write: Option<Range>) -> Ranges
+    ensures { result ≡ writes write }
+{
+    Ranges { read: None, write }
+}
+
+fn either(first: Option<Range>, second: Option<Range>) -> Option<Range>
+    ensures { result ≡ either first second }
+{
+    match first {
+        Some(range) => Some(range),
+        None => second,
+    }
+}
+
+fn source_and_target(insn: &Insn, regs: &Regs) -> Ranges
+    ensures { result ≡ source_and_target insn.now regs.now }
+{
+    Ranges {
+        read: operand_range(insn.b, insn.size, regs),
+        write: operand_range(insn.a, insn.size, regs),
+    }
+}
+
+fn both_read(insn: &Insn, regs: &Regs) -> Ranges
+    ensures { result ≡ both_read insn.now regs.now }
+{
+    let first = operand_range(insn.a, insn.size, regs);
+    reads(either(first, operand_range(insn.b, insn.size, regs)))
+}
+
+fn element(seg: Seg, n: usize, insn: &Insn, regs: &Regs) -> Option<Range>
+    requires { n < 8 }
+    ensures { result ≡ unless_over insn.now regs.now (element seg n insn.now regs.now) }
+{
+    if insn.rep && regs.r[1] == 0 {
+        return None;
+    }
+    let at = regs.r[n];
+    let len = insn.size.bytes();
+    Some(Range { at, len, seg })
+}
+
+/// What the registers alone say of an instruction's accesses.
+#[tactic(auto, unfolding(crate::specs::Effect::ranges_of))]
+pub fn ranges(insn: &Insn, regs: &Regs) -> Ranges
+    ensures { result ≡ ranges_of insn.now regs.now }
+{
+    let esp = regs.r[4];
+    let below = esp.wrapping_sub(4);
+    match insn.op {
+        Op::Add
+        | Op::Or
+        | Op::Adc
+        | Op::Sbb
+        | Op::And
+        | Op::Sub
+        | Op::Xor
+        | Op::Not
+        | Op::Neg
+        | Op::Inc
+        | Op::Dec
+        | Op::Mov
+        | Op::Xchg => source_and_target(insn, regs),
+        Op::Cmp | Op::Test | Op::Imul => both_read(insn, regs),
+        Op::Rol | Op::Ror | Op::Shl | Op::Shr | Op::Sar => {
+            writes(operand_range(insn.a, insn.size, regs))
+        }
+        Op::Mul | Op::Div | Op::Idiv => reads(operand_range(insn.a, insn.size, regs)),
+        Op::ImulBy | Op::Movzx | Op::Movsx => reads(operand_range(insn.b, insn.size, regs)),
+        Op::Push => Ranges {
+            read: operand_range(insn.a, Size::Long, regs),
+            write: on_stack(below, 4),
+        },
+        Op::Pop => Ranges {
+            read: on_stack(esp, 4),
+            write: operand_range(
+                insn.a,
+                Size::Long,
+                &with_whole(4, esp.wrapping_add(4), *regs),
+            ),
+        },
+        Op::Pusha => writes(on_stack(esp.wrapping_sub(32), 32)),
+        Op::Popa => reads(on_stack(esp, 32)),
+        Op::Leave => reads(on_stack(regs.r[5], 4)),
+        Op::Setcc => writes(operand_range(insn.a, Size::Byte, regs)),
+        Op::Call | Op::PushFlags | Op::PushSeg => writes(on_stack(below, 4)),
+        Op::Movs => Ranges {
+            read: element(Seg::Ds, 6, insn, regs),
+            write: element(Seg::Es, 7, insn, regs),
+        },
+        Op::Stos => writes(element(Seg::Es, 7, insn, regs)),
+        Op::Lods => reads(element(Seg::Ds, 6, insn, regs)),
+        Op::PopFlags | Op::Return => reads(on_stack(esp, 4)),
+        Op::ReadSeg => writes(operand_range(insn.a, Size::Word, regs)),
+        Op::JumpTo => reads(operand_range(insn.a, Size::Long, regs)),
+        Op::CallTo => Ranges {
+            read: operand_range(insn.a, Size::Long, regs),
+            write: on_stack(below, 4),
+        },
+        _ => reads(None),
+    }
+}

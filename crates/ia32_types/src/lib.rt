@@ -1,0 +1,23 @@
+//! The registers, flags, instructions, sites and stops that the machines speak of.
+#![tactic(auto)]
+
+mod bits;
+mod flags;
+mod insn;
+mod register;
+mod same;
+mod site;
+mod size;
+mod stop;
+
+pub use bits::{bit, with_bit};
+pub use flags::{Flags, Regs};
+pub use insn::{Address, Insn, Op, Operand};
+pub use register::{Reg, Seg};
+pub use same::same_insn;
+pub use site::{Refused, SiteKind, sensitive};
+pub use size::Size;
+pub use stop::{Did, Stop};
+
+#[cfg(test)]
+mod tests;

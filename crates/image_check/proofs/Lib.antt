@@ -1,0 +1,15 @@
+pub mod Acceptance
+pub mod Acceptances
+pub mod Begun
+pub mod CauseLaws
+pub mod FileLimits
+pub mod Given
+pub mod Offsets
+pub mod Passed
+pub mod Refused
+pub mod Room
+pub mod SiteSteps
+pub mod Starts
+pub mod SweepLaws
+pub mod TargetSteps
+pub mod SweepSteps

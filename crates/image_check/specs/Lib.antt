@@ -1,0 +1,10 @@
+pub mod Image
+pub mod Refusals
+pub mod Sweep
+pub mod Pieces
+pub mod TextSites
+pub mod Targets
+pub mod Conditions
+pub mod Checking
+pub mod Accepts
+pub mod Causes

@@ -1,0 +1,62 @@
+-- The sweep of a text: the instructions that stand in it, one directly behind the other.
+use Rattle.std.specs.Prelude.{◌≡◌, ◌≢◌, ℕ, zero, suc, ◌+◌, List, [], ◌∷◌, length, drop, map, Result, Ok, Err}
+use Rattle.ia32_types.specs.declared.insn.Insn.{Insn}
+use Rattle.ia32_decode.specs.Answer.{Begins}
+use Rattle.ia32_decode.specs.Decoding.{decoded}
+use Rattle.ia32_decode.specs.declared.answer.Decoded.{Decoded}
+use Rattle.ia32_decode.specs.declared.answer.Decoded.TheVariants as answer
+
+-- an instruction, the offset at which it stands, and the length of its spelling
+pub record Swept : Type 0 where
+  pub at : ℕ
+  pub len : ℕ
+  pub insn : Insn
+
+-- The spellings of the instructions, joined in order, stand at the front of the bytes. They lead from one offset to
+-- another, and some bytes are left.
+abbrev pub SweepsTo : ℕ → List ℕ → List Swept → ℕ → List ℕ → Type 0
+SweepsTo from bytes [] to left = (from ≡ to) × (bytes ≡ left)
+SweepsTo from bytes (s ∷ swept) to left = (s.at ≡ from) × Begins bytes s.insn s.len × SweepsTo (from + s.len) (drop s.len bytes) swept to left
+
+-- The spellings of the instructions, joined in order, are the text.
+abbrev pub Sweep : List ℕ → List Swept → Type 0
+Sweep text swept = SweepsTo 0 text swept (length text) []
+
+-- Behind some instructions no spelling begins the bytes that are left, although some are.
+pub record StopsAt (text : List ℕ) (at : ℕ) : Type 0 where
+  pub swept : List Swept
+  pub left : List ℕ
+  pub reached : SweepsTo 0 text swept at left
+  pub some : left ≢ []
+  pub none : (insn : Insn) (n : ℕ) → Begins left insn n → ⊥
+
+-- The same as a function: the instructions of the text, or the offset at which the sweep stops. Each has a byte, so
+-- there are no more of them than bytes.
+infixl 10 ◌>>=◌
+abbrev pub ◌>>=◌ : {A B : Type 0} → Result A ℕ → (A → Result B ℕ) → Result B ℕ
+(Ok x) >>= f = f x
+(Err at) >>= f = Err at
+
+abbrev pub met : ℕ → Decoded → Result Swept ℕ
+met at (answer.Insn insn len) = Ok (record { at = at; len = len; insn = insn })
+met at answer.Short = Err at
+met at answer.Outside = Err at
+
+unfoldable pub sweep_from : ℕ → ℕ → List ℕ → Result (List Swept) ℕ
+sweep_from zero at bytes = Ok []
+sweep_from (suc n) at [] = Ok []
+sweep_from (suc n) at (b ∷ bytes) = do
+  s ← met at (decoded (b ∷ bytes))
+  swept ← sweep_from n (at + s.len) (drop s.len (b ∷ bytes))
+  Ok (s ∷ swept)
+
+unfoldable pub sweep : List ℕ → Result (List Swept) ℕ
+sweep text = sweep_from (length text) 0 text
+
+abbrev pub swept_or_none : Result (List Swept) ℕ → List Swept
+swept_or_none (Ok swept) = swept
+swept_or_none (Err at) = []
+
+-- the offsets at which the instructions of a text stand
+unfoldable pub starts_of : List ℕ → List ℕ
+starts_of text = map (λ (s : Swept). s.at) (swept_or_none (sweep text))

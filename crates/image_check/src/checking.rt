@@ -1,0 +1,178 @@
+//! The tests of an image in their order.
+
+ghost use Rattle.std.specs.Prelude.{◌≡◌, ℕ, ◌≤◌, ◌<◌, ◌+◌, ◌^◌, ◌&&◌, ◌==◌, not, false, List, length, slice_get, slice_index_or, IfOk, Ok};
+ghost use Rattle.std.specs.List.{list_any};
+ghost use Rattle.ia32_rows.specs.Spells.{AreBytes};
+ghost use Rattle.elf_form.specs.Accepted.{ImageAs};
+ghost use Rattle.elf_form.specs.Faults.{Fault};
+ghost use Rattle.elf_form.specs.ImageParts.{ImageParts};
+ghost use Rattle.elf_form.specs.Reading.{image_in};
+ghost use Rattle.sites.specs.Reading.{sites_in};
+ghost use Rattle.image_check.specs.Refusals.{Gives, Form, Wrong};
+ghost use Rattle.image_check.specs.Pieces.{pieces_in, is_start};
+ghost use Rattle.image_check.specs.Targets.{is_entrance, wrong_target};
+ghost use Rattle.image_check.specs.Conditions.{last_at, ends_at, text_end, lower, site_wrong, entry_start_by};
+ghost use Rattle.image_check.specs.Checking.{as_form, as_sites, annotated, entered, image_from, image_of, image_with};
+ghost use Rattle.image_check.specs.Accepts.{AreStarts, Accepts};
+ghost use Rattle.image_check.specs.Causes.{causes, IsFirst};
+ghost use Rattle.image_check.specs.Image.{Image as Accepted};
+ghost use Rattle.image_check.specs.declared.fault.CheckCause.{CheckCause};
+
+use crate::checked::Checked;
+use crate::fault::{CheckCause, CheckFault};
+use crate::piece::Piece;
+use crate::placing::{TEXT_AT, bad, placed, test};
+use crate::site::{differ, find_sites};
+use crate::sweeping::{Swept, sweep};
+use crate::target::{entrances, wrong_target};
+use elf_form::{ElfFault, Image, read_image};
+use sites::{Sites, SitesFault, read_sites};
+use std::alloc::Global;
+
+fn last_at(pieces: &[Piece]) -> u32
+    ensures { result ≡ last_at pieces.now }
+{
+    match pieces.last() {
+        None => 0,
+        Some(piece) => piece.at,
+    }
+}
+
+fn ends_at(text: &[u8], at: usize) -> bool
+    requires { at < 2 ^ 32 }
+    ensures { result ≡ ends_at text.now at }
+{
+    at + 2 == text.len() && text[at] == 0xEB && text[at + 1] == 0xFE
+}
+
+fn text_end(text: &[u8], pieces: &[Piece]) -> Option<u32>
+    ensures { result ≡ text_end text.now pieces.now }
+{
+    let at = last_at(pieces);
+    bad(!ends_at(text, at as usize), at)
+}
+
+fn annotations(alloc: Global, bytes: &[u8]) -> Result<Sites, CheckFault>
+    requires { length bytes.now < 2 ^ 32 }
+    ensures { Gives (λ sites. sites.list) result (as_sites (sites_in bytes.now)) }
+{
+    match read_sites(alloc, bytes) {
+        Ok(sites) => Ok(sites),
+        Err(SitesFault::Form { at }) => {
+            Err(CheckFault::At {
+                at,
+                cause: CheckCause::SitesForm,
+            })
+        }
+        Err(SitesFault::Memory) => Err(CheckFault::Memory),
+    }
+}
+
+fn lower(a: Option<u32>, b: Option<u32>) -> Option<u32>
+    ensures { result ≡ lower a b }
+{
+    match (a, b) {
+        (None, b) => b,
+        (Some(a), None) => Some(a),
+        (Some(a), Some(b)) => Some(a.min(b)),
+    }
+}
+
+fn site_wrong(alloc: Global, sites: &Sites, pieces: &[Piece]) -> Result<Option<u32>, CheckFault>
+    ensures { Gives (λ place. place) result (Ok (site_wrong sites.now.list pieces.now)) }
+{
+    let found = find_sites(alloc, pieces)?;
+    Ok(lower(found.lacking, differ(&sites.list, &found.sites)))
+}
+
+fn entry_start(image: &Image, entrances: &[bool]) -> Option<u32>
+    requires { 0x1000_0000 ≤ image.now.entry }
+    ensures { result ≡ entry_start_by (λ i. slice_index_or entrances.now i false) image.now }
+{
+    let at = image.entry - TEXT_AT;
+    let index = at as usize;
+    bad(index >= entrances.len() || !entrances[index], at)
+}
+
+/// The tests of the end of the text and of the annotations.
+#[tactic(auto, unfolding(crate::specs::Checking::annotated))]
+fn annotated(alloc: Global, image: &Image, pieces: &[Piece]) -> Result<Sites, CheckFault>
+    requires { length image.now.sites < 2 ^ 32 }
+    ensures { Gives (λ sites. sites.list) result (annotated image.now pieces.now) }
+{
+    test(CheckCause::TextEnd, text_end(&image.text, pieces))?;
+    let sites = annotations(alloc, &image.sites)?;
+    test(CheckCause::SiteWrong, site_wrong(alloc, &sites, pieces)?)?;
+    Ok(sites)
+}
+
+/// The tests of where control comes in, by a branch and at the entry.
+#[tactic(auto, unfolding(crate::specs::Checking::entered))]
+fn entered(alloc: Global, image: &Image, swept: &Swept, sites: &Sites) -> Result<(), CheckFault>
+    requires starts { (i : ℕ) → slice_index_or swept.now.starts.items i false ≡ is_start swept.now.pieces.items i }
+    requires entry { 0x1000_0000 ≤ image.now.entry }
+    ensures { Gives (λ _. tt) result (entered image.now swept.now.pieces.items sites.now.list) }
+{
+    let entrances = entrances(alloc, &swept.starts, &sites.list)?;
+    test(CheckCause::Target, wrong_target(&swept.pieces, &entrances))?;
+    test(CheckCause::EntryStart, entry_start(image, &entrances))
+}
+
+/// The tests of an image in their order: its sites, and the starts of its instructions.
+#[tactic(auto, unfolding(crate::specs::Checking::image_from))]
+fn tested(alloc: Global, image: &Image) -> Result<(Sites, Vec<bool>), CheckFault>
+    requires { length image.now.sites < 2 ^ 32 }
+    ensures exact { Gives (λ found. image_with image.now found.0.list) result (image_from image.now) }
+    ensures starts { IfOk result (λ found. AreStarts image.now.text found.1.items) }
+{
+    placed(image)?;
+    let swept = sweep(alloc, &image.text)?;
+    let sites = annotated(alloc, image, &swept.pieces)?;
+    entered(alloc, image, &swept, &sites)?;
+    Ok((sites, swept.starts))
+}
+
+fn checked(alloc: Global, image: Image) -> Result<Checked, CheckFault>
+    requires short { length image.sites < 2 ^ 32 }
+    requires bytes { AreBytes image.text }
+    ensures { Gives (λ checked. checked) result (image_from image) }
+{
+    let (sites, starts) = tested(alloc, &image)?;
+    Ok(Checked::of(image, sites, starts))
+}
+
+#[tactic(auto, unfolding(crate::specs::Checking::image_of))]
+fn check_file(alloc: Global, bytes: &[u8]) -> Result<Checked, CheckFault>
+    ensures { Gives (λ checked. checked) result (image_of bytes.now) }
+{
+    let image = read(alloc, bytes)?;
+    checked(alloc, image)
+}
+
+fn read(alloc: Global, bytes: &[u8]) -> Result<Image, CheckFault>
+    ensures exact { Gives (λ image. image) result (as_form (image_in bytes.now)) }
+    ensures short { IfOk result (λ image. length image.sites < 2 ^ 32) }
+    ensures bytes { IfOk result (λ image. AreBytes image.text) }
+{
+    match read_image(alloc, bytes) {
+        Ok(image) => Ok(image),
+        Err(ElfFault::Memory) => Err(CheckFault::Memory),
+        Err(fault) => Err(CheckFault::Elf(fault)),
+    }
+}
+
+/// The image that a file is, or why it is not accepted.
+pub fn check(alloc: Global, bytes: &[u8]) -> Result<Checked, CheckFault>
+    // An image that is given is the file's, and accepted.
+    ensures accepted { IfOk result (Accepts bytes.now) }
+    // Where the file is an accepted image, it is given, unless memory runs out.
+    ensures only { (image : Accepted) → Accepts bytes.now image → Gives (λ checked. checked) result (Ok image) }
+    // A refusal is the first cause by which the file's image is wrong, at its place.
+    ensures first { (at : ℕ) (cause : CheckCause) → result ≡ Err (CheckFault.At at cause) → (parts : ImageParts) × ImageAs bytes.now parts × IsFirst causes parts at cause }
+    ensures first_only { (parts : ImageParts) (at : ℕ) (cause : CheckCause) → ImageAs bytes.now parts → IsFirst causes parts at cause → Gives (λ checked. checked) result (Err (Wrong at cause)) }
+    // A file that is no image is refused as the reading refuses it.
+    ensures form { (fault : Fault) → image_in bytes.now ≡ Err fault → Gives (λ checked. checked) result (Err (Form fault)) }
+    ensures exact { Gives (λ checked. checked) result (image_of bytes.now) }
+{
+    check_file(alloc, bytes)
+}

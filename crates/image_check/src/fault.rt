@@ -1,0 +1,67 @@
+//! Why a file is not accepted.
+
+ghost use Rattle.std.specs.Prelude.{◌≡◌};
+ghost use Rattle.image_check.specs.declared.fault.CheckFault.TheVariants.{Memory};
+
+use elf_form::ElfFault;
+use std::alloc::{AllocError, AllocFailed};
+use thiserror::Error;
+
+/// What is wrong with an image, in the order in which the causes are tested but for one: `SitesForm`
+/// is tested before `SiteWrong`. Each has its number, from 60.
+#[derive(Clone, Copy, Debug, PartialEq, Eq, Error)]
+pub enum CheckCause {
+    #[error("the text is not at 0x10000000")]
+    TextPlace = 60,
+    #[error("the data is not at 0x11000000")]
+    InitPlace,
+    #[error("no text, or too much")]
+    TextSize,
+    #[error("too much data")]
+    InitSize,
+    #[error("the entry is not in the text")]
+    EntryPlace,
+    #[error("an instruction that is refused by its name")]
+    RefusedCode,
+    #[error("bytes that are no instruction")]
+    BadCode,
+    #[error("the last instruction does not jump to itself")]
+    TextEnd,
+    #[error("a sensitive instruction without its padding or its annotation, or an annotation without one")]
+    SiteWrong,
+    #[error("no annotations in the form")]
+    SitesForm,
+    #[error("a branch that leads to no instruction, or into a site")]
+    Target,
+    #[error("an entry that is no instruction, or lies in a site")]
+    EntryStart,
+}
+
+/// Why a file is not accepted: it is no image file, the image is wrong at a place, or no memory was
+/// found. `at` is an offset in the text, but 0 for the causes of places and sizes, and for
+/// `SitesForm` an offset in the annotations.
+#[derive(Debug, Drop, Error)]
+pub enum CheckFault {
+    #[error("{0}")]
+    Elf(ElfFault),
+    #[error("{cause}, at {at}")]
+    At { at: u32, cause: CheckCause },
+    #[error("no memory was found")]
+    Memory,
+}
+
+impl From<AllocError> for CheckFault {
+    ghost from_gives = { λ _ e. e ≡ Memory };
+
+    fn from(_e: AllocError) -> CheckFault {
+        CheckFault::Memory
+    }
+}
+
+impl<T: Drop> From<AllocFailed<T>> for CheckFault {
+    ghost from_gives = { λ _ e. e ≡ Memory };
+
+    fn from(_e: AllocFailed<T>) -> CheckFault {
+        CheckFault::Memory
+    }
+}

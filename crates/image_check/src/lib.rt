@@ -1,0 +1,19 @@
+//! Which files are accepted as images, and what is known of the accepted ones.
+#![tactic(auto)]
+
+mod checked;
+mod checking;
+mod fault;
+mod laws;
+mod piece;
+mod placing;
+mod site;
+mod sweeping;
+mod target;
+#[cfg(test)]
+mod tests;
+
+pub use checked::Checked;
+pub use checking::check;
+pub use fault::{CheckCause, CheckFault};
+pub use laws::{first_cause, one_sweep};

@@ -1,0 +1,85 @@
+//! The places and sizes of an image's parts.
+
+ghost use Rattle.std.specs.Prelude.{◌≡◌, ◌≤◌, ◌<◌, ◌+◌, length, OnOk, IfOk};
+ghost use Rattle.image_check.specs.Refusals.{bad, test, Gives};
+ghost use Rattle.image_check.specs.Conditions.{text_place, init_place, text_size, init_size, entry_place};
+ghost use Rattle.image_check.specs.Checking.{placed};
+
+use crate::fault::{CheckCause, CheckFault};
+use elf_form::Image;
+
+/// The linear address of the text.
+pub const TEXT_AT: u32 = 0x1000_0000;
+/// The linear address of the data.
+const INIT_AT: u32 = 0x1100_0000;
+/// The most bytes of text.
+const TEXT_LIMIT: usize = 4_194_304;
+/// The most bytes of data, the zeroed ones among them.
+const INIT_LIMIT: u64 = 33_554_432;
+
+/// The place, where it is bad.
+pub fn bad(is_bad: bool, at: u32) -> Option<u32>
+    ensures { result ≡ bad is_bad at }
+{
+    if is_bad { Some(at) } else { None }
+}
+
+/// Passes where there is no place.
+pub fn test(cause: CheckCause, place: Option<u32>) -> Result<(), CheckFault>
+    ensures { Gives (λ _. tt) result (test cause place) }
+{
+    match place {
+        None => Ok(()),
+        Some(at) => Err(CheckFault::At { at, cause }),
+    }
+}
+
+fn text_place(image: &Image) -> Option<u32>
+    ensures { result ≡ text_place image.now }
+{
+    bad(image.text_at != TEXT_AT, 0)
+}
+
+fn init_place(image: &Image) -> Option<u32>
+    ensures { result ≡ init_place image.now }
+{
+    bad(image.init_at != INIT_AT, 0)
+}
+
+fn text_size(image: &Image) -> Option<u32>
+    ensures { result ≡ text_size image.now }
+{
+    bad(image.text.len() == 0 || image.text.len() > TEXT_LIMIT, 0)
+}
+
+fn init_size(image: &Image) -> Option<u32>
+    ensures { result ≡ init_size image.now }
+{
+    bad(
+        image.init.len() as u64 + u64::from(image.bss) > INIT_LIMIT,
+        0,
+    )
+}
+
+fn entry_place(image: &Image) -> Option<u32>
+    ensures { result ≡ entry_place image.now }
+{
+    let entry = u64::from(image.entry);
+    let start = u64::from(TEXT_AT);
+    bad(entry < start || entry >= start + image.text.len() as u64, 0)
+}
+
+/// The tests of places and sizes.
+#[tactic(auto, unfolding(crate::specs::Checking::placed))]
+pub fn placed(image: &Image) -> Result<(), CheckFault>
+    ensures exact { Gives (λ _. tt) result (placed image.now) }
+    ensures text { OnOk result ((1 ≤ length image.now.text) × (length image.now.text ≤ 4194304)) }
+    ensures init { OnOk result (length image.now.init + image.now.bss ≤ 33554432) }
+    ensures entry { OnOk result ((0x1000_0000 ≤ image.now.entry) × (image.now.entry < 0x1000_0000 + length image.now.text)) }
+{
+    test(CheckCause::TextPlace, text_place(image))?;
+    test(CheckCause::InitPlace, init_place(image))?;
+    test(CheckCause::TextSize, text_size(image))?;
+    test(CheckCause::InitSize, init_size(image))?;
+    test(CheckCause::EntryPlace, entry_place(image))
+}

@@ -1,0 +1,86 @@
+-- The instruction at EIP: how it is fetched, and what it does to the processor and asks of the board.
+use Rattle.std.specs.Prelude.{ℕ, ◌+◌, ◌-◌, ◌*◌, ◌/◌, ◌%◌, ◌^◌, min, Bool, true, false, List, ◌++◌, ◌==◌, ◌&&◌, not, nat_le, Option, Some, None, Result, Ok, Err, is_none, slice_index, if◌then◌else◌}
+use Rattle.guest_ram.specs.Bytes.{part}
+use Rattle.ia32_types.specs.Site.{kind_of}
+use Rattle.ia32_types.specs.declared.stop.Stop.TheVariants as stops
+use Rattle.ia32_types.specs.declared.insn.Insn.{Insn}
+use Rattle.ia32_types.specs.declared.insn.Operand.{Operand}
+use Rattle.ia32_types.specs.declared.insn.Operand.TheVariants as operand
+use Rattle.ia32_types.specs.declared.insn.Op.{Op}
+use Rattle.ia32_types.specs.declared.insn.Op.TheVariants as op
+use Rattle.ia32_types.specs.declared.size.Size.{Size}
+use Rattle.ia32_types.specs.declared.size.Size.TheVariants.{Byte, Word, Long}
+use Rattle.ia32_decode.specs.declared.answer.Decoded.{Decoded}
+use Rattle.ia32_decode.specs.declared.answer.Decoded.TheVariants as begins
+use Rattle.ia32_decode.specs.Decoding.{decoded}
+use Rattle.bare_exec.specs.Plain as plainly
+use Rattle.descriptors.specs.declared.cpu.Cpu.{Cpu}
+use Rattle.paging.specs.declared.entry.Touch.{Touch}
+use Rattle.paging.specs.declared.entry.Touch.TheVariants.{Ready, Fault, Stop}
+use Rattle.paging.specs.Space.{Space, place}
+use Rattle.paging.specs.Uses.{fetches}
+use Rattle.paging.specs.Work.{Outcome, Work, ◌>>=◌, gives, unless, refuses}
+use Rattle.sys_exec.specs.declared.effect.Done.{Done}
+use Rattle.sys_exec.specs.declared.effect.SysEffect.TheVariants as effects
+use Rattle.sys_exec.specs.Sys.{sys_work}
+use Rattle.ia32_exec.specs.Registers.{with_register}
+use Rattle.sys_exec.specs.declared.effect.Refusal.{Refusal}
+use Rattle.sys_exec.specs.declared.effect.Refusal.TheVariants as refusal
+
+-- the bytes that a fetch made ready
+abbrev pub taken : ℕ → ℕ → Touch → Space → Outcome Refusal (List ℕ)
+taken at len Ready s = Ok (part s.ram (place s at) len, s)
+taken at len (Fault code cr2) s = Err (refusal.Fault code cr2, s)
+taken at len (Stop stop) s = Err (refusal.Stop stop, s)
+
+-- bytes of one page
+unfoldable pub fetching : Bool → ℕ → ℕ → Work Refusal (List ℕ)
+fetching user at len s = taken at len (fetches s at len user).0 (fetches s at len user).1
+
+-- no instruction is longer
+abbrev pub longest : ℕ
+longest = 11
+
+abbrev pub front_len : ℕ → ℕ
+front_len eip = min longest (4096 - eip % 4096)
+
+-- with bytes of the next page behind those of the first
+unfoldable pub fetched_on : Bool → ℕ → List ℕ → Work Refusal Decoded
+fetched_on user eip front = do
+  more ← fetching user (eip / 4096 * 4096 + 4096) longest
+  gives (decoded (front ++ more))
+
+-- The second page is reached exactly where the first page's bytes are a proper prefix of a spelling.
+abbrev pub fetched_by : Bool → ℕ → List ℕ → Decoded → Work Refusal Decoded
+fetched_by user eip front (begins.Insn insn len) = gives (begins.Insn insn len)
+fetched_by user eip front begins.Outside = gives begins.Outside
+fetched_by user eip front begins.Short = if eip / 4096 == 1048575 then refuses (refusal.Stop stops.WrapAccess) else fetched_on user eip front
+
+-- the instruction at a linear address
+unfoldable pub fetched : Bool → ℕ → Work Refusal Decoded
+fetched user eip = do
+  front ← fetching user eip (front_len eip)
+  fetched_by user eip front (decoded front)
+
+-- the processor past the instruction
+abbrev pub passed : ℕ → Cpu → Cpu
+passed len cpu = record cpu { regs = record cpu.regs { eip = (cpu.regs.eip + len) % 2 ^ 32 } }
+
+-- neither sensitive, nor INT or INT3
+abbrev pub is_plain : Op → Bool
+is_plain op.Int = false
+is_plain op.Int3 = false
+is_plain o = is_none (kind_of o)
+
+-- a plain instruction asks nothing of the machine
+abbrev pub done_plainly : Outcome Refusal Cpu → Outcome Refusal Done
+done_plainly (Ok x) = Ok (record { cpu = x.0; effect = effects.Next }, x.1)
+done_plainly (Err refused) = Err refused
+
+-- What an instruction other than INT and INT3 does: by its row, with all its ranges translated before a byte is read.
+unfoldable pub instructed : Insn → ℕ → Cpu → Work Refusal Done
+instructed insn len cpu s = if is_plain insn.op then done_plainly (plainly.executed insn len cpu s) else sys_work insn len cpu s
+
+-- AL or EAX takes what a port gave
+abbrev pub with_accumulator : Bool → ℕ → Cpu → Cpu
+with_accumulator wide value cpu = record cpu { regs = with_register (if wide then Long else Byte) 0 value cpu.regs }

@@ -1,0 +1,64 @@
+-- The state of a machine, what it runs with, and the state in which it starts.
+use Rattle.std.specs.Prelude.{◌≡◌, ◌⊎◌, ℕ, Bool, true, false, List, [], Some}
+use Rattle.std.specs.Option.{ForSome}
+use Rattle.std.specs.FinMap.{FinMap, get, empty}
+use Rattle.std.specs.Ordering.{nat_cmp}
+use Rattle.descriptors.specs.declared.cpu.Cpu.{Cpu}
+use Rattle.paging.specs.declared.entry.Entry.{Entry}
+use Rattle.paging.specs.declared.entry.Walk.TheVariants.{Found}
+use Rattle.paging.specs.Fresh.{fresh, has}
+use Rattle.paging.specs.Space.{Mode, Space}
+use Rattle.guest_ram.specs.Bytes.{word32}
+use Rattle.board.specs.declared.devices.Board.{Board}
+use Rattle.board.specs.Scripts.{Events}
+use Rattle.board.specs.Boards.{at_reset}
+use Rattle.image_check.specs.Image.{Image}
+use Rattle.image_load.specs.Boot.{boot_ram, boot_cpu}
+
+-- what stays the same over a run
+pub record Setting : Type 0 where
+  pub mode : Mode
+  pub image : Image
+  pub script : Events
+  pub frames : ℕ
+
+-- the processor, the bytes of its memory, its cached translations by page, the board, and how many steps were done
+pub record State : Type 0 where
+  pub cpu : Cpu
+  pub ram : List ℕ
+  pub set : FinMap nat_cmp Entry
+  pub board : Board
+  pub step : ℕ
+
+-- where every run begins
+abbrev pub boot : Setting → State
+boot s = record { cpu = boot_cpu s.image s.frames; ram = boot_ram s.image s.frames; set = empty; board = at_reset; step = 0 }
+
+-- memory as a step of this processor reaches it, before its first access
+abbrev pub space_at_start : Mode → ℕ → Cpu → List ℕ → FinMap nat_cmp Entry → Space
+space_at_start mode frames cpu ram set =
+    record {
+      ram = ram;
+      frames = frames;
+      set = set;
+      cr3 = cpu.cr3;
+      wp = has cpu.cr0 65536;
+      mode = mode;
+      pages = 0;
+      went = [];
+      ready = record { start = 0; len = 0; write = false };
+      earlier = record { start = 0; len = 0; set = set };
+    }
+
+-- a fresh walk of a page finds this entry, though its dirty flag may be clear in the entry, with the accessed flag set in both words
+pub record IsCacheable (s : Setting) (b : State) (page : ℕ) (e : Entry) : Type 0 where
+  pub dir_at : ℕ
+  pub word_at : ℕ
+  pub dirty : Bool
+  pub found : fresh b.ram s.frames b.cpu.cr3 page ≡ Found (record e { dirty = dirty }) dir_at word_at
+  pub accessed : (has (word32 b.ram dir_at) 32 ≡ true) × (has (word32 b.ram word_at) 32 ≡ true)
+  pub is_dirty : e.dirty ≡ true → dirty ≡ true
+
+-- before a step any translation may be dropped, and any that a walk could use without setting a flag may be added
+pub record Loosened (s : Setting) (b : State) (set : FinMap nat_cmp Entry) : Type 0 where
+  pub each : (page : ℕ) → ForSome (get set page) (λ e. (get b.set page ≡ Some e) ⊎ IsCacheable s b page e)

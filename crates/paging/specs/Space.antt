@@ -1,0 +1,136 @@
+-- What the guest's memory stands for within one step.
+use Rattle.std.specs.Prelude.{◌≡◌, ℕ, ◌+◌, ◌*◌, ◌/◌, ◌%◌, ◌<◌, ◌≤◌, ◌^◌, List, Bool, true, Option, Some, None}
+use Rattle.std.specs.FinMap.{FinMap, get}
+use Rattle.std.specs.Ordering.{nat_cmp}
+use Rattle.guest_ram.specs.Bytes as bytes
+use Rattle.ia32_types.specs.declared.size.Size.{Size}
+use Rattle.ia32_types.specs.declared.size.Size.TheVariants.{Byte, Word, Long}
+use Rattle.paging.specs.declared.entry.Entry.{Entry}
+use Rattle.paging.specs.declared.entry.Touch.{Touch}
+use Rattle.paging.specs.declared.entry.Touch.TheVariants.{Ready, Fault, Stop}
+
+-- The physical bytes of the instruction of this step, as far as they were read: those in its first page and those
+-- in its second. Each piece is a place and a length.
+pub record Own : Type 0 where
+  pub front : ℕ
+  pub front_len : ℕ
+  pub back : ℕ
+  pub back_len : ℕ
+
+-- Whose rules hold: the bare machine's, or those of a monitor that keeps the frames of the text, `count` of them
+-- from `text` on, with the instruction's own bytes.
+pub data Mode : Type 0 where
+  Bare : Mode
+  Wedge : (text count : ℕ) (own : Own) → Mode
+
+-- a range that was translated
+pub record Span : Type 0 where
+  pub start : ℕ
+  pub len : ℕ
+  pub write : Bool
+
+-- a range that was translated before the last, with the translations that held then
+pub record Earlier : Type 0 where
+  pub start : ℕ
+  pub len : ℕ
+  pub set : FinMap nat_cmp Entry
+
+pub record Space : Type 0 where
+  -- all bytes, of which the first 4,096 * frames are the guest's
+  pub ram : List ℕ
+  pub frames : ℕ
+  -- the cached translations, by page
+  pub set : FinMap nat_cmp Entry
+  pub cr3 : ℕ
+  pub wp : Bool
+  pub mode : Mode
+  -- through how many pages this step went, and through which, in their order
+  pub pages : ℕ
+  pub went : List ℕ
+  -- what the last touch made ready
+  pub ready : Span
+  -- what the touch before it made ready
+  pub earlier : Earlier
+
+abbrev pub width : Size → ℕ
+width Byte = 1
+width Word = 2
+width Long = 4
+
+-- a number of that size
+abbrev pub FitsSize : Size → ℕ → Type 0
+FitsSize Byte v = v < 256
+FitsSize Word v = v < 65536
+FitsSize Long v = v < 2 ^ 32
+
+-- the range lies in what was made ready
+pub record IsReady (s : Space) (at : ℕ) (size : Size) : Type 0 where
+  pub above : s.ready.start ≤ at
+  pub below : at + width size ≤ s.ready.start + s.ready.len
+
+pub record IsWritable (s : Space) (at : ℕ) (size : Size) : Type 0 where
+  pub above : s.ready.start ≤ at
+  pub below : at + width size ≤ s.ready.start + s.ready.len
+  pub write : s.ready.write ≡ true
+
+-- this range is what was made ready
+pub record IsReach (s : Space) (at len : ℕ) (write : Bool) : Type 0 where
+  pub range : s.ready ≡ record { start = at; len = len; write = write }
+  pub fits : at + len ≤ 2 ^ 32
+
+-- the range lies in what the touch before the last made ready
+pub record IsReadyEarlier (s : Space) (at : ℕ) (size : Size) : Type 0 where
+  pub above : s.earlier.start ≤ at
+  pub below : at + width size ≤ s.earlier.start + s.earlier.len
+
+-- what was ready is what was ready earlier, once the next touch begins
+abbrev pub earlier_of : Space → Earlier
+earlier_of s = record { start = s.ready.start; len = s.ready.len; set = s.set }
+
+-- memory seen through the translations that held earlier
+abbrev pub as_earlier : Space → Space
+as_earlier s = record s { set = s.earlier.set }
+
+-- what a touch of this range makes ready, where it is ready
+abbrev pub Readied : Space → ℕ → ℕ → Bool → Touch → Type 0
+Readied s at len write Ready = IsReach s at len write
+Readied s at len write (Fault code cr2) = Unit {0}
+Readied s at len write (Stop stop) = Unit {0}
+
+-- the physical place of an address, by the entry of its page
+abbrev pub place_by : Option Entry → ℕ → ℕ
+place_by None at = 0
+place_by (Some entry) at = entry.frame * 4096 + at % 4096
+
+unfoldable pub place : Space → ℕ → ℕ
+place s at = place_by (get s.set (at / 4096)) at
+
+unfoldable pub byte_at : Space → ℕ → ℕ
+byte_at s at = bytes.byte s.ram (place s at)
+
+-- the number at an address, each byte through the entry of its page
+unfoldable pub loaded : Space → ℕ → Size → ℕ
+loaded s at Byte = byte_at s at
+loaded s at Word = byte_at s at + 256 * byte_at s (at + 1)
+loaded s at Long = (byte_at s at + 256 * byte_at s (at + 1)) + 65536 * (byte_at s (at + 2) + 256 * byte_at s (at + 3))
+
+-- the same in the range that was made ready earlier, through the translations that it had then
+abbrev pub loaded_earlier : Space → ℕ → Size → ℕ
+loaded_earlier s at size = loaded (as_earlier s) at size
+
+abbrev pub with_ram : Space → List ℕ → Space
+with_ram s ram = record s { ram = ram }
+
+-- memory with one byte changed
+unfoldable pub with_byte : Space → List ℕ → ℕ → ℕ → List ℕ
+with_byte s ram at v = bytes.with_byte ram (place s at) v
+
+unfoldable pub written : Space → ℕ → Size → ℕ → List ℕ
+written s at Byte v = with_byte s s.ram at (v % 256)
+written s at Word v = with_byte s (with_byte s s.ram at (v % 256)) (at + 1) (v / 256 % 256)
+written s at Long v =
+    with_byte s (with_byte s (with_byte s (with_byte s s.ram at (v % 256)) (at + 1) (v / 256 % 256)) (at + 2) (v / 65536 % 256)) (at + 3) (v / 16777216)
+
+-- a write changes bytes of memory and nothing else
+abbrev pub saved : Space → ℕ → Size → ℕ → Space
+saved s at size v = with_ram s (written s at size v)

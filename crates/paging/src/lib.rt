@@ -1,0 +1,12 @@
+//! Translation of linear addresses, and the memory that a step reaches through it.
+#![tactic(auto)]
+
+mod entry;
+mod memory;
+mod modes;
+mod walking;
+
+pub use entry::{Access, Entry, Touch, Walk};
+pub use memory::GuestMem;
+pub use modes::{fetches_agree, uses_agree};
+pub use walking::{allows, grants, set_flags, walk};

@@ -1,0 +1,76 @@
+-- The two controllers of the board, master and slave (Intel 8259A data sheet: cascade mode).
+use Rattle.std.specs.Prelude.{ℕ, ◌+◌, ◌-◌, Bool, true, false, ◌==◌, ◌||◌, nat_lt, Option, Some, None, is_some, if◌then◌else◌}
+use Rattle.std.specs.Option.{option_map}
+use Rattle.ia32_types.specs.declared.stop.Did.{Did}
+use Rattle.ia32_types.specs.declared.stop.Did.TheVariants.{Done, Stop}
+use Rattle.pic8259.specs.declared.chip.Chip.{Chip}
+use Rattle.pic8259.specs.declared.pair.Pair.{Pair}
+use Rattle.pic8259.specs.Chips.{even_written, odd_written, even_read_of, with_request, raised, after_raised}
+
+-- profile: the master's request 2 is set exactly while the slave has something to raise
+unfoldable pub joined : Chip → Chip → Pair
+joined master slave = record { master = with_request master 2 (is_some (raised slave)); slave = slave }
+
+abbrev pub is_port : ℕ → Bool
+is_port port = port == 0x20 || port == 0x21 || port == 0xA0 || port == 0xA1
+
+-- ICW3: the master has the slave at line 2, and the slave is at line 2
+abbrev pub master_cascade : ℕ
+master_cascade = 4
+
+abbrev pub slave_cascade : ℕ
+slave_cascade = 2
+
+-- a byte that isn't served changes nothing
+abbrev pub of_master : Pair → Option Chip → Did × Pair
+of_master pair None = (Stop, pair)
+of_master pair (Some chip) = (Done, joined chip pair.slave)
+
+abbrev pub of_slave : Pair → Option Chip → Did × Pair
+of_slave pair None = (Stop, pair)
+of_slave pair (Some chip) = (Done, joined pair.master chip)
+
+-- a write to a port: one that isn't the controllers' is ignored
+unfoldable pub written : Pair → ℕ → ℕ → Did × Pair
+written pair port v =
+    if port == 0x20 then of_master pair (even_written pair.master v)
+    else if port == 0x21 then of_master pair (odd_written pair.master master_cascade v)
+    else if port == 0xA0 then of_slave pair (even_written pair.slave v)
+    else if port == 0xA1 then of_slave pair (odd_written pair.slave slave_cascade v)
+    else (Done, pair)
+
+-- a read of a port: one that isn't the controllers' reads all ones
+unfoldable pub read_at : Pair → ℕ → ℕ
+read_at pair port =
+    if port == 0x20 then even_read_of pair.master.selected pair.master
+    else if port == 0x21 then pair.master.mask
+    else if port == 0xA0 then even_read_of pair.slave.selected pair.slave
+    else if port == 0xA1 then pair.slave.mask
+    else 0xFF
+
+-- a rising edge at a line: those from 8 on are the slave's
+unfoldable pub with_edge : Pair → ℕ → Pair
+with_edge pair line =
+    if nat_lt line 8 then joined (with_request pair.master line true) pair.slave
+    else joined pair.master (with_request pair.slave (line - 8) true)
+
+-- what the master's level means: level 2 stands for the slave's
+abbrev pub vector_at : Pair → Option ℕ → Option ℕ
+vector_at pair None = None
+vector_at pair (Some level) =
+    if level == 2 then option_map (λ l. pair.slave.base + l) (raised pair.slave) else Some (pair.master.base + level)
+
+-- the vector that would be delivered
+unfoldable pub vector : Pair → Option ℕ
+vector pair = vector_at pair (raised pair.master)
+
+-- the master's level stands for the slave's
+abbrev pub is_cascade : Option ℕ → Bool
+is_cascade None = false
+is_cascade (Some level) = level == 2
+
+-- after an acknowledgement: the request has moved into service, in both chips for a slave's line
+unfoldable pub acknowledged : Pair → Pair
+acknowledged pair =
+    joined (after_raised pair.master (raised pair.master))
+    (if is_cascade (raised pair.master) then after_raised pair.slave (raised pair.slave) else pair.slave)

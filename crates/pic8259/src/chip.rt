@@ -1,0 +1,173 @@
+ghost use Rattle.std.specs.Prelude.{◌≡◌, ◌<◌, IfSome};
+ghost use Rattle.pic8259.specs.Chips.{unstarted, started, ended_at, even_written, odd_written, even_read_of, with_request, raised, served, after_raised};
+ghost use Rattle.pic8259.specs.Writes.{ChipWritten};
+ghost use Rattle.pic8259.specs.Requests.{IsChip};
+
+use crate::level::{highest, unblocked};
+use crate::phase::Phase;
+use ia32_types::{Did, with_bit};
+
+/// Which register a read of the even port gives.
+#[derive(Clone, Copy, Debug, PartialEq, Eq)]
+pub enum Selected {
+    Requests,
+    Service,
+}
+
+/// One controller. In the three registers bit n stands for level n.
+#[derive(Clone, Copy, Debug, PartialEq, Eq)]
+pub struct Chip {
+    pub phase: Phase,
+    /// It was ready at some time, and raises requests since then.
+    pub once_ready: bool,
+    pub requests: u8,
+    pub service: u8,
+    pub mask: u8,
+    /// The vector of level 0.
+    pub base: u8,
+    pub selected: Selected,
+}
+
+impl Chip {
+    /// A controller before its first start.
+    pub(crate) fn new() -> Chip
+        ensures { result ≡ unstarted }
+    {
+        Chip {
+            phase: Phase::Never,
+            once_ready: false,
+            requests: 0,
+            service: 0,
+            mask: 0xFF,
+            base: 0,
+            selected: Selected::Requests,
+        }
+    }
+
+    fn start(&mut self)
+        ensures { self.new ≡ started self.old }
+    {
+        self.phase = Phase::AwaitsBase;
+        self.requests = 0;
+        self.service = 0;
+        self.mask = 0;
+        self.selected = Selected::Requests;
+    }
+
+    fn end(&mut self, level: Option<u8>)
+        requires { IfSome level (λ l. l < 8) }
+        ensures { self.new ≡ ended_at self.old level }
+    {
+        if let Some(level) = level {
+            self.service = with_bit(self.service, level, false);
+        }
+    }
+
+    /// A byte at the even port.
+    #[tactic(auto, unfolding(crate::specs::Chips::even_written))]
+    pub(crate) fn write_even(&mut self, v: u8) -> Did
+        requires { IsChip self.old }
+        ensures written { ChipWritten self.old (even_written self.old v) result self.new }
+        ensures chip { IsChip self.new }
+    {
+        match v {
+            0x11 => {
+                self.start();
+                Did::Done
+            }
+            0x20 => {
+                self.end(highest(self.service));
+                Did::Done
+            }
+            0x60..=0x67 => {
+                self.end(Some(v - 0x60));
+                Did::Done
+            }
+            0x0A => {
+                self.selected = Selected::Requests;
+                Did::Done
+            }
+            0x0B => {
+                self.selected = Selected::Service;
+                Did::Done
+            }
+            _ => Did::Stop,
+        }
+    }
+
+    /// A byte at the odd port.
+    #[tactic(auto, unfolding(crate::specs::Chips::odd_written))]
+    pub(crate) fn write_odd(&mut self, cascade: u8, v: u8) -> Did
+        requires { IsChip self.old }
+        ensures written { ChipWritten self.old (odd_written self.old cascade v) result self.new }
+        ensures chip { IsChip self.new }
+    {
+        match self.phase {
+            Phase::Never | Phase::Ready => self.mask = v,
+            Phase::AwaitsBase => {
+                self.base = v - v % 8;
+                self.phase = Phase::AwaitsCascade;
+            }
+            Phase::AwaitsCascade => {
+                if v != cascade {
+                    return Did::Stop;
+                }
+                self.phase = Phase::AwaitsMode;
+            }
+            Phase::AwaitsMode => {
+                if v != 1 {
+                    return Did::Stop;
+                }
+                self.phase = Phase::Ready;
+                self.once_ready = true;
+            }
+        }
+        Did::Done
+    }
+
+    /// What the even port reads.
+    pub(crate) fn read_even(&self) -> u8
+        ensures { result ≡ even_read_of self.now.selected self.now }
+    {
+        match self.selected {
+            Selected::Requests => self.requests,
+            Selected::Service => self.service,
+        }
+    }
+
+    /// Makes a level's request or takes it back.
+    #[tactic(auto, unfolding(crate::specs::Chips::with_request))]
+    pub(crate) fn set_request(&mut self, level: u8, on: bool)
+        requires level { level < 8 }
+        requires chip { IsChip self.old }
+        ensures request { self.new ≡ with_request self.old level on }
+        ensures chip { IsChip self.new }
+    {
+        self.requests = with_bit(self.requests, level, on);
+    }
+
+    /// The level that the controller raises.
+    #[tactic(auto, unfolding(crate::specs::Chips::raised))]
+    pub(crate) fn raised(&self) -> Option<u8>
+        ensures value { result ≡ raised self.now }
+        ensures level { IfSome result (λ l. l < 8) }
+    {
+        if !self.once_ready {
+            return None;
+        }
+        unblocked(highest(self.requests & !self.mask), highest(self.service))
+    }
+
+    /// Moves the request that is raised, if any, into service.
+    #[tactic(auto, unfolding(crate::specs::Chips::served))]
+    pub(crate) fn acknowledge(&mut self)
+        requires { IsChip self.old }
+        ensures served { self.new ≡ after_raised self.old (raised self.old) }
+        ensures chip { IsChip self.new }
+    {
+        if let Some(level) = self.raised() {
+            self.requests = with_bit(self.requests, level, false);
+            self.service = with_bit(self.service, level, true);
+        }
+    }
+}

@@ -1,0 +1,19 @@
+//! Files and a sink, as the program sees them, with counts of their faults.
+#![tactic(auto)]
+
+mod answer;
+mod disk;
+mod files;
+mod memory;
+mod memory_sinks;
+mod sink;
+
+pub use answer::{Failed, IoAnswer};
+pub use disk::{DiskFiles, StdSink};
+pub use files::Files;
+pub use memory::{MemFiles, SureFiles};
+pub use memory_sinks::{MemSink, SureSink};
+pub use sink::Sink;
+
+#[cfg(test)]
+mod tests;

@@ -1,0 +1,6 @@
+pub mod Slots
+pub mod Entries
+pub mod Host
+pub mod Laws
+pub mod Steps
+pub mod Calls

@@ -1,0 +1,15 @@
+//! Shadow tables.
+#![tactic(auto)]
+
+mod calls;
+mod shadow;
+mod shadows;
+mod words;
+
+pub use calls::{Call, replay};
+pub use shadow::Shadow;
+pub use shadows::Shadows;
+pub use words::Side;
+
+#[cfg(test)]
+mod tests;

@@ -1,0 +1,140 @@
+//! The views of a kernel and of a user.
+
+ghost use Rattle.std.specs.Prelude.{◌≡◌, ◌≢◌, ℕ, ◌+◌, ◌*◌, ◌≤◌, ◌<◌, ◌^◌, length, Some, None, []};
+ghost use Rattle.frame_pool.specs.Pool.{free_list, Stands, Takes};
+ghost use Rattle.frame_pool.specs.declared.Pool.{Pool};
+ghost use Rattle.frame_pool.specs.Held.{Owns, Writes, Moves};
+ghost use Rattle.std.specs.FinMap.{get, insert, remove};
+ghost use Rattle.std.specs.FinMap.{empty as no_entries};
+ghost use Rattle.shadow_tables.specs.Entries.{entries_of};
+ghost use Rattle.shadow_tables.specs.Host.{reached, lent};
+ghost use Rattle.shadow_tables.specs.Slots.{filled, held, slot_at, IsShadow, Becomes, entry_in, is_adequate, root_of, IsEmpty};
+
+use crate::words::{Side, entry_of, lets, word_of};
+use frame_pool::Pool;
+use guest_ram::Ram;
+use paging::Entry;
+use shadow_views::{clear, empty, look, open, set};
+
+/// The roots of both views.
+#[derive(Drop)]
+pub struct Shadow {
+    kernel: u32,
+    user: u32,
+}
+
+/// The first free frame.
+fn taken(ram: &mut Ram, pool: &mut Pool) -> u32
+    requires stands { Stands pool.old ram.old }
+    requires free { 1 ≤ length (free_list pool.old ram.old) }
+    ensures { Takes pool.old pool.new ram.old ram.new result }
+{
+    match pool.take(ram) {
+        Some(frame) => frame,
+        None => 0,
+    }
+}
+
+impl Shadow {
+    /// Views that keep nothing.
+    pub fn new(ram: &mut Ram, pool: &mut Pool) -> Shadow
+        requires stands { Stands pool.old ram.old }
+        requires free { 2 ≤ length (free_list pool.old ram.old) }
+        ensures empty { IsEmpty result ram.new }
+        ensures entries { entries_of (slot_at result ram.new) ≡ no_entries }
+        ensures owns { Owns pool.new ram.new (held result ram.new) }
+        ensures moves { Moves pool.old pool.new ram.old ram.new [] (held result ram.new) }
+    {
+        let kernel = taken(ram, pool);
+        let user = taken(ram, pool);
+        Shadow { kernel, user }
+    }
+
+    /// Drops all pages, and gives the tables back.
+    pub fn drop_all(&mut self, ram: &mut Ram, pool: &mut Pool)
+        requires shadow { IsShadow self.old ram.old }
+        requires owns { Owns pool.old ram.old (held self.old ram.old) }
+        ensures same { self.new ≡ self.old }
+        ensures empty { IsEmpty self.old ram.new }
+        ensures entries { entries_of (slot_at self.old ram.new) ≡ no_entries }
+        ensures owns { Owns pool.new ram.new (held self.old ram.new) }
+        ensures moves { Moves pool.old pool.new ram.old ram.new (held self.old ram.old) (held self.old ram.new) }
+    {
+        empty(ram, pool, self.kernel);
+        empty(ram, pool, self.user);
+    }
+
+    /// The root of a view.
+    pub fn root(&self, side: Side) -> u32
+        ensures { result ≡ root_of self.now side }
+    {
+        match side {
+            Side::Kernel => self.kernel,
+            Side::User => self.user,
+        }
+    }
+
+    /// The entry that either view holds.
+    pub fn kept(&self, ram: &Ram, page: u32) -> Option<Entry>
+        requires shadow { IsShadow self.now ram.now }
+        requires page { page < 2 ^ 20 }
+        ensures kept { result ≡ entry_in (slot_at self.now ram.now page) }
+        ensures entries { result ≡ get (entries_of (slot_at self.now ram.now)) page }
+    {
+        let kernel = look(ram, self.kernel, page);
+        if kernel != 0 {
+            return Some(entry_of(page, kernel));
+        }
+        let user = look(ram, self.user, page);
+        if user != 0 {
+            return Some(entry_of(page, user));
+        }
+        None
+    }
+
+    /// The host may do the access in that view.
+    pub fn adequate(&self, ram: &Ram, side: Side, page: u32, write: bool) -> bool
+        requires shadow { IsShadow self.now ram.now }
+        requires page { page < 2 ^ 20 }
+        ensures adequate { result ≡ is_adequate (slot_at self.now ram.now page) side write }
+        ensures host { (frames : ℕ) → 4096 * frames ≡ length ram.now → reached ram.now frames (root_of self.now side) page write ≡ lent frames (slot_at self.now ram.now page) side write }
+    {
+        let word = look(ram, self.root(side), page);
+        lets(word, write)
+    }
+
+    /// Drops the page in both views.
+    pub fn drop_page(&mut self, ram: &mut Ram, page: u32)
+        requires shadow { IsShadow self.old ram.old }
+        requires page { page < 2 ^ 20 }
+        ensures same { self.new ≡ self.old }
+        ensures becomes { Becomes self.old ram.old ram.new page None }
+        ensures entries { entries_of (slot_at self.old ram.new) ≡ remove (entries_of (slot_at self.old ram.old)) page }
+        ensures held { held self.old ram.new ≡ held self.old ram.old }
+        ensures memory { Writes (held self.old ram.old) ram.old ram.new }
+        ensures moves { (p : Pool) → Owns p ram.old (held self.old ram.old) → Moves p p ram.old ram.new (held self.old ram.old) (held self.old ram.new) }
+    {
+        clear(ram, self.kernel, page);
+        clear(ram, self.user, page);
+    }
+
+    /// Drops the page in both views, and then holds it in one, with the rights that its entry gives there.
+    pub fn fill(&mut self, ram: &mut Ram, pool: &mut Pool, side: Side, entry: Entry, wp: bool)
+        requires shadow { IsShadow self.old ram.old }
+        requires owns { Owns pool.old ram.old (held self.old ram.old) }
+        requires free { 1 ≤ length (free_list pool.old ram.old) }
+        requires page { entry.page < 2 ^ 20 }
+        requires frame { entry.frame < 2 ^ 20 }
+        ensures same { self.new ≡ self.old }
+        ensures becomes { Becomes self.old ram.old ram.new entry.page (Some (filled [] side entry wp)) }
+        ensures entries { entries_of (slot_at self.old ram.new) ≡ insert (entries_of (slot_at self.old ram.old)) entry.page entry }
+        ensures one { length (free_list pool.old ram.old) ≤ length (free_list pool.new ram.new) + 1 }
+        ensures owns { Owns pool.new ram.new (held self.old ram.new) }
+        ensures moves { Moves pool.old pool.new ram.old ram.new (held self.old ram.old) (held self.old ram.new) }
+    {
+        self.drop_page(ram, entry.page);
+        let root = self.root(side);
+        open(ram, pool, root, entry.page / 1024);
+        set(ram, root, entry.page, word_of(side, &entry, wp));
+    }
+}

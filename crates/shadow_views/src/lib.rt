@@ -1,0 +1,101 @@
+//! Views of a guest's memory that a host walks: directories and tables in frames of a pool.
+#![tactic(auto)]
+
+ghost use Rattle.std.specs.Prelude.{◌≡◌, ◌≢◌, ℕ, ◌+◌, ◌*◌, ◌/◌, ◌^◌, ◌<◌, ◌≤◌, List, length};
+ghost use Rattle.frame_pool.specs.Pool.{free_list, Stands};
+ghost use Rattle.frame_pool.specs.Held.{Holds, Owns};
+ghost use Rattle.shadow_views.specs.Tables.{dir, at, owned, IsIn, IsView, IsOwned, Puts, Opens, Closes, Empties};
+
+use frame_pool::Pool;
+use guest_ram::{FRAME, Ram};
+
+/// A directory word.
+#[tactic(auto, unfolding(crate::specs::Tables::dir))]
+fn dir(ram: &Ram, root: u32, d: u32) -> u32
+    requires view { IsView ram.now root }
+    requires index { d < 1024 }
+    ensures { result ≡ dir ram.now root d }
+{
+    let _bytes = ram.len();
+    ram.read32(FRAME * root + 4 * d)
+}
+
+/// The word of a page, or 0 where there is no table.
+pub fn look(ram: &Ram, root: u32, page: u32) -> u32
+    requires view { IsView ram.now root }
+    requires page { page < 2 ^ 20 }
+    ensures { result ≡ at ram.now root page }
+{
+    let _bytes = ram.len();
+    let word = dir(ram, root, page / 1024);
+    if word == 0 {
+        return 0;
+    }
+    ram.read32(FRAME * (word / 4096) + 4 * (page % 1024))
+}
+
+/// Changes the word of a page whose table is there.
+pub fn set(ram: &mut Ram, root: u32, page: u32, v: u32)
+    requires view { IsView ram.old root }
+    requires page { page < 2 ^ 20 }
+    requires some { dir ram.old root (page / 1024) ≢ 0 }
+    ensures puts { (rs : List ℕ) → Holds ram.old (owned ram.old rs) → IsIn root rs → Puts ram.old ram.new rs root page v }
+{
+    let _bytes = ram.len();
+    let word = dir(ram, root, page / 1024);
+    ram.write32(FRAME * (word / 4096) + 4 * (page % 1024), v);
+}
+
+/// Makes the word of a page 0.
+pub fn clear(ram: &mut Ram, root: u32, page: u32)
+    requires view { IsView ram.old root }
+    requires page { page < 2 ^ 20 }
+    ensures puts { (rs : List ℕ) → Holds ram.old (owned ram.old rs) → IsIn root rs → Puts ram.old ram.new rs root page 0 }
+{
+    if dir(ram, root, page / 1024) != 0 {
+        set(ram, root, page, 0);
+    }
+}
+
+/// Takes a frame for the table of a directory word, where none is there.
+pub fn open(ram: &mut Ram, pool: &mut Pool, root: u32, d: u32)
+    requires view { IsView ram.old root }
+    requires index { d < 1024 }
+    requires stands { Stands pool.old ram.old }
+    requires free { 1 ≤ length (free_list pool.old ram.old) }
+    ensures opens { (rs : List ℕ) → Owns pool.old ram.old (owned ram.old rs) → IsIn root rs → Opens pool.old pool.new ram.old ram.new rs root d }
+{
+    let _bytes = ram.len();
+    if dir(ram, root, d) != 0 {
+        return;
+    }
+    if let Some(frame) = pool.take(ram) {
+        ram.write32(FRAME * root + 4 * d, FRAME * frame + 7);
+    }
+}
+
+/// Gives the table of a directory word back, where there is one.
+pub fn close(ram: &mut Ram, pool: &mut Pool, root: u32, d: u32)
+    requires view { IsView ram.old root }
+    requires owned { IsOwned pool.old ram.old root }
+    requires index { d < 1024 }
+    ensures closes { (rs : List ℕ) → Owns pool.old ram.old (owned ram.old rs) → IsIn root rs → Closes pool.old pool.new ram.old ram.new rs root d }
+{
+    let _bytes = ram.len();
+    let word = dir(ram, root, d);
+    if word == 0 {
+        return;
+    }
+    ram.write32(FRAME * root + 4 * d, 0);
+    pool.give(ram, word / 4096);
+}
+
+/// Gives all tables of a view back.
+pub fn empty(ram: &mut Ram, pool: &mut Pool, root: u32)
+    requires { IsOwned pool.old ram.old root }
+    ensures empties { (rs : List ℕ) → Owns pool.old ram.old (owned ram.old rs) → IsIn root rs → Empties pool.old pool.new ram.old ram.new rs root 1024 }
+{
+    for d in 0..1024 {
+        close(ram, pool, root, d);
+    }
+}

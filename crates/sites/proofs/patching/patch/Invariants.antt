@@ -1,0 +1,10 @@
+use Rattle.std.proofs.Common.{◌≡◌, drop, length}
+use Rattle.sites.specs.Patched.{patched, AreInside}
+use Rattle.sites.proofs.patching.patch.Given as goal
+
+abbrev pub invariant-loop-s : goal.invariant-loop-s
+invariant-loop-s l = record {
+  memory : patched l.ram l.text_at (drop l.s-index l.sites.list) ≡ patched l.fn.ram l.text_at l.sites.list;
+  len : length l.ram ≡ length l.fn.ram;
+  inside : AreInside (length l.fn.ram) l.text_at (drop l.s-index l.sites.list);
+}

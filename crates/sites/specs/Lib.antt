@@ -1,0 +1,5 @@
+pub mod SitesParts
+pub mod Kinds
+pub mod Spelling
+pub mod Reading
+pub mod Patched

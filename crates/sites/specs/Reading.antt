@@ -1,0 +1,81 @@
+-- What is read of a list of sites, or the first bad byte.
+use Rattle.std.specs.Prelude.{◌≡◌, ℕ, zero, suc, ◌+◌, max, Bool, not, ◌&&◌, List, [], ◌∷◌, length, Option, Some, None, Result, Ok, Err, is_none, unwrap_or, nat_lt, ◌==◌, if◌then◌else◌}
+use Rattle.guest_ram.specs.Bytes.{byte, word32}
+use Rattle.sites.specs.declared.site.Site.{Site}
+use Rattle.sites.specs.declared.site.SitesFault.{SitesFault}
+use Rattle.sites.specs.declared.site.SitesFault.TheVariants as faults
+use Rattle.ia32_types.specs.declared.site.SiteKind.TheVariants.{Cli}
+use Rattle.sites.specs.SitesParts.{SitesParts}
+use Rattle.sites.specs.Kinds.{kind_of}
+
+abbrev pub bad : Bool → ℕ → Option ℕ
+bad is_bad at = if is_bad then Some at else None
+
+infixr 12 ◌or_else◌
+abbrev pub ◌or_else◌ : Option ℕ → Option ℕ → Option ℕ
+(Some at) or_else later = Some at
+None or_else later = later
+
+-- a byte that is there, and isn't v
+abbrev pub differs : List ℕ → ℕ → ℕ → Bool
+differs bytes at v = nat_lt at (length bytes) && not (byte bytes at == v)
+
+-- the bytes end before a place
+abbrev pub cut_before : List ℕ → ℕ → Option ℕ
+cut_before bytes end = bad (nat_lt (length bytes) end) (length bytes)
+
+-- The first bad byte of the eight at the front: "PVS1", and a count.
+unfoldable pub head_fault : List ℕ → Option ℕ
+head_fault bytes =
+    bad (differs bytes 0 80) 0
+    or_else (bad (differs bytes 1 86) 1
+    or_else (bad (differs bytes 2 83) 2
+    or_else (bad (differs bytes 3 49) 3
+    or_else cut_before bytes 8)))
+
+-- the bad byte of each field of the site at a, whose offset is to be least or more
+abbrev pub falls : List ℕ → ℕ → ℕ → Bool
+falls bytes least a = not (nat_lt (length bytes) (a + 4)) && nat_lt (word32 bytes a) least
+
+abbrev pub has_no_kind : List ℕ → ℕ → Bool
+has_no_kind bytes a = nat_lt (a + 4) (length bytes) && is_none (kind_of (byte bytes (a + 4)))
+
+abbrev pub has_wrong_total : List ℕ → ℕ → Bool
+has_wrong_total bytes a = differs bytes (a + 6) (max 5 (byte bytes (a + 5)))
+
+-- The first bad byte of the site at a.
+unfoldable pub site_fault : List ℕ → ℕ → ℕ → Option ℕ
+site_fault bytes least a =
+    bad (falls bytes least a) a
+    or_else (bad (has_no_kind bytes a) (a + 4)
+    or_else (bad (has_wrong_total bytes a) (a + 6)
+    or_else (bad (differs bytes (a + 7) 0) (a + 7)
+    or_else cut_before bytes (a + 8))))
+
+-- the first bad byte of n sites from a on, with which the bytes end
+unfoldable pub sites_fault : List ℕ → ℕ → ℕ → ℕ → Option ℕ
+sites_fault bytes least zero a = bad (nat_lt a (length bytes)) a
+sites_fault bytes least (suc n) a = site_fault bytes least a or_else sites_fault bytes (word32 bytes a + 1) n (a + 8)
+
+unfoldable pub site_at : List ℕ → ℕ → Site
+site_at bytes a = record { at = word32 bytes a; kind = unwrap_or (kind_of (byte bytes (a + 4))) Cli; len = byte bytes (a + 5); total = byte bytes (a + 6) }
+
+unfoldable pub sites_at : List ℕ → ℕ → ℕ → List Site
+sites_at bytes zero a = []
+sites_at bytes (suc n) a = site_at bytes a ∷ sites_at bytes n (a + 8)
+
+abbrev pub unless : Option ℕ → List Site → Result (List Site) ℕ
+unless None sites = Ok sites
+unless (Some at) sites = Err at
+
+unfoldable pub sites_in : List ℕ → Result (List Site) ℕ
+sites_in bytes = unless (head_fault bytes or_else sites_fault bytes 0 (word32 bytes 4) 8) (sites_at bytes (word32 bytes 4) 8)
+
+-- What `read_sites` returned is what reading gives, unless memory ran out.
+abbrev pub Fails : SitesFault → Result (List Site) ℕ → Type 0
+Fails faults.Memory read = Unit {0}
+Fails (faults.Form at) read = read ≡ Err at
+
+abbrev pub Gives : Result SitesParts SitesFault → Result (List Site) ℕ → Type 0
+Gives (Ok sites) read = read ≡ Ok sites.list
+Gives (Err e) read = Fails e read

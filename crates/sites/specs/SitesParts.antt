@@ -1,0 +1,6 @@
+-- A list of sites as contracts see it: the record of its field.
+use Rattle.std.specs.Prelude.{List}
+use Rattle.sites.specs.declared.site.Site.{Site}
+
+pub record SitesParts : Type 0 where
+  pub list : List Site

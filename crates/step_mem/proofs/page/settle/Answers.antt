@@ -1,0 +1,49 @@
+use Rattle.std.proofs.Common.{◌≡◌, ap, ◌∙◌, ◌*◌, subst, sym, IsSome}
+use Rattle.std.specs.FinMap.{get}
+use Rattle.paging.specs.Uses.{with_entry, settled}
+use Rattle.step_mem.specs.Changes.{changed, AreWithin, page_of, entry_of}
+use Rattle.step_mem.specs.Space.{space_of}
+use Rattle.step_mem.proofs.Changed.{changed_push, get_with_same, get_with_other, Within_with}
+use Rattle.step_mem.proofs.page.settle.Goals as goal
+use Rattle.step_mem.proofs.page.settle.Given.{Over}
+
+-- the set afterwards
+after : (g : Over) (c : goal.After-push g) → changed (g.B.Kept.entries c.args.base.now c.decide-met.new.ram) c.push.new.self ≡ with_entry (changed (g.B.Kept.entries c.args.base.now c.args.ram.now) c.args.changes.now) c.args.page c.decide-met.result.1
+after g c =
+    let kept = g.B.Kept.entries c.args.base.now in
+    let page = c.args.page in
+    let entry = c.decide-met.result.1 in
+    let change = c.change_of.result in
+    ap (changed (kept c.decide-met.new.ram)) c.push.ensures
+    ∙ changed_push (kept c.decide-met.new.ram) c.args.changes.now change
+    ∙ ap (λ set. with_entry (changed set c.args.changes.now) (page_of change) (entry_of change))
+    (g.met.B.Kept.apart c.args.base.now (4096 * c.args.control.frames) c.args.ram.now c.decide-met.new.ram c.requires.apart c.decide-met.ensures.above)
+    ∙ ap (λ p. with_entry (changed (kept c.args.ram.now) c.args.changes.now) p (entry_of change)) c.change_of.ensures.page
+    ∙ ap (with_entry (changed (kept c.args.ram.now) c.args.changes.now) page) c.change_of.ensures.entry
+
+pub returns-clause-settled : goal.returns-clause-settled
+returns-clause-settled g c = λ rest.
+    let s = space_of (g.B.Kept.entries c.args.base.now) c.args.ram.now c.args.control c.args.guard.now c.args.changes.now rest in
+    ap (settled s c.args.page) c.decide-met.ensures.decided
+    ∙ ap (λ set. (c.decide-met.result.0, record s { ram = c.decide-met.new.ram; set = set })) (sym (after g c))
+
+pub returns-clause-within : goal.returns-clause-within
+returns-clause-within g c =
+    subst (AreWithin c.args.control.frames) (sym (after g c))
+    (Within_with c.args.control.frames (changed (g.B.Kept.entries c.args.base.now c.args.ram.now) c.args.changes.now) c.args.page c.decide-met.result.1 c.requires.within c.decide-met.ensures.found)
+
+pub returns-clause-found : goal.returns-clause-found
+returns-clause-found g c = λ ready.
+    subst IsSome (sym (ap (λ set. get set c.args.page) (after g c) ∙ get_with_same _ c.args.page c.decide-met.result.1)) (c.decide-met.ensures.ready ready)
+
+pub returns-clause-others : goal.returns-clause-others
+returns-clause-others g c = λ other n.
+    ap (λ set. get set other) (after g c) ∙ get_with_other _ c.args.page c.decide-met.result.1 other n
+
+pub returns-clause-stands : goal.returns-clause-stands
+returns-clause-stands g c =
+    g.met.B.Kept.stays c.args.base.now (4096 * c.args.control.frames) c.args.ram.now c.decide-met.new.ram c.requires.apart c.decide-met.ensures.above c.decide-met.ensures.length c.requires.stands
+
+pub returns-clause-kept : goal.returns-clause-kept
+returns-clause-kept g c =
+    g.met.B.Kept.apart c.args.base.now (4096 * c.args.control.frames) c.args.ram.now c.decide-met.new.ram c.requires.apart c.decide-met.ensures.above

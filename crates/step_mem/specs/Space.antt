@@ -1,0 +1,45 @@
+-- The meaning of a step's memory, from its parts.
+use Rattle.std.specs.Prelude.{ℕ, ◌+◌, List, [], ◌∷◌, ◌++◌, Option, false}
+use Rattle.std.specs.FinMap.{FinMap}
+use Rattle.std.specs.Ordering.{nat_cmp}
+use Rattle.paging.specs.declared.entry.Entry.{Entry}
+use Rattle.paging.specs.Space.{Space, Span, Earlier}
+use Rattle.step_mem.specs.declared.changes.Change.{Change}
+use Rattle.step_mem.specs.declared.guard.Guard.{Guard}
+use Rattle.step_mem.specs.declared.walking.Control.{Control}
+use Rattle.step_mem.specs.Changes.{changed}
+use Rattle.step_mem.specs.Guard.{mode_of}
+
+-- what isn't used to translate a page
+pub record Rest : Type 0 where
+  pub pages : ℕ
+  pub went : List ℕ
+  pub ready : Span
+  pub earlier : Earlier
+
+abbrev pub space_of : (List ℕ → FinMap nat_cmp Entry) → List ℕ → Control → Option Guard → List Change → Rest → Space
+space_of kept ram control guard changes rest =
+    record {
+      ram = ram;
+      frames = control.frames;
+      set = changed (kept ram) changes;
+      cr3 = control.cr3;
+      wp = control.wp;
+      mode = mode_of guard;
+      pages = rest.pages;
+      went = rest.went;
+      ready = rest.ready;
+      earlier = rest.earlier;
+    }
+
+abbrev pub one_more : Rest → ℕ → Rest
+one_more rest page = record rest { pages = rest.pages + 1; went = rest.went ++ page ∷ [] }
+
+abbrev pub space_at_start : (List ℕ → FinMap nat_cmp Entry) → List ℕ → Control → Option Guard → Space
+space_at_start kept ram control guard =
+    space_of kept ram control guard [] (record {
+      pages = 0;
+      went = [];
+      ready = record { start = 0; len = 0; write = false };
+      earlier = record { start = 0; len = 0; set = kept ram };
+    })

@@ -1,0 +1,99 @@
+//! What a monitor keeps from the guest.
+
+ghost use Rattle.std.specs.Prelude.{◌≡◌, ◌+◌, ◌&&◌, nat_le, nat_lt};
+ghost use Rattle.paging.specs.Uses.{is_text, is_own, is_given, is_barred, window_stop};
+ghost use Rattle.step_mem.specs.Guard.{mode_of};
+
+use ia32_types::Stop;
+use paging::Access;
+
+/// The first page of the text window.
+const TEXT_PAGE: u32 = 0x1_0000;
+
+/// The physical bytes of this step's instruction, as far as they were read: those in its first page and those in its
+/// second, each as a place and a length.
+#[derive(Clone, Copy)]
+pub struct Own {
+    pub front: u32,
+    pub front_len: u32,
+    pub back: u32,
+    pub back_len: u32,
+}
+
+/// The frames that hold text, `count` of them from `text` on, and the instruction's own bytes.
+#[derive(Clone, Copy)]
+pub struct Guard {
+    pub text: u32,
+    pub count: u32,
+    pub own: Own,
+}
+
+/// The frame holds text.
+pub fn is_text(guard: &Option<Guard>, frame: u32) -> bool
+    ensures { result ≡ is_text (mode_of guard.now) frame }
+{
+    match guard {
+        None => false,
+        Some(guard) => frame >= guard.text && frame - guard.text < guard.count,
+    }
+}
+
+/// The byte is one of the instruction's own.
+pub fn is_own(guard: &Option<Guard>, at: u32) -> bool
+    ensures { result ≡ is_own (mode_of guard.now) at }
+{
+    match guard {
+        None => false,
+        Some(guard) => {
+            lies_in(at, guard.own.front, guard.own.front_len)
+                || lies_in(at, guard.own.back, guard.own.back_len)
+        }
+    }
+}
+
+fn lies_in(at: u32, start: u32, len: u32) -> bool
+    ensures { result ≡ nat_le start at && nat_lt at (start + len) }
+{
+    at >= start && at - start < len
+}
+
+/// The page of the text window to which the loader gave this frame.
+fn is_given(guard: &Option<Guard>, page: u32, frame: u32) -> bool
+    ensures { result ≡ is_given (mode_of guard.now) page frame }
+{
+    match guard {
+        None => true,
+        Some(guard) => {
+            page >= TEXT_PAGE
+                && page - TEXT_PAGE < guard.count
+                && frame >= guard.text
+                && frame - guard.text == page - TEXT_PAGE
+        }
+    }
+}
+
+/// What a page may not be translated to, by a fetch or for data.
+pub fn is_barred(guard: &Option<Guard>, fetch: bool, user: bool, page: u32, frame: u32) -> bool
+    ensures { result ≡ is_barred (mode_of guard.now) fetch user page frame }
+{
+    if fetch && !user {
+        return !is_given(guard, page, frame);
+    }
+    is_text(guard, frame)
+}
+
+/// Why a supervisor access may not begin there.
+pub fn window_stop(guard: &Option<Guard>, access: Access, at: u32) -> Option<Stop>
+    ensures { result ≡ window_stop (mode_of guard.now) access at }
+{
+    if guard.is_none() || access.user || at >= 0x1100_0000 {
+        return None;
+    }
+    if at >= 0x1000_0000 {
+        return Some(Stop::TextTouched);
+    }
+    if at >= 0x0400_0000 && at < 0x0600_0000 {
+        return Some(Stop::WedgeTouched);
+    }
+    Some(Stop::LowTouched)
+}

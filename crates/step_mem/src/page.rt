@@ -1,0 +1,114 @@
+//! One page of a range.
+
+ghost use Rattle.std.specs.Prelude.{◌≡◌, ◌≢◌, ℕ, ◌+◌, ◌*◌, ◌≤◌, ◌<◌, ◌^◌, length, drop, IfSome, IsSome};
+ghost use Rattle.std.specs.FinMap.{get};
+ghost use Rattle.paging.specs.Uses.{page_uses, settled, decided, usable};
+ghost use Rattle.step_mem.specs.Changes.{changed, AreWithin};
+ghost use Rattle.step_mem.specs.Space.{Rest, space_of, one_more};
+ghost use Rattle.step_mem.specs.Tables.{tables};
+
+use crate::changes::{Changes, change_of};
+use crate::guard::{Guard, is_barred};
+use crate::kept::Kept;
+use crate::walking::{Control, decide};
+use guest_ram::Ram;
+use ia32_types::Stop;
+use paging::{Access, Entry, Touch, allows};
+
+/// The entry of a page in the set of now.
+#[tactic(auto, using(crate::proofs::Changed::get_changed))]
+pub fn look<B: Kept>(ram: &Ram, base: &B, changes: &Changes, page: u32) -> Option<Entry>
+    requires { ∥ B.stands base.now ram.now ∥₁ }
+    ensures { result ≡ get (changed (B.entries base.now ram.now) changes.now) page }
+{
+    match changes.last(page) {
+        Some(entry) => entry,
+        None => base.entry(ram, page),
+    }
+}
+
+/// The page's entry leaves the set, and a fresh walk decides.
+fn settle<B: Kept>(
+    ram: &mut Ram,
+    base: &B,
+    control: Control,
+    guard: &Option<Guard>,
+    changes: &mut Changes,
+    fetch: bool,
+    page: u32,
+    at: u32,
+    access: Access,
+) -> Touch
+    requires frames { 4096 * control.frames ≤ length ram.old }
+    requires apart { 4096 * control.frames ≤ B.floor base.now }
+    requires within { AreWithin control.frames (changed (B.entries base.now ram.old) changes.old) }
+    requires stands { ∥ B.stands base.now ram.old ∥₁ }
+    requires room { length changes.old < 64 }
+    requires page { page < 2 ^ 20 }
+    ensures settled { (rest : Rest) → settled (space_of (B.entries base.now) ram.old control guard.now changes.old rest) page
+        (decided (tables ram.old control guard.now) fetch page at access)
+        ≡ (result, space_of (B.entries base.now) ram.new control guard.now changes.new rest) }
+    ensures stands { ∥ B.stands base.now ram.new ∥₁ }
+    ensures kept { B.entries base.now ram.new ≡ B.entries base.now ram.old }
+    ensures length { length ram.new ≡ length ram.old }
+    ensures within { AreWithin control.frames (changed (B.entries base.now ram.new) changes.new) }
+    ensures counted { length changes.new ≡ length changes.old + 1 }
+    ensures found { result ≡ Touch.Ready → IsSome (get (changed (B.entries base.now ram.new) changes.new) page) }
+    ensures others { (other : ℕ) → other ≢ page → get (changed (B.entries base.now ram.new) changes.new) other
+        ≡ get (changed (B.entries base.now ram.old) changes.old) other }
+{
+    let (met, entry) = decide(ram, control, guard, fetch, page, at, access);
+    changes.push(change_of(page, entry));
+    met
+}
+
+/// Translates one page of a range, which begins in it at this address.
+#[tactic(auto, unfolding(paging::specs::Uses::page_uses))]
+pub fn page_use<B: Kept>(
+    ram: &mut Ram,
+    base: &B,
+    control: Control,
+    guard: &Option<Guard>,
+    changes: &mut Changes,
+    fetch: bool,
+    page: u32,
+    at: u32,
+    access: Access,
+) -> Touch
+    requires frames { 4096 * control.frames ≤ length ram.old }
+    requires apart { 4096 * control.frames ≤ B.floor base.now }
+    requires within { AreWithin control.frames (changed (B.entries base.now ram.old) changes.old) }
+    requires stands { ∥ B.stands base.now ram.old ∥₁ }
+    requires room { length changes.old < 64 }
+    requires page { page < 2 ^ 20 }
+    ensures uses { (rest : Rest) → page_uses (space_of (B.entries base.now) ram.old control guard.now changes.old rest) fetch page at access
+        ≡ (result, space_of (B.entries base.now) ram.new control guard.now changes.new (one_more rest page)) }
+    ensures stands { ∥ B.stands base.now ram.new ∥₁ }
+    ensures kept { B.entries base.now ram.new ≡ B.entries base.now ram.old }
+    ensures length { length ram.new ≡ length ram.old }
+    ensures within { AreWithin control.frames (changed (B.entries base.now ram.new) changes.new) }
+    ensures counted { length changes.new ≤ length changes.old + 1 }
+    ensures found { result ≡ Touch.Ready → IsSome (get (changed (B.entries base.now ram.new) changes.new) page) }
+    ensures others { (other : ℕ) → other ≢ page → get (changed (B.entries base.now ram.new) changes.new) other
+        ≡ get (changed (B.entries base.now ram.old) changes.old) other }
+{
+    let _len = ram.len();
+    match usable(look(ram, base, changes, page), access, control.wp) {
+        Some(entry) if is_barred(guard, fetch, access.user, page, entry.frame) => {
+            Touch::Stop(Stop::TextMapped)
+        }
+        Some(_) => Touch::Ready,
+        None => settle(ram, base, control, guard, changes, fetch, page, at, access),
+    }
+}
+
+/// The entry, if it lets the access pass.
+fn usable(found: Option<Entry>, access: Access, wp: bool) -> Option<Entry>
+    requires { IfSome found (λ entry. (entry.page < 2 ^ 20) × (entry.frame < 2 ^ 20)) }
+    ensures { result ≡ usable found access wp }
+{
+    match found {
+        Some(entry) if allows(&entry, access, wp) => Some(entry),
+        _ => None,
+    }
+}

@@ -1,0 +1,48 @@
+-- RET, and jumps and calls through a register or memory.
+use Rattle.std.specs.Prelude.{ℕ, ◌+◌, true, false}
+use Rattle.ia32_types.specs.declared.insn.Address.{Address}
+use Rattle.ia32_types.specs.declared.insn.Operand.{Operand}
+use Rattle.ia32_types.specs.declared.insn.Operand.TheVariants.{Absent, Register, Memory, Segment, Control}
+use Rattle.ia32_types.specs.declared.size.Size.TheVariants.{Long}
+use Rattle.ia32_exec.specs.Registers.{address_of, with_whole}
+use Rattle.ia32_exec.specs.Stack.{lowered, raised}
+use Rattle.paging.specs.Work.{Work, ◌>>=◌, gives, reads_earlier, writes}
+use Rattle.descriptors.specs.declared.cpu.Cpu.{Cpu}
+use Rattle.sys_exec.specs.declared.effect.Refusal.{Refusal}
+use Rattle.sys_exec.specs.declared.effect.Done.{Done}
+use Rattle.sys_exec.specs.Access.{reaching, refused}
+use Rattle.sys_exec.specs.Operand.{unsupported, by_level, reg_at, operand_reached, long_of, pulled, pushed, with_regs, past, past_push, gone_to, next}
+
+-- RET; the number of bytes that it drops besides
+unfoldable pub return_to : ℕ → Cpu → Work Refusal Done
+return_to more cpu = do
+  target ← pulled cpu
+  next (with_regs cpu (record (with_whole 4 (raised (4 + more) cpu.regs) cpu.regs) { eip = target }))
+
+-- JMP through an operand
+unfoldable pub jump_to : Operand → Cpu → Work Refusal Done
+jump_to a cpu = do
+  target ← long_of cpu a
+  next (gone_to cpu target)
+
+-- CALL through memory: the target, with the push done. Both ranges are translated before the target is read, and it
+-- is read at the places that its range had when it was translated.
+unfoldable pub called_through : Address → ℕ → Cpu → Work Refusal ℕ
+called_through a len cpu = do
+  _ ← operand_reached cpu a 4 false
+  _ ← reaching (lowered 4 cpu.regs) 4 (by_level cpu true)
+  target ← reads_earlier (address_of a cpu.regs) Long
+  _ ← writes (lowered 4 cpu.regs) Long (past cpu len).regs.eip
+  gives target
+
+-- CALL through an operand
+unfoldable pub call_to : Operand → ℕ → Cpu → Work Refusal Done
+call_to (Register k) len cpu = do
+  _ ← pushed cpu (past cpu len).regs.eip
+  next (gone_to (past_push cpu len) (reg_at cpu k))
+call_to (Memory a) len cpu = do
+  target ← called_through a len cpu
+  next (gone_to (past_push cpu len) target)
+call_to Absent len cpu = refused unsupported
+call_to (Segment seg) len cpu = refused unsupported
+call_to (Control k) len cpu = refused unsupported

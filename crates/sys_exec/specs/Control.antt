@@ -1,0 +1,64 @@
+-- MOV to and from the control registers.
+use Rattle.std.specs.Prelude.{ℕ, ◌==◌, ◌&&◌, ◌%◌, if◌then◌else◌, bit_and, bit_or}
+use Rattle.ia32_types.specs.declared.insn.Operand.{Operand}
+use Rattle.ia32_types.specs.declared.insn.Operand.TheVariants.{Register, Control}
+use Rattle.ia32_types.specs.declared.stop.Stop.TheVariants as stops
+use Rattle.paging.specs.Work.{Work, ◌>>=◌, gives, unless}
+use Rattle.descriptors.specs.declared.cpu.Cpu.{Cpu}
+use Rattle.sys_exec.specs.declared.effect.Refusal.{Refusal}
+use Rattle.sys_exec.specs.declared.effect.Refusal.TheVariants.{Stop}
+use Rattle.sys_exec.specs.declared.effect.SysEffect.TheVariants as effects
+use Rattle.sys_exec.specs.declared.effect.Done.{Done}
+use Rattle.sys_exec.specs.Access.{refused}
+use Rattle.sys_exec.specs.Operand.{unsupported, kernel_alone, reg_at, past, past_with, next}
+
+abbrev pub control_stop : Refusal
+control_stop = Stop stops.ControlBits
+
+-- CR0: paging and protection stay on, and only these bits may be set; bit 4 is always 1
+abbrev pub load_control_0 : Cpu → ℕ → Work Refusal Done
+load_control_0 cpu v = do
+  _ ← unless control_stop (bit_and v 2147483649 == 2147483649 && bit_and v 2147155904 == 0)
+  gives (record { cpu = record cpu { cr0 = bit_or v 16 }; effect = effects.Next })
+
+-- CR3 empties the set
+abbrev pub load_control_3 : Cpu → ℕ → Work Refusal Done
+load_control_3 cpu v = do
+  _ ← unless control_stop (bit_and v 4071 == 0)
+  gives (record { cpu = record cpu { cr3 = v }; effect = effects.DropAll })
+
+abbrev pub load_control_4 : Cpu → ℕ → Work Refusal Done
+load_control_4 cpu v = do
+  _ ← unless control_stop (v == 0)
+  gives (record { cpu = record cpu { cr4 = v }; effect = effects.Next })
+
+unfoldable pub load_control : Cpu → ℕ → ℕ → Work Refusal Done
+load_control cpu number v =
+    if number == 0 then load_control_0 cpu v else
+    (if number == 2 then gives (record { cpu = record cpu { cr2 = v }; effect = effects.Next }) else
+    (if number == 3 then load_control_3 cpu v else
+    (if number == 4 then load_control_4 cpu v else
+    refused unsupported)))
+
+-- MOV to a control register
+unfoldable pub write_control : Operand → Operand → ℕ → Cpu → Work Refusal Done
+write_control (Control number) (Register k) len cpu = do
+  _ ← kernel_alone cpu
+  load_control (past cpu len) number (reg_at cpu k)
+write_control a b len cpu = refused unsupported
+
+unfoldable pub control_of : Cpu → ℕ → Work Refusal ℕ
+control_of cpu number =
+    if number == 0 then gives cpu.cr0 else
+    (if number == 2 then gives cpu.cr2 else
+    (if number == 3 then gives cpu.cr3 else
+    (if number == 4 then gives cpu.cr4 else
+    refused unsupported)))
+
+-- MOV from a control register
+unfoldable pub read_control : Operand → Operand → ℕ → Cpu → Work Refusal Done
+read_control (Register k) (Control number) len cpu = do
+  _ ← kernel_alone cpu
+  v ← control_of cpu number
+  next (past_with cpu len (k % 8) v)
+read_control a b len cpu = refused unsupported

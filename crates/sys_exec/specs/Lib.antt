@@ -1,0 +1,13 @@
+pub mod Access
+pub mod Asked
+pub mod Operand
+pub mod Segment
+pub mod Control
+pub mod Iret
+pub mod Flags
+pub mod Table
+pub mod Move
+pub mod Port
+pub mod Branch
+pub mod Sys
+pub mod Agreement

@@ -1,0 +1,93 @@
+//! RET, and jumps and calls through a register or memory.
+
+ghost use Rattle.std.specs.Prelude.{◌≡◌, ◌+◌, ◌*◌, ◌≤◌, ◌<◌, ◌^◌};
+ghost use Rattle.paging.specs.Work.{Gives};
+ghost use Rattle.ia32_exec.specs.Stack.{raised};
+ghost use Rattle.sys_exec.specs.Branch.{return_to, jump_to, called_through, call_to};
+ghost use Rattle.sys_exec.specs.Asked.{GivesAsked};
+
+use crate::access::reach;
+use crate::effect::{Done, Refusal};
+use crate::operand::{
+    UNSUPPORTED, address_of, by_level, gone_to, long_of, lowered, next, past, past_push, pull,
+    push, reach_operand, reg_at,
+};
+use descriptors::Cpu;
+use ia32_types::{Address, Operand, Size};
+use paging::GuestMem;
+
+/// ESP after a pop that drops further bytes.
+fn raised_over(cpu: &Cpu, more: u32) -> u32
+    ensures { result ≡ raised (4 + more) cpu.now.regs }
+{
+    let sum = u64::from(cpu.regs.r[4]) + (4 + u64::from(more));
+    (sum % (1 << 32)) as u32
+}
+
+/// RET, which drops further bytes of the stack.
+#[tactic(auto, unfolding(crate::specs::Branch::return_to))]
+pub fn return_to<M: GuestMem>(more: u32, cpu: &Cpu, mem: &mut M) -> Result<Done, Refusal>
+    requires { (M.space mem.old).pages ≤ 62 }
+    ensures gives { Gives result (M.space mem.new) (return_to more cpu.now (M.space mem.old)) }
+    ensures pages { (M.space mem.new).pages ≤ (M.space mem.old).pages + 2 }
+    ensures frame { M.frame mem.new ≡ M.frame mem.old }
+    ensures asked { GivesAsked result }
+{
+    let target = pull(cpu, mem)?;
+    let mut after = gone_to(cpu, target);
+    after.regs.r[4] = raised_over(cpu, more);
+    Ok(next(after))
+}
+
+/// JMP through an operand.
+#[tactic(auto, unfolding(crate::specs::Branch::jump_to))]
+pub fn jump_to<M: GuestMem>(a: &Operand, cpu: &Cpu, mem: &mut M) -> Result<Done, Refusal>
+    requires { (M.space mem.old).pages ≤ 62 }
+    ensures gives { Gives result (M.space mem.new) (jump_to a.now cpu.now (M.space mem.old)) }
+    ensures pages { (M.space mem.new).pages ≤ (M.space mem.old).pages + 2 }
+    ensures frame { M.frame mem.new ≡ M.frame mem.old }
+    ensures asked { GivesAsked result }
+{
+    let target = long_of(cpu, mem, a)?;
+    Ok(next(gone_to(cpu, target)))
+}
+
+/// Does the push of a CALL through memory, and reads its target. Both ranges are translated first.
+#[tactic(auto, unfolding(crate::specs::Branch::called_through))]
+fn call_through<M: GuestMem>(a: &Address, len: u8, cpu: &Cpu, mem: &mut M) -> Result<u32, Refusal>
+    requires { (M.space mem.old).pages ≤ 60 }
+    ensures gives { Gives result (M.space mem.new) (called_through a.now len cpu.now (M.space mem.old)) }
+    ensures pages { (M.space mem.new).pages ≤ (M.space mem.old).pages + 4 }
+    ensures frame { M.frame mem.new ≡ M.frame mem.old }
+{
+    reach_operand(cpu, mem, a, 4, false)?;
+    let top = lowered(cpu);
+    reach(mem, top, 4, by_level(cpu, true))?;
+    let target = mem.load_earlier(address_of(*a, &cpu.regs), Size::Long);
+    mem.save(top, Size::Long, past(cpu, len).regs.eip);
+    Ok(target)
+}
+
+/// CALL through an operand.
+#[tactic(auto, unfolding(crate::specs::Branch::call_to))]
+pub fn call_to<M: GuestMem>(a: &Operand, len: u8, cpu: &Cpu, mem: &mut M) -> Result<Done, Refusal>
+    requires { (M.space mem.old).pages ≤ 60 }
+    ensures gives { Gives result (M.space mem.new) (call_to a.now len cpu.now (M.space mem.old)) }
+    ensures pages { (M.space mem.new).pages ≤ (M.space mem.old).pages + 4 }
+    ensures frame { M.frame mem.new ≡ M.frame mem.old }
+    ensures asked { GivesAsked result }
+{
+    match a {
+        Operand::Register(k) => {
+            push(cpu, mem, past(cpu, len).regs.eip)?;
+            Ok(next(gone_to(&past_push(cpu, len), reg_at(cpu, *k))))
+        }
+        Operand::Memory(a) => {
+            let target = call_through(a, len, cpu, mem)?;
+            Ok(next(gone_to(&past_push(cpu, len), target)))
+        }
+        Operand::Absent => Err(UNSUPPORTED),
+        Operand::Segment(_) => Err(UNSUPPORTED),
+        Operand::Control(_) => Err(UNSUPPORTED),
+    }
+}

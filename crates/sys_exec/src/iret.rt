@@ -1,0 +1,237 @@
+//! IRET.
+
+ghost use Rattle.std.specs.Prelude.{◌≡◌, ◌+◌, ◌*◌, ◌/◌, ◌%◌, ◌≤◌, ◌<◌, ◌^◌};
+ghost use Rattle.paging.specs.Work.{Gives};
+ghost use Rattle.ia32_exec.specs.Stack.{is_foreign, taken};
+ghost use Rattle.sys_exec.specs.Iret.{popped, popped_outer, is_plain, is_within, with_interrupt, with_level, new_flags, returned, kept_segment, outer_segments, return_same, return_outer, interrupt_return};
+
+use crate::access::reach;
+use crate::effect::{Loading, Refusal};
+use crate::operand::by_level;
+use crate::segment::{find_return, find_stack, mark};
+use descriptors::{Cpu, Hidden};
+use ia32_types::{Flags, Regs, Size, Stop};
+use paging::GuestMem;
+
+/// What IRET pops.
+#[derive(Clone, Copy)]
+pub struct Popped {
+    pub eip: u32,
+    pub sel: u16,
+    pub flags: u32,
+}
+
+/// The stack of an outer level.
+#[derive(Clone, Copy)]
+pub struct Outer {
+    pub top: u32,
+    pub sel: u16,
+}
+
+#[tactic(auto, unfolding(crate::specs::Iret::popped))]
+fn pop<M: GuestMem>(cpu: &Cpu, mem: &mut M) -> Result<Popped, Refusal>
+    requires { (M.space mem.old).pages ≤ 62 }
+    ensures gives { Gives result (M.space mem.new) (popped cpu.now (M.space mem.old)) }
+    ensures pages { (M.space mem.new).pages ≤ (M.space mem.old).pages + 2 }
+    ensures frame { M.frame mem.new ≡ M.frame mem.old }
+{
+    let top = cpu.regs.r[4];
+    reach(mem, top, 12, by_level(cpu, false))?;
+    let eip = mem.load(top, Size::Long);
+    let sel = mem.load(top + 4, Size::Long);
+    let flags = mem.load(top + 8, Size::Long);
+    Ok(Popped {
+        eip,
+        sel: (sel % 65536) as u16,
+        flags,
+    })
+}
+
+#[tactic(auto, unfolding(crate::specs::Iret::popped_outer))]
+fn pop_outer<M: GuestMem>(cpu: &Cpu, mem: &mut M) -> Result<Outer, Refusal>
+    requires { (M.space mem.old).pages ≤ 62 }
+    ensures gives { Gives result (M.space mem.new) (popped_outer cpu.now (M.space mem.old)) }
+    ensures pages { (M.space mem.new).pages ≤ (M.space mem.old).pages + 2 }
+    ensures frame { M.frame mem.new ≡ M.frame mem.old }
+{
+    let at = cpu.regs.r[4].wrapping_add(12);
+    reach(mem, at, 8, by_level(cpu, false))?;
+    let top = mem.load(at, Size::Long);
+    let sel = mem.load(at + 4, Size::Long);
+    Ok(Outer {
+        top,
+        sel: (sel % 65536) as u16,
+    })
+}
+
+fn is_foreign(image: Flags) -> bool
+    ensures { result ≡ is_foreign image.bits }
+{
+    image.bit(8)
+        || image.bit(14)
+        || image.bit(17)
+        || image.bit(18)
+        || image.bit(19)
+        || image.bit(20)
+        || image.bit(21)
+}
+
+/// The flags that are popped at every level.
+#[tactic(auto, unfolding(ia32_exec::specs::Stack::taken))]
+fn taken(flags: Flags, image: Flags) -> Flags
+    ensures { result ≡ taken flags image.bits }
+{
+    let flags = flags.with_bit(0, image.bit(0));
+    let flags = flags.with_bit(2, image.bit(2));
+    let flags = flags.with_bit(4, image.bit(4));
+    let flags = flags.with_bit(6, image.bit(6));
+    let flags = flags.with_bit(7, image.bit(7));
+    let flags = flags.with_bit(10, image.bit(10));
+    flags.with_bit(11, image.bit(11))
+}
+
+/// An image that sets none of the flags that aren't kept.
+pub fn is_plain(image: u32) -> bool
+    ensures { result ≡ is_plain image }
+{
+    !is_foreign(Flags { bits: image })
+}
+
+/// The level is within IOPL.
+pub fn is_within(cpu: &Cpu) -> bool
+    ensures { result ≡ is_within cpu.now }
+{
+    u32::from(cpu.cpl) <= cpu.regs.flags.bits / 4096 % 4
+}
+
+fn with_interrupt(cpu: &Cpu, flags: Flags, image: Flags) -> Flags
+    ensures { result ≡ with_interrupt cpu.now flags image.bits }
+{
+    if is_within(cpu) {
+        return flags.with_bit(9, image.bit(9));
+    }
+    flags
+}
+
+fn with_level(cpu: &Cpu, flags: Flags, image: Flags) -> Flags
+    ensures { result ≡ with_level cpu.now flags image.bits }
+{
+    if cpu.cpl == 0 {
+        return flags
+            .with_bit(12, image.bit(12))
+            .with_bit(13, image.bit(13));
+    }
+    flags
+}
+
+/// The flags with what an image gives.
+#[tactic(auto, unfolding(crate::specs::Iret::new_flags))]
+pub fn new_flags(cpu: &Cpu, image: u32) -> Flags
+    ensures { result ≡ new_flags cpu.now image }
+{
+    let image = Flags { bits: image };
+    let flags = taken(cpu.regs.flags, image);
+    with_level(cpu, with_interrupt(cpu, flags, image), image)
+}
+
+fn returned(cpu: &Cpu, p: &Popped, top: u32, cpl: u8, seg: [Hidden; 4]) -> Cpu
+    ensures { result ≡ returned cpu.now p.now top cpl seg }
+{
+    let mut r = cpu.regs.r;
+    r[4] = top;
+    Cpu {
+        regs: Regs {
+            r,
+            eip: p.eip,
+            flags: new_flags(cpu, p.flags),
+        },
+        cpl,
+        seg,
+        ..*cpu
+    }
+}
+
+fn kept_segment(cpl: u8, hidden: Hidden) -> Hidden
+    ensures { result ≡ kept_segment cpl hidden }
+{
+    if hidden.dpl < cpl {
+        Hidden {
+            sel: 0,
+            null: true,
+            dpl: 0,
+        }
+    } else {
+        hidden
+    }
+}
+
+fn outer_segments(cpu: &Cpu, cpl: u8, code: Hidden, stack: Hidden) -> [Hidden; 4]
+    ensures { result ≡ outer_segments cpu.now cpl code stack }
+{
+    let mut seg = cpu.seg;
+    seg[0] = kept_segment(cpl, cpu.seg[0]);
+    seg[3] = kept_segment(cpl, cpu.seg[3]);
+    seg[1] = code;
+    seg[2] = stack;
+    seg
+}
+
+#[tactic(auto, unfolding(crate::specs::Iret::return_same))]
+fn return_same<M: GuestMem>(
+    cpu: &Cpu,
+    mem: &mut M,
+    p: &Popped,
+    code: &Loading,
+) -> Result<Cpu, Refusal>
+    requires { (M.space mem.old).pages ≤ 62 }
+    ensures gives { Gives result (M.space mem.new) (return_same cpu.now p.now code.now (M.space mem.old)) }
+    ensures pages { (M.space mem.new).pages ≤ (M.space mem.old).pages + 2 }
+    ensures frame { M.frame mem.new ≡ M.frame mem.old }
+{
+    if !is_plain(p.flags) {
+        return Err(Refusal::Stop(Stop::FlagBits));
+    }
+    mark(cpu, mem, code)?;
+    let mut seg = cpu.seg;
+    seg[1] = code.hidden;
+    Ok(returned(cpu, p, cpu.regs.r[4].wrapping_add(12), cpu.cpl, seg))
+}
+
+#[tactic(auto, unfolding(crate::specs::Iret::return_outer))]
+fn return_outer<M: GuestMem>(
+    cpu: &Cpu,
+    mem: &mut M,
+    p: &Popped,
+    code: &Loading,
+) -> Result<Cpu, Refusal>
+    requires { (M.space mem.old).pages ≤ 56 }
+    ensures gives { Gives result (M.space mem.new) (return_outer cpu.now p.now code.now (M.space mem.old)) }
+    ensures pages { (M.space mem.new).pages ≤ (M.space mem.old).pages + 8 }
+    ensures frame { M.frame mem.new ≡ M.frame mem.old }
+{
+    let outer = pop_outer(cpu, mem)?;
+    let cpl = (p.sel % 4) as u8;
+    let stack = find_stack(cpu, mem, cpl, outer.sel)?;
+    if !is_plain(p.flags) {
+        return Err(Refusal::Stop(Stop::FlagBits));
+    }
+    mark(cpu, mem, code)?;
+    mark(cpu, mem, &stack)?;
+    let seg = outer_segments(cpu, cpl, code.hidden, stack.hidden);
+    Ok(returned(cpu, p, outer.top, cpl, seg))
+}
+
+#[tactic(auto, unfolding(crate::specs::Iret::interrupt_return))]
+pub fn interrupt_return<M: GuestMem>(cpu: &Cpu, mem: &mut M) -> Result<Cpu, Refusal>
+    requires { (M.space mem.old).pages ≤ 50 }
+    ensures gives { Gives result (M.space mem.new) (interrupt_return cpu.now (M.space mem.old)) }
+    ensures pages { (M.space mem.new).pages ≤ (M.space mem.old).pages + 12 }
+    ensures frame { M.frame mem.new ≡ M.frame mem.old }
+{
+    let p = pop(cpu, mem)?;
+    let code = find_return(cpu, mem, p.sel)?;
+    if u16::from(cpu.cpl) < p.sel % 4 {
+        return return_outer(cpu, mem, &p, &code);
+    }
+    return_same(cpu, mem, &p, &code)
+}

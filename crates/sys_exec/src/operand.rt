@@ -1,0 +1,241 @@
+//! Operands of one instruction, the stack, and how an instruction ends.
+
+ghost use Rattle.std.specs.Prelude.{◌≡◌, ◌+◌, ◌*◌, ◌%◌, ◌≤◌, ◌<◌, ◌^◌, OnOk};
+ghost use Rattle.paging.specs.Work.{Gives};
+ghost use Rattle.paging.specs.Space.{IsReach};
+ghost use Rattle.ia32_exec.specs.Registers.{address_of, part_of, with_whole, passed};
+ghost use Rattle.ia32_exec.specs.Ranges.{segment_of};
+ghost use Rattle.ia32_exec.specs.Stack.{lowered, raised};
+ghost use Rattle.sys_exec.specs.Operand.{place_of, selector_in, reg_at, operand_reached, selector, long_of, pulled, pushed, by_level, past, past_with, past_push, past_pop, gone_to};
+
+use crate::access::reach;
+use crate::effect::{Done, Refusal, SysEffect};
+use descriptors::Cpu;
+use ia32_types::{Address, Operand, Reg, Regs, Seg, Size, Stop};
+use paging::{Access, GuestMem};
+
+pub const UNSUPPORTED: Refusal = Refusal::Stop(Stop::Unsupported);
+
+pub const PROTECTION_0: Refusal = Refusal::Raise {
+    vector: 13,
+    code: 0,
+};
+
+fn segment_of(base: Option<Reg>) -> Seg
+    ensures { result ≡ segment_of base }
+{
+    match base {
+        Some(Reg::Esp) => Seg::Ss,
+        Some(Reg::Ebp) => Seg::Ss,
+        _ => Seg::Ds,
+    }
+}
+
+fn part_of(register: Option<Reg>, regs: &Regs) -> u32
+    ensures { result ≡ part_of register regs.now.r }
+{
+    match register {
+        None => 0,
+        Some(register) => regs.r[register.number() as usize],
+    }
+}
+
+/// The linear address of an operand.
+#[tactic(auto, unfolding(ia32_exec::specs::Registers::address_of))]
+pub fn address_of(address: Address, regs: &Regs) -> u32
+    ensures { result ≡ address_of address regs.now }
+{
+    let base = u64::from(part_of(address.base, regs));
+    let index = u64::from(part_of(address.index, regs));
+    let sum = base + index * u64::from(address.scale) + u64::from(address.disp);
+    (sum % 0x1_0000_0000) as u32
+}
+
+pub fn by_level(cpu: &Cpu, write: bool) -> Access
+    ensures { result ≡ by_level cpu.now write }
+{
+    Access {
+        write,
+        user: cpu.cpl == 3,
+    }
+}
+
+fn place_of(seg: Seg) -> usize
+    ensures place { result ≡ place_of seg }
+    ensures small { result < 4 }
+{
+    match seg {
+        Seg::Es => 0,
+        Seg::Cs => 1,
+        Seg::Ss => 2,
+        Seg::Ds => 3,
+    }
+}
+
+pub fn selector_in(cpu: &Cpu, seg: Seg) -> u16
+    ensures { result ≡ selector_in cpu.now seg }
+{
+    cpu.seg[place_of(seg)].sel
+}
+
+pub fn reg_at(cpu: &Cpu, k: u8) -> u32
+    ensures { result ≡ reg_at cpu.now k }
+{
+    cpu.regs.r[k as usize % 8]
+}
+
+/// Translates an operand in memory.
+#[tactic(auto, unfolding(crate::specs::Operand::operand_reached))]
+pub fn reach_operand<M: GuestMem>(
+    cpu: &Cpu,
+    mem: &mut M,
+    a: &Address,
+    len: u32,
+    write: bool,
+) -> Result<(), Refusal>
+    requires room { (M.space mem.old).pages ≤ 62 }
+    requires some { 1 ≤ len }
+    requires short { len ≤ 32 }
+    ensures gives { Gives result (M.space mem.new) (operand_reached cpu.now a.now len write (M.space mem.old)) }
+    ensures pages { (M.space mem.new).pages ≤ (M.space mem.old).pages + 2 }
+    ensures frame { M.frame mem.new ≡ M.frame mem.old }
+    ensures ready { OnOk result (IsReach (M.space mem.new) (address_of a.now cpu.now.regs) len write) }
+{
+    if cpu.seg[place_of(segment_of(a.base))].null {
+        return Err(PROTECTION_0);
+    }
+    reach(mem, address_of(*a, &cpu.regs), len, by_level(cpu, write))
+}
+
+/// A selector from a register or from memory.
+#[tactic(auto, unfolding(crate::specs::Operand::selector))]
+pub fn selector<M: GuestMem>(cpu: &Cpu, mem: &mut M, operand: &Operand) -> Result<u16, Refusal>
+    requires { (M.space mem.old).pages ≤ 62 }
+    ensures gives { Gives result (M.space mem.new) (selector cpu.now operand.now (M.space mem.old)) }
+    ensures pages { (M.space mem.new).pages ≤ (M.space mem.old).pages + 2 }
+    ensures frame { M.frame mem.new ≡ M.frame mem.old }
+{
+    match operand {
+        Operand::Register(k) => Ok((reg_at(cpu, *k) % 65536) as u16),
+        Operand::Memory(a) => {
+            reach_operand(cpu, mem, a, 2, false)?;
+            let sel = mem.load(address_of(*a, &cpu.regs), Size::Word);
+            Ok(sel as u16)
+        }
+        Operand::Absent => Err(UNSUPPORTED),
+        Operand::Segment(_) => Err(UNSUPPORTED),
+        Operand::Control(_) => Err(UNSUPPORTED),
+    }
+}
+
+/// A number of four bytes from a register or from memory.
+#[tactic(auto, unfolding(crate::specs::Operand::long_of))]
+pub fn long_of<M: GuestMem>(cpu: &Cpu, mem: &mut M, operand: &Operand) -> Result<u32, Refusal>
+    requires { (M.space mem.old).pages ≤ 62 }
+    ensures gives { Gives result (M.space mem.new) (long_of cpu.now operand.now (M.space mem.old)) }
+    ensures pages { (M.space mem.new).pages ≤ (M.space mem.old).pages + 2 }
+    ensures frame { M.frame mem.new ≡ M.frame mem.old }
+{
+    match operand {
+        Operand::Register(k) => Ok(reg_at(cpu, *k)),
+        Operand::Memory(a) => {
+            reach_operand(cpu, mem, a, 4, false)?;
+            Ok(mem.load(address_of(*a, &cpu.regs), Size::Long))
+        }
+        Operand::Absent => Err(UNSUPPORTED),
+        Operand::Segment(_) => Err(UNSUPPORTED),
+        Operand::Control(_) => Err(UNSUPPORTED),
+    }
+}
+
+/// The number on top of the stack.
+#[tactic(auto, unfolding(crate::specs::Operand::pulled))]
+pub fn pull<M: GuestMem>(cpu: &Cpu, mem: &mut M) -> Result<u32, Refusal>
+    requires { (M.space mem.old).pages ≤ 62 }
+    ensures gives { Gives result (M.space mem.new) (pulled cpu.now (M.space mem.old)) }
+    ensures pages { (M.space mem.new).pages ≤ (M.space mem.old).pages + 2 }
+    ensures frame { M.frame mem.new ≡ M.frame mem.old }
+{
+    let top = cpu.regs.r[4];
+    reach(mem, top, 4, by_level(cpu, false))?;
+    Ok(mem.load(top, Size::Long))
+}
+
+/// Writes a number below the stack.
+#[tactic(auto, unfolding(crate::specs::Operand::pushed))]
+pub fn push<M: GuestMem>(cpu: &Cpu, mem: &mut M, value: u32) -> Result<(), Refusal>
+    requires { (M.space mem.old).pages ≤ 62 }
+    ensures gives { Gives result (M.space mem.new) (pushed cpu.now value (M.space mem.old)) }
+    ensures pages { (M.space mem.new).pages ≤ (M.space mem.old).pages + 2 }
+    ensures frame { M.frame mem.new ≡ M.frame mem.old }
+{
+    let at = lowered(cpu);
+    reach(mem, at, 4, by_level(cpu, true))?;
+    mem.save(at, Size::Long, value);
+    Ok(())
+}
+
+/// ESP after a push.
+pub fn lowered(cpu: &Cpu) -> u32
+    ensures { result ≡ lowered 4 cpu.now.regs }
+{
+    cpu.regs.r[4].wrapping_sub(4)
+}
+
+/// ESP after a pop of so many bytes.
+pub fn raised(cpu: &Cpu, by: u32) -> u32
+    ensures { result ≡ raised by cpu.now.regs }
+{
+    cpu.regs.r[4].wrapping_add(by)
+}
+
+/// Past the instruction.
+pub fn past(cpu: &Cpu, len: u8) -> Cpu
+    ensures { result ≡ past cpu.now len }
+{
+    let mut after = *cpu;
+    after.regs.eip = cpu.regs.eip.wrapping_add(u32::from(len));
+    after
+}
+
+/// Past the instruction, with a register made new.
+pub fn past_with(cpu: &Cpu, len: u8, k: u8, value: u32) -> Cpu
+    requires { k < 8 }
+    ensures { result ≡ past_with cpu.now len k value }
+{
+    let mut after = past(cpu, len);
+    after.regs.r[k as usize] = value;
+    after
+}
+
+/// Past the instruction, with ESP after a push.
+pub fn past_push(cpu: &Cpu, len: u8) -> Cpu
+    ensures { result ≡ past_push cpu.now len }
+{
+    past_with(cpu, len, 4, lowered(cpu))
+}
+
+/// Past the instruction, with ESP after a pop.
+pub fn past_pop(cpu: &Cpu, len: u8) -> Cpu
+    ensures { result ≡ past_pop cpu.now len }
+{
+    past_with(cpu, len, 4, raised(cpu, 4))
+}
+
+/// At a target.
+pub fn gone_to(cpu: &Cpu, eip: u32) -> Cpu
+    ensures { result ≡ gone_to cpu.now eip }
+{
+    let mut after = *cpu;
+    after.regs.eip = eip;
+    after
+}
+
+pub fn next(cpu: Cpu) -> Done
+    ensures { result ≡ record { cpu = cpu; effect = SysEffect.Next } }
+{
+    Done {
+        cpu,
+        effect: SysEffect::Next,
+    }
+}

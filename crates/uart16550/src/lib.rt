@@ -1,0 +1,9 @@
+//! A 16550 serial port, with a receiver of 16 bytes.
+#![tactic(auto)]
+
+mod uart;
+
+pub use uart::Uart;
+
+#[cfg(test)]
+mod tests;

@@ -1,0 +1,163 @@
+ghost use Rattle.std.specs.Prelude.{◌≡◌, ◌≤◌, true};
+ghost use Rattle.ia32_types.specs.declared.stop.Did.TheVariants.{Stop};
+ghost use Rattle.uart16550.specs.Ports.{at_reset, divisor_shown, waits, line_of, written, read_at, after_read, received};
+
+use arrayvec::ArrayVec;
+use ia32_types::{Did, bit};
+use std::marker::Model;
+
+/// The serial port.
+#[derive(Drop)]
+pub struct Uart {
+    /// IER bit 0: a byte that waits raises the line.
+    interrupts: bool,
+    line_control: u8,
+    modem_control: u8,
+    scratch: u8,
+    divisor_low: u8,
+    divisor_high: u8,
+    /// The bytes that wait, oldest first.
+    kept: ArrayVec<u8, 16>,
+}
+
+impl Model for Uart {
+    ghost use Rattle.std.specs.Prelude.{◌<◌, ◌≤◌, length};
+    ghost use Rattle.uart16550.specs.Registers.{Registers, room};
+
+    ghost Value = { Registers };
+
+    ghost view = { λ u. record {
+      interrupts = u.interrupts;
+      line_control = u.line_control;
+      modem_control = u.modem_control;
+      scratch = u.scratch;
+      divisor_low = u.divisor_low;
+      divisor_high = u.divisor_high;
+      kept = u.kept.items;
+    } };
+
+    // Bits 4 to 7 of the modem control register are 0.
+    ghost invariant = { λ u. (u.modem_control < 16) × (length u.kept.items ≤ room) };
+}
+
+impl Uart {
+    /// All registers start at 0.
+    pub fn new() -> Uart
+        ensures { result ≡ at_reset }
+    {
+        Uart {
+            interrupts: false,
+            line_control: 0,
+            modem_control: 0,
+            scratch: 0,
+            divisor_low: 0,
+            divisor_high: 0,
+            kept: ArrayVec::new(),
+        }
+    }
+
+    /// A write to one of the eight ports 0x3F8 to 0x3FF. Others are ignored. A byte that the board doesn't serve stops
+    /// and changes nothing.
+    #[tactic(auto, unfolding(crate::specs::Ports::written))]
+    pub fn write(&mut self, port: u16, v: u8) -> Did
+        ensures written { written self.old port v ≡ (result, self.new) }
+        ensures stopped { result ≡ Stop → self.new ≡ self.old }
+    {
+        match port {
+            0x3F8 => {
+                if !self.divisor_shown() {
+                    return Did::Sent(v);
+                }
+                self.divisor_low = v;
+            }
+            0x3F9 => {
+                if self.divisor_shown() {
+                    self.divisor_high = v;
+                } else if v <= 1 {
+                    self.interrupts = v == 1;
+                } else {
+                    return Did::Stop;
+                }
+            }
+            0x3FA => {
+                if bit(v, 1) {
+                    self.kept.clear();
+                }
+            }
+            0x3FB => self.line_control = v,
+            0x3FC => {
+                if bit(v, 4) {
+                    return Did::Stop;
+                }
+                self.modem_control = v % 16;
+            }
+            0x3FF => self.scratch = v,
+            _ => {}
+        }
+        Did::Done
+    }
+
+    /// A read of one of the eight ports. Others read all ones.
+    #[tactic(auto, unfolding(crate::specs::Ports::read_at, crate::specs::Ports::after_read))]
+    pub fn read(&mut self, port: u16) -> u8
+        ensures value { result ≡ read_at self.old port }
+        ensures after { self.new ≡ after_read self.old port }
+    {
+        match port {
+            0x3F8 => {
+                if self.divisor_shown() {
+                    self.divisor_low
+                } else if self.kept.is_empty() {
+                    0
+                } else {
+                    self.kept.remove(0)
+                }
+            }
+            0x3F9 => {
+                if self.divisor_shown() {
+                    self.divisor_high
+                } else if self.interrupts {
+                    1
+                } else {
+                    0
+                }
+            }
+            0x3FA => if self.line() { 4 } else { 1 },
+            0x3FB => self.line_control,
+            0x3FC => self.modem_control,
+            0x3FD => if self.waits() { 0x61 } else { 0x60 },
+            0x3FE => 0xB0,
+            0x3FF => self.scratch,
+            _ => 0xFF,
+        }
+    }
+
+    /// A byte from the line. It is lost where there is no room.
+    #[tactic(auto, unfolding(crate::specs::Ports::received))]
+    pub fn receive(&mut self, v: u8)
+        ensures { self.new ≡ received self.old v }
+    {
+        if self.kept.len() < 16 {
+            self.kept.push(v);
+        }
+    }
+
+    /// Whether the port asks for an interrupt.
+    pub fn line(&self) -> bool
+        ensures { result ≡ line_of self.now }
+    {
+        self.interrupts && self.waits()
+    }
+
+    fn divisor_shown(&self) -> bool
+        ensures { result ≡ divisor_shown self.now }
+    {
+        bit(self.line_control, 7)
+    }
+
+    fn waits(&self) -> bool
+        ensures { result ≡ waits self.now }
+    {
+        !self.kept.is_empty()
+    }
+}

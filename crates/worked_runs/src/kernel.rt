@@ -1,0 +1,97 @@
+//! A kernel, its image file, and a run of it.
+
+use pv_io::{Files, IoAnswer, MemFiles, MemSink};
+use pv_tool::{Status, top};
+use std::alloc::{AllocError, Global};
+
+/// A kernel's parts, what it is run with, and what the run prints. The bytes are those of GNU as, with each sensitive
+/// instruction padded; `sites` has eight bytes a site.
+pub struct Kernel<'a> {
+    pub text: &'a [u8],
+    pub init: &'a [u8],
+    pub bss: u32,
+    pub sites: &'a [u8],
+    pub script: &'a [u8],
+    pub bound: &'a str,
+    pub status: u8,
+    pub prints: &'a [u8],
+}
+
+fn put(out: &mut Vec<u8>, longs: &[u32]) -> Result<(), AllocError> {
+    for n in longs {
+        out.extend_from_slice(&n.to_le_bytes())?;
+    }
+    Ok(())
+}
+
+fn len(bytes: &[u8]) -> u32 {
+    (bytes.len() % 65536) as u32
+}
+
+// An image file: header, program headers, text, data, annotations, names, section table.
+fn image(alloc: Global, kernel: &Kernel<'_>) -> Result<Vec<u8>, AllocError> {
+    let text = len(kernel.text);
+    let init = len(kernel.init);
+    let sites = len(kernel.sites);
+    let names = 124 + text + init + sites;
+    let mut out = Vec::new(alloc);
+    out.extend_from_slice(&[0x7F, 0x45, 0x4C, 0x46, 1, 1, 1, 0, 0, 0, 0, 0, 0, 0, 0, 0])?;
+    put(
+        &mut out,
+        &[
+            0x0003_0002,
+            1,
+            0x1000_0000,
+            52,
+            names + 21,
+            0,
+            0x0020_0034,
+            0x0028_0002,
+            0x0002_0003,
+        ],
+    )?;
+    put(
+        &mut out,
+        &[1, 116, 0x1000_0000, 0x1000_0000, text, text, 5, 0x1000],
+    )?;
+    put(
+        &mut out,
+        &[
+            1,
+            116 + text,
+            0x1100_0000,
+            0x1100_0000,
+            init,
+            init.wrapping_add(kernel.bss),
+            6,
+            0x1000,
+        ],
+    )?;
+    out.extend_from_slice(kernel.text)?;
+    out.extend_from_slice(kernel.init)?;
+    put(&mut out, &[0x3153_5650, sites / 8])?;
+    out.extend_from_slice(kernel.sites)?;
+    out.extend_from_slice(b"\0.pv_sites\0.shstrtab\0")?;
+    put(&mut out, &[0, 0, 0, 0, 0, 0, 0, 0, 0, 0])?;
+    put(
+        &mut out,
+        &[1, 1, 0, 0, 116 + text + init, 8 + sites, 0, 0, 4, 0],
+    )?;
+    put(&mut out, &[11, 3, 0, 0, names, 21, 0, 0, 0, 0])?;
+    Ok(out)
+}
+
+/// The status and the output of `run --bare`.
+pub fn prints(alloc: Global, kernel: &Kernel<'_>) -> Result<(Status, MemSink), IoAnswer> {
+    let file = image(alloc, kernel)?;
+    let mut files = MemFiles::new(alloc, Vec::new(alloc))?;
+    files.store("A", &file)?;
+    files.store("B", kernel.script)?;
+    let mut out = MemSink::new(alloc, 4096, Vec::new(alloc))?;
+    let mut words = Vec::new(alloc);
+    for word in ["run", "--bare", "A", "B", "2048", kernel.bound] {
+        words.push(String::from_str(alloc, word)?)?;
+    }
+    let status = top(alloc, &words, &mut files, &mut out);
+    Ok((status, out))
+}

@@ -1,0 +1,15 @@
+//! Whole runs of small kernels, by the call that the program makes.
+#![tactic(auto)]
+
+#[cfg(test)]
+mod events;
+#[cfg(test)]
+mod forms;
+#[cfg(test)]
+mod kernel;
+#[cfg(test)]
+mod plain;
+#[cfg(test)]
+mod stops;
+#[cfg(test)]
+mod user;
