@@ -9,3 +9,4 @@ pub mod Reading
 pub mod Statements
 pub mod Running
 pub mod Size
+pub mod Readable

@@ -1,0 +1,34 @@
+-- What is known of the items of every source that is read.
+use Rattle.std.specs.Prelude.{ℕ, ◌≤◌, List, [], ◌∷◌, ◌++◌, length, fold, All, Option, Some, None}
+use Rattle.std.specs.List.{flat_map}
+use Rattle.asm_parse.specs.declared.tree.Argument.{Argument}
+use Rattle.asm_parse.specs.declared.tree.Body.{Body}
+use Rattle.asm_parse.specs.declared.tree.Body.TheVariants as body
+use Rattle.asm_parse.specs.declared.tree.SourceItem.{SourceItem}
+use Rattle.asm_parse.specs.Scope.{added}
+use Rattle.asm_parse.specs.Size.{items_size, items_count}
+use Rattle.asm_parse.specs.Statements.{symbol_in}
+
+abbrev pub name_list : Option (List ℕ) → List (List ℕ)
+name_list None = []
+name_list (Some n) = n ∷ []
+
+abbrev pub argument_names : List Argument → List (List ℕ)
+argument_names args = flat_map (λ (a : Argument). name_list (symbol_in a.form)) args
+
+-- the symbols that an item names, in its order
+abbrev pub body_names : Body → List (List ℕ)
+body_names (body.Label n) = n ∷ []
+body_names (body.Directive n args) = argument_names args
+body_names (body.Instruction rep n args) = argument_names args
+
+-- the different symbols of a source, in the order in which they are first seen
+unfoldable pub names_in : List SourceItem → List (List ℕ)
+names_in items = fold added [] (flat_map (λ (i : SourceItem). body_names i.body) items)
+
+-- The items say no more than the longest source can, and name at most 65,536 symbols, none with a zero byte.
+pub record IsReadable (items : List SourceItem) : Type 0 where
+  pub size : items_size items ≤ 4194304
+  pub count : items_count items ≤ 4194304
+  pub few : length (names_in items) ≤ 65536
+  pub named : All (λ (n : List ℕ). All (λ b. 1 ≤ b) n) (names_in items)
