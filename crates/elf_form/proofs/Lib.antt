@@ -10,6 +10,14 @@ pub mod StringLaws
 pub mod SymbolNames
 pub mod ObjectSizes
 pub mod ObjectBounds
+pub mod ObjectWords
+pub mod EntryLists
+pub mod NamePlaces
+pub mod WrittenEntries
+pub mod ObjectFile
+pub mod ObjectSections
+pub mod ObjectPasses
+pub mod ObjectRoundTrip
 pub mod JoinLaws
 pub mod RecordLaws
 pub mod ObjectAcceptance

@@ -21,3 +21,8 @@ pub fn object_length()
     ensures exact { (o : ObjectParts) → length (object_bytes o) ≡ (layout o).sections + 400 }
     ensures bound { (o : ObjectParts) → (layout o).sections ≤ 52 + length o.text + length o.init + length o.sites + 8 * length o.relocs + 16 * (length o.symbols + 1) + (sum_by (λ s. length s.name) o.symbols + length o.symbols + 1) + 74 + 40 }
 {}
+
+#[tactic(auto, using(crate::proofs::ObjectRoundTrip::object_read))]
+pub fn trial()
+    ensures { (o : ObjectParts) → length (object_bytes o) ≡ (layout o).sections + 400 }
+{}
