@@ -1,10 +1,10 @@
 -- Tables that were written entry by entry, and what is read of them.
-use Rattle.std.proofs.Common.{◌≡◌, ℕ, zero, suc, ◌+◌, ◌*◌, ◌<◌, Bool, true, false, cond, List, [], ◌∷◌, ◌++◌, length, get_or, map, Option, None, refl, sym, ap, ◌∙◌, subst, arith, append_assoc}
+use Rattle.std.proofs.Common.{◌≡◌, ℕ, zero, suc, ◌+◌, ◌*◌, ◌<◌, Bool, true, List, [], ◌∷◌, ◌++◌, length, get_or, map, Option, None, refl, sym, ap, ◌∙◌, subst, arith, append_assoc}
 use Rattle.std.specs.Prelude.{filter, fold}
 use Rattle.std.specs.List.{flat_map, AllByRecursion}
 use Rattle.std.proofs.lemmas.Bool.{cond-true}
 use Rattle.std.proofs.lemmas.List.{length-append}
-use Rattle.elf_form.specs.Faults.{◌or_else◌, ◌or_lower◌}
+use Rattle.elf_form.specs.Faults.{◌or_lower◌}
 use Rattle.elf_form.specs.Tables.{entries}
 use Rattle.elf_form.specs.Symbols.{first_some, is_listed, numbers}
 
@@ -32,9 +32,10 @@ module _ {X : Type 0} (f : X → List ℕ) (k : ℕ) (Q : X → Type 0) (P : Lis
   each-written [] before after at len all = tt
   each-written (x ∷ xs) before after at len all =
       let head : before ++ (f x ++ (flat_map f xs ++ after)) ≡ before ++ ((f x ++ flat_map f xs) ++ after) = ap (λ (t : List ℕ). before ++ t) (sym (append_assoc (f x) (flat_map f xs) after)) in
-      let tail : (before ++ f x) ++ (flat_map f xs ++ after) ≡ before ++ ((f x ++ flat_map f xs) ++ after) = append_assoc before (f x) (flat_map f xs ++ after) ∙ head in
-      (subst (λ (b : List ℕ). P b at x) head (step before (flat_map f xs ++ after) x at len (all.0)),
-      subst (λ (b : List ℕ). EachAt (P b) k (at + k) xs) tail (each-written xs (before ++ f x) after (at + k) (omega (arith, length-append before (f x), size x)) (all.1)))
+      let tail : (before ++ f x) ++ (flat_map f xs ++ after) ≡ before ++ ((f x ++ flat_map f xs) ++ after) = append_assoc before (f x) (flat_map f xs ++ after) ∙ head in (
+        subst (λ (b : List ℕ). P b at x) head (step before (flat_map f xs ++ after) x at len (all.0)),
+        subst (λ (b : List ℕ). EachAt (P b) k (at + k) xs) tail (each-written xs (before ++ f x) after (at + k) (omega (arith, length-append before (f x), size x)) (all.1)),
+      )
 
 -- ---- what is read of the entries
 
@@ -66,4 +67,3 @@ numbers-each names bytes n k at [] i each lt = absurd (omega arith)
 numbers-each names bytes n k at (x ∷ xs) zero each lt = omega arith
 numbers-each names bytes n k at (x ∷ xs) (suc i) each lt =
     ap (λ (m : ℕ). get_or (numbers names bytes m (entries (at + k) k (length xs))) i 0) (cond-true _ _ _ (each.0)) ∙ numbers-each names bytes (n + 1) k (at + k) xs i (each.1) (omega arith) ∙ omega arith
-

@@ -1,5 +1,5 @@
 -- Each name of a symbol is read at its place in the string table.
-use Rattle.std.proofs.Common.{◌≡◌, ◌≢◌, ℕ, ◌+◌, ◌-◌, ◌<◌, ◌≤◌, Bool, true, false, cond, eqb, List, [], ◌∷◌, ◌++◌, length, get_or, drop, take, fold, Option, Some, None, refl, sym, ap, ◌∙◌, subst, arith, append_assoc, eq-eqb}
+use Rattle.std.proofs.Common.{◌≡◌, ◌≢◌, ℕ, ◌+◌, ◌-◌, ◌<◌, Bool, true, false, cond, eqb, List, [], ◌∷◌, ◌++◌, length, get_or, drop, take, fold, Option, Some, None, refl, sym, ap, ◌∙◌, arith, append_assoc}
 use Rattle.std.specs.Prelude.{All}
 use Rattle.std.specs.List.{list_any, before_first, position_or_len, AllByRecursion}
 use Rattle.std.specs.Str.{bytes_eq}
@@ -11,7 +11,7 @@ use Rattle.std.proofs.lemmas.List.Sums.{position_or_len_is}
 use Rattle.std.proofs.lemmas.Slice.Eq.{bytes_eq-Decides}
 use Rattle.elf_form.specs.declared.object.Symbol.{Symbol}
 use Rattle.elf_form.specs.StringTable.{further, place_in, unless_placed, with_name, table_bytes, name_place}
-use Rattle.elf_form.specs.ObjectLayout.{names_of, strings_of}
+use Rattle.elf_form.specs.ObjectLayout.{names_of}
 use Rattle.elf_form.specs.Symbols.{name_in}
 use Rattle.elf_form.proofs.StringLaws.{else_last, place_in-append}
 
@@ -80,8 +80,8 @@ before_zero : (name rest : List ℕ) → All (λ b. b ≢ 0) name → before_fir
 before_zero name rest none =
     let len : length (name ++ (0 ∷ rest)) ≡ length name + (length rest + 1) = omega (arith, length-append name (0 ∷ rest)) in
     let at : position_or_len (λ b. eqb b 0) (name ++ (0 ∷ rest)) ≡ length name = position_or_len_is (λ b. eqb b 0) (name ++ (0 ∷ rest)) (length name) 0 (omega arith)
-        (λ k lt. ap (λ (b : ℕ). eqb b 0) (get_or-append name (0 ∷ rest) 0 k lt) ∙ not_zero (get_or name k 0) (none k 0 lt))
-        (λ lt. ap (λ (b : ℕ). eqb b 0) (get_or-append_seam name 0 rest 0)) in
+    (λ k lt. ap (λ (b : ℕ). eqb b 0) (get_or-append name (0 ∷ rest) 0 k lt) ∙ not_zero (get_or name k 0) (none k 0 lt))
+    (λ lt. ap (λ (b : ℕ). eqb b 0) (get_or-append_seam name 0 rest 0)) in
     ap (λ (n : ℕ). take n (name ++ (0 ∷ rest))) at ∙ take_at name (0 ∷ rest) (length name) refl
 
 some_zero : (name rest : List ℕ) → list_any (λ b. eqb b 0) (name ++ (0 ∷ rest)) ≡ true
@@ -105,4 +105,3 @@ name_read names name has none =
       ended = ap (list_any (λ b. eqb b 0)) split ∙ some_zero name known.rest;
       read = ap (before_first (λ b. eqb b 0)) split ∙ before_zero name known.rest none;
     }
-

@@ -1,14 +1,14 @@
 -- How long the file of an object is.
-use Rattle.std.proofs.Common.{◌≡◌, ℕ, ◌+◌, ◌*◌, ◌≤◌, Bool, true, false, not, List, [], ◌∷◌, ◌++◌, length, fold, replicate, Option, Some, None, refl, sym, ap, ◌∙◌, arith, append_assoc}
+use Rattle.std.proofs.Common.{◌≡◌, ℕ, ◌+◌, ◌*◌, ◌≤◌, Bool, true, false, List, [], ◌∷◌, ◌++◌, length, fold, replicate, Option, Some, None, refl, ap, ◌∙◌, arith}
 use Rattle.std.specs.Prelude.{count_by, filter}
 use Rattle.std.specs.List.{sum_by, flat_map}
-use Rattle.std.proofs.lemmas.List.{length-append, length-replicate, append-nil}
+use Rattle.std.proofs.lemmas.List.{length-append, length-replicate}
 use Rattle.std.proofs.lemmas.List.Sums.{sum_by-cons, length-filter}
 use Rattle.std.proofs.lemmas.List.Filters.{length-filter_both}
 use Rattle.elf_form.specs.declared.object.Symbol.{Symbol}
 use Rattle.elf_form.specs.declared.object.Reloc.{Reloc}
 use Rattle.elf_form.specs.ObjectParts.{ObjectParts}
-use Rattle.elf_form.specs.Output.{longs, pad}
+use Rattle.elf_form.specs.Output.{longs}
 use Rattle.elf_form.specs.StringTable.{with_name, unless_placed, place_in, table_bytes}
 use Rattle.elf_form.specs.ObjectLayout.{next, layout, names_of, strings_of, is_of, symbol_bytes, symbol_table, reloc_bytes, reloc_table, object_header, part_sections, table_sections, object_parts, object_tables, object_bytes}
 use Rattle.elf_form.proofs.RowLaws.{length-longs}

@@ -1,5 +1,5 @@
 -- All that is known of the file of a whole object.
-use Rattle.std.proofs.Common.{◌≡◌, ◌≢◌, ℕ, ◌+◌, ◌*◌, ◌<◌, ◌≤◌, ◌^◌, Bool, true, false, cond, not, List, [], ◌∷◌, ◌++◌, length, get_or, replicate, refl, sym, ap, ◌∙◌, subst, arith, append_assoc}
+use Rattle.std.proofs.Common.{◌≡◌, ◌≢◌, ℕ, ◌+◌, ◌*◌, ◌<◌, ◌≤◌, ◌^◌, Bool, true, false, cond, not, List, ◌++◌, length, get_or, replicate, refl, sym, ap, ◌∙◌, subst, arith, append_assoc}
 use Rattle.std.specs.Prelude.{All, count_by, filter}
 use Rattle.std.specs.List.{flat_map, AllByRecursion}
 use Rattle.std.proofs.lemmas.List.{length-append}
@@ -8,8 +8,8 @@ use Rattle.guest_ram.specs.Bytes.{part}
 use Rattle.elf_form.specs.declared.object.Symbol.{Symbol}
 use Rattle.elf_form.specs.declared.object.Reloc.{Reloc}
 use Rattle.elf_form.specs.ObjectParts.{ObjectParts}
-use Rattle.elf_form.specs.StringTable.{table_bytes, name_place}
-use Rattle.elf_form.specs.ObjectLayout.{layout, names_of, strings_of, is_of, symbol_bytes, symbol_table, reloc_bytes, reloc_table, object_names, object_bytes, IsPlaced, patched, IsWritableObject, IsWholeObject, HasValues}
+use Rattle.elf_form.specs.StringTable.{table_bytes}
+use Rattle.elf_form.specs.ObjectLayout.{layout, names_of, strings_of, is_of, symbol_bytes, symbol_table, reloc_table, object_names, object_bytes, IsPlaced, patched, IsWritableObject, IsWholeObject, HasValues}
 use Rattle.elf_form.proofs.FileWords.{IsRow}
 use Rattle.elf_form.proofs.ObjectSizes.{ArePlaced, are_placed}
 use Rattle.elf_form.proofs.ObjectBounds.{length-object}

@@ -1,23 +1,23 @@
 -- A written object passes the tests of its parts and of its sections.
-use Rattle.std.proofs.Common.{◌≡◌, ℕ, ◌+◌, ◌*◌, ◌%◌, ◌<◌, ◌≤◌, Bool, true, false, cond, eqb, ltb, List, [], ◌∷◌, length, Option, Some, None, refl, sym, ap, ◌∙◌, arith, eq-eqb}
+use Rattle.std.proofs.Common.{◌≡◌, ℕ, ◌+◌, ◌*◌, ◌%◌, ◌<◌, ◌≤◌, Bool, true, false, ltb, List, length, None, refl, ap, ◌∙◌, arith, eq-eqb}
 use Rattle.std.specs.Prelude.{◌&&◌, count_by}
-use Rattle.std.proofs.lemmas.Bool.{cond-true, cond-false, le-ltb, lt-ltb}
+use Rattle.std.proofs.lemmas.Bool.{le-ltb, lt-ltb}
 use Rattle.guest_ram.specs.Bytes.{word32}
 use Rattle.elf_form.specs.declared.roles.Role.TheVariants as role
 use Rattle.elf_form.specs.declared.symbols.Table.{Table}
 use Rattle.elf_form.specs.declared.symbols.SectionTest.TheVariants.{EntrySizes, Links}
 use Rattle.elf_form.specs.ObjectParts.{ObjectParts}
 use Rattle.elf_form.specs.Output.{pad}
-use Rattle.elf_form.specs.Faults.{bad, ◌or_else◌, ◌or_lower◌}
+use Rattle.elf_form.specs.Faults.{◌or_else◌}
 use Rattle.elf_form.specs.Tables.{first, found}
-use Rattle.elf_form.specs.Header.{headers, sections, passes, header_passes, section_passes, header_table, section_table, header_count, section_count, part_of, header_cut, header_table_cut, section_table_cut, header_part_cut, section_part_cut, cut}
-use Rattle.elf_form.specs.Sections.{names, is_nameless, is_compressed, field_of, compressed, nameless}
-use Rattle.elf_form.specs.Roles.{has_role, with_role, is_misaligned, misaligned, joined_fault}
+use Rattle.elf_form.specs.Header.{passes, header_passes, section_passes, header_table, section_table, header_count, section_count, part_of, header_cut, header_table_cut, section_table_cut, header_part_cut, section_part_cut, cut}
+use Rattle.elf_form.specs.Sections.{is_nameless, is_compressed, field_of, compressed, nameless}
+use Rattle.elf_form.specs.Roles.{with_role, is_misaligned, misaligned, joined_fault}
 use Rattle.elf_form.specs.Symbols.{first_some, section_test, sections_fault}
 use Rattle.elf_form.specs.ObjectReading.{has_strings, table_of, link_of, table_fault, inner_sizes, object_sizes, object_form, section_names_fault}
 use Rattle.elf_form.specs.ObjectLayout.{layout, is_of, object_names}
 use Rattle.elf_form.proofs.FileWords.{IsRow}
-use Rattle.elf_form.proofs.RoundTrip.{not_first, neither_first, neither_lower, is_good}
+use Rattle.elf_form.proofs.RoundTrip.{neither_first, is_good}
 use Rattle.elf_form.proofs.ObjectFile.{IsFileOf}
 use Rattle.elf_form.proofs.ObjectSections.{rows, headers-are, sections-are, names-are, HasRoles, with-role, table-is, text_target, data_target, role_at-symbols}
 
@@ -125,4 +125,3 @@ module _ (f : List ℕ) (o : ObjectParts) (is : IsFileOf f o) (has : HasRoles f 
   unfolding sections_fault first_some rows
   links-none =
       rw (sections-are f o is, table-is f o is has) (rw (has.null, has.text, has.init, has.bss, has.sites, has.text_relocs, has.data_relocs, has.symbols, has.strings, has.names, text_target f o is has, data_target f o is has) (rw (is.links.text_link, is.links.data_link, is.header.sections, role_at-symbols f o is has, eq-eqb ((layout o).sections + 280) ((layout o).sections + 280) refl) refl))
-

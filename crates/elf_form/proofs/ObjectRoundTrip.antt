@@ -1,34 +1,25 @@
 -- A written object is read again.
-use Rattle.std.proofs.Common.{◌≡◌, ℕ, ◌+◌, ◌*◌, ◌-◌, ◌/◌, ◌%◌, ◌<◌, ◌≤◌, ◌^◌, Bool, true, false, cond, eqb, ltb, not, List, [], ◌∷◌, ◌++◌, length, get_or, drop, map, Option, Some, None, Ok, refl, sym, ap, ◌∙◌, subst, arith, eq-eqb}
-use Rattle.std.specs.Prelude.{◌&&◌, ◌||◌, filter, fold}
-use Rattle.std.specs.List.{list_any}
-use Rattle.std.proofs.lemmas.Bool.{cond-true, cond-false, le-ltb, lt-ltb}
-use Rattle.guest_ram.specs.Bytes.{byte, word16, word32}
+use Rattle.std.proofs.Common.{◌≡◌, ℕ, ◌+◌, ◌*◌, ◌-◌, ◌/◌, ◌%◌, ◌<◌, ◌≤◌, ◌^◌, Bool, true, false, cond, eqb, ltb, not, List, [], ◌++◌, length, get_or, map, Option, None, Ok, refl, ◌∙◌, subst, arith}
+use Rattle.std.specs.Prelude.{◌||◌, filter}
+use Rattle.std.proofs.lemmas.Bool.{le-ltb, lt-ltb}
+use Rattle.guest_ram.specs.Bytes.{word32}
 use Rattle.elf_form.specs.declared.object.Place.TheVariants as place
 use Rattle.elf_form.specs.declared.object.Symbol.{Symbol}
 use Rattle.elf_form.specs.declared.object.Reloc.{Reloc}
-use Rattle.elf_form.specs.declared.roles.Role.{Role}
 use Rattle.elf_form.specs.declared.roles.Role.TheVariants as role
-use Rattle.elf_form.specs.declared.symbols.Table.{Table}
-use Rattle.elf_form.specs.declared.symbols.Entry.{Entry}
-use Rattle.elf_form.specs.declared.symbols.SymbolTest.{SymbolTest}
 use Rattle.elf_form.specs.declared.symbols.SymbolTest.TheVariants.{Names, Globals}
 use Rattle.elf_form.specs.declared.symbols.RelocTest.{RelocTest}
 use Rattle.elf_form.specs.declared.symbols.RelocTest.TheVariants.{Named, Form}
 use Rattle.elf_form.specs.ObjectParts.{ObjectParts}
-use Rattle.elf_form.specs.StringTable.{table_bytes, name_place}
-use Rattle.elf_form.specs.Faults.{bad, ◌or_else◌, ◌or_lower◌}
+use Rattle.elf_form.specs.Faults.{bad}
 use Rattle.elf_form.specs.Tables.{entries, found}
-use Rattle.elf_form.specs.Header.{sections}
-use Rattle.elf_form.specs.Sections.{names}
-use Rattle.elf_form.specs.Roles.{with_role, is_kept, role_number}
-use Rattle.elf_form.specs.Symbols.{is_file, binding, symbols_of, has_binding, has_place, is_listed, symbol_fault, global_fault, target, target_role, entry, number_of, has_symbol, symbol_of, size_at, is_outside, has_kind, names_none, named_fault, form_fault, is_unnamed, symbol_test, symbols_fault, reloc_test, relocs_fault, relocs_of, start_at, symbol_at, symbols_in, numbers, reloc_at}
-use Rattle.elf_form.specs.ObjectReading.{table_of, strings_of, symbol_names_fault, string_places, kept_relocs, symbol_form, reloc_form, object_at, late_tests, middle_tests, early_tests, object_in}
+use Rattle.elf_form.specs.Roles.{role_number}
+use Rattle.elf_form.specs.Symbols.{is_file, symbols_of, has_binding, has_place, is_listed, symbol_fault, global_fault, target, target_role, entry, number_of, has_symbol, symbol_of, size_at, named_fault, form_fault, is_unnamed, symbols_fault, reloc_test, relocs_fault, relocs_of, start_at, symbol_at, symbols_in, numbers, reloc_at}
+use Rattle.elf_form.specs.ObjectReading.{table_of, strings_of, string_places, kept_relocs, symbol_form, reloc_form, object_at, late_tests, middle_tests, early_tests, object_in}
 use Rattle.elf_form.specs.ObjectLayout.{layout, names_of, strings_of as names_table, is_of, place_number, object_names, object_bytes, IsWholeObject, HasValues}
 use Rattle.elf_form.proofs.RoundTrip.{neither_lower}
-use Rattle.elf_form.proofs.NamePlaces.{IsRead}
 use Rattle.elf_form.proofs.EntryLists.{EachAt, each-weaker, each-at, first_some-each, listed-each, map-each, lowest-each, numbers-each}
-use Rattle.elf_form.proofs.WrittenEntries.{IsWholeSymbol, IsSymbolAt, IsWholeReloc, IsRelocAt}
+use Rattle.elf_form.proofs.WrittenEntries.{IsSymbolAt, IsRelocAt}
 use Rattle.elf_form.proofs.ObjectFile.{IsFileOf, file_is}
 use Rattle.elf_form.proofs.ObjectSections.{sections-are, names-are, HasRoles, roles-are, with-role, table-is, strings-are, text_target, data_target, text-relocs, init-relocs, bss-relocs, start-none, place-read, place-kept, text_bytes, sites_bytes, joined-init, joined-bss}
 use Rattle.elf_form.proofs.ObjectPasses.{not_cut, sizes-none, form-none, not_compressed, section_names-none, has_names, links-none}

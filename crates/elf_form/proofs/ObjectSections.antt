@@ -1,25 +1,20 @@
 -- The sections of a written object, and what each is read as.
-use Rattle.std.proofs.Common.{◌≡◌, ℕ, ◌+◌, ◌*◌, ◌-◌, ◌/◌, ◌<◌, ◌≤◌, ◌^◌, Bool, true, false, cond, eqb, List, [], ◌∷◌, ◌++◌, length, get_or, map, refl, sym, ap, ◌∙◌, arith}
-use Rattle.std.specs.Prelude.{◌||◌, count_by, filter}
+use Rattle.std.proofs.Common.{◌≡◌, ℕ, ◌+◌, ◌/◌, true, false, eqb, List, [], ◌∷◌, length, map, refl, ap, ◌∙◌, arith}
+use Rattle.std.specs.Prelude.{◌||◌, filter}
 use Rattle.std.specs.List.{flat_map}
 use Rattle.std.proofs.lemmas.List.{append-nil}
 use Rattle.std.proofs.lemmas.List.Sums.{length-filter}
-use Rattle.guest_ram.specs.Bytes.{part, word16, word32}
 use Rattle.elf_form.specs.declared.roles.Role.{Role}
 use Rattle.elf_form.specs.declared.roles.Role.TheVariants as role
 use Rattle.elf_form.specs.declared.object.Place.{Place}
 use Rattle.elf_form.specs.declared.object.Place.TheVariants as place
-use Rattle.elf_form.specs.declared.segments.Found.{Found}
-use Rattle.elf_form.specs.declared.segments.Found.TheVariants.{Nothing, One}
-use Rattle.elf_form.specs.declared.symbols.Table.{Table}
-use Rattle.elf_form.specs.declared.symbols.Entry.{Entry}
 use Rattle.elf_form.specs.ObjectParts.{ObjectParts}
 use Rattle.elf_form.specs.Tables.{entries, found}
 use Rattle.elf_form.specs.Header.{headers, sections}
 use Rattle.elf_form.specs.Sections.{contents, names}
 use Rattle.elf_form.specs.Roles.{role as role_of, is_kept, has_role, with_role, starts, joined_end, joined, with_section}
-use Rattle.elf_form.specs.Symbols.{table_at, place_by, target_role, role_at, is_reloc_section, is_reloc_section_of, entry, relocs_in, relocs_of, size_at, start_at}
-use Rattle.elf_form.specs.ObjectReading.{strings_in, table_of, link_of, strings_of}
+use Rattle.elf_form.specs.Symbols.{table_at, place_by, target_role, role_at, is_reloc_section_of, entry, relocs_in, relocs_of, start_at}
+use Rattle.elf_form.specs.ObjectReading.{strings_in, table_of, strings_of}
 use Rattle.elf_form.specs.ObjectLayout.{layout, strings_of as names_table, is_of, place_number, object_names, symbol_table, reloc_table}
 use Rattle.elf_form.proofs.ObjectBounds.{length-symbols, length-relocs}
 use Rattle.elf_form.proofs.ObjectFile.{IsFileOf}
@@ -255,4 +250,3 @@ module _ (f : List ℕ) (o : ObjectParts) (is : IsFileOf f o) (has : HasRoles f 
   pub joined-bss : joined_end role.Bss object_names f 0 (rows (layout o).sections) ≡ o.bss
   unfolding joined_end rows
   joined-bss = rw (has.null, has.text, has.init, has.bss, has.sites, has.text_relocs, has.data_relocs, has.symbols, has.strings, has.names, is.links.bss_alignment) (rw is.bss.size (omega arith))
-

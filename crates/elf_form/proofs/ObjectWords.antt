@@ -1,16 +1,15 @@
 -- The numbers and the parts that stand in the file of an object.
-use Rattle.std.proofs.Common.{◌≡◌, ℕ, ◌+◌, ◌*◌, ◌<◌, ◌≤◌, ◌^◌, true, false, List, [], ◌∷◌, ◌++◌, length, get_or, replicate, refl, sym, ap, ◌∙◌, arith, append_assoc}
-use Rattle.std.specs.Prelude.{count_by, filter}
-use Rattle.std.specs.List.{flat_map}
+use Rattle.std.proofs.Common.{◌≡◌, ℕ, ◌+◌, ◌*◌, ◌<◌, ◌^◌, true, false, List, [], ◌++◌, length, get_or, replicate, refl, sym, ap, ◌∙◌, arith, append_assoc}
+use Rattle.std.specs.Prelude.{count_by}
 use Rattle.std.proofs.lemmas.List.{length-append, length-replicate, append-nil}
 use Rattle.std.proofs.lemmas.Nat.{from_le_bytes-to_le_bytes_4}
 use Rattle.guest_ram.specs.Bytes.{part, byte, word16, word32}
 use Rattle.elf_form.specs.ObjectParts.{ObjectParts}
 use Rattle.elf_form.specs.Output.{longs, pad}
-use Rattle.elf_form.specs.ObjectLayout.{next, layout, names_of, strings_of, is_of, symbol_bytes, symbol_table, reloc_bytes, reloc_table, object_header, object_names, part_sections, table_sections, object_parts, object_tables, object_bytes, IsWritableObject}
+use Rattle.elf_form.specs.ObjectLayout.{next, layout, strings_of, is_of, symbol_table, reloc_table, object_header, object_names, part_sections, table_sections, object_parts, object_tables, object_bytes, IsWritableObject}
 use Rattle.elf_form.proofs.FileWords.{IsRow}
 use Rattle.elf_form.proofs.RowLaws.{part-middle, row_behind, length-longs}
-use Rattle.elf_form.proofs.ObjectSizes.{ArePlaced, are_placed}
+use Rattle.elf_form.proofs.ObjectSizes.{ArePlaced}
 use Rattle.elf_form.proofs.ObjectBounds.{length-symbols, length-relocs, length-header, length-parts, length-tables}
 
 -- the header of the file f, with the section table at t

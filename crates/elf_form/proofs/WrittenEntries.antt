@@ -1,16 +1,15 @@
 -- The symbols and the relocations that stand in the file of an object.
-use Rattle.std.proofs.Common.{◌≡◌, ℕ, ◌+◌, ◌*◌, ◌<◌, ◌≤◌, ◌^◌, Bool, true, false, cond, List, [], ◌∷◌, ◌++◌, length, get_or, take, drop, refl, sym, ap, ◌∙◌, subst, arith, append_assoc}
-use Rattle.std.specs.Prelude.{All}
+use Rattle.std.proofs.Common.{◌≡◌, ℕ, ◌+◌, ◌*◌, ◌<◌, ◌≤◌, ◌^◌, Bool, true, false, cond, List, [], ◌∷◌, ◌++◌, length, get_or, take, drop, refl, sym, ap, ◌∙◌, arith, append_assoc}
 use Rattle.std.specs.List.{flat_map, AllByRecursion}
 use Rattle.std.specs.Int.{w16, from_le_bytes}
-use Rattle.std.proofs.lemmas.List.{length-append, drop_at, drop-drop, get_or-append-add}
+use Rattle.std.proofs.lemmas.List.{drop_at, drop-drop, get_or-append-add}
 use Rattle.guest_ram.specs.Bytes.{part, byte, word16, word32}
 use Rattle.elf_form.specs.declared.object.Place.{Place}
 use Rattle.elf_form.specs.declared.object.Place.TheVariants.{Undefined, Text, Init, Bss}
 use Rattle.elf_form.specs.declared.object.Symbol.{Symbol}
 use Rattle.elf_form.specs.declared.object.Reloc.{Reloc}
 use Rattle.elf_form.specs.Output.{halves, longs}
-use Rattle.elf_form.specs.StringTable.{table_bytes, name_place}
+use Rattle.elf_form.specs.StringTable.{name_place}
 use Rattle.elf_form.specs.ObjectLayout.{place_number, symbol_bytes, reloc_bytes, IsPlaced}
 use Rattle.elf_form.proofs.RowLaws.{row_behind}
 use Rattle.elf_form.proofs.ObjectBounds.{length-symbol, length-reloc}
@@ -109,4 +108,3 @@ module _ (in_text : Bool) (size count : ℕ) (small : size < 2 ^ 32) (few : coun
   pub relocs_written : (xs : List Reloc) (before after : List ℕ) (at : ℕ) → length before ≡ at → AllByRecursion (IsWholeReloc in_text size count) xs → EachAt (IsRelocAt in_text size count (before ++ (flat_map reloc_bytes xs ++ after))) 8 at xs
   relocs_written xs before after at len all =
       each-written reloc_bytes 8 (IsWholeReloc in_text size count) (λ f y r. IsRelocAt in_text size count f y r) length-reloc reloc_there xs before after at len all
-

@@ -1,4 +1,4 @@
--- The one layout of an object file.
+-- The one layout of an object file (System V ABI, chapter 4). The order of the parts is the profile's.
 use Rattle.std.specs.Prelude.{◌≡◌, ◌≢◌, ℕ, ◌+◌, ◌*◌, true, false, ◌<◌, ◌≤◌, ◌^◌, Bool, not, List, [], ◌∷◌, ◌++◌, length, fold, filter, count_by, All, replicate, codes, if◌then◌else◌}
 use Rattle.std.specs.List.{flat_map, position_or_len}
 use Rattle.elf_form.specs.declared.object.Place.{Place}
@@ -45,7 +45,7 @@ place_number Text = 1
 place_number Init = 2
 place_number Bss = 3
 
--- name, value, size; binding (1 for global) and type, other, section
+-- Symbol Table: name, value, size; binding (1 for global) and type, other, section
 unfoldable pub symbol_bytes : List (List ℕ) → Symbol → List ℕ
 symbol_bytes names s = longs (name_place names s.name ∷ s.value ∷ 0 ∷ []) ++ ((if s.global then 16 else 0) ∷ 0 ∷ halves (place_number s.place ∷ []))
 
@@ -57,7 +57,7 @@ symbol_table symbols = replicate 16 0 ++ flat_map (symbol_bytes (names_of symbol
 abbrev pub first_global : List Symbol → ℕ
 first_global symbols = position_or_len (λ s. s.global) symbols + 1
 
--- place; symbol and type: R_386_32 is 1, R_386_PC32 is 2. The null symbol comes before symbol 0.
+-- Relocation: place; symbol and type: R_386_32 is 1, R_386_PC32 is 2. The null symbol comes before symbol 0.
 unfoldable pub reloc_bytes : Reloc → List ℕ
 reloc_bytes r = longs (r.at ∷ (256 * (r.symbol + 1) + (if r.relative then 2 else 1)) ∷ [])
 
@@ -75,7 +75,7 @@ object_header o =
     ++ (longs (1 ∷ 0 ∷ 0 ∷ (layout o).sections ∷ 0 ∷ [])
     ++ halves (52 ∷ 0 ∷ 0 ∷ 40 ∷ 10 ∷ 9 ∷ [])))
 
--- name, type, flags, address, offset, bytes, link, info, alignment, size of entries
+-- Sections: name, type, flags, address, offset, bytes, link, info, alignment, size of entries
 abbrev pub part_sections : ObjectParts → List ℕ
 part_sections o =
     0 ∷ 0 ∷ 0 ∷ 0 ∷ 0 ∷ 0 ∷ 0 ∷ 0 ∷ 0 ∷ 0
