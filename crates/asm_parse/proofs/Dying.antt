@@ -9,10 +9,10 @@ use Rattle.asm_lex.specs.Words.{Word, scan, line_after}
 use Rattle.asm_parse.specs.declared.state.State.{State}
 use Rattle.asm_parse.specs.declared.state.State.TheVariants as state
 use Rattle.asm_parse.specs.ScopeView.{ScopeView}
-use Rattle.asm_parse.specs.Statement.{next_step, doom, pending, or_line, fault_line, left_open, open_at_end}
-use Rattle.asm_parse.specs.Reading.{Fault, placed, symbol_of}
+use Rattle.asm_parse.specs.Statement.{doom, pending, or_line, fault_line, left_open, open_at_end}
+use Rattle.asm_parse.specs.Reading.{Fault, placed, next_word}
 use Rattle.asm_parse.specs.Running.{Running, ◌>>=◌, one_byte, run, start, closed, read, first_lines}
-use Rattle.asm_parse.proofs.Quiet.{doomed_stops}
+use Rattle.asm_parse.proofs.Quiet.{doomed_word}
 use Rattle.asm_parse.proofs.Lines.{Keeps, OneByte, bind_ok, err_line, ok_byte, line_newline, line_same, run_ok, IsRead}
 use Rattle.asm_parse.proofs.Words.{read_words}
 use Rattle.asm_parse.proofs.Linking.{run_append, link, last_mode, closed_between}
@@ -31,11 +31,11 @@ words_doomed [] sc st l y d h e =
     let none : None ≡ Some l = sym (ap (doom sc) start) ∙ d in
     absurd cc
 words_doomed (w ∷ ws) sc st l y d h e =
-    let z = bind_ok (placed (fault_line sc st w.line) (next_step sc st w.line (symbol_of w.kind w.bytes))) (λ z. read_words z.0 z.1 ws) y h in
-    by_step (next_step sc st w.line (symbol_of w.kind w.bytes)) refl z.1
+    let z = bind_ok (placed (fault_line sc st w.line) (next_word sc st w)) (λ z. read_words z.0 z.1 ws) y h in
+    by_step (next_word sc st w) refl z.1
   where
-    by_step : {z : ScopeView × State} (r : Result (ScopeView × State) SourceCause) → next_step sc st w.line (symbol_of w.kind w.bytes) ≡ r → placed (fault_line sc st w.line) r ≡ Ok z → ⊥
-    by_step (Ok x) f g = doomed_stops sc st l w.line (symbol_of w.kind w.bytes) x d f
+    by_step : {z : ScopeView × State} (r : Result (ScopeView × State) SourceCause) → next_word sc st w ≡ r → placed (fault_line sc st w.line) r ≡ Ok z → ⊥
+    by_step (Ok x) f g = doomed_word sc st l w x d f
     by_step (Err c) f g = absurd cc
 
 doomed_never : (r : Running) (l : ℕ) → doom r.scope r.state ≡ Some l → (more : List ℕ) (t : Running) → finish r (more ++ 10 ∷ []) ≡ Ok t → ⊥

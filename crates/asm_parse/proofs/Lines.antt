@@ -8,14 +8,13 @@ use Rattle.asm_lex.specs.declared.machine.Next.TheVariants.{Goes, Stops}
 use Rattle.asm_lex.specs.declared.machine.Stepped.{Stepped}
 use Rattle.asm_lex.specs.declared.token.Token.{Token}
 use Rattle.asm_lex.specs.Machine.{stepped}
-use Rattle.asm_lex.specs.Words.{line_after}
-use Rattle.asm_parse.specs.declared.symbol.Symbol.{Symbol}
+use Rattle.asm_lex.specs.Words.{Word, word_of, line_after}
 use Rattle.asm_parse.specs.declared.state.State.{State}
 use Rattle.asm_parse.specs.ScopeView.{ScopeView}
-use Rattle.asm_parse.specs.Statement.{next_step, doom, or_line, fault_line, stopped}
-use Rattle.asm_parse.specs.Reading.{Fault, fed, placed, symbol_of}
+use Rattle.asm_parse.specs.Statement.{doom, or_line, fault_line, stopped}
+use Rattle.asm_parse.specs.Reading.{Fault, fed, placed, next_word}
 use Rattle.asm_parse.specs.Running.{Running, ◌>>=◌, goes_on, byte_does, second_does, one_byte_over, moved, one_byte, run, read}
-use Rattle.asm_parse.proofs.Quiet.{Answer, doomed_stops, new_doom}
+use Rattle.asm_parse.proofs.Quiet.{Answer, doomed_word, word_doom}
 
 pub bind_err : {A B : Type 0} (r : Result A Fault) (k : A → Result B Fault) (f : Fault) → (r >>= k) ≡ Err f → (r ≡ Err f) ⊎ ((x : A) × (r ≡ Ok x) × (k x ≡ Err f))
 bind_err (Ok x) k f h = inr (x, refl, h)
@@ -55,16 +54,16 @@ fed_line : (sc : ScopeView) (st : State) (seen : List ℕ) (line : ℕ) (t : Opt
 fed_line sc st seen line None f h = absurd cc
 fed_line sc st seen line (Some t) f h = placed_line (fault_line sc st line) _ f h
 
-step_keeps : (sc : ScopeView) (st : State) (line : ℕ) (s : Symbol) (x : ScopeView × State) → next_step sc st line s ≡ Ok x → Keeps sc st line x.0 x.1
-step_keeps sc st line s x h = by_doom (doom sc st) refl
+word_keeps : (sc : ScopeView) (st : State) (w : Word) (x : ScopeView × State) → next_word sc st w ≡ Ok x → Keeps sc st w.line x.0 x.1
+word_keeps sc st w x h = by_doom (doom sc st) refl
   where
-    by_doom : (d : Option ℕ) → doom sc st ≡ d → Keeps sc st line x.0 x.1
-    by_doom (Some l) e = absurd (doomed_stops sc st l line s x e h)
-    by_doom None e = elim (new_doom sc st line s x h) [ inl f ↦ inl (f ∙ sym e) | inr f ↦ inr (e, f) ]
+    by_doom : (d : Option ℕ) → doom sc st ≡ d → Keeps sc st w.line x.0 x.1
+    by_doom (Some l) e = absurd (doomed_word sc st l w x e h)
+    by_doom None e = elim (word_doom sc st w x h) [ inl f ↦ inl (f ∙ sym e) | inr f ↦ inr (e, f) ]
 
 fed_keeps : (sc : ScopeView) (st : State) (seen : List ℕ) (line : ℕ) (t : Option Token) (x : ScopeView × State) → fed sc st seen line t ≡ Ok x → Keeps sc st line x.0 x.1
 fed_keeps sc st seen line None x h = let e : (sc, st) ≡ x = cc in inl (sym (ap (λ (z : ScopeView × State). doom z.0 z.1) e))
-fed_keeps sc st seen line (Some t) x h = step_keeps sc st line _ x (placed_goes (fault_line sc st line) _ x h)
+fed_keeps sc st seen line (Some t) x h = word_keeps sc st (word_of seen line t) x (placed_goes (fault_line sc st line) _ x h)
 
 goes_line : (line : ℕ) (y : ScopeView × State) (n : Next) (f : Fault) → goes_on line y n ≡ Err f → f.0 ≡ fault_line y.0 y.1 line
 goes_line line y (Goes m) f h = absurd cc

@@ -1,6 +1,6 @@
 -- What is dead takes no token more, and a token makes nothing dead but in its own line.
 use Rattle.std.proofs.Common.{◌≡◌, ℕ, Bool, true, false, cond, List, [], ◌∷◌, ◌++◌, length, Option, Some, None, Result, Ok, Err, refl, sym, ap, subst, ◌∙◌, ◌⊎◌, inl, inr}
-use Rattle.std.specs.Prelude.{not, ◌&&◌, ◌||◌, is_none, nat_lt}
+use Rattle.std.specs.Prelude.{not, ◌&&◌, ◌||◌, is_none, nat_lt, ◌+◌}
 use Rattle.asm_lex.specs.declared.fault.SourceCause.{SourceCause}
 use Rattle.asm_lex.specs.declared.fault.SourceCause.TheVariants as cause
 use Rattle.asm_parse.specs.declared.symbol.Symbol.{Symbol}
@@ -15,10 +15,13 @@ use Rattle.asm_parse.specs.declared.directive.Head.TheVariants as head
 use Rattle.asm_parse.specs.declared.state.Open.{Open}
 use Rattle.asm_parse.specs.declared.state.State.{State}
 use Rattle.asm_parse.specs.declared.state.State.TheVariants as state
+use Rattle.asm_lex.specs.Words.{Word}
+use Rattle.asm_lex.specs.declared.token.TokenKind.{TokenKind}
 use Rattle.asm_parse.specs.ScopeView.{ScopeView}
+use Rattle.asm_parse.specs.Reading.{symbol_of, is_longer, longer, ending_at, with_end, next_word}
 use Rattle.asm_parse.specs.Scope.{holds, has_room}
 use Rattle.asm_parse.specs.Operand.{operand_step, is_finished, name_in}
-use Rattle.asm_parse.specs.Statement.{shape_at, least, defines, noting, after_noting, with_name, after_step, at_shape, within, argument_of, comma_behind, end_behind, ended, complete, complete_with, is_bare, takes_star, argument_step, nothing_yet, labelled, label, is_rep, rep_step, instruction_step, directive_of, of_directive, directive_step, is_dotted, is_passed, is_section, section_name, section, unless_skipping, start_step, colon_behind, other_behind, named_step, sectioned_step, joining_step, flags_step, skip, with_scope, stray_cause, step, is_place, strayed, next_step, is_unknown, is_taken, if_doomed, doom}
+use Rattle.asm_parse.specs.Statement.{shape_at, least, defines, noting, after_noting, with_name, after_step, at_shape, within, argument_of, comma_behind, end_behind, ended, complete, complete_with, is_bare, takes_star, argument_step, nothing_yet, labelled, label, is_rep, rep_step, instruction_step, directive_of, of_directive, directive_step, is_dotted, is_passed, is_section, section_name, section, unless_skipping, start_step, colon_behind, other_behind, named_step, sectioned_step, flags_step, skip, with_scope, stray_cause, step, is_place, strayed, next_step, is_unknown, is_taken, if_doomed, doom}
 
 abbrev pub Answer : Type 0
 Answer = Result (ScopeView × State) SourceCause
@@ -83,8 +86,7 @@ doomed_stops sc (state.Named b n) l line s x e h =
     named_stops sc b line n s x (not_false sc.skipping front.1) front.0 (none_is (directive_of n) known.1) both.1 h
 doomed_stops sc state.Start l line s x e h = absurd cc
 doomed_stops sc state.Skip l line s x e h = absurd cc
-doomed_stops sc (state.Sectioned b n m) l line s x e h = absurd cc
-doomed_stops sc (state.Joining b n m) l line s x e h = absurd cc
+doomed_stops sc (state.Sectioned b n m a) l line s x e h = absurd cc
 doomed_stops sc (state.Flags b n m) l line s x e h = absurd cc
 doomed_stops sc (state.Arguments o) l line s x e h = absurd cc
 
@@ -160,7 +162,7 @@ cond_quiet line sc true st c h = h
 cond_quiet line sc false st c h = tt
 
 section_quiet : (line : ℕ) (sc : ScopeView) (b : ℕ) (n : List ℕ) (s : Symbol) → Quiet line (with_scope sc (section_name b n s))
-section_quiet line sc b n (symbol.Name m) = cond_quiet line sc (is_section m) (state.Sectioned b n m) cause.BadArgument tt
+section_quiet line sc b n (symbol.Name m) = cond_quiet line sc (is_section m) (state.Sectioned b n m 0) cause.BadArgument tt
 section_quiet line sc b n _ = tt
 
 directive_quiet : (line : ℕ) (sc : ScopeView) (b : ℕ) (n : List ℕ) (s : Symbol) (d : Option Directive) → Quiet line (of_directive d sc b n s)
@@ -181,13 +183,8 @@ named_quiet line sc b n s = behind_quiet line sc b n s
 sectioned_quiet : (line : ℕ) (sc : ScopeView) (b : ℕ) (n m : List ℕ) (s : Symbol) → Quiet line (sectioned_step sc b n m s)
 sectioned_quiet line sc b n m symbol.End = tt
 sectioned_quiet line sc b n m symbol.Comma = tt
-sectioned_quiet line sc b n m symbol.Minus = tt
 sectioned_quiet line sc b n m symbol.Big = tt
 sectioned_quiet line sc b n m _ = tt
-
-joining_quiet : (line : ℕ) (sc : ScopeView) (b : ℕ) (n m : List ℕ) (s : Symbol) → Quiet line (joining_step sc b n m s)
-joining_quiet line sc b n m (symbol.Name k) = tt
-joining_quiet line sc b n m s = sectioned_quiet line sc b n m s
 
 flags_quiet : (line : ℕ) (sc : ScopeView) (b : ℕ) (n m : List ℕ) (s : Symbol) → Quiet line (flags_step sc b n m s)
 flags_quiet line sc b n m symbol.End = tt
@@ -207,8 +204,7 @@ step_quiet : (line : ℕ) (sc : ScopeView) (st : State) (s : Symbol) → Quiet l
 step_quiet line sc state.Start s = start_quiet line sc s
 step_quiet line sc (state.Named b n) s = named_quiet line sc b n s
 step_quiet line sc state.Skip s = skip_quiet line s
-step_quiet line sc (state.Sectioned b n m) s = sectioned_quiet line sc b n m s
-step_quiet line sc (state.Joining b n m) s = joining_quiet line sc b n m s
+step_quiet line sc (state.Sectioned b n m e) s = sectioned_quiet line sc b n m s
 step_quiet line sc (state.Flags b n m) s = flags_quiet line sc b n m s
 step_quiet line sc (state.Arguments o) s = arguments_quiet line sc o s
 step_quiet line sc (state.Stray l c) s = tt
@@ -235,3 +231,51 @@ quiet_doom line sc _ h = inl refl
 
 pub new_doom : (sc : ScopeView) (st : State) (line : ℕ) (s : Symbol) (x : ScopeView × State) → next_step sc st line s ≡ Ok x → NoneOr line (doom x.0 x.1)
 new_doom sc st line s x h = quiet_doom line x.0 x.1 (subst (Quiet line) h (next_quiet line sc st s))
+
+-- ---- the same of words
+
+-- a word goes on with a section's name, or is a symbol
+pub data WordGoes (sc : ScopeView) (st : State) (w : Word) (x : ScopeView × State) : Type 0 where
+  on : is_longer st w.at w.kind w.bytes ≡ true → x ≡ (sc, longer st (w.at + length w.bytes) w.bytes) → WordGoes sc st w x
+  as_symbol : (y : ScopeView × State) → is_longer st w.at w.kind w.bytes ≡ false → next_step sc st w.line (symbol_of w.kind w.bytes) ≡ Ok y → x ≡ (y.0, ending_at (w.at + length w.bytes) y.1) → WordGoes sc st w x
+
+pub word_goes : (sc : ScopeView) (st : State) (w : Word) (x : ScopeView × State) → next_word sc st w ≡ Ok x → WordGoes sc st w x
+word_goes sc st w x h = by_test (is_longer st w.at w.kind w.bytes) refl h
+  where
+    by_result : (r : Answer) → is_longer st w.at w.kind w.bytes ≡ false → next_step sc st w.line (symbol_of w.kind w.bytes) ≡ r → with_end (w.at + length w.bytes) r ≡ Ok x → WordGoes sc st w x
+    by_result (Ok y) t e h = let g : (y.0, ending_at (w.at + length w.bytes) y.1) ≡ x = cc in WordGoes.as_symbol y t e (sym g)
+    by_result (Err c) t e h = absurd cc
+
+    by_test : (t : Bool) → is_longer st w.at w.kind w.bytes ≡ t
+        → ◌≡◌ {A = Answer} (cond t (Ok (sc, longer st (w.at + length w.bytes) w.bytes)) (with_end (w.at + length w.bytes) (next_step sc st w.line (symbol_of w.kind w.bytes)))) (Ok x) → WordGoes sc st w x
+    by_test true e h = let g : (sc, longer st (w.at + length w.bytes) w.bytes) ≡ x = cc in WordGoes.on e (sym g)
+    by_test false e h = by_result (next_step sc st w.line (symbol_of w.kind w.bytes)) e refl h
+
+ending_doom : (sc : ScopeView) (st : State) (e : ℕ) → doom sc (ending_at e st) ≡ doom sc st
+ending_doom sc (state.Sectioned b n m a) e = refl
+ending_doom sc _ e = refl
+
+longer_quiet : (sc : ScopeView) (st : State) (at e : ℕ) (k : TokenKind) (bytes : List ℕ) → is_longer st at k bytes ≡ true → (doom sc st ≡ None) × (doom sc (longer st e bytes) ≡ None)
+longer_quiet sc (state.Sectioned b n m a) at e k bytes h = (refl, refl)
+longer_quiet sc state.Start at e k bytes h = absurd cc
+longer_quiet sc (state.Named b n) at e k bytes h = absurd cc
+longer_quiet sc state.Skip at e k bytes h = absurd cc
+longer_quiet sc (state.Flags b n m) at e k bytes h = absurd cc
+longer_quiet sc (state.Arguments o) at e k bytes h = absurd cc
+longer_quiet sc (state.Stray l c) at e k bytes h = absurd cc
+
+none_not : {l : ℕ} (o : Option ℕ) → o ≡ None → o ≡ Some l → ⊥
+none_not o e f = absurd cc
+
+pub doomed_word : (sc : ScopeView) (st : State) (l : ℕ) (w : Word) (x : ScopeView × State) → doom sc st ≡ Some l → next_word sc st w ≡ Ok x → ⊥
+doomed_word sc st l w x e h = elim (word_goes sc st w x h) [
+  | WordGoes.on t g ↦ none_not (doom sc st) (longer_quiet sc st w.at 0 w.kind w.bytes t).0 e
+  | WordGoes.as_symbol y t f g ↦ doomed_stops sc st l w.line (symbol_of w.kind w.bytes) y e f
+]
+
+pub word_doom : (sc : ScopeView) (st : State) (w : Word) (x : ScopeView × State) → next_word sc st w ≡ Ok x → NoneOr w.line (doom x.0 x.1)
+word_doom sc st w x h = elim (word_goes sc st w x h) [
+  | WordGoes.on t g ↦ inl (ap (λ (z : ScopeView × State). doom z.0 z.1) g ∙ (longer_quiet sc st w.at (w.at + length w.bytes) w.kind w.bytes t).1)
+  | WordGoes.as_symbol y t f g ↦
+      subst (NoneOr w.line) (sym (ap (λ (z : ScopeView × State). doom z.0 z.1) g ∙ ending_doom y.0 y.1 (w.at + length w.bytes))) (new_doom sc st w.line (symbol_of w.kind w.bytes) y f)
+]

@@ -33,7 +33,7 @@ use Rattle.asm_parse.specs.Scope.{fresh, holds, added, pushed, noted, has_room}
 use Rattle.asm_parse.specs.Grammar.{IsValue, IsForm}
 use Rattle.asm_parse.specs.Reading.{number_value, mark_symbol, number_symbol, symbol_of}
 use Rattle.asm_parse.specs.Statement.{defines, item_of, resumed, sectioned}
-use Rattle.asm_parse.specs.Statements.{IsSeen, Sees, symbol_in, IsArgument, IsNext, Separated, HasArguments, Statement, Statements, symbols}
+use Rattle.asm_parse.specs.Statements.{IsSeen, Sees, symbol_in, IsArgument, IsNext, Separated, HasArguments, Statement, symbols, text_of, IsStatement, Statements}
 use Rattle.asm_parse.specs.Readable.{name_list, argument_names, body_names, names_in, IsReadable}
 use Rattle.asm_parse.specs.Running.{Says, Parses, read}
 use Rattle.asm_parse.proofs.Sources.{parsed_is}
@@ -253,18 +253,21 @@ statement_tracks {sc} {line} (Statement.repeated {sc2} {r} {n} {ss} {args} passe
 statement_tracks {sc} {line} (Statement.directive {sc2} {n} {k} {ss} {args} passed dotted dir list has count) plain t =
     tracks_on sc sc2 _ (item_of line (head.Directive k n) args) t (arguments_grown has (front_plain ss (symbol.End ∷ []) plain.1) t.fit)
     (resumed_names (pushed sc2 (item_of line (head.Directive k n) args)) (head.Directive k n)) (resumed_items (pushed sc2 (item_of line (head.Directive k n) args)) (head.Directive k n))
-statement_tracks {sc} {line} (Statement.section {n} {m} ms ss passed dotted dir names flags) plain t =
-    tracks_on sc sc _ (record { line = line; body = body.Directive n (record { star = false; form = form.Text m } ∷ []) }) t (none_grown sc sc refl t.fit) refl refl
 statement_tracks (Statement.skipped_directive ss passed dotted dir u h) plain t = t
 statement_tracks (Statement.skipped_label sk) plain t = t
 statement_tracks (Statement.skipped ss passed u h) plain t = t
 statement_tracks (Statement.nameless ss sk k h) plain t = t
 
+piece_tracks : {sc sc2 : ScopeView} {ws : List Word} → IsStatement sc ws sc2 → PlainSymbols (symbols ws) → Tracks sc → Tracks sc2
+piece_tracks (IsStatement.plain w ws st) plain t = statement_tracks st plain t
+piece_tracks {sc} (IsStatement.section {n} {m} w v parts rest ss wn passed dotted dir vm is touch end flags) plain t =
+    tracks_on sc sc _ (record { line = w.line; body = body.Directive n (record { star = false; form = form.Text (m ++ text_of parts) } ∷ []) }) t (none_grown sc sc refl t.fit) refl refl
+
 statements_track : {sc sc2 : ScopeView} {ws : List Word} → Statements sc ws sc2 → PlainSymbols (symbols ws) → Tracks sc → Tracks sc2
 statements_track Statements.none plain t = t
-statements_track {ws} (Statements.more w piece rest e st tail) plain t =
-    let whole : PlainSymbols (symbols (w ∷ piece) ++ symbols rest) = subst PlainSymbols (ap symbols e ∙ symbols-append (w ∷ piece) rest) plain in
-    statements_track tail (back_plain (symbols (w ∷ piece)) (symbols rest) whole) (statement_tracks st (front_plain (symbols (w ∷ piece)) (symbols rest) whole) t)
+statements_track {ws} (Statements.more piece rest e st tail) plain t =
+    let whole : PlainSymbols (symbols piece ++ symbols rest) = subst PlainSymbols (ap symbols e ∙ symbols-append piece rest) plain in
+    statements_track tail (back_plain (symbols piece) (symbols rest) whole) (piece_tracks st (front_plain (symbols piece) (symbols rest) whole) t)
 
 fresh_tracks : Tracks fresh
 unfolding names_in

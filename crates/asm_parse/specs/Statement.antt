@@ -272,7 +272,7 @@ abbrev pub is_section : List ℕ → Bool
 is_section m = is_known m || is_unread m
 
 abbrev pub section_name : ℕ → List ℕ → Symbol → Result State SourceCause
-section_name line n (symbol.Name m) = if is_section m then Ok (state.Sectioned line n m) else Err cause.BadArgument
+section_name line n (symbol.Name m) = if is_section m then Ok (state.Sectioned line n m 0) else Err cause.BadArgument
 section_name line n s = Err (misplaced s)
 
 abbrev pub of_directive : Option Directive → ScopeView → ℕ → List ℕ → Symbol → Result (ScopeView × State) SourceCause
@@ -320,14 +320,8 @@ named_step sc begun n s = other_behind sc begun n s
 abbrev pub sectioned_step : ScopeView → ℕ → List ℕ → List ℕ → Symbol → Result (ScopeView × State) SourceCause
 sectioned_step sc begun n m symbol.End = section sc begun n m
 sectioned_step sc begun n m symbol.Comma = Ok (sc, state.Flags begun n m)
-sectioned_step sc begun n m symbol.Minus = Ok (sc, state.Joining begun n (m ++ 45 ∷ []))
 sectioned_step sc begun n m symbol.Big = Err cause.BadNumber
 sectioned_step sc begun n m _ = Err cause.BadOperand
-
--- a symbol behind a section's name that ends with a `-`
-abbrev pub joining_step : ScopeView → ℕ → List ℕ → List ℕ → Symbol → Result (ScopeView × State) SourceCause
-joining_step sc begun n m (symbol.Name k) = Ok (sc, state.Sectioned begun n (m ++ k))
-joining_step sc begun n m s = sectioned_step sc begun n m s
 
 -- a symbol behind a section's name and a comma
 abbrev pub flags_step : ScopeView → ℕ → List ℕ → List ℕ → Symbol → Result (ScopeView × State) SourceCause
@@ -344,8 +338,7 @@ abbrev pub step : ScopeView → State → ℕ → Symbol → Result (ScopeView �
 step sc state.Start line s = with_scope sc (start_step sc line s)
 step sc (state.Named begun n) line s = named_step sc begun n s
 step sc state.Skip line s = Ok (sc, skip s)
-step sc (state.Sectioned begun n m) line s = sectioned_step sc begun n m s
-step sc (state.Joining begun n m) line s = joining_step sc begun n m s
+step sc (state.Sectioned begun n m e) line s = sectioned_step sc begun n m s
 step sc (state.Flags begun n m) line s = flags_step sc begun n m s
 step sc (state.Arguments o) line s = argument_step sc o s
 step sc (state.Stray l c) line s = Err (stray_cause c s)
