@@ -193,7 +193,7 @@ ready_at s m st =
     let is : record { scope = s.scope; state = state.Start; mode = mode.Between; seen = s.seen; at = s.at; line = s.line } ≡ s = rw (← m, ← st) refl in
     subst (λ (q : Running). (t : Running) × (run q (10 ∷ []) ≡ Ok t) × (closed t t.mode ≡ Ok t)) is (ready s.scope s.seen s.at s.line)
 
-run_two : (r s : Running) (bs cs : List ℕ) → run r bs ≡ Ok s → run r (bs ++ cs) ≡ run s cs
+pub run_two : (r s : Running) (bs cs : List ℕ) → run r bs ≡ Ok s → run r (bs ++ cs) ≡ run s cs
 run_two r s [] cs h = let e : r ≡ s = cc in ap (λ (x : Running). run x cs) e
 run_two r s (b ∷ bs) cs h =
     let x = bind_ok (one_byte r b) (λ x. run x bs) s h in

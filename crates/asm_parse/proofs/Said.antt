@@ -168,7 +168,7 @@ module _ (sc0 : ScopeView) (line : ℕ) (o : Open) (ss : List Symbol) (sc : Scop
         | inl t ↦
             let sees : Sees w.behind (defines o.head (length o.done)) (named_in q) sc = subst (λ (x : Option (List ℕ)). Sees w.behind (defines o.head (length o.done)) x sc) (sym t.1) w.sees in
             led sc0 line (ss ++ s ∷ []) (sc, state.Arguments (record o { so_far = q })) y (sym (ap (with_name sc (record o { so_far = q })) t.0) ∙ h) (advance s sh q sc may sp sees)
-        | inr (n, a, b, c) ↦ by_noting s sh q n may sp b c (noting sc (defines o.head (length o.done)) n) refl (sym (ap (with_name sc (record o { so_far = q })) a) ∙ h)
+        | inr (n, a, b, c, d) ↦ by_noting s sh q n may sp b c (noting sc (defines o.head (length o.done)) n) refl (sym (ap (with_name sc (record o { so_far = q })) a) ∙ h)
       ]
 
   by_shape : (s : Symbol) (r : Option Shape) → shape_at o.head (length o.done) ≡ r → at_shape sc o s r ≡ Ok y → Begun sc0 line y.1 (ss ++ s ∷ []) y.0
@@ -392,11 +392,11 @@ begun_more sc0 sc line l (state.Stray a c) ss s y inside no_name g h = absurd cc
 next_begun : (sc0 sc : ScopeView) (line l : ℕ) (st : State) (ss : List Symbol) (s : Symbol) (z : ScopeView × State) → (step sc st l s ≡ Ok z → Begun sc0 line z.1 ss z.0) → next_step sc st l s ≡ Ok z → Begun sc0 line z.1 ss z.0
 next_begun sc0 sc line l st ss symbol.Percent z f h = by_result (step sc st l symbol.Percent) refl h
   where
-    by_cause : (t : Bool) (c : SourceCause) → ◌≡◌ {A = Answer} (cond t (Ok (fresh, state.Stray l c)) (Err c)) (Ok z) → Begun sc0 line z.1 ss z.0
-    by_cause true c h = led sc0 line ss (fresh, state.Stray l c) z h tt
+    by_cause : (t : Bool) (c : SourceCause) → ◌≡◌ {A = Answer} (cond t (Ok (fresh, state.Stray (fault_line sc st l) c)) (Err c)) (Ok z) → Begun sc0 line z.1 ss z.0
+    by_cause true c h = led sc0 line ss (fresh, state.Stray (fault_line sc st l) c) z h tt
     by_cause false c h = absurd cc
 
-    by_result : (r : Answer) → step sc st l symbol.Percent ≡ r → strayed l r ≡ Ok z → Begun sc0 line z.1 ss z.0
+    by_result : (r : Answer) → step sc st l symbol.Percent ≡ r → strayed (fault_line sc st l) r ≡ Ok z → Begun sc0 line z.1 ss z.0
     by_result (Ok x) e h = f (e ∙ h)
     by_result (Err c) e h = by_cause (is_place c) c h
 next_begun sc0 sc line l st ss _ z f h = f h

@@ -61,7 +61,7 @@ inner_step sc (state.Stray l c) line s y h = absurd cc
 
 -- what goes on goes on behind a `%` too
 step_next : (sc : ScopeView) (st : State) (line : ℕ) (s : Symbol) (y : ScopeView × State) → step sc st line s ≡ Ok y → next_step sc st line s ≡ Ok y
-step_next sc st line symbol.Percent y h = ap (strayed line) h
+step_next sc st line symbol.Percent y h = ap (strayed (fault_line sc st line)) h
 step_next sc st line _ y h = h
 
 abbrev pub inners : ScopeView → State → List Symbol → Answer
@@ -149,7 +149,7 @@ within_next sc o sh s q may h =
     goes_within sc o sh s q h ∙ (a ∙ b)
 
 -- what is seen between here and there
-abbrev Gains : Bool → ScopeView → Option (List ℕ) → Option (List ℕ) → ScopeView → Type 0
+abbrev pub Gains : Bool → ScopeView → Option (List ℕ) → Option (List ℕ) → ScopeView → Type 0
 Gains d sc None b sc2 = Sees sc d b sc2
 Gains d sc (Some n) b sc2 = sc ≡ sc2
 
@@ -160,7 +160,7 @@ gains_same d sc sc2 (Some n) h = h
 abbrev pub open_at : ℕ → Head → List Argument → Bool → Partial → Open
 open_at line h done star p = record { line = line; head = h; done = done; star = star; so_far = p }
 
-form_runs : (line : ℕ) (h : Head) (done : List Argument) (star : Bool) (sh : Shape) → shape_at h (length done) ≡ Some sh → (ss : List Symbol) (p q : Partial) (sc sc2 : ScopeView)
+pub form_runs : (line : ℕ) (h : Head) (done : List Argument) (star : Bool) (sh : Shape) → shape_at h (length done) ≡ Some sh → (ss : List Symbol) (p q : Partial) (sc sc2 : ScopeView)
     → operand_run sh p ss ≡ ok q → Gains (defines h (length done)) sc (named_in p) (named_in q) sc2
     → inners sc (state.Arguments (open_at line h done star p)) ss ≡ Ok (sc2, state.Arguments (open_at line h done star q))
 form_runs line h done star sh may [] p q sc sc2 e g =
@@ -178,7 +178,7 @@ form_runs line h done star sh may (s ∷ ss) p q sc sc2 e g = by_step (next_symb
       | inl t ↦
           let one : argument_step sc (open_at line h done star p) s ≡ Ok (sc, state.Arguments (open_at line h done star x)) = within_next sc (open_at line h done star p) sh s x may f ∙ ap (with_name sc (open_at line h done star x)) t.0 in
           rw (one, inners) (ih x sc sc2 k (subst (λ (z : Option (List ℕ)). Gains (defines h (length done)) sc z (named_in q) sc2) (sym t.1) g))
-      | inr (n, a, b, c) ↦
+      | inr (n, a, b, c, d) ↦
           let stays : named_in q ≡ Some n = name_stays sh ss x q n k b in
           let g2 : Sees sc (defines h (length done)) (named_in q) sc2 = subst (λ (z : Option (List ℕ)). Gains (defines h (length done)) sc z (named_in q) sc2) c g in
           let seen : IsSeen sc (defines h (length done)) n sc2 = subst (λ (z : Option (List ℕ)). Sees sc (defines h (length done)) z sc2) stays g2 in
@@ -258,7 +258,7 @@ argument_runs line h done sh may ss a sc sc2 (IsArgument.starred {ss = rest} {f}
 
 -- ---- arguments
 
-comma_runs : (sc : ScopeView) (line : ℕ) (h : Head) (done : List Argument) (a : Argument) (q : Partial) (sh : Shape) → finished q ≡ Some a.form → shape_at h (length (done ++ a ∷ [])) ≡ Some sh
+pub comma_runs : (sc : ScopeView) (line : ℕ) (h : Head) (done : List Argument) (a : Argument) (q : Partial) (sh : Shape) → finished q ≡ Some a.form → shape_at h (length (done ++ a ∷ [])) ≡ Some sh
     → argument_step sc (open_at line h done a.star q) symbol.Comma ≡ Ok (sc, state.Arguments (open_at line h (done ++ a ∷ []) false (begun sh)))
 comma_runs sc line h done a q sh fin may = rw (finished_is q a.form fin, fin, may) refl
 
@@ -275,7 +275,7 @@ finished_something : (q : Partial) (f : Form) → finished q ≡ Some f → is_n
 finished_something partial.Nothing f h = absurd cc
 finished_something _ f h = refl
 
-end_runs : (sc : ScopeView) (line : ℕ) (h : Head) (done : List Argument) (a : Argument) (q : Partial) → finished q ≡ Some a.form → nat_lt (length (done ++ a ∷ [])) (least h) ≡ false
+pub end_runs : (sc : ScopeView) (line : ℕ) (h : Head) (done : List Argument) (a : Argument) (q : Partial) → finished q ≡ Some a.form → nat_lt (length (done ++ a ∷ [])) (least h) ≡ false
     → argument_step sc (open_at line h done a.star q) symbol.End ≡ Ok (resumed (pushed sc (item_of line h (done ++ a ∷ []))) h, state.Start)
 end_runs sc line h done a q fin count = rw (finished_something q a.form fin, finished_is q a.form fin, fin, count) refl
 
@@ -422,7 +422,7 @@ not_part (state.Sectioned b n m e) w h = rw h (none (e == w.at))
     none false = refl
 not_part _ w h = refl
 
-rest_runs : (rest : List Word) (ss : List Symbol) (sc : ScopeView) (line : ℕ) (n m : List ℕ) (e : ℕ) → symbols rest ≡ ss ++ symbol.End ∷ [] → are_flags ss ≡ true
+pub rest_runs : (rest : List Word) (ss : List Symbol) (sc : ScopeView) (line : ℕ) (n m : List ℕ) (e : ℕ) → symbols rest ≡ ss ++ symbol.End ∷ [] → are_flags ss ≡ true
     → read_words sc (state.Sectioned line n m e) rest ≡ Ok (sectioned sc line n m, state.Start)
 rest_runs [] [] sc line n m e h flags = absurd cc
 rest_runs [] (s ∷ ss) sc line n m e h flags = absurd cc
@@ -438,7 +438,7 @@ rest_runs (w ∷ ws) (symbol.Comma ∷ ss) sc line n m e h flags =
     rw is (inners_words ws sc (state.Flags line n m) (sectioned sc line n m, state.Start) refl (ap (inners sc (state.Flags line n m)) behind ∙ flags_run sc line n m ss flags))
 rest_runs (w ∷ ws) (s ∷ ss) sc line n m e h flags = absurd cc
 
-named_section : (sc : ScopeView) (line : ℕ) (n m : List ℕ) → is_passed sc n ≡ false → is_dotted n ≡ true → directive_of n ≡ Some kind.Section → is_section m ≡ true → named_step sc line n (symbol.Name m) ≡ Ok (sc, state.Sectioned line n m 0)
+pub named_section : (sc : ScopeView) (line : ℕ) (n m : List ℕ) → is_passed sc n ≡ false → is_dotted n ≡ true → directive_of n ≡ Some kind.Section → is_section m ≡ true → named_step sc line n (symbol.Name m) ≡ Ok (sc, state.Sectioned line n m 0)
 named_section sc line n m passed dotted dir is = rw (passed, dotted, dir, is) refl
 
 section_runs : (sc : ScopeView) (w v : Word) (parts rest : List Word) (n m : List ℕ) (ss : List Symbol) → symbol_of w.kind w.bytes ≡ symbol.Name n → is_passed sc n ≡ false → is_dotted n ≡ true → directive_of n ≡ Some kind.Section
