@@ -92,7 +92,7 @@ fn each_directive_is_read(rt: HostRuntime) {
 
 #[test]
 fn faults_have_their_lines_and_causes(rt: HostRuntime) {
-    let rows: [(&str, u32, u8); 50] = [
+    let rows: [(&str, u32, u8); 55] = [
         ("nop\n\u{1}", 2, 1),
         ("nop \u{e9}", 1, 1),
         ("nop\n !", 2, 2),
@@ -120,6 +120,11 @@ fn faults_have_their_lines_and_causes(rt: HostRuntime) {
         (".globl a+1", 1, 8),
         ("rep; movsl", 1, 8),
         (".section .data foo", 1, 8),
+        (".section .note.GNU -stack", 1, 8),
+        (".section .note.GNU- stack", 1, 8),
+        (".section .note.GNU/**/-stack", 1, 8),
+        (".section .text\"a b\"", 1, 8),
+        (".section .text 99999999999", 1, 6),
         ("push 4(,%eax,3)", 1, 9),
         ("\n\n.foo 1", 3, 10),
         (".foo /*\n*/ x", 2, 10),
@@ -251,10 +256,16 @@ fn text(rt: &HostRuntime, source: &[u8]) -> Option<Vec<u8>> {
 
 #[test]
 fn strings_and_sections_have_their_bytes(rt: HostRuntime) {
-    let rows: [(&str, &str); 3] = [
+    let rows: [(&str, &str); 9] = [
         (".ascii \"a\\n\\\"b\\101\\11c\\7\"", "a\n\"bA\tc\u{7}"),
         (".string \"\\t\\r\\b\\f\\\\\\'\"", "\t\r\u{8}\u{c}\\'"),
         (".section .note.GNU-stack,\"\",@progbits", ".note.GNU-stack"),
+        (".section .text-1", ".text-1"),
+        (".section .text.a--2 , 5", ".text.a--2"),
+        (".section .data.a+b:c(\n", ".data.a+b:c("),
+        (".section .bss-99999999999;nop", ".bss-99999999999"),
+        (".section .rodata\"a\"'b$%# c", ".rodata\"a\"'b$%"),
+        (".section .debug/**/,-", ".debug"),
     ];
     for (source, bytes) in rows.iter() {
         assert!(rt;
