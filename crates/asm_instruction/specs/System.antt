@@ -36,12 +36,12 @@ through o s (given.Register size.Word n) = if n == 2 then Some (instruction o s 
 through o s _ = None
 
 abbrev pub between : Op → Size → Given → Given → Option Draft
-between o s port (given.Register t n) = if n == 0 then through o s port else None
-between o s port _ = None
+between o s p (given.Register t n) = if n == 0 then through o s p else None
+between o s p _ = None
 
 -- between AL or EAX and the port
 unfoldable pub ported : Op → Option Size → Given → Given → Option Draft
-ported o suffix port accumulator = agreed suffix (said accumulator) None >>= λ s. between o s port accumulator
+ported o suffix p accumulator = agreed suffix (said accumulator) None >>= λ s. between o s p accumulator
 
 abbrev pub memory_alone : Op → Size → Given → Option Draft
 memory_alone o s (given.Memory m) = Some (unary o s (memory m))
@@ -58,8 +58,8 @@ task suffix g = do
   Some (unary op.LoadTask size.Long place)
 
 unfoldable pub system_draft : System → Option Size → Operands → Option Draft
-system_draft kind.In suffix (operands.Two port to) = ported op.PortIn suffix port to
-system_draft kind.Out suffix (operands.Two from port) = ported op.PortOut suffix port from
+system_draft kind.In suffix (operands.Two p to) = ported op.PortIn suffix p to
+system_draft kind.Out suffix (operands.Two from p) = ported op.PortOut suffix p from
 system_draft (kind.Memory o) suffix (operands.One g) = of_memory o suffix g
 system_draft kind.LoadTask suffix (operands.One g) = task suffix g
 system_draft _ suffix _ = None

@@ -80,6 +80,7 @@ fn special_register(name: &[u8]) -> Option<Given>
     }
 }
 
+#[tactic(auto, unfolding(crate::specs::Argument::register))]
 fn register(name: &Name) -> Option<Given>
     ensures { result ≡ spec.register name.now }
 {
@@ -150,6 +151,7 @@ fn address(base: Option<Reg>, index: Option<Reg>, scale: u8, displacement: Numbe
     })
 }
 
+#[tactic(auto, unfolding(crate::specs::Argument::memory_operand))]
 fn memory_operand(
     displacement: Number,
     base: &Option<Name>,
@@ -164,6 +166,7 @@ fn memory_operand(
 }
 
 // What an argument says, which is the one of this number.
+#[tactic(auto, unfolding(crate::specs::Argument::given_by))]
 fn given_by(form: &Form, argument: u8) -> Option<Given>
     ensures { result ≡ spec.given_by form.now argument }
 {
@@ -186,6 +189,7 @@ fn given_by(form: &Form, argument: u8) -> Option<Given>
     }
 }
 
+#[tactic(auto, unfolding(crate::specs::Argument::single))]
 fn single(argument: &Argument) -> Option<Operands>
     ensures { result ≡ spec.single argument.now }
 {
@@ -198,6 +202,7 @@ fn single(argument: &Argument) -> Option<Operands>
 }
 
 // One of several arguments: there `*` stands before none.
+#[tactic(auto, unfolding(crate::specs::Argument::unstarred))]
 fn unstarred(argument: &Argument, number: u8) -> Option<Given>
     ensures { result ≡ spec.unstarred argument.now number }
 {
@@ -209,6 +214,7 @@ fn unstarred(argument: &Argument, number: u8) -> Option<Given>
 }
 
 /// The operands, where the arguments are such as an instruction may have.
+#[tactic(auto, unfolding(crate::specs::Argument::operands_of))]
 pub fn operands_of(arguments: &[Argument]) -> Option<Operands>
     ensures { result ≡ spec.operands_of arguments.now }
 {
@@ -247,6 +253,7 @@ fn is_named(form: &Form) -> bool
 }
 
 /// Whether the argument of this number, where there is one, names a symbol.
+#[tactic(auto, unfolding(crate::specs::Argument::names_symbol))]
 pub fn names_symbol(arguments: &[Argument], argument: Option<u8>) -> bool
     ensures { result ≡ spec.names_symbol arguments.now argument }
 {

@@ -81,6 +81,7 @@ pub fn memory_first(op: Op, size: Size, pair: Pair) -> Draft
     }
 }
 
+#[tactic(auto, unfolding(crate::specs::Arithmetic::two))]
 fn two(op: Op, suffix: Option<Size>, source: Given, destination: Given) -> Option<Draft>
     ensures { result ≡ spec.two op suffix source destination }
 {
@@ -89,6 +90,7 @@ fn two(op: Op, suffix: Option<Size>, source: Given, destination: Given) -> Optio
     Some(of_pair(op, size, pair))
 }
 
+#[tactic(auto, unfolding(crate::specs::Arithmetic::tested))]
 fn tested(suffix: Option<Size>, source: Given, destination: Given) -> Option<Draft>
     ensures { result ≡ spec.tested suffix source destination }
 {
@@ -98,6 +100,7 @@ fn tested(suffix: Option<Size>, source: Given, destination: Given) -> Option<Dra
 }
 
 /// An instruction whose only operand is a register or memory.
+#[tactic(auto, unfolding(crate::specs::Arithmetic::one))]
 pub fn one(op: Op, suffix: Option<Size>, given: Given) -> Option<Draft>
     ensures { result ≡ spec.one op suffix given }
 {
@@ -107,6 +110,7 @@ pub fn one(op: Op, suffix: Option<Size>, given: Given) -> Option<Draft>
 }
 
 /// An instruction from a register or memory to a register.
+#[tactic(auto, unfolding(crate::specs::Arithmetic::to_register))]
 pub fn to_register(op: Op, suffix: Option<Size>, source: Given, destination: Given) -> Option<Draft>
     ensures { result ≡ spec.to_register op suffix source destination }
 {
@@ -118,6 +122,7 @@ pub fn to_register(op: Op, suffix: Option<Size>, source: Given, destination: Giv
     }
 }
 
+#[tactic(auto, unfolding(crate::specs::Arithmetic::multiplied))]
 fn multiplied(
     number: Number,
     suffix: Option<Size>,
@@ -130,6 +135,7 @@ fn multiplied(
     Some(with_number(product, Size::Long, number))
 }
 
+#[tactic(auto, unfolding(crate::specs::Arithmetic::product))]
 fn product(suffix: Option<Size>, operands: Operands) -> Option<Draft>
     ensures { result ≡ spec.product suffix operands }
 {
@@ -143,6 +149,7 @@ fn product(suffix: Option<Size>, operands: Operands) -> Option<Draft>
     }
 }
 
+#[tactic(auto, unfolding(crate::specs::Arithmetic::arithmetic_draft))]
 pub fn arithmetic_draft(kind: Arithmetic, suffix: Option<Size>, operands: Operands) -> Option<Draft>
     ensures { result ≡ spec.arithmetic_draft kind suffix operands }
 {

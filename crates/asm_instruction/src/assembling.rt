@@ -1,6 +1,6 @@
 //! From a statement to its bytes.
 
-ghost use Rattle.std.specs.Prelude.{◌≡◌, ◌≤◌, ◌×◌, ◌↔◌, ◌+◌, IfOk, IsSome, take, Err};
+ghost use Rattle.std.specs.Prelude.{◌≡◌, ◌≤◌, ◌↔◌, ◌+◌, IfOk, IsSome, take, Err};
 ghost use Rattle.asm_instruction.specs.Assembled as spec;
 ghost use Rattle.asm_instruction.specs.Assembled.{assembled, IsShort, HasFields, AreInOrder, IsSpelled, IsUnknown, IsRefused};
 
@@ -39,6 +39,7 @@ fn field(named: bool, argument: Option<u8>, at: u8, relative: bool) -> Option<Na
     }
 }
 
+#[tactic(auto, unfolding(crate::specs::Assembled::widths))]
 fn widths(draft: &Draft, arguments: &[Argument]) -> Wide
     ensures { result ≡ spec.widths draft.now arguments.now }
 {
@@ -48,6 +49,7 @@ fn widths(draft: &Draft, arguments: &[Argument]) -> Wide
     }
 }
 
+#[tactic(auto, unfolding(crate::specs::Assembled::whole))]
 fn whole(draft: &Draft, wide: Wide, spelling: ArrayBytes) -> Assembled
     ensures { result ≡ spec.whole draft.now wide spelling }
 {
@@ -59,6 +61,7 @@ fn whole(draft: &Draft, wide: Wide, spelling: ArrayBytes) -> Assembled
     }
 }
 
+#[tactic(auto, unfolding(crate::specs::Assembled::spelled))]
 fn spelled(draft: &Draft, wide: Wide) -> Result<Assembled, Refusal>
     ensures exact { result ≡ spec.spelled draft.now wide }
 {
@@ -75,6 +78,7 @@ fn spelled(draft: &Draft, wide: Wide) -> Result<Assembled, Refusal>
     }
 }
 
+#[tactic(auto, unfolding(crate::specs::Assembled::drafted_of))]
 fn drafted_of(rep: bool, mnemonic: Mnemonic, arguments: &[Argument]) -> Option<Draft>
     ensures { result ≡ spec.drafted_of rep mnemonic arguments.now }
 {
@@ -82,6 +86,7 @@ fn drafted_of(rep: bool, mnemonic: Mnemonic, arguments: &[Argument]) -> Option<D
     drafted(rep, mnemonic, operands)
 }
 
+#[tactic(auto, unfolding(crate::specs::Assembled::by_mnemonic))]
 fn by_mnemonic(rep: bool, mnemonic: Mnemonic, arguments: &[Argument]) -> Result<Assembled, Refusal>
     ensures { result ≡ spec.by_mnemonic rep mnemonic arguments.now }
 {
@@ -92,6 +97,7 @@ fn by_mnemonic(rep: bool, mnemonic: Mnemonic, arguments: &[Argument]) -> Result<
 }
 
 /// The instruction that a statement is, in its chosen spelling.
+#[tactic(auto, unfolding(crate::specs::Assembled::assembled))]
 pub fn assemble(rep: bool, name: &[u8], arguments: &[Argument]) -> Result<Assembled, Refusal>
     // The answer is this function of the statement.
     ensures exact { result ≡ assembled rep name.now arguments.now }

@@ -53,6 +53,7 @@ fn upper_condition(name: &[u8]) -> Option<u8>
 }
 
 /// The number of a condition.
+#[tactic(auto, unfolding(crate::specs::Condition::condition))]
 pub fn condition(name: &[u8]) -> Option<u8>
     ensures { result ≡ spec.condition name.now }
 {

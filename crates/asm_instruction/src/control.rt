@@ -55,6 +55,7 @@ pub fn control_name(name: &[u8]) -> Option<Family>
 }
 
 /// The names that end with a condition.
+#[tactic(auto, unfolding(crate::specs::Control::conditional_name))]
 pub fn conditional_name(name: &[u8]) -> Option<Family>
     ensures { result ≡ spec.conditional_name name.now }
 {
@@ -78,6 +79,7 @@ fn distance(displacement: u32) -> u32
     displacement.wrapping_sub(4)
 }
 
+#[tactic(auto, unfolding(crate::specs::Control::to_symbol))]
 fn to_symbol(op: Op, condition: u8, memory: Memory) -> Draft
     ensures { result ≡ spec.to_symbol op condition memory }
 {
@@ -102,6 +104,7 @@ fn is_symbol(memory: Memory) -> bool
     memory.displacement.named && memory.address.base.is_none() && memory.address.index.is_none()
 }
 
+#[tactic(auto, unfolding(crate::specs::Control::direct))]
 fn direct(op: Op, condition: u8, suffix: Option<Size>, given: Given) -> Option<Draft>
     ensures { result ≡ spec.direct op condition suffix given }
 {
@@ -118,6 +121,7 @@ fn direct(op: Op, condition: u8, suffix: Option<Size>, given: Given) -> Option<D
     }
 }
 
+#[tactic(auto, unfolding(crate::specs::Control::indirect))]
 fn indirect(op: Op, suffix: Option<Size>, given: Given) -> Option<Draft>
     ensures { result ≡ spec.indirect op suffix given }
 {
@@ -126,6 +130,7 @@ fn indirect(op: Op, suffix: Option<Size>, given: Given) -> Option<Draft>
     Some(unary(op, size, place))
 }
 
+#[tactic(auto, unfolding(crate::specs::Control::returned))]
 fn returned(suffix: Option<Size>, operands: Operands) -> Option<Draft>
     ensures { result ≡ spec.returned suffix operands }
 {
@@ -139,6 +144,7 @@ fn returned(suffix: Option<Size>, operands: Operands) -> Option<Draft>
     }
 }
 
+#[tactic(auto, unfolding(crate::specs::Control::far))]
 fn far(selector: Number, offset: Number) -> Option<Draft>
     ensures { result ≡ spec.far selector offset }
 {
@@ -156,6 +162,7 @@ fn far(selector: Number, offset: Number) -> Option<Draft>
     })
 }
 
+#[tactic(auto, unfolding(crate::specs::Control::control_draft))]
 pub fn control_draft(kind: Control, suffix: Option<Size>, operands: Operands) -> Option<Draft>
     ensures { result ≡ spec.control_draft kind suffix operands }
 {
@@ -176,6 +183,7 @@ pub fn control_draft(kind: Control, suffix: Option<Size>, operands: Operands) ->
     }
 }
 
+#[tactic(auto, unfolding(crate::specs::Control::set))]
 fn set(condition: u8, given: Given) -> Option<Draft>
     ensures { result ≡ spec.set condition given }
 {

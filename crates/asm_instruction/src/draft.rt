@@ -113,6 +113,7 @@ fn paired_memory(source: Memory, destination: Given) -> Option<Pair>
 }
 
 /// Source and destination, of which at most one is in memory.
+#[tactic(auto, unfolding(crate::specs::Draft::paired))]
 pub fn paired(source: Given, destination: Given) -> Option<Pair>
     ensures { result ≡ spec.paired source destination }
 {
@@ -152,6 +153,7 @@ fn fits_displacement(number: Option<Number>) -> bool
 }
 
 /// An instruction without an immediate.
+#[tactic(auto, unfolding(crate::specs::Draft::instruction))]
 pub fn instruction(op: Op, size: Size, a: Place, b: Place) -> Draft
     ensures { result ≡ spec.instruction op size a b }
 {
@@ -174,6 +176,7 @@ pub fn instruction(op: Op, size: Size, a: Place, b: Place) -> Draft
 }
 
 /// The instruction with an immediate of this size.
+#[tactic(auto, unfolding(crate::specs::Draft::with_number))]
 pub fn with_number(draft: Draft, size: Size, number: Number) -> Draft
     ensures { result ≡ spec.with_number draft size number }
 {

@@ -31,6 +31,7 @@ pub fn plain_name(name: &[u8]) -> Option<Family>
 }
 
 /// An instruction without operands. Where it takes a suffix, only 32 bits exist.
+#[tactic(auto, unfolding(crate::specs::Flags::plain_draft))]
 pub fn plain_draft(op: Op, suffix: Option<Size>, operands: Operands) -> Option<Draft>
     ensures { result ≡ spec.plain_draft op suffix operands }
 {

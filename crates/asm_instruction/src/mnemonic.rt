@@ -45,6 +45,7 @@ fn or_family(a: Option<Family>, b: Option<Family>) -> Option<Family>
     }
 }
 
+#[tactic(auto, unfolding(crate::specs::Mnemonic::exact_instruction))]
 fn exact_instruction(name: &[u8]) -> Option<Family>
     ensures { result ≡ spec.exact_instruction name.now }
 {
@@ -55,6 +56,7 @@ fn exact_instruction(name: &[u8]) -> Option<Family>
 }
 
 /// A name that stands as it is.
+#[tactic(auto, unfolding(crate::specs::Mnemonic::exact_name))]
 fn exact_name(name: &[u8]) -> Option<Family>
     ensures { result ≡ spec.exact_name name.now }
 {
@@ -68,6 +70,7 @@ fn exact_name(name: &[u8]) -> Option<Family>
 }
 
 /// A name that may have a suffix.
+#[tactic(auto, unfolding(crate::specs::Mnemonic::sized_name))]
 fn sized_name(name: &[u8]) -> Option<Family>
     ensures { result ≡ spec.sized_name name.now }
 {
@@ -94,6 +97,7 @@ fn suffix(letter: u8) -> Option<Size>
     }
 }
 
+#[tactic(auto, unfolding(crate::specs::Mnemonic::suffixed))]
 fn suffixed(front: &[u8], letter: u8) -> Option<Mnemonic>
     ensures { result ≡ spec.suffixed front.now letter }
 {
@@ -106,6 +110,7 @@ fn suffixed(front: &[u8], letter: u8) -> Option<Mnemonic>
 }
 
 // The last letter as a suffix of the name before it.
+#[tactic(auto, unfolding(crate::specs::Mnemonic::with_suffix))]
 fn with_suffix(name: &[u8]) -> Option<Mnemonic>
     ensures { result ≡ spec.with_suffix name.now }
 {
@@ -117,6 +122,7 @@ fn with_suffix(name: &[u8]) -> Option<Mnemonic>
 }
 
 /// The instruction of a name; a name that is known without its last letter may have that as a suffix.
+#[tactic(auto, unfolding(crate::specs::Mnemonic::known_name))]
 pub fn known_name(name: &[u8]) -> Option<Mnemonic>
     ensures { result ≡ spec.known_name name.now }
 {
@@ -129,6 +135,7 @@ pub fn known_name(name: &[u8]) -> Option<Mnemonic>
     }
 }
 
+#[tactic(auto, unfolding(crate::specs::Mnemonic::without_repeat))]
 fn without_repeat(mnemonic: Mnemonic, operands: Operands) -> Option<Draft>
     ensures { result ≡ spec.without_repeat mnemonic operands }
 {
@@ -146,6 +153,7 @@ fn without_repeat(mnemonic: Mnemonic, operands: Operands) -> Option<Draft>
 }
 
 /// The instruction, if it has such operands. The repeat prefix stands before string instructions alone.
+#[tactic(auto, unfolding(crate::specs::Mnemonic::drafted))]
 pub fn drafted(rep: bool, mnemonic: Mnemonic, operands: Operands) -> Option<Draft>
     ensures { result ≡ spec.drafted rep mnemonic operands }
 {

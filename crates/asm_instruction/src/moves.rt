@@ -50,6 +50,7 @@ pub fn extend_name(name: &[u8]) -> Option<Family>
 }
 
 // A move of 32 bits between a special register and a register or memory.
+#[tactic(auto, unfolding(crate::specs::Moves::special))]
 fn special(op: Op, suffix: Option<Size>, given: Given, a: Place, b: Place) -> Option<Draft>
     ensures { result ≡ spec.special op suffix given a b }
 {
@@ -57,6 +58,7 @@ fn special(op: Op, suffix: Option<Size>, given: Given, a: Place, b: Place) -> Op
     Some(instruction(op, size, a, b))
 }
 
+#[tactic(auto, unfolding(crate::specs::Moves::from_segment))]
 fn from_segment(suffix: Option<Size>, segment: Seg, destination: Given) -> Option<Draft>
     ensures { result ≡ spec.from_segment suffix segment destination }
 {
@@ -70,6 +72,7 @@ fn from_segment(suffix: Option<Size>, segment: Seg, destination: Given) -> Optio
     )
 }
 
+#[tactic(auto, unfolding(crate::specs::Moves::to_segment))]
 fn to_segment(suffix: Option<Size>, source: Given, segment: Seg) -> Option<Draft>
     ensures { result ≡ spec.to_segment suffix source segment }
 {
@@ -83,6 +86,7 @@ fn to_segment(suffix: Option<Size>, source: Given, segment: Seg) -> Option<Draft
     )
 }
 
+#[tactic(auto, unfolding(crate::specs::Moves::from_control))]
 fn from_control(suffix: Option<Size>, control: u8, destination: Given) -> Option<Draft>
     ensures { result ≡ spec.from_control suffix control destination }
 {
@@ -96,6 +100,7 @@ fn from_control(suffix: Option<Size>, control: u8, destination: Given) -> Option
     )
 }
 
+#[tactic(auto, unfolding(crate::specs::Moves::to_control))]
 fn to_control(suffix: Option<Size>, source: Given, control: u8) -> Option<Draft>
     ensures { result ≡ spec.to_control suffix source control }
 {
@@ -109,6 +114,7 @@ fn to_control(suffix: Option<Size>, source: Given, control: u8) -> Option<Draft>
     )
 }
 
+#[tactic(auto, unfolding(crate::specs::Moves::general))]
 fn general(suffix: Option<Size>, source: Given, destination: Given) -> Option<Draft>
     ensures { result ≡ spec.general suffix source destination }
 {
@@ -117,6 +123,7 @@ fn general(suffix: Option<Size>, source: Given, destination: Given) -> Option<Dr
     Some(of_pair(Op::Mov, size, pair))
 }
 
+#[tactic(auto, unfolding(crate::specs::Moves::moved))]
 fn moved(suffix: Option<Size>, source: Given, destination: Given) -> Option<Draft>
     ensures { result ≡ spec.moved suffix source destination }
 {
@@ -130,6 +137,7 @@ fn moved(suffix: Option<Size>, source: Given, destination: Given) -> Option<Draf
 }
 
 // The size is that of the source.
+#[tactic(auto, unfolding(crate::specs::Moves::extended))]
 fn extended(op: Op, size: Size, source: Given, destination: Given) -> Option<Draft>
     ensures { result ≡ spec.extended op size source destination }
 {
@@ -141,6 +149,7 @@ fn extended(op: Op, size: Size, source: Given, destination: Given) -> Option<Dra
     }
 }
 
+#[tactic(auto, unfolding(crate::specs::Moves::effective))]
 fn effective(suffix: Option<Size>, source: Given, destination: Given) -> Option<Draft>
     ensures { result ≡ spec.effective suffix source destination }
 {
@@ -167,6 +176,7 @@ fn two_registers(size: Size, number: u8, other: Place) -> Draft
 }
 
 // Of two registers the one of the lower number stands first, else memory.
+#[tactic(auto, unfolding(crate::specs::Moves::exchanged))]
 fn exchanged(suffix: Option<Size>, source: Given, destination: Given) -> Option<Draft>
     ensures { result ≡ spec.exchanged suffix source destination }
 {
@@ -184,6 +194,7 @@ fn exchanged(suffix: Option<Size>, source: Given, destination: Given) -> Option<
     }
 }
 
+#[tactic(auto, unfolding(crate::specs::Moves::move_draft))]
 pub fn move_draft(kind: Moves, suffix: Option<Size>, operands: Operands) -> Option<Draft>
     ensures { result ≡ spec.move_draft kind suffix operands }
 {

@@ -26,6 +26,7 @@ pub fn shift_name(name: &[u8]) -> Option<Family>
     )
 }
 
+#[tactic(auto, unfolding(crate::specs::Shift::by_one))]
 fn by_one(op: Op, suffix: Option<Size>, given: Given) -> Option<Draft>
     ensures { result ≡ spec.by_one op suffix given }
 {
@@ -41,6 +42,7 @@ fn by_one(op: Op, suffix: Option<Size>, given: Given) -> Option<Draft>
     })
 }
 
+#[tactic(auto, unfolding(crate::specs::Shift::by_number))]
 fn by_number(op: Op, suffix: Option<Size>, count: Number, given: Given) -> Option<Draft>
     ensures { result ≡ spec.by_number op suffix count given }
 {
@@ -50,6 +52,7 @@ fn by_number(op: Op, suffix: Option<Size>, count: Number, given: Given) -> Optio
 }
 
 // By CL, which says nothing of the size.
+#[tactic(auto, unfolding(crate::specs::Shift::by_register))]
 fn by_register(op: Op, suffix: Option<Size>, given: Given) -> Option<Draft>
     ensures { result ≡ spec.by_register op suffix given }
 {
@@ -58,6 +61,7 @@ fn by_register(op: Op, suffix: Option<Size>, given: Given) -> Option<Draft>
     Some(instruction(op, size, place, register(1)))
 }
 
+#[tactic(auto, unfolding(crate::specs::Shift::shift_draft))]
 pub fn shift_draft(op: Op, suffix: Option<Size>, operands: Operands) -> Option<Draft>
     ensures { result ≡ spec.shift_draft op suffix operands }
 {

@@ -24,6 +24,7 @@ fn said_first(a: Option<Size>, b: Option<Size>) -> Option<Size>
 }
 
 /// The size that one of the three says, if none says another.
+#[tactic(auto, unfolding(crate::specs::Sizes::agreed))]
 pub fn agreed(a: Option<Size>, b: Option<Size>, c: Option<Size>) -> Option<Size>
     ensures { result ≡ agreed a b c }
 {

@@ -48,6 +48,7 @@ pub fn frame_name(name: &[u8]) -> Option<Family>
 }
 
 // The stack holds 32 bits an operand.
+#[tactic(auto, unfolding(crate::specs::Stack::of_long))]
 fn of_long(op: Op, suffix: Option<Size>, given: Given, a: Place) -> Option<Draft>
     ensures { result ≡ spec.of_long op suffix given a }
 {
@@ -61,6 +62,7 @@ fn of_segment(op: Op, suffix: Option<Size>, given: Given, segment: Seg) -> Optio
     of_long(op, suffix, given, of_operand(Operand::Segment(segment)))
 }
 
+#[tactic(auto, unfolding(crate::specs::Stack::of_general))]
 fn of_general(op: Op, suffix: Option<Size>, given: Given) -> Option<Draft>
     ensures { result ≡ spec.of_general op suffix given }
 {
@@ -68,6 +70,7 @@ fn of_general(op: Op, suffix: Option<Size>, given: Given) -> Option<Draft>
     of_long(op, suffix, given, a)
 }
 
+#[tactic(auto, unfolding(crate::specs::Stack::of_number))]
 fn of_number(suffix: Option<Size>, number: Number) -> Option<Draft>
     ensures { result ≡ spec.of_number suffix number }
 {
@@ -75,6 +78,7 @@ fn of_number(suffix: Option<Size>, number: Number) -> Option<Draft>
     Some(with_number(alone(Op::Push), size, number))
 }
 
+#[tactic(auto, unfolding(crate::specs::Stack::pushed))]
 fn pushed(suffix: Option<Size>, given: Given) -> Option<Draft>
     ensures { result ≡ spec.pushed suffix given }
 {
@@ -85,6 +89,7 @@ fn pushed(suffix: Option<Size>, given: Given) -> Option<Draft>
     }
 }
 
+#[tactic(auto, unfolding(crate::specs::Stack::popped))]
 fn popped(suffix: Option<Size>, given: Given) -> Option<Draft>
     ensures { result ≡ spec.popped suffix given }
 {
@@ -94,6 +99,7 @@ fn popped(suffix: Option<Size>, given: Given) -> Option<Draft>
     }
 }
 
+#[tactic(auto, unfolding(crate::specs::Stack::stack_draft))]
 pub fn stack_draft(kind: Stack, suffix: Option<Size>, operands: Operands) -> Option<Draft>
     ensures { result ≡ spec.stack_draft kind suffix operands }
 {

@@ -26,6 +26,7 @@ pub fn string_name(name: &[u8]) -> Option<Family>
 }
 
 /// A string instruction, with or without the repeat prefix.
+#[tactic(auto, unfolding(crate::specs::Strings::string_draft))]
 pub fn string_draft(rep: bool, op: Op, size: Size, operands: Operands) -> Option<Draft>
     ensures { result ≡ spec.string_draft rep op size operands }
 {

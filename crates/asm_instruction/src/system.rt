@@ -49,6 +49,7 @@ pub fn page_name(name: &[u8]) -> Option<Family>
 }
 
 // A port in DX, or as a byte.
+#[tactic(auto, unfolding(crate::specs::System::through))]
 fn through(op: Op, size: Size, port: Given) -> Option<Draft>
     ensures { result ≡ spec.through op size port }
 {
@@ -69,6 +70,7 @@ fn through(op: Op, size: Size, port: Given) -> Option<Draft>
 }
 
 // Between AL or EAX and a port.
+#[tactic(auto, unfolding(crate::specs::System::ported))]
 fn ported(op: Op, suffix: Option<Size>, port: Given, accumulator: Given) -> Option<Draft>
     ensures { result ≡ spec.ported op suffix port accumulator }
 {
@@ -83,6 +85,7 @@ fn ported(op: Op, suffix: Option<Size>, port: Given, accumulator: Given) -> Opti
     }
 }
 
+#[tactic(auto, unfolding(crate::specs::System::of_memory))]
 fn of_memory(op: Op, suffix: Option<Size>, given: Given) -> Option<Draft>
     ensures { result ≡ spec.of_memory op suffix given }
 {
@@ -94,6 +97,7 @@ fn of_memory(op: Op, suffix: Option<Size>, given: Given) -> Option<Draft>
 }
 
 // The selector has 16 bits.
+#[tactic(auto, unfolding(crate::specs::System::task))]
 fn task(suffix: Option<Size>, given: Given) -> Option<Draft>
     ensures { result ≡ spec.task suffix given }
 {
@@ -102,6 +106,7 @@ fn task(suffix: Option<Size>, given: Given) -> Option<Draft>
     Some(unary(Op::LoadTask, Size::Long, place))
 }
 
+#[tactic(auto, unfolding(crate::specs::System::system_draft))]
 pub fn system_draft(kind: System, suffix: Option<Size>, operands: Operands) -> Option<Draft>
     ensures { result ≡ spec.system_draft kind suffix operands }
 {
