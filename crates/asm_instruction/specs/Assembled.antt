@@ -41,15 +41,15 @@ abbrev pub with_spelling : Draft → Wide → Option ArrayBytes → Result Assem
 with_spelling d wide None = Err refusal.Operands
 with_spelling d wide (Some spelling) = if d.fits then Ok (whole d wide spelling) else Err refusal.ValueRange
 
-unfoldable pub spelled : Draft → Wide → Result Assembled Refusal
-spelled d wide = with_spelling d wide (chosen wide d.insn)
+unfoldable pub spelled : Draft → List Argument → Result Assembled Refusal
+spelled d arguments = with_spelling d (widths d arguments) (chosen (widths d arguments) d.insn)
 
 unfoldable pub drafted_of : Bool → Mnemonic → List Argument → Option Draft
 drafted_of rep m arguments = operands_of arguments >>= λ os. drafted rep m os
 
 abbrev pub by_draft : List Argument → Option Draft → Result Assembled Refusal
 by_draft arguments None = Err refusal.Operands
-by_draft arguments (Some d) = spelled d (widths d arguments)
+by_draft arguments (Some d) = spelled d arguments
 
 unfoldable pub by_mnemonic : Bool → Mnemonic → List Argument → Result Assembled Refusal
 by_mnemonic rep m arguments = by_draft arguments (drafted_of rep m arguments)
@@ -100,3 +100,10 @@ Before _ _ = Unit {0}
 
 abbrev pub AreInOrder : Assembled → Type 0
 AreInOrder a = Before a.disp a.imm
+
+-- all of these
+pub record IsRight (args : List Argument) (a : Assembled) : Type 0 where
+  pub spelled : IsSpelled a
+  pub short : IsShort a
+  pub fields : HasFields args a
+  pub order : AreInOrder a

@@ -2,7 +2,7 @@
 
 ghost use Rattle.std.specs.Prelude.{◌≡◌, ◌≤◌, ◌↔◌, ◌+◌, IfOk, IsSome, take, Err};
 ghost use Rattle.asm_instruction.specs.Assembled as spec;
-ghost use Rattle.asm_instruction.specs.Assembled.{assembled, IsShort, HasFields, AreInOrder, IsSpelled, IsUnknown, IsRefused};
+ghost use Rattle.asm_instruction.specs.Assembled.{assembled, IsShort, HasFields, AreInOrder, IsSpelled, IsRight, IsUnknown, IsRefused};
 
 use crate::argument::{names_symbol, operands_of};
 use crate::assembled::{Assembled, Named, Refusal};
@@ -62,9 +62,11 @@ fn whole(draft: &Draft, wide: Wide, spelling: ArrayBytes) -> Assembled
 }
 
 #[tactic(auto, unfolding(crate::specs::Assembled::spelled))]
-fn spelled(draft: &Draft, wide: Wide) -> Result<Assembled, Refusal>
-    ensures exact { result ≡ spec.spelled draft.now wide }
+fn spelled(draft: &Draft, arguments: &[Argument]) -> Result<Assembled, Refusal>
+    ensures exact { result ≡ spec.spelled draft.now arguments.now }
+    ensures right { IfOk result (IsRight arguments.now) }
 {
+    let wide = widths(draft, arguments);
     let mut spelling = EMPTY;
     match encode(&draft.insn, wide, &mut spelling) {
         Err(NoForm) => Err(Refusal::Operands),
@@ -88,11 +90,12 @@ fn drafted_of(rep: bool, mnemonic: Mnemonic, arguments: &[Argument]) -> Option<D
 
 #[tactic(auto, unfolding(crate::specs::Assembled::by_mnemonic))]
 fn by_mnemonic(rep: bool, mnemonic: Mnemonic, arguments: &[Argument]) -> Result<Assembled, Refusal>
-    ensures { result ≡ spec.by_mnemonic rep mnemonic arguments.now }
+    ensures exact { result ≡ spec.by_mnemonic rep mnemonic arguments.now }
+    ensures right { IfOk result (IsRight arguments.now) }
 {
     match drafted_of(rep, mnemonic, arguments) {
         None => Err(Refusal::Operands),
-        Some(draft) => spelled(&draft, widths(&draft, arguments)),
+        Some(draft) => spelled(&draft, arguments),
     }
 }
 
@@ -101,6 +104,18 @@ fn by_mnemonic(rep: bool, mnemonic: Mnemonic, arguments: &[Argument]) -> Result<
 pub fn assemble(rep: bool, name: &[u8], arguments: &[Argument]) -> Result<Assembled, Refusal>
     // The answer is this function of the statement.
     ensures exact { result ≡ assembled rep name.now arguments.now }
+    // The bytes spell the instruction, and are read back whatever follows them.
+    ensures spelled { IfOk result IsSpelled }
+    // There are one to eleven.
+    ensures short { IfOk result IsShort }
+    // Each field that names a symbol has its four bytes, and its argument names one.
+    ensures fields { IfOk result (HasFields arguments.now) }
+    // The displacement stands before the immediate.
+    ensures order { IfOk result AreInOrder }
+    // The name is refused.
+    ensures refused { (result ≡ Err Refusal.RefusedInstruction) ↔ IsRefused name.now }
+    // The name is none that is known.
+    ensures unknown { (result ≡ Err Refusal.UnknownInstruction) ↔ IsUnknown name.now }
 {
     if refused_name(name).is_some() {
         return Err(Refusal::RefusedInstruction);
