@@ -1,22 +1,18 @@
 -- What is known of an answer: from what the encoder says of the spelling, and from which arguments name symbols.
-use Rattle.std.proofs.Common.{◌≡◌, ℕ, ◌+◌, ◌≤◌, Bool, true, false, List, Option, Some, None, Result, Ok, Err, refl, sym, ap, subst, ◌∙◌, arith}
-use Rattle.std.specs.Prelude.{IsTrue, IsSome, IfOk, is_some, slice_get, take, ◌↔◌, if◌then◌else◌}
+use Rattle.std.proofs.Common.{◌≡◌, ℕ, ◌+◌, ◌≤◌, Bool, true, false, List, Option, Some, None, Result, Ok, Err, refl, sym, ap, subst, ◌∙◌}
+use Rattle.std.specs.Prelude.{IsTrue, IfOk, is_some, slice_get, take, if◌then◌else◌}
 use Rattle.ia32_encode.specs.declared.bytes.ArrayBytes.{ArrayBytes}
 use Rattle.ia32_encode.specs.declared.choose.Wide.{Wide}
 use Rattle.ia32_encode.specs.Chosen.{SpellsWide, IsReadBack, IsPlaced}
 use Rattle.asm_parse.specs.declared.tree.Argument.{Argument}
-use Rattle.asm_parse.specs.declared.tree.Form.{Form}
 use Rattle.asm_parse.specs.Statements.{symbol_in}
 use Rattle.asm_instruction.specs.declared.draft.Draft.{Draft}
 use Rattle.asm_instruction.specs.declared.mnemonic.Mnemonic.{Mnemonic}
 use Rattle.asm_instruction.specs.declared.assembled.Assembled.{Assembled}
 use Rattle.asm_instruction.specs.declared.assembled.Refusal.{Refusal}
 use Rattle.asm_instruction.specs.declared.assembled.Refusal.TheVariants as refusal
-use Rattle.asm_instruction.specs.Names.{found, ◌>>=◌}
-use Rattle.asm_instruction.specs.Argument.{is_named, argument_named, names_symbol}
-use Rattle.asm_instruction.specs.Mnemonic.{known_name}
-use Rattle.asm_instruction.specs.Refused.{refused_names}
-use Rattle.asm_instruction.specs.Assembled.{named_field, widths, whole, with_spelling, spelled, drafted_of, by_draft, by_mnemonic, by_name, assembled, IsRefused, IsUnknown, IsShort, IsSpelled, IsField, HasFields, Before, AreInOrder, IsRight}
+use Rattle.asm_instruction.specs.Argument.{argument_named, names_symbol}
+use Rattle.asm_instruction.specs.Assembled.{named_field, widths, whole, with_spelling, spelled, drafted_of, by_draft, by_mnemonic, IsShort, IsSpelled, IsField, HasFields, Before, AreInOrder, IsRight}
 
 symbol_there : (o : Option (List ℕ)) → is_some o ≡ true → (n : List ℕ) × (o ≡ Some n)
 symbol_there (Some n) h = (n, refl)

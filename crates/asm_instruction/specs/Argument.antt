@@ -1,5 +1,5 @@
 -- What the arguments of a statement say.
-use Rattle.std.specs.Prelude.{codes, ℕ, ℤ, pos, ◌&&◌, Bool, true, false, List, [], ◌∷◌, Option, Some, None, is_some, is_none, slice_get, if◌then◌else◌}
+use Rattle.std.specs.Prelude.{codes, ℕ, pos, ◌&&◌, Bool, true, false, List, [], ◌∷◌, Option, Some, None, is_some, is_none, slice_get, if◌then◌else◌}
 use Rattle.std.specs.Str.{bytes_eq}
 use Rattle.ia32_types.specs.declared.register.Reg.{Reg}
 use Rattle.ia32_types.specs.Register.{number_of}

@@ -1,5 +1,5 @@
 -- Arithmetic and logic: the names, the operands that they take, and the instructions that they mean.
-use Rattle.std.specs.Prelude.{codes, List, [], ◌∷◌, Option, Some, None}
+use Rattle.std.specs.Prelude.{codes, [], ◌∷◌, Option, Some, None}
 use Rattle.ia32_types.specs.declared.insn.Op.{Op}
 use Rattle.ia32_types.specs.declared.insn.Op.TheVariants as op
 use Rattle.ia32_types.specs.declared.size.Size.{Size}

@@ -1,6 +1,5 @@
 -- The instruction that a statement is, in its chosen spelling.
-use Rattle.std.specs.Prelude.{◌≡◌, ℕ, ◌+◌, ◌<◌, ◌≤◌, Bool, true, false, List, length, take, Option, Some, None, IsSome, is_some, Result, Ok, Err, slice_get, if◌then◌else◌}
-use Rattle.ia32_types.specs.declared.insn.Insn.{Insn}
+use Rattle.std.specs.Prelude.{◌≡◌, ℕ, ◌+◌, ◌≤◌, Bool, false, List, take, Option, Some, None, IsSome, is_some, Result, Ok, Err, slice_get, if◌then◌else◌}
 use Rattle.ia32_encode.specs.declared.bytes.ArrayBytes.{ArrayBytes}
 use Rattle.ia32_encode.specs.declared.choose.Wide.{Wide}
 use Rattle.ia32_encode.specs.Chosen.{SpellsWide, IsReadBack, chosen}

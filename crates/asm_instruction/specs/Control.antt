@@ -1,5 +1,5 @@
 -- Jumps, calls, returns, interrupts and conditions.
-use Rattle.std.specs.Prelude.{codes, ℕ, ◌+◌, ◌-◌, ◌%◌, ◌^◌, ◌&&◌, Bool, true, false, List, [], ◌∷◌, Option, Some, None, is_none, if◌then◌else◌, ◌==◌}
+use Rattle.std.specs.Prelude.{codes, ℕ, ◌+◌, ◌-◌, ◌%◌, ◌^◌, ◌&&◌, Bool, true, List, [], ◌∷◌, Option, Some, None, is_none, if◌then◌else◌, ◌==◌}
 use Rattle.ia32_types.specs.declared.insn.Op.{Op}
 use Rattle.ia32_types.specs.declared.insn.Op.TheVariants as op
 use Rattle.ia32_types.specs.declared.size.Size.{Size}

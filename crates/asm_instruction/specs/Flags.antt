@@ -1,5 +1,5 @@
 -- Instructions without operands, most of which change flags.
-use Rattle.std.specs.Prelude.{codes, List, [], ◌∷◌, Option, Some, None}
+use Rattle.std.specs.Prelude.{codes, [], ◌∷◌, Option, Some, None}
 use Rattle.ia32_types.specs.declared.insn.Op.{Op}
 use Rattle.ia32_types.specs.declared.insn.Op.TheVariants as op
 use Rattle.ia32_types.specs.declared.size.Size.{Size}

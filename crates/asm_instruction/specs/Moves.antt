@@ -1,5 +1,5 @@
 -- Moves between registers and memory.
-use Rattle.std.specs.Prelude.{codes, ℕ, List, [], ◌∷◌, Option, Some, None, min, max}
+use Rattle.std.specs.Prelude.{codes, ℕ, [], ◌∷◌, Option, Some, None, min, max}
 use Rattle.ia32_types.specs.declared.register.Seg.{Seg}
 use Rattle.ia32_types.specs.declared.insn.Op.{Op}
 use Rattle.ia32_types.specs.declared.insn.Op.TheVariants as op

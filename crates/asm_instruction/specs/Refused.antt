@@ -1,5 +1,5 @@
 -- The instructions that are refused by their names, without suffixes (profile).
-use Rattle.std.specs.Prelude.{codes, List, [], ◌∷◌}
+use Rattle.std.specs.Prelude.{codes, [], ◌∷◌}
 use Rattle.ia32_types.specs.declared.site.Refused.{Refused}
 use Rattle.ia32_types.specs.declared.site.Refused.TheVariants as refused
 use Rattle.asm_instruction.specs.Names.{Table}

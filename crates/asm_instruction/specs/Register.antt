@@ -1,5 +1,5 @@
 -- The names of the registers and their numbers (SDM volume 2, table 2-2).
-use Rattle.std.specs.Prelude.{codes, ℕ, List, [], ◌∷◌}
+use Rattle.std.specs.Prelude.{codes, ℕ, [], ◌∷◌}
 use Rattle.ia32_types.specs.declared.register.Reg.{Reg}
 use Rattle.ia32_types.specs.declared.register.Reg.TheVariants as reg
 use Rattle.ia32_types.specs.declared.register.Seg.{Seg}

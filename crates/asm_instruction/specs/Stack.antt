@@ -1,5 +1,5 @@
 -- The stack.
-use Rattle.std.specs.Prelude.{codes, List, [], ◌∷◌, Option, Some, None}
+use Rattle.std.specs.Prelude.{codes, [], ◌∷◌, Option, Some, None}
 use Rattle.ia32_types.specs.declared.register.Seg.{Seg}
 use Rattle.ia32_types.specs.declared.insn.Op.{Op}
 use Rattle.ia32_types.specs.declared.insn.Op.TheVariants as op

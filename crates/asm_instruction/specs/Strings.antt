@@ -1,5 +1,5 @@
 -- String instructions.
-use Rattle.std.specs.Prelude.{codes, Bool, List, [], ◌∷◌, Option, Some, None}
+use Rattle.std.specs.Prelude.{codes, Bool, [], ◌∷◌, Option, Some, None}
 use Rattle.ia32_types.specs.declared.insn.Op.{Op}
 use Rattle.ia32_types.specs.declared.insn.Op.TheVariants as op
 use Rattle.ia32_types.specs.declared.size.Size.{Size}

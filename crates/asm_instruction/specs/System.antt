@@ -1,5 +1,5 @@
 -- System instructions and ports.
-use Rattle.std.specs.Prelude.{codes, ◌==◌, List, [], ◌∷◌, Option, Some, None, if◌then◌else◌}
+use Rattle.std.specs.Prelude.{codes, ◌==◌, [], ◌∷◌, Option, Some, None, if◌then◌else◌}
 use Rattle.ia32_types.specs.declared.insn.Op.{Op}
 use Rattle.ia32_types.specs.declared.insn.Op.TheVariants as op
 use Rattle.ia32_types.specs.declared.size.Size.{Size}

@@ -1,4 +1,4 @@
-use Rattle.std.proofs.Common.{sym, ◌∙◌, ap, rules, arith}
+use Rattle.std.proofs.Common.{sym, ◌∙◌, rules, arith}
 use Rattle.asm_instruction.proofs.Whole.{mnemonic_later}
 use Rattle.asm_instruction.proofs.assembling.assemble.Goals as goal
 
