@@ -1,5 +1,5 @@
 -- Where the parts of the objects stand: sums over the objects before.
-use Rattle.std.specs.Prelude.{ℕ, ◌+◌, ◌==◌, List, [], ◌∷◌, length, take, sum_by, if◌then◌else◌}
+use Rattle.std.specs.Prelude.{ℕ, ◌+◌, ◌==◌, List, [], ◌∷◌, length, map, Option, Some, None, take, sum_by, if◌then◌else◌}
 use Rattle.std.specs.List.{enumerate_from}
 use Rattle.elf_form.specs.ObjectParts.{ObjectParts}
 use Rattle.elf_form.specs.Output.{pad}
@@ -58,8 +58,15 @@ abbrev pub init_end : List ObjectParts → ℕ
 init_end os = extent init_size os
 
 abbrev pub memory_end : List ObjectParts → ℕ
-memory_end os = if sum_by bss_size os == 0 then init_end os else sum_by init_room os + extent bss_size os
+memory_end os = if extent bss_size os == 0 then init_end os else sum_by init_room os + extent bss_size os
 
 -- the objects with their numbers, from 0
 abbrev pub numbered : List ObjectParts → List (ℕ × ObjectParts)
 numbered os = enumerate_from 0 os
+
+unfoldable pub bases : List ObjectParts → List Base
+bases os = map (λ p. base os p.0) (numbered os)
+
+abbrev pub or_zero : Option Base → Base
+or_zero None = record { text = 0; init = 0; bss = 0 }
+or_zero (Some b) = b

@@ -7,7 +7,7 @@ use Rattle.elf_link.specs.declared.target.Target.{Target}
 use Rattle.elf_link.specs.declared.fault.LinkCause.{LinkCause}
 use Rattle.elf_link.specs.declared.fault.LinkCause.TheVariants.{Doubled, NotText, TextTooLarge, InitTooLarge, TooManySymbols, SitesForm}
 use Rattle.elf_link.specs.Layout.{text_end, memory_end, numbered}
-use Rattle.elf_link.specs.Symbols.{is_text, is_exported, definitions, lookup}
+use Rattle.elf_link.specs.Symbols.{is_text, is_exported, definitions, globals, lookup}
 use Rattle.elf_link.specs.Relocations.{reloc_cause}
 use Rattle.elf_link.specs.Sites.{sites_wrong}
 
@@ -67,11 +67,11 @@ abbrev pub object_refusal : List ObjectParts → ℕ × ObjectParts → Option R
 object_refusal os p = refused p.0 (object_cause os p)
 
 abbrev pub relocs_refusal : List ObjectParts → ℕ × ObjectParts → Option Refused
-relocs_refusal os p = refused p.0 (first (reloc_cause os p) p.1.relocs)
+relocs_refusal os p = refused p.0 (first (reloc_cause (globals os) p) p.1.relocs)
 
 -- what `_start` stands for
 abbrev pub start : List ObjectParts → Option Target
-start os = lookup (codes "_start") (definitions (numbered os))
+start os = lookup (codes "_start") (globals os)
 
 abbrev pub start_refusal : Option Target → Option Refused
 start_refusal None = None

@@ -1,5 +1,5 @@
 -- What names stand for.
-use Rattle.std.specs.Prelude.{ℕ, ◌+◌, ◌%◌, ◌^◌, ◌&&◌, Bool, true, false, List, [], ◌∷◌, map, filter, Option, Some, None, if◌then◌else◌}
+use Rattle.std.specs.Prelude.{ℕ, ◌+◌, ◌%◌, ◌^◌, ◌&&◌, Bool, true, false, List, [], ◌∷◌, map, filter, slice_get, Option, Some, None, if◌then◌else◌}
 use Rattle.std.specs.List.{flat_map}
 use Rattle.std.specs.Str.{bytes_eq}
 use Rattle.elf_form.specs.declared.object.Place.{Place}
@@ -8,7 +8,7 @@ use Rattle.elf_form.specs.declared.object.Symbol.{Symbol}
 use Rattle.elf_form.specs.ObjectParts.{ObjectParts}
 use Rattle.elf_link.specs.declared.base.Base.{Base}
 use Rattle.elf_link.specs.declared.target.Target.{Target}
-use Rattle.elf_link.specs.Layout.{base, numbered}
+use Rattle.elf_link.specs.Layout.{numbered, or_zero}
 
 abbrev pub is_defined : Place → Bool
 is_defined Undefined = false
@@ -42,10 +42,13 @@ unfoldable pub lookup : List ℕ → List (List ℕ × Target) → Option Target
 lookup name [] = None
 lookup name (d ∷ ds) = if bytes_eq name d.0 then Some d.1 else lookup name ds
 
+abbrev pub globals : List ObjectParts → List (List ℕ × Target)
+globals os = definitions (numbered os)
+
 -- What a symbol of object i stands for: itself where it is defined, else the global symbol of its name. A local symbol
 -- that isn't defined stands for nothing.
-unfoldable pub target_of : List ObjectParts → ℕ → Symbol → Option Target
-target_of os i s = if is_defined s.place then Some (target i s) else (if s.global then lookup s.name (definitions (numbered os)) else None)
+unfoldable pub target_of : List (List ℕ × Target) → ℕ → Symbol → Option Target
+target_of gs i s = if is_defined s.place then Some (target i s) else (if s.global then lookup s.name gs else None)
 
 -- where a part of an object stands
 abbrev pub place_at : Place → Base → ℕ
@@ -55,5 +58,5 @@ place_at Init b = b.init
 place_at Bss b = b.bss
 
 -- its linear address
-unfoldable pub address : List ObjectParts → Target → ℕ
-address os t = (place_at t.place (base os t.object) + t.value) % 2 ^ 32
+unfoldable pub address : List Base → Target → ℕ
+address bs t = (place_at t.place (or_zero (slice_get bs t.object)) + t.value) % 2 ^ 32

@@ -3,6 +3,15 @@
 
 mod base;
 mod fault;
+mod gathering;
+mod globals;
+mod layout;
+mod linking;
+mod relocations;
 mod target;
+#[cfg(test)]
+mod tests;
+mod totals;
 
 pub use fault::{LinkCause, LinkFault};
+pub use linking::{link, linked};
