@@ -4,6 +4,7 @@ use Rattle.std.specs.Prelude.{sum_by, map, nat_lt, ◌||◌}
 use Rattle.std.specs.List.{flat_map}
 use Rattle.std.proofs.lemmas.List.{take_all, length-append, length-map, append-nil}
 use Rattle.std.proofs.lemmas.List.Concat.{flat_map-append}
+use Rattle.std.proofs.lemmas.Bool.{ltb-false}
 use Rattle.elf_form.specs.ObjectParts.{ObjectParts}
 use Rattle.sites.specs.declared.site.Site.{Site}
 use Rattle.sites.specs.Reading.{sites_in}
@@ -19,7 +20,7 @@ use Rattle.elf_link.specs.Refusals.{Refused, ◌or◌, when, first, refused, fir
 use Rattle.elf_link.specs.Steps.{IsWithin, AreBelow, totals, with_object, size_cause, sites_bad, step_cause, tested}
 use Rattle.elf_link.specs.Answers.{Fails, Gives}
 use Rattle.elf_link.proofs.FirstLaws.{Passed, first_next, first_end, fails_here}
-use Rattle.elf_link.proofs.LayoutLaws.{sum-more, text_end-more, memory_limit}
+use Rattle.elf_link.proofs.LayoutLaws.{sum-more, text_end-more, text_end-le, memory_limit}
 use Rattle.elf_link.proofs.BaseLaws.{numbered_at, length-numbered, take-numbered}
 use Rattle.elf_link.proofs.StepLaws.{cause_none}
 use Rattle.elf_link.proofs.SiteLaws.{below_next}
@@ -31,6 +32,10 @@ or_assoc : (a b c d : Option LinkCause) → ((a or (b or c)) or d) ≡ (a or (b 
 or_assoc (Some x) b c d = refl
 or_assoc None (Some y) c d = refl
 or_assoc None None c d = refl
+
+when_not : (b : Bool) (cause : LinkCause) (later : Option LinkCause) → (when b cause or later) ≡ None → b ≡ false
+when_not true cause later h = absurd (cc)
+when_not false cause later h = refl
 
 abbrev chain : Bool → Bool → Bool → Bool → Option LinkCause → Option LinkCause
 chain a b c d e = when a TextTooLarge or (when b InitTooLarge or (when c TooManySymbols or (when d SitesForm or e)))
@@ -75,18 +80,20 @@ pub record Gathering (os : List ObjectParts) (i : ℕ) (t : Totals) (gs : List (
   pub within : IsWithin t
   pub names : gs ≡ definitions (take i (numbered os))
   pub moved : sites ≡ flat_map (moved_sites os) (take i (numbered os))
-  pub below : AreBelow t.text sites
+  pub below : AreBelow (text_end (take i os)) sites
+  pub fits : text_end (take i os) + 2 ≤ 4194304
   pub count : length sites ≡ t.sites
   pub passed : Passed (object_refusal os) (numbered os) i
 
 pub gathering_first : (os : List ObjectParts) → Gathering os 0 (record { text = 0; memory = 0; symbols = 0; sites = 0 }) [] []
-unfolding totals definitions
+unfolding totals definitions text_end
 gathering_first os = record {
   sums = refl;
   within = record { text = omega arith; memory = omega arith; symbols = omega arith; sites = omega arith };
   names = refl;
   moved = refl;
   below = record { form = tt; below = λ k d h. absurd (omega arith) };
+  fits = omega arith;
   count = refl;
   passed = refl;
 }
@@ -100,39 +107,46 @@ module _ (os : List ObjectParts) (i : ℕ) (o : ObjectParts) (t : Totals) (gs : 
       fails_here (object_refusal os) (numbered os) i (i, o) e (subst (λ (n : ℕ). i < n) (sym (length-numbered os)) lt) (numbered_at os i o lt is) now.passed
       (subst (λ (c : Option LinkCause). Fails e (tested (refused i c))) cause_now h)
 
+  text_is : t.text ≡ text_at os i
+  unfolding totals
+  text_is = ap (λ (u : Totals). u.text) now.sums
+
+  flat_next : {A : Type 0} (f : ℕ × ObjectParts → List A) → flat_map f (take (i + 1) (numbered os)) ≡ flat_map f (take i (numbered os)) ++ f (i, o)
+  flat_next {A} f = ap (flat_map f) (take-numbered os i o lt is) ∙ (flat_map-append f (take i (numbered os)) ((i, o) ∷ []) ∙ ap (λ (l : List A). flat_map f (take i (numbered os)) ++ l) (append-nil (f (i, o))))
+
+  below_is : (sites' : List Site) → sites' ≡ sites ++ map (moved t.text) (sites_of o) → AreBelow (length o.text) (sites_of o) → text_end (take (i + 1) os) + 2 ≤ 4194304 → AreBelow (text_end (take (i + 1) os)) sites'
+  below_is sites' more own fits =
+      let end : t.text + length o.text ≡ text_end (take (i + 1) os) = ap (λ (n : ℕ). n + length o.text) text_is ∙ sym (text_end-more os i o lt is) in
+      subst (λ (n : ℕ). AreBelow n sites') end (subst (λ (s : List Site). AreBelow (t.text + length o.text) s) (sym more)
+      (below_next (text_end (take i os)) t.text (length o.text) sites (sites_of o) now.below (omega (arith, text_is, text_end-le (take i os))) own (omega (arith, end, fits))))
+
+  fits_is : object_cause os (i, o) ≡ None → text_end (take (i + 1) os) + 2 ≤ 4194304
+  unfolding object_cause
+  fits_is none = ltb-false 4194304 (text_end (take (i + 1) os) + 2) (when_not (nat_lt 4194304 (text_end (take (i + 1) os) + 2)) TextTooLarge _ none)
+
+  count_is : (t' : Totals) (sites' : List Site) → t' ≡ with_object t o → sites' ≡ sites ++ map (moved t.text) (sites_of o) → length sites' ≡ t'.sites
+  unfolding with_object
+  count_is t' sites' sums more =
+      let sum : t'.sites ≡ t.sites + length (sites_of o) = ap (λ (u : Totals). u.sites) sums in
+      omega (arith, sum, ap length more, length-append sites (map (moved t.text) (sites_of o)), length-map (sites_of o) (moved t.text), now.count)
+
   pub gathering_next : (t' : Totals) (gs' : List (List ℕ × Target)) (sites' : List Site) → tested (refused i (step_cause t gs (i, o))) ≡ Ok tt → t' ≡ with_object t o → gs' ≡ gs ++ exports (i, o) → sites' ≡ sites ++ map (moved t.text) (sites_of o) → AreBelow (length o.text) (sites_of o) → IsWithin t' → Gathering os (i + 1) t' gs' sites'
   unfolding definitions
   gathering_next t' gs' sites' exact sums names more own within =
-      let none : object_refusal os (i, o) ≡ None = ap (refused i) (sym cause_now ∙ cause_none i (step_cause t gs (i, o)) exact) in
+      let cause : object_cause os (i, o) ≡ None = sym cause_now ∙ cause_none i (step_cause t gs (i, o)) exact in
+      let fits = fits_is cause in
+      let none : object_refusal os (i, o) ≡ None = ap (refused i) cause in
       let at : t.text ≡ text_at os i = text_is in
       record {
         sums = sums ∙ (ap (λ (u : Totals). with_object u o) now.sums ∙ sym (totals_next os i o lt is));
         within = within;
         names = names ∙ (ap (λ (g : List (List ℕ × Target)). g ++ exports (i, o)) now.names ∙ sym (flat_next exports));
         moved = more ∙ (ap (λ (n : ℕ). sites ++ map (moved n) (sites_of o)) at ∙ (ap (λ (s : List Site). s ++ moved_sites os (i, o)) now.moved ∙ sym (flat_next (moved_sites os))));
-        below = below_is t' sites' sums more own within;
+        below = below_is sites' more own fits;
+        fits = fits;
         count = count_is t' sites' sums more;
         passed = first_next (object_refusal os) (numbered os) i (i, o) (subst (λ (n : ℕ). i < n) (sym (length-numbered os)) lt) (numbered_at os i o lt is) now.passed none;
       }
-    where
-      text_is : t.text ≡ text_at os i
-      unfolding totals
-      text_is = ap (λ (u : Totals). u.text) now.sums
-
-      flat_next : {A : Type 0} (f : ℕ × ObjectParts → List A) → flat_map f (take (i + 1) (numbered os)) ≡ flat_map f (take i (numbered os)) ++ f (i, o)
-      flat_next {A} f = ap (flat_map f) (take-numbered os i o lt is) ∙ (flat_map-append f (take i (numbered os)) ((i, o) ∷ []) ∙ ap (λ (l : List A). flat_map f (take i (numbered os)) ++ l) (append-nil (f (i, o))))
-
-      below_is : (t' : Totals) (sites' : List Site) → t' ≡ with_object t o → sites' ≡ sites ++ map (moved t.text) (sites_of o) → AreBelow (length o.text) (sites_of o) → IsWithin t' → AreBelow t'.text sites'
-      unfolding with_object
-      below_is t' sites' sums more own within =
-          let text : t'.text ≡ t.text + text_room o = ap (λ (u : Totals). u.text) sums in
-          subst (λ (n : ℕ). AreBelow n sites') (sym text) (subst (λ (s : List Site). AreBelow (t.text + text_room o) s) (sym more) (below_next t.text (length o.text) (text_room o) sites (sites_of o) now.below own (omega arith) (omega (arith, within.text, text))))
-
-      count_is : (t' : Totals) (sites' : List Site) → t' ≡ with_object t o → sites' ≡ sites ++ map (moved t.text) (sites_of o) → length sites' ≡ t'.sites
-      unfolding with_object
-      count_is t' sites' sums more =
-          let sum : t'.sites ≡ t.sites + length (sites_of o) = ap (λ (u : Totals). u.sites) sums in
-          omega (arith, sum, ap length more, length-append sites (map (moved t.text) (sites_of o)), length-map (sites_of o) (moved t.text), now.count)
 
 -- what is known of all objects
 pub record Gathers (os : List ObjectParts) (t : Totals) (gs : List (List ℕ × Target)) (sites : List Site) : Type 0 where
@@ -140,6 +154,9 @@ pub record Gathers (os : List ObjectParts) (t : Totals) (gs : List (List ℕ × 
   pub within : IsWithin (totals os)
   pub names : gs ≡ globals os
   pub moved : sites ≡ linked_sites os
+  pub below : AreBelow (text_end os) sites
+  pub fits : text_end os + 2 ≤ 4194304
+  pub count : length sites ≤ 262144
 
 pub gathered_all : (os : List ObjectParts) (i : ℕ) (t : Totals) (gs : List (List ℕ × Target)) (sites : List Site) → length os ≤ i → Gathering os i t gs sites → Gathers os t gs sites
 unfolding linked_sites
@@ -151,4 +168,7 @@ gathered_all os i t gs sites le now =
       within = subst (λ (u : Totals). IsWithin u) (now.sums ∙ ap totals whole) now.within;
       names = now.names ∙ ap definitions all;
       moved = now.moved ∙ ap (flat_map (moved_sites os)) all;
+      below = subst (λ (os' : List ObjectParts). AreBelow (text_end os') sites) whole now.below;
+      fits = subst (λ (os' : List ObjectParts). text_end os' + 2 ≤ 4194304) whole now.fits;
+      count = omega (arith, now.count, now.within.sites);
     }

@@ -116,7 +116,7 @@ ends_within os h = by (extent bss_size os == 0) refl h where
       let rest : extent bss_size os ≤ 4096 * (8192 - m.0) = omega (arith, m.1) in
       omega (arith, m.1, rooms-le bss_size os (8192 - m.0) rest)
 
-within_ends : (os : List ObjectParts) → sum_by init_room os + sum_by bss_room os ≤ 33554432 → memory_end os ≤ 33554432
+pub within_ends : (os : List ObjectParts) → sum_by init_room os + sum_by bss_room os ≤ 33554432 → memory_end os ≤ 33554432
 within_ends os h =
     let init = extent-le-rooms init_size os in
     let bss = extent-le-rooms bss_size os in
@@ -157,3 +157,18 @@ sum-more f os i o lt is = sum_by_more f os i o lt ∙ ap (λ (p : ObjectParts). 
 -- an extent keeps within its rooms
 pub extent-within : (size : ObjectParts → ℕ) (os : List ObjectParts) → extent size os ≤ sum_by (room_of size) os
 extent-within size os = extent-le-rooms size os
+
+pub text_end-le : (os : List ObjectParts) → text_end os ≤ sum_by text_room os
+unfolding text_end
+text_end-le [] = omega arith
+text_end-le (p ∷ []) = omega (arith, sum_by-cons text_room p [])
+text_end-le (p ∷ q ∷ os) = omega (arith, sum_by-cons text_room p (q ∷ os), text_end-le (q ∷ os))
+
+pub init_end-le : (os : List ObjectParts) → extent init_size os ≤ memory_end os
+init_end-le os =
+    let init = extent-le-rooms init_size os in
+    elim (extent bss_size os == 0) as (λ (b : Bool). extent init_size os ≤ cond b (extent init_size os) (sum_by init_room os + extent bss_size os)) [ true ↦ omega arith | false ↦ omega (arith, init) ]
+
+pub memory_fits : (os : List ObjectParts) → IsWithin (totals os) → memory_end os ≤ 33554432
+unfolding totals
+memory_fits os within = within_ends os within.memory

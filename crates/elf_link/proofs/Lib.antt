@@ -8,3 +8,6 @@ pub mod BaseLaws
 pub mod StepLaws
 pub mod SiteLaws
 pub mod GatherLaws
+pub mod JoinLaws
+pub mod CheckLaws
+pub mod LinkLaws

@@ -1,9 +1,11 @@
 -- Sites of one text behind those of others.
-use Rattle.std.proofs.Common.{◌≡◌, ℕ, zero, suc, ◌+◌, ◌-◌, ◌<◌, ◌≤◌, ◌^◌, max, List, [], ◌∷◌, ◌++◌, length, get_or, refl, ap, sym, ◌∙◌, subst, arith}
+use Rattle.std.proofs.Common.{◌≡◌, ℕ, zero, suc, ◌+◌, ◌-◌, ◌*◌, ◌<◌, ◌≤◌, ◌^◌, max, List, [], ◌∷◌, ◌++◌, length, get_or, refl, ap, sym, ◌∙◌, subst, arith}
 use Rattle.std.specs.Prelude.{All, map}
-use Rattle.std.proofs.lemmas.List.{length-map}
+use Rattle.std.proofs.lemmas.List.{length-map, length-append}
+use Rattle.std.specs.List.{flat_map}
+use Rattle.std.specs.Int.{w32, to_le_bytes}
 use Rattle.sites.specs.declared.site.Site.{Site}
-use Rattle.sites.specs.Spelling.{AreInForm}
+use Rattle.sites.specs.Spelling.{site, spelling, AreSites, AreInForm}
 use Rattle.elf_link.specs.Sites.{moved}
 use Rattle.elf_link.specs.Steps.{AreBelow}
 
@@ -55,8 +57,22 @@ below-append at end (x ∷ xs) ys le below h =
 pub below-wider : (a b : ℕ) (sites : List Site) → a ≤ b → All (λ s. s.at + s.total ≤ a) sites → All (λ s. s.at + s.total ≤ b) sites
 below-wider a b sites le below = λ k d h. let here = below k d h in omega arith
 
-pub below_next : (at size room : ℕ) (xs ys : List Site) → AreBelow at xs → AreBelow size ys → size ≤ room → at + room < 2 ^ 32 → AreBelow (at + room) (xs ++ map (moved at) ys)
-below_next at size room xs ys h own le small = record {
-  form = form-append 0 at xs (map (moved at) ys) (omega arith) h.form h.below (subst (λ (n : ℕ). AreInForm n (map (moved at) ys)) (omega arith) (form-moved 0 at size ys own.form own.below (omega arith)));
-  below = below-append at (at + room) xs (map (moved at) ys) (omega arith) h.below (below-wider (at + size) (at + room) (map (moved at) ys) (omega arith) (below-moved at size ys own.below));
-}
+pub below_next : (end at size : ℕ) (xs ys : List Site) → AreBelow end xs → end ≤ at → AreBelow size ys → at + size < 2 ^ 32 → AreBelow (at + size) (xs ++ map (moved at) ys)
+below_next end at size xs ys h le own small =
+    let before = below-wider end at xs le h.below in
+    record {
+      form = form-append 0 at xs (map (moved at) ys) (omega arith) h.form before (subst (λ (n : ℕ). AreInForm n (map (moved at) ys)) (omega arith) (form-moved 0 at size ys own.form own.below small));
+      below = below-append at (at + size) xs (map (moved at) ys) (omega arith) before (below-moved at size ys own.below);
+    }
+
+pub sites_in_form : (least : ℕ) (sites : List Site) → AreInForm least sites → AreSites least sites
+sites_in_form least [] h = tt
+sites_in_form least (s ∷ sites) h = (h.0, h.3, sites_in_form (s.at + 1) sites h.4)
+
+length-flat_sites : (sites : List Site) → length (flat_map site sites) ≡ 8 * length sites
+length-flat_sites [] = refl
+length-flat_sites (s ∷ sites) = length-append (site s) (flat_map site sites) ∙ omega (arith, length-flat_sites sites)
+
+pub length-spelling : (sites : List Site) → length (spelling sites) ≡ 8 + 8 * length sites
+unfolding spelling
+length-spelling sites = omega (arith, length-append (to_le_bytes w32 (length sites)) (flat_map site sites), length-flat_sites sites)

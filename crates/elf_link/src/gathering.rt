@@ -2,7 +2,7 @@
 
 ghost use Rattle.std.specs.Prelude.{◌≡◌, ◌+◌, ◌≤◌, ◌<◌, ◌^◌, ◌++◌, [], All, length, map, nat_lt, Ok, OnOk, IfOk};
 ghost use Rattle.std.specs.List.{list_any};
-ghost use Rattle.elf_link.specs.Layout.{numbered};
+ghost use Rattle.elf_link.specs.Layout.{numbered, text_end};
 ghost use Rattle.elf_link.specs.Symbols.{exports, globals};
 ghost use Rattle.elf_link.specs.Sites.{sites_of, moved, linked_sites};
 ghost use Rattle.elf_link.specs.Relocations.{IsLinkable};
@@ -138,9 +138,9 @@ pub fn gather_all(alloc: Global, objects: &Vec<Object>) -> Result<Gathered, Link
     ensures within { IfOk result (λ _. IsWithin (totals objects.now.items)) }
     ensures globals { IfOk result (λ all. all.globals ≡ globals objects.now.items) }
     ensures sites { IfOk result (λ all. all.sites.items ≡ linked_sites objects.now.items) }
-    ensures below { IfOk result (λ all. AreBelow all.totals.text all.sites.items) }
+    ensures below { IfOk result (λ all. AreBelow (text_end objects.now.items) all.sites.items) }
     ensures count { IfOk result (λ all. length all.sites.items ≤ 262144) }
-    ensures short { IfOk result (λ all. all.totals.text < 4194320) }
+    ensures fits { IfOk result (λ _. text_end objects.now.items + 2 ≤ 4194304) }
 {
     let mut all = Gathered {
         totals: Totals {
