@@ -1,14 +1,12 @@
 -- The bases of the objects, one more.
 use Rattle.std.proofs.Common.{◌≡◌, ℕ, ◌+◌, ◌<◌, ◌≤◌, List, [], ◌∷◌, ◌++◌, length, get_or, take, refl, ap, sym, ◌∙◌, subst, arith}
-use Rattle.std.specs.Prelude.{sum_by, map}
-use Rattle.std.specs.List.{enumerate_from}
+use Rattle.std.specs.Prelude.{map}
 use Rattle.std.proofs.lemmas.List.{take_more, take-map, take_all, length-map, map-append}
 use Rattle.std.proofs.lemmas.List.FromFn.{length-enumerate_from, get_or-enumerate_from}
 use Rattle.elf_form.specs.ObjectParts.{ObjectParts}
 use Rattle.elf_link.specs.declared.base.Base.{Base}
 use Rattle.elf_link.specs.Layout.{text_room, init_room, bss_room, text_at, init_at, bss_at, base, bases, numbered}
-use Rattle.elf_link.specs.Steps.{IsWithin, totals}
-use Rattle.elf_link.proofs.LayoutLaws.{sum-more, fits_at}
+use Rattle.elf_link.proofs.LayoutLaws.{sum-more}
 
 -- an object with its number is the item of the numbered list
 pub numbered_at : (os : List ObjectParts) (i : ℕ) (o : ObjectParts) → i < length os → get_or os i o ≡ o → get_or (numbered os) i (i, o) ≡ (i, o)

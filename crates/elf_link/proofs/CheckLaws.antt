@@ -1,5 +1,5 @@
 -- The relocations of each object tested in turn.
-use Rattle.std.proofs.Common.{◌≡◌, ℕ, ◌+◌, ◌<◌, ◌≤◌, List, length, get_or, Option, None, Result, Ok, refl, ap, sym, ◌∙◌, subst, arith}
+use Rattle.std.proofs.Common.{◌≡◌, ℕ, ◌+◌, ◌<◌, ◌≤◌, List, length, get_or, Option, Ok, ap, sym, ◌∙◌, subst, arith}
 use Rattle.elf_form.specs.ObjectParts.{ObjectParts}
 use Rattle.elf_link.specs.declared.target.Target.{Target}
 use Rattle.elf_link.specs.declared.fault.LinkCause.{LinkCause}

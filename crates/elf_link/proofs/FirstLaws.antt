@@ -1,11 +1,11 @@
 -- The steps of a search for the first answer.
-use Rattle.std.proofs.Common.{◌≡◌, ℕ, ◌+◌, ◌<◌, ◌≤◌, true, false, List, [], ◌∷◌, length, get_or, take, drop, Option, Some, None, Result, Ok, Err, is_some, refl, ap, sym, ◌∙◌, subst}
+use Rattle.std.proofs.Common.{◌≡◌, ℕ, ◌+◌, ◌<◌, ◌≤◌, true, false, List, length, get_or, drop, Option, Some, None, Ok, is_some, refl, ap, sym, ◌∙◌, subst}
 use Rattle.std.proofs.lemmas.List.{at_drop_more, at_drop_all, get_or_default}
 use Rattle.elf_link.specs.declared.fault.LinkFault.{LinkFault}
 use Rattle.elf_link.specs.declared.fault.LinkFault.TheVariants as faults
 use Rattle.elf_link.specs.Refusals.{Refused, ◌or◌, first}
 use Rattle.elf_link.specs.Steps.{tested}
-use Rattle.elf_link.specs.Answers.{Fails, Gives}
+use Rattle.elf_link.specs.Answers.{Fails}
 
 module _ {X Y : Type 0} (f : X → Option Y) (xs : List X) (i : ℕ) where
   -- Nothing was found before i.

@@ -1,5 +1,5 @@
 -- Each object tested in turn.
-use Rattle.std.proofs.Common.{◌≡◌, ℕ, ◌+◌, ◌<◌, ◌≤◌, ◌^◌, Bool, true, false, cond, List, [], ◌∷◌, ◌++◌, length, get_or, take, drop, Option, Some, None, Result, Ok, Err, refl, ap, sym, ◌∙◌, subst, arith}
+use Rattle.std.proofs.Common.{◌≡◌, ℕ, ◌+◌, ◌<◌, ◌≤◌, Bool, true, false, List, [], ◌∷◌, ◌++◌, length, get_or, take, Option, Some, None, Ok, refl, ap, sym, ◌∙◌, subst, arith}
 use Rattle.std.specs.Prelude.{sum_by, map, nat_lt, ◌||◌}
 use Rattle.std.specs.List.{flat_map}
 use Rattle.std.proofs.lemmas.List.{take_all, length-append, length-map, append-nil}
@@ -13,12 +13,12 @@ use Rattle.elf_link.specs.declared.totals.Totals.{Totals}
 use Rattle.elf_link.specs.declared.fault.LinkCause.{LinkCause}
 use Rattle.elf_link.specs.declared.fault.LinkCause.TheVariants.{TextTooLarge, InitTooLarge, TooManySymbols, SitesForm}
 use Rattle.elf_link.specs.declared.fault.LinkFault.{LinkFault}
-use Rattle.elf_link.specs.Layout.{text_size, text_room, init_room, bss_room, text_end, memory_end, numbered, text_at}
+use Rattle.elf_link.specs.Layout.{text_room, init_room, bss_room, text_end, memory_end, numbered, text_at}
 use Rattle.elf_link.specs.Symbols.{exports, definitions, globals}
 use Rattle.elf_link.specs.Sites.{sites_of, misplaced, sites_wrong, moved, moved_sites, linked_sites}
-use Rattle.elf_link.specs.Refusals.{Refused, ◌or◌, when, first, refused, first_doubled, exported_names, doubled, doubled_cause, object_cause, object_refusal}
+use Rattle.elf_link.specs.Refusals.{◌or◌, when, first, refused, doubled, doubled_cause, object_cause, object_refusal}
 use Rattle.elf_link.specs.Steps.{IsWithin, AreBelow, totals, with_object, size_cause, sites_bad, step_cause, tested}
-use Rattle.elf_link.specs.Answers.{Fails, Gives}
+use Rattle.elf_link.specs.Answers.{Fails}
 use Rattle.elf_link.proofs.FirstLaws.{Passed, first_next, first_end, fails_here}
 use Rattle.elf_link.proofs.LayoutLaws.{sum-more, text_end-more, text_end-le, memory_limit}
 use Rattle.elf_link.proofs.BaseLaws.{numbered_at, length-numbered, take-numbered}

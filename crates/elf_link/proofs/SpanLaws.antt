@@ -1,5 +1,5 @@
 -- One part more in a span.
-use Rattle.std.proofs.Common.{◌≡◌, ℕ, ◌+◌, ◌<◌, List, length, get_or, take, refl, ap, sym, ◌∙◌}
+use Rattle.std.proofs.Common.{◌≡◌, ℕ, ◌+◌, ◌<◌, List, length, get_or, take, ap, sym, ◌∙◌}
 use Rattle.std.specs.Prelude.{sum_by}
 use Rattle.elf_form.specs.ObjectParts.{ObjectParts}
 use Rattle.elf_link.specs.declared.layout.Span.{Span}

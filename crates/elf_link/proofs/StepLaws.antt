@@ -1,5 +1,5 @@
 -- One object tested.
-use Rattle.std.proofs.Common.{◌≡◌, ℕ, ◌+◌, ◌<◌, ◌≤◌, Bool, true, false, cond, List, [], ◌∷◌, length, Option, Some, None, Result, Ok, Err, IsErrAnd, refl, ap, sym, ◌∙◌, subst}
+use Rattle.std.proofs.Common.{◌≡◌, ℕ, Bool, true, false, cond, List, Option, Some, None, Result, Ok, Err, IsErrAnd, refl, ap, sym, ◌∙◌, subst}
 use Rattle.elf_form.specs.ObjectParts.{ObjectParts}
 use Rattle.sites.specs.declared.site.Site.{Site}
 use Rattle.elf_link.specs.declared.target.Target.{Target}

@@ -1,5 +1,5 @@
 -- What a function returned, seen by view, is what the definition gives, unless memory ran out.
-use Rattle.std.specs.Prelude.{◌≡◌, Option, Some, None, Result, Ok, Err}
+use Rattle.std.specs.Prelude.{◌≡◌, Result, Ok, Err}
 use Rattle.elf_link.specs.declared.fault.LinkFault.{LinkFault}
 use Rattle.elf_link.specs.declared.fault.LinkFault.TheVariants as faults
 use Rattle.elf_link.specs.Refusals.{Refused}

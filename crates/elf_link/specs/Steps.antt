@@ -1,5 +1,5 @@
 -- What is asked of an object, by the sums over the objects before it.
-use Rattle.std.specs.Prelude.{◌≡◌, ℕ, ◌+◌, ◌≤◌, ◌<◌, ◌||◌, Bool, true, All, List, length, map, codes, sum_by, nat_lt, Option, Some, None, Result, Ok, Err, if◌then◌else◌}
+use Rattle.std.specs.Prelude.{ℕ, ◌+◌, ◌≤◌, ◌<◌, ◌||◌, Bool, All, List, length, map, codes, sum_by, nat_lt, Option, Some, None, Result, Ok, Err, if◌then◌else◌}
 use Rattle.elf_form.specs.ObjectParts.{ObjectParts}
 use Rattle.sites.specs.declared.site.Site.{Site}
 use Rattle.sites.specs.Reading.{sites_in}
@@ -12,7 +12,7 @@ use Rattle.elf_link.specs.declared.fault.LinkCause.TheVariants.{TextTooLarge, In
 use Rattle.elf_link.specs.Layout.{text_room, init_room, bss_room}
 use Rattle.elf_link.specs.Symbols.{lookup}
 use Rattle.elf_link.specs.Sites.{sites_of, misplaced}
-use Rattle.elf_link.specs.Refusals.{Refused, when, ◌or◌, first_doubled, exported_names, doubled_cause, refused, start_refusal}
+use Rattle.elf_link.specs.Refusals.{Refused, when, ◌or◌, first_doubled, exported_names, doubled_cause, start_refusal}
 use Rattle.elf_link.specs.Linked.{entry_at}
 
 -- the sums over objects

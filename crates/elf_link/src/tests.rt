@@ -63,7 +63,11 @@ fn is_linkable(object: &Object) -> bool
     ensures { IsTrue result → IsLinkable object.now }
 {
     for r in &object.relocs {
-        let part = if r.in_text { &object.text } else { &object.init };
+        let part = if r.in_text {
+            &object.text
+        } else {
+            &object.init
+        };
         if r.symbol as usize >= object.symbols.len() || r.at as usize + 4 > part.len() {
             return false;
         }

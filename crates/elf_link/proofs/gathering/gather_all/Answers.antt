@@ -1,11 +1,6 @@
-use Rattle.std.proofs.Common.{◌≡◌, ◌+◌, List, [], refl, sym, ap, ◌∙◌, subst}
-use Rattle.sites.specs.declared.site.Site.{Site}
-use Rattle.elf_link.specs.declared.target.Target.{Target}
-use Rattle.elf_link.specs.Refusals.{object_refusal, first}
-use Rattle.elf_link.specs.Steps.{tested}
 use Rattle.elf_link.proofs.FirstLaws.{item, within, past}
 use Rattle.elf_link.proofs.StepLaws.{gives_err}
-use Rattle.elf_link.proofs.GatherLaws.{Gathering, gathering_first, gathering_fails, gathering_next, gathered_all}
+use Rattle.elf_link.proofs.GatherLaws.{gathering_first, gathering_fails, gathering_next, gathered_all}
 use Rattle.elf_link.proofs.gathering.gather_all.Goals as goal
 
 pub loop-i-init : goal.loop-i-init

@@ -1,10 +1,9 @@
-use Rattle.std.proofs.Common.{◌≡◌, ◌+◌, ◌++◌, ◌∷◌, [], ◌<◌, ◌≤◌, List, length, get_or, take, ℕ, refl, sym, ap, ◌∙◌, arith, subst}
-use Rattle.std.specs.Prelude.{vec_len, sum_by}
-use Rattle.elf_link.specs.Layout.{text_size, text_room, init_size, init_room, bss_size, bss_room, round_up, bases, base}
+use Rattle.std.proofs.Common.{◌≡◌, ◌++◌, ◌∷◌, [], List, take, sym, ap, ◌∙◌, arith}
+use Rattle.elf_link.specs.Layout.{text_size, text_room, init_size, init_room, bss_size, bss_room, round_up, bases}
 use Rattle.elf_link.specs.declared.base.Base.{Base}
 use Rattle.elf_link.proofs.FirstLaws.{item, within, past}
 use Rattle.elf_link.proofs.LayoutLaws.{fits_at}
-use Rattle.elf_link.proofs.BaseLaws.{Begins, begins_next, begins_base, bases-more, bases-end}
+use Rattle.elf_link.proofs.BaseLaws.{begins_next, begins_base, bases-more, bases-end}
 use Rattle.elf_link.proofs.layout.bases.Goals as goal
 
 pub overflow_cast-text : goal.overflow_cast-text
@@ -73,4 +72,3 @@ pub returns : goal.returns
 returns c =
     let e = c.deref-object-items.ensures.value in
     c.loop-object.invariant.so_far ∙ bases-end c.args.objects.now.items c.loop-object.object-index (past _ _ _ e c.loop-object-test.false)
-

@@ -1,7 +1,5 @@
-use Rattle.std.proofs.Common.{◌≡◌, ◌+◌, ◌<◌, ◌≤◌, List, length, get_or, take, ℕ, refl, sym, ap, ◌∙◌, arith, subst}
-use Rattle.std.specs.Prelude.{vec_len, sum_by}
+use Rattle.std.proofs.Common.{◌≡◌, take, refl, ap, arith}
 use Rattle.std.proofs.lemmas.List.Sums.{sum_by-take-le}
-use Rattle.elf_form.specs.ObjectParts.{ObjectParts}
 use Rattle.elf_link.specs.Layout.{bss_size, bss_room, extent}
 use Rattle.elf_link.specs.Steps.{totals}
 use Rattle.elf_link.proofs.FirstLaws.{item, within}

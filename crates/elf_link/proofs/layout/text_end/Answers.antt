@@ -1,5 +1,5 @@
-use Rattle.std.proofs.Common.{◌≡◌, ◌+◌, ◌<◌, ◌≤◌, List, length, get_or, take, ℕ, refl, sym, ap, ◌∙◌, arith, subst}
-use Rattle.std.specs.Prelude.{vec_len, sum_by}
+use Rattle.std.proofs.Common.{◌≡◌, refl, ap, ◌∙◌, arith}
+use Rattle.std.specs.Prelude.{vec_len}
 use Rattle.elf_link.specs.Layout.{text_size, text_room, text_end, round_up}
 use Rattle.elf_link.proofs.FirstLaws.{item, within}
 use Rattle.elf_link.proofs.LayoutLaws.{fits_at, sum-more, text_end-more}

@@ -1,12 +1,9 @@
-use Rattle.std.proofs.Common.{◌≡◌, ℕ, ◌+◌, ◌-◌, ◌≤◌, List, Ok, Result, length, refl, sym, ap, ◌∙◌, subst, arith}
+use Rattle.std.proofs.Common.{◌≡◌, ℕ, ◌+◌, ◌-◌, ◌≤◌, Ok, Result, length, refl, sym, ap, ◌∙◌, subst, arith}
 use Rattle.elf_form.specs.ImageParts.{ImageParts}
 use Rattle.sites.specs.Spelling.{spelling}
-use Rattle.elf_link.specs.Layout.{init_end, memory_end, text_end, bases}
-use Rattle.elf_link.specs.Symbols.{globals}
-use Rattle.elf_link.specs.Sites.{linked_sites}
+use Rattle.elf_link.specs.Layout.{init_end, memory_end, text_end}
 use Rattle.elf_link.specs.Refusals.{Refused}
 use Rattle.elf_link.specs.Answers.{Fails}
-use Rattle.elf_link.specs.Steps.{AreBelow, entered}
 use Rattle.elf_link.proofs.StepLaws.{gives_err}
 use Rattle.elf_link.proofs.SiteLaws.{sites_in_form, below-wider, length-spelling}
 use Rattle.elf_link.proofs.LayoutLaws.{init_end-le, memory_fits}

@@ -1,8 +1,8 @@
-use Rattle.std.proofs.Common.{◌≡◌, ◌++◌, ◌+◌, ◌∷◌, [], List, ℕ, take, false, refl, sym, ap, ◌∙◌, subst}
+use Rattle.std.proofs.Common.{◌++◌, List, ℕ, take, false, ap, ◌∙◌}
 use Rattle.elf_link.specs.Layout.{init_end}
 use Rattle.elf_link.specs.Linked.{padded, linked_init}
 use Rattle.elf_link.proofs.FirstLaws.{item, within, past}
-use Rattle.elf_link.proofs.JoinLaws.{joined, joined-more, joined-all}
+use Rattle.elf_link.proofs.JoinLaws.{joined-more, joined-all}
 use Rattle.elf_link.proofs.linking.linked_init.Goals as goal
 
 pub loop-i-preserved : goal.loop-i-preserved

@@ -1,8 +1,8 @@
-use Rattle.std.proofs.Common.{◌≡◌, ◌++◌, ◌+◌, ◌∷◌, [], List, ℕ, take, true, refl, sym, ap, ◌∙◌, subst}
+use Rattle.std.proofs.Common.{◌++◌, ◌∷◌, [], List, ℕ, take, true, ap, ◌∙◌}
 use Rattle.elf_link.specs.Layout.{text_end}
 use Rattle.elf_link.specs.Linked.{padded, linked_text}
 use Rattle.elf_link.proofs.FirstLaws.{item, within, past}
-use Rattle.elf_link.proofs.JoinLaws.{joined, joined-more, joined-all}
+use Rattle.elf_link.proofs.JoinLaws.{joined-more, joined-all}
 use Rattle.elf_link.proofs.linking.linked_text.Goals as goal
 
 pub loop-i-preserved : goal.loop-i-preserved

@@ -1,4 +1,3 @@
-use Rattle.std.proofs.Common.{refl, sym, ap, ◌∙◌}
 use Rattle.elf_link.proofs.FirstLaws.{item, within, past}
 use Rattle.elf_link.proofs.StepLaws.{gives_err}
 use Rattle.elf_link.proofs.CheckLaws.{relocs_fail, relocs_next, relocs_end}

@@ -1,8 +1,6 @@
-use Rattle.std.proofs.Common.{◌≡◌, ◌<◌, ◌≤◌, ◌+◌, length, List, ℕ, get_or, take, refl, sym, ap, ◌∙◌, subst, arith}
-use Rattle.std.specs.Prelude.{fold}
+use Rattle.std.proofs.Common.{◌≡◌, length, ap, ◌∙◌, arith}
 use Rattle.elf_form.specs.ObjectParts.{ObjectParts}
-use Rattle.elf_link.specs.Relocations.{filled, part_of, patched}
-use Rattle.elf_link.proofs.FirstLaws.{item, within, past}
+use Rattle.elf_link.specs.Relocations.{filled, part_of}
 use Rattle.elf_link.proofs.RelocLaws.{field_room, filled_room, fold-next, put_back}
 use Rattle.elf_link.proofs.relocations.patched.Goals as goal
 

@@ -1,8 +1,5 @@
-use Rattle.std.proofs.Common.{◌≡◌, ◌<◌, ◌≤◌, ◌+◌, length, List, None, refl, sym, ap, ◌∙◌}
-use Rattle.std.specs.Prelude.{is_some}
+use Rattle.std.proofs.Common.{◌≡◌, refl, sym, ap, ◌∙◌}
 use Rattle.elf_form.specs.ObjectParts.{ObjectParts}
-use Rattle.elf_form.specs.declared.object.Reloc.{Reloc}
-use Rattle.elf_link.specs.declared.fault.LinkCause.{LinkCause}
 use Rattle.elf_link.specs.Relocations.{reloc_cause}
 use Rattle.elf_link.proofs.FirstLaws.{first_here, first_next, first_end, item, within, past, none_is}
 use Rattle.elf_link.proofs.relocations.relocs_cause.Goals as goal
