@@ -1,7 +1,7 @@
 -- Fields and the parts that hold them.
-use Rattle.std.proofs.Common.{◌≡◌, ℕ, suc, ◌+◌, ◌<◌, ◌≤◌, Bool, true, false, cond, List, [], ◌∷◌, ◌++◌, length, get_or, take, drop, refl, ap, sym, ◌∙◌, subst, arith}
+use Rattle.std.proofs.Common.{◌≡◌, ℕ, suc, ◌+◌, ◌<◌, ◌≤◌, ◌^◌, Bool, true, false, cond, List, [], ◌∷◌, ◌++◌, length, get_or, take, drop, refl, ap, sym, ◌∙◌, subst, arith}
 use Rattle.std.specs.Prelude.{All, fold, not, IsTrue}
-use Rattle.std.proofs.lemmas.List.{take_at}
+use Rattle.std.proofs.lemmas.List.{take_at, get_or_default}
 use Rattle.std.proofs.lemmas.List.Sums.{fold_more}
 use Rattle.guest_ram.specs.Bytes.{with_word32, word32}
 use Rattle.guest_ram.proofs.Bytes.{length-with_word32}
@@ -58,3 +58,15 @@ pub filled_room : (bs : List Base) (gs : List (List ℕ × Target)) (p : ℕ × 
 filled_room bs gs p in_text ys i d bytes new linkable e lt len step =
     let fits = subst (λ (zs : List Reloc). i < length zs → (get_or zs i d).at + 4 ≤ cond (get_or zs i d).in_text (length p.1.text) (length p.1.init)) (sym e) (λ l. linkable.inside i d l) lt in
     ap length step ∙ (length-filled bs gs p in_text bytes (get_or ys i d) fits len ∙ len)
+
+-- the relocation at k names a symbol and has its field in its part
+abbrev pub HasRoomAt : ObjectParts → ℕ → Type 0
+HasRoomAt o k = (d : Reloc) → ((get_or o.relocs k d).symbol < length o.symbols) × ((get_or o.relocs k d).at + 4 ≤ cond (get_or o.relocs k d).in_text (length o.text) (length o.init))
+
+pub room_at : (o : ObjectParts) (ys : List Reloc) (k : ℕ) (d : Reloc) → ys ≡ o.relocs → k < length ys → (get_or ys k d).symbol < length o.symbols → (get_or ys k d).at + 4 ≤ cond (get_or ys k d).in_text (length o.text) (length o.init) → HasRoomAt o k
+room_at o ys k d e lt symbol field e' =
+    let same : get_or ys k d ≡ get_or o.relocs k e' = get_or_default ys k d e' lt ∙ ap (λ (zs : List Reloc). get_or zs k e') e in
+    (subst (λ (r : Reloc). r.symbol < length o.symbols) same symbol, subst (λ (r : Reloc). r.at + 4 ≤ cond r.in_text (length o.text) (length o.init)) same field)
+
+pub linkable_from : (o : ObjectParts) → ((k : ℕ) → k < length o.relocs → HasRoomAt o k) → length o.sites < 2 ^ 32 → IsLinkable o
+linkable_from o rooms short = record { named = λ k d h. (rooms k h d).0; inside = λ k d h. (rooms k h d).1; sites = short }

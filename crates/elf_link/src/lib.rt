@@ -6,6 +6,7 @@ mod fault;
 mod gathering;
 mod globals;
 mod layout;
+mod linkable;
 mod linking;
 mod relocations;
 mod target;
@@ -14,4 +15,5 @@ mod tests;
 mod totals;
 
 pub use fault::{LinkCause, LinkFault};
+pub use linkable::are_linkable;
 pub use linking::{link, linked};

@@ -1,9 +1,6 @@
 //! Objects made by hand, and the images that they make.
 
-ghost use Rattle.std.specs.Prelude.{All, IsTrue};
-ghost use Rattle.elf_link.specs.Relocations.{IsLinkable};
-
-use crate::{LinkCause, LinkFault, link, linked};
+use crate::{LinkCause, LinkFault, are_linkable, link, linked};
 use elf_form::{Bytes, Image, Object, Place, Reloc, Symbol};
 use std::alloc::{AllocError, Global};
 use std::test::Fail;
@@ -58,40 +55,20 @@ fn reloc(in_text: bool, at: u32, symbol: u32, relative: bool) -> Reloc {
     }
 }
 
-/// Whether each relocation names a symbol of the object and has its field in its part.
-fn is_linkable(object: &Object) -> bool
-    ensures { IsTrue result → IsLinkable object.now }
-{
-    for r in &object.relocs {
-        let part = if r.in_text {
-            &object.text
-        } else {
-            &object.init
-        };
-        if r.symbol as usize >= object.symbols.len() || r.at as usize + 4 > part.len() {
-            return false;
-        }
-    }
-    object.sites.len() < 0x1_0000_0000
-}
-
-fn are_linkable(objects: &Vec<Object>) -> bool
-    ensures { IsTrue result → All IsLinkable objects.now.items }
-{
-    for object in objects {
-        if !is_linkable(object) {
-            return false;
-        }
-    }
-    true
-}
-
 /// The image that the objects make, if they do.
 fn made(alloc: Global, objects: &Vec<Object>) -> Option<Image> {
     if objects.len() > 64 || !are_linkable(objects) {
         return None;
     }
     linked(alloc, objects).ok()
+}
+
+/// The file that the objects make, if they do.
+fn written(alloc: Global, objects: &Vec<Object>) -> Option<Vec<u8>> {
+    if objects.len() > 64 || !are_linkable(objects) {
+        return None;
+    }
+    link(alloc, objects).ok()
 }
 
 /// The object and the cause of a refusal.
@@ -165,21 +142,19 @@ fn links_the_worked_object(rt: HostRuntime) -> Result<(), Fail> {
 
 #[test]
 fn writes_the_file_of_no_object(rt: HostRuntime) -> Result<(), Fail> {
-    let objects = Vec::new(rt.alloc());
+    let objects: Vec<Object> = Vec::new(rt.alloc());
     let image = made(rt.alloc(), &objects);
     assert!(rt; image.is_some());
     if let Some(image) = image {
         assert_eq!(rt; image.text.as_slice(), [0xEB, 0xFE].as_slice());
         assert_eq!(rt; image.entry, 0x1000_0000);
     }
-    if objects.len() <= 64 && are_linkable(&objects) {
-        let file = link(rt.alloc(), &objects);
-        assert!(rt; file.is_ok());
-        if let Ok(file) = file {
-            assert_eq!(rt; file.len() % 4, 0);
-            assert!(rt; file.len() > 4096);
-            assert_eq!(rt; &file[..4], b"\x7FELF".as_slice());
-        }
+    let file = written(rt.alloc(), &objects);
+    assert!(rt; file.is_some());
+    if let Some(file) = file {
+        assert_eq!(rt; file.len() % 4, 0);
+        assert!(rt; file.len() > 4096);
+        assert_eq!(rt; &file[..4], b"\x7FELF".as_slice());
     }
     Ok(())
 }
