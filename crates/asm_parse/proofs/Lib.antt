@@ -12,6 +12,7 @@ pub mod Alive
 pub mod Dying
 pub mod Stated
 pub mod Said
+pub mod Collected
 pub mod Written
 pub mod Completing
 pub mod Closing

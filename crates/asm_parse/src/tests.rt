@@ -19,40 +19,6 @@ fn items(rt: &HostRuntime, text: &[u8]) -> Option<usize> {
     }
 }
 
-const FROM_GCC: &str = "\t.file \"k.c\"
-\t.text
-\t.p2align 4
-\t.globl _start
-\t.type _start, @function
-_start:
-.LFB0:
-\t.cfi_startproc
-\tmovl $1, %eax
-\tjmp *.L4(,%eax,4)
-\t.section .rodata
-\t.align 4
-.L4:
-\t.long .L2
-\t.long .L3
-\t.text
-\t.p2align 4,,10
-\t.p2align 3
-.L3:
-\tmovl $33, %eax
-\toutb %al, $128
-.L2:
-\thlt
-\t.cfi_endproc
-\t.size _start, .-_start
-\t.ident \"GCC: (GNU) 12.2.0\"
-\t.section .note.GNU-stack,\"\",@progbits
-";
-
-#[test]
-fn output_of_gcc_is_read(rt: HostRuntime) {
-    assert_eq!(rt; items(&rt, FROM_GCC.as_bytes()), Some(21));
-}
-
 #[test]
 fn each_directive_is_read(rt: HostRuntime) {
     let rows: [(&str, usize); 22] = [
@@ -189,6 +155,28 @@ fn symbols_are_limited(rt: HostRuntime) {
     assert_eq!(rt; items(&rt, &text), Some(65536));
     let text = labels(rt.alloc(), 65537).expect(&rt, "memory");
     assert_eq!(rt; fault(&rt, &text), Some((65537, 14)));
+}
+
+/// A source in whose first 65,536 lines as many names are defined.
+fn behind_all(alloc: Global, end: &str) -> Result<Vec<u8>, AllocError> {
+    let mut text = labels(alloc, 65536)?;
+    for b in end.as_bytes() {
+        text.push(*b)?;
+    }
+    Ok(text)
+}
+
+#[test]
+fn no_name_is_left(rt: HostRuntime) {
+    let rows: [(&str, u32, u8); 3] = [
+        (".comm /*\n*/ y,4", 65537, 14),
+        (".lcomm /*\n*/ %zz", 65537, 7),
+        (".globl /*\n*/ y", 65538, 14),
+    ];
+    for (end, line, cause) in rows.iter() {
+        let text = behind_all(rt.alloc(), end).expect(&rt, "memory");
+        assert_eq!(rt; fault(&rt, &text), Some((*line, *cause)));
+    }
 }
 
 /// The number, the base and the scale of the first argument.
