@@ -1,1 +1,4 @@
 pub mod Whole
+pub mod Drafts
+pub mod Naming
+pub mod Answered
