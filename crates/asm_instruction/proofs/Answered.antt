@@ -1,5 +1,5 @@
 -- What is known of each answer of the function.
-use Rattle.std.proofs.Common.{◌≡◌, ℕ, Bool, true, false, List, Option, Some, None, Result, Ok, Err, refl, sym, ap, subst, ◌∙◌}
+use Rattle.std.proofs.Common.{◌≡◌, ℕ, Bool, true, false, List, Option, Some, None, Ok, Err, refl, sym, ap, subst, ◌∙◌}
 use Rattle.std.specs.Prelude.{is_some, if◌then◌else◌}
 use Rattle.ia32_encode.specs.declared.bytes.ArrayBytes.{ArrayBytes}
 use Rattle.ia32_encode.specs.declared.choose.Wide.{Wide}
@@ -10,14 +10,14 @@ use Rattle.asm_instruction.specs.declared.draft.Draft.{Draft}
 use Rattle.asm_instruction.specs.declared.mnemonic.Mnemonic.{Mnemonic}
 use Rattle.asm_instruction.specs.declared.assembled.Assembled.{Assembled}
 use Rattle.asm_instruction.specs.declared.assembled.Named.{Named}
-use Rattle.asm_instruction.specs.declared.assembled.Refusal.{Refusal}
 use Rattle.asm_instruction.specs.declared.assembled.Refusal.TheVariants as refusal
-use Rattle.asm_instruction.specs.Names.{found, ◌>>=◌}
+use Rattle.asm_instruction.specs.Names.{found}
 use Rattle.asm_instruction.specs.Argument.{operands_of, names_symbol}
 use Rattle.asm_instruction.specs.Mnemonic.{known_name, drafted}
 use Rattle.asm_instruction.specs.Refused.{refused_names}
-use Rattle.asm_instruction.specs.Assembled.{named_field, widths, whole, with_spelling, spelled, drafted_of, by_draft, by_mnemonic, by_name, assembled, IsRight, is_direct, IsDistance, IsBranchRight}
-use Rattle.asm_instruction.proofs.Drafts.{When, bind_from, OperandsGood, DraftGood, family_good, drafted_good}
+use Rattle.asm_instruction.specs.Assembled.{named_field, widths, whole, with_spelling, spelled, drafted_of, by_draft, by_mnemonic, by_name, assembled, IsRight, IsBranchRight}
+use Rattle.asm_instruction.proofs.Goods.{When, bind_from, OperandsGood, DraftGood}
+use Rattle.asm_instruction.proofs.Drafts.{drafted_good}
 use Rattle.asm_instruction.proofs.Naming.{operands_good, MnemonicGood, known_good}
 use Rattle.asm_instruction.proofs.Whole.{whole_right}
 

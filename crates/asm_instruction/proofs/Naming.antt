@@ -1,6 +1,6 @@
 -- What is known of the operands that arguments give, and of the instructions that names mean.
-use Rattle.std.proofs.Common.{◌≡◌, ℕ, ◌+◌, ◌-◌, ◌<◌, Bool, true, false, List, [], ◌∷◌, Option, Some, None, length, refl, sym, ap, ◌∙◌, arith}
-use Rattle.std.specs.Prelude.{◌==◌, ◌&&◌, nat_lt, is_some, is_none, slice_get, slice_index, take, pos}
+use Rattle.std.proofs.Common.{◌≡◌, ℕ, ◌-◌, ◌<◌, Bool, true, false, List, [], ◌∷◌, Option, Some, None, length, refl, sym, ap, ◌∙◌}
+use Rattle.std.specs.Prelude.{◌==◌, ◌&&◌, nat_lt, is_none, slice_get, slice_index, take}
 use Rattle.std.specs.Str.{bytes_eq}
 use Rattle.std.proofs.lemmas.Bool.{ltb-true, lt-ltb}
 use Rattle.ia32_types.specs.declared.register.Reg.{Reg}
@@ -14,10 +14,9 @@ use Rattle.asm_parse.specs.declared.tree.Argument.{Argument}
 use Rattle.asm_instruction.specs.declared.argument.Number.{Number}
 use Rattle.asm_instruction.specs.declared.argument.Given.{Given}
 use Rattle.asm_instruction.specs.declared.argument.Given.TheVariants as given
-use Rattle.asm_instruction.specs.declared.argument.Operands.{Operands}
 use Rattle.asm_instruction.specs.declared.mnemonic.Family.{Family}
 use Rattle.asm_instruction.specs.declared.mnemonic.Mnemonic.{Mnemonic}
-use Rattle.asm_instruction.specs.Names.{Table, found, or_else, ◌>>=◌}
+use Rattle.asm_instruction.specs.Names.{Table, found, or_else}
 use Rattle.asm_instruction.specs.Field.{field}
 use Rattle.asm_instruction.specs.Register.{long_registers, word_registers, byte_registers, segment_registers, control_registers}
 use Rattle.asm_instruction.specs.Argument.{general_register, special_register, register, displacement, address_register, is_dx, address, memory_operand, given_by, single, starred, unstarred, operands_of, is_named, argument_named, names_symbol}
@@ -32,7 +31,7 @@ use Rattle.asm_instruction.specs.Flags.{plain_names}
 use Rattle.asm_instruction.specs.System.{system_names, page_names}
 use Rattle.asm_instruction.specs.Mnemonic.{exact_instruction, exact_name, sized_name, suffix, suffixed, with_suffix, without_suffix, known_name}
 use Rattle.asm_instruction.specs.Assembled.{constant_of, argument_constant, constant_in}
-use Rattle.asm_instruction.proofs.Drafts.{When, bind_from, bind_any, either, choice, field_below, MemoryGood, GivenGood, OperandsGood, family_good}
+use Rattle.asm_instruction.proofs.Goods.{When, bind_from, bind_any, either, choice, field_below, GivenGood, OperandsGood, family_good}
 
 -- ---- the operands
 
