@@ -11,3 +11,6 @@ pub mod GatherLaws
 pub mod JoinLaws
 pub mod CheckLaws
 pub mod LinkLaws
+pub mod PlaceLaws
+pub mod CauseLaws
+pub mod DoubledLaws

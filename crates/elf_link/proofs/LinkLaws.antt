@@ -75,7 +75,7 @@ image_is os text init sites bss entry p q r s t = λ j. record { text = sym p j;
 
 -- ---- sizes
 
-length-joined : (os : List ObjectParts) (k fill : ℕ) (in_text : Bool) (size : ObjectParts → ℕ) → ((o : ObjectParts) → length (part_of in_text o) ≡ size o) → (bs : List Base) (gs : List (List ℕ × Target)) (n : ℕ) → All IsLinkable os → length (flat_map (λ p. padded k fill (patched bs gs p in_text)) (enumerate_from n os)) ≡ sum_by (λ o. round_up k (size o)) os
+pub length-joined : (os : List ObjectParts) (k fill : ℕ) (in_text : Bool) (size : ObjectParts → ℕ) → ((o : ObjectParts) → length (part_of in_text o) ≡ size o) → (bs : List Base) (gs : List (List ℕ × Target)) (n : ℕ) → All IsLinkable os → length (flat_map (λ p. padded k fill (patched bs gs p in_text)) (enumerate_from n os)) ≡ sum_by (λ o. round_up k (size o)) os
 length-joined [] k fill in_text size is bs gs n all = refl
 length-joined (o ∷ os) k fill in_text size is bs gs n all =
     let here : length (patched bs gs (n, o) in_text) ≡ size o = length-patched bs gs (n, o) in_text (all 0 o (omega arith)) ∙ is o in

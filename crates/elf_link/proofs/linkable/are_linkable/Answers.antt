@@ -1,4 +1,4 @@
-use Rattle.std.proofs.Common.{◌≡◌, ◌<◌, ◌≤◌, ◌+◌, ℕ, get_or, length, refl, sym, ap, ◌∙◌, arith, below_more, subst}
+use Rattle.std.proofs.Common.{ℕ, get_or, sym, ◌∙◌, arith, below_more, subst}
 use Rattle.std.proofs.lemmas.List.{get_or_default}
 use Rattle.elf_form.specs.ObjectParts.{ObjectParts}
 use Rattle.elf_link.specs.Relocations.{IsLinkable}

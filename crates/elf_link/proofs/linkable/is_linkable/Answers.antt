@@ -1,7 +1,6 @@
-use Rattle.std.proofs.Common.{◌≡◌, ◌<◌, ◌≤◌, ◌+◌, ◌^◌, true, length, refl, sym, ap, ◌∙◌, arith, below_more, subst}
+use Rattle.std.proofs.Common.{◌≡◌, length, ap, ◌∙◌, arith, below_more}
 use Rattle.std.proofs.lemmas.Bool.{ltb-true, lt-ltb}
 use Rattle.elf_form.specs.ObjectParts.{ObjectParts}
-use Rattle.elf_link.specs.Relocations.{IsLinkable}
 use Rattle.elf_link.proofs.RelocLaws.{HasRoomAt, room_at, linkable_from}
 use Rattle.elf_link.proofs.FirstLaws.{past}
 use Rattle.elf_link.proofs.linkable.is_linkable.Goals as goal

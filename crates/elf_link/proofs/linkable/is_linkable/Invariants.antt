@@ -1,5 +1,4 @@
 use Rattle.std.proofs.Common.{ℕ, ◌<◌}
-use Rattle.elf_form.specs.declared.object.Reloc.{Reloc}
 use Rattle.elf_link.proofs.RelocLaws.{HasRoomAt}
 use Rattle.elf_link.proofs.linkable.is_linkable.Given as goal
 
