@@ -2,12 +2,18 @@
 //! annotated, data, symbols and relocations.
 #![tactic(auto)]
 
+mod argument;
+mod assembly;
+mod bytes;
 mod directive;
 mod fault;
+mod names;
 mod section;
 mod symbol;
 
+pub use assembly::Assembly;
 pub use directive::Directive;
 pub use fault::{BurnCause, BurnFault};
 pub use section::Section;
+pub use names::Names;
 pub use symbol::{Binding, Definition};
