@@ -1,5 +1,5 @@
 -- The directives, by families.
-use Rattle.std.specs.Prelude.{ℕ, ◌+◌, ◌*◌, Bool, false, not, ◌||◌, List, [], ◌∷◌, ◌++◌, length, replicate, fold, codes, Option, Some, None, Result, Ok, Err, if◌then◌else◌}
+use Rattle.std.specs.Prelude.{ℕ, ◌+◌, ◌*◌, Bool, true, false, not, nat_lt, ◌||◌, List, [], ◌∷◌, ◌++◌, length, replicate, fold, codes, Option, Some, None, Result, Ok, Err, if◌then◌else◌}
 use Rattle.std.specs.List.{flat_map, list_all}
 use Rattle.std.specs.Str.{bytes_eq}
 use Rattle.asm_parse.specs.declared.tree.Argument.{Argument}
@@ -12,6 +12,8 @@ use Rattle.afterburner.specs.declared.section.Section.TheVariants as section
 use Rattle.afterburner.specs.declared.symbol.Binding.TheVariants as binding
 use Rattle.afterburner.specs.declared.directive.Directive.{Directive}
 use Rattle.afterburner.specs.declared.directive.Directive.TheVariants as directive
+use Rattle.afterburner.specs.declared.value.Width.{Width}
+use Rattle.afterburner.specs.declared.value.Width.TheVariants as width
 use Rattle.afterburner.specs.State.{State}
 use Rattle.afterburner.specs.Names.{name_number}
 use Rattle.afterburner.specs.Symbols.{bound}
@@ -39,17 +41,23 @@ directive_of n =
     if bytes_eq n (codes ".lcomm") then directive.LocalCommon else
     directive.Skipped
 
-abbrev pub all_fit : ℕ → List Argument → Bool
-all_fit width args = list_all (λ (a : Argument). fits (8 * width) (number_in a.form)) args
+abbrev pub bytes_in : Width → ℕ
+bytes_in width.Byte = 1
+bytes_in width.Short = 2
+bytes_in width.Long = 4
+
+abbrev pub all_fit : Width → List Argument → Bool
+all_fit w args = list_all (λ (a : Argument). fits (8 * bytes_in w) (number_in a.form)) args
+
+abbrev pub values : Width → List Argument → List ℕ
+values w args = flat_map (λ (a : Argument). value_bytes (bytes_in w) (number_in a.form)) args
 
 abbrev pub in_init : State → State → Result State BurnCause
 in_init st made = if is_init st.section then Ok made else Err cause.DataInText
 
--- numbers of one or two bytes
-unfoldable pub numbers : State → ℕ → List Argument → Result State BurnCause
-numbers st width args =
-    if not (all_fit width args) then Err cause.ValueRange
-    else in_init st (record st { init = st.init ++ flat_map (λ (a : Argument). value_bytes width (number_in a.form)) args })
+-- numbers
+unfoldable pub numbers : State → Width → List Argument → Result State BurnCause
+numbers st w args = if not (all_fit w args) then Err cause.ValueRange else in_init st (record st { init = st.init ++ values w args })
 
 abbrev pub data_reloc : List (List ℕ) → ℕ → Option (List ℕ) → List Reloc
 data_reloc names at None = []
@@ -63,17 +71,19 @@ with_long names st a = record st {
 }
 
 unfoldable pub longs : List (List ℕ) → State → List Argument → Result State BurnCause
-longs names st args =
-    if not (all_fit 4 args) then Err cause.ValueRange
-    else in_init st (fold (with_long names) st args)
+longs names st args = if not (all_fit width.Long args) then Err cause.ValueRange else in_init st (fold (with_long names) st args)
 
--- strings, each with these bytes at its end
-unfoldable pub strings : State → List ℕ → List Argument → Result State BurnCause
-strings st ending args = in_init st (record st { init = st.init ++ flat_map (λ (a : Argument). text_in a.form ++ ending) args })
+-- a string, and a zero byte where it has one at its end
+abbrev pub string_bytes : Bool → Argument → List ℕ
+string_bytes ended a = text_in a.form ++ (if ended then 0 ∷ [] else [])
 
+unfoldable pub strings : State → Bool → List Argument → Result State BurnCause
+strings st ended args = in_init st (record st { init = st.init ++ flat_map (string_bytes ended) args })
+
+-- zero bytes; too many are not made first
 abbrev pub zeros_in : State → Section → ℕ → Result State BurnCause
 zeros_in st section.Text n = Err cause.DataInText
-zeros_in st section.Init n = Ok (record st { init = st.init ++ replicate n 0 })
+zeros_in st section.Init n = if nat_lt 33554432 (length st.init + st.bss + n) then Err cause.InitTooLarge else Ok (record st { init = st.init ++ replicate n 0 })
 zeros_in st section.Bss n = Ok (record st { bss = st.bss + n })
 
 abbrev pub zeros : State → ℕ → Result State BurnCause
@@ -94,11 +104,11 @@ directed names st directive.Bss args = Ok (entered st section.Bss)
 directed names st directive.Named args = Ok (entered st (section_named (text_at args 0) st.section))
 directed names st directive.Global args = Ok (bound names st (symbol_at args 0) binding.Global)
 directed names st directive.Local args = Ok (bound names st (symbol_at args 0) binding.Local)
-directed names st directive.Bytes args = numbers st 1 args
-directed names st directive.Shorts args = numbers st 2 args
+directed names st directive.Bytes args = numbers st width.Byte args
+directed names st directive.Shorts args = numbers st width.Short args
 directed names st directive.Longs args = longs names st args
-directed names st directive.Ascii args = strings st [] args
-directed names st directive.Asciz args = strings st (0 ∷ []) args
+directed names st directive.Ascii args = strings st false args
+directed names st directive.Asciz args = strings st true args
 directed names st directive.Zeros args = zeros st (count_at args 0)
 directed names st directive.Aligned args = Ok (aligned st (alignment (count_at args 0)) None)
 directed names st directive.Powered args = Ok (aligned st (power (count_at args 0)) (limit_at args 2))

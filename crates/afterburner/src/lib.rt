@@ -5,11 +5,14 @@
 mod argument;
 mod assembly;
 mod bytes;
+mod data;
 mod directive;
 mod fault;
+mod limits;
 mod names;
 mod section;
 mod symbol;
+mod value;
 
 pub use assembly::Assembly;
 pub use directive::Directive;
@@ -17,3 +20,4 @@ pub use fault::{BurnCause, BurnFault};
 pub use section::Section;
 pub use names::Names;
 pub use symbol::{Binding, Definition};
+pub use value::Width;

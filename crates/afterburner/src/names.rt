@@ -1,6 +1,6 @@
 //! The names of a source and their numbers.
 
-ghost use Rattle.std.specs.Prelude.{◌≡◌, ◌<◌, [], length, fold, slice_get, Some, IfOk, OnOk};
+ghost use Rattle.std.specs.Prelude.{◌≡◌, ◌<◌, ◌≤◌, [], length, fold, slice_get, Some, IfOk, OnOk};
 ghost use Rattle.std.specs.Option.{option_copied};
 ghost use Rattle.asm_parse.specs.Scope.{holds, added};
 ghost use Rattle.asm_parse.specs.Readable.{argument_names, body_names, names_in};
@@ -52,7 +52,8 @@ impl Names {
 
     /// The number of a name, or how many names there are where it is none of them.
     pub fn number_of(&self, name: &[u8]) -> usize
-        ensures { result ≡ name_number self.now name.now }
+        ensures number { result ≡ name_number self.now name.now }
+        ensures within { result ≤ length self.now }
     {
         match self.set.get_index_of(name) {
             Some(number) => number,
