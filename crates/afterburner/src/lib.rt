@@ -8,6 +8,7 @@ mod bytes;
 mod data;
 mod directive;
 mod fault;
+mod instruction;
 mod limits;
 mod names;
 mod section;
