@@ -9,6 +9,7 @@ pub mod Acceptance
 pub mod StringLaws
 pub mod SymbolNames
 pub mod ObjectSizes
+pub mod ObjectBounds
 pub mod JoinLaws
 pub mod RecordLaws
 pub mod ObjectAcceptance

@@ -1,5 +1,5 @@
 -- The one layout of an object file.
-use Rattle.std.specs.Prelude.{◌≡◌, ℕ, ◌+◌, ◌*◌, true, false, ◌<◌, ◌≤◌, ◌^◌, Bool, not, List, [], ◌∷◌, ◌++◌, length, fold, filter, count_by, All, replicate, codes, if◌then◌else◌}
+use Rattle.std.specs.Prelude.{◌≡◌, ◌≢◌, ℕ, ◌+◌, ◌*◌, true, false, ◌<◌, ◌≤◌, ◌^◌, Bool, not, List, [], ◌∷◌, ◌++◌, length, fold, filter, count_by, All, replicate, codes, if◌then◌else◌}
 use Rattle.std.specs.List.{flat_map, position_or_len}
 use Rattle.elf_form.specs.declared.object.Place.{Place}
 use Rattle.elf_form.specs.declared.object.Place.TheVariants.{Undefined, Text, Init, Bss}
@@ -115,6 +115,27 @@ pub record IsWritableObject (o : ObjectParts) : Type 0 where
   pub memory : length o.init + o.bss < 2 ^ 31
   pub count : length o.symbols ≤ 65536
   pub named : All (λ r. r.symbol < length o.symbols) o.relocs
+
+-- An undefined symbol is global and has the value 0.
+abbrev pub IsPlaced : Symbol → Type 0
+IsPlaced s = s.place ≡ Undefined → (s.global ≡ true) × (s.value ≡ 0)
+
+-- the bytes that a relocation is in: the text, or the data
+abbrev pub patched : ObjectParts → Reloc → List ℕ
+patched o r = if r.in_text then o.text else o.init
+
+-- An object of which a file is made that is read as it. In its lists the local symbols come before the global ones, and the relocations of the text before those of the data. No name holds a zero byte. The field of each relocation, of four bytes, lies in its section.
+pub record IsWholeObject (o : ObjectParts) : Type 0 where
+  pub writable : IsWritableObject o
+  pub split : o.symbols ≡ filter (λ s. not s.global) o.symbols ++ filter (λ s. s.global) o.symbols
+  pub names : All (λ s. All (λ b. b ≢ 0) s.name) o.symbols
+  pub undefined : All IsPlaced o.symbols
+  pub fields : All (λ r. r.at + 4 ≤ length (patched o r)) o.relocs
+  pub ordered : o.relocs ≡ filter (is_of true) o.relocs ++ filter (is_of false) o.relocs
+
+-- Its values have four bytes.
+pub record HasValues (o : ObjectParts) : Type 0 where
+  pub values : All (λ s. s.value < 2 ^ 32) o.symbols
 
 -- how long the parts are, together less than 2 ^ 31 bytes
 pub record AreLengths (o : ObjectParts) (lengths : Lengths) : Type 0 where
