@@ -1,5 +1,5 @@
 -- The object of what all items made.
-use Rattle.std.specs.Prelude.{ℕ, ◌+◌, Bool, true, false, not, List, [], ◌∷◌, ◌++◌, take, map, filter, count_by, slice_index_or, if◌then◌else◌}
+use Rattle.std.specs.Prelude.{ℕ, ◌+◌, Bool, true, false, not, List, [], ◌∷◌, ◌++◌, take, map, filter, count_by, slice_index, if◌then◌else◌}
 use Rattle.elf_form.specs.declared.object.Place.{Place}
 use Rattle.elf_form.specs.declared.object.Place.TheVariants as place
 use Rattle.elf_form.specs.declared.object.Symbol.{Symbol}
@@ -10,19 +10,27 @@ use Rattle.afterburner.specs.declared.symbol.Definition.{Definition}
 use Rattle.afterburner.specs.declared.symbol.Binding.{Binding}
 use Rattle.afterburner.specs.declared.symbol.Binding.TheVariants as binding
 use Rattle.afterburner.specs.State.{State}
+use Rattle.afterburner.specs.Symbols.{definition_of}
 
 abbrev pub is_wide : Binding → Bool
 is_wide binding.Common = true
 is_wide binding.Global = true
 is_wide _ = false
 
-abbrev pub symbol_in_place : List ℕ → Definition → Place → Symbol
-symbol_in_place name d place.Undefined = record { name = name; place = place.Undefined; value = 0; global = true }
-symbol_in_place name d p = record { name = name; place = p; value = d.value; global = is_wide d.binding }
+-- An undefined name is global, and has the value 0.
+abbrev pub reaches : Place → Binding → Bool
+reaches place.Undefined b = true
+reaches p b = is_wide b
 
--- An undefined name is global.
+abbrev pub is_global : Definition → Bool
+is_global d = reaches d.place d.binding
+
+abbrev pub value_at : Place → ℕ → ℕ
+value_at place.Undefined value = 0
+value_at p value = value
+
 abbrev pub symbol : List ℕ → Definition → Symbol
-symbol name d = symbol_in_place name d d.place
+symbol name d = record { name = name; place = d.place; value = value_at d.place d.value; global = is_global d }
 
 -- the symbols in the order in which their names are first seen
 abbrev pub symbols_seen : List (List ℕ) → List Definition → List Symbol
@@ -37,28 +45,31 @@ are global s = if global then s.global else not s.global
 unfoldable pub ordered : List Symbol → List Symbol
 ordered seen = filter (are false) seen ++ filter (are true) seen
 
-abbrev pub local_symbol : Symbol
-local_symbol = record { name = []; place = place.Undefined; value = 0; global = false }
+abbrev pub defines : Bool → Definition → Bool
+defines global d = if global then is_global d else not (is_global d)
 
 -- the place among the ordered symbols of the one that was seen as number k
-unfoldable pub ordered_number : List Symbol → ℕ → ℕ
-ordered_number seen k =
-    if (slice_index_or seen k local_symbol).global
-    then count_by (are false) seen + count_by (are true) (take k seen)
-    else count_by (are false) (take k seen)
+unfoldable pub ordered_number : List Definition → ℕ → ℕ
+ordered_number ds k =
+    if is_global (definition_of ds k)
+    then count_by (defines false) ds + count_by (defines true) (take k ds)
+    else count_by (defines false) (take k ds)
 
-abbrev pub renumbered : List Symbol → Reloc → Reloc
-renumbered seen r = record r { symbol = ordered_number seen r.symbol }
+abbrev pub renumbered : List Definition → Reloc → Reloc
+renumbered ds r = record r { symbol = ordered_number ds r.symbol }
+
+-- a relocation by a table of such places
+abbrev pub with_number : List ℕ → Reloc → Reloc
+with_number numbers r = record r { symbol = slice_index numbers r.symbol }
 
 -- The relocations of text come before those of data, each in the order of their places.
 unfoldable pub object : List (List ℕ) → State → ObjectParts
 object names st =
-    let seen = symbols_seen names st.definitions in
     record {
       text = st.text;
       init = st.init;
       bss = st.bss;
       sites = spelling st.sites;
-      symbols = ordered seen;
-      relocs = map (renumbered seen) (st.text_relocs ++ st.data_relocs);
+      symbols = ordered (symbols_seen names st.definitions);
+      relocs = map (renumbered st.definitions) (st.text_relocs ++ st.data_relocs);
     }

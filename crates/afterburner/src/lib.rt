@@ -11,6 +11,7 @@ mod fault;
 mod instruction;
 mod limits;
 mod names;
+mod object;
 mod section;
 mod symbol;
 mod value;
