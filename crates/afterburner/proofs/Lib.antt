@@ -1,2 +1,7 @@
 pub mod Keyed
 pub mod Ordering
+pub mod Named
+pub mod Sound
+pub mod Spelled
+pub mod Items
+pub mod Sited

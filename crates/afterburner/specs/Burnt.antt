@@ -56,22 +56,31 @@ abbrev pub next_made : List (List ℕ) → Result State Fault → SourceItem →
 next_made names (Err f) i = Err f
 next_made names (Ok st) i = at_line i.line (item_made names st i.body)
 
+-- what all items make in their order
+unfoldable pub all_made : List SourceItem → Result State Fault
+all_made items = fold (next_made (names_in items)) (Ok (fresh (names_in items))) items
+
 abbrev pub finished : List (List ℕ) → Result State Fault → Result ObjectParts Fault
 finished names (Err f) = Err f
 finished names (Ok st) = Ok (object names st)
 
 -- The object of the items in their order.
 unfoldable pub burnt : List SourceItem → Result ObjectParts Fault
-burnt items = finished (names_in items) (fold (next_made (names_in items)) (Ok (fresh (names_in items))) items)
+burnt items = finished (names_in items) (all_made items)
 
--- What `burn` returned is what burning gives, unless memory ran out.
-abbrev pub Fails : BurnFault → Result ObjectParts Fault → Type 0
+-- What was returned is what is meant, unless memory ran out.
+abbrev pub Fails : {A : Type 0} → BurnFault → Result A Fault → Type 0
 Fails faults.Memory r = Unit {0}
 Fails (faults.At line c) r = r ≡ Err (record { line = line; cause = c })
 
-abbrev pub Gives : Result ObjectParts BurnFault → Result ObjectParts Fault → Type 0
-Gives (Ok o) r = r ≡ Ok o
+abbrev pub Gives : {A : Type 0} → Result A BurnFault → Result A Fault → Type 0
+Gives (Ok x) r = r ≡ Ok x
 Gives (Err f) r = Fails f r
+
+-- the fault of a stop at an item
+abbrev pub FaultOf : ℕ → Stop → BurnFault → Type 0
+FaultOf line (stop.Cause c) f = f ≡ faults.At line c
+FaultOf line stop.Memory f = f ≡ faults.Memory
 
 -- What a step of the work returned is what it makes, unless memory ran out.
 abbrev pub Makes : State → Result (Unit {0}) Stop → Result State BurnCause → Type 0

@@ -9,3 +9,4 @@ pub mod Instructions
 pub mod Directives
 pub mod Objects
 pub mod Burnt
+pub mod Sound

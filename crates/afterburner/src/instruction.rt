@@ -1,14 +1,18 @@
 //! Instructions: spelled, padded and annotated.
 
-ghost use Rattle.std.specs.Prelude.{◌≡◌, ◌≤◌, ◌<◌, ◌+◌, ◌++◌, ◌^◌, length, true, OnOk};
+ghost use Rattle.std.specs.Prelude.{◌≡◌, ◌≤◌, ◌<◌, ◌+◌, ◌++◌, ◌^◌, length, take, OnOk};
 ghost use Rattle.ia32_types.specs.Site.{sensitive_kind};
+ghost use Rattle.asm_parse.specs.Readable.{argument_names};
+ghost use Rattle.asm_instruction.specs.Assembled.{IsShort, HasFields};
 ghost use Rattle.afterburner.specs.Burnt.{Makes};
+ghost use Rattle.afterburner.specs.Sound.{IsSound, AreHeld};
 ghost use Rattle.afterburner.specs.Causes.{cause_of};
 ghost use Rattle.afterburner.specs.Instructions as spec;
 
 use crate::argument::symbol_at;
 use crate::assembly::Assembly;
 use crate::fault::{BurnCause, Stop};
+use crate::limits::TEXT_LIMIT;
 use crate::names::Names;
 use crate::section::{is_text, put};
 use asm_instruction::{Assembled, Named, Refusal, assemble};
@@ -108,6 +112,15 @@ fn put_field(
     Ok(())
 }
 
+/// The bytes of the spelling.
+fn spelled(assembled: &Assembled) -> &[u8]
+    requires { assembled.now.spelling.len ≤ 16 }
+    ensures bytes { result.now ≡ take assembled.now.spelling.len assembled.now.spelling.bytes }
+    ensures len { length (take assembled.now.spelling.len assembled.now.spelling.bytes) ≡ assembled.now.spelling.len }
+{
+    &assembled.spelling.bytes[..assembled.spelling.len as usize]
+}
+
 impl Assembly {
     /// An instruction at the end of the text.
     #[tactic(auto, unfolding(crate::specs::Instructions::added))]
@@ -120,13 +133,12 @@ impl Assembly {
         requires few { length names.now ≤ 65536 }
         requires room { length self.old.text < 2 ^ 31 }
         requires len { assembled.now.spelling.len ≤ 16 }
-        ensures { OnOk result (self.new ≡ spec.added names.now self.old arguments.now assembled.now) }
+        ensures made { OnOk result (self.new ≡ spec.added names.now self.old arguments.now assembled.now) }
     {
         let at = self.text.len() as u32;
         let kind = sensitive(&assembled.insn);
         let len = assembled.spelling.len;
-        self.text
-            .extend_from_slice(&assembled.spelling.bytes[..len as usize])?;
+        self.text.extend_from_slice(spelled(assembled))?;
         put(&mut self.text, padding(kind, len), NOP)?;
         put_site(&mut self.sites, at, kind, len)?;
         put_field(
@@ -161,6 +173,7 @@ impl Assembly {
         self.after_sti = false;
     }
 
+    #[tactic(auto, using(crate::proofs::Spelled::added_sound, crate::proofs::Spelled::paired_sound))]
     fn place(
         &mut self,
         names: &Names,
@@ -168,12 +181,15 @@ impl Assembly {
         assembled: &Assembled,
     ) -> Result<(), AllocError>
         requires few { length names.now ≤ 65536 }
-        requires room { length self.old.text < 2 ^ 31 }
-        requires len { assembled.now.spelling.len ≤ 16 }
-        requires text { self.old.after_sti ≡ true → 4 ≤ length self.old.text }
-        requires site { self.old.after_sti ≡ true → 1 ≤ length self.old.sites }
-        ensures { OnOk result (self.new ≡ spec.placed names.now self.old arguments.now assembled.now) }
+        requires room { length self.old.text ≤ TEXT_LIMIT }
+        requires short { IsShort assembled.now }
+        requires fields { HasFields arguments.now assembled.now }
+        requires held { AreHeld names.now (argument_names arguments.now) }
+        requires sound { IsSound (length names.now) self.old }
+        ensures made { OnOk result (self.new ≡ spec.placed names.now self.old arguments.now assembled.now) }
+        ensures sound { OnOk result (IsSound (length names.now) self.new) }
     {
+        let _bytes = spelled(assembled).len();
         if self.after_sti && is_hlt(sensitive(&assembled.insn)) {
             self.pair();
             return Ok(());
@@ -191,10 +207,11 @@ impl Assembly {
         arguments: &[Argument],
     ) -> Result<(), Stop>
         requires few { length names.now ≤ 65536 }
-        requires room { length self.old.text < 2 ^ 31 }
-        requires text { self.old.after_sti ≡ true → 4 ≤ length self.old.text }
-        requires site { self.old.after_sti ≡ true → 1 ≤ length self.old.sites }
-        ensures { Makes self.new result (spec.instruction names.now self.old rep name.now arguments.now) }
+        requires room { length self.old.text ≤ TEXT_LIMIT }
+        requires held { AreHeld names.now (argument_names arguments.now) }
+        requires sound { IsSound (length names.now) self.old }
+        ensures makes { Makes self.new result (spec.instruction names.now self.old rep name.now arguments.now) }
+        ensures sound { OnOk result (IsSound (length names.now) self.new) }
     {
         match assemble(rep, name, arguments) {
             Err(refusal) => Err(Stop::Cause(cause_of(refusal))),

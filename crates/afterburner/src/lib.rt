@@ -4,6 +4,7 @@
 
 mod argument;
 mod assembly;
+mod burning;
 mod bytes;
 mod data;
 mod directive;
@@ -17,6 +18,7 @@ mod symbol;
 mod value;
 
 pub use assembly::Assembly;
+pub use burning::burn;
 pub use directive::Directive;
 pub use fault::{BurnCause, BurnFault};
 pub use section::Section;

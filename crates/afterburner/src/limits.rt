@@ -1,7 +1,8 @@
 //! The limits of an object.
 
-ghost use Rattle.std.specs.Prelude.{◌≡◌, ◌<◌, ◌+◌, ◌^◌, length};
+ghost use Rattle.std.specs.Prelude.{OnOk};
 ghost use Rattle.afterburner.specs.Burnt.{Makes, limited};
+ghost use Rattle.afterburner.specs.Sound.{IsWithin};
 
 use crate::assembly::Assembly;
 use crate::fault::{BurnCause, Stop};
@@ -18,13 +19,14 @@ pub const SITE_LIMIT: usize = 262144;
 /// Tests the limits behind an item.
 #[tactic(auto, unfolding(crate::specs::Burnt::limited))]
 pub fn limited(made: &Assembly) -> Result<(), Stop>
-    requires { length made.now.init + made.now.bss < 2 ^ 64 }
-    ensures { Makes made.now result (limited made.now) }
+    ensures makes { Makes made.now result (limited made.now) }
+    ensures within { OnOk result (IsWithin made.now) }
 {
     if made.text.len() > TEXT_LIMIT {
         return Err(Stop::Cause(BurnCause::TextTooLarge));
     }
-    if made.init.len() + made.bss > INIT_LIMIT {
+    let init = made.init.len();
+    if init > INIT_LIMIT || made.bss > INIT_LIMIT - init {
         return Err(Stop::Cause(BurnCause::InitTooLarge));
     }
     if made.sites.len() > SITE_LIMIT {
