@@ -5,3 +5,4 @@ pub mod Sound
 pub mod Spelled
 pub mod Items
 pub mod Sited
+pub mod Whole

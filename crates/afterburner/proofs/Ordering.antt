@@ -1,6 +1,6 @@
 -- The symbols of an object in their order.
-use Rattle.std.proofs.Common.{◌≡◌, ◌<◌, ◌≤◌, ◌+◌, ◌-◌, ℕ, zero, suc, Bool, true, false, List, [], ◌∷◌, ◌++◌, length, take, get_or, Option, Some, None, refl, ap, sym, ◌∙◌, cond, arith, add-one}
-use Rattle.std.specs.Prelude.{slice_get, filter, not, count_by, map, All}
+use Rattle.std.proofs.Common.{◌≡◌, ◌<◌, ◌+◌, ℕ, zero, suc, Bool, List, [], ◌∷◌, ◌++◌, length, take, get_or, Some, refl, ap, ◌∙◌, cond, arith, add-one}
+use Rattle.std.specs.Prelude.{slice_get, count_by, map, All}
 use Rattle.std.specs.List.{range_with_len}
 use Rattle.std.proofs.lemmas.List.FromFn.{get_or-map-range_with_len}
 use Rattle.std.proofs.lemmas.List.Elements.{All-head, All-tail}
@@ -9,7 +9,7 @@ use Rattle.std.proofs.lemmas.List.{take_more, map-append}
 use Rattle.std.proofs.lemmas.List.Sums.{sum_by-append}
 use Rattle.elf_form.specs.declared.object.Symbol.{Symbol}
 use Rattle.afterburner.specs.declared.symbol.Definition.{Definition}
-use Rattle.afterburner.specs.Objects.{symbol, symbols_seen, are, ordered_number, with_number, renumbered}
+use Rattle.afterburner.specs.Objects.{symbol, symbols_seen, ordered_number, with_number, renumbered}
 
 some_inj : {A : Type 0} {x y : A} → Some x ≡ Some y → x ≡ y
 some_inj e = cc

@@ -1,21 +1,17 @@
 -- What items make stays sound.
-use Rattle.std.proofs.Common.{◌≡◌, ◌≤◌, ◌<◌, ◌+◌, ◌*◌, ◌-◌, ℕ, zero, suc, max, Bool, true, false, List, [], ◌∷◌, ◌++◌, length, replicate, get_or, set, Option, Some, None, refl, ap, sym, subst, ◌∙◌, cond, arith, fold, length-append, length-set}
+use Rattle.std.proofs.Common.{◌≡◌, ◌≤◌, ◌+◌, ℕ, Bool, true, false, List, [], ◌∷◌, ◌++◌, length, replicate, Option, Some, None, refl, ◌∙◌, cond, arith, fold, length-append, length-set}
 use Rattle.std.proofs.lemmas.List.{length-replicate}
-use Rattle.std.specs.Prelude.{Result, Ok, Err, IfOk, All, slice_get, not, take, map, ℤ, nat_lt}
+use Rattle.std.specs.Prelude.{Result, Ok, Err, IfOk, All, not, ℤ, nat_lt}
 use Rattle.std.specs.List.{flat_map}
 use Rattle.std.proofs.lemmas.List.Elements.{All-append, All-nil, All-cons}
-use Rattle.std.specs.Option.{option_copied}
 use Rattle.elf_form.specs.declared.object.Reloc.{Reloc}
-use Rattle.elf_form.specs.declared.object.Place.{Place}
 use Rattle.sites.specs.declared.site.Site.{Site}
 use Rattle.asm_parse.specs.declared.tree.Argument.{Argument}
 use Rattle.asm_parse.specs.Statements.{symbol_in}
 use Rattle.asm_parse.specs.Readable.{name_list, argument_names}
-use Rattle.afterburner.specs.declared.fault.BurnCause.{BurnCause}
 use Rattle.afterburner.specs.declared.fault.BurnCause.TheVariants as cause
 use Rattle.afterburner.specs.declared.section.Section.{Section}
 use Rattle.afterburner.specs.declared.section.Section.TheVariants as section
-use Rattle.afterburner.specs.declared.symbol.Definition.{Definition}
 use Rattle.afterburner.specs.declared.symbol.Binding.{Binding}
 use Rattle.afterburner.specs.declared.value.Width.{Width}
 use Rattle.afterburner.specs.declared.value.Width.TheVariants as width
@@ -24,13 +20,13 @@ use Rattle.afterburner.specs.declared.directive.Directive.TheVariants as directi
 use Rattle.afterburner.specs.State.{State, undefined, fresh}
 use Rattle.afterburner.specs.Names.{name_number}
 use Rattle.afterburner.specs.Symbols.{bound}
-use Rattle.afterburner.specs.Arguments.{number_in, count_at, text_at, symbol_at, limit_at, alignment, power}
+use Rattle.afterburner.specs.Arguments.{number_in, count_at, text_at, symbol_at}
 use Rattle.afterburner.specs.Values.{value_bytes}
-use Rattle.afterburner.specs.Sections.{is_init, filled_in, filled, aligned, labelled, defined_in_bss, reserved, entered, section_named}
+use Rattle.afterburner.specs.Sections.{is_init, filled_in, aligned, labelled, defined_in_bss, reserved, entered, section_named}
 use Rattle.afterburner.specs.Directives.{numbers, longs, with_long, data_reloc, strings, string_bytes, zeros_in, common, directed, in_init, all_fit, values}
 use Rattle.afterburner.specs.Burnt.{parted}
-use Rattle.afterburner.specs.Sound.{IsSound, IsWithin, IsRelocIn, AreApart, AreHeld}
-use Rattle.afterburner.proofs.Named.{held_number, named_held, held_left, held_right}
+use Rattle.afterburner.specs.Sound.{IsSound, IsRelocIn, AreApart, AreHeld}
+use Rattle.afterburner.proofs.Named.{held_number, held_left, held_right}
 
 -- ---- relocations and sites in a section that grows
 
@@ -126,8 +122,8 @@ sound_zeros n st section.Text k a s = tt
 sound_zeros n st section.Init k a s =
     let grown : State = record st { init = st.init ++ replicate k 0 } in
     elim (nat_lt 33554432 (length st.init + st.bss + k)) as (λ b. IfOk (cond b (Err cause.InitTooLarge) (Ok grown)) (IsSound n)) [
-      true ↦ tt
-    | false ↦ sound_kept n st grown s refl refl refl refl (omega arith) (simp length-append (omega arith)) a
+      | true ↦ tt
+      | false ↦ sound_kept n st grown s refl refl refl refl (omega arith) (simp length-append (omega arith)) a
     ]
 sound_zeros n st section.Bss k a s = sound_kept n st (record st { bss = st.bss + k }) s refl refl refl refl (omega arith) (omega arith) a
 
@@ -158,7 +154,7 @@ sound_long names st x a h s =
       definitions = s.definitions;
       text_relocs = s.text_relocs;
       data_relocs = All-append (IsRelocIn false (length (st.init ++ value_bytes 4 z)) (length names)) st.data_relocs (data_reloc names (length st.init) (symbol_in x.form))
-        (reloc_grown false (length names) (length st.init) (length (st.init ++ value_bytes 4 z)) st.data_relocs longer s.data_relocs) (long_field names st z (symbol_in x.form) h);
+          (reloc_grown false (length names) (length st.init) (length (st.init ++ value_bytes 4 z)) st.data_relocs longer s.data_relocs) (long_field names st z (symbol_in x.form) h);
       few_text = s.few_text;
       few_data = rw (length-append st.data_relocs (data_reloc names (length st.init) (symbol_in x.form)), more) (omega (arith, few, s.few_data));
       sites = s.sites;
@@ -175,8 +171,8 @@ sound_longs : (names : List (List ℕ)) (st : State) (args : List Argument) → 
 unfolding longs
 sound_longs names st args a h s =
     elim (all_fit width.Long args) as (λ b. IfOk (cond (not b) (Err cause.ValueRange) (in_init st (fold (with_long names) st args))) (IsSound (length names))) [
-      false ↦ tt
-    | true ↦ elim (is_init st.section) as (λ b. IfOk (cond b (Ok (fold (with_long names) st args)) (Err cause.DataInText)) (IsSound (length names))) [ true ↦ sound_fold names st args a h s | false ↦ tt ]
+      | false ↦ tt
+      | true ↦ elim (is_init st.section) as (λ b. IfOk (cond b (Ok (fold (with_long names) st args)) (Err cause.DataInText)) (IsSound (length names))) [ true ↦ sound_fold names st args a h s | false ↦ tt ]
     ]
 
 pub sound_directed : (names : List (List ℕ)) (st : State) (d : Directive) (args : List Argument) → st.after_sti ≡ false → AreHeld names (argument_names args) → IsSound (length names) st → IfOk (directed names st d args) (IsSound (length names))

@@ -1,5 +1,5 @@
 -- An instruction that is added leaves everything sound.
-use Rattle.std.proofs.Common.{◌≡◌, ◌≤◌, ◌<◌, ◌+◌, ◌*◌, ◌-◌, ℕ, zero, suc, max, Bool, true, false, List, [], ◌∷◌, ◌++◌, length, replicate, get_or, set, Option, Some, None, refl, ap, sym, subst, ◌∙◌, cond, arith, length-append, length-set}
+use Rattle.std.proofs.Common.{◌≡◌, ◌≤◌, ◌+◌, ◌*◌, ◌-◌, ℕ, zero, suc, true, List, [], ◌∷◌, ◌++◌, length, get_or, set, Option, Some, None, refl, ap, ◌∙◌, arith, length-append, length-set}
 use Rattle.std.proofs.lemmas.List.{length-replicate}
 use Rattle.std.specs.Prelude.{All, slice_get, take}
 use Rattle.std.proofs.lemmas.List.Elements.{All-append, All-nil, All-cons}
@@ -18,7 +18,7 @@ use Rattle.afterburner.specs.Arguments.{symbol_of, symbol_at}
 use Rattle.afterburner.specs.Instructions.{nops, padding, site_at, reloc_of, field_reloc, is_sti, added, paired, pair_site, no_site}
 use Rattle.afterburner.specs.Sound.{IsSound, IsRelocIn, AreApart, AreHeld}
 use Rattle.afterburner.proofs.Named.{held_number, argument_held}
-use Rattle.afterburner.proofs.Sound.{reloc_grown, apart_grown}
+use Rattle.afterburner.proofs.Sound.{reloc_grown}
 
 -- ---- relocations
 
@@ -85,8 +85,8 @@ sound_added names st args a short fields spelled held s =
     record {
       definitions = s.definitions;
       text_relocs = All-append (IsRelocIn true (length text) n) (st.text_relocs ++ first) second
-        (All-append (IsRelocIn true (length text) n) st.text_relocs first (reloc_grown true n at (length text) st.text_relocs grows s.text_relocs) (field_lies names at (length text) len args a.disp fields.disp room held))
-        (field_lies names at (length text) len args a.imm fields.imm room held);
+          (All-append (IsRelocIn true (length text) n) st.text_relocs first (reloc_grown true n at (length text) st.text_relocs grows s.text_relocs) (field_lies names at (length text) len args a.disp fields.disp room held))
+          (field_lies names at (length text) len args a.imm fields.imm room held);
       data_relocs = s.data_relocs;
       few_text = omega (arith, few, few_first, few_second, s.few_text, room);
       few_data = s.few_data;

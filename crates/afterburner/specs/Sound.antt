@@ -1,7 +1,9 @@
 -- What is known of everything that the items of a source make.
 use Rattle.std.specs.Prelude.{◌≡◌, ℕ, ◌+◌, ◌<◌, ◌≤◌, max, Bool, true, false, List, [], ◌∷◌, length, All}
 use Rattle.elf_form.specs.declared.object.Reloc.{Reloc}
+use Rattle.elf_form.specs.ObjectParts.{ObjectParts}
 use Rattle.sites.specs.declared.site.Site.{Site}
+use Rattle.sites.specs.Spelling.{spelling, AreInForm}
 use Rattle.asm_parse.specs.Scope.{holds}
 use Rattle.afterburner.specs.State.{State}
 
@@ -38,3 +40,16 @@ pub record IsWithin (st : State) : Type 0 where
 abbrev pub AreHeld : List (List ℕ) → List (List ℕ) → Type 0
 AreHeld names [] = Unit {0}
 AreHeld names (n ∷ ns) = (holds names n ≡ true) × AreHeld names ns
+
+-- The annotations are those of sites in their form, which lie in the text.
+pub record IsAnnotated (o : ObjectParts) : Type 0 where
+  pub sites : List Site
+  pub spelled : o.sites ≡ spelling sites
+  pub form : AreInForm 0 sites
+  pub inside : All (λ s. s.at + s.total ≤ length o.text) sites
+  pub few : length sites ≤ 262144
+
+-- The limits hold of an object.
+pub record IsSmall (o : ObjectParts) : Type 0 where
+  pub text : length o.text ≤ 4194304
+  pub init : length o.init + o.bss ≤ 33554432

@@ -5,7 +5,7 @@ ghost use Rattle.asm_parse.specs.Readable.{IsReadable, body_names, names_in};
 ghost use Rattle.asm_parse.specs.Size.{body_count};
 ghost use Rattle.elf_form.specs.ObjectLayout.{IsWholeObject};
 ghost use Rattle.afterburner.specs.Burnt.{Makes, Gives, FaultOf, parted, made, item_made, all_made, burnt};
-ghost use Rattle.afterburner.specs.Sound.{IsSound, IsWithin, AreHeld};
+ghost use Rattle.afterburner.specs.Sound.{IsSound, IsWithin, IsAnnotated, IsSmall, AreHeld};
 
 use crate::assembly::Assembly;
 use crate::directive::directive_of;
@@ -14,7 +14,7 @@ use crate::limits::limited;
 use crate::names::{Names, names_of};
 use crate::object::object;
 use asm_parse::{Body, Source, SourceItem};
-use elf_form::Object;
+use elf_form::{Object, object_length};
 use std::alloc::{AllocError, Global};
 
 impl Assembly {
@@ -107,7 +107,13 @@ pub fn burn(alloc: Global, source: &Source) -> Result<Object, BurnFault>
     requires { IsReadable source.now }
     // The object, or the first refusal, is this function of the items.
     ensures exact { Gives result (burnt source.now) }
+    // A file can be written of the object.
+    ensures writable { IfOk result (λ o. IsWholeObject o) }
+    // Its annotations are those of sites in its text.
+    ensures sites { IfOk result (λ o. IsAnnotated o) }
+    ensures limits { IfOk result (λ o. IsSmall o) }
 {
+    object_length();
     let names = match names_of(alloc, source) {
         Err(AllocError) => return Err(BurnFault::Memory),
         Ok(names) => names,

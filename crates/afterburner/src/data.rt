@@ -27,11 +27,7 @@ fn all_fit(width: Width, arguments: &[Argument]) -> bool
         .all(|argument| fits(width, number(&argument.form)))
 }
 
-fn put_values(
-    out: &mut Vec<u8>,
-    width: Width,
-    arguments: &[Argument],
-) -> Result<(), AllocError>
+fn put_values(out: &mut Vec<u8>, width: Width, arguments: &[Argument]) -> Result<(), AllocError>
     requires { IsTrue (spec.all_fit width arguments.now) }
     ensures { OnOk result (out.new.items ≡ out.old.items ++ spec.values width arguments.now) }
 {
@@ -51,11 +47,7 @@ fn put_string(out: &mut Vec<u8>, ended: bool, argument: &Argument) -> Result<(),
     Ok(())
 }
 
-fn put_strings(
-    out: &mut Vec<u8>,
-    ended: bool,
-    arguments: &[Argument],
-) -> Result<(), AllocError>
+fn put_strings(out: &mut Vec<u8>, ended: bool, arguments: &[Argument]) -> Result<(), AllocError>
     ensures { OnOk result (out.new.items ≡ out.old.items ++ flat_map (spec.string_bytes ended) arguments.now) }
 {
     for argument in arguments {

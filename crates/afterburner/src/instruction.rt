@@ -141,13 +141,7 @@ impl Assembly {
         self.text.extend_from_slice(spelled(assembled))?;
         put(&mut self.text, padding(kind, len), NOP)?;
         put_site(&mut self.sites, at, kind, len)?;
-        put_field(
-            &mut self.text_relocs,
-            names,
-            at,
-            arguments,
-            assembled.disp,
-        )?;
+        put_field(&mut self.text_relocs, names, at, arguments, assembled.disp)?;
         put_field(&mut self.text_relocs, names, at, arguments, assembled.imm)?;
         self.after_sti = is_sti(kind);
         Ok(())

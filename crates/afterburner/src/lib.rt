@@ -21,7 +21,7 @@ pub use assembly::Assembly;
 pub use burning::burn;
 pub use directive::Directive;
 pub use fault::{BurnCause, BurnFault};
-pub use section::Section;
 pub use names::Names;
+pub use section::Section;
 pub use symbol::{Binding, Definition};
 pub use value::Width;

@@ -85,11 +85,7 @@ impl Names {
     }
 }
 
-fn add_arguments(
-    alloc: Global,
-    names: &mut Names,
-    arguments: &[Argument],
-) -> Result<(), AllocError>
+fn add_arguments(alloc: Global, names: &mut Names, arguments: &[Argument]) -> Result<(), AllocError>
     ensures { OnOk result (names.new ≡ fold added names.old (argument_names arguments.now)) }
 {
     for argument in arguments {

@@ -100,7 +100,11 @@ fn ordered(global: bool, all: usize, locals: usize, globals: usize) -> u32
     requires globals { all + globals < 2 ^ 32 }
     ensures { result ≡ (if global then all + globals else locals) }
 {
-    if global { (all + globals) as u32 } else { locals as u32 }
+    if global {
+        (all + globals) as u32
+    } else {
+        locals as u32
+    }
 }
 
 fn local_count(definitions: &[Definition]) -> usize
@@ -133,11 +137,7 @@ fn ordered_numbers(alloc: Global, definitions: &[Definition]) -> Result<Vec<u32>
 }
 
 /// Adds relocations, with the number of a symbol in place of that of its name.
-fn put_relocs(
-    out: &mut Vec<Reloc>,
-    numbers: &[u32],
-    relocs: &[Reloc],
-) -> Result<(), AllocError>
+fn put_relocs(out: &mut Vec<Reloc>, numbers: &[u32], relocs: &[Reloc]) -> Result<(), AllocError>
     requires { All (λ (r : Reloc). r.symbol < length numbers.now) relocs.now }
     ensures { OnOk result (out.new.items ≡ out.old.items ++ map (spec.with_number numbers.now) relocs.now) }
 {

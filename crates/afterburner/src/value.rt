@@ -28,19 +28,31 @@ pub fn bytes_in(width: Width) -> usize
 fn fits_byte(number: i64) -> bool
     ensures { result ≡ spec.fits 8 number }
 {
-    if number < 0 { number >= -128 } else { number < 256 }
+    if number < 0 {
+        number >= -128
+    } else {
+        number < 256
+    }
 }
 
 fn fits_short(number: i64) -> bool
     ensures { result ≡ spec.fits 16 number }
 {
-    if number < 0 { number >= -32768 } else { number < 65536 }
+    if number < 0 {
+        number >= -32768
+    } else {
+        number < 65536
+    }
 }
 
 fn fits_long(number: i64) -> bool
     ensures { result ≡ spec.fits 32 number }
 {
-    if number < 0 { number >= -2147483648 } else { number < 4294967296 }
+    if number < 0 {
+        number >= -2147483648
+    } else {
+        number < 4294967296
+    }
 }
 
 /// Whether the number fits the field.

@@ -1,4 +1,4 @@
-use Rattle.std.proofs.Common.{◌≡◌, ◌++◌, replicate}
+use Rattle.std.proofs.Common.{◌≡◌, replicate}
 use Rattle.afterburner.specs.State.{undefined}
 use Rattle.afterburner.proofs.assembly.definitions.Given as goal
 

@@ -1,4 +1,3 @@
-use Rattle.std.proofs.Common.{sym, ◌∙◌}
 use Rattle.afterburner.proofs.Items.{item_size, item_among, fault_told, all_told}
 use Rattle.afterburner.proofs.burning.make_all.Goals as goal
 

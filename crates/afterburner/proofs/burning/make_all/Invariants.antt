@@ -1,6 +1,5 @@
 use Rattle.std.proofs.Common.{◌≡◌, length, fold, take}
 use Rattle.std.specs.Prelude.{Ok}
-use Rattle.asm_parse.specs.Readable.{names_in}
 use Rattle.afterburner.specs.State.{fresh}
 use Rattle.afterburner.specs.Burnt.{next_made}
 use Rattle.afterburner.specs.Sound.{IsSound, IsWithin}

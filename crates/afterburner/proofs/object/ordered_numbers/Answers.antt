@@ -1,9 +1,7 @@
-use Rattle.std.proofs.Common.{◌≡◌, ◌++◌, ◌∷◌, [], ◌+◌, ◌<◌, length, take, true, false, not, cond, List, ℕ, ap, sym, ◌∙◌, arith, get_or, refl, length-append}
-use Rattle.std.specs.Prelude.{count_by}
-use Rattle.std.specs.List.{range_with_len}
+use Rattle.std.proofs.Common.{◌≡◌, true, false, arith, refl, length-append}
 use Rattle.std.proofs.lemmas.List.FromFn.{map-range_with_len_more}
 use Rattle.afterburner.specs.State.{undefined}
-use Rattle.afterburner.specs.Objects.{ordered_number, defines, is_global}
+use Rattle.afterburner.specs.Objects.{ordered_number, defines}
 use Rattle.afterburner.proofs.Ordering.{counted_more}
 use Rattle.afterburner.proofs.object.ordered_numbers.Goals as goal
 

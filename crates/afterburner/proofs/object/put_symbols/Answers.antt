@@ -1,9 +1,6 @@
-use Rattle.std.proofs.Common.{◌≡◌, ◌++◌, ◌+◌, ◌<◌, length, take, List, ap, sym, ◌∙◌, append_assoc, arith}
-use Rattle.std.specs.Prelude.{filter}
+use Rattle.std.proofs.Common.{append_assoc}
 use Rattle.std.proofs.lemmas.List.Elements.{filter-append}
-use Rattle.elf_form.specs.declared.object.Symbol.{Symbol}
 use Rattle.afterburner.specs.State.{undefined}
-use Rattle.afterburner.specs.Objects.{are, symbols_seen}
 use Rattle.afterburner.proofs.Ordering.{seen_more}
 use Rattle.afterburner.proofs.object.put_symbols.Goals as goal
 
