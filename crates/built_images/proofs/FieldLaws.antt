@@ -1,5 +1,5 @@
 -- A field of four bytes can have any number.
-use Rattle.std.proofs.Common.{◌≡◌, ℕ, ◌+◌, ◌-◌, ◌<◌, ◌≤◌, Bool, true, false, cond, List, [], ◌∷◌, ◌++◌, length, take, drop, Ok, refl, sym, ap, subst, ◌∙◌, append_assoc, arith}
+use Rattle.std.proofs.Common.{◌≡◌, ℕ, ◌+◌, ◌-◌, ◌<◌, ◌≤◌, ◌^◌, Bool, true, false, cond, List, [], ◌∷◌, ◌++◌, length, take, drop, Ok, refl, sym, ap, subst, ◌∙◌, append_assoc, arith}
 use Rattle.std.specs.Prelude.{◌==◌, is_none, None}
 use Rattle.std.specs.List.{Contains}
 use Rattle.std.proofs.lemmas.List.{append-nil, length-append, take_at, drop_at}
@@ -31,8 +31,10 @@ use Rattle.ia32_rows.proofs.Readers.{read, same_read, and_then_ok, AreBytes-appe
 use Rattle.ia32_rows.proofs.Fields.{base_reads}
 use Rattle.ia32_rows.proofs.Pieces.{in_pieces}
 use Rattle.image_check.proofs.SweepLaws.{AreBytes-drop}
-use Rattle.built_images.specs.Fields.{IsWord, word_in, filled, imm_size, imm_place, disp_place, disp_of, moved, with_disp, with_imm, insn_disp, insn_imm}
-use Rattle.built_images.proofs.Words.{two_bytes, four_bytes, whole_then, whole, long_then, Long, long_front}
+use Rattle.guest_ram.specs.Bytes.{word32, with_word32}
+use Rattle.std.specs.Int.{w32, to_le_bytes}
+use Rattle.built_images.specs.Fields.{imm_size, imm_place, disp_place, disp_of, moved, with_disp, with_imm, insn_disp, insn_imm}
+use Rattle.built_images.proofs.Words.{IsWord, word_in, filled, word_of, filled_word, word_there, two_bytes, four_bytes, whole_then, whole, long_then, Long, long_front}
 
 -- ---- the immediate comes first in what is read, and any number may
 
@@ -483,14 +485,23 @@ module _ (row : Row) (p : Parts) (bytes : List ℕ) (insn : Insn) (listed : Cont
         },
       )
 
-  pub disp_law : p.disp_len ≡ 4 → (word : List ℕ) (n : ℕ) → IsWord word n → SpellsBy row (with_disp n p) (filled bytes (disp_place row bytes) word) (insn_disp n insn)
-  disp_law four word n w = spelled_with (disp_place row bytes) (disp_of p.rm) (λ m. with_disp m p) (insn_disp n insn) (disp_placed row p bytes four (laid row p bytes insn listed spelled)) word n w (disp_means row p insn n spelled.means)
+  number_with : (at held : ℕ) (parts_with : ℕ → Parts) (insn_with : Insn) → Placed row bytes at held parts_with → (n : ℕ) → n < 2 ^ 32 → insn_with ≡ insn_of row (parts_with n) → SpellsBy row (parts_with n) (with_word32 bytes at n) insn_with
+  number_with at held parts_with other f n lt means = subst (λ bs. SpellsBy row (parts_with n) bs other) (sym (filled_word bytes at n)) (spelled_with at held parts_with other f (to_le_bytes w32 n) n (word_of n lt) means)
 
-  pub imm_law : imm_len row.form.immediate ≡ 4 → (word : List ℕ) (n : ℕ) → IsWord word n → SpellsBy row (with_imm n p) (filled bytes (imm_place row bytes) word) (insn_imm n insn)
-  imm_law four word n w = spelled_with (imm_place row bytes) p.imm (λ m. with_imm m p) (insn_imm n insn) (imm_placed row p bytes four (laid row p bytes insn listed spelled)) word n w (imm_means row p insn n spelled.means)
+  number_in : (at held : ℕ) (parts_with : ℕ → Parts) → Placed row bytes at held parts_with → (at + 4 ≤ length bytes) × (word32 bytes at ≡ held)
+  number_in at held parts_with f = let h = held_in at held parts_with f in (h.0, word_there bytes at held h.1)
 
-  pub disp_held : p.disp_len ≡ 4 → (disp_place row bytes + 4 ≤ length bytes) × IsWord (word_in bytes (disp_place row bytes)) (disp_of p.rm)
-  disp_held four = held_in (disp_place row bytes) (disp_of p.rm) (λ m. with_disp m p) (disp_placed row p bytes four (laid row p bytes insn listed spelled))
+  pub disp_law : p.disp_len ≡ 4 → (n : ℕ) → n < 2 ^ 32 → SpellsBy row (with_disp n p) (with_word32 bytes (disp_place row bytes) n) (insn_disp n insn)
+  disp_law four n lt = number_with (disp_place row bytes) (disp_of p.rm) (λ m. with_disp m p) (insn_disp n insn) (disp_placed row p bytes four (laid row p bytes insn listed spelled)) n lt (disp_means row p insn n spelled.means)
 
-  pub imm_held : imm_len row.form.immediate ≡ 4 → (imm_place row bytes + 4 ≤ length bytes) × IsWord (word_in bytes (imm_place row bytes)) p.imm
-  imm_held four = held_in (imm_place row bytes) p.imm (λ m. with_imm m p) (imm_placed row p bytes four (laid row p bytes insn listed spelled))
+  pub imm_law : imm_len row.form.immediate ≡ 4 → (n : ℕ) → n < 2 ^ 32 → SpellsBy row (with_imm n p) (with_word32 bytes (imm_place row bytes) n) (insn_imm n insn)
+  imm_law four n lt = number_with (imm_place row bytes) p.imm (λ m. with_imm m p) (insn_imm n insn) (imm_placed row p bytes four (laid row p bytes insn listed spelled)) n lt (imm_means row p insn n spelled.means)
+
+  pub disp_held : p.disp_len ≡ 4 → (disp_place row bytes + 4 ≤ length bytes) × (word32 bytes (disp_place row bytes) ≡ disp_of p.rm)
+  disp_held four = number_in (disp_place row bytes) (disp_of p.rm) (λ m. with_disp m p) (disp_placed row p bytes four (laid row p bytes insn listed spelled))
+
+  pub imm_held : imm_len row.form.immediate ≡ 4 → (imm_place row bytes + 4 ≤ length bytes) × (word32 bytes (imm_place row bytes) ≡ p.imm)
+  imm_held four = number_in (imm_place row bytes) p.imm (λ m. with_imm m p) (imm_placed row p bytes four (laid row p bytes insn listed spelled))
+
+pub same_op : (n : ℕ) (insn : Insn) → ((insn_disp n insn).op ≡ insn.op) × ((insn_imm n insn).op ≡ insn.op)
+same_op n insn = (refl, refl)

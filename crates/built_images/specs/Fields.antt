@@ -1,6 +1,6 @@
 -- The displacement and the immediate of a spelling where they have four bytes (SDM volume 2, section 2.1), and the
 -- spelling with another number in their place.
-use Rattle.std.specs.Prelude.{◌≡◌, ℕ, ◌+◌, ◌-◌, List, [], ◌++◌, length, take, drop, Ok}
+use Rattle.std.specs.Prelude.{ℕ, ◌-◌, List, length}
 use Rattle.ia32_types.specs.declared.insn.Insn.{Insn}
 use Rattle.ia32_types.specs.declared.insn.Operand.{Operand}
 use Rattle.ia32_types.specs.declared.insn.Operand.TheVariants.{Memory}
@@ -8,20 +8,6 @@ use Rattle.ia32_rows.specs.declared.row.Row.{Row}
 use Rattle.ia32_rows.specs.declared.row.Parts.{Parts}
 use Rattle.ia32_rows.specs.declared.row.Immediate.{Immediate}
 use Rattle.ia32_rows.specs.declared.row.Immediate.TheVariants as immediate
-use Rattle.ia32_rows.specs.Reader.{long_at}
-use Rattle.ia32_rows.specs.Spells.{AreBytes}
-
--- four bytes that are a number, the lowest first
-pub record IsWord (word : List ℕ) (n : ℕ) : Type 0 where
-  pub fit : AreBytes word
-  pub is : long_at word ≡ Ok (n, [])
-
--- the four bytes at a place, and the bytes with four others there
-abbrev pub word_in : List ℕ → ℕ → List ℕ
-word_in bytes at = take 4 (drop at bytes)
-
-abbrev pub filled : List ℕ → ℕ → List ℕ → List ℕ
-filled bytes at word = take at bytes ++ (word ++ drop (at + 4) bytes)
 
 -- how many bytes the immediate takes, with the selector of a far jump
 abbrev pub imm_size : Immediate → ℕ
