@@ -1,2 +1,5 @@
 pub mod Words
 pub mod FieldLaws
+pub mod SweepJoins
+pub mod Sensitive
+pub mod ChunkSites

@@ -1,6 +1,10 @@
 //! Laws of what burning and linking make: texts of instructions that were padded, joined and relocated.
 #![tactic(auto)]
 
+mod chunked;
+mod joined;
 mod relocated;
 
+pub use chunked::padded;
+pub use joined::sweeps;
 pub use relocated::fields;
