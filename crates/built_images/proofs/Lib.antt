@@ -3,3 +3,4 @@ pub mod FieldLaws
 pub mod SweepJoins
 pub mod Sensitive
 pub mod ChunkSites
+pub mod Entrances
