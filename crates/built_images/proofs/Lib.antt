@@ -4,3 +4,4 @@ pub mod SweepJoins
 pub mod Sensitive
 pub mod ChunkSites
 pub mod Entrances
+pub mod BuiltImages

@@ -1,10 +1,12 @@
 //! Laws of what burning and linking make: texts of instructions that were padded, joined and relocated.
 #![tactic(auto)]
 
+mod built;
 mod chunked;
 mod joined;
 mod relocated;
 
+pub use built::acceptance;
 pub use chunked::padded;
 pub use joined::sweeps;
 pub use relocated::fields;
