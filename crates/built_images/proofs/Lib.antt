@@ -5,3 +5,5 @@ pub mod Sensitive
 pub mod ChunkSites
 pub mod Entrances
 pub mod BuiltImages
+pub mod WordLaws
+pub mod Filling

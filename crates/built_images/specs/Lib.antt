@@ -2,3 +2,4 @@ pub mod Fields
 pub mod Joined
 pub mod Chunks
 pub mod Built
+pub mod Filled

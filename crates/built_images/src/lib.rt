@@ -3,10 +3,12 @@
 
 mod built;
 mod chunked;
+mod filled;
 mod joined;
 mod relocated;
 
 pub use built::acceptance;
 pub use chunked::padded;
+pub use filled::relocation;
 pub use joined::sweeps;
 pub use relocated::fields;
