@@ -7,3 +7,6 @@ pub mod Entrances
 pub mod BuiltImages
 pub mod WordLaws
 pub mod Filling
+pub mod Joining
+pub mod Labels
+pub mod Branches

@@ -3,3 +3,4 @@ pub mod Joined
 pub mod Chunks
 pub mod Built
 pub mod Filled
+pub mod Padded

@@ -5,10 +5,12 @@ mod built;
 mod chunked;
 mod filled;
 mod joined;
+mod linked;
 mod relocated;
 
 pub use built::acceptance;
 pub use chunked::padded;
 pub use filled::relocation;
 pub use joined::sweeps;
+pub use linked::linking;
 pub use relocated::fields;
