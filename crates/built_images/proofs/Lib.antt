@@ -10,3 +10,4 @@ pub mod Filling
 pub mod Joining
 pub mod Labels
 pub mod Branches
+pub mod LinkedTexts
