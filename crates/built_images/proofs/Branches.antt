@@ -85,14 +85,14 @@ filled_branches Good base made at (c ∷ cs) [] words h f linked right = absurd 
 
 -- ---- from what is known of the relocations of a text
 
-pub RelocsRight : (ℕ → Type 0) → ℕ → (Reloc → ℕ → ℕ) → List ℕ → List Reloc → Type 0
+abbrev pub RelocsRight : (ℕ → Type 0) → ℕ → (Reloc → ℕ → ℕ) → List ℕ → List Reloc → Type 0
 RelocsRight Good base made text rs = (r : Reloc) → Contains rs r → r.in_text ≡ true → r.relative ≡ true → r.at + 4 ≤ length text → Good ((base + r.at + 4 + made r (word32 text r.at)) % 2 ^ 32)
 
 reloc_first : (at : ℕ) (rs more : List Reloc) (r : Reloc) → rs ≡ r ∷ [] → Contains (map (reloc_later at) rs ++ more) (reloc_later at r)
 reloc_first at rs more r e = subst (λ (xs : List Reloc). Contains (map (reloc_later at) xs ++ more) (reloc_later at r)) (sym e) (0, omega arith, refl)
 
 pub all_right : (Good : ℕ → Type 0) (base : ℕ) (made : Reloc → ℕ → ℕ) (pre : List ℕ) (cs : List Chunk) → RelocsRight Good base made (pre ++ chunks_text cs) (chunks_relocs (length pre) cs) → AllRight Good base made (length pre) cs
-unfolding chunks_relocs RelocsRight
+unfolding chunks_relocs
 all_right Good base made pre [] h = tt
 all_right Good base made pre (c ∷ cs) h =
     let text = pre ++ (chunk_text c ++ chunks_text cs) in

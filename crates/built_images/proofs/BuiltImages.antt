@@ -122,7 +122,7 @@ ends_so front =
     let g : slice_index text (length front + 1) ≡ 0xFE = byte_behind front (0xEB ∷ 0xFE ∷ []) 1 in
     ends_by text (length front) e f g
 
-text_is : (body : List Chunk) (c : Coded) → IsCoded c → c.bytes ≡ 0xEB ∷ 0xFE ∷ [] → chunks_text (body ++ (Alone c ∷ [])) ≡ chunks_text body ++ (0xEB ∷ 0xFE ∷ [])
+pub text_is : (body : List Chunk) (c : Coded) → IsCoded c → c.bytes ≡ 0xEB ∷ 0xFE ∷ [] → chunks_text (body ++ (Alone c ∷ [])) ≡ chunks_text body ++ (0xEB ∷ 0xFE ∷ [])
 text_is body c h e = text_append body (Alone c ∷ []) ∙ ap (λ xs. chunks_text body ++ xs) (append-nil (chunk_text (Alone c)) ∙ jump_text c h e)
 
 -- ---- the tests before that of targets, and behind it

@@ -11,3 +11,4 @@ pub mod Joining
 pub mod Labels
 pub mod Branches
 pub mod LinkedTexts
+pub mod LinkedImages
