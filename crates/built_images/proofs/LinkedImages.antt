@@ -380,3 +380,57 @@ module _ (Good : ℕ → Type 0) (os : List ObjectParts) (padded : ArePadded os)
         entry_in = entry.0;
         entry = entry.1;
       }
+pub linked_built : (os : List ObjectParts) (parts : ImageParts) → ArePadded os → linked_image os ≡ Ok parts → (cs : List Chunk) × IsBuilt parts cs
+linked_built os parts padded e =
+    let h = is_linked os parts e in
+    let right = λ (i : ℕ) (o : ObjectParts) (cs : List Chunk) (there : slice_get os i ≡ Some o) (p : IsPadded o cs). anywhere_right (relocated (bases os) (globals os) (i, o)) (text_at os i) 0 cs in
+    (image_chunks Anywhere os padded h.0 right, subst (λ (p : ImageParts). IsBuilt p (image_chunks Anywhere os padded h.0 right)) h.1 (image_built Anywhere os padded h.0 right))
+
+-- ---- its branches
+
+whole_edge : (cs : List Chunk) → IsEdge cs (length (chunks_text cs))
+whole_edge cs = record { before = cs; behind = []; parts = sym (append-nil cs); place = refl }
+
+to_itself : (at : ℕ) → at < 2 ^ 31 → (at + 2 + 4294967294) % 2 ^ 32 ≡ at
+to_itself at lt = omega arith
+
+jump_leads : (at : ℕ) (insn : Rattle.ia32_types.specs.declared.insn.Insn.Insn) (len : ℕ) → insn ≡ jump_to_itself → len ≡ 2 → at < 2 ^ 31 → target_of at len insn ≡ at
+jump_leads at insn len e two lt = ap (λ (i : Rattle.ia32_types.specs.declared.insn.Insn.Insn). target_of at len i) e ∙ ap (λ n. target_of at n jump_to_itself) two ∙ to_itself at lt
+
+module _ (os : List ObjectParts) (padded : ArePadded os) (w : IsLinkedWell os) (right : ObjectsRight (IsLabelled os) os) where
+  abbrev cs : List Chunk
+  cs = image_chunks (IsLabelled os) os padded w right
+
+  abbrev body : List Chunk
+  body = (all_objects (IsLabelled os) os padded w right).chunks
+
+  jump_right : All (OnBranch (Begins cs)) (chunks_swept (0 + length (chunks_text body)) (Alone jump_coded ∷ []))
+  unfolding chunks_swept image_chunks
+  jump_right =
+      let at = 0 + length (chunks_text body) in
+      let limit = (all_within os w).text in
+      let size = (all_objects (IsLabelled os) os padded w right).size in
+      let to = jump_leads at (insn_in jump_coded) (length jump_coded.bytes) jump_means (ap length jump_bytes) (omega (arith, limit, size)) in
+      let z : length (chunks_text body) ≡ at = omega arith in
+      All-append (OnBranch (Begins cs)) (Rattle.built_images.specs.Chunks.chunk_swept at (Alone jump_coded)) []
+      (alone_branch (Begins cs) at jump_coded (λ b. subst (Begins cs) (z ∙ sym to) (edge_begins body (Alone jump_coded) (length (chunks_text body)) (whole_edge body))))
+      (All-nil (OnBranch (Begins cs)))
+
+  all_lead : All (OnBranch (Begins cs)) (chunks_swept 0 cs)
+  unfolding image_chunks
+  all_lead =
+      subst (λ (xs : List Swept). All (OnBranch (Begins cs)) xs) (sym (swept_append 0 body (Alone jump_coded ∷ [])))
+      (All-append (OnBranch (Begins cs)) (chunks_swept 0 body) (chunks_swept (0 + length (chunks_text body)) (Alone jump_coded ∷ []))
+      (All-weaker (OnBranch (IsLabelled os)) (OnBranch (Begins cs)) (λ s h b. label_begins (IsLabelled os) os padded w right (target_of s.at s.len s.insn) (h b)) (chunks_swept 0 body) (all_objects (IsLabelled os) os padded w right).branches)
+      jump_right)
+
+  pub leads_right : LeadsRight cs
+  leads_right = λ s there b. All-contains (OnBranch (Begins cs)) (chunks_swept 0 cs) s all_lead there b
+
+pub linked_leads : (os : List ObjectParts) (parts : ImageParts) → ArePadded os → NamesAlone os → linked_image os ≡ Ok parts → (cs : List Chunk) × IsBuilt parts cs × LeadsRight cs
+linked_leads os parts padded names e =
+    let h = is_linked os parts e in
+    let right = objects_right os padded names h.0 in
+    (image_chunks (IsLabelled os) os padded h.0 right,
+     subst (λ (p : ImageParts). IsBuilt p (image_chunks (IsLabelled os) os padded h.0 right)) h.1 (image_built (IsLabelled os) os padded h.0 right),
+     leads_right os padded h.0 right)
