@@ -12,3 +12,4 @@ pub mod Labels
 pub mod Branches
 pub mod LinkedTexts
 pub mod LinkedImages
+pub mod Drafts

@@ -4,3 +4,4 @@ pub mod Chunks
 pub mod Built
 pub mod Filled
 pub mod Padded
+pub mod Sources

@@ -2,6 +2,7 @@
 #![tactic(auto)]
 
 mod built;
+mod burnt;
 mod chunked;
 mod filled;
 mod joined;
@@ -9,6 +10,7 @@ mod linked;
 mod relocated;
 
 pub use built::acceptance;
+pub use burnt::burning;
 pub use chunked::padded;
 pub use filled::relocation;
 pub use joined::sweeps;
