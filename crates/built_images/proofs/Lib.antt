@@ -13,3 +13,4 @@ pub mod Branches
 pub mod LinkedTexts
 pub mod LinkedImages
 pub mod Drafts
+pub mod Assembling
