@@ -13,7 +13,8 @@ use Rattle.image_check.specs.Sweep.{Swept}
 use Rattle.image_check.specs.Pieces.{is_branch, target_of}
 use Rattle.built_images.specs.Joined.{nop, sti, hlt, jump_to_itself, nops_at}
 use Rattle.built_images.specs.Chunks.{Coded, insn_in, IsCoded, Chunk, Alone, Pair, IsChunk, AreChunks, nops_behind, padding, chunk_text, chunks_text, site_by, chunk_site, chunk_sites, chunk_swept, chunks_swept, Begins}
-use Rattle.built_images.specs.Padded.{IsEdge}
+use Rattle.built_images.specs.Filled.{HasFields, HaveFields, chunk_relocs, chunks_relocs}
+use Rattle.built_images.specs.Padded.{IsEdge, IsLinkedBranch}
 use Rattle.built_images.proofs.SweepJoins.{nop_spelled, jump_spelled}
 use Rattle.built_images.proofs.Entrances.{text_append, text_length, sites_append, swept_append}
 use Rattle.built_images.proofs.BuiltImages.{chunks_join}
@@ -152,3 +153,30 @@ edge_begins cs c at e = by_behind e.before e.behind e.parts e.place where
 
 pub first_edge : (cs : List Chunk) → IsEdge cs 0
 first_edge cs = record { before = []; behind = cs; parts = refl; place = refl }
+
+-- ---- NOPs have no relocations
+
+nop_relocs : nop_coded.relocs ≡ []
+unfolding nop_coded coded_of
+nop_relocs = refl
+
+nop_fields : HasFields (Alone nop_coded)
+unfolding nop_coded coded_of
+nop_fields = tt
+
+pub nop_chunks_relocs : (at n : ℕ) → chunks_relocs at (nop_chunks n) ≡ []
+unfolding nop_chunks chunks_relocs
+nop_chunks_relocs at zero = refl
+nop_chunks_relocs at (suc n) =
+    ap (λ xs. map (Rattle.built_images.specs.Filled.reloc_later at) xs ++ chunks_relocs (at + length (chunk_text (Alone nop_coded))) (nop_chunks n)) nop_relocs
+    ∙ nop_chunks_relocs (at + length (chunk_text (Alone nop_coded))) n
+
+pub nop_chunks_fields : (n : ℕ) → HaveFields (nop_chunks n)
+unfolding nop_chunks
+nop_chunks_fields zero = tt
+nop_chunks_fields (suc n) = (nop_fields, nop_chunks_fields n)
+
+pub nop_chunks_linked : (n : ℕ) → AllByRecursion IsLinkedBranch (nop_chunks n)
+unfolding nop_chunks
+nop_chunks_linked zero = tt
+nop_chunks_linked (suc n) = (λ b. absurd (nop_false (insn_in nop_coded) nop_insn b), nop_chunks_linked n)

@@ -14,3 +14,4 @@ pub mod LinkedTexts
 pub mod LinkedImages
 pub mod Drafts
 pub mod Assembling
+pub mod BurntTexts

@@ -24,8 +24,9 @@ use Rattle.ia32_rows.specs.declared.row.Immediate.TheVariants as immediate
 use Rattle.ia32_rows.specs.declared.row.Operands.TheVariants as operands
 use Rattle.ia32_types.specs.declared.size.Size.TheVariants as size
 use Rattle.ia32_rows.specs.Reader.{done}
-use Rattle.ia32_rows.specs.Fields.{addressing_at, immediate_at}
-use Rattle.ia32_rows.specs.Spelling.{has_code, lead_at, insn_of}
+use Rattle.ia32_rows.specs.declared.row.Located.{Located}
+use Rattle.ia32_rows.specs.Fields.{addressing_at, immediate_at, imm_len}
+use Rattle.ia32_rows.specs.Spelling.{has_code, lead_at, parts_at, insn_of}
 use Rattle.ia32_rows.specs.Spells.{AreBytes, SpellsBy}
 use Rattle.ia32_rows.specs.Pieces.{IsLaidOut}
 use Rattle.ia32_rows.specs.Rows.{rows, sites}
@@ -141,6 +142,20 @@ only_code p bytes o =
 op_of : (row : Row) (p : Parts) → (insn_of row p).op ≡ row.op
 unfolding insn_of
 op_of row p = refl
+
+-- the same of bytes that are read so
+pub sti_read : (row : Row) (p : Parts) (bytes : List ℕ) → Contains rows row → parts_at row.form bytes ≡ Ok (p, []) → kind_of row.op ≡ Some site.Sti → bytes ≡ 0xFB ∷ []
+sti_read row p bytes c read e = only_code p bytes (subst (λ form. IsLaidOut form p bytes) (sti_row row c e) ((in_pieces row c p bytes).0 read))
+
+no_disp : (p : Parts) (bytes : List ℕ) → IsLaidOut sti_form p bytes → p.disp_len ≡ 0
+unfolding addressing_at
+no_disp p bytes o = sym (ap (λ (l : Located). l.disp_len) (same_read _ _ o.address [] o.address_is).0)
+
+pub sti_no_disp : (row : Row) (p : Parts) (bytes : List ℕ) → Contains rows row → parts_at row.form bytes ≡ Ok (p, []) → kind_of row.op ≡ Some site.Sti → p.disp_len ≡ 0
+sti_no_disp row p bytes c read e = no_disp p bytes (subst (λ form. IsLaidOut form p bytes) (sti_row row c e) ((in_pieces row c p bytes).0 read))
+
+pub sti_no_imm : (row : Row) → Contains rows row → kind_of row.op ≡ Some site.Sti → imm_len row.form.immediate ≡ 0
+sti_no_imm row c e = ap (λ (f : Form). imm_len f.immediate) (sti_row row c e)
 
 pub sti_bytes : (row : Row) (p : Parts) (bytes : List ℕ) → Contains rows row → SpellsBy row p bytes (insn_of row p) → sensitive_kind (insn_of row p) ≡ Some site.Sti → bytes ≡ 0xFB ∷ []
 sti_bytes row p bytes c s e =

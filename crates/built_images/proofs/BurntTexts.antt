@@ -1,0 +1,283 @@
+-- What the items of a source make is padded.
+use Rattle.std.proofs.Common.{◌≡◌, ℕ, zero, suc, ◌+◌, ◌-◌, ◌<◌, ◌≤◌, ◌^◌, Bool, true, false, not, cond, ◌&&◌, List, [], ◌∷◌, ◌++◌, length, take, map, Option, Some, None, Result, Ok, Err, refl, sym, ap, subst, ◌∙◌, append_assoc, arith, inl, inr, ◌⊎◌}
+use Rattle.std.specs.Prelude.{max, replicate, slice_set, slice_index_or, slice_get, fold, filter, nat_lt}
+use Rattle.std.specs.List.{flat_map, All, AllByRecursion, Contains}
+use Rattle.std.proofs.lemmas.Bool.Decides.{nat_tests}
+use Rattle.std.proofs.lemmas.List.{append-nil, length-append, length-replicate, map-append, set_at, get_or_at}
+use Rattle.std.proofs.lemmas.List.Elements.{All-nil, All-cons, All-append, All-weaker, All-set, All-replicate, All-get_or}
+use Rattle.ia32_types.specs.declared.site.SiteKind.{SiteKind}
+use Rattle.ia32_types.specs.declared.site.SiteKind.TheVariants as site
+use Rattle.ia32_types.specs.Site.{kind_of, sensitive_kind}
+use Rattle.ia32_rows.specs.declared.row.Row.{Row}
+use Rattle.ia32_rows.specs.declared.row.Parts.{Parts}
+use Rattle.ia32_rows.specs.Fields.{imm_len}
+use Rattle.ia32_rows.specs.Spelling.{parts_at, insn_of}
+use Rattle.ia32_rows.specs.Rows.{rows}
+use Rattle.asm_parse.specs.declared.tree.Body.{Body}
+use Rattle.asm_parse.specs.declared.tree.Body.TheVariants as body
+use Rattle.asm_parse.specs.declared.tree.Argument.{Argument}
+use Rattle.asm_parse.specs.Statements.{symbol_in}
+use Rattle.elf_form.specs.declared.object.Place.{Place}
+use Rattle.elf_form.specs.declared.object.Place.TheVariants as place
+use Rattle.elf_form.specs.declared.object.Reloc.{Reloc}
+use Rattle.sites.specs.declared.site.Site.{Site}
+use Rattle.asm_instruction.specs.declared.assembled.Assembled.{Assembled}
+use Rattle.asm_instruction.specs.declared.assembled.Named.{Named}
+use Rattle.asm_instruction.specs.declared.assembled.Refusal.{Refusal}
+use Rattle.asm_instruction.specs.Assembled.{assembled, spelling_bytes}
+use Rattle.afterburner.specs.declared.section.Section.{Section}
+use Rattle.afterburner.specs.declared.section.Section.TheVariants as section
+use Rattle.afterburner.specs.declared.symbol.Definition.{Definition}
+use Rattle.afterburner.specs.declared.fault.BurnCause.{BurnCause}
+use Rattle.afterburner.specs.declared.fault.BurnCause.TheVariants as cause
+use Rattle.afterburner.specs.State.{State, undefined, fresh}
+use Rattle.afterburner.specs.Arguments.{symbol_at}
+use Rattle.afterburner.specs.Names.{name_number}
+use Rattle.afterburner.specs.Sections.{is_text}
+use Rattle.afterburner.specs.Instructions.{nops, padding as burnt_padding, site_at, reloc_of, field_reloc, is_sti, is_hlt, added, pair_site, no_site, paired, placed, in_text, instruction}
+use Rattle.image_check.specs.Pieces.{is_branch}
+use Rattle.built_images.specs.Fields.{disp_place, imm_place}
+use Rattle.built_images.specs.Chunks.{Coded, insn_in, Chunk, Alone, Pair, IsChunk, AreChunks, nops_behind, padding, chunk_text, chunks_text, site_by, chunk_site, chunk_sites}
+use Rattle.built_images.specs.Filled.{IsField, HasFields, HaveFields, reloc_later, chunk_relocs, chunks_relocs}
+use Rattle.built_images.specs.Padded.{IsEdge, IsLinked, IsLinkedBranch}
+use Rattle.built_images.proofs.Sensitive.{sti_read, sti_no_disp, sti_no_imm}
+use Rattle.built_images.proofs.Entrances.{text_append, text_length, sites_append, alone_length}
+use Rattle.built_images.proofs.Joining.{nop_chunks, nop_chunks_are, nop_chunks_text, nop_chunks_sites, nop_chunks_relocs, nop_chunks_fields, nop_chunks_linked, edge_left}
+use Rattle.built_images.proofs.Assembling.{IsFielded, BranchField, assembled_fielded}
+
+-- ---- what holds of the state behind each item
+
+-- a chunk that is read so; that its numbers are bytes is known of the whole object
+pub record IsReadCoded (c : Coded) : Type 0 where
+  pub listed : Contains rows c.row
+  pub read : parts_at c.row.form c.bytes ≡ Ok (c.parts, [])
+
+abbrev pub IsReadChunk : Chunk → Type 0
+IsReadChunk (Alone c) = IsReadCoded c
+IsReadChunk Pair = Unit {0}
+
+abbrev pub AreRead : List Chunk → Type 0
+AreRead cs = AllByRecursion IsReadChunk cs
+
+abbrev pub IsLabel : List Chunk → Definition → Type 0
+IsLabel cs d = d.place ≡ place.Text → IsEdge cs d.value
+
+pub record EndsInSti (cs : List Chunk) : Type 0 where
+  pub before : List Chunk
+  pub last : Coded
+  pub parts : cs ≡ before ++ (Alone last ∷ [])
+  pub kind : sensitive_kind (insn_in last) ≡ Some site.Sti
+
+pub record IsMade (st : State) (cs : List Chunk) : Type 0 where
+  pub read : AreRead cs
+  pub fields : HaveFields cs
+  pub branches : AllByRecursion IsLinkedBranch cs
+  pub text : st.text ≡ chunks_text cs
+  pub sites : st.sites ≡ chunk_sites 0 cs
+  pub relocs : st.text_relocs ≡ chunks_relocs 0 cs
+  pub in_text : All (λ (r : Reloc). r.in_text ≡ true) st.text_relocs
+  pub in_data : All (λ (r : Reloc). r.in_text ≡ false) st.data_relocs
+  pub labels : All (IsLabel cs) st.definitions
+  pub sti : st.after_sti ≡ true → EndsInSti cs
+
+abbrev pub Made : State → Type 0
+Made st = (cs : List Chunk) × IsMade st cs
+
+-- ---- lists of chunks one behind the other
+
+by_chunk_join : (P : Chunk → Type 0) (a b : List Chunk) → AllByRecursion P a → AllByRecursion P b → AllByRecursion P (a ++ b)
+by_chunk_join P [] b h k = k
+by_chunk_join P (c ∷ a) b h k = (h.0, by_chunk_join P a b h.1 k)
+
+by_chunk_split : (P : Chunk → Type 0) (a b : List Chunk) → AllByRecursion P (a ++ b) → AllByRecursion P a × AllByRecursion P b
+by_chunk_split P [] b h = (tt, h)
+by_chunk_split P (c ∷ a) b h = let s = by_chunk_split P a b h.1 in ((h.0, s.0), s.1)
+
+pub relocs_append : (at : ℕ) (a b : List Chunk) → chunks_relocs at (a ++ b) ≡ chunks_relocs at a ++ chunks_relocs (at + length (chunks_text a)) b
+unfolding chunks_relocs
+relocs_append at [] b = let e : at ≡ at + 0 = omega arith in ap (λ n. chunks_relocs n b) e
+relocs_append at (c ∷ a) b =
+    let next = at + length (chunk_text c) in
+    let e : next + length (chunks_text a) ≡ at + length (chunk_text c ++ chunks_text a) = omega (arith, length-append (chunk_text c) (chunks_text a)) in
+    ap (λ xs. chunk_relocs at c ++ xs) (relocs_append next a b)
+    ∙ sym (append_assoc (chunk_relocs at c) (chunks_relocs next a) (chunks_relocs (next + length (chunks_text a)) b))
+    ∙ ap (λ n. (chunk_relocs at c ++ chunks_relocs next a) ++ chunks_relocs n b) e
+
+labels_more : (cs more : List Chunk) (ds : List Definition) → All (IsLabel cs) ds → All (IsLabel (cs ++ more)) ds
+labels_more cs more ds h = All-weaker (IsLabel cs) (IsLabel (cs ++ more)) (λ d k t. edge_left cs more d.value (k t)) ds h
+
+-- ---- NOPs
+
+chunk_read : (c : Chunk) → IsChunk c → IsReadChunk c
+chunk_read (Alone c) h = record { listed = h.listed; read = h.spelled.read }
+chunk_read Pair h = tt
+
+chunks_read : (cs : List Chunk) → AreChunks cs → AreRead cs
+chunks_read [] h = tt
+chunks_read (c ∷ cs) h = (chunk_read c h.0, chunks_read cs h.1)
+
+-- a state with another section, other data or other names, behind no STI
+pub record IsSameText (st new : State) : Type 0 where
+  pub text : new.text ≡ st.text
+  pub sites : new.sites ≡ st.sites
+  pub relocs : new.text_relocs ≡ st.text_relocs
+  pub no_sti : new.after_sti ≡ false
+
+not_sti : (b : Bool) → b ≡ false → b ≡ true → ⊥
+not_sti b e f = cc
+
+pub same_made : (st new : State) (cs : List Chunk) → IsMade st cs → IsSameText st new → All (λ (r : Reloc). r.in_text ≡ false) new.data_relocs → All (IsLabel cs) new.definitions → IsMade new cs
+same_made st new cs h s data_is labels = record {
+  read = h.read;
+  fields = h.fields;
+  branches = h.branches;
+  text = s.text ∙ h.text;
+  sites = s.sites ∙ h.sites;
+  relocs = s.relocs ∙ h.relocs;
+  in_text = subst (λ (rs : List Reloc). All (λ (r : Reloc). r.in_text ≡ true) rs) (sym s.relocs) h.in_text;
+  in_data = data_is;
+  labels = labels;
+  sti = λ e. absurd (not_sti new.after_sti s.no_sti e);
+}
+
+-- NOPs at the end of the text
+pub nops_made : (st : State) (cs : List Chunk) (n : ℕ) → IsMade st cs → IsMade (record st { text = st.text ++ replicate n 144; after_sti = false }) (cs ++ nop_chunks n)
+nops_made st cs n h = record {
+  read = by_chunk_join IsReadChunk cs (nop_chunks n) h.read (chunks_read (nop_chunks n) (nop_chunks_are n));
+  fields = by_chunk_join HasFields cs (nop_chunks n) h.fields (nop_chunks_fields n);
+  branches = by_chunk_join IsLinkedBranch cs (nop_chunks n) h.branches (nop_chunks_linked n);
+  text = ap (λ bs. bs ++ replicate n 144) h.text ∙ ap (λ bs. chunks_text cs ++ bs) (sym (nop_chunks_text n)) ∙ sym (text_append cs (nop_chunks n));
+  sites = h.sites ∙ sym (sites_append 0 cs (nop_chunks n) ∙ ap (λ ss. chunk_sites 0 cs ++ ss) (nop_chunks_sites (0 + length (chunks_text cs)) n) ∙ append-nil (chunk_sites 0 cs));
+  relocs = h.relocs ∙ sym (relocs_append 0 cs (nop_chunks n) ∙ ap (λ rs. chunks_relocs 0 cs ++ rs) (nop_chunks_relocs (0 + length (chunks_text cs)) n) ∙ append-nil (chunks_relocs 0 cs));
+  in_text = h.in_text;
+  in_data = h.in_data;
+  labels = labels_more cs (nop_chunks n) st.definitions h.labels;
+  sti = λ e. absurd cc;
+}
+
+-- ---- an instruction
+
+padding_same : (o : Option SiteKind) (len : ℕ) → burnt_padding o len ≡ nops_behind o len
+padding_same None len = refl
+padding_same (Some k) len = refl
+
+site_same : (at len : ℕ) (o : Option SiteKind) → site_at at o len ≡ site_by at len o
+site_same at len None = refl
+site_same at len (Some k) = refl
+
+reloc_same : (names : List (List ℕ)) (at : ℕ) (f : Named) (name : Option (List ℕ)) → map (reloc_later at) (reloc_of names 0 f name) ≡ reloc_of names at f name
+reloc_same names at f None = refl
+reloc_same names at f (Some name) = let e : at + (0 + f.at) ≡ at + f.at = omega arith in ap (λ (n : ℕ). record { in_text = true; at = n; symbol = name_number names name; relative = f.relative } ∷ []) e
+
+field_same : (names : List (List ℕ)) (at : ℕ) (args : List Argument) (f : Option Named) → map (reloc_later at) (field_reloc names 0 args f) ≡ field_reloc names at args f
+field_same names at args None = refl
+field_same names at args (Some f) = reloc_same names at f (symbol_at args f.argument)
+
+reloc_in_text : (names : List (List ℕ)) (at : ℕ) (f : Named) (name : Option (List ℕ)) → All (λ (r : Reloc). r.in_text ≡ true) (reloc_of names at f name)
+reloc_in_text names at f None = All-nil (λ (r : Reloc). r.in_text ≡ true)
+reloc_in_text names at f (Some name) = All-cons (λ (r : Reloc). r.in_text ≡ true) _ [] refl (All-nil (λ (r : Reloc). r.in_text ≡ true))
+
+field_in_text : (names : List (List ℕ)) (at : ℕ) (args : List Argument) (f : Option Named) → All (λ (r : Reloc). r.in_text ≡ true) (field_reloc names at args f)
+field_in_text names at args None = All-nil (λ (r : Reloc). r.in_text ≡ true)
+field_in_text names at args (Some f) = reloc_in_text names at f (symbol_at args f.argument)
+
+-- the chunk of an instruction
+abbrev local_relocs : List (List ℕ) → List Argument → Assembled → List Reloc
+local_relocs names args a = field_reloc names 0 args a.disp ++ field_reloc names 0 args a.imm
+
+abbrev made_coded : List (List ℕ) → (args : List Argument) (a : Assembled) → IsFielded args a → Coded
+made_coded names args a f = record { row = f.row; parts = f.parts; bytes = spelling_bytes a; relocs = local_relocs names args a }
+
+of_field : (P : ℕ → Type 0) (names : List (List ℕ)) (f : Named) (name : Option (List ℕ)) → P (0 + f.at) → AllByRecursion (λ (r : Reloc). P r.at) (reloc_of names 0 f name)
+of_field P names f None h = tt
+of_field P names f (Some name) h = (h, tt)
+
+of_fields : (P : ℕ → Type 0) (names : List (List ℕ)) (args : List Argument) (f : Option Named) → ((x : Named) → f ≡ Some x → P (0 + x.at)) → AllByRecursion (λ (r : Reloc). P r.at) (field_reloc names 0 args f)
+of_fields P names args None h = tt
+of_fields P names args (Some f) h = of_field P names f (symbol_at args f.argument) (h f refl)
+
+by_reloc_join : (P : Reloc → Type 0) (a b : List Reloc) → AllByRecursion P a → AllByRecursion P b → AllByRecursion P (a ++ b)
+by_reloc_join P [] b h k = k
+by_reloc_join P (c ∷ a) b h k = (h.0, by_reloc_join P a b h.1 k)
+
+coded_fields : (names : List (List ℕ)) (args : List Argument) (a : Assembled) (f : IsFielded args a) → HasFields (Alone (made_coded names args a f))
+coded_fields names args a f =
+    let c = made_coded names args a f in
+    by_reloc_join (λ (r : Reloc). IsField c r.at) (field_reloc names 0 args a.disp) (field_reloc names 0 args a.imm)
+    (of_fields (IsField c) names args a.disp (λ x e. let d = f.disp x e in let z : 0 + x.at ≡ x.at = omega arith in inl (d.0, z ∙ d.1)))
+    (of_fields (IsField c) names args a.imm (λ x e. let d = f.imm x e in let z : 0 + x.at ≡ x.at = omega arith in inr (d.0, z ∙ d.1)))
+
+row_op : (c : Coded) → (insn_in c).op ≡ c.row.op
+unfolding insn_of
+row_op c = refl
+
+symbol_got : (args : List Argument) (k : ℕ) (a : Argument) (name : List ℕ) → slice_get args k ≡ Some a → symbol_in a.form ≡ Some name → symbol_at args k ≡ Some name
+symbol_got args k a name e f = ap Rattle.afterburner.specs.Arguments.symbol_of e ∙ f
+
+coded_branch : (names : List (List ℕ)) (args : List Argument) (a : Assembled) (f : IsFielded args a) → IsLinkedBranch (Alone (made_coded names args a f))
+coded_branch names args a f = λ branch.
+    let c = made_coded names args a f in
+    let b = f.branch (ap is_branch (sym (row_op c ∙ f.op)) ∙ branch) in
+    let z : 0 + b.field.at ≡ b.field.at = omega arith in
+    let i = f.imm b.field b.imm in
+    let len = f.len in
+    let end = b.end in
+    record {
+      reloc = record { in_text = true; at = 0 + b.field.at; symbol = name_number names b.name; relative = b.field.relative };
+      one =
+          ap (λ x. field_reloc names 0 args x ++ field_reloc names 0 args a.imm) b.no_disp
+          ∙ ap (field_reloc names 0 args) b.imm
+          ∙ ap (reloc_of names 0 b.field) (symbol_got args b.field.argument b.argument b.name b.there b.named);
+      in_text = refl;
+      relative = b.relative;
+      long = i.0;
+      place = z ∙ i.1;
+      end = omega (arith, len, end);
+    }
+
+sti_kind : (o : Option SiteKind) → is_sti o ≡ true → o ≡ Some site.Sti
+sti_kind None e = absurd cc
+sti_kind (Some site.Sti) e = refl
+sti_kind (Some _) e = absurd cc
+
+kind_same : (names : List (List ℕ)) (args : List Argument) (a : Assembled) (f : IsFielded args a) → sensitive_kind (insn_in (made_coded names args a f)) ≡ sensitive_kind a.insn
+kind_same names args a f = ap kind_of (row_op (made_coded names args a f) ∙ f.op)
+
+pub added_made : (names : List (List ℕ)) (st : State) (args : List Argument) (a : Assembled) (f : IsFielded args a) (cs : List Chunk) → IsMade st cs → IsMade (added names st args a) (cs ++ (Alone (made_coded names args a f) ∷ []))
+unfolding added chunk_sites chunks_relocs
+added_made names st args a f cs h =
+    let c = made_coded names args a f in
+    let kind = kind_same names args a f in
+    let len = f.len in
+    let pad : padding c ≡ burnt_padding (sensitive_kind a.insn) a.spelling.len =
+        ap (λ o. nops_behind o (length (spelling_bytes a))) kind ∙ ap (nops_behind (sensitive_kind a.insn)) len ∙ sym (padding_same (sensitive_kind a.insn) a.spelling.len) in
+    let at : 0 + length (chunks_text cs) ≡ length st.text = ap (λ bs. 0 + length bs) (sym h.text) ∙ (omega arith) in
+    record {
+      read = by_chunk_join IsReadChunk cs (Alone c ∷ []) h.read (record { listed = f.listed; read = f.read }, tt);
+      fields = by_chunk_join HasFields cs (Alone c ∷ []) h.fields (coded_fields names args a f, tt);
+      branches = by_chunk_join IsLinkedBranch cs (Alone c ∷ []) h.branches (coded_branch names args a f, tt);
+      text =
+          append_assoc st.text (spelling_bytes a) (nops (burnt_padding (sensitive_kind a.insn) a.spelling.len))
+          ∙ ap (λ n. st.text ++ (spelling_bytes a ++ nops n)) (sym pad)
+          ∙ ap (λ bs. bs ++ chunk_text (Alone c)) h.text
+          ∙ ap (λ bs. chunks_text cs ++ bs) (sym (append-nil (chunk_text (Alone c))))
+          ∙ sym (text_append cs (Alone c ∷ []));
+      sites =
+          ap (λ ss. ss ++ site_at (length st.text) (sensitive_kind a.insn) a.spelling.len) h.sites
+          ∙ ap (λ ss. chunk_sites 0 cs ++ ss) (site_same (length st.text) a.spelling.len (sensitive_kind a.insn) ∙ ap (λ n. site_by n a.spelling.len (sensitive_kind a.insn)) (sym at) ∙ ap (λ n. site_by (0 + length (chunks_text cs)) n (sensitive_kind a.insn)) (sym len) ∙ ap (site_by (0 + length (chunks_text cs)) (length (spelling_bytes a))) (sym kind) ∙ sym (append-nil (chunk_site (0 + length (chunks_text cs)) (Alone c))))
+          ∙ sym (sites_append 0 cs (Alone c ∷ []));
+      relocs =
+          append_assoc st.text_relocs (field_reloc names (length st.text) args a.disp) (field_reloc names (length st.text) args a.imm)
+          ∙ ap (λ rs. rs ++ (field_reloc names (length st.text) args a.disp ++ field_reloc names (length st.text) args a.imm)) h.relocs
+          ∙ ap (λ rs. chunks_relocs 0 cs ++ rs)
+          (ap (λ n. field_reloc names n args a.disp ++ field_reloc names n args a.imm) (sym at)
+          ∙ ap (λ rs. rs ++ field_reloc names (0 + length (chunks_text cs)) args a.imm) (sym (field_same names (0 + length (chunks_text cs)) args a.disp))
+          ∙ ap (λ rs. map (reloc_later (0 + length (chunks_text cs))) (field_reloc names 0 args a.disp) ++ rs) (sym (field_same names (0 + length (chunks_text cs)) args a.imm))
+          ∙ sym (map-append (reloc_later (0 + length (chunks_text cs))) (field_reloc names 0 args a.disp) (field_reloc names 0 args a.imm))
+          ∙ sym (append-nil (chunk_relocs (0 + length (chunks_text cs)) (Alone c))))
+          ∙ sym (relocs_append 0 cs (Alone c ∷ []));
+      in_text = All-append (λ (r : Reloc). r.in_text ≡ true) (st.text_relocs ++ field_reloc names (length st.text) args a.disp) (field_reloc names (length st.text) args a.imm) (All-append (λ (r : Reloc). r.in_text ≡ true) st.text_relocs (field_reloc names (length st.text) args a.disp) h.in_text (field_in_text names (length st.text) args a.disp)) (field_in_text names (length st.text) args a.imm);
+      in_data = h.in_data;
+      labels = labels_more cs (Alone c ∷ []) st.definitions h.labels;
+      sti = λ e. record { before = cs; last = c; parts = refl; kind = kind ∙ sti_kind (sensitive_kind a.insn) e };
+    }
