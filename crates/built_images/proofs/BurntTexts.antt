@@ -281,3 +281,150 @@ added_made names st args a f cs h =
       labels = labels_more cs (Alone c ∷ []) st.definitions h.labels;
       sti = λ e. record { before = cs; last = c; parts = refl; kind = kind ∙ sti_kind (sensitive_kind a.insn) e };
     }
+
+-- ---- HLT behind STI
+
+sti_chunk : (c : Coded) → IsReadCoded c → sensitive_kind (insn_in c) ≡ Some site.Sti → c.bytes ≡ 0xFB ∷ []
+sti_chunk c h e = sti_read c.row c.parts c.bytes h.listed h.read (ap kind_of (sym (row_op c)) ∙ e)
+
+no_sti_field : (c : Coded) (at : ℕ) → IsReadCoded c → sensitive_kind (insn_in c) ≡ Some site.Sti → IsField c at → ⊥
+no_sti_field c at h e f =
+    let k = ap kind_of (sym (row_op c)) ∙ e in
+    let d = sti_no_disp c.row c.parts c.bytes h.listed h.read k in
+    let i = sti_no_imm c.row h.listed k in
+    elim f [
+      | inl x ↦ let four = x.0 in omega (arith, d, four)
+      | inr x ↦ let four = x.0 in omega (arith, i, four)
+    ]
+
+sti_relocs : (c : Coded) (rs : List Reloc) → IsReadCoded c → sensitive_kind (insn_in c) ≡ Some site.Sti → AllByRecursion (λ (r : Reloc). IsField c r.at) rs → rs ≡ []
+sti_relocs c [] h e f = refl
+sti_relocs c (r ∷ rs) h e f = absurd (no_sti_field c r.at h e f.0)
+
+sti_text : (c : Coded) → IsReadCoded c → sensitive_kind (insn_in c) ≡ Some site.Sti → chunk_text (Alone c) ≡ 0xFB ∷ 0x90 ∷ 0x90 ∷ 0x90 ∷ 0x90 ∷ []
+sti_text c h e =
+    let b = sti_chunk c h e in
+    let pad : padding c ≡ 4 = ap (λ o. nops_behind o (length c.bytes)) e ∙ ap (λ (bs : List ℕ). 5 - length bs) b in
+    ap (λ n. c.bytes ++ replicate n 0x90) pad ∙ ap (λ bs. bs ++ replicate 4 0x90) b
+
+sti_site : (at : ℕ) (c : Coded) → IsReadCoded c → sensitive_kind (insn_in c) ≡ Some site.Sti → chunk_site at (Alone c) ≡ record { at = at; kind = site.Sti; len = 1; total = 5 } ∷ []
+sti_site at c h e = ap (site_by at (length c.bytes)) e ∙ ap (λ (bs : List ℕ). site_by at (length bs) (Some site.Sti)) (sti_chunk c h e)
+
+-- an edge stays where the last chunk is exchanged for one as long
+abbrev Edges : List Chunk → List Chunk → Type 0
+Edges cs b = (b2 : List Chunk) × (r2 : List Chunk) × (cs ≡ b2 ++ r2) × (length (chunks_text b2) ≡ length (chunks_text b))
+
+none_behind : (c x : Chunk) (b r : List Chunk) → x ∷ [] ≡ c ∷ (b ++ r) → (c ≡ x) × (b ≡ [])
+none_behind c x [] r e = (cc, refl)
+none_behind c x (d ∷ b) r e = absurd cc
+
+swapped : (x y : Chunk) (before b r : List Chunk) → length (chunk_text y) ≡ length (chunk_text x) → before ++ (x ∷ []) ≡ b ++ r → Edges (before ++ (y ∷ [])) b
+swapped x y before [] r len e = ([], before ++ (y ∷ []), refl, refl)
+swapped x y [] (c ∷ b) r len e =
+    let n = none_behind c x b r e in
+    (y ∷ [], [], refl,
+     length-append (chunk_text y) [] ∙ ap (λ k. k + 0) len ∙ sym (ap (λ (ds : List Chunk). length (chunk_text c ++ chunks_text ds)) n.1 ∙ ap (λ (d : Chunk). length (chunk_text d ++ [])) n.0 ∙ length-append (chunk_text x) []))
+swapped x y (a ∷ before) (c ∷ b) r len e =
+    let same : a ≡ c = cc in
+    let rest : before ++ (x ∷ []) ≡ b ++ r = cc in
+    let s = swapped x y before b r len rest in
+    let l = length-append (chunk_text a) (chunks_text s.0) in
+    let m = length-append (chunk_text c) (chunks_text b) in
+    let k = s.3 in
+    let one = ap (λ (d : Chunk). length (chunk_text d)) same in
+    (a ∷ s.0, s.1, ap (λ (ds : List Chunk). a ∷ ds) s.2, omega (arith, l, m, k, one))
+
+edge_swapped : (x y : Chunk) (before : List Chunk) (v : ℕ) → length (chunk_text y) ≡ length (chunk_text x) → IsEdge (before ++ (x ∷ [])) v → IsEdge (before ++ (y ∷ [])) v
+edge_swapped x y before v len e =
+    let s = swapped x y before e.before e.behind len e.parts in
+    record { before = s.0; behind = s.1; parts = s.2; place = e.place ∙ sym s.3 }
+
+set_hlt : (front : List ℕ) (text : List ℕ) → text ≡ front ++ (0xFB ∷ 0x90 ∷ 0x90 ∷ 0x90 ∷ 0x90 ∷ []) → slice_set text (length text - 4) 244 ≡ front ++ (0xFB ∷ 0xF4 ∷ 0x90 ∷ 0x90 ∷ 0x90 ∷ [])
+set_hlt front text e =
+    let p = front ++ (0xFB ∷ []) in
+    let split : text ≡ p ++ (0x90 ∷ (0x90 ∷ 0x90 ∷ 0x90 ∷ [])) = e ∙ sym (append_assoc front (0xFB ∷ []) (0x90 ∷ 0x90 ∷ 0x90 ∷ 0x90 ∷ [])) in
+    let l = ap length e ∙ length-append front (0xFB ∷ 0x90 ∷ 0x90 ∷ 0x90 ∷ 0x90 ∷ []) in
+    let m = length-append front (0xFB ∷ []) in
+    let at : length text - 4 ≡ length p = omega (arith, l, m) in
+    ap (λ n. slice_set text n 244) at
+    ∙ ap (λ bs. slice_set bs (length p) 244) split
+    ∙ set_at p 0x90 (0x90 ∷ 0x90 ∷ 0x90 ∷ []) 244 (length p) refl
+    ∙ append_assoc front (0xFB ∷ []) (0xF4 ∷ 0x90 ∷ 0x90 ∷ 0x90 ∷ [])
+
+set_site : (front : List Site) (s : Site) (ss : List Site) → ss ≡ front ++ (s ∷ []) → slice_set ss (length ss - 1) (pair_site (slice_index_or ss (length ss - 1) no_site)) ≡ front ++ (pair_site s ∷ [])
+set_site front s ss e =
+    let l = ap length e ∙ length-append front (s ∷ []) in
+    let at : length ss - 1 ≡ length front = omega (arith, l) in
+    let got : slice_index_or ss (length ss - 1) no_site ≡ s = ap (λ n. slice_index_or ss n no_site) at ∙ ap (λ (xs : List Site). slice_index_or xs (length front) no_site) e ∙ get_or_at front s [] no_site (length front) refl in
+    ap (λ x. slice_set ss (length ss - 1) (pair_site x)) got
+    ∙ ap (λ n. slice_set ss n (pair_site s)) at
+    ∙ ap (λ (xs : List Site). slice_set xs (length front) (pair_site s)) e
+    ∙ set_at front s [] (pair_site s) (length front) refl
+
+paired_by : (st : State) (before : List Chunk) (last : Coded) → sensitive_kind (insn_in last) ≡ Some site.Sti → IsMade st (before ++ (Alone last ∷ [])) → IsMade (paired st) (before ++ (Pair ∷ []))
+unfolding paired chunk_sites chunks_relocs
+paired_by st before last kind h =
+    let read = by_chunk_split IsReadChunk before (Alone last ∷ []) h.read in
+    let fields = by_chunk_split HasFields before (Alone last ∷ []) h.fields in
+    let branches = by_chunk_split IsLinkedBranch before (Alone last ∷ []) h.branches in
+    let coded = read.1.0 in
+    let text = sti_text last coded kind in
+    let len : length (chunk_text Pair) ≡ length (chunk_text (Alone last)) = sym (ap length text) in
+    let at = 0 + length (chunks_text before) in
+    record {
+      read = by_chunk_join IsReadChunk before (Pair ∷ []) read.0 (tt, tt);
+      fields = by_chunk_join HasFields before (Pair ∷ []) fields.0 (tt, tt);
+      branches = by_chunk_join IsLinkedBranch before (Pair ∷ []) branches.0 (tt, tt);
+      text =
+          set_hlt (chunks_text before) st.text (h.text ∙ text_append before (Alone last ∷ []) ∙ ap (λ bs. chunks_text before ++ bs) (append-nil (chunk_text (Alone last)) ∙ text))
+          ∙ sym (text_append before (Pair ∷ []));
+      sites =
+          set_site (chunk_sites 0 before) (record { at = at; kind = site.Sti; len = 1; total = 5 }) st.sites
+          (h.sites ∙ sites_append 0 before (Alone last ∷ []) ∙ ap (λ ss. chunk_sites 0 before ++ ss) (append-nil (chunk_site at (Alone last)) ∙ sti_site at last coded kind))
+          ∙ sym (sites_append 0 before (Pair ∷ []));
+      relocs =
+          h.relocs
+          ∙ relocs_append 0 before (Alone last ∷ [])
+          ∙ ap (λ rs. chunks_relocs 0 before ++ (map (reloc_later at) rs ++ [])) (sti_relocs last last.relocs coded kind fields.1.0)
+          ∙ sym (relocs_append 0 before (Pair ∷ []));
+      in_text = h.in_text;
+      in_data = h.in_data;
+      labels = All-weaker (IsLabel (before ++ (Alone last ∷ []))) (IsLabel (before ++ (Pair ∷ []))) (λ d k t. edge_swapped (Alone last) Pair before d.value len (k t)) st.definitions h.labels;
+      sti = λ e. absurd cc;
+    }
+
+paired_made : (st : State) (cs : List Chunk) → st.after_sti ≡ true → IsMade st cs → Made (paired st)
+paired_made st cs sti h =
+    let e = h.sti sti in
+    (e.before ++ (Pair ∷ []), paired_by st e.before e.last e.kind (subst (IsMade st) e.parts h))
+
+placed_made : (names : List (List ℕ)) (st : State) (args : List Argument) (a : Assembled) (cs : List Chunk) → IsFielded args a → IsMade st cs → Made (placed names st args a)
+placed_made names st args a cs f h = by_sti st.after_sti (is_hlt (sensitive_kind a.insn)) refl where
+  by_sti : (b c : Bool) → st.after_sti ≡ b → Made (cond (b && c) (paired st) (added names st args a))
+  by_sti true true e = paired_made st cs e h
+  by_sti true false e = (cs ++ (Alone (made_coded names args a f) ∷ []), added_made names st args a f cs h)
+  by_sti false c e = (cs ++ (Alone (made_coded names args a f) ∷ []), added_made names st args a f cs h)
+
+abbrev ok_state : State → Result State BurnCause
+ok_state st = Ok st
+
+ok_same : (x y : State) → ok_state x ≡ Ok y → x ≡ y
+ok_same x y e = cc
+
+pub if_ok : (b : Bool) (c : BurnCause) (r : Result State BurnCause) (new : State) → cond b (Err c) r ≡ Ok new → r ≡ Ok new
+if_ok true c r new e = absurd cc
+if_ok false c r new e = e
+
+pub or_ok : (b : Bool) (c : BurnCause) (st new : State) → cond b (ok_state st) (Err c) ≡ Ok new → st ≡ new
+or_ok true c st new e = ok_same st new e
+or_ok false c st new e = absurd cc
+
+in_text_made : (names : List (List ℕ)) (rep : Bool) (name : List ℕ) (st new : State) (args : List Argument) (cs : List Chunk) → IsMade st cs → (r : Result Assembled Refusal) → assembled rep name args ≡ r → in_text names st args r ≡ Ok new → Made new
+in_text_made names rep name st new args cs h (Err r) is e = absurd cc
+in_text_made names rep name st new args cs h (Ok a) is e =
+    let same = or_ok (is_text st.section) cause.DataInText (placed names st args a) new e in
+    subst Made same (placed_made names st args a cs (assembled_fielded rep name args a is) h)
+
+pub instruction_made : (names : List (List ℕ)) (rep : Bool) (name : List ℕ) (st new : State) (args : List Argument) (cs : List Chunk) → IsMade st cs → instruction names st rep name args ≡ Ok new → Made new
+unfolding instruction
+instruction_made names rep name st new args cs h e = in_text_made names rep name st new args cs h (assembled rep name args) refl e
