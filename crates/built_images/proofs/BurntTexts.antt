@@ -405,10 +405,10 @@ placed_made names st args a cs f h = by_sti st.after_sti (is_hlt (sensitive_kind
   by_sti true false e = (cs ++ (Alone (made_coded names args a f) ∷ []), added_made names st args a f cs h)
   by_sti false c e = (cs ++ (Alone (made_coded names args a f) ∷ []), added_made names st args a f cs h)
 
-abbrev ok_state : State → Result State BurnCause
+abbrev pub ok_state : State → Result State BurnCause
 ok_state st = Ok st
 
-ok_same : (x y : State) → ok_state x ≡ Ok y → x ≡ y
+pub ok_same : (x y : State) → ok_state x ≡ Ok y → x ≡ y
 ok_same x y e = cc
 
 pub if_ok : (b : Bool) (c : BurnCause) (r : Result State BurnCause) (new : State) → cond b (Err c) r ≡ Ok new → r ≡ Ok new

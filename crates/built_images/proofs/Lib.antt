@@ -15,3 +15,4 @@ pub mod LinkedImages
 pub mod Drafts
 pub mod Assembling
 pub mod BurntTexts
+pub mod BurntObjects

@@ -272,7 +272,7 @@ site_count : (at len : ℕ) (k : Option Rattle.ia32_types.specs.declared.site.Si
 site_count at len None = omega arith
 site_count at len (Some k) = omega arith
 
-sites_few : (at : ℕ) (cs : List Chunk) → AreChunks cs → length (chunk_sites at cs) ≤ length (chunks_text cs)
+pub sites_few : (at : ℕ) (cs : List Chunk) → AreChunks cs → length (chunk_sites at cs) ≤ length (chunks_text cs)
 unfolding chunk_sites
 sites_few at [] h = omega arith
 sites_few at (Alone c ∷ cs) h =
@@ -388,7 +388,7 @@ linked_built os parts padded e =
 
 -- ---- its branches
 
-whole_edge : (cs : List Chunk) → IsEdge cs (length (chunks_text cs))
+pub whole_edge : (cs : List Chunk) → IsEdge cs (length (chunks_text cs))
 whole_edge cs = record { before = cs; behind = []; parts = sym (append-nil cs); place = refl }
 
 to_itself : (at : ℕ) → at < 2 ^ 31 → (at + 2 + 4294967294) % 2 ^ 32 ≡ at
