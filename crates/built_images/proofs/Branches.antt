@@ -13,9 +13,9 @@ use Rattle.elf_form.specs.declared.object.Reloc.{Reloc}
 use Rattle.image_check.specs.Sweep.{Swept}
 use Rattle.image_check.specs.Pieces.{is_branch, target_of}
 use Rattle.built_images.specs.Fields.{imm_size, imm_place}
-use Rattle.built_images.specs.Chunks.{Coded, insn_in, IsCoded, Chunk, Alone, Pair, AreChunks, padding, chunk_text, chunks_text, chunk_swept, chunks_swept}
+use Rattle.built_images.specs.Chunks.{Coded, insn_in, IsCoded, Chunk, Alone, Pair, IsChunk, AreChunks, padding, chunk_text, chunks_text, chunk_swept, chunks_swept}
 use Rattle.built_images.specs.Filled.{HaveFields, reloc_later, chunk_relocs, chunks_relocs, fill_at, MakesWords, IsFilled, IsFilledChunk, AreFilled}
-use Rattle.built_images.specs.Padded.{IsLinked, IsLinkedBranch}
+use Rattle.built_images.specs.Padded.{IsLinked, IsLinkedBranch, IsAlone, AreAlone}
 use Rattle.built_images.proofs.FieldLaws.{imm_held}
 use Rattle.built_images.proofs.WordLaws.{read_among}
 use Rattle.built_images.proofs.Entrances.{alone_length}
@@ -86,27 +86,28 @@ filled_branches Good base made at (c ∷ cs) [] words h f linked right = absurd 
 -- ---- from what is known of the relocations of a text
 
 abbrev pub RelocsRight : (ℕ → Type 0) → ℕ → (Reloc → ℕ → ℕ) → List ℕ → List Reloc → Type 0
-RelocsRight Good base made text rs = (r : Reloc) → Contains rs r → r.in_text ≡ true → r.relative ≡ true → r.at + 4 ≤ length text → Good ((base + r.at + 4 + made r (word32 text r.at)) % 2 ^ 32)
+RelocsRight Good base made text rs = (r : Reloc) → Contains rs r → r.in_text ≡ true → r.relative ≡ true → r.at + 4 ≤ length text → word32 text r.at ≡ 4294967292 → Good ((base + r.at + 4 + made r (word32 text r.at)) % 2 ^ 32)
 
 reloc_first : (at : ℕ) (rs more : List Reloc) (r : Reloc) → rs ≡ r ∷ [] → Contains (map (reloc_later at) rs ++ more) (reloc_later at r)
 reloc_first at rs more r e = subst (λ (xs : List Reloc). Contains (map (reloc_later at) xs ++ more) (reloc_later at r)) (sym e) (0, omega arith, refl)
 
-pub all_right : (Good : ℕ → Type 0) (base : ℕ) (made : Reloc → ℕ → ℕ) (pre : List ℕ) (cs : List Chunk) → RelocsRight Good base made (pre ++ chunks_text cs) (chunks_relocs (length pre) cs) → AllRight Good base made (length pre) cs
+pub all_right : (Good : ℕ → Type 0) (base : ℕ) (made : Reloc → ℕ → ℕ) (pre : List ℕ) (cs : List Chunk) → AreChunks cs → AreAlone cs → RelocsRight Good base made (pre ++ chunks_text cs) (chunks_relocs (length pre) cs) → AllRight Good base made (length pre) cs
 unfolding chunks_relocs
-all_right Good base made pre [] h = tt
-all_right Good base made pre (c ∷ cs) h =
+all_right Good base made pre [] are alone h = tt
+all_right Good base made pre (c ∷ cs) are alone h =
     let text = pre ++ (chunk_text c ++ chunks_text cs) in
     let at : length (pre ++ chunk_text c) ≡ length pre + length (chunk_text c) = length-append pre (chunk_text c) in
     let same : (pre ++ chunk_text c) ++ chunks_text cs ≡ text = append_assoc pre (chunk_text c) (chunks_text cs) in
-    let later = all_right Good base made (pre ++ chunk_text c) cs (λ r there in_text relative room.
+    let later = all_right Good base made (pre ++ chunk_text c) cs are.1 alone.1 (λ r there in_text relative room word.
         let there' = subst (λ (n : ℕ). Contains (chunks_relocs n cs) r) at there in
         let room' = subst (λ (bs : List ℕ). r.at + 4 ≤ length bs) same room in
+        let word' = subst (λ (bs : List ℕ). word32 bs r.at ≡ 4294967292) same word in
         subst (λ (bs : List ℕ). Good ((base + r.at + 4 + made r (word32 bs r.at)) % 2 ^ 32)) (sym same)
-        (h r (Contains-append_right (chunk_relocs (length pre) c) (chunks_relocs (length pre + length (chunk_text c)) cs) r there') in_text relative room')) in
-    (first c h, subst (λ (n : ℕ). AllRight Good base made n cs) at later) where
-      first : (c : Chunk) → ((r : Reloc) → Contains (chunk_relocs (length pre) c ++ chunks_relocs (length pre + length (chunk_text c)) cs) r → r.in_text ≡ true → r.relative ≡ true → r.at + 4 ≤ length (pre ++ (chunk_text c ++ chunks_text cs)) → Good ((base + r.at + 4 + made r (word32 (pre ++ (chunk_text c ++ chunks_text cs)) r.at)) % 2 ^ 32)) → RightAt Good base made (length pre) c
-      first Pair h = tt
-      first (Alone c) h = λ b l.
+        (h r (Contains-append_right (chunk_relocs (length pre) c) (chunks_relocs (length pre + length (chunk_text c)) cs) r there') in_text relative room' word')) in
+    (first c are.0 alone.0 h, subst (λ (n : ℕ). AllRight Good base made n cs) at later) where
+      first : (c : Chunk) → IsChunk c → IsAlone c → ((r : Reloc) → Contains (chunk_relocs (length pre) c ++ chunks_relocs (length pre + length (chunk_text c)) cs) r → r.in_text ≡ true → r.relative ≡ true → r.at + 4 ≤ length (pre ++ (chunk_text c ++ chunks_text cs)) → word32 (pre ++ (chunk_text c ++ chunks_text cs)) r.at ≡ 4294967292 → Good ((base + r.at + 4 + made r (word32 (pre ++ (chunk_text c ++ chunks_text cs)) r.at)) % 2 ^ 32)) → RightAt Good base made (length pre) c
+      first Pair is one h = tt
+      first (Alone c) is one h = λ b l.
           let r = reloc_later (length pre) l.reloc in
           let tail = replicate (padding c) 0x90 ++ chunks_text cs in
           let text = pre ++ ((c.bytes ++ replicate (padding c) 0x90) ++ chunks_text cs) in
@@ -118,4 +119,4 @@ all_right Good base made pre (c ∷ cs) h =
           let sum : base + (length pre + l.reloc.at) + 4 ≡ (base + length pre) + length c.bytes = omega (arith, end) in
           subst (λ (n : ℕ). Good ((n + made r (word32 c.bytes l.reloc.at)) % 2 ^ 32)) sum
           (subst (λ (w : ℕ). Good ((base + (length pre + l.reloc.at) + 4 + made r w) % 2 ^ 32)) word
-          (h r (reloc_first (length pre) c.relocs (chunks_relocs (length pre + length (chunk_text (Alone c))) cs) l.reloc l.one) l.in_text l.relative (omega (arith, end, len, more))))
+          (h r (reloc_first (length pre) c.relocs (chunks_relocs (length pre + length (chunk_text (Alone c))) cs) l.reloc l.one) l.in_text l.relative (omega (arith, end, len, more)) (word ∙ ap (word32 c.bytes) l.place ∙ (imm_held c.row c.parts c.bytes (insn_in c) is.listed is.spelled l.long).1 ∙ one b)))

@@ -34,7 +34,7 @@ use Rattle.image_check.specs.Pieces.{is_branch, target_of}
 use Rattle.built_images.specs.Joined.{jump_to_itself}
 use Rattle.built_images.specs.Chunks.{Coded, insn_in, IsCoded, Chunk, Alone, Pair, AreChunks, padding, chunk_text, chunks_text, site_by, chunk_site, chunk_sites, chunks_swept, Begins}
 use Rattle.built_images.specs.Filled.{chunks_relocs}
-use Rattle.built_images.specs.Padded.{IsEdge, IsPadded, ArePadded, NamesAlone}
+use Rattle.built_images.specs.Padded.{IsEdge, IsPadded, ArePadded, AreAlone, AnyChunks}
 use Rattle.built_images.specs.Built.{IsBuilt, LeadsRight}
 use Rattle.built_images.proofs.ChunkSites.{coded_spelled}
 use Rattle.built_images.proofs.Entrances.{text_append, text_length, sites_append, swept_append, alone_length}
@@ -175,18 +175,10 @@ room_within os le =
 
 -- ---- objects of the list
 
-padded_at : (os : List ObjectParts) (k : ℕ) (o : ObjectParts) → ArePadded os → slice_get os k ≡ Some o → (cs : List Chunk) × IsPadded o cs
-padded_at [] k o h e = absurd cc
-padded_at (p ∷ os) zero o h e = let same : p ≡ o = cc in subst (λ (q : ObjectParts). (cs : List Chunk) × IsPadded q cs) same h.0
-padded_at (p ∷ os) (suc k) o h e = padded_at os k o h.1 e
-
-abbrev IsAlone : ObjectParts → Type 0
-IsAlone o = (r : Reloc) → Contains o.relocs r → r.in_text ≡ true → r.relative ≡ true → word32 o.text r.at ≡ 4294967292
-
-alone_at : (os : List ObjectParts) (k : ℕ) (o : ObjectParts) → NamesAlone os → slice_get os k ≡ Some o → IsAlone o
-alone_at [] k o h e = absurd cc
-alone_at (p ∷ os) zero o h e = let same : p ≡ o = cc in subst IsAlone same h.0
-alone_at (p ∷ os) (suc k) o h e = alone_at os k o h.1 e
+padded_at : (More : List Chunk → Type 0) (os : List ObjectParts) (k : ℕ) (o : ObjectParts) → ArePadded More os → slice_get os k ≡ Some o → (cs : List Chunk) × IsPadded o cs × More cs
+padded_at More [] k o h e = absurd cc
+padded_at More (p ∷ os) zero o h e = let same : p ≡ o = cc in subst (λ (q : ObjectParts). (cs : List Chunk) × IsPadded q cs × More cs) same h.0
+padded_at More (p ∷ os) (suc k) o h e = padded_at More os k o h.1 e
 
 edge_within : (cs : List Chunk) (at : ℕ) → IsEdge cs at → at ≤ length (chunks_text cs)
 edge_within cs at e =
@@ -194,9 +186,9 @@ edge_within cs at e =
     let place = e.place in
     omega (arith, l, place)
 
-label_within : (os : List ObjectParts) (n : ℕ) → ArePadded os → IsLabelled os n → n ≤ text_end os
-label_within os n h l =
-    let p = padded_at os l.number l.object h l.there in
+label_within : (More : List Chunk → Type 0) (os : List ObjectParts) (n : ℕ) → ArePadded More os → IsLabelled os n → n ≤ text_end os
+label_within More os n h l =
+    let p = padded_at More os l.number l.object h l.there in
     let edge = edge_within p.0 l.symbol.value (p.1.labels l.symbol l.listed l.in_text) in
     let text = ap length p.1.text in
     let room = text_within os l.number l.object l.there in
@@ -220,17 +212,16 @@ made_is os i o r w there in_text relative = ap (λ b. sum_of b (address_by (base
 kept_contained : (p : Reloc → Bool) (rs : List Reloc) (r : Reloc) → Contains (filter p rs) r → Contains rs r
 kept_contained p rs r c = All-contains (Contains rs) (filter p rs) r (All-filter p (Contains rs) rs (All-contains_itself rs)) c
 
-one_right : (os : List ObjectParts) (i : ℕ) (o : ObjectParts) (cs : List Chunk) → ArePadded os → NamesAlone os → IsLinkedWell os → slice_get os i ≡ Some o → IsPadded o cs → RelocsRight (IsLabelled os) (text_at os i) (relocated (bases os) (globals os) (i, o)) ([] ++ chunks_text cs) (chunks_relocs 0 cs)
-one_right os i o cs padded names w there h = λ r c in_text relative room.
+one_right : (More : List Chunk → Type 0) (os : List ObjectParts) (i : ℕ) (o : ObjectParts) (cs : List Chunk) → ArePadded More os → IsLinkedWell os → slice_get os i ≡ Some o → IsPadded o cs → RelocsRight (IsLabelled os) (text_at os i) (relocated (bases os) (globals os) (i, o)) ([] ++ chunks_text cs) (chunks_relocs 0 cs)
+one_right More os i o cs padded w there h = λ r c in_text relative room word.
     let within = all_within os w in
     let limit = within.text in
     let kept = subst (λ (rs : List Reloc). Contains rs r) (sym h.relocs) c in
     let here = kept_contained (is_of true) o.relocs r kept in
     let aim = reloc_aimed os i o r there in_text relative (All-contains (λ (x : Reloc). x.symbol < length o.symbols) o.relocs r h.named here) (not_reloc os i o r w there here) in
-    let label = label_within os aim.label padded aim.is in
+    let label = label_within More os aim.label padded aim.is in
     let text = ap length h.text in
     let end = text_within os i o there in
-    let word : word32 (chunks_text cs) r.at ≡ 4294967292 = ap (λ bs. word32 bs r.at) (sym h.text) ∙ alone_at os i o names there r here in_text relative in
     let to = leads aim.label (text_at os i + r.at) (field_at (or_zero (slice_get (bases os) i)) r) (address_by (bases os) (target_by (globals os) i (slice_get o.symbols r.symbol))) (text_at os i + r.at) 4 (omega (arith, label, limit)) (omega (arith, limit, end, text, room)) refl (field_is os i o r there in_text) aim.at in
     let e : (text_at os i + r.at + 4 + relocated (bases os) (globals os) (i, o) r (word32 (chunks_text cs) r.at)) % 2 ^ 32 ≡ aim.label =
         ap (λ n. (text_at os i + r.at + 4 + relocated (bases os) (globals os) (i, o) r n) % 2 ^ 32) word
@@ -238,8 +229,8 @@ one_right os i o cs padded names w there h = λ r c in_text relative room.
         ∙ to in
     subst (IsLabelled os) (sym e) aim.is
 
-objects_right : (os : List ObjectParts) → ArePadded os → NamesAlone os → IsLinkedWell os → ObjectsRight (IsLabelled os) os
-objects_right os padded names w = λ i o cs there h. all_right (IsLabelled os) (text_at os i) (relocated (bases os) (globals os) (i, o)) [] cs (one_right os i o cs padded names w there h)
+objects_right : (os : List ObjectParts) → ArePadded AreAlone os → IsLinkedWell os → ObjectsRight AreAlone (IsLabelled os) os
+objects_right os padded w = λ i o cs there h alone. all_right (IsLabelled os) (text_at os i) (relocated (bases os) (globals os) (i, o)) [] cs h.chunks alone (one_right AreAlone os i o cs padded w there h)
 
 abbrev Anywhere : ℕ → Type 0
 Anywhere n = Unit {0}
@@ -292,9 +283,9 @@ sites_few at (Pair ∷ cs) h =
 abbrev some_refused : Refused → Option Refused
 some_refused r = Some r
 
-module _ (Good : ℕ → Type 0) (os : List ObjectParts) (padded : ArePadded os) (w : IsLinkedWell os) (right : ObjectsRight Good os) where
+module _ (More : List Chunk → Type 0) (Good : ℕ → Type 0) (os : List ObjectParts) (padded : ArePadded More os) (w : IsLinkedWell os) (right : ObjectsRight More Good os) where
   all_objects : FromObject Good os 0 os
-  all_objects = from_object Good os 0 os (λ k o e. let z : 0 + k ≡ k = omega arith in ap (slice_get os) z ∙ e) padded right
+  all_objects = from_object More Good os 0 os (λ k o e. let z : 0 + k ≡ k = omega arith in ap (slice_get os) z ∙ e) padded right
 
   pub image_chunks : List Chunk
   image_chunks = all_objects.chunks ++ (Alone jump_coded ∷ [])
@@ -342,7 +333,7 @@ module _ (Good : ℕ → Type 0) (os : List ObjectParts) (padded : ArePadded os)
       let m = global_meant os (codes "_start") t is in
       let text = text_start (is_text t.place) e in
       let l = labelled os t m text in
-      let few = label_within os (text_at os t.object + m.symbol.value) padded l in
+      let few = label_within More os (text_at os t.object + m.symbol.value) padded l in
       let at : address (bases os) t ≡ 0x10000000 + (text_at os t.object + m.symbol.value) = text_address os t m text ∙ small (text_at os t.object) m.symbol.value (omega (arith, few, limit)) in
       let off : address (bases os) t - 0x10000000 ≡ text_at os t.object + m.symbol.value = omega (arith, at) in
       (omega (arith, at), subst (Begins image_chunks) (sym off) (label_begins (text_at os t.object + m.symbol.value) l)) where
@@ -380,11 +371,11 @@ module _ (Good : ℕ → Type 0) (os : List ObjectParts) (padded : ArePadded os)
         entry_in = entry.0;
         entry = entry.1;
       }
-pub linked_built : (os : List ObjectParts) (parts : ImageParts) → ArePadded os → linked_image os ≡ Ok parts → (cs : List Chunk) × IsBuilt parts cs
+pub linked_built : (os : List ObjectParts) (parts : ImageParts) → ArePadded AnyChunks os → linked_image os ≡ Ok parts → (cs : List Chunk) × IsBuilt parts cs
 linked_built os parts padded e =
     let h = is_linked os parts e in
-    let right = λ (i : ℕ) (o : ObjectParts) (cs : List Chunk) (there : slice_get os i ≡ Some o) (p : IsPadded o cs). anywhere_right (relocated (bases os) (globals os) (i, o)) (text_at os i) 0 cs in
-    (image_chunks Anywhere os padded h.0 right, subst (λ (p : ImageParts). IsBuilt p (image_chunks Anywhere os padded h.0 right)) h.1 (image_built Anywhere os padded h.0 right))
+    let right = λ (i : ℕ) (o : ObjectParts) (cs : List Chunk) (there : slice_get os i ≡ Some o) (p : IsPadded o cs) (more : AnyChunks cs). anywhere_right (relocated (bases os) (globals os) (i, o)) (text_at os i) 0 cs in
+    (image_chunks AnyChunks Anywhere os padded h.0 right, subst (λ (p : ImageParts). IsBuilt p (image_chunks AnyChunks Anywhere os padded h.0 right)) h.1 (image_built AnyChunks Anywhere os padded h.0 right))
 
 -- ---- its branches
 
@@ -397,19 +388,19 @@ to_itself at lt = omega arith
 jump_leads : (at : ℕ) (insn : Rattle.ia32_types.specs.declared.insn.Insn.Insn) (len : ℕ) → insn ≡ jump_to_itself → len ≡ 2 → at < 2 ^ 31 → target_of at len insn ≡ at
 jump_leads at insn len e two lt = ap (λ (i : Rattle.ia32_types.specs.declared.insn.Insn.Insn). target_of at len i) e ∙ ap (λ n. target_of at n jump_to_itself) two ∙ to_itself at lt
 
-module _ (os : List ObjectParts) (padded : ArePadded os) (w : IsLinkedWell os) (right : ObjectsRight (IsLabelled os) os) where
+module _ (os : List ObjectParts) (padded : ArePadded AreAlone os) (w : IsLinkedWell os) (right : ObjectsRight AreAlone (IsLabelled os) os) where
   abbrev cs : List Chunk
-  cs = image_chunks (IsLabelled os) os padded w right
+  cs = image_chunks AreAlone (IsLabelled os) os padded w right
 
   abbrev body : List Chunk
-  body = (all_objects (IsLabelled os) os padded w right).chunks
+  body = (all_objects AreAlone (IsLabelled os) os padded w right).chunks
 
   jump_right : All (OnBranch (Begins cs)) (chunks_swept (0 + length (chunks_text body)) (Alone jump_coded ∷ []))
   unfolding chunks_swept image_chunks
   jump_right =
       let at = 0 + length (chunks_text body) in
       let limit = (all_within os w).text in
-      let size = (all_objects (IsLabelled os) os padded w right).size in
+      let size = (all_objects AreAlone (IsLabelled os) os padded w right).size in
       let to = jump_leads at (insn_in jump_coded) (length jump_coded.bytes) jump_means (ap length jump_bytes) (omega (arith, limit, size)) in
       let z : length (chunks_text body) ≡ at = omega arith in
       All-append (OnBranch (Begins cs)) (Rattle.built_images.specs.Chunks.chunk_swept at (Alone jump_coded)) []
@@ -421,16 +412,16 @@ module _ (os : List ObjectParts) (padded : ArePadded os) (w : IsLinkedWell os) (
   all_lead =
       subst (λ (xs : List Swept). All (OnBranch (Begins cs)) xs) (sym (swept_append 0 body (Alone jump_coded ∷ [])))
       (All-append (OnBranch (Begins cs)) (chunks_swept 0 body) (chunks_swept (0 + length (chunks_text body)) (Alone jump_coded ∷ []))
-      (All-weaker (OnBranch (IsLabelled os)) (OnBranch (Begins cs)) (λ s h b. label_begins (IsLabelled os) os padded w right (target_of s.at s.len s.insn) (h b)) (chunks_swept 0 body) (all_objects (IsLabelled os) os padded w right).branches)
+      (All-weaker (OnBranch (IsLabelled os)) (OnBranch (Begins cs)) (λ s h b. label_begins AreAlone (IsLabelled os) os padded w right (target_of s.at s.len s.insn) (h b)) (chunks_swept 0 body) (all_objects AreAlone (IsLabelled os) os padded w right).branches)
       jump_right)
 
   pub leads_right : LeadsRight cs
   leads_right = λ s there b. All-contains (OnBranch (Begins cs)) (chunks_swept 0 cs) s all_lead there b
 
-pub linked_leads : (os : List ObjectParts) (parts : ImageParts) → ArePadded os → NamesAlone os → linked_image os ≡ Ok parts → (cs : List Chunk) × IsBuilt parts cs × LeadsRight cs
-linked_leads os parts padded names e =
+pub linked_leads : (os : List ObjectParts) (parts : ImageParts) → ArePadded AreAlone os → linked_image os ≡ Ok parts → (cs : List Chunk) × IsBuilt parts cs × LeadsRight cs
+linked_leads os parts padded e =
     let h = is_linked os parts e in
-    let right = objects_right os padded names h.0 in
-    (image_chunks (IsLabelled os) os padded h.0 right,
-     subst (λ (p : ImageParts). IsBuilt p (image_chunks (IsLabelled os) os padded h.0 right)) h.1 (image_built (IsLabelled os) os padded h.0 right),
+    let right = objects_right os padded h.0 in
+    (image_chunks AreAlone (IsLabelled os) os padded h.0 right,
+     subst (λ (p : ImageParts). IsBuilt p (image_chunks AreAlone (IsLabelled os) os padded h.0 right)) h.1 (image_built AreAlone (IsLabelled os) os padded h.0 right),
      leads_right os padded h.0 right)

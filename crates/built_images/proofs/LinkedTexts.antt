@@ -123,8 +123,8 @@ next_at os i o e =
       got (y ∷ xs) (suc k) x e = got xs k x e
 
 -- what is asked of the branches of each object
-abbrev pub ObjectsRight : (ℕ → Type 0) → List ObjectParts → Type 0
-ObjectsRight Good os = (i : ℕ) (o : ObjectParts) (cs : List Chunk) → slice_get os i ≡ Some o → IsPadded o cs → AllRight Good (text_at os i) (made_for os (i, o)) 0 cs
+abbrev pub ObjectsRight : (List Chunk → Type 0) → (ℕ → Type 0) → List ObjectParts → Type 0
+ObjectsRight More Good os = (i : ℕ) (o : ObjectParts) (cs : List Chunk) → slice_get os i ≡ Some o → IsPadded o cs → More cs → AllRight Good (text_at os i) (made_for os (i, o)) 0 cs
 
 pub record OneObject (Good : ℕ → Type 0) (os : List ObjectParts) (i : ℕ) (o : ObjectParts) : Type 0 where
   pub chunks : List Chunk
@@ -139,8 +139,8 @@ object_sites : (o : ObjectParts) (ss : List Site) → sites_in o.sites ≡ Ok ss
 unfolding sites_of
 object_sites o ss e = ap or_none e
 
-pub one_object : (Good : ℕ → Type 0) (os : List ObjectParts) (i : ℕ) (o : ObjectParts) (cs : List Chunk) → slice_get os i ≡ Some o → IsPadded o cs → ObjectsRight Good os → OneObject Good os i o
-one_object Good os i o cs there h right =
+pub one_object : (More : List Chunk → Type 0) (Good : ℕ → Type 0) (os : List ObjectParts) (i : ℕ) (o : ObjectParts) (cs : List Chunk) → slice_get os i ≡ Some o → IsPadded o cs → More cs → ObjectsRight More Good os → OneObject Good os i o
+one_object More Good os i o cs there h more right =
     let made = made_for os (i, o) in
     let f = chunks_filled made [] cs (made_words os (i, o)) h.chunks h.fields in
     let z : text_at os i + 0 ≡ text_at os i = omega arith in
@@ -155,7 +155,7 @@ one_object Good os i o cs there h right =
           ∙ later_sites (text_at os i) 0 cs
           ∙ ap (map (moved (text_at os i))) (sym (object_sites o (chunk_sites 0 cs) h.annotated));
       edges = λ s c e. filled_edge made 0 cs f.chunks s.value f.filled (h.labels s c e);
-      branches = subst (λ (n : ℕ). All (OnBranch Good) (chunks_swept n f.chunks)) z (filled_branches Good (text_at os i) made 0 cs f.chunks (made_words os (i, o)) f.are f.filled h.branches (right i o cs there h));
+      branches = subst (λ (n : ℕ). All (OnBranch Good) (chunks_swept n f.chunks)) z (filled_branches Good (text_at os i) made 0 cs f.chunks (made_words os (i, o)) f.are f.filled h.branches (right i o cs there h more));
     }
 
 pub record FromObject (Good : ℕ → Type 0) (os : List ObjectParts) (i : ℕ) (rest : List ObjectParts) : Type 0 where
@@ -243,9 +243,9 @@ two_parts Good os i o q rest there one more =
           let z : length (chunks_text first) + (text_at rest k + s.value) ≡ text_at (o ∷ rest) (suc k) + s.value = omega (arith, len, sum) in
           subst (IsEdge (first ++ behind)) z (edge_right first behind (text_at rest k + s.value) (there k p e s c t))
 
-pub from_object : (Good : ℕ → Type 0) (os : List ObjectParts) (i : ℕ) (rest : List ObjectParts) → AreFrom os i rest → ArePadded rest → ObjectsRight Good os → FromObject Good os i rest
+pub from_object : (More : List Chunk → Type 0) (Good : ℕ → Type 0) (os : List ObjectParts) (i : ℕ) (rest : List ObjectParts) → AreFrom os i rest → ArePadded More rest → ObjectsRight More Good os → FromObject Good os i rest
 unfolding text_end chunk_sites chunks_swept
-from_object Good os i [] from h right = record {
+from_object More Good os i [] from h right = record {
   chunks = [];
   are = tt;
   text = refl;
@@ -254,8 +254,8 @@ from_object Good os i [] from h right = record {
   edges = λ k o e. absurd cc;
   branches = All-nil (OnBranch Good);
 }
-from_object Good os i (o ∷ []) from h right =
-    let one = one_object Good os i o h.0.0 (from_first os i o [] from) h.0.1 right in
+from_object More Good os i (o ∷ []) from h right =
+    let one = one_object More Good os i o h.0.0 (from_first os i o [] from) h.0.1 h.0.2 right in
     let p = patched (bases os) (globals os) (i, o) true in
     let len : length p ≡ text_size o = ap length one.text ∙ one.size in
     record {
@@ -273,7 +273,7 @@ from_object Good os i (o ∷ []) from h right =
           let z : s.value ≡ 0 + s.value = omega arith in
           subst (IsEdge chunks) z (edges s (subst (λ (q : ObjectParts). Contains q.symbols s) (sym same) c) t)
       only o chunks edges (suc k) p e s c t = absurd cc
-from_object Good os i (o ∷ q ∷ rest) from h right =
-    let one = one_object Good os i o h.0.0 (from_first os i o (q ∷ rest) from) h.0.1 right in
-    let more = from_object Good os (i + 1) (q ∷ rest) (from_next os i o (q ∷ rest) from) h.1 right in
+from_object More Good os i (o ∷ q ∷ rest) from h right =
+    let one = one_object More Good os i o h.0.0 (from_first os i o (q ∷ rest) from) h.0.1 h.0.2 right in
+    let more = from_object More Good os (i + 1) (q ∷ rest) (from_next os i o (q ∷ rest) from) h.1 right in
     two_parts Good os i o q rest (from_first os i o (q ∷ rest) from) one more

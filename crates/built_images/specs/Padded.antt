@@ -1,7 +1,6 @@
 -- Objects whose texts are padded instructions, with relocations in their fields and labels between them.
 use Rattle.std.specs.Prelude.{◌≡◌, ℕ, ◌+◌, ◌<◌, true, List, [], ◌∷◌, ◌++◌, length, filter, All, Ok}
 use Rattle.std.specs.List.{AllByRecursion, Contains}
-use Rattle.guest_ram.specs.Bytes.{word32}
 use Rattle.ia32_rows.specs.Fields.{imm_len}
 use Rattle.elf_form.specs.declared.object.Place.TheVariants.{Text}
 use Rattle.elf_form.specs.declared.object.Symbol.{Symbol}
@@ -46,9 +45,17 @@ pub record IsPadded (o : ObjectParts) (cs : List Chunk) : Type 0 where
   pub labels : (s : Symbol) → Contains o.symbols s → s.place ≡ Text → IsEdge cs s.value
   pub named : All (λ (r : Reloc). r.symbol < length o.symbols) o.relocs
 
-abbrev pub ArePadded : List ObjectParts → Type 0
-ArePadded os = AllByRecursion (λ (o : ObjectParts). (cs : List Chunk) × IsPadded o cs) os
+-- A direct branch whose field holds -4 names a symbol with no number beside it.
+abbrev pub IsAlone : Chunk → Type 0
+IsAlone (Alone c) = is_branch (insn_in c).op ≡ true → c.parts.imm ≡ 4294967292
+IsAlone Pair = Unit {0}
 
--- No branch names a symbol with a number beside it: each distance that relocations fill is 4 less than that to the symbol.
-abbrev pub NamesAlone : List ObjectParts → Type 0
-NamesAlone os = AllByRecursion (λ (o : ObjectParts). (r : Reloc) → Contains o.relocs r → r.in_text ≡ true → r.relative ≡ true → word32 o.text r.at ≡ 4294967292) os
+abbrev pub AreAlone : List Chunk → Type 0
+AreAlone cs = AllByRecursion IsAlone cs
+
+abbrev pub AnyChunks : List Chunk → Type 0
+AnyChunks cs = Unit {0}
+
+-- Objects that are padded, with chunks of which something more holds.
+abbrev pub ArePadded : (List Chunk → Type 0) → List ObjectParts → Type 0
+ArePadded More os = AllByRecursion (λ (o : ObjectParts). (cs : List Chunk) × IsPadded o cs × More cs) os
