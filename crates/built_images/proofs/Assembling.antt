@@ -53,10 +53,11 @@ use Rattle.asm_instruction.specs.Field.{field}
 use Rattle.asm_instruction.specs.Register.{long_registers, word_registers, byte_registers, segment_registers, control_registers}
 use Rattle.asm_instruction.specs.Refused.{refused_names}
 use Rattle.asm_instruction.specs.Draft.{instruction}
-use Rattle.asm_instruction.specs.Control.{to_symbol, is_symbol}
+use Rattle.asm_instruction.specs.Control.{distance, to_symbol, is_symbol}
 use Rattle.asm_instruction.specs.Mnemonic.{known_name, drafted}
 use Rattle.asm_instruction.specs.Assembled.{named_field, widths, whole, with_spelling, spelled, drafted_of, by_draft, by_mnemonic, by_name, assembled, spelling_bytes}
 use Rattle.image_check.specs.Pieces.{is_branch}
+use Rattle.afterburner.specs.Arguments.{number_in as constant_in}
 use Rattle.built_images.specs.Fields.{imm_size, disp_place, imm_place}
 use Rattle.built_images.proofs.Drafts.{IsBranch, meant_sound}
 
@@ -125,6 +126,7 @@ pub record IsKnown (wide : Wide) (insn : Insn) (s : ArrayBytes) : Type 0 where
   pub listed : Contains rows row
   pub parts : Parts
   pub op : row.op ≡ insn.op
+  pub number : parts.imm ≡ insn.imm
   pub read : parts_at row.form (take s.len s.bytes) ≡ Ok (parts, [])
   pub len : length (take s.len s.bytes) ≡ s.len
   pub disp_len : wide.disp ≡ true → parts.disp_len ≡ 4
@@ -136,6 +138,10 @@ pub record IsKnown (wide : Wide) (insn : Insn) (s : ArrayBytes) : Type 0 where
 row_op : (row : Row) (p : Parts) → (insn_of row p).op ≡ row.op
 unfolding insn_of
 row_op row p = refl
+
+parts_imm : (row : Row) (wide : Bool) (insn : Insn) → (parts_for row wide insn).imm ≡ insn.imm
+unfolding parts_for
+parts_imm row wide insn = refl
 
 at_disp : (len head : ℕ) → len ≡ 4 → cond (len == 0) 0 (head - len) ≡ head - 4
 at_disp len head e = ap (λ n. cond (n == 0) 0 (head - n)) e
@@ -164,6 +170,7 @@ known wide insn s e =
       listed = l.listed;
       parts = p;
       op = sym (row_op row p) ∙ same_ops (insn_of row p) insn b.0;
+      number = parts_imm row wide.disp insn;
       read = ap (parts_at row.form) (text ∙ sym (append-nil bytes)) ∙ form_back wide.disp row.form p b.1 (parts_len row wide.disp insn) [];
       len = taken ∙ sym len;
       disp_len = λ t. width_of wide.disp p.disp_len w.0 t;
@@ -301,18 +308,19 @@ not_memory o m e h = subst NotMemory e h
 abbrev some_given : Given → Option Given
 some_given g = Some g
 
-addressed : (b i : Option (Option Reg)) (scale : ℕ) (n : Number) (m : Memory) → (b >>= λ x. i >>= λ y. Some (address x y scale n)) ≡ some_given (given.Memory m) → n ≡ m.displacement
+addressed : (b i : Option (Option Reg)) (scale : ℕ) (n : Number) (m : Memory) → (b >>= λ x. i >>= λ y. Some (address x y scale n)) ≡ some_given (given.Memory m) → (n ≡ m.displacement) × (m.address.disp ≡ field size.Long n.value)
 addressed None i scale n m e = absurd cc
 addressed (Some x) None scale n m e = absurd cc
-addressed (Some x) (Some y) scale n m e = let same : record { address = record { base = x; index = y; scale = scale; disp = field size.Long n.value }; displacement = n } ≡ m = cc in ap (λ (k : Memory). k.displacement) same
+addressed (Some x) (Some y) scale n m e = let same : record { address = record { base = x; index = y; scale = scale; disp = field size.Long n.value }; displacement = n } ≡ m = cc in (ap (λ (k : Memory). k.displacement) same, sym (ap (λ (k : Memory). k.address.disp) same))
 
 pub record IsNamed (f : ArgumentForm) (m : Memory) : Type 0 where
   pub argument : m.displacement.argument ≡ 0
   pub named : m.displacement.named ≡ is_some (symbol_in f)
+  pub disp : m.address.disp ≡ field size.Long (constant_in f)
 
-named_value : (v : Option Value) (b i : Option (List ℕ)) (scale : ℕ) (m : Memory) → displacement v 0 ≡ m.displacement → IsNamed (form.Memory v b i scale) m
-named_value (Some v) b i scale m e = record { argument = sym (ap (λ (n : Number). n.argument) e); named = sym (ap (λ (n : Number). n.named) e) }
-named_value None b i scale m e = record { argument = sym (ap (λ (n : Number). n.argument) e); named = sym (ap (λ (n : Number). n.named) e) }
+named_value : (v : Option Value) (b i : Option (List ℕ)) (scale : ℕ) (m : Memory) → displacement v 0 ≡ m.displacement → m.address.disp ≡ field size.Long (displacement v 0).value → IsNamed (form.Memory v b i scale) m
+named_value (Some v) b i scale m e d = record { argument = sym (ap (λ (n : Number). n.argument) e); named = sym (ap (λ (n : Number). n.named) e); disp = d }
+named_value None b i scale m e d = record { argument = sym (ap (λ (n : Number). n.argument) e); named = sym (ap (λ (n : Number). n.named) e); disp = d }
 
 given_named : (f : ArgumentForm) (m : Memory) → given_by f 0 ≡ Some (given.Memory m) → IsNamed f m
 unfolding given_by memory_operand
@@ -321,7 +329,7 @@ given_named (form.Immediate v) m e = absurd cc
 given_named (form.Memory v base index scale) m e = by_port (is_none v && is_dx base && is_none index) e where
   by_port : (b : Bool) → cond b (some_given given.Port) (address_register base >>= λ x. address_register index >>= λ y. Some (address x y scale (displacement v 0))) ≡ Some (given.Memory m) → IsNamed (form.Memory v base index scale) m
   by_port true e = absurd cc
-  by_port false e = named_value v base index scale m (addressed (address_register base) (address_register index) scale (displacement v 0) m e)
+  by_port false e = let h = addressed (address_register base) (address_register index) scale (displacement v 0) m e in named_value v base index scale m h.0 h.1
 given_named _ m e = absurd cc
 
 abbrev one_given : Given → Operands
@@ -336,6 +344,7 @@ pub record OneNamed (args : List Argument) (m : Memory) : Type 0 where
   pub argument : Argument
   pub there : slice_get args m.displacement.argument ≡ Some argument
   pub named : m.displacement.named ≡ is_some (symbol_in argument.form)
+  pub disp : m.address.disp ≡ field size.Long (constant_in argument.form)
 
 two_not_one : (x y : Option Given) (m : Memory) → (x >>= λ a. y >>= λ b. Some (operands.Two a b)) ≡ Some (one_given (given.Memory m)) → ⊥
 two_not_one None y m e = cc
@@ -353,10 +362,14 @@ unfolding operands_of single unstarred
 one_named [] m e = absurd cc
 one_named (a ∷ []) m e =
     let h = given_named a.form m (star_given a.star (given_by a.form 0) m e) in
-    record { argument = a; there = ap (slice_get (a ∷ [])) h.argument; named = h.named }
+    record { argument = a; there = ap (slice_get (a ∷ [])) h.argument; named = h.named; disp = h.disp }
 one_named (a ∷ b ∷ []) m e = absurd (two_not_one (unstarred a 0) (unstarred b 1) m e)
 one_named (a ∷ b ∷ c ∷ []) m e = absurd (three_not_one (unstarred a 0) (unstarred b 1) (unstarred c 2) m e)
 one_named (a ∷ b ∷ c ∷ d ∷ args) m e = absurd cc
+
+-- the constant of a branch, in 32 bits
+abbrev pub field_of : Argument → ℕ
+field_of a = field size.Long (constant_in a.form)
 
 -- The one field of a branch, its last four bytes, names a symbol and means the distance.
 pub record BranchField (args : List Argument) (a : Assembled) : Type 0 where
@@ -369,6 +382,7 @@ pub record BranchField (args : List Argument) (a : Assembled) : Type 0 where
   pub name : List ℕ
   pub named : symbol_in argument.form ≡ Some name
   pub end : field.at + 4 ≡ a.spelling.len
+  pub constant : a.insn.imm ≡ distance (field_of argument)
 
 -- An instruction by its row, with its fields where the row has them.
 pub record IsFielded (args : List Argument) (a : Assembled) : Type 0 where
@@ -376,6 +390,7 @@ pub record IsFielded (args : List Argument) (a : Assembled) : Type 0 where
   pub listed : Contains rows row
   pub parts : Parts
   pub op : row.op ≡ a.insn.op
+  pub number : parts.imm ≡ a.insn.imm
   pub read : parts_at row.form (spelling_bytes a) ≡ Ok (parts, [])
   pub len : length (spelling_bytes a) ≡ a.spelling.len
   pub disp : (f : Named) → a.disp ≡ Some f → (parts.disp_len ≡ 4) × (f.at ≡ disp_place row (spelling_bytes a))
@@ -396,6 +411,10 @@ symbol_disp o c m = refl
 symbol_imm : (o : Op) (c : ℕ) (m : Memory) → (to_symbol o c m).imm ≡ Some m.displacement.argument
 unfolding to_symbol instruction
 symbol_imm o c m = refl
+
+symbol_number : (o : Op) (c : ℕ) (m : Memory) → (to_symbol o c m).insn.imm ≡ distance m.address.disp
+unfolding to_symbol instruction
+symbol_number o c m = refl
 
 symbol_relative : (o : Op) (c : ℕ) (m : Memory) → (to_symbol o c m).relative ≡ true
 unfolding to_symbol instruction
@@ -443,6 +462,7 @@ branch_field d args s os given b k branch =
     let size = branch_row k.row k.listed (ap is_branch k.op ∙ branch) (k.imm_long wide) in
     let room = k.imm_room wide in
     let spelling = ap (λ (x : ArrayBytes). x.len) (whole_spelling d args s).0 in
+    let number : (whole_of d args s).insn.imm ≡ distance (field_of one.argument) = ap (λ (i : Insn). i.imm) (whole_spelling d args s).1 ∙ ap (λ (x : Draft). x.insn.imm) b.is ∙ symbol_number b.name b.condition m ∙ ap distance one.disp in
     record {
       no_disp = whole_disp d args s ∙ no_field (widths d args).disp s.disp_at false d.disp no_disp;
       field = record { at = s.imm_at; argument = m.displacement.argument; relative = d.relative };
@@ -453,6 +473,7 @@ branch_field d args s os given b k branch =
       name = name.0;
       named = name.1;
       end = omega (arith, size, room, spelling);
+      constant = number;
     }
 
 fielded : (d : Draft) (args : List Argument) (s : ArrayBytes) → IsKnown (widths d args) d.insn s → (is_branch d.insn.op ≡ true → BranchField args (whole_of d args s)) → IsFielded args (whole_of d args s)
@@ -462,6 +483,7 @@ fielded d args s k branch = record {
   listed = k.listed;
   parts = k.parts;
   op = k.op;
+  number = k.number;
   read = k.read;
   len = k.len;
   disp = λ f e. let n = named_is (widths d args).disp d.disp s.disp_at false f e in (k.disp_len n.0, n.1 ∙ k.disp_at n.0);
