@@ -14,7 +14,7 @@ use Rattle.image_check.specs.Pieces.{is_branch, target_of}
 use Rattle.built_images.specs.Joined.{nop, sti, hlt, jump_to_itself, nops_at}
 use Rattle.built_images.specs.Chunks.{Coded, insn_in, IsCoded, Chunk, Alone, Pair, IsChunk, AreChunks, nops_behind, padding, chunk_text, chunks_text, site_by, chunk_site, chunk_sites, chunk_swept, chunks_swept, Begins}
 use Rattle.built_images.specs.Filled.{HasFields, HaveFields, chunk_relocs, chunks_relocs}
-use Rattle.built_images.specs.Padded.{IsEdge, IsLinkedBranch}
+use Rattle.built_images.specs.Padded.{IsEdge, IsLinkedBranch, IsAlone}
 use Rattle.built_images.proofs.SweepJoins.{nop_spelled, jump_spelled}
 use Rattle.built_images.proofs.Entrances.{text_append, text_length, sites_append, swept_append}
 use Rattle.built_images.proofs.BuiltImages.{chunks_join}
@@ -180,3 +180,8 @@ pub nop_chunks_linked : (n : ℕ) → AllByRecursion IsLinkedBranch (nop_chunks 
 unfolding nop_chunks
 nop_chunks_linked zero = tt
 nop_chunks_linked (suc n) = (λ b. absurd (nop_false (insn_in nop_coded) nop_insn b), nop_chunks_linked n)
+
+pub nop_chunks_alone : (n : ℕ) → AllByRecursion IsAlone (nop_chunks n)
+unfolding nop_chunks
+nop_chunks_alone zero = tt
+nop_chunks_alone (suc n) = (λ b. absurd (nop_false (insn_in nop_coded) nop_insn b), nop_chunks_alone n)

@@ -2,4 +2,4 @@ use Rattle.built_images.proofs.BurntObjects.{burnt_padded}
 use Rattle.built_images.proofs.burnt.burning.Goals as goal
 
 pub returns : goal.returns
-returns c = ?
+returns c = burnt_padded
