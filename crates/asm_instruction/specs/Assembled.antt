@@ -1,8 +1,13 @@
 -- The instruction that a statement is, in its chosen spelling.
-use Rattle.std.specs.Prelude.{◌≡◌, ℕ, ◌+◌, ◌≤◌, Bool, false, List, take, Option, Some, None, IsSome, is_some, Result, Ok, Err, slice_get, if◌then◌else◌}
+use Rattle.std.specs.Prelude.{◌≡◌, ℕ, ℤ, pos, ◌+◌, ◌≤◌, Bool, true, false, List, take, Option, Some, None, IsSome, is_some, Result, Ok, Err, slice_get, if◌then◌else◌}
+use Rattle.ia32_types.specs.declared.insn.Op.{Op}
+use Rattle.ia32_types.specs.declared.insn.Op.TheVariants as op
+use Rattle.ia32_types.specs.declared.size.Size.TheVariants as size
 use Rattle.ia32_encode.specs.declared.bytes.ArrayBytes.{ArrayBytes}
 use Rattle.ia32_encode.specs.declared.choose.Wide.{Wide}
 use Rattle.ia32_encode.specs.Chosen.{SpellsWide, IsReadBack, chosen}
+use Rattle.asm_parse.specs.declared.tree.Form.{Form}
+use Rattle.asm_parse.specs.declared.tree.Form.TheVariants as form
 use Rattle.asm_parse.specs.declared.tree.Argument.{Argument}
 use Rattle.asm_parse.specs.Statements.{symbol_in}
 use Rattle.asm_instruction.specs.declared.draft.Draft.{Draft}
@@ -11,6 +16,8 @@ use Rattle.asm_instruction.specs.declared.assembled.Assembled.{Assembled}
 use Rattle.asm_instruction.specs.declared.assembled.Named.{Named}
 use Rattle.asm_instruction.specs.declared.assembled.Refusal.{Refusal}
 use Rattle.asm_instruction.specs.declared.assembled.Refusal.TheVariants as refusal
+use Rattle.asm_instruction.specs.Field.{field}
+use Rattle.asm_instruction.specs.Control.{distance}
 use Rattle.asm_instruction.specs.Names.{found, ◌>>=◌}
 use Rattle.asm_instruction.specs.Argument.{operands_of, names_symbol}
 use Rattle.asm_instruction.specs.Mnemonic.{known_name, drafted}
@@ -106,3 +113,36 @@ pub record IsRight (args : List Argument) (a : Assembled) : Type 0 where
   pub short : IsShort a
   pub fields : HasFields args a
   pub order : AreInOrder a
+
+-- ---- direct branches
+
+abbrev pub is_direct : Op → Bool
+is_direct op.Jmp = true
+is_direct op.Call = true
+is_direct op.Jcc = true
+is_direct _ = false
+
+-- the number in a value, which is 0 where none is written
+abbrev pub constant_of : Form → ℤ
+constant_of (form.Immediate v) = v.number
+constant_of (form.Memory (Some v) base index scale) = v.number
+constant_of _ = pos 0
+
+abbrev pub argument_constant : Option Argument → ℤ
+argument_constant None = pos 0
+argument_constant (Some a) = constant_of a.form
+
+abbrev pub constant_in : List Argument → ℕ → ℤ
+constant_in args k = argument_constant (slice_get args k)
+
+-- the field is the distance to the symbol of its argument and the constant there
+pub record IsDistance (args : List Argument) (a : Assembled) : Type 0 where
+  pub field_there : Named
+  pub is : a.imm ≡ Some field_there
+  pub relative : field_there.relative ≡ true
+  pub constant : a.insn.imm ≡ distance (field size.Long (constant_in args field_there.argument))
+
+-- no field of an instruction is a distance but that of a direct branch
+pub record IsBranchRight (args : List Argument) (a : Assembled) : Type 0 where
+  pub direct : is_direct a.insn.op ≡ true → IsDistance args a
+  pub only : (f : Named) → a.imm ≡ Some f → f.relative ≡ true → is_direct a.insn.op ≡ true

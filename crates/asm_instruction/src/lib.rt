@@ -11,6 +11,7 @@ mod control;
 mod draft;
 mod field;
 mod flags;
+mod laws;
 mod mnemonic;
 mod moves;
 mod refused;
@@ -23,6 +24,7 @@ mod system;
 
 pub use assembled::{Assembled, Named, Refusal};
 pub use assembling::assemble;
+pub use laws::answers;
 
 #[cfg(test)]
 mod tests;

@@ -64,11 +64,11 @@ number_below reg.Ebp = omega arith
 number_below reg.Esi = omega arith
 number_below reg.Edi = omega arith
 
-base_below : (base : Option Reg) → base_number base < 8
+pub base_below : (base : Option Reg) → base_number base < 8
 base_below None = omega arith
 base_below (Some r) = number_below r
 
-index_below : (index : Option Reg) → index_number index < 8
+pub index_below : (index : Option Reg) → index_number index < 8
 index_below None = omega arith
 index_below (Some r) = number_below r
 

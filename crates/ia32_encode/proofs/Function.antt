@@ -187,10 +187,10 @@ insns_same i j h =
 
 -- ---- the first row that suits
 
-suits_true : (row : Row) (wide : Wide) (insn : Insn) → Suits row wide insn → does_suit row wide insn ≡ true
+pub suits_true : (row : Row) (wide : Wide) (insn : Insn) → Suits row wide insn → does_suit row wide insn ≡ true
 suits_true row wide insn s = both_true (both_true (ap (λ i. same_insn i insn) s.means ∙ insn_itself insn) s.fits) s.widths
 
-true_suits : (row : Row) (wide : Wide) (insn : Insn) → does_suit row wide insn ≡ true → Suits row wide insn
+pub true_suits : (row : Row) (wide : Wide) (insn : Insn) → does_suit row wide insn ≡ true → Suits row wide insn
 true_suits row wide insn h =
     let p = parts_for row wide.disp insn in
     let w = both (same_insn (insn_of row p) insn && form_fits row.form p) (widths_fit wide p.disp_len (imm_len row.form.immediate)) h in

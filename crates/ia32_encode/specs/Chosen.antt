@@ -1,7 +1,9 @@
 -- The chosen spelling of an instruction, and where there is none.
-use Rattle.std.specs.Prelude.{◌≡◌, ℕ, ◌+◌, ◌<◌, ◌≤◌, ◌==◌, ◌||◌, ◌&&◌, not, Bool, true, List, [], ◌∷◌, ◌++◌, slice_index_or, IsTrue, Option, Some, None, if◌then◌else◌}
+use Rattle.std.specs.Prelude.{◌≡◌, ℕ, ◌+◌, ◌^◌, ◌<◌, ◌≤◌, ◌==◌, ◌||◌, ◌&&◌, not, Bool, true, List, [], ◌∷◌, ◌++◌, slice_index_or, take, IsTrue, Option, Some, None, if◌then◌else◌}
 use Rattle.std.specs.List.{Contains}
 use Rattle.ia32_types.specs.declared.insn.Insn.{Insn}
+use Rattle.ia32_types.specs.declared.insn.Operand.{Operand}
+use Rattle.ia32_types.specs.declared.insn.Operand.TheVariants as operand
 use Rattle.ia32_rows.specs.declared.row.Row.{Row}
 use Rattle.ia32_rows.specs.declared.row.Parts.{Parts}
 use Rattle.ia32_rows.specs.Fields.{imm_len}
@@ -74,3 +76,26 @@ pub record IsPlaced (wide : Wide) (a : ArrayBytes) : Type 0 where
   pub disp : IsTrue wide.disp → a.disp_at + 4 ≤ a.len
   pub imm : IsTrue wide.imm → a.imm_at + 4 ≤ a.len
   pub order : IsTrue wide.disp → IsTrue wide.imm → a.disp_at + 4 ≤ a.imm_at
+
+-- ---- the numbers of an instruction
+
+abbrev pub IsOperandBounded : Operand → Type 0
+IsOperandBounded (operand.Memory a) = a.disp < 2 ^ 32
+IsOperandBounded _ = Unit {0}
+
+-- displacements and the immediate have 32 bits, the selector 16
+pub record IsBounded (i : Insn) : Type 0 where
+  pub a : IsOperandBounded i.a
+  pub b : IsOperandBounded i.b
+  pub imm : i.imm < 2 ^ 32
+  pub sel : i.sel < 2 ^ 16
+
+abbrev pub chosen_bytes : ArrayBytes → List ℕ
+chosen_bytes a = take a.len a.bytes
+
+-- what is known of the chosen spelling of such an instruction
+pub record IsGood (wide : Wide) (insn : Insn) (a : ArrayBytes) : Type 0 where
+  pub chosen : IsChosen wide insn a
+  pub spells : SpellsWide wide (chosen_bytes a) insn
+  pub read_back : IsReadBack (chosen_bytes a) insn a.len
+  pub placed : IsPlaced wide a

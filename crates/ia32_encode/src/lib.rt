@@ -3,11 +3,13 @@
 
 mod bytes;
 mod choose;
+mod laws;
 mod parts;
 mod text;
 
 pub use bytes::ArrayBytes;
 pub use choose::{NoForm, Wide, encode};
+pub use laws::choices;
 
 #[cfg(test)]
 mod tests;
