@@ -15,3 +15,4 @@ pub mod Sources
 pub mod Keyed
 pub mod Costs
 pub mod Sizes
+pub mod Readability

@@ -188,7 +188,7 @@ statement_pays {sc} (Statement.nameless {s} ss sk k h) = same_pays sc s ss
 
 -- ---- a source
 
-symbols-append : (ws vs : List Word) → symbols (ws ++ vs) ≡ symbols ws ++ symbols vs
+pub symbols-append : (ws vs : List Word) → symbols (ws ++ vs) ≡ symbols ws ++ symbols vs
 symbols-append [] vs = refl
 symbols-append (w ∷ ws) vs = ap (λ (x : List Symbol). symbol_of w.kind w.bytes ∷ x) (symbols-append ws vs)
 
