@@ -16,3 +16,4 @@ pub mod Drafts
 pub mod Assembling
 pub mod BurntTexts
 pub mod BurntObjects
+pub mod BurntImages

@@ -19,6 +19,7 @@ use Rattle.sites.specs.declared.site.Site.{Site}
 use Rattle.sites.specs.Spelling.{spelling, AreInForm}
 use Rattle.sites.specs.Reading.{sites_in}
 use Rattle.sites.proofs.Inverse.{spelled_read}
+use Rattle.elf_link.proofs.SiteLaws.{length-spelling}
 use Rattle.elf_link.specs.declared.base.Base.{Base}
 use Rattle.elf_link.specs.declared.target.Target.{Target}
 use Rattle.elf_link.specs.declared.fault.LinkCause.{LinkCause}
@@ -348,6 +349,16 @@ module _ (More : List Chunk → Type 0) (Good : ℕ → Type 0) (os : List Objec
   unfolding image_chunks
   ends_so = refl
 
+  pub sites_size : length (image os).sites ≤ 33554440
+  unfolding image
+  sites_size =
+      let limit = (all_within os w).text in
+      let len = text_length_is in
+      let few = sites_few 0 image_chunks chunks_are in
+      let count = ap (λ (ss : List Site). length ss) sites_are_so in
+      let bytes = length-spelling (linked_sites os) in
+      omega (arith, limit, len, few, count, bytes)
+
   pub image_built : IsBuilt (image os) image_chunks
   unfolding image
   image_built =
@@ -371,6 +382,12 @@ module _ (More : List Chunk → Type 0) (Good : ℕ → Type 0) (os : List Objec
         entry_in = entry.0;
         entry = entry.1;
       }
+pub linked_sites_size : (os : List ObjectParts) (parts : ImageParts) → ArePadded AnyChunks os → linked_image os ≡ Ok parts → length parts.sites ≤ 33554440
+linked_sites_size os parts padded e =
+    let h = is_linked os parts e in
+    let right = λ (i : ℕ) (o : ObjectParts) (cs : List Chunk) (there : slice_get os i ≡ Some o) (p : IsPadded o cs) (more : AnyChunks cs). anywhere_right (relocated (bases os) (globals os) (i, o)) (text_at os i) 0 cs in
+    subst (λ (p : ImageParts). length p.sites ≤ 33554440) h.1 (sites_size AnyChunks Anywhere os padded h.0 right)
+
 pub linked_built : (os : List ObjectParts) (parts : ImageParts) → ArePadded AnyChunks os → linked_image os ≡ Ok parts → (cs : List Chunk) × IsBuilt parts cs
 linked_built os parts padded e =
     let h = is_linked os parts e in

@@ -1,5 +1,5 @@
 -- Objects that are burnt from sources.
-use Rattle.std.specs.Prelude.{◌≡◌, ℕ, pos, true, List, Ok}
+use Rattle.std.specs.Prelude.{◌≡◌, ◌⊎◌, ℕ, pos, true, List, Ok, Err}
 use Rattle.std.specs.List.{AllByRecursion}
 use Rattle.ia32_rows.specs.Spells.{AreBytes}
 use Rattle.asm_parse.specs.declared.tree.Argument.{Argument}
@@ -12,7 +12,12 @@ use Rattle.asm_instruction.specs.declared.assembled.Assembled.{Assembled}
 use Rattle.asm_instruction.specs.Assembled.{assembled}
 use Rattle.afterburner.specs.Arguments.{number_in}
 use Rattle.afterburner.specs.Burnt.{burnt}
+use Rattle.image_check.specs.declared.fault.CheckCause.TheVariants.{Target}
+use Rattle.image_check.specs.Image.{Image}
+use Rattle.image_check.specs.Refusals.{Wrong}
 use Rattle.image_check.specs.Pieces.{is_branch}
+use Rattle.image_check.specs.Checking.{image_of}
+use Rattle.image_check.specs.Accepts.{Accepts}
 
 -- The object is what the items of a source make, and one that is linked; its text is a list of bytes.
 pub record IsBurnt (o : ObjectParts) : Type 0 where
@@ -36,3 +41,7 @@ NameNoNumbers items = AllByRecursion (λ (i : SourceItem). NamesNoNumber i.body)
 -- Objects of sources in which no direct branch names a symbol plus or minus a number.
 abbrev pub AreBurntAlone : List ObjectParts → Type 0
 AreBurntAlone os = AllByRecursion (λ (o : ObjectParts). (b : IsBurnt o) × NameNoNumbers b.items) os
+
+-- The file is an accepted image, or what is wrong with its image is first the target of a branch.
+abbrev pub IsAcceptedOrForTarget : List ℕ → Type 0
+IsAcceptedOrForTarget file = ((image : Image) × Accepts file image) ⊎ ((at : ℕ) × (image_of file ≡ Err (Wrong at Target)))

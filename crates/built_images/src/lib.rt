@@ -1,6 +1,7 @@
 //! Laws of what burning and linking make: texts of instructions that were padded, joined and relocated.
 #![tactic(auto)]
 
+mod accepted;
 mod built;
 mod burnt;
 mod chunked;
@@ -9,6 +10,7 @@ mod joined;
 mod linked;
 mod relocated;
 
+pub use accepted::burnt_and_linked;
 pub use built::acceptance;
 pub use burnt::burning;
 pub use chunked::padded;
