@@ -1,6 +1,6 @@
 -- What is known of an instruction that is assembled: its row, where its fields stand, and which of them a branch has.
-use Rattle.std.proofs.Common.{◌≡◌, ℕ, zero, suc, ◌+◌, ◌-◌, ◌<◌, ◌≤◌, Bool, true, false, not, cond, ◌&&◌, ◌||◌, List, [], ◌∷◌, ◌++◌, length, take, Option, Some, None, Result, Ok, Err, refl, sym, ap, subst, ◌∙◌, arith, inl, inr, ◌⊎◌}
-use Rattle.std.specs.Prelude.{slice_get, slice_index_or, replicate, ◌==◌, is_some, is_none}
+use Rattle.std.proofs.Common.{◌≡◌, ℕ, suc, ◌+◌, ◌-◌, Bool, true, false, not, cond, ◌&&◌, ◌||◌, List, [], ◌∷◌, length, take, Option, Some, None, Result, Ok, Err, refl, sym, ap, subst, ◌∙◌, arith, inl, inr}
+use Rattle.std.specs.Prelude.{slice_get, replicate, ◌==◌, is_some, is_none}
 use Rattle.std.specs.List.{list_all, Contains}
 use Rattle.std.proofs.lemmas.Bool.{eqb-true}
 use Rattle.std.proofs.lemmas.List.{append-nil, length-append, take_at}
@@ -11,7 +11,6 @@ use Rattle.ia32_types.specs.contracts.insn.Op.{the_type}
 use Rattle.ia32_types.specs.declared.insn.Op.{Op}
 use Rattle.ia32_types.specs.declared.insn.Insn.{Insn}
 use Rattle.ia32_rows.specs.declared.row.Row.{Row}
-use Rattle.ia32_rows.specs.declared.row.Form.{Form}
 use Rattle.ia32_rows.specs.declared.row.Parts.{Parts}
 use Rattle.ia32_rows.specs.declared.row.Immediate.{Immediate}
 use Rattle.ia32_rows.specs.declared.row.Immediate.TheVariants as immediate
@@ -22,7 +21,7 @@ use Rattle.ia32_encode.specs.declared.bytes.ArrayBytes.{ArrayBytes}
 use Rattle.ia32_encode.specs.declared.choose.Wide.{Wide}
 use Rattle.ia32_encode.specs.Parts.{parts_for, form_fits}
 use Rattle.ia32_encode.specs.Pushed.{laid_out}
-use Rattle.ia32_encode.specs.Text.{lead_bytes, addressing_bytes, immediate_bytes, head_bytes, form_bytes}
+use Rattle.ia32_encode.specs.Text.{immediate_bytes, head_bytes, form_bytes}
 use Rattle.ia32_encode.specs.Same.{same_op, same_size, same_operand, same_flag, same_insn}
 use Rattle.ia32_encode.specs.Chosen.{widths_fit, does_suit, chosen_from, chosen}
 use Rattle.ia32_encode.proofs.Back.{form_back}
@@ -45,7 +44,7 @@ use Rattle.asm_instruction.specs.declared.assembled.Named.{Named}
 use Rattle.asm_instruction.specs.declared.assembled.Refusal.{Refusal}
 use Rattle.asm_instruction.specs.declared.assembled.Refusal.TheVariants as refusal
 use Rattle.asm_instruction.specs.Names.{found, or_else, ◌>>=◌}
-use Rattle.asm_instruction.specs.Argument.{general_register, special_register, register, number_in, displacement, address_register, is_dx, address, memory_operand, given_by, starred, single, unstarred, operands_of, is_named, argument_named, names_symbol}
+use Rattle.asm_instruction.specs.Argument.{general_register, special_register, register, displacement, address_register, is_dx, address, memory_operand, given_by, starred, single, unstarred, operands_of, argument_named, names_symbol}
 use Rattle.ia32_types.specs.declared.register.Reg.{Reg}
 use Rattle.ia32_types.specs.Register.{number_of}
 use Rattle.ia32_types.specs.declared.size.Size.TheVariants as size
@@ -53,7 +52,7 @@ use Rattle.asm_instruction.specs.Field.{field}
 use Rattle.asm_instruction.specs.Register.{long_registers, word_registers, byte_registers, segment_registers, control_registers}
 use Rattle.asm_instruction.specs.Refused.{refused_names}
 use Rattle.asm_instruction.specs.Draft.{instruction}
-use Rattle.asm_instruction.specs.Control.{distance, to_symbol, is_symbol}
+use Rattle.asm_instruction.specs.Control.{distance, to_symbol}
 use Rattle.asm_instruction.specs.Mnemonic.{known_name, drafted}
 use Rattle.asm_instruction.specs.Assembled.{named_field, widths, whole, with_spelling, spelled, drafted_of, by_draft, by_mnemonic, by_name, assembled, spelling_bytes}
 use Rattle.image_check.specs.Pieces.{is_branch}
@@ -500,7 +499,7 @@ assembled_fielded rep name args a e =
     let k = known (widths h.draft args) h.draft.insn h.spelling h.chosen in
     let sound = meant_sound rep name h.mnemonic h.operands h.draft h.known h.drafted in
     subst (IsFielded args) (sym h.is) (fielded h.draft args h.spelling k (λ branch.
-        elim sound [
-          | inl quiet ↦ absurd (false_true (is_branch h.draft.insn.op) branch quiet)
-          | inr b ↦ branch_field h.draft args h.spelling h.operands h.given b k branch
-        ]))
+    elim sound [
+      | inl quiet ↦ absurd (false_true (is_branch h.draft.insn.op) branch quiet)
+      | inr b ↦ branch_field h.draft args h.spelling h.operands h.given b k branch
+    ]))

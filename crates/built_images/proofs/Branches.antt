@@ -1,24 +1,22 @@
 -- Where the branches of a text lead whose fields are filled.
-use Rattle.std.proofs.Common.{◌≡◌, ℕ, zero, suc, ◌+◌, ◌-◌, ◌<◌, ◌≤◌, ◌^◌, ◌%◌, Bool, true, false, List, [], ◌∷◌, ◌++◌, length, map, Option, Some, None, refl, sym, ap, subst, ◌∙◌, append_assoc, arith}
+use Rattle.std.proofs.Common.{◌≡◌, ℕ, ◌+◌, ◌-◌, ◌≤◌, ◌^◌, ◌%◌, true, List, [], ◌∷◌, ◌++◌, length, map, refl, sym, ap, subst, ◌∙◌, append_assoc, arith}
 use Rattle.std.specs.Prelude.{fold, replicate}
 use Rattle.std.specs.List.{All, AllByRecursion, Contains}
-use Rattle.std.proofs.lemmas.List.{append-nil, length-append}
-use Rattle.std.proofs.lemmas.List.Elements.{All-nil, All-append, Contains-append_left, Contains-append_right}
+use Rattle.std.proofs.lemmas.List.{length-append}
+use Rattle.std.proofs.lemmas.List.Elements.{All-nil, All-append, Contains-append_right}
 use Rattle.guest_ram.specs.Bytes.{word32, with_word32}
 use Rattle.guest_ram.proofs.Bytes.{word32-with_word32}
 use Rattle.ia32_rows.specs.declared.row.Row.{Row}
 use Rattle.ia32_rows.specs.Fields.{imm_len}
 use Rattle.ia32_rows.specs.Spelling.{insn_of}
 use Rattle.elf_form.specs.declared.object.Reloc.{Reloc}
-use Rattle.image_check.specs.Sweep.{Swept}
 use Rattle.image_check.specs.Pieces.{is_branch, target_of}
 use Rattle.built_images.specs.Fields.{imm_size, imm_place}
 use Rattle.built_images.specs.Chunks.{Coded, insn_in, IsCoded, Chunk, Alone, Pair, IsChunk, AreChunks, padding, chunk_text, chunks_text, chunk_swept, chunks_swept}
-use Rattle.built_images.specs.Filled.{HaveFields, reloc_later, chunk_relocs, chunks_relocs, fill_at, MakesWords, IsFilled, IsFilledChunk, AreFilled}
+use Rattle.built_images.specs.Filled.{reloc_later, chunk_relocs, chunks_relocs, fill_at, MakesWords, IsFilled, IsFilledChunk, AreFilled}
 use Rattle.built_images.specs.Padded.{IsLinked, IsLinkedBranch, IsAlone, AreAlone}
 use Rattle.built_images.proofs.FieldLaws.{imm_held}
 use Rattle.built_images.proofs.WordLaws.{read_among}
-use Rattle.built_images.proofs.Entrances.{alone_length}
 use Rattle.built_images.proofs.Filling.{filled_length}
 use Rattle.built_images.proofs.Joining.{OnBranch, alone_branch, pair_branch}
 
@@ -62,7 +60,7 @@ one_branch Good base made at c d words h f linked right b =
     let l = linked on in
     let v = made (reloc_later at l.reloc) (word32 c.bytes l.reloc.at) in
     let e : target_of (base + at) (length d.bytes) (insn_in d) ≡ ((base + at) + length c.bytes + v) % 2 ^ 32 =
-        ap (λ n. ((base + at) + n + (insn_in d).imm) % 2 ^ 32) f.len ∙ ap (λ n. ((base + at) + length c.bytes + n) % 2 ^ 32) (filled_imm made at c d l words h f) in
+    ap (λ n. ((base + at) + n + (insn_in d).imm) % 2 ^ 32) f.len ∙ ap (λ n. ((base + at) + length c.bytes + n) % 2 ^ 32) (filled_imm made at c d l words h f) in
     subst Good (sym e) (right on l)
 
 chunk_branch : (Good : ℕ → Type 0) (base : ℕ) (made : Reloc → ℕ → ℕ) (at : ℕ) (c d : Chunk) → MakesWords made → AreChunks (d ∷ []) → IsFilledChunk made at c d → IsLinkedBranch c → RightAt Good base made at c → All (OnBranch Good) (chunk_swept (base + at) d)
@@ -99,11 +97,11 @@ all_right Good base made pre (c ∷ cs) are alone h =
     let at : length (pre ++ chunk_text c) ≡ length pre + length (chunk_text c) = length-append pre (chunk_text c) in
     let same : (pre ++ chunk_text c) ++ chunks_text cs ≡ text = append_assoc pre (chunk_text c) (chunks_text cs) in
     let later = all_right Good base made (pre ++ chunk_text c) cs are.1 alone.1 (λ r there in_text relative room word.
-        let there' = subst (λ (n : ℕ). Contains (chunks_relocs n cs) r) at there in
-        let room' = subst (λ (bs : List ℕ). r.at + 4 ≤ length bs) same room in
-        let word' = subst (λ (bs : List ℕ). word32 bs r.at ≡ 4294967292) same word in
-        subst (λ (bs : List ℕ). Good ((base + r.at + 4 + made r (word32 bs r.at)) % 2 ^ 32)) (sym same)
-        (h r (Contains-append_right (chunk_relocs (length pre) c) (chunks_relocs (length pre + length (chunk_text c)) cs) r there') in_text relative room' word')) in
+    let there' = subst (λ (n : ℕ). Contains (chunks_relocs n cs) r) at there in
+    let room' = subst (λ (bs : List ℕ). r.at + 4 ≤ length bs) same room in
+    let word' = subst (λ (bs : List ℕ). word32 bs r.at ≡ 4294967292) same word in
+    subst (λ (bs : List ℕ). Good ((base + r.at + 4 + made r (word32 bs r.at)) % 2 ^ 32)) (sym same)
+    (h r (Contains-append_right (chunk_relocs (length pre) c) (chunks_relocs (length pre + length (chunk_text c)) cs) r there') in_text relative room' word')) in
     (first c are.0 alone.0 h, subst (λ (n : ℕ). AllRight Good base made n cs) at later) where
       first : (c : Chunk) → IsChunk c → IsAlone c → ((r : Reloc) → Contains (chunk_relocs (length pre) c ++ chunks_relocs (length pre + length (chunk_text c)) cs) r → r.in_text ≡ true → r.relative ≡ true → r.at + 4 ≤ length (pre ++ (chunk_text c ++ chunks_text cs)) → word32 (pre ++ (chunk_text c ++ chunks_text cs)) r.at ≡ 4294967292 → Good ((base + r.at + 4 + made r (word32 (pre ++ (chunk_text c ++ chunks_text cs)) r.at)) % 2 ^ 32)) → RightAt Good base made (length pre) c
       first Pair is one h = tt

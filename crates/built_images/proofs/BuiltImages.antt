@@ -1,9 +1,8 @@
 -- An image that is made of chunks passes all tests but that of targets, and that one where branches lead right.
-use Rattle.std.proofs.Common.{◌≡◌, ℕ, zero, suc, ◌+◌, ◌-◌, ◌<◌, ◌≤◌, Bool, true, false, not, cond, ◌&&◌, ◌||◌, List, [], ◌∷◌, ◌++◌, length, map, Option, Some, None, Result, Ok, Err, refl, sym, ap, subst, ◌∙◌, append_assoc, arith, inl, inr, ◌⊎◌}
-use Rattle.std.specs.Prelude.{◌==◌, max, nat_lt, replicate, slice_get, slice_index}
-use Rattle.std.specs.List.{flat_map, AllByRecursion, Contains}
+use Rattle.std.proofs.Common.{◌≡◌, ℕ, zero, suc, ◌+◌, ◌-◌, ◌<◌, ◌≤◌, true, false, not, ◌||◌, List, [], ◌∷◌, ◌++◌, length, map, Option, Some, None, Ok, Err, refl, sym, ap, subst, ◌∙◌, arith, inl, inr, ◌⊎◌}
+use Rattle.std.specs.Prelude.{◌==◌, nat_lt, replicate, slice_get, slice_index}
 use Rattle.std.proofs.lemmas.Bool.Decides.{nat_tests}
-use Rattle.std.proofs.lemmas.List.{append-nil, length-append, length-replicate, length-map, map-append}
+use Rattle.std.proofs.lemmas.List.{append-nil, length-append, map-append}
 use Rattle.ia32_types.specs.declared.insn.Insn.{Insn}
 use Rattle.ia32_types.specs.Site.{sensitive_kind}
 use Rattle.ia32_rows.specs.Spells.{AreBytes, Spells}
@@ -14,19 +13,17 @@ use Rattle.sites.specs.declared.site.Site.{Site}
 use Rattle.sites.specs.Reading.{sites_in}
 use Rattle.image_check.specs.declared.fault.CheckCause.TheVariants.{Target}
 use Rattle.image_check.specs.declared.piece.Piece.{Piece}
-use Rattle.image_check.specs.Image.{Image}
-use Rattle.image_check.specs.Refusals.{Refusal, Wrong, bad}
+use Rattle.image_check.specs.Refusals.{Wrong, bad}
 use Rattle.image_check.specs.Sweep.{Swept, Sweep, sweep}
-use Rattle.image_check.specs.Pieces.{is_branch, target_of, piece_of, pieces_of, pieces_in}
-use Rattle.image_check.specs.TextSites.{sites_of}
+use Rattle.image_check.specs.Pieces.{target_of, piece_of, pieces_of, pieces_in}
 use Rattle.image_check.specs.Targets.{is_entrance, wrong_target}
 use Rattle.image_check.specs.Conditions.{text_place, init_place, text_size, init_size, entry_place, at_of, last_at, ends_at, text_end, site_wrong, entry_at, entry_start}
 use Rattle.image_check.specs.Checking.{placed, annotated, entered, image_with, image_from}
-use Rattle.image_check.specs.Accepts.{IsEntrance, IsWithin, IsAccepted}
+use Rattle.image_check.specs.Accepts.{IsEntrance, IsWithin}
 use Rattle.image_check.proofs.SweepLaws.{sweep_exact}
 use Rattle.image_check.proofs.Acceptance.{sites_right, is_entrance_so, from_accepted}
 use Rattle.built_images.specs.Joined.{jump_to_itself, nops_at}
-use Rattle.built_images.specs.Chunks.{Coded, insn_in, IsCoded, Chunk, Alone, Pair, IsChunk, AreChunks, nops_behind, padding, chunk_text, chunks_text, chunk_sites, chunk_swept, chunks_swept, Begins}
+use Rattle.built_images.specs.Chunks.{Coded, insn_in, IsCoded, Chunk, Alone, Pair, IsChunk, AreChunks, nops_behind, padding, chunk_text, chunks_text, chunk_sites, chunks_swept, Begins}
 use Rattle.built_images.specs.Built.{IsBuilt, LeadsRight, IsAcceptedButForTargets}
 use Rattle.built_images.proofs.SweepJoins.{jump_spelled}
 use Rattle.built_images.proofs.ChunkSites.{coded_spelled, whole_sweep, whole_sites}

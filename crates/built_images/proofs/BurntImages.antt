@@ -1,5 +1,5 @@
 -- The file of an image that is linked of burnt objects.
-use Rattle.std.proofs.Common.{◌≡◌, ℕ, ◌+◌, ◌-◌, ◌<◌, ◌≤◌, ◌^◌, List, [], ◌∷◌, length, Result, Ok, Err, refl, sym, ap, subst, ◌∙◌, arith, inl, inr, ◌⊎◌}
+use Rattle.std.proofs.Common.{◌≡◌, ℕ, ◌+◌, ◌-◌, ◌<◌, ◌≤◌, List, [], ◌∷◌, length, Result, Ok, refl, sym, ap, subst, ◌∙◌, arith, inl, inr}
 use Rattle.ia32_rows.specs.Spells.{AreBytes}
 use Rattle.elf_form.specs.ObjectParts.{ObjectParts}
 use Rattle.elf_form.specs.ImageParts.{ImageParts}
@@ -10,16 +10,15 @@ use Rattle.elf_form.specs.Reading.{image_in}
 use Rattle.elf_form.proofs.RoundTrip.{read_again}
 use Rattle.elf_form.proofs.Acceptance.{read_as}
 use Rattle.elf_link.specs.Linked.{linked_image}
-use Rattle.image_check.specs.declared.fault.CheckCause.TheVariants.{Target}
 use Rattle.image_check.specs.Image.{Image}
-use Rattle.image_check.specs.Refusals.{Refusal, Wrong, ◌>>=◌}
+use Rattle.image_check.specs.Refusals.{◌>>=◌}
 use Rattle.image_check.specs.Checking.{as_form, image_with, image_from, image_of}
-use Rattle.image_check.specs.Accepts.{IsAccepted, Accepts}
+use Rattle.image_check.specs.Accepts.{Accepts}
 use Rattle.image_check.proofs.Acceptance.{accepted_from}
-use Rattle.built_images.specs.Chunks.{Chunk, chunks_text, chunk_sites}
-use Rattle.built_images.specs.Built.{IsBuilt, LeadsRight, IsAcceptedButForTargets}
-use Rattle.built_images.specs.Padded.{IsPadded, ArePadded, AreAlone, AnyChunks}
-use Rattle.built_images.specs.Sources.{IsBurnt, NameNoNumbers, AreBurnt, AreBurntAlone, IsAcceptedOrForTarget}
+use Rattle.built_images.specs.Chunks.{Chunk, chunk_sites}
+use Rattle.built_images.specs.Built.{IsBuilt, IsAcceptedButForTargets}
+use Rattle.built_images.specs.Padded.{ArePadded, AreAlone, AnyChunks}
+use Rattle.built_images.specs.Sources.{AreBurnt, AreBurntAlone, IsAcceptedOrForTarget}
 use Rattle.built_images.proofs.BuiltImages.{chunks_fit, begins_within, accepted_where, accepted_but}
 use Rattle.built_images.proofs.LinkedImages.{linked_sites_size, linked_built, linked_leads}
 use Rattle.built_images.proofs.BurntObjects.{burnt_padded}

@@ -1,13 +1,11 @@
 -- The object of a source is padded.
-use Rattle.std.proofs.Common.{◌≡◌, ℕ, zero, suc, ◌+◌, ◌-◌, ◌<◌, ◌≤◌, ◌^◌, Bool, true, false, not, cond, List, [], ◌∷◌, ◌++◌, length, map, Option, Some, None, Result, Ok, Err, refl, sym, ap, subst, ◌∙◌, append_assoc, arith, inl, inr, ◌⊎◌}
-use Rattle.std.specs.Prelude.{replicate, slice_set, slice_index_or, fold, filter, nat_lt}
-use Rattle.std.specs.List.{flat_map, All, AllByRecursion, Contains}
+use Rattle.std.proofs.Common.{◌≡◌, ℕ, zero, suc, ◌+◌, ◌≤◌, Bool, true, false, not, cond, List, [], ◌∷◌, ◌++◌, length, map, Option, Some, None, Result, Ok, Err, refl, sym, ap, subst, ◌∙◌, arith}
+use Rattle.std.specs.Prelude.{replicate, fold, filter, nat_lt}
+use Rattle.std.specs.List.{flat_map, All, AllByRecursion}
 use Rattle.std.proofs.lemmas.Bool.Decides.{nat_tests}
-use Rattle.std.proofs.lemmas.List.{append-nil, length-append, map-append, length-map}
-use Rattle.std.proofs.lemmas.List.Elements.{All-nil, All-cons, All-head, All-tail, All-append, All-weaker, All-set, All-replicate, All-filter, All-contains, All-from_recursion, recursion_from_All}
-use Rattle.ia32_types.specs.Site.{sensitive_kind}
-use Rattle.ia32_rows.specs.Spells.{AreBytes, SpellsBy}
-use Rattle.ia32_rows.specs.Spelling.{parts_at, insn_of}
+use Rattle.std.proofs.lemmas.List.{append-nil, map-append}
+use Rattle.std.proofs.lemmas.List.Elements.{All-nil, All-cons, All-head, All-tail, All-append, All-set, All-replicate, All-filter, All-contains}
+use Rattle.ia32_rows.specs.Spells.{AreBytes}
 use Rattle.asm_parse.specs.declared.tree.Body.{Body}
 use Rattle.asm_parse.specs.declared.tree.Body.TheVariants as body
 use Rattle.asm_parse.specs.declared.tree.SourceItem.{SourceItem}
@@ -20,7 +18,6 @@ use Rattle.elf_form.specs.declared.object.Symbol.{Symbol}
 use Rattle.elf_form.specs.declared.object.Reloc.{Reloc}
 use Rattle.elf_form.specs.ObjectParts.{ObjectParts}
 use Rattle.elf_form.specs.ObjectLayout.{is_of}
-use Rattle.sites.specs.declared.site.Site.{Site}
 use Rattle.sites.specs.Spelling.{spelling}
 use Rattle.sites.specs.Reading.{sites_in}
 use Rattle.sites.proofs.Inverse.{spelled_read}
@@ -40,18 +37,17 @@ use Rattle.afterburner.specs.State.{State, undefined, fresh}
 use Rattle.afterburner.specs.Names.{name_number}
 use Rattle.afterburner.specs.Symbols.{definition_of, defined_at, stronger, with_binding, bound}
 use Rattle.afterburner.specs.Arguments.{count_at, text_at, symbol_at, limit_at, alignment, power}
-use Rattle.afterburner.specs.Sections.{is_init, place_of, size_of, here, section_named, entered, gap, filled_in, filled, unless_more, aligned, labelled, defined_in_bss, reserved}
-use Rattle.afterburner.specs.Instructions.{instruction}
-use Rattle.afterburner.specs.Directives.{directive_of, all_fit, values, in_init, numbers, data_reloc, with_long, longs, string_bytes, strings, zeros_in, zeros, common_alignment, common, directed}
-use Rattle.afterburner.specs.Objects.{value_at, symbol, symbols_seen, are, ordered, ordered_number, renumbered, object}
+use Rattle.afterburner.specs.Sections.{is_init, place_of, size_of, here, section_named, entered, gap, filled_in, unless_more, aligned, labelled, defined_in_bss, reserved}
+use Rattle.afterburner.specs.Directives.{directive_of, all_fit, values, in_init, numbers, data_reloc, with_long, longs, string_bytes, strings, zeros_in, common_alignment, common, directed}
+use Rattle.afterburner.specs.Objects.{value_at, symbol, symbols_seen, are, ordered, renumbered, object}
 use Rattle.afterburner.specs.Burnt.{parted, made, limited, then_limited, item_made, Fault, at_line, next_made, all_made, finished, burnt}
-use Rattle.built_images.specs.Chunks.{Coded, insn_in, IsCoded, Chunk, Alone, Pair, IsChunk, AreChunks, padding, chunk_text, chunks_text, chunk_site, chunk_sites}
-use Rattle.built_images.specs.Filled.{IsField, HasFields, HaveFields, reloc_later, chunk_relocs, chunks_relocs}
-use Rattle.built_images.specs.Padded.{IsEdge, IsLinked, IsLinkedBranch, IsAlone, AreAlone, IsPadded}
+use Rattle.built_images.specs.Chunks.{Coded, insn_in, Chunk, Alone, Pair, AreChunks, padding, chunk_text, chunks_text, chunk_site, chunk_sites}
+use Rattle.built_images.specs.Filled.{IsField, HaveFields, reloc_later, chunks_relocs}
+use Rattle.built_images.specs.Padded.{IsEdge, IsLinked, IsLinkedBranch, AreAlone, IsPadded}
 use Rattle.built_images.specs.Sources.{IsBurnt, NamesNoNumber, NameNoNumbers}
 use Rattle.built_images.proofs.Joining.{nop_chunks}
 use Rattle.built_images.proofs.LinkedImages.{sites_form, sites_few}
-use Rattle.built_images.proofs.BurntTexts.{IsReadCoded, IsReadChunk, AreRead, IsLabel, IsMade, Made, IsSameText, same_made, nops_made, instruction_made, if_ok, or_ok, ok_state, ok_same}
+use Rattle.built_images.proofs.BurntTexts.{AreRead, IsLabel, IsMade, Made, IsSameText, same_made, nops_made, instruction_made, if_ok, or_ok, ok_state, ok_same}
 use Rattle.built_images.proofs.LinkedImages.{whole_edge}
 
 module _ (Plain : Type 0) where
@@ -460,8 +456,9 @@ burnt_padded o b =
     let h = burnt_finished (NameNoNumbers b.items) b.items o (λ p. p) b.made in
     let cs = h.good.0.0 in
     let f = renumbered h.state.definitions in
-    let text : h.state.text ≡ o.text = sym (object_text h.names h.state) ∙ ap (λ (x : ObjectParts). x.text) h.is in
-    (map (renamed f) cs,
-     subst (λ (x : ObjectParts). IsPadded x (map (renamed f) cs)) h.is
-     (object_padded (NameNoNumbers b.items) h.names h.state cs h.good.0.1 h.good.1 (subst AreBytes (sym text) b.bytes) (subst IsLinkable (sym h.is) b.linkable)),
-     λ p. renamed_alone f cs (h.good.0.1.alone p))
+    let text : h.state.text ≡ o.text = sym (object_text h.names h.state) ∙ ap (λ (x : ObjectParts). x.text) h.is in (
+      map (renamed f) cs,
+      subst (λ (x : ObjectParts). IsPadded x (map (renamed f) cs)) h.is
+          (object_padded (NameNoNumbers b.items) h.names h.state cs h.good.0.1 h.good.1 (subst AreBytes (sym text) b.bytes) (subst IsLinkable (sym h.is) b.linkable)),
+      λ p. renamed_alone f cs (h.good.0.1.alone p),
+    )

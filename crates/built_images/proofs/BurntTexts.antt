@@ -1,23 +1,17 @@
 -- What the items of a source make is padded.
-use Rattle.std.proofs.Common.{◌≡◌, ℕ, zero, suc, ◌+◌, ◌-◌, ◌<◌, ◌≤◌, ◌^◌, Bool, true, false, not, cond, ◌&&◌, List, [], ◌∷◌, ◌++◌, length, take, map, Option, Some, None, Result, Ok, Err, refl, sym, ap, subst, ◌∙◌, append_assoc, arith, inl, inr, ◌⊎◌}
-use Rattle.std.specs.Prelude.{pos, max, replicate, slice_set, slice_index_or, slice_get, fold, filter, nat_lt}
-use Rattle.std.specs.List.{flat_map, All, AllByRecursion, Contains}
-use Rattle.std.proofs.lemmas.Bool.Decides.{nat_tests}
-use Rattle.std.proofs.lemmas.List.{append-nil, length-append, length-replicate, map-append, set_at, get_or_at}
-use Rattle.std.proofs.lemmas.List.Elements.{All-nil, All-cons, All-append, All-weaker, All-set, All-replicate, All-get_or}
+use Rattle.std.proofs.Common.{◌≡◌, ℕ, zero, suc, ◌+◌, ◌-◌, Bool, true, false, cond, ◌&&◌, List, [], ◌∷◌, ◌++◌, length, map, Option, Some, None, Result, Ok, Err, refl, sym, ap, subst, ◌∙◌, append_assoc, arith, inl, inr}
+use Rattle.std.specs.Prelude.{pos, replicate, slice_set, slice_index_or, slice_get}
+use Rattle.std.specs.List.{All, AllByRecursion, Contains}
+use Rattle.std.proofs.lemmas.List.{append-nil, length-append, map-append, set_at, get_or_at}
+use Rattle.std.proofs.lemmas.List.Elements.{All-nil, All-cons, All-append, All-weaker}
 use Rattle.ia32_types.specs.declared.site.SiteKind.{SiteKind}
 use Rattle.ia32_types.specs.declared.site.SiteKind.TheVariants as site
 use Rattle.ia32_types.specs.Site.{kind_of, sensitive_kind}
-use Rattle.ia32_rows.specs.declared.row.Row.{Row}
-use Rattle.ia32_rows.specs.declared.row.Parts.{Parts}
-use Rattle.ia32_rows.specs.Fields.{imm_len}
 use Rattle.ia32_rows.specs.Spelling.{parts_at, insn_of}
 use Rattle.ia32_rows.specs.Rows.{rows}
-use Rattle.asm_parse.specs.declared.tree.Body.{Body}
 use Rattle.asm_parse.specs.declared.tree.Body.TheVariants as body
 use Rattle.asm_parse.specs.declared.tree.Argument.{Argument}
 use Rattle.asm_parse.specs.Statements.{symbol_in}
-use Rattle.elf_form.specs.declared.object.Place.{Place}
 use Rattle.elf_form.specs.declared.object.Place.TheVariants as place
 use Rattle.elf_form.specs.declared.object.Reloc.{Reloc}
 use Rattle.sites.specs.declared.site.Site.{Site}
@@ -25,12 +19,10 @@ use Rattle.asm_instruction.specs.declared.assembled.Assembled.{Assembled}
 use Rattle.asm_instruction.specs.declared.assembled.Named.{Named}
 use Rattle.asm_instruction.specs.declared.assembled.Refusal.{Refusal}
 use Rattle.asm_instruction.specs.Assembled.{assembled, spelling_bytes}
-use Rattle.afterburner.specs.declared.section.Section.{Section}
-use Rattle.afterburner.specs.declared.section.Section.TheVariants as section
 use Rattle.afterburner.specs.declared.symbol.Definition.{Definition}
 use Rattle.afterburner.specs.declared.fault.BurnCause.{BurnCause}
 use Rattle.afterburner.specs.declared.fault.BurnCause.TheVariants as cause
-use Rattle.afterburner.specs.State.{State, undefined, fresh}
+use Rattle.afterburner.specs.State.{State}
 use Rattle.afterburner.specs.Arguments.{number_in, symbol_at}
 use Rattle.ia32_types.specs.declared.size.Size.TheVariants as size
 use Rattle.asm_instruction.specs.Field.{field}
@@ -39,15 +31,14 @@ use Rattle.afterburner.specs.Names.{name_number}
 use Rattle.afterburner.specs.Sections.{is_text}
 use Rattle.afterburner.specs.Instructions.{nops, padding as burnt_padding, site_at, reloc_of, field_reloc, is_sti, is_hlt, added, pair_site, no_site, paired, placed, in_text, instruction}
 use Rattle.image_check.specs.Pieces.{is_branch}
-use Rattle.built_images.specs.Fields.{disp_place, imm_place}
 use Rattle.built_images.specs.Chunks.{Coded, insn_in, Chunk, Alone, Pair, IsChunk, AreChunks, nops_behind, padding, chunk_text, chunks_text, site_by, chunk_site, chunk_sites}
 use Rattle.built_images.specs.Filled.{IsField, HasFields, HaveFields, reloc_later, chunk_relocs, chunks_relocs}
-use Rattle.built_images.specs.Padded.{IsEdge, IsLinked, IsLinkedBranch, IsAlone, AreAlone}
+use Rattle.built_images.specs.Padded.{IsEdge, IsLinkedBranch, IsAlone, AreAlone}
 use Rattle.built_images.specs.Sources.{NamesNoNumber}
 use Rattle.built_images.proofs.Sensitive.{sti_read, sti_no_disp, sti_no_imm}
-use Rattle.built_images.proofs.Entrances.{text_append, text_length, sites_append, alone_length}
+use Rattle.built_images.proofs.Entrances.{text_append, sites_append}
 use Rattle.built_images.proofs.Joining.{nop_chunks, nop_chunks_are, nop_chunks_text, nop_chunks_sites, nop_chunks_relocs, nop_chunks_fields, nop_chunks_linked, nop_chunks_alone, edge_left}
-use Rattle.built_images.proofs.Assembling.{IsFielded, BranchField, assembled_fielded}
+use Rattle.built_images.proofs.Assembling.{IsFielded, assembled_fielded}
 
 -- ---- what holds of the state behind each item
 
@@ -273,7 +264,7 @@ module _ (Plain : Type 0) where
       let kind = kind_same names args a f in
       let len = f.len in
       let pad : padding c ≡ burnt_padding (sensitive_kind a.insn) a.spelling.len =
-          ap (λ o. nops_behind o (length (spelling_bytes a))) kind ∙ ap (nops_behind (sensitive_kind a.insn)) len ∙ sym (padding_same (sensitive_kind a.insn) a.spelling.len) in
+      ap (λ o. nops_behind o (length (spelling_bytes a))) kind ∙ ap (nops_behind (sensitive_kind a.insn)) len ∙ sym (padding_same (sensitive_kind a.insn) a.spelling.len) in
       let at : 0 + length (chunks_text cs) ≡ length st.text = ap (λ bs. 0 + length bs) (sym h.text) ∙ (omega arith) in
       record {
         read = by_chunk_join IsReadChunk cs (Alone c ∷ []) h.read (record { listed = f.listed; read = f.read }, tt);
@@ -345,9 +336,12 @@ module _ (Plain : Type 0) where
   swapped : (x y : Chunk) (before b r : List Chunk) → length (chunk_text y) ≡ length (chunk_text x) → before ++ (x ∷ []) ≡ b ++ r → Edges (before ++ (y ∷ [])) b
   swapped x y before [] r len e = ([], before ++ (y ∷ []), refl, refl)
   swapped x y [] (c ∷ b) r len e =
-      let n = none_behind c x b r e in
-      (y ∷ [], [], refl,
-       length-append (chunk_text y) [] ∙ ap (λ k. k + 0) len ∙ sym (ap (λ (ds : List Chunk). length (chunk_text c ++ chunks_text ds)) n.1 ∙ ap (λ (d : Chunk). length (chunk_text d ++ [])) n.0 ∙ length-append (chunk_text x) []))
+      let n = none_behind c x b r e in (
+        y ∷ [],
+        [],
+        refl,
+        length-append (chunk_text y) [] ∙ ap (λ k. k + 0) len ∙ sym (ap (λ (ds : List Chunk). length (chunk_text c ++ chunks_text ds)) n.1 ∙ ap (λ (d : Chunk). length (chunk_text d ++ [])) n.0 ∙ length-append (chunk_text x) []),
+      )
   swapped x y (a ∷ before) (c ∷ b) r len e =
       let same : a ≡ c = cc in
       let rest : before ++ (x ∷ []) ≡ b ++ r = cc in

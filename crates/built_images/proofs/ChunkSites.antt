@@ -1,25 +1,24 @@
 -- The sites of a text of chunks.
-use Rattle.std.proofs.Common.{◌≡◌, ℕ, zero, suc, ◌+◌, ◌-◌, ◌<◌, ◌≤◌, Bool, true, false, not, cond, ◌&&◌, List, [], ◌∷◌, ◌++◌, length, map, Option, Some, None, refl, sym, ap, subst, ◌∙◌, append_assoc, arith, inl, inr, ◌⊎◌}
+use Rattle.std.proofs.Common.{◌≡◌, ℕ, zero, suc, ◌+◌, ◌-◌, ◌≤◌, Bool, true, false, cond, ◌&&◌, List, [], ◌∷◌, ◌++◌, length, map, Option, Some, None, refl, ap, subst, ◌∙◌, arith, inl, inr, ◌⊎◌}
 use Rattle.std.specs.Prelude.{max, replicate}
-use Rattle.std.specs.List.{flat_map, AllByRecursion, Contains}
-use Rattle.std.proofs.lemmas.List.{append-nil, length-append, length-replicate, map-append}
+use Rattle.std.proofs.lemmas.List.{length-append, length-replicate, map-append}
 use Rattle.ia32_types.specs.declared.insn.Insn.{Insn}
 use Rattle.ia32_types.specs.declared.site.SiteKind.{SiteKind}
 use Rattle.ia32_types.specs.declared.site.SiteKind.TheVariants as site
 use Rattle.ia32_types.specs.Site.{kind_of, sensitive_kind}
-use Rattle.ia32_rows.specs.Spells.{SpellsBy, Spells}
+use Rattle.ia32_rows.specs.Spells.{Spells}
 use Rattle.sites.specs.declared.site.Site.{Site}
 use Rattle.image_check.specs.declared.piece.Role.{Role}
 use Rattle.image_check.specs.declared.piece.Role.TheVariants as role
 use Rattle.image_check.specs.declared.piece.Piece.{Piece}
 use Rattle.image_check.specs.declared.site.Here.{Here}
 use Rattle.image_check.specs.declared.site.Here.TheVariants as here
-use Rattle.image_check.specs.Sweep.{Swept, SweepsTo, Sweep}
+use Rattle.image_check.specs.Sweep.{SweepsTo, Sweep}
 use Rattle.image_check.specs.Pieces.{is_branch, is_nop, target_of, site_role, role_of, piece_of}
-use Rattle.image_check.specs.TextSites.{has_nops, has_hlt, is_sti, by_role, padded, single, pair, begun_by, Found, with_site, found_by, found_behind, found_in, unless_lacking, sites_of}
-use Rattle.built_images.specs.Joined.{nop, sti, hlt, nops_at}
+use Rattle.image_check.specs.TextSites.{has_nops, has_hlt, is_sti, by_role, single, pair, begun_by, Found, with_site, found_by, found_behind, unless_lacking, sites_of}
+use Rattle.built_images.specs.Joined.{sti, hlt, nops_at}
 use Rattle.built_images.specs.Chunks.{Coded, insn_in, IsCoded, Chunk, Alone, Pair, IsChunk, AreChunks, nops_behind, padding, chunk_text, chunks_text, site_by, chunk_site, chunk_sites, chunk_swept, chunks_swept}
-use Rattle.built_images.proofs.SweepJoins.{to_append, one_sweeps, nops_sweep, nop_spelled, sti_spelled, hlt_spelled}
+use Rattle.built_images.proofs.SweepJoins.{to_append, one_sweeps, nops_sweep, sti_spelled, hlt_spelled}
 use Rattle.built_images.proofs.Sensitive.{branch_plain, nop_plain, sti_bytes}
 
 -- ---- the sweep

@@ -1,6 +1,6 @@
 -- Of the instructions that statements mean, the direct branches are those that name a symbol alone.
-use Rattle.std.proofs.Common.{◌≡◌, ℕ, zero, suc, ◌+◌, ◌-◌, Bool, true, false, not, cond, ◌&&◌, List, [], ◌∷◌, length, take, Option, Some, None, refl, sym, ap, subst, ◌∙◌, inl, inr, ◌⊎◌}
-use Rattle.std.specs.Prelude.{slice_get, slice_index, codes, ◌==◌, is_some, is_none}
+use Rattle.std.proofs.Common.{◌≡◌, ℕ, ◌-◌, Bool, true, false, not, cond, ◌&&◌, List, [], ◌∷◌, length, take, Option, Some, None, refl, sym, ap, subst, ◌∙◌, inl, inr, ◌⊎◌}
+use Rattle.std.specs.Prelude.{slice_index, ◌==◌}
 use Rattle.std.specs.List.{list_all}
 use Rattle.std.specs.Str.{bytes_eq}
 use Rattle.ia32_types.specs.declared.insn.Op.{Op}
@@ -9,7 +9,6 @@ use Rattle.ia32_types.specs.declared.insn.Operand.{Operand}
 use Rattle.ia32_types.specs.declared.insn.Operand.TheVariants as operand
 use Rattle.ia32_types.specs.declared.size.Size.{Size}
 use Rattle.ia32_types.specs.declared.size.Size.TheVariants as size
-use Rattle.ia32_types.specs.declared.register.Seg.{Seg}
 use Rattle.image_check.specs.Pieces.{is_branch}
 use Rattle.asm_instruction.specs.declared.argument.Number.{Number}
 use Rattle.asm_instruction.specs.declared.argument.Memory.{Memory}
@@ -37,13 +36,13 @@ use Rattle.asm_instruction.specs.declared.system.System.TheVariants as system
 use Rattle.asm_instruction.specs.Names.{Table, found, or_else, ◌>>=◌}
 use Rattle.asm_instruction.specs.Condition.{condition}
 use Rattle.asm_instruction.specs.Sizes.{agreed}
-use Rattle.asm_instruction.specs.Draft.{register, register_or_memory, said, paired, instruction, with_number, unary, alone, nothing, of_operand, memory}
+use Rattle.asm_instruction.specs.Draft.{register, register_or_memory, said, paired, instruction, with_number, alone, nothing, of_operand, memory}
 use Rattle.asm_instruction.specs.Arithmetic.{two_operand_names, one_operand_names, of_pair, memory_first, two, tested, one, into_register, to_register, multiplied, product, arithmetic_draft}
-use Rattle.asm_instruction.specs.Shift.{shift_names, of_one, by_one, by_number, by_register, shift_draft}
-use Rattle.asm_instruction.specs.Moves.{move_names, extend_names, special, from_segment, to_segment, from_control, to_control, general, moved, into_long, extended, effective, with_register, two_registers, exchange, exchanged, move_of, move_draft}
-use Rattle.asm_instruction.specs.Stack.{stack_names, frame_names, of_long, of_segment, of_general, of_number, pushed, popped, stack_of, stack_draft}
+use Rattle.asm_instruction.specs.Shift.{shift_names, by_one, by_number, by_register, shift_draft}
+use Rattle.asm_instruction.specs.Moves.{move_names, extend_names, special, from_segment, to_segment, from_control, to_control, general, moved, into_long, extended, effective, with_register, exchange, exchanged, move_of, move_draft}
+use Rattle.asm_instruction.specs.Stack.{stack_names, frame_names, of_long, of_general, of_number, pushed, popped, stack_draft}
 use Rattle.asm_instruction.specs.Control.{branch_names, control_names, jump_name, set_name, behind_set, conditional_name, to_symbol, is_symbol, to_operand, direct, indirect, return_of, returned, with_selector, far, with_condition, set, control_draft}
-use Rattle.asm_instruction.specs.Strings.{string_names, repeated as repeated_string, string_draft}
+use Rattle.asm_instruction.specs.Strings.{string_names, string_draft}
 use Rattle.asm_instruction.specs.Flags.{plain_names, without_operands, plain_draft}
 use Rattle.asm_instruction.specs.System.{system_names, page_names, through, between, ported, memory_alone, of_memory, task, system_draft}
 use Rattle.asm_instruction.specs.Mnemonic.{or_family, exact_instruction, exact_name, sized_name, suffix, suffixed, with_suffix, without_suffix, known_name, by_family, without_repeat, repeated, drafted}

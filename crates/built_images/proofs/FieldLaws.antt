@@ -6,13 +6,10 @@ use Rattle.std.proofs.lemmas.List.{append-nil, length-append, take_at, drop_at}
 use Rattle.ia32_types.specs.declared.insn.Insn.{Insn}
 use Rattle.ia32_types.specs.declared.insn.Operand.{Operand}
 use Rattle.ia32_types.specs.declared.insn.Operand.TheVariants as operand
-use Rattle.ia32_types.specs.declared.insn.Address.{Address}
 use Rattle.ia32_rows.specs.declared.row.Row.{Row}
-use Rattle.ia32_rows.specs.declared.row.Form.{Form}
 use Rattle.ia32_rows.specs.declared.row.Parts.{Parts}
 use Rattle.ia32_rows.specs.declared.row.Base.{Base}
 use Rattle.ia32_rows.specs.declared.row.Located.{Located}
-use Rattle.ia32_rows.specs.declared.row.Modrm.{Modrm}
 use Rattle.ia32_rows.specs.declared.row.Addressing.{Addressing}
 use Rattle.ia32_rows.specs.declared.row.Addressing.TheVariants as addressing
 use Rattle.ia32_rows.specs.declared.row.Immediate.{Immediate}
@@ -21,7 +18,7 @@ use Rattle.ia32_rows.specs.declared.row.Plus.{Plus}
 use Rattle.ia32_rows.specs.declared.row.Plus.TheVariants as plus
 use Rattle.ia32_rows.specs.declared.row.Operands.{Operands}
 use Rattle.ia32_rows.specs.declared.row.Operands.TheVariants as operands
-use Rattle.ia32_rows.specs.Reader.{Reader, Reading, and_then, ◌>>=◌, done, byte_at, byte_where, word_at, long_at}
+use Rattle.ia32_rows.specs.Reader.{Reader, and_then, ◌>>=◌, done, byte_at, byte_where, word_at, long_at}
 use Rattle.ia32_rows.specs.Fields.{mod_of, reg_of, rm_of, extended, has_modrm, base_at, disp_at, memory_at, rm_at, addressing_at, immediate_at, imm_len}
 use Rattle.ia32_rows.specs.Spelling.{parts_at, operands_of, in_order, sel_of, repeats, insn_of}
 use Rattle.ia32_rows.specs.Spells.{AreBytes, SpellsBy}
@@ -34,7 +31,7 @@ use Rattle.image_check.proofs.SweepLaws.{AreBytes-drop}
 use Rattle.guest_ram.specs.Bytes.{word32, with_word32}
 use Rattle.std.specs.Int.{w32, to_le_bytes}
 use Rattle.built_images.specs.Fields.{imm_size, imm_place, disp_place, disp_of, moved, with_disp, with_imm, insn_disp, insn_imm}
-use Rattle.built_images.proofs.Words.{IsWord, word_in, filled, word_of, filled_word, word_there, two_bytes, four_bytes, whole_then, whole, long_then, Long, long_front}
+use Rattle.built_images.proofs.Words.{IsWord, word_in, filled, word_of, filled_word, word_there, two_bytes, four_bytes, whole, long_then, long_front}
 
 -- ---- the immediate comes first in what is read, and any number may
 

@@ -1,12 +1,11 @@
 -- Fields that are filled one after the other.
-use Rattle.std.proofs.Common.{◌≡◌, ℕ, zero, suc, ◌+◌, ◌-◌, ◌<◌, ◌≤◌, ◌^◌, List, [], ◌∷◌, ◌++◌, length, map, Option, Some, None, refl, sym, ap, subst, ◌∙◌, append_assoc, arith, inl, inr, ◌⊎◌}
+use Rattle.std.proofs.Common.{◌≡◌, ℕ, ◌+◌, ◌-◌, ◌<◌, ◌≤◌, ◌^◌, List, [], ◌∷◌, ◌++◌, length, map, refl, sym, ap, subst, ◌∙◌, append_assoc, arith, inl, inr}
 use Rattle.std.specs.Prelude.{fold, replicate}
-use Rattle.std.specs.List.{flat_map, AllByRecursion, Contains}
-use Rattle.std.proofs.lemmas.List.{append-nil, length-append}
+use Rattle.std.specs.List.{AllByRecursion}
+use Rattle.std.proofs.lemmas.List.{length-append}
 use Rattle.std.proofs.lemmas.List.Sums.{fold-append}
 use Rattle.guest_ram.specs.Bytes.{word32, with_word32}
 use Rattle.guest_ram.proofs.Bytes.{length-with_word32}
-use Rattle.ia32_types.specs.declared.site.SiteKind.{SiteKind}
 use Rattle.ia32_types.specs.Site.{kind_of, sensitive_kind}
 use Rattle.ia32_rows.specs.declared.row.Row.{Row}
 use Rattle.ia32_rows.specs.declared.row.Parts.{Parts}
@@ -14,10 +13,9 @@ use Rattle.ia32_rows.specs.Fields.{imm_len}
 use Rattle.ia32_rows.specs.Spelling.{insn_of}
 use Rattle.ia32_rows.specs.Spells.{SpellsBy}
 use Rattle.elf_form.specs.declared.object.Reloc.{Reloc}
-use Rattle.sites.specs.declared.site.Site.{Site}
-use Rattle.built_images.specs.Fields.{imm_size, disp_place, imm_place, with_disp, with_imm, insn_disp, insn_imm}
-use Rattle.built_images.specs.Chunks.{Coded, insn_in, IsCoded, Chunk, Alone, Pair, IsChunk, AreChunks, nops_behind, padding, chunk_text, chunks_text, site_by, chunk_site, chunk_sites}
-use Rattle.built_images.specs.Filled.{IsField, HasFields, HaveFields, reloc_later, chunk_relocs, chunks_relocs, fill, fill_at, MakesWords, IsFilled, IsFilledChunk, AreFilled}
+use Rattle.built_images.specs.Fields.{imm_size, disp_place, imm_place, with_disp, with_imm}
+use Rattle.built_images.specs.Chunks.{Coded, insn_in, IsCoded, Chunk, Alone, Pair, AreChunks, nops_behind, padding, chunk_text, chunks_text, site_by, chunk_site, chunk_sites}
+use Rattle.built_images.specs.Filled.{IsField, HaveFields, reloc_later, chunks_relocs, fill, fill_at, MakesWords, IsFilledChunk, AreFilled}
 use Rattle.built_images.proofs.FieldLaws.{disp_law, imm_law, disp_held, imm_held}
 use Rattle.built_images.proofs.WordLaws.{written_among, read_among}
 use Rattle.built_images.proofs.Entrances.{alone_length}

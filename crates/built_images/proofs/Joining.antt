@@ -1,23 +1,20 @@
 -- Texts of chunks with NOPs between them.
-use Rattle.std.proofs.Common.{◌≡◌, ℕ, zero, suc, ◌+◌, ◌-◌, ◌<◌, ◌≤◌, Bool, true, false, List, [], ◌∷◌, ◌++◌, length, map, Option, Some, None, refl, sym, ap, subst, ◌∙◌, append_assoc, arith, inl, inr, ◌⊎◌}
+use Rattle.std.proofs.Common.{◌≡◌, ℕ, zero, suc, ◌+◌, true, List, [], ◌∷◌, ◌++◌, length, map, refl, sym, ap, ◌∙◌, append_assoc}
 use Rattle.std.specs.Prelude.{replicate}
-use Rattle.std.specs.List.{flat_map, All, AllByRecursion, Contains}
-use Rattle.std.proofs.lemmas.List.{append-nil, length-append, length-replicate, map-append}
+use Rattle.std.specs.List.{All, AllByRecursion}
+use Rattle.std.proofs.lemmas.List.{append-nil}
 use Rattle.std.proofs.lemmas.List.Elements.{All-nil, All-cons, All-append}
 use Rattle.ia32_types.specs.declared.insn.Insn.{Insn}
 use Rattle.ia32_types.specs.Site.{sensitive_kind}
-use Rattle.ia32_rows.specs.Spells.{Spells, SpellsBy}
-use Rattle.ia32_rows.specs.Spelling.{insn_of}
-use Rattle.sites.specs.declared.site.Site.{Site}
+use Rattle.ia32_rows.specs.Spells.{Spells}
 use Rattle.image_check.specs.Sweep.{Swept}
 use Rattle.image_check.specs.Pieces.{is_branch, target_of}
 use Rattle.built_images.specs.Joined.{nop, sti, hlt, jump_to_itself, nops_at}
-use Rattle.built_images.specs.Chunks.{Coded, insn_in, IsCoded, Chunk, Alone, Pair, IsChunk, AreChunks, nops_behind, padding, chunk_text, chunks_text, site_by, chunk_site, chunk_sites, chunk_swept, chunks_swept, Begins}
+use Rattle.built_images.specs.Chunks.{Coded, insn_in, IsCoded, Chunk, Alone, Pair, AreChunks, nops_behind, padding, chunk_text, chunks_text, site_by, chunk_site, chunk_sites, chunk_swept, chunks_swept, Begins}
 use Rattle.built_images.specs.Filled.{HasFields, HaveFields, chunk_relocs, chunks_relocs}
 use Rattle.built_images.specs.Padded.{IsEdge, IsLinkedBranch, IsAlone}
 use Rattle.built_images.proofs.SweepJoins.{nop_spelled, jump_spelled}
-use Rattle.built_images.proofs.Entrances.{text_append, text_length, sites_append, swept_append}
-use Rattle.built_images.proofs.BuiltImages.{chunks_join}
+use Rattle.built_images.proofs.Entrances.{text_length}
 
 -- ---- one NOP, and the jump to itself, as chunks
 

@@ -1,21 +1,19 @@
 -- What relocations and the entry name in linked objects: labels of texts.
-use Rattle.std.proofs.Common.{◌≡◌, ℕ, zero, suc, ◌+◌, ◌-◌, ◌*◌, ◌<◌, ◌≤◌, ◌^◌, ◌%◌, ◌/◌, Bool, true, false, not, cond, ◌&&◌, List, [], ◌∷◌, ◌++◌, length, get_or, map, Option, Some, None, refl, sym, ap, subst, ◌∙◌, append_assoc, arith, inl, inr, ◌⊎◌}
-use Rattle.std.specs.Prelude.{slice_get, filter, sum_by, take}
-use Rattle.std.specs.List.{flat_map, enumerate_from, All, AllByRecursion, Contains}
+use Rattle.std.proofs.Common.{◌≡◌, ℕ, zero, suc, ◌+◌, ◌-◌, ◌<◌, ◌^◌, ◌%◌, Bool, true, false, not, cond, ◌&&◌, List, [], ◌∷◌, length, map, Option, Some, None, refl, sym, ap, subst, ◌∙◌, arith}
+use Rattle.std.specs.Prelude.{slice_get, filter}
+use Rattle.std.specs.List.{flat_map, enumerate_from, All, Contains}
 use Rattle.std.specs.Str.{bytes_eq}
-use Rattle.std.proofs.lemmas.List.Elements.{All-nil, All-cons, All-head, All-tail, All-append, All-map, All-filter, All-contains, All-contains_itself, All-weaker}
+use Rattle.std.proofs.lemmas.List.Elements.{All-nil, All-head, All-tail, All-append, All-map, All-filter, All-contains_itself, All-weaker}
 use Rattle.elf_form.specs.declared.object.Place.{Place}
 use Rattle.elf_form.specs.declared.object.Place.TheVariants.{Undefined, Text, Init, Bss}
 use Rattle.elf_form.specs.declared.object.Symbol.{Symbol}
 use Rattle.elf_form.specs.declared.object.Reloc.{Reloc}
 use Rattle.elf_form.specs.ObjectParts.{ObjectParts}
-use Rattle.elf_link.specs.declared.base.Base.{Base}
 use Rattle.elf_link.specs.declared.target.Target.{Target}
-use Rattle.elf_link.specs.declared.fault.LinkCause.{LinkCause}
 use Rattle.elf_link.specs.declared.fault.LinkCause.TheVariants.{NotText}
-use Rattle.elf_link.specs.Layout.{text_at, base, numbered, bases, or_zero}
+use Rattle.elf_link.specs.Layout.{text_at, base, bases, or_zero}
 use Rattle.elf_link.specs.Symbols.{is_defined, is_text, is_exported, target, exports, definitions, lookup, globals, target_of, place_at, address}
-use Rattle.elf_link.specs.Relocations.{target_by, target_cause, symbol_cause, reloc_cause, field_at, address_by, sum_of, relocated}
+use Rattle.elf_link.specs.Relocations.{target_by, target_cause, symbol_cause, reloc_cause, address_by}
 
 -- A place in the text of an object at which a symbol of it stands.
 pub record IsLabelled (os : List ObjectParts) (n : ℕ) : Type 0 where

@@ -1,49 +1,45 @@
 -- Linked images of padded objects.
-use Rattle.std.proofs.Common.{◌≡◌, ℕ, zero, suc, ◌+◌, ◌-◌, ◌<◌, ◌≤◌, ◌^◌, ◌%◌, ◌/◌, Bool, true, false, not, cond, min, List, [], ◌∷◌, ◌++◌, length, take, drop, map, nat_lt, Option, Some, None, Result, Ok, Err, refl, sym, ap, subst, ◌∙◌, append_assoc, arith}
+use Rattle.std.proofs.Common.{◌≡◌, ℕ, zero, suc, ◌+◌, ◌-◌, ◌<◌, ◌≤◌, ◌^◌, ◌%◌, Bool, true, false, cond, min, List, [], ◌∷◌, ◌++◌, length, take, nat_lt, Option, Some, None, Result, Ok, refl, sym, ap, subst, ◌∙◌, arith}
 use Rattle.std.specs.Prelude.{slice_get, filter, sum_by, max, ◌==◌, codes}
 use Rattle.std.specs.List.{flat_map, enumerate_from, All, AllByRecursion, Contains}
 use Rattle.std.proofs.lemmas.Bool.Decides.{nat_tests}
-use Rattle.std.proofs.lemmas.List.{append-nil, length-append, length-take, take_all, map-append}
+use Rattle.std.proofs.lemmas.List.{append-nil, length-append, length-take, take_all}
 use Rattle.std.proofs.lemmas.List.Sums.{sum_by-cons}
-use Rattle.std.proofs.lemmas.List.Elements.{All-nil, All-cons, All-append, All-weaker, All-filter, All-contains, All-contains_itself}
+use Rattle.std.proofs.lemmas.List.Elements.{All-nil, All-append, All-weaker, All-filter, All-contains, All-contains_itself}
 use Rattle.guest_ram.specs.Bytes.{word32}
 use Rattle.ia32_rows.proofs.TableLaws.{at_most_eleven}
-use Rattle.elf_form.specs.declared.object.Place.TheVariants.{Text}
-use Rattle.elf_form.specs.declared.object.Symbol.{Symbol}
 use Rattle.elf_form.specs.declared.object.Reloc.{Reloc}
 use Rattle.elf_form.specs.ObjectParts.{ObjectParts}
 use Rattle.elf_form.specs.ObjectLayout.{is_of}
 use Rattle.elf_form.specs.ImageParts.{ImageParts}
-use Rattle.elf_form.specs.Output.{pad}
 use Rattle.sites.specs.declared.site.Site.{Site}
 use Rattle.sites.specs.Spelling.{spelling, AreInForm}
 use Rattle.sites.specs.Reading.{sites_in}
 use Rattle.sites.proofs.Inverse.{spelled_read}
 use Rattle.elf_link.proofs.SiteLaws.{length-spelling}
-use Rattle.elf_link.specs.declared.base.Base.{Base}
 use Rattle.elf_link.specs.declared.target.Target.{Target}
 use Rattle.elf_link.specs.declared.fault.LinkCause.{LinkCause}
 use Rattle.elf_link.specs.declared.fault.LinkCause.TheVariants.{NotText, TextTooLarge, InitTooLarge}
-use Rattle.elf_link.specs.Layout.{round_up, text_size, init_size, bss_size, text_room, init_room, text_at, text_end, extent, init_end, memory_end, base, numbered, bases, or_zero}
-use Rattle.elf_link.specs.Symbols.{is_text, globals, address, lookup}
+use Rattle.elf_link.specs.Layout.{round_up, init_size, bss_size, text_room, init_room, text_at, text_end, extent, init_end, memory_end, base, numbered, bases, or_zero}
+use Rattle.elf_link.specs.Symbols.{is_text, globals, address}
 use Rattle.elf_link.specs.Relocations.{reloc_cause, field_at, address_by, sum_of, target_by, relocated}
-use Rattle.elf_link.specs.Sites.{moved_sites, linked_sites}
+use Rattle.elf_link.specs.Sites.{linked_sites}
 use Rattle.elf_link.specs.Refusals.{Refused, ◌or◌, when, first, object_cause, refused, object_refusal, relocs_refusal, start, start_refusal, refusal}
 use Rattle.elf_link.specs.Linked.{texts, linked_text, linked_init, entry_at, image, unless, linked_image}
 use Rattle.image_check.specs.Sweep.{Swept}
-use Rattle.image_check.specs.Pieces.{is_branch, target_of}
+use Rattle.image_check.specs.Pieces.{target_of}
 use Rattle.built_images.specs.Joined.{jump_to_itself}
 use Rattle.built_images.specs.Chunks.{Coded, insn_in, IsCoded, Chunk, Alone, Pair, AreChunks, padding, chunk_text, chunks_text, site_by, chunk_site, chunk_sites, chunks_swept, Begins}
 use Rattle.built_images.specs.Filled.{chunks_relocs}
 use Rattle.built_images.specs.Padded.{IsEdge, IsPadded, ArePadded, AreAlone, AnyChunks}
 use Rattle.built_images.specs.Built.{IsBuilt, LeadsRight}
 use Rattle.built_images.proofs.ChunkSites.{coded_spelled}
-use Rattle.built_images.proofs.Entrances.{text_append, text_length, sites_append, swept_append, alone_length}
-use Rattle.built_images.proofs.BuiltImages.{chunks_join, chunk_has_bytes, jump_text, text_is}
+use Rattle.built_images.proofs.Entrances.{text_length, sites_append, swept_append}
+use Rattle.built_images.proofs.BuiltImages.{chunks_join, chunk_has_bytes, text_is}
 use Rattle.built_images.proofs.Joining.{jump_coded, jump_is, jump_means, jump_bytes, jump_sites, OnBranch, alone_branch, edge_begins, first_edge}
-use Rattle.built_images.proofs.Labels.{IsLabelled, IsMeant, IsAimed, base_got, global_meant, labelled, text_address, reloc_aimed, leads}
+use Rattle.built_images.proofs.Labels.{IsLabelled, base_got, global_meant, labelled, text_address, reloc_aimed, leads}
 use Rattle.built_images.proofs.Branches.{AllRight, RelocsRight, all_right}
-use Rattle.built_images.proofs.LinkedTexts.{AreFrom, ObjectsRight, FromObject, from_object}
+use Rattle.built_images.proofs.LinkedTexts.{ObjectsRight, FromObject, from_object}
 
 -- ---- what is not refused
 
@@ -225,9 +221,9 @@ one_right More os i o cs padded w there h = λ r c in_text relative room word.
     let end = text_within os i o there in
     let to = leads aim.label (text_at os i + r.at) (field_at (or_zero (slice_get (bases os) i)) r) (address_by (bases os) (target_by (globals os) i (slice_get o.symbols r.symbol))) (text_at os i + r.at) 4 (omega (arith, label, limit)) (omega (arith, limit, end, text, room)) refl (field_is os i o r there in_text) aim.at in
     let e : (text_at os i + r.at + 4 + relocated (bases os) (globals os) (i, o) r (word32 (chunks_text cs) r.at)) % 2 ^ 32 ≡ aim.label =
-        ap (λ n. (text_at os i + r.at + 4 + relocated (bases os) (globals os) (i, o) r n) % 2 ^ 32) word
-        ∙ ap (λ n. (text_at os i + r.at + 4 + n) % 2 ^ 32) (made_is os i o r 4294967292 there in_text relative)
-        ∙ to in
+    ap (λ n. (text_at os i + r.at + 4 + relocated (bases os) (globals os) (i, o) r n) % 2 ^ 32) word
+    ∙ ap (λ n. (text_at os i + r.at + 4 + n) % 2 ^ 32) (made_is os i o r 4294967292 there in_text relative)
+    ∙ to in
     subst (IsLabelled os) (sym e) aim.is
 
 objects_right : (os : List ObjectParts) → ArePadded AreAlone os → IsLinkedWell os → ObjectsRight AreAlone (IsLabelled os) os
@@ -382,6 +378,7 @@ module _ (More : List Chunk → Type 0) (Good : ℕ → Type 0) (os : List Objec
         entry_in = entry.0;
         entry = entry.1;
       }
+
 pub linked_sites_size : (os : List ObjectParts) (parts : ImageParts) → ArePadded AnyChunks os → linked_image os ≡ Ok parts → length parts.sites ≤ 33554440
 linked_sites_size os parts padded e =
     let h = is_linked os parts e in
@@ -438,7 +435,8 @@ module _ (os : List ObjectParts) (padded : ArePadded AreAlone os) (w : IsLinkedW
 pub linked_leads : (os : List ObjectParts) (parts : ImageParts) → ArePadded AreAlone os → linked_image os ≡ Ok parts → (cs : List Chunk) × IsBuilt parts cs × LeadsRight cs
 linked_leads os parts padded e =
     let h = is_linked os parts e in
-    let right = objects_right os padded h.0 in
-    (image_chunks AreAlone (IsLabelled os) os padded h.0 right,
-     subst (λ (p : ImageParts). IsBuilt p (image_chunks AreAlone (IsLabelled os) os padded h.0 right)) h.1 (image_built AreAlone (IsLabelled os) os padded h.0 right),
-     leads_right os padded h.0 right)
+    let right = objects_right os padded h.0 in (
+      image_chunks AreAlone (IsLabelled os) os padded h.0 right,
+      subst (λ (p : ImageParts). IsBuilt p (image_chunks AreAlone (IsLabelled os) os padded h.0 right)) h.1 (image_built AreAlone (IsLabelled os) os padded h.0 right),
+      leads_right os padded h.0 right,
+    )

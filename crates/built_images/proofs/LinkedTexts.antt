@@ -1,12 +1,11 @@
 -- The text of a linked image is made of chunks.
-use Rattle.std.proofs.Common.{◌≡◌, ℕ, zero, suc, ◌+◌, ◌-◌, ◌<◌, ◌≤◌, ◌^◌, ◌%◌, Bool, true, false, not, cond, List, [], ◌∷◌, ◌++◌, length, get_or, take, drop, map, Option, Some, None, refl, sym, ap, subst, ◌∙◌, append_assoc, arith, Ok}
+use Rattle.std.proofs.Common.{◌≡◌, ℕ, zero, suc, ◌+◌, ◌<◌, ◌^◌, Bool, true, false, cond, List, [], ◌∷◌, ◌++◌, length, get_or, take, map, Option, Some, None, refl, sym, ap, subst, ◌∙◌, arith, Ok}
 use Rattle.std.specs.Prelude.{fold, replicate, slice_get, filter, sum_by}
 use Rattle.std.specs.List.{flat_map, enumerate_from, All, AllByRecursion, Contains}
 use Rattle.std.proofs.lemmas.List.{append-nil, length-append, length-replicate, take_at}
 use Rattle.std.proofs.lemmas.List.Sums.{sum_by-cons, sum_by_more}
 use Rattle.std.proofs.lemmas.List.Elements.{All-nil, All-append}
-use Rattle.std.proofs.lemmas.Option.{get_or_from_slice_get, slice_get_within}
-use Rattle.guest_ram.specs.Bytes.{word32, with_word32}
+use Rattle.std.proofs.lemmas.Option.{slice_get_within}
 use Rattle.elf_form.specs.declared.object.Place.TheVariants.{Text}
 use Rattle.elf_form.specs.declared.object.Symbol.{Symbol}
 use Rattle.elf_form.specs.declared.object.Reloc.{Reloc}
@@ -15,15 +14,15 @@ use Rattle.elf_form.specs.ObjectLayout.{is_of}
 use Rattle.elf_form.specs.Output.{pad}
 use Rattle.sites.specs.declared.site.Site.{Site}
 use Rattle.sites.specs.Reading.{sites_in}
-use Rattle.elf_link.specs.Layout.{round_up, text_size, text_room, text_at, text_end, numbered, bases}
+use Rattle.elf_link.specs.Layout.{text_size, text_room, text_at, text_end, bases}
 use Rattle.elf_link.specs.Symbols.{globals}
 use Rattle.elf_link.specs.Relocations.{sum_of, relocated, filled, patched}
 use Rattle.elf_link.specs.Sites.{or_none, sites_of, moved, moved_sites}
 use Rattle.elf_link.specs.Linked.{padded, texts}
 use Rattle.image_check.specs.Sweep.{Swept}
-use Rattle.built_images.specs.Chunks.{Coded, insn_in, Chunk, Alone, Pair, AreChunks, padding, chunk_text, chunks_text, site_by, chunk_site, chunk_sites, chunks_swept}
-use Rattle.built_images.specs.Filled.{HaveFields, chunks_relocs, fill, MakesWords, AreFilled}
-use Rattle.built_images.specs.Padded.{IsEdge, IsLinkedBranch, IsPadded, ArePadded}
+use Rattle.built_images.specs.Chunks.{Chunk, Alone, Pair, AreChunks, chunk_text, chunks_text, site_by, chunk_site, chunk_sites, chunks_swept}
+use Rattle.built_images.specs.Filled.{chunks_relocs, fill, MakesWords, AreFilled}
+use Rattle.built_images.specs.Padded.{IsEdge, IsPadded, ArePadded}
 use Rattle.built_images.proofs.Entrances.{text_append, text_length, sites_append, swept_append}
 use Rattle.built_images.proofs.BuiltImages.{chunks_join}
 use Rattle.built_images.proofs.Filling.{chunks_filled, same_length, same_sites, filled_length}

@@ -1,9 +1,8 @@
 -- What sensitive instructions are, and how STI is spelled.
-use Rattle.std.proofs.Common.{◌≡◌, ℕ, zero, suc, ◌+◌, ◌-◌, ◌<◌, ◌≤◌, Bool, true, false, not, ◌&&◌, ◌||◌, List, [], ◌∷◌, ◌++◌, length, Option, Some, None, Ok, refl, sym, ap, subst, ◌∙◌, arith, inl, inr, ◌⊎◌}
+use Rattle.std.proofs.Common.{◌≡◌, ℕ, Bool, true, false, not, ◌&&◌, ◌||◌, List, [], ◌∷◌, ◌++◌, Some, None, Ok, refl, sym, ap, subst, ◌∙◌, arith}
 use Rattle.std.specs.Prelude.{◌==◌, nat_le}
 use Rattle.std.specs.List.{list_all, Contains}
 use Rattle.std.proofs.lemmas.Bool.Decides.{nat_tests}
-use Rattle.std.proofs.lemmas.List.{append-nil}
 use Rattle.std.proofs.lemmas.List.Sums.{AllPass-from_list_all}
 use Rattle.ia32_types.specs.declared.insn.Op.{Op}
 use Rattle.ia32_types.specs.declared.insn.Op.TheVariants as op
@@ -21,13 +20,10 @@ use Rattle.ia32_rows.specs.declared.row.Lead.TheVariants as lead
 use Rattle.ia32_rows.specs.declared.row.Plus.TheVariants as plus
 use Rattle.ia32_rows.specs.declared.row.Addressing.TheVariants as addressing
 use Rattle.ia32_rows.specs.declared.row.Immediate.TheVariants as immediate
-use Rattle.ia32_rows.specs.declared.row.Operands.TheVariants as operands
-use Rattle.ia32_types.specs.declared.size.Size.TheVariants as size
-use Rattle.ia32_rows.specs.Reader.{done}
 use Rattle.ia32_rows.specs.declared.row.Located.{Located}
 use Rattle.ia32_rows.specs.Fields.{addressing_at, immediate_at, imm_len}
-use Rattle.ia32_rows.specs.Spelling.{has_code, lead_at, parts_at, insn_of}
-use Rattle.ia32_rows.specs.Spells.{AreBytes, SpellsBy}
+use Rattle.ia32_rows.specs.Spelling.{lead_at, parts_at, insn_of}
+use Rattle.ia32_rows.specs.Spells.{SpellsBy}
 use Rattle.ia32_rows.specs.Pieces.{IsLaidOut}
 use Rattle.ia32_rows.specs.Rows.{rows, sites}
 use Rattle.ia32_rows.proofs.Readers.{same_read}

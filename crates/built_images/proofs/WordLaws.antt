@@ -1,7 +1,7 @@
 -- Words of bytes that stand among others.
-use Rattle.std.proofs.Common.{◌≡◌, ℕ, zero, suc, ◌+◌, ◌-◌, ◌<◌, ◌≤◌, List, [], ◌∷◌, ◌++◌, length, take, drop, refl, sym, ap, subst, ◌∙◌, append_assoc, arith}
+use Rattle.std.proofs.Common.{◌≡◌, ℕ, suc, ◌+◌, ◌≤◌, List, [], ◌∷◌, ◌++◌, length, take, drop, sym, ap, ◌∙◌, append_assoc, arith}
 use Rattle.std.specs.Int.{w32, from_le_bytes, to_le_bytes}
-use Rattle.std.proofs.lemmas.List.{length-append, length-drop, take-append-le, drop-append-le}
+use Rattle.std.proofs.lemmas.List.{length-drop, take-append-le, drop-append-le}
 use Rattle.guest_ram.specs.Bytes.{part, with_part, word32, with_word32}
 
 one_in_front : (x : ℕ) (m bs : List ℕ) (a : ℕ) → with_part (x ∷ m) (suc a) bs ≡ x ∷ with_part m a bs

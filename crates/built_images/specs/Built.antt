@@ -8,7 +8,7 @@ use Rattle.image_check.specs.Sweep.{Swept}
 use Rattle.image_check.specs.Pieces.{is_branch, target_of}
 use Rattle.image_check.specs.Refusals.{Wrong}
 use Rattle.image_check.specs.Checking.{image_with, image_from}
-use Rattle.built_images.specs.Chunks.{Coded, IsCoded, Chunk, Alone, AreChunks, Begins, chunks_text, chunk_sites, chunks_swept}
+use Rattle.built_images.specs.Chunks.{Coded, Chunk, Alone, AreChunks, Begins, chunks_text, chunk_sites, chunks_swept}
 
 -- Padded instructions and a jump to itself, EB FE, are the text; its sites are annotated; the parts are at their places and
 -- within the limits; and the entry is where an instruction begins.

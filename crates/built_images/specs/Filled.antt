@@ -5,7 +5,7 @@ use Rattle.guest_ram.specs.Bytes.{word32, with_word32}
 use Rattle.ia32_rows.specs.Fields.{imm_len}
 use Rattle.elf_form.specs.declared.object.Reloc.{Reloc}
 use Rattle.built_images.specs.Fields.{disp_place, imm_place}
-use Rattle.built_images.specs.Chunks.{Coded, IsCoded, Chunk, Alone, Pair, chunk_text, chunks_text}
+use Rattle.built_images.specs.Chunks.{Coded, Chunk, Alone, Pair, chunk_text}
 
 -- The offset is that of a displacement or of an immediate of four bytes.
 abbrev pub IsField : Coded → ℕ → Type 0

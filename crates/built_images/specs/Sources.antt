@@ -37,7 +37,6 @@ NamesNoNumber _ = Unit {0}
 abbrev pub NameNoNumbers : List SourceItem → Type 0
 NameNoNumbers items = AllByRecursion (λ (i : SourceItem). NamesNoNumber i.body) items
 
-
 -- Objects of sources in which no direct branch names a symbol plus or minus a number.
 abbrev pub AreBurntAlone : List ObjectParts → Type 0
 AreBurntAlone os = AllByRecursion (λ (o : ObjectParts). (b : IsBurnt o) × NameNoNumbers b.items) os
