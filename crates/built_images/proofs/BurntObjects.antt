@@ -41,7 +41,7 @@ use Rattle.afterburner.specs.Sections.{is_init, place_of, size_of, here, section
 use Rattle.afterburner.specs.Directives.{directive_of, all_fit, values, in_init, numbers, data_reloc, with_long, longs, string_bytes, strings, zeros_in, common_alignment, common, directed}
 use Rattle.afterburner.specs.Objects.{value_at, symbol, symbols_seen, are, ordered, renumbered, object}
 use Rattle.afterburner.specs.Burnt.{parted, made, limited, then_limited, item_made, Fault, at_line, next_made, all_made, finished, burnt}
-use Rattle.built_images.specs.Chunks.{Coded, insn_in, Chunk, Alone, Pair, AreChunks, padding, chunk_text, chunks_text, chunk_site, chunk_sites}
+use Rattle.built_images.specs.Chunks.{Coded, Chunk, Alone, Pair, AreChunks, padding, chunk_text, chunks_text, chunk_site, chunk_sites}
 use Rattle.built_images.specs.Filled.{IsField, HaveFields, reloc_later, chunks_relocs}
 use Rattle.built_images.specs.Padded.{IsEdge, IsLinked, IsLinkedBranch, AreAlone, IsPadded}
 use Rattle.built_images.specs.Sources.{IsBurnt, NamesNoNumber, NameNoNumbers}
@@ -66,9 +66,6 @@ module _ (Plain : Type 0) where
 
   -- ---- states that are behind no STI
 
-  abbrev IsStill : State → State → Type 0
-  IsStill st new = IsSameText st new
-
   with_names : (st new : State) (cs : List Chunk) → IsMade Plain st cs → IsSameText st new → new.data_relocs ≡ st.data_relocs → All (IsLabel cs) new.definitions → IsMade Plain new cs
   with_names st new cs h s d labels = same_made Plain st new cs h s (subst (λ (rs : List Reloc). All (λ (r : Reloc). r.in_text ≡ false) rs) (sym d) h.in_data) labels
 
@@ -84,10 +81,6 @@ module _ (Plain : Type 0) where
   bound_made : (names : List (List ℕ)) (st : State) (cs : List Chunk) (name : Option (List ℕ)) (b : Binding) → st.after_sti ≡ false → IsMade Plain st cs → IsMade Plain (bound names st name b) cs
   bound_made names st cs None b e h = h
   bound_made names st cs (Some name) b e h = with_names st (record st { definitions = with_binding st.definitions (name_number names name) b }) cs h (record { text = refl; sites = refl; relocs = refl; no_sti = e }) refl (bound_labels cs st.definitions (name_number names name) b h.labels)
-
-  bound_sti : (names : List (List ℕ)) (st : State) (name : Option (List ℕ)) (b : Binding) → st.after_sti ≡ false → (bound names st name b).after_sti ≡ false
-  bound_sti names st None b e = e
-  bound_sti names st (Some name) b e = e
 
   not_bss : (cs : List Chunk) (value : ℕ) → place.Bss ≡ place.Text → IsEdge cs value
   not_bss cs value e = absurd cc
@@ -295,9 +288,6 @@ pub record KeepsPlaces (f : Reloc → Reloc) : Type 0 where
   pub in_text : (r : Reloc) → (f r).in_text ≡ r.in_text
   pub relative : (r : Reloc) → (f r).relative ≡ r.relative
   pub later : (n : ℕ) (r : Reloc) → f (reloc_later n r) ≡ reloc_later n (f r)
-
-renamed_insn : (f : Reloc → Reloc) (c : Coded) → insn_in (record c { relocs = map f c.relocs }) ≡ insn_in c
-renamed_insn f c = refl
 
 renamed_text : (f : Reloc → Reloc) (cs : List Chunk) → chunks_text (map (renamed f) cs) ≡ chunks_text cs
 renamed_text f [] = refl

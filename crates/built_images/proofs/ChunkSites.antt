@@ -66,9 +66,6 @@ unfolding found_behind nops_at
 skipped at zero ps = refl
 skipped at (suc n) ps = skipped (at + 1) n ps
 
-abbrev made_by : ℕ → Option SiteKind → ℕ → List Piece → Found
-made_by at kind len ps = record { sites = site_by at len kind ++ (found_behind 0 ps).sites; lacking = (found_behind 0 ps).lacking }
-
 true_or_false : (b : Bool) → (b ≡ true) ⊎ (b ≡ false)
 true_or_false true = inl refl
 true_or_false false = inr refl
@@ -169,9 +166,6 @@ sti_len : (c : Coded) → IsCoded c → (k : SiteKind) → sensitive_kind (insn_
 sti_len c h k e is =
     let l = ap length (sti_bytes c.row c.parts c.bytes h.listed h.spelled (e ∙ ap (λ (j : SiteKind). Some j) is)) in
     omega (arith, l)
-
-alone_piece : ℕ → Coded → Piece
-alone_piece at c = piece_of (record { at = at; len = length c.bytes; insn = insn_in c })
 
 alone_found : (at : ℕ) (c : Coded) → IsCoded c → (o : Option SiteKind) → sensitive_kind (insn_in c) ≡ o → (ps : List Piece) → found_behind 0 (piece_of (record { at = at; len = length c.bytes; insn = insn_in c }) ∷ (map piece_of (nops_at (at + length c.bytes) (nops_behind o (length c.bytes))) ++ ps)) ≡ found_with (site_by at (length c.bytes) o) ps
 unfolding nops_at

@@ -113,9 +113,6 @@ rest_filled made at c (r ∷ rs) words h f =
 
 -- ---- among other bytes
 
-AllRoom : List ℕ → List Reloc → Type 0
-AllRoom bytes rs = AllByRecursion (λ (r : Reloc). r.at + 4 ≤ length bytes) rs
-
 rooms : (c : Coded) (rs : List Reloc) → IsCoded c → AreFields c rs → AllByRecursion (λ (r : Reloc). r.at + 4 ≤ length c.bytes) rs
 rooms c [] h f = tt
 rooms c (r ∷ rs) h f = (field_room c r.at h f.0, rooms c rs h f.1)

@@ -57,9 +57,6 @@ rest_meant os n (o ∷ rest) h =
 all_meant : (os : List ObjectParts) → All (λ (d : List ℕ × Target). IsMeant os d.1) (globals os)
 all_meant os = rest_meant os 0 os (λ k o e. let z : 0 + k ≡ k = omega arith in ap (slice_get os) z ∙ e)
 
-abbrev some_target : Target → Option Target
-some_target t = Some t
-
 looked_up : (os : List ObjectParts) (name : List ℕ) (ds : List (List ℕ × Target)) (t : Target) → All (λ (d : List ℕ × Target). IsMeant os d.1) ds → lookup name ds ≡ Some t → IsMeant os t
 unfolding lookup
 looked_up os name [] t h e = absurd cc
@@ -96,9 +93,6 @@ base_got os k o e = let z : 0 + k ≡ k = omega arith in ap or_zero (bases_got o
 base_text : (os : List ObjectParts) (k : ℕ) → (base os k).text ≡ 0x10000000 + text_at os k
 unfolding base
 base_text os k = refl
-
-abbrev IsTextPlace : Place → Type 0
-IsTextPlace p = p ≡ Text
 
 text_place_is : (p : Place) → is_text p ≡ true → p ≡ Text
 text_place_is Undefined e = absurd cc

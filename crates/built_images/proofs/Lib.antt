@@ -1,4 +1,5 @@
 pub mod Words
+pub mod ReadFields
 pub mod FieldLaws
 pub mod SweepJoins
 pub mod Sensitive
@@ -12,7 +13,9 @@ pub mod Labels
 pub mod Branches
 pub mod LinkedTexts
 pub mod LinkedImages
+pub mod QuietDrafts
 pub mod Drafts
+pub mod ChosenRows
 pub mod Assembling
 pub mod BurntTexts
 pub mod BurntObjects

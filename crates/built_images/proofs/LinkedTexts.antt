@@ -225,19 +225,19 @@ two_parts Good os i o q rest there one more =
           ∙ ap (λ m. chunk_sites (text_at os i) first ++ chunk_sites m more.chunks) at
           ∙ ap (λ xs. xs ++ chunk_sites (text_at os (i + 1)) more.chunks) (first_sites (text_at os i) one.chunks n ∙ one.sites)
           ∙ ap (λ xs. moved_sites os (i, o) ++ xs) more.sites;
-      edges = in_both o first (text_room o) (q ∷ rest) more.chunks room (λ s c t. first_edge one.chunks n s.value (one.edges s c t)) more.edges;
+      edges = in_both o first (q ∷ rest) more.chunks room (λ s c t. first_edge one.chunks n s.value (one.edges s c t)) more.edges;
       branches =
           subst (λ (xs : List Swept). All (OnBranch Good) xs) (sym (swept_append (text_at os i) first more.chunks))
           (All-append (OnBranch Good) (chunks_swept (text_at os i) first) (chunks_swept (text_at os i + length (chunks_text first)) more.chunks)
           (first_branches Good (text_at os i) one.chunks n one.branches)
           (subst (λ (m : ℕ). All (OnBranch Good) (chunks_swept m more.chunks)) (sym at) more.branches));
     } where
-      in_both : (o : ObjectParts) (first : List Chunk) (room : ℕ) (rest : List ObjectParts) (behind : List Chunk) → length (chunks_text first) ≡ text_room o → ((s : Symbol) → Contains o.symbols s → s.place ≡ Text → IsEdge first s.value) → ((k : ℕ) (p : ObjectParts) → slice_get rest k ≡ Some p → (s : Symbol) → Contains p.symbols s → s.place ≡ Text → IsEdge behind (text_at rest k + s.value)) → (k : ℕ) (p : ObjectParts) → slice_get (o ∷ rest) k ≡ Some p → (s : Symbol) → Contains p.symbols s → s.place ≡ Text → IsEdge (first ++ behind) (text_at (o ∷ rest) k + s.value)
-      in_both o first room rest behind len here there zero p e s c t =
+      in_both : (o : ObjectParts) (first : List Chunk) (rest : List ObjectParts) (behind : List Chunk) → length (chunks_text first) ≡ text_room o → ((s : Symbol) → Contains o.symbols s → s.place ≡ Text → IsEdge first s.value) → ((k : ℕ) (p : ObjectParts) → slice_get rest k ≡ Some p → (s : Symbol) → Contains p.symbols s → s.place ≡ Text → IsEdge behind (text_at rest k + s.value)) → (k : ℕ) (p : ObjectParts) → slice_get (o ∷ rest) k ≡ Some p → (s : Symbol) → Contains p.symbols s → s.place ≡ Text → IsEdge (first ++ behind) (text_at (o ∷ rest) k + s.value)
+      in_both o first rest behind len here there zero p e s c t =
           let same : o ≡ p = cc in
           let z : s.value ≡ 0 + s.value = omega arith in
           subst (IsEdge (first ++ behind)) z (edge_left first behind s.value (here s (subst (λ (x : ObjectParts). Contains x.symbols s) (sym same) c) t))
-      in_both o first room rest behind len here there (suc k) p e s c t =
+      in_both o first rest behind len here there (suc k) p e s c t =
           let sum = sum_by-cons text_room o (take k rest) in
           let z : length (chunks_text first) + (text_at rest k + s.value) ≡ text_at (o ∷ rest) (suc k) + s.value = omega (arith, len, sum) in
           subst (IsEdge (first ++ behind)) z (edge_right first behind (text_at rest k + s.value) (there k p e s c t))

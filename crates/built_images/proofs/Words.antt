@@ -1,5 +1,5 @@
 -- Four bytes that are read as a number: what stands in front is as long, and others are read in their place.
-use Rattle.std.proofs.Common.{◌≡◌, ℕ, suc, ◌+◌, ◌<◌, ◌*◌, ◌^◌, List, [], ◌∷◌, ◌++◌, length, take, drop, Ok, refl, sym, ap, ◌∙◌, arith}
+use Rattle.std.proofs.Common.{◌≡◌, ℕ, ◌+◌, ◌<◌, ◌*◌, ◌^◌, List, [], ◌∷◌, ◌++◌, length, take, drop, Ok, refl, sym, ap, ◌∙◌, arith}
 use Rattle.std.specs.Int.{w32, from_le_bytes, to_le_bytes}
 use Rattle.std.proofs.lemmas.Nat.{from_le_bytes-to_le_bytes_4}
 use Rattle.guest_ram.specs.Bytes.{part, with_part, word32, with_word32}
@@ -47,9 +47,6 @@ unfolding long_at word_at
 long_is a b c d = ap read_long (sums a b c d) where
   sums : (a b c d : ℕ) → (a + 256 * b) + 65536 * (c + 256 * d) ≡ from_le_bytes w32 (a ∷ b ∷ c ∷ d ∷ [])
   sums a b c d = omega arith
-
-not_four : (n : ℕ) → suc n ≡ 4 → n ≡ 3
-not_four n e = omega arith
 
 pub long_of : (word : List ℕ) → length word ≡ 4 → long_at word ≡ Ok (from_le_bytes w32 word, [])
 long_of [] e = absurd (omega arith)
