@@ -1,5 +1,7 @@
 //! A kernel, its image file, and a run of it.
 
+ghost use Rattle.std.specs.Prelude.{◌<◌};
+
 use pv_io::{Files, IoAnswer, MemFiles, MemSink};
 use pv_tool::{Status, top};
 use std::alloc::{AllocError, Global};
@@ -24,7 +26,9 @@ fn put(out: &mut Vec<u8>, longs: &[u32]) -> Result<(), AllocError> {
     Ok(())
 }
 
-fn len(bytes: &[u8]) -> u32 {
+fn len(bytes: &[u8]) -> u32
+    ensures { result < 65536 }
+{
     (bytes.len() % 65536) as u32
 }
 
