@@ -15,11 +15,11 @@ use Rattle.asm_instruction.specs.Names.{found}
 use Rattle.asm_instruction.specs.Argument.{operands_of, names_symbol}
 use Rattle.asm_instruction.specs.Mnemonic.{known_name, drafted}
 use Rattle.asm_instruction.specs.Refused.{refused_names}
-use Rattle.asm_instruction.specs.Assembled.{named_field, widths, whole, with_spelling, spelled, drafted_of, by_draft, by_mnemonic, by_name, assembled, IsRight, IsBranchRight}
+use Rattle.asm_instruction.specs.Assembled.{named_field, widths, whole, with_spelling, spelled, drafted_of, by_draft, by_mnemonic, by_name, assembled, IsRight, IsBranchRight, IsFromChosen}
 use Rattle.asm_instruction.proofs.Goods.{When, bind_from, OperandsGood, DraftGood}
 use Rattle.asm_instruction.proofs.Drafts.{drafted_good}
 use Rattle.asm_instruction.proofs.Naming.{operands_good, MnemonicGood, known_good}
-use Rattle.asm_instruction.proofs.Whole.{whole_right}
+use Rattle.asm_instruction.proofs.Whole.{whole_right, widths_named}
 
 -- where an answer comes from
 record Spelled (args : List Argument) (a : Assembled) : Type 0 where
@@ -102,3 +102,24 @@ pub answer_branch : (rep : Bool) (name : List ℕ) (args : List Argument) (a : A
 answer_branch rep name args a e =
     let s = assembled_is rep name args a e in
     subst (IsBranchRight args) (sym s.is) (whole_branch s.draft args s.spelling s.good)
+
+-- ---- the places of the fields
+
+field_at : (named : Bool) (k : Option ℕ) (at : ℕ) (r : Bool) (f : Named) → named_field named k at r ≡ Some f → f.at ≡ at
+field_at named None at r f e = absurd cc
+field_at false (Some k) at r f e = absurd cc
+field_at true (Some k) at r f e = ap (λ (n : Named). n.at) (sym (some_same (named_at at k r) f e))
+
+whole_chosen : (d : Draft) (args : List Argument) (s : ArrayBytes) → DraftGood args d → chosen (widths d args) d.insn ≡ Some s → IsFromChosen (whole d (widths d args) s)
+unfolding whole
+whole_chosen d args s g e = record {
+  chosen_there = subst (λ w. chosen w d.insn ≡ Some s) (widths_named d args (widths d args) s refl) e;
+  bounded = g.bounded;
+  disp_at = λ f h. field_at (widths d args).disp d.disp s.disp_at false f h;
+  imm_at = λ f h. field_at (widths d args).imm d.imm s.imm_at d.relative f h;
+}
+
+pub answer_chosen : (rep : Bool) (name : List ℕ) (args : List Argument) (a : Assembled) → assembled rep name args ≡ Ok a → IsFromChosen a
+answer_chosen rep name args a e =
+    let s = assembled_is rep name args a e in
+    subst IsFromChosen (sym s.is) (whole_chosen s.draft args s.spelling s.good s.is_chosen)

@@ -12,7 +12,7 @@ use Rattle.asm_instruction.specs.declared.assembled.Assembled.{Assembled}
 use Rattle.asm_instruction.specs.declared.assembled.Refusal.{Refusal}
 use Rattle.asm_instruction.specs.declared.assembled.Refusal.TheVariants as refusal
 use Rattle.asm_instruction.specs.Argument.{argument_named, names_symbol}
-use Rattle.asm_instruction.specs.Assembled.{named_field, widths, whole, with_spelling, spelled, drafted_of, by_draft, by_mnemonic, IsShort, IsSpelled, IsField, HasFields, Before, AreInOrder, IsRight}
+use Rattle.asm_instruction.specs.Assembled.{named_field, widths, whole, with_spelling, spelled, drafted_of, by_draft, by_mnemonic, IsShort, IsSpelled, IsField, HasFields, Before, AreInOrder, IsRight, named_in}
 
 symbol_there : (o : Option (List ℕ)) → is_some o ≡ true → (n : List ℕ) × (o ≡ Some n)
 symbol_there (Some n) h = (n, refl)
@@ -54,6 +54,15 @@ fields_before false false (Some k) (Some j) d i q r h = tt
 abbrev wide_of : Bool → Bool → Wide
 wide_of d i = record { disp = d; imm = i }
 
+-- The fields that are there are those that name symbols.
+pub widths_named : (d : Draft) (args : List Argument) (wide : Wide) (s : ArrayBytes) → wide ≡ widths d args → wide ≡ named_in (whole d wide s)
+unfolding widths whole
+widths_named d args wide s e =
+    let disp : wide.disp ≡ names_symbol args d.disp = ap (λ (w : Wide). w.disp) e in
+    let imm : wide.imm ≡ names_symbol args d.imm = ap (λ (w : Wide). w.imm) e in
+    ap (λ b. wide_of b wide.imm) (sym (field_some args d.disp wide.disp s.disp_at false disp))
+    ∙ ap (wide_of (is_some (named_field wide.disp d.disp s.disp_at false))) (sym (field_some args d.imm wide.imm s.imm_at d.relative imm))
+
 -- The answer has what the encoder says of its spelling.
 pub whole_right : (d : Draft) (args : List Argument) (wide : Wide) (s : ArrayBytes) (a : Assembled) → wide ≡ widths d args → a ≡ whole d wide s
     → SpellsWide wide (take s.len s.bytes) d.insn → IsReadBack (take s.len s.bytes) d.insn s.len → IsPlaced wide s → IsRight args a
@@ -61,9 +70,7 @@ unfolding widths whole
 whole_right d args wide s a e f spells back placed =
     let disp : wide.disp ≡ names_symbol args d.disp = ap (λ (w : Wide). w.disp) e in
     let imm : wide.imm ≡ names_symbol args d.imm = ap (λ (w : Wide). w.imm) e in
-    let same : wide ≡ wide_of (is_some (named_field wide.disp d.disp s.disp_at false)) (is_some (named_field wide.imm d.imm s.imm_at d.relative)) =
-    ap (λ b. wide_of b wide.imm) (sym (field_some args d.disp wide.disp s.disp_at false disp))
-    ∙ ap (wide_of (is_some (named_field wide.disp d.disp s.disp_at false))) (sym (field_some args d.imm wide.imm s.imm_at d.relative imm)) in
+    let same : wide ≡ named_in (whole d wide s) = widths_named d args wide s e in
     subst (IsRight args) (sym f) (record {
       spelled = record { spells = subst (λ w. SpellsWide w (take s.len s.bytes) d.insn) same spells; read_back = back };
       short = record { some = placed.some; most = placed.most };

@@ -5,7 +5,7 @@ use Rattle.ia32_types.specs.declared.insn.Op.TheVariants as op
 use Rattle.ia32_types.specs.declared.size.Size.TheVariants as size
 use Rattle.ia32_encode.specs.declared.bytes.ArrayBytes.{ArrayBytes}
 use Rattle.ia32_encode.specs.declared.choose.Wide.{Wide}
-use Rattle.ia32_encode.specs.Chosen.{SpellsWide, IsReadBack, chosen}
+use Rattle.ia32_encode.specs.Chosen.{SpellsWide, IsReadBack, IsBounded, chosen}
 use Rattle.asm_parse.specs.declared.tree.Form.{Form}
 use Rattle.asm_parse.specs.declared.tree.Form.TheVariants as form
 use Rattle.asm_parse.specs.declared.tree.Argument.{Argument}
@@ -85,9 +85,13 @@ pub record IsShort (a : Assembled) : Type 0 where
 abbrev pub spelling_bytes : Assembled → List ℕ
 spelling_bytes a = take a.spelling.len a.spelling.bytes
 
+-- which of its fields name a symbol
+abbrev pub named_in : Assembled → Wide
+named_in a = record { disp = is_some a.disp; imm = is_some a.imm }
+
 -- the bytes spell the instruction, with four bytes for what names a symbol, and are read back whatever follows
 pub record IsSpelled (a : Assembled) : Type 0 where
-  pub spells : SpellsWide (record { disp = is_some a.disp; imm = is_some a.imm }) (spelling_bytes a) a.insn
+  pub spells : SpellsWide (named_in a) (spelling_bytes a) a.insn
   pub read_back : IsReadBack (spelling_bytes a) a.insn a.spelling.len
 
 -- the field lies in the spelling, and its argument names a symbol
@@ -106,6 +110,13 @@ Before _ _ = Unit {0}
 
 abbrev pub AreInOrder : Assembled → Type 0
 AreInOrder a = Before a.disp a.imm
+
+-- the spelling is the chosen one, and the fields stand where it has its displacement and its immediate
+pub record IsFromChosen (a : Assembled) : Type 0 where
+  pub chosen_there : chosen (named_in a) a.insn ≡ Some a.spelling
+  pub bounded : IsBounded a.insn
+  pub disp_at : (f : Named) → a.disp ≡ Some f → f.at ≡ a.spelling.disp_at
+  pub imm_at : (f : Named) → a.imm ≡ Some f → f.at ≡ a.spelling.imm_at
 
 -- all of these
 pub record IsRight (args : List Argument) (a : Assembled) : Type 0 where

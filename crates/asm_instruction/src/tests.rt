@@ -20,7 +20,7 @@ struct Line {
 }
 
 // A field is written as its place and the number of its argument.
-macro_rules! line {
+macro_rules! assembles {
     ($text:literal, [$($byte:literal),*]) => {
         Line { text: $text, bytes: &[$($byte),*], disp: None, imm: None }
     };
@@ -58,7 +58,7 @@ macro_rules! line {
     };
 }
 
-use line;
+use assembles;
 
 fn answer(items: &[SourceItem]) -> Option<Result<Assembled, Refusal>> {
     match items {

@@ -1,8 +1,8 @@
 -- What the function of the chosen spelling answers is chosen, and its bytes are bytes.
-use Rattle.std.proofs.Common.{◌≡◌, ℕ, zero, suc, ◌+◌, ◌*◌, ◌/◌, ◌%◌, ◌-◌, ◌^◌, ◌<◌, ◌≤◌, Bool, true, false, List, [], ◌∷◌, ◌++◌, Option, Some, None, length, get_or, replicate, refl, sym, ap, subst, ◌∙◌, arith}
-use Rattle.std.specs.Prelude.{◌==◌, ◌&&◌, ◌||◌, not, IsTrue, take, nat_le, nat_lt, if◌then◌else◌, is_none}
+use Rattle.std.proofs.Common.{◌≡◌, ℕ, zero, suc, ◌%◌, ◌-◌, ◌^◌, ◌<◌, ◌≤◌, Bool, true, false, List, [], ◌∷◌, Option, Some, None, length, get_or, replicate, refl, sym, ap, subst, ◌∙◌, arith}
+use Rattle.std.specs.Prelude.{◌==◌, ◌&&◌, take, nat_le, if◌then◌else◌, is_none}
 use Rattle.std.specs.List.{Contains, list_all}
-use Rattle.std.proofs.lemmas.Bool.{eqb-true, leb-true, ltb-true}
+use Rattle.std.proofs.lemmas.Bool.{leb-true}
 use Rattle.std.proofs.lemmas.List.{take_at}
 use Rattle.std.proofs.lemmas.List.Sums.{AllPass-from_list_all}
 use Rattle.ia32_types.specs.declared.register.Reg.{Reg}
@@ -32,10 +32,10 @@ use Rattle.ia32_rows.proofs.Fields.{both}
 use Rattle.ia32_rows.proofs.Readers.{AreBytes-append}
 use Rattle.ia32_encode.specs.declared.bytes.ArrayBytes.{ArrayBytes}
 use Rattle.ia32_encode.specs.declared.choose.Wide.{Wide}
-use Rattle.ia32_encode.specs.Text.{word_bytes, long_bytes, base_number, index_number, scale_bits, mode_for, disp_bytes, modrm, has_sib, memory_bytes, modrm_bytes, offset_of, addressing_bytes, immediate_bytes, lead_bytes, head_bytes, form_bytes}
+use Rattle.ia32_encode.specs.Text.{word_bytes, long_bytes, base_number, index_number, scale_bits, mode_for, disp_bytes, modrm, has_sib, modrm_bytes, offset_of, addressing_bytes, immediate_bytes, lead_bytes, head_bytes, form_bytes}
 use Rattle.ia32_encode.specs.Parts.{rm_from, sel_from, parts_for, form_fits, addressing_fits, immediate_fits, RegisterFits}
 use Rattle.ia32_encode.specs.Pushed.{laid_out}
-use Rattle.ia32_encode.specs.Chosen.{Suits, IsChosen, NoneSuits, does_suit, chosen_from, chosen, IsPlaced, IsOperandBounded, IsBounded, chosen_bytes, IsGood}
+use Rattle.ia32_encode.specs.Chosen.{Suits, IsChosen, NoneSuits, does_suit, chosen_from, chosen, IsOperandBounded, IsBounded, IsGood}
 use Rattle.ia32_encode.proofs.Back.{base_below, index_below}
 use Rattle.ia32_encode.proofs.Laid.{FirstFail, is_chosen, chosen_spells, chosen_back, fits_below}
 use Rattle.ia32_encode.proofs.Function.{suits_true, true_suits, chosen_placed}
@@ -148,11 +148,13 @@ modrm_below m r n a b c = omega arith
 
 memory_cases : (sib : Bool) (reg len : ℕ) (a : Address) → reg < 8 → a.disp < 2 ^ 32
     → AreBytes (if sib then modrm (mode_for a.base len) reg 4 ∷ modrm (scale_bits a.scale) (index_number a.index) (base_number a.base) ∷ disp_bytes len a.disp
-       else modrm (mode_for a.base len) reg (base_number a.base) ∷ disp_bytes len a.disp)
+    else modrm (mode_for a.base len) reg (base_number a.base) ∷ disp_bytes len a.disp)
 memory_cases true reg len a r d = (
   modrm_below (mode_for a.base len) reg 4 (mode_below a.base len) r (omega arith),
-  (modrm_below (scale_bits a.scale) (index_number a.index) (base_number a.base) (scale_below a.scale) (index_below a.index) (base_below a.base),
-  disp_cases (len == 0) (len == 1) a.disp d),
+  (
+    modrm_below (scale_bits a.scale) (index_number a.index) (base_number a.base) (scale_below a.scale) (index_below a.index) (base_below a.base),
+    disp_cases (len == 0) (len == 1) a.disp d,
+  ),
 )
 memory_cases false reg len a r d = (
   modrm_below (mode_for a.base len) reg (base_number a.base) (mode_below a.base len) r (base_below a.base),
