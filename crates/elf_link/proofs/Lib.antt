@@ -13,3 +13,4 @@ pub mod CheckLaws
 pub mod LinkLaws
 pub mod PlaceLaws
 pub mod CauseLaws
+pub mod DoubledLaws

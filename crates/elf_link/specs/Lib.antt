@@ -10,3 +10,4 @@ pub mod Spans
 pub mod Steps
 pub mod Answers
 pub mod Facts
+pub mod Doubled

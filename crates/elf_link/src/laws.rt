@@ -1,6 +1,6 @@
 //! What linking is, in words that name no order of work.
 
-ghost use Rattle.std.specs.Prelude.{◌≡◌, ◌+◌, ◌≤◌, ◌<◌, ℕ, true, false, not, ◌&&◌, List, All, length, slice_get, slice_index, Some, None, if◌then◌else◌};
+ghost use Rattle.std.specs.Prelude.{◌≡◌, ◌+◌, ◌≤◌, ◌<◌, ◌++◌, ℕ, take, true, false, not, ◌&&◌, List, All, length, slice_get, slice_index, Some, None, if◌then◌else◌};
 ghost use Rattle.std.specs.Str.{bytes_eq};
 ghost use Rattle.elf_form.specs.ObjectParts.{ObjectParts};
 ghost use Rattle.elf_form.specs.declared.object.Symbol.{Symbol as SymbolView};
@@ -10,6 +10,8 @@ ghost use Rattle.elf_link.specs.declared.fault.LinkCause.TheVariants.{NoSymbol, 
 ghost use Rattle.elf_link.specs.Layout.{text_at, init_at, bss_at, bases};
 ghost use Rattle.elf_link.specs.Symbols.{is_text, is_exported, target, lookup, target_of, globals};
 ghost use Rattle.elf_link.specs.Relocations.{IsLinkable, reloc_cause, patched};
+ghost use Rattle.elf_link.specs.Refusals.{first_doubled, is_among};
+ghost use Rattle.elf_link.specs.Doubled.{IsFirstDoubled};
 ghost use Rattle.elf_link.specs.Linked.{linked_text, linked_init};
 
 /// No two objects' parts overlap, and all zeroed bytes stand behind all data.
@@ -42,4 +44,12 @@ pub fn names_found()
 pub fn relocations_refused()
     ensures no_symbol { (gs : List (List ℕ × TargetView)) (i : ℕ) (o : ObjectParts) (r : RelocView) (s : SymbolView) → slice_get o.symbols r.symbol ≡ Some s → target_of gs i s ≡ None → reloc_cause gs (i, o) r ≡ Some (NoSymbol s.name) }
     ensures not_text { (gs : List (List ℕ × TargetView)) (i : ℕ) (o : ObjectParts) (r : RelocView) (s : SymbolView) (t : TargetView) → slice_get o.symbols r.symbol ≡ Some s → target_of gs i s ≡ Some t → reloc_cause gs (i, o) r ≡ (if r.in_text && r.relative && not (is_text t.place) then Some (NotText r.at) else None) }
+{}
+
+/// A name is told as defined twice exactly where it stands behind itself: it is the first of an
+/// object's names that an object before it, or an earlier symbol of its own, defines too.
+#[tactic(auto, using(crate::proofs::DoubledLaws::doubled_found, crate::proofs::DoubledLaws::doubled_none))]
+pub fn names_doubled()
+    ensures found { (others names : List (List ℕ)) (name : List ℕ) → first_doubled others names ≡ Some name → IsFirstDoubled others names name }
+    ensures none { (others names : List (List ℕ)) → first_doubled others names ≡ None → (k : ℕ) (name : List ℕ) → slice_get names k ≡ Some name → is_among name (others ++ take k names) ≡ false }
 {}

@@ -16,6 +16,6 @@ mod tests;
 mod totals;
 
 pub use fault::{LinkCause, LinkFault};
-pub use laws::{names_found, parts_apart, parts_stand, relocations_refused};
+pub use laws::{names_doubled, names_found, parts_apart, parts_stand, relocations_refused};
 pub use linkable::are_linkable;
 pub use linking::{link, linked};
