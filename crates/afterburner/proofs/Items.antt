@@ -46,7 +46,7 @@ item_size items k d i lt e r = let h = item_count items k d lt in rw e (omega (a
 pub item_among : (names : List (List ℕ)) (items : List SourceItem) (k : ℕ) (d i : SourceItem) → names ≡ names_in items → k < length items → i ≡ get_or items k d → AreHeld names (body_names i.body)
 item_among names items k d i n lt e = rw (n, e) (item_held items k d lt)
 
-stays : (names : List (List ℕ)) (f : Fault) (items : List SourceItem) → fold (next_made names) (Err f) items ≡ Err f
+pub stays : (names : List (List ℕ)) (f : Fault) (items : List SourceItem) → fold (next_made names) (Err f) items ≡ Err f
 stays names f [] = refl
 stays names f (i ∷ items) = stays names f items
 

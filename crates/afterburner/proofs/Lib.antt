@@ -6,3 +6,4 @@ pub mod Spelled
 pub mod Items
 pub mod Sited
 pub mod Whole
+pub mod Refusal

@@ -9,4 +9,5 @@ pub mod Instructions
 pub mod Directives
 pub mod Objects
 pub mod Burnt
+pub mod Refused
 pub mod Sound

@@ -5,6 +5,7 @@ ghost use Rattle.asm_parse.specs.Readable.{IsReadable, body_names, names_in};
 ghost use Rattle.asm_parse.specs.Size.{body_count};
 ghost use Rattle.elf_form.specs.ObjectLayout.{IsWholeObject};
 ghost use Rattle.afterburner.specs.Burnt.{Makes, Gives, FaultOf, parted, made, item_made, all_made, burnt};
+ghost use Rattle.afterburner.specs.Refused.{Refuses};
 ghost use Rattle.afterburner.specs.Sound.{IsSound, IsWithin, IsAnnotated, IsSmall, AreHeld};
 
 use crate::assembly::Assembly;
@@ -102,11 +103,13 @@ fn fault(line: u32, stop: Stop) -> BurnFault
 
 /// The object of a source's items: each instruction in its chosen spelling, a sensitive one padded with
 /// NOPs to five bytes and annotated. The line of a fault is that of the first item that is refused.
-#[tactic(auto, unfolding(crate::specs::Burnt::burnt))]
+#[tactic(auto, unfolding(crate::specs::Burnt::burnt), using(crate::proofs::Refusal::refused_first))]
 pub fn burn(alloc: Global, source: &Source) -> Result<Object, BurnFault>
     requires { IsReadable source.now }
     // The object, or the first refusal, is this function of the items.
     ensures exact { Gives result (burnt source.now) }
+    // What is refused is the first item that can't be made.
+    ensures first { Refuses source.now result }
     // A file can be written of the object.
     ensures writable { IfOk result (λ o. IsWholeObject o) }
     // Its annotations are those of sites in its text.

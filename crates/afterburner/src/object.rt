@@ -174,17 +174,17 @@ fn relocs(
     alloc: Global,
     definitions: &[Definition],
     text: &[Reloc],
-    data: &[Reloc],
+    init: &[Reloc],
 ) -> Result<Vec<Reloc>, AllocError>
     requires count { length definitions.now ≤ 65536 }
     requires text { All (λ (r : Reloc). r.symbol < length definitions.now) text.now }
-    requires data { All (λ (r : Reloc). r.symbol < length definitions.now) data.now }
-    ensures { IfOk result (λ v. v.items ≡ map (spec.renumbered definitions.now) (text.now ++ data.now)) }
+    requires init { All (λ (r : Reloc). r.symbol < length definitions.now) init.now }
+    ensures { IfOk result (λ v. v.items ≡ map (spec.renumbered definitions.now) (text.now ++ init.now)) }
 {
     let numbers = ordered_numbers(alloc, definitions)?;
     let mut out = Vec::new(alloc);
     put_relocs(&mut out, &numbers, text)?;
-    put_relocs(&mut out, &numbers, data)?;
+    put_relocs(&mut out, &numbers, init)?;
     Ok(out)
 }
 
@@ -194,7 +194,7 @@ pub fn object(alloc: Global, names: &Names, made: Assembly) -> Result<Object, Al
     requires definitions { length made.definitions ≡ length names.now }
     requires count { length made.definitions ≤ 65536 }
     requires text { All (λ (r : Reloc). r.symbol < length made.definitions) made.text_relocs }
-    requires data { All (λ (r : Reloc). r.symbol < length made.definitions) made.data_relocs }
+    requires init { All (λ (r : Reloc). r.symbol < length made.definitions) made.data_relocs }
     requires bss { made.bss < 2 ^ 32 }
     requires few { length made.sites ≤ 262144 }
     requires sites { AreSites 0 made.sites }

@@ -1,0 +1,25 @@
+-- The first item that is refused.
+use Rattle.std.specs.Prelude.{◌≡◌, ℕ, List, ◌∷◌, ◌++◌, fold, Result, Ok, Err}
+use Rattle.asm_parse.specs.declared.tree.SourceItem.{SourceItem}
+use Rattle.asm_parse.specs.Readable.{names_in}
+use Rattle.afterburner.specs.declared.fault.BurnCause.{BurnCause}
+use Rattle.afterburner.specs.declared.fault.BurnFault.{BurnFault}
+use Rattle.afterburner.specs.declared.fault.BurnFault.TheVariants as faults
+use Rattle.afterburner.specs.State.{State, fresh}
+use Rattle.afterburner.specs.Burnt.{next_made, item_made}
+
+-- The items before it are made without a refusal, and behind them the item of this line is refused for this cause.
+pub record IsFirstRefused (names : List (List ℕ)) (start : State) (items : List SourceItem) (line : ℕ) (cause : BurnCause) : Type 0 where
+  pub before : List SourceItem
+  pub item : SourceItem
+  pub after : List SourceItem
+  pub so_far : State
+  pub place : items ≡ before ++ item ∷ after
+  pub earlier : fold (next_made names) (Ok start) before ≡ Ok so_far
+  pub refused : item_made names so_far item.body ≡ Err cause
+  pub on_line : item.line ≡ line
+
+abbrev pub Refuses : {A : Type 0} → List SourceItem → Result A BurnFault → Type 0
+Refuses items (Ok x) = Unit {0}
+Refuses items (Err faults.Memory) = Unit {0}
+Refuses items (Err (faults.At line c)) = IsFirstRefused (names_in items) (fresh (names_in items)) items line c
