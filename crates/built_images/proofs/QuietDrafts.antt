@@ -1,0 +1,302 @@
+-- Statements that mean no direct branch.
+use Rattle.std.proofs.Common.{◌≡◌, ℕ, Bool, true, false, cond, Option, Some, None, refl, inl, inr, ◌⊎◌}
+use Rattle.std.specs.Prelude.{◌==◌}
+use Rattle.ia32_types.specs.declared.insn.Op.{Op}
+use Rattle.ia32_types.specs.declared.insn.Op.TheVariants as op
+use Rattle.ia32_types.specs.declared.insn.Operand.{Operand}
+use Rattle.ia32_types.specs.declared.insn.Operand.TheVariants as operand
+use Rattle.ia32_types.specs.declared.size.Size.{Size}
+use Rattle.ia32_types.specs.declared.size.Size.TheVariants as size
+use Rattle.image_check.specs.Pieces.{is_branch}
+use Rattle.asm_instruction.specs.declared.argument.Number.{Number}
+use Rattle.asm_instruction.specs.declared.argument.Given.{Given}
+use Rattle.asm_instruction.specs.declared.argument.Given.TheVariants as given
+use Rattle.asm_instruction.specs.declared.argument.Operands.{Operands}
+use Rattle.asm_instruction.specs.declared.argument.Operands.TheVariants as operands
+use Rattle.asm_instruction.specs.declared.draft.Draft.{Draft}
+use Rattle.asm_instruction.specs.declared.draft.Place.{Place}
+use Rattle.asm_instruction.specs.declared.draft.Pair.{Pair}
+use Rattle.asm_instruction.specs.declared.draft.Pair.TheVariants as pair
+use Rattle.asm_instruction.specs.declared.arithmetic.Arithmetic.{Arithmetic}
+use Rattle.asm_instruction.specs.declared.arithmetic.Arithmetic.TheVariants as arithmetic
+use Rattle.asm_instruction.specs.declared.moves.Moves.{Moves}
+use Rattle.asm_instruction.specs.declared.moves.Moves.TheVariants as moves
+use Rattle.asm_instruction.specs.declared.stack.Stack.{Stack}
+use Rattle.asm_instruction.specs.declared.stack.Stack.TheVariants as stack
+use Rattle.asm_instruction.specs.declared.system.System.{System}
+use Rattle.asm_instruction.specs.declared.system.System.TheVariants as system
+use Rattle.asm_instruction.specs.Names.{◌>>=◌}
+use Rattle.asm_instruction.specs.Sizes.{agreed}
+use Rattle.asm_instruction.specs.Draft.{register, register_or_memory, said, paired, instruction, with_number, nothing, of_operand, memory}
+use Rattle.asm_instruction.specs.Arithmetic.{of_pair, memory_first, two, tested, one, into_register, to_register, multiplied, product, arithmetic_draft}
+use Rattle.asm_instruction.specs.Shift.{by_one, by_number, by_register, shift_draft}
+use Rattle.asm_instruction.specs.Moves.{special, from_segment, to_segment, from_control, to_control, general, moved, into_long, extended, effective, with_register, exchange, exchanged, move_of, move_draft}
+use Rattle.asm_instruction.specs.Stack.{of_long, of_general, of_number, pushed, popped, stack_draft}
+use Rattle.asm_instruction.specs.Strings.{string_draft}
+use Rattle.asm_instruction.specs.Flags.{without_operands, plain_draft}
+use Rattle.asm_instruction.specs.System.{through, between, ported, memory_alone, of_memory, task, system_draft}
+
+-- ---- what is drafted is no branch
+
+abbrev pub IsQuiet : Option Draft → Type 0
+IsQuiet None = Unit {0}
+IsQuiet (Some d) = is_branch d.insn.op ≡ false
+
+pub bound : {A : Type 0} (o : Option A) (f : A → Option Draft) → ((a : A) → IsQuiet (f a)) → IsQuiet (o >>= f)
+bound (Some a) f h = h a
+bound None f h = tt
+
+pub quiet_instruction : (o : Op) (s : Size) (a b : Place) → is_branch o ≡ false → IsQuiet (Some (instruction o s a b))
+unfolding instruction
+quiet_instruction o s a b e = e
+
+pub quiet_number : (o : Op) (s : Size) (a b : Place) (t : Size) (n : Number) → is_branch o ≡ false → IsQuiet (Some (with_number (instruction o s a b) t n))
+unfolding instruction with_number
+quiet_number o s a b t n e = e
+
+quiet_pair : (o : Op) (s : Size) (p : Pair) → is_branch o ≡ false → IsQuiet (Some (of_pair o s p))
+quiet_pair o s (pair.Immediate n place) e = quiet_number o s place nothing s n e
+quiet_pair o s (pair.FromRegister n place) e = quiet_instruction o s place (register n) e
+quiet_pair o s (pair.FromMemory place n) e = quiet_instruction o s (register n) place e
+
+quiet_memory : (s : Size) (p : Pair) → IsQuiet (Some (memory_first op.Test s p))
+quiet_memory s (pair.Immediate n place) = quiet_number op.Test s place nothing s n refl
+quiet_memory s (pair.FromRegister n place) = quiet_instruction op.Test s place (register n) refl
+quiet_memory s (pair.FromMemory place n) = quiet_instruction op.Test s place (register n) refl
+
+-- ---- arithmetic
+
+pub quiet_one : (o : Op) (t : Option Size) (g : Given) → is_branch o ≡ false → IsQuiet (one o t g)
+unfolding one
+quiet_one o t g e = bound (register_or_memory g) _ (λ place. bound (agreed t (said g) None) _ (λ s. quiet_instruction o s place nothing e))
+
+quiet_into : (o : Op) (s : Size) (g : Given) (place : Place) → is_branch o ≡ false → IsQuiet (into_register o s g place)
+quiet_into o s (given.Register t n) place e = quiet_instruction o s (register n) place e
+quiet_into o s (given.Segment t) place e = tt
+quiet_into o s (given.Control t) place e = tt
+quiet_into o s (given.Memory t) place e = tt
+quiet_into o s (given.Immediate t) place e = tt
+quiet_into o s given.Port place e = tt
+
+quiet_to : (o : Op) (t : Option Size) (a b : Given) → is_branch o ≡ false → IsQuiet (to_register o t a b)
+unfolding to_register
+quiet_to o t a b e = bound (register_or_memory a) _ (λ place. bound (agreed t (said a) (said b)) _ (λ s. quiet_into o s b place e))
+
+quiet_with : (d : Option Draft) (t : Size) (n : Number) → IsQuiet d → IsQuiet (d >>= λ x. Some (with_number x t n))
+unfolding with_number
+quiet_with None t n h = tt
+quiet_with (Some d) t n h = h
+
+pub quiet_arithmetic : (k : Arithmetic) (t : Option Size) (os : Operands) → (arithmetic_ok : (o : Op) → (k ≡ arithmetic.Two o) ⊎ (k ≡ arithmetic.One o) → is_branch o ≡ false) → IsQuiet (arithmetic_draft k t os)
+unfolding arithmetic_draft two tested product multiplied
+quiet_arithmetic (arithmetic.Two o) t (operands.Two a b) h = bound (paired a b) _ (λ p. bound (agreed t (said a) (said b)) _ (λ s. quiet_pair o s p (h o (inl refl))))
+quiet_arithmetic arithmetic.Test t (operands.Two a b) h = bound (paired a b) _ (λ p. bound (agreed t (said a) (said b)) _ (λ s. quiet_memory s p))
+quiet_arithmetic (arithmetic.One o) t (operands.One g) h = quiet_one o t g (h o (inr refl))
+quiet_arithmetic arithmetic.Multiply t (operands.One g) h = quiet_one op.Imul t g refl
+quiet_arithmetic arithmetic.Multiply t (operands.Two a b) h = quiet_to op.Imul t a b refl
+quiet_arithmetic arithmetic.Multiply t (operands.Three (given.Immediate n) a b) h = quiet_with (to_register op.ImulBy t a b) size.Long n (quiet_to op.ImulBy t a b refl)
+quiet_arithmetic arithmetic.Multiply t (operands.Three (given.Register x y) a b) h = tt
+quiet_arithmetic arithmetic.Multiply t (operands.Three (given.Segment x) a b) h = tt
+quiet_arithmetic arithmetic.Multiply t (operands.Three (given.Control x) a b) h = tt
+quiet_arithmetic arithmetic.Multiply t (operands.Three (given.Memory x) a b) h = tt
+quiet_arithmetic arithmetic.Multiply t (operands.Three given.Port a b) h = tt
+quiet_arithmetic arithmetic.Multiply t operands.Nothing h = tt
+quiet_arithmetic arithmetic.Multiply t (operands.Starred g) h = tt
+quiet_arithmetic _ t _ h = tt
+
+-- ---- shifts
+
+pub quiet_shift : (o : Op) (t : Option Size) (os : Operands) → is_branch o ≡ false → IsQuiet (shift_draft o t os)
+unfolding shift_draft by_one by_number by_register instruction
+quiet_shift o t (operands.One g) e = bound (register_or_memory g) _ (λ place. bound (agreed t (said g) None) _ (λ s. e))
+quiet_shift o t (operands.Two (given.Immediate n) g) e = bound (register_or_memory g) _ (λ place. bound (agreed t (said g) None) _ (λ s. quiet_number o s place nothing size.Byte n e))
+quiet_shift o t (operands.Two (given.Register size.Byte n) g) e = chosen (n == 1) (bound (register_or_memory g) _ (λ place. bound (agreed t (said g) None) _ (λ s. quiet_instruction o s place (register 1) e))) where
+  chosen : (b : Bool) → IsQuiet (by_register o t g) → IsQuiet (cond b (by_register o t g) None)
+  chosen true h = h
+  chosen false h = tt
+quiet_shift o t (operands.Two (given.Register size.Word n) g) e = tt
+quiet_shift o t (operands.Two (given.Register size.Long n) g) e = tt
+quiet_shift o t (operands.Two (given.Segment n) g) e = tt
+quiet_shift o t (operands.Two (given.Control n) g) e = tt
+quiet_shift o t (operands.Two (given.Memory n) g) e = tt
+quiet_shift o t (operands.Two given.Port g) e = tt
+quiet_shift o t operands.Nothing e = tt
+quiet_shift o t (operands.Starred g) e = tt
+quiet_shift o t (operands.Three a b c) e = tt
+
+-- ---- moves
+
+quiet_special : (o : Op) (t : Option Size) (g : Given) (a b : Place) → is_branch o ≡ false → IsQuiet (special o t g a b)
+unfolding special
+quiet_special o t g a b e = bound (agreed t (said g) (Some size.Long)) _ (λ s. quiet_instruction o s a b e)
+
+quiet_general : (t : Option Size) (a b : Given) → IsQuiet (general t a b)
+unfolding general
+quiet_general t a b = bound (paired a b) _ (λ p. bound (agreed t (said a) (said b)) _ (λ s. quiet_pair op.Mov s p refl))
+
+quiet_to_special : (t : Option Size) (a b : Given) → IsQuiet (moved t a b)
+unfolding moved from_segment to_segment from_control to_control
+quiet_to_special t (given.Segment x) b = bound (register_or_memory b) _ (λ to. quiet_special op.ReadSeg t b to (of_operand (operand.Segment x)) refl)
+quiet_to_special t (given.Control x) b = bound (register_or_memory b) _ (λ to. quiet_special op.ReadControl t b to (of_operand (operand.Control x)) refl)
+quiet_to_special t a (given.Segment x) = bound (register_or_memory a) _ (λ from. quiet_special op.LoadSeg t a (of_operand (operand.Segment x)) from refl)
+quiet_to_special t a (given.Control x) = bound (register_or_memory a) _ (λ from. quiet_special op.WriteControl t a (of_operand (operand.Control x)) from refl)
+quiet_to_special t a b = quiet_general t a b
+
+quiet_long : (o : Op) (s : Size) (g : Given) (from : Place) → is_branch o ≡ false → IsQuiet (into_long o s g from)
+quiet_long o s (given.Register size.Long n) from e = quiet_instruction o s (register n) from e
+quiet_long o s (given.Register size.Byte n) from e = tt
+quiet_long o s (given.Register size.Word n) from e = tt
+quiet_long o s (given.Segment n) from e = tt
+quiet_long o s (given.Control n) from e = tt
+quiet_long o s (given.Memory n) from e = tt
+quiet_long o s (given.Immediate n) from e = tt
+quiet_long o s given.Port from e = tt
+
+quiet_extended : (o : Op) (s : Size) (a b : Given) → is_branch o ≡ false → IsQuiet (extended o s a b)
+unfolding extended
+quiet_extended o s a b e = bound (register_or_memory a) _ (λ from. bound (agreed (Some s) (said a) None) _ (λ t. quiet_long o t b from e))
+
+quiet_effective : (t : Option Size) (a b : Given) → IsQuiet (effective t a b)
+unfolding effective
+quiet_effective t (given.Memory m) b = quiet_to op.Lea t (given.Memory m) b refl
+quiet_effective t (given.Register x y) b = tt
+quiet_effective t (given.Segment x) b = tt
+quiet_effective t (given.Control x) b = tt
+quiet_effective t (given.Immediate x) b = tt
+quiet_effective t given.Port b = tt
+
+quiet_with_register : (s : Size) (n : ℕ) (other : Place) (x : Operand) → IsQuiet (Some (with_register s n other x))
+quiet_with_register s n other (operand.Register m) = quiet_instruction op.Xchg s _ _ refl
+quiet_with_register s n other operand.Absent = quiet_instruction op.Xchg s other (register n) refl
+quiet_with_register s n other (operand.Memory m) = quiet_instruction op.Xchg s other (register n) refl
+quiet_with_register s n other (operand.Segment m) = quiet_instruction op.Xchg s other (register n) refl
+quiet_with_register s n other (operand.Control m) = quiet_instruction op.Xchg s other (register n) refl
+
+quiet_exchange : (s : Size) (p : Pair) → IsQuiet (exchange s p)
+quiet_exchange s (pair.Immediate n place) = tt
+quiet_exchange s (pair.FromRegister n place) = quiet_with_register s n place place.operand
+quiet_exchange s (pair.FromMemory place n) = quiet_instruction op.Xchg s place (register n) refl
+
+quiet_exchanged : (t : Option Size) (a b : Given) → IsQuiet (exchanged t a b)
+unfolding exchanged
+quiet_exchanged t a b = bound (paired a b) _ (λ p. bound (agreed t (said a) (said b)) _ (λ s. quiet_exchange s p))
+
+quiet_move : (k : Moves) (t : Option Size) (a b : Given) → ((o : Op) (s : Size) → k ≡ moves.Extend o s → is_branch o ≡ false) → IsQuiet (move_of k t a b)
+quiet_move moves.Move t a b h = quiet_to_special t a b
+quiet_move (moves.Extend o s) t a b h = quiet_extended o s a b (h o s refl)
+quiet_move moves.Lea t a b h = quiet_effective t a b
+quiet_move moves.Exchange t a b h = quiet_exchanged t a b
+
+pub quiet_moves : (k : Moves) (t : Option Size) (os : Operands) → ((o : Op) (s : Size) → k ≡ moves.Extend o s → is_branch o ≡ false) → IsQuiet (move_draft k t os)
+unfolding move_draft
+quiet_moves k t (operands.Two a b) h = quiet_move k t a b h
+quiet_moves k t operands.Nothing h = tt
+quiet_moves k t (operands.One a) h = tt
+quiet_moves k t (operands.Starred a) h = tt
+quiet_moves k t (operands.Three a b c) h = tt
+
+-- ---- the stack
+
+quiet_of_long : (o : Op) (t : Option Size) (g : Given) (a : Place) → is_branch o ≡ false → IsQuiet (of_long o t g a)
+unfolding of_long
+quiet_of_long o t g a e = bound (agreed t (said g) (Some size.Long)) _ (λ s. quiet_instruction o s a nothing e)
+
+quiet_of_general : (o : Op) (t : Option Size) (g : Given) → is_branch o ≡ false → IsQuiet (of_general o t g)
+unfolding of_general
+quiet_of_general o t g e = bound (register_or_memory g) _ (λ a. quiet_of_long o t g a e)
+
+quiet_of_number : (t : Option Size) (n : Number) → IsQuiet (of_number t n)
+unfolding of_number
+quiet_of_number t n = bound (agreed t (Some size.Long) None) _ (λ s. quiet_number op.Push size.Long nothing nothing s n refl)
+
+quiet_pushed : (t : Option Size) (g : Given) → IsQuiet (pushed t g)
+unfolding pushed
+quiet_pushed t (given.Immediate n) = quiet_of_number t n
+quiet_pushed t (given.Segment x) = quiet_of_long op.PushSeg t (given.Segment x) (of_operand (operand.Segment x)) refl
+quiet_pushed t g = quiet_of_general op.Push t g refl
+
+quiet_popped : (t : Option Size) (g : Given) → IsQuiet (popped t g)
+unfolding popped
+quiet_popped t (given.Segment x) = quiet_of_long op.PopSeg t (given.Segment x) (of_operand (operand.Segment x)) refl
+quiet_popped t g = quiet_of_general op.Pop t g refl
+
+pub quiet_stack : (k : Stack) (t : Option Size) (os : Operands) → IsQuiet (stack_draft k t os)
+unfolding stack_draft
+quiet_stack stack.Push t (operands.One g) = quiet_pushed t g
+quiet_stack stack.Pop t (operands.One g) = quiet_popped t g
+quiet_stack k t operands.Nothing = tt
+quiet_stack k t (operands.Starred g) = tt
+quiet_stack k t (operands.Two a b) = tt
+quiet_stack k t (operands.Three a b c) = tt
+
+-- ---- strings, flags, system
+
+pub quiet_string : (rep : Bool) (o : Op) (s : Size) (os : Operands) → is_branch o ≡ false → IsQuiet (string_draft rep o s os)
+unfolding string_draft instruction
+quiet_string rep o s operands.Nothing e = e
+quiet_string rep o s (operands.One a) e = tt
+quiet_string rep o s (operands.Starred a) e = tt
+quiet_string rep o s (operands.Two a b) e = tt
+quiet_string rep o s (operands.Three a b c) e = tt
+
+quiet_without : (o : Op) (os : Operands) → is_branch o ≡ false → IsQuiet (without_operands o os)
+quiet_without o operands.Nothing e = quiet_instruction o size.Long nothing nothing e
+quiet_without o (operands.One a) e = tt
+quiet_without o (operands.Starred a) e = tt
+quiet_without o (operands.Two a b) e = tt
+quiet_without o (operands.Three a b c) e = tt
+
+pub quiet_plain : (o : Op) (t : Option Size) (os : Operands) → is_branch o ≡ false → IsQuiet (plain_draft o t os)
+unfolding plain_draft
+quiet_plain o t os e = bound (agreed t (Some size.Long) None) _ (λ s. quiet_without o os e)
+
+quiet_if : (b : Bool) (d : Option Draft) → IsQuiet d → IsQuiet (cond b d None)
+quiet_if true d h = h
+quiet_if false d h = tt
+
+quiet_through : (o : Op) (s : Size) (g : Given) → is_branch o ≡ false → IsQuiet (through o s g)
+unfolding through
+quiet_through o s (given.Immediate n) e = quiet_number o s nothing nothing size.Byte n e
+quiet_through o s given.Port e = quiet_instruction o s nothing (register 2) e
+quiet_through o s (given.Register size.Word n) e = quiet_if (n == 2) (Some (instruction o s nothing (register 2))) (quiet_instruction o s nothing (register 2) e)
+quiet_through o s (given.Register size.Byte n) e = tt
+quiet_through o s (given.Register size.Long n) e = tt
+quiet_through o s (given.Segment n) e = tt
+quiet_through o s (given.Control n) e = tt
+quiet_through o s (given.Memory n) e = tt
+
+quiet_between : (o : Op) (s : Size) (p g : Given) → is_branch o ≡ false → IsQuiet (between o s p g)
+quiet_between o s p (given.Register t n) e = quiet_if (n == 0) (through o s p) (quiet_through o s p e)
+quiet_between o s p (given.Segment n) e = tt
+quiet_between o s p (given.Control n) e = tt
+quiet_between o s p (given.Memory n) e = tt
+quiet_between o s p (given.Immediate n) e = tt
+quiet_between o s p given.Port e = tt
+
+quiet_ported : (o : Op) (t : Option Size) (p g : Given) → is_branch o ≡ false → IsQuiet (ported o t p g)
+unfolding ported
+quiet_ported o t p g e = bound (agreed t (said g) None) _ (λ s. quiet_between o s p g e)
+
+quiet_alone : (o : Op) (s : Size) (g : Given) → is_branch o ≡ false → IsQuiet (memory_alone o s g)
+quiet_alone o s (given.Memory m) e = quiet_instruction o s (memory m) nothing e
+quiet_alone o s (given.Register t n) e = tt
+quiet_alone o s (given.Segment n) e = tt
+quiet_alone o s (given.Control n) e = tt
+quiet_alone o s (given.Immediate n) e = tt
+quiet_alone o s given.Port e = tt
+
+quiet_of_memory : (o : Op) (t : Option Size) (g : Given) → is_branch o ≡ false → IsQuiet (of_memory o t g)
+unfolding of_memory
+quiet_of_memory o t g e = bound (agreed t (Some size.Long) None) _ (λ s. quiet_alone o s g e)
+
+quiet_task : (t : Option Size) (g : Given) → IsQuiet (task t g)
+unfolding task
+quiet_task t g = bound (register_or_memory g) _ (λ place. bound (agreed t (said g) (Some size.Word)) _ (λ s. quiet_instruction op.LoadTask size.Long place nothing refl))
+
+pub quiet_system : (k : System) (t : Option Size) (os : Operands) → ((o : Op) → k ≡ system.Memory o → is_branch o ≡ false) → IsQuiet (system_draft k t os)
+unfolding system_draft
+quiet_system system.In t (operands.Two p to) h = quiet_ported op.PortIn t p to refl
+quiet_system system.Out t (operands.Two from p) h = quiet_ported op.PortOut t p from refl
+quiet_system (system.Memory o) t (operands.One g) h = quiet_of_memory o t g (h o refl)
+quiet_system system.LoadTask t (operands.One g) h = quiet_task t g
+quiet_system _ t _ h = tt

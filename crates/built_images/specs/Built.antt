@@ -1,0 +1,36 @@
+-- Images whose text is made of padded instructions.
+use Rattle.std.specs.Prelude.{◌≡◌, ◌⊎◌, ℕ, ◌+◌, ◌-◌, ◌≤◌, true, List, [], ◌∷◌, ◌++◌, length, Ok, Err}
+use Rattle.std.specs.List.{Contains}
+use Rattle.elf_form.specs.ImageParts.{ImageParts}
+use Rattle.sites.specs.Reading.{sites_in}
+use Rattle.image_check.specs.declared.fault.CheckCause.TheVariants.{Target}
+use Rattle.image_check.specs.Sweep.{Swept}
+use Rattle.image_check.specs.Pieces.{is_branch, target_of}
+use Rattle.image_check.specs.Refusals.{Wrong}
+use Rattle.image_check.specs.Checking.{image_with, image_from}
+use Rattle.built_images.specs.Chunks.{Coded, Chunk, Alone, AreChunks, Begins, chunks_text, chunk_sites, chunks_swept}
+
+-- Padded instructions and a jump to itself, EB FE, are the text; its sites are annotated; the parts are at their places and
+-- within the limits; and the entry is where an instruction begins.
+pub record IsBuilt (parts : ImageParts) (cs : List Chunk) : Type 0 where
+  pub chunks : AreChunks cs
+  pub text : parts.text ≡ chunks_text cs
+  pub body : List Chunk
+  pub last : Coded
+  pub ends : cs ≡ body ++ (Alone last ∷ [])
+  pub jump : last.bytes ≡ 0xEB ∷ 0xFE ∷ []
+  pub annotated : sites_in parts.sites ≡ Ok (chunk_sites 0 cs)
+  pub text_at : parts.text_at ≡ 0x10000000
+  pub init_at : parts.init_at ≡ 0x11000000
+  pub size : length parts.text ≤ 4194304
+  pub room : length parts.init + parts.bss ≤ 33554432
+  pub entry_in : 0x10000000 ≤ parts.entry
+  pub entry : Begins cs (parts.entry - 0x10000000)
+
+-- Each direct branch leads to where a padded instruction begins.
+abbrev pub LeadsRight : List Chunk → Type 0
+LeadsRight cs = (s : Swept) → Contains (chunks_swept 0 cs) s → is_branch s.insn.op ≡ true → Begins cs (target_of s.at s.len s.insn)
+
+-- The image is accepted, or it is refused for the target of a branch.
+abbrev pub IsAcceptedButForTargets : ImageParts → List Chunk → Type 0
+IsAcceptedButForTargets parts cs = (image_from parts ≡ Ok (image_with parts (chunk_sites 0 cs))) ⊎ ((at : ℕ) × (image_from parts ≡ Err (Wrong at Target)))
