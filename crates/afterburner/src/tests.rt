@@ -24,10 +24,10 @@ fn answer(rt: &HostRuntime, text: &[u8]) -> Outcome {
 }
 
 /// Whether a source has this text and so many sites.
-fn has_text(rt: &HostRuntime, source: &str, text: &[u8], sites: usize) -> bool {
+fn has_text(rt: &HostRuntime, source: &str, text: &[u8], sites: u32) -> bool {
     match answer(rt, source.as_bytes()) {
         Outcome::Made(object) => object.text.as_slice() == text
-            && object.sites.len() == 8 + 8 * sites,
+            && object.sites.len() == 8 + 8 * sites as usize,
         _ => false,
     }
 }
@@ -49,7 +49,7 @@ fn is_refused(rt: &HostRuntime, source: &[u8], line: u32, number: u8) -> bool {
 
 #[test]
 fn sensitive_instructions_are_padded(rt: HostRuntime) {
-    let rows: [(&str, &[u8], usize); 9] = [
+    let rows: [(&str, &[u8], u32); 9] = [
         (
             "_start: movl $0x3f8,%edx; movb $0x48,%al; outb %al,%dx; hlt",
             b"\xBA\xF8\x03\x00\x00\xB0\x48\xEE\x90\x90\x90\x90\xF4\x90\x90\x90\x90",
