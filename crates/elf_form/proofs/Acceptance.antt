@@ -7,13 +7,13 @@ use Rattle.elf_form.specs.declared.cause.ElfCause.{ElfCause}
 use Rattle.elf_form.specs.declared.segments.Found.{Found}
 use Rattle.elf_form.specs.declared.segments.Found.TheVariants.{Nothing, One, Two, More}
 use Rattle.elf_form.specs.ImageParts.{ImageParts}
-use Rattle.elf_form.specs.Faults.{Fault, test, Gives, ◌>>=◌}
+use Rattle.elf_form.specs.Faults.{Fault, IsFirstOf, test, Gives, ◌>>=◌}
 use Rattle.elf_form.specs.Tables.{found, first_of, second_of}
 use Rattle.elf_form.specs.Header.{headers, sections}
 use Rattle.elf_form.specs.Segments.{is_load, loads, order}
 use Rattle.elf_form.specs.Sections.{names, is_sites, sites_sections, one_of}
 use Rattle.elf_form.specs.Reading.{parts_at, section_form, section_tests, header_tests, tests, image_in}
-use Rattle.elf_form.specs.Accepted.{wrong, causes, IsFirst, IsSound, ImageAs}
+use Rattle.elf_form.specs.Accepted.{wrong, causes, IsSound, ImageAs}
 use Rattle.elf_form.proofs.FormLaws.{neither, passed}
 
 -- the tests of a list of causes, and then a value
@@ -45,7 +45,7 @@ pub bind_ok : (A B : Type 0) (r : Result A Fault) (f : A → Result B Fault) (y 
 bind_ok A B (Ok x) f y h = (x, refl, h)
 bind_ok A B (Err d) f y h = absurd cc
 
-chain-err : (A : Type 0) (cs : List ElfCause) (bytes : List ℕ) (x : A) (e : Fault) → chain cs bytes x ≡ failed A e → IsFirst cs bytes e
+chain-err : (A : Type 0) (cs : List ElfCause) (bytes : List ℕ) (x : A) (e : Fault) → chain cs bytes x ≡ failed A e → IsFirstOf (λ c. wrong c bytes) cs e
 unfolding chain
 chain-err A [] bytes x e h = absurd cc
 chain-err A (c ∷ cs) bytes x e h =
@@ -105,7 +105,7 @@ form_of bytes e = neither (order bytes (loads bytes)) (one_of (sites_sections by
 places : List ℕ → ℕ × ℕ × ℕ
 places bytes = (first_of (loads bytes), second_of (loads bytes), first_of (sites_sections bytes))
 
-pub read_first : (bytes : List ℕ) (e : Fault) → image_in bytes ≡ Err e → IsFirst causes bytes e
+pub read_first : (bytes : List ℕ) (e : Fault) → image_in bytes ≡ Err e → IsFirstOf (λ c. wrong c bytes) causes e
 unfolding image_in places
 read_first bytes e h =
     elim (bind_err (ℕ × ℕ × ℕ) ImageParts (tests bytes) (λ at. Ok (parts_at bytes at.0 at.1 at.2)) e h) [
@@ -164,5 +164,5 @@ if_read bytes (Err e) given = tt
 pub if_as : (bytes : List ℕ) (r : Result ImageParts ElfFault) → Gives (λ image. image) r (image_in bytes) → (image : ImageParts) → ImageAs bytes image → Gives (λ image. image) r (Ok image)
 if_as bytes r given image is = subst (λ (read : Result ImageParts Fault). Gives (λ image. image) r read) (as_read bytes image is) given
 
-pub if_first : (bytes : List ℕ) (r : Result ImageParts ElfFault) → Gives (λ image. image) r (image_in bytes) → (at : ℕ) (cause : ElfCause) → r ≡ Err (faults.At at cause) → IsFirst causes bytes (record { at = at; cause = cause })
+pub if_first : (bytes : List ℕ) (r : Result ImageParts ElfFault) → Gives (λ image. image) r (image_in bytes) → (at : ℕ) (cause : ElfCause) → r ≡ Err (faults.At at cause) → IsFirstOf (λ c. wrong c bytes) causes (record { at = at; cause = cause })
 if_first bytes r given at cause e = read_first bytes (record { at = at; cause = cause }) (subst (λ (s : Result ImageParts ElfFault). Gives (λ image. image) s (image_in bytes)) e given)

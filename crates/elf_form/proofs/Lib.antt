@@ -9,6 +9,16 @@ pub mod Acceptance
 pub mod StringLaws
 pub mod SymbolNames
 pub mod ObjectSizes
+pub mod ObjectBounds
+pub mod SmallFiles
+pub mod ObjectWords
+pub mod EntryLists
+pub mod NamePlaces
+pub mod WrittenEntries
+pub mod ObjectFile
+pub mod ObjectSections
+pub mod ObjectPasses
+pub mod ObjectRoundTrip
 pub mod JoinLaws
 pub mod RecordLaws
 pub mod ObjectAcceptance

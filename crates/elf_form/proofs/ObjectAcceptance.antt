@@ -6,8 +6,8 @@ use Rattle.elf_form.specs.declared.cause.ElfFault.TheVariants as faults
 use Rattle.elf_form.specs.declared.cause.ElfCause.{ElfCause}
 use Rattle.elf_form.specs.declared.cause.ElfCause.TheVariants.{Truncated, Magic, Class, Encoding, Version, FileType, Machine, Sizes, SectionForm, Compressed, StringPlace, SymbolForm, RelocForm}
 use Rattle.elf_form.specs.ObjectParts.{ObjectParts}
-use Rattle.elf_form.specs.Faults.{Fault, test, Gives, ◌>>=◌}
-use Rattle.elf_form.specs.ObjectReading.{object_at, late_tests, middle_tests, early_tests, object_in, wrong_object, all_causes, IsFirstOf, ObjectAs}
+use Rattle.elf_form.specs.Faults.{Fault, IsFirstOf, test, Gives, ◌>>=◌}
+use Rattle.elf_form.specs.ObjectReading.{object_at, late_tests, middle_tests, early_tests, object_in, wrong_object, all_causes, ObjectAs}
 use Rattle.elf_form.proofs.FormLaws.{passed}
 use Rattle.elf_form.proofs.Acceptance.{failed, test-err, bind_err, bind_ok}
 

@@ -68,7 +68,7 @@ sections-are : (f : List ℕ) (p : ImageParts) → IsFileOf f p → sections f �
 unfolding entries rows
 sections-are f p is = rw (is.header.sections, is.header.section_count) refl
 
-not_first : (p : ℕ → Bool) (x : ℕ) (xs : List ℕ) → p x ≡ false → first p xs ≡ None → first p (x ∷ xs) ≡ None
+pub not_first : (p : ℕ → Bool) (x : ℕ) (xs : List ℕ) → p x ≡ false → first p xs ≡ None → first p (x ∷ xs) ≡ None
 unfolding first
 not_first p x xs not_here none = cond-false _ _ _ not_here ∙ none
 
@@ -85,13 +85,13 @@ fourth_of_rows p s a b c d e g = rw (a, b, c, d, e, g) refl
 
 -- ---- no part passes the end
 
-neither_first : (a b : Option ℕ) → a ≡ None → b ≡ None → (a or_else b) ≡ None
+pub neither_first : (a b : Option ℕ) → a ≡ None → b ≡ None → (a or_else b) ≡ None
 neither_first a b e g = rw (e, g) refl
 
-neither_lower : (a b : Option ℕ) → a ≡ None → b ≡ None → (a or_lower b) ≡ None
+pub neither_lower : (a b : Option ℕ) → a ≡ None → b ≡ None → (a or_lower b) ≡ None
 neither_lower a b e g = rw (e, g) refl
 
-is_good : (is_bad : Bool) (at : ℕ) → is_bad ≡ false → bad is_bad at ≡ None
+pub is_good : (is_bad : Bool) (at : ℕ) → is_bad ≡ false → bad is_bad at ≡ None
 is_good is_bad at e = rw e refl
 
 null_stays : (f : List ℕ) (s n g o z : ℕ) → IsRow f s n 0 g o z → section_passes f s ≡ false

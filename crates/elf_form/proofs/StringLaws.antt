@@ -16,7 +16,7 @@ table_bytes-append [] name = append-nil (name ++ 0 ∷ [])
 table_bytes-append (n ∷ names) name = rw (table_bytes-append names name) (sym (append_assoc (n ++ 0 ∷ []) (table_bytes names) (name ++ 0 ∷ [])))
 
 -- the place of a name, where one more stands at the end
-abbrev else_last : Option ℕ → Bool → ℕ → Option ℕ
+abbrev pub else_last : Option ℕ → Bool → ℕ → Option ℕ
 else_last (Some at) same end = Some at
 else_last None true end = Some end
 else_last None false end = None

@@ -1,4 +1,4 @@
--- The one layout of an image file.
+-- The one layout of an image file (System V ABI, chapters 4 and 5). The order of the parts is the profile's.
 use Rattle.std.specs.Prelude.{ℕ, ◌+◌, ◌%◌, ◌<◌, ◌^◌, List, [], ◌∷◌, ◌++◌, length, replicate, codes}
 use Rattle.elf_form.specs.Output.{halves, longs, pad}
 use Rattle.elf_form.specs.ImageParts.{ImageParts}

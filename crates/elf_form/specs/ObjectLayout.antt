@@ -1,5 +1,5 @@
--- The one layout of an object file.
-use Rattle.std.specs.Prelude.{◌≡◌, ℕ, ◌+◌, ◌*◌, true, false, ◌<◌, ◌≤◌, ◌^◌, Bool, not, List, [], ◌∷◌, ◌++◌, length, fold, filter, count_by, All, replicate, codes, if◌then◌else◌}
+-- The one layout of an object file (System V ABI, chapter 4). The order of the parts is the profile's.
+use Rattle.std.specs.Prelude.{◌≡◌, ◌≢◌, ℕ, ◌+◌, ◌*◌, true, false, ◌<◌, ◌≤◌, ◌^◌, Bool, not, List, [], ◌∷◌, ◌++◌, length, fold, filter, count_by, All, replicate, codes, if◌then◌else◌}
 use Rattle.std.specs.List.{flat_map, position_or_len}
 use Rattle.elf_form.specs.declared.object.Place.{Place}
 use Rattle.elf_form.specs.declared.object.Place.TheVariants.{Undefined, Text, Init, Bss}
@@ -45,7 +45,7 @@ place_number Text = 1
 place_number Init = 2
 place_number Bss = 3
 
--- name, value, size; binding (1 for global) and type, other, section
+-- Symbol Table: name, value, size; binding (1 for global) and type, other, section
 unfoldable pub symbol_bytes : List (List ℕ) → Symbol → List ℕ
 symbol_bytes names s = longs (name_place names s.name ∷ s.value ∷ 0 ∷ []) ++ ((if s.global then 16 else 0) ∷ 0 ∷ halves (place_number s.place ∷ []))
 
@@ -57,7 +57,7 @@ symbol_table symbols = replicate 16 0 ++ flat_map (symbol_bytes (names_of symbol
 abbrev pub first_global : List Symbol → ℕ
 first_global symbols = position_or_len (λ s. s.global) symbols + 1
 
--- place; symbol and type: R_386_32 is 1, R_386_PC32 is 2. The null symbol comes before symbol 0.
+-- Relocation: place; symbol and type: R_386_32 is 1, R_386_PC32 is 2. The null symbol comes before symbol 0.
 unfoldable pub reloc_bytes : Reloc → List ℕ
 reloc_bytes r = longs (r.at ∷ (256 * (r.symbol + 1) + (if r.relative then 2 else 1)) ∷ [])
 
@@ -75,7 +75,7 @@ object_header o =
     ++ (longs (1 ∷ 0 ∷ 0 ∷ (layout o).sections ∷ 0 ∷ [])
     ++ halves (52 ∷ 0 ∷ 0 ∷ 40 ∷ 10 ∷ 9 ∷ [])))
 
--- name, type, flags, address, offset, bytes, link, info, alignment, size of entries
+-- Sections: name, type, flags, address, offset, bytes, link, info, alignment, size of entries
 abbrev pub part_sections : ObjectParts → List ℕ
 part_sections o =
     0 ∷ 0 ∷ 0 ∷ 0 ∷ 0 ∷ 0 ∷ 0 ∷ 0 ∷ 0 ∷ 0
@@ -115,6 +115,27 @@ pub record IsWritableObject (o : ObjectParts) : Type 0 where
   pub memory : length o.init + o.bss < 2 ^ 31
   pub count : length o.symbols ≤ 65536
   pub named : All (λ r. r.symbol < length o.symbols) o.relocs
+
+-- An undefined symbol is global and has the value 0.
+abbrev pub IsPlaced : Symbol → Type 0
+IsPlaced s = s.place ≡ Undefined → (s.global ≡ true) × (s.value ≡ 0)
+
+-- the bytes that a relocation is in: the text, or the data
+abbrev pub patched : ObjectParts → Reloc → List ℕ
+patched o r = if r.in_text then o.text else o.init
+
+-- An object of which a file is made that is read as it. In its lists the local symbols come before the global ones, and the relocations of the text before those of the data. No name holds a zero byte. The field of each relocation, of four bytes, lies in its section.
+pub record IsWholeObject (o : ObjectParts) : Type 0 where
+  pub writable : IsWritableObject o
+  pub split : o.symbols ≡ filter (λ s. not s.global) o.symbols ++ filter (λ s. s.global) o.symbols
+  pub names : All (λ s. All (λ b. b ≢ 0) s.name) o.symbols
+  pub undefined : All IsPlaced o.symbols
+  pub fields : All (λ r. r.at + 4 ≤ length (patched o r)) o.relocs
+  pub ordered : o.relocs ≡ filter (is_of true) o.relocs ++ filter (is_of false) o.relocs
+
+-- Its values have four bytes.
+pub record HasValues (o : ObjectParts) : Type 0 where
+  pub values : All (λ s. s.value < 2 ^ 32) o.symbols
 
 -- how long the parts are, together less than 2 ^ 31 bytes
 pub record AreLengths (o : ObjectParts) (lengths : Lengths) : Type 0 where

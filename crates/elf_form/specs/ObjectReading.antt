@@ -1,5 +1,5 @@
 -- What is read of an object, or the first fault.
-use Rattle.std.specs.Prelude.{◌≡◌, ◌⊎◌, ℕ, ◌+◌, ◌%◌, ◌^◌, Bool, ◌&&◌, List, [], ◌∷◌, ◌++◌, map, Option, Some, None, Result, Ok, nat_lt, ◌==◌, if◌then◌else◌}
+use Rattle.std.specs.Prelude.{◌≡◌, ℕ, ◌+◌, ◌%◌, ◌^◌, Bool, ◌&&◌, List, [], ◌∷◌, ◌++◌, map, Option, Some, None, Result, Ok, nat_lt, ◌==◌, if◌then◌else◌}
 use Rattle.guest_ram.specs.Bytes.{word16, word32}
 use Rattle.elf_form.specs.declared.cause.ElfCause.{ElfCause}
 use Rattle.elf_form.specs.declared.cause.ElfCause.TheVariants.{Truncated, Magic, Class, Encoding, Version, FileType, Machine, Sizes, SectionForm, Compressed, StringPlace, SymbolForm, RelocForm}
@@ -181,11 +181,6 @@ wrong_object bytes RelocForm = reloc_form bytes
 -- the causes in the order in which they count
 abbrev pub all_causes : List ElfCause
 all_causes = Truncated ∷ Magic ∷ Class ∷ Encoding ∷ Version ∷ FileType ∷ Machine ∷ Sizes ∷ SectionForm ∷ Compressed ∷ StringPlace ∷ SymbolForm ∷ RelocForm ∷ []
-
--- The fault is the first cause of a list by which a file is wrong.
-abbrev pub IsFirstOf : (ElfCause → Option ℕ) → List ElfCause → Fault → Type 0
-IsFirstOf wrong [] fault = ⊥
-IsFirstOf wrong (cause ∷ later) fault = ((wrong cause ≡ Some fault.at) × (fault.cause ≡ cause)) ⊎ ((wrong cause ≡ None) × IsFirstOf wrong later fault)
 
 -- A file is an object where it is wrong by no cause.
 pub record ObjectAs (bytes : List ℕ) (object : ObjectParts) : Type 0 where

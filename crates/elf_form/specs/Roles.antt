@@ -1,4 +1,4 @@
--- What each section of an object is read as.
+-- What each section of an object is read as, by its type and its flags (System V ABI, chapter 4, Sections). What is joined and how is the profile's.
 use Rattle.std.specs.Prelude.{ℕ, ◌+◌, ◌-◌, ◌/◌, ◌%◌, ◌^◌, Bool, true, false, not, ◌&&◌, ◌||◌, List, [], ◌∷◌, ◌++◌, length, filter, replicate, Option, Some, None, nat_lt, ◌==◌, if◌then◌else◌}
 use Rattle.std.specs.List.{list_any}
 use Rattle.guest_ram.specs.Bytes.{word32}

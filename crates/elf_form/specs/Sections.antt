@@ -1,4 +1,4 @@
--- The names of sections, and the one section that is asked for.
+-- The names of sections (System V ABI, chapter 4, Sections and String Table), and the one section that is asked for.
 use Rattle.std.specs.Prelude.{ℕ, ◌+◌, ◌*◌, ◌%◌, ◌/◌, Bool, not, ◌&&◌, List, [], ◌∷◌, drop, filter, Option, Some, None, nat_lt, nat_eq, ◌==◌, codes, ◌++◌, if◌then◌else◌}
 use Rattle.std.specs.List.{list_any, starts_with}
 use Rattle.guest_ram.specs.Bytes.{word16, word32, part}

@@ -1,4 +1,4 @@
--- The two program headers of an image.
+-- The two program headers of an image (System V ABI, chapter 5, Program Header).
 use Rattle.std.specs.Prelude.{ℕ, ◌+◌, ◌%◌, Bool, not, ◌&&◌, List, length, filter, Option, Some, None, nat_lt, ◌==◌}
 use Rattle.guest_ram.specs.Bytes.{word16, word32}
 use Rattle.elf_form.specs.declared.segments.Found.{Found}

@@ -1,4 +1,4 @@
--- String tables: names, each ended by a zero byte. The empty name stands first, so a table begins with a zero byte.
+-- String tables (System V ABI, chapter 4, String Table): names, each ended by a zero byte. The empty name stands first, so a table begins with a zero byte.
 use Rattle.std.specs.Prelude.{◌≡◌, ℕ, ◌+◌, List, [], ◌∷◌, ◌++◌, length, Option, Some, None, unwrap_or, if◌then◌else◌}
 use Rattle.std.specs.List.{flat_map}
 use Rattle.std.specs.Str.{bytes_eq}

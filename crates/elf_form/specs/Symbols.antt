@@ -1,4 +1,4 @@
--- The symbols of an object and its relocations.
+-- The symbols of an object and its relocations (System V ABI, chapter 4, Symbol Table and Relocation, with the relocation types of its i386 supplement).
 use Rattle.std.specs.Prelude.{ℕ, ◌≤◌, ◌+◌, ◌*◌, ◌-◌, ◌/◌, ◌%◌, ◌^◌, Bool, true, not, ◌&&◌, ◌||◌, List, [], ◌∷◌, length, map, filter, fold, drop, Option, None, nat_lt, ◌==◌, slice_index, if◌then◌else◌}
 use Rattle.std.specs.List.{list_any, before_first, flat_map}
 use Rattle.guest_ram.specs.Bytes.{byte, word16, word32}
@@ -29,7 +29,7 @@ unfoldable pub first_some : (ℕ → Option ℕ) → List ℕ → Option ℕ
 first_some f [] = None
 first_some f (x ∷ xs) = f x or_else first_some f xs
 
--- ---- the symbol table: the first section of symbols, 16 bytes for each, the null one first
+-- ---- the symbol table (Symbol Table): the first section of symbols, 16 bytes for each, the null one first
 
 -- where the table is and how many symbols it has, none where there is no table
 abbrev pub table_at : List ℕ → Found → Table
@@ -88,7 +88,7 @@ symbol_fault names bytes y =
 abbrev pub global_fault : List ℕ → List ℕ → ℕ → Option ℕ
 global_fault names bytes y = if binding bytes y == 0 then None else symbol_fault names bytes y
 
--- ---- relocations, 8 bytes each: those of a section that is kept
+-- ---- relocations (Relocation), 8 bytes each: those of a section that is kept
 
 abbrev pub target : List ℕ → ℕ → ℕ
 target bytes s = word32 bytes (s + 28)
@@ -162,7 +162,7 @@ size_at bytes index = if nat_lt index (section_count bytes) then size bytes (sec
 abbrev pub is_outside : List ℕ → List ℕ → Entry → Bool
 is_outside names bytes e = (role_number (target_role names bytes e.section) == 4) || nat_lt (size_at bytes (target bytes e.section)) (word32 bytes e.at + 4)
 
--- R_386_32 is 1, R_386_PC32 is 2
+-- R_386_32 is 1, R_386_PC32 is 2 (i386 supplement, Relocation Types)
 abbrev pub has_kind : List ℕ → ℕ → Bool
 has_kind bytes y = (word32 bytes (y + 4) % 256 == 1) || (word32 bytes (y + 4) % 256 == 2)
 

@@ -1,8 +1,9 @@
 //! Writing an image.
 
-ghost use Rattle.std.specs.Prelude.{◌≡◌, ◌<◌, ◌+◌, ◌^◌, ◌++◌, ◌*◌, length, replicate, OnOk, IfOk};
+ghost use Rattle.std.specs.Prelude.{◌≡◌, [], ◌∷◌, ◌<◌, ◌≤◌, ◌+◌, ◌^◌, ◌++◌, ◌*◌, length, replicate, Ok, OnOk, IfOk};
 ghost use Rattle.elf_form.specs.Output.{halves, longs, pad};
 ghost use Rattle.elf_form.specs.ImageLayout.{init_from, sites_from, names_from, sections_from, header, program_numbers, section_numbers, body, image_bytes, IsWritableImage, section_names};
+ghost use Rattle.elf_form.specs.Reading.{image_in};
 
 use crate::image::Image;
 use crate::output::{page_pad, put_halves, put_longs, put_zeros, word_pad};
@@ -47,14 +48,45 @@ fn sections_from(image: &Image) -> usize
     end + word_pad(end)
 }
 
+/// The longs of the header: the version, where the image begins, its program headers and its
+/// section headers, and the flags.
+fn header_numbers(entry: u32, sections: u32) -> [u32; 5]
+    ensures numbers { result ≡ 1 ∷ entry ∷ 52 ∷ sections ∷ 0 ∷ [] }
+    ensures small { entry < 2 ^ 32 }
+{
+    [1, entry, 52, sections, 0]
+}
+
+/// The two program headers. The fields of each: type, offset, address (twice), bytes, memory,
+/// flags, alignment.
+fn program_numbers(
+    text_at: u32,
+    text: u32,
+    from: u32,
+    init_at: u32,
+    init: u32,
+    memory: u32,
+) -> [u32; 16]
+    ensures numbers { result ≡ 1 ∷ 4096 ∷ text_at ∷ text_at ∷ text ∷ text ∷ 5 ∷ 4096 ∷ 1 ∷ from ∷ init_at ∷ init_at ∷ init ∷ memory ∷ 6 ∷ 4096 ∷ [] }
+    ensures text_small { text_at < 2 ^ 32 }
+    ensures init_small { init_at < 2 ^ 32 }
+{
+    [
+        1, 4096, text_at, text_at, text, text, 5, 4096, 1, from, init_at, init_at, init, memory, 6,
+        4096,
+    ]
+}
+
 #[tactic(auto, unfolding(crate::specs::ImageLayout::header, crate::specs::ImageLayout::init_from, crate::specs::ImageLayout::sites_from, crate::specs::ImageLayout::names_from, crate::specs::ImageLayout::sections_from))]
 fn put_header(out: &mut Vec<u8>, image: &Image) -> Result<(), AllocError>
     requires { IsWritableImage image.now }
-    ensures { OnOk result (out.new.items ≡ out.old.items ++ header image.now) }
+    ensures bytes { OnOk result (out.new.items ≡ out.old.items ++ header image.now) }
+    ensures entry { OnOk result (image.now.entry < 2 ^ 32) }
 {
     out.extend_from_slice(&IDENTITY)?;
     put_halves(out, &[2, 3])?;
-    put_longs(out, &[1, image.entry, 52, sections_from(image) as u32, 0])?;
+    let sections = sections_from(image) as u32;
+    put_longs(out, &header_numbers(image.entry, sections))?;
     put_halves(out, &[52, 32, 2, 40, 6, 5])?;
     Ok(())
 }
@@ -62,16 +94,14 @@ fn put_header(out: &mut Vec<u8>, image: &Image) -> Result<(), AllocError>
 #[tactic(auto, unfolding(crate::specs::ImageLayout::init_from, crate::specs::ImageLayout::sites_from, crate::specs::ImageLayout::names_from, crate::specs::ImageLayout::sections_from))]
 fn put_programs(out: &mut Vec<u8>, image: &Image) -> Result<(), AllocError>
     requires { IsWritableImage image.now }
-    ensures { OnOk result (out.new.items ≡ out.old.items ++ longs (program_numbers image.now)) }
+    ensures bytes { OnOk result (out.new.items ≡ out.old.items ++ longs (program_numbers image.now)) }
+    ensures text_at { image.now.text_at < 2 ^ 32 }
+    ensures init_at { image.now.init_at < 2 ^ 32 }
 {
     let (text, init) = (image.text.len() as u32, image.init.len() as u32);
-    let (text_at, init_at) = (image.text_at, image.init_at);
     let from = init_from(image) as u32;
     let memory = init + image.bss;
-    let numbers = [
-        1, 4096, text_at, text_at, text, text, 5, 4096, 1, from, init_at, init_at, init, memory, 6,
-        4096,
-    ];
+    let numbers = program_numbers(image.text_at, text, from, image.init_at, init, memory);
     put_longs(out, &numbers)
 }
 
@@ -166,11 +196,12 @@ fn put_body(out: &mut Vec<u8>, image: &Image) -> Result<(), AllocError>
     Ok(())
 }
 
-/// The one layout of an image.
+/// The one layout of an image. A file of at most 33,554,432 bytes is read as the same image.
 #[tactic(auto, unfolding(crate::specs::ImageLayout::image_bytes))]
 pub fn write_image(alloc: Global, image: &Image) -> Result<Vec<u8>, AllocError>
     requires { IsWritableImage image.now }
-    ensures { IfOk result (λ v. v.items ≡ image_bytes image.now) }
+    ensures layout { IfOk result (λ v. v.items ≡ image_bytes image.now) }
+    ensures read_back { IfOk result (λ v. length v.items ≤ 33554432 → image_in v.items ≡ Ok image.now) }
 {
     let mut out = Vec::new(alloc);
     put_header(&mut out, image)?;

@@ -28,7 +28,7 @@ mod words;
 pub use cause::{ElfCause, ElfFault};
 pub use image::Image;
 pub use image_writing::write_image;
-pub use laws::reads_back;
+pub use laws::object_length;
 pub use object::{Bytes, Object, Place, Reloc, Symbol};
 pub use object_reading::read_object;
 pub use object_writing::write_object;

@@ -4,14 +4,14 @@ ghost use Rattle.std.specs.Prelude.{◌≡◌, ℕ, ◌≤◌, ◌<◌, ◌+◌,
 ghost use Rattle.elf_form.specs.declared.roles.Role.TheVariants as role;
 ghost use Rattle.elf_form.specs.declared.cause.ElfCause.{ElfCause};
 ghost use Rattle.elf_form.specs.Tables.{AllFound};
-ghost use Rattle.elf_form.specs.Faults.{Gives};
+ghost use Rattle.elf_form.specs.Faults.{Gives, IsFirstOf};
 ghost use Rattle.elf_form.specs.Header.{IsWhole, IsSection, sections};
 ghost use Rattle.elf_form.specs.Sections.{names as names_in};
 ghost use Rattle.elf_form.specs.Roles.{with_role, starts as starts_of};
 ghost use Rattle.elf_form.specs.Symbols.{IsEntry, relocs_of};
 ghost use Rattle.elf_form.specs.KeptRelocs.{AreKept};
 ghost use Rattle.elf_form.specs.ObjectParts.{ObjectParts};
-ghost use Rattle.elf_form.specs.ObjectReading.{table_of as table_in, kept_relocs, symbol_form, reloc_form, text_in, sites_in, object_at, late_tests, middle_tests, early_tests, object_in, wrong_object, all_causes, IsFirstOf, ObjectAs};
+ghost use Rattle.elf_form.specs.ObjectReading.{table_of as table_in, kept_relocs, symbol_form, reloc_form, text_in, sites_in, object_at, late_tests, middle_tests, early_tests, object_in, wrong_object, all_causes, ObjectAs};
 
 use crate::cause::{ElfCause, ElfFault};
 use crate::entries::{entries_of, relocs_fault};

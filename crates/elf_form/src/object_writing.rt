@@ -1,10 +1,11 @@
 //! Writing an object.
 
-ghost use Rattle.std.specs.Prelude.{◌≡◌, ℕ, List, ◌<◌, ◌≤◌, ◌+◌, ◌*◌, ◌^◌, ◌++◌, Bool, true, false, length, count_by, map, replicate, All, OnOk, IfOk};
+ghost use Rattle.std.specs.Prelude.{◌≡◌, ℕ, List, [], ◌∷◌, ◌<◌, ◌≤◌, ◌+◌, ◌*◌, ◌^◌, ◌++◌, Bool, true, false, length, count_by, map, replicate, All, Ok, OnOk, IfOk};
 ghost use Rattle.std.specs.List.{flat_map};
 ghost use Rattle.elf_form.specs.Output.{halves, longs, pad};
 ghost use Rattle.elf_form.specs.StringTable.{name_place, IsTable, HasPlaces};
-ghost use Rattle.elf_form.specs.ObjectLayout.{next, layout as layout_of, names_of, strings_of, is_of, place_number, symbol_bytes, symbol_table, first_global, reloc_bytes, reloc_table, object_header, object_parts, object_tables, part_sections, table_sections, object_names, object_bytes, IsWritableObject, AreLengths};
+ghost use Rattle.elf_form.specs.ObjectLayout.{next, layout as layout_of, names_of, strings_of, is_of, place_number, symbol_bytes, symbol_table, first_global, reloc_bytes, reloc_table, object_header, object_parts, object_tables, part_sections, table_sections, object_names, object_bytes, IsWritableObject, IsWholeObject, HasValues, AreLengths};
+ghost use Rattle.elf_form.specs.ObjectReading.{object_in};
 
 use crate::object::{Object, Place, Reloc, Symbol, bytes_of};
 use crate::output::{put_halves, put_longs, put_zeros, word_pad};
@@ -93,21 +94,29 @@ fn place_of(places: &Places, name: &[u8]) -> u32
     places.get(name).copied().unwrap_or(0)
 }
 
+/// Where a symbol's name begins, its value, and its size, which is not kept.
+fn symbol_numbers(name: u32, value: u32) -> [u32; 3]
+    ensures numbers { result ≡ name ∷ value ∷ 0 ∷ [] }
+    ensures small { value < 2 ^ 32 }
+{
+    [name, value, 0]
+}
+
 #[tactic(auto, unfolding(crate::specs::ObjectLayout::symbol_bytes))]
 fn put_symbol(out: &mut Vec<u8>, places: &Places, symbol: &Symbol) -> Result<(), AllocError>
-    ensures { OnOk result ((names : List (List ℕ)) → HasPlaces names places.now → out.new.items ≡ out.old.items ++ symbol_bytes names symbol.now) }
+    ensures bytes { OnOk result ((names : List (List ℕ)) → HasPlaces names places.now → out.new.items ≡ out.old.items ++ symbol_bytes names symbol.now) }
+    ensures value { symbol.now.value < 2 ^ 32 }
 {
-    put_longs(
-        out,
-        &[place_of(places, bytes_of(&symbol.name)), symbol.value, 0],
-    )?;
+    let place = place_of(places, bytes_of(&symbol.name));
+    put_longs(out, &symbol_numbers(place, symbol.value))?;
     let binding = if symbol.global { 16 } else { 0 };
     out.extend_from_slice(&[binding, 0])?;
     put_halves(out, &[place_number(symbol.place)])
 }
 
 fn put_symbols(out: &mut Vec<u8>, places: &Places, symbols: &[Symbol]) -> Result<(), AllocError>
-    ensures { OnOk result ((names : List (List ℕ)) → HasPlaces names places.now → out.new.items ≡ out.old.items ++ (replicate 16 0 ++ flat_map (symbol_bytes names) symbols.now)) }
+    ensures bytes { OnOk result ((names : List (List ℕ)) → HasPlaces names places.now → out.new.items ≡ out.old.items ++ (replicate 16 0 ++ flat_map (symbol_bytes names) symbols.now)) }
+    ensures values { OnOk result (All (λ s. s.value < 2 ^ 32) symbols.now) }
 {
     put_zeros(out, 16)?;
     for s in symbols {
@@ -210,7 +219,8 @@ fn put_tables(
     requires strings { strings.now ≡ strings_of object.now.symbols }
     requires places { HasPlaces (names_of object.now.symbols) places.now }
     requires layout { layout.now ≡ layout_of object.now }
-    ensures { OnOk result (out.new.items ≡ out.old.items ++ object_tables object.now) }
+    ensures bytes { OnOk result (out.new.items ≡ out.old.items ++ object_tables object.now) }
+    ensures values { OnOk result (HasValues object.now) }
 {
     put_relocs(out, &object.relocs, true)?;
     put_relocs(out, &object.relocs, false)?;
@@ -291,11 +301,14 @@ fn put_table_sections(
     Ok(())
 }
 
-/// The one layout of an object.
+/// The one layout of an object. The file of a whole object, where it has at most 33,554,432
+/// bytes, is read as the same object.
 #[tactic(auto, unfolding(crate::specs::ObjectLayout::object_bytes))]
 pub fn write_object(alloc: Global, object: &Object) -> Result<Vec<u8>, AllocError>
     requires { IsWritableObject object.now }
-    ensures { IfOk result (λ v. v.items ≡ object_bytes object.now) }
+    ensures layout { IfOk result (λ v. v.items ≡ object_bytes object.now) }
+    ensures size { IfOk result (λ v. length v.items ≡ (layout_of object.now).sections + 400) }
+    ensures read_back { IfOk result (λ v. IsWholeObject object.now → length v.items ≤ 33554432 → object_in v.items ≡ Ok object.now) }
 {
     let (strings, places) = strings(alloc, &object.symbols)?;
     let lengths = lengths_of(object, strings.len());

@@ -1,12 +1,12 @@
 //! Reading an image.
 
 ghost use Rattle.std.specs.Prelude.{◌≡◌, ℕ, ◌≤◌, ◌<◌, ◌+◌, ◌^◌, List, length, IfNone, IfSome, IfOk};
-ghost use Rattle.elf_form.specs.Faults.{test, Gives};
+ghost use Rattle.elf_form.specs.Faults.{test, Gives, IsFirstOf};
 ghost use Rattle.elf_form.specs.Header.{IsWhole};
 ghost use Rattle.elf_form.specs.Segments.{memory_sizes, loads};
 ghost use Rattle.elf_form.specs.ImageParts.{ImageParts};
 ghost use Rattle.elf_form.specs.declared.cause.ElfCause.{ElfCause};
-ghost use Rattle.elf_form.specs.Accepted.{ImageAs, IsFirst, causes};
+ghost use Rattle.elf_form.specs.Accepted.{ImageAs, wrong, causes};
 ghost use Rattle.elf_form.specs.Reading.{section_form, section_tests, header_tests, tests, image_in, parts_at, ArePlaces};
 
 use crate::cause::{ElfCause, ElfFault};
@@ -110,7 +110,7 @@ pub fn read_image(alloc: Global, bytes: &[u8]) -> Result<Image, ElfFault>
     // Where the file holds an image, it is read, unless memory runs out.
     ensures only { (image : ImageParts) → ImageAs bytes.now image → Gives (λ image. image) result (Ok image) }
     // A fault is the first cause that holds, at its place.
-    ensures first { (at : ℕ) (cause : ElfCause) → result ≡ Err (ElfFault.At at cause) → IsFirst causes bytes.now (record { at = at; cause = cause }) }
+    ensures first { (at : ℕ) (cause : ElfCause) → result ≡ Err (ElfFault.At at cause) → IsFirstOf (λ c. wrong c bytes.now) causes (record { at = at; cause = cause }) }
     ensures exact { Gives (λ image. image) result (image_in bytes.now) }
 {
     image(alloc, bytes)

@@ -1,6 +1,7 @@
 //! Objects that other tools made, and worked examples.
 
 mod vectors;
+mod writing;
 
 use crate::{ElfCause, ElfFault, Place, Reloc, read_object};
 use std::test::Fail;

@@ -1,8 +1,15 @@
-use Rattle.std.proofs.Common.{append_assoc}
-use Rattle.elf_form.specs.ImageLayout.{image_bytes}
+use Rattle.std.proofs.Common.{◌≡◌, ℕ, ◌≤◌, List, length, subst, append_assoc}
+use Rattle.elf_form.specs.ImageLayout.{image_bytes, HasLongs}
+use Rattle.elf_form.proofs.RoundTrip.{read_again}
 use Rattle.elf_form.proofs.image_writing.write_image.Goals as goal
 
-pub returns : goal.returns
+pub returns-clause-layout : goal.returns-clause-layout
 unfolding image_bytes
-returns c =
-    rw (c.in_ok-put_sections.ensures, c.in_ok-put_body.ensures, c.in_ok-put_zeros.ensures, c.in_ok-put_programs.ensures, c.in_ok-put_header.ensures, c.new-out.ensures.items) (simp append_assoc)
+returns-clause-layout c =
+    rw (c.in_ok-put_sections.ensures, c.in_ok-put_body.ensures, c.in_ok-put_zeros.ensures, c.in_ok-put_programs.ensures.bytes, c.in_ok-put_header.ensures.bytes, c.new-out.ensures.items) (simp append_assoc)
+
+pub returns-clause-read_back : goal.returns-clause-read_back
+returns-clause-read_back c = λ small.
+    let longs : HasLongs c.args.image.now = record { entry = c.in_ok-put_header.ensures.entry; text_at = c.in_ok-put_programs.ensures.text_at; init_at = c.in_ok-put_programs.ensures.init_at } in
+    let is : c.put_sections.new.out.items ≡ image_bytes c.args.image.now = returns-clause-layout c in
+    rw is (read_again c.args.image.now c.requires longs (subst (λ (v : List ℕ). length v ≤ 33554432) is small))

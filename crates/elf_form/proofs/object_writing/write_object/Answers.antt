@@ -1,6 +1,8 @@
-use Rattle.std.proofs.Common.{◌≡◌, length, ap, ◌∙◌, rules, arith}
-use Rattle.elf_form.specs.ObjectLayout.{names_of, strings_of}
+use Rattle.std.proofs.Common.{◌≡◌, ℕ, ◌≤◌, List, length, ap, ◌∙◌, subst, append_assoc, rules, arith}
+use Rattle.elf_form.specs.ObjectLayout.{names_of, strings_of, object_bytes}
 use Rattle.elf_form.specs.StringTable.{table_bytes}
+use Rattle.elf_form.proofs.ObjectBounds.{length-object}
+use Rattle.elf_form.proofs.ObjectRoundTrip.{object_read}
 use Rattle.elf_form.proofs.ObjectSizes.{parts_fit}
 use Rattle.elf_form.proofs.object_writing.write_object.Goals as goal
 
@@ -21,3 +23,16 @@ unfolding strings_of
 put_tables-requires-clause-strings c =
     let symbols : c.deref.result.now ≡ c.args.object.now.symbols = c.deref.ensures.value ∙ ap (λ o. o.symbols) c.object.view_is in
     c.deref-2.ensures.value ∙ c.in_ok-strings.ensures.bytes ∙ ap (λ s. table_bytes (names_of s)) symbols
+
+pub returns-clause-layout : goal.returns-clause-layout
+unfolding object_bytes
+returns-clause-layout c =
+    rw (c.in_ok-put_table_sections.ensures, c.in_ok-put_part_sections.ensures, c.in_ok-put_tables.ensures.bytes, c.in_ok-put_parts.ensures, c.in_ok-put_header.ensures, c.new-out.ensures.items) (simp append_assoc)
+
+pub returns-clause-size : goal.returns-clause-size
+returns-clause-size c = ap length (returns-clause-layout c) ∙ length-object c.args.object.now
+
+pub returns-clause-read_back : goal.returns-clause-read_back
+returns-clause-read_back c = λ whole small.
+    let is : c.put_table_sections.new.out.items ≡ object_bytes c.args.object.now = returns-clause-layout c in
+    rw is (object_read c.args.object.now whole c.in_ok-put_tables.ensures.values (subst (λ (v : List ℕ). length v ≤ 33554432) is small))

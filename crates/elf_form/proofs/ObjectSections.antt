@@ -1,0 +1,252 @@
+-- The sections of a written object, and what each is read as.
+use Rattle.std.proofs.Common.{◌≡◌, ℕ, ◌+◌, ◌/◌, true, false, eqb, List, [], ◌∷◌, length, map, refl, ap, ◌∙◌, arith}
+use Rattle.std.specs.Prelude.{◌||◌, filter}
+use Rattle.std.specs.List.{flat_map}
+use Rattle.std.proofs.lemmas.List.{append-nil}
+use Rattle.std.proofs.lemmas.List.Sums.{length-filter}
+use Rattle.elf_form.specs.declared.roles.Role.{Role}
+use Rattle.elf_form.specs.declared.roles.Role.TheVariants as role
+use Rattle.elf_form.specs.declared.object.Place.{Place}
+use Rattle.elf_form.specs.declared.object.Place.TheVariants as place
+use Rattle.elf_form.specs.ObjectParts.{ObjectParts}
+use Rattle.elf_form.specs.Tables.{entries, found}
+use Rattle.elf_form.specs.Header.{headers, sections}
+use Rattle.elf_form.specs.Sections.{contents, names}
+use Rattle.elf_form.specs.Roles.{role as role_of, is_kept, has_role, with_role, starts, joined_end, joined, with_section}
+use Rattle.elf_form.specs.Symbols.{table_at, place_by, target_role, role_at, is_reloc_section_of, entry, relocs_in, relocs_of, start_at}
+use Rattle.elf_form.specs.ObjectReading.{strings_in, table_of, strings_of}
+use Rattle.elf_form.specs.ObjectLayout.{layout, strings_of as names_table, is_of, place_number, object_names, symbol_table, reloc_table}
+use Rattle.elf_form.proofs.ObjectBounds.{length-symbols, length-relocs}
+use Rattle.elf_form.proofs.ObjectFile.{IsFileOf}
+
+-- ---- the tables
+
+unfoldable pub rows : ℕ → List ℕ
+rows s = s ∷ (s + 40) ∷ (s + 80) ∷ (s + 120) ∷ (s + 160) ∷ (s + 200) ∷ (s + 240) ∷ (s + 280) ∷ (s + 320) ∷ (s + 360) ∷ []
+
+ten_rows : (s : ℕ) → entries s 40 10 ≡ rows s
+unfolding entries rows
+ten_rows s =
+    let a : s + 40 + 40 ≡ s + 80 = omega arith in
+    let b : s + 80 + 40 ≡ s + 120 = omega arith in
+    let c : s + 120 + 40 ≡ s + 160 = omega arith in
+    let d : s + 160 + 40 ≡ s + 200 = omega arith in
+    let e : s + 200 + 40 ≡ s + 240 = omega arith in
+    let f : s + 240 + 40 ≡ s + 280 = omega arith in
+    let g : s + 280 + 40 ≡ s + 320 = omega arith in
+    let h : s + 320 + 40 ≡ s + 360 = omega arith in
+    rw (a, b, c, d, e, f, g, h) refl
+
+module _ (f : List ℕ) (o : ObjectParts) (is : IsFileOf f o) where
+  pub headers-are : headers f ≡ []
+  unfolding entries
+  headers-are = rw is.header.programs refl
+
+  pub sections-are : sections f ≡ rows (layout o).sections
+  sections-are = rw (is.header.sections, is.header.section_count) (ten_rows (layout o).sections)
+
+  pub names-are : names f ≡ object_names
+  unfolding names contents
+  names-are = rw (is.header.names, is.header.section_count, is.header.sections) (rw is.names.kind (rw (is.names.offset, is.names.size) is.names_are))
+
+-- ---- what each is read as
+
+pub record HasRoles (f : List ℕ) (t : ℕ) : Type 0 where
+  pub null : role_of object_names f t ≡ role.Ignored
+  pub text : role_of object_names f (t + 40) ≡ role.Text
+  pub init : role_of object_names f (t + 80) ≡ role.Init
+  pub bss : role_of object_names f (t + 120) ≡ role.Bss
+  pub sites : role_of object_names f (t + 160) ≡ role.Sites
+  pub text_relocs : role_of object_names f (t + 200) ≡ role.Relocs
+  pub data_relocs : role_of object_names f (t + 240) ≡ role.Relocs
+  pub symbols : role_of object_names f (t + 280) ≡ role.Symbols
+  pub strings : role_of object_names f (t + 320) ≡ role.Ignored
+  pub names : role_of object_names f (t + 360) ≡ role.Ignored
+
+pub roles-are : (f : List ℕ) (o : ObjectParts) → IsFileOf f o → HasRoles f (layout o).sections
+unfolding role_of
+roles-are f o is = record {
+  null = rw is.null.kind refl;
+  text = rw (is.text.kind, is.text.name, is.text.flags) refl;
+  init = rw (is.init.kind, is.init.name, is.init.flags) refl;
+  bss = rw (is.bss.kind, is.bss.name, is.bss.flags) refl;
+  sites = rw (is.sites.kind, is.sites.name) refl;
+  text_relocs = rw (is.text_relocs.kind, is.text_relocs.name, is.text_relocs.flags) refl;
+  data_relocs = rw (is.data_relocs.kind, is.data_relocs.name, is.data_relocs.flags) refl;
+  symbols = rw (is.symbols.kind, is.symbols.name, is.symbols.flags) refl;
+  strings = rw (is.strings.kind, is.strings.name, is.strings.flags) refl;
+  names = rw (is.names.kind, is.names.name, is.names.flags) refl;
+}
+
+-- the section that one role picks
+abbrev picked : Role → ℕ → List ℕ
+picked role.Ignored t = t ∷ (t + 320) ∷ (t + 360) ∷ []
+picked role.Sites t = (t + 160) ∷ []
+picked role.Text t = (t + 40) ∷ []
+picked role.Init t = (t + 80) ∷ []
+picked role.Bss t = (t + 120) ∷ []
+picked role.Foreign t = []
+picked role.Symbols t = (t + 280) ∷ []
+picked role.Relocs t = (t + 200) ∷ (t + 240) ∷ []
+
+picks : (f : List ℕ) (t : ℕ) (r : Role) → HasRoles f t → filter (has_role r object_names f) (rows t) ≡ picked r t
+unfolding rows
+picks f t role.Ignored has = rw (has.null, has.text, has.init, has.bss, has.sites, has.text_relocs, has.data_relocs, has.symbols, has.strings, has.names) refl
+picks f t role.Sites has = rw (has.null, has.text, has.init, has.bss, has.sites, has.text_relocs, has.data_relocs, has.symbols, has.strings, has.names) refl
+picks f t role.Text has = rw (has.null, has.text, has.init, has.bss, has.sites, has.text_relocs, has.data_relocs, has.symbols, has.strings, has.names) refl
+picks f t role.Init has = rw (has.null, has.text, has.init, has.bss, has.sites, has.text_relocs, has.data_relocs, has.symbols, has.strings, has.names) refl
+picks f t role.Bss has = rw (has.null, has.text, has.init, has.bss, has.sites, has.text_relocs, has.data_relocs, has.symbols, has.strings, has.names) refl
+picks f t role.Foreign has = rw (has.null, has.text, has.init, has.bss, has.sites, has.text_relocs, has.data_relocs, has.symbols, has.strings, has.names) refl
+picks f t role.Symbols has = rw (has.null, has.text, has.init, has.bss, has.sites, has.text_relocs, has.data_relocs, has.symbols, has.strings, has.names) refl
+picks f t role.Relocs has = rw (has.null, has.text, has.init, has.bss, has.sites, has.text_relocs, has.data_relocs, has.symbols, has.strings, has.names) refl
+
+-- ---- the roles by their numbers
+
+module _ (f : List ℕ) (o : ObjectParts) (is : IsFileOf f o) (has : HasRoles f (layout o).sections) where
+  pub role_at-text : role_at object_names f 1 ≡ role.Text
+  unfolding role_at
+  role_at-text = rw (is.header.section_count, is.header.sections) has.text
+
+  pub role_at-init : role_at object_names f 2 ≡ role.Init
+  unfolding role_at
+  role_at-init = rw (is.header.section_count, is.header.sections) has.init
+
+  pub role_at-bss : role_at object_names f 3 ≡ role.Bss
+  unfolding role_at
+  role_at-bss = rw (is.header.section_count, is.header.sections) has.bss
+
+  pub role_at-none : role_at object_names f 0 ≡ role.Ignored
+  unfolding role_at
+  role_at-none =
+      let start : (layout o).sections + 0 ≡ (layout o).sections = omega arith in
+      rw (is.header.section_count, is.header.sections) (rw start has.null)
+
+  pub role_at-symbols : role_at object_names f 7 ≡ role.Symbols
+  unfolding role_at
+  role_at-symbols = rw (is.header.section_count, is.header.sections) has.symbols
+
+  pub text_target : target_role object_names f ((layout o).sections + 200) ≡ role.Text
+  text_target = rw is.links.text_target role_at-text
+
+  pub data_target : target_role object_names f ((layout o).sections + 240) ≡ role.Init
+  data_target = rw is.links.data_target role_at-init
+
+  pub with-role : (r : Role) → with_role r object_names f ≡ found (picked r (layout o).sections)
+  unfolding with_role
+  with-role r = rw (sections-are f o is) (ap found (picks f (layout o).sections r has))
+
+  -- ---- the symbol table and its names
+
+  symbol-bytes : contents f ((layout o).sections + 280) ≡ symbol_table o.symbols
+  unfolding contents
+  symbol-bytes = rw is.symbols.kind (rw (is.symbols.offset, is.symbols.size) is.symbols_are)
+
+  pub table-is : table_of f ≡ record { section = (layout o).sections + 280; at = (layout o).symbols; count = length o.symbols + 1 }
+  unfolding table_of found
+  table-is =
+      let count : length (contents f ((layout o).sections + 280)) / 16 ≡ length o.symbols + 1 = ap (λ (b : List ℕ). length b / 16) symbol-bytes ∙ omega (arith, length-symbols o.symbols) in
+      ap (λ (ns : List ℕ). table_at f (with_role role.Symbols ns f)) (names-are f o is) ∙ ap (table_at f) (with-role role.Symbols) ∙ rw (is.symbols.offset, count) refl
+
+  pub strings-are : strings_of f ≡ names_table o.symbols
+  unfolding strings_of strings_in contents
+  strings-are = rw table-is (rw is.links.table_link (rw (is.header.section_count, is.header.sections) (rw is.strings.kind (rw (is.strings.offset, is.strings.size) is.strings_are))))
+
+  -- ---- the relocations
+
+  text-bytes : contents f ((layout o).sections + 200) ≡ reloc_table true o.relocs
+  unfolding contents
+  text-bytes = rw is.text_relocs.kind (rw (is.text_relocs.offset, is.text_relocs.size) is.text_relocs_are)
+
+  data-bytes : contents f ((layout o).sections + 240) ≡ reloc_table false o.relocs
+  unfolding contents
+  data-bytes = rw is.data_relocs.kind (rw (is.data_relocs.offset, is.data_relocs.size) is.data_relocs_are)
+
+  texts_picked : filter (is_reloc_section_of role.Text object_names f) (rows (layout o).sections) ≡ ((layout o).sections + 200) ∷ []
+  unfolding rows
+  texts_picked = rw (has.null, has.text, has.init, has.bss, has.sites, has.text_relocs, has.data_relocs, has.symbols, has.strings, has.names, text_target, data_target) refl
+
+  inits_picked : filter (is_reloc_section_of role.Init object_names f) (rows (layout o).sections) ≡ ((layout o).sections + 240) ∷ []
+  unfolding rows
+  inits_picked = rw (has.null, has.text, has.init, has.bss, has.sites, has.text_relocs, has.data_relocs, has.symbols, has.strings, has.names, text_target, data_target) refl
+
+  bss_picked : filter (is_reloc_section_of role.Bss object_names f) (rows (layout o).sections) ≡ []
+  unfolding rows
+  bss_picked = rw (has.null, has.text, has.init, has.bss, has.sites, has.text_relocs, has.data_relocs, has.symbols, has.strings, has.names, text_target, data_target) refl
+
+  text_entries : relocs_in f ((layout o).sections + 200) ≡ map (entry ((layout o).sections + 200)) (entries (layout o).text_relocs 8 (length (filter (is_of true) o.relocs)))
+  unfolding relocs_in
+  text_entries =
+      let count : length (contents f ((layout o).sections + 200)) / 8 ≡ length (filter (is_of true) o.relocs) = ap (λ (b : List ℕ). length b / 8) text-bytes ∙ omega (arith, length-relocs true o.relocs, length-filter (is_of true) o.relocs) in
+      rw (is.text_relocs.offset, count) refl
+
+  data_entries : relocs_in f ((layout o).sections + 240) ≡ map (entry ((layout o).sections + 240)) (entries (layout o).data_relocs 8 (length (filter (is_of false) o.relocs)))
+  unfolding relocs_in
+  data_entries =
+      let count : length (contents f ((layout o).sections + 240)) / 8 ≡ length (filter (is_of false) o.relocs) = ap (λ (b : List ℕ). length b / 8) data-bytes ∙ omega (arith, length-relocs false o.relocs, length-filter (is_of false) o.relocs) in
+      rw (is.data_relocs.offset, count) refl
+
+  pub text-relocs : relocs_of role.Text object_names f ≡ map (entry ((layout o).sections + 200)) (entries (layout o).text_relocs 8 (length (filter (is_of true) o.relocs)))
+  unfolding relocs_of
+  text-relocs = ap (λ (ss : List ℕ). flat_map (relocs_in f) (filter (is_reloc_section_of role.Text object_names f) ss)) (sections-are f o is) ∙ ap (flat_map (relocs_in f)) texts_picked ∙ append-nil (relocs_in f ((layout o).sections + 200)) ∙ text_entries
+
+  pub init-relocs : relocs_of role.Init object_names f ≡ map (entry ((layout o).sections + 240)) (entries (layout o).data_relocs 8 (length (filter (is_of false) o.relocs)))
+  unfolding relocs_of
+  init-relocs = ap (λ (ss : List ℕ). flat_map (relocs_in f) (filter (is_reloc_section_of role.Init object_names f) ss)) (sections-are f o is) ∙ ap (flat_map (relocs_in f)) inits_picked ∙ append-nil (relocs_in f ((layout o).sections + 240)) ∙ data_entries
+
+  pub bss-relocs : relocs_of role.Bss object_names f ≡ []
+  unfolding relocs_of
+  bss-relocs = ap (λ (ss : List ℕ). flat_map (relocs_in f) (filter (is_reloc_section_of role.Bss object_names f) ss)) (sections-are f o is) ∙ ap (flat_map (relocs_in f)) bss_picked
+
+  -- ---- where sections begin in what they are joined to
+
+  nothing : ℕ → List ℕ
+  nothing n = 0 ∷ 0 ∷ 0 ∷ 0 ∷ 0 ∷ 0 ∷ 0 ∷ 0 ∷ 0 ∷ 0 ∷ []
+
+  init-starts : starts role.Init object_names f 0 (rows (layout o).sections) ≡ nothing 0
+  unfolding starts rows nothing
+  init-starts = rw (has.null, has.text, has.init, has.bss, has.sites, has.text_relocs, has.data_relocs, has.symbols, has.strings, has.names, is.links.data_alignment) refl
+
+  bss-starts : starts role.Bss object_names f 0 (rows (layout o).sections) ≡ nothing 0
+  unfolding starts rows nothing
+  bss-starts = rw (has.null, has.text, has.init, has.bss, has.sites, has.text_relocs, has.data_relocs, has.symbols, has.strings, has.names, is.links.bss_alignment) refl
+
+  pub place-read : (p : Place) → place_by (role_at object_names f (place_number p)) ≡ p
+  place-read place.Undefined = rw role_at-none refl
+  place-read place.Text = rw role_at-text refl
+  place-read place.Init = rw role_at-init refl
+  place-read place.Bss = rw role_at-bss refl
+
+  pub place-kept : (p : Place) → (eqb (place_number p) 0 || is_kept (role_at object_names f (place_number p))) ≡ true
+  place-kept place.Undefined = refl
+  place-kept place.Text = rw role_at-text refl
+  place-kept place.Init = rw role_at-init refl
+  place-kept place.Bss = rw role_at-bss refl
+
+  pub start-none : (p : Place) → start_at object_names f (place_number p) ≡ 0
+  unfolding start_at nothing
+  start-none place.Undefined = rw role_at-none refl
+  start-none place.Text = rw role_at-text refl
+  start-none place.Init = rw role_at-init (rw (sections-are f o is) (rw init-starts refl))
+  start-none place.Bss = rw role_at-bss (rw (sections-are f o is) (rw bss-starts refl))
+
+  -- ---- the data and the zeroed bytes
+
+  init-bytes : contents f ((layout o).sections + 80) ≡ o.init
+  unfolding contents
+  init-bytes = rw is.init.kind (rw (is.init.offset, is.init.size) is.init_is)
+
+  pub text_bytes : contents f ((layout o).sections + 40) ≡ o.text
+  unfolding contents
+  text_bytes = rw is.text.kind (rw (is.text.offset, is.text.size) is.text_is)
+
+  pub sites_bytes : contents f ((layout o).sections + 160) ≡ o.sites
+  unfolding contents
+  sites_bytes = rw is.sites.kind (rw (is.sites.offset, is.sites.size) is.sites_is)
+
+  pub joined-init : joined object_names f [] (rows (layout o).sections) ≡ o.init
+  unfolding joined rows with_section
+  joined-init = rw (has.null, has.text, has.init, has.bss, has.sites, has.text_relocs, has.data_relocs, has.symbols, has.strings, has.names, is.links.data_alignment) init-bytes
+
+  pub joined-bss : joined_end role.Bss object_names f 0 (rows (layout o).sections) ≡ o.bss
+  unfolding joined_end rows
+  joined-bss = rw (has.null, has.text, has.init, has.bss, has.sites, has.text_relocs, has.data_relocs, has.symbols, has.strings, has.names, is.links.bss_alignment) (rw is.bss.size (omega arith))
