@@ -27,12 +27,13 @@ use Rattle.asm_lex.specs.declared.machine.Next.{Next}
 use Rattle.asm_lex.specs.declared.machine.Next.TheVariants.{Goes, Stops}
 use Rattle.asm_lex.specs.declared.machine.Stepped.{Stepped}
 use Rattle.asm_lex.specs.Machine.{stepped, after, stops, is_whole}
-use Rattle.asm_parse.specs.Reading.{Fault, fed, placed, symbol_of}
+use Rattle.asm_parse.specs.Reading.{Fault, fed, placed, symbol_of, is_longer, ending_at, with_end, next_word}
+use Rattle.asm_lex.specs.Words.{Word, word_of}
 use Rattle.asm_parse.specs.Running.{Running, goes_on, second_does, byte_does, one_byte_over, moved, one_byte, run, start, closed, read, first_lines}
 use Rattle.asm_parse.proofs.Lines.{bind_ok, IsRead, run_ok}
 use Rattle.asm_parse.proofs.Linking.{run_append, goes_is}
-use Rattle.std.proofs.Common.{zero, suc, take, drop}
-use Rattle.std.specs.Prelude.{◌==◌}
+use Rattle.std.proofs.Common.{zero, suc}
+use Rattle.std.specs.Prelude.{◌==◌, ◌&&◌, ◌+◌}
 use Rattle.std.proofs.lemmas.Bool.{eqb-true}
 use Rattle.asm_parse.specs.Operand.{operand_step, is_finished}
 use Rattle.asm_parse.specs.Statement.{shape_at, at_shape, complete, end_behind, ended, least, is_bare, argument_step, nothing_yet, directive_of, of_directive, is_dotted, is_passed, is_rep, step, next_step, fault_line}
@@ -104,8 +105,7 @@ pub end_ends : (sc : ScopeView) (st : State) (line : ℕ) → Ends (step sc st l
 end_ends sc state.Start line = refl
 end_ends sc (state.Named b n) line = either (is_passed sc n) _ _ refl (either (is_dotted n) _ _ (directive_ends sc b n (directive_of n)) (either (is_rep n) _ _ tt (argument_ends sc (nothing_yet b (head.Instruction false n)))))
 end_ends sc state.Skip line = refl
-end_ends sc (state.Sectioned b n m) line = refl
-end_ends sc (state.Joining b n m) line = refl
+end_ends sc (state.Sectioned b n m e) line = refl
 end_ends sc (state.Flags b n m) line = refl
 end_ends sc (state.Arguments o) line = argument_ends sc o
 end_ends sc (state.Stray l c) line = tt
@@ -140,12 +140,29 @@ placed_ends : (line : ℕ) (r : Answer) (z : ScopeView × State) → Ends r → 
 placed_ends line (Ok x) z h e = let g : x ≡ z = cc in subst (λ (y : ScopeView × State). y.1 ≡ state.Start) g h
 placed_ends line (Err c) z h e = absurd cc
 
+not_longer : (st : State) (at : ℕ) (bytes : List ℕ) → is_longer st at kind.End bytes ≡ false
+not_longer (state.Sectioned b n m e) at bytes = none (e == at)
+  where
+    none : (t : Bool) → (t && false) ≡ false
+    none true = refl
+    none false = refl
+not_longer _ at bytes = refl
+
+with_ends : (e : ℕ) (r : Answer) → Ends r → Ends (with_end e r)
+with_ends e (Ok x) h = ap (ending_at e) h
+with_ends e (Err c) h = tt
+
+end_word : (sc : ScopeView) (st : State) (w : Word) → w.kind ≡ kind.End → Ends (next_word sc st w)
+end_word sc st w h =
+    let symbol : symbol_of w.kind w.bytes ≡ symbol.End = ap (λ (k : TokenKind). symbol_of k w.bytes) h in
+    let none : is_longer st w.at w.kind w.bytes ≡ false = ap (λ (k : TokenKind). is_longer st w.at k w.bytes) h ∙ not_longer st w.at w.bytes in
+    let ends : Ends (next_step sc st w.line (symbol_of w.kind w.bytes)) = subst (λ (s : Symbol). Ends (next_step sc st w.line s)) (sym symbol) (end_ends sc st w.line) in
+    rw none (with_ends (w.at + length w.bytes) (next_step sc st w.line (symbol_of w.kind w.bytes)) ends)
+
 fed_end : (sc : ScopeView) (st : State) (seen : List ℕ) (line : ℕ) (t : Option Token) (z : ScopeView × State) → LastEnd (Goes mode.Between) t → fed sc st seen line t ≡ Ok z → z.1 ≡ state.Start
 fed_end sc st seen line None z h e = absurd h
 fed_end sc st seen line (Some t) z h e =
-    let symbol : symbol_of t.kind (take t.len (drop t.at seen)) ≡ symbol.End = ap (λ (k : TokenKind). symbol_of k (take t.len (drop t.at seen))) h in
-    let ends : Ends (next_step sc st line (symbol_of t.kind (take t.len (drop t.at seen)))) = subst (λ (s : Symbol). Ends (next_step sc st line s)) (sym symbol) (end_ends sc st line) in
-    placed_ends (fault_line sc st line) (next_step sc st line (symbol_of t.kind (take t.len (drop t.at seen)))) z ends e
+    placed_ends (fault_line sc st line) (next_word sc st (word_of seen line t)) z (end_word sc st (word_of seen line t) h) e
 
 does_end : (sc : ScopeView) (st : State) (seen : List ℕ) (line : ℕ) (s : Stepped) (x : ScopeView × State × Mode) → LastEnd s.next s.second → byte_does sc st seen line s ≡ Ok x → x.2 ≡ mode.Between → x.1 ≡ state.Start
 does_end sc st seen line s x last h m =
@@ -176,7 +193,7 @@ ready_at s m st =
     let is : record { scope = s.scope; state = state.Start; mode = mode.Between; seen = s.seen; at = s.at; line = s.line } ≡ s = rw (← m, ← st) refl in
     subst (λ (q : Running). (t : Running) × (run q (10 ∷ []) ≡ Ok t) × (closed t t.mode ≡ Ok t)) is (ready s.scope s.seen s.at s.line)
 
-run_two : (r s : Running) (bs cs : List ℕ) → run r bs ≡ Ok s → run r (bs ++ cs) ≡ run s cs
+pub run_two : (r s : Running) (bs cs : List ℕ) → run r bs ≡ Ok s → run r (bs ++ cs) ≡ run s cs
 run_two r s [] cs h = let e : r ≡ s = cc in ap (λ (x : Running). run x cs) e
 run_two r s (b ∷ bs) cs h =
     let x = bind_ok (one_byte r b) (λ x. run x bs) s h in

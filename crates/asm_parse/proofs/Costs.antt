@@ -90,17 +90,32 @@ token_pays k piece rest (IsToken.number {b} {bs} h g f e) = record { some = omeg
 token_pays k piece rest (IsToken.character {b} {c} h g) = record { some = omega arith; pays = omega (arith, number_cost (number_value (b ∷ c ∷ []))) }
 token_pays k piece rest (IsToken.string {b} {bs} h g) = record { some = omega arith; pays = omega (arith, string_shorter opening (b ∷ bs)) }
 
+-- the bytes of words
+abbrev pub weight : List Word → ℕ
+weight [] = 0
+weight (w ∷ ws) = length w.bytes + weight ws
+
+-- each word stands for no more than its bytes
+abbrev pub ArePaid : List Word → Type 0
+ArePaid [] = Unit {0}
+ArePaid (w ∷ ws) = (cost (symbol_of w.kind w.bytes) ≤ length w.bytes) × ArePaid ws
+
+pub paid_costs : (ws : List Word) → ArePaid ws → costs (symbols ws) ≤ weight ws
+paid_costs [] h = omega arith
+paid_costs (w ∷ ws) h = omega (arith, h.0, paid_costs ws h.1)
+
 pub record Paid (text : List ℕ) (ws : List Word) : Type 0 where
   pub count : length ws ≤ length text
-  pub bytes : costs (symbols ws) ≤ length text
+  pub bytes : weight ws ≤ length text
+  pub each : ArePaid ws
 
 -- Words have no more bytes than the text, and are no more.
 pub lexed_pays : {at line : ℕ} {text : List ℕ} {ws : List Word} → Lexed at line text ws → Paid text ws
-lexed_pays Lexed.none = record { count = omega arith; bytes = omega arith }
+lexed_pays Lexed.none = record { count = omega arith; bytes = omega arith; each = tt }
 lexed_pays (Lexed.gap piece rest e gap l) =
     let p = lexed_pays l in
-    record { count = omega (arith, ap length e, length-append piece rest, p.count); bytes = omega (arith, ap length e, length-append piece rest, p.bytes) }
+    record { count = omega (arith, ap length e, length-append piece rest, p.count); bytes = omega (arith, ap length e, length-append piece rest, p.bytes); each = p.each }
 lexed_pays (Lexed.token k piece rest e is l) =
     let p = lexed_pays l in
     let t = token_pays k piece rest is in
-    record { count = omega (arith, ap length e, length-append piece rest, p.count, t.some); bytes = omega (arith, ap length e, length-append piece rest, p.bytes, t.pays) }
+    record { count = omega (arith, ap length e, length-append piece rest, p.count, t.some); bytes = omega (arith, ap length e, length-append piece rest, p.bytes); each = (t.pays, p.each) }

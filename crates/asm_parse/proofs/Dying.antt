@@ -9,14 +9,16 @@ use Rattle.asm_lex.specs.Words.{Word, scan, line_after}
 use Rattle.asm_parse.specs.declared.state.State.{State}
 use Rattle.asm_parse.specs.declared.state.State.TheVariants as state
 use Rattle.asm_parse.specs.ScopeView.{ScopeView}
-use Rattle.asm_parse.specs.Statement.{next_step, doom, pending, or_line, fault_line, left_open, open_at_end}
-use Rattle.asm_parse.specs.Reading.{Fault, placed, symbol_of}
+use Rattle.asm_parse.specs.Statement.{doom, pending, or_line, fault_line, left_open, open_at_end}
+use Rattle.asm_parse.specs.Reading.{Fault, placed, next_word}
 use Rattle.asm_parse.specs.Running.{Running, ◌>>=◌, one_byte, run, start, closed, read, first_lines}
-use Rattle.asm_parse.proofs.Quiet.{doomed_stops}
-use Rattle.asm_parse.proofs.Lines.{Keeps, OneByte, bind_ok, err_line, ok_byte, line_newline, line_same, run_ok, IsRead}
+use Rattle.asm_parse.proofs.Scopes.{GoodIn, fresh_good}
+use Rattle.asm_parse.proofs.Quiet.{Any, any_next}
+use Rattle.asm_parse.proofs.Lines.{OneByte, placed_goes, bind_ok, err_line, ok_byte, line_newline, line_same, run_ok, IsRead}
 use Rattle.asm_parse.proofs.Words.{read_words}
-use Rattle.asm_parse.proofs.Linking.{run_append, link, last_mode, closed_between}
-use Rattle.asm_parse.proofs.Alive.{newline_state, has_reading, lines_end}
+use Rattle.asm_lex.specs.declared.machine.Next.TheVariants.{Goes}
+use Rattle.asm_parse.proofs.Linking.{IsClosed, run_append, link, last_mode, closed_between}
+use Rattle.asm_parse.proofs.Alive.{newline_state, lines_end}
 
 -- a whole reading from here on
 abbrev finish : Running → List ℕ → Result Running Fault
@@ -24,27 +26,27 @@ finish r text = run r text >>= λ s. closed s s.mode
 
 -- ---- what is dead stays dead
 
-words_doomed : (ws : List Word) (sc : ScopeView) (st : State) (l : ℕ) (y : ScopeView × State) → doom sc st ≡ Some l → read_words sc st ws ≡ Ok y → y.1 ≡ state.Start → ⊥
-words_doomed [] sc st l y d h e =
+words_doomed : (ws : List Word) (sc : ScopeView) (st : State) (l : ℕ) (y : ScopeView × State) → GoodIn Any sc → doom sc st ≡ Some l → read_words sc st ws ≡ Ok y → y.1 ≡ state.Start → ⊥
+words_doomed [] sc st l y good d h e =
     let g : (sc, st) ≡ y = cc in
     let start : st ≡ state.Start = ap (λ (x : ScopeView × State). x.1) g ∙ e in
     let none : None ≡ Some l = sym (ap (doom sc) start) ∙ d in
     absurd cc
-words_doomed (w ∷ ws) sc st l y d h e =
-    let z = bind_ok (placed (fault_line sc st w.line) (next_step sc st w.line (symbol_of w.kind w.bytes))) (λ z. read_words z.0 z.1 ws) y h in
-    by_step (next_step sc st w.line (symbol_of w.kind w.bytes)) refl z.1
+words_doomed (w ∷ ws) sc st l y good d h e =
+    let z = bind_ok (placed (fault_line sc st w.line) (next_word sc st w)) (λ z. read_words z.0 z.1 ws) y h in
+    let n = any_next sc st w z.0 good (placed_goes (fault_line sc st w.line) (next_word sc st w) z.0 z.1) in
+    words_doomed ws z.0.0 z.0.1 l y n.scope (elim n.doom [ inl k ↦ k ∙ d | inr (k, m) ↦ absurd (none_doomed k d) ]) z.2 e
   where
-    by_step : {z : ScopeView × State} (r : Result (ScopeView × State) SourceCause) → next_step sc st w.line (symbol_of w.kind w.bytes) ≡ r → placed (fault_line sc st w.line) r ≡ Ok z → ⊥
-    by_step (Ok x) f g = doomed_stops sc st l w.line (symbol_of w.kind w.bytes) x d f
-    by_step (Err c) f g = absurd cc
+    none_doomed : {o : Option ℕ} {l : ℕ} → o ≡ None → o ≡ Some l → ⊥
+    none_doomed k d = absurd cc
 
-doomed_never : (r : Running) (l : ℕ) → doom r.scope r.state ≡ Some l → (more : List ℕ) (t : Running) → finish r (more ++ 10 ∷ []) ≡ Ok t → ⊥
-doomed_never r l d more t h =
+doomed_never : (r : Running) (l : ℕ) → GoodIn Any r.scope → doom r.scope r.state ≡ Some l → (more : List ℕ) (t : Running) → finish r (more ++ 10 ∷ []) ≡ Ok t → ⊥
+doomed_never r l good d more t h =
     let s = bind_ok (run r (more ++ 10 ∷ [])) (λ s. closed s s.mode) t h in
     let a = run_append r s.0 more (10 ∷ []) s.1 in
     let m = closed_between s.0 t s.0.mode (last_mode a.0 s.0 a.2) s.2 in
     let k = link (more ++ 10 ∷ []) r s.0 s.1 in
-    words_doomed (scan r.mode r.seen r.at r.line (more ++ 10 ∷ [])).words r.scope r.state l (s.0.scope, s.0.state) d k.words (newline_state a.0 s.0 a.2 m.0)
+    words_doomed (scan r.mode r.seen r.at r.line (more ++ 10 ∷ [])).words r.scope r.state l (s.0.scope, s.0.state) good d k.words (newline_state a.0 s.0 a.2 m.0)
 
 -- ---- the line of a fault
 
@@ -84,20 +86,22 @@ fails_behind r b cs f h = by_byte (one_byte r b) refl h
     by_byte (Ok s) e h = FailsBehind.goes s e (ok_byte r b s e) h
     by_byte (Err g) e h = FailsBehind.fails (e ∙ h)
 
-doomed_fault : (cs : List ℕ) (r : Running) (l : ℕ) (f : Fault) → doom r.scope r.state ≡ Some l → finish r cs ≡ Err f → f.0 ≡ l
-doomed_fault [] r l f d h = closed_doomed r r.mode l f d h
-doomed_fault (b ∷ cs) r l f d h = elim (fails_behind r b cs f h) [
-  | FailsBehind.fails e ↦ err_line r b f e ∙ some_line (doom r.scope r.state) l r.line d
-  | FailsBehind.goes s e o k ↦ elim o.keeps [
-    | inl same ↦ doomed_fault cs s l f (same ∙ d) k
-    | inr (n, x) ↦ absurd (none_some (doom r.scope r.state) n d)
-  ]
+doomed_fault : (cs : List ℕ) (r : Running) (l : ℕ) (f : Fault) → GoodIn Any r.scope → doom r.scope r.state ≡ Some l → finish r cs ≡ Err f → f.0 ≡ l
+doomed_fault [] r l f good d h = closed_doomed r r.mode l f d h
+doomed_fault (b ∷ cs) r l f good d h = elim (fails_behind r b cs f h) [
+  | FailsBehind.fails e ↦ err_line r b f good e ∙ some_line (doom r.scope r.state) l r.line d
+  | FailsBehind.goes s e o k ↦
+      let p = o.keeps good in
+      elim p.0 [
+        | inl same ↦ doomed_fault cs s l f p.1 (same ∙ d) k
+        | inr (n, x) ↦ absurd (none_some (doom r.scope r.state) n d)
+      ]
 ]
 
 -- what one byte does where nothing is dead yet: the text is dead in this line, or it goes on
 data Behind (r : Running) (b : ℕ) (cs : List ℕ) (f : Fault) : Type 0 where
   here : f.0 ≡ r.line → ((more : List ℕ) (t : Running) → finish r (b ∷ (more ++ 10 ∷ [])) ≡ Ok t → ⊥) → Behind r b cs f
-  later : (s : Running) → one_byte r b ≡ Ok s → s.line ≡ line_after r.line b → doom s.scope s.state ≡ None → finish s cs ≡ Err f → Behind r b cs f
+  later : (s : Running) → one_byte r b ≡ Ok s → s.line ≡ line_after r.line b → GoodIn Any s.scope → doom s.scope s.state ≡ None → finish s cs ≡ Err f → Behind r b cs f
 
 err_not_ok : {f : Fault} {t : Running} (q : Result Running Fault) → q ≡ Err f → q ≡ Ok t → ⊥
 err_not_ok q e h = absurd cc
@@ -108,13 +112,15 @@ finish_err r b f cs e = rw e refl
 finish_ok : (r s : Running) (b : ℕ) (cs : List ℕ) → one_byte r b ≡ Ok s → finish r (b ∷ cs) ≡ finish s cs
 finish_ok r s b cs e = rw e refl
 
-behind : (r : Running) (b : ℕ) (cs : List ℕ) (f : Fault) → doom r.scope r.state ≡ None → finish r (b ∷ cs) ≡ Err f → Behind r b cs f
-behind r b cs f d h = elim (fails_behind r b cs f h) [
-  | FailsBehind.fails e ↦ Behind.here (err_line r b f e ∙ none_line (doom r.scope r.state) r.line d) (λ more t g. err_not_ok (finish r (b ∷ (more ++ 10 ∷ []))) (finish_err r b f (more ++ 10 ∷ []) e) g)
-  | FailsBehind.goes s e o k ↦ elim o.keeps [
-    | inl same ↦ Behind.later s e o.line (same ∙ d) k
-    | inr (n, x) ↦ Behind.here (doomed_fault cs s r.line f x k) (λ more t g. doomed_never s r.line x more t (sym (finish_ok r s b (more ++ 10 ∷ []) e) ∙ g))
-  ]
+behind : (r : Running) (b : ℕ) (cs : List ℕ) (f : Fault) → GoodIn Any r.scope → doom r.scope r.state ≡ None → finish r (b ∷ cs) ≡ Err f → Behind r b cs f
+behind r b cs f good d h = elim (fails_behind r b cs f h) [
+  | FailsBehind.fails e ↦ Behind.here (err_line r b f good e ∙ none_line (doom r.scope r.state) r.line d) (λ more t g. err_not_ok (finish r (b ∷ (more ++ 10 ∷ []))) (finish_err r b f (more ++ 10 ∷ []) e) g)
+  | FailsBehind.goes s e o k ↦
+      let p = o.keeps good in
+      elim p.0 [
+        | inl same ↦ Behind.later s e o.line p.1 (same ∙ d) k
+        | inr (n, x) ↦ Behind.here (doomed_fault cs s r.line f p.1 x k) (λ more t g. doomed_never s r.line p.1 x more t (sym (finish_ok r s b (more ++ 10 ∷ []) e) ∙ g))
+      ]
 ]
 
 -- The lines up to the fault's have no reading, whatever follows them.
@@ -122,14 +128,14 @@ record Dies (r : Running) (text : List ℕ) (f : Fault) : Type 0 where
   not_before : r.line ≤ f.0
   dead : (n : ℕ) → n + r.line ≡ f.0 → (more : List ℕ) (t : Running) → finish r ((first_lines (suc n) text ++ more) ++ 10 ∷ []) ≡ Ok t → ⊥
 
-dies : (text : List ℕ) (r : Running) (f : Fault) → (f.1 ≡ OpenComment → ⊥) → doom r.scope r.state ≡ None → finish r (text ++ 10 ∷ []) ≡ Err f → Dies r text f
-dies [] r f other d h = elim (behind r 10 [] f d h) [
+dies : (text : List ℕ) (r : Running) (f : Fault) → (f.1 ≡ OpenComment → ⊥) → GoodIn Any r.scope → doom r.scope r.state ≡ None → finish r (text ++ 10 ∷ []) ≡ Err f → Dies r text f
+dies [] r f other good d h = elim (behind r 10 [] f good d h) [
   | Behind.here e never ↦ record { not_before = omega (arith, e); dead = λ n k more t g. never more t g }
-  | Behind.later s e line quiet k ↦ absurd (other (closed_quiet s s.mode f quiet k))
+  | Behind.later s e line good2 quiet k ↦ absurd (other (closed_quiet s s.mode f quiet k))
 ]
-dies (b ∷ bs) r f other d h = elim (behind r b (bs ++ 10 ∷ []) f d h) [
+dies (b ∷ bs) r f other good d h = elim (behind r b (bs ++ 10 ∷ []) f good d h) [
   | Behind.here e never ↦ record { not_before = omega (arith, e); dead = λ n k more t g. never _ t g }
-  | Behind.later s e line quiet k ↦ goes_deeper s e line (dies bs s f other quiet k) (b == 10) refl
+  | Behind.later s e line good2 quiet k ↦ goes_deeper s e line (dies bs s f other good2 quiet k) (b == 10) refl
 ]
   where
     goes_deeper : (s : Running) → one_byte r b ≡ Ok s → s.line ≡ line_after r.line b → Dies s bs f → (t : Bool) → (b == 10) ≡ t → Dies r (b ∷ bs) f
@@ -153,16 +159,16 @@ dies (b ∷ bs) r f other d h = elim (behind r b (bs ++ 10 ∷ []) f d h) [
 abbrev Lives : Running → List ℕ → ℕ → Type 0
 Lives r text n = (s : Running) × (run r (first_lines n text) ≡ Ok s) × (doom s.scope s.state ≡ None)
 
-lives : (text : List ℕ) (r : Running) (f : Fault) → (f.1 ≡ OpenComment → ⊥) → doom r.scope r.state ≡ None → finish r (text ++ 10 ∷ []) ≡ Err f → (n : ℕ) → n + r.line ≤ f.0 → Lives r text n
-lives [] r f other d h zero le = (r, refl, d)
-lives [] r f other d h (suc n) le = elim (behind r 10 [] f d h) [
+lives : (text : List ℕ) (r : Running) (f : Fault) → (f.1 ≡ OpenComment → ⊥) → GoodIn Any r.scope → doom r.scope r.state ≡ None → finish r (text ++ 10 ∷ []) ≡ Err f → (n : ℕ) → n + r.line ≤ f.0 → Lives r text n
+lives [] r f other good d h zero le = (r, refl, d)
+lives [] r f other good d h (suc n) le = elim (behind r 10 [] f good d h) [
   | Behind.here e never ↦ absurd (omega (arith, e))
-  | Behind.later s e line quiet k ↦ absurd (other (closed_quiet s s.mode f quiet k))
+  | Behind.later s e line good2 quiet k ↦ absurd (other (closed_quiet s s.mode f quiet k))
 ]
-lives (b ∷ bs) r f other d h zero le = (r, refl, d)
-lives (b ∷ bs) r f other d h (suc n) le = elim (behind r b (bs ++ 10 ∷ []) f d h) [
+lives (b ∷ bs) r f other good d h zero le = (r, refl, d)
+lives (b ∷ bs) r f other good d h (suc n) le = elim (behind r b (bs ++ 10 ∷ []) f good d h) [
   | Behind.here e never ↦ absurd (omega (arith, e))
-  | Behind.later s e line quiet k ↦ at_byte s e line (λ m. lives bs s f other quiet k m) (b == 10) refl
+  | Behind.later s e line good2 quiet k ↦ at_byte s e line (λ m. lives bs s f other good2 quiet k m) (b == 10) refl
 ]
   where
     at_byte : (s : Running) → one_byte r b ≡ Ok s → s.line ≡ line_after r.line b → ((m : ℕ) → m + s.line ≤ f.0 → Lives s bs m) → (u : Bool) → (b == 10) ≡ u → Lives r (b ∷ bs) (suc n)
@@ -176,19 +182,19 @@ lives (b ∷ bs) r f other d h (suc n) le = elim (behind r b (bs ++ 10 ∷ []) f
 -- After the line of a fault no text goes on, but for an open comment.
 pub dead_line : (text : List ℕ) (line : ℕ) (c : SourceCause) → read text ≡ Err (line, c) → (c ≡ OpenComment → ⊥) → (more : List ℕ) → IsRead (first_lines line text ++ more) → ⊥
 unfolding read
-dead_line text line c h other more (t, g) = at_line line (dies text start (line, c) other refl h) g
+dead_line text line c h other more (t, g) = at_line line (dies text start (line, c) other (fresh_good Any) refl h) g
   where
     at_line : (l : ℕ) → Dies start text (l, c) → finish start ((first_lines l text ++ more) ++ 10 ∷ []) ≡ Ok t → ⊥
     at_line zero w g = absurd (omega (arith, w.not_before))
     at_line (suc n) w g = w.dead n (omega arith) more t g
 
--- Each line before the fault's goes on: at once where no comment is open at its end.
+-- Each line before the fault's goes on, and nothing is open behind it but a comment and a statement.
 pub alive_line : (text : List ℕ) (f : Fault) → read text ≡ Err f → (f.1 ≡ OpenComment → ⊥) → (n : ℕ) → n < f.0
-    → (s : Running) × (run start (first_lines n text) ≡ Ok s) × (doom s.scope s.state ≡ None) × (s.mode ≡ mode.Between → IsRead (first_lines n text))
+    → (s : Running) × (run start (first_lines n text) ≡ Ok s) × (doom s.scope s.state ≡ None) × IsClosed (Goes s.mode)
 unfolding read
-alive_line text f h other zero lt = (start, refl, refl, λ m. has_reading [] start refl refl refl)
+alive_line text f h other zero lt = (start, refl, refl, tt)
 alive_line text f h other (suc n) lt =
-    let g = lives text start f other refl h (suc n) (omega arith) in
+    let g = lives text start f other (fresh_good Any) refl h (suc n) (omega arith) in
     let e = lines_end text n in
     let split = run_append start g.0 e.0 (10 ∷ []) (ap (run start) (sym e.1) ∙ g.1) in
-    (g.0, g.1, g.2, λ m. has_reading (first_lines (suc n) text) g.0 g.1 m (newline_state split.0 g.0 split.2 m))
+    (g.0, g.1, g.2, last_mode split.0 g.0 split.2)

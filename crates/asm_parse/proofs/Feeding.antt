@@ -1,5 +1,5 @@
 -- A step's answer in the words of the reader.
-use Rattle.std.proofs.Common.{◌≡◌, ℕ, suc, ◌+◌, ◌*◌, ◌<◌, ◌≤◌, cond, ltb, List, [], ◌∷◌, length, drop, get_or, Option, Some, None, Result, Ok, Err, refl, sym, ap, ◌∙◌, arith, drop-cons}
+use Rattle.std.proofs.Common.{◌≡◌, ℕ, suc, ◌+◌, ◌*◌, ◌<◌, Bool, false, ◌≤◌, cond, ltb, List, [], ◌∷◌, length, drop, get_or, Option, Some, None, Result, Ok, Err, refl, sym, ap, ◌∙◌, arith, drop-cons}
 use Rattle.std.proofs.Math.Nat.{mul-le-mul_left}
 use Rattle.std.proofs.lemmas.Bool.{le-ltb, lt-ltb}
 use Rattle.std.proofs.lemmas.List.{nil_from_length, length-drop}
@@ -8,10 +8,12 @@ use Rattle.asm_parse.specs.declared.state.State.{State}
 use Rattle.asm_parse.specs.declared.stop.Stop.{Stop}
 use Rattle.asm_parse.specs.declared.stop.Stop.TheVariants as stop
 use Rattle.asm_parse.specs.ScopeView.{ScopeView}
-use Rattle.asm_parse.specs.declared.symbol.Symbol.{Symbol}
+use Rattle.asm_lex.specs.Words.{Word}
 use Rattle.asm_lex.specs.declared.fault.SourceFault.{SourceFault}
+use Rattle.asm_lex.specs.declared.fault.SourceFault.TheVariants as fault
 use Rattle.asm_parse.specs.Statement.{Does, next_step, fault_line}
-use Rattle.asm_parse.specs.Reading.{placed, at_line, Feeds, digit_of, digits_value}
+use Rattle.asm_parse.specs.Reading.{placed, at_line, Feeds, symbol_of, is_longer, ending_at, with_end, next_word, digit_of, digits_value}
+use Rattle.asm_parse.specs.declared.symbol.Symbol.{Symbol}
 
 pub feeds : (new : ScopeView) (line : ℕ) (s : Result State Stop) (r : Result (ScopeView × State) SourceCause) → Does new s r → Feeds new (at_line line s) (placed line r)
 feeds new line (Ok st) r h = rw h refl
@@ -38,5 +40,24 @@ done_value base value total i bytes le e small =
     let is : value ≡ total = ap (digits_value base value) (sym (nil_from_length (drop i bytes) (omega (arith, length-drop i bytes)))) ∙ e in
     rw (← is, lt-ltb _ _ small) refl
 
-pub same_symbol : (new sc : ScopeView) (st : State) (line : ℕ) (r : Result State SourceFault) (s t : Symbol) → s ≡ t → Feeds new r (placed (fault_line sc st line) (next_step sc st line s)) → Feeds new r (placed (fault_line sc st line) (next_step sc st line t))
-same_symbol new sc st line r s t e h = rw (← e) h
+-- ---- a word
+
+pub same_word : (new sc : ScopeView) (st : State) (line : ℕ) (r : Result State SourceFault) (w v : Word) → w ≡ v → Feeds new r (placed (fault_line sc st line) (next_word sc st w)) → Feeds new r (placed (fault_line sc st line) (next_word sc st v))
+same_word new sc st line r w v e h = rw (← e) h
+
+pub with_ended : (new : ScopeView) (line end : ℕ) (st : State) (r : Result (ScopeView × State) SourceCause) → Feeds new (Ok st) (placed line r) → Feeds new (Ok (ending_at end st)) (placed line (with_end end r))
+with_ended new line end st (Ok x) h = let g : x ≡ (new, st) = cc in ap (λ (z : ScopeView × State). Ok (z.0, ending_at end z.1)) g
+with_ended new line end st (Err c) h = absurd cc
+
+pub with_failed : (new : ScopeView) (line end : ℕ) (f : SourceFault) (r : Result (ScopeView × State) SourceCause) → Feeds new (Err f) (placed line r) → Feeds new (Err f) (placed line (with_end end r))
+with_failed new line end (fault.At l c) (Ok x) h = absurd cc
+with_failed new line end (fault.At l c) (Err d) h = h
+with_failed new line end fault.Memory r h = tt
+
+pub failed_word : (new sc : ScopeView) (st : State) (line : ℕ) (w : Word) (s : Symbol) (f : SourceFault) → is_longer st w.at w.kind w.bytes ≡ false → s ≡ symbol_of w.kind w.bytes
+    → Feeds new (Err f) (placed line (next_step sc st w.line s)) → Feeds new (Err f) (placed line (next_word sc st w))
+failed_word new sc st line w s f none e h = rw (none, ← e) (with_failed new line (w.at + length w.bytes) f (next_step sc st w.line s) h)
+
+pub ended_word : (new sc : ScopeView) (st st2 st3 : State) (line : ℕ) (w : Word) (s : Symbol) → is_longer st w.at w.kind w.bytes ≡ false → s ≡ symbol_of w.kind w.bytes → st3 ≡ ending_at (w.at + length w.bytes) st2
+    → Feeds new (Ok st2) (placed line (next_step sc st w.line s)) → Feeds new (Ok st3) (placed line (next_word sc st w))
+ended_word new sc st st2 st3 line w s none e same h = rw (none, ← e, same) (with_ended new line (w.at + length w.bytes) st2 (next_step sc st w.line s) h)

@@ -1,6 +1,7 @@
 pub mod Operands
 pub mod Names
 pub mod Words
+pub mod Scopes
 pub mod Quiet
 pub mod Lines
 pub mod Feeding
@@ -11,7 +12,11 @@ pub mod Alive
 pub mod Dying
 pub mod Stated
 pub mod Said
+pub mod Written
+pub mod Completing
+pub mod Closing
 pub mod Sources
 pub mod Keyed
 pub mod Costs
 pub mod Sizes
+pub mod Readability

@@ -15,8 +15,8 @@ use Rattle.asm_lex.specs.Machine.{stepped, after, stops}
 use Rattle.asm_lex.specs.Words.{Scan, scan, with_token, word_of, line_after}
 use Rattle.asm_parse.specs.declared.state.State.{State}
 use Rattle.asm_parse.specs.ScopeView.{ScopeView}
-use Rattle.asm_parse.specs.Statement.{next_step, fault_line}
-use Rattle.asm_parse.specs.Reading.{Fault, fed, placed, symbol_of}
+use Rattle.asm_parse.specs.Statement.{fault_line}
+use Rattle.asm_parse.specs.Reading.{Fault, fed, placed, next_word}
 use Rattle.asm_parse.specs.Running.{Running, closed, goes_on, second_does, byte_does, one_byte_over, moved, one_byte, run}
 use Rattle.asm_parse.proofs.Words.{read_words}
 use Rattle.asm_parse.proofs.Lines.{bind_ok, run_ok}
@@ -141,7 +141,7 @@ closed_between r s (mode.Escape a) k h = absurd k
 token_unread : (sc : ScopeView) (st : State) (seen : List ℕ) (line : ℕ) (t : Option Token) (s : Scan) (y : ScopeView × State) → read_words sc st (with_token seen line t s).words ≡ Ok y
     → (z : ScopeView × State) × (fed sc st seen line t ≡ Ok z) × (read_words z.0 z.1 s.words ≡ Ok y)
 token_unread sc st seen line None s y h = ((sc, st), refl, h)
-token_unread sc st seen line (Some t) s y h = bind_ok (placed (fault_line sc st line) (next_step sc st line (symbol_of t.kind (word_of seen line t).bytes))) (λ z. read_words z.0 z.1 s.words) y h
+token_unread sc st seen line (Some t) s y h = bind_ok (placed (fault_line sc st line) (next_word sc st (word_of seen line t))) (λ z. read_words z.0 z.1 s.words) y h
 
 pub record Unlinked (r : Running) (bs : List ℕ) (m : Mode) (y : ScopeView × State) : Type 0 where
   pub last : Running

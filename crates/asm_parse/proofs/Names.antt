@@ -13,7 +13,7 @@ use Rattle.asm_parse.specs.declared.tree.Form.{Form}
 use Rattle.asm_parse.specs.declared.tree.Form.TheVariants as form
 use Rattle.asm_parse.specs.ScopeView.{ScopeView}
 use Rattle.asm_parse.specs.Scope.{holds, has_room, noted, defined_too}
-use Rattle.asm_parse.specs.Operand.{is_operand, takes_names, takes_sums, takes_minus, takes_numbers, takes_text, fits, signed, turned, named, plain, of_memory, is_register, next_symbol, operand_step, finished, is_finished, name_in}
+use Rattle.asm_parse.specs.Operand.{is_operand, takes_names, takes_sums, takes_minus, takes_numbers, takes_text, fits, signed, turned, named, plain, of_memory, is_register, is_scale, is_nothing, first, allowed, counted, lowered, registered, is_low, next_symbol, operand_step, finished, is_finished, name_in}
 use Rattle.asm_parse.specs.Statement.{noting}
 use Rattle.asm_parse.specs.Statements.{IsSeen, name_of, symbol_in}
 use Rattle.asm_parse.proofs.Operands.{ok, registered_ok, allowed_ok, counted_ok, lowered_ok, scale_ok, ok_is, operand_run}
@@ -54,65 +54,65 @@ named_in (partial.Whole f) = symbol_in f
 named_in _ = None
 
 -- one symbol more: no name is read, or the first one
-abbrev pub Keeps : Partial → Partial → Type 0
-Keeps p q = ((name_in q ≡ None) × (named_in q ≡ named_in p)) ⊎ ((n : List ℕ) × (name_in q ≡ Some n) × (named_in q ≡ Some n) × (named_in p ≡ None))
+abbrev pub Keeps : Partial → Symbol → Partial → Type 0
+Keeps p s q = ((name_in q ≡ None) × (named_in q ≡ named_in p)) ⊎ ((n : List ℕ) × (name_in q ≡ Some n) × (named_in q ≡ Some n) × (named_in p ≡ None) × (s ≡ symbol.Name n))
 
-pub name_step : (sh : Shape) (p : Partial) (s : Symbol) (q : Partial) → next_symbol sh p s ≡ ok q → Keeps p q
-name_step sh partial.Nothing symbol.Percent q h = subst (Keeps partial.Nothing) (allowed_ok (is_operand sh) partial.Percent q h).1 (inl (refl, refl))
-name_step sh partial.Nothing symbol.Dollar q h = subst (Keeps partial.Nothing) (allowed_ok (is_operand sh) partial.Dollar q h).1 (inl (refl, refl))
-name_step sh partial.Nothing symbol.Open q h = subst (Keeps partial.Nothing) (allowed_ok (is_operand sh) (partial.Open None) q h).1 (inl (refl, refl))
-name_step sh partial.Nothing symbol.Minus q h = subst (Keeps partial.Nothing) (allowed_ok (takes_minus sh) (partial.Minus place.Memory) q h).1 (inl (refl, refl))
-name_step sh partial.Nothing (symbol.Number n) q h = subst (Keeps partial.Nothing) (counted_ok (takes_numbers sh) (fits sh false n) (partial.Number place.Memory (plain (pos n))) q h).2 (inl (refl, refl))
-name_step sh partial.Nothing (symbol.Name n) q h = subst (Keeps partial.Nothing) (allowed_ok (takes_names sh) (partial.Name place.Memory n) q h).1 (inr (n, refl, refl, refl))
-name_step sh partial.Nothing (symbol.Text t) q h = subst (Keeps partial.Nothing) (allowed_ok (takes_text sh) (partial.Whole (form.Text t)) q h).1 (inl (refl, refl))
+pub name_step : (sh : Shape) (p : Partial) (s : Symbol) (q : Partial) → next_symbol sh p s ≡ ok q → Keeps p s q
+name_step sh partial.Nothing symbol.Percent q h = subst (Keeps partial.Nothing symbol.Percent) (allowed_ok (is_operand sh) partial.Percent q h).1 (inl (refl, refl))
+name_step sh partial.Nothing symbol.Dollar q h = subst (Keeps partial.Nothing symbol.Dollar) (allowed_ok (is_operand sh) partial.Dollar q h).1 (inl (refl, refl))
+name_step sh partial.Nothing symbol.Open q h = subst (Keeps partial.Nothing symbol.Open) (allowed_ok (is_operand sh) (partial.Open None) q h).1 (inl (refl, refl))
+name_step sh partial.Nothing symbol.Minus q h = subst (Keeps partial.Nothing symbol.Minus) (allowed_ok (takes_minus sh) (partial.Minus place.Memory) q h).1 (inl (refl, refl))
+name_step sh partial.Nothing (symbol.Number n) q h = subst (Keeps partial.Nothing (symbol.Number n)) (counted_ok (takes_numbers sh) (fits sh false n) (partial.Number place.Memory (plain (pos n))) q h).2 (inl (refl, refl))
+name_step sh partial.Nothing (symbol.Name n) q h = subst (Keeps partial.Nothing (symbol.Name n)) (allowed_ok (takes_names sh) (partial.Name place.Memory n) q h).1 (inr (n, refl, refl, refl, refl))
+name_step sh partial.Nothing (symbol.Text t) q h = subst (Keeps partial.Nothing (symbol.Text t)) (allowed_ok (takes_text sh) (partial.Whole (form.Text t)) q h).1 (inl (refl, refl))
 name_step sh partial.Nothing _ q h = absurd cc
-name_step sh partial.Absent symbol.Percent q h = subst (Keeps partial.Absent) (allowed_ok (is_operand sh) partial.Percent q h).1 (inl (refl, refl))
-name_step sh partial.Absent symbol.Dollar q h = subst (Keeps partial.Absent) (allowed_ok (is_operand sh) partial.Dollar q h).1 (inl (refl, refl))
-name_step sh partial.Absent symbol.Open q h = subst (Keeps partial.Absent) (allowed_ok (is_operand sh) (partial.Open None) q h).1 (inl (refl, refl))
-name_step sh partial.Absent symbol.Minus q h = subst (Keeps partial.Absent) (allowed_ok (takes_minus sh) (partial.Minus place.Memory) q h).1 (inl (refl, refl))
-name_step sh partial.Absent (symbol.Number n) q h = subst (Keeps partial.Absent) (counted_ok (takes_numbers sh) (fits sh false n) (partial.Number place.Memory (plain (pos n))) q h).2 (inl (refl, refl))
-name_step sh partial.Absent (symbol.Name n) q h = subst (Keeps partial.Absent) (allowed_ok (takes_names sh) (partial.Name place.Memory n) q h).1 (inr (n, refl, refl, refl))
-name_step sh partial.Absent (symbol.Text t) q h = subst (Keeps partial.Absent) (allowed_ok (takes_text sh) (partial.Whole (form.Text t)) q h).1 (inl (refl, refl))
+name_step sh partial.Absent symbol.Percent q h = subst (Keeps partial.Absent symbol.Percent) (allowed_ok (is_operand sh) partial.Percent q h).1 (inl (refl, refl))
+name_step sh partial.Absent symbol.Dollar q h = subst (Keeps partial.Absent symbol.Dollar) (allowed_ok (is_operand sh) partial.Dollar q h).1 (inl (refl, refl))
+name_step sh partial.Absent symbol.Open q h = subst (Keeps partial.Absent symbol.Open) (allowed_ok (is_operand sh) (partial.Open None) q h).1 (inl (refl, refl))
+name_step sh partial.Absent symbol.Minus q h = subst (Keeps partial.Absent symbol.Minus) (allowed_ok (takes_minus sh) (partial.Minus place.Memory) q h).1 (inl (refl, refl))
+name_step sh partial.Absent (symbol.Number n) q h = subst (Keeps partial.Absent (symbol.Number n)) (counted_ok (takes_numbers sh) (fits sh false n) (partial.Number place.Memory (plain (pos n))) q h).2 (inl (refl, refl))
+name_step sh partial.Absent (symbol.Name n) q h = subst (Keeps partial.Absent (symbol.Name n)) (allowed_ok (takes_names sh) (partial.Name place.Memory n) q h).1 (inr (n, refl, refl, refl, refl))
+name_step sh partial.Absent (symbol.Text t) q h = subst (Keeps partial.Absent (symbol.Text t)) (allowed_ok (takes_text sh) (partial.Whole (form.Text t)) q h).1 (inl (refl, refl))
 name_step sh partial.Absent _ q h = absurd cc
-name_step sh partial.Percent (symbol.Name r) q h = subst (Keeps partial.Percent) (registered_ok (is_register r) (partial.Whole (form.Register r)) q h).1 (inl (refl, refl))
+name_step sh partial.Percent (symbol.Name r) q h = subst (Keeps partial.Percent (symbol.Name r)) (registered_ok (is_register r) (partial.Whole (form.Register r)) q h).1 (inl (refl, refl))
 name_step sh partial.Percent _ q h = absurd cc
-name_step sh partial.Dollar symbol.Minus q h = subst (Keeps partial.Dollar) (ok_is (partial.Minus place.Immediate) q h) (inl (refl, refl))
-name_step sh partial.Dollar (symbol.Number n) q h = subst (Keeps partial.Dollar) (ok_is (partial.Number place.Immediate (plain (pos n))) q h) (inl (refl, refl))
-name_step sh partial.Dollar (symbol.Name n) q h = subst (Keeps partial.Dollar) (ok_is (partial.Name place.Immediate n) q h) (inr (n, refl, refl, refl))
+name_step sh partial.Dollar symbol.Minus q h = subst (Keeps partial.Dollar symbol.Minus) (ok_is (partial.Minus place.Immediate) q h) (inl (refl, refl))
+name_step sh partial.Dollar (symbol.Number n) q h = subst (Keeps partial.Dollar (symbol.Number n)) (ok_is (partial.Number place.Immediate (plain (pos n))) q h) (inl (refl, refl))
+name_step sh partial.Dollar (symbol.Name n) q h = subst (Keeps partial.Dollar (symbol.Name n)) (ok_is (partial.Name place.Immediate n) q h) (inr (n, refl, refl, refl, refl))
 name_step sh partial.Dollar _ q h = absurd cc
-name_step sh (partial.Minus a) (symbol.Number n) q h = subst (Keeps (partial.Minus a)) (lowered_ok n (fits sh true n) (partial.Number a (plain (signed true n))) q h).2 (inl (refl, refl))
+name_step sh (partial.Minus a) (symbol.Number n) q h = subst (Keeps (partial.Minus a) (symbol.Number n)) (lowered_ok n (fits sh true n) (partial.Number a (plain (signed true n))) q h).2 (inl (refl, refl))
 name_step sh (partial.Minus a) _ q h = absurd cc
-name_step sh (partial.Name a n) symbol.Plus q h = subst (Keeps (partial.Name a n)) (allowed_ok (takes_sums sh) (partial.Sign a n false) q h).1 (inl (refl, refl))
-name_step sh (partial.Name a n) symbol.Minus q h = subst (Keeps (partial.Name a n)) (allowed_ok (takes_sums sh) (partial.Sign a n true) q h).1 (inl (refl, refl))
-name_step sh (partial.Name place.Memory n) symbol.Open q h = subst (Keeps (partial.Name place.Memory n)) (allowed_ok (is_operand sh) (partial.Open (Some (named n (pos 0)))) q h).1 (inl (refl, refl))
+name_step sh (partial.Name a n) symbol.Plus q h = subst (Keeps (partial.Name a n) symbol.Plus) (allowed_ok (takes_sums sh) (partial.Sign a n false) q h).1 (inl (refl, refl))
+name_step sh (partial.Name a n) symbol.Minus q h = subst (Keeps (partial.Name a n) symbol.Minus) (allowed_ok (takes_sums sh) (partial.Sign a n true) q h).1 (inl (refl, refl))
+name_step sh (partial.Name place.Memory n) symbol.Open q h = subst (Keeps (partial.Name place.Memory n) symbol.Open) (allowed_ok (is_operand sh) (partial.Open (Some (named n (pos 0)))) q h).1 (inl (refl, refl))
 name_step sh (partial.Name place.Immediate n) symbol.Open q h = absurd cc
 name_step sh (partial.Name a n) _ q h = absurd cc
-name_step sh (partial.Sign a n neg) symbol.Minus q h = subst (Keeps (partial.Sign a n neg)) (ok_is (partial.SignMinus a n neg) q h) (inl (refl, refl))
-name_step sh (partial.Sign a n neg) (symbol.Number k) q h = subst (Keeps (partial.Sign a n neg)) (ok_is (partial.Number a (named n (signed neg k))) q h) (inl (refl, refl))
+name_step sh (partial.Sign a n neg) symbol.Minus q h = subst (Keeps (partial.Sign a n neg) symbol.Minus) (ok_is (partial.SignMinus a n neg) q h) (inl (refl, refl))
+name_step sh (partial.Sign a n neg) (symbol.Number k) q h = subst (Keeps (partial.Sign a n neg) (symbol.Number k)) (ok_is (partial.Number a (named n (signed neg k))) q h) (inl (refl, refl))
 name_step sh (partial.Sign a n neg) _ q h = absurd cc
-name_step sh (partial.SignMinus a n neg) (symbol.Number k) q h = subst (Keeps (partial.SignMinus a n neg)) (lowered_ok k true (partial.Number a (named n (turned neg k))) q h).2 (inl (refl, refl))
+name_step sh (partial.SignMinus a n neg) (symbol.Number k) q h = subst (Keeps (partial.SignMinus a n neg) (symbol.Number k)) (lowered_ok k true (partial.Number a (named n (turned neg k))) q h).2 (inl (refl, refl))
 name_step sh (partial.SignMinus a n neg) _ q h = absurd cc
-name_step sh (partial.Number place.Memory v) symbol.Open q h = subst (Keeps (partial.Number place.Memory v)) (allowed_ok (is_operand sh) (partial.Open (Some v)) q h).1 (inl (refl, refl))
+name_step sh (partial.Number place.Memory v) symbol.Open q h = subst (Keeps (partial.Number place.Memory v) symbol.Open) (allowed_ok (is_operand sh) (partial.Open (Some v)) q h).1 (inl (refl, refl))
 name_step sh (partial.Number place.Immediate v) symbol.Open q h = absurd cc
 name_step sh (partial.Number a v) _ q h = absurd cc
-name_step sh (partial.Open v) symbol.Percent q h = subst (Keeps (partial.Open v)) (ok_is (partial.BasePercent v) q h) (inl (refl, refl))
-name_step sh (partial.Open v) symbol.Comma q h = subst (Keeps (partial.Open v)) (ok_is (partial.IndexComma v None) q h) (inl (refl, refl))
+name_step sh (partial.Open v) symbol.Percent q h = subst (Keeps (partial.Open v) symbol.Percent) (ok_is (partial.BasePercent v) q h) (inl (refl, refl))
+name_step sh (partial.Open v) symbol.Comma q h = subst (Keeps (partial.Open v) symbol.Comma) (ok_is (partial.IndexComma v None) q h) (inl (refl, refl))
 name_step sh (partial.Open v) _ q h = absurd cc
-name_step sh (partial.BasePercent v) (symbol.Name r) q h = subst (Keeps (partial.BasePercent v)) (registered_ok (is_register r) (partial.Base v r) q h).1 (inl (refl, refl))
+name_step sh (partial.BasePercent v) (symbol.Name r) q h = subst (Keeps (partial.BasePercent v) (symbol.Name r)) (registered_ok (is_register r) (partial.Base v r) q h).1 (inl (refl, refl))
 name_step sh (partial.BasePercent v) _ q h = absurd cc
-name_step sh (partial.Base v b) symbol.Close q h = subst (Keeps (partial.Base v b)) (ok_is (partial.Whole (of_memory v (Some b) None 1)) q h) (inl (refl, refl))
-name_step sh (partial.Base v b) symbol.Comma q h = subst (Keeps (partial.Base v b)) (ok_is (partial.IndexComma v (Some b)) q h) (inl (refl, refl))
+name_step sh (partial.Base v b) symbol.Close q h = subst (Keeps (partial.Base v b) symbol.Close) (ok_is (partial.Whole (of_memory v (Some b) None 1)) q h) (inl (refl, refl))
+name_step sh (partial.Base v b) symbol.Comma q h = subst (Keeps (partial.Base v b) symbol.Comma) (ok_is (partial.IndexComma v (Some b)) q h) (inl (refl, refl))
 name_step sh (partial.Base v b) _ q h = absurd cc
-name_step sh (partial.IndexComma v b) symbol.Percent q h = subst (Keeps (partial.IndexComma v b)) (ok_is (partial.IndexPercent v b) q h) (inl (refl, refl))
+name_step sh (partial.IndexComma v b) symbol.Percent q h = subst (Keeps (partial.IndexComma v b) symbol.Percent) (ok_is (partial.IndexPercent v b) q h) (inl (refl, refl))
 name_step sh (partial.IndexComma v b) _ q h = absurd cc
-name_step sh (partial.IndexPercent v b) (symbol.Name r) q h = subst (Keeps (partial.IndexPercent v b)) (registered_ok (is_register r) (partial.Index v b r) q h).1 (inl (refl, refl))
+name_step sh (partial.IndexPercent v b) (symbol.Name r) q h = subst (Keeps (partial.IndexPercent v b) (symbol.Name r)) (registered_ok (is_register r) (partial.Index v b r) q h).1 (inl (refl, refl))
 name_step sh (partial.IndexPercent v b) _ q h = absurd cc
-name_step sh (partial.Index v b i) symbol.Close q h = subst (Keeps (partial.Index v b i)) (ok_is (partial.Whole (of_memory v b (Some i) 1)) q h) (inl (refl, refl))
-name_step sh (partial.Index v b i) symbol.Comma q h = subst (Keeps (partial.Index v b i)) (ok_is (partial.Scale v b i) q h) (inl (refl, refl))
+name_step sh (partial.Index v b i) symbol.Close q h = subst (Keeps (partial.Index v b i) symbol.Close) (ok_is (partial.Whole (of_memory v b (Some i) 1)) q h) (inl (refl, refl))
+name_step sh (partial.Index v b i) symbol.Comma q h = subst (Keeps (partial.Index v b i) symbol.Comma) (ok_is (partial.Scale v b i) q h) (inl (refl, refl))
 name_step sh (partial.Index v b i) _ q h = absurd cc
-name_step sh (partial.Scale v b i) (symbol.Number n) q h = subst (Keeps (partial.Scale v b i)) (scale_ok n (partial.Scaled v b i n) q h).1 (inl (refl, refl))
+name_step sh (partial.Scale v b i) (symbol.Number n) q h = subst (Keeps (partial.Scale v b i) (symbol.Number n)) (scale_ok n (partial.Scaled v b i n) q h).1 (inl (refl, refl))
 name_step sh (partial.Scale v b i) _ q h = absurd cc
-name_step sh (partial.Scaled v b i n) symbol.Close q h = subst (Keeps (partial.Scaled v b i n)) (ok_is (partial.Whole (of_memory v b (Some i) n)) q h) (inl (refl, refl))
+name_step sh (partial.Scaled v b i n) symbol.Close q h = subst (Keeps (partial.Scaled v b i n) symbol.Close) (ok_is (partial.Whole (of_memory v b (Some i) n)) q h) (inl (refl, refl))
 name_step sh (partial.Scaled v b i n) _ q h = absurd cc
 name_step sh (partial.Whole f) _ q h = absurd cc
 
@@ -128,7 +128,7 @@ name_stays sh (s ∷ ss) p q n h e = by_step (next_symbol sh p s) refl h (λ x f
         → ((x : Partial) → operand_run sh x ss ≡ ok q → named_in x ≡ Some n → named_in q ≡ Some n) → named_in q ≡ Some n
     by_step (Ok x) f h ih = elim (name_step sh p s x f) [
       | inl k ↦ ih x h (k.1 ∙ e)
-      | inr (m, a, b, c) ↦ absurd (none_some (named_in p) c e)
+      | inr (m, a, b, c, d) ↦ absurd (none_some (named_in p) c e)
     ]
     by_step (Err c) f h ih = absurd cc
 
@@ -192,3 +192,83 @@ no_comma sh _ q h = refl
 pub operand_next : (sh : Shape) (p : Partial) (s : Symbol) (q : Partial) → operand_step sh p s ≡ ok q → next_symbol sh p s ≡ ok q
 operand_next sh p symbol.Big q h = absurd cc
 operand_next sh p _ q h = h
+
+-- what has been read of an argument is something
+abbrev pub IsSome : Result Partial SourceCause → Type 0
+IsSome (Ok q) = is_nothing q ≡ false
+IsSome (Err c) = Unit {0}
+
+allowed_some : (t : Bool) (q : Partial) → is_nothing q ≡ false → IsSome (allowed t q)
+allowed_some true q h = h
+allowed_some false q h = tt
+
+counted_some : (t u : Bool) (q : Partial) → is_nothing q ≡ false → IsSome (counted t u q)
+counted_some true true q h = h
+counted_some true false q h = tt
+counted_some false u q h = tt
+
+registered_some : (t : Bool) (q : Partial) → is_nothing q ≡ false → IsSome (registered t q)
+registered_some true q h = h
+registered_some false q h = tt
+
+some_either : (t : Bool) (a b : Result Partial SourceCause) → IsSome a → IsSome b → IsSome (cond t a b)
+some_either true a b p q = p
+some_either false a b p q = q
+
+first_some : (sh : Shape) (s : Symbol) → IsSome (first sh s)
+first_some sh symbol.Percent = allowed_some (is_operand sh) partial.Percent refl
+first_some sh symbol.Dollar = allowed_some (is_operand sh) partial.Dollar refl
+first_some sh symbol.Open = allowed_some (is_operand sh) (partial.Open None) refl
+first_some sh symbol.Minus = allowed_some (takes_minus sh) (partial.Minus place.Memory) refl
+first_some sh (symbol.Number n) = counted_some (takes_numbers sh) (fits sh false n) (partial.Number place.Memory (plain (pos n))) refl
+first_some sh (symbol.Name n) = allowed_some (takes_names sh) (partial.Name place.Memory n) refl
+first_some sh (symbol.Text t) = allowed_some (takes_text sh) (partial.Whole (form.Text t)) refl
+first_some sh _ = tt
+
+lowered_some : (n : ℕ) (t : Bool) (q : Partial) → is_nothing q ≡ false → IsSome (lowered n t q)
+lowered_some n t q h = some_either (is_low n) (counted true t q) (Err cause.BadNumber) (counted_some true t q h) tt
+
+pub symbol_some : (sh : Shape) (p : Partial) (s : Symbol) → IsSome (next_symbol sh p s)
+symbol_some sh partial.Nothing s = first_some sh s
+symbol_some sh partial.Absent s = first_some sh s
+symbol_some sh partial.Percent (symbol.Name r) = registered_some (is_register r) (partial.Whole (form.Register r)) refl
+symbol_some sh partial.Percent _ = tt
+symbol_some sh partial.Dollar symbol.Minus = refl
+symbol_some sh partial.Dollar (symbol.Number n) = refl
+symbol_some sh partial.Dollar (symbol.Name n) = refl
+symbol_some sh partial.Dollar _ = tt
+symbol_some sh (partial.Minus a) (symbol.Number n) = lowered_some n (fits sh true n) (partial.Number a (plain (signed true n))) refl
+symbol_some sh (partial.Minus a) _ = tt
+symbol_some sh (partial.Name a n) symbol.Plus = allowed_some (takes_sums sh) (partial.Sign a n false) refl
+symbol_some sh (partial.Name a n) symbol.Minus = allowed_some (takes_sums sh) (partial.Sign a n true) refl
+symbol_some sh (partial.Name place.Memory n) symbol.Open = allowed_some (is_operand sh) (partial.Open (Some (named n (pos 0)))) refl
+symbol_some sh (partial.Name place.Immediate n) symbol.Open = tt
+symbol_some sh (partial.Name a n) _ = tt
+symbol_some sh (partial.Sign a n neg) symbol.Minus = refl
+symbol_some sh (partial.Sign a n neg) (symbol.Number k) = refl
+symbol_some sh (partial.Sign a n neg) _ = tt
+symbol_some sh (partial.SignMinus a n neg) (symbol.Number k) = lowered_some k true (partial.Number a (named n (turned neg k))) refl
+symbol_some sh (partial.SignMinus a n neg) _ = tt
+symbol_some sh (partial.Number place.Memory v) symbol.Open = allowed_some (is_operand sh) (partial.Open (Some v)) refl
+symbol_some sh (partial.Number place.Immediate v) symbol.Open = tt
+symbol_some sh (partial.Number a v) _ = tt
+symbol_some sh (partial.Open v) symbol.Percent = refl
+symbol_some sh (partial.Open v) symbol.Comma = refl
+symbol_some sh (partial.Open v) _ = tt
+symbol_some sh (partial.BasePercent v) (symbol.Name r) = registered_some (is_register r) (partial.Base v r) refl
+symbol_some sh (partial.BasePercent v) _ = tt
+symbol_some sh (partial.Base v b) symbol.Close = refl
+symbol_some sh (partial.Base v b) symbol.Comma = refl
+symbol_some sh (partial.Base v b) _ = tt
+symbol_some sh (partial.IndexComma v b) symbol.Percent = refl
+symbol_some sh (partial.IndexComma v b) _ = tt
+symbol_some sh (partial.IndexPercent v b) (symbol.Name r) = registered_some (is_register r) (partial.Index v b r) refl
+symbol_some sh (partial.IndexPercent v b) _ = tt
+symbol_some sh (partial.Index v b i) symbol.Close = refl
+symbol_some sh (partial.Index v b i) symbol.Comma = refl
+symbol_some sh (partial.Index v b i) _ = tt
+symbol_some sh (partial.Scale v b i) (symbol.Number n) = some_either (is_scale n) (Ok (partial.Scaled v b i n)) (Err cause.BadScale) refl tt
+symbol_some sh (partial.Scale v b i) _ = tt
+symbol_some sh (partial.Scaled v b i n) symbol.Close = refl
+symbol_some sh (partial.Scaled v b i n) _ = tt
+symbol_some sh (partial.Whole f) _ = tt

@@ -1,6 +1,6 @@
 -- What is read symbol by symbol is what the cases of the grammar say.
 use Rattle.std.proofs.Common.{◌≡◌, ℕ, Bool, true, false, cond, List, [], ◌∷◌, ◌++◌, length, Option, Some, None, Result, Ok, Err, refl, sym, ap, subst, ◌∙◌, ◌⊎◌, inl, inr, append_assoc, arith}
-use Rattle.std.specs.Prelude.{◌==◌, ◌&&◌, not, nat_lt, is_none}
+use Rattle.std.specs.Prelude.{◌==◌, ◌&&◌, ◌+◌, not, nat_lt, is_none}
 use Rattle.std.specs.List.{list_all}
 use Rattle.std.proofs.lemmas.List.{append-nil, nil_from_length}
 use Rattle.std.proofs.lemmas.Bool.{eqb-true}
@@ -25,13 +25,14 @@ use Rattle.asm_parse.specs.ScopeView.{ScopeView}
 use Rattle.asm_parse.specs.Scope.{pushed, fresh}
 use Rattle.asm_parse.specs.Operand.{is_operand, begun, operand_step, finished, is_finished, is_nothing}
 use Rattle.asm_parse.specs.Grammar.{IsForm}
-use Rattle.asm_parse.specs.Reading.{placed, symbol_of}
+use Rattle.asm_parse.specs.Reading.{placed, symbol_of, is_part, ending_at, next_word}
 use Rattle.asm_parse.proofs.Words.{read_words}
-use Rattle.asm_parse.specs.Statement.{shape_at, least, defines, is_instruction, item_of, resumed, sectioned, noting, with_name, after_noting, after_step, at_shape, within, argument_step, is_bare, takes_star, ended, ended_as, comma_behind, end_behind, complete, nothing_yet, named_step, labelled, label, directive_step, of_directive, directive_of, rep_step, section_name, unless_skipping, skip, section, sectioned_step, joining_step, flags_step, start_step, step, argument_of, is_place, strayed, next_step, fault_line, with_scope, is_passed, is_dotted, is_rep, is_section}
-use Rattle.asm_parse.specs.Statements.{IsSeen, Sees, IsArgument, IsNext, Separated, HasArguments, is_inner, is_unlabelled, are_flags, IsSectionName, has_list, Statement, Statements, symbols}
+use Rattle.asm_parse.specs.Statement.{shape_at, least, defines, is_instruction, item_of, resumed, sectioned, noting, with_name, after_noting, after_step, at_shape, within, argument_step, is_bare, takes_star, ended, ended_as, comma_behind, end_behind, complete, nothing_yet, named_step, labelled, label, directive_step, of_directive, directive_of, rep_step, section_name, unless_skipping, skip, section, sectioned_step, flags_step, start_step, step, argument_of, is_place, strayed, next_step, fault_line, with_scope, is_passed, is_dotted, is_rep, is_section}
+use Rattle.asm_parse.specs.Statements.{IsSeen, Sees, IsArgument, IsNext, Separated, HasArguments, is_inner, is_unlabelled, are_flags, has_list, Statement, symbols, text_of, Touch, IsStatement, Statements}
 use Rattle.asm_parse.proofs.Operands.{Spelled, begun_spelled, more, spelled_form}
 use Rattle.asm_parse.proofs.Names.{noting_seen, named_in, name_step, finished_named, is_finished_some, operand_next}
-use Rattle.asm_parse.proofs.Stated.{Answer, open_at, begun_unnamed, instruction_operand}
+use Rattle.asm_parse.proofs.Stated.{Answer, open_at, begun_unnamed, instruction_operand, is_naming, not_longer}
+use Rattle.asm_parse.proofs.Quiet.{WordGoes, word_goes}
 use Rattle.asm_parse.proofs.Lines.{bind_ok}
 
 -- ---- what has been read of a statement
@@ -58,47 +59,20 @@ pub record InArguments (sc0 : ScopeView) (line : ℕ) (o : Open) (ss : List Symb
   sees : Sees behind (defines o.head (length o.done)) (named_in o.so_far) sc
   whole : ss ≡ lead ++ (front ++ (stars o.star ++ arg))
 
--- These symbols are the directive of a section up to its name.
-pub record Naming (d : Bool) (sc0 : ScopeView) (n m : List ℕ) (ss : List Symbol) : Type 0 where
-  parts : List Symbol
+-- the change of a section to one of this name
+record IsNaming (sc0 : ScopeView) (n m : List ℕ) : Type 0 where
   passed : is_passed sc0 n ≡ false
   dotted : is_dotted n ≡ true
   section : directive_of n ≡ Some kind.Section
-  names : IsSectionName d parts m
-  whole : ss ≡ symbol.Name n ∷ parts
-
-naming_ends : (d : Bool) (sc0 : ScopeView) (line : ℕ) (n m : List ℕ) (ss rest : List Symbol) → Naming d sc0 n m ss → are_flags rest ≡ true → Statement sc0 line (ss ++ (rest ++ symbol.End ∷ [])) (sectioned sc0 line n m)
-naming_ends d sc0 line n m ss rest w flags =
-    subst (λ (x : List Symbol). Statement sc0 line (x ++ (rest ++ symbol.End ∷ [])) (sectioned sc0 line n m)) (sym w.whole) (Statement.section w.parts rest w.passed w.dotted w.section w.names flags)
-
-naming_dash : (d : Bool) (sc0 : ScopeView) (n m : List ℕ) (ss : List Symbol) → Naming d sc0 n m ss → Naming true sc0 n (m ++ 45 ∷ []) (ss ++ symbol.Minus ∷ [])
-naming_dash d sc0 n m ss w = record {
-  parts = w.parts ++ symbol.Minus ∷ [];
-  passed = w.passed;
-  dotted = w.dotted;
-  section = w.section;
-  names = IsSectionName.dash w.names;
-  whole = ap (λ (x : List Symbol). x ++ symbol.Minus ∷ []) w.whole;
-}
-
-naming_joined : (sc0 : ScopeView) (n m k : List ℕ) (ss : List Symbol) → Naming true sc0 n m ss → Naming false sc0 n (m ++ k) (ss ++ symbol.Name k ∷ [])
-naming_joined sc0 n m k ss w = record {
-  parts = w.parts ++ symbol.Name k ∷ [];
-  passed = w.passed;
-  dotted = w.dotted;
-  section = w.section;
-  names = IsSectionName.joined k w.names;
-  whole = ap (λ (x : List Symbol). x ++ symbol.Name k ∷ []) w.whole;
-}
+  is : is_section m ≡ true
 
 -- These symbols lead to this state; to the start where they are a statement.
 abbrev Begun : ScopeView → ℕ → State → List Symbol → ScopeView → Type 0
 Begun sc0 line state.Start ss sc = Statement sc0 line ss sc
 Begun sc0 line (state.Named b n) ss sc = (b ≡ line) × (ss ≡ symbol.Name n ∷ []) × (sc0 ≡ sc)
 Begun sc0 line state.Skip ss sc = (sc0 ≡ sc) × ((rest : List Symbol) → list_all is_inner rest ≡ true → Statement sc0 line (ss ++ (rest ++ symbol.End ∷ [])) sc0)
-Begun sc0 line (state.Sectioned b n m) ss sc = (b ≡ line) × (sc0 ≡ sc) × Naming false sc0 n m ss
-Begun sc0 line (state.Joining b n m) ss sc = (b ≡ line) × (sc0 ≡ sc) × Naming true sc0 n m ss
-Begun sc0 line (state.Flags b n m) ss sc = (b ≡ line) × (sc0 ≡ sc) × ((rest : List Symbol) → list_all is_inner rest ≡ true → Statement sc0 line (ss ++ (rest ++ symbol.End ∷ [])) (sectioned sc0 line n m))
+Begun sc0 line (state.Sectioned b n m e) ss sc = (b ≡ line) × (sc0 ≡ sc) × (ss ≡ symbol.Name n ∷ symbol.Name m ∷ []) × IsNaming sc0 n m
+Begun sc0 line (state.Flags b n m) ss sc = ⊥
 Begun sc0 line (state.Arguments o) ss sc = InArguments sc0 line o ss sc
 Begun sc0 line (state.Stray l c) ss sc = Unit {0}
 
@@ -194,7 +168,7 @@ module _ (sc0 : ScopeView) (line : ℕ) (o : Open) (ss : List Symbol) (sc : Scop
         | inl t ↦
             let sees : Sees w.behind (defines o.head (length o.done)) (named_in q) sc = subst (λ (x : Option (List ℕ)). Sees w.behind (defines o.head (length o.done)) x sc) (sym t.1) w.sees in
             led sc0 line (ss ++ s ∷ []) (sc, state.Arguments (record o { so_far = q })) y (sym (ap (with_name sc (record o { so_far = q })) t.0) ∙ h) (advance s sh q sc may sp sees)
-        | inr (n, a, b, c) ↦ by_noting s sh q n may sp b c (noting sc (defines o.head (length o.done)) n) refl (sym (ap (with_name sc (record o { so_far = q })) a) ∙ h)
+        | inr (n, a, b, c, d) ↦ by_noting s sh q n may sp b c (noting sc (defines o.head (length o.done)) n) refl (sym (ap (with_name sc (record o { so_far = q })) a) ∙ h)
       ]
 
   by_shape : (s : Symbol) (r : Option Shape) → shape_at o.head (length o.done) ≡ r → at_shape sc o s r ≡ Ok y → Begun sc0 line y.1 (ss ++ s ∷ []) y.0
@@ -331,9 +305,9 @@ section_begun : (sc : ScopeView) (line : ℕ) (n : List ℕ) (s : Symbol) (y : S
     → Begun sc line y.1 (symbol.Name n ∷ s ∷ []) y.0
 section_begun sc line n (symbol.Name m) y passed dotted dir h = by_test (is_section m) refl h
   where
-    by_test : (t : Bool) → is_section m ≡ t → ◌≡◌ {A = Answer} (with_scope sc (cond t (Ok (state.Sectioned line n m)) (Err cause.BadArgument))) (Ok y) → Begun sc line y.1 (symbol.Name n ∷ symbol.Name m ∷ []) y.0
+    by_test : (t : Bool) → is_section m ≡ t → ◌≡◌ {A = Answer} (with_scope sc (cond t (Ok (state.Sectioned line n m 0)) (Err cause.BadArgument))) (Ok y) → Begun sc line y.1 (symbol.Name n ∷ symbol.Name m ∷ []) y.0
     by_test false e h = absurd cc
-    by_test true e h = led sc line _ (sc, state.Sectioned line n m) y h (refl, refl, record { parts = symbol.Name m ∷ []; passed = passed; dotted = dotted; section = dir; names = IsSectionName.name e; whole = refl })
+    by_test true e h = led sc line _ (sc, state.Sectioned line n m 0) y h (refl, refl, refl, record { passed = passed; dotted = dotted; section = dir; is = e })
 section_begun sc line n _ y passed dotted dir h = absurd cc
 
 list_begun : (sc : ScopeView) (line : ℕ) (n : List ℕ) (k : Directive) (s : Symbol) (y : ScopeView × State) → is_passed sc n ≡ false → is_dotted n ≡ true → directive_of n ≡ Some k → has_list k ≡ true → argument_step sc (nothing_yet line (head.Directive k n)) s ≡ Ok y
@@ -399,69 +373,230 @@ skip_more : (sc0 sc : ScopeView) (line : ℕ) (ss : List Symbol) (s : Symbol) (y
 skip_more sc0 sc line ss symbol.End y b h = led sc0 line _ (sc, state.Start) y h (subst (Statement sc0 line (ss ++ symbol.End ∷ [])) b.0 (b.1 [] refl))
 skip_more sc0 sc line ss s y b h = led sc0 line _ (sc, state.Skip) y h (b.0, λ rest inner. move sc0 line ss (rest ++ symbol.End ∷ []) s sc0 (b.1 (s ∷ rest) inner))
 
-ended_section : (sc0 sc : ScopeView) (line b : ℕ) (n m : List ℕ) (ss : List Symbol) (y : ScopeView × State) → b ≡ line → sc0 ≡ sc → Statement sc0 line (ss ++ symbol.End ∷ []) (sectioned sc0 line n m) → ◌≡◌ {A = Answer} (section sc b n m) (Ok y) → Begun sc0 line y.1 (ss ++ symbol.End ∷ []) y.0
-ended_section sc0 sc line b n m ss y e same st h =
-    led sc0 line _ (sectioned sc b n m, state.Start) y h (subst (Statement sc0 line (ss ++ symbol.End ∷ [])) (ap (λ (x : ScopeView). sectioned x line n m) same ∙ ap (λ (x : ℕ). sectioned sc x n m) (sym e)) st)
-
--- a symbol behind a section's name, or behind a `-` in it
-naming_more : (d : Bool) (sc0 sc : ScopeView) (line b : ℕ) (n m : List ℕ) (ss : List Symbol) (s : Symbol) (y : ScopeView × State) → b ≡ line → sc0 ≡ sc → Naming d sc0 n m ss → sectioned_step sc b n m s ≡ Ok y → Begun sc0 line y.1 (ss ++ s ∷ []) y.0
-naming_more d sc0 sc line b n m ss symbol.End y e same w h = ended_section sc0 sc line b n m ss y e same (naming_ends d sc0 line n m ss [] w refl) h
-naming_more d sc0 sc line b n m ss symbol.Comma y e same w h =
-    led sc0 line _ (sc, state.Flags b n m) y h (e, same, λ rest inner. move sc0 line ss (rest ++ symbol.End ∷ []) symbol.Comma (sectioned sc0 line n m) (naming_ends d sc0 line n m ss (symbol.Comma ∷ rest) w inner))
-naming_more d sc0 sc line b n m ss symbol.Minus y e same w h = led sc0 line _ (sc, state.Joining b n (m ++ 45 ∷ [])) y h (e, same, naming_dash d sc0 n m ss w)
-naming_more d sc0 sc line b n m ss _ y e same w h = absurd cc
-
-sectioned_more : (sc0 sc : ScopeView) (line b : ℕ) (n m : List ℕ) (ss : List Symbol) (s : Symbol) (y : ScopeView × State) → Begun sc0 line (state.Sectioned b n m) ss sc → sectioned_step sc b n m s ≡ Ok y → Begun sc0 line y.1 (ss ++ s ∷ []) y.0
-sectioned_more sc0 sc line b n m ss s y (g0, g1, w) h = naming_more false sc0 sc line b n m ss s y g0 g1 w h
-
-joining_more : (sc0 sc : ScopeView) (line b : ℕ) (n m : List ℕ) (ss : List Symbol) (s : Symbol) (y : ScopeView × State) → Begun sc0 line (state.Joining b n m) ss sc → joining_step sc b n m s ≡ Ok y → Begun sc0 line y.1 (ss ++ s ∷ []) y.0
-joining_more sc0 sc line b n m ss (symbol.Name k) y (g0, g1, w) h = led sc0 line _ (sc, state.Sectioned b n (m ++ k)) y h (g0, g1, naming_joined sc0 n m k ss w)
-joining_more sc0 sc line b n m ss s y (g0, g1, w) h = naming_more true sc0 sc line b n m ss s y g0 g1 w h
-
-flags_more : (sc0 sc : ScopeView) (line b : ℕ) (n m : List ℕ) (ss : List Symbol) (s : Symbol) (y : ScopeView × State) → Begun sc0 line (state.Flags b n m) ss sc → flags_step sc b n m s ≡ Ok y → Begun sc0 line y.1 (ss ++ s ∷ []) y.0
-flags_more sc0 sc line b n m ss symbol.End y g h = ended_section sc0 sc line b n m ss y g.0 g.1 (g.2 [] refl) h
-flags_more sc0 sc line b n m ss s y g h =
-    led sc0 line _ (sc, state.Flags b n m) y h (g.0, g.1, λ rest inner. move sc0 line ss (rest ++ symbol.End ∷ []) s (sectioned sc0 line n m) (g.2 (s ∷ rest) inner))
-
 named_more : (sc0 sc : ScopeView) (line b : ℕ) (n : List ℕ) (ss : List Symbol) (s : Symbol) (y : ScopeView × State) → Begun sc0 line (state.Named b n) ss sc → named_step sc b n s ≡ Ok y → Begun sc0 line y.1 (ss ++ s ∷ []) y.0
 named_more sc0 sc line b n ss s y g h =
     let h2 : named_step sc line n s ≡ Ok y = subst (λ (x : ℕ). named_step sc x n s ≡ Ok y) g.0 h in
     let b2 : Begun sc line y.1 (ss ++ s ∷ []) y.0 = subst (λ (x : List Symbol). Begun sc line y.1 x y.0) (ap (λ (x : List Symbol). x ++ s ∷ []) (sym g.1)) (named_begun sc line n s y h2) in
     subst (λ (x : ScopeView). Begun x line y.1 (ss ++ s ∷ []) y.0) (sym g.2) b2
 
-begun_more : (sc0 sc : ScopeView) (line l : ℕ) (st : State) (ss : List Symbol) (s : Symbol) (y : ScopeView × State) → (st ≡ state.Start → ⊥) → Begun sc0 line st ss sc → step sc st l s ≡ Ok y → Begun sc0 line y.1 (ss ++ s ∷ []) y.0
-begun_more sc0 sc line l state.Start ss s y inside g h = absurd (inside refl)
-begun_more sc0 sc line l (state.Named b n) ss s y inside g h = named_more sc0 sc line b n ss s y g h
-begun_more sc0 sc line l state.Skip ss s y inside g h = skip_more sc0 sc line ss s y g h
-begun_more sc0 sc line l (state.Sectioned b n m) ss s y inside g h = sectioned_more sc0 sc line b n m ss s y g h
-begun_more sc0 sc line l (state.Joining b n m) ss s y inside g h = joining_more sc0 sc line b n m ss s y g h
-begun_more sc0 sc line l (state.Flags b n m) ss s y inside g h = flags_more sc0 sc line b n m ss s y g h
-begun_more sc0 sc line l (state.Arguments o) ss s y inside g h = arguments_begun sc0 line o ss sc y g s h
-begun_more sc0 sc line l (state.Stray a c) ss s y inside g h = absurd cc
+begun_more : (sc0 sc : ScopeView) (line l : ℕ) (st : State) (ss : List Symbol) (s : Symbol) (y : ScopeView × State) → (st ≡ state.Start → ⊥) → is_naming st ≡ false → Begun sc0 line st ss sc → step sc st l s ≡ Ok y → Begun sc0 line y.1 (ss ++ s ∷ []) y.0
+begun_more sc0 sc line l state.Start ss s y inside no_name g h = absurd (inside refl)
+begun_more sc0 sc line l (state.Named b n) ss s y inside no_name g h = named_more sc0 sc line b n ss s y g h
+begun_more sc0 sc line l state.Skip ss s y inside no_name g h = skip_more sc0 sc line ss s y g h
+begun_more sc0 sc line l (state.Sectioned b n m e) ss s y inside no_name g h = absurd cc
+begun_more sc0 sc line l (state.Flags b n m) ss s y inside no_name g h = absurd g
+begun_more sc0 sc line l (state.Arguments o) ss s y inside no_name g h = arguments_begun sc0 line o ss sc y g s h
+begun_more sc0 sc line l (state.Stray a c) ss s y inside no_name g h = absurd cc
 
 -- a `%` that may not stand there has begun nothing
 next_begun : (sc0 sc : ScopeView) (line l : ℕ) (st : State) (ss : List Symbol) (s : Symbol) (z : ScopeView × State) → (step sc st l s ≡ Ok z → Begun sc0 line z.1 ss z.0) → next_step sc st l s ≡ Ok z → Begun sc0 line z.1 ss z.0
 next_begun sc0 sc line l st ss symbol.Percent z f h = by_result (step sc st l symbol.Percent) refl h
   where
-    by_cause : (t : Bool) (c : SourceCause) → ◌≡◌ {A = Answer} (cond t (Ok (fresh, state.Stray l c)) (Err c)) (Ok z) → Begun sc0 line z.1 ss z.0
-    by_cause true c h = led sc0 line ss (fresh, state.Stray l c) z h tt
+    by_cause : (t : Bool) (c : SourceCause) → ◌≡◌ {A = Answer} (cond t (Ok (fresh, state.Stray (fault_line sc st l) c)) (Err c)) (Ok z) → Begun sc0 line z.1 ss z.0
+    by_cause true c h = led sc0 line ss (fresh, state.Stray (fault_line sc st l) c) z h tt
     by_cause false c h = absurd cc
 
-    by_result : (r : Answer) → step sc st l symbol.Percent ≡ r → strayed l r ≡ Ok z → Begun sc0 line z.1 ss z.0
+    by_result : (r : Answer) → step sc st l symbol.Percent ≡ r → strayed (fault_line sc st l) r ≡ Ok z → Begun sc0 line z.1 ss z.0
     by_result (Ok x) e h = f (e ∙ h)
     by_result (Err c) e h = by_cause (is_place c) c h
 next_begun sc0 sc line l st ss _ z f h = f h
 
 -- ---- words
 
+-- where words end that go on from this place
+abbrev ends_at : ℕ → List Word → ℕ
+ends_at at [] = at
+ends_at at (w ∷ ws) = ends_at (w.at + length w.bytes) ws
+
+touch_more : (at : ℕ) (ws : List Word) (w : Word) → Touch at ws → ends_at at ws ≡ w.at → is_part w.kind w.bytes ≡ true → Touch at (ws ++ w ∷ [])
+touch_more at [] w h e part = (e, part, tt)
+touch_more at (v ∷ ws) w h e part = (h.0, h.1, touch_more (v.at + length v.bytes) ws w h.2 e part)
+
+ends_more : (at : ℕ) (ws : List Word) (w : Word) → ends_at at (ws ++ w ∷ []) ≡ w.at + length w.bytes
+ends_more at [] w = refl
+ends_more at (v ∷ ws) w = ends_more (v.at + length v.bytes) ws w
+
+text_more : (ws : List Word) (w : Word) → text_of (ws ++ w ∷ []) ≡ text_of ws ++ w.bytes
+text_more [] w = append-nil w.bytes
+text_more (v ∷ ws) w = ap (λ (x : List ℕ). v.bytes ++ x) (text_more ws w) ∙ sym (append_assoc v.bytes (text_of ws) w.bytes)
+
+-- These words are the change of a section up to its name, which ends at this place.
+record InName (sc0 : ScopeView) (ws : List Word) (b : ℕ) (n m : List ℕ) (e : ℕ) : Type 0 where
+  first : Word
+  second : Word
+  parts : List Word
+  front : List ℕ
+  whole : ws ≡ first ∷ second ∷ parts
+  line : b ≡ first.line
+  named : symbol_of first.kind first.bytes ≡ symbol.Name n
+  behind : symbol_of second.kind second.bytes ≡ symbol.Name front
+  naming : IsNaming sc0 n front
+  touch : Touch (second.at + length second.bytes) parts
+  name : m ≡ front ++ text_of parts
+  ends : e ≡ ends_at (second.at + length second.bytes) parts
+
+-- a statement once these words have ended
+abbrev InFlags : ScopeView → List Word → ℕ → List ℕ → List ℕ → Type 0
+InFlags sc0 ws b n m = (rest : List Word) (ss : List Symbol) → symbols rest ≡ ss ++ symbol.End ∷ [] → list_all is_inner ss ≡ true → IsStatement sc0 (ws ++ rest) (sectioned sc0 b n m)
+
+name_ends : (sc0 : ScopeView) (ws rest : List Word) (b : ℕ) (n m : List ℕ) (e : ℕ) (ss : List Symbol) → InName sc0 ws b n m e → symbols rest ≡ ss ++ symbol.End ∷ [] → are_flags ss ≡ true → IsStatement sc0 (ws ++ rest) (sectioned sc0 b n m)
+name_ends sc0 ws rest b n m e ss w end flags =
+    let st = IsStatement.section {sc = sc0} {n = n} {m = w.front} w.first w.second w.parts rest ss w.named w.naming.passed w.naming.dotted w.naming.section w.behind w.naming.is w.touch end flags in
+    let st2 : IsStatement sc0 (w.first ∷ w.second ∷ (w.parts ++ rest)) (sectioned sc0 b n m) = subst (IsStatement sc0 (w.first ∷ w.second ∷ (w.parts ++ rest))) (rw (w.line, w.name) refl) st in
+    subst (λ (x : List Word). IsStatement sc0 (x ++ rest) (sectioned sc0 b n m)) (sym w.whole) st2
+
+name_longer : (sc0 : ScopeView) (ws : List Word) (w : Word) (b : ℕ) (n m : List ℕ) (e : ℕ) → InName sc0 ws b n m e → e ≡ w.at → is_part w.kind w.bytes ≡ true → InName sc0 (ws ++ w ∷ []) b n (m ++ w.bytes) (w.at + length w.bytes)
+name_longer sc0 ws w b n m e g at part = record {
+  first = g.first;
+  second = g.second;
+  parts = g.parts ++ w ∷ [];
+  front = g.front;
+  whole = ap (λ (x : List Word). x ++ w ∷ []) g.whole;
+  line = g.line;
+  named = g.named;
+  behind = g.behind;
+  naming = g.naming;
+  touch = touch_more (g.second.at + length g.second.bytes) g.parts w g.touch (sym g.ends ∙ at) part;
+  name = ap (λ (x : List ℕ). x ++ w.bytes) g.name ∙ (append_assoc g.front (text_of g.parts) w.bytes ∙ ap (λ (x : List ℕ). g.front ++ x) (sym (text_more g.parts w)));
+  ends = sym (ends_more (g.second.at + length g.second.bytes) g.parts w);
+}
+
 -- the words of the statement that has begun
+abbrev HeldBy : ScopeView → State → Word → List Word → ScopeView → Type 0
+HeldBy sc0 state.Start w ps sc = IsStatement sc0 (w ∷ ps) sc
+HeldBy sc0 (state.Sectioned b n m e) w ps sc = (sc0 ≡ sc) × InName sc0 (w ∷ ps) b n m e
+HeldBy sc0 (state.Flags b n m) w ps sc = (sc0 ≡ sc) × InFlags sc0 (w ∷ ps) b n m
+HeldBy sc0 st w ps sc = Begun sc0 w.line st (symbols (w ∷ ps)) sc
+
 abbrev Held : ScopeView → State → List Word → ScopeView → Type 0
 Held sc0 st [] sc = (st ≡ state.Start) × (sc0 ≡ sc)
-Held sc0 st (w ∷ ps) sc = (st ≡ state.Start → ⊥) × Begun sc0 w.line st (symbols (w ∷ ps)) sc
+Held sc0 st (w ∷ ps) sc = (st ≡ state.Start → ⊥) × HeldBy sc0 st w ps sc
 
 symbols_end : (ps : List Word) (w : Word) → symbols (ps ++ w ∷ []) ≡ symbols ps ++ symbol_of w.kind w.bytes ∷ []
 symbols_end [] w = refl
 symbols_end (p ∷ ps) w = ap (λ (x : List Symbol). symbol_of p.kind p.bytes ∷ x) (symbols_end ps w)
+
+held_is : (sc0 : ScopeView) (w : Word) (ps : List Word) (x y : ScopeView × State) → x ≡ y → HeldBy sc0 y.1 w ps y.0 → HeldBy sc0 x.1 w ps x.0
+held_is sc0 w ps x y e h = subst (λ (z : ScopeView × State). HeldBy sc0 z.1 w ps z.0) (sym e) h
+
+ok_state : (x y : ScopeView × State) → ◌≡◌ {A = Answer} (Ok x) (Ok y) → x ≡ y
+ok_state x y e = cc
+
+-- the first two words of a section's name
+first_name : (sc0 sc : ScopeView) (p : Word) (ps : List Word) (b e : ℕ) (n m : List ℕ) → ((v : Word) → ps ≡ v ∷ [] → e ≡ v.at + length v.bytes) → b ≡ p.line → symbols (p ∷ ps) ≡ symbol.Name n ∷ symbol.Name m ∷ [] → IsNaming sc0 n m → InName sc0 (p ∷ ps) b n m e
+first_name sc0 sc p [] b e n m last line is naming = absurd cc
+first_name sc0 sc p (v ∷ []) b e n m last line is naming = record {
+  first = p;
+  second = v;
+  parts = [];
+  front = m;
+  whole = refl;
+  line = line;
+  named = cc;
+  behind = cc;
+  naming = naming;
+  touch = tt;
+  name = sym (append-nil m);
+  ends = last v refl;
+}
+first_name sc0 sc p (v ∷ u ∷ ps) b e n m last line is naming = absurd cc
+
+-- What the symbols have begun, the words have.
+begun_held : (sc0 sc : ScopeView) (st : State) (p : Word) (ps : List Word) (e : ℕ) → ((v : Word) → ps ≡ v ∷ [] → e ≡ v.at + length v.bytes) → Begun sc0 p.line st (symbols (p ∷ ps)) sc → HeldBy sc0 (ending_at e st) p ps sc
+begun_held sc0 sc state.Start p ps e last b = IsStatement.plain p ps b
+begun_held sc0 sc (state.Named l n) p ps e last b = b
+begun_held sc0 sc state.Skip p ps e last b = b
+begun_held sc0 sc (state.Sectioned l n m a) p ps e last b = (b.1, first_name sc0 sc p ps l e n m last b.0 b.2 b.3)
+begun_held sc0 sc (state.Flags l n m) p ps e last b = absurd b
+begun_held sc0 sc (state.Arguments o) p ps e last b = b
+begun_held sc0 sc (state.Stray l c) p ps e last b = tt
+
+last_word : (ps : List Word) (w v : Word) → ps ++ w ∷ [] ≡ v ∷ [] → w.at + length w.bytes ≡ v.at + length v.bytes
+last_word [] w v e = let g : w ≡ v = cc in ap (λ (x : Word). x.at + length x.bytes) g
+last_word (p ∷ []) w v e = absurd cc
+last_word (p ∷ q ∷ ps) w v e = absurd cc
+
+-- a word more, where no section's name is open
+plain_more : (sc0 sc : ScopeView) (st : State) (p : Word) (ps : List Word) (w : Word) (z : ScopeView × State) → (st ≡ state.Start → ⊥) → is_naming st ≡ false → Begun sc0 p.line st (symbols (p ∷ ps)) sc → next_word sc st w ≡ Ok z → HeldBy sc0 z.1 p (ps ++ w ∷ []) z.0
+plain_more sc0 sc st p ps w z inside no_name b h = elim (word_goes sc st w z h) [
+  | WordGoes.on t g ↦ absurd (both t (not_longer st w.at w.kind w.bytes no_name))
+  | WordGoes.as_symbol y t f g ↦
+      let s = symbol_of w.kind w.bytes in
+      let c : Begun sc0 p.line y.1 (symbols (p ∷ ps) ++ symbol_of w.kind w.bytes ∷ []) y.0 = next_begun sc0 sc p.line w.line st (symbols (p ∷ ps) ++ symbol_of w.kind w.bytes ∷ []) (symbol_of w.kind w.bytes) y (begun_more sc0 sc p.line w.line st (symbols (p ∷ ps)) (symbol_of w.kind w.bytes) y inside no_name b) f in
+      let d : Begun sc0 p.line y.1 (symbols (p ∷ (ps ++ w ∷ []))) y.0 = subst (λ (x : List Symbol). Begun sc0 p.line y.1 x y.0) (sym (symbols_end (p ∷ ps) w)) c in
+      held_is sc0 p (ps ++ w ∷ []) z (y.0, ending_at (w.at + length w.bytes) y.1) g (begun_held sc0 y.0 y.1 p (ps ++ w ∷ []) (w.at + length w.bytes) (last_word ps w) d)
+]
+  where
+    both : {t : Bool} → t ≡ true → t ≡ false → ⊥
+    both e f = absurd cc
+
+-- a symbol behind a section's name
+name_symbol : (sc0 sc : ScopeView) (b : ℕ) (n m : List ℕ) (e : ℕ) (p : Word) (ps : List Word) (w : Word) (y : ScopeView × State) → sc0 ≡ sc → InName sc0 (p ∷ ps) b n m e → (s : Symbol) → symbol_of w.kind w.bytes ≡ s
+    → next_step sc (state.Sectioned b n m e) w.line s ≡ Ok y → HeldBy sc0 (ending_at (w.at + length w.bytes) y.1) p (ps ++ w ∷ []) y.0
+name_symbol sc0 sc b n m e p ps w y same g symbol.End is h =
+    let k : (sectioned sc b n m, state.Start) ≡ y = cc in
+    let st : IsStatement sc0 (p ∷ (ps ++ w ∷ [])) (sectioned sc b n m) = subst (λ (x : ScopeView). IsStatement sc0 (p ∷ (ps ++ w ∷ [])) (sectioned x b n m)) same (name_ends sc0 (p ∷ ps) (w ∷ []) b n m e [] g (ap (λ (x : Symbol). x ∷ []) is) refl) in
+    subst (λ (z : ScopeView × State). HeldBy sc0 (ending_at (w.at + length w.bytes) z.1) p (ps ++ w ∷ []) z.0) k st
+name_symbol sc0 sc b n m e p ps w y same g symbol.Comma is h =
+    let k : (sc, state.Flags b n m) ≡ y = cc in
+    let st : InFlags sc0 (p ∷ (ps ++ w ∷ [])) b n m =
+    λ rest ss end inner. subst (λ (x : List Word). IsStatement sc0 (p ∷ x) (sectioned sc0 b n m)) (sym (append_assoc ps (w ∷ []) rest)) (name_ends sc0 (p ∷ ps) (w ∷ rest) b n m e (symbol.Comma ∷ ss) g (rw (is, end) refl) inner) in
+    subst (λ (z : ScopeView × State). HeldBy sc0 (ending_at (w.at + length w.bytes) z.1) p (ps ++ w ∷ []) z.0) k (same, st)
+name_symbol sc0 sc b n m e p ps w y same g symbol.Percent is h =
+    let k : (fresh, state.Stray w.line cause.BadOperand) ≡ y = cc in
+    subst (λ (z : ScopeView × State). HeldBy sc0 (ending_at (w.at + length w.bytes) z.1) p (ps ++ w ∷ []) z.0) k tt
+name_symbol sc0 sc b n m e p ps w y same g _ is h = absurd cc
+
+name_more : (sc0 sc : ScopeView) (b : ℕ) (n m : List ℕ) (e : ℕ) (p : Word) (ps : List Word) (w : Word) (z : ScopeView × State) → HeldBy sc0 (state.Sectioned b n m e) p ps sc → next_word sc (state.Sectioned b n m e) w ≡ Ok z → HeldBy sc0 z.1 p (ps ++ w ∷ []) z.0
+name_more sc0 sc b n m e p ps w z g h = elim (word_goes sc (state.Sectioned b n m e) w z h) [
+  | WordGoes.on t k ↦
+      let both = and_two (e == w.at) (is_part w.kind w.bytes) t in
+      held_is sc0 p (ps ++ w ∷ []) z (sc, state.Sectioned b n (m ++ w.bytes) (w.at + length w.bytes)) k (g.0, name_longer sc0 (p ∷ ps) w b n m e g.1 (eqb-true e w.at both.0) both.1)
+  | WordGoes.as_symbol y t f k ↦ held_is sc0 p (ps ++ w ∷ []) z (y.0, ending_at (w.at + length w.bytes) y.1) k (name_symbol sc0 sc b n m e p ps w y g.0 g.1 (symbol_of w.kind w.bytes) refl f)
+]
+  where
+    and_two : (a b : Bool) → (a && b) ≡ true → (a ≡ true) × (b ≡ true)
+    and_two true true h = (refl, refl)
+    and_two true false h = absurd cc
+    and_two false b h = absurd cc
+
+flags_stay : (sc0 sc : ScopeView) (b : ℕ) (n m : List ℕ) (p : Word) (ps : List Word) (w : Word) (y : ScopeView × State) → sc0 ≡ sc → InFlags sc0 (p ∷ ps) b n m → (s : Symbol) → symbol_of w.kind w.bytes ≡ s → is_inner s ≡ true
+    → (sc, state.Flags b n m) ≡ y → HeldBy sc0 (ending_at (w.at + length w.bytes) y.1) p (ps ++ w ∷ []) y.0
+flags_stay sc0 sc b n m p ps w y same g s is inside k =
+    let st : InFlags sc0 (p ∷ (ps ++ w ∷ [])) b n m =
+    λ rest ss end inner. subst (λ (x : List Word). IsStatement sc0 (p ∷ x) (sectioned sc0 b n m)) (sym (append_assoc ps (w ∷ []) rest)) (g (w ∷ rest) (s ∷ ss) (rw (is, end) refl) (rw inside inner)) in
+    subst (λ (z : ScopeView × State). HeldBy sc0 (ending_at (w.at + length w.bytes) z.1) p (ps ++ w ∷ []) z.0) k (same, st)
+
+-- a symbol behind a section's name and a comma
+flags_symbol : (sc0 sc : ScopeView) (b : ℕ) (n m : List ℕ) (p : Word) (ps : List Word) (w : Word) (y : ScopeView × State) → sc0 ≡ sc → InFlags sc0 (p ∷ ps) b n m → (s : Symbol) → symbol_of w.kind w.bytes ≡ s
+    → next_step sc (state.Flags b n m) w.line s ≡ Ok y → HeldBy sc0 (ending_at (w.at + length w.bytes) y.1) p (ps ++ w ∷ []) y.0
+flags_symbol sc0 sc b n m p ps w y same g symbol.End is h =
+    let k : (sectioned sc b n m, state.Start) ≡ y = cc in
+    let st : IsStatement sc0 (p ∷ (ps ++ w ∷ [])) (sectioned sc b n m) = subst (λ (x : ScopeView). IsStatement sc0 (p ∷ (ps ++ w ∷ [])) (sectioned x b n m)) same (g (w ∷ []) [] (ap (λ (x : Symbol). x ∷ []) is) refl) in
+    subst (λ (z : ScopeView × State). HeldBy sc0 (ending_at (w.at + length w.bytes) z.1) p (ps ++ w ∷ []) z.0) k st
+flags_symbol sc0 sc b n m p ps w y same g symbol.Percent is h = flags_stay sc0 sc b n m p ps w y same g symbol.Percent is refl (ok_state (sc, state.Flags b n m) y h)
+flags_symbol sc0 sc b n m p ps w y same g s is h = flags_stay sc0 sc b n m p ps w y same g s is refl (ok_state (sc, state.Flags b n m) y h)
+
+held_more : (sc0 sc : ScopeView) (st : State) (p : Word) (ps : List Word) (w : Word) (z : ScopeView × State) → (st ≡ state.Start → ⊥) → HeldBy sc0 st p ps sc → next_word sc st w ≡ Ok z → HeldBy sc0 z.1 p (ps ++ w ∷ []) z.0
+held_more sc0 sc state.Start p ps w z inside g h = absurd (inside refl)
+held_more sc0 sc (state.Named b n) p ps w z inside g h = plain_more sc0 sc (state.Named b n) p ps w z inside refl g h
+held_more sc0 sc state.Skip p ps w z inside g h = plain_more sc0 sc state.Skip p ps w z inside refl g h
+held_more sc0 sc (state.Sectioned b n m e) p ps w z inside g h = name_more sc0 sc b n m e p ps w z g h
+held_more sc0 sc (state.Flags b n m) p ps w z inside g h = elim (word_goes sc (state.Flags b n m) w z h) [
+  | WordGoes.on t k ↦ absurd cc
+  | WordGoes.as_symbol y t f k ↦ held_is sc0 p (ps ++ w ∷ []) z (y.0, ending_at (w.at + length w.bytes) y.1) k (flags_symbol sc0 sc b n m p ps w y g.0 g.1 (symbol_of w.kind w.bytes) refl f)
+]
+held_more sc0 sc (state.Arguments o) p ps w z inside g h = plain_more sc0 sc (state.Arguments o) p ps w z inside refl g h
+held_more sc0 sc (state.Stray l c) p ps w z inside g h = plain_more sc0 sc (state.Stray l c) p ps w z inside refl g h
+
+-- the first word of a statement
+first_held : (sc : ScopeView) (w : Word) (z : ScopeView × State) → next_word sc state.Start w ≡ Ok z → HeldBy sc z.1 w [] z.0
+first_held sc w z h = elim (word_goes sc state.Start w z h) [
+  | WordGoes.on t k ↦ absurd cc
+  | WordGoes.as_symbol y t f k ↦
+      let b : Begun sc w.line y.1 (symbol_of w.kind w.bytes ∷ []) y.0 = next_begun sc sc w.line w.line state.Start (symbol_of w.kind w.bytes ∷ []) (symbol_of w.kind w.bytes) y (start_begun sc w.line (symbol_of w.kind w.bytes) y) f in
+      held_is sc w [] z (y.0, ending_at (w.at + length w.bytes) y.1) k (begun_held sc y.0 y.1 w [] (w.at + length w.bytes) (λ v e. absurd cc) b)
+]
 
 placed_ok : (line : ℕ) (r : Answer) (z : ScopeView × State) → placed line r ≡ Ok z → r ≡ Ok z
 placed_ok line (Ok x) z h = let e : x ≡ z = cc in ap (λ (q : ScopeView × State). Ok q) e
@@ -470,27 +605,23 @@ placed_ok line (Err c) z h = absurd cc
 abbrev Collects : List Word → ScopeView → Type 0
 Collects ws scz = (sc0 sc : ScopeView) (st : State) (piece : List Word) → Held sc0 st piece sc → read_words sc st ws ≡ Ok (scz, state.Start) → Statements sc0 (piece ++ ws) scz
 
-next_piece : (w : Word) (ps ws : List Word) (sc0 scz sc : ScopeView) (st : State) → Begun sc0 w.line st (symbols (w ∷ ps)) sc → read_words sc st ws ≡ Ok (scz, state.Start) → Collects ws scz → Statements sc0 (w ∷ (ps ++ ws)) scz
-next_piece w ps ws sc0 scz sc state.Start b h ih = Statements.more w ps ws refl b (ih sc sc state.Start [] (refl, refl) h)
+next_piece : (w : Word) (ps ws : List Word) (sc0 scz sc : ScopeView) (st : State) → HeldBy sc0 st w ps sc → read_words sc st ws ≡ Ok (scz, state.Start) → Collects ws scz → Statements sc0 (w ∷ (ps ++ ws)) scz
+next_piece w ps ws sc0 scz sc state.Start b h ih = Statements.more (w ∷ ps) ws refl b (ih sc sc state.Start [] (refl, refl) h)
 next_piece w ps ws sc0 scz sc st b h ih = ih sc0 sc st (w ∷ ps) ((λ e. absurd cc), b) h
 
 collect : (ws : List Word) (scz : ScopeView) → Collects ws scz
 collect [] scz sc0 sc st [] held h = let e : (sc, st) ≡ (scz, state.Start) = cc in subst (Statements sc0 []) (held.1 ∙ ap (λ (x : ScopeView × State). x.0) e) Statements.none
 collect [] scz sc0 sc st (w ∷ ps) held h = let e : (sc, st) ≡ (scz, state.Start) = cc in absurd (held.0 (ap (λ (x : ScopeView × State). x.1) e))
 collect (w ∷ ws) scz sc0 sc st [] held h =
-    let z = bind_ok (placed (fault_line sc st w.line) (next_step sc st w.line (symbol_of w.kind w.bytes))) (λ z. read_words z.0 z.1 ws) (scz, state.Start) h in
-    let e = placed_ok (fault_line sc st w.line) (next_step sc st w.line (symbol_of w.kind w.bytes)) z.0 z.1 in
-    let e2 : next_step sc state.Start w.line (symbol_of w.kind w.bytes) ≡ Ok z.0 = subst (λ (x : State). next_step sc x w.line (symbol_of w.kind w.bytes) ≡ Ok z.0) held.0 e in
-    let b1 : Begun sc w.line z.0.1 (symbol_of w.kind w.bytes ∷ []) z.0.0 = next_begun sc sc w.line w.line state.Start (symbol_of w.kind w.bytes ∷ []) (symbol_of w.kind w.bytes) z.0 (start_begun sc w.line (symbol_of w.kind w.bytes) z.0) e2 in
-    let b : Begun sc0 w.line z.0.1 (symbol_of w.kind w.bytes ∷ []) z.0.0 = subst (λ (x : ScopeView). Begun x w.line z.0.1 (symbol_of w.kind w.bytes ∷ []) z.0.0) (sym held.1) b1 in
+    let z = bind_ok (placed (fault_line sc st w.line) (next_word sc st w)) (λ z. read_words z.0 z.1 ws) (scz, state.Start) h in
+    let e = placed_ok (fault_line sc st w.line) (next_word sc st w) z.0 z.1 in
+    let e2 : next_word sc state.Start w ≡ Ok z.0 = subst (λ (x : State). next_word sc x w ≡ Ok z.0) held.0 e in
+    let b : HeldBy sc0 z.0.1 w [] z.0.0 = subst (λ (x : ScopeView). HeldBy x z.0.1 w [] z.0.0) (sym held.1) (first_held sc w z.0 e2) in
     next_piece w [] ws sc0 scz z.0.0 z.0.1 b z.2 (collect ws scz)
 collect (w ∷ ws) scz sc0 sc st (p ∷ ps) held h =
-    let z = bind_ok (placed (fault_line sc st w.line) (next_step sc st w.line (symbol_of w.kind w.bytes))) (λ z. read_words z.0 z.1 ws) (scz, state.Start) h in
-    let e = placed_ok (fault_line sc st w.line) (next_step sc st w.line (symbol_of w.kind w.bytes)) z.0 z.1 in
-    let b : Begun sc0 p.line z.0.1 (symbols (p ∷ ps) ++ symbol_of w.kind w.bytes ∷ []) z.0.0 =
-    next_begun sc0 sc p.line w.line st (symbols (p ∷ ps) ++ symbol_of w.kind w.bytes ∷ []) (symbol_of w.kind w.bytes) z.0 (begun_more sc0 sc p.line w.line st (symbols (p ∷ ps)) (symbol_of w.kind w.bytes) z.0 held.0 held.1) e in
-    let b2 : Begun sc0 p.line z.0.1 (symbols (p ∷ (ps ++ w ∷ []))) z.0.0 = subst (λ (x : List Symbol). Begun sc0 p.line z.0.1 x z.0.0) (sym (symbols_end (p ∷ ps) w)) b in
-    let all : Statements sc0 (p ∷ ((ps ++ w ∷ []) ++ ws)) scz = next_piece p (ps ++ w ∷ []) ws sc0 scz z.0.0 z.0.1 b2 z.2 (collect ws scz) in
+    let z = bind_ok (placed (fault_line sc st w.line) (next_word sc st w)) (λ z. read_words z.0 z.1 ws) (scz, state.Start) h in
+    let e = placed_ok (fault_line sc st w.line) (next_word sc st w) z.0 z.1 in
+    let all : Statements sc0 (p ∷ ((ps ++ w ∷ []) ++ ws)) scz = next_piece p (ps ++ w ∷ []) ws sc0 scz z.0.0 z.0.1 (held_more sc0 sc st p ps w z.0 held.0 held.1 e) z.2 (collect ws scz) in
     subst (λ (x : List Word). Statements sc0 (p ∷ x) scz) (append_assoc ps (w ∷ []) ws) all
 
 -- What is read are statements.

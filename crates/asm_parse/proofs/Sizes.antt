@@ -23,7 +23,7 @@ use Rattle.asm_parse.specs.Scope.{fresh, pushed}
 use Rattle.asm_parse.specs.Operand.{begun, takes_absent}
 use Rattle.asm_parse.specs.Grammar.{IsConstant, IsValue, IsAddress, IsForm}
 use Rattle.asm_parse.specs.Statement.{shape_at, item_of, resumed, sectioned}
-use Rattle.asm_parse.specs.Statements.{IsSeen, Sees, IsArgument, IsNext, Separated, HasArguments, IsSectionName, Statement, Statements, symbols}
+use Rattle.asm_parse.specs.Statements.{IsSeen, Sees, IsArgument, IsNext, Separated, HasArguments, Statement, symbols, text_of, IsStatement, Statements}
 use Rattle.std.specs.Prelude.{IfOk, Result, Ok, Err}
 use Rattle.asm_lex.specs.declared.fault.SourceFault.{SourceFault}
 use Rattle.asm_parse.specs.Reading.{symbol_of}
@@ -32,7 +32,7 @@ use Rattle.asm_parse.proofs.Sources.{parsed_is}
 use Rattle.asm_parse.specs.Size.{name_size, value_size, form_size, arguments_size, body_size, body_count, items_size, items_count}
 use Rattle.asm_parse.proofs.Operands.{absent_begun}
 use Rattle.asm_parse.proofs.Stated.{first_shape}
-use Rattle.asm_parse.proofs.Costs.{cost, costs, costs-append, Paid, lexed_pays}
+use Rattle.asm_parse.proofs.Costs.{cost, costs, costs-append, weight, ArePaid, paid_costs, Paid, lexed_pays}
 
 -- ---- one argument
 
@@ -135,11 +135,6 @@ arguments_pay {h} (HasArguments.some {ss} {ts} {before} {a} {sc1} {sc2} sep next
 
 -- ---- statements
 
-names_pay : {d : Bool} {ms : List Symbol} {m : List ℕ} → IsSectionName d ms m → (length m ≤ costs ms) × (1 ≤ length ms)
-names_pay (IsSectionName.name is) = (omega arith, omega arith)
-names_pay (IsSectionName.dash {ss} {m} n) = let p = names_pay n in (omega (arith, p.0, length-append m (45 ∷ []), costs-append ss (symbol.Minus ∷ [])), omega (arith, p.1, length-append ss (symbol.Minus ∷ [])))
-names_pay (IsSectionName.joined {ss} {m} k n) = let p = names_pay n in (omega (arith, p.0, length-append m k, costs-append ss (symbol.Name k ∷ [])), omega (arith, p.1, length-append ss (symbol.Name k ∷ [])))
-
 items_end : (xs : List SourceItem) (x : SourceItem) → (items_size (xs ++ x ∷ []) ≡ items_size xs + body_size x.body) × (items_count (xs ++ x ∷ []) ≡ items_count xs + body_count x.body)
 items_end [] x = (omega arith, omega arith)
 items_end (y ∷ xs) x = let p = items_end xs x in (omega (arith, p.0), omega (arith, p.1))
@@ -177,10 +172,6 @@ statement_pays {sc} {line} (Statement.directive {sc2} {n} {k} {ss} {args} passed
     let p = arguments_pay has in
     pushed_pays sc sc2 _ (item_of line (head.Directive k n) args) (symbol.Name n ∷ (ss ++ symbol.End ∷ [])) p.same (resumed_same (pushed sc2 (item_of line (head.Directive k n) args)) (head.Directive k n))
     (omega (arith, p.size, costs-append ss (symbol.End ∷ []))) (omega (arith, p.count, length-append ss (symbol.End ∷ [])))
-statement_pays {sc} {line} (Statement.section {n} {m} ms ss passed dotted dir names flags) =
-    let p = names_pay names in
-    pushed_pays sc sc _ (record { line = line; body = body.Directive n (record { star = false; form = form.Text m } ∷ []) }) (symbol.Name n ∷ (ms ++ (ss ++ symbol.End ∷ []))) refl refl
-    (omega (arith, p.0, costs-append ms (ss ++ symbol.End ∷ []), costs-append ss (symbol.End ∷ []))) (omega (arith, p.1, length-append ms (ss ++ symbol.End ∷ []), length-append ss (symbol.End ∷ [])))
 statement_pays {sc} (Statement.skipped_directive {n} ss passed dotted dir u h) = same_pays sc (symbol.Name n) ss
 statement_pays {sc} (Statement.skipped_label {n} sk) = record { size = omega arith; count = omega arith }
 statement_pays {sc} (Statement.skipped {n} ss passed u h) = same_pays sc (symbol.Name n) ss
@@ -188,7 +179,7 @@ statement_pays {sc} (Statement.nameless {s} ss sk k h) = same_pays sc s ss
 
 -- ---- a source
 
-symbols-append : (ws vs : List Word) → symbols (ws ++ vs) ≡ symbols ws ++ symbols vs
+pub symbols-append : (ws vs : List Word) → symbols (ws ++ vs) ≡ symbols ws ++ symbols vs
 symbols-append [] vs = refl
 symbols-append (w ∷ ws) vs = ap (λ (x : List Symbol). symbol_of w.kind w.bytes ∷ x) (symbols-append ws vs)
 
@@ -196,19 +187,58 @@ symbols-length : (ws : List Word) → length (symbols ws) ≡ length ws
 symbols-length [] = refl
 symbols-length (w ∷ ws) = omega (arith, symbols-length ws)
 
+paid_front : (ws vs : List Word) → ArePaid (ws ++ vs) → ArePaid ws
+paid_front [] vs h = tt
+paid_front (w ∷ ws) vs h = (h.0, paid_front ws vs h.1)
+
+paid_back : (ws vs : List Word) → ArePaid (ws ++ vs) → ArePaid vs
+paid_back [] vs h = h
+paid_back (w ∷ ws) vs h = paid_back ws vs h.1
+
+weight-append : (ws vs : List Word) → weight (ws ++ vs) ≡ weight ws + weight vs
+weight-append [] vs = omega arith
+weight-append (w ∷ ws) vs = omega (arith, weight-append ws vs)
+
+length-text_of : (ws : List Word) → length (text_of ws) ≡ weight ws
+length-text_of [] = refl
+length-text_of (w ∷ ws) = omega (arith, length-append w.bytes (text_of ws), length-text_of ws)
+
+record PiecePays (sc sc2 : ScopeView) (ws : List Word) : Type 0 where
+  size : items_size sc2.items + 1 ≤ items_size sc.items + weight ws
+  count : items_count sc2.items + 1 ≤ items_count sc.items + length ws
+
+section_pays : (sc : ScopeView) (w v : Word) (parts rest : List Word) (n m : List ℕ) (ss : List Symbol) → symbol_of w.kind w.bytes ≡ symbol.Name n → symbol_of v.kind v.bytes ≡ symbol.Name m → symbols rest ≡ ss ++ symbol.End ∷ []
+    → ArePaid (w ∷ v ∷ (parts ++ rest)) → PiecePays sc (sectioned sc w.line n (m ++ text_of parts)) (w ∷ v ∷ (parts ++ rest))
+section_pays sc w v parts rest n m ss wn vm end paid =
+    let p = items_end sc.items (record { line = w.line; body = body.Directive n (record { star = false; form = form.Text (m ++ text_of parts) } ∷ []) }) in
+    let first : length n ≤ length w.bytes = omega (arith, paid.0, ap cost wn) in
+    let second : length m ≤ length v.bytes = omega (arith, paid.1.0, ap cost vm) in
+    let last : 1 ≤ weight rest = omega (arith, paid_costs rest (paid_back parts rest paid.1.1), ap costs end, costs-append ss (symbol.End ∷ [])) in
+    let some : 1 ≤ length rest = omega (arith, symbols-length rest, ap length end, length-append ss (symbol.End ∷ [])) in
+    record {
+      size = omega (arith, p.0, first, second, last, length-append m (text_of parts), length-text_of parts, weight-append parts rest);
+      count = omega (arith, p.1, some, length-append parts rest);
+    }
+
+piece_pays : {sc sc2 : ScopeView} {ws : List Word} → IsStatement sc ws sc2 → ArePaid ws → PiecePays sc sc2 ws
+piece_pays (IsStatement.plain w ws st) paid =
+    let p = statement_pays st in
+    record { size = omega (arith, p.size, paid_costs (w ∷ ws) paid); count = omega (arith, p.count, symbols-length (w ∷ ws)) }
+piece_pays {sc} (IsStatement.section {n} {m} w v parts rest ss wn passed dotted dir vm is touch end flags) paid = section_pays sc w v parts rest n m ss wn vm end paid
+
 -- with one to spare where there is a statement
 record SourcePays (sc sc2 : ScopeView) (ws : List Word) : Type 0 where
-  size : (sc2.items ≡ sc.items) ⊎ (items_size sc2.items + 1 ≤ items_size sc.items + costs (symbols ws))
+  size : (sc2.items ≡ sc.items) ⊎ (items_size sc2.items + 1 ≤ items_size sc.items + weight ws)
   count : (sc2.items ≡ sc.items) ⊎ (items_count sc2.items + 1 ≤ items_count sc.items + length ws)
 
-statements_pay : {sc sc2 : ScopeView} {ws : List Word} → Statements sc ws sc2 → SourcePays sc sc2 ws
-statements_pay Statements.none = record { size = inl refl; count = inl refl }
-statements_pay {sc} {sc2} {ws} (Statements.more {sc2 = mid} w piece rest e st tail) =
-    let p = statement_pays st in
-    let q = statements_pay tail in
-    let whole : symbols ws ≡ symbols (w ∷ piece) ++ symbols rest = ap symbols e ∙ symbols-append (w ∷ piece) rest in
-    let bytes : costs (symbols ws) ≡ costs (symbols (w ∷ piece)) + costs (symbols rest) = ap costs whole ∙ costs-append (symbols (w ∷ piece)) (symbols rest) in
-    let number : length ws ≡ length (symbols (w ∷ piece)) + length rest = ap length e ∙ (length-append (w ∷ piece) rest ∙ ap (λ (n : ℕ). n + length rest) (sym (symbols-length (w ∷ piece)))) in
+statements_pay : {sc sc2 : ScopeView} {ws : List Word} → Statements sc ws sc2 → ArePaid ws → SourcePays sc sc2 ws
+statements_pay Statements.none paid = record { size = inl refl; count = inl refl }
+statements_pay {ws} (Statements.more piece rest e st tail) paid =
+    let paid2 : ArePaid (piece ++ rest) = subst ArePaid e paid in
+    let p = piece_pays st (paid_front piece rest paid2) in
+    let q = statements_pay tail (paid_back piece rest paid2) in
+    let bytes : weight ws ≡ weight piece + weight rest = ap weight e ∙ weight-append piece rest in
+    let number : length ws ≡ length piece + length rest = ap length e ∙ length-append piece rest in
     record {
       size = inr (elim q.size [ inl s ↦ omega (arith, ap items_size s, p.size, bytes) | inr le ↦ omega (arith, le, p.size, bytes) ]);
       count = inr (elim q.count [ inl s ↦ omega (arith, ap items_count s, p.count, number) | inr le ↦ omega (arith, le, p.count, number) ]);
@@ -217,8 +247,8 @@ statements_pay {sc} {sc2} {ws} (Statements.more {sc2 = mid} w piece rest e st ta
 -- All names and strings are no longer than the text, and items and arguments no more than its bytes.
 pub source_pays : (text : List ℕ) (items : List SourceItem) → Says text items → (items_size items ≤ length text) × (items_count items ≤ length text)
 source_pays text items (ws, sc, lexed, statements, is) =
-    let p = statements_pay statements in
-    let l = lexed_pays lexed in (
+    let l = lexed_pays lexed in
+    let p = statements_pay statements l.each in (
       elim p.size [ inl e ↦ omega (arith, ap items_size (sym is ∙ e)) | inr le ↦ omega (arith, le, ap items_size is, l.bytes, length-append text (10 ∷ [])) ],
       elim p.count [ inl e ↦ omega (arith, ap items_count (sym is ∙ e)) | inr le ↦ omega (arith, le, ap items_count is, l.count, length-append text (10 ∷ [])) ],
     )

@@ -19,7 +19,8 @@ use Rattle.asm_parse.proofs.Words.{read_words}
 use Rattle.asm_parse.proofs.Lines.{IsRead, bind_ok}
 use Rattle.asm_parse.proofs.Dying.{dead_line, alive_line}
 use Rattle.asm_parse.specs.Statement.{doom}
-use Rattle.asm_parse.proofs.Linking.{run_append, link, unlink, last_mode, closed_between, closed_ok, ok_same, not_both}
+use Rattle.asm_parse.proofs.Closing.{goes_on}
+use Rattle.asm_parse.proofs.Linking.{IsClosed, run_append, link, unlink, last_mode, closed_between, closed_ok, ok_same, not_both}
 use Rattle.asm_parse.proofs.Stated.{statements_run}
 use Rattle.asm_parse.proofs.Said.{are_statements}
 use Rattle.asm_parse.proofs.Alive.{newline_state}
@@ -73,7 +74,7 @@ refused_line text (Err (fault.At l c)) h = λ other more reading.
 pub refused_alive : (text : List ℕ) (r : Result (List SourceItem) SourceFault) → Parses r (read text) → AliveBefore text r
 refused_alive text (Ok x) h = tt
 refused_alive text (Err fault.Memory) h = tt
-refused_alive text (Err (fault.At l c)) h = λ other n lt. goes_on n (alive_line text (l, c) h other n lt)
+refused_alive text (Err (fault.At l c)) h = λ other n lt. further n (alive_line text (l, c) h other n lt)
   where
-    goes_on : (n : ℕ) → (s : Running) × (run start (first_lines n text) ≡ Ok s) × (doom s.scope s.state ≡ None) × (s.mode ≡ mode.Between → IsRead (first_lines n text)) → GoesOn text n
-    goes_on n (s, e, d, k) = (s, e, d, λ m. let g = k m in (g.0.scope.items, read_is (first_lines n text) g.0 g.1))
+    further : (n : ℕ) → (s : Running) × (run start (first_lines n text) ≡ Ok s) × (doom s.scope s.state ≡ None) × IsClosed (Goes s.mode) → GoesOn text n
+    further n (s, e, d, k) = let g = goes_on (first_lines n text) s e k d in (g.0, (g.1.0.scope.items, read_is (first_lines n text ++ g.0) g.1.0 g.1.1))

@@ -1,7 +1,8 @@
 -- What the cases of the grammar say is read symbol by symbol.
-use Rattle.std.proofs.Common.{◌≡◌, ℕ, Bool, true, false, cond, List, [], ◌∷◌, ◌++◌, length, Option, Some, None, Result, Ok, Err, refl, sym, ap, subst, ◌∙◌, inl, inr, append_assoc, arith}
-use Rattle.std.proofs.lemmas.Bool.{le-ltb}
-use Rattle.std.specs.Prelude.{◌==◌, nat_lt}
+use Rattle.std.proofs.Common.{◌≡◌, ℕ, Bool, true, false, cond, List, [], ◌∷◌, ◌++◌, length, Option, Some, None, Result, Ok, Err, refl, sym, ap, subst, ◌∙◌, ◌⊎◌, inl, inr, append_assoc, arith}
+use Rattle.std.proofs.lemmas.Bool.{le-ltb, eq-eqb}
+use Rattle.std.proofs.lemmas.List.{append-nil}
+use Rattle.std.specs.Prelude.{◌==◌, ◌&&◌, ◌+◌, ◌^◌, nat_lt, not}
 use Rattle.std.specs.List.{list_all}
 use Rattle.asm_lex.specs.declared.fault.SourceCause.{SourceCause}
 use Rattle.asm_lex.specs.declared.fault.SourceCause.TheVariants as cause
@@ -25,11 +26,13 @@ use Rattle.asm_parse.specs.declared.state.State.TheVariants as state
 use Rattle.asm_parse.specs.ScopeView.{ScopeView}
 use Rattle.asm_parse.specs.Scope.{pushed}
 use Rattle.asm_parse.specs.Operand.{is_operand, begun, next_symbol, operand_step, finished, is_nothing, name_in}
-use Rattle.asm_parse.specs.Reading.{Fault, placed, symbol_of}
+use Rattle.asm_lex.specs.declared.token.TokenKind.{TokenKind}
+use Rattle.asm_lex.specs.declared.token.TokenKind.TheVariants as token
+use Rattle.asm_parse.specs.Reading.{Fault, placed, mark_symbol, number_symbol, number_value, symbol_of, is_part, is_longer, longer, ending_at, next_word}
 use Rattle.asm_parse.specs.Running.{◌>>=◌}
 use Rattle.asm_parse.proofs.Words.{read_words}
-use Rattle.asm_parse.specs.Statement.{shape_at, least, defines, is_instruction, item_of, resumed, sectioned, with_name, after_step, at_shape, within, argument_step, nothing_yet, named_step, colon_behind, label, labelled, unless_skipping, other_behind, of_directive, skip, sectioned_step, joining_step, flags_step, start_step, step, strayed, next_step, fault_line, is_passed, is_dotted, directive_of, with_scope}
-use Rattle.asm_parse.specs.Statements.{IsSeen, Sees, symbol_in, IsArgument, Separated, HasArguments, is_inner, is_unlabelled, is_nameless, are_flags, IsSectionName, has_list, Statement, Statements, symbols}
+use Rattle.asm_parse.specs.Statement.{shape_at, least, defines, is_instruction, item_of, resumed, sectioned, with_name, after_step, at_shape, within, argument_step, nothing_yet, named_step, colon_behind, label, labelled, unless_skipping, other_behind, of_directive, skip, sectioned_step, flags_step, start_step, step, strayed, next_step, fault_line, is_passed, is_dotted, directive_of, is_section, with_scope}
+use Rattle.asm_parse.specs.Statements.{IsSeen, Sees, symbol_in, IsArgument, Separated, HasArguments, is_inner, is_unlabelled, is_nameless, are_flags, has_list, Statement, symbols, text_of, Touch, IsStatement, Statements}
 use Rattle.asm_parse.proofs.Operands.{ok, operand_run, form_reads}
 use Rattle.asm_parse.proofs.Names.{seen_noting, named_in, name_step, name_stays, finished_named, finished_is, no_star, no_end_symbol, no_big, no_comma}
 
@@ -42,8 +45,7 @@ abbrev pub inner : ScopeView → State → Symbol → Answer
 inner sc state.Start s = Err cause.BadOperand
 inner sc (state.Named b n) s = named_step sc b n s
 inner sc state.Skip s = Ok (sc, skip s)
-inner sc (state.Sectioned b n m) s = sectioned_step sc b n m s
-inner sc (state.Joining b n m) s = joining_step sc b n m s
+inner sc (state.Sectioned b n m e) s = Err cause.BadOperand
 inner sc (state.Flags b n m) s = flags_step sc b n m s
 inner sc (state.Arguments o) s = argument_step sc o s
 inner sc (state.Stray l c) s = Err cause.BadOperand
@@ -52,15 +54,14 @@ pub inner_step : (sc : ScopeView) (st : State) (line : ℕ) (s : Symbol) (y : Sc
 inner_step sc state.Start line s y h = absurd cc
 inner_step sc (state.Named b n) line s y h = h
 inner_step sc state.Skip line s y h = h
-inner_step sc (state.Sectioned b n m) line s y h = h
-inner_step sc (state.Joining b n m) line s y h = h
+inner_step sc (state.Sectioned b n m e) line s y h = absurd cc
 inner_step sc (state.Flags b n m) line s y h = h
 inner_step sc (state.Arguments o) line s y h = h
 inner_step sc (state.Stray l c) line s y h = absurd cc
 
 -- what goes on goes on behind a `%` too
 step_next : (sc : ScopeView) (st : State) (line : ℕ) (s : Symbol) (y : ScopeView × State) → step sc st line s ≡ Ok y → next_step sc st line s ≡ Ok y
-step_next sc st line symbol.Percent y h = ap (strayed line) h
+step_next sc st line symbol.Percent y h = ap (strayed (fault_line sc st line)) h
 step_next sc st line _ y h = h
 
 abbrev pub inners : ScopeView → State → List Symbol → Answer
@@ -76,18 +77,52 @@ inners_append (s ∷ ss) ts sc st y h = by_step (inner sc st s) h (λ z e. inner
     by_step (Ok z) h ih = ih z h
     by_step (Err c) h ih = absurd cc
 
-pub inners_words : (ws : List Word) (sc : ScopeView) (st : State) (y : ScopeView × State) → inners sc st (symbols ws) ≡ Ok y → read_words sc st ws ≡ Ok y
-inners_words [] sc st y h = let e : (sc, st) ≡ y = cc in ap (λ (x : ScopeView × State). Ok x) e
-inners_words (w ∷ ws) sc st y h = by_step (inner sc st (symbol_of w.kind w.bytes)) refl h (λ z e. inners_words ws z.0 z.1 y e)
+-- whether a section's name has been read so far
+abbrev pub is_naming : State → Bool
+is_naming (state.Sectioned b n m e) = true
+is_naming _ = false
+
+pub not_longer : (st : State) (at : ℕ) (k : TokenKind) (bytes : List ℕ) → is_naming st ≡ false → is_longer st at k bytes ≡ false
+not_longer (state.Sectioned b n m e) at k bytes h = absurd cc
+not_longer _ at k bytes h = refl
+
+pub same_ending : (st : State) (e : ℕ) → is_naming st ≡ false → ending_at e st ≡ st
+same_ending (state.Sectioned b n m a) e h = absurd cc
+same_ending _ e h = refl
+
+-- a word that is a symbol
+pub word_is : (sc : ScopeView) (st : State) (w : Word) (x : ScopeView × State) → is_longer st w.at w.kind w.bytes ≡ false → step sc st w.line (symbol_of w.kind w.bytes) ≡ Ok x
+    → next_word sc st w ≡ Ok (x.0, ending_at (w.at + length w.bytes) x.1)
+word_is sc st w x none h = rw (none, step_next sc st w.line (symbol_of w.kind w.bytes) x h) refl
+
+-- the state in which a name's reading goes on isn't that of a section's
+inside_naming : (sc : ScopeView) (st : State) (s : Symbol) (z : ScopeView × State) → inner sc st s ≡ Ok z → is_naming st ≡ false
+inside_naming sc (state.Sectioned b n m e) s z h = absurd cc
+inside_naming sc _ s z h = refl
+
+start_naming : (ws : List Word) (sc : ScopeView) (st : State) (y : ScopeView × State) → y.1 ≡ state.Start → inners sc st (symbols ws) ≡ Ok y → is_naming st ≡ false
+start_naming [] sc st y start h = let e : (sc, st) ≡ y = cc in ap is_naming (ap (λ (x : ScopeView × State). x.1) e ∙ start)
+start_naming (w ∷ ws) sc st y start h = by_step (inner sc st (symbol_of w.kind w.bytes)) refl h
+  where
+    by_step : (r : Answer) → inner sc st (symbol_of w.kind w.bytes) ≡ r → ◌≡◌ {A = Answer} (elim r [ Ok z ↦ inners z.0 z.1 (symbols ws) | Err c ↦ Err c ]) (Ok y) → is_naming st ≡ false
+    by_step (Ok z) e h = inside_naming sc st (symbol_of w.kind w.bytes) z e
+    by_step (Err c) e h = absurd cc
+
+pub inners_words : (ws : List Word) (sc : ScopeView) (st : State) (y : ScopeView × State) → y.1 ≡ state.Start → inners sc st (symbols ws) ≡ Ok y → read_words sc st ws ≡ Ok y
+inners_words [] sc st y start h = let e : (sc, st) ≡ y = cc in ap (λ (x : ScopeView × State). Ok x) e
+inners_words (w ∷ ws) sc st y start h = by_step (inner sc st (symbol_of w.kind w.bytes)) refl h (λ z e. inners_words ws z.0 z.1 y start e)
   where
     by_step : (r : Answer) → inner sc st (symbol_of w.kind w.bytes) ≡ r → ◌≡◌ {A = Answer} (elim r [ Ok z ↦ inners z.0 z.1 (symbols ws) | Err c ↦ Err c ]) (Ok y)
         → ((z : ScopeView × State) → inners z.0 z.1 (symbols ws) ≡ Ok y → read_words z.0 z.1 ws ≡ Ok y) → read_words sc st (w ∷ ws) ≡ Ok y
-    by_step (Ok z) e h ih = rw (step_next sc st w.line (symbol_of w.kind w.bytes) z (inner_step sc st w.line (symbol_of w.kind w.bytes) z e)) (ih z h)
+    by_step (Ok z) e h ih =
+        let none = not_longer st w.at w.kind w.bytes (inside_naming sc st (symbol_of w.kind w.bytes) z e) in
+        let same = same_ending z.1 (w.at + length w.bytes) (start_naming ws z.0 z.1 y start h) in
+        rw (word_is sc st w z none (inner_step sc st w.line (symbol_of w.kind w.bytes) z e), same) (ih z h)
     by_step (Err c) e h ih = absurd cc
 
 pub words_append : (ws vs : List Word) (sc : ScopeView) (st : State) (y : ScopeView × State) → read_words sc st ws ≡ Ok y → read_words sc st (ws ++ vs) ≡ read_words y.0 y.1 vs
 words_append [] vs sc st y h = let e : (sc, st) ≡ y = cc in ap (λ (x : ScopeView × State). read_words x.0 x.1 vs) e
-words_append (w ∷ ws) vs sc st y h = by_step (placed (fault_line sc st w.line) (next_step sc st w.line (symbol_of w.kind w.bytes))) h (λ z e. words_append ws vs z.0 z.1 y e)
+words_append (w ∷ ws) vs sc st y h = by_step (placed (fault_line sc st w.line) (next_word sc st w)) h (λ z e. words_append ws vs z.0 z.1 y e)
   where
     by_step : (r : Result (ScopeView × State) Fault) → ◌≡◌ {A = Result (ScopeView × State) Fault} (r >>= λ z. read_words z.0 z.1 ws) (Ok y) → ((z : ScopeView × State) → read_words z.0 z.1 ws ≡ Ok y → read_words z.0 z.1 (ws ++ vs) ≡ read_words y.0 y.1 vs)
         → ◌≡◌ {A = Result (ScopeView × State) Fault} (r >>= λ z. read_words z.0 z.1 (ws ++ vs)) (read_words y.0 y.1 vs)
@@ -114,7 +149,7 @@ within_next sc o sh s q may h =
     goes_within sc o sh s q h ∙ (a ∙ b)
 
 -- what is seen between here and there
-abbrev Gains : Bool → ScopeView → Option (List ℕ) → Option (List ℕ) → ScopeView → Type 0
+abbrev pub Gains : Bool → ScopeView → Option (List ℕ) → Option (List ℕ) → ScopeView → Type 0
 Gains d sc None b sc2 = Sees sc d b sc2
 Gains d sc (Some n) b sc2 = sc ≡ sc2
 
@@ -125,7 +160,7 @@ gains_same d sc sc2 (Some n) h = h
 abbrev pub open_at : ℕ → Head → List Argument → Bool → Partial → Open
 open_at line h done star p = record { line = line; head = h; done = done; star = star; so_far = p }
 
-form_runs : (line : ℕ) (h : Head) (done : List Argument) (star : Bool) (sh : Shape) → shape_at h (length done) ≡ Some sh → (ss : List Symbol) (p q : Partial) (sc sc2 : ScopeView)
+pub form_runs : (line : ℕ) (h : Head) (done : List Argument) (star : Bool) (sh : Shape) → shape_at h (length done) ≡ Some sh → (ss : List Symbol) (p q : Partial) (sc sc2 : ScopeView)
     → operand_run sh p ss ≡ ok q → Gains (defines h (length done)) sc (named_in p) (named_in q) sc2
     → inners sc (state.Arguments (open_at line h done star p)) ss ≡ Ok (sc2, state.Arguments (open_at line h done star q))
 form_runs line h done star sh may [] p q sc sc2 e g =
@@ -143,7 +178,7 @@ form_runs line h done star sh may (s ∷ ss) p q sc sc2 e g = by_step (next_symb
       | inl t ↦
           let one : argument_step sc (open_at line h done star p) s ≡ Ok (sc, state.Arguments (open_at line h done star x)) = within_next sc (open_at line h done star p) sh s x may f ∙ ap (with_name sc (open_at line h done star x)) t.0 in
           rw (one, inners) (ih x sc sc2 k (subst (λ (z : Option (List ℕ)). Gains (defines h (length done)) sc z (named_in q) sc2) (sym t.1) g))
-      | inr (n, a, b, c) ↦
+      | inr (n, a, b, c, d) ↦
           let stays : named_in q ≡ Some n = name_stays sh ss x q n k b in
           let g2 : Sees sc (defines h (length done)) (named_in q) sc2 = subst (λ (z : Option (List ℕ)). Gains (defines h (length done)) sc z (named_in q) sc2) c g in
           let seen : IsSeen sc (defines h (length done)) n sc2 = subst (λ (z : Option (List ℕ)). Sees sc (defines h (length done)) z sc2) stays g2 in
@@ -223,7 +258,7 @@ argument_runs line h done sh may ss a sc sc2 (IsArgument.starred {ss = rest} {f}
 
 -- ---- arguments
 
-comma_runs : (sc : ScopeView) (line : ℕ) (h : Head) (done : List Argument) (a : Argument) (q : Partial) (sh : Shape) → finished q ≡ Some a.form → shape_at h (length (done ++ a ∷ [])) ≡ Some sh
+pub comma_runs : (sc : ScopeView) (line : ℕ) (h : Head) (done : List Argument) (a : Argument) (q : Partial) (sh : Shape) → finished q ≡ Some a.form → shape_at h (length (done ++ a ∷ [])) ≡ Some sh
     → argument_step sc (open_at line h done a.star q) symbol.Comma ≡ Ok (sc, state.Arguments (open_at line h (done ++ a ∷ []) false (begun sh)))
 comma_runs sc line h done a q sh fin may = rw (finished_is q a.form fin, fin, may) refl
 
@@ -240,7 +275,7 @@ finished_something : (q : Partial) (f : Form) → finished q ≡ Some f → is_n
 finished_something partial.Nothing f h = absurd cc
 finished_something _ f h = refl
 
-end_runs : (sc : ScopeView) (line : ℕ) (h : Head) (done : List Argument) (a : Argument) (q : Partial) → finished q ≡ Some a.form → nat_lt (length (done ++ a ∷ [])) (least h) ≡ false
+pub end_runs : (sc : ScopeView) (line : ℕ) (h : Head) (done : List Argument) (a : Argument) (q : Partial) → finished q ≡ Some a.form → nat_lt (length (done ++ a ∷ [])) (least h) ≡ false
     → argument_step sc (open_at line h done a.star q) symbol.End ≡ Ok (resumed (pushed sc (item_of line h (done ++ a ∷ []))) h, state.Start)
 end_runs sc line h done a q fin count = rw (finished_something q a.form fin, finished_is q a.form fin, fin, count) refl
 
@@ -281,34 +316,6 @@ flags_run sc line n m [] h = refl
 flags_run sc line n m (symbol.End ∷ ss) h = absurd cc
 flags_run sc line n m (s ∷ ss) h = flags_run sc line n m ss h
 
-sectioned_runs : (sc : ScopeView) (line : ℕ) (n m : List ℕ) (ss : List Symbol) → are_flags ss ≡ true → inners sc (state.Sectioned line n m) (ss ++ symbol.End ∷ []) ≡ Ok (sectioned sc line n m, state.Start)
-sectioned_runs sc line n m [] h = refl
-sectioned_runs sc line n m (symbol.Comma ∷ ss) h = flags_run sc line n m ss h
-sectioned_runs sc line n m (s ∷ ss) h = absurd cc
-
--- behind a section's name
-abbrev naming : Bool → ℕ → List ℕ → List ℕ → State
-naming true line n m = state.Joining line n m
-naming false line n m = state.Sectioned line n m
-
-naming_dash : (sc : ScopeView) (line : ℕ) (n m : List ℕ) (d : Bool) → inners sc (naming d line n m) (symbol.Minus ∷ []) ≡ Ok (sc, state.Joining line n (m ++ 45 ∷ []))
-naming_dash sc line n m true = refl
-naming_dash sc line n m false = refl
-
-names_run : (sc : ScopeView) (line : ℕ) (n : List ℕ) → is_passed sc n ≡ false → is_dotted n ≡ true → directive_of n ≡ Some kind.Section → {d : Bool} {ms : List Symbol} {m : List ℕ} → IsSectionName d ms m
-    → inners sc (state.Named line n) ms ≡ Ok (sc, naming d line n m)
-names_run sc line n passed dotted dir (IsSectionName.name is) = rw (passed, dotted, dir, is, inners) refl
-names_run sc line n passed dotted dir (IsSectionName.dash {d} {ss} {m} names) =
-    inners_append ss (symbol.Minus ∷ []) sc (state.Named line n) (sc, naming d line n m) (names_run sc line n passed dotted dir names) ∙ naming_dash sc line n m d
-names_run sc line n passed dotted dir (IsSectionName.joined {ss} {m} k names) =
-    inners_append ss (symbol.Name k ∷ []) sc (state.Named line n) (sc, state.Joining line n m) (names_run sc line n passed dotted dir names)
-
-named_section : (sc : ScopeView) (line : ℕ) (n m : List ℕ) (d : Bool) (ss : List Symbol) → are_flags ss ≡ true → inners sc (naming d line n m) (ss ++ symbol.End ∷ []) ≡ Ok (sectioned sc line n m, state.Start)
-named_section sc line n m false ss h = sectioned_runs sc line n m ss h
-named_section sc line n m true [] h = refl
-named_section sc line n m true (symbol.Comma ∷ ss) h = flags_run sc line n m ss h
-named_section sc line n m true (s ∷ ss) h = absurd cc
-
 passes : (sc : ScopeView) (line : ℕ) (n : List ℕ) (ss : List Symbol) → ((s : Symbol) → other_behind sc line n s ≡ Ok (sc, skip s)) → is_unlabelled ss ≡ true → list_all is_inner ss ≡ true
     → inners sc (state.Named line n) (ss ++ symbol.End ∷ []) ≡ Ok (sc, state.Start)
 passes sc line n [] eq u h = rw (eq symbol.End, inners) refl
@@ -348,22 +355,107 @@ statement_runs {sc} {line} (Statement.instruction {n} {ss} passed dotted rep arg
 statement_runs {sc} {line} (Statement.repeated passed dotted rep args) = rw (passed, dotted, rep, inners) (arguments_run line args (never_below _))
 statement_runs {sc} {line} (Statement.directive {n} {k} {ss} passed dotted dir list args count) =
     named_goes sc line n (nothing_yet line (head.Directive k n)) (ss ++ symbol.End ∷ []) _ (λ s. rw (passed, dotted, dir) (of_list k sc line n s list)) refl refl (arguments_run line args count)
-statement_runs {sc} {line} (Statement.section {n} {m} {d} ms ss passed dotted dir names flags) =
-    inners_append ms (ss ++ symbol.End ∷ []) sc (state.Named line n) (sc, naming d line n m) (names_run sc line n passed dotted dir names) ∙ named_section sc line n m d ss flags
 statement_runs {sc} {line} (Statement.skipped_directive {n} ss passed dotted dir u h) = passes sc line n ss (λ s. rw (passed, dotted, dir) refl) u h
 statement_runs {sc} {line} (Statement.skipped_label {n} sk) = rw (passed_label sc line n sk, inners) refl
 statement_runs {sc} {line} (Statement.skipped {n} ss passed u h) = passes sc line n ss (λ s. rw passed refl) u h
 statement_runs {sc} {line} (Statement.nameless {s} ss sk k h) = nameless_runs sc line s ss sk k h
 
-opening_words : (w : Word) (ws : List Word) (sc : ScopeView) (y : ScopeView × State) → opening sc w.line (symbols (w ∷ ws)) ≡ Ok y → read_words sc state.Start (w ∷ ws) ≡ Ok y
-opening_words w ws sc y h = by_step (with_scope sc (start_step sc w.line (symbol_of w.kind w.bytes))) refl h
+opening_words : (w : Word) (ws : List Word) (sc : ScopeView) (y : ScopeView × State) → y.1 ≡ state.Start → opening sc w.line (symbols (w ∷ ws)) ≡ Ok y → read_words sc state.Start (w ∷ ws) ≡ Ok y
+opening_words w ws sc y start h = by_step (with_scope sc (start_step sc w.line (symbol_of w.kind w.bytes))) refl h
   where
     by_step : (r : Answer) → with_scope sc (start_step sc w.line (symbol_of w.kind w.bytes)) ≡ r → ◌≡◌ {A = Answer} (elim r [ Ok z ↦ inners z.0 z.1 (symbols ws) | Err c ↦ Err c ]) (Ok y) → read_words sc state.Start (w ∷ ws) ≡ Ok y
-    by_step (Ok z) e h = rw (step_next sc state.Start w.line (symbol_of w.kind w.bytes) z e) (inners_words ws z.0 z.1 y h)
+    by_step (Ok z) e h = rw (word_is sc state.Start w z refl e, same_ending z.1 (w.at + length w.bytes) (start_naming ws z.0 z.1 y start h)) (inners_words ws z.0 z.1 y start h)
     by_step (Err c) e h = absurd cc
+
+-- ---- a change to a named section
+
+parts_run : (parts : List Word) (sc : ScopeView) (line : ℕ) (n m : List ℕ) (e : ℕ) → Touch e parts → (f : ℕ) × (read_words sc (state.Sectioned line n m e) parts ≡ Ok (sc, state.Sectioned line n (m ++ text_of parts) f))
+parts_run [] sc line n m e h = (e, ap (λ (x : List ℕ). Ok (sc, state.Sectioned line n x e)) (sym (append-nil m)))
+parts_run (w ∷ ws) sc line n m e (at, part, touch) =
+    let g = parts_run ws sc line n (m ++ w.bytes) (w.at + length w.bytes) touch in
+    let on : is_longer (state.Sectioned line n m e) w.at w.kind w.bytes ≡ true = rw (eq-eqb e w.at at, part) refl in
+    (g.0, rw on (g.1 ∙ ap (λ (x : List ℕ). Ok (sc, state.Sectioned line n x g.0)) (append_assoc m w.bytes (text_of ws))))
+
+-- a comma and an end don't go on with a name
+cond_not : (t : Bool) (a b c : Symbol) → (a ≡ c → ⊥) → (b ≡ c → ⊥) → cond t a b ≡ c → ⊥
+cond_not true a b c p q = p
+cond_not false a b c p q = q
+
+no_comma_mark : (m : ℕ) → (m == 44) ≡ false → mark_symbol m ≡ symbol.Comma → ⊥
+no_comma_mark m h =
+    cond_not (m == 36) _ _ symbol.Comma (λ f. absurd cc) (cond_not (m == 37) _ _ symbol.Comma (λ f. absurd cc) (cond_not (m == 40) _ _ symbol.Comma (λ f. absurd cc) (cond_not (m == 41) _ _ symbol.Comma (λ f. absurd cc)
+    (cond_not (m == 42) _ _ symbol.Comma (λ f. absurd cc) (cond_not (m == 43) _ _ symbol.Comma (λ f. absurd cc)
+    (λ f. cond_not (m == 45) symbol.Minus (cond (m == 58) symbol.Colon symbol.At) symbol.Comma (λ g. absurd cc) (cond_not (m == 58) symbol.Colon symbol.At symbol.Comma (λ g. absurd cc) (λ g. absurd cc)) (sym (behind_comma m h) ∙ f)))))))
+  where
+    behind_comma : (k : ℕ) → (k == 44) ≡ false → cond (k == 44) symbol.Comma (cond (k == 45) symbol.Minus (cond (k == 58) symbol.Colon symbol.At)) ≡ cond (k == 45) symbol.Minus (cond (k == 58) symbol.Colon symbol.At)
+    behind_comma k h = rw h refl
+
+no_end_mark : (m : ℕ) → mark_symbol m ≡ symbol.End → ⊥
+no_end_mark m =
+    cond_not (m == 36) _ _ symbol.End (λ f. absurd cc) (cond_not (m == 37) _ _ symbol.End (λ f. absurd cc) (cond_not (m == 40) _ _ symbol.End (λ f. absurd cc) (cond_not (m == 41) _ _ symbol.End (λ f. absurd cc)
+    (cond_not (m == 42) _ _ symbol.End (λ f. absurd cc) (cond_not (m == 43) _ _ symbol.End (λ f. absurd cc) (cond_not (m == 44) _ _ symbol.End (λ f. absurd cc) (cond_not (m == 45) _ _ symbol.End (λ f. absurd cc)
+    (cond_not (m == 58) symbol.Colon symbol.At symbol.End (λ f. absurd cc) (λ f. absurd cc)))))))))
+
+not_number : (n : ℕ) (s : Symbol) → (s ≡ symbol.Comma) ⊎ (s ≡ symbol.End) → number_symbol n ≡ s → ⊥
+not_number n s (inl g) e = cond_not (nat_lt n (2 ^ 32)) (symbol.Number n) symbol.Big symbol.Comma (λ f. absurd cc) (λ f. absurd cc) (e ∙ g)
+not_number n s (inr g) e = cond_not (nat_lt n (2 ^ 32)) (symbol.Number n) symbol.Big symbol.End (λ f. absurd cc) (λ f. absurd cc) (e ∙ g)
+
+comma_part : (m : ℕ) (t : Bool) → (m == 44) ≡ t → mark_symbol m ≡ symbol.Comma → not (m == 44) ≡ false
+comma_part m true f e = rw f refl
+comma_part m false f e = absurd (no_comma_mark m f e)
+
+ends_part : (k : TokenKind) (bytes : List ℕ) (s : Symbol) → (s ≡ symbol.Comma) ⊎ (s ≡ symbol.End) → symbol_of k bytes ≡ s → is_part k bytes ≡ false
+ends_part token.End bytes s c e = refl
+ends_part token.Name bytes s (inl g) e = let f : symbol.Name bytes ≡ symbol.Comma = e ∙ g in absurd cc
+ends_part token.Name bytes s (inr g) e = let f : symbol.Name bytes ≡ symbol.End = e ∙ g in absurd cc
+ends_part token.Number bytes s c e = absurd (not_number (number_value bytes) s c e)
+ends_part token.Text bytes s (inl g) e = let f : symbol_of token.Text bytes ≡ symbol.Comma = e ∙ g in absurd cc
+ends_part token.Text bytes s (inr g) e = let f : symbol_of token.Text bytes ≡ symbol.End = e ∙ g in absurd cc
+ends_part (token.Mark m) bytes s (inr g) e = absurd (no_end_mark m (e ∙ g))
+ends_part (token.Mark m) bytes s (inl g) e = comma_part m (m == 44) refl (e ∙ g)
+
+not_part : (st : State) (w : Word) → is_part w.kind w.bytes ≡ false → is_longer st w.at w.kind w.bytes ≡ false
+not_part (state.Sectioned b n m e) w h = rw h (none (e == w.at))
+  where
+    none : (t : Bool) → (t && false) ≡ false
+    none true = refl
+    none false = refl
+not_part _ w h = refl
+
+pub rest_runs : (rest : List Word) (ss : List Symbol) (sc : ScopeView) (line : ℕ) (n m : List ℕ) (e : ℕ) → symbols rest ≡ ss ++ symbol.End ∷ [] → are_flags ss ≡ true
+    → read_words sc (state.Sectioned line n m e) rest ≡ Ok (sectioned sc line n m, state.Start)
+rest_runs [] [] sc line n m e h flags = absurd cc
+rest_runs [] (s ∷ ss) sc line n m e h flags = absurd cc
+rest_runs (w ∷ ws) [] sc line n m e h flags =
+    let s : symbol_of w.kind w.bytes ≡ symbol.End = cc in
+    let none : symbols ws ≡ [] = cc in
+    let is = word_is sc (state.Sectioned line n m e) w (sectioned sc line n m, state.Start) (not_part (state.Sectioned line n m e) w (ends_part w.kind w.bytes symbol.End (inr refl) s)) (ap (sectioned_step sc line n m) s) in
+    rw is (inners_words ws (sectioned sc line n m) state.Start (sectioned sc line n m, state.Start) refl (ap (inners (sectioned sc line n m) state.Start) none))
+rest_runs (w ∷ ws) (symbol.Comma ∷ ss) sc line n m e h flags =
+    let s : symbol_of w.kind w.bytes ≡ symbol.Comma = cc in
+    let behind : symbols ws ≡ ss ++ symbol.End ∷ [] = cc in
+    let is = word_is sc (state.Sectioned line n m e) w (sc, state.Flags line n m) (not_part (state.Sectioned line n m e) w (ends_part w.kind w.bytes symbol.Comma (inl refl) s)) (ap (sectioned_step sc line n m) s) in
+    rw is (inners_words ws sc (state.Flags line n m) (sectioned sc line n m, state.Start) refl (ap (inners sc (state.Flags line n m)) behind ∙ flags_run sc line n m ss flags))
+rest_runs (w ∷ ws) (s ∷ ss) sc line n m e h flags = absurd cc
+
+pub named_section : (sc : ScopeView) (line : ℕ) (n m : List ℕ) → is_passed sc n ≡ false → is_dotted n ≡ true → directive_of n ≡ Some kind.Section → is_section m ≡ true → named_step sc line n (symbol.Name m) ≡ Ok (sc, state.Sectioned line n m 0)
+named_section sc line n m passed dotted dir is = rw (passed, dotted, dir, is) refl
+
+section_runs : (sc : ScopeView) (w v : Word) (parts rest : List Word) (n m : List ℕ) (ss : List Symbol) → symbol_of w.kind w.bytes ≡ symbol.Name n → is_passed sc n ≡ false → is_dotted n ≡ true → directive_of n ≡ Some kind.Section
+    → symbol_of v.kind v.bytes ≡ symbol.Name m → is_section m ≡ true → Touch (v.at + length v.bytes) parts → symbols rest ≡ ss ++ symbol.End ∷ [] → are_flags ss ≡ true
+    → read_words sc state.Start (w ∷ v ∷ (parts ++ rest)) ≡ Ok (sectioned sc w.line n (m ++ text_of parts), state.Start)
+section_runs sc w v parts rest n m ss wn passed dotted dir vm is touch end flags =
+    let one = word_is sc state.Start w (sc, state.Named w.line n) refl (ap (λ (s : Symbol). with_scope sc (start_step sc w.line s)) wn) in
+    let two = word_is sc (state.Named w.line n) v (sc, state.Sectioned w.line n m 0) refl (ap (named_step sc w.line n) vm ∙ named_section sc w.line n m passed dotted dir is) in
+    let p = parts_run parts sc w.line n m (v.at + length v.bytes) touch in
+    rw (one, two) (words_append parts rest sc (state.Sectioned w.line n m (v.at + length v.bytes)) _ p.1 ∙ rest_runs rest ss sc w.line n (m ++ text_of parts) p.0 end flags)
+
+piece_runs : {sc sc2 : ScopeView} {ws : List Word} → IsStatement sc ws sc2 → read_words sc state.Start ws ≡ Ok (sc2, state.Start)
+piece_runs {sc} {sc2} (IsStatement.plain w ws st) = opening_words w ws sc (sc2, state.Start) refl (statement_runs st)
+piece_runs {sc} (IsStatement.section {n} {m} w v parts rest ss wn passed dotted dir vm is touch end flags) = section_runs sc w v parts rest n m ss wn passed dotted dir vm is touch end flags
 
 -- What is stated is read.
 pub statements_run : {sc sc2 : ScopeView} {ws : List Word} → Statements sc ws sc2 → read_words sc state.Start ws ≡ Ok (sc2, state.Start)
 statements_run Statements.none = refl
-statements_run {sc} (Statements.more {sc2 = mid} w piece rest e st tail) =
-    ap (read_words sc state.Start) e ∙ (words_append (w ∷ piece) rest sc state.Start (mid, state.Start) (opening_words w piece sc (mid, state.Start) (statement_runs st)) ∙ statements_run tail)
+statements_run {sc} (Statements.more {sc2 = mid} piece rest e st tail) =
+    ap (read_words sc state.Start) e ∙ (words_append piece rest sc state.Start (mid, state.Start) (piece_runs st) ∙ statements_run tail)

@@ -3,10 +3,10 @@ use Rattle.std.specs.Prelude.{List, [], ◌∷◌, Result, Ok}
 use Rattle.asm_lex.specs.Words.{Word}
 use Rattle.asm_parse.specs.declared.state.State.{State}
 use Rattle.asm_parse.specs.ScopeView.{ScopeView}
-use Rattle.asm_parse.specs.Statement.{next_step, fault_line}
-use Rattle.asm_parse.specs.Reading.{Fault, placed, symbol_of}
+use Rattle.asm_parse.specs.Statement.{fault_line}
+use Rattle.asm_parse.specs.Reading.{Fault, placed, next_word}
 use Rattle.asm_parse.specs.Running.{◌>>=◌}
 
 abbrev pub read_words : ScopeView → State → List Word → Result (ScopeView × State) Fault
 read_words sc st [] = Ok (sc, st)
-read_words sc st (w ∷ ws) = placed (fault_line sc st w.line) (next_step sc st w.line (symbol_of w.kind w.bytes)) >>= λ y. read_words y.0 y.1 ws
+read_words sc st (w ∷ ws) = placed (fault_line sc st w.line) (next_word sc st w) >>= λ y. read_words y.0 y.1 ws

@@ -1,5 +1,6 @@
 -- A source, read from left to right.
-use Rattle.std.specs.Prelude.{◌≡◌, ℕ, ◌+◌, ◌-◌, ◌*◌, ◌^◌, ◌≤◌, ◌==◌, nat_lt, nat_le, List, [], ◌∷◌, length, take, drop, Option, Some, None, Result, Ok, Err, if◌then◌else◌}
+use Rattle.std.specs.Prelude.{◌≡◌, ℕ, ◌+◌, ◌-◌, ◌*◌, ◌^◌, ◌≤◌, ◌==◌, ◌&&◌, ◌||◌, not, Bool, true, false, nat_lt, nat_le, List, [], ◌∷◌, ◌++◌, length, take, drop, Option, Some, None, Result, Ok, Err, if◌then◌else◌}
+use Rattle.std.specs.List.{list_all}
 use Rattle.asm_lex.specs.declared.fault.SourceCause.{SourceCause}
 use Rattle.asm_lex.specs.declared.fault.SourceFault.{SourceFault}
 use Rattle.asm_lex.specs.declared.fault.SourceFault.TheVariants as fault
@@ -9,11 +10,13 @@ use Rattle.asm_lex.specs.declared.token.TokenKind.TheVariants as kind
 use Rattle.asm_parse.specs.declared.symbol.Symbol.{Symbol}
 use Rattle.asm_parse.specs.declared.symbol.Symbol.TheVariants as symbol
 use Rattle.asm_parse.specs.declared.state.State.{State}
+use Rattle.asm_parse.specs.declared.state.State.TheVariants as state
 use Rattle.asm_parse.specs.declared.stop.Stop.{Stop}
 use Rattle.asm_parse.specs.declared.stop.Stop.TheVariants as stop
 use Rattle.asm_parse.specs.ScopeView.{ScopeView}
 use Rattle.asm_parse.specs.Escapes.{string_text, opening}
 use Rattle.asm_parse.specs.Statement.{next_step, fault_line}
+use Rattle.asm_lex.specs.Words.{Word, word_of}
 
 abbrev pub digit_of : ℕ → ℕ
 digit_of b = if nat_le b 57 then b - 48 else if nat_le b 70 then b - 55 else b - 87
@@ -58,6 +61,41 @@ symbol_of kind.Text bytes = symbol.Text (string_text opening bytes)
 symbol_of (kind.Mark m) bytes = mark_symbol m
 symbol_of kind.End bytes = symbol.End
 
+-- ---- a section's name
+
+abbrev pub is_inside : ℕ → Bool
+is_inside b = not ((b == 44) || (b == 32) || (b == 9))
+
+-- A section's name goes on with each token that it touches and in which no comma and no blank is, up to the statement's end.
+abbrev pub is_part : TokenKind → List ℕ → Bool
+is_part kind.End bytes = false
+is_part (kind.Mark m) bytes = not (m == 44)
+is_part k bytes = list_all is_inside bytes
+
+abbrev pub is_longer : State → ℕ → TokenKind → List ℕ → Bool
+is_longer (state.Sectioned b n m e) at k bytes = (e == at) && is_part k bytes
+is_longer st at k bytes = false
+
+-- the name with these bytes behind it, which end at this place
+abbrev pub longer : State → ℕ → List ℕ → State
+longer (state.Sectioned b n m e) end bytes = state.Sectioned b n (m ++ bytes) end
+longer st end bytes = st
+
+-- where the name's first token ends
+abbrev pub ending_at : ℕ → State → State
+ending_at end (state.Sectioned b n m e) = state.Sectioned b n m end
+ending_at end st = st
+
+abbrev pub with_end : ℕ → Result (ScopeView × State) SourceCause → Result (ScopeView × State) SourceCause
+with_end end (Ok x) = Ok (x.0, ending_at end x.1)
+with_end end (Err c) = Err c
+
+-- the next word of a source
+abbrev pub next_word : ScopeView → State → Word → Result (ScopeView × State) SourceCause
+next_word sc st w =
+    if is_longer st w.at w.kind w.bytes then Ok (sc, longer st (w.at + length w.bytes) w.bytes)
+    else with_end (w.at + length w.bytes) (next_step sc st w.line (symbol_of w.kind w.bytes))
+
 abbrev pub Fault : Type 0
 Fault = ℕ × SourceCause
 
@@ -67,7 +105,7 @@ placed line (Err c) = Err (line, c)
 
 abbrev pub fed : ScopeView → State → List ℕ → ℕ → Option Token → Result (ScopeView × State) Fault
 fed sc st seen line None = Ok (sc, st)
-fed sc st seen line (Some t) = placed (fault_line sc st line) (next_step sc st line (symbol_of t.kind (take t.len (drop t.at seen))))
+fed sc st seen line (Some t) = placed (fault_line sc st line) (next_word sc st (word_of seen line t))
 
 abbrev pub at_line : ℕ → Result State Stop → Result State SourceFault
 at_line line (Ok st) = Ok st

@@ -20,7 +20,7 @@ use Rattle.asm_lex.specs.Words.{Word}
 use Rattle.asm_lex.specs.Source.{LexedSource}
 use Rattle.asm_parse.specs.Statements.{Statements}
 use Rattle.asm_parse.specs.Reading.{Fault, fed}
-use Rattle.asm_parse.specs.Statement.{stopped, left_open, doom}
+use Rattle.asm_parse.specs.Statement.{stopped, left_open}
 
 -- what has been read: the statements' side, the tokens' side, the bytes, their number and the line
 pub record Running : Type 0 where
@@ -125,9 +125,9 @@ ReadsAs items (Ok x) = x ≡ items
 ReadsAs items (Err fault.Memory) = Unit {0}
 ReadsAs items (Err (fault.At l c)) = ⊥
 
--- The text goes on behind these lines: nothing has failed, and where no comment is open they have a reading.
+-- some text that begins with these lines has a reading
 abbrev pub GoesOn : List ℕ → ℕ → Type 0
-GoesOn text n = (s : Running) × (run start (first_lines n text) ≡ Ok s) × (doom s.scope s.state ≡ None) × (s.mode ≡ mode.Between → HasReading (first_lines n text))
+GoesOn text n = (more : List ℕ) × HasReading (first_lines n text ++ more)
 
 abbrev pub AliveBefore : List ℕ → Result (List SourceItem) SourceFault → Type 0
 AliveBefore text (Ok x) = Unit {0}

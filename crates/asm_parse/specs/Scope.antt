@@ -1,5 +1,5 @@
 -- What the statements before say, and how it grows.
-use Rattle.std.specs.Prelude.{ℕ, Bool, false, ◌||◌, nat_lt, List, [], ◌∷◌, ◌++◌, length, if◌then◌else◌}
+use Rattle.std.specs.Prelude.{ℕ, Bool, false, ◌||◌, not, nat_lt, List, [], ◌∷◌, ◌++◌, length, if◌then◌else◌}
 use Rattle.std.specs.List.{list_any}
 use Rattle.std.specs.Str.{bytes_eq}
 use Rattle.asm_parse.specs.declared.tree.SourceItem.{SourceItem}
@@ -18,6 +18,10 @@ fresh = record { items = []; names = []; defined = []; skipping = false }
 -- at most 65,536 different names
 abbrev pub has_room : ScopeView → List ℕ → Bool
 has_room s name = holds s.names name || nat_lt (length s.names) 65536
+
+-- all 65,536 names are defined
+abbrev pub is_spent : ScopeView → Bool
+is_spent s = not (nat_lt (length s.defined) 65536)
 
 abbrev pub pushed : ScopeView → SourceItem → ScopeView
 pushed s item = record s { items = s.items ++ item ∷ [] }

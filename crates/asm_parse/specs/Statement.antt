@@ -25,7 +25,7 @@ use Rattle.asm_parse.specs.declared.state.State.TheVariants as state
 use Rattle.asm_parse.specs.declared.stop.Stop.{Stop}
 use Rattle.asm_parse.specs.declared.stop.Stop.TheVariants as stop
 use Rattle.asm_parse.specs.ScopeView.{ScopeView}
-use Rattle.asm_parse.specs.Scope.{holds, has_room, fresh, pushed, noted, defined_too}
+use Rattle.asm_parse.specs.Scope.{holds, has_room, is_spent, fresh, pushed, noted, defined_too}
 use Rattle.asm_parse.specs.Operand.{operand_step, begun, finished, is_finished, is_nothing, is_unbegun, awaits_register, is_register, name_in}
 
 abbrev pub begins : List ℕ → List ℕ → Bool
@@ -272,7 +272,7 @@ abbrev pub is_section : List ℕ → Bool
 is_section m = is_known m || is_unread m
 
 abbrev pub section_name : ℕ → List ℕ → Symbol → Result State SourceCause
-section_name line n (symbol.Name m) = if is_section m then Ok (state.Sectioned line n m) else Err cause.BadArgument
+section_name line n (symbol.Name m) = if is_section m then Ok (state.Sectioned line n m 0) else Err cause.BadArgument
 section_name line n s = Err (misplaced s)
 
 abbrev pub of_directive : Option Directive → ScopeView → ℕ → List ℕ → Symbol → Result (ScopeView × State) SourceCause
@@ -320,14 +320,8 @@ named_step sc begun n s = other_behind sc begun n s
 abbrev pub sectioned_step : ScopeView → ℕ → List ℕ → List ℕ → Symbol → Result (ScopeView × State) SourceCause
 sectioned_step sc begun n m symbol.End = section sc begun n m
 sectioned_step sc begun n m symbol.Comma = Ok (sc, state.Flags begun n m)
-sectioned_step sc begun n m symbol.Minus = Ok (sc, state.Joining begun n (m ++ 45 ∷ []))
 sectioned_step sc begun n m symbol.Big = Err cause.BadNumber
 sectioned_step sc begun n m _ = Err cause.BadOperand
-
--- a symbol behind a section's name that ends with a `-`
-abbrev pub joining_step : ScopeView → ℕ → List ℕ → List ℕ → Symbol → Result (ScopeView × State) SourceCause
-joining_step sc begun n m (symbol.Name k) = Ok (sc, state.Sectioned begun n (m ++ k))
-joining_step sc begun n m s = sectioned_step sc begun n m s
 
 -- a symbol behind a section's name and a comma
 abbrev pub flags_step : ScopeView → ℕ → List ℕ → List ℕ → Symbol → Result (ScopeView × State) SourceCause
@@ -344,11 +338,47 @@ abbrev pub step : ScopeView → State → ℕ → Symbol → Result (ScopeView �
 step sc state.Start line s = with_scope sc (start_step sc line s)
 step sc (state.Named begun n) line s = named_step sc begun n s
 step sc state.Skip line s = Ok (sc, skip s)
-step sc (state.Sectioned begun n m) line s = sectioned_step sc begun n m s
-step sc (state.Joining begun n m) line s = joining_step sc begun n m s
+step sc (state.Sectioned begun n m e) line s = sectioned_step sc begun n m s
 step sc (state.Flags begun n m) line s = flags_step sc begun n m s
 step sc (state.Arguments o) line s = argument_step sc o s
 step sc (state.Stray l c) line s = Err (stray_cause c s)
+
+-- ---- what is dead already
+
+-- a name that may begin no directive, and that only a colon can make a label
+abbrev pub is_unknown : ScopeView → List ℕ → Bool
+is_unknown sc n = is_dotted n && not sc.skipping && is_none (directive_of n)
+
+-- a label may not have this name
+abbrev pub is_taken : ScopeView → List ℕ → Bool
+is_taken sc n = holds sc.defined n || not (has_room sc n)
+
+abbrev pub is_defining : Option Directive → Bool
+is_defining (Some directive.Common) = true
+is_defining (Some directive.Local) = true
+is_defining _ = false
+
+-- a directive that defines a name, where none is left to define
+abbrev pub lacks_names : ScopeView → List ℕ → Bool
+lacks_names sc n = is_dotted n && not sc.skipping && is_defining (directive_of n) && is_spent sc
+
+abbrev pub if_doomed : Bool → ℕ → Option ℕ
+if_doomed true line = Some line
+if_doomed false line = None
+
+-- the line of a token with which no text goes on, where one has been read
+abbrev pub doom : ScopeView → State → Option ℕ
+doom sc (state.Stray l c) = Some l
+doom sc (state.Named b n) = if_doomed ((is_unknown sc n && is_taken sc n) || lacks_names sc n) b
+doom sc _ = None
+
+abbrev pub or_line : Option ℕ → ℕ → ℕ
+or_line None line = line
+or_line (Some l) line = l
+
+-- the line of a fault in this line
+abbrev pub fault_line : ScopeView → State → ℕ → ℕ
+fault_line sc st line = or_line (doom sc st) line
 
 -- whether a fault at a `%` is that it stands there
 abbrev pub is_place : SourceCause → Bool
@@ -366,36 +396,8 @@ strayed line (Err c) = stray line c
 
 -- the next symbol, where a `%` may be one that may not stand there
 abbrev pub next_step : ScopeView → State → ℕ → Symbol → Result (ScopeView × State) SourceCause
-next_step sc st line symbol.Percent = strayed line (step sc st line symbol.Percent)
+next_step sc st line symbol.Percent = strayed (fault_line sc st line) (step sc st line symbol.Percent)
 next_step sc st line s = step sc st line s
-
--- ---- what is dead already
-
--- a name that may begin no directive, and that only a colon can make a label
-abbrev pub is_unknown : ScopeView → List ℕ → Bool
-is_unknown sc n = is_dotted n && not sc.skipping && is_none (directive_of n)
-
--- a label may not have this name
-abbrev pub is_taken : ScopeView → List ℕ → Bool
-is_taken sc n = holds sc.defined n || not (has_room sc n)
-
-abbrev pub if_doomed : Bool → ℕ → Option ℕ
-if_doomed true line = Some line
-if_doomed false line = None
-
--- the line of a token with which no text goes on, where one has been read
-abbrev pub doom : ScopeView → State → Option ℕ
-doom sc (state.Stray l c) = Some l
-doom sc (state.Named b n) = if_doomed (is_unknown sc n && is_taken sc n) b
-doom sc _ = None
-
-abbrev pub or_line : Option ℕ → ℕ → ℕ
-or_line None line = line
-or_line (Some l) line = l
-
--- the line of a fault in this line
-abbrev pub fault_line : ScopeView → State → ℕ → ℕ
-fault_line sc st line = or_line (doom sc st) line
 
 abbrev pub if_pending : Bool → SourceCause → Option SourceCause
 if_pending true c = Some c
@@ -404,7 +406,7 @@ if_pending false c = None
 -- the cause at a token that has been read, where nothing that is a token follows
 abbrev pub pending : ScopeView → State → Option SourceCause
 pending sc (state.Stray l c) = Some cause.BadRegister
-pending sc (state.Named b n) = if_pending (is_unknown sc n) cause.UnknownDirective
+pending sc (state.Named b n) = if is_unknown sc n then Some cause.UnknownDirective else if_pending (lacks_names sc n) cause.TooManySymbols
 pending sc (state.Arguments o) = if_pending (awaits_register o.so_far) cause.BadRegister
 pending sc _ = None
 

@@ -1,5 +1,5 @@
 -- What a source may say, by cases, and what each statement adds.
-use Rattle.std.specs.Prelude.{◌≡◌, ℕ, nat_lt, Bool, true, false, List, [], ◌∷◌, ◌++◌, length, Option, Some, None}
+use Rattle.std.specs.Prelude.{◌≡◌, ℕ, ◌+◌, nat_lt, Bool, true, false, List, [], ◌∷◌, ◌++◌, length, Option, Some, None}
 use Rattle.std.specs.List.{list_all}
 use Rattle.asm_lex.specs.Words.{Word}
 use Rattle.asm_parse.specs.declared.symbol.Symbol.{Symbol}
@@ -18,7 +18,7 @@ use Rattle.asm_parse.specs.ScopeView.{ScopeView}
 use Rattle.asm_parse.specs.Scope.{holds, has_room, pushed, noted, defined_too}
 use Rattle.asm_parse.specs.Operand.{is_operand}
 use Rattle.asm_parse.specs.Grammar.{IsForm}
-use Rattle.asm_parse.specs.Reading.{symbol_of}
+use Rattle.asm_parse.specs.Reading.{symbol_of, is_part}
 use Rattle.asm_parse.specs.Statement.{shape_at, least, defines, item_of, resumed, sectioned, is_dotted, is_rep, is_section, is_passed, directive_of}
 
 -- ---- names
@@ -92,19 +92,13 @@ are_flags [] = true
 are_flags (symbol.Comma ∷ ss) = list_all is_inner ss
 are_flags (s ∷ ss) = false
 
--- These symbols are the name of a section, and whether it ends with a `-`: a name, which `-` and names may follow.
-pub data IsSectionName : Bool → List Symbol → List ℕ → Type 0 where
-  name : {m : List ℕ} → is_section m ≡ true → IsSectionName false (symbol.Name m ∷ []) m
-  dash : {d : Bool} {ss : List Symbol} {m : List ℕ} → IsSectionName d ss m → IsSectionName true (ss ++ symbol.Minus ∷ []) (m ++ 45 ∷ [])
-  joined : {ss : List Symbol} {m : List ℕ} (k : List ℕ) → IsSectionName true ss m → IsSectionName false (ss ++ symbol.Name k ∷ []) (m ++ k)
-
 -- the directives whose arguments are read
 abbrev pub has_list : Directive → Bool
 has_list kind.Section = false
 has_list kind.Skipped = false
 has_list _ = true
 
--- A label, or a directive or an instruction with its end, that begins in this line.
+-- A label, or a directive or an instruction with its end, that begins in this line; but for a change to a named section.
 pub data Statement : ScopeView → ℕ → List Symbol → ScopeView → Type 0 where
   empty : {sc : ScopeView} {line : ℕ} → Statement sc line (symbol.End ∷ []) sc
   label : {sc sc2 : ScopeView} {line : ℕ} {n : List ℕ} → sc.skipping ≡ false → IsSeen sc true n sc2
@@ -116,8 +110,6 @@ pub data Statement : ScopeView → ℕ → List Symbol → ScopeView → Type 0 
   directive : {sc sc2 : ScopeView} {line : ℕ} {n : List ℕ} {k : Directive} {ss : List Symbol} {args : List Argument} → is_passed sc n ≡ false → is_dotted n ≡ true → directive_of n ≡ Some k → has_list k ≡ true
       → HasArguments (head.Directive k n) sc ss args sc2 → nat_lt (length args) (least (head.Directive k n)) ≡ false
       → Statement sc line (symbol.Name n ∷ (ss ++ symbol.End ∷ [])) (resumed (pushed sc2 (item_of line (head.Directive k n) args)) (head.Directive k n))
-  section : {sc : ScopeView} {line : ℕ} {n m : List ℕ} {d : Bool} (ms ss : List Symbol) → is_passed sc n ≡ false → is_dotted n ≡ true → directive_of n ≡ Some kind.Section → IsSectionName d ms m
-      → are_flags ss ≡ true → Statement sc line (symbol.Name n ∷ (ms ++ (ss ++ symbol.End ∷ []))) (sectioned sc line n m)
   skipped_directive : {sc : ScopeView} {line : ℕ} {n : List ℕ} (ss : List Symbol) → is_passed sc n ≡ false → is_dotted n ≡ true → directive_of n ≡ Some kind.Skipped → is_unlabelled ss ≡ true → list_all is_inner ss ≡ true
       → Statement sc line (symbol.Name n ∷ (ss ++ symbol.End ∷ [])) sc
   -- in a section that isn't read
@@ -132,8 +124,25 @@ abbrev pub symbols : List Word → List Symbol
 symbols [] = []
 symbols (w ∷ ws) = symbol_of w.kind w.bytes ∷ symbols ws
 
+-- the bytes of words
+abbrev pub text_of : List Word → List ℕ
+text_of [] = []
+text_of (w ∷ ws) = w.bytes ++ text_of ws
+
+-- These words go on with a section's name from this place on: between them stands nothing.
+abbrev pub Touch : ℕ → List Word → Type 0
+Touch at [] = Unit {0}
+Touch at (w ∷ ws) = (at ≡ w.at) × (is_part w.kind w.bytes ≡ true) × Touch (w.at + length w.bytes) ws
+
+-- These words are one statement. The name of a section is what stands up to a comma, a blank or the statement's end.
+pub data IsStatement : ScopeView → List Word → ScopeView → Type 0 where
+  plain : {sc sc2 : ScopeView} (w : Word) (ws : List Word) → Statement sc w.line (symbols (w ∷ ws)) sc2 → IsStatement sc (w ∷ ws) sc2
+  section : {sc : ScopeView} {n m : List ℕ} (w v : Word) (parts rest : List Word) (ss : List Symbol) → symbol_of w.kind w.bytes ≡ symbol.Name n → is_passed sc n ≡ false → is_dotted n ≡ true → directive_of n ≡ Some kind.Section
+      → symbol_of v.kind v.bytes ≡ symbol.Name m → is_section m ≡ true → Touch (v.at + length v.bytes) parts → symbols rest ≡ ss ++ symbol.End ∷ [] → are_flags ss ≡ true
+      → IsStatement sc (w ∷ v ∷ (parts ++ rest)) (sectioned sc w.line n (m ++ text_of parts))
+
 -- These words are statements, which lead from what was said before to what is said then.
 pub data Statements : ScopeView → List Word → ScopeView → Type 0 where
   none : {sc : ScopeView} → Statements sc [] sc
-  more : {sc sc2 sc3 : ScopeView} {ws : List Word} (w : Word) (piece rest : List Word) → ws ≡ w ∷ (piece ++ rest) → Statement sc w.line (symbols (w ∷ piece)) sc2 → Statements sc2 rest sc3
+  more : {sc sc2 sc3 : ScopeView} {ws : List Word} (piece rest : List Word) → ws ≡ piece ++ rest → IsStatement sc piece sc2 → Statements sc2 rest sc3
       → Statements sc ws sc3

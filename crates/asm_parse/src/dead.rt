@@ -4,7 +4,7 @@ ghost use Rattle.std.specs.Prelude.{◌≡◌};
 ghost use Rattle.std.specs.Option.{option_copied};
 ghost use Rattle.asm_parse.specs.Statement as spec;
 
-use crate::directive::{directive_named, is_dotted};
+use crate::directive::{directive_named, is_defining, is_dotted};
 use crate::operand::awaits_register;
 use crate::scope::Scope;
 use crate::state::State;
@@ -48,11 +48,14 @@ pub fn next_step(
     ensures { spec.Does scope.new result (spec.next_step scope.old state line symbol) }
 {
     match symbol {
-        Symbol::Percent => match step(alloc, scope, state, line, Symbol::Percent) {
-            Err(Stop::Cause(cause)) => stray(alloc, scope, line, cause),
-            Err(Stop::Memory) => Err(Stop::Memory),
-            Ok(state) => Ok(state),
-        },
+        Symbol::Percent => {
+            let at = fault_line(scope, &state, line);
+            match step(alloc, scope, state, line, Symbol::Percent) {
+                Err(Stop::Cause(cause)) => stray(alloc, scope, at, cause),
+                Err(Stop::Memory) => Err(Stop::Memory),
+                Ok(state) => Ok(state),
+            }
+        }
         other => step(alloc, scope, state, line, other),
     }
 }
@@ -71,6 +74,16 @@ fn is_taken(scope: &Scope, name: &Name) -> bool
     scope.is_defined(name) || !scope.has_room(name)
 }
 
+/// Whether the name begins a directive that defines a name, and none is left to define.
+fn lacks_names(scope: &Scope, name: &Name) -> bool
+    ensures { result ≡ spec.lacks_names scope.now name.now }
+{
+    is_dotted(name)
+        && !scope.is_skipping()
+        && is_defining(directive_named(name))
+        && scope.is_spent()
+}
+
 /// The line of a token with which no text goes on, where one has been read.
 fn doom(scope: &Scope, state: &State) -> Option<u32>
     ensures { result ≡ spec.doom scope.now state.now }
@@ -78,7 +91,7 @@ fn doom(scope: &Scope, state: &State) -> Option<u32>
     match state {
         State::Stray(line, _) => Some(*line),
         State::Named(begun, name) => {
-            if is_unknown(scope, name) && is_taken(scope, name) {
+            if (is_unknown(scope, name) && is_taken(scope, name)) || lacks_names(scope, name) {
                 Some(*begun)
             } else {
                 None
@@ -107,6 +120,8 @@ fn pending(scope: &Scope, state: &State) -> Option<SourceCause>
         State::Named(_, name) => {
             if is_unknown(scope, name) {
                 Some(SourceCause::UnknownDirective)
+            } else if lacks_names(scope, name) {
+                Some(SourceCause::TooManySymbols)
             } else {
                 None
             }

@@ -246,6 +246,16 @@ fn is_change(directive: Option<Directive>) -> bool
     }
 }
 
+/// Whether the directive defines a name.
+pub fn is_defining(directive: Option<Directive>) -> bool
+    ensures { result ≡ spec.is_defining directive }
+{
+    match directive {
+        Some(Directive::Common) | Some(Directive::Local) => true,
+        _ => false,
+    }
+}
+
 pub fn changes_section(name: &Name) -> bool
     ensures { result ≡ spec.changes_section name.now }
 {

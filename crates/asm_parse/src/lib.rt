@@ -29,4 +29,6 @@ pub use symbol::Symbol;
 pub use tree::{Argument, Arguments, Body, Form, Name, Source, SourceItem, Value};
 
 #[cfg(test)]
+mod item_tests;
+#[cfg(test)]
 mod tests;

@@ -4,6 +4,7 @@ ghost use Rattle.std.specs.Prelude.{◌≡◌, ◌≤◌, ◌<◌, ◌++◌, ◌
 ghost use Rattle.std.specs.Prelude.{length, List, IfOk};
 ghost use Rattle.asm_parse.specs.declared.tree.SourceItem.{SourceItem};
 ghost use Rattle.asm_parse.specs.Running.{SourceAs};
+ghost use Rattle.asm_parse.specs.Readable.{IsReadable};
 ghost use Rattle.asm_parse.specs.Size.{items_size, items_count};
 ghost use Rattle.asm_lex.specs.declared.fault.SourceCause.TheVariants.{OpenComment, TooLong};
 ghost use Rattle.asm_lex.specs.declared.fault.SourceFault.TheVariants.{At};
@@ -56,7 +57,7 @@ fn parsed(alloc: Global, text: &[u8]) -> Result<Source, SourceFault>
 }
 
 /// The items of the source.
-#[tactic(auto, using(crate::proofs::Sources::refused_line, crate::proofs::Sources::parsed_is, crate::proofs::Sources::are_parsed, crate::proofs::Sources::none_parsed, crate::proofs::Sources::refused_alive, crate::proofs::Sizes::parsed_size, crate::proofs::Sizes::parsed_count))]
+#[tactic(auto, using(crate::proofs::Sources::refused_line, crate::proofs::Sources::parsed_is, crate::proofs::Sources::are_parsed, crate::proofs::Sources::none_parsed, crate::proofs::Sources::refused_alive, crate::proofs::Sizes::parsed_size, crate::proofs::Sizes::parsed_count, crate::proofs::Readability::parsed_readable))]
 pub fn parse(alloc: Global, text: &[u8]) -> Result<Source, SourceFault>
     ensures long { LIMIT < length text.now → result ≡ Err (At 1 TooLong) }
 
@@ -66,6 +67,9 @@ pub fn parse(alloc: Global, text: &[u8]) -> Result<Source, SourceFault>
     // All names and strings of the items together are no longer than the text, and items and arguments no more than its bytes.
     ensures size { IfOk result (λ s. items_size s ≤ length text.now) }
     ensures count { IfOk result (λ s. items_count s ≤ length text.now) }
+
+    // So they fit into an object: they name at most 65,536 symbols, none with a zero byte.
+    ensures readable { IfOk result IsReadable }
 
     // A source is read, unless memory runs out.
     ensures only { (items : List SourceItem) → SourceAs text.now items → run.ReadsAs items result }

@@ -1,6 +1,7 @@
 //! A source, read from left to right.
 
 ghost use Rattle.std.specs.Prelude.{◌≡◌, ◌≤◌, ◌<◌, ◌+◌, ◌^◌, ◌∷◌, ◌++◌, [], length, take, IfOk, Some, None, if◌then◌else◌, nat_lt};
+ghost use Rattle.std.specs.List.{list_all};
 ghost use Rattle.asm_lex.specs.Machine.{start_of};
 ghost use Rattle.asm_lex.specs.declared.machine.Next.TheVariants.{Goes};
 ghost use Rattle.asm_lex.specs.Words as words;
@@ -149,6 +150,86 @@ fn feed_symbol(
     at_line(at, next_step(alloc, scope, state, line, symbol))
 }
 
+/// Whether no comma and no blank is in the token's bytes, and it ends no statement.
+fn is_part(kind: TokenKind, bytes: &[u8]) -> bool
+    ensures { result ≡ spec.is_part kind bytes.now }
+{
+    match kind {
+        TokenKind::End => false,
+        TokenKind::Mark(m) => m != b',',
+        TokenKind::Name | TokenKind::Number | TokenKind::Text => are_inside(bytes),
+    }
+}
+
+fn are_inside(bytes: &[u8]) -> bool
+    ensures { result ≡ list_all spec.is_inside bytes.now }
+{
+    bytes
+        .iter()
+        .all(|b| !(*b == b',' || *b == b' ' || *b == b'\t'))
+}
+
+/// Whether the token at this place goes on with a section's name.
+fn is_longer(state: &State, at: usize, kind: TokenKind, bytes: &[u8]) -> bool
+    ensures { result ≡ spec.is_longer state.now at kind bytes.now }
+{
+    match state {
+        State::Sectioned(_, _, _, end) => *end == at && is_part(kind, bytes),
+        _ => false,
+    }
+}
+
+/// A section's name with the token's bytes, which end at this place.
+fn longer(state: State, end: usize, bytes: &[u8]) -> Result<State, AllocError>
+    ensures { IfOk result (λ st. st ≡ spec.longer state end bytes.now) }
+{
+    match state {
+        State::Sectioned(line, name, section, _) => {
+            let mut section = section.bytes;
+            section.extend_from_slice(bytes)?;
+            Ok(State::Sectioned(line, name, Name { bytes: section }, end))
+        }
+        other => Ok(other),
+    }
+}
+
+/// The place behind the first token of a section's name.
+fn ending_at(end: usize, state: State) -> State
+    ensures { result ≡ spec.ending_at end state }
+{
+    match state {
+        State::Sectioned(line, name, section, _) => State::Sectioned(line, name, section, end),
+        other => other,
+    }
+}
+
+/// A word: a token with its place and its bytes.
+fn feed_word(
+    alloc: Global,
+    scope: &mut Scope,
+    state: State,
+    at: usize,
+    line: u32,
+    kind: TokenKind,
+    bytes: &[u8],
+) -> Result<State, SourceFault>
+    requires { at + length bytes.now < 2 ^ 63 }
+    ensures { spec.Feeds scope.new result (spec.placed (fault_line scope.old state line) (spec.next_word scope.old state (record { kind = kind; at = at; line = line; bytes = bytes.now }))) }
+{
+    let end = at + bytes.len();
+    if is_longer(&state, at, kind, bytes) {
+        return match longer(state, end, bytes) {
+            Err(_) => Err(SourceFault::Memory),
+            Ok(state) => Ok(state),
+        };
+    }
+    let symbol = symbol_of(alloc, kind, bytes)?;
+    match feed_symbol(alloc, scope, state, line, symbol) {
+        Err(fault) => Err(fault),
+        Ok(state) => Ok(ending_at(end, state)),
+    }
+}
+
 /// A token.
 fn feed_token(
     alloc: Global,
@@ -164,8 +245,7 @@ fn feed_token(
     let from = token.at as usize;
     let len = token.len as usize;
     let bytes = &seen[from..from + len];
-    let symbol = symbol_of(alloc, token.kind, bytes)?;
-    feed_symbol(alloc, scope, state, line, symbol)
+    feed_word(alloc, scope, state, from, line, token.kind, bytes)
 }
 
 /// A token that may be there.

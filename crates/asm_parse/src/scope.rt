@@ -56,6 +56,13 @@ impl Scope {
         self.names.holds(&name.bytes) || self.names.len() < 65536
     }
 
+    /// Whether all 65,536 names are defined.
+    pub fn is_spent(&self) -> bool
+        ensures { result ≡ spec.is_spent self.now }
+    {
+        self.defined.len() >= 65536
+    }
+
     pub fn set_skipping(&mut self, skipping: bool)
         ensures { self.new ≡ record self.old { skipping = skipping } }
     {

@@ -23,10 +23,8 @@ pub enum State {
     Named(u32, Name),
     /// The rest of the statement isn't read.
     Skip,
-    /// A change to a named section.
-    Sectioned(u32, Name, Name),
-    /// The same, where the section's name ends with a `-`.
-    Joining(u32, Name, Name),
+    /// A change to a named section: the directive, the section's name so far, and the place behind it.
+    Sectioned(u32, Name, Name, usize),
     /// The same, behind a comma.
     Flags(u32, Name, Name),
     Arguments(Open),

@@ -1,6 +1,6 @@
 //! One statement, symbol by symbol.
 
-ghost use Rattle.std.specs.Prelude.{◌≡◌, ◌++◌, ◌∷◌, [], IfOk};
+ghost use Rattle.std.specs.Prelude.{◌≡◌};
 ghost use Rattle.asm_parse.specs.Statement as spec;
 
 use crate::argument::{argument_step, misplaced, nothing_yet, noting};
@@ -15,7 +15,7 @@ use crate::stop::Stop;
 use crate::symbol::Symbol;
 use crate::tree::{Argument, Arguments, Body, Form, Name, SourceItem};
 use asm_lex::SourceCause;
-use std::alloc::{AllocError, Global};
+use std::alloc::Global;
 
 /// The rest of a statement that isn't read.
 fn skip(symbol: Symbol) -> State
@@ -83,7 +83,7 @@ fn section_name(line: u32, name: Name, symbol: Symbol) -> Result<State, Stop>
     match symbol {
         Symbol::Name(section) => {
             if is_section(&section) {
-                Ok(State::Sectioned(line, name, section))
+                Ok(State::Sectioned(line, name, section, 0))
             } else {
                 Err(Stop::Cause(SourceCause::BadArgument))
             }
@@ -206,24 +206,6 @@ fn named_step(
     }
 }
 
-/// A section's name with a `-` at its end.
-fn with_dash(name: Name) -> Result<Name, AllocError>
-    ensures { IfOk result (λ m. m ≡ name ++ 45 ∷ []) }
-{
-    let mut bytes = name.bytes;
-    bytes.push(b'-')?;
-    Ok(Name { bytes })
-}
-
-/// A section's name with another name at its end.
-fn joined(name: Name, end: Name) -> Result<Name, AllocError>
-    ensures { IfOk result (λ m. m ≡ name ++ end) }
-{
-    let mut bytes = name.bytes;
-    bytes.extend_from_slice(&end.bytes)?;
-    Ok(Name { bytes })
-}
-
 /// A symbol behind a section's name.
 fn sectioned_step(
     alloc: Global,
@@ -238,26 +220,8 @@ fn sectioned_step(
     match symbol {
         Symbol::End => section(alloc, scope, begun, name, named),
         Symbol::Comma => Ok(State::Flags(begun, name, named)),
-        Symbol::Minus => Ok(State::Joining(begun, name, with_dash(named)?)),
         Symbol::Big => Err(Stop::Cause(SourceCause::BadNumber)),
         _ => Err(Stop::Cause(SourceCause::BadOperand)),
-    }
-}
-
-/// A symbol behind a section's name that ends with a `-`.
-fn joining_step(
-    alloc: Global,
-    scope: &mut Scope,
-    begun: u32,
-    name: Name,
-    named: Name,
-    symbol: Symbol,
-) -> Result<State, Stop>
-    ensures { spec.Does scope.new result (spec.joining_step scope.old begun name named symbol) }
-{
-    match symbol {
-        Symbol::Name(end) => Ok(State::Sectioned(begun, name, joined(named, end)?)),
-        other => sectioned_step(alloc, scope, begun, name, named, other),
     }
 }
 
@@ -308,13 +272,10 @@ pub fn step(
         State::Start => start_step(scope, line, symbol),
         State::Named(begun, name) => named_step(alloc, scope, begun, name, symbol),
         State::Skip => Ok(skip(symbol)),
-        State::Sectioned(begun, name, named) => {
+        State::Sectioned(begun, name, named, _) => {
             sectioned_step(alloc, scope, begun, name, named, symbol)
         }
         State::Flags(begun, name, named) => flags_step(alloc, scope, begun, name, named, symbol),
-        State::Joining(begun, name, named) => {
-            joining_step(alloc, scope, begun, name, named, symbol)
-        }
         State::Stray(_, cause) => Err(Stop::Cause(stray_cause(cause, &symbol))),
         State::Arguments(begun) => argument_step(alloc, scope, begun, symbol),
     }

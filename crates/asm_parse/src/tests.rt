@@ -19,40 +19,6 @@ fn items(rt: &HostRuntime, text: &[u8]) -> Option<usize> {
     }
 }
 
-const FROM_GCC: &str = "\t.file \"k.c\"
-\t.text
-\t.p2align 4
-\t.globl _start
-\t.type _start, @function
-_start:
-.LFB0:
-\t.cfi_startproc
-\tmovl $1, %eax
-\tjmp *.L4(,%eax,4)
-\t.section .rodata
-\t.align 4
-.L4:
-\t.long .L2
-\t.long .L3
-\t.text
-\t.p2align 4,,10
-\t.p2align 3
-.L3:
-\tmovl $33, %eax
-\toutb %al, $128
-.L2:
-\thlt
-\t.cfi_endproc
-\t.size _start, .-_start
-\t.ident \"GCC: (GNU) 12.2.0\"
-\t.section .note.GNU-stack,\"\",@progbits
-";
-
-#[test]
-fn output_of_gcc_is_read(rt: HostRuntime) {
-    assert_eq!(rt; items(&rt, FROM_GCC.as_bytes()), Some(21));
-}
-
 #[test]
 fn each_directive_is_read(rt: HostRuntime) {
     let rows: [(&str, usize); 22] = [
@@ -92,7 +58,7 @@ fn each_directive_is_read(rt: HostRuntime) {
 
 #[test]
 fn faults_have_their_lines_and_causes(rt: HostRuntime) {
-    let rows: [(&str, u32, u8); 50] = [
+    let rows: [(&str, u32, u8); 55] = [
         ("nop\n\u{1}", 2, 1),
         ("nop \u{e9}", 1, 1),
         ("nop\n !", 2, 2),
@@ -120,6 +86,11 @@ fn faults_have_their_lines_and_causes(rt: HostRuntime) {
         (".globl a+1", 1, 8),
         ("rep; movsl", 1, 8),
         (".section .data foo", 1, 8),
+        (".section .note.GNU -stack", 1, 8),
+        (".section .note.GNU- stack", 1, 8),
+        (".section .note.GNU/**/-stack", 1, 8),
+        (".section .text\"a b\"", 1, 8),
+        (".section .text 99999999999", 1, 6),
         ("push 4(,%eax,3)", 1, 9),
         ("\n\n.foo 1", 3, 10),
         (".foo /*\n*/ x", 2, 10),
@@ -184,6 +155,28 @@ fn symbols_are_limited(rt: HostRuntime) {
     assert_eq!(rt; items(&rt, &text), Some(65536));
     let text = labels(rt.alloc(), 65537).expect(&rt, "memory");
     assert_eq!(rt; fault(&rt, &text), Some((65537, 14)));
+}
+
+/// A source in whose first 65,536 lines as many names are defined.
+fn behind_all(alloc: Global, end: &str) -> Result<Vec<u8>, AllocError> {
+    let mut text = labels(alloc, 65536)?;
+    for b in end.as_bytes() {
+        text.push(*b)?;
+    }
+    Ok(text)
+}
+
+#[test]
+fn no_name_is_left(rt: HostRuntime) {
+    let rows: [(&str, u32, u8); 3] = [
+        (".comm /*\n*/ y,4", 65537, 14),
+        (".lcomm /*\n*/ %zz", 65537, 7),
+        (".globl /*\n*/ y", 65538, 14),
+    ];
+    for (end, line, cause) in rows.iter() {
+        let text = behind_all(rt.alloc(), end).expect(&rt, "memory");
+        assert_eq!(rt; fault(&rt, &text), Some((*line, *cause)));
+    }
 }
 
 /// The number, the base and the scale of the first argument.
@@ -251,10 +244,16 @@ fn text(rt: &HostRuntime, source: &[u8]) -> Option<Vec<u8>> {
 
 #[test]
 fn strings_and_sections_have_their_bytes(rt: HostRuntime) {
-    let rows: [(&str, &str); 3] = [
+    let rows: [(&str, &str); 9] = [
         (".ascii \"a\\n\\\"b\\101\\11c\\7\"", "a\n\"bA\tc\u{7}"),
         (".string \"\\t\\r\\b\\f\\\\\\'\"", "\t\r\u{8}\u{c}\\'"),
         (".section .note.GNU-stack,\"\",@progbits", ".note.GNU-stack"),
+        (".section .text-1", ".text-1"),
+        (".section .text.a--2 , 5", ".text.a--2"),
+        (".section .data.a+b:c(\n", ".data.a+b:c("),
+        (".section .bss-99999999999;nop", ".bss-99999999999"),
+        (".section .rodata\"a\"'b$%# c", ".rodata\"a\"'b$%"),
+        (".section .debug/**/,-", ".debug"),
     ];
     for (source, bytes) in rows.iter() {
         assert!(rt;

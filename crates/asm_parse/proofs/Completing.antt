@@ -1,0 +1,449 @@
+-- What has been read of a statement can go on to its end.
+use Rattle.std.proofs.Common.{◌≡◌, ℕ, zero, suc, ◌+◌, ◌≤◌, ◌<◌, Bool, true, false, cond, List, [], ◌∷◌, ◌++◌, length, Option, Some, None, Result, Ok, Err, refl, sym, ap, subst, ◌∙◌, ◌⊎◌, inl, inr, arith}
+use Rattle.std.proofs.lemmas.List.{length-append, length-replicate, nil_from_length}
+use Rattle.std.proofs.lemmas.Bool.{ltb-true, ltb-false, le-ltb, ne_eqb, not-false}
+use Rattle.std.proofs.lemmas.Cmp.{nat_list_eq_equiv}
+use Rattle.std.proofs.lemmas.Slice.Eq.{bytes_eq-Decides}
+use Rattle.std.proofs.lemmas.Map.Made.{length-le_from_is_member}
+use Rattle.std.specs.Prelude.{pos, ◌==◌, ◌&&◌, ◌||◌, not, nat_lt, is_none, replicate}
+use Rattle.std.specs.List.{list_all}
+use Rattle.std.specs.Str.{bytes_eq}
+use Rattle.asm_lex.specs.Bytes.{class_of, is_digit, is_letter, is_word}
+use Rattle.asm_lex.specs.declared.token.TokenKind.TheVariants as kind
+use Rattle.asm_lex.specs.Words.{Word}
+use Rattle.asm_lex.specs.Source.{lines_after}
+use Rattle.asm_parse.specs.declared.symbol.Symbol.{Symbol}
+use Rattle.asm_parse.specs.declared.symbol.Symbol.TheVariants as symbol
+use Rattle.asm_parse.specs.declared.operand.Shape.{Shape}
+use Rattle.asm_parse.specs.declared.operand.Shape.TheVariants as shape
+use Rattle.asm_parse.specs.declared.operand.Place.TheVariants as place
+use Rattle.asm_parse.specs.declared.operand.Partial.{Partial}
+use Rattle.asm_parse.specs.declared.operand.Partial.TheVariants as partial
+use Rattle.asm_parse.specs.declared.tree.Form.{Form}
+use Rattle.asm_parse.specs.declared.tree.Form.TheVariants as form
+use Rattle.asm_parse.specs.declared.tree.Argument.{Argument}
+use Rattle.asm_parse.specs.declared.directive.Directive.{Directive}
+use Rattle.asm_parse.specs.declared.directive.Directive.TheVariants as directive
+use Rattle.asm_parse.specs.declared.directive.Head.{Head}
+use Rattle.asm_parse.specs.declared.directive.Head.TheVariants as head
+use Rattle.asm_parse.specs.declared.state.Open.{Open}
+use Rattle.asm_parse.specs.declared.state.State.{State}
+use Rattle.asm_parse.specs.declared.state.State.TheVariants as state
+use Rattle.asm_parse.specs.ScopeView.{ScopeView}
+use Rattle.asm_parse.specs.Scope.{holds, has_room, is_spent, pushed, noted, defined_too}
+use Rattle.asm_parse.specs.Operand.{is_operand, takes_numbers, fits, is_register, signed, turned, named, plain, of_memory, finished, is_nothing}
+use Rattle.asm_parse.specs.Grammar.{IsValue, IsForm}
+use Rattle.asm_parse.specs.Escapes.{opening, string_text}
+use Rattle.asm_parse.specs.Reading.{symbol_of}
+use Rattle.asm_parse.specs.Statement.{shape_at, least, defines, is_instruction, item_of, resumed, sectioned, is_section, is_passed, is_dotted, is_rep, changes_section, directive_of, is_known, is_change, is_unknown, is_taken, is_defining, lacks_names, if_doomed, doom}
+use Rattle.asm_parse.specs.Statements.{IsSeen, Sees, IsArgument, IsNext, Separated, HasArguments, has_list, Statement, symbols}
+use Rattle.asm_parse.proofs.Words.{read_words}
+use Rattle.asm_parse.proofs.Operands.{ok, operand_run}
+use Rattle.asm_parse.proofs.Names.{named_in}
+use Rattle.asm_parse.proofs.Scopes.{Each, GoodIn, or_right, same_name, same_holds}
+use Rattle.asm_parse.proofs.Quiet.{IsOpen, StateIs}
+use Rattle.asm_parse.proofs.Stated.{Answer, inners, inners_append, inners_words, word_is, open_at, instruction_operand, Gains, form_runs, comma_runs, end_runs, statement_runs, named_section, rest_runs}
+use Rattle.asm_parse.proofs.Written.{Piece, words_at, symbols_of, ArePieces, pieces-append, symbols_of-append, symbols-words_at, IsName, name_piece, one_piece, zero_piece, text_piece, end_piece, percent_piece, close_piece, comma_piece, colon_piece, letter, letter_name, low, low_name, text_section, section_name_is, the_name, the_one, the_zero, the_text, the_end, the_mark}
+
+-- ---- one argument
+
+record Finish (sh : Shape) (p : Partial) : Type 0 where
+  pieces : List Piece
+  are : ArePieces pieces
+  last : Partial
+  form : Form
+  runs : operand_run sh p (symbols_of pieces) ≡ ok last
+  ends : finished last ≡ Some form
+  names : named_in last ≡ named_in p
+
+low_register : is_register low ≡ true
+unfolding is_register
+low_register = refl
+
+done : (sh : Shape) (p : Partial) (f : Form) → finished p ≡ Some f → Finish sh p
+done sh p f e = record { pieces = []; are = tt; last = p; form = f; runs = refl; ends = e; names = refl }
+
+number_nothing : (sh : Shape) → takes_numbers sh ≡ true → fits sh false 1 ≡ true → Finish sh partial.Nothing
+number_nothing sh t u = record {
+  pieces = the_one ∷ [];
+  are = (one_piece, tt);
+  last = partial.Number place.Memory (plain (pos 1));
+  form = of_memory (Some (plain (pos 1))) None None 1;
+  runs = rw (t, u, operand_run) refl;
+  ends = refl;
+  names = refl;
+}
+
+finish_nothing : (sh : Shape) → (sh ≡ shape.Name → ⊥) → Finish sh partial.Nothing
+finish_nothing shape.Operand never = number_nothing shape.Operand refl refl
+finish_nothing shape.Value never = number_nothing shape.Value refl refl
+finish_nothing shape.Number never = number_nothing shape.Number refl refl
+finish_nothing shape.Count never = number_nothing shape.Count refl refl
+finish_nothing shape.Alignment never = number_nothing shape.Alignment refl refl
+finish_nothing shape.Power never = number_nothing shape.Power refl refl
+finish_nothing shape.Fill never = number_nothing shape.Fill refl refl
+finish_nothing shape.Name never = absurd (never refl)
+finish_nothing shape.Text never = record {
+  pieces = the_text ∷ [];
+  are = (text_piece, tt);
+  last = partial.Whole (form.Text (string_text opening (34 ∷ 34 ∷ [])));
+  form = form.Text (string_text opening (34 ∷ 34 ∷ []));
+  runs = refl;
+  ends = refl;
+  names = refl;
+}
+
+zero_fits : (sh : Shape) → fits sh true 0 ≡ true
+zero_fits shape.Count = refl
+zero_fits shape.Alignment = refl
+zero_fits shape.Power = refl
+zero_fits _ = refl
+
+low_close : ArePieces (the_name low ∷ the_mark 41 ∷ [])
+low_close = (name_piece low low_name, (close_piece, tt))
+
+finish : (sh : Shape) (p : Partial) → (is_nothing p ≡ true → sh ≡ shape.Name → ⊥) → Finish sh p
+finish sh partial.Nothing never = finish_nothing sh (never refl)
+finish sh partial.Absent never = done sh partial.Absent form.Absent refl
+finish sh partial.Percent never = record { pieces = the_name low ∷ []; are = (name_piece low low_name, tt); last = partial.Whole (form.Register low); form = form.Register low; runs = rw (low_register, operand_run) refl; ends = refl; names = refl }
+finish sh partial.Dollar never = record { pieces = the_one ∷ []; are = (one_piece, tt); last = partial.Number place.Immediate (plain (pos 1)); form = form.Immediate (plain (pos 1)); runs = refl; ends = refl; names = refl }
+finish sh (partial.Minus place.Memory) never = record { pieces = the_zero ∷ []; are = (zero_piece, tt); last = partial.Number place.Memory (plain (signed true 0)); form = of_memory (Some (plain (signed true 0))) None None 1; runs = rw (zero_fits sh, operand_run) refl; ends = refl; names = refl }
+finish sh (partial.Minus place.Immediate) never = record { pieces = the_zero ∷ []; are = (zero_piece, tt); last = partial.Number place.Immediate (plain (signed true 0)); form = form.Immediate (plain (signed true 0)); runs = rw (zero_fits sh, operand_run) refl; ends = refl; names = refl }
+finish sh (partial.Name place.Memory n) never = done sh (partial.Name place.Memory n) (of_memory (Some (named n (pos 0))) None None 1) refl
+finish sh (partial.Name place.Immediate n) never = done sh (partial.Name place.Immediate n) (form.Immediate (named n (pos 0))) refl
+finish sh (partial.Sign place.Memory n b) never = record { pieces = the_one ∷ []; are = (one_piece, tt); last = partial.Number place.Memory (named n (signed b 1)); form = of_memory (Some (named n (signed b 1))) None None 1; runs = refl; ends = refl; names = refl }
+finish sh (partial.Sign place.Immediate n b) never = record { pieces = the_one ∷ []; are = (one_piece, tt); last = partial.Number place.Immediate (named n (signed b 1)); form = form.Immediate (named n (signed b 1)); runs = refl; ends = refl; names = refl }
+finish sh (partial.SignMinus place.Memory n b) never = record { pieces = the_one ∷ []; are = (one_piece, tt); last = partial.Number place.Memory (named n (turned b 1)); form = of_memory (Some (named n (turned b 1))) None None 1; runs = refl; ends = refl; names = refl }
+finish sh (partial.SignMinus place.Immediate n b) never = record { pieces = the_one ∷ []; are = (one_piece, tt); last = partial.Number place.Immediate (named n (turned b 1)); form = form.Immediate (named n (turned b 1)); runs = refl; ends = refl; names = refl }
+finish sh (partial.Number place.Memory v) never = done sh (partial.Number place.Memory v) (of_memory (Some v) None None 1) refl
+finish sh (partial.Number place.Immediate v) never = done sh (partial.Number place.Immediate v) (form.Immediate v) refl
+finish sh (partial.Open v) never = record { pieces = the_mark 37 ∷ the_name low ∷ the_mark 41 ∷ []; are = (percent_piece, low_close); last = partial.Whole (of_memory v (Some low) None 1); form = of_memory v (Some low) None 1; runs = rw (low_register, operand_run) refl; ends = refl; names = refl }
+finish sh (partial.BasePercent v) never = record { pieces = the_name low ∷ the_mark 41 ∷ []; are = low_close; last = partial.Whole (of_memory v (Some low) None 1); form = of_memory v (Some low) None 1; runs = rw (low_register, operand_run) refl; ends = refl; names = refl }
+finish sh (partial.Base v b) never = record { pieces = the_mark 41 ∷ []; are = (close_piece, tt); last = partial.Whole (of_memory v (Some b) None 1); form = of_memory v (Some b) None 1; runs = refl; ends = refl; names = refl }
+finish sh (partial.IndexComma v b) never = record { pieces = the_mark 37 ∷ the_name low ∷ the_mark 41 ∷ []; are = (percent_piece, low_close); last = partial.Whole (of_memory v b (Some low) 1); form = of_memory v b (Some low) 1; runs = rw (low_register, operand_run) refl; ends = refl; names = refl }
+finish sh (partial.IndexPercent v b) never = record { pieces = the_name low ∷ the_mark 41 ∷ []; are = low_close; last = partial.Whole (of_memory v b (Some low) 1); form = of_memory v b (Some low) 1; runs = rw (low_register, operand_run) refl; ends = refl; names = refl }
+finish sh (partial.Index v b i) never = record { pieces = the_mark 41 ∷ []; are = (close_piece, tt); last = partial.Whole (of_memory v b (Some i) 1); form = of_memory v b (Some i) 1; runs = refl; ends = refl; names = refl }
+finish sh (partial.Scale v b i) never = record { pieces = the_one ∷ the_mark 41 ∷ []; are = (one_piece, (close_piece, tt)); last = partial.Whole (of_memory v b (Some i) 1); form = of_memory v b (Some i) 1; runs = refl; ends = refl; names = refl }
+finish sh (partial.Scaled v b i s) never = record { pieces = the_mark 41 ∷ []; are = (close_piece, tt); last = partial.Whole (of_memory v b (Some i) s); form = of_memory v b (Some i) s; runs = refl; ends = refl; names = refl }
+finish sh (partial.Whole f) never = done sh (partial.Whole f) f refl
+
+-- ---- a statement
+
+pub record Completed (sc : ScopeView) (st : State) : Type 0 where
+  pub pieces : List Piece
+  pub are : ArePieces pieces
+  pub last : ScopeView
+  pub runs : (at line : ℕ) → read_words sc st (words_at at line pieces) ≡ Ok (last, state.Start)
+
+by_symbols : (sc last : ScopeView) (st : State) (ps : List Piece) → ArePieces ps → inners sc st (symbols_of ps) ≡ Ok (last, state.Start) → Completed sc st
+by_symbols sc last st ps are h = record {
+  pieces = ps;
+  are = are;
+  last = last;
+  runs = λ at line. inners_words (words_at at line ps) sc st (last, state.Start) refl (ap (inners sc st) (symbols-words_at ps at line) ∙ h);
+}
+
+gains_none : (d : Bool) (sc : ScopeView) (a b : Option (List ℕ)) → b ≡ a → Gains d sc a b sc
+gains_none d sc a b e = subst (λ (x : Option (List ℕ)). Gains d sc a x sc) (sym e) (by_name a)
+  where
+    by_name : (a : Option (List ℕ)) → Gains d sc a a sc
+    by_name None = refl
+    by_name (Some n) = refl
+
+-- only a directive's first argument is a name
+later_shape : (h : Head) (i : ℕ) (sh : Shape) → (i == 0) ≡ false → shape_at h i ≡ Some sh → sh ≡ shape.Name → ⊥
+later_shape (head.Instruction r n) i sh z may e = let g : ◌≡◌ {A = Option Shape} (Some shape.Operand) (Some shape.Name) = may ∙ ap (λ (x : Shape). Some x) e in absurd cc
+later_shape (head.Directive k n) i sh z may e = by_kind k (may ∙ ap (λ (x : Shape). Some x) e)
+  where
+    at_first : (a : Shape) (r : Option Shape) → (r ≡ Some shape.Name → ⊥) → cond (i == 0) (Some a) r ≡ Some shape.Name → ⊥
+    at_first a r never g = never (sym (ap (λ (t : Bool). cond t (Some a) r) z) ∙ g)
+
+    at_test : (t : Bool) (a : Shape) (r : Option Shape) → (a ≡ shape.Name → ⊥) → (r ≡ Some shape.Name → ⊥) → cond t (Some a) r ≡ Some shape.Name → ⊥
+    at_test true a r never none g = never cc
+    at_test false a r never none g = none g
+
+    none_name : ◌≡◌ {A = Option Shape} None (Some shape.Name) → ⊥
+    none_name g = absurd cc
+
+    by_kind : (k : Directive) → shape_at (head.Directive k n) i ≡ Some shape.Name → ⊥
+    by_kind directive.Bytes g = absurd cc
+    by_kind directive.Longs g = absurd cc
+    by_kind directive.Strings g = absurd cc
+    by_kind directive.Global g = at_first shape.Name None none_name g
+    by_kind directive.Zero g = at_first shape.Count None none_name g
+    by_kind directive.Aligned g = at_first shape.Alignment None none_name g
+    by_kind directive.Powered g = at_first shape.Power _ (at_test (i == 1) shape.Fill _ (λ f. absurd cc) (at_test (i == 2) shape.Count None (λ f. absurd cc) none_name)) g
+    by_kind directive.Common g = at_first shape.Name _ (at_test (i == 1) shape.Count _ (λ f. absurd cc) (at_test (i == 2) shape.Alignment None (λ f. absurd cc) none_name)) g
+    by_kind directive.Local g = at_first shape.Name _ (at_test (i == 1) shape.Count None (λ f. absurd cc) none_name) g
+    by_kind _ g = absurd cc
+
+not_zero : (i : ℕ) → 1 ≤ i → (i == 0) ≡ false
+not_zero zero h = absurd (omega arith)
+not_zero (suc i) h = ne_eqb (suc i) 0 (λ e. absurd (omega arith))
+
+not_name : (o : Open) (w : IsOpen o) → is_nothing o.so_far ≡ true → w.shape ≡ shape.Name → ⊥
+not_name o w e is = elim (w.first e) [
+  | inl instruction ↦ operand_not_name w.shape (instruction_operand o.head (length o.done) w.shape instruction w.may) is
+  | inr le ↦ later_shape o.head (length o.done) w.shape (not_zero (length o.done) le) w.may is
+]
+  where
+    operand_not_name : (sh : Shape) → is_operand sh ≡ true → sh ≡ shape.Name → ⊥
+    operand_not_name sh h e = let g : is_operand shape.Name ≡ true = ap is_operand (sym e) ∙ h in absurd cc
+
+-- two arguments are wanted
+wants_two : (h : Head) (n : ℕ) → 1 ≤ n → nat_lt n (least h) ≡ true → (n ≡ 1) × (shape_at h 1 ≡ Some shape.Count) × (least h ≡ 2)
+wants_two (head.Instruction r m) n le h = absurd (omega (arith, ltb-true n 0 h))
+wants_two (head.Directive directive.Common m) n le h = (omega (arith, ltb-true n 2 h), refl, refl)
+wants_two (head.Directive directive.Local m) n le h = (omega (arith, ltb-true n 2 h), refl, refl)
+wants_two (head.Directive directive.Plain m) n le h = absurd (omega (arith, ltb-true n 0 h))
+wants_two (head.Directive _ m) n le h = absurd (omega (arith, ltb-true n 1 h))
+
+-- an argument has been read
+module _ (sc : ScopeView) (line : ℕ) (h : Head) (before : List Argument) (a : Argument) (q : Partial) (fin : finished q ≡ Some a.form) where
+  ended_here : nat_lt (length (before ++ a ∷ [])) (least h) ≡ false → (last : ScopeView) × (inners sc (state.Arguments (open_at line h before a.star q)) (symbols_of (the_end ∷ [])) ≡ Ok (last, state.Start))
+  ended_here count = (resumed (pushed sc (item_of line h (before ++ a ∷ []))) h, rw (end_runs sc line h before a q fin count, inners) refl)
+
+  ended_later : nat_lt (length (before ++ a ∷ [])) (least h) ≡ true
+      → (last : ScopeView) × (inners sc (state.Arguments (open_at line h before a.star q)) (symbols_of (the_mark 44 ∷ the_one ∷ the_end ∷ [])) ≡ Ok (last, state.Start))
+  ended_later count =
+      let two = wants_two h (length (before ++ a ∷ [])) (omega (arith, length-append before (a ∷ []))) count in
+      let may : shape_at h (length (before ++ a ∷ [])) ≡ Some shape.Count = ap (shape_at h) two.0 ∙ two.1 in
+      let b : Argument = record { star = false; form = of_memory (Some (plain (pos 1))) None None 1 } in
+      let many : nat_lt (length ((before ++ a ∷ []) ++ b ∷ [])) (least h) ≡ false = le-ltb _ _ (omega (arith, two.0, two.2, length-append (before ++ a ∷ []) (b ∷ []))) in
+      let comma = comma_runs sc line h before a q shape.Count fin may in
+      let one = form_runs line h (before ++ a ∷ []) false shape.Count may (symbol.Number 1 ∷ []) partial.Nothing (partial.Number place.Memory (plain (pos 1))) sc sc refl refl in
+      let end = end_runs sc line h (before ++ a ∷ []) b (partial.Number place.Memory (plain (pos 1))) refl many in
+      (resumed (pushed sc (item_of line h ((before ++ a ∷ []) ++ b ∷ []))) h, rw (comma, inners) (inners_append (symbol.Number 1 ∷ []) (symbol.End ∷ []) sc (state.Arguments (open_at line h (before ++ a ∷ []) false partial.Nothing)) (sc, state.Arguments (open_at line h (before ++ a ∷ []) false (partial.Number place.Memory (plain (pos 1))))) one ∙ rw (end, inners) refl))
+
+arguments_completed : (sc : ScopeView) (o : Open) → IsOpen o → Completed sc (state.Arguments o)
+arguments_completed sc o w =
+    let f = finish w.shape o.so_far (not_name o w) in
+    let first : inners sc (state.Arguments o) (symbols_of f.pieces) ≡ Ok (sc, state.Arguments (open_at o.line o.head o.done o.star f.last)) =
+    form_runs o.line o.head o.done o.star w.shape w.may (symbols_of f.pieces) o.so_far f.last sc sc f.runs (gains_none (defines o.head (length o.done)) sc (named_in o.so_far) (named_in f.last) f.names) in
+    by_count f first (nat_lt (length (o.done ++ record { star = o.star; form = f.form } ∷ [])) (least o.head)) refl
+  where
+    joined : (ps qs : List Piece) (st : State) (last : ScopeView) → inners sc (state.Arguments o) (symbols_of ps) ≡ Ok (sc, st) → inners sc st (symbols_of qs) ≡ Ok (last, state.Start) → inners sc (state.Arguments o) (symbols_of (ps ++ qs)) ≡ Ok (last, state.Start)
+    joined ps qs st last h k = ap (inners sc (state.Arguments o)) (symbols_of-append ps qs) ∙ (inners_append (symbols_of ps) (symbols_of qs) sc (state.Arguments o) (sc, st) h ∙ k)
+
+    by_count : (f : Finish w.shape o.so_far) → inners sc (state.Arguments o) (symbols_of f.pieces) ≡ Ok (sc, state.Arguments (open_at o.line o.head o.done o.star f.last))
+        → (t : Bool) → nat_lt (length (o.done ++ record { star = o.star; form = f.form } ∷ [])) (least o.head) ≡ t → Completed sc (state.Arguments o)
+    by_count f first false count =
+        let e = ended_here sc o.line o.head o.done (record { star = o.star; form = f.form }) f.last f.ends count in
+        by_symbols sc e.0 (state.Arguments o) (f.pieces ++ the_end ∷ []) (pieces-append f.pieces (the_end ∷ []) f.are (end_piece, tt)) (joined f.pieces (the_end ∷ []) _ e.0 first e.1)
+    by_count f first true count =
+        let e = ended_later sc o.line o.head o.done (record { star = o.star; form = f.form }) f.last f.ends count in
+        by_symbols sc e.0 (state.Arguments o) (f.pieces ++ the_mark 44 ∷ the_one ∷ the_end ∷ []) (pieces-append f.pieces (the_mark 44 ∷ the_one ∷ the_end ∷ []) f.are (comma_piece, (one_piece, (end_piece, tt)))) (joined f.pieces (the_mark 44 ∷ the_one ∷ the_end ∷ []) _ e.0 first e.1)
+
+-- ---- names that can still be said
+
+known_or_new : (a b : Bool) → b ≡ true → (a || b) ≡ true
+known_or_new a b h = or_right a b h
+
+record Sayable (sc : ScopeView) : Type 0 where
+  name : List ℕ
+  is : IsName name
+  room : has_room sc name ≡ true
+
+sayable : (sc : ScopeView) → GoodIn IsName sc → Sayable sc
+sayable sc g = by_room (nat_lt (length sc.names) 65536) refl
+  where
+    first_name : (ns : List (List ℕ)) → Each IsName ns → 1 ≤ length ns → (n : List ℕ) × IsName n × (holds ns n ≡ true)
+    first_name [] each le = absurd (omega arith)
+    first_name (n ∷ ns) each le = (n, each.0, rw (same_name n) refl)
+
+    by_room : (t : Bool) → nat_lt (length sc.names) 65536 ≡ t → Sayable sc
+    by_room true e = record { name = letter; is = letter_name; room = known_or_new (holds sc.names letter) (nat_lt (length sc.names) 65536) e }
+    by_room false e =
+        let f = first_name sc.names g.each (omega (arith, ltb-false (length sc.names) 65536 e)) in
+        record { name = f.0; is = f.1; room = rw f.2 refl }
+
+record Definable (sc : ScopeView) : Type 0 where
+  name : List ℕ
+  is : IsName name
+  room : has_room sc name ≡ true
+  new : holds sc.defined name ≡ false
+
+total : List (List ℕ) → ℕ
+total [] = 0
+total (n ∷ ns) = length n + total ns
+
+long : List (List ℕ) → List ℕ
+long ns = 97 ∷ replicate (total ns) 97
+
+letters : (k : ℕ) → list_all is_word (replicate k 97) ≡ true
+unfolding is_word is_digit is_letter
+letters zero = refl
+letters (suc k) = letters k
+
+long_name : (ns : List (List ℕ)) → IsName (long ns)
+unfolding long class_of is_digit is_letter
+long_name ns = (refl, letters (total ns))
+
+longer_new : (ns : List (List ℕ)) (x : List ℕ) → total ns + 1 ≤ length x → holds ns x ≡ false
+unfolding total
+longer_new [] x le = refl
+longer_new (n ∷ ns) x le = by_test (bytes_eq x n) refl (longer_new ns x (omega arith))
+  where
+    by_test : (t : Bool) → bytes_eq x n ≡ t → holds ns x ≡ false → (bytes_eq x n || holds ns x) ≡ false
+    by_test true e rest = let same : x ≡ n = (bytes_eq-Decides x n).0 e in absurd (omega (arith, ap length same))
+    by_test false e rest = rw e rest
+
+long_new : (ns : List (List ℕ)) → holds ns (long ns) ≡ false
+unfolding long
+long_new ns = longer_new ns (long ns) (omega (arith, length-replicate {A = ℕ} (total ns) 97))
+
+-- a name that isn't defined, or all are
+undefined : (defined ns : List (List ℕ)) → Each IsName ns → ((n : List ℕ) × IsName n × (holds ns n ≡ true) × (holds defined n ≡ false)) ⊎ ((q : List ℕ) → holds ns q ≡ true → holds defined q ≡ true)
+undefined defined [] each = inr (λ q h. absurd cc)
+undefined defined (n ∷ ns) each = by_test (holds defined n) refl (undefined defined ns each.1)
+  where
+    either : (q : List ℕ) (t : Bool) → bytes_eq q n ≡ t → (t || holds ns q) ≡ true → holds defined n ≡ true → ((q : List ℕ) → holds ns q ≡ true → holds defined q ≡ true) → holds defined q ≡ true
+    either q true e h d all = same_holds defined q n e ∙ d
+    either q false e h d all = all q h
+
+    by_test : (t : Bool) → holds defined n ≡ t → ((m : List ℕ) × IsName m × (holds ns m ≡ true) × (holds defined m ≡ false)) ⊎ ((q : List ℕ) → holds ns q ≡ true → holds defined q ≡ true)
+        → ((m : List ℕ) × IsName m × (holds (n ∷ ns) m ≡ true) × (holds defined m ≡ false)) ⊎ ((q : List ℕ) → holds (n ∷ ns) q ≡ true → holds defined q ≡ true)
+    by_test false d rest = inl (n, each.0, rw (same_name n) refl, d)
+    by_test true d (inl (m, is, k, new)) = inl (m, is, or_right (bytes_eq m n) (holds ns m) k, new)
+    by_test true d (inr all) = inr (λ q h. either q (bytes_eq q n) refl h d all)
+
+definable : (sc : ScopeView) → GoodIn IsName sc → is_spent sc ≡ false → Definable sc
+definable sc g spent = by_room (nat_lt (length sc.names) 65536) refl
+  where
+    few : (t : Bool) → nat_lt (length sc.defined) 65536 ≡ t → not t ≡ false → length sc.defined < 65536
+    few true e h = ltb-true (length sc.defined) 65536 e
+    few false e h = absurd cc
+
+    by_room : (t : Bool) → nat_lt (length sc.names) 65536 ≡ t → Definable sc
+    by_room true e = record { name = long sc.defined; is = long_name sc.defined; room = known_or_new (holds sc.names (long sc.defined)) (nat_lt (length sc.names) 65536) e; new = long_new sc.defined }
+    by_room false e = elim (undefined sc.defined sc.names g.each) [
+      | inl (n, is, k, new) ↦ record { name = n; is = is; room = rw k refl; new = new }
+      | inr all ↦
+          let le = length-le_from_is_member nat_list_eq_equiv sc.names sc.defined g.apart all in
+          absurd (omega (arith, le, few (nat_lt (length sc.defined) 65536) refl spent, ltb-false (length sc.names) 65536 e))
+    ]
+
+-- ---- behind a name
+
+text_known : is_section text_section ≡ true
+unfolding is_known
+text_known = refl
+
+-- a number as a directive's argument
+one_argument : (sc : ScopeView) (k : Directive) (n : List ℕ) (before : List Argument) (sh : Shape) → shape_at (head.Directive k n) (length before) ≡ Some sh → takes_numbers sh ≡ true → fits sh false 1 ≡ true
+    → IsNext (head.Directive k n) sc before (symbol.Number 1 ∷ []) (record { star = false; form = of_memory (Some (plain (pos 1))) None None 1 }) sc
+one_argument sc k n before sh may takes fit = record { shape = sh; may = may; is = IsArgument.plain (IsForm.value (IsValue.number takes fit)); sees = refl }
+
+module _ (sc : ScopeView) (b : ℕ) (n : List ℕ) (passed : is_passed sc n ≡ false) (dotted : is_dotted n ≡ true) where
+  number_completed : (k : Directive) (sh : Shape) → directive_of n ≡ Some k → has_list k ≡ true → shape_at (head.Directive k n) 0 ≡ Some sh → takes_numbers sh ≡ true → fits sh false 1 ≡ true → nat_lt 1 (least (head.Directive k n)) ≡ false → Completed sc (state.Named b n)
+  number_completed k sh dir list may takes fit count =
+      by_symbols sc _ (state.Named b n) (the_one ∷ the_end ∷ []) (one_piece, (end_piece, tt))
+      (statement_runs (Statement.directive {sc = sc} {line = b} {n = n} passed dotted dir list (HasArguments.some Separated.none (one_argument sc k n [] sh may takes fit)) count))
+
+  name_completed : directive_of n ≡ Some directive.Global → Sayable sc → Completed sc (state.Named b n)
+  name_completed dir w =
+      let next : IsNext (head.Directive directive.Global n) sc [] (symbol.Name w.name ∷ []) (record { star = false; form = of_memory (Some (named w.name (pos 0))) None None 1 }) (noted sc w.name) =
+      record { shape = shape.Name; may = refl; is = IsArgument.plain (IsForm.value (IsValue.name refl)); sees = IsSeen.used w.room } in
+      by_symbols sc _ (state.Named b n) (the_name w.name ∷ the_end ∷ []) (name_piece w.name w.is, (end_piece, tt))
+      (statement_runs (Statement.directive {sc = sc} {line = b} {n = n} passed dotted dir refl (HasArguments.some Separated.none next) refl))
+
+  text_completed : directive_of n ≡ Some directive.Strings → Completed sc (state.Named b n)
+  text_completed dir =
+      let next : IsNext (head.Directive directive.Strings n) sc [] (symbol_of kind.Text (34 ∷ 34 ∷ []) ∷ []) (record { star = false; form = form.Text (string_text opening (34 ∷ 34 ∷ [])) }) sc =
+      record { shape = shape.Text; may = refl; is = IsArgument.plain (IsForm.text refl); sees = refl } in
+      by_symbols sc _ (state.Named b n) (the_text ∷ the_end ∷ []) (text_piece, (end_piece, tt))
+      (statement_runs (Statement.directive {sc = sc} {line = b} {n = n} passed dotted dir refl (HasArguments.some Separated.none next) refl))
+
+  defining_completed : (k : Directive) → directive_of n ≡ Some k → has_list k ≡ true → shape_at (head.Directive k n) 0 ≡ Some shape.Name → shape_at (head.Directive k n) 1 ≡ Some shape.Count → defines (head.Directive k n) 0 ≡ true
+      → least (head.Directive k n) ≡ 2 → Definable sc → Completed sc (state.Named b n)
+  defining_completed k dir list first second def count w =
+      let sc2 = defined_too (noted sc w.name) w.name in
+      let a : Argument = record { star = false; form = of_memory (Some (named w.name (pos 0))) None None 1 } in
+      let next : IsNext (head.Directive k n) sc [] (symbol.Name w.name ∷ []) (record { star = false; form = of_memory (Some (named w.name (pos 0))) None None 1 }) (defined_too (noted sc w.name) w.name) =
+      record { shape = shape.Name; may = first; is = IsArgument.plain (IsForm.value (IsValue.name refl)); sees = rw def (IsSeen.defined w.new w.room) } in
+      by_symbols sc _ (state.Named b n) (the_name w.name ∷ the_mark 44 ∷ the_one ∷ the_end ∷ []) (name_piece w.name w.is, (comma_piece, (one_piece, (end_piece, tt))))
+      (statement_runs (Statement.directive {sc = sc} {line = b} {n = n} passed dotted dir list (HasArguments.some (Separated.more Separated.none next) (one_argument (defined_too (noted sc w.name) w.name) k n (a ∷ []) shape.Count second refl refl)) (rw count refl)))
+
+  section_completed : directive_of n ≡ Some directive.Section → Completed sc (state.Named b n)
+  section_completed dir = record {
+    pieces = the_name text_section ∷ the_end ∷ [];
+    are = (name_piece text_section section_name_is, (end_piece, tt));
+    last = sectioned sc b n text_section;
+    runs = runs;
+  }
+    where
+      runs : (at line : ℕ) → read_words sc (state.Named b n) (words_at at line (the_name text_section ∷ the_end ∷ [])) ≡ Ok (sectioned sc b n text_section, state.Start)
+      runs at line =
+          let v : Word = record { kind = kind.Name; at = at; line = line; bytes = text_section } in
+          let two = word_is sc (state.Named b n) v (sc, state.Sectioned b n text_section 0) refl (named_section sc b n text_section passed dotted dir text_known) in
+          rw two (rest_runs (words_at (at + length text_section + length {A = ℕ} (32 ∷ [])) (lines_after (lines_after line text_section) (32 ∷ [])) (the_end ∷ [])) [] sc b n text_section (at + length text_section) refl refl)
+
+label_completed : (sc : ScopeView) (b : ℕ) (n : List ℕ) → is_passed sc n ≡ false → is_dotted n ≡ true → directive_of n ≡ None → doom sc (state.Named b n) ≡ None → Completed sc (state.Named b n)
+label_completed sc b n passed dotted dir alive =
+    let sk = not_skipping sc.skipping refl in
+    let taken = not_taken (is_taken sc n) refl sk in
+    let parts = or_both (holds sc.defined n) (not (has_room sc n)) taken in
+    by_symbols sc _ (state.Named b n) (the_mark 58 ∷ []) (colon_piece, tt) (statement_runs (Statement.label {sc = sc} {line = b} {n = n} sk (IsSeen.defined parts.0 (not-false (has_room sc n) parts.1))))
+  where
+    not_skipping : (t : Bool) → sc.skipping ≡ t → sc.skipping ≡ false
+    not_skipping false e = e
+    not_skipping true e = let f : is_passed sc n ≡ true = rw (e, dotted, dir) refl in absurd cc
+
+    not_taken : (t : Bool) → is_taken sc n ≡ t → sc.skipping ≡ false → is_taken sc n ≡ false
+    not_taken false e sk = e
+    not_taken true e sk = let f : doom sc (state.Named b n) ≡ Some b = rw (dotted, sk, dir, e) refl in absurd cc
+
+    or_both : (a c : Bool) → (a || c) ≡ false → (a ≡ false) × (c ≡ false)
+    or_both true c h = absurd cc
+    or_both false c h = (refl, h)
+
+-- no name lacks where one has to be defined
+not_spent : (sc : ScopeView) (b : ℕ) (n : List ℕ) (k : Directive) → is_passed sc n ≡ false → is_dotted n ≡ true → directive_of n ≡ Some k → is_defining (Some k) ≡ true → doom sc (state.Named b n) ≡ None → is_spent sc ≡ false
+not_spent sc b n k passed dotted dir def alive = by_spent (is_spent sc) refl
+  where
+    not_change : (k : Directive) → is_defining (Some k) ≡ true → is_change (Some k) ≡ false
+    not_change directive.Common h = refl
+    not_change directive.Local h = refl
+    not_change _ h = absurd cc
+
+    not_skipping : (t : Bool) → sc.skipping ≡ t → sc.skipping ≡ false
+    not_skipping false e = e
+    not_skipping true e = let f : is_passed sc n ≡ true = rw (e, dotted, dir, not_change k def) refl in absurd cc
+
+    by_spent : (t : Bool) → is_spent sc ≡ t → is_spent sc ≡ false
+    by_spent false e = e
+    by_spent true e = let f : doom sc (state.Named b n) ≡ Some b = rw (dotted, not_skipping sc.skipping refl, dir, def, e) refl in absurd cc
+
+named_completed : (sc : ScopeView) (b : ℕ) (n : List ℕ) → GoodIn IsName sc → doom sc (state.Named b n) ≡ None → Completed sc (state.Named b n)
+named_completed sc b n g alive = by_tests (is_passed sc n) (is_dotted n) (is_rep n) refl refl refl
+  where
+    by_directive : (d : Option Directive) → is_passed sc n ≡ false → is_dotted n ≡ true → directive_of n ≡ d → Completed sc (state.Named b n)
+    by_directive None passed dotted dir = label_completed sc b n passed dotted dir alive
+    by_directive (Some directive.Plain) passed dotted dir = by_symbols sc _ (state.Named b n) (the_end ∷ []) (end_piece, tt) (statement_runs (Statement.directive {sc = sc} {line = b} {n = n} passed dotted dir refl HasArguments.none refl))
+    by_directive (Some directive.Section) passed dotted dir = section_completed sc b n passed dotted dir
+    by_directive (Some directive.Global) passed dotted dir = name_completed sc b n passed dotted dir (sayable sc g)
+    by_directive (Some directive.Bytes) passed dotted dir = number_completed sc b n passed dotted directive.Bytes shape.Number dir refl refl refl refl refl
+    by_directive (Some directive.Longs) passed dotted dir = number_completed sc b n passed dotted directive.Longs shape.Value dir refl refl refl refl refl
+    by_directive (Some directive.Strings) passed dotted dir = text_completed sc b n passed dotted dir
+    by_directive (Some directive.Zero) passed dotted dir = number_completed sc b n passed dotted directive.Zero shape.Count dir refl refl refl refl refl
+    by_directive (Some directive.Aligned) passed dotted dir = number_completed sc b n passed dotted directive.Aligned shape.Alignment dir refl refl refl refl refl
+    by_directive (Some directive.Powered) passed dotted dir = number_completed sc b n passed dotted directive.Powered shape.Power dir refl refl refl refl refl
+    by_directive (Some directive.Common) passed dotted dir = defining_completed sc b n passed dotted directive.Common dir refl refl refl refl refl (definable sc g (not_spent sc b n directive.Common passed dotted dir refl alive))
+    by_directive (Some directive.Local) passed dotted dir = defining_completed sc b n passed dotted directive.Local dir refl refl refl refl refl (definable sc g (not_spent sc b n directive.Local passed dotted dir refl alive))
+    by_directive (Some directive.Skipped) passed dotted dir = by_symbols sc sc (state.Named b n) (the_end ∷ []) (end_piece, tt) (statement_runs (Statement.skipped_directive {sc = sc} {line = b} {n = n} [] passed dotted dir refl refl))
+
+    by_tests : (t u v : Bool) → is_passed sc n ≡ t → is_dotted n ≡ u → is_rep n ≡ v → Completed sc (state.Named b n)
+    by_tests true u v e f k = by_symbols sc sc (state.Named b n) (the_end ∷ []) (end_piece, tt) (statement_runs (Statement.skipped {sc = sc} {line = b} {n = n} [] e refl refl))
+    by_tests false true v e f k = by_directive (directive_of n) e f refl
+    by_tests false false true e f k = by_symbols sc _ (state.Named b n) (the_name letter ∷ the_end ∷ []) (name_piece letter letter_name, (end_piece, tt)) (statement_runs (Statement.repeated {sc = sc} {line = b} {r = n} {n = letter} e f k HasArguments.none))
+    by_tests false false false e f k = by_symbols sc _ (state.Named b n) (the_end ∷ []) (end_piece, tt) (statement_runs (Statement.instruction {sc = sc} {line = b} {n = n} e f k HasArguments.none))
+
+-- Where nothing is dead the statement can end.
+pub completed : (sc : ScopeView) (st : State) → GoodIn IsName sc → StateIs IsName st → doom sc st ≡ None → Completed sc st
+completed sc state.Start g is alive = record { pieces = []; are = tt; last = sc; runs = λ at line. refl }
+completed sc (state.Named b n) g is alive = named_completed sc b n g alive
+completed sc state.Skip g is alive = by_symbols sc sc state.Skip (the_end ∷ []) (end_piece, tt) refl
+completed sc (state.Sectioned b n m e) g is alive = record { pieces = the_end ∷ []; are = (end_piece, tt); last = sectioned sc b n m; runs = λ at line. rest_runs (words_at at line (the_end ∷ [])) [] sc b n m e refl refl }
+completed sc (state.Flags b n m) g is alive = by_symbols sc (sectioned sc b n m) (state.Flags b n m) (the_end ∷ []) (end_piece, tt) refl
+completed sc (state.Arguments o) g is alive = arguments_completed sc o is
+completed sc (state.Stray l c) g is alive = absurd cc
