@@ -1,0 +1,174 @@
+-- Each object tested in turn.
+use Rattle.std.proofs.Common.{◌≡◌, ℕ, ◌+◌, ◌<◌, ◌≤◌, Bool, true, false, List, [], ◌∷◌, ◌++◌, length, get_or, take, Option, Some, None, Ok, refl, ap, sym, ◌∙◌, subst, arith}
+use Rattle.std.specs.Prelude.{sum_by, map, nat_lt, ◌||◌}
+use Rattle.std.specs.List.{flat_map}
+use Rattle.std.proofs.lemmas.List.{take_all, length-append, length-map, append-nil}
+use Rattle.std.proofs.lemmas.List.Concat.{flat_map-append}
+use Rattle.std.proofs.lemmas.Bool.{ltb-false}
+use Rattle.elf_form.specs.ObjectParts.{ObjectParts}
+use Rattle.sites.specs.declared.site.Site.{Site}
+use Rattle.sites.specs.Reading.{sites_in}
+use Rattle.elf_link.specs.declared.target.Target.{Target}
+use Rattle.elf_link.specs.declared.totals.Totals.{Totals}
+use Rattle.elf_link.specs.declared.fault.LinkCause.{LinkCause}
+use Rattle.elf_link.specs.declared.fault.LinkCause.TheVariants.{TextTooLarge, InitTooLarge, TooManySymbols, SitesForm}
+use Rattle.elf_link.specs.declared.fault.LinkFault.{LinkFault}
+use Rattle.elf_link.specs.Layout.{text_room, init_room, bss_room, text_end, memory_end, numbered, text_at}
+use Rattle.elf_link.specs.Symbols.{exports, definitions, globals}
+use Rattle.elf_link.specs.Sites.{sites_of, misplaced, sites_wrong, moved, moved_sites, linked_sites}
+use Rattle.elf_link.specs.Refusals.{◌or◌, when, first, refused, doubled, doubled_cause, object_cause, object_refusal}
+use Rattle.elf_link.specs.Steps.{IsWithin, AreBelow, totals, with_object, size_cause, sites_bad, step_cause, tested}
+use Rattle.elf_link.specs.Answers.{Fails}
+use Rattle.elf_link.proofs.FirstLaws.{Passed, first_next, first_end, fails_here}
+use Rattle.elf_link.proofs.LayoutLaws.{sum-more, text_end-more, text_end-le, memory_limit}
+use Rattle.elf_link.proofs.BaseLaws.{numbered_at, length-numbered, take-numbered}
+use Rattle.elf_link.proofs.StepLaws.{cause_none}
+use Rattle.elf_link.proofs.SiteLaws.{below_next}
+
+totals_is : (t u : Totals) → t.text ≡ u.text → t.memory ≡ u.memory → t.symbols ≡ u.symbols → t.sites ≡ u.sites → t ≡ u
+totals_is t u p q r s = λ j. record { text = p j; memory = q j; symbols = r j; sites = s j }
+
+or_assoc : (a b c d : Option LinkCause) → ((a or (b or c)) or d) ≡ (a or (b or (c or d)))
+or_assoc (Some x) b c d = refl
+or_assoc None (Some y) c d = refl
+or_assoc None None c d = refl
+
+when_not : (b : Bool) (cause : LinkCause) (later : Option LinkCause) → (when b cause or later) ≡ None → b ≡ false
+when_not true cause later h = absurd (cc)
+when_not false cause later h = refl
+
+abbrev chain : Bool → Bool → Bool → Bool → Option LinkCause → Option LinkCause
+chain a b c d e = when a TextTooLarge or (when b InitTooLarge or (when c TooManySymbols or (when d SitesForm or e)))
+
+module _ (os : List ObjectParts) (i : ℕ) (o : ObjectParts) (lt : i < length os) (is : get_or os i o ≡ o) where
+  pub totals_next : totals (take (i + 1) os) ≡ with_object (totals (take i os)) o
+  unfolding totals with_object
+  totals_next =
+      let n = sum-more init_room os i o lt is in
+      let b = sum-more bss_room os i o lt is in
+      totals_is _ _ (sum-more text_room os i o lt is) (omega (arith, n, b)) (sum-more (λ p. length p.symbols) os i o lt is) (sum-more (λ p. length (sites_of p)) os i o lt is)
+
+  text_same : nat_lt 4194304 ((totals (take i os)).text + length o.text + 2) ≡ nat_lt 4194304 (text_end (take (i + 1) os) + 2)
+  unfolding totals
+  text_same = ap (λ (n : ℕ). nat_lt 4194304 (n + 2)) (sym (text_end-more os i o lt is))
+
+  memory_same : nat_lt 33554432 ((totals (take i os)).memory + init_room o + bss_room o) ≡ nat_lt 33554432 (memory_end (take (i + 1) os))
+  unfolding totals
+  memory_same =
+      let n = sum-more init_room os i o lt is in
+      let b = sum-more bss_room os i o lt is in
+      let e : sum_by init_room (take i os) + sum_by bss_room (take i os) + init_room o + bss_room o ≡ sum_by init_room (take (i + 1) os) + sum_by bss_room (take (i + 1) os) = omega (arith, n, b) in
+      ap (nat_lt 33554432) e ∙ sym (memory_limit (take (i + 1) os))
+
+  symbols_same : nat_lt 65536 ((totals (take i os)).symbols + length o.symbols) ≡ nat_lt 65536 (sum_by (λ p. length p.symbols) (take (i + 1) os))
+  unfolding totals
+  symbols_same = ap (nat_lt 65536) (sym (sum-more (λ p. length p.symbols) os i o lt is))
+
+  sites_same : sites_bad (totals (take i os)).sites o ≡ sites_wrong os (i, o)
+  unfolding totals sites_bad sites_wrong
+  sites_same = ap (λ (n : ℕ). misplaced (length o.text) (sites_in o.sites) || nat_lt 262144 n) (sym (sum-more (λ p. length (sites_of p)) os i o lt is))
+
+  pub cause_is : step_cause (totals (take i os)) (definitions (take i (numbered os))) (i, o) ≡ object_cause os (i, o)
+  unfolding step_cause size_cause object_cause
+  cause_is =
+      or_assoc (when (nat_lt 4194304 ((totals (take i os)).text + length o.text + 2)) TextTooLarge) (when (nat_lt 33554432 ((totals (take i os)).memory + init_room o + bss_room o)) InitTooLarge) (when (nat_lt 65536 ((totals (take i os)).symbols + length o.symbols)) TooManySymbols) (when (sites_bad (totals (take i os)).sites o) SitesForm or doubled_cause (doubled os (i, o)))
+      ∙ (λ j. chain (text_same j) (memory_same j) (symbols_same j) (sites_same j) (doubled_cause (doubled os (i, o))))
+
+-- what is known after i objects
+pub record Gathering (os : List ObjectParts) (i : ℕ) (t : Totals) (gs : List (List ℕ × Target)) (sites : List Site) : Type 0 where
+  pub sums : t ≡ totals (take i os)
+  pub within : IsWithin t
+  pub names : gs ≡ definitions (take i (numbered os))
+  pub moved : sites ≡ flat_map (moved_sites os) (take i (numbered os))
+  pub below : AreBelow (text_end (take i os)) sites
+  pub fits : text_end (take i os) + 2 ≤ 4194304
+  pub count : length sites ≡ t.sites
+  pub passed : Passed (object_refusal os) (numbered os) i
+
+pub gathering_first : (os : List ObjectParts) → Gathering os 0 (record { text = 0; memory = 0; symbols = 0; sites = 0 }) [] []
+unfolding totals definitions text_end
+gathering_first os = record {
+  sums = refl;
+  within = record { text = omega arith; memory = omega arith; symbols = omega arith; sites = omega arith };
+  names = refl;
+  moved = refl;
+  below = record { form = tt; below = λ k d h. absurd (omega arith) };
+  fits = omega arith;
+  count = refl;
+  passed = refl;
+}
+
+module _ (os : List ObjectParts) (i : ℕ) (o : ObjectParts) (t : Totals) (gs : List (List ℕ × Target)) (sites : List Site) (lt : i < length os) (is : get_or os i o ≡ o) (now : Gathering os i t gs sites) where
+  cause_now : step_cause t gs (i, o) ≡ object_cause os (i, o)
+  cause_now = ap (λ (u : Totals). step_cause u gs (i, o)) now.sums ∙ (ap (λ (g : List (List ℕ × Target)). step_cause (totals (take i os)) g (i, o)) now.names ∙ cause_is os i o lt is)
+
+  pub gathering_fails : (e : LinkFault) → Fails e (tested (refused i (step_cause t gs (i, o)))) → Fails e (tested (first (object_refusal os) (numbered os)))
+  gathering_fails e h =
+      fails_here (object_refusal os) (numbered os) i (i, o) e (subst (λ (n : ℕ). i < n) (sym (length-numbered os)) lt) (numbered_at os i o lt is) now.passed
+      (subst (λ (c : Option LinkCause). Fails e (tested (refused i c))) cause_now h)
+
+  text_is : t.text ≡ text_at os i
+  unfolding totals
+  text_is = ap (λ (u : Totals). u.text) now.sums
+
+  flat_next : {A : Type 0} (f : ℕ × ObjectParts → List A) → flat_map f (take (i + 1) (numbered os)) ≡ flat_map f (take i (numbered os)) ++ f (i, o)
+  flat_next {A} f = ap (flat_map f) (take-numbered os i o lt is) ∙ (flat_map-append f (take i (numbered os)) ((i, o) ∷ []) ∙ ap (λ (l : List A). flat_map f (take i (numbered os)) ++ l) (append-nil (f (i, o))))
+
+  below_is : (sites' : List Site) → sites' ≡ sites ++ map (moved t.text) (sites_of o) → AreBelow (length o.text) (sites_of o) → text_end (take (i + 1) os) + 2 ≤ 4194304 → AreBelow (text_end (take (i + 1) os)) sites'
+  below_is sites' more own fits =
+      let end : t.text + length o.text ≡ text_end (take (i + 1) os) = ap (λ (n : ℕ). n + length o.text) text_is ∙ sym (text_end-more os i o lt is) in
+      subst (λ (n : ℕ). AreBelow n sites') end (subst (λ (s : List Site). AreBelow (t.text + length o.text) s) (sym more)
+      (below_next (text_end (take i os)) t.text (length o.text) sites (sites_of o) now.below (omega (arith, text_is, text_end-le (take i os))) own (omega (arith, end, fits))))
+
+  fits_is : object_cause os (i, o) ≡ None → text_end (take (i + 1) os) + 2 ≤ 4194304
+  unfolding object_cause
+  fits_is none = ltb-false 4194304 (text_end (take (i + 1) os) + 2) (when_not (nat_lt 4194304 (text_end (take (i + 1) os) + 2)) TextTooLarge _ none)
+
+  count_is : (t' : Totals) (sites' : List Site) → t' ≡ with_object t o → sites' ≡ sites ++ map (moved t.text) (sites_of o) → length sites' ≡ t'.sites
+  unfolding with_object
+  count_is t' sites' sums more =
+      let sum : t'.sites ≡ t.sites + length (sites_of o) = ap (λ (u : Totals). u.sites) sums in
+      omega (arith, sum, ap length more, length-append sites (map (moved t.text) (sites_of o)), length-map (sites_of o) (moved t.text), now.count)
+
+  pub gathering_next : (t' : Totals) (gs' : List (List ℕ × Target)) (sites' : List Site) → tested (refused i (step_cause t gs (i, o))) ≡ Ok tt → t' ≡ with_object t o → gs' ≡ gs ++ exports (i, o) → sites' ≡ sites ++ map (moved t.text) (sites_of o) → AreBelow (length o.text) (sites_of o) → IsWithin t' → Gathering os (i + 1) t' gs' sites'
+  unfolding definitions
+  gathering_next t' gs' sites' exact sums names more own within =
+      let cause : object_cause os (i, o) ≡ None = sym cause_now ∙ cause_none i (step_cause t gs (i, o)) exact in
+      let fits = fits_is cause in
+      let none : object_refusal os (i, o) ≡ None = ap (refused i) cause in
+      let at : t.text ≡ text_at os i = text_is in
+      record {
+        sums = sums ∙ (ap (λ (u : Totals). with_object u o) now.sums ∙ sym (totals_next os i o lt is));
+        within = within;
+        names = names ∙ (ap (λ (g : List (List ℕ × Target)). g ++ exports (i, o)) now.names ∙ sym (flat_next exports));
+        moved = more ∙ (ap (λ (n : ℕ). sites ++ map (moved n) (sites_of o)) at ∙ (ap (λ (s : List Site). s ++ moved_sites os (i, o)) now.moved ∙ sym (flat_next (moved_sites os))));
+        below = below_is sites' more own fits;
+        fits = fits;
+        count = count_is t' sites' sums more;
+        passed = first_next (object_refusal os) (numbered os) i (i, o) (subst (λ (n : ℕ). i < n) (sym (length-numbered os)) lt) (numbered_at os i o lt is) now.passed none;
+      }
+
+-- what is known of all objects
+pub record Gathers (os : List ObjectParts) (t : Totals) (gs : List (List ℕ × Target)) (sites : List Site) : Type 0 where
+  pub exact : tested (first (object_refusal os) (numbered os)) ≡ Ok tt
+  pub within : IsWithin (totals os)
+  pub names : gs ≡ globals os
+  pub moved : sites ≡ linked_sites os
+  pub below : AreBelow (text_end os) sites
+  pub fits : text_end os + 2 ≤ 4194304
+  pub count : length sites ≤ 262144
+
+pub gathered_all : (os : List ObjectParts) (i : ℕ) (t : Totals) (gs : List (List ℕ × Target)) (sites : List Site) → length os ≤ i → Gathering os i t gs sites → Gathers os t gs sites
+unfolding linked_sites
+gathered_all os i t gs sites le now =
+    let whole : take i os ≡ os = take_all i os le in
+    let all : take i (numbered os) ≡ numbered os = take_all i (numbered os) (omega (arith, length-numbered os)) in
+    record {
+      exact = ap tested (first_end (object_refusal os) (numbered os) i (omega (arith, length-numbered os)) now.passed);
+      within = subst (λ (u : Totals). IsWithin u) (now.sums ∙ ap totals whole) now.within;
+      names = now.names ∙ ap definitions all;
+      moved = now.moved ∙ ap (flat_map (moved_sites os)) all;
+      below = subst (λ (os' : List ObjectParts). AreBelow (text_end os') sites) whole now.below;
+      fits = subst (λ (os' : List ObjectParts). text_end os' + 2 ≤ 4194304) whole now.fits;
+      count = omega (arith, now.count, now.within.sites);
+    }

@@ -1,0 +1,15 @@
+pub mod Names
+pub mod FirstLaws
+pub mod ExportLaws
+pub mod RelocLaws
+pub mod LayoutLaws
+pub mod SpanLaws
+pub mod BaseLaws
+pub mod StepLaws
+pub mod SiteLaws
+pub mod GatherLaws
+pub mod JoinLaws
+pub mod CheckLaws
+pub mod LinkLaws
+pub mod PlaceLaws
+pub mod CauseLaws

@@ -1,0 +1,7 @@
+use Rattle.std.proofs.Common.{◌≡◌, take, false}
+use Rattle.elf_link.specs.Layout.{numbered}
+use Rattle.elf_link.proofs.JoinLaws.{joined}
+use Rattle.elf_link.proofs.linking.linked_init.Given as goal
+
+abbrev pub invariant-loop-i : goal.invariant-loop-i
+invariant-loop-i l = l.out.items ≡ joined l.objects.items 4096 0 false (take l.i (numbered l.objects.items))

@@ -1,0 +1,13 @@
+-- What a function returned, seen by view, is what the definition gives, unless memory ran out.
+use Rattle.std.specs.Prelude.{◌≡◌, Result, Ok, Err}
+use Rattle.elf_link.specs.declared.fault.LinkFault.{LinkFault}
+use Rattle.elf_link.specs.declared.fault.LinkFault.TheVariants as faults
+use Rattle.elf_link.specs.Refusals.{Refused}
+
+abbrev pub Fails : {Y : Type 0} → LinkFault → Result Y Refused → Type 0
+Fails (faults.At object cause) wanted = wanted ≡ Err (record { object = object; cause = cause })
+Fails faults.Memory wanted = Unit {0}
+
+abbrev pub Gives : {X Y : Type 0} → (X → Y) → Result X LinkFault → Result Y Refused → Type 0
+Gives view (Ok x) wanted = wanted ≡ Ok (view x)
+Gives view (Err e) wanted = Fails e wanted

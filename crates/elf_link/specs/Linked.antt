@@ -1,0 +1,52 @@
+-- The image that objects make.
+use Rattle.std.specs.Prelude.{ℕ, ◌-◌, true, false, List, [], ◌∷◌, ◌++◌, length, take, replicate, Option, Some, None, Result, Ok, Err}
+use Rattle.std.specs.List.{flat_map}
+use Rattle.elf_form.specs.ObjectParts.{ObjectParts}
+use Rattle.elf_form.specs.ImageParts.{ImageParts}
+use Rattle.elf_form.specs.ImageLayout.{image_bytes}
+use Rattle.elf_form.specs.Output.{pad}
+use Rattle.sites.specs.Spelling.{spelling}
+use Rattle.elf_link.specs.declared.base.Base.{Base}
+use Rattle.elf_link.specs.declared.target.Target.{Target}
+use Rattle.elf_link.specs.Layout.{text_end, init_end, memory_end, numbered, bases}
+use Rattle.elf_link.specs.Symbols.{address, globals}
+use Rattle.elf_link.specs.Relocations.{patched}
+use Rattle.elf_link.specs.Sites.{linked_sites}
+use Rattle.elf_link.specs.Refusals.{Refused, start, refusal}
+
+-- bytes, and what fills them up to a multiple of k
+abbrev pub padded : ℕ → ℕ → List ℕ → List ℕ
+padded k fill bytes = bytes ++ replicate (pad k (length bytes)) fill
+
+-- texts with NOPs between them, and data with zeros between them, up to where the last one ends
+abbrev pub texts : List ObjectParts → List (ℕ × ObjectParts) → List ℕ
+texts os ps = flat_map (λ p. padded 16 0x90 (patched (bases os) (globals os) p true)) ps
+
+abbrev pub inits : List ObjectParts → List (ℕ × ObjectParts) → List ℕ
+inits os ps = flat_map (λ p. padded 4096 0 (patched (bases os) (globals os) p false)) ps
+
+-- a jump to itself ends the text
+unfoldable pub linked_text : List ObjectParts → List ℕ
+linked_text os = take (text_end os) (texts os (numbered os)) ++ (0xEB ∷ 0xFE ∷ [])
+
+unfoldable pub linked_init : List ObjectParts → List ℕ
+linked_init os = take (init_end os) (inits os (numbered os))
+
+abbrev pub entry_at : List Base → Option Target → ℕ
+entry_at bs None = 0x10000000
+entry_at bs (Some t) = address bs t
+
+unfoldable pub image : List ObjectParts → ImageParts
+image os = record { text = linked_text os; init = linked_init os; bss = memory_end os - init_end os; entry = entry_at (bases os) (start os); text_at = 0x10000000; init_at = 0x11000000; sites = spelling (linked_sites os) }
+
+abbrev pub unless : Option Refused → ImageParts → Result ImageParts Refused
+unless None parts = Ok parts
+unless (Some r) parts = Err r
+
+-- the image, or the first refusal
+unfoldable pub linked_image : List ObjectParts → Result ImageParts Refused
+linked_image os = unless (refusal os) (image os)
+
+abbrev pub file_of : Result ImageParts Refused → Result (List ℕ) Refused
+file_of (Ok parts) = Ok (image_bytes parts)
+file_of (Err r) = Err r

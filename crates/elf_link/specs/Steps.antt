@@ -1,0 +1,72 @@
+-- What is asked of an object, by the sums over the objects before it.
+use Rattle.std.specs.Prelude.{ℕ, ◌+◌, ◌≤◌, ◌<◌, ◌||◌, Bool, All, List, length, map, codes, sum_by, nat_lt, Option, Some, None, Result, Ok, Err, if◌then◌else◌}
+use Rattle.elf_form.specs.ObjectParts.{ObjectParts}
+use Rattle.sites.specs.declared.site.Site.{Site}
+use Rattle.sites.specs.Reading.{sites_in}
+use Rattle.sites.specs.Spelling.{AreInForm}
+use Rattle.elf_link.specs.declared.base.Base.{Base}
+use Rattle.elf_link.specs.declared.target.Target.{Target}
+use Rattle.elf_link.specs.declared.totals.Totals.{Totals}
+use Rattle.elf_link.specs.declared.fault.LinkCause.{LinkCause}
+use Rattle.elf_link.specs.declared.fault.LinkCause.TheVariants.{TextTooLarge, InitTooLarge, TooManySymbols, SitesForm}
+use Rattle.elf_link.specs.Layout.{text_room, init_room, bss_room}
+use Rattle.elf_link.specs.Symbols.{lookup}
+use Rattle.elf_link.specs.Sites.{sites_of, misplaced}
+use Rattle.elf_link.specs.Refusals.{Refused, when, ◌or◌, first_doubled, exported_names, doubled_cause, start_refusal}
+use Rattle.elf_link.specs.Linked.{entry_at}
+
+-- the sums over objects
+unfoldable pub totals : List ObjectParts → Totals
+totals os = record { text = sum_by text_room os; memory = sum_by init_room os + sum_by bss_room os; symbols = sum_by (λ o. length o.symbols) os; sites = sum_by (λ o. length (sites_of o)) os }
+
+unfoldable pub with_object : Totals → ObjectParts → Totals
+with_object t o = record { text = t.text + text_room o; memory = t.memory + init_room o + bss_room o; symbols = t.symbols + length o.symbols; sites = t.sites + length (sites_of o) }
+
+pub record IsWithin (t : Totals) : Type 0 where
+  pub text : t.text < 4194320
+  pub memory : t.memory ≤ 33554432
+  pub symbols : t.symbols ≤ 65536
+  pub sites : t.sites ≤ 262144
+
+-- An object breaks no limit behind objects with these sums.
+pub record HasRoom (t : Totals) (o : ObjectParts) : Type 0 where
+  pub text : t.text + length o.text + 2 ≤ 4194304
+  pub memory : t.memory + init_room o + bss_room o ≤ 33554432
+  pub symbols : t.symbols + length o.symbols ≤ 65536
+
+unfoldable pub size_cause : Totals → ObjectParts → Option LinkCause
+size_cause t o =
+    when (nat_lt 4194304 (t.text + length o.text + 2)) TextTooLarge
+    or (when (nat_lt 33554432 (t.memory + init_room o + bss_room o)) InitTooLarge
+    or when (nat_lt 65536 (t.symbols + length o.symbols)) TooManySymbols)
+
+unfoldable pub sites_bad : ℕ → ObjectParts → Bool
+sites_bad before o = misplaced (length o.text) (sites_in o.sites) || nat_lt 262144 (before + length (sites_of o))
+
+unfoldable pub step_cause : Totals → List (List ℕ × Target) → ℕ × ObjectParts → Option LinkCause
+step_cause t gs p =
+    size_cause t p.1
+    or (when (sites_bad t.sites p.1) SitesForm
+    or doubled_cause (first_doubled (map (λ d. d.0) gs) (exported_names p)))
+
+-- a test that passes where nothing is refused
+abbrev pub tested : Option Refused → Result (Unit {0}) Refused
+tested None = Ok tt
+tested (Some r) = Err r
+
+abbrev pub tested_with : {X : Type 0} → Option Refused → X → Result X Refused
+tested_with None x = Ok x
+tested_with (Some r) x = Err r
+
+-- the sites of object i, behind a number of others
+unfoldable pub placed_sites : ℕ → ℕ → ObjectParts → Result (List Site) Refused
+placed_sites i before o = if sites_bad before o then Err (record { object = i; cause = SitesForm }) else Ok (sites_of o)
+
+-- the entry, where it is in text
+unfoldable pub entered : List Base → List (List ℕ × Target) → Result ℕ Refused
+entered bs gs = tested_with (start_refusal (lookup (codes "_start") gs)) (entry_at bs (lookup (codes "_start") gs))
+
+-- A list of sites is in form, and its sites end by `end`.
+pub record AreBelow (end : ℕ) (sites : List Site) : Type 0 where
+  pub form : AreInForm 0 sites
+  pub below : All (λ s. s.at + s.total ≤ end) sites

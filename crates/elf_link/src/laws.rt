@@ -1,0 +1,45 @@
+//! What linking is, in words that name no order of work.
+
+ghost use Rattle.std.specs.Prelude.{◌≡◌, ◌+◌, ◌≤◌, ◌<◌, ℕ, true, false, not, ◌&&◌, List, All, length, slice_get, slice_index, Some, None, if◌then◌else◌};
+ghost use Rattle.std.specs.Str.{bytes_eq};
+ghost use Rattle.elf_form.specs.ObjectParts.{ObjectParts};
+ghost use Rattle.elf_form.specs.declared.object.Symbol.{Symbol as SymbolView};
+ghost use Rattle.elf_form.specs.declared.object.Reloc.{Reloc as RelocView};
+ghost use Rattle.elf_link.specs.declared.target.Target.{Target as TargetView};
+ghost use Rattle.elf_link.specs.declared.fault.LinkCause.TheVariants.{NoSymbol, NotText};
+ghost use Rattle.elf_link.specs.Layout.{text_at, init_at, bss_at, bases};
+ghost use Rattle.elf_link.specs.Symbols.{is_text, is_exported, target, lookup, target_of, globals};
+ghost use Rattle.elf_link.specs.Relocations.{IsLinkable, reloc_cause, patched};
+ghost use Rattle.elf_link.specs.Linked.{linked_text, linked_init};
+
+/// No two objects' parts overlap, and all zeroed bytes stand behind all data.
+pub fn parts_apart()
+    ensures text { (os : List ObjectParts) (i j : ℕ) (o : ObjectParts) → slice_get os i ≡ Some o → i < j → text_at os i + length o.text ≤ text_at os j }
+    ensures init { (os : List ObjectParts) (i j : ℕ) (o : ObjectParts) → slice_get os i ≡ Some o → i < j → init_at os i + length o.init ≤ init_at os j }
+    ensures bss { (os : List ObjectParts) (i j : ℕ) (o : ObjectParts) → slice_get os i ≡ Some o → i < j → bss_at os i + o.bss ≤ bss_at os j }
+    ensures behind { (os : List ObjectParts) (i j : ℕ) (o : ObjectParts) → slice_get os i ≡ Some o → init_at os i + length o.init ≤ bss_at os j }
+{}
+
+/// The text and the data of each object stand at their places in the image, with their fields
+/// filled.
+#[tactic(auto, using(crate::proofs::PlaceLaws::text_stands, crate::proofs::PlaceLaws::init_stands))]
+pub fn parts_stand()
+    ensures text { (os : List ObjectParts) (i k : ℕ) (o : ObjectParts) → All IsLinkable os → slice_get os i ≡ Some o → k < length o.text → slice_index (linked_text os) (text_at os i + k) ≡ slice_index (patched (bases os) (globals os) (i, o) true) k }
+    ensures init { (os : List ObjectParts) (i k : ℕ) (o : ObjectParts) → All IsLinkable os → slice_get os i ≡ Some o → k < length o.init → slice_index (linked_init os) (init_at os i + k) ≡ slice_index (patched (bases os) (globals os) (i, o) false) k }
+{}
+
+/// A name stands for nothing exactly where no object has a global symbol of that name that it
+/// defines.
+#[tactic(auto, using(crate::proofs::CauseLaws::nowhere, crate::proofs::CauseLaws::found))]
+pub fn names_found()
+    ensures nowhere { (os : List ObjectParts) (name : List ℕ) → lookup name (globals os) ≡ None → (j k : ℕ) (o : ObjectParts) (s : SymbolView) → slice_get os j ≡ Some o → slice_get o.symbols k ≡ Some s → is_exported s ≡ true → bytes_eq name s.name ≡ false }
+    ensures found { (os : List ObjectParts) (name : List ℕ) (t : TargetView) → lookup name (globals os) ≡ Some t → (k : ℕ) × (o : ObjectParts) × (s : SymbolView) × (slice_get os t.object ≡ Some o) × (slice_get o.symbols k ≡ Some s) × (is_exported s ≡ true) × (bytes_eq name s.name ≡ true) × (t ≡ target t.object s) }
+{}
+
+/// A relocation is refused for its symbol exactly where that stands for nothing, and else for its
+/// place exactly where it is a relative field in text whose symbol isn't in text.
+#[tactic(auto, using(crate::proofs::CauseLaws::no_symbol, crate::proofs::CauseLaws::not_text))]
+pub fn relocations_refused()
+    ensures no_symbol { (gs : List (List ℕ × TargetView)) (i : ℕ) (o : ObjectParts) (r : RelocView) (s : SymbolView) → slice_get o.symbols r.symbol ≡ Some s → target_of gs i s ≡ None → reloc_cause gs (i, o) r ≡ Some (NoSymbol s.name) }
+    ensures not_text { (gs : List (List ℕ × TargetView)) (i : ℕ) (o : ObjectParts) (r : RelocView) (s : SymbolView) (t : TargetView) → slice_get o.symbols r.symbol ≡ Some s → target_of gs i s ≡ Some t → reloc_cause gs (i, o) r ≡ (if r.in_text && r.relative && not (is_text t.place) then Some (NotText r.at) else None) }
+{}
