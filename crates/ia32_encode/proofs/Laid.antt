@@ -112,11 +112,11 @@ pub fits_below : (form : Form) (p : Parts) → form_fits form p ≡ true → (p.
 unfolding form_fits
 fits_below form p h = addressing_below form.addressing p.reg p.rm (both (has_code form p.code) (addressing_fits form.addressing p.reg p.rm) (both (has_code form p.code && addressing_fits form.addressing p.reg p.rm) (immediate_fits form.immediate p.imm p.sel) h).0).1
 
-width_of : (b : Bool) (n : ℕ) → (not b || n == 4) ≡ true → IsTrue b → n ≡ 4
+pub width_of : (b : Bool) (n : ℕ) → (not b || n == 4) ≡ true → IsTrue b → n ≡ 4
 width_of true n h t = eqb-true n 4 h
 width_of false n h t = absurd cc
 
-parts_len : (row : Row) (wide : Bool) (insn : Insn) → (parts_for row wide insn).disp_len ≡ disp_len_of wide (parts_for row wide insn).rm
+pub parts_len : (row : Row) (wide : Bool) (insn : Insn) → (parts_for row wide insn).disp_len ≡ disp_len_of wide (parts_for row wide insn).rm
 unfolding parts_for
 parts_len row wide insn = refl
 
@@ -154,7 +154,7 @@ chosen_spells wide insn a c fit =
       imm = width_of wide.imm (imm_len c.row.form.immediate) w.1;
     }
 
-chosen_length : (wide : Wide) (insn : Insn) (a : ArrayBytes) → IsChosen wide insn a → length (take a.len a.bytes) ≡ a.len
+pub chosen_length : (wide : Wide) (insn : Insn) (a : ArrayBytes) → IsChosen wide insn a → length (take a.len a.bytes) ≡ a.len
 chosen_length wide insn a c =
     let bytes = form_bytes c.row.form (parts_for c.row wide.disp insn) in
     let text : take a.len a.bytes ≡ bytes = ap (λ (t : ArrayBytes). take t.len t.bytes) c.text ∙ take_at bytes (replicate (16 - length bytes) 0) (length bytes) refl in

@@ -1,5 +1,5 @@
 -- The chosen spelling of an instruction, and where there is none.
-use Rattle.std.specs.Prelude.{◌≡◌, ℕ, ◌<◌, ◌==◌, ◌||◌, ◌&&◌, not, Bool, true, List, ◌++◌, slice_index_or, IsTrue}
+use Rattle.std.specs.Prelude.{◌≡◌, ℕ, ◌+◌, ◌<◌, ◌≤◌, ◌==◌, ◌||◌, ◌&&◌, not, Bool, true, List, [], ◌∷◌, ◌++◌, slice_index_or, IsTrue, Option, Some, None, if◌then◌else◌}
 use Rattle.std.specs.List.{Contains}
 use Rattle.ia32_types.specs.declared.insn.Insn.{Insn}
 use Rattle.ia32_rows.specs.declared.row.Row.{Row}
@@ -14,6 +14,7 @@ use Rattle.ia32_encode.specs.declared.bytes.ArrayBytes.{ArrayBytes}
 use Rattle.ia32_encode.specs.declared.choose.Wide.{Wide}
 use Rattle.ia32_encode.specs.Parts.{parts_for, form_fits}
 use Rattle.ia32_encode.specs.Pushed.{laid_out}
+use Rattle.ia32_encode.specs.Same.{same_insn}
 
 -- The bytes spell the instruction, with four bytes for what names a symbol.
 pub record SpellsWide (wide : Wide) (bytes : List ℕ) (insn : Insn) : Type 0 where
@@ -47,3 +48,29 @@ IsReadBack bytes insn n = (more : List ℕ) → decoded (bytes ++ more) ≡ answ
 
 abbrev pub NoneSuits : Wide → Insn → Type 0
 NoneSuits wide insn = (row : Row) → Contains rows row → Suits row wide insn → ⊥
+
+-- ---- the same as a function
+
+abbrev pub does_suit : Row → Wide → Insn → Bool
+does_suit row wide insn =
+    same_insn (insn_of row (parts_for row wide.disp insn)) insn && form_fits row.form (parts_for row wide.disp insn)
+    && widths_fit wide (parts_for row wide.disp insn).disp_len (imm_len row.form.immediate)
+
+-- the spelling by the first row that suits
+unfoldable pub chosen_from : List Row → Wide → Insn → Option ArrayBytes
+chosen_from [] wide insn = None
+chosen_from (row ∷ table) wide insn =
+    if does_suit row wide insn then Some (laid_out row.form (parts_for row wide.disp insn)) else chosen_from table wide insn
+
+unfoldable pub chosen : Wide → Insn → Option ArrayBytes
+chosen wide insn = chosen_from rows wide insn
+
+-- ---- what is known of it
+
+-- from one to eleven bytes; what names a symbol has its four bytes in them, the displacement before the immediate
+pub record IsPlaced (wide : Wide) (a : ArrayBytes) : Type 0 where
+  pub some : 1 ≤ a.len
+  pub most : a.len ≤ 11
+  pub disp : IsTrue wide.disp → a.disp_at + 4 ≤ a.len
+  pub imm : IsTrue wide.imm → a.imm_at + 4 ≤ a.len
+  pub order : IsTrue wide.disp → IsTrue wide.imm → a.disp_at + 4 ≤ a.imm_at

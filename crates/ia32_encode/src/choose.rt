@@ -1,10 +1,10 @@
-ghost use Rattle.std.specs.Prelude.{◌≡◌, ◌↔◌, ◌==◌, ◌&&◌, ◌||◌, not, ℕ, List, take, IsTrue, OnOk, OnErr, IfOk, MatchResult, IsErr};
+ghost use Rattle.std.specs.Prelude.{◌≡◌, ◌↔◌, ◌==◌, ◌&&◌, ◌||◌, not, ℕ, List, take, IsTrue, Option, Some, None, OnOk, OnErr, IfOk, MatchResult, IsErr};
 ghost use Rattle.ia32_rows.specs.Fields.{imm_len};
 ghost use Rattle.ia32_rows.specs.Spelling.{insn_of};
 ghost use Rattle.ia32_rows.specs.Rows.{rows};
 ghost use Rattle.ia32_rows.specs.Spells.{AreBytes};
 ghost use Rattle.ia32_encode.specs.Parts.{parts_for};
-ghost use Rattle.ia32_encode.specs.Chosen.{SpellsWide, IsReadBack, Suits, NoneSuits, IsChosen};
+ghost use Rattle.ia32_encode.specs.Chosen.{SpellsWide, IsReadBack, Suits, NoneSuits, IsChosen, IsPlaced, chosen};
 
 use crate::bytes::ArrayBytes;
 use crate::parts::{fits, parts};
@@ -80,6 +80,10 @@ fn choose(table: &[Row], insn: &Insn, wide: Wide) -> Result<ArrayBytes, NoForm>
 #[tactic(auto, unfolding(ia32_rows::specs::Rows::rows))]
 pub fn encode(insn: &Insn, wide: Wide, into: &mut ArrayBytes) -> Result<u8, NoForm>
     ensures chosen { OnOk result (IsChosen wide insn.now into.new) }
+    // The answer is this function of the instruction and the widths.
+    ensures exact { MatchResult result (λ _. chosen wide insn.now ≡ Some into.new) (λ _. chosen wide insn.now ≡ None) }
+    // It has one to eleven bytes, and those of what names a symbol are among them.
+    ensures placed { OnOk result (IsPlaced wide into.new) }
     ensures len { IfOk result (λ n. n ≡ into.new.len) }
     // The bytes spell the instruction, with four bytes for what names a symbol.
     ensures spells { IfOk result (λ n. SpellsWide wide (take n into.new.bytes) insn.now) }

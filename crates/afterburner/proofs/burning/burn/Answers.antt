@@ -1,0 +1,20 @@
+use Rattle.std.proofs.Common.{length, arith}
+use Rattle.asm_parse.specs.Readable.{names_in}
+use Rattle.afterburner.specs.Sound.{IsSound}
+use Rattle.afterburner.proofs.Sited.{apart_sites}
+use Rattle.afterburner.proofs.Whole.{whole, annotated, small}
+use Rattle.afterburner.proofs.burning.burn.Goals as goal
+
+pub object-requires-clause-sites : goal.object-requires-clause-sites
+object-requires-clause-sites c = apart_sites 0 0 (length c.in-Ok-make_all.made.text) c.in-Ok-make_all.made.sites (omega arith) c.in-Ok-make_all.ensures.sound.sites
+
+pub returns-clause-writable : goal.returns-clause-writable
+returns-clause-writable c =
+    let sound : IsSound (length (names_in c.args.source.now)) c.in-Ok-make_all.made = rw (← c.in-Ok.ensures) c.in-Ok-make_all.ensures.sound in
+    rw (c.in-Ok-object.ensures, c.in-Ok.ensures) (whole c.args.source.now c.in-Ok-make_all.made c.object_length.ensures.bound c.requires sound c.in-Ok-make_all.ensures.within)
+
+pub returns-clause-sites : goal.returns-clause-sites
+returns-clause-sites c = rw c.in-Ok-object.ensures (annotated c.in-Ok.names c.in-Ok-make_all.made (length c.in-Ok.names) c.in-Ok-make_all.ensures.sound c.in-Ok-make_all.ensures.within)
+
+pub returns-clause-limits : goal.returns-clause-limits
+returns-clause-limits c = rw c.in-Ok-object.ensures (small c.in-Ok.names c.in-Ok-make_all.made c.in-Ok-make_all.ensures.within)

@@ -1,0 +1,7 @@
+use Rattle.std.proofs.Common.{◌≡◌, fold, take}
+use Rattle.asm_parse.specs.Scope.{added}
+use Rattle.asm_parse.specs.Readable.{argument_names}
+use Rattle.afterburner.proofs.names.add_arguments.Given as goal
+
+abbrev pub invariant-loop-argument : goal.invariant-loop-argument
+invariant-loop-argument l = l.names ≡ fold added l.fn.names (argument_names (take l.argument-index l.arguments))

@@ -1,0 +1,117 @@
+-- The directives, by families.
+use Rattle.std.specs.Prelude.{ℕ, ◌+◌, ◌*◌, Bool, true, false, not, nat_lt, ◌||◌, List, [], ◌∷◌, ◌++◌, length, replicate, fold, codes, Option, Some, None, Result, Ok, Err, if◌then◌else◌}
+use Rattle.std.specs.List.{flat_map, list_all}
+use Rattle.std.specs.Str.{bytes_eq}
+use Rattle.asm_parse.specs.declared.tree.Argument.{Argument}
+use Rattle.asm_parse.specs.Statements.{symbol_in}
+use Rattle.elf_form.specs.declared.object.Reloc.{Reloc}
+use Rattle.afterburner.specs.declared.fault.BurnCause.{BurnCause}
+use Rattle.afterburner.specs.declared.fault.BurnCause.TheVariants as cause
+use Rattle.afterburner.specs.declared.section.Section.{Section}
+use Rattle.afterburner.specs.declared.section.Section.TheVariants as section
+use Rattle.afterburner.specs.declared.symbol.Binding.TheVariants as binding
+use Rattle.afterburner.specs.declared.directive.Directive.{Directive}
+use Rattle.afterburner.specs.declared.directive.Directive.TheVariants as directive
+use Rattle.afterburner.specs.declared.value.Width.{Width}
+use Rattle.afterburner.specs.declared.value.Width.TheVariants as width
+use Rattle.afterburner.specs.State.{State}
+use Rattle.afterburner.specs.Names.{name_number}
+use Rattle.afterburner.specs.Symbols.{bound}
+use Rattle.afterburner.specs.Arguments.{number_in, text_in, count_at, text_at, symbol_at, limit_at, alignment, power}
+use Rattle.afterburner.specs.Values.{fits, value_bytes}
+use Rattle.afterburner.specs.Sections.{is_init, entered, section_named, aligned, reserved}
+
+unfoldable pub directive_of : List ℕ → Directive
+directive_of n =
+    if bytes_eq n (codes ".text") then directive.Text else
+    if bytes_eq n (codes ".data") then directive.Data else
+    if bytes_eq n (codes ".bss") then directive.Bss else
+    if bytes_eq n (codes ".section") then directive.Named else
+    if bytes_eq n (codes ".globl") || bytes_eq n (codes ".global") then directive.Global else
+    if bytes_eq n (codes ".local") then directive.Local else
+    if bytes_eq n (codes ".byte") then directive.Bytes else
+    if bytes_eq n (codes ".short") || bytes_eq n (codes ".word") || bytes_eq n (codes ".value") then directive.Shorts else
+    if bytes_eq n (codes ".long") || bytes_eq n (codes ".int") then directive.Longs else
+    if bytes_eq n (codes ".ascii") then directive.Ascii else
+    if bytes_eq n (codes ".asciz") || bytes_eq n (codes ".string") then directive.Asciz else
+    if bytes_eq n (codes ".zero") || bytes_eq n (codes ".skip") || bytes_eq n (codes ".space") then directive.Zeros else
+    if bytes_eq n (codes ".align") || bytes_eq n (codes ".balign") then directive.Aligned else
+    if bytes_eq n (codes ".p2align") then directive.Powered else
+    if bytes_eq n (codes ".comm") then directive.Common else
+    if bytes_eq n (codes ".lcomm") then directive.LocalCommon else
+    directive.Skipped
+
+abbrev pub bytes_in : Width → ℕ
+bytes_in width.Byte = 1
+bytes_in width.Short = 2
+bytes_in width.Long = 4
+
+abbrev pub all_fit : Width → List Argument → Bool
+all_fit w args = list_all (λ (a : Argument). fits (8 * bytes_in w) (number_in a.form)) args
+
+abbrev pub values : Width → List Argument → List ℕ
+values w args = flat_map (λ (a : Argument). value_bytes (bytes_in w) (number_in a.form)) args
+
+abbrev pub in_init : State → State → Result State BurnCause
+in_init st made = if is_init st.section then Ok made else Err cause.DataInText
+
+-- numbers
+unfoldable pub numbers : State → Width → List Argument → Result State BurnCause
+numbers st w args = if not (all_fit w args) then Err cause.ValueRange else in_init st (record st { init = st.init ++ values w args })
+
+abbrev pub data_reloc : List (List ℕ) → ℕ → Option (List ℕ) → List Reloc
+data_reloc names at None = []
+data_reloc names at (Some name) = record { in_text = false; at = at; symbol = name_number names name; relative = false } ∷ []
+
+-- a value of four bytes; a named one holds its constant and gives a relocation
+abbrev pub with_long : List (List ℕ) → State → Argument → State
+with_long names st a = record st {
+  init = st.init ++ value_bytes 4 (number_in a.form);
+  data_relocs = st.data_relocs ++ data_reloc names (length st.init) (symbol_in a.form);
+}
+
+unfoldable pub longs : List (List ℕ) → State → List Argument → Result State BurnCause
+longs names st args = if not (all_fit width.Long args) then Err cause.ValueRange else in_init st (fold (with_long names) st args)
+
+-- a string, and a zero byte where it has one at its end
+abbrev pub string_bytes : Bool → Argument → List ℕ
+string_bytes ended a = text_in a.form ++ (if ended then 0 ∷ [] else [])
+
+unfoldable pub strings : State → Bool → List Argument → Result State BurnCause
+strings st ended args = in_init st (record st { init = st.init ++ flat_map (string_bytes ended) args })
+
+-- zero bytes; too many are not made first
+abbrev pub zeros_in : State → Section → ℕ → Result State BurnCause
+zeros_in st section.Text n = Err cause.DataInText
+zeros_in st section.Init n = if nat_lt 33554432 (length st.init + st.bss + n) then Err cause.InitTooLarge else Ok (record st { init = st.init ++ replicate n 0 })
+zeros_in st section.Bss n = Ok (record st { bss = st.bss + n })
+
+abbrev pub zeros : State → ℕ → Result State BurnCause
+zeros st n = zeros_in st st.section n
+
+abbrev pub common_alignment : Option ℕ → ℕ
+common_alignment None = 1
+common_alignment (Some n) = alignment n
+
+-- `.comm NAME,SIZE[,ALIGN]`: global, unless a `.local` or a `.globl` speaks of the name
+unfoldable pub common : List (List ℕ) → State → List Argument → State
+common names st args = bound names (reserved names st (symbol_at args 0) (count_at args 1) (common_alignment (limit_at args 2))) (symbol_at args 0) binding.Common
+
+unfoldable pub directed : List (List ℕ) → State → Directive → List Argument → Result State BurnCause
+directed names st directive.Text args = Ok (entered st section.Text)
+directed names st directive.Data args = Ok (entered st section.Init)
+directed names st directive.Bss args = Ok (entered st section.Bss)
+directed names st directive.Named args = Ok (entered st (section_named (text_at args 0) st.section))
+directed names st directive.Global args = Ok (bound names st (symbol_at args 0) binding.Global)
+directed names st directive.Local args = Ok (bound names st (symbol_at args 0) binding.Local)
+directed names st directive.Bytes args = numbers st width.Byte args
+directed names st directive.Shorts args = numbers st width.Short args
+directed names st directive.Longs args = longs names st args
+directed names st directive.Ascii args = strings st false args
+directed names st directive.Asciz args = strings st true args
+directed names st directive.Zeros args = zeros st (count_at args 0)
+directed names st directive.Aligned args = Ok (aligned st (alignment (count_at args 0)) None)
+directed names st directive.Powered args = Ok (aligned st (power (count_at args 0)) (limit_at args 2))
+directed names st directive.Common args = Ok (common names st args)
+directed names st directive.LocalCommon args = Ok (reserved names st (symbol_at args 0) (count_at args 1) 1)
+directed names st directive.Skipped args = Ok st

@@ -1,0 +1,12 @@
+pub mod Causes
+pub mod State
+pub mod Names
+pub mod Symbols
+pub mod Arguments
+pub mod Values
+pub mod Sections
+pub mod Instructions
+pub mod Directives
+pub mod Objects
+pub mod Burnt
+pub mod Sound

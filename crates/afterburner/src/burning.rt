@@ -1,0 +1,129 @@
+//! From the items of a source to its object.
+
+ghost use Rattle.std.specs.Prelude.{◌≡◌, ◌≤◌, ◌<◌, ◌+◌, length, OnOk, IfOk};
+ghost use Rattle.asm_parse.specs.Readable.{IsReadable, body_names, names_in};
+ghost use Rattle.asm_parse.specs.Size.{body_count};
+ghost use Rattle.elf_form.specs.ObjectLayout.{IsWholeObject};
+ghost use Rattle.afterburner.specs.Burnt.{Makes, Gives, FaultOf, parted, made, item_made, all_made, burnt};
+ghost use Rattle.afterburner.specs.Sound.{IsSound, IsWithin, IsAnnotated, IsSmall, AreHeld};
+
+use crate::assembly::Assembly;
+use crate::directive::directive_of;
+use crate::fault::{BurnFault, Stop};
+use crate::limits::limited;
+use crate::names::{Names, names_of};
+use crate::object::object;
+use asm_parse::{Body, Source, SourceItem};
+use elf_form::{Object, object_length};
+use std::alloc::{AllocError, Global};
+
+impl Assembly {
+    fn part(&mut self)
+        ensures { self.new ≡ parted self.old }
+    {
+        self.after_sti = false;
+    }
+
+    /// What an item makes.
+    #[tactic(auto, unfolding(crate::specs::Burnt::made), using(crate::proofs::Items::labelled_sound, crate::proofs::Items::directed_sound))]
+    fn make(&mut self, names: &Names, body: &Body) -> Result<(), Stop>
+        requires few { length names.now ≤ 65536 }
+        requires size { body_count body.now ≤ 4194304 }
+        requires held { AreHeld names.now (body_names body.now) }
+        requires sound { IsSound (length names.now) self.old }
+        requires within { IsWithin self.old }
+        ensures makes { Makes self.new result (made names.now self.old body.now) }
+        ensures sound { OnOk result (IsSound (length names.now) self.new) }
+    {
+        match body {
+            Body::Label(name) => {
+                self.part();
+                self.label(names, &name.bytes);
+                Ok(())
+            }
+            Body::Directive { name, arguments } => {
+                self.part();
+                self.direct(names, directive_of(&name.bytes), &arguments.list)
+            }
+            Body::Instruction {
+                rep,
+                name,
+                arguments,
+            } => self.instruction(names, *rep, &name.bytes, &arguments.list),
+        }
+    }
+
+    /// What an item makes, within the limits.
+    #[tactic(auto, unfolding(crate::specs::Burnt::item_made))]
+    fn make_item(&mut self, names: &Names, body: &Body) -> Result<(), Stop>
+        requires few { length names.now ≤ 65536 }
+        requires size { body_count body.now ≤ 4194304 }
+        requires held { AreHeld names.now (body_names body.now) }
+        requires sound { IsSound (length names.now) self.old }
+        requires within { IsWithin self.old }
+        ensures makes { Makes self.new result (item_made names.now self.old body.now) }
+        ensures sound { OnOk result (IsSound (length names.now) self.new) }
+        ensures within { OnOk result (IsWithin self.new) }
+    {
+        self.make(names, body)?;
+        limited(self)
+    }
+}
+
+/// What all items make, within the limits.
+fn make_all(alloc: Global, names: &Names, items: &[SourceItem]) -> Result<Assembly, BurnFault>
+    requires readable { IsReadable items.now }
+    requires names { names.now ≡ names_in items.now }
+    ensures makes { Gives result (all_made items.now) }
+    ensures sound { IfOk result (λ made. IsSound (length names.now) made) }
+    ensures within { IfOk result (λ made. IsWithin made) }
+{
+    let mut made = match Assembly::new(alloc, names) {
+        Err(AllocError) => return Err(BurnFault::Memory),
+        Ok(made) => made,
+    };
+    for item in items {
+        match made.make_item(names, &item.body) {
+            Err(stop) => return Err(fault(item.line, stop)),
+            Ok(()) => {}
+        }
+    }
+    Ok(made)
+}
+
+fn fault(line: u32, stop: Stop) -> BurnFault
+    ensures { FaultOf line stop result }
+{
+    match stop {
+        Stop::Cause(cause) => BurnFault::At { line, cause },
+        Stop::Memory => BurnFault::Memory,
+    }
+}
+
+/// The object of a source's items: each instruction in its chosen spelling, a sensitive one padded with
+/// NOPs to five bytes and annotated. The line of a fault is that of the first item that is refused.
+#[tactic(auto, unfolding(crate::specs::Burnt::burnt))]
+pub fn burn(alloc: Global, source: &Source) -> Result<Object, BurnFault>
+    requires { IsReadable source.now }
+    // The object, or the first refusal, is this function of the items.
+    ensures exact { Gives result (burnt source.now) }
+    // A file can be written of the object.
+    ensures writable { IfOk result (λ o. IsWholeObject o) }
+    // Its annotations are those of sites in its text.
+    ensures sites { IfOk result (λ o. IsAnnotated o) }
+    ensures limits { IfOk result (λ o. IsSmall o) }
+{
+    object_length();
+    let names = match names_of(alloc, source) {
+        Err(AllocError) => return Err(BurnFault::Memory),
+        Ok(names) => names,
+    };
+    let made = match make_all(alloc, &names, &source.items) {
+        Err(fault) => return Err(fault),
+        Ok(made) => made,
+    };
+    match object(alloc, &names, made) {
+        Err(AllocError) => Err(BurnFault::Memory),
+        Ok(object) => Ok(object),
+    }
+}

@@ -1,0 +1,152 @@
+//! The directives that make data.
+
+ghost use Rattle.std.specs.Prelude.{◌≡◌, ◌≤◌, ◌<◌, ◌+◌, ◌*◌, ◌++◌, ◌^◌, IsTrue, length, fold, OnOk};
+ghost use Rattle.std.specs.List.{flat_map};
+ghost use Rattle.afterburner.specs.Burnt.{Makes};
+ghost use Rattle.afterburner.specs.Directives as spec;
+ghost use Rattle.afterburner.specs.declared.value.Width.TheVariants as width;
+ghost use Rattle.afterburner.specs.Values as values;
+ghost use Rattle.afterburner.specs.Arguments as arguments;
+
+use crate::argument::{number, symbol, text};
+use crate::assembly::Assembly;
+use crate::fault::{BurnCause, Stop};
+use crate::limits::INIT_LIMIT;
+use crate::names::Names;
+use crate::section::{Section, is_init, put};
+use crate::value::{Width, fits, put_value};
+use asm_parse::Argument;
+use elf_form::Reloc;
+use std::alloc::AllocError;
+
+fn all_fit(width: Width, arguments: &[Argument]) -> bool
+    ensures { result ≡ spec.all_fit width arguments.now }
+{
+    arguments
+        .iter()
+        .all(|argument| fits(width, number(&argument.form)))
+}
+
+fn put_values(out: &mut Vec<u8>, width: Width, arguments: &[Argument]) -> Result<(), AllocError>
+    requires { IsTrue (spec.all_fit width arguments.now) }
+    ensures { OnOk result (out.new.items ≡ out.old.items ++ spec.values width arguments.now) }
+{
+    for argument in arguments {
+        put_value(out, width, number(&argument.form))?;
+    }
+    Ok(())
+}
+
+fn put_string(out: &mut Vec<u8>, ended: bool, argument: &Argument) -> Result<(), AllocError>
+    ensures { OnOk result (out.new.items ≡ out.old.items ++ spec.string_bytes ended argument.now) }
+{
+    out.extend_from_slice(text(&argument.form))?;
+    if ended {
+        out.push(0)?;
+    }
+    Ok(())
+}
+
+fn put_strings(out: &mut Vec<u8>, ended: bool, arguments: &[Argument]) -> Result<(), AllocError>
+    ensures { OnOk result (out.new.items ≡ out.old.items ++ flat_map (spec.string_bytes ended) arguments.now) }
+{
+    for argument in arguments {
+        put_string(out, ended, argument)?;
+    }
+    Ok(())
+}
+
+impl Assembly {
+    /// Numbers of one or of two bytes.
+    #[tactic(auto, unfolding(crate::specs::Directives::numbers))]
+    pub fn numbers(&mut self, width: Width, arguments: &[Argument]) -> Result<(), Stop>
+        ensures { Makes self.new result (spec.numbers self.old width arguments.now) }
+    {
+        if !all_fit(width, arguments) {
+            return Err(Stop::Cause(BurnCause::ValueRange));
+        }
+        if !is_init(self.section) {
+            return Err(Stop::Cause(BurnCause::DataInText));
+        }
+        put_values(&mut self.init, width, arguments)?;
+        Ok(())
+    }
+
+    /// A value of four bytes, with the relocation of its name.
+    fn put_long(&mut self, names: &Names, argument: &Argument) -> Result<(), AllocError>
+        requires few { length names.now ≤ 65536 }
+        requires room { length self.old.init < 2 ^ 32 }
+        requires fits { IsTrue (values.fits 32 (arguments.number_in argument.now.form)) }
+        ensures { OnOk result (self.new ≡ spec.with_long names.now self.old argument.now) }
+    {
+        if let Some(name) = symbol(argument) {
+            self.data_relocs.push(Reloc {
+                in_text: false,
+                at: self.init.len() as u32,
+                symbol: names.number_of(&name.bytes) as u32,
+                relative: false,
+            })?;
+        }
+        put_value(&mut self.init, Width::Long, number(&argument.form))
+    }
+
+    fn put_longs(&mut self, names: &Names, arguments: &[Argument]) -> Result<(), AllocError>
+        requires few { length names.now ≤ 65536 }
+        requires room { length self.old.init + 4 * length arguments.now < 2 ^ 32 }
+        requires fits { IsTrue (spec.all_fit width.Long arguments.now) }
+        ensures { OnOk result (self.new ≡ fold (spec.with_long names.now) self.old arguments.now) }
+    {
+        for argument in arguments {
+            self.put_long(names, argument)?;
+        }
+        Ok(())
+    }
+
+    /// Values of four bytes.
+    #[tactic(auto, unfolding(crate::specs::Directives::longs))]
+    pub fn longs(&mut self, names: &Names, arguments: &[Argument]) -> Result<(), Stop>
+        requires few { length names.now ≤ 65536 }
+        requires room { length self.old.init + 4 * length arguments.now < 2 ^ 32 }
+        ensures { Makes self.new result (spec.longs names.now self.old arguments.now) }
+    {
+        if !all_fit(Width::Long, arguments) {
+            return Err(Stop::Cause(BurnCause::ValueRange));
+        }
+        if !is_init(self.section) {
+            return Err(Stop::Cause(BurnCause::DataInText));
+        }
+        self.put_longs(names, arguments)?;
+        Ok(())
+    }
+
+    /// Strings, each with a zero byte at its end where `ended` is set.
+    #[tactic(auto, unfolding(crate::specs::Directives::strings))]
+    pub fn strings(&mut self, ended: bool, arguments: &[Argument]) -> Result<(), Stop>
+        ensures { Makes self.new result (spec.strings self.old ended arguments.now) }
+    {
+        if !is_init(self.section) {
+            return Err(Stop::Cause(BurnCause::DataInText));
+        }
+        put_strings(&mut self.init, ended, arguments)?;
+        Ok(())
+    }
+
+    /// Zero bytes.
+    pub fn zeros(&mut self, count: u64) -> Result<(), Stop>
+        requires size { count < 2 ^ 63 }
+        requires room { length self.old.init + self.old.bss < 2 ^ 62 }
+        ensures { Makes self.new result (spec.zeros self.old count) }
+    {
+        match self.section {
+            Section::Text => return Err(Stop::Cause(BurnCause::DataInText)),
+            Section::Init => {
+                if self.init.len() + self.bss + count as usize > INIT_LIMIT {
+                    return Err(Stop::Cause(BurnCause::InitTooLarge));
+                }
+                put(&mut self.init, count as usize, 0)?;
+            }
+            Section::Bss => self.bss += count as usize,
+        }
+        Ok(())
+    }
+}

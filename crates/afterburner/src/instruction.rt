@@ -1,0 +1,221 @@
+//! Instructions: spelled, padded and annotated.
+
+ghost use Rattle.std.specs.Prelude.{◌≡◌, ◌≤◌, ◌<◌, ◌+◌, ◌++◌, ◌^◌, length, take, OnOk};
+ghost use Rattle.ia32_types.specs.Site.{sensitive_kind};
+ghost use Rattle.asm_parse.specs.Readable.{argument_names};
+ghost use Rattle.asm_instruction.specs.Assembled.{IsShort, HasFields};
+ghost use Rattle.afterburner.specs.Burnt.{Makes};
+ghost use Rattle.afterburner.specs.Sound.{IsSound, AreHeld};
+ghost use Rattle.afterburner.specs.Causes.{cause_of};
+ghost use Rattle.afterburner.specs.Instructions as spec;
+
+use crate::argument::symbol_at;
+use crate::assembly::Assembly;
+use crate::fault::{BurnCause, Stop};
+use crate::limits::TEXT_LIMIT;
+use crate::names::Names;
+use crate::section::{is_text, put};
+use asm_instruction::{Assembled, Named, Refusal, assemble};
+use asm_parse::Argument;
+use elf_form::Reloc;
+use ia32_types::{SiteKind, sensitive};
+use sites::Site;
+use std::alloc::AllocError;
+
+/// NOP.
+const NOP: u8 = 0x90;
+
+/// HLT.
+const HLT: u8 = 0xF4;
+
+fn cause_of(refusal: Refusal) -> BurnCause
+    ensures { result ≡ cause_of refusal }
+{
+    match refusal {
+        Refusal::UnknownInstruction => BurnCause::UnknownInstruction,
+        Refusal::RefusedInstruction => BurnCause::RefusedInstruction,
+        Refusal::Operands => BurnCause::Operands,
+        Refusal::ValueRange => BurnCause::ValueRange,
+    }
+}
+
+/// How many NOPs follow an instruction of this length.
+fn padding(kind: Option<SiteKind>, len: u8) -> usize
+    ensures { result ≡ spec.padding kind len }
+{
+    match kind {
+        None => 0,
+        Some(_) => 5usize.saturating_sub(len as usize),
+    }
+}
+
+fn is_sti(kind: Option<SiteKind>) -> bool
+    ensures { result ≡ spec.is_sti kind }
+{
+    match kind {
+        Some(SiteKind::Sti) => true,
+        _ => false,
+    }
+}
+
+fn is_hlt(kind: Option<SiteKind>) -> bool
+    ensures { result ≡ spec.is_hlt kind }
+{
+    match kind {
+        Some(SiteKind::Hlt) => true,
+        _ => false,
+    }
+}
+
+fn put_site(
+    sites: &mut Vec<Site>,
+    at: u32,
+    kind: Option<SiteKind>,
+    len: u8,
+) -> Result<(), AllocError>
+    ensures { OnOk result (sites.new.items ≡ sites.old.items ++ spec.site_at at kind len) }
+{
+    if let Some(kind) = kind {
+        let total = if len < 5 { 5 } else { len };
+        sites.push(Site {
+            at,
+            kind,
+            len,
+            total,
+        })?;
+    }
+    Ok(())
+}
+
+/// The relocation of a field of the instruction at this offset.
+fn put_field(
+    relocs: &mut Vec<Reloc>,
+    names: &Names,
+    at: u32,
+    arguments: &[Argument],
+    field: Option<Named>,
+) -> Result<(), AllocError>
+    requires few { length names.now ≤ 65536 }
+    requires room { at < 2 ^ 31 }
+    ensures { OnOk result (relocs.new.items ≡ relocs.old.items ++ spec.field_reloc names.now at arguments.now field) }
+{
+    if let Some(field) = field {
+        if let Some(name) = symbol_at(arguments, field.argument as usize) {
+            relocs.push(Reloc {
+                in_text: true,
+                at: at + field.at as u32,
+                symbol: names.number_of(&name.bytes) as u32,
+                relative: field.relative,
+            })?;
+        }
+    }
+    Ok(())
+}
+
+/// The bytes of the spelling.
+fn spelled(assembled: &Assembled) -> &[u8]
+    requires { assembled.now.spelling.len ≤ 16 }
+    ensures bytes { result.now ≡ take assembled.now.spelling.len assembled.now.spelling.bytes }
+    ensures len { length (take assembled.now.spelling.len assembled.now.spelling.bytes) ≡ assembled.now.spelling.len }
+{
+    &assembled.spelling.bytes[..assembled.spelling.len as usize]
+}
+
+impl Assembly {
+    /// An instruction at the end of the text.
+    #[tactic(auto, unfolding(crate::specs::Instructions::added))]
+    fn add(
+        &mut self,
+        names: &Names,
+        arguments: &[Argument],
+        assembled: &Assembled,
+    ) -> Result<(), AllocError>
+        requires few { length names.now ≤ 65536 }
+        requires room { length self.old.text < 2 ^ 31 }
+        requires len { assembled.now.spelling.len ≤ 16 }
+        ensures made { OnOk result (self.new ≡ spec.added names.now self.old arguments.now assembled.now) }
+    {
+        let at = self.text.len() as u32;
+        let kind = sensitive(&assembled.insn);
+        let len = assembled.spelling.len;
+        self.text.extend_from_slice(spelled(assembled))?;
+        put(&mut self.text, padding(kind, len), NOP)?;
+        put_site(&mut self.sites, at, kind, len)?;
+        put_field(&mut self.text_relocs, names, at, arguments, assembled.disp)?;
+        put_field(&mut self.text_relocs, names, at, arguments, assembled.imm)?;
+        self.after_sti = is_sti(kind);
+        Ok(())
+    }
+
+    /// HLT directly behind STI.
+    #[tactic(auto, unfolding(crate::specs::Instructions::paired))]
+    fn pair(&mut self)
+        requires text { 4 ≤ length self.old.text }
+        requires site { 1 ≤ length self.old.sites }
+        ensures { self.new ≡ spec.paired self.old }
+    {
+        let nop = self.text.len() - 4;
+        self.text[nop] = HLT;
+        let last = self.sites.len() - 1;
+        let at = self.sites[last].at;
+        self.sites[last] = Site {
+            at,
+            kind: SiteKind::StiHlt,
+            len: 2,
+            total: 5,
+        };
+        self.after_sti = false;
+    }
+
+    #[tactic(auto, using(crate::proofs::Spelled::added_sound, crate::proofs::Spelled::paired_sound))]
+    fn place(
+        &mut self,
+        names: &Names,
+        arguments: &[Argument],
+        assembled: &Assembled,
+    ) -> Result<(), AllocError>
+        requires few { length names.now ≤ 65536 }
+        requires room { length self.old.text ≤ TEXT_LIMIT }
+        requires short { IsShort assembled.now }
+        requires fields { HasFields arguments.now assembled.now }
+        requires held { AreHeld names.now (argument_names arguments.now) }
+        requires sound { IsSound (length names.now) self.old }
+        ensures made { OnOk result (self.new ≡ spec.placed names.now self.old arguments.now assembled.now) }
+        ensures sound { OnOk result (IsSound (length names.now) self.new) }
+    {
+        let _bytes = spelled(assembled).len();
+        if self.after_sti && is_hlt(sensitive(&assembled.insn)) {
+            self.pair();
+            return Ok(());
+        }
+        self.add(names, arguments, assembled)
+    }
+
+    /// An instruction; none stands outside text.
+    #[tactic(auto, unfolding(crate::specs::Instructions::instruction))]
+    pub fn instruction(
+        &mut self,
+        names: &Names,
+        rep: bool,
+        name: &[u8],
+        arguments: &[Argument],
+    ) -> Result<(), Stop>
+        requires few { length names.now ≤ 65536 }
+        requires room { length self.old.text ≤ TEXT_LIMIT }
+        requires held { AreHeld names.now (argument_names arguments.now) }
+        requires sound { IsSound (length names.now) self.old }
+        ensures makes { Makes self.new result (spec.instruction names.now self.old rep name.now arguments.now) }
+        ensures sound { OnOk result (IsSound (length names.now) self.new) }
+    {
+        match assemble(rep, name, arguments) {
+            Err(refusal) => Err(Stop::Cause(cause_of(refusal))),
+            Ok(assembled) => {
+                if !is_text(self.section) {
+                    return Err(Stop::Cause(BurnCause::DataInText));
+                }
+                self.place(names, arguments, &assembled)?;
+                Ok(())
+            }
+        }
+    }
+}

@@ -1,0 +1,27 @@
+//! From the items of a source to its object: instructions in their chosen spellings, padded and
+//! annotated, data, symbols and relocations.
+#![tactic(auto)]
+
+mod argument;
+mod assembly;
+mod burning;
+mod bytes;
+mod data;
+mod directive;
+mod fault;
+mod instruction;
+mod limits;
+mod names;
+mod object;
+mod section;
+mod symbol;
+mod value;
+
+pub use assembly::Assembly;
+pub use burning::burn;
+pub use directive::Directive;
+pub use fault::{BurnCause, BurnFault};
+pub use names::Names;
+pub use section::Section;
+pub use symbol::{Binding, Definition};
+pub use value::Width;

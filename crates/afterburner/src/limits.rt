@@ -1,0 +1,36 @@
+//! The limits of an object.
+
+ghost use Rattle.std.specs.Prelude.{OnOk};
+ghost use Rattle.afterburner.specs.Burnt.{Makes, limited};
+ghost use Rattle.afterburner.specs.Sound.{IsWithin};
+
+use crate::assembly::Assembly;
+use crate::fault::{BurnCause, Stop};
+
+/// Bytes of text.
+pub const TEXT_LIMIT: usize = 4194304;
+
+/// Bytes of data and zeroed bytes together.
+pub const INIT_LIMIT: usize = 33554432;
+
+/// Sites.
+pub const SITE_LIMIT: usize = 262144;
+
+/// Tests the limits behind an item.
+#[tactic(auto, unfolding(crate::specs::Burnt::limited))]
+pub fn limited(made: &Assembly) -> Result<(), Stop>
+    ensures makes { Makes made.now result (limited made.now) }
+    ensures within { OnOk result (IsWithin made.now) }
+{
+    if made.text.len() > TEXT_LIMIT {
+        return Err(Stop::Cause(BurnCause::TextTooLarge));
+    }
+    let init = made.init.len();
+    if init > INIT_LIMIT || made.bss > INIT_LIMIT - init {
+        return Err(Stop::Cause(BurnCause::InitTooLarge));
+    }
+    if made.sites.len() > SITE_LIMIT {
+        return Err(Stop::Cause(BurnCause::TooManySites));
+    }
+    Ok(())
+}

@@ -1,0 +1,95 @@
+-- An instruction that is put together from its operands.
+use Rattle.std.specs.Prelude.{ℕ, ◌&&◌, Bool, true, false, Option, Some, None}
+use Rattle.ia32_types.specs.declared.insn.Op.{Op}
+use Rattle.ia32_types.specs.declared.insn.Operand.{Operand}
+use Rattle.ia32_types.specs.declared.insn.Operand.TheVariants as operand
+use Rattle.ia32_types.specs.declared.size.Size.{Size}
+use Rattle.ia32_types.specs.declared.size.Size.TheVariants as size
+use Rattle.asm_instruction.specs.declared.argument.Number.{Number}
+use Rattle.asm_instruction.specs.declared.argument.Memory.{Memory}
+use Rattle.asm_instruction.specs.declared.argument.Given.{Given}
+use Rattle.asm_instruction.specs.declared.argument.Given.TheVariants as given
+use Rattle.asm_instruction.specs.declared.draft.Place.{Place}
+use Rattle.asm_instruction.specs.declared.draft.Pair.{Pair}
+use Rattle.asm_instruction.specs.declared.draft.Pair.TheVariants as pair
+use Rattle.asm_instruction.specs.declared.draft.Draft.{Draft}
+use Rattle.asm_instruction.specs.Names.{or_else, ◌>>=◌}
+use Rattle.asm_instruction.specs.Field.{field, fits_field}
+
+-- ---- operands
+
+abbrev pub of_operand : Operand → Place
+of_operand o = record { operand = o; displacement = None }
+
+abbrev pub nothing : Place
+nothing = of_operand operand.Absent
+
+abbrev pub register : ℕ → Place
+register n = of_operand (operand.Register n)
+
+abbrev pub memory : Memory → Place
+memory m = record { operand = operand.Memory m.address; displacement = Some m.displacement }
+
+abbrev pub register_or_memory : Given → Option Place
+register_or_memory (given.Register s n) = Some (register n)
+register_or_memory (given.Memory m) = Some (memory m)
+register_or_memory _ = None
+
+-- the size of a register
+abbrev pub said : Given → Option Size
+said (given.Register s n) = Some s
+said _ = None
+
+-- ---- source and destination, of which at most one is in memory
+
+abbrev pub paired_register : ℕ → Given → Option Pair
+paired_register n destination = register_or_memory destination >>= λ p. Some (pair.FromRegister n p)
+
+abbrev pub paired_number : Number → Given → Option Pair
+paired_number n destination = register_or_memory destination >>= λ p. Some (pair.Immediate n p)
+
+abbrev pub paired_memory : Memory → Given → Option Pair
+paired_memory m (given.Register s n) = Some (pair.FromMemory (memory m) n)
+paired_memory m _ = None
+
+unfoldable pub paired : Given → Given → Option Pair
+paired (given.Immediate n) destination = paired_number n destination
+paired (given.Register s n) destination = paired_register n destination
+paired (given.Memory m) destination = paired_memory m destination
+paired _ destination = None
+
+-- ---- instructions
+
+abbrev pub displaced : Place → Place → Option Number
+displaced a b = or_else a.displacement b.displacement
+
+abbrev pub argument : Option Number → Option ℕ
+argument (Some n) = Some n.argument
+argument None = None
+
+abbrev pub fits_displacement : Option Number → Bool
+fits_displacement (Some n) = fits_field size.Long n.value
+fits_displacement None = true
+
+unfoldable pub instruction : Op → Size → Place → Place → Draft
+instruction o s a b = record {
+  insn = record { op = o; size = s; a = a.operand; b = b.operand; imm = 0; sel = 0; rep = false };
+  disp = argument (displaced a b);
+  imm = None;
+  relative = false;
+  fits = fits_displacement (displaced a b);
+}
+
+-- with an immediate in a field of this size
+unfoldable pub with_number : Draft → Size → Number → Draft
+with_number d s n = record d {
+  insn = record d.insn { imm = field s n.value };
+  imm = Some n.argument;
+  fits = d.fits && fits_field s n.value;
+}
+
+abbrev pub unary : Op → Size → Place → Draft
+unary o s a = instruction o s a nothing
+
+abbrev pub alone : Op → Draft
+alone o = instruction o size.Long nothing nothing

@@ -1,0 +1,78 @@
+-- The names of instructions, and what they mean with their operands.
+use Rattle.std.specs.Prelude.{ℕ, ◌-◌, ◌==◌, Bool, true, false, List, length, take, slice_index, Option, Some, None, if◌then◌else◌}
+use Rattle.ia32_types.specs.declared.size.Size.{Size}
+use Rattle.ia32_types.specs.declared.size.Size.TheVariants as size
+use Rattle.asm_instruction.specs.declared.argument.Operands.{Operands}
+use Rattle.asm_instruction.specs.declared.draft.Draft.{Draft}
+use Rattle.asm_instruction.specs.declared.mnemonic.Family.{Family}
+use Rattle.asm_instruction.specs.declared.mnemonic.Family.TheVariants as family
+use Rattle.asm_instruction.specs.declared.mnemonic.Mnemonic.{Mnemonic}
+use Rattle.asm_instruction.specs.Names.{found, or_else, ◌>>=◌}
+use Rattle.asm_instruction.specs.Arithmetic.{two_operand_names, one_operand_names, arithmetic_draft}
+use Rattle.asm_instruction.specs.Shift.{shift_names, shift_draft}
+use Rattle.asm_instruction.specs.Moves.{move_names, extend_names, move_draft}
+use Rattle.asm_instruction.specs.Stack.{stack_names, frame_names, stack_draft}
+use Rattle.asm_instruction.specs.Control.{branch_names, control_names, conditional_name, control_draft}
+use Rattle.asm_instruction.specs.Strings.{string_names, string_draft}
+use Rattle.asm_instruction.specs.Flags.{plain_names, plain_draft}
+use Rattle.asm_instruction.specs.System.{system_names, page_names, system_draft}
+
+abbrev pub or_family : Option Family → Option Family → Option Family
+or_family = or_else
+
+unfoldable pub exact_instruction : List ℕ → Option Family
+exact_instruction name = or_family (or_family (found plain_names name) (found frame_names name)) (or_family (found extend_names name) (found string_names name))
+
+-- a name that stands as it is
+unfoldable pub exact_name : List ℕ → Option Family
+exact_name name = or_family (exact_instruction name) (or_family (or_family (found page_names name) (found control_names name)) (conditional_name name))
+
+-- a name that may have a suffix
+unfoldable pub sized_name : List ℕ → Option Family
+sized_name name =
+    or_family (or_family (or_family (found two_operand_names name) (found one_operand_names name)) (or_family (found shift_names name) (found move_names name)))
+    (or_family (or_family (found stack_names name) (found branch_names name)) (found system_names name))
+
+-- b, w or l
+abbrev pub suffix : ℕ → Option Size
+suffix letter = if letter == 98 then Some size.Byte else if letter == 119 then Some size.Word else if letter == 108 then Some size.Long else None
+
+unfoldable pub suffixed : List ℕ → ℕ → Option Mnemonic
+suffixed front letter = do
+  f ← sized_name front
+  s ← suffix letter
+  Some (record { family = f; suffix = Some s })
+
+-- the last letter as a suffix of the name before it
+unfoldable pub with_suffix : List ℕ → Option Mnemonic
+with_suffix name = if length name == 0 then None else suffixed (take (length name - 1) name) (slice_index name (length name - 1))
+
+abbrev pub without_suffix : Option Family → Option Mnemonic → Option Mnemonic
+without_suffix (Some f) others = Some (record { family = f; suffix = None })
+without_suffix None others = others
+
+unfoldable pub known_name : List ℕ → Option Mnemonic
+known_name name = without_suffix (or_family (exact_name name) (sized_name name)) (with_suffix name)
+
+-- ---- what it means with its operands
+
+abbrev pub by_family : Family → Option Size → Operands → Option Draft
+by_family (family.Arithmetic k) suffix os = arithmetic_draft k suffix os
+by_family (family.Shift o) suffix os = shift_draft o suffix os
+by_family (family.Moves k) suffix os = move_draft k suffix os
+by_family (family.Stack k) suffix os = stack_draft k suffix os
+by_family (family.Control k) suffix os = control_draft k suffix os
+by_family (family.Strings o s) suffix os = string_draft false o s os
+by_family (family.Plain o) suffix os = plain_draft o suffix os
+by_family (family.System k) suffix os = system_draft k suffix os
+
+unfoldable pub without_repeat : Mnemonic → Operands → Option Draft
+without_repeat m os = by_family m.family m.suffix os
+
+abbrev pub repeated : Family → Operands → Option Draft
+repeated (family.Strings o s) os = string_draft true o s os
+repeated _ os = None
+
+-- the repeat prefix stands before string instructions alone
+unfoldable pub drafted : Bool → Mnemonic → Operands → Option Draft
+drafted rep m os = if rep then repeated m.family os else without_repeat m os

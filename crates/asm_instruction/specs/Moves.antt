@@ -1,0 +1,116 @@
+-- Moves between registers and memory.
+use Rattle.std.specs.Prelude.{codes, ℕ, [], ◌∷◌, Option, Some, None, min, max}
+use Rattle.ia32_types.specs.declared.register.Seg.{Seg}
+use Rattle.ia32_types.specs.declared.insn.Op.{Op}
+use Rattle.ia32_types.specs.declared.insn.Op.TheVariants as op
+use Rattle.ia32_types.specs.declared.insn.Operand.{Operand}
+use Rattle.ia32_types.specs.declared.insn.Operand.TheVariants as operand
+use Rattle.ia32_types.specs.declared.size.Size.{Size}
+use Rattle.ia32_types.specs.declared.size.Size.TheVariants as size
+use Rattle.asm_instruction.specs.declared.argument.Given.{Given}
+use Rattle.asm_instruction.specs.declared.argument.Given.TheVariants as given
+use Rattle.asm_instruction.specs.declared.argument.Operands.{Operands}
+use Rattle.asm_instruction.specs.declared.argument.Operands.TheVariants as operands
+use Rattle.asm_instruction.specs.declared.moves.Moves.{Moves}
+use Rattle.asm_instruction.specs.declared.moves.Moves.TheVariants as kind
+use Rattle.asm_instruction.specs.declared.draft.Draft.{Draft}
+use Rattle.asm_instruction.specs.declared.draft.Place.{Place}
+use Rattle.asm_instruction.specs.declared.draft.Pair.{Pair}
+use Rattle.asm_instruction.specs.declared.draft.Pair.TheVariants as pair
+use Rattle.asm_instruction.specs.declared.mnemonic.Family.{Family}
+use Rattle.asm_instruction.specs.declared.mnemonic.Family.TheVariants as family
+use Rattle.asm_instruction.specs.Names.{Table, ◌>>=◌}
+use Rattle.asm_instruction.specs.Sizes.{agreed}
+use Rattle.asm_instruction.specs.Draft.{of_operand, register, register_or_memory, said, paired, instruction}
+use Rattle.asm_instruction.specs.Arithmetic.{of_pair, to_register}
+
+-- with a suffix, or none
+unfoldable pub move_names : Table Family
+move_names = (codes "mov", family.Moves kind.Move) ∷ (codes "lea", family.Moves kind.Lea) ∷ (codes "xchg", family.Moves kind.Exchange) ∷ []
+
+-- from the first size to 32 bits
+unfoldable pub extend_names : Table Family
+extend_names =
+    (codes "movzbl", family.Moves (kind.Extend op.Movzx size.Byte)) ∷ (codes "movzwl", family.Moves (kind.Extend op.Movzx size.Word)) ∷
+    (codes "movsbl", family.Moves (kind.Extend op.Movsx size.Byte)) ∷ (codes "movswl", family.Moves (kind.Extend op.Movsx size.Word)) ∷ []
+
+-- ---- MOV
+
+-- with a segment or control register the other operand has 32 bits
+unfoldable pub special : Op → Option Size → Given → Place → Place → Option Draft
+special o suffix g a b = agreed suffix (said g) (Some size.Long) >>= λ s. Some (instruction o s a b)
+
+unfoldable pub from_segment : Option Size → Seg → Given → Option Draft
+from_segment suffix segment g = register_or_memory g >>= λ to. special op.ReadSeg suffix g to (of_operand (operand.Segment segment))
+
+unfoldable pub to_segment : Option Size → Given → Seg → Option Draft
+to_segment suffix g segment = register_or_memory g >>= λ from. special op.LoadSeg suffix g (of_operand (operand.Segment segment)) from
+
+unfoldable pub from_control : Option Size → ℕ → Given → Option Draft
+from_control suffix control g = register_or_memory g >>= λ to. special op.ReadControl suffix g to (of_operand (operand.Control control))
+
+unfoldable pub to_control : Option Size → Given → ℕ → Option Draft
+to_control suffix g control = register_or_memory g >>= λ from. special op.WriteControl suffix g (of_operand (operand.Control control)) from
+
+unfoldable pub general : Option Size → Given → Given → Option Draft
+general suffix source destination = do
+  p ← paired source destination
+  s ← agreed suffix (said source) (said destination)
+  Some (of_pair op.Mov s p)
+
+unfoldable pub moved : Option Size → Given → Given → Option Draft
+moved suffix (given.Segment segment) to = from_segment suffix segment to
+moved suffix (given.Control control) to = from_control suffix control to
+moved suffix from (given.Segment segment) = to_segment suffix from segment
+moved suffix from (given.Control control) = to_control suffix from control
+moved suffix from to = general suffix from to
+
+-- ---- MOVZX and MOVSX, whose size is that of the source
+
+abbrev pub into_long : Op → Size → Given → Place → Option Draft
+into_long o s (given.Register size.Long n) from = Some (instruction o s (register n) from)
+into_long o s _ from = None
+
+unfoldable pub extended : Op → Size → Given → Given → Option Draft
+extended o size source destination = do
+  from ← register_or_memory source
+  s ← agreed (Some size) (said source) None
+  into_long o s destination from
+
+-- ---- LEA
+
+unfoldable pub effective : Option Size → Given → Given → Option Draft
+effective suffix (given.Memory m) destination = to_register op.Lea suffix (given.Memory m) destination
+effective suffix _ destination = None
+
+-- ---- XCHG: of two registers the one of the lower number stands first, else memory
+
+abbrev pub with_register : Size → ℕ → Place → Operand → Draft
+with_register s n other (operand.Register m) = instruction op.Xchg s (register (min n m)) (register (max n m))
+with_register s n other _ = instruction op.Xchg s other (register n)
+
+abbrev pub two_registers : Size → ℕ → Place → Draft
+two_registers s n other = with_register s n other other.operand
+
+abbrev pub exchange : Size → Pair → Option Draft
+exchange s (pair.Immediate n place) = None
+exchange s (pair.FromRegister n place) = Some (two_registers s n place)
+exchange s (pair.FromMemory place n) = Some (instruction op.Xchg s place (register n))
+
+unfoldable pub exchanged : Option Size → Given → Given → Option Draft
+exchanged suffix source destination = do
+  p ← paired source destination
+  s ← agreed suffix (said source) (said destination)
+  exchange s p
+
+-- ----
+
+abbrev pub move_of : Moves → Option Size → Given → Given → Option Draft
+move_of kind.Move suffix source destination = moved suffix source destination
+move_of (kind.Extend o s) suffix source destination = extended o s source destination
+move_of kind.Lea suffix source destination = effective suffix source destination
+move_of kind.Exchange suffix source destination = exchanged suffix source destination
+
+unfoldable pub move_draft : Moves → Option Size → Operands → Option Draft
+move_draft k suffix (operands.Two source destination) = move_of k suffix source destination
+move_draft k suffix _ = None

@@ -1,0 +1,53 @@
+-- Shifts and rotations.
+use Rattle.std.specs.Prelude.{codes, ◌==◌, [], ◌∷◌, Option, Some, None, if◌then◌else◌}
+use Rattle.ia32_types.specs.declared.insn.Op.{Op}
+use Rattle.ia32_types.specs.declared.insn.Op.TheVariants as op
+use Rattle.ia32_types.specs.declared.size.Size.{Size}
+use Rattle.ia32_types.specs.declared.size.Size.TheVariants as size
+use Rattle.asm_instruction.specs.declared.argument.Number.{Number}
+use Rattle.asm_instruction.specs.declared.argument.Given.{Given}
+use Rattle.asm_instruction.specs.declared.argument.Given.TheVariants as given
+use Rattle.asm_instruction.specs.declared.argument.Operands.{Operands}
+use Rattle.asm_instruction.specs.declared.argument.Operands.TheVariants as operands
+use Rattle.asm_instruction.specs.declared.draft.Draft.{Draft}
+use Rattle.asm_instruction.specs.declared.mnemonic.Family.{Family}
+use Rattle.asm_instruction.specs.declared.mnemonic.Family.TheVariants as family
+use Rattle.asm_instruction.specs.Names.{Table, ◌>>=◌}
+use Rattle.asm_instruction.specs.Sizes.{agreed}
+use Rattle.asm_instruction.specs.Draft.{register, register_or_memory, said, instruction, unary, with_number}
+
+-- with a suffix, or none; SAL is another name of SHL (SDM volume 2)
+unfoldable pub shift_names : Table Family
+shift_names =
+    (codes "rol", family.Shift op.Rol) ∷ (codes "ror", family.Shift op.Ror) ∷ (codes "shl", family.Shift op.Shl) ∷
+    (codes "sal", family.Shift op.Shl) ∷ (codes "shr", family.Shift op.Shr) ∷ (codes "sar", family.Shift op.Sar) ∷ []
+
+abbrev pub of_one : Draft → Draft
+of_one d = record d { insn = record d.insn { imm = 1 } }
+
+-- without a count it is 1
+unfoldable pub by_one : Op → Option Size → Given → Option Draft
+by_one o suffix g = do
+  place ← register_or_memory g
+  s ← agreed suffix (said g) None
+  Some (of_one (unary o s place))
+
+-- the count is a byte
+unfoldable pub by_number : Op → Option Size → Number → Given → Option Draft
+by_number o suffix count g = do
+  place ← register_or_memory g
+  s ← agreed suffix (said g) None
+  Some (with_number (unary o s place) size.Byte count)
+
+-- by CL, which says nothing of the size
+unfoldable pub by_register : Op → Option Size → Given → Option Draft
+by_register o suffix g = do
+  place ← register_or_memory g
+  s ← agreed suffix (said g) None
+  Some (instruction o s place (register 1))
+
+unfoldable pub shift_draft : Op → Option Size → Operands → Option Draft
+shift_draft o suffix (operands.One g) = by_one o suffix g
+shift_draft o suffix (operands.Two (given.Immediate count) g) = by_number o suffix count g
+shift_draft o suffix (operands.Two (given.Register size.Byte n) g) = if n == 1 then by_register o suffix g else None
+shift_draft o suffix _ = None

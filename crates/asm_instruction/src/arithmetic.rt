@@ -1,0 +1,167 @@
+//! Arithmetic and logic.
+
+ghost use Rattle.std.specs.Prelude.{◌≡◌};
+ghost use Rattle.asm_instruction.specs.Names.{found};
+ghost use Rattle.asm_instruction.specs.Arithmetic as spec;
+
+use crate::argument::{Given, Number, Operands};
+use crate::bytes::{found, is_text};
+use crate::draft::{
+    Draft, Pair, instruction, paired, register, register_or_memory, said, unary, with_number,
+};
+use crate::mnemonic::Family;
+use crate::sizes::agreed;
+use ia32_types::{Op, Size};
+
+/// The kinds of arithmetic instructions, by the operands that they take.
+#[derive(Clone, Copy, Debug, PartialEq, Eq)]
+pub enum Arithmetic {
+    /// ADD, OR, ADC, SBB, AND, SUB, XOR and CMP.
+    Two(Op),
+    Test,
+    /// NOT, NEG, MUL, DIV, IDIV, INC and DEC.
+    One(Op),
+    /// IMUL, with one to three operands.
+    Multiply,
+}
+
+/// The names of the instructions with two operands.
+#[tactic(auto, unfolding(crate::specs::Arithmetic::two_operand_names))]
+pub fn two_operand_name(name: &[u8]) -> Option<Family>
+    ensures { result ≡ found spec.two_operand_names name.now }
+{
+    found!(name,
+        b"add" => Family::Arithmetic(Arithmetic::Two(Op::Add)),
+        b"or" => Family::Arithmetic(Arithmetic::Two(Op::Or)),
+        b"adc" => Family::Arithmetic(Arithmetic::Two(Op::Adc)),
+        b"sbb" => Family::Arithmetic(Arithmetic::Two(Op::Sbb)),
+        b"and" => Family::Arithmetic(Arithmetic::Two(Op::And)),
+        b"sub" => Family::Arithmetic(Arithmetic::Two(Op::Sub)),
+        b"xor" => Family::Arithmetic(Arithmetic::Two(Op::Xor)),
+        b"cmp" => Family::Arithmetic(Arithmetic::Two(Op::Cmp)),
+        b"test" => Family::Arithmetic(Arithmetic::Test),
+    )
+}
+
+/// The names of the others.
+#[tactic(auto, unfolding(crate::specs::Arithmetic::one_operand_names))]
+pub fn one_operand_name(name: &[u8]) -> Option<Family>
+    ensures { result ≡ found spec.one_operand_names name.now }
+{
+    found!(name,
+        b"not" => Family::Arithmetic(Arithmetic::One(Op::Not)),
+        b"neg" => Family::Arithmetic(Arithmetic::One(Op::Neg)),
+        b"mul" => Family::Arithmetic(Arithmetic::One(Op::Mul)),
+        b"imul" => Family::Arithmetic(Arithmetic::Multiply),
+        b"div" => Family::Arithmetic(Arithmetic::One(Op::Div)),
+        b"idiv" => Family::Arithmetic(Arithmetic::One(Op::Idiv)),
+        b"inc" => Family::Arithmetic(Arithmetic::One(Op::Inc)),
+        b"dec" => Family::Arithmetic(Arithmetic::One(Op::Dec)),
+    )
+}
+
+/// With the destination first.
+pub fn of_pair(op: Op, size: Size, pair: Pair) -> Draft
+    ensures { result ≡ spec.of_pair op size pair }
+{
+    match pair {
+        Pair::Immediate(number, place) => with_number(unary(op, size, place), size, number),
+        Pair::FromRegister(number, place) => instruction(op, size, place, register(number)),
+        Pair::FromMemory(place, number) => instruction(op, size, register(number), place),
+    }
+}
+
+/// With memory first, if there is any.
+pub fn memory_first(op: Op, size: Size, pair: Pair) -> Draft
+    ensures { result ≡ spec.memory_first op size pair }
+{
+    match pair {
+        Pair::FromMemory(place, number) => instruction(op, size, place, register(number)),
+        other => of_pair(op, size, other),
+    }
+}
+
+#[tactic(auto, unfolding(crate::specs::Arithmetic::two))]
+fn two(op: Op, suffix: Option<Size>, source: Given, destination: Given) -> Option<Draft>
+    ensures { result ≡ spec.two op suffix source destination }
+{
+    let pair = paired(source, destination)?;
+    let size = agreed(suffix, said(source), said(destination))?;
+    Some(of_pair(op, size, pair))
+}
+
+#[tactic(auto, unfolding(crate::specs::Arithmetic::tested))]
+fn tested(suffix: Option<Size>, source: Given, destination: Given) -> Option<Draft>
+    ensures { result ≡ spec.tested suffix source destination }
+{
+    let pair = paired(source, destination)?;
+    let size = agreed(suffix, said(source), said(destination))?;
+    Some(memory_first(Op::Test, size, pair))
+}
+
+/// An instruction whose only operand is a register or memory.
+#[tactic(auto, unfolding(crate::specs::Arithmetic::one))]
+pub fn one(op: Op, suffix: Option<Size>, given: Given) -> Option<Draft>
+    ensures { result ≡ spec.one op suffix given }
+{
+    let place = register_or_memory(given)?;
+    let size = agreed(suffix, said(given), None)?;
+    Some(unary(op, size, place))
+}
+
+/// An instruction from a register or memory to a register.
+#[tactic(auto, unfolding(crate::specs::Arithmetic::to_register))]
+pub fn to_register(op: Op, suffix: Option<Size>, source: Given, destination: Given) -> Option<Draft>
+    ensures { result ≡ spec.to_register op suffix source destination }
+{
+    let place = register_or_memory(source)?;
+    let size = agreed(suffix, said(source), said(destination))?;
+    match destination {
+        Given::Register(_, number) => Some(instruction(op, size, register(number), place)),
+        _ => None,
+    }
+}
+
+#[tactic(auto, unfolding(crate::specs::Arithmetic::multiplied))]
+fn multiplied(
+    number: Number,
+    suffix: Option<Size>,
+    source: Given,
+    destination: Given,
+) -> Option<Draft>
+    ensures { result ≡ spec.multiplied number suffix source destination }
+{
+    let product = to_register(Op::ImulBy, suffix, source, destination)?;
+    Some(with_number(product, Size::Long, number))
+}
+
+#[tactic(auto, unfolding(crate::specs::Arithmetic::product))]
+fn product(suffix: Option<Size>, operands: Operands) -> Option<Draft>
+    ensures { result ≡ spec.product suffix operands }
+{
+    match operands {
+        Operands::One(given) => one(Op::Imul, suffix, given),
+        Operands::Two(source, destination) => to_register(Op::Imul, suffix, source, destination),
+        Operands::Three(Given::Immediate(number), source, destination) => {
+            multiplied(number, suffix, source, destination)
+        }
+        _ => None,
+    }
+}
+
+#[tactic(auto, unfolding(crate::specs::Arithmetic::arithmetic_draft))]
+pub fn arithmetic_draft(kind: Arithmetic, suffix: Option<Size>, operands: Operands) -> Option<Draft>
+    ensures { result ≡ spec.arithmetic_draft kind suffix operands }
+{
+    match (kind, operands) {
+        (Arithmetic::Two(op), Operands::Two(source, destination)) => {
+            two(op, suffix, source, destination)
+        }
+        (Arithmetic::Test, Operands::Two(source, destination)) => {
+            tested(suffix, source, destination)
+        }
+        (Arithmetic::One(op), Operands::One(given)) => one(op, suffix, given),
+        (Arithmetic::Multiply, operands) => product(suffix, operands),
+        _ => None,
+    }
+}

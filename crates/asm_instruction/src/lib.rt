@@ -1,0 +1,28 @@
+//! What instruction a statement is.
+#![tactic(auto)]
+
+mod argument;
+mod arithmetic;
+mod assembled;
+mod assembling;
+mod bytes;
+mod condition;
+mod control;
+mod draft;
+mod field;
+mod flags;
+mod mnemonic;
+mod moves;
+mod refused;
+mod register;
+mod shift;
+mod sizes;
+mod stack;
+mod strings;
+mod system;
+
+pub use assembled::{Assembled, Named, Refusal};
+pub use assembling::assemble;
+
+#[cfg(test)]
+mod tests;

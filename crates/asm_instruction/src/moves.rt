@@ -1,0 +1,210 @@
+//! Moves between registers and memory.
+
+ghost use Rattle.std.specs.Prelude.{◌≡◌};
+ghost use Rattle.asm_instruction.specs.Names.{found};
+ghost use Rattle.asm_instruction.specs.Moves as spec;
+
+use crate::argument::{Given, Operands};
+use crate::arithmetic::{memory_first, of_pair, to_register};
+use crate::bytes::{found, is_text};
+use crate::draft::{
+    Draft, Pair, Place, instruction, of_operand, paired, register, register_or_memory, said,
+};
+use crate::mnemonic::Family;
+use crate::sizes::agreed;
+use ia32_types::{Op, Operand, Seg, Size};
+
+/// The kinds of moves, by the operands that they take.
+#[derive(Clone, Copy, Debug, PartialEq, Eq)]
+pub enum Moves {
+    Move,
+    /// MOVZX and MOVSX from this size to 32 bits.
+    Extend(Op, Size),
+    Lea,
+    Exchange,
+}
+
+/// The names of moves that take a suffix.
+#[tactic(auto, unfolding(crate::specs::Moves::move_names))]
+pub fn move_name(name: &[u8]) -> Option<Family>
+    ensures { result ≡ found spec.move_names name.now }
+{
+    found!(name,
+        b"mov" => Family::Moves(Moves::Move),
+        b"lea" => Family::Moves(Moves::Lea),
+        b"xchg" => Family::Moves(Moves::Exchange),
+    )
+}
+
+/// The names of moves that widen, with both sizes in the name.
+#[tactic(auto, unfolding(crate::specs::Moves::extend_names))]
+pub fn extend_name(name: &[u8]) -> Option<Family>
+    ensures { result ≡ found spec.extend_names name.now }
+{
+    found!(name,
+        b"movzbl" => Family::Moves(Moves::Extend(Op::Movzx, Size::Byte)),
+        b"movzwl" => Family::Moves(Moves::Extend(Op::Movzx, Size::Word)),
+        b"movsbl" => Family::Moves(Moves::Extend(Op::Movsx, Size::Byte)),
+        b"movswl" => Family::Moves(Moves::Extend(Op::Movsx, Size::Word)),
+    )
+}
+
+// A move of 32 bits between a special register and a register or memory.
+#[tactic(auto, unfolding(crate::specs::Moves::special))]
+fn special(op: Op, suffix: Option<Size>, given: Given, a: Place, b: Place) -> Option<Draft>
+    ensures { result ≡ spec.special op suffix given a b }
+{
+    let size = agreed(suffix, said(given), Some(Size::Long))?;
+    Some(instruction(op, size, a, b))
+}
+
+#[tactic(auto, unfolding(crate::specs::Moves::from_segment))]
+fn from_segment(suffix: Option<Size>, segment: Seg, destination: Given) -> Option<Draft>
+    ensures { result ≡ spec.from_segment suffix segment destination }
+{
+    let to = register_or_memory(destination)?;
+    special(
+        Op::ReadSeg,
+        suffix,
+        destination,
+        to,
+        of_operand(Operand::Segment(segment)),
+    )
+}
+
+#[tactic(auto, unfolding(crate::specs::Moves::to_segment))]
+fn to_segment(suffix: Option<Size>, source: Given, segment: Seg) -> Option<Draft>
+    ensures { result ≡ spec.to_segment suffix source segment }
+{
+    let from = register_or_memory(source)?;
+    special(
+        Op::LoadSeg,
+        suffix,
+        source,
+        of_operand(Operand::Segment(segment)),
+        from,
+    )
+}
+
+#[tactic(auto, unfolding(crate::specs::Moves::from_control))]
+fn from_control(suffix: Option<Size>, control: u8, destination: Given) -> Option<Draft>
+    ensures { result ≡ spec.from_control suffix control destination }
+{
+    let to = register_or_memory(destination)?;
+    special(
+        Op::ReadControl,
+        suffix,
+        destination,
+        to,
+        of_operand(Operand::Control(control)),
+    )
+}
+
+#[tactic(auto, unfolding(crate::specs::Moves::to_control))]
+fn to_control(suffix: Option<Size>, source: Given, control: u8) -> Option<Draft>
+    ensures { result ≡ spec.to_control suffix source control }
+{
+    let from = register_or_memory(source)?;
+    special(
+        Op::WriteControl,
+        suffix,
+        source,
+        of_operand(Operand::Control(control)),
+        from,
+    )
+}
+
+#[tactic(auto, unfolding(crate::specs::Moves::general))]
+fn general(suffix: Option<Size>, source: Given, destination: Given) -> Option<Draft>
+    ensures { result ≡ spec.general suffix source destination }
+{
+    let pair = paired(source, destination)?;
+    let size = agreed(suffix, said(source), said(destination))?;
+    Some(of_pair(Op::Mov, size, pair))
+}
+
+#[tactic(auto, unfolding(crate::specs::Moves::moved))]
+fn moved(suffix: Option<Size>, source: Given, destination: Given) -> Option<Draft>
+    ensures { result ≡ spec.moved suffix source destination }
+{
+    match (source, destination) {
+        (Given::Segment(segment), to) => from_segment(suffix, segment, to),
+        (Given::Control(control), to) => from_control(suffix, control, to),
+        (from, Given::Segment(segment)) => to_segment(suffix, from, segment),
+        (from, Given::Control(control)) => to_control(suffix, from, control),
+        (from, to) => general(suffix, from, to),
+    }
+}
+
+// The size is that of the source.
+#[tactic(auto, unfolding(crate::specs::Moves::extended))]
+fn extended(op: Op, size: Size, source: Given, destination: Given) -> Option<Draft>
+    ensures { result ≡ spec.extended op size source destination }
+{
+    let from = register_or_memory(source)?;
+    let size = agreed(Some(size), said(source), None)?;
+    match destination {
+        Given::Register(Size::Long, number) => Some(instruction(op, size, register(number), from)),
+        _ => None,
+    }
+}
+
+#[tactic(auto, unfolding(crate::specs::Moves::effective))]
+fn effective(suffix: Option<Size>, source: Given, destination: Given) -> Option<Draft>
+    ensures { result ≡ spec.effective suffix source destination }
+{
+    match source {
+        Given::Memory(_) => to_register(Op::Lea, suffix, source, destination),
+        _ => None,
+    }
+}
+
+fn two_registers(size: Size, number: u8, other: Place) -> Draft
+    ensures { result ≡ spec.two_registers size number other }
+{
+    match other.operand {
+        Operand::Register(second) => {
+            instruction(
+                Op::Xchg,
+                size,
+                register(number.min(second)),
+                register(number.max(second)),
+            )
+        }
+        _ => instruction(Op::Xchg, size, other, register(number)),
+    }
+}
+
+// Of two registers the one of the lower number stands first, else memory.
+#[tactic(auto, unfolding(crate::specs::Moves::exchanged))]
+fn exchanged(suffix: Option<Size>, source: Given, destination: Given) -> Option<Draft>
+    ensures { result ≡ spec.exchanged suffix source destination }
+{
+    let pair = paired(source, destination)?;
+    let size = agreed(suffix, said(source), said(destination))?;
+    match pair {
+        Pair::Immediate(_, _) => None,
+        Pair::FromRegister(number, place) => Some(two_registers(size, number, place)),
+        Pair::FromMemory(place, number) => Some(instruction(
+            Op::Xchg,
+            size,
+            place,
+            register(number),
+        )),
+    }
+}
+
+#[tactic(auto, unfolding(crate::specs::Moves::move_draft))]
+pub fn move_draft(kind: Moves, suffix: Option<Size>, operands: Operands) -> Option<Draft>
+    ensures { result ≡ spec.move_draft kind suffix operands }
+{
+    match operands {
+        Operands::Two(source, destination) => match kind {
+            Moves::Move => moved(suffix, source, destination),
+            Moves::Extend(op, size) => extended(op, size, source, destination),
+            Moves::Lea => effective(suffix, source, destination),
+            Moves::Exchange => exchanged(suffix, source, destination),
+        },
+        _ => None,
+    }
+}

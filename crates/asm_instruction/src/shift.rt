@@ -1,0 +1,80 @@
+//! Shifts and rotations.
+
+ghost use Rattle.std.specs.Prelude.{◌≡◌};
+ghost use Rattle.asm_instruction.specs.Names.{found};
+ghost use Rattle.asm_instruction.specs.Shift as spec;
+
+use crate::argument::{Given, Number, Operands};
+use crate::bytes::{found, is_text};
+use crate::draft::{Draft, instruction, register, register_or_memory, said, unary, with_number};
+use crate::mnemonic::Family;
+use crate::sizes::agreed;
+use ia32_types::{Insn, Op, Size};
+
+/// The names of the shifts and rotations. SAL is another name of SHL.
+#[tactic(auto, unfolding(crate::specs::Shift::shift_names))]
+pub fn shift_name(name: &[u8]) -> Option<Family>
+    ensures { result ≡ found spec.shift_names name.now }
+{
+    found!(name,
+        b"rol" => Family::Shift(Op::Rol),
+        b"ror" => Family::Shift(Op::Ror),
+        b"shl" => Family::Shift(Op::Shl),
+        b"sal" => Family::Shift(Op::Shl),
+        b"shr" => Family::Shift(Op::Shr),
+        b"sar" => Family::Shift(Op::Sar),
+    )
+}
+
+#[tactic(auto, unfolding(crate::specs::Shift::by_one))]
+fn by_one(op: Op, suffix: Option<Size>, given: Given) -> Option<Draft>
+    ensures { result ≡ spec.by_one op suffix given }
+{
+    let place = register_or_memory(given)?;
+    let size = agreed(suffix, said(given), None)?;
+    let draft = unary(op, size, place);
+    Some(Draft {
+        insn: Insn {
+            imm: 1,
+            ..draft.insn
+        },
+        ..draft
+    })
+}
+
+#[tactic(auto, unfolding(crate::specs::Shift::by_number))]
+fn by_number(op: Op, suffix: Option<Size>, count: Number, given: Given) -> Option<Draft>
+    ensures { result ≡ spec.by_number op suffix count given }
+{
+    let place = register_or_memory(given)?;
+    let size = agreed(suffix, said(given), None)?;
+    Some(with_number(unary(op, size, place), Size::Byte, count))
+}
+
+// By CL, which says nothing of the size.
+#[tactic(auto, unfolding(crate::specs::Shift::by_register))]
+fn by_register(op: Op, suffix: Option<Size>, given: Given) -> Option<Draft>
+    ensures { result ≡ spec.by_register op suffix given }
+{
+    let place = register_or_memory(given)?;
+    let size = agreed(suffix, said(given), None)?;
+    Some(instruction(op, size, place, register(1)))
+}
+
+#[tactic(auto, unfolding(crate::specs::Shift::shift_draft))]
+pub fn shift_draft(op: Op, suffix: Option<Size>, operands: Operands) -> Option<Draft>
+    ensures { result ≡ spec.shift_draft op suffix operands }
+{
+    match operands {
+        Operands::One(given) => by_one(op, suffix, given),
+        Operands::Two(Given::Immediate(count), given) => by_number(op, suffix, count, given),
+        Operands::Two(Given::Register(Size::Byte, number), given) => {
+            if number == 1 {
+                by_register(op, suffix, given)
+            } else {
+                None
+            }
+        }
+        _ => None,
+    }
+}

@@ -1,0 +1,113 @@
+//! The stack.
+
+ghost use Rattle.std.specs.Prelude.{◌≡◌};
+ghost use Rattle.asm_instruction.specs.Names.{found};
+ghost use Rattle.asm_instruction.specs.Stack as spec;
+
+use crate::argument::{Given, Number, Operands};
+use crate::bytes::{found, is_text};
+use crate::draft::{Draft, Place, alone, of_operand, register_or_memory, said, unary, with_number};
+use crate::mnemonic::Family;
+use crate::sizes::agreed;
+use ia32_types::{Op, Operand, Seg, Size};
+
+/// The kinds of instructions that push and pop an operand.
+#[derive(Clone, Copy, Debug, PartialEq, Eq)]
+pub enum Stack {
+    Push,
+    Pop,
+}
+
+/// The names of instructions that take a suffix.
+#[tactic(auto, unfolding(crate::specs::Stack::stack_names))]
+pub fn stack_name(name: &[u8]) -> Option<Family>
+    ensures { result ≡ found spec.stack_names name.now }
+{
+    found!(name,
+        b"push" => Family::Stack(Stack::Push),
+        b"pop" => Family::Stack(Stack::Pop),
+        b"leave" => Family::Plain(Op::Leave),
+    )
+}
+
+/// The names of instructions without operands.
+#[tactic(auto, unfolding(crate::specs::Stack::frame_names))]
+pub fn frame_name(name: &[u8]) -> Option<Family>
+    ensures { result ≡ found spec.frame_names name.now }
+{
+    found!(name,
+        b"pusha" => Family::Plain(Op::Pusha),
+        b"pushal" => Family::Plain(Op::Pusha),
+        b"popa" => Family::Plain(Op::Popa),
+        b"popal" => Family::Plain(Op::Popa),
+        b"pushf" => Family::Plain(Op::PushFlags),
+        b"pushfl" => Family::Plain(Op::PushFlags),
+        b"popf" => Family::Plain(Op::PopFlags),
+        b"popfl" => Family::Plain(Op::PopFlags),
+    )
+}
+
+// The stack holds 32 bits an operand.
+#[tactic(auto, unfolding(crate::specs::Stack::of_long))]
+fn of_long(op: Op, suffix: Option<Size>, given: Given, a: Place) -> Option<Draft>
+    ensures { result ≡ spec.of_long op suffix given a }
+{
+    let size = agreed(suffix, said(given), Some(Size::Long))?;
+    Some(unary(op, size, a))
+}
+
+fn of_segment(op: Op, suffix: Option<Size>, given: Given, segment: Seg) -> Option<Draft>
+    ensures { result ≡ spec.of_segment op suffix given segment }
+{
+    of_long(op, suffix, given, of_operand(Operand::Segment(segment)))
+}
+
+#[tactic(auto, unfolding(crate::specs::Stack::of_general))]
+fn of_general(op: Op, suffix: Option<Size>, given: Given) -> Option<Draft>
+    ensures { result ≡ spec.of_general op suffix given }
+{
+    let a = register_or_memory(given)?;
+    of_long(op, suffix, given, a)
+}
+
+#[tactic(auto, unfolding(crate::specs::Stack::of_number))]
+fn of_number(suffix: Option<Size>, number: Number) -> Option<Draft>
+    ensures { result ≡ spec.of_number suffix number }
+{
+    let size = agreed(suffix, Some(Size::Long), None)?;
+    Some(with_number(alone(Op::Push), size, number))
+}
+
+#[tactic(auto, unfolding(crate::specs::Stack::pushed))]
+fn pushed(suffix: Option<Size>, given: Given) -> Option<Draft>
+    ensures { result ≡ spec.pushed suffix given }
+{
+    match given {
+        Given::Immediate(number) => of_number(suffix, number),
+        Given::Segment(segment) => of_segment(Op::PushSeg, suffix, given, segment),
+        _ => of_general(Op::Push, suffix, given),
+    }
+}
+
+#[tactic(auto, unfolding(crate::specs::Stack::popped))]
+fn popped(suffix: Option<Size>, given: Given) -> Option<Draft>
+    ensures { result ≡ spec.popped suffix given }
+{
+    match given {
+        Given::Segment(segment) => of_segment(Op::PopSeg, suffix, given, segment),
+        _ => of_general(Op::Pop, suffix, given),
+    }
+}
+
+#[tactic(auto, unfolding(crate::specs::Stack::stack_draft))]
+pub fn stack_draft(kind: Stack, suffix: Option<Size>, operands: Operands) -> Option<Draft>
+    ensures { result ≡ spec.stack_draft kind suffix operands }
+{
+    match operands {
+        Operands::One(given) => match kind {
+            Stack::Push => pushed(suffix, given),
+            Stack::Pop => popped(suffix, given),
+        },
+        _ => None,
+    }
+}
