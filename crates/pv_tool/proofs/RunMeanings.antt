@@ -55,7 +55,7 @@ ended_end : (end : End) (text : List ℕ) → IsEnd (ended end text).status
 ended_end Bound text = tt
 ended_end (Stopped stop) text = tt
 
-runs_none : (image : Image) (events : Events) (frames n : ℕ) (w : Outcome) → RunsOn image events frames n w → w.stored ≡ None
+pub runs_none : (image : Image) (events : Events) (frames n : ℕ) (w : Outcome) → RunsOn image events frames n w → w.stored ≡ None
 runs_none image events frames n w (Ran text count end run is) = subst (λ (v : Outcome). v.stored ≡ None) (sym is) (ended_none end text)
 runs_none image events frames n w (Small lt is) = ap (λ (v : Outcome). v.stored) is
 
@@ -91,6 +91,6 @@ pub run_means : (image script : List ℕ) (frames n : ℕ) (o : Outside) (st : S
     → RanAs i s frames n o.taken o.taken_after o.puts o.puts_after st → Means (RunBare image script frames n) o st
 run_means image script frames n o st i s has has_script same (inl (w, runs, said)) =
     says (RunBare image script frames n) o w st (runs_end i s frames n w runs) (both o.files image script frames n i s w has has_script runs)
-    (subst (λ (x : Option (List ℕ × List ℕ)). IsStored x o) (sym (runs_none i s frames n w runs)) same) said
+    (subst (λ (x : Option (List ℕ × List ℕ)). IsStored x o.files o.files_after) (sym (runs_none i s frames n w runs)) same) said
 run_means image script frames n o st i s has has_script same (inr (is, none)) =
     subst (λ (x : Status). Means (RunBare image script frames n) o x) (sym is) (same, none)

@@ -4,6 +4,8 @@ use Rattle.board.specs.declared.fault.ScriptCause.{ScriptCause}
 use Rattle.board.specs.declared.fault.ScriptCause.TheVariants as script
 use Rattle.elf_form.specs.declared.cause.ElfCause.{ElfCause}
 use Rattle.elf_form.specs.declared.cause.ElfCause.TheVariants as elf
+use Rattle.elf_link.specs.declared.fault.LinkCause.{LinkCause}
+use Rattle.elf_link.specs.declared.fault.LinkCause.TheVariants as link
 use Rattle.image_check.specs.declared.fault.CheckCause.{CheckCause}
 use Rattle.image_check.specs.declared.fault.CheckCause.TheVariants as check
 use Rattle.image_check.specs.Refusals.{Refusal, Form, Wrong}
@@ -70,3 +72,23 @@ script_line line cause = line_line (script_number cause) line
 -- an image that needs more frames than there are
 abbrev pub small_line : ℕ → ℕ → List ℕ
 small_line need have = codes "refused 90 need " ++ (decimal need ++ (codes " have " ++ (decimal have ++ codes "\n")))
+
+-- a refusal of an object, counted from 0: at an offset, with the bytes of a name, or alone
+abbrev pub object_place_line : ℕ → ℕ → ℕ → List ℕ
+object_place_line number object at = codes "refused " ++ (decimal number ++ (codes " object " ++ (decimal object ++ (codes " at " ++ (decimal at ++ codes "\n")))))
+
+abbrev pub object_name_line : ℕ → ℕ → List ℕ → List ℕ
+object_name_line number object name = codes "refused " ++ (decimal number ++ (codes " object " ++ (decimal object ++ (codes " name " ++ (name ++ codes "\n")))))
+
+abbrev pub object_line : ℕ → ℕ → List ℕ
+object_line number object = codes "refused " ++ (decimal number ++ (codes " object " ++ (decimal object ++ codes "\n")))
+
+-- a refusal of objects that are not linked
+abbrev pub link_line : ℕ → LinkCause → List ℕ
+link_line object (link.NoSymbol name) = object_name_line 30 object name
+link_line object (link.Doubled name) = object_name_line 31 object name
+link_line object (link.NotText at) = object_place_line 32 object at
+link_line object link.TextTooLarge = object_line 33 object
+link_line object link.InitTooLarge = object_line 34 object
+link_line object link.TooManySymbols = object_line 35 object
+link_line object link.SitesForm = object_line 36 object

@@ -1,9 +1,9 @@
 //! Files are read, and what the work of a command came to is told to the outside.
 
-ghost use Rattle.std.specs.Prelude.{◌≡◌, Ok, IfOk, IfErr};
+ghost use Rattle.std.specs.Prelude.{◌≡◌, ◌≤◌, Ok, IfOk, IfErr};
 ghost use Rattle.pv_io.specs.Files.{Holds, IsHeld};
 ghost use Rattle.pv_tool.specs.Outside.{OnlyRead};
-ghost use Rattle.pv_tool.specs.Delivery.{HaltsAs, RefusesAs, Says, Ends};
+ghost use Rattle.pv_tool.specs.Delivery.{HaltsAs, RefusesAs, Says, Ends, Delivers};
 
 use crate::halt::{Halt, Line};
 use crate::status::Status;
@@ -41,6 +41,38 @@ pub fn print<S: Sink>(line: &Line, meant: Status, out: &mut S) -> Status
     match out.put(&line.bytes) {
         Ok(()) => meant,
         Err(_) => Status::WriteFault,
+    }
+}
+
+/// What a command makes: the bytes of a file, and the line that is printed for it.
+#[derive(Drop)]
+pub struct Made {
+    pub file: Vec<u8>,
+    pub line: Line,
+}
+
+/// Stores what was made, and then prints its line.
+pub fn deliver<F: Files, S: Sink>(made: &Made, name: &str, files: &mut F, out: &mut S) -> Status
+    ensures delivers { Delivers name.now made.now.file.items made.now.line (record {
+      files = F.held files.old;
+      files_after = F.held files.new;
+      sure = F.sure files.old;
+      loads = F.load_faults files.old;
+      loads_after = F.load_faults files.new;
+      stores = F.store_faults files.old;
+      stores_after = F.store_faults files.new;
+      taken = S.taken out.old;
+      taken_after = S.taken out.new;
+      puts = S.faults out.old;
+      puts_after = S.faults out.new;
+    }) result }
+    ensures later { F.store_faults files.old ≤ F.store_faults files.new }
+    ensures loads { F.load_faults files.new ≡ F.load_faults files.old }
+{
+    match files.store(name, &made.file) {
+        Ok(()) => print(&made.line, Status::Done, out),
+        Err(IoAnswer::Failed) => Status::WriteFault,
+        Err(IoAnswer::Memory) => Status::Memory,
     }
 }
 

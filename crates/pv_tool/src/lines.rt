@@ -1,11 +1,12 @@
 //! The lines that are printed, and the numbers of the causes in them.
 
 ghost use Rattle.std.specs.Prelude.{◌≡◌, IfOk};
-ghost use Rattle.pv_tool.specs.Lines.{sizes_line, place_line, line_line, small_line, script_number, form_number, check_number};
+ghost use Rattle.pv_tool.specs.Lines.{sizes_line, place_line, line_line, small_line, object_place_line, object_name_line, object_line, link_line, script_number, form_number, check_number};
 
 use crate::halt::Line;
 use board::ScriptCause;
 use elf_form::ElfCause;
+use elf_link::LinkCause;
 use image_check::CheckCause;
 use image_load::TooSmall;
 use std::alloc::{AllocError, Global};
@@ -63,6 +64,62 @@ pub fn small_line(alloc: Global, small: TooSmall) -> Result<Line, AllocError>
     Ok(Line {
         bytes: line.into_bytes(),
     })
+}
+
+/// A refusal of an object, counted from 0, at an offset.
+pub fn object_place_line(
+    alloc: Global,
+    number: u32,
+    object: u32,
+    at: u32,
+) -> Result<Line, AllocError>
+    ensures { IfOk result (λ line. line ≡ object_place_line number object at) }
+{
+    let line = format!(in alloc; "refused {number} object {object} at {at}\n")?;
+    Ok(Line {
+        bytes: line.into_bytes(),
+    })
+}
+
+/// A refusal of an object with the bytes of a name.
+pub fn object_name_line(
+    alloc: Global,
+    number: u32,
+    object: u32,
+    name: &[u8],
+) -> Result<Line, AllocError>
+    ensures { IfOk result (λ line. line ≡ object_name_line number object name.now) }
+{
+    let line = format!(in alloc; "refused {number} object {object} name ")?;
+    let mut bytes = line.into_bytes();
+    bytes.extend_from_slice(name)?;
+    bytes.push(b'\n')?;
+    Ok(Line { bytes })
+}
+
+/// A refusal of an object.
+pub fn object_line(alloc: Global, number: u32, object: u32) -> Result<Line, AllocError>
+    ensures { IfOk result (λ line. line ≡ object_line number object) }
+{
+    let line = format!(in alloc; "refused {number} object {object}\n")?;
+    Ok(Line {
+        bytes: line.into_bytes(),
+    })
+}
+
+/// A refusal of objects that are not linked.
+pub fn link_line(alloc: Global, object: u32, cause: &LinkCause) -> Result<Line, AllocError>
+    ensures { IfOk result (λ line. line ≡ link_line object cause.now) }
+{
+    match cause {
+        LinkCause::NoSymbol(name) => object_name_line(alloc, 30, object, &name.list),
+        LinkCause::Doubled(name) => object_name_line(alloc, 31, object, &name.list),
+        LinkCause::NotText(at) => object_place_line(alloc, 32, object, *at),
+        LinkCause::TextTooLarge => object_line(alloc, 33, object),
+        LinkCause::InitTooLarge => object_line(alloc, 34, object),
+        LinkCause::TooManySymbols => object_line(alloc, 35, object),
+        LinkCause::SitesForm => object_line(alloc, 36, object),
+    }
 }
 
 /// The number of a cause of a script.

@@ -1,20 +1,29 @@
 //! The call that does all that the program does.
 
-ghost use Rattle.std.specs.Prelude.{◌≡◌, ◌≢◌, ◌⊎◌, ◌↔◌, ◌≤◌, List, ℕ, Some, None, map, string_bytes};
+ghost use Rattle.std.specs.Prelude.{◌≡◌, ◌≢◌, ◌⊎◌, ◌↔◌, ◌≤◌, List, ℕ, Some, None, Ok, map, string_bytes};
 ghost use Rattle.pv_io.specs.Causes.{Rose};
-ghost use Rattle.pv_io.specs.Files.{FileMap};
+ghost use Rattle.pv_io.specs.Files.{FileMap, Stores};
 ghost use Rattle.pv_io.specs.Sink.{Appends};
 ghost use Rattle.board.specs.Scripts.{Events};
+ghost use Rattle.elf_form.specs.ObjectParts.{ObjectParts};
+ghost use Rattle.elf_form.specs.ObjectLayout.{object_bytes};
+ghost use Rattle.elf_form.specs.ImageParts.{ImageParts};
+ghost use Rattle.elf_form.specs.ImageLayout.{image_bytes};
+ghost use Rattle.elf_link.specs.Linked.{linked_image};
 ghost use Rattle.image_check.specs.Image.{Image};
 ghost use Rattle.image_load.specs.Boot.{need};
-ghost use Rattle.pv_tool.specs.Words.{Command, Check, RunBare, form_of};
+ghost use Rattle.pv_tool.specs.Words.{Command, Burn, Link, Check, RunBare, form_of};
 ghost use Rattle.pv_tool.specs.View.{command_view, IsWithin};
 ghost use Rattle.pv_tool.specs.Outcome.{Outcome};
+ghost use Rattle.pv_tool.specs.Burning.{HasBurnt, object_made_line};
+ghost use Rattle.pv_tool.specs.Linking.{HasObjects, HoldObjects, image_made_line};
 ghost use Rattle.pv_tool.specs.Checking.{HasImage, accepted_line};
 ghost use Rattle.pv_tool.specs.Running.{HasScript};
-ghost use Rattle.pv_tool.specs.Meaning.{Means, Gives, Keeps, KeepsCount, saved};
+ghost use Rattle.pv_tool.specs.Meaning.{Means, Gives, Keeps, KeepsCount, LeavesObject, saved};
 
+use crate::burn::burn;
 use crate::check::check;
+use crate::link::link;
 use crate::run::run;
 use crate::status::Status;
 use crate::words::{CommandWords, form};
@@ -72,6 +81,33 @@ pub fn top<F: Files, S: Sink>(
         (Rose (F.load_faults files.old) (F.load_faults files.new) → ⊥) → (Rose (S.faults out.old) (S.faults out.new) → ⊥) → result ≢ Status.Memory →
         (result ≡ Status.Done) ⊎ (result ≡ Status.Stopped) }
 
+    // A source that is burnt is stored as its object.
+    ensures complete_burn { (source object : List ℕ) (told : FileMap) (o : ObjectParts) →
+        form_of (map string_bytes words.now.items) ≡ Some (Burn source object) → F.held files.old ≡ Some told →
+        HasBurnt (Some told) source o →
+        (Rose (F.load_faults files.old) (F.load_faults files.new) → ⊥) → (Rose (F.store_faults files.old) (F.store_faults files.new) → ⊥)
+        → (Rose (S.faults out.old) (S.faults out.new) → ⊥) → result ≢ Status.Memory →
+        (result ≡ Status.Done) × Stores (Some told) (F.held files.new) object (object_bytes o) × Appends (S.taken out.old) (S.taken out.new) (object_made_line o) }
+
+    // Objects that are linked are stored as their image.
+    ensures complete_link { (image : List ℕ) (objects : List (List ℕ)) (told : FileMap) (os : List ObjectParts) (parts : ImageParts) →
+        form_of (map string_bytes words.now.items) ≡ Some (Link image objects) → F.held files.old ≡ Some told →
+        HasObjects (Some told) objects os → linked_image os ≡ Ok parts →
+        (Rose (F.load_faults files.old) (F.load_faults files.new) → ⊥) → (Rose (F.store_faults files.old) (F.store_faults files.new) → ⊥)
+        → (Rose (S.faults out.old) (S.faults out.new) → ⊥) → result ≢ Status.Memory →
+        (result ≡ Status.Done) × Stores (Some told) (F.held files.new) image (image_bytes parts) × Appends (S.taken out.old) (S.taken out.new) (image_made_line parts) }
+
+    // The object of a burnt source is stored as a file that is read as that object. Objects whose files stand so are linked
+    // whatever else the files hold: sources that are burnt, and then linked, leave the image of their objects.
+    ensures leaves { (command : Command) → form_of (map string_bytes words.now.items) ≡ Some command →
+        LeavesObject command (F.held files.old) (F.held files.new) result }
+    ensures chain { (image : List ℕ) (objects : List (List ℕ)) (told : FileMap) (os : List ObjectParts) (parts : ImageParts) →
+        form_of (map string_bytes words.now.items) ≡ Some (Link image objects) → F.held files.old ≡ Some told →
+        HoldObjects told objects os → linked_image os ≡ Ok parts →
+        (Rose (F.load_faults files.old) (F.load_faults files.new) → ⊥) → (Rose (F.store_faults files.old) (F.store_faults files.new) → ⊥)
+        → (Rose (S.faults out.old) (S.faults out.new) → ⊥) → result ≢ Status.Memory →
+        (result ≡ Status.Done) × Stores (Some told) (F.held files.new) image (image_bytes parts) × Appends (S.taken out.old) (S.taken out.new) (image_made_line parts) }
+
     // An accepted image is told as one.
     ensures complete_check { (image : List ℕ) (told : FileMap) (program : Image) →
         form_of (map string_bytes words.now.items) ≡ Some (Check image) → F.held files.old ≡ Some told →
@@ -106,8 +142,11 @@ fn do_command<F: Files, S: Sink>(
       puts_after = S.faults out.new;
     }) result }
     ensures stores { KeepsCount (saved (command_view command.entry)) (F.store_faults files.old) (F.store_faults files.new) }
+    ensures leaves { LeavesObject (command_view command.entry) (F.held files.old) (F.held files.new) result }
 {
     match command {
+        CommandWords::Burn { source, object } => burn(alloc, source, object, files, out),
+        CommandWords::Link { image, objects } => link(alloc, image, objects, files, out),
         CommandWords::Check(image) => check(alloc, image, files, out),
         CommandWords::RunBare(words) => run(alloc, words, files, out),
     }
