@@ -195,3 +195,141 @@ fn sure_files_and_a_sure_sink_never_fail(rt: HostRuntime) -> Result<(), Fail> {
     assert_eq!(rt; top(alloc, &run, &mut files, &mut out).number(), 0);
     Ok(())
 }
+
+// What the program answers and prints for some words.
+fn tell(
+    alloc: Global,
+    files: &mut MemFiles,
+    all: &[&str],
+) -> Result<(Status, MemSink), AllocError> {
+    let mut out = MemSink::new(alloc, 4096, Vec::new(alloc))?;
+    let words = words(alloc, all)?;
+    let status = top(alloc, &words, files, &mut out);
+    Ok((status, out))
+}
+
+#[test]
+fn a_source_is_burnt_linked_checked_and_run(rt: HostRuntime) -> Result<(), Fail> {
+    let alloc = rt.alloc();
+    let mut files = MemFiles::new(alloc, Vec::new(alloc))?;
+    files.store(
+        "k.s",
+        b"_start: movl $0x3f8,%edx\nmovb $0x48,%al\noutb %al,%dx\nhlt\n",
+    )?;
+    files.store("none", b"")?;
+    for (words, line) in [
+        (
+            ["burn", "k.s", "k.o"].as_slice(),
+            b"object text 17 data 0 bss 0 sites 2\n".as_slice(),
+        ),
+        (
+            ["link", "k", "k.o"].as_slice(),
+            b"image text 19 data 0 bss 0 sites 2\n".as_slice(),
+        ),
+        (
+            ["check", "k"].as_slice(),
+            b"accepted text 19 data 0 bss 0 sites 2 format 1\n".as_slice(),
+        ),
+        (
+            ["run", "--bare", "k", "none", "2048", "8"].as_slice(),
+            b"2 out8 03f8 48\n2 tx 48\nend steps 8\n".as_slice(),
+        ),
+        (
+            ["burn", "none", "none.o"].as_slice(),
+            b"object text 0 data 0 bss 0 sites 0\n".as_slice(),
+        ),
+        (
+            ["link", "two", "none.o", "k.o"].as_slice(),
+            b"image text 19 data 0 bss 0 sites 2\n".as_slice(),
+        ),
+    ] {
+        let (status, out) = tell(alloc, &mut files, words)?;
+        assert_eq!(rt; out.bytes(), line);
+        assert_eq!(rt; status.number(), 0);
+    }
+    Ok(())
+}
+
+#[test]
+fn refused_sources_and_objects_leave_no_file(rt: HostRuntime) -> Result<(), Fail> {
+    let alloc = rt.alloc();
+    let mut files = MemFiles::new(alloc, Vec::new(alloc))?;
+    files.store("clock.s", b"nop\nnop\nrdtsc\n")?;
+    files.store("register.s", b"movl $1,%eex\n")?;
+    files.store("call.s", b"call foo\n")?;
+    files.store("f.s", b".globl f\nf: nop\n")?;
+    files.store("cut.o", b"\x7FELF")?;
+    for words in [
+        ["burn", "call.s", "call.o"].as_slice(),
+        ["burn", "f.s", "f.o"].as_slice(),
+    ] {
+        let (status, _) = tell(alloc, &mut files, words)?;
+        assert_eq!(rt; status.number(), 0);
+    }
+    for (words, line) in [
+        (
+            ["burn", "clock.s", "no"].as_slice(),
+            b"refused 21 line 3\n".as_slice(),
+        ),
+        (
+            ["burn", "register.s", "no"].as_slice(),
+            b"refused 7 line 1\n".as_slice(),
+        ),
+        (
+            ["link", "no", "call.o"].as_slice(),
+            b"refused 30 object 0 name foo\n".as_slice(),
+        ),
+        (
+            ["link", "no", "f.o", "f.o"].as_slice(),
+            b"refused 31 object 1 name f\n".as_slice(),
+        ),
+        (
+            ["link", "no", "f.o", "cut.o"].as_slice(),
+            b"refused 40 object 1 at 0\n".as_slice(),
+        ),
+        (
+            ["check", "cut.o"].as_slice(),
+            b"refused 40 at 0\n".as_slice(),
+        ),
+    ] {
+        let (status, out) = tell(alloc, &mut files, words)?;
+        assert_eq!(rt; out.bytes(), line);
+        assert_eq!(rt; status.number(), 3);
+    }
+    let (status, _) = tell(alloc, &mut files, &["check", "no"])?;
+    assert_eq!(rt; status.number(), 5);
+    Ok(())
+}
+
+#[test]
+fn a_store_that_fails_prints_nothing(rt: HostRuntime) -> Result<(), Fail> {
+    let alloc = rt.alloc();
+    let mut fail = Vec::new(alloc);
+    fail.push(2u64)?;
+    let mut files = MemFiles::new(alloc, fail)?;
+    files.store("a.s", b"hlt\n")?;
+    let (status, out) = tell(alloc, &mut files, &["burn", "a.s", "a.o"])?;
+    assert_eq!(rt; status.number(), 6);
+    assert_eq!(rt; out.bytes().len(), 0);
+    Ok(())
+}
+
+#[test]
+fn words_of_no_form_are_refused(rt: HostRuntime) -> Result<(), Fail> {
+    let alloc = rt.alloc();
+    let mut files = MemFiles::new(alloc, Vec::new(alloc))?;
+    for words in [
+        ["burn", "a"].as_slice(),
+        ["burn", "", "b"].as_slice(),
+        ["link", "a"].as_slice(),
+        ["link", "a", "b", ""].as_slice(),
+        ["check", "a", "b"].as_slice(),
+        ["check", ""].as_slice(),
+        ["--help"].as_slice(),
+    ] {
+        let (status, out) = tell(alloc, &mut files, words)?;
+        assert_eq!(rt; status.number(), 2);
+        assert_eq!(rt; out.bytes().len(), 0);
+    }
+    Ok(())
+}

@@ -1,0 +1,35 @@
+-- The meaning of `check`.
+use Rattle.std.proofs.Common.{◌≡◌, ℕ, List, Option, Result, Err, sym, ap, ◌∙◌}
+use Rattle.pv_io.specs.Files.{FileMap}
+use Rattle.elf_form.specs.declared.cause.ElfFault.TheVariants as elf
+use Rattle.image_check.specs.declared.fault.CheckFault.{CheckFault}
+use Rattle.image_check.specs.declared.fault.CheckFault.TheVariants as faults
+use Rattle.image_check.specs.Image.{Image}
+use Rattle.image_check.specs.Refusals.{Refusal, Refuses, Fails}
+use Rattle.pv_tool.specs.Words.{Check}
+use Rattle.pv_tool.specs.Lines.{image_line}
+use Rattle.pv_tool.specs.Outside.{Outside}
+use Rattle.pv_tool.specs.Outcome.{refused, printed}
+use Rattle.pv_tool.specs.Delivery.{Says}
+use Rattle.pv_tool.specs.Checking.{HasImage, HasNoImage, Checks, checked, accepted_line}
+use Rattle.pv_tool.specs.Meaning.{Means}
+use Rattle.pv_tool.specs.declared.status.Status.{Status}
+use Rattle.pv_tool.specs.declared.status.Status.TheVariants as status
+use Rattle.pv_tool.proofs.Deliveries.{says}
+
+-- the refusal that a fault tells is that of the file
+pub refusal_is : (fault : CheckFault) (refusal : Refusal) (r : Result Image Refusal) → Fails fault r → Refuses fault refusal → r ≡ Err refusal
+refusal_is (faults.Elf (elf.At at cause)) refusal r fails refuses = fails ∙ ap (λ (x : Refusal). Err x) (sym refuses)
+refusal_is (faults.Elf elf.Memory) refusal r fails refuses = absurd fails
+refusal_is (faults.At at cause) refusal r fails refuses = fails ∙ ap (λ (x : Refusal). Err x) (sym refuses)
+refusal_is faults.Memory refusal r fails refuses = absurd refuses
+
+-- a file that is not accepted
+pub refuses_image : (files : Option FileMap) (name line : List ℕ) → (refusal : Refusal) × HasNoImage files name refusal × (line ≡ image_line refusal) → Checks files name (refused line)
+refuses_image files name line h = (h.1.0, h.1.1, ap refused h.2 ∙ sym (ap checked h.1.2))
+
+-- an accepted image whose line was put
+pub tells_image : (name line : List ℕ) (image : Image) (o : Outside) (st : Status) → HasImage o.files name image → line ≡ accepted_line image → o.files_after ≡ o.files
+    → Says line status.Done o.taken o.taken_after o.puts o.puts_after st → Means (Check name) o st
+tells_image name line image o st has is same said =
+    says (Check name) o (printed line) st tt (has.0, has.1, ap printed is ∙ sym (ap checked has.2)) same said

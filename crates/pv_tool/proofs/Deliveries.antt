@@ -1,0 +1,127 @@
+-- From what was told to the outside to what the program's status means.
+use Rattle.std.proofs.Common.{◌≡◌, ℕ, ◌≤◌, Bool, List, [], ◌++◌, Option, Result, Ok, IfOk, refl, sym, ap, subst, ◌∙◌, arith}
+use Rattle.std.specs.declared.alloc.AllocError.{AllocError}
+use Rattle.pv_io.specs.Files.{FileMap, Holds, Loads}
+use Rattle.pv_io.specs.Sink.{Appends}
+use Rattle.bare_machine.proofs.Texts.{rose_later}
+use Rattle.pv_tool.specs.Words.{Command}
+use Rattle.pv_tool.specs.Outside.{Outside, OnlyRead}
+use Rattle.pv_tool.specs.Outcome.{Outcome, refused, stored_as}
+use Rattle.pv_tool.specs.Delivery.{HaltsAs, RefusesAs, Says, Whole, Cut, Ends, Delivers, Stored, NotStored, NoMemory}
+use Rattle.pv_tool.specs.Meaning.{Means, Gives, AreHeld, IsStored, NoStore, NoPut}
+use Rattle.pv_tool.specs.declared.halt.Halt.{Halt}
+use Rattle.pv_tool.specs.declared.halt.Halt.TheVariants as halt
+use Rattle.pv_tool.specs.declared.status.Status.{Status}
+use Rattle.pv_tool.specs.declared.status.Status.TheVariants as status
+
+-- what was read into an empty buffer is what the name holds
+pub loaded : (files : Option FileMap) (name old new : List ℕ) → old ≡ [] → Loads files name old new → Holds files name new
+loaded files name old new empty h =
+    let same : new ≡ h.0 = h.1 ∙ ap (λ (l : List ℕ). l ++ h.0) empty in
+    subst (λ (l : List ℕ). Holds files name l) (sym same) h.2
+
+-- the statuses with which a text is printed
+abbrev pub IsEnd : Status → Type 0
+IsEnd status.Done = Unit {0}
+IsEnd status.Stopped = Unit {0}
+IsEnd status.Refused = Unit {0}
+IsEnd status.Words = ⊥
+IsEnd status.ReadFault = ⊥
+IsEnd status.WriteFault = ⊥
+IsEnd status.Memory = ⊥
+
+pub prints : (command : Command) (o : Outside) (w : Outcome) (st : Status) → w.status ≡ st → IsEnd st
+    → Gives command o.files w → IsStored w.stored o.files o.files_after → Appends o.taken o.taken_after w.text → Means command o st
+prints command o w status.Done is end gives stored appends = (w, gives, is, stored, appends)
+prints command o w status.Stopped is end gives stored appends = (w, gives, is, stored, appends)
+prints command o w status.Refused is end gives stored appends = (w, gives, is, stored, appends)
+prints command o w status.Words is end gives stored appends = absurd end
+prints command o w status.ReadFault is end gives stored appends = absurd end
+prints command o w status.WriteFault is end gives stored appends = absurd end
+prints command o w status.Memory is end gives stored appends = absurd end
+
+-- an outcome whose text was told
+pub says : (command : Command) (o : Outside) (w : Outcome) (st : Status) → IsEnd w.status
+    → Gives command o.files w → IsStored w.stored o.files o.files_after → Says w.text w.status o.taken o.taken_after o.puts o.puts_after st → Means command o st
+says command o w st end gives stored (Whole is appends) =
+    subst (λ (s : Status). Means command o s) (sym is) (prints command o w w.status refl end gives stored appends)
+says command o w st end gives stored (Cut is front rose) =
+    subst (λ (s : Status). Means command o s) (sym is) (w, gives, NoPut stored front rose)
+
+-- work that ended with nothing stored
+pub halts : (told : List ℕ → Type 0) (held : Type 0) (command : Command) (o : Outside) (st : Status) (h : Halt)
+    → ((line : List ℕ) → told line → Gives command o.files (refused line)) → (AreHeld command o.files → held) → o.files_after ≡ o.files
+    → HaltsAs told held o.sure o.loads o.loads_after h → Ends h o.taken o.taken_after o.puts o.puts_after st → Means command o st
+halts told held command o st (halt.Refused line) gives needs same is ends = says command o (refused line) st tt (gives line is) same ends
+halts told held command o st halt.ReadFault gives needs same is ends =
+    subst (λ (s : Status). Means command o s) (sym ends.0) (is.0, same, ends.1, λ sure all. is.1 sure (needs all))
+halts told held command o st halt.Memory gives needs same is ends =
+    subst (λ (s : Status). Means command o s) (sym ends.0) (same, ends.1)
+
+-- the same since an earlier load, over the files as they were then
+pub halts_since : (told : List ℕ → Type 0) (held : Type 0) (sure sure2 : Bool) (loads mid after : ℕ) (h : Halt)
+    → sure2 ≡ sure → loads ≤ mid → HaltsAs told held sure2 mid after h → HaltsAs told held sure loads after h
+halts_since told held sure sure2 loads mid after (halt.Refused line) same le is = is
+halts_since told held sure sure2 loads mid after halt.ReadFault same le is = (rose_later loads mid after le is.0, λ s. is.1 (same ∙ s))
+halts_since told held sure sure2 loads mid after halt.Memory same le is = is
+
+-- a refusal of other lines
+pub refuses_as : (told told2 : List ℕ → Type 0) (h : Halt) → ((line : List ℕ) → told line → told2 line) → RefusesAs told h → RefusesAs told2 h
+refuses_as told told2 (halt.Refused line) to is = to line is
+refuses_as told told2 halt.ReadFault to is = is
+refuses_as told told2 halt.Memory to is = is
+
+-- a refusal where files were read
+pub refused_here : (told : List ℕ → Type 0) (held : Type 0) (sure : Bool) (loads after : ℕ) (h : Halt) → RefusesAs told h → HaltsAs told held sure loads after h
+refused_here told held sure loads after (halt.Refused line) is = is
+refused_here told held sure loads after halt.ReadFault is = absurd is
+refused_here told held sure loads after halt.Memory is = tt
+
+-- the line that a result has
+pub line_is : (r : Result (List ℕ) AllocError) (line other : List ℕ) → IfOk r (λ l. l ≡ other) → r ≡ Ok line → line ≡ other
+line_is r line other is ok = subst (λ (x : Result (List ℕ) AllocError). IfOk x (λ l. l ≡ other)) ok is
+
+-- the same of more lines
+pub halts_as : (told told2 : List ℕ → Type 0) (held held2 : Type 0) (sure : Bool) (before now : ℕ) (h : Halt)
+    → ((line : List ℕ) → told line → told2 line) → (held2 → held) → HaltsAs told held sure before now h → HaltsAs told2 held2 sure before now h
+halts_as told told2 held held2 sure before now (halt.Refused line) to from is = to line is
+halts_as told told2 held held2 sure before now halt.ReadFault to from is = (is.0, λ s all. is.1 s (from all))
+halts_as told told2 held held2 sure before now halt.Memory to from is = is
+
+-- ---- what was made
+
+delivers : (command : Command) (o : Outside) (name bytes line : List ℕ) (st : Status) → Gives command o.files (stored_as name bytes line)
+    → Delivers name bytes line o st → Means command o st
+delivers command o name bytes line st gives (Stored stores said) = says command o (stored_as name bytes line) st tt gives stores said
+delivers command o name bytes line st gives (NotStored is changes rose unsure same) =
+    subst (λ (s : Status). Means command o s) (sym is) (stored_as name bytes line, gives, NoStore name bytes refl changes rose unsure same)
+delivers command o name bytes line st gives (NoMemory is same none) = subst (λ (s : Status). Means command o s) (sym is) (same, none)
+
+since_loads : (command : Command) (o : Outside) (loads : ℕ) (st : Status) → loads ≤ o.loads → Means command o st → Means command (record o { loads = loads }) st
+since_loads command o loads status.Done le h = h
+since_loads command o loads status.Stopped le h = h
+since_loads command o loads status.Refused le h = h
+since_loads command o loads status.ReadFault le h = (rose_later loads o.loads o.loads_after le h.0, h.1, h.2, h.3)
+since_loads command o loads status.WriteFault le (w, gives, NoStore name bytes is changes rose unsure same) = (w, gives, NoStore name bytes is changes rose unsure same)
+since_loads command o loads status.WriteFault le (w, gives, NoPut stored front rose) = (w, gives, NoPut stored front rose)
+since_loads command o loads status.Memory le h = h
+since_loads command o loads status.Words le h = absurd h
+
+-- what was made is delivered, over the files as they were before they were read
+pub delivered : (command : Command) (o : Outside) (files : Option FileMap) (sure : Bool) (loads stores : ℕ) (name bytes line : List ℕ) (st : Status)
+    → o.files ≡ files → o.sure ≡ sure → o.stores ≡ stores → loads ≤ o.loads → Gives command files (stored_as name bytes line) → Delivers name bytes line o st
+    → Means command (record o { files = files; sure = sure; stores = stores; loads = loads }) st
+delivered command o files sure loads stores name bytes line st same_files same_sure same_stores le gives done =
+    let first = since_loads command o loads st le (delivers command o name bytes line st (subst (λ (f : Option FileMap). Gives command f (stored_as name bytes line)) (sym same_files) gives) done) in
+    let over_files = subst (λ (f : Option FileMap). Means command (record o { files = f; loads = loads }) st) same_files first in
+    let over_sure = subst (λ (b : Bool). Means command (record o { files = files; sure = b; loads = loads }) st) same_sure over_files in
+    subst (λ (n : ℕ). Means command (record o { files = files; sure = sure; stores = n; loads = loads }) st) same_stores over_sure
+
+-- files that were read again
+pub read_on : (a b c : Option FileMap) (s t u : Bool) (i j k l m n : ℕ) → OnlyRead a b s t i j l m → OnlyRead b c t u j k m n → OnlyRead a c s u i k l n
+read_on a b c s t u i j k l m n first later = record {
+  held = later.held ∙ first.held;
+  same_sure = later.same_sure ∙ first.same_sure;
+  same_stores = later.same_stores ∙ first.same_stores;
+  later = omega (arith, first.later, later.later);
+}

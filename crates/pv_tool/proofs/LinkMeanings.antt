@@ -1,0 +1,136 @@
+-- The meaning of `link`.
+use Rattle.std.proofs.Common.{◌≡◌, ℕ, zero, suc, ◌<◌, List, [], ◌∷◌, ◌++◌, length, map, take, drop, get_or, Option, Some, Ok, Err, refl, sym, ap, subst, ◌∙◌, arith}
+use Rattle.std.specs.Prelude.{All}
+use Rattle.std.proofs.Math.Seq.{get_or-append_seam}
+use Rattle.std.proofs.lemmas.List.Elements.{All-append}
+use Rattle.std.proofs.Common.{length-append}
+use Rattle.pv_io.specs.Files.{FileMap}
+use Rattle.elf_form.specs.Faults.{Fault}
+use Rattle.elf_form.specs.ObjectParts.{ObjectParts}
+use Rattle.elf_form.specs.ObjectReading.{object_in}
+use Rattle.elf_form.specs.ImageParts.{ImageParts}
+use Rattle.elf_form.specs.ImageLayout.{image_bytes}
+use Rattle.elf_link.specs.Refusals.{Refused}
+use Rattle.elf_link.specs.Linked.{linked_image}
+use Rattle.pv_tool.specs.Lines.{form_number, object_place_line, link_line}
+use Rattle.pv_tool.specs.Outcome.{Outcome, refused, stored_as}
+use Rattle.pv_tool.specs.Linking.{HasObject, HasNoObject, HasObjects, FirstFault, image_made_line, linked, Links, AllRead, NoObject}
+use Rattle.pv_tool.proofs.SameFiles.{same_file}
+
+-- ---- objects that are read one after the other
+
+pub one_more : (files : Option FileMap) (names : List (List ℕ)) (os : List ObjectParts) (name : List ℕ) (o : ObjectParts)
+    → HasObjects files names os → HasObject files name o → HasObjects files (names ++ name ∷ []) (os ++ o ∷ [])
+one_more files [] [] name o all has = (has, tt)
+one_more files [] (p ∷ os) name o all has = absurd all
+one_more files (n ∷ names) [] name o all has = absurd all
+one_more files (n ∷ names) (p ∷ os) name o all has = (all.0, one_more files names os name o all.1 has)
+
+-- a file behind them that is no object
+pub first_fault : (files : Option FileMap) (before : List (List ℕ)) (os : List ObjectParts) (name : List ℕ) (later : List (List ℕ)) (fault : Fault)
+    → HasObjects files before os → HasNoObject files name fault → FirstFault files (before ++ name ∷ later) (length before) fault
+first_fault files [] os name later fault all has = has
+first_fault files (n ∷ before) [] name later fault all has = absurd all
+first_fault files (n ∷ before) (o ∷ os) name later fault all has = (o, all.0, first_fault files before os name later fault all.1 has)
+
+-- ---- what is made of them
+
+pub no_object : (files : Option FileMap) (names : List (List ℕ)) (image line : List ℕ)
+    → (i : ℕ) × (fault : Fault) × FirstFault files names i fault × (line ≡ object_place_line (form_number fault.cause) i fault.at) → Links files image names (refused line)
+no_object files names image line h = NoObject h.0 h.1 h.2 (ap refused h.3)
+
+pub not_linked : (files : Option FileMap) (names : List (List ℕ)) (image line : List ℕ) (os : List ObjectParts) (fault : Refused)
+    → HasObjects files names os → linked_image os ≡ Err fault → line ≡ link_line fault.object fault.cause → Links files image names (refused line)
+not_linked files names image line os fault all fails is = AllRead os all (ap refused is ∙ sym (ap (linked image) fails))
+
+pub is_linked : (files : Option FileMap) (names : List (List ℕ)) (image bytes line : List ℕ)
+    → (os : List ObjectParts) × (p : ImageParts) × HasObjects files names os × (linked_image os ≡ Ok p) × (bytes ≡ image_bytes p) × (line ≡ image_made_line p)
+    → Links files image names (stored_as image bytes line)
+is_linked files names image bytes line h =
+    AllRead h.0 h.2
+    (ap (λ (b : List ℕ). stored_as image b line) h.4 ∙ (ap (stored_as image (image_bytes h.1)) h.5 ∙ sym (ap (linked image) h.3)))
+
+-- ---- once
+
+object_once : (told : FileMap) (name : List ℕ) (o p : ObjectParts) → HasObject (Some told) name o → HasObject (Some told) name p → o ≡ p
+object_once told name o p h k =
+    let same = same_file told name h.0 k.0 h.1 k.1 in
+    let read = subst (λ (b : List ℕ). object_in b ≡ Ok o) same h.2 in
+    cc (read, k.2)
+
+object_or_not : (told : FileMap) (name : List ℕ) (o : ObjectParts) (fault : Fault) → HasObject (Some told) name o → HasNoObject (Some told) name fault → ⊥
+object_or_not told name o fault h k =
+    let same = same_file told name h.0 k.0 h.1 k.1 in
+    let read = subst (λ (b : List ℕ). object_in b ≡ Ok o) same h.2 in
+    cc (read, k.2)
+
+no_object_once : (told : FileMap) (name : List ℕ) (f g : Fault) → HasNoObject (Some told) name f → HasNoObject (Some told) name g → f ≡ g
+no_object_once told name f g h k =
+    let same = same_file told name h.0 k.0 h.1 k.1 in
+    let read = subst (λ (b : List ℕ). object_in b ≡ Err f) same h.2 in
+    cc (read, k.2)
+
+objects_once : (told : FileMap) (names : List (List ℕ)) (os ps : List ObjectParts) → HasObjects (Some told) names os → HasObjects (Some told) names ps → os ≡ ps
+objects_once told [] [] [] h k = refl
+objects_once told [] [] (p ∷ ps) h k = absurd k
+objects_once told [] (o ∷ os) ps h k = absurd h
+objects_once told (n ∷ names) [] ps h k = absurd h
+objects_once told (n ∷ names) (o ∷ os) [] h k = absurd k
+objects_once told (n ∷ names) (o ∷ os) (p ∷ ps) h k =
+    let first = object_once told n o p h.0 k.0 in
+    let rest = objects_once told names os ps h.1 k.1 in
+    cc (first, rest)
+
+all_or_fault : (told : FileMap) (names : List (List ℕ)) (os : List ObjectParts) (i : ℕ) (fault : Fault) → HasObjects (Some told) names os → FirstFault (Some told) names i fault → ⊥
+all_or_fault told [] os i fault h k = k
+all_or_fault told (n ∷ names) [] i fault h k = h
+all_or_fault told (n ∷ names) (o ∷ os) zero fault h k = object_or_not told n o fault h.0 k
+all_or_fault told (n ∷ names) (o ∷ os) (suc i) fault h k = all_or_fault told names os i fault h.1 k.2
+
+first_once : (told : FileMap) (names : List (List ℕ)) (i j : ℕ) (f g : Fault) → FirstFault (Some told) names i f → FirstFault (Some told) names j g → (i ≡ j) × (f ≡ g)
+first_once told [] i j f g h k = absurd h
+first_once told (n ∷ names) zero zero f g h k = (refl, no_object_once told n f g h k)
+first_once told (n ∷ names) zero (suc j) f g h k = absurd (object_or_not told n k.0 f k.1 h)
+first_once told (n ∷ names) (suc i) zero f g h k = absurd (object_or_not told n h.0 g h.1 k)
+first_once told (n ∷ names) (suc i) (suc j) f g h k =
+    let rest = first_once told names i j f g h.2 k.2 in
+    (ap suc rest.0, rest.1)
+
+-- `link` comes to one thing
+pub links_once : (told : FileMap) (image : List ℕ) (names : List (List ℕ)) (w v : Outcome) → Links (Some told) image names w → Links (Some told) image names v → v ≡ w
+links_once told image names w v (AllRead os all is) (AllRead ps every be) =
+    be ∙ (ap (λ (x : List ObjectParts). linked image (linked_image x)) (objects_once told names ps os every all) ∙ sym is)
+links_once told image names w v (AllRead os all is) (NoObject j g fault be) = absurd (all_or_fault told names os j g all fault)
+links_once told image names w v (NoObject i f fault is) (AllRead ps every be) = absurd (all_or_fault told names ps i f every fault)
+links_once told image names w v (NoObject i f fault is) (NoObject j g other be) =
+    let once = first_once told names j i g f other fault in
+    be ∙ (ap (λ (n : ℕ). refused (object_place_line (form_number g.cause) n g.at)) once.0 ∙ (ap (λ (x : Fault). refused (object_place_line (form_number x.cause) i x.at)) once.1 ∙ sym is))
+
+-- ---- names of which the first are read
+
+pub split_at : {A : Type 0} (f : A → List ℕ) (xs : List A) (i : ℕ) (x : A) → i < length xs → x ≡ get_or xs i x → map f xs ≡ map f (take i xs) ++ f x ∷ map f (drop (suc i) xs)
+split_at f [] i x lt is = absurd (omega arith)
+split_at f (y ∷ ys) zero x lt is = ap (λ z. f z ∷ map f ys) (sym is)
+split_at f (y ∷ ys) (suc i) x lt is = ap (λ l. f y ∷ l) (split_at f ys i x (omega arith) is)
+
+pub taken_on : {A : Type 0} (f : A → List ℕ) (xs : List A) (i : ℕ) (x : A) → i < length xs → x ≡ get_or xs i x → map f (take (suc i) xs) ≡ map f (take i xs) ++ f x ∷ []
+taken_on f [] i x lt is = absurd (omega arith)
+taken_on f (y ∷ ys) zero x lt is = ap (λ z. f z ∷ []) (sym is)
+taken_on f (y ∷ ys) (suc i) x lt is = ap (λ l. f y ∷ l) (taken_on f ys i x (omega arith) is)
+
+pub taken_length : {A : Type 0} (f : A → List ℕ) (xs : List A) (i : ℕ) → i < length xs → length (map f (take i xs)) ≡ i
+taken_length f [] i lt = absurd (omega arith)
+taken_length f (y ∷ ys) zero lt = refl
+taken_length f (y ∷ ys) (suc i) lt = ap suc (taken_length f ys i (omega arith))
+
+pub all_at : (P : List ℕ → Type 0) (xs before later : List (List ℕ)) (x : List ℕ) → xs ≡ before ++ x ∷ later → All P xs → P x
+all_at P xs before later x is all =
+    let every = subst (λ (l : List (List ℕ)). All P l) is all in
+    subst P (get_or-append_seam before x later x) (every (length before) x (rw length-append (omega arith)))
+
+all_one : (P : ObjectParts → Type 0) (x : ObjectParts) → P x → (k : ℕ) (d : ObjectParts) → k < length (x ∷ []) → P (get_or (x ∷ []) k d)
+all_one P x one zero d lt = one
+all_one P x one (suc k) d lt = absurd (omega arith)
+
+pub all_more : (P : ObjectParts → Type 0) (xs : List ObjectParts) (x : ObjectParts) → All P xs → P x → All P (xs ++ x ∷ [])
+all_more P xs x all one = All-append P xs (x ∷ []) all (all_one P x one)

@@ -1,0 +1,13 @@
+use Rattle.pv_tool.specs.Words.{Check}
+use Rattle.pv_tool.proofs.Deliveries.{halts}
+use Rattle.pv_tool.proofs.CheckMeanings.{refuses_image, tells_image}
+use Rattle.pv_tool.proofs.check.check.Goals as goal
+
+pub returns-in-Err-clause-meaning : goal.returns-in-Err-clause-meaning
+returns-in-Err-clause-meaning g c =
+    halts _ _ (Check c.args.name.now) _ c.end.result c.in-Err.halt (λ line told. refuses_image _ c.args.name.now line told) (λ held. held) c.in-Err.ensures.read.held
+    c.in-Err.ensures.halted c.end.ensures
+
+pub returns-clause-meaning : goal.returns-clause-meaning
+returns-clause-meaning g c =
+    tells_image c.args.name.now c.in-Ok-line_of.line c.in-Ok.image _ c.print.result c.in-Ok.ensures.image c.in-Ok-line_of.ensures c.in-Ok.ensures.read.held c.print.ensures

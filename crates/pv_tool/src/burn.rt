@@ -1,0 +1,109 @@
+//! The command `burn`.
+
+ghost use Rattle.std.specs.Prelude.{◌≡◌, ◌≤◌, List, ℕ, Ok, IfOk, IfErr, OnOk};
+ghost use Rattle.pv_io.specs.Files.{Holds, IsHeld};
+ghost use Rattle.asm_lex.specs.declared.fault.SourceCause.{SourceCause};
+ghost use Rattle.asm_parse.specs.declared.tree.SourceItem.{SourceItem};
+ghost use Rattle.asm_parse.specs.Readable.{IsReadable};
+ghost use Rattle.asm_parse.specs.Running.{SourceAs};
+ghost use Rattle.elf_form.specs.ObjectParts.{ObjectParts};
+ghost use Rattle.elf_form.specs.ObjectLayout.{IsWholeObject, object_bytes};
+ghost use Rattle.afterburner.specs.Burnt.{Fault, burnt};
+ghost use Rattle.pv_tool.specs.Words.{Burn};
+ghost use Rattle.pv_tool.specs.Outside.{OnlyRead};
+ghost use Rattle.pv_tool.specs.Outcome.{refused};
+ghost use Rattle.pv_tool.specs.Delivery.{HaltsAs, RefusesAs};
+ghost use Rattle.pv_tool.specs.Burning.{Burns, HasBurnt, HasSource, HasNoSource, ReadsBack, object_made_line, source_line, burn_line};
+ghost use Rattle.pv_tool.specs.Meaning.{Means, LeavesObject};
+
+use crate::delivery::{Made, deliver, end, load, refused};
+use crate::halt::Halt;
+use crate::lines::{Sizes, line_line, sizes_line};
+use crate::status::Status;
+use afterburner::{BurnFault, burn as burn_source};
+use asm_lex::SourceFault;
+use asm_parse::{Source, parse};
+use elf_form::{Object, write_object};
+use pv_io::{Files, Sink};
+use std::alloc::{AllocError, Global};
+
+/// Makes an object of a source, stores it and tells what it has.
+pub fn burn<F: Files, S: Sink>(
+    alloc: Global,
+    source: &str,
+    object: &str,
+    files: &mut F,
+    out: &mut S,
+) -> Status
+    ensures meaning { Means (Burn source.now object.now) (record {
+      files = F.held files.old;
+      files_after = F.held files.new;
+      sure = F.sure files.old;
+      loads = F.load_faults files.old;
+      loads_after = F.load_faults files.new;
+      stores = F.store_faults files.old;
+      stores_after = F.store_faults files.new;
+      taken = S.taken out.old;
+      taken_after = S.taken out.new;
+      puts = S.faults out.old;
+      puts_after = S.faults out.new;
+    }) result }
+    ensures later { F.store_faults files.old ≤ F.store_faults files.new }
+    ensures leaves { LeavesObject (Burn source.now object.now) (F.held files.old) (F.held files.new) result }
+{
+    match made(alloc, source, files) {
+        Err(halt) => end(&halt, out),
+        Ok(made) => deliver(&made, object, files, out),
+    }
+}
+
+// The object of a source that a file holds, as a file, and its line.
+fn made<F: Files>(alloc: Global, name: &str, files: &mut F) -> Result<Made, Halt>
+    ensures made { IfOk result (λ m. (o : ObjectParts) × HasBurnt (F.held files.old) name.now o × (m.file.items ≡ object_bytes o) × (m.line ≡ object_made_line o) × ReadsBack o) }
+    ensures halted { IfErr result (HaltsAs (λ line. (object : List ℕ) → Burns (F.held files.old) name.now object (refused line)) (IsHeld (F.held files.old) name.now) (F.sure files.old) (F.load_faults files.old) (F.load_faults files.new)) }
+    ensures read { OnlyRead (F.held files.old) (F.held files.new) (F.sure files.old) (F.sure files.new) (F.store_faults files.old) (F.store_faults files.new) (F.load_faults files.old) (F.load_faults files.new) }
+{
+    let source = source_in(alloc, name, files)?;
+    match burn_source(alloc, &source) {
+        Ok(object) => Ok(file_of(alloc, &object)?),
+        Err(BurnFault::Memory) => Err(Halt::Memory),
+        Err(BurnFault::At { line, cause }) => {
+            Err(refused(line_line(alloc, cause.number() as u32, line as u64)))
+        }
+    }
+}
+
+// The source that a file holds.
+fn source_in<F: Files>(alloc: Global, name: &str, files: &mut F) -> Result<Source, Halt>
+    ensures source { IfOk result (λ s. HasSource (F.held files.old) name.now s) }
+    ensures readable { IfOk result IsReadable }
+    ensures halted { IfErr result (HaltsAs (λ line. (at : ℕ) × (cause : SourceCause) × HasNoSource (F.held files.old) name.now (at, cause) × (line ≡ source_line at cause)) (IsHeld (F.held files.old) name.now) (F.sure files.old) (F.load_faults files.old) (F.load_faults files.new)) }
+    ensures read { OnlyRead (F.held files.old) (F.held files.new) (F.sure files.old) (F.sure files.new) (F.store_faults files.old) (F.store_faults files.new) (F.load_faults files.old) (F.load_faults files.new) }
+{
+    let file = load(alloc, name, files)?;
+    match parse(alloc, &file) {
+        Ok(source) => Ok(source),
+        Err(SourceFault::Memory) => Err(Halt::Memory),
+        Err(SourceFault::At { line, cause }) => {
+            Err(refused(line_line(alloc, cause.number() as u32, line as u64)))
+        }
+    }
+}
+
+// An object as a file, and its line.
+fn file_of(alloc: Global, object: &Object) -> Result<Made, AllocError>
+    requires { IsWholeObject object.now }
+    ensures file { IfOk result (λ m. m.file.items ≡ object_bytes object.now) }
+    ensures line { IfOk result (λ m. m.line ≡ object_made_line object.now) }
+    ensures read_back { OnOk result (ReadsBack object.now) }
+{
+    let file = write_object(alloc, object)?;
+    let sizes = Sizes {
+        text: object.text.len(),
+        init: object.init.len(),
+        bss: object.bss,
+        sites: object.sites.len().saturating_sub(8) / 8,
+    };
+    let line = sizes_line(alloc, "object", sizes, "")?;
+    Ok(Made { file, line })
+}

@@ -1,0 +1,88 @@
+//! Files are read, and what the work of a command came to is told to the outside.
+
+ghost use Rattle.std.specs.Prelude.{◌≡◌, ◌≤◌, Ok, IfOk, IfErr};
+ghost use Rattle.pv_io.specs.Files.{Holds, IsHeld};
+ghost use Rattle.pv_tool.specs.Outside.{OnlyRead};
+ghost use Rattle.pv_tool.specs.Delivery.{HaltsAs, RefusesAs, Says, Ends, Delivers};
+
+use crate::halt::{Halt, Line};
+use crate::status::Status;
+use pv_io::{Files, IoAnswer, Sink};
+use std::alloc::{AllocError, Global};
+
+/// The bytes of a file.
+pub fn load<F: Files>(alloc: Global, name: &str, files: &mut F) -> Result<Vec<u8>, Halt>
+    ensures loaded { IfOk result (λ file. Holds (F.held files.old) name.now file.items) }
+    ensures halted { IfErr result (HaltsAs (λ line. ⊥) (IsHeld (F.held files.old) name.now) (F.sure files.old) (F.load_faults files.old) (F.load_faults files.new)) }
+    ensures read { OnlyRead (F.held files.old) (F.held files.new) (F.sure files.old) (F.sure files.new) (F.store_faults files.old) (F.store_faults files.new) (F.load_faults files.old) (F.load_faults files.new) }
+{
+    let mut file = Vec::new(alloc);
+    match files.load(alloc, name, &mut file) {
+        Err(IoAnswer::Failed) => Err(Halt::ReadFault),
+        Err(IoAnswer::Memory) => Err(Halt::Memory),
+        Ok(()) => Ok(file),
+    }
+}
+
+/// The refusal with a line, unless no memory was found for it.
+pub fn refused(line: Result<Line, AllocError>) -> Halt
+    ensures { RefusesAs (λ l. line ≡ Ok l) result }
+{
+    match line {
+        Ok(line) => Halt::Refused(line),
+        Err(_) => Halt::Memory,
+    }
+}
+
+/// Puts a line, and answers the status that is meant with it unless the output fails.
+pub fn print<S: Sink>(line: &Line, meant: Status, out: &mut S) -> Status
+    ensures { Says line.now meant (S.taken out.old) (S.taken out.new) (S.faults out.old) (S.faults out.new) result }
+{
+    match out.put(&line.bytes) {
+        Ok(()) => meant,
+        Err(_) => Status::WriteFault,
+    }
+}
+
+/// What a command makes: the bytes of a file, and the line that is printed for it.
+#[derive(Drop)]
+pub struct Made {
+    pub file: Vec<u8>,
+    pub line: Line,
+}
+
+/// Stores what was made, and then prints its line.
+pub fn deliver<F: Files, S: Sink>(made: &Made, name: &str, files: &mut F, out: &mut S) -> Status
+    ensures delivers { Delivers name.now made.now.file.items made.now.line (record {
+      files = F.held files.old;
+      files_after = F.held files.new;
+      sure = F.sure files.old;
+      loads = F.load_faults files.old;
+      loads_after = F.load_faults files.new;
+      stores = F.store_faults files.old;
+      stores_after = F.store_faults files.new;
+      taken = S.taken out.old;
+      taken_after = S.taken out.new;
+      puts = S.faults out.old;
+      puts_after = S.faults out.new;
+    }) result }
+    ensures later { F.store_faults files.old ≤ F.store_faults files.new }
+    ensures loads { F.load_faults files.new ≡ F.load_faults files.old }
+{
+    match files.store(name, &made.file) {
+        Ok(()) => print(&made.line, Status::Done, out),
+        Err(IoAnswer::Failed) => Status::WriteFault,
+        Err(IoAnswer::Memory) => Status::Memory,
+    }
+}
+
+/// Ends work that has stored and printed nothing yet.
+pub fn end<S: Sink>(halt: &Halt, out: &mut S) -> Status
+    ensures { Ends halt.now (S.taken out.old) (S.taken out.new) (S.faults out.old) (S.faults out.new) result }
+{
+    match halt {
+        Halt::Refused(line) => print(line, Status::Refused, out),
+        Halt::ReadFault => Status::ReadFault,
+        Halt::Memory => Status::Memory,
+    }
+}

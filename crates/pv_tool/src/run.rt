@@ -1,0 +1,102 @@
+//! The command `run` on the bare machine.
+
+ghost use Rattle.std.specs.Prelude.{◌≡◌, ◌≤◌, ◌^◌, true, ℕ, Err, IfOk, IfErr};
+ghost use Rattle.pv_io.specs.Files.{IsHeld};
+ghost use Rattle.board.specs.Scripts.{is_script};
+ghost use Rattle.board.specs.declared.fault.ScriptCause.{ScriptCause};
+ghost use Rattle.pv_tool.specs.Words.{RunBare};
+ghost use Rattle.pv_tool.specs.View.{AreWithin};
+ghost use Rattle.pv_tool.specs.Lines.{script_line};
+ghost use Rattle.pv_tool.specs.Outside.{OnlyRead};
+ghost use Rattle.pv_tool.specs.Delivery.{HaltsAs};
+ghost use Rattle.pv_tool.specs.Running.{HasScript, HasNoScript, RanAs};
+ghost use Rattle.pv_tool.specs.Meaning.{Means};
+
+use crate::check::accepted;
+use crate::delivery::{end, load, print, refused};
+use crate::halt::Halt;
+use crate::lines::{line_line, number_of_script, small_line};
+use crate::status::Status;
+use crate::words::RunWords;
+use bare_machine::{RunFault, run_bare};
+use board::{Script, ScriptFault, read_script};
+use image_check::Checked;
+use pv_io::{Files, Sink};
+use run_trace::End;
+use std::alloc::Global;
+
+/// Runs an image under a script, and prints its trace.
+pub fn run<F: Files, S: Sink>(
+    alloc: Global,
+    words: RunWords<'_>,
+    files: &mut F,
+    out: &mut S,
+) -> Status
+    requires { AreWithin words }
+    ensures meaning { Means (RunBare words.entry.image.now words.entry.script.now words.entry.frames words.entry.n) (record {
+      files = F.held files.old;
+      files_after = F.held files.new;
+      sure = F.sure files.old;
+      loads = F.load_faults files.old;
+      loads_after = F.load_faults files.new;
+      stores = F.store_faults files.old;
+      stores_after = F.store_faults files.new;
+      taken = S.taken out.old;
+      taken_after = S.taken out.new;
+      puts = S.faults out.old;
+      puts_after = S.faults out.new;
+    }) result }
+    ensures stores { F.store_faults files.new ≡ F.store_faults files.old }
+{
+    match accepted(alloc, words.image, files) {
+        Err(halt) => end(&halt, out),
+        Ok(image) => match scripted(alloc, words.script, files) {
+            Err(halt) => end(&halt, out),
+            Ok(events) => run_it(alloc, &image, &events, words.frames, words.n, out),
+        },
+    }
+}
+
+// The events that a file says.
+fn scripted<F: Files>(alloc: Global, name: &str, files: &mut F) -> Result<Script, Halt>
+    ensures script { IfOk result (λ script. HasScript (F.held files.old) name.now script.list) }
+    ensures form { IfOk result (λ script. is_script script.list ≡ true) }
+    ensures halted { IfErr result (HaltsAs (λ line. (at : ℕ) × (cause : ScriptCause) × HasNoScript (F.held files.old) name.now (at, cause) × (line ≡ script_line at cause)) (IsHeld (F.held files.old) name.now) (F.sure files.old) (F.load_faults files.old) (F.load_faults files.new)) }
+    ensures read { OnlyRead (F.held files.old) (F.held files.new) (F.sure files.old) (F.sure files.new) (F.store_faults files.old) (F.store_faults files.new) (F.load_faults files.old) (F.load_faults files.new) }
+{
+    let file = load(alloc, name, files)?;
+    match read_script(alloc, &file) {
+        Ok(events) => Ok(events),
+        Err(ScriptFault::Memory) => Err(Halt::Memory),
+        Err(ScriptFault::At { line, cause }) => {
+            Err(refused(line_line(alloc, number_of_script(cause), line)))
+        }
+    }
+}
+
+// Runs the image, and answers how the run ended.
+fn run_it<S: Sink>(
+    alloc: Global,
+    image: &Checked,
+    events: &Script,
+    frames: u32,
+    n: u64,
+    out: &mut S,
+) -> Status
+    requires script { is_script events.now.list ≡ true }
+    requires limits { (2048 ≤ frames) × (frames ≤ 16384) × (n ≤ 2 ^ 40) }
+    ensures { RanAs image.now events.now.list frames n (S.taken out.old) (S.taken out.new) (S.faults out.old) (S.faults out.new) result }
+{
+    match run_bare(alloc, image, events, frames, n, out) {
+        Ok(ended) => match ended.end {
+            End::Bound => Status::Done,
+            End::Stopped(_) => Status::Stopped,
+        },
+        Err(RunFault::Write) => Status::WriteFault,
+        Err(RunFault::TooSmall(small)) => match small_line(alloc, small) {
+            Ok(line) => print(&line, Status::Refused, out),
+            Err(_) => Status::Memory,
+        },
+        Err(RunFault::Memory) => Status::Memory,
+    }
+}
