@@ -2,6 +2,8 @@
 #![tactic(auto)]
 
 #[cfg(test)]
+mod built;
+#[cfg(test)]
 mod events;
 #[cfg(test)]
 mod forms;
@@ -9,6 +11,8 @@ mod forms;
 mod kernel;
 #[cfg(test)]
 mod plain;
+#[cfg(test)]
+mod refused;
 #[cfg(test)]
 mod stops;
 #[cfg(test)]

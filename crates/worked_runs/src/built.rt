@@ -1,0 +1,188 @@
+//! Kernels from their sources: `burn`, `link`, `check`, and `run --bare` of the image.
+
+use pv_io::{Files, IoAnswer, MemFiles, MemSink};
+use pv_tool::{Status, top};
+use std::alloc::Global;
+use std::test::Fail;
+
+/// A source, what `burn`, `link` and `check` print of it, and a run of its image.
+struct Kernel<'a> {
+    source: &'a [u8],
+    object: &'a [u8],
+    image: &'a [u8],
+    accepted: &'a [u8],
+    script: &'a [u8],
+    bound: &'a str,
+    prints: &'a [u8],
+}
+
+/// The status and the output of a list of words.
+pub fn answer(
+    alloc: Global,
+    files: &mut MemFiles,
+    all: &[&str],
+) -> Result<(Status, MemSink), IoAnswer> {
+    let mut out = MemSink::new(alloc, 4096, Vec::new(alloc))?;
+    let mut words = Vec::new(alloc);
+    for word in all {
+        words.push(String::from_str(alloc, word)?)?;
+    }
+    let status = top(alloc, &words, files, &mut out);
+    Ok((status, out))
+}
+
+const SENDS_A_BYTE: Kernel<'static> = Kernel {
+    source: b"_start:\nmovl $0x3f8,%edx\nmovb $0x48,%al\noutb %al,%dx\nhlt\n",
+    object: b"object text 17 data 0 bss 0 sites 2\n",
+    image: b"image text 19 data 0 bss 0 sites 2\n",
+    accepted: b"accepted text 19 data 0 bss 0 sites 2 format 1\n",
+    script: b"",
+    bound: "8",
+    prints: b"2 out8 03f8 48\n2 tx 48\nend steps 8\n",
+};
+
+const NO_STEP: Kernel<'static> = Kernel {
+    bound: "0",
+    prints: b"end steps 0\n",
+    ..SENDS_A_BYTE
+};
+
+const EMPTY_SOURCE: Kernel<'static> = Kernel {
+    source: b"",
+    object: b"object text 0 data 0 bss 0 sites 0\n",
+    image: b"image text 2 data 0 bss 0 sites 0\n",
+    accepted: b"accepted text 2 data 0 bss 0 sites 0 format 1\n",
+    script: b"",
+    bound: "5",
+    prints: b"end steps 5\n",
+};
+
+const CALL_THROUGH_A_REGISTER: Kernel<'static> = Kernel {
+    source: b"_start: movl $f,%eax\ncall *%eax\nmovb $1,%al\noutb %al,$0x80\nhlt\nf: ret\n",
+    object: b"object text 27 data 0 bss 0 sites 4\n",
+    image: b"image text 29 data 0 bss 0 sites 4\n",
+    accepted: b"accepted text 29 data 0 bss 0 sites 4 format 1\n",
+    script: b"",
+    bound: "9",
+    prints: b"7 out8 0080 01\nend steps 9\n",
+};
+
+const RETURN_INTO_AN_IMMEDIATE: Kernel<'static> = Kernel {
+    source: b"_start: pushl $2\npushl $2\npushl $2\npushl $2\npushl $bad+1\nret\nbad: movl $0x9d9d9d9d,%eax\n",
+    object: b"object text 23 data 0 bss 0 sites 1\n",
+    image: b"image text 25 data 0 bss 0 sites 1\n",
+    accepted: b"accepted text 25 data 0 bss 0 sites 1 format 1\n",
+    script: b"",
+    bound: "20",
+    prints: b"end steps 20\n",
+};
+
+const TEXT_IS_READ: Kernel<'static> = Kernel {
+    source: b"_start: movl 0x10000000,%eax\n",
+    object: b"object text 5 data 0 bss 0 sites 0\n",
+    image: b"image text 7 data 0 bss 0 sites 0\n",
+    accepted: b"accepted text 7 data 0 bss 0 sites 0 format 1\n",
+    script: b"",
+    bound: "3",
+    prints: b"end steps 3\n",
+};
+
+const TEXT_IS_READ_IN_THE_DIRECT_MAP: Kernel<'static> = Kernel {
+    source: b"_start: movl 0xC0100000,%eax\n",
+    ..TEXT_IS_READ
+};
+
+const FLAGS_OF_A_PAGE: Kernel<'static> = Kernel {
+    source: b".data\n.long 0\n.text\n_start: movl 0x11000000,%eax\nmovl 0xC0018000,%eax\noutl %eax,$0x80\nmovl %eax,0x11000000\nmovl 0xC0018000,%eax\noutl %eax,$0x80\n",
+    object: b"object text 30 data 4 bss 0 sites 2\n",
+    image: b"image text 32 data 4 bss 0 sites 2\n",
+    accepted: b"accepted text 32 data 4 bss 0 sites 2 format 1\n",
+    script: b"",
+    bound: "9",
+    prints: b"2 out32 0080 00101023\n8 out32 0080 00101063\nend steps 9\n",
+};
+
+const BY_GCC: Kernel<'static> = Kernel {
+    source: b"\t.file \"k.c\"\n\t.text\n\t.p2align 4\n\t.globl _start\n\t.type _start, @function\n_start:\n.LFB0:\n\t.cfi_startproc\n\tmovl $1, %eax\n\tjmp *.L4(,%eax,4)\n\t.section .rodata\n\t.align 4\n.L4:\n\t.long .L2\n\t.long .L3\n\t.text\n\t.p2align 4,,10\n\t.p2align 3\n.L3:\n\tmovl $33, %eax\n\toutb %al, $128\n.L2:\n\thlt\n\t.cfi_endproc\n\t.size _start, .-_start\n\t.ident \"GCC: (GNU) 12.2.0\"\n\t.section .note.GNU-stack,\"\",@progbits\n",
+    object: b"object text 31 data 8 bss 0 sites 3\n",
+    image: b"image text 33 data 8 bss 0 sites 3\n",
+    accepted: b"accepted text 33 data 8 bss 0 sites 3 format 1\n",
+    script: b"",
+    bound: "8",
+    prints: b"3 out8 0080 21\nend steps 8\n",
+};
+
+const SERIAL_LINE: Kernel<'static> = Kernel {
+    source: b"_start: movl $0x3fd,%edx\ninb %dx,%al\ninb %dx,%al\n",
+    object: b"object text 15 data 0 bss 0 sites 2\n",
+    image: b"image text 17 data 0 bss 0 sites 2\n",
+    accepted: b"accepted text 17 data 0 bss 0 sites 2 format 1\n",
+    script: b"4 rx 41",
+    bound: "7",
+    prints: b"1 in8 03fd 60\n6 in8 03fd 61\nend steps 7\n",
+};
+
+const REPEATED_STORE: Kernel<'static> = Kernel {
+    source: b".data\n.long 0\n.text\n_start: movl $3,%ecx\nmovl $0x11000000,%edi\nrep stosb\noutb %al,$0x80\n",
+    object: b"object text 17 data 4 bss 0 sites 1\n",
+    image: b"image text 19 data 4 bss 0 sites 1\n",
+    accepted: b"accepted text 19 data 4 bss 0 sites 1 format 1\n",
+    script: b"",
+    bound: "6",
+    prints: b"5 out8 0080 00\nend steps 6\n",
+};
+
+const ALIGNED_TEXT: Kernel<'static> = Kernel {
+    source: b"_start: cli\n.p2align 4\nhlt\n",
+    object: b"object text 21 data 0 bss 0 sites 2\n",
+    image: b"image text 23 data 0 bss 0 sites 2\n",
+    accepted: b"accepted text 23 data 0 bss 0 sites 2 format 1\n",
+    script: b"",
+    bound: "20",
+    prints: b"end steps 20\n",
+};
+
+const ZEROED_PAGE: Kernel<'static> = Kernel {
+    source: b".data\n.byte 1\n.bss\n.p2align 12\npg: .zero 4096\n.text\nmovl $pg,%eax\n",
+    object: b"object text 5 data 1 bss 4096 sites 0\n",
+    image: b"image text 7 data 1 bss 8191 sites 0\n",
+    accepted: b"accepted text 7 data 1 bss 8191 sites 0 format 1\n",
+    script: b"",
+    bound: "2",
+    prints: b"end steps 2\n",
+};
+
+#[test]
+fn sources_become_kernels_that_run(rt: HostRuntime) -> Result<(), Fail> {
+    let alloc = rt.alloc();
+    for kernel in [
+        &SENDS_A_BYTE,
+        &NO_STEP,
+        &EMPTY_SOURCE,
+        &CALL_THROUGH_A_REGISTER,
+        &RETURN_INTO_AN_IMMEDIATE,
+        &TEXT_IS_READ,
+        &TEXT_IS_READ_IN_THE_DIRECT_MAP,
+        &FLAGS_OF_A_PAGE,
+        &BY_GCC,
+        &SERIAL_LINE,
+        &REPEATED_STORE,
+        &ALIGNED_TEXT,
+        &ZEROED_PAGE,
+    ] {
+        let mut files = MemFiles::new(alloc, Vec::new(alloc))?;
+        files.store("S", kernel.source)?;
+        files.store("B", kernel.script)?;
+        let (_, out) = answer(alloc, &mut files, &["burn", "S", "O"])?;
+        assert_eq!(rt; out.bytes(), kernel.object);
+        let (_, out) = answer(alloc, &mut files, &["link", "I", "O"])?;
+        assert_eq!(rt; out.bytes(), kernel.image);
+        let (_, out) = answer(alloc, &mut files, &["check", "I"])?;
+        assert_eq!(rt; out.bytes(), kernel.accepted);
+        let run = ["run", "--bare", "I", "B", "2048", kernel.bound];
+        let (status, out) = answer(alloc, &mut files, &run)?;
+        assert_eq!(rt; out.bytes(), kernel.prints);
+        assert_eq!(rt; status.number(), 0);
+    }
+    Ok(())
+}

@@ -1,0 +1,112 @@
+//! Sources, objects and images that are refused, by the line that tells why.
+
+use crate::built::answer;
+use pv_io::{Files, MemFiles};
+use std::test::Fail;
+
+#[test]
+fn sources_are_refused_by_their_line(rt: HostRuntime) -> Result<(), Fail> {
+    let alloc = rt.alloc();
+    for (source, line) in [
+        (
+            b"nop\nnop\nrdtsc\n".as_slice(),
+            b"refused 21 line 3\n".as_slice(),
+        ),
+        (b"movl $1,%eex\n", b"refused 7 line 1\n"),
+        (b".data; cli\n", b"refused 26 line 1\n"),
+        (b"addl $1,%al\n", b"refused 22 line 1\n"),
+        (b"nop\nmovw $70000,%ax\n", b"refused 23 line 2\n"),
+        (b"nop\nfrob\n", b"refused 20 line 2\n"),
+        (b"f: nop\nf: nop\n", b"refused 12 line 2\n"),
+        (b"/* never ends\n", b"refused 3 line 1\n"),
+    ] {
+        let mut files = MemFiles::new(alloc, Vec::new(alloc))?;
+        files.store("S", source)?;
+        let (status, out) = answer(alloc, &mut files, &["burn", "S", "O"])?;
+        assert_eq!(rt; out.bytes(), line);
+        assert_eq!(rt; status.number(), 3);
+        let mut none = Vec::new(alloc);
+        assert!(rt; files.load(alloc, "O", &mut none).is_err());
+    }
+    Ok(())
+}
+
+#[test]
+fn links_are_refused_by_object_and_name(rt: HostRuntime) -> Result<(), Fail> {
+    let alloc = rt.alloc();
+    let mut files = MemFiles::new(alloc, Vec::new(alloc))?;
+    files.store("S", b"call foo\n")?;
+    files.store("T", b".globl f\nf: nop\n")?;
+    answer(alloc, &mut files, &["burn", "S", "O"])?;
+    answer(alloc, &mut files, &["burn", "T", "P"])?;
+    let (status, out) = answer(alloc, &mut files, &["link", "I", "O"])?;
+    assert_eq!(rt; out.bytes(), b"refused 30 object 0 name foo\n".as_slice());
+    assert_eq!(rt; status.number(), 3);
+    let (status, out) = answer(alloc, &mut files, &["link", "I", "P", "P"])?;
+    assert_eq!(rt; out.bytes(), b"refused 31 object 1 name f\n".as_slice());
+    assert_eq!(rt; status.number(), 3);
+    let mut none = Vec::new(alloc);
+    assert!(rt; files.load(alloc, "I", &mut none).is_err());
+    Ok(())
+}
+
+#[test]
+fn images_are_refused_by_their_place(rt: HostRuntime) -> Result<(), Fail> {
+    let alloc = rt.alloc();
+    let mut files = MemFiles::new(alloc, Vec::new(alloc))?;
+    files.store("B", b"")?;
+    for (source, n, line) in [
+        // a jump to the second byte of a site
+        (
+            b"_start: jmp f+1\nf: cli\n".as_slice(),
+            "1",
+            b"refused 70 at 0\n".as_slice(),
+        ),
+        // 2,305 frames are needed
+        (
+            b".bss\n.zero 8388608\n",
+            "1",
+            b"refused 90 need 2305 have 2048\n",
+        ),
+    ] {
+        files.store("S", source)?;
+        answer(alloc, &mut files, &["burn", "S", "O"])?;
+        answer(alloc, &mut files, &["link", "I", "O"])?;
+        let (status, out) = answer(alloc, &mut files, &["run", "--bare", "I", "B", "2048", n])?;
+        assert_eq!(rt; out.bytes(), line);
+        assert_eq!(rt; status.number(), 3);
+    }
+    Ok(())
+}
+
+#[test]
+fn cut_files_are_refused_by_the_part_that_is_cut(rt: HostRuntime) -> Result<(), Fail> {
+    let alloc = rt.alloc();
+    let mut files = MemFiles::new(alloc, Vec::new(alloc))?;
+    files.store(
+        "S",
+        b"_start: movl $0x3f8,%edx; movb $0x48,%al; outb %al,%dx; hlt",
+    )?;
+    answer(alloc, &mut files, &["burn", "S", "O"])?;
+    answer(alloc, &mut files, &["link", "I", "O"])?;
+    // the object's section table begins at 212 and ends the file
+    let mut object = Vec::new(alloc);
+    files.load(alloc, "O", &mut object)?;
+    let cut = object.as_slice().get(..611).ok_or("short")?;
+    files.store("C", cut)?;
+    let (status, out) = answer(alloc, &mut files, &["link", "J", "C"])?;
+    assert_eq!(rt; out.bytes(), b"refused 40 object 0 at 212\n".as_slice());
+    assert_eq!(rt; status.number(), 3);
+    let mut image = Vec::new(alloc);
+    files.load(alloc, "I", &mut image)?;
+    for (len, line) in [
+        (51, b"refused 40 at 0\n".as_slice()),
+        (115, b"refused 40 at 52\n"),
+    ] {
+        let cut = image.as_slice().get(..len).ok_or("short")?;
+        files.store("C", cut)?;
+        let (_, out) = answer(alloc, &mut files, &["check", "C"])?;
+        assert_eq!(rt; out.bytes(), line);
+    }
+    Ok(())
+}
