@@ -21,7 +21,7 @@ use Rattle.elf_form.specs.ObjectLayout.{is_of}
 use Rattle.sites.specs.Spelling.{spelling}
 use Rattle.sites.specs.Reading.{sites_in}
 use Rattle.sites.proofs.Inverse.{spelled_read}
-use Rattle.elf_link.specs.Relocations.{IsLinkable}
+use Rattle.elf_form.specs.Linkable.{IsLinkable}
 use Rattle.afterburner.specs.declared.section.Section.{Section}
 use Rattle.afterburner.specs.declared.section.Section.TheVariants as section
 use Rattle.afterburner.specs.declared.symbol.Definition.{Definition}

@@ -7,7 +7,7 @@ use Rattle.asm_parse.specs.declared.tree.Body.{Body}
 use Rattle.asm_parse.specs.declared.tree.Body.TheVariants as body
 use Rattle.asm_parse.specs.declared.tree.SourceItem.{SourceItem}
 use Rattle.elf_form.specs.ObjectParts.{ObjectParts}
-use Rattle.elf_link.specs.Relocations.{IsLinkable}
+use Rattle.elf_form.specs.Linkable.{IsLinkable}
 use Rattle.asm_instruction.specs.declared.assembled.Assembled.{Assembled}
 use Rattle.asm_instruction.specs.Assembled.{assembled}
 use Rattle.afterburner.specs.Arguments.{number_in}

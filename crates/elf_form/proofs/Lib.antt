@@ -22,3 +22,4 @@ pub mod ObjectRoundTrip
 pub mod JoinLaws
 pub mod RecordLaws
 pub mod ObjectAcceptance
+pub mod LinkableObjects

@@ -15,3 +15,4 @@ pub mod Roles
 pub mod Symbols
 pub mod ObjectReading
 pub mod KeptRelocs
+pub mod Linkable

@@ -10,6 +10,7 @@ ghost use Rattle.elf_form.specs.Sections.{names as names_in};
 ghost use Rattle.elf_form.specs.Roles.{with_role, starts as starts_of};
 ghost use Rattle.elf_form.specs.Symbols.{IsEntry, relocs_of};
 ghost use Rattle.elf_form.specs.KeptRelocs.{AreKept};
+ghost use Rattle.elf_form.specs.Linkable.{IsLinkable};
 ghost use Rattle.elf_form.specs.ObjectParts.{ObjectParts};
 ghost use Rattle.elf_form.specs.ObjectReading.{table_of as table_in, kept_relocs, symbol_form, reloc_form, text_in, sites_in, object_at, late_tests, middle_tests, early_tests, object_in, wrong_object, all_causes, ObjectAs};
 
@@ -196,6 +197,8 @@ pub fn read_object(alloc: Global, bytes: &[u8]) -> Result<Object, ElfFault>
     // A fault is the first cause that holds, at its place.
     ensures first { (at : ℕ) (cause : ElfCause) → result ≡ Err (ElfFault.At at cause) → IsFirstOf (wrong_object bytes.now) all_causes (record { at = at; cause = cause }) }
     ensures exact { Gives (λ o. o) result (object_in bytes.now) }
+    // What is read can be linked.
+    ensures linkable { IfOk result (λ o. IsLinkable o) }
 {
     object(alloc, bytes)
 }

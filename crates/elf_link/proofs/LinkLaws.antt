@@ -15,7 +15,8 @@ use Rattle.elf_link.specs.declared.fault.LinkFault.{LinkFault}
 use Rattle.elf_link.specs.declared.fault.LinkFault.TheVariants as faults
 use Rattle.elf_link.specs.Layout.{round_up, text_size, init_size, text_end, init_end, memory_end, numbered, bases}
 use Rattle.elf_link.specs.Symbols.{globals}
-use Rattle.elf_link.specs.Relocations.{IsLinkable, part_of, patched}
+use Rattle.elf_form.specs.Linkable.{IsLinkable}
+use Rattle.elf_link.specs.Relocations.{part_of, patched}
 use Rattle.elf_link.specs.Sites.{linked_sites}
 use Rattle.elf_link.specs.Refusals.{Refused, ◌or◌, first, refusal, object_refusal, relocs_refusal, start_refusal, start}
 use Rattle.elf_link.specs.Linked.{padded, texts, inits, linked_text, linked_init, image, unless, linked_image, entry_at}

@@ -12,7 +12,8 @@ use Rattle.elf_form.specs.ObjectParts.{ObjectParts}
 use Rattle.elf_form.specs.Output.{pad}
 use Rattle.elf_link.specs.Layout.{round_up, text_size, text_room, init_size, init_room, bss_room, text_at, init_at, bss_at, text_end, init_end, extent, numbered, bases}
 use Rattle.elf_link.specs.Symbols.{globals}
-use Rattle.elf_link.specs.Relocations.{IsLinkable, part_of, patched}
+use Rattle.elf_form.specs.Linkable.{IsLinkable}
+use Rattle.elf_link.specs.Relocations.{part_of, patched}
 use Rattle.elf_link.specs.Linked.{padded, texts, inits, linked_text, linked_init}
 use Rattle.elf_link.proofs.LayoutLaws.{room_of, sum-more, text_end-le}
 use Rattle.elf_link.proofs.RelocLaws.{length-patched}

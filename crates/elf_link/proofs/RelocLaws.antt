@@ -10,7 +10,8 @@ use Rattle.elf_form.specs.ObjectParts.{ObjectParts}
 use Rattle.elf_form.specs.ObjectLayout.{is_of}
 use Rattle.elf_link.specs.declared.base.Base.{Base}
 use Rattle.elf_link.specs.declared.target.Target.{Target}
-use Rattle.elf_link.specs.Relocations.{IsLinkable, part_of, filled, patched, relocated}
+use Rattle.elf_form.specs.Linkable.{IsLinkable}
+use Rattle.elf_link.specs.Relocations.{part_of, filled, patched, relocated}
 
 -- the field of a relocation lies in the part that it is of
 pub inside_part : (o : ObjectParts) (in_text : Bool) (r : Reloc) → r.at + 4 ≤ cond r.in_text (length o.text) (length o.init) → is_of in_text r ≡ true → r.at + 4 ≤ length (part_of in_text o)

@@ -1,5 +1,5 @@
 -- Fields that are filled with addresses and distances.
-use Rattle.std.specs.Prelude.{ℕ, ◌+◌, ◌-◌, ◌%◌, ◌^◌, ◌≤◌, ◌<◌, ◌&&◌, Bool, not, List, length, All, fold, slice_get, Option, Some, None, if◌then◌else◌}
+use Rattle.std.specs.Prelude.{ℕ, ◌+◌, ◌-◌, ◌%◌, ◌^◌, ◌&&◌, Bool, not, List, fold, slice_get, Option, Some, None, if◌then◌else◌}
 use Rattle.elf_form.specs.declared.object.Symbol.{Symbol}
 use Rattle.elf_form.specs.declared.object.Reloc.{Reloc}
 use Rattle.elf_form.specs.ObjectParts.{ObjectParts}
@@ -11,12 +11,6 @@ use Rattle.elf_link.specs.declared.fault.LinkCause.{LinkCause}
 use Rattle.elf_link.specs.declared.fault.LinkCause.TheVariants.{NoSymbol, NotText}
 use Rattle.elf_link.specs.Layout.{or_zero}
 use Rattle.elf_link.specs.Symbols.{is_text, target_of, address}
-
--- Every relocation names a symbol of the list and its field lies in its section. The annotations are shorter than 2^32 bytes.
-pub record IsLinkable (o : ObjectParts) : Type 0 where
-  pub named : All (λ r. r.symbol < length o.symbols) o.relocs
-  pub inside : All (λ r. r.at + 4 ≤ (if r.in_text then length o.text else length o.init)) o.relocs
-  pub sites : length o.sites < 2 ^ 32
 
 -- what a symbol of object i stands for, if it is there
 abbrev pub target_by : List (List ℕ × Target) → ℕ → Option Symbol → Option Target

@@ -5,7 +5,7 @@ ghost use Rattle.std.specs.List.{list_any};
 ghost use Rattle.elf_link.specs.Layout.{numbered, text_end};
 ghost use Rattle.elf_link.specs.Symbols.{exports, globals};
 ghost use Rattle.elf_link.specs.Sites.{sites_of, moved, linked_sites};
-ghost use Rattle.elf_link.specs.Relocations.{IsLinkable};
+ghost use Rattle.elf_form.specs.Linkable.{IsLinkable};
 ghost use Rattle.elf_link.specs.Refusals.{refused, first, doubled_cause, object_refusal};
 ghost use Rattle.elf_link.specs.Steps.{IsWithin, AreBelow, totals, with_object, step_cause, placed_sites, tested};
 ghost use Rattle.elf_link.specs.Answers.{Gives};

@@ -1,7 +1,7 @@
 //! Which objects can be linked.
 
 ghost use Rattle.std.specs.Prelude.{◌+◌, ◌≤◌, ◌<◌, All, IsTrue, length, if◌then◌else◌};
-ghost use Rattle.elf_link.specs.Relocations.{IsLinkable};
+ghost use Rattle.elf_form.specs.Linkable.{IsLinkable};
 
 use elf_form::{Object, Reloc};
 

@@ -5,7 +5,8 @@ ghost use Rattle.guest_ram.specs.Bytes.{word32, with_word32};
 ghost use Rattle.elf_form.specs.ObjectLayout.{is_of};
 ghost use Rattle.elf_link.specs.Layout.{or_zero};
 ghost use Rattle.elf_link.specs.Symbols.{is_text, address};
-ghost use Rattle.elf_link.specs.Relocations.{IsLinkable, target_by, reloc_cause, field_at, address_by, sum_of, relocated, filled, part_of, patched};
+ghost use Rattle.elf_form.specs.Linkable.{IsLinkable};
+ghost use Rattle.elf_link.specs.Relocations.{target_by, reloc_cause, field_at, address_by, sum_of, relocated, filled, part_of, patched};
 ghost use Rattle.elf_link.specs.Refusals.{first};
 
 use crate::base::Base;

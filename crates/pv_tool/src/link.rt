@@ -6,7 +6,7 @@ ghost use Rattle.elf_form.specs.Faults.{Fault};
 ghost use Rattle.elf_form.specs.ObjectParts.{ObjectParts};
 ghost use Rattle.elf_form.specs.ImageParts.{ImageParts};
 ghost use Rattle.elf_form.specs.ImageLayout.{IsWritableImage, image_bytes};
-ghost use Rattle.elf_link.specs.Relocations.{IsLinkable};
+ghost use Rattle.elf_form.specs.Linkable.{IsLinkable};
 ghost use Rattle.elf_link.specs.Linked.{linked_image};
 ghost use Rattle.pv_tool.specs.Words.{Link};
 ghost use Rattle.pv_tool.specs.Lines.{form_number, object_place_line};

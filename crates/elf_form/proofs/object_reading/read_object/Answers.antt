@@ -1,4 +1,5 @@
 use Rattle.elf_form.proofs.ObjectAcceptance.{if_read, if_as, if_first}
+use Rattle.elf_form.proofs.LinkableObjects.{if_linkable}
 use Rattle.elf_form.proofs.object_reading.read_object.Goals as goal
 
 pub returns-clause-object : goal.returns-clause-object
@@ -9,3 +10,6 @@ returns-clause-only c = if_as c.args.bytes.now c.object.result c.object.ensures
 
 pub returns-clause-first : goal.returns-clause-first
 returns-clause-first c = if_first c.args.bytes.now c.object.result c.object.ensures
+
+pub returns-clause-linkable : goal.returns-clause-linkable
+returns-clause-linkable c = if_linkable c.args.bytes.now c.object.result c.object.ensures

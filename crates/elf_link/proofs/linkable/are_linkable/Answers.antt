@@ -1,7 +1,7 @@
 use Rattle.std.proofs.Common.{ℕ, get_or, sym, ◌∙◌, arith, below_more, subst}
 use Rattle.std.proofs.lemmas.List.{get_or_default}
 use Rattle.elf_form.specs.ObjectParts.{ObjectParts}
-use Rattle.elf_link.specs.Relocations.{IsLinkable}
+use Rattle.elf_form.specs.Linkable.{IsLinkable}
 use Rattle.elf_link.proofs.FirstLaws.{item, within, past}
 use Rattle.elf_link.proofs.linkable.are_linkable.Goals as goal
 

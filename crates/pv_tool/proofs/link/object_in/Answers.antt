@@ -3,11 +3,7 @@ use Rattle.elf_form.specs.Faults.{Fault}
 use Rattle.elf_form.specs.ObjectReading.{object_in}
 use Rattle.pv_tool.specs.Lines.{object_place_line}
 use Rattle.pv_tool.proofs.Deliveries.{refused_here, refuses_as, line_is}
-use Rattle.pv_tool.proofs.LinkableObjects.{linkable}
 use Rattle.pv_tool.proofs.link.object_in.Goals as goal
-
-pub returns-in-Ok-clause-linkable : goal.returns-in-Ok-clause-linkable
-returns-in-Ok-clause-linkable g c = linkable c.deref.result.now c.in-Ok.object c.in-Ok.ensures.object
 
 pub returns-clause-halted : goal.returns-clause-halted
 returns-clause-halted g c =

@@ -1,6 +1,6 @@
 use Rattle.std.proofs.Common.{◌≡◌, ◌+◌, ℕ, List, [], ◌∷◌, ◌++◌, length, map, take, drop, suc, string_bytes, Option, sym, ap, subst, ◌∙◌, arith, add-one, length-append}
 use Rattle.std.specs.Prelude.{All}
-use Rattle.elf_link.specs.Relocations.{IsLinkable}
+use Rattle.elf_form.specs.Linkable.{IsLinkable}
 use Rattle.std.proofs.lemmas.Result.{err_from_is_err_and}
 use Rattle.pv_io.specs.Files.{FileMap, IsHeld}
 use Rattle.elf_form.specs.ObjectParts.{ObjectParts}

@@ -1,6 +1,6 @@
 use Rattle.std.proofs.Common.{◌≡◌, length, map, take, string_bytes}
 use Rattle.std.specs.Prelude.{All}
-use Rattle.elf_link.specs.Relocations.{IsLinkable}
+use Rattle.elf_form.specs.Linkable.{IsLinkable}
 use Rattle.pv_tool.specs.Outside.{OnlyRead}
 use Rattle.pv_tool.specs.Linking.{HasObjects}
 use Rattle.pv_tool.proofs.link.objects_in.Given as goal

@@ -1,5 +1,5 @@
 -- Each object that is read can be linked: its relocations name symbols of its list, and their fields lie in their sections.
-use Rattle.std.proofs.Common.{◌≡◌, ◌⊎◌, inl, inr, ℕ, zero, suc, ◌+◌, ◌-◌, ◌*◌, ◌/◌, ◌%◌, ◌^◌, ◌<◌, ◌≤◌, Bool, true, false, ◌&&◌, ◌||◌, not, cond, nat_lt, List, [], ◌∷◌, ◌++◌, length, map, get_or, replicate, Option, Some, None, refl, sym, ap, subst, ◌∙◌, arith, length-append}
+use Rattle.std.proofs.Common.{Result, Ok, Err, IfOk, ◌≡◌, ◌⊎◌, inl, inr, ℕ, zero, suc, ◌+◌, ◌-◌, ◌*◌, ◌/◌, ◌%◌, ◌^◌, ◌<◌, ◌≤◌, Bool, true, false, ◌&&◌, ◌||◌, not, cond, nat_lt, List, [], ◌∷◌, ◌++◌, length, map, get_or, replicate, Option, Some, None, refl, sym, ap, subst, ◌∙◌, arith, length-append}
 use Rattle.std.specs.Prelude.{filter, fold, ◌==◌}
 use Rattle.std.specs.List.{flat_map}
 use Rattle.std.proofs.lemmas.Bool.Decides.{nat_tests}
@@ -25,8 +25,12 @@ use Rattle.elf_form.specs.Sections.{contents, names, is_null, is_sites}
 use Rattle.elf_form.specs.Output.{pad}
 use Rattle.elf_form.specs.Roles.{role as role_of, role_number, has_role, with_role, size, alignment, up, starts, with_section, joined}
 use Rattle.elf_form.specs.ObjectReading.{table_of, strings_of, kept_relocs, second_field, text_in, sites_in, object_at, symbol_form, reloc_form, object_form, object_sizes, wrong_object, ObjectAs}
+use Rattle.elf_form.specs.declared.cause.ElfFault.{ElfFault}
+use Rattle.elf_form.specs.Faults.{Gives}
+use Rattle.elf_form.specs.ObjectReading.{object_in}
+use Rattle.elf_form.proofs.ObjectAcceptance.{if_read}
 use Rattle.elf_form.proofs.WholeLaws.{section_at}
-use Rattle.elf_link.specs.Relocations.{IsLinkable}
+use Rattle.elf_form.specs.Linkable.{IsLinkable}
 use Rattle.elf_form.specs.Symbols.{symbols_of, section_of, role_at, is_listed, is_file, has_binding, has_place, symbol_fault, target, target_role, is_reloc_section_of, entry, relocs_in, relocs_of, size_at, is_outside, number_of, has_symbol, symbol_of, has_kind, names_none, named_fault, form_fault, reloc_test, relocs_fault, start_in, start_at, numbers, reloc_at, symbol_at, symbols_in}
 
 -- ---- what stands in a list
@@ -543,3 +547,7 @@ linkable bytes o h =
       inside = λ k d lt. (all k d lt).1;
       sites = sites_few bytes (short bytes (h.sound Sizes));
     })
+
+pub if_linkable : (bytes : List ℕ) (r : Result ObjectParts ElfFault) → Gives (λ o. o) r (object_in bytes) → IfOk r (λ o. IsLinkable o)
+if_linkable bytes (Ok object) given = linkable bytes object (if_read bytes (Ok object) given)
+if_linkable bytes (Err e) given = tt
