@@ -287,6 +287,11 @@ fn refused_sources_and_objects_leave_no_file(rt: HostRuntime) -> Result<(), Fail
             ["link", "no", "f.o", "cut.o"].as_slice(),
             b"refused 40 object 1 at 0\n".as_slice(),
         ),
+        // The second object is not loaded where the first one is refused.
+        (
+            ["link", "no", "cut.o", "missing"].as_slice(),
+            b"refused 40 object 0 at 0\n".as_slice(),
+        ),
         (
             ["check", "cut.o"].as_slice(),
             b"refused 40 at 0\n".as_slice(),
