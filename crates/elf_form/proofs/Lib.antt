@@ -22,4 +22,5 @@ pub mod ObjectRoundTrip
 pub mod JoinLaws
 pub mod RecordLaws
 pub mod ObjectAcceptance
+mod EachEntry
 pub mod LinkableObjects

@@ -1,6 +1,6 @@
 -- Each object that is read can be linked: its relocations name symbols of its list, and their fields lie in their sections.
-use Rattle.std.proofs.Common.{Result, Ok, Err, IfOk, ◌≡◌, ◌⊎◌, inl, inr, ℕ, zero, suc, ◌+◌, ◌-◌, ◌*◌, ◌/◌, ◌%◌, ◌^◌, ◌<◌, ◌≤◌, Bool, true, false, ◌&&◌, ◌||◌, not, cond, nat_lt, List, [], ◌∷◌, ◌++◌, length, map, get_or, replicate, Option, Some, None, refl, sym, ap, subst, ◌∙◌, arith, length-append}
-use Rattle.std.specs.Prelude.{filter, fold, ◌==◌}
+use Rattle.std.proofs.Common.{Result, Ok, Err, IfOk, ◌≡◌, ◌⊎◌, inl, inr, ℕ, zero, suc, ◌+◌, ◌-◌, ◌*◌, ◌/◌, ◌%◌, ◌^◌, ◌<◌, ◌≤◌, Bool, true, false, ◌&&◌, ◌||◌, not, cond, nat_lt, List, [], ◌∷◌, length, map, get_or, replicate, Option, Some, None, refl, sym, ap, subst, ◌∙◌, arith, length-append}
+use Rattle.std.specs.Prelude.{filter, ◌==◌}
 use Rattle.std.specs.List.{flat_map}
 use Rattle.std.proofs.lemmas.Bool.Decides.{nat_tests}
 use Rattle.std.proofs.lemmas.List.{length-map, length-replicate}
@@ -18,7 +18,7 @@ use Rattle.elf_form.specs.declared.symbols.Entry.{Entry}
 use Rattle.elf_form.specs.declared.symbols.RelocTest.TheVariants.{Named, Form}
 use Rattle.elf_form.specs.declared.symbols.Table.{Table}
 use Rattle.elf_form.specs.ObjectParts.{ObjectParts}
-use Rattle.elf_form.specs.Faults.{bad, ◌or_else◌, ◌or_lower◌}
+use Rattle.elf_form.specs.Faults.{bad, ◌or_else◌}
 use Rattle.elf_form.specs.Tables.{entries, found}
 use Rattle.elf_form.specs.Header.{header_table, section_table, section_count, sections, passes, has_contents, part_of, header_cut, header_table_cut, section_table_cut, header_part_cut, section_part_cut, cut, IsSection, IsWhole}
 use Rattle.elf_form.specs.Sections.{contents, names, is_null, is_sites}
@@ -32,64 +32,7 @@ use Rattle.elf_form.proofs.ObjectAcceptance.{if_read}
 use Rattle.elf_form.proofs.WholeLaws.{section_at}
 use Rattle.elf_form.specs.Linkable.{IsLinkable}
 use Rattle.elf_form.specs.Symbols.{symbols_of, section_of, role_at, is_listed, is_file, has_binding, has_place, symbol_fault, target, target_role, is_reloc_section_of, entry, relocs_in, relocs_of, size_at, is_outside, number_of, has_symbol, symbol_of, has_kind, names_none, named_fault, form_fault, reloc_test, relocs_fault, start_in, start_at, numbers, reloc_at, symbol_at, symbols_in}
-
--- ---- what stands in a list
-
--- each of its entries
-abbrev pub Each : {A : Type 0} → (A → Type 0) → List A → Type 0
-Each P [] = Unit {0}
-Each P (x ∷ xs) = P x × Each P xs
-
-each_append : {A : Type 0} (P : A → Type 0) (xs ys : List A) → Each P xs → Each P ys → Each P (xs ++ ys)
-each_append P [] ys h k = k
-each_append P (x ∷ xs) ys h k = (h.0, each_append P xs ys h.1 k)
-
-each_map : {A B : Type 0} (f : A → B) (P : A → Type 0) (Q : B → Type 0) (xs : List A) → ((x : A) → P x → Q (f x)) → Each P xs → Each Q (map f xs)
-each_map f P Q [] to h = tt
-each_map f P Q (x ∷ xs) to h = (to x h.0, each_map f P Q xs to h.1)
-
-each_both : {A : Type 0} (P Q : A → Type 0) (xs : List A) → Each P xs → Each Q xs → Each (λ x. P x × Q x) xs
-each_both P Q [] h k = tt
-each_both P Q (x ∷ xs) h k = ((h.0, k.0), each_both P Q xs h.1 k.1)
-
-each_all : (P : Reloc → Type 0) (xs : List Reloc) → Each P xs → (k : ℕ) (d : Reloc) → k < length xs → P (get_or xs k d)
-each_all P [] h k d lt = absurd (omega arith)
-each_all P (x ∷ xs) h zero d lt = h.0
-each_all P (x ∷ xs) h (suc k) d lt = each_all P xs h.1 k d (omega arith)
-
--- ---- tests that found no place
-
-bad_none : (b : Bool) (at : ℕ) → bad b at ≡ None → b ≡ false
-bad_none true at h = cc
-bad_none false at h = refl
-
-else_none : (a b : Option ℕ) → (a or_else b) ≡ None → (a ≡ None) × (b ≡ None)
-else_none None b h = (refl, h)
-else_none (Some x) b h = cc
-
-lower_some : (t : Bool) (x y : ℕ) → cond t (Some x) (Some y) ≡ None → ⊥
-lower_some true x y h = cc
-lower_some false x y h = cc
-
-lower_none : (a b : Option ℕ) → (a or_lower b) ≡ None → (a ≡ None) × (b ≡ None)
-lower_none None b h = (refl, h)
-lower_none (Some x) None h = cc
-lower_none (Some x) (Some y) h = absurd (lower_some (nat_lt y x) y x h)
-
-fold_none : (t : Entry → Option ℕ) (a : Option ℕ) (es : List Entry) → fold (λ lowest e. lowest or_lower t e) a es ≡ None → (a ≡ None) × Each (λ e. t e ≡ None) es
-fold_none t a [] h = (h, tt)
-fold_none t a (e ∷ es) h =
-    let rest = fold_none t (a or_lower t e) es h in
-    let both = lower_none a (t e) rest.0 in
-    (both.0, (both.1, rest.1))
-
-or_false : (a b : Bool) → (a || b) ≡ false → (a ≡ false) × (b ≡ false)
-or_false true b h = cc
-or_false false b h = (refl, h)
-
-not_false : (b : Bool) → not b ≡ false → b ≡ true
-not_false true h = refl
-not_false false h = cc
+use Rattle.elf_form.proofs.EachEntry.{Each, each_append, each_map, each_both, each_all, bad_none, else_none, lower_none, fold_none, or_false, not_false}
 
 -- ---- entries of a table
 

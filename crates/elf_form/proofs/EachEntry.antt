@@ -1,0 +1,64 @@
+-- What each entry of a list has, and what tests say that found no place.
+use Rattle.std.proofs.Common.{◌≡◌, ℕ, zero, suc, ◌<◌, Bool, true, false, ◌||◌, not, cond, nat_lt, List, [], ◌∷◌, ◌++◌, length, map, get_or, Option, Some, None, refl, arith}
+use Rattle.std.specs.Prelude.{fold}
+use Rattle.elf_form.specs.declared.object.Reloc.{Reloc}
+use Rattle.elf_form.specs.declared.symbols.Entry.{Entry}
+use Rattle.elf_form.specs.Faults.{bad, ◌or_else◌, ◌or_lower◌}
+
+-- ---- what stands in a list
+
+-- each of its entries
+abbrev pub Each : {A : Type 0} → (A → Type 0) → List A → Type 0
+Each P [] = Unit {0}
+Each P (x ∷ xs) = P x × Each P xs
+
+pub each_append : {A : Type 0} (P : A → Type 0) (xs ys : List A) → Each P xs → Each P ys → Each P (xs ++ ys)
+each_append P [] ys h k = k
+each_append P (x ∷ xs) ys h k = (h.0, each_append P xs ys h.1 k)
+
+pub each_map : {A B : Type 0} (f : A → B) (P : A → Type 0) (Q : B → Type 0) (xs : List A) → ((x : A) → P x → Q (f x)) → Each P xs → Each Q (map f xs)
+each_map f P Q [] to h = tt
+each_map f P Q (x ∷ xs) to h = (to x h.0, each_map f P Q xs to h.1)
+
+pub each_both : {A : Type 0} (P Q : A → Type 0) (xs : List A) → Each P xs → Each Q xs → Each (λ x. P x × Q x) xs
+each_both P Q [] h k = tt
+each_both P Q (x ∷ xs) h k = ((h.0, k.0), each_both P Q xs h.1 k.1)
+
+pub each_all : (P : Reloc → Type 0) (xs : List Reloc) → Each P xs → (k : ℕ) (d : Reloc) → k < length xs → P (get_or xs k d)
+each_all P [] h k d lt = absurd (omega arith)
+each_all P (x ∷ xs) h zero d lt = h.0
+each_all P (x ∷ xs) h (suc k) d lt = each_all P xs h.1 k d (omega arith)
+
+-- ---- tests that found no place
+
+pub bad_none : (b : Bool) (at : ℕ) → bad b at ≡ None → b ≡ false
+bad_none true at h = cc
+bad_none false at h = refl
+
+pub else_none : (a b : Option ℕ) → (a or_else b) ≡ None → (a ≡ None) × (b ≡ None)
+else_none None b h = (refl, h)
+else_none (Some x) b h = cc
+
+pub lower_some : (t : Bool) (x y : ℕ) → cond t (Some x) (Some y) ≡ None → ⊥
+lower_some true x y h = cc
+lower_some false x y h = cc
+
+pub lower_none : (a b : Option ℕ) → (a or_lower b) ≡ None → (a ≡ None) × (b ≡ None)
+lower_none None b h = (refl, h)
+lower_none (Some x) None h = cc
+lower_none (Some x) (Some y) h = absurd (lower_some (nat_lt y x) y x h)
+
+pub fold_none : (t : Entry → Option ℕ) (a : Option ℕ) (es : List Entry) → fold (λ lowest e. lowest or_lower t e) a es ≡ None → (a ≡ None) × Each (λ e. t e ≡ None) es
+fold_none t a [] h = (h, tt)
+fold_none t a (e ∷ es) h =
+    let rest = fold_none t (a or_lower t e) es h in
+    let both = lower_none a (t e) rest.0 in
+    (both.0, (both.1, rest.1))
+
+pub or_false : (a b : Bool) → (a || b) ≡ false → (a ≡ false) × (b ≡ false)
+or_false true b h = cc
+or_false false b h = (refl, h)
+
+pub not_false : (b : Bool) → not b ≡ false → b ≡ true
+not_false true h = refl
+not_false false h = cc
