@@ -185,7 +185,7 @@ fn each_directive_has_its_items(rt: HostRuntime) {
         ),
         ("a: b:\n.L1: nop", "1 a:;1 b:;2 .L1:;2 nop;"),
         ("a /* x\n y */ : # z\n\n;b:", "1 a:;4 b:;"),
-        (".note: nop; .: .", "1 .note:;1 nop;1 .:;"),
+        (".note: nop; .: nop", "1 .note:;1 nop;1 .:;1 nop;"),
     ];
     for (text, items) in rows.iter() {
         assert!(rt; reads_as(&rt, text, items), "{text}");
