@@ -3,6 +3,7 @@ use Rattle.std.proofs.Common.{◌≡◌, ◌≤◌, ◌<◌, ◌+◌, ◌∙◌,
 use Rattle.std.proofs.lemmas.List.{take_more, take_all, take-append-drop}
 use Rattle.std.proofs.lemmas.List.Sums.{fold-append}
 use Rattle.std.specs.Prelude.{Result, Ok, Err, IfOk, OnOk}
+use Rattle.asm_lex.specs.declared.lexing.TheConstants.{LIMIT}
 use Rattle.asm_parse.specs.declared.tree.Argument.{Argument}
 use Rattle.asm_parse.specs.declared.tree.SourceItem.{SourceItem}
 use Rattle.asm_parse.specs.Size.{body_count, items_count}
@@ -40,7 +41,7 @@ item_count [] k d lt = absurd (omega arith)
 item_count (i ∷ items) zero d lt = omega arith
 item_count (i ∷ items) (suc k) d lt = let h = item_count items k d (omega arith) in omega (arith, h)
 
-pub item_size : (items : List SourceItem) (k : ℕ) (d i : SourceItem) → k < length items → i ≡ get_or items k d → IsReadable items → body_count i.body ≤ 4194304
+pub item_size : (items : List SourceItem) (k : ℕ) (d i : SourceItem) → k < length items → i ≡ get_or items k d → IsReadable items → body_count i.body ≤ LIMIT
 item_size items k d i lt e r = let h = item_count items k d lt in rw e (omega (arith, h, r.count))
 
 pub item_among : (names : List (List ℕ)) (items : List SourceItem) (k : ℕ) (d i : SourceItem) → names ≡ names_in items → k < length items → i ≡ get_or items k d → AreHeld names (body_names i.body)

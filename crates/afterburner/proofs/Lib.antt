@@ -1,5 +1,6 @@
 pub mod Keyed
 pub mod Ordering
+pub mod SymbolNumbers
 pub mod Named
 pub mod Sound
 pub mod Spelled

@@ -35,7 +35,7 @@ reloc_grown t n a b relocs le all = λ k d lt. let h = all k d lt in record { se
 
 pub apart_grown : (from : ℕ) (sites : List Site) (a b : ℕ) → a ≤ b → AreApart from sites a → AreApart from sites b
 apart_grown from [] a b le h = omega arith
-apart_grown from (s ∷ sites) a b le h = (h.0, h.1, h.2, apart_grown (s.at + s.total) sites a b le h.3)
+apart_grown from (s ∷ sites) a b le h = (h.0, h.1, h.2, h.3, apart_grown (s.at + s.total) sites a b le h.4)
 
 pub sound_kept : (n : ℕ) (st made : State) → IsSound n st → length made.definitions ≡ length st.definitions → made.text_relocs ≡ st.text_relocs → made.data_relocs ≡ st.data_relocs → made.sites ≡ st.sites
     → length st.text ≤ length made.text → length st.init ≤ length made.init → made.after_sti ≡ false → IsSound n made

@@ -43,15 +43,15 @@ few_fields names at len args (Some field) f =
 
 apart_lower : (a b : ℕ) (sites : List Site) (to : ℕ) → a ≤ b → AreApart b sites to → AreApart a sites to
 apart_lower a b [] to le h = omega arith
-apart_lower a b (s ∷ sites) to le h = (omega (arith, h.0), h.1, h.2, h.3)
+apart_lower a b (s ∷ sites) to le h = (omega (arith, h.0), h.1, h.2, h.3, h.4)
 
 apart_more : (from at to : ℕ) (sites more : List Site) → AreApart from sites at → AreApart at more to → AreApart from (sites ++ more) to
 apart_more from at to [] more h m = apart_lower from at more to h m
-apart_more from at to (s ∷ sites) more h m = (h.0, h.1, h.2, apart_more (s.at + s.total) at to sites more h.3 m)
+apart_more from at to (s ∷ sites) more h m = (h.0, h.1, h.2, h.3, apart_more (s.at + s.total) at to sites more h.4 m)
 
-site_lies : (at to len : ℕ) (kind : Option SiteKind) → len ≤ 11 → at + len + padding kind len ≤ to → AreApart at (site_at at kind len) to
-site_lies at to len None short le = omega arith
-site_lies at to len (Some kind) short le = (omega arith, omega arith, refl, omega arith)
+site_lies : (at to len : ℕ) (kind : Option SiteKind) → 1 ≤ len → len ≤ 11 → at + len + padding kind len ≤ to → AreApart at (site_at at kind len) to
+site_lies at to len None some short le = omega arith
+site_lies at to len (Some kind) some short le = (omega arith, some, short, refl, omega arith)
 
 sti_sited : (kind : Option SiteKind) (at len : ℕ) (sites : List Site) → is_sti kind ≡ true → 1 ≤ length (sites ++ site_at at kind len)
 sti_sited None at len sites e = cc
@@ -90,7 +90,7 @@ sound_added names st args a short fields spelled held s =
       data_relocs = s.data_relocs;
       few_text = omega (arith, few, few_first, few_second, s.few_text, room);
       few_data = s.few_data;
-      sites = apart_more 0 at (length text) st.sites (site_at at kind len) s.sites (site_lies at (length text) len kind short.most site_room);
+      sites = apart_more 0 at (length text) st.sites (site_at at kind len) s.sites (site_lies at (length text) len kind short.some short.most site_room);
       sti_site = λ e. sti_sited kind at len st.sites e;
       sti_text = λ e. let four = sti_padded kind len e in omega (arith, four, site_room);
     }
@@ -99,9 +99,9 @@ sound_added names st args a short fields spelled held s =
 
 apart_last : (from k to : ℕ) (sites : List Site) → k + 1 ≡ length sites → AreApart from sites to → AreApart from (set sites k (pair_site (get_or sites k no_site))) to
 apart_last from k to [] e h = absurd (omega arith)
-apart_last from zero to (s ∷ []) e h = (h.0, omega arith, refl, omega (arith, h.2, h.3))
+apart_last from zero to (s ∷ []) e h = (h.0, omega arith, omega arith, refl, omega (arith, h.3, h.4))
 apart_last from zero to (s ∷ t ∷ sites) e h = absurd (omega arith)
-apart_last from (suc k) to (s ∷ sites) e h = (h.0, h.1, h.2, apart_last (s.at + s.total) k to sites (omega arith) h.3)
+apart_last from (suc k) to (s ∷ sites) e h = (h.0, h.1, h.2, h.3, apart_last (s.at + s.total) k to sites (omega arith) h.4)
 
 pub sound_paired : (n : ℕ) (st : State) → st.after_sti ≡ true → IsSound n st → IsSound n (paired st)
 unfolding paired

@@ -6,12 +6,15 @@ use Rattle.std.proofs.lemmas.List.{map-append, length-map}
 use Rattle.std.proofs.lemmas.List.Sums.{length-filter, sum_by-append, sum_by-cons}
 use Rattle.std.proofs.lemmas.List.Filters.{length-filter_both, sum_by-filter_both}
 use Rattle.std.proofs.lemmas.List.Elements.{All-append, All-nil, All-cons, All-head, All-tail, All-map, All-filter, filter-append}
+use Rattle.asm_lex.specs.declared.lexing.TheConstants.{LIMIT}
 use Rattle.elf_form.specs.declared.object.Place.TheVariants as place
 use Rattle.elf_form.specs.declared.object.Symbol.{Symbol}
 use Rattle.elf_form.specs.declared.object.Reloc.{Reloc}
 use Rattle.elf_form.specs.ObjectParts.{ObjectParts}
-use Rattle.elf_form.specs.ObjectLayout.{layout, is_of, patched, IsPlaced, IsWholeObject}
+use Rattle.elf_form.specs.ObjectLayout.{layout, is_of, relocated_part, IsPlaced, IsWholeObject}
 use Rattle.sites.specs.Spelling.{spelling}
+use Rattle.sites.specs.Limits.{in_text}
+use Rattle.sites.proofs.TextSites.{in_form, forms, length-spelling}
 use Rattle.asm_parse.specs.declared.tree.Value.{Value}
 use Rattle.asm_parse.specs.declared.tree.Form.{Form}
 use Rattle.asm_parse.specs.declared.tree.Form.TheVariants as form
@@ -27,7 +30,7 @@ use Rattle.afterburner.specs.declared.symbol.Definition.{Definition}
 use Rattle.afterburner.specs.State.{State, undefined}
 use Rattle.afterburner.specs.Objects.{symbol, symbols_seen, are, defines, is_global, ordered, ordered_number, renumbered, object, reaches, value_at}
 use Rattle.afterburner.specs.Sound.{IsSound, IsWithin, IsAnnotated, IsSmall}
-use Rattle.afterburner.proofs.Sited.{spelling_length, apart_form, apart_inside}
+use Rattle.afterburner.proofs.Sited.{apart_gaps, apart_inside}
 
 -- ---- the order of symbols
 
@@ -228,8 +231,8 @@ whole items st bound readable sound within =
     let datas : List Reloc = map (renumbered ds) st.data_relocs in
     let many : length (ordered seen) ≡ length ds = ordered_length seen ∙ seen_length names ds sound.definitions in
     let relocs : length (map (renumbered ds) (st.text_relocs ++ st.data_relocs)) ≡ length st.text_relocs + length st.data_relocs = length-map (st.text_relocs ++ st.data_relocs) (renumbered ds) ∙ length-append st.text_relocs st.data_relocs in
-    let sites : length (spelling st.sites) ≡ 8 + 8 * length st.sites = spelling_length st.sites in
-    let named_sum : sum_by (λ (s : Symbol). length s.name) (ordered seen) ≤ 4194304 = rw (ordered_sum (λ (s : Symbol). length s.name) seen) (let h = seen_sum names ds in let j = names_sum items in omega (arith, h, j, readable.size)) in
+    let sites : length (spelling (in_text (length st.text) st.sites)) ≤ 8 + 8 * length st.sites = length-spelling (in_text (length st.text) st.sites) in
+    let named_sum : sum_by (λ (s : Symbol). length s.name) (ordered seen) ≤ LIMIT = rw (ordered_sum (λ (s : Symbol). length s.name) seen) (let h = seen_sum names ds in let j = names_sum items in omega (arith, h, j, readable.size)) in
     let size = bound o in
     let numbered : (r : Reloc) → r.symbol < length names → ordered_number ds r.symbol < length (ordered seen) = λ r lt. rw many (count_within ds r.symbol (omega (arith, sound.definitions, lt))) in
     let split_relocs : map (renumbered ds) (st.text_relocs ++ st.data_relocs) ≡ texts ++ datas = map-append (renumbered ds) st.text_relocs st.data_relocs in
@@ -246,8 +249,8 @@ whole items st bound readable sound within =
       split = split seen;
       names = ordered_all (λ (s : Symbol). All (λ b. b ≢ 0) s.name) seen (seen_all (λ (s : Symbol). All (λ b. b ≢ 0) s.name) (λ (n : List ℕ). All (λ b. 1 ≤ b) n) names ds (λ n d h. no_zero n h) readable.named);
       undefined = ordered_all IsPlaced seen (seen_all IsPlaced (λ (n : List ℕ). All (λ b. 1 ≤ b) n) names ds (λ n d h. is_placed n d) readable.named);
-      fields = All-map (λ (r : Reloc). r.at + 4 ≤ length (patched o r)) (renumbered ds) (st.text_relocs ++ st.data_relocs)
-          (All-append (λ (r : Reloc). r.at + 4 ≤ length (patched o (renumbered ds r))) st.text_relocs st.data_relocs
+      fields = All-map (λ (r : Reloc). r.at + 4 ≤ length (relocated_part o r)) (renumbered ds) (st.text_relocs ++ st.data_relocs)
+          (All-append (λ (r : Reloc). r.at + 4 ≤ length (relocated_part o (renumbered ds r))) st.text_relocs st.data_relocs
           (λ k d lt. let h = sound.text_relocs k d lt in rw h.section h.field)
           (λ k d lt. let h = sound.data_relocs k d lt in rw h.section h.field));
       ordered = rw split_relocs (parted_relocs texts datas
@@ -259,13 +262,16 @@ whole items st bound readable sound within =
 
 pub annotated : (names : List (List ℕ)) (st : State) (n : ℕ) → IsSound n st → IsWithin st → IsAnnotated (object names st)
 unfolding object
-annotated names st n sound within = record {
-  sites = st.sites;
-  spelled = refl;
-  form = apart_form 0 0 (length st.text) st.sites (omega arith) (omega (arith, within.text)) sound.sites;
-  inside = apart_inside 0 (length st.text) st.sites sound.sites;
-  few = within.sites;
-}
+annotated names st n sound within =
+    let gaps = apart_gaps 0 (length st.text) st.sites (omega (arith, within.text)) sound.sites in
+    record {
+      sites = st.sites;
+      spelled = refl;
+      form = in_form (length st.text) st.sites (forms 0 0 st.sites (omega arith) gaps) (λ long. gaps);
+      gaps = gaps;
+      inside = apart_inside 0 (length st.text) st.sites sound.sites;
+      few = within.sites;
+    }
 
 pub small : (names : List (List ℕ)) (st : State) → IsWithin st → IsSmall (object names st)
 unfolding object

@@ -5,6 +5,7 @@ use Rattle.asm_parse.specs.declared.tree.Body.TheVariants as body
 use Rattle.asm_parse.specs.declared.tree.SourceItem.{SourceItem}
 use Rattle.asm_parse.specs.Readable.{names_in}
 use Rattle.elf_form.specs.ObjectParts.{ObjectParts}
+use Rattle.sites.specs.declared.limits.TheConstants.{TEXT_LIMIT, SITE_LIMIT}
 use Rattle.afterburner.specs.declared.fault.BurnCause.{BurnCause}
 use Rattle.afterburner.specs.declared.fault.BurnCause.TheVariants as cause
 use Rattle.afterburner.specs.declared.fault.BurnFault.{BurnFault}
@@ -30,9 +31,9 @@ made names st (body.Instruction rep name args) = instruction names st rep name a
 -- the limits of text, of data with zeroed bytes, and of sites
 unfoldable pub limited : State → Result State BurnCause
 limited st =
-    if nat_lt 4194304 (length st.text) then Err cause.TextTooLarge
+    if nat_lt TEXT_LIMIT (length st.text) then Err cause.TextTooLarge
     else if nat_lt 33554432 (length st.init + st.bss) then Err cause.InitTooLarge
-    else if nat_lt 262144 (length st.sites) then Err cause.TooManySites
+    else if nat_lt SITE_LIMIT (length st.sites) then Err cause.TooManySites
     else Ok st
 
 abbrev pub then_limited : Result State BurnCause → Result State BurnCause

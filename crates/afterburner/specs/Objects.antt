@@ -1,11 +1,12 @@
 -- The object of what all items made.
-use Rattle.std.specs.Prelude.{ℕ, ◌+◌, Bool, true, false, not, List, [], ◌∷◌, ◌++◌, take, map, filter, count_by, slice_index, if◌then◌else◌}
+use Rattle.std.specs.Prelude.{ℕ, ◌+◌, Bool, true, false, not, List, [], ◌∷◌, ◌++◌, length, take, map, filter, count_by, slice_index, if◌then◌else◌}
 use Rattle.elf_form.specs.declared.object.Place.{Place}
 use Rattle.elf_form.specs.declared.object.Place.TheVariants as place
 use Rattle.elf_form.specs.declared.object.Symbol.{Symbol}
 use Rattle.elf_form.specs.declared.object.Reloc.{Reloc}
 use Rattle.elf_form.specs.ObjectParts.{ObjectParts}
 use Rattle.sites.specs.Spelling.{spelling}
+use Rattle.sites.specs.Limits.{in_text}
 use Rattle.afterburner.specs.declared.symbol.Definition.{Definition}
 use Rattle.afterburner.specs.declared.symbol.Binding.{Binding}
 use Rattle.afterburner.specs.declared.symbol.Binding.TheVariants as binding
@@ -62,14 +63,15 @@ renumbered ds r = record r { symbol = ordered_number ds r.symbol }
 abbrev pub with_number : List ℕ → Reloc → Reloc
 with_number numbers r = record r { symbol = slice_index numbers r.symbol }
 
--- The relocations of text come before those of data, each in the order of their places.
+-- The relocations of text come before those of data, each in the order of their places. The annotations are in the
+-- format for so long a text.
 unfoldable pub object : List (List ℕ) → State → ObjectParts
 object names st =
     record {
       text = st.text;
       init = st.init;
       bss = st.bss;
-      sites = spelling st.sites;
+      sites = spelling (in_text (length st.text) st.sites);
       symbols = ordered (symbols_seen names st.definitions);
       relocs = map (renumbered st.definitions) (st.text_relocs ++ st.data_relocs);
     }

@@ -3,7 +3,9 @@ use Rattle.std.specs.Prelude.{◌≡◌, ℕ, ◌+◌, ◌<◌, ◌≤◌, max, 
 use Rattle.elf_form.specs.declared.object.Reloc.{Reloc}
 use Rattle.elf_form.specs.ObjectParts.{ObjectParts}
 use Rattle.sites.specs.declared.site.Site.{Site}
-use Rattle.sites.specs.Spelling.{spelling, AreInForm}
+use Rattle.sites.specs.declared.limits.TheConstants.{TEXT_LIMIT, SITE_LIMIT}
+use Rattle.sites.specs.Spelling.{spelling, AreInGaps, IsInForm}
+use Rattle.sites.specs.Limits.{in_text}
 use Rattle.asm_parse.specs.Scope.{holds}
 use Rattle.afterburner.specs.State.{State}
 
@@ -13,10 +15,11 @@ pub record IsRelocIn (in_text : Bool) (size count : ℕ) (r : Reloc) : Type 0 wh
   pub field : r.at + 4 ≤ size
   pub symbol : r.symbol < count
 
--- Sites follow one another from `from` on without overlapping, and the last ends before `to`.
+-- Sites of instructions of 1 to 11 bytes follow one another from `from` on without overlapping, and the last ends
+-- before `to`.
 abbrev pub AreApart : ℕ → List Site → ℕ → Type 0
 AreApart from [] to = from ≤ to
-AreApart from (s ∷ sites) to = (from ≤ s.at) × (s.len < 256) × (s.total ≡ max 5 s.len) × AreApart (s.at + s.total) sites to
+AreApart from (s ∷ sites) to = (from ≤ s.at) × (1 ≤ s.len) × (s.len ≤ 11) × (s.total ≡ max 5 s.len) × AreApart (s.at + s.total) sites to
 
 -- Each name has a definition, relocations and sites lie in their sections, and there are no more relocations than
 -- bytes. Behind an STI of its own the text ends with its site.
@@ -32,24 +35,25 @@ pub record IsSound (count : ℕ) (st : State) : Type 0 where
 
 -- The limits hold.
 pub record IsWithin (st : State) : Type 0 where
-  pub text : length st.text ≤ 4194304
+  pub text : length st.text ≤ TEXT_LIMIT
   pub init : length st.init + st.bss ≤ 33554432
-  pub sites : length st.sites ≤ 262144
+  pub sites : length st.sites ≤ SITE_LIMIT
 
 -- The names are among those of the source.
 abbrev pub AreHeld : List (List ℕ) → List (List ℕ) → Type 0
 AreHeld names [] = Unit {0}
 AreHeld names (n ∷ ns) = (holds names n ≡ true) × AreHeld names ns
 
--- The annotations are those of sites in their form, which lie in the text.
+-- The annotations are those of sites in the form of the text's format, which lie in the text and follow one another.
 pub record IsAnnotated (o : ObjectParts) : Type 0 where
   pub sites : List Site
-  pub spelled : o.sites ≡ spelling sites
-  pub form : AreInForm 0 sites
+  pub spelled : o.sites ≡ spelling (in_text (length o.text) sites)
+  pub form : IsInForm (in_text (length o.text) sites)
+  pub gaps : AreInGaps 0 sites
   pub inside : All (λ s. s.at + s.total ≤ length o.text) sites
-  pub few : length sites ≤ 262144
+  pub few : length sites ≤ SITE_LIMIT
 
 -- The limits hold of an object.
 pub record IsSmall (o : ObjectParts) : Type 0 where
-  pub text : length o.text ≤ 4194304
+  pub text : length o.text ≤ TEXT_LIMIT
   pub init : length o.init + o.bss ≤ 33554432

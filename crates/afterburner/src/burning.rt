@@ -3,6 +3,7 @@
 ghost use Rattle.std.specs.Prelude.{◌≡◌, ◌≤◌, ◌<◌, ◌+◌, length, OnOk, IfOk};
 ghost use Rattle.asm_parse.specs.Readable.{IsReadable, body_names, names_in};
 ghost use Rattle.asm_parse.specs.Size.{body_count};
+ghost use Rattle.asm_lex.specs.declared.lexing.TheConstants.{LIMIT};
 ghost use Rattle.elf_form.specs.ObjectLayout.{IsWholeObject};
 ghost use Rattle.afterburner.specs.Burnt.{Makes, Gives, FaultOf, parted, made, item_made, all_made, burnt};
 ghost use Rattle.afterburner.specs.Refused.{Refuses};
@@ -29,7 +30,7 @@ impl Assembly {
     #[tactic(auto, unfolding(crate::specs::Burnt::made), using(crate::proofs::Items::labelled_sound, crate::proofs::Items::directed_sound))]
     fn make(&mut self, names: &Names, body: &Body) -> Result<(), Stop>
         requires few { length names.now ≤ 65536 }
-        requires size { body_count body.now ≤ 4194304 }
+        requires size { body_count body.now ≤ LIMIT }
         requires held { AreHeld names.now (body_names body.now) }
         requires sound { IsSound (length names.now) self.old }
         requires within { IsWithin self.old }
@@ -58,7 +59,7 @@ impl Assembly {
     #[tactic(auto, unfolding(crate::specs::Burnt::item_made))]
     fn make_item(&mut self, names: &Names, body: &Body) -> Result<(), Stop>
         requires few { length names.now ≤ 65536 }
-        requires size { body_count body.now ≤ 4194304 }
+        requires size { body_count body.now ≤ LIMIT }
         requires held { AreHeld names.now (body_names body.now) }
         requires sound { IsSound (length names.now) self.old }
         requires within { IsWithin self.old }
@@ -112,7 +113,7 @@ pub fn burn(alloc: Global, source: &Source) -> Result<Object, BurnFault>
     ensures first { Refuses source.now result }
     // A file can be written of the object.
     ensures writable { IfOk result (λ o. IsWholeObject o) }
-    // Its annotations are those of sites in its text.
+    // Its annotations are those of sites in its text, in the format for so long a text.
     ensures sites { IfOk result (λ o. IsAnnotated o) }
     ensures limits { IfOk result (λ o. IsSmall o) }
 {

@@ -18,7 +18,7 @@ pub enum BurnCause {
     Operands,
     /// A number doesn't fit its field.
     ValueRange,
-    /// The text is longer than 4,194,304 bytes.
+    /// The text is longer than 16,777,216 bytes.
     TextTooLarge,
     /// The data and the zeroed bytes are more than 33,554,432 bytes together.
     InitTooLarge,

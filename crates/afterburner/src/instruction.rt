@@ -12,14 +12,13 @@ ghost use Rattle.afterburner.specs.Instructions as spec;
 use crate::argument::symbol_at;
 use crate::assembly::Assembly;
 use crate::fault::{BurnCause, Stop};
-use crate::limits::TEXT_LIMIT;
 use crate::names::Names;
 use crate::section::{is_text, put};
 use asm_instruction::{Assembled, Named, Refusal, assemble};
 use asm_parse::Argument;
 use elf_form::Reloc;
 use ia32_types::{SiteKind, sensitive};
-use sites::Site;
+use sites::{Site, TEXT_LIMIT};
 use std::alloc::AllocError;
 
 /// NOP.

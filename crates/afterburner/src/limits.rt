@@ -6,15 +6,10 @@ ghost use Rattle.afterburner.specs.Sound.{IsWithin};
 
 use crate::assembly::Assembly;
 use crate::fault::{BurnCause, Stop};
-
-/// Bytes of text.
-pub const TEXT_LIMIT: usize = 4194304;
+use sites::{SITE_LIMIT, TEXT_LIMIT};
 
 /// Bytes of data and zeroed bytes together.
 pub const INIT_LIMIT: usize = 33554432;
-
-/// Sites.
-pub const SITE_LIMIT: usize = 262144;
 
 /// Tests the limits behind an item.
 #[tactic(auto, unfolding(crate::specs::Burnt::limited))]

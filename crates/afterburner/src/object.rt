@@ -2,7 +2,7 @@
 
 ghost use Rattle.std.specs.Prelude.{◌≡◌, ◌≤◌, ◌<◌, ◌+◌, ◌++◌, ◌^◌, ◌∷◌, [], length, map, filter, false, count_by, All, OnOk, IfOk, if◌then◌else◌};
 ghost use Rattle.std.specs.List.{range_with_len};
-ghost use Rattle.sites.specs.Spelling.{AreSites};
+ghost use Rattle.sites.specs.Spelling.{AreSites, AreGapped};
 ghost use Rattle.afterburner.specs.Objects as spec;
 ghost use Rattle.elf_form.specs.declared.object.Reloc.{Reloc};
 
@@ -10,7 +10,7 @@ use crate::assembly::Assembly;
 use crate::names::Names;
 use crate::symbol::{Binding, Definition};
 use elf_form::{Bytes, Object, Place, Reloc, Symbol};
-use sites::{Sites, write_sites};
+use sites::{of_text, write_sites};
 use std::alloc::{AllocError, Global};
 
 fn is_wide(binding: Binding) -> bool
@@ -198,6 +198,7 @@ pub fn object(alloc: Global, names: &Names, made: Assembly) -> Result<Object, Al
     requires bss { made.bss < 2 ^ 32 }
     requires few { length made.sites ≤ 262144 }
     requires sites { AreSites 0 made.sites }
+    requires gaps { AreGapped 0 made.sites }
     ensures { IfOk result (λ o. o ≡ spec.object names.now made) }
 {
     let symbols = symbols(alloc, names, &made.definitions)?;
@@ -218,7 +219,8 @@ pub fn object(alloc: Global, names: &Names, made: Assembly) -> Result<Object, Al
         data_relocs: _,
         definitions: _,
     } = made;
-    let sites = write_sites(alloc, &Sites { list: sites })?;
+    let sites = of_text(sites, text.len());
+    let sites = write_sites(alloc, &sites)?;
     Ok(Object {
         text,
         init,

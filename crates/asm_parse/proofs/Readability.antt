@@ -7,6 +7,7 @@ use Rattle.std.proofs.lemmas.Grind.{flat_map-append}
 use Rattle.std.proofs.lemmas.Bool.{ltb-true}
 use Rattle.std.specs.Prelude.{◌&&◌, ◌||◌, ◌==◌, ◌^◌, nat_lt, fold, All, IfOk, Result, Ok, Err}
 use Rattle.std.specs.List.{flat_map, list_all}
+use Rattle.asm_lex.specs.declared.lexing.TheConstants.{LIMIT}
 use Rattle.asm_lex.specs.declared.fault.SourceFault.{SourceFault}
 use Rattle.asm_lex.specs.declared.bytes.Class.{Class}
 use Rattle.asm_lex.specs.declared.bytes.Class.TheVariants as class
@@ -35,7 +36,7 @@ use Rattle.asm_parse.specs.Reading.{number_value, mark_symbol, number_symbol, sy
 use Rattle.asm_parse.specs.Statement.{defines, item_of, resumed, sectioned}
 use Rattle.asm_parse.specs.Statements.{IsSeen, Sees, symbol_in, IsArgument, IsNext, Separated, HasArguments, Statement, symbols, text_of, IsStatement, Statements}
 use Rattle.asm_parse.specs.Readable.{name_list, argument_names, body_names, names_in, IsReadable}
-use Rattle.asm_parse.specs.Running.{Says, Parses, read}
+use Rattle.asm_parse.specs.Running.{Says, SourceAs, Parses, read}
 use Rattle.asm_parse.proofs.Sources.{parsed_is}
 use Rattle.asm_parse.proofs.Sizes.{source_pays, symbols-append}
 
@@ -275,7 +276,7 @@ fresh_tracks = record { fit = record { few = omega arith; named = All-nil (λ (n
 
 -- ---- a source
 
-source_readable : (text : List ℕ) (items : List SourceItem) → length text ≤ 4194304 → Says text items → IsReadable items
+source_readable : (text : List ℕ) (items : List SourceItem) → length text ≤ LIMIT → Says text items → IsReadable items
 source_readable text items small says = by_words says
   where
     by_words : Says text items → IsReadable items
@@ -290,6 +291,9 @@ source_readable text items small says = by_words says
           named = subst (λ (x : List (List ℕ)). All (λ (n : List ℕ). Plain n) x) (sym e) t.fit.named;
         }
 
-pub parsed_readable : (text : List ℕ) (x : Result (List SourceItem) SourceFault) → length text ≤ 4194304 → Parses x (read text) → IfOk x IsReadable
+pub source_items : (text : List ℕ) (items : List SourceItem) → SourceAs text items → IsReadable items
+source_items text items (small, says) = source_readable text items small says
+
+pub parsed_readable : (text : List ℕ) (x : Result (List SourceItem) SourceFault) → length text ≤ LIMIT → Parses x (read text) → IfOk x IsReadable
 parsed_readable text (Ok x) small p = let s = parsed_is text (Ok x) small p in source_readable text x small s.1
 parsed_readable text (Err e) small p = tt

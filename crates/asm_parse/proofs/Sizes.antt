@@ -2,6 +2,7 @@
 use Rattle.std.proofs.Common.{◌≡◌, ℕ, zero, suc, ◌+◌, ◌≤◌, Bool, true, false, List, [], ◌∷◌, ◌++◌, length, Option, Some, None, refl, sym, ap, subst, ◌∙◌, ◌⊎◌, inl, inr, arith}
 use Rattle.std.proofs.lemmas.List.{length-append}
 use Rattle.std.specs.Prelude.{ℤ, pos}
+use Rattle.asm_lex.specs.declared.lexing.TheConstants.{LIMIT}
 use Rattle.asm_lex.specs.Words.{Word}
 use Rattle.asm_parse.specs.declared.symbol.Symbol.{Symbol}
 use Rattle.asm_parse.specs.declared.symbol.Symbol.TheVariants as symbol
@@ -253,10 +254,10 @@ source_pays text items (ws, sc, lexed, statements, is) =
       elim p.count [ inl e ↦ omega (arith, ap items_count (sym is ∙ e)) | inr le ↦ omega (arith, le, ap items_count is, l.count, length-append text (10 ∷ [])) ],
     )
 
-pub parsed_size : (text : List ℕ) (x : Result (List SourceItem) SourceFault) → length text ≤ 4194304 → Parses x (read text) → IfOk x (λ s. items_size s ≤ length text)
+pub parsed_size : (text : List ℕ) (x : Result (List SourceItem) SourceFault) → length text ≤ LIMIT → Parses x (read text) → IfOk x (λ s. items_size s ≤ length text)
 parsed_size text (Ok x) small p = let s = parsed_is text (Ok x) small p in (source_pays text x s.1).0
 parsed_size text (Err e) small p = tt
 
-pub parsed_count : (text : List ℕ) (x : Result (List SourceItem) SourceFault) → length text ≤ 4194304 → Parses x (read text) → IfOk x (λ s. items_count s ≤ length text)
+pub parsed_count : (text : List ℕ) (x : Result (List SourceItem) SourceFault) → length text ≤ LIMIT → Parses x (read text) → IfOk x (λ s. items_count s ≤ length text)
 parsed_count text (Ok x) small p = let s = parsed_is text (Ok x) small p in (source_pays text x s.1).1
 parsed_count text (Err e) small p = tt

@@ -1,6 +1,7 @@
 -- What is read is a source, and a source is read; what a refusal says of the text.
 use Rattle.std.proofs.Common.{◌≡◌, ℕ, ◌≤◌, ◌<◌, List, [], ◌∷◌, ◌++◌, length, Result, Ok, Err, refl, sym, ap, subst, ◌∙◌, None, arith}
 use Rattle.std.specs.Prelude.{IfOk}
+use Rattle.asm_lex.specs.declared.lexing.TheConstants.{LIMIT}
 use Rattle.asm_lex.specs.declared.machine.Mode.TheVariants as mode
 use Rattle.asm_lex.specs.declared.machine.Next.TheVariants.{Goes}
 use Rattle.asm_lex.specs.declared.fault.SourceCause.TheVariants as cause
@@ -49,7 +50,7 @@ is_read text items (ws, sc, lexed, statements, is) =
     let u = unlink (text ++ 10 ∷ []) start mode.Between (sc, state.Start) (ap (λ (x : Scan). x.ending) whole) (ap (λ (x : Scan). read_words fresh state.Start x.words) whole ∙ statements_run statements) in
     (u.last, rw u.runs (closed_ok u.last u.last.mode u.same_mode), ap (λ (x : ScopeView × State). x.0.items) u.same ∙ is)
 
-pub parsed_is : (text : List ℕ) (x : Result (List SourceItem) SourceFault) → length text ≤ 4194304 → Parses x (read text) → IfOk x (λ s. SourceAs text s)
+pub parsed_is : (text : List ℕ) (x : Result (List SourceItem) SourceFault) → length text ≤ LIMIT → Parses x (read text) → IfOk x (λ s. SourceAs text s)
 parsed_is text (Ok x) small (r, e, is) = (small, subst (Says text) is (read_is text r e))
 parsed_is text (Err e) small h = tt
 
@@ -61,7 +62,7 @@ are_parsed text x p items (small, s) = let g = is_read text items s in by_result
     by_result (Err fault.Memory) r e is p = tt
     by_result (Err (fault.At l c)) r e is p = not_both (sym p ∙ e)
 
-pub none_parsed : (text : List ℕ) → 4194304 < length text → (items : List SourceItem) → SourceAs text items → ReadsAs items (Err (fault.At 1 cause.TooLong))
+pub none_parsed : (text : List ℕ) → LIMIT < length text → (items : List SourceItem) → SourceAs text items → ReadsAs items (Err (fault.At 1 cause.TooLong))
 none_parsed text long items (small, s) = absurd (omega arith)
 
 pub refused_line : (text : List ℕ) (r : Result (List SourceItem) SourceFault) → Parses r (read text) → DeadAt text r

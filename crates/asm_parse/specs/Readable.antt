@@ -1,6 +1,7 @@
 -- What is known of the items of every source that is read.
 use Rattle.std.specs.Prelude.{ℕ, ◌≤◌, List, [], ◌∷◌, ◌++◌, length, fold, All, Option, Some, None}
 use Rattle.std.specs.List.{flat_map}
+use Rattle.asm_lex.specs.declared.lexing.TheConstants.{LIMIT}
 use Rattle.asm_parse.specs.declared.tree.Argument.{Argument}
 use Rattle.asm_parse.specs.declared.tree.Body.{Body}
 use Rattle.asm_parse.specs.declared.tree.Body.TheVariants as body
@@ -28,7 +29,7 @@ names_in items = fold added [] (flat_map (λ (i : SourceItem). body_names i.body
 
 -- The items say no more than the longest source can, and name at most 65,536 symbols, none with a zero byte.
 pub record IsReadable (items : List SourceItem) : Type 0 where
-  pub size : items_size items ≤ 4194304
-  pub count : items_count items ≤ 4194304
+  pub size : items_size items ≤ LIMIT
+  pub count : items_count items ≤ LIMIT
   pub few : length (names_in items) ≤ 65536
   pub named : All (λ (n : List ℕ). All (λ b. 1 ≤ b) n) (names_in items)

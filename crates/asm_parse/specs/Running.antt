@@ -1,5 +1,6 @@
 -- The state of reading, and what one byte does to it.
 use Rattle.std.specs.Prelude.{◌≡◌, ℕ, zero, suc, ◌+◌, ◌≤◌, ◌<◌, List, [], ◌∷◌, ◌++◌, length, Option, None, Result, Ok, Err, ◌==◌, if◌then◌else◌}
+use Rattle.asm_lex.specs.declared.lexing.TheConstants.{LIMIT}
 use Rattle.asm_lex.specs.declared.fault.SourceCause.TheVariants as cause
 use Rattle.asm_lex.specs.declared.fault.SourceFault.{SourceFault}
 use Rattle.asm_lex.specs.declared.fault.SourceFault.TheVariants as fault
@@ -95,7 +96,7 @@ Says text items = (ws : List Word) × (sc : ScopeView) × LexedSource text ws ×
 
 -- The text isn't too long, and says these items.
 abbrev pub SourceAs : List ℕ → List SourceItem → Type 0
-SourceAs text items = (length text ≤ 4194304) × Says text items
+SourceAs text items = (length text ≤ LIMIT) × Says text items
 
 abbrev pub HasReading : List ℕ → Type 0
 HasReading text = (items : List SourceItem) × Says text items

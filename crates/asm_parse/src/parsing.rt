@@ -13,11 +13,8 @@ ghost use Rattle.asm_parse.specs.Running as run;
 use crate::dead::left_open;
 use crate::reading::read;
 use crate::tree::Source;
-use asm_lex::{Mode, SourceCause, SourceFault};
+use asm_lex::{LIMIT, Mode, SourceCause, SourceFault};
 use std::alloc::Global;
-
-/// The longest source.
-pub const LIMIT: usize = 4194304;
 
 /// The source with a newline at its end.
 fn with_newline(alloc: Global, text: &[u8]) -> Result<Vec<u8>, SourceFault>

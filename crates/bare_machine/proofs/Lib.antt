@@ -1,4 +1,3 @@
-pub mod Spelled
 pub mod Begun
 pub mod Texts
 pub mod Runs

@@ -67,7 +67,7 @@ abbrev pub resting : Cpu → List ℕ → Set → Board → ℕ → State
 resting cpu ram set board step = record { cpu = record cpu { held = false }; ram = ram; set = set; board = board; step = step }
 
 abbrev pub nothing : Report
-nothing = record { items = []; completed = None; pages = [] }
+nothing = record { items = []; completed = None; pages = []; tables = []; wrote = [] }
 
 no_step : (board : Board) → board_steps 0 board ≡ board
 unfolding board_steps
@@ -82,8 +82,8 @@ idle_step s cpu ram whole set board step halted no_event none =
     let b = resting cpu ram set board step in
     let space = space_at_start s.mode s.frames b.cpu ram set in
     ap (λ (d : Board). stepped s (record b { board = d })) no_event
-    ∙ (ap (λ (o : Option ℕ). by_interrupt o (unheld b) space) none
-    ∙ halted_works (unheld b) space halted)
+    ∙ (ap (λ (o : Option ℕ). by_interrupt s o (unheld b) space) none
+    ∙ halted_works s (unheld b) space halted)
 
 -- some such steps
 pub idle_steps : (k : ℕ) (s : Setting) (cpu : Cpu) (ram : List ℕ) (whole set : Set) (board : Board) (t : ℕ)

@@ -1,25 +1,20 @@
 -- What a step comes to, from what its parts did.
-use Rattle.std.proofs.Common.{◌≡◌, ℕ, List, [], Bool, true, cond, Ok, None, Some, refl, sym, ap, subst}
+use Rattle.std.proofs.Common.{◌≡◌, ℕ, [], Bool, true, cond, None, refl, ap}
 use Rattle.std.specs.FinMap.{FinMap, empty}
 use Rattle.std.specs.Ordering.{nat_cmp}
-use Rattle.run_trace.specs.declared.items.What.{What}
-use Rattle.descriptors.specs.declared.cpu.Cpu.{Cpu}
-use Rattle.event_entry.specs.declared.refusal.NotDelivered.{NotDelivered}
-use Rattle.event_entry.specs.Deliver.{Delivers}
 use Rattle.board.specs.declared.devices.Board.{Board}
 use Rattle.board.specs.Boards.{board_step, board_steps}
 use Rattle.paging.specs.declared.entry.Entry.{Entry}
 use Rattle.paging.specs.Space.{Space}
 use Rattle.paging.specs.Uses.{with_entry}
-use Rattle.paging.specs.Work.{Outcome}
 use Rattle.step_mem.specs.Changes.{AreWithin}
 use Rattle.step_mem.proofs.Changed.{Within_with}
 use Rattle.bare_mem.specs.Part.{IsPartOf}
-use Rattle.machine_model.specs.State.{State}
-use Rattle.machine_model.specs.Step.{went, worked, fetches_next, after_delivery, after_software, Completed}
-use Rattle.bare_machine.specs.declared.finish.Dropped.{Dropped}
-use Rattle.bare_machine.specs.declared.finish.Dropped.TheVariants as dropped
-use Rattle.bare_machine.specs.Machine.{Goes, dropping}
+use Rattle.machine_model.specs.State.{Setting, State}
+use Rattle.machine_model.specs.Step.{went, worked, begins_next}
+use Rattle.machine_step.specs.declared.worked.Dropped.{Dropped}
+use Rattle.machine_step.specs.declared.worked.Dropped.TheVariants as dropped
+use Rattle.machine_step.specs.Worked.{dropping}
 use Rattle.bare_machine.proofs.Begun.{none_within}
 
 -- what is a part of a set that lies within memory lies there too
@@ -37,19 +32,7 @@ pub one_step : (board : Board) → board_steps 1 board ≡ board_step board
 unfolding board_steps
 one_step board = refl
 
--- a delivery that was done
-pub delivered_goes : (whats : List What) (b : State) (board : Board) (outcome : Outcome NotDelivered Cpu) (cpu : Cpu) (s : Space) (new : State)
-    → Delivers (Ok tt) cpu s outcome → Goes (went whats None b cpu board s) b.step whats new → Goes (after_delivery whats b board outcome) b.step whats new
-delivered_goes whats b board outcome cpu s new h goes =
-    subst (λ (o : Outcome NotDelivered Cpu). Goes (after_delivery whats b board o) b.step whats new) (sym h) goes
-
--- INT that was delivered
-pub software_goes : (b : State) (completed : Completed) (vector : ℕ) (outcome : Outcome NotDelivered Cpu) (cpu : Cpu) (s : Space) (new : State)
-    → Delivers (Ok tt) cpu s outcome → Goes (went [] (Some completed) b cpu b.board s) b.step [] new → Goes (after_software b completed vector outcome) b.step [] new
-software_goes b completed vector outcome cpu s new h goes =
-    subst (λ (o : Outcome NotDelivered Cpu). Goes (after_software b completed vector o) b.step [] new) (sym h) goes
-
 -- a halted processor does nothing
-pub halted_works : (b : State) (s : Space) → b.cpu.halted ≡ true → worked b s ≡ went [] None b b.cpu b.board s
+pub halted_works : (m : Setting) (b : State) (s : Space) → b.cpu.halted ≡ true → worked m b s ≡ went [] None b b.cpu b.board s
 unfolding worked
-halted_works b s e = ap (λ (h : Bool). cond h (went [] None b b.cpu b.board s) (fetches_next b s)) e
+halted_works m b s e = ap (λ (h : Bool). cond h (went [] None b b.cpu b.board s) (begins_next m b s)) e

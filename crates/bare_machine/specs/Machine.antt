@@ -1,6 +1,6 @@
 -- The bare machine's values as states, and what a step says.
-use Rattle.std.specs.Prelude.{◌≡◌, ℕ, ◌*◌, ◌<◌, ◌≤◌, ◌^◌, List, length, [], ◌∷◌, Result, Ok, Err}
-use Rattle.std.specs.FinMap.{FinMap, remove, empty}
+use Rattle.std.specs.Prelude.{◌≡◌, ℕ, ◌*◌, ◌≤◌, List, length, [], Result, Ok, Err}
+use Rattle.std.specs.FinMap.{FinMap}
 use Rattle.std.specs.Ordering.{nat_cmp}
 use Rattle.ia32_types.specs.declared.stop.Stop.{Stop}
 use Rattle.paging.specs.declared.entry.Entry.{Entry}
@@ -14,11 +14,9 @@ use Rattle.machine_model.specs.State.{Setting, State}
 use Rattle.machine_model.specs.Step as steps
 use Rattle.machine_model.specs.Run.{Set, Steps, trace_of}
 use Rattle.machine_model.specs.Step.{Report, Went, Stands, items_at}
-use Rattle.bare_machine.specs.declared.finish.Dropped.{Dropped}
-use Rattle.bare_machine.specs.declared.finish.Dropped.TheVariants as dropped
 use Rattle.bare_machine.specs.declared.machine.Machine.{Machine}
-use Rattle.bare_machine.specs.declared.machine.Seen.{Seen}
-use Rattle.bare_machine.specs.declared.machine.Seen.TheVariants as seen
+use Rattle.machine_step.specs.declared.worked.Seen.{Seen}
+use Rattle.machine_step.specs.Worked.{whats}
 
 -- what the bare machine runs with
 abbrev pub bare : Image → Events → ℕ → Setting
@@ -32,11 +30,6 @@ state_of m = record { cpu = m.cpu; ram = m.ram; set = m.kept.buffer; board = m.b
 abbrev pub with_set : State → FinMap nat_cmp Entry → State
 with_set b set = record b { set = set }
 
-abbrev pub whats : Seen → List What
-whats seen.Nothing = []
-whats (seen.One a) = a ∷ []
-whats (seen.Two a b) = a ∷ b ∷ []
-
 -- the step went, let these things be seen, and led to this state, of whose translations some may have been dropped
 pub record Goes (result : steps.Result) (step : ℕ) (whats : List What) (new : State) : Type 0 where
   pub report : Report
@@ -49,16 +42,6 @@ pub record Goes (result : steps.Result) (step : ℕ) (whats : List What) (new : 
 abbrev pub StepAs : steps.Result → Result Seen Stop → ℕ → State → Type 0
 StepAs result (Ok seen) step new = Goes result step (whats seen) new
 StepAs result (Err stop) step new = result ≡ Stands stop
-
--- what leaves the set at the end of a step
-abbrev pub dropping : Dropped → FinMap nat_cmp Entry → FinMap nat_cmp Entry
-dropping dropped.Nothing set = set
-dropping (dropped.Page page) set = remove set page
-dropping dropped.All set = empty
-
-abbrev pub IsDropped : Dropped → Type 0
-IsDropped (dropped.Page page) = page < 2 ^ 20
-IsDropped _ = Unit {0}
 
 -- what holds of a machine between two steps
 pub record IsKept (m : Machine) : Type 0 where

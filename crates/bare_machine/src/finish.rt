@@ -8,21 +8,15 @@ ghost use Rattle.paging.specs.declared.entry.Entry.{Entry};
 ghost use Rattle.bare_mem.specs.Part.{IsPartOf};
 ghost use Rattle.step_mem.specs.Changes.{AreWithin, changed};
 ghost use Rattle.machine_model.specs.Step.{Completed, went};
+ghost use Rattle.machine_step.specs.Worked.{dropping, IsDropped};
 ghost use Rattle.run_trace.specs.declared.items.What.{What as Shown};
-ghost use Rattle.bare_machine.specs.Machine.{state_of, Goes, IsKept, IsDropped, dropping};
+ghost use Rattle.bare_machine.specs.Machine.{state_of, Goes, IsKept};
 
 use crate::machine::Machine;
 use bare_mem::{Cached, settle};
 use descriptors::Cpu;
+use machine_step::Dropped;
 use step_mem::Changes;
-
-/// What leaves the cached translations at the end of a step.
-#[derive(Clone, Copy, Debug)]
-pub enum Dropped {
-    Nothing,
-    Page(u32),
-    All,
-}
 
 /// The end of a step that went: what it changed of the translations is kept, the count rises, and the board advances.
 pub fn go(machine: &mut Machine, cpu: Cpu, changes: &Changes, dropped: Dropped)

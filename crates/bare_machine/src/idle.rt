@@ -9,8 +9,9 @@ ghost use Rattle.machine_model.specs.Step.{interrupt_of};
 ghost use Rattle.bare_mem.specs.Part.{IsPartOf};
 ghost use Rattle.bare_machine.specs.Machine.{bare, state_of, with_set, IsKept, Rests};
 
-use crate::machine::{Machine, interrupt};
+use crate::machine::Machine;
 use board::Script;
+use machine_step::interrupt;
 
 /// Passes the steps in which a halted processor has nothing to do and nothing can come to the board, up to the bound,
 /// in one go.
@@ -45,7 +46,7 @@ fn is_resting(machine: &Machine) -> bool
     if machine.cpu.held {
         return false;
     }
-    interrupt(machine).is_none()
+    interrupt(&machine.cpu, &machine.board).is_none()
 }
 
 /// How many steps, up to a number, pass before an edge or an event can come. The events of the step before were given.

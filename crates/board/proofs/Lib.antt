@@ -3,3 +3,6 @@ pub mod Searches
 pub mod Numbers
 pub mod Readings
 pub mod Lines
+pub mod Saves
+pub mod Forms
+pub mod Sayings

@@ -42,7 +42,7 @@ grown last xs e reading room after small fits =
     )
 
 -- after a fault nothing is read
-stays : (fault : ℕ × ScriptCause) (lines : List (List ℕ)) → lines_read (Err fault) lines ≡ Err fault
+pub stays : (fault : ℕ × ScriptCause) (lines : List (List ℕ)) → lines_read (Err fault) lines ≡ Err fault
 unfolding lines_read
 stays fault [] = refl
 stays fault (line ∷ lines) = stays fault lines

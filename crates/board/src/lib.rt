@@ -6,6 +6,8 @@ mod fault;
 mod ports;
 mod read;
 mod reading;
+mod restored;
+mod saved;
 mod script;
 
 pub use devices::{Board, PortRead};

@@ -2,7 +2,8 @@
 
 ghost use Rattle.std.specs.Prelude.{◌≡◌, ◌+◌, ◌<◌, ◌≤◌, ◌^◌, ◌++◌, ◌∷◌, [], true, length, IfOk, OnOk};
 ghost use Rattle.board.specs.Scripts.{max_step, max_events, event_fits, is_script};
-ghost use Rattle.board.specs.Texts.{at_start, line_of, line_read, script_of};
+ghost use Rattle.board.specs.Texts.{at_start, line_of, line_read, cut_at, script_of};
+ghost use Rattle.board.specs.Lines.{AnswerSays};
 ghost use Rattle.board.specs.declared.fault.ScriptFault.TheVariants.{At};
 ghost use Rattle.board.specs.Reads.{ReadAs, TakenAs};
 
@@ -111,6 +112,7 @@ impl Reading {
 /// that begin with `#`. The first bad line decides, and on it a byte that is no printable ASCII before all else.
 pub fn read_script(alloc: Global, text: &[u8]) -> Result<Script, ScriptFault>
     ensures read { ReadAs result (script_of text.now) }
+    ensures lines { AnswerSays (cut_at 10 text.now) result }
     ensures form { IfOk result (λ script. is_script script.list ≡ true) }
 {
     let mut reading = Reading::new(alloc);

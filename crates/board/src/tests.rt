@@ -143,3 +143,106 @@ fn a_script_has_room_for_65536_events(rt: HostRuntime) -> Result<(), Fail> {
     assert_eq!(rt; answer, ScriptFault::At { line, cause });
     Ok(())
 }
+
+/// A board in the midst of its work.
+fn working() -> Board {
+    let mut board = started();
+    board.uart.receive(0x48);
+    board.uart.receive(0x69);
+    for (port, v) in [
+        (0x3F9, 1),
+        (0x3FB, 3),
+        (0x3FC, 0x0B),
+        (0x3FF, 0x5A),
+        (0x43, 0x34),
+        (0x40, 2),
+        (0x40, 0),
+        (0x40, 5),
+    ] {
+        let _ = sent(&mut board, port, v);
+    }
+    board.advance(3);
+    board
+}
+
+const WORKING: [u8; 64] = [
+    4, 1, 0x10, 0, 0, 0x20, 0, // the master, with a request of line 4
+    4, 1, 0, 0, 0, 0x28, 0, // the slave
+    2, 5, 2, 0, 0, 0, 0, 0, 0, 0, 13, 0, 0, 0, 0, 0, 0, 0, // the timer
+    1, 3, 0x0B, 0x5A, 0, 0, 2, 0x48, 0x69, // the serial port
+    0, 0, 0, 0, 0, 0, 0, 0, 0, 0, 0, 0, 0, 0, 0, 0, 0, 0, 0, 0, 0, 0, 0,
+];
+
+#[test]
+fn board_is_saved_and_restored(rt: HostRuntime) -> Result<(), Fail> {
+    assert_eq!(rt; working().save(), WORKING);
+    let mut board = Board::restore(&WORKING).ok_or("the form")?;
+    assert_eq!(rt; board.save(), WORKING);
+    board.advance(12);
+    assert_eq!(rt; taken(&mut board), Some(0x24));
+    assert_eq!(rt; board.pending(), None);
+    board.advance(1);
+    assert_eq!(rt; taken(&mut board), Some(0x20));
+    let fresh = Board::new().save();
+    assert_eq!(rt; fresh[4], 0xFF);
+    assert_eq!(rt; fresh[11], 0xFF);
+    assert!(rt; Board::restore(&fresh).is_some());
+    Ok(())
+}
+
+#[test]
+fn bytes_of_no_board_are_not_restored(rt: HostRuntime) {
+    for (at, value) in [
+        (0usize, 5u8),
+        (0, 0),
+        (1, 2),
+        (1, 0),
+        (2, 0x14),
+        (5, 0x21),
+        (6, 2),
+        (9, 1),
+        (14, 3),
+        (14, 1),
+        (16, 0),
+        (16, 1),
+        (18, 1),
+        (20, 1),
+        (24, 0),
+        (24, 17),
+        (31, 1),
+        (32, 2),
+        (34, 16),
+        (38, 1),
+        (38, 17),
+        (41, 1),
+        (55, 1),
+        (63, 1),
+    ] {
+        let mut bytes = WORKING;
+        bytes[at % 64] = value;
+        assert!(rt; Board::restore(&bytes).is_none(), "byte {at} is {value}");
+    }
+}
+
+#[test]
+fn other_values_are_restored(rt: HostRuntime) {
+    for (at, value) in [
+        (0usize, 1u8),
+        (2, 0xFB),
+        (3, 0xFF),
+        (4, 0xFF),
+        (5, 0xF8),
+        (6, 1),
+        (7, 3),
+        (15, 0xFF),
+        (20, 2),
+        (24, 16),
+        (33, 0xFF),
+        (34, 0),
+        (40, 0),
+    ] {
+        let mut bytes = WORKING;
+        bytes[at % 64] = value;
+        assert!(rt; Board::restore(&bytes).is_some(), "byte {at} is {value}");
+    }
+}

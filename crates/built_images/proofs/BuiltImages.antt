@@ -8,9 +8,10 @@ use Rattle.ia32_types.specs.Site.{sensitive_kind}
 use Rattle.ia32_rows.specs.Spells.{AreBytes, Spells}
 use Rattle.ia32_rows.proofs.Readers.{AreBytes-append}
 use Rattle.ia32_rows.proofs.TableLaws.{one_meaning, not_empty}
+use Rattle.sites.specs.declared.limits.TheConstants.{TEXT_LIMIT}
 use Rattle.elf_form.specs.ImageParts.{ImageParts}
 use Rattle.sites.specs.declared.site.Site.{Site}
-use Rattle.sites.specs.Reading.{sites_in}
+use Rattle.sites.specs.Formats.{listed}
 use Rattle.image_check.specs.declared.fault.CheckCause.TheVariants.{Target}
 use Rattle.image_check.specs.declared.piece.Piece.{Piece}
 use Rattle.image_check.specs.Refusals.{Wrong, bad}
@@ -127,7 +128,7 @@ text_is body c h e = text_append body (Alone c ∷ []) ∙ ap (λ xs. chunks_tex
 equal_so : (m n : ℕ) → m ≡ n → (m == n) ≡ true
 equal_so m n e = grind (arith, nat_tests)
 
-no_size : (n : ℕ) → 1 ≤ n → n ≤ 4194304 → (n == 0 || nat_lt 4194304 n) ≡ false
+no_size : (n : ℕ) → 1 ≤ n → n ≤ TEXT_LIMIT → (n == 0 || nat_lt TEXT_LIMIT n) ≡ false
 no_size n some few = grind (arith, nat_tests)
 
 not_above : (n limit : ℕ) → n ≤ limit → nat_lt limit n ≡ false
@@ -150,7 +151,7 @@ swept_gives text swept e = ap (pieces_of text) e
 abbrev Outcome : ImageParts → List Site → Type 0
 Outcome parts sites = (image_from parts ≡ Ok (image_with parts sites)) ⊎ ((at : ℕ) × (image_from parts ≡ Err (Wrong at Target)))
 
-outcome : (parts : ImageParts) (sites : List Site) (ps : List Piece) → placed parts ≡ Ok tt → pieces_in parts.text ≡ Ok ps → text_end parts.text ps ≡ None → sites_in parts.sites ≡ Ok sites → site_wrong sites ps ≡ None → entry_start parts ps sites ≡ None → (o : Option ℕ) → wrong_target (is_entrance ps sites) ps ≡ o → Outcome parts sites
+outcome : (parts : ImageParts) (sites : List Site) (ps : List Piece) → placed parts ≡ Ok tt → pieces_in parts.text ≡ Ok ps → text_end parts.text ps ≡ None → listed parts.sites ≡ Ok sites → site_wrong sites ps ≡ None → entry_start parts ps sites ≡ None → (o : Option ℕ) → wrong_target (is_entrance ps sites) ps ≡ o → Outcome parts sites
 unfolding image_from annotated entered
 outcome parts sites ps place swept end read same entry None e = inl (rw (place, swept, end, read, same, e, entry) refl)
 outcome parts sites ps place swept end read same entry (Some at) e = inr (at, rw (place, swept, end, read, same, e) refl)

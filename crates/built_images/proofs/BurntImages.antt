@@ -1,6 +1,8 @@
 -- The file of an image that is linked of burnt objects.
 use Rattle.std.proofs.Common.{◌≡◌, ℕ, ◌+◌, ◌-◌, ◌<◌, ◌≤◌, List, [], ◌∷◌, length, Result, Ok, refl, sym, ap, subst, ◌∙◌, arith, inl, inr}
 use Rattle.ia32_rows.specs.Spells.{AreBytes}
+use Rattle.sites.proofs.Formats.{whole}
+use Rattle.sites.specs.declared.limits.TheConstants.{TEXT_LIMIT}
 use Rattle.elf_form.specs.ObjectParts.{ObjectParts}
 use Rattle.elf_form.specs.ImageParts.{ImageParts}
 use Rattle.elf_form.specs.Faults.{Fault}
@@ -25,11 +27,11 @@ use Rattle.built_images.proofs.BurntObjects.{burnt_padded}
 
 -- ---- the file is read again
 
-small_enough : (p : ImageParts) → length p.text ≤ 4194304 → length p.init + p.bss ≤ 33554432 → length p.sites ≤ 33554440 → IsWritableImage p
+small_enough : (p : ImageParts) → length p.text ≤ TEXT_LIMIT → length p.init + p.bss ≤ 33554432 → length p.sites ≤ 134217736 → IsWritableImage p
 unfolding init_from sites_from names_from sections_from
 small_enough p text room sites =
     let a : pad 4096 (4096 + length p.text) < 4096 = omega arith in
-    let b : init_from p ≤ 4096 + 4194304 + 4096 = omega (arith, a) in
+    let b : init_from p ≤ 4096 + TEXT_LIMIT + 4096 = omega (arith, a) in
     let c : sites_from p ≤ init_from p + length p.init + 4 = omega arith in
     let d : sections_from p ≤ names_from p + 42 = omega arith in
     record { file = omega (arith, b, c, d); memory = omega arith }
@@ -44,7 +46,7 @@ longs parts cs b =
     let init = b.init_at in
     record { entry = omega (arith, lt, len, ge, size); text_at = omega (arith, text); init_at = omega (arith, init) }
 
-read_back : (parts : ImageParts) (cs : List Chunk) → IsBuilt parts cs → length parts.sites ≤ 33554440 → length (image_bytes parts) ≤ 33554432 → image_in (image_bytes parts) ≡ Ok parts
+read_back : (parts : ImageParts) (cs : List Chunk) → IsBuilt parts cs → length parts.sites ≤ 134217736 → length (image_bytes parts) ≤ 33554432 → image_in (image_bytes parts) ≡ Ok parts
 read_back parts cs b sites small = read_again parts (small_enough parts b.size b.room sites) (longs parts cs b) small
 
 from_file : (r : Result ImageParts Fault) (parts : ImageParts) → r ≡ Ok parts → (as_form r >>= image_from) ≡ image_from parts
@@ -60,7 +62,7 @@ accepts file parts cs b read e = record {
   form = read_as file parts read;
   text_at = b.text_at;
   init_at = b.init_at;
-  annotated = b.annotated;
+  annotated = whole parts.sites (chunk_sites 0 cs) b.annotated;
   image_is = refl;
   accepted = accepted_from parts (image_with parts (chunk_sites 0 cs)) (subst AreBytes (sym b.text) (chunks_fit cs b.chunks)) e;
 }

@@ -6,6 +6,7 @@ use Rattle.std.proofs.lemmas.Bool.Decides.{nat_tests}
 use Rattle.std.proofs.lemmas.List.{append-nil, map-append}
 use Rattle.std.proofs.lemmas.List.Elements.{All-nil, All-cons, All-head, All-tail, All-append, All-set, All-replicate, All-filter, All-contains}
 use Rattle.ia32_rows.specs.Spells.{AreBytes}
+use Rattle.sites.specs.declared.limits.TheConstants.{TEXT_LIMIT}
 use Rattle.asm_parse.specs.declared.tree.Body.{Body}
 use Rattle.asm_parse.specs.declared.tree.Body.TheVariants as body
 use Rattle.asm_parse.specs.declared.tree.SourceItem.{SourceItem}
@@ -19,8 +20,8 @@ use Rattle.elf_form.specs.declared.object.Reloc.{Reloc}
 use Rattle.elf_form.specs.ObjectParts.{ObjectParts}
 use Rattle.elf_form.specs.ObjectLayout.{is_of}
 use Rattle.sites.specs.Spelling.{spelling}
-use Rattle.sites.specs.Reading.{sites_in}
-use Rattle.sites.proofs.Inverse.{spelled_read}
+use Rattle.sites.specs.Formats.{listed}
+use Rattle.sites.specs.Limits.{in_text}
 use Rattle.elf_form.specs.Linkable.{IsLinkable}
 use Rattle.afterburner.specs.declared.section.Section.{Section}
 use Rattle.afterburner.specs.declared.section.Section.TheVariants as section
@@ -46,7 +47,7 @@ use Rattle.built_images.specs.Filled.{IsField, HaveFields, reloc_later, chunks_r
 use Rattle.built_images.specs.Padded.{IsEdge, IsLinked, IsLinkedBranch, AreAlone, IsPadded}
 use Rattle.built_images.specs.Sources.{IsBurnt, NamesNoNumber, NameNoNumbers}
 use Rattle.built_images.proofs.Joining.{nop_chunks}
-use Rattle.built_images.proofs.LinkedImages.{sites_form, sites_few}
+use Rattle.built_images.proofs.LinkedImages.{sites_listed}
 use Rattle.built_images.proofs.BurntTexts.{AreRead, IsLabel, IsMade, Made, IsSameText, same_made, nops_made, instruction_made, if_ok, or_ok, ok_state, ok_same}
 use Rattle.built_images.proofs.LinkedImages.{whole_edge}
 
@@ -199,7 +200,7 @@ module _ (Plain : Type 0) where
   -- ---- all items
 
   abbrev IsGood : State → Type 0
-  IsGood st = Made Plain st × (length st.text ≤ 4194304)
+  IsGood st = Made Plain st × (length st.text ≤ TEXT_LIMIT)
 
   not_more : (limit n : ℕ) → nat_lt limit n ≡ false → n ≤ limit
   not_more limit n e = grind (arith, nat_tests)
@@ -212,11 +213,11 @@ module _ (Plain : Type 0) where
   unfolding limited
   limited_good st new h e =
       let rest : Result State BurnCause = cond (nat_lt 33554432 (length st.init + st.bss)) (Err cause.InitTooLarge) (cond (nat_lt 262144 (length st.sites)) (Err cause.TooManySites) (ok_state st)) in
-      let a = if_ok (nat_lt 4194304 (length st.text)) cause.TextTooLarge rest new e in
-      let few = not_more 4194304 (length st.text) (text_test (nat_lt 4194304 (length st.text)) cause.TextTooLarge rest new e) in
+      let a = if_ok (nat_lt TEXT_LIMIT (length st.text)) cause.TextTooLarge rest new e in
+      let few = not_more TEXT_LIMIT (length st.text) (text_test (nat_lt TEXT_LIMIT (length st.text)) cause.TextTooLarge rest new e) in
       let b = if_ok (nat_lt 33554432 (length st.init + st.bss)) cause.InitTooLarge (cond (nat_lt 262144 (length st.sites)) (Err cause.TooManySites) (ok_state st)) new a in
       let same = ok_same st new (if_ok (nat_lt 262144 (length st.sites)) cause.TooManySites (ok_state st) new b) in
-      (subst (Made Plain) same h, subst (λ (x : State). length x.text ≤ 4194304) same few)
+      (subst (Made Plain) same h, subst (λ (x : State). length x.text ≤ TEXT_LIMIT) same few)
 
   then_good : (names : List (List ℕ)) (st new : State) (b : Body) (r : Result State BurnCause) → ((x : State) → r ≡ Ok x → Made Plain x) → then_limited r ≡ Ok new → IsGood new
   then_good names st new b (Err c) h e = absurd cc
@@ -263,7 +264,7 @@ module _ (Plain : Type 0) where
   pub record IsFinished (o : ObjectParts) : Type 0 where
     pub names : List (List ℕ)
     pub state : State
-    pub good : Made Plain state × (length state.text ≤ 4194304)
+    pub good : Made Plain state × (length state.text ≤ TEXT_LIMIT)
     pub is : object names state ≡ o
 
   finished_is : (names : List (List ℕ)) (r : Result State Fault) (o : ObjectParts) → ((st : State) → r ≡ Ok st → IsGood st) → finished names r ≡ Ok o → IsFinished o
@@ -414,7 +415,7 @@ renamed_alone f [] h = tt
 renamed_alone f (Alone c ∷ cs) h = (h.0, renamed_alone f cs h.1)
 renamed_alone f (Pair ∷ cs) h = (tt, renamed_alone f cs h.1)
 
-object_padded : (Plain : Type 0) (names : List (List ℕ)) (st : State) (cs : List Chunk) → IsMade Plain st cs → length st.text ≤ 4194304 → AreBytes st.text → IsLinkable (object names st) → IsPadded (object names st) (map (renamed (renumbered st.definitions)) cs)
+object_padded : (Plain : Type 0) (names : List (List ℕ)) (st : State) (cs : List Chunk) → IsMade Plain st cs → length st.text ≤ TEXT_LIMIT → AreBytes st.text → IsLinkable (object names st) → IsPadded (object names st) (map (renamed (renumbered st.definitions)) cs)
 unfolding object
 object_padded Plain names st cs h few fit linkable =
     let f = renumbered st.definitions in
@@ -430,8 +431,8 @@ object_padded Plain names st cs h few fit linkable =
       branches = renamed_linked f cs k h.branches;
       text = text;
       annotated =
-          ap (λ ss. sites_in (spelling ss)) sites
-          ∙ spelled_read (chunk_sites 0 all) (sites_form 0 0 all chunks (omega arith) (omega (arith, len, few))) (omega (arith, sites_few 0 all chunks, len, few));
+          ap (λ ss. listed (spelling (in_text (length st.text) ss))) sites
+          ∙ sites_listed (length st.text) all chunks (omega (arith, len, few));
       relocs = text_relocs st.definitions st.text_relocs st.data_relocs h.in_text h.in_data ∙ ap (map f) h.relocs ∙ sym (renamed_relocs f 0 cs k);
       labels = λ s there e. renamed_edge f cs s.value (All-contains (AtEdge cs) (ordered (symbols_seen names st.definitions)) s (ordered_at cs (symbols_seen names st.definitions) (symbols_at cs names st.definitions h.labels)) there e);
       named = linkable.named;

@@ -1,22 +1,26 @@
 -- Linked images of padded objects.
 use Rattle.std.proofs.Common.{◌≡◌, ℕ, zero, suc, ◌+◌, ◌-◌, ◌<◌, ◌≤◌, ◌^◌, ◌%◌, Bool, true, false, cond, min, List, [], ◌∷◌, ◌++◌, length, take, nat_lt, Option, Some, None, Result, Ok, refl, sym, ap, subst, ◌∙◌, arith}
-use Rattle.std.specs.Prelude.{slice_get, filter, sum_by, max, ◌==◌, codes}
+use Rattle.std.specs.Prelude.{slice_get, filter, sum_by, max, replicate, ◌==◌, codes}
 use Rattle.std.specs.List.{flat_map, enumerate_from, All, AllByRecursion, Contains}
 use Rattle.std.proofs.lemmas.Bool.Decides.{nat_tests}
-use Rattle.std.proofs.lemmas.List.{append-nil, length-append, length-take, take_all}
+use Rattle.std.proofs.lemmas.List.{append-nil, length-append, length-replicate, length-take, take_all}
 use Rattle.std.proofs.lemmas.List.Sums.{sum_by-cons}
 use Rattle.std.proofs.lemmas.List.Elements.{All-nil, All-append, All-weaker, All-filter, All-contains, All-contains_itself}
 use Rattle.guest_ram.specs.Bytes.{word32}
-use Rattle.ia32_rows.proofs.TableLaws.{at_most_eleven}
+use Rattle.ia32_rows.proofs.TableLaws.{at_most_eleven, not_empty}
+use Rattle.sites.specs.declared.limits.TheConstants.{TEXT_LIMIT}
 use Rattle.elf_form.specs.declared.object.Reloc.{Reloc}
 use Rattle.elf_form.specs.ObjectParts.{ObjectParts}
 use Rattle.elf_form.specs.ObjectLayout.{is_of}
 use Rattle.elf_form.specs.ImageParts.{ImageParts}
 use Rattle.sites.specs.declared.site.Site.{Site}
-use Rattle.sites.specs.Spelling.{spelling, AreInForm}
-use Rattle.sites.specs.Reading.{sites_in}
-use Rattle.sites.proofs.Inverse.{spelled_read}
-use Rattle.elf_link.proofs.SiteLaws.{length-spelling}
+use Rattle.ia32_types.specs.declared.site.SiteKind.{SiteKind}
+use Rattle.ia32_types.specs.Site.{sensitive_kind}
+use Rattle.sites.specs.Spelling.{spelling, AreInGaps}
+use Rattle.sites.specs.Limits.{in_text}
+use Rattle.sites.proofs.TextSites.{in_form, forms, length-spelling}
+use Rattle.sites.specs.Formats.{list_of, listed}
+use Rattle.sites.proofs.Formats.{spelled_read}
 use Rattle.elf_link.specs.declared.target.Target.{Target}
 use Rattle.elf_link.specs.declared.fault.LinkCause.{LinkCause}
 use Rattle.elf_link.specs.declared.fault.LinkCause.TheVariants.{NotText, TextTooLarge, InitTooLarge}
@@ -29,7 +33,7 @@ use Rattle.elf_link.specs.Linked.{texts, linked_text, linked_init, entry_at, ima
 use Rattle.image_check.specs.Sweep.{Swept}
 use Rattle.image_check.specs.Pieces.{target_of}
 use Rattle.built_images.specs.Joined.{jump_to_itself}
-use Rattle.built_images.specs.Chunks.{Coded, insn_in, IsCoded, Chunk, Alone, Pair, AreChunks, padding, chunk_text, chunks_text, site_by, chunk_site, chunk_sites, chunks_swept, Begins}
+use Rattle.built_images.specs.Chunks.{Coded, insn_in, IsCoded, Chunk, Alone, Pair, AreChunks, nops_behind, padding, chunk_text, chunks_text, site_by, chunk_site, chunk_sites, chunks_swept, Begins}
 use Rattle.built_images.specs.Filled.{chunks_relocs}
 use Rattle.built_images.specs.Padded.{IsEdge, IsPadded, ArePadded, AreAlone, AnyChunks}
 use Rattle.built_images.specs.Built.{IsBuilt, LeadsRight}
@@ -110,16 +114,16 @@ not_more : (limit n : ℕ) → nat_lt limit n ≡ false → n ≤ limit
 not_more limit n e = grind (arith, nat_tests)
 
 pub record IsWithin (os : List ObjectParts) : Type 0 where
-  pub text : text_end os + 2 ≤ 4194304
+  pub text : text_end os + 2 ≤ TEXT_LIMIT
   pub memory : memory_end os ≤ 33554432
 
 object_within : (os : List ObjectParts) (k : ℕ) (o : ObjectParts) → take (k + 1) os ≡ os → object_cause os (k, o) ≡ None → IsWithin os
 unfolding object_cause
 object_within os k o all e =
-    let a = none_or (when (nat_lt 4194304 (text_end (take (k + 1) os) + 2)) TextTooLarge) _ e in
+    let a = none_or (when (nat_lt TEXT_LIMIT (text_end (take (k + 1) os) + 2)) TextTooLarge) _ e in
     let b = none_or (when (nat_lt 33554432 (memory_end (take (k + 1) os))) InitTooLarge) _ a.1 in
     record {
-      text = not_more 4194304 (text_end os + 2) (not_when _ TextTooLarge (subst (λ (xs : List ObjectParts). when (nat_lt 4194304 (text_end xs + 2)) TextTooLarge ≡ None) all a.0));
+      text = not_more TEXT_LIMIT (text_end os + 2) (not_when _ TextTooLarge (subst (λ (xs : List ObjectParts). when (nat_lt TEXT_LIMIT (text_end xs + 2)) TextTooLarge ≡ None) all a.0));
       memory = not_more 33554432 (memory_end os) (not_when _ InitTooLarge (subst (λ (xs : List ObjectParts). when (nat_lt 33554432 (memory_end xs)) InitTooLarge ≡ None) all b.0));
     }
 
@@ -239,24 +243,7 @@ anywhere_right made base at (Pair ∷ cs) = (tt, anywhere_right made base (at + 
 
 -- ---- annotations
 
-form_by : (at len least : ℕ) (k : Option Rattle.ia32_types.specs.declared.site.SiteKind.SiteKind) (size : ℕ) (more : List Site) → least ≤ at → at < 2 ^ 32 → len < 256 → 1 ≤ size → ((from : ℕ) → from ≤ at + size → AreInForm from more) → AreInForm least (site_by at len k ++ more)
-form_by at len least None size more le lt few some h = h least (omega arith)
-form_by at len least (Some k) size more le lt few some h = (le, lt, few, refl, h (at + 1) (omega arith))
-
-pub sites_form : (at least : ℕ) (cs : List Chunk) → AreChunks cs → least ≤ at → at + length (chunks_text cs) < 2 ^ 32 → AreInForm least (chunk_sites at cs)
-unfolding chunk_sites
-sites_form at least [] h le lt = tt
-sites_form at least (Alone c ∷ cs) h le lt =
-    let l = length-append (chunk_text (Alone c)) (chunks_text cs) in
-    let some = chunk_has_bytes (Alone c) h.0 in
-    let few = at_most_eleven c.bytes (insn_in c) (coded_spelled c h.0) in
-    form_by at (length c.bytes) least _ (length (chunk_text (Alone c))) (chunk_sites (at + length (chunk_text (Alone c))) cs) le (omega (arith, lt)) (omega (arith, few)) some
-    (λ from less. sites_form (at + length (chunk_text (Alone c))) from cs h.1 less (omega (arith, lt, l)))
-sites_form at least (Pair ∷ cs) h le lt =
-    let l = length-append (chunk_text Pair) (chunks_text cs) in
-    (le, omega (arith, lt), omega arith, refl, sites_form (at + 5) (at + 1) cs h.1 (omega arith) (omega (arith, lt, l)))
-
-site_count : (at len : ℕ) (k : Option Rattle.ia32_types.specs.declared.site.SiteKind.SiteKind) → length (site_by at len k) ≤ 1
+site_count : (at len : ℕ) (k : Option SiteKind) → length (site_by at len k) ≤ 1
 site_count at len None = omega arith
 site_count at len (Some k) = omega arith
 
@@ -266,14 +253,42 @@ sites_few at [] h = omega arith
 sites_few at (Alone c ∷ cs) h =
     let l = length-append (chunk_text (Alone c)) (chunks_text cs) in
     let some = chunk_has_bytes (Alone c) h.0 in
-    let one = site_count at (length c.bytes) (Rattle.ia32_types.specs.Site.sensitive_kind (insn_in c)) in
+    let one = site_count at (length c.bytes) (sensitive_kind (insn_in c)) in
     let more = sites_few (at + length (chunk_text (Alone c))) cs h.1 in
-    let m = length-append (site_by at (length c.bytes) (Rattle.ia32_types.specs.Site.sensitive_kind (insn_in c))) (chunk_sites (at + length (chunk_text (Alone c))) cs) in
+    let m = length-append (site_by at (length c.bytes) (sensitive_kind (insn_in c))) (chunk_sites (at + length (chunk_text (Alone c))) cs) in
     omega (arith, l, some, one, more, m)
 sites_few at (Pair ∷ cs) h =
     let l = length-append (chunk_text Pair) (chunks_text cs) in
     let more = sites_few (at + 5) cs h.1 in
     omega (arith, l, more)
+
+gaps_by : (at len from : ℕ) (k : Option SiteKind) (size : ℕ) (more : List Site) → from ≤ at → at + size ≤ 2 ^ 24 → 1 ≤ len → len ≤ 11 → size ≡ len + nops_behind k len → ((next : ℕ) → next ≤ at + size → AreInGaps next more)
+    → AreInGaps from (site_by at len k ++ more)
+gaps_by at len from None size more le room some few is h = h from (omega arith)
+gaps_by at len from (Some k) size more le room some few is h = (le, omega (arith, is), some, few, refl, omega (arith, is), h (at + max 5 len) (omega (arith, is)))
+
+coded_length : (c : Coded) → length (chunk_text (Alone c)) ≡ length c.bytes + nops_behind (sensitive_kind (insn_in c)) (length c.bytes)
+coded_length c = length-append c.bytes (replicate (padding c) 0x90) ∙ ap (λ (n : ℕ). length c.bytes + n) (length-replicate (padding c) 0x90)
+
+pub sites_gaps : (at from : ℕ) (cs : List Chunk) → AreChunks cs → from ≤ at → at + length (chunks_text cs) ≤ 2 ^ 24 → AreInGaps from (chunk_sites at cs)
+unfolding chunk_sites
+sites_gaps at from [] h le lt = tt
+sites_gaps at from (Alone c ∷ cs) h le lt =
+    let l = length-append (chunk_text (Alone c)) (chunks_text cs) in
+    let some = not_empty c.bytes (insn_in c) (coded_spelled c h.0) in
+    let few = at_most_eleven c.bytes (insn_in c) (coded_spelled c h.0) in
+    gaps_by at (length c.bytes) from (sensitive_kind (insn_in c)) (length (chunk_text (Alone c))) (chunk_sites (at + length (chunk_text (Alone c))) cs) le (omega (arith, lt, l)) some few (coded_length c)
+    (λ next less. sites_gaps (at + length (chunk_text (Alone c))) next cs h.1 less (omega (arith, lt, l)))
+sites_gaps at from (Pair ∷ cs) h le lt =
+    let l = length-append (chunk_text Pair) (chunks_text cs) in
+    (le, omega (arith, lt, l), omega arith, omega arith, refl, omega (arith, lt, l), sites_gaps (at + 5) (at + 5) cs h.1 (omega arith) (omega (arith, lt, l)))
+
+-- the sites of chunks in a text of so many bytes, spelled and read
+pub sites_listed : (text : ℕ) (cs : List Chunk) → AreChunks cs → length (chunks_text cs) ≤ 2 ^ 24 → listed (spelling (in_text text (chunk_sites 0 cs))) ≡ Ok (chunk_sites 0 cs)
+sites_listed text cs h small =
+    let gaps = sites_gaps 0 0 cs h (omega arith) (omega (arith, small)) in
+    let few = sites_few 0 cs h in
+    ap list_of (spelled_read (in_text text (chunk_sites 0 cs)) (in_form text (chunk_sites 0 cs) (forms 0 0 (chunk_sites 0 cs) (omega arith) gaps) (λ long. gaps)) (omega (arith, few, small)))
 
 -- ---- the image
 
@@ -310,13 +325,12 @@ module _ (More : List Chunk → Type 0) (Good : ℕ → Type 0) (os : List Objec
       ∙ append-nil (chunk_sites 0 all_objects.chunks)
       ∙ all_objects.sites)
 
-  annotated_so : sites_in (spelling (linked_sites os)) ≡ Ok (chunk_sites 0 image_chunks)
+  annotated_so : listed (spelling (in_text (length (linked_text os)) (linked_sites os))) ≡ Ok (chunk_sites 0 image_chunks)
   annotated_so =
       let limit = (all_within os w).text in
       let len = text_length_is in
-      let few = sites_few 0 image_chunks chunks_are in
-      ap (λ ss. sites_in (spelling ss)) sites_are_so
-      ∙ spelled_read (chunk_sites 0 image_chunks) (sites_form 0 0 image_chunks chunks_are (omega arith) (omega (arith, limit, len))) (omega (arith, limit, len, few))
+      ap (λ ss. listed (spelling (in_text (length (linked_text os)) ss))) sites_are_so
+      ∙ sites_listed (length (linked_text os)) image_chunks chunks_are (omega (arith, limit, len))
 
   pub label_begins : (n : ℕ) → IsLabelled os n → Begins image_chunks n
   unfolding image_chunks
@@ -345,14 +359,14 @@ module _ (More : List Chunk → Type 0) (Good : ℕ → Type 0) (os : List Objec
   unfolding image_chunks
   ends_so = refl
 
-  pub sites_size : length (image os).sites ≤ 33554440
+  pub sites_size : length (image os).sites ≤ 134217736
   unfolding image
   sites_size =
       let limit = (all_within os w).text in
       let len = text_length_is in
       let few = sites_few 0 image_chunks chunks_are in
       let count = ap (λ (ss : List Site). length ss) sites_are_so in
-      let bytes = length-spelling (linked_sites os) in
+      let bytes = length-spelling (in_text (length (linked_text os)) (linked_sites os)) in
       omega (arith, limit, len, few, count, bytes)
 
   pub image_built : IsBuilt (image os) image_chunks
@@ -379,11 +393,11 @@ module _ (More : List Chunk → Type 0) (Good : ℕ → Type 0) (os : List Objec
         entry = entry.1;
       }
 
-pub linked_sites_size : (os : List ObjectParts) (parts : ImageParts) → ArePadded AnyChunks os → linked_image os ≡ Ok parts → length parts.sites ≤ 33554440
+pub linked_sites_size : (os : List ObjectParts) (parts : ImageParts) → ArePadded AnyChunks os → linked_image os ≡ Ok parts → length parts.sites ≤ 134217736
 linked_sites_size os parts padded e =
     let h = is_linked os parts e in
     let right = λ (i : ℕ) (o : ObjectParts) (cs : List Chunk) (there : slice_get os i ≡ Some o) (p : IsPadded o cs) (more : AnyChunks cs). anywhere_right (relocated (bases os) (globals os) (i, o)) (text_at os i) 0 cs in
-    subst (λ (p : ImageParts). length p.sites ≤ 33554440) h.1 (sites_size AnyChunks Anywhere os padded h.0 right)
+    subst (λ (p : ImageParts). length p.sites ≤ 134217736) h.1 (sites_size AnyChunks Anywhere os padded h.0 right)
 
 pub linked_built : (os : List ObjectParts) (parts : ImageParts) → ArePadded AnyChunks os → linked_image os ≡ Ok parts → (cs : List Chunk) × IsBuilt parts cs
 linked_built os parts padded e =

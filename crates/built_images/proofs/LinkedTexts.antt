@@ -1,5 +1,5 @@
 -- The text of a linked image is made of chunks.
-use Rattle.std.proofs.Common.{◌≡◌, ℕ, zero, suc, ◌+◌, ◌<◌, ◌^◌, Bool, true, false, cond, List, [], ◌∷◌, ◌++◌, length, get_or, take, map, Option, Some, None, refl, sym, ap, subst, ◌∙◌, arith, Ok}
+use Rattle.std.proofs.Common.{Err, Result, ◌≡◌, ℕ, zero, suc, ◌+◌, ◌<◌, ◌^◌, Bool, true, false, cond, List, [], ◌∷◌, ◌++◌, length, get_or, take, map, Option, Some, None, refl, sym, ap, subst, ◌∙◌, arith, Ok}
 use Rattle.std.specs.Prelude.{fold, replicate, slice_get, filter, sum_by}
 use Rattle.std.specs.List.{flat_map, enumerate_from, All, AllByRecursion, Contains}
 use Rattle.std.proofs.lemmas.List.{append-nil, length-append, length-replicate, take_at}
@@ -13,10 +13,11 @@ use Rattle.elf_form.specs.ObjectParts.{ObjectParts}
 use Rattle.elf_form.specs.ObjectLayout.{is_of}
 use Rattle.elf_form.specs.Output.{pad}
 use Rattle.sites.specs.declared.site.Site.{Site}
-use Rattle.sites.specs.Reading.{sites_in}
+use Rattle.sites.specs.SitesParts.{SitesParts}
+use Rattle.sites.specs.Formats.{sites_in, list_of, listed}
 use Rattle.elf_link.specs.Layout.{text_size, text_room, text_at, text_end, bases}
 use Rattle.elf_link.specs.Symbols.{globals}
-use Rattle.elf_link.specs.Relocations.{sum_of, relocated, filled, patched}
+use Rattle.elf_link.specs.Relocations.{sum_of, relocated, filled, with_fields}
 use Rattle.elf_link.specs.Sites.{or_none, sites_of, moved, moved_sites}
 use Rattle.elf_link.specs.Linked.{padded, texts}
 use Rattle.image_check.specs.Sweep.{Swept}
@@ -53,9 +54,9 @@ fold_of_text os p bytes (r ∷ rs) = by_kind r.in_text (fold_of_text os p (fill 
   by_kind true first second = first
   by_kind false first second = second
 
-patched_text : (os : List ObjectParts) (i : ℕ) (o : ObjectParts) (cs : List Chunk) → IsPadded o cs → patched (bases os) (globals os) (i, o) true ≡ fold (fill (made_for os (i, o))) (chunks_text cs) (chunks_relocs 0 cs)
-unfolding patched
-patched_text os i o cs h =
+filled_text : (os : List ObjectParts) (i : ℕ) (o : ObjectParts) (cs : List Chunk) → IsPadded o cs → with_fields (bases os) (globals os) (i, o) true ≡ fold (fill (made_for os (i, o))) (chunks_text cs) (chunks_relocs 0 cs)
+unfolding with_fields
+filled_text os i o cs h =
     fold_of_text os (i, o) o.text o.relocs
     ∙ ap (fold (fill (made_for os (i, o))) o.text) h.relocs
     ∙ ap (λ bs. fold (fill (made_for os (i, o))) bs (chunks_relocs 0 cs)) h.text
@@ -128,15 +129,19 @@ ObjectsRight More Good os = (i : ℕ) (o : ObjectParts) (cs : List Chunk) → sl
 pub record OneObject (Good : ℕ → Type 0) (os : List ObjectParts) (i : ℕ) (o : ObjectParts) : Type 0 where
   pub chunks : List Chunk
   pub are : AreChunks chunks
-  pub text : patched (bases os) (globals os) (i, o) true ≡ chunks_text chunks
+  pub text : with_fields (bases os) (globals os) (i, o) true ≡ chunks_text chunks
   pub size : length (chunks_text chunks) ≡ text_size o
   pub sites : chunk_sites (text_at os i) chunks ≡ moved_sites os (i, o)
   pub edges : (s : Symbol) → Contains o.symbols s → s.place ≡ Text → IsEdge chunks s.value
   pub branches : All (OnBranch Good) (chunks_swept (text_at os i) chunks)
 
-object_sites : (o : ObjectParts) (ss : List Site) → sites_in o.sites ≡ Ok ss → sites_of o ≡ ss
+object_sites : (o : ObjectParts) (ss : List Site) → listed o.sites ≡ Ok ss → sites_of o ≡ ss
 unfolding sites_of
-object_sites o ss e = ap or_none e
+object_sites o ss e = by (sites_in o.sites) e
+  where
+    by : (r : Result SitesParts ℕ) → list_of r ≡ Ok ss → or_none r ≡ ss
+    by (Ok s) h = cc
+    by (Err at) h = cc
 
 pub one_object : (More : List Chunk → Type 0) (Good : ℕ → Type 0) (os : List ObjectParts) (i : ℕ) (o : ObjectParts) (cs : List Chunk) → slice_get os i ≡ Some o → IsPadded o cs → More cs → ObjectsRight More Good os → OneObject Good os i o
 one_object More Good os i o cs there h more right =
@@ -146,7 +151,7 @@ one_object More Good os i o cs there h more right =
     record {
       chunks = f.chunks;
       are = f.are;
-      text = patched_text os i o cs h ∙ f.text;
+      text = filled_text os i o cs h ∙ f.text;
       size = same_length made 0 cs f.chunks f.filled ∙ ap length (sym h.text);
       sites =
           same_sites made 0 (text_at os i) cs f.chunks f.filled
@@ -198,7 +203,7 @@ first_edge cs n at e = edge_left cs (nop_chunks n) at e
 two_parts : (Good : ℕ → Type 0) (os : List ObjectParts) (i : ℕ) (o q : ObjectParts) (rest : List ObjectParts) → slice_get os i ≡ Some o → OneObject Good os i o → FromObject Good os (i + 1) (q ∷ rest) → FromObject Good os i (o ∷ q ∷ rest)
 unfolding text_end
 two_parts Good os i o q rest there one more =
-    let p = patched (bases os) (globals os) (i, o) true in
+    let p = with_fields (bases os) (globals os) (i, o) true in
     let n = pad 16 (length p) in
     let first = first_part one.chunks n in
     let len : length p ≡ text_size o = ap length one.text ∙ one.size in
@@ -255,7 +260,7 @@ from_object More Good os i [] from h right = record {
 }
 from_object More Good os i (o ∷ []) from h right =
     let one = one_object More Good os i o h.0.0 (from_first os i o [] from) h.0.1 h.0.2 right in
-    let p = patched (bases os) (globals os) (i, o) true in
+    let p = with_fields (bases os) (globals os) (i, o) true in
     let len : length p ≡ text_size o = ap length one.text ∙ one.size in
     record {
       chunks = one.chunks;

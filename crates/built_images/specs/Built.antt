@@ -1,8 +1,9 @@
 -- Images whose text is made of padded instructions.
 use Rattle.std.specs.Prelude.{◌≡◌, ◌⊎◌, ℕ, ◌+◌, ◌-◌, ◌≤◌, true, List, [], ◌∷◌, ◌++◌, length, Ok, Err}
 use Rattle.std.specs.List.{Contains}
+use Rattle.sites.specs.declared.limits.TheConstants.{TEXT_LIMIT}
 use Rattle.elf_form.specs.ImageParts.{ImageParts}
-use Rattle.sites.specs.Reading.{sites_in}
+use Rattle.sites.specs.Formats.{listed}
 use Rattle.image_check.specs.declared.fault.CheckCause.TheVariants.{Target}
 use Rattle.image_check.specs.Sweep.{Swept}
 use Rattle.image_check.specs.Pieces.{is_branch, target_of}
@@ -19,10 +20,10 @@ pub record IsBuilt (parts : ImageParts) (cs : List Chunk) : Type 0 where
   pub last : Coded
   pub ends : cs ≡ body ++ (Alone last ∷ [])
   pub jump : last.bytes ≡ 0xEB ∷ 0xFE ∷ []
-  pub annotated : sites_in parts.sites ≡ Ok (chunk_sites 0 cs)
+  pub annotated : listed parts.sites ≡ Ok (chunk_sites 0 cs)
   pub text_at : parts.text_at ≡ 0x10000000
   pub init_at : parts.init_at ≡ 0x11000000
-  pub size : length parts.text ≤ 4194304
+  pub size : length parts.text ≤ TEXT_LIMIT
   pub room : length parts.init + parts.bss ≤ 33554432
   pub entry_in : 0x10000000 ≤ parts.entry
   pub entry : Begins cs (parts.entry - 0x10000000)

@@ -7,7 +7,7 @@ use Rattle.elf_form.specs.declared.object.Symbol.{Symbol}
 use Rattle.elf_form.specs.declared.object.Reloc.{Reloc}
 use Rattle.elf_form.specs.ObjectParts.{ObjectParts}
 use Rattle.elf_form.specs.ObjectLayout.{is_of}
-use Rattle.sites.specs.Reading.{sites_in}
+use Rattle.sites.specs.Formats.{listed}
 use Rattle.image_check.specs.Pieces.{is_branch}
 use Rattle.built_images.specs.Fields.{imm_place}
 use Rattle.built_images.specs.Chunks.{Coded, insn_in, Chunk, Alone, Pair, AreChunks, chunks_text, chunk_sites}
@@ -40,7 +40,7 @@ pub record IsPadded (o : ObjectParts) (cs : List Chunk) : Type 0 where
   pub fields : HaveFields cs
   pub branches : AllByRecursion IsLinkedBranch cs
   pub text : o.text ≡ chunks_text cs
-  pub annotated : sites_in o.sites ≡ Ok (chunk_sites 0 cs)
+  pub annotated : listed o.sites ≡ Ok (chunk_sites 0 cs)
   pub relocs : filter (is_of true) o.relocs ≡ chunks_relocs 0 cs
   pub labels : (s : Symbol) → Contains o.symbols s → s.place ≡ Text → IsEdge cs s.value
   pub named : All (λ (r : Reloc). r.symbol < length o.symbols) o.relocs

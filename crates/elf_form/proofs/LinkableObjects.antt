@@ -31,7 +31,7 @@ use Rattle.elf_form.specs.ObjectReading.{object_in}
 use Rattle.elf_form.proofs.ObjectAcceptance.{if_read}
 use Rattle.elf_form.proofs.WholeLaws.{section_at}
 use Rattle.elf_form.specs.Linkable.{IsLinkable}
-use Rattle.elf_form.specs.Symbols.{symbols_of, section_of, role_at, is_listed, is_file, has_binding, has_place, symbol_fault, target, target_role, is_reloc_section_of, entry, relocs_in, relocs_of, size_at, is_outside, number_of, has_symbol, symbol_of, has_kind, names_none, named_fault, form_fault, reloc_test, relocs_fault, start_in, start_at, numbers, reloc_at, symbol_at, symbols_in}
+use Rattle.elf_form.specs.Symbols.{symbols_of, section_of, is_index, role_at, is_listed, is_file, has_binding, has_place, symbol_fault, target, target_role, is_reloc_section_of, entry, relocs_in, relocs_of, size_at, is_outside, number_of, has_symbol, symbol_of, has_kind, names_none, named_fault, form_fault, reloc_test, relocs_fault, start_in, start_at, numbers, reloc_at, symbol_at, symbols_in}
 use Rattle.elf_form.proofs.EachEntry.{Each, each_append, each_map, each_both, each_all, bad_none, else_none, lower_none, fold_none, or_false, not_false}
 
 -- ---- entries of a table
@@ -341,9 +341,14 @@ section_there table ns bytes e h =
     size_on (nat_lt (target bytes e.section) (section_count bytes)) (size bytes (section_of bytes (target bytes e.section))) (word32 bytes e.at)
     (not_below (size_at bytes (target bytes e.section)) (word32 bytes e.at + 4) out.1)
 
-role_there : (ns bytes : List ℕ) (t : ℕ) → nat_lt t (section_count bytes) ≡ true → role_at ns bytes t ≡ role_of ns bytes (section_of bytes t)
+role_on : (b : Bool) (number : ℕ) (r : Role) → (role_number role.Ignored == number) ≡ false → (role_number (cond b r role.Ignored) == number) ≡ true → (role_number r == number) ≡ true
+role_on true number r other is = is
+role_on false number r other is = cc
+
+role_there : (number : ℕ) (ns bytes : List ℕ) (t : ℕ) → (role_number role.Ignored == number) ≡ false → (role_number (role_at ns bytes t) == number) ≡ true
+    → (role_number (role_of ns bytes (section_of bytes t)) == number) ≡ true
 unfolding role_at
-role_there ns bytes t is = ap (λ (b : Bool). cond b (role_of ns bytes (section_of bytes t)) role.Ignored) is
+role_there number ns bytes t other is = role_on (is_index bytes t) number (role_of ns bytes (section_of bytes t)) other is
 
 or_second : (a b : Bool) → b ≡ true → (a || b) ≡ true
 or_second true b h = refl
@@ -369,7 +374,7 @@ text_room : (bytes : List ℕ) (t : ℕ) → IsWhole bytes → object_form bytes
 unfolding with_role
 text_room bytes t whole form is role_is =
     let s = section_of bytes t in
-    let has : has_role role.Text (names bytes) bytes s ≡ true = subst (λ (r : Role). (role_number r == 2) ≡ true) (role_there (names bytes) bytes t is) role_is in
+    let has : has_role role.Text (names bytes) bytes s ≡ true = role_there 2 (names bytes) bytes t refl role_is in
     let inside = in_filter (has_role role.Text (names bytes) bytes) s (sections bytes) has (subst (λ (x : ℕ). In x (sections bytes)) (section_is bytes t is) (in_at (sections bytes) t (section_in bytes t is))) in
     let one = found_one (filter (has_role role.Text (names bytes) bytes) (sections bytes)) s inside (second_none bytes form) in
     let kind = data_kind (names bytes) bytes s (or_first (role_number (role_of (names bytes) bytes s) == 2) (role_number (role_of (names bytes) bytes s) == 3) has) in
@@ -380,7 +385,7 @@ text_room bytes t whole form is role_is =
 init_room : (bytes : List ℕ) (t : ℕ) → IsWhole bytes → nat_lt t (section_count bytes) ≡ true → (role_number (role_at (names bytes) bytes t) == 3) ≡ true
     → get_or (starts role.Init (names bytes) bytes 0 (sections bytes)) t 0 + size bytes (section_of bytes t) ≤ length (joined (names bytes) bytes [] (sections bytes))
 init_room bytes t whole is role_is =
-    let has : has_role role.Init (names bytes) bytes (section_of bytes t) ≡ true = subst (λ (r : Role). (role_number r == 3) ≡ true) (role_there (names bytes) bytes t is) role_is in
+    let has : has_role role.Init (names bytes) bytes (section_of bytes t) ≡ true = role_there 3 (names bytes) bytes t refl role_is in
     let full = each_entries (IsFull (names bytes) bytes) (section_table bytes) 40 (section_count bytes)
     (λ i lt kept. contents_length bytes (section_table bytes + 40 * i)
     (data_kind (names bytes) bytes (section_table bytes + 40 * i) (or_second (role_number (role_of (names bytes) bytes (section_table bytes + 40 * i)) == 2) (role_number (role_of (names bytes) bytes (section_table bytes + 40 * i)) == 3) kept))

@@ -9,7 +9,7 @@ use Rattle.elf_form.specs.declared.object.Symbol.{Symbol}
 use Rattle.elf_form.specs.declared.object.Reloc.{Reloc}
 use Rattle.elf_form.specs.ObjectParts.{ObjectParts}
 use Rattle.elf_form.specs.StringTable.{table_bytes}
-use Rattle.elf_form.specs.ObjectLayout.{layout, names_of, strings_of, is_of, symbol_bytes, symbol_table, reloc_table, object_names, object_bytes, IsPlaced, patched, IsWritableObject, IsWholeObject, HasValues}
+use Rattle.elf_form.specs.ObjectLayout.{layout, names_of, strings_of, is_of, symbol_bytes, symbol_table, reloc_table, object_names, object_bytes, IsPlaced, relocated_part, IsWritableObject, IsWholeObject, HasValues}
 use Rattle.elf_form.proofs.FileWords.{IsRow}
 use Rattle.elf_form.proofs.ObjectSizes.{ArePlaced, are_placed}
 use Rattle.elf_form.proofs.ObjectBounds.{length-object}
@@ -35,25 +35,25 @@ whole_symbols o whole values =
     let small : length (table_bytes (names_of o.symbols)) < 2 ^ 31 = omega (arith, strings-table o, at.strings, at.names, whole.writable.file) in
     recursion_from_All (IsWholeSymbol (names_of o.symbols)) o.symbols (λ k d lt. whole_symbol (names_of o.symbols) (get_or o.symbols k d) small (All-from_recursion (λ s. HasPlace (names_of o.symbols) s.name) o.symbols (names_placed o.symbols) k d lt) (whole.names k d lt) (values.values k d lt) (whole.undefined k d lt))
 
-whole_text : (o : ObjectParts) (r : Reloc) → is_of true r ≡ true → r.symbol < length o.symbols → r.at + 4 ≤ length (patched o r) → IsWholeReloc true (length o.text) (length o.symbols) r
+whole_text : (o : ObjectParts) (r : Reloc) → is_of true r ≡ true → r.symbol < length o.symbols → r.at + 4 ≤ length (relocated_part o r) → IsWholeReloc true (length o.text) (length o.symbols) r
 whole_text o r is symbol field = record { kind = is; field = subst (λ (b : Bool). r.at + 4 ≤ length (cond b o.text o.init)) is field; symbol = symbol }
 
 is_false : (b : Bool) → not b ≡ true → b ≡ false
 is_false true e = absurd cc
 is_false false e = refl
 
-whole_data : (o : ObjectParts) (r : Reloc) → is_of false r ≡ true → r.symbol < length o.symbols → r.at + 4 ≤ length (patched o r) → IsWholeReloc false (length o.init) (length o.symbols) r
+whole_data : (o : ObjectParts) (r : Reloc) → is_of false r ≡ true → r.symbol < length o.symbols → r.at + 4 ≤ length (relocated_part o r) → IsWholeReloc false (length o.init) (length o.symbols) r
 whole_data o r is symbol field = record { kind = is_false r.in_text is; field = subst (λ (b : Bool). r.at + 4 ≤ length (cond b o.text o.init)) (is_false r.in_text is) field; symbol = symbol }
 
 whole_texts : (o : ObjectParts) → IsWholeObject o → AllByRecursion (IsWholeReloc true (length o.text) (length o.symbols)) (filter (is_of true) o.relocs)
 whole_texts o whole =
     let rs = filter (is_of true) o.relocs in
-    recursion_from_All (IsWholeReloc true (length o.text) (length o.symbols)) rs (λ k d lt. whole_text o (get_or rs k d) (filter_passes (is_of true) o.relocs k d lt) (All-filter (is_of true) (λ r. r.symbol < length o.symbols) o.relocs whole.writable.named k d lt) (All-filter (is_of true) (λ r. r.at + 4 ≤ length (patched o r)) o.relocs whole.fields k d lt))
+    recursion_from_All (IsWholeReloc true (length o.text) (length o.symbols)) rs (λ k d lt. whole_text o (get_or rs k d) (filter_passes (is_of true) o.relocs k d lt) (All-filter (is_of true) (λ r. r.symbol < length o.symbols) o.relocs whole.writable.named k d lt) (All-filter (is_of true) (λ r. r.at + 4 ≤ length (relocated_part o r)) o.relocs whole.fields k d lt))
 
 whole_datas : (o : ObjectParts) → IsWholeObject o → AllByRecursion (IsWholeReloc false (length o.init) (length o.symbols)) (filter (is_of false) o.relocs)
 whole_datas o whole =
     let rs = filter (is_of false) o.relocs in
-    recursion_from_All (IsWholeReloc false (length o.init) (length o.symbols)) rs (λ k d lt. whole_data o (get_or rs k d) (filter_passes (is_of false) o.relocs k d lt) (All-filter (is_of false) (λ r. r.symbol < length o.symbols) o.relocs whole.writable.named k d lt) (All-filter (is_of false) (λ r. r.at + 4 ≤ length (patched o r)) o.relocs whole.fields k d lt))
+    recursion_from_All (IsWholeReloc false (length o.init) (length o.symbols)) rs (λ k d lt. whole_data o (get_or rs k d) (filter_passes (is_of false) o.relocs k d lt) (All-filter (is_of false) (λ r. r.symbol < length o.symbols) o.relocs whole.writable.named k d lt) (All-filter (is_of false) (λ r. r.at + 4 ≤ length (relocated_part o r)) o.relocs whole.fields k d lt))
 
 -- ---- the file
 

@@ -117,9 +117,7 @@ module _ (f : List ℕ) (o : ObjectParts) (is : IsFileOf f o) (has : HasRoles f 
 
   pub role_at-none : role_at object_names f 0 ≡ role.Ignored
   unfolding role_at
-  role_at-none =
-      let start : (layout o).sections + 0 ≡ (layout o).sections = omega arith in
-      rw (is.header.section_count, is.header.sections) (rw start has.null)
+  role_at-none = refl
 
   pub role_at-symbols : role_at object_names f 7 ≡ role.Symbols
   unfolding role_at

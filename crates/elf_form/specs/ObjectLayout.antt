@@ -121,8 +121,8 @@ abbrev pub IsPlaced : Symbol → Type 0
 IsPlaced s = s.place ≡ Undefined → (s.global ≡ true) × (s.value ≡ 0)
 
 -- the bytes that a relocation is in: the text, or the data
-abbrev pub patched : ObjectParts → Reloc → List ℕ
-patched o r = if r.in_text then o.text else o.init
+abbrev pub relocated_part : ObjectParts → Reloc → List ℕ
+relocated_part o r = if r.in_text then o.text else o.init
 
 -- An object of which a file is made that is read as it. In its lists the local symbols come before the global ones, and the relocations of the text before those of the data. No name holds a zero byte. The field of each relocation, of four bytes, lies in its section.
 pub record IsWholeObject (o : ObjectParts) : Type 0 where
@@ -130,7 +130,7 @@ pub record IsWholeObject (o : ObjectParts) : Type 0 where
   pub split : o.symbols ≡ filter (λ s. not s.global) o.symbols ++ filter (λ s. s.global) o.symbols
   pub names : All (λ s. All (λ b. b ≢ 0) s.name) o.symbols
   pub undefined : All IsPlaced o.symbols
-  pub fields : All (λ r. r.at + 4 ≤ length (patched o r)) o.relocs
+  pub fields : All (λ r. r.at + 4 ≤ length (relocated_part o r)) o.relocs
   pub ordered : o.relocs ≡ filter (is_of true) o.relocs ++ filter (is_of false) o.relocs
 
 -- Its values have four bytes.

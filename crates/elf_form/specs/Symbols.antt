@@ -64,8 +64,12 @@ place_by role.Foreign = place.Undefined
 place_by role.Symbols = place.Undefined
 place_by role.Relocs = place.Undefined
 
+-- an index that names a section (Special Section Indexes): not 0 (SHN_UNDEF), and below those that are reserved, from 0xFF00 (SHN_LORESERVE) on
+abbrev pub is_index : List ℕ → ℕ → Bool
+is_index bytes index = not (index == 0) && nat_lt index 65280 && nat_lt index (section_count bytes)
+
 unfoldable pub role_at : List ℕ → List ℕ → ℕ → Role
-role_at names bytes index = if nat_lt index (section_count bytes) then role_of names bytes (section_of bytes index) else role.Ignored
+role_at names bytes index = if is_index bytes index then role_of names bytes (section_of bytes index) else role.Ignored
 
 -- local (0) or global (1)
 abbrev pub has_binding : List ℕ → ℕ → Bool

@@ -110,13 +110,16 @@ pub fn place_by(role: Role) -> Place
     }
 }
 
-/// What the section of an index is read as.
+/// The first section index that is reserved (SHN_LORESERVE).
+const FIRST_RESERVED: usize = 0xFF00;
+
+/// What the section of an index is read as; index 0 (SHN_UNDEF) and the reserved ones name none.
 #[tactic(auto, unfolding(crate::specs::Symbols::role_at))]
 pub fn role_at(names: &[u8], bytes: &[u8], index: usize) -> Role
     requires { IsWhole bytes.now }
     ensures role { result ≡ role_at names.now bytes.now index }
 {
-    if index >= half(bytes, 48) as usize {
+    if index == 0 || index >= FIRST_RESERVED || index >= half(bytes, 48) as usize {
         return Role::Ignored;
     }
     section_role(names, bytes, word(bytes, 32) as usize + 40 * index)

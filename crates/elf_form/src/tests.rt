@@ -128,8 +128,52 @@ fn names_the_first_fault(rt: HostRuntime) -> Result<(), Fail> {
 fn reads_no_cut_object(rt: HostRuntime) {
     for len in 0..WORKED_OBJECT.len() {
         assert!(rt;
-            fault(read_object(rt.alloc(), &WORKED_OBJECT[..len])).is_some(),
+            matches!(
+                read_object(rt.alloc(), &WORKED_OBJECT[..len]),
+                Err(ElfFault::At {
+                    cause: ElfCause::Truncated,
+                    ..
+                })
+            ),
             "{len}"
         );
     }
+}
+
+#[test]
+fn index_zero_names_no_section(rt: HostRuntime) -> Result<(), Fail> {
+    // The header of the text stands first, the null one behind it; the symbol has index 0 (SHN_UNDEF).
+    let mut bytes = Vec::from_slice(rt.alloc(), &WORKED_OBJECT[..126])?;
+    bytes.extend_from_slice(&[0])?;
+    bytes.extend_from_slice(&WORKED_OBJECT[127..212])?;
+    bytes.extend_from_slice(&WORKED_OBJECT[252..292])?;
+    bytes.extend_from_slice(&WORKED_OBJECT[212..252])?;
+    bytes.extend_from_slice(&WORKED_OBJECT[292..])?;
+    let object = read_object(rt.alloc(), &bytes)?;
+    assert_eq!(rt; object.text.as_slice(), TEXT.as_slice());
+    assert_eq!(rt; object.symbols.len(), 1);
+    for symbol in &object.symbols {
+        assert_eq!(rt; symbol.place, Place::Undefined);
+        assert_eq!(rt; symbol.value, 0);
+    }
+    Ok(())
+}
+
+#[test]
+fn reserved_indices_name_no_section(rt: HostRuntime) -> Result<(), Fail> {
+    // 65,535 headers. The symbol has index 0xFFF1 (SHN_ABS); the header of that number is one of zeroed bytes.
+    let mut bytes = Vec::from_slice(rt.alloc(), &WORKED_OBJECT[..48])?;
+    bytes.extend_from_slice(&[0xFF, 0xFF])?;
+    bytes.extend_from_slice(&WORKED_OBJECT[50..126])?;
+    bytes.extend_from_slice(&[0xF1, 0xFF])?;
+    bytes.extend_from_slice(&WORKED_OBJECT[128..])?;
+    for index in 10..0xFFFF {
+        let from = if index == 0xFFF1 { 332 } else { 212 };
+        bytes.extend_from_slice(&WORKED_OBJECT[from..from + 40])?;
+    }
+    assert_eq!(rt;
+        fault(read_object(rt.alloc(), &bytes)),
+        Some((126, ElfCause::SymbolForm))
+    );
+    Ok(())
 }

@@ -1,13 +1,17 @@
 -- Each object tested in turn.
 use Rattle.std.proofs.Common.{◌≡◌, ℕ, ◌+◌, ◌<◌, ◌≤◌, Bool, true, false, List, [], ◌∷◌, ◌++◌, length, get_or, take, Option, Some, None, Ok, refl, ap, sym, ◌∙◌, subst, arith}
-use Rattle.std.specs.Prelude.{sum_by, map, nat_lt, ◌||◌}
+use Rattle.std.specs.Prelude.{sum_by, map, nat_lt, not, ◌||◌, ◌&&◌}
 use Rattle.std.specs.List.{flat_map}
 use Rattle.std.proofs.lemmas.List.{take_all, length-append, length-map, append-nil}
 use Rattle.std.proofs.lemmas.List.Concat.{flat_map-append}
-use Rattle.std.proofs.lemmas.Bool.{ltb-false}
+use Rattle.std.proofs.lemmas.Bool.{ltb-false, lt-ltb}
 use Rattle.elf_form.specs.ObjectParts.{ObjectParts}
 use Rattle.sites.specs.declared.site.Site.{Site}
-use Rattle.sites.specs.Reading.{sites_in}
+use Rattle.sites.specs.declared.limits.TheConstants.{TEXT_LIMIT, SHORT_TEXT, SITE_LIMIT}
+use Rattle.sites.specs.Formats.{sites_in}
+use Rattle.sites.specs.Spelling.{AreGapped}
+use Rattle.sites.specs.Gapped.{are_gapped}
+use Rattle.sites.proofs.Gaps.{gapped_by}
 use Rattle.elf_link.specs.declared.target.Target.{Target}
 use Rattle.elf_link.specs.declared.totals.Totals.{Totals}
 use Rattle.elf_link.specs.declared.fault.LinkCause.{LinkCause}
@@ -15,9 +19,9 @@ use Rattle.elf_link.specs.declared.fault.LinkCause.TheVariants.{TextTooLarge, In
 use Rattle.elf_link.specs.declared.fault.LinkFault.{LinkFault}
 use Rattle.elf_link.specs.Layout.{text_room, init_room, bss_room, text_end, memory_end, numbered, text_at}
 use Rattle.elf_link.specs.Symbols.{exports, definitions, globals}
-use Rattle.elf_link.specs.Sites.{sites_of, misplaced, sites_wrong, moved, moved_sites, linked_sites}
+use Rattle.elf_link.specs.Sites.{sites_of, misplaced, crowded, sites_wrong, moved, moved_sites, first_sites, linked_sites}
 use Rattle.elf_link.specs.Refusals.{◌or◌, when, first, refused, doubled, doubled_cause, object_cause, object_refusal}
-use Rattle.elf_link.specs.Steps.{IsWithin, AreBelow, totals, with_object, size_cause, sites_bad, step_cause, tested}
+use Rattle.elf_link.specs.Steps.{IsWithin, AreBelow, totals, with_object, size_cause, is_crowded, sites_bad, step_cause, tested}
 use Rattle.elf_link.specs.Answers.{Fails}
 use Rattle.elf_link.proofs.FirstLaws.{Passed, first_next, first_end, fails_here}
 use Rattle.elf_link.proofs.LayoutLaws.{sum-more, text_end-more, text_end-le, memory_limit}
@@ -37,6 +41,22 @@ when_not : (b : Bool) (cause : LinkCause) (later : Option LinkCause) → (when b
 when_not true cause later h = absurd (cc)
 when_not false cause later h = refl
 
+when_later : (b : Bool) (cause : LinkCause) (later : Option LinkCause) → (when b cause or later) ≡ None → later ≡ None
+when_later true cause later h = absurd (cc)
+when_later false cause later h = h
+
+or_second : (a b : Bool) → (a || b) ≡ false → b ≡ false
+or_second true b h = cc
+or_second false b h = h
+
+and_holds : (a b : Bool) → a ≡ true → (a && b) ≡ false → b ≡ false
+and_holds true b holds h = h
+and_holds false b holds h = cc
+
+not_not : (b : Bool) → not b ≡ false → b ≡ true
+not_not true h = refl
+not_not false h = cc
+
 abbrev chain : Bool → Bool → Bool → Bool → Option LinkCause → Option LinkCause
 chain a b c d e = when a TextTooLarge or (when b InitTooLarge or (when c TooManySymbols or (when d SitesForm or e)))
 
@@ -48,9 +68,9 @@ module _ (os : List ObjectParts) (i : ℕ) (o : ObjectParts) (lt : i < length os
       let b = sum-more bss_room os i o lt is in
       totals_is _ _ (sum-more text_room os i o lt is) (omega (arith, n, b)) (sum-more (λ p. length p.symbols) os i o lt is) (sum-more (λ p. length (sites_of p)) os i o lt is)
 
-  text_same : nat_lt 4194304 ((totals (take i os)).text + length o.text + 2) ≡ nat_lt 4194304 (text_end (take (i + 1) os) + 2)
+  text_same : nat_lt TEXT_LIMIT ((totals (take i os)).text + length o.text + 2) ≡ nat_lt TEXT_LIMIT (text_end (take (i + 1) os) + 2)
   unfolding totals
-  text_same = ap (λ (n : ℕ). nat_lt 4194304 (n + 2)) (sym (text_end-more os i o lt is))
+  text_same = ap (λ (n : ℕ). nat_lt TEXT_LIMIT (n + 2)) (sym (text_end-more os i o lt is))
 
   memory_same : nat_lt 33554432 ((totals (take i os)).memory + init_room o + bss_room o) ≡ nat_lt 33554432 (memory_end (take (i + 1) os))
   unfolding totals
@@ -64,14 +84,26 @@ module _ (os : List ObjectParts) (i : ℕ) (o : ObjectParts) (lt : i < length os
   unfolding totals
   symbols_same = ap (nat_lt 65536) (sym (sum-more (λ p. length p.symbols) os i o lt is))
 
-  sites_same : sites_bad (totals (take i os)).sites o ≡ sites_wrong os (i, o)
-  unfolding totals sites_bad sites_wrong
-  sites_same = ap (λ (n : ℕ). misplaced (length o.text) (sites_in o.sites) || nat_lt 262144 n) (sym (sum-more (λ p. length (sites_of p)) os i o lt is))
+  pub flat_more : {A : Type 0} (f : ℕ × ObjectParts → List A) → flat_map f (take (i + 1) (numbered os)) ≡ flat_map f (take i (numbered os)) ++ f (i, o)
+  flat_more {A} f = ap (flat_map f) (take-numbered os i o lt is) ∙ (flat_map-append f (take i (numbered os)) ((i, o) ∷ []) ∙ ap (λ (l : List A). flat_map f (take i (numbered os)) ++ l) (append-nil (f (i, o))))
 
-  pub cause_is : step_cause (totals (take i os)) (definitions (take i (numbered os))) (i, o) ≡ object_cause os (i, o)
+  crowded_same : is_crowded (totals (take i os)) (first_sites os i) (length o.text) (sites_of o) ≡ crowded os (i + 1)
+  unfolding totals
+  crowded_same =
+      let end : text_at os i + length o.text ≡ text_end (take (i + 1) os) = sym (text_end-more os i o lt is) in
+      let sites : first_sites os i ++ moved_sites os (i, o) ≡ first_sites os (i + 1) = sym (flat_more (moved_sites os)) in
+      λ j. nat_lt SHORT_TEXT (end j + 2) && not (are_gapped 0 (sites j))
+
+  sites_same : sites_bad (totals (take i os)) (first_sites os i) o ≡ sites_wrong os (i, o)
+  unfolding totals sites_bad sites_wrong
+  sites_same =
+      ap (λ (n : ℕ). misplaced (length o.text) (sites_in o.sites) || nat_lt SITE_LIMIT n || is_crowded (totals (take i os)) (first_sites os i) (length o.text) (sites_of o)) (sym (sum-more (λ p. length (sites_of p)) os i o lt is))
+      ∙ ap (λ (b : Bool). misplaced (length o.text) (sites_in o.sites) || nat_lt SITE_LIMIT (sum_by (λ p. length (sites_of p)) (take (i + 1) os)) || b) crowded_same
+
+  pub cause_is : step_cause (totals (take i os)) (first_sites os i) (definitions (take i (numbered os))) (i, o) ≡ object_cause os (i, o)
   unfolding step_cause size_cause object_cause
   cause_is =
-      or_assoc (when (nat_lt 4194304 ((totals (take i os)).text + length o.text + 2)) TextTooLarge) (when (nat_lt 33554432 ((totals (take i os)).memory + init_room o + bss_room o)) InitTooLarge) (when (nat_lt 65536 ((totals (take i os)).symbols + length o.symbols)) TooManySymbols) (when (sites_bad (totals (take i os)).sites o) SitesForm or doubled_cause (doubled os (i, o)))
+      or_assoc (when (nat_lt TEXT_LIMIT ((totals (take i os)).text + length o.text + 2)) TextTooLarge) (when (nat_lt 33554432 ((totals (take i os)).memory + init_room o + bss_room o)) InitTooLarge) (when (nat_lt 65536 ((totals (take i os)).symbols + length o.symbols)) TooManySymbols) (when (sites_bad (totals (take i os)) (first_sites os i) o) SitesForm or doubled_cause (doubled os (i, o)))
       ∙ (λ j. chain (text_same j) (memory_same j) (symbols_same j) (sites_same j) (doubled_cause (doubled os (i, o))))
 
 -- what is known after i objects
@@ -79,9 +111,10 @@ pub record Gathering (os : List ObjectParts) (i : ℕ) (t : Totals) (gs : List (
   pub sums : t ≡ totals (take i os)
   pub within : IsWithin t
   pub names : gs ≡ definitions (take i (numbered os))
-  pub moved : sites ≡ flat_map (moved_sites os) (take i (numbered os))
+  pub moved : sites ≡ first_sites os i
   pub below : AreBelow (text_end (take i os)) sites
-  pub fits : text_end (take i os) + 2 ≤ 4194304
+  pub fits : text_end (take i os) + 2 ≤ TEXT_LIMIT
+  pub gaps : SHORT_TEXT < text_end (take i os) + 2 → AreGapped 0 sites
   pub count : length sites ≡ t.sites
   pub passed : Passed (object_refusal os) (numbered os) i
 
@@ -94,15 +127,19 @@ gathering_first os = record {
   moved = refl;
   below = record { form = tt; below = λ k d h. absurd (omega arith) };
   fits = omega arith;
+  gaps = λ long. absurd (omega (arith, long));
   count = refl;
   passed = refl;
 }
 
 module _ (os : List ObjectParts) (i : ℕ) (o : ObjectParts) (t : Totals) (gs : List (List ℕ × Target)) (sites : List Site) (lt : i < length os) (is : get_or os i o ≡ o) (now : Gathering os i t gs sites) where
-  cause_now : step_cause t gs (i, o) ≡ object_cause os (i, o)
-  cause_now = ap (λ (u : Totals). step_cause u gs (i, o)) now.sums ∙ (ap (λ (g : List (List ℕ × Target)). step_cause (totals (take i os)) g (i, o)) now.names ∙ cause_is os i o lt is)
+  cause_now : step_cause t sites gs (i, o) ≡ object_cause os (i, o)
+  cause_now =
+      ap (λ (u : Totals). step_cause u sites gs (i, o)) now.sums
+      ∙ (ap (λ (ss : List Site). step_cause (totals (take i os)) ss gs (i, o)) now.moved
+      ∙ (ap (λ (g : List (List ℕ × Target)). step_cause (totals (take i os)) (first_sites os i) g (i, o)) now.names ∙ cause_is os i o lt is))
 
-  pub gathering_fails : (e : LinkFault) → Fails e (tested (refused i (step_cause t gs (i, o)))) → Fails e (tested (first (object_refusal os) (numbered os)))
+  pub gathering_fails : (e : LinkFault) → Fails e (tested (refused i (step_cause t sites gs (i, o)))) → Fails e (tested (first (object_refusal os) (numbered os)))
   gathering_fails e h =
       fails_here (object_refusal os) (numbered os) i (i, o) e (subst (λ (n : ℕ). i < n) (sym (length-numbered os)) lt) (numbered_at os i o lt is) now.passed
       (subst (λ (c : Option LinkCause). Fails e (tested (refused i c))) cause_now h)
@@ -112,17 +149,32 @@ module _ (os : List ObjectParts) (i : ℕ) (o : ObjectParts) (t : Totals) (gs : 
   text_is = ap (λ (u : Totals). u.text) now.sums
 
   flat_next : {A : Type 0} (f : ℕ × ObjectParts → List A) → flat_map f (take (i + 1) (numbered os)) ≡ flat_map f (take i (numbered os)) ++ f (i, o)
-  flat_next {A} f = ap (flat_map f) (take-numbered os i o lt is) ∙ (flat_map-append f (take i (numbered os)) ((i, o) ∷ []) ∙ ap (λ (l : List A). flat_map f (take i (numbered os)) ++ l) (append-nil (f (i, o))))
+  flat_next {A} f = flat_more os i o lt is f
 
-  below_is : (sites' : List Site) → sites' ≡ sites ++ map (moved t.text) (sites_of o) → AreBelow (length o.text) (sites_of o) → text_end (take (i + 1) os) + 2 ≤ 4194304 → AreBelow (text_end (take (i + 1) os)) sites'
+  below_is : (sites' : List Site) → sites' ≡ sites ++ map (moved t.text) (sites_of o) → AreBelow (length o.text) (sites_of o) → text_end (take (i + 1) os) + 2 ≤ TEXT_LIMIT → AreBelow (text_end (take (i + 1) os)) sites'
   below_is sites' more own fits =
       let end : t.text + length o.text ≡ text_end (take (i + 1) os) = ap (λ (n : ℕ). n + length o.text) text_is ∙ sym (text_end-more os i o lt is) in
       subst (λ (n : ℕ). AreBelow n sites') end (subst (λ (s : List Site). AreBelow (t.text + length o.text) s) (sym more)
       (below_next (text_end (take i os)) t.text (length o.text) sites (sites_of o) now.below (omega (arith, text_is, text_end-le (take i os))) own (omega (arith, end, fits))))
 
-  fits_is : object_cause os (i, o) ≡ None → text_end (take (i + 1) os) + 2 ≤ 4194304
+  fits_is : object_cause os (i, o) ≡ None → text_end (take (i + 1) os) + 2 ≤ TEXT_LIMIT
   unfolding object_cause
-  fits_is none = ltb-false 4194304 (text_end (take (i + 1) os) + 2) (when_not (nat_lt 4194304 (text_end (take (i + 1) os) + 2)) TextTooLarge _ none)
+  fits_is none = ltb-false TEXT_LIMIT (text_end (take (i + 1) os) + 2) (when_not (nat_lt TEXT_LIMIT (text_end (take (i + 1) os) + 2)) TextTooLarge _ none)
+
+  sites_right : object_cause os (i, o) ≡ None → sites_wrong os (i, o) ≡ false
+  unfolding object_cause
+  sites_right none =
+      let os' = take (i + 1) os in
+      let a = when_later (nat_lt TEXT_LIMIT (text_end os' + 2)) TextTooLarge _ none in
+      let b = when_later (nat_lt 33554432 (memory_end os')) InitTooLarge _ a in
+      let c = when_later (nat_lt 65536 (sum_by (λ p. length p.symbols) os')) TooManySymbols _ b in
+      when_not (sites_wrong os (i, o)) SitesForm _ c
+
+  gaps_are : object_cause os (i, o) ≡ None → SHORT_TEXT < text_end (take (i + 1) os) + 2 → AreGapped 0 (first_sites os (i + 1))
+  unfolding sites_wrong
+  gaps_are none long =
+      let right = or_second _ (crowded os (i + 1)) (sites_right none) in
+      gapped_by 0 (first_sites os (i + 1)) (not_not (are_gapped 0 (first_sites os (i + 1))) (and_holds (nat_lt SHORT_TEXT (text_end (take (i + 1) os) + 2)) (not (are_gapped 0 (first_sites os (i + 1)))) (lt-ltb SHORT_TEXT (text_end (take (i + 1) os) + 2) long) right))
 
   count_is : (t' : Totals) (sites' : List Site) → t' ≡ with_object t o → sites' ≡ sites ++ map (moved t.text) (sites_of o) → length sites' ≡ t'.sites
   unfolding with_object
@@ -130,20 +182,22 @@ module _ (os : List ObjectParts) (i : ℕ) (o : ObjectParts) (t : Totals) (gs : 
       let sum : t'.sites ≡ t.sites + length (sites_of o) = ap (λ (u : Totals). u.sites) sums in
       omega (arith, sum, ap length more, length-append sites (map (moved t.text) (sites_of o)), length-map (sites_of o) (moved t.text), now.count)
 
-  pub gathering_next : (t' : Totals) (gs' : List (List ℕ × Target)) (sites' : List Site) → tested (refused i (step_cause t gs (i, o))) ≡ Ok tt → t' ≡ with_object t o → gs' ≡ gs ++ exports (i, o) → sites' ≡ sites ++ map (moved t.text) (sites_of o) → AreBelow (length o.text) (sites_of o) → IsWithin t' → Gathering os (i + 1) t' gs' sites'
+  pub gathering_next : (t' : Totals) (gs' : List (List ℕ × Target)) (sites' : List Site) → tested (refused i (step_cause t sites gs (i, o))) ≡ Ok tt → t' ≡ with_object t o → gs' ≡ gs ++ exports (i, o) → sites' ≡ sites ++ map (moved t.text) (sites_of o) → AreBelow (length o.text) (sites_of o) → IsWithin t' → Gathering os (i + 1) t' gs' sites'
   unfolding definitions
   gathering_next t' gs' sites' exact sums names more own within =
-      let cause : object_cause os (i, o) ≡ None = sym cause_now ∙ cause_none i (step_cause t gs (i, o)) exact in
+      let cause : object_cause os (i, o) ≡ None = sym cause_now ∙ cause_none i (step_cause t sites gs (i, o)) exact in
       let fits = fits_is cause in
       let none : object_refusal os (i, o) ≡ None = ap (refused i) cause in
       let at : t.text ≡ text_at os i = text_is in
+      let moved_so : sites' ≡ first_sites os (i + 1) = more ∙ (ap (λ (n : ℕ). sites ++ map (moved n) (sites_of o)) at ∙ (ap (λ (s : List Site). s ++ moved_sites os (i, o)) now.moved ∙ sym (flat_next (moved_sites os)))) in
       record {
         sums = sums ∙ (ap (λ (u : Totals). with_object u o) now.sums ∙ sym (totals_next os i o lt is));
         within = within;
         names = names ∙ (ap (λ (g : List (List ℕ × Target)). g ++ exports (i, o)) now.names ∙ sym (flat_next exports));
-        moved = more ∙ (ap (λ (n : ℕ). sites ++ map (moved n) (sites_of o)) at ∙ (ap (λ (s : List Site). s ++ moved_sites os (i, o)) now.moved ∙ sym (flat_next (moved_sites os))));
+        moved = moved_so;
         below = below_is sites' more own fits;
         fits = fits;
+        gaps = λ long. subst (λ (s : List Site). AreGapped 0 s) (sym moved_so) (gaps_are cause long);
         count = count_is t' sites' sums more;
         passed = first_next (object_refusal os) (numbered os) i (i, o) (subst (λ (n : ℕ). i < n) (sym (length-numbered os)) lt) (numbered_at os i o lt is) now.passed none;
       }
@@ -155,8 +209,9 @@ pub record Gathers (os : List ObjectParts) (t : Totals) (gs : List (List ℕ × 
   pub names : gs ≡ globals os
   pub moved : sites ≡ linked_sites os
   pub below : AreBelow (text_end os) sites
-  pub fits : text_end os + 2 ≤ 4194304
-  pub count : length sites ≤ 262144
+  pub fits : text_end os + 2 ≤ TEXT_LIMIT
+  pub gaps : SHORT_TEXT < text_end os + 2 → AreGapped 0 sites
+  pub count : length sites ≤ SITE_LIMIT
 
 pub gathered_all : (os : List ObjectParts) (i : ℕ) (t : Totals) (gs : List (List ℕ × Target)) (sites : List Site) → length os ≤ i → Gathering os i t gs sites → Gathers os t gs sites
 unfolding linked_sites
@@ -169,6 +224,7 @@ gathered_all os i t gs sites le now =
       names = now.names ∙ ap definitions all;
       moved = now.moved ∙ ap (flat_map (moved_sites os)) all;
       below = subst (λ (os' : List ObjectParts). AreBelow (text_end os') sites) whole now.below;
-      fits = subst (λ (os' : List ObjectParts). text_end os' + 2 ≤ 4194304) whole now.fits;
+      fits = subst (λ (os' : List ObjectParts). text_end os' + 2 ≤ TEXT_LIMIT) whole now.fits;
+      gaps = subst (λ (os' : List ObjectParts). SHORT_TEXT < text_end os' + 2 → AreGapped 0 sites) whole now.gaps;
       count = omega (arith, now.count, now.within.sites);
     }

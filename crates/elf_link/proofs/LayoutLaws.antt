@@ -4,6 +4,7 @@ use Rattle.std.specs.Prelude.{sum_by, nat_lt, ◌==◌}
 use Rattle.std.proofs.lemmas.Bool.{eqb-true, eqb-false, ne_eqb, ltb-true, ltb-false}
 use Rattle.std.proofs.lemmas.List.{take_more}
 use Rattle.std.proofs.lemmas.List.Sums.{sum_by-cons, sum_by_more, sum_by_more_le, sum_by-append}
+use Rattle.sites.specs.declared.limits.TheConstants.{TEXT_LIMIT}
 use Rattle.elf_form.specs.ObjectParts.{ObjectParts}
 use Rattle.elf_link.specs.Steps.{IsWithin, totals}
 use Rattle.elf_link.specs.Layout.{round_up, text_size, text_room, init_size, init_room, bss_size, bss_room, text_end, extent, memory_end}
@@ -138,7 +139,7 @@ memory_limit os = by (nat_lt 33554432 (memory_end os)) (nat_lt 33554432 (sum_by 
 -- ---- what sums leave to one object
 
 pub record FitsAt (os : List ObjectParts) (i : ℕ) (o : ObjectParts) : Type 0 where
-  pub text : sum_by text_room (take i os) + text_room o < 4194320
+  pub text : sum_by text_room (take i os) + text_room o < TEXT_LIMIT + 16
   pub init : sum_by init_room (take i os) + init_room o ≤ 33554432
   pub bss : sum_by init_room os + (sum_by bss_room (take i os) + bss_room o) ≤ 33554432
 

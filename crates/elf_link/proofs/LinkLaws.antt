@@ -8,7 +8,9 @@ use Rattle.elf_form.specs.ObjectParts.{ObjectParts}
 use Rattle.elf_form.specs.ImageParts.{ImageParts}
 use Rattle.elf_form.specs.Output.{pad}
 use Rattle.elf_form.specs.ImageLayout.{IsWritableImage, init_from, sites_from, names_from, sections_from}
+use Rattle.sites.specs.declared.limits.TheConstants.{TEXT_LIMIT}
 use Rattle.sites.specs.Spelling.{spelling}
+use Rattle.sites.specs.Limits.{in_text}
 use Rattle.elf_link.specs.declared.base.Base.{Base}
 use Rattle.elf_link.specs.declared.target.Target.{Target}
 use Rattle.elf_link.specs.declared.fault.LinkFault.{LinkFault}
@@ -16,14 +18,14 @@ use Rattle.elf_link.specs.declared.fault.LinkFault.TheVariants as faults
 use Rattle.elf_link.specs.Layout.{round_up, text_size, init_size, text_end, init_end, memory_end, numbered, bases}
 use Rattle.elf_link.specs.Symbols.{globals}
 use Rattle.elf_form.specs.Linkable.{IsLinkable}
-use Rattle.elf_link.specs.Relocations.{part_of, patched}
+use Rattle.elf_link.specs.Relocations.{part_of, with_fields}
 use Rattle.elf_link.specs.Sites.{linked_sites}
 use Rattle.elf_link.specs.Refusals.{Refused, ◌or◌, first, refusal, object_refusal, relocs_refusal, start_refusal, start}
 use Rattle.elf_link.specs.Linked.{padded, texts, inits, linked_text, linked_init, image, unless, linked_image, entry_at}
 use Rattle.elf_link.specs.Steps.{tested, tested_with, entered}
 use Rattle.elf_link.specs.Answers.{Fails}
 use Rattle.elf_link.proofs.FirstLaws.{none_from_tested}
-use Rattle.elf_link.proofs.RelocLaws.{length-patched}
+use Rattle.elf_link.proofs.RelocLaws.{length-with_fields}
 use Rattle.elf_link.proofs.LayoutLaws.{text_end-le, extent-within}
 
 module _ (os : List ObjectParts) where
@@ -70,19 +72,19 @@ module _ (os : List ObjectParts) where
       unfolding entered
       linked_ok n h = linked_by n (start_refusal (start os)) refl h
 
-pub image_is : (os : List ObjectParts) (text init sites : List ℕ) (bss entry : ℕ) → text ≡ linked_text os → init ≡ linked_init os → bss ≡ memory_end os - init_end os → entry ≡ entry_at (bases os) (start os) → sites ≡ spelling (linked_sites os) → image os ≡ record { text = text; init = init; bss = bss; entry = entry; text_at = 0x10000000; init_at = 0x11000000; sites = sites }
+pub image_is : (os : List ObjectParts) (text init sites : List ℕ) (bss entry : ℕ) → text ≡ linked_text os → init ≡ linked_init os → bss ≡ memory_end os - init_end os → entry ≡ entry_at (bases os) (start os) → sites ≡ spelling (in_text (length (linked_text os)) (linked_sites os)) → image os ≡ record { text = text; init = init; bss = bss; entry = entry; text_at = 0x10000000; init_at = 0x11000000; sites = sites }
 unfolding image
 image_is os text init sites bss entry p q r s t = λ j. record { text = sym p j; init = sym q j; bss = sym r j; entry = sym s j; text_at = 0x10000000; init_at = 0x11000000; sites = sym t j }
 
 -- ---- sizes
 
-pub length-joined : (os : List ObjectParts) (k fill : ℕ) (in_text : Bool) (size : ObjectParts → ℕ) → ((o : ObjectParts) → length (part_of in_text o) ≡ size o) → (bs : List Base) (gs : List (List ℕ × Target)) (n : ℕ) → All IsLinkable os → length (flat_map (λ p. padded k fill (patched bs gs p in_text)) (enumerate_from n os)) ≡ sum_by (λ o. round_up k (size o)) os
+pub length-joined : (os : List ObjectParts) (k fill : ℕ) (in_text : Bool) (size : ObjectParts → ℕ) → ((o : ObjectParts) → length (part_of in_text o) ≡ size o) → (bs : List Base) (gs : List (List ℕ × Target)) (n : ℕ) → All IsLinkable os → length (flat_map (λ p. padded k fill (with_fields bs gs p in_text)) (enumerate_from n os)) ≡ sum_by (λ o. round_up k (size o)) os
 length-joined [] k fill in_text size is bs gs n all = refl
 length-joined (o ∷ os) k fill in_text size is bs gs n all =
-    let here : length (patched bs gs (n, o) in_text) ≡ size o = length-patched bs gs (n, o) in_text (all 0 o (omega arith)) ∙ is o in
+    let here : length (with_fields bs gs (n, o) in_text) ≡ size o = length-with_fields bs gs (n, o) in_text (all 0 o (omega arith)) ∙ is o in
     let rest = length-joined os k fill in_text size is bs gs (n + 1) (λ i d h. all (suc i) d (omega arith)) in
-    let len : length (padded k fill (patched bs gs (n, o) in_text)) ≡ round_up k (size o) = length-append (patched bs gs (n, o) in_text) (replicate (pad k (length (patched bs gs (n, o) in_text))) fill) ∙ (ap (λ (m : ℕ). length (patched bs gs (n, o) in_text) + m) (length-replicate (pad k (length (patched bs gs (n, o) in_text))) fill) ∙ ap (round_up k) here) in
-    length-append (padded k fill (patched bs gs (n, o) in_text)) (flat_map (λ p. padded k fill (patched bs gs p in_text)) (enumerate_from (n + 1) os))
+    let len : length (padded k fill (with_fields bs gs (n, o) in_text)) ≡ round_up k (size o) = length-append (with_fields bs gs (n, o) in_text) (replicate (pad k (length (with_fields bs gs (n, o) in_text))) fill) ∙ (ap (λ (m : ℕ). length (with_fields bs gs (n, o) in_text) + m) (length-replicate (pad k (length (with_fields bs gs (n, o) in_text))) fill) ∙ ap (round_up k) here) in
+    length-append (padded k fill (with_fields bs gs (n, o) in_text)) (flat_map (λ p. padded k fill (with_fields bs gs p in_text)) (enumerate_from (n + 1) os))
     ∙ omega (arith, len, rest, sum_by-cons (λ (p : ObjectParts). round_up k (size p)) o os)
 
 pub length-linked_text : (os : List ObjectParts) → All IsLinkable os → length (linked_text os) ≡ text_end os + 2
@@ -102,11 +104,11 @@ pub entered_same : (os : List ObjectParts) (bs : List Base) (gs : List (List ℕ
 entered_same os bs gs p q = λ j. entered (sym p j) (sym q j)
 
 -- an image within the limits fits a file
-pub writable : (p : ImageParts) → length p.text ≤ 4194304 → length p.init + p.bss ≤ 33554432 → length p.sites ≤ 2097160 → IsWritableImage p
+pub writable : (p : ImageParts) → length p.text ≤ TEXT_LIMIT → length p.init + p.bss ≤ 33554432 → length p.sites ≤ 2097160 → IsWritableImage p
 unfolding init_from sites_from names_from sections_from
 writable p text room sites =
     let a : pad 4096 (4096 + length p.text) < 4096 = omega arith in
-    let b : init_from p ≤ 4096 + 4194304 + 4096 = omega (arith, a) in
+    let b : init_from p ≤ 4096 + TEXT_LIMIT + 4096 = omega (arith, a) in
     let c : sites_from p ≤ init_from p + length p.init + 4 = omega arith in
     let d : sections_from p ≤ names_from p + 42 = omega arith in
     record { file = omega (arith, b, c, d); memory = omega arith }

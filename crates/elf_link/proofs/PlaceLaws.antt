@@ -13,10 +13,10 @@ use Rattle.elf_form.specs.Output.{pad}
 use Rattle.elf_link.specs.Layout.{round_up, text_size, text_room, init_size, init_room, bss_room, text_at, init_at, bss_at, text_end, init_end, extent, numbered, bases}
 use Rattle.elf_link.specs.Symbols.{globals}
 use Rattle.elf_form.specs.Linkable.{IsLinkable}
-use Rattle.elf_link.specs.Relocations.{part_of, patched}
+use Rattle.elf_link.specs.Relocations.{part_of, with_fields}
 use Rattle.elf_link.specs.Linked.{padded, texts, inits, linked_text, linked_init}
 use Rattle.elf_link.proofs.LayoutLaws.{room_of, sum-more, text_end-le}
-use Rattle.elf_link.proofs.RelocLaws.{length-patched}
+use Rattle.elf_link.proofs.RelocLaws.{length-with_fields}
 use Rattle.elf_link.proofs.BaseLaws.{numbered_at, length-numbered}
 use Rattle.elf_link.proofs.LinkLaws.{length-joined}
 
@@ -84,25 +84,25 @@ all-take os i all = λ m d h.
     let lt : m < i = omega (arith, length-take i os) in
     subst (λ (o : ObjectParts). IsLinkable o) (sym (get_or-take i os m d lt)) (all m d (omega (arith, length-take i os)))
 
-length-before : (os : List ObjectParts) (k fill : ℕ) (in_text : Bool) (size : ObjectParts → ℕ) → ((o : ObjectParts) → length (part_of in_text o) ≡ size o) → (i : ℕ) → All IsLinkable os → length (flat_map (λ p. padded k fill (patched (bases os) (globals os) p in_text)) (take i (numbered os))) ≡ sum_by (λ p. round_up k (size p)) (take i os)
+length-before : (os : List ObjectParts) (k fill : ℕ) (in_text : Bool) (size : ObjectParts → ℕ) → ((o : ObjectParts) → length (part_of in_text o) ≡ size o) → (i : ℕ) → All IsLinkable os → length (flat_map (λ p. padded k fill (with_fields (bases os) (globals os) p in_text)) (take i (numbered os))) ≡ sum_by (λ p. round_up k (size p)) (take i os)
 length-before os k fill in_text size is i all =
-    ap (λ (ps : List (ℕ × ObjectParts)). length (flat_map (λ p. padded k fill (patched (bases os) (globals os) p in_text)) ps)) (take-enumerate 0 i os)
+    ap (λ (ps : List (ℕ × ObjectParts)). length (flat_map (λ p. padded k fill (with_fields (bases os) (globals os) p in_text)) ps)) (take-enumerate 0 i os)
     ∙ length-joined (take i os) k fill in_text size is (bases os) (globals os) 0 (all-take os i all)
 
 stands : (os : List ObjectParts) (k fill : ℕ) (in_text : Bool) (size : ObjectParts → ℕ) → ((o : ObjectParts) → length (part_of in_text o) ≡ size o) → (i j : ℕ) (o : ObjectParts) → All IsLinkable os → i < length os → get_or os i o ≡ o → j < size o →
-    get_or (flat_map (λ p. padded k fill (patched (bases os) (globals os) p in_text)) (numbered os)) (sum_by (λ p. round_up k (size p)) (take i os) + j) 0 ≡ get_or (patched (bases os) (globals os) (i, o) in_text) j 0
+    get_or (flat_map (λ p. padded k fill (with_fields (bases os) (globals os) p in_text)) (numbered os)) (sum_by (λ p. round_up k (size p)) (take i os) + j) 0 ≡ get_or (with_fields (bases os) (globals os) (i, o) in_text) j 0
 stands os k fill in_text size is i j o all lt at below =
-    let f : ℕ × ObjectParts → List ℕ = λ p. padded k fill (patched (bases os) (globals os) p in_text) in
-    let len : length (patched (bases os) (globals os) (i, o) in_text) ≡ size o = length-patched (bases os) (globals os) (i, o) in_text (subst (λ (p : ObjectParts). IsLinkable p) at (all i o lt)) ∙ is o in
+    let f : ℕ × ObjectParts → List ℕ = λ p. padded k fill (with_fields (bases os) (globals os) p in_text) in
+    let len : length (with_fields (bases os) (globals os) (i, o) in_text) ≡ size o = length-with_fields (bases os) (globals os) (i, o) in_text (subst (λ (p : ObjectParts). IsLinkable p) at (all i o lt)) ∙ is o in
     let here = numbered_at os i o lt at in
     let before : length (flat_map f (take i (numbered os))) ≡ sum_by (λ p. round_up k (size p)) (take i os) = length-before os k fill in_text size is i all in
-    let inside : j < length (f (get_or (numbered os) i (i, o))) = subst (λ (p : ℕ × ObjectParts). j < length (f p)) (sym here) (omega (arith, len, length-append (patched (bases os) (globals os) (i, o) in_text) (replicate (pad k (length (patched (bases os) (globals os) (i, o) in_text))) fill))) in
+    let inside : j < length (f (get_or (numbered os) i (i, o))) = subst (λ (p : ℕ × ObjectParts). j < length (f p)) (sym here) (omega (arith, len, length-append (with_fields (bases os) (globals os) (i, o) in_text) (replicate (pad k (length (with_fields (bases os) (globals os) (i, o) in_text))) fill))) in
     ap (λ (n : ℕ). get_or (flat_map f (numbered os)) (n + j) 0) (sym before)
     ∙ (get_or-flat_map f (numbered os) i j (i, o) 0 (omega (arith, length-numbered os, lt)) inside
     ∙ (ap (λ (p : ℕ × ObjectParts). get_or (f p) j 0) here
-    ∙ get_or_append_left (patched (bases os) (globals os) (i, o) in_text) (replicate (pad k (length (patched (bases os) (globals os) (i, o) in_text))) fill) 0 j (omega (arith, len))))
+    ∙ get_or_append_left (with_fields (bases os) (globals os) (i, o) in_text) (replicate (pad k (length (with_fields (bases os) (globals os) (i, o) in_text))) fill) 0 j (omega (arith, len))))
 
-pub text_stands : (os : List ObjectParts) (i j : ℕ) (o : ObjectParts) → All IsLinkable os → slice_get os i ≡ Some o → j < length o.text → slice_index (linked_text os) (text_at os i + j) ≡ slice_index (patched (bases os) (globals os) (i, o) true) j
+pub text_stands : (os : List ObjectParts) (i j : ℕ) (o : ObjectParts) → All IsLinkable os → slice_get os i ≡ Some o → j < length o.text → slice_index (linked_text os) (text_at os i + j) ≡ slice_index (with_fields (bases os) (globals os) (i, o) true) j
 unfolding linked_text
 text_stands os i j o all at below =
     let lt = slice_get_within os i o at in
@@ -114,7 +114,7 @@ text_stands os i j o all at below =
     ∙ (get_or-take (text_end os) (texts os (numbered os)) (text_at os i + j) 0 (omega (arith, end))
     ∙ stands os 16 0x90 true text_size (λ p. refl) i j o all lt is below)
 
-pub init_stands : (os : List ObjectParts) (i j : ℕ) (o : ObjectParts) → All IsLinkable os → slice_get os i ≡ Some o → j < length o.init → slice_index (linked_init os) (init_at os i + j) ≡ slice_index (patched (bases os) (globals os) (i, o) false) j
+pub init_stands : (os : List ObjectParts) (i j : ℕ) (o : ObjectParts) → All IsLinkable os → slice_get os i ≡ Some o → j < length o.init → slice_index (linked_init os) (init_at os i + j) ≡ slice_index (with_fields (bases os) (globals os) (i, o) false) j
 unfolding linked_init
 init_stands os i j o all at below =
     let lt = slice_get_within os i o at in

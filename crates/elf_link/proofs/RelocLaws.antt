@@ -11,7 +11,7 @@ use Rattle.elf_form.specs.ObjectLayout.{is_of}
 use Rattle.elf_link.specs.declared.base.Base.{Base}
 use Rattle.elf_link.specs.declared.target.Target.{Target}
 use Rattle.elf_form.specs.Linkable.{IsLinkable}
-use Rattle.elf_link.specs.Relocations.{part_of, filled, patched, relocated}
+use Rattle.elf_link.specs.Relocations.{part_of, filled, with_fields, relocated}
 
 -- the field of a relocation lies in the part that it is of
 pub inside_part : (o : ObjectParts) (in_text : Bool) (r : Reloc) → r.at + 4 ≤ cond r.in_text (length o.text) (length o.init) → is_of in_text r ≡ true → r.at + 4 ≤ length (part_of in_text o)
@@ -35,9 +35,9 @@ length-fold bs gs p in_text bytes [] all len = len
 length-fold bs gs p in_text bytes (r ∷ rs) all len = length-fold bs gs p in_text (filled bs gs p in_text bytes r) rs (λ k d h. all (suc k) d (omega arith)) (length-filled bs gs p in_text bytes r (all 0 r (omega arith)) len ∙ len)
 
 -- so a part keeps its length
-pub length-patched : (bs : List Base) (gs : List (List ℕ × Target)) (p : ℕ × ObjectParts) (in_text : Bool) → IsLinkable p.1 → length (patched bs gs p in_text) ≡ length (part_of in_text p.1)
-unfolding patched
-length-patched bs gs p in_text linkable = length-fold bs gs p in_text (part_of in_text p.1) p.1.relocs linkable.inside refl
+pub length-with_fields : (bs : List Base) (gs : List (List ℕ × Target)) (p : ℕ × ObjectParts) (in_text : Bool) → IsLinkable p.1 → length (with_fields bs gs p in_text) ≡ length (part_of in_text p.1)
+unfolding with_fields
+length-with_fields bs gs p in_text linkable = length-fold bs gs p in_text (part_of in_text p.1) p.1.relocs linkable.inside refl
 
 -- one step of a fold over a list that has another name
 pub fold-next : (f : List ℕ → Reloc → List ℕ) (a : List ℕ) (rs ys : List Reloc) (i : ℕ) (d : Reloc) (old new : List ℕ) → ys ≡ rs → i < length ys → old ≡ fold f a (take i rs) → new ≡ f old (get_or ys i d) → new ≡ fold f a (take (i + 1) rs)

@@ -2,10 +2,8 @@
 use Rattle.std.proofs.Common.{◌≡◌, ℕ, zero, suc, ◌+◌, ◌*◌, ◌<◌, ◌≤◌, ◌^◌, max, List, [], ◌∷◌, ◌++◌, length, refl, ◌∙◌, subst, arith}
 use Rattle.std.specs.Prelude.{All, map}
 use Rattle.std.proofs.lemmas.List.{length-append}
-use Rattle.std.specs.List.{flat_map}
-use Rattle.std.specs.Int.{w32, to_le_bytes}
 use Rattle.sites.specs.declared.site.Site.{Site}
-use Rattle.sites.specs.Spelling.{site, spelling, AreSites, AreInForm}
+use Rattle.sites.specs.Spelling.{AreSites, AreInForm}
 use Rattle.elf_link.specs.Sites.{moved}
 use Rattle.elf_link.specs.Steps.{AreBelow}
 
@@ -68,11 +66,3 @@ below_next end at size xs ys h le own small =
 pub sites_in_form : (least : ℕ) (sites : List Site) → AreInForm least sites → AreSites least sites
 sites_in_form least [] h = tt
 sites_in_form least (s ∷ sites) h = (h.0, h.3, sites_in_form (s.at + 1) sites h.4)
-
-length-flat_sites : (sites : List Site) → length (flat_map site sites) ≡ 8 * length sites
-length-flat_sites [] = refl
-length-flat_sites (s ∷ sites) = length-append (site s) (flat_map site sites) ∙ omega (arith, length-flat_sites sites)
-
-pub length-spelling : (sites : List Site) → length (spelling sites) ≡ 8 + 8 * length sites
-unfolding spelling
-length-spelling sites = omega (arith, length-append (to_le_bytes w32 (length sites)) (flat_map site sites), length-flat_sites sites)

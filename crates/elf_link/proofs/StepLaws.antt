@@ -22,37 +22,37 @@ pub cause_none : (n : ℕ) (cause : Option LinkCause) → tested (refused n caus
 cause_none n None h = refl
 cause_none n (Some cause) h = absurd (cc)
 
-module _ (n : ℕ) (t : Totals) (gs : List (List ℕ × Target)) (o : ObjectParts) (none : size_cause t o ≡ None) where
+module _ (n : ℕ) (t : Totals) (before : List Site) (gs : List (List ℕ × Target)) (o : ObjectParts) (none : size_cause t o ≡ None) where
   own : Option LinkCause
   own = doubled_cause (first_doubled (keys gs) (exported_names (n, o)))
 
-  step_at : (b : Bool) → sites_bad t.sites o ≡ b → step_cause t gs (n, o) ≡ (when b SitesForm or own)
+  step_at : (b : Bool) → sites_bad t before o ≡ b → step_cause t before gs (n, o) ≡ (when b SitesForm or own)
   unfolding step_cause own
   step_at b e =
-      ap (λ (c : Option LinkCause). c or (when (sites_bad t.sites o) SitesForm or doubled_cause (first_doubled (keys gs) (exported_names (n, o))))) none
+      ap (λ (c : Option LinkCause). c or (when (sites_bad t before o) SitesForm or doubled_cause (first_doubled (keys gs) (exported_names (n, o))))) none
       ∙ ap (λ (x : Bool). when x SitesForm or doubled_cause (first_doubled (keys gs) (exported_names (n, o)))) e
 
-  pub sites_fail : (e : LinkFault) → Fails e (placed_sites n t.sites o) → Fails e (tested (refused n (step_cause t gs (n, o))))
+  pub sites_fail : (e : LinkFault) → Fails e (placed_sites n t before o) → Fails e (tested (refused n (step_cause t before gs (n, o))))
   unfolding placed_sites
   sites_fail faults.Memory h = tt
-  sites_fail (faults.At object cause) h = by (sites_bad t.sites o) refl h where
-    by : (b : Bool) → sites_bad t.sites o ≡ b → Fails (faults.At object cause) (cond {A = Result (List Site) Refused} b (Err (record { object = n; cause = SitesForm })) (Ok (sites_of o))) → tested (refused n (step_cause t gs (n, o))) ≡ Err (record { object = object; cause = cause })
+  sites_fail (faults.At object cause) h = by (sites_bad t before o) refl h where
+    by : (b : Bool) → sites_bad t before o ≡ b → Fails (faults.At object cause) (cond {A = Result (List Site) Refused} b (Err (record { object = n; cause = SitesForm })) (Ok (sites_of o))) → tested (refused n (step_cause t before gs (n, o))) ≡ Err (record { object = object; cause = cause })
     by true e h = ap (λ (c : Option LinkCause). tested (refused n c)) (step_at true e) ∙ cc
     by false e h = absurd (cc)
 
-  pub step_after : (sites : List Site) → placed_sites n t.sites o ≡ Ok sites → step_cause t gs (n, o) ≡ doubled_cause (first_doubled (keys gs) (exported_names (n, o)))
+  pub step_after : (sites : List Site) → placed_sites n t before o ≡ Ok sites → step_cause t before gs (n, o) ≡ doubled_cause (first_doubled (keys gs) (exported_names (n, o)))
   unfolding placed_sites own
-  step_after sites h = by (sites_bad t.sites o) refl h where
-    by : (b : Bool) → sites_bad t.sites o ≡ b → ◌≡◌ {A = Result (List Site) Refused} (cond {A = Result (List Site) Refused} b (Err (record { object = n; cause = SitesForm })) (Ok (sites_of o))) (Ok sites) → step_cause t gs (n, o) ≡ doubled_cause (first_doubled (keys gs) (exported_names (n, o)))
+  step_after sites h = by (sites_bad t before o) refl h where
+    by : (b : Bool) → sites_bad t before o ≡ b → ◌≡◌ {A = Result (List Site) Refused} (cond {A = Result (List Site) Refused} b (Err (record { object = n; cause = SitesForm })) (Ok (sites_of o))) (Ok sites) → step_cause t before gs (n, o) ≡ doubled_cause (first_doubled (keys gs) (exported_names (n, o)))
     by true e h = absurd (cc)
     by false e h = step_at false e
 
-  pub placed_is : (sites : List Site) → placed_sites n t.sites o ≡ Ok sites → sites ≡ sites_of o
+  pub placed_is : (sites : List Site) → placed_sites n t before o ≡ Ok sites → sites ≡ sites_of o
   unfolding placed_sites
-  placed_is sites h = by (sites_bad t.sites o) h where
+  placed_is sites h = by (sites_bad t before o) h where
     by : (b : Bool) → ◌≡◌ {A = Result (List Site) Refused} (cond {A = Result (List Site) Refused} b (Err (record { object = n; cause = SitesForm })) (Ok (sites_of o))) (Ok sites) → sites ≡ sites_of o
     by true h = absurd (cc)
     by false h = cc
 
-  pub doubled_fail : (e : LinkFault) (cause : Option LinkCause) (sites : List Site) → placed_sites n t.sites o ≡ Ok sites → cause ≡ doubled_cause (first_doubled (keys gs) (exported_names (n, o))) → Fails e (tested (refused n cause)) → Fails e (tested (refused n (step_cause t gs (n, o))))
+  pub doubled_fail : (e : LinkFault) (cause : Option LinkCause) (sites : List Site) → placed_sites n t before o ≡ Ok sites → cause ≡ doubled_cause (first_doubled (keys gs) (exported_names (n, o))) → Fails e (tested (refused n cause)) → Fails e (tested (refused n (step_cause t before gs (n, o))))
   doubled_fail e cause sites placed is h = subst (λ (c : Option LinkCause). Fails e (tested (refused n c))) (is ∙ sym (step_after sites placed)) h

@@ -6,11 +6,12 @@ use Rattle.elf_form.specs.ImageParts.{ImageParts}
 use Rattle.elf_form.specs.ImageLayout.{image_bytes}
 use Rattle.elf_form.specs.Output.{pad}
 use Rattle.sites.specs.Spelling.{spelling}
+use Rattle.sites.specs.Limits.{in_text}
 use Rattle.elf_link.specs.declared.base.Base.{Base}
 use Rattle.elf_link.specs.declared.target.Target.{Target}
 use Rattle.elf_link.specs.Layout.{text_end, init_end, memory_end, numbered, bases}
 use Rattle.elf_link.specs.Symbols.{address, globals}
-use Rattle.elf_link.specs.Relocations.{patched}
+use Rattle.elf_link.specs.Relocations.{with_fields}
 use Rattle.elf_link.specs.Sites.{linked_sites}
 use Rattle.elf_link.specs.Refusals.{Refused, start, refusal}
 
@@ -20,10 +21,10 @@ padded k fill bytes = bytes ++ replicate (pad k (length bytes)) fill
 
 -- texts with NOPs between them, and data with zeros between them, up to where the last one ends
 abbrev pub texts : List ObjectParts → List (ℕ × ObjectParts) → List ℕ
-texts os ps = flat_map (λ p. padded 16 0x90 (patched (bases os) (globals os) p true)) ps
+texts os ps = flat_map (λ p. padded 16 0x90 (with_fields (bases os) (globals os) p true)) ps
 
 abbrev pub inits : List ObjectParts → List (ℕ × ObjectParts) → List ℕ
-inits os ps = flat_map (λ p. padded 4096 0 (patched (bases os) (globals os) p false)) ps
+inits os ps = flat_map (λ p. padded 4096 0 (with_fields (bases os) (globals os) p false)) ps
 
 -- a jump to itself ends the text
 unfoldable pub linked_text : List ObjectParts → List ℕ
@@ -37,7 +38,7 @@ entry_at bs None = 0x10000000
 entry_at bs (Some t) = address bs t
 
 unfoldable pub image : List ObjectParts → ImageParts
-image os = record { text = linked_text os; init = linked_init os; bss = memory_end os - init_end os; entry = entry_at (bases os) (start os); text_at = 0x10000000; init_at = 0x11000000; sites = spelling (linked_sites os) }
+image os = record { text = linked_text os; init = linked_init os; bss = memory_end os - init_end os; entry = entry_at (bases os) (start os); text_at = 0x10000000; init_at = 0x11000000; sites = spelling (in_text (length (linked_text os)) (linked_sites os)) }
 
 abbrev pub unless : Option Refused → ImageParts → Result ImageParts Refused
 unless None parts = Ok parts

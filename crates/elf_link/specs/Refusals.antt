@@ -3,6 +3,7 @@ use Rattle.std.specs.Prelude.{ℕ, ◌+◌, Bool, List, [], ◌∷◌, ◌++◌,
 use Rattle.std.specs.List.{list_any}
 use Rattle.std.specs.Str.{bytes_eq}
 use Rattle.elf_form.specs.ObjectParts.{ObjectParts}
+use Rattle.sites.specs.declared.limits.TheConstants.{TEXT_LIMIT}
 use Rattle.elf_link.specs.declared.target.Target.{Target}
 use Rattle.elf_link.specs.declared.fault.LinkCause.{LinkCause}
 use Rattle.elf_link.specs.declared.fault.LinkCause.TheVariants.{Doubled, NotText, TextTooLarge, InitTooLarge, TooManySymbols, SitesForm}
@@ -53,7 +54,7 @@ doubled_cause (Some name) = Some (Doubled name)
 unfoldable pub object_cause : List ObjectParts → ℕ × ObjectParts → Option LinkCause
 object_cause os p =
     let os' = take (p.0 + 1) os in
-    when (nat_lt 4194304 (text_end os' + 2)) TextTooLarge
+    when (nat_lt TEXT_LIMIT (text_end os' + 2)) TextTooLarge
     or (when (nat_lt 33554432 (memory_end os')) InitTooLarge
     or (when (nat_lt 65536 (sum_by (λ o. length o.symbols) os')) TooManySymbols
     or (when (sites_wrong os p) SitesForm

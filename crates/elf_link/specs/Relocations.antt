@@ -54,5 +54,5 @@ unfoldable pub filled : List Base → List (List ℕ × Target) → ℕ × Objec
 filled bs gs p in_text bytes r = if is_of in_text r then with_word32 bytes r.at (relocated bs gs p r (word32 bytes r.at)) else bytes
 
 -- with all its fields filled, in the order of the relocations
-unfoldable pub patched : List Base → List (List ℕ × Target) → ℕ × ObjectParts → Bool → List ℕ
-patched bs gs p in_text = fold (filled bs gs p in_text) (part_of in_text p.1) p.1.relocs
+unfoldable pub with_fields : List Base → List (List ℕ × Target) → ℕ × ObjectParts → Bool → List ℕ
+with_fields bs gs p in_text = fold (filled bs gs p in_text) (part_of in_text p.1) p.1.relocs

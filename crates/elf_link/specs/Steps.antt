@@ -1,8 +1,10 @@
 -- What is asked of an object, by the sums over the objects before it.
-use Rattle.std.specs.Prelude.{ℕ, ◌+◌, ◌≤◌, ◌<◌, ◌||◌, Bool, All, List, length, map, codes, sum_by, nat_lt, Option, Some, None, Result, Ok, Err, if◌then◌else◌}
+use Rattle.std.specs.Prelude.{ℕ, ◌+◌, ◌≤◌, ◌<◌, ◌||◌, ◌&&◌, ◌++◌, Bool, not, All, List, length, map, codes, sum_by, nat_lt, Option, Some, None, Result, Ok, Err, if◌then◌else◌}
 use Rattle.elf_form.specs.ObjectParts.{ObjectParts}
 use Rattle.sites.specs.declared.site.Site.{Site}
-use Rattle.sites.specs.Reading.{sites_in}
+use Rattle.sites.specs.declared.limits.TheConstants.{TEXT_LIMIT, SHORT_TEXT, SITE_LIMIT}
+use Rattle.sites.specs.Formats.{sites_in}
+use Rattle.sites.specs.Gapped.{are_gapped}
 use Rattle.sites.specs.Spelling.{AreInForm}
 use Rattle.elf_link.specs.declared.base.Base.{Base}
 use Rattle.elf_link.specs.declared.target.Target.{Target}
@@ -11,7 +13,7 @@ use Rattle.elf_link.specs.declared.fault.LinkCause.{LinkCause}
 use Rattle.elf_link.specs.declared.fault.LinkCause.TheVariants.{TextTooLarge, InitTooLarge, TooManySymbols, SitesForm}
 use Rattle.elf_link.specs.Layout.{text_room, init_room, bss_room}
 use Rattle.elf_link.specs.Symbols.{lookup}
-use Rattle.elf_link.specs.Sites.{sites_of, misplaced}
+use Rattle.elf_link.specs.Sites.{sites_of, misplaced, moved}
 use Rattle.elf_link.specs.Refusals.{Refused, when, ◌or◌, first_doubled, exported_names, doubled_cause, start_refusal}
 use Rattle.elf_link.specs.Linked.{entry_at}
 
@@ -23,30 +25,34 @@ unfoldable pub with_object : Totals → ObjectParts → Totals
 with_object t o = record { text = t.text + text_room o; memory = t.memory + init_room o + bss_room o; symbols = t.symbols + length o.symbols; sites = t.sites + length (sites_of o) }
 
 pub record IsWithin (t : Totals) : Type 0 where
-  pub text : t.text < 4194320
+  pub text : t.text < TEXT_LIMIT + 16
   pub memory : t.memory ≤ 33554432
   pub symbols : t.symbols ≤ 65536
-  pub sites : t.sites ≤ 262144
+  pub sites : t.sites ≤ SITE_LIMIT
 
 -- An object breaks no limit behind objects with these sums.
 pub record HasRoom (t : Totals) (o : ObjectParts) : Type 0 where
-  pub text : t.text + length o.text + 2 ≤ 4194304
+  pub text : t.text + length o.text + 2 ≤ TEXT_LIMIT
   pub memory : t.memory + init_room o + bss_room o ≤ 33554432
   pub symbols : t.symbols + length o.symbols ≤ 65536
 
 unfoldable pub size_cause : Totals → ObjectParts → Option LinkCause
 size_cause t o =
-    when (nat_lt 4194304 (t.text + length o.text + 2)) TextTooLarge
+    when (nat_lt TEXT_LIMIT (t.text + length o.text + 2)) TextTooLarge
     or (when (nat_lt 33554432 (t.memory + init_room o + bss_room o)) InitTooLarge
     or when (nat_lt 65536 (t.symbols + length o.symbols)) TooManySymbols)
 
-unfoldable pub sites_bad : ℕ → ObjectParts → Bool
-sites_bad before o = misplaced (length o.text) (sites_in o.sites) || nat_lt 262144 (before + length (sites_of o))
+-- sites behind others, in a text that wants format 2 and in which they can't be written so
+abbrev pub is_crowded : Totals → List Site → ℕ → List Site → Bool
+is_crowded t before text sites = nat_lt SHORT_TEXT (t.text + text + 2) && not (are_gapped 0 (before ++ map (moved t.text) sites))
 
-unfoldable pub step_cause : Totals → List (List ℕ × Target) → ℕ × ObjectParts → Option LinkCause
-step_cause t gs p =
+unfoldable pub sites_bad : Totals → List Site → ObjectParts → Bool
+sites_bad t before o = misplaced (length o.text) (sites_in o.sites) || nat_lt SITE_LIMIT (t.sites + length (sites_of o)) || is_crowded t before (length o.text) (sites_of o)
+
+unfoldable pub step_cause : Totals → List Site → List (List ℕ × Target) → ℕ × ObjectParts → Option LinkCause
+step_cause t before gs p =
     size_cause t p.1
-    or (when (sites_bad t.sites p.1) SitesForm
+    or (when (sites_bad t before p.1) SitesForm
     or doubled_cause (first_doubled (map (λ d. d.0) gs) (exported_names p)))
 
 -- a test that passes where nothing is refused
@@ -58,9 +64,15 @@ abbrev pub tested_with : {X : Type 0} → Option Refused → X → Result X Refu
 tested_with None x = Ok x
 tested_with (Some r) x = Err r
 
--- the sites of object i, behind a number of others
-unfoldable pub placed_sites : ℕ → ℕ → ObjectParts → Result (List Site) Refused
-placed_sites i before o = if sites_bad before o then Err (record { object = i; cause = SitesForm }) else Ok (sites_of o)
+-- the sites of object i, behind a number of others; and behind others that are known
+abbrev pub own_bad : ℕ → ObjectParts → Bool
+own_bad before o = misplaced (length o.text) (sites_in o.sites) || nat_lt SITE_LIMIT (before + length (sites_of o))
+
+unfoldable pub own_sites : ℕ → ℕ → ObjectParts → Result (List Site) Refused
+own_sites i before o = if own_bad before o then Err (record { object = i; cause = SitesForm }) else Ok (sites_of o)
+
+unfoldable pub placed_sites : ℕ → Totals → List Site → ObjectParts → Result (List Site) Refused
+placed_sites i t before o = if sites_bad t before o then Err (record { object = i; cause = SitesForm }) else Ok (sites_of o)
 
 -- the entry, where it is in text
 unfoldable pub entered : List Base → List (List ℕ × Target) → Result ℕ Refused

@@ -6,18 +6,17 @@ ghost use Rattle.elf_link.specs.Layout.{numbered, text_end};
 ghost use Rattle.elf_link.specs.Symbols.{exports, globals};
 ghost use Rattle.elf_link.specs.Sites.{sites_of, moved, linked_sites};
 ghost use Rattle.elf_form.specs.Linkable.{IsLinkable};
+ghost use Rattle.sites.specs.Spelling.{AreGapped};
 ghost use Rattle.elf_link.specs.Refusals.{refused, first, doubled_cause, object_refusal};
-ghost use Rattle.elf_link.specs.Steps.{IsWithin, AreBelow, totals, with_object, step_cause, placed_sites, tested};
+ghost use Rattle.elf_link.specs.Steps.{IsWithin, AreBelow, totals, with_object, step_cause, is_crowded, own_sites, placed_sites, tested};
 ghost use Rattle.elf_link.specs.Answers.{Gives};
 
 use crate::fault::{LinkCause, LinkFault};
 use crate::globals::{Globals, export};
 use crate::totals::{Totals, size_cause, with_object};
 use elf_form::{Bytes, Object};
-use sites::{Site, Sites, SitesFault, read_sites};
+use sites::{SHORT_TEXT, SITE_LIMIT, Site, Sites, SitesFault, TEXT_LIMIT, are_gapped, read_sites};
 use std::alloc::{AllocError, Global};
-
-const SITE_LIMIT: usize = 262_144;
 
 /// What is known of the objects up to one: their sums, their global names, and their sites, moved
 /// with their texts.
@@ -61,16 +60,11 @@ fn pass_end(sites: &[Site], text: usize) -> bool
 
 /// The sites of an object, behind a number of other sites. They are refused where they do not have
 /// their form, pass the end of the text, or are too many.
-#[tactic(auto, unfolding(crate::specs::Steps::placed_sites, crate::specs::Steps::sites_bad, crate::specs::Sites::sites_of))]
-fn placed_sites(
-    alloc: Global,
-    number: u32,
-    before: usize,
-    object: &Object,
-) -> Result<Sites, LinkFault>
+#[tactic(auto, unfolding(crate::specs::Steps::own_sites, crate::specs::Sites::sites_of))]
+fn own_sites(alloc: Global, number: u32, before: usize, object: &Object) -> Result<Sites, LinkFault>
     requires short { length object.now.sites < 2 ^ 32 }
     requires before { before ≤ 262144 }
-    ensures exact { Gives (λ s. s.list) result (placed_sites number before object.now) }
+    ensures exact { Gives (λ s. s.list) result (own_sites number before object.now) }
     ensures below { IfOk result (λ s. AreBelow (length object.now.text) s.list) }
     ensures few { IfOk result (λ s. before + length s.list ≤ 262144) }
 {
@@ -109,12 +103,57 @@ fn put_moved(out: &mut Vec<Site>, sites: &[Site], by: u32) -> Result<(), AllocEr
     Ok(())
 }
 
+/// Whether sites behind others would have to be written in format 2, for the length of the text, and
+/// can't be.
+fn are_crowded(
+    alloc: Global,
+    all: &Gathered,
+    object: &Object,
+    sites: &[Site],
+) -> Result<bool, AllocError>
+    requires room { all.now.totals.text + length object.now.text + 2 ≤ TEXT_LIMIT }
+    requires below { AreBelow (length object.now.text) sites.now }
+    ensures { IfOk result (λ b. b ≡ is_crowded all.now.totals all.now.sites.items (length object.now.text) sites.now) }
+{
+    if all.totals.text + object.text.len() + 2 <= SHORT_TEXT {
+        return Ok(false);
+    }
+    let mut joined = Vec::from_slice(alloc, &all.sites)?;
+    put_moved(&mut joined, sites, all.totals.text as u32)?;
+    Ok(!are_gapped(&joined))
+}
+
+/// The sites of an object behind all others. They are also refused where they are crowded.
+#[tactic(auto, unfolding(crate::specs::Steps::placed_sites, crate::specs::Steps::own_sites, crate::specs::Steps::sites_bad))]
+fn placed_sites(
+    alloc: Global,
+    number: u32,
+    all: &Gathered,
+    object: &Object,
+) -> Result<Sites, LinkFault>
+    requires short { length object.now.sites < 2 ^ 32 }
+    requires within { IsWithin all.now.totals }
+    requires room { all.now.totals.text + length object.now.text + 2 ≤ TEXT_LIMIT }
+    ensures exact { Gives (λ s. s.list) result (placed_sites number all.now.totals all.now.sites.items object.now) }
+    ensures below { IfOk result (λ s. AreBelow (length object.now.text) s.list) }
+    ensures few { IfOk result (λ s. all.now.totals.sites + length s.list ≤ 262144) }
+{
+    let sites = own_sites(alloc, number, all.totals.sites, object)?;
+    if are_crowded(alloc, all, object, &sites.list)? {
+        return Err(LinkFault::At {
+            object: number,
+            cause: LinkCause::SitesForm,
+        });
+    }
+    Ok(sites)
+}
+
 /// Tests one more object, and keeps what is needed of it.
 #[tactic(auto, unfolding(crate::specs::Steps::step_cause))]
 fn gather(alloc: Global, number: u32, object: &Object, all: &mut Gathered) -> Result<(), LinkFault>
     requires linkable { IsLinkable object.now }
     requires within { IsWithin all.old.totals }
-    ensures exact { Gives (λ _. tt) result (tested (refused number (step_cause all.old.totals all.old.globals (number, object.now)))) }
+    ensures exact { Gives (λ _. tt) result (tested (refused number (step_cause all.old.totals all.old.sites.items all.old.globals (number, object.now)))) }
     ensures totals { OnOk result (all.new.totals ≡ with_object all.old.totals object.now) }
     ensures globals { OnOk result (all.new.globals ≡ all.old.globals ++ exports (number, object.now)) }
     ensures sites { OnOk result (all.new.sites.items ≡ all.old.sites.items ++ map (moved all.old.totals.text) (sites_of object.now)) }
@@ -122,7 +161,7 @@ fn gather(alloc: Global, number: u32, object: &Object, all: &mut Gathered) -> Re
     ensures within { OnOk result (IsWithin all.new.totals) }
 {
     refuse(number, size_cause(&all.totals, object))?;
-    let sites = placed_sites(alloc, number, all.totals.sites, object)?;
+    let sites = placed_sites(alloc, number, all, object)?;
     let name = export(alloc, &mut all.globals, number, &object.symbols)?;
     refuse(number, doubled_cause(name))?;
     put_moved(&mut all.sites, &sites.list, all.totals.text as u32)?;
@@ -140,7 +179,8 @@ pub fn gather_all(alloc: Global, objects: &Vec<Object>) -> Result<Gathered, Link
     ensures sites { IfOk result (λ all. all.sites.items ≡ linked_sites objects.now.items) }
     ensures below { IfOk result (λ all. AreBelow (text_end objects.now.items) all.sites.items) }
     ensures count { IfOk result (λ all. length all.sites.items ≤ 262144) }
-    ensures fits { IfOk result (λ _. text_end objects.now.items + 2 ≤ 4194304) }
+    ensures fits { IfOk result (λ _. text_end objects.now.items + 2 ≤ TEXT_LIMIT) }
+    ensures gaps { IfOk result (λ all. SHORT_TEXT < text_end objects.now.items + 2 → AreGapped 0 all.sites.items) }
 {
     let mut all = Gathered {
         totals: Totals {

@@ -10,7 +10,7 @@ ghost use Rattle.elf_link.specs.declared.fault.LinkCause.TheVariants.{NoSymbol, 
 ghost use Rattle.elf_link.specs.Layout.{text_at, init_at, bss_at, bases};
 ghost use Rattle.elf_link.specs.Symbols.{is_text, is_exported, target, lookup, target_of, globals};
 ghost use Rattle.elf_form.specs.Linkable.{IsLinkable};
-ghost use Rattle.elf_link.specs.Relocations.{reloc_cause, patched};
+ghost use Rattle.elf_link.specs.Relocations.{reloc_cause, with_fields};
 ghost use Rattle.elf_link.specs.Refusals.{first_doubled, is_among};
 ghost use Rattle.elf_link.specs.Doubled.{IsFirstDoubled};
 ghost use Rattle.elf_link.specs.Linked.{linked_text, linked_init};
@@ -27,8 +27,8 @@ pub fn parts_apart()
 /// filled.
 #[tactic(auto, using(crate::proofs::PlaceLaws::text_stands, crate::proofs::PlaceLaws::init_stands))]
 pub fn parts_stand()
-    ensures text { (os : List ObjectParts) (i k : ℕ) (o : ObjectParts) → All IsLinkable os → slice_get os i ≡ Some o → k < length o.text → slice_index (linked_text os) (text_at os i + k) ≡ slice_index (patched (bases os) (globals os) (i, o) true) k }
-    ensures init { (os : List ObjectParts) (i k : ℕ) (o : ObjectParts) → All IsLinkable os → slice_get os i ≡ Some o → k < length o.init → slice_index (linked_init os) (init_at os i + k) ≡ slice_index (patched (bases os) (globals os) (i, o) false) k }
+    ensures text { (os : List ObjectParts) (i k : ℕ) (o : ObjectParts) → All IsLinkable os → slice_get os i ≡ Some o → k < length o.text → slice_index (linked_text os) (text_at os i + k) ≡ slice_index (with_fields (bases os) (globals os) (i, o) true) k }
+    ensures init { (os : List ObjectParts) (i k : ℕ) (o : ObjectParts) → All IsLinkable os → slice_get os i ≡ Some o → k < length o.init → slice_index (linked_init os) (init_at os i + k) ≡ slice_index (with_fields (bases os) (globals os) (i, o) false) k }
 {}
 
 /// A name stands for nothing exactly where no object has a global symbol of that name that it

@@ -4,11 +4,10 @@ ghost use Rattle.std.specs.Prelude.{◌≡◌, ◌+◌, ◌≤◌, ◌<◌, ◌^
 ghost use Rattle.elf_form.specs.ImageLayout.{IsWritableImage, HasLongs};
 ghost use Rattle.elf_form.specs.Output.{pad};
 ghost use Rattle.sites.specs.declared.site.Site.{Site as SiteView};
-ghost use Rattle.sites.specs.Spelling.{spelling, AreInForm};
 ghost use Rattle.elf_link.specs.Layout.{numbered, bases};
 ghost use Rattle.elf_link.specs.Symbols.{globals as globals_of};
 ghost use Rattle.elf_form.specs.Linkable.{IsLinkable};
-ghost use Rattle.elf_link.specs.Relocations.{reloc_cause, patched};
+ghost use Rattle.elf_link.specs.Relocations.{reloc_cause, with_fields};
 ghost use Rattle.elf_link.specs.Refusals.{refused, first, relocs_refusal};
 ghost use Rattle.elf_link.specs.Steps.{IsWithin, AreBelow, totals, entered, tested};
 ghost use Rattle.elf_link.specs.Linked.{padded, linked_text, linked_init, linked_image, file_of};
@@ -19,9 +18,9 @@ use crate::fault::{LinkCause, LinkFault};
 use crate::gathering::{gather_all, refuse};
 use crate::globals::Globals;
 use crate::layout::{INIT_AT, TEXT_AT, bases, init_end, memory_end, text_end};
-use crate::relocations::{Plan, address, is_text, patched, relocs_cause};
+use crate::relocations::{Plan, address, is_text, relocs_cause, with_fields};
 use elf_form::{Image, Object, write_image};
-use sites::{Sites, write_sites};
+use sites::{of_text, write_sites};
 use std::alloc::{AllocError, Global};
 
 /// Adds bytes, and what fills them up to a multiple of `to`.
@@ -48,7 +47,7 @@ fn linked_text(alloc: Global, objects: &Vec<Object>, plan: &Plan) -> Result<Vec<
 {
     let mut out = Vec::new(alloc);
     for (i, object) in objects.iter().enumerate() {
-        let text = patched(alloc, plan, i as u32, object, true)?;
+        let text = with_fields(alloc, plan, i as u32, object, true)?;
         put_padded(&mut out, &text, 16, 0x90)?;
     }
     out.truncate(text_end(objects));
@@ -67,7 +66,7 @@ fn linked_init(alloc: Global, objects: &Vec<Object>, plan: &Plan) -> Result<Vec<
 {
     let mut out = Vec::new(alloc);
     for (i, object) in objects.iter().enumerate() {
-        let init = patched(alloc, plan, i as u32, object, false)?;
+        let init = with_fields(alloc, plan, i as u32, object, false)?;
         put_padded(&mut out, &init, 4096, 0)?;
     }
     out.truncate(init_end(objects));
@@ -127,7 +126,8 @@ pub fn linked(alloc: Global, objects: &Vec<Object>) -> Result<Image, LinkFault>
     let init_end = init_end(objects);
     let text = linked_text(alloc, objects, &plan)?;
     let init = linked_init(alloc, objects, &plan)?;
-    let sites = write_sites(alloc, &Sites { list: all.sites })?;
+    let sites = of_text(all.sites, text.len());
+    let sites = write_sites(alloc, &sites)?;
     Ok(Image {
         text,
         init,

@@ -6,7 +6,7 @@ ghost use Rattle.elf_form.specs.ObjectLayout.{is_of};
 ghost use Rattle.elf_link.specs.Layout.{or_zero};
 ghost use Rattle.elf_link.specs.Symbols.{is_text, address};
 ghost use Rattle.elf_form.specs.Linkable.{IsLinkable};
-ghost use Rattle.elf_link.specs.Relocations.{target_by, reloc_cause, field_at, address_by, sum_of, relocated, filled, part_of, patched};
+ghost use Rattle.elf_link.specs.Relocations.{target_by, reloc_cause, field_at, address_by, sum_of, relocated, filled, part_of, with_fields};
 ghost use Rattle.elf_link.specs.Refusals.{first};
 
 use crate::base::Base;
@@ -170,8 +170,8 @@ fn fill(plan: &Plan, number: u32, object: &Object, in_text: bool, reloc: Reloc, 
 }
 
 /// The text or the data of an object with its fields filled.
-#[tactic(auto, unfolding(crate::specs::Relocations::patched))]
-pub fn patched(
+#[tactic(auto, unfolding(crate::specs::Relocations::with_fields))]
+pub fn with_fields(
     alloc: Global,
     plan: &Plan,
     number: u32,
@@ -179,7 +179,7 @@ pub fn patched(
     in_text: bool,
 ) -> Result<Vec<u8>, AllocError>
     requires { IsLinkable object.now }
-    ensures { IfOk result (λ v. v.items ≡ patched plan.now.bases.items plan.now.globals (number, object.now) in_text) }
+    ensures { IfOk result (λ v. v.items ≡ with_fields plan.now.bases.items plan.now.globals (number, object.now) in_text) }
 {
     let part = if in_text { &object.text } else { &object.init };
     let mut bytes = Vec::from_slice(alloc, part)?;

@@ -299,8 +299,8 @@ fn keeps_the_limits_of_sizes(rt: HostRuntime) -> Result<(), Fail> {
     // text, zeroed bytes, and those of a second object
     let alloc = rt.alloc();
     let rows = [
-        (4_194_302, 0, 0, None),
-        (4_194_303, 0, 0, Some((0, 33))),
+        (16_777_214, 0, 0, None),
+        (16_777_215, 0, 0, Some((0, 33))),
         (0, 33_554_432, 0, None),
         (0, 33_554_433, 0, Some((0, 34))),
         (0, 33_554_432, 1, Some((1, 34))),
@@ -312,6 +312,7 @@ fn keeps_the_limits_of_sizes(rt: HostRuntime) -> Result<(), Fail> {
         if more > 0 {
             objects.push(plain(alloc, &[], &[], more)?)?;
         }
+        assert_eq!(rt; made(alloc, &objects).is_some(), want.is_none());
         assert_eq!(rt; numbered(alloc, &objects), want);
     }
     Ok(())
@@ -334,5 +335,39 @@ fn keeps_the_limits_of_symbols_and_sites(rt: HostRuntime) -> Result<(), Fail> {
     )?;
     let past = vec![in alloc; worked(alloc)?, past]?;
     assert_eq!(rt; numbered(alloc, &past), Some((1, 36)));
+    Ok(())
+}
+
+/// An object of so much text that has two sites, at 0 and at an offset.
+fn annotated(alloc: Global, text: usize, second: u8) -> Result<Object, AllocError> {
+    let mut object = plain(alloc, &[], &[], 0)?;
+    object.text = vec![in alloc; 0x90; text]?;
+    object.sites = Vec::from_slice(alloc, b"PVS1\x02\0\0\0\0\0\0\0\x01\x01\x05\0")?;
+    object
+        .sites
+        .extend_from_slice(&[second, 0, 0, 0, 1, 1, 5, 0])?;
+    Ok(object)
+}
+
+#[test]
+fn long_texts_have_gaps(rt: HostRuntime) -> Result<(), Fail> {
+    // Sites that overlap can be written by their offsets alone.
+    let alloc = rt.alloc();
+    let rows: [(usize, u8, &[u8]); 4] = [
+        (4_194_302, 1, b"PVS1"),
+        (4_194_302, 9, b"PVS1"),
+        (4_194_303, 1, b""),
+        (4_194_303, 9, b"PVS2\x02\0\0\0\0\0\0\x01\x01\x04\0\0\x01\x01"),
+    ];
+    for (text, second, want) in rows {
+        let objects = vec![in alloc; annotated(alloc, text, second)?]?;
+        match made(alloc, &objects) {
+            Some(image) => assert!(rt; image.sites.starts_with(want) && want.len() > 0),
+            None => {
+                assert_eq!(rt; numbered(alloc, &objects), Some((0, 36)));
+                assert_eq!(rt; want.len(), 0);
+            }
+        }
+    }
     Ok(())
 }

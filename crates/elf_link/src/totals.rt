@@ -7,8 +7,7 @@ ghost use Rattle.elf_link.specs.Steps.{IsWithin, HasRoom, size_cause, with_objec
 
 use crate::fault::LinkCause;
 use elf_form::Object;
-
-const TEXT_LIMIT: usize = 4_194_304;
+use sites::TEXT_LIMIT;
 
 const MEMORY_LIMIT: usize = 33_554_432;
 

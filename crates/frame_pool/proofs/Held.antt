@@ -151,3 +151,56 @@ Moves-kept p m m' fs fs' o e w = Moves-counts p p m m' fs fs fs' (λ f. ap (time
 
 pub length-kept : (p : Pool) (m m' fs : List ℕ) → Owns p m fs → Writes fs m m' → length (free_list p m') ≡ length (free_list p m)
 length-kept p m m' fs o w = ap length (free_list-writes p m m' fs o w)
+
+-- a frame that is given back is held no more
+pub Moves-give : (p p' : Pool) (m m' fs : List ℕ) (f : ℕ) → free_list p' m' ≡ f ∷ free_list p m → Stands p' m' → SameFrames p p' → SameBut f m m' → Moves p p' m m' (f ∷ fs) fs
+Moves-give p p' m m' fs f list stands same but =
+    Moves-from p p' m m' (f ∷ fs) fs but.size same stands
+    (λ g. (let c = times-cons g f fs in let d = times-cons g f (free_list p m) in let e = ap (times g) list in omega (arith, c, d, e)))
+    (λ g a b. but.others g (λ e. absurd (
+    let c = times-cons g f fs in let s = hit-self f in let h = ap (λ x. hit x f) e in omega (arith, b, c, s, h))))
+
+-- further frames are held all the while
+pub Moves-beside : (p p' : Pool) (m m' fs fs' gs : List ℕ) → Moves p p' m m' fs fs' → Moves p p' m m' (fs ++ gs) (fs' ++ gs)
+Moves-beside p p' m m' fs fs' gs v =
+    Moves-from p p' m m' (fs ++ gs) (fs' ++ gs) v.size v.same v.stands
+    (λ f. (let t = v.together f in let a = times-append f fs gs in let b = times-append f fs' gs in omega (arith, t, a, b)))
+    (λ g a b. v.others g a (let c = times-append g fs gs in omega (arith, b, c)))
+
+-- and are as they were
+pub SameIn-beside : (p p' : Pool) (m m' fs fs' gs : List ℕ) → Owns p m (fs ++ gs) → Moves p p' m m' fs fs' → SameIn gs m m'
+SameIn-beside p p' m m' fs fs' gs o v =
+    record {
+      size = v.size;
+      frames = λ f h.
+          (let a = times-append f fs gs in let s = Owns-sum p m (fs ++ gs) o f in
+          v.others f (omega (arith, a, s, h)) (omega (arith, a, s, h)));
+    }
+
+pub Owns-part : (p : Pool) (m fs gs : List ℕ) → Owns p m (fs ++ gs) → Owns p m fs
+Owns-part p m fs gs o =
+    record {
+      stands = o.stands;
+      out = λ f h. o.out f (let a = times-append f fs gs in omega (arith, a, h));
+      once = λ f. (let a = times-append f fs gs in let s = o.once f in omega (arith, a, s));
+    }
+
+pub SameIn-writes : (m m' fs gs : List ℕ) → Holds m (fs ++ gs) → Writes fs m m' → SameIn gs m m'
+SameIn-writes m m' fs gs h w =
+    record { size = w.size; frames = λ f k. w.others f (let a = times-append f fs gs in let s = h.once f in omega (arith, a, s, k)) }
+
+pub Writes-more : (m m' fs gs : List ℕ) → Writes fs m m' → Writes (fs ++ gs) m m'
+Writes-more m m' fs gs w = record { size = w.size; others = λ g z. w.others g (let a = times-append g fs gs in omega (arith, a, z)) }
+
+-- the same frames in another order
+pub Owns-counts : (p : Pool) (m fs gs : List ℕ) → ((f : ℕ) → times f gs ≡ times f fs) → Owns p m fs → Owns p m gs
+Owns-counts p m fs gs e o =
+    record { stands = o.stands; out = λ f h. o.out f (let c = e f in omega (arith, c, h)); once = λ f. (let c = e f in let s = o.once f in omega (arith, c, s)) }
+
+pub Moves-counts_from : (p p' : Pool) (m m' fs gs fs' : List ℕ) → ((f : ℕ) → times f gs ≡ times f fs) → Moves p p' m m' fs fs' → Moves p p' m m' gs fs'
+Moves-counts_from p p' m m' fs gs fs' e v =
+    Moves-from p p' m m' gs fs' v.size v.same v.stands (λ f. (let t = v.together f in let c = e f in omega (arith, t, c))) (λ g a b. v.others g a (let c = e g in omega (arith, c, b)))
+
+pub Holds-counts : (m fs gs : List ℕ) → ((f : ℕ) → times f gs ≡ times f fs) → Holds m fs → Holds m gs
+Holds-counts m fs gs e h =
+    record { room = λ f k. h.room f (let c = e f in omega (arith, c, k)); once = λ f. (let c = e f in let s = h.once f in omega (arith, c, s)) }

@@ -4,6 +4,7 @@ use super::*;
 #[test]
 fn gives_frames_out_and_takes_them_back(rt: HostRuntime) {
     let mut ram = Ram::new(rt.alloc(), 4).expect(&rt, "memory");
+    assert_eq!(rt; ram.len(), 16384);
     if ram.len() != 16384 {
         return;
     }
@@ -16,6 +17,7 @@ fn gives_frames_out_and_takes_them_back(rt: HostRuntime) {
     assert_eq!(rt; ram.read32(FRAME * 3 + 8), 0);
     assert_eq!(rt; pool.take(&mut ram), None);
     assert_eq!(rt; pool.free(), 0);
+    // `first` is 2, as was asserted
     if let Some(frame) = first {
         ram.write32(FRAME * frame + 8, 7);
         pool.give(&mut ram, frame);

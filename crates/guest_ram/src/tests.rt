@@ -16,6 +16,7 @@ fn reads_what_it_wrote(rt: HostRuntime) {
         assert_eq!(rt; ram.read16(8190), 0x0807);
         assert_eq!(rt; ram.part(8189, 3), [0, 7, 8].as_slice());
         let mut other = Ram::new(rt.alloc(), 1).expect(&rt, "memory");
+        assert_eq!(rt; other.len(), 4096);
         if other.len() == 4096 {
             ram.exchange(&mut other, 1);
             assert_eq!(rt; ram.read32(100), 0);
@@ -27,6 +28,7 @@ fn reads_what_it_wrote(rt: HostRuntime) {
 #[test]
 fn takes_the_largest(rt: HostRuntime) {
     let mut ram = Ram::new(rt.alloc(), 32768).expect(&rt, "memory");
+    assert_eq!(rt; ram.len(), 134217728);
     if ram.len() == 134217728 {
         ram.write32(134217724, 5);
         assert_eq!(rt; ram.read32(134217724), 5);

@@ -4,6 +4,7 @@
 mod answer;
 mod fields;
 mod form;
+mod index;
 mod laws;
 mod named;
 mod numbers;

@@ -1,3 +1,4 @@
 pub mod Within
 pub mod OrderRules
 pub mod TurnRules
+pub mod UserWithin

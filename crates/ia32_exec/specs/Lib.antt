@@ -12,3 +12,7 @@ pub mod Commit
 pub mod Flat
 pub mod Order
 pub mod Turns
+pub mod Transfers
+pub mod Selectors
+pub mod UserEffect
+pub mod Short

@@ -1,4 +1,5 @@
-//! What each insensitive instruction does to the registers and to linear memory.
+//! What each insensitive instruction does to the registers and to linear memory, and those others that user code
+//! does by itself.
 #![tactic(auto)]
 
 mod access;
@@ -14,8 +15,11 @@ mod outcome;
 mod ranges_of;
 mod registers;
 mod results;
+mod selectors;
 mod stack;
 mod strings;
+mod transfers;
+mod users;
 
 pub use access::{Range, Ranges};
 pub use effect_of::effect;
@@ -26,7 +30,9 @@ pub use order::holds_after_compare;
 pub use outcome::{Effect, Outcome, Store, Stores};
 pub use ranges_of::{ranges, segment_of};
 pub use registers::{address_of, with_register};
+pub use selectors::Selectors;
 pub use stack::{is_foreign, taken};
+pub use users::user_effect;
 
 #[cfg(test)]
 mod tests;

@@ -3,6 +3,7 @@ ghost use Rattle.ia32_types.specs.declared.size.Size.TheVariants.{Long};
 ghost use Rattle.ia32_exec.specs.Registers.{with_whole};
 ghost use Rattle.ia32_exec.specs.Ranges.{segment_of, operand_range};
 ghost use Rattle.ia32_exec.specs.Effect.{on_stack, reads, writes, either, source_and_target, both_read, element, unless_over, ranges_of};
+ghost use Rattle.ia32_exec.specs.Short.{IsShort};
 
 use crate::access::{Range, Ranges};
 use crate::registers::{address_of, with_whole};
@@ -91,7 +92,8 @@ fn element(seg: Seg, n: usize, insn: &Insn, regs: &Regs) -> Option<Range>
 /// What the registers alone say of an instruction's accesses.
 #[tactic(auto, unfolding(crate::specs::Effect::ranges_of))]
 pub fn ranges(insn: &Insn, regs: &Regs) -> Ranges
-    ensures { result ≡ ranges_of insn.now regs.now }
+    ensures ranges { result ≡ ranges_of insn.now regs.now }
+    ensures short { IsShort result.read × IsShort result.write }
 {
     let esp = regs.r[4];
     let below = esp.wrapping_sub(4);

@@ -25,8 +25,9 @@ fn raised(by: u32, regs: &Regs) -> u32
     regs.r[4].wrapping_add(by)
 }
 
+/// A number goes onto the stack.
 #[tactic(auto, unfolding(crate::specs::Stack::pushed_number))]
-fn pushed_number(value: u32, regs: Regs) -> Outcome
+pub fn pushed_number(value: u32, regs: Regs) -> Outcome
     ensures { result ≡ pushed_number value regs }
 {
     let at = lowered(4, &regs);

@@ -80,7 +80,7 @@ coded_located form bytes p rest e =
     let c = and_then_ok (immediate_at form.immediate b.1) _ p rest b.3 in
     subst Parts_of (same_read _ p _ rest c.3).0 (addressing_located form.addressing a.1 b.0 b.1 b.2)
 
-parts_located : (form : Form) (bytes : List ℕ) (p : Parts) (rest : List ℕ) → parts_at form bytes ≡ Ok (p, rest) → Parts_of p
+pub parts_located : (form : Form) (bytes : List ℕ) (p : Parts) (rest : List ℕ) → parts_at form bytes ≡ Ok (p, rest) → Parts_of p
 unfolding parts_at
 parts_located form bytes p rest e =
     let a = and_then_ok (lead_at form.lead bytes) _ p rest e in
@@ -158,7 +158,7 @@ operands_shaped operands.Stack p h = record { named_a = tt; named_b = tt; alone 
 operands_shaped operands.Data p h = record { named_a = tt; named_b = tt; alone = tt }
 operands_shaped operands.TwoRegisters p h = in_order_shaped p.rm p.reg h.rm_named h.reg_below
 
-row_shaped : (row : Row) (p : Parts) → Parts_of p → IsShaped (insn_of row p)
+pub row_shaped : (row : Row) (p : Parts) → Parts_of p → IsShaped (insn_of row p)
 unfolding insn_of
 row_shaped row p h =
     let s = operands_shaped row.operands p h in

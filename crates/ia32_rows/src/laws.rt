@@ -11,6 +11,7 @@ ghost use Rattle.ia32_rows.specs.Sites.{IsSite};
 ghost use Rattle.ia32_rows.specs.Rows.{rows, refused_rows};
 ghost use Rattle.ia32_rows.specs.Spells.{Spells};
 ghost use Rattle.ia32_types.specs.declared.insn.Op.{Op};
+ghost use Rattle.ia32_types.specs.Places.{OperandsFit};
 ghost use Rattle.ia32_types.specs.Shape.{IsShaped, IsDone, IsPlain, IsFlagImage};
 
 use crate::table::{REFUSED_ROWS, ROWS};
@@ -52,6 +53,12 @@ pub fn in_pieces()
 /// What is spelled names registers below 8, and has at most one operand in memory.
 pub fn shapes()
     ensures { (bytes : List ℕ) (insn : Insn) → Spells bytes insn → IsShaped insn }
+{}
+
+/// Where a jump, a call or a read of a segment register takes a place, what is spelled has a register or memory there,
+/// and a segment register where the row has one.
+pub fn operands_fit()
+    ensures { (bytes : List ℕ) (insn : Insn) → Spells bytes insn → OperandsFit insn.op insn.a insn.b }
 {}
 
 /// The instructions that are done by registers and memory alone are those that are not sensitive, but for

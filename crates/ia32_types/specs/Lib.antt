@@ -5,3 +5,4 @@ pub mod Flags
 pub mod Site
 pub mod Shape
 pub mod Firsts
+pub mod Places

@@ -16,7 +16,10 @@ use Rattle.elf_form.specs.Accepted.{ImageAs}
 use Rattle.elf_form.proofs.Acceptance.{read_as, as_read}
 use Rattle.sites.specs.declared.site.Site.{Site}
 use Rattle.sites.specs.Kinds.{number, kind_of}
-use Rattle.sites.specs.Reading.{sites_in}
+use Rattle.sites.specs.declared.limits.TheConstants.{TEXT_LIMIT}
+use Rattle.sites.specs.SitesParts.{SitesParts}
+use Rattle.sites.specs.Formats.{list_of, listed}
+use Rattle.sites.proofs.Formats.{of_format, whole}
 use Rattle.image_check.specs.declared.piece.Role.TheVariants as role
 use Rattle.image_check.specs.declared.piece.Piece.{Piece}
 use Rattle.image_check.specs.Image.{Image}
@@ -130,7 +133,7 @@ sites_there sites ps e =
 abbrev some_sites : List Site → Option (List Site)
 some_sites ss = Some ss
 
-were_found : (sites : List Site) (found : List Site) (lacking : Option ℕ) → unless_lacking found lacking ≡ some_sites sites → (lacking ≡ None) × (found ≡ sites)
+pub were_found : (sites : List Site) (found : List Site) (lacking : Option ℕ) → unless_lacking found lacking ≡ some_sites sites → (lacking ≡ None) × (found ≡ sites)
 were_found sites found None e = (refl, cc)
 were_found sites found (Some at) e = absurd cc
 
@@ -270,7 +273,7 @@ right_end text ps e = ap (λ b. bad (not b) (last_at ps)) e
 equal_so : (m n : ℕ) → m ≡ n → (m == n) ≡ true
 equal_so m n e = grind (arith, nat_tests)
 
-no_size : (n : ℕ) → 1 ≤ n → n ≤ 4194304 → (n == 0 || nat_lt 4194304 n) ≡ false
+no_size : (n : ℕ) → 1 ≤ n → n ≤ TEXT_LIMIT → (n == 0 || nat_lt TEXT_LIMIT n) ≡ false
 no_size n some few = grind (arith, nat_tests)
 
 not_above : (n limit : ℕ) → n ≤ limit → nat_lt limit n ≡ false
@@ -305,11 +308,11 @@ placed_right parts sites text init w =
       entry_right : (p : ImageParts) (ss : List Site) → IsWithin (image_with p ss) → entry_place p ≡ None
       entry_right p ss h = ap (λ b. bad b 0) (no_entry p.entry (length p.text) h.entry.0 h.entry.1)
 
-passes : (parts : ImageParts) (sites : List Site) (ps : List Piece) → placed parts ≡ Ok tt → pieces_in parts.text ≡ Ok ps → text_end parts.text ps ≡ None → sites_in parts.sites ≡ Ok sites → site_wrong sites ps ≡ None → wrong_target (is_entrance ps sites) ps ≡ None → entry_start parts ps sites ≡ None → image_from parts ≡ Ok (image_with parts sites)
+passes : (parts : ImageParts) (sites : List Site) (ps : List Piece) → placed parts ≡ Ok tt → pieces_in parts.text ≡ Ok ps → text_end parts.text ps ≡ None → listed parts.sites ≡ Ok sites → site_wrong sites ps ≡ None → wrong_target (is_entrance ps sites) ps ≡ None → entry_start parts ps sites ≡ None → image_from parts ≡ Ok (image_with parts sites)
 unfolding image_from annotated entered
 passes parts sites ps place swept end read same targets entry = rw (place, swept, end, read, same, targets, entry) refl
 
-pub from_accepted : (parts : ImageParts) (sites : List Site) → AreBytes parts.text → parts.text_at ≡ 0x10000000 → parts.init_at ≡ 0x11000000 → sites_in parts.sites ≡ Ok sites → IsAccepted (image_with parts sites) → image_from parts ≡ Ok (image_with parts sites)
+pub from_accepted : (parts : ImageParts) (sites : List Site) → AreBytes parts.text → parts.text_at ≡ 0x10000000 → parts.init_at ≡ 0x11000000 → listed parts.sites ≡ Ok sites → IsAccepted (image_with parts sites) → image_from parts ≡ Ok (image_with parts sites)
 from_accepted parts sites fit text init read h =
     let swept = (sweep_exact parts.text fit h.swept).1 h.sweep in
     passes parts sites (map piece_of h.swept)
@@ -330,6 +333,9 @@ form_read (Err f) parts e = absurd cc
 placed_text : (parts : ImageParts) → IsPlaced parts → (parts.text_at ≡ 0x10000000) × (parts.init_at ≡ 0x11000000)
 placed_text parts p = (equal parts.text_at 0x10000000 (not_false _ (not_bad _ 0 p.text_at)), equal parts.init_at 0x11000000 (not_false _ (not_bad _ 0 p.init_at)))
 
+abbrev ok_sites : List Site → ℕ → Result SitesParts ℕ
+ok_sites sites format = Ok (of_format sites format)
+
 accepts_from : (file : List ℕ) (parts : ImageParts) (image : Image) → AreBytes parts.text → ImageAs file parts → image_from parts ≡ Ok image → Accepts file image
 accepts_from file parts image fit form e =
     let p = has_passed parts image e in
@@ -340,7 +346,7 @@ accepts_from file parts image fit form e =
       form = form;
       text_at = at.0;
       init_at = at.1;
-      annotated = subst (λ (ss : List Site). sites_in parts.sites ≡ Ok ss) sites p.read;
+      annotated = whole parts.sites image.sites (subst (λ (ss : List Site). listed parts.sites ≡ Ok ss) sites p.read) ∙ ap (ok_sites image.sites) (ap (λ (i : Image). i.format) p.image_is);
       image_is = sym p.image_is ∙ ap (image_with parts) sites;
       accepted = accepted_from parts image fit e;
     }
@@ -357,5 +363,5 @@ unfolding image_of
 accepts_image file image fit h =
     let read : image_in file ≡ Ok h.parts = as_read file h.parts h.form in
     let accepted = subst IsAccepted h.image_is h.accepted in
-    let whole = from_accepted h.parts image.sites (text_bytes file h.parts h.form fit) h.text_at h.init_at h.annotated accepted in
+    let whole = from_accepted h.parts image.sites (text_bytes file h.parts h.form fit) h.text_at h.init_at (ap list_of h.annotated) accepted in
     rw read (whole ∙ ap ok_image (sym h.image_is))

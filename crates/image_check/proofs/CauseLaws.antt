@@ -3,7 +3,7 @@ use Rattle.std.proofs.Common.{◌≡◌, ℕ, Bool, true, false, cond, List, [],
 use Rattle.std.specs.Prelude.{◌↔◌}
 use Rattle.elf_form.specs.ImageParts.{ImageParts}
 use Rattle.sites.specs.declared.site.Site.{Site}
-use Rattle.sites.specs.Reading.{sites_in}
+use Rattle.sites.specs.Formats.{listed}
 use Rattle.image_check.specs.declared.fault.CheckCause.{CheckCause}
 use Rattle.image_check.specs.declared.fault.CheckCause.TheVariants.{TextPlace, InitPlace, TextSize, InitSize, EntryPlace, RefusedCode, BadCode, TextEnd, SiteWrong, SitesForm, Target, EntryStart}
 use Rattle.image_check.specs.declared.piece.Piece.{Piece}
@@ -93,12 +93,12 @@ swept_chain parts (Ok swept) (Ok ss) = behind_ok parts (map piece_of swept) ss
 swept_chain parts (Ok swept) (Err at) = behind_form parts (map piece_of swept) at
 swept_chain parts (Err at) sites = stop_told (is_refused (drop at parts.text)) at _ parts
 
-pub image_chain : (parts : ImageParts) → told (image_from parts) ≡ chain causes parts (sweep parts.text) (sites_in parts.sites)
+pub image_chain : (parts : ImageParts) → told (image_from parts) ≡ chain causes parts (sweep parts.text) (listed parts.sites)
 unfolding image_from placed annotated entered pieces_in chain
 image_chain parts =
-    five (text_place parts) (init_place parts) (text_size parts) (init_size parts) (entry_place parts) (swept_then parts (sweep parts.text) (sites_in parts.sites))
+    five (text_place parts) (init_place parts) (text_size parts) (init_size parts) (entry_place parts) (swept_then parts (sweep parts.text) (listed parts.sites))
     ∙ ap (λ (r : Told). test TextPlace (text_place parts) >>= λ _. (test InitPlace (init_place parts) >>= λ _. (test TextSize (text_size parts) >>= λ _. (test InitSize (init_size parts) >>= λ _. (test EntryPlace (entry_place parts) >>= λ _. r)))))
-    (swept_chain parts (sweep parts.text) (sites_in parts.sites))
+    (swept_chain parts (sweep parts.text) (listed parts.sites))
 
 -- ---- the first cause
 
@@ -110,22 +110,22 @@ test_err c (Some p) k at cause e =
     let by : c ≡ cause = cc in
     inl (ap (λ n. Some n) place, sym by)
 
-chain_first : (cs : List CheckCause) (parts : ImageParts) (at : ℕ) (cause : CheckCause) → chain cs parts (sweep parts.text) (sites_in parts.sites) ≡ refusal_is (Wrong at cause) → IsFirst cs parts at cause
+chain_first : (cs : List CheckCause) (parts : ImageParts) (at : ℕ) (cause : CheckCause) → chain cs parts (sweep parts.text) (listed parts.sites) ≡ refusal_is (Wrong at cause) → IsFirst cs parts at cause
 unfolding chain
 chain_first [] parts at cause e = absurd cc
 chain_first (c ∷ cs) parts at cause e =
-    elim (test_err c (wrong c parts) (chain cs parts (sweep parts.text) (sites_in parts.sites)) at cause e) [
+    elim (test_err c (wrong c parts) (chain cs parts (sweep parts.text) (listed parts.sites)) at cause e) [
       | inl here ↦ inl here
       | inr later ↦ inr (later.0, chain_first cs parts at cause later.1)
     ]
 
-first_chain : (cs : List CheckCause) (parts : ImageParts) (at : ℕ) (cause : CheckCause) → IsFirst cs parts at cause → chain cs parts (sweep parts.text) (sites_in parts.sites) ≡ refusal_is (Wrong at cause)
+first_chain : (cs : List CheckCause) (parts : ImageParts) (at : ℕ) (cause : CheckCause) → IsFirst cs parts at cause → chain cs parts (sweep parts.text) (listed parts.sites) ≡ refusal_is (Wrong at cause)
 unfolding chain
 first_chain [] parts at cause h = absurd h
 first_chain (c ∷ cs) parts at cause (inl here) =
-    ap (λ (o : Option ℕ). test c o >>= λ _. chain cs parts (sweep parts.text) (sites_in parts.sites)) here.0 ∙ ap (λ (d : CheckCause). refusal_is (Wrong at d)) (sym here.1)
+    ap (λ (o : Option ℕ). test c o >>= λ _. chain cs parts (sweep parts.text) (listed parts.sites)) here.0 ∙ ap (λ (d : CheckCause). refusal_is (Wrong at d)) (sym here.1)
 first_chain (c ∷ cs) parts at cause (inr later) =
-    ap (λ (o : Option ℕ). test c o >>= λ _. chain cs parts (sweep parts.text) (sites_in parts.sites)) later.0 ∙ first_chain cs parts at cause later.1
+    ap (λ (o : Option ℕ). test c o >>= λ _. chain cs parts (sweep parts.text) (listed parts.sites)) later.0 ∙ first_chain cs parts at cause later.1
 
 abbrev pub not_image : Refusal → Result Image Refusal
 not_image refusal = Err refusal

@@ -4,6 +4,9 @@ pub mod Begun
 pub mod CauseLaws
 pub mod FileLimits
 pub mod Given
+pub mod Laid
+pub mod Layouts
+pub mod Lookups
 pub mod Offsets
 pub mod Passed
 pub mod Refused

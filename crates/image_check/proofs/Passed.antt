@@ -3,7 +3,7 @@ use Rattle.std.proofs.Common.{◌≡◌, ℕ, Bool, true, false, List, Option, S
 use Rattle.std.proofs.lemmas.Bool.Decides.{nat_tests}
 use Rattle.elf_form.specs.ImageParts.{ImageParts}
 use Rattle.sites.specs.declared.site.Site.{Site}
-use Rattle.sites.specs.Reading.{sites_in}
+use Rattle.sites.specs.Formats.{listed}
 use Rattle.image_check.specs.declared.fault.CheckCause.{CheckCause}
 use Rattle.image_check.specs.declared.fault.CheckCause.TheVariants.{TextPlace, InitPlace, TextSize, InitSize, EntryPlace, TextEnd, SiteWrong, Target, EntryStart}
 use Rattle.image_check.specs.declared.piece.Piece.{Piece}
@@ -40,7 +40,7 @@ pub record HasPassed (parts : ImageParts) (image : Image) : Type 0 where
   pub swept : pieces_in parts.text ≡ Ok pieces
   pub ends : text_end parts.text pieces ≡ None
   pub sites : List Site
-  pub read : sites_in parts.sites ≡ Ok sites
+  pub read : listed parts.sites ≡ Ok sites
   pub same : site_wrong sites pieces ≡ None
   pub targets : wrong_target (is_entrance pieces sites) pieces ≡ None
   pub entry : entry_start parts pieces sites ≡ None
@@ -61,14 +61,14 @@ is_placed parts x e =
       entry_in = no_place EntryPlace _ x d.2;
     }
 
-is_annotated : (parts : ImageParts) (ps : List Piece) (sites : List Site) → annotated parts ps ≡ Ok sites → (text_end parts.text ps ≡ None) × (sites_in parts.sites ≡ Ok sites) × (site_wrong sites ps ≡ None)
+is_annotated : (parts : ImageParts) (ps : List Piece) (sites : List Site) → annotated parts ps ≡ Ok sites → (text_end parts.text ps ≡ None) × (listed parts.sites ≡ Ok sites) × (site_wrong sites ps ≡ None)
 unfolding annotated
 is_annotated parts ps sites e =
     let a = bind_ok (Unit {0}) (List Site) (test TextEnd (text_end parts.text ps)) _ sites e in
-    let b = bind_ok (List Site) (List Site) (as_sites (sites_in parts.sites)) _ sites a.2 in
+    let b = bind_ok (List Site) (List Site) (as_sites (listed parts.sites)) _ sites a.2 in
     let c = bind_ok (Unit {0}) (List Site) (test SiteWrong (site_wrong b.0 ps)) _ sites b.2 in
     let same : b.0 ≡ sites = cc c.2 in
-    (no_place TextEnd _ a.0 a.1, subst (λ (ss : List Site). sites_in parts.sites ≡ Ok ss) same (sites_read _ b.0 b.1), subst (λ (ss : List Site). site_wrong ss ps ≡ None) same (no_place SiteWrong _ c.0 c.1))
+    (no_place TextEnd _ a.0 a.1, subst (λ (ss : List Site). listed parts.sites ≡ Ok ss) same (sites_read _ b.0 b.1), subst (λ (ss : List Site). site_wrong ss ps ≡ None) same (no_place SiteWrong _ c.0 c.1))
 
 is_entered : (parts : ImageParts) (ps : List Piece) (sites : List Site) (x : Unit {0}) → entered parts ps sites ≡ Ok x → (wrong_target (is_entrance ps sites) ps ≡ None) × (entry_start parts ps sites ≡ None)
 unfolding entered

@@ -15,7 +15,6 @@ use Rattle.ia32_rows.specs.declared.row.Addressing.{Addressing}
 use Rattle.ia32_rows.specs.declared.row.Addressing.TheVariants as addressing
 use Rattle.ia32_rows.specs.declared.row.Immediate.{Immediate}
 use Rattle.ia32_rows.specs.declared.row.Immediate.TheVariants as immediate
-use Rattle.ia32_rows.specs.declared.row.Form.{Form}
 use Rattle.ia32_rows.specs.declared.row.Row.{Row}
 use Rattle.ia32_rows.specs.declared.row.Parts.{Parts}
 use Rattle.ia32_rows.specs.Fields.{addressing_at, immediate_at}
@@ -41,7 +40,7 @@ use Rattle.image_check.specs.Accepts.{IsAccepted}
 
 -- ---- one byte
 
-is_single : Op → Bool
+pub is_single : Op → Bool
 is_single op.Nop = true
 is_single op.Hlt = true
 is_single op.Sti = true
@@ -95,7 +94,7 @@ immediate_none immediate.Word bytes x n e = absurd cc
 immediate_none immediate.Long bytes x n e = absurd cc
 immediate_none immediate.Far bytes x n e = absurd cc
 
-both : (a b : Bool) → (a && b) ≡ true → (a ≡ true) × (b ≡ true)
+pub both : (a b : Bool) → (a && b) ≡ true → (a ≡ true) × (b ≡ true)
 both true b e = (refl, e)
 both false b e = absurd cc
 
@@ -114,7 +113,7 @@ one_byte bytes insn s e =
     let z = ap (length {A = ℕ}) (immediate_none s.row.form.immediate laid.immediate _ a.1 laid.immediate_is) in
     omega (arith, x, y, z, ap length laid.together, length-append laid.lead (s.parts.code ∷ (laid.address ++ laid.immediate)), length-append laid.address laid.immediate)
 
-begun_one : (bytes : List ℕ) (insn : Insn) (n : ℕ) → Begins bytes insn n → is_single insn.op ≡ true → n ≡ 1
+pub begun_one : (bytes : List ℕ) (insn : Insn) (n : ℕ) → Begins bytes insn n → is_single insn.op ≡ true → n ≡ 1
 begun_one bytes insn n h e =
     let within = h.within in
     let one = one_byte (take n bytes) insn h.front e in
@@ -140,15 +139,15 @@ unfolding role_by is_single
 sti_single target op.Sti e = refl
 sti_single target _ e = absurd cc
 
-nop_piece : (s : Swept) → is_nop (piece_of s).role ≡ true → is_single s.insn.op ≡ true
+pub nop_piece : (s : Swept) → is_nop (piece_of s).role ≡ true → is_single s.insn.op ≡ true
 unfolding role_by
 nop_piece s e = nop_single (target_of s.at s.len s.insn) s.insn.op e
 
-hlt_piece : (s : Swept) → is_hlt (piece_of s).role ≡ true → is_single s.insn.op ≡ true
+pub hlt_piece : (s : Swept) → is_hlt (piece_of s).role ≡ true → is_single s.insn.op ≡ true
 unfolding role_by
 hlt_piece s e = hlt_single (target_of s.at s.len s.insn) s.insn.op e
 
-sti_piece : (s : Swept) → is_sti (piece_of s).role ≡ true → is_single s.insn.op ≡ true
+pub sti_piece : (s : Swept) → is_sti (piece_of s).role ≡ true → is_single s.insn.op ≡ true
 unfolding role_by
 sti_piece s e = sti_single (target_of s.at s.len s.insn) s.insn.op e
 
@@ -184,7 +183,7 @@ Fit to here.Nothing = Unit {0}
 Fit to here.Lacks = Unit {0}
 Fit to (here.Makes s) = (5 ≤ s.total) × (s.at + s.total ≤ to)
 
-true_or_false : (b : Bool) → (b ≡ true) ⊎ (b ≡ false)
+pub true_or_false : (b : Bool) → (b ≡ true) ⊎ (b ≡ false)
 true_or_false true = inl refl
 true_or_false false = inr refl
 

@@ -5,7 +5,8 @@ use Rattle.ia32_rows.specs.Spells.{AreBytes}
 use Rattle.elf_form.specs.ImageParts.{ImageParts}
 use Rattle.elf_form.specs.Accepted.{ImageAs}
 use Rattle.sites.specs.declared.site.Site.{Site}
-use Rattle.sites.specs.Reading.{sites_in}
+use Rattle.sites.specs.declared.limits.TheConstants.{TEXT_LIMIT}
+use Rattle.sites.specs.Formats.{sites_in}
 use Rattle.image_check.specs.Image.{Image}
 use Rattle.image_check.specs.Sweep.{Swept, Sweep, starts_of}
 use Rattle.image_check.specs.Pieces.{is_branch, target_of, piece_of}
@@ -15,7 +16,7 @@ use Rattle.image_check.specs.Checking.{image_with, image_from}
 
 -- the limits that an accepted image keeps
 pub record IsWithin (image : Image) : Type 0 where
-  pub text : (1 ≤ length image.text) × (length image.text ≤ 4194304)
+  pub text : (1 ≤ length image.text) × (length image.text ≤ TEXT_LIMIT)
   pub room : length image.init + image.bss ≤ 33554432
   pub entry : (0x1000_0000 ≤ image.entry) × (image.entry < 0x1000_0000 + length image.text)
 
@@ -36,13 +37,13 @@ pub record IsAccepted (image : Image) : Type 0 where
   pub entry : IsEntrance swept image.sites (image.entry - 0x10000000)
 
 -- The file has the form of an image, its parts are at their places, its annotations are those of the sites of its
--- text, and the image is accepted.
+-- text in one of the two formats, and the image is accepted.
 pub record Accepts (file : List ℕ) (image : Image) : Type 0 where
   pub parts : ImageParts
   pub form : ImageAs file parts
   pub text_at : parts.text_at ≡ 0x10000000
   pub init_at : parts.init_at ≡ 0x11000000
-  pub annotated : sites_in parts.sites ≡ Ok image.sites
+  pub annotated : sites_in parts.sites ≡ Ok (record { list = image.sites; format = image.format })
   pub image_is : image ≡ image_with parts image.sites
   pub accepted : IsAccepted image
 

@@ -2,7 +2,7 @@
 use Rattle.std.specs.Prelude.{◌≡◌, ◌⊎◌, ℕ, List, [], ◌∷◌, drop, map, Option, Some, None, Result, Ok, Err, if◌then◌else◌}
 use Rattle.elf_form.specs.ImageParts.{ImageParts}
 use Rattle.sites.specs.declared.site.Site.{Site}
-use Rattle.sites.specs.Reading.{sites_in}
+use Rattle.sites.specs.Formats.{listed}
 use Rattle.image_check.specs.declared.fault.CheckCause.{CheckCause}
 use Rattle.image_check.specs.declared.fault.CheckCause.TheVariants.{TextPlace, InitPlace, TextSize, InitSize, EntryPlace, RefusedCode, BadCode, TextEnd, SiteWrong, SitesForm, Target, EntryStart}
 use Rattle.image_check.specs.declared.piece.Piece.{Piece}
@@ -50,7 +50,7 @@ wrong_by EntryStart parts swept sites = of_both swept sites (entry_start parts)
 
 -- where an image is wrong by a cause, if it is
 abbrev pub wrong : CheckCause → ImageParts → Option ℕ
-wrong cause parts = wrong_by cause parts (sweep parts.text) (sites_in parts.sites)
+wrong cause parts = wrong_by cause parts (sweep parts.text) (listed parts.sites)
 
 abbrev pub causes : List CheckCause
 causes = TextPlace ∷ InitPlace ∷ TextSize ∷ InitSize ∷ EntryPlace ∷ RefusedCode ∷ BadCode ∷ TextEnd ∷ SitesForm ∷ SiteWrong ∷ Target ∷ EntryStart ∷ []

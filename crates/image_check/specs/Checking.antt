@@ -4,7 +4,7 @@ use Rattle.elf_form.specs.Faults.{Fault}
 use Rattle.elf_form.specs.ImageParts.{ImageParts}
 use Rattle.elf_form.specs.Reading.{image_in}
 use Rattle.sites.specs.declared.site.Site.{Site}
-use Rattle.sites.specs.Reading.{sites_in}
+use Rattle.sites.specs.Formats.{told_format, listed}
 use Rattle.image_check.specs.declared.fault.CheckCause.TheVariants.{TextPlace, InitPlace, TextSize, InitSize, EntryPlace, TextEnd, SiteWrong, SitesForm, Target, EntryStart}
 use Rattle.image_check.specs.declared.piece.Piece.{Piece}
 use Rattle.image_check.specs.Image.{Image}
@@ -34,7 +34,7 @@ placed parts = do
 unfoldable pub annotated : ImageParts → List Piece → Result (List Site) Refusal
 annotated parts ps = do
   _ ← test TextEnd (text_end parts.text ps)
-  sites ← as_sites (sites_in parts.sites)
+  sites ← as_sites (listed parts.sites)
   _ ← test SiteWrong (site_wrong sites ps)
   Ok sites
 
@@ -45,7 +45,7 @@ entered parts ps sites = do
   test EntryStart (entry_start parts ps sites)
 
 abbrev pub image_with : ImageParts → List Site → Image
-image_with parts sites = record { text = parts.text; init = parts.init; bss = parts.bss; entry = parts.entry; sites = sites }
+image_with parts sites = record { text = parts.text; init = parts.init; bss = parts.bss; entry = parts.entry; sites = sites; format = told_format parts.sites }
 
 -- the image of parts
 unfoldable pub image_from : ImageParts → Result Image Refusal

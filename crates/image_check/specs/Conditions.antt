@@ -1,6 +1,7 @@
 -- The conditions on an image, each with the first place at which it is broken.
 use Rattle.std.specs.Prelude.{ℕ, ◌+◌, ◌-◌, Bool, not, ◌&&◌, ◌||◌, List, length, slice_get, slice_index, Option, Some, None, nat_lt, min, ◌==◌}
 use Rattle.elf_form.specs.ImageParts.{ImageParts}
+use Rattle.sites.specs.declared.limits.TheConstants.{TEXT_LIMIT}
 use Rattle.sites.specs.declared.site.Site.{Site}
 use Rattle.image_check.specs.declared.piece.Piece.{Piece}
 use Rattle.image_check.specs.Refusals.{bad}
@@ -14,7 +15,7 @@ abbrev pub init_place : ImageParts → Option ℕ
 init_place parts = bad (not (parts.init_at == 0x11000000)) 0
 
 abbrev pub text_size : ImageParts → Option ℕ
-text_size parts = bad (length parts.text == 0 || nat_lt 4194304 (length parts.text)) 0
+text_size parts = bad (length parts.text == 0 || nat_lt TEXT_LIMIT (length parts.text)) 0
 
 abbrev pub init_size : ImageParts → Option ℕ
 init_size parts = bad (nat_lt 33554432 (length parts.init + parts.bss)) 0

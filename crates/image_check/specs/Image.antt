@@ -1,4 +1,5 @@
--- What an accepted image has: its parts, the linear address of its first instruction, and the sites of its text.
+-- What an accepted image has: its parts, the linear address of its first instruction, the sites of its text,
+-- and the format of their annotations.
 use Rattle.std.specs.Prelude.{ℕ, List}
 use Rattle.sites.specs.declared.site.Site.{Site}
 
@@ -8,3 +9,4 @@ pub record Image : Type 0 where
   pub bss : ℕ
   pub entry : ℕ
   pub sites : List Site
+  pub format : ℕ

@@ -8,3 +8,5 @@ pub mod Conditions
 pub mod Checking
 pub mod Accepts
 pub mod Causes
+pub mod Places
+pub mod Layout

@@ -3,6 +3,8 @@
 ghost use Rattle.std.specs.Prelude.{◌≡◌, ◌↔◌, Ok, IsTrue, length};
 ghost use Rattle.std.specs.List.{Contains};
 
+use crate::place::{Place, site_at};
+use crate::placing::TEXT_AT;
 use elf_form::Image;
 use sites::Sites;
 use std::marker::Model;
@@ -25,21 +27,25 @@ impl Model for Checked {
 
     ghost Value = { Image };
 
-    ghost view = { λ c. record { text = c.text.items; init = c.init.items; bss = c.bss; entry = c.entry; sites = c.sites.list } };
+    ghost view = { λ c. record { text = c.text.items; init = c.init.items; bss = c.bss; entry = c.entry; sites = c.sites.list; format = c.sites.format } };
 
-    ghost invariant = { λ c. IsChecked (record { text = c.text.items; init = c.init.items; bss = c.bss; entry = c.entry; sites = c.sites.list }) c.starts.items };
+    ghost invariant = { λ c. IsChecked (record { text = c.text.items; init = c.init.items; bss = c.bss; entry = c.entry; sites = c.sites.list; format = c.sites.format }) c.starts.items };
 }
 
 impl Checked {
     ghost use Rattle.sites.specs.Patched.{AreInside};
+    ghost use Rattle.sites.specs.Formats.{told_format};
     ghost use Rattle.image_check.specs.Sweep.{starts_of};
     ghost use Rattle.image_check.specs.Checking.{image_from, image_with};
     ghost use Rattle.image_check.specs.Accepts.{IsWithin, IsAccepted, AreStarts};
+    ghost use Rattle.image_check.specs.Layout.{AreApart};
+    ghost use Rattle.image_check.specs.Places.{place_of, place_at};
     ghost use Rattle.ia32_rows.specs.Spells.{AreBytes};
 
     /// An image that has passed the tests.
     pub(crate) fn of(image: Image, sites: Sites, starts: Vec<bool>) -> Checked
         requires passed { image_from image ≡ Ok (image_with image sites.list) }
+        requires format { sites.format ≡ told_format image.sites }
         requires starts { AreStarts image.text starts.items }
         requires bytes { AreBytes image.text }
         ensures { result ≡ image_with image sites.list }
@@ -85,11 +91,14 @@ impl Checked {
         self.entry
     }
 
-    /// The sites of the text, in the order of their offsets.
+    /// The sites of the text, in the order of their offsets, and the format of their annotations.
     pub fn sites(&self) -> &Sites
         ensures sites { result.now.list ≡ self.now.sites }
+        ensures format { result.now.format ≡ self.now.format }
         // Each has five bytes at least, and lies in the text.
         ensures inside { AreInside (length self.now.text) 0 self.now.sites }
+        // They lie one behind the other.
+        ensures apart { AreApart 0 self.now.sites (length self.now.text) }
     {
         &self.sites
     }
@@ -100,5 +109,28 @@ impl Checked {
     {
         let at = at as usize;
         at < self.starts.len() && self.starts[at]
+    }
+
+    /// What stands at an offset of the text. The sites are not gone through: the search halves them.
+    pub fn place(&self, at: u32) -> Place
+        ensures { result ≡ place_of self.now at }
+    {
+        if !self.is_start(at) {
+            return Place::NotAStart;
+        }
+        match site_at(self.sites(), at) {
+            None => Place::Outside,
+            Some(site) => Place::Inside(site),
+        }
+    }
+
+    /// What stands at a linear address.
+    pub fn place_at(&self, eip: u32) -> Place
+        ensures { result ≡ place_at self.now eip }
+    {
+        if eip < TEXT_AT {
+            return Place::NotAStart;
+        }
+        self.place(eip - TEXT_AT)
     }
 }

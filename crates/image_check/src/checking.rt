@@ -7,7 +7,7 @@ ghost use Rattle.elf_form.specs.Accepted.{ImageAs};
 ghost use Rattle.elf_form.specs.Faults.{Fault};
 ghost use Rattle.elf_form.specs.ImageParts.{ImageParts};
 ghost use Rattle.elf_form.specs.Reading.{image_in};
-ghost use Rattle.sites.specs.Reading.{sites_in};
+ghost use Rattle.sites.specs.Formats.{told_format, listed};
 ghost use Rattle.image_check.specs.Refusals.{Gives, Form, Wrong};
 ghost use Rattle.image_check.specs.Pieces.{pieces_in, is_start};
 ghost use Rattle.image_check.specs.Targets.{is_entrance, wrong_target};
@@ -54,7 +54,8 @@ fn text_end(text: &[u8], pieces: &[Piece]) -> Option<u32>
 
 fn annotations(alloc: Global, bytes: &[u8]) -> Result<Sites, CheckFault>
     requires { length bytes.now < 2 ^ 32 }
-    ensures { Gives (λ sites. sites.list) result (as_sites (sites_in bytes.now)) }
+    ensures exact { Gives (λ sites. sites.list) result (as_sites (listed bytes.now)) }
+    ensures told { IfOk result (λ sites. sites.format ≡ told_format bytes.now) }
 {
     match read_sites(alloc, bytes) {
         Ok(sites) => Ok(sites),
@@ -98,7 +99,8 @@ fn entry_start(image: &Image, entrances: &[bool]) -> Option<u32>
 #[tactic(auto, unfolding(crate::specs::Checking::annotated))]
 fn annotated(alloc: Global, image: &Image, pieces: &[Piece]) -> Result<Sites, CheckFault>
     requires { length image.now.sites < 2 ^ 32 }
-    ensures { Gives (λ sites. sites.list) result (annotated image.now pieces.now) }
+    ensures exact { Gives (λ sites. sites.list) result (annotated image.now pieces.now) }
+    ensures told { IfOk result (λ sites. sites.format ≡ told_format image.now.sites) }
 {
     test(CheckCause::TextEnd, text_end(&image.text, pieces))?;
     let sites = annotations(alloc, &image.sites)?;
@@ -123,6 +125,7 @@ fn entered(alloc: Global, image: &Image, swept: &Swept, sites: &Sites) -> Result
 fn tested(alloc: Global, image: &Image) -> Result<(Sites, Vec<bool>), CheckFault>
     requires { length image.now.sites < 2 ^ 32 }
     ensures exact { Gives (λ found. image_with image.now found.0.list) result (image_from image.now) }
+    ensures told { IfOk result (λ found. found.0.format ≡ told_format image.now.sites) }
     ensures starts { IfOk result (λ found. AreStarts image.now.text found.1.items) }
 {
     placed(image)?;

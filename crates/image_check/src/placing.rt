@@ -7,13 +7,12 @@ ghost use Rattle.image_check.specs.Checking.{placed};
 
 use crate::fault::{CheckCause, CheckFault};
 use elf_form::Image;
+use sites::TEXT_LIMIT;
 
 /// The linear address of the text.
 pub const TEXT_AT: u32 = 0x1000_0000;
 /// The linear address of the data.
 const INIT_AT: u32 = 0x1100_0000;
-/// The most bytes of text.
-const TEXT_LIMIT: usize = 4_194_304;
 /// The most bytes of data, the zeroed ones among them.
 const INIT_LIMIT: u64 = 33_554_432;
 
@@ -73,7 +72,7 @@ fn entry_place(image: &Image) -> Option<u32>
 #[tactic(auto, unfolding(crate::specs::Checking::placed))]
 pub fn placed(image: &Image) -> Result<(), CheckFault>
     ensures exact { Gives (λ _. tt) result (placed image.now) }
-    ensures text { OnOk result ((1 ≤ length image.now.text) × (length image.now.text ≤ 4194304)) }
+    ensures text { OnOk result ((1 ≤ length image.now.text) × (length image.now.text ≤ TEXT_LIMIT)) }
     ensures init { OnOk result (length image.now.init + image.now.bss ≤ 33554432) }
     ensures entry { OnOk result ((0x1000_0000 ≤ image.now.entry) × (image.now.entry < 0x1000_0000 + length image.now.text)) }
 {

@@ -1,6 +1,7 @@
 //! The sweep of a text.
 
 ghost use Rattle.std.specs.Prelude.{◌≡◌, ℕ, ◌+◌, ◌<◌, ◌≤◌, ◌≢◌, length, drop, slice_index_or, false, IfOk, IsTrue, IsNone, is_some};
+ghost use Rattle.sites.specs.declared.limits.TheConstants.{TEXT_LIMIT};
 ghost use Rattle.image_check.specs.Refusals.{Gives};
 ghost use Rattle.image_check.specs.Sweep.{met};
 ghost use Rattle.image_check.specs.Pieces.{is_refused, stop_cause, piece_as, pieces_in, is_start};
@@ -37,7 +38,7 @@ fn stop_cause(left: &[u8]) -> CheckCause
 /// The instruction at an offset.
 fn piece_at(text: &[u8], at: usize) -> Result<Piece, CheckFault>
     requires inside { at < length text.now }
-    requires limit { length text.now ≤ 4194304 }
+    requires limit { length text.now ≤ TEXT_LIMIT }
     ensures exact { Gives (λ p. p) result (piece_as text.now (met at (decoded (drop at text.now)))) }
     ensures room { IfOk result (λ p. (1 ≤ p.len) × (at + p.len ≤ length text.now)) }
     ensures place { IfOk result (λ p. p.at ≡ at) }
@@ -62,7 +63,7 @@ fn piece_at(text: &[u8], at: usize) -> Result<Piece, CheckFault>
 
 /// The instructions of a text, one directly behind the other.
 pub fn sweep(alloc: Global, text: &[u8]) -> Result<Swept, CheckFault>
-    requires { length text.now ≤ 4194304 }
+    requires { length text.now ≤ TEXT_LIMIT }
     ensures pieces { Gives (λ swept. swept.pieces.items) result (pieces_in text.now) }
     ensures starts { IfOk result (λ swept. (i : ℕ) → slice_index_or swept.starts.items i false ≡ is_start swept.pieces.items i) }
     ensures len { IfOk result (λ swept. length swept.starts.items ≡ length text.now) }

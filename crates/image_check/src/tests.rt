@@ -1,4 +1,6 @@
-use crate::{CheckFault, Checked, check};
+use crate::{CheckFault, Checked, Place, check};
+use ia32_types::SiteKind;
+use sites::Site;
 use std::alloc::{AllocError, Global};
 use std::test::Fail;
 
@@ -125,6 +127,42 @@ fn an_image_is_accepted(rt: HostRuntime) -> Result<(), Fail> {
     ] {
         assert_eq!(rt; image.is_start(at), wanted, "at {at}");
     }
+    Ok(())
+}
+
+#[test]
+fn an_offset_is_no_start_or_outside_sites_or_in_one(rt: HostRuntime) -> Result<(), Fail> {
+    let file = file(rt.alloc(), image(&HELLO, &HELLO_SITES))?;
+    let image: Checked = check(rt.alloc(), &file)?;
+    let out = Place::Inside(Site {
+        at: 7,
+        kind: SiteKind::PortOut,
+        len: 1,
+        total: 5,
+    });
+    let hlt = Place::Inside(Site {
+        at: 12,
+        kind: SiteKind::Hlt,
+        len: 1,
+        total: 5,
+    });
+    for (at, wanted) in [
+        (0, Place::Outside),
+        (1, Place::NotAStart),
+        (5, Place::Outside),
+        (6, Place::NotAStart),
+        (7, out),
+        (11, out),
+        (12, hlt),
+        (16, hlt),
+        (17, Place::Outside),
+        (18, Place::NotAStart),
+        (19, Place::NotAStart),
+    ] {
+        assert_eq!(rt; image.place(at), wanted, "at {at}");
+    }
+    assert_eq!(rt; image.place_at(0x1000_0007), out);
+    assert_eq!(rt; image.place_at(7), Place::NotAStart);
     Ok(())
 }
 

@@ -1,25 +1,23 @@
 -- The instruction at EIP: how it is fetched, and what it does to the processor and asks of the board.
-use Rattle.std.specs.Prelude.{ℕ, ◌+◌, ◌-◌, ◌*◌, ◌/◌, ◌%◌, ◌^◌, min, Bool, true, false, List, ◌++◌, ◌==◌, ◌&&◌, not, nat_le, Option, Some, None, Result, Ok, Err, is_none, slice_index, if◌then◌else◌}
+use Rattle.std.specs.Prelude.{ℕ, ◌+◌, ◌-◌, ◌*◌, ◌/◌, ◌%◌, ◌^◌, Bool, false, List, ◌++◌, ◌==◌, Ok, Err, is_none, if◌then◌else◌}
 use Rattle.guest_ram.specs.Bytes.{part}
 use Rattle.ia32_types.specs.Site.{kind_of}
 use Rattle.ia32_types.specs.declared.stop.Stop.TheVariants as stops
 use Rattle.ia32_types.specs.declared.insn.Insn.{Insn}
-use Rattle.ia32_types.specs.declared.insn.Operand.{Operand}
-use Rattle.ia32_types.specs.declared.insn.Operand.TheVariants as operand
 use Rattle.ia32_types.specs.declared.insn.Op.{Op}
 use Rattle.ia32_types.specs.declared.insn.Op.TheVariants as op
-use Rattle.ia32_types.specs.declared.size.Size.{Size}
-use Rattle.ia32_types.specs.declared.size.Size.TheVariants.{Byte, Word, Long}
+use Rattle.ia32_types.specs.declared.size.Size.TheVariants.{Byte, Long}
 use Rattle.ia32_decode.specs.declared.answer.Decoded.{Decoded}
 use Rattle.ia32_decode.specs.declared.answer.Decoded.TheVariants as begins
 use Rattle.ia32_decode.specs.Decoding.{decoded}
-use Rattle.bare_exec.specs.Plain as plainly
+use Rattle.ia32_decode.specs.Front.{longest, front_len}
+use Rattle.step_exec.specs.Plain as plainly
 use Rattle.descriptors.specs.declared.cpu.Cpu.{Cpu}
 use Rattle.paging.specs.declared.entry.Touch.{Touch}
 use Rattle.paging.specs.declared.entry.Touch.TheVariants.{Ready, Fault, Stop}
 use Rattle.paging.specs.Space.{Space, place}
-use Rattle.paging.specs.Uses.{fetches}
-use Rattle.paging.specs.Work.{Outcome, Work, ◌>>=◌, gives, unless, refuses}
+use Rattle.paging.specs.Uses.{fetches, with_front, with_back}
+use Rattle.paging.specs.Work.{Outcome, Work, ◌>>=◌, gives, refuses}
 use Rattle.sys_exec.specs.declared.effect.Done.{Done}
 use Rattle.sys_exec.specs.declared.effect.SysEffect.TheVariants as effects
 use Rattle.sys_exec.specs.Sys.{sys_work}
@@ -37,22 +35,39 @@ taken at len (Stop stop) s = Err (refusal.Stop stop, s)
 unfoldable pub fetching : Bool → ℕ → ℕ → Work Refusal (List ℕ)
 fetching user at len s = taken at len (fetches s at len user).0 (fetches s at len user).1
 
--- no instruction is longer
-abbrev pub longest : ℕ
-longest = 11
+-- The bytes at an address, as those of this step's instruction: the first of them in one page, and in its second
+-- page the others. No walk that comes later in the step may mark them.
+unfoldable pub owning_front : ℕ → ℕ → Work Refusal (Unit {0})
+owning_front at len s = Ok (tt, record s { mode = with_front s.mode (place s at) len })
 
-abbrev pub front_len : ℕ → ℕ
-front_len eip = min longest (4096 - eip % 4096)
+unfoldable pub owning_back : ℕ → ℕ → Work Refusal (Unit {0})
+owning_back at len s = Ok (tt, record s { mode = with_back s.mode (place s at) len })
 
--- with bytes of the next page behind those of the first
+-- where the next page begins
+abbrev pub next_page : ℕ → ℕ
+next_page eip = eip / 4096 * 4096 + 4096
+
+-- an instruction that was read in two pages owns its bytes
+abbrev pub owned : ℕ → Decoded → Work Refusal Decoded
+owned eip (begins.Insn insn len) = do
+  _ ← owning_back (next_page eip) (len - front_len eip)
+  gives (begins.Insn insn len)
+owned eip begins.Outside = gives begins.Outside
+owned eip begins.Short = gives begins.Short
+
+-- With bytes of the next page behind those of the first. While it is translated, those of the first are the
+-- instruction's own.
 unfoldable pub fetched_on : Bool → ℕ → List ℕ → Work Refusal Decoded
 fetched_on user eip front = do
-  more ← fetching user (eip / 4096 * 4096 + 4096) longest
-  gives (decoded (front ++ more))
+  _ ← owning_front eip (front_len eip)
+  more ← fetching user (next_page eip) longest
+  owned eip (decoded (front ++ more))
 
 -- The second page is reached exactly where the first page's bytes are a proper prefix of a spelling.
 abbrev pub fetched_by : Bool → ℕ → List ℕ → Decoded → Work Refusal Decoded
-fetched_by user eip front (begins.Insn insn len) = gives (begins.Insn insn len)
+fetched_by user eip front (begins.Insn insn len) = do
+  _ ← owning_front eip len
+  gives (begins.Insn insn len)
 fetched_by user eip front begins.Outside = gives begins.Outside
 fetched_by user eip front begins.Short = if eip / 4096 == 1048575 then refuses (refusal.Stop stops.WrapAccess) else fetched_on user eip front
 

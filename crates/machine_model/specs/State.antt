@@ -7,13 +7,13 @@ use Rattle.descriptors.specs.declared.cpu.Cpu.{Cpu}
 use Rattle.paging.specs.declared.entry.Entry.{Entry}
 use Rattle.paging.specs.declared.entry.Walk.TheVariants.{Found}
 use Rattle.paging.specs.Fresh.{fresh, has}
-use Rattle.paging.specs.Space.{Mode, Space}
+use Rattle.paging.specs.Space.{Mode, Bare, Wedge, Space}
 use Rattle.guest_ram.specs.Bytes.{word32}
 use Rattle.board.specs.declared.devices.Board.{Board}
 use Rattle.board.specs.Scripts.{Events}
 use Rattle.board.specs.Boards.{at_reset}
 use Rattle.image_check.specs.Image.{Image}
-use Rattle.image_load.specs.Boot.{boot_ram, boot_cpu}
+use Rattle.image_load.specs.Boot.{text_pages, boot_ram, boot_cpu}
 
 -- what stays the same over a run
 pub record Setting : Type 0 where
@@ -21,6 +21,18 @@ pub record Setting : Type 0 where
   pub image : Image
   pub script : Events
   pub frames : ℕ
+
+-- the same on the bare machine
+abbrev pub on_bare : Setting → Setting
+on_bare m = record m { mode = Bare }
+
+-- A monitor's rules over an image: the loader gave its text the frames from 0x100 on, and no byte is an instruction's
+-- own yet.
+abbrev pub wedge_mode : Image → Mode
+wedge_mode image = Wedge 0x100 (text_pages image) (record { front = 0; front_len = 0; back = 0; back_len = 0 })
+
+abbrev pub wedge : Image → Events → ℕ → Setting
+wedge image script frames = record { mode = wedge_mode image; image = image; script = script; frames = frames }
 
 -- the processor, the bytes of its memory, its cached translations by page, the board, and how many steps were done
 pub record State : Type 0 where
@@ -46,6 +58,8 @@ space_at_start mode frames cpu ram set =
       mode = mode;
       pages = 0;
       went = [];
+      tables = [];
+      wrote = [];
       ready = record { start = 0; len = 0; write = false };
       earlier = record { start = 0; len = 0; set = set };
     }

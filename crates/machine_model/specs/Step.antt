@@ -35,19 +35,24 @@ use Rattle.run_trace.specs.declared.items.What.{What}
 use Rattle.run_trace.specs.declared.items.What.TheVariants.{In8, In32, Out8, Out32, Sent, Irq}
 use Rattle.run_trace.specs.declared.items.Item.{Item}
 use Rattle.machine_model.specs.State.{Setting, State, space_at_start}
+use Rattle.machine_model.specs.Rules.{stands_well, may_leave}
 use Rattle.machine_model.specs.Instruction.{fetched, instructed, passed, with_accumulator}
 
--- an instruction that completed, with the EIP at which it began
+-- an instruction that completed, with the EIP at which it began, and whether it began at level 3
 pub record Completed : Type 0 where
   pub insn : Insn
   pub eip : ℕ
+  pub user : Bool
 
 -- What a step reports: what was seen; the instruction that completed, which is none where an event was delivered, the
--- processor was halted or the instruction raised; and the pages that its accesses went through, in their order.
+-- processor was halted or the instruction raised; the pages that its accesses went through; the frames that its walks
+-- read as a directory or table; and the frames of what it wrote, the flags of walks apart. All in their order.
 pub record Report : Type 0 where
   pub items : List Item
   pub completed : Option Completed
   pub pages : List ℕ
+  pub tables : List ℕ
+  pub wrote : List ℕ
 
 -- what a step comes to: a report and the state after it, or a stop
 pub data Result : Type 0 where
@@ -62,7 +67,7 @@ items_at step (what ∷ whats) = record { step = step; what = what } ∷ items_a
 -- the count rises, and the board advances
 abbrev pub went : List What → Option Completed → State → Cpu → Board → Space → Result
 went whats completed b cpu board s =
-    Went (record { items = items_at b.step whats; completed = completed; pages = s.went })
+    Went (record { items = items_at b.step whats; completed = completed; pages = s.went; tables = s.tables; wrote = s.wrote })
     (record { cpu = cpu; ram = s.ram; set = s.set; board = board_step board; step = b.step + 1 })
 
 -- the item of a read of a port
@@ -95,91 +100,107 @@ abbrev pub stop_of : NotDelivered → Stop
 stop_of not_delivered.Privilege = stops.DeliveryFailed
 stop_of (not_delivered.Stop stop) = stop
 
+-- a handler is entered, which must be where code may begin
+abbrev pub entered : Setting → List What → Option Completed → State → Cpu → Board → Space → Result
+entered m whats completed b cpu board s = if stands_well m cpu then went whats completed b cpu board s else Stands stops.NotAStart
+
 -- The processor enters a handler, or the delivery stops. The board is the one that the delivery leaves.
-abbrev pub after_delivery : List What → State → Board → Outcome NotDelivered Cpu → Result
-after_delivery whats b board (Ok done) = went whats None b done.0 board done.1
-after_delivery whats b board (Err refused) = Stands (stop_of refused.0)
+abbrev pub after_delivery : Setting → List What → State → Board → Outcome NotDelivered Cpu → Result
+after_delivery m whats b board (Ok done) = entered m whats None b done.0 board done.1
+after_delivery m whats b board (Err refused) = Stands (stop_of refused.0)
 
 -- a raised vector is delivered from this processor, whose EIP is that of the instruction
-abbrev pub raised : State → Cpu → ℕ → ℕ → Space → Result
-raised b cpu vector code s = after_delivery [] b b.board (delivered cpu vector Raised (code_of vector code) s)
+abbrev pub raised : Setting → State → Cpu → ℕ → ℕ → Space → Result
+raised m b cpu vector code s = after_delivery m [] b b.board (delivered cpu vector Raised (code_of vector code) s)
+
+-- an instruction ends, and may lead to level 3 with a user's flags alone
+abbrev pub ended : Setting → Completed → State → Cpu → Space → Result
+ended m completed b cpu s = if may_leave m.mode b.cpu cpu then went [] (Some completed) b cpu b.board s else Stands stops.UserFlags
 
 -- what an instruction comes to: its effect, the processor and memory
-abbrev pub after_effect : State → Completed → SysEffect → Cpu → Space → Result
-after_effect b completed effects.Next cpu s = went [] (Some completed) b cpu b.board s
-after_effect b completed effects.Halted cpu s = went [] (Some completed) b cpu b.board s
-after_effect b completed (effects.DropPage page) cpu s = went [] (Some completed) b cpu b.board (record s { set = remove s.set page })
-after_effect b completed effects.DropAll cpu s = went [] (Some completed) b cpu b.board (record s { set = empty })
-after_effect b completed (effects.PortIn port wide) cpu s = after_read b completed cpu port wide s (port_read b.board port wide)
-after_effect b completed (effects.PortOut port wide value) cpu s =
+abbrev pub after_effect : Setting → State → Completed → SysEffect → Cpu → Space → Result
+after_effect m b completed effects.Next cpu s = ended m completed b cpu s
+after_effect m b completed effects.Halted cpu s = went [] (Some completed) b cpu b.board s
+after_effect m b completed (effects.DropPage page) cpu s = went [] (Some completed) b cpu b.board (record s { set = remove s.set page })
+after_effect m b completed effects.DropAll cpu s = went [] (Some completed) b cpu b.board (record s { set = empty })
+after_effect m b completed (effects.PortIn port wide) cpu s = after_read b completed cpu port wide s (port_read b.board port wide)
+after_effect m b completed (effects.PortOut port wide value) cpu s =
     after_write b completed cpu (out_item port wide value) s (port_written b.board port wide value)
-after_effect b completed (effects.Raise vector code) cpu s = raised b cpu vector code s
-after_effect b completed (effects.Stop stop) cpu s = Stands stop
+after_effect m b completed (effects.Raise vector code) cpu s = raised m b cpu vector code s
+after_effect m b completed (effects.Stop stop) cpu s = Stands stop
 
-abbrev pub effect_on : State → Completed → SysEffect × Cpu × Space → Result
-effect_on b completed told = after_effect b completed told.0 told.1 told.2
+abbrev pub effect_on : Setting → State → Completed → SysEffect × Cpu × Space → Result
+effect_on m b completed told = after_effect m b completed told.0 told.1 told.2
 
 -- an instruction that is not done raises a vector or stops; at a page fault CR2 is its address
-abbrev pub after_instruction : State → Completed → Outcome Refusal Done → Result
-after_instruction b completed outcome = effect_on b completed (told b.cpu outcome)
+abbrev pub after_instruction : Setting → State → Completed → Outcome Refusal Done → Result
+after_instruction m b completed outcome = effect_on m b completed (told b.cpu outcome)
 
 -- INT enters the handler with the EIP behind it. A gate that this level may not use raises #GP at the instruction.
-abbrev pub after_software : State → Completed → ℕ → Outcome NotDelivered Cpu → Result
-after_software b completed vector (Ok done) = went [] (Some completed) b done.0 b.board done.1
-after_software b completed vector (Err (not_delivered.Privilege, s)) = raised b b.cpu 13 (8 * vector + 2) s
-after_software b completed vector (Err (not_delivered.Stop stop, s)) = Stands stop
+abbrev pub after_software : Setting → State → Completed → ℕ → Outcome NotDelivered Cpu → Result
+after_software m b completed vector (Ok done) = entered m [] (Some completed) b done.0 b.board done.1
+after_software m b completed vector (Err (not_delivered.Privilege, s)) = raised m b b.cpu 13 (8 * vector + 2) s
+after_software m b completed vector (Err (not_delivered.Stop stop, s)) = Stands stop
 
-abbrev pub interrupts_by : State → Completed → ℕ → ℕ → Space → Result
-interrupts_by b completed len vector s = after_software b completed vector (delivered (passed len b.cpu) vector Soft None s)
+abbrev pub interrupts_by : Setting → State → Completed → ℕ → ℕ → Space → Result
+interrupts_by m b completed len vector s = after_software m b completed vector (delivered (passed len b.cpu) vector Soft None s)
+
+-- the instruction that this processor begins
+abbrev pub begun : State → Insn → Completed
+begun b insn = record { insn = insn; eip = b.cpu.regs.eip; user = b.cpu.cpl == 3 }
 
 -- INT and INT3 are deliveries, by the vector in INT's byte and by 3; every other instruction has its row
-abbrev pub by_op : Op → State → Insn → ℕ → Space → Result
-by_op op.Int b insn len s = interrupts_by b (record { insn = insn; eip = b.cpu.regs.eip }) len (insn.imm % 256) s
-by_op op.Int3 b insn len s = interrupts_by b (record { insn = insn; eip = b.cpu.regs.eip }) len 3 s
-by_op o b insn len s = after_instruction b (record { insn = insn; eip = b.cpu.regs.eip }) (instructed insn len b.cpu s)
+abbrev pub by_op : Setting → Op → State → Insn → ℕ → Space → Result
+by_op m op.Int b insn len s = interrupts_by m b (begun b insn) len (insn.imm % 256) s
+by_op m op.Int3 b insn len s = interrupts_by m b (begun b insn) len 3 s
+by_op m o b insn len s = after_instruction m b (begun b insn) (instructed insn len b.cpu s)
 
-abbrev pub by_decoded : State → Decoded → Space → Result
-by_decoded b (begins.Insn insn len) s = by_op insn.op b insn len s
-by_decoded b begins.Short s = Stands stops.Unsupported
-by_decoded b begins.Outside s = Stands stops.Unsupported
+abbrev pub by_decoded : Setting → State → Decoded → Space → Result
+by_decoded m b (begins.Insn insn len) s = by_op m insn.op b insn len s
+by_decoded m b begins.Short s = Stands stops.Unsupported
+by_decoded m b begins.Outside s = Stands stops.Unsupported
 
 -- a fetch that is denied raises a page fault
-abbrev pub after_refusal : State → Refusal → Space → Result
-after_refusal b (refusal.Fault code at) s = raised b (record b.cpu { cr2 = at }) 14 code s
-after_refusal b (refusal.Raise vector code) s = raised b b.cpu vector code s
-after_refusal b (refusal.Stop stop) s = Stands stop
+abbrev pub after_refusal : Setting → State → Refusal → Space → Result
+after_refusal m b (refusal.Fault code at) s = raised m b (record b.cpu { cr2 = at }) 14 code s
+after_refusal m b (refusal.Raise vector code) s = raised m b b.cpu vector code s
+after_refusal m b (refusal.Stop stop) s = Stands stop
 
-abbrev pub after_fetch : State → Outcome Refusal Decoded → Result
-after_fetch b (Ok read) = by_decoded b read.0 read.1
-after_fetch b (Err refused) = after_refusal b refused.0 refused.1
+abbrev pub after_fetch : Setting → State → Outcome Refusal Decoded → Result
+after_fetch m b (Ok read) = by_decoded m b read.0 read.1
+after_fetch m b (Err refused) = after_refusal m b refused.0 refused.1
 
 -- a processor that is not halted does one instruction
-abbrev pub fetches_next : State → Space → Result
-fetches_next b s = after_fetch b (fetched (b.cpu.cpl == 3) b.cpu.regs.eip s)
+abbrev pub fetches_next : Setting → State → Space → Result
+fetches_next m b s = after_fetch m b (fetched (b.cpu.cpl == 3) b.cpu.regs.eip s)
+
+-- code must stand where it may begin
+abbrev pub begins_next : Setting → State → Space → Result
+begins_next m b s = if stands_well m b.cpu then fetches_next m b s else Stands stops.NotAStart
 
 -- a halted processor does nothing, and another does one instruction
-unfoldable pub worked : State → Space → Result
-worked b s = if b.cpu.halted then went [] None b b.cpu b.board s else fetches_next b s
+unfoldable pub worked : Setting → State → Space → Result
+worked m b s = if b.cpu.halted then went [] None b b.cpu b.board s else begins_next m b s
 
 -- the interrupt that the processor takes: one is pending, IF is 1 and deliveries are not held off
 abbrev pub interrupt_of : Cpu → Board → Option ℕ
 interrupt_of cpu board = if has cpu.regs.flags.bits 512 && not cpu.held then vector board else None
 
 -- an external interrupt is acknowledged and delivered, which is the processor's whole work
-unfoldable pub interrupted : State → ℕ → Space → Result
-interrupted b v s = after_delivery (Irq v ∷ []) b (acknowledged b.board) (delivered b.cpu v External None s)
+unfoldable pub interrupted : Setting → State → ℕ → Space → Result
+interrupted m b v s = after_delivery m (Irq v ∷ []) b (acknowledged b.board) (delivered b.cpu v External None s)
 
-abbrev pub by_interrupt : Option ℕ → State → Space → Result
-by_interrupt None b s = worked b s
-by_interrupt (Some v) b s = interrupted b v s
+abbrev pub by_interrupt : Setting → Option ℕ → State → Space → Result
+by_interrupt m None b s = worked m b s
+by_interrupt m (Some v) b s = interrupted m b v s
 
 -- a hold lasts for one step
 abbrev pub unheld : State → State
 unheld b = record b { cpu = record b.cpu { held = false } }
 
 abbrev pub stepped : Setting → State → Result
-stepped s b = by_interrupt (interrupt_of b.cpu b.board) (unheld b) (space_at_start s.mode s.frames b.cpu b.ram b.set)
+stepped m b = by_interrupt m (interrupt_of b.cpu b.board) (unheld b) (space_at_start m.mode m.frames b.cpu b.ram b.set)
 
 -- one step: the set is chosen, the script's events reach the board, and the processor works
 unfoldable pub step_of : Setting → State → FinMap nat_cmp Entry → Result
-step_of s b set = stepped s (record b { board = given b.board s.script b.step; set = set })
+step_of m b set = stepped m (record b { board = given b.board m.script b.step; set = set })

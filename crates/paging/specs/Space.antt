@@ -1,5 +1,5 @@
 -- What the guest's memory stands for within one step.
-use Rattle.std.specs.Prelude.{◌≡◌, ℕ, ◌+◌, ◌*◌, ◌/◌, ◌%◌, ◌<◌, ◌≤◌, ◌^◌, List, Bool, true, Option, Some, None}
+use Rattle.std.specs.Prelude.{◌≡◌, ℕ, ◌+◌, ◌-◌, ◌*◌, ◌/◌, ◌%◌, ◌<◌, ◌≤◌, ◌^◌, ◌==◌, List, [], ◌∷◌, Bool, true, Option, Some, None, if◌then◌else◌}
 use Rattle.std.specs.FinMap.{FinMap, get}
 use Rattle.std.specs.Ordering.{nat_cmp}
 use Rattle.guest_ram.specs.Bytes as bytes
@@ -47,6 +47,10 @@ pub record Space : Type 0 where
   -- through how many pages this step went, and through which, in their order
   pub pages : ℕ
   pub went : List ℕ
+  -- the frames that this step's walks read as a directory or table, and those of the ranges that it made ready for a
+  -- write, in their order
+  pub tables : List ℕ
+  pub wrote : List ℕ
   -- what the last touch made ready
   pub ready : Span
   -- what the touch before it made ready
@@ -101,6 +105,18 @@ Readied s at len write (Stop stop) = Unit {0}
 abbrev pub place_by : Option Entry → ℕ → ℕ
 place_by None at = 0
 place_by (Some entry) at = entry.frame * 4096 + at % 4096
+
+-- the frame of a page, by its entry
+abbrev pub frame_by : Option Entry → ℕ
+frame_by None = 0
+frame_by (Some entry) = entry.frame
+
+-- the frames of a range, by the set of now
+abbrev pub frames_of : Space → ℕ → ℕ → List ℕ
+frames_of s at len =
+    frame_by (get s.set (at / 4096)) ∷ (
+    if (at + len - 1) / 4096 == at / 4096 then [] else frame_by (get s.set ((at + len - 1) / 4096)) ∷ []
+    )
 
 unfoldable pub place : Space → ℕ → ℕ
 place s at = place_by (get s.set (at / 4096)) at

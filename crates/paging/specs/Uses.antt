@@ -1,7 +1,7 @@
 -- Translation of one range: the set's entry where it allows the access, and else a fresh walk, which sets the
 -- flags and replaces the page's entry. Page by page from the lowest; the first test that holds decides.
 use Rattle.std.specs.Prelude.{ℕ, ◌+◌, ◌-◌, ◌*◌, ◌/◌, ◌^◌, List, [], ◌∷◌, ◌++◌, Bool, true, false, ◌==◌, nat_lt, nat_le, ◌&&◌, ◌||◌, not, if◌then◌else◌, Option, Some, None}
-use Rattle.std.specs.FinMap.{FinMap, get, insert, remove}
+use Rattle.std.specs.FinMap.{FinMap, get, insert, remove, retain_keys}
 use Rattle.std.specs.Ordering.{nat_cmp}
 use Rattle.guest_ram.specs.Bytes.{byte, word32}
 use Rattle.ia32_types.specs.declared.stop.Stop as reason
@@ -12,8 +12,8 @@ use Rattle.paging.specs.declared.entry.Walk.{Walk}
 use Rattle.paging.specs.declared.entry.Walk.TheVariants.{Absent, Beyond, Found}
 use Rattle.paging.specs.declared.entry.Touch.{Touch}
 use Rattle.paging.specs.declared.entry.Touch.TheVariants.{Ready, Fault, Stop}
-use Rattle.paging.specs.Space.{Mode, Bare, Wedge, Space, earlier_of}
-use Rattle.paging.specs.Fresh.{has, dir_place, fresh, grants, allows, flagged}
+use Rattle.paging.specs.Space.{Mode, Bare, Wedge, Space, earlier_of, frames_of}
+use Rattle.paging.specs.Fresh.{has, dir_place, fresh, tables_read, grants, allows, flagged}
 
 -- the frame holds text
 abbrev pub is_text : Mode → ℕ → Bool
@@ -102,9 +102,14 @@ abbrev pub with_entry : FinMap nat_cmp Entry → ℕ → Option Entry → FinMap
 with_entry set page None = remove set page
 with_entry set page (Some entry) = insert set page entry
 
+-- the pages of a directory index have no entry
+abbrev pub without_dir : FinMap nat_cmp Entry → ℕ → FinMap nat_cmp Entry
+without_dir set index = retain_keys set (λ page. not (page / 1024 == index))
+
 -- the old entry leaves, and a fresh walk decides
 abbrev pub settled : Space → ℕ → Decision → Touch × Space
-settled s page d = (d.met, record s { ram = d.ram; set = with_entry s.set page d.entry })
+settled s page d =
+    (d.met, record s { ram = d.ram; set = with_entry s.set page d.entry; tables = s.tables ++ tables_read s.ram s.frames s.cr3 page })
 
 -- an entry that lets the access pass
 abbrev pub usable : Option Entry → Access → Bool → Option Entry
@@ -134,7 +139,8 @@ abbrev pub unready : Space → Space
 unready s = record s { ready = record { start = 0; len = 0; write = false }; earlier = earlier_of s }
 
 abbrev pub made_ready : ℕ → ℕ → Bool → Space → Touch × Space
-made_ready at len write s = (Ready, record s { ready = record { start = at; len = len; write = write } })
+made_ready at len write s =
+    (Ready, record s { ready = record { start = at; len = len; write = write }; wrote = if write then s.wrote ++ frames_of s at len else s.wrote })
 
 -- the second page of a range that reaches one
 abbrev pub second_page : ℕ → ℕ → Access → Space → Touch × Space

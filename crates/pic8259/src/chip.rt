@@ -1,7 +1,7 @@
 ghost use Rattle.std.specs.Prelude.{◌≡◌, ◌<◌, IfSome};
 ghost use Rattle.pic8259.specs.Chips.{unstarted, started, ended_at, even_written, odd_written, even_read_of, with_request, raised, served, after_raised};
 ghost use Rattle.pic8259.specs.Writes.{ChipWritten};
-ghost use Rattle.pic8259.specs.Requests.{IsChip};
+ghost use Rattle.pic8259.specs.Requests.{IsChip, chip_fits};
 
 use crate::level::{highest, unblocked};
 use crate::phase::Phase;
@@ -42,6 +42,18 @@ impl Chip {
             base: 0,
             selected: Selected::Requests,
         }
+    }
+
+    /// Whether its phase goes with having been ready, and its base is that of eight vectors.
+    pub(crate) fn fits(&self) -> bool
+        ensures { result ≡ chip_fits self.now }
+    {
+        let phase_fits = match self.phase {
+            Phase::Never => !self.once_ready,
+            Phase::AwaitsBase | Phase::AwaitsCascade | Phase::AwaitsMode => true,
+            Phase::Ready => self.once_ready,
+        };
+        self.base % 8 == 0 && phase_fits
     }
 
     fn start(&mut self)

@@ -1,7 +1,7 @@
-ghost use Rattle.std.specs.Prelude.{◌≡◌, ◌<◌, ◌≢◌, true, Some, IsSome};
+ghost use Rattle.std.specs.Prelude.{◌≡◌, ◌<◌, ◌≢◌, true, Some, None, IsSome, if◌then◌else◌};
 ghost use Rattle.ia32_types.specs.declared.stop.Did.TheVariants.{Stop};
 ghost use Rattle.pic8259.specs.Chips.{unstarted};
-ghost use Rattle.pic8259.specs.Requests.{IsChip, IsPair};
+ghost use Rattle.pic8259.specs.Requests.{IsChip, IsPair, pair_fits};
 ghost use Rattle.pic8259.specs.Pairs.{joined, written, read_at, with_edge, vector, is_cascade, acknowledged};
 
 use crate::chip::Chip;
@@ -37,6 +37,26 @@ impl Pics {
                 master: Chip::new(),
                 slave: Chip::new(),
             },
+        }
+    }
+
+    /// The registers of both.
+    pub fn pair(&self) -> Pair
+        ensures state { result ≡ self.now }
+        ensures fits { pair_fits result ≡ true }
+    {
+        self.pair
+    }
+
+    /// The two with these registers. None where they cannot stand so: a base that is not that of eight vectors, a
+    /// phase that does not go with having been ready, or a request 2 that does not stand for the slave.
+    pub fn from_pair(pair: Pair) -> Option<Pics>
+        ensures { result ≡ (if pair_fits pair then Some pair else None) }
+    {
+        if pair.master.fits() && pair.slave.fits() && pair.stands_for_slave() {
+            Some(Pics { pair })
+        } else {
+            None
         }
     }
 

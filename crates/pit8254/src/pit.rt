@@ -1,4 +1,4 @@
-ghost use Rattle.std.specs.Prelude.{◌≡◌, ◌+◌, ◌*◌, ◌<◌, ◌≤◌, true, Some};
+ghost use Rattle.std.specs.Prelude.{◌≡◌, ◌+◌, ◌*◌, ◌<◌, ◌≤◌, true, Some, None, if◌then◌else◌};
 ghost use Rattle.std.specs.Option.{ForSome};
 ghost use Rattle.ia32_types.specs.Firsts.{IsFirst};
 ghost use Rattle.ia32_types.specs.declared.stop.Did.TheVariants.{Stop};
@@ -38,6 +38,26 @@ impl Pit {
                 count: None,
             },
         }
+    }
+
+    /// What it awaits, and its counter.
+    pub fn timer(&self) -> Timer
+        ensures state { result ≡ self.now }
+        ensures fits { is_count result.count ≡ true }
+    {
+        self.timer
+    }
+
+    /// The timer in this state. None where it has a period that is not 2 to 65,536, or a counter with no steps left or
+    /// with more than its period has.
+    pub fn from_timer(timer: Timer) -> Option<Pit>
+        ensures { result ≡ (if is_count timer.count then Some timer else None) }
+    {
+        let fits = match timer.count {
+            None => true,
+            Some(count) => is_count(&count),
+        };
+        if fits { Some(Pit { timer }) } else { None }
     }
 
     /// A write to the count port 0x40 or the control port 0x43. Other ports are ignored. A byte that the board doesn't
@@ -115,6 +135,23 @@ impl Pit {
             }
         }
     }
+}
+
+fn is_period(period: u32) -> bool
+    ensures { result ≡ is_period period }
+{
+    2 <= period && period <= 65536
+}
+
+/// Whether a counter can run so.
+fn is_count(count: &Count) -> bool
+    ensures { result ≡ is_count (Some count.now) }
+{
+    let next_fits = match count.next_period {
+        None => true,
+        Some(period) => is_period(period),
+    };
+    is_period(count.period) && next_fits && 0 < count.left && count.left <= 8 * count.period as u64
 }
 
 /// A counter k steps later.

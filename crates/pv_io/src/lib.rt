@@ -16,4 +16,6 @@ pub use memory_sinks::{MemSink, SureSink};
 pub use sink::Sink;
 
 #[cfg(test)]
+mod stream_tests;
+#[cfg(test)]
 mod tests;

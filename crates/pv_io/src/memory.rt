@@ -1,6 +1,6 @@
 //! Files in memory, some of whose calls fail by a list, and files of which nothing fails.
 
-ghost use Rattle.std.specs.Prelude.{◌≡◌, true, false, [], Some, None, Err, IfOk, OnOk, OnErr, IsErrOf};
+ghost use Rattle.std.specs.Prelude.{◌≡◌, true, false, [], Some, None, Err, IfOk, OnOk, OnErr, IsErrOf, if◌then◌else◌};
 ghost use Rattle.pv_io.specs.Causes.{HasCause, Rose};
 ghost use Rattle.pv_io.specs.Files.{IsMissing, Loads, Stores, ChangesAt};
 ghost use Rattle.pv_io.specs.Held.{HoldsAt};
@@ -68,6 +68,8 @@ impl Files for MemFiles {
 
         ensures refused { load_fails self.old.calls self.old.fail.items self.old.files name.now ≡ true → result ≡ Err IoAnswer.Failed }
         ensures granted { load_fails self.old.calls self.old.fail.items self.old.files name.now ≡ false → IsErrOf result IoAnswer.Failed → ⊥ }
+        ensures counted { self.new.load_faults ≡
+            (if load_fails self.old.calls self.old.fail.items self.old.files name.now then one_more self.old.load_faults else self.old.load_faults) }
         ensures calls { self.new.calls ≡ one_more self.old.calls }
         ensures list { self.new.fail.items ≡ self.old.fail.items }
     {
@@ -101,6 +103,8 @@ impl Files for MemFiles {
         ensures refused { is_listed self.old.calls self.old.fail.items ≡ true → result ≡ Err IoAnswer.Failed }
         ensures granted { is_listed self.old.calls self.old.fail.items ≡ false → IsErrOf result IoAnswer.Failed → ⊥ }
         ensures kept { IsErrOf result IoAnswer.Failed → self.new.files ≡ self.old.files }
+        ensures counted { self.new.store_faults ≡
+            (if is_listed self.old.calls self.old.fail.items then one_more self.old.store_faults else self.old.store_faults) }
         ensures calls { self.new.calls ≡ one_more self.old.calls }
         ensures list { self.new.fail.items ≡ self.old.fail.items }
     {

@@ -1,12 +1,14 @@
 -- The work of `burn`.
-use Rattle.std.specs.Prelude.{◌≡◌, ◌⊎◌, ℕ, ◌-◌, ◌/◌, ◌≤◌, ◌<◌, List, Option, Result, Ok, Err, length, codes}
+use Rattle.std.specs.Prelude.{◌≡◌, ◌⊎◌, ℕ, ◌≤◌, ◌<◌, List, Option, Result, Ok, Err, length, codes}
 use Rattle.pv_io.specs.Files.{FileMap, Holds}
 use Rattle.asm_lex.specs.declared.fault.SourceCause.{SourceCause}
 use Rattle.asm_lex.specs.declared.fault.SourceCause.TheVariants as source
+use Rattle.asm_lex.specs.declared.lexing.TheConstants.{LIMIT}
 use Rattle.asm_lex.specs.Causes.{cause_number as source_number}
 use Rattle.asm_parse.specs.declared.tree.SourceItem.{SourceItem}
 use Rattle.asm_parse.specs.Running.{SourceAs, read}
 use Rattle.elf_form.specs.ObjectParts.{ObjectParts}
+use Rattle.sites.specs.Formats.{told_count}
 use Rattle.elf_form.specs.ObjectLayout.{object_bytes}
 use Rattle.elf_form.specs.ObjectReading.{object_in}
 use Rattle.afterburner.specs.Burnt.{Fault, burnt}
@@ -16,7 +18,7 @@ use Rattle.pv_tool.specs.Outcome.{Outcome, refused, stored_as}
 
 -- a text that is no source: too long, or refused at a line as it is read
 abbrev pub IsNoSource : List ℕ → ℕ × SourceCause → Type 0
-IsNoSource text fault = ((4194304 < length text) × (fault ≡ (1, source.TooLong))) ⊎ ((length text ≤ 4194304) × (read text ≡ Err fault))
+IsNoSource text fault = ((LIMIT < length text) × (fault ≡ (1, source.TooLong))) ⊎ ((length text ≤ LIMIT) × (read text ≡ Err fault))
 
 -- the items of a text, or why it is no source
 abbrev pub SaysSource : List ℕ → Result (List SourceItem) (ℕ × SourceCause) → Type 0
@@ -35,9 +37,9 @@ source_line line cause = line_line (source_number cause) line
 abbrev pub burn_line : Fault → List ℕ
 burn_line fault = line_line (burn_number fault.cause) fault.line
 
--- text, data, zeroed bytes and sites of eight bytes each behind a head of eight
+-- text, data, zeroed bytes, and the count of sites that the annotations tell
 abbrev pub object_made_line : ObjectParts → List ℕ
-object_made_line o = sizes_line (codes "object") (length o.text) (length o.init) o.bss ((length o.sites - 8) / 8) (codes "")
+object_made_line o = sizes_line (codes "object") (length o.text) (length o.init) o.bss (told_count o.sites) (codes "")
 
 abbrev pub written : List ℕ → Result ObjectParts Fault → Outcome
 written name (Ok o) = stored_as name (object_bytes o) (object_made_line o)

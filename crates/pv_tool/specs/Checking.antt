@@ -1,5 +1,5 @@
 -- The work of `check`.
-use Rattle.std.specs.Prelude.{◌≡◌, ℕ, List, Option, Result, Ok, Err, length, codes}
+use Rattle.std.specs.Prelude.{◌≡◌, ℕ, List, Option, Result, Ok, Err, length, codes, ◌==◌, if◌then◌else◌}
 use Rattle.pv_io.specs.Files.{FileMap, Holds}
 use Rattle.image_check.specs.Image.{Image}
 use Rattle.image_check.specs.Refusals.{Refusal}
@@ -14,8 +14,11 @@ HasImage files name image = (file : List ℕ) × Holds files name file × (image
 abbrev pub HasNoImage : Option FileMap → List ℕ → Refusal → Type 0
 HasNoImage files name refusal = (file : List ℕ) × Holds files name file × (image_of file ≡ Err refusal)
 
+abbrev pub format_words : ℕ → List ℕ
+format_words format = if format == 2 then codes " format 2" else codes " format 1"
+
 abbrev pub accepted_line : Image → List ℕ
-accepted_line image = sizes_line (codes "accepted") (length image.text) (length image.init) image.bss (length image.sites) (codes " format 1")
+accepted_line image = sizes_line (codes "accepted") (length image.text) (length image.init) image.bss (length image.sites) (format_words image.format)
 
 abbrev pub checked : Result Image Refusal → Outcome
 checked (Ok image) = printed (accepted_line image)

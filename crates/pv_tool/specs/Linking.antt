@@ -1,11 +1,12 @@
 -- The work of `link`: each object is read before the next is loaded.
-use Rattle.std.specs.Prelude.{◌≡◌, ◌≤◌, ℕ, zero, suc, ◌-◌, ◌/◌, List, [], ◌∷◌, Option, Some, Result, Ok, Err, length, codes}
+use Rattle.std.specs.Prelude.{◌≡◌, ◌≤◌, ℕ, zero, suc, List, [], ◌∷◌, Option, Some, Result, Ok, Err, length, codes}
 use Rattle.pv_io.specs.Files.{FileMap, Holds}
 use Rattle.elf_form.specs.Faults.{Fault}
 use Rattle.elf_form.specs.ObjectParts.{ObjectParts}
 use Rattle.elf_form.specs.ObjectLayout.{object_bytes}
 use Rattle.elf_form.specs.ObjectReading.{object_in}
 use Rattle.elf_form.specs.ImageParts.{ImageParts}
+use Rattle.sites.specs.Formats.{told_count}
 use Rattle.elf_form.specs.ImageLayout.{image_bytes}
 use Rattle.elf_link.specs.Refusals.{Refused}
 use Rattle.elf_link.specs.Linked.{linked_image}
@@ -32,8 +33,9 @@ FirstFault files [] i fault = ⊥
 FirstFault files (name ∷ names) zero fault = HasNoObject files name fault
 FirstFault files (name ∷ names) (suc i) fault = (o : ObjectParts) × HasObject files name o × FirstFault files names i fault
 
+-- text, data, zeroed bytes, and the count of sites that the annotations tell
 abbrev pub image_made_line : ImageParts → List ℕ
-image_made_line p = sizes_line (codes "image") (length p.text) (length p.init) p.bss ((length p.sites - 8) / 8) (codes "")
+image_made_line p = sizes_line (codes "image") (length p.text) (length p.init) p.bss (told_count p.sites) (codes "")
 
 abbrev pub linked : List ℕ → Result ImageParts Refused → Outcome
 linked name (Ok p) = stored_as name (image_bytes p) (image_made_line p)

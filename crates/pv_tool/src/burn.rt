@@ -25,6 +25,7 @@ use asm_lex::SourceFault;
 use asm_parse::{Source, parse};
 use elf_form::{Object, write_object};
 use pv_io::{Files, Sink};
+use sites::count;
 use std::alloc::{AllocError, Global};
 
 /// Makes an object of a source, stores it and tells what it has.
@@ -102,7 +103,7 @@ fn file_of(alloc: Global, object: &Object) -> Result<Made, AllocError>
         text: object.text.len(),
         init: object.init.len(),
         bss: object.bss,
-        sites: object.sites.len().saturating_sub(8) / 8,
+        sites: count(&object.sites) as usize,
     };
     let line = sizes_line(alloc, "object", sizes, "")?;
     Ok(Made { file, line })

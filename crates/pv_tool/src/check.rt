@@ -8,7 +8,7 @@ ghost use Rattle.pv_tool.specs.Words.{Check};
 ghost use Rattle.pv_tool.specs.Lines.{image_line, place_line, form_number};
 ghost use Rattle.pv_tool.specs.Outside.{OnlyRead};
 ghost use Rattle.pv_tool.specs.Delivery.{HaltsAs, RefusesAs};
-ghost use Rattle.pv_tool.specs.Checking.{HasImage, HasNoImage, accepted_line};
+ghost use Rattle.pv_tool.specs.Checking.{HasImage, HasNoImage, accepted_line, format_words};
 ghost use Rattle.pv_tool.specs.Meaning.{Means};
 
 use crate::delivery::{end, load, print, refused};
@@ -80,6 +80,16 @@ fn form_refusal(alloc: Global, fault: &ElfFault) -> Halt
     }
 }
 
+fn format_words(format: u8) -> &'static str
+    ensures { result.now ≡ format_words format }
+{
+    if format == 2 {
+        " format 2"
+    } else {
+        " format 1"
+    }
+}
+
 // What is accepted of an image.
 fn line_of(alloc: Global, image: &Checked) -> Result<Line, AllocError>
     ensures { IfOk result (λ line. line ≡ accepted_line image.now) }
@@ -90,5 +100,5 @@ fn line_of(alloc: Global, image: &Checked) -> Result<Line, AllocError>
         bss: image.bss(),
         sites: image.sites().list.len(),
     };
-    sizes_line(alloc, "accepted", sizes, " format 1")
+    sizes_line(alloc, "accepted", sizes, format_words(image.sites().format))
 }

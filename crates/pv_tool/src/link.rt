@@ -23,6 +23,7 @@ use crate::status::Status;
 use elf_form::{ElfFault, Image, Object, read_object, write_image};
 use elf_link::{LinkFault, linked};
 use pv_io::{Files, Sink};
+use sites::count;
 use std::alloc::{AllocError, Global};
 
 /// Makes an image of objects, stores it and tells what it has.
@@ -116,7 +117,7 @@ fn file_of(alloc: Global, image: &Image) -> Result<Made, AllocError>
         text: image.text.len(),
         init: image.init.len(),
         bss: image.bss,
-        sites: image.sites.len().saturating_sub(8) / 8,
+        sites: count(&image.sites) as usize,
     };
     let line = sizes_line(alloc, "image", sizes, "")?;
     Ok(Made { file, line })

@@ -1,4 +1,4 @@
-use crate::{End, Ended, Item, What, put_end, put_item};
+use crate::{End, Ended, Item, NoNotes, Notes, StepItems, What, put_end, put_item, put_step};
 use ia32_types::Stop;
 use pv_io::MemSink;
 use std::test::Fail;
@@ -99,4 +99,51 @@ fn a_line_is_one_call_of_the_sink(rt: HostRuntime) -> Result<(), Fail> {
     assert_eq!(rt; out.bytes(), b"3 irq 2f\nend steps 5\n".as_slice());
     assert_eq!(rt; out.faults(), 1);
     Ok(())
+}
+
+#[test]
+fn a_step_has_a_line_for_each_item(rt: HostRuntime) -> Result<(), Fail> {
+    let mut out = MemSink::new(rt.alloc(), 64, Vec::new(rt.alloc()))?;
+    let mut items = StepItems::new();
+    assert!(rt; put_step(&items, &mut out).is_ok());
+    assert_eq!(rt; out.bytes(), b"".as_slice());
+    items.add(Item {
+        step: 2,
+        what: What::Out8(0x3f8, 0x48),
+    });
+    items.add(Item {
+        step: 2,
+        what: What::Sent(0x48),
+    });
+    assert!(rt; put_step(&items, &mut out).is_ok());
+    assert_eq!(rt; out.bytes(), b"2 out8 03f8 48\n2 tx 48\n".as_slice());
+    Ok(())
+}
+
+#[test]
+fn a_step_ends_at_a_line_that_is_not_taken(rt: HostRuntime) -> Result<(), Fail> {
+    let mut fail = Vec::new(rt.alloc());
+    fail.push(1u64)?;
+    let mut out = MemSink::new(rt.alloc(), 64, fail)?;
+    let mut items = StepItems::new();
+    items.add(Item {
+        step: 2,
+        what: What::Out8(0x3f8, 0x48),
+    });
+    items.add(Item {
+        step: 2,
+        what: What::Sent(0x48),
+    });
+    assert!(rt; put_step(&items, &mut out).is_err());
+    assert_eq!(rt; out.bytes(), b"2 out8 03f8 48\n".as_slice());
+    assert_eq!(rt; out.faults(), 1);
+    Ok(())
+}
+
+#[test]
+fn nobody_wants_notes(rt: HostRuntime) {
+    let mut notes = NoNotes;
+    notes.emptied(1);
+    notes.dropped(2, 3);
+    assert!(rt; !notes.wanted());
 }

@@ -15,7 +15,7 @@ use Rattle.frame_pool.proofs.Lengths.{hit-self, times-cons}
 use Rattle.frame_pool.proofs.Held.{Owns-none, Moves-take, Owns-moves, Holds-from_Owns, Holds-writes, Moves-trans, Moves-writes, Moves-counts, free_list-writes}
 use Rattle.shadow_views.proofs.Counts.{owned-root, owned-cons, tables-none}
 use Rattle.shadow_views.proofs.Changes.{at-none, high, zero-dir}
-use Rattle.shadow_tables.specs.Laws.{in-kernel, in-user, slot-same, Holds-along}
+use Rattle.shadow_tables.specs.Laws.Views.{in-kernel, in-user, slot-same, Holds-along, word_in, at-side, one-none, none-one}
 use Rattle.shadow_tables.proofs.Packed.{slot_of-word_of, word_of-some, word_of-marked}
 
 -- ---- the words of a page
@@ -39,10 +39,6 @@ none-by page zero zero e = (refl, refl)
 none-by page zero (suc u) e = cc
 none-by page (suc k) u e = cc
 
-abbrev pub word_in : Side → ℕ → ℕ → ℕ
-word_in Kernel k u = k
-word_in User k u = u
-
 lets-none : (write : Bool) → lets 0 write ≡ false
 lets-none true = refl
 lets-none false = refl
@@ -58,7 +54,7 @@ adequate-by page (suc k) (suc u) side write h = absurd (elim h [ inl e ↦ (omeg
 
 -- ---- the views
 
-slot-none : (s : Shadow) (m : List ℕ) (q : ℕ) → at m s.kernel q ≡ 0 → at m s.user q ≡ 0 → slot_at s m q ≡ None
+pub slot-none : (s : Shadow) (m : List ℕ) (q : ℕ) → at m s.kernel q ≡ 0 → at m s.user q ≡ 0 → slot_at s m q ≡ None
 unfolding slot_at
 slot-none s m q a b = by-none q (at m s.kernel q) (at m s.user q) a b
 
@@ -66,16 +62,12 @@ none-slot : (s : Shadow) (m : List ℕ) (q : ℕ) → slot_at s m q ≡ None →
 unfolding slot_at
 none-slot s m q e = none-by q (at m s.kernel q) (at m s.user q) e
 
-pub at-side : (s : Shadow) (m : List ℕ) (side : Side) (q : ℕ) → at m (root_of s side) q ≡ word_in side (at m s.kernel q) (at m s.user q)
-at-side s m Kernel q = refl
-at-side s m User q = refl
-
 pub adequate-is : (s : Shadow) (m : List ℕ) (side : Side) (q : ℕ) (write : Bool) → IsShadow s m → q < 2 ^ 20 → lets (at m (root_of s side) q) write ≡ is_adequate (slot_at s m q) side write
 unfolding slot_at
 adequate-is s m side q write h l =
-    ap (λ x. lets x write) (at-side s m side q) ∙ adequate-by q (at m s.kernel q) (at m s.user q) side write (h.apart q l)
+    ap (λ x. lets x write) (at-side s m side q) ∙ adequate-by q (at m s.kernel q) (at m s.user q) side write (one-none (at m s.kernel q) (at m s.user q) (h.apart q l))
 
-roots-apart : (s : Shadow) (m : List ℕ) → Holds m (held s m) → s.user ≢ s.kernel
+pub roots-apart : (s : Shadow) (m : List ℕ) → Holds m (held s m) → s.user ≢ s.kernel
 roots-apart s m h = λ e. absurd (
     let c = owned-cons m s.kernel s.kernel (s.user ∷ []) in
     let one = hit-self s.kernel in
@@ -83,7 +75,7 @@ roots-apart s m h = λ e. absurd (
     let once = h.once s.kernel in
     omega (arith, c, one, two, once))
 
-both : (s : Shadow) (P : ℕ → Type 0) → P s.kernel → P s.user → (r : ℕ) → IsIn r (roots s) → P r
+pub both : (s : Shadow) (P : ℕ → Type 0) → P s.kernel → P s.user → (r : ℕ) → IsIn r (roots s) → P r
 both s P x y r i = elim i [ inl e ↦ subst P (sym e) x | inr j ↦ elim j [ inl e ↦ subst P (sym e) y | inr k ↦ absurd k ] ]
 
 -- ---- a page that is dropped
@@ -95,14 +87,11 @@ module _ (s : Shadow) (m m1 m2 : List ℕ) (page : ℕ) (h : IsShadow s m) (l : 
   drop-other : (t q : ℕ) → IsIn t (roots s) → q < 2 ^ 20 → (q ≡ page → ⊥) → at m2 t q ≡ at m t q
   drop-other t q i k n = b.others t q i k (λ e w. n w) ∙ a.others t q i k (λ e w. n w)
 
-  drop-apart : (q : ℕ) → q < 2 ^ 20 → (at m2 s.kernel q ≡ 0) ⊎ (at m2 s.user q ≡ 0)
-  drop-apart q k =
+  drop-apart : (q : ℕ) → q < 2 ^ 20 → at m2 s.kernel q ≢ 0 → at m2 s.user q ≡ 0
+  drop-apart q k ne =
       elim (eqb_tells q page) [
-        | inl t ↦ inl (ap (at m2 s.kernel) t.1 ∙ drop-kernel)
-        | inr t ↦ elim (h.apart q k) [
-          | inl z ↦ inl (drop-other s.kernel q (in-kernel s) k t.1 ∙ z)
-          | inr z ↦ inr (drop-other s.user q (in-user s) k t.1 ∙ z)
-        ]
+        | inl t ↦ absurd (ne (ap (at m2 s.kernel) t.1 ∙ drop-kernel))
+        | inr t ↦ drop-other s.user q (in-user s) k t.1 ∙ h.apart q k (λ z. ne (drop-other s.kernel q (in-kernel s) k t.1 ∙ z))
       ]
 
   drop-zero : (t : ℕ) → IsIn t (roots s) → at m2 t page ≡ 0
@@ -133,6 +122,9 @@ module _ (s : Shadow) (m m1 m2 : List ℕ) (page : ℕ) (h : IsShadow s m) (l : 
       }
 
 -- after the first of both writes
+pub held-after : (s : Shadow) (m m1 : List ℕ) (r page v : ℕ) → IsShadow s m → Puts m m1 (roots s) r page v → Holds m1 (held s m1)
+held-after s m m1 r page v h a = Holds-along m1 (held s m) (held s m1) a.frames (Holds-writes (held s m) m m1 h.holds a.writes.size)
+
 pub drop-half : (s : Shadow) (m m1 : List ℕ) (page : ℕ) → IsShadow s m → Puts m m1 (roots s) s.kernel page 0 → Holds m1 (held s m1)
 drop-half s m m1 page h a = Holds-along m1 (held s m) (held s m1) a.frames (Holds-writes (held s m) m m1 h.holds a.writes.size)
 
@@ -140,17 +132,17 @@ drop-half s m m1 page h a = Holds-along m1 (held s m) (held s m1) a.frames (Hold
 
 -- the page itself, in the two cases
 
-fill-at : (s : Shadow) (m1 m2 m3 : List ℕ) (side : Side) (entry : Entry) (wp : Bool) → slot_at s m1 entry.page ≡ None
+fill-at : (s : Shadow) (m1 m2 m3 : List ℕ) (b : Bool) (side : Side) (entry : Entry) (wp : Bool) → slot_at s m1 entry.page ≡ None
     → ((t q : ℕ) → IsIn t (roots s) → q < 2 ^ 20 → at m2 t q ≡ at m1 t q) → Holds m2 (held s m2)
-    → Puts m2 m3 (roots s) (root_of s side) entry.page (word_of (filled [] side entry wp)) → entry.page < 2 ^ 20 → slot_at s m3 entry.page ≡ Some (filled [] side entry wp)
+    → Puts m2 m3 (roots s) (root_of s side) entry.page (word_of (filled b side entry wp)) → entry.page < 2 ^ 20 → slot_at s m3 entry.page ≡ Some (filled b side entry wp)
 unfolding slot_at
-fill-at s m1 m2 m3 Kernel entry wp n w h a l =
-    let x : Slot = filled [] Kernel entry wp in
+fill-at s m1 m2 m3 b Kernel entry wp n w h a l =
+    let x : Slot = filled b Kernel entry wp in
     by-kernel entry.page (at m3 s.kernel entry.page) (at m3 s.user entry.page) (λ z. word_of-some x (sym a.there ∙ z))
     ∙ ap (λ y. Some (slot_of Kernel entry.page y)) a.there
     ∙ ap (λ y. Some y) (slot_of-word_of x)
-fill-at s m1 m2 m3 User entry wp n w h a l =
-    let x : Slot = filled [] User entry wp in
+fill-at s m1 m2 m3 b User entry wp n w h a l =
+    let x : Slot = filled b User entry wp in
     let k : at m3 s.kernel entry.page ≡ 0 =
     a.others s.kernel entry.page (in-kernel s) l (λ e q. roots-apart s m2 h (sym e))
     ∙ w s.kernel entry.page (in-kernel s) l
@@ -160,35 +152,34 @@ fill-at s m1 m2 m3 User entry wp n w h a l =
     ∙ ap (λ y. Some (slot_of User entry.page y)) a.there
     ∙ ap (λ y. Some y) (slot_of-word_of x)
 
-fill-one : (s : Shadow) (m1 m2 m3 : List ℕ) (side : Side) (entry : Entry) (wp : Bool) → slot_at s m1 entry.page ≡ None
+fill-one : (s : Shadow) (m1 m2 m3 : List ℕ) (b : Bool) (side : Side) (entry : Entry) (wp : Bool) → slot_at s m1 entry.page ≡ None
     → ((t q : ℕ) → IsIn t (roots s) → q < 2 ^ 20 → at m2 t q ≡ at m1 t q) → Holds m2 (held s m2)
-    → Puts m2 m3 (roots s) (root_of s side) entry.page (word_of (filled [] side entry wp)) → entry.page < 2 ^ 20 → (at m3 s.kernel entry.page ≡ 0) ⊎ (at m3 s.user entry.page ≡ 0)
-fill-one s m1 m2 m3 Kernel entry wp n w h a l =
+    → Puts m2 m3 (roots s) (root_of s side) entry.page (word_of (filled b side entry wp)) → entry.page < 2 ^ 20 → (at m3 s.kernel entry.page ≡ 0) ⊎ (at m3 s.user entry.page ≡ 0)
+fill-one s m1 m2 m3 b Kernel entry wp n w h a l =
     inr (a.others s.user entry.page (in-user s) l (λ e q. roots-apart s m2 h e)
     ∙ w s.user entry.page (in-user s) l
     ∙ (none-slot s m1 entry.page n).1)
-fill-one s m1 m2 m3 User entry wp n w h a l =
+fill-one s m1 m2 m3 b User entry wp n w h a l =
     inl (a.others s.kernel entry.page (in-kernel s) l (λ e q. roots-apart s m2 h (sym e))
     ∙ w s.kernel entry.page (in-kernel s) l
     ∙ (none-slot s m1 entry.page n).0)
 
-module _ (s : Shadow) (m m1 m2 m3 : List ℕ) (side : Side) (entry : Entry) (wp : Bool) (d : Becomes s m m1 entry.page None)
+module _ (s : Shadow) (m m1 m2 m3 : List ℕ) (b : Bool) (side : Side) (entry : Entry) (wp : Bool) (d : Becomes s m m1 entry.page None)
     (w : (t q : ℕ) → IsIn t (roots s) → q < 2 ^ 20 → at m2 t q ≡ at m1 t q) (sh : (t e : ℕ) → IsIn t (roots s) → e < 1024 → (dir m2 t e ≡ dir m1 t e) ⊎ (dir m2 t e % 4096 ≡ 7)) (h : Holds m2 (held s m2))
-    (a : Puts m2 m3 (roots s) (root_of s side) entry.page (word_of (filled [] side entry wp))) (l : entry.page < 2 ^ 20) where
+    (a : Puts m2 m3 (roots s) (root_of s side) entry.page (word_of (filled b side entry wp))) (l : entry.page < 2 ^ 20) (small : entry.frame < 2 ^ 20) where
   fill-other : (t q : ℕ) → IsIn t (roots s) → q < 2 ^ 20 → (q ≡ entry.page → ⊥) → at m3 t q ≡ at m1 t q
   fill-other t q i k n = a.others t q i k (λ e x. n x) ∙ w t q i k
 
-  fill-there : slot_at s m3 entry.page ≡ Some (filled [] side entry wp)
-  fill-there = fill-at s m1 m2 m3 side entry wp d.there w h a l
+  fill-there : slot_at s m3 entry.page ≡ Some (filled b side entry wp)
+  fill-there = fill-at s m1 m2 m3 b side entry wp d.there w h a l
 
-  fill-apart : (q : ℕ) → q < 2 ^ 20 → (at m3 s.kernel q ≡ 0) ⊎ (at m3 s.user q ≡ 0)
-  fill-apart q k =
+  fill-apart : (q : ℕ) → q < 2 ^ 20 → at m3 s.kernel q ≢ 0 → at m3 s.user q ≡ 0
+  fill-apart q k ne =
       elim (eqb_tells q entry.page) [
-        | inl t ↦ subst (λ x. (at m3 s.kernel x ≡ 0) ⊎ (at m3 s.user x ≡ 0)) (sym t.1) (fill-one s m1 m2 m3 side entry wp d.there w h a l)
-        | inr t ↦ elim (d.shadow.apart q k) [
-          | inl z ↦ inl (fill-other s.kernel q (in-kernel s) k t.1 ∙ z)
-          | inr z ↦ inr (fill-other s.user q (in-user s) k t.1 ∙ z)
-        ]
+        | inl t ↦
+            none-one (at m3 s.kernel q) (at m3 s.user q)
+            (subst (λ x. (at m3 s.kernel x ≡ 0) ⊎ (at m3 s.user x ≡ 0)) (sym t.1) (fill-one s m1 m2 m3 b side entry wp d.there w h a l)) ne
+        | inr t ↦ fill-other s.user q (in-user s) k t.1 ∙ d.shadow.apart q k (λ z. ne (fill-other s.kernel q (in-kernel s) k t.1 ∙ z))
       ]
 
   fill-shape : (t e : ℕ) → IsIn t (roots s) → e < 1024 → dir m3 t e ≢ 0 → dir m3 t e % 4096 ≡ 7
@@ -208,13 +199,13 @@ module _ (s : Shadow) (m m1 m2 m3 : List ℕ) (side : Side) (entry : Entry) (wp 
         | inr x ↦ let e = fill-other t q i k x.1 in subst IsMarked (sym e) (d.shadow.marks t q i k (λ z. ne (e ∙ z)))
         | inl x ↦ elim (eqb_tells t (root_of s side)) [
           | inl y ↦
-              let e : at m3 t q ≡ word_of (filled [] side entry wp) = ap (λ v. at m3 v q) y.1 ∙ ap (at m3 (root_of s side)) x.1 ∙ a.there in
-              subst IsMarked (sym e) (word_of-marked side entry wp)
+              let e : at m3 t q ≡ word_of (filled b side entry wp) = ap (λ v. at m3 v q) y.1 ∙ ap (at m3 (root_of s side)) x.1 ∙ a.there in
+              subst IsMarked (sym e) (word_of-marked b side entry wp small)
           | inr y ↦ absurd (ne (ap (at m3 t) x.1 ∙ a.others t entry.page i l (λ v z. y.1 v) ∙ w t entry.page i l ∙ fill-zero t i))
         ]
       ]
 
-  pub fills : Becomes s m m3 entry.page (Some (filled [] side entry wp))
+  pub fills : Becomes s m m3 entry.page (Some (filled b side entry wp))
   fills =
       record {
         shadow = record {
@@ -269,7 +260,7 @@ empty s m h a b =
     record {
       shadow = record {
         holds = subst (Holds m) (sym e) h;
-        apart = λ page l. inl (at-none m s.kernel page (a (page / 1024) (high page l)));
+        apart = λ page l ne. at-none m s.user page (b (page / 1024) (high page l));
         shape = λ r d i l ne. absurd (ne (both s (λ x. dir m x d ≡ 0) (a d l) (b d l) r i));
         marks = λ r page i l ne. absurd (ne (both s (λ x. at m x page ≡ 0) (at-none m s.kernel page (a (page / 1024) (high page l))) (at-none m s.user page (b (page / 1024) (high page l))) r i));
       };

@@ -1,5 +1,5 @@
 pub mod Packed
-pub mod Entries
 pub mod Fills
-pub mod Hosts
 pub mod Lists
+pub mod Sweeps
+pub mod Bars

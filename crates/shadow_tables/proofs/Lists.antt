@@ -1,15 +1,15 @@
 -- Lists of calls: the last fill of a page, and what is kept.
-use Rattle.std.proofs.Common.{◌≡◌, ℕ, zero, suc, ◌+◌, ◌<◌, ◌≤◌, ◌⊎◌, List, [], ◌∷◌, ◌++◌, length, take, get_or, Bool, true, false, ◌||◌, cond, Option, Some, None, refl, sym, ap, ◌∙◌, subst, inl, inr, arith}
+use Rattle.std.proofs.Common.{◌≡◌, ◌↔◌, ℕ, zero, suc, ◌+◌, ◌/◌, ◌^◌, ◌<◌, ◌≤◌, ◌⊎◌, List, [], ◌∷◌, ◌++◌, length, take, get_or, Bool, true, false, ◌&&◌, not, cond, eqb, Option, Some, None, refl, sym, ap, ◌∙◌, subst, inl, inr, arith}
 use Rattle.std.proofs.lemmas.Bool.Decides.{eqb_tells}
 use Rattle.std.proofs.lemmas.List.{take_more}
 use Rattle.paging.specs.declared.entry.Entry.{Entry}
-use Rattle.shadow_tables.specs.Slots.{Slot, filled, is_among, ArePart, entry_in, is_adequate, permits}
+use Rattle.shadow_tables.specs.Slots.{Slot, filled, barred, is_among, entry_in, is_side, is_adequate, permits, Turns, LosesDir, LosesWrites}
 use Rattle.shadow_tables.specs.Steps.{after, after_call}
-use Rattle.shadow_tables.specs.Calls.{IsFit, AreFit, fill_count, fills, Concerns, LeaveAlone, LastFill, IsEntryAfter, IsAdequateAfter, Follows}
+use Rattle.shadow_tables.specs.Calls.{IsFit, AreFit, fill_count, fills, Concerns, LeaveAlone, LastFill, IsEntryAfter, IsAdequateAfter, IsWithin, Follows}
 use Rattle.shadow_tables.specs.declared.words.Side.{Side}
 use Rattle.shadow_tables.specs.declared.words.Side.TheVariants.{Kernel, User}
 use Rattle.shadow_tables.specs.declared.calls.Call.{Call}
-use Rattle.shadow_tables.specs.declared.calls.Call.TheVariants.{Fill, DropPage, DropAll}
+use Rattle.shadow_tables.specs.declared.calls.Call.TheVariants.{Fill, DropPage, DropDir, DropAll, Note, Written}
 
 -- ---- a list up to a place
 
@@ -38,24 +38,18 @@ fills-le cs zero = omega arith
 fills-le [] (suc i) = omega arith
 fills-le (c ∷ cs) (suc i) = let e = fills-le cs i in omega (arith, e)
 
-pub tracks-none : (fs gs : List ℕ) → ArePart fs gs → gs ≡ [] → fs ≡ []
-tracks-none [] gs h e = refl
-tracks-none (f ∷ fs) gs h e =
-    let here : is_among f (f ∷ fs) ≡ true = elim (eqb_tells f f) [ inl t ↦ ap (λ b. b || is_among f fs) t.0 | inr n ↦ absurd (n.1 refl) ] in
-    let there : is_among f [] ≡ true = ap (is_among f) (sym e) ∙ h f here in
-    absurd (let x : false ≡ true = there in cc)
-
-pub ArePart-trans : (fs gs hs : List ℕ) → ArePart fs gs → ArePart gs hs → ArePart fs hs
-ArePart-trans fs gs hs a b = λ f h. b f (a f h)
-
 -- ---- calls that leave a page alone
 
 alone-call : (c : Call) (page : ℕ) (o : Option Slot) → (Concerns page c → ⊥) → after_call c page o ≡ o
 alone-call (Fill side entry wp) page o n =
-    elim (eqb_tells page entry.page) [ inl t ↦ absurd (n t.1) | inr f ↦ ap (λ b. cond b (Some (filled [] side entry wp)) o) f.0 ]
+    elim (eqb_tells page entry.page) [ inl t ↦ absurd (n t.1) | inr f ↦ ap (λ b. cond b (Some (filled false side entry wp)) o) f.0 ]
 alone-call (DropPage dropped) page o n =
     elim (eqb_tells page dropped) [ inl t ↦ absurd (n t.1) | inr f ↦ ap (λ b. cond b None o) f.0 ]
+alone-call (DropDir index) page o n =
+    elim (eqb_tells (page / 1024) index) [ inl t ↦ absurd (n t.1) | inr f ↦ ap (λ b. cond b None o) f.0 ]
 alone-call DropAll page o n = absurd (n tt)
+alone-call (Note frame) page o n = refl
+alone-call (Written frame) page o n = refl
 
 alone-after : (cs : List Call) (page : ℕ) (o : Option Slot) → LeaveAlone page cs → after cs page o ≡ o
 alone-after [] page o h = refl
@@ -63,11 +57,11 @@ alone-after (c ∷ cs) page o h = ap (after cs page) (alone-call c page o h.0) �
 
 -- ---- the last fill
 
-fill-call : (side : Side) (entry : Entry) (wp : Bool) (page : ℕ) (o : Option Slot) → page ≡ entry.page → after_call (Fill side entry wp) page o ≡ Some (filled [] side entry wp)
+fill-call : (side : Side) (entry : Entry) (wp : Bool) (page : ℕ) (o : Option Slot) → page ≡ entry.page → after_call (Fill side entry wp) page o ≡ Some (filled false side entry wp)
 fill-call side entry wp page o e =
-    elim (eqb_tells page entry.page) [ inl t ↦ ap (λ b. cond b (Some (filled [] side entry wp)) o) t.0 | inr f ↦ absurd (f.1 e) ]
+    elim (eqb_tells page entry.page) [ inl t ↦ ap (λ b. cond b (Some (filled false side entry wp)) o) t.0 | inr f ↦ absurd (f.1 e) ]
 
-last-after : (cs : List Call) (page : ℕ) (side : Side) (entry : Entry) (wp : Bool) (o : Option Slot) → LastFill cs page side entry wp → after cs page o ≡ Some (filled [] side entry wp)
+last-after : (cs : List Call) (page : ℕ) (side : Side) (entry : Entry) (wp : Bool) (o : Option Slot) → LastFill cs page side entry wp → after cs page o ≡ Some (filled false side entry wp)
 last-after cs page side entry wp o l =
     ap (λ (xs : List Call). after xs page o) l.place
     ∙ after-append l.before (Fill side entry wp ∷ l.later) page o
@@ -94,7 +88,14 @@ ends-first (DropPage dropped) cs page o a =
       | inl t ↦ inr (inr (ap (after cs page) (ap (λ b. cond b None o) t.0) ∙ alone-after cs page None a))
       | inr f ↦ inl (f.1, a)
     ]
+ends-first (DropDir index) cs page o a =
+    elim (eqb_tells (page / 1024) index) [
+      | inl t ↦ inr (inr (ap (after cs page) (ap (λ b. cond b None o) t.0) ∙ alone-after cs page None a))
+      | inr f ↦ inl (f.1, a)
+    ]
 ends-first DropAll cs page o a = inr (inr (alone-after cs page None a))
+ends-first (Note frame) cs page o a = inl ((λ e. e), a)
+ends-first (Written frame) cs page o a = inl ((λ e. e), a)
 
 last-more : (c : Call) (cs : List Call) (page : ℕ) → Last cs page → Last (c ∷ cs) page
 last-more c cs page f =
@@ -141,7 +142,7 @@ record Passes (s side : Side) (entry : Entry) (wp write : Bool) : Type 0 where
   same : s ≡ side
   passes : permits side entry write wp ≡ true
 
-passes-from : (s side : Side) (entry : Entry) (wp write : Bool) → is_adequate (Some (filled [] s entry wp)) side write ≡ true → Passes s side entry wp write
+passes-from : (s side : Side) (entry : Entry) (wp write : Bool) → is_adequate (Some (filled false s entry wp)) side write ≡ true → Passes s side entry wp write
 passes-from Kernel Kernel entry wp true h = record { same = refl; passes = h }
 passes-from Kernel Kernel entry wp false h = record { same = refl; passes = h }
 passes-from Kernel User entry wp write h = cc
@@ -149,7 +150,7 @@ passes-from User Kernel entry wp write h = cc
 passes-from User User entry wp true h = record { same = refl; passes = h }
 passes-from User User entry wp false h = record { same = refl; passes = h }
 
-passes-to : (side : Side) (entry : Entry) (wp write : Bool) → permits side entry write wp ≡ true → is_adequate (Some (filled [] side entry wp)) side write ≡ true
+passes-to : (side : Side) (entry : Entry) (wp write : Bool) → permits side entry write wp ≡ true → is_adequate (Some (filled false side entry wp)) side write ≡ true
 passes-to Kernel entry wp true h = h
 passes-to Kernel entry wp false h = h
 passes-to User entry wp true h = h
@@ -174,9 +175,127 @@ adequate-to cs page o now side write q h =
       | inr a ↦ ap (λ x. is_adequate x side write) (q ∙ alone-after cs page o a.0) ∙ a.1
     ]
 
-pub follows : (cs : List Call) (page : ℕ) (o now : Option Slot) → now ≡ after cs page o → Follows cs page o now
-follows cs page o now q =
+pub adequate-after : (cs : List Call) (page : ℕ) (o now : Option Slot) (side : Side) (write : Bool) → now ≡ after cs page o → (is_adequate now side write ≡ true) ↔ IsAdequateAfter cs page o side write
+adequate-after cs page o now side write q = (adequate-from cs page o now side write q, adequate-to cs page o now side write q)
+
+-- ---- with frames that are barred from writes
+
+pub within-refl : (a : Option Slot) → IsWithin a a
+within-refl None = tt
+within-refl (Some a) = (refl, refl, refl, λ h. h)
+
+pub within-same : (a b : Option Slot) → a ≡ b → IsWithin a b
+within-same a b e = subst (λ x. IsWithin a x) e (within-refl a)
+
+pub within-trans : (a b c : Option Slot) → IsWithin a b → IsWithin b c → IsWithin a c
+within-trans None None c h k = k
+within-trans (Some a) (Some b) (Some c) h k = (h.0 ∙ k.0, h.1 ∙ k.1, h.2 ∙ k.2, λ t. k.3 (h.3 t))
+within-trans None (Some b) c h k = absurd h
+within-trans (Some a) None c h k = absurd h
+within-trans (Some a) (Some b) None h k = absurd k
+
+within-cond : (t : Bool) (x a b : Option Slot) → IsWithin a b → IsWithin (cond t x a) (cond t x b)
+within-cond true x a b h = within-refl x
+within-cond false x a b h = h
+
+pub within-call : (c : Call) (page : ℕ) (a b : Option Slot) → IsWithin a b → IsWithin (after_call c page a) (after_call c page b)
+within-call (Fill side entry wp) page a b h = within-cond (eqb page entry.page) (Some (filled false side entry wp)) a b h
+within-call (DropPage dropped) page a b h = within-cond (eqb page dropped) None a b h
+within-call (DropDir index) page a b h = within-cond (eqb (page / 1024) index) None a b h
+within-call DropAll page a b h = tt
+within-call (Note frame) page a b h = h
+within-call (Written frame) page a b h = h
+
+within-kept : (a b : Option Slot) → IsWithin a b → entry_in a ≡ entry_in b
+within-kept None None h = refl
+within-kept (Some a) (Some b) h = ap (λ e. Some e) h.1
+within-kept None (Some b) h = absurd h
+within-kept (Some a) None h = absurd h
+
+within-reads : (a b : Option Slot) (side : Side) → IsWithin a b → is_adequate a side false ≡ is_adequate b side false
+within-reads None None side h = refl
+within-reads (Some a) (Some b) side h = ap (λ x. is_side x side && a.reads) h.0 ∙ ap (λ r. is_side b.side side && r) h.2
+within-reads None (Some b) side h = absurd h
+within-reads (Some a) None side h = absurd h
+
+both-true : (p a b : Bool) → (a ≡ true → b ≡ true) → (p && a) ≡ true → (p && b) ≡ true
+both-true true a b h e = h e
+both-true false a b h e = cc
+
+within-writes : (a b : Option Slot) (side : Side) → IsWithin a b → is_adequate a side true ≡ true → is_adequate b side true ≡ true
+within-writes None None side h e = e
+within-writes (Some a) (Some b) side h e = both-true (is_side b.side side) a.writes b.writes h.3 (ap (λ x. is_side x side && a.writes) (sym h.0) ∙ e)
+within-writes None (Some b) side h e = absurd h
+within-writes (Some a) None side h e = absurd h
+
+pub follows : (cs : List Call) (page : ℕ) (o now : Option Slot) → IsWithin now (after cs page o) → Follows cs page o now
+follows cs page o now h =
+    let then : Option Slot = after cs page o in
+    let k = within-kept now then h in
     record {
-      kept = λ entry. (kept-from cs page o now entry q, kept-to cs page o now entry q);
-      adequate = λ side write. (adequate-from cs page o now side write q, adequate-to cs page o now side write q);
+      kept = λ entry. ((λ e. kept-from cs page o then entry refl (sym k ∙ e)), (λ e. k ∙ kept-to cs page o then entry refl e));
+      reads = λ side. (let r = within-reads now then side h in
+          ((λ e. adequate-from cs page o then side false refl (sym r ∙ e)), (λ e. r ∙ adequate-to cs page o then side false refl e)));
+      writes = λ side e. adequate-from cs page o then side true refl (within-writes now then side h e);
     }
+
+-- ---- one call
+
+fill-turned : (f f' : ℕ → Option Slot) (x y : Slot) (at page : ℕ) → Turns f f' at (Some x) → IsWithin (Some x) (Some y) → page < 2 ^ 20 → IsWithin (f' page) (cond (eqb page at) (Some y) (f page))
+fill-turned f f' x y at page t h l =
+    elim (eqb_tells page at) [
+      | inl e ↦ subst (λ b. IsWithin (f' page) (cond b (Some y) (f page))) (sym e.0) (subst (λ z. IsWithin z (Some y)) (sym (ap f' e.1 ∙ t.there)) h)
+      | inr n ↦ subst (λ b. IsWithin (f' page) (cond b (Some y) (f page))) (sym n.0) (within-same (f' page) (f page) (t.others page l n.1))
+    ]
+
+only-less : (b p : Bool) → (not b && p) ≡ true → p ≡ true
+only-less true p e = cc
+only-less false p e = e
+
+pub fill-within : (f f' : ℕ → Option Slot) (b : Bool) (side : Side) (entry : Entry) (wp : Bool) (page : ℕ) → Turns f f' entry.page (Some (filled b side entry wp)) → page < 2 ^ 20 → IsWithin (f' page) (after_call (Fill side entry wp) page (f page))
+fill-within f f' b side entry wp page t l =
+    fill-turned f f' (filled b side entry wp) (filled false side entry wp) entry.page page t (refl, refl, refl, only-less b (permits side entry true wp)) l
+
+turned : (f f' : ℕ → Option Slot) (o : Option Slot) (at page : ℕ) → Turns f f' at o → page < 2 ^ 20 → f' page ≡ cond (eqb page at) o (f page)
+turned f f' o at page t l =
+    elim (eqb_tells page at) [
+      | inl e ↦ ap f' e.1 ∙ t.there ∙ sym (ap (λ b. cond b o (f page)) e.0)
+      | inr n ↦ t.others page l n.1 ∙ sym (ap (λ b. cond b o (f page)) n.0)
+    ]
+
+pub fill-exact : (f f' : ℕ → Option Slot) (tracked : List ℕ) (side : Side) (entry : Entry) (wp : Bool) (page : ℕ) → tracked ≡ [] → Turns f f' entry.page (Some (filled (is_among entry.frame tracked) side entry wp)) → page < 2 ^ 20 → f' page ≡ after_call (Fill side entry wp) page (f page)
+fill-exact f f' tracked side entry wp page e t l =
+    turned f f' (Some (filled (is_among entry.frame tracked) side entry wp)) entry.page page t l
+    ∙ ap (λ (fs : List ℕ). cond (eqb page entry.page) (Some (filled (is_among entry.frame fs) side entry wp)) (f page)) e
+
+pub drop-exact : (f f' : ℕ → Option Slot) (dropped page : ℕ) → Turns f f' dropped None → page < 2 ^ 20 → f' page ≡ after_call (DropPage dropped) page (f page)
+drop-exact f f' dropped page t l = turned f f' None dropped page t l
+
+pub dir-exact : (f f' : ℕ → Option Slot) (index page : ℕ) → LosesDir f f' index → page < 2 ^ 20 → f' page ≡ after_call (DropDir index) page (f page)
+dir-exact f f' index page t l =
+    elim (eqb_tells (page / 1024) index) [
+      | inl e ↦ t.gone page l e.1 ∙ sym (ap (λ b. cond b None (f page)) e.0)
+      | inr n ↦ t.others page l n.1 ∙ sym (ap (λ b. cond b None (f page)) n.0)
+    ]
+
+both-first : (a b : Bool) → (a && b) ≡ true → a ≡ true
+both-first true b e = refl
+both-first false b e = e
+
+and-true : (a : Bool) → (a && true) ≡ a
+and-true true = refl
+and-true false = refl
+
+barred-within : (tracked : List ℕ) (o : Option Slot) → IsWithin (barred tracked o) o
+barred-within tracked None = tt
+barred-within tracked (Some slot) = (refl, refl, refl, both-first slot.writes (not (is_among slot.entry.frame tracked)))
+
+barred-none : (o : Option Slot) → barred [] o ≡ o
+barred-none None = refl
+barred-none (Some slot) = ap (λ w. Some (record slot { writes = w })) (and-true slot.writes)
+
+pub note-within : (f f' : ℕ → Option Slot) (tracked : List ℕ) (page : ℕ) → LosesWrites f f' tracked → page < 2 ^ 20 → IsWithin (f' page) (f page)
+note-within f f' tracked page t l = subst (λ x. IsWithin x (f page)) (sym (t page l)) (barred-within tracked (f page))
+
+pub note-exact : (f f' : ℕ → Option Slot) (tracked : List ℕ) (page : ℕ) → tracked ≡ [] → LosesWrites f f' tracked → page < 2 ^ 20 → f' page ≡ f page
+note-exact f f' tracked page e t l = t page l ∙ ap (λ (fs : List ℕ). barred fs (f page)) e ∙ barred-none (f page)

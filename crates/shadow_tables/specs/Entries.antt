@@ -1,14 +1,10 @@
 -- What is kept, as a finite map from pages to entries.
-use Rattle.std.specs.Prelude.{ℕ, zero, suc, Option, Some, None}
-use Rattle.std.specs.FinMap.{FinMap, empty, insert, remove}
+use Rattle.std.specs.Prelude.{ℕ, zero, suc, Option}
+use Rattle.std.specs.FinMap.{FinMap, empty}
 use Rattle.std.specs.Ordering.{nat_cmp}
 use Rattle.paging.specs.declared.entry.Entry.{Entry}
+use Rattle.paging.specs.Uses.{with_entry}
 use Rattle.shadow_tables.specs.Slots.{Slot, entry_in}
-
--- the page's entry is this one, or there is none
-abbrev pub with_entry : FinMap nat_cmp Entry → ℕ → Option Entry → FinMap nat_cmp Entry
-with_entry set page None = remove set page
-with_entry set page (Some entry) = insert set page entry
 
 -- the entries of the first n pages
 unfoldable pub entries_below : ℕ → (ℕ → Option Slot) → FinMap nat_cmp Entry

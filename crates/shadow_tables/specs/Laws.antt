@@ -1,34 +1,59 @@
--- What a change of other frames leaves as it was, for the impls of traits.
-use Rattle.std.specs.Prelude.{◌≡◌, ℕ, ◌^◌, ◌≤◌, ◌<◌, ◌/◌, ◌%◌, List, [], ◌∷◌, length, Bool, true, false}
-use Rattle.std.proofs.Common.{length-append, arith, refl, sym, ap, ◌∙◌, subst, inl, inr}
-use Rattle.frame_pool.specs.Held.{Holds, SameIn}
-use Rattle.shadow_views.specs.Tables.{dir, at, tables, owned, IsIn}
-use Rattle.frame_pool.proofs.Held.{Holds-writes}
-use Rattle.shadow_views.proofs.Counts.{owned-root, owned-table, owned-same}
-use Rattle.shadow_views.proofs.Changes.{dir-frame, at-same, high}
-use Rattle.shadow_tables.specs.Slots.{is_among, roots, root_of, held, slot_at, by_words, IsMarked, IsShadow}
+-- The proofs of the laws of shadows. They stand here since an impl of the trait may name this folder alone.
+pub mod Views
+pub mod Entries
+pub mod Hosts
+pub mod Props
+use Rattle.std.proofs.Common.{◌≡◌, ◌≢◌, ℕ, zero, suc, ◌+◌, ◌*◌, ◌/◌, ◌%◌, ◌^◌, ◌<◌, ◌≤◌, List, [], ◌∷◌, length, length-append, drop, Bool, true, false, Option, Some, None, refl, sym, ap, ◌∙◌, subst, inl, inr, cond, eqb, arith}
+use Rattle.std.proofs.Math.Logic.{∥∥₁_elim, ∥∥₁_map}
+use Rattle.std.proofs.lemmas.Bool.Decides.{eqb_tells}
+use Rattle.std.specs.FinMap.{FinMap, get}
+use Rattle.guest_ram.specs.Bytes.{word32}
+use Rattle.frame_pool.specs.Pool.{base_of}
+use Rattle.frame_pool.specs.declared.Pool.{Pool}
+use Rattle.frame_pool.specs.Held.{times, Holds, Owns, SameIn}
+use Rattle.frame_pool.proofs.Above.{SameIn-above, Owns-above}
+use Rattle.frame_pool.proofs.Lengths.{times-cons, times-none, hit-is}
+use Rattle.paging.specs.Fresh.{has, dir_place}
+use Rattle.paging.specs.Reached.{reached, walk_frames, with_table}
+use Rattle.shadow_views.specs.Tables.{dir, at, tables, owned}
+use Rattle.shadow_views.proofs.Counts.{owned-root, owned-table}
+use Rattle.shadow_views.proofs.Changes.{high}
+use Rattle.shadow_tables.specs.Entries.{entries_of}
+use Rattle.shadow_tables.specs.Host.{lent}
+use Rattle.shadow_tables.specs.Slots.{Slot, is_among, slot_of, by_words, entry_in, roots, root_of, held, slot_at, SameSlots, IsShadow}
 use Rattle.shadow_tables.specs.declared.shadow.Shadow.{Shadow}
 use Rattle.shadow_tables.specs.declared.words.Side.{Side}
 use Rattle.shadow_tables.specs.declared.words.Side.TheVariants.{Kernel, User}
+use Rattle.shadow_tables.specs.Laws.Views.{in-root, in-kernel, in-user, held-stays, slot_at-stays, IsShadow-stays}
+use Rattle.shadow_tables.specs.Laws.Entries.{get-entries_of, none-entries_of, entries_of-same}
+use Rattle.shadow_tables.specs.Laws.Hosts.{reached-is}
+use Rattle.shadow_tables.specs.Laws.Props.{IsShadow-prop}
 
-pub in-kernel : (s : Shadow) → IsIn s.kernel (roots s)
-in-kernel s = inl refl
+-- ---- laws of any shadows
 
-pub in-user : (s : Shadow) → IsIn s.user (roots s)
-in-user s = inr (inl refl)
+pub same-entries : (f f' : ℕ → Option Slot) → SameSlots f f' → entries_of f' ≡ entries_of f
+same-entries f f' h = entries_of-same f f' h
 
-pub in-root : (s : Shadow) (side : Side) → IsIn (root_of s side) (roots s)
-in-root s Kernel = inl refl
-in-root s User = inr (inl refl)
+pub entry-at : (f : ℕ → Option Slot) (page : ℕ) → page < 2 ^ 20 → get (entries_of f) page ≡ entry_in (f page)
+entry-at f page l = get-entries_of f page l
 
-pub slot-same : (s : Shadow) (m m' : List ℕ) (q : ℕ) → at m' s.kernel q ≡ at m s.kernel q → at m' s.user q ≡ at m s.user q → slot_at s m' q ≡ slot_at s m q
-unfolding slot_at
-slot-same s m m' q a b = ap (λ x. by_words q x (at m' s.user q)) a ∙ ap (by_words q (at m s.kernel q)) b
+pub none-beyond : (f : ℕ → Option Slot) (page : ℕ) → 2 ^ 20 ≤ page → get (entries_of f) page ≡ None
+none-beyond f page l = none-entries_of f page l
 
-pub Holds-along : (m fs fs' : List ℕ) → fs' ≡ fs → Holds m fs → Holds m fs'
-Holds-along m fs fs' e h = subst (Holds m) (sym e) h
+pub same-above : (p : Pool) (m m' : List ℕ) (limit : ℕ) (fs : List ℕ) → Owns p m fs → limit ≤ 4096 * base_of p → drop limit m' ≡ drop limit m → length m' ≡ length m → SameIn fs m m'
+same-above p m m' limit fs o l e size = SameIn-above p m m' limit l e size fs o
 
--- ---- the roots, and what is tracked
+pub owned-above : (p : Pool) (m m' : List ℕ) (limit : ℕ) (fs fs' : List ℕ) → Owns p m fs → limit ≤ 4096 * base_of p → drop limit m' ≡ drop limit m → length m' ≡ length m → fs' ≡ fs → Owns p m' fs'
+owned-above p m m' limit fs fs' o l e size same = subst (Owns p m') (sym same) (Owns-above p m m' limit l e size fs o)
+
+-- ---- laws of `Shadow`
+
+-- what holds of its memory, of which only was told that it does
+pub had : (s : Shadow) (m : List ℕ) → ∥ IsShadow s m ∥₁ → IsShadow s m
+had s m h = ∥∥₁_elim h (IsShadow-prop s m) (λ x. x)
+
+pub lies : (s : Shadow) (m : List ℕ) → ∥ IsShadow s m ∥₁ → Holds m (held s m)
+lies s m h = (had s m h).holds
 
 pub held-roots : (s : Shadow) (m : List ℕ) → 2 ≤ length (held s m)
 unfolding owned
@@ -39,31 +64,70 @@ held-roots s m =
 pub none-tracked : (frame : ℕ) (writes : Bool) → is_among frame [] ≡ true → writes ≡ false
 none-tracked frame writes e = cc
 
--- ---- writes elsewhere
+pub stays : (s : Shadow) (m m' : List ℕ) → ∥ IsShadow s m ∥₁ → SameIn (held s m) m m' → ∥ IsShadow s m' ∥₁
+stays s m m' h e = ∥∥₁_map h (λ x. IsShadow-stays s m m' x e)
 
-module _ (s : Shadow) (m m' : List ℕ) (h : IsShadow s m) (e : SameIn (held s m) m m') where
-  apart-dirs : (r d : ℕ) → IsIn r (roots s) → d < 1024 → dir m' r d ≡ dir m r d
-  apart-dirs r d i l = dir-frame m m' r d (e.frames r (owned-root m r (roots s) i)) l
+pub same-frames : (s : Shadow) (m m' : List ℕ) → ∥ IsShadow s m ∥₁ → SameIn (held s m) m m' → held s m' ≡ held s m
+same-frames s m m' h e = held-stays s m m' (had s m h) e
 
-  apart-words : (r q : ℕ) → IsIn r (roots s) → q < 2 ^ 20 → at m' r q ≡ at m r q
-  apart-words r q i l =
-      at-same m m' r q (apart-dirs r (q / 1024) i (high q l))
-      (λ ne. e.frames (dir m r (q / 1024) / 4096) (owned-table m r (q / 1024) (dir m r (q / 1024) / 4096) (roots s) i (high q l) ne refl))
+pub same-slots : (s : Shadow) (m m' : List ℕ) → ∥ IsShadow s m ∥₁ → SameIn (held s m) m m' → SameSlots (slot_at s m) (slot_at s m')
+same-slots s m m' h e = λ page l. slot_at-stays s m m' (had s m h) e page l
 
-  pub held-stays : held s m' ≡ held s m
-  held-stays = owned-same m m' (roots s) apart-dirs
+pub host : (s : Shadow) (m : List ℕ) (n : ℕ) (side : Side) (page : ℕ) (write : Bool) → ∥ IsShadow s m ∥₁ → 4096 * n ≡ length m → page < 2 ^ 20 → reached m n (root_of s side) page write ≡ lent n (slot_at s m page) side write
+host s m n side page write h e l = reached-is s m n side page write (had s m h) e l
 
-  pub slot_at-stays : (q : ℕ) → q < 2 ^ 20 → slot_at s m' q ≡ slot_at s m q
-  slot_at-stays q l = slot-same s m m' q (apart-words s.kernel q (in-kernel s) l) (apart-words s.user q (in-user s) l)
+-- the frames that a walk reads
+walked-table : (s : Shadow) (m : List ℕ) (side : Side) (page w f : ℕ) → page < 2 ^ 20 → w ≡ dir m (root_of s side) (page / 1024) → 1 ≤ times f (with_table w) → 1 ≤ times f (held s m)
+walked-table s m side page w f l e h =
+    elim (eqb_tells (w / 1 % 2) 1) [
+      | inl t ↦
+          let x = ap (λ b. times f (cond b ((w / 4096) ∷ []) [])) t.0 in
+          let c = times-cons f (w / 4096) [] in let z = times-none f in
+          elim (hit-is f (w / 4096)) [
+            | inl y ↦
+                let bit = t.1 in
+                let ne : w ≢ 0 = λ q. absurd (omega (arith, bit, q)) in
+                owned-table m (root_of s side) (page / 1024) f (roots s) (in-root s side) (high page l) (λ q. ne (e ∙ q)) (y.0 ∙ ap (λ v. v / 4096) e)
+            | inr y ↦ let n = y.1 in absurd (omega (arith, h, x, c, z, n))
+          ]
+      | inr t ↦
+          let x = ap (λ b. times f (cond b ((w / 4096) ∷ []) [])) t.0 in
+          let z = times-none f in absurd (omega (arith, h, x, z))
+    ]
 
-  pub IsShadow-stays : IsShadow s m'
-  IsShadow-stays =
-      record {
-        holds = Holds-along m' (held s m) (held s m') held-stays (Holds-writes (held s m) m m' h.holds e.size);
-        apart = λ q l. elim (h.apart q l) [
-          | inl z ↦ inl (apart-words s.kernel q (in-kernel s) l ∙ z)
-          | inr z ↦ inr (apart-words s.user q (in-user s) l ∙ z)
-        ];
-        shape = λ r d i l ne. (let e' = apart-dirs r d i l in subst (λ x. x % 4096 ≡ 7) (sym e') (h.shape r d i l (λ z. ne (e' ∙ z))));
-        marks = λ r q i l ne. (let e' = apart-words r q i l in subst IsMarked (sym e') (h.marks r q i l (λ z. ne (e' ∙ z))));
-      }
+pub walked : (s : Shadow) (m : List ℕ) (side : Side) (page f : ℕ) → ∥ IsShadow s m ∥₁ → page < 2 ^ 20 → 1 ≤ times f (walk_frames m (root_of s side) page) → 1 ≤ times f (held s m)
+unfolding dir
+walked s m side page f h l i =
+    let r : ℕ = root_of s side in
+    let w : ℕ = word32 m (dir_place (4096 * r) page) in
+    let c = times-cons f r (with_table w) in
+    let place : dir_place (4096 * r) page ≡ 4096 * r + 4 * (page / 1024) = omega arith in
+    elim (hit-is f r) [
+      | inl t ↦ subst (λ x. 1 ≤ times x (held s m)) (sym t.0) (owned-root m r (roots s) (in-root s side))
+      | inr t ↦ let n = t.1 in walked-table s m side page w f l (ap (word32 m) place) (omega (arith, c, n, i))
+    ]
+
+-- the entry of a word that keeps one
+same-slot : (a b : Slot) → Some a ≡ Some b → a ≡ b
+same-slot a b e = cc
+
+frame-fits : (w f : ℕ) → w < 2 ^ 32 → w / 4096 ≡ f → f < 2 ^ 20
+frame-fits w f h e = omega arith
+
+fits-by : (page k u : ℕ) (slot : Slot) → k < 2 ^ 32 → u < 2 ^ 32 → by_words page k u ≡ Some slot → (slot.entry.page ≡ page) × (slot.entry.frame < 2 ^ 20)
+fits-by page zero zero slot a b e = cc
+fits-by page zero (suc u) slot a b e =
+    let q = same-slot (slot_of User page (suc u)) slot e in (sym (ap (λ (x : Slot). x.entry.page) q), frame-fits (suc u) slot.entry.frame b (ap (λ (x : Slot). x.entry.frame) q))
+fits-by page (suc k) u slot a b e =
+    let q = same-slot (slot_of Kernel page (suc k)) slot e in (sym (ap (λ (x : Slot). x.entry.page) q), frame-fits (suc k) slot.entry.frame a (ap (λ (x : Slot). x.entry.frame) q))
+
+pub fits : (s : Shadow) (m : List ℕ) (page : ℕ) (slot : Slot) → ∥ IsShadow s m ∥₁ → page < 2 ^ 20 → slot_at s m page ≡ Some slot → (slot.entry.page ≡ page) × (slot.entry.frame < 2 ^ 20)
+unfolding slot_at
+fits s m page slot h l e =
+    let x = had s m h in
+    let small : (r v : ℕ) → v ≡ at m r page → (at m r page ≢ 0 → at m r page < 2 ^ 32) → v < 2 ^ 32 =
+    λ r v q k. elim (eqb_tells (at m r page) 0) [ inl t ↦ (let z = t.1 in omega (arith, q, z)) | inr n ↦ (let y = k n.1 in omega (arith, q, y)) ] in
+    fits-by page (at m s.kernel page) (at m s.user page) slot
+    (small s.kernel (at m s.kernel page) refl (λ n. (x.marks s.kernel page (in-kernel s) l n).fits))
+    (small s.user (at m s.user page) refl (λ n. (x.marks s.user page (in-user s) l n).fits))
+    e

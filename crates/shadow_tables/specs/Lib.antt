@@ -2,5 +2,6 @@ pub mod Slots
 pub mod Entries
 pub mod Host
 pub mod Laws
+pub mod Sweeps
 pub mod Steps
 pub mod Calls

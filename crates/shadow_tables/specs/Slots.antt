@@ -1,5 +1,5 @@
 -- What the views of a kernel and of a user keep for a page.
-use Rattle.std.specs.Prelude.{◌≡◌, ◌≢◌, ℕ, zero, suc, ◌+◌, ◌*◌, ◌/◌, ◌%◌, ◌^◌, ◌<◌, ◌⊎◌, List, [], ◌∷◌, Bool, true, false, ◌==◌, ◌&&◌, ◌||◌, not, if◌then◌else◌, Option, Some, None}
+use Rattle.std.specs.Prelude.{◌≡◌, ◌≢◌, ℕ, zero, suc, ◌+◌, ◌-◌, ◌*◌, ◌/◌, ◌%◌, ◌^◌, ◌<◌, List, [], ◌∷◌, Bool, true, false, ◌==◌, ◌&&◌, ◌||◌, not, if◌then◌else◌, Option, Some, None}
 use Rattle.paging.specs.declared.entry.Entry.{Entry}
 use Rattle.paging.specs.Fresh.{allows}
 use Rattle.frame_pool.specs.Held.{Holds}
@@ -28,10 +28,15 @@ abbrev pub is_among : ℕ → List ℕ → Bool
 is_among frame [] = false
 is_among frame (f ∷ fs) = (frame == f) || is_among frame fs
 
--- What a fill makes where the frames `tracked` are: the host may do what the view lets pass, but no write to a tracked frame.
-abbrev pub filled : List ℕ → Side → Entry → Bool → Slot
-filled tracked side entry wp =
-    record { side = side; entry = entry; reads = permits side entry false wp; writes = not (is_among entry.frame tracked) && permits side entry true wp }
+-- what a fill makes: the host may do what the view lets pass, but no write where the frame is barred from writes
+abbrev pub filled : Bool → Side → Entry → Bool → Slot
+filled barred side entry wp =
+    record { side = side; entry = entry; reads = permits side entry false wp; writes = not barred && permits side entry true wp }
+
+-- the same without the right to write, where its frame is one of these
+abbrev pub barred : List ℕ → Option Slot → Option Slot
+barred tracked None = None
+barred tracked (Some slot) = Some (record slot { writes = slot.writes && not (is_among slot.entry.frame tracked) })
 
 abbrev pub worth : Bool → ℕ
 worth b = if b then 1 else 0
@@ -59,6 +64,10 @@ by_words page zero zero = None
 by_words page zero (suc user) = Some (slot_of User page (suc user))
 by_words page (suc kernel) user = Some (slot_of Kernel page (suc kernel))
 
+-- the word without the right to write, where it is of this frame
+abbrev pub barred_word : ℕ → ℕ → ℕ
+barred_word frame word = if (word / 4096 == frame) && has word 2 then word - 2 else word
+
 -- the host's right to the access in a word
 abbrev pub lets : ℕ → Bool → Bool
 lets word write = if write then has word 2 else word % 2 == 1
@@ -74,16 +83,17 @@ held s m = owned m (roots s)
 unfoldable pub slot_at : Shadow → List ℕ → ℕ → Option Slot
 slot_at s m page = by_words page (at m s.kernel page) (at m s.user page)
 
--- bit 2 is set, and bit 0 where bit 1 is
+-- a word of four bytes, in which bit 2 is set, and bit 0 where bit 1 is
 pub record IsMarked (word : ℕ) : Type 0 where
   pub user : word / 4 % 2 ≡ 1
   pub reads : word / 2 % 2 ≡ 1 → word % 2 ≡ 1
+  pub fits : word < 2 ^ 32
 
 -- The frames lie in the memory, each once. No page is held by both views. A word that names a table gives the host
 -- all rights.
 pub record IsShadow (s : Shadow) (m : List ℕ) : Type 0 where
   pub holds : Holds m (held s m)
-  pub apart : (page : ℕ) → page < 2 ^ 20 → (at m s.kernel page ≡ 0) ⊎ (at m s.user page ≡ 0)
+  pub apart : (page : ℕ) → page < 2 ^ 20 → at m s.kernel page ≢ 0 → at m s.user page ≡ 0
   pub shape : (r d : ℕ) → IsIn r (roots s) → d < 1024 → dir m r d ≢ 0 → dir m r d % 4096 ≡ 7
   pub marks : (r page : ℕ) → IsIn r (roots s) → page < 2 ^ 20 → at m r page ≢ 0 → IsMarked (at m r page)
 
@@ -126,3 +136,16 @@ ArePart fs gs = (f : ℕ) → is_among f fs ≡ true → is_among f gs ≡ true
 pub record Turns (f f' : ℕ → Option Slot) (page : ℕ) (o : Option Slot) : Type 0 where
   pub there : f' page ≡ o
   pub others : (q : ℕ) → q < 2 ^ 20 → (q ≡ page → ⊥) → f' q ≡ f q
+
+-- and only those of a directory index changed, and are gone
+pub record LosesDir (f f' : ℕ → Option Slot) (index : ℕ) : Type 0 where
+  pub gone : (page : ℕ) → page < 2 ^ 20 → page / 1024 ≡ index → f' page ≡ None
+  pub others : (page : ℕ) → page < 2 ^ 20 → (page / 1024 ≡ index → ⊥) → f' page ≡ f page
+
+-- nothing that is kept changed
+abbrev pub SameSlots : (f f' : ℕ → Option Slot) → Type 0
+SameSlots f f' = (page : ℕ) → page < 2 ^ 20 → f' page ≡ f page
+
+-- what is kept lost the right to write to the frames of `tracked`, and nothing else changed
+abbrev pub LosesWrites : (f f' : ℕ → Option Slot) → List ℕ → Type 0
+LosesWrites f f' tracked = (page : ℕ) → page < 2 ^ 20 → f' page ≡ barred tracked (f page)

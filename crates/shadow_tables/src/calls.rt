@@ -1,11 +1,12 @@
 //! Lists of calls.
 
-ghost use Rattle.std.specs.Prelude.{◌≡◌, ℕ, ◌+◌, ◌≤◌, ◌<◌, ◌^◌, [], length, IsTrue};
+ghost use Rattle.std.specs.Prelude.{◌≡◌, ℕ, ◌+◌, ◌≤◌, ◌<◌, ◌^◌, ◌↔◌, [], length, take, drop, Bool, true, IsTrue};
 ghost use Rattle.frame_pool.specs.Pool.{free_list};
 ghost use Rattle.frame_pool.specs.Held.{Owns, Moves};
-ghost use Rattle.shadow_tables.specs.Calls.{IsFit, AreFit, fill_count, fills, Follows};
+ghost use Rattle.shadow_tables.specs.Calls.{IsFit, AreFit, fill_count, fills, BeginsWithFill, IsWithin, IsAdequateAfter, Follows};
 ghost use Rattle.shadow_tables.specs.Steps.{after, after_call};
-ghost use Rattle.shadow_tables.specs.Slots.{ArePart};
+ghost use Rattle.shadow_tables.specs.Slots.{is_adequate};
+ghost use Rattle.shadow_tables.specs.declared.words.Side.{Side};
 
 use crate::shadows::Shadows;
 use crate::words::Side;
@@ -13,25 +14,30 @@ use frame_pool::Pool;
 use guest_ram::Ram;
 use paging::Entry;
 
-/// A call that changes what is kept.
+/// A call that changes what is kept or tracked.
 #[derive(Clone, Copy, Debug, PartialEq, Eq)]
 pub enum Call {
     Fill(Side, Entry, bool),
     DropPage(u32),
+    DropDir(u32),
     DropAll,
+    Note(u32),
+    Written(u32),
 }
 
-/// Does a call, unless it is a fill and no frame is free.
+/// Does a call, unless it is a fill and no frame is free. Then nothing changes.
 fn apply<S: Shadows>(shadows: &mut S, ram: &mut Ram, pool: &mut Pool, call: Call) -> bool
-    requires stands { S.stands shadows.old ram.old }
+    requires stands { ∥ S.stands shadows.old ram.old ∥₁ }
     requires owns { Owns pool.old ram.old (S.frames shadows.old ram.old) }
     requires fit { IsFit call }
-    ensures stands { S.stands shadows.new ram.new }
+    ensures stands { ∥ S.stands shadows.new ram.new ∥₁ }
     ensures moves { Moves pool.old pool.new ram.old ram.new (S.frames shadows.old ram.old) (S.frames shadows.new ram.new) }
-    ensures tracked { ArePart (S.tracked shadows.new ram.new) (S.tracked shadows.old ram.old) }
     ensures done { fill_count call ≤ length (free_list pool.old ram.old) → IsTrue result }
+    ensures undone { (IsTrue result → ⊥) → (fill_count call ≡ 1) × (free_list pool.new ram.new ≡ []) }
     ensures left { length (free_list pool.old ram.old) ≤ length (free_list pool.new ram.new) + fill_count call }
-    ensures slots { IsTrue result → S.tracked shadows.old ram.old ≡ [] → (page : ℕ) → page < 2 ^ 20 → S.slots shadows.new ram.new page ≡ after_call call page (S.slots shadows.old ram.old page) }
+    ensures same { (IsTrue result → ⊥) → (page : ℕ) → page < 2 ^ 20 → S.slots shadows.new ram.new page ≡ S.slots shadows.old ram.old page }
+    ensures within { IsTrue result → (page : ℕ) → page < 2 ^ 20 → IsWithin (S.slots shadows.new ram.new page) (after_call call page (S.slots shadows.old ram.old page)) }
+    ensures slots { IsTrue result → ((s : S) → S.tracked s ≡ []) → (page : ℕ) → page < 2 ^ 20 → S.slots shadows.new ram.new page ≡ after_call call page (S.slots shadows.old ram.old page) }
 {
     match call {
         Call::Fill(side, entry, wp) => {
@@ -41,30 +47,39 @@ fn apply<S: Shadows>(shadows: &mut S, ram: &mut Ram, pool: &mut Pool, call: Call
             shadows.fill(ram, pool, side, entry, wp);
         }
         Call::DropPage(page) => shadows.drop_page(ram, page),
+        Call::DropDir(index) => shadows.drop_dir(ram, index),
         Call::DropAll => shadows.drop_all(ram, pool),
+        Call::Note(frame) => shadows.note(ram, frame),
+        Call::Written(frame) => shadows.written(ram, pool, frame),
     }
     true
 }
 
-/// Does the calls in order up to a fill for which no frame is free, and tells whether all were done. They are done at
-/// least where as many frames are free as there are fills. Where no frame is tracked, a page's entry is then that of its
-/// last fill which no later drop took away, and an access is adequate exactly where this fill was on that side and
-/// let the access pass.
-pub fn replay<S: Shadows>(shadows: &mut S, ram: &mut Ram, pool: &mut Pool, calls: &[Call]) -> bool
-    requires stands { S.stands shadows.old ram.old }
+/// Does the calls in order up to a fill for which no frame is free, and tells how many were done. All are done at least
+/// where as many frames are free as there are fills. A page's entry is then that of its last fill which no later drop
+/// took away. A read is adequate exactly where this fill was on that side and let the read pass, and so is a write where
+/// the shadows track no frame; where they do, a write is adequate at most then.
+pub fn replay<S: Shadows>(shadows: &mut S, ram: &mut Ram, pool: &mut Pool, calls: &[Call]) -> usize
+    requires stands { ∥ S.stands shadows.old ram.old ∥₁ }
     requires owns { Owns pool.old ram.old (S.frames shadows.old ram.old) }
     requires fit { AreFit calls.now }
-    ensures stands { S.stands shadows.new ram.new }
+    ensures stands { ∥ S.stands shadows.new ram.new ∥₁ }
     ensures owns { Owns pool.new ram.new (S.frames shadows.new ram.new) }
     ensures moves { Moves pool.old pool.new ram.old ram.new (S.frames shadows.old ram.old) (S.frames shadows.new ram.new) }
-    ensures done { fills calls.now ≤ length (free_list pool.old ram.old) → IsTrue result }
-    ensures slots { IsTrue result → S.tracked shadows.old ram.old ≡ [] → (page : ℕ) → page < 2 ^ 20 → S.slots shadows.new ram.new page ≡ after calls.now page (S.slots shadows.old ram.old page) }
-    ensures law { IsTrue result → S.tracked shadows.old ram.old ≡ [] → (page : ℕ) → page < 2 ^ 20 → Follows calls.now page (S.slots shadows.old ram.old page) (S.slots shadows.new ram.new page) }
+    ensures some { result ≤ length calls.now }
+    ensures all { fills calls.now ≤ length (free_list pool.old ram.old) → result ≡ length calls.now }
+    ensures stopped { result < length calls.now → BeginsWithFill (drop result calls.now) × (free_list pool.new ram.new ≡ []) }
+    ensures law { (page : ℕ) → page < 2 ^ 20 → Follows (take result calls.now) page (S.slots shadows.old ram.old page) (S.slots shadows.new ram.new page) }
+    ensures slots { ((s : S) → S.tracked s ≡ []) → (page : ℕ) → page < 2 ^ 20 → S.slots shadows.new ram.new page ≡ after (take result calls.now) page (S.slots shadows.old ram.old page) }
+    ensures adequate { ((s : S) → S.tracked s ≡ []) → (page : ℕ) → page < 2 ^ 20 → (side : Side) (write : Bool)
+        → (is_adequate (S.slots shadows.new ram.new page) side write ≡ true) ↔ IsAdequateAfter (take result calls.now) page (S.slots shadows.old ram.old page) side write }
 {
+    let mut done = 0;
     for call in calls {
         if !apply(shadows, ram, pool, *call) {
-            return false;
+            return done;
         }
+        done += 1;
     }
-    true
+    done
 }

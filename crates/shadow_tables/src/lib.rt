@@ -1,6 +1,7 @@
 //! Shadow tables.
 #![tactic(auto)]
 
+mod barring;
 mod calls;
 mod shadow;
 mod shadows;

@@ -1,14 +1,15 @@
 //! The views of a kernel and of a user.
 
-ghost use Rattle.std.specs.Prelude.{◌≡◌, ◌≢◌, ℕ, ◌+◌, ◌*◌, ◌≤◌, ◌<◌, ◌^◌, length, Some, None, []};
+ghost use Rattle.std.specs.Prelude.{◌≡◌, ℕ, ◌+◌, ◌*◌, ◌≤◌, ◌<◌, ◌^◌, length, Some, None, IfSome, false, [], ◌∷◌};
 ghost use Rattle.frame_pool.specs.Pool.{free_list, Stands, Takes};
 ghost use Rattle.frame_pool.specs.declared.Pool.{Pool};
 ghost use Rattle.frame_pool.specs.Held.{Owns, Writes, Moves};
 ghost use Rattle.std.specs.FinMap.{get, insert, remove};
 ghost use Rattle.std.specs.FinMap.{empty as no_entries};
 ghost use Rattle.shadow_tables.specs.Entries.{entries_of};
-ghost use Rattle.shadow_tables.specs.Host.{reached, lent};
-ghost use Rattle.shadow_tables.specs.Slots.{filled, held, slot_at, IsShadow, Becomes, entry_in, is_adequate, root_of, IsEmpty};
+ghost use Rattle.paging.specs.Uses.{without_dir};
+ghost use Rattle.shadow_tables.specs.Slots.{filled, barred, held, slot_at, IsShadow, Becomes, LosesDir, LosesWrites, entry_in, is_adequate, root_of, IsEmpty};
+ghost use Rattle.shadow_tables.specs.Sweeps.{Sweeps};
 
 use crate::words::{Side, entry_of, lets, word_of};
 use frame_pool::Pool;
@@ -17,7 +18,7 @@ use paging::Entry;
 use shadow_views::{clear, empty, look, open, set};
 
 /// The roots of both views.
-#[derive(Drop)]
+#[derive(Clone, Copy)]
 pub struct Shadow {
     kernel: u32,
     user: u32,
@@ -80,6 +81,7 @@ impl Shadow {
         requires page { page < 2 ^ 20 }
         ensures kept { result ≡ entry_in (slot_at self.now ram.now page) }
         ensures entries { result ≡ get (entries_of (slot_at self.now ram.now)) page }
+        ensures fits { IfSome result (λ entry. (entry.page ≡ page) × (entry.frame < 2 ^ 20)) }
     {
         let kernel = look(ram, self.kernel, page);
         if kernel != 0 {
@@ -96,8 +98,7 @@ impl Shadow {
     pub fn adequate(&self, ram: &Ram, side: Side, page: u32, write: bool) -> bool
         requires shadow { IsShadow self.now ram.now }
         requires page { page < 2 ^ 20 }
-        ensures adequate { result ≡ is_adequate (slot_at self.now ram.now page) side write }
-        ensures host { (frames : ℕ) → 4096 * frames ≡ length ram.now → reached ram.now frames (root_of self.now side) page write ≡ lent frames (slot_at self.now ram.now page) side write }
+        ensures { result ≡ is_adequate (slot_at self.now ram.now page) side write }
     {
         let word = look(ram, self.root(side), page);
         lets(word, write)
@@ -118,6 +119,23 @@ impl Shadow {
         clear(ram, self.user, page);
     }
 
+    /// Drops every page of a directory index in both views. The frames of tables stay held.
+    pub fn drop_dir(&mut self, ram: &mut Ram, index: u32)
+        requires shadow { IsShadow self.old ram.old }
+        requires index { index < 1024 }
+        ensures same { self.new ≡ self.old }
+        ensures shadow { IsShadow self.old ram.new }
+        ensures loses { LosesDir (slot_at self.old ram.old) (slot_at self.old ram.new) index }
+        ensures entries { entries_of (slot_at self.old ram.new) ≡ without_dir (entries_of (slot_at self.old ram.old)) index }
+        ensures held { held self.old ram.new ≡ held self.old ram.old }
+        ensures memory { Writes (held self.old ram.old) ram.old ram.new }
+        ensures moves { (p : Pool) → Owns p ram.old (held self.old ram.old) → Moves p p ram.old ram.new (held self.old ram.old) (held self.old ram.new) }
+    {
+        for word in 0..1024 {
+            self.drop_page(ram, 1024 * index + word);
+        }
+    }
+
     /// Drops the page in both views, and then holds it in one, with the rights that its entry gives there.
     pub fn fill(&mut self, ram: &mut Ram, pool: &mut Pool, side: Side, entry: Entry, wp: bool)
         requires shadow { IsShadow self.old ram.old }
@@ -126,7 +144,32 @@ impl Shadow {
         requires page { entry.page < 2 ^ 20 }
         requires frame { entry.frame < 2 ^ 20 }
         ensures same { self.new ≡ self.old }
-        ensures becomes { Becomes self.old ram.old ram.new entry.page (Some (filled [] side entry wp)) }
+        ensures becomes { Becomes self.old ram.old ram.new entry.page (Some (filled false side entry wp)) }
+        ensures entries { entries_of (slot_at self.old ram.new) ≡ insert (entries_of (slot_at self.old ram.old)) entry.page entry }
+        ensures one { length (free_list pool.old ram.old) ≤ length (free_list pool.new ram.new) + 1 }
+        ensures owns { Owns pool.new ram.new (held self.old ram.new) }
+        ensures moves { Moves pool.old pool.new ram.old ram.new (held self.old ram.old) (held self.old ram.new) }
+    {
+        self.hold(ram, pool, side, entry, wp, false);
+    }
+
+    /// The same, but without the right to write where the frame is barred from writes.
+    pub fn hold(
+        &mut self,
+        ram: &mut Ram,
+        pool: &mut Pool,
+        side: Side,
+        entry: Entry,
+        wp: bool,
+        barred: bool,
+    )
+        requires shadow { IsShadow self.old ram.old }
+        requires owns { Owns pool.old ram.old (held self.old ram.old) }
+        requires free { 1 ≤ length (free_list pool.old ram.old) }
+        requires page { entry.page < 2 ^ 20 }
+        requires frame { entry.frame < 2 ^ 20 }
+        ensures same { self.new ≡ self.old }
+        ensures becomes { Becomes self.old ram.old ram.new entry.page (Some (filled barred side entry wp)) }
         ensures entries { entries_of (slot_at self.old ram.new) ≡ insert (entries_of (slot_at self.old ram.old)) entry.page entry }
         ensures one { length (free_list pool.old ram.old) ≤ length (free_list pool.new ram.new) + 1 }
         ensures owns { Owns pool.new ram.new (held self.old ram.new) }
@@ -135,6 +178,17 @@ impl Shadow {
         self.drop_page(ram, entry.page);
         let root = self.root(side);
         open(ram, pool, root, entry.page / 1024);
-        set(ram, root, entry.page, word_of(side, &entry, wp));
+        set(ram, root, entry.page, word_of(side, &entry, wp, barred));
+    }
+
+    /// Gives all frames back, the roots too.
+    pub fn close(mut self, ram: &mut Ram, pool: &mut Pool)
+        requires shadow { IsShadow self ram.old }
+        requires owns { Owns pool.old ram.old (held self ram.old) }
+        ensures moves { Moves pool.old pool.new ram.old ram.new (held self ram.old) [] }
+    {
+        self.drop_all(ram, pool);
+        pool.give(ram, self.kernel);
+        pool.give(ram, self.user);
     }
 }

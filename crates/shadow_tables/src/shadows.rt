@@ -1,15 +1,17 @@
 //! What keeps the translations of a guest for its host.
 
-ghost use Rattle.std.specs.Prelude.{◌≡◌, ℕ, ◌+◌, ◌*◌, ◌≤◌, ◌<◌, ◌^◌, List, [], length, Option, Some, None, true, false, refl};
+ghost use Rattle.std.specs.Prelude.{◌≡◌, ℕ, ◌+◌, ◌*◌, ◌/◌, ◌≤◌, ◌<◌, ◌^◌, List, [], ◌∷◌, length, drop, Bool, Option, Some, None, IfSome, true, false};
 ghost use Rattle.std.specs.FinMap.{get, insert, remove, empty};
-ghost use Rattle.frame_pool.specs.Pool.{free_list};
+ghost use Rattle.frame_pool.specs.Pool.{base_of, free_list};
 ghost use Rattle.frame_pool.specs.declared.Pool.{Pool};
-ghost use Rattle.frame_pool.specs.Held.{Owns, Writes, Moves, SameIn};
+ghost use Rattle.frame_pool.specs.Held.{times, Holds, Owns, Writes, Moves, SameIn};
+ghost use Rattle.paging.specs.Reached.{reached, walk_frames};
+ghost use Rattle.paging.specs.Uses.{without_dir};
 ghost use Rattle.shadow_tables.specs.Entries.{entries_of};
-ghost use Rattle.shadow_tables.specs.Host.{reached, lent};
-ghost use Rattle.shadow_tables.specs.Slots.{Slot, filled, is_among, ArePart, entry_in, is_adequate, Turns, IsShadow, held, slot_at, root_of};
+ghost use Rattle.shadow_tables.specs.Host.{lent};
+ghost use Rattle.shadow_tables.specs.Slots.{Slot, filled, is_among, ArePart, entry_in, is_adequate, Turns, LosesDir, LosesWrites, SameSlots, IsShadow, held, slot_at, root_of};
 ghost use Rattle.shadow_tables.specs.declared.words.Side.{Side};
-ghost use Rattle.shadow_tables.specs.Laws.{IsShadow-stays, held-stays, slot_at-stays, held-roots, none-tracked};
+ghost use Rattle.shadow_tables.specs.Laws as laws;
 
 use crate::shadow::Shadow;
 use crate::words::Side;
@@ -17,7 +19,8 @@ use frame_pool::Pool;
 use guest_ram::Ram;
 use paging::Entry;
 
-/// Shadows of a guest's tables, which lie in frames of a pool.
+/// Shadows of a guest's tables, which lie in frames of a pool. Each call writes only frames that were free or that they
+/// held, and no call changes a root.
 pub trait Shadows {
     /// The memory is as the shadows left it.
     ghost stands: { Self → List ℕ → Type 0 };
@@ -26,7 +29,7 @@ pub trait Shadows {
     ghost frames: { Self → List ℕ → List ℕ };
 
     /// The frames to which no access may write that they make adequate.
-    ghost tracked: { Self → List ℕ → List ℕ };
+    ghost tracked: { Self → List ℕ };
 
     /// What they keep for each page.
     ghost slots: { Self → List ℕ → ℕ → Option Slot };
@@ -40,26 +43,40 @@ pub trait Shadows {
 
     /// The entry that either view holds.
     fn kept(&self, ram: &Ram, page: u32) -> Option<Entry>
-        requires stands { stands self.now ram.now }
+        requires stands { ∥ stands self.now ram.now ∥₁ }
         requires page { page < 2 ^ 20 }
         ensures kept { result ≡ entry_in (slots self.now ram.now page) }
-        ensures entries { result ≡ get (entries_of (slots self.now ram.now)) page };
+        ensures entries { result ≡ get (entries_of (slots self.now ram.now)) page }
+        ensures fits { IfSome result (λ entry. (entry.page ≡ page) × (entry.frame < 2 ^ 20)) };
 
     /// The host may do the access in that view.
     fn adequate(&self, ram: &Ram, side: Side, page: u32, write: bool) -> bool
-        requires stands { stands self.now ram.now }
+        requires stands { ∥ stands self.now ram.now ∥₁ }
         requires page { page < 2 ^ 20 }
-        ensures adequate { result ≡ is_adequate (slots self.now ram.now page) side write }
-        ensures host { (n : ℕ) → 4096 * n ≡ length ram.now → reached ram.now n (directory self.now side) page write ≡ lent n (slots self.now ram.now page) side write };
+        ensures { result ≡ is_adequate (slots self.now ram.now page) side write };
 
     /// Drops the page in both views.
     fn drop_page(&mut self, ram: &mut Ram, page: u32)
-        requires stands { stands self.old ram.old }
+        requires stands { ∥ stands self.old ram.old ∥₁ }
         requires page { page < 2 ^ 20 }
-        ensures stands { stands self.new ram.new }
+        ensures stands { ∥ stands self.new ram.new ∥₁ }
         ensures turns { Turns (slots self.old ram.old) (slots self.new ram.new) page None }
         ensures entries { entries_of (slots self.new ram.new) ≡ remove (entries_of (slots self.old ram.old)) page }
-        ensures tracked { tracked self.new ram.new ≡ tracked self.old ram.old }
+        ensures tracked { tracked self.new ≡ tracked self.old }
+        ensures roots { (side : Side) → directory self.new side ≡ directory self.old side }
+        ensures frames { frames self.new ram.new ≡ frames self.old ram.old }
+        ensures memory { Writes (frames self.old ram.old) ram.old ram.new }
+        ensures moves { (p : Pool) → Owns p ram.old (frames self.old ram.old) → Moves p p ram.old ram.new (frames self.old ram.old) (frames self.new ram.new) };
+
+    /// Drops every page of a directory index in both views. The frames of tables stay held.
+    fn drop_dir(&mut self, ram: &mut Ram, index: u32)
+        requires stands { ∥ stands self.old ram.old ∥₁ }
+        requires index { index < 1024 }
+        ensures stands { ∥ stands self.new ram.new ∥₁ }
+        ensures loses { LosesDir (slots self.old ram.old) (slots self.new ram.new) index }
+        ensures entries { entries_of (slots self.new ram.new) ≡ without_dir (entries_of (slots self.old ram.old)) index }
+        ensures tracked { tracked self.new ≡ tracked self.old }
+        ensures roots { (side : Side) → directory self.new side ≡ directory self.old side }
         ensures frames { frames self.new ram.new ≡ frames self.old ram.old }
         ensures memory { Writes (frames self.old ram.old) ram.old ram.new }
         ensures moves { (p : Pool) → Owns p ram.old (frames self.old ram.old) → Moves p p ram.old ram.new (frames self.old ram.old) (frames self.new ram.new) };
@@ -67,45 +84,97 @@ pub trait Shadows {
     /// Drops the page in both views, and then holds it in one, with the host's rights that `allows` gives that view
     /// under `wp`. A tracked frame is held without the right to write.
     fn fill(&mut self, ram: &mut Ram, pool: &mut Pool, side: Side, entry: Entry, wp: bool)
-        requires stands { stands self.old ram.old }
+        requires stands { ∥ stands self.old ram.old ∥₁ }
         requires owns { Owns pool.old ram.old (frames self.old ram.old) }
         requires free { 1 ≤ length (free_list pool.old ram.old) }
         requires page { entry.page < 2 ^ 20 }
         requires frame { entry.frame < 2 ^ 20 }
-        ensures stands { stands self.new ram.new }
-        ensures turns { Turns (slots self.old ram.old) (slots self.new ram.new) entry.page (Some (filled (tracked self.old ram.old) side entry wp)) }
+        ensures stands { ∥ stands self.new ram.new ∥₁ }
+        ensures turns { Turns (slots self.old ram.old) (slots self.new ram.new) entry.page (Some (filled (is_among entry.frame (tracked self.old)) side entry wp)) }
         ensures entries { entries_of (slots self.new ram.new) ≡ insert (entries_of (slots self.old ram.old)) entry.page entry }
-        ensures tracked { tracked self.new ram.new ≡ tracked self.old ram.old }
+        ensures tracked { tracked self.new ≡ tracked self.old }
+        ensures roots { (side : Side) → directory self.new side ≡ directory self.old side }
         ensures one { length (free_list pool.old ram.old) ≤ length (free_list pool.new ram.new) + 1 }
         ensures owns { Owns pool.new ram.new (frames self.new ram.new) }
         ensures moves { Moves pool.old pool.new ram.old ram.new (frames self.old ram.old) (frames self.new ram.new) };
 
     /// Drops all pages, and gives all frames back but the two roots.
     fn drop_all(&mut self, ram: &mut Ram, pool: &mut Pool)
-        requires stands { stands self.old ram.old }
+        requires stands { ∥ stands self.old ram.old ∥₁ }
         requires owns { Owns pool.old ram.old (frames self.old ram.old) }
-        ensures stands { stands self.new ram.new }
+        ensures stands { ∥ stands self.new ram.new ∥₁ }
         ensures none { (page : ℕ) → page < 2 ^ 20 → slots self.new ram.new page ≡ None }
         ensures entries { entries_of (slots self.new ram.new) ≡ empty }
-        ensures tracked { ArePart (tracked self.new ram.new) (tracked self.old ram.old) }
-        ensures roots { length (frames self.new ram.new) ≡ 2 }
+        ensures tracked { ArePart (tracked self.new) (tracked self.old) }
+        ensures roots { (side : Side) → directory self.new side ≡ directory self.old side }
+        ensures two { length (frames self.new ram.new) ≡ 2 }
         ensures owns { Owns pool.new ram.new (frames self.new ram.new) }
         ensures moves { Moves pool.old pool.new ram.old ram.new (frames self.old ram.old) (frames self.new ram.new) };
 
-    /// A write in other frames makes no difference.
-    ghost stays: { (s : Self) (m m' : List ℕ) → stands s m → SameIn (frames s m) m m' → stands s m' };
+    /// The guest's tables are read from this frame from now on. Where the frame is tracked then, no page of it is
+    /// adequate for a write any more.
+    fn note(&mut self, ram: &mut Ram, frame: u32)
+        requires stands { ∥ stands self.old ram.old ∥₁ }
+        requires frame { frame < 16384 }
+        ensures stands { ∥ stands self.new ram.new ∥₁ }
+        ensures slots { LosesWrites (slots self.old ram.old) (slots self.new ram.new) (tracked self.new) }
+        ensures entries { entries_of (slots self.new ram.new) ≡ entries_of (slots self.old ram.old) }
+        ensures tracked { ArePart (tracked self.new) (frame ∷ tracked self.old) }
+        ensures roots { (side : Side) → directory self.new side ≡ directory self.old side }
+        ensures frames { frames self.new ram.new ≡ frames self.old ram.old }
+        ensures memory { Writes (frames self.old ram.old) ram.old ram.new }
+        ensures moves { (p : Pool) → Owns p ram.old (frames self.old ram.old) → Moves p p ram.old ram.new (frames self.old ram.old) (frames self.new ram.new) };
 
-    ghost same_frames: { (s : Self) (m m' : List ℕ) → stands s m → SameIn (frames s m) m m' → frames s m' ≡ frames s m };
+    /// A byte of this frame was written, or is about to be. The frame isn't tracked any more; what is kept stays.
+    fn written(&mut self, ram: &mut Ram, pool: &mut Pool, frame: u32)
+        requires stands { ∥ stands self.old ram.old ∥₁ }
+        requires owns { Owns pool.old ram.old (frames self.old ram.old) }
+        ensures stands { ∥ stands self.new ram.new ∥₁ }
+        ensures slots { SameSlots (slots self.old ram.old) (slots self.new ram.new) }
+        ensures entries { entries_of (slots self.new ram.new) ≡ entries_of (slots self.old ram.old) }
+        ensures tracked { ArePart (tracked self.new) (tracked self.old) }
+        ensures untracked { is_among frame (tracked self.new) ≡ false }
+        ensures roots { (side : Side) → directory self.new side ≡ directory self.old side }
+        ensures fewer { length (free_list pool.old ram.old) ≤ length (free_list pool.new ram.new) }
+        ensures owns { Owns pool.new ram.new (frames self.new ram.new) }
+        ensures moves { Moves pool.old pool.new ram.old ram.new (frames self.old ram.old) (frames self.new ram.new) };
 
-    ghost same_tracked: { (s : Self) (m m' : List ℕ) → stands s m → SameIn (frames s m) m m' → tracked s m' ≡ tracked s m };
+    /// Their frames lie in memory, each once.
+    ghost holds: { (s : Self) (m : List ℕ) → ∥ stands s m ∥₁ → Holds m (frames s m) };
 
-    ghost same_slots: { (s : Self) (m m' : List ℕ) → stands s m → SameIn (frames s m) m m' → (page : ℕ) → page < 2 ^ 20 → slots s m' page ≡ slots s m page };
+    /// Two of them are the roots.
+    ghost two: { (s : Self) (m : List ℕ) → ∥ stands s m ∥₁ → 2 ≤ length (frames s m) };
 
-    /// Two frames are the roots.
-    ghost two: { (s : Self) (m : List ℕ) → stands s m → 2 ≤ length (frames s m) };
+    /// A walk of a view reads no other frames.
+    ghost walked: { (s : Self) (m : List ℕ) (side : Side) (page f : ℕ) → ∥ stands s m ∥₁ → page < 2 ^ 20 → 1 ≤ times f (walk_frames m (directory s side) page) → 1 ≤ times f (frames s m) };
+
+    /// Where a host's access leads by a walk of a view's tables as they stand, over all n frames of the memory, is what is kept.
+    ghost host: { (s : Self) (m : List ℕ) (n : ℕ) (side : Side) (page : ℕ) (write : Bool) → ∥ stands s m ∥₁ → 4096 * n ≡ length m → page < 2 ^ 20 → reached m n (directory s side) page write ≡ lent n (slots s m page) side write };
+
+    /// A page's entry is of that page, and can be filled again.
+    ghost fits: { (s : Self) (m : List ℕ) (page : ℕ) (slot : Slot) → ∥ stands s m ∥₁ → page < 2 ^ 20 → slots s m page ≡ Some slot → (slot.entry.page ≡ page) × (slot.entry.frame < 2 ^ 20) };
 
     /// No write to a tracked frame is adequate.
-    ghost barred: { (s : Self) (m : List ℕ) (page : ℕ) (slot : Slot) → stands s m → page < 2 ^ 20 → slots s m page ≡ Some slot → is_among slot.entry.frame (tracked s m) ≡ true → slot.writes ≡ false };
+    ghost barred: { (s : Self) (m : List ℕ) (page : ℕ) (slot : Slot) → ∥ stands s m ∥₁ → page < 2 ^ 20 → slots s m page ≡ Some slot → is_among slot.entry.frame (tracked s) ≡ true → slot.writes ≡ false };
+
+    /// A write in other frames makes no difference.
+    ghost stays: { (s : Self) (m m' : List ℕ) → ∥ stands s m ∥₁ → SameIn (frames s m) m m' → ∥ stands s m' ∥₁ };
+
+    ghost same_frames: { (s : Self) (m m' : List ℕ) → ∥ stands s m ∥₁ → SameIn (frames s m) m m' → frames s m' ≡ frames s m };
+
+    ghost same_slots: { (s : Self) (m m' : List ℕ) → ∥ stands s m ∥₁ → SameIn (frames s m) m m' → SameSlots (slots s m) (slots s m') };
+
+    ghost same_entries: { (s : Self) (m m' : List ℕ) → ∥ stands s m ∥₁ → SameIn (frames s m) m m' → entries_of (slots s m') ≡ entries_of (slots s m) } = { λ s m m' h e. laws.same-entries (slots s m) (slots s m') (same_slots s m m' h e) };
+
+    /// The entries as a map: that of a page, and none from the last page on.
+    ghost entry_at: { (s : Self) (m : List ℕ) (page : ℕ) → page < 2 ^ 20 → get (entries_of (slots s m)) page ≡ entry_in (slots s m page) } = { λ s m page l. laws.entry-at (slots s m) page l };
+
+    ghost none_beyond: { (s : Self) (m : List ℕ) (page : ℕ) → 2 ^ 20 ≤ page → get (entries_of (slots s m)) page ≡ None } = { λ s m page l. laws.none-beyond (slots s m) page l };
+
+    /// No frame of theirs lies below the pool's first: what is written below changes none.
+    ghost above: { (s : Self) (p : Pool) (m m' : List ℕ) (limit : ℕ) → Owns p m (frames s m) → limit ≤ 4096 * base_of p → drop limit m' ≡ drop limit m → length m' ≡ length m → SameIn (frames s m) m m' } = { λ s p m m' limit o l e size. laws.same-above p m m' limit (frames s m) o l e size };
+
+    ghost owned_above: { (s : Self) (p : Pool) (m m' : List ℕ) (limit : ℕ) → ∥ stands s m ∥₁ → Owns p m (frames s m) → limit ≤ 4096 * base_of p → drop limit m' ≡ drop limit m → length m' ≡ length m → Owns p m' (frames s m') } = { λ s p m m' limit h o l e size. laws.owned-above p m m' limit (frames s m) (frames s m') o l e size (same_frames s m m' h (laws.same-above p m m' limit (frames s m) o l e size)) };
 }
 
 impl Shadows for Shadow {
@@ -113,23 +182,29 @@ impl Shadows for Shadow {
 
     ghost frames = { λ s m. held s m };
 
-    ghost tracked = { λ s m. [] };
+    ghost tracked = { λ s. [] };
 
     ghost slots = { λ s m page. slot_at s m page };
 
     ghost directory = { λ s side. root_of s side };
 
-    ghost stays = { λ s m m' h e. IsShadow-stays s m m' h e };
+    ghost holds = { λ s m h. laws.lies s m h };
 
-    ghost same_frames = { λ s m m' h e. held-stays s m m' h e };
+    ghost two = { λ s m h. laws.held-roots s m };
 
-    ghost same_tracked = { λ s m m' h e. refl };
+    ghost walked = { λ s m side page f h l i. laws.walked s m side page f h l i };
 
-    ghost same_slots = { λ s m m' h e page l. slot_at-stays s m m' h e page l };
+    ghost host = { λ s m n side page write h e l. laws.host s m n side page write h e l };
 
-    ghost two = { λ s m h. held-roots s m };
+    ghost fits = { λ s m page slot h l e. laws.fits s m page slot h l e };
 
-    ghost barred = { λ s m page slot h l e t. none-tracked slot.entry.frame slot.writes t };
+    ghost barred = { λ s m page slot h l e t. laws.none-tracked slot.entry.frame slot.writes t };
+
+    ghost stays = { λ s m m' h e. laws.stays s m m' h e };
+
+    ghost same_frames = { λ s m m' h e. laws.same-frames s m m' h e };
+
+    ghost same_slots = { λ s m m' h e. laws.same-slots s m m' h e };
 
     fn root(&self, side: Side) -> u32 {
         Shadow::root(self, side)
@@ -147,6 +222,10 @@ impl Shadows for Shadow {
         Shadow::drop_page(self, ram, page);
     }
 
+    fn drop_dir(&mut self, ram: &mut Ram, index: u32) {
+        Shadow::drop_dir(self, ram, index);
+    }
+
     fn fill(&mut self, ram: &mut Ram, pool: &mut Pool, side: Side, entry: Entry, wp: bool) {
         Shadow::fill(self, ram, pool, side, entry, wp);
     }
@@ -154,4 +233,9 @@ impl Shadows for Shadow {
     fn drop_all(&mut self, ram: &mut Ram, pool: &mut Pool) {
         Shadow::drop_all(self, ram, pool);
     }
+
+    /// Nothing is tracked.
+    fn note(&mut self, _ram: &mut Ram, _frame: u32) {}
+
+    fn written(&mut self, _ram: &mut Ram, _pool: &mut Pool, _frame: u32) {}
 }

@@ -83,7 +83,10 @@ fn call_of(n: u32) -> Call
     let page = page_of(n / 0x10_0000 % 8);
     match n / 0x100_0000 % 16 {
         0 => Call::DropAll,
-        1 | 2 | 3 => Call::DropPage(page),
+        1 | 2 => Call::DropPage(page),
+        3 => Call::DropDir(page / 1024),
+        4 => Call::Note(n % 16384),
+        5 => Call::Written(n % 16384),
         kind => Call::Fill(
             if kind % 2 == 0 {
                 Side::Kernel
@@ -111,11 +114,17 @@ fn follow(plain: &mut [Option<Plain>; 8], call: Call) {
                     *kept = None;
                 }
             }
+            Call::DropDir(index) => {
+                if page_of(k as u32) / 1024 == index {
+                    *kept = None;
+                }
+            }
             Call::Fill(side, entry, wp) => {
                 if entry.page == page_of(k as u32) {
                     *kept = Some(Plain { side, entry, wp });
                 }
             }
+            Call::Note(_) | Call::Written(_) => {}
         }
     }
 }
@@ -173,8 +182,9 @@ fn keeps_what_a_plain_map_keeps(rt: HostRuntime) {
     for step in 0..200 {
         seed = next(seed);
         let call = call_of(seed);
-        assert!(rt;
+        assert_eq!(rt;
             replay(&mut shadow, &mut ram, &mut pool, &[call]),
+            1,
             "step {step}"
         );
         follow(&mut plain, call);

@@ -1,7 +1,7 @@
 //! The word that keeps an entry: the frame in bits 12 to 31, the entry's user, write and dirty flags in bits 9 to 11,
 //! and the host's rights in bits 0 to 2. Bit 2 is always set, so that the word isn't 0.
 
-ghost use Rattle.std.specs.Prelude.{◌≡◌, ◌≢◌, ◌≤◌, ◌<◌, ◌^◌, []};
+ghost use Rattle.std.specs.Prelude.{◌≡◌, ◌≤◌, ◌<◌, ◌^◌};
 ghost use Rattle.shadow_tables.specs.Slots.{is_user, permits, filled, worth, word_of, entry_of, lets};
 
 use paging::{Access, Entry, allows};
@@ -44,15 +44,15 @@ fn worth(on: bool) -> u32
     if on { 1 } else { 0 }
 }
 
-/// The word of an entry in a view.
+/// The word of an entry in a view, perhaps barred from writes.
 #[tactic(auto, unfolding(crate::specs::Slots::word_of))]
-pub fn word_of(side: Side, entry: &Entry, wp: bool) -> u32
+pub fn word_of(side: Side, entry: &Entry, wp: bool, barred: bool) -> u32
     requires page { entry.now.page < 2 ^ 20 }
     requires frame { entry.now.frame < 2 ^ 20 }
-    ensures { result ≡ word_of (filled [] side entry.now wp) }
+    ensures { result ≡ word_of (filled barred side entry.now wp) }
 {
     let reads = permits(side, entry, false, wp);
-    let writes = permits(side, entry, true, wp);
+    let writes = !barred && permits(side, entry, true, wp);
     4096 * entry.frame
         + 2048 * worth(entry.dirty)
         + 1024 * worth(entry.write)

@@ -1,7 +1,7 @@
 //! Views of a guest's memory that a host walks: directories and tables in frames of a pool.
 #![tactic(auto)]
 
-ghost use Rattle.std.specs.Prelude.{◌≡◌, ◌≢◌, ℕ, ◌+◌, ◌*◌, ◌/◌, ◌^◌, ◌<◌, ◌≤◌, List, length};
+ghost use Rattle.std.specs.Prelude.{◌≡◌, ◌≢◌, ℕ, ◌+◌, ◌*◌, ◌/◌, ◌^◌, ◌<◌, ◌≤◌, ◌↔◌, List, length, IsTrue};
 ghost use Rattle.frame_pool.specs.Pool.{free_list, Stands};
 ghost use Rattle.frame_pool.specs.Held.{Holds, Owns};
 ghost use Rattle.shadow_views.specs.Tables.{dir, at, owned, IsIn, IsView, IsOwned, Puts, Opens, Closes, Empties};
@@ -32,6 +32,15 @@ pub fn look(ram: &Ram, root: u32, page: u32) -> u32
         return 0;
     }
     ram.read32(FRAME * (word / 4096) + 4 * (page % 1024))
+}
+
+/// A directory word names a table.
+pub fn has_table(ram: &Ram, root: u32, d: u32) -> bool
+    requires view { IsView ram.now root }
+    requires index { d < 1024 }
+    ensures { IsTrue result ↔ (dir ram.now root d ≢ 0) }
+{
+    dir(ram, root, d) != 0
 }
 
 /// Changes the word of a page whose table is there.

@@ -1,4 +1,4 @@
--- Reading and writing are inverse to each other.
+-- Reading and writing are inverse to each other in format 1.
 use Rattle.std.proofs.Common.{◌≡◌, ℕ, zero, suc, ◌+◌, ◌-◌, ◌<◌, ◌≤◌, ◌^◌, Bool, true, false, eqb, ltb, List, [], ◌∷◌, ◌++◌, length, get_or, take, drop, Option, Some, None, ◌⊎◌, Result, Ok, Err, refl, sym, ap, ◌∙◌, subst, arith, eq-eqb, append_assoc, inl, inr}
 use Rattle.std.specs.Prelude.{IfOk, ◌*◌, not, ◌&&◌, ◌||◌, max, is_none, unwrap_or}
 use Rattle.std.specs.List.{flat_map}
@@ -12,14 +12,13 @@ use Rattle.sites.specs.declared.site.Site.{Site}
 use Rattle.ia32_types.specs.declared.site.SiteKind.{SiteKind}
 use Rattle.ia32_types.specs.declared.site.SiteKind.TheVariants.{Cli, Sti, StiHlt, Hlt, PushFlags, PopFlags, Iret, ReadControl, WriteControl, LoadGdt, LoadIdt, LoadTask, DropPage, ReadSeg, LoadSeg, PushSeg, PopSeg, FarJump, PortIn, PortOut, Return, JumpTo, CallTo}
 use Rattle.sites.specs.Kinds.{kinds, number, kind_of}
-use Rattle.sites.specs.Spelling.{site, spelling, AreInForm}
+use Rattle.sites.specs.Spelling.{site, placed, AreInForm}
 use Rattle.sites.specs.SitesParts.{SitesParts}
-use Rattle.sites.specs.declared.site.SitesFault.{SitesFault}
-use Rattle.sites.specs.Reading.{bad, ◌or_else◌, differs, cut_before, falls, has_no_kind, has_wrong_total, unless, head_fault, site_fault, sites_fault, site_at, sites_at, sites_in, Gives}
+use Rattle.sites.specs.Reading.{bad, ◌or_else◌, differs, cut_before, falls, has_no_kind, has_wrong_total, unless, head_fault, site_fault, sites_fault, site_at, sites_at, placed_in}
 
 -- ---- kinds
 
-kind_of-number : (k : SiteKind) → kind_of (number k) ≡ Some k
+pub kind_of-number : (k : SiteKind) → kind_of (number k) ≡ Some k
 kind_of-number Cli = refl
 kind_of-number Sti = refl
 kind_of-number StiHlt = refl
@@ -50,7 +49,7 @@ numbered n positive lt = split (or_cases (eqb n 0) (eqb (number (get_or kinds (n
   split (inl e) = absurd (both_ways _ positive e)
   split (inr e) = eqb-true _ _ e
 
-number-kind : (n : ℕ) → is_none (kind_of n) ≡ false → number (unwrap_or (kind_of n) Cli) ≡ n
+pub number-kind : (n : ℕ) → is_none (kind_of n) ≡ false → number (unwrap_or (kind_of n) Cli) ≡ n
 number-kind n some = split (cases_Bool (eqb n 0 || ltb 23 n)) where
   split : ((eqb n 0 || ltb 23 n) ≡ true) ⊎ ((eqb n 0 || ltb 23 n) ≡ false) → number (unwrap_or (kind_of n) Cli) ≡ n
   split (inl e) = absurd (both_ways (is_none (kind_of n)) some (ap is_none (cond-true (eqb n 0 || ltb 23 n) None (Some (get_or kinds (n - 1) Cli)) e)))
@@ -60,11 +59,11 @@ number-kind n some = split (cases_Bool (eqb n 0 || ltb 23 n)) where
 
 -- ---- what is spelled is read so
 
-byte-behind : (front rest : List ℕ) (a k : ℕ) → length front ≡ a → byte (front ++ rest) (a + k) ≡ byte rest k
+pub byte-behind : (front rest : List ℕ) (a k : ℕ) → length front ≡ a → byte (front ++ rest) (a + k) ≡ byte rest k
 unfolding byte
 byte-behind front rest a k e = rw (← e) (get_or-append-add front rest k 0)
 
-word32-behind : (front rest : List ℕ) (a : ℕ) → length front ≡ a → word32 (front ++ rest) a ≡ word32 rest 0
+pub word32-behind : (front rest : List ℕ) (a : ℕ) → length front ≡ a → word32 (front ++ rest) a ≡ word32 rest 0
 unfolding word32 part
 word32-behind front rest a e = ap (λ (x : List ℕ). from_le_bytes w32 (take 4 x)) (drop_at front rest a e)
 
@@ -120,45 +119,49 @@ sites_read (s ∷ sites) front least a e are =
     let rest = subst (λ (x : List ℕ). (sites_fault x (s.at + 1) (length sites) (a + 8) ≡ None) × (sites_at x (length sites) (a + 8) ≡ sites)) regrouped rest in
     (rw (not_bad_there bytes least a s is are.0 are.3, is.at) (rest.0), rw (read_there bytes a s is) (ap (λ (r : List Site). s ∷ r) rest.1))
 
-head_good : (bytes : List ℕ) → 8 ≤ length bytes → byte bytes 0 ≡ 80 → byte bytes 1 ≡ 86 → byte bytes 2 ≡ 83 → byte bytes 3 ≡ 49 → head_fault bytes ≡ None
+pub head_good : (bytes : List ℕ) (v : ℕ) → 8 ≤ length bytes → byte bytes 0 ≡ 80 → byte bytes 1 ≡ 86 → byte bytes 2 ≡ 83 → byte bytes 3 ≡ v → head_fault bytes v ≡ None
 unfolding head_fault
-head_good bytes room b0 b1 b2 b3 =
+head_good bytes v room b0 b1 b2 b3 =
     let r0 : ltb 0 (length bytes) ≡ true = lt-ltb _ _ (omega arith) in
     let r1 : ltb 1 (length bytes) ≡ true = lt-ltb _ _ (omega arith) in
     let r2 : ltb 2 (length bytes) ≡ true = lt-ltb _ _ (omega arith) in
     let r3 : ltb 3 (length bytes) ≡ true = lt-ltb _ _ (omega arith) in
     let l8 : ltb (length bytes) 8 ≡ false = le-ltb _ _ room in
-    rw (r0, r1, r2, r3, b0, b1, b2, b3, l8) refl
+    let same : eqb (byte bytes 3) v ≡ true = eq-eqb _ _ b3 in
+    rw (r0, r1, r2, r3, b0, b1, b2, same, l8) refl
 
-unless_none : (place : Option ℕ) (v : List Site) → place ≡ None → unless place v ≡ Ok v
+pub unless_none : (place : Option ℕ) (v : SitesParts) → place ≡ None → unless place v ≡ Ok v
 unless_none place v e = rw e refl
 
-pub spelled_read : (sites : List Site) → AreInForm 0 sites → length sites < 2 ^ 32 → sites_in (spelling sites) ≡ Ok sites
-unfolding spelling byte word32 part sites_in
-spelled_read sites are lt =
+abbrev pub in_first : List Site → SitesParts
+in_first sites = record { list = sites; format = 1 }
+
+pub placed_read : (sites : List Site) → AreInForm 0 sites → length sites < 2 ^ 32 → placed_in (placed sites) ≡ Ok (in_first sites)
+unfolding placed byte word32 part placed_in
+placed_read sites are lt =
     let front : List ℕ = 80 ∷ 86 ∷ 83 ∷ 49 ∷ to_le_bytes w32 (length sites) in
-    let count : word32 (spelling sites) 4 ≡ length sites = from_le_bytes-to_le_bytes_4 (length sites) lt in
-    let head : head_fault (spelling sites) ≡ None = head_good (spelling sites) (omega (arith, length-append front (flat_map site sites))) refl refl refl refl in
+    let count : word32 (placed sites) 4 ≡ length sites = from_le_bytes-to_le_bytes_4 (length sites) lt in
+    let head : head_fault (placed sites) 49 ≡ None = head_good (placed sites) 49 (omega (arith, length-append front (flat_map site sites))) refl refl refl refl in
     let rest = sites_read sites front 0 8 refl are in
-    let none : (head_fault (spelling sites) or_else sites_fault (spelling sites) 0 (word32 (spelling sites) 4) 8) ≡ None = rw (head, count) rest.0 in
-    let all : sites_at (spelling sites) (word32 (spelling sites) 4) 8 ≡ sites = rw count rest.1 in
-    unless_none (head_fault (spelling sites) or_else sites_fault (spelling sites) 0 (word32 (spelling sites) 4) 8) (sites_at (spelling sites) (word32 (spelling sites) 4) 8) none ∙ ap (λ (v : List Site). Ok v) all
+    let none : (head_fault (placed sites) 49 or_else sites_fault (placed sites) 0 (word32 (placed sites) 4) 8) ≡ None = rw (head, count) rest.0 in
+    let all : sites_at (placed sites) (word32 (placed sites) 4) 8 ≡ sites = rw count rest.1 in
+    unless_none (head_fault (placed sites) 49 or_else sites_fault (placed sites) 0 (word32 (placed sites) 4) 8) (in_first (sites_at (placed sites) (word32 (placed sites) 4) 8)) none ∙ ap (λ (v : List Site). Ok (in_first v)) all
 
 -- ---- what is read is spelled so
 
-neither : (a b : Option ℕ) → (a or_else b) ≡ None → (a ≡ None) × (b ≡ None)
+pub neither : (a b : Option ℕ) → (a or_else b) ≡ None → (a ≡ None) × (b ≡ None)
 neither None b e = (refl, e)
 neither (Some a) b e = absurd cc
 
-not_bad : (is_bad : Bool) (at : ℕ) → bad is_bad at ≡ None → is_bad ≡ false
+pub not_bad : (is_bad : Bool) (at : ℕ) → bad is_bad at ≡ None → is_bad ≡ false
 not_bad true at e = absurd cc
 not_bad false at e = refl
 
-second_false : (x y : Bool) → x ≡ true → (x && y) ≡ false → y ≡ false
+pub second_false : (x y : Bool) → x ≡ true → (x && y) ≡ false → y ≡ false
 second_false true y e h = h
 second_false false y e h = absurd (both_ways false refl e)
 
-same_byte : (bytes : List ℕ) (at v : ℕ) → at < length bytes → differs bytes at v ≡ false → byte bytes at ≡ v
+pub same_byte : (bytes : List ℕ) (at v : ℕ) → at < length bytes → differs bytes at v ≡ false → byte bytes at ≡ v
 same_byte bytes at v lt e = eqb-true _ _ (not-false _ (second_false (ltb at (length bytes)) (not (eqb (byte bytes at) v)) (lt-ltb _ _ lt) e))
 
 record WasSite (bytes : List ℕ) (least a : ℕ) : Type 0 where
@@ -172,7 +175,7 @@ was_site : (bytes : List ℕ) (least a : ℕ) → site_fault bytes least a ≡ N
 unfolding site_fault
 was_site bytes least a e =
     let f0 = bad (falls bytes least a) a in
-    let f1 = bad (has_no_kind bytes a) (a + 4) in
+    let f1 = bad (has_no_kind bytes (a + 4)) (a + 4) in
     let f2 = bad (has_wrong_total bytes a) (a + 6) in
     let f3 = bad (differs bytes (a + 7) 0) (a + 7) in
     let f4 = cut_before bytes (a + 8) in
@@ -185,12 +188,12 @@ was_site bytes least a e =
     record {
       room = room;
       rises = ltb-false _ _ (second_false (not (ltb (length bytes) (a + 4))) (ltb (word32 bytes a) least) here (not_bad (falls bytes least a) a n0.0));
-      kind = second_false (ltb (a + 4) (length bytes)) (is_none (kind_of (byte bytes (a + 4)))) (lt-ltb _ _ (omega arith)) (not_bad (has_no_kind bytes a) (a + 4) n1.0);
+      kind = second_false (ltb (a + 4) (length bytes)) (is_none (kind_of (byte bytes (a + 4)))) (lt-ltb _ _ (omega arith)) (not_bad (has_no_kind bytes (a + 4)) (a + 4) n1.0);
       total = same_byte bytes (a + 6) (max 5 (byte bytes (a + 5))) (omega arith) (not_bad (has_wrong_total bytes a) (a + 6) n2.0);
       last = same_byte bytes (a + 7) 0 (omega arith) (not_bad (differs bytes (a + 7) 0) (a + 7) n3.0);
     }
 
-four : (xs : List ℕ) → length xs ≡ 4 → xs ≡ get_or xs 0 0 ∷ get_or xs 1 0 ∷ get_or xs 2 0 ∷ get_or xs 3 0 ∷ []
+pub four : (xs : List ℕ) → length xs ≡ 4 → xs ≡ get_or xs 0 0 ∷ get_or xs 1 0 ∷ get_or xs 2 0 ∷ get_or xs 3 0 ∷ []
 four [] e = absurd (omega arith)
 four (a ∷ []) e = absurd (omega arith)
 four (a ∷ b ∷ []) e = absurd (omega arith)
@@ -198,14 +201,14 @@ four (a ∷ b ∷ c ∷ []) e = absurd (omega arith)
 four (a ∷ b ∷ c ∷ d ∷ []) e = refl
 four (a ∷ b ∷ c ∷ d ∷ x ∷ xs) e = absurd (omega arith)
 
-part-four : (bytes : List ℕ) (a : ℕ) → a + 4 ≤ length bytes → part bytes a 4 ≡ byte bytes a ∷ byte bytes (a + 1) ∷ byte bytes (a + 2) ∷ byte bytes (a + 3) ∷ []
+pub part-four : (bytes : List ℕ) (a : ℕ) → a + 4 ≤ length bytes → part bytes a 4 ≡ byte bytes a ∷ byte bytes (a + 1) ∷ byte bytes (a + 2) ∷ byte bytes (a + 3) ∷ []
 unfolding byte
 part-four bytes a room =
     let zero_more : a + 0 ≡ a = omega arith in
     let b0 : get_or (part bytes a 4) 0 0 ≡ get_or bytes a 0 = get_or-part bytes a 4 0 (omega arith) ∙ ap (λ (k : ℕ). get_or bytes k 0) zero_more in
     four (part bytes a 4) (length-part bytes a 4 room) ∙ rw (b0, get_or-part bytes a 4 1 (omega arith), get_or-part bytes a 4 2 (omega arith), get_or-part bytes a 4 3 (omega arith)) refl
 
-part-word : (bytes : List ℕ) (a : ℕ) → AreBytes bytes → a + 4 ≤ length bytes → part bytes a 4 ≡ to_le_bytes w32 (word32 bytes a)
+pub part-word : (bytes : List ℕ) (a : ℕ) → AreBytes bytes → a + 4 ≤ length bytes → part bytes a 4 ≡ to_le_bytes w32 (word32 bytes a)
 unfolding word32
 part-word bytes a fits room = sym (le_bytes_4 (part bytes a 4) (word32 bytes a) (length-part bytes a 4 room) (bytes-part bytes a 4 fits) refl)
 
@@ -220,7 +223,7 @@ site-part bytes least a fits was =
     part-four bytes (a + 4) (omega arith) ∙ rw (e5, e6, e7, was.last) (ap (λ (n : ℕ). n ∷ byte bytes (a + 5) ∷ byte bytes (a + 6) ∷ 0 ∷ []) (sym (number-kind (byte bytes (a + 4)) was.kind))) in
     sym (part-append bytes a 4 4) ∙ ap (λ (x : List ℕ). x ++ part bytes (a + 4) 4) (part-word bytes a fits (omega arith)) ∙ ap (λ (x : List ℕ). to_le_bytes w32 (word32 bytes a) ++ x) tail
 
-drop-eight : (bytes : List ℕ) (a : ℕ) → drop a bytes ≡ part bytes a 8 ++ drop (a + 8) bytes
+pub drop-eight : (bytes : List ℕ) (a : ℕ) → drop a bytes ≡ part bytes a 8 ++ drop (a + 8) bytes
 unfolding part
 drop-eight bytes a = sym (take-append-drop 8 (drop a bytes)) ∙ ap (λ (x : List ℕ). take 8 (drop a bytes) ++ x) (drop-drop 8 a bytes)
 
@@ -246,17 +249,17 @@ sites_spelled (suc n) bytes least a fits e =
       count = ap suc others.count;
     }
 
-unless_ok : (place : Option ℕ) (v sites : List Site) → unless place v ≡ Ok sites → (place ≡ None) × (v ≡ sites)
+pub unless_ok : (place : Option ℕ) (v sites : SitesParts) → unless place v ≡ Ok sites → (place ≡ None) × (v ≡ sites)
 unless_ok None v sites e = (refl, cc)
 unless_ok (Some at) v sites e = absurd cc
 
-head_was : (bytes : List ℕ) → head_fault bytes ≡ None → (8 ≤ length bytes) × (part bytes 0 4 ≡ 80 ∷ 86 ∷ 83 ∷ 49 ∷ [])
+pub head_was : (bytes : List ℕ) (v : ℕ) → head_fault bytes v ≡ None → (8 ≤ length bytes) × (part bytes 0 4 ≡ 80 ∷ 86 ∷ 83 ∷ v ∷ [])
 unfolding head_fault
-head_was bytes e =
+head_was bytes v e =
     let f0 = bad (differs bytes 0 80) 0 in
     let f1 = bad (differs bytes 1 86) 1 in
     let f2 = bad (differs bytes 2 83) 2 in
-    let f3 = bad (differs bytes 3 49) 3 in
+    let f3 = bad (differs bytes 3 v) 3 in
     let f4 = cut_before bytes 8 in
     let n0 = neither f0 (f1 or_else (f2 or_else (f3 or_else f4))) e in
     let n1 = neither f1 (f2 or_else (f3 or_else f4)) n0.1 in
@@ -266,36 +269,23 @@ head_was bytes e =
     let b0 = same_byte bytes 0 80 (omega arith) (not_bad (differs bytes 0 80) 0 n0.0) in
     let b1 = same_byte bytes 1 86 (omega arith) (not_bad (differs bytes 1 86) 1 n1.0) in
     let b2 = same_byte bytes 2 83 (omega arith) (not_bad (differs bytes 2 83) 2 n2.0) in
-    let b3 = same_byte bytes 3 49 (omega arith) (not_bad (differs bytes 3 49) 3 n3.0) in
+    let b3 = same_byte bytes 3 v (omega arith) (not_bad (differs bytes 3 v) 3 n3.0) in
     (room, part-four bytes 0 (omega arith) ∙ rw (b0, b1, b2, b3) refl)
 
-pub read_spelled : (bytes : List ℕ) (sites : List Site) → AreBytes bytes → sites_in bytes ≡ Ok sites → (bytes ≡ spelling sites) × AreInForm 0 sites
-unfolding sites_in spelling
-read_spelled bytes sites fits e =
+pub placed_was : (bytes : List ℕ) (sites : SitesParts) → AreBytes bytes → placed_in bytes ≡ Ok sites → (bytes ≡ placed sites.list) × AreInForm 0 sites.list × (sites.format ≡ 1)
+unfolding placed_in placed
+placed_was bytes sites fits e =
     let n = word32 bytes 4 in
-    let ok = unless_ok (head_fault bytes or_else sites_fault bytes 0 n 8) (sites_at bytes n 8) sites e in
-    let both = neither (head_fault bytes) (sites_fault bytes 0 n 8) ok.0 in
-    let head = head_was bytes both.0 in
+    let ok = unless_ok (head_fault bytes 49 or_else sites_fault bytes 0 n 8) (in_first (sites_at bytes n 8)) sites e in
+    let both = neither (head_fault bytes 49) (sites_fault bytes 0 n 8) ok.0 in
+    let head = head_was bytes 49 both.0 in
     let room : 8 ≤ length bytes = head.0 in
     let all = sites_spelled n bytes 0 8 fits both.1 in
     let eight : part bytes 0 8 ≡ (80 ∷ 86 ∷ 83 ∷ 49 ∷ []) ++ to_le_bytes w32 n = sym (part-append bytes 0 4 4) ∙ ap (λ (x : List ℕ). x ++ part bytes 4 4) head.1 ∙ ap (λ (x : List ℕ). (80 ∷ 86 ∷ 83 ∷ 49 ∷ []) ++ x) (part-word bytes 4 fits (omega arith)) in
     let whole : bytes ≡ ((80 ∷ 86 ∷ 83 ∷ 49 ∷ []) ++ to_le_bytes w32 n) ++ flat_map site (sites_at bytes n 8) = drop-eight bytes 0 ∙ rw (eight, all.rest) refl in
-    let counted : bytes ≡ spelling (sites_at bytes n 8) = subst (λ (k : ℕ). bytes ≡ ((80 ∷ 86 ∷ 83 ∷ 49 ∷ []) ++ to_le_bytes w32 k) ++ flat_map site (sites_at bytes n 8)) (sym all.count) whole in
-    subst (λ (v : List Site). (bytes ≡ spelling v) × AreInForm 0 v) ok.1 (counted, all.are)
+    let counted : bytes ≡ placed (sites_at bytes n 8) = subst (λ (k : ℕ). bytes ≡ ((80 ∷ 86 ∷ 83 ∷ 49 ∷ []) ++ to_le_bytes w32 k) ++ flat_map site (sites_at bytes n 8)) (sym all.count) whole in
+    subst (λ (v : SitesParts). (bytes ≡ placed v.list) × AreInForm 0 v.list × (v.format ≡ 1)) ok.1 (counted, all.are, refl)
 
--- ---- of what `read_sites` and `write_sites` returned
-
-pub if_spelled : (bytes : List ℕ) (r : Result SitesParts SitesFault) → AreBytes bytes → Gives r (sites_in bytes) → IfOk r (λ s. (bytes ≡ spelling s.list) × AreInForm 0 s.list)
-if_spelled bytes (Ok s) fits given = read_spelled bytes s.list fits given
-if_spelled bytes (Err e) fits given = tt
-
-length-sites : (sites : List Site) → length (flat_map site sites) ≡ 8 * length sites
+pub length-sites : (sites : List Site) → length (flat_map site sites) ≡ 8 * length sites
 length-sites [] = refl
 length-sites (s ∷ sites) = omega (arith, length-append (site s) (flat_map site sites), length-sites sites)
-
-pub only_spelled : (bytes : List ℕ) (r : Result SitesParts SitesFault) → length bytes < 2 ^ 32 → Gives r (sites_in bytes) → (sites : List Site) → AreInForm 0 sites → bytes ≡ spelling sites → Gives r (Ok sites)
-unfolding spelling
-only_spelled bytes r small given sites are is =
-    let front : List ℕ = 80 ∷ 86 ∷ 83 ∷ 49 ∷ to_le_bytes w32 (length sites) in
-    let few : length sites < 2 ^ 32 = omega (arith, ap length is, length-append front (flat_map site sites), length-sites sites) in
-    subst (λ (read : Result (List Site) ℕ). Gives r read) (ap sites_in is ∙ spelled_read sites are few) given

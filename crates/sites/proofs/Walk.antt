@@ -1,30 +1,34 @@
--- Reading sites one after the other, as a loop does.
+-- Reading sites of format 1 one after the other, as a loop does.
 use Rattle.std.proofs.Common.{◌≡◌, ℕ, suc, ◌+◌, ◌*◌, ◌-◌, ◌<◌, ◌≤◌, List, [], ◌∷◌, ◌++◌, length, Option, Some, None, Ok, Err, refl, sym, ap, ◌∙◌, arith, lt-ltb, le-ltb, append_assoc}
 use Rattle.std.proofs.lemmas.List.{append-nil}
 use Rattle.guest_ram.specs.Bytes.{word32}
 use Rattle.sites.specs.declared.site.Site.{Site}
-use Rattle.sites.specs.Reading.{head_fault, site_fault, sites_fault, site_at, sites_at, sites_in}
+use Rattle.sites.specs.SitesParts.{SitesParts}
+use Rattle.sites.specs.Reading.{head_fault, site_fault, sites_fault, site_at, sites_at, placed_in}
 
 pub not_some : (o : Option ℕ) → ((at : ℕ) → o ≡ Some at → ⊥) → o ≡ None
 not_some None h = refl
 not_some (Some at) h = absurd (h at refl)
 
-pub head_is_bad : (bytes : List ℕ) (at : ℕ) → head_fault bytes ≡ Some at → sites_in bytes ≡ Err at
-unfolding sites_in
+abbrev pub in_first : List Site → SitesParts
+in_first sites = record { list = sites; format = 1 }
+
+pub head_is_bad : (bytes : List ℕ) (at : ℕ) → head_fault bytes 49 ≡ Some at → placed_in bytes ≡ Err at
+unfolding placed_in
 head_is_bad bytes at e = rw e refl
 
-pub site_is_bad : (bytes : List ℕ) (n at : ℕ) → head_fault bytes ≡ None → n ≡ word32 bytes 4 → sites_fault bytes 0 n 8 ≡ Some at → sites_in bytes ≡ Err at
-unfolding sites_in
+pub site_is_bad : (bytes : List ℕ) (n at : ℕ) → head_fault bytes 49 ≡ None → n ≡ word32 bytes 4 → sites_fault bytes 0 n 8 ≡ Some at → placed_in bytes ≡ Err at
+unfolding placed_in
 site_is_bad bytes n at e count h =
     let there : sites_fault bytes 0 (word32 bytes 4) 8 ≡ Some at = ap (λ (k : ℕ). sites_fault bytes 0 k 8) (sym count) ∙ h in
     rw (e, there) refl
 
-pub none_is_bad : (bytes : List ℕ) (n : ℕ) (sites : List Site) → head_fault bytes ≡ None → n ≡ word32 bytes 4 → sites_fault bytes 0 n 8 ≡ None → sites ≡ sites_at bytes n 8 → sites_in bytes ≡ Ok sites
-unfolding sites_in
+pub none_is_bad : (bytes : List ℕ) (n : ℕ) (sites : List Site) → head_fault bytes 49 ≡ None → n ≡ word32 bytes 4 → sites_fault bytes 0 n 8 ≡ None → sites ≡ sites_at bytes n 8 → placed_in bytes ≡ Ok (record { list = sites; format = 1 })
+unfolding placed_in
 none_is_bad bytes n sites e count h are =
     let there : sites_fault bytes 0 (word32 bytes 4) 8 ≡ None = ap (λ (k : ℕ). sites_fault bytes 0 k 8) (sym count) ∙ h in
     let all : sites ≡ sites_at bytes (word32 bytes 4) 8 = are ∙ ap (λ (k : ℕ). sites_at bytes k 8) count in
-    rw (e, there) (ap (λ (v : List Site). Ok v) (sym all))
+    rw (e, there) (ap (λ (v : List Site). Ok (in_first v)) (sym all))
 
 pub here_bad : (bytes : List ℕ) (least n i at : ℕ) → i < n → site_fault bytes least (8 + 8 * i) ≡ Some at → sites_fault bytes least (n - i) (8 + 8 * i) ≡ Some at
 unfolding sites_fault

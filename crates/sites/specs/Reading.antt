@@ -1,4 +1,4 @@
--- What is read of a list of sites, or the first bad byte.
+-- What is read of a list of sites in format 1, or the first bad byte.
 use Rattle.std.specs.Prelude.{◌≡◌, ℕ, zero, suc, ◌+◌, max, Bool, not, ◌&&◌, List, [], ◌∷◌, length, Option, Some, None, Result, Ok, Err, is_none, unwrap_or, nat_lt, ◌==◌, if◌then◌else◌}
 use Rattle.guest_ram.specs.Bytes.{byte, word32}
 use Rattle.sites.specs.declared.site.Site.{Site}
@@ -24,13 +24,13 @@ differs bytes at v = nat_lt at (length bytes) && not (byte bytes at == v)
 abbrev pub cut_before : List ℕ → ℕ → Option ℕ
 cut_before bytes end = bad (nat_lt (length bytes) end) (length bytes)
 
--- The first bad byte of the eight at the front: "PVS1", and a count.
-unfoldable pub head_fault : List ℕ → Option ℕ
-head_fault bytes =
+-- The first bad byte of the eight at the front: "PVS", the format's byte, and a count.
+unfoldable pub head_fault : List ℕ → ℕ → Option ℕ
+head_fault bytes format =
     bad (differs bytes 0 80) 0
     or_else (bad (differs bytes 1 86) 1
     or_else (bad (differs bytes 2 83) 2
-    or_else (bad (differs bytes 3 49) 3
+    or_else (bad (differs bytes 3 format) 3
     or_else cut_before bytes 8)))
 
 -- the bad byte of each field of the site at a, whose offset is to be least or more
@@ -38,7 +38,7 @@ abbrev pub falls : List ℕ → ℕ → ℕ → Bool
 falls bytes least a = not (nat_lt (length bytes) (a + 4)) && nat_lt (word32 bytes a) least
 
 abbrev pub has_no_kind : List ℕ → ℕ → Bool
-has_no_kind bytes a = nat_lt (a + 4) (length bytes) && is_none (kind_of (byte bytes (a + 4)))
+has_no_kind bytes at = nat_lt at (length bytes) && is_none (kind_of (byte bytes at))
 
 abbrev pub has_wrong_total : List ℕ → ℕ → Bool
 has_wrong_total bytes a = differs bytes (a + 6) (max 5 (byte bytes (a + 5)))
@@ -47,7 +47,7 @@ has_wrong_total bytes a = differs bytes (a + 6) (max 5 (byte bytes (a + 5)))
 unfoldable pub site_fault : List ℕ → ℕ → ℕ → Option ℕ
 site_fault bytes least a =
     bad (falls bytes least a) a
-    or_else (bad (has_no_kind bytes a) (a + 4)
+    or_else (bad (has_no_kind bytes (a + 4)) (a + 4)
     or_else (bad (has_wrong_total bytes a) (a + 6)
     or_else (bad (differs bytes (a + 7) 0) (a + 7)
     or_else cut_before bytes (a + 8))))
@@ -64,18 +64,19 @@ unfoldable pub sites_at : List ℕ → ℕ → ℕ → List Site
 sites_at bytes zero a = []
 sites_at bytes (suc n) a = site_at bytes a ∷ sites_at bytes n (a + 8)
 
-abbrev pub unless : Option ℕ → List Site → Result (List Site) ℕ
+abbrev pub unless : Option ℕ → SitesParts → Result SitesParts ℕ
 unless None sites = Ok sites
 unless (Some at) sites = Err at
 
-unfoldable pub sites_in : List ℕ → Result (List Site) ℕ
-sites_in bytes = unless (head_fault bytes or_else sites_fault bytes 0 (word32 bytes 4) 8) (sites_at bytes (word32 bytes 4) 8)
+-- format 1
+unfoldable pub placed_in : List ℕ → Result SitesParts ℕ
+placed_in bytes = unless (head_fault bytes 49 or_else sites_fault bytes 0 (word32 bytes 4) 8) (record { list = sites_at bytes (word32 bytes 4) 8; format = 1 })
 
 -- What `read_sites` returned is what reading gives, unless memory ran out.
-abbrev pub Fails : SitesFault → Result (List Site) ℕ → Type 0
+abbrev pub Fails : SitesFault → Result SitesParts ℕ → Type 0
 Fails faults.Memory read = Unit {0}
 Fails (faults.Form at) read = read ≡ Err at
 
-abbrev pub Gives : Result SitesParts SitesFault → Result (List Site) ℕ → Type 0
-Gives (Ok sites) read = read ≡ Ok sites.list
+abbrev pub Gives : Result SitesParts SitesFault → Result SitesParts ℕ → Type 0
+Gives (Ok sites) read = read ≡ Ok sites
 Gives (Err e) read = Fails e read

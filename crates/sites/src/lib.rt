@@ -1,7 +1,9 @@
 //! The sites of a text: the annotation section both ways, and the text patched in memory.
 #![tactic(auto)]
 
+mod gapped;
 mod kind;
+mod limits;
 mod patching;
 mod reading;
 mod site;
@@ -10,7 +12,9 @@ mod tests;
 mod words;
 mod writing;
 
+pub use gapped::are_gapped;
+pub use limits::{SHORT_TEXT, SITE_LIMIT, TEXT_LIMIT, of_text};
 pub use patching::patch;
-pub use reading::read_sites;
+pub use reading::{count, read_sites};
 pub use site::{Site, Sites, SitesFault};
 pub use writing::write_sites;

@@ -1,13 +1,15 @@
-//! Reading a list of sites.
+//! Reading a list of sites: the front of both formats, and format 1.
 
-ghost use Rattle.std.specs.Prelude.{◌≡◌, List, IfOk, ◌<◌, ◌≤◌, ◌+◌, ◌^◌, length, IfNone, IfSome};
-ghost use Rattle.sites.specs.declared.site.Site.{Site};
-ghost use Rattle.sites.specs.Spelling.{spelling, AreInForm};
-ghost use Rattle.sites.specs.Reading.{bad, ◌or_else◌, differs, cut_before, head_fault, falls, has_no_kind, has_wrong_total, site_fault, sites_fault, site_at, sites_at, sites_in, Gives};
+ghost use Rattle.std.specs.Prelude.{◌≡◌, IfOk, ◌<◌, ◌≤◌, ◌+◌, ◌^◌, length, IfNone, IfSome};
+ghost use Rattle.sites.specs.SitesParts.{SitesParts};
+ghost use Rattle.sites.specs.Spelling.{spelling, AreInForm, IsInForm};
+ghost use Rattle.sites.specs.Reading.{bad, ◌or_else◌, differs, cut_before, head_fault, falls, has_no_kind, has_wrong_total, site_fault, sites_fault, site_at, sites_at, placed_in, Gives};
+ghost use Rattle.sites.specs.Formats.{told_format, told_count, sites_in};
 
+use crate::gapped::gapped_in;
 use crate::kind::kind_of;
 use crate::site::{Site, Sites, SitesFault};
-use crate::words::{byte, word};
+use crate::words::{byte, byte_or_zero, word};
 use ia32_types::SiteKind;
 use std::alloc::Global;
 
@@ -19,8 +21,8 @@ fn differs(bytes: &[u8], at: usize, v: u8) -> bool
 
 /// The first bad byte of the eight at the front.
 #[tactic(auto, unfolding(crate::specs::Reading::head_fault))]
-fn head_fault(bytes: &[u8]) -> Option<usize>
-    ensures place { result ≡ head_fault bytes.now }
+pub fn head_fault(bytes: &[u8], format: u8) -> Option<usize>
+    ensures place { result ≡ head_fault bytes.now format }
     ensures inside { IfSome result (λ at. at ≤ length bytes.now) }
     ensures room { IfNone result (8 ≤ length bytes.now) }
 {
@@ -33,7 +35,7 @@ fn head_fault(bytes: &[u8]) -> Option<usize>
     if differs(bytes, 2, 83) {
         return Some(2);
     }
-    if differs(bytes, 3, 49) {
+    if differs(bytes, 3, format) {
         return Some(3);
     }
     if bytes.len() < 8 {
@@ -49,11 +51,10 @@ fn falls(bytes: &[u8], least: u64, a: usize) -> bool
     bytes.len() >= a + 4 && (word(bytes, a) as u64) < least
 }
 
-fn has_no_kind(bytes: &[u8], a: usize) -> bool
-    requires { a < 2 ^ 40 }
-    ensures { result ≡ has_no_kind bytes.now a }
+pub fn has_no_kind(bytes: &[u8], at: usize) -> bool
+    ensures { result ≡ has_no_kind bytes.now at }
 {
-    a + 4 < bytes.len() && kind_of(byte(bytes, a + 4)).is_none()
+    at < bytes.len() && kind_of(byte(bytes, at)).is_none()
 }
 
 fn has_wrong_total(bytes: &[u8], a: usize) -> bool
@@ -74,7 +75,7 @@ fn site_fault(bytes: &[u8], least: u64, a: usize) -> Option<usize>
     if falls(bytes, least, a) {
         return Some(a);
     }
-    if has_no_kind(bytes, a) {
+    if has_no_kind(bytes, a + 4) {
         return Some(a + 4);
     }
     if has_wrong_total(bytes, a) {
@@ -102,11 +103,12 @@ fn site_at(bytes: &[u8], a: usize) -> Site
     }
 }
 
-fn sites_in(alloc: Global, bytes: &[u8]) -> Result<Sites, SitesFault>
+/// The sites in format 1.
+fn placed_in(alloc: Global, bytes: &[u8]) -> Result<Sites, SitesFault>
     requires { length bytes.now < 2 ^ 32 }
-    ensures { Gives result (sites_in bytes.now) }
+    ensures { Gives result (placed_in bytes.now) }
 {
-    if let Some(at) = head_fault(bytes) {
+    if let Some(at) = head_fault(bytes, 49) {
         return Err(SitesFault::Form { at: at as u32 });
     }
     let count = word(bytes, 4);
@@ -125,17 +127,45 @@ fn sites_in(alloc: Global, bytes: &[u8]) -> Result<Sites, SitesFault>
     if end < bytes.len() {
         return Err(SitesFault::Form { at: end as u32 });
     }
-    Ok(Sites { list })
+    Ok(Sites { list, format: 1 })
 }
 
-/// The sites that the bytes spell, or the first bad byte.
+/// The sites in the format that the fourth byte tells.
+#[tactic(auto, unfolding(crate::specs::Formats::sites_in))]
+fn sites_in(alloc: Global, bytes: &[u8]) -> Result<Sites, SitesFault>
+    requires { length bytes.now < 2 ^ 32 }
+    ensures { Gives result (sites_in bytes.now) }
+{
+    if byte_or_zero(bytes, 3) == 50 {
+        return gapped_in(alloc, bytes);
+    }
+    placed_in(alloc, bytes)
+}
+
+/// The sites that the bytes spell in one of the two formats, or the first bad byte.
 pub fn read_sites(alloc: Global, bytes: &[u8]) -> Result<Sites, SitesFault>
     requires { length bytes.now < 2 ^ 32 }
-    // The bytes are the one spelling of the value.
-    ensures spelled { IfOk result (λ s. (bytes.now ≡ spelling s.list) × AreInForm 0 s.list) }
+    // The bytes are the one spelling of the value, of which the format is part.
+    ensures spelled { IfOk result (λ s. (bytes.now ≡ spelling s) × IsInForm s) }
+    // The offsets rise in both formats.
+    ensures rising { IfOk result (λ s. AreInForm 0 s.list) }
+    // The fourth byte tells the format.
+    ensures told { IfOk result (λ s. s.format ≡ told_format bytes.now) }
+    ensures count { IfOk result (λ s. length s.list ≡ told_count bytes.now) }
     // What is spelled is read, unless memory runs out.
-    ensures only { (sites : List Site) → AreInForm 0 sites → bytes.now ≡ spelling sites → Gives result (Ok sites) }
+    ensures only { (sites : SitesParts) → IsInForm sites → bytes.now ≡ spelling sites → Gives result (Ok sites) }
     ensures exact { Gives result (sites_in bytes.now) }
 {
     sites_in(alloc, bytes)
+}
+
+/// The count that annotations tell: that of their sites, where they are read.
+#[tactic(auto, unfolding(crate::specs::Formats::told_count))]
+pub fn count(bytes: &[u8]) -> u32
+    ensures { result ≡ told_count bytes.now }
+{
+    if bytes.len() < 8 {
+        return 0;
+    }
+    word(bytes, 4)
 }

@@ -18,10 +18,11 @@ pub struct Site {
     pub total: u8,
 }
 
-/// The sites of a text, in the order of their offsets.
+/// The sites of a text, in the order of their offsets, and the format of their annotations, 1 or 2.
 #[derive(Debug, Drop)]
 pub struct Sites {
     pub list: Vec<Site>,
+    pub format: u8,
 }
 
 impl Model for Sites {
@@ -29,7 +30,7 @@ impl Model for Sites {
 
     ghost Value = { SitesParts };
 
-    ghost view = { λ s. record { list = s.list.items } };
+    ghost view = { λ s. record { list = s.list.items; format = s.format } };
 }
 
 /// Where the bytes are not in the form, or that no memory was found.

@@ -12,6 +12,14 @@ pub fn byte(bytes: &[u8], at: usize) -> u8
     bytes[at]
 }
 
+/// The byte there, or 0 behind the end.
+#[tactic(auto, unfolding(guest_ram::specs::Bytes::byte))]
+pub fn byte_or_zero(bytes: &[u8], at: usize) -> u8
+    ensures { result ≡ byte bytes.now at }
+{
+    bytes.get(at).copied().unwrap_or(0)
+}
+
 /// The number of four bytes there.
 pub fn word(bytes: &[u8], at: usize) -> u32
     requires { at + 4 ≤ length bytes.now }

@@ -1,14 +1,27 @@
--- Whose rules hold.
-use Rattle.std.specs.Prelude.{Option, Some, None}
-use Rattle.paging.specs.Space.{Mode, Bare, Wedge}
+-- Whose rules hold, and where the original text lies.
+use Rattle.std.specs.Prelude.{◌≡◌, ℕ, ◌+◌, ◌*◌, ◌≤◌, false, length, Option, Some, None, IfSome}
+use Rattle.paging.specs.declared.entry.Entry.{Entry}
+use Rattle.paging.specs.Space.{Mode, Bare, Wedge, Own as Spots}
+use Rattle.paging.specs.Uses.{is_text}
+use Rattle.step_mem.specs.declared.guard.Own.{Own}
+use Rattle.step_mem.specs.declared.guard.Text.{Text}
 use Rattle.step_mem.specs.declared.guard.Guard.{Guard}
 
-abbrev pub mode_of : Option Guard → Mode
-mode_of None = Bare
-mode_of (Some guard) =
-    Wedge guard.text guard.count (record {
-      front = guard.own.front;
-      front_len = guard.own.front_len;
-      back = guard.own.back;
-      back_len = guard.own.back_len;
-    })
+-- the bytes of an instruction, as far as they were read
+abbrev pub own_of : Own → Spots
+own_of own = record { front = own.front; front_len = own.front_len; back = own.back; back_len = own.back_len }
+
+abbrev pub mode_by : Option Text → Own → Mode
+mode_by None own = Bare
+mode_by (Some text) own = Wedge text.first text.count (own_of own)
+
+abbrev pub mode_of : Guard → Mode
+mode_of guard = mode_by guard.text.now guard.own
+
+-- the original text lies in the frames that hold text, and these are among the guest's
+abbrev pub IsLaid : Option Text → ℕ → Type 0
+IsLaid text frames = IfSome text (λ t. (t.first + t.count ≤ frames) × (length t.bytes.now ≤ 4096 * t.count))
+
+-- the frame of an entry, where there is one, holds no text
+abbrev pub IsApart : Mode → Option Entry → Type 0
+IsApart mode entry = IfSome entry (λ e. is_text mode e.frame ≡ false)

@@ -1,5 +1,5 @@
 -- The meaning of a step's memory, from its parts.
-use Rattle.std.specs.Prelude.{ℕ, ◌+◌, List, [], ◌∷◌, ◌++◌, Option, false}
+use Rattle.std.specs.Prelude.{ℕ, ◌+◌, List, [], ◌∷◌, ◌++◌, false}
 use Rattle.std.specs.FinMap.{FinMap}
 use Rattle.std.specs.Ordering.{nat_cmp}
 use Rattle.paging.specs.declared.entry.Entry.{Entry}
@@ -9,18 +9,21 @@ use Rattle.step_mem.specs.declared.guard.Guard.{Guard}
 use Rattle.step_mem.specs.declared.walking.Control.{Control}
 use Rattle.step_mem.specs.Changes.{changed}
 use Rattle.step_mem.specs.Guard.{mode_of}
+use Rattle.step_mem.specs.Shown.{shown}
 
 -- what isn't used to translate a page
 pub record Rest : Type 0 where
   pub pages : ℕ
   pub went : List ℕ
+  pub tables : List ℕ
+  pub wrote : List ℕ
   pub ready : Span
   pub earlier : Earlier
 
-abbrev pub space_of : (List ℕ → FinMap nat_cmp Entry) → List ℕ → Control → Option Guard → List Change → Rest → Space
+abbrev pub space_of : (List ℕ → FinMap nat_cmp Entry) → List ℕ → Control → Guard → List Change → Rest → Space
 space_of kept ram control guard changes rest =
     record {
-      ram = ram;
+      ram = shown guard control.frames ram;
       frames = control.frames;
       set = changed (kept ram) changes;
       cr3 = control.cr3;
@@ -28,6 +31,8 @@ space_of kept ram control guard changes rest =
       mode = mode_of guard;
       pages = rest.pages;
       went = rest.went;
+      tables = rest.tables;
+      wrote = rest.wrote;
       ready = rest.ready;
       earlier = rest.earlier;
     }
@@ -35,11 +40,17 @@ space_of kept ram control guard changes rest =
 abbrev pub one_more : Rest → ℕ → Rest
 one_more rest page = record rest { pages = rest.pages + 1; went = rest.went ++ page ∷ [] }
 
-abbrev pub space_at_start : (List ℕ → FinMap nat_cmp Entry) → List ℕ → Control → Option Guard → Space
+-- with other tables read
+abbrev pub with_tables : Rest → List ℕ → Rest
+with_tables rest tables = record rest { tables = tables }
+
+abbrev pub space_at_start : (List ℕ → FinMap nat_cmp Entry) → List ℕ → Control → Guard → Space
 space_at_start kept ram control guard =
     space_of kept ram control guard [] (record {
       pages = 0;
       went = [];
+      tables = [];
+      wrote = [];
       ready = record { start = 0; len = 0; write = false };
       earlier = record { start = 0; len = 0; set = kept ram };
     })

@@ -20,31 +20,40 @@ pub struct Own {
     pub back_len: u32,
 }
 
-/// The frames that hold text, `count` of them from `text` on, and the instruction's own bytes.
+/// The text that a monitor keeps from the guest: the frames that hold it, `count` of them from `first` on, and its
+/// original bytes, which stand from the first byte of the first of them on.
 #[derive(Clone, Copy)]
-pub struct Guard {
-    pub text: u32,
+pub struct Text<'a> {
+    pub first: u32,
     pub count: u32,
+    pub bytes: &'a [u8],
+}
+
+/// Whose rules hold: a monitor's, where it keeps a text, and else the bare machine's; and the bytes of this step's
+/// instruction.
+#[derive(Clone, Copy)]
+pub struct Guard<'a> {
+    pub text: &'a Option<Text<'a>>,
     pub own: Own,
 }
 
 /// The frame holds text.
-pub fn is_text(guard: &Option<Guard>, frame: u32) -> bool
+pub fn is_text(guard: &Guard, frame: u32) -> bool
     ensures { result ≡ is_text (mode_of guard.now) frame }
 {
-    match guard {
+    match guard.text {
         None => false,
-        Some(guard) => frame >= guard.text && frame - guard.text < guard.count,
+        Some(text) => frame >= text.first && frame - text.first < text.count,
     }
 }
 
 /// The byte is one of the instruction's own.
-pub fn is_own(guard: &Option<Guard>, at: u32) -> bool
+pub fn is_own(guard: &Guard, at: u32) -> bool
     ensures { result ≡ is_own (mode_of guard.now) at }
 {
-    match guard {
+    match guard.text {
         None => false,
-        Some(guard) => {
+        Some(_) => {
             lies_in(at, guard.own.front, guard.own.front_len)
                 || lies_in(at, guard.own.back, guard.own.back_len)
         }
@@ -58,22 +67,22 @@ fn lies_in(at: u32, start: u32, len: u32) -> bool
 }
 
 /// The page of the text window to which the loader gave this frame.
-fn is_given(guard: &Option<Guard>, page: u32, frame: u32) -> bool
+fn is_given(guard: &Guard, page: u32, frame: u32) -> bool
     ensures { result ≡ is_given (mode_of guard.now) page frame }
 {
-    match guard {
+    match guard.text {
         None => true,
-        Some(guard) => {
+        Some(text) => {
             page >= TEXT_PAGE
-                && page - TEXT_PAGE < guard.count
-                && frame >= guard.text
-                && frame - guard.text == page - TEXT_PAGE
+                && page - TEXT_PAGE < text.count
+                && frame >= text.first
+                && frame - text.first == page - TEXT_PAGE
         }
     }
 }
 
 /// What a page may not be translated to, by a fetch or for data.
-pub fn is_barred(guard: &Option<Guard>, fetch: bool, user: bool, page: u32, frame: u32) -> bool
+pub fn is_barred(guard: &Guard, fetch: bool, user: bool, page: u32, frame: u32) -> bool
     ensures { result ≡ is_barred (mode_of guard.now) fetch user page frame }
 {
     if fetch && !user {
@@ -83,10 +92,10 @@ pub fn is_barred(guard: &Option<Guard>, fetch: bool, user: bool, page: u32, fram
 }
 
 /// Why a supervisor access may not begin there.
-pub fn window_stop(guard: &Option<Guard>, access: Access, at: u32) -> Option<Stop>
+pub fn window_stop(guard: &Guard, access: Access, at: u32) -> Option<Stop>
     ensures { result ≡ window_stop (mode_of guard.now) access at }
 {
-    if guard.is_none() || access.user || at >= 0x1100_0000 {
+    if guard.text.is_none() || access.user || at >= 0x1100_0000 {
         return None;
     }
     if at >= 0x1000_0000 {

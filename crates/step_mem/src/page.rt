@@ -1,16 +1,20 @@
 //! One page of a range.
 
-ghost use Rattle.std.specs.Prelude.{◌≡◌, ◌≢◌, ℕ, ◌+◌, ◌*◌, ◌≤◌, ◌<◌, ◌^◌, length, drop, IfSome, IsSome};
+ghost use Rattle.std.specs.Prelude.{◌≡◌, ◌≢◌, ℕ, ◌+◌, ◌*◌, ◌≤◌, ◌<◌, ◌^◌, length, drop, IfSome, IsSome, false};
+ghost use Rattle.std.specs.Option.{ForSome};
 ghost use Rattle.std.specs.FinMap.{get};
-ghost use Rattle.paging.specs.Uses.{page_uses, settled, decided, usable};
+ghost use Rattle.paging.specs.Uses.{page_uses, settled, decided, usable, is_barred};
 ghost use Rattle.step_mem.specs.Changes.{changed, AreWithin};
-ghost use Rattle.step_mem.specs.Space.{Rest, space_of, one_more};
-ghost use Rattle.step_mem.specs.Tables.{tables};
+ghost use Rattle.step_mem.specs.Guard.{mode_of, IsLaid};
+ghost use Rattle.step_mem.specs.Shown.{hidden};
+ghost use Rattle.step_mem.specs.Space.{Rest, space_of, one_more, with_tables};
+ghost use Rattle.step_mem.specs.Tables.{tables as tables_at};
 
 use crate::changes::{Changes, change_of};
 use crate::guard::{Guard, is_barred};
 use crate::kept::Kept;
-use crate::walking::{Control, decide};
+use crate::walking::{Control, decide, note_tables};
+use crate::went::Went;
 use guest_ram::Ram;
 use ia32_types::Stop;
 use paging::{Access, Entry, Touch, allows};
@@ -32,8 +36,9 @@ fn settle<B: Kept>(
     ram: &mut Ram,
     base: &B,
     control: Control,
-    guard: &Option<Guard>,
+    guard: &Guard,
     changes: &mut Changes,
+    tables: &mut Went,
     fetch: bool,
     page: u32,
     at: u32,
@@ -41,22 +46,28 @@ fn settle<B: Kept>(
 ) -> Touch
     requires frames { 4096 * control.frames ≤ length ram.old }
     requires apart { 4096 * control.frames ≤ B.floor base.now }
+    requires laid { IsLaid guard.now.text.now control.frames }
     requires within { AreWithin control.frames (changed (B.entries base.now ram.old) changes.old) }
     requires stands { ∥ B.stands base.now ram.old ∥₁ }
     requires room { length changes.old < 64 }
     requires page { page < 2 ^ 20 }
-    ensures settled { (rest : Rest) → settled (space_of (B.entries base.now) ram.old control guard.now changes.old rest) page
-        (decided (tables ram.old control guard.now) fetch page at access)
-        ≡ (result, space_of (B.entries base.now) ram.new control guard.now changes.new rest) }
+    requires noting { length tables.old ≤ 126 }
+    ensures settled { (rest : Rest) → settled (space_of (B.entries base.now) ram.old control guard.now changes.old (with_tables rest tables.old)) page
+        (decided (tables_at ram.old control guard.now) fetch page at access)
+        ≡ (result, space_of (B.entries base.now) ram.new control guard.now changes.new (with_tables rest tables.new)) }
+    ensures noted { length tables.new ≤ length tables.old + 2 }
     ensures stands { ∥ B.stands base.now ram.new ∥₁ }
     ensures kept { B.entries base.now ram.new ≡ B.entries base.now ram.old }
     ensures length { length ram.new ≡ length ram.old }
+    ensures hidden { hidden guard.now control.frames ram.new ≡ hidden guard.now control.frames ram.old }
     ensures within { AreWithin control.frames (changed (B.entries base.now ram.new) changes.new) }
     ensures counted { length changes.new ≡ length changes.old + 1 }
     ensures found { result ≡ Touch.Ready → IsSome (get (changed (B.entries base.now ram.new) changes.new) page) }
+    ensures clear { result ≡ Touch.Ready → ForSome (get (changed (B.entries base.now ram.new) changes.new) page) (λ entry. is_barred (mode_of guard.now) fetch access.user page entry.frame ≡ false) }
     ensures others { (other : ℕ) → other ≢ page → get (changed (B.entries base.now ram.new) changes.new) other
         ≡ get (changed (B.entries base.now ram.old) changes.old) other }
 {
+    note_tables(ram, control, guard, page, tables);
     let (met, entry) = decide(ram, control, guard, fetch, page, at, access);
     changes.push(change_of(page, entry));
     met
@@ -68,8 +79,9 @@ pub fn page_use<B: Kept>(
     ram: &mut Ram,
     base: &B,
     control: Control,
-    guard: &Option<Guard>,
+    guard: &Guard,
     changes: &mut Changes,
+    tables: &mut Went,
     fetch: bool,
     page: u32,
     at: u32,
@@ -77,18 +89,23 @@ pub fn page_use<B: Kept>(
 ) -> Touch
     requires frames { 4096 * control.frames ≤ length ram.old }
     requires apart { 4096 * control.frames ≤ B.floor base.now }
+    requires laid { IsLaid guard.now.text.now control.frames }
     requires within { AreWithin control.frames (changed (B.entries base.now ram.old) changes.old) }
     requires stands { ∥ B.stands base.now ram.old ∥₁ }
     requires room { length changes.old < 64 }
     requires page { page < 2 ^ 20 }
-    ensures uses { (rest : Rest) → page_uses (space_of (B.entries base.now) ram.old control guard.now changes.old rest) fetch page at access
-        ≡ (result, space_of (B.entries base.now) ram.new control guard.now changes.new (one_more rest page)) }
+    requires noting { length tables.old ≤ 126 }
+    ensures uses { (rest : Rest) → page_uses (space_of (B.entries base.now) ram.old control guard.now changes.old (with_tables rest tables.old)) fetch page at access
+        ≡ (result, space_of (B.entries base.now) ram.new control guard.now changes.new (with_tables (one_more rest page) tables.new)) }
+    ensures noted { length tables.new ≤ length tables.old + 2 }
     ensures stands { ∥ B.stands base.now ram.new ∥₁ }
     ensures kept { B.entries base.now ram.new ≡ B.entries base.now ram.old }
     ensures length { length ram.new ≡ length ram.old }
+    ensures hidden { hidden guard.now control.frames ram.new ≡ hidden guard.now control.frames ram.old }
     ensures within { AreWithin control.frames (changed (B.entries base.now ram.new) changes.new) }
     ensures counted { length changes.new ≤ length changes.old + 1 }
     ensures found { result ≡ Touch.Ready → IsSome (get (changed (B.entries base.now ram.new) changes.new) page) }
+    ensures clear { result ≡ Touch.Ready → ForSome (get (changed (B.entries base.now ram.new) changes.new) page) (λ entry. is_barred (mode_of guard.now) fetch access.user page entry.frame ≡ false) }
     ensures others { (other : ℕ) → other ≢ page → get (changed (B.entries base.now ram.new) changes.new) other
         ≡ get (changed (B.entries base.now ram.old) changes.old) other }
 {
@@ -98,7 +115,9 @@ pub fn page_use<B: Kept>(
             Touch::Stop(Stop::TextMapped)
         }
         Some(_) => Touch::Ready,
-        None => settle(ram, base, control, guard, changes, fetch, page, at, access),
+        None => settle(
+            ram, base, control, guard, changes, tables, fetch, page, at, access,
+        ),
     }
 }
 

@@ -1,13 +1,18 @@
 //! A fresh walk, and what it decides.
 
-ghost use Rattle.std.specs.Prelude.{◌≡◌, ◌+◌, ◌*◌, ◌≤◌, ◌<◌, ◌^◌, length, drop, IfSome, IsSome};
-ghost use Rattle.paging.specs.Uses.{decided, walks_text, marks_own, fault_code};
+ghost use Rattle.std.specs.Prelude.{◌≡◌, ◌+◌, ◌*◌, ◌≤◌, ◌<◌, ◌^◌, ◌++◌, length, drop, IfSome, IsSome, false};
+ghost use Rattle.paging.specs.Uses.{decided, walks_text, marks_own, fault_code, is_barred};
+ghost use Rattle.paging.specs.Fresh.{fresh, tables_read, FoundIn};
+ghost use Rattle.step_mem.specs.Guard.{mode_of, IsLaid};
+ghost use Rattle.step_mem.specs.Shown.{shown, hidden, IsFoundApart};
 ghost use Rattle.step_mem.specs.Tables.{tables};
 
 use crate::guard::{Guard, is_barred, is_own, is_text};
+use crate::shown::{mark, read, read_shown_word, read_word};
+use crate::went::Went;
 use guest_ram::Ram;
 use ia32_types::Stop;
-use paging::{Access, Entry, Touch, Walk, grants, set_flags, walk};
+use paging::{Access, Entry, Touch, Walk, grants, walk};
 
 /// The registers that govern a walk.
 #[derive(Clone, Copy)]
@@ -18,8 +23,9 @@ pub struct Control {
 }
 
 #[tactic(auto, unfolding(paging::specs::Uses::walks_text))]
-fn walks_text(ram: &Ram, control: Control, guard: &Option<Guard>, page: u32) -> bool
+fn walks_text(ram: &Ram, control: Control, guard: &Guard, page: u32) -> bool
     requires frames { 4096 * control.frames ≤ length ram.now }
+    requires laid { IsLaid guard.now.text.now control.frames }
     requires page { page < 2 ^ 20 }
     ensures { result ≡ walks_text (tables ram.now control guard.now) page }
 {
@@ -31,21 +37,75 @@ fn walks_text(ram: &Ram, control: Control, guard: &Option<Guard>, page: u32) -> 
         return false;
     }
     let _len = ram.len();
-    let dir = ram.read32(dir_frame * 4096 + page / 1024 * 4);
+    let dir = read_word(
+        ram,
+        guard,
+        control.frames,
+        dir_frame * 4096 + page / 1024 * 4,
+    );
     dir % 2 == 1 && is_text(guard, dir / 4096)
 }
 
-#[tactic(auto, unfolding(paging::specs::Uses::marks_own))]
-fn marks_own(ram: &Ram, guard: &Option<Guard>, dir_at: u32, word_at: u32, write: bool) -> bool
-    requires dir { dir_at < length ram.now }
-    requires word { word_at < length ram.now }
-    ensures { (control : _) → result ≡ marks_own (tables ram.now control guard.now) dir_at word_at write }
+/// A walk over words that lie in frames that hold no text.
+fn walk_apart(ram: &Ram, control: Control, guard: &Guard, page: u32) -> Walk
+    requires frames { 4096 * control.frames ≤ length ram.now }
+    requires laid { IsLaid guard.now.text.now control.frames }
+    requires page { page < 2 ^ 20 }
+    requires apart { walks_text (tables ram.now control guard.now) page ≡ false }
+    ensures walk { result ≡ fresh (shown guard.now control.frames ram.now) control.frames control.cr3 page }
+    ensures found { FoundIn control.frames page result }
+    ensures apart { IsFoundApart (mode_of guard.now) result }
 {
-    if is_own(guard, dir_at) && ram.read8(dir_at) / 32 % 2 != 1 {
+    walk(ram, control.frames, control.cr3, page)
+}
+
+#[tactic(auto, unfolding(paging::specs::Uses::marks_own))]
+fn marks_own(
+    ram: &Ram,
+    control: Control,
+    guard: &Guard,
+    dir_at: u32,
+    word_at: u32,
+    write: bool,
+) -> bool
+    requires frames { 4096 * control.frames ≤ length ram.now }
+    requires laid { IsLaid guard.now.text.now control.frames }
+    requires dir { dir_at < 4096 * control.frames }
+    requires word { word_at < 4096 * control.frames }
+    ensures { result ≡ marks_own (tables ram.now control guard.now) dir_at word_at write }
+{
+    if is_own(guard, dir_at) && read(ram, guard, control.frames, dir_at) / 32 % 2 != 1 {
         return true;
     }
-    let word = ram.read8(word_at);
+    let word = read(ram, guard, control.frames, word_at);
     is_own(guard, word_at) && (word / 32 % 2 != 1 || (write && word / 64 % 2 != 1))
+}
+
+/// Notes the frames that a walk of a page reads as tables.
+#[tactic(auto, unfolding(paging::specs::Fresh::tables_read))]
+pub fn note_tables(ram: &Ram, control: Control, guard: &Guard, page: u32, tables: &mut Went)
+    requires frames { 4096 * control.frames ≤ length ram.now }
+    requires laid { IsLaid guard.now.text.now control.frames }
+    requires page { page < 2 ^ 20 }
+    requires room { length tables.old ≤ 126 }
+    ensures noted { tables.new ≡ tables.old ++ tables_read (shown guard.now control.frames ram.now) control.frames control.cr3 page }
+    ensures few { length tables.new ≤ length tables.old + 2 }
+{
+    let dir_frame = control.cr3 / 4096;
+    if dir_frame >= control.frames {
+        return;
+    }
+    tables.push(dir_frame);
+    let _len = ram.len();
+    let dir = read_shown_word(
+        ram,
+        guard,
+        control.frames,
+        dir_frame * 4096 + page / 1024 * 4,
+    );
+    if dir % 2 == 1 && dir / 4096 < control.frames {
+        tables.push(dir / 4096);
+    }
 }
 
 fn fault_code(present: bool, access: Access) -> u32
@@ -62,24 +122,27 @@ fn fault_code(present: bool, access: Access) -> u32
 pub fn decide(
     ram: &mut Ram,
     control: Control,
-    guard: &Option<Guard>,
+    guard: &Guard,
     fetch: bool,
     page: u32,
     at: u32,
     access: Access,
 ) -> (Touch, Option<Entry>)
     requires frames { 4096 * control.frames ≤ length ram.old }
+    requires laid { IsLaid guard.now.text.now control.frames }
     requires page { page < 2 ^ 20 }
-    ensures decided { decided (tables ram.old control guard.now) fetch page at access ≡ record { met = result.0; entry = result.1; ram = ram.new } }
+    ensures decided { decided (tables ram.old control guard.now) fetch page at access ≡ record { met = result.0; entry = result.1; ram = shown guard.now control.frames ram.new } }
     ensures length { length ram.new ≡ length ram.old }
     ensures above { drop (4096 * control.frames) ram.new ≡ drop (4096 * control.frames) ram.old }
+    ensures hidden { hidden guard.now control.frames ram.new ≡ hidden guard.now control.frames ram.old }
     ensures found { IfSome result.1 (λ entry. (entry.page ≡ page) × (entry.frame < control.frames)) }
     ensures ready { result.0 ≡ Touch.Ready → IsSome result.1 }
+    ensures clear { IfSome result.1 (λ entry. is_barred (mode_of guard.now) fetch access.user page entry.frame ≡ false) }
 {
     if walks_text(ram, control, guard, page) {
         return (Touch::Stop(Stop::TableInText), None);
     }
-    match walk(ram, control.frames, control.cr3, page) {
+    match walk_apart(ram, control, guard, page) {
         Walk::Absent => (
             Touch::Fault {
                 code: fault_code(false, access),
@@ -100,10 +163,10 @@ pub fn decide(
             if is_barred(guard, fetch, access.user, entry.page, entry.frame) {
                 return (Touch::Stop(Stop::TextMapped), None);
             }
-            if marks_own(ram, guard, dir_at, word_at, access.write) {
+            if marks_own(ram, control, guard, dir_at, word_at, access.write) {
                 return (Touch::Stop(Stop::CodeIsTable), None);
             }
-            set_flags(ram, dir_at, word_at, access.write);
+            mark(ram, guard, control.frames, dir_at, word_at, access.write);
             let dirty = entry.dirty || access.write;
             (Touch::Ready, Some(Entry { dirty, ..entry }))
         }

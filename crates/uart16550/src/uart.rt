@@ -1,7 +1,9 @@
-ghost use Rattle.std.specs.Prelude.{◌≡◌, ◌≤◌, true};
+ghost use Rattle.std.specs.Prelude.{◌≡◌, ◌≤◌, true, Some, None, if◌then◌else◌};
 ghost use Rattle.ia32_types.specs.declared.stop.Did.TheVariants.{Stop};
 ghost use Rattle.uart16550.specs.Ports.{at_reset, divisor_shown, waits, line_of, written, read_at, after_read, received};
+ghost use Rattle.uart16550.specs.States.{settings_of, registers_of, port_fits};
 
+use crate::settings::Settings;
 use arrayvec::ArrayVec;
 use ia32_types::{Did, bit};
 use std::marker::Model;
@@ -53,6 +55,51 @@ impl Uart {
             divisor_low: 0,
             divisor_high: 0,
             kept: ArrayVec::new(),
+        }
+    }
+
+    /// What the registers were set to.
+    pub fn settings(&self) -> Settings
+        ensures state { result ≡ settings_of self.now }
+        ensures fits { port_fits result.modem_control self.now.kept ≡ true }
+    {
+        Settings {
+            interrupts: self.interrupts,
+            line_control: self.line_control,
+            modem_control: self.modem_control,
+            scratch: self.scratch,
+            divisor_low: self.divisor_low,
+            divisor_high: self.divisor_high,
+        }
+    }
+
+    /// The bytes that wait, oldest first.
+    pub fn kept(&self) -> &[u8]
+        ensures { result.now ≡ self.now.kept }
+    {
+        self.kept.as_slice()
+    }
+
+    /// The port that was set so, with these bytes waiting. None where it cannot stand so: a bit of the modem control
+    /// register above bit 3, or more than 16 bytes.
+    pub fn from_settings(settings: Settings, waiting: &[u8]) -> Option<Uart>
+        ensures { result ≡ (if port_fits settings.modem_control waiting.now then Some (registers_of settings waiting.now) else None) }
+    {
+        if settings.modem_control >= 16 {
+            return None;
+        }
+        let mut kept = ArrayVec::new();
+        match kept.try_extend_from_slice(waiting) {
+            Err(_) => None,
+            Ok(()) => Some(Uart {
+                interrupts: settings.interrupts,
+                line_control: settings.line_control,
+                modem_control: settings.modem_control,
+                scratch: settings.scratch,
+                divisor_low: settings.divisor_low,
+                divisor_high: settings.divisor_high,
+                kept,
+            }),
         }
     }
 

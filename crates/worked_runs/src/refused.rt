@@ -32,6 +32,22 @@ fn sources_are_refused_by_their_line(rt: HostRuntime) -> Result<(), Fail> {
 }
 
 #[test]
+fn too_many_sites_are_refused(rt: HostRuntime) -> Result<(), Fail> {
+    // one more CLI than an object may have sites, each in a line of its own
+    let alloc = rt.alloc();
+    let mut source = Vec::new(alloc);
+    for _ in 0..262_145 {
+        source.extend_from_slice(b"cli\n")?;
+    }
+    let mut files = MemFiles::new(alloc, Vec::new(alloc))?;
+    files.store("S", &source)?;
+    let (status, out) = answer(alloc, &mut files, &["burn", "S", "O"])?;
+    assert_eq!(rt; out.bytes(), b"refused 27 line 262145\n".as_slice());
+    assert_eq!(rt; status.number(), 3);
+    Ok(())
+}
+
+#[test]
 fn links_are_refused_by_object_and_name(rt: HostRuntime) -> Result<(), Fail> {
     let alloc = rt.alloc();
     let mut files = MemFiles::new(alloc, Vec::new(alloc))?;

@@ -2,7 +2,7 @@
 use Rattle.std.proofs.Common.{◌≡◌, ℕ, ◌%◌, Bool, cond, not, eqb, List, [], ◌∷◌, sym, ap, ◌∙◌, Option, Some, None, inl, inr}
 use Rattle.std.proofs.lemmas.Bool.Decides.{eqb_tells}
 use Rattle.std.proofs.lemmas.Cmp.{nat_cmp_total}
-use Rattle.std.specs.FinMap.{FinMap, get, retain_keys, get-empty, get-insert, get-remove, get-retain_keys, nat_cmp-IsAntisymmetric}
+use Rattle.std.specs.FinMap.{FinMap, get, insert, retain_keys, get-empty, get-insert, get-remove, get-retain_keys, nat_cmp-IsAntisymmetric}
 use Rattle.std.specs.Ordering.{nat_cmp}
 use Rattle.std.specs.Cmp.{unsigned_tied}
 use Rattle.paging.specs.declared.entry.Entry.{Entry}
@@ -23,16 +23,20 @@ split q e o =
           ∙ sym (ap (λ b. cond b (cond (eqb q e.page) (Some e) None) o) f.0)
     ]
 
-pub finds : (calls : List Call) (page : ℕ) → get (made_by calls) page ≡ last_kept calls page
-finds [] page = get-empty nat_cmp page
-finds (Keep e ∷ earlier) page =
-    let m : FinMap nat_cmp Entry = made_by earlier in
+-- a page after an entry was kept
+pub keep_get : (m : FinMap nat_cmp Entry) (e : Entry) (page : ℕ) → get (insert (retain_keys m (λ k. not (eqb (k % 64) (e.page % 64)))) e.page e) page
+    ≡ cond (eqb (page % 64) (e.page % 64)) (cond (eqb page e.page) (Some e) None) (get m page)
+keep_get m e page =
     let p : ℕ → Bool = λ k. not (eqb (k % 64) (e.page % 64)) in
     get-insert nat_cmp_total (retain_keys m p) e.page e page
     ∙ ap (λ b. cond b (Some e) (get (retain_keys m p) page)) (unsigned_tied page e.page)
     ∙ ap (cond (eqb page e.page) (Some e)) (get-retain_keys m p page (λ x t. ap p (sym (nat_cmp-IsAntisymmetric page x t))))
     ∙ split page e (get m page)
-    ∙ ap (λ o. cond (eqb (page % 64) (e.page % 64)) (cond (eqb page e.page) (Some e) None) o) (finds earlier page)
+
+pub finds : (calls : List Call) (page : ℕ) → get (made_by calls) page ≡ last_kept calls page
+finds [] page = get-empty nat_cmp page
+finds (Keep e ∷ earlier) page =
+    keep_get (made_by earlier) e page ∙ ap (λ o. cond (eqb (page % 64) (e.page % 64)) (cond (eqb page e.page) (Some e) None) o) (finds earlier page)
 finds (DropPage q ∷ earlier) page =
     get-remove nat_cmp_total (made_by earlier) q page
     ∙ ap (λ b. cond b None (get (made_by earlier) page)) (unsigned_tied page q)

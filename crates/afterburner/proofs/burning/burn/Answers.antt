@@ -1,7 +1,7 @@
 use Rattle.std.proofs.Common.{length, arith}
 use Rattle.asm_parse.specs.Readable.{names_in}
 use Rattle.afterburner.specs.Sound.{IsSound}
-use Rattle.afterburner.proofs.Sited.{apart_sites}
+use Rattle.afterburner.proofs.Sited.{apart_sites, apart_gapped}
 use Rattle.afterburner.proofs.Whole.{whole, annotated, small}
 use Rattle.afterburner.proofs.burning.burn.Goals as goal
 
@@ -18,3 +18,6 @@ returns-clause-sites c = rw c.in-Ok-object.ensures (annotated c.in-Ok.names c.in
 
 pub returns-clause-limits : goal.returns-clause-limits
 returns-clause-limits c = rw c.in-Ok-object.ensures (small c.in-Ok.names c.in-Ok-make_all.made c.in-Ok-make_all.ensures.within)
+
+pub object-requires-clause-gaps : goal.object-requires-clause-gaps
+object-requires-clause-gaps c = apart_gapped 0 (length c.in-Ok-make_all.made.text) c.in-Ok-make_all.made.sites (omega (arith, c.in-Ok-make_all.ensures.within.text)) c.in-Ok-make_all.ensures.sound.sites

@@ -7,7 +7,7 @@ use Rattle.bare_machine.proofs.finish.go.Goals as goal
 
 pub returns-clause-goes : goal.returns-clause-goes
 returns-clause-goes c = λ whats completed s ram set. record {
-  report = record { items = items_at c.args.machine.now.step whats; completed = completed; pages = s.went };
+  report = record { items = items_at c.args.machine.now.step whats; completed = completed; pages = s.went; tables = s.tables; wrote = s.wrote };
   whole = s.set;
   went = rw (ram, c.advance.ensures ∙ one_step c.args.machine.now.board) refl;
   part = subst (IsPartOf c.drop_from.new.kept.buffer) (sym set) (c.drop_from.ensures (changed c.args.machine.now.kept.buffer c.args.changes.now) c.settle.ensures);

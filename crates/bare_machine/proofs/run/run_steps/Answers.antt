@@ -3,7 +3,8 @@ use Rattle.std.proofs.lemmas.List.{append-nil}
 use Rattle.run_trace.specs.declared.items.Item.{Item}
 use Rattle.machine_model.specs.Step.{Went, Stands, step_of, items_at}
 use Rattle.machine_model.specs.Run.{trace_of}
-use Rattle.bare_machine.specs.Machine.{bare, state_of, with_set, whats, Goes, Rests}
+use Rattle.machine_step.specs.Worked.{whats}
+use Rattle.bare_machine.specs.Machine.{bare, state_of, with_set, Goes, Rests}
 use Rattle.bare_machine.proofs.Runs.{part_allowed, part_same, same_step, steps_on, steps_join, steps_none, trace_on, trace_join}
 use Rattle.bare_machine.proofs.run.run_steps.Goals as goal
 

@@ -3,6 +3,7 @@ use Rattle.std.proofs.lemmas.List.{take_rest}
 use Rattle.std.proofs.lemmas.Result.{err_from_is_err_and}
 use Rattle.board.specs.Texts.{cut_at, lines_read, events_of}
 use Rattle.board.proofs.Readings.{next_line, refused_line, last_line, fault_along}
+use Rattle.board.proofs.Sayings.{answer_says}
 use Rattle.board.proofs.reading.read_script.Goals as goal
 
 pub returns-in-None-clause-read : goal.returns-in-None-clause-read
@@ -32,6 +33,15 @@ returns-in_err-take_line-in-Some-clause-read c =
     ∙ ap events_of c.loop-reading.invariant.same)
     (refused_line c.loop-reading.reading (take end rest) (cut_at 10 (drop (end + 1) rest)) c.in_err-take_line-in-Some.field-0.0
     c.in_err-take_line-in-Some.ensures.taken))
+
+pub returns-in-None-clause-lines : goal.returns-in-None-clause-lines
+returns-in-None-clause-lines c = answer_says c.args.text.now (Ok c.finish.result) (returns-in-None-clause-read c)
+
+pub returns-in_err-take_line-in-None-clause-lines : goal.returns-in_err-take_line-in-None-clause-lines
+returns-in_err-take_line-in-None-clause-lines c = answer_says c.args.text.now _ (returns-in_err-take_line-in-None-clause-read c)
+
+pub returns-in_err-take_line-in-Some-clause-lines : goal.returns-in_err-take_line-in-Some-clause-lines
+returns-in_err-take_line-in-Some-clause-lines c = answer_says c.args.text.now _ (returns-in_err-take_line-in-Some-clause-read c)
 
 pub loop-reading-preserved : goal.loop-reading-preserved
 loop-reading-preserved c =

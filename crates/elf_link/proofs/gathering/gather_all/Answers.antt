@@ -38,3 +38,6 @@ returns-clause-count c = (gathered_all _ _ _ _ _ (past _ _ _ c.deref-object-item
 
 pub returns-clause-fits : goal.returns-clause-fits
 returns-clause-fits c = (gathered_all _ _ _ _ _ (past _ _ _ c.deref-object-items.ensures.value c.loop-i-test.false) c.loop-i.invariant).fits
+
+pub returns-clause-gaps : goal.returns-clause-gaps
+returns-clause-gaps c = (gathered_all _ _ _ _ _ (past _ _ _ c.deref-object-items.ensures.value c.loop-i-test.false) c.loop-i.invariant).gaps

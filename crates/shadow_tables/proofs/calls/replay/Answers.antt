@@ -1,12 +1,15 @@
-use Rattle.std.proofs.Common.{◌≡◌, ◌+◌, List, take, get_or, false, refl, sym, ap, ◌∙◌, arith}
-use Rattle.std.proofs.lemmas.List.{take_all}
+use Rattle.std.proofs.Common.{◌≡◌, ◌+◌, ◌∷◌, take, drop, drop-cons, get_or, IsTrue, suc, true, false, sym, ap, ◌∙◌, subst, arith}
+use Rattle.frame_pool.specs.Held.{Moves}
 use Rattle.frame_pool.proofs.Held.{Owns-moves, Moves-trans}
 use Rattle.shadow_tables.specs.declared.calls.Call.{Call}
 use Rattle.shadow_tables.specs.declared.calls.Call.TheVariants.{Fill}
 use Rattle.shadow_tables.specs.declared.words.Side.TheVariants.{Kernel}
+use Rattle.shadow_tables.specs.Calls.{BeginsWithFill, IsWithin}
 use Rattle.shadow_tables.specs.Steps.{after, after_call}
-use Rattle.shadow_tables.proofs.Lists.{after-take, fit-at, fills-take, fills-le, tracks-none, ArePart-trans, follows}
+use Rattle.shadow_tables.proofs.Lists.{after-take, fit-at, fills-take, fills-le, within-trans, within-call, follows, adequate-after}
 use Rattle.shadow_tables.proofs.calls.replay.Goals as goal
+use Rattle.shadow_tables.proofs.calls.replay.Goals.{After-apply, Then-not-apply}
+use Rattle.shadow_tables.proofs.calls.replay.Given.{Over}
 
 -- what stands where the list has no call
 abbrev none : Call
@@ -20,45 +23,89 @@ apply-requires-clause-owns g c =
 pub apply-requires-clause-fit : goal.apply-requires-clause-fit
 apply-requires-clause-fit g c = fit-at c.args.calls.now c.loop-call.call-index none c.requires.fit c.loop-call-test.true
 
-pub returns-then-not-apply-clause-moves : goal.returns-then-not-apply-clause-moves
-returns-then-not-apply-clause-moves g c =
+moved : (g : Over) (c : After-apply g) → Moves c.args.pool.now c.apply.new.pool c.args.ram.now c.apply.new.ram (g.S.Shadows.frames c.args.shadows.now c.args.ram.now) (g.S.Shadows.frames c.apply.new.shadows c.apply.new.ram)
+moved g c =
     let l = c.loop-call in
     let f = g.S.Shadows.frames in
-    Moves-trans c.args.pool.now l.pool c.apply.new.pool c.args.ram.now l.ram c.apply.new.ram (f c.args.shadows.now c.args.ram.now) (f l.shadows l.ram) (f c.apply.new.shadows c.apply.new.ram) l.invariant.moves c.if-not-apply.ensures.moves
-
-pub returns-then-not-apply-clause-owns : goal.returns-then-not-apply-clause-owns
-returns-then-not-apply-clause-owns g c =
-    let f = g.S.Shadows.frames in
-    Owns-moves c.args.pool.now c.apply.new.pool c.args.ram.now c.apply.new.ram (f c.args.shadows.now c.args.ram.now) (f c.apply.new.shadows c.apply.new.ram) c.requires.owns (returns-then-not-apply-clause-moves g c)
-
-pub returns-then-not-apply-clause-done : goal.returns-then-not-apply-clause-done
-returns-then-not-apply-clause-done g c = λ h.
-    let cs = c.args.calls.now in let i = c.loop-call.call-index in
-    let a = fills-take cs i none c.loop-call-test.true in
-    let b = fills-le cs (i + 1) in
-    let left = c.loop-call.invariant.left in
-    c.if-not-apply.ensures.done (omega (arith, a, b, left, h))
+    Moves-trans c.args.pool.now l.pool c.apply.new.pool c.args.ram.now l.ram c.apply.new.ram (f c.args.shadows.now c.args.ram.now) (f l.shadows l.ram) (f c.apply.new.shadows c.apply.new.ram) l.invariant.moves c.apply.ensures.moves
 
 pub loop-call-preserved : goal.loop-call-preserved
 loop-call-preserved g c =
     let l = c.loop-call in
-    let f = g.S.Shadows.frames in
     let cs = c.args.calls.now in
-    let e = c.if-not-apply.ensures in
+    let e = c.apply.ensures in
+    let done = c.if-not-apply.false in
     let count = fills-take cs l.call-index none c.loop-call-test.true in
     let before = l.invariant.left in
     let now = e.left in
+    let call : Call = get_or cs l.call-index none in
+    let old = g.S.Shadows.slots c.args.shadows.now c.args.ram.now in
     record {
+      count = ap (λ n. n + 1) l.invariant.count;
       stands = e.stands;
-      moves = Moves-trans c.args.pool.now l.pool c.apply.new.pool c.args.ram.now l.ram c.apply.new.ram (f c.args.shadows.now c.args.ram.now) (f l.shadows l.ram) (f c.apply.new.shadows c.apply.new.ram) l.invariant.moves e.moves;
-      tracked = ArePart-trans _ _ _ e.tracked l.invariant.tracked;
+      moves = moved g c.before;
       left = omega (arith, count, before, now);
+      within = λ page h.
+          subst (IsWithin (g.S.Shadows.slots c.apply.new.shadows c.apply.new.ram page)) (sym (after-take cs l.call-index none page (old page) c.loop-call-test.true))
+          (within-trans _ _ _ (e.within done page h) (within-call call page _ _ (l.invariant.within page h)));
       slots = λ free page h.
-          (let none_now = tracks-none _ _ l.invariant.tracked free in
-          e.slots refl none_now page h
-          ∙ ap (after_call (get_or cs l.call-index none) page) (l.invariant.slots free page h)
-          ∙ sym (after-take cs l.call-index none page (g.S.Shadows.slots c.args.shadows.now c.args.ram.now page) c.loop-call-test.true));
+          e.slots done free page h
+          ∙ ap (after_call call page) (l.invariant.slots free page h)
+          ∙ sym (after-take cs l.call-index none page (old page) c.loop-call-test.true);
     }
+
+-- ---- a fill for which no frame is free
+
+refused : (g : Over) (c : Then-not-apply g) → IsTrue c.apply.result → ⊥
+refused g c t = let e = c.if-not-apply.true in absurd (let q : false ≡ true = sym e ∙ t in cc)
+
+pub returns-then-not-apply-clause-moves : goal.returns-then-not-apply-clause-moves
+returns-then-not-apply-clause-moves g c = moved g c.before
+
+pub returns-then-not-apply-clause-owns : goal.returns-then-not-apply-clause-owns
+returns-then-not-apply-clause-owns g c =
+    let f = g.S.Shadows.frames in
+    Owns-moves c.args.pool.now c.apply.new.pool c.args.ram.now c.apply.new.ram (f c.args.shadows.now c.args.ram.now) (f c.apply.new.shadows c.apply.new.ram) c.requires.owns (moved g c.before)
+
+pub returns-then-not-apply-clause-all : goal.returns-then-not-apply-clause-all
+returns-then-not-apply-clause-all g c = λ h.
+    let cs = c.args.calls.now in let i = c.loop-call.call-index in
+    let a = fills-take cs i none c.loop-call-test.true in
+    let b = fills-le cs (i + 1) in
+    let left = c.loop-call.invariant.left in
+    absurd (refused g c (c.apply.ensures.done (omega (arith, a, b, left, h))))
+
+pub returns-then-not-apply-clause-stopped : goal.returns-then-not-apply-clause-stopped
+returns-then-not-apply-clause-stopped g c = λ h.
+    let cs = c.args.calls.now in
+    let e = c.apply.ensures.undone (refused g c) in
+    let here : drop c.loop-call.done cs ≡ get_or cs c.loop-call.call-index none ∷ drop (suc c.loop-call.call-index) cs =
+    ap (λ n. drop n cs) c.loop-call.invariant.count ∙ drop-cons cs c.loop-call.call-index none c.loop-call-test.true
+    in
+    (subst BeginsWithFill (sym here) e.0, e.1)
+
+pub returns-then-not-apply-clause-law : goal.returns-then-not-apply-clause-law
+returns-then-not-apply-clause-law g c = λ page h.
+    let l = c.loop-call in
+    let cs = c.args.calls.now in
+    let o = g.S.Shadows.slots c.args.shadows.now c.args.ram.now page in
+    let same = c.apply.ensures.same (refused g c) page h in
+    let then = g.S.Shadows.slots l.shadows l.ram page in
+    let now = g.S.Shadows.slots c.apply.new.shadows c.apply.new.ram page in
+    follows (take l.done cs) page o now
+    (subst (λ x. IsWithin x (after (take l.done cs) page o)) (sym same)
+    (subst (λ n. IsWithin then (after (take n cs) page o)) (sym l.invariant.count) (l.invariant.within page h)))
+
+pub returns-then-not-apply-clause-adequate : goal.returns-then-not-apply-clause-adequate
+returns-then-not-apply-clause-adequate g c = λ free page h side write.
+    let l = c.loop-call in
+    let cs = c.args.calls.now in
+    let o = g.S.Shadows.slots c.args.shadows.now c.args.ram.now page in
+    let now = g.S.Shadows.slots c.apply.new.shadows c.apply.new.ram page in
+    adequate-after (take l.done cs) page o now side write
+    (c.apply.ensures.same (refused g c) page h ∙ l.invariant.slots free page h ∙ ap (λ n. after (take n cs) page o) (sym l.invariant.count))
+
+-- ---- all done
 
 pub returns-clause-owns : goal.returns-clause-owns
 returns-clause-owns g c =
@@ -66,9 +113,17 @@ returns-clause-owns g c =
     Owns-moves c.args.pool.now l.pool c.args.ram.now l.ram (g.S.Shadows.frames c.args.shadows.now c.args.ram.now) (g.S.Shadows.frames l.shadows l.ram) c.requires.owns l.invariant.moves
 
 pub returns-clause-law : goal.returns-clause-law
-returns-clause-law g c = λ t free page h.
+returns-clause-law g c = λ page h.
     let l = c.loop-call in
     let cs = c.args.calls.now in
     let o = g.S.Shadows.slots c.args.shadows.now c.args.ram.now page in
-    let all : take l.call-index cs ≡ cs = take_all l.call-index cs (omega arith) in
-    follows cs page o (g.S.Shadows.slots l.shadows l.ram page) (l.invariant.slots free page h ∙ ap (λ (xs : List Call). after xs page o) all)
+    let now = g.S.Shadows.slots l.shadows l.ram page in
+    follows (take l.done cs) page o now (subst (λ n. IsWithin now (after (take n cs) page o)) (sym l.invariant.count) (l.invariant.within page h))
+
+pub returns-clause-adequate : goal.returns-clause-adequate
+returns-clause-adequate g c = λ free page h side write.
+    let l = c.loop-call in
+    let cs = c.args.calls.now in
+    let o = g.S.Shadows.slots c.args.shadows.now c.args.ram.now page in
+    let now = g.S.Shadows.slots l.shadows l.ram page in
+    adequate-after (take l.done cs) page o now side write (l.invariant.slots free page h ∙ ap (λ n. after (take n cs) page o) (sym l.invariant.count))

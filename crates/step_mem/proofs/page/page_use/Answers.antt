@@ -1,12 +1,12 @@
 use Rattle.std.proofs.Common.{ap, ◌∙◌, sym}
 use Rattle.paging.specs.Uses.{page_uses, by_entry, usable}
-use Rattle.step_mem.specs.Space.{space_of, one_more}
+use Rattle.step_mem.specs.Space.{space_of, one_more, with_tables}
 use Rattle.step_mem.proofs.page.page_use.Goals as goal
 
 pub returns-in-None-clause-uses : goal.returns-in-None-clause-uses
 unfolding page_uses
 returns-in-None-clause-uses g c = λ rest.
-    let s = space_of (g.B.Kept.entries c.args.base.now) c.args.ram.now c.args.control c.args.guard.now c.args.changes.now (one_more rest c.args.page) in
+    let s = space_of (g.B.Kept.entries c.args.base.now) c.args.ram.now c.args.control c.args.guard.now c.args.changes.now (with_tables (one_more rest c.args.page) c.args.tables.now) in
     ap (by_entry s c.args.fetch c.args.page c.args.at c.args.access)
     (ap (λ o. usable o c.args.access c.args.control.wp) (sym c.look.ensures) ∙ sym c.in-None.ensures)
     ∙ c.settle.ensures.settled (one_more rest c.args.page)

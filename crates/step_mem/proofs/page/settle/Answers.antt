@@ -1,8 +1,12 @@
-use Rattle.std.proofs.Common.{◌≡◌, ap, ◌∙◌, ◌*◌, subst, sym, IsSome}
+use Rattle.std.proofs.Common.{◌≡◌, ◌++◌, ap, ◌∙◌, ◌*◌, subst, sym, false, Option, Some, IfSome, IsSome}
 use Rattle.std.specs.FinMap.{get}
-use Rattle.paging.specs.Uses.{with_entry, settled}
+use Rattle.paging.specs.declared.entry.Entry.{Entry}
+use Rattle.paging.specs.Fresh.{tables_read}
+use Rattle.paging.specs.Uses.{with_entry, settled, is_barred}
+use Rattle.step_mem.specs.Guard.{mode_of}
 use Rattle.step_mem.specs.Changes.{changed, AreWithin, page_of, entry_of}
-use Rattle.step_mem.specs.Space.{space_of}
+use Rattle.step_mem.specs.Space.{space_of, with_tables}
+use Rattle.step_mem.specs.Shown.{shown}
 use Rattle.step_mem.proofs.Changed.{changed_push, get_with_same, get_with_other, Within_with}
 use Rattle.step_mem.proofs.page.settle.Goals as goal
 use Rattle.step_mem.proofs.page.settle.Given.{Over}
@@ -17,15 +21,17 @@ after g c =
     ap (changed (kept c.decide-met.new.ram)) c.push.ensures
     ∙ changed_push (kept c.decide-met.new.ram) c.args.changes.now change
     ∙ ap (λ set. with_entry (changed set c.args.changes.now) (page_of change) (entry_of change))
-    (g.met.B.Kept.apart c.args.base.now (4096 * c.args.control.frames) c.args.ram.now c.decide-met.new.ram c.requires.apart c.decide-met.ensures.above)
+    (g.met.B.Kept.apart c.args.base.now (4096 * c.args.control.frames) c.args.ram.now c.decide-met.new.ram c.requires.apart c.decide-met.ensures.above c.decide-met.ensures.length c.requires.stands)
     ∙ ap (λ p. with_entry (changed (kept c.args.ram.now) c.args.changes.now) p (entry_of change)) c.change_of.ensures.page
     ∙ ap (with_entry (changed (kept c.args.ram.now) c.args.changes.now) page) c.change_of.ensures.entry
 
 pub returns-clause-settled : goal.returns-clause-settled
 returns-clause-settled g c = λ rest.
-    let s = space_of (g.B.Kept.entries c.args.base.now) c.args.ram.now c.args.control c.args.guard.now c.args.changes.now rest in
+    let s = space_of (g.B.Kept.entries c.args.base.now) c.args.ram.now c.args.control c.args.guard.now c.args.changes.now (with_tables rest c.args.tables.now) in
+    let read = c.args.tables.now ++ tables_read (shown c.args.guard.now c.args.control.frames c.args.ram.now) c.args.control.frames c.args.control.cr3 c.args.page in
     ap (settled s c.args.page) c.decide-met.ensures.decided
-    ∙ ap (λ set. (c.decide-met.result.0, record s { ram = c.decide-met.new.ram; set = set })) (sym (after g c))
+    ∙ ap (λ set. (c.decide-met.result.0, record s { ram = shown c.args.guard.now c.args.control.frames c.decide-met.new.ram; set = set; tables = read })) (sym (after g c))
+    ∙ ap (λ tables. (c.decide-met.result.0, record s { ram = shown c.args.guard.now c.args.control.frames c.decide-met.new.ram; set = changed (g.B.Kept.entries c.args.base.now c.decide-met.new.ram) c.push.new.self; tables = tables })) (sym c.note_tables.ensures.noted)
 
 pub returns-clause-within : goal.returns-clause-within
 returns-clause-within g c =
@@ -46,4 +52,10 @@ returns-clause-stands g c =
 
 pub returns-clause-kept : goal.returns-clause-kept
 returns-clause-kept g c =
-    g.met.B.Kept.apart c.args.base.now (4096 * c.args.control.frames) c.args.ram.now c.decide-met.new.ram c.requires.apart c.decide-met.ensures.above
+    g.met.B.Kept.apart c.args.base.now (4096 * c.args.control.frames) c.args.ram.now c.decide-met.new.ram c.requires.apart c.decide-met.ensures.above c.decide-met.ensures.length c.requires.stands
+
+pub returns-clause-clear : goal.returns-clause-clear
+returns-clause-clear g c = λ ready x is.
+    let P : Option Entry → Type 0 = λ o. IfSome o (λ e. is_barred (mode_of c.args.guard.now) c.args.fetch c.args.access.user c.args.page e.frame ≡ false) in
+    let found : c.decide-met.result.1 ≡ Some x = sym (ap (λ set. get set c.args.page) (after g c) ∙ get_with_same _ c.args.page c.decide-met.result.1) ∙ is in
+    subst P found c.decide-met.ensures.clear

@@ -7,6 +7,8 @@ returns-clause-uses g c =
     rw c.push.ensures (rw c.page_use.ensures.kept (rw c.page_use.ensures.kept at (c.page_use.ensures.uses (record {
       pages = m.pages;
       went = m.went;
+      tables = m.tables;
+      wrote = m.wrote;
       ready = record { start = m.ready.start; len = m.ready.len; write = m.ready.write };
       earlier = record { start = m.earlier.start; len = m.earlier.len; set = changed (g.B.Kept.entries c.args.base.now c.args.ram.now) m.earlier.changes };
     }))))

@@ -1,7 +1,7 @@
 use Rattle.shadow_tables.specs.Slots.{roots, held}
 use Rattle.frame_pool.proofs.Held.{Owns-moves}
-use Rattle.shadow_tables.specs.Laws.{in-kernel, in-user}
-use Rattle.shadow_tables.proofs.Entries.{entries_of-none}
+use Rattle.shadow_tables.specs.Laws.Views.{in-kernel, in-user}
+use Rattle.shadow_tables.specs.Laws.Entries.{entries_of-none}
 use Rattle.shadow_tables.proofs.Fills.{half-owned, emptied, emptied-moves}
 use Rattle.shadow_tables.proofs.shadow.Shadow.drop_all.Goals as goal
 

@@ -2,9 +2,9 @@ use Rattle.std.proofs.Common.{ℕ, List, None, ◌∙◌, subst}
 use Rattle.frame_pool.specs.Held.{Writes}
 use Rattle.frame_pool.proofs.Held.{Moves-kept, Writes-trans}
 use Rattle.shadow_tables.specs.Slots.{roots, held, slot_at, Becomes}
-use Rattle.shadow_tables.proofs.Entries.{entries_of-turned}
+use Rattle.shadow_tables.specs.Laws.Entries.{entries_of-turned}
 use Rattle.shadow_views.proofs.Changes.{IsView-from_Holds}
-use Rattle.shadow_tables.specs.Laws.{in-kernel, in-user}
+use Rattle.shadow_tables.specs.Laws.Views.{in-kernel, in-user}
 use Rattle.shadow_tables.proofs.Fills.{drops, drop-half}
 use Rattle.shadow_tables.proofs.shadow.Shadow.drop_page.Goals as goal
 

@@ -1,4 +1,4 @@
-use Rattle.shadow_tables.proofs.Entries.{entries_of-none}
+use Rattle.shadow_tables.specs.Laws.Entries.{entries_of-none}
 use Rattle.shadow_tables.proofs.Fills.{made, made-moves, made-owns}
 use Rattle.shadow_tables.proofs.shadow.Shadow.new.Goals as goal
 

@@ -1,0 +1,74 @@
+-- The bytes of ranges that were met may be read.
+use Rattle.std.proofs.Common.{◌≡◌, ℕ, ◌+◌, ◌*◌, ◌^◌, ◌<◌, ◌≤◌, List, length, Bool, true, false, cond, Option, Some, None, refl, sym, subst, arith}
+use Rattle.std.proofs.lemmas.Bool.Decides.{nat_tests}
+use Rattle.ia32_types.specs.declared.size.Size.{Size}
+use Rattle.ia32_types.specs.declared.size.Size.TheVariants.{Byte, Word, Long}
+use Rattle.ia32_exec.specs.Memory.{IsAllAt}
+use Rattle.ia32_exec.specs.Commit.{AreStored}
+use Rattle.ia32_exec.specs.declared.outcome.Stores.{Stores}
+use Rattle.ia32_exec.specs.declared.outcome.Stores.TheVariants.{Nothing, One, Eight}
+use Rattle.ia32_exec.specs.declared.access.Range.{Range}
+use Rattle.ia32_exec.specs.Ranges.{AreAll, Covers}
+use Rattle.host_cpl3.specs.declared.reach.Reach.{Reach}
+use Rattle.host_cpl3.specs.Pages.{place}
+use Rattle.host_cpl3.specs.Reaches.{holds, placed, IsReach, IsOf, IsRead, IsWritten}
+
+held : (x : Reach) (a : ℕ) → holds x a ≡ true → (x.at ≤ a) × (a < x.at + x.len)
+held x a e = (grind (arith, nat_tests), grind (arith, nat_tests))
+
+-- an address of either range
+read_by : (m : List ℕ) (root : ℕ) (x y : Reach) (a : ℕ) (b : Bool) → IsReach m root x → IsReach m root y → (b ≡ true → (x.at ≤ a) × (a < x.at + x.len)) → (b ≡ false → (y.at ≤ a) × (a < y.at + y.len)) → a < 2 ^ 32
+    → (a < 2 ^ 32) × (cond b (placed x a) (placed y a) ≡ place m root a) × (cond b (placed x a) (placed y a) < length m)
+read_by m root x y a true hx hy in_x in_y lt = let h = in_x refl in (lt, hx.leads a h.0 h.1, hx.inside a h.0 h.1)
+read_by m root x y a false hx hy in_x in_y lt = let h = in_y refl in (lt, hy.leads a h.0 h.1, hy.inside a h.0 h.1)
+
+first_held : (x : Reach) (a : ℕ) → x.at ≤ a → a < x.at + x.len → holds x a ≡ true
+first_held x a low high = grind (arith, nat_tests)
+
+both_ways : (b : Bool) → b ≡ true → b ≡ false → ⊥
+both_ways b e f = cc
+
+in_first : (m : List ℕ) (root : ℕ) (x y : Reach) (a : ℕ) → IsReach m root x → IsReach m root y → x.at ≤ a → a < x.at + x.len → IsRead m root x y a
+in_first m root x y a hx hy low high =
+    let h = read_by m root x y a (holds x a) hx hy (λ e. (low, high)) (λ e. absurd (both_ways (holds x a) (first_held x a low high) e)) (omega (arith, hx.fits)) in
+    record { space = h.0; leads = h.1; inside = h.2 }
+
+in_second : (m : List ℕ) (root : ℕ) (x y : Reach) (a : ℕ) → IsReach m root x → IsReach m root y → y.at ≤ a → a < y.at + y.len → IsRead m root x y a
+in_second m root x y a hx hy low high =
+    let h = read_by m root x y a (holds x a) hx hy (λ e. held x a e) (λ e. (low, high)) (omega (arith, hy.fits)) in
+    record { space = h.0; leads = h.1; inside = h.2 }
+
+pub first_read : (m : List ℕ) (root : ℕ) (x y : Reach) (o : Option Range) → IsReach m root x → IsReach m root y → IsOf o x → Covers (IsRead m root x y) o
+first_read m root x y None hx hy of = tt
+first_read m root x y (Some r) hx hy of = λ k lt. in_first m root x y (r.at + k) hx hy (omega (arith, of.0)) (omega (arith, of.0, of.1, lt))
+
+pub second_read : (m : List ℕ) (root : ℕ) (x y : Reach) (o : Option Range) → IsReach m root x → IsReach m root y → IsOf o y → Covers (IsRead m root x y) o
+second_read m root x y None hx hy of = tt
+second_read m root x y (Some r) hx hy of = λ k lt. in_second m root x y (r.at + k) hx hy (omega (arith, of.0)) (omega (arith, of.0, of.1, lt))
+
+-- and written, each at its place
+pub written : (m : List ℕ) (root : ℕ) (y : Reach) (o : Option Range) → IsReach m root y → IsOf o y → Covers (λ at. IsWritten (length m) y at × (placed y at ≡ place m root at)) o
+written m root y None hy of = tt
+written m root y (Some r) hy of = λ k lt.
+    let low : y.at ≤ r.at + k = omega (arith, of.0) in
+    let high : r.at + k < y.at + y.len = omega (arith, of.0, of.1, lt) in
+    (record { space = omega (arith, hy.fits); inside = hy.inside (r.at + k) low high }, hy.leads (r.at + k) low high)
+
+-- the first byte of a number
+pub first_of : (P : ℕ → Type 0) (at : ℕ) (s : Size) → IsAllAt P at s → P at
+first_of P at Byte h = let z : at + 0 ≡ at = omega arith in subst P z (h 0 (omega arith))
+first_of P at Word h = let z : at + 0 ≡ at = omega arith in subst P z (h 0 (omega arith))
+first_of P at Long h = let z : at + 0 ≡ at = omega arith in subst P z (h 0 (omega arith))
+
+-- a number of eight
+pub long_of_eight : (m n : ℕ) (x : Reach) (at k : ℕ) → AreAll (IsWritten n x) at 32 → k < 8 → m ≡ n → IsAllAt (IsWritten m x) (at + 4 * k) Long
+long_of_eight m n x at k h lt e = λ j near.
+    let here : 4 * k + j < 32 = omega (arith, near) in
+    let same : at + (4 * k + j) ≡ at + 4 * k + j = omega arith in
+    subst (IsWritten m x) same (subst (λ (l : ℕ). IsWritten l x (at + (4 * k + j))) (sym e) (h (4 * k + j) here))
+
+-- what is written in a range, and where
+pub parts_stored : (P Q : ℕ → Type 0) (ws : Stores) → AreStored (λ at. P at × Q at) ws → AreStored P ws × AreStored Q ws
+parts_stored P Q Nothing h = (tt, tt)
+parts_stored P Q (One w) h = (λ k lt. (h k lt).0, λ k lt. (h k lt).1)
+parts_stored P Q (Eight at vs) h = (λ k lt. (h k lt).0, λ k lt. (h k lt).1)

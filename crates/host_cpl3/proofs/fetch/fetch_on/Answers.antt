@@ -1,0 +1,5 @@
+use Rattle.host_cpl3.proofs.Spelling.{spelled_by}
+use Rattle.host_cpl3.proofs.fetch.fetch_on.Goals as goal
+
+pub returns-clause-spelled : goal.returns-clause-spelled
+returns-clause-spelled c = spelled_by _ c.decode.result c.decode.ensures.insn

@@ -1,0 +1,35 @@
+use Rattle.std.proofs.Common.{◌+◌, ◌-◌, sym, ap, ◌∙◌, arith}
+use Rattle.host_cpl3.specs.HostRun.{host_run}
+use Rattle.host_cpl3.specs.Hosts.{standing}
+use Rattle.host_cpl3.proofs.Runs.{run_on, run_enters, run_exits, run_ends}
+use Rattle.host_cpl3.proofs.machine.run.Goals as goal
+
+pub returns-in-Ok-Entered-clause-runs : goal.returns-in-Ok-Entered-clause-runs
+returns-in-Ok-Entered-clause-runs c =
+    let l = c.loop-done in
+    l.invariant.run ∙ run_enters c.args.view.now c.args.k l._done (standing l.regs l.ram l.retired l.passed) c.in-Ok-Entered.field-0 c.in-Ok-Entered.after c.host_step.new.ram c.loop-done-test.true c.in-Ok-Entered.ensures.gives
+    c.in-Ok-Entered.field-0-is
+
+pub returns-in-Err-clause-runs : goal.returns-in-Err-clause-runs
+returns-in-Err-clause-runs c =
+    let l = c.loop-done in
+    l.invariant.run ∙ run_exits c.args.view.now c.args.k l._done (standing l.regs l.ram l.retired l.passed) c.in-Err.exit c.host_step.new.ram c.loop-done-test.true c.in-Err.ensures.gives.0
+    c.in-Err.ensures.gives.1
+
+pub loop-done-preserved : goal.loop-done-preserved
+loop-done-preserved c =
+    let l = c.loop-done in
+    record {
+      run =
+          l.invariant.run ∙ run_on c.args.view.now c.args.k l._done (standing l.regs l.ram l.retired l.passed) c.in-Ok-Completed.field-0 c.in-Ok-Completed.after c.host_step.new.ram c.loop-done-test.true
+          c.in-Ok-Completed.ensures.gives c.in-Ok-Completed.field-0-is
+          ∙ ap (λ p. host_run c.args.view.now (c.args.k - (l._done + 1)) (standing c.in-Ok-Completed.after c.host_step.new.ram (l.retired + 1) p)) (sym c.digest.ensures);
+      len = c.in-Ok-Completed.ensures.len ∙ l.invariant.len;
+      count = omega (arith, l.invariant.count);
+      kept = c.in-Ok-Completed.ensures.kept;
+    }
+
+pub returns-clause-runs : goal.returns-clause-runs
+returns-clause-runs c =
+    let l = c.loop-done in
+    l.invariant.run ∙ run_ends c.args.view.now c.args.k l._done (standing l.regs l.ram l.retired l.passed) (omega arith)

@@ -1,0 +1,22 @@
+use Rattle.std.proofs.Common.{◌*◌, ◌<◌, length, arith}
+use Rattle.host_cpl3.proofs.Reading.{long_of_eight}
+use Rattle.host_cpl3.proofs.Storing.{eight_more}
+use Rattle.host_cpl3.proofs.Writing.{but_trans}
+use Rattle.host_cpl3.proofs.store.store_eight.Goals as goal
+
+pub overflow_add-at : goal.overflow_add-at
+overflow_add-at c =
+    let lt : 4 * c.loop-k.k < 32 = omega arith in
+    let here = c.requires (4 * c.loop-k.k) lt in
+    omega (arith, here.space)
+
+pub store-requires : goal.store-requires
+store-requires c =
+    let lt : c.loop-k.k < 8 = omega arith in
+    long_of_eight _ (length c.args.ram.now) c.args.reach.now c.args.at c.loop-k.k c.requires lt c.loop-k.invariant.same.len
+
+pub loop-k-preserved : goal.loop-k-preserved
+loop-k-preserved c = record {
+  memory = eight_more _ _ _ _ c.loop-k.k c.args.at c.args.values c.store.ensures.memory c.loop-k.invariant.memory;
+  same = but_trans c.loop-k.invariant.same c.store.ensures.same;
+}

@@ -1,0 +1,27 @@
+-- Walks that are kept: what a walk would find now, with the frame of the table that it was read from.
+use Rattle.std.specs.Prelude.{◌≡◌, ℕ, ◌*◌, ◌/◌, ◌%◌, ◌<◌, ◌^◌, List, length, slice_index, Some, IfSome}
+use Rattle.std.specs.FinMap.{get}
+use Rattle.guest_ram.specs.Bytes.{word32, frame}
+use Rattle.paging.specs.declared.entry.Entry.{Entry}
+use Rattle.paging.specs.Fresh.{dir_place}
+use Rattle.host_cpl3.specs.declared.walks.Walks.{Walks}
+use Rattle.host_cpl3.specs.Pages.{walked, entry_in}
+
+-- the frame of a page's table, by the word in the directory
+abbrev pub table_of : List ℕ → ℕ → ℕ → ℕ
+table_of m root page = word32 m (dir_place (4096 * root) page) / 4096
+
+pub record IsKept (m : List ℕ) (root page : ℕ) (entry : Entry) (table : ℕ) : Type 0 where
+  pub page_in : page < 2 ^ 20
+  pub found : entry_in (walked m root page) ≡ Some entry
+  pub inside : entry.frame < length m / 4096
+  pub read_from : table ≡ table_of m root page
+
+-- of every page, each in the place of its number modulo 64
+abbrev pub AreKept : Walks → List ℕ → ℕ → Type 0
+AreKept w m root = (page : ℕ) → IfSome (get w.buffer page) (λ entry. IsKept m root page entry (slice_index w.tables (page % 64)))
+
+-- memory is as long, and the same in all frames but two
+pub record SameBut (m m' : List ℕ) (first last : ℕ) : Type 0 where
+  pub len : length m' ≡ length m
+  pub frames : (f : ℕ) → (f ≡ first → ⊥) → (f ≡ last → ⊥) → frame m' f ≡ frame m f

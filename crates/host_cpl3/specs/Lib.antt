@@ -1,0 +1,14 @@
+pub mod Met
+pub mod Views
+pub mod Pages
+pub mod Fetch
+pub mod Permit
+pub mod Access
+pub mod Store
+pub mod HostStep
+pub mod HostRun
+pub mod Reaches
+pub mod Fetches
+pub mod Hosts
+pub mod Kept
+pub mod RunsTo

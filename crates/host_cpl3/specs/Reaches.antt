@@ -1,0 +1,56 @@
+-- What the code keeps of a range that was met.
+use Rattle.std.specs.Prelude.{◌≡◌, ℕ, ◌+◌, ◌*◌, ◌/◌, ◌%◌, ◌<◌, ◌≤◌, ◌^◌, List, length, Bool, ◌==◌, ◌&&◌, nat_le, nat_lt, Option, Some, None, Result, Ok, Err, if◌then◌else◌}
+use Rattle.ia32_exec.specs.declared.access.Range.{Range}
+use Rattle.host_cpl3.specs.declared.exit.Exit.{Exit}
+use Rattle.host_cpl3.specs.declared.exit.Done.{Done}
+use Rattle.host_cpl3.specs.declared.reach.Reach.{Reach}
+use Rattle.host_cpl3.specs.Met.{Met}
+use Rattle.host_cpl3.specs.Pages.{place}
+
+abbrev pub holds : Reach → ℕ → Bool
+holds x at = nat_le x.at at && nat_lt at (x.at + x.len)
+
+-- the place of an address in it
+abbrev pub placed : Reach → ℕ → ℕ
+placed x at = 4096 * (if at / 4096 == x.at / 4096 then x.first else x.last) + at % 4096
+
+-- in the first of the two that holds the address
+abbrev pub placed_in : Reach → Reach → ℕ → ℕ
+placed_in x y at = if holds x at then placed x at else placed y at
+
+-- the addresses of the range lead where the view's tables say, in the memory
+pub record IsReach (m : List ℕ) (root : ℕ) (x : Reach) : Type 0 where
+  pub fits : x.at + x.len ≤ 2 ^ 32
+  pub leads : (a : ℕ) → x.at ≤ a → a < x.at + x.len → placed x a ≡ place m root a
+  pub inside : (a : ℕ) → x.at ≤ a → a < x.at + x.len → placed x a < length m
+
+-- of this range, or of nothing
+abbrev pub IsOf : Option Range → Reach → Type 0
+IsOf None x = x.len ≡ 0
+IsOf (Some r) x = (x.at ≡ r.at) × (x.len ≡ r.len)
+
+-- an address that may be read
+pub record IsRead (m : List ℕ) (root : ℕ) (x y : Reach) (at : ℕ) : Type 0 where
+  pub space : at < 2 ^ 32
+  pub leads : placed_in x y at ≡ place m root at
+  pub inside : placed_in x y at < length m
+
+-- an address that may be written
+pub record IsWritten (n : ℕ) (x : Reach) (at : ℕ) : Type 0 where
+  pub space : at < 2 ^ 32
+  pub inside : placed x at < n
+
+-- a part of the work passed, or ended at that exit
+abbrev pub passes : {A : Type 0} → Result A Exit → Met (Unit {0})
+passes (Ok x) = Ok tt
+passes (Err exit) = Err exit
+
+-- a range has 1 to 32 bytes
+abbrev pub IsShort : Option Range → Type 0
+IsShort None = Unit {0}
+IsShort (Some r) = (1 ≤ r.len) × (r.len ≤ 32)
+
+-- the function returned what the step gives, and left memory so; after an exit memory is as before
+abbrev pub Gives : Result Done Exit → (old new : List ℕ) → Met (Done × List ℕ) → Type 0
+Gives (Ok done) old new met = met ≡ Ok (done, new)
+Gives (Err exit) old new met = (met ≡ Err exit) × (new ≡ old)

@@ -1,0 +1,73 @@
+//! The bytes that an instruction may read.
+
+use crate::reach::Reach;
+use guest_ram::Ram;
+use ia32_exec::LinearMem;
+use ia32_types::Size;
+
+/// Memory with the two ranges that were reached: what is read alone, and what is written.
+#[derive(Drop)]
+pub struct Bytes<'a> {
+    pub ram: &'a Ram,
+    pub root: u32,
+    pub read: Reach,
+    pub write: Reach,
+}
+
+impl LinearMem for Bytes<'_> {
+    ghost use Rattle.std.specs.Prelude.{◌≡◌, ◌<◌, ◌^◌};
+    ghost use Rattle.host_cpl3.specs.Pages.{byte_at};
+    ghost use Rattle.host_cpl3.specs.Reaches.{IsRead};
+
+    ghost byte = { λ b at. byte_at b.ram.now b.root at };
+
+    ghost readable = { λ b at. IsRead b.ram.now b.root b.read b.write at };
+
+    ghost writable = { λ b at. at < 2 ^ 32 };
+
+    ghost after = { λ a ws b. Unit {0} };
+
+    ghost read_in_space = { λ b at h. h.space };
+
+    ghost write_in_space = { λ b at h. h };
+
+    ghost nothing = { λ b. tt };
+
+    ghost joined = { λ a b c v w p q. tt };
+
+    fn read(&self, at: u32, size: Size) -> u32 {
+        match size {
+            Size::Byte => self.byte(at),
+            Size::Word => self.byte(at) + self.byte(at + 1) * 0x100,
+            Size::Long => {
+                self.byte(at)
+                    + self.byte(at + 1) * 0x100
+                    + self.byte(at + 2) * 0x1_0000
+                    + self.byte(at + 3) * 0x100_0000
+            }
+        }
+    }
+
+    /// Nothing is kept of what is written, and nothing told of it.
+    fn write(&mut self, _at: u32, _size: Size, _value: u32) {}
+}
+
+impl Bytes<'_> {
+    ghost use Rattle.std.specs.Prelude.{◌≡◌, ◌<◌};
+    ghost use Rattle.host_cpl3.specs.Pages.{byte_at};
+    ghost use Rattle.host_cpl3.specs.Reaches.{IsRead};
+
+    #[tactic(auto, unfolding(crate::specs::Pages::byte_at))]
+    fn byte(&self, at: u32) -> u32
+        requires { IsRead self.now.ram.now self.now.root self.now.read self.now.write at }
+        ensures value { result ≡ byte_at self.now.ram.now self.now.root at }
+        ensures small { result < 256 }
+    {
+        let place = if self.read.holds(at) {
+            self.read.placed(at)
+        } else {
+            self.write.placed(at)
+        };
+        u32::from(self.ram.read8(place))
+    }
+}

@@ -1,0 +1,118 @@
+//! Reading the instruction at EIP.
+
+ghost use Rattle.std.specs.Prelude.{◌≡◌, ◌+◌, ◌*◌, ◌-◌, ◌/◌, ◌%◌, ◌<◌, ◌≤◌, ◌^◌, ◌++◌, length, List, ℕ, IfOk, MatchResult};
+ghost use Rattle.ia32_decode.specs.Front.{front_len};
+ghost use Rattle.ia32_rows.specs.Spells.{Spells};
+ghost use Rattle.host_cpl3.specs.Fetch.{fetching, fetched_on, fetched, spelled};
+ghost use Rattle.host_cpl3.specs.Fetches.{IsSpelled};
+ghost use Rattle.host_cpl3.specs.Kept.{AreKept};
+
+use crate::exit::Exit;
+use crate::pages::page_met;
+use crate::walks::Walks;
+use arrayvec::ArrayVec;
+use guest_ram::Ram;
+use ia32_decode::{Decoded, decode};
+use ia32_types::Insn;
+
+/// No instruction is longer.
+const LONGEST: u32 = 11;
+
+type Bytes = ArrayVec<u8, 32>;
+
+/// What begins at a linear address. Where the bytes of the first page are a proper prefix of a spelling, the second
+/// page is reached too.
+#[tactic(auto, unfolding(crate::specs::Fetch::fetched))]
+pub fn fetch(walks: &mut Walks, ram: &Ram, root: u32, eip: u32) -> Result<Decoded, Exit>
+    requires root { 4096 * root < length ram.now }
+    requires kept { AreKept walks.old ram.now root }
+    ensures fetched { result ≡ fetched ram.now root eip }
+    ensures spelled { IfOk result IsSpelled }
+    ensures kept { AreKept walks.new ram.now root }
+{
+    let front = fetching(walks, ram, root, eip, front_len(eip))?;
+    match decode(front) {
+        Decoded::Insn(insn, len) => Ok(Decoded::Insn(insn, len)),
+        Decoded::Outside => Ok(Decoded::Outside),
+        Decoded::Short => {
+            if eip / 4096 == 1048575 {
+                return Err(Exit::Wrap);
+            }
+            fetch_on(walks, ram, root, eip, front)
+        }
+    }
+}
+
+fn front_len(eip: u32) -> u32
+    ensures len { result ≡ front_len eip }
+    ensures few { result ≤ 11 }
+    ensures one { eip % 4096 + result ≤ 4096 }
+{
+    LONGEST.min(4096 - eip % 4096)
+}
+
+// With bytes of the second page too.
+#[tactic(auto, unfolding(crate::specs::Fetch::fetched_on))]
+fn fetch_on(
+    walks: &mut Walks,
+    ram: &Ram,
+    root: u32,
+    eip: u32,
+    front: &[u8],
+) -> Result<Decoded, Exit>
+    requires root { 4096 * root < length ram.now }
+    requires kept { AreKept walks.old ram.now root }
+    requires not_last { eip / 4096 < 1048575 }
+    requires few { length front.now ≤ 11 }
+    ensures fetched { result ≡ fetched_on ram.now root eip front.now }
+    ensures spelled { IfOk result IsSpelled }
+    ensures kept { AreKept walks.new ram.now root }
+{
+    let more = fetching(walks, ram, root, eip / 4096 * 4096 + 4096, LONGEST)?;
+    let mut bytes: Bytes = ArrayVec::new();
+    append(front, &mut bytes);
+    append(more, &mut bytes);
+    Ok(decode(bytes.as_slice()))
+}
+
+// Bytes of one page.
+#[tactic(auto, unfolding(crate::specs::Fetch::fetching))]
+fn fetching<'a>(
+    walks: &mut Walks,
+    ram: &'a Ram,
+    root: u32,
+    at: u32,
+    len: u32,
+) -> Result<&'a [u8], Exit>
+    requires root { 4096 * root < length ram.now }
+    requires kept { AreKept walks.old ram.now root }
+    requires one { at % 4096 + len ≤ 4096 }
+    ensures fetching { MatchResult result (λ bytes. fetching ram.now root at len ≡ Ok bytes.now) (λ exit. fetching ram.now root at len ≡ Err exit) }
+    ensures count { IfOk result (λ bytes. length bytes.now ≡ len) }
+    ensures kept { AreKept walks.new ram.now root }
+{
+    let _len = ram.len();
+    let frame = page_met(walks, ram, root, false, at)?;
+    Ok(ram.part(4096 * frame + at % 4096, len))
+}
+
+fn append(from: &[u8], to: &mut Bytes)
+    requires { length to.old.items + length from.now ≤ 32 }
+    ensures { to.new.items ≡ to.old.items ++ from.now }
+{
+    for byte in from {
+        to.push(*byte);
+    }
+}
+
+/// The instruction and its length, where bytes spell one.
+pub fn spelled(decoded: Decoded) -> Result<(Insn, u8), Exit>
+    requires { IsSpelled decoded }
+    ensures met { result ≡ spelled decoded }
+    ensures spelled { IfOk result (λ read. (bytes : List ℕ) × Spells bytes read.0) }
+{
+    match decoded {
+        Decoded::Insn(insn, len) => Ok((insn, len)),
+        _ => Err(Exit::Outside),
+    }
+}

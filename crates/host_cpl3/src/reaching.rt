@@ -1,0 +1,108 @@
+//! The ranges of an instruction.
+
+ghost use Rattle.std.specs.Prelude.{◌≡◌, ◌+◌, ◌*◌, ◌/◌, ◌<◌, ◌≤◌, ◌^◌, length, IfOk, Ok, Err, MatchResult};
+ghost use Rattle.ia32_exec.specs.Short.{IsShort};
+ghost use Rattle.host_cpl3.specs.Access.{segment_met, pages_met, range_met, access_met, last_page};
+ghost use Rattle.host_cpl3.specs.Kept.{AreKept};
+ghost use Rattle.host_cpl3.specs.Reaches.{IsReach, IsOf, passes};
+
+use crate::exit::Exit;
+use crate::pages::page_met;
+use crate::permit::{limit_fault, protection};
+use crate::reach::Reach;
+use crate::view::{View, is_null, is_past_limit};
+use crate::walks::Walks;
+use guest_ram::Ram;
+use ia32_exec::Range;
+
+/// A null segment denies every access.
+pub fn segment_met(view: &View, range: Option<Range>) -> Result<(), Exit>
+    ensures { result ≡ segment_met view.now range }
+{
+    match range {
+        Some(range) if is_null(view, range.seg) => Err(protection()),
+        _ => Ok(()),
+    }
+}
+
+// The frames of its first and of its last page.
+#[tactic(auto, unfolding(crate::specs::Access::pages_met))]
+fn pages_met(
+    walks: &mut Walks,
+    ram: &Ram,
+    root: u32,
+    write: bool,
+    range: Range,
+) -> Result<(u32, u32), Exit>
+    requires root { 4096 * root < length ram.now }
+    requires kept { AreKept walks.old ram.now root }
+    requires short { (1 ≤ range.len) × (range.len ≤ 32) }
+    requires fits { range.at + range.len ≤ 2 ^ 32 }
+    ensures met { result ≡ pages_met ram.now root write range }
+    ensures frames { IfOk result (λ frames. (frames.0 < length ram.now / 4096) × (frames.1 < length ram.now / 4096)) }
+    ensures kept { AreKept walks.new ram.now root }
+{
+    let first = page_met(walks, ram, root, write, range.at)?;
+    let last_page = (range.at + (range.len - 1)) / 4096;
+    if last_page == range.at / 4096 {
+        return Ok((first, first));
+    }
+    let last = page_met(walks, ram, root, write, last_page * 4096)?;
+    Ok((first, last))
+}
+
+// A range that ends with the address space, lies above its segment's limit, and whose pages let the access pass.
+#[tactic(auto, unfolding(crate::specs::Access::range_met))]
+fn range_met(
+    walks: &mut Walks,
+    ram: &Ram,
+    view: &View,
+    write: bool,
+    range: Range,
+) -> Result<(u32, u32), Exit>
+    requires root { 4096 * view.now.root < length ram.now }
+    requires kept { AreKept walks.old ram.now view.now.root }
+    requires short { (1 ≤ range.len) × (range.len ≤ 32) }
+    ensures met { result ≡ range_met ram.now view.now write range }
+    ensures frames { IfOk result (λ frames. (frames.0 < length ram.now / 4096) × (frames.1 < length ram.now / 4096)) }
+    ensures kept { AreKept walks.new ram.now view.now.root }
+{
+    if u64::from(range.at) + u64::from(range.len) > 1 << 32 {
+        return Err(Exit::Wrap);
+    }
+    if is_past_limit(view, range.at) {
+        return Err(limit_fault(range.seg));
+    }
+    pages_met(walks, ram, view.root, write, range)
+}
+
+/// Reaches a range, if there is one.
+pub fn reach(
+    walks: &mut Walks,
+    ram: &Ram,
+    view: &View,
+    write: bool,
+    range: Option<Range>,
+) -> Result<Reach, Exit>
+    requires root { 4096 * view.now.root < length ram.now }
+    requires kept { AreKept walks.old ram.now view.now.root }
+    requires short { IsShort range }
+    ensures met { passes result ≡ access_met ram.now view.now write range }
+    ensures reach { IfOk result (IsReach ram.now view.now.root) }
+    ensures range { IfOk result (IsOf range) }
+    ensures kept { AreKept walks.new ram.now view.now.root }
+{
+    let _len = ram.len();
+    match range {
+        None => Ok(Reach::none()),
+        Some(range) => {
+            let (first, last) = range_met(walks, ram, view, write, range)?;
+            Ok(Reach {
+                at: range.at,
+                len: range.len,
+                first,
+                last,
+            })
+        }
+    }
+}

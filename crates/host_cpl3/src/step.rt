@@ -1,0 +1,158 @@
+//! One instruction.
+
+ghost use Rattle.std.specs.Prelude.{◌≡◌, ◌+◌, ◌*◌, ◌<◌, ◌^◌, length, List, ℕ};
+ghost use Rattle.ia32_rows.specs.Spells.{Spells};
+ghost use Rattle.ia32_types.specs.Shape.{IsShaped};
+ghost use Rattle.ia32_exec.specs.UserEffect.{IsUserDone, user_effect};
+ghost use Rattle.ia32_exec.specs.Effect.{ranges_of};
+ghost use Rattle.host_cpl3.specs.Views.{selectors_of};
+ghost use Rattle.host_cpl3.specs.Pages.{byte_at};
+ghost use Rattle.host_cpl3.specs.Kept.{AreKept};
+ghost use Rattle.host_cpl3.specs.HostStep.{is_jump, exit_of, ended, finished, worked, host_step};
+ghost use Rattle.host_cpl3.specs.Reaches.{IsReach, IsOf, Gives};
+
+use crate::bytes::Bytes;
+use crate::exit::{Done, Exit};
+use crate::fetch::{fetch, spelled};
+use crate::permit::permitted;
+use crate::reach::Reach;
+use crate::reaching::{reach, segment_met};
+use crate::store::store_all;
+use crate::view::{View, is_entry, selectors_of};
+use crate::walks::Walks;
+use guest_ram::Ram;
+use ia32_exec::{Outcome, Stores, ranges, user_effect};
+use ia32_types::{Insn, Op, Regs, Stop};
+
+fn is_jump(op: Op) -> bool
+    ensures { result ≡ is_jump op }
+{
+    matches!(op, Op::Jmp | Op::Jcc | Op::JumpTo)
+}
+
+fn ended(view: &View, op: Op, regs: Regs) -> Done
+    ensures { result ≡ ended view.now op regs }
+{
+    if is_jump(op) && is_entry(view, regs.eip) {
+        Done::Entered(regs)
+    } else {
+        Done::Completed(regs)
+    }
+}
+
+fn exit_of(stop: Stop) -> Exit
+    ensures { result ≡ exit_of stop }
+{
+    match stop {
+        Stop::FlagBits => Exit::FlagBits,
+        _ => Exit::Outside,
+    }
+}
+
+fn outcome(
+    view: &View,
+    ram: &Ram,
+    regs: &Regs,
+    insn: &Insn,
+    len: u8,
+    read: Reach,
+    write: Reach,
+) -> Outcome
+    requires done { IsUserDone insn.now.op }
+    requires shape { IsShaped insn.now }
+    requires read { IsReach ram.now view.now.root read }
+    requires write { IsReach ram.now view.now.root write }
+    requires read_of { IsOf (ranges_of insn.now regs.now).read read }
+    requires write_of { IsOf (ranges_of insn.now regs.now).write write }
+    ensures { result ≡ user_effect (selectors_of view.now) insn.now len regs.now (byte_at ram.now view.now.root) }
+{
+    let bytes = Bytes {
+        ram,
+        root: view.root,
+        read,
+        write,
+    };
+    user_effect(&selectors_of(view), insn, len, regs, &bytes)
+}
+
+// Both ranges are reached.
+fn finish(
+    walks: &mut Walks,
+    view: &View,
+    ram: &mut Ram,
+    regs: &Regs,
+    insn: &Insn,
+    len: u8,
+    read: Reach,
+    write: Reach,
+) -> Result<Done, Exit>
+    requires done { IsUserDone insn.now.op }
+    requires shape { IsShaped insn.now }
+    requires read { IsReach ram.old view.now.root read }
+    requires write { IsReach ram.old view.now.root write }
+    requires read_of { IsOf (ranges_of insn.now regs.now).read read }
+    requires write_of { IsOf (ranges_of insn.now regs.now).write write }
+    requires kept { AreKept walks.old ram.old view.now.root }
+    ensures gives { Gives result ram.old ram.new (finished view.now insn.now.op ram.old (user_effect (selectors_of view.now) insn.now len regs.now (byte_at ram.old view.now.root))) }
+    ensures len { length ram.new ≡ length ram.old }
+    ensures kept { AreKept walks.new ram.new view.now.root }
+{
+    match outcome(view, ram, regs, insn, len, read, write) {
+        Outcome::Done(regs, stores) => {
+            store_all(ram, &write, &stores);
+            if stores != Stores::Nothing {
+                walks.written(view.root, write.first, write.last);
+            }
+            Ok(ended(view, insn.op, regs))
+        }
+        Outcome::Raise(vector, code) => Err(Exit::Fault {
+            vector,
+            code,
+            cr2: 0,
+        }),
+        Outcome::Stop(stop) => Err(exit_of(stop)),
+    }
+}
+
+// An instruction that was spelled.
+#[tactic(auto, unfolding(crate::specs::HostStep::worked))]
+fn work(
+    walks: &mut Walks,
+    ram: &mut Ram,
+    view: &View,
+    regs: &Regs,
+    insn: &Insn,
+    len: u8,
+) -> Result<Done, Exit>
+    requires root { 4096 * view.now.root < length ram.old }
+    requires kept { AreKept walks.old ram.old view.now.root }
+    requires spelled { (bytes : List ℕ) × Spells bytes insn.now }
+    ensures gives { Gives result ram.old ram.new (worked view.now ram.old regs.now insn.now len) }
+    ensures len { length ram.new ≡ length ram.old }
+    ensures kept { AreKept walks.new ram.new view.now.root }
+{
+    permitted(insn)?;
+    let ranges = ranges(insn, regs);
+    segment_met(view, ranges.read)?;
+    segment_met(view, ranges.write)?;
+    let read = reach(walks, ram, view, false, ranges.read)?;
+    let write = reach(walks, ram, view, true, ranges.write)?;
+    finish(walks, view, ram, regs, insn, len, read, write)
+}
+
+/// Does the instruction at EIP, or exits before it.
+#[tactic(auto, unfolding(crate::specs::HostStep::host_step))]
+pub fn host_step(walks: &mut Walks, ram: &mut Ram, view: &View, regs: &Regs) -> Result<Done, Exit>
+    requires root { 4096 * view.now.root < length ram.old }
+    requires kept { AreKept walks.old ram.old view.now.root }
+    ensures gives { Gives result ram.old ram.new (host_step view.now ram.old regs.now) }
+    ensures len { length ram.new ≡ length ram.old }
+    ensures kept { AreKept walks.new ram.new view.now.root }
+{
+    if is_entry(view, regs.eip) {
+        return Err(Exit::Entry(regs.eip));
+    }
+    let begun = fetch(walks, ram, view.root, regs.eip)?;
+    let (insn, len) = spelled(begun)?;
+    work(walks, ram, view, regs, &insn, len)
+}

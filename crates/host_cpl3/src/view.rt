@@ -1,0 +1,55 @@
+ghost use Rattle.std.specs.Prelude.{◌≡◌};
+ghost use Rattle.host_cpl3.specs.Views.{selectors_of, is_null, is_entry, is_past_limit};
+
+use ia32_exec::Selectors;
+use ia32_types::Seg;
+
+/// What the code sees: page tables by the frame of their directory, and segment registers. In the kernel view CS is
+/// flat, and SS, DS and ES expand down to 0x11000000; in the user view all are flat. A null DS or ES denies every
+/// access.
+#[derive(Clone, Copy, Debug, PartialEq, Eq)]
+pub struct View {
+    pub kernel: bool,
+    pub root: u32,
+    pub cs: u16,
+    pub ss: u16,
+    pub ds: u16,
+    pub es: u16,
+    pub ds_null: bool,
+    pub es_null: bool,
+}
+
+pub fn selectors_of(view: &View) -> Selectors
+    ensures { result ≡ selectors_of view.now }
+{
+    Selectors {
+        es: view.es,
+        cs: view.cs,
+        ss: view.ss,
+        ds: view.ds,
+    }
+}
+
+pub fn is_null(view: &View, seg: Seg) -> bool
+    ensures { result ≡ is_null view.now seg }
+{
+    match seg {
+        Seg::Es => view.es_null,
+        Seg::Ds => view.ds_null,
+        _ => false,
+    }
+}
+
+/// In the kernel view the wedge window's instructions aren't done by the host.
+pub fn is_entry(view: &View, at: u32) -> bool
+    ensures { result ≡ is_entry view.now at }
+{
+    view.kernel && 0x0400_0000 <= at && at < 0x0600_0000
+}
+
+/// In the kernel view data segments begin at 0x11000000.
+pub fn is_past_limit(view: &View, at: u32) -> bool
+    ensures { result ≡ is_past_limit view.now at }
+{
+    view.kernel && at < 0x1100_0000
+}

@@ -1,0 +1,86 @@
+//! Walks of a view's tables, of which some are kept.
+
+ghost use Rattle.std.specs.Prelude.{◌≡◌, ◌≢◌, ◌*◌, ◌/◌, ◌<◌, ◌^◌, length, IfSome, ℕ, List, slice_index, false};
+
+use guest_ram::Ram;
+use paging::{Entry, Walk, walk};
+use xlate_buffer::Buffer;
+
+/// No frame has this number.
+const NONE: u32 = u32::MAX;
+
+/// Walks the tables, and keeps up to 64 entries that walks found, with the frames of the tables that they were read
+/// from.
+#[derive(Drop)]
+pub struct Walks {
+    buffer: Buffer,
+    tables: [u32; 64],
+    count: u64,
+}
+
+impl Walks {
+    ghost use Rattle.host_cpl3.specs.Pages.{walked, entry_in};
+    ghost use Rattle.host_cpl3.specs.Kept.{AreKept, SameBut};
+
+    /// Nothing is kept.
+    pub fn new() -> Walks {
+        Walks {
+            buffer: Buffer::new(),
+            tables: [NONE; 64],
+            count: 0,
+        }
+    }
+
+    /// How many walks there were.
+    pub fn count(&self) -> u64 {
+        self.count
+    }
+
+    /// Nothing is kept any longer.
+    pub fn forget(&mut self)
+        ensures { (m : List ℕ) (root : ℕ) → AreKept self.new m root }
+    {
+        self.buffer.drop_all();
+        self.tables = [NONE; 64];
+    }
+
+    /// The entry of a page, where both its words are there.
+    pub fn entry(&mut self, ram: &Ram, root: u32, page: u32) -> Option<Entry>
+        requires root { 4096 * root < length ram.now }
+        requires page { page < 2 ^ 20 }
+        requires kept { AreKept self.old ram.now root }
+        ensures entry { result ≡ entry_in (walked ram.now root page) }
+        ensures frame { IfSome result (λ entry. entry.frame < length ram.now / 4096) }
+        ensures kept { AreKept self.new ram.now root }
+    {
+        if let Some(entry) = self.buffer.find(page) {
+            return Some(entry);
+        }
+        self.count = self.count.wrapping_add(1);
+        match walk(ram, ram.len() / 4096, root * 4096, page) {
+            Walk::Found { entry, word_at, .. } => {
+                self.tables[page as usize % 64] = word_at / 4096;
+                self.buffer.keep(entry);
+                Some(entry)
+            }
+            _ => None,
+        }
+    }
+
+    // Whether a kept walk may have been read from the frame.
+    fn reads(&self, root: u32, frame: u32) -> bool
+        ensures root { result ≡ false → frame ≢ root }
+        ensures tables { result ≡ false → (k : ℕ) → k < 64 → slice_index self.now.tables k ≢ frame }
+    {
+        frame == root || self.tables.contains(&frame)
+    }
+
+    /// Two frames were written. Nothing is kept any longer, if a kept walk was read from one of them.
+    pub fn written(&mut self, root: u32, first: u32, last: u32)
+        ensures { (m m' : List ℕ) → AreKept self.old m root → SameBut m m' first last → AreKept self.new m' root }
+    {
+        if self.reads(root, first) || self.reads(root, last) {
+            self.forget();
+        }
+    }
+}

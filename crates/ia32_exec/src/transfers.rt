@@ -1,0 +1,72 @@
+ghost use Rattle.std.specs.Prelude.{◌≡◌, ◌<◌, ◌+◌};
+ghost use Rattle.ia32_types.specs.declared.size.Size.TheVariants.{Long};
+ghost use Rattle.ia32_types.specs.Shape.{IsNamed};
+ghost use Rattle.ia32_exec.specs.Memory.{IsAllAt};
+ghost use Rattle.ia32_exec.specs.Operands.{IsReadable};
+ghost use Rattle.ia32_exec.specs.Stack.{stack_of, raised};
+ghost use Rattle.ia32_types.specs.Places.{is_place};
+ghost use Rattle.ia32_exec.specs.Transfers.{returned, jumped_through, called_through};
+
+use crate::memory::LinearMem;
+use crate::operands::value_of;
+use crate::outcome::{Outcome, Store, Stores};
+use crate::registers::{passed, with_whole};
+use ia32_types::{Insn, Operand, Regs, Size, Stop};
+
+fn is_place(operand: Operand) -> bool
+    ensures { result ≡ is_place operand }
+{
+    matches!(operand, Operand::Register(_) | Operand::Memory(_))
+}
+
+/// ESP after a pop of four bytes that drops more.
+fn raised_over(more: u32, regs: &Regs) -> u32
+    ensures { result ≡ raised (4 + more) regs.now }
+{
+    let sum = u64::from(regs.r[4]) + (4 + u64::from(more));
+    (sum % 0x1_0000_0000) as u32
+}
+
+/// RET.
+#[tactic(auto, unfolding(crate::specs::Transfers::returned))]
+pub fn returned<M: LinearMem>(insn: &Insn, regs: &Regs, mem: &M) -> Outcome
+    requires { IsAllAt (M.readable mem.now) (stack_of regs.now) Long }
+    ensures { result ≡ returned insn.now regs.now (M.byte mem.now) }
+{
+    let eip = mem.read(regs.r[4], Size::Long);
+    let risen = with_whole(4, raised_over(insn.imm, regs), *regs);
+    Outcome::Done(Regs { eip, ..risen }, Stores::Nothing)
+}
+
+/// JMP through an operand.
+#[tactic(auto, unfolding(crate::specs::Transfers::jumped_through))]
+pub fn jumped_through<M: LinearMem>(insn: &Insn, regs: &Regs, mem: &M) -> Outcome
+    requires { IsReadable (M.readable mem.now) insn.now.a Long regs.now }
+    ensures { result ≡ jumped_through insn.now regs.now (M.byte mem.now) }
+{
+    if !is_place(insn.a) {
+        return Outcome::Stop(Stop::Unsupported);
+    }
+    let eip = value_of(insn.a, Size::Long, regs, mem);
+    Outcome::Done(Regs { eip, ..*regs }, Stores::Nothing)
+}
+
+/// CALL through an operand.
+#[tactic(auto, unfolding(crate::specs::Transfers::called_through))]
+pub fn called_through<M: LinearMem>(insn: &Insn, len: u8, regs: &Regs, mem: &M) -> Outcome
+    requires { IsReadable (M.readable mem.now) insn.now.a Long regs.now }
+    ensures { result ≡ called_through insn.now len regs.now (M.byte mem.now) }
+{
+    if !is_place(insn.a) {
+        return Outcome::Stop(Stop::Unsupported);
+    }
+    let eip = value_of(insn.a, Size::Long, regs, mem);
+    let at = regs.r[4].wrapping_sub(4);
+    let size = Size::Long;
+    let value = passed(u32::from(len), *regs).eip;
+    let lowered = with_whole(4, at, *regs);
+    Outcome::Done(
+        Regs { eip, ..lowered },
+        Stores::One(Store { at, size, value }),
+    )
+}

@@ -1,0 +1,5 @@
+use Rattle.image_laws.proofs.GoesOn.{arrives}
+use Rattle.image_laws.proofs.closure.goes_on.Goals as goal
+
+pub returns : goal.returns
+returns c = arrives

@@ -1,0 +1,2 @@
+pub mod WaysIn
+pub mod Patches

@@ -1,0 +1,6 @@
+pub mod Owned
+pub mod Works
+pub mod Runs
+pub mod Fetches
+pub mod Written
+pub mod Walked

@@ -1,0 +1,100 @@
+-- Runs, one behind the other, and the steps that they take.
+use Rattle.std.proofs.Common.{◌≡◌, ℕ, ◌+◌, ◌*◌, ◌%◌, ◌^◌, List, [], ◌∷◌, ◌++◌, length, map, refl, sym, ap, subst, ◌∙◌, length-append}
+use Rattle.std.proofs.lemmas.Grind.{flat_map-append}
+use Rattle.sites.specs.declared.site.Site.{Site}
+use Rattle.machine_model.specs.State.{Setting, State}
+use Rattle.machine_model.specs.Step.{Report, Result, Went, step_of}
+use Rattle.machine_model.specs.Run.{Set, Steps}
+use Rattle.machine_model.specs.Counts.{direct_in, direct_addresses, passed_on}
+use Rattle.machine_model.specs.Taken.{Taken, behind, steps_by}
+use Rattle.machine_model.specs.Keeping.{Roomy, IsKept}
+use Rattle.machine_model.specs.Joined.{StepsJoin, CountsJoin, DigestsJoin, StepsAreTaken, KeptOn}
+
+pub steps_join : StepsJoin
+unfolding Steps
+steps_join m old mid new [] more reports later first rest =
+    subst (λ (l : List Report). Steps m old more (l ++ later) new) (sym first.0) (subst (λ (b : State). Steps m b more later new) first.1 rest)
+steps_join m old mid new (set ∷ sets) more reports later first rest =
+    (first.0, first.1, first.2 ++ later, first.3, first.4, steps_join m first.0 mid new sets more first.2 later first.5 rest, ap (λ (l : List Report). l ++ later) first.6)
+
+addresses_join : (sites : List Site) (reports later : List Report) → direct_addresses sites (reports ++ later) ≡ direct_addresses sites reports ++ direct_addresses sites later
+addresses_join sites reports later = flat_map-append (λ (r : Report). direct_in sites r.completed) reports later
+
+pub counts_join : CountsJoin
+counts_join sites reports later =
+    ap (λ (l : List ℕ). length l) (addresses_join sites reports later) ∙ length-append (direct_addresses sites reports) (direct_addresses sites later)
+
+passed_join : (p : ℕ) (front back : List ℕ) → passed_on p (front ++ back) ≡ passed_on (passed_on p front) back
+passed_join p [] back = refl
+passed_join p (eip ∷ front) back = passed_join ((31 * p + eip) % 2 ^ 64) front back
+
+pub digests_join : DigestsJoin
+digests_join sites p reports later =
+    ap (passed_on p) (addresses_join sites reports later) ∙ passed_join p (direct_addresses sites reports) (direct_addresses sites later)
+
+-- one step, and those behind it
+taken_first : (m : Setting) (b after : State) (set : Set) (sets : List Set) (report : Report) → step_of m b set ≡ Went report after
+    → steps_by m b (set ∷ sets) ≡ record { before = b; set = set; report = report; after = after } ∷ steps_by m after sets
+taken_first m b after set sets report is = ap (λ (r : Result). behind b set r (λ a. steps_by m a sets)) is
+
+pub steps_are_taken : StepsAreTaken
+unfolding Steps
+steps_are_taken m old new [] reports steps = record { sets_are = refl; reports_are = sym steps.0 }
+steps_are_taken m old new (set ∷ sets) reports steps =
+    let first = taken_first m old steps.0 set sets steps.1 steps.4 in
+    let rest = steps_are_taken m steps.0 new sets steps.2 steps.5 in
+    record {
+      sets_are = ap (map (λ (t : Taken). t.set)) first ∙ ap (λ (l : List Set). set ∷ l) rest.sets_are;
+      reports_are = ap (map (λ (t : Taken). t.report)) first ∙ (ap (λ (l : List Report). steps.1 ∷ l) rest.reports_are ∙ sym steps.6);
+    }
+
+-- the steps of two runs
+taken_join : (m : Setting) (old mid : State) (sets more : List Set) (reports : List Report) → Steps m old sets reports mid
+    → steps_by m old (sets ++ more) ≡ steps_by m old sets ++ steps_by m mid more
+unfolding Steps
+taken_join m old mid [] more reports steps = ap (λ (b : State). steps_by m b more) (sym steps.1)
+taken_join m old mid (set ∷ sets) more reports steps =
+    let now : Taken = record { before = old; set = set; report = steps.1; after = steps.0 } in
+    taken_first m old steps.0 set (sets ++ more) steps.1 steps.4
+    ∙ (ap (λ (l : List Taken). now ∷ l) (taken_join m steps.0 mid sets more steps.2 steps.5)
+    ∙ ap (λ (l : List Taken). l ++ steps_by m mid more) (sym (taken_first m old steps.0 set sets steps.1 steps.4)))
+
+-- a split of a list with one more behind it is at that one, or is a split of the list
+pub data Split (l : List Taken) (x : Taken) (a : List Taken) (y : Taken) (b : List Taken) : Type 0 where
+  At_end : a ≡ l → y ≡ x → Split l x a y b
+  Within : (c : List Taken) → l ≡ a ++ y ∷ c → Split l x a y b
+
+heads : (x y : Taken) (xs ys : List Taken) → x ∷ xs ≡ y ∷ ys → x ≡ y
+heads x y xs ys e = cc
+
+tails : (x y : Taken) (xs ys : List Taken) → x ∷ xs ≡ y ∷ ys → xs ≡ ys
+tails x y xs ys e = cc
+
+none_some : (a : List Taken) (y : Taken) (b : List Taken) → [] ≡ a ++ y ∷ b → ⊥
+none_some [] y b e = cc
+none_some (z ∷ a) y b e = cc
+
+more : (w z : Taken) (l : List Taken) (x : Taken) (a : List Taken) (y : Taken) (b : List Taken) → w ≡ z → Split l x a y b → Split (w ∷ l) x (z ∷ a) y b
+more w z l x a y b e (At_end same is) = At_end (ap (λ (t : Taken). t ∷ a) (sym e) ∙ ap (λ (k : List Taken). w ∷ k) same) is
+more w z l x a y b e (Within c same) = Within c (ap (λ (k : List Taken). w ∷ k) same ∙ ap (λ (t : Taken). t ∷ (a ++ y ∷ c)) e)
+
+split_of : (l : List Taken) (x : Taken) (a : List Taken) (y : Taken) (b : List Taken) → l ++ x ∷ [] ≡ a ++ y ∷ b → Split l x a y b
+split_of [] x [] y b e = At_end refl (sym (heads x y [] b e))
+split_of [] x (z ∷ a) y b e = absurd (none_some a y b (tails x z [] (a ++ y ∷ b) e))
+split_of (w ∷ l) x [] y b e = Within l (ap (λ (t : Taken). t ∷ l) (heads w y (l ++ x ∷ []) b e))
+split_of (w ∷ l) x (z ∷ a) y b e = more w z l x a y b (heads w z (l ++ x ∷ []) (a ++ y ∷ b) e) (split_of l x a y b (tails w z (l ++ x ∷ []) (a ++ y ∷ b) e))
+
+kept_by : (m : Setting) (l : List Taken) (x : Taken) (a : List Taken) (y : Taken) (b : List Taken) → Split l x a y b
+    → ((front : List Taken) (now : Taken) (back : List Taken) → l ≡ front ++ now ∷ back → Roomy front → IsKept m front now)
+    → (Roomy l → IsKept m l x) → Roomy a → IsKept m a y
+kept_by m l x a y b (At_end same is) each last roomy =
+    subst (λ (t : Taken). IsKept m a t) (sym is) (subst (λ (k : List Taken). IsKept m k x) (sym same) (last (subst (λ (k : List Taken). Roomy k) same roomy)))
+kept_by m l x a y b (Within c same) each last roomy = each a y c same roomy
+
+pub kept_on : KeptOn
+kept_on m old mid new sets set reports report steps is kept last =
+    let x : Taken = record { before = mid; set = set; report = report; after = new } in
+    let l = steps_by m old sets in
+    let joined : steps_by m old (sets ++ set ∷ []) ≡ l ++ x ∷ [] =
+    taken_join m old mid sets (set ∷ []) reports steps ∙ ap (λ (k : List Taken). l ++ k) (taken_first m mid new set [] report is) in
+    record { each = λ earlier now later e roomy. kept_by m l x earlier now later (split_of l x earlier now later (sym joined ∙ e)) kept.each last roomy }

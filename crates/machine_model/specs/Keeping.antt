@@ -1,0 +1,101 @@
+-- Which translations a run keeps from step to step, while its pages lie under few directory indices.
+use Rattle.std.specs.Prelude.{◌≡◌, ◌⊎◌, ℕ, ◌/◌, ◌≤◌, Bool, true, false, ◌==◌, eqb, ◌&&◌, not, List, [], ◌∷◌, ◌++◌, map, reverse, Some, nat_le, if◌then◌else◌}
+use Rattle.std.specs.List.{list_any, flat_map, filter, All}
+use Rattle.std.specs.Set.{distinct_count}
+use Rattle.std.specs.FinMap.{get, empty}
+use Rattle.paging.specs.declared.entry.Entry.{Entry}
+use Rattle.machine_model.specs.State.{Setting, State}
+use Rattle.machine_model.specs.Run.{Set}
+use Rattle.machine_model.specs.Taken.{Taken, steps_by, loads_root, changes_protection}
+use Rattle.machine_model.specs.Clash.{clashes_from}
+
+-- the pages that steps used lie under at most 24 directory indices
+abbrev pub pages_in : List Taken → List ℕ
+pages_in steps = flat_map (λ (t : Taken). t.report.pages) steps
+
+abbrev pub is_roomy : List Taken → Bool
+is_roomy steps = nat_le (distinct_count eqb (map (λ page. page / 1024) (pages_in steps))) 24
+
+abbrev pub Roomy : List Taken → Type 0
+Roomy steps = is_roomy steps ≡ true
+
+-- a step that loaded CR3 while CR3 was c
+abbrev pub leaves : ℕ → Taken → Bool
+leaves c t = loads_root t && t.before.cpu.cr3 == c
+
+-- the set before the last such step, of steps whose last is first; none of its entries where there is none
+abbrev pub set_left : ℕ → List Taken → Set
+set_left c [] = empty
+set_left c (t ∷ past) = if leaves c t then t.set else set_left c past
+
+abbrev pub held_by : List Taken → Set → Set
+held_by [] set = set
+held_by (t ∷ past) set = if loads_root t then set_left t.after.cpu.cr3 (t ∷ past) else set
+
+-- the entries by which a step behind these is asked whether it clashes: those that the step before it left, or,
+-- behind a load of CR3, those of the set before the last step that left the loaded value
+abbrev pub held : List Taken → State → Set
+held earlier b = held_by (reverse earlier) b.set
+
+-- the step from this state clashes, behind these steps
+abbrev pub clashes : Setting → List Taken → State → Bool
+clashes m earlier b = clashes_from m (record b { set = held earlier b })
+
+abbrev pub Clashes : Setting → List Taken → State → Type 0
+Clashes m earlier b = clashes m earlier b ≡ true
+
+-- the values that steps loaded into CR3
+abbrev pub root_in : Taken → List ℕ
+root_in t = if loads_root t then t.after.cpu.cr3 ∷ [] else []
+
+abbrev pub roots_in : List Taken → List ℕ
+roots_in steps = flat_map root_in steps
+
+-- the frames that walks of these steps read as a directory or table
+abbrev pub tables_in : List Taken → List ℕ
+tables_in steps = flat_map (λ (t : Taken). t.report.tables) steps
+
+-- The step before now loaded CR3 with c. The last step that loaded CR3 while CR3 was c is `left`, behind `old` and
+-- before `since`, and these things hold.
+pub record Returns (m : Setting) (earlier : List Taken) (now : Taken) (c : ℕ) (old : List Taken) (left : Taken) (since : List Taken) : Type 0 where
+  pub split : earlier ≡ old ++ left ∷ since
+  pub is_left : leaves c left ≡ true
+  pub is_last : All (λ t. leaves c t ≡ false) since
+  -- at most seven other values were loaded from that step on
+  pub few : distinct_count eqb (filter (λ value. not (value == c)) (roots_in (left ∷ since))) ≤ 7
+  -- no step behind it clashes, up to and including this one
+  pub apart : (front : List Taken) (t : Taken) (back : List Taken) → since ++ now ∷ [] ≡ front ++ t ∷ back → clashes m (old ++ left ∷ front) t.before ≡ false
+  -- CR0 and CR4 have not changed since
+  pub same : All (λ (t : Taken). (t.before.cpu.cr0 ≡ left.before.cpu.cr0) × (t.before.cpu.cr4 ≡ left.before.cpu.cr4)) (since ++ now ∷ [])
+  -- no step so far wrote in a frame that a walk of the run had read as a directory or table by its end
+  pub unwritten : (front : List Taken) (t : Taken) (back : List Taken) → earlier ≡ front ++ t ∷ back
+      → All (λ frame. list_any (λ table. table == frame) (tables_in (front ++ t ∷ [])) ≡ false) t.report.wrote
+
+-- this set has every entry of the set before a step, but perhaps those of pages that the step itself used
+abbrev pub HasEntriesOf : Taken → Set → Type 0
+HasEntriesOf left set =
+    (page : ℕ) (e : Entry) → get left.set page ≡ Some e → list_any (λ used. used == page) left.report.pages ≡ false → get set page ≡ Some e
+
+-- behind a load of CR3: entries that a run may always add, and all of those that were left with the value
+abbrev pub Reloads : Setting → List Taken → Taken → Taken → Type 0
+Reloads m earlier last now =
+    (old : List Taken) (left : Taken) (since : List Taken) → Returns m earlier now last.after.cpu.cr3 old left since → HasEntriesOf left now.set
+
+-- otherwise: what the step before left, or nothing where this step clashes or the step before changed CR0.WP
+abbrev pub Stays : Setting → List Taken → Taken → Taken → Type 0
+Stays m earlier last now =
+    (now.set ≡ now.before.set)
+    ⊎ ((now.set ≡ empty) × (Clashes m earlier now.before ⊎ (changes_protection last ≡ true)))
+
+abbrev pub KeptBehind : Setting → List Taken → List Taken → Taken → Type 0
+KeptBehind m earlier [] now = now.set ≡ empty
+KeptBehind m earlier (last ∷ past) now =
+    ((loads_root last ≡ true) × Reloads m earlier last now) ⊎ ((loads_root last ≡ false) × Stays m earlier last now)
+
+-- What is said of the set before a step, by the steps before it. Before the first step the set is empty.
+abbrev pub IsKept : Setting → List Taken → Taken → Type 0
+IsKept m earlier now = KeptBehind m earlier (reverse earlier) now
+
+-- so of each step up to which the run is roomy
+pub record Kept (m : Setting) (old : State) (sets : List Set) : Type 0 where
+  pub each : (earlier : List Taken) (now : Taken) (later : List Taken) → steps_by m old sets ≡ earlier ++ now ∷ later → Roomy earlier → IsKept m earlier now

@@ -1,0 +1,18 @@
+ghost use Rattle.machine_model.specs.Joined.{StepsJoin, CountsJoin, DigestsJoin, StepsAreTaken, KeptOn};
+
+/// Steps of a run, and others behind them, are steps of a run; what is counted of them is a sum, and the digest goes on.
+pub fn steps_join()
+    ensures steps { StepsJoin }
+    ensures counts { CountsJoin }
+    ensures digests { DigestsJoin }
+{}
+
+/// The steps that a run takes have its sets and reports.
+pub fn steps_are_taken()
+    ensures { StepsAreTaken }
+{}
+
+/// Where the rule for the translations that a run keeps holds of some steps, and of the next, it holds with the next.
+pub fn kept_on()
+    ensures { KeptOn }
+{}

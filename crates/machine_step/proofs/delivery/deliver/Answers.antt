@@ -1,0 +1,23 @@
+use Rattle.std.proofs.Common.{[], ◌∷◌, None, sym, subst}
+use Rattle.board.specs.declared.devices.Board.{Board}
+use Rattle.board.specs.Boards.{acknowledged}
+use Rattle.descriptors.specs.declared.cpu.Cpu.{Cpu}
+use Rattle.event_entry.specs.declared.refusal.NotDelivered.{NotDelivered}
+use Rattle.paging.specs.Work.{Outcome}
+use Rattle.run_trace.specs.declared.items.What.TheVariants.{Irq}
+use Rattle.step_mem.specs.Sound.{space_at}
+use Rattle.machine_model.specs.Step.{interrupted, entered, after_delivery}
+use Rattle.machine_step.specs.Worked.{ComesTo}
+use Rattle.machine_step.proofs.delivery.deliver.Goals as goal
+
+pub returns-in-Ok-clause-step : goal.returns-in-Ok-clause-step
+unfolding interrupted
+returns-in-Ok-clause-step g c = λ m b k.
+    let a = c.args in
+    let here = record b { cpu = a.cpu.now; board = a.board.now } in
+    let s = space_at (g.B.Kept.entries a.kept.now) c.deliver_in.new.ram c.deliver_in.new.state in
+    let board = c.acknowledge-vector.new.self in
+    let stood = subst (λ (d : Board). ComesTo (entered m (Irq a.vector ∷ []) None here c.deliver_in.new.cpu d s) b c.entered.result board s) c.acknowledge-vector.ensures.after
+    (c.entered.ensures.step m here board s k) in
+    subst (λ (o : Outcome NotDelivered Cpu). ComesTo (after_delivery m (Irq a.vector ∷ []) here (acknowledged a.board.now) o) b c.entered.result board s)
+    (sym (rw c.in-Ok.is at c.deliver_in.ensures.delivers)) stood

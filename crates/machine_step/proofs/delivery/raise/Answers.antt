@@ -1,0 +1,14 @@
+use Rattle.std.proofs.Common.{[], sym, subst}
+use Rattle.descriptors.specs.declared.cpu.Cpu.{Cpu}
+use Rattle.event_entry.specs.declared.refusal.NotDelivered.{NotDelivered}
+use Rattle.paging.specs.Work.{Outcome}
+use Rattle.step_mem.specs.Sound.{space_at}
+use Rattle.machine_model.specs.Step.{after_delivery}
+use Rattle.machine_step.specs.Worked.{ComesTo}
+use Rattle.machine_step.proofs.delivery.raise.Goals as goal
+
+pub returns-in-Ok-clause-step : goal.returns-in-Ok-clause-step
+returns-in-Ok-clause-step g c = λ m b k.
+    let s = space_at (g.B.Kept.entries c.args.kept.now) c.deliver_in.new.ram c.deliver_in.new.state in
+    subst (λ (o : Outcome NotDelivered Cpu). ComesTo (after_delivery m [] b b.board o) b c.entered.result b.board s)
+    (sym (rw (c.in-Ok.is, c.code_of.ensures) at c.deliver_in.ensures.delivers)) (c.entered.ensures.step m b b.board s k)

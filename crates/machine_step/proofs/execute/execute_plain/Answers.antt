@@ -1,0 +1,5 @@
+use Rattle.ia32_rows.proofs.ShapeLaws.{shaped}
+use Rattle.machine_step.proofs.execute.execute_plain.Goals as goal
+
+pub plain-requires-clause-shape : goal.plain-requires-clause-shape
+plain-requires-clause-shape g c = shaped c.requires.spelled.0 c.args.insn.now c.requires.spelled.1

@@ -1,0 +1,15 @@
+use Rattle.std.proofs.Common.{sym, subst}
+use Rattle.descriptors.specs.declared.cpu.Cpu.{Cpu}
+use Rattle.paging.specs.Space.{Space}
+use Rattle.sys_exec.specs.declared.effect.SysEffect.{SysEffect}
+use Rattle.step_mem.specs.Sound.{space_at}
+use Rattle.machine_model.specs.Step.{effect_on}
+use Rattle.machine_step.specs.Worked.{ComesTo, completed_of}
+use Rattle.machine_step.proofs.instruction.perform.Goals as goal
+
+pub returns-clause-step : goal.returns-clause-step
+returns-clause-step g c = λ m b k.
+    let here = record b { cpu = c.args.cpu.now; board = c.args.board.now } in
+    subst (λ (told : SysEffect × Cpu × Space). ComesTo (effect_on m here (completed_of c.args.completed) told) b c.follow.result c.follow.new.board (space_at (g.B.Kept.entries c.args.kept.now) c.follow.new.ram c.follow.new.state))
+    (sym c.execute-effect.ensures.told)
+    (c.follow.ensures.step m here k)

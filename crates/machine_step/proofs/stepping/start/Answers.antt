@@ -1,0 +1,12 @@
+use Rattle.std.proofs.Common.{ℕ, Option, subst}
+use Rattle.step_mem.specs.Sound.{space_at}
+use Rattle.machine_model.specs.Step.{by_interrupt, unheld}
+use Rattle.machine_step.specs.Begun.{BeginsAs}
+use Rattle.machine_step.proofs.stepping.start.Goals as goal
+
+pub returns-in-None-clause-begins : goal.returns-in-None-clause-begins
+returns-in-None-clause-begins g c = λ m b k.
+    let a = c.args in
+    let here = record b { cpu = a.cpu.now; board = a.board.now } in
+    subst (λ (o : Option ℕ). BeginsAs m (by_interrupt m o (unheld here) (space_at (g.B.Kept.entries a.kept.now) a.ram.now a.state.now)) b c.work.result a.board.now (space_at (g.B.Kept.entries a.kept.now) c.work.new.ram c.work.new.state))
+    c.in-None.ensures (c.work.ensures.begins m here k)

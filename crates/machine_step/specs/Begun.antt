@@ -1,0 +1,43 @@
+-- The parts of a step: up to the instruction that was fetched, and up to its ranges.
+use Rattle.std.specs.Prelude.{◌≡◌, ℕ, ◌≤◌, List, Result, Ok, Err}
+use Rattle.ia32_types.specs.declared.stop.Stop.{Stop}
+use Rattle.ia32_decode.specs.declared.answer.Decoded.TheVariants as begins
+use Rattle.ia32_rows.specs.Spells.{Spells}
+use Rattle.paging.specs.Space.{Space}
+use Rattle.paging.specs.Work.{Outcome}
+use Rattle.board.specs.declared.devices.Board.{Board}
+use Rattle.sys_exec.specs.declared.effect.Refusal.{Refusal}
+use Rattle.sys_exec.specs.Sys.{told_refusal}
+use Rattle.machine_model.specs.State.{Setting, State}
+use Rattle.machine_model.specs.Step as steps
+use Rattle.machine_step.specs.declared.worked.Begun.{Begun}
+use Rattle.machine_step.specs.declared.worked.Begun.TheVariants as begun
+use Rattle.machine_step.specs.declared.worked.Reached.{Reached}
+use Rattle.machine_step.specs.declared.worked.Reached.TheVariants as reached
+use Rattle.machine_step.specs.Worked.{went_as, IsDropped}
+
+-- a step went, or has fetched an instruction, from which it goes on
+abbrev pub BeginsAs : Setting → steps.Result → State → Result Begun Stop → Board → Space → Type 0
+BeginsAs m result b (Ok (begun.Worked worked)) board s = result ≡ went_as b worked board s
+BeginsAs m result b (Ok (begun.Fetched insn len cpu)) board s = result ≡ steps.by_decoded m (record b { cpu = cpu; board = board }) (begins.Insn insn len) s
+BeginsAs m result b (Err stop) board s = result ≡ steps.Stands stop
+
+-- what holds of it, after so many pages
+abbrev pub IsBegun : Begun → ℕ → Type 0
+IsBegun (begun.Worked worked) pages = IsDropped worked.dropped
+IsBegun (begun.Fetched insn len cpu) pages = ((bytes : List ℕ) × Spells bytes insn) × (pages ≤ 2)
+
+-- both ranges are translated and the step goes on, or the instruction raises or stops
+abbrev pub after_reach : Setting → State → steps.Completed → Outcome Refusal (Unit {0}) → (Space → steps.Result) → steps.Result
+after_reach m b completed (Ok done) go = go done.1
+after_reach m b completed (Err refused) go = steps.effect_on m b completed (told_refusal b.cpu refused.0 refused.1)
+
+-- both ranges are translated and nothing is done yet, or the step went
+abbrev pub ReachesTo : steps.Result → State → (Space → steps.Result) → Result Reached Stop → Board → Space → Type 0
+ReachesTo result b go (Ok reached.Ready) board s = result ≡ go s
+ReachesTo result b go (Ok (reached.Worked worked)) board s = result ≡ went_as b worked board s
+ReachesTo result b go (Err stop) board s = result ≡ steps.Stands stop
+
+abbrev pub IsReached : Reached → Type 0 → Type 0
+IsReached reached.Ready made = made
+IsReached (reached.Worked worked) made = IsDropped worked.dropped

@@ -1,0 +1,5 @@
+pub mod Ruled
+pub mod Fetches
+pub mod Worked
+pub mod Begun
+pub mod Laws

@@ -1,0 +1,53 @@
+-- What one step comes to, as a value, in the words of the definitions.
+use Rattle.std.specs.Prelude.{◌≡◌, ◌<◌, ◌^◌, List, [], ◌∷◌, Option, Some, None, Result, Ok, Err}
+use Rattle.std.specs.FinMap.{FinMap, remove, empty}
+use Rattle.std.specs.Ordering.{nat_cmp}
+use Rattle.ia32_types.specs.declared.stop.Stop.{Stop}
+use Rattle.paging.specs.declared.entry.Entry.{Entry}
+use Rattle.paging.specs.Space.{Space}
+use Rattle.board.specs.declared.devices.Board.{Board}
+use Rattle.run_trace.specs.declared.items.What.{What}
+use Rattle.machine_model.specs.State.{State}
+use Rattle.machine_model.specs.Step as steps
+use Rattle.machine_step.specs.declared.worked.Completed.{Completed}
+use Rattle.machine_step.specs.declared.worked.Dropped.{Dropped}
+use Rattle.machine_step.specs.declared.worked.Dropped.TheVariants as dropped
+use Rattle.machine_step.specs.declared.worked.Seen.{Seen}
+use Rattle.machine_step.specs.declared.worked.Seen.TheVariants as seen
+use Rattle.machine_step.specs.declared.worked.Worked.{Worked}
+
+abbrev pub whats : Seen → List What
+whats seen.Nothing = []
+whats (seen.One a) = a ∷ []
+whats (seen.Two a b) = a ∷ b ∷ []
+
+abbrev pub completed_of : Completed → steps.Completed
+completed_of done = record { insn = done.insn; eip = done.eip; user = done.user }
+
+abbrev pub completed_by : Option Completed → Option steps.Completed
+completed_by None = None
+completed_by (Some done) = Some (completed_of done)
+
+-- what leaves the set at the end of a step
+abbrev pub dropping : Dropped → FinMap nat_cmp Entry → FinMap nat_cmp Entry
+dropping dropped.Nothing set = set
+dropping (dropped.Page page) set = remove set page
+dropping dropped.All set = empty
+
+abbrev pub IsDropped : Dropped → Type 0
+IsDropped (dropped.Page page) = page < 2 ^ 20
+IsDropped _ = Unit {0}
+
+-- the step went, and left this board and this memory
+abbrev pub went_as : State → Worked → Board → Space → steps.Result
+went_as b worked board s =
+    steps.went (whats worked.seen) (completed_by worked.completed) b worked.cpu board (record s { set = dropping worked.dropped s.set })
+
+-- what a step from this state comes to, by the definitions, is what was answered
+abbrev pub ComesTo : steps.Result → State → Result Worked Stop → Board → Space → Type 0
+ComesTo result b (Ok worked) board s = result ≡ went_as b worked board s
+ComesTo result b (Err stop) board s = result ≡ steps.Stands stop
+
+-- the state with another processor and another board
+abbrev pub with_board : State → Board → State
+with_board b board = record b { board = board }

@@ -1,0 +1,172 @@
+//! Deliveries of events: external interrupts, INT, and raised vectors.
+
+ghost use Rattle.std.specs.Prelude.{◌≡◌, ◌+◌, ◌*◌, ◌≤◌, Some, IfOk};
+ghost use Rattle.step_mem.specs.Shown.{hidden};
+ghost use Rattle.step_mem.specs.Sound.{IsSound, space_at};
+ghost use Rattle.board.specs.Boards.{vector as vector_of};
+ghost use Rattle.machine_model.specs.State.{Setting, State as Whole};
+ghost use Rattle.machine_model.specs.Instruction.{passed};
+ghost use Rattle.machine_model.specs.Step.{interrupted, interrupts_by, after_refusal, raised, code_of, stop_of};
+ghost use Rattle.machine_step.specs.Ruled.{IsRuled};
+ghost use Rattle.machine_step.specs.Worked.{ComesTo, IsDropped, completed_of};
+
+use crate::rules::{Rules, entered};
+use crate::worked::{Completed, Seen, Worked};
+use board::Board;
+use descriptors::Cpu;
+use event_entry::{Kind, NotDelivered};
+use guest_ram::Ram;
+use ia32_types::Stop;
+use run_trace::What;
+use step_exec::deliver_in;
+use step_mem::{Kept, State};
+use sys_exec::Refusal;
+
+/// Acknowledges an external interrupt and delivers it.
+#[tactic(auto, unfolding(machine_model::specs::Step::interrupted))]
+pub fn deliver<B: Kept>(
+    rules: &Rules,
+    cpu: &Cpu,
+    board: &mut Board,
+    ram: &mut Ram,
+    kept: &B,
+    state: &mut State,
+    vector: u8,
+) -> Result<Worked, Stop>
+    requires pending { vector_of board.old ≡ Some vector }
+    requires sound { IsSound (B.entries kept.now) (B.floor kept.now) (B.stands kept.now) ram.old state.old }
+    requires pages { state.old.pages ≤ 48 }
+    ensures sound { IsSound (B.entries kept.now) (B.floor kept.now) (B.stands kept.now) ram.new state.new }
+    ensures step { (m : Setting) (b : Whole) → IsRuled m rules.now → ComesTo (interrupted m (record b { cpu = cpu.now; board = board.old }) vector (space_at (B.entries kept.now) ram.old state.old)) b result board.new (space_at (B.entries kept.now) ram.new state.new) }
+    ensures dropped { IfOk result (λ w. IsDropped w.dropped) }
+    ensures control { state.new.control ≡ state.old.control }
+    ensures guard { state.new.guard ≡ state.old.guard }
+    ensures hidden { hidden state.old.guard state.old.control.frames ram.new ≡ hidden state.old.guard state.old.control.frames ram.old }
+{
+    let _vector = board.acknowledge();
+    let mut after = *cpu;
+    match deliver_in(&mut after, ram, kept, state, vector, Kind::External, None) {
+        Ok(()) => entered(rules, Seen::One(What::Irq(vector)), None, after),
+        Err(refused) => Err(stop_of(refused)),
+    }
+}
+
+/// INT enters the handler with the EIP behind it. Where the gate may not be used at this level, #GP is raised at the instruction.
+pub fn enter<B: Kept>(
+    rules: &Rules,
+    cpu: &Cpu,
+    ram: &mut Ram,
+    kept: &B,
+    state: &mut State,
+    completed: Completed,
+    len: u8,
+    vector: u8,
+) -> Result<Worked, Stop>
+    requires sound { IsSound (B.entries kept.now) (B.floor kept.now) (B.stands kept.now) ram.old state.old }
+    requires pages { state.old.pages ≤ 32 }
+    ensures sound { IsSound (B.entries kept.now) (B.floor kept.now) (B.stands kept.now) ram.new state.new }
+    ensures step { (m : Setting) (b : Whole) → IsRuled m rules.now → ComesTo (interrupts_by m (record b { cpu = cpu.now }) (completed_of completed) len vector (space_at (B.entries kept.now) ram.old state.old)) b result b.board (space_at (B.entries kept.now) ram.new state.new) }
+    ensures dropped { IfOk result (λ w. IsDropped w.dropped) }
+    ensures control { state.new.control ≡ state.old.control }
+    ensures guard { state.new.guard ≡ state.old.guard }
+    ensures hidden { hidden state.old.guard state.old.control.frames ram.new ≡ hidden state.old.guard state.old.control.frames ram.old }
+{
+    let mut after = passed(len, cpu);
+    match deliver_in(&mut after, ram, kept, state, vector, Kind::Soft, None) {
+        Ok(()) => entered(rules, Seen::Nothing, Some(completed), after),
+        Err(NotDelivered::Privilege) => {
+            raise(rules, *cpu, ram, kept, state, 13, 8 * u32::from(vector) + 2)
+        }
+        Err(NotDelivered::Stop(stop)) => Err(stop),
+    }
+}
+
+fn passed(len: u8, cpu: &Cpu) -> Cpu
+    ensures { result ≡ passed len cpu.now }
+{
+    let mut after = *cpu;
+    after.regs.eip = cpu.regs.eip.wrapping_add(u32::from(len));
+    after
+}
+
+/// A fetch is denied or stops.
+pub fn refuse<B: Kept>(
+    rules: &Rules,
+    cpu: &Cpu,
+    ram: &mut Ram,
+    kept: &B,
+    state: &mut State,
+    refusal: Refusal,
+) -> Result<Worked, Stop>
+    requires sound { IsSound (B.entries kept.now) (B.floor kept.now) (B.stands kept.now) ram.old state.old }
+    requires pages { state.old.pages ≤ 48 }
+    ensures sound { IsSound (B.entries kept.now) (B.floor kept.now) (B.stands kept.now) ram.new state.new }
+    ensures step { (m : Setting) (b : Whole) → IsRuled m rules.now → ComesTo (after_refusal m (record b { cpu = cpu.now }) refusal (space_at (B.entries kept.now) ram.old state.old)) b result b.board (space_at (B.entries kept.now) ram.new state.new) }
+    ensures dropped { IfOk result (λ w. IsDropped w.dropped) }
+    ensures control { state.new.control ≡ state.old.control }
+    ensures guard { state.new.guard ≡ state.old.guard }
+    ensures hidden { hidden state.old.guard state.old.control.frames ram.new ≡ hidden state.old.guard state.old.control.frames ram.old }
+{
+    match refusal {
+        Refusal::Stop(stop) => Err(stop),
+        Refusal::Raise { vector, code } => raise(rules, *cpu, ram, kept, state, vector, code),
+        Refusal::Fault { code, at } => {
+            let mut cpu = *cpu;
+            cpu.cr2 = at;
+            raise(rules, cpu, ram, kept, state, 14, code)
+        }
+    }
+}
+
+/// Delivers a raised vector, from this processor, whose EIP is that of the instruction.
+pub fn raise<B: Kept>(
+    rules: &Rules,
+    cpu: Cpu,
+    ram: &mut Ram,
+    kept: &B,
+    state: &mut State,
+    vector: u8,
+    code: u32,
+) -> Result<Worked, Stop>
+    requires sound { IsSound (B.entries kept.now) (B.floor kept.now) (B.stands kept.now) ram.old state.old }
+    requires pages { state.old.pages ≤ 48 }
+    ensures sound { IsSound (B.entries kept.now) (B.floor kept.now) (B.stands kept.now) ram.new state.new }
+    ensures step { (m : Setting) (b : Whole) → IsRuled m rules.now → ComesTo (raised m b cpu vector code (space_at (B.entries kept.now) ram.old state.old)) b result b.board (space_at (B.entries kept.now) ram.new state.new) }
+    ensures dropped { IfOk result (λ w. IsDropped w.dropped) }
+    ensures control { state.new.control ≡ state.old.control }
+    ensures guard { state.new.guard ≡ state.old.guard }
+    ensures hidden { hidden state.old.guard state.old.control.frames ram.new ≡ hidden state.old.guard state.old.control.frames ram.old }
+{
+    let mut after = cpu;
+    match deliver_in(
+        &mut after,
+        ram,
+        kept,
+        state,
+        vector,
+        Kind::Raised,
+        code_of(vector, code),
+    ) {
+        Ok(()) => entered(rules, Seen::Nothing, None, after),
+        Err(refused) => Err(stop_of(refused)),
+    }
+}
+
+fn code_of(vector: u8, code: u32) -> Option<u32>
+    ensures { result ≡ code_of vector code }
+{
+    if vector >= 11 && vector <= 14 {
+        Some(code)
+    } else {
+        None
+    }
+}
+
+fn stop_of(refused: NotDelivered) -> Stop
+    ensures { result ≡ stop_of refused }
+{
+    match refused {
+        NotDelivered::Privilege => Stop::DeliveryFailed,
+        NotDelivered::Stop(stop) => stop,
+    }
+}

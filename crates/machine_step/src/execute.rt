@@ -1,0 +1,100 @@
+//! What an instruction other than INT and INT3 comes to.
+
+ghost use Rattle.std.specs.Prelude.{◌≡◌, ◌+◌, ◌≤◌, List, ℕ, true};
+ghost use Rattle.ia32_rows.specs.Spells.{Spells};
+ghost use Rattle.step_mem.specs.Shown.{hidden};
+ghost use Rattle.step_mem.specs.Sound.{IsSound, space_at};
+ghost use Rattle.sys_exec.specs.Sys.{told, told_refusal};
+ghost use Rattle.sys_exec.specs.Asked.{IsAsked};
+ghost use Rattle.machine_model.specs.Instruction.{is_plain, instructed, done_plainly};
+ghost use Rattle.step_exec.specs.Plain.{executed};
+ghost use Rattle.paging.specs.Space.{Space};
+
+use descriptors::Cpu;
+use guest_ram::Ram;
+use ia32_types::{Insn, Op, sensitive};
+use step_exec::{plain, sys_in};
+use step_mem::{Kept, State};
+use sys_exec::{Refusal, SysEffect};
+
+/// Does an instruction that some bytes spell, and answers with its effect and the processor afterwards.
+#[tactic(auto, unfolding(machine_model::specs::Instruction::instructed))]
+pub fn execute<B: Kept>(
+    insn: &Insn,
+    len: u8,
+    cpu: &Cpu,
+    ram: &mut Ram,
+    kept: &B,
+    state: &mut State,
+) -> (SysEffect, Cpu)
+    requires spelled { (bytes : List ℕ) × Spells bytes insn.now }
+    requires sound { IsSound (B.entries kept.now) (B.floor kept.now) (B.stands kept.now) ram.old state.old }
+    requires room { state.old.pages ≤ 32 }
+    ensures sound { IsSound (B.entries kept.now) (B.floor kept.now) (B.stands kept.now) ram.new state.new }
+    ensures told { told cpu.now (instructed insn.now len cpu.now (space_at (B.entries kept.now) ram.old state.old)) ≡ (result.0, result.1, (space_at (B.entries kept.now) ram.new state.new)) }
+    ensures pages { state.new.pages ≤ state.old.pages + 16 }
+    ensures control { state.new.control ≡ state.old.control }
+    ensures guard { state.new.guard ≡ state.old.guard }
+    ensures hidden { hidden state.old.guard state.old.control.frames ram.new ≡ hidden state.old.guard state.old.control.frames ram.old }
+    ensures asked { IsAsked result.0 }
+{
+    if is_plain(insn) {
+        return execute_plain(insn, len, cpu, ram, kept, state);
+    }
+    let mut after = *cpu;
+    let effect = sys_in(insn, len, &mut after, ram, kept, state);
+    (effect, after)
+}
+
+// An insensitive instruction.
+fn execute_plain<B: Kept>(
+    insn: &Insn,
+    len: u8,
+    cpu: &Cpu,
+    ram: &mut Ram,
+    kept: &B,
+    state: &mut State,
+) -> (SysEffect, Cpu)
+    requires spelled { (bytes : List ℕ) × Spells bytes insn.now }
+    requires plain { is_plain insn.now.op ≡ true }
+    requires sound { IsSound (B.entries kept.now) (B.floor kept.now) (B.stands kept.now) ram.old state.old }
+    requires room { state.old.pages ≤ 32 }
+    ensures sound { IsSound (B.entries kept.now) (B.floor kept.now) (B.stands kept.now) ram.new state.new }
+    ensures told { told cpu.now (done_plainly (executed insn.now len cpu.now (space_at (B.entries kept.now) ram.old state.old))) ≡ (result.0, result.1, (space_at (B.entries kept.now) ram.new state.new)) }
+    ensures pages { state.new.pages ≤ state.old.pages + 16 }
+    ensures control { state.new.control ≡ state.old.control }
+    ensures guard { state.new.guard ≡ state.old.guard }
+    ensures hidden { hidden state.old.guard state.old.control.frames ram.new ≡ hidden state.old.guard state.old.control.frames ram.old }
+    ensures asked { IsAsked result.0 }
+{
+    match plain(insn, len, cpu, ram, kept, state) {
+        Ok(after) => (SysEffect::Next, after),
+        Err(refusal) => refused(*cpu, refusal),
+    }
+}
+
+/// What is not done raises a vector or stops. A page fault leaves its address in CR2.
+pub fn refused(cpu: Cpu, refusal: Refusal) -> (SysEffect, Cpu)
+    ensures told { (s : Space) → told_refusal cpu refusal s ≡ (result.0, result.1, s) }
+    ensures asked { IsAsked result.0 }
+{
+    match refusal {
+        Refusal::Fault { code, at } => (
+            SysEffect::Raise { vector: 14, code },
+            Cpu { cr2: at, ..cpu },
+        ),
+        Refusal::Raise { vector, code } => (SysEffect::Raise { vector, code }, cpu),
+        Refusal::Stop(stop) => (SysEffect::Stop(stop), cpu),
+    }
+}
+
+/// The instruction is neither sensitive, nor INT or INT3.
+pub fn is_plain(insn: &Insn) -> bool
+    ensures { result ≡ is_plain insn.now.op }
+{
+    match insn.op {
+        Op::Int => false,
+        Op::Int3 => false,
+        _ => sensitive(insn).is_none(),
+    }
+}

@@ -1,0 +1,158 @@
+//! Reading the instruction at a linear address.
+
+ghost use Rattle.std.specs.Prelude.{◌≡◌, ◌+◌, ◌*◌, ◌-◌, ◌/◌, ◌%◌, ◌<◌, ◌≤◌, ◌^◌, ◌++◌, [], length, List, ℕ, IfOk, IsSome, false};
+ghost use Rattle.std.specs.FinMap.{get};
+ghost use Rattle.paging.specs.Space.{place};
+ghost use Rattle.paging.specs.Work.{Gives};
+ghost use Rattle.step_mem.specs.Shown.{hidden};
+ghost use Rattle.step_mem.specs.Sound.{IsSound, space_at};
+ghost use Rattle.ia32_decode.specs.Front.{front_len};
+ghost use Rattle.machine_model.specs.Instruction.{fetching, fetched_on, fetched};
+ghost use Rattle.machine_step.specs.Fetches.{GivesAs, IsSpelled};
+
+use arrayvec::ArrayVec;
+use guest_ram::Ram;
+use ia32_decode::{Decoded, decode};
+use ia32_types::Stop;
+use paging::Touch;
+use step_mem::{Kept, State, own_back, own_front};
+use sys_exec::Refusal;
+
+/// No instruction is longer.
+const LONGEST: u32 = 11;
+
+type Bytes = ArrayVec<u8, 32>;
+
+/// The instruction at a linear address. Where the bytes of the first page are a proper prefix of a spelling, the
+/// second page is reached too.
+#[tactic(auto, unfolding(machine_model::specs::Instruction::fetched, machine_model::specs::Instruction::owning_front))]
+pub fn fetch<B: Kept>(
+    ram: &mut Ram,
+    kept: &B,
+    state: &mut State,
+    user: bool,
+    at: u32,
+) -> Result<Decoded, Refusal>
+    requires sound { IsSound (B.entries kept.now) (B.floor kept.now) (B.stands kept.now) ram.old state.old }
+    requires room { state.old.pages ≤ 62 }
+    ensures sound { IsSound (B.entries kept.now) (B.floor kept.now) (B.stands kept.now) ram.new state.new }
+    ensures fetched { Gives result (space_at (B.entries kept.now) ram.new state.new) (fetched user at (space_at (B.entries kept.now) ram.old state.old)) }
+    ensures spelled { IfOk result IsSpelled }
+    ensures pages { state.new.pages ≤ state.old.pages + 2 }
+    ensures control { state.new.control ≡ state.old.control }
+    ensures text { state.new.guard.text ≡ state.old.guard.text }
+    ensures hidden { hidden state.old.guard state.old.control.frames ram.new ≡ hidden state.old.guard state.old.control.frames ram.old }
+{
+    let mut front = fetching(ram, kept, state, user, at, front_len(at))?;
+    match decode(front.as_slice()) {
+        Decoded::Insn(insn, len) => {
+            own_front(ram, kept, state, at, u32::from(len));
+            Ok(Decoded::Insn(insn, len))
+        }
+        Decoded::Outside => Ok(Decoded::Outside),
+        Decoded::Short => {
+            if at / 4096 == 1048575 {
+                return Err(Refusal::Stop(Stop::WrapAccess));
+            }
+            fetch_on(ram, kept, state, user, at, &mut front)
+        }
+    }
+}
+
+fn front_len(at: u32) -> u32
+    ensures len { result ≡ front_len at }
+    ensures some { 0 < result }
+    ensures few { result ≤ 11 }
+    ensures one { at % 4096 + result ≤ 4096 }
+{
+    LONGEST.min(4096 - at % 4096)
+}
+
+// With bytes of the second page too.
+#[tactic(auto, unfolding(machine_model::specs::Instruction::fetched_on, machine_model::specs::Instruction::owning_front, machine_model::specs::Instruction::owning_back))]
+fn fetch_on<B: Kept>(
+    ram: &mut Ram,
+    kept: &B,
+    state: &mut State,
+    user: bool,
+    at: u32,
+    front: &mut Bytes,
+) -> Result<Decoded, Refusal>
+    requires sound { IsSound (B.entries kept.now) (B.floor kept.now) (B.stands kept.now) ram.old state.old }
+    requires room { state.old.pages ≤ 63 }
+    requires found { IsSome (get (space_at (B.entries kept.now) ram.old state.old).set (at / 4096)) }
+    requires not_last { at / 4096 < 1048575 }
+    requires few { length front.old.items ≤ 11 }
+    ensures sound { IsSound (B.entries kept.now) (B.floor kept.now) (B.stands kept.now) ram.new state.new }
+    ensures fetched { Gives result (space_at (B.entries kept.now) ram.new state.new) (fetched_on user at front.old.items (space_at (B.entries kept.now) ram.old state.old)) }
+    ensures spelled { IfOk result IsSpelled }
+    ensures pages { state.new.pages ≤ state.old.pages + 1 }
+    ensures control { state.new.control ≡ state.old.control }
+    ensures text { state.new.guard.text ≡ state.old.guard.text }
+    ensures hidden { hidden state.old.guard state.old.control.frames ram.new ≡ hidden state.old.guard state.old.control.frames ram.old }
+{
+    own_front(ram, kept, state, at, front_len(at));
+    let next = at / 4096 * 4096 + 4096;
+    let more = fetching(ram, kept, state, user, next, LONGEST)?;
+    append(more.as_slice(), front);
+    match decode(front.as_slice()) {
+        Decoded::Insn(insn, len) => {
+            own_back(
+                ram,
+                kept,
+                state,
+                next,
+                u32::from(len).saturating_sub(front_len(at)),
+            );
+            Ok(Decoded::Insn(insn, len))
+        }
+        Decoded::Outside => Ok(Decoded::Outside),
+        Decoded::Short => Ok(Decoded::Short),
+    }
+}
+
+// Bytes of one page.
+#[tactic(auto, unfolding(machine_model::specs::Instruction::fetching))]
+fn fetching<B: Kept>(
+    ram: &mut Ram,
+    kept: &B,
+    state: &mut State,
+    user: bool,
+    at: u32,
+    len: u32,
+) -> Result<Bytes, Refusal>
+    requires sound { IsSound (B.entries kept.now) (B.floor kept.now) (B.stands kept.now) ram.old state.old }
+    requires room { state.old.pages ≤ 63 }
+    requires some { 0 < len }
+    requires few { len ≤ 11 }
+    requires one { at % 4096 + len ≤ 4096 }
+    ensures sound { IsSound (B.entries kept.now) (B.floor kept.now) (B.stands kept.now) ram.new state.new }
+    ensures fetching { GivesAs (λ bytes. bytes.items) result (space_at (B.entries kept.now) ram.new state.new) (fetching user at len (space_at (B.entries kept.now) ram.old state.old)) }
+    ensures count { IfOk result (λ bytes. length bytes.items ≡ len) }
+    ensures found { IfOk result (λ _. IsSome (get (space_at (B.entries kept.now) ram.new state.new).set (at / 4096))) }
+    ensures pages { state.new.pages ≤ state.old.pages + 1 }
+    ensures control { state.new.control ≡ state.old.control }
+    ensures guard { state.new.guard ≡ state.old.guard }
+    ensures hidden { hidden state.old.guard state.old.control.frames ram.new ≡ hidden state.old.guard state.old.control.frames ram.old }
+{
+    match step_mem::fetch(ram, kept, state, at, len, user) {
+        Touch::Ready => {
+            let mut bytes: Bytes = ArrayVec::new();
+            let found = step_mem::bytes(ram, kept, state, at, len);
+            append(found.text, &mut bytes);
+            append(found.ram, &mut bytes);
+            Ok(bytes)
+        }
+        Touch::Fault { code, at } => Err(Refusal::Fault { code, at }),
+        Touch::Stop(stop) => Err(Refusal::Stop(stop)),
+    }
+}
+
+fn append(from: &[u8], to: &mut Bytes)
+    requires { length to.old.items + length from.now ≤ 32 }
+    ensures { to.new.items ≡ to.old.items ++ from.now }
+{
+    for byte in from {
+        to.push(*byte);
+    }
+}

@@ -1,0 +1,18 @@
+//! What one step of a machine comes to, over any keeper of translations and under a monitor's rules or none.
+#![tactic(auto)]
+
+mod delivery;
+mod execute;
+mod fetch;
+mod instruction;
+mod native;
+mod ports;
+mod rules;
+mod stepping;
+mod worked;
+
+pub use instruction::carry_out;
+pub use native::{plain_divides, reach};
+pub use rules::Rules;
+pub use stepping::{begin, interrupt, start, step, step_in};
+pub use worked::{Begun, Completed, Dropped, Reached, Seen, Worked};

@@ -1,0 +1,98 @@
+//! IN and OUT at the board.
+
+ghost use Rattle.std.specs.Prelude.{◌≡◌, ◌<◌, false, IfOk};
+ghost use Rattle.paging.specs.Space.{Space};
+ghost use Rattle.board.specs.Ports.{port_read, port_written};
+ghost use Rattle.machine_model.specs.State.{State as Whole};
+ghost use Rattle.machine_model.specs.Instruction.{with_accumulator};
+ghost use Rattle.machine_model.specs.Step.{after_read, after_write, in_item, out_item};
+ghost use Rattle.machine_step.specs.Worked.{ComesTo, IsDropped, completed_of};
+
+use crate::worked::{Completed, Dropped, Seen, Worked};
+use board::{Board, PortRead};
+use descriptors::Cpu;
+use ia32_exec::with_register;
+use ia32_types::{Did, Size, Stop};
+use run_trace::What;
+
+/// IN puts what the board gives into AL or EAX.
+pub fn read(
+    cpu: Cpu,
+    board: &mut Board,
+    completed: Completed,
+    port: u16,
+    wide: bool,
+) -> Result<Worked, Stop>
+    ensures step { (b : Whole) (s : Space) → ComesTo (after_read b (completed_of completed) cpu port wide s (port_read board.old port wide)) b result board.new s }
+    ensures dropped { IfOk result (λ w. IsDropped w.dropped) }
+{
+    match board.port_in(port, wide) {
+        PortRead::Stop => Err(Stop::DeviceUse),
+        PortRead::Value(value) => Ok(Worked {
+            seen: Seen::One(in_item(port, wide, value)),
+            completed: Some(completed),
+            cpu: with_accumulator(wide, value, cpu),
+            dropped: Dropped::Nothing,
+        }),
+    }
+}
+
+fn with_accumulator(wide: bool, value: u32, cpu: Cpu) -> Cpu
+    requires { wide ≡ false → value < 256 }
+    ensures { result ≡ with_accumulator wide value cpu }
+{
+    let size = if wide { Size::Long } else { Size::Byte };
+    Cpu {
+        regs: with_register(size, 0, value, cpu.regs),
+        ..cpu
+    }
+}
+
+fn in_item(port: u16, wide: bool, value: u32) -> What
+    requires { wide ≡ false → value < 256 }
+    ensures { result ≡ in_item port wide value }
+{
+    if wide {
+        What::In32(port, value)
+    } else {
+        What::In8(port, value as u8)
+    }
+}
+
+/// OUT of AL or EAX.
+pub fn write(
+    cpu: Cpu,
+    board: &mut Board,
+    completed: Completed,
+    port: u16,
+    wide: bool,
+    value: u32,
+) -> Result<Worked, Stop>
+    requires fits { wide ≡ false → value < 256 }
+    ensures step { (b : Whole) (s : Space) → ComesTo (after_write b (completed_of completed) cpu (out_item port wide value) s (port_written board.old port wide value)) b result board.new s }
+    ensures dropped { IfOk result (λ w. IsDropped w.dropped) }
+{
+    let item = out_item(port, wide, value);
+    let seen = match board.port_out(port, wide, value) {
+        Did::Stop => return Err(Stop::DeviceUse),
+        Did::Done => Seen::One(item),
+        Did::Sent(byte) => Seen::Two(item, What::Sent(byte)),
+    };
+    Ok(Worked {
+        seen,
+        completed: Some(completed),
+        cpu,
+        dropped: Dropped::Nothing,
+    })
+}
+
+fn out_item(port: u16, wide: bool, value: u32) -> What
+    requires { wide ≡ false → value < 256 }
+    ensures { result ≡ out_item port wide value }
+{
+    if wide {
+        What::Out32(port, value)
+    } else {
+        What::Out8(port, value as u8)
+    }
+}

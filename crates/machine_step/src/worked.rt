@@ -1,0 +1,54 @@
+//! What one step comes to.
+
+use descriptors::Cpu;
+use ia32_types::{Insn, Stop};
+use run_trace::What;
+
+/// What one step lets be seen.
+#[derive(Clone, Copy, Debug)]
+pub enum Seen {
+    Nothing,
+    One(What),
+    Two(What, What),
+}
+
+/// What leaves the cached translations at the end of a step.
+#[derive(Clone, Copy, Debug)]
+pub enum Dropped {
+    Nothing,
+    Page(u32),
+    All,
+}
+
+/// An instruction that completed, with the EIP at which it began, and whether it began at level 3.
+#[derive(Clone, Copy, Debug)]
+pub struct Completed {
+    pub insn: Insn,
+    pub eip: u32,
+    pub user: bool,
+}
+
+/// A step that went: what was seen, the instruction that completed, the processor, and what is dropped. What it changed
+/// of the translations, and the pages that it went through, stand in the step's state.
+#[derive(Clone, Copy, Debug)]
+pub struct Worked {
+    pub seen: Seen,
+    pub completed: Option<Completed>,
+    pub cpu: Cpu,
+    pub dropped: Dropped,
+}
+
+/// How a step begins: it went, or an instruction was fetched and nothing of it is done. The processor is that of the
+/// fetch.
+#[derive(Clone, Copy, Debug)]
+pub enum Begun {
+    Worked(Worked),
+    Fetched { insn: Insn, len: u8, cpu: Cpu },
+}
+
+/// Both ranges of an instruction are translated and nothing is done yet, or the instruction raised.
+#[derive(Clone, Copy, Debug)]
+pub enum Reached {
+    Ready,
+    Worked(Worked),
+}

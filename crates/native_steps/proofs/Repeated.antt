@@ -1,0 +1,508 @@
+-- A step done again from where its translations lead.
+use Rattle.std.proofs.Common.{◌≡◌, ℕ, ◌+◌, ◌-◌, ◌*◌, ◌/◌, ◌%◌, ◌^◌, ◌<◌, ◌≤◌, List, [], ◌∷◌, ◌++◌, length, map, Bool, true, false, cond, not, ◌==◌, Option, Some, None, Ok, refl, sym, ap, subst, ◌∙◌, ◌⊎◌, inl, inr, arith}
+use Rattle.std.specs.Prelude.{nat_le, nat_lt}
+use Rattle.std.specs.List.{Contains}
+use Rattle.std.specs.FinMap.{FinMap, get}
+use Rattle.std.specs.Ordering.{nat_cmp}
+use Rattle.std.proofs.lemmas.Bool.{cases_lt}
+use Rattle.guest_ram.specs.Bytes.{AreBytes, byte}
+use Rattle.ia32_types.specs.declared.flags.Regs.{Regs}
+use Rattle.ia32_types.specs.declared.insn.Insn.{Insn}
+use Rattle.ia32_types.specs.Shape.{IsShaped}
+use Rattle.ia32_decode.specs.declared.answer.Decoded.TheVariants as begins
+use Rattle.ia32_decode.specs.Decoding.{decoded}
+use Rattle.ia32_exec.specs.declared.outcome.Outcome as exec
+use Rattle.ia32_exec.specs.declared.outcome.Outcome.TheVariants as outcomes
+use Rattle.ia32_exec.specs.declared.outcome.Stores.{Stores}
+use Rattle.ia32_exec.specs.declared.outcome.Stores.TheVariants.{Nothing}
+use Rattle.ia32_types.specs.declared.stop.Stop.TheVariants as stops
+use Rattle.sys_exec.specs.declared.effect.SysEffect.TheVariants as effects
+use Rattle.ia32_exec.specs.declared.access.Range.{Range}
+use Rattle.ia32_exec.specs.Ranges.{Covers}
+use Rattle.ia32_exec.specs.Short.{IsShort}
+use Rattle.ia32_exec.specs.Commit.{list_of}
+use Rattle.ia32_exec.specs.Effect.{ranges_of}
+use Rattle.descriptors.specs.declared.cpu.Cpu.{Cpu}
+use Rattle.paging.specs.declared.entry.Entry.{Entry}
+use Rattle.paging.specs.Space.{Mode, Space, place, place_by, byte_at, with_ram}
+use Rattle.paging.specs.Uses.{window_stop}
+use Rattle.sys_exec.specs.Access.{reaching}
+use Rattle.sys_exec.specs.Agreement.{UserFlagsAgree}
+use Rattle.step_exec.specs.Plain.{reached, is_in, byte_by}
+use Rattle.native_steps.proofs.Short.{ranges_short}
+use Rattle.host_cpl3.specs.declared.view.View.{View}
+use Rattle.host_cpl3.specs.Permit.{permitted}
+use Rattle.host_cpl3.specs.Views.{selectors_of}
+use Rattle.host_cpl3.specs.Access.{last_page}
+use Rattle.host_cpl3.specs.Store.{all_stored}
+use Rattle.machine_model.specs.State.{Setting, State, wedge_mode, space_at_start}
+use Rattle.ia32_decode.specs.Front.{front_len}
+use Rattle.machine_model.specs.Instruction.{next_page, fetched}
+use Rattle.machine_model.specs.Step.{Result, Report, Went, Stands, after_instruction, begun, after_fetch, unheld, stepped}
+use Rattle.native_steps.specs.Stands.{Sees}
+use Rattle.native_steps.specs.Native.{byte_of, effect_of, done_by}
+use Rattle.native_steps.specs.Forward.{wp_of, IsNext}
+use Rattle.native_steps.specs.Backward.{IsTranslated}
+use Rattle.native_steps.specs.Again.{Use, used, range_uses, uses_of, AreClear, AreWithin, settled, StepsAgain}
+use Rattle.native_steps.proofs.Choices.{is_false, clash, le_told, lt_told, both, eq_told}
+use Rattle.native_steps.proofs.Same.{user_same}
+use Rattle.native_steps.proofs.Pages.{At, Comes, HasEntry, IsFree, range_passes, reaching_comes, fetching_comes}
+use Rattle.native_steps.proofs.Ways.{front_at, Way}
+use Rattle.native_steps.proofs.Doing.{IsUser, IsPopFlags, instructed_is}
+use Rattle.native_steps.proofs.Uses.{window_above, range_went, went_by}
+use Rattle.native_steps.proofs.Fetching.{Fetches, IsFetch, IsIn, IsPast, fetch_parts, by_parts, fetching_went, fetched_comes, same_value}
+use Rattle.native_steps.proofs.Stored.{stored_is}
+use Rattle.native_steps.proofs.Shaped.{decoded_shaped}
+use Rattle.native_steps.proofs.Walking.{IsWithin, IsServed}
+use Rattle.native_steps.proofs.Through.{Before, after, before_after, clear_split, within_as, Through, through_on, through_same, RangeThrough, range_through}
+use Rattle.native_steps.proofs.Repeating.{first_through, in_way, owns_in, across_way, left_is, left_in}
+use Rattle.native_steps.proofs.Together.{level_user, stepped_by, by_op_is, selects_by, without_rights, not_soft, no_pop}
+
+-- a result with other notes of walks and writes
+abbrev renoted : List ℕ → List ℕ → Result → Result
+renoted tables wrote (Went report b) = Went (record report { tables = tables; wrote = wrote }) b
+renoted tables wrote (Stands stop) = Stands stop
+
+-- the pages of a fetch
+abbrev pub went_of : (eip : ℕ) {A B : Type 0} → A ⊎ B → List ℕ
+went_of eip (inl w) = (eip / 4096) ∷ []
+went_of eip (inr w) = (eip / 4096) ∷ (next_page eip / 4096) ∷ []
+
+-- a fetch through these pages goes through these pages
+way_went : (m : Setting) (a : State) (kernel : Bool) (u w : Space) (eip : ℕ) (insn : Insn) (len : ℕ) → At m a u → u.went ≡ [] → (y : Way (Fetches m a kernel) a.ram eip insn len) → fetched (not kernel) eip u ≡ Ok (begins.Insn insn len, w) → w.went ≡ went_of eip y
+way_went m a kernel u w eip insn len h empty y e =
+    let p = fetch_parts (not kernel) eip insn len u w e in
+    by_way p (by_parts (not kernel) eip insn len p.front p.first w (decoded p.front) refl p.goes_on) y
+  where
+    first_went : (p : IsFetch (not kernel) eip insn len u w) → p.first.went ≡ (eip / 4096) ∷ []
+    first_went p = fetching_went (not kernel) eip (front_len eip) u p.front p.first p.reads ∙ ap (λ (l : List ℕ). l ++ (eip / 4096) ∷ []) empty
+
+    front_of : (p : IsFetch (not kernel) eip insn len u w) (frame : ℕ) → Fetches m a kernel (eip / 4096) frame → front_at a.ram frame eip ≡ p.front
+    front_of p frame f = let c = fetching_comes m a kernel u eip (front_len eip) frame h f.entry f.free in same_value (front_at a.ram frame eip) p.front c.space p.first (sym c.is ∙ p.reads)
+
+    by_way : (p : IsFetch (not kernel) eip insn len u w) → IsIn eip insn len p.front p.first w ⊎ IsPast (not kernel) eip insn len p.front p.first w → (z : Way (Fetches m a kernel) a.ram eip insn len) → w.went ≡ went_of eip z
+    by_way p (inl x) (inl z) = x.went ∙ first_went p
+    by_way p (inl x) (inr z) = absurd (let f : begins.Short ≡ begins.Insn insn len = sym z.cut ∙ ap decoded (front_of p z.frame z.page) ∙ x.is in cc)
+    by_way p (inr x) (inl z) = absurd (let f : begins.Short ≡ begins.Insn insn len = sym x.cut ∙ ap decoded (sym (front_of p z.frame z.page)) ∙ z.is in cc)
+    by_way p (inr x) (inr z) = x.on.went ∙ ap (λ (l : List ℕ). l ++ (next_page eip / 4096) ∷ []) (first_went p)
+
+-- what a range adds
+went_after : List ℕ → Option Range → List ℕ
+went_after went None = went
+went_after went (Some r) = went_by went r.at r.len
+
+range_goes : (cpu : Cpu) (s t : Space) (write : Bool) (o : Option Range) → reached cpu write o s ≡ Ok (tt, t) → t.went ≡ went_after s.went o
+unfolding went_after
+range_goes cpu s t write None e = let p : ◌≡◌ {A = Unit {0} × Space} (tt, s) (tt, t) = cc in sym (ap (λ (q : Unit {0} × Space). q.1.went) p)
+range_goes cpu s t write (Some r) e = range_went s t r.at r.len (record { write = write; user = cpu.cpl == 3 }) e
+
+module _ (flags : UserFlagsAgree) (m : Setting) (v : View) (b : State) (mode : m.mode ≡ wedge_mode m.image) (room : 4096 * m.frames ≤ length b.ram) (fit : AreBytes b.ram) (sound : AreWithin m b.set) (sees : Sees v b.cpu) (next : IsNext m v.kernel b) (small : b.cpu.regs.eip < 2 ^ 32) where
+  abbrev k : Bool
+  k = v.kernel
+
+  user : (b.cpu.cpl == 3) ≡ not v.kernel
+  user = level_user v.kernel b.cpu.cpl sees.level
+
+  abbrev start : Space
+  start = space_at_start m.mode m.frames b.cpu b.ram b.set
+
+  abbrev Th : List ℕ → Space → Space → Type 0
+  Th = Through m b v.kernel
+
+  abbrev Clear : List ℕ → List Use → Type 0
+  Clear ps us = AreClear b.set (not v.kernel) (wp_of b) ps us
+
+  abbrev HasIt : Space → Bool → ℕ → ℕ → Type 0
+  HasIt s write page frame = HasEntry v.kernel (wp_of b) s.set write page frame
+
+  -- ---- the fetch
+
+  record Began (insn : Insn) (len : ℕ) (t : Space) : Type 0 where
+    within : IsWithin m b v.kernel t
+    pages : List ℕ
+    went : t.went ≡ pages
+    shape : IsShaped insn
+    way : (last : Space) → Through m b v.kernel (after [] (map (used false) pages)) t last → Way (Fetches m (settled b last) v.kernel) last.ram b.cpu.regs.eip insn len
+    way_pages : (last : Space) (th : Through m b v.kernel (after [] (map (used false) pages)) t last) → went_of b.cpu.regs.eip (way last th) ≡ pages
+
+  moved : (ps : List ℕ) (s t last : Space) → s ≡ t → Through m b v.kernel ps t last → Through m b v.kernel ps s last
+  moved ps s t last e th = subst (λ (x : Space). Through m b v.kernel ps x last) (sym e) th
+
+  began : (insn : Insn) (len : ℕ) (t : Space) (rest : List Use) → fetched (not v.kernel) b.cpu.regs.eip start ≡ Ok (begins.Insn insn len, t) → Clear [] (map (used false) t.went ++ rest) → Began insn len t
+  began insn len t rest e clear =
+      let p = fetch_parts (not v.kernel) b.cpu.regs.eip insn len start t e in
+      by_end p (by_parts (not v.kernel) b.cpu.regs.eip insn len p.front p.first t (decoded p.front) refl p.goes_on)
+    where
+      first_went : (p : IsFetch (not v.kernel) b.cpu.regs.eip insn len start t) → p.first.went ≡ (b.cpu.regs.eip / 4096) ∷ []
+      first_went p = fetching_went (not v.kernel) b.cpu.regs.eip (front_len b.cpu.regs.eip) start p.front p.first p.reads
+
+      by_end : (p : IsFetch (not v.kernel) b.cpu.regs.eip insn len start t) → IsIn b.cpu.regs.eip insn len p.front p.first t ⊎ IsPast (not v.kernel) b.cpu.regs.eip insn len p.front p.first t → Began insn len t
+      by_end p (inl x) =
+          let f = first_through m b v.kernel mode room fit sound small insn len t p in
+          let w = f.through.within in
+          let is = owns_in m b v.kernel mode room fit sound small insn len t p x in
+          record {
+            within = subst (IsWithin m b v.kernel) is (within_as m b v.kernel p.first (record p.first { mode = Rattle.paging.specs.Uses.with_front p.first.mode (place p.first b.cpu.regs.eip) len }) w refl refl refl refl refl
+                (record { front = place p.first b.cpu.regs.eip; front_len = len; back = 0; back_len = 0 }) (ap (λ (y : Mode). Rattle.paging.specs.Uses.with_front y (place p.first b.cpu.regs.eip) len) w.mode));
+            pages = (b.cpu.regs.eip / 4096) ∷ [];
+            went = x.went ∙ first_went p;
+            shape = decoded_shaped p.front insn len x.is;
+            way = λ last th. inl (in_way m b v.kernel mode room fit sound small insn len t p x last (moved ((b.cpu.regs.eip / 4096) ∷ []) _ t last is th));
+            way_pages = λ last th. refl;
+          }
+      by_end p (inr x) =
+          let went : t.went ≡ (b.cpu.regs.eip / 4096) ∷ (next_page b.cpu.regs.eip / 4096) ∷ [] = x.on.went ∙ ap (λ (l : List ℕ). l ++ (next_page b.cpu.regs.eip / 4096) ∷ []) (first_went p) in
+          let c = subst (λ (l : List ℕ). Clear [] (map (used false) l ++ rest)) went clear in
+          let served = c.1.0 in
+          let is = left_is m b v.kernel mode room fit sound small insn len t p x served in
+          record {
+            within = subst (IsWithin m b v.kernel) is (left_in m b v.kernel mode room fit sound small insn len t p x served);
+            pages = (b.cpu.regs.eip / 4096) ∷ (next_page b.cpu.regs.eip / 4096) ∷ [];
+            went = went;
+            shape = decoded_shaped (p.front ++ x.on.more) insn len x.on.is;
+            way = λ last th. inr (across_way m b v.kernel mode room fit sound small insn len t p x served last (moved ((next_page b.cpu.regs.eip / 4096) ∷ (b.cpu.regs.eip / 4096) ∷ []) _ t last is th));
+            way_pages = λ last th. refl;
+          }
+
+  -- ---- ranges
+
+  RangeOf : List ℕ → Space → Space → Bool → Option Range → Type 0
+  RangeOf ps s t write None = Unit {0}
+  RangeOf ps s t write (Some r) = RangeThrough m b v.kernel ps s t write r.at r.len
+
+  record Ranged (ps : List ℕ) (s t : Space) (write : Bool) (o : Option Range) : Type 0 where
+    through : Through m b v.kernel ps s t
+    range : RangeOf ps s t write o
+
+  last_is : (r : Range) → 1 ≤ r.len → (r.at + r.len - 1) / 4096 ≡ last_page r
+  last_is r some = omega (arith, some)
+
+  ranged : (ps : List ℕ) (s t : Space) (write : Bool) (o : Option Range) → IsWithin m b v.kernel s → IsShort o → Clear ps (range_uses write o) → reached b.cpu write o s ≡ Ok (tt, t) → Ranged ps s t write o
+  unfolding RangeOf
+  ranged ps s t write None h short c e =
+      let p : ◌≡◌ {A = Unit {0} × Space} (tt, s) (tt, t) = cc in
+      record { through = subst (Through m b v.kernel ps s) (ap (λ (q : Unit {0} × Space). q.1) p) (through_same m b v.kernel ps s h); range = tt }
+  ranged ps s t write (Some r) h short c e =
+      let e2 : reaching r.at r.len (record { write = write; user = not v.kernel }) s ≡ Ok (tt, t) = ap (λ (u : Bool). reaching r.at r.len (record { write = write; user = u }) s) (sym user) ∙ e in
+      let last = last_is r short.0 in
+      let g = range_through m b v.kernel ps s t write r.at r.len h short.0 c.0 (λ other there. second (last_page r == r.at / 4096) refl c.1 other there) e2 in
+      record { through = g.through; range = g }
+    where
+      second : (one : Bool) → (last_page r == r.at / 4096) ≡ one → AreClear b.set (not v.kernel) (wp_of b) ((r.at / 4096) ∷ ps) (cond one [] (used write (last_page r) ∷ []))
+          → ((r.at + r.len - 1) / 4096 == r.at / 4096) ≡ false → Contains ((r.at / 4096) ∷ ps) ((r.at + r.len - 1) / 4096) → IsServed m b v.kernel ((r.at + r.len - 1) / 4096) write
+      second true is d other there = absurd (clash ((r.at + r.len - 1) / 4096 == r.at / 4096) (ap (λ p. p == r.at / 4096) (last_is r short.0) ∙ is) other)
+      second false is d other there = subst (λ p. IsServed m b v.kernel p write) (sym (last_is r short.0)) (d.0 (subst (Contains ((r.at / 4096) ∷ ps)) (last_is r short.0) there))
+
+  -- the entries of a range at the end of the translations
+  record HasRange (last : Space) (write : Bool) (r : Range) : Type 0 where
+    fits : r.at + r.len ≤ 2 ^ 32
+    above : v.kernel ≡ true → 0x11000000 ≤ r.at
+    first : ℕ
+    has_first : HasEntry v.kernel (wp_of b) last.set write (r.at / 4096) first
+    free_first : IsFree m b v.kernel false (r.at / 4096) first
+    last_frame : ℕ
+    has_last : HasEntry v.kernel (wp_of b) last.set write ((r.at + r.len - 1) / 4096) last_frame
+    free_last : IsFree m b v.kernel false ((r.at + r.len - 1) / 4096) last_frame
+
+  above_of : (s : Space) → IsWithin m b v.kernel s → (write : Bool) (at : ℕ) → window_stop s.mode (record { write = write; user = not v.kernel }) at ≡ None → v.kernel ≡ true → 0x11000000 ≤ at
+  above_of s h write at e = window_above v.kernel at (ap (λ (x : Mode). window_stop x (record { write = write; user = not v.kernel }) at) (sym h.mode) ∙ e)
+
+  first_before : (ps : List ℕ) (write : Bool) (r : Range) → Before (after ps (range_uses write (Some r))) (r.at / 4096)
+  first_before ps write r = before_after (cond (last_page r == r.at / 4096) [] (used write (last_page r) ∷ [])) ((r.at / 4096) ∷ ps) (r.at / 4096) (inl refl)
+
+  last_before : (ps : List ℕ) (write : Bool) (r : Range) → Before (after ps (range_uses write (Some r))) (last_page r)
+  last_before ps write r = choice (last_page r == r.at / 4096) refl
+    where
+      choice : (one : Bool) → (last_page r == r.at / 4096) ≡ one → Before (after ((r.at / 4096) ∷ ps) (cond one [] (used write (last_page r) ∷ []))) (last_page r)
+      choice true e = inl (sym (eq_told (last_page r) (r.at / 4096) e))
+      choice false e = inl refl
+
+  now : (ps : List ℕ) (s t : Space) (write : Bool) (r : Range) → IsWithin m b v.kernel s → RangeThrough m b v.kernel ps s t write r.at r.len → HasRange t write r
+  now ps s t write r h g = record {
+    fits = g.fits;
+    above = above_of s h write r.at g.window;
+    first = g.first;
+    has_first = g.has_first;
+    free_first = g.free_first;
+    last_frame = g.last;
+    has_last = g.has_last;
+    free_last = g.free_last;
+  }
+
+  later : (ps : List ℕ) (t last : Space) (write : Bool) (r : Range) → 1 ≤ r.len → HasRange t write r → Through m b v.kernel (after ps (range_uses write (Some r))) t last → HasRange last write r
+  later ps t last write r some g th = record {
+    fits = g.fits;
+    above = g.above;
+    first = g.first;
+    has_first = th.kept (r.at / 4096) write g.first (first_before ps write r) g.has_first;
+    free_first = g.free_first;
+    last_frame = g.last_frame;
+    has_last = th.kept ((r.at + r.len - 1) / 4096) write g.last_frame (subst (Before (after ps (range_uses write (Some r)))) (sym (last_is r some)) (last_before ps write r)) g.has_last;
+    free_last = g.free_last;
+  }
+
+  HasRanges : Space → Bool → Option Range → Type 0
+  HasRanges last write None = Unit {0}
+  HasRanges last write (Some r) = HasRange last write r
+
+  has_now : (ps : List ℕ) (s t : Space) (write : Bool) (o : Option Range) → IsWithin m b v.kernel s → Ranged ps s t write o → HasRanges t write o
+  unfolding RangeOf HasRanges
+  has_now ps s t write None h g = tt
+  has_now ps s t write (Some r) h g = now ps s t write r h g.range
+
+  has_later : (ps : List ℕ) (t last : Space) (write : Bool) (o : Option Range) → IsShort o → HasRanges t write o → Through m b v.kernel (after ps (range_uses write o)) t last → HasRanges last write o
+  unfolding HasRanges
+  has_later ps t last write None short g th = tt
+  has_later ps t last write (Some r) short g th = later ps t last write r short.0 g th
+
+  -- ---- the same from where they lead
+
+  module _ (last : Space) where
+    abbrev a : State
+    a = settled b last
+
+    range_again : (s : Space) (write : Bool) (r : Range) → At m (settled b last) s → HasRange last write r → Comes m (settled b last) tt (reaching r.at r.len (record { write = write; user = b.cpu.cpl == 3 }) s)
+    range_again s write r h g =
+        let p = range_passes m (settled b last) v.kernel s r.at r.len write g.first g.last_frame h g.fits g.above g.has_first g.free_first g.has_last g.free_last in
+        let c = reaching_comes m (settled b last) v.kernel s r.at r.len write p in
+        record { space = c.space; is = ap (λ (u : Bool). reaching r.at r.len (record { write = write; user = u }) s) user ∙ c.is; at = c.at }
+
+    reached_again : (s : Space) (write : Bool) (o : Option Range) → At m (settled b last) s → HasRanges last write o → Comes m (settled b last) tt (reached b.cpu write o s)
+    unfolding HasRanges
+    reached_again s write None h g = record { space = s; is = refl; at = h }
+    reached_again s write (Some r) h g = range_again s write r h g
+
+    at_start : At m (settled b last) (space_at_start m.mode m.frames b.cpu last.ram last.set)
+    at_start = record { ram = refl; set = refl; wp = refl; went = λ q c. absurd (let lt = c.1 in omega (arith, lt)); tables = refl; own = record { front = 0; front_len = 0; back = 0; back_len = 0 }; mode = mode }
+
+  -- an address of a range has the same place then
+  place_of : (s : Space) (write : Bool) (page frame x : ℕ) → x / 4096 ≡ page → HasEntry v.kernel (wp_of b) s.set write page frame → place s x ≡ 4096 * frame + x % 4096
+  unfolding place
+  place_of s write page frame x e h =
+      let sum : h.entry.frame * 4096 + x % 4096 ≡ 4096 * frame + x % 4096 = let is = h.frame_is in omega (arith, is) in
+      ap (λ p. place_by (get s.set p) x) e ∙ ap (λ (o : Option Entry). place_by o x) h.kept ∙ sum
+
+  places_same : (s t : Space) (write : Bool) (r : Range) → 1 ≤ r.len → r.len ≤ 32 → (g : HasRange s write r) (h : HasRange t write r) → g.first ≡ h.first → g.last_frame ≡ h.last_frame → (j : ℕ) → j < r.len → place s (r.at + j) ≡ place t (r.at + j)
+  places_same s t write r some few g h one two j lt =
+      elim (cases_lt ((r.at + j) / 4096) (r.at / 4096 + 1)) [
+        | inl below ↦
+            let page : (r.at + j) / 4096 ≡ r.at / 4096 = omega (arith, below) in
+            place_of s write (r.at / 4096) g.first (r.at + j) page g.has_first ∙ ap (λ f. 4096 * f + (r.at + j) % 4096) one ∙ sym (place_of t write (r.at / 4096) h.first (r.at + j) page h.has_first)
+        | inr above ↦
+            let page : (r.at + j) / 4096 ≡ (r.at + r.len - 1) / 4096 = omega (arith, above, lt, few) in
+            place_of s write ((r.at + r.len - 1) / 4096) g.last_frame (r.at + j) page g.has_last ∙ ap (λ f. 4096 * f + (r.at + j) % 4096) two
+            ∙ sym (place_of t write ((r.at + r.len - 1) / 4096) h.last_frame (r.at + j) page h.has_last)
+      ]
+
+  -- ---- the step
+
+  module _ (insn : Insn) (len : ℕ) (fetch read write : Space) (t : IsTranslated m b insn len fetch read write) (clear : AreClear b.set (b.cpu.cpl == 3) (wp_of b) [] (uses_of fetch.went (ranges_of insn b.cpu.regs))) where
+    abbrev reads : Option Range
+    reads = (ranges_of insn b.cpu.regs).read
+
+    abbrev writes : Option Range
+    writes = (ranges_of insn b.cpu.regs).write
+
+    short : IsShort reads × IsShort writes
+    short = ranges_short insn b.cpu.regs
+
+    fetch_is : fetched (not v.kernel) b.cpu.regs.eip start ≡ Ok (begins.Insn insn len, fetch)
+    fetch_is = ap (λ (u : Bool). fetched u b.cpu.regs.eip start) (sym user) ∙ t.fetched
+
+    all_clear : Clear [] (map (used false) fetch.went ++ (range_uses false reads ++ range_uses true writes))
+    all_clear = subst (λ (u : Bool). AreClear b.set u (wp_of b) [] (uses_of fetch.went (ranges_of insn b.cpu.regs))) user clear
+
+    first : Began insn len fetch
+    first = began insn len fetch (range_uses false reads ++ range_uses true writes) fetch_is all_clear
+
+    abbrev fetch_pages : List ℕ
+    fetch_pages = after [] (map (used false) first.pages)
+
+    rest : Clear fetch_pages (range_uses false reads) × Clear (after fetch_pages (range_uses false reads)) (range_uses true writes)
+    rest =
+        let c = subst (λ (l : List ℕ). Clear [] (map (used false) l ++ (range_uses false reads ++ range_uses true writes))) first.went all_clear in
+        clear_split b.set (not v.kernel) (wp_of b) (range_uses false reads) (range_uses true writes) fetch_pages
+        (clear_split b.set (not v.kernel) (wp_of b) (map (used false) first.pages) (range_uses false reads ++ range_uses true writes) [] c).1
+
+    abbrev read_pages : List ℕ
+    read_pages = after fetch_pages (range_uses false reads)
+
+    second : Ranged fetch_pages fetch read false reads
+    second = ranged fetch_pages fetch read false reads first.within short.0 rest.0 t.read
+
+    third : Ranged read_pages read write true writes
+    third = ranged read_pages read write true writes second.through.within short.1 rest.1 t.write
+
+    whole : Through m b v.kernel fetch_pages fetch write
+    whole = through_on m b v.kernel fetch_pages read_pages fetch read write second.through third.through (before_after (range_uses false reads) fetch_pages)
+
+    -- their entries at the end
+    read_now : HasRanges read false reads
+    read_now = has_now fetch_pages fetch read false reads first.within second
+
+    read_end : HasRanges write false reads
+    read_end = has_later fetch_pages read write false reads short.0 read_now third.through
+
+    write_end : HasRanges write true writes
+    write_end = has_now read_pages read write true writes second.through.within third
+
+    -- ---- again
+
+    again_fetch : Comes m (settled b write) (begins.Insn insn len) (fetched (not v.kernel) b.cpu.regs.eip (space_at_start m.mode m.frames b.cpu write.ram write.set))
+    again_fetch = fetched_comes m (settled b write) v.kernel (space_at_start m.mode m.frames b.cpu write.ram write.set) b.cpu.regs.eip insn len (at_start write) (first.way write whole)
+
+    again_read : Comes m (settled b write) tt (reached b.cpu false reads again_fetch.space)
+    again_read = reached_again write again_fetch.space false reads again_fetch.at read_end
+
+    again_write : Comes m (settled b write) tt (reached b.cpu true writes again_read.space)
+    again_write = reached_again write again_read.space true writes again_read.at write_end
+
+    again_translated : IsTranslated m (settled b write) insn len again_fetch.space again_read.space again_write.space
+    again_translated = record {
+      fetched = ap (λ (u : Bool). fetched u b.cpu.regs.eip (space_at_start m.mode m.frames b.cpu write.ram write.set)) user ∙ again_fetch.is;
+      permitted = t.permitted;
+      plain = t.plain;
+      segments = t.segments;
+      read = again_read.is;
+      write = again_write.is;
+    }
+
+    same_went : again_write.space.went ≡ write.went
+    same_went =
+        range_goes b.cpu again_read.space again_write.space true writes again_write.is
+        ∙ ap (λ (l : List ℕ). went_after l writes)
+        (range_goes b.cpu again_fetch.space again_read.space false reads again_read.is
+        ∙ ap (λ (l : List ℕ). went_after l reads)
+        (way_went m (settled b write) v.kernel (space_at_start m.mode m.frames b.cpu write.ram write.set) again_fetch.space b.cpu.regs.eip insn len (at_start write) refl (first.way write whole) again_fetch.is
+        ∙ first.way_pages write whole
+        ∙ sym first.went)
+        ∙ sym (range_goes b.cpu fetch read false reads t.read))
+        ∙ sym (range_goes b.cpu read write true writes t.write)
+
+    -- ---- over the same bytes
+
+    read_places : (o : Option Range) → IsShort o → (ps : List ℕ) → HasRanges read false o → Through m b v.kernel (after ps (range_uses false o)) read write → (x : ℕ) → is_in o x ≡ true → place read x ≡ place write x
+    unfolding HasRanges later
+    read_places None sh ps g th x e = absurd (let f : false ≡ true = e in cc)
+    read_places (Some r) sh ps g th x e =
+        let p = both (nat_le r.at x) (nat_lt x (r.at + r.len)) e in
+        let low = le_told r.at x p.0 in
+        let high = lt_told x (r.at + r.len) p.1 in
+        let sum : r.at + (x - r.at) ≡ x = omega (arith, low) in
+        subst (λ y. place read y ≡ place write y) sum
+        (places_same read write false r sh.0 sh.1 g (later ps read write false r sh.0 g th) refl refl (x - r.at) (omega (arith, low, high)))
+
+    byte_there : (x : ℕ) → byte_at write x ≡ byte_of (settled b write) x
+    unfolding byte_at place
+    byte_there x = refl
+
+    byte_read : (x : ℕ) → place read x ≡ place write x → byte_at (with_ram read write.ram) x ≡ byte_of (settled b write) x
+    unfolding byte_at place
+    byte_read x e = ap (byte write.ram) e
+
+    bytes_same : (x : ℕ) → byte_by reads read write x ≡ byte_of (settled b write) x
+    bytes_same x = choice (is_in reads x) refl
+      where
+        choice : (i : Bool) → is_in reads x ≡ i → cond i (byte_at (with_ram read write.ram) x) (byte_at write x) ≡ byte_of (settled b write) x
+        choice true e = byte_read x (read_places reads short.0 fetch_pages read_now third.through x e)
+        choice false e = byte_there x
+
+    again_byte : (s : Space) → At m (settled b write) s → (x : ℕ) → byte_at s x ≡ byte_of (settled b write) x
+    unfolding byte_at place
+    again_byte s h x = ap (λ (l : List ℕ). byte l (place_by (get s.set (x / 4096)) x)) h.ram ∙ ap (λ (y : FinMap nat_cmp Entry). byte write.ram (place_by (get y (x / 4096)) x)) h.set
+
+    again_bytes : (x : ℕ) → byte_by reads again_read.space again_write.space x ≡ byte_of (settled b write) x
+    again_bytes x = choice (is_in reads x)
+      where
+        mixed : At m (settled b write) (with_ram again_read.space again_write.space.ram)
+        mixed = record { ram = again_write.at.ram; set = again_read.at.set; wp = again_read.at.wp; went = again_read.at.went; tables = again_read.at.tables; own = again_read.at.own; mode = again_read.at.mode }
+
+        choice : (i : Bool) → cond i (byte_at (with_ram again_read.space again_write.space.ram) x) (byte_at again_write.space x) ≡ byte_of (settled b write) x
+        choice true = again_byte (with_ram again_read.space again_write.space.ram) mixed x
+        choice false = again_byte again_write.space again_write.at x
+
+    all : (P : ℕ → Type 0) (o : Option Range) → ((x : ℕ) → P x) → Covers P o
+    all P None h = tt
+    all P (Some r) h = λ j lt. h (r.at + j)
+
+    soft : Rattle.machine_model.specs.Counts.is_software insn.op ≡ false
+    unfolding permitted
+    soft = not_soft insn.op insn.imm t.permitted
+
+    user_of : IsPopFlags insn.op → IsUser b.cpu
+    user_of h = without_rights v b.cpu sees (is_false v.kernel (λ x. no_pop insn.op (t.plain (user ∙ ap not x)) h))
+
+    user_held : IsPopFlags insn.op → IsUser (unheld b).cpu
+    user_held h = let u = user_of h in record { without = u.without; above = u.above }
+
+    -- what is left of a step that is done
+    abbrev finish : List ℕ → FinMap nat_cmp Entry → List ℕ → List ℕ → List ℕ → Regs → Stores → Result
+    finish ram set went tables wrote regs stores =
+        after_instruction m (unheld b) (begun b insn)
+        (done_by (unheld b).cpu (record write { ram = all_stored (λ x. place_by (get set (x / 4096)) x) ram (list_of stores); set = set; went = went; tables = tables; wrote = wrote }) (outcomes.Done regs Nothing))
+
+    finished_is : (s : Space) (regs : Regs) (stores : Stores) → after_instruction m (unheld b) (begun b insn) (done_by (unheld b).cpu s (outcomes.Done regs stores)) ≡ finish s.ram s.set s.went s.tables s.wrote regs stores
+    unfolding place
+    finished_is s regs stores =
+        ap (λ (x : Space). after_instruction m (unheld b) (begun b insn) (Ok (record { cpu = record (unheld b).cpu { regs = regs }; effect = effects.Next }, x))) (stored_is s (list_of stores))
+
+    -- with other notes
+    noted : (ram : List ℕ) (set : FinMap nat_cmp Entry) (went tables wrote others news : List ℕ) (regs : Regs) (stores : Stores) (report : Report) (after_state : State)
+        → finish ram set went tables wrote regs stores ≡ Went report after_state → finish ram set went others news regs stores ≡ Went (record report { tables = others; wrote = news }) after_state
+    noted ram set went tables wrote others news regs stores report after_state e = by_test (Rattle.machine_model.specs.Rules.may_leave m.mode (unheld b).cpu (record (unheld b).cpu { regs = regs })) e
+      where
+        by_test : (c : Bool) → cond {A = Result} c
+            (Went (record { items = []; completed = Some (begun b insn); pages = went; tables = tables; wrote = wrote })
+            (record { cpu = record (unheld b).cpu { regs = regs }; ram = all_stored (λ x. place_by (get set (x / 4096)) x) ram (list_of stores); set = set; board = Rattle.board.specs.Boards.board_step b.board; step = b.step + 1 })) (Stands stops.UserFlags) ≡ Went report after_state
+            → cond {A = Result} c
+            (Went (record { items = []; completed = Some (begun b insn); pages = went; tables = others; wrote = news })
+            (record { cpu = record (unheld b).cpu { regs = regs }; ram = all_stored (λ x. place_by (get set (x / 4096)) x) ram (list_of stores); set = set; board = Rattle.board.specs.Boards.board_step b.board; step = b.step + 1 })) (Stands stops.UserFlags)
+            ≡ Went (record report { tables = others; wrote = news }) after_state
+        by_test true g = ap (λ (o : Result). renoted others news o) g
+        by_test false g = absurd cc
+
+    original : (regs : Regs) (stores : Stores) → effect_of v (settled b write) insn len ≡ outcomes.Done regs stores → stepped m b ≡ finish write.ram write.set write.went write.tables write.wrote regs stores
+    original regs stores e =
+        stepped_by m v.kernel b sees.level next
+        ∙ ap (after_fetch m (unheld b)) t.fetched
+        ∙ by_op_is m insn.op (unheld b) insn len fetch soft
+        ∙ instructed_is m (unheld b) (begun b insn) flags (selectors_of v) (unheld b).cpu (selects_by v b.cpu sees) fetch read write insn len user_held first.shape t.permitted (record { free = t.segments; read = t.read; write = t.write })
+        ∙ ap (λ (o : exec.Outcome). after_instruction m (unheld b) (begun b insn) (done_by (unheld b).cpu write o))
+        (user_same (byte_by reads read write) (byte_of (settled b write)) (selectors_of v) insn len b.cpu.regs first.shape
+        (all (λ x. byte_by reads read write x ≡ byte_of (settled b write) x) reads bytes_same) (all (λ x. byte_by reads read write x ≡ byte_of (settled b write) x) writes bytes_same) ∙ e)
+        ∙ finished_is write regs stores
+
+    next_again : IsNext m v.kernel (settled b write)
+    next_again = record { awake = next.awake; quiet = next.quiet; small = next.small; start = next.start; outside = next.outside }
+
+    repeated : (regs : Regs) (stores : Stores) → effect_of v (settled b write) insn len ≡ outcomes.Done regs stores → stepped m (settled b write) ≡ finish again_write.space.ram again_write.space.set again_write.space.went again_write.space.tables again_write.space.wrote regs stores
+    repeated regs stores e =
+        stepped_by m v.kernel (settled b write) sees.level next_again
+        ∙ ap (after_fetch m (unheld (settled b write))) again_translated.fetched
+        ∙ by_op_is m insn.op (unheld (settled b write)) insn len again_fetch.space soft
+        ∙ instructed_is m (unheld (settled b write)) (begun b insn) flags (selectors_of v) (unheld b).cpu (selects_by v b.cpu sees) again_fetch.space again_read.space again_write.space insn len user_held first.shape t.permitted
+        (record { free = t.segments; read = again_read.is; write = again_write.is })
+        ∙ ap (λ (o : exec.Outcome). after_instruction m (unheld (settled b write)) (begun b insn) (done_by (unheld b).cpu again_write.space o))
+        (user_same (byte_by reads again_read.space again_write.space) (byte_of (settled b write)) (selectors_of v) insn len b.cpu.regs first.shape
+        (all (λ x. byte_by reads again_read.space again_write.space x ≡ byte_of (settled b write) x) reads again_bytes) (all (λ x. byte_by reads again_read.space again_write.space x ≡ byte_of (settled b write) x) writes again_bytes) ∙ e)
+        ∙ finished_is again_write.space regs stores
+
+    pub steps_same : StepsAgain m v b insn len write
+    steps_same = record {
+      fetched = again_fetch.space;
+      reads = again_read.space;
+      writes = again_write.space;
+      translated = again_translated;
+      ram = again_write.at.ram;
+      set = again_write.at.set;
+      went = same_went;
+      same = λ regs stores e report after_state g.
+          let there : finish write.ram write.set write.went again_write.space.tables again_write.space.wrote regs stores ≡ Went report after_state =
+          ap (λ (l : List ℕ). finish l write.set write.went again_write.space.tables again_write.space.wrote regs stores) (sym again_write.at.ram)
+          ∙ ap (λ (x : FinMap nat_cmp Entry). finish again_write.space.ram x write.went again_write.space.tables again_write.space.wrote regs stores) (sym again_write.at.set)
+          ∙ ap (λ (l : List ℕ). finish again_write.space.ram again_write.space.set l again_write.space.tables again_write.space.wrote regs stores) (sym same_went)
+          ∙ sym (repeated regs stores e)
+          ∙ g in
+          original regs stores e
+          ∙ noted write.ram write.set write.went again_write.space.tables again_write.space.wrote write.tables write.wrote regs stores report after_state there;
+    }

@@ -1,0 +1,8 @@
+use Rattle.native_steps.proofs.Deriving.{full_from_guest}
+use Rattle.native_steps.proofs.Together.{native}
+use Rattle.native_steps.proofs.laws.backward.Goals as goal
+
+pub returns : goal.returns
+returns c = λ m memory v b w stands lends next insn len fetch read write translated pages.
+    native c.user_flags_agree.ensures m w memory v b stands next insn len
+    (full_from_guest m w memory v b stands lends c.user_flags_agree.ensures (c.texts.ensures m.image w.accepted) next insn len fetch read write translated pages).common

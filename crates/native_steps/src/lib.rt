@@ -1,0 +1,10 @@
+//! One native instruction, on both machines: what the host completes over the guest's memory is the guest's step, and
+//! what the guest's step uses and the host's tables lend, the host completes. All over definitions.
+#![tactic(auto)]
+
+mod laws;
+mod texts;
+
+pub use laws::{
+    at_sites, backward, forward, lends_still, native_completes, not_entered, steps_again,
+};

@@ -1,0 +1,190 @@
+-- A frame that is noted, and a new pair.
+use Rattle.std.proofs.Common.{◌≡◌, ◌≢◌, ℕ, zero, suc, ◌+◌, ◌^◌, ◌<◌, ◌≤◌, ◌⊎◌, List, [], ◌∷◌, ◌++◌, length, replicate, get_or, slice_set, Bool, true, false, not, ◌||◌, ◌&&◌, cond, eqb, Option, Some, None, refl, sym, ap, ◌∙◌, subst, inl, inr, arith}
+use Rattle.std.proofs.lemmas.Bool.Decides.{eqb_tells}
+use Rattle.frame_pool.specs.declared.Pool.{Pool}
+use Rattle.frame_pool.specs.Held.{times, Holds, Owns, Writes, Moves, SameIn}
+use Rattle.frame_pool.proofs.Held.{Holds-writes, Writes-trans, Moves-kept}
+use Rattle.shadow_tables.specs.Slots.{Slot, barred, is_among, ArePart, held, slot_at, SameSlots, LosesWrites, IsShadow, IsEmpty}
+use Rattle.shadow_tables.specs.Laws.Views.{held-stays, slot_at-stays, IsShadow-stays}
+use Rattle.shadow_cache.specs.Pairs.{no_tables, reads, any_reads, tables_of, frames_of, AreShadows, AreSized, BarsWrites, AllBarWrites, IsRoots}
+use Rattle.shadow_cache.specs.Others.{AreKept, AllLoseWrites}
+use Rattle.shadow_cache.specs.declared.pair.Pair.{Pair}
+use Rattle.shadow_cache.specs.Laws.{frames-cons, times-frames, kept-same, kept-shadows, kept-frames, tables-any}
+use Rattle.shadow_cache.proofs.Leaving.{none-frames}
+use Rattle.shadow_cache.proofs.Barring.{rest-holds}
+use Rattle.shadow_cache.proofs.Present.{none-some, apart, write-frames, write-memory}
+use Rattle.shadow_cache.proofs.Beside.{reads-set, reads-there, no-reads, no-length}
+
+-- ---- a new pair
+
+append-none : (fs : List ℕ) → fs ++ [] ≡ fs
+append-none [] = refl
+append-none (f ∷ fs) = ap (λ (gs : List ℕ). f ∷ gs) (append-none fs)
+
+pub alone-frames : (p : Pair) (ps : List Pair) (m : List ℕ) → ps ≡ [] → frames_of (p ∷ ps) m ≡ held p.shadow m
+alone-frames p ps m e =
+    ap (λ (qs : List Pair). frames_of (p ∷ qs) m) e ∙ frames-cons p [] m ∙ ap (λ (fs : List ℕ). held p.shadow m ++ fs) (none-frames m) ∙ append-none (held p.shadow m)
+
+pub fresh-roots : (p : Pair) (ps : List Pair) (m : List ℕ) → ps ≡ [] → IsEmpty p.shadow m → p.tables ≡ no_tables → IsRoots (p ∷ ps) m
+fresh-roots p ps m e f t =
+    subst (λ (qs : List Pair). IsRoots (p ∷ qs) m) (sym e) (record {
+      few = omega arith;
+      holds = subst (Holds m) (sym (alone-frames p [] m refl)) f.shadow.holds;
+      shadows = (f.shadow, tt);
+      sized = (ap (λ (bs : List Bool). length bs) t ∙ no-length, tt);
+      barred = (λ page slot l q y. absurd (none-some slot (sym (f.none page l) ∙ q)), tt);
+    })
+
+-- ---- a right to write that goes
+
+abbrev one : ℕ → List ℕ
+one frame = frame ∷ []
+
+out : (a b : Bool) → b ≡ true → (a && not (b || false)) ≡ false
+out true true e = refl
+out false b e = refl
+out true false e = cc
+
+clear : (a b : Bool) → a ≡ false → (a && b) ≡ false
+clear true b e = cc
+clear false b e = refl
+
+abbrev Bars : (ℕ → Bool) → Option Slot → Type 0
+Bars test o = (slot : Slot) → o ≡ Some slot → test slot.entry.frame ≡ true → slot.writes ≡ false
+
+same-slot : (a b : Slot) → Some a ≡ Some b → a ≡ b
+same-slot a b e = cc
+
+bars-one : (t u : ℕ → Bool) (frame : ℕ) (o : Option Slot) → ((x : ℕ) → u x ≡ true → (x ≡ frame) ⊎ (t x ≡ true)) → Bars t o → Bars u (barred (one frame) o)
+bars-one t u frame None i b = λ slot e y. absurd (none-some slot e)
+bars-one t u frame (Some s) i b = λ slot e y.
+    let q = same-slot (record s { writes = s.writes && not (eqb s.entry.frame frame || false) }) slot e in
+    let z : u s.entry.frame ≡ true = ap (λ (x : Slot). u x.entry.frame) q ∙ y in
+    sym (ap (λ (x : Slot). x.writes) q) ∙ elim (i s.entry.frame z) [
+      | inl same ↦ elim (eqb_tells s.entry.frame frame) [ inl k ↦ out s.writes (eqb s.entry.frame frame) k.0 | inr k ↦ absurd (k.1 same) ]
+      | inr old ↦ clear s.writes (not (eqb s.entry.frame frame || false)) (b s refl old)
+    ]
+
+bars-noted : (t u : ℕ → Bool) (frame : ℕ) (f f' : ℕ → Option Slot) → ((x : ℕ) → u x ≡ true → (x ≡ frame) ⊎ (t x ≡ true)) → LosesWrites f f' (one frame) → BarsWrites t f → BarsWrites u f'
+bars-noted t u frame f f' i l b = λ page slot low e y. bars-one t u frame (f page) i (λ s q z. b page s low q z) slot (sym (l page low) ∙ e) y
+
+all-noted : (t u : ℕ → Bool) (frame : ℕ) (ps : List Pair) (m m' : List ℕ) → ((x : ℕ) → u x ≡ true → (x ≡ frame) ⊎ (t x ≡ true)) → AllLoseWrites ps m m' frame → AllBarWrites t ps m → AllBarWrites u ps m'
+all-noted t u frame [] m m' i l b = tt
+all-noted t u frame (p ∷ ps) m m' i l b = (bars-noted t u frame (slot_at p.shadow m) (slot_at p.shadow m') i l.0 b.0, all-noted t u frame ps m m' i l.1 b.1)
+
+all-lose : (ps : List Pair) (m m1 m2 : List ℕ) (frame : ℕ) → AreKept ps m m1 → AllLoseWrites ps m1 m2 frame → AllLoseWrites ps m m2 frame
+all-lose [] m m1 m2 frame k l = tt
+all-lose (p ∷ ps) m m1 m2 frame k l = ((λ page h. l.0 page h ∙ ap (barred (one frame)) (k.2 page h)), all-lose ps m m1 m2 frame k.3 l.1)
+
+or-none : (c : Bool) → (c || false) ≡ c
+or-none true = refl
+or-none false = refl
+
+or-true : (a : Bool) → (a || true) ≡ true
+or-true true = refl
+or-true false = refl
+
+length-set : (bits : List Bool) (i : ℕ) (v : Bool) → length (slice_set bits i v) ≡ length bits
+length-set [] i v = refl
+length-set (b ∷ bs) zero v = refl
+length-set (b ∷ bs) (suc i) v = ap suc (length-set bs i v)
+
+-- the same right goes by all frames that are tracked then
+flags : (a b c : Bool) → (a ≡ true → b ≡ c) → (a && not (b || false)) ≡ (a && not c)
+flags false b c h = refl
+flags true b c h = ap (λ x. not (x || false)) (h refl) ∙ ap not (or-none c)
+
+flip : (a : Bool) → (a ≡ true → ⊥) → a ≡ false
+flip true h = absurd (h refl)
+flip false h = refl
+
+-- ---- a frame that is noted
+
+abbrev pub noted : Pair → ℕ → Pair
+noted p frame = record p { tables = slice_set p.tables frame true }
+
+module _ (p : Pair) (ps : List Pair) (m m1 m2 : List ℕ) (frame : ℕ) (h : IsRoots (p ∷ ps) m) (low : frame < 16384)
+    (s1 : IsShadow p.shadow m1) (l1 : LosesWrites (slot_at p.shadow m) (slot_at p.shadow m1) (frame ∷ [])) (e1 : held p.shadow m1 ≡ held p.shadow m) (w1 : Writes (held p.shadow m) m m1) where
+  kept1 : AreKept ps m m1
+  kept1 = kept-same ps m m1 h.shadows.1 (apart p ps m m1 h s1 e1 w1)
+
+  frames1 : frames_of (p ∷ ps) m1 ≡ frames_of (p ∷ ps) m
+  frames1 = write-frames p ps m m1 h s1 e1 w1
+
+  holds1 : Holds m1 (frames_of (p ∷ ps) m1)
+  holds1 = subst (Holds m1) (sym frames1) (Holds-writes (frames_of (p ∷ ps) m) m m1 h.holds w1.size)
+
+  pub note-shadows : AreShadows ps m1
+  note-shadows = kept-shadows ps m m1 kept1
+
+  pub note-holds : Holds m1 (frames_of ps m1)
+  note-holds = rest-holds p ps m1 holds1
+
+  size : length (slice_set p.tables frame true) ≡ 16384
+  size = length-set p.tables frame true ∙ h.sized.0
+
+  any-noted : (x : ℕ) → any_reads (noted p frame ∷ ps) x ≡ true → (x ≡ frame) ⊎ (any_reads (p ∷ ps) x ≡ true)
+  any-noted x e = elim (reads-set p.tables frame x true) [ inl s ↦ inr (sym (ap (λ b. b || any_reads ps x) s) ∙ e) | inr t ↦ inl t.0 ]
+
+  module _ (shadows2 : AreShadows ps m2) (frames2 : frames_of ps m2 ≡ frames_of ps m1) (l2 : AllLoseWrites ps m1 m2 frame) (w2 : Writes (frames_of ps m1) m1 m2) where
+    apart2 : SameIn (held p.shadow m1) m1 m2
+    apart2 = record { size = w2.size; frames = λ f k. w2.others f (let t = times-frames f p ps m1 in let o = holds1.once f in omega (arith, t, o, k)) }
+
+    pub note-loses : LosesWrites (slot_at p.shadow m) (slot_at p.shadow m2) (frame ∷ [])
+    note-loses page l = slot_at-stays p.shadow m1 m2 s1 apart2 page l ∙ l1 page l
+
+    pub note-frames : frames_of (noted p frame ∷ ps) m2 ≡ frames_of (p ∷ ps) m
+    note-frames =
+        frames-cons (noted p frame) ps m2
+        ∙ ap (λ (fs : List ℕ). fs ++ frames_of ps m2) (held-stays p.shadow m1 m2 s1 apart2)
+        ∙ ap (λ (fs : List ℕ). held p.shadow m1 ++ fs) frames2
+        ∙ sym (frames-cons p ps m1) ∙ frames1
+
+    more : Writes (frames_of (p ∷ ps) m1) m1 m2
+    more = record { size = w2.size; others = λ g z. w2.others g (let t = times-frames g p ps m1 in omega (arith, t, z)) }
+
+    pub note-memory : Writes (frames_of (p ∷ ps) m) m m2
+    note-memory =
+        Writes-trans (frames_of (p ∷ ps) m) m m1 m2 (write-memory p ps m m1 h s1 e1 w1) (subst (λ (fs : List ℕ). Writes fs m1 m2) frames1 more)
+
+    pub note-moves : (pool : Pool) → Owns pool m (frames_of (p ∷ ps) m) → Moves pool pool m m2 (frames_of (p ∷ ps) m) (frames_of (noted p frame ∷ ps) m2)
+    note-moves pool o = Moves-kept pool m m2 (frames_of (p ∷ ps) m) (frames_of (noted p frame ∷ ps) m2) o note-frames note-memory
+
+    pub note-roots : IsRoots (noted p frame ∷ ps) m2
+    note-roots =
+        record {
+          few = h.few;
+          holds = subst (Holds m2) (sym note-frames) (Holds-writes (frames_of (p ∷ ps) m) m m2 h.holds note-memory.size);
+          shadows = (IsShadow-stays p.shadow m1 m2 s1 apart2, shadows2);
+          sized = (size, h.sized.1);
+          barred = (
+            bars-noted (any_reads (p ∷ ps)) (any_reads (noted p frame ∷ ps)) frame (slot_at p.shadow m) (slot_at p.shadow m2) any-noted note-loses h.barred.0,
+            all-noted (any_reads (p ∷ ps)) (any_reads (noted p frame ∷ ps)) frame ps m m2 any-noted (all-lose ps m m1 m2 frame kept1 l2) h.barred.1,
+          );
+        }
+
+    any-is : (x : ℕ) → any_reads (p ∷ ps) x ≡ false → eqb x frame ≡ any_reads (noted p frame ∷ ps) x
+    any-is x e =
+        elim (eqb_tells x frame) [
+          | inl t ↦
+              let z = h.sized.0 in
+              t.0 ∙ sym (ap (λ y. get_or (slice_set p.tables frame true) y false || any_reads ps y) t.1 ∙ ap (λ b. b || any_reads ps frame) (reads-there p.tables frame true (omega (arith, z, low))))
+          | inr t ↦ t.0 ∙ sym (flip (any_reads (noted p frame ∷ ps) x) (λ y. elim (any-noted x y) [ inl s ↦ t.1 s | inr s ↦ (let q : false ≡ true = sym e ∙ s in cc) ]))
+        ]
+
+    same-rights : (o : Option Slot) → Bars (any_reads (p ∷ ps)) o → barred (frame ∷ []) o ≡ barred (tables_of (noted p frame ∷ ps)) o
+    same-rights None b = refl
+    same-rights (Some s) b =
+        ap (λ w. Some (record s { writes = w })) (flags s.writes (eqb s.entry.frame frame) (is_among s.entry.frame (tables_of (noted p frame ∷ ps))) (λ y.
+        any-is s.entry.frame (flip (any_reads (p ∷ ps) s.entry.frame) (λ z. (let q : true ≡ false = sym y ∙ b s refl z in cc)))
+        ∙ sym (tables-any (noted p frame ∷ ps) s.entry.frame)))
+
+    pub note-slots : LosesWrites (slot_at p.shadow m) (slot_at p.shadow m2) (tables_of (noted p frame ∷ ps))
+    note-slots page l = note-loses page l ∙ same-rights (slot_at p.shadow m page) (λ s e y. h.barred.0 page s l e y)
+
+    pub note-tracked : ArePart (tables_of (noted p frame ∷ ps)) (frame ∷ tables_of (p ∷ ps))
+    note-tracked f e =
+        elim (any-noted f (sym (tables-any (noted p frame ∷ ps) f) ∙ e)) [
+          | inl s ↦ elim (eqb_tells f frame) [ inl t ↦ ap (λ b. b || is_among f (tables_of (p ∷ ps))) t.0 | inr t ↦ absurd (t.1 s) ]
+          | inr s ↦ ap (λ b. eqb f frame || b) (tables-any (p ∷ ps) f ∙ s) ∙ or-true (eqb f frame)
+        ]

@@ -1,0 +1,16 @@
+use Rattle.std.proofs.Common.{◌≡◌, ℕ, List, [], sym, ap, ◌∙◌, subst}
+use Rattle.std.proofs.lemmas.Grind.{merely}
+use Rattle.frame_pool.specs.Held.{Owns, Moves}
+use Rattle.shadow_cache.specs.Pairs.{frames_of}
+use Rattle.shadow_cache.proofs.Noting.{alone-frames, fresh-roots}
+use Rattle.shadow_cache.proofs.roots.Roots.new.Goals as goal
+
+pub returns-clause-stands : goal.returns-clause-stands
+returns-clause-stands c = let e = c.new-present.ensures in merely (fresh-roots c.new-present.result c.in_ok-others.others c.new-present.new.ram c.in_ok-others.ensures e.empty e.tables)
+
+pub returns-clause-owns : goal.returns-clause-owns
+returns-clause-owns c = subst (Owns c.new-present.new.pool c.new-present.new.ram) (sym (alone-frames c.new-present.result c.in_ok-others.others c.new-present.new.ram c.in_ok-others.ensures)) c.new-present.ensures.owns
+
+pub returns-clause-moves : goal.returns-clause-moves
+returns-clause-moves c =
+    subst (Moves c.args.pool.now c.new-present.new.pool c.args.ram.now c.new-present.new.ram []) (sym (alone-frames c.new-present.result c.in_ok-others.others c.new-present.new.ram c.in_ok-others.ensures)) c.new-present.ensures.moves

@@ -1,0 +1,38 @@
+use Rattle.std.proofs.Common.{◌≡◌, ℕ, ◌+◌, ◌<◌, ◌≤◌, List, [], ◌∷◌, length, take, remove, slice_get, cond, MatchOption, true, false, Option, Some, None, refl, sym, ap, ◌∙◌, subst, arith}
+use Rattle.std.proofs.lemmas.Grind.{merely}
+use Rattle.frame_pool.specs.Held.{Holds, Owns, Moves}
+use Rattle.frame_pool.proofs.Held.{Owns-moves, Moves-trans, Moves-refl, Holds-from_Owns}
+use Rattle.shadow_cache.specs.Pairs.{reads, any_reads, frames_of, AreShadows, AreSized, AllBarWrites, IsRoots}
+use Rattle.shadow_cache.specs.Others.{AreKept, place_of}
+use Rattle.shadow_cache.specs.Switched.{staying, IsFresh, Opens, ComesBack, Comes}
+use Rattle.shadow_cache.specs.Roots.{pairs_of}
+use Rattle.shadow_cache.specs.Laws.{had, kept-shadows, kept-barred}
+use Rattle.shadow_cache.specs.declared.pair.Pair.{Pair}
+use Rattle.shadow_cache.proofs.Leaving.{kept-refl, leaves-owns, leaves-kept, leaves-moves}
+use Rattle.shadow_cache.proofs.Beside.{or-right}
+use Rattle.shadow_cache.proofs.Coming.{sub-roots, sized-remove, barred-remove, any-remove, front-roots, front-moves, last-leaves, none-leaves, take-few, open-kept, open-moves, open-roots, comes-after}
+use Rattle.shadow_cache.proofs.roots.Roots.switch.Goals as goal
+
+pub put_by-requires : goal.put_by-requires
+put_by-requires c = record { roots = had (pairs_of c.args.self.now) c.args.ram.now c.requires.stands; owns = c.requires.owns }
+
+pub come-self-requires-clause-owns : goal.come-self-requires-clause-owns
+come-self-requires-clause-owns c =
+    Owns-moves c.args.pool.now c.put_by.new.pool c.args.ram.now c.put_by.new.ram (frames_of (pairs_of c.args.self.now) c.args.ram.now) (frames_of c.put_by.new.others c.put_by.new.ram) c.requires.owns c.put_by.ensures.moves
+
+pub returns-clause-switched : goal.returns-clause-switched
+returns-clause-switched c =
+    let ps = pairs_of c.args.self.now in let qs : List Pair = c.come-self.result ∷ c.come-self.new.others in
+    let m = c.args.ram.now in let m1 = c.put_by.new.ram in let m2 = c.come-self.new.ram in
+    let a = c.put_by.ensures in
+    subst (λ (xs : List Pair). Comes xs qs m m2 c.args.cr3) a.staying (comes-after c.put_by.new.others qs m m1 m2 c.args.cr3 a.kept c.come-self.ensures.comes)
+
+pub returns-clause-moves : goal.returns-clause-moves
+returns-clause-moves c =
+    Moves-trans c.args.pool.now c.put_by.new.pool c.come-self.new.pool c.args.ram.now c.put_by.new.ram c.come-self.new.ram (frames_of (pairs_of c.args.self.now) c.args.ram.now)
+    (frames_of c.put_by.new.others c.put_by.new.ram) (frames_of (c.come-self.result ∷ c.come-self.new.others) c.come-self.new.ram) c.put_by.ensures.moves c.come-self.ensures.moves
+
+pub returns-clause-owns : goal.returns-clause-owns
+returns-clause-owns c =
+    Owns-moves c.args.pool.now c.come-self.new.pool c.args.ram.now c.come-self.new.ram (frames_of (pairs_of c.args.self.now) c.args.ram.now)
+    (frames_of (c.come-self.result ∷ c.come-self.new.others) c.come-self.new.ram) c.requires.owns (returns-clause-moves c)

@@ -1,0 +1,174 @@
+-- The proofs of the laws of `Roots`. They stand here since an impl of the trait may name this folder alone.
+use Rattle.std.proofs.Common.{◌≡◌, ◌≢◌, ℕ, zero, suc, ◌+◌, ◌*◌, ◌^◌, ◌<◌, ◌≤◌, List, [], ◌∷◌, ◌++◌, length, length-append, get_or, Bool, true, false, ◌||◌, cond, eqb, Option, Some, None, refl, sym, ap, ◌∙◌, subst, inl, inr, add-zero, arith}
+use Rattle.std.proofs.Props.{props}
+use Rattle.std.proofs.Math.Logic.{∥∥₁_elim, ∥∥₁_map}
+use Rattle.std.proofs.lemmas.Bool.Decides.{eqb_tells}
+use Rattle.std.proofs.lemmas.Grind.{merely}
+use Rattle.std.specs.Coded.{Unit-prop}
+use mathlib.Core.HLevel.{Π_prop, ×_prop}
+use Rattle.frame_pool.specs.Held.{times, Holds, Writes, SameIn}
+use Rattle.frame_pool.proofs.Lengths.{times-append}
+use Rattle.frame_pool.proofs.Held.{Holds-writes}
+use Rattle.frame_pool.proofs.Props.{Holds-prop}
+use Rattle.paging.specs.Reached.{reached, walk_frames}
+use Rattle.shadow_tables.specs.Host.{lent}
+use Rattle.shadow_tables.specs.Slots.{Slot, is_among, held, slot_at, root_of, SameSlots, IsShadow}
+use Rattle.shadow_tables.specs.declared.words.Side.{Side}
+use Rattle.shadow_tables.specs.Laws as below
+use Rattle.shadow_tables.specs.Laws.Views.{held-stays, slot_at-stays, IsShadow-stays}
+use Rattle.shadow_tables.specs.Laws.Props.{IsShadow-prop}
+use Rattle.shadow_cache.specs.Pairs.{reads, any_reads, places_from, tables_of, frames_of, AreShadows, AreSized, BarsWrites, AllBarWrites, IsRoots}
+use Rattle.shadow_cache.specs.Others.{AreKept}
+use Rattle.shadow_cache.specs.declared.pair.Pair.{Pair}
+
+-- ---- at most one proof
+
+AreShadows-prop : (ps : List Pair) (m : List ℕ) → IsProp (AreShadows ps m)
+AreShadows-prop [] m = Unit-prop
+AreShadows-prop (p ∷ ps) m = ×_prop (IsShadow-prop p.shadow m) (AreShadows-prop ps m)
+
+AreSized-prop : (ps : List Pair) → IsProp (AreSized ps)
+AreSized-prop [] = Unit-prop
+AreSized-prop (p ∷ ps) = let here : IsProp (length p.tables ≡ 16384) = Prim.hlevel props in ×_prop here (AreSized-prop ps)
+
+AllBarWrites-prop : (test : ℕ → Bool) (ps : List Pair) (m : List ℕ) → IsProp (AllBarWrites test ps m)
+AllBarWrites-prop test [] m = Unit-prop
+AllBarWrites-prop test (p ∷ ps) m =
+    let last : (slot : Slot) → IsProp (slot.writes ≡ false) = λ slot. Prim.hlevel props in
+    ×_prop (Π_prop (λ page. Π_prop (λ slot. Π_prop (λ _. Π_prop (λ _. Π_prop (λ _. last slot)))))) (AllBarWrites-prop test ps m)
+
+IsRoots-prop : (ps : List Pair) (m : List ℕ) → IsProp (IsRoots ps m)
+IsRoots-prop ps m x y =
+    let few_prop : IsProp (length ps ≤ 8) = Prim.hlevel props in
+    λ i. record {
+      few = few_prop x.few y.few i;
+      holds = Holds-prop m (frames_of ps m) x.holds y.holds i;
+      shadows = AreShadows-prop ps m x.shadows y.shadows i;
+      sized = AreSized-prop ps x.sized y.sized i;
+      barred = AllBarWrites-prop (any_reads ps) ps m x.barred y.barred i;
+    }
+
+pub had : (ps : List Pair) (m : List ℕ) → ∥ IsRoots ps m ∥₁ → IsRoots ps m
+had ps m h = ∥∥₁_elim h (IsRoots-prop ps m) (λ x. x)
+
+-- ---- the frames of all
+
+pub frames-cons : (p : Pair) (ps : List Pair) (m : List ℕ) → frames_of (p ∷ ps) m ≡ held p.shadow m ++ frames_of ps m
+unfolding frames_of
+frames-cons p ps m = refl
+
+pub times-frames : (f : ℕ) (p : Pair) (ps : List Pair) (m : List ℕ) → times f (frames_of (p ∷ ps) m) ≡ times f (held p.shadow m) + times f (frames_of ps m)
+times-frames f p ps m = ap (times f) (frames-cons p ps m) ∙ times-append f (held p.shadow m) (frames_of ps m)
+
+pub same-first : (p : Pair) (ps : List Pair) (m m' : List ℕ) → SameIn (frames_of (p ∷ ps) m) m m' → SameIn (held p.shadow m) m m'
+same-first p ps m m' e = record { size = e.size; frames = λ f h. e.frames f (let t = times-frames f p ps m in omega (arith, t, h)) }
+
+pub same-rest : (p : Pair) (ps : List Pair) (m m' : List ℕ) → SameIn (frames_of (p ∷ ps) m) m m' → SameIn (frames_of ps m) m m'
+same-rest p ps m m' e = record { size = e.size; frames = λ f h. e.frames f (let t = times-frames f p ps m in omega (arith, t, h)) }
+
+-- ---- pairs that keep what they kept
+
+pub kept-same : (ps : List Pair) (m m' : List ℕ) → AreShadows ps m → SameIn (frames_of ps m) m m' → AreKept ps m m'
+kept-same [] m m' h e = tt
+kept-same (p ∷ ps) m m' h e =
+    let here = same-first p ps m m' e in
+    (IsShadow-stays p.shadow m m' h.0 here, held-stays p.shadow m m' h.0 here, λ page l. slot_at-stays p.shadow m m' h.0 here page l, kept-same ps m m' h.1 (same-rest p ps m m' e))
+
+pub kept-shadows : (ps : List Pair) (m m' : List ℕ) → AreKept ps m m' → AreShadows ps m'
+kept-shadows [] m m' k = tt
+kept-shadows (p ∷ ps) m m' k = (k.0, kept-shadows ps m m' k.3)
+
+pub kept-frames : (ps : List Pair) (m m' : List ℕ) → AreKept ps m m' → frames_of ps m' ≡ frames_of ps m
+unfolding frames_of
+kept-frames [] m m' k = refl
+kept-frames (p ∷ ps) m m' k = ap (λ (fs : List ℕ). fs ++ frames_of ps m') k.1 ∙ ap (λ (fs : List ℕ). held p.shadow m ++ fs) (kept-frames ps m m' k.3)
+
+pub bars-same : (test : ℕ → Bool) (f f' : ℕ → Option Slot) → SameSlots f f' → BarsWrites test f → BarsWrites test f'
+bars-same test f f' s b = λ page slot l e t. b page slot l (sym (s page l) ∙ e) t
+
+pub kept-barred : (test : ℕ → Bool) (ps : List Pair) (m m' : List ℕ) → AreKept ps m m' → AllBarWrites test ps m → AllBarWrites test ps m'
+kept-barred test [] m m' k b = tt
+kept-barred test (p ∷ ps) m m' k b = (bars-same test (slot_at p.shadow m) (slot_at p.shadow m') k.2 b.0, kept-barred test ps m m' k.3 b.1)
+
+roots-stay : (ps : List Pair) (m m' : List ℕ) → IsRoots ps m → SameIn (frames_of ps m) m m' → IsRoots ps m'
+roots-stay ps m m' h e =
+    let k = kept-same ps m m' h.shadows e in
+    record {
+      few = h.few;
+      holds = subst (Holds m') (sym (kept-frames ps m m' k)) (Holds-writes (frames_of ps m) m m' h.holds e.size);
+      shadows = kept-shadows ps m m' k;
+      sized = h.sized;
+      barred = kept-barred (any_reads ps) ps m m' k h.barred;
+    }
+
+-- ---- the frames that were read as tables
+
+or-assoc : (a b c : Bool) → (a || (b || c)) ≡ ((a || b) || c)
+or-assoc true b c = refl
+or-assoc false b c = refl
+
+among-append : (f : ℕ) (gs hs : List ℕ) → is_among f (gs ++ hs) ≡ (is_among f gs || is_among f hs)
+among-append f [] hs = refl
+among-append f (g ∷ gs) hs = ap (λ b. eqb f g || b) (among-append f gs hs) ∙ or-assoc (eqb f g) (is_among f gs) (is_among f hs)
+
+places-above : (f n : ℕ) (bits : List Bool) → f < n → is_among f (places_from n bits) ≡ false
+unfolding places_from
+places-above f n [] l = refl
+places-above f n (true ∷ bs) l =
+    elim (eqb_tells f n) [ inl t ↦ absurd (let e = t.1 in omega (arith, e, l)) | inr t ↦ ap (λ b. b || is_among f (places_from (suc n) bs)) t.0 ∙ places-above f (suc n) bs (omega (arith, l)) ]
+places-above f n (false ∷ bs) l = places-above f (suc n) bs (omega (arith, l))
+
+places-are : (f n i : ℕ) (bits : List Bool) → f ≡ n + i → is_among f (places_from n bits) ≡ get_or bits i false
+unfolding places_from
+places-are f n i [] e = refl
+places-are f n zero (true ∷ bs) e =
+    elim (eqb_tells f n) [ inl t ↦ ap (λ b. b || is_among f (places_from (suc n) bs)) t.0 | inr t ↦ absurd (t.1 (omega (arith, e))) ]
+places-are f n zero (false ∷ bs) e = places-above f (suc n) bs (omega (arith, e))
+places-are f n (suc i) (true ∷ bs) e =
+    elim (eqb_tells f n) [
+      | inl t ↦ absurd (let q = t.1 in omega (arith, e, q))
+      | inr t ↦ ap (λ b. b || is_among f (places_from (suc n) bs)) t.0 ∙ places-are f (suc n) i bs (omega (arith, e))
+    ]
+places-are f n (suc i) (false ∷ bs) e = places-are f (suc n) i bs (omega (arith, e))
+
+pub tables-any : (ps : List Pair) (f : ℕ) → is_among f (tables_of ps) ≡ any_reads ps f
+tables-any [] f = refl
+tables-any (p ∷ ps) f =
+    among-append f (places_from 0 p.tables) (tables_of ps)
+    ∙ ap (λ b. b || is_among f (tables_of ps)) (places-are f 0 f p.tables (omega arith))
+    ∙ ap (λ b. reads p f || b) (tables-any ps f)
+
+-- ---- the laws
+
+pub lies : (ps : List Pair) (m : List ℕ) → ∥ IsRoots ps m ∥₁ → Holds m (frames_of ps m)
+lies ps m h = (had ps m h).holds
+
+pub two : (p : Pair) (ps : List Pair) (m : List ℕ) → 2 ≤ length (frames_of (p ∷ ps) m)
+two p ps m =
+    let a = below.held-roots p.shadow m in let b = length-append (held p.shadow m) (frames_of ps m) in
+    let c = ap (λ (fs : List ℕ). length fs) (frames-cons p ps m) in omega (arith, a, b, c)
+
+shadow : (p : Pair) (ps : List Pair) (m : List ℕ) → ∥ IsRoots (p ∷ ps) m ∥₁ → ∥ IsShadow p.shadow m ∥₁
+shadow p ps m h = ∥∥₁_map h (λ x. x.shadows.0)
+
+pub walked : (p : Pair) (ps : List Pair) (m : List ℕ) (side : Side) (page f : ℕ) → ∥ IsRoots (p ∷ ps) m ∥₁ → page < 2 ^ 20 → 1 ≤ times f (walk_frames m (root_of p.shadow side) page) → 1 ≤ times f (frames_of (p ∷ ps) m)
+walked p ps m side page f h l i =
+    let a = below.walked p.shadow m side page f (shadow p ps m h) l i in let t = times-frames f p ps m in omega (arith, a, t)
+
+pub host : (p : Pair) (ps : List Pair) (m : List ℕ) (n : ℕ) (side : Side) (page : ℕ) (write : Bool) → ∥ IsRoots (p ∷ ps) m ∥₁ → 4096 * n ≡ length m → page < 2 ^ 20 → reached m n (root_of p.shadow side) page write ≡ lent n (slot_at p.shadow m page) side write
+host p ps m n side page write h e l = below.host p.shadow m n side page write (shadow p ps m h) e l
+
+pub fits : (p : Pair) (ps : List Pair) (m : List ℕ) (page : ℕ) (slot : Slot) → ∥ IsRoots (p ∷ ps) m ∥₁ → page < 2 ^ 20 → slot_at p.shadow m page ≡ Some slot → (slot.entry.page ≡ page) × (slot.entry.frame < 2 ^ 20)
+fits p ps m page slot h l e = below.fits p.shadow m page slot (shadow p ps m h) l e
+
+pub barred : (p : Pair) (ps : List Pair) (m : List ℕ) (page : ℕ) (slot : Slot) → ∥ IsRoots (p ∷ ps) m ∥₁ → page < 2 ^ 20 → slot_at p.shadow m page ≡ Some slot → is_among slot.entry.frame (tables_of (p ∷ ps)) ≡ true → slot.writes ≡ false
+barred p ps m page slot h l e t = (had (p ∷ ps) m h).barred.0 page slot l e (sym (tables-any (p ∷ ps) slot.entry.frame) ∙ t)
+
+pub stays : (ps : List Pair) (m m' : List ℕ) → ∥ IsRoots ps m ∥₁ → SameIn (frames_of ps m) m m' → ∥ IsRoots ps m' ∥₁
+stays ps m m' h e = ∥∥₁_map h (λ x. roots-stay ps m m' x e)
+
+pub same-frames : (ps : List Pair) (m m' : List ℕ) → ∥ IsRoots ps m ∥₁ → SameIn (frames_of ps m) m m' → frames_of ps m' ≡ frames_of ps m
+same-frames ps m m' h e = kept-frames ps m m' (kept-same ps m m' (had ps m h).shadows e)
+
+pub same-slots : (p : Pair) (ps : List Pair) (m m' : List ℕ) → ∥ IsRoots (p ∷ ps) m ∥₁ → SameIn (frames_of (p ∷ ps) m) m m' → SameSlots (slot_at p.shadow m) (slot_at p.shadow m')
+same-slots p ps m m' h e = (kept-same (p ∷ ps) m m' (had (p ∷ ps) m h).shadows e).2

@@ -1,0 +1,6 @@
+pub mod Keyed
+pub mod Pairs
+pub mod Others
+pub mod Switched
+pub mod Roots
+pub mod Laws

@@ -1,0 +1,88 @@
+ghost use Rattle.std.specs.Prelude.{◌≡◌, ◌≤◌, ◌<◌, [], length, false, true, slice_set, if◌then◌else◌};
+ghost use Rattle.frame_pool.specs.Pool.{free_list, Stands};
+ghost use Rattle.frame_pool.specs.Held.{Owns, Moves};
+ghost use Rattle.shadow_cache.specs.Pairs.{no_tables, reads};
+ghost use Rattle.shadow_tables.specs.Slots.{held, IsEmpty};
+
+use frame_pool::Pool;
+use guest_ram::Ram;
+use shadow_tables::Shadow;
+
+/// Guest frames that may hold tables: those of 64 MB.
+pub const FRAMES: usize = 16384;
+
+/// The views of one value of CR3.
+#[derive(Clone, Copy)]
+pub struct Pair {
+    pub cr3: u32,
+    pub shadow: Shadow,
+    /// By its number, whether the guest's tables were read from a frame.
+    pub tables: [bool; FRAMES],
+    /// A table of it was written since.
+    pub marked: bool,
+}
+
+impl Pair {
+    /// Views that keep nothing, of tables that weren't read yet.
+    #[tactic(auto, unfolding(crate::specs::Pairs::no_tables))]
+    pub fn new(ram: &mut Ram, pool: &mut Pool, cr3: u32) -> Pair
+        requires stands { Stands pool.old ram.old }
+        requires free { 2 ≤ length (free_list pool.old ram.old) }
+        ensures cr3 { result.cr3 ≡ cr3 }
+        ensures empty { IsEmpty result.shadow ram.new }
+        ensures tables { result.tables ≡ no_tables }
+        ensures marked { result.marked ≡ false }
+        ensures owns { Owns pool.new ram.new (held result.shadow ram.new) }
+        ensures moves { Moves pool.old pool.new ram.old ram.new [] (held result.shadow ram.new) }
+    {
+        Pair {
+            cr3,
+            shadow: Shadow::new(ram, pool),
+            tables: [false; FRAMES],
+            marked: false,
+        }
+    }
+
+    /// The guest's tables were read from this frame.
+    pub fn reads(&self, frame: u32) -> bool
+        ensures { result ≡ reads self.now frame }
+    {
+        match self.tables.get(frame as usize) {
+            Some(read) => *read,
+            None => false,
+        }
+    }
+
+    /// The pair as new, with the same views.
+    #[tactic(auto, unfolding(crate::specs::Pairs::no_tables))]
+    pub fn emptied(self) -> Pair
+        ensures { result ≡ record self { tables = no_tables; marked = false } }
+    {
+        Pair {
+            cr3: self.cr3,
+            shadow: self.shadow,
+            tables: [false; FRAMES],
+            marked: false,
+        }
+    }
+
+    /// The guest's tables were read from this frame too.
+    pub fn noted(mut self, frame: u32) -> Pair
+        requires { frame < 16384 }
+        ensures { result ≡ record self { tables = slice_set self.tables frame true } }
+    {
+        self.tables[frame as usize] = true;
+        self
+    }
+
+    /// A byte of this frame was written, which matters where the tables were read from it.
+    pub fn written(mut self, frame: u32) -> Pair
+        ensures { result ≡ (if reads self frame then record self { tables = slice_set self.tables frame false; marked = true } else self) }
+    {
+        if self.reads(frame) {
+            self.tables[frame as usize] = false;
+            self.marked = true;
+        }
+        self
+    }
+}

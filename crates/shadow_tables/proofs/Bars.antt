@@ -1,0 +1,247 @@
+-- Taking the right to write from the words of a frame.
+use Rattle.std.proofs.Common.{◌≡◌, ◌≢◌, IsTrue, ℕ, zero, suc, ◌+◌, ◌-◌, ◌*◌, ◌/◌, ◌%◌, ◌^◌, ◌<◌, ◌≤◌, ◌⊎◌, List, [], ◌∷◌, Bool, true, false, ◌&&◌, ◌||◌, not, cond, eqb, Option, Some, None, refl, sym, ap, ◌∙◌, subst, inl, inr, arith}
+use Rattle.std.proofs.lemmas.Bool.Decides.{eqb_tells}
+use Rattle.frame_pool.specs.Held.{Holds, Writes}
+use Rattle.frame_pool.proofs.Held.{Writes-refl, Writes-trans, Holds-writes}
+use Rattle.shadow_views.specs.Tables.{dir, at, owned, IsIn, Puts}
+use Rattle.shadow_views.proofs.Changes.{at-none}
+use Rattle.shadow_tables.specs.Slots.{Slot, barred, barred_word, has, slot_of, by_words, roots, held, slot_at, IsMarked, IsShadow, Becomes}
+use Rattle.shadow_tables.specs.Sweeps.{Sweeps}
+use Rattle.shadow_tables.specs.declared.shadow.Shadow.{Shadow}
+use Rattle.shadow_tables.specs.declared.words.Side.{Side}
+use Rattle.shadow_tables.specs.declared.words.Side.TheVariants.{Kernel, User}
+use Rattle.shadow_tables.specs.Laws.Views.{in-kernel, in-user, slot-same, Holds-along}
+use Rattle.shadow_tables.proofs.Fills.{by-none, by-user, by-kernel, roots-apart, slot-none, both}
+use Rattle.shadow_tables.proofs.Sweeps.{sweeps-none, sweeps-more, sweeps-over, sweeps-trans}
+
+-- ---- one word
+
+pub some-table : (m : List ℕ) (r page : ℕ) → at m r page ≢ 0 → dir m r (page / 1024) ≢ 0
+some-table m r page ne = λ z. ne (at-none m r page z)
+
+pub puts-same : (m rs : List ℕ) (r page v : ℕ) → at m r page ≡ v → Puts m m rs r page v
+puts-same m rs r page v e =
+    record { writes = Writes-refl (owned m rs) m; frames = refl; dirs = λ s d i l. refl; there = e; others = λ s q i l n. refl }
+
+abbrev takes : Bool → Bool → ℕ → ℕ
+takes a b w = cond (a && b) (w - 2) w
+
+pub barred-yes : (frame w : ℕ) → w / 4096 ≡ frame → w / 2 % 2 ≡ 1 → barred_word frame w ≡ w - 2
+barred-yes frame w e h =
+    elim (eqb_tells (w / 4096) frame) [
+      | inl t ↦ elim (eqb_tells (w / 2 % 2) 1) [
+        | inl u ↦ ap (λ a. takes a (has w 2) w) t.0 ∙ ap (λ b. takes true b w) u.0
+        | inr u ↦ absurd (u.1 h)
+      ]
+      | inr t ↦ absurd (t.1 e)
+    ]
+
+pub barred-other : (frame w : ℕ) → w / 4096 ≢ frame → barred_word frame w ≡ w
+barred-other frame w n = elim (eqb_tells (w / 4096) frame) [ inl t ↦ absurd (n t.1) | inr t ↦ ap (λ a. takes a (has w 2) w) t.0 ]
+
+takes-none : (a : Bool) (w : ℕ) → takes a false w ≡ w
+takes-none true w = refl
+takes-none false w = refl
+
+pub barred-read : (frame w : ℕ) → w / 2 % 2 ≢ 1 → barred_word frame w ≡ w
+barred-read frame w n =
+    elim (eqb_tells (w / 2 % 2) 1) [ inl t ↦ absurd (n t.1) | inr t ↦ ap (λ b. takes (eqb (w / 4096) frame) b w) t.0 ∙ takes-none (eqb (w / 4096) frame) w ]
+
+pub barred-zero : (frame w : ℕ) → w ≡ 0 → barred_word frame w ≡ 0
+barred-zero frame w e = barred-read frame w (λ h. absurd (omega (arith, e, h))) ∙ e
+
+-- the word loses its right, or is as it was
+abbrev Loses : ℕ → ℕ → Type 0
+Loses frame w = ((w / 4096 ≡ frame) × (w / 2 % 2 ≡ 1) × (barred_word frame w ≡ w - 2)) ⊎ (((w / 4096 ≢ frame) ⊎ (w / 2 % 2 ≢ 1)) × (barred_word frame w ≡ w))
+
+loses : (frame w : ℕ) → Loses frame w
+loses frame w =
+    elim (eqb_tells (w / 4096) frame) [
+      | inl t ↦ elim (eqb_tells (w / 2 % 2) 1) [
+        | inl u ↦ inl (t.1, u.1, barred-yes frame w t.1 u.1)
+        | inr u ↦ inr (inr u.1, barred-read frame w u.1)
+      ]
+      | inr t ↦ inr (inl t.1, barred-other frame w t.1)
+    ]
+
+pub barred-marked : (frame w : ℕ) → IsMarked w → IsMarked (barred_word frame w)
+barred-marked frame w k =
+    let user = k.user in let fits = k.fits in
+    elim (loses frame w) [
+      | inl t ↦
+          let bit = t.1 in
+          let r = k.reads bit in
+          subst IsMarked (sym t.2) (record { user = omega (arith, bit, user); reads = λ e. omega (arith, e, bit); fits = omega (arith, fits) })
+      | inr t ↦ subst IsMarked (sym t.1) k
+    ]
+
+pub marked-some : (w : ℕ) → IsMarked w → w ≢ 0
+marked-some w k = λ e. absurd (let user = k.user in omega (arith, user, e))
+
+-- ---- what a word keeps
+
+abbrev made : Side → ℕ → ℕ → Bool → Bool → Bool → Bool → Bool → Slot
+made side page f u w d r h = record { side = side; entry = record { page = page; frame = f; user = u; write = w; dirty = d }; reads = r; writes = h }
+
+made-parts : (side : Side) (page : ℕ) {f f' : ℕ} {u u' w w' d d' r r' h h' : Bool} → f ≡ f' → u ≡ u' → w ≡ w' → d ≡ d' → r ≡ r' → h ≡ h' →
+    made side page f u w d r h ≡ made side page f' u' w' d' r' h'
+made-parts side page a b c d e g = cc
+
+bit-same : (v w n : ℕ) → v ≡ w → eqb (v % n) 1 ≡ eqb (w % n) 1
+bit-same v w n e = ap (λ x. eqb (x % n) 1) e
+
+and-true : (a : Bool) → (a && true) ≡ a
+and-true true = refl
+and-true false = refl
+
+less-writes : (frame w : ℕ) → w / 4096 ≡ frame → w / 2 % 2 ≡ 1 → has (w - 2) 2 ≡ (has w 2 && not (eqb (w / 4096) frame || false))
+less-writes frame w e h =
+    elim (eqb_tells ((w - 2) / 2 % 2) 1) [
+      | inl t ↦ absurd (let q = t.1 in omega (arith, q, h))
+      | inr t ↦ elim (eqb_tells (w / 4096) frame) [
+        | inl u ↦ elim (eqb_tells (w / 2 % 2) 1) [
+          | inl v ↦ t.0 ∙ sym (ap (λ a. a && not (eqb (w / 4096) frame || false)) v.0 ∙ ap (λ b. not (b || false)) u.0)
+          | inr v ↦ absurd (v.1 h)
+        ]
+        | inr u ↦ absurd (u.1 e)
+      ]
+    ]
+
+same-writes : (frame w : ℕ) → (w / 4096 ≢ frame) ⊎ (w / 2 % 2 ≢ 1) → has w 2 ≡ (has w 2 && not (eqb (w / 4096) frame || false))
+same-writes frame w h =
+    elim h [
+      | inl n ↦ elim (eqb_tells (w / 4096) frame) [
+        | inl u ↦ absurd (n u.1)
+        | inr u ↦ sym (ap (λ b. has w 2 && not (b || false)) u.0 ∙ and-true (has w 2))
+      ]
+      | inr n ↦ elim (eqb_tells (w / 2 % 2) 1) [
+        | inl u ↦ absurd (n u.1)
+        | inr u ↦ u.0 ∙ sym (ap (λ a. a && not (eqb (w / 4096) frame || false)) u.0)
+      ]
+    ]
+
+barred-slot : (side : Side) (page frame w : ℕ) → Some (slot_of side page (barred_word frame w)) ≡ barred (frame ∷ []) (Some (slot_of side page w))
+barred-slot side page frame w =
+    let out : Bool = has w 2 && not (eqb (w / 4096) frame || false) in
+    elim (loses frame w) [
+      | inl t ↦
+          let bit = t.1 in
+          let f : (w - 2) / 4096 ≡ w / 4096 = omega (arith, bit) in
+          let u : (w - 2) / 512 ≡ w / 512 = omega (arith, bit) in
+          let x : (w - 2) / 1024 ≡ w / 1024 = omega (arith, bit) in
+          let d : (w - 2) / 2048 ≡ w / 2048 = omega (arith, bit) in
+          let r : (w - 2) % 2 ≡ w % 2 = omega (arith, bit) in
+          ap (λ v. Some (slot_of side page v)) t.2
+          ∙ ap (λ (y : Slot). Some y) (made-parts side page f (bit-same _ _ 2 u) (bit-same _ _ 2 x) (bit-same _ _ 2 d) (ap (λ y. eqb y 1) r) (less-writes frame w t.0 bit))
+      | inr t ↦
+          ap (λ v. Some (slot_of side page v)) t.1
+          ∙ ap (λ h. Some (made side page (w / 4096) (has w 512) (has w 1024) (has w 2048) (eqb (w % 2) 1) h)) (same-writes frame w t.0)
+    ]
+
+barred-by : (page frame k u : ℕ) → (k ≢ 0 → IsMarked k) → (u ≢ 0 → IsMarked u) → by_words page (barred_word frame k) (barred_word frame u) ≡ barred (frame ∷ []) (by_words page k u)
+barred-by page frame zero zero a b = by-none page _ _ (barred-zero frame zero refl) (barred-zero frame zero refl)
+barred-by page frame zero (suc u) a b =
+    let k = barred-marked frame (suc u) (b (λ e. omega (arith, e))) in
+    by-user page _ (barred_word frame (suc u)) (barred-zero frame zero refl) (marked-some (barred_word frame (suc u)) k) ∙ barred-slot User page frame (suc u)
+barred-by page frame (suc k) u a b =
+    let m = barred-marked frame (suc k) (a (λ e. omega (arith, e))) in
+    by-kernel page (barred_word frame (suc k)) (barred_word frame u) (marked-some (barred_word frame (suc k)) m) ∙ barred-slot Kernel page frame (suc k)
+
+-- ---- a page
+
+-- what a write by a root of the shadow gives
+pub put-in : (s : Shadow) (m n : List ℕ) (r k page frame : ℕ) → Holds m (held s m) → r ≡ k → IsIn k (roots s) → ((rs : List ℕ) → Holds m (owned m rs) → IsIn r rs → Puts m n rs r page (barred_word frame (at m r page))) → Puts m n (roots s) k page (barred_word frame (at m k page))
+put-in s m n r k page frame h e i puts =
+    subst (λ x. Puts m n (roots s) x page (barred_word frame (at m x page))) e (puts (roots s) h (subst (λ x. IsIn x (roots s)) (sym e) i))
+
+pub no-table : (b : Bool) (w : ℕ) → (IsTrue b → w ≢ 0) × (w ≢ 0 → IsTrue b) → b ≡ false → w ≡ 0
+no-table b w f e =
+    elim (eqb_tells w 0) [ inl t ↦ t.1 | inr n ↦ absurd (let t = f.1 n.1 in let q : false ≡ true = sym e ∙ t in cc) ]
+
+module _ (s : Shadow) (m m1 m2 : List ℕ) (page frame : ℕ) (h : IsShadow s m) (l : page < 2 ^ 20)
+    (a : Puts m m1 (roots s) s.kernel page (barred_word frame (at m s.kernel page))) (b : Puts m1 m2 (roots s) s.user page (barred_word frame (at m1 s.user page))) where
+  bar-kernel : at m2 s.kernel page ≡ barred_word frame (at m s.kernel page)
+  bar-kernel = b.others s.kernel page (in-kernel s) l (λ e q. roots-apart s m h.holds (sym e)) ∙ a.there
+
+  bar-user : at m2 s.user page ≡ barred_word frame (at m s.user page)
+  bar-user = b.there ∙ ap (barred_word frame) (a.others s.user page (in-user s) l (λ e q. roots-apart s m h.holds e))
+
+  bar-other : (t q : ℕ) → IsIn t (roots s) → q < 2 ^ 20 → (q ≡ page → ⊥) → at m2 t q ≡ at m t q
+  bar-other t q i k n = b.others t q i k (λ e w. n w) ∙ a.others t q i k (λ e w. n w)
+
+  bar-root : (t : ℕ) → IsIn t (roots s) → at m2 t page ≡ barred_word frame (at m t page)
+  bar-root t i = both s (λ x. at m2 x page ≡ barred_word frame (at m x page)) bar-kernel bar-user t i
+
+  some-before : (w v : ℕ) → v ≡ barred_word frame w → v ≢ 0 → w ≢ 0
+  some-before w v e ne = λ z. ne (e ∙ barred-zero frame w z)
+
+  bar-apart : (q : ℕ) → q < 2 ^ 20 → at m2 s.kernel q ≢ 0 → at m2 s.user q ≡ 0
+  bar-apart q k ne =
+      elim (eqb_tells q page) [
+        | inl t ↦
+            ap (at m2 s.user) t.1 ∙ bar-user
+            ∙ barred-zero frame (at m s.user page) (h.apart page l (some-before (at m s.kernel page) (at m2 s.kernel q) (ap (at m2 s.kernel) t.1 ∙ bar-kernel) ne))
+        | inr t ↦ bar-other s.user q (in-user s) k t.1 ∙ h.apart q k (λ z. ne (bar-other s.kernel q (in-kernel s) k t.1 ∙ z))
+      ]
+
+  bar-shape : (t d : ℕ) → IsIn t (roots s) → d < 1024 → dir m2 t d ≢ 0 → dir m2 t d % 4096 ≡ 7
+  bar-shape t d i k ne = let e = b.dirs t d i k ∙ a.dirs t d i k in subst (λ x. x % 4096 ≡ 7) (sym e) (h.shape t d i k (λ z. ne (e ∙ z)))
+
+  bar-marks : (t q : ℕ) → IsIn t (roots s) → q < 2 ^ 20 → at m2 t q ≢ 0 → IsMarked (at m2 t q)
+  bar-marks t q i k ne =
+      elim (eqb_tells q page) [
+        | inl x ↦
+            let e : at m2 t q ≡ barred_word frame (at m t page) = ap (at m2 t) x.1 ∙ bar-root t i in
+            subst IsMarked (sym e) (barred-marked frame (at m t page) (h.marks t page i l (some-before (at m t page) (at m2 t q) e ne)))
+        | inr x ↦ let e = bar-other t q i k x.1 in subst IsMarked (sym e) (h.marks t q i k (λ z. ne (e ∙ z)))
+      ]
+
+  bar-there : slot_at s m2 page ≡ barred (frame ∷ []) (slot_at s m page)
+  unfolding slot_at
+  bar-there =
+      ap (λ x. by_words page x (at m2 s.user page)) bar-kernel
+      ∙ ap (by_words page (barred_word frame (at m s.kernel page))) bar-user
+      ∙ barred-by page frame (at m s.kernel page) (at m s.user page) (h.marks s.kernel page (in-kernel s) l) (h.marks s.user page (in-user s) l)
+
+  pub bar-frames : held s m2 ≡ held s m
+  bar-frames = b.frames ∙ a.frames
+
+  pub bar-writes : Writes (held s m) m m2
+  bar-writes = Writes-trans (held s m) m m1 m2 a.writes (subst (λ (fs : List ℕ). Writes fs m1 m2) a.frames b.writes)
+
+  pub bars : Becomes s m m2 page (barred (frame ∷ []) (slot_at s m page))
+  bars =
+      record {
+        shadow = record {
+          holds = Holds-along m2 (held s m) (held s m2) bar-frames (Holds-writes (held s m) m m2 h.holds bar-writes.size);
+          apart = bar-apart;
+          shape = bar-shape;
+          marks = bar-marks;
+        };
+        there = bar-there;
+        others = λ q k n. slot-same s m m2 q (bar-other s.kernel q (in-kernel s) k n) (bar-other s.user q (in-user s) k n);
+      }
+
+-- ---- many pages
+
+-- no page of a directory index without tables is kept
+pub dir-none : (s : Shadow) (m : List ℕ) (index page : ℕ) → dir m s.kernel index ≡ 0 → dir m s.user index ≡ 0 → page / 1024 ≡ index → slot_at s m page ≡ None
+dir-none s m index page a b e = slot-none s m page (at-none m s.kernel page (ap (dir m s.kernel) e ∙ a)) (at-none m s.user page (ap (dir m s.user) e ∙ b))
+
+abbrev pub without : Shadow → List ℕ → ℕ → ℕ → Option Slot
+without s m frame page = barred (frame ∷ []) (slot_at s m page)
+
+pub bars-none : (s : Shadow) (m : List ℕ) (index frame : ℕ) → IsShadow s m → dir m s.kernel index ≡ 0 → dir m s.user index ≡ 0 → Sweeps s m m (1024 * index) (1024 * index + 1024) (without s m frame)
+bars-none s m index frame h a b =
+    sweeps-over s m m (1024 * index) (1024 * index) (1024 * index + 1024) (without s m frame) (sweeps-none s m (1024 * index) (without s m frame) h) (omega arith) (omega arith)
+    (λ page l x y. (
+    let n = dir-none s m index page a b (omega (arith, x, y)) in n ∙ sym (ap (barred (frame ∷ [])) n)))
+
+pub bars-more : (s : Shadow) (m m1 m2 : List ℕ) (first n frame : ℕ) → first ≤ n → n < 2 ^ 20 → Sweeps s m m1 first n (without s m frame) → Becomes s m1 m2 n (without s m1 frame n) → held s m2 ≡ held s m1 → Writes (held s m1) m1 m2 → Sweeps s m m2 first (n + 1) (without s m frame)
+bars-more s m m1 m2 first n frame le small a b f w =
+    sweeps-more s m m1 m2 first n (without s m frame) (without s m1 frame n) le a b (ap (barred (frame ∷ [])) (a.others n small (λ x y. absurd (omega (arith, y))))) f w
+
+pub bars-trans : (s : Shadow) (m m1 m2 : List ℕ) (first n last frame : ℕ) → first ≤ n → n ≤ last → Sweeps s m m1 first n (without s m frame) → Sweeps s m1 m2 n last (without s m1 frame) → Sweeps s m m2 first last (without s m frame)
+bars-trans s m m1 m2 first n last frame x y a b =
+    sweeps-trans s m m1 m2 first n last (without s m frame) (without s m1 frame) x y a b
+    (λ page l low high. ap (barred (frame ∷ [])) (a.others page l (λ p q. absurd (omega (arith, q, low)))))

@@ -1,0 +1,67 @@
+//! Taking the right to write from all pages of a frame.
+
+ghost use Rattle.std.specs.Prelude.{◌≡◌, ◌≢◌, ℕ, ◌+◌, ◌*◌, ◌≤◌, ◌<◌, ◌^◌, List, [], ◌∷◌};
+ghost use Rattle.frame_pool.specs.Held.{Holds, Writes};
+ghost use Rattle.shadow_views.specs.Tables.{at, owned, IsIn, IsView, Puts};
+ghost use Rattle.shadow_tables.specs.Slots.{barred, barred_word, held, slot_at, IsShadow, Becomes, LosesWrites};
+ghost use Rattle.shadow_tables.specs.Sweeps.{Sweeps};
+
+use crate::shadow::Shadow;
+use crate::words::Side;
+use guest_ram::Ram;
+use shadow_views::{has_table, look, set};
+
+/// Takes the right to write from the word of a page, where it is of this frame.
+fn bar_word(ram: &mut Ram, root: u32, page: u32, frame: u32)
+    requires view { IsView ram.old root }
+    requires page { page < 2 ^ 20 }
+    ensures puts { (rs : List ℕ) → Holds ram.old (owned ram.old rs) → IsIn root rs → Puts ram.old ram.new rs root page (barred_word frame (at ram.old root page)) }
+{
+    let word = look(ram, root, page);
+    if word / 4096 == frame && word / 2 % 2 == 1 {
+        set(ram, root, page, word - 2);
+    }
+}
+
+impl Shadow {
+    /// From a page of this frame, in both views.
+    fn bar_page(&self, ram: &mut Ram, page: u32, frame: u32)
+        requires shadow { IsShadow self.now ram.old }
+        requires page { page < 2 ^ 20 }
+        ensures becomes { Becomes self.now ram.old ram.new page (barred (frame ∷ []) (slot_at self.now ram.old page)) }
+        ensures held { held self.now ram.new ≡ held self.now ram.old }
+        ensures memory { Writes (held self.now ram.old) ram.old ram.new }
+    {
+        bar_word(ram, self.root(Side::Kernel), page, frame);
+        bar_word(ram, self.root(Side::User), page, frame);
+    }
+
+    /// From the pages of a directory index.
+    fn bar_dir(&self, ram: &mut Ram, index: u32, frame: u32)
+        requires shadow { IsShadow self.now ram.old }
+        requires index { index < 1024 }
+        ensures { Sweeps self.now ram.old ram.new (1024 * index) (1024 * index + 1024) (λ page. barred (frame ∷ []) (slot_at self.now ram.old page)) }
+    {
+        let kernel = has_table(ram, self.root(Side::Kernel), index);
+        let user = has_table(ram, self.root(Side::User), index);
+        if !kernel && !user {
+            return;
+        }
+        for word in 0..1024 {
+            self.bar_page(ram, 1024 * index + word, frame);
+        }
+    }
+
+    /// Takes the right to write from every page of this frame.
+    pub fn bar(&self, ram: &mut Ram, frame: u32)
+        requires shadow { IsShadow self.now ram.old }
+        ensures shadow { IsShadow self.now ram.new }
+        ensures loses { LosesWrites (slot_at self.now ram.old) (slot_at self.now ram.new) (frame ∷ []) }
+        ensures held { held self.now ram.new ≡ held self.now ram.old }
+        ensures memory { Writes (held self.now ram.old) ram.old ram.new }
+    {
+        for index in 0..1024 {
+            self.bar_dir(ram, index, frame);
+        }
+    }
+}

@@ -1,0 +1,5 @@
+pub mod Plain
+pub mod Agreement
+pub mod Users
+pub mod Divided
+pub mod Ready

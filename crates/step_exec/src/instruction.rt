@@ -1,0 +1,144 @@
+//! One plain instruction.
+
+ghost use Rattle.std.specs.Prelude.{◌≡◌, ◌+◌, ◌≤◌, OnOk};
+ghost use Rattle.ia32_types.specs.Shape.{IsShaped, IsDone};
+ghost use Rattle.ia32_exec.specs.Effect.{effect, ranges_of};
+ghost use Rattle.paging.specs.Work.{Gives};
+ghost use Rattle.step_mem.specs.Shown.{hidden};
+ghost use Rattle.step_mem.specs.Sound.{IsSound, space_at};
+ghost use Rattle.step_exec.specs.Plain.{executed};
+ghost use Rattle.step_exec.specs.Divided.{both_reached, completed, divided, byte_of};
+ghost use Rattle.step_exec.specs.Ready.{AreMade};
+
+use crate::ranges::{is_refused, reach};
+use crate::store::store_all;
+use crate::view::View;
+use descriptors::Cpu;
+use guest_ram::Ram;
+use ia32_exec::{Outcome, effect, ranges};
+use ia32_types::Insn;
+use step_mem::{Kept, State};
+use sys_exec::Refusal;
+
+/// Does an insensitive instruction. Both its ranges are tested for null segments before one is translated, and both
+/// are translated before a byte is read or written.
+pub fn plain<B: Kept>(
+    insn: &Insn,
+    len: u8,
+    cpu: &Cpu,
+    ram: &mut Ram,
+    kept: &B,
+    state: &mut State,
+) -> Result<Cpu, Refusal>
+    requires kind { IsDone insn.now.op }
+    requires shape { IsShaped insn.now }
+    requires sound { IsSound (B.entries kept.now) (B.floor kept.now) (B.stands kept.now) ram.old state.old }
+    requires room { state.old.pages ≤ 60 }
+    ensures sound { IsSound (B.entries kept.now) (B.floor kept.now) (B.stands kept.now) ram.new state.new }
+    ensures gives { Gives result (space_at (B.entries kept.now) ram.new state.new) (executed insn.now len cpu.now (space_at (B.entries kept.now) ram.old state.old)) }
+    ensures pages { state.new.pages ≤ state.old.pages + 4 }
+    ensures control { state.new.control ≡ state.old.control }
+    ensures guard { state.new.guard ≡ state.old.guard }
+    ensures hidden { hidden state.old.guard state.old.control.frames ram.new ≡ hidden state.old.guard state.old.control.frames ram.old }
+{
+    in_parts(insn, len, cpu, ram, kept, state)
+}
+
+#[tactic(auto, unfolding(crate::specs::Divided::divided))]
+fn in_parts<B: Kept>(
+    insn: &Insn,
+    len: u8,
+    cpu: &Cpu,
+    ram: &mut Ram,
+    kept: &B,
+    state: &mut State,
+) -> Result<Cpu, Refusal>
+    requires kind { IsDone insn.now.op }
+    requires shape { IsShaped insn.now }
+    requires sound { IsSound (B.entries kept.now) (B.floor kept.now) (B.stands kept.now) ram.old state.old }
+    requires room { state.old.pages ≤ 60 }
+    ensures sound { IsSound (B.entries kept.now) (B.floor kept.now) (B.stands kept.now) ram.new state.new }
+    ensures gives { Gives result (space_at (B.entries kept.now) ram.new state.new) (divided insn.now len cpu.now (space_at (B.entries kept.now) ram.old state.old)) }
+    ensures pages { state.new.pages ≤ state.old.pages + 4 }
+    ensures control { state.new.control ≡ state.old.control }
+    ensures guard { state.new.guard ≡ state.old.guard }
+    ensures hidden { hidden state.old.guard state.old.control.frames ram.new ≡ hidden state.old.guard state.old.control.frames ram.old }
+{
+    reach_both(insn, cpu, ram, kept, state)?;
+    complete(insn, len, cpu, ram, kept, state)
+}
+
+/// Translates both ranges of an instruction, unless a null segment denies one, and does nothing else.
+#[tactic(auto, unfolding(crate::specs::Divided::both_reached))]
+pub fn reach_both<B: Kept>(
+    insn: &Insn,
+    cpu: &Cpu,
+    ram: &mut Ram,
+    kept: &B,
+    state: &mut State,
+) -> Result<(), Refusal>
+    requires shape { IsShaped insn.now }
+    requires sound { IsSound (B.entries kept.now) (B.floor kept.now) (B.stands kept.now) ram.old state.old }
+    requires room { state.old.pages ≤ 60 }
+    ensures sound { IsSound (B.entries kept.now) (B.floor kept.now) (B.stands kept.now) ram.new state.new }
+    ensures gives { Gives result (space_at (B.entries kept.now) ram.new state.new) (both_reached cpu.now (ranges_of insn.now cpu.now.regs) (space_at (B.entries kept.now) ram.old state.old)) }
+    ensures made { OnOk result (AreMade (ranges_of insn.now cpu.now.regs) state.new) }
+    ensures pages { state.new.pages ≤ state.old.pages + 4 }
+    ensures control { state.new.control ≡ state.old.control }
+    ensures guard { state.new.guard ≡ state.old.guard }
+    ensures hidden { hidden state.old.guard state.old.control.frames ram.new ≡ hidden state.old.guard state.old.control.frames ram.old }
+{
+    let ranges = ranges(insn, &cpu.regs);
+    if is_refused(cpu, &ranges) {
+        return Err(Refusal::Raise {
+            vector: 13,
+            code: 0,
+        });
+    }
+    reach(ram, kept, state, cpu, false, ranges.read)?;
+    reach(ram, kept, state, cpu, true, ranges.write)
+}
+
+/// Does an instruction whose ranges are both translated.
+#[tactic(auto, unfolding(crate::specs::Divided::completed))]
+pub fn complete<B: Kept>(
+    insn: &Insn,
+    len: u8,
+    cpu: &Cpu,
+    ram: &mut Ram,
+    kept: &B,
+    state: &State,
+) -> Result<Cpu, Refusal>
+    requires kind { IsDone insn.now.op }
+    requires shape { IsShaped insn.now }
+    requires sound { IsSound (B.entries kept.now) (B.floor kept.now) (B.stands kept.now) ram.old state.now }
+    requires made { AreMade (ranges_of insn.now cpu.now.regs) state.now }
+    ensures sound { IsSound (B.entries kept.now) (B.floor kept.now) (B.stands kept.now) ram.new state.now }
+    ensures gives { Gives result (space_at (B.entries kept.now) ram.new state.now) (completed insn.now len cpu.now (space_at (B.entries kept.now) ram.old state.now)) }
+    ensures hidden { hidden state.now.guard state.now.control.frames ram.new ≡ hidden state.now.guard state.now.control.frames ram.old }
+{
+    match outcome(insn, len, cpu, ram, kept, state) {
+        Outcome::Done(regs, stores) => {
+            store_all(ram, kept, state, &stores);
+            Ok(Cpu { regs, ..*cpu })
+        }
+        Outcome::Raise(vector, code) => Err(Refusal::Raise { vector, code }),
+        Outcome::Stop(stop) => Err(Refusal::Stop(stop)),
+    }
+}
+
+fn outcome<B: Kept>(insn: &Insn, len: u8, cpu: &Cpu, ram: &Ram, kept: &B, state: &State) -> Outcome
+    requires kind { IsDone insn.now.op }
+    requires shape { IsShaped insn.now }
+    requires sound { IsSound (B.entries kept.now) (B.floor kept.now) (B.stands kept.now) ram.now state.now }
+    requires made { AreMade (ranges_of insn.now cpu.now.regs) state.now }
+    ensures { result ≡ effect insn.now len cpu.now.regs (byte_of (ranges_of insn.now cpu.now.regs) (space_at (B.entries kept.now) ram.now state.now)) }
+{
+    let view = View {
+        ram,
+        kept,
+        state,
+        ranges: ranges(insn, &cpu.regs),
+    };
+    effect(insn, len, &cpu.regs, &view)
+}

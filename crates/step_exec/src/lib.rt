@@ -1,0 +1,17 @@
+//! What an instruction or a delivery does in the middle of a step, over any keeper of translations.
+#![tactic(auto)]
+
+mod agreement;
+mod instruction;
+mod laws;
+mod memory;
+mod ranges;
+mod store;
+mod view;
+mod work;
+
+pub use agreement::plain_agrees;
+pub use instruction::{complete, plain, reach_both};
+pub use laws::{divides, has_user_form};
+pub use memory::StepMem;
+pub use work::{deliver_in, sys_in};

@@ -1,0 +1,72 @@
+//! The guest's memory within one step.
+
+ghost use Rattle.std.proofs.Props.{props};
+ghost use Rattle.std.specs.Prelude.{◌≡◌};
+ghost use Rattle.step_mem.specs.Shown.{hidden};
+ghost use Rattle.step_mem.specs.Sound.{IsSound, space_at};
+
+use guest_ram::Ram;
+use ia32_types::Size;
+use paging::{Access, GuestMem, Touch};
+use step_mem::{Control, Guard, Kept, State};
+
+/// Memory in the middle of a step, whose state is the step's so far.
+#[derive(Drop)]
+pub struct StepMem<'a, 'g, B: Kept> {
+    ram: &'a mut Ram,
+    kept: &'a B,
+    state: State<'g>,
+    ghost sound: { IsSound (B.entries kept.now) (B.floor kept.now) (B.stands kept.now) ram.now state } by { Prim.hlevel props },
+}
+
+impl<'a, 'g, B: Kept> StepMem<'a, 'g, B> {
+    /// This state is the step's so far.
+    pub fn over(ram: &'a mut Ram, kept: &'a B, state: &State<'g>) -> StepMem<'a, 'g, B>
+        requires { IsSound (B.entries kept.now) (B.floor kept.now) (B.stands kept.now) ram.old state.now }
+        ensures space { ⟦<StepMem<'a, 'g, B> as GuestMem>⟧.space result ≡ space_at (B.entries kept.now) ram.old state.now }
+        ensures same_memory { result.ram.ghost_name ≡ ram.entry.ghost_name }
+        ensures memory { result.ram.now ≡ ram.old }
+        ensures kept { result.kept.now ≡ kept.now }
+        ensures state { result.state ≡ state.now }
+    {
+        StepMem {
+            ram,
+            kept,
+            state: state.copied(),
+        }
+    }
+
+    /// The state of the step so far.
+    pub fn state(&self) -> State<'g>
+        ensures state { result ≡ self.now.state }
+        ensures sound { IsSound (B.entries self.now.kept.now) (B.floor self.now.kept.now) (B.stands self.now.kept.now) self.now.ram.now result }
+    {
+        self.state.copied()
+    }
+}
+
+impl<'a, 'g, B: Kept> GuestMem for StepMem<'a, 'g, B> {
+    ghost space = { λ m. space_at (B.entries m.kept.now) m.ram.now m.state };
+
+    /// The name of the reference to memory, the keeper, the registers that govern a walk, whose rules hold, and
+    /// what the step doesn't reach.
+    type Frame = (u64, B, Control, Guard<'g>, Ram);
+
+    ghost frame = { λ m. (m.ram.ghost_name, m.kept.now, m.state.control, m.state.guard, hidden m.state.guard m.state.control.frames m.ram.now) };
+
+    fn touch(&mut self, at: u32, len: u32, access: Access) -> Touch {
+        step_mem::touch(self.ram, self.kept, &mut self.state, at, len, access)
+    }
+
+    fn load(&mut self, at: u32, size: Size) -> u32 {
+        step_mem::load(self.ram, self.kept, &self.state, at, size)
+    }
+
+    fn load_earlier(&mut self, at: u32, size: Size) -> u32 {
+        step_mem::load_earlier(self.ram, self.kept, &self.state, at, size)
+    }
+
+    fn save(&mut self, at: u32, size: Size, value: u32) {
+        step_mem::save(self.ram, self.kept, &self.state, at, size, value);
+    }
+}

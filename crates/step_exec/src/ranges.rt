@@ -1,0 +1,84 @@
+//! Translating the ranges of an instruction.
+
+ghost use Rattle.std.specs.Prelude.{◌≡◌, ◌+◌, ◌≤◌, OnOk, Option};
+ghost use Rattle.paging.specs.Work.{Gives};
+ghost use Rattle.step_mem.specs.Shown.{hidden};
+ghost use Rattle.step_mem.specs.Sound.{IsSound, space_at};
+ghost use Rattle.ia32_exec.specs.Short.{IsShort};
+ghost use Rattle.step_exec.specs.Plain.{reached, is_null, is_denied, is_refused};
+ghost use Rattle.step_exec.specs.Ready.{IsLast, IsReady, IsReadMade};
+ghost use Rattle.ia32_exec.specs.declared.access.Range.{Range as Bytes};
+
+use descriptors::Cpu;
+use guest_ram::Ram;
+use ia32_exec::{Range, Ranges};
+use ia32_types::Seg;
+use paging::{Access, Touch};
+use step_mem::{Kept, State};
+use sys_exec::Refusal;
+
+fn is_null(cpu: &Cpu, seg: Seg) -> bool
+    ensures { result ≡ is_null cpu.now seg }
+{
+    match seg {
+        Seg::Es => cpu.seg[0].null,
+        Seg::Cs => cpu.seg[1].null,
+        Seg::Ss => cpu.seg[2].null,
+        Seg::Ds => cpu.seg[3].null,
+    }
+}
+
+// A null segment denies the range.
+fn is_denied(cpu: &Cpu, range: Option<Range>) -> bool
+    ensures { result ≡ is_denied cpu.now range }
+{
+    match range {
+        None => false,
+        Some(range) => is_null(cpu, range.seg),
+    }
+}
+
+/// A null segment denies one of an instruction's ranges.
+pub fn is_refused(cpu: &Cpu, ranges: &Ranges) -> bool
+    ensures { result ≡ is_refused cpu.now ranges.now }
+{
+    is_denied(cpu, ranges.read) || is_denied(cpu, ranges.write)
+}
+
+/// Translates a range, if there is one.
+#[tactic(auto, unfolding(sys_exec::specs::Access::reaching))]
+pub fn reach<B: Kept>(
+    ram: &mut Ram,
+    kept: &B,
+    state: &mut State,
+    cpu: &Cpu,
+    write: bool,
+    range: Option<Range>,
+) -> Result<(), Refusal>
+    requires sound { IsSound (B.entries kept.now) (B.floor kept.now) (B.stands kept.now) ram.old state.old }
+    requires room { state.old.pages ≤ 62 }
+    requires short { IsShort range }
+    ensures sound { IsSound (B.entries kept.now) (B.floor kept.now) (B.stands kept.now) ram.new state.new }
+    ensures gives { Gives result (space_at (B.entries kept.now) ram.new state.new) (reached cpu.now write range (space_at (B.entries kept.now) ram.old state.old)) }
+    ensures last { OnOk result (IsLast range write state.new) }
+    ensures before { (other : Option Bytes) → IsReady other state.old → OnOk result (IsReadMade other range state.new) }
+    ensures pages { state.new.pages ≤ state.old.pages + 2 }
+    ensures control { state.new.control ≡ state.old.control }
+    ensures guard { state.new.guard ≡ state.old.guard }
+    ensures hidden { hidden state.old.guard state.old.control.frames ram.new ≡ hidden state.old.guard state.old.control.frames ram.old }
+{
+    match range {
+        None => Ok(()),
+        Some(range) => {
+            let access = Access {
+                write,
+                user: cpu.cpl == 3,
+            };
+            match step_mem::touch(ram, kept, state, range.at, range.len, access) {
+                Touch::Ready => Ok(()),
+                Touch::Fault { code, at } => Err(Refusal::Fault { code, at }),
+                Touch::Stop(stop) => Err(Refusal::Stop(stop)),
+            }
+        }
+    }
+}

@@ -1,0 +1,86 @@
+//! The bytes that an instruction may read.
+
+ghost use Rattle.std.specs.Prelude.{◌≡◌};
+ghost use Rattle.step_exec.specs.Plain.{is_in};
+
+use guest_ram::Ram;
+use ia32_exec::{LinearMem, Range, Ranges};
+use ia32_types::Size;
+use step_mem::{Kept, State};
+
+/// Memory with two translated ranges: what is read alone, as it was translated, and what is written.
+#[derive(Drop)]
+pub struct View<'a, B: Kept> {
+    pub ram: &'a Ram,
+    pub kept: &'a B,
+    pub state: &'a State<'a>,
+    pub ranges: Ranges,
+}
+
+fn is_in(range: Option<Range>, at: u32) -> bool
+    ensures { result ≡ is_in range at }
+{
+    match range {
+        None => false,
+        Some(range) => range.at <= at && u64::from(at) < u64::from(range.at) + u64::from(range.len),
+    }
+}
+
+impl<B: Kept> LinearMem for View<'_, B> {
+    ghost use Rattle.std.specs.Prelude.{◌≡◌, ◌<◌, ◌^◌};
+    ghost use Rattle.step_mem.specs.Sound.{IsSound, space_at};
+    ghost use Rattle.step_exec.specs.Divided.{byte_of};
+    ghost use Rattle.step_exec.specs.Ready.{IsOpen};
+
+    ghost byte = { λ m at. byte_of m.ranges (space_at (B.entries m.kept.now) m.ram.now m.state.now) at };
+
+    ghost readable = { λ m at. IsSound (B.entries m.kept.now) (B.floor m.kept.now) (B.stands m.kept.now) m.ram.now m.state.now × IsOpen m.ranges m.state.now at };
+
+    ghost writable = { λ m at. at < 2 ^ 32 };
+
+    ghost after = { λ a ws b. Unit {0} };
+
+    ghost read_in_space = { λ m at h. h.1.space };
+
+    ghost write_in_space = { λ m at h. h };
+
+    ghost nothing = { λ m. tt };
+
+    ghost joined = { λ a b c v w p q. tt };
+
+    fn read(&self, at: u32, size: Size) -> u32 {
+        match size {
+            Size::Byte => self.byte(at),
+            Size::Word => self.byte(at) + self.byte(at + 1) * 0x100,
+            Size::Long => {
+                self.byte(at)
+                    + self.byte(at + 1) * 0x100
+                    + self.byte(at + 2) * 0x1_0000
+                    + self.byte(at + 3) * 0x100_0000
+            }
+        }
+    }
+
+    /// A view keeps nothing that is written, and tells nothing of it.
+    fn write(&mut self, _at: u32, _size: Size, _value: u32) {}
+}
+
+impl<B: Kept> View<'_, B> {
+    ghost use Rattle.std.specs.Prelude.{◌≡◌, ◌<◌};
+    ghost use Rattle.step_mem.specs.Sound.{IsSound, space_at};
+    ghost use Rattle.step_exec.specs.Divided.{byte_of};
+    ghost use Rattle.step_exec.specs.Ready.{IsOpen};
+
+    #[tactic(auto, unfolding(paging::specs::Space::loaded))]
+    fn byte(&self, at: u32) -> u32
+        requires sound { IsSound (B.entries self.now.kept.now) (B.floor self.now.kept.now) (B.stands self.now.kept.now) self.now.ram.now self.now.state.now }
+        requires open_to { IsOpen self.now.ranges self.now.state.now at }
+        ensures value { result ≡ byte_of self.now.ranges (space_at (B.entries self.now.kept.now) self.now.ram.now self.now.state.now) at }
+        ensures small { result < 256 }
+    {
+        if is_in(self.ranges.read, at) && self.ranges.write.is_some() {
+            return step_mem::load_earlier(self.ram, self.kept, self.state, at, Size::Byte);
+        }
+        step_mem::load(self.ram, self.kept, self.state, at, Size::Byte)
+    }
+}

@@ -1,0 +1,69 @@
+//! Sensitive instructions and deliveries in the middle of a step.
+
+ghost use Rattle.std.specs.Prelude.{◌≡◌, ◌+◌, ◌≤◌, OnErr};
+ghost use Rattle.step_mem.specs.Shown.{hidden};
+ghost use Rattle.step_mem.specs.Sound.{IsSound, space_at};
+ghost use Rattle.sys_exec.specs.Asked.{IsAsked};
+ghost use Rattle.sys_exec.specs.Sys.{sys_work, told};
+ghost use Rattle.event_entry.specs.Deliver.{delivered, Delivers};
+
+use crate::memory::StepMem;
+use descriptors::Cpu;
+use event_entry::{Kind, NotDelivered, deliver};
+use guest_ram::Ram;
+use ia32_types::Insn;
+use step_mem::{Kept, State};
+use sys_exec::{SysEffect, sys};
+
+/// Does a sensitive instruction. Where it raises or stops, only CR2 may have changed.
+pub fn sys_in<'g, B: Kept>(
+    insn: &Insn,
+    len: u8,
+    cpu: &mut Cpu,
+    ram: &mut Ram,
+    kept: &B,
+    state: &mut State<'g>,
+) -> SysEffect
+    requires sound { IsSound (B.entries kept.now) (B.floor kept.now) (B.stands kept.now) ram.old state.old }
+    requires pages { state.old.pages ≤ 48 }
+    ensures sound { IsSound (B.entries kept.now) (B.floor kept.now) (B.stands kept.now) ram.new state.new }
+    ensures does { told cpu.old (sys_work insn.now len cpu.old (space_at (B.entries kept.now) ram.old state.old))
+        ≡ (result, cpu.new, space_at (B.entries kept.now) ram.new state.new) }
+    ensures asked { IsAsked result }
+    ensures pages { state.new.pages ≤ state.old.pages + 16 }
+    ensures control { state.new.control ≡ state.old.control }
+    ensures guard { state.new.guard ≡ state.old.guard }
+    ensures hidden { hidden state.old.guard state.old.control.frames ram.new ≡ hidden state.old.guard state.old.control.frames ram.old }
+{
+    let mut mem = StepMem::over(ram, kept, state);
+    let effect = sys(insn, len, cpu, &mut mem);
+    *state = mem.state();
+    effect
+}
+
+/// Delivers an event. After a refusal the processor is as before.
+pub fn deliver_in<'g, B: Kept>(
+    cpu: &mut Cpu,
+    ram: &mut Ram,
+    kept: &B,
+    state: &mut State<'g>,
+    vector: u8,
+    kind: Kind,
+    code: Option<u32>,
+) -> Result<(), NotDelivered>
+    requires sound { IsSound (B.entries kept.now) (B.floor kept.now) (B.stands kept.now) ram.old state.old }
+    requires pages { state.old.pages ≤ 48 }
+    ensures sound { IsSound (B.entries kept.now) (B.floor kept.now) (B.stands kept.now) ram.new state.new }
+    ensures delivers { Delivers result cpu.new (space_at (B.entries kept.now) ram.new state.new)
+        (delivered cpu.old vector kind code (space_at (B.entries kept.now) ram.old state.old)) }
+    ensures refused { OnErr result (cpu.new ≡ cpu.old) }
+    ensures pages { state.new.pages ≤ state.old.pages + 16 }
+    ensures control { state.new.control ≡ state.old.control }
+    ensures guard { state.new.guard ≡ state.old.guard }
+    ensures hidden { hidden state.old.guard state.old.control.frames ram.new ≡ hidden state.old.guard state.old.control.frames ram.old }
+{
+    let mut mem = StepMem::over(ram, kept, state);
+    let result = deliver(cpu, &mut mem, vector, kind, code);
+    *state = mem.state();
+    result
+}

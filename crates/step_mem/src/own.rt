@@ -1,0 +1,54 @@
+//! The bytes of this step's instruction.
+
+ghost use Rattle.std.specs.Prelude.{◌≡◌, ◌+◌, ◌*◌, ◌/◌, ◌%◌, ◌≤◌, ◌<◌, ◌^◌, IsSome};
+ghost use Rattle.std.specs.FinMap.{get};
+ghost use Rattle.paging.specs.Space.{place};
+ghost use Rattle.paging.specs.Uses.{with_front, with_back};
+ghost use Rattle.step_mem.specs.Guard.{mode_of};
+ghost use Rattle.step_mem.specs.Sound.{IsSound, space_at};
+
+use crate::guard::Own;
+use crate::kept::Kept;
+use crate::state::{State, place};
+use guest_ram::Ram;
+
+/// The bytes at an address are those of this step's instruction in its first page, and so far its only ones.
+pub fn own_front<B: Kept>(ram: &Ram, base: &B, state: &mut State, at: u32, len: u32)
+    requires sound { IsSound (B.entries base.now) (B.floor base.now) (B.stands base.now) ram.now state.old }
+    requires found { IsSome (get (space_at (B.entries base.now) ram.now state.old).set (at / 4096)) }
+    ensures sound { IsSound (B.entries base.now) (B.floor base.now) (B.stands base.now) ram.now state.new }
+    ensures owns { space_at (B.entries base.now) ram.now state.new ≡ record (space_at (B.entries base.now) ram.now state.old) {
+      mode = with_front (mode_of state.old.guard) (place (space_at (B.entries base.now) ram.now state.old) at) len;
+    } }
+    ensures pages { state.new.pages ≡ state.old.pages }
+    ensures control { state.new.control ≡ state.old.control }
+    ensures text { state.new.guard.text ≡ state.old.guard.text }
+{
+    let at = place(ram, base, state, at);
+    state.guard.own = Own {
+        front: at,
+        front_len: len,
+        back: 0,
+        back_len: 0,
+    };
+}
+
+/// The bytes at an address are those of this step's instruction in its second page.
+pub fn own_back<B: Kept>(ram: &Ram, base: &B, state: &mut State, at: u32, len: u32)
+    requires sound { IsSound (B.entries base.now) (B.floor base.now) (B.stands base.now) ram.now state.old }
+    requires found { IsSome (get (space_at (B.entries base.now) ram.now state.old).set (at / 4096)) }
+    ensures sound { IsSound (B.entries base.now) (B.floor base.now) (B.stands base.now) ram.now state.new }
+    ensures owns { space_at (B.entries base.now) ram.now state.new ≡ record (space_at (B.entries base.now) ram.now state.old) {
+      mode = with_back (mode_of state.old.guard) (place (space_at (B.entries base.now) ram.now state.old) at) len;
+    } }
+    ensures pages { state.new.pages ≡ state.old.pages }
+    ensures control { state.new.control ≡ state.old.control }
+    ensures text { state.new.guard.text ≡ state.old.guard.text }
+{
+    let at = place(ram, base, state, at);
+    state.guard.own = Own {
+        back: at,
+        back_len: len,
+        ..state.guard.own
+    };
+}
