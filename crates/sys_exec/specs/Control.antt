@@ -15,18 +15,29 @@ use Rattle.sys_exec.specs.Operand.{unsupported, kernel_alone, reg_at, past, past
 abbrev pub control_stop : Refusal
 control_stop = Stop stops.ControlBits
 
--- CR0: paging and protection stay on, and only these bits may be set; bit 4 is always 1
+-- CR0: PE (0) and PG (31) must be given; MP (1), EM (2), TS (3), NE (5), WP (16) and AM (18) may be; ET (4) is 1 whatever
+-- is given. No other bit may be set.
+abbrev pub control_0_needed : ℕ
+control_0_needed = 0x8000_0001
+
+abbrev pub control_0_refused : ℕ
+control_0_refused = 0x7FFA_FFC0
+
 abbrev pub load_control_0 : Cpu → ℕ → Work Refusal Done
 load_control_0 cpu v = do
-  _ ← unless control_stop (bit_and v 2147483649 == 2147483649 && bit_and v 2147155904 == 0)
-  gives (record { cpu = record cpu { cr0 = bit_or v 16 }; effect = effects.Next })
+  _ ← unless control_stop (bit_and v control_0_needed == control_0_needed && bit_and v control_0_refused == 0)
+  gives (record { cpu = record cpu { cr0 = bit_or v 0x10 }; effect = effects.Next })
 
--- CR3 empties the set
+-- CR3: PWT (3) and PCD (4) and the frame may be given; the set is emptied
+abbrev pub control_3_refused : ℕ
+control_3_refused = 0xFE7
+
 abbrev pub load_control_3 : Cpu → ℕ → Work Refusal Done
 load_control_3 cpu v = do
-  _ ← unless control_stop (bit_and v 4071 == 0)
+  _ ← unless control_stop (bit_and v control_3_refused == 0)
   gives (record { cpu = record cpu { cr3 = v }; effect = effects.DropAll })
 
+-- CR4 has no bit
 abbrev pub load_control_4 : Cpu → ℕ → Work Refusal Done
 load_control_4 cpu v = do
   _ ← unless control_stop (v == 0)

@@ -1,8 +1,9 @@
--- Loads of segment registers: the tests in their order, and the accessed flag.
-use Rattle.std.specs.Prelude.{ℕ, ◌+◌, ◌*◌, ◌/◌, ◌%◌, ◌^◌, Bool, true, false, ◌==◌, nat_lt, nat_le, ◌&&◌, not, if◌then◌else◌, Option, Some, None, bit_or}
+-- Loads of segment registers, each as the list of its tests in their order, and the accessed flag. Intel SDM volume 3,
+-- protection; where this list differs from the manual in an order or in a code, the list decides.
+use Rattle.std.specs.Prelude.{ℕ, ◌+◌, ◌*◌, ◌/◌, ◌%◌, ◌^◌, Bool, true, false, ◌==◌, nat_lt, ◌||◌, not, if◌then◌else◌, Option, Some, None, bit_or}
 use Rattle.ia32_types.specs.declared.stop.Stop.TheVariants as stops
 use Rattle.paging.specs.Work.{Work, ◌>>=◌, gives, unless}
-use Rattle.descriptors.specs.Form.{descriptor_of, kind_of, marking}
+use Rattle.descriptors.specs.Form.{descriptor_of, kind_of, marking, is_code, is_data, is_of_system, is_foreign, dpl_of, is_present, is_used}
 use Rattle.descriptors.specs.declared.cpu.Cpu.{Cpu}
 use Rattle.descriptors.specs.declared.cpu.Hidden.{Hidden}
 use Rattle.descriptors.specs.declared.cpu.Task.{Task}
@@ -24,33 +25,40 @@ absent vector sel = Raise vector (sel / 4 * 4)
 abbrev pub form_stop : Refusal
 form_stop = Stop stops.SegmentForm
 
-abbrev pub in_limit : Cpu → ℕ → Bool
-in_limit cpu sel = nat_le (sel / 8 * 8 + 7) cpu.gdt.limit
+-- a test that ends the load where it holds
+abbrev pub ends_if : Refusal → Bool → Work Refusal (Unit {0})
+ends_if e test = unless e (not test)
+
+-- the two words of the descriptor that a selector names, where it isn't one of a local table and lies within the limit
+unfoldable pub selected : Cpu → Refusal → ℕ → Work Refusal (ℕ × ℕ)
+selected cpu local sel = do
+  _ ← ends_if local (sel / 4 % 2 == 1)
+  _ ← ends_if (protection sel) (nat_lt cpu.gdt.limit (sel / 8 * 8 + 7))
+  pair_at (slot cpu sel)
 
 -- the register as it is loaded, and what byte 5 is to become
-abbrev pub loading : ℕ → ℕ → Option ℕ → Loading
-loading sel dpl marking = record { hidden = record { sel = sel; null = false; dpl = dpl }; marking = marking }
+abbrev pub loaded : ℕ → ℕ → Option ℕ → Loading
+loaded sel dpl marking = record { hidden = record { sel = sel; null = false; dpl = dpl }; marking = marking }
+
+abbrev pub loading : ℕ → ℕ → Descriptor → Loading
+loading sel high d = loaded sel (dpl_of d) (marking high (is_used d))
 
 abbrev pub null_segment : ℕ → Hidden
 null_segment sel = record { sel = sel; null = true; dpl = 0 }
 
--- DS and ES
-abbrev pub as_data : ℕ → ℕ → ℕ → Descriptor → Work Refusal Loading
-as_data cpl sel high (forms.Plain dpl present used) = do
-  _ ← unless (protection sel) (nat_le cpl dpl && nat_le (sel % 4) dpl)
-  _ ← unless (absent 11 sel) present
-  gives (loading sel dpl (marking high used))
-as_data cpl sel high (forms.Code dpl present used) = refused form_stop
-as_data cpl sel high (forms.Task base limit present busy) = refused (protection sel)
-as_data cpl sel high forms.System = refused (protection sel)
-as_data cpl sel high forms.Foreign = refused form_stop
+-- DS and ES, where the selector isn't null
+abbrev pub data_tests : ℕ → ℕ → Descriptor → Work Refusal (Unit {0})
+data_tests cpl sel d = do
+  _ ← ends_if (protection sel) (is_of_system d)
+  _ ← ends_if form_stop (is_foreign d || is_code d)
+  _ ← ends_if (protection sel) (nat_lt (dpl_of d) cpl || nat_lt (dpl_of d) (sel % 4))
+  ends_if (absent 11 sel) (not (is_present d))
 
 unfoldable pub find_data : Cpu → ℕ → Work Refusal Loading
 find_data cpu sel = do
-  _ ← unless form_stop (sel / 4 % 2 == 0)
-  _ ← unless (protection sel) (in_limit cpu sel)
-  pair ← pair_at (slot cpu sel)
-  as_data cpu.cpl sel pair.1 (descriptor_of pair.0 pair.1)
+  pair ← selected cpu form_stop sel
+  _ ← data_tests cpu.cpl sel (descriptor_of pair.0 pair.1)
+  gives (loading sel pair.1 (descriptor_of pair.0 pair.1))
 
 -- the accessed flag is set where it is clear
 abbrev pub mark : Cpu → ℕ → Option ℕ → Work Refusal (Unit {0})
@@ -67,70 +75,57 @@ load_data cpu sel = if nat_lt sel 4 then gives (null_segment sel) else do
   gives l.hidden
 
 -- SS, for a processor at this level
-abbrev pub as_stack : ℕ → ℕ → ℕ → Descriptor → Work Refusal Loading
-as_stack cpl sel high (forms.Plain dpl present used) = do
-  _ ← unless (protection sel) (sel % 4 == cpl && dpl == cpl)
-  _ ← unless (absent 12 sel) present
-  gives (loading sel dpl (marking high used))
-as_stack cpl sel high (forms.Code dpl present used) = refused (protection sel)
-as_stack cpl sel high (forms.Task base limit present busy) = refused (protection sel)
-as_stack cpl sel high forms.System = refused (protection sel)
-as_stack cpl sel high forms.Foreign = refused form_stop
+abbrev pub stack_tests : ℕ → ℕ → Descriptor → Work Refusal (Unit {0})
+stack_tests cpl sel d = do
+  _ ← ends_if (protection sel) (is_of_system d)
+  _ ← ends_if form_stop (is_foreign d)
+  _ ← ends_if (protection sel) (not (sel % 4 == cpl) || (is_code d || not (dpl_of d == cpl)))
+  ends_if (absent 12 sel) (not (is_present d))
 
 unfoldable pub find_stack : Cpu → ℕ → ℕ → Work Refusal Loading
 find_stack cpu cpl sel = do
-  _ ← unless protection_0 (nat_le 4 sel)
-  _ ← unless form_stop (sel / 4 % 2 == 0)
-  _ ← unless (protection sel) (in_limit cpu sel)
-  pair ← pair_at (slot cpu sel)
-  as_stack cpl sel pair.1 (descriptor_of pair.0 pair.1)
+  _ ← ends_if protection_0 (nat_lt sel 4)
+  pair ← selected cpu form_stop sel
+  _ ← stack_tests cpl sel (descriptor_of pair.0 pair.1)
+  gives (loading sel pair.1 (descriptor_of pair.0 pair.1))
 
 -- the code that an IRET goes to
-abbrev pub as_return : ℕ → ℕ → ℕ → Descriptor → Work Refusal Loading
-as_return cpl sel high (forms.Code dpl present used) = do
-  _ ← unless (protection sel) (nat_le cpl (sel % 4) && dpl == sel % 4)
-  _ ← unless (absent 11 sel) present
-  gives (loading sel dpl (marking high used))
-as_return cpl sel high (forms.Plain dpl present used) = refused (protection sel)
-as_return cpl sel high (forms.Task base limit present busy) = refused (protection sel)
-as_return cpl sel high forms.System = refused (protection sel)
-as_return cpl sel high forms.Foreign = refused form_stop
+abbrev pub return_tests : ℕ → ℕ → Descriptor → Work Refusal (Unit {0})
+return_tests cpl sel d = do
+  _ ← ends_if (protection sel) (is_of_system d)
+  _ ← ends_if form_stop (is_foreign d)
+  _ ← ends_if (protection sel) (is_data d || (nat_lt (sel % 4) cpl || not (dpl_of d == sel % 4)))
+  ends_if (absent 11 sel) (not (is_present d))
 
 unfoldable pub find_return : Cpu → ℕ → Work Refusal Loading
 find_return cpu sel = do
-  _ ← unless protection_0 (nat_le 4 sel)
-  _ ← unless form_stop (sel / 4 % 2 == 0)
-  _ ← unless (protection sel) (in_limit cpu sel)
-  pair ← pair_at (slot cpu sel)
-  as_return cpu.cpl sel pair.1 (descriptor_of pair.0 pair.1)
+  _ ← ends_if protection_0 (nat_lt sel 4)
+  pair ← selected cpu form_stop sel
+  _ ← return_tests cpu.cpl sel (descriptor_of pair.0 pair.1)
+  gives (loading sel pair.1 (descriptor_of pair.0 pair.1))
 
--- the code that a far jump goes to
-abbrev pub as_jump : ℕ → ℕ → ℕ → Descriptor → Work Refusal Loading
-as_jump cpl sel high (forms.Code dpl present used) = do
-  _ ← unless (protection sel) (nat_le (sel % 4) cpl && dpl == cpl)
-  _ ← unless (absent 11 sel) present
-  gives (loading (sel / 4 * 4 + cpl % 4) dpl (marking high used))
-as_jump cpl sel high (forms.Plain dpl present used) = refused (protection sel)
-as_jump cpl sel high (forms.Task base limit present busy) = refused form_stop
-as_jump cpl sel high forms.System = refused form_stop
-as_jump cpl sel high forms.Foreign = refused form_stop
+-- the code that a far jump goes to; the register gets the level in use
+abbrev pub jump_tests : ℕ → ℕ → Descriptor → Work Refusal (Unit {0})
+jump_tests cpl sel d = do
+  _ ← ends_if form_stop (is_of_system d || is_foreign d)
+  _ ← ends_if (protection sel) (is_data d || (nat_lt cpl (sel % 4) || not (dpl_of d == cpl)))
+  ends_if (absent 11 sel) (not (is_present d))
 
 unfoldable pub find_jump : Cpu → ℕ → Work Refusal Loading
 find_jump cpu sel = do
-  _ ← unless protection_0 (nat_le 4 sel)
-  _ ← unless form_stop (sel / 4 % 2 == 0)
-  _ ← unless (protection sel) (in_limit cpu sel)
-  pair ← pair_at (slot cpu sel)
-  as_jump cpu.cpl sel pair.1 (descriptor_of pair.0 pair.1)
+  _ ← ends_if protection_0 (nat_lt sel 4)
+  pair ← selected cpu form_stop sel
+  _ ← jump_tests cpu.cpl sel (descriptor_of pair.0 pair.1)
+  gives (loading (sel / 4 * 4 + cpu.cpl % 4) pair.1 (descriptor_of pair.0 pair.1))
 
--- the task register
+-- the task register: type 1, a task of 16 bits, is not told; the task must be available, and becomes busy
 abbrev pub is_old_task : ℕ → Bool
-is_old_task high = high / 256 % 32 == 1
+is_old_task high = kind_of high % 0x20 == 1
 
 abbrev pub as_task : ℕ → Descriptor → Work Refusal Task
 as_task sel (forms.Task base limit present busy) = do
-  _ ← unless (protection sel) (not busy)
-  _ ← unless (absent 11 sel) present
+  _ ← ends_if (protection sel) busy
+  _ ← ends_if (absent 11 sel) (not present)
   gives (record { sel = sel; base = base; limit = limit; loaded = true })
 as_task sel (forms.Code dpl present used) = refused (protection sel)
 as_task sel (forms.Plain dpl present used) = refused (protection sel)
@@ -139,11 +134,9 @@ as_task sel forms.Foreign = refused (protection sel)
 
 unfoldable pub load_task : Cpu → ℕ → Work Refusal Task
 load_task cpu sel = do
-  _ ← unless protection_0 (nat_le 4 sel)
-  _ ← unless (protection sel) (sel / 4 % 2 == 0)
-  _ ← unless (protection sel) (in_limit cpu sel)
-  pair ← pair_at (slot cpu sel)
-  _ ← unless form_stop (not (is_old_task pair.1))
+  _ ← ends_if protection_0 (nat_lt sel 4)
+  pair ← selected cpu (protection sel) sel
+  _ ← ends_if form_stop (is_old_task pair.1)
   task ← as_task sel (descriptor_of pair.0 pair.1)
   _ ← byte_set ((slot cpu sel + 5) % 2 ^ 32) (bit_or (kind_of pair.1) 2)
   gives task

@@ -1,0 +1,22 @@
+//! Sensitive instructions and deliveries, row by row: one processor, one instruction or event, and the answer that the
+//! Intel SDM and the profile's tables give.
+#![tactic(auto)]
+
+#[cfg(test)]
+mod control;
+#[cfg(test)]
+mod deliveries;
+#[cfg(test)]
+mod flags;
+#[cfg(test)]
+mod loads;
+#[cfg(test)]
+mod moves;
+#[cfg(test)]
+mod ports;
+#[cfg(test)]
+mod returns;
+#[cfg(test)]
+mod tables;
+#[cfg(test)]
+mod world;
