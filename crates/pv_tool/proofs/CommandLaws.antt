@@ -1,5 +1,7 @@
 -- What the statuses say of all commands.
-use Rattle.std.proofs.Common.{◌≡◌, ◌≢◌, ◌⊎◌, inl, inr, ℕ, ◌≤◌, Bool, List, [], ◌∷◌, Option, Some, None, Result, Ok, Err, cond, refl, sym, ap, subst, ◌∙◌, arith}
+use Rattle.std.proofs.Common.{◌≡◌, ◌≢◌, inl, inr, ℕ, ◌≤◌, Bool, true, List, [], ◌∷◌, Option, Some, None, Result, Ok, Err, length, cond, refl, sym, ap, subst, ◌∙◌, arith}
+use Rattle.std.specs.Prelude.{false, bytes_eq}
+use Rattle.std.proofs.lemmas.Slice.Eq.{bytes_eq-Decides}
 use Rattle.pv_io.specs.Causes.{Rose}
 use Rattle.pv_io.specs.Files.{FileMap, Stores, ChangesAt}
 use Rattle.pv_io.specs.Sink.{Appends}
@@ -9,6 +11,7 @@ use Rattle.board.specs.Scripts.{Events}
 use Rattle.board.specs.declared.fault.ScriptCause.{ScriptCause}
 use Rattle.elf_form.specs.ObjectParts.{ObjectParts}
 use Rattle.elf_form.specs.ObjectLayout.{object_bytes}
+use Rattle.elf_form.specs.Faults.{Fault}
 use Rattle.elf_form.specs.ImageParts.{ImageParts}
 use Rattle.elf_form.specs.ImageLayout.{image_bytes}
 use Rattle.afterburner.specs.Burnt as burning
@@ -16,8 +19,9 @@ use Rattle.afterburner.specs.Burnt.{burnt}
 use Rattle.elf_link.specs.Refusals.{Refused}
 use Rattle.elf_link.specs.Linked.{linked_image}
 use Rattle.image_check.specs.Image.{Image}
-use Rattle.image_check.specs.Refusals.{Refusal}
-use Rattle.image_check.specs.Checking.{image_of}
+use Rattle.image_check.specs.Refusals.{Refusal, ◌>>=◌}
+use Rattle.image_check.specs.Checking.{image_of, image_from, as_form}
+use Rattle.image_check.proofs.Passed.{has_passed}
 use Rattle.image_load.specs.Boot.{need}
 use Rattle.board.specs.Texts.{script_of}
 use Rattle.run_trace.specs.declared.items.End.{End}
@@ -25,11 +29,11 @@ use Rattle.run_trace.specs.declared.items.End.TheVariants.{Bound, Stopped}
 use Rattle.pv_tool.specs.Words.{Command, Burn, Link, Check, RunBare}
 use Rattle.pv_tool.specs.Outside.{Outside}
 use Rattle.pv_tool.specs.Outcome.{Outcome, printed, stored_as, ended}
-use Rattle.pv_tool.specs.Burning.{HasBurnt, ReadsBack, object_made_line, written, burned}
-use Rattle.pv_tool.specs.Linking.{HasObjects, HoldObjects, image_made_line, linked, Links, AllRead, NoObject}
+use Rattle.pv_tool.specs.Burning.{HasBurnt, object_made_line, written, burned}
+use Rattle.pv_tool.specs.Linking.{HasObjects, HoldObjects, ImageReadsBack, image_made_line, linked, Links, AllRead, NoObject}
 use Rattle.pv_tool.specs.Checking.{HasImage, accepted_line, Checks, checked}
-use Rattle.pv_tool.specs.Running.{HasScript, RunsOn, Ran, Small, RunsScript, RunsImage, Runs}
-use Rattle.pv_tool.specs.Meaning.{Gives, saved, Keeps, KeepsCount, LeavesObject, IsStored, Prints, NoStore, NoPut, Means}
+use Rattle.pv_tool.specs.Running.{HasScript, FindsRun, RunsOn, Ran, Small, RunsScript, RunsImage, Runs}
+use Rattle.pv_tool.specs.Meaning.{Gives, Finds, saved, Keeps, Counts, NoLoadFault, NoStoreFault, NoFault, ComesTo, PrintsRun, Leaves, IsStored, Prints, NoStore, NoPut, Means}
 use Rattle.pv_tool.specs.Delivery.{Says, Whole, Cut, Ends, Delivers, Stored, NotStored, NoMemory}
 use Rattle.pv_tool.specs.declared.halt.Halt.{Halt}
 use Rattle.pv_tool.specs.declared.halt.Halt.TheVariants as halt
@@ -37,7 +41,7 @@ use Rattle.pv_tool.specs.declared.status.Status.{Status}
 use Rattle.pv_tool.specs.declared.status.Status.TheVariants as status
 use Rattle.pv_tool.proofs.SameFiles.{same_file}
 use Rattle.pv_tool.proofs.BurnMeanings.{is_burnt, burns_once}
-use Rattle.pv_tool.proofs.LinkMeanings.{is_linked, links_once}
+use Rattle.pv_tool.proofs.LinkMeanings.{links_once, links_found}
 use Rattle.pv_tool.proofs.RunMeanings.{runs_none}
 
 -- ---- what is stored
@@ -135,24 +139,34 @@ means_keeps command o status.Words h = absurd h
 -- ---- where no fault came
 
 came : (command : Command) (o : Outside) (told : FileMap) (w : Outcome) (st : Status) → o.files ≡ Some told → ((v : Outcome) → Gives command (Some told) v → v ≡ w)
-    → Prints command o st → (st ≡ w.status) × IsStored w.stored o.files o.files_after × Appends o.taken o.taken_after w.text
+    → Prints command o st → ComesTo w o st
 came command o told w st files only h =
     let same = only h.0 (subst (λ (f : Option FileMap). Gives command f h.0) files h.1) in
     (sym h.2 ∙ ap (λ (v : Outcome). v.status) same, subst (λ (v : Outcome). IsStored v.stored o.files o.files_after) same h.3, subst (λ (v : Outcome). Appends o.taken o.taken_after v.text) same h.4)
 
+-- a load that failed, and a store
+no_load : (command : Command) (o : Outside) → NoLoadFault command o → Rose o.loads o.loads_after → (o.sure ≡ true → Finds command o.files → ⊥) → ⊥
+no_load command o (inl none) rose unsure = none rose
+no_load command o (inr sure) rose unsure = unsure sure.0 sure.1
+
+no_store : (name : Option (List ℕ)) (stored : Option (List ℕ × List ℕ)) (o : Outside) (n bytes : List ℕ) → IsSaved name stored → stored ≡ Some (n, bytes)
+    → NoStoreFault name o → Rose o.stores o.stores_after → (o.sure ≡ true → ⊥) → ⊥
+no_store None stored o n bytes saved is none rose unsure = subst (λ (s : Option (List ℕ × List ℕ)). IsSaved None s) is saved
+no_store (Some name) stored o n bytes saved is (inl none) rose unsure = none rose
+no_store (Some name) stored o n bytes saved is (inr sure) rose unsure = unsure sure
+
 -- work that can come to one thing only comes to that
 pub comes_to : (command : Command) (o : Outside) (told : FileMap) (w : Outcome) (st : Status) → o.files ≡ Some told
-    → ((v : Outcome) → Gives command (Some told) v → v ≡ w)
-    → (Rose o.loads o.loads_after → ⊥) → (Rose o.stores o.stores_after → ⊥) → (Rose o.puts o.puts_after → ⊥) → st ≢ status.Memory → Means command o st
-    → (st ≡ w.status) × IsStored w.stored o.files o.files_after × Appends o.taken o.taken_after w.text
-comes_to command o told w status.Done files only loads stores puts found h = came command o told w status.Done files only h
-comes_to command o told w status.Stopped files only loads stores puts found h = came command o told w status.Stopped files only h
-comes_to command o told w status.Refused files only loads stores puts found h = came command o told w status.Refused files only h
-comes_to command o told w status.ReadFault files only loads stores puts found h = absurd (loads h.0)
-comes_to command o told w status.WriteFault files only loads stores puts found (v, gives, NoStore name bytes is changes rose unsure same) = absurd (stores rose)
-comes_to command o told w status.WriteFault files only loads stores puts found (v, gives, NoPut stored front rose) = absurd (puts rose)
-comes_to command o told w status.Memory files only loads stores puts found h = absurd (found refl)
-comes_to command o told w status.Words files only loads stores puts found h = absurd h
+    → ((v : Outcome) → Gives command (Some told) v → v ≡ w) → NoFault command o → st ≢ status.Memory → Means command o st → ComesTo w o st
+comes_to command o told w status.Done files only none found h = came command o told w status.Done files only h
+comes_to command o told w status.Stopped files only none found h = came command o told w status.Stopped files only h
+comes_to command o told w status.Refused files only none found h = came command o told w status.Refused files only h
+comes_to command o told w status.ReadFault files only none found h = absurd (no_load command o none.loads h.0 h.3)
+comes_to command o told w status.WriteFault files only none found (v, gives, NoStore name bytes is changes rose unsure same) =
+    absurd (no_store (saved command) v.stored o name bytes (gives_saved command o.files v gives) is none.stores rose unsure)
+comes_to command o told w status.WriteFault files only none found (v, gives, NoPut stored front rose) = absurd (none.puts rose)
+comes_to command o told w status.Memory files only none found h = absurd (found refl)
+comes_to command o told w status.Words files only none found h = absurd h
 
 -- ---- refusals
 
@@ -204,17 +218,19 @@ refused_none (Check image) files w is h = ap (λ (v : Outcome). v.stored) h.2 �
 refused_none (RunBare image script frames n) files w is h = image_none files script frames n (image_of h.0) w h.2
 
 pub refused_again : (command : Command) (o : Outside) (told : FileMap) (w : Outcome) (st : Status) → o.files ≡ Some told → Gives command (Some told) w → w.status ≡ status.Refused
-    → (Rose o.loads o.loads_after → ⊥) → (Rose o.stores o.stores_after → ⊥) → (Rose o.puts o.puts_after → ⊥) → st ≢ status.Memory → Means command o st
+    → NoFault command o → st ≢ status.Memory → Means command o st
     → (st ≡ status.Refused) × (o.files_after ≡ o.files) × Appends o.taken o.taken_after w.text
-refused_again command o told w st files gives is loads stores puts found h =
-    let h = comes_to command o told w st files (refused_once command told w is gives) loads stores puts found h in
+refused_again command o told w st files gives is none found h =
+    let h = comes_to command o told w st files (refused_once command told w is gives) none found h in
     (h.0 ∙ is, subst (λ (s : Option (List ℕ × List ℕ)). IsStored s o.files o.files_after) (refused_none command (Some told) w is gives) h.1, h.2)
 
 -- ---- completeness of `run`
 
-settled_run : (image : Image) (events : Events) (frames n : ℕ) (w : Outcome) → need image ≤ frames → RunsOn image events frames n w → w.status ≡ status.Refused → ⊥
-settled_run image events frames n w le (Small lt one) is = absurd (omega (arith, lt, le))
-settled_run image events frames n w le (Ran text count end run one) is = ended_refused end text (sym (ap (λ (x : Outcome). x.status) one) ∙ is)
+-- an outcome of memory that is large enough is that of a run
+ran : (program : Image) (events : Events) (frames n : ℕ) (o : Outside) (w : Outcome) (st : Status) → need program ≤ frames → RunsOn program events frames n w → ComesTo w o st
+    → PrintsRun program events frames n o st
+ran program events frames n o w st le (Small lt one) came = absurd (omega (arith, lt, le))
+ran program events frames n o w st le (Ran text count end run one) came = (text, count, end, run, subst (λ (v : Outcome). ComesTo v o st) one came)
 
 -- over these files a run goes on to its text
 runs_both : (told : FileMap) (image script : List ℕ) (frames n : ℕ) (program : Image) (events : Events) (w : Outcome)
@@ -227,62 +243,52 @@ runs_both told image script frames n program events w has says h =
     let of_text = subst (λ (f : List ℕ). RunsScript program frames n (script_of f) w) same_script of_image.2 in
     subst (λ (r : Result Events (ℕ × ScriptCause)). RunsScript program frames n r w) says.2 of_text
 
+run_came : (image script : List ℕ) (frames n : ℕ) (o : Outside) (told : FileMap) (program : Image) (events : Events) (st : Status) → o.files ≡ Some told
+    → HasImage (Some told) image program → HasScript (Some told) script events → need program ≤ frames → Prints (RunBare image script frames n) o st
+    → PrintsRun program events frames n o st
+run_came image script frames n o told program events st files has says le h =
+    let gives = subst (λ (f : Option FileMap). Runs f image script frames n h.0) files h.1 in
+    ran program events frames n o h.0 st le (runs_both told image script frames n program events h.0 has says gives) (sym h.2, h.3, h.4)
+
 pub run_ends : (image script : List ℕ) (frames n : ℕ) (o : Outside) (told : FileMap) (program : Image) (events : Events) (st : Status) → o.files ≡ Some told
     → HasImage (Some told) image program → HasScript (Some told) script events → need program ≤ frames
-    → (Rose o.loads o.loads_after → ⊥) → (Rose o.puts o.puts_after → ⊥) → st ≢ status.Memory → Means (RunBare image script frames n) o st
-    → (st ≡ status.Done) ⊎ (st ≡ status.Stopped)
-run_ends image script frames n o told program events status.Done files has says le loads puts found h = inl refl
-run_ends image script frames n o told program events status.Stopped files has says le loads puts found h = inr refl
-run_ends image script frames n o told program events status.Refused files has says le loads puts found h =
-    let gives = subst (λ (f : Option FileMap). Runs f image script frames n h.0) files h.1 in
-    absurd (settled_run program events frames n h.0 le (runs_both told image script frames n program events h.0 has says gives) h.2)
-run_ends image script frames n o told program events status.ReadFault files has says le loads puts found h = absurd (loads h.0)
-run_ends image script frames n o told program events status.WriteFault files has says le loads puts found (w, gives, NoStore name bytes is changes rose unsure same) =
-    let none = image_none o.files script frames n (image_of gives.0) w gives.2 in
-    absurd (some_or_none (name, bytes) (sym is ∙ none))
-run_ends image script frames n o told program events status.WriteFault files has says le loads puts found (w, gives, NoPut stored front rose) = absurd (puts rose)
-run_ends image script frames n o told program events status.Memory files has says le loads puts found h = absurd (found refl)
-run_ends image script frames n o told program events status.Words files has says le loads puts found h = absurd h
+    → NoFault (RunBare image script frames n) o → st ≢ status.Memory → Means (RunBare image script frames n) o st
+    → PrintsRun program events frames n o st
+run_ends image script frames n o told program events status.Done files has says le none found h = run_came image script frames n o told program events status.Done files has says le h
+run_ends image script frames n o told program events status.Stopped files has says le none found h = run_came image script frames n o told program events status.Stopped files has says le h
+run_ends image script frames n o told program events status.Refused files has says le none found h = run_came image script frames n o told program events status.Refused files has says le h
+run_ends image script frames n o told program events status.ReadFault files has says le none found h = absurd (no_load (RunBare image script frames n) o none.loads h.0 h.3)
+run_ends image script frames n o told program events status.WriteFault files has says le none found (w, gives, NoStore name bytes is changes rose unsure same) =
+    absurd (no_store None w.stored o name bytes (gives_saved (RunBare image script frames n) o.files w gives) is none.stores rose unsure)
+run_ends image script frames n o told program events status.WriteFault files has says le none found (w, gives, NoPut stored front rose) = absurd (none.puts rose)
+run_ends image script frames n o told program events status.Memory files has says le none found h = absurd (found refl)
+run_ends image script frames n o told program events status.Words files has says le none found h = absurd h
 
 -- ---- completeness of the others
 
 pub burn_completes : (source object : List ℕ) (o : Outside) (told : FileMap) (parts : ObjectParts) (st : Status) → o.files ≡ Some told → HasBurnt (Some told) source parts
-    → (Rose o.loads o.loads_after → ⊥) → (Rose o.stores o.stores_after → ⊥) → (Rose o.puts o.puts_after → ⊥) → st ≢ status.Memory → Means (Burn source object) o st
-    → (st ≡ status.Done) × Stores (Some told) o.files_after object (object_bytes parts) × Appends o.taken o.taken_after (object_made_line parts)
-burn_completes source object o told parts st files has loads stores puts found h =
+    → NoFault (Burn source object) o → st ≢ status.Memory → Means (Burn source object) o st
+    → ComesTo (stored_as object (object_bytes parts) (object_made_line parts)) o st
+burn_completes source object o told parts st files has none found h =
     let w = stored_as object (object_bytes parts) (object_made_line parts) in
     let gives = is_burnt (Some told) source object (object_bytes parts) (object_made_line parts) parts has refl refl in
-    let h = comes_to (Burn source object) o told w st files (λ v k. burns_once told source object w v gives k) loads stores puts found h in
-    (h.0, subst (λ (f : Option FileMap). Stores f o.files_after object (object_bytes parts)) files h.1, h.2)
+    comes_to (Burn source object) o told w st files (λ v k. burns_once told source object w v gives k) none found h
 
 pub link_completes : (image : List ℕ) (objects : List (List ℕ)) (o : Outside) (told : FileMap) (os : List ObjectParts) (parts : ImageParts) (st : Status) → o.files ≡ Some told
     → HasObjects (Some told) objects os → linked_image os ≡ Ok parts
-    → (Rose o.loads o.loads_after → ⊥) → (Rose o.stores o.stores_after → ⊥) → (Rose o.puts o.puts_after → ⊥) → st ≢ status.Memory → Means (Link image objects) o st
-    → (st ≡ status.Done) × Stores (Some told) o.files_after image (image_bytes parts) × Appends o.taken o.taken_after (image_made_line parts)
-link_completes image objects o told os parts st files all made loads stores puts found h =
+    → NoFault (Link image objects) o → st ≢ status.Memory → Means (Link image objects) o st
+    → ComesTo (stored_as image (image_bytes parts) (image_made_line parts)) o st
+link_completes image objects o told os parts st files all made none found h =
     let w = stored_as image (image_bytes parts) (image_made_line parts) in
-    let gives = is_linked (Some told) objects image (image_bytes parts) (image_made_line parts) (os, parts, all, made, refl, refl) in
-    let h = comes_to (Link image objects) o told w st files (λ v k. links_once told image objects w v gives k) loads stores puts found h in
-    (h.0, subst (λ (f : Option FileMap). Stores f o.files_after image (image_bytes parts)) files h.1, h.2)
-
-check_came : (image : List ℕ) (o : Outside) (told : FileMap) (program : Image) (st : Status) → o.files ≡ Some told → HasImage (Some told) image program → Prints (Check image) o st
-    → (st ≡ status.Done) × (o.files_after ≡ o.files) × Appends o.taken o.taken_after (accepted_line program)
-check_came image o told program st files has h =
-    let w = printed (accepted_line program) in
-    came (Check image) o told w st files (λ v k. checks_once told image w v (has.0, has.1, sym (ap checked has.2)) k) h
+    let gives : Links (Some told) image objects w = AllRead os all (sym (ap (linked image) made)) in
+    comes_to (Link image objects) o told w st files (λ v k. links_once told image objects w v gives k) none found h
 
 pub check_completes : (image : List ℕ) (o : Outside) (told : FileMap) (program : Image) (st : Status) → o.files ≡ Some told → HasImage (Some told) image program
-    → (Rose o.loads o.loads_after → ⊥) → (Rose o.puts o.puts_after → ⊥) → st ≢ status.Memory → Means (Check image) o st
-    → (st ≡ status.Done) × (o.files_after ≡ o.files) × Appends o.taken o.taken_after (accepted_line program)
-check_completes image o told program status.Done files has loads puts found h = check_came image o told program status.Done files has h
-check_completes image o told program status.Stopped files has loads puts found h = check_came image o told program status.Stopped files has h
-check_completes image o told program status.Refused files has loads puts found h = check_came image o told program status.Refused files has h
-check_completes image o told program status.ReadFault files has loads puts found h = absurd (loads h.0)
-check_completes image o told program status.WriteFault files has loads puts found (w, gives, NoStore name bytes is changes rose unsure same) =
-    absurd (some_or_none (name, bytes) (sym is ∙ (ap (λ (v : Outcome). v.stored) gives.2 ∙ checked_none (image_of gives.0))))
-check_completes image o told program status.WriteFault files has loads puts found (w, gives, NoPut stored front rose) = absurd (puts rose)
-check_completes image o told program status.Memory files has loads puts found h = absurd (found refl)
-check_completes image o told program status.Words files has loads puts found h = absurd h
+    → NoFault (Check image) o → st ≢ status.Memory → Means (Check image) o st
+    → ComesTo (printed (accepted_line program)) o st
+check_completes image o told program st files has none found h =
+    let w = printed (accepted_line program) in
+    comes_to (Check image) o told w st files (λ v k. checks_once told image w v (has.0, has.1, sym (ap checked has.2)) k) none found h
 
 -- ---- over the words
 
@@ -293,53 +299,70 @@ same_command a b form is be = cc
 pub means_of : (a : Command) (form : Option Command) (o : Outside) (st : Status) → Some a ≡ form → Means a o st → (command : Command) → form ≡ Some command → Means command o st
 means_of a form o st is h command be = subst (λ (k : Command). Means k o st) (same_command a command form is be) h
 
-pub counts_of : (a : Command) (form : Option Command) (before now : ℕ) → Some a ≡ form → KeepsCount (saved a) before now → (command : Command) → form ≡ Some command → KeepsCount (saved command) before now
-counts_of a form before now is h command be = subst (λ (k : Command). KeepsCount (saved k) before now) (same_command a command form is be) h
+pub counts_of : (a : Command) (form : Option Command) (o : Outside) → Some a ≡ form → Counts a o → (command : Command) → form ≡ Some command → Counts command o
+counts_of a form o is h command be = subst (λ (k : Command). Counts k o) (same_command a command form is be) h
 
-pub leaves_of : (a : Command) (form : Option Command) (old new : Option FileMap) (st : Status) → Some a ≡ form → LeavesObject a old new st → (command : Command) → form ≡ Some command → LeavesObject command old new st
-leaves_of a form old new st is h command be = subst (λ (k : Command). LeavesObject k old new st) (same_command a command form is be) h
+pub leaves_of : (a : Command) (form : Option Command) (old new : Option FileMap) → Some a ≡ form → Leaves a old new → (command : Command) → form ≡ Some command → Leaves command old new
+leaves_of a form old new is h command be = subst (λ (k : Command). Leaves k old new) (same_command a command form is be) h
 
--- ---- sources that are burnt and then linked
+-- ---- what is left where the work is done
 
-held_objects : (told : FileMap) (names : List (List ℕ)) (os : List ObjectParts) → HoldObjects told names os → HasObjects (Some told) names os
+pub stored_done : (o : Outside) (name bytes line : List ℕ) (st : Status) → Delivers name bytes line o st → st ≡ status.Done → Stores o.files o.files_after name bytes
+stored_done o name bytes line st (Stored stores said) done = stores
+stored_done o name bytes line st (NotStored is changes rose unsure none) done = cc
+stored_done o name bytes line st (NoMemory is kept none) done = cc
+
+not_said : (line : List ℕ) (taken taken2 : Option (List ℕ)) (puts puts2 : ℕ) (st : Status) → Says line status.Refused taken taken2 puts puts2 st → st ≡ status.Done → ⊥
+not_said line taken taken2 puts puts2 st (Whole is appends) done = cc
+not_said line taken taken2 puts puts2 st (Cut is front rose) done = cc
+
+-- work that has ended with nothing stored isn't done
+pub not_ended : (h : Halt) (taken taken2 : Option (List ℕ)) (puts puts2 : ℕ) (st : Status) → Ends h taken taken2 puts puts2 st → st ≡ status.Done → ⊥
+not_ended (halt.Refused line) taken taken2 puts puts2 st is done = not_said line taken taken2 puts puts2 st is done
+not_ended halt.ReadFault taken taken2 puts puts2 st is done = cc (is.0, done)
+not_ended halt.Memory taken taken2 puts puts2 st is done = cc (is.0, done)
+
+-- ---- laws
+
+pub held_objects : (told : FileMap) (names : List (List ℕ)) (os : List ObjectParts) → HoldObjects told names os → HasObjects (Some told) names os
 held_objects told [] [] h = h
 held_objects told [] (o ∷ os) h = absurd h
 held_objects told (name ∷ names) [] h = absurd h
 held_objects told (name ∷ names) (o ∷ os) h = ((object_bytes o, h.0, h.2 h.1), held_objects told names os h.3)
 
-pub chain_completes : (image : List ℕ) (objects : List (List ℕ)) (o : Outside) (told : FileMap) (os : List ObjectParts) (parts : ImageParts) (st : Status) → o.files ≡ Some told
-    → HoldObjects told objects os → linked_image os ≡ Ok parts
-    → (Rose o.loads o.loads_after → ⊥) → (Rose o.stores o.stores_after → ⊥) → (Rose o.puts o.puts_after → ⊥) → st ≢ status.Memory → Means (Link image objects) o st
-    → (st ≡ status.Done) × Stores (Some told) o.files_after image (image_bytes parts) × Appends o.taken o.taken_after (image_made_line parts)
-chain_completes image objects o told os parts st files all made loads stores puts found h =
-    link_completes image objects o told os parts st files (held_objects told objects os all) made loads stores puts found h
+-- where the work comes to something, each file that it reaches is held
+run_found : (told : FileMap) (image script : List ℕ) (frames n : ℕ) (w : Outcome) → Runs (Some told) image script frames n w → FindsRun (Some told) image script
+run_found told image script frames n w h = (
+  (h.0, h.1),
+  λ program has.
+      let same = same_file told image h.0 has.0 h.1 has.1 in
+      let of_file = subst (λ (f : List ℕ). RunsImage (Some told) script frames n (image_of f) w) same h.2 in
+      let of_image = subst (λ (r : Result Image Refusal). RunsImage (Some told) script frames n r w) has.2 of_file in
+      (of_image.0, of_image.1),
+)
 
--- a file that was stored where the work is done
-pub stored_done : (o : Outside) (files : Option FileMap) (source name bytes line : List ℕ) (parts : ObjectParts) (st : Status) → o.files ≡ files → HasBurnt files source parts → bytes ≡ object_bytes parts → ReadsBack parts
-    → Delivers name bytes line o st → LeavesObject (Burn source name) files o.files_after st
-stored_done o files source name bytes line parts status.Done same has is back (Stored stores said) =
-    (parts, has, back, subst (λ (b : List ℕ). Stores files o.files_after name b) is (subst (λ (f : Option FileMap). Stores f o.files_after name bytes) same stores))
-stored_done o files source name bytes line parts status.Done same has is back (NotStored wrong changes rose unsure none) = cc
-stored_done o files source name bytes line parts status.Done same has is back (NoMemory wrong kept none) = cc
-stored_done o files source name bytes line parts status.Words same has is back h = tt
-stored_done o files source name bytes line parts status.Refused same has is back h = tt
-stored_done o files source name bytes line parts status.Stopped same has is back h = tt
-stored_done o files source name bytes line parts status.ReadFault same has is back h = tt
-stored_done o files source name bytes line parts status.WriteFault same has is back h = tt
-stored_done o files source name bytes line parts status.Memory same has is back h = tt
+pub gives_found : (command : Command) (told : FileMap) (w : Outcome) → Gives command (Some told) w → Finds command (Some told)
+gives_found (Burn source object) told w h = (h.text, h.holds)
+gives_found (Link image objects) told w h = links_found told image objects w h
+gives_found (Check image) told w h = (h.0, h.1)
+gives_found (RunBare image script frames n) told w h = run_found told image script frames n w h
 
-not_done : (source name line : List ℕ) (old new : Option FileMap) (taken taken2 : Option (List ℕ)) (puts puts2 : ℕ) (st : Status) → Says line status.Refused taken taken2 puts puts2 st → LeavesObject (Burn source name) old new st
-not_done source name line old new taken taken2 puts puts2 status.Done (Whole wrong appends) = cc
-not_done source name line old new taken taken2 puts puts2 status.Done (Cut wrong front rose) = cc
-not_done source name line old new taken taken2 puts puts2 status.Words h = tt
-not_done source name line old new taken taken2 puts puts2 status.Refused h = tt
-not_done source name line old new taken taken2 puts puts2 status.Stopped h = tt
-not_done source name line old new taken taken2 puts puts2 status.ReadFault h = tt
-not_done source name line old new taken taken2 puts puts2 status.WriteFault h = tt
-not_done source name line old new taken taken2 puts puts2 status.Memory h = tt
+pub image_again : (told : FileMap) (name : List ℕ) (p : ImageParts) (program : Image) → told name ≡ Some (image_bytes p) → length (image_bytes p) ≤ 33554432 → ImageReadsBack p
+    → image_from p ≡ Ok program → HasImage (Some told) name program
+image_again told name p program holds le back from =
+    (image_bytes p, holds, unfold image_of in (subst (λ (r : Result ImageParts Fault). (as_form r >>= image_from) ≡ Ok program) (sym (back le)) from))
 
--- work that has ended with nothing stored
-pub ended_first : (source name : List ℕ) (old new : Option FileMap) (h : Halt) (taken taken2 : Option (List ℕ)) (puts puts2 : ℕ) (st : Status) → Ends h taken taken2 puts puts2 st → LeavesObject (Burn source name) old new st
-ended_first source name old new (halt.Refused line) taken taken2 puts puts2 st is = not_done source name line old new taken taken2 puts puts2 st is
-ended_first source name old new halt.ReadFault taken taken2 puts puts2 st is = subst (λ (s : Status). LeavesObject (Burn source name) old new s) (sym is.0) tt
-ended_first source name old new halt.Memory taken taken2 puts puts2 st is = subst (λ (s : Status). LeavesObject (Burn source name) old new s) (sym is.0) tt
+pub image_parts : (p : ImageParts) (program : Image) → image_from p ≡ Ok program
+    → (program.text ≡ p.text) × (program.init ≡ p.init) × (program.bss ≡ p.bss) × (program.entry ≡ p.entry)
+image_parts p program from =
+    let is = (has_passed p program from).image_is in
+    (sym (ap (λ (i : Image). i.text) is), sym (ap (λ (i : Image). i.init) is), sym (ap (λ (i : Image). i.bss) is), sym (ap (λ (i : Image). i.entry) is))
+
+pub stored_again : (told : FileMap) (new : Option FileMap) (name bytes : List ℕ) → Stores (Some told) new name bytes
+    → (later : FileMap) × (new ≡ Some later) × (later name ≡ Some bytes) × ((q : List ℕ) → bytes_eq q name ≡ false → later q ≡ told q)
+stored_again told new name bytes h = (
+  h.0,
+  h.1,
+  h.2 name ∙ ap (λ (b : Bool). cond b (Some bytes) (told name)) ((bytes_eq-Decides name name).1 refl),
+  λ q other. h.2 q ∙ ap (λ (b : Bool). cond b (Some bytes) (told q)) other,
+)

@@ -1,14 +1,16 @@
 -- From what was told to the outside to what the program's status means.
-use Rattle.std.proofs.Common.{◌≡◌, ℕ, ◌≤◌, Bool, List, [], ◌++◌, Option, Result, Ok, IfOk, refl, sym, ap, subst, ◌∙◌, arith}
+use Rattle.std.proofs.Common.{◌≡◌, ℕ, ◌≤◌, Bool, List, [], ◌++◌, Option, Some, None, Result, Ok, IfOk, refl, sym, ap, subst, ◌∙◌, arith}
 use Rattle.std.specs.declared.alloc.AllocError.{AllocError}
 use Rattle.pv_io.specs.Files.{FileMap, Holds, Loads}
 use Rattle.pv_io.specs.Sink.{Appends}
+use Rattle.pv_io.specs.declared.files.Files as disk
+use Rattle.pv_io.specs.declared.sink.Sink as sink
 use Rattle.bare_machine.proofs.Texts.{rose_later}
 use Rattle.pv_tool.specs.Words.{Command}
-use Rattle.pv_tool.specs.Outside.{Outside, OnlyRead}
+use Rattle.pv_tool.specs.Outside.{Outside, outside, OnlyRead, NotRead}
 use Rattle.pv_tool.specs.Outcome.{Outcome, refused, stored_as}
 use Rattle.pv_tool.specs.Delivery.{HaltsAs, RefusesAs, Says, Whole, Cut, Ends, Delivers, Stored, NotStored, NoMemory}
-use Rattle.pv_tool.specs.Meaning.{Means, Gives, AreHeld, IsStored, NoStore, NoPut}
+use Rattle.pv_tool.specs.Meaning.{Means, Gives, Finds, Counts, KeepsCount, IsStored, NoStore, NoPut, saved}
 use Rattle.pv_tool.specs.declared.halt.Halt.{Halt}
 use Rattle.pv_tool.specs.declared.halt.Halt.TheVariants as halt
 use Rattle.pv_tool.specs.declared.status.Status.{Status}
@@ -50,7 +52,7 @@ says command o w st end gives stored (Cut is front rose) =
 
 -- work that ended with nothing stored
 pub halts : (told : List ℕ → Type 0) (held : Type 0) (command : Command) (o : Outside) (st : Status) (h : Halt)
-    → ((line : List ℕ) → told line → Gives command o.files (refused line)) → (AreHeld command o.files → held) → o.files_after ≡ o.files
+    → ((line : List ℕ) → told line → Gives command o.files (refused line)) → (Finds command o.files → held) → o.files_after ≡ o.files
     → HaltsAs told held o.sure o.loads o.loads_after h → Ends h o.taken o.taken_after o.puts o.puts_after st → Means command o st
 halts told held command o st (halt.Refused line) gives needs same is ends = says command o (refused line) st tt (gives line is) same ends
 halts told held command o st halt.ReadFault gives needs same is ends =
@@ -118,10 +120,52 @@ delivered command o files sure loads stores name bytes line st same_files same_s
     subst (λ (n : ℕ). Means command (record o { files = files; sure = sure; stores = n; loads = loads }) st) same_stores over_sure
 
 -- files that were read again
-pub read_on : (a b c : Option FileMap) (s t u : Bool) (i j k l m n : ℕ) → OnlyRead a b s t i j l m → OnlyRead b c t u j k m n → OnlyRead a c s u i k l n
-read_on a b c s t u i j k l m n first later = record {
+pub read_on : {F : Type 0} (f : disk.Ghosts F) (found more : Type 0) (a b c : F) → OnlyRead f found a b → OnlyRead f more b c → (found → more) → OnlyRead f found a c
+read_on f found more a b c first later finds = record {
   held = later.held ∙ first.held;
   same_sure = later.same_sure ∙ first.same_sure;
   same_stores = later.same_stores ∙ first.same_stores;
   later = omega (arith, first.later, later.later);
+  no_fault = λ sure held. later.no_fault (first.same_sure ∙ sure) (finds held) ∙ first.no_fault sure held;
+}
+
+-- the same of files that are among those
+pub read_for : {F : Type 0} (f : disk.Ghosts F) (found more : Type 0) (a b : F) → OnlyRead f more a b → (found → more) → OnlyRead f found a b
+read_for f found more a b read finds = record {
+  held = read.held;
+  same_sure = read.same_sure;
+  same_stores = read.same_stores;
+  later = read.later;
+  no_fault = λ sure held. read.no_fault sure (finds held);
+}
+
+pub read_none : {F : Type 0} (f : disk.Ghosts F) (found : Type 0) (a : F) → OnlyRead f found a a
+read_none f found a = record { held = refl; same_sure = refl; same_stores = refl; later = omega arith; no_fault = λ sure held. refl }
+
+-- ---- the counts
+
+same_count : (name : Option (List ℕ)) (before now : ℕ) → now ≡ before → KeepsCount name before now
+same_count None before now same = same
+same_count (Some name) before now same = omega (arith, same)
+
+-- of work that stored nothing
+pub counts_read : {F S : Type 0} (f : disk.Ghosts F) (s : sink.Ghosts S) (command : Command) (a b : F) (out out2 : S) → OnlyRead f (Finds command (f.held a)) a b → Counts command (outside f s a b out out2)
+counts_read f s command a b out out2 read = record {
+  same_sure = read.same_sure;
+  loads = read.later;
+  stores = same_count (saved command) (f.store_faults a) (f.store_faults b) read.same_stores;
+  sure_loads = read.no_fault;
+  sure_stores = λ sure. read.same_stores;
+}
+
+-- of work that stored
+pub counts_stored : {F S : Type 0} (f : disk.Ghosts F) (s : sink.Ghosts S) (command : Command) (a b c : F) (out out2 : S)
+    → (f.store_faults a ≤ f.store_faults c → KeepsCount (saved command) (f.store_faults a) (f.store_faults c))
+    → OnlyRead f (Finds command (f.held a)) a b → NotRead f b c → Counts command (outside f s a c out out2)
+counts_stored f s command a b c out out2 keeps read stored = record {
+  same_sure = stored.same_sure ∙ read.same_sure;
+  loads = omega (arith, read.later, stored.same_loads);
+  stores = keeps (omega (arith, read.same_stores, stored.later));
+  sure_loads = λ sure finds. stored.same_loads ∙ read.no_fault sure finds;
+  sure_stores = λ sure. stored.no_fault (read.same_sure ∙ sure) ∙ read.same_stores;
 }

@@ -1,10 +1,8 @@
 -- The meaning of `link`.
 use Rattle.std.proofs.Common.{◌≡◌, ℕ, zero, suc, ◌<◌, List, [], ◌∷◌, ◌++◌, length, map, take, drop, get_or, Option, Some, Ok, Err, refl, sym, ap, subst, ◌∙◌, arith}
 use Rattle.std.specs.Prelude.{All}
-use Rattle.std.proofs.Math.Seq.{get_or-append_seam}
 use Rattle.std.proofs.lemmas.List.Elements.{All-append}
-use Rattle.std.proofs.Common.{length-append}
-use Rattle.pv_io.specs.Files.{FileMap}
+use Rattle.pv_io.specs.Files.{FileMap, IsHeld}
 use Rattle.elf_form.specs.Faults.{Fault}
 use Rattle.elf_form.specs.ObjectParts.{ObjectParts}
 use Rattle.elf_form.specs.ObjectReading.{object_in}
@@ -14,7 +12,7 @@ use Rattle.elf_link.specs.Refusals.{Refused}
 use Rattle.elf_link.specs.Linked.{linked_image}
 use Rattle.pv_tool.specs.Lines.{form_number, object_place_line, link_line}
 use Rattle.pv_tool.specs.Outcome.{Outcome, refused, stored_as}
-use Rattle.pv_tool.specs.Linking.{HasObject, HasNoObject, HasObjects, FirstFault, image_made_line, linked, Links, AllRead, NoObject}
+use Rattle.pv_tool.specs.Linking.{HasObject, HasNoObject, HasObjects, FindsObjects, FirstFault, HasLinked, image_made_line, linked, Links, AllRead, NoObject}
 use Rattle.pv_tool.proofs.SameFiles.{same_file}
 
 -- ---- objects that are read one after the other
@@ -44,11 +42,11 @@ pub not_linked : (files : Option FileMap) (names : List (List ℕ)) (image line 
 not_linked files names image line os fault all fails is = AllRead os all (ap refused is ∙ sym (ap (linked image) fails))
 
 pub is_linked : (files : Option FileMap) (names : List (List ℕ)) (image bytes line : List ℕ)
-    → (os : List ObjectParts) × (p : ImageParts) × HasObjects files names os × (linked_image os ≡ Ok p) × (bytes ≡ image_bytes p) × (line ≡ image_made_line p)
+    → (p : ImageParts) × HasLinked files names p × (bytes ≡ image_bytes p) × (line ≡ image_made_line p)
     → Links files image names (stored_as image bytes line)
 is_linked files names image bytes line h =
-    AllRead h.0 h.2
-    (ap (λ (b : List ℕ). stored_as image b line) h.4 ∙ (ap (stored_as image (image_bytes h.1)) h.5 ∙ sym (ap (linked image) h.3)))
+    AllRead h.1.read h.1.holds
+    (ap (λ (b : List ℕ). stored_as image b line) h.2 ∙ (ap (stored_as image (image_bytes h.0)) h.3 ∙ sym (ap (linked image) h.1.linked_is)))
 
 -- ---- once
 
@@ -123,10 +121,35 @@ taken_length f [] i lt = absurd (omega arith)
 taken_length f (y ∷ ys) zero lt = refl
 taken_length f (y ∷ ys) (suc i) lt = ap suc (taken_length f ys i (omega arith))
 
-pub all_at : (P : List ℕ → Type 0) (xs before later : List (List ℕ)) (x : List ℕ) → xs ≡ before ++ x ∷ later → All P xs → P x
-all_at P xs before later x is all =
-    let every = subst (λ (l : List (List ℕ)). All P l) is all in
-    subst P (get_or-append_seam before x later x) (every (length before) x (rw length-append (omega arith)))
+-- the name behind names that hold objects is held where each name that is reached is
+pub found_at : (files : Option FileMap) (before : List (List ℕ)) (os : List ObjectParts) (name : List ℕ) (later : List (List ℕ))
+    → HasObjects files before os → FindsObjects files (before ++ name ∷ later) → IsHeld files name
+found_at files [] os name later all finds = finds.0
+found_at files (n ∷ before) [] name later all finds = absurd all
+found_at files (n ∷ before) (o ∷ os) name later all finds = found_at files before os name later all.1 (finds.1 o all.0)
+
+-- the next name, over the files as they are then
+pub found_next : {A : Type 0} (f : A → List ℕ) (files now : Option FileMap) (xs : List A) (i : ℕ) (x : A) (name : List ℕ) (os : List ObjectParts) → i < length xs → x ≡ get_or xs i x → name ≡ f x
+    → now ≡ files → HasObjects files (map f (take i xs)) os → FindsObjects files (map f xs) → IsHeld now name
+found_next f files now xs i x name os lt at is same all finds =
+    let here = subst (λ (l : List (List ℕ)). FindsObjects files l) (split_at f xs i x lt at) finds in
+    let held = found_at files (map f (take i xs)) os (f x) (map f (drop (suc i) xs)) all here in
+    subst (λ (m : Option FileMap). IsHeld m name) (sym same) (subst (λ (n : List ℕ). IsHeld files n) (sym is) held)
+
+-- where the objects are read, or one is refused, each name that is reached is held
+finds_all : (told : FileMap) (names : List (List ℕ)) (os : List ObjectParts) → HasObjects (Some told) names os → FindsObjects (Some told) names
+finds_all told [] os all = tt
+finds_all told (n ∷ names) [] all = absurd all
+finds_all told (n ∷ names) (o ∷ os) all = ((all.0.0, all.0.1), λ p has. finds_all told names os all.1)
+
+finds_first : (told : FileMap) (names : List (List ℕ)) (i : ℕ) (fault : Fault) → FirstFault (Some told) names i fault → FindsObjects (Some told) names
+finds_first told [] i fault first = tt
+finds_first told (n ∷ names) zero fault first = ((first.0, first.1), λ p has. absurd (object_or_not told n p fault has first))
+finds_first told (n ∷ names) (suc i) fault first = ((first.1.0, first.1.1), λ p has. finds_first told names i fault first.2)
+
+pub links_found : (told : FileMap) (image : List ℕ) (names : List (List ℕ)) (w : Outcome) → Links (Some told) image names w → FindsObjects (Some told) names
+links_found told image names w (AllRead os all is) = finds_all told names os all
+links_found told image names w (NoObject i fault first is) = finds_first told names i fault first
 
 all_one : (P : ObjectParts → Type 0) (x : ObjectParts) → P x → (k : ℕ) (d : ObjectParts) → k < length (x ∷ []) → P (get_or (x ∷ []) k d)
 all_one P x one zero d lt = one

@@ -3,6 +3,7 @@ use Rattle.std.specs.Prelude.{◌≡◌, ℕ, Bool, true, List, Option}
 use Rattle.pv_io.specs.Causes.{Rose}
 use Rattle.pv_io.specs.Files.{Stores, ChangesAt}
 use Rattle.pv_io.specs.Sink.{Appends, AppendsFront}
+use Rattle.pv_io.specs.declared.files.Files as disk
 use Rattle.pv_tool.specs.declared.halt.Halt.{Halt}
 use Rattle.pv_tool.specs.declared.halt.Halt.TheVariants as halt
 use Rattle.pv_tool.specs.declared.status.Status.{Status}
@@ -12,9 +13,13 @@ use Rattle.pv_tool.specs.Outside.{Outside}
 -- Why work ends with nothing stored or printed: a refusal with a line of these, or a load failed, which over sure
 -- files that hold what is read none does.
 abbrev pub HaltsAs : (List ℕ → Type 0) → Type 0 → Bool → ℕ → ℕ → Halt → Type 0
-HaltsAs told held sure before now (halt.Refused line) = told line
-HaltsAs told held sure before now halt.ReadFault = Rose before now × (sure ≡ true → held → ⊥)
-HaltsAs told held sure before now halt.Memory = Unit {0}
+HaltsAs told found sure before now (halt.Refused line) = told line
+HaltsAs told found sure before now halt.ReadFault = Rose before now × (sure ≡ true → found → ⊥)
+HaltsAs told found sure before now halt.Memory = Unit {0}
+
+-- the same of files before and after
+abbrev pub Halts : {F : Type 0} → disk.Ghosts F → Type 0 → F → F → (List ℕ → Type 0) → Halt → Type 0
+Halts f found old new told h = HaltsAs told found (f.sure old) (f.load_faults old) (f.load_faults new) h
 
 -- The text was put, with the status that is meant with it, or the output failed within it.
 pub data Says (text : List ℕ) (meant : Status) (old new : Option (List ℕ)) (before now : ℕ) (result : Status) : Type 0 where

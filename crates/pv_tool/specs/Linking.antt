@@ -1,6 +1,6 @@
 -- The work of `link`: each object is read before the next is loaded.
 use Rattle.std.specs.Prelude.{◌≡◌, ◌≤◌, ℕ, zero, suc, List, [], ◌∷◌, Option, Some, Result, Ok, Err, length, codes}
-use Rattle.pv_io.specs.Files.{FileMap, Holds}
+use Rattle.pv_io.specs.Files.{FileMap, Holds, IsHeld}
 use Rattle.elf_form.specs.Faults.{Fault}
 use Rattle.elf_form.specs.ObjectParts.{ObjectParts}
 use Rattle.elf_form.specs.ObjectLayout.{object_bytes}
@@ -8,6 +8,7 @@ use Rattle.elf_form.specs.ObjectReading.{object_in}
 use Rattle.elf_form.specs.ImageParts.{ImageParts}
 use Rattle.sites.specs.Formats.{told_count}
 use Rattle.elf_form.specs.ImageLayout.{image_bytes}
+use Rattle.elf_form.specs.Reading.{image_in}
 use Rattle.elf_link.specs.Refusals.{Refused}
 use Rattle.elf_link.specs.Linked.{linked_image}
 use Rattle.pv_tool.specs.Lines.{form_number, sizes_line, object_place_line, link_line}
@@ -26,6 +27,11 @@ HasObjects files [] [] = Unit {0}
 HasObjects files [] (o ∷ os) = ⊥
 HasObjects files (name ∷ names) [] = ⊥
 HasObjects files (name ∷ names) (o ∷ os) = HasObject files name o × HasObjects files names os
+
+-- Each name that is reached is held: a name is reached where those before it hold objects.
+abbrev pub FindsObjects : Option FileMap → List (List ℕ) → Type 0
+FindsObjects files [] = Unit {0}
+FindsObjects files (name ∷ names) = IsHeld files name × ((o : ObjectParts) → HasObject files name o → FindsObjects files names)
 
 -- the first name whose file is no object, counted from 0
 abbrev pub FirstFault : Option FileMap → List (List ℕ) → ℕ → Fault → Type 0
@@ -52,3 +58,14 @@ HoldObjects told [] [] = Unit {0}
 HoldObjects told [] (o ∷ os) = ⊥
 HoldObjects told (name ∷ names) [] = ⊥
 HoldObjects told (name ∷ names) (o ∷ os) = (told name ≡ Some (object_bytes o)) × (length (object_bytes o) ≤ 33554432) × ReadsBack o × HoldObjects told names os
+
+-- The file of an image is read as that image, unless it is too long.
+abbrev pub ImageReadsBack : ImageParts → Type 0
+ImageReadsBack p = length (image_bytes p) ≤ 33554432 → image_in (image_bytes p) ≡ Ok p
+
+-- the objects that the names hold are linked to this image, which is read back
+pub record HasLinked (files : Option FileMap) (objects : List (List ℕ)) (p : ImageParts) : Type 0 where
+  pub read : List ObjectParts
+  pub holds : HasObjects files objects read
+  pub linked_is : linked_image read ≡ Ok p
+  pub reads_back : ImageReadsBack p

@@ -1,17 +1,23 @@
 -- What the program's answer means, over what its files hold and what its output took.
-use Rattle.std.specs.Prelude.{◌≡◌, ◌≤◌, ℕ, true, List, All, Option, Some, None}
+use Rattle.std.specs.Prelude.{◌≡◌, ◌⊎◌, ◌≤◌, ℕ, true, List, Option, Some, None}
 use Rattle.pv_io.specs.Causes.{Rose}
 use Rattle.pv_io.specs.Files.{FileMap, IsHeld, Stores, ChangesAt}
 use Rattle.pv_io.specs.Sink.{Appends, AppendsFront}
 use Rattle.pv_tool.specs.Words.{Command, Burn, Link, Check, RunBare}
 use Rattle.pv_tool.specs.Outside.{Outside}
-use Rattle.pv_tool.specs.Outcome.{Outcome}
+use Rattle.pv_tool.specs.Outcome.{Outcome, ended}
 use Rattle.elf_form.specs.ObjectParts.{ObjectParts}
 use Rattle.elf_form.specs.ObjectLayout.{object_bytes}
+use Rattle.elf_form.specs.ImageParts.{ImageParts}
+use Rattle.elf_form.specs.ImageLayout.{image_bytes}
+use Rattle.image_check.specs.Image.{Image}
+use Rattle.board.specs.Scripts.{Events}
+use Rattle.run_trace.specs.declared.items.End.{End}
+use Rattle.bare_machine.specs.Answers.{HasRun}
 use Rattle.pv_tool.specs.Burning.{Burns, HasBurnt, ReadsBack}
-use Rattle.pv_tool.specs.Linking.{Links}
+use Rattle.pv_tool.specs.Linking.{Links, HasLinked, FindsObjects}
 use Rattle.pv_tool.specs.Checking.{Checks}
-use Rattle.pv_tool.specs.Running.{Runs}
+use Rattle.pv_tool.specs.Running.{Runs, FindsRun}
 use Rattle.pv_tool.specs.declared.status.Status.{Status}
 use Rattle.pv_tool.specs.declared.status.Status.TheVariants as status
 
@@ -22,12 +28,12 @@ Gives (Link image objects) files w = Links files image objects w
 Gives (Check image) files w = Checks files image w
 Gives (RunBare image script frames n) files w = Runs files image script frames n w
 
--- the files that a command reads are held
-abbrev pub AreHeld : Command → Option FileMap → Type 0
-AreHeld (Burn source object) files = IsHeld files source
-AreHeld (Link image objects) files = All (IsHeld files) objects
-AreHeld (Check image) files = IsHeld files image
-AreHeld (RunBare image script frames n) files = IsHeld files image × IsHeld files script
+-- each file that the command reaches is held
+abbrev pub Finds : Command → Option FileMap → Type 0
+Finds (Burn source object) files = IsHeld files source
+Finds (Link image objects) files = FindsObjects files objects
+Finds (Check image) files = IsHeld files image
+Finds (RunBare image script frames n) files = FindsRun files image script
 
 -- the name that a command stores at
 abbrev pub saved : Command → Option (List ℕ)
@@ -60,8 +66,8 @@ abbrev pub Means : Command → Outside → Status → Type 0
 Means command o status.Done = Prints command o status.Done
 Means command o status.Stopped = Prints command o status.Stopped
 Means command o status.Refused = Prints command o status.Refused
--- only where a load failed, and not over sure files that hold what is read
-Means command o status.ReadFault = Rose o.loads o.loads_after × (o.files_after ≡ o.files) × (o.taken_after ≡ o.taken) × (o.sure ≡ true → AreHeld command o.files → ⊥)
+-- only where a load failed, and not over sure files that hold what is reached
+Means command o status.ReadFault = Rose o.loads o.loads_after × (o.files_after ≡ o.files) × (o.taken_after ≡ o.taken) × (o.sure ≡ true → Finds command o.files → ⊥)
 Means command o status.WriteFault = (w : Outcome) × Gives command o.files w × Fails w o
 Means command o status.Memory = (o.files_after ≡ o.files) × (o.taken_after ≡ o.taken)
 Means command o status.Words = ⊥
@@ -71,19 +77,41 @@ abbrev pub KeepsCount : Option (List ℕ) → ℕ → ℕ → Type 0
 KeepsCount None before now = now ≡ before
 KeepsCount (Some name) before now = before ≤ now
 
--- a source that was burnt, whose object's file was stored and is read back
-abbrev pub StoresBurnt : Option FileMap → Option FileMap → List ℕ → List ℕ → Type 0
-StoresBurnt old new source object = (o : ObjectParts) × HasBurnt old source o × ReadsBack o × Stores old new object (object_bytes o)
+-- What becomes of the counts. Files that are sure stay so; over them no store fails, and no load where what is reached is held.
+pub record Counts (command : Command) (o : Outside) : Type 0 where
+  pub same_sure : o.sure_after ≡ o.sure
+  pub loads : o.loads ≤ o.loads_after
+  pub stores : KeepsCount (saved command) o.stores o.stores_after
+  pub sure_loads : o.sure ≡ true → Finds command o.files → o.loads_after ≡ o.loads
+  pub sure_stores : o.sure ≡ true → o.stores_after ≡ o.stores
 
--- what `burn` leaves where it is done
-abbrev pub LeavesObject : Command → Option FileMap → Option FileMap → Status → Type 0
-LeavesObject (Burn source object) old new status.Done = StoresBurnt old new source object
-LeavesObject (Burn source object) old new status.Words = Unit {0}
-LeavesObject (Burn source object) old new status.Refused = Unit {0}
-LeavesObject (Burn source object) old new status.Stopped = Unit {0}
-LeavesObject (Burn source object) old new status.ReadFault = Unit {0}
-LeavesObject (Burn source object) old new status.WriteFault = Unit {0}
-LeavesObject (Burn source object) old new status.Memory = Unit {0}
-LeavesObject (Link image objects) old new st = Unit {0}
-LeavesObject (Check image) old new st = Unit {0}
-LeavesObject (RunBare image script frames n) old new st = Unit {0}
+-- no load of the command failed: the count didn't rise, or the files are sure and hold what is reached
+abbrev pub NoLoadFault : Command → Outside → Type 0
+NoLoadFault command o = (Rose o.loads o.loads_after → ⊥) ⊎ ((o.sure ≡ true) × Finds command o.files)
+
+-- the store didn't fail, where there is one: the count didn't rise, or the files are sure
+abbrev pub NoStoreFault : Option (List ℕ) → Outside → Type 0
+NoStoreFault None o = Unit {0}
+NoStoreFault (Some name) o = (Rose o.stores o.stores_after → ⊥) ⊎ (o.sure ≡ true)
+
+-- no load, store or put of the command failed
+pub record NoFault (command : Command) (o : Outside) : Type 0 where
+  pub loads : NoLoadFault command o
+  pub stores : NoStoreFault (saved command) o
+  pub puts : Rose o.puts o.puts_after → ⊥
+
+-- what the work came to was stored and printed, with its status
+abbrev pub ComesTo : Outcome → Outside → Status → Type 0
+ComesTo w o status = (status ≡ w.status) × IsStored w.stored o.files o.files_after × Appends o.taken o.taken_after w.text
+
+-- the text of a run was printed
+abbrev pub PrintsRun : Image → Events → ℕ → ℕ → Outside → Status → Type 0
+PrintsRun program events frames n o status =
+    (text : List ℕ) × (count : ℕ) × (end : End) × HasRun program events frames n text count end × ComesTo (ended end text) o status
+
+-- what `burn` and `link` leave where they are done: a file that is read back as what was made
+abbrev pub Leaves : Command → Option FileMap → Option FileMap → Type 0
+Leaves (Burn source object) old new = (o : ObjectParts) × HasBurnt old source o × ReadsBack o × Stores old new object (object_bytes o)
+Leaves (Link image objects) old new = (p : ImageParts) × HasLinked old objects p × Stores old new image (image_bytes p)
+Leaves (Check image) old new = Unit {0}
+Leaves (RunBare image script frames n) old new = Unit {0}

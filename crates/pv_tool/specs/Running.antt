@@ -1,6 +1,6 @@
 -- The work of `run`: the image, then the script, then the run of both.
 use Rattle.std.specs.Prelude.{◌≡◌, ◌⊎◌, ℕ, ◌<◌, List, Option, Result, Ok, Err}
-use Rattle.pv_io.specs.Files.{FileMap, Holds}
+use Rattle.pv_io.specs.Files.{FileMap, Holds, IsHeld}
 use Rattle.board.specs.Scripts.{Events}
 use Rattle.board.specs.Texts.{script_of}
 use Rattle.board.specs.declared.fault.ScriptCause.{ScriptCause}
@@ -13,6 +13,7 @@ use Rattle.bare_machine.specs.Answers.{HasRun}
 use Rattle.pv_tool.specs.Lines.{image_line, script_line, small_line}
 use Rattle.pv_tool.specs.Outcome.{Outcome, refused, ended}
 use Rattle.pv_tool.specs.Delivery.{Says}
+use Rattle.pv_tool.specs.Checking.{HasImage}
 use Rattle.pv_tool.specs.declared.status.Status.{Status}
 use Rattle.pv_tool.specs.declared.status.Status.TheVariants as status
 
@@ -21,6 +22,10 @@ HasScript files name script = (file : List ℕ) × Holds files name file × (scr
 
 abbrev pub HasNoScript : Option FileMap → List ℕ → ℕ × ScriptCause → Type 0
 HasNoScript files name fault = (file : List ℕ) × Holds files name file × (script_of file ≡ Err fault)
+
+-- Each name that is reached is held: the script is reached where the image is accepted.
+abbrev pub FindsRun : Option FileMap → List ℕ → List ℕ → Type 0
+FindsRun files image script = IsHeld files image × ((program : Image) → HasImage files image program → IsHeld files script)
 
 -- a run of the image with its text, or a refusal where the image needs more frames than there are
 pub data RunsOn (image : Image) (events : Events) (frames n : ℕ) (w : Outcome) : Type 0 where

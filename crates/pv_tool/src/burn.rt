@@ -10,11 +10,11 @@ ghost use Rattle.elf_form.specs.ObjectParts.{ObjectParts};
 ghost use Rattle.elf_form.specs.ObjectLayout.{IsWholeObject, object_bytes};
 ghost use Rattle.afterburner.specs.Burnt.{Fault, burnt};
 ghost use Rattle.pv_tool.specs.Words.{Burn};
-ghost use Rattle.pv_tool.specs.Outside.{OnlyRead};
+ghost use Rattle.pv_tool.specs.Outside.{outside, OnlyRead};
 ghost use Rattle.pv_tool.specs.Outcome.{refused};
-ghost use Rattle.pv_tool.specs.Delivery.{HaltsAs, RefusesAs};
+ghost use Rattle.pv_tool.specs.Delivery.{Halts, RefusesAs};
 ghost use Rattle.pv_tool.specs.Burning.{Burns, HasBurnt, HasSource, HasNoSource, ReadsBack, object_made_line, source_line, burn_line};
-ghost use Rattle.pv_tool.specs.Meaning.{Means, LeavesObject};
+ghost use Rattle.pv_tool.specs.Meaning.{Means, Counts, Leaves};
 
 use crate::delivery::{Made, deliver, end, load, refused};
 use crate::halt::Halt;
@@ -36,21 +36,9 @@ pub fn burn<F: Files, S: Sink>(
     files: &mut F,
     out: &mut S,
 ) -> Status
-    ensures meaning { Means (Burn source.now object.now) (record {
-      files = F.held files.old;
-      files_after = F.held files.new;
-      sure = F.sure files.old;
-      loads = F.load_faults files.old;
-      loads_after = F.load_faults files.new;
-      stores = F.store_faults files.old;
-      stores_after = F.store_faults files.new;
-      taken = S.taken out.old;
-      taken_after = S.taken out.new;
-      puts = S.faults out.old;
-      puts_after = S.faults out.new;
-    }) result }
-    ensures later { F.store_faults files.old ≤ F.store_faults files.new }
-    ensures leaves { LeavesObject (Burn source.now object.now) (F.held files.old) (F.held files.new) result }
+    ensures meaning { Means (Burn source.now object.now) (outside F.Files S.Sink files.old files.new out.old out.new) result }
+    ensures counts { Counts (Burn source.now object.now) (outside F.Files S.Sink files.old files.new out.old out.new) }
+    ensures leaves { result ≡ Status.Done → Leaves (Burn source.now object.now) (F.held files.old) (F.held files.new) }
 {
     match made(alloc, source, files) {
         Err(halt) => end(&halt, out),
@@ -61,8 +49,8 @@ pub fn burn<F: Files, S: Sink>(
 // The object of a source that a file holds, as a file, and its line.
 fn made<F: Files>(alloc: Global, name: &str, files: &mut F) -> Result<Made, Halt>
     ensures made { IfOk result (λ m. (o : ObjectParts) × HasBurnt (F.held files.old) name.now o × (m.file.items ≡ object_bytes o) × (m.line ≡ object_made_line o) × ReadsBack o) }
-    ensures halted { IfErr result (HaltsAs (λ line. (object : List ℕ) → Burns (F.held files.old) name.now object (refused line)) (IsHeld (F.held files.old) name.now) (F.sure files.old) (F.load_faults files.old) (F.load_faults files.new)) }
-    ensures read { OnlyRead (F.held files.old) (F.held files.new) (F.sure files.old) (F.sure files.new) (F.store_faults files.old) (F.store_faults files.new) (F.load_faults files.old) (F.load_faults files.new) }
+    ensures halted { IfErr result (Halts F.Files (IsHeld (F.held files.old) name.now) files.old files.new (λ line. (object : List ℕ) → Burns (F.held files.old) name.now object (refused line))) }
+    ensures read { OnlyRead F.Files (IsHeld (F.held files.old) name.now) files.old files.new }
 {
     let source = source_in(alloc, name, files)?;
     match burn_source(alloc, &source) {
@@ -78,8 +66,8 @@ fn made<F: Files>(alloc: Global, name: &str, files: &mut F) -> Result<Made, Halt
 fn source_in<F: Files>(alloc: Global, name: &str, files: &mut F) -> Result<Source, Halt>
     ensures source { IfOk result (λ s. HasSource (F.held files.old) name.now s) }
     ensures readable { IfOk result IsReadable }
-    ensures halted { IfErr result (HaltsAs (λ line. (at : ℕ) × (cause : SourceCause) × HasNoSource (F.held files.old) name.now (at, cause) × (line ≡ source_line at cause)) (IsHeld (F.held files.old) name.now) (F.sure files.old) (F.load_faults files.old) (F.load_faults files.new)) }
-    ensures read { OnlyRead (F.held files.old) (F.held files.new) (F.sure files.old) (F.sure files.new) (F.store_faults files.old) (F.store_faults files.new) (F.load_faults files.old) (F.load_faults files.new) }
+    ensures halted { IfErr result (Halts F.Files (IsHeld (F.held files.old) name.now) files.old files.new (λ line. (at : ℕ) × (cause : SourceCause) × HasNoSource (F.held files.old) name.now (at, cause) × (line ≡ source_line at cause))) }
+    ensures read { OnlyRead F.Files (IsHeld (F.held files.old) name.now) files.old files.new }
 {
     let file = load(alloc, name, files)?;
     match parse(alloc, &file) {

@@ -6,10 +6,10 @@ ghost use Rattle.elf_form.specs.Faults.{Fault};
 ghost use Rattle.image_check.specs.Refusals.{Refusal, Refuses};
 ghost use Rattle.pv_tool.specs.Words.{Check};
 ghost use Rattle.pv_tool.specs.Lines.{image_line, place_line, form_number};
-ghost use Rattle.pv_tool.specs.Outside.{OnlyRead};
-ghost use Rattle.pv_tool.specs.Delivery.{HaltsAs, RefusesAs};
+ghost use Rattle.pv_tool.specs.Outside.{outside, OnlyRead};
+ghost use Rattle.pv_tool.specs.Delivery.{Halts, RefusesAs};
 ghost use Rattle.pv_tool.specs.Checking.{HasImage, HasNoImage, accepted_line, format_words};
-ghost use Rattle.pv_tool.specs.Meaning.{Means};
+ghost use Rattle.pv_tool.specs.Meaning.{Means, Counts};
 
 use crate::delivery::{end, load, print, refused};
 use crate::halt::{Halt, Line};
@@ -22,20 +22,8 @@ use std::alloc::{AllocError, Global};
 
 /// Tells what an image has, or why it is not accepted.
 pub fn check<F: Files, S: Sink>(alloc: Global, name: &str, files: &mut F, out: &mut S) -> Status
-    ensures meaning { Means (Check name.now) (record {
-      files = F.held files.old;
-      files_after = F.held files.new;
-      sure = F.sure files.old;
-      loads = F.load_faults files.old;
-      loads_after = F.load_faults files.new;
-      stores = F.store_faults files.old;
-      stores_after = F.store_faults files.new;
-      taken = S.taken out.old;
-      taken_after = S.taken out.new;
-      puts = S.faults out.old;
-      puts_after = S.faults out.new;
-    }) result }
-    ensures stores { F.store_faults files.new ≡ F.store_faults files.old }
+    ensures meaning { Means (Check name.now) (outside F.Files S.Sink files.old files.new out.old out.new) result }
+    ensures counts { Counts (Check name.now) (outside F.Files S.Sink files.old files.new out.old out.new) }
 {
     match accepted(alloc, name, files) {
         Err(halt) => end(&halt, out),
@@ -49,8 +37,8 @@ pub fn check<F: Files, S: Sink>(alloc: Global, name: &str, files: &mut F, out: &
 /// The accepted image that a file is.
 pub fn accepted<F: Files>(alloc: Global, name: &str, files: &mut F) -> Result<Checked, Halt>
     ensures image { IfOk result (HasImage (F.held files.old) name.now) }
-    ensures halted { IfErr result (HaltsAs (λ line. (refusal : Refusal) × HasNoImage (F.held files.old) name.now refusal × (line ≡ image_line refusal)) (IsHeld (F.held files.old) name.now) (F.sure files.old) (F.load_faults files.old) (F.load_faults files.new)) }
-    ensures read { OnlyRead (F.held files.old) (F.held files.new) (F.sure files.old) (F.sure files.new) (F.store_faults files.old) (F.store_faults files.new) (F.load_faults files.old) (F.load_faults files.new) }
+    ensures halted { IfErr result (Halts F.Files (IsHeld (F.held files.old) name.now) files.old files.new (λ line. (refusal : Refusal) × HasNoImage (F.held files.old) name.now refusal × (line ≡ image_line refusal))) }
+    ensures read { OnlyRead F.Files (IsHeld (F.held files.old) name.now) files.old files.new }
 {
     let file = load(alloc, name, files)?;
     match check_image(alloc, &file) {

@@ -2,8 +2,8 @@
 
 ghost use Rattle.std.specs.Prelude.{◌≡◌, ◌≤◌, Ok, IfOk, IfErr};
 ghost use Rattle.pv_io.specs.Files.{Holds, IsHeld};
-ghost use Rattle.pv_tool.specs.Outside.{OnlyRead};
-ghost use Rattle.pv_tool.specs.Delivery.{HaltsAs, RefusesAs, Says, Ends, Delivers};
+ghost use Rattle.pv_tool.specs.Outside.{outside, OnlyRead, NotRead};
+ghost use Rattle.pv_tool.specs.Delivery.{Halts, RefusesAs, Says, Ends, Delivers};
 
 use crate::halt::{Halt, Line};
 use crate::status::Status;
@@ -13,8 +13,8 @@ use std::alloc::{AllocError, Global};
 /// The bytes of a file.
 pub fn load<F: Files>(alloc: Global, name: &str, files: &mut F) -> Result<Vec<u8>, Halt>
     ensures loaded { IfOk result (λ file. Holds (F.held files.old) name.now file.items) }
-    ensures halted { IfErr result (HaltsAs (λ line. ⊥) (IsHeld (F.held files.old) name.now) (F.sure files.old) (F.load_faults files.old) (F.load_faults files.new)) }
-    ensures read { OnlyRead (F.held files.old) (F.held files.new) (F.sure files.old) (F.sure files.new) (F.store_faults files.old) (F.store_faults files.new) (F.load_faults files.old) (F.load_faults files.new) }
+    ensures halted { IfErr result (Halts F.Files (IsHeld (F.held files.old) name.now) files.old files.new (λ line. ⊥)) }
+    ensures read { OnlyRead F.Files (IsHeld (F.held files.old) name.now) files.old files.new }
 {
     let mut file = Vec::new(alloc);
     match files.load(alloc, name, &mut file) {
@@ -53,21 +53,8 @@ pub struct Made {
 
 /// Stores what was made, and then prints its line.
 pub fn deliver<F: Files, S: Sink>(made: &Made, name: &str, files: &mut F, out: &mut S) -> Status
-    ensures delivers { Delivers name.now made.now.file.items made.now.line (record {
-      files = F.held files.old;
-      files_after = F.held files.new;
-      sure = F.sure files.old;
-      loads = F.load_faults files.old;
-      loads_after = F.load_faults files.new;
-      stores = F.store_faults files.old;
-      stores_after = F.store_faults files.new;
-      taken = S.taken out.old;
-      taken_after = S.taken out.new;
-      puts = S.faults out.old;
-      puts_after = S.faults out.new;
-    }) result }
-    ensures later { F.store_faults files.old ≤ F.store_faults files.new }
-    ensures loads { F.load_faults files.new ≡ F.load_faults files.old }
+    ensures delivers { Delivers name.now made.now.file.items made.now.line (outside F.Files S.Sink files.old files.new out.old out.new) result }
+    ensures stored { NotRead F.Files files.old files.new }
 {
     match files.store(name, &made.file) {
         Ok(()) => print(&made.line, Status::Done, out),

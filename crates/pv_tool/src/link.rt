@@ -1,20 +1,19 @@
 //! The command `link`.
 
-ghost use Rattle.std.specs.Prelude.{◌≡◌, ◌≤◌, List, ℕ, All, Ok, IfOk, IfErr, length, map, string_bytes};
+ghost use Rattle.std.specs.Prelude.{◌≡◌, ◌≤◌, List, ℕ, All, IfOk, IfErr, OnOk, length, map, string_bytes};
 ghost use Rattle.pv_io.specs.Files.{Holds, IsHeld};
 ghost use Rattle.elf_form.specs.Faults.{Fault};
 ghost use Rattle.elf_form.specs.ObjectParts.{ObjectParts};
 ghost use Rattle.elf_form.specs.ImageParts.{ImageParts};
 ghost use Rattle.elf_form.specs.ImageLayout.{IsWritableImage, image_bytes};
 ghost use Rattle.elf_form.specs.Linkable.{IsLinkable};
-ghost use Rattle.elf_link.specs.Linked.{linked_image};
 ghost use Rattle.pv_tool.specs.Words.{Link};
 ghost use Rattle.pv_tool.specs.Lines.{form_number, object_place_line};
-ghost use Rattle.pv_tool.specs.Outside.{OnlyRead};
+ghost use Rattle.pv_tool.specs.Outside.{outside, OnlyRead};
 ghost use Rattle.pv_tool.specs.Outcome.{refused};
-ghost use Rattle.pv_tool.specs.Delivery.{HaltsAs, RefusesAs};
-ghost use Rattle.pv_tool.specs.Linking.{Links, HasObject, HasNoObject, HasObjects, FirstFault, image_made_line};
-ghost use Rattle.pv_tool.specs.Meaning.{Means};
+ghost use Rattle.pv_tool.specs.Delivery.{Halts, RefusesAs};
+ghost use Rattle.pv_tool.specs.Linking.{Links, HasObject, HasNoObject, HasObjects, FindsObjects, FirstFault, HasLinked, ImageReadsBack, image_made_line};
+ghost use Rattle.pv_tool.specs.Meaning.{Means, Counts, Leaves};
 
 use crate::delivery::{Made, deliver, end, load, refused};
 use crate::halt::Halt;
@@ -35,20 +34,9 @@ pub fn link<F: Files, S: Sink>(
     out: &mut S,
 ) -> Status
     requires { length objects.now ≤ 64 }
-    ensures meaning { Means (Link image.now (map string_bytes objects.now)) (record {
-      files = F.held files.old;
-      files_after = F.held files.new;
-      sure = F.sure files.old;
-      loads = F.load_faults files.old;
-      loads_after = F.load_faults files.new;
-      stores = F.store_faults files.old;
-      stores_after = F.store_faults files.new;
-      taken = S.taken out.old;
-      taken_after = S.taken out.new;
-      puts = S.faults out.old;
-      puts_after = S.faults out.new;
-    }) result }
-    ensures later { F.store_faults files.old ≤ F.store_faults files.new }
+    ensures meaning { Means (Link image.now (map string_bytes objects.now)) (outside F.Files S.Sink files.old files.new out.old out.new) result }
+    ensures counts { Counts (Link image.now (map string_bytes objects.now)) (outside F.Files S.Sink files.old files.new out.old out.new) }
+    ensures leaves { result ≡ Status.Done → Leaves (Link image.now (map string_bytes objects.now)) (F.held files.old) (F.held files.new) }
 {
     match made(alloc, objects, files) {
         Err(halt) => end(&halt, out),
@@ -59,9 +47,9 @@ pub fn link<F: Files, S: Sink>(
 // The image of the objects that files hold, as a file, and its line.
 fn made<F: Files>(alloc: Global, names: &[String], files: &mut F) -> Result<Made, Halt>
     requires { length names.now ≤ 64 }
-    ensures made { IfOk result (λ m. (os : List ObjectParts) × (p : ImageParts) × HasObjects (F.held files.old) (map string_bytes names.now) os × (linked_image os ≡ Ok p) × (m.file.items ≡ image_bytes p) × (m.line ≡ image_made_line p)) }
-    ensures halted { IfErr result (HaltsAs (λ line. (image : List ℕ) → Links (F.held files.old) image (map string_bytes names.now) (refused line)) (All (IsHeld (F.held files.old)) (map string_bytes names.now)) (F.sure files.old) (F.load_faults files.old) (F.load_faults files.new)) }
-    ensures read { OnlyRead (F.held files.old) (F.held files.new) (F.sure files.old) (F.sure files.new) (F.store_faults files.old) (F.store_faults files.new) (F.load_faults files.old) (F.load_faults files.new) }
+    ensures made { IfOk result (λ m. (p : ImageParts) × HasLinked (F.held files.old) (map string_bytes names.now) p × (m.file.items ≡ image_bytes p) × (m.line ≡ image_made_line p)) }
+    ensures halted { IfErr result (Halts F.Files (FindsObjects (F.held files.old) (map string_bytes names.now)) files.old files.new (λ line. (image : List ℕ) → Links (F.held files.old) image (map string_bytes names.now) (refused line))) }
+    ensures read { OnlyRead F.Files (FindsObjects (F.held files.old) (map string_bytes names.now)) files.old files.new }
 {
     let objects = objects_in(alloc, names, files)?;
     match linked(alloc, &objects) {
@@ -77,8 +65,8 @@ fn objects_in<F: Files>(alloc: Global, names: &[String], files: &mut F) -> Resul
     ensures objects { IfOk result (λ os. HasObjects (F.held files.old) (map string_bytes names.now) os.items) }
     ensures few { IfOk result (λ os. length os.items ≤ 64) }
     ensures linkable { IfOk result (λ os. All IsLinkable os.items) }
-    ensures halted { IfErr result (HaltsAs (λ line. (i : ℕ) × (fault : Fault) × FirstFault (F.held files.old) (map string_bytes names.now) i fault × (line ≡ object_place_line (form_number fault.cause) i fault.at)) (All (IsHeld (F.held files.old)) (map string_bytes names.now)) (F.sure files.old) (F.load_faults files.old) (F.load_faults files.new)) }
-    ensures read { OnlyRead (F.held files.old) (F.held files.new) (F.sure files.old) (F.sure files.new) (F.store_faults files.old) (F.store_faults files.new) (F.load_faults files.old) (F.load_faults files.new) }
+    ensures halted { IfErr result (Halts F.Files (FindsObjects (F.held files.old) (map string_bytes names.now)) files.old files.new (λ line. (i : ℕ) × (fault : Fault) × FirstFault (F.held files.old) (map string_bytes names.now) i fault × (line ≡ object_place_line (form_number fault.cause) i fault.at))) }
+    ensures read { OnlyRead F.Files (FindsObjects (F.held files.old) (map string_bytes names.now)) files.old files.new }
 {
     let mut objects = Vec::new(alloc);
     for (i, name) in names.iter().enumerate() {
@@ -92,8 +80,8 @@ fn objects_in<F: Files>(alloc: Global, names: &[String], files: &mut F) -> Resul
 fn object_in<F: Files>(alloc: Global, index: u32, name: &str, files: &mut F) -> Result<Object, Halt>
     ensures object { IfOk result (λ o. HasObject (F.held files.old) name.now o) }
     ensures linkable { IfOk result (λ o. IsLinkable o) }
-    ensures halted { IfErr result (HaltsAs (λ line. (fault : Fault) × HasNoObject (F.held files.old) name.now fault × (line ≡ object_place_line (form_number fault.cause) index fault.at)) (IsHeld (F.held files.old) name.now) (F.sure files.old) (F.load_faults files.old) (F.load_faults files.new)) }
-    ensures read { OnlyRead (F.held files.old) (F.held files.new) (F.sure files.old) (F.sure files.new) (F.store_faults files.old) (F.store_faults files.new) (F.load_faults files.old) (F.load_faults files.new) }
+    ensures halted { IfErr result (Halts F.Files (IsHeld (F.held files.old) name.now) files.old files.new (λ line. (fault : Fault) × HasNoObject (F.held files.old) name.now fault × (line ≡ object_place_line (form_number fault.cause) index fault.at))) }
+    ensures read { OnlyRead F.Files (IsHeld (F.held files.old) name.now) files.old files.new }
 {
     let file = load(alloc, name, files)?;
     match read_object(alloc, &file) {
@@ -111,6 +99,7 @@ fn file_of(alloc: Global, image: &Image) -> Result<Made, AllocError>
     requires { IsWritableImage image.now }
     ensures file { IfOk result (λ m. m.file.items ≡ image_bytes image.now) }
     ensures line { IfOk result (λ m. m.line ≡ image_made_line image.now) }
+    ensures read_back { OnOk result (ImageReadsBack image.now) }
 {
     let file = write_image(alloc, image)?;
     let sizes = Sizes {

@@ -7,10 +7,10 @@ ghost use Rattle.board.specs.declared.fault.ScriptCause.{ScriptCause};
 ghost use Rattle.pv_tool.specs.Words.{RunBare};
 ghost use Rattle.pv_tool.specs.View.{AreWithin};
 ghost use Rattle.pv_tool.specs.Lines.{script_line};
-ghost use Rattle.pv_tool.specs.Outside.{OnlyRead};
-ghost use Rattle.pv_tool.specs.Delivery.{HaltsAs};
+ghost use Rattle.pv_tool.specs.Outside.{outside, OnlyRead};
+ghost use Rattle.pv_tool.specs.Delivery.{Halts};
 ghost use Rattle.pv_tool.specs.Running.{HasScript, HasNoScript, RanAs};
-ghost use Rattle.pv_tool.specs.Meaning.{Means};
+ghost use Rattle.pv_tool.specs.Meaning.{Means, Counts};
 
 use crate::check::accepted;
 use crate::delivery::{end, load, print, refused};
@@ -33,20 +33,8 @@ pub fn run<F: Files, S: Sink>(
     out: &mut S,
 ) -> Status
     requires { AreWithin words }
-    ensures meaning { Means (RunBare words.entry.image.now words.entry.script.now words.entry.frames words.entry.n) (record {
-      files = F.held files.old;
-      files_after = F.held files.new;
-      sure = F.sure files.old;
-      loads = F.load_faults files.old;
-      loads_after = F.load_faults files.new;
-      stores = F.store_faults files.old;
-      stores_after = F.store_faults files.new;
-      taken = S.taken out.old;
-      taken_after = S.taken out.new;
-      puts = S.faults out.old;
-      puts_after = S.faults out.new;
-    }) result }
-    ensures stores { F.store_faults files.new ≡ F.store_faults files.old }
+    ensures meaning { Means (RunBare words.entry.image.now words.entry.script.now words.entry.frames words.entry.n) (outside F.Files S.Sink files.old files.new out.old out.new) result }
+    ensures counts { Counts (RunBare words.entry.image.now words.entry.script.now words.entry.frames words.entry.n) (outside F.Files S.Sink files.old files.new out.old out.new) }
 {
     match accepted(alloc, words.image, files) {
         Err(halt) => end(&halt, out),
@@ -61,8 +49,8 @@ pub fn run<F: Files, S: Sink>(
 fn scripted<F: Files>(alloc: Global, name: &str, files: &mut F) -> Result<Script, Halt>
     ensures script { IfOk result (λ script. HasScript (F.held files.old) name.now script.list) }
     ensures form { IfOk result (λ script. is_script script.list ≡ true) }
-    ensures halted { IfErr result (HaltsAs (λ line. (at : ℕ) × (cause : ScriptCause) × HasNoScript (F.held files.old) name.now (at, cause) × (line ≡ script_line at cause)) (IsHeld (F.held files.old) name.now) (F.sure files.old) (F.load_faults files.old) (F.load_faults files.new)) }
-    ensures read { OnlyRead (F.held files.old) (F.held files.new) (F.sure files.old) (F.sure files.new) (F.store_faults files.old) (F.store_faults files.new) (F.load_faults files.old) (F.load_faults files.new) }
+    ensures halted { IfErr result (Halts F.Files (IsHeld (F.held files.old) name.now) files.old files.new (λ line. (at : ℕ) × (cause : ScriptCause) × HasNoScript (F.held files.old) name.now (at, cause) × (line ≡ script_line at cause))) }
+    ensures read { OnlyRead F.Files (IsHeld (F.held files.old) name.now) files.old files.new }
 {
     let file = load(alloc, name, files)?;
     match read_script(alloc, &file) {

@@ -190,9 +190,24 @@ fn sure_files_and_a_sure_sink_never_fail(rt: HostRuntime) -> Result<(), Fail> {
     let mut files = SureFiles::new(alloc)?;
     files.store("A", &file)?;
     files.store("B", b"")?;
-    let run = words(alloc, &["run", "--bare", "A", "B", "16384", "100"])?;
+    files.store("k.s", b"_start: hlt\n")?;
     let mut out = SureSink::new();
-    assert_eq!(rt; top(alloc, &run, &mut files, &mut out).number(), 0);
+    for (all, status) in [
+        (["run", "--bare", "A", "B", "16384", "100"].as_slice(), 0u8),
+        (["burn", "k.s", "k.o"].as_slice(), 0),
+        (["link", "k", "k.o"].as_slice(), 0),
+        (["check", "k"].as_slice(), 0),
+        (["run", "--bare", "k", "B", "2048", "8"].as_slice(), 0),
+        (
+            ["run", "--bare", "k.s", "missing", "2048", "8"].as_slice(),
+            3,
+        ),
+        (["link", "no", "k.s", "missing"].as_slice(), 3),
+    ] {
+        let words = words(alloc, all)?;
+        assert_eq!(rt; top(alloc, &words, &mut files, &mut out).number(), status);
+    }
+    assert_eq!(rt; files.load_faults, 0);
     Ok(())
 }
 
@@ -303,6 +318,54 @@ fn refused_sources_and_objects_leave_no_file(rt: HostRuntime) -> Result<(), Fail
     }
     let (status, _) = tell(alloc, &mut files, &["check", "no"])?;
     assert_eq!(rt; status.number(), 5);
+    Ok(())
+}
+
+#[test]
+fn nothing_is_loaded_behind_a_refusal_or_a_fault(rt: HostRuntime) -> Result<(), Fail> {
+    let alloc = rt.alloc();
+    let mut files = MemFiles::new(alloc, Vec::new(alloc))?;
+    files.store("bad", b"AAAA")?;
+    files.store("k.s", b"_start: hlt\n")?;
+    for words in [
+        ["burn", "k.s", "k.o"].as_slice(),
+        ["link", "k", "k.o"].as_slice(),
+    ] {
+        let (status, _) = tell(alloc, &mut files, words)?;
+        assert_eq!(rt; status.number(), 0);
+    }
+    for (words, status, loads, faults) in [
+        (
+            ["run", "--bare", "bad", "missing", "2048", "1"].as_slice(),
+            3u8,
+            1u64,
+            0u64,
+        ),
+        (
+            ["run", "--bare", "missing", "bad", "2048", "1"].as_slice(),
+            5,
+            1,
+            1,
+        ),
+        (
+            ["run", "--bare", "k", "missing", "2048", "1"].as_slice(),
+            5,
+            2,
+            1,
+        ),
+        (["link", "no", "bad", "missing"].as_slice(), 3, 1, 0),
+        (["link", "no", "missing", "k.o"].as_slice(), 5, 1, 1),
+        (["link", "no", "k.o", "missing", "bad"].as_slice(), 5, 2, 1),
+        (["check", "missing"].as_slice(), 5, 1, 1),
+        (["burn", "missing", "no"].as_slice(), 5, 1, 1),
+    ] {
+        let calls = files.calls;
+        let before = files.load_faults;
+        let (answer, _) = tell(alloc, &mut files, words)?;
+        assert_eq!(rt; answer.number(), status);
+        assert_eq!(rt; files.calls, calls.wrapping_add(loads));
+        assert_eq!(rt; files.load_faults, before.wrapping_add(faults));
+    }
     Ok(())
 }
 

@@ -1,8 +1,10 @@
+use Rattle.std.proofs.Common.{ℕ, List, Option, subst}
+use Rattle.pv_io.specs.Files.{FileMap, Stores}
 use Rattle.pv_tool.specs.Words.{Burn}
-use Rattle.pv_tool.specs.Outside.{Outside}
-use Rattle.pv_tool.proofs.Deliveries.{halts, delivered}
+use Rattle.pv_tool.specs.Outside.{outside}
+use Rattle.pv_tool.proofs.Deliveries.{halts, delivered, counts_read, counts_stored}
 use Rattle.pv_tool.proofs.BurnMeanings.{is_burnt}
-use Rattle.pv_tool.proofs.CommandLaws.{stored_done, ended_first}
+use Rattle.pv_tool.proofs.CommandLaws.{stored_done, not_ended}
 use Rattle.pv_tool.proofs.burn.burn.Goals as goal
 
 pub returns-in-Err-clause-meaning : goal.returns-in-Err-clause-meaning
@@ -14,40 +16,32 @@ pub returns-in-Ok-clause-meaning : goal.returns-in-Ok-clause-meaning
 returns-in-Ok-clause-meaning g c =
     let made = c.in-Ok.ensures.made in
     let read = c.in-Ok.ensures.read in
-    let o : Outside = record {
-      files = g.F.Files.held c.made.new.files;
-      files_after = g.F.Files.held c.deliver.new.files;
-      sure = g.F.Files.sure c.made.new.files;
-      loads = g.F.Files.load_faults c.made.new.files;
-      loads_after = g.F.Files.load_faults c.deliver.new.files;
-      stores = g.F.Files.store_faults c.made.new.files;
-      stores_after = g.F.Files.store_faults c.deliver.new.files;
-      taken = g.S.Sink.taken c.args.out.now;
-      taken_after = g.S.Sink.taken c.deliver.new.out;
-      puts = g.S.Sink.faults c.args.out.now;
-      puts_after = g.S.Sink.faults c.deliver.new.out;
-    } in
+    let o = outside g.F.Files g.S.Sink c.made.new.files c.deliver.new.files c.args.out.now c.deliver.new.out in
     delivered (Burn c.args.source.now c.args.object.now) o (g.F.Files.held c.args.files.now) (g.F.Files.sure c.args.files.now) (g.F.Files.load_faults c.args.files.now) (g.F.Files.store_faults c.args.files.now)
     c.args.object.now c.in-Ok.made.file.items c.in-Ok.made.line c.deliver.result read.held read.same_sure read.same_stores read.later
     (is_burnt _ c.args.source.now c.args.object.now c.in-Ok.made.file.items c.in-Ok.made.line made.0 made.1 made.2 made.3) c.deliver.ensures.delivers
 
+pub returns-in-Err-clause-counts : goal.returns-in-Err-clause-counts
+returns-in-Err-clause-counts g c =
+    counts_read g.F.Files g.S.Sink (Burn c.args.source.now c.args.object.now) c.args.files.now c.made.new.files c.args.out.now c.end.new.out c.in-Err.ensures.read
+
+pub returns-in-Ok-clause-counts : goal.returns-in-Ok-clause-counts
+returns-in-Ok-clause-counts g c =
+    counts_stored g.F.Files g.S.Sink (Burn c.args.source.now c.args.object.now) c.args.files.now c.made.new.files c.deliver.new.files c.args.out.now c.deliver.new.out (λ le. le)
+    c.in-Ok.ensures.read c.deliver.ensures.stored
+
 pub returns-in-Err-clause-leaves : goal.returns-in-Err-clause-leaves
-returns-in-Err-clause-leaves g c = ended_first c.args.source.now c.args.object.now _ _ c.in-Err.halt _ _ _ _ c.end.result c.end.ensures
+returns-in-Err-clause-leaves g c = λ done. absurd (not_ended c.in-Err.halt _ _ _ _ c.end.result c.end.ensures done)
 
 pub returns-in-Ok-clause-leaves : goal.returns-in-Ok-clause-leaves
 returns-in-Ok-clause-leaves g c =
     let made = c.in-Ok.ensures.made in
-    let o : Outside = record {
-      files = g.F.Files.held c.made.new.files;
-      files_after = g.F.Files.held c.deliver.new.files;
-      sure = g.F.Files.sure c.made.new.files;
-      loads = g.F.Files.load_faults c.made.new.files;
-      loads_after = g.F.Files.load_faults c.deliver.new.files;
-      stores = g.F.Files.store_faults c.made.new.files;
-      stores_after = g.F.Files.store_faults c.deliver.new.files;
-      taken = g.S.Sink.taken c.args.out.now;
-      taken_after = g.S.Sink.taken c.deliver.new.out;
-      puts = g.S.Sink.faults c.args.out.now;
-      puts_after = g.S.Sink.faults c.deliver.new.out;
-    } in
-    stored_done o (g.F.Files.held c.args.files.now) c.args.source.now c.args.object.now c.in-Ok.made.file.items c.in-Ok.made.line made.0 c.deliver.result c.in-Ok.ensures.read.held made.1 made.2 made.4 c.deliver.ensures.delivers
+    let o = outside g.F.Files g.S.Sink c.made.new.files c.deliver.new.files c.args.out.now c.deliver.new.out in
+    λ done. (
+      made.0,
+      made.1,
+      made.4,
+      subst (λ (b : List ℕ). Stores (g.F.Files.held c.args.files.now) (g.F.Files.held c.deliver.new.files) c.args.object.now b) made.2
+          (subst (λ (f : Option FileMap). Stores f (g.F.Files.held c.deliver.new.files) c.args.object.now c.in-Ok.made.file.items) c.in-Ok.ensures.read.held
+          (stored_done o c.args.object.now c.in-Ok.made.file.items c.in-Ok.made.line c.deliver.result c.deliver.ensures.delivers done)),
+    )

@@ -1,5 +1,5 @@
 use Rattle.pv_tool.specs.Words.{Check}
-use Rattle.pv_tool.proofs.Deliveries.{halts}
+use Rattle.pv_tool.proofs.Deliveries.{halts, counts_read}
 use Rattle.pv_tool.proofs.CheckMeanings.{refuses_image, tells_image}
 use Rattle.pv_tool.proofs.check.check.Goals as goal
 
@@ -11,3 +11,9 @@ returns-in-Err-clause-meaning g c =
 pub returns-clause-meaning : goal.returns-clause-meaning
 returns-clause-meaning g c =
     tells_image c.args.name.now c.in-Ok-line_of.line c.in-Ok.image _ c.print.result c.in-Ok.ensures.image c.in-Ok-line_of.ensures c.in-Ok.ensures.read.held c.print.ensures
+
+pub returns-in-Err-clause-counts : goal.returns-in-Err-clause-counts
+returns-in-Err-clause-counts g c = counts_read g.F.Files g.S.Sink (Check c.args.name.now) c.args.files.now c.accepted.new.files c.args.out.now c.end.new.out c.in-Err.ensures.read
+
+pub returns-clause-counts : goal.returns-clause-counts
+returns-clause-counts g c = counts_read g.F.Files g.S.Sink (Check c.args.name.now) c.args.files.now c.accepted.new.files c.args.out.now c.print.new.out c.in-Ok.ensures.read

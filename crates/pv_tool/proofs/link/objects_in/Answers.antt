@@ -2,11 +2,11 @@ use Rattle.std.proofs.Common.{◌≡◌, ◌+◌, ℕ, List, [], ◌∷◌, ◌+
 use Rattle.std.specs.Prelude.{All}
 use Rattle.elf_form.specs.Linkable.{IsLinkable}
 use Rattle.std.proofs.lemmas.Result.{err_from_is_err_and}
-use Rattle.pv_io.specs.Files.{FileMap, IsHeld}
+use Rattle.pv_io.specs.Files.{FileMap}
 use Rattle.elf_form.specs.ObjectParts.{ObjectParts}
 use Rattle.pv_tool.specs.Linking.{HasObject, HasNoObject, HasObjects, FirstFault}
 use Rattle.pv_tool.proofs.Deliveries.{halts_as, halts_since, read_on}
-use Rattle.pv_tool.proofs.LinkMeanings.{one_more, first_fault, split_at, taken_on, taken_length, all_at, all_more}
+use Rattle.pv_tool.proofs.LinkMeanings.{one_more, first_fault, split_at, taken_on, taken_length, found_next, all_more}
 use Rattle.pv_tool.proofs.link.objects_in.Goals as goal
 
 pub returns-in_err-object-clause-halted : goal.returns-in_err-object-clause-halted
@@ -31,8 +31,21 @@ returns-in_err-object-clause-halted g c =
           (subst (λ (f : Option FileMap). HasNoObject f name told.0) read.held told.1))),
       told.2,
     ))
-    (λ all. subst (λ (f : Option FileMap). IsHeld f name) (sym read.held) (all_at (IsHeld (g.F.Files.held c.args.files.now)) _ before later name now_is all))
+    (found_next string_bytes (g.F.Files.held c.args.files.now) (g.F.Files.held c.loop-i.files) c.args.names.now c.loop-i.i c.index-names-i.result c.as_str.result.now c.loop-i.objects.items
+    c.loop-i-test.true c.index-names-i.is c.as_str.ensures.value c.loop-i.invariant.read.held c.loop-i.invariant.objects)
     c.in_err-object.ensures.halted))
+
+pub returns-in_err-object-clause-read : goal.returns-in_err-object-clause-read
+returns-in_err-object-clause-read g c =
+    read_on _ _ _ _ _ _ c.loop-i.invariant.read c.in_err-object.ensures.read
+    (found_next string_bytes (g.F.Files.held c.args.files.now) (g.F.Files.held c.loop-i.files) c.args.names.now c.loop-i.i c.index-names-i.result c.as_str.result.now c.loop-i.objects.items
+    c.loop-i-test.true c.index-names-i.is c.as_str.ensures.value c.loop-i.invariant.read.held c.loop-i.invariant.objects)
+
+pub returns-in_err-push-clause-read : goal.returns-in_err-push-clause-read
+returns-in_err-push-clause-read g c =
+    read_on _ _ _ _ _ _ c.loop-i.invariant.read c.in_ok-object.ensures.read
+    (found_next string_bytes (g.F.Files.held c.args.files.now) (g.F.Files.held c.loop-i.files) c.args.names.now c.loop-i.i c.index-names-i.result c.as_str.result.now c.loop-i.objects.items
+    c.loop-i-test.true c.index-names-i.is c.as_str.ensures.value c.loop-i.invariant.read.held c.loop-i.invariant.objects)
 
 pub loop-i-preserved : goal.loop-i-preserved
 loop-i-preserved g c =
@@ -49,5 +62,7 @@ loop-i-preserved g c =
       linkable = subst (λ (os : List ObjectParts). All IsLinkable os) (sym c.in_ok-push.ensures.items)
           (all_more IsLinkable c.loop-i.objects.items c.in_ok-object.object c.loop-i.invariant.linkable c.in_ok-object.ensures.linkable);
       count = let e = simp length-append at (ap length c.in_ok-push.ensures.items) in omega (arith, e, c.loop-i.invariant.count);
-      read = read_on _ _ _ _ _ _ _ _ _ _ _ _ read c.in_ok-object.ensures.read;
+      read = read_on _ _ _ _ _ _ read c.in_ok-object.ensures.read
+          (found_next string_bytes (g.F.Files.held c.args.files.now) (g.F.Files.held c.loop-i.files) c.args.names.now c.loop-i.i c.index-names-i.result c.as_str.result.now c.loop-i.objects.items
+          c.loop-i-test.true c.index-names-i.is c.as_str.ensures.value c.loop-i.invariant.read.held c.loop-i.invariant.objects);
     }

@@ -2,7 +2,7 @@ use Rattle.std.proofs.Common.{◌≡◌, length, map, take, string_bytes}
 use Rattle.std.specs.Prelude.{All}
 use Rattle.elf_form.specs.Linkable.{IsLinkable}
 use Rattle.pv_tool.specs.Outside.{OnlyRead}
-use Rattle.pv_tool.specs.Linking.{HasObjects}
+use Rattle.pv_tool.specs.Linking.{HasObjects, FindsObjects}
 use Rattle.pv_tool.proofs.link.objects_in.Given as goal
 
 abbrev pub invariant-loop-i : goal.invariant-loop-i
@@ -10,5 +10,5 @@ invariant-loop-i g l = record {
   objects : HasObjects (g.F.Files.held l.fn.files) (map string_bytes (take l.i l.names)) l.objects.items;
   linkable : All IsLinkable l.objects.items;
   count : length l.objects.items ≡ l.i;
-  read : OnlyRead (g.F.Files.held l.fn.files) (g.F.Files.held l.files) (g.F.Files.sure l.fn.files) (g.F.Files.sure l.files) (g.F.Files.store_faults l.fn.files) (g.F.Files.store_faults l.files) (g.F.Files.load_faults l.fn.files) (g.F.Files.load_faults l.files);
+  read : OnlyRead g.F.Files (FindsObjects (g.F.Files.held l.fn.files) (map string_bytes l.names)) l.fn.files l.files;
 }

@@ -1,0 +1,29 @@
+//! How one command goes on from what another has left.
+
+ghost use Rattle.std.specs.Prelude.{◌≡◌, ◌≤◌, ℕ, false, List, Option, Some, Ok, length, bytes_eq};
+ghost use Rattle.pv_io.specs.Files.{FileMap, Stores};
+ghost use Rattle.elf_form.specs.ObjectParts.{ObjectParts};
+ghost use Rattle.elf_form.specs.ImageParts.{ImageParts};
+ghost use Rattle.elf_form.specs.ImageLayout.{image_bytes};
+ghost use Rattle.image_check.specs.Image.{Image};
+ghost use Rattle.image_check.specs.Checking.{image_from};
+ghost use Rattle.pv_tool.specs.Words.{Command};
+ghost use Rattle.pv_tool.specs.Outcome.{Outcome};
+ghost use Rattle.pv_tool.specs.Linking.{HasObjects, HoldObjects, ImageReadsBack};
+ghost use Rattle.pv_tool.specs.Checking.{HasImage};
+ghost use Rattle.pv_tool.specs.Meaning.{Gives, Finds};
+
+/// Where the work of a command comes to something over the files, each file that it reaches is held. After a store the name
+/// holds what was stored, and each other name what it held. Names at which objects
+/// were stored hold these objects, whatever else is held. A name at which a linked image was stored holds the image that its
+/// parts are checked as, with its text, data and entry: `check` and `run` go on with that.
+pub fn chains()
+    ensures found { (command : Command) (told : FileMap) (w : Outcome) → Gives command (Some told) w → Finds command (Some told) }
+    ensures objects { (told : FileMap) (names : List (List ℕ)) (os : List ObjectParts) → HoldObjects told names os → HasObjects (Some told) names os }
+    ensures image { (told : FileMap) (name : List ℕ) (p : ImageParts) (program : Image) → told name ≡ Some (image_bytes p) → length (image_bytes p) ≤ 33554432 → ImageReadsBack p →
+        image_from p ≡ Ok program → HasImage (Some told) name program }
+    ensures stored { (told : FileMap) (new : Option FileMap) (name bytes : List ℕ) → Stores (Some told) new name bytes →
+        (later : FileMap) × (new ≡ Some later) × (later name ≡ Some bytes) × ((q : List ℕ) → bytes_eq q name ≡ false → later q ≡ told q) }
+    ensures parts { (p : ImageParts) (program : Image) → image_from p ≡ Ok program →
+        (program.text ≡ p.text) × (program.init ≡ p.init) × (program.bss ≡ p.bss) × (program.entry ≡ p.entry) }
+{}
