@@ -3,4 +3,6 @@ pub mod Texts
 pub mod Runs
 pub mod Steps
 pub mod Quiet
-pub mod Answered
+pub mod Going
+pub mod Ones
+pub mod Wholes

@@ -12,8 +12,8 @@ use Rattle.machine_model.specs.State.{Setting, State, Loosened, space_at_start}
 use Rattle.machine_model.specs.Step.{Report, Went, step_of, stepped, by_interrupt, interrupt_of, unheld}
 use Rattle.machine_model.specs.Run.{Set, Steps, trace_of}
 use Rattle.bare_mem.specs.Part.{IsPartOf}
-use Rattle.bare_machine.specs.Machine.{Rests, with_set}
-use Rattle.bare_machine.proofs.Runs.{part_same, steps_none}
+use Rattle.bare_machine.specs.Machine.{Rests, StepsBy, left, with_set}
+use Rattle.bare_machine.proofs.Runs.{part_same, steps_none, by_none}
 use Rattle.bare_machine.proofs.Steps.{halted_works}
 
 neither : (a b : Bool) → (a || b) ≡ false → (a ≡ false) × (b ≡ false)
@@ -111,21 +111,38 @@ pub nothing_seen : (k : ℕ) → trace_of (replicate k nothing) ≡ []
 nothing_seen zero = refl
 nothing_seen (suc k) = nothing_seen k
 
+-- the same steps, each by the translations that are left
+pub idle_by : (k : ℕ) (s : Setting) (cpu : Cpu) (ram : List ℕ) (set : Set) (board : Board) (t : ℕ)
+    → cpu.halted ≡ true → interrupt_of (record cpu { held = false }) board ≡ None → comes_within board s.script t (suc k) ≡ false
+    → StepsBy s left (resting cpu ram set board (t + 1)) (nothing ∷ replicate k nothing) (resting cpu ram set (board_steps (suc k) board) (t + 1 + suc k))
+unfolding StepsBy board_steps
+idle_by zero s cpu ram set board t halted none quiet =
+    let q = quiet_from board s.script t 0 quiet in
+    (resting cpu ram set (board_step board) (t + 1 + 1), idle_step s cpu ram set set board (t + 1) halted q.no_event none, refl)
+idle_by (suc k) s cpu ram set board t halted none quiet =
+    let q = quiet_from board s.script t (suc k) quiet in
+    let rest = idle_by k s cpu ram set (board_step board) (t + 1) halted (interrupt_same (record cpu { held = false }) board q.no_edge ∙ none) q.later in (
+      resting cpu ram set (board_step board) (t + 1 + 1),
+      idle_step s cpu ram set set board (t + 1) halted q.no_event none,
+      subst (λ (n : ℕ). StepsBy s left (resting cpu ram set (board_step board) (t + 1 + 1)) (nothing ∷ replicate k nothing) (resting cpu ram set (board_steps (suc k) (board_step board)) n)) (omega arith) rest,
+    )
+
 -- no step passes
-pub rests_none : (s : Setting) (b : State) (whole : Set) → IsPartOf b.set whole → Rests s (with_set b whole) b
-rests_none s b whole h = ([], [], whole, steps_none s (with_set b whole), h, refl)
+pub rests_none : (s : Setting) (b : State) (whole : Set) → IsPartOf b.set whole → Rests s b whole b
+rests_none s b whole h = record { sets = []; reports = []; left_then = whole; steps = steps_none s (with_set b whole); part = h; exactly = by_none s left b; silent = refl }
 
 rests_at : (j : ℕ) (s : Setting) (cpu : Cpu) (ram : List ℕ) (whole set : Set) (board : Board) (t : ℕ)
     → cpu.halted ≡ true → interrupt_of (record cpu { held = false }) board ≡ None → comes_within board s.script t (suc j) ≡ false → IsPartOf set whole
-    → Rests s (resting cpu ram whole board (t + 1)) (resting cpu ram set (board_steps (suc j) board) (t + 1 + suc j))
-rests_at j s cpu ram whole set board t halted none quiet part = (
-  set ∷ replicate j set,
-  nothing ∷ replicate j nothing,
-  set,
-  idle_steps j s cpu ram whole set board t halted none quiet (record { each = λ page e is. inl (part.each page e is) }),
-  part_same set,
-  nothing_seen (suc j),
-)
+    → Rests s (resting cpu ram set board (t + 1)) whole (resting cpu ram set (board_steps (suc j) board) (t + 1 + suc j))
+rests_at j s cpu ram whole set board t halted none quiet part = record {
+  sets = set ∷ replicate j set;
+  reports = nothing ∷ replicate j nothing;
+  left_then = set;
+  steps = idle_steps j s cpu ram whole set board t halted none quiet (record { each = λ page e is. inl (part.each page e is) });
+  part = part_same set;
+  exactly = idle_by j s cpu ram set board t halted none quiet;
+  silent = nothing_seen (suc j);
+}
 
 -- the state some steps later, with these translations
 abbrev pub rested : State → ℕ → State
@@ -133,15 +150,15 @@ rested b k = record b { board = board_steps k b.board; step = b.step + k }
 
 -- so many steps pass
 pub rests_some : (k : ℕ) (s : Setting) (b : State) (whole : Set) → 0 < b.step → b.cpu.halted ≡ true → b.cpu.held ≡ false → interrupt_of b.cpu b.board ≡ None
-    → (0 < k → comes_within b.board s.script (b.step - 1) k ≡ false) → IsPartOf b.set whole → Rests s (with_set b whole) (rested b k)
+    → (0 < k → comes_within b.board s.script (b.step - 1) k ≡ false) → IsPartOf b.set whole → Rests s b whole (rested b k)
 rests_some zero s b whole begun halted held none quiet part =
     let same : b.step ≡ b.step + 0 = omega arith in
-    subst (λ (n : ℕ). Rests s (with_set b whole) (record b { board = board_steps 0 b.board; step = n })) same
-    (subst (λ (d : Board). Rests s (with_set b whole) (record b { board = d })) (sym (no_step b.board)) (rests_none s b whole part))
+    subst (λ (n : ℕ). Rests s b whole (record b { board = board_steps 0 b.board; step = n })) same
+    (subst (λ (d : Board). Rests s b whole (record b { board = d })) (sym (no_step b.board)) (rests_none s b whole part))
 rests_some (suc j) s b whole begun halted held none quiet part =
     let step_is : b.step - 1 + 1 ≡ b.step = omega arith in
     let cpu_is : record b.cpu { held = false } ≡ b.cpu = ap (λ (h : Bool). record b.cpu { held = h }) (sym held) in
     let none_then = subst (λ (c : Cpu). interrupt_of c b.board ≡ None) (sym cpu_is) none in
-    subst (λ (c : Cpu). Rests s (record b { cpu = c; set = whole }) (record b { cpu = c; board = board_steps (suc j) b.board; step = b.step + suc j })) cpu_is
-    (subst (λ (n : ℕ). Rests s (record b { cpu = record b.cpu { held = false }; set = whole; step = n }) (record b { cpu = record b.cpu { held = false }; board = board_steps (suc j) b.board; step = n + suc j })) step_is
+    subst (λ (c : Cpu). Rests s (record b { cpu = c }) whole (record b { cpu = c; board = board_steps (suc j) b.board; step = b.step + suc j })) cpu_is
+    (subst (λ (n : ℕ). Rests s (record b { cpu = record b.cpu { held = false }; step = n }) whole (record b { cpu = record b.cpu { held = false }; board = board_steps (suc j) b.board; step = n + suc j })) step_is
     (rests_at j s b.cpu b.ram whole b.set b.board (b.step - 1) halted none_then (quiet (omega arith)) part))

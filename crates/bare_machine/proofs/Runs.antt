@@ -6,7 +6,7 @@ use Rattle.bare_mem.specs.Part.{IsPartOf}
 use Rattle.machine_model.specs.State.{Setting, State, Loosened}
 use Rattle.machine_model.specs.Step.{Report, Went, step_of}
 use Rattle.machine_model.specs.Run.{Set, Steps, trace_of}
-use Rattle.bare_machine.specs.Machine.{with_set}
+use Rattle.bare_machine.specs.Machine.{with_set, StepsBy}
 
 -- a part of the set may be gone by
 pub part_allowed : (s : Setting) (b : State) (whole part : Set) → IsPartOf part whole → Loosened s (with_set b whole) part
@@ -55,3 +55,20 @@ trace_on (r ∷ reports) now = ap (λ (l : List Item). r.items ++ l) (trace_on r
 pub trace_join : (reports later : List Report) → trace_of (reports ++ later) ≡ trace_of reports ++ trace_of later
 trace_join [] later = refl
 trace_join (r ∷ reports) later = ap (λ (l : List Item). r.items ++ l) (trace_join reports later) ∙ sym (append_assoc r.items (trace_of reports) (trace_of later))
+
+-- the same of steps by chosen translations
+pub by_none : (s : Setting) (choose : State → Set) (b : State) → StepsBy s choose b [] b
+unfolding StepsBy
+by_none s choose b = refl
+
+pub by_on : (s : Setting) (choose : State → Set) (old mid new : State) (reports : List Report) (now : Report)
+    → StepsBy s choose old reports mid → step_of s mid (choose mid) ≡ Went now new → StepsBy s choose old (reports ++ now ∷ []) new
+unfolding StepsBy
+by_on s choose old mid new [] now so_far is = (new, subst (λ (b : State). step_of s b (choose b) ≡ Went now new) so_far is, refl)
+by_on s choose old mid new (r ∷ reports) now so_far is = (so_far.0, so_far.1, by_on s choose so_far.0 mid new reports now so_far.2 is)
+
+pub by_join : (s : Setting) (choose : State → Set) (old mid new : State) (reports later : List Report)
+    → StepsBy s choose old reports mid → StepsBy s choose mid later new → StepsBy s choose old (reports ++ later) new
+unfolding StepsBy
+by_join s choose old mid new [] later first rest = subst (λ (b : State). StepsBy s choose b later new) first rest
+by_join s choose old mid new (r ∷ reports) later first rest = (first.0, first.1, by_join s choose first.0 mid new reports later first.2 rest)

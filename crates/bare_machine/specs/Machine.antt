@@ -1,9 +1,6 @@
--- The bare machine's values as states, and what a step says.
-use Rattle.std.specs.Prelude.{◌≡◌, ℕ, ◌*◌, ◌≤◌, List, length, [], Result, Ok, Err}
-use Rattle.std.specs.FinMap.{FinMap}
-use Rattle.std.specs.Ordering.{nat_cmp}
+-- The bare machine's values as states, and what steps of it say.
+use Rattle.std.specs.Prelude.{◌≡◌, ℕ, ◌+◌, ◌*◌, ◌≤◌, ◌<◌, Bool, true, List, length, [], ◌∷◌, ◌++◌, Result, Ok, Err}
 use Rattle.ia32_types.specs.declared.stop.Stop.{Stop}
-use Rattle.paging.specs.declared.entry.Entry.{Entry}
 use Rattle.paging.specs.Space.{Bare}
 use Rattle.board.specs.Scripts.{Events}
 use Rattle.image_check.specs.Image.{Image}
@@ -13,8 +10,8 @@ use Rattle.bare_mem.specs.Part.{IsPartOf}
 use Rattle.machine_model.specs.State.{Setting, State}
 use Rattle.machine_model.specs.Step as steps
 use Rattle.machine_model.specs.Run.{Set, Steps, trace_of}
-use Rattle.machine_model.specs.Step.{Report, Went, Stands, items_at}
-use Rattle.bare_machine.specs.declared.machine.Machine.{Machine}
+use Rattle.machine_model.specs.Step.{Report, Went, Stands, step_of, items_at}
+use Rattle.bare_machine.specs.declared.machine.Bare as machines
 use Rattle.machine_step.specs.declared.worked.Seen.{Seen}
 use Rattle.machine_step.specs.Worked.{whats}
 
@@ -22,32 +19,66 @@ use Rattle.machine_step.specs.Worked.{whats}
 abbrev pub bare : Image → Events → ℕ → Setting
 bare image script frames = record { mode = Bare; image = image; script = script; frames = frames }
 
--- the machine's state; of the cached translations it keeps some
-abbrev pub state_of : Machine → State
-state_of m = record { cpu = m.cpu; ram = m.ram; set = m.kept.buffer; board = m.board; step = m.step }
+-- the machine's state, whose set is what the cache holds
+abbrev pub state_of : {C : Type 0} → (C → Set) → machines.Bare C → State
+state_of entries m = record { cpu = m.cpu; ram = m.ram; set = entries m.kept.cache; board = m.board; step = m.step }
 
--- the state with more translations
-abbrev pub with_set : State → FinMap nat_cmp Entry → State
+-- the state with other translations
+abbrev pub with_set : State → Set → State
 with_set b set = record b { set = set }
 
--- the step went, let these things be seen, and led to this state, of whose translations some may have been dropped
-pub record Goes (result : steps.Result) (step : ℕ) (whats : List What) (new : State) : Type 0 where
+-- The step went, let these things be seen, and led to this state, of whose translations some may have been dropped,
+-- but none by an exact cache.
+pub record Goes (result : steps.Result) (step : ℕ) (whats : List What) (exact : Bool) (new : State) : Type 0 where
   pub report : Report
-  pub whole : FinMap nat_cmp Entry
+  pub whole : Set
   pub went : result ≡ Went report (with_set new whole)
   pub part : IsPartOf new.set whole
+  pub all : exact ≡ true → new.set ≡ whole
   pub items : report.items ≡ items_at step whats
 
 -- what a step came to, from the count of steps before it and the state after it
-abbrev pub StepAs : steps.Result → Result Seen Stop → ℕ → State → Type 0
-StepAs result (Ok seen) step new = Goes result step (whats seen) new
-StepAs result (Err stop) step new = result ≡ Stands stop
+abbrev pub StepAs : steps.Result → Result Seen Stop → ℕ → Bool → State → Type 0
+StepAs result (Ok seen) step exact new = Goes result step (whats seen) exact new
+StepAs result (Err stop) step exact new = result ≡ Stands stop
 
 -- what holds of a machine between two steps
-pub record IsKept (m : Machine) : Type 0 where
-  pub ram : 4096 * m.frames ≤ length m.ram
-  pub within : AreWithin m.frames m.kept.buffer
+pub record IsKept (frames : ℕ) (b : State) : Type 0 where
+  pub ram : 4096 * frames ≤ length b.ram
+  pub within : AreWithin frames b.set
 
--- some steps in which nothing is seen lead from one state to another, of whose translations some may have been dropped
-abbrev pub Rests : Setting → State → State → Type 0
-Rests s old new = (sets : List Set) × (reports : List Report) × (whole : Set) × Steps s old sets reports (with_set new whole) × IsPartOf new.set whole × (trace_of reports ≡ [])
+-- one step for each report, each with the translations that are chosen by the state before it
+unfoldable pub StepsBy : Setting → (State → Set) → State → List Report → State → Type 0
+StepsBy s choose old [] new = new ≡ old
+StepsBy s choose old (now ∷ later) new = (mid : State) × (step_of s old (choose old) ≡ Went now mid) × StepsBy s choose mid later new
+
+-- the translations that the step before has left
+abbrev pub left : State → Set
+left b = b.set
+
+-- the first step goes by this set
+abbrev pub FirstIs : Set → List Set → Type 0
+FirstIs set [] = Unit {0}
+FirstIs set (first ∷ sets) = first ≡ set
+
+-- Some steps with these reports lead from one state to another. The first, which is the next one where there was none,
+-- goes by what is cached. Between two steps, and behind the last, cached translations may be lost, but not from an exact
+-- cache: then each step goes by what is left.
+pub record Passes (s : Setting) (exact : Bool) (old : State) (reports : List Report) (new : State) : Type 0 where
+  pub sets : List Set
+  pub whole : Set
+  pub steps : Steps s old sets reports (with_set new whole)
+  pub part : IsPartOf new.set whole
+  pub first : FirstIs old.set (sets ++ new.set ∷ [])
+  pub exactly : exact ≡ true → StepsBy s left old reports new
+
+-- Some steps in which nothing is seen and no translation changes lead from one state to another. Before the first some
+-- translations may have been lost.
+pub record Rests (s : Setting) (old : State) (whole : Set) (new : State) : Type 0 where
+  pub sets : List Set
+  pub reports : List Report
+  pub left_then : Set
+  pub steps : Steps s (with_set old whole) sets reports (with_set new left_then)
+  pub part : IsPartOf new.set left_then
+  pub exactly : StepsBy s left old reports new
+  pub silent : trace_of reports ≡ []

@@ -1,6 +1,6 @@
 //! The end of a step that went.
 
-ghost use Rattle.std.specs.Prelude.{◌≡◌, ◌+◌, ◌*◌, ◌<◌, ◌≤◌, ◌^◌, length, List, Option};
+ghost use Rattle.std.specs.Prelude.{◌≡◌, ◌+◌, ◌*◌, ◌<◌, ◌≤◌, ◌^◌, true, length, List, Option};
 ghost use Rattle.std.specs.FinMap.{FinMap};
 ghost use Rattle.std.specs.Ordering.{nat_cmp};
 ghost use Rattle.paging.specs.Space.{Space};
@@ -12,21 +12,23 @@ ghost use Rattle.machine_step.specs.Worked.{dropping, IsDropped};
 ghost use Rattle.run_trace.specs.declared.items.What.{What as Shown};
 ghost use Rattle.bare_machine.specs.Machine.{state_of, Goes, IsKept};
 
-use crate::machine::Machine;
-use bare_mem::{Cached, settle};
+use crate::machine::Bare;
+use bare_mem::{Cached, drop_all, drop_page, settle};
 use descriptors::Cpu;
 use machine_step::Dropped;
 use step_mem::Changes;
+use xlate_buffer::Cache;
 
 /// The end of a step that went: what it changed of the translations is kept, the count rises, and the board advances.
-pub fn go(machine: &mut Machine, cpu: Cpu, changes: &Changes, dropped: Dropped)
+pub fn go<C: Cache>(machine: &mut Bare<C>, cpu: Cpu, changes: &Changes, dropped: Dropped)
     requires bound { machine.old.step < 2 ^ 40 }
     requires ram { 4096 * machine.old.frames ≤ length machine.old.ram }
-    requires within { AreWithin machine.old.frames (changed machine.old.kept.buffer changes.now) }
+    requires within { AreWithin machine.old.frames (changed (C.entries machine.old.kept.cache) changes.now) }
     requires page { IsDropped dropped }
-    ensures goes { (whats : List Shown) (completed : Option Completed) (s : Space) → s.ram ≡ machine.old.ram → s.set ≡ dropping dropped (changed machine.old.kept.buffer changes.now)
-        → Goes (went whats completed (state_of machine.old) cpu machine.old.board s) machine.old.step whats (state_of machine.new) }
-    ensures kept { IsKept machine.new }
+    ensures goes { (whats : List Shown) (completed : Option Completed) (s : Space) → s.ram ≡ machine.old.ram → s.set ≡ dropping dropped (changed (C.entries machine.old.kept.cache) changes.now)
+        → Goes (went whats completed (state_of C.entries machine.old) cpu machine.old.board s) machine.old.step whats (C.is_exact machine.old.kept.cache) (state_of C.entries machine.new) }
+    ensures kept { IsKept machine.new.frames (state_of C.entries machine.new) }
+    ensures same { C.is_exact machine.new.kept.cache ≡ C.is_exact machine.old.kept.cache }
     ensures frames { machine.new.frames ≡ machine.old.frames }
     ensures count { machine.new.step ≡ machine.old.step + 1 }
 {
@@ -37,13 +39,15 @@ pub fn go(machine: &mut Machine, cpu: Cpu, changes: &Changes, dropped: Dropped)
     machine.board.advance(1);
 }
 
-fn drop_from(kept: &mut Cached, dropped: Dropped)
+fn drop_from<C: Cache>(kept: &mut Cached<C>, dropped: Dropped)
     requires page { IsDropped dropped }
-    ensures { (whole : FinMap nat_cmp Entry) → IsPartOf kept.old.buffer whole → IsPartOf kept.new.buffer (dropping dropped whole) }
+    ensures part { (whole : FinMap nat_cmp Entry) → IsPartOf (C.entries kept.old.cache) whole → IsPartOf (C.entries kept.new.cache) (dropping dropped whole) }
+    ensures all { C.entries kept.new.cache ≡ dropping dropped (C.entries kept.old.cache) }
+    ensures same { C.is_exact kept.new.cache ≡ C.is_exact kept.old.cache }
 {
     match dropped {
         Dropped::Nothing => {}
-        Dropped::Page(page) => kept.buffer.drop_page(page),
-        Dropped::All => kept.buffer.drop_all(),
+        Dropped::Page(page) => drop_page(kept, page),
+        Dropped::All => drop_all(kept),
     }
 }

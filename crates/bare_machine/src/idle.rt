@@ -7,23 +7,25 @@ ghost use Rattle.image_check.specs.Image.{Image};
 ghost use Rattle.machine_model.specs.Run.{Set};
 ghost use Rattle.machine_model.specs.Step.{interrupt_of};
 ghost use Rattle.bare_mem.specs.Part.{IsPartOf};
-ghost use Rattle.bare_machine.specs.Machine.{bare, state_of, with_set, IsKept, Rests};
+ghost use Rattle.bare_machine.specs.Machine.{bare, state_of, IsKept, Rests};
 
-use crate::machine::Machine;
+use crate::machine::Bare;
 use board::Script;
 use machine_step::interrupt;
+use xlate_buffer::Cache;
 
 /// Passes the steps in which a halted processor has nothing to do and nothing can come to the board, up to the bound,
 /// in one go.
-pub fn rest(machine: &mut Machine, script: &Script, n: u64)
+pub fn rest<C: Cache>(machine: &mut Bare<C>, script: &Script, n: u64)
     requires script { is_script script.now.list ≡ true }
-    requires kept { IsKept machine.old }
+    requires kept { IsKept machine.old.frames (state_of C.entries machine.old) }
     requires begun { 0 < machine.old.step }
     requires within { machine.old.step ≤ n }
     requires bound { n ≤ 2 ^ 40 }
-    ensures rests { (image : Image) (whole : Set) → IsPartOf machine.old.kept.buffer whole
-        → Rests (bare image script.now.list machine.old.frames) (with_set (state_of machine.old) whole) (state_of machine.new) }
-    ensures kept { IsKept machine.new }
+    ensures rests { (image : Image) (whole : Set) → IsPartOf (C.entries machine.old.kept.cache) whole
+        → Rests (bare image script.now.list machine.old.frames) (state_of C.entries machine.old) whole (state_of C.entries machine.new) }
+    ensures kept { IsKept machine.new.frames (state_of C.entries machine.new) }
+    ensures same { C.is_exact machine.new.kept.cache ≡ C.is_exact machine.old.kept.cache }
     ensures frames { machine.new.frames ≡ machine.old.frames }
     ensures later { machine.old.step ≤ machine.new.step }
     ensures within { machine.new.step ≤ n }
@@ -37,7 +39,7 @@ pub fn rest(machine: &mut Machine, script: &Script, n: u64)
 }
 
 /// The processor is halted, and no interrupt that is pending can end that.
-fn is_resting(machine: &Machine) -> bool
+fn is_resting<C: Cache>(machine: &Bare<C>) -> bool
     ensures { result ≡ true → (machine.now.cpu.halted ≡ true) × (machine.now.cpu.held ≡ false) × (interrupt_of machine.now.cpu machine.now.board ≡ None) }
 {
     if !machine.cpu.halted {
@@ -50,7 +52,7 @@ fn is_resting(machine: &Machine) -> bool
 }
 
 /// How many steps, up to a number, pass before an edge or an event can come. The events of the step before were given.
-fn quiet_steps(machine: &Machine, script: &Script, most: u64) -> u64
+fn quiet_steps<C: Cache>(machine: &Bare<C>, script: &Script, most: u64) -> u64
     requires script { is_script script.now.list ≡ true }
     requires begun { 0 < machine.now.step }
     ensures most { result ≤ most }

@@ -1,10 +1,12 @@
 //! The bare machine: it runs the unpatched bytes of an image.
 #![tactic(auto)]
 
+mod bare;
 mod finish;
 mod idle;
 mod machine;
 mod run;
-mod text;
+mod slice;
 
-pub use run::{RunFault, run_bare};
+pub use machine::Bare;
+pub use run::run_bare;

@@ -14,13 +14,15 @@ use guest_ram::Ram;
 use ia32_types::Stop;
 use machine_step::{Rules, Seen};
 use step_mem::{Guard, Own};
+use xlate_buffer::Cache;
 
-/// The bare machine: processor, memory, cached translations, board, the count of steps, and the guest's frames.
+/// The bare machine: processor, memory, cached translations, board, the count of steps, and how many frames the memory
+/// has.
 #[derive(Drop)]
-pub struct Machine {
+pub struct Bare<C: Cache> {
     pub cpu: Cpu,
     pub ram: Ram,
-    pub kept: Cached,
+    pub kept: Cached<C>,
     pub board: Board,
     pub step: u64,
     pub frames: u32,
@@ -28,12 +30,13 @@ pub struct Machine {
 
 /// One step, or the stop that it meets. After a stop the machine must not go on.
 #[tactic(auto, unfolding(machine_model::specs::Step::step_of))]
-pub fn step(machine: &mut Machine, script: &Script) -> Result<Seen, Stop>
+pub fn step<C: Cache>(machine: &mut Bare<C>, script: &Script) -> Result<Seen, Stop>
     requires script { is_script script.now.list ≡ true }
-    requires kept { IsKept machine.old }
+    requires kept { IsKept machine.old.frames (state_of C.entries machine.old) }
     requires bound { machine.old.step < 2 ^ 40 }
-    ensures step { (image : Image) → StepAs (step_of (bare image script.now.list machine.old.frames) (state_of machine.old) machine.old.kept.buffer) result machine.old.step (state_of machine.new) }
-    ensures kept { OnOk result (IsKept machine.new) }
+    ensures step { (image : Image) → StepAs (step_of (bare image script.now.list machine.old.frames) (state_of C.entries machine.old) (C.entries machine.old.kept.cache)) result machine.old.step (C.is_exact machine.old.kept.cache) (state_of C.entries machine.new) }
+    ensures kept { OnOk result (IsKept machine.new.frames (state_of C.entries machine.new)) }
+    ensures same { OnOk result (C.is_exact machine.new.kept.cache ≡ C.is_exact machine.old.kept.cache) }
     ensures frames { machine.new.frames ≡ machine.old.frames }
     ensures count { MatchResult result (λ _. machine.new.step ≡ machine.old.step + 1) (λ _. machine.new.step ≡ machine.old.step) }
 {

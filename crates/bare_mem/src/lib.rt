@@ -1,6 +1,6 @@
-//! The bare machine's memory: the buffer keeps translations between steps.
+//! The bare machine's memory: a cache keeps translations between steps.
 #![tactic(auto)]
 
 mod kept;
 
-pub use kept::{Cached, settle};
+pub use kept::{Cached, drop_all, drop_page, settle};

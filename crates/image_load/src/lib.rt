@@ -2,15 +2,17 @@
 #![tactic(auto)]
 
 mod boot;
+mod fault;
 #[cfg(test)]
 mod tests;
 
-ghost use Rattle.std.specs.Prelude.{◌≡◌, ◌+◌, ◌*◌, ◌<◌, ◌≤◌, ◌^◌, length, replicate, IfOk, IfErr};
+ghost use Rattle.std.specs.Prelude.{◌≡◌, ◌+◌, ◌*◌, ◌<◌, ◌≤◌, ◌^◌, length, replicate, take, drop, OnOk, IfOk, IfErr};
 ghost use Rattle.guest_ram.specs.Bytes.{with_part};
 ghost use Rattle.image_load.specs.Boot.{frame_words, with_image, with_tables, with_directory, boot_descriptors, boot_ram, boot_cpu, boot_of, need, text_pages, data_pages, data_frame, tables_of, pages_of, cpu_from, plain_segment};
 ghost use Rattle.image_check.specs.Accepts.{IsWithin};
 
 pub use boot::{Boot, TooSmall};
+pub use fault::{Pause, RunFault, StartFault};
 use descriptors::{Cpu, Hidden, Table, Task};
 use guest_ram::Ram;
 use ia32_types::{Flags, Regs};
@@ -21,11 +23,15 @@ const DESCRIPTORS: [u8; 40] = [
     0xFF, 0xFF, 0, 0, 0, 0xFA, 0xCF, 0, 0xFF, 0xFF, 0, 0, 0, 0xF2, 0xCF, 0,
 ];
 
-/// Puts an image into memory that is zero, with tables that map it.
+/// Puts an image into the first frames of a memory that is zero, with tables that map it. What lies behind those frames
+/// stays.
 pub fn load(image: &Checked, ram: &mut Ram, frames: u32) -> Result<Boot, TooSmall>
-    requires zero { ram.old ≡ replicate (frames * 4096) 0 }
+    requires zero { ram.old ≡ replicate (length ram.old) 0 }
+    requires room { frames * 4096 ≤ length ram.old }
     requires frames { (2048 ≤ frames) × (frames ≤ 16384) }
-    ensures ok { IfOk result (λ boot. (need image.now ≤ frames) × (boot ≡ boot_of image.now frames) × (ram.new ≡ boot_ram image.now frames)) }
+    ensures ok { IfOk result (λ boot. (need image.now ≤ frames) × (boot ≡ boot_of image.now frames)) }
+    ensures front { OnOk result (take (frames * 4096) ram.new ≡ boot_ram image.now frames) }
+    ensures rest { drop (frames * 4096) ram.new ≡ drop (frames * 4096) ram.old }
     ensures len { length ram.new ≡ length ram.old }
     ensures small { IfErr result (λ e. (frames < need image.now) × (e ≡ record { need = need image.now; have = frames }) × (ram.new ≡ ram.old)) }
 {

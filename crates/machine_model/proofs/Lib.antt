@@ -4,3 +4,5 @@ pub mod Runs
 pub mod Fetches
 pub mod Written
 pub mod Walked
+pub mod Counting
+pub mod Ending

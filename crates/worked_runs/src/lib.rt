@@ -16,6 +16,8 @@ mod plain;
 #[cfg(test)]
 mod refused;
 #[cfg(test)]
+mod slices;
+#[cfg(test)]
 mod stops;
 #[cfg(test)]
 mod user;

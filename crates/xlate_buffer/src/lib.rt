@@ -5,8 +5,10 @@ ghost use Rattle.std.specs.Prelude.{◌≡◌, ◌<◌, ◌^◌, ◌%◌, ◌==�
 ghost use Rattle.std.specs.FinMap as map;
 ghost use Rattle.xlate_buffer.specs.Places.{of_page};
 
+mod cache;
 mod laws;
 
+pub use cache::Cache;
 pub use laws::finds_the_last_kept;
 use paging::Entry;
 use std::marker::Model;

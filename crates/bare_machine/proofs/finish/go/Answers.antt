@@ -1,21 +1,23 @@
-use Rattle.std.proofs.Common.{refl, sym, subst, ◌∙◌}
+use Rattle.std.proofs.Common.{refl, sym, subst, ◌∙◌, ap}
 use Rattle.bare_mem.specs.Part.{IsPartOf}
 use Rattle.step_mem.specs.Changes.{changed}
 use Rattle.machine_model.specs.Step.{items_at}
+use Rattle.machine_step.specs.Worked.{dropping}
 use Rattle.bare_machine.proofs.Steps.{within_dropped, one_step}
 use Rattle.bare_machine.proofs.finish.go.Goals as goal
 
 pub returns-clause-goes : goal.returns-clause-goes
-returns-clause-goes c = λ whats completed s ram set. record {
+returns-clause-goes g c = λ whats completed s ram set. record {
   report = record { items = items_at c.args.machine.now.step whats; completed = completed; pages = s.went; tables = s.tables; wrote = s.wrote };
   whole = s.set;
   went = rw (ram, c.advance.ensures ∙ one_step c.args.machine.now.board) refl;
-  part = subst (IsPartOf c.drop_from.new.kept.buffer) (sym set) (c.drop_from.ensures (changed c.args.machine.now.kept.buffer c.args.changes.now) c.settle.ensures);
+  part = subst (IsPartOf (g.C.Cache.entries c.drop_from.new.kept.cache)) (sym set) (c.drop_from.ensures.part (changed (g.C.Cache.entries c.args.machine.now.kept.cache) c.args.changes.now) c.settle.ensures.part);
+  all = λ exact. c.drop_from.ensures.all ∙ (ap (dropping c.args.dropped) (c.settle.ensures.exact exact) ∙ sym set);
   items = refl;
 }
 
 pub returns-clause-kept : goal.returns-clause-kept
-returns-clause-kept c = record {
+returns-clause-kept g c = record {
   ram = c.requires.ram;
-  within = within_dropped c.args.machine.now.frames c.args.dropped (changed c.args.machine.now.kept.buffer c.args.changes.now) c.drop_from.new.kept.buffer c.requires.within (c.drop_from.ensures (changed c.args.machine.now.kept.buffer c.args.changes.now) c.settle.ensures);
+  within = within_dropped c.args.machine.now.frames c.args.dropped (changed (g.C.Cache.entries c.args.machine.now.kept.cache) c.args.changes.now) (g.C.Cache.entries c.drop_from.new.kept.cache) c.requires.within (c.drop_from.ensures.part (changed (g.C.Cache.entries c.args.machine.now.kept.cache) c.args.changes.now) c.settle.ensures.part);
 }

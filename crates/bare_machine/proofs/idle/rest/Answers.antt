@@ -3,11 +3,11 @@ use Rattle.bare_machine.proofs.Quiet.{rests_none, rests_some}
 use Rattle.bare_machine.proofs.idle.rest.Goals as goal
 
 pub returns-then-not-is_resting-clause-rests : goal.returns-then-not-is_resting-clause-rests
-returns-then-not-is_resting-clause-rests c = λ image whole part. rests_none (bare image c.args.script.now.list c.args.machine.now.frames) (state_of c.args.machine.now) whole part
+returns-then-not-is_resting-clause-rests g c = λ image whole part. rests_none (bare image c.args.script.now.list c.args.machine.now.frames) (state_of g.C.Cache.entries c.args.machine.now) whole part
 
 pub returns-clause-rests : goal.returns-clause-rests
-returns-clause-rests c = λ image whole part.
+returns-clause-rests g c = λ image whole part.
     let m = c.args.machine.now in
     let s = bare image c.args.script.now.list m.frames in
     let is = c.is_resting.ensures c.if-not-is_resting.false in
-    rw c.advance.ensures (rests_some c.quiet_steps-k.result s (state_of m) whole c.requires.begun is.0 is.1 is.2 c.quiet_steps-k.ensures.quiet part)
+    rw c.advance.ensures (rests_some c.quiet_steps-k.result s (state_of g.C.Cache.entries m) whole c.requires.begun is.0 is.1 is.2 c.quiet_steps-k.ensures.quiet part)

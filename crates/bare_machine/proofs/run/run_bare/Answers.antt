@@ -1,12 +1,13 @@
 use Rattle.std.proofs.Common.{ℕ, subst}
-use Rattle.bare_machine.specs.Answers.{RanFrom}
+use Rattle.xlate_buffer.specs.declared.Buffer.{Buffer}
+use Rattle.bare_machine.specs.Answers.{WholeAs}
 use Rattle.bare_machine.specs.Machine.{bare, state_of}
-use Rattle.bare_machine.proofs.Answered.{answered}
+use Rattle.bare_machine.proofs.Wholes.{answered}
 use Rattle.bare_machine.proofs.run.run_bare.Goals as goal
 
-pub returns : goal.returns
-returns g c =
-    let started = c.in-Ok.ensures in
-    let ran = subst (λ (f : ℕ). RanFrom (bare c.args.image.now c.args.script.now.list f) c.args.n (state_of c.in-Ok.machine) c.run_steps.new.trace.items c.run_steps.new.machine.step c.in-Ok-run_steps.end) started.1 (c.in-Ok-run_steps.ensures.ran c.args.image.now) in
-    answered c.args.image.now c.args.script.now.list c.args.frames c.args.n (state_of c.in-Ok.machine) c.run_steps.new.trace.items c.run_steps.new.machine.step c.in-Ok-run_steps.end _ _ _ _ c.put_run.result
-    started.0 (started.4 c.args.script.now.list) ran (rw c.deref.ensures.value at c.put_run.ensures)
+pub returns-in-Ok-clause-run : goal.returns-in-Ok-clause-run
+returns-in-Ok-clause-run g c =
+    let started = c.in-Ok.ensures.started in
+    let ran = subst (λ (f : ℕ). WholeAs (bare c.args.image.now c.args.script.now.list f) c.args.n (state_of (λ (b : Buffer). b) c.in-Ok.machine) (g.O.Sink.taken c.args.out.now) (g.O.Sink.taken c.whole.new.out) (g.O.Sink.faults c.args.out.now) (g.O.Sink.faults c.whole.new.out) c.whole.result) started.1 (c.whole.ensures.whole c.args.image.now) in
+    answered c.args.image.now c.args.script.now.list c.args.frames c.args.n (state_of (λ (b : Buffer). b) c.in-Ok.machine) _ _ _ _ c.whole.result
+    started.0 (started.4 c.args.script.now.list) ran

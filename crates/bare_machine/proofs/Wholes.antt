@@ -1,0 +1,124 @@
+-- From a slice and the last line to a whole run.
+use Rattle.std.proofs.Common.{◌≡◌, ℕ, ◌≤◌, ◌<◌, Bool, List, [], ◌++◌, Option, Result, Ok, Err, refl, sym, ap, subst, ◌∙◌, append_assoc, arith}
+use Rattle.std.proofs.lemmas.List.{append-nil}
+use Rattle.pv_io.specs.declared.answer.Failed.{Failed}
+use Rattle.pv_io.specs.Causes.{Rose}
+use Rattle.pv_io.specs.Sink.{Appends, AppendsFront}
+use Rattle.board.specs.Scripts.{Events}
+use Rattle.image_check.specs.Image.{Image}
+use Rattle.image_load.specs.Boot.{need}
+use Rattle.image_load.specs.declared.fault.Pause.{Pause}
+use Rattle.image_load.specs.declared.fault.Pause.TheVariants.{Reached, Stopped}
+use Rattle.image_load.specs.declared.fault.RunFault.{RunFault}
+use Rattle.image_load.specs.declared.fault.RunFault.TheVariants as fault
+use Rattle.run_trace.specs.declared.items.End.{End}
+use Rattle.run_trace.specs.declared.items.Ended.{Ended}
+use Rattle.run_trace.specs.Text.{lines_of, end_line, text_of}
+use Rattle.machine_model.specs.State.{Setting, State, boot}
+use Rattle.machine_model.specs.Step.{Report}
+use Rattle.machine_model.specs.Run.{Run, trace_of}
+use Rattle.machine_model.specs.Ends.{HasEnd}
+use Rattle.machine_model.proofs.Ending.{each_ends}
+use Rattle.bare_machine.specs.Machine.{bare, with_set}
+use Rattle.bare_machine.specs.Slices.{SliceAs}
+use Rattle.bare_machine.specs.Answers.{RunsTo, HasRun, WholeAs, RunAnswers, end_of}
+use Rattle.bare_machine.proofs.Runs.{part_allowed, same_step, steps_join, trace_join}
+use Rattle.bare_machine.proofs.Going.{lines_join}
+use Rattle.bare_machine.proofs.Texts.{appends_both, appends_none, front_of}
+
+text_is : (reports : List Report) (count : ℕ) (end : End) → lines_of (trace_of reports) ++ end_line count end ≡ text_of (trace_of reports) count end
+unfolding text_of
+text_is reports count end = refl
+
+-- the slice that ended is a run
+pub ran : (s : Setting) (exact : Bool) (n : ℕ) (old new : State) (told tells : Option (List ℕ)) (pause : Pause) → (h : SliceAs s exact n old new told tells (Ok pause))
+    → RunsTo s n old (lines_of (trace_of h.reports) ++ end_line new.step (end_of pause)) new.step (end_of pause)
+ran s exact n old new told tells Reached h = record {
+  sets = h.passes.sets;
+  reports = h.reports;
+  last = with_set h.last h.passes.whole;
+  run = record { steps = h.passes.steps; ends = h.ends.0 };
+  count_is = ap (λ (b : State). b.step) h.ends.1;
+  text_is = text_is h.reports new.step (end_of Reached);
+}
+ran s exact n old new told tells (Stopped stop) h = record {
+  sets = h.passes.sets;
+  reports = h.reports;
+  last = with_set h.last h.passes.whole;
+  run = record {
+    steps = h.passes.steps;
+    ends = (h.ends.0, record { set = h.last.set; allowed = part_allowed s h.last h.passes.whole h.last.set h.passes.part; stands = same_step s h.last h.passes.whole h.last.set ∙ h.ends.2 });
+  };
+  count_is = h.ends.1;
+  text_is = text_is h.reports new.step (end_of (Stopped stop));
+}
+
+-- all lines and the last one were put
+pub whole_put : (s : Setting) (exact : Bool) (n : ℕ) (old new : State) (a b c : Option (List ℕ)) (pause : Pause) (before mid now : ℕ) → (h : SliceAs s exact n old new a b (Ok pause))
+    → Appends b c (end_line new.step (end_of pause)) → before ≤ mid → mid ≤ now → WholeAs s n old a c before now (Ok (record { steps = new.step; end = end_of pause; fills = 0 }))
+whole_put s exact n old new a b c pause before mid now h put le more = (
+  lines_of (trace_of h.reports) ++ end_line new.step (end_of pause),
+  ran s exact n old new a b pause h,
+  appends_both a b c _ _ h.text put,
+  omega (arith, le, more),
+)
+
+-- all lines and a front of the last one
+pub whole_unput : (s : Setting) (exact : Bool) (n : ℕ) (old new : State) (a b c : Option (List ℕ)) (pause : Pause) (before mid now : ℕ) → (h : SliceAs s exact n old new a b (Ok pause))
+    → AppendsFront b c (end_line new.step (end_of pause)) → before ≤ mid → Rose mid now → WholeAs s n old a c before now (Err fault.Write)
+whole_unput s exact n old new a b c pause before mid now h put le rose = (
+  lines_of (trace_of h.reports) ++ end_line new.step (end_of pause),
+  new.step,
+  end_of pause,
+  ran s exact n old new a b pause h,
+  front_of a b c (lines_of (trace_of h.reports)) (end_line new.step (end_of pause)) [] _ h.text put (ap (λ (l : List ℕ). lines_of (trace_of h.reports) ++ l) (sym (append-nil (end_line new.step (end_of pause))))),
+  omega (arith, le, rose),
+)
+
+-- the text of a run that goes on
+text_join : (reports later : List Report) (count : ℕ) (end : End) → text_of (trace_of (reports ++ later)) count end ≡ lines_of (trace_of reports) ++ (lines_of (trace_of later) ++ end_line count end)
+text_join reports later count end =
+    sym (text_is (reports ++ later) count end)
+    ∙ (ap (λ (l : List ℕ). l ++ end_line count end) (ap lines_of (trace_join reports later) ∙ lines_join (trace_of reports) (trace_of later))
+    ∙ append_assoc (lines_of (trace_of reports)) (lines_of (trace_of later)) (end_line count end))
+
+-- a front of the lines
+pub whole_front : (s : Setting) (exact : Bool) (n : ℕ) (old new : State) (a b : Option (List ℕ)) (failed : Failed) (before now : ℕ) → SliceAs s exact n old new a b (Err failed) → Rose before now
+    → WholeAs s n old a b before now (Err fault.Write)
+whole_front s exact n old new a b failed before now h rose =
+    let e = each_ends s n (with_set h.last h.passes.whole) h.ends in (
+      text_of (trace_of (h.reports ++ e.reports)) e.last.step e.end,
+      e.last.step,
+      e.end,
+      record {
+        sets = h.passes.sets ++ e.sets;
+        reports = h.reports ++ e.reports;
+        last = e.last;
+        run = record { steps = steps_join s old (with_set h.last h.passes.whole) e.last h.passes.sets e.sets h.reports e.reports h.passes.steps e.run.steps; ends = e.run.ends };
+        count_is = refl;
+        text_is = refl;
+      },
+      front_of a a b [] (lines_of (trace_of h.reports)) (lines_of (trace_of e.reports) ++ end_line e.last.step e.end) _ (appends_none a) h.text (text_join h.reports e.reports e.last.step e.end),
+      rose,
+    )
+
+has_run : (image : Image) (script : Events) (frames n : ℕ) (first : State) (text : List ℕ) (count : ℕ) (end : End)
+    → need image ≤ frames → first ≡ boot (bare image script frames) → RunsTo (bare image script frames) n first text count end → HasRun image script frames n text count end
+has_run image script frames n first text count end fits is ran = record {
+  fits = fits;
+  given = record {
+    sets = ran.sets;
+    reports = ran.reports;
+    last = ran.last;
+    run = subst (λ (b : State). Run (bare image script frames) n b ran.sets ran.reports ran.last end) is ran.run;
+    count_is = ran.count_is;
+    text_is = ran.text_is;
+  };
+}
+
+pub answered : (image : Image) (script : Events) (frames n : ℕ) (first : State) (old new : Option (List ℕ)) (before now : ℕ) (result : Result Ended RunFault)
+    → need image ≤ frames → first ≡ boot (bare image script frames) → WholeAs (bare image script frames) n first old new before now result → RunAnswers image script frames n old new before now result
+answered image script frames n first old new before now (Ok ended) fits is h = (h.0, has_run image script frames n first h.0 ended.steps ended.end fits is h.1, h.2, h.3)
+answered image script frames n first old new before now (Err fault.Write) fits is h = (h.0, h.1, h.2, has_run image script frames n first h.0 h.1 h.2 fits is h.3, h.4, h.5)
+answered image script frames n first old new before now (Err (fault.TooSmall small)) fits is h = absurd h
+answered image script frames n first old new before now (Err fault.Memory) fits is h = absurd h

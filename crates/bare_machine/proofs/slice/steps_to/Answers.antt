@@ -1,0 +1,79 @@
+use Rattle.std.proofs.Common.{◌≡◌, ℕ, Bool, List, [], ◌∷◌, ◌++◌, refl, ◌∙◌, subst, arith}
+use Rattle.pv_io.specs.Sink.{Appends, AppendsFront}
+use Rattle.run_trace.specs.declared.items.Item.{Item}
+use Rattle.run_trace.specs.Text.{lines_of}
+use Rattle.machine_model.specs.Step.{Stands, step_of}
+use Rattle.machine_step.specs.Worked.{whats}
+use Rattle.bare_machine.specs.Machine.{bare, state_of, Goes, Rests}
+use Rattle.bare_machine.proofs.Going.{going_none, going_on, passes_here, passes_on, front_on}
+use Rattle.bare_machine.proofs.slice.steps_to.Goals as goal
+
+pub loop-machine-init : goal.loop-machine-init
+loop-machine-init g c = record {
+  going = λ image. going_none (bare image c.args.script.now.list c.args.machine.now.frames) (g.C.Cache.is_exact c.args.machine.now.kept.cache) (state_of g.C.Cache.entries c.args.machine.now) (g.O.Sink.taken c.args.out.now);
+  kept = c.requires.kept;
+  frames = refl;
+  same = refl;
+  later = omega arith;
+  bound = c.requires.begun;
+}
+
+pub loop-machine-preserved : goal.loop-machine-preserved
+loop-machine-preserved g c = record {
+  going = λ image.
+      let e = g.C.Cache.entries in
+      let m = c.loop-machine.machine in
+      let exact = g.C.Cache.is_exact c.args.machine.now.kept.cache in
+      let goes = subst (λ (f : ℕ). Goes (step_of (bare image c.args.script.now.list f) (state_of e m) (e m.kept.cache)) m.step (whats c.in-Ok.seen) exact (state_of e c.step.new.machine)) c.loop-machine.invariant.frames
+      (subst (λ (x : Bool). Goes (step_of (bare image c.args.script.now.list m.frames) (state_of e m) (e m.kept.cache)) m.step (whats c.in-Ok.seen) x (state_of e c.step.new.machine)) c.loop-machine.invariant.same (c.in-Ok.ensures.step image)) in
+      let rests = subst (λ (f : ℕ). Rests (bare image c.args.script.now.list f) (state_of e c.step.new.machine) goes.whole (state_of e c.rest.new.machine)) (c.in-Ok.ensures.frames ∙ c.loop-machine.invariant.frames) (c.rest.ensures.rests image goes.whole goes.part) in
+      let put = subst (λ (l : List Item). Appends (g.O.Sink.taken c.loop-machine.out) (g.O.Sink.taken c.put_step.new.out) (lines_of l)) c.items_of.ensures.items c.in-Ok-put_step.ensures.ok in
+      going_on (bare image c.args.script.now.list c.args.machine.now.frames) exact (state_of e c.args.machine.now) (state_of e m) (state_of e c.step.new.machine) (state_of e c.rest.new.machine) (whats c.in-Ok.seen) (g.O.Sink.taken c.args.out.now) (g.O.Sink.taken c.loop-machine.out) (g.O.Sink.taken c.put_step.new.out)
+      (c.loop-machine.invariant.going image) goes put rests;
+  kept = c.rest.ensures.kept;
+  frames = c.rest.ensures.frames ∙ (c.in-Ok.ensures.frames ∙ c.loop-machine.invariant.frames);
+  same = c.rest.ensures.same ∙ (c.in-Ok.ensures.same ∙ c.loop-machine.invariant.same);
+  later = omega (arith, c.loop-machine.invariant.later, c.in-Ok-put_step.ensures.later);
+  bound = c.rest.ensures.within;
+}
+
+pub returns-in-Err-clause-slice : goal.returns-in-Err-clause-slice
+returns-in-Err-clause-slice g c = λ image.
+    let e = g.C.Cache.entries in
+    let m = c.loop-machine.machine in
+    let going = c.loop-machine.invariant.going image in
+    record {
+      reports = going.reports;
+      last = state_of e m;
+      passes = passes_here _ _ _ _ _ _ going;
+      ends = (c.loop-machine-test.true, c.in-Err.ensures.count, subst (λ (f : ℕ). step_of (bare image c.args.script.now.list f) (state_of e m) (e m.kept.cache) ≡ Stands c.in-Err.stop) c.loop-machine.invariant.frames (c.in-Err.ensures.step image));
+      text = going.text;
+    }
+
+pub returns-in-Err-put_step-clause-slice : goal.returns-in-Err-put_step-clause-slice
+returns-in-Err-put_step-clause-slice g c = λ image.
+    let e = g.C.Cache.entries in
+    let m = c.loop-machine.machine in
+    let exact = g.C.Cache.is_exact c.args.machine.now.kept.cache in
+    let goes = subst (λ (f : ℕ). Goes (step_of (bare image c.args.script.now.list f) (state_of e m) (e m.kept.cache)) m.step (whats c.in-Ok.seen) exact (state_of e c.step.new.machine)) c.loop-machine.invariant.frames
+    (subst (λ (x : Bool). Goes (step_of (bare image c.args.script.now.list m.frames) (state_of e m) (e m.kept.cache)) m.step (whats c.in-Ok.seen) x (state_of e c.step.new.machine)) c.loop-machine.invariant.same (c.in-Ok.ensures.step image)) in
+    let put = subst (λ (l : List Item). AppendsFront (g.O.Sink.taken c.loop-machine.out) (g.O.Sink.taken c.put_step.new.out) (lines_of l)) c.items_of.ensures.items c.in-Err-put_step.ensures.failed in
+    let going = c.loop-machine.invariant.going image in
+    record {
+      reports = going.reports ++ goes.report ∷ [];
+      last = state_of e c.step.new.machine;
+      passes = passes_on _ _ _ (state_of e m) (state_of e c.step.new.machine) (whats c.in-Ok.seen) _ _ going goes;
+      ends = omega (arith, c.in-Ok.ensures.count, c.loop-machine-test.true);
+      text = front_on _ _ _ (state_of e m) (state_of e c.step.new.machine) (whats c.in-Ok.seen) _ _ _ going goes put;
+    }
+
+pub returns-clause-slice : goal.returns-clause-slice
+returns-clause-slice g c = λ image.
+    let going = c.loop-machine.invariant.going image in
+    record {
+      reports = going.reports;
+      last = state_of g.C.Cache.entries c.loop-machine.machine;
+      passes = passes_here _ _ _ _ _ _ going;
+      ends = (omega (arith, c.loop-machine.invariant.bound, c.loop-machine-test.false), refl);
+      text = going.text;
+    }

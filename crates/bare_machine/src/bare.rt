@@ -1,0 +1,153 @@
+//! The bare machine as a value that goes on in slices.
+
+ghost use Rattle.std.specs.Prelude.{◌≡◌, ◌+◌, ◌*◌, ◌%◌, ◌≤◌, ◌^◌, length, replicate, true, IfOk, OnErr};
+ghost use Rattle.std.specs.FinMap.{empty};
+ghost use Rattle.std.specs.Borrow.{sem, Lends};
+ghost use Rattle.bare_machine.specs.contracts.machine.Bare.{the_row};
+ghost use Rattle.board.specs.Scripts.{is_script};
+ghost use Rattle.image_check.specs.Image.{Image};
+ghost use Rattle.pv_io.specs.Causes.{Rose};
+ghost use Rattle.machine_model.specs.Fit.{Fit};
+ghost use Rattle.bare_machine.specs.Machine.{bare, state_of, IsKept};
+ghost use Rattle.bare_machine.specs.Slices.{SliceAs, OneStepAs, GoesOn};
+ghost use Rattle.bare_machine.specs.Starts.{StartedAs, with_cache};
+
+use crate::machine::Bare;
+use crate::slice::steps_to;
+use bare_mem::Cached;
+use board::{Board, Script};
+use descriptors::Cpu;
+use guest_ram::Ram;
+use image_check::Checked;
+use image_load::{Pause, StartFault, load};
+use pv_io::{Failed, Sink};
+use std::alloc::Global;
+use xlate_buffer::Cache;
+
+impl<C: Cache> Bare<C> {
+    /// The machine in the state in which every run begins.
+    pub fn start(
+        alloc: Global,
+        image: &Checked,
+        frames: u32,
+        cache: C,
+    ) -> Result<Bare<C>, StartFault>
+        requires frames { (2048 ≤ frames) × (frames ≤ 16384) }
+        requires empty { C.entries cache ≡ empty }
+        ensures started { StartedAs C.entries image.now frames result }
+        ensures kept { IfOk result (λ machine. IsKept machine.frames (state_of C.entries machine)) }
+        ensures begin { IfOk result (λ machine. machine.step ≡ 0) }
+        ensures exact { IfOk result (λ machine. C.is_exact machine.kept.cache ≡ C.is_exact cache) }
+    {
+        match Ram::new(alloc, frames) {
+            Err(_) => Err(StartFault::Memory),
+            Ok(ram) => start_in(ram, image, frames, cache),
+        }
+    }
+
+    /// The machine in any state of a processor that is fit, with a memory of 2,048 to 16,384 frames.
+    pub fn adopt(cpu: Cpu, board: Board, step: u64, ram: Ram, cache: C) -> Bare<C>
+        requires fit { Fit cpu }
+        requires ram { (2048 * 4096 ≤ length ram) × (length ram ≤ 16384 * 4096) × (length ram % 4096 ≡ 0) }
+        requires empty { C.entries cache ≡ empty }
+        ensures state { state_of C.entries result ≡ record { cpu = cpu; ram = ram; set = empty; board = board; step = step } }
+        ensures frames { 4096 * result.frames ≡ length ram }
+        ensures kept { IsKept result.frames (state_of C.entries result) }
+        ensures exact { C.is_exact result.kept.cache ≡ C.is_exact cache }
+    {
+        let frames = ram.len() / 4096;
+        Bare {
+            cpu,
+            ram,
+            kept: Cached { cache },
+            board,
+            step,
+            frames,
+        }
+    }
+
+    /// Makes `k` steps, or ends before a step that stops. The lines of a step go to the sink at its end. After a stop or a
+    /// failure the machine must not go on.
+    pub fn slice<O: Sink>(
+        &mut self,
+        script: &Script,
+        k: u64,
+        out: &mut O,
+    ) -> Result<Pause, Failed>
+        requires script { is_script script.now.list ≡ true }
+        requires kept { IsKept self.old.frames (state_of C.entries self.old) }
+        requires bound { self.old.step + k ≤ 2 ^ 40 }
+        ensures slice { (image : Image) → SliceAs (bare image script.now.list self.old.frames) (C.is_exact self.old.kept.cache) (self.old.step + k) (state_of C.entries self.old) (state_of C.entries self.new) (O.taken out.old) (O.taken out.new) result }
+        ensures one { k ≡ 1 → (image : Image) → OneStepAs (bare image script.now.list self.old.frames) (C.is_exact self.old.kept.cache) (state_of C.entries self.old) (state_of C.entries self.new) result }
+        ensures reached { GoesOn result (self.new.step ≡ self.old.step + k) }
+        ensures kept { GoesOn result (IsKept self.new.frames (state_of C.entries self.new)) }
+        ensures frames { GoesOn result (self.new.frames ≡ self.old.frames) }
+        ensures exact { GoesOn result (C.is_exact self.new.kept.cache ≡ C.is_exact self.old.kept.cache) }
+        ensures later { O.faults out.old ≤ O.faults out.new }
+        ensures cause { OnErr result (Rose (O.faults out.old) (O.faults out.new)) }
+    {
+        let bound = self.step + k;
+        steps_to(self, script, bound, out)
+    }
+
+    pub fn cpu(&self) -> &Cpu
+        ensures { result.now ≡ self.now.cpu }
+    {
+        &self.cpu
+    }
+
+    pub fn board(&self) -> &Board
+        ensures { result.now ≡ self.now.board }
+    {
+        &self.board
+    }
+
+    /// How many steps were done.
+    pub fn step(&self) -> u64
+        ensures { result ≡ self.now.step }
+    {
+        self.step
+    }
+
+    pub fn ram(&self) -> &Ram
+        ensures { result.now ≡ self.now.ram }
+    {
+        &self.ram
+    }
+
+    /// Its cache, to be changed. Before the next slice it must again hold only entries whose frames are in memory.
+    pub fn cache_mut(&mut self) -> &mut C
+        ensures* lends { sem 𝓛 (Lends (the_row C.row) C.row self.entry result (λ w. with_cache self.old w)) }
+        ensures cache { result.now ≡ self.old.kept.cache }
+    {
+        self.kept.lent()
+    }
+}
+
+fn start_in<C: Cache>(
+    ram: Ram,
+    image: &Checked,
+    frames: u32,
+    cache: C,
+) -> Result<Bare<C>, StartFault>
+    requires zero { ram ≡ replicate (frames * 4096) 0 }
+    requires frames { (2048 ≤ frames) × (frames ≤ 16384) }
+    requires empty { C.entries cache ≡ empty }
+    ensures started { StartedAs C.entries image.now frames result }
+    ensures kept { IfOk result (λ machine. IsKept machine.frames (state_of C.entries machine)) }
+    ensures begin { IfOk result (λ machine. machine.step ≡ 0) }
+    ensures exact { IfOk result (λ machine. C.is_exact machine.kept.cache ≡ C.is_exact cache) }
+{
+    let mut ram = ram;
+    match load(image, &mut ram, frames) {
+        Err(small) => Err(StartFault::TooSmall(small)),
+        Ok(boot) => Ok(Bare {
+            cpu: boot.cpu,
+            ram,
+            kept: Cached { cache },
+            board: Board::new(),
+            step: 0,
+            frames,
+        }),
+    }
+}

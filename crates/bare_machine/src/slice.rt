@@ -1,0 +1,70 @@
+//! A slice of a run.
+
+ghost use Rattle.std.specs.Prelude.{◌≡◌, ◌+◌, ◌≤◌, ◌^◌, true, OnErr};
+ghost use Rattle.board.specs.Scripts.{is_script};
+ghost use Rattle.image_check.specs.Image.{Image};
+ghost use Rattle.pv_io.specs.Causes.{Rose};
+ghost use Rattle.machine_model.specs.Step.{items_at};
+ghost use Rattle.machine_step.specs.Worked.{whats};
+ghost use Rattle.run_trace.specs.Steps.{items_of};
+ghost use Rattle.bare_machine.specs.Machine.{bare, state_of, IsKept};
+ghost use Rattle.bare_machine.specs.Slices.{SliceAs, GoesOn};
+
+use crate::idle::rest;
+use crate::machine::{Bare, step};
+use board::Script;
+use image_load::Pause;
+use machine_step::Seen;
+use pv_io::{Failed, Sink};
+use run_trace::{Item, StepItems, put_step};
+use xlate_buffer::Cache;
+
+/// Steps up to a count of steps, or to a stop. The lines of a step go to the sink at its end.
+pub fn steps_to<C: Cache, O: Sink>(
+    machine: &mut Bare<C>,
+    script: &Script,
+    bound: u64,
+    out: &mut O,
+) -> Result<Pause, Failed>
+    requires script { is_script script.now.list ≡ true }
+    requires kept { IsKept machine.old.frames (state_of C.entries machine.old) }
+    requires bound { bound ≤ 2 ^ 40 }
+    requires begun { machine.old.step ≤ bound }
+    ensures slice { (image : Image) → SliceAs (bare image script.now.list machine.old.frames) (C.is_exact machine.old.kept.cache) bound (state_of C.entries machine.old) (state_of C.entries machine.new) (O.taken out.old) (O.taken out.new) result }
+    ensures reached { GoesOn result (machine.new.step ≡ bound) }
+    ensures kept { GoesOn result (IsKept machine.new.frames (state_of C.entries machine.new)) }
+    ensures frames { GoesOn result (machine.new.frames ≡ machine.old.frames) }
+    ensures same { GoesOn result (C.is_exact machine.new.kept.cache ≡ C.is_exact machine.old.kept.cache) }
+    ensures later { O.faults out.old ≤ O.faults out.new }
+    ensures cause { OnErr result (Rose (O.faults out.old) (O.faults out.new)) }
+{
+    while machine.step < bound {
+        let before = machine.step;
+        match step(machine, script) {
+            Err(stop) => return Ok(Pause::Stopped(stop)),
+            Ok(seen) => match put_step(&items_of(before, seen), out) {
+                Ok(()) => {}
+                Err(failed) => return Err(failed),
+            },
+        }
+        rest(machine, script, bound);
+    }
+    Ok(Pause::Reached)
+}
+
+/// What a step lets be seen, as items.
+fn items_of(step: u64, seen: Seen) -> StepItems
+    ensures items { items_of result ≡ items_at step (whats seen) }
+    ensures few { result.len ≤ 2 }
+{
+    let mut items = StepItems::new();
+    match seen {
+        Seen::Nothing => {}
+        Seen::One(what) => items.add(Item { step, what }),
+        Seen::Two(first, second) => {
+            items.add(Item { step, what: first });
+            items.add(Item { step, what: second });
+        }
+    }
+    items
+}

@@ -1,0 +1,40 @@
+-- What holds of a processor at the start of a run and after every step.
+use Rattle.std.specs.Prelude.{◌≡◌, ◌⊎◌, ℕ, true, false, nat_lt, All, bit_and}
+use Rattle.descriptors.specs.declared.cpu.Cpu.{Cpu}
+use Rattle.descriptors.specs.declared.cpu.Hidden.{Hidden}
+use Rattle.event_entry.specs.Deliver.{seg_of}
+
+-- of the four levels of privilege these are used
+abbrev pub IsLevel : ℕ → Type 0
+IsLevel level = (level ≡ 0) ⊎ (level ≡ 3)
+
+-- a selector below 4 is null, and no other
+pub record IsSegment (segment : Hidden) : Type 0 where
+  pub null : segment.null ≡ nat_lt segment.sel 4
+  pub level : IsLevel segment.dpl
+
+-- the segments of code and stack are of the processor's level
+pub record IsOfLevel (cpu : Cpu) (segment : Hidden) : Type 0 where
+  pub there : segment.null ≡ false
+  pub level : segment.dpl ≡ cpu.cpl
+
+-- bit 1 is 1, and of the others only CF, PF, AF, ZF, SF, IF, DF, OF and the two bits of IOPL may be set
+pub record AreFlags (bits : ℕ) : Type 0 where
+  pub fixed : bit_and bits 2 ≡ 2
+  pub others : bit_and bits 4294951208 ≡ 0
+
+-- the values that MOV to a control register takes: paging and protection are on, bit 4 of CR0 is 1
+pub record AreControls (cpu : Cpu) : Type 0 where
+  pub on : bit_and cpu.cr0 2147483665 ≡ 2147483665
+  pub others : bit_and cpu.cr0 2147155904 ≡ 0
+  pub directory : bit_and cpu.cr3 4071 ≡ 0
+  pub extensions : cpu.cr4 ≡ 0
+
+pub record Fit (cpu : Cpu) : Type 0 where
+  pub level : IsLevel cpu.cpl
+  pub segments : All IsSegment cpu.seg
+  pub code : IsOfLevel cpu (seg_of cpu 1)
+  pub stack : IsOfLevel cpu (seg_of cpu 2)
+  pub flags : AreFlags cpu.regs.flags.bits
+  pub controls : AreControls cpu
+  pub halted : cpu.halted ≡ true → cpu.cpl ≡ 0

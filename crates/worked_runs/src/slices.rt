@@ -1,0 +1,140 @@
+//! Runs of the bare machine that pause and go on.
+
+use crate::built::answer;
+use bare_machine::Bare;
+use board::read_script;
+use image_check::{Checked, check};
+use image_load::Pause;
+use pv_io::{Files, IoAnswer, MemFiles, MemSink};
+use run_trace::{End, Ended, put_end};
+use std::alloc::Global;
+use std::test::Fail;
+use xlate_buffer::Buffer;
+
+const SENDS_A_BYTE: &[u8] = b"_start:\nmovl $0x3f8,%edx\nmovb $0x48,%al\noutb %al,%dx\nhlt\n";
+
+// Unmasks the timer's line, lets the timer interrupt NOPs, shows where it did, and halts.
+const IS_INTERRUPTED: &[u8] = b"\
+.data\n\
+idt_register:\n\
+.word 0x7ff\n\
+.long idt\n\
+.bss\n\
+.p2align 3\n\
+idt:\n\
+.zero 2048\n\
+.text\n\
+.globl _start\n\
+_start:\n\
+movl $on_timer,%eax\n\
+movl %eax,idt+0x100\n\
+movw $0x08,idt+0x102\n\
+movl %eax,idt+0x104\n\
+movw $0x8e00,idt+0x104\n\
+lidt idt_register\n\
+movb $0x11,%al\n\
+outb %al,$0x20\n\
+movb $0x20,%al\n\
+outb %al,$0x21\n\
+movb $4,%al\n\
+outb %al,$0x21\n\
+movb $1,%al\n\
+outb %al,$0x21\n\
+movb $0xfe,%al\n\
+outb %al,$0x21\n\
+movl $0x40,%edx\n\
+movb $0x34,%al\n\
+outb %al,$0x43\n\
+movb $2,%al\n\
+outb %al,%dx\n\
+sti\n\
+movb $0,%al\n\
+outb %al,%dx\n\
+nop\n\
+nop\n\
+nop\n\
+nop\n\
+nop\n\
+nop\n\
+nop\n\
+nop\n\
+pushf\n\
+movb $0x55,%al\n\
+outb %al,$0x80\n\
+rest:\n\
+jmp rest\n\
+on_timer:\n\
+popl %eax\n\
+outl %eax,$0x80\n\
+pushl %eax\n\
+iret\n";
+
+// The file of a source's image.
+fn file(alloc: Global, source: &[u8]) -> Result<Vec<u8>, IoAnswer> {
+    let mut files = MemFiles::new(alloc, Vec::new(alloc))?;
+    files.store("S", source)?;
+    answer(alloc, &mut files, &["burn", "S", "O"])?;
+    answer(alloc, &mut files, &["link", "I", "O"])?;
+    let mut bytes = Vec::new(alloc);
+    files.load(alloc, "I", &mut bytes)?;
+    Ok(bytes)
+}
+
+// What a run of at most `n` steps prints that pauses after the first `first` steps, and then after each `each` of them.
+fn prints(
+    alloc: Global,
+    image: &Checked,
+    first: u64,
+    each: u64,
+    n: u64,
+) -> Result<MemSink, Fail> {
+    let script = read_script(alloc, b"")?;
+    let mut out = MemSink::new(alloc, 4096, Vec::new(alloc))?;
+    match Bare::start(alloc, image, 2048, Buffer::new()) {
+        Err(_) => {}
+        Ok(machine) => {
+            let mut machine = machine;
+            let mut k = first;
+            for _ in 0..100u64 {
+                let left = n.saturating_sub(machine.step());
+                match machine.slice(&script, k.min(left), &mut out) {
+                    Ok(Pause::Reached) => {}
+                    _ => return Ok(out),
+                }
+                k = each;
+            }
+            let ended = Ended {
+                steps: machine.step(),
+                end: End::Bound,
+                fills: 0,
+            };
+            match put_end(&ended, &mut out) {
+                Ok(()) => {}
+                Err(_) => {}
+            }
+        }
+    }
+    Ok(out)
+}
+
+#[test]
+fn slices_of_one_step_print_the_same(rt: HostRuntime) -> Result<(), Fail> {
+    let alloc = rt.alloc();
+    let image = check(alloc, &file(alloc, SENDS_A_BYTE)?)?;
+    let out = prints(alloc, &image, 1, 1, 8)?;
+    assert_eq!(rt; out.bytes(), b"2 out8 03f8 48\n2 tx 48\nend steps 8\n".as_slice());
+    Ok(())
+}
+
+#[test]
+fn a_pause_at_any_step_changes_nothing(rt: HostRuntime) -> Result<(), Fail> {
+    let alloc = rt.alloc();
+    let image = check(alloc, &file(alloc, IS_INTERRUPTED)?)?;
+    let whole = prints(alloc, &image, 80, 80, 80)?;
+    assert!(rt; whole.bytes().ends_with(b"65 irq 20\n67 out32 0080 10000075\n76 out8 0080 55\nend steps 80\n"));
+    for pause in 40..80u64 {
+        let parts = prints(alloc, &image, pause, 80, 80)?;
+        assert_eq!(rt; parts.bytes(), whole.bytes(), "a pause at {pause}");
+    }
+    Ok(())
+}
