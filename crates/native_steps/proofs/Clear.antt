@@ -1,5 +1,5 @@
 -- The pages that an instruction uses, where none clashes: where one was used before, its entry allows the later use too.
-use Rattle.std.proofs.Common.{◌≡◌, ℕ, zero, suc, ◌+◌, ◌-◌, ◌/◌, ◌≤◌, ◌<◌, ◌==◌, List, [], ◌∷◌, ◌++◌, length, map, map-append, Bool, true, false, cond, ◌&&◌, ◌||◌, not, Option, Some, None, Ok, refl, sym, ap, subst, ◌∙◌, arith}
+use Rattle.std.proofs.Common.{◌≡◌, ℕ, zero, suc, ◌+◌, ◌-◌, ◌/◌, ◌≤◌, ◌<◌, ◌==◌, List, [], ◌∷◌, ◌++◌, length, map, Bool, true, false, cond, ◌&&◌, ◌||◌, not, Option, Some, None, Ok, refl, sym, ap, subst, ◌∙◌, arith}
 use Rattle.std.specs.Prelude.{slice_index_or, if◌then◌else◌}
 use Rattle.std.specs.Option.{ForSome}
 use Rattle.std.specs.List.{Contains, list_any}
@@ -87,6 +87,10 @@ clear_told b ps (u ∷ us) h =
       clear_told b (u.page ∷ ps) us p.1,
     )
 
+map-append : {A B : Type 0} (f : A → B) (xs ys : List A) → map f (xs ++ ys) ≡ map f xs ++ map f ys
+map-append f [] ys = refl
+map-append f (x ∷ xs) ys = ap (λ l. f x ∷ l) (map-append f xs ys)
+
 module _ (b : State) where
   fetch_same : (pages : List ℕ) → map (as_use b) (map (used false) pages) ≡ fetch_uses b pages
   fetch_same [] = refl
@@ -115,9 +119,9 @@ module _ (b : State) where
       map-append (as_use b) (map (used false) pages) (range_uses false ranges.read ++ range_uses true ranges.write)
       ∙ ap (λ (l : List clashing.Use). l ++ map (as_use b) (range_uses false ranges.read ++ range_uses true ranges.write)) (fetch_same pages)
       ∙ ap (λ (l : List clashing.Use). fetch_uses b pages ++ l)
-        (map-append (as_use b) (range_uses false ranges.read) (range_uses true ranges.write)
-        ∙ ap (λ (l : List clashing.Use). l ++ map (as_use b) (range_uses true ranges.write)) (range_same false ranges.read short.0)
-        ∙ ap (λ (l : List clashing.Use). clashing.uses_of (access_of b false) ranges.read ++ l) (range_same true ranges.write short.1))
+      (map-append (as_use b) (range_uses false ranges.read) (range_uses true ranges.write)
+      ∙ ap (λ (l : List clashing.Use). l ++ map (as_use b) (range_uses true ranges.write)) (range_same false ranges.read short.0)
+      ∙ ap (λ (l : List clashing.Use). clashing.uses_of (access_of b false) ranges.read ++ l) (range_same true ranges.write short.1))
 
 -- an instruction that was fetched and doesn't clash
 pub clear_from : (m : Setting) (b : State) (insn : Insn) (len : ℕ) (fetch : Space)
