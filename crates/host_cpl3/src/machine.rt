@@ -1,4 +1,4 @@
-ghost use Rattle.std.specs.Prelude.{◌≡◌, ◌+◌, ◌*◌, ◌<◌, ◌^◌, length, Some, None, is_some, refl};
+ghost use Rattle.std.specs.Prelude.{◌≡◌, ◌+◌, ◌*◌, ◌<◌, ◌^◌, length, Some, false, is_some, refl};
 ghost use Rattle.host_cpl3.specs.HostRun.{digest, host_run};
 ghost use Rattle.host_cpl3.specs.Hosts.{standing, held};
 
@@ -23,9 +23,9 @@ pub struct Machine {
 impl Machine {
     /// It has no memory, and nothing is completed.
     pub fn new() -> Machine
-        ensures memory { result.ram ≡ None }
-        ensures retired { result.retired ≡ 0 }
-        ensures passed { result.passed ≡ 0 }
+        ensures memory { ⟦<Machine as Host>⟧.is_started result ≡ false }
+        ensures retired { ⟦<Machine as Host>⟧.retired result ≡ 0 }
+        ensures passed { ⟦<Machine as Host>⟧.passed result ≡ 0 }
     {
         Machine {
             ram: None,
