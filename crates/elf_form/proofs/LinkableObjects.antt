@@ -21,7 +21,7 @@ use Rattle.elf_form.specs.ObjectParts.{ObjectParts}
 use Rattle.elf_form.specs.Faults.{bad, ◌or_else◌}
 use Rattle.elf_form.specs.Tables.{entries, found}
 use Rattle.elf_form.specs.Header.{header_table, section_table, section_count, sections, passes, has_contents, part_of, header_cut, header_table_cut, section_table_cut, header_part_cut, section_part_cut, cut, IsSection, IsWhole}
-use Rattle.elf_form.specs.Sections.{contents, names, is_null, is_sites}
+use Rattle.elf_form.specs.Sections.{contents, is_index, names, is_null, is_sites}
 use Rattle.elf_form.specs.Output.{pad}
 use Rattle.elf_form.specs.Roles.{role as role_of, role_number, has_role, with_role, size, alignment, up, starts, with_section, joined}
 use Rattle.elf_form.specs.ObjectReading.{table_of, strings_of, kept_relocs, second_field, text_in, sites_in, object_at, symbol_form, reloc_form, object_form, object_sizes, wrong_object, ObjectAs}
@@ -31,7 +31,7 @@ use Rattle.elf_form.specs.ObjectReading.{object_in}
 use Rattle.elf_form.proofs.ObjectAcceptance.{if_read}
 use Rattle.elf_form.proofs.WholeLaws.{section_at}
 use Rattle.elf_form.specs.Linkable.{IsLinkable}
-use Rattle.elf_form.specs.Symbols.{symbols_of, section_of, is_index, role_at, is_listed, is_file, has_binding, has_place, symbol_fault, target, target_role, is_reloc_section_of, entry, relocs_in, relocs_of, size_at, is_outside, number_of, has_symbol, symbol_of, has_kind, names_none, named_fault, form_fault, reloc_test, relocs_fault, start_in, start_at, numbers, reloc_at, symbol_at, symbols_in}
+use Rattle.elf_form.specs.Symbols.{symbols_of, section_of, role_at, is_listed, is_file, has_binding, has_place, symbol_fault, target, target_role, is_reloc_section_of, entry, relocs_in, relocs_of, size_at, is_outside, number_of, has_symbol, symbol_of, has_kind, names_none, named_fault, form_fault, reloc_test, relocs_fault, start_in, start_at, numbers, reloc_at, symbol_at, symbols_in}
 use Rattle.elf_form.proofs.EachEntry.{Each, each_append, each_map, each_both, each_all, bad_none, else_none, lower_none, fold_none, or_false, not_false}
 
 -- ---- entries of a table

@@ -1,5 +1,5 @@
 -- What is read of an object, or the first fault.
-use Rattle.std.specs.Prelude.{◌≡◌, ℕ, ◌+◌, ◌%◌, ◌^◌, Bool, ◌&&◌, List, [], ◌∷◌, ◌++◌, map, Option, Some, None, Result, Ok, nat_lt, ◌==◌, if◌then◌else◌}
+use Rattle.std.specs.Prelude.{◌≡◌, ℕ, ◌+◌, ◌%◌, ◌^◌, Bool, ◌&&◌, ◌||◌, List, [], ◌∷◌, ◌++◌, map, Option, Some, None, Result, Ok, nat_lt, ◌==◌, if◌then◌else◌}
 use Rattle.guest_ram.specs.Bytes.{word16, word32}
 use Rattle.elf_form.specs.declared.cause.ElfCause.{ElfCause}
 use Rattle.elf_form.specs.declared.cause.ElfCause.TheVariants.{Truncated, Magic, Class, Encoding, Version, FileType, Machine, Sizes, SectionForm, Compressed, StringPlace, SymbolForm, RelocForm}
@@ -15,13 +15,13 @@ use Rattle.elf_form.specs.ObjectParts.{ObjectParts}
 use Rattle.elf_form.specs.Faults.{Fault, test, ◌>>=◌, ◌or_lower◌}
 use Rattle.elf_form.specs.Header.{section_count, sections, cut, magic, class, encoding, version, file_type, machine}
 use Rattle.elf_form.specs.Segments.{header_size, section_size, too_long}
-use Rattle.elf_form.specs.Sections.{contents, names, compressed, nameless}
+use Rattle.elf_form.specs.Sections.{contents, is_index, names, compressed, nameless}
 use Rattle.elf_form.specs.Roles.{with_role, misaligned, joined_fault, joined_end, joined}
 use Rattle.elf_form.specs.Symbols.{table_at, symbols_of, section_of, entries_fault, relocs_of, sections_fault, symbols_fault, relocs_fault, symbols_in, numbers, reloc_at}
 
 -- a section that is there and a string table (3)
 abbrev pub has_strings : List ℕ → ℕ → Bool
-has_strings bytes link = nat_lt link (section_count bytes) && (word32 bytes (section_of bytes link + 4) == 3)
+has_strings bytes link = is_index bytes link && (word32 bytes (section_of bytes link + 4) == 3)
 
 unfoldable pub strings_in : List ℕ → ℕ → List ℕ
 strings_in bytes link = if has_strings bytes link then contents bytes (section_of bytes link) else []
@@ -76,8 +76,9 @@ object_form bytes =
 
 -- ---- names
 
+-- Where there are sections, the header names the table of their names, in which each has a name.
 abbrev pub section_names_fault : List ℕ → Option ℕ
-section_names_fault bytes = if has_strings bytes (word16 bytes 50) then nameless bytes else Some 50
+section_names_fault bytes = if has_strings bytes (word16 bytes 50) || (section_count bytes == 0) then nameless bytes else Some 50
 
 abbrev pub symbol_names_fault : List ℕ → Found → Option ℕ
 symbol_names_fault bytes Nothing = None

@@ -11,12 +11,16 @@ use Rattle.elf_form.specs.Header.{section_table, section_count, sections, has_co
 unfoldable pub contents : List ℕ → ℕ → List ℕ
 contents bytes s = if has_contents bytes s then part bytes (word32 bytes (s + 16)) (word32 bytes (s + 20)) else []
 
+-- an index that names a section (Special Section Indexes): not 0 (SHN_UNDEF), and below those that are reserved, from 0xFF00 (SHN_LORESERVE) on
+abbrev pub is_index : List ℕ → ℕ → Bool
+is_index bytes index = not (index == 0) && nat_lt index 65280 && nat_lt index (section_count bytes)
+
 -- The header names the section that holds the names. It is there, and a string table (3); else there are no names.
 abbrev pub names_section : List ℕ → ℕ
 names_section bytes = section_table bytes + 40 * word16 bytes 50
 
 unfoldable pub names : List ℕ → List ℕ
-names bytes = if nat_lt (word16 bytes 50) (section_count bytes) && (word32 bytes (names_section bytes + 4) == 3) then contents bytes (names_section bytes) else []
+names bytes = if is_index bytes (word16 bytes 50) && (word32 bytes (names_section bytes + 4) == 3) then contents bytes (names_section bytes) else []
 
 abbrev pub is_null : List ℕ → ℕ → Bool
 is_null bytes s = word32 bytes (s + 4) == 0

@@ -21,7 +21,7 @@ use Rattle.elf_form.specs.declared.symbols.RelocTest.TheVariants.{Named, Form}
 use Rattle.elf_form.specs.Faults.{bad, ◌or_else◌, ◌or_lower◌}
 use Rattle.elf_form.specs.Tables.{entries}
 use Rattle.elf_form.specs.Header.{section_table, section_count, sections}
-use Rattle.elf_form.specs.Sections.{contents}
+use Rattle.elf_form.specs.Sections.{contents, is_index}
 use Rattle.elf_form.specs.Roles.{role as role_of, role_number, has_role, is_kept, size, starts}
 
 -- the first place that an entry of a list gives
@@ -63,10 +63,6 @@ place_by role.Bss = place.Bss
 place_by role.Foreign = place.Undefined
 place_by role.Symbols = place.Undefined
 place_by role.Relocs = place.Undefined
-
--- an index that names a section (Special Section Indexes): not 0 (SHN_UNDEF), and below those that are reserved, from 0xFF00 (SHN_LORESERVE) on
-abbrev pub is_index : List ℕ → ℕ → Bool
-is_index bytes index = not (index == 0) && nat_lt index 65280 && nat_lt index (section_count bytes)
 
 unfoldable pub role_at : List ℕ → List ℕ → ℕ → Role
 role_at names bytes index = if is_index bytes index then role_of names bytes (section_of bytes index) else role.Ignored

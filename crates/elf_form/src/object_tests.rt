@@ -13,7 +13,7 @@ ghost use Rattle.elf_form.specs.ObjectReading.{has_strings, strings_in, table_of
 use crate::header::{bad, lower};
 use crate::joining::{joined_fault, misaligned};
 use crate::roles::{Role, with_role};
-use crate::sections::{contents, nameless, names};
+use crate::sections::{contents, is_index, nameless, names};
 use crate::segments::{Found, LIMIT};
 use crate::symbol_walks::{sections_fault, symbols_fault};
 use crate::symbols::{SectionTest, SymbolTest, Table, entries_fault, table_at};
@@ -24,7 +24,7 @@ fn has_strings(bytes: &[u8], link: usize) -> bool
     ensures { result ≡ has_strings bytes.now link }
 {
     let table = word(bytes, 32) as usize;
-    link < half(bytes, 48) as usize && word(bytes, table + 40 * link + 4) == 3
+    is_index(bytes, link) && word(bytes, table + 40 * link + 4) == 3
 }
 
 /// The bytes of a string table, none where the section is no such table.
@@ -34,8 +34,7 @@ fn strings_in(bytes: &[u8], link: usize) -> &[u8]
     ensures { result.now ≡ strings_in bytes.now link }
 {
     let table = word(bytes, 32) as usize;
-    let count = half(bytes, 48) as usize;
-    if link >= count {
+    if !is_index(bytes, link) {
         return &[];
     }
     let s = table + 40 * link;
@@ -151,7 +150,7 @@ fn section_names_fault(bytes: &[u8]) -> Option<usize>
     ensures place { result ≡ section_names_fault bytes.now }
     ensures inside { IfSome result (λ at. at < length bytes.now) }
 {
-    if !has_strings(bytes, half(bytes, 50) as usize) {
+    if !has_strings(bytes, half(bytes, 50) as usize) && half(bytes, 48) != 0 {
         return Some(50);
     }
     nameless(bytes)

@@ -4,7 +4,7 @@ ghost use Rattle.std.specs.Prelude.{◌≡◌, ◌≤◌, ◌<◌, ◌+◌, ◌^
 ghost use Rattle.guest_ram.specs.Bytes.{word16, word32};
 ghost use Rattle.elf_form.specs.Tables.{AllFound};
 ghost use Rattle.elf_form.specs.Header.{IsWhole, IsSection, section_passes};
-ghost use Rattle.elf_form.specs.Sections.{contents, names, is_null, is_nameless, is_sites, is_compressed, sites_sections, one_of, compressed, nameless};
+ghost use Rattle.elf_form.specs.Sections.{contents, is_index, names, is_null, is_nameless, is_sites, is_compressed, sites_sections, one_of, compressed, nameless};
 
 use crate::segments::Found;
 use crate::words::{half, word};
@@ -29,6 +29,17 @@ pub fn contents(bytes: &[u8], s: usize) -> &[u8]
     &bytes[at..at + size]
 }
 
+/// The first section index that is reserved (SHN_LORESERVE).
+const FIRST_RESERVED: usize = 0xFF00;
+
+/// Whether an index names a section; 0 (SHN_UNDEF) and the reserved ones name none.
+pub fn is_index(bytes: &[u8], index: usize) -> bool
+    requires { 52 ≤ length bytes.now }
+    ensures { result ≡ is_index bytes.now index }
+{
+    index != 0 && index < FIRST_RESERVED && index < half(bytes, 48) as usize
+}
+
 /// The bytes of the section that has the names.
 #[tactic(auto, unfolding(crate::specs::Sections::names), using(crate::proofs::WholeLaws::section_at))]
 pub fn names(bytes: &[u8]) -> &[u8]
@@ -37,8 +48,7 @@ pub fn names(bytes: &[u8]) -> &[u8]
 {
     let index = half(bytes, 50) as usize;
     let table = word(bytes, 32) as usize;
-    let count = half(bytes, 48) as usize;
-    if index >= count {
+    if !is_index(bytes, index) {
         return &[];
     }
     let s = table + 40 * index;

@@ -10,7 +10,7 @@ ghost use Rattle.elf_form.specs.Symbols.{target_role, table_at, is_file, has_bin
 use crate::header::bad;
 use crate::object::Place;
 use crate::roles::{Role, has_role, is_kept, role_number, section_role};
-use crate::sections::{contents, from};
+use crate::sections::{contents, from, is_index};
 use crate::segments::Found;
 use crate::words::{byte, half, word};
 
@@ -110,16 +110,13 @@ pub fn place_by(role: Role) -> Place
     }
 }
 
-/// The first section index that is reserved (SHN_LORESERVE).
-const FIRST_RESERVED: usize = 0xFF00;
-
-/// What the section of an index is read as; index 0 (SHN_UNDEF) and the reserved ones name none.
+/// What the section of an index is read as.
 #[tactic(auto, unfolding(crate::specs::Symbols::role_at))]
 pub fn role_at(names: &[u8], bytes: &[u8], index: usize) -> Role
     requires { IsWhole bytes.now }
     ensures role { result ≡ role_at names.now bytes.now index }
 {
-    if index == 0 || index >= FIRST_RESERVED || index >= half(bytes, 48) as usize {
+    if !is_index(bytes, index) {
         return Role::Ignored;
     }
     section_role(names, bytes, word(bytes, 32) as usize + 40 * index)
