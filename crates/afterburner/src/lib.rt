@@ -27,6 +27,3 @@ pub use names::Names;
 pub use section::Section;
 pub use symbol::{Binding, Definition};
 pub use value::Width;
-
-#[cfg(test)]
-mod tests;

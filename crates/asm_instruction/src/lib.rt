@@ -25,6 +25,3 @@ mod system;
 pub use assembled::{Assembled, Named, Refusal};
 pub use assembling::assemble;
 pub use laws::answers;
-
-#[cfg(test)]
-mod tests;

@@ -30,8 +30,3 @@ pub use state::{Open, State};
 pub use stop::Stop;
 pub use symbol::Symbol;
 pub use tree::{Argument, Arguments, Body, Form, Name, Source, SourceItem, Value};
-
-#[cfg(test)]
-mod item_tests;
-#[cfg(test)]
-mod tests;

@@ -1,5 +1,5 @@
-use super::*;
 use asm_lex::SourceFault;
+use asm_parse::{Body, Form, parse};
 use std::alloc::{AllocError, Global};
 use std::test::*;
 

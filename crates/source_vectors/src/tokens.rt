@@ -1,4 +1,4 @@
-use super::*;
+use asm_lex::{SourceCause, SourceFault, Token, TokenKind, lex};
 use std::test::*;
 
 /// A token of this kind at this place.

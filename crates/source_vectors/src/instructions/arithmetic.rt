@@ -1,5 +1,5 @@
 use super::{Line, assembles, is_assembled};
-use crate::Named;
+use asm_instruction::Named;
 use std::test::*;
 
 /// As GNU as assembles them.

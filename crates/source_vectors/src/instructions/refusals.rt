@@ -1,5 +1,5 @@
 use super::{is_refused, is_taken};
-use crate::Refusal;
+use asm_instruction::Refusal;
 use std::test::*;
 
 /// Names that are none of the table's.

@@ -1,5 +1,5 @@
 use super::{Line, assembles, is_assembled};
-use crate::Named;
+use asm_instruction::Named;
 use std::test::*;
 
 /// This project's own choice, where GNU as takes another spelling or no such suffix.

@@ -1,4 +1,4 @@
-use super::*;
+use afterburner::{BurnFault, burn};
 use asm_parse::parse;
 use elf_form::{Object, Place, Reloc, Symbol};
 use std::alloc::AllocError;

@@ -1,4 +1,4 @@
-use super::{Assembled, Named, Refusal, assemble};
+use asm_instruction::{Assembled, Named, Refusal, assemble};
 use asm_parse::{Body, SourceItem, parse};
 use std::test::*;
 
