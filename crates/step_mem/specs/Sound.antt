@@ -1,5 +1,5 @@
 -- The parts of a step's memory: what holds of them, and what they stand for.
-use Rattle.std.specs.Prelude.{◌≡◌, ℕ, ◌+◌, ◌*◌, ◌/◌, ◌≤◌, ◌<◌, ◌^◌, true, List, length, IsSome}
+use Rattle.std.specs.Prelude.{◌≡◌, ℕ, ◌+◌, ◌*◌, ◌/◌, ◌≤◌, ◌<◌, ◌^◌, true, List, length, take, IsSome}
 use Rattle.std.specs.FinMap.{FinMap, get}
 use Rattle.std.specs.Ordering.{nat_cmp}
 use Rattle.paging.specs.declared.entry.Entry.{Entry}
@@ -17,7 +17,7 @@ space_at kept ram state =
       tables = state.tables;
       wrote = state.wrote;
       ready = record { start = state.ready.start; len = state.ready.len; write = state.ready.write };
-      earlier = record { start = state.earlier.start; len = state.earlier.len; set = changed (kept ram) state.earlier.changes };
+      earlier = record { start = state.earlier.start; len = state.earlier.len; set = changed (kept ram) (take state.earlier.count state.changes) };
     })
 
 pub record IsSound (kept : List ℕ → FinMap nat_cmp Entry) (floor : ℕ) (stands : List ℕ → Type 0) (ram : List ℕ) (state : State) : Type 0 where
@@ -34,7 +34,7 @@ pub record IsSound (kept : List ℕ → FinMap nat_cmp Entry) (floor : ℕ) (sta
   pub within : AreWithin state.control.frames (changed (kept ram) state.changes)
   pub reached : (at : ℕ) → state.ready.start ≤ at → at < state.ready.start + state.ready.len → IsSome (get (changed (kept ram) state.changes) (at / 4096))
   pub apart : state.ready.write ≡ true → (at : ℕ) → state.ready.start ≤ at → at < state.ready.start + state.ready.len → IsApart (mode_of state.guard) (get (changed (kept ram) state.changes) (at / 4096))
-  pub earlier_counted : length state.earlier.changes ≤ state.pages
+  pub earlier_counted : state.earlier.count ≤ length state.changes
   pub earlier_fits : state.earlier.start + state.earlier.len ≤ 2 ^ 32
-  pub earlier_within : AreWithin state.control.frames (changed (kept ram) state.earlier.changes)
-  pub earlier_reached : (at : ℕ) → state.earlier.start ≤ at → at < state.earlier.start + state.earlier.len → IsSome (get (changed (kept ram) state.earlier.changes) (at / 4096))
+  pub earlier_within : AreWithin state.control.frames (changed (kept ram) (take state.earlier.count state.changes))
+  pub earlier_reached : (at : ℕ) → state.earlier.start ≤ at → at < state.earlier.start + state.earlier.len → IsSome (get (changed (kept ram) (take state.earlier.count state.changes)) (at / 4096))

@@ -1,6 +1,7 @@
 //! The guest's memory within one step, over any keeper of translations.
 #![tactic(auto)]
 
+mod access;
 mod changes;
 mod guard;
 mod kept;
@@ -8,14 +9,17 @@ mod own;
 mod page;
 mod shown;
 mod state;
+mod touching;
 mod walking;
 mod went;
 
+pub use access::{bytes, load, load_earlier, save};
 pub use changes::{Change, Changes};
 pub use guard::{Guard, Own, Text};
 pub use kept::Kept;
 pub use own::{own_back, own_front};
 pub use shown::Bytes;
-pub use state::{Earlier, Reach, State, bytes, fetch, load, load_earlier, save, touch};
+pub use state::{Earlier, Reach, State};
+pub use touching::{fetch, touch};
 pub use walking::Control;
 pub use went::Went;

@@ -7,9 +7,10 @@ ghost use Rattle.paging.specs.Uses.{with_front, with_back};
 ghost use Rattle.step_mem.specs.Guard.{mode_of};
 ghost use Rattle.step_mem.specs.Sound.{IsSound, space_at};
 
+use crate::access::place;
 use crate::guard::Own;
 use crate::kept::Kept;
-use crate::state::{State, place};
+use crate::state::State;
 use guest_ram::Ram;
 
 /// The bytes at an address are those of this step's instruction in its first page, and so far its only ones.
@@ -24,6 +25,9 @@ pub fn own_front<B: Kept>(ram: &Ram, base: &B, state: &mut State, at: u32, len: 
     ensures control { state.new.control ≡ state.old.control }
     ensures text { state.new.guard.text ≡ state.old.guard.text }
 {
+    if state.guard.text.is_none() {
+        return;
+    }
     let at = place(ram, base, state, at);
     state.guard.own = Own {
         front: at,
@@ -45,6 +49,9 @@ pub fn own_back<B: Kept>(ram: &Ram, base: &B, state: &mut State, at: u32, len: u
     ensures control { state.new.control ≡ state.old.control }
     ensures text { state.new.guard.text ≡ state.old.guard.text }
 {
+    if state.guard.text.is_none() {
+        return;
+    }
     let at = place(ram, base, state, at);
     state.guard.own = Own {
         back: at,

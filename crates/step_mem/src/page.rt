@@ -1,6 +1,6 @@
 //! One page of a range.
 
-ghost use Rattle.std.specs.Prelude.{◌≡◌, ◌≢◌, ℕ, ◌+◌, ◌*◌, ◌≤◌, ◌<◌, ◌^◌, length, drop, IfSome, IsSome, false};
+ghost use Rattle.std.specs.Prelude.{◌≡◌, ◌≢◌, ℕ, ◌+◌, ◌*◌, ◌≤◌, ◌<◌, ◌^◌, length, drop, take, IfSome, IsSome, false};
 ghost use Rattle.std.specs.Option.{ForSome};
 ghost use Rattle.std.specs.FinMap.{get};
 ghost use Rattle.paging.specs.Uses.{page_uses, settled, decided, usable, is_barred};
@@ -10,7 +10,7 @@ ghost use Rattle.step_mem.specs.Shown.{hidden};
 ghost use Rattle.step_mem.specs.Space.{Rest, space_of, one_more, with_tables};
 ghost use Rattle.step_mem.specs.Tables.{tables as tables_at};
 
-use crate::changes::{Changes, change_of};
+use crate::changes::{Change, Changes, change_of, last};
 use crate::guard::{Guard, is_barred};
 use crate::kept::Kept;
 use crate::walking::{Control, decide, note_tables};
@@ -21,11 +21,11 @@ use paging::{Access, Entry, Touch, allows};
 
 /// The entry of a page in the set of now.
 #[tactic(auto, using(crate::proofs::Changed::get_changed))]
-pub fn look<B: Kept>(ram: &Ram, base: &B, changes: &Changes, page: u32) -> Option<Entry>
+pub fn look<B: Kept>(ram: &Ram, base: &B, changes: &[Change], page: u32) -> Option<Entry>
     requires { ∥ B.stands base.now ram.now ∥₁ }
     ensures { result ≡ get (changed (B.entries base.now ram.now) changes.now) page }
 {
-    match changes.last(page) {
+    match last(changes, page) {
         Some(entry) => entry,
         None => base.entry(ram, page),
     }
@@ -62,6 +62,7 @@ fn settle<B: Kept>(
     ensures hidden { hidden guard.now control.frames ram.new ≡ hidden guard.now control.frames ram.old }
     ensures within { AreWithin control.frames (changed (B.entries base.now ram.new) changes.new) }
     ensures counted { length changes.new ≡ length changes.old + 1 }
+    ensures front { (count : ℕ) → count ≤ length changes.old → take count changes.new ≡ take count changes.old }
     ensures found { result ≡ Touch.Ready → IsSome (get (changed (B.entries base.now ram.new) changes.new) page) }
     ensures clear { result ≡ Touch.Ready → ForSome (get (changed (B.entries base.now ram.new) changes.new) page) (λ entry. is_barred (mode_of guard.now) fetch access.user page entry.frame ≡ false) }
     ensures others { (other : ℕ) → other ≢ page → get (changed (B.entries base.now ram.new) changes.new) other
@@ -104,13 +105,19 @@ pub fn page_use<B: Kept>(
     ensures hidden { hidden guard.now control.frames ram.new ≡ hidden guard.now control.frames ram.old }
     ensures within { AreWithin control.frames (changed (B.entries base.now ram.new) changes.new) }
     ensures counted { length changes.new ≤ length changes.old + 1 }
+    ensures grown { length changes.old ≤ length changes.new }
+    ensures front { (count : ℕ) → count ≤ length changes.old → take count changes.new ≡ take count changes.old }
     ensures found { result ≡ Touch.Ready → IsSome (get (changed (B.entries base.now ram.new) changes.new) page) }
     ensures clear { result ≡ Touch.Ready → ForSome (get (changed (B.entries base.now ram.new) changes.new) page) (λ entry. is_barred (mode_of guard.now) fetch access.user page entry.frame ≡ false) }
     ensures others { (other : ℕ) → other ≢ page → get (changed (B.entries base.now ram.new) changes.new) other
         ≡ get (changed (B.entries base.now ram.old) changes.old) other }
 {
     let _len = ram.len();
-    match usable(look(ram, base, changes, page), access, control.wp) {
+    match usable(
+        look(ram, base, changes.as_slice(), page),
+        access,
+        control.wp,
+    ) {
         Some(entry) if is_barred(guard, fetch, access.user, page, entry.frame) => {
             Touch::Stop(Stop::TextMapped)
         }

@@ -1,4 +1,7 @@
-use Rattle.std.proofs.Common.{ap, ◌∙◌, sym}
+use Rattle.std.proofs.Common.{ap, ◌∙◌, sym, List}
+use Rattle.std.specs.FinMap.{get}
+use Rattle.step_mem.specs.declared.changes.Change.{Change}
+use Rattle.step_mem.specs.Changes.{changed}
 use Rattle.paging.specs.Uses.{page_uses, by_entry, usable}
 use Rattle.step_mem.specs.Space.{space_of, one_more, with_tables}
 use Rattle.step_mem.proofs.page.page_use.Goals as goal
@@ -8,5 +11,7 @@ unfolding page_uses
 returns-in-None-clause-uses g c = λ rest.
     let s = space_of (g.B.Kept.entries c.args.base.now) c.args.ram.now c.args.control c.args.guard.now c.args.changes.now (with_tables (one_more rest c.args.page) c.args.tables.now) in
     ap (by_entry s c.args.fetch c.args.page c.args.at c.args.access)
-    (ap (λ o. usable o c.args.access c.args.control.wp) (sym c.look.ensures) ∙ sym c.in-None.ensures)
+    (ap (λ o. usable o c.args.access c.args.control.wp)
+    (ap (λ (cs : List Change). get (changed (g.B.Kept.entries c.args.base.now c.args.ram.now) cs) c.args.page) (sym c.as_slice.ensures.changes) ∙ sym c.look.ensures)
+    ∙ sym c.in-None.ensures)
     ∙ c.settle.ensures.settled (one_more rest c.args.page)

@@ -1,5 +1,5 @@
 use Rattle.step_mem.proofs.Changed.{page_found}
-use Rattle.step_mem.proofs.state.fetch_page.Goals as goal
+use Rattle.step_mem.proofs.touching.fetch_page.Goals as goal
 
 pub returns-clause-found : goal.returns-clause-found
 returns-clause-found g c = λ ready byte low high.

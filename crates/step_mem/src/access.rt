@@ -1,0 +1,225 @@
+//! Reading and writing where a range is ready.
+
+ghost use Rattle.std.specs.Prelude.{◌≡◌, ℕ, ◌+◌, ◌*◌, ◌/◌, ◌%◌, ◌≤◌, ◌<◌, ◌^◌, length, ◌++◌, IsSome, false};
+ghost use Rattle.guest_ram.specs.Bytes as in_ram;
+ghost use Rattle.std.specs.FinMap.{get};
+ghost use Rattle.paging.specs.Space.{FitsSize, IsReady, IsReadyEarlier, IsWritable, loaded, loaded_earlier, place, place_by, saved, width, with_byte, with_ram};
+ghost use Rattle.paging.specs.Uses.{is_text};
+ghost use Rattle.step_mem.specs.Changes.{changed, AreWithin};
+ghost use Rattle.step_mem.specs.Guard.{mode_of, IsApart, IsLaid};
+ghost use Rattle.step_mem.specs.Shown.{shown, hidden};
+ghost use Rattle.step_mem.specs.Space.{Rest, space_of};
+ghost use Rattle.step_mem.specs.Sound.{IsSound, space_at};
+
+use crate::changes::Change;
+use crate::guard::Guard;
+use crate::kept::Kept;
+use crate::page::look;
+use crate::shown::{Bytes, part, read, write};
+use crate::state::State;
+use crate::walking::Control;
+use guest_ram::Ram;
+use ia32_types::Size;
+
+/// The bytes that lie in one page, where the last touch or fetch was ready.
+pub fn bytes<'a, B: Kept>(ram: &'a Ram, base: &B, state: &State<'a>, at: u32, len: u32) -> Bytes<'a>
+    requires sound { IsSound (B.entries base.now) (B.floor base.now) (B.stands base.now) ram.now state.now }
+    requires found { IsSome (get (space_at (B.entries base.now) ram.now state.now).set (at / 4096)) }
+    requires one { at % 4096 + len ≤ 4096 }
+    ensures bytes { result.text.now ++ result.ram.now ≡ in_ram.part (space_at (B.entries base.now) ram.now state.now).ram (place (space_at (B.entries base.now) ram.now state.now) at) len }
+    ensures len { length result.text.now + length result.ram.now ≡ len }
+{
+    part(
+        ram,
+        &state.guard,
+        state.control.frames,
+        place(ram, base, state, at),
+        len,
+    )
+}
+
+/// The physical place of an address, after these changes.
+fn place_in<B: Kept>(
+    ram: &Ram,
+    base: &B,
+    guard: &Guard,
+    frames: u32,
+    changes: &[Change],
+    at: u32,
+) -> u32
+    requires frames { 4096 * frames ≤ length ram.now }
+    requires stands { ∥ B.stands base.now ram.now ∥₁ }
+    requires within { AreWithin frames (changed (B.entries base.now ram.now) changes.now) }
+    requires found { IsSome (get (changed (B.entries base.now ram.now) changes.now) (at / 4096)) }
+    ensures place { result ≡ place_by (get (changed (B.entries base.now ram.now) changes.now) (at / 4096)) at }
+    ensures offset { result % 4096 ≡ at % 4096 }
+    ensures within { result < 4096 * frames }
+    ensures apart { IsApart (mode_of guard.now) (get (changed (B.entries base.now ram.now) changes.now) (at / 4096)) → is_text (mode_of guard.now) (result / 4096) ≡ false }
+{
+    let _len = ram.len();
+    match look(ram, base, changes, at / 4096) {
+        Some(entry) => entry.frame * 4096 + at % 4096,
+        None => unreachable!(),
+    }
+}
+
+/// The physical place of an address.
+#[tactic(auto, unfolding(paging::specs::Space::place))]
+pub fn place<B: Kept>(ram: &Ram, base: &B, state: &State, at: u32) -> u32
+    requires sound { IsSound (B.entries base.now) (B.floor base.now) (B.stands base.now) ram.now state.now }
+    requires found { IsSome (get (space_at (B.entries base.now) ram.now state.now).set (at / 4096)) }
+    ensures place { result ≡ place (space_at (B.entries base.now) ram.now state.now) at }
+    ensures offset { result % 4096 ≡ at % 4096 }
+    ensures within { result < 4096 * state.now.control.frames }
+    ensures apart { IsApart (mode_of state.now.guard) (get (space_at (B.entries base.now) ram.now state.now).set (at / 4096)) → is_text (mode_of state.now.guard) (result / 4096) ≡ false }
+{
+    place_in(
+        ram,
+        base,
+        &state.guard,
+        state.control.frames,
+        state.changes.as_slice(),
+        at,
+    )
+}
+
+fn byte<B: Kept>(ram: &Ram, base: &B, guard: &Guard, frames: u32, changes: &[Change], at: u32) -> u8
+    requires frames { 4096 * frames ≤ length ram.now }
+    requires laid { IsLaid guard.now.text.now frames }
+    requires stands { ∥ B.stands base.now ram.now ∥₁ }
+    requires within { AreWithin frames (changed (B.entries base.now ram.now) changes.now) }
+    requires found { IsSome (get (changed (B.entries base.now ram.now) changes.now) (at / 4096)) }
+    ensures { result ≡ in_ram.byte (shown guard.now frames ram.now) (place_by (get (changed (B.entries base.now ram.now) changes.now) (at / 4096)) at) }
+{
+    let at = place_in(ram, base, guard, frames, changes, at);
+    read(ram, guard, frames, at)
+}
+
+/// Reads a number, after these changes.
+#[tactic(auto, unfolding(paging::specs::Space::loaded, paging::specs::Space::byte_at, paging::specs::Space::place))]
+fn number<B: Kept>(
+    ram: &Ram,
+    base: &B,
+    guard: &Guard,
+    frames: u32,
+    changes: &[Change],
+    at: u32,
+    size: Size,
+) -> u32
+    requires frames { 4096 * frames ≤ length ram.now }
+    requires laid { IsLaid guard.now.text.now frames }
+    requires stands { ∥ B.stands base.now ram.now ∥₁ }
+    requires within { AreWithin frames (changed (B.entries base.now ram.now) changes.now) }
+    requires fits { at + width size ≤ 2 ^ 32 }
+    requires found { (byte : ℕ) → at ≤ byte → byte < at + width size → IsSome (get (changed (B.entries base.now ram.now) changes.now) (byte / 4096)) }
+    ensures value { (control : Control) (rest : Rest) → control.frames ≡ frames → result ≡ loaded (space_of (B.entries base.now) ram.now control guard.now changes.now rest) at size }
+    ensures fits { FitsSize size result }
+{
+    match size {
+        Size::Byte => u32::from(byte(ram, base, guard, frames, changes, at)),
+        Size::Word => {
+            u32::from(byte(ram, base, guard, frames, changes, at))
+                + 256 * u32::from(byte(ram, base, guard, frames, changes, at + 1))
+        }
+        Size::Long => {
+            let low = u32::from(byte(ram, base, guard, frames, changes, at))
+                + 256 * u32::from(byte(ram, base, guard, frames, changes, at + 1));
+            let high = u32::from(byte(ram, base, guard, frames, changes, at + 2))
+                + 256 * u32::from(byte(ram, base, guard, frames, changes, at + 3));
+            low + 65536 * high
+        }
+    }
+}
+
+/// Reads where the last touch was ready.
+pub fn load<B: Kept>(ram: &Ram, base: &B, state: &State, at: u32, size: Size) -> u32
+    requires sound { IsSound (B.entries base.now) (B.floor base.now) (B.stands base.now) ram.now state.now }
+    requires ready { IsReady (space_at (B.entries base.now) ram.now state.now) at size }
+    ensures value { result ≡ loaded (space_at (B.entries base.now) ram.now state.now) at size }
+    ensures fits { FitsSize size result }
+{
+    number(
+        ram,
+        base,
+        &state.guard,
+        state.control.frames,
+        state.changes.as_slice(),
+        at,
+        size,
+    )
+}
+
+/// Reads where the touch before the last was ready, at the places that its range had then.
+pub fn load_earlier<B: Kept>(ram: &Ram, base: &B, state: &State, at: u32, size: Size) -> u32
+    requires sound { IsSound (B.entries base.now) (B.floor base.now) (B.stands base.now) ram.now state.now }
+    requires ready { IsReadyEarlier (space_at (B.entries base.now) ram.now state.now) at size }
+    ensures value { result ≡ loaded_earlier (space_at (B.entries base.now) ram.now state.now) at size }
+    ensures fits { FitsSize size result }
+{
+    let changes = &state.changes.as_slice()[..state.earlier.count];
+    number(
+        ram,
+        base,
+        &state.guard,
+        state.control.frames,
+        changes,
+        at,
+        size,
+    )
+}
+
+/// Writes a byte of the guest's.
+#[tactic(auto, unfolding(paging::specs::Space::with_byte, paging::specs::Space::place))]
+fn put_byte<B: Kept>(ram: &mut Ram, base: &B, state: &State, at: u32, v: u8)
+    requires sound { IsSound (B.entries base.now) (B.floor base.now) (B.stands base.now) ram.old state.now }
+    requires found { IsSome (get (space_at (B.entries base.now) ram.old state.now).set (at / 4096)) }
+    requires apart { IsApart (mode_of state.now.guard) (get (space_at (B.entries base.now) ram.old state.now).set (at / 4096)) }
+    ensures sound { IsSound (B.entries base.now) (B.floor base.now) (B.stands base.now) ram.new state.now }
+    ensures hidden { hidden state.now.guard state.now.control.frames ram.new ≡ hidden state.now.guard state.now.control.frames ram.old }
+    ensures after { space_at (B.entries base.now) ram.new state.now ≡ with_ram (space_at (B.entries base.now) ram.old state.now)
+        (with_byte (space_at (B.entries base.now) ram.old state.now) (space_at (B.entries base.now) ram.old state.now).ram at v) }
+{
+    let at = place(ram, base, state, at);
+    store(ram, base, &state.guard, state.control.frames, at, v);
+}
+
+/// Writes a byte below the floor, which changes no kept translation.
+fn store<B: Kept>(ram: &mut Ram, base: &B, guard: &Guard, frames: u32, place: u32, v: u8)
+    requires frames { 4096 * frames ≤ length ram.old }
+    requires apart { 4096 * frames ≤ B.floor base.now }
+    requires laid { IsLaid guard.now.text.now frames }
+    requires stands { ∥ B.stands base.now ram.old ∥₁ }
+    requires place { place < 4096 * frames }
+    requires no_text { is_text (mode_of guard.now) (place / 4096) ≡ false }
+    ensures ram { shown guard.now frames ram.new ≡ in_ram.with_byte (shown guard.now frames ram.old) place v }
+    ensures length { length ram.new ≡ length ram.old }
+    ensures kept { B.entries base.now ram.new ≡ B.entries base.now ram.old }
+    ensures stands { ∥ B.stands base.now ram.new ∥₁ }
+    ensures hidden { hidden guard.now frames ram.new ≡ hidden guard.now frames ram.old }
+{
+    write(ram, guard, frames, place, v);
+}
+
+/// Writes where the last touch was ready for a write.
+#[tactic(auto, unfolding(paging::specs::Space::written, paging::specs::Space::with_byte, paging::specs::Space::place))]
+pub fn save<B: Kept>(ram: &mut Ram, base: &B, state: &State, at: u32, size: Size, value: u32)
+    requires sound { IsSound (B.entries base.now) (B.floor base.now) (B.stands base.now) ram.old state.now }
+    requires ready { IsWritable (space_at (B.entries base.now) ram.old state.now) at size }
+    ensures sound { IsSound (B.entries base.now) (B.floor base.now) (B.stands base.now) ram.new state.now }
+    ensures hidden { hidden state.now.guard state.now.control.frames ram.new ≡ hidden state.now.guard state.now.control.frames ram.old }
+    ensures saved { space_at (B.entries base.now) ram.new state.now ≡ saved (space_at (B.entries base.now) ram.old state.now) at size value }
+{
+    match size {
+        Size::Byte => put_byte(ram, base, state, at, (value % 256) as u8),
+        Size::Word => {
+            put_byte(ram, base, state, at, (value % 256) as u8);
+            put_byte(ram, base, state, at + 1, (value / 256 % 256) as u8);
+        }
+        Size::Long => {
+            put_byte(ram, base, state, at, (value % 256) as u8);
+            put_byte(ram, base, state, at + 1, (value / 256 % 256) as u8);
+            put_byte(ram, base, state, at + 2, (value / 65536 % 256) as u8);
+            put_byte(ram, base, state, at + 3, (value / 16777216) as u8);
+        }
+    }
+}

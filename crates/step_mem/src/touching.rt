@@ -1,0 +1,264 @@
+//! Translating the pages of a range, or of a fetch.
+
+ghost use Rattle.std.specs.Prelude.{◌≡◌, ◌≢◌, ℕ, ◌+◌, ◌*◌, ◌/◌, ◌%◌, ◌≤◌, ◌<◌, ◌^◌, length, ◌++◌, IsSome, false, true};
+ghost use Rattle.std.specs.FinMap.{get};
+ghost use Rattle.paging.specs.Space.{Readied, earlier_of, frame_by, frames_of};
+ghost use Rattle.paging.specs.Uses.{unready, page_uses, second_page, uses, fetches};
+ghost use Rattle.step_mem.specs.Changes.{changed};
+ghost use Rattle.step_mem.specs.Guard.{mode_of, IsApart};
+ghost use Rattle.step_mem.specs.Shown.{hidden};
+ghost use Rattle.step_mem.specs.Sound.{IsSound, space_at};
+
+use crate::changes::Changes;
+use crate::guard::window_stop;
+use crate::kept::Kept;
+use crate::page::{look, page_use};
+use crate::state::{Earlier, Reach, State};
+use guest_ram::Ram;
+use ia32_types::Stop;
+use paging::{Access, Touch};
+
+/// A touch begins: nothing is ready, and what was ready is so no more than before it.
+fn begin<B: Kept>(ram: &Ram, base: &B, state: &mut State)
+    requires { IsSound (B.entries base.now) (B.floor base.now) (B.stands base.now) ram.now state.old }
+    ensures sound { IsSound (B.entries base.now) (B.floor base.now) (B.stands base.now) ram.now state.new }
+    ensures space { space_at (B.entries base.now) ram.now state.new ≡ unready (space_at (B.entries base.now) ram.now state.old) }
+    ensures pages { state.new.pages ≡ state.old.pages }
+    ensures control { state.new.control ≡ state.old.control }
+    ensures guard { state.new.guard ≡ state.old.guard }
+    ensures unready { state.new.ready.len ≡ 0 }
+    ensures wrote { state.new.wrote ≡ state.old.wrote }
+{
+    state.earlier = Earlier {
+        start: state.ready.start,
+        len: state.ready.len,
+        count: state.changes.len(),
+    };
+    state.ready = Reach {
+        start: 0,
+        len: 0,
+        write: false,
+    };
+}
+
+/// Translates one page, while nothing is ready.
+fn one_page<B: Kept>(
+    ram: &mut Ram,
+    base: &B,
+    state: &mut State,
+    fetch: bool,
+    page: u32,
+    at: u32,
+    access: Access,
+) -> Touch
+    requires sound { IsSound (B.entries base.now) (B.floor base.now) (B.stands base.now) ram.old state.old }
+    requires room { state.old.pages < 64 }
+    requires page { page < 2 ^ 20 }
+    requires unready { state.old.ready.len ≡ 0 }
+    ensures sound { IsSound (B.entries base.now) (B.floor base.now) (B.stands base.now) ram.new state.new }
+    ensures uses { page_uses (space_at (B.entries base.now) ram.old state.old) fetch page at access ≡ (result, space_at (B.entries base.now) ram.new state.new) }
+    ensures pages { state.new.pages ≡ state.old.pages + 1 }
+    ensures control { state.new.control ≡ state.old.control }
+    ensures hidden { hidden state.old.guard state.old.control.frames ram.new ≡ hidden state.old.guard state.old.control.frames ram.old }
+    ensures guard { state.new.guard ≡ state.old.guard }
+    ensures ready { state.new.ready ≡ state.old.ready }
+    ensures wrote { state.new.wrote ≡ state.old.wrote }
+    ensures earlier { (space_at (B.entries base.now) ram.new state.new).earlier ≡ (space_at (B.entries base.now) ram.old state.old).earlier }
+    ensures found { result ≡ Touch.Ready → IsSome (get (space_at (B.entries base.now) ram.new state.new).set page) }
+    ensures apart { result ≡ Touch.Ready → fetch ≡ false → IsApart (mode_of state.new.guard) (get (space_at (B.entries base.now) ram.new state.new).set page) }
+    ensures others { (other : ℕ) → other ≢ page → get (space_at (B.entries base.now) ram.new state.new).set other
+        ≡ get (space_at (B.entries base.now) ram.old state.old).set other }
+{
+    state.pages += 1;
+    state.went.push(page);
+    page_use(
+        ram,
+        base,
+        state.control,
+        &state.guard,
+        &mut state.changes,
+        &mut state.tables,
+        fetch,
+        page,
+        at,
+        access,
+    )
+}
+
+/// Translates the second page of a range that reaches one.
+fn second_page<B: Kept>(
+    ram: &mut Ram,
+    base: &B,
+    state: &mut State,
+    at: u32,
+    len: u32,
+    access: Access,
+) -> Touch
+    requires sound { IsSound (B.entries base.now) (B.floor base.now) (B.stands base.now) ram.old state.old }
+    requires room { state.old.pages < 64 }
+    requires some { 1 ≤ len }
+    requires short { len ≤ 32 }
+    requires fits { at + len ≤ 2 ^ 32 }
+    requires unready { state.old.ready.len ≡ 0 }
+    ensures sound { IsSound (B.entries base.now) (B.floor base.now) (B.stands base.now) ram.new state.new }
+    ensures wrote { state.new.wrote ≡ state.old.wrote }
+    ensures more { state.old.pages ≤ state.new.pages }
+    ensures uses { second_page at len access (space_at (B.entries base.now) ram.old state.old) ≡ (result, space_at (B.entries base.now) ram.new state.new) }
+    ensures pages { state.new.pages ≤ state.old.pages + 1 }
+    ensures control { state.new.control ≡ state.old.control }
+    ensures hidden { hidden state.old.guard state.old.control.frames ram.new ≡ hidden state.old.guard state.old.control.frames ram.old }
+    ensures guard { state.new.guard ≡ state.old.guard }
+    ensures earlier { (space_at (B.entries base.now) ram.new state.new).earlier ≡ (space_at (B.entries base.now) ram.old state.old).earlier }
+    ensures found { result ≡ Touch.Ready → IsSome (get (space_at (B.entries base.now) ram.old state.old).set (at / 4096))
+        → (byte : ℕ) → at ≤ byte → byte < at + len → IsSome (get (space_at (B.entries base.now) ram.new state.new).set (byte / 4096)) }
+    ensures apart { result ≡ Touch.Ready → IsApart (mode_of state.new.guard) (get (space_at (B.entries base.now) ram.old state.old).set (at / 4096))
+        → (byte : ℕ) → at ≤ byte → byte < at + len → IsApart (mode_of state.new.guard) (get (space_at (B.entries base.now) ram.new state.new).set (byte / 4096)) }
+{
+    let last = (at + (len - 1)) / 4096;
+    if last == at / 4096 {
+        return Touch::Ready;
+    }
+    one_page(ram, base, state, false, last, last * 4096, access)
+}
+
+/// Translates a range.
+#[tactic(auto, unfolding(paging::specs::Uses::uses))]
+pub fn touch<B: Kept>(
+    ram: &mut Ram,
+    base: &B,
+    state: &mut State,
+    at: u32,
+    len: u32,
+    access: Access,
+) -> Touch
+    requires sound { IsSound (B.entries base.now) (B.floor base.now) (B.stands base.now) ram.old state.old }
+    requires room { state.old.pages ≤ 62 }
+    requires some { 1 ≤ len }
+    requires short { len ≤ 32 }
+    ensures sound { IsSound (B.entries base.now) (B.floor base.now) (B.stands base.now) ram.new state.new }
+    ensures uses { uses (space_at (B.entries base.now) ram.old state.old) at len access ≡ (result, space_at (B.entries base.now) ram.new state.new) }
+    ensures pages { state.new.pages ≤ state.old.pages + 2 }
+    ensures control { state.new.control ≡ state.old.control }
+    ensures hidden { hidden state.old.guard state.old.control.frames ram.new ≡ hidden state.old.guard state.old.control.frames ram.old }
+    ensures guard { state.new.guard ≡ state.old.guard }
+    ensures ready { Readied (space_at (B.entries base.now) ram.new state.new) at len access.write result }
+    ensures earlier { (space_at (B.entries base.now) ram.new state.new).earlier ≡ earlier_of (space_at (B.entries base.now) ram.old state.old) }
+{
+    begin(ram, base, state);
+    if len - 1 > u32::MAX - at {
+        return Touch::Stop(Stop::WrapAccess);
+    }
+    if let Some(stop) = window_stop(&state.guard, access, at) {
+        return Touch::Stop(stop);
+    }
+    match one_page(ram, base, state, false, at / 4096, at, access) {
+        Touch::Ready => {}
+        met => return met,
+    }
+    match second_page(ram, base, state, at, len, access) {
+        Touch::Ready => {}
+        met => return met,
+    }
+    if access.write {
+        note_written(ram, base, state, at, len);
+    }
+    state.ready = Reach {
+        start: at,
+        len,
+        write: access.write,
+    };
+    Touch::Ready
+}
+
+/// Notes the frames of a range that is ready for a write.
+fn note_written<B: Kept>(ram: &Ram, base: &B, state: &mut State, at: u32, len: u32)
+    requires sound { IsSound (B.entries base.now) (B.floor base.now) (B.stands base.now) ram.now state.old }
+    requires room { length state.old.wrote ≤ 126 }
+    requires some { 1 ≤ len }
+    requires short { len ≤ 32 }
+    requires fits { at + len ≤ 2 ^ 32 }
+    requires found { (byte : ℕ) → at ≤ byte → byte < at + len → IsSome (get (space_at (B.entries base.now) ram.now state.old).set (byte / 4096)) }
+    ensures noted { state.new ≡ record state.old { wrote = state.old.wrote ++ frames_of (space_at (B.entries base.now) ram.now state.old) at len } }
+    ensures few { length state.new.wrote ≤ length state.old.wrote + 2 }
+{
+    let last = (at + (len - 1)) / 4096;
+    let first_frame = frame(ram, base, &state.changes, at / 4096);
+    state.wrote.push(first_frame);
+    if last != at / 4096 {
+        let last_frame = frame(ram, base, &state.changes, last);
+        state.wrote.push(last_frame);
+    }
+}
+
+/// The frame of a page that has an entry.
+fn frame<B: Kept>(ram: &Ram, base: &B, changes: &Changes, page: u32) -> u32
+    requires { ∥ B.stands base.now ram.now ∥₁ }
+    ensures { result ≡ frame_by (get (changed (B.entries base.now ram.now) changes.now) page) }
+{
+    match look(ram, base, changes.as_slice(), page) {
+        Some(entry) => entry.frame,
+        None => 0,
+    }
+}
+
+/// Translates the page of a fetch, while nothing is ready.
+fn fetch_page<B: Kept>(
+    ram: &mut Ram,
+    base: &B,
+    state: &mut State,
+    at: u32,
+    len: u32,
+    access: Access,
+) -> Touch
+    requires sound { IsSound (B.entries base.now) (B.floor base.now) (B.stands base.now) ram.old state.old }
+    requires room { state.old.pages < 64 }
+    requires one { at % 4096 + len ≤ 4096 }
+    requires unready { state.old.ready.len ≡ 0 }
+    ensures sound { IsSound (B.entries base.now) (B.floor base.now) (B.stands base.now) ram.new state.new }
+    ensures uses { page_uses (space_at (B.entries base.now) ram.old state.old) true (at / 4096) at access ≡ (result, space_at (B.entries base.now) ram.new state.new) }
+    ensures pages { state.new.pages ≡ state.old.pages + 1 }
+    ensures control { state.new.control ≡ state.old.control }
+    ensures hidden { hidden state.old.guard state.old.control.frames ram.new ≡ hidden state.old.guard state.old.control.frames ram.old }
+    ensures guard { state.new.guard ≡ state.old.guard }
+    ensures ready { state.new.ready ≡ state.old.ready }
+    ensures earlier { (space_at (B.entries base.now) ram.new state.new).earlier ≡ (space_at (B.entries base.now) ram.old state.old).earlier }
+    ensures found { result ≡ Touch.Ready → (byte : ℕ) → at ≤ byte → byte < at + len
+        → IsSome (get (space_at (B.entries base.now) ram.new state.new).set (byte / 4096)) }
+{
+    one_page(ram, base, state, true, at / 4096, at, access)
+}
+
+/// Translates a fetch, which lies in one page.
+#[tactic(auto, unfolding(paging::specs::Uses::fetches))]
+pub fn fetch<B: Kept>(
+    ram: &mut Ram,
+    base: &B,
+    state: &mut State,
+    at: u32,
+    len: u32,
+    user: bool,
+) -> Touch
+    requires sound { IsSound (B.entries base.now) (B.floor base.now) (B.stands base.now) ram.old state.old }
+    requires room { state.old.pages ≤ 63 }
+    requires one { at % 4096 + len ≤ 4096 }
+    ensures sound { IsSound (B.entries base.now) (B.floor base.now) (B.stands base.now) ram.new state.new }
+    ensures fetches { fetches (space_at (B.entries base.now) ram.old state.old) at len user ≡ (result, space_at (B.entries base.now) ram.new state.new) }
+    ensures pages { state.new.pages ≤ state.old.pages + 1 }
+    ensures control { state.new.control ≡ state.old.control }
+    ensures hidden { hidden state.old.guard state.old.control.frames ram.new ≡ hidden state.old.guard state.old.control.frames ram.old }
+    ensures guard { state.new.guard ≡ state.old.guard }
+    ensures ready { Readied (space_at (B.entries base.now) ram.new state.new) at len false result }
+{
+    begin(ram, base, state);
+    let access = Access { write: false, user };
+    match fetch_page(ram, base, state, at, len, access) {
+        Touch::Ready => {}
+        met => return met,
+    }
+    state.ready = Reach {
+        start: at,
+        len,
+        write: false,
+    };
+    Touch::Ready
+}
