@@ -2,20 +2,19 @@
 use Rattle.std.proofs.Common.{◌≡◌, ℕ, Bool, true, false, not, cond, ◌==◌, refl, sym, ap, Option, Some, None, Ok, Err}
 use Rattle.ia32_types.specs.declared.insn.Insn.{Insn}
 use Rattle.ia32_exec.specs.declared.access.Range.{Range}
-use Rattle.ia32_exec.specs.declared.access.Ranges.{Ranges}
 use Rattle.ia32_exec.specs.Effect.{effect, ranges_of}
 use Rattle.descriptors.specs.declared.cpu.Cpu.{Cpu}
 use Rattle.paging.specs.declared.entry.Touch.{Touch}
 use Rattle.paging.specs.declared.entry.Touch.TheVariants.{Ready, Fault, Stop}
 use Rattle.paging.specs.declared.entry.Access.{Access}
-use Rattle.paging.specs.Space.{Space, Earlier, byte_at, place, as_earlier, earlier_of, with_ram}
+use Rattle.paging.specs.Space.{Space, Earlier, byte_at, place, as_earlier, earlier_of}
 use Rattle.paging.specs.Uses.{uses}
 use Rattle.paging.specs.Work.{Outcome, on_value, unless, ◌>>=◌}
 use Rattle.sys_exec.specs.declared.effect.Refusal.{Refusal}
 use Rattle.sys_exec.specs.declared.effect.Refusal.TheVariants.{Raise}
 use Rattle.sys_exec.specs.Access.{met, reaching}
 use Rattle.step_exec.specs.Plain.{is_refused, reached, is_in, byte_by, finished, after_reads, after_writes, translated, executed}
-use Rattle.step_exec.specs.Divided.{both_reached, as_read, byte_of, completed, divided}
+use Rattle.step_exec.specs.Divided.{both_reached, byte_of, completed, divided}
 use Rattle.step_exec.proofs.UserReads.{uses_earlier}
 
 -- bytes of the read range, by the translations that it had

@@ -3,6 +3,7 @@
 ghost use Rattle.std.specs.Prelude.{◌≡◌, ◌+◌, ◌≤◌, OnOk};
 ghost use Rattle.ia32_types.specs.Shape.{IsShaped, IsDone};
 ghost use Rattle.ia32_exec.specs.Effect.{effect, ranges_of};
+ghost use Rattle.ia32_exec.specs.Short.{IsShort};
 ghost use Rattle.paging.specs.Work.{Gives};
 ghost use Rattle.step_mem.specs.Shown.{hidden};
 ghost use Rattle.step_mem.specs.Sound.{IsSound, space_at};
@@ -15,7 +16,7 @@ use crate::store::store_all;
 use crate::view::View;
 use descriptors::Cpu;
 use guest_ram::Ram;
-use ia32_exec::{Outcome, effect, ranges};
+use ia32_exec::{Outcome, Ranges, effect, ranges};
 use ia32_types::Insn;
 use step_mem::{Kept, State};
 use sys_exec::Refusal;
@@ -64,12 +65,12 @@ fn in_parts<B: Kept>(
     ensures guard { state.new.guard ≡ state.old.guard }
     ensures hidden { hidden state.old.guard state.old.control.frames ram.new ≡ hidden state.old.guard state.old.control.frames ram.old }
 {
-    reach_both(insn, cpu, ram, kept, state)?;
-    complete(insn, len, cpu, ram, kept, state)
+    let ranges = ranges(insn, &cpu.regs);
+    reach_in(&ranges, cpu, ram, kept, state)?;
+    complete_in(&ranges, insn, len, cpu, ram, kept, state)
 }
 
 /// Translates both ranges of an instruction, unless a null segment denies one, and does nothing else.
-#[tactic(auto, unfolding(crate::specs::Divided::both_reached))]
 pub fn reach_both<B: Kept>(
     insn: &Insn,
     cpu: &Cpu,
@@ -89,7 +90,30 @@ pub fn reach_both<B: Kept>(
     ensures hidden { hidden state.old.guard state.old.control.frames ram.new ≡ hidden state.old.guard state.old.control.frames ram.old }
 {
     let ranges = ranges(insn, &cpu.regs);
-    if is_refused(cpu, &ranges) {
+    reach_in(&ranges, cpu, ram, kept, state)
+}
+
+/// Translates two ranges, unless a null segment denies one.
+#[tactic(auto, unfolding(crate::specs::Divided::both_reached))]
+fn reach_in<B: Kept>(
+    ranges: &Ranges,
+    cpu: &Cpu,
+    ram: &mut Ram,
+    kept: &B,
+    state: &mut State,
+) -> Result<(), Refusal>
+    requires short { IsShort ranges.now.read × IsShort ranges.now.write }
+    requires sound { IsSound (B.entries kept.now) (B.floor kept.now) (B.stands kept.now) ram.old state.old }
+    requires room { state.old.pages ≤ 60 }
+    ensures sound { IsSound (B.entries kept.now) (B.floor kept.now) (B.stands kept.now) ram.new state.new }
+    ensures gives { Gives result (space_at (B.entries kept.now) ram.new state.new) (both_reached cpu.now ranges.now (space_at (B.entries kept.now) ram.old state.old)) }
+    ensures made { OnOk result (AreMade ranges.now state.new) }
+    ensures pages { state.new.pages ≤ state.old.pages + 4 }
+    ensures control { state.new.control ≡ state.old.control }
+    ensures guard { state.new.guard ≡ state.old.guard }
+    ensures hidden { hidden state.old.guard state.old.control.frames ram.new ≡ hidden state.old.guard state.old.control.frames ram.old }
+{
+    if is_refused(cpu, ranges) {
         return Err(Refusal::Raise {
             vector: 13,
             code: 0,
@@ -100,7 +124,6 @@ pub fn reach_both<B: Kept>(
 }
 
 /// Does an instruction whose ranges are both translated.
-#[tactic(auto, unfolding(crate::specs::Divided::completed))]
 pub fn complete<B: Kept>(
     insn: &Insn,
     len: u8,
@@ -117,7 +140,30 @@ pub fn complete<B: Kept>(
     ensures gives { Gives result (space_at (B.entries kept.now) ram.new state.now) (completed insn.now len cpu.now (space_at (B.entries kept.now) ram.old state.now)) }
     ensures hidden { hidden state.now.guard state.now.control.frames ram.new ≡ hidden state.now.guard state.now.control.frames ram.old }
 {
-    match outcome(insn, len, cpu, ram, kept, state) {
+    complete_in(&ranges(insn, &cpu.regs), insn, len, cpu, ram, kept, state)
+}
+
+/// Does an instruction whose ranges are these, and both translated.
+#[tactic(auto, unfolding(crate::specs::Divided::completed))]
+fn complete_in<B: Kept>(
+    ranges: &Ranges,
+    insn: &Insn,
+    len: u8,
+    cpu: &Cpu,
+    ram: &mut Ram,
+    kept: &B,
+    state: &State,
+) -> Result<Cpu, Refusal>
+    requires ranges { ranges.now ≡ ranges_of insn.now cpu.now.regs }
+    requires kind { IsDone insn.now.op }
+    requires shape { IsShaped insn.now }
+    requires sound { IsSound (B.entries kept.now) (B.floor kept.now) (B.stands kept.now) ram.old state.now }
+    requires made { AreMade (ranges_of insn.now cpu.now.regs) state.now }
+    ensures sound { IsSound (B.entries kept.now) (B.floor kept.now) (B.stands kept.now) ram.new state.now }
+    ensures gives { Gives result (space_at (B.entries kept.now) ram.new state.now) (completed insn.now len cpu.now (space_at (B.entries kept.now) ram.old state.now)) }
+    ensures hidden { hidden state.now.guard state.now.control.frames ram.new ≡ hidden state.now.guard state.now.control.frames ram.old }
+{
+    match outcome(ranges, insn, len, cpu, ram, kept, state) {
         Outcome::Done(regs, stores) => {
             store_all(ram, kept, state, &stores);
             Ok(Cpu { regs, ..*cpu })
@@ -127,7 +173,16 @@ pub fn complete<B: Kept>(
     }
 }
 
-fn outcome<B: Kept>(insn: &Insn, len: u8, cpu: &Cpu, ram: &Ram, kept: &B, state: &State) -> Outcome
+fn outcome<B: Kept>(
+    ranges: &Ranges,
+    insn: &Insn,
+    len: u8,
+    cpu: &Cpu,
+    ram: &Ram,
+    kept: &B,
+    state: &State,
+) -> Outcome
+    requires ranges { ranges.now ≡ ranges_of insn.now cpu.now.regs }
     requires kind { IsDone insn.now.op }
     requires shape { IsShaped insn.now }
     requires sound { IsSound (B.entries kept.now) (B.floor kept.now) (B.stands kept.now) ram.now state.now }
@@ -138,7 +193,7 @@ fn outcome<B: Kept>(insn: &Insn, len: u8, cpu: &Cpu, ram: &Ram, kept: &B, state:
         ram,
         kept,
         state,
-        ranges: ranges(insn, &cpu.regs),
+        ranges: *ranges,
     };
     effect(insn, len, &cpu.regs, &view)
 }

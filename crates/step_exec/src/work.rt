@@ -16,6 +16,7 @@ use step_mem::{Kept, State};
 use sys_exec::{SysEffect, sys};
 
 /// Does a sensitive instruction. Where it raises or stops, only CR2 may have changed.
+#[inline(never)]
 pub fn sys_in<'g, B: Kept>(
     insn: &Insn,
     len: u8,
@@ -42,6 +43,7 @@ pub fn sys_in<'g, B: Kept>(
 }
 
 /// Delivers an event. After a refusal the processor is as before.
+#[inline(never)]
 pub fn deliver_in<'g, B: Kept>(
     cpu: &mut Cpu,
     ram: &mut Ram,

@@ -13,7 +13,7 @@ effect-requires-clause-ready g c =
     let opened : ℕ → Type 0 = IsOpen ranges a.state.now in
     let readable : ℕ → Type 0 = λ at. IsSound (g.B.Kept.entries a.kept.now) (g.B.Kept.floor a.kept.now) (g.B.Kept.stands a.kept.now) a.ram.now a.state.now × opened at in
     let both : (at : ℕ) → opened at → readable at = λ at h. (c.requires.sound, h) in
-    rw c.ranges-2.ensures.ranges (record {
+    rw c.requires.ranges (record {
       read = covers_also opened readable ranges.read both ready.read;
       modified = covers_also opened readable ranges.write both ready.modified;
     })

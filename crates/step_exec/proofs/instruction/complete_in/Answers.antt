@@ -3,7 +3,7 @@ use Rattle.ia32_exec.specs.Effect.{ranges_of}
 use Rattle.ia32_exec.proofs.Within.{within}
 use Rattle.step_exec.specs.Ready.{IsOpenTo}
 use Rattle.step_exec.proofs.Ready.{made_open_to}
-use Rattle.step_exec.proofs.instruction.complete.Goals as goal
+use Rattle.step_exec.proofs.instruction.complete_in.Goals as goal
 
 -- what the instruction writes lies in its write range
 pub store_all-requires-clause-open_to : goal.store_all-requires-clause-open_to
