@@ -152,7 +152,8 @@ fn append(from: &[u8], to: &mut Bytes)
     requires { length to.old.items + length from.now ≤ 32 }
     ensures { to.new.items ≡ to.old.items ++ from.now }
 {
-    for byte in from {
-        to.push(*byte);
+    match to.try_extend_from_slice(from) {
+        Ok(()) => {}
+        Err(_) => unreachable!(),
     }
 }

@@ -14,5 +14,5 @@ mod worked;
 pub use instruction::carry_out;
 pub use native::{plain_divides, reach};
 pub use rules::Rules;
-pub use stepping::{begin, interrupt, start, step, step_in};
+pub use stepping::{begin, interrupt, start, step, step_again, step_in};
 pub use worked::{Begun, Completed, Dropped, Reached, Seen, Worked};

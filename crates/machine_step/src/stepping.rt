@@ -53,6 +53,35 @@ pub fn step<'g, B: Kept>(
     (result, state)
 }
 
+/// The same over the state of an earlier step, whose place this step's takes.
+pub fn step_again<'g, B: Kept>(
+    rules: &Rules,
+    cpu: &Cpu,
+    board: &mut Board,
+    ram: &mut Ram,
+    kept: &B,
+    frames: u32,
+    guard: Guard<'g>,
+    state: &mut State<'g>,
+) -> Result<Worked, Stop>
+    requires frames { 4096 * frames ≤ length ram.old }
+    requires below { 4096 * frames ≤ B.floor kept.now }
+    requires stands { ∥ B.stands kept.now ram.old ∥₁ }
+    requires within { AreWithin frames (B.entries kept.now ram.old) }
+    requires laid { IsLaid guard.text.now frames }
+    ensures sound { IsSound (B.entries kept.now) (B.floor kept.now) (B.stands kept.now) ram.new state.new }
+    ensures step { (s : Setting) (b : Whole) → IsRuled (record s { mode = mode_of guard.entry; frames = frames }) rules.now → ComesTo
+        (stepped (record s { mode = mode_of guard.entry; frames = frames }) (record b { cpu = cpu.now; ram = shown guard.entry frames ram.old; set = B.entries kept.now ram.old; board = board.old }))
+        b result board.new (space_at (B.entries kept.now) ram.new state.new) }
+    ensures dropped { IfOk result (λ w. IsDropped w.dropped) }
+    ensures frames { state.new.control.frames ≡ frames }
+    ensures text { state.new.guard.text ≡ guard.entry.text }
+    ensures hidden { hidden guard.entry frames ram.new ≡ hidden guard.entry frames ram.old }
+{
+    begin_again(cpu, ram, kept, frames, guard, state);
+    step_in(rules, cpu, board, ram, kept, state)
+}
+
 /// What a step keeps, before its first access.
 pub fn begin<'g, B: Kept>(
     cpu: &Cpu,
@@ -79,6 +108,34 @@ pub fn begin<'g, B: Kept>(
         wp: cpu.cr0 / 65536 % 2 == 1,
     };
     State::new(control, guard)
+}
+
+fn begin_again<'g, B: Kept>(
+    cpu: &Cpu,
+    ram: &Ram,
+    kept: &B,
+    frames: u32,
+    guard: Guard<'g>,
+    state: &mut State<'g>,
+)
+    requires frames { 4096 * frames ≤ length ram.now }
+    requires below { 4096 * frames ≤ B.floor kept.now }
+    requires stands { ∥ B.stands kept.now ram.now ∥₁ }
+    requires within { AreWithin frames (B.entries kept.now ram.now) }
+    requires laid { IsLaid guard.text.now frames }
+    ensures sound { IsSound (B.entries kept.now) (B.floor kept.now) (B.stands kept.now) ram.now state.new }
+    ensures space { space_at (B.entries kept.now) ram.now state.new ≡ space_at_start (mode_of guard.entry) frames cpu.now (shown guard.entry frames ram.now) (B.entries kept.now ram.now) }
+    ensures pages { state.new.pages ≡ 0 }
+    ensures frames { state.new.control.frames ≡ frames }
+    ensures guard { state.new.guard ≡ guard.entry }
+{
+    let _len = ram.len();
+    let control = Control {
+        frames,
+        cr3: cpu.cr3,
+        wp: cpu.cr0 / 65536 % 2 == 1,
+    };
+    state.renew(control, guard);
 }
 
 /// One step in its memory, of which nothing was used yet.
