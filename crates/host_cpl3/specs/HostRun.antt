@@ -1,6 +1,7 @@
 -- Instructions one after another, up to an exit.
-use Rattle.std.specs.Prelude.{ℕ, zero, suc, ◌+◌, ◌*◌, ◌%◌, ◌^◌, List, Ok, Err}
+use Rattle.std.specs.Prelude.{ℕ, zero, suc, ◌+◌, List, Ok, Err}
 use Rattle.ia32_types.specs.declared.flags.Regs.{Regs}
+use Rattle.ia32_exec.specs.Digest.{digest}
 use Rattle.host_cpl3.specs.declared.view.View.{View}
 use Rattle.host_cpl3.specs.declared.exit.Exit.{Exit}
 use Rattle.host_cpl3.specs.declared.exit.Exit.TheVariants.{Entry, Budget}
@@ -18,9 +19,6 @@ pub record Standing : Type 0 where
   pub passed : ℕ
 
 -- one instruction more, which began at this EIP
-abbrev pub digest : ℕ → ℕ → ℕ
-digest passed eip = (31 * passed + eip) % 2 ^ 64
-
 abbrev pub counted : Standing → Regs → List ℕ → Standing
 counted s regs ram = record { regs = regs; ram = ram; retired = s.retired + 1; passed = digest s.passed s.regs.eip }
 

@@ -1,5 +1,6 @@
 ghost use Rattle.std.specs.Prelude.{◌≡◌, ◌+◌, ◌*◌, ◌<◌, ◌^◌, length, Some, false, is_some, refl};
-ghost use Rattle.host_cpl3.specs.HostRun.{digest, host_run};
+ghost use Rattle.ia32_exec.specs.Digest.{digest};
+ghost use Rattle.host_cpl3.specs.HostRun.{host_run};
 ghost use Rattle.host_cpl3.specs.Hosts.{standing, held};
 
 use crate::exit::{Done, Exit};

@@ -2,3 +2,6 @@ pub mod Within
 pub mod OrderRules
 pub mod TurnRules
 pub mod UserWithin
+mod EipAfter
+mod FlagsAfter
+mod SameBytes

@@ -16,3 +16,7 @@ pub mod Transfers
 pub mod Selectors
 pub mod UserEffect
 pub mod Short
+pub mod EipAfter
+pub mod FlagsAfter
+pub mod SameBytes
+pub mod Digest

@@ -3,6 +3,7 @@
 #![tactic(auto)]
 
 mod access;
+mod after;
 mod control;
 mod effect_of;
 mod exec_of;
@@ -22,6 +23,7 @@ mod transfers;
 mod users;
 
 pub use access::{Range, Ranges};
+pub use after::{eip_goes_on, same_over_ranges, system_flags_stay};
 pub use effect_of::effect;
 pub use exec_of::exec;
 pub use laws::{push_all_then_pop_all, push_then_pop, repeated_turns};

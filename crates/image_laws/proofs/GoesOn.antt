@@ -1,5 +1,5 @@
 -- An instruction outside sites leads to where control may come in.
-use Rattle.std.proofs.Common.{◌≡◌, ℕ, ◌+◌, ◌%◌, ◌^◌, true, sym, ap, subst, ◌∙◌, inl, inr}
+use Rattle.std.proofs.Common.{◌≡◌, ℕ, ◌+◌, ◌%◌, ◌^◌, true, refl, sym, ap, subst, ◌∙◌, inl, inr}
 use Rattle.ia32_types.specs.declared.flags.Regs.{Regs}
 use Rattle.ia32_types.specs.declared.insn.Insn.{Insn}
 use Rattle.ia32_types.specs.declared.insn.Op.{Op}
@@ -9,18 +9,23 @@ use Rattle.ia32_exec.specs.declared.outcome.Outcome.TheVariants.{Done}
 use Rattle.ia32_exec.specs.declared.outcome.Stores.{Stores}
 use Rattle.ia32_exec.specs.Control.{jump}
 use Rattle.ia32_exec.specs.Effect.{row, effect}
+use Rattle.ia32_exec.specs.EipAfter.{IsBranch, GoesOn, Leads, EipGoesOn}
 use Rattle.image_check.specs.Image.{Image}
 use Rattle.image_check.specs.Sweep.{Swept}
 use Rattle.image_check.specs.Pieces.{is_branch, target_of}
 use Rattle.image_check.specs.Accepts.{IsAccepted}
 use Rattle.image_check.specs.Places.{linear, StandsOutside}
 use Rattle.image_laws.specs.WaysIn.{IsWayIn}
-use Rattle.image_laws.proofs.Effects.{GoesOn, Leads, row_leads}
 use Rattle.image_laws.proofs.WaysOn.{next_outside, branch_way, here_way, next_address, branch_address}
 
-goes_by : (i : Insn) (len : ℕ) (r : Regs) (b : ℕ → ℕ) (after : Regs) (stores : Stores) → effect i len r b ≡ Done after stores → GoesOn i.op i len r after.eip
-unfolding effect
-goes_by i len r b after stores e = subst (Leads i.op i len r) e (row_leads i.op i len r b)
+goes_by : EipGoesOn → (i : Insn) (len : ℕ) (r : Regs) (b : ℕ → ℕ) (after : Regs) (stores : Stores) → effect i len r b ≡ Done after stores → GoesOn i.op i len r after.eip
+goes_by goes i len r b after stores e = subst (Leads i.op i len r) e (goes i len r b)
+
+branch_is : (o : Op) → IsBranch o → is_branch o ≡ true
+branch_is op.Jmp h = refl
+branch_is op.Call h = refl
+branch_is op.Jcc h = refl
+branch_is _ h = absurd h
 
 abbrev eip_of : Outcome → ℕ
 eip_of (Done after stores) = after.eip
@@ -34,7 +39,7 @@ jumps_by : (i : Insn) (len : ℕ) (r : Regs) (b : ℕ → ℕ) (after : Regs) (s
 unfolding effect
 jumps_by i len r b after stores is e = jump_done i len r after stores (ap (λ (o : Op). row o i len r b) (sym is) ∙ e)
 
-module _ (image : Image) (h : IsAccepted image) (s : Swept) (out : StandsOutside image s) (r : Regs) (here : r.eip ≡ linear s.at) where
+module _ (goes : EipGoesOn) (image : Image) (h : IsAccepted image) (s : Swept) (out : StandsOutside image s) (r : Regs) (here : r.eip ≡ linear s.at) where
   abbrev Arrives : ℕ → Type 0
   Arrives eip = (at : ℕ) × (eip ≡ linear at) × IsWayIn image at
 
@@ -48,10 +53,10 @@ module _ (image : Image) (h : IsAccepted image) (s : Swept) (out : StandsOutside
   pub arrives : (b : ℕ → ℕ) (after : Regs) (stores : Stores) → effect s.insn s.len r b ≡ Done after stores → (at : ℕ) × (after.eip ≡ linear at) × IsWayIn image at
   arrives b after stores e =
       elim (next_outside image h s out) [
-        | inl way ↦ elim (goes_by s.insn s.len r b after stores e) [
+        | inl way ↦ elim (goes_by goes s.insn s.len r b after stores e) [
           | inl passed ↦ (s.at + s.len, passed ∙ next_is, way)
           | inr other ↦ elim other [
-            | inl taken ↦ by_branch taken.0 after.eip taken.1
+            | inl taken ↦ by_branch (branch_is s.insn.op taken.0) after.eip taken.1
             | inr stays ↦ (s.at, stays ∙ here, here_way image h s out)
           ]
         ]

@@ -4,6 +4,5 @@ pub mod WaysOn
 pub mod Spelled
 pub mod PatchedParts
 pub mod PatchedTexts
-pub mod Effects
 pub mod GoesOn
 pub mod InSites

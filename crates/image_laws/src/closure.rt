@@ -15,6 +15,8 @@ ghost use Rattle.image_check.specs.Pieces.{is_branch, target_of};
 ghost use Rattle.image_check.specs.Places.{swept_of, is_start, is_in_site, is_start_at, is_site_at, place_of, place_at, linear, StandsOutside};
 ghost use Rattle.image_laws.specs.WaysIn.{IsWayIn, IsLast};
 
+use ia32_exec::eip_goes_on;
+
 /// Behind an instruction of the text the next one begins, or it is the last one, which jumps to itself.
 /// Outside sites the next one is no inner part of a site, and neither is where a direct branch leads, or where the
 /// entry is.
@@ -41,4 +43,6 @@ pub fn addresses()
 /// What an instruction outside sites leaves in EIP is where control may come in.
 pub fn goes_on()
     ensures { (image : Image) → IsAccepted image → (s : Swept) → StandsOutside image s → (r : Regs) → r.eip ≡ linear s.at → (b : ℕ → ℕ) (after : Regs) (stores : Stores) → effect s.insn s.len r b ≡ Done after stores → (at : ℕ) × (after.eip ≡ linear at) × IsWayIn image at }
-{}
+{
+    eip_goes_on();
+}

@@ -1,14 +1,12 @@
 -- What of a run an unprivileged processor could have done: how many instructions, and a digest of their addresses.
-use Rattle.std.specs.Prelude.{ℕ, ◌+◌, ◌*◌, ◌%◌, ◌^◌, Bool, true, false, ◌&&◌, not, nat_le, nat_lt, List, [], ◌∷◌, length, Option, Some, None, if◌then◌else◌}
-use Rattle.std.specs.List.{list_any, flat_map}
+use Rattle.std.specs.Prelude.{ℕ, Bool, true, false, ◌&&◌, not, List, [], ◌∷◌, length, Option, Some, None, if◌then◌else◌}
+use Rattle.std.specs.List.{flat_map}
 use Rattle.ia32_types.specs.declared.insn.Op.{Op}
 use Rattle.ia32_types.specs.declared.insn.Op.TheVariants as op
+use Rattle.ia32_exec.specs.Digest.{digest}
 use Rattle.sites.specs.declared.site.Site.{Site}
+use Rattle.image_check.specs.Places.{is_site_at}
 use Rattle.machine_model.specs.Step.{Completed, Report}
-
--- the linear address lies in a site; the text begins at 0x10000000
-abbrev pub is_inside : List Site → ℕ → Bool
-is_inside sites eip = list_any (λ (s : Site). nat_le (0x10000000 + s.at) eip && nat_lt eip (0x10000000 + s.at + s.total)) sites
 
 -- INT and INT3, which are deliveries
 abbrev pub is_software : Op → Bool
@@ -26,7 +24,7 @@ needs_descriptor _ = false
 
 -- at level 3 all but what needs a descriptor, at level 0 all outside the sites, and neither INT nor INT3
 abbrev pub is_direct : List Site → Completed → Bool
-is_direct sites c = not (is_software c.insn.op) && (if c.user then not (needs_descriptor c.insn.op) else not (is_inside sites c.eip))
+is_direct sites c = not (is_software c.insn.op) && (if c.user then not (needs_descriptor c.insn.op) else not (is_site_at sites c.eip))
 
 -- the address of the instruction that completed in a step, if it is direct
 abbrev pub direct_in : List Site → Option Completed → List ℕ
@@ -43,7 +41,7 @@ direct_count sites reports = length (direct_addresses sites reports)
 -- one address more
 abbrev pub passed_on : ℕ → List ℕ → ℕ
 passed_on p [] = p
-passed_on p (eip ∷ eips) = passed_on ((31 * p + eip) % 2 ^ 64) eips
+passed_on p (eip ∷ eips) = passed_on (digest p eip) eips
 
 abbrev pub passed_digest : List Site → ℕ → List Report → ℕ
 passed_digest sites p reports = passed_on p (direct_addresses sites reports)

@@ -1,16 +1,15 @@
 -- What a monitor's rules ask of a step beside its translations. The bare machine asks nothing.
-use Rattle.std.specs.Prelude.{ℕ, ◌-◌, ◌/◌, ◌%◌, Bool, true, nat_le, ◌&&◌, ◌||◌, not, ◌==◌}
-use Rattle.std.specs.List.{list_any}
+use Rattle.std.specs.Prelude.{ℕ, ◌/◌, ◌%◌, Bool, true, ◌&&◌, ◌||◌, not, ◌==◌}
 use Rattle.descriptors.specs.declared.cpu.Cpu.{Cpu}
 use Rattle.paging.specs.Fresh.{has}
 use Rattle.paging.specs.Space.{Mode, Bare, Wedge}
 use Rattle.image_check.specs.Image.{Image}
-use Rattle.image_check.specs.Sweep.{starts_of}
+use Rattle.image_check.specs.Places.{is_start_at}
 use Rattle.machine_model.specs.State.{Setting}
 
--- an instruction of the text stands at the linear address; the text begins at 0x10000000
+-- an instruction of the text stands at the linear address
 abbrev pub is_start : Image → ℕ → Bool
-is_start image eip = nat_le 0x10000000 eip && list_any (λ at. at == eip - 0x10000000) (starts_of image.text)
+is_start image eip = is_start_at image.text eip
 
 abbrev pub may_begin : Mode → Image → ℕ → Bool
 may_begin Bare image eip = true

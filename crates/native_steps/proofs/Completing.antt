@@ -19,7 +19,7 @@ use Rattle.paging.specs.declared.entry.Entry.{Entry}
 use Rattle.paging.specs.Space as space
 use Rattle.paging.specs.Space.{Mode, Bare, Wedge, Space, place_by, with_ram}
 use Rattle.board.specs.Boards.{board_step}
-use Rattle.sys_exec.specs.Agreement.{UserFlagsAgree}
+use Rattle.native_steps.specs.EffectLaws.{EffectLaws}
 use Rattle.step_exec.specs.Plain.{stored_all}
 use Rattle.host_cpl3.specs.declared.view.View.{View}
 use Rattle.host_cpl3.specs.declared.exit.Done.{Done}
@@ -44,7 +44,7 @@ use Rattle.native_steps.specs.Forward.{IsEntrance, IsNext, Follows}
 use Rattle.native_steps.specs.Backward.{Completes}
 use Rattle.native_steps.proofs.Choices.{chosen, passed_by, is_false, both, clash, lt_false, le_true, eq_told}
 use Rattle.native_steps.proofs.Doing.{plain_effect}
-use Rattle.native_steps.proofs.Leaves.{AreKept, Leaves, flags_left}
+use Rattle.ia32_exec.specs.FlagsAfter.{AreKept, Leaves}
 use Rattle.native_steps.proofs.Sharing.{IsFound, covers}
 use Rattle.native_steps.proofs.Stored.{stored_is, IsPlace, Keeps, stores_kept}
 use Rattle.native_steps.specs.TextLaws.{TextLaws}
@@ -98,7 +98,7 @@ no_window at le = either (nat_le 67108864 at) (lt_false at 100663296 (omega (ari
     either true e = e
     either false e = refl
 
-module _ (flags : UserFlagsAgree) (m : Setting) (w : IsWedge m) (laws : TextLaws m.image) (memory : List ℕ) (v : View) (b : State) (stands : Stands m memory v b) (next : IsNext m v.kernel b)
+module _ (flags : EffectLaws) (m : Setting) (w : IsWedge m) (laws : TextLaws m.image) (memory : List ℕ) (v : View) (b : State) (stands : Stands m memory v b) (next : IsNext m v.kernel b)
     (insn : Insn) (len : ℕ) (c : IsCommon flags m w memory v b stands next insn len) (text : v.kernel ≡ true → IsSwept m.image b.cpu.regs.eip insn len)
   where
     done_flags : (o : exec.Outcome) (regs : Regs) (stores : Stores) → o ≡ outcomes.Done regs stores → Leaves b.cpu.regs o → AreKept b.cpu.regs.flags regs.flags
@@ -111,7 +111,7 @@ module _ (flags : UserFlagsAgree) (m : Setting) (w : IsWedge m) (laws : TextLaws
           goes_in m.image laws b.cpu.regs insn len (byte_of b) regs stores (text k) same
 
       kept : AreKept b.cpu.regs.flags regs.flags
-      kept = done_flags (effect_of v b insn len) regs stores e (flags_left insn len b.cpu.regs (selectors_of v) (byte_of b))
+      kept = done_flags (effect_of v b insn len) regs stores e (flags.stay insn len b.cpu.regs (selectors_of v) (byte_of b))
 
       not_entry : (k : Bool) → v.kernel ≡ k → (k && is_window regs.eip) ≡ false
       not_entry true k = no_window regs.eip (leads k).above

@@ -13,7 +13,7 @@ use Rattle.ia32_exec.specs.declared.outcome.Outcome.TheVariants as outcomes
 use Rattle.ia32_exec.specs.declared.outcome.Stores.{Stores}
 use Rattle.ia32_exec.specs.Effect.{ranges_of}
 use Rattle.paging.specs.Space.{Space}
-use Rattle.sys_exec.specs.Agreement.{UserFlagsAgree}
+use Rattle.native_steps.specs.EffectLaws.{EffectLaws}
 use Rattle.step_exec.specs.Plain.{is_denied}
 use Rattle.native_steps.proofs.Short.{ranges_short}
 use Rattle.host_cpl3.specs.declared.view.View.{View}
@@ -87,7 +87,7 @@ module _ (m : Setting) (w : IsWedge m) (memory : List ℕ) (v : View) (b : State
         let below = page_below in
         (λ k. omega (arith, e, below), λ lt k. let next = next_below lt in omega (arith, e, next))
 
-  module _ (flags : UserFlagsAgree) (laws : TextLaws m.image) (next : IsNext m v.kernel b) where
+  module _ (flags : EffectLaws) (laws : TextLaws m.image) (next : IsNext m v.kernel b) where
     eip : ℕ
     eip = b.cpu.regs.eip
 

@@ -3,8 +3,7 @@ use Rattle.std.proofs.Common.{◌≡◌, ℕ, ◌+◌, ◌-◌, ◌≤◌, Bool,
 use Rattle.std.specs.Prelude.{nat_le, nat_lt}
 use Rattle.std.specs.List.{find}
 use Rattle.sites.specs.declared.site.Site.{Site}
-use Rattle.image_check.specs.Places.{lies_in, site_at}
-use Rattle.machine_model.specs.Counts.{is_inside}
+use Rattle.image_check.specs.Places.{lies_in, site_at, is_site_at}
 use Rattle.native_steps.proofs.Choices.{is_false, both, le_told, lt_told, le_true, lt_true, clash}
 
 both_true : (a b : Bool) → a ≡ true → b ≡ true → (a && b) ≡ true
@@ -25,12 +24,12 @@ none_found test s ss e = by_test (test s) refl e
     by_test true is g = absurd (let f : ◌≡◌ {A = Option Site} (Some s) None = g in cc)
     by_test false is g = (is, g)
 
-in_none : (sites : List Site) (eip : ℕ) → 0x10000000 ≤ eip → find (lies_in (eip - 0x10000000)) sites ≡ None → is_inside sites eip ≡ false
+in_none : (sites : List Site) (eip : ℕ) → 0x10000000 ≤ eip → find (lies_in (eip - 0x10000000)) sites ≡ None → is_site_at sites eip ≡ false
 in_none [] eip above e = refl
 in_none (s ∷ ss) eip above e =
     let p = none_found (lies_in (eip - 0x10000000)) s ss e in
-    ap (λ x. x || is_inside ss eip) (not_in s eip above p.0) ∙ in_none ss eip above p.1
+    ap (λ x. x || is_site_at ss eip) (not_in s eip above p.0) ∙ in_none ss eip above p.1
 
-pub not_inside : (sites : List Site) (eip : ℕ) → 0x10000000 ≤ eip → site_at sites (eip - 0x10000000) ≡ None → is_inside sites eip ≡ false
+pub not_inside : (sites : List Site) (eip : ℕ) → 0x10000000 ≤ eip → site_at sites (eip - 0x10000000) ≡ None → is_site_at sites eip ≡ false
 unfolding site_at
 not_inside sites eip above e = in_none sites eip above e

@@ -1,6 +1,5 @@
 pub mod Choices
 pub mod Short
-pub mod Same
 pub mod Pages
 pub mod Ways
 pub mod HostParts
@@ -15,7 +14,6 @@ pub mod Standing
 pub mod FetchShared
 pub mod GuestRanges
 pub mod Shaped
-pub mod Leaves
 pub mod Inside
 pub mod Together
 pub mod Completing

@@ -27,7 +27,7 @@ use Rattle.paging.specs.declared.entry.Entry.{Entry}
 use Rattle.paging.specs.Space.{Mode, Space, place, place_by, byte_at, with_ram}
 use Rattle.paging.specs.Uses.{window_stop}
 use Rattle.sys_exec.specs.Access.{reaching}
-use Rattle.sys_exec.specs.Agreement.{UserFlagsAgree}
+use Rattle.native_steps.specs.EffectLaws.{EffectLaws}
 use Rattle.step_exec.specs.Plain.{reached, is_in, byte_by}
 use Rattle.native_steps.proofs.Short.{ranges_short}
 use Rattle.host_cpl3.specs.declared.view.View.{View}
@@ -46,7 +46,6 @@ use Rattle.native_steps.specs.Backward.{IsTranslated}
 use Rattle.native_steps.specs.Again.{AreWithin, settled, StepsAgain}
 use Rattle.native_steps.proofs.Clear.{Use, used, range_uses, uses_of, AreClear}
 use Rattle.native_steps.proofs.Choices.{is_false, clash, le_told, lt_told, both, eq_told}
-use Rattle.native_steps.proofs.Same.{user_same}
 use Rattle.native_steps.proofs.Pages.{At, Comes, HasEntry, IsFree, range_passes, reaching_comes, fetching_comes}
 use Rattle.native_steps.proofs.Ways.{front_at, Way}
 use Rattle.native_steps.proofs.Doing.{IsUser, IsPopFlags, instructed_is}
@@ -97,7 +96,7 @@ unfolding went_after
 range_goes cpu s t write None e = let p : ◌≡◌ {A = Unit {0} × Space} (tt, s) (tt, t) = cc in sym (ap (λ (q : Unit {0} × Space). q.1.went) p)
 range_goes cpu s t write (Some r) e = range_went s t r.at r.len (record { write = write; user = cpu.cpl == 3 }) e
 
-module _ (flags : UserFlagsAgree) (m : Setting) (v : View) (b : State) (mode : m.mode ≡ wedge_mode m.image) (room : 4096 * m.frames ≤ length b.ram) (fit : AreBytes b.ram) (sound : AreWithin m b.set) (sees : Sees v b.cpu) (next : IsNext m v.kernel b) (small : b.cpu.regs.eip < 2 ^ 32) where
+module _ (flags : EffectLaws) (m : Setting) (v : View) (b : State) (mode : m.mode ≡ wedge_mode m.image) (room : 4096 * m.frames ≤ length b.ram) (fit : AreBytes b.ram) (sound : AreWithin m b.set) (sees : Sees v b.cpu) (next : IsNext m v.kernel b) (small : b.cpu.regs.eip < 2 ^ 32) where
   abbrev k : Bool
   k = v.kernel
 
@@ -467,9 +466,9 @@ module _ (flags : UserFlagsAgree) (m : Setting) (v : View) (b : State) (mode : m
         stepped_by m v.kernel b sees.level next
         ∙ ap (after_fetch m (unheld b)) t.fetched
         ∙ by_op_is m insn.op (unheld b) insn len fetch soft
-        ∙ instructed_is m (unheld b) (begun b insn) flags (selectors_of v) (unheld b).cpu (selects_by v b.cpu sees) fetch read write insn len user_held first.shape t.permitted (record { free = t.segments; read = t.read; write = t.write })
+        ∙ instructed_is m (unheld b) (begun b insn) flags.agree (selectors_of v) (unheld b).cpu (selects_by v b.cpu sees) fetch read write insn len user_held first.shape t.permitted (record { free = t.segments; read = t.read; write = t.write })
         ∙ ap (λ (o : exec.Outcome). after_instruction m (unheld b) (begun b insn) (done_by (unheld b).cpu write o))
-        (user_same (byte_by reads read write) (byte_of (settled b write)) (selectors_of v) insn len b.cpu.regs first.shape
+        (flags.same (byte_by reads read write) (byte_of (settled b write)) (selectors_of v) insn len b.cpu.regs first.shape
         (all (λ x. byte_by reads read write x ≡ byte_of (settled b write) x) reads bytes_same) (all (λ x. byte_by reads read write x ≡ byte_of (settled b write) x) writes bytes_same) ∙ e)
         ∙ finished_is write regs stores
 
@@ -481,10 +480,10 @@ module _ (flags : UserFlagsAgree) (m : Setting) (v : View) (b : State) (mode : m
         stepped_by m v.kernel (settled b write) sees.level next_again
         ∙ ap (after_fetch m (unheld (settled b write))) again_translated.fetched
         ∙ by_op_is m insn.op (unheld (settled b write)) insn len again_fetch.space soft
-        ∙ instructed_is m (unheld (settled b write)) (begun b insn) flags (selectors_of v) (unheld b).cpu (selects_by v b.cpu sees) again_fetch.space again_read.space again_write.space insn len user_held first.shape t.permitted
+        ∙ instructed_is m (unheld (settled b write)) (begun b insn) flags.agree (selectors_of v) (unheld b).cpu (selects_by v b.cpu sees) again_fetch.space again_read.space again_write.space insn len user_held first.shape t.permitted
         (record { free = t.segments; read = again_read.is; write = again_write.is })
         ∙ ap (λ (o : exec.Outcome). after_instruction m (unheld (settled b write)) (begun b insn) (done_by (unheld b).cpu again_write.space o))
-        (user_same (byte_by reads again_read.space again_write.space) (byte_of (settled b write)) (selectors_of v) insn len b.cpu.regs first.shape
+        (flags.same (byte_by reads again_read.space again_write.space) (byte_of (settled b write)) (selectors_of v) insn len b.cpu.regs first.shape
         (all (λ x. byte_by reads again_read.space again_write.space x ≡ byte_of (settled b write) x) reads again_bytes) (all (λ x. byte_by reads again_read.space again_write.space x ≡ byte_of (settled b write) x) writes again_bytes) ∙ e)
         ∙ finished_is again_write.space regs stores
 

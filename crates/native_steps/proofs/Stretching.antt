@@ -3,6 +3,7 @@ use Rattle.std.proofs.Common.{◌≡◌, ℕ, zero, suc, ◌+◌, ◌-◌, ◌*�
 use Rattle.std.specs.Prelude.{slice_index_or}
 use Rattle.std.specs.List.{All}
 use Rattle.ia32_types.specs.declared.flags.Regs.{Regs}
+use Rattle.ia32_exec.specs.Digest.{digest}
 use Rattle.paging.specs.Fresh.{has}
 use Rattle.descriptors.specs.declared.cpu.Cpu.{Cpu}
 use Rattle.sites.specs.declared.site.Site.{Site}
@@ -181,7 +182,7 @@ module _ (laws : Laws) (m : Setting) (v : View) (w : IsWedge m) where
             pages = all_more (λ (x : Report). AreKept b.set x.pages) follows.report r.reports pages_kept (subst (λ (x : Set). All (λ (y : Report). AreKept x y.pages) r.reports) set_is r.pages);
             unwalked = all_more (λ (x : Report). x.tables ≡ []) follows.report r.reports follows.unwalked r.unwalked;
             direct = ap (λ (x : List ℕ). length x) addresses ∙ ap suc r.direct;
-            passed = r.passed ∙ ap (λ (x : ℕ). passed_on ((31 * s.passed + x) % 2 ^ 64) (direct_addresses m.image.sites r.reports)) (sym begun_at) ∙ sym (ap (passed_on s.passed) addresses);
+            passed = r.passed ∙ ap (λ (x : ℕ). passed_on (digest s.passed x) (direct_addresses m.image.sites r.reports)) (sym begun_at) ∙ sym (ap (passed_on s.passed) addresses);
             retired = omega (arith, r.retired);
             size = r.size ∙ follows.size;
             beyond = r.beyond ∙ follows.behind;

@@ -20,7 +20,7 @@ use Rattle.ia32_exec.specs.UserEffect.{user_effect}
 use Rattle.descriptors.specs.declared.cpu.Cpu.{Cpu}
 use Rattle.paging.specs.declared.entry.Entry.{Entry}
 use Rattle.paging.specs.Space.{Space, place, place_by, byte_at, with_ram}
-use Rattle.sys_exec.specs.Agreement.{UserFlagsAgree}
+use Rattle.native_steps.specs.EffectLaws.{EffectLaws}
 use Rattle.step_exec.specs.Plain as plain
 use Rattle.step_exec.specs.Plain.{is_denied, is_refused, reached, is_in, byte_by}
 use Rattle.host_cpl3.specs.declared.view.View.{View}
@@ -34,12 +34,12 @@ use Rattle.machine_model.specs.State.{Setting, State, space_at_start}
 use Rattle.machine_model.specs.Instruction.{fetched, instructed, is_plain}
 use Rattle.machine_model.specs.Step.{after_instruction, begun, by_op, after_fetch, fetches_next, begins_next, worked, by_interrupt, unheld, stepped}
 use Rattle.native_steps.specs.Stands.{IsWedge, IsLevel, Sees, Stands}
-use Rattle.machine_model.specs.Counts.{is_inside, is_software, needs_descriptor, is_direct}
+use Rattle.image_check.specs.Places.{is_site_at}
+use Rattle.machine_model.specs.Counts.{is_software, needs_descriptor, is_direct}
 use Rattle.native_steps.proofs.Inside.{not_inside}
 use Rattle.native_steps.specs.Native.{byte_of, effect_of, done_by, IsNative}
 use Rattle.native_steps.specs.Forward.{IsNext}
 use Rattle.native_steps.proofs.Choices.{chosen, passed_by, is_false, is_not, both, le_told, lt_told, clash, le_false, lt_false}
-use Rattle.native_steps.proofs.Same.{user_same}
 use Rattle.native_steps.proofs.Pages.{At}
 use Rattle.native_steps.proofs.Ways.{Way}
 use Rattle.native_steps.proofs.HostParts.{Leads, IsMet, IsDenied, host_is}
@@ -135,7 +135,7 @@ without_rights v cpu s k =
       above = level_kernel v.kernel cpu.cpl s.level ∙ k;
     }
 
-module _ (flags : UserFlagsAgree) (m : Setting) (w : IsWedge m) (memory : List ℕ) (v : View) (b : State) (stands : Stands m memory v b) (next : IsNext m v.kernel b) where
+module _ (flags : EffectLaws) (m : Setting) (w : IsWedge m) (memory : List ℕ) (v : View) (b : State) (stands : Stands m memory v b) (next : IsNext m v.kernel b) where
   sees : Sees v b.cpu
   sees = stands.sees
 
@@ -215,7 +215,7 @@ module _ (flags : UserFlagsAgree) (m : Setting) (w : IsWedge m) (memory : List �
     -- over the same bytes
     pub effects_same : user_effect (selectors_of v) insn len b.cpu.regs (host_pages.byte_at memory v.root) ≡ effect_of v b insn len
     effects_same =
-        user_same (host_pages.byte_at memory v.root) (byte_of b) (selectors_of v) insn len b.cpu.regs shape
+        flags.same (host_pages.byte_at memory v.root) (byte_of b) (selectors_of v) insn len b.cpu.regs shape
         (covers m w memory v b stands (λ a. host_pages.byte_at memory v.root a ≡ byte_of b a) (same_byte m w memory v b stands) false (ranges_of insn b.cpu.regs).read c.read)
         (covers m w memory v b stands (λ a. host_pages.byte_at memory v.root a ≡ byte_of b a) (same_byte m w memory v b stands) true (ranges_of insn b.cpu.regs).write c.write)
 
@@ -252,7 +252,7 @@ module _ (flags : UserFlagsAgree) (m : Setting) (w : IsWedge m) (memory : List �
         let fetch : fetched (b.cpu.cpl == 3) b.cpu.regs.eip (space_at_start m.mode m.frames b.cpu b.ram b.set) ≡ Ok (begins.Insn insn len, f.space) =
         ap (λ (u : Bool). fetched u b.cpu.regs.eip (space_at_start m.mode m.frames b.cpu b.ram b.set)) user ∙ f.is in
         let same : user_effect (selectors_of v) insn len b.cpu.regs (byte_by (ranges_of insn b.cpu.regs).read r.space x.space) ≡ effect_of v b insn len =
-        user_same (byte_by (ranges_of insn b.cpu.regs).read r.space x.space) (byte_of b) (selectors_of v) insn len b.cpu.regs shape
+        flags.same (byte_by (ranges_of insn b.cpu.regs).read r.space x.space) (byte_of b) (selectors_of v) insn len b.cpu.regs shape
         (all _ (ranges_of insn b.cpu.regs).read (by_bytes (ranges_of insn b.cpu.regs).read r.space x.space r.at x.at))
         (all _ (ranges_of insn b.cpu.regs).write (by_bytes (ranges_of insn b.cpu.regs).read r.space x.space r.at x.at)) in
         record {
@@ -267,19 +267,19 @@ module _ (flags : UserFlagsAgree) (m : Setting) (w : IsWedge m) (memory : List �
               stepped_is
               ∙ ap (after_fetch m (unheld b)) fetch
               ∙ by_op_is m insn.op (unheld b) insn len f.space soft
-              ∙ instructed_is m (unheld b) (begun b insn) flags (selectors_of v) (unheld b).cpu selects f.space r.space x.space insn len user_of_held shape c.allowed (record { free = c.segments; read = r.is; write = x.is })
+              ∙ instructed_is m (unheld b) (begun b insn) flags.agree (selectors_of v) (unheld b).cpu selects f.space r.space x.space insn len user_of_held shape c.allowed (record { free = c.segments; read = r.is; write = x.is })
               ∙ ap (λ (o : exec.Outcome). after_instruction m (unheld b) (begun b insn) (done_by (unheld b).cpu x.space o)) same;
         }
       where
         user_of_held : IsPopFlags insn.op → IsUser (unheld b).cpu
         user_of_held h = let u = user_of h in record { without = u.without; above = u.above }
 
-        direct_by : (k : Bool) → v.kernel ≡ k → cond (not k) (not (needs_descriptor insn.op)) (not (is_inside m.image.sites b.cpu.regs.eip)) ≡ true
+        direct_by : (k : Bool) → v.kernel ≡ k → cond (not k) (not (needs_descriptor insn.op)) (not (is_site_at m.image.sites b.cpu.regs.eip)) ≡ true
         direct_by true k = ap not (not_inside m.image.sites b.cpu.regs.eip (le_told 0x10000000 b.cpu.regs.eip (both (nat_le 0x10000000 b.cpu.regs.eip) _ (next.start k)).0) (next.outside k))
         direct_by false k = ap not (not_reloading insn.op insn.imm allowed_row)
 
         direct : is_direct m.image.sites (begun b insn) ≡ true
         direct =
-            ap (λ (x : Bool). not x && cond (b.cpu.cpl == 3) (not (needs_descriptor insn.op)) (not (is_inside m.image.sites b.cpu.regs.eip))) soft
-            ∙ ap (λ (x : Bool). cond x (not (needs_descriptor insn.op)) (not (is_inside m.image.sites b.cpu.regs.eip))) user
+            ap (λ (x : Bool). not x && cond (b.cpu.cpl == 3) (not (needs_descriptor insn.op)) (not (is_site_at m.image.sites b.cpu.regs.eip))) soft
+            ∙ ap (λ (x : Bool). cond x (not (needs_descriptor insn.op)) (not (is_site_at m.image.sites b.cpu.regs.eip))) user
             ∙ direct_by v.kernel refl

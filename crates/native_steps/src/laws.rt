@@ -4,17 +4,17 @@ ghost use Rattle.native_steps.specs.Again.{Again};
 ghost use Rattle.native_steps.specs.Behind.{LendsStill};
 ghost use Rattle.native_steps.specs.Stretch.{Stretch};
 
+use crate::effects::effects;
 use crate::texts::texts;
 use host_cpl3::borders;
 use image_laws::{inside_sites, jumps_out, places};
-use sys_exec::user_flags_agree;
 
 /// What the host completes is the guest's step, with the translations as they are.
 pub fn forward()
     ensures { Forward }
 {
     texts();
-    user_flags_agree();
+    effects();
 }
 
 /// Outside sites the host doesn't enter the window.
@@ -22,7 +22,7 @@ pub fn not_entered()
     ensures { NotEntered }
 {
     texts();
-    user_flags_agree();
+    effects();
 }
 
 /// At a site's first byte the host does nothing but jump into the window.
@@ -39,7 +39,7 @@ pub fn backward()
     ensures { Backward }
 {
     texts();
-    user_flags_agree();
+    effects();
 }
 
 /// And where the effect is done, the host completes it as the guest does.
@@ -47,14 +47,14 @@ pub fn native_completes()
     ensures { NativeCompletes }
 {
     texts();
-    user_flags_agree();
+    effects();
 }
 
 /// A step that doesn't clash is the same from the state that its translations leave.
 pub fn steps_again()
     ensures { Again }
 {
-    user_flags_agree();
+    effects();
 }
 
 /// Tables behind the guest's frames lend the same after an instruction, which changes those frames alone.

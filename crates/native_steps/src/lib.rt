@@ -2,6 +2,7 @@
 //! what the guest's step uses and the host's tables lend, the host completes. All over definitions.
 #![tactic(auto)]
 
+mod effects;
 mod laws;
 mod texts;
 

@@ -1,6 +1,7 @@
 use Rattle.std.proofs.Common.{refl}
 use Rattle.guest_ram.specs.Bytes.{part, word32}
 use Rattle.paging.specs.Fresh.{tables_read}
+use Rattle.image_check.specs.Places.{is_start}
 use Rattle.image_check.specs.Sweep.{sweep_from, sweep, starts_of}
 use Rattle.ia32_decode.specs.Decoding.{answer_from, decoded}
 use Rattle.ia32_rows.specs.Rows.{rows}
@@ -9,7 +10,7 @@ use Rattle.ia32_rows.specs.Fields.{addressing_at, immediate_at}
 use Rattle.machine_model.proofs.examples.examples_hold.Goals as goal
 
 pub returns : goal.returns
-unfolding tables_read word32 part starts_of sweep sweep_from decoded answer_from rows parts_at lead_at coded_at addressing_at immediate_at
+unfolding is_start tables_read word32 part starts_of sweep sweep_from decoded answer_from rows parts_at lead_at coded_at addressing_at immediate_at
 returns c = record {
   first_count = refl;
   first_digest = refl;

@@ -19,17 +19,8 @@ use Rattle.ia32_exec.specs.Moves.{moved, zero_extended, sign_extended, loaded_ad
 use Rattle.ia32_exec.specs.Stack.{pushed_number, pushed, popped, all_pushed, all_popped, left, called, flags_pushed, is_foreign, top_of_stack, flags_popped}
 use Rattle.ia32_exec.specs.Control.{condition, jumped, jump, branched, set_by, flag_made}
 use Rattle.ia32_exec.specs.Strings.{is_over, turn, counted, string}
-use Rattle.ia32_exec.specs.Effect.{row}
-use Rattle.image_check.specs.Pieces.{is_branch}
-
--- past the instruction, further by its distance, or where it was
-abbrev pub GoesOn : Op → Insn → ℕ → Regs → ℕ → Type 0
-GoesOn o i len r eip = (eip ≡ (r.eip + len) % 2 ^ 32) ⊎ (((is_branch o ≡ true) × (eip ≡ ((r.eip + len) % 2 ^ 32 + i.imm) % 2 ^ 32)) ⊎ (eip ≡ r.eip))
-
-abbrev pub Leads : Op → Insn → ℕ → Regs → Outcome → Type 0
-Leads o i len r (Done after stores) = GoesOn o i len r after.eip
-Leads o i len r (Raise vector code) = Unit {0}
-Leads o i len r (Stop stop) = Unit {0}
+use Rattle.ia32_exec.specs.Effect.{row, effect}
+use Rattle.ia32_exec.specs.EipAfter.{GoesOn, Leads, EipGoesOn}
 
 -- ---- EIP stays as it is
 
@@ -190,18 +181,18 @@ module _ (i : Insn) (len : ℕ) (r : Regs) where
   unfolding branched
   branched_leads = by_test (condition i.sel r.flags) where
     by_test : (holds : Bool) → GoesOn op.Jcc i len r (cond holds (jumped i len r) (passed len r)).eip
-    by_test true = inr (inl (refl, refl))
+    by_test true = inr (inl (tt, refl))
     by_test false = inl refl
 
   jump_leads : Leads op.Jmp i len r (jump i len r)
   unfolding jump
-  jump_leads = inr (inl (refl, refl))
+  jump_leads = inr (inl (tt, refl))
 
   called_leads : Leads op.Call i len r (called i len r)
   unfolding called
-  called_leads = inr (inl (refl, refl))
+  called_leads = inr (inl (tt, refl))
 
-pub row_leads : (o : Op) (i : Insn) (len : ℕ) (r : Regs) (b : ℕ → ℕ) → Leads o i len r (row o i len r b)
+row_leads : (o : Op) (i : Insn) (len : ℕ) (r : Regs) (b : ℕ → ℕ) → Leads o i len r (row o i len r b)
 row_leads op.Add i len r b = arithmetic_leads op.Add i len r b
 row_leads op.Or i len r b = arithmetic_leads op.Or i len r b
 row_leads op.Adc i len r b = arithmetic_leads op.Adc i len r b
@@ -253,3 +244,7 @@ row_leads op.Std i len r b = flag_leads op.Std i len r b direction_at true
 row_leads op.PushFlags i len r b = flags_pushed_leads op.PushFlags i len r b
 row_leads op.PopFlags i len r b = flags_popped_leads op.PopFlags i len r b
 row_leads _ i len r b = tt
+
+pub goes_on : EipGoesOn
+unfolding effect
+goes_on i len r b = row_leads i.op i len r b

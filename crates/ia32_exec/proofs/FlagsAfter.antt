@@ -36,13 +36,9 @@ use Rattle.ia32_types.specs.Places.{is_place}
 use Rattle.ia32_exec.specs.Transfers.{returned, jumped_through, called_through}
 use Rattle.ia32_exec.specs.Selectors.{selector_to, read_from, pushed_from, selector_read, selector_pushed}
 use Rattle.ia32_exec.specs.UserEffect.{user_row, user_effect}
+use Rattle.ia32_exec.specs.FlagsAfter.{AreKept, Leaves, SystemFlagsStay}
 
 -- ---- IF and IOPL
-
--- both have the same IF, and the same bits from IOPL on
-pub record AreKept (f g : Flags) : Type 0 where
-  pub interrupt : g.bits / 512 % 2 ≡ f.bits / 512 % 2
-  pub level : g.bits / 4096 ≡ f.bits / 4096
 
 kept_same : (f : Flags) → AreKept f f
 kept_same f = record { interrupt = refl; level = refl }
@@ -152,11 +148,6 @@ apart_halves : (s : Size) (below above : ℕ) (r : Regs) → IsApart r (with_hal
 apart_halves s below above r = apart_on r (with_register s 0 below r) _ (apart_register s 0 below r) (apart_register s (upper s) above (with_register s 0 below r))
 
 -- ---- what is left
-
-abbrev pub Leaves : Regs → Outcome → Type 0
-Leaves r (Done n stores) = AreKept r.flags n.flags
-Leaves r (Raise vector code) = Unit {0}
-Leaves r (Stop stop) = Unit {0}
 
 module _ (i : Insn) (len : ℕ) (r : Regs) where
   -- past it, with registers
@@ -334,6 +325,9 @@ module _ (i : Insn) (len : ℕ) (r : Regs) where
   user_leaves PushSeg g b = of_pushed g i.a
   user_leaves o g b = effect_leaves b
 
-  pub flags_left : (g : Selectors) (b : ℕ → ℕ) → Leaves r (user_effect g i len r b)
+  flags_left : (g : Selectors) (b : ℕ → ℕ) → Leaves r (user_effect g i len r b)
   unfolding user_effect
   flags_left g b = user_leaves i.op g b
+
+pub flags_stay : SystemFlagsStay
+flags_stay i len r g b = flags_left i len r g b

@@ -33,6 +33,7 @@ use Rattle.ia32_exec.specs.Effect.{either, row, ranges_row, effect, ranges_of}
 use Rattle.ia32_types.specs.Places.{is_place}
 use Rattle.ia32_exec.specs.Transfers.{gone_to, returned, jumped_through, called_through}
 use Rattle.ia32_exec.specs.UserEffect.{user_row, user_effect}
+use Rattle.ia32_exec.specs.SameBytes.{SameOverRanges}
 
 two : {A : Type 0} (f : ℕ → ℕ → A) (x y v w : ℕ) → x ≡ v → y ≡ w → f x y ≡ f v w
 two f x y v w e g = ap (λ n. f n y) e ∙ ap (f v) g
@@ -44,7 +45,7 @@ module _ (b c : ℕ → ℕ) where
   at_first : (at n : ℕ) → 0 < n → AreAll Same at n → b at ≡ c at
   at_first at n lt h = let z : at + 0 ≡ at = omega arith in subst Same z (h 0 lt)
 
-  pub number_same : (s : Size) (at : ℕ) → AreAll Same at (width s / 8) → number_at b s at ≡ number_at c s at
+  number_same : (s : Size) (at : ℕ) → AreAll Same at (width s / 8) → number_at b s at ≡ number_at c s at
   number_same Byte at h = at_first at 1 (omega arith) h
   number_same Word at h = two (λ x y. x + y * 2 ^ 8) _ _ _ _ (at_first at 2 (omega arith) h) (h 1 (omega arith))
   number_same Long at h =
@@ -212,6 +213,9 @@ module _ (b c : ℕ → ℕ) where
   user_row_same op g i len r e s h k =
       row_same i.op i len r s (subst (λ (o : Op). Covers Same (ranges_row o i r).read) (sym e) h) (subst (λ (o : Op). Covers Same (ranges_row o i r).write) (sym e) k)
 
-  pub user_same : (g : Selectors) (i : Insn) (len : ℕ) (r : Regs) → IsShaped i → Covers Same (ranges_of i r).read → Covers Same (ranges_of i r).write → user_effect g i len r b ≡ user_effect g i len r c
+  user_same : (g : Selectors) (i : Insn) (len : ℕ) (r : Regs) → IsShaped i → Covers Same (ranges_of i r).read → Covers Same (ranges_of i r).write → user_effect g i len r b ≡ user_effect g i len r c
   unfolding user_effect ranges_of
   user_same g i len r s h k = user_row_same i.op g i len r refl s h k
+
+pub same_over : SameOverRanges
+same_over b c g i len r s h k = user_same b c g i len r s h k

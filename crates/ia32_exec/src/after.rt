@@ -1,0 +1,21 @@
+//! Laws of the definitions: what each instruction leaves alone.
+
+ghost use Rattle.ia32_exec.specs.EipAfter.{EipGoesOn};
+ghost use Rattle.ia32_exec.specs.FlagsAfter.{SystemFlagsStay};
+ghost use Rattle.ia32_exec.specs.SameBytes.{SameOverRanges};
+
+/// EIP is past the instruction, or at a direct branch further by its distance, or, in a repeated string instruction,
+/// where it was.
+pub fn eip_goes_on()
+    ensures { EipGoesOn }
+{}
+
+/// IF, and the bits from IOPL on, stay.
+pub fn system_flags_stay()
+    ensures { SystemFlagsStay }
+{}
+
+/// An instruction comes to the same over bytes that are the same in its ranges.
+pub fn same_over_ranges()
+    ensures { SameOverRanges }
+{}
