@@ -8,8 +8,8 @@ use Rattle.shadow_cache.specs.Pairs.{frames_of, tables_of, IsRoots}
 use Rattle.shadow_cache.specs.Roots.{pairs_of}
 use Rattle.shadow_cache.specs.declared.pair.Pair.{Pair}
 use Rattle.shadow_cache.specs.Laws.{had}
-use Rattle.shadow_cache.proofs.Noting.{note-shadows, note-holds, note-roots, note-slots, note-loses, note-tracked, note-frames, note-memory, note-moves}
-use Rattle.shadow_cache.proofs.roots.RootsShadows.note.Goals as goal
+use Rattle.shadow_cache.proofs.Noting.{note-shadows, note-holds, note-roots, note-slots, note-loses, note-tracked, note-frames, note-memory, note-moves, note-all}
+use Rattle.shadow_cache.proofs.roots.Roots.note.Goals as goal
 
 pub bar-requires : goal.bar-requires
 bar-requires c = record { shadow = (had (pairs_of c.args.self.now) c.args.ram.now c.requires.stands).shadows.0 }
@@ -58,3 +58,11 @@ pub returns-clause-moves : goal.returns-clause-moves
 returns-clause-moves c =
     let r = c.args.self.now in let m = c.args.ram.now in let h = had (pairs_of r) m c.requires.stands in let e = c.bar.ensures in let b = c.bar_all.ensures in
     λ p o. subst (λ (x : Pair). Moves p p m c.bar_all.new.ram (frames_of (pairs_of r) m) (frames_of (x ∷ r.others) c.bar_all.new.ram)) (sym c.noted-self.ensures) (note-moves r.present r.others m c.bar.new.ram c.bar_all.new.ram c.args.frame h c.requires.frame e.shadow e.loses e.held e.memory b.shadows b.frames b.loses b.memory p o)
+
+pub returns-clause-pairs : goal.returns-clause-pairs
+returns-clause-pairs c = ap (λ (x : Pair). x ∷ c.args.self.now.others) c.noted-self.ensures
+
+pub returns-clause-loses : goal.returns-clause-loses
+returns-clause-loses c =
+    let r = c.args.self.now in let m = c.args.ram.now in let h = had (pairs_of r) m c.requires.stands in let e = c.bar.ensures in let b = c.bar_all.ensures in
+    note-all r.present r.others m c.bar.new.ram c.bar_all.new.ram c.args.frame h c.requires.frame e.shadow e.loses e.held e.memory b.shadows b.frames b.loses b.memory

@@ -5,8 +5,10 @@ use Rattle.shadow_tables.specs.Laws as below
 use Rattle.shadow_cache.specs.Roots.{pairs_of}
 use Rattle.shadow_cache.specs.Laws.{had}
 use Rattle.shadow_cache.proofs.Beside.{others-owns, tables-part}
-use Rattle.shadow_cache.proofs.Calls.{alone-shadow, alone-owns, dropped-roots, dropped-moves, dropped-owns, dropped-two, dropped-tracked, spoilt-same, spoilt-fewer, spoilt-roots, spoilt-slots, spoilt-untracked, spoilt-moves, spoilt-owns}
-use Rattle.shadow_cache.proofs.roots.RootsShadows.written.Goals as goal
+use Rattle.shadow_cache.proofs.Calls.{alone-shadow, alone-owns, dropped-roots, dropped-moves, dropped-owns, dropped-two, dropped-tracked, spoilt-same, spoilt-fewer, spoilt-roots, spoilt-slots, spoilt-untracked, spoilt-moves, spoilt-owns, spoilt-kept}
+use Rattle.shadow_cache.specs.After.{marked_by}
+use Rattle.shadow_cache.specs.declared.pair.Pair.{Pair}
+use Rattle.shadow_cache.proofs.roots.Roots.written.Goals as goal
 
 pub leave_readers-requires-clause-shadows : goal.leave_readers-requires-clause-shadows
 leave_readers-requires-clause-shadows c = (had (pairs_of c.args.self.now) c.args.ram.now c.requires.stands).shadows.1
@@ -55,3 +57,11 @@ pub returns-clause-moves : goal.returns-clause-moves
 returns-clause-moves c =
     let r = c.args.self.now in let m = c.args.ram.now in let h = had (pairs_of r) m c.requires.stands in
     spoilt-moves c.args.pool.now c.leave_readers.new.pool r.present c.written-self.result r.others c.leave_readers.new.pairs m c.leave_readers.new.ram c.args.frame h c.requires.owns c.leave_readers.ensures.rest c.leave_readers.ensures.kept c.leave_readers.ensures.moves c.written-self.ensures
+
+pub returns-clause-pairs : goal.returns-clause-pairs
+returns-clause-pairs c = ap (λ (x : Pair). x ∷ c.leave_readers.new.pairs) c.written-self.ensures ∙ ap (λ (xs : List Pair). marked_by c.args.self.now.present c.args.frame ∷ xs) c.leave_readers.ensures.rest
+
+pub returns-clause-kept : goal.returns-clause-kept
+returns-clause-kept c =
+    let r = c.args.self.now in let m = c.args.ram.now in let h = had (pairs_of r) m c.requires.stands in
+    spoilt-kept c.args.pool.now c.leave_readers.new.pool r.present c.written-self.result r.others c.leave_readers.new.pairs m c.leave_readers.new.ram c.args.frame h c.requires.owns c.leave_readers.ensures.rest c.leave_readers.ensures.kept c.leave_readers.ensures.moves c.written-self.ensures

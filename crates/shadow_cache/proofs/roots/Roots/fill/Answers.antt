@@ -5,8 +5,8 @@ use Rattle.shadow_tables.specs.Slots.{filled, held, slot_at, IsShadow}
 use Rattle.shadow_cache.specs.Pairs.{any_reads, frames_of, IsRoots}
 use Rattle.shadow_cache.specs.Roots.{pairs_of}
 use Rattle.shadow_cache.specs.Laws.{had, tables-any}
-use Rattle.shadow_cache.proofs.Present.{bars-dropped, bars-lost, bars-filled, write-roots, write-frames, write-memory, write-moves, present-owns, move-roots, move-moves, move-owns}
-use Rattle.shadow_cache.proofs.roots.RootsShadows.fill.Goals as goal
+use Rattle.shadow_cache.proofs.Present.{bars-dropped, bars-lost, bars-filled, write-roots, write-frames, write-memory, write-moves, present-owns, move-roots, move-moves, move-owns, write-kept, move-kept}
+use Rattle.shadow_cache.proofs.roots.Roots.fill.Goals as goal
 
 pub hold-requires-clause-shadow : goal.hold-requires-clause-shadow
 hold-requires-clause-shadow c = (had (pairs_of c.args.self.now) c.args.ram.now c.requires.stands).shadows.0
@@ -39,3 +39,8 @@ pub returns-clause-moves : goal.returns-clause-moves
 returns-clause-moves c =
     let r = c.args.self.now in let m = c.args.ram.now in let n = c.hold.new.ram in let h = had (pairs_of r) m c.requires.stands in let e = c.hold.ensures in
     move-moves c.args.pool.now c.hold.new.pool r.present r.others m n h c.requires.owns e.becomes.shadow e.moves
+
+pub returns-clause-others : goal.returns-clause-others
+returns-clause-others c =
+    let r = c.args.self.now in let m = c.args.ram.now in let n = c.hold.new.ram in let h = had (pairs_of r) m c.requires.stands in let e = c.hold.ensures in
+    move-kept c.args.pool.now c.hold.new.pool r.present r.others m n h c.requires.owns e.becomes.shadow e.moves
