@@ -133,6 +133,9 @@ module _ (p : Pair) (ps : List Pair) (m m1 m2 : List ℕ) (frame : ℕ) (h : IsR
     pub note-loses : LosesWrites (slot_at p.shadow m) (slot_at p.shadow m2) (frame ∷ [])
     note-loses page l = slot_at-stays p.shadow m1 m2 s1 apart2 page l ∙ l1 page l
 
+    pub note-all : AllLoseWrites (p ∷ ps) m m2 frame
+    note-all = (note-loses, all-lose ps m m1 m2 frame kept1 l2)
+
     pub note-frames : frames_of (noted p frame ∷ ps) m2 ≡ frames_of (p ∷ ps) m
     note-frames =
         frames-cons (noted p frame) ps m2

@@ -8,6 +8,7 @@ use Rattle.paging.specs.declared.entry.Entry.{Entry}
 use Rattle.shadow_tables.specs.Slots.{Slot, filled, permits, held, slot_at, LosesDir, IsShadow}
 use Rattle.shadow_tables.specs.declared.words.Side.{Side}
 use Rattle.shadow_cache.specs.Pairs.{any_reads, frames_of, AreShadows, AreSized, BarsWrites, AllBarWrites, IsRoots}
+use Rattle.shadow_cache.specs.Others.{AreKept}
 use Rattle.shadow_cache.specs.declared.pair.Pair.{Pair}
 use Rattle.shadow_cache.specs.Laws.{frames-cons, kept-same, kept-shadows, kept-frames, kept-barred}
 
@@ -69,6 +70,9 @@ module _ (p : Pair) (ps : List Pair) (m m' : List ℕ) (h : IsRoots (p ∷ ps) m
   pub apart : SameIn (frames_of ps m) m m'
   apart = SameIn-writes m m' (held p.shadow m) (frames_of ps m) joint w
 
+  pub write-kept : AreKept ps m m'
+  write-kept = kept-same ps m m' h.shadows.1 apart
+
   pub write-roots : BarsWrites (any_reads (p ∷ ps)) (slot_at p.shadow m') → IsRoots (p ∷ ps) m'
   write-roots b =
       present-roots p ps m m' h s apart b
@@ -99,6 +103,9 @@ module _ (pool pool' : Pool) (p : Pair) (ps : List Pair) (m m' : List ℕ) (h : 
 
     moved : Moves pool pool' m m' (held p.shadow m ++ frames_of ps m) (held p.shadow m' ++ frames_of ps m)
     moved = Moves-beside pool pool' m m' (held p.shadow m) (held p.shadow m') (frames_of ps m) v
+
+    pub move-kept : AreKept ps m m'
+    move-kept = kept-same ps m m' h.shadows.1 aside
 
     pub move-roots : BarsWrites (any_reads (p ∷ ps)) (slot_at p.shadow m') → IsRoots (p ∷ ps) m'
     move-roots b =

@@ -3,4 +3,5 @@ pub mod Pairs
 pub mod Others
 pub mod Switched
 pub mod Roots
+pub mod After
 pub mod Laws

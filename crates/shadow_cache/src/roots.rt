@@ -1,10 +1,14 @@
-ghost use Rattle.std.specs.Prelude.{◌≡◌, ℕ, ◌≤◌, ◌<◌, ◌^◌, List, [], ◌∷◌, length, Option, Some, None, false, true, IfOk, OnErr};
+ghost use Rattle.std.specs.Prelude.{◌≡◌, ℕ, ◌+◌, ◌≤◌, ◌<◌, ◌^◌, List, [], ◌∷◌, length, Some, None, false, IfOk, OnErr};
+ghost use Rattle.std.specs.FinMap.{empty, insert, remove};
 ghost use Rattle.frame_pool.specs.Pool.{free_list, Stands};
 ghost use Rattle.frame_pool.specs.declared.Pool.{Pool};
-ghost use Rattle.frame_pool.specs.Held.{Owns, Moves};
-ghost use Rattle.shadow_tables.specs.Slots.{Slot, slot_at, root_of};
+ghost use Rattle.frame_pool.specs.Held.{Owns, Moves, Writes};
+ghost use Rattle.paging.specs.Uses.{without_dir};
+ghost use Rattle.shadow_tables.specs.Entries.{entries_of};
+ghost use Rattle.shadow_tables.specs.Slots.{filled, is_among, slot_at, root_of, ArePart, LosesDir, LosesWrites, SameSlots, Turns};
 ghost use Rattle.shadow_tables.specs.declared.words.Side.{Side};
 ghost use Rattle.shadow_cache.specs.Pairs.{frames_of, tables_of, any_reads, IsRoots};
+ghost use Rattle.shadow_cache.specs.Others.{AreKept, AllLoseWrites};
 
 use crate::others::{any_reads, bar_all, leave_all, leave_readers};
 use crate::pair::Pair;
@@ -25,7 +29,8 @@ pub struct Roots {
 
 impl Roots {
     ghost use Rattle.shadow_cache.specs.Roots.{pairs_of};
-    ghost use Rattle.shadow_cache.specs.Switched.{IsFresh, IsSwitched};
+    ghost use Rattle.shadow_cache.specs.After.{IsStart};
+    ghost use Rattle.shadow_cache.specs.Switched.{IsSwitched};
 
     /// One pair, of this value, that keeps nothing. Takes the room for 8.
     pub fn new(alloc: Global, ram: &mut Ram, pool: &mut Pool, cr3: u32) -> Result<Roots, AllocError>
@@ -33,7 +38,7 @@ impl Roots {
         requires free { 2 ≤ length (free_list pool.old ram.old) }
         ensures refused { OnErr result ((pool.new ≡ pool.old) × (ram.new ≡ ram.old)) }
         ensures stands { IfOk result (λ r. ∥ IsRoots (pairs_of r) ram.new ∥₁) }
-        ensures fresh { IfOk result (λ r. IsFresh r.present ram.new cr3 × (r.others ≡ [])) }
+        ensures starts { IfOk result (λ r. IsStart (pairs_of r) ram.new cr3) }
         ensures owns { IfOk result (λ r. Owns pool.new ram.new (frames_of (pairs_of r) ram.new)) }
         ensures moves { IfOk result (λ r. Moves pool.old pool.new ram.old ram.new [] (frames_of (pairs_of r) ram.new)) }
     {
@@ -68,6 +73,131 @@ impl Roots {
             return true;
         }
         any_reads(&self.others, frame)
+    }
+}
+
+impl Roots {
+    ghost use Rattle.shadow_cache.specs.Roots.{pairs_of};
+    ghost use Rattle.shadow_cache.specs.After.{slots_of, directory_of, beside, noted_in, written_in, emptied};
+
+    /// Drops the page in the present pair.
+    pub fn drop_page(&mut self, ram: &mut Ram, page: u32)
+        requires stands { ∥ IsRoots (pairs_of self.old) ram.old ∥₁ }
+        requires page { page < 2 ^ 20 }
+        ensures pairs { pairs_of self.new ≡ pairs_of self.old }
+        ensures others { AreKept (beside (pairs_of self.old)) ram.old ram.new }
+        ensures stands { ∥ IsRoots (pairs_of self.new) ram.new ∥₁ }
+        ensures turns { Turns (slots_of (pairs_of self.old) ram.old) (slots_of (pairs_of self.new) ram.new) page None }
+        ensures entries { entries_of (slots_of (pairs_of self.new) ram.new) ≡ remove (entries_of (slots_of (pairs_of self.old) ram.old)) page }
+        ensures frames { frames_of (pairs_of self.new) ram.new ≡ frames_of (pairs_of self.old) ram.old }
+        ensures memory { Writes (frames_of (pairs_of self.old) ram.old) ram.old ram.new }
+        ensures moves { (p : Pool) → Owns p ram.old (frames_of (pairs_of self.old) ram.old) → Moves p p ram.old ram.new (frames_of (pairs_of self.old) ram.old) (frames_of (pairs_of self.new) ram.new) }
+    {
+        let mut shadow = self.present.shadow;
+        shadow.drop_page(ram, page);
+    }
+
+    /// Drops every page of a directory index in the present pair.
+    pub fn drop_dir(&mut self, ram: &mut Ram, index: u32)
+        requires stands { ∥ IsRoots (pairs_of self.old) ram.old ∥₁ }
+        requires index { index < 1024 }
+        ensures pairs { pairs_of self.new ≡ pairs_of self.old }
+        ensures others { AreKept (beside (pairs_of self.old)) ram.old ram.new }
+        ensures stands { ∥ IsRoots (pairs_of self.new) ram.new ∥₁ }
+        ensures loses { LosesDir (slots_of (pairs_of self.old) ram.old) (slots_of (pairs_of self.new) ram.new) index }
+        ensures entries { entries_of (slots_of (pairs_of self.new) ram.new) ≡ without_dir (entries_of (slots_of (pairs_of self.old) ram.old)) index }
+        ensures frames { frames_of (pairs_of self.new) ram.new ≡ frames_of (pairs_of self.old) ram.old }
+        ensures memory { Writes (frames_of (pairs_of self.old) ram.old) ram.old ram.new }
+        ensures moves { (p : Pool) → Owns p ram.old (frames_of (pairs_of self.old) ram.old) → Moves p p ram.old ram.new (frames_of (pairs_of self.old) ram.old) (frames_of (pairs_of self.new) ram.new) }
+    {
+        let mut shadow = self.present.shadow;
+        shadow.drop_dir(ram, index);
+    }
+
+    /// Fills the page in the present pair, without the right to write where the tables of any pair were read from its
+    /// frame.
+    pub fn fill(&mut self, ram: &mut Ram, pool: &mut Pool, side: Side, entry: Entry, wp: bool)
+        requires stands { ∥ IsRoots (pairs_of self.old) ram.old ∥₁ }
+        requires owns { Owns pool.old ram.old (frames_of (pairs_of self.old) ram.old) }
+        requires free { 1 ≤ length (free_list pool.old ram.old) }
+        requires page { entry.page < 2 ^ 20 }
+        requires frame { entry.frame < 2 ^ 20 }
+        ensures pairs { pairs_of self.new ≡ pairs_of self.old }
+        ensures others { AreKept (beside (pairs_of self.old)) ram.old ram.new }
+        ensures stands { ∥ IsRoots (pairs_of self.new) ram.new ∥₁ }
+        ensures turns { Turns (slots_of (pairs_of self.old) ram.old) (slots_of (pairs_of self.new) ram.new) entry.page (Some (filled (is_among entry.frame (tables_of (pairs_of self.old))) side entry wp)) }
+        ensures entries { entries_of (slots_of (pairs_of self.new) ram.new) ≡ insert (entries_of (slots_of (pairs_of self.old) ram.old)) entry.page entry }
+        ensures one { length (free_list pool.old ram.old) ≤ length (free_list pool.new ram.new) + 1 }
+        ensures owns { Owns pool.new ram.new (frames_of (pairs_of self.new) ram.new) }
+        ensures moves { Moves pool.old pool.new ram.old ram.new (frames_of (pairs_of self.old) ram.old) (frames_of (pairs_of self.new) ram.new) }
+    {
+        let barred = self.tracks(entry.frame);
+        let mut shadow = self.present.shadow;
+        shadow.hold(ram, pool, side, entry, wp, barred);
+    }
+
+    /// All other pairs leave, and the present one is as new.
+    pub fn drop_all(&mut self, ram: &mut Ram, pool: &mut Pool)
+        requires stands { ∥ IsRoots (pairs_of self.old) ram.old ∥₁ }
+        requires owns { Owns pool.old ram.old (frames_of (pairs_of self.old) ram.old) }
+        ensures pairs { pairs_of self.new ≡ emptied (pairs_of self.old) }
+        ensures stands { ∥ IsRoots (pairs_of self.new) ram.new ∥₁ }
+        ensures none { (page : ℕ) → page < 2 ^ 20 → slots_of (pairs_of self.new) ram.new page ≡ None }
+        ensures entries { entries_of (slots_of (pairs_of self.new) ram.new) ≡ empty }
+        ensures tracked { ArePart (tables_of (pairs_of self.new)) (tables_of (pairs_of self.old)) }
+        ensures roots { (side : Side) → directory_of (pairs_of self.new) side ≡ directory_of (pairs_of self.old) side }
+        ensures two { length (frames_of (pairs_of self.new) ram.new) ≡ 2 }
+        ensures owns { Owns pool.new ram.new (frames_of (pairs_of self.new) ram.new) }
+        ensures moves { Moves pool.old pool.new ram.old ram.new (frames_of (pairs_of self.old) ram.old) (frames_of (pairs_of self.new) ram.new) }
+    {
+        let before = self.present;
+        leave_all(&mut self.others, ram, pool);
+        let mut shadow = before.shadow;
+        shadow.drop_all(ram, pool);
+        self.present = before.emptied();
+    }
+
+    /// The tables of the present pair were read from this frame. No pair lets a write pass to it any more.
+    pub fn note(&mut self, ram: &mut Ram, frame: u32)
+        requires stands { ∥ IsRoots (pairs_of self.old) ram.old ∥₁ }
+        requires frame { frame < 16384 }
+        ensures pairs { pairs_of self.new ≡ noted_in (pairs_of self.old) frame }
+        ensures loses { AllLoseWrites (pairs_of self.old) ram.old ram.new frame }
+        ensures stands { ∥ IsRoots (pairs_of self.new) ram.new ∥₁ }
+        ensures slots { LosesWrites (slots_of (pairs_of self.old) ram.old) (slots_of (pairs_of self.new) ram.new) (tables_of (pairs_of self.new)) }
+        ensures entries { entries_of (slots_of (pairs_of self.new) ram.new) ≡ entries_of (slots_of (pairs_of self.old) ram.old) }
+        ensures tracked { ArePart (tables_of (pairs_of self.new)) (frame ∷ (tables_of (pairs_of self.old))) }
+        ensures roots { (side : Side) → directory_of (pairs_of self.new) side ≡ directory_of (pairs_of self.old) side }
+        ensures frames { frames_of (pairs_of self.new) ram.new ≡ frames_of (pairs_of self.old) ram.old }
+        ensures memory { Writes (frames_of (pairs_of self.old) ram.old) ram.old ram.new }
+        ensures moves { (p : Pool) → Owns p ram.old (frames_of (pairs_of self.old) ram.old) → Moves p p ram.old ram.new (frames_of (pairs_of self.old) ram.old) (frames_of (pairs_of self.new) ram.new) }
+    {
+        let before = self.present;
+        before.shadow.bar(ram, frame);
+        bar_all(&self.others, ram, frame);
+        self.present = before.noted(frame);
+    }
+
+    /// A byte of this frame was written, or is about to be. Each other pair whose tables were read from it leaves, and the
+    /// present one is marked.
+    pub fn written(&mut self, ram: &mut Ram, pool: &mut Pool, frame: u32)
+        requires stands { ∥ IsRoots (pairs_of self.old) ram.old ∥₁ }
+        requires owns { Owns pool.old ram.old (frames_of (pairs_of self.old) ram.old) }
+        ensures pairs { pairs_of self.new ≡ written_in (pairs_of self.old) frame }
+        ensures kept { AreKept (pairs_of self.new) ram.old ram.new }
+        ensures stands { ∥ IsRoots (pairs_of self.new) ram.new ∥₁ }
+        ensures slots { SameSlots (slots_of (pairs_of self.old) ram.old) (slots_of (pairs_of self.new) ram.new) }
+        ensures entries { entries_of (slots_of (pairs_of self.new) ram.new) ≡ entries_of (slots_of (pairs_of self.old) ram.old) }
+        ensures tracked { ArePart (tables_of (pairs_of self.new)) (tables_of (pairs_of self.old)) }
+        ensures untracked { is_among frame (tables_of (pairs_of self.new)) ≡ false }
+        ensures roots { (side : Side) → directory_of (pairs_of self.new) side ≡ directory_of (pairs_of self.old) side }
+        ensures fewer { length (free_list pool.old ram.old) ≤ length (free_list pool.new ram.new) }
+        ensures owns { Owns pool.new ram.new (frames_of (pairs_of self.new) ram.new) }
+        ensures moves { Moves pool.old pool.new ram.old ram.new (frames_of (pairs_of self.old) ram.old) (frames_of (pairs_of self.new) ram.new) }
+    {
+        let before = self.present;
+        leave_readers(&mut self.others, ram, pool, frame);
+        self.present = before.written(frame);
     }
 }
 
@@ -116,42 +246,26 @@ impl Shadows for Roots {
     }
 
     fn drop_page(&mut self, ram: &mut Ram, page: u32) {
-        let mut shadow = self.present.shadow;
-        shadow.drop_page(ram, page);
+        Roots::drop_page(self, ram, page);
     }
 
     fn drop_dir(&mut self, ram: &mut Ram, index: u32) {
-        let mut shadow = self.present.shadow;
-        shadow.drop_dir(ram, index);
+        Roots::drop_dir(self, ram, index);
     }
 
     fn fill(&mut self, ram: &mut Ram, pool: &mut Pool, side: Side, entry: Entry, wp: bool) {
-        let barred = self.tracks(entry.frame);
-        let mut shadow = self.present.shadow;
-        shadow.hold(ram, pool, side, entry, wp, barred);
+        Roots::fill(self, ram, pool, side, entry, wp);
     }
 
-    /// All other pairs leave, and the present one is as new.
     fn drop_all(&mut self, ram: &mut Ram, pool: &mut Pool) {
-        let before = self.present;
-        leave_all(&mut self.others, ram, pool);
-        let mut shadow = before.shadow;
-        shadow.drop_all(ram, pool);
-        self.present = before.emptied();
+        Roots::drop_all(self, ram, pool);
     }
 
-    /// The tables of the present pair were read from this frame.
     fn note(&mut self, ram: &mut Ram, frame: u32) {
-        let before = self.present;
-        before.shadow.bar(ram, frame);
-        bar_all(&self.others, ram, frame);
-        self.present = before.noted(frame);
+        Roots::note(self, ram, frame);
     }
 
-    /// Each other pair that read its tables from this frame leaves, and the present one that did is marked.
     fn written(&mut self, ram: &mut Ram, pool: &mut Pool, frame: u32) {
-        let before = self.present;
-        leave_readers(&mut self.others, ram, pool, frame);
-        self.present = before.written(frame);
+        Roots::written(self, ram, pool, frame);
     }
 }

@@ -1,5 +1,6 @@
 ghost use Rattle.std.specs.Prelude.{◌≡◌};
-ghost use Rattle.shadow_cache.specs.Pairs.{IsRoots};
+ghost use Rattle.frame_pool.specs.Held.{Owns};
+ghost use Rattle.shadow_cache.specs.Pairs.{frames_of, IsRoots};
 ghost use Rattle.shadow_cache.specs.Roots.{pairs_of};
 
 use crate::Roots;
@@ -7,7 +8,10 @@ use frame_pool::Pool;
 use guest_ram::Ram;
 use paging::Entry;
 use shadow_tables::{Shadows, Side};
+use std::alloc::Global;
+use std::process::Abort;
 
+/// A page of the kernel's that may be written.
 fn entry(frame: u32) -> Entry
     ensures page { result.page ≡ 69632 }
     ensures frame { result.frame ≡ frame }
@@ -21,84 +25,141 @@ fn entry(frame: u32) -> Entry
     }
 }
 
-fn writable(roots: &Roots, ram: &Ram) -> bool
-    requires { ∥ IsRoots (pairs_of roots.now) ram.now ∥₁ }
+#[derive(Drop)]
+struct Bench {
+    ram: Ram,
+    pool: Pool,
+    roots: Roots,
+}
+
+/// Pairs of 0x1000 alone, over a pool of 64 frames.
+fn begin(rt: &impl Abort, alloc: Global) -> Bench
+    ensures stands { ∥ IsRoots (pairs_of result.roots) result.ram ∥₁ }
+    ensures owns { Owns result.pool result.ram (frames_of (pairs_of result.roots) result.ram) }
 {
-    roots.adequate(ram, Side::Kernel, 0x11000, true)
+    let mut ram = Ram::new(alloc, 128).expect(rt, "memory");
+    assert_eq!(rt; ram.len(), 524288);
+    let mut pool = Pool::new(&mut ram, 64, 64);
+    assert!(rt; pool.free() >= 2);
+    let roots = Roots::new(alloc, &mut ram, &mut pool, 0x1000).expect(rt, "memory");
+    Bench { ram, pool, roots }
+}
+
+fn go(rt: &impl Abort, bench: Bench, cr3: u32) -> Bench
+    requires stands { ∥ IsRoots (pairs_of bench.roots) bench.ram ∥₁ }
+    requires owns { Owns bench.pool bench.ram (frames_of (pairs_of bench.roots) bench.ram) }
+    ensures stands { ∥ IsRoots (pairs_of result.roots) result.ram ∥₁ }
+    ensures owns { Owns result.pool result.ram (frames_of (pairs_of result.roots) result.ram) }
+{
+    let Bench {
+        mut ram,
+        mut pool,
+        mut roots,
+    } = bench;
+    assert!(rt; pool.free() >= 2);
+    roots.switch(&mut ram, &mut pool, cr3);
+    Bench { ram, pool, roots }
+}
+
+fn fill(rt: &impl Abort, bench: Bench, frame: u32) -> Bench
+    requires stands { ∥ IsRoots (pairs_of bench.roots) bench.ram ∥₁ }
+    requires owns { Owns bench.pool bench.ram (frames_of (pairs_of bench.roots) bench.ram) }
+    ensures stands { ∥ IsRoots (pairs_of result.roots) result.ram ∥₁ }
+    ensures owns { Owns result.pool result.ram (frames_of (pairs_of result.roots) result.ram) }
+{
+    let Bench {
+        mut ram,
+        mut pool,
+        mut roots,
+    } = bench;
+    assert!(rt; pool.free() >= 1);
+    assert!(rt; frame < 0x10_0000);
+    roots.fill(&mut ram, &mut pool, Side::Kernel, entry(frame), true);
+    Bench { ram, pool, roots }
+}
+
+fn note(rt: &impl Abort, bench: Bench, frame: u32) -> Bench
+    requires stands { ∥ IsRoots (pairs_of bench.roots) bench.ram ∥₁ }
+    requires owns { Owns bench.pool bench.ram (frames_of (pairs_of bench.roots) bench.ram) }
+    ensures stands { ∥ IsRoots (pairs_of result.roots) result.ram ∥₁ }
+    ensures owns { Owns result.pool result.ram (frames_of (pairs_of result.roots) result.ram) }
+{
+    let Bench {
+        mut ram,
+        pool,
+        mut roots,
+    } = bench;
+    assert!(rt; frame < 16384);
+    roots.note(&mut ram, frame);
+    Bench { ram, pool, roots }
+}
+
+fn written(bench: Bench, frame: u32) -> Bench
+    requires stands { ∥ IsRoots (pairs_of bench.roots) bench.ram ∥₁ }
+    requires owns { Owns bench.pool bench.ram (frames_of (pairs_of bench.roots) bench.ram) }
+    ensures stands { ∥ IsRoots (pairs_of result.roots) result.ram ∥₁ }
+    ensures owns { Owns result.pool result.ram (frames_of (pairs_of result.roots) result.ram) }
+{
+    let Bench {
+        mut ram,
+        mut pool,
+        mut roots,
+    } = bench;
+    roots.written(&mut ram, &mut pool, frame);
+    Bench { ram, pool, roots }
+}
+
+/// What is kept for the page, and whether it may be written.
+fn seen(bench: &Bench) -> (Option<Entry>, bool)
+    requires { ∥ IsRoots (pairs_of bench.now.roots) bench.now.ram ∥₁ }
+{
+    (
+        bench.roots.kept(&bench.ram, 0x11000),
+        bench
+            .roots
+            .adequate(&bench.ram, Side::Kernel, 0x11000, true),
+    )
 }
 
 // An entry comes back with its value of CR3, unless a frame that its tables were read from was written.
 #[test]
 fn brings_entries_back_until_a_table_is_written(rt: HostRuntime) {
-    let mut ram = Ram::new(rt.alloc(), 128).expect(&rt, "memory");
-    assert_eq!(rt; ram.len(), 524288);
-    let mut pool = Pool::new(&mut ram, 64, 64);
-    assert_eq!(rt; pool.free(), 64);
-    let mut roots = Roots::new(rt.alloc(), &mut ram, &mut pool, 0x1000).expect(&rt, "memory");
-    assert!(rt; pool.free() >= 1);
-    roots.fill(&mut ram, &mut pool, Side::Kernel, entry(0x20), true);
-    roots.note(&mut ram, 0x14);
-    assert!(rt; pool.free() >= 2);
-    roots.switch(&mut ram, &mut pool, 0x30000);
-    assert_eq!(rt; writable(&roots, &ram), false);
-    assert!(rt; pool.free() >= 2);
-    roots.switch(&mut ram, &mut pool, 0x1000);
-    assert_eq!(rt; writable(&roots, &ram), true);
-    roots.written(&mut ram, &mut pool, 0x14);
-    assert_eq!(rt; writable(&roots, &ram), true);
-    assert!(rt; pool.free() >= 2);
-    roots.switch(&mut ram, &mut pool, 0x30000);
-    assert!(rt; pool.free() >= 2);
-    roots.switch(&mut ram, &mut pool, 0x1000);
-    assert_eq!(rt; writable(&roots, &ram), false);
-    roots.drop_all(&mut ram, &mut pool);
-    assert_eq!(rt; pool.free(), 62);
+    let bench = fill(&rt, begin(&rt, rt.alloc()), 0x20);
+    let bench = note(&rt, bench, 0x14);
+    let bench = go(&rt, bench, 0x30000);
+    assert!(rt; !seen(&bench).1);
+    let bench = go(&rt, bench, 0x1000);
+    assert!(rt; seen(&bench).1);
+    let bench = written(bench, 0x14);
+    assert!(rt; seen(&bench).1);
+    let bench = go(&rt, go(&rt, bench, 0x30000), 0x1000);
+    assert!(rt; !seen(&bench).1);
 }
 
 // A ninth value takes the place of the first.
 #[test]
 fn keeps_eight_values(rt: HostRuntime) {
-    let mut ram = Ram::new(rt.alloc(), 128).expect(&rt, "memory");
-    assert_eq!(rt; ram.len(), 524288);
-    let mut pool = Pool::new(&mut ram, 64, 64);
-    assert_eq!(rt; pool.free(), 64);
-    let mut roots = Roots::new(rt.alloc(), &mut ram, &mut pool, 0x1000).expect(&rt, "memory");
-    assert!(rt; pool.free() >= 1);
-    roots.fill(&mut ram, &mut pool, Side::Kernel, entry(0x20), true);
+    let mut bench = fill(&rt, begin(&rt, rt.alloc()), 0x20);
     for k in 0..8 {
-        assert!(rt; pool.free() >= 2);
-        roots.switch(&mut ram, &mut pool, 0x2000 + 0x1000 * k);
+        bench = go(&rt, bench, 0x2000 + 0x1000 * k);
     }
-    assert!(rt; pool.free() >= 2);
-    roots.switch(&mut ram, &mut pool, 0x1000);
-    assert_eq!(rt; roots.kept(&ram, 0x11000), None);
-    assert_eq!(rt; pool.free(), 48);
+    let bench = go(&rt, bench, 0x1000);
+    assert!(rt; seen(&bench).0.is_none());
+    assert_eq!(rt; bench.pool.free(), 48);
 }
 
 // No page of a frame that any pair reads as a table is writable.
 #[test]
 fn bars_writes_to_tables_of_all_pairs(rt: HostRuntime) {
-    let mut ram = Ram::new(rt.alloc(), 128).expect(&rt, "memory");
-    assert_eq!(rt; ram.len(), 524288);
-    let mut pool = Pool::new(&mut ram, 64, 64);
-    assert_eq!(rt; pool.free(), 64);
-    let mut roots = Roots::new(rt.alloc(), &mut ram, &mut pool, 0x1000).expect(&rt, "memory");
-    assert!(rt; pool.free() >= 1);
-    roots.fill(&mut ram, &mut pool, Side::Kernel, entry(0x14), true);
-    assert_eq!(rt; writable(&roots, &ram), true);
-    assert!(rt; pool.free() >= 2);
-    roots.switch(&mut ram, &mut pool, 0x30000);
-    roots.note(&mut ram, 0x14);
-    assert!(rt; pool.free() >= 1);
-    roots.fill(&mut ram, &mut pool, Side::Kernel, entry(0x14), true);
-    assert_eq!(rt; writable(&roots, &ram), false);
-    assert_eq!(rt; roots.kept(&ram, 0x11000), Some(entry(0x14)));
-    assert!(rt; pool.free() >= 2);
-    roots.switch(&mut ram, &mut pool, 0x1000);
-    assert_eq!(rt; writable(&roots, &ram), false);
-    assert_eq!(rt; roots.kept(&ram, 0x11000), Some(entry(0x14)));
-    roots.written(&mut ram, &mut pool, 0x14);
-    assert!(rt; pool.free() >= 1);
-    roots.fill(&mut ram, &mut pool, Side::Kernel, entry(0x14), true);
-    assert_eq!(rt; writable(&roots, &ram), true);
+    let bench = fill(&rt, begin(&rt, rt.alloc()), 0x14);
+    assert!(rt; seen(&bench).1);
+    let bench = note(&rt, go(&rt, bench, 0x30000), 0x14);
+    let bench = fill(&rt, bench, 0x14);
+    assert_eq!(rt; seen(&bench).0, Some(entry(0x14)));
+    assert!(rt; !seen(&bench).1);
+    let bench = go(&rt, bench, 0x1000);
+    assert_eq!(rt; seen(&bench).0, Some(entry(0x14)));
+    assert!(rt; !seen(&bench).1);
+    let bench = fill(&rt, written(bench, 0x14), 0x14);
+    assert!(rt; seen(&bench).1);
 }

@@ -1,7 +1,8 @@
-use Rattle.std.proofs.Common.{◌≡◌, ℕ, List, [], sym, ap, ◌∙◌, subst}
+use Rattle.std.proofs.Common.{◌≡◌, ℕ, List, [], ◌∷◌, sym, ap, ◌∙◌, subst}
 use Rattle.std.proofs.lemmas.Grind.{merely}
 use Rattle.frame_pool.specs.Held.{Owns, Moves}
 use Rattle.shadow_cache.specs.Pairs.{frames_of}
+use Rattle.shadow_cache.specs.declared.pair.Pair.{Pair}
 use Rattle.shadow_cache.proofs.Noting.{alone-frames, fresh-roots}
 use Rattle.shadow_cache.proofs.roots.Roots.new.Goals as goal
 
@@ -14,3 +15,12 @@ returns-clause-owns c = subst (Owns c.new-present.new.pool c.new-present.new.ram
 pub returns-clause-moves : goal.returns-clause-moves
 returns-clause-moves c =
     subst (Moves c.args.pool.now c.new-present.new.pool c.args.ram.now c.new-present.new.ram []) (sym (alone-frames c.new-present.result c.in_ok-others.others c.new-present.new.ram c.in_ok-others.ensures)) c.new-present.ensures.moves
+
+pub returns-clause-starts : goal.returns-clause-starts
+returns-clause-starts c =
+    let e = c.new-present.ensures in
+    record {
+      pair = c.new-present.result;
+      alone = ap (λ (ps : List Pair). c.new-present.result ∷ ps) c.in_ok-others.ensures;
+      fresh = record { value = e.cr3; empty = e.empty; tables = e.tables; unmarked = e.marked };
+    }

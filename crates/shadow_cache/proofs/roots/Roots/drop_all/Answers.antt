@@ -1,0 +1,58 @@
+use Rattle.std.proofs.Common.{◌≡◌, ℕ, List, ◌∷◌, Option, Some, None, refl, sym, ap, ◌∙◌, subst, arith}
+use Rattle.std.proofs.lemmas.Grind.{merely}
+use Rattle.shadow_tables.specs.Slots.{root_of, slot_at}
+use Rattle.shadow_tables.specs.Laws as below
+use Rattle.std.proofs.Common.{false}
+use Rattle.shadow_cache.specs.Pairs.{no_tables}
+use Rattle.shadow_cache.specs.declared.pair.Pair.{Pair}
+use Rattle.shadow_cache.specs.Roots.{pairs_of}
+use Rattle.shadow_cache.specs.Laws.{had}
+use Rattle.shadow_cache.proofs.Beside.{others-owns, tables-part}
+use Rattle.shadow_cache.proofs.Calls.{alone-shadow, alone-owns, dropped-roots, dropped-moves, dropped-owns, dropped-two, dropped-tracked, spoilt-same, spoilt-fewer, spoilt-roots, spoilt-slots, spoilt-untracked, spoilt-moves, spoilt-owns}
+use Rattle.shadow_cache.proofs.roots.Roots.drop_all.Goals as goal
+
+pub leave_all-requires-clause-shadows : goal.leave_all-requires-clause-shadows
+leave_all-requires-clause-shadows c = (had (pairs_of c.args.self.now) c.args.ram.now c.requires.stands).shadows.1
+
+pub leave_all-requires-clause-owns : goal.leave_all-requires-clause-owns
+leave_all-requires-clause-owns c =
+    let r = c.args.self.now in let m = c.args.ram.now in let h = had (pairs_of r) m c.requires.stands in
+    others-owns c.args.pool.now c.args.pool.now r.present r.others r.others m m h c.requires.owns
+
+pub drop_all-requires-clause-shadow : goal.drop_all-requires-clause-shadow
+drop_all-requires-clause-shadow c =
+    let r = c.args.self.now in let m = c.args.ram.now in let h = had (pairs_of r) m c.requires.stands in
+    alone-shadow c.args.pool.now c.leave_all.new.pool c.leave_all.new.pool r.present r.others c.leave_all.new.pairs m c.leave_all.new.ram c.leave_all.new.ram h c.requires.owns c.leave_all.ensures.none c.leave_all.ensures.moves
+
+pub drop_all-requires-clause-owns : goal.drop_all-requires-clause-owns
+drop_all-requires-clause-owns c =
+    let r = c.args.self.now in let m = c.args.ram.now in let h = had (pairs_of r) m c.requires.stands in
+    alone-owns c.args.pool.now c.leave_all.new.pool c.leave_all.new.pool r.present r.others c.leave_all.new.pairs m c.leave_all.new.ram c.leave_all.new.ram h c.requires.owns c.leave_all.ensures.none c.leave_all.ensures.moves
+
+pub returns-clause-stands : goal.returns-clause-stands
+returns-clause-stands c =
+    let r = c.args.self.now in let m = c.args.ram.now in let h = had (pairs_of r) m c.requires.stands in
+    merely (dropped-roots c.args.pool.now c.leave_all.new.pool c.drop_all.new.pool r.present r.others c.leave_all.new.pairs m c.leave_all.new.ram c.drop_all.new.ram h c.requires.owns c.leave_all.ensures.none c.leave_all.ensures.moves c.drop_all.ensures.empty c.drop_all.ensures.moves c.emptied-self.result c.emptied-self.ensures)
+
+pub returns-clause-tracked : goal.returns-clause-tracked
+returns-clause-tracked c =
+    let r = c.args.self.now in let m = c.args.ram.now in let h = had (pairs_of r) m c.requires.stands in
+    dropped-tracked c.args.pool.now c.leave_all.new.pool c.drop_all.new.pool r.present r.others c.leave_all.new.pairs m c.leave_all.new.ram c.drop_all.new.ram h c.requires.owns c.leave_all.ensures.none c.leave_all.ensures.moves c.drop_all.ensures.empty c.drop_all.ensures.moves c.emptied-self.result c.emptied-self.ensures
+
+pub returns-clause-two : goal.returns-clause-two
+returns-clause-two c =
+    let r = c.args.self.now in let m = c.args.ram.now in let h = had (pairs_of r) m c.requires.stands in
+    dropped-two c.args.pool.now c.leave_all.new.pool c.drop_all.new.pool r.present r.others c.leave_all.new.pairs m c.leave_all.new.ram c.drop_all.new.ram h c.requires.owns c.leave_all.ensures.none c.leave_all.ensures.moves c.drop_all.ensures.empty c.drop_all.ensures.moves c.emptied-self.result c.emptied-self.ensures
+
+pub returns-clause-owns : goal.returns-clause-owns
+returns-clause-owns c =
+    let r = c.args.self.now in let m = c.args.ram.now in let h = had (pairs_of r) m c.requires.stands in
+    dropped-owns c.args.pool.now c.leave_all.new.pool c.drop_all.new.pool r.present r.others c.leave_all.new.pairs m c.leave_all.new.ram c.drop_all.new.ram h c.requires.owns c.leave_all.ensures.none c.leave_all.ensures.moves c.drop_all.ensures.empty c.drop_all.ensures.moves c.emptied-self.result c.emptied-self.ensures
+
+pub returns-clause-moves : goal.returns-clause-moves
+returns-clause-moves c =
+    let r = c.args.self.now in let m = c.args.ram.now in let h = had (pairs_of r) m c.requires.stands in
+    dropped-moves c.args.pool.now c.leave_all.new.pool c.drop_all.new.pool r.present r.others c.leave_all.new.pairs m c.leave_all.new.ram c.drop_all.new.ram h c.requires.owns c.leave_all.ensures.none c.leave_all.ensures.moves c.drop_all.ensures.empty c.drop_all.ensures.moves c.emptied-self.result c.emptied-self.ensures
+
+pub returns-clause-pairs : goal.returns-clause-pairs
+returns-clause-pairs c = ap (λ (x : Pair). x ∷ c.leave_all.new.pairs) c.emptied-self.ensures ∙ ap (λ (xs : List Pair). record c.args.self.now.present { tables = no_tables; marked = false } ∷ xs) c.leave_all.ensures.none

@@ -1,0 +1,46 @@
+use Rattle.std.proofs.Common.{◌≡◌, ℕ, List, ◌∷◌, Option, Some, None, refl, sym, ap, ◌∙◌, subst, arith}
+use Rattle.std.proofs.lemmas.Grind.{merely}
+use Rattle.frame_pool.specs.Held.{Owns, Writes, Moves}
+use Rattle.shadow_tables.specs.Slots.{filled, held, slot_at, IsShadow}
+use Rattle.shadow_cache.specs.Pairs.{any_reads, frames_of, IsRoots}
+use Rattle.shadow_cache.specs.Roots.{pairs_of}
+use Rattle.shadow_cache.specs.Laws.{had, tables-any}
+use Rattle.shadow_cache.proofs.Present.{bars-dropped, bars-lost, bars-filled, write-roots, write-frames, write-memory, write-moves, present-owns, move-roots, move-moves, move-owns, write-kept, move-kept}
+use Rattle.shadow_cache.proofs.roots.Roots.fill.Goals as goal
+
+pub hold-requires-clause-shadow : goal.hold-requires-clause-shadow
+hold-requires-clause-shadow c = (had (pairs_of c.args.self.now) c.args.ram.now c.requires.stands).shadows.0
+
+pub hold-requires-clause-owns : goal.hold-requires-clause-owns
+hold-requires-clause-owns c =
+    let r = c.args.self.now in
+    present-owns c.args.pool.now c.args.pool.now r.present r.others c.args.ram.now c.args.ram.now (had (pairs_of r) c.args.ram.now c.requires.stands) c.requires.owns
+
+pub returns-clause-stands : goal.returns-clause-stands
+returns-clause-stands c =
+    let r = c.args.self.now in let m = c.args.ram.now in let n = c.hold.new.ram in let h = had (pairs_of r) m c.requires.stands in let e = c.hold.ensures in
+    merely (move-roots c.args.pool.now c.hold.new.pool r.present r.others m n h c.requires.owns e.becomes.shadow e.moves
+    (bars-filled (any_reads (pairs_of r)) (slot_at r.present.shadow m) (slot_at r.present.shadow n) c.tracks-barred.result c.args.side c.args.entry c.args.wp c.tracks-barred.ensures h.barred.0 e.becomes.there e.becomes.others))
+
+pub returns-clause-turns : goal.returns-clause-turns
+returns-clause-turns c =
+    let r = c.args.self.now in let e = c.hold.ensures.becomes in
+    record {
+      there = e.there ∙ ap (λ b. Some (filled b c.args.side c.args.entry c.args.wp)) (c.tracks-barred.ensures ∙ sym (tables-any (pairs_of r) c.args.entry.frame));
+      others = e.others;
+    }
+
+pub returns-clause-owns : goal.returns-clause-owns
+returns-clause-owns c =
+    let r = c.args.self.now in let m = c.args.ram.now in let n = c.hold.new.ram in let h = had (pairs_of r) m c.requires.stands in let e = c.hold.ensures in
+    move-owns c.args.pool.now c.hold.new.pool r.present r.others m n h c.requires.owns e.becomes.shadow e.moves
+
+pub returns-clause-moves : goal.returns-clause-moves
+returns-clause-moves c =
+    let r = c.args.self.now in let m = c.args.ram.now in let n = c.hold.new.ram in let h = had (pairs_of r) m c.requires.stands in let e = c.hold.ensures in
+    move-moves c.args.pool.now c.hold.new.pool r.present r.others m n h c.requires.owns e.becomes.shadow e.moves
+
+pub returns-clause-others : goal.returns-clause-others
+returns-clause-others c =
+    let r = c.args.self.now in let m = c.args.ram.now in let n = c.hold.new.ram in let h = had (pairs_of r) m c.requires.stands in let e = c.hold.ensures in
+    move-kept c.args.pool.now c.hold.new.pool r.present r.others m n h c.requires.owns e.becomes.shadow e.moves

@@ -1,0 +1,67 @@
+use Rattle.std.proofs.Common.{◌≡◌, ℕ, List, ◌∷◌, Option, Some, None, refl, sym, ap, ◌∙◌, subst, arith}
+use Rattle.std.proofs.lemmas.Grind.{merely}
+use Rattle.shadow_tables.specs.Slots.{root_of, slot_at}
+use Rattle.shadow_tables.specs.Laws as below
+use Rattle.shadow_cache.specs.Roots.{pairs_of}
+use Rattle.shadow_cache.specs.Laws.{had}
+use Rattle.shadow_cache.proofs.Beside.{others-owns, tables-part}
+use Rattle.shadow_cache.proofs.Calls.{alone-shadow, alone-owns, dropped-roots, dropped-moves, dropped-owns, dropped-two, dropped-tracked, spoilt-same, spoilt-fewer, spoilt-roots, spoilt-slots, spoilt-untracked, spoilt-moves, spoilt-owns, spoilt-kept}
+use Rattle.shadow_cache.specs.After.{marked_by}
+use Rattle.shadow_cache.specs.declared.pair.Pair.{Pair}
+use Rattle.shadow_cache.proofs.roots.Roots.written.Goals as goal
+
+pub leave_readers-requires-clause-shadows : goal.leave_readers-requires-clause-shadows
+leave_readers-requires-clause-shadows c = (had (pairs_of c.args.self.now) c.args.ram.now c.requires.stands).shadows.1
+
+pub leave_readers-requires-clause-owns : goal.leave_readers-requires-clause-owns
+leave_readers-requires-clause-owns c =
+    let r = c.args.self.now in let m = c.args.ram.now in let h = had (pairs_of r) m c.requires.stands in
+    others-owns c.args.pool.now c.args.pool.now r.present r.others r.others m m h c.requires.owns
+
+pub returns-clause-stands : goal.returns-clause-stands
+returns-clause-stands c =
+    let r = c.args.self.now in let m = c.args.ram.now in let h = had (pairs_of r) m c.requires.stands in
+    merely (spoilt-roots c.args.pool.now c.leave_readers.new.pool r.present c.written-self.result r.others c.leave_readers.new.pairs m c.leave_readers.new.ram c.args.frame h c.requires.owns c.leave_readers.ensures.rest c.leave_readers.ensures.kept c.leave_readers.ensures.moves c.written-self.ensures)
+
+pub returns-clause-slots : goal.returns-clause-slots
+returns-clause-slots c =
+    let r = c.args.self.now in let m = c.args.ram.now in let h = had (pairs_of r) m c.requires.stands in
+    spoilt-slots c.args.pool.now c.leave_readers.new.pool r.present c.written-self.result r.others c.leave_readers.new.pairs m c.leave_readers.new.ram c.args.frame h c.requires.owns c.leave_readers.ensures.rest c.leave_readers.ensures.kept c.leave_readers.ensures.moves c.written-self.ensures
+
+pub returns-clause-entries : goal.returns-clause-entries
+returns-clause-entries c =
+    let r = c.args.self.now in let m = c.args.ram.now in let h = had (pairs_of r) m c.requires.stands in
+    below.same-entries (slot_at r.present.shadow m) (slot_at c.written-self.result.shadow c.leave_readers.new.ram) (spoilt-slots c.args.pool.now c.leave_readers.new.pool r.present c.written-self.result r.others c.leave_readers.new.pairs m c.leave_readers.new.ram c.args.frame h c.requires.owns c.leave_readers.ensures.rest c.leave_readers.ensures.kept c.leave_readers.ensures.moves c.written-self.ensures)
+
+pub returns-clause-tracked : goal.returns-clause-tracked
+returns-clause-tracked c =
+    let r = c.args.self.now in let m = c.args.ram.now in let h = had (pairs_of r) m c.requires.stands in
+    tables-part (pairs_of r) (c.written-self.result ∷ c.leave_readers.new.pairs) (spoilt-fewer c.args.pool.now c.leave_readers.new.pool r.present c.written-self.result r.others c.leave_readers.new.pairs m c.leave_readers.new.ram c.args.frame h c.requires.owns c.leave_readers.ensures.rest c.leave_readers.ensures.kept c.leave_readers.ensures.moves c.written-self.ensures)
+
+pub returns-clause-untracked : goal.returns-clause-untracked
+returns-clause-untracked c =
+    let r = c.args.self.now in let m = c.args.ram.now in let h = had (pairs_of r) m c.requires.stands in
+    spoilt-untracked c.args.pool.now c.leave_readers.new.pool r.present c.written-self.result r.others c.leave_readers.new.pairs m c.leave_readers.new.ram c.args.frame h c.requires.owns c.leave_readers.ensures.rest c.leave_readers.ensures.kept c.leave_readers.ensures.moves c.written-self.ensures
+
+pub returns-clause-roots : goal.returns-clause-roots
+returns-clause-roots c =
+    let r = c.args.self.now in let m = c.args.ram.now in let h = had (pairs_of r) m c.requires.stands in
+    λ side. ap (λ s. root_of s side) (spoilt-same c.args.pool.now c.leave_readers.new.pool r.present c.written-self.result r.others c.leave_readers.new.pairs m c.leave_readers.new.ram c.args.frame h c.requires.owns c.leave_readers.ensures.rest c.leave_readers.ensures.kept c.leave_readers.ensures.moves c.written-self.ensures)
+
+pub returns-clause-owns : goal.returns-clause-owns
+returns-clause-owns c =
+    let r = c.args.self.now in let m = c.args.ram.now in let h = had (pairs_of r) m c.requires.stands in
+    spoilt-owns c.args.pool.now c.leave_readers.new.pool r.present c.written-self.result r.others c.leave_readers.new.pairs m c.leave_readers.new.ram c.args.frame h c.requires.owns c.leave_readers.ensures.rest c.leave_readers.ensures.kept c.leave_readers.ensures.moves c.written-self.ensures
+
+pub returns-clause-moves : goal.returns-clause-moves
+returns-clause-moves c =
+    let r = c.args.self.now in let m = c.args.ram.now in let h = had (pairs_of r) m c.requires.stands in
+    spoilt-moves c.args.pool.now c.leave_readers.new.pool r.present c.written-self.result r.others c.leave_readers.new.pairs m c.leave_readers.new.ram c.args.frame h c.requires.owns c.leave_readers.ensures.rest c.leave_readers.ensures.kept c.leave_readers.ensures.moves c.written-self.ensures
+
+pub returns-clause-pairs : goal.returns-clause-pairs
+returns-clause-pairs c = ap (λ (x : Pair). x ∷ c.leave_readers.new.pairs) c.written-self.ensures ∙ ap (λ (xs : List Pair). marked_by c.args.self.now.present c.args.frame ∷ xs) c.leave_readers.ensures.rest
+
+pub returns-clause-kept : goal.returns-clause-kept
+returns-clause-kept c =
+    let r = c.args.self.now in let m = c.args.ram.now in let h = had (pairs_of r) m c.requires.stands in
+    spoilt-kept c.args.pool.now c.leave_readers.new.pool r.present c.written-self.result r.others c.leave_readers.new.pairs m c.leave_readers.new.ram c.args.frame h c.requires.owns c.leave_readers.ensures.rest c.leave_readers.ensures.kept c.leave_readers.ensures.moves c.written-self.ensures
