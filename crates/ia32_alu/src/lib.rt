@@ -18,6 +18,3 @@ pub use products::multiply;
 pub use quotients::divide;
 pub use shifts::shift;
 pub use status::Status;
-
-#[cfg(test)]
-mod tests;

@@ -12,6 +12,3 @@ mod numbers;
 pub use answer::{Decoded, decode};
 pub use laws::{answers, reads_back};
 pub use named::refused;
-
-#[cfg(test)]
-mod tests;

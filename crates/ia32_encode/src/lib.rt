@@ -10,6 +10,3 @@ mod text;
 pub use bytes::ArrayBytes;
 pub use choose::{NoForm, Wide, encode};
 pub use laws::choices;
-
-#[cfg(test)]
-mod tests;

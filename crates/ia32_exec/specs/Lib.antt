@@ -9,7 +9,6 @@ pub mod Control
 pub mod Strings
 pub mod Effect
 pub mod Commit
-pub mod Flat
 pub mod Order
 pub mod Turns
 pub mod Transfers

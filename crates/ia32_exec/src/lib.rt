@@ -35,6 +35,3 @@ pub use registers::{address_of, with_register};
 pub use selectors::Selectors;
 pub use stack::{is_foreign, taken};
 pub use users::user_effect;
-
-#[cfg(test)]
-mod tests;

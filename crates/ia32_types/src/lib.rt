@@ -18,6 +18,3 @@ pub use same::same_insn;
 pub use site::{Refused, SiteKind, sensitive};
 pub use size::Size;
 pub use stop::{Did, Stop};
-
-#[cfg(test)]
-mod tests;

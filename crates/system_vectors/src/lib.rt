@@ -2,6 +2,10 @@
 //! Intel SDM and the profile's tables give.
 #![tactic(auto)]
 
+mod handler;
+
+pub use handler::resumed;
+
 #[cfg(test)]
 mod control;
 #[cfg(test)]

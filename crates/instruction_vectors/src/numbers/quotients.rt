@@ -1,4 +1,4 @@
-use crate::divide;
+use ia32_alu::divide;
 use ia32_types::Size;
 
 /// Signed or not, size, the halves of the dividend and the divisor; the quotient and the remainder,

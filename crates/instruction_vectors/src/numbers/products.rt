@@ -1,4 +1,4 @@
-use crate::multiply;
+use ia32_alu::multiply;
 use ia32_types::{Flags, Size};
 
 /// Signed or not, size, factors and flags; the product with twice the bits and the flags after it.

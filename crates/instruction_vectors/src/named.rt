@@ -1,4 +1,4 @@
-use super::*;
+use ia32_types::{Insn, Op, Operand, Reg, SiteKind, Size, Stop, sensitive};
 
 /// The kinds of sites, with their numbers, and the instructions that make them.
 const SITES: [(u8, SiteKind, Op); 22] = [

@@ -1,5 +1,6 @@
-use super::{NARROW, Wide, has_no_form};
+use super::{NARROW, has_no_form};
 use ia32_decode::{Decoded, decode};
+use ia32_encode::Wide;
 use ia32_types::{Address, Insn, Op, Operand, Reg, Seg, Size};
 
 const ABSENT: Operand = Operand::Absent;

@@ -10,7 +10,7 @@ mod stack;
 mod steps;
 mod strings;
 
-use super::{Effect, LinearMem, Range, exec, ranges};
+use ia32_exec::{Effect, LinearMem, Range, exec, ranges};
 use ia32_types::{Address, Flags, Insn, Op, Operand, Reg, Regs, Size};
 use std::process::Abort;
 
@@ -25,7 +25,7 @@ struct Flat {
 impl LinearMem for Flat {
     ghost use Rattle.std.specs.Prelude.{◌≡◌, ◌<◌, ◌≤◌, ◌-◌, ◌^◌, refl, slice_index};
     ghost use Rattle.std.proofs.Common.{arith};
-    ghost use Rattle.ia32_exec.specs.Flat.{put_all, put_all-joined};
+    ghost use Rattle.instruction_vectors.specs.Flat.{put_all, put_all-joined};
 
     ghost byte = { λ m at. slice_index m.bytes (at - 65536) };
 

@@ -1,5 +1,4 @@
-use super::super::refused;
-use super::{Decoded, decode};
+use ia32_decode::{Decoded, decode, refused};
 use ia32_types::Refused;
 
 /// Bytes that begin no instruction of the table, and the answer.

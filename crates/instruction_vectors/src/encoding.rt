@@ -1,5 +1,5 @@
-use super::{ArrayBytes, NoForm, Wide, encode};
 use ia32_decode::{Decoded, decode};
+use ia32_encode::{ArrayBytes, NoForm, Wide, encode};
 use ia32_types::Insn;
 
 mod kept;

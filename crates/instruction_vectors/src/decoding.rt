@@ -1,4 +1,4 @@
-use super::{Decoded, decode};
+use ia32_decode::{Decoded, decode};
 use ia32_types::{Insn, same_insn};
 
 mod arithmetic;

@@ -1,4 +1,5 @@
-use super::{Placed, Wide, are_placed, placed};
+use super::{Placed, are_placed, placed};
+use ia32_encode::Wide;
 
 /// Fields that name a symbol: the bytes and the places of the relocations that GNU as writes. Which fields are
 /// wide: displacement, immediate; then their places.

@@ -1,5 +1,5 @@
-use super::{BASE, Effect, Flat, PLAIN, START, step, word_of};
-use crate::ranges;
+use super::{BASE, Flat, PLAIN, START, step, word_of};
+use ia32_exec::{Effect, ranges};
 use ia32_types::{Address, Insn, Op, Operand, Reg, Size};
 
 #[test]

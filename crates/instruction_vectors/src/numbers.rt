@@ -9,7 +9,7 @@ mod shifts;
 mod single;
 mod sums;
 
-use crate::{alu, divide, shift};
+use ia32_alu::{alu, divide, shift};
 use ia32_types::{Flags, Op, Size};
 
 /// Instruction, size, operands and flags; the result and the flags after it.

@@ -1,0 +1,5 @@
+mod FlagsBack
+mod Segments
+mod Results
+mod Leads
+mod HandlerReturns
