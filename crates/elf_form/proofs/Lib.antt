@@ -10,7 +10,6 @@ pub mod StringLaws
 pub mod SymbolNames
 pub mod ObjectSizes
 pub mod ObjectBounds
-pub mod SmallFiles
 pub mod ObjectWords
 pub mod EntryLists
 pub mod NamePlaces

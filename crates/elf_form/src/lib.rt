@@ -21,8 +21,6 @@ mod segments;
 mod strings;
 mod symbol_walks;
 mod symbols;
-#[cfg(test)]
-mod tests;
 mod words;
 
 pub use cause::{ElfCause, ElfFault};

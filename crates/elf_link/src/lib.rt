@@ -11,8 +11,6 @@ mod linkable;
 mod linking;
 mod relocations;
 mod target;
-#[cfg(test)]
-mod tests;
 mod totals;
 
 pub use fault::{LinkCause, LinkFault};

@@ -11,8 +11,6 @@ mod placing;
 mod site;
 mod sweeping;
 mod target;
-#[cfg(test)]
-mod tests;
 
 pub use checked::Checked;
 pub use checking::check;

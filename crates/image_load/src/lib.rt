@@ -3,8 +3,6 @@
 
 mod boot;
 mod fault;
-#[cfg(test)]
-mod tests;
 
 ghost use Rattle.std.specs.Prelude.{◌≡◌, ◌+◌, ◌*◌, ◌<◌, ◌≤◌, ◌^◌, length, replicate, take, drop, OnOk, IfOk, IfErr};
 ghost use Rattle.guest_ram.specs.Bytes.{with_part};

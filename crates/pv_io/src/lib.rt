@@ -17,5 +17,3 @@ pub use sink::Sink;
 
 #[cfg(test)]
 mod stream_tests;
-#[cfg(test)]
-mod tests;

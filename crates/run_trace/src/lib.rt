@@ -10,6 +10,3 @@ pub use items::{End, Ended, Item, What};
 pub use lines::{put_end, put_item};
 pub use notes::{NoNotes, Notes};
 pub use step_items::{StepItems, put_step};
-
-#[cfg(test)]
-mod tests;

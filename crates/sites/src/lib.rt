@@ -7,8 +7,6 @@ mod limits;
 mod patching;
 mod reading;
 mod site;
-#[cfg(test)]
-mod tests;
 mod words;
 mod writing;
 

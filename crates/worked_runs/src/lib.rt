@@ -4,11 +4,17 @@
 #[cfg(test)]
 mod built;
 #[cfg(test)]
+mod damaged;
+#[cfg(test)]
 mod events;
+#[cfg(test)]
+mod faults;
 #[cfg(test)]
 mod formats;
 #[cfg(test)]
 mod forms;
+#[cfg(test)]
+mod hostile;
 #[cfg(test)]
 mod kernel;
 #[cfg(test)]
@@ -17,7 +23,5 @@ mod plain;
 mod refused;
 #[cfg(test)]
 mod slices;
-#[cfg(test)]
-mod stops;
 #[cfg(test)]
 mod user;

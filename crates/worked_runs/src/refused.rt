@@ -94,35 +94,3 @@ fn images_are_refused_by_their_place(rt: HostRuntime) -> Result<(), Fail> {
     }
     Ok(())
 }
-
-#[test]
-fn cut_files_are_refused_by_the_part_that_is_cut(rt: HostRuntime) -> Result<(), Fail> {
-    let alloc = rt.alloc();
-    let mut files = MemFiles::new(alloc, Vec::new(alloc))?;
-    files.store(
-        "S",
-        b"_start: movl $0x3f8,%edx; movb $0x48,%al; outb %al,%dx; hlt",
-    )?;
-    answer(alloc, &mut files, &["burn", "S", "O"])?;
-    answer(alloc, &mut files, &["link", "I", "O"])?;
-    // the object's section table begins at 212 and ends the file
-    let mut object = Vec::new(alloc);
-    files.load(alloc, "O", &mut object)?;
-    let cut = object.as_slice().get(..611).ok_or("short")?;
-    files.store("C", cut)?;
-    let (status, out) = answer(alloc, &mut files, &["link", "J", "C"])?;
-    assert_eq!(rt; out.bytes(), b"refused 40 object 0 at 212\n".as_slice());
-    assert_eq!(rt; status.number(), 3);
-    let mut image = Vec::new(alloc);
-    files.load(alloc, "I", &mut image)?;
-    for (len, line) in [
-        (51, b"refused 40 at 0\n".as_slice()),
-        (115, b"refused 40 at 52\n"),
-    ] {
-        let cut = image.as_slice().get(..len).ok_or("short")?;
-        files.store("C", cut)?;
-        let (_, out) = answer(alloc, &mut files, &["check", "C"])?;
-        assert_eq!(rt; out.bytes(), line);
-    }
-    Ok(())
-}

@@ -81,13 +81,7 @@ fn file(alloc: Global, source: &[u8]) -> Result<Vec<u8>, IoAnswer> {
 }
 
 // What a run of at most `n` steps prints that pauses after the first `first` steps, and then after each `each` of them.
-fn prints(
-    alloc: Global,
-    image: &Checked,
-    first: u64,
-    each: u64,
-    n: u64,
-) -> Result<MemSink, Fail> {
+fn prints(alloc: Global, image: &Checked, first: u64, each: u64, n: u64) -> Result<MemSink, Fail> {
     let script = read_script(alloc, b"")?;
     let mut out = MemSink::new(alloc, 4096, Vec::new(alloc))?;
     match Bare::start(alloc, image, 2048, Buffer::new()) {
@@ -122,7 +116,10 @@ fn slices_of_one_step_print_the_same(rt: HostRuntime) -> Result<(), Fail> {
     let alloc = rt.alloc();
     let image = check(alloc, &file(alloc, SENDS_A_BYTE)?)?;
     let out = prints(alloc, &image, 1, 1, 8)?;
-    assert_eq!(rt; out.bytes(), b"2 out8 03f8 48\n2 tx 48\nend steps 8\n".as_slice());
+    assert_eq!(rt;
+        out.bytes(),
+        b"2 out8 03f8 48\n2 tx 48\nend steps 8\n".as_slice()
+    );
     Ok(())
 }
 
@@ -131,7 +128,11 @@ fn a_pause_at_any_step_changes_nothing(rt: HostRuntime) -> Result<(), Fail> {
     let alloc = rt.alloc();
     let image = check(alloc, &file(alloc, IS_INTERRUPTED)?)?;
     let whole = prints(alloc, &image, 80, 80, 80)?;
-    assert!(rt; whole.bytes().ends_with(b"65 irq 20\n67 out32 0080 10000075\n76 out8 0080 55\nend steps 80\n"));
+    assert!(rt;
+        whole.bytes().ends_with(
+            b"65 irq 20\n67 out32 0080 10000075\n76 out8 0080 55\nend steps 80\n"
+        )
+    );
     for pause in 40..80u64 {
         let parts = prints(alloc, &image, pause, 80, 80)?;
         assert_eq!(rt; parts.bytes(), whole.bytes(), "a pause at {pause}");

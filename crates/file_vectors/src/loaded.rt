@@ -1,0 +1,100 @@
+//! Images in memory, and the state that a machine starts in.
+
+use guest_ram::Ram;
+use image_check::check;
+use image_load::{TooSmall, load};
+use std::alloc::{AllocError, Global};
+use std::test::Fail;
+
+fn put(out: &mut Vec<u8>, longs: &[u32]) -> Result<(), AllocError> {
+    for n in longs {
+        out.extend_from_slice(&n.to_le_bytes())?;
+    }
+    Ok(())
+}
+
+// An image whose text is EB FE, with so many zeroed bytes and no sites.
+fn file(alloc: Global, bss: u32) -> Result<Vec<u8>, AllocError> {
+    let mut out = Vec::new(alloc);
+    out.extend_from_slice(&[0x7F, 0x45, 0x4C, 0x46, 1, 1, 1, 0, 0, 0, 0, 0, 0, 0, 0, 0])?;
+    put(
+        &mut out,
+        &[
+            0x0003_0002,
+            1,
+            0x1000_0000,
+            52,
+            147,
+            0,
+            0x0020_0034,
+            0x0028_0002,
+            0x0002_0003,
+        ],
+    )?;
+    put(
+        &mut out,
+        &[1, 116, 0x1000_0000, 0x1000_0000, 2, 2, 5, 0x1000],
+    )?;
+    put(
+        &mut out,
+        &[1, 118, 0x1100_0000, 0x1100_0000, 0, bss, 6, 0x1000],
+    )?;
+    out.extend_from_slice(&[0xEB, 0xFE, 0x50, 0x56, 0x53, 0x31, 0, 0, 0, 0])?;
+    out.extend_from_slice(b"\0.pv_sites\0.shstrtab\0")?;
+    put(&mut out, &[0, 0, 0, 0, 0, 0, 0, 0, 0, 0])?;
+    put(&mut out, &[1, 1, 0, 0, 118, 8, 0, 0, 4, 0])?;
+    put(&mut out, &[11, 3, 0, 0, 126, 21, 0, 0, 0, 0])?;
+    Ok(out)
+}
+
+#[test]
+fn an_image_that_is_too_large_is_told(rt: HostRuntime) -> Result<(), Fail> {
+    let alloc = rt.alloc();
+    let image = check(alloc, &file(alloc, 8_388_608)?)?;
+    let mut ram = Ram::new(alloc, 2048)?;
+    match load(&image, &mut ram, 2048) {
+        Err(TooSmall { need, have }) => assert_eq!(rt; (need, have), (2305, 2048)),
+        Ok(_) => assert!(rt; false, "it fits"),
+    }
+    Ok(())
+}
+
+#[test]
+fn a_machine_starts_as_the_boot_state_says(rt: HostRuntime) -> Result<(), Fail> {
+    let alloc = rt.alloc();
+    let image = check(alloc, &file(alloc, 4)?)?;
+    let mut ram = Ram::new(alloc, 2048)?;
+    match load(&image, &mut ram, 2048) {
+        Ok(boot) => {
+            assert_eq!(rt;
+                (boot.text_at, boot.text_frames, boot.first_free),
+                (0x10_0000, 1, 0x10_2000)
+            );
+            assert_eq!(rt; boot.cpu.regs.eip, 0x1000_0000);
+            assert_eq!(rt;
+                boot.cpu.regs.r,
+                [0x80_0000, 0, 0, 0x10_2000, 0xC010_0000, 0, 0, 0]
+            );
+        }
+        Err(_) => assert!(rt; false, "it is too small"),
+    }
+    for (at, word) in [
+        (0x1100, 0x1_4003),
+        (0x1104, 0),
+        (0x1110, 0x1_8003),
+        (0x1C00, 0x4003),
+        (0x1C04, 0x5003),
+        (0x1C08, 0),
+        (0x2008, 0x0000_FFFF),
+        (0x200C, 0x00CF_9B00),
+        (0x1_4000, 0x10_0001),
+        (0x1_4004, 0),
+        (0x1_8000, 0x10_1003),
+        (0x5FFC, 0x7F_F003),
+        (0x10_0000, 0x0000_FEEB),
+    ] {
+        assert!(rt; at <= 0x7F_FFFC);
+        assert_eq!(rt; ram.read32(at), word, "at {at}");
+    }
+    Ok(())
+}

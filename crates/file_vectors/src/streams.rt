@@ -1,0 +1,66 @@
+//! Standard output over a writer that takes little, is interrupted and fails.
+
+use pv_io::{Sink, StdSink};
+use std::io::{self, Error, ErrorKind, Write};
+use std::test::Fail;
+
+/// Takes one byte a write, up to its room, and is interrupted before each of some.
+#[derive(Drop)]
+struct Narrow<'a> {
+    taken: &'a mut Vec<u8>,
+    room: u8,
+    interrupts: u8,
+    end: Option<ErrorKind>,
+}
+
+impl Write for Narrow<'_> {
+    fn write(&mut self, buf: &[u8]) -> io::Result<usize> {
+        if self.interrupts > 0 {
+            self.interrupts -= 1;
+            return Err(Error::from(ErrorKind::Interrupted));
+        }
+        if self.room == 0 {
+            return match self.end {
+                None => Ok(0),
+                Some(kind) => Err(Error::from(kind)),
+            };
+        }
+        match buf {
+            [] => Ok(0),
+            [byte, ..] => {
+                self.taken.push(*byte)?;
+                self.room -= 1;
+                Ok(1)
+            }
+        }
+    }
+
+    fn flush(&mut self) -> io::Result<()> {
+        Ok(())
+    }
+}
+
+#[test]
+fn a_piece_is_written_whole_or_is_a_fault(rt: HostRuntime) -> Result<(), Fail> {
+    for (room, end, written, faults) in [
+        (4, None, true, 0),
+        (2, None, false, 1),
+        (2, Some(ErrorKind::BrokenPipe), false, 1),
+        (0, None, false, 1),
+    ] {
+        let mut taken = Vec::new(rt.alloc());
+        let mut out = StdSink::new(Narrow {
+            taken: &mut taken,
+            room,
+            interrupts: 2,
+            end,
+        });
+        assert!(rt; out.put(b"").is_ok());
+        assert_eq!(rt; out.put(b"abcd").is_ok(), written);
+        assert_eq!(rt; out.faults, faults);
+        drop(out);
+        assert!(rt; b"abcd".starts_with(taken.as_slice()));
+        assert_eq!(rt; taken.len(), room as usize);
+    }
+    Ok(())
+}
