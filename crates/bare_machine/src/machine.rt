@@ -13,7 +13,7 @@ use descriptors::Cpu;
 use guest_ram::Ram;
 use ia32_types::Stop;
 use machine_step::{Rules, Seen};
-use step_mem::{Guard, Own};
+use step_mem::{Control, Guard, Own, State, Text};
 use xlate_buffer::Cache;
 
 /// The bare machine: processor, memory, cached translations, board, the count of steps, and how many frames the memory
@@ -28,9 +28,41 @@ pub struct Bare<C: Cache> {
     pub frames: u32,
 }
 
-/// One step, or the stop that it meets. After a stop the machine must not go on.
+/// The bare machine keeps no text from the guest.
+static NO_TEXT: Option<Text<'static>> = None;
+
+/// Nothing was read yet.
+const NO_BYTES: Own = Own {
+    front: 0,
+    front_len: 0,
+    back: 0,
+    back_len: 0,
+};
+
+/// A state whose place the first step's takes.
+pub fn first_state() -> State<'static> {
+    let control = Control {
+        frames: 0,
+        cr3: 0,
+        wp: false,
+    };
+    State::new(
+        control,
+        Guard {
+            text: &NO_TEXT,
+            own: NO_BYTES,
+        },
+    )
+}
+
+/// One step, or the stop that it meets. Its state takes the place of the step's before. After a stop the machine must
+/// not go on.
 #[tactic(auto, unfolding(machine_model::specs::Step::step_of))]
-pub fn step<C: Cache>(machine: &mut Bare<C>, script: &Script) -> Result<Seen, Stop>
+pub fn step<C: Cache>(
+    machine: &mut Bare<C>,
+    script: &Script,
+    state: &mut State<'static>,
+) -> Result<Seen, Stop>
     requires script { is_script script.now.list ≡ true }
     requires kept { IsKept machine.old.frames (state_of C.entries machine.old) }
     requires bound { machine.old.step < 2 ^ 40 }
@@ -43,16 +75,11 @@ pub fn step<C: Cache>(machine: &mut Bare<C>, script: &Script) -> Result<Seen, St
     let _len = machine.ram.len();
     machine.board.begin(script, machine.step);
     let guard = Guard {
-        text: &None,
-        own: Own {
-            front: 0,
-            front_len: 0,
-            back: 0,
-            back_len: 0,
-        },
+        text: &NO_TEXT,
+        own: NO_BYTES,
     };
     let rules = Rules { image: None };
-    let (result, state) = machine_step::step(
+    let result = machine_step::step_again(
         &rules,
         &machine.cpu,
         &mut machine.board,
@@ -60,6 +87,7 @@ pub fn step<C: Cache>(machine: &mut Bare<C>, script: &Script) -> Result<Seen, St
         &machine.kept,
         machine.frames,
         guard,
+        state,
     );
     match result {
         Ok(worked) => {

@@ -11,7 +11,7 @@ ghost use Rattle.bare_machine.specs.Machine.{bare, state_of, IsKept};
 ghost use Rattle.bare_machine.specs.Slices.{SliceAs, GoesOn};
 
 use crate::idle::rest;
-use crate::machine::{Bare, step};
+use crate::machine::{Bare, first_state, step};
 use board::Script;
 use image_load::Pause;
 use machine_step::Seen;
@@ -38,9 +38,10 @@ pub fn steps_to<C: Cache, O: Sink>(
     ensures later { O.faults out.old ≤ O.faults out.new }
     ensures cause { OnErr result (Rose (O.faults out.old) (O.faults out.new)) }
 {
+    let mut state = first_state();
     while machine.step < bound {
         let before = machine.step;
-        match step(machine, script) {
+        match step(machine, script, &mut state) {
             Err(stop) => return Ok(Pause::Stopped(stop)),
             Ok(seen) => match put_step(&items_of(before, seen), out) {
                 Ok(()) => {}

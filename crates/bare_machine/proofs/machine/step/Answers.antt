@@ -14,7 +14,7 @@ returns-in-Err-clause-step g c = λ image.
     let s = bare image c.args.script.now.list m.frames in
     let b = state_of g.C.Cache.entries m in
     subst (λ (d : Board). stepped s (record b { board = d }) ≡ Stands c.in-Err.stop) c.begin.ensures
-    (rw c.in-Err.is at (c.step-result.ensures.step s b (record { has = refl; over = tt })))
+    (rw c.in-Err.is at (c.step_again-result.ensures.step s b (record { has = refl; over = tt })))
 
 pub returns-in-Ok-clause-step : goal.returns-in-Ok-clause-step
 unfolding step_of
@@ -23,9 +23,9 @@ returns-in-Ok-clause-step g c = λ image.
     let s = bare image c.args.script.now.list m.frames in
     let b = state_of g.C.Cache.entries m in
     let w = c.in-Ok.worked in
-    let x = space_at (λ _. g.C.Cache.entries m.kept.cache) c.step-result.new.ram c.step-result.result.1 in
-    let same : x.ram ≡ c.step-result.new.ram = rw c.step-result.ensures.text refl in
-    let is = subst (λ (d : Board). stepped s (record b { board = d }) ≡ went_as b w c.step-result.new.board x) c.begin.ensures
-    (rw c.in-Ok.is at (c.step-result.ensures.step s b (record { has = refl; over = tt }))) in
+    let x = space_at (λ _. g.C.Cache.entries m.kept.cache) c.step_again-result.new.ram c.step_again-result.new.state in
+    let same : x.ram ≡ c.step_again-result.new.ram = rw c.step_again-result.ensures.text refl in
+    let is = subst (λ (d : Board). stepped s (record b { board = d }) ≡ went_as b w c.step_again-result.new.board x) c.begin.ensures
+    (rw c.in-Ok.is at (c.step_again-result.ensures.step s b (record { has = refl; over = tt }))) in
     subst (λ (r : steps.Result). Goes r m.step (whats w.seen) (g.C.Cache.is_exact m.kept.cache) (state_of g.C.Cache.entries c.go.new.machine)) (sym is)
     (c.go.ensures.goes (whats w.seen) (completed_by w.completed) (record x { set = dropping w.dropped x.set }) same refl)
