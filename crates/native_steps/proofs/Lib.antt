@@ -29,3 +29,4 @@ pub mod Tables
 pub mod Quiet
 pub mod Stretching
 pub mod Looks
+pub mod Marked
