@@ -28,3 +28,5 @@ pub mod Repeated
 pub mod Tables
 pub mod Quiet
 pub mod Stretching
+pub mod Looks
+pub mod Marked

@@ -149,7 +149,7 @@ one_marked x p v aligned room m = record {
       (byte_other x p v (a + 2) in_bounds (λ g. omega (arith, g, even, aligned)))
       (byte_other x p v (a + 3) in_bounds (λ g. omega (arith, g, even, aligned))))
 
-bytes_with : (x : List ℕ) (p v : ℕ) → p < length x → AreBytes x → v < 256 → AreBytes (with_byte x p v)
+pub bytes_with : (x : List ℕ) (p v : ℕ) → p < length x → AreBytes x → v < 256 → AreBytes (with_byte x p v)
 bytes_with x p v lt h small = λ k.
     elim (cases_eq k p) [
       | inl is ↦ let e : byte (with_byte x p v) k ≡ v = ap (byte (with_byte x p v)) is ∙ byte-with_byte x p v lt in unbyte (with_byte x p v) k (omega (arith, e, small))
@@ -310,13 +310,13 @@ walk_is ram frames cr3 page e d t h =
     ∙ ap (λ x. Found e x (word_place dir page)) h.dir_is
     ∙ ap (λ x. Found e d x) h.word_is
 
-has_1 : (w x : ℕ) → x % 32 ≡ w % 32 → has x 1 ≡ has w 1
+pub has_1 : (w x : ℕ) → x % 32 ≡ w % 32 → has x 1 ≡ has w 1
 has_1 w x e = ap (λ n. n == 1) (let g : x / 1 % 2 ≡ w / 1 % 2 = omega (arith, e) in g)
 
-has_2 : (w x : ℕ) → x % 32 ≡ w % 32 → has x 2 ≡ has w 2
+pub has_2 : (w x : ℕ) → x % 32 ≡ w % 32 → has x 2 ≡ has w 2
 has_2 w x e = ap (λ n. n == 1) (let g : x / 2 % 2 ≡ w / 2 % 2 = omega (arith, e) in g)
 
-has_4 : (w x : ℕ) → x % 32 ≡ w % 32 → has x 4 ≡ has w 4
+pub has_4 : (w x : ℕ) → x % 32 ≡ w % 32 → has x 4 ≡ has w 4
 has_4 w x e = ap (λ n. n == 1) (let g : x / 4 % 2 ≡ w / 4 % 2 = omega (arith, e) in g)
 
 -- the places of a walk's words

@@ -8,3 +8,4 @@ pub mod Behind
 pub mod Stretch
 pub mod TextLaws
 pub mod EffectLaws
+pub mod Looking
