@@ -160,8 +160,7 @@ module _ (pool pool1 : Pool) (p p' : Pair) (ps ps' : List Pair) (m m1 : List ℕ
 
   pub spoilt-kept : AreKept (p' ∷ ps') m m1
   spoilt-kept =
-      let same = sym spoilt-same in
-      (
+      let same = sym spoilt-same in (
         subst (λ s. IsShadow s m1) same (beside-shadow pool pool1 p ps ps' m m1 h o v),
         subst (λ s. held s m1 ≡ held s m) same (beside-held pool pool1 p ps ps' m m1 h o v),
         subst (λ s. SameSlots (slot_at s m) (slot_at s m1)) same (beside-slots pool pool1 p ps ps' m m1 h o v),

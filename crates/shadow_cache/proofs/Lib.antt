@@ -6,3 +6,4 @@ pub mod Beside
 pub mod Calls
 pub mod Noting
 pub mod Coming
+pub mod Noted

@@ -204,12 +204,15 @@ impl Roots {
 impl Shadows for Roots {
     ghost use Rattle.shadow_cache.specs.Roots.{pairs_of};
     ghost use Rattle.shadow_cache.specs.Laws as laws;
+    ghost use Rattle.shadow_cache.specs.Pairs.{reads};
 
     ghost stands = { λ r m. IsRoots (pairs_of r) m };
 
     ghost frames = { λ r m. frames_of (pairs_of r) m };
 
     ghost tracked = { λ r. tables_of (pairs_of r) };
+
+    ghost noted = { λ r f. reads r.present f };
 
     ghost slots = { λ r m page. slot_at r.present.shadow m page };
 

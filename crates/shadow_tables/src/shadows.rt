@@ -31,6 +31,10 @@ pub trait Shadows {
     /// The frames to which no access may write that they make adequate.
     ghost tracked: { Self → List ℕ };
 
+    /// The frames from which the guest's present tables were read, as far as it matters here: all, where no other
+    /// tables are kept than the present ones.
+    ghost noted: { Self → ℕ → Bool };
+
     /// What they keep for each page.
     ghost slots: { Self → List ℕ → ℕ → Option Slot };
 
@@ -62,6 +66,7 @@ pub trait Shadows {
         ensures stands { ∥ stands self.new ram.new ∥₁ }
         ensures turns { Turns (slots self.old ram.old) (slots self.new ram.new) page None }
         ensures entries { entries_of (slots self.new ram.new) ≡ remove (entries_of (slots self.old ram.old)) page }
+        ensures noted { (f : ℕ) → noted self.new f ≡ noted self.old f }
         ensures tracked { tracked self.new ≡ tracked self.old }
         ensures roots { (side : Side) → directory self.new side ≡ directory self.old side }
         ensures frames { frames self.new ram.new ≡ frames self.old ram.old }
@@ -75,6 +80,7 @@ pub trait Shadows {
         ensures stands { ∥ stands self.new ram.new ∥₁ }
         ensures loses { LosesDir (slots self.old ram.old) (slots self.new ram.new) index }
         ensures entries { entries_of (slots self.new ram.new) ≡ without_dir (entries_of (slots self.old ram.old)) index }
+        ensures noted { (f : ℕ) → noted self.new f ≡ noted self.old f }
         ensures tracked { tracked self.new ≡ tracked self.old }
         ensures roots { (side : Side) → directory self.new side ≡ directory self.old side }
         ensures frames { frames self.new ram.new ≡ frames self.old ram.old }
@@ -92,6 +98,7 @@ pub trait Shadows {
         ensures stands { ∥ stands self.new ram.new ∥₁ }
         ensures turns { Turns (slots self.old ram.old) (slots self.new ram.new) entry.page (Some (filled (is_among entry.frame (tracked self.old)) side entry wp)) }
         ensures entries { entries_of (slots self.new ram.new) ≡ insert (entries_of (slots self.old ram.old)) entry.page entry }
+        ensures noted { (f : ℕ) → noted self.new f ≡ noted self.old f }
         ensures tracked { tracked self.new ≡ tracked self.old }
         ensures roots { (side : Side) → directory self.new side ≡ directory self.old side }
         ensures one { length (free_list pool.old ram.old) ≤ length (free_list pool.new ram.new) + 1 }
@@ -119,6 +126,8 @@ pub trait Shadows {
         ensures stands { ∥ stands self.new ram.new ∥₁ }
         ensures slots { LosesWrites (slots self.old ram.old) (slots self.new ram.new) (tracked self.new) }
         ensures entries { entries_of (slots self.new ram.new) ≡ entries_of (slots self.old ram.old) }
+        ensures noted { noted self.new frame ≡ true }
+        ensures noted_before { (f : ℕ) → noted self.old f ≡ true → noted self.new f ≡ true }
         ensures tracked { ArePart (tracked self.new) (frame ∷ tracked self.old) }
         ensures roots { (side : Side) → directory self.new side ≡ directory self.old side }
         ensures frames { frames self.new ram.new ≡ frames self.old ram.old }
@@ -132,6 +141,7 @@ pub trait Shadows {
         ensures stands { ∥ stands self.new ram.new ∥₁ }
         ensures slots { SameSlots (slots self.old ram.old) (slots self.new ram.new) }
         ensures entries { entries_of (slots self.new ram.new) ≡ entries_of (slots self.old ram.old) }
+        ensures noted { (f : ℕ) → (f ≡ frame → ⊥) → noted self.new f ≡ noted self.old f }
         ensures tracked { ArePart (tracked self.new) (tracked self.old) }
         ensures untracked { is_among frame (tracked self.new) ≡ false }
         ensures roots { (side : Side) → directory self.new side ≡ directory self.old side }
@@ -183,6 +193,8 @@ impl Shadows for Shadow {
     ghost frames = { λ s m. held s m };
 
     ghost tracked = { λ s. [] };
+
+    ghost noted = { λ s f. true };
 
     ghost slots = { λ s m page. slot_at s m page };
 

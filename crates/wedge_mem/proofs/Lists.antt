@@ -80,3 +80,30 @@ untracked-more xs i old new l part here before x h =
           let e : x ≡ get_or xs i 0 = among-append x (take i xs) (get_or xs i 0) (sym (ap (is_among x) (rw add-one (take-suc xs i 0 l))) ∙ h) n in
           subst (λ y. is_among y new ≡ false) (sym e) here
     ]
+
+-- ---- frames that were noted
+
+not-both : (x : ℕ) (xs : List ℕ) (y : ℕ) → is_among x (xs ++ y ∷ []) ≡ false → (is_among x xs ≡ false) × (x ≡ y → ⊥)
+not-both x [] y e = (refl, λ s. elim (eqb_tells x y) [ inl t ↦ true-false (sym (ap (λ b. b || false) t.0) ∙ e) | inr n ↦ n.1 s ])
+not-both x (z ∷ xs) y e =
+    elim (eqb_tells x z) [
+      | inl t ↦ absurd (true-false (sym (ap (λ b. b || is_among x (xs ++ y ∷ [])) t.0) ∙ e))
+      | inr n ↦
+          let r = not-both x xs y (sym (ap (λ b. b || is_among x (xs ++ y ∷ [])) n.0) ∙ e) in
+          (ap (λ b. b || is_among x xs) n.0 ∙ r.0, r.1)
+    ]
+
+pub noted-less : (xs : List ℕ) (i : ℕ) (first old new : ℕ → Bool) → i < length xs → ((x : ℕ) → (x ≡ get_or xs i 0 → ⊥) → new x ≡ old x) → ((x : ℕ) → is_among x (take i xs) ≡ false → old x ≡ first x) → (x : ℕ) → is_among x (take (i + 1) xs) ≡ false → new x ≡ first x
+noted-less xs i first old new l here before x h =
+    let b = not-both x (take i xs) (get_or xs i 0) (sym (ap (is_among x) (rw add-one (take-suc xs i 0 l))) ∙ h) in
+    here x b.1 ∙ before x b.0
+
+pub noted-more : (xs : List ℕ) (i : ℕ) (old new : ℕ → Bool) → i < length xs → (get_or xs i 0 < 16384 → new (get_or xs i 0) ≡ true) → ((x : ℕ) → old x ≡ true → new x ≡ true) → ((x : ℕ) → is_among x (take i xs) ≡ true → x < 16384 → old x ≡ true) → (x : ℕ) → is_among x (take (i + 1) xs) ≡ true → x < 16384 → new x ≡ true
+noted-more xs i old new l here stays before x h low =
+    elim (bool_cases (is_among x (take i xs))) [
+      | inl t ↦ stays x (before x t low)
+      | inr n ↦
+          let e : x ≡ get_or xs i 0 = among-append x (take i xs) (get_or xs i 0) (sym (ap (is_among x) (rw add-one (take-suc xs i 0 l))) ∙ h) n in
+          let low' : get_or xs i 0 < 16384 = subst (λ y. y < 16384) e low in
+          subst (λ y. new y ≡ true) (sym e) (here low')
+    ]

@@ -35,6 +35,7 @@ fn fill_page<S: Shadows>(
     ensures stands { ∥ S.stands shadows.new ram.new ∥₁ }
     ensures turns { Turns (S.slots shadows.old ram.old) (S.slots shadows.new ram.new) page (filled_by side wp (S.tracked shadows.old) entry) }
     ensures tracked { S.tracked shadows.new ≡ S.tracked shadows.old }
+    ensures noted { (frame : ℕ) → S.noted shadows.new frame ≡ S.noted shadows.old frame }
     ensures roots { (view : View) → S.directory shadows.new view ≡ S.directory shadows.old view }
     ensures left { length (free_list pool.old ram.old) ≤ length (free_list pool.new ram.new) + (if has_entry entry then 1 else 0) }
     ensures moves { Moves pool.old pool.new ram.old ram.new (S.frames shadows.old ram.old) (S.frames shadows.new ram.new) }
@@ -64,6 +65,7 @@ fn fill_last<S: Shadows>(
     ensures slots { (q : ℕ) → q < 2 ^ 20 → S.slots shadows.new ram.new q
         ≡ (if (q == page) && not (is_among page later.now) then filled_by side wp (S.tracked shadows.old) (get (changed (entries_of (S.slots shadows.old ram.old)) changes.now) page) else S.slots shadows.old ram.old q) }
     ensures tracked { S.tracked shadows.new ≡ S.tracked shadows.old }
+    ensures noted { (frame : ℕ) → S.noted shadows.new frame ≡ S.noted shadows.old frame }
     ensures roots { (view : View) → S.directory shadows.new view ≡ S.directory shadows.old view }
     ensures left { length (free_list pool.old ram.old) ≤ length (free_list pool.new ram.new) + (if has_entry (get (changed (entries_of (S.slots shadows.old ram.old)) changes.now) page) && not (is_among page later.now) then 1 else 0) }
     ensures moves { Moves pool.old pool.new ram.old ram.new (S.frames shadows.old ram.old) (S.frames shadows.new ram.new) }
@@ -92,6 +94,7 @@ pub fn fill_pages<S: Shadows>(
     ensures stands { ∥ S.stands shadows.new ram.new ∥₁ }
     ensures fills { Fills (S.slots shadows.old ram.old) (S.slots shadows.new ram.new) (changed (entries_of (S.slots shadows.old ram.old)) changes.now) pages.now side wp (S.tracked shadows.old) }
     ensures tracked { S.tracked shadows.new ≡ S.tracked shadows.old }
+    ensures noted { (frame : ℕ) → S.noted shadows.new frame ≡ S.noted shadows.old frame }
     ensures roots { (view : View) → S.directory shadows.new view ≡ S.directory shadows.old view }
     ensures moves { Moves pool.old pool.new ram.old ram.new (S.frames shadows.old ram.old) (S.frames shadows.new ram.new) }
 {

@@ -41,6 +41,7 @@ pub fn settle<S: Shadows>(
         (λ n. entries_of (S.slots shadows.new ram.new) ≡ changed (entries_of (S.slots shadows.old ram.old)) state.now.changes) }
     ensures kept { IfSome result (λ n. Settles (S.slots shadows.old ram.old) (S.slots shadows.new ram.new) (changed (entries_of (S.slots shadows.old ram.old)) state.now.changes)
         (pages_of state.now.went state.now.changes) side state.now.control.wp (S.tracked shadows.new)) }
+    ensures noted { IsSome result → (frame : ℕ) → frame < 16384 → is_among frame state.now.tables ≡ true → is_among frame state.now.wrote ≡ false → S.noted shadows.new frame ≡ true }
     ensures untracked { IsSome result → (frame : ℕ) → is_among frame state.now.wrote ≡ true → is_among frame (S.tracked shadows.new) ≡ false }
     ensures guest { take (4096 * base_of pool.old) ram.new ≡ take (4096 * base_of pool.old) ram.old }
 {

@@ -12,10 +12,29 @@ use frame_pool::Pool;
 use guest_ram::Ram;
 use shadow_tables::Shadows;
 
-/// Notes the frames that were read as tables. A guest has no frame from 16,384 on.
+/// Notes a frame that was read as a table. A guest has no frame from 16,384 on.
+fn note_table<S: Shadows>(shadows: &mut S, ram: &mut Ram, frame: u32)
+    requires stands { ∥ S.stands shadows.old ram.old ∥₁ }
+    ensures stands { ∥ S.stands shadows.new ram.new ∥₁ }
+    ensures noted { frame < 16384 → S.noted shadows.new frame ≡ true }
+    ensures noted_before { (frame : ℕ) → S.noted shadows.old frame ≡ true → S.noted shadows.new frame ≡ true }
+    ensures slots { (page : ℕ) → page < 2 ^ 20 → IsWithin (S.slots shadows.new ram.new page) (S.slots shadows.old ram.old page) }
+    ensures entries { entries_of (S.slots shadows.new ram.new) ≡ entries_of (S.slots shadows.old ram.old) }
+    ensures roots { (view : View) → S.directory shadows.new view ≡ S.directory shadows.old view }
+    ensures frames { S.frames shadows.new ram.new ≡ S.frames shadows.old ram.old }
+    ensures memory { Writes (S.frames shadows.old ram.old) ram.old ram.new }
+{
+    if frame < 16384 {
+        shadows.note(ram, frame);
+    }
+}
+
+/// Notes the frames that were read as tables.
 pub fn note_tables<S: Shadows>(shadows: &mut S, ram: &mut Ram, tables: &[u32])
     requires stands { ∥ S.stands shadows.old ram.old ∥₁ }
     ensures stands { ∥ S.stands shadows.new ram.new ∥₁ }
+    ensures noted { (frame : ℕ) → is_among frame tables.now ≡ true → frame < 16384 → S.noted shadows.new frame ≡ true }
+    ensures noted_before { (frame : ℕ) → S.noted shadows.old frame ≡ true → S.noted shadows.new frame ≡ true }
     ensures slots { (page : ℕ) → page < 2 ^ 20 → IsWithin (S.slots shadows.new ram.new page) (S.slots shadows.old ram.old page) }
     ensures entries { entries_of (S.slots shadows.new ram.new) ≡ entries_of (S.slots shadows.old ram.old) }
     ensures roots { (view : View) → S.directory shadows.new view ≡ S.directory shadows.old view }
@@ -23,9 +42,7 @@ pub fn note_tables<S: Shadows>(shadows: &mut S, ram: &mut Ram, tables: &[u32])
     ensures memory { Writes (S.frames shadows.old ram.old) ram.old ram.new }
 {
     for frame in tables {
-        if *frame < 16384 {
-            shadows.note(ram, *frame);
-        }
+        note_table(shadows, ram, *frame);
     }
 }
 
@@ -37,6 +54,7 @@ pub fn tell_written<S: Shadows>(shadows: &mut S, ram: &mut Ram, pool: &mut Pool,
     ensures slots { SameSlots (S.slots shadows.old ram.old) (S.slots shadows.new ram.new) }
     ensures entries { entries_of (S.slots shadows.new ram.new) ≡ entries_of (S.slots shadows.old ram.old) }
     ensures tracked { ArePart (S.tracked shadows.new) (S.tracked shadows.old) }
+    ensures noted { (frame : ℕ) → is_among frame wrote.now ≡ false → S.noted shadows.new frame ≡ S.noted shadows.old frame }
     ensures untracked { (frame : ℕ) → is_among frame wrote.now ≡ true → is_among frame (S.tracked shadows.new) ≡ false }
     ensures roots { (view : View) → S.directory shadows.new view ≡ S.directory shadows.old view }
     ensures fewer { length (free_list pool.old ram.old) ≤ length (free_list pool.new ram.new) }

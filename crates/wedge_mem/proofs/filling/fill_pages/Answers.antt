@@ -56,6 +56,7 @@ loop-i-preserved g c =
       stands = e.stands;
       slots = fill-more xs l.i old now new (λ q. filled_by c.args.side c.args.wp tracked (get set q)) v c.loop-i-test.true v-is l.invariant.slots
           (λ q h. e.slots q h ∙ ap (λ ys. cond (eqb q page && not (is_among page ys)) v (now q)) later);
+      noted = λ frame. e.noted frame ∙ l.invariant.noted frame;
       tracked = e.tracked ∙ l.invariant.tracked;
       roots = λ view. e.roots view ∙ l.invariant.roots view;
       left = omega (arith, count, left, spent);

@@ -13,6 +13,7 @@ invariant-loop-i g l = let set = changed (entries_of (g.S.Shadows.slots l.fn.sha
   stands : ∥ g.S.Shadows.stands l.shadows l.ram ∥₁;
   slots : (q : ℕ) → q < 2 ^ 20 → g.S.Shadows.slots l.shadows l.ram q
       ≡ cond (is_among q l.pages && not (is_among q (drop l.i l.pages))) (filled_by l.side l.wp (g.S.Shadows.tracked l.fn.shadows) (get set q)) (g.S.Shadows.slots l.fn.shadows l.fn.ram q);
+  noted : (frame : ℕ) → g.S.Shadows.noted l.shadows frame ≡ g.S.Shadows.noted l.fn.shadows frame;
   tracked : g.S.Shadows.tracked l.shadows ≡ g.S.Shadows.tracked l.fn.shadows;
   roots : (view : _) → g.S.Shadows.directory l.shadows view ≡ g.S.Shadows.directory l.fn.shadows view;
   left : length (used set (drop l.i l.pages)) ≤ length (free_list l.pool l.ram);

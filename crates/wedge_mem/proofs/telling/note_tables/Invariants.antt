@@ -1,11 +1,14 @@
-use Rattle.std.proofs.Common.{◌≡◌, ℕ, ◌^◌, ◌<◌}
+use Rattle.std.proofs.Common.{◌≡◌, ℕ, take, true, ◌^◌, ◌<◌}
 use Rattle.frame_pool.specs.Held.{Writes}
 use Rattle.shadow_tables.specs.Calls.{IsWithin}
+use Rattle.shadow_tables.specs.Slots.{is_among}
 use Rattle.shadow_tables.specs.Entries.{entries_of}
 use Rattle.wedge_mem.proofs.telling.note_tables.Given as goal
 
 abbrev pub invariant-loop-frame : goal.invariant-loop-frame
 invariant-loop-frame g l = record {
+  noted : (frame : ℕ) → is_among frame (take l.frame-index l.tables) ≡ true → frame < 16384 → g.S.Shadows.noted l.shadows frame ≡ true;
+  noted_before : (frame : ℕ) → g.S.Shadows.noted l.fn.shadows frame ≡ true → g.S.Shadows.noted l.shadows frame ≡ true;
   stands : ∥ g.S.Shadows.stands l.shadows l.ram ∥₁;
   slots : (page : ℕ) → page < 2 ^ 20 → IsWithin (g.S.Shadows.slots l.shadows l.ram page) (g.S.Shadows.slots l.fn.shadows l.fn.ram page);
   entries : entries_of (g.S.Shadows.slots l.shadows l.ram) ≡ entries_of (g.S.Shadows.slots l.fn.shadows l.fn.ram);

@@ -1,6 +1,6 @@
 use Rattle.std.proofs.Common.{◌∙◌, arith}
 use Rattle.frame_pool.proofs.Held.{Owns-moves, Moves-trans}
-use Rattle.wedge_mem.proofs.Lists.{untracked-more}
+use Rattle.wedge_mem.proofs.Lists.{untracked-more, noted-less}
 use Rattle.wedge_mem.proofs.telling.tell_written.Goals as goal
 
 pub written-requires-clause-owns : goal.written-requires-clause-owns
@@ -18,6 +18,7 @@ loop-frame-preserved g c =
       slots = λ page h. e.slots page h ∙ l.invariant.slots page h;
       entries = e.entries ∙ l.invariant.entries;
       tracked = λ x h. l.invariant.tracked x (e.tracked x h);
+      noted = noted-less c.args.wrote.now l.frame-index (g.S.Shadows.noted c.args.shadows.now) (g.S.Shadows.noted l.shadows) (g.S.Shadows.noted c.written.new.self) c.loop-frame-test.true e.noted l.invariant.noted;
       untracked = untracked-more c.args.wrote.now l.frame-index (g.S.Shadows.tracked l.shadows) (g.S.Shadows.tracked c.written.new.self) c.loop-frame-test.true e.tracked e.untracked l.invariant.untracked;
       roots = λ view. e.roots view ∙ l.invariant.roots view;
       fewer = omega (arith, before, now);

@@ -11,6 +11,7 @@ invariant-loop-frame g l = record {
   slots : SameSlots (g.S.Shadows.slots l.fn.shadows l.fn.ram) (g.S.Shadows.slots l.shadows l.ram);
   entries : entries_of (g.S.Shadows.slots l.shadows l.ram) ≡ entries_of (g.S.Shadows.slots l.fn.shadows l.fn.ram);
   tracked : ArePart (g.S.Shadows.tracked l.shadows) (g.S.Shadows.tracked l.fn.shadows);
+  noted : (frame : ℕ) → is_among frame (take l.frame-index l.wrote) ≡ false → g.S.Shadows.noted l.shadows frame ≡ g.S.Shadows.noted l.fn.shadows frame;
   untracked : (frame : ℕ) → is_among frame (take l.frame-index l.wrote) ≡ true → is_among frame (g.S.Shadows.tracked l.shadows) ≡ false;
   roots : (view : _) → g.S.Shadows.directory l.shadows view ≡ g.S.Shadows.directory l.fn.shadows view;
   fewer : length (free_list l.fn.pool l.fn.ram) ≤ length (free_list l.pool l.ram);
