@@ -1,14 +1,20 @@
 //! A processor with memory, in which one instruction is done or one event is delivered.
 
-use bare_mem::{BareMem, Cached};
+ghost use Rattle.std.specs.Prelude.{◌≡◌, ◌≤◌, ◌*◌, length};
+ghost use Rattle.step_mem.specs.Changes.{AreWithin};
+ghost use Rattle.step_mem.specs.Guard.{IsLaid};
+ghost use Rattle.step_mem.specs.Sound.{IsSound};
+
+use bare_mem::Cached;
 use descriptors::{Cpu, Hidden, Table, Task};
-use event_entry::{Kind, NotDelivered, deliver};
+use event_entry::{Kind, NotDelivered};
 use guest_ram::Ram;
 use ia32_decode::{Decoded, decode};
 use ia32_types::{Flags, Insn, Op, Operand, Regs, Size};
 use std::alloc::{AllocError, Global};
-use step_mem::Control;
-use sys_exec::{SysEffect, sys};
+use step_exec::{deliver_in, sys_in};
+use step_mem::{Control, Guard, Kept, Own, State, Text};
+use sys_exec::SysEffect;
 use xlate_buffer::Buffer;
 
 /// Where the tables, the stacks and an operand lie. Each page is mapped to the frame of its number.
@@ -221,26 +227,65 @@ fn memory(alloc: Global, words: &Words) -> Result<Ram, AllocError> {
     Ok(ram)
 }
 
-fn done(cpu: &mut Cpu, ram: &mut Ram, what: &What) -> Answer {
+// What a step keeps, before its first access.
+fn begin<'g, B: Kept>(
+    cpu: &Cpu,
+    ram: &Ram,
+    kept: &B,
+    frames: u32,
+    guard: Guard<'g>,
+) -> State<'g>
+    requires frames { 4096 * frames ≤ length ram.now }
+    requires below { 4096 * frames ≤ B.floor kept.now }
+    requires stands { ∥ B.stands kept.now ram.now ∥₁ }
+    requires within { AreWithin frames (B.entries kept.now ram.now) }
+    requires laid { IsLaid guard.text.now frames }
+    ensures sound { IsSound (B.entries kept.now) (B.floor kept.now) (B.stands kept.now) ram.now result }
+    ensures pages { result.pages ≡ 0 }
+{
+    let _len = ram.len();
     let control = Control {
-        frames: ram.len() / 4096,
+        frames,
         cr3: cpu.cr3,
         wp: cpu.cr0 / 65536 % 2 == 1,
     };
+    State::new(control, guard)
+}
+
+const UNREAD: Own = Own {
+    front: 0,
+    front_len: 0,
+    back: 0,
+    back_len: 0,
+};
+
+fn done(cpu: &mut Cpu, ram: &mut Ram, what: &What) -> Answer {
     let kept = Cached {
-        buffer: Buffer::new(),
+        cache: Buffer::new(),
     };
-    let mut mem = BareMem::new(ram, &kept, control);
+    let text: Option<Text> = None;
+    let guard = Guard {
+        text: &text,
+        own: UNREAD,
+    };
+    let frames = ram.len() / 4096;
+    let mut state = begin(cpu, ram, &kept, frames, guard);
     match what {
         What::Insn(bytes) => match decode(bytes) {
-            Decoded::Insn(insn, len) => Answer::Asks(sys(&insn, len, cpu, &mut mem)),
+            Decoded::Insn(insn, len) => {
+                Answer::Asks(sys_in(&insn, len, cpu, ram, &kept, &mut state))
+            }
             _ => Answer::NotRead,
         },
-        What::Event(kind, code) => { Answer::Delivered(deliver(cpu, &mut mem, 0x21, *kind, *code)) }
-        What::Back(kind) => match deliver(cpu, &mut mem, 0x21, *kind, None) {
-            Ok(()) => Answer::Asks(sys(&IRET, 1, cpu, &mut mem)),
-            refused => Answer::Delivered(refused),
-        },
+        What::Event(kind, code) => {
+            Answer::Delivered(deliver_in(cpu, ram, &kept, &mut state, 0x21, *kind, *code))
+        }
+        What::Back(kind) => {
+            match deliver_in(cpu, ram, &kept, &mut state, 0x21, *kind, None) {
+                Ok(()) => Answer::Asks(sys_in(&IRET, 1, cpu, ram, &kept, &mut state)),
+                refused => Answer::Delivered(refused),
+            }
+        }
     }
 }
 
