@@ -65,14 +65,14 @@ step_in (mode.Escape s) at line b =
 
 -- ---- what a text leaves
 
-abbrev ends : Mode → ℕ → ℕ → List ℕ → Next
+abbrev pub ends : Mode → ℕ → ℕ → List ℕ → Next
 ends m at line bs = (token_scan m at line bs).ending
 
-abbrev leaves : Next → ℕ → ℕ → ℕ → List ℕ → Next
+abbrev pub leaves : Next → ℕ → ℕ → ℕ → List ℕ → Next
 leaves (Goes n) at line b bs = ends n (at + 1) (line_after line b) bs
 leaves (Stops l c) at line b bs = Stops l c
 
-byte_leaves : (n : Next) (at line b : ℕ) (bs : List ℕ) → (let r : Tokens = elim n [ Goes k ↦ token_scan k (at + 1) (line_after line b) bs | Stops l c ↦ record { tokens = []; ending = Stops l c } ] in r.ending) ≡ leaves n at line b bs
+pub byte_leaves : (n : Next) (at line b : ℕ) (bs : List ℕ) → (let r : Tokens = elim n [ Goes k ↦ token_scan k (at + 1) (line_after line b) bs | Stops l c ↦ record { tokens = []; ending = Stops l c } ] in r.ending) ≡ leaves n at line b bs
 byte_leaves (Goes n) at line b bs = refl
 byte_leaves (Stops l c) at line b bs = refl
 

@@ -4,3 +4,5 @@ pub mod Stepping
 pub mod Scanning
 pub mod TextTokens
 pub mod FaultLines
+pub mod Refusals
+pub mod Spans

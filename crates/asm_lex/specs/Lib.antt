@@ -5,3 +5,5 @@ pub mod Words
 pub mod Source
 pub mod Lines
 pub mod Tokens
+pub mod Refusals
+pub mod Spans

@@ -6,6 +6,8 @@ ghost use Rattle.asm_lex.specs.declared.fault.SourceCause.TheVariants.{TooLong};
 ghost use Rattle.asm_lex.specs.declared.fault.SourceFault.TheVariants.{At};
 ghost use Rattle.asm_lex.specs.Tokens as spec;
 ghost use Rattle.asm_lex.specs.Lines.{RefusedAt};
+ghost use Rattle.asm_lex.specs.Refusals.{RefusedFor};
+ghost use Rattle.asm_lex.specs.Spans.{AreSpans};
 ghost use Rattle.asm_lex.specs.Words as words;
 
 use crate::fault::{SourceCause, SourceFault};
@@ -69,8 +71,8 @@ pub fn tokens(alloc: Global, source: &[u8]) -> Result<(Vec<Token>, Mode), Source
 /// The longest source.
 pub const LIMIT: usize = 4194304;
 
-/// The source with a newline at its end.
-fn with_newline(alloc: Global, text: &[u8]) -> Result<Vec<u8>, AllocError>
+/// The text with a newline at its end.
+pub fn with_newline(alloc: Global, text: &[u8]) -> Result<Vec<u8>, AllocError>
     ensures { IfOk result (λ v. v.items ≡ text.now ++ 10 ∷ []) }
 {
     let mut source = Vec::from_slice(alloc, text)?;
@@ -103,18 +105,24 @@ fn lexed(alloc: Global, text: &[u8]) -> Result<Vec<Token>, SourceFault>
 }
 
 /// The tokens of the text. A last line that lacks its newline is read as if it had one.
-#[tactic(auto, using(crate::proofs::TextTokens::are_tokens, crate::proofs::TextTokens::are_found, crate::proofs::FaultLines::refused_at))]
+#[tactic(auto, using(crate::proofs::TextTokens::are_tokens, crate::proofs::TextTokens::are_found, crate::proofs::FaultLines::refused_at, crate::proofs::Refusals::refused_for, crate::proofs::Spans::are_spans))]
 pub fn lex(alloc: Global, text: &[u8]) -> Result<Vec<Token>, SourceFault>
     ensures long { LIMIT < length text.now → result ≡ Err (At 1 TooLong) }
 
     // Each is as long as it can be, and between them stand blanks and comments alone.
     ensures read { IfOk result (λ v. spec.AreTokens text.now v.items) }
 
+    // They rise, and lie within the text.
+    ensures spans { IfOk result (λ v. AreSpans 0 (length text.now) v.items) }
+
     // A text that has tokens is read, unless memory runs out.
     ensures only { length text.now ≤ LIMIT → (tokens : List Token) → spec.AreTokens text.now tokens → spec.LexedAs tokens result }
 
     // The first line from which no text that has tokens goes on; that of a comment that doesn't end is where it begins.
     ensures line { length text.now ≤ LIMIT → RefusedAt text.now result }
+
+    // The cause is that of the first thing that is wrong: by cases, one for each way in which a text can't go on.
+    ensures cause { length text.now ≤ LIMIT → RefusedFor text.now result }
 
     // The scan from left to right, with the first fault and its line.
     ensures exact { length text.now ≤ LIMIT → spec.LexesTo result (spec.token_scan spec.between 0 1 (text.now ++ 10 ∷ [])) }
