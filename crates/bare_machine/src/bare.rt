@@ -68,12 +68,7 @@ impl<C: Cache> Bare<C> {
 
     /// Makes `k` steps, or ends before a step that stops. The lines of a step go to the sink at its end. After a stop or a
     /// failure the machine must not go on.
-    pub fn slice<O: Sink>(
-        &mut self,
-        script: &Script,
-        k: u64,
-        out: &mut O,
-    ) -> Result<Pause, Failed>
+    pub fn slice<O: Sink>(&mut self, script: &Script, k: u64, out: &mut O) -> Result<Pause, Failed>
         requires script { is_script script.now.list ≡ true }
         requires kept { IsKept self.old.frames (state_of C.entries self.old) }
         requires bound { self.old.step + k ≤ 2 ^ 40 }
