@@ -6,3 +6,5 @@ pub mod Quiet
 pub mod Going
 pub mod Ones
 pub mod Wholes
+pub mod Joining
+pub mod Freshly

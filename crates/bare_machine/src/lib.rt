@@ -3,10 +3,14 @@
 
 mod bare;
 mod finish;
+mod fresh;
 mod idle;
+mod laws;
 mod machine;
 mod run;
 mod slice;
 
+pub use fresh::run_fresh;
+pub use laws::{each_course_is_a_run, parts_join};
 pub use machine::Bare;
 pub use run::run_bare;

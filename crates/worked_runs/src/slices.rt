@@ -1,10 +1,11 @@
 //! Runs of the bare machine that pause and go on.
 
 use crate::built::answer;
-use bare_machine::Bare;
+use bare_machine::{Bare, run_fresh};
 use board::read_script;
 use image_check::{Checked, check};
 use image_load::Pause;
+use kernel_gen::kernel;
 use pv_io::{Files, IoAnswer, MemFiles, MemSink};
 use run_trace::{End, Ended, put_end};
 use std::alloc::Global;
@@ -137,5 +138,46 @@ fn a_pause_at_any_step_changes_nothing(rt: HostRuntime) -> Result<(), Fail> {
         let parts = prints(alloc, &image, pause, 80, 80)?;
         assert_eq!(rt; parts.bytes(), whole.bytes(), "a pause at {pause}");
     }
+    Ok(())
+}
+
+// What a run of at most `n` steps prints, before each of which nothing is cached.
+fn prints_fresh(alloc: Global, source: &[u8], n: u64) -> Result<MemSink, Fail> {
+    let image = check(alloc, &file(alloc, source)?)?;
+    let script = read_script(alloc, b"")?;
+    let mut out = MemSink::new(alloc, 4096, Vec::new(alloc))?;
+    match run_fresh(alloc, &image, &script, 2048, n, &mut out) {
+        Ok(_) => {}
+        Err(_) => {}
+    }
+    Ok(out)
+}
+
+#[test]
+fn fresh_runs_print_the_same_where_nothing_is_stale(rt: HostRuntime) -> Result<(), Fail> {
+    let alloc = rt.alloc();
+    let sent = prints_fresh(alloc, SENDS_A_BYTE, 8)?;
+    assert_eq!(rt;
+        sent.bytes(),
+        b"2 out8 03f8 48\n2 tx 48\nend steps 8\n".as_slice()
+    );
+    let interrupted = prints_fresh(alloc, IS_INTERRUPTED, 80)?;
+    let image = check(alloc, &file(alloc, IS_INTERRUPTED)?)?;
+    assert_eq!(rt;
+        interrupted.bytes(),
+        prints(alloc, &image, 80, 80, 80)?.bytes()
+    );
+    Ok(())
+}
+
+#[test]
+fn a_generated_kernel_shows_its_number_first(rt: HostRuntime) -> Result<(), Fail> {
+    let alloc = rt.alloc();
+    let source = kernel(alloc, 0)?;
+    let out = prints_fresh(alloc, source.as_slice(), 2)?;
+    assert_eq!(rt;
+        out.bytes(),
+        b"1 out32 0080 3c6ef35f\nend steps 2\n".as_slice()
+    );
     Ok(())
 }
