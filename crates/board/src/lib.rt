@@ -14,6 +14,3 @@ pub use devices::{Board, PortRead};
 pub use fault::{ScriptCause, ScriptFault};
 pub use reading::read_script;
 pub use script::{Event, Script};
-
-#[cfg(test)]
-mod tests;

@@ -98,6 +98,3 @@ impl Pool {
         self.free
     }
 }
-
-#[cfg(test)]
-mod tests;

@@ -174,6 +174,3 @@ fn exchange_in(a: &mut [u8], b: &mut [u8], n: usize)
 {
     a[..n].swap_with_slice(&mut b[..n]);
 }
-
-#[cfg(test)]
-mod tests;

@@ -5,6 +5,3 @@
 mod source;
 
 pub use source::kernel;
-
-#[cfg(test)]
-mod tests;

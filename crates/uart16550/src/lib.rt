@@ -6,6 +6,3 @@ mod uart;
 
 pub use settings::Settings;
 pub use uart::Uart;
-
-#[cfg(test)]
-mod tests;

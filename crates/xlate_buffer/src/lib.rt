@@ -83,6 +83,3 @@ fn of_page(page: u32, entry: Option<Entry>) -> Option<Entry>
         _ => None,
     }
 }
-
-#[cfg(test)]
-mod tests;

@@ -1,4 +1,4 @@
-use super::*;
+use board::{Board, Event, PortRead, ScriptCause, ScriptFault, read_script};
 use ia32_types::Did;
 use std::test::Fail;
 

@@ -1,4 +1,5 @@
-use super::*;
+use frame_pool::Pool;
+use guest_ram::{FRAME, Ram};
 
 // Of a memory of four frames the pool has the last two. It gives 2, 3 and none, and 2 again, zeroed, once that came back.
 #[test]

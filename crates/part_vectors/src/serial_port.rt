@@ -1,5 +1,5 @@
-use super::*;
 use ia32_types::Did;
+use uart16550::Uart;
 
 #[test]
 fn receiver_keeps_sixteen_bytes_and_loses_the_seventeenth(rt: HostRuntime) {

@@ -1,4 +1,4 @@
-use super::*;
+use guest_ram::Ram;
 
 #[test]
 fn reads_what_it_wrote(rt: HostRuntime) {

@@ -1,4 +1,4 @@
-use crate::kernel;
+use kernel_gen::kernel;
 use sha2::{Digest, Sha256};
 use std::test::Fail;
 

@@ -1,5 +1,5 @@
-use super::*;
 use ia32_types::Did;
+use pit8254::Pit;
 
 fn control(pit: &mut Pit, v: u8) -> Did {
     pit.write(0x43, v)

@@ -1,5 +1,5 @@
-use crate::Buffer;
 use paging::Entry;
+use xlate_buffer::Buffer;
 
 const FIRST: Entry = Entry {
     page: 1,

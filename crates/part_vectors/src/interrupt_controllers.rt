@@ -1,5 +1,5 @@
-use super::*;
 use ia32_types::Did;
+use pic8259::Pics;
 
 const MASTER: u16 = 0x20;
 

@@ -1,0 +1,20 @@
+//! Memory, frames, translations, devices and generated kernels, each by itself: what the data sheets and the profile say of
+//! them, and what a program of another language found.
+#![tactic(auto)]
+
+#[cfg(test)]
+mod boards;
+#[cfg(test)]
+mod buffer;
+#[cfg(test)]
+mod interrupt_controllers;
+#[cfg(test)]
+mod kernels;
+#[cfg(test)]
+mod memory;
+#[cfg(test)]
+mod pool;
+#[cfg(test)]
+mod serial_port;
+#[cfg(test)]
+mod timer;
