@@ -65,7 +65,10 @@ impl Assembly {
             DirectiveName::Text => self.enter(Section::Text),
             DirectiveName::Data => self.enter(Section::Init),
             DirectiveName::Bss => self.enter(Section::Bss),
-            DirectiveName::Section => self.enter(section_named(text_at(arguments, 0), self.section)),
+            DirectiveName::Section => self.enter(section_named(
+                text_at(arguments, 0),
+                self.section,
+            )),
             DirectiveName::Global => self.bind(names, symbol_at(arguments, 0), Binding::Global),
             DirectiveName::Local => self.bind(names, symbol_at(arguments, 0), Binding::Local),
             DirectiveName::Bytes => return self.numbers(Width::Byte, arguments),
