@@ -12,7 +12,7 @@ use Rattle.afterburner.specs.declared.fault.BurnFault.{BurnFault}
 use Rattle.afterburner.specs.declared.fault.Stop.TheVariants as stop
 use Rattle.afterburner.specs.declared.fault.BurnCause.{BurnCause}
 use Rattle.afterburner.specs.declared.fault.Stop.{Stop}
-use Rattle.afterburner.specs.declared.directive.Directive.{Directive}
+use Rattle.asm_parse.specs.declared.directive_table.DirectiveName.{DirectiveName}
 use Rattle.afterburner.specs.State.{State, fresh}
 use Rattle.afterburner.specs.Sections.{labelled}
 use Rattle.afterburner.specs.Directives.{directed}
@@ -27,7 +27,7 @@ labelled_sound names n st new1 new2 name e p s = rw (e, p) (sound_labelled names
 ok_sound : (n : ℕ) (new : State) (r : Result State BurnCause) → r ≡ Ok new → IfOk r (IsSound n) → IsSound n new
 ok_sound n new r e h = subst (λ (x : Result State BurnCause). IfOk x (IsSound n)) e h
 
-pub directed_sound : (names : List (List ℕ)) (st new1 new2 : State) (d : Directive) (args : List Argument) (r : Result (Unit {0}) Stop) → Makes new2 r (directed names new1 d args) → new1 ≡ parted st → AreHeld names (argument_names args) → IsSound (length names) st → OnOk r (IsSound (length names) new2)
+pub directed_sound : (names : List (List ℕ)) (st new1 new2 : State) (d : DirectiveName) (args : List Argument) (r : Result (Unit {0}) Stop) → Makes new2 r (directed names new1 d args) → new1 ≡ parted st → AreHeld names (argument_names args) → IsSound (length names) st → OnOk r (IsSound (length names) new2)
 directed_sound names st new1 new2 d args (Err e) m p h s = tt
 directed_sound names st new1 new2 d args (Ok u) m p h s =
     let after : IsSound (length names) new1 = rw p (sound_parted (length names) st s) in

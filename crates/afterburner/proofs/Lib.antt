@@ -7,4 +7,5 @@ pub mod Spelled
 pub mod Items
 pub mod Sited
 pub mod Whole
+pub mod Reasons
 pub mod Refusal

@@ -11,6 +11,7 @@ use Rattle.afterburner.specs.State.{State, fresh}
 use Rattle.afterburner.specs.Burnt.{Fault, Gives, at_line, item_made, next_made, all_made, finished, burnt}
 use Rattle.afterburner.specs.Refused.{IsFirstRefused, Refuses}
 use Rattle.afterburner.proofs.Items.{stays}
+use Rattle.afterburner.proofs.Reasons.{reason}
 
 first_refused : (names : List (List ℕ)) (st : State) (items : List SourceItem) (line : ℕ) (c : BurnCause) → fold (next_made names) (Ok st) items ≡ Err (record { line = line; cause = c }) → IsFirstRefused names st items line c
 first_refused names st [] line c e = absurd (cc)
@@ -26,6 +27,7 @@ first_refused names st (i ∷ items) line c e =
             place = ap (λ (xs : List SourceItem). i ∷ xs) rest.place;
             earlier = ap (λ (r : Result State BurnCause). fold (next_made names) (at_line i.line r) rest.before) m ∙ rest.earlier;
             refused = rest.refused;
+            reason = rest.reason;
             on_line = rest.on_line;
           }
       | Err d ↦ λ m f.
@@ -44,6 +46,7 @@ first_refused names st (i ∷ items) line c e =
             place = refl;
             earlier = refl;
             refused = m ∙ ap (λ (x : BurnCause). Err x) for;
+            reason = reason names st i.body c (m ∙ ap (λ (x : BurnCause). Err x) for);
             on_line = on;
           }
     ] in

@@ -15,8 +15,8 @@ use Rattle.afterburner.specs.declared.section.Section.TheVariants as section
 use Rattle.afterburner.specs.declared.symbol.Binding.{Binding}
 use Rattle.afterburner.specs.declared.value.Width.{Width}
 use Rattle.afterburner.specs.declared.value.Width.TheVariants as width
-use Rattle.afterburner.specs.declared.directive.Directive.{Directive}
-use Rattle.afterburner.specs.declared.directive.Directive.TheVariants as directive
+use Rattle.asm_parse.specs.declared.directive_table.DirectiveName.{DirectiveName}
+use Rattle.asm_parse.specs.declared.directive_table.DirectiveName.TheVariants as directive
 use Rattle.afterburner.specs.State.{State, undefined, fresh}
 use Rattle.afterburner.specs.Names.{name_number}
 use Rattle.afterburner.specs.Symbols.{bound}
@@ -175,12 +175,12 @@ sound_longs names st args a h s =
       | true ↦ elim (is_init st.section) as (λ b. IfOk (cond b (Ok (fold (with_long names) st args)) (Err cause.DataInText)) (IsSound (length names))) [ true ↦ sound_fold names st args a h s | false ↦ tt ]
     ]
 
-pub sound_directed : (names : List (List ℕ)) (st : State) (d : Directive) (args : List Argument) → st.after_sti ≡ false → AreHeld names (argument_names args) → IsSound (length names) st → IfOk (directed names st d args) (IsSound (length names))
+pub sound_directed : (names : List (List ℕ)) (st : State) (d : DirectiveName) (args : List Argument) → st.after_sti ≡ false → AreHeld names (argument_names args) → IsSound (length names) st → IfOk (directed names st d args) (IsSound (length names))
 unfolding directed
 sound_directed names st directive.Text args a h s = sound_entered (length names) st section.Text a s
 sound_directed names st directive.Data args a h s = sound_entered (length names) st section.Init a s
 sound_directed names st directive.Bss args a h s = sound_entered (length names) st section.Bss a s
-sound_directed names st directive.Named args a h s = sound_entered (length names) st (section_named (text_at args 0) st.section) a s
+sound_directed names st directive.Section args a h s = sound_entered (length names) st (section_named (text_at args 0) st.section) a s
 sound_directed names st directive.Global args a h s = sound_bound names (length names) st (symbol_at args 0) _ a s
 sound_directed names st directive.Local args a h s = sound_bound names (length names) st (symbol_at args 0) _ a s
 sound_directed names st directive.Bytes args a h s = sound_numbers (length names) st width.Byte args a s

@@ -1,7 +1,6 @@
 -- The directives, by families.
-use Rattle.std.specs.Prelude.{ℕ, ◌+◌, ◌*◌, Bool, true, false, not, nat_lt, ◌||◌, List, [], ◌∷◌, ◌++◌, length, replicate, fold, codes, Option, Some, None, Result, Ok, Err, if◌then◌else◌}
+use Rattle.std.specs.Prelude.{ℕ, ◌+◌, ◌*◌, Bool, true, false, not, nat_lt, List, [], ◌∷◌, ◌++◌, length, replicate, fold, Option, Some, None, Result, Ok, Err, if◌then◌else◌}
 use Rattle.std.specs.List.{flat_map, list_all}
-use Rattle.std.specs.Str.{bytes_eq}
 use Rattle.asm_parse.specs.declared.tree.Argument.{Argument}
 use Rattle.asm_parse.specs.Statements.{symbol_in}
 use Rattle.elf_form.specs.declared.object.Reloc.{Reloc}
@@ -10,8 +9,9 @@ use Rattle.afterburner.specs.declared.fault.BurnCause.TheVariants as cause
 use Rattle.afterburner.specs.declared.section.Section.{Section}
 use Rattle.afterburner.specs.declared.section.Section.TheVariants as section
 use Rattle.afterburner.specs.declared.symbol.Binding.TheVariants as binding
-use Rattle.afterburner.specs.declared.directive.Directive.{Directive}
-use Rattle.afterburner.specs.declared.directive.Directive.TheVariants as directive
+use Rattle.asm_parse.specs.declared.directive_table.DirectiveName.{DirectiveName}
+use Rattle.asm_parse.specs.declared.directive_table.DirectiveName.TheVariants as directive
+use Rattle.asm_parse.specs.Directives.{directive_name}
 use Rattle.afterburner.specs.declared.value.Width.{Width}
 use Rattle.afterburner.specs.declared.value.Width.TheVariants as width
 use Rattle.afterburner.specs.State.{State}
@@ -21,25 +21,13 @@ use Rattle.afterburner.specs.Arguments.{number_in, text_in, count_at, text_at, s
 use Rattle.afterburner.specs.Values.{fits, value_bytes}
 use Rattle.afterburner.specs.Sections.{is_init, entered, section_named, aligned, reserved}
 
-unfoldable pub directive_of : List ℕ → Directive
-directive_of n =
-    if bytes_eq n (codes ".text") then directive.Text else
-    if bytes_eq n (codes ".data") then directive.Data else
-    if bytes_eq n (codes ".bss") then directive.Bss else
-    if bytes_eq n (codes ".section") then directive.Named else
-    if bytes_eq n (codes ".globl") || bytes_eq n (codes ".global") then directive.Global else
-    if bytes_eq n (codes ".local") then directive.Local else
-    if bytes_eq n (codes ".byte") then directive.Bytes else
-    if bytes_eq n (codes ".short") || bytes_eq n (codes ".word") || bytes_eq n (codes ".value") then directive.Shorts else
-    if bytes_eq n (codes ".long") || bytes_eq n (codes ".int") then directive.Longs else
-    if bytes_eq n (codes ".ascii") then directive.Ascii else
-    if bytes_eq n (codes ".asciz") || bytes_eq n (codes ".string") then directive.Asciz else
-    if bytes_eq n (codes ".zero") || bytes_eq n (codes ".skip") || bytes_eq n (codes ".space") then directive.Zeros else
-    if bytes_eq n (codes ".align") || bytes_eq n (codes ".balign") then directive.Aligned else
-    if bytes_eq n (codes ".p2align") then directive.Powered else
-    if bytes_eq n (codes ".comm") then directive.Common else
-    if bytes_eq n (codes ".lcomm") then directive.LocalCommon else
-    directive.Skipped
+abbrev pub or_skipped : Option DirectiveName → DirectiveName
+or_skipped None = directive.Skipped
+or_skipped (Some d) = d
+
+-- the directive of a name, in the table by which the source is read
+abbrev pub directive_of : List ℕ → DirectiveName
+directive_of n = or_skipped (directive_name n)
 
 abbrev pub bytes_in : Width → ℕ
 bytes_in width.Byte = 1
@@ -97,11 +85,11 @@ common_alignment (Some n) = alignment n
 unfoldable pub common : List (List ℕ) → State → List Argument → State
 common names st args = bound names (reserved names st (symbol_at args 0) (count_at args 1) (common_alignment (limit_at args 2))) (symbol_at args 0) binding.Common
 
-unfoldable pub directed : List (List ℕ) → State → Directive → List Argument → Result State BurnCause
+unfoldable pub directed : List (List ℕ) → State → DirectiveName → List Argument → Result State BurnCause
 directed names st directive.Text args = Ok (entered st section.Text)
 directed names st directive.Data args = Ok (entered st section.Init)
 directed names st directive.Bss args = Ok (entered st section.Bss)
-directed names st directive.Named args = Ok (entered st (section_named (text_at args 0) st.section))
+directed names st directive.Section args = Ok (entered st (section_named (text_at args 0) st.section))
 directed names st directive.Global args = Ok (bound names st (symbol_at args 0) binding.Global)
 directed names st directive.Local args = Ok (bound names st (symbol_at args 0) binding.Local)
 directed names st directive.Bytes args = numbers st width.Byte args

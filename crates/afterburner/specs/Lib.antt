@@ -9,5 +9,6 @@ pub mod Instructions
 pub mod Directives
 pub mod Objects
 pub mod Burnt
+pub mod Reasons
 pub mod Refused
 pub mod Sound

@@ -7,6 +7,7 @@ use Rattle.afterburner.specs.declared.fault.BurnFault.{BurnFault}
 use Rattle.afterburner.specs.declared.fault.BurnFault.TheVariants as faults
 use Rattle.afterburner.specs.State.{State, fresh}
 use Rattle.afterburner.specs.Burnt.{next_made, item_made}
+use Rattle.afterburner.specs.Reasons.{IsReason}
 
 -- The items before it are made without a refusal, and behind them the item of this line is refused for this cause.
 pub record IsFirstRefused (names : List (List ℕ)) (start : State) (items : List SourceItem) (line : ℕ) (cause : BurnCause) : Type 0 where
@@ -17,6 +18,7 @@ pub record IsFirstRefused (names : List (List ℕ)) (start : State) (items : Lis
   pub place : items ≡ before ++ item ∷ after
   pub earlier : fold (next_made names) (Ok start) before ≡ Ok so_far
   pub refused : item_made names so_far item.body ≡ Err cause
+  pub reason : IsReason names so_far item.body cause
   pub on_line : item.line ≡ line
 
 abbrev pub Refuses : {A : Type 0} → List SourceItem → Result A BurnFault → Type 0

@@ -6,79 +6,20 @@ ghost use Rattle.afterburner.specs.Directives as spec;
 
 use crate::argument::{alignment, count_at, limit_at, power, symbol_at, text_at};
 use crate::assembly::Assembly;
-use crate::bytes::is_text;
 use crate::fault::Stop;
 use crate::names::Names;
 use crate::section::{Section, section_named};
 use crate::symbol::Binding;
 use crate::value::Width;
-use asm_parse::Argument;
+use asm_parse::{Argument, DirectiveName, directive_name};
 
-/// What a directive does.
-#[derive(Clone, Copy, Debug, PartialEq, Eq)]
-pub enum Directive {
-    Text,
-    Data,
-    Bss,
-    /// `.section`.
-    Named,
-    Global,
-    Local,
-    /// Values of one byte, of two and of four.
-    Bytes,
-    Shorts,
-    Longs,
-    /// `.ascii`; `.asciz`, whose strings end with a zero byte.
-    Ascii,
-    Asciz,
-    Zeros,
-    /// `.align` and `.balign`; `.p2align`.
-    Aligned,
-    Powered,
-    Common,
-    LocalCommon,
-    Skipped,
-}
-
-/// The directive of this name.
-#[tactic(auto, unfolding(crate::specs::Directives::directive_of))]
-pub fn directive_of(name: &[u8]) -> Directive
+/// The directive of this name. One that is none says nothing, as one that is skipped.
+pub fn directive_of(name: &[u8]) -> DirectiveName
     ensures { result ≡ spec.directive_of name.now }
 {
-    if is_text(name, b".text") {
-        Directive::Text
-    } else if is_text(name, b".data") {
-        Directive::Data
-    } else if is_text(name, b".bss") {
-        Directive::Bss
-    } else if is_text(name, b".section") {
-        Directive::Named
-    } else if is_text(name, b".globl") || is_text(name, b".global") {
-        Directive::Global
-    } else if is_text(name, b".local") {
-        Directive::Local
-    } else if is_text(name, b".byte") {
-        Directive::Bytes
-    } else if is_text(name, b".short") || is_text(name, b".word") || is_text(name, b".value") {
-        Directive::Shorts
-    } else if is_text(name, b".long") || is_text(name, b".int") {
-        Directive::Longs
-    } else if is_text(name, b".ascii") {
-        Directive::Ascii
-    } else if is_text(name, b".asciz") || is_text(name, b".string") {
-        Directive::Asciz
-    } else if is_text(name, b".zero") || is_text(name, b".skip") || is_text(name, b".space") {
-        Directive::Zeros
-    } else if is_text(name, b".align") || is_text(name, b".balign") {
-        Directive::Aligned
-    } else if is_text(name, b".p2align") {
-        Directive::Powered
-    } else if is_text(name, b".comm") {
-        Directive::Common
-    } else if is_text(name, b".lcomm") {
-        Directive::LocalCommon
-    } else {
-        Directive::Skipped
+    match directive_name(name) {
+        Some(directive) => directive,
+        None => DirectiveName::Skipped,
     }
 }
 
@@ -112,7 +53,7 @@ impl Assembly {
     pub fn direct(
         &mut self,
         names: &Names,
-        directive: Directive,
+        directive: DirectiveName,
         arguments: &[Argument],
     ) -> Result<(), Stop>
         requires few { length names.now ≤ 65536 }
@@ -121,27 +62,30 @@ impl Assembly {
         ensures { Makes self.new result (spec.directed names.now self.old directive arguments.now) }
     {
         match directive {
-            Directive::Text => self.enter(Section::Text),
-            Directive::Data => self.enter(Section::Init),
-            Directive::Bss => self.enter(Section::Bss),
-            Directive::Named => self.enter(section_named(text_at(arguments, 0), self.section)),
-            Directive::Global => self.bind(names, symbol_at(arguments, 0), Binding::Global),
-            Directive::Local => self.bind(names, symbol_at(arguments, 0), Binding::Local),
-            Directive::Bytes => return self.numbers(Width::Byte, arguments),
-            Directive::Shorts => return self.numbers(Width::Short, arguments),
-            Directive::Longs => return self.longs(names, arguments),
-            Directive::Ascii => return self.strings(false, arguments),
-            Directive::Asciz => return self.strings(true, arguments),
-            Directive::Zeros => return self.zeros(count_at(arguments, 0)),
-            Directive::Aligned => self.align(alignment(count_at(arguments, 0)), None)?,
-            Directive::Powered => {
+            DirectiveName::Text => self.enter(Section::Text),
+            DirectiveName::Data => self.enter(Section::Init),
+            DirectiveName::Bss => self.enter(Section::Bss),
+            DirectiveName::Section => self.enter(section_named(
+                text_at(arguments, 0),
+                self.section,
+            )),
+            DirectiveName::Global => self.bind(names, symbol_at(arguments, 0), Binding::Global),
+            DirectiveName::Local => self.bind(names, symbol_at(arguments, 0), Binding::Local),
+            DirectiveName::Bytes => return self.numbers(Width::Byte, arguments),
+            DirectiveName::Shorts => return self.numbers(Width::Short, arguments),
+            DirectiveName::Longs => return self.longs(names, arguments),
+            DirectiveName::Ascii => return self.strings(false, arguments),
+            DirectiveName::Asciz => return self.strings(true, arguments),
+            DirectiveName::Zeros => return self.zeros(count_at(arguments, 0)),
+            DirectiveName::Aligned => self.align(alignment(count_at(arguments, 0)), None)?,
+            DirectiveName::Powered => {
                 self.align(power(count_at(arguments, 0)), limit_at(arguments, 2))?;
             }
-            Directive::Common => self.common(names, arguments),
-            Directive::LocalCommon => {
+            DirectiveName::Common => self.common(names, arguments),
+            DirectiveName::LocalCommon => {
                 self.reserve(names, symbol_at(arguments, 0), count_at(arguments, 1), 1);
             }
-            Directive::Skipped => {}
+            DirectiveName::Skipped => {}
         }
         Ok(())
     }

@@ -5,7 +5,6 @@
 mod argument;
 mod assembly;
 mod burning;
-mod bytes;
 mod data;
 mod directive;
 mod fault;
@@ -20,7 +19,6 @@ mod value;
 
 pub use assembly::Assembly;
 pub use burning::burn;
-pub use directive::Directive;
 pub use fault::{BurnCause, BurnFault};
 pub use laws::relocations_name_their_symbols;
 pub use names::Names;

@@ -29,14 +29,16 @@ use Rattle.asm_lex.specs.declared.machine.Stepped.{Stepped}
 use Rattle.asm_lex.specs.Machine.{stepped, after, stops, is_whole}
 use Rattle.asm_parse.specs.Reading.{Fault, fed, placed, symbol_of, is_longer, ending_at, with_end, next_word}
 use Rattle.asm_lex.specs.Words.{Word, word_of}
-use Rattle.asm_parse.specs.Running.{Running, goes_on, second_does, byte_does, one_byte_over, moved, one_byte, run, start, closed, read, first_lines}
+use Rattle.asm_lex.specs.Lines.{first_lines}
+use Rattle.asm_parse.specs.Running.{Running, goes_on, second_does, byte_does, one_byte_over, moved, one_byte, run, start, closed, read}
 use Rattle.asm_parse.proofs.Lines.{bind_ok, IsRead, run_ok}
 use Rattle.asm_parse.proofs.Linking.{run_append, goes_is}
 use Rattle.std.proofs.Common.{zero, suc}
 use Rattle.std.specs.Prelude.{◌==◌, ◌&&◌, ◌+◌}
 use Rattle.std.proofs.lemmas.Bool.{eqb-true}
 use Rattle.asm_parse.specs.Operand.{operand_step, is_finished}
-use Rattle.asm_parse.specs.Statement.{shape_at, at_shape, complete, end_behind, ended, least, is_bare, argument_step, nothing_yet, directive_of, of_directive, is_dotted, is_passed, is_rep, step, next_step, fault_line}
+use Rattle.asm_parse.specs.Statement.{at_shape, complete, end_behind, ended, is_bare, argument_step, nothing_yet, of_directive, is_passed, is_rep, step, next_step, fault_line}
+use Rattle.asm_parse.specs.Directives.{shape_at, least, directive_of, is_dotted}
 
 abbrev Answer : Type 0
 Answer = Result (ScopeView × State) SourceCause
@@ -97,7 +99,7 @@ directive_ends sc line n (Some directive.Strings) = argument_ends sc (nothing_ye
 directive_ends sc line n (Some directive.Zero) = argument_ends sc (nothing_yet line (head.Directive directive.Zero n))
 directive_ends sc line n (Some directive.Aligned) = argument_ends sc (nothing_yet line (head.Directive directive.Aligned n))
 directive_ends sc line n (Some directive.Powered) = argument_ends sc (nothing_yet line (head.Directive directive.Powered n))
-directive_ends sc line n (Some directive.Local) = argument_ends sc (nothing_yet line (head.Directive directive.Local n))
+directive_ends sc line n (Some directive.LocalCommon) = argument_ends sc (nothing_yet line (head.Directive directive.LocalCommon n))
 directive_ends sc line n (Some directive.Common) = argument_ends sc (nothing_yet line (head.Directive directive.Common n))
 
 -- The end of a statement leaves nothing open.

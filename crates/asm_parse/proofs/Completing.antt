@@ -35,7 +35,8 @@ use Rattle.asm_parse.specs.Operand.{is_operand, takes_numbers, fits, is_register
 use Rattle.asm_parse.specs.Grammar.{IsValue, IsForm}
 use Rattle.asm_parse.specs.Escapes.{opening, string_text}
 use Rattle.asm_parse.specs.Reading.{symbol_of}
-use Rattle.asm_parse.specs.Statement.{shape_at, least, defines, is_instruction, item_of, resumed, sectioned, is_section, is_passed, is_dotted, is_rep, changes_section, directive_of, is_known, is_change, is_unknown, is_taken, is_defining, lacks_names, if_doomed, doom}
+use Rattle.asm_parse.specs.Statement.{item_of, resumed, sectioned, is_passed, is_rep, is_unknown, is_taken, lacks_names, if_doomed, doom}
+use Rattle.asm_parse.specs.Directives.{shape_at, least, defines, is_instruction, is_section, is_dotted, changes_section, directive_of, is_known, is_change, is_defining}
 use Rattle.asm_parse.specs.Statements.{IsSeen, Sees, IsArgument, IsNext, Separated, HasArguments, has_list, Statement, symbols}
 use Rattle.asm_parse.proofs.Words.{read_words}
 use Rattle.asm_parse.proofs.Operands.{ok, operand_run}
@@ -174,7 +175,7 @@ later_shape (head.Directive k n) i sh z may e = by_kind k (may ∙ ap (λ (x : S
     by_kind directive.Aligned g = at_first shape.Alignment None none_name g
     by_kind directive.Powered g = at_first shape.Power _ (at_test (i == 1) shape.Fill _ (λ f. absurd cc) (at_test (i == 2) shape.Count None (λ f. absurd cc) none_name)) g
     by_kind directive.Common g = at_first shape.Name _ (at_test (i == 1) shape.Count _ (λ f. absurd cc) (at_test (i == 2) shape.Alignment None (λ f. absurd cc) none_name)) g
-    by_kind directive.Local g = at_first shape.Name _ (at_test (i == 1) shape.Count None (λ f. absurd cc) none_name) g
+    by_kind directive.LocalCommon g = at_first shape.Name _ (at_test (i == 1) shape.Count None (λ f. absurd cc) none_name) g
     by_kind _ g = absurd cc
 
 not_zero : (i : ℕ) → 1 ≤ i → (i == 0) ≡ false
@@ -194,7 +195,7 @@ not_name o w e is = elim (w.first e) [
 wants_two : (h : Head) (n : ℕ) → 1 ≤ n → nat_lt n (least h) ≡ true → (n ≡ 1) × (shape_at h 1 ≡ Some shape.Count) × (least h ≡ 2)
 wants_two (head.Instruction r m) n le h = absurd (omega (arith, ltb-true n 0 h))
 wants_two (head.Directive directive.Common m) n le h = (omega (arith, ltb-true n 2 h), refl, refl)
-wants_two (head.Directive directive.Local m) n le h = (omega (arith, ltb-true n 2 h), refl, refl)
+wants_two (head.Directive directive.LocalCommon m) n le h = (omega (arith, ltb-true n 2 h), refl, refl)
 wants_two (head.Directive directive.Plain m) n le h = absurd (omega (arith, ltb-true n 0 h))
 wants_two (head.Directive _ m) n le h = absurd (omega (arith, ltb-true n 1 h))
 
@@ -403,7 +404,7 @@ not_spent sc b n k passed dotted dir def alive = by_spent (is_spent sc) refl
   where
     not_change : (k : Directive) → is_defining (Some k) ≡ true → is_change (Some k) ≡ false
     not_change directive.Common h = refl
-    not_change directive.Local h = refl
+    not_change directive.LocalCommon h = refl
     not_change _ h = absurd cc
 
     not_skipping : (t : Bool) → sc.skipping ≡ t → sc.skipping ≡ false
@@ -429,7 +430,7 @@ named_completed sc b n g alive = by_tests (is_passed sc n) (is_dotted n) (is_rep
     by_directive (Some directive.Aligned) passed dotted dir = number_completed sc b n passed dotted directive.Aligned shape.Alignment dir refl refl refl refl refl
     by_directive (Some directive.Powered) passed dotted dir = number_completed sc b n passed dotted directive.Powered shape.Power dir refl refl refl refl refl
     by_directive (Some directive.Common) passed dotted dir = defining_completed sc b n passed dotted directive.Common dir refl refl refl refl refl (definable sc g (not_spent sc b n directive.Common passed dotted dir refl alive))
-    by_directive (Some directive.Local) passed dotted dir = defining_completed sc b n passed dotted directive.Local dir refl refl refl refl refl (definable sc g (not_spent sc b n directive.Local passed dotted dir refl alive))
+    by_directive (Some directive.LocalCommon) passed dotted dir = defining_completed sc b n passed dotted directive.LocalCommon dir refl refl refl refl refl (definable sc g (not_spent sc b n directive.LocalCommon passed dotted dir refl alive))
     by_directive (Some directive.Skipped) passed dotted dir = by_symbols sc sc (state.Named b n) (the_end ∷ []) (end_piece, tt) (statement_runs (Statement.skipped_directive {sc = sc} {line = b} {n = n} [] passed dotted dir refl refl))
 
     by_tests : (t u v : Bool) → is_passed sc n ≡ t → is_dotted n ≡ u → is_rep n ≡ v → Completed sc (state.Named b n)

@@ -11,7 +11,8 @@ use Rattle.asm_parse.specs.declared.symbol.Symbol.TheVariants as symbol
 use Rattle.asm_parse.specs.declared.escapes.Escape.{Escape}
 use Rattle.asm_parse.specs.declared.escapes.Escape.TheVariants as escape
 use Rattle.asm_parse.specs.declared.escapes.Unescaped.{Unescaped}
-use Rattle.asm_parse.specs.Escapes.{gives, is_octal_digit, joined, escaped, plain, escape_step, listed, opening, string_text}
+use Rattle.asm_lex.specs.Bytes.{is_octal}
+use Rattle.asm_parse.specs.Escapes.{gives, joined, escaped, plain, escape_step, listed, opening, string_text}
 use Rattle.asm_parse.specs.Reading.{number_value, mark_symbol, number_symbol, symbol_of}
 use Rattle.asm_parse.specs.Statements.{symbols}
 
@@ -53,9 +54,9 @@ plain_some v b = gives_either 1 (b == 92) _ _ (omega arith) (gives_either 1 (b =
 step_gives : (e : Escape) (b : ℕ) → Gives (owed e) (escape_step e b)
 step_gives escape.Open b = omega arith
 step_gives escape.Plain b = plain_none b
-step_gives escape.Slash b = gives_either 0 (is_octal_digit b) _ _ (omega arith) (omega arith)
-step_gives (escape.One v) b = gives_either 1 (is_octal_digit b) _ _ (omega arith) (plain_some v b)
-step_gives (escape.Two v) b = gives_either 1 (is_octal_digit b) _ _ (omega arith) (plain_some v b)
+step_gives escape.Slash b = gives_either 0 (is_octal b) _ _ (omega arith) (omega arith)
+step_gives (escape.One v) b = gives_either 1 (is_octal b) _ _ (omega arith) (plain_some v b)
+step_gives (escape.Two v) b = gives_either 1 (is_octal b) _ _ (omega arith) (plain_some v b)
 step_gives escape.Done b = omega arith
 
 string_shorter : (e : Escape) (bs : List ℕ) → length (string_text e bs) ≤ owed e + length bs

@@ -11,7 +11,8 @@ use Rattle.asm_parse.specs.declared.state.State.TheVariants as state
 use Rattle.asm_parse.specs.ScopeView.{ScopeView}
 use Rattle.asm_parse.specs.Statement.{doom, pending, or_line, fault_line, left_open, open_at_end}
 use Rattle.asm_parse.specs.Reading.{Fault, placed, next_word}
-use Rattle.asm_parse.specs.Running.{Running, ◌>>=◌, one_byte, run, start, closed, read, first_lines}
+use Rattle.asm_lex.specs.Lines.{first_lines}
+use Rattle.asm_parse.specs.Running.{Running, ◌>>=◌, one_byte, run, start, closed, read}
 use Rattle.asm_parse.proofs.Scopes.{GoodIn, fresh_good}
 use Rattle.asm_parse.proofs.Quiet.{Any, any_next}
 use Rattle.asm_parse.proofs.Lines.{OneByte, placed_goes, bind_ok, err_line, ok_byte, line_newline, line_same, run_ok, IsRead}

@@ -27,7 +27,8 @@ use Rattle.asm_parse.specs.declared.operand.Partial.TheVariants as partial
 use Rattle.asm_parse.proofs.Scopes.{GoodIn, fresh_good, seen_good, spent_noting}
 use Rattle.asm_parse.proofs.Names.{noting_seen, Keeps, name_step, IsSome, symbol_some, operand_next}
 use Rattle.asm_parse.specs.Operand.{operand_step, is_finished, is_nothing, name_in}
-use Rattle.asm_parse.specs.Statement.{shape_at, least, defines, is_instruction, item_of, resumed, noting, after_noting, with_name, after_step, at_shape, within, argument_of, comma_behind, end_behind, ended, complete, complete_with, is_bare, takes_star, argument_step, nothing_yet, labelled, label, is_rep, rep_step, instruction_step, directive_of, of_directive, directive_step, is_dotted, is_passed, is_section, section_name, section, unless_skipping, start_step, colon_behind, other_behind, named_step, sectioned_step, flags_step, skip, with_scope, stray_cause, step, is_place, strayed, next_step, is_unknown, is_taken, is_defining, lacks_names, if_doomed, doom, or_line, fault_line}
+use Rattle.asm_parse.specs.Statement.{item_of, resumed, noting, after_noting, with_name, after_step, at_shape, within, argument_of, comma_behind, end_behind, ended, complete, complete_with, is_bare, takes_star, argument_step, nothing_yet, labelled, label, is_rep, rep_step, instruction_step, of_directive, directive_step, is_passed, section_name, section, unless_skipping, start_step, colon_behind, other_behind, named_step, sectioned_step, flags_step, skip, with_scope, stray_cause, step, is_place, strayed, next_step, is_unknown, is_taken, lacks_names, if_doomed, doom, or_line, fault_line}
+use Rattle.asm_parse.specs.Directives.{shape_at, least, defines, is_instruction, directive_of, is_dotted, is_section, is_defining}
 
 abbrev pub Answer : Type 0
 Answer = Result (ScopeView × State) SourceCause
@@ -91,8 +92,8 @@ stray_stops sc l line c _ x h = absurd cc
 defines_none : (P : List ℕ → Type 0) (sc : ScopeView) (b : ℕ) (n : List ℕ) (k : Directive) (s : Symbol) → is_defining (Some k) ≡ true → GoodIn P sc → is_spent sc ≡ true → (c : SourceCause) × (of_directive (Some k) sc b n s ≡ Err c)
 defines_none P sc b n directive.Common (symbol.Name m) d g spent = let c = spent_noting P sc m g spent in (c.0, ap (after_noting (record (nothing_yet b (head.Directive directive.Common n)) { so_far = partial.Name place.Memory m })) c.1)
 defines_none P sc b n directive.Common _ d g spent = (_, refl)
-defines_none P sc b n directive.Local (symbol.Name m) d g spent = let c = spent_noting P sc m g spent in (c.0, ap (after_noting (record (nothing_yet b (head.Directive directive.Local n)) { so_far = partial.Name place.Memory m })) c.1)
-defines_none P sc b n directive.Local _ d g spent = (_, refl)
+defines_none P sc b n directive.LocalCommon (symbol.Name m) d g spent = let c = spent_noting P sc m g spent in (c.0, ap (after_noting (record (nothing_yet b (head.Directive directive.LocalCommon n)) { so_far = partial.Name place.Memory m })) c.1)
+defines_none P sc b n directive.LocalCommon _ d g spent = (_, refl)
 defines_none P sc b n _ s d g spent = absurd cc
 
 defining_is : (o : Option Directive) → is_defining o ≡ true → (k : Directive) × (o ≡ Some k) × (is_defining (Some k) ≡ true)

@@ -33,7 +33,8 @@ use Rattle.asm_parse.specs.ScopeView.{ScopeView}
 use Rattle.asm_parse.specs.Scope.{fresh, holds, added, pushed, noted, has_room}
 use Rattle.asm_parse.specs.Grammar.{IsValue, IsForm}
 use Rattle.asm_parse.specs.Reading.{number_value, mark_symbol, number_symbol, symbol_of}
-use Rattle.asm_parse.specs.Statement.{defines, item_of, resumed, sectioned}
+use Rattle.asm_parse.specs.Statement.{item_of, resumed, sectioned}
+use Rattle.asm_parse.specs.Directives.{defines}
 use Rattle.asm_parse.specs.Statements.{IsSeen, Sees, symbol_in, IsArgument, IsNext, Separated, HasArguments, Statement, symbols, text_of, IsStatement, Statements}
 use Rattle.asm_parse.specs.Readable.{name_list, argument_names, body_names, names_in, IsReadable}
 use Rattle.asm_parse.specs.Running.{Says, SourceAs, Parses, read}

@@ -27,7 +27,8 @@ use Rattle.asm_parse.specs.Operand.{is_operand, begun, operand_step, finished, i
 use Rattle.asm_parse.specs.Grammar.{IsForm}
 use Rattle.asm_parse.specs.Reading.{placed, symbol_of, is_part, ending_at, next_word}
 use Rattle.asm_parse.proofs.Words.{read_words}
-use Rattle.asm_parse.specs.Statement.{shape_at, least, defines, is_instruction, item_of, resumed, sectioned, noting, with_name, after_noting, after_step, at_shape, within, argument_step, is_bare, takes_star, ended, ended_as, comma_behind, end_behind, complete, nothing_yet, named_step, labelled, label, directive_step, of_directive, directive_of, rep_step, section_name, unless_skipping, skip, section, sectioned_step, flags_step, start_step, step, argument_of, is_place, strayed, next_step, fault_line, with_scope, is_passed, is_dotted, is_rep, is_section}
+use Rattle.asm_parse.specs.Statement.{item_of, resumed, sectioned, noting, with_name, after_noting, after_step, at_shape, within, argument_step, is_bare, takes_star, ended, ended_as, comma_behind, end_behind, complete, nothing_yet, named_step, labelled, label, directive_step, of_directive, rep_step, section_name, unless_skipping, skip, section, sectioned_step, flags_step, start_step, step, argument_of, is_place, strayed, next_step, fault_line, with_scope, is_passed, is_rep}
+use Rattle.asm_parse.specs.Directives.{shape_at, least, defines, is_instruction, directive_of, is_dotted, is_section}
 use Rattle.asm_parse.specs.Statements.{IsSeen, Sees, IsArgument, IsNext, Separated, HasArguments, is_inner, is_unlabelled, are_flags, has_list, Statement, symbols, text_of, Touch, IsStatement, Statements}
 use Rattle.asm_parse.proofs.Operands.{Spelled, begun_spelled, more, spelled_form}
 use Rattle.asm_parse.proofs.Names.{noting_seen, named_in, name_step, finished_named, is_finished_some, operand_next}

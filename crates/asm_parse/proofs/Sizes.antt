@@ -23,7 +23,8 @@ use Rattle.asm_parse.specs.ScopeView.{ScopeView}
 use Rattle.asm_parse.specs.Scope.{fresh, pushed}
 use Rattle.asm_parse.specs.Operand.{begun, takes_absent}
 use Rattle.asm_parse.specs.Grammar.{IsConstant, IsValue, IsAddress, IsForm}
-use Rattle.asm_parse.specs.Statement.{shape_at, item_of, resumed, sectioned}
+use Rattle.asm_parse.specs.Statement.{item_of, resumed, sectioned}
+use Rattle.asm_parse.specs.Directives.{shape_at}
 use Rattle.asm_parse.specs.Statements.{IsSeen, Sees, IsArgument, IsNext, Separated, HasArguments, Statement, symbols, text_of, IsStatement, Statements}
 use Rattle.std.specs.Prelude.{IfOk, Result, Ok, Err}
 use Rattle.asm_lex.specs.declared.fault.SourceFault.{SourceFault}

@@ -31,7 +31,8 @@ use Rattle.asm_lex.specs.declared.token.TokenKind.TheVariants as token
 use Rattle.asm_parse.specs.Reading.{Fault, placed, mark_symbol, number_symbol, number_value, symbol_of, is_part, is_longer, longer, ending_at, next_word}
 use Rattle.asm_parse.specs.Running.{◌>>=◌}
 use Rattle.asm_parse.proofs.Words.{read_words}
-use Rattle.asm_parse.specs.Statement.{shape_at, least, defines, is_instruction, item_of, resumed, sectioned, with_name, after_step, at_shape, within, argument_step, nothing_yet, named_step, colon_behind, label, labelled, unless_skipping, other_behind, of_directive, skip, sectioned_step, flags_step, start_step, step, strayed, next_step, fault_line, is_passed, is_dotted, directive_of, is_section, with_scope}
+use Rattle.asm_parse.specs.Statement.{item_of, resumed, sectioned, with_name, after_step, at_shape, within, argument_step, nothing_yet, named_step, colon_behind, label, labelled, unless_skipping, other_behind, of_directive, skip, sectioned_step, flags_step, start_step, step, strayed, next_step, fault_line, is_passed, with_scope}
+use Rattle.asm_parse.specs.Directives.{shape_at, least, defines, is_instruction, is_dotted, directive_of, is_section}
 use Rattle.asm_parse.specs.Statements.{IsSeen, Sees, symbol_in, IsArgument, Separated, HasArguments, is_inner, is_unlabelled, is_nameless, are_flags, has_list, Statement, symbols, text_of, Touch, IsStatement, Statements}
 use Rattle.asm_parse.proofs.Operands.{ok, operand_run, form_reads}
 use Rattle.asm_parse.proofs.Names.{seen_noting, named_in, name_step, name_stays, finished_named, finished_is, no_star, no_end_symbol, no_big, no_comma}
@@ -211,7 +212,7 @@ operand_head (head.Directive kind.Powered n) i sh e k =
 operand_head (head.Directive kind.Common n) i sh e k =
     absurd (at_test (i == 0) shape.Name sh (cond (i == 1) (Some shape.Count) (cond (i == 2) (Some shape.Alignment) None)) refl
     (λ g. at_test (i == 1) shape.Count sh (cond (i == 2) (Some shape.Alignment) None) refl (λ f. at_test (i == 2) shape.Alignment sh None refl (none_shape sh) f k) g k) e k)
-operand_head (head.Directive kind.Local n) i sh e k = absurd (at_test (i == 0) shape.Name sh (cond (i == 1) (Some shape.Count) None) refl (λ g. at_test (i == 1) shape.Count sh None refl (none_shape sh) g k) e k)
+operand_head (head.Directive kind.LocalCommon n) i sh e k = absurd (at_test (i == 0) shape.Name sh (cond (i == 1) (Some shape.Count) None) refl (λ g. at_test (i == 1) shape.Count sh None refl (none_shape sh) g k) e k)
 operand_head (head.Directive _ n) i sh e k = absurd cc
 
 pub instruction_operand : (h : Head) (i : ℕ) (sh : Shape) → is_instruction h ≡ true → shape_at h i ≡ Some sh → is_operand sh ≡ true
@@ -237,7 +238,7 @@ first_shape (head.Directive kind.Zero n) sh e = let g : shape.Count ≡ sh = cc 
 first_shape (head.Directive kind.Aligned n) sh e = let g : shape.Alignment ≡ sh = cc in ap begun (sym g)
 first_shape (head.Directive kind.Powered n) sh e = let g : shape.Power ≡ sh = cc in ap begun (sym g)
 first_shape (head.Directive kind.Common n) sh e = let g : shape.Name ≡ sh = cc in ap begun (sym g)
-first_shape (head.Directive kind.Local n) sh e = let g : shape.Name ≡ sh = cc in ap begun (sym g)
+first_shape (head.Directive kind.LocalCommon n) sh e = let g : shape.Name ≡ sh = cc in ap begun (sym g)
 first_shape (head.Directive _ n) sh e = absurd cc
 
 -- a name is seen from where an argument begins

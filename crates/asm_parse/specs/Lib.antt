@@ -4,6 +4,7 @@ pub mod Keys
 pub mod ScopeView
 pub mod Scope
 pub mod Grammar
+pub mod Directives
 pub mod Statement
 pub mod Reading
 pub mod Statements

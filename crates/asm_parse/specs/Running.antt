@@ -12,6 +12,7 @@ use Rattle.asm_lex.specs.declared.machine.Next.TheVariants.{Goes, Stops}
 use Rattle.asm_lex.specs.declared.machine.Stepped.{Stepped}
 use Rattle.asm_lex.specs.Machine.{stepped}
 use Rattle.asm_lex.specs.Words.{line_after}
+use Rattle.asm_lex.specs.Lines.{first_lines}
 use Rattle.asm_parse.specs.declared.state.State.{State}
 use Rattle.asm_parse.specs.declared.state.State.TheVariants as state
 use Rattle.asm_parse.specs.declared.tree.SourceItem.{SourceItem}
@@ -77,12 +78,6 @@ closed r _ = Ok r
 -- A source: a last line that lacks its newline is read as if it had one.
 unfoldable pub read : List ℕ → Result Running Fault
 read text = run start (text ++ 10 ∷ []) >>= λ r. closed r r.mode
-
--- the first lines of a text, each with its newline
-abbrev pub first_lines : ℕ → List ℕ → List ℕ
-first_lines zero text = []
-first_lines (suc n) [] = 10 ∷ []
-first_lines (suc n) (b ∷ bs) = b ∷ first_lines (if b == 10 then n else suc n) bs
 
 -- what a function returned is what this reading gives, unless memory ran out
 abbrev pub Runs : Result (ScopeView × State × Mode) SourceFault → Result Running Fault → Type 0

@@ -1,6 +1,5 @@
 -- One statement, symbol by symbol.
 use Rattle.std.specs.Str.{bytes_eq}
-use Rattle.std.specs.List.{starts_with}
 use Rattle.std.specs.Prelude.{codes, nat_eq, is_none, nat_lt, ◌≡◌, ℕ, ◌==◌, Bool, true, false, not, ◌&&◌, ◌||◌, List, [], ◌∷◌, ◌++◌, length, Option, Some, None, Result, Ok, Err, if◌then◌else◌}
 use Rattle.asm_lex.specs.declared.fault.SourceCause.{SourceCause}
 use Rattle.asm_lex.specs.declared.fault.SourceCause.TheVariants as cause
@@ -24,53 +23,10 @@ use Rattle.asm_parse.specs.declared.state.State.{State}
 use Rattle.asm_parse.specs.declared.state.State.TheVariants as state
 use Rattle.asm_parse.specs.declared.stop.Stop.{Stop}
 use Rattle.asm_parse.specs.declared.stop.Stop.TheVariants as stop
+use Rattle.asm_parse.specs.Directives.{shape_at, least, is_instruction, defines, directive_of, is_dotted, changes_section, is_section, is_unread, is_defining}
 use Rattle.asm_parse.specs.ScopeView.{ScopeView}
 use Rattle.asm_parse.specs.Scope.{holds, has_room, is_spent, fresh, pushed, noted, defined_too}
 use Rattle.asm_parse.specs.Operand.{operand_step, begun, finished, is_finished, is_nothing, is_unbegun, awaits_register, is_register, name_in}
-
-abbrev pub begins : List ℕ → List ℕ → Bool
-begins name text = starts_with nat_eq name text
-
-abbrev pub directive_shape : Directive → ℕ → Option Shape
-directive_shape directive.Bytes i = Some shape.Number
-directive_shape directive.Longs i = Some shape.Value
-directive_shape directive.Strings i = Some shape.Text
-directive_shape directive.Global i = if i == 0 then Some shape.Name else None
-directive_shape directive.Zero i = if i == 0 then Some shape.Count else None
-directive_shape directive.Aligned i = if i == 0 then Some shape.Alignment else None
-directive_shape directive.Powered i = if i == 0 then Some shape.Power else if i == 1 then Some shape.Fill else if i == 2 then Some shape.Count else None
-directive_shape directive.Common i = if i == 0 then Some shape.Name else if i == 1 then Some shape.Count else if i == 2 then Some shape.Alignment else None
-directive_shape directive.Local i = if i == 0 then Some shape.Name else if i == 1 then Some shape.Count else None
-directive_shape _ i = None
-
--- what may stand as this argument
-abbrev pub shape_at : Head → ℕ → Option Shape
-shape_at (head.Instruction r n) i = Some shape.Operand
-shape_at (head.Directive k n) i = directive_shape k i
-
-abbrev pub directive_least : Directive → ℕ
-directive_least directive.Plain = 0
-directive_least directive.Common = 2
-directive_least directive.Local = 2
-directive_least _ = 1
-
--- how many arguments there are at least
-abbrev pub least : Head → ℕ
-least (head.Instruction r n) = 0
-least (head.Directive k n) = directive_least k
-
-abbrev pub is_instruction : Head → Bool
-is_instruction (head.Instruction r n) = true
-is_instruction (head.Directive k n) = false
-
-abbrev pub directive_defines : Directive → ℕ → Bool
-directive_defines directive.Common i = i == 0
-directive_defines directive.Local i = i == 0
-directive_defines _ i = false
-
-abbrev pub defines : Head → ℕ → Bool
-defines (head.Instruction r n) i = false
-defines (head.Directive k n) i = directive_defines k i
 
 -- a token with which no argument begins
 abbrev pub begins_nothing : Symbol → Bool
@@ -228,48 +184,9 @@ rep_step sc line _ = Err cause.BadOperand
 abbrev pub instruction_step : ScopeView → ℕ → List ℕ → Symbol → Result (ScopeView × State) SourceCause
 instruction_step sc line n s = if is_rep n then rep_step sc line s else argument_step sc (nothing_yet line (head.Instruction false n)) s
 
-unfoldable pub directive_of : List ℕ → Option Directive
-directive_of n =
-    if bytes_eq n (codes ".text") || bytes_eq n (codes ".data") || bytes_eq n (codes ".bss") then Some directive.Plain else
-    if bytes_eq n (codes ".section") then Some directive.Section else
-    if bytes_eq n (codes ".globl") || bytes_eq n (codes ".global") || bytes_eq n (codes ".local") then Some directive.Global else
-    if bytes_eq n (codes ".byte") || bytes_eq n (codes ".short") || bytes_eq n (codes ".word") || bytes_eq n (codes ".value") then Some directive.Bytes else
-    if bytes_eq n (codes ".long") || bytes_eq n (codes ".int") then Some directive.Longs else
-    if bytes_eq n (codes ".ascii") || bytes_eq n (codes ".asciz") || bytes_eq n (codes ".string") then Some directive.Strings else
-    if bytes_eq n (codes ".zero") || bytes_eq n (codes ".skip") || bytes_eq n (codes ".space") then Some directive.Zero else
-    if bytes_eq n (codes ".align") || bytes_eq n (codes ".balign") then Some directive.Aligned else
-    if bytes_eq n (codes ".p2align") then Some directive.Powered else
-    if bytes_eq n (codes ".comm") then Some directive.Common else
-    if bytes_eq n (codes ".lcomm") then Some directive.Local else
-    if bytes_eq n (codes ".file") || bytes_eq n (codes ".type") || bytes_eq n (codes ".size") || bytes_eq n (codes ".ident") || bytes_eq n (codes ".code32") || bytes_eq n (codes ".loc") || begins n (codes ".cfi_") then Some directive.Skipped else
-    None
-
-abbrev pub is_dotted : List ℕ → Bool
-is_dotted [] = false
-is_dotted (b ∷ bs) = b == 46
-
--- the sections that are read
-unfoldable pub is_known : List ℕ → Bool
-is_known n = begins n (codes ".text") || begins n (codes ".bss") || begins n (codes ".rodata") || begins n (codes ".data")
-
--- the sections that aren't read
-unfoldable pub is_unread : List ℕ → Bool
-is_unread n = begins n (codes ".note") || begins n (codes ".comment") || begins n (codes ".debug") || begins n (codes ".eh_frame")
-
-abbrev pub is_change : Option Directive → Bool
-is_change (Some directive.Plain) = true
-is_change (Some directive.Section) = true
-is_change _ = false
-
-abbrev pub changes_section : List ℕ → Bool
-changes_section n = is_dotted n && is_change (directive_of n)
-
 -- the statement of this name is skipped
 abbrev pub is_passed : ScopeView → List ℕ → Bool
 is_passed sc n = sc.skipping && not (changes_section n)
-
-abbrev pub is_section : List ℕ → Bool
-is_section m = is_known m || is_unread m
 
 abbrev pub section_name : ℕ → List ℕ → Symbol → Result State SourceCause
 section_name line n (symbol.Name m) = if is_section m then Ok (state.Sectioned line n m 0) else Err cause.BadArgument
@@ -352,11 +269,6 @@ is_unknown sc n = is_dotted n && not sc.skipping && is_none (directive_of n)
 -- a label may not have this name
 abbrev pub is_taken : ScopeView → List ℕ → Bool
 is_taken sc n = holds sc.defined n || not (has_room sc n)
-
-abbrev pub is_defining : Option Directive → Bool
-is_defining (Some directive.Common) = true
-is_defining (Some directive.Local) = true
-is_defining _ = false
 
 -- a directive that defines a name, where none is left to define
 abbrev pub lacks_names : ScopeView → List ℕ → Bool

@@ -19,7 +19,8 @@ use Rattle.asm_parse.specs.Scope.{holds, has_room, pushed, noted, defined_too}
 use Rattle.asm_parse.specs.Operand.{is_operand}
 use Rattle.asm_parse.specs.Grammar.{IsForm}
 use Rattle.asm_parse.specs.Reading.{symbol_of, is_part}
-use Rattle.asm_parse.specs.Statement.{shape_at, least, defines, item_of, resumed, sectioned, is_dotted, is_rep, is_section, is_passed, directive_of}
+use Rattle.asm_parse.specs.Statement.{item_of, resumed, sectioned, is_rep, is_passed}
+use Rattle.asm_parse.specs.Directives.{shape_at, least, defines, is_dotted, is_section, directive_of}
 
 -- ---- names
 

@@ -1,9 +1,11 @@
 //! The directives, and what their arguments are.
 
 ghost use Rattle.std.specs.Prelude.{◌≡◌};
-ghost use Rattle.asm_parse.specs.Statement as spec;
+ghost use Rattle.asm_parse.specs.Directives as spec;
+ghost use Rattle.asm_parse.specs.Statement.{is_rep};
 
 use crate::bytes::{begins, is_text};
+use crate::directive_table::{DirectiveName, directive_name};
 use crate::operand::Shape;
 use crate::tree::Name;
 
@@ -22,7 +24,7 @@ pub enum Directive {
     /// `.p2align`.
     Powered,
     Common,
-    Local,
+    LocalCommon,
     Skipped,
 }
 
@@ -78,7 +80,7 @@ fn directive_shape(kind: Directive, index: usize) -> Option<Shape>
                 None
             }
         }
-        Directive::Local => {
+        Directive::LocalCommon => {
             if index == 0 {
                 Some(Shape::Name)
             } else if index == 1 {
@@ -105,7 +107,7 @@ fn directive_least(kind: Directive) -> usize
 {
     match kind {
         Directive::Plain => 0,
-        Directive::Common | Directive::Local => 2,
+        Directive::Common | Directive::LocalCommon => 2,
         _ => 1,
     }
 }
@@ -126,7 +128,7 @@ pub fn defines(head: &Head, index: usize) -> bool
     match head {
         Head::Instruction { rep: _, name: _ } => false,
         Head::Directive { kind, name: _ } => match kind {
-            Directive::Common | Directive::Local => index == 0,
+            Directive::Common | Directive::LocalCommon => index == 0,
             _ => false,
         },
     }
@@ -134,53 +136,38 @@ pub fn defines(head: &Head, index: usize) -> bool
 
 #[tactic(auto, unfolding(crate::specs::Statement::is_rep))]
 pub fn is_rep(name: &Name) -> bool
-    ensures { result ≡ spec.is_rep name.now }
+    ensures { result ≡ is_rep name.now }
 {
     is_text(&name.bytes, b"rep")
 }
 
-/// The directive of this name.
-#[tactic(auto, unfolding(crate::specs::Statement::directive_of))]
+fn family(directive: DirectiveName) -> Directive
+    ensures { result ≡ spec.family directive }
+{
+    match directive {
+        DirectiveName::Text | DirectiveName::Data | DirectiveName::Bss => Directive::Plain,
+        DirectiveName::Section => Directive::Section,
+        DirectiveName::Global | DirectiveName::Local => Directive::Global,
+        DirectiveName::Bytes | DirectiveName::Shorts => Directive::Bytes,
+        DirectiveName::Longs => Directive::Longs,
+        DirectiveName::Ascii | DirectiveName::Asciz => Directive::Strings,
+        DirectiveName::Zeros => Directive::Zero,
+        DirectiveName::Aligned => Directive::Aligned,
+        DirectiveName::Powered => Directive::Powered,
+        DirectiveName::Common => Directive::Common,
+        DirectiveName::LocalCommon => Directive::LocalCommon,
+        DirectiveName::Skipped => Directive::Skipped,
+    }
+}
+
+/// The family of the directive of this name.
+#[tactic(auto, unfolding(crate::specs::Directives::directive_of))]
 fn directive_of(name: &[u8]) -> Option<Directive>
     ensures { result ≡ spec.directive_of name.now }
 {
-    if is_text(name, b".text") || is_text(name, b".data") || is_text(name, b".bss") {
-        Some(Directive::Plain)
-    } else if is_text(name, b".section") {
-        Some(Directive::Section)
-    } else if is_text(name, b".globl") || is_text(name, b".global") || is_text(name, b".local") {
-        Some(Directive::Global)
-    } else if is_text(name, b".byte")
-        || is_text(name, b".short")
-        || is_text(name, b".word")
-        || is_text(name, b".value")
-    {
-        Some(Directive::Bytes)
-    } else if is_text(name, b".long") || is_text(name, b".int") {
-        Some(Directive::Longs)
-    } else if is_text(name, b".ascii") || is_text(name, b".asciz") || is_text(name, b".string") {
-        Some(Directive::Strings)
-    } else if is_text(name, b".zero") || is_text(name, b".skip") || is_text(name, b".space") {
-        Some(Directive::Zero)
-    } else if is_text(name, b".align") || is_text(name, b".balign") {
-        Some(Directive::Aligned)
-    } else if is_text(name, b".p2align") {
-        Some(Directive::Powered)
-    } else if is_text(name, b".comm") {
-        Some(Directive::Common)
-    } else if is_text(name, b".lcomm") {
-        Some(Directive::Local)
-    } else if is_text(name, b".file")
-        || is_text(name, b".type")
-        || is_text(name, b".size")
-        || is_text(name, b".ident")
-        || is_text(name, b".code32")
-        || is_text(name, b".loc")
-        || begins(name, b".cfi_")
-    {
-        Some(Directive::Skipped)
-    } else {
-        None
+    match directive_name(name) {
+        Some(directive) => Some(family(directive)),
+        None => None,
     }
 }
 
@@ -205,7 +192,7 @@ pub fn is_dotted(name: &Name) -> bool
     begins_with_dot(&name.bytes)
 }
 
-#[tactic(auto, unfolding(crate::specs::Statement::is_known))]
+#[tactic(auto, unfolding(crate::specs::Directives::is_known))]
 fn is_known(name: &[u8]) -> bool
     ensures { result ≡ spec.is_known name.now }
 {
@@ -215,7 +202,7 @@ fn is_known(name: &[u8]) -> bool
         || begins(name, b".data")
 }
 
-#[tactic(auto, unfolding(crate::specs::Statement::is_unread))]
+#[tactic(auto, unfolding(crate::specs::Directives::is_unread))]
 fn is_unread(name: &[u8]) -> bool
     ensures { result ≡ spec.is_unread name.now }
 {
@@ -251,7 +238,7 @@ pub fn is_defining(directive: Option<Directive>) -> bool
     ensures { result ≡ spec.is_defining directive }
 {
     match directive {
-        Some(Directive::Common) | Some(Directive::Local) => true,
+        Some(Directive::Common) | Some(Directive::LocalCommon) => true,
         _ => false,
     }
 }

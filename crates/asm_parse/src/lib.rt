@@ -5,6 +5,7 @@ mod argument;
 mod bytes;
 mod dead;
 mod directive;
+mod directive_table;
 mod escapes;
 mod laws;
 mod operand;
@@ -20,7 +21,9 @@ mod symbol_set;
 mod tree;
 
 pub use asm_lex::LIMIT;
+pub use bytes::begins;
 pub use directive::{Directive, Head};
+pub use directive_table::{DirectiveName, directive_name};
 pub use escapes::{Escape, Unescaped};
 pub use laws::sources_are_readable;
 pub use operand::{Partial, Place, Shape};

@@ -1,6 +1,6 @@
 //! The items of a source.
 
-ghost use Rattle.std.specs.Prelude.{◌≡◌, ◌≤◌, ◌<◌, ◌++◌, ◌∷◌, []};
+ghost use Rattle.std.specs.Prelude.{◌≡◌, ◌≤◌, ◌<◌};
 ghost use Rattle.std.specs.Prelude.{length, List, IfOk};
 ghost use Rattle.asm_parse.specs.declared.tree.SourceItem.{SourceItem};
 ghost use Rattle.asm_parse.specs.Running.{SourceAs};
@@ -13,21 +13,8 @@ ghost use Rattle.asm_parse.specs.Running as run;
 use crate::dead::left_open;
 use crate::reading::read;
 use crate::tree::Source;
-use asm_lex::{LIMIT, Mode, SourceCause, SourceFault};
+use asm_lex::{LIMIT, Mode, SourceCause, SourceFault, with_newline};
 use std::alloc::Global;
-
-/// The source with a newline at its end.
-fn with_newline(alloc: Global, text: &[u8]) -> Result<Vec<u8>, SourceFault>
-    ensures { run.OkOrMemory result (λ v. v.items ≡ text.now ++ 10 ∷ []) }
-{
-    match Vec::from_slice(alloc, text) {
-        Err(_) => Err(SourceFault::Memory),
-        Ok(mut source) => match source.push(b'\n') {
-            Err(_) => Err(SourceFault::Memory),
-            Ok(()) => Ok(source),
-        },
-    }
-}
 
 /// Reads a source that isn't too long.
 #[tactic(auto, unfolding(crate::specs::Running::read))]
@@ -36,7 +23,7 @@ fn parsed(alloc: Global, text: &[u8]) -> Result<Source, SourceFault>
     ensures { run.Parses result (run.read text.now) }
 {
     let source = match with_newline(alloc, text) {
-        Err(fault) => return Err(fault),
+        Err(_) => return Err(SourceFault::Memory),
         Ok(source) => source,
     };
     match read(alloc, &source) {

@@ -28,8 +28,8 @@ use Rattle.afterburner.specs.declared.section.Section.TheVariants as section
 use Rattle.afterburner.specs.declared.symbol.Definition.{Definition}
 use Rattle.afterburner.specs.declared.symbol.Binding.{Binding}
 use Rattle.afterburner.specs.declared.symbol.Binding.TheVariants as binding
-use Rattle.afterburner.specs.declared.directive.Directive.{Directive}
-use Rattle.afterburner.specs.declared.directive.Directive.TheVariants as directive
+use Rattle.asm_parse.specs.declared.directive_table.DirectiveName.{DirectiveName}
+use Rattle.asm_parse.specs.declared.directive_table.DirectiveName.TheVariants as directive
 use Rattle.afterburner.specs.declared.value.Width.{Width}
 use Rattle.afterburner.specs.declared.value.Width.TheVariants as width
 use Rattle.afterburner.specs.declared.fault.BurnCause.{BurnCause}
@@ -168,12 +168,12 @@ module _ (Plain : Type 0) where
       let r = reserved_made names st cs (symbol_at args 0) (count_at args 1) (common_alignment (limit_at args 2)) e h in
       bound_made names (reserved names st (symbol_at args 0) (count_at args 1) (common_alignment (limit_at args 2))) cs (symbol_at args 0) binding.Common r.1 r.0
 
-  directed_made : (names : List (List ℕ)) (st new : State) (cs : List Chunk) (d : Directive) (args : List Argument) → st.after_sti ≡ false → IsMade Plain st cs → directed names st d args ≡ Ok new → Made Plain new
+  directed_made : (names : List (List ℕ)) (st new : State) (cs : List Chunk) (d : DirectiveName) (args : List Argument) → st.after_sti ≡ false → IsMade Plain st cs → directed names st d args ≡ Ok new → Made Plain new
   unfolding directed
   directed_made names st new cs directive.Text args e h is = made_as (entered st section.Text) new cs (section_made st cs section.Text e h) is
   directed_made names st new cs directive.Data args e h is = made_as (entered st section.Init) new cs (section_made st cs section.Init e h) is
   directed_made names st new cs directive.Bss args e h is = made_as (entered st section.Bss) new cs (section_made st cs section.Bss e h) is
-  directed_made names st new cs directive.Named args e h is = made_as (entered st (section_named (text_at args 0) st.section)) new cs (section_made st cs (section_named (text_at args 0) st.section) e h) is
+  directed_made names st new cs directive.Section args e h is = made_as (entered st (section_named (text_at args 0) st.section)) new cs (section_made st cs (section_named (text_at args 0) st.section) e h) is
   directed_made names st new cs directive.Global args e h is = made_as (bound names st (symbol_at args 0) binding.Global) new cs (bound_made names st cs (symbol_at args 0) binding.Global e h) is
   directed_made names st new cs directive.Local args e h is = made_as (bound names st (symbol_at args 0) binding.Local) new cs (bound_made names st cs (symbol_at args 0) binding.Local e h) is
   directed_made names st new cs directive.Bytes args e h is = numbers_made st new cs width.Byte args e h is

@@ -1,4 +1,6 @@
 use asm_lex::{SourceCause, SourceFault, Token, TokenKind, lex};
+use asm_parse::parse;
+use std::alloc::AllocError;
 use std::test::*;
 
 /// A token of this kind at this place.
@@ -73,4 +75,24 @@ fn refusals_show_their_numbers(rt: HostRuntime) {
     };
     let text = format!(in rt.alloc(); "{fault}").expect(&rt, "memory");
     assert_eq!(rt; text.as_str(), "refused 13 line 7");
+}
+
+/// A text of this many lines with one instruction each.
+fn long_text(rt: &HostRuntime, lines: usize) -> Result<Vec<u8>, AllocError> {
+    let mut text = Vec::new(rt.alloc());
+    for _ in 0..lines {
+        text.extend_from_slice(b"nop\n")?;
+    }
+    Ok(text)
+}
+
+#[test]
+fn long_texts_have_all_their_tokens(rt: HostRuntime) {
+    let text = long_text(&rt, 1000).expect(&rt, "memory");
+    let tokens = lex(rt.alloc(), &text).expect(&rt, "memory");
+    assert_eq!(rt; tokens.len(), 2000);
+    let last = tokens.last().copied();
+    assert_eq!(rt; last, Some(token(TokenKind::End, 3999, 1)));
+    let source = parse(rt.alloc(), &text).expect(&rt, "memory");
+    assert_eq!(rt; source.items.len(), 1000);
 }
