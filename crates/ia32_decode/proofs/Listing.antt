@@ -126,7 +126,7 @@ missed lists n form l t [] h e = absurd e
 missed lists n form lead.Nothing t (b ∷ more) h e =
     let s = both (not (has_code form 0x0f)) (codes_listed lists n form) t in
     if_passed (has_code form b) b more _ (λ c.
-        h (subst (λ k. member n (lists k) ≡ true) (sym (key_is b b more refl (not_0f form b s.0 c))) (code_listed lists n form s.1 b c)))
+    h (subst (λ k. member n (lists k) ≡ true) (sym (key_is b b more refl (not_0f form b s.0 c))) (code_listed lists n form s.1 b c)))
 missed lists n form lead.Word t (b ∷ more) h e =
     if_passed (b == 0x66) b more _ (λ w. h (subst (λ k. member n (lists k) ≡ true) (sym (key_is b 0x66 more (eqb-true b 0x66 w) refl)) t))
 missed lists n form lead.Repeat t (b ∷ more) h e =
@@ -134,10 +134,10 @@ missed lists n form lead.Repeat t (b ∷ more) h e =
 missed lists n form lead.Escape t (b ∷ []) h e = if_passed (b == 0x0f) b [] _ (λ w. absurd (e w))
 missed lists n form lead.Escape t (b ∷ c ∷ more) h e =
     if_passed (b == 0x0f) b (c ∷ more) _ (λ w.
-        let opened = ap (λ t. and_then (tested t b (c ∷ more)) (λ _. coded_at form)) w in
-        let at : key (b ∷ c ∷ more) ≡ 256 + c = ap (λ t. if t then 256 + c else b) w in
-        opened ∙ if_passed (has_code form c) c more _ (λ d.
-            sym opened ∙ h (subst (λ k. member n (lists k) ≡ true) (sym at) (code_listed (λ b. lists (256 + b)) n form t c d))))
+    let opened = ap (λ t. and_then (tested t b (c ∷ more)) (λ _. coded_at form)) w in
+    let at : key (b ∷ c ∷ more) ≡ 256 + c = ap (λ t. if t then 256 + c else b) w in
+    opened ∙ if_passed (has_code form c) c more _ (λ d.
+    sym opened ∙ h (subst (λ k. member n (lists k) ≡ true) (sym at) (code_listed (λ b. lists (256 + b)) n form t c d))))
 
 row_test : (lists : ℕ → List ℕ) (k n i : ℕ) (rs : List Row) (other : Row) → all_rows lists k rs ≡ true → n ≡ k + i → i < length rs → by_lead lists n (get_or rs i other).form (get_or rs i other).form.lead ≡ true
 row_test lists k n i [] other h e lt = absurd (omega arith)
@@ -193,9 +193,11 @@ part : (starts numbers : List ℕ) → lists_are_parts starts numbers ≡ true �
 part starts numbers t k lt =
     let ns = listed starts numbers k in
     let a = both (in_order starts k && ends_within starts numbers k) (all_under (length ns) (number_below ns)) (under 512 (list_is_part starts numbers) t k lt) in
-    let b = both (in_order starts k) (ends_within starts numbers k) a.0 in
-    (leb-true (slice_index starts k) (slice_index starts (k + 1)) b.0, leb-true (slice_index starts (k + 1)) (length numbers) b.1,
-      λ i at. ltb-true (slice_index ns i) 228 (under (length ns) (number_below ns) a.1 i at))
+    let b = both (in_order starts k) (ends_within starts numbers k) a.0 in (
+      leb-true (slice_index starts k) (slice_index starts (k + 1)) b.0,
+      leb-true (slice_index starts (k + 1)) (length numbers) b.1,
+      λ i at. ltb-true (slice_index ns i) 228 (under (length ns) (number_below ns) a.1 i at),
+    )
 
 rows_count : length rows ≡ 228
 unfolding rows

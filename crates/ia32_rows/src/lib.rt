@@ -10,7 +10,8 @@ mod table;
 
 pub use fitting::{fits_code, fits_place, fits_slash};
 pub use laws::{
-    done_by_registers, in_pieces, lengths, one_meaning, operands_fit, prefix_free, same_table, shapes, site_kinds,
+    done_by_registers, in_pieces, lengths, one_meaning, operands_fit, prefix_free, same_table,
+    shapes, site_kinds,
 };
 pub use meaning::instruction;
 pub use row::{

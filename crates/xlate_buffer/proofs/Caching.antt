@@ -37,7 +37,7 @@ chosen false o = inr refl
 pub put_others : (m : FinMap nat_cmp Entry) (p : ℕ → Bool) (e : Entry) (page : ℕ) → page ≢ e.page → IsSameOrGone (get m page) (get (insert (retain_keys m p) e.page e) page)
 put_others m p e page h =
     let is =
-        get-insert nat_cmp_total (retain_keys m p) e.page e page
-        ∙ (ap (λ b. cond b (Some e) (get (retain_keys m p) page)) (unsigned_tied page e.page ∙ eqb_other page e.page h)
-        ∙ get-retain_keys m p page (λ x t. ap p (sym (nat_cmp-IsAntisymmetric page x t)))) in
+    get-insert nat_cmp_total (retain_keys m p) e.page e page
+    ∙ (ap (λ b. cond b (Some e) (get (retain_keys m p) page)) (unsigned_tied page e.page ∙ eqb_other page e.page h)
+    ∙ get-retain_keys m p page (λ x t. ap p (sym (nat_cmp-IsAntisymmetric page x t)))) in
     rw is (chosen (p page) (get m page))
