@@ -10,8 +10,8 @@ ghost use Rattle.image_load.specs.Boot.{frame_words, with_image, with_tables, wi
 ghost use Rattle.image_check.specs.Accepts.{IsWithin};
 
 pub use boot::{Boot, TooSmall};
-pub use fault::{Pause, RunFault, StartFault};
 use descriptors::{Cpu, Hidden, Table, Task};
+pub use fault::{Pause, RunFault, StartFault};
 use guest_ram::Ram;
 use ia32_types::{Flags, Regs};
 use image_check::Checked;
