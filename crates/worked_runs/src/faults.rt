@@ -229,8 +229,7 @@ fn sure_files_and_a_sure_sink_never_fail(rt: HostRuntime) -> Result<(), Fail> {
 #[test]
 fn words_of_no_form_are_refused(rt: HostRuntime) -> Result<(), Fail> {
     let alloc = rt.alloc();
-    let rows: [&[&str]; 12] = [
-        [].as_slice(),
+    for all in [
         ["burn", "S"].as_slice(),
         ["burn", "", "O"].as_slice(),
         ["link", "I"].as_slice(),
@@ -242,8 +241,7 @@ fn words_of_no_form_are_refused(rt: HostRuntime) -> Result<(), Fail> {
         ["run", "--bare", "I", "B", "02048", "1"].as_slice(),
         ["run", "--bare", "I", "B", "2048", "1099511627777"].as_slice(),
         ["--help"].as_slice(),
-    ];
-    for all in rows {
+    ] {
         let mut files = held(alloc)?;
         let before = files.calls;
         let (status, out) = answer(alloc, &mut files, all)?;
