@@ -12,7 +12,7 @@ struct Hostile<'a> {
     status: u8,
 }
 
-const ROWS: [Hostile<'static>; 19] = [
+const ROWS: [Hostile<'static>; 20] = [
     // A RET to the bytes of RDTSC, which no sweep of the text meets.
     Hostile {
         source: b"pushl $bad+1; ret; bad: movl $0x310f,%eax",
@@ -109,6 +109,12 @@ const ROWS: [Hostile<'static>; 19] = [
         source: b"movl $0x004085C7,0xC0020000; movl $0x1180,0xC0020004; movl $0x20007,0xC0021000; movl $0x21007,0xC0001114; movl $0x20007,0xC0001118; pushl $0x23; pushl $0; pushl $0x202; pushl $0x1b; pushl $0x11400000; iret",
         bare: b"end steps 12\n",
         status: 0,
+    },
+    // MOVS with ES null and a source that passes the end: null segments are tested first.
+    Hostile {
+        source: b"xorl %eax,%eax; movl %eax,%es; movl $0xFFFFFFFE,%esi; movsl",
+        bare: b"end steps 6 stop 4 DeliveryFailed\n",
+        status: 4,
     },
     Hostile {
         source: b"",
