@@ -1,10 +1,10 @@
 //! The pages of a step, and the entries that it left them.
 
-ghost use Rattle.std.specs.Prelude.{◌≡◌, ◌+◌, ◌<◌, ◌≤◌, ◌^◌, ◌&&◌, length, not};
+ghost use Rattle.std.specs.Prelude.{◌≡◌, ◌+◌, ◌<◌, ◌≤◌, ◌^◌, ◌&&◌, length, not, None};
 ghost use Rattle.std.specs.FinMap.{get};
 ghost use Rattle.shadow_tables.specs.Entries.{entries_of};
 ghost use Rattle.shadow_tables.specs.Slots.{is_among};
-ghost use Rattle.step_mem.specs.Changes.{changed, page_of as page_in, AreOfPages};
+ghost use Rattle.step_mem.specs.Changes.{changed, last_change, entry_of as left_by, page_of as page_in, AreOfPages};
 ghost use Rattle.wedge_mem.specs.Settled.{has_entry, pages_of, used};
 
 use guest_ram::Ram;
@@ -50,9 +50,31 @@ pub fn entry_of<S: Shadows>(shadows: &S, ram: &Ram, changes: &Changes, page: u32
     requires { ∥ S.stands shadows.now ram.now ∥₁ }
     ensures { result ≡ get (changed (entries_of (S.slots shadows.now ram.now)) changes.now) page }
 {
-    match changes.last(page) {
+    match last_change(changes.as_slice(), page) {
         Some(entry) => entry,
         None => kept(shadows, ram, page),
+    }
+}
+
+/// The last change of the page, if there is one.
+fn last_change(changes: &[Change], page: u32) -> Option<Option<Entry>>
+    ensures { result ≡ last_change None changes.now page }
+{
+    let mut found = None;
+    for change in changes {
+        if page_of(change) == page {
+            found = Some(left_by(change));
+        }
+    }
+    found
+}
+
+fn left_by(change: &Change) -> Option<Entry>
+    ensures { result ≡ left_by change.now }
+{
+    match change {
+        Change::Gone(_) => None,
+        Change::Now(entry) => Some(*entry),
     }
 }
 
