@@ -1,8 +1,10 @@
 //! Images in memory, and the state that a machine starts in.
 
+ghost use Rattle.std.specs.Prelude.{◌≡◌, ◌*◌, ◌≤◌, length, IfOk};
+
 use guest_ram::Ram;
-use image_check::check;
-use image_load::{TooSmall, load};
+use image_check::{Checked, check};
+use image_load::{Boot, TooSmall, load};
 use std::alloc::{AllocError, Global};
 use std::test::Fail;
 
@@ -47,12 +49,26 @@ fn file(alloc: Global, bss: u32) -> Result<Vec<u8>, AllocError> {
     Ok(out)
 }
 
+// An image in a memory of so many frames, with what is told of it.
+fn started(
+    alloc: Global,
+    image: &Checked,
+    frames: u32,
+) -> Result<(Ram, Result<Boot, TooSmall>), AllocError>
+    requires { (2048 ≤ frames) × (frames ≤ 16384) }
+    ensures { IfOk result (λ started. length started.0 ≡ 4096 * frames) }
+{
+    let mut ram = Ram::new(alloc, frames)?;
+    let told = load(image, &mut ram, frames);
+    Ok((ram, told))
+}
+
 #[test]
 fn an_image_that_is_too_large_is_told(rt: HostRuntime) -> Result<(), Fail> {
     let alloc = rt.alloc();
     let image = check(alloc, &file(alloc, 8_388_608)?)?;
-    let mut ram = Ram::new(alloc, 2048)?;
-    match load(&image, &mut ram, 2048) {
+    let (_ram, told) = started(alloc, &image, 2048)?;
+    match told {
         Err(TooSmall { need, have }) => assert_eq!(rt; (need, have), (2305, 2048)),
         Ok(_) => assert!(rt; false, "it fits"),
     }
@@ -63,8 +79,8 @@ fn an_image_that_is_too_large_is_told(rt: HostRuntime) -> Result<(), Fail> {
 fn a_machine_starts_as_the_boot_state_says(rt: HostRuntime) -> Result<(), Fail> {
     let alloc = rt.alloc();
     let image = check(alloc, &file(alloc, 4)?)?;
-    let mut ram = Ram::new(alloc, 2048)?;
-    match load(&image, &mut ram, 2048) {
+    let (ram, told) = started(alloc, &image, 2048)?;
+    match told {
         Ok(boot) => {
             assert_eq!(rt;
                 (boot.text_at, boot.text_frames, boot.first_free),

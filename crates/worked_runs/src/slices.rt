@@ -1,5 +1,7 @@
 //! Runs of the bare machine that pause and go on.
 
+ghost use Rattle.std.specs.Prelude.{◌≤◌, ◌^◌};
+
 use crate::built::answer;
 use bare_machine::{Bare, run_fresh};
 use board::read_script;
@@ -82,7 +84,9 @@ fn file(alloc: Global, source: &[u8]) -> Result<Vec<u8>, IoAnswer> {
 }
 
 // What a run of at most `n` steps prints that pauses after the first `first` steps, and then after each `each` of them.
-fn prints(alloc: Global, image: &Checked, first: u64, each: u64, n: u64) -> Result<MemSink, Fail> {
+fn prints(alloc: Global, image: &Checked, first: u64, each: u64, n: u64) -> Result<MemSink, Fail>
+    requires { n ≤ 2 ^ 40 }
+{
     let script = read_script(alloc, b"")?;
     let mut out = MemSink::new(alloc, 4096, Vec::new(alloc))?;
     match Bare::start(alloc, image, 2048, Buffer::new()) {
@@ -142,7 +146,9 @@ fn a_pause_at_any_step_changes_nothing(rt: HostRuntime) -> Result<(), Fail> {
 }
 
 // What a run of at most `n` steps prints, before each of which nothing is cached.
-fn prints_fresh(alloc: Global, source: &[u8], n: u64) -> Result<MemSink, Fail> {
+fn prints_fresh(alloc: Global, source: &[u8], n: u64) -> Result<MemSink, Fail>
+    requires { n ≤ 2 ^ 40 }
+{
     let image = check(alloc, &file(alloc, source)?)?;
     let script = read_script(alloc, b"")?;
     let mut out = MemSink::new(alloc, 4096, Vec::new(alloc))?;
