@@ -1,0 +1,18 @@
+//! The patched run: a guest's patched text on an unprivileged host.
+#![tactic(auto)]
+
+mod clash;
+mod guest;
+mod keeper;
+mod native;
+mod rest;
+mod run;
+mod running;
+mod settle;
+mod single;
+mod slice;
+mod stretch;
+
+pub use guest::Guest;
+pub use run::run_wedge;
+pub use running::Running;
