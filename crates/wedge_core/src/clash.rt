@@ -12,7 +12,8 @@ use shadow_tables::Shadows;
 const LONGEST: u32 = 11;
 
 /// What decides where an access of the next step leads.
-struct Looking<'a, S> {
+#[derive(Clone, Copy)]
+struct Looking<'a, S: Shadows> {
     ram: &'a Ram,
     shadows: &'a S,
     frames: u32,
@@ -36,12 +37,14 @@ struct Seen {
 }
 
 /// The bytes that a fetch finds.
+#[derive(Clone, Copy)]
 struct Bytes {
     list: [u8; 22],
     len: usize,
 }
 
 /// Up to six pages, each with its access.
+#[derive(Clone, Copy)]
 struct Uses {
     pages: [u32; 6],
     writes: [bool; 6],
@@ -106,7 +109,7 @@ impl<S: Shadows> Looking<'_, S> {
         for i in 0..len {
             let place = frame * 4096 + at % 4096 + i;
             let byte = self.ram.read8(place);
-            let marked = marks(first, place) || marks(second, place);
+            let marked = is_marked(first, place) || is_marked(second, place);
             into.push(if marked { byte | 32 } else { byte });
         }
     }
@@ -156,7 +159,7 @@ impl<S: Shadows> Looking<'_, S> {
     }
 }
 
-fn marks(marks: Marks, place: u32) -> bool {
+fn is_marked(marks: Marks, place: u32) -> bool {
     marks.dir == Some(place) || marks.word == Some(place)
 }
 

@@ -13,7 +13,8 @@ use shadow_tables::Shadows;
 use step_mem::Kept;
 
 /// The shadows and their pool, lent for a step.
-pub struct Lent<'a, S> {
+#[derive(Clone, Copy)]
+pub struct Lent<'a, S: Shadows> {
     pub shadows: &'a S,
     pub pool: &'a Pool,
 }

@@ -46,7 +46,7 @@ fn is_native(insn: &Insn, cpu: &Cpu) -> bool {
 }
 
 /// Begins the step of a processor that takes no interrupt, is not halted, and is at level 3 or at a start outside sites.
-pub fn attempt<S: Shadows + Drop>(
+pub fn begin_native<S: Shadows + Drop>(
     running: &mut Running<S>,
     pool: &mut Pool,
     ram: &mut Ram,

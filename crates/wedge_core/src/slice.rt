@@ -1,6 +1,6 @@
 //! A slice of a patched run.
 
-use crate::native::{Attempt, attempt};
+use crate::native::{Attempt, begin_native};
 use crate::rest::rest;
 use crate::running::Running;
 use crate::single::step_alone;
@@ -54,7 +54,7 @@ fn one_step<S: Shadows + Drop, H: Host>(
     if !may_run(&running.cpu, &running.board, image) {
         return step_alone(running, pool, host.ram_mut(), image);
     }
-    match attempt(running, pool, host.ram_mut(), image)? {
+    match begin_native(running, pool, host.ram_mut(), image)? {
         Attempt::Went(seen) => Ok(seen),
         Attempt::Asked => {
             let _one = run_on(running, host, 1);

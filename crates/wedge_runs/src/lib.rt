@@ -1,0 +1,13 @@
+//! Patched runs of small kernels.
+#![tactic(auto)]
+
+#[cfg(test)]
+mod events;
+#[cfg(test)]
+mod kernel;
+#[cfg(test)]
+mod plain;
+#[cfg(test)]
+mod stops;
+#[cfg(test)]
+mod user;
