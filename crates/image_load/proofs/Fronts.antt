@@ -41,7 +41,7 @@ rest_of n whole front rest l =
     ap (drop n) l.is ∙ same_lists _ _ (grind (arith, places, l.len)) (λ k d i. grind (arith, places, l.len))
 
 -- the memory at the start stands in the front of a memory that was zero
-pub laid_boot : (image : Image) (frames : ℕ) (m : List ℕ) → m ≡ replicate (length m) 0 → frames * 4096 ≤ length m → 2048 ≤ frames → frames ≤ 16384 → text_pages image ≤ 1024 → data_pages image ≤ 8192 → need image ≤ frames
+pub laid_boot : (image : Image) (frames : ℕ) (m : List ℕ) → m ≡ replicate (length m) 0 → frames * 4096 ≤ length m → 2048 ≤ frames → frames ≤ 16384 → text_pages image ≤ 4096 → data_pages image ≤ 8192 → need image ≤ frames
     → Laid (frames * 4096) (with_image (with_tables (with_directory (with_part m 0x2000 boot_descriptors) image frames) image frames) image) (boot_ram image frames) (drop (frames * 4096) m)
 laid_boot image frames m zero room low high texts datas fits =
     let n = frames * 4096 in

@@ -2,11 +2,15 @@
 #![tactic(auto)]
 
 #[cfg(test)]
+mod counting;
+#[cfg(test)]
 mod events;
 #[cfg(test)]
 mod kernel;
 #[cfg(test)]
 mod plain;
+#[cfg(test)]
+mod sources;
 #[cfg(test)]
 mod stops;
 #[cfg(test)]
