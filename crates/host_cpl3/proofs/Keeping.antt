@@ -1,10 +1,10 @@
 -- A walk that is kept is what a walk would find, as long as its table and the directory aren't written.
 use Rattle.std.proofs.Common.{◌≡◌, ◌≢◌, ℕ, ◌+◌, ◌*◌, ◌/◌, ◌%◌, ◌^◌, ◌<◌, List, length, Bool, true, false, not, cond, eqb, Option, Some, None, sym, ap, ◌∙◌, subst, inl, inr, arith, get_or, set}
-use Rattle.std.proofs.Math.Dec.{leb}
+use Rattle.std.proofs.Math.Dec.{leb, ltb}
 use Rattle.std.specs.Prelude.{IfSome}
 use Rattle.std.specs.FinMap.{FinMap, get, insert, retain_keys}
 use Rattle.std.specs.Ordering.{nat_cmp}
-use Rattle.std.proofs.lemmas.Bool.Decides.{eqb_tells}
+use Rattle.std.proofs.lemmas.Bool.Decides.{eqb_tells, nat_tests}
 use Rattle.std.proofs.lemmas.List.{get_or-set_same, get_or-set_other}
 use Rattle.xlate_buffer.proofs.Keeping.{keep_get}
 use Rattle.guest_ram.specs.Bytes.{word32, frame}
@@ -40,6 +40,10 @@ table_found m n root page entry d w e =
     let same : word_place dir page / 4096 ≡ dir / 4096 = omega arith in
     ap (λ x. x / 4096) (sym is) ∙ same
 
+-- a page of the address space is walked by its words
+pub walked_is : (m : List ℕ) (root page : ℕ) → page < 2 ^ 20 → walked m root page ≡ fresh m (length m / 4096) (4096 * root) page
+walked_is m root page lt = ap (λ (b : Bool). cond b (fresh m (length m / 4096) (4096 * root) page) Absent) (let in_space : ltb page 1048576 ≡ true = grind (arith, nat_tests) in in_space)
+
 -- memories that agree on the directory and on the page's table
 same_walk : (m m' : List ℕ) (root page : ℕ) → page < 2 ^ 20 → length m' ≡ length m → frame m' root ≡ frame m root → frame m' (table_of m root page) ≡ frame m (table_of m root page) → walked m' root page ≡ walked m root page
 unfolding fresh
@@ -54,9 +58,11 @@ same_walk m m' root page l n r t =
     ap (word32 m') place ∙ word32-frame m' m (dir / 4096) (page % 1024 * 4) t (omega arith) ∙ sym (ap (word32 m) place)
     in
     let cr3 : ℕ = 4096 * root in
-    ap (λ k. cond (leb (k / 4096) (cr3 / 4096)) Beyond (by_dir m' (k / 4096) cr3 page (word32 m' (dir_place cr3 page)))) n
+    walked_is m' root page l
+    ∙ ap (λ k. cond (leb (k / 4096) (cr3 / 4096)) Beyond (by_dir m' (k / 4096) cr3 page (word32 m' (dir_place cr3 page)))) n
     ∙ ap (λ x. cond (leb (length m / 4096) (cr3 / 4096)) Beyond (by_dir m' (length m / 4096) cr3 page x)) one
     ∙ ap (λ x. cond (leb (length m / 4096) (cr3 / 4096)) Beyond (cond (not (has dir 1)) Absent (cond (leb (length m / 4096) (dir / 4096)) Beyond (by_word (length m / 4096) cr3 page dir x)))) two
+    ∙ sym (walked_is m root page l)
 
 same_table : (m m' : List ℕ) (root page : ℕ) → page < 2 ^ 20 → frame m' root ≡ frame m root → table_of m' root page ≡ table_of m root page
 same_table m m' root page l r =
@@ -115,10 +121,10 @@ keep_kept buffer new tables m root page table e n is same old k q =
 pub new_kept : (m : List ℕ) (len root page : ℕ) (e : Entry) (d w : ℕ) → len ≡ length m → page < 2 ^ 20 → Found e d w ≡ fresh m (len / 4096) (root * 4096) page → e.frame < len / 4096 → IsKept m root page e (w / 4096)
 new_kept m len root page e d w is l f inside =
     let cr3 : 4096 * root ≡ root * 4096 = omega arith in
-    let found : walked m root page ≡ Found e d w = ap (λ n. fresh m (n / 4096) (4096 * root) page) (sym is) ∙ ap (λ r. fresh m (len / 4096) r page) cr3 ∙ sym f in
+    let found : fresh m (length m / 4096) (4096 * root) page ≡ Found e d w = ap (λ n. fresh m (n / 4096) (4096 * root) page) (sym is) ∙ ap (λ r. fresh m (len / 4096) r page) cr3 ∙ sym f in
     record {
       page_in = l;
-      found = ap entry_in found;
+      found = ap entry_in (walked_is m root page l ∙ found);
       inside = omega (arith, inside, is);
       read_from = table_found m (length m / 4096) root page e d w found;
     }

@@ -7,3 +7,4 @@ pub mod Runs
 pub mod Keeping
 pub mod Writing
 pub mod Budgets
+pub mod Crossing

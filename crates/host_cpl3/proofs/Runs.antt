@@ -8,7 +8,7 @@ use Rattle.host_cpl3.specs.declared.exit.Done.{Done}
 use Rattle.host_cpl3.specs.declared.exit.Done.TheVariants.{Completed, Entered}
 use Rattle.host_cpl3.specs.Met.{Met}
 use Rattle.host_cpl3.specs.HostStep.{host_step}
-use Rattle.host_cpl3.proofs.Budgets.{NotBudget, step_not}
+use Rattle.host_cpl3.proofs.Budgets.{step_not}
 use Rattle.host_cpl3.specs.RunsTo.{Leaves, IsRun, EachIsRun}
 use Rattle.host_cpl3.specs.HostRun.{Standing, counted, after_step, host_run}
 
@@ -58,7 +58,7 @@ by_step v k s (Ok (Entered regs, ram)) e h = record {
   retired = omega arith;
   budget = λ b. absurd cc;
 }
-by_step v k s (Err exit) e h = let by_exit : exit ≡ Budget → ⊥ = subst NotBudget e (step_not v s.ram s.regs) in record {
+by_step v k s (Err exit) e h = let by_exit : exit ≡ Budget → ⊥ = step_not v s.ram s.regs exit e in record {
   n = 0;
   last = s;
   went = refl;

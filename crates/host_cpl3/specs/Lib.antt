@@ -12,3 +12,4 @@ pub mod Fetches
 pub mod Hosts
 pub mod Kept
 pub mod RunsTo
+pub mod Borders

@@ -1,6 +1,6 @@
 -- Where addresses lead, by a walk of the view's tables as they stand, with a user's rights, over all frames of the
 -- host's memory `m`. `root` is the frame of the directory.
-use Rattle.std.specs.Prelude.{ℕ, ◌+◌, ◌*◌, ◌/◌, ◌%◌, List, length, Bool, true, false, Option, Some, None, Ok, Err}
+use Rattle.std.specs.Prelude.{ℕ, ◌+◌, ◌*◌, ◌/◌, ◌%◌, ◌^◌, List, length, Bool, true, false, nat_lt, Option, Some, None, Ok, Err, if◌then◌else◌}
 use Rattle.guest_ram.specs.Bytes.{byte}
 use Rattle.paging.specs.declared.entry.Entry.{Entry}
 use Rattle.paging.specs.declared.entry.Walk.{Walk}
@@ -12,8 +12,9 @@ use Rattle.host_cpl3.specs.declared.exit.Exit.{Exit}
 use Rattle.host_cpl3.specs.declared.exit.Exit.TheVariants as exits
 use Rattle.host_cpl3.specs.Met.{Met}
 
+-- behind the last page of the address space there is none
 abbrev pub walked : List ℕ → ℕ → ℕ → Walk
-walked m root page = fresh m (length m / 4096) (4096 * root) page
+walked m root page = if nat_lt page (2 ^ 20) then fresh m (length m / 4096) (4096 * root) page else Absent
 
 -- a page that isn't there lacks one of its words, or has a table or a frame outside the memory
 abbrev pub is_there : Walk → Bool

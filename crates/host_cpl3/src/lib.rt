@@ -18,7 +18,7 @@ mod walks;
 
 pub use exit::Exit;
 pub use host::Host;
-pub use laws::each_is_run;
+pub use laws::{borders, each_is_run};
 pub use machine::Machine;
 pub use view::View;
 

@@ -3,6 +3,7 @@ use Rattle.std.proofs.Common.{◌≡◌, ℕ, ◌+◌, ◌*◌, ◌%◌, Bool, t
 use Rattle.std.specs.FinMap.{FinMap}
 use Rattle.std.specs.Ordering.{nat_cmp}
 use Rattle.paging.specs.declared.entry.Entry.{Entry}
+use Rattle.ia32_types.specs.declared.stop.Stop.TheVariants as stops
 use Rattle.ia32_types.specs.declared.stop.Did.{Did}
 use Rattle.ia32_types.specs.declared.stop.Did.TheVariants as did
 use Rattle.ia32_types.specs.declared.insn.Insn.{Insn}
@@ -32,7 +33,8 @@ use Rattle.run_trace.specs.declared.items.What.{What}
 use Rattle.run_trace.specs.declared.items.What.TheVariants.{Irq}
 use Rattle.machine_model.specs.State.{Setting, State, space_at_start}
 use Rattle.machine_model.specs.Instruction.{fetched, instructed, passed}
-use Rattle.machine_model.specs.Step.{Completed, Result, went, after_read, after_write, out_item, code_of, after_delivery, raised, after_effect, after_software, interrupts_by, by_op, by_decoded, after_refusal, after_fetch, fetches_next, worked, interrupt_of, interrupted, by_interrupt, unheld, step_of}
+use Rattle.machine_model.specs.Rules.{stands_well, may_leave}
+use Rattle.machine_model.specs.Step.{Completed, Result, Stands, entered, begun, begins_next, went, after_read, after_write, out_item, code_of, after_delivery, raised, after_effect, after_software, interrupts_by, by_op, by_decoded, after_refusal, after_fetch, fetches_next, worked, interrupt_of, interrupted, by_interrupt, unheld, step_of}
 use Rattle.machine_model.specs.Ends.{StepsTo, EachStepCounts}
 
 read_counts : (b : State) (c : Completed) (cpu : Cpu) (port : ℕ) (wide : Bool) (s : Space) (x : PortRead × Board) → StepsTo (b.step + 1) (after_read b c cpu port wide s x)
@@ -44,62 +46,66 @@ write_counts b c cpu item s (did.Stop, board) = tt
 write_counts b c cpu item s (did.Done, board) = refl
 write_counts b c cpu item s (did.Sent value, board) = refl
 
-delivery_counts : (whats : List What) (b : State) (board : Board) (o : Outcome NotDelivered Cpu) → StepsTo (b.step + 1) (after_delivery whats b board o)
-delivery_counts whats b board (Ok done) = refl
-delivery_counts whats b board (Err refused) = tt
-
-effect_counts : (b : State) (c : Completed) (e : SysEffect) (cpu : Cpu) (s : Space) → StepsTo (b.step + 1) (after_effect b c e cpu s)
-effect_counts b c effects.Next cpu s = refl
-effect_counts b c effects.Halted cpu s = refl
-effect_counts b c (effects.DropPage page) cpu s = refl
-effect_counts b c effects.DropAll cpu s = refl
-effect_counts b c (effects.PortIn port wide) cpu s = read_counts b c cpu port wide s (port_read b.board port wide)
-effect_counts b c (effects.PortOut port wide value) cpu s = write_counts b c cpu (out_item port wide value) s (port_written b.board port wide value)
-effect_counts b c (effects.Raise vector code) cpu s = delivery_counts [] b b.board (delivered cpu vector Raised (code_of vector code) s)
-effect_counts b c (effects.Stop stop) cpu s = tt
-
-software_counts : (b : State) (c : Completed) (vector : ℕ) (o : Outcome NotDelivered Cpu) → StepsTo (b.step + 1) (after_software b c vector o)
-software_counts b c vector (Ok done) = refl
-software_counts b c vector (Err (not_delivered.Privilege, s)) = delivery_counts [] b b.board (delivered b.cpu 13 Raised (code_of 13 (8 * vector + 2)) s)
-software_counts b c vector (Err (not_delivered.Stop stop, s)) = tt
-
-op_counts : (o : Op) (b : State) (insn : Insn) (len : ℕ) (s : Space) → StepsTo (b.step + 1) (by_op o b insn len s)
-op_counts op.Int b insn len s = software_counts b (record { insn = insn; eip = b.cpu.regs.eip }) (insn.imm % 256) (delivered (passed len b.cpu) (insn.imm % 256) Soft None s)
-op_counts op.Int3 b insn len s = software_counts b (record { insn = insn; eip = b.cpu.regs.eip }) 3 (delivered (passed len b.cpu) 3 Soft None s)
-op_counts o b insn len s =
-    let t = told b.cpu (instructed insn len b.cpu s) in
-    effect_counts b (record { insn = insn; eip = b.cpu.regs.eip }) t.0 t.1 t.2
-
-decoded_counts : (b : State) (d : Decoded) (s : Space) → StepsTo (b.step + 1) (by_decoded b d s)
-decoded_counts b (begins.Insn insn len) s = op_counts insn.op b insn len s
-decoded_counts b begins.Short s = tt
-decoded_counts b begins.Outside s = tt
-
-refusal_counts : (b : State) (r : Refusal) (s : Space) → StepsTo (b.step + 1) (after_refusal b r s)
-refusal_counts b (refusal.Fault code at) s = delivery_counts [] b b.board (delivered (record b.cpu { cr2 = at }) 14 Raised (code_of 14 code) s)
-refusal_counts b (refusal.Raise vector code) s = delivery_counts [] b b.board (delivered b.cpu vector Raised (code_of vector code) s)
-refusal_counts b (refusal.Stop stop) s = tt
-
-fetch_counts : (b : State) (o : Outcome Refusal Decoded) → StepsTo (b.step + 1) (after_fetch b o)
-fetch_counts b (Ok x) = decoded_counts b x.0 x.1
-fetch_counts b (Err refused) = refusal_counts b refused.0 refused.1
-
 chosen : (n : ℕ) (h : Bool) (x y : Result) → StepsTo n x → StepsTo n y → StepsTo n (cond h x y)
 chosen n true x y p q = p
 chosen n false x y p q = q
 
-worked_counts : (b : State) (s : Space) → StepsTo (b.step + 1) (worked b s)
-unfolding worked
-worked_counts b s =
-    chosen (b.step + 1) b.cpu.halted (went [] None b b.cpu b.board s) (fetches_next b s) refl (fetch_counts b (fetched (b.cpu.cpl == 3) b.cpu.regs.eip s))
+entered_counts : (m : Setting) (whats : List What) (c : Option Completed) (b : State) (cpu : Cpu) (board : Board) (s : Space) → StepsTo (b.step + 1) (entered m whats c b cpu board s)
+entered_counts m whats c b cpu board s = chosen (b.step + 1) (stands_well m cpu) (went whats c b cpu board s) (Stands stops.NotAStart) refl tt
 
-interrupt_counts : (o : Option ℕ) (b : State) (s : Space) → StepsTo (b.step + 1) (by_interrupt o b s)
+delivery_counts : (m : Setting) (whats : List What) (b : State) (board : Board) (o : Outcome NotDelivered Cpu) → StepsTo (b.step + 1) (after_delivery m whats b board o)
+delivery_counts m whats b board (Ok done) = entered_counts m whats None b done.0 board done.1
+delivery_counts m whats b board (Err refused) = tt
+
+effect_counts : (m : Setting) (b : State) (c : Completed) (e : SysEffect) (cpu : Cpu) (s : Space) → StepsTo (b.step + 1) (after_effect m b c e cpu s)
+effect_counts m b c effects.Next cpu s = chosen (b.step + 1) (may_leave m.mode b.cpu cpu) (went [] (Some c) b cpu b.board s) (Stands stops.UserFlags) refl tt
+effect_counts m b c effects.Halted cpu s = refl
+effect_counts m b c (effects.DropPage page) cpu s = refl
+effect_counts m b c effects.DropAll cpu s = refl
+effect_counts m b c (effects.PortIn port wide) cpu s = read_counts b c cpu port wide s (port_read b.board port wide)
+effect_counts m b c (effects.PortOut port wide value) cpu s = write_counts b c cpu (out_item port wide value) s (port_written b.board port wide value)
+effect_counts m b c (effects.Raise vector code) cpu s = delivery_counts m [] b b.board (delivered cpu vector Raised (code_of vector code) s)
+effect_counts m b c (effects.Stop stop) cpu s = tt
+
+software_counts : (m : Setting) (b : State) (c : Completed) (vector : ℕ) (o : Outcome NotDelivered Cpu) → StepsTo (b.step + 1) (after_software m b c vector o)
+software_counts m b c vector (Ok done) = entered_counts m [] (Some c) b done.0 b.board done.1
+software_counts m b c vector (Err (not_delivered.Privilege, s)) = delivery_counts m [] b b.board (delivered b.cpu 13 Raised (code_of 13 (8 * vector + 2)) s)
+software_counts m b c vector (Err (not_delivered.Stop stop, s)) = tt
+
+op_counts : (m : Setting) (o : Op) (b : State) (insn : Insn) (len : ℕ) (s : Space) → StepsTo (b.step + 1) (by_op m o b insn len s)
+op_counts m op.Int b insn len s = software_counts m b (begun b insn) (insn.imm % 256) (delivered (passed len b.cpu) (insn.imm % 256) Soft None s)
+op_counts m op.Int3 b insn len s = software_counts m b (begun b insn) 3 (delivered (passed len b.cpu) 3 Soft None s)
+op_counts m o b insn len s =
+    let t = told b.cpu (instructed insn len b.cpu s) in
+    effect_counts m b (begun b insn) t.0 t.1 t.2
+
+decoded_counts : (m : Setting) (b : State) (d : Decoded) (s : Space) → StepsTo (b.step + 1) (by_decoded m b d s)
+decoded_counts m b (begins.Insn insn len) s = op_counts m insn.op b insn len s
+decoded_counts m b begins.Short s = tt
+decoded_counts m b begins.Outside s = tt
+
+refusal_counts : (m : Setting) (b : State) (r : Refusal) (s : Space) → StepsTo (b.step + 1) (after_refusal m b r s)
+refusal_counts m b (refusal.Fault code at) s = delivery_counts m [] b b.board (delivered (record b.cpu { cr2 = at }) 14 Raised (code_of 14 code) s)
+refusal_counts m b (refusal.Raise vector code) s = delivery_counts m [] b b.board (delivered b.cpu vector Raised (code_of vector code) s)
+refusal_counts m b (refusal.Stop stop) s = tt
+
+fetch_counts : (m : Setting) (b : State) (o : Outcome Refusal Decoded) → StepsTo (b.step + 1) (after_fetch m b o)
+fetch_counts m b (Ok x) = decoded_counts m b x.0 x.1
+fetch_counts m b (Err refused) = refusal_counts m b refused.0 refused.1
+
+worked_counts : (m : Setting) (b : State) (s : Space) → StepsTo (b.step + 1) (worked m b s)
+unfolding worked
+worked_counts m b s =
+    chosen (b.step + 1) b.cpu.halted (went [] None b b.cpu b.board s) (begins_next m b s) refl
+    (chosen (b.step + 1) (stands_well m b.cpu) (fetches_next m b s) (Stands stops.NotAStart) (fetch_counts m b (fetched (b.cpu.cpl == 3) b.cpu.regs.eip s)) tt)
+
+interrupt_counts : (m : Setting) (o : Option ℕ) (b : State) (s : Space) → StepsTo (b.step + 1) (by_interrupt m o b s)
 unfolding interrupted
-interrupt_counts None b s = worked_counts b s
-interrupt_counts (Some v) b s = delivery_counts (Irq v ∷ []) b (acknowledged b.board) (delivered b.cpu v External None s)
+interrupt_counts m None b s = worked_counts m b s
+interrupt_counts m (Some v) b s = delivery_counts m (Irq v ∷ []) b (acknowledged b.board) (delivered b.cpu v External None s)
 
 pub each_counts : EachStepCounts
 unfolding step_of
 each_counts s b set =
     let now = record b { board = given b.board s.script b.step; set = set } in
-    interrupt_counts (interrupt_of now.cpu now.board) (unheld now) (space_at_start s.mode s.frames now.cpu now.ram now.set)
+    interrupt_counts s (interrupt_of now.cpu now.board) (unheld now) (space_at_start s.mode s.frames now.cpu now.ram now.set)

@@ -1,5 +1,5 @@
 -- Both machines fetch the same instruction.
-use Rattle.std.proofs.Common.{◌≡◌, ℕ, ◌+◌, ◌-◌, ◌*◌, ◌/◌, ◌%◌, ◌^◌, ◌<◌, ◌≤◌, List, [], ◌∷◌, ◌++◌, Bool, true, false, ◌&&◌, not, ◌==◌, Ok, refl, sym, ap, subst, ◌∙◌, ◌⊎◌, inl, inr, arith}
+use Rattle.std.proofs.Common.{◌≡◌, ℕ, ◌+◌, ◌-◌, ◌*◌, ◌/◌, ◌%◌, ◌^◌, ◌<◌, ◌≤◌, List, [], ◌∷◌, ◌++◌, length, Bool, true, false, ◌&&◌, not, ◌==◌, Some, Ok, refl, sym, ap, subst, ◌∙◌, ◌⊎◌, inl, inr, arith}
 use Rattle.std.specs.Prelude.{nat_le, nat_lt}
 use Rattle.std.specs.List.{Contains}
 use Rattle.std.proofs.lemmas.List.Elements.{Contains-append_left, Contains-append_right}
@@ -8,6 +8,7 @@ use Rattle.ia32_types.specs.declared.insn.Insn.{Insn}
 use Rattle.ia32_decode.specs.declared.answer.Decoded.TheVariants as begins
 use Rattle.ia32_decode.specs.Decoding.{decoded}
 use Rattle.ia32_decode.specs.Front.{longest, front_len}
+use Rattle.paging.specs.Reached.{reached}
 use Rattle.paging.specs.Space.{Space}
 use Rattle.paging.specs.Uses.{is_text}
 use Rattle.image_load.specs.Boot.{text_pages}
@@ -20,7 +21,7 @@ use Rattle.native_steps.specs.Forward.{wp_of}
 use Rattle.native_steps.specs.Backward.{IsReached}
 use Rattle.native_steps.proofs.Choices.{both, eq_told, eq_true, clash}
 use Rattle.native_steps.proofs.Pages.{At, IsFree, lent_entry, fetching_comes}
-use Rattle.native_steps.proofs.HostParts.{Leads}
+use Rattle.native_steps.proofs.HostParts.{Leads, leads_told, leads_from}
 use Rattle.native_steps.proofs.Shown.{frame_apart, part_shown}
 use Rattle.native_steps.proofs.Sharing.{given_there}
 use Rattle.native_steps.proofs.Ways.{front_at, back_at, Way}
@@ -68,7 +69,7 @@ module _ (m : Setting) (w : IsWedge m) (memory : List ℕ) (v : View) (b : State
 
   pub fetch_shares : (page frame : ℕ) → page < 2 ^ 20 → IsCode v.kernel page → Leads memory v.root false page frame → FetchShares page frame
   fetch_shares page frame lt code e =
-      let lent = lends.each page lt false frame e in
+      let lent = lends.each page lt false frame (leads_told memory v.root page lt false frame e) in
       record { leads = e; lent = lent; fetches = record { entry = lent_entry m v.kernel (wp_of b) b.set false page frame lent; free = free_code m b v.kernel page frame code lent.is_open } }
 
   pub guest_pages : (page frame : ℕ) → FetchShares page frame → Fetches m b v.kernel page frame
@@ -119,7 +120,7 @@ module _ (m : Setting) (w : IsWedge m) (memory : List ℕ) (v : View) (b : State
       by_end p (inl x) =
           let went : t.went ≡ s.went ++ (eip / 4096) ∷ [] = x.went ∙ fetching_went (not v.kernel) eip (front_len eip) s p.front p.first p.reads in
           let r = pages (eip / 4096) (subst (λ (l : List ℕ). Contains l (eip / 4096)) (sym went) (Contains-append_right s.went ((eip / 4096) ∷ []) (eip / 4096) (here (eip / 4096)))) in
-          let f = fetch_shares (eip / 4096) r.0 (omega (arith, lt)) one r.1 in
+          let f = fetch_shares (eip / 4096) r.0 (omega (arith, lt)) one (leads_from memory v.root (eip / 4096) (omega (arith, lt)) false r.0 r.1) in
           let c = fetching_comes m b v.kernel s eip (front_len eip) r.0 h f.fetches.entry f.fetches.free in
           let bytes : front_at b.ram r.0 eip ≡ p.front = same_value (front_at b.ram r.0 eip) p.front c.space p.first (sym c.is ∙ p.reads) in
           inl (record { frame = r.0; page = f; is = ap decoded bytes ∙ x.is })
@@ -130,10 +131,10 @@ module _ (m : Setting) (w : IsWedge m) (memory : List ℕ) (v : View) (b : State
           (Contains-append_left (s.went ++ (eip / 4096) ∷ []) ((next_page eip / 4096) ∷ []) (eip / 4096) (Contains-append_right s.went ((eip / 4096) ∷ []) (eip / 4096) (here (eip / 4096))))) in
           let q = pages (next_page eip / 4096) (subst (λ (l : List ℕ). Contains l (next_page eip / 4096)) (sym went)
           (Contains-append_right (s.went ++ (eip / 4096) ∷ []) ((next_page eip / 4096) ∷ []) (next_page eip / 4096) (here (next_page eip / 4096)))) in
-          let f = fetch_shares (eip / 4096) r.0 (omega (arith, lt)) one r.1 in
+          let f = fetch_shares (eip / 4096) r.0 (omega (arith, lt)) one (leads_from memory v.root (eip / 4096) (omega (arith, lt)) false r.0 r.1) in
           let c = fetching_comes m b v.kernel s eip (front_len eip) r.0 h f.fetches.entry f.fetches.free in
           let bytes : front_at b.ram r.0 eip ≡ p.front = same_value (front_at b.ram r.0 eip) p.front c.space p.first (sym c.is ∙ p.reads) in
-          let g = fetch_shares (eip / 4096 + 1) q.0 (last_below eip lt x.not_last) (two r.0 f (ap decoded bytes ∙ x.cut)) (subst (λ (k : ℕ). Leads memory v.root false k q.0) (next_is eip) q.1) in
+          let g = fetch_shares (eip / 4096 + 1) q.0 (last_below eip lt x.not_last) (two r.0 f (ap decoded bytes ∙ x.cut)) (leads_from memory v.root (eip / 4096 + 1) (last_below eip lt x.not_last) false q.0 (subst (λ (k : ℕ). reached memory (length memory / 4096) v.root k false ≡ Some q.0) (next_is eip) q.1)) in
           let first_at : At m b p.first = subst (At m b) (same_space (front_at b.ram r.0 eip) p.front c.space p.first (sym c.is ∙ p.reads)) c.at in
           let k = front_kept m b v.kernel eip (front_len eip) p.first first_at in
           let before_at : At m b x.on.before = subst (At m b) (same_space tt tt k.space x.on.before (sym k.is ∙ x.on.owns)) k.at in

@@ -18,6 +18,7 @@ use Rattle.native_steps.specs.Forward.{wp_of}
 use Rattle.native_steps.specs.Backward.{IsReached, IsRangeReached}
 use Rattle.native_steps.proofs.Pages.{At, Comes, HasEntry, lent_entry, range_passes, reaching_comes}
 use Rattle.native_steps.proofs.Uses.{reaching_uses, ready_parts, window_above}
+use Rattle.native_steps.proofs.HostParts.{leads_from}
 use Rattle.native_steps.proofs.Sharing.{IsShared, AreShared, range_shared, free_data}
 
 module _ (m : Setting) (w : IsWedge m) (memory : List ℕ) (v : View) (b : State) (stands : Stands m memory v b) (cpu : Cpu) (user : (cpu.cpl == 3) ≡ not v.kernel) where
@@ -45,11 +46,14 @@ module _ (m : Setting) (w : IsWedge m) (memory : List ℕ) (v : View) (b : State
       → reaching r.at r.len (by_cpu write) s ≡ Ok (tt, t) → IsShared m w memory v b stands write r
   range_from lends s t write r h short first last e =
       let parts = ready_parts s r.at r.len (by_cpu write) (reaching_uses s t r.at r.len (by_cpu write) e).0 in
+      let first_in = parts.0 in
+      let some = short.0 in
       let window : window_stop (Wedge 0x100 (text_pages m.image) h.own) (record { write = write; user = not v.kernel }) r.at ≡ None =
       ap (λ (u : Bool). window_stop (Wedge 0x100 (text_pages m.image) h.own) (record { write = write; user = u }) r.at) (sym user)
       ∙ ap (λ (x : Mode). window_stop x (by_cpu write) r.at) (sym h.mode)
       ∙ parts.1 in
-      range_shared m w memory v b stands lends write r short.0 short.1 parts.0 (window_above v.kernel r.at window) first.0 first.1 last.0 last.1
+      range_shared m w memory v b stands lends write r short.0 short.1 parts.0 (window_above v.kernel r.at window)
+      first.0 (leads_from memory v.root (r.at / 4096) (omega (arith, first_in, some)) write first.0 first.1) last.0 (leads_from memory v.root (last_page r) (omega (arith, first_in, some)) write last.0 last.1)
 
   pub reached_from : Lends m memory v.root v.kernel (wp_of b) b.set → (s t : Space) (write : Bool) (o : Option Range) → At m b s → IsShort o → IsRangeReached memory v.root write o → reached cpu write o s ≡ Ok (tt, t) → AreShared m w memory v b stands write o
   reached_from lends s t write None h short pages e = tt

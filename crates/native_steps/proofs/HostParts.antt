@@ -1,6 +1,6 @@
 -- The parts of an instruction of the host.
-use Rattle.std.proofs.Common.{◌≡◌, ℕ, ◌+◌, ◌*◌, ◌/◌, ◌%◌, ◌^◌, ◌≤◌, List, ◌++◌, length, Bool, true, false, cond, not, ◌==◌, Option, Some, None, Ok, Err, refl, sym, ap, subst, ◌∙◌, inl, inr, arith}
-use Rattle.std.specs.Prelude.{nat_le}
+use Rattle.std.proofs.Common.{◌≡◌, ℕ, ◌+◌, ◌*◌, ◌/◌, ◌%◌, ◌^◌, ◌<◌, ◌≤◌, List, ◌++◌, length, Bool, true, false, cond, not, ◌==◌, Option, Some, None, Ok, Err, refl, sym, ap, subst, ◌∙◌, inl, inr, arith}
+use Rattle.std.specs.Prelude.{nat_le, nat_lt}
 use Rattle.guest_ram.specs.Bytes.{part}
 use Rattle.ia32_types.specs.declared.flags.Regs.{Regs}
 use Rattle.ia32_types.specs.declared.insn.Insn.{Insn}
@@ -11,6 +11,8 @@ use Rattle.ia32_decode.specs.Front.{longest, front_len}
 use Rattle.ia32_exec.specs.declared.access.Range.{Range}
 use Rattle.ia32_exec.specs.Effect.{ranges_of}
 use Rattle.ia32_exec.specs.UserEffect.{user_effect}
+use Rattle.paging.specs.declared.entry.Walk.TheVariants.{Absent}
+use Rattle.paging.specs.Fresh.{fresh}
 use Rattle.paging.specs.Reached.{reached_by, reached}
 use Rattle.host_cpl3.specs.declared.view.View.{View}
 use Rattle.host_cpl3.specs.declared.exit.Exit.{Exit}
@@ -23,7 +25,7 @@ use Rattle.host_cpl3.specs.Fetch.{fetching, fetched_on, fetched_by, fetched, spe
 use Rattle.host_cpl3.specs.Permit.{permitted}
 use Rattle.host_cpl3.specs.Access.{last_page, pages_met, range_met, access_met, segment_met}
 use Rattle.host_cpl3.specs.HostStep.{finished, worked, host_step}
-use Rattle.native_steps.proofs.Choices.{chosen, passed_by, is_not, le_true, le_told, eq_told}
+use Rattle.native_steps.proofs.Choices.{chosen, passed_by, is_not, le_true, lt_true, le_told, eq_told}
 use Rattle.native_steps.proofs.Ways.{front_at, back_at, IsAcross, Way}
 
 -- both parts of what was met were met
@@ -46,9 +48,19 @@ some_met there write at (Some f) frame e = cc
 some_met there write at None frame e = absurd cc
 
 module _ (memory : List ℕ) (root : ℕ) where
-  -- the frame to which the tables lead
+  -- the frame to which the host's walk leads
   abbrev pub Leads : Bool → ℕ → ℕ → Type 0
-  Leads write page frame = reached memory (length memory / 4096) root page write ≡ Some frame
+  Leads write page frame = reached_by write (walked memory root page) ≡ Some frame
+
+  -- within the address space that is the tables' frame
+  leads_so : (page : ℕ) → page < 2 ^ 20 → (write : Bool) → reached_by write (walked memory root page) ≡ reached memory (length memory / 4096) root page write
+  leads_so page lt write = ap (reached_by write) (chosen (nat_lt page 1048576) (fresh memory (length memory / 4096) (4096 * root) page) Absent (lt_true page 1048576 lt))
+
+  pub leads_told : (page : ℕ) → page < 2 ^ 20 → (write : Bool) (frame : ℕ) → Leads write page frame → reached memory (length memory / 4096) root page write ≡ Some frame
+  leads_told page lt write frame e = sym (leads_so page lt write) ∙ e
+
+  pub leads_from : (page : ℕ) → page < 2 ^ 20 → (write : Bool) (frame : ℕ) → reached memory (length memory / 4096) root page write ≡ Some frame → Leads write page frame
+  leads_from page lt write frame e = leads_so page lt write ∙ e
 
   pub page_leads : (write : Bool) (at frame : ℕ) → page_met memory root write at ≡ Ok frame → Leads write (at / 4096) frame
   unfolding page_met

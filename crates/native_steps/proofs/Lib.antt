@@ -21,9 +21,12 @@ pub mod Together
 pub mod Completing
 pub mod Deriving
 pub mod SiteJumps
+pub mod Clear
 pub mod Marks
 pub mod Walking
 pub mod Through
 pub mod Repeating
 pub mod Repeated
 pub mod Tables
+pub mod Quiet
+pub mod Stretching

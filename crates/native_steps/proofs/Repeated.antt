@@ -43,7 +43,8 @@ use Rattle.native_steps.specs.Stands.{Sees}
 use Rattle.native_steps.specs.Native.{byte_of, effect_of, done_by}
 use Rattle.native_steps.specs.Forward.{wp_of, IsNext}
 use Rattle.native_steps.specs.Backward.{IsTranslated}
-use Rattle.native_steps.specs.Again.{Use, used, range_uses, uses_of, AreClear, AreWithin, settled, StepsAgain}
+use Rattle.native_steps.specs.Again.{AreWithin, settled, StepsAgain}
+use Rattle.native_steps.proofs.Clear.{Use, used, range_uses, uses_of, AreClear}
 use Rattle.native_steps.proofs.Choices.{is_false, clash, le_told, lt_told, both, eq_told}
 use Rattle.native_steps.proofs.Same.{user_same}
 use Rattle.native_steps.proofs.Pages.{At, Comes, HasEntry, IsFree, range_passes, reaching_comes, fetching_comes}

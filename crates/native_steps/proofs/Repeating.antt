@@ -25,7 +25,8 @@ use Rattle.machine_model.specs.State.{Setting, State, wedge_mode, space_at_start
 use Rattle.ia32_decode.specs.Front.{longest, front_len}
 use Rattle.machine_model.specs.Instruction.{fetching, owning_front, owning_back, next_page, owned}
 use Rattle.native_steps.specs.Forward.{wp_of}
-use Rattle.native_steps.specs.Again.{used, AreWithin, settled}
+use Rattle.native_steps.specs.Again.{AreWithin, settled}
+use Rattle.native_steps.proofs.Clear.{used}
 use Rattle.native_steps.proofs.Choices.{le_true, lt_true, clash, eq_true}
 use Rattle.native_steps.proofs.Pages.{HasEntry}
 use Rattle.native_steps.proofs.Ways.{front_at, back_at, IsFront, IsAcross, Way}

@@ -24,7 +24,7 @@ use Rattle.native_steps.specs.Native.{byte_of}
 use Rattle.native_steps.specs.Forward.{wp_of}
 use Rattle.native_steps.proofs.Choices.{both, lt_told, not_lt, is_false}
 use Rattle.native_steps.proofs.Pages.{IsFree}
-use Rattle.native_steps.proofs.HostParts.{Leads, AreRanges}
+use Rattle.native_steps.proofs.HostParts.{Leads, leads_told, AreRanges}
 use Rattle.native_steps.proofs.Shown.{IsApart, frame_apart, byte_shown}
 
 -- ---- rights
@@ -102,7 +102,7 @@ module _ (m : Setting) (w : IsWedge m) (memory : List ℕ) (v : View) (b : State
 
   pub shares : Lends m memory v.root v.kernel (wp_of b) b.set → (write : Bool) (page frame : ℕ) → page < 2 ^ 20 → (v.kernel ≡ true → 0x11000 ≤ page) → Leads memory v.root write page frame → Shares write page frame
   shares lends write page frame lt above e =
-      let lent = lends.each page lt write frame e in
+      let lent = lends.each page lt write frame (leads_told memory v.root page lt write frame e) in
       record { leads = e; lent = lent; plain = no_text m w v.kernel page frame above lent.is_open }
 
   -- from what the host met

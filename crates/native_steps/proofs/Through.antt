@@ -18,7 +18,7 @@ use Rattle.image_load.specs.Boot.{text_pages}
 use Rattle.machine_model.specs.State.{Setting, State}
 use Rattle.machine_model.specs.Instruction.{taken, fetching}
 use Rattle.native_steps.specs.Forward.{wp_of}
-use Rattle.native_steps.specs.Again.{Use, AreClear}
+use Rattle.native_steps.proofs.Clear.{Use, AreClear}
 use Rattle.native_steps.proofs.Choices.{not_lt, passed_by, eq_told}
 use Rattle.native_steps.proofs.Pages.{HasEntry, IsFree}
 use Rattle.native_steps.proofs.Uses.{reaching_uses, ready_parts}

@@ -5,4 +5,5 @@ pub mod Forward
 pub mod Backward
 pub mod Again
 pub mod Behind
+pub mod Stretch
 pub mod TextLaws

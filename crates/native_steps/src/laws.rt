@@ -2,8 +2,10 @@ ghost use Rattle.native_steps.specs.Forward.{Forward, NotEntered, AtSites};
 ghost use Rattle.native_steps.specs.Backward.{Backward, NativeCompletes};
 ghost use Rattle.native_steps.specs.Again.{Again};
 ghost use Rattle.native_steps.specs.Behind.{LendsStill};
+ghost use Rattle.native_steps.specs.Stretch.{Stretch};
 
 use crate::texts::texts;
+use host_cpl3::borders;
 use image_laws::{inside_sites, jumps_out, places};
 use sys_exec::user_flags_agree;
 
@@ -59,3 +61,15 @@ pub fn steps_again()
 pub fn lends_still()
     ensures { LendsStill }
 {}
+
+/// A run of the host, begun where the guest stands and in quiet steps, is as many steps of the guest as it completes
+/// instructions, with the translations as they are. All of them count, and the host's counts are theirs.
+pub fn stretch()
+    ensures { Stretch }
+{
+    forward();
+    not_entered();
+    at_sites();
+    lends_still();
+    borders();
+}

@@ -6,5 +6,5 @@ mod laws;
 mod texts;
 
 pub use laws::{
-    at_sites, backward, forward, lends_still, native_completes, not_entered, steps_again,
+    at_sites, backward, forward, lends_still, native_completes, not_entered, steps_again, stretch,
 };

@@ -1,0 +1,129 @@
+-- The pages that an instruction uses, where none clashes: where one was used before, its entry allows the later use too.
+use Rattle.std.proofs.Common.{◌≡◌, ℕ, zero, suc, ◌+◌, ◌-◌, ◌/◌, ◌≤◌, ◌<◌, ◌==◌, List, [], ◌∷◌, ◌++◌, length, map, map-append, Bool, true, false, cond, ◌&&◌, ◌||◌, not, Option, Some, None, Ok, refl, sym, ap, subst, ◌∙◌, arith}
+use Rattle.std.specs.Prelude.{slice_index_or, if◌then◌else◌}
+use Rattle.std.specs.Option.{ForSome}
+use Rattle.std.specs.List.{Contains, list_any}
+use Rattle.std.specs.FinMap.{FinMap, get}
+use Rattle.std.specs.Ordering.{nat_cmp}
+use Rattle.ia32_types.specs.declared.insn.Insn.{Insn}
+use Rattle.ia32_decode.specs.declared.answer.Decoded.TheVariants as begins
+use Rattle.ia32_exec.specs.declared.access.Range.{Range}
+use Rattle.ia32_exec.specs.declared.access.Ranges.{Ranges}
+use Rattle.ia32_exec.specs.Short.{IsShort}
+use Rattle.ia32_exec.specs.Effect.{ranges_of}
+use Rattle.paging.specs.declared.entry.Access.{Access}
+use Rattle.paging.specs.declared.entry.Entry.{Entry}
+use Rattle.paging.specs.Fresh.{allows}
+use Rattle.paging.specs.Space.{Space}
+use Rattle.host_cpl3.specs.Access.{last_page}
+use Rattle.machine_model.specs.State.{Setting, State, space_at_start}
+use Rattle.machine_model.specs.Instruction.{fetched}
+use Rattle.machine_model.specs.Clash as clashing
+use Rattle.machine_model.specs.Clash.{access_of, fetch_uses, is_refused_by, clash_behind, instruction_clashes}
+use Rattle.native_steps.specs.Forward.{wp_of}
+use Rattle.native_steps.proofs.Choices.{clash, eq_true}
+use Rattle.native_steps.proofs.Short.{ranges_short}
+
+-- a page that an instruction uses
+pub record Use : Type 0 where
+  pub page : ℕ
+  pub write : Bool
+
+abbrev pub used : Bool → ℕ → Use
+used write page = record { page = page; write = write }
+
+-- the pages of a range
+abbrev pub range_uses : Bool → Option Range → List Use
+range_uses write None = []
+range_uses write (Some r) = used write (r.at / 4096) ∷ (if last_page r == r.at / 4096 then [] else used write (last_page r) ∷ [])
+
+-- all pages that an instruction uses, in their order: those that its fetch went through, and those of its ranges
+abbrev pub uses_of : List ℕ → Ranges → List Use
+uses_of pages ranges = map (used false) pages ++ (range_uses false ranges.read ++ range_uses true ranges.write)
+
+-- Where a page was used before, its entry, if it has one, allows this use too.
+abbrev pub AreClear : (set : FinMap nat_cmp Entry) (user wp : Bool) → List ℕ → List Use → Type 0
+AreClear set user wp earlier [] = Unit {0}
+AreClear set user wp earlier (u ∷ later) =
+    (Contains earlier u.page → ForSome (get set u.page) (λ e. allows e (record { write = u.write; user = user }) wp ≡ true))
+    × AreClear set user wp (u.page ∷ earlier) later
+
+-- ---- as the model has them
+
+neither : (a b : Bool) → (a || b) ≡ false → (a ≡ false) × (b ≡ false)
+neither false b h = (refl, h)
+neither true b h = absurd (cc)
+
+or_true : (a : Bool) → (a || true) ≡ true
+or_true true = refl
+or_true false = refl
+
+any_by : (q : ℕ) (ps : List ℕ) (k : ℕ) → k < length ps → slice_index_or ps k q ≡ q → list_any (λ page. page == q) ps ≡ true
+any_by q [] k lt e = absurd (omega (arith, lt))
+any_by q (p ∷ ps) zero lt e = ap (λ t. t || list_any (λ page. page == q) ps) (eq_true p q e)
+any_by q (p ∷ ps) (suc k) lt e = ap (λ t. (p == q) || t) (any_by q ps k (omega (arith, lt)) e) ∙ or_true (p == q)
+
+not_refused : (o : Option Entry) (access : Access) (wp : Bool) → is_refused_by o access wp ≡ false → ForSome o (λ e. allows e access wp ≡ true)
+not_refused None access wp h x e = absurd cc
+not_refused (Some y) access wp h x e = let same : y ≡ x = cc in ap (λ z. allows z access wp) (sym same) ∙ allowed (allows y access wp) h
+  where
+    allowed : (t : Bool) → not t ≡ false → t ≡ true
+    allowed true g = refl
+    allowed false g = absurd cc
+
+one_of : (a r : Bool) → a ≡ true → (a && r) ≡ false → r ≡ false
+one_of true r e h = h
+one_of false r e h = absurd cc
+
+abbrev as_use : State → Use → clashing.Use
+as_use b u = record { page = u.page; access = access_of b u.write }
+
+clear_told : (b : State) (ps : List ℕ) (us : List Use) → clash_behind (get b.set) (wp_of b) ps (map (as_use b) us) ≡ false → AreClear b.set (b.cpu.cpl == 3) (wp_of b) ps us
+clear_told b ps [] h = tt
+clear_told b ps (u ∷ us) h =
+    let access : Access = access_of b u.write in
+    let p = neither (list_any (λ page. page == u.page) ps && is_refused_by (get b.set u.page) access (wp_of b)) (clash_behind (get b.set) (wp_of b) (u.page ∷ ps) (map (as_use b) us)) h in (
+      λ c. not_refused (get b.set u.page) access (wp_of b) (one_of (list_any (λ page. page == u.page) ps) (is_refused_by (get b.set u.page) access (wp_of b)) (any_by u.page ps c.0 c.1 c.2) p.0),
+      clear_told b (u.page ∷ ps) us p.1,
+    )
+
+module _ (b : State) where
+  fetch_same : (pages : List ℕ) → map (as_use b) (map (used false) pages) ≡ fetch_uses b pages
+  fetch_same [] = refl
+  fetch_same (page ∷ pages) = ap (λ (l : List clashing.Use). as_use b (used false page) ∷ l) (fetch_same pages)
+
+  last_same : (r : Range) → 1 ≤ r.len → last_page r ≡ (r.at + r.len - 1) / 4096
+  last_same r some = omega (arith, some)
+
+  -- a last page that is another
+  abbrev other : Bool → ℕ → ℕ → List clashing.Use
+  other write first last = cond (last == first) [] (as_use b (used write last) ∷ [])
+
+  map_other : (write : Bool) (first last : ℕ) (t : Bool) → map (as_use b) (cond t [] (used write last ∷ [])) ≡ cond t [] (as_use b (used write last) ∷ [])
+  map_other write first last true = refl
+  map_other write first last false = refl
+
+  range_same : (write : Bool) (o : Option Range) → IsShort o → map (as_use b) (range_uses write o) ≡ clashing.uses_of (access_of b write) o
+  range_same write None short = refl
+  range_same write (Some r) short =
+      ap (λ (l : List clashing.Use). as_use b (used write (r.at / 4096)) ∷ l)
+      (map_other write (r.at / 4096) (last_page r) (last_page r == r.at / 4096) ∙ ap (other write (r.at / 4096)) (last_same r short.0))
+
+  all_same : (pages : List ℕ) (ranges : Ranges) → IsShort ranges.read × IsShort ranges.write
+      → map (as_use b) (uses_of pages ranges) ≡ fetch_uses b pages ++ (clashing.uses_of (access_of b false) ranges.read ++ clashing.uses_of (access_of b true) ranges.write)
+  all_same pages ranges short =
+      map-append (as_use b) (map (used false) pages) (range_uses false ranges.read ++ range_uses true ranges.write)
+      ∙ ap (λ (l : List clashing.Use). l ++ map (as_use b) (range_uses false ranges.read ++ range_uses true ranges.write)) (fetch_same pages)
+      ∙ ap (λ (l : List clashing.Use). fetch_uses b pages ++ l)
+        (map-append (as_use b) (range_uses false ranges.read) (range_uses true ranges.write)
+        ∙ ap (λ (l : List clashing.Use). l ++ map (as_use b) (range_uses true ranges.write)) (range_same false ranges.read short.0)
+        ∙ ap (λ (l : List clashing.Use). clashing.uses_of (access_of b false) ranges.read ++ l) (range_same true ranges.write short.1))
+
+-- an instruction that was fetched and doesn't clash
+pub clear_from : (m : Setting) (b : State) (insn : Insn) (len : ℕ) (fetch : Space)
+    → fetched (b.cpu.cpl == 3) b.cpu.regs.eip (space_at_start m.mode m.frames b.cpu b.ram b.set) ≡ Ok (begins.Insn insn len, fetch) → instruction_clashes m b ≡ false
+    → AreClear b.set (b.cpu.cpl == 3) (wp_of b) [] (uses_of fetch.went (ranges_of insn b.cpu.regs))
+unfolding instruction_clashes
+clear_from m b insn len fetch e h =
+    clear_told b [] (uses_of fetch.went (ranges_of insn b.cpu.regs))
+    (ap (clash_behind (get b.set) (wp_of b) []) (all_same b fetch.went (ranges_of insn b.cpu.regs) (ranges_short insn b.cpu.regs) ∙ sym (ap (clashing.uses_by b) e)) ∙ h)
