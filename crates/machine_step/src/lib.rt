@@ -12,7 +12,7 @@ mod stepping;
 mod worked;
 
 pub use delivery::refuse;
-pub use fetch::fetch;
+pub use fetch::fetch as fetch_at;
 pub use instruction::carry_out;
 pub use native::{plain_divides, reach};
 pub use rules::Rules;

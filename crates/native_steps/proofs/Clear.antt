@@ -1,5 +1,5 @@
 -- The pages that an instruction uses, where none clashes: where one was used before, its entry allows the later use too.
-use Rattle.std.proofs.Common.{◌≡◌, ℕ, zero, suc, ◌+◌, ◌-◌, ◌/◌, ◌≤◌, ◌<◌, ◌==◌, List, [], ◌∷◌, ◌++◌, length, map, map-append, Bool, true, false, cond, ◌&&◌, ◌||◌, not, Option, Some, None, Ok, refl, sym, ap, subst, ◌∙◌, arith}
+use Rattle.std.proofs.Common.{◌≡◌, ℕ, zero, suc, ◌+◌, ◌-◌, ◌/◌, ◌≤◌, ◌<◌, ◌==◌, List, [], ◌∷◌, ◌++◌, length, map, Bool, true, false, cond, ◌&&◌, ◌||◌, not, Option, Some, None, Ok, refl, sym, ap, subst, ◌∙◌, arith}
 use Rattle.std.specs.Prelude.{slice_index_or, if◌then◌else◌}
 use Rattle.std.specs.Option.{ForSome}
 use Rattle.std.specs.List.{Contains, list_any}
@@ -86,6 +86,10 @@ clear_told b ps (u ∷ us) h =
       λ c. not_refused (get b.set u.page) access (wp_of b) (one_of (list_any (λ page. page == u.page) ps) (is_refused_by (get b.set u.page) access (wp_of b)) (any_by u.page ps c.0 c.1 c.2) p.0),
       clear_told b (u.page ∷ ps) us p.1,
     )
+
+map-append : {A B : Type 0} (f : A → B) (xs ys : List A) → map f (xs ++ ys) ≡ map f xs ++ map f ys
+map-append f [] ys = refl
+map-append f (x ∷ xs) ys = ap (λ l. f x ∷ l) (map-append f xs ys)
 
 module _ (b : State) where
   fetch_same : (pages : List ℕ) → map (as_use b) (map (used false) pages) ≡ fetch_uses b pages

@@ -154,6 +154,10 @@ module _ (laws : Laws) (m : Setting) (v : View) (w : IsWedge m) where
           ∙ chosen (is_direct m.image.sites follows.completed) (follows.completed.eip ∷ []) [] follows.direct
           ∙ ap (λ (x : ℕ). x ∷ []) follows.eip
 
+      pages_kept : AreKept b.set follows.report.pages
+      unfolding now
+      pages_kept = follows.pages
+
       begun_at : b.cpu.regs.eip ≡ s.regs.eip
       begun_at = ap (λ (x : Regs). x.eip) h.regs
 
@@ -174,7 +178,7 @@ module _ (laws : Laws) (m : Setting) (v : View) (w : IsWedge m) where
             board = r.board ∙ board_on m b after later k r.n r.few q;
             count = omega (arith, r.count, later.count);
             unseen = ap (λ (x : List Rattle.run_trace.specs.declared.items.Item.Item). x ++ trace_of r.reports) follows.unseen ∙ r.unseen;
-            pages = all_more (λ (x : Report). AreKept b.set x.pages) follows.report r.reports follows.pages (subst (λ (x : Set). All (λ (y : Report). AreKept x y.pages) r.reports) set_is r.pages);
+            pages = all_more (λ (x : Report). AreKept b.set x.pages) follows.report r.reports pages_kept (subst (λ (x : Set). All (λ (y : Report). AreKept x y.pages) r.reports) set_is r.pages);
             unwalked = all_more (λ (x : Report). x.tables ≡ []) follows.report r.reports follows.unwalked r.unwalked;
             direct = ap (λ (x : List ℕ). length x) addresses ∙ ap suc r.direct;
             passed = r.passed ∙ ap (λ (x : ℕ). passed_on ((31 * s.passed + x) % 2 ^ 64) (direct_addresses m.image.sites r.reports)) (sym begun_at) ∙ sym (ap (passed_on s.passed) addresses);

@@ -9,7 +9,7 @@ use Rattle.image_load.specs.declared.fault.StartFault.{StartFault}
 use Rattle.image_load.specs.declared.fault.StartFault.TheVariants as start
 use Rattle.shadow_tables.specs.Slots.{Slot}
 use Rattle.machine_model.specs.State.{Setting, boot, wedge}
-use Rattle.wedge_core.specs.Standing.{IsHeld, state_of}
+use Rattle.wedge_core.specs.Standing.{IsHeld, IsAble, state_of}
 use Rattle.wedge_core.specs.declared.running.Running.{Running}
 
 module _ {S : Type 0} (stands : S → List ℕ → Type 0) (frames : S → List ℕ → List ℕ) (slots : S → List ℕ → ℕ → Option Slot) where
@@ -17,6 +17,7 @@ module _ {S : Type 0} (stands : S → List ℕ → Type 0) (frames : S → List 
   pub record Begins (m : Setting) (g : Running S) (pool : Pool) (memory : List ℕ) : Type 0 where
     pub held : IsHeld stands frames slots m g pool memory
     pub state : state_of stands frames slots m g memory ≡ boot m
+    pub able : IsAble g.cpu
     pub fills : g.fills ≡ 0
     pub two : g.held ≡ 2
 

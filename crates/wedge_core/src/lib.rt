@@ -2,16 +2,21 @@
 #![tactic(auto)]
 
 mod clash;
+mod close;
+mod filling;
 mod guest;
-mod keeper;
+mod lent;
 mod native;
+mod opened;
+mod pages;
 mod rest;
 mod run;
 mod running;
-mod settle;
+mod settling;
 mod single;
 mod slice;
 mod stretch;
+mod telling;
 
 pub use guest::Guest;
 pub use run::run_wedge;

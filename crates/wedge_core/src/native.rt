@@ -1,10 +1,9 @@
 //! One step whose instruction the host does, where it is done.
 
 use crate::clash::clashes;
-use crate::keeper::Lent;
+use crate::lent::Lent;
 use crate::running::Running;
-use crate::settle::{Filling, TextFrames, settle};
-use crate::single::{NOT_YET, TEXT_FRAME, go, original, side_of, text_frames};
+use crate::single::{NOT_YET, go, keep, original, text_frames};
 use board::Board;
 use descriptors::Cpu;
 use frame_pool::Pool;
@@ -13,7 +12,7 @@ use ia32_decode::Decoded;
 use ia32_exec::Outcome;
 use ia32_types::{Insn, Op, Stop, sensitive};
 use image_check::Checked;
-use machine_step::{Reached, Rules, Seen, Worked, begin, carry_out, fetch, reach, refuse};
+use machine_step::{Reached, Rules, Seen, Worked, begin, carry_out, fetch_at, reach, refuse};
 use shadow_tables::Shadows;
 use step_exec::user_outcome;
 use step_mem::{Guard, Kept, State};
@@ -72,7 +71,7 @@ pub fn begin_native<S: Shadows + Drop>(
             Ok(Attempt::Went(worked.seen))
         }
         None => {
-            fill(running, pool, ram, &state, text_frames(image));
+            keep(running, pool, ram, &state, text_frames(image));
             Ok(Attempt::Asked)
         }
     }
@@ -97,7 +96,7 @@ fn try_native<B: Kept>(
     kept: &B,
     state: &mut State,
 ) -> Result<Option<Worked>, Stop> {
-    match fetch(ram, kept, state, cpu.cpl == 3, cpu.regs.eip) {
+    match fetch_at(ram, kept, state, cpu.cpl == 3, cpu.regs.eip) {
         Err(refusal) => Ok(Some(refuse(rules, cpu, ram, kept, state, refusal)?)),
         Ok(Decoded::Insn(insn, len)) => {
             if is_native(&insn, cpu) {
@@ -133,25 +132,4 @@ fn prepare<B: Kept>(
             }
         },
     }
-}
-
-/// Fills the pages that the step went through.
-fn fill<S: Shadows + Drop>(
-    running: &mut Running<S>,
-    pool: &mut Pool,
-    ram: &mut Ram,
-    state: &State,
-    count: u32,
-) {
-    let filling = Filling {
-        side: side_of(running.cpu.cpl),
-        wp: state.control.wp,
-        text: TextFrames {
-            first: TEXT_FRAME,
-            count,
-        },
-    };
-    let free = pool.free() + running.held;
-    settle(&mut running.shadows, pool, ram, state, filling);
-    running.held = free - pool.free();
 }

@@ -1,8 +1,12 @@
 //! One step that the host has no part in.
 
-use crate::keeper::Lent;
+ghost use Rattle.std.specs.Prelude.{◌≡◌, ℕ, ◌+◌, ◌*◌, ◌≤◌, ◌<◌, ◌^◌, length, true};
+ghost use Rattle.image_load.specs.Boot.{text_pages};
+
+use crate::close::{close, drop_from};
+use crate::lent::Lent;
+use crate::opened::TEXT_FRAME;
 use crate::running::Running;
-use crate::settle::{Filling, TextFrames, drop_from, settle};
 use frame_pool::Pool;
 use guest_ram::Ram;
 use ia32_types::Stop;
@@ -11,11 +15,10 @@ use machine_step::{Rules, Seen, Worked};
 use shadow_tables::{Shadows, Side};
 use step_mem::{Guard, Own, State, Text};
 
-/// The frame of the text's first byte.
-pub const TEXT_FRAME: u32 = 0x100;
-
 /// How many frames hold the text.
-pub fn text_frames(image: &Checked) -> u32 {
+pub fn text_frames(image: &Checked) -> u32
+    ensures { result ≡ text_pages image.now }
+{
     (image.text().len() as u32 + 4095) / 4096
 }
 
@@ -25,7 +28,11 @@ pub fn side_of(cpl: u8) -> Side {
 }
 
 /// The text as the guest sees it.
-pub fn original(image: &Checked) -> Text<'_> {
+pub fn original(image: &Checked) -> Text<'_>
+    ensures first { result.first ≡ 256 }
+    ensures count { result.count ≡ text_pages image.now }
+    ensures bytes { result.bytes.now ≡ image.now.text }
+{
     Text {
         first: TEXT_FRAME,
         count: text_frames(image),
@@ -76,6 +83,21 @@ pub fn step_alone<S: Shadows + Drop>(
     }
 }
 
+/// What a step left of its translations is kept.
+pub fn keep<S: Shadows + Drop>(
+    running: &mut Running<S>,
+    pool: &mut Pool,
+    ram: &mut Ram,
+    state: &State,
+    count: u32,
+) {
+    let all = pool.free() + running.held;
+    let side = side_of(running.cpu.cpl);
+    let fills = close(&mut running.shadows, pool, ram, state, side, count);
+    running.fills += u64::from(fills);
+    running.held = all - pool.free();
+}
+
 /// The end of a step that went: its translations are settled, the count rises, and the board advances.
 pub fn go<S: Shadows + Drop>(
     running: &mut Running<S>,
@@ -85,21 +107,13 @@ pub fn go<S: Shadows + Drop>(
     worked: &Worked,
     count: u32,
 ) {
-    let filling = Filling {
-        side: side_of(running.cpu.cpl),
-        wp: state.control.wp,
-        text: TextFrames {
-            first: TEXT_FRAME,
-            count,
-        },
-    };
-    let free = pool.free() + running.held;
-    settle(&mut running.shadows, pool, ram, state, filling);
+    keep(running, pool, ram, state, count);
+    let all = pool.free() + running.held;
     drop_from(&mut running.shadows, pool, ram, worked.dropped);
     if (worked.cpu.cr0 / 65536 % 2 == 1) != state.control.wp {
         running.shadows.drop_all(ram, pool);
     }
-    running.held = free - pool.free();
+    running.held = all - pool.free();
     running.cpu = worked.cpu;
     running.step += 1;
     running.board.advance(1);

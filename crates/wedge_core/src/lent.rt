@@ -1,4 +1,4 @@
-//! Shadows as the keeper of a step's translations.
+//! Shadows as a keeper of translations, lent for one step.
 
 ghost use Rattle.std.specs.Prelude.{◌≡◌, ◌*◌, ◌≤◌};
 ghost use Rattle.frame_pool.specs.Pool.{base_of};
@@ -12,16 +12,17 @@ use paging::Entry;
 use shadow_tables::Shadows;
 use step_mem::Kept;
 
-/// The shadows and their pool, lent for a step.
+/// Shadows and the pool of their frames, which no step changes before its end.
 #[derive(Clone, Copy)]
 pub struct Lent<'a, S: Shadows> {
     pub shadows: &'a S,
     pub pool: &'a Pool,
 }
 
-impl<S: Shadows> Kept for Lent<'_, S> {
+impl<'a, S: Shadows> Kept for Lent<'a, S> {
     ghost entries = { λ k ram. entries_of (S.slots k.shadows.now ram) };
 
+    /// All frames of the pool lie behind the guest's.
     ghost floor = { λ k. 4096 * base_of k.pool.now };
 
     ghost stands = { λ k ram. (∥ S.stands k.shadows.now ram ∥₁) × Owns k.pool.now ram (S.frames k.shadows.now ram) };

@@ -1,0 +1,39 @@
+-- What the shadows keep once a step is done.
+use Rattle.std.specs.Prelude.{◌≡◌, ℕ, ◌+◌, ◌*◌, ◌^◌, ◌<◌, ◌≤◌, List, [], ◌∷◌, ◌++◌, map, length, Bool, true, false, not, ◌&&◌, Option, Some, None, if◌then◌else◌}
+use Rattle.std.specs.FinMap.{FinMap, get}
+use Rattle.std.specs.Ordering.{nat_cmp}
+use Rattle.paging.specs.declared.entry.Entry.{Entry}
+use Rattle.shadow_tables.specs.Slots.{Slot, filled, is_among}
+use Rattle.shadow_tables.specs.Calls.{IsWithin}
+use Rattle.shadow_tables.specs.declared.words.Side.{Side}
+use Rattle.step_mem.specs.Changes.{changed, page_of}
+use Rattle.step_mem.specs.declared.changes.Change.{Change}
+
+-- the pages that a step went through, and then those whose entries it changed, of which each is one of the first
+abbrev pub pages_of : List ℕ → List Change → List ℕ
+pages_of went changes = went ++ map page_of changes
+
+abbrev pub has_entry : Option Entry → Bool
+has_entry None = false
+has_entry (Some entry) = true
+
+-- those of the pages that have an entry in the set, each once
+abbrev pub used : FinMap nat_cmp Entry → List ℕ → List ℕ
+used set [] = []
+used set (page ∷ pages) = if has_entry (get set page) && not (is_among page pages) then page ∷ used set pages else used set pages
+
+-- what a fill from an entry makes, where frames of `tracked` are barred from writes
+abbrev pub filled_by : Side → Bool → List ℕ → Option Entry → Option Slot
+filled_by side wp tracked None = None
+filled_by side wp tracked (Some entry) = Some (filled (is_among entry.frame tracked) side entry wp)
+
+-- Each of these pages is held on that side with its entry of the set, or not at all where it has none. Of the others the
+-- same is kept, with no right that it hadn't.
+pub record Settles (old new : ℕ → Option Slot) (set : FinMap nat_cmp Entry) (pages : List ℕ) (side : Side) (wp : Bool) (tracked : List ℕ) : Type 0 where
+  pub through : (page : ℕ) → page < 2 ^ 20 → is_among page pages ≡ true → new page ≡ filled_by side wp tracked (get set page)
+  pub others : (page : ℕ) → page < 2 ^ 20 → is_among page pages ≡ false → IsWithin (new page) (old page)
+
+-- The same, where what is kept of the others is what was.
+pub record Fills (old new : ℕ → Option Slot) (set : FinMap nat_cmp Entry) (pages : List ℕ) (side : Side) (wp : Bool) (tracked : List ℕ) : Type 0 where
+  pub through : (page : ℕ) → page < 2 ^ 20 → is_among page pages ≡ true → new page ≡ filled_by side wp tracked (get set page)
+  pub others : (page : ℕ) → page < 2 ^ 20 → is_among page pages ≡ false → new page ≡ old page

@@ -1,0 +1,65 @@
+//! The end of a step: the shadows keep what the step left.
+
+ghost use Rattle.std.specs.Prelude.{◌≡◌, ◌+◌, ◌*◌, ◌≤◌, ◌<◌, ◌^◌, ℕ, List, length, true, false, take, IfSome, IsSome, MatchOption};
+ghost use Rattle.std.specs.FinMap.{FinMap, empty, get};
+ghost use Rattle.frame_pool.specs.Pool.{base_of, free_list};
+ghost use Rattle.frame_pool.specs.Held.{Owns, Moves};
+ghost use Rattle.shadow_tables.specs.Entries.{entries_of};
+ghost use Rattle.shadow_tables.specs.Slots.{is_among, ArePart};
+ghost use Rattle.shadow_tables.specs.declared.words.Side.{Side as View};
+ghost use Rattle.step_mem.specs.Changes.{changed};
+ghost use Rattle.step_mem.specs.Sound.{IsSound};
+ghost use Rattle.wedge_core.specs.Settled.{Settles, pages_of, used};
+
+use crate::filling::fill_pages;
+use crate::pages::{count_used, pages_of};
+use crate::telling::{note_tables, tell_written};
+use frame_pool::Pool;
+use guest_ram::Ram;
+use shadow_tables::{Shadows, Side};
+use step_mem::State;
+
+/// Settles the shadows to the set that a step left: every page that the step went through is filled from its entry on
+/// that side, or dropped where it has none. The frames that its walks read are noted, and those that it wrote are told,
+/// before. Answers how many entries the pages have. None where fewer frames are free than that: all is dropped then.
+pub fn settle<S: Shadows>(
+    shadows: &mut S,
+    ram: &mut Ram,
+    pool: &mut Pool,
+    state: &State,
+    side: Side,
+) -> Option<u32>
+    requires sound { IsSound (λ m. entries_of (S.slots shadows.old m)) (4096 * base_of pool.old) (λ m. (∥ S.stands shadows.old m ∥₁) × Owns pool.old m (S.frames shadows.old m)) ram.old state.now }
+    ensures stands { ∥ S.stands shadows.new ram.new ∥₁ }
+    ensures owns { Owns pool.new ram.new (S.frames shadows.new ram.new) }
+    ensures moves { Moves pool.old pool.new ram.old ram.new (S.frames shadows.old ram.old) (S.frames shadows.new ram.new) }
+    ensures roots { (view : View) → S.directory shadows.new view ≡ S.directory shadows.old view }
+    ensures count { let set = changed (entries_of (S.slots shadows.old ram.old)) state.now.changes in
+        let count = length (used set (pages_of state.now.went state.now.changes)) in
+        MatchOption result (length (free_list pool.old ram.old) < count) (λ n. (n ≡ count) × (count ≤ length (free_list pool.old ram.old))) }
+    ensures entries { MatchOption result (entries_of (S.slots shadows.new ram.new) ≡ empty)
+        (λ n. entries_of (S.slots shadows.new ram.new) ≡ changed (entries_of (S.slots shadows.old ram.old)) state.now.changes) }
+    ensures kept { IfSome result (λ n. Settles (S.slots shadows.old ram.old) (S.slots shadows.new ram.new) (changed (entries_of (S.slots shadows.old ram.old)) state.now.changes)
+        (pages_of state.now.went state.now.changes) side state.now.control.wp (S.tracked shadows.new)) }
+    ensures untracked { IsSome result → (frame : ℕ) → is_among frame state.now.wrote ≡ true → is_among frame (S.tracked shadows.new) ≡ false }
+    ensures guest { take (4096 * base_of pool.old) ram.new ≡ take (4096 * base_of pool.old) ram.old }
+{
+    let pages = pages_of(state);
+    let count = count_used(shadows, ram, &state.changes, pages.as_slice());
+    if count > pool.free() {
+        shadows.drop_all(ram, pool);
+        return None;
+    }
+    note_tables(shadows, ram, state.tables.as_slice());
+    tell_written(shadows, ram, pool, state.wrote.as_slice());
+    fill_pages(
+        shadows,
+        ram,
+        pool,
+        &state.changes,
+        side,
+        state.control.wp,
+        pages.as_slice(),
+    );
+    Some(count)
+}
