@@ -1,12 +1,12 @@
 -- What the shadows keep once a step is done.
-use Rattle.std.specs.Prelude.{◌≡◌, ℕ, ◌+◌, ◌*◌, ◌^◌, ◌<◌, ◌≤◌, List, [], ◌∷◌, ◌++◌, map, length, Bool, true, false, not, ◌&&◌, Option, Some, None, if◌then◌else◌}
+use Rattle.std.specs.Prelude.{◌≡◌, ℕ, ◌^◌, ◌<◌, List, [], ◌∷◌, ◌++◌, map, Bool, true, false, not, ◌&&◌, Option, Some, None, if◌then◌else◌}
 use Rattle.std.specs.FinMap.{FinMap, get}
 use Rattle.std.specs.Ordering.{nat_cmp}
 use Rattle.paging.specs.declared.entry.Entry.{Entry}
 use Rattle.shadow_tables.specs.Slots.{Slot, filled, is_among}
 use Rattle.shadow_tables.specs.Calls.{IsWithin}
 use Rattle.shadow_tables.specs.declared.words.Side.{Side}
-use Rattle.step_mem.specs.Changes.{changed, page_of}
+use Rattle.step_mem.specs.Changes.{page_of}
 use Rattle.step_mem.specs.declared.changes.Change.{Change}
 
 -- the pages that a step went through, and then those whose entries it changed, of which each is one of the first
@@ -32,3 +32,8 @@ filled_by side wp tracked (Some entry) = Some (filled (is_among entry.frame trac
 pub record Settles (old new : ℕ → Option Slot) (set : FinMap nat_cmp Entry) (pages : List ℕ) (side : Side) (wp : Bool) (tracked : List ℕ) : Type 0 where
   pub through : (page : ℕ) → page < 2 ^ 20 → is_among page pages ≡ true → new page ≡ filled_by side wp tracked (get set page)
   pub others : (page : ℕ) → page < 2 ^ 20 → is_among page pages ≡ false → IsWithin (new page) (old page)
+
+-- The same, where what is kept of the others is what was.
+pub record Fills (old new : ℕ → Option Slot) (set : FinMap nat_cmp Entry) (pages : List ℕ) (side : Side) (wp : Bool) (tracked : List ℕ) : Type 0 where
+  pub through : (page : ℕ) → page < 2 ^ 20 → is_among page pages ≡ true → new page ≡ filled_by side wp tracked (get set page)
+  pub others : (page : ℕ) → page < 2 ^ 20 → is_among page pages ≡ false → new page ≡ old page

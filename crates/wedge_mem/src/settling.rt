@@ -11,6 +11,9 @@ ghost use Rattle.step_mem.specs.Changes.{changed};
 ghost use Rattle.step_mem.specs.Sound.{IsSound};
 ghost use Rattle.wedge_mem.specs.Settled.{Settles, pages_of, used};
 
+use crate::filling::fill_pages;
+use crate::pages::{count_used, pages_of};
+use crate::telling::{note_tables, tell_written};
 use frame_pool::Pool;
 use guest_ram::Ram;
 use shadow_tables::{Shadows, Side};
@@ -41,5 +44,23 @@ pub fn settle<S: Shadows>(
     ensures untracked { IsSome result → (frame : ℕ) → is_among frame state.now.wrote ≡ true → is_among frame (S.tracked shadows.new) ≡ false }
     ensures guest { take (4096 * base_of pool.old) ram.new ≡ take (4096 * base_of pool.old) ram.old }
 {
-    unreachable!()
+    let _len = ram.len();
+    let pages = pages_of(state);
+    let count = count_used(shadows, ram, &state.changes, pages.as_slice());
+    if count > pool.free() {
+        shadows.drop_all(ram, pool);
+        return None;
+    }
+    note_tables(shadows, ram, state.tables.as_slice());
+    tell_written(shadows, ram, pool, state.wrote.as_slice());
+    fill_pages(
+        shadows,
+        ram,
+        pool,
+        &state.changes,
+        side,
+        state.control.wp,
+        pages.as_slice(),
+    );
+    Some(count)
 }

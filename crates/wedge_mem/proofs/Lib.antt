@@ -1,0 +1,4 @@
+pub mod Lists
+pub mod Filled
+pub mod Below
+pub mod Passed

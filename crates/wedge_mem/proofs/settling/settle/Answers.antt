@@ -1,0 +1,66 @@
+use Rattle.std.proofs.Common.{ap, ◌∙◌, subst}
+use Rattle.shadow_tables.specs.Entries.{entries_of}
+use Rattle.step_mem.specs.Changes.{changed}
+use Rattle.wedge_mem.specs.Owned.{first, owns}
+use Rattle.wedge_mem.specs.Settled.{Fills}
+use Rattle.wedge_mem.proofs.Below.{below-same}
+use Rattle.wedge_mem.proofs.Passed.{owns-noted, owns-told, owns-all, moves-all}
+use Rattle.wedge_mem.proofs.Filled.{entries-filled}
+use Rattle.wedge_mem.proofs.settling.settle.Goals as goal
+
+pub count_used-count-requires-clause-stands : goal.count_used-count-requires-clause-stands
+count_used-count-requires-clause-stands g c = first c.requires.sound.stands_now
+
+pub drop_all-requires-clause-stands : goal.drop_all-requires-clause-stands
+drop_all-requires-clause-stands g c = first c.requires.sound.stands_now
+
+pub drop_all-requires-clause-owns : goal.drop_all-requires-clause-owns
+drop_all-requires-clause-owns g c = owns c.requires.sound.stands_now
+
+pub returns-then-count-free-clause-guest : goal.returns-then-count-free-clause-guest
+returns-then-count-free-clause-guest g c =
+    let f = g.S.Shadows.frames in
+    below-same c.args.pool.now c.drop_all.new.pool c.args.ram.now c.drop_all.new.ram (f c.args.shadows.now c.args.ram.now) (f c.drop_all.new.self c.drop_all.new.ram) (owns c.requires.sound.stands_now) c.drop_all.ensures.moves
+
+pub note_tables-requires : goal.note_tables-requires
+note_tables-requires g c = record { stands = first c.requires.sound.stands_now }
+
+pub tell_written-requires-clause-owns : goal.tell_written-requires-clause-owns
+tell_written-requires-clause-owns g c =
+    let f = g.S.Shadows.frames in let n = c.note_tables.new in
+    owns-noted c.args.pool.now c.args.pool.now c.args.pool.now c.args.ram.now n.ram n.ram n.ram (f c.args.shadows.now c.args.ram.now) (f n.shadows n.ram) (f n.shadows n.ram) (f n.shadows n.ram)
+    (owns c.requires.sound.stands_now) c.note_tables.ensures.frames c.note_tables.ensures.memory
+
+pub fill_pages-requires-clause-owns : goal.fill_pages-requires-clause-owns
+fill_pages-requires-clause-owns g c =
+    let f = g.S.Shadows.frames in let n = c.note_tables.new in let t = c.tell_written.new in
+    owns-told c.args.pool.now t.pool t.pool c.args.ram.now n.ram t.ram t.ram (f c.args.shadows.now c.args.ram.now) (f n.shadows n.ram) (f t.shadows t.ram) (f t.shadows t.ram)
+    (owns c.requires.sound.stands_now) c.note_tables.ensures.frames c.note_tables.ensures.memory c.tell_written.ensures.moves
+
+pub returns-clause-owns : goal.returns-clause-owns
+returns-clause-owns g c =
+    let f = g.S.Shadows.frames in let n = c.note_tables.new in let t = c.tell_written.new in let u = c.fill_pages.new in
+    owns-all c.args.pool.now t.pool u.pool c.args.ram.now n.ram t.ram u.ram (f c.args.shadows.now c.args.ram.now) (f n.shadows n.ram) (f t.shadows t.ram) (f u.shadows u.ram)
+    (owns c.requires.sound.stands_now) c.note_tables.ensures.frames c.note_tables.ensures.memory c.tell_written.ensures.moves c.fill_pages.ensures.moves
+
+pub returns-clause-moves : goal.returns-clause-moves
+returns-clause-moves g c =
+    let f = g.S.Shadows.frames in let n = c.note_tables.new in let t = c.tell_written.new in let u = c.fill_pages.new in
+    moves-all c.args.pool.now t.pool u.pool c.args.ram.now n.ram t.ram u.ram (f c.args.shadows.now c.args.ram.now) (f n.shadows n.ram) (f t.shadows t.ram) (f u.shadows u.ram)
+    (owns c.requires.sound.stands_now) c.note_tables.ensures.frames c.note_tables.ensures.memory c.tell_written.ensures.moves c.fill_pages.ensures.moves
+
+pub returns-clause-guest : goal.returns-clause-guest
+returns-clause-guest g c =
+    let f = g.S.Shadows.frames in let n = c.note_tables.new in let t = c.tell_written.new in let u = c.fill_pages.new in
+    below-same c.args.pool.now u.pool c.args.ram.now u.ram (f c.args.shadows.now c.args.ram.now) (f u.shadows u.ram) (owns c.requires.sound.stands_now)
+    (moves-all c.args.pool.now t.pool u.pool c.args.ram.now n.ram t.ram u.ram (f c.args.shadows.now c.args.ram.now) (f n.shadows n.ram) (f t.shadows t.ram) (f u.shadows u.ram)
+    (owns c.requires.sound.stands_now) c.note_tables.ensures.frames c.note_tables.ensures.memory c.tell_written.ensures.moves c.fill_pages.ensures.moves)
+
+pub returns-clause-entries : goal.returns-clause-entries
+returns-clause-entries g c =
+    let s = g.S.Shadows.slots in let t = c.tell_written.new in let u = c.fill_pages.new in
+    let cs = c.args.state.now.changes in let went = c.args.state.now.went in
+    let same = c.tell_written.ensures.entries ∙ c.note_tables.ensures.entries in
+    entries-filled (s t.shadows t.ram) (s u.shadows u.ram) went cs c.args.side c.args.state.now.control.wp (g.S.Shadows.tracked t.shadows) c.pages_of-pages.ensures.pages
+    (subst (λ xs. Fills (s t.shadows t.ram) (s u.shadows u.ram) (changed (entries_of (s t.shadows t.ram)) cs) xs c.args.side c.args.state.now.control.wp (g.S.Shadows.tracked t.shadows)) (c.as_slice-4.ensures ∙ c.pages_of-pages.ensures.all) c.fill_pages.ensures.fills)
+    ∙ ap (λ e. changed e cs) same

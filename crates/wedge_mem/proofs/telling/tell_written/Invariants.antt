@@ -1,0 +1,18 @@
+use Rattle.std.proofs.Common.{◌≡◌, ℕ, ◌≤◌, length, take, true, false}
+use Rattle.frame_pool.specs.Pool.{free_list}
+use Rattle.frame_pool.specs.Held.{Moves}
+use Rattle.shadow_tables.specs.Entries.{entries_of}
+use Rattle.shadow_tables.specs.Slots.{is_among, ArePart, SameSlots}
+use Rattle.wedge_mem.proofs.telling.tell_written.Given as goal
+
+abbrev pub invariant-loop-frame : goal.invariant-loop-frame
+invariant-loop-frame g l = record {
+  stands : ∥ g.S.Shadows.stands l.shadows l.ram ∥₁;
+  slots : SameSlots (g.S.Shadows.slots l.fn.shadows l.fn.ram) (g.S.Shadows.slots l.shadows l.ram);
+  entries : entries_of (g.S.Shadows.slots l.shadows l.ram) ≡ entries_of (g.S.Shadows.slots l.fn.shadows l.fn.ram);
+  tracked : ArePart (g.S.Shadows.tracked l.shadows) (g.S.Shadows.tracked l.fn.shadows);
+  untracked : (frame : ℕ) → is_among frame (take l.frame-index l.wrote) ≡ true → is_among frame (g.S.Shadows.tracked l.shadows) ≡ false;
+  roots : (view : _) → g.S.Shadows.directory l.shadows view ≡ g.S.Shadows.directory l.fn.shadows view;
+  fewer : length (free_list l.fn.pool l.fn.ram) ≤ length (free_list l.pool l.ram);
+  moves : Moves l.fn.pool l.pool l.fn.ram l.ram (g.S.Shadows.frames l.fn.shadows l.fn.ram) (g.S.Shadows.frames l.shadows l.ram);
+}

@@ -1,0 +1,90 @@
+//! The pages of a step, and the entries that it left them.
+
+ghost use Rattle.std.specs.Prelude.{◌≡◌, ◌+◌, ◌<◌, ◌≤◌, ◌^◌, ◌&&◌, length, not};
+ghost use Rattle.std.specs.FinMap.{get};
+ghost use Rattle.shadow_tables.specs.Entries.{entries_of};
+ghost use Rattle.shadow_tables.specs.Slots.{is_among};
+ghost use Rattle.step_mem.specs.Changes.{changed, page_of as page_in, AreOfPages};
+ghost use Rattle.wedge_mem.specs.Settled.{has_entry, pages_of, used};
+
+use guest_ram::Ram;
+use paging::Entry;
+use shadow_tables::Shadows;
+use step_mem::{Change, Changes, State, Went};
+
+fn page_of(change: &Change) -> u32
+    ensures { result ≡ page_in change.now }
+{
+    match change {
+        Change::Gone(page) => *page,
+        Change::Now(entry) => entry.page,
+    }
+}
+
+/// The pages that a step went through, and those that it changed.
+pub fn pages_of(state: &State) -> Went
+    requires { length state.now.went + length state.now.changes ≤ 128 }
+    ensures all { result ≡ pages_of state.now.went state.now.changes }
+    ensures pages { AreOfPages state.now.changes }
+{
+    let mut pages = state.went.copied();
+    for change in state.changes.as_slice() {
+        pages.push(page_of(change));
+    }
+    pages
+}
+
+pub fn is_among(page: u32, pages: &[u32]) -> bool
+    ensures { result ≡ is_among page pages.now }
+{
+    for other in pages {
+        if page == *other {
+            return true;
+        }
+    }
+    false
+}
+
+/// The entry that the step left the page.
+pub fn entry_of<S: Shadows>(shadows: &S, ram: &Ram, changes: &Changes, page: u32) -> Option<Entry>
+    requires { ∥ S.stands shadows.now ram.now ∥₁ }
+    ensures { result ≡ get (changed (entries_of (S.slots shadows.now ram.now)) changes.now) page }
+{
+    match changes.last(page) {
+        Some(entry) => entry,
+        None => kept(shadows, ram, page),
+    }
+}
+
+fn kept<S: Shadows>(shadows: &S, ram: &Ram, page: u32) -> Option<Entry>
+    requires { ∥ S.stands shadows.now ram.now ∥₁ }
+    ensures { result ≡ get (entries_of (S.slots shadows.now ram.now)) page }
+{
+    if page >= 0x10_0000 {
+        return None;
+    }
+    shadows.kept(ram, page)
+}
+
+/// The page has an entry, and isn't among the later ones.
+fn is_used<S: Shadows>(shadows: &S, ram: &Ram, changes: &Changes, page: u32, later: &[u32]) -> bool
+    requires { ∥ S.stands shadows.now ram.now ∥₁ }
+    ensures { result ≡ has_entry (get (changed (entries_of (S.slots shadows.now ram.now)) changes.now) page) && not (is_among page later.now) }
+{
+    entry_of(shadows, ram, changes, page).is_some() && !is_among(page, later)
+}
+
+/// How many of the pages have an entry, each counted once.
+pub fn count_used<S: Shadows>(shadows: &S, ram: &Ram, changes: &Changes, pages: &[u32]) -> u32
+    requires stands { ∥ S.stands shadows.now ram.now ∥₁ }
+    requires few { length pages.now ≤ 128 }
+    ensures { result ≡ length (used (changed (entries_of (S.slots shadows.now ram.now)) changes.now) pages.now) }
+{
+    let mut count = 0;
+    for i in 0..pages.len() {
+        if is_used(shadows, ram, changes, pages[i], &pages[i + 1..]) {
+            count += 1;
+        }
+    }
+    count
+}
