@@ -1,5 +1,3 @@
-pub mod Owned
-pub mod Settled
 pub mod Opened
 pub mod Parts
 pub mod Standing

@@ -32,6 +32,18 @@ abbrev pub StepAs : Setting → State → Result Seen Stop → State → Counts 
 StepAs m b (Ok seen) new before after = Goes m b seen new before after
 StepAs m b (Err stop) new before after = Halts m b stop
 
+-- A step of which the host did nothing went, or stops.
+pub record Alone (m : Setting) (b : State) (seen : Seen) (new : State) : Type 0 where
+  pub report : Report
+  pub whole : Set
+  pub went : stepped m b ≡ Went report (with_set new whole)
+  pub part : IsPartOf new.set whole
+  pub items : report.items ≡ items_at b.step (whats seen)
+
+abbrev pub AloneAs : Setting → State → Result Seen Stop → State → Type 0
+AloneAs m b (Ok seen) new = Alone m b seen new
+AloneAs m b (Err stop) new = stepped m b ≡ Stands stop
+
 -- Some steps, from a state of whose translations some may have been lost, in which nothing is seen, lead to another.
 pub record Passes (m : Setting) (b : State) (whole : Set) (new : State) (before after : Counts) : Type 0 where
   pub sets : List Set

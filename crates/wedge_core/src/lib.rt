@@ -3,20 +3,15 @@
 
 mod clash;
 mod close;
-mod filling;
 mod guest;
-mod lent;
 mod native;
 mod opened;
-mod pages;
 mod rest;
 mod run;
 mod running;
-mod settling;
 mod single;
 mod slice;
 mod stretch;
-mod telling;
 
 pub use guest::Guest;
 pub use run::run_wedge;

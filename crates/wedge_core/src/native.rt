@@ -1,7 +1,7 @@
 //! One step whose instruction the host does, where it is done.
 
 use crate::clash::clashes;
-use crate::lent::Lent;
+use wedge_mem::Lent;
 use crate::running::Running;
 use crate::single::{NOT_YET, go, keep, original, text_frames};
 use board::Board;

@@ -10,11 +10,11 @@ ghost use Rattle.shadow_tables.specs.Entries.{entries_of};
 ghost use Rattle.shadow_tables.specs.Slots.{is_among};
 ghost use Rattle.step_mem.specs.Changes.{changed};
 ghost use Rattle.native_steps.specs.Lends.{IsOpen};
-ghost use Rattle.wedge_core.specs.Settled.{pages_of};
+ghost use Rattle.wedge_mem.specs.Settled.{pages_of};
 ghost use Rattle.wedge_core.specs.Opened.{is_text_frame, is_given_frame, is_open_to, is_entry_open};
 ghost use Rattle.wedge_core.specs.Standing.{is_kernel};
 
-use crate::pages::{entry_of, pages_of};
+use wedge_mem::{entry_of, pages_of};
 use guest_ram::Ram;
 use paging::Entry;
 use shadow_tables::{Shadows, Side};

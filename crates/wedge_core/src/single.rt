@@ -1,10 +1,24 @@
 //! One step that the host has no part in.
 
-ghost use Rattle.std.specs.Prelude.{◌≡◌, ℕ, ◌+◌, ◌*◌, ◌≤◌, ◌<◌, ◌^◌, length, true};
+ghost use Rattle.std.specs.Prelude.{◌≡◌, ℕ, List, ◌+◌, ◌*◌, ◌/◌, ◌%◌, ◌==◌, ◌≤◌, ◌<◌, ◌^◌, length, true, OnOk};
+ghost use Rattle.frame_pool.specs.Held.{Owns, Moves};
+ghost use Rattle.frame_pool.specs.Pool.{base_of, free_list};
+ghost use Rattle.board.specs.Boards.{board_step};
+ghost use Rattle.board.specs.Scripts.{Events};
+ghost use Rattle.image_check.specs.Image.{Image};
 ghost use Rattle.image_load.specs.Boot.{text_pages};
+ghost use Rattle.paging.specs.Fresh.{has};
+ghost use Rattle.shadow_tables.specs.Entries.{entries_of};
+ghost use Rattle.step_mem.specs.Changes.{changed};
+ghost use Rattle.step_mem.specs.Sound.{IsSound};
+ghost use Rattle.machine_step.specs.Worked.{dropping, IsDropped};
+ghost use Rattle.machine_model.specs.State.{wedge};
+ghost use Rattle.wedge_core.specs.Parts.{IsPartOf};
+ghost use Rattle.wedge_core.specs.Standing.{AreOpen, IsHeld, ground, side_of, state_of, wp_of};
+ghost use Rattle.wedge_core.specs.Stepping.{AloneAs};
 
-use crate::close::{close, drop_from};
-use crate::lent::Lent;
+use crate::close::{close, leave};
+use wedge_mem::Lent;
 use crate::opened::TEXT_FRAME;
 use crate::running::Running;
 use frame_pool::Pool;
@@ -23,7 +37,9 @@ pub fn text_frames(image: &Checked) -> u32
 }
 
 /// The side of the view that a processor at this level uses.
-pub fn side_of(cpl: u8) -> Side {
+pub fn side_of(cpl: u8) -> Side
+    ensures { result ≡ side_of (cpl == 3) }
+{
     if cpl == 3 { Side::User } else { Side::Kernel }
 }
 
@@ -54,7 +70,13 @@ pub fn step_alone<S: Shadows + Drop>(
     pool: &mut Pool,
     ram: &mut Ram,
     image: &Checked,
-) -> Result<Seen, Stop> {
+) -> Result<Seen, Stop>
+    requires held { IsHeld S.stands S.frames S.slots (ground image.now running.old.frames) running.old pool.old ram.old }
+    requires bound { running.old.step < 2 ^ 40 }
+    ensures step { (script : Events) → AloneAs (wedge image.now script running.old.frames) (state_of S.stands S.frames S.slots (wedge image.now script running.old.frames) running.old ram.old) result (state_of S.stands S.frames S.slots (wedge image.now script running.old.frames) running.new ram.new) }
+    ensures held { OnOk result (IsHeld S.stands S.frames S.slots (ground image.now running.old.frames) running.new pool.new ram.new) }
+    ensures frames { running.new.frames ≡ running.old.frames }
+{
     let text = Some(original(image));
     let guard = Guard {
         text: &text,
@@ -90,7 +112,20 @@ pub fn keep<S: Shadows + Drop>(
     ram: &mut Ram,
     state: &State,
     count: u32,
-) {
+)
+    requires sound { IsSound (λ m. entries_of (S.slots running.old.shadows m)) (4096 * base_of pool.old) (λ m. (∥ S.stands running.old.shadows m ∥₁) × Owns pool.old m (S.frames running.old.shadows m)) ram.old state.now }
+    requires counted { running.old.held ≡ length (S.frames running.old.shadows ram.old) }
+    requires few { length (free_list pool.old ram.old) + length (S.frames running.old.shadows ram.old) < 2 ^ 32 }
+    requires fills { running.old.fills ≤ 2 ^ 48 }
+    ensures stands { ∥ S.stands running.new.shadows ram.new ∥₁ }
+    ensures owns { Owns pool.new ram.new (S.frames running.new.shadows ram.new) }
+    ensures moves { Moves pool.old pool.new ram.old ram.new (S.frames running.old.shadows ram.old) (S.frames running.new.shadows ram.new) }
+    ensures part { IsPartOf (entries_of (S.slots running.new.shadows ram.new)) (changed (entries_of (S.slots running.old.shadows ram.old)) state.now.changes) }
+    ensures shows { (image : Image) → count ≡ text_pages image → AreOpen image state.now.control.wp (S.slots running.old.shadows ram.old) → AreOpen image state.now.control.wp (S.slots running.new.shadows ram.new) }
+    ensures counted { running.new.held ≡ length (S.frames running.new.shadows ram.new) }
+    ensures fills { running.new.fills ≤ running.old.fills + 128 }
+    ensures same { running.new ≡ record running.old { shadows = running.new.shadows; held = running.new.held; fills = running.new.fills } }
+{
     let all = pool.free() + running.held;
     let side = side_of(running.cpu.cpl);
     let fills = close(&mut running.shadows, pool, ram, state, side, count);
@@ -106,13 +141,28 @@ pub fn go<S: Shadows + Drop>(
     state: &State,
     worked: &Worked,
     count: u32,
-) {
+)
+    requires sound { IsSound (λ m. entries_of (S.slots running.old.shadows m)) (4096 * base_of pool.old) (λ m. (∥ S.stands running.old.shadows m ∥₁) × Owns pool.old m (S.frames running.old.shadows m)) ram.old state.now }
+    requires counted { running.old.held ≡ length (S.frames running.old.shadows ram.old) }
+    requires few { length (free_list pool.old ram.old) + length (S.frames running.old.shadows ram.old) < 2 ^ 32 }
+    requires fills { running.old.fills ≤ 128 * running.old.step }
+    requires bound { running.old.step < 2 ^ 40 }
+    requires page { IsDropped worked.now.dropped }
+    ensures stands { ∥ S.stands running.new.shadows ram.new ∥₁ }
+    ensures owns { Owns pool.new ram.new (S.frames running.new.shadows ram.new) }
+    ensures moves { Moves pool.old pool.new ram.old ram.new (S.frames running.old.shadows ram.old) (S.frames running.new.shadows ram.new) }
+    ensures part { IsPartOf (entries_of (S.slots running.new.shadows ram.new)) (dropping worked.now.dropped (changed (entries_of (S.slots running.old.shadows ram.old)) state.now.changes)) }
+    ensures shows { (image : Image) → count ≡ text_pages image → AreOpen image state.now.control.wp (S.slots running.old.shadows ram.old) → AreOpen image (wp_of worked.now.cpu) (S.slots running.new.shadows ram.new) }
+    ensures counted { running.new.held ≡ length (S.frames running.new.shadows ram.new) }
+    ensures fills { running.new.fills ≤ 128 * running.new.step }
+    ensures cpu { running.new.cpu ≡ worked.now.cpu }
+    ensures board { running.new.board ≡ board_step running.old.board }
+    ensures step { running.new.step ≡ running.old.step + 1 }
+    ensures frames { running.new.frames ≡ running.old.frames }
+{
     keep(running, pool, ram, state, count);
     let all = pool.free() + running.held;
-    drop_from(&mut running.shadows, pool, ram, worked.dropped);
-    if (worked.cpu.cr0 / 65536 % 2 == 1) != state.control.wp {
-        running.shadows.drop_all(ram, pool);
-    }
+    leave(&mut running.shadows, pool, ram, state.control.wp, worked);
     running.held = all - pool.free();
     running.cpu = worked.cpu;
     running.step += 1;

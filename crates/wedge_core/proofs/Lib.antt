@@ -1,0 +1,6 @@
+pub mod Opening
+pub mod Bools
+pub mod Parts
+pub mod UsedPages
+pub mod Boards
+pub mod Memories
