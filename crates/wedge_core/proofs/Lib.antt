@@ -4,3 +4,4 @@ pub mod Parts
 pub mod UsedPages
 pub mod Boards
 pub mod Memories
+pub mod Alones

@@ -1,6 +1,6 @@
 -- The guest's memory in the host's, when either changes.
-use Rattle.std.proofs.Common.{◌≡◌, ℕ, zero, suc, ◌+◌, ◌-◌, ◌*◌, ◌/◌, ◌≤◌, ◌<◌, List, [], ◌∷◌, ◌++◌, length, take, drop, refl, sym, ap, subst, ◌∙◌, arith}
-use Rattle.std.proofs.lemmas.List.{places, same_lists, length-drop, length-take-le}
+use Rattle.std.proofs.Common.{◌≡◌, ℕ, zero, suc, ◌+◌, ◌-◌, ◌*◌, ◌/◌, ◌≤◌, ◌<◌, List, [], ◌∷◌, ◌++◌, length, length-drop, take, drop, refl, sym, ap, subst, ◌∙◌, arith}
+use Rattle.std.proofs.lemmas.List.{places, same_lists}
 use Rattle.guest_ram.specs.Bytes.{part, with_part}
 use Rattle.guest_ram.proofs.Bytes.{length-part, part-part}
 use Rattle.frame_pool.specs.Pool.{base_of}
@@ -37,8 +37,8 @@ leaves count frames old new room fits fits_new e =
     let b : length (part old 0x100000 (4096 * count)) ≡ 4096 * count = length-part old 0x100000 (4096 * count) (omega (arith, room, fits)) in
     let s = append_both (part new 0x100000 (4096 * count)) (part old 0x100000 (4096 * count)) (drop (4096 * frames) new) (drop (4096 * frames) old) (a ∙ sym b) e in
     let k = ap length s.1 in
-    let x = length-drop new (4096 * frames) in
-    let y = length-drop old (4096 * frames) in
+    let x = length-drop (4096 * frames) new in
+    let y = length-drop (4096 * frames) old in
     record { text = s.0; above = s.1; size = omega (arith, k, x, y, fits, fits_new) }
 
 -- the memory that a step reaches is the guest's
@@ -84,3 +84,13 @@ host_left m count old new few l h =
       room = omega (arith, size, fits);
       text = sym (here new) ∙ (ap (λ (l : List ℕ). part l 0 n) l.text ∙ (here old ∙ h.text));
     }
+
+-- the same, as a step of a guest's memory tells it
+pub step_leaves : (image : Image) (frames first count : ℕ) (old new : List ℕ) → 0x100 + text_pages image ≤ frames → 4096 * frames ≤ length old → 4096 * frames ≤ length new → first ≡ 256 → count ≡ text_pages image
+    → beyond first count frames new ≡ beyond first count frames old → Leaves (text_pages image) frames old new
+step_leaves image frames first count old new room fits fits_new f k e =
+    leaves (text_pages image) frames old new room fits fits_new
+    (subst (λ (n : ℕ). beyond 256 n frames new ≡ beyond 256 n frames old) k (subst (λ (n : ℕ). beyond n count frames new ≡ beyond n count frames old) f e))
+
+pub text_within : (image : Image) → length image.text ≤ 4096 * text_pages image
+text_within image = omega arith

@@ -105,3 +105,7 @@ turned_open image wp old new gone t h page lt = by (page == gone) refl
     by false e =
         let other : page ≡ gone → ⊥ = λ same. let f : (page == gone) ≡ true = grind (arith, nat_tests, same) in absurd (let g : true ≡ false = sym f ∙ e in cc) in
         subst (λ (o : Option Slot). ForSome o (IsOpenSlot image wp)) (sym (t.others page lt other)) (h page lt)
+
+-- what is kept stays the same
+pub same_open : (image : Image) (wp : Bool) (old new : ℕ → Option Slot) → ((page : ℕ) → page < 2 ^ 20 → new page ≡ old page) → AreOpen image wp old → AreOpen image wp new
+same_open image wp old new same h page lt = subst (λ (o : Option Slot). ForSome o (IsOpenSlot image wp)) (sym (same page lt)) (h page lt)

@@ -25,7 +25,7 @@ use frame_pool::Pool;
 use guest_ram::Ram;
 use ia32_types::Stop;
 use image_check::Checked;
-use machine_step::{Rules, Seen, Worked};
+use machine_step::{Rules, Seen, Worked, begin, step_in};
 use shadow_tables::{Shadows, Side};
 use step_mem::{Guard, Own, State, Text};
 
@@ -87,16 +87,16 @@ pub fn step_alone<S: Shadows + Drop>(
         shadows: &running.shadows,
         pool: &*pool,
     };
-    let (result, state) = machine_step::step(
+    let mut state = begin(&running.cpu, ram, &kept, running.frames, guard);
+    let outcome = step_in(
         &rules,
         &running.cpu,
         &mut running.board,
         ram,
         &kept,
-        running.frames,
-        guard,
+        &mut state,
     );
-    match result {
+    match outcome {
         Ok(worked) => {
             go(running, pool, ram, &state, &worked, text_frames(image));
             Ok(worked.seen)

@@ -1,17 +1,7 @@
-//! Patched runs of small kernels.
+//! Patched runs of kernels from their sources.
 #![tactic(auto)]
 
 #[cfg(test)]
 mod counting;
 #[cfg(test)]
-mod events;
-#[cfg(test)]
-mod kernel;
-#[cfg(test)]
-mod plain;
-#[cfg(test)]
 mod sources;
-#[cfg(test)]
-mod stops;
-#[cfg(test)]
-mod user;

@@ -30,32 +30,29 @@ fn file(alloc: Global, source: &[u8]) -> Result<Vec<u8>, IoAnswer> {
     Ok(bytes)
 }
 
-fn run(rt: &HostRuntime, name: &str, source: &[u8], n: u64, pool: u32) -> Result<(), Fail> {
-    let alloc = rt.alloc();
+/// What a run prints, and what it leaves of the host.
+#[derive(Drop)]
+struct Ran {
+    out: MemSink,
+    host: Counting,
+    fills: u64,
+}
+
+fn run(alloc: Global, source: &[u8], n: u64, pool: u32) -> Result<Ran, Fail> {
     let image: Checked = check(alloc, &file(alloc, source)?)?;
     let script = read_script(alloc, b"")?;
     let mut out = MemSink::new(alloc, 65536, Vec::new(alloc))?;
     let mut host = Counting::new();
-    match run_wedge(alloc, &image, &script, 2048, n, pool, &mut host, &mut out) {
-        Ok(ended) => {
-            let text = std::str::from_utf8(out.bytes());
-            let fills = ended.fills;
-            let retired = host.told();
-            let passed = host.digest();
-            let first = host.first;
-            let word = host.word(0x401 * 4096 + 4);
-            let _ = println!(rt; "{name} {text:?} fills {fills} retired {retired} passed {passed} first {first:x} word {word:x}");
-        }
-        Err(_) => {
-            let _ = println!(rt; "{name} failed");
-        }
-    }
-    Ok(())
+    let fills = match run_wedge(alloc, &image, &script, 2048, n, pool, &mut host, &mut out) {
+        Ok(ended) => ended.fills,
+        Err(_) => 0,
+    };
+    Ok(Ran { out, host, fills })
 }
 
-const ROW_1: &[u8] = b"_start: movl $0x3f8,%edx; movb $0x48,%al; outb %al,%dx; hlt\n";
-const ROW_9B: &[u8] = b"movl %cr3,%eax; movl %eax,%cr3; movb $1,%al; outb %al,$0x80\n";
-const ROW_9C: &[u8] = b"\
+const SENDS_A_BYTE: &[u8] = b"_start: movl $0x3f8,%edx; movb $0x48,%al; outb %al,%dx; hlt\n";
+const LOADS_CR3: &[u8] = b"movl %cr3,%eax; movl %eax,%cr3; movb $1,%al; outb %al,$0x80\n";
+const COPIES_WITHIN_A_STALE_PAGE: &[u8] = b"\
 movl $1,0xC0400000\n\
 movl $2,0xC0401000\n\
 movl $0x20007,0xC0001114\n\
@@ -65,7 +62,7 @@ movl $0x00401007,0xC0020000\n\
 movl $0x11400000,%esi\n\
 movl $0x11400004,%edi\n\
 movsl\n";
-const ROW_14: &[u8] = b"\
+const READS_A_STALE_PAGE: &[u8] = b"\
 movl $1,0xC0400000\n\
 movl $2,0xC0401000\n\
 movl $0x20007,0xC0001114\n\
@@ -78,7 +75,7 @@ outl %eax,$0x80\n\
 invlpg 0x11400000\n\
 movl 0x11400000,%eax\n\
 outl %eax,$0x80\n";
-const ROW_17: &[u8] = b"\
+const GOES_OVER_FORTY_TABLES: &[u8] = b"\
 movl $0xC0001200,%edi\n\
 movl $0x20007,%eax\n\
 movl $40,%ecx\n\
@@ -101,12 +98,43 @@ outl %eax,$0x80\n\
 hlt\n";
 
 #[test]
-fn shows(rt: HostRuntime) -> Result<(), Fail> {
-    run(&rt, "row 1", ROW_1, 8, 512)?;
-    run(&rt, "row 9b", ROW_9B, 12, 512)?;
-    run(&rt, "row 9c", ROW_9C, 9, 512)?;
-    run(&rt, "row 14", ROW_14, 40, 512)?;
-    run(&rt, "row 17", ROW_17, 2000, 512)?;
-    run(&rt, "row 17 small", ROW_17, 2000, 16)?;
+fn the_host_does_two_instructions_of_four(rt: HostRuntime) -> Result<(), Fail> {
+    let ran = run(rt.alloc(), SENDS_A_BYTE, 8, 512)?;
+    assert_eq!(rt; ran.out.bytes(), b"2 out8 03f8 48\n2 tx 48\nend steps 8\n".as_slice());
+    assert_eq!(rt; ran.host.told(), 2);
+    assert_eq!(rt; ran.host.digest(), 8_589_934_597);
+    assert_eq!(rt; ran.host.first, 0x1000_0000);
+    Ok(())
+}
+
+#[test]
+fn a_load_of_cr3_leaves_no_translation(rt: HostRuntime) -> Result<(), Fail> {
+    let ran = run(rt.alloc(), LOADS_CR3, 12, 512)?;
+    assert_eq!(rt; ran.out.bytes(), b"7 out8 0080 01\nend steps 12\n".as_slice());
+    Ok(())
+}
+
+#[test]
+fn a_step_that_clashes_begins_with_no_translation(rt: HostRuntime) -> Result<(), Fail> {
+    let ran = run(rt.alloc(), COPIES_WITHIN_A_STALE_PAGE, 9, 512)?;
+    assert_eq!(rt; ran.out.bytes(), b"end steps 9\n".as_slice());
+    assert_eq!(rt; ran.host.word(0x40_1004), 2);
+    Ok(())
+}
+
+#[test]
+fn a_page_stays_stale_until_invlpg(rt: HostRuntime) -> Result<(), Fail> {
+    let ran = run(rt.alloc(), READS_A_STALE_PAGE, 40, 512)?;
+    assert_eq!(rt; ran.out.bytes(), b"5 out32 0080 00000001\n11 out32 0080 00000001\n17 out32 0080 00000002\nend steps 40\n".as_slice());
+    Ok(())
+}
+
+#[test]
+fn a_small_pool_fills_more_and_prints_the_same(rt: HostRuntime) -> Result<(), Fail> {
+    let large = run(rt.alloc(), GOES_OVER_FORTY_TABLES, 2000, 512)?;
+    let small = run(rt.alloc(), GOES_OVER_FORTY_TABLES, 2000, 16)?;
+    assert_eq!(rt; large.out.bytes(), b"658 out32 0080 00000078\nend steps 2000\n".as_slice());
+    assert_eq!(rt; small.out.bytes(), large.out.bytes());
+    assert!(rt; large.fills < small.fills);
     Ok(())
 }
