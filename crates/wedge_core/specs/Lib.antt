@@ -1,6 +1,8 @@
 pub mod Opened
 pub mod Parts
+pub mod Pools
 pub mod Standing
+pub mod Running
 pub mod Slices
 pub mod Stepping
 pub mod Starts

@@ -1,12 +1,38 @@
 //! A halted processor that waits.
 
+ghost use Rattle.std.specs.Prelude.{◌≡◌, ℕ, ◌+◌, ◌-◌, ◌*◌, ◌/◌, ◌%◌, ◌==◌, ◌≤◌, ◌<◌, ◌^◌, length, true, false, OnOk};
+ghost use Rattle.frame_pool.specs.declared.Pool.{Pool as Frames};
+ghost use Rattle.frame_pool.specs.Pool.{free_list};
+ghost use Rattle.board.specs.declared.devices.Board.{Board as Devices};
+ghost use Rattle.board.specs.Boards.{given};
+ghost use Rattle.board.specs.Scripts.{Events, is_script};
+ghost use Rattle.machine_model.specs.State.{wedge};
+ghost use Rattle.machine_model.specs.Run.{Set};
+ghost use Rattle.wedge_core.specs.Parts.{IsPartOf};
+ghost use Rattle.wedge_core.specs.Standing.{IsHeld, IsAble, ground, set_of, state_of};
+ghost use Rattle.image_check.specs.Image.{Image};
+ghost use Rattle.std.specs.Prelude.{List};
+ghost use Rattle.wedge_core.specs.Slices.{Counts};
+ghost use Rattle.wedge_core.specs.Stepping.{Passes};
+
 use crate::running::Running;
 use board::Script;
 use machine_step::interrupt;
 use shadow_tables::Shadows;
 
 /// Passes the steps in which a halted processor has nothing to do and nothing can come to the board, up to the bound, in one go.
-pub fn rest<S: Shadows + Drop>(running: &mut Running<S>, script: &Script, bound: u64) {
+pub fn rest<S: Shadows + Drop>(running: &mut Running<S>, script: &Script, bound: u64)
+    requires script { is_script script.now.list ≡ true }
+    requires begun { 0 < running.old.step }
+    requires within { running.old.step ≤ bound }
+    requires bound { bound ≤ 2 ^ 40 }
+    ensures passes { (image : Image) (memory : List ℕ) (whole : Set) (counts : Counts) → IsPartOf (set_of S.stands S.frames S.slots running.old memory) whole
+        → Passes (wedge image script.now.list running.old.frames) (state_of S.stands S.frames S.slots (wedge image script.now.list running.old.frames) running.old memory) whole
+        (state_of S.stands S.frames S.slots (wedge image script.now.list running.old.frames) running.new memory) counts counts }
+    ensures same { running.new ≡ record running.old { board = running.new.board; step = running.new.step } }
+    ensures later { running.old.step ≤ running.new.step }
+    ensures within { running.new.step ≤ bound }
+{
     if !is_resting(running) {
         return;
     }

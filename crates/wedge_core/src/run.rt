@@ -1,5 +1,9 @@
 //! Whole patched runs.
 
+ghost use Rattle.std.specs.Prelude.{◌≡◌, ◌≤◌, ◌^◌, true};
+ghost use Rattle.board.specs.Scripts.{is_script};
+ghost use Rattle.wedge_core.specs.Promises.{WedgeAnswers};
+
 use crate::guest::Guest;
 use board::Script;
 use frame_pool::Pool;
@@ -20,7 +24,15 @@ pub fn run_wedge<H: Host, O: Sink>(
     pool: u32,
     host: &mut H,
     out: &mut O,
-) -> Result<Ended, RunFault> {
+) -> Result<Ended, RunFault>
+    requires frames { (2048 ≤ frames) × (frames ≤ 16384) }
+    requires script { is_script script.now.list ≡ true }
+    requires bound { n ≤ 2 ^ 40 }
+    requires pool { (16 ≤ pool) × (pool ≤ 512) }
+    requires room { H.retired host.old ≤ 2 ^ 63 }
+    ensures run { WedgeAnswers image.now script.now.list frames n (O.taken out.old) (O.taken out.new) (O.faults out.old) (O.faults out.new)
+        (record { retired = H.retired host.old; passed = H.passed host.old }) (record { retired = H.retired host.new; passed = H.passed host.new }) (H.bytes host.new) result }
+{
     match Guest::start(alloc, image, frames, pool, host) {
         Err(StartFault::TooSmall(small)) => Err(RunFault::TooSmall(small)),
         Err(StartFault::Memory) => Err(RunFault::Memory),

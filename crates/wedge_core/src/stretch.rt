@@ -1,5 +1,18 @@
 //! Instructions that the host does one behind the other.
 
+ghost use Rattle.std.specs.Prelude.{◌≡◌, ℕ, ◌+◌, ◌-◌, ◌*◌, ◌/◌, ◌%◌, ◌==◌, ◌≤◌, ◌<◌, ◌^◌, length, true, false, OnOk};
+ghost use Rattle.frame_pool.specs.declared.Pool.{Pool as Frames};
+ghost use Rattle.frame_pool.specs.Pool.{free_list};
+ghost use Rattle.board.specs.declared.devices.Board.{Board as Devices};
+ghost use Rattle.board.specs.Boards.{given};
+ghost use Rattle.board.specs.Scripts.{Events, is_script};
+ghost use Rattle.machine_model.specs.State.{wedge};
+ghost use Rattle.machine_model.specs.Run.{Set};
+ghost use Rattle.wedge_core.specs.Parts.{IsPartOf};
+ghost use Rattle.wedge_core.specs.Standing.{IsHeld, IsAble, ground, set_of, state_of};
+ghost use Rattle.wedge_core.specs.Running.{may_run, view_by};
+ghost use Rattle.wedge_core.specs.Stepping.{Passes};
+
 use crate::running::Running;
 use crate::single::side_of;
 use board::{Board, Script};
@@ -13,7 +26,9 @@ use shadow_tables::{Shadows, Side};
 const WINDOW_BELOW: u32 = 0x0B0B_0B07;
 
 /// The processor's next instruction is one that the host may do: no interrupt is taken, and at level 0 it stands at a start outside sites.
-pub fn may_run(cpu: &Cpu, board: &Board, image: &Checked) -> bool {
+pub fn may_run(cpu: &Cpu, board: &Board, image: &Checked) -> bool
+    ensures { result ≡ may_run cpu.now board.now image.now }
+{
     if cpu.halted || interrupt(cpu, board).is_some() {
         return false;
     }
@@ -24,7 +39,9 @@ pub fn may_run(cpu: &Cpu, board: &Board, image: &Checked) -> bool {
 }
 
 /// The view of this processor.
-fn view_of<S: Shadows>(cpu: &Cpu, shadows: &S) -> View {
+fn view_of<S: Shadows>(cpu: &Cpu, shadows: &S) -> View
+    ensures { result ≡ view_by (S.directory shadows.now) cpu.now }
+{
     let side = side_of(cpu.cpl);
     View {
         kernel: cpu.cpl != 3,
@@ -68,7 +85,28 @@ pub fn stretch<S: Shadows + Drop, H: Host>(
     image: &Checked,
     script: &Script,
     bound: u64,
-) -> u64 {
+) -> u64
+    requires started { H.is_started host.old ≡ true }
+    requires held { (pool : Frames) × IsHeld S.stands S.frames S.slots (ground image.now running.old.frames) running.old pool (H.bytes host.old) }
+    requires able { IsAble running.old.cpu }
+    requires script { is_script script.now.list ≡ true }
+    requires begun { running.old.step ≤ bound }
+    requires bound { bound ≤ 2 ^ 40 }
+    requires room { H.retired host.old + (bound - running.old.step) < 2 ^ 64 }
+    ensures passes { 0 < result → (board : Devices) → given board script.now.list running.old.step ≡ running.old.board → (whole : Set) → IsPartOf (set_of S.stands S.frames S.slots running.old (H.bytes host.old)) whole
+        → Passes (wedge image.now script.now.list running.old.frames) (record (state_of S.stands S.frames S.slots (wedge image.now script.now.list running.old.frames) running.old (H.bytes host.old)) { board = board }) whole
+        (state_of S.stands S.frames S.slots (wedge image.now script.now.list running.old.frames) running.new (H.bytes host.new))
+        (record { retired = H.retired host.old; passed = H.passed host.old }) (record { retired = H.retired host.new; passed = H.passed host.new }) }
+    ensures stays { result ≡ 0 → state_of S.stands S.frames S.slots (wedge image.now script.now.list running.old.frames) running.new (H.bytes host.new) ≡ state_of S.stands S.frames S.slots (wedge image.now script.now.list running.old.frames) running.old (H.bytes host.old) }
+    ensures held { (pool : Frames) → IsHeld S.stands S.frames S.slots (ground image.now running.old.frames) running.old pool (H.bytes host.old) → IsHeld S.stands S.frames S.slots (ground image.now running.old.frames) running.new pool (H.bytes host.new) }
+    ensures able { IsAble running.new.cpu }
+    ensures started { H.is_started host.new ≡ true }
+    ensures frames { running.new.frames ≡ running.old.frames }
+    ensures count { running.new.step ≡ running.old.step + result }
+    ensures most { running.new.step ≤ bound }
+    ensures retired { H.retired host.new ≡ H.retired host.old + result }
+    ensures passed { result ≡ 0 → H.passed host.new ≡ H.passed host.old }
+{
     if running.cpu.held || !may_run(&running.cpu, &running.board, image) {
         return 0;
     }
