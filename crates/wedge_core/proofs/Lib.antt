@@ -5,3 +5,6 @@ pub mod UsedPages
 pub mod Boards
 pub mod Memories
 pub mod Alones
+pub mod Lending
+pub mod Seeing
+pub mod Patches

@@ -2,7 +2,7 @@ pub mod Opened
 pub mod Parts
 pub mod Pools
 pub mod Standing
-pub mod Running
+pub mod Views
 pub mod Slices
 pub mod Stepping
 pub mod Starts

@@ -22,6 +22,7 @@ use frame_pool::Pool;
 use guest_ram::Ram;
 use host_cpl3::Host;
 use image_check::Checked;
+use image_laws::patching;
 use image_load::{Pause, StartFault, load};
 use pv_io::{Failed, Sink};
 use run_trace::Notes;
@@ -218,6 +219,9 @@ fn adopt_in(
     ensures fills { result.fills ≡ 0 }
     ensures pool { Keeps pool.old pool.new ram.old ram.new [] (held_by result.shadows ram.new) }
 {
+    patching();
+    let _text = image.text();
+    let _free = pool.free();
     patch(ram, TEXT_AT, image.sites());
     let shadows = Shadow::new(ram, pool);
     Running {

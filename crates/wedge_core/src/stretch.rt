@@ -10,7 +10,7 @@ ghost use Rattle.machine_model.specs.State.{wedge};
 ghost use Rattle.machine_model.specs.Run.{Set};
 ghost use Rattle.wedge_core.specs.Parts.{IsPartOf};
 ghost use Rattle.wedge_core.specs.Standing.{IsHeld, IsAble, ground, set_of, state_of};
-ghost use Rattle.wedge_core.specs.Running.{may_run, view_by};
+ghost use Rattle.wedge_core.specs.Views.{may_run, view_by};
 ghost use Rattle.wedge_core.specs.Stepping.{Passes};
 
 use crate::running::Running;
