@@ -3,6 +3,7 @@ pub mod Parts
 pub mod Pools
 pub mod Standing
 pub mod Views
+pub mod ViewLaws
 pub mod Slices
 pub mod Stepping
 pub mod Starts

@@ -4,6 +4,7 @@
 mod clash;
 mod close;
 mod guest;
+mod laws;
 mod native;
 mod opened;
 mod rest;
@@ -14,5 +15,6 @@ mod slice;
 mod stretch;
 
 pub use guest::Guest;
+pub use laws::views_lend;
 pub use run::run_wedge;
 pub use running::Running;
