@@ -8,3 +8,4 @@ pub mod Alones
 pub mod Lending
 pub mod Seeing
 pub mod Patches
+pub mod Resting

@@ -88,13 +88,7 @@ pub fn drop_rights<S: Shadows>(
 }
 
 /// What leaves at the end of a step that went, by the instruction and by a change of write protection.
-pub fn leave<S: Shadows>(
-    shadows: &mut S,
-    pool: &mut Pool,
-    ram: &mut Ram,
-    wp: bool,
-    worked: &Worked,
-)
+pub fn leave<S: Shadows>(shadows: &mut S, pool: &mut Pool, ram: &mut Ram, wp: bool, worked: &Worked)
     requires stands { ∥ S.stands shadows.old ram.old ∥₁ }
     requires owns { Owns pool.old ram.old (S.frames shadows.old ram.old) }
     requires page { IsDropped worked.now.dropped }

@@ -1,7 +1,6 @@
 //! One step whose instruction the host does, where it is done.
 
 use crate::clash::clashes;
-use wedge_mem::Lent;
 use crate::running::Running;
 use crate::single::{NOT_YET, go, keep, original, text_frames};
 use board::Board;
@@ -17,6 +16,7 @@ use shadow_tables::Shadows;
 use step_exec::user_outcome;
 use step_mem::{Guard, Kept, State};
 use sys_exec::Refusal;
+use wedge_mem::Lent;
 
 /// Such a step went, or the host is to do it: its pages are filled, and nothing else is done.
 #[derive(Clone, Copy)]
@@ -102,9 +102,7 @@ fn try_native<B: Kept>(
             if is_native(&insn, cpu) {
                 prepare(rules, &insn, len, cpu, ram, kept, state)
             } else {
-                Ok(Some(carry_out(
-                    rules, &insn, len, cpu, board, ram, kept, state,
-                )?))
+                Ok(Some(carry_out(rules, &insn, len, cpu, board, ram, kept, state)?))
             }
         }
         Ok(_) => Err(Stop::Unsupported),

@@ -14,17 +14,18 @@ ghost use Rattle.wedge_mem.specs.Settled.{pages_of};
 ghost use Rattle.wedge_core.specs.Opened.{is_text_frame, is_given_frame, is_open_to, is_entry_open};
 ghost use Rattle.wedge_core.specs.Standing.{is_kernel};
 
-use wedge_mem::{entry_of, pages_of};
 use guest_ram::Ram;
 use paging::Entry;
 use shadow_tables::{Shadows, Side};
 use step_mem::State;
+use wedge_mem::{entry_of, pages_of};
 
 /// The frame of the text's first byte.
 pub const TEXT_FRAME: u32 = 0x100;
 
 /// The first page of the text window, and the first page behind it.
 const TEXT_PAGE: u32 = 0x1_0000;
+
 const DATA_PAGE: u32 = 0x1_1000;
 
 fn is_text(count: u32, frame: u32) -> bool
@@ -64,13 +65,7 @@ fn is_entry_open(count: u32, side: Side, entry: Option<Entry>) -> bool
 }
 
 /// The view of this side may show every page that the step went through or changed.
-pub fn are_open<S: Shadows>(
-    shadows: &S,
-    ram: &Ram,
-    state: &State,
-    side: Side,
-    count: u32,
-) -> bool
+pub fn are_open<S: Shadows>(shadows: &S, ram: &Ram, state: &State, side: Side, count: u32) -> bool
     requires stands { ∥ S.stands shadows.now ram.now ∥₁ }
     requires few { length state.now.went + length state.now.changes ≤ 128 }
     ensures { result ≡ true → (page : ℕ) → is_among page (pages_of state.now.went state.now.changes) ≡ true

@@ -18,7 +18,6 @@ ghost use Rattle.wedge_core.specs.Standing.{AreOpen, IsHeld, ground, side_of, st
 ghost use Rattle.wedge_core.specs.Stepping.{AloneAs};
 
 use crate::close::{close, leave};
-use wedge_mem::Lent;
 use crate::opened::TEXT_FRAME;
 use crate::running::Running;
 use frame_pool::Pool;
@@ -28,6 +27,7 @@ use image_check::Checked;
 use machine_step::{Rules, Seen, Worked, begin, step_in};
 use shadow_tables::{Shadows, Side};
 use step_mem::{Guard, Own, State, Text};
+use wedge_mem::Lent;
 
 /// How many frames hold the text.
 pub fn text_frames(image: &Checked) -> u32

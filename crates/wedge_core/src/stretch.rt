@@ -56,11 +56,7 @@ fn view_of<S: Shadows>(cpu: &Cpu, shadows: &S) -> View
 }
 
 /// Lets the host do at most so many instructions, and says how many it has done. The board and the count follow.
-pub fn run_on<S: Shadows + Drop, H: Host>(
-    running: &mut Running<S>,
-    host: &mut H,
-    k: u64,
-) -> u64 {
+pub fn run_on<S: Shadows + Drop, H: Host>(running: &mut Running<S>, host: &mut H, k: u64) -> u64 {
     let view = view_of(&running.cpu, &running.shadows);
     let before = host.retired();
     let mut regs = running.cpu.regs;

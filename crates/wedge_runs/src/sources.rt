@@ -51,7 +51,9 @@ fn run(alloc: Global, source: &[u8], n: u64, pool: u32) -> Result<Ran, Fail> {
 }
 
 const SENDS_A_BYTE: &[u8] = b"_start: movl $0x3f8,%edx; movb $0x48,%al; outb %al,%dx; hlt\n";
+
 const LOADS_CR3: &[u8] = b"movl %cr3,%eax; movl %eax,%cr3; movb $1,%al; outb %al,$0x80\n";
+
 const COPIES_WITHIN_A_STALE_PAGE: &[u8] = b"\
 movl $1,0xC0400000\n\
 movl $2,0xC0401000\n\
@@ -62,6 +64,7 @@ movl $0x00401007,0xC0020000\n\
 movl $0x11400000,%esi\n\
 movl $0x11400004,%edi\n\
 movsl\n";
+
 const READS_A_STALE_PAGE: &[u8] = b"\
 movl $1,0xC0400000\n\
 movl $2,0xC0401000\n\
@@ -75,6 +78,7 @@ outl %eax,$0x80\n\
 invlpg 0x11400000\n\
 movl 0x11400000,%eax\n\
 outl %eax,$0x80\n";
+
 const GOES_OVER_FORTY_TABLES: &[u8] = b"\
 movl $0xC0001200,%edi\n\
 movl $0x20007,%eax\n\
@@ -100,7 +104,10 @@ hlt\n";
 #[test]
 fn the_host_does_two_instructions_of_four(rt: HostRuntime) -> Result<(), Fail> {
     let ran = run(rt.alloc(), SENDS_A_BYTE, 8, 512)?;
-    assert_eq!(rt; ran.out.bytes(), b"2 out8 03f8 48\n2 tx 48\nend steps 8\n".as_slice());
+    assert_eq!(rt;
+        ran.out.bytes(),
+        b"2 out8 03f8 48\n2 tx 48\nend steps 8\n".as_slice()
+    );
     assert_eq!(rt; ran.host.told(), 2);
     assert_eq!(rt; ran.host.digest(), 8_589_934_597);
     assert_eq!(rt; ran.host.first, 0x1000_0000);
@@ -110,7 +117,10 @@ fn the_host_does_two_instructions_of_four(rt: HostRuntime) -> Result<(), Fail> {
 #[test]
 fn a_load_of_cr3_leaves_no_translation(rt: HostRuntime) -> Result<(), Fail> {
     let ran = run(rt.alloc(), LOADS_CR3, 12, 512)?;
-    assert_eq!(rt; ran.out.bytes(), b"7 out8 0080 01\nend steps 12\n".as_slice());
+    assert_eq!(rt;
+        ran.out.bytes(),
+        b"7 out8 0080 01\nend steps 12\n".as_slice()
+    );
     Ok(())
 }
 
@@ -125,7 +135,10 @@ fn a_step_that_clashes_begins_with_no_translation(rt: HostRuntime) -> Result<(),
 #[test]
 fn a_page_stays_stale_until_invlpg(rt: HostRuntime) -> Result<(), Fail> {
     let ran = run(rt.alloc(), READS_A_STALE_PAGE, 40, 512)?;
-    assert_eq!(rt; ran.out.bytes(), b"5 out32 0080 00000001\n11 out32 0080 00000001\n17 out32 0080 00000002\nend steps 40\n".as_slice());
+    assert_eq!(rt;
+        ran.out.bytes(),
+        b"5 out32 0080 00000001\n11 out32 0080 00000001\n17 out32 0080 00000002\nend steps 40\n".as_slice()
+    );
     Ok(())
 }
 
@@ -133,7 +146,10 @@ fn a_page_stays_stale_until_invlpg(rt: HostRuntime) -> Result<(), Fail> {
 fn a_small_pool_fills_more_and_prints_the_same(rt: HostRuntime) -> Result<(), Fail> {
     let large = run(rt.alloc(), GOES_OVER_FORTY_TABLES, 2000, 512)?;
     let small = run(rt.alloc(), GOES_OVER_FORTY_TABLES, 2000, 16)?;
-    assert_eq!(rt; large.out.bytes(), b"658 out32 0080 00000078\nend steps 2000\n".as_slice());
+    assert_eq!(rt;
+        large.out.bytes(),
+        b"658 out32 0080 00000078\nend steps 2000\n".as_slice()
+    );
     assert_eq!(rt; small.out.bytes(), large.out.bytes());
     assert!(rt; large.fills < small.fills);
     Ok(())
