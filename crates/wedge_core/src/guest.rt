@@ -4,6 +4,7 @@ ghost use Rattle.std.specs.Prelude.{◌≡◌, ℕ, ◌+◌, ◌*◌, ◌%◌, �
 ghost use Rattle.std.specs.FinMap.{empty};
 ghost use Rattle.guest_ram.specs.Bytes.{part};
 ghost use Rattle.frame_pool.specs.Pool.{base_of, free_list, Stands};
+ghost use Rattle.frame_pool.specs.Held.{Owns, Moves};
 ghost use Rattle.board.specs.Scripts.{Events, is_script};
 ghost use Rattle.image_load.specs.Boot.{text_pages};
 ghost use Rattle.pv_io.specs.Causes.{Rose};
@@ -135,8 +136,21 @@ impl Guest {
     }
 
     /// Drops all shadows. The guest holds two frames then.
-    pub fn release<H: Host>(&mut self, pool: &mut Pool, host: &mut H) {
-        self.running.shadows.drop_all(host.ram_mut(), pool);
+    pub fn release<H: Host>(&mut self, pool: &mut Pool, host: &mut H)
+        requires started { H.is_started host.old ≡ true }
+        requires stands { ∥ IsShadow self.old.running.shadows (H.bytes host.old) ∥₁ }
+        requires owns { Owns pool.old (H.bytes host.old) (held_by self.old.running.shadows (H.bytes host.old)) }
+        ensures stands { ∥ IsShadow self.new.running.shadows (H.bytes host.new) ∥₁ }
+        ensures owns { Owns pool.new (H.bytes host.new) (held_by self.new.running.shadows (H.bytes host.new)) }
+        ensures two { length (held_by self.new.running.shadows (H.bytes host.new)) ≡ 2 }
+        ensures held { self.new.running.held ≡ 2 }
+        ensures moves { Moves pool.old pool.new (H.bytes host.old) (H.bytes host.new) (held_by self.old.running.shadows (H.bytes host.old)) (held_by self.new.running.shadows (H.bytes host.new)) }
+        ensures step { self.new.running.step ≡ self.old.running.step }
+        ensures fills { self.new.running.fills ≡ self.old.running.fills }
+        ensures retired { H.retired host.new ≡ H.retired host.old }
+        ensures passed { H.passed host.new ≡ H.passed host.old }
+    {
+        Shadows::drop_all(&mut self.running.shadows, host.ram_mut(), pool);
         self.running.held = 2;
     }
 
