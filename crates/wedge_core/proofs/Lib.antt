@@ -1,0 +1,11 @@
+pub mod Opening
+pub mod Bools
+pub mod Parts
+pub mod UsedPages
+pub mod Boards
+pub mod Memories
+pub mod Alones
+pub mod Lending
+pub mod Seeing
+pub mod Patches
+pub mod Resting

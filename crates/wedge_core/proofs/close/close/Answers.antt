@@ -1,0 +1,58 @@
+use Rattle.std.proofs.Common.{◌≡◌, ℕ, ◌+◌, ◌≤◌, ◌<◌, true, length, refl, sym, ap, subst, ◌∙◌, arith}
+use Rattle.std.specs.FinMap.{get}
+use Rattle.image_load.specs.Boot.{text_pages}
+use Rattle.wedge_mem.specs.Owned.{first, owns}
+use Rattle.step_mem.specs.Changes.{changed}
+use Rattle.shadow_tables.specs.Entries.{entries_of}
+use Rattle.shadow_tables.specs.declared.words.Side.{Side}
+use Rattle.shadow_tables.specs.Slots.{is_among}
+use Rattle.wedge_mem.specs.Settled.{pages_of}
+use Rattle.wedge_core.specs.Opened.{is_entry_open}
+use Rattle.wedge_core.proofs.Opening.{settled_open, none_open, empty_open}
+use Rattle.wedge_core.proofs.Parts.{part_empty, part_same}
+use Rattle.wedge_core.proofs.UsedPages.{used_few, pages_long}
+use Rattle.wedge_core.proofs.close.close.Goals as goal
+
+pub are_open-requires-clause-few : goal.are_open-requires-clause-few
+are_open-requires-clause-few g c = omega (arith, c.requires.sound.noted, c.requires.sound.counted, c.requires.sound.few)
+
+pub returns-then-not-are_open-clause-part : goal.returns-then-not-are_open-clause-part
+returns-then-not-are_open-clause-part g c = part_empty _ _ c.drop_all.ensures.entries
+
+pub returns-then-not-are_open-clause-shows : goal.returns-then-not-are_open-clause-shows
+returns-then-not-are_open-clause-shows g c = λ image is h. none_open image _ _ c.drop_all.ensures.none
+
+pub returns-in-None-clause-part : goal.returns-in-None-clause-part
+returns-in-None-clause-part g c = part_empty _ _ c.in-None.ensures.entries
+
+pub returns-in-None-clause-shows : goal.returns-in-None-clause-shows
+returns-in-None-clause-shows g c = λ image is h. empty_open image _ _ (λ page lt. g.met.S.Shadows.entry_at c.settle.new.shadows c.settle.new.ram page lt) c.in-None.ensures.entries
+
+pub returns-in-Some-clause-part : goal.returns-in-Some-clause-part
+returns-in-Some-clause-part g c = part_same _ _ c.in-Some.ensures.entries
+
+pub returns-in-Some-clause-shows : goal.returns-in-Some-clause-shows
+returns-in-Some-clause-shows g c = λ image is h.
+    let tested = c.are_open.ensures c.if-not-are_open.false in
+    settled_open image c.args.state.now.control.wp _ _ (changed (entries_of (g.S.Shadows.slots c.args.shadows.now c.args.ram.now)) c.args.state.now.changes) (pages_of c.args.state.now.went c.args.state.now.changes) c.args.side _
+    c.in-Some.ensures.kept
+    (λ page e. subst (λ (count : ℕ). is_entry_open count c.args.side (get (changed (entries_of (g.S.Shadows.slots c.args.shadows.now c.args.ram.now)) c.args.state.now.changes) page) ≡ true) is (tested page e)) h
+
+pub returns-in-Some-clause-few : goal.returns-in-Some-clause-few
+returns-in-Some-clause-few g c =
+    let went = c.args.state.now.went in
+    let changes = c.args.state.now.changes in
+    let set = changed (entries_of (g.S.Shadows.slots c.args.shadows.now c.args.ram.now)) changes in
+    let is = c.in-Some.ensures.count.0 in
+    let few = used_few set (pages_of went changes) in
+    let long = pages_long went changes in
+    omega (arith, is, few, long, c.requires.sound.noted, c.requires.sound.counted, c.requires.sound.few)
+
+pub are_open-requires-clause-stands : goal.are_open-requires-clause-stands
+are_open-requires-clause-stands g c = first c.requires.sound.stands_now
+
+pub drop_all-requires-clause-stands : goal.drop_all-requires-clause-stands
+drop_all-requires-clause-stands g c = first c.requires.sound.stands_now
+
+pub drop_all-requires-clause-owns : goal.drop_all-requires-clause-owns
+drop_all-requires-clause-owns g c = owns c.requires.sound.stands_now

@@ -1,0 +1,10 @@
+pub mod Opened
+pub mod Parts
+pub mod Pools
+pub mod Standing
+pub mod Views
+pub mod ViewLaws
+pub mod Slices
+pub mod Stepping
+pub mod Starts
+pub mod Promises

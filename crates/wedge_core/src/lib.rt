@@ -1,0 +1,20 @@
+//! The patched run: a guest's patched text on an unprivileged host.
+#![tactic(auto)]
+
+mod clash;
+mod close;
+mod guest;
+mod laws;
+mod native;
+mod opened;
+mod rest;
+mod run;
+mod running;
+mod single;
+mod slice;
+mod stretch;
+
+pub use guest::Guest;
+pub use laws::views_lend;
+pub use run::run_wedge;
+pub use running::Running;
