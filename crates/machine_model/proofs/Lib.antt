@@ -6,3 +6,7 @@ pub mod Written
 pub mod Walked
 pub mod Counting
 pub mod Ending
+pub mod FlagsAfter
+pub mod Yielding
+pub mod AbleRows
+pub mod AbleSteps
