@@ -74,20 +74,20 @@ pub record IsLeft (old : Cpu) (done : Done) : Type 0 where
 clash : (b : Bool) → b ≡ true → b ≡ false → ⊥
 clash b e f = cc
 
-both : (a b : Bool) → (a && b) ≡ true → (a ≡ true) × (b ≡ true)
+pub both : (a b : Bool) → (a && b) ≡ true → (a ≡ true) × (b ≡ true)
 both true true e = (refl, refl)
 both true false e = absurd (let f : false ≡ true = e in cc)
 both false b e = absurd (let f : false ≡ true = e in cc)
 
-neither : (a b : Bool) → (a || b) ≡ false → (a ≡ false) × (b ≡ false)
+pub neither : (a b : Bool) → (a || b) ≡ false → (a ≡ false) × (b ≡ false)
 neither true b e = absurd (let f : true ≡ false = e in cc)
 neither false b e = (refl, e)
 
-was : (b : Bool) → not b ≡ false → b ≡ true
+pub was : (b : Bool) → not b ≡ false → b ≡ true
 was true e = refl
 was false e = absurd (let f : true ≡ false = e in cc)
 
-eq_told : (m n : ℕ) → (m == n) ≡ true → m ≡ n
+pub eq_told : (m n : ℕ) → (m == n) ≡ true → m ≡ n
 eq_told m n e = grind (arith, nat_tests)
 
 above : (level : ℕ) → level ≡ 3 → (level == 0) ≡ false
@@ -105,7 +105,7 @@ unless_keeps e false h = record { each = λ s. tt }
 
 -- ---- segments
 
-abbrev none : Hidden
+abbrev pub none : Hidden
 none = record { sel = 0; null = false; dpl = 0 }
 
 pub null_1 : (l : List Hidden) (x : Hidden) → x.null ≡ false → (slice_index_or (slice_set l 1 x) 1 none).null ≡ false
@@ -129,11 +129,11 @@ level_choice false d e h k = k
 level_other : (low high : ℕ) → IsLevel (dpl_of (other_descriptor low high))
 level_other low high = grind (arith, level_choice)
 
-level_of : (low high : ℕ) → IsLevel (dpl_of (descriptor_of low high))
+pub level_of : (low high : ℕ) → IsLevel (dpl_of (descriptor_of low high))
 level_of low high = grind (arith, level_choice, level_other)
 
 -- what is asked of an image of the flags
-abbrev flags_tested : ℕ → Work Refusal (Unit {0})
+abbrev pub flags_tested : ℕ → Work Refusal (Unit {0})
 flags_tested image = unless (refusals.Stop stops.FlagBits) (iret.is_plain image)
 
 module _ (cpu : Cpu) (able : IsAble cpu) where

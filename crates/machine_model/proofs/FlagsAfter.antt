@@ -1,6 +1,6 @@
 -- An insensitive instruction leaves the flags that are the system's own.
 use Rattle.std.proofs.Common.{◌≡◌, ℕ, ◌+◌, ◌-◌, ◌*◌, ◌/◌, ◌%◌, ◌^◌, ◌<◌, ◌≤◌, Bool, true, false, cond, refl, sym, ap, subst, ◌∙◌, ◌⊎◌, inl, inr, Option, Some, None, arith}
-use Rattle.std.specs.Prelude.{slice_index, nat_lt}
+use Rattle.std.specs.Prelude.{slice_index, nat_lt, bit_and}
 use Rattle.ia32_types.specs.declared.size.Size.{Size}
 use Rattle.ia32_types.specs.declared.size.Size.TheVariants.{Byte, Word, Long}
 use Rattle.ia32_types.specs.declared.flags.Regs.{Regs}
@@ -11,7 +11,9 @@ use Rattle.ia32_types.specs.declared.insn.Operand.{Operand}
 use Rattle.ia32_types.specs.declared.insn.Operand.TheVariants.{Absent, Register, Memory, Segment, Control}
 use Rattle.ia32_types.specs.declared.insn.Op.{Op}
 use Rattle.ia32_types.specs.declared.insn.Op.TheVariants.{Add, Or, Adc, Sbb, And, Sub, Xor, Cmp, Test, Not, Neg, Mul, Imul, ImulBy, Div, Idiv, Inc, Dec, Rol, Ror, Shl, Shr, Sar, Mov, Movzx, Movsx, Lea, Xchg, Push, Pop, Pusha, Popa, Cwde, Cdq, Leave, Nop, Jcc, Setcc, Jmp, Call, Ud2, Movs, Stos, Lods, Clc, Stc, Cld, Std, PushFlags, PopFlags}
-use Rattle.ia32_types.specs.Bits.{worth}
+use Rattle.ia32_types.specs.Bits.{worth, with_bit}
+use Rattle.ia32_types.proofs.FlagBits.{set_is}
+use Rattle.std.proofs.lemmas.Nat.{and_or_apart}
 use Rattle.ia32_types.specs.Flags.{carry_at, parity_at, adjust_at, zero_at, sign_at, direction_at, overflow_at, flag_put}
 use Rattle.ia32_types.specs.Size.{span}
 use Rattle.ia32_alu.specs.declared.status.Status.{Status}
@@ -34,41 +36,73 @@ use Rattle.ia32_exec.specs.Effect.{row, effect}
 
 -- ---- IF and IOPL
 
--- both have the same IF, and the same bits from IOPL on
+-- both have the same bits among those that no flag of the profile takes
+pub record AreSet (f g : Flags) : Type 0 where
+  pub fixed : bit_and g.bits 2 ≡ bit_and f.bits 2
+  pub others : bit_and g.bits 4294951208 ≡ bit_and f.bits 4294951208
+
+-- a bit that is made new is none of those that a mask has
+put_apart : (n at mask : ℕ) (b : Bool) → at < 32 → bit_and (1 * 2 ^ at % 2 ^ 32) mask ≡ 0 → with_bit (with_bit n at false) at true ≡ with_bit n at true → bit_and (with_bit n at b) mask ≡ bit_and n mask
+put_apart n at mask true h e again = ap (λ x. bit_and x mask) (sym (set_is n at h)) ∙ and_or_apart mask n (1 * 2 ^ at % 2 ^ 32) e
+put_apart n at mask false h e again =
+    sym (and_or_apart mask (with_bit n at false) (1 * 2 ^ at % 2 ^ 32) e)
+    ∙ ap (λ x. bit_and x mask) (set_is (with_bit n at false) at h ∙ again ∙ sym (set_is n at h)) ∙ and_or_apart mask n (1 * 2 ^ at % 2 ^ 32) e
+
+put_set : (f : Flags) (at : ℕ) (b : Bool) → at < 32 → bit_and (1 * 2 ^ at % 2 ^ 32) 2 ≡ 0 → bit_and (1 * 2 ^ at % 2 ^ 32) 4294951208 ≡ 0
+    → with_bit (with_bit f.bits at false) at true ≡ with_bit f.bits at true → AreSet f (flag_put f at b)
+put_set f at b h e k again = record { fixed = put_apart f.bits at 2 b h e again; others = put_apart f.bits at 4294951208 b h k again }
+
+-- both have the same IF, the same bits from IOPL on, and the same of those
 pub record AreKept (f g : Flags) : Type 0 where
   pub interrupt : g.bits / 512 % 2 ≡ f.bits / 512 % 2
   pub level : g.bits / 4096 ≡ f.bits / 4096
+  pub set : AreSet f g
+
+set_same : (f : Flags) → AreSet f f
+set_same f = record { fixed = refl; others = refl }
+
+pub set_on : (f g h : Flags) → AreSet f g → AreSet g h → AreSet f h
+set_on f g h p q = record { fixed = q.fixed ∙ p.fixed; others = q.others ∙ p.others }
+
+pub set_9 : (f : Flags) (b : Bool) → AreSet f (flag_put f 9 b)
+set_9 f b = put_set f 9 b (omega arith) refl refl (omega arith)
+
+pub set_12 : (f : Flags) (b : Bool) → AreSet f (flag_put f 12 b)
+set_12 f b = put_set f 12 b (omega arith) refl refl (omega arith)
+
+pub set_13 : (f : Flags) (b : Bool) → AreSet f (flag_put f 13 b)
+set_13 f b = put_set f 13 b (omega arith) refl refl (omega arith)
 
 kept_same : (f : Flags) → AreKept f f
-kept_same f = record { interrupt = refl; level = refl }
+kept_same f = record { interrupt = refl; level = refl; set = set_same f }
 
 kept_on : (f g h : Flags) → AreKept f g → AreKept g h → AreKept f h
-kept_on f g h p q = record { interrupt = q.interrupt ∙ p.interrupt; level = q.level ∙ p.level }
+kept_on f g h p q = record { interrupt = q.interrupt ∙ p.interrupt; level = q.level ∙ p.level; set = set_on f g h p.set q.set }
 
 small : (b : Bool) → worth b ≤ 1
 small true = omega arith
 small false = omega arith
 
 kept_0 : (f : Flags) (b : Bool) → AreKept f (flag_put f 0 b)
-kept_0 f b = let s = small b in record { interrupt = omega (arith, s); level = omega (arith, s) }
+kept_0 f b = let s = small b in record { interrupt = omega (arith, s); level = omega (arith, s); set = put_set f 0 b (omega arith) refl refl (omega arith) }
 
 kept_2 : (f : Flags) (b : Bool) → AreKept f (flag_put f 2 b)
-kept_2 f b = let s = small b in record { interrupt = omega (arith, s); level = omega (arith, s) }
+kept_2 f b = let s = small b in record { interrupt = omega (arith, s); level = omega (arith, s); set = put_set f 2 b (omega arith) refl refl (omega arith) }
 
 kept_4 : (f : Flags) (b : Bool) → AreKept f (flag_put f 4 b)
-kept_4 f b = let s = small b in record { interrupt = omega (arith, s); level = omega (arith, s) }
+kept_4 f b = let s = small b in record { interrupt = omega (arith, s); level = omega (arith, s); set = put_set f 4 b (omega arith) refl refl (omega arith) }
 
 kept_6 : (f : Flags) (b : Bool) → AreKept f (flag_put f 6 b)
-kept_6 f b = let s = small b in record { interrupt = omega (arith, s); level = omega (arith, s) }
+kept_6 f b = let s = small b in record { interrupt = omega (arith, s); level = omega (arith, s); set = put_set f 6 b (omega arith) refl refl (omega arith) }
 
 kept_7 : (f : Flags) (b : Bool) → AreKept f (flag_put f 7 b)
-kept_7 f b = let s = small b in record { interrupt = omega (arith, s); level = omega (arith, s) }
+kept_7 f b = let s = small b in record { interrupt = omega (arith, s); level = omega (arith, s); set = put_set f 7 b (omega arith) refl refl (omega arith) }
 
 kept_10 : (f : Flags) (b : Bool) → AreKept f (flag_put f 10 b)
-kept_10 f b = let s = small b in record { interrupt = omega (arith, s); level = omega (arith, s) }
+kept_10 f b = let s = small b in record { interrupt = omega (arith, s); level = omega (arith, s); set = put_set f 10 b (omega arith) refl refl (omega arith) }
 
 kept_11 : (f : Flags) (b : Bool) → AreKept f (flag_put f 11 b)
-kept_11 f b = let s = small b in record { interrupt = omega (arith, s); level = omega (arith, s) }
+kept_11 f b = let s = small b in record { interrupt = omega (arith, s); level = omega (arith, s); set = put_set f 11 b (omega arith) refl refl (omega arith) }
 
 change_kept : (f : Flags) (at : ℕ) (b : Option Bool) → ((v : Bool) → AreKept f (flag_put f at v)) → AreKept f (changed f at b)
 unfolding changed

@@ -10,3 +10,6 @@ pub mod FlagsAfter
 pub mod Yielding
 pub mod AbleRows
 pub mod AbleSteps
+pub mod FitParts
+pub mod FitRows
+pub mod FitSteps

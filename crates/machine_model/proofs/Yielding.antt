@@ -39,3 +39,20 @@ stops_yields e false = record { each = λ s. refl }
 pub if_yields : {E A : Type 0} {P : A → Type 0} {w v : Work E A} (test : Bool) → Yields P w → Yields P v → Yields P (cond test w v)
 if_yields true h k = h
 if_yields false h k = k
+
+-- by what the test says
+pub by_yields : {E A : Type 0} {P : A → Type 0} {w v : Work E A} (test : Bool) → (test ≡ true → Yields P w) → (test ≡ false → Yields P v) → Yields P (cond test w v)
+by_yields true h k = h refl
+by_yields false h k = k refl
+
+keeps : {E A : Type 0} (X : Type 0) (o : Outcome E A) → X → Ends (λ a. X) o
+keeps X (Ok x) h = h
+keeps X (Err e) h = tt
+
+-- what holds anyhow
+pub keeps_yields : {E A : Type 0} {X : Type 0} (w : Work E A) → X → Yields (λ a. X) w
+keeps_yields {X = X} w h = record { each = λ s. keeps X (w s) h }
+
+-- the value, told of the work
+abbrev pub OfValue : {E A : Type 0} → Work E A → (A → Type 0) → Type 0
+OfValue w P = Yields P w

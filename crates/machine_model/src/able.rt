@@ -1,6 +1,7 @@
 //! Laws of what a run under a monitor's rules needs of the processor.
 
 ghost use Rattle.machine_model.specs.Able.{StepsKeepAble, EachRunBeginsAble};
+ghost use Rattle.machine_model.specs.StaysFit.{StepsKeepFit};
 
 /// Each step under a monitor's rules that goes keeps what the run needs of the processor.
 pub fn steps_keep_able()
@@ -10,4 +11,9 @@ pub fn steps_keep_able()
 /// The processor at the start has it.
 pub fn each_run_begins_able()
     ensures { EachRunBeginsAble }
+{}
+
+/// Each step of either machine that goes keeps the processor fit.
+pub fn steps_keep_fit()
+    ensures { StepsKeepFit }
 {}
