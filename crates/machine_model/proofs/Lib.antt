@@ -13,3 +13,4 @@ pub mod AbleSteps
 pub mod FitParts
 pub mod FitRows
 pub mod FitSteps
+pub mod KeptOver
