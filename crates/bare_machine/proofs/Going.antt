@@ -1,6 +1,5 @@
 -- A slice on its way.
 use Rattle.std.proofs.Common.{◌≡◌, ℕ, Bool, true, List, [], ◌∷◌, ◌++◌, Option, refl, sym, ap, subst, ◌∙◌, append_assoc}
-use Rattle.std.specs.List.{flat_map}
 use Rattle.std.proofs.lemmas.List.{append-nil}
 use Rattle.pv_io.specs.Sink.{Appends, AppendsFront}
 use Rattle.run_trace.specs.declared.items.Item.{Item}

@@ -6,3 +6,4 @@ pub mod Quiet
 pub mod Going
 pub mod Ones
 pub mod Wholes
+pub mod FitBehind

@@ -1,17 +1,15 @@
 -- Slices of one step.
-use Rattle.std.proofs.Common.{◌≡◌, ℕ, ◌+◌, ◌<◌, Bool, true, List, [], ◌∷◌, ◌++◌, length, Option, Result, Ok, Err, refl, sym, ap, subst, ◌∙◌, arith}
+use Rattle.std.proofs.Common.{◌≡◌, ℕ, ◌+◌, ◌<◌, Bool, List, [], ◌∷◌, ◌++◌, length, Option, Result, Ok, Err, sym, ap, subst, ◌∙◌, arith}
 use Rattle.pv_io.specs.declared.answer.Failed.{Failed}
 use Rattle.ia32_types.specs.declared.stop.Stop.{Stop}
 use Rattle.image_load.specs.declared.fault.Pause.{Pause}
 use Rattle.image_load.specs.declared.fault.Pause.TheVariants.{Reached, Stopped}
-use Rattle.bare_mem.specs.Part.{IsPartOf}
 use Rattle.machine_model.specs.State.{Setting, State}
-use Rattle.machine_model.specs.Step as steps
 use Rattle.machine_model.specs.Step.{Report, Went, Stands, step_of}
 use Rattle.machine_model.specs.Run.{Set, Steps}
 use Rattle.machine_model.specs.Ends.{StepsTo}
 use Rattle.machine_model.proofs.Counting.{each_counts}
-use Rattle.bare_machine.specs.Machine.{with_set, left, Passes, StepsBy, FirstIs}
+use Rattle.bare_machine.specs.Machine.{with_set, left, StepsBy, FirstIs}
 use Rattle.bare_machine.specs.Slices.{SliceAs, OneStepAs}
 use Rattle.bare_machine.proofs.Runs.{same_step}
 

@@ -1,5 +1,5 @@
 -- From a slice and the last line to a whole run.
-use Rattle.std.proofs.Common.{◌≡◌, ℕ, ◌≤◌, ◌<◌, Bool, List, [], ◌++◌, Option, Result, Ok, Err, refl, sym, ap, subst, ◌∙◌, append_assoc, arith}
+use Rattle.std.proofs.Common.{◌≡◌, ℕ, ◌≤◌, Bool, List, [], ◌++◌, Option, Result, Ok, Err, refl, sym, ap, subst, ◌∙◌, append_assoc, arith}
 use Rattle.std.proofs.lemmas.List.{append-nil}
 use Rattle.pv_io.specs.declared.answer.Failed.{Failed}
 use Rattle.pv_io.specs.Causes.{Rose}
@@ -17,7 +17,6 @@ use Rattle.run_trace.specs.Text.{lines_of, end_line, text_of}
 use Rattle.machine_model.specs.State.{Setting, State, boot}
 use Rattle.machine_model.specs.Step.{Report}
 use Rattle.machine_model.specs.Run.{Run, trace_of}
-use Rattle.machine_model.specs.Ends.{HasEnd}
 use Rattle.machine_model.proofs.Ending.{each_ends}
 use Rattle.bare_machine.specs.Machine.{bare, with_set}
 use Rattle.bare_machine.specs.Slices.{SliceAs}

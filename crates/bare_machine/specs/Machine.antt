@@ -1,5 +1,5 @@
 -- The bare machine's values as states, and what steps of it say.
-use Rattle.std.specs.Prelude.{◌≡◌, ℕ, ◌+◌, ◌*◌, ◌≤◌, ◌<◌, Bool, true, List, length, [], ◌∷◌, ◌++◌, Result, Ok, Err}
+use Rattle.std.specs.Prelude.{◌≡◌, ℕ, ◌*◌, ◌≤◌, Bool, true, List, length, [], ◌∷◌, ◌++◌, Result, Ok, Err}
 use Rattle.ia32_types.specs.declared.stop.Stop.{Stop}
 use Rattle.paging.specs.Space.{Bare}
 use Rattle.board.specs.Scripts.{Events}

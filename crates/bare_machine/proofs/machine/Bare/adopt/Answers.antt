@@ -1,4 +1,4 @@
-use Rattle.std.proofs.Common.{◌≡◌, ◌*◌, ◌/◌, ◌≤◌, length, arith}
+use Rattle.std.proofs.Common.{arith}
 use Rattle.bare_machine.proofs.Begun.{none_within}
 use Rattle.bare_machine.proofs.machine.Bare.adopt.Goals as goal
 
