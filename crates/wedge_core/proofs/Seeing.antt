@@ -4,7 +4,6 @@ use Rattle.std.specs.Prelude.{◌==◌}
 use Rattle.std.proofs.lemmas.Bool.Decides.{nat_tests}
 use Rattle.descriptors.specs.declared.cpu.Cpu.{Cpu}
 use Rattle.sys_exec.specs.Operand.{seg_of}
-use Rattle.machine_model.specs.Fit.{Fit}
 use Rattle.machine_model.specs.Rules.{is_open}
 use Rattle.shadow_tables.specs.declared.words.Side.{Side}
 use Rattle.native_steps.specs.Stands.{Sees, IsLevel}
@@ -21,14 +20,14 @@ three cpl h = grind (arith, nat_tests, h)
 -- the view shows what the processor has
 pub sees : (directory : Side → ℕ) (cpu : Cpu) → IsAble cpu → Sees (view_by directory cpu) cpu
 sees directory cpu able = record {
-  level = level_of cpu.cpl able.fit.level;
+  level = level_of cpu.cpl able.level;
   es = refl;
   cs = refl;
   ss = refl;
   ds = refl;
   es_null = refl;
-  cs_null = able.fit.code.there;
-  ss_null = able.fit.stack.there;
+  cs_null = able.code;
+  ss_null = able.stack;
   ds_null = refl;
   user_flags = λ h. able.users (three cpu.cpl h);
 }

@@ -13,8 +13,7 @@ use Rattle.shadow_tables.specs.declared.words.Side.TheVariants.{Kernel, User}
 use Rattle.descriptors.specs.declared.cpu.Cpu.{Cpu}
 use Rattle.image_check.specs.Image.{Image}
 use Rattle.machine_model.specs.State.{Setting, State, wedge}
-use Rattle.machine_model.specs.Rules.{is_open}
-use Rattle.machine_model.specs.Fit.{Fit}
+pub use Rattle.machine_model.specs.Able.{IsAble}
 use Rattle.native_steps.specs.Lends.{IsOpen}
 use Rattle.native_steps.specs.Stands.{IsWedge, IsHost, shown}
 use Rattle.wedge_core.specs.declared.running.Running.{Running}
@@ -42,11 +41,6 @@ AreOpen image wp slots = (page : ℕ) → page < 2 ^ 20 → ForSome (slots page)
 
 abbrev pub wp_of : Cpu → Bool
 wp_of cpu = has cpu.cr0 65536
-
--- The processor is fit, and at level 3 it has a user's flags.
-pub record IsAble (cpu : Cpu) : Type 0 where
-  pub fit : Fit cpu
-  pub users : cpu.cpl ≡ 3 → is_open cpu ≡ true
 
 -- a setting in which no event comes; what a guest stands for doesn't depend on events
 abbrev pub ground : Image → ℕ → Setting
