@@ -6,3 +6,4 @@ pub mod Written
 pub mod Walked
 pub mod Counting
 pub mod Ending
+pub mod Completing
