@@ -1,5 +1,5 @@
 -- What a step completes, and what of it counts.
-use Rattle.std.proofs.Common.{◌≡◌, ◌⊎◌, inl, inr, ℕ, ◌+◌, ◌*◌, ◌/◌, ◌%◌, ◌==◌, nat_le, Bool, true, false, cond, not, ◌&&◌, refl, sym, ap, subst, ◌∙◌, List, [], ◌∷◌, Option, Some, None, Ok, Err, is_some, is_none, arith}
+use Rattle.std.proofs.Common.{◌≡◌, ℕ, ◌+◌, ◌*◌, ◌/◌, ◌%◌, ◌==◌, nat_le, Bool, true, false, cond, ◌&&◌, refl, sym, ap, subst, ◌∙◌, List, [], ◌∷◌, Option, Some, None, Ok, Err, arith}
 use Rattle.std.proofs.lemmas.Bool.Decides.{nat_tests}
 use Rattle.std.specs.Option.{ForSome}
 use Rattle.ia32_types.specs.declared.stop.Stop.TheVariants as stops
@@ -42,8 +42,8 @@ use Rattle.run_trace.specs.declared.items.What.TheVariants.{Irq}
 use Rattle.machine_model.specs.State.{Setting, State, space_at_start}
 use Rattle.machine_model.specs.Rules.{stands_well, is_open, may_leave}
 use Rattle.machine_model.specs.Instruction.{fetched, instructed, is_plain, done_plainly, passed}
-use Rattle.machine_model.specs.Step.{Completed, Report, Result, Went, Stands, entered, begun, begins_next, went, after_read, after_write, out_item, code_of, after_delivery, raised, after_effect, after_software, after_instruction, by_op, by_decoded, after_refusal, after_fetch, fetches_next, worked, interrupt_of, interrupted, by_interrupt, unheld, stepped}
-use Rattle.machine_model.specs.Alone.{Reads, IsDone, is_barred, StepsAreDone}
+use Rattle.machine_model.specs.Step.{Completed, Result, Went, Stands, entered, begun, begins_next, went, after_read, after_write, out_item, code_of, after_delivery, raised, after_effect, after_software, after_instruction, by_op, by_decoded, after_refusal, after_fetch, fetches_next, worked, interrupt_of, interrupted, by_interrupt, unheld}
+use Rattle.machine_model.specs.Alone.{IsDone, is_user, IsUser, is_barred, StepsAreDone}
 
 -- a step that goes completed what has P, or nothing
 abbrev Completes : (Completed → Type 0) → Result → Type 0
@@ -61,7 +61,7 @@ in_none P x e = absurd (let f : None ≡ Some x = e in cc)
 in_some : (P : Completed → Type 0) (c : Completed) → P c → ForSome (Some c) P
 in_some P c p x e = let h : c ≡ x = cc in subst P h p
 
-clash : (b : Bool) → b ≡ true → b ≡ false → ⊥
+pub clash : (b : Bool) → b ≡ true → b ≡ false → ⊥
 clash b e f = cc
 
 chosen : (P : Completed → Type 0) (h : Bool) (x y : Result) → (h ≡ true → Completes P x) → (h ≡ false → Completes P y) → Completes P (cond h x y)
@@ -82,7 +82,7 @@ first_refused : (e : Refusal) (test : Bool) (f : Unit {0} → Work Refusal Done)
 first_refused e true f s h = absurd (clash true refl h)
 first_refused e false f s h = tt
 
-both : (a b : Bool) → (a && b) ≡ true → (a ≡ true) × (b ≡ true)
+pub both : (a b : Bool) → (a && b) ≡ true → (a ≡ true) × (b ≡ true)
 both true true e = (refl, refl)
 both true false e = absurd (let f : false ≡ true = e in cc)
 both false b e = absurd (let f : false ≡ true = e in cc)
@@ -181,49 +181,47 @@ module _ (m : Setting) (b : State) (P : Completed → Type 0) where
   of_instruction c (Ok done) p = of_effect c done.0.effect done.0.cpu done.1 p
   of_instruction c (Err refused) p = of_told c refused.0 refused.1
 
-  module _ (users : b.cpu.cpl ≡ 3 → is_open b.cpu ≡ true) where
-    -- a barred instruction is done at another level alone
-    at_level : (X : Type 0) (o : Op) (insn : Insn) (len : ℕ) (s : Space) → insn.op ≡ o → is_barred o ≡ true → ((b.cpu.cpl ≡ 3 → is_barred o ≡ false) → X) → (test : Bool) → (b.cpu.cpl == 3) ≡ test
-        → DoneIf X (instructed insn len b.cpu s)
-    at_level X o insn len s e bars h true user =
-        let u : b.cpu.cpl ≡ 3 = eq_told b.cpu.cpl 3 user in
-        never_done X (instructed insn len b.cpu s) (subst (DoneIf ⊥) (sym (instructed_by o insn len b.cpu s e)) (barred b.cpu u (users u) o insn len s bars))
-    at_level X o insn len s e bars h false other =
-        done_anyhow X (instructed insn len b.cpu s) (h (λ u. absurd (clash (b.cpu.cpl == 3) (ap (λ x. x == 3) u) other)))
+  -- a barred instruction is not done by a user
+  at_level : (X : Type 0) (o : Op) (insn : Insn) (len : ℕ) (s : Space) → insn.op ≡ o → is_barred o ≡ true → ((IsUser b.cpu → is_barred o ≡ false) → X) → (test : Bool) → is_user b.cpu ≡ test
+      → DoneIf X (instructed insn len b.cpu s)
+  at_level X o insn len s e bars h true user =
+      let u = both (b.cpu.cpl == 3) (is_open b.cpu) user in
+      never_done X (instructed insn len b.cpu s) (subst (DoneIf ⊥) (sym (instructed_by o insn len b.cpu s e)) (barred b.cpu (eq_told b.cpu.cpl 3 u.0) u.1 o insn len s bars))
+  at_level X o insn len s e bars h false other = done_anyhow X (instructed insn len b.cpu s) (h (λ u. absurd (clash (is_user b.cpu) u other)))
 
-    by_bar : (X : Type 0) (o : Op) (insn : Insn) (len : ℕ) (s : Space) → insn.op ≡ o → ((b.cpu.cpl ≡ 3 → is_barred o ≡ false) → X) → (test : Bool) → is_barred o ≡ test → DoneIf X (instructed insn len b.cpu s)
-    by_bar X o insn len s e h true bars = at_level X o insn len s e bars h (b.cpu.cpl == 3) refl
-    by_bar X o insn len s e h false free = done_anyhow X (instructed insn len b.cpu s) (h (λ u. free))
+  by_bar : (X : Type 0) (o : Op) (insn : Insn) (len : ℕ) (s : Space) → insn.op ≡ o → ((IsUser b.cpu → is_barred o ≡ false) → X) → (test : Bool) → is_barred o ≡ test → DoneIf X (instructed insn len b.cpu s)
+  by_bar X o insn len s e h true bars = at_level X o insn len s e bars h (is_user b.cpu) refl
+  by_bar X o insn len s e h false free = done_anyhow X (instructed insn len b.cpu s) (h (λ u. free))
 
-    of_op : (o : Op) (insn : Insn) (len : ℕ) (s : Space) → insn.op ≡ o → ((b.cpu.cpl ≡ 3 → is_barred o ≡ false) → P (begun b insn)) → Completes P (by_op m o b insn len s)
-    of_op op.Int insn len s e h = of_software (begun b insn) (insn.imm % 256) (delivered (passed len b.cpu) (insn.imm % 256) Soft None s) (h (λ u. refl))
-    of_op op.Int3 insn len s e h = of_software (begun b insn) 3 (delivered (passed len b.cpu) 3 Soft None s) (h (λ u. refl))
-    of_op o insn len s e h = of_instruction (begun b insn) (instructed insn len b.cpu s) (by_bar (P (begun b insn)) o insn len s e h (is_barred o) refl)
+  of_op : (o : Op) (insn : Insn) (len : ℕ) (s : Space) → insn.op ≡ o → ((IsUser b.cpu → is_barred o ≡ false) → P (begun b insn)) → Completes P (by_op m o b insn len s)
+  of_op op.Int insn len s e h = of_software (begun b insn) (insn.imm % 256) (delivered (passed len b.cpu) (insn.imm % 256) Soft None s) (h (λ u. refl))
+  of_op op.Int3 insn len s e h = of_software (begun b insn) 3 (delivered (passed len b.cpu) 3 Soft None s) (h (λ u. refl))
+  of_op o insn len s e h = of_instruction (begun b insn) (instructed insn len b.cpu s) (by_bar (P (begun b insn)) o insn len s e h (is_barred o) refl)
 
-    of_decoded : (d : Decoded) (s : Space) → ((insn : Insn) (len : ℕ) → d ≡ begins.Insn insn len → (b.cpu.cpl ≡ 3 → is_barred insn.op ≡ false) → P (begun b insn)) → Completes P (by_decoded m b d s)
-    of_decoded (begins.Insn insn len) s h = of_op insn.op insn len s refl (h insn len refl)
-    of_decoded begins.Short s h = tt
-    of_decoded begins.Outside s h = tt
+  of_decoded : (d : Decoded) (s : Space) → ((insn : Insn) (len : ℕ) → d ≡ begins.Insn insn len → (IsUser b.cpu → is_barred insn.op ≡ false) → P (begun b insn)) → Completes P (by_decoded m b d s)
+  of_decoded (begins.Insn insn len) s h = of_op insn.op insn len s refl (h insn len refl)
+  of_decoded begins.Short s h = tt
+  of_decoded begins.Outside s h = tt
 
-    of_fetch : (o : Outcome Refusal Decoded) → ((insn : Insn) (len : ℕ) (s : Space) → o ≡ Ok (begins.Insn insn len, s) → (b.cpu.cpl ≡ 3 → is_barred insn.op ≡ false) → P (begun b insn)) → Completes P (after_fetch m b o)
-    of_fetch (Ok x) h = of_decoded x.0 x.1 (λ insn len d. h insn len x.1 (ap (λ (y : Decoded). Ok (y, x.1)) d))
-    of_fetch (Err refused) h = of_refusal refused.0 refused.1
+  of_fetch : (o : Outcome Refusal Decoded) → ((insn : Insn) (len : ℕ) (s : Space) → o ≡ Ok (begins.Insn insn len, s) → (IsUser b.cpu → is_barred insn.op ≡ false) → P (begun b insn)) → Completes P (after_fetch m b o)
+  of_fetch (Ok x) h = of_decoded x.0 x.1 (λ insn len d. h insn len x.1 (ap (λ (y : Decoded). Ok (y, x.1)) d))
+  of_fetch (Err refused) h = of_refusal refused.0 refused.1
 
-    of_work : (s : Space) → (b.cpu.halted ≡ false → (insn : Insn) (len : ℕ) (t : Space) → fetched (b.cpu.cpl == 3) b.cpu.regs.eip s ≡ Ok (begins.Insn insn len, t) → (b.cpu.cpl ≡ 3 → is_barred insn.op ≡ false) → P (begun b insn)) → Completes P (worked m b s)
-    unfolding worked
-    of_work s h =
-        chosen P b.cpu.halted (went [] None b b.cpu b.board s) (begins_next m b s) (λ halted. in_none P)
-        (λ awake. chosen P (stands_well m b.cpu) (fetches_next m b s) (Stands stops.NotAStart) (λ well. of_fetch (fetched (b.cpu.cpl == 3) b.cpu.regs.eip s) (h awake)) (λ not_well. tt))
+  of_work : (s : Space) → (b.cpu.halted ≡ false → stands_well m b.cpu ≡ true → (insn : Insn) (len : ℕ) (t : Space) → fetched (b.cpu.cpl == 3) b.cpu.regs.eip s ≡ Ok (begins.Insn insn len, t) → (IsUser b.cpu → is_barred insn.op ≡ false) → P (begun b insn)) → Completes P (worked m b s)
+  unfolding worked
+  of_work s h =
+      chosen P b.cpu.halted (went [] None b b.cpu b.board s) (begins_next m b s) (λ halted. in_none P)
+      (λ awake. chosen P (stands_well m b.cpu) (fetches_next m b s) (Stands stops.NotAStart) (λ well. of_fetch (fetched (b.cpu.cpl == 3) b.cpu.regs.eip s) (h awake well)) (λ not_well. tt))
 
-    of_interrupt : (o : Option ℕ) (s : Space)
-        → (o ≡ None → b.cpu.halted ≡ false → (insn : Insn) (len : ℕ) (t : Space) → fetched (b.cpu.cpl == 3) b.cpu.regs.eip s ≡ Ok (begins.Insn insn len, t) → (b.cpu.cpl ≡ 3 → is_barred insn.op ≡ false) → P (begun b insn))
-        → Completes P (by_interrupt m o b s)
-    unfolding interrupted
-    of_interrupt None s h = of_work s (h refl)
-    of_interrupt (Some v) s h = of_delivery (Irq v ∷ []) (acknowledged b.board) (delivered b.cpu v External None s)
+  of_interrupt : (o : Option ℕ) (s : Space)
+      → (o ≡ None → b.cpu.halted ≡ false → stands_well m b.cpu ≡ true → (insn : Insn) (len : ℕ) (t : Space) → fetched (b.cpu.cpl == 3) b.cpu.regs.eip s ≡ Ok (begins.Insn insn len, t) → (IsUser b.cpu → is_barred insn.op ≡ false) → P (begun b insn))
+      → Completes P (by_interrupt m o b s)
+  unfolding interrupted
+  of_interrupt None s h = of_work s (h refl)
+  of_interrupt (Some v) s h = of_delivery (Irq v ∷ []) (acknowledged b.board) (delivered b.cpu v External None s)
 
 pub each_done : StepsAreDone
-each_done m b users report after e =
+each_done m b report after e =
     subst (Completes (IsDone m b)) e
-    (of_interrupt m (unheld b) (IsDone m b) users (interrupt_of b.cpu b.board) (space_at_start m.mode m.frames b.cpu b.ram b.set)
-    (λ none awake insn len t reads lets. record { same = refl; awake = awake; takes_none = none; reads = record { len = len; after = t; fetches = reads }; lets = lets }))
+    (of_interrupt m (unheld b) (IsDone m b) (interrupt_of b.cpu b.board) (space_at_start m.mode m.frames b.cpu b.ram b.set)
+    (λ none awake well insn len t reads lets. record { same = refl; awake = awake; takes_none = none; stands = well; reads = record { len = len; after = t; fetches = reads }; lets = lets }))

@@ -7,3 +7,4 @@ pub mod Walked
 pub mod Counting
 pub mod Ending
 pub mod Completing
+pub mod CountingNone
