@@ -1,15 +1,12 @@
 -- A step that the host has no part in counts nothing.
-use Rattle.std.proofs.Common.{◌≡◌, ◌⊎◌, inl, inr, ℕ, ◌+◌, ◌-◌, ◌≤◌, ◌<◌, ◌==◌, Bool, true, false, cond, not, ◌&&◌, ◌||◌, refl, sym, ap, subst, ◌∙◌, List, [], ◌∷◌, ◌++◌, length, Option, Some, None, Ok, Err, is_some, is_none, nat_le, nat_lt, arith}
+use Rattle.std.proofs.Common.{◌≡◌, ◌⊎◌, inl, inr, ℕ, ◌+◌, ◌-◌, ◌*◌, ◌%◌, ◌^◌, ◌≤◌, ◌==◌, Bool, true, false, cond, not, ◌&&◌, ◌||◌, refl, sym, ap, ◌∙◌, List, [], ◌∷◌, ◌++◌, length, Option, Some, None, Ok, Err, is_some, is_none, nat_le, nat_lt, arith}
 use Rattle.std.proofs.lemmas.Bool.Decides.{nat_tests}
 use Rattle.std.specs.List.{find, list_any}
 use Rattle.std.specs.Option.{ForSome}
-use Rattle.ia32_types.specs.declared.stop.Stop.{Stop}
 use Rattle.sites.specs.declared.site.Site.{Site}
 use Rattle.image_check.specs.Places.{lies_in, site_at, by_site, place_at}
 use Rattle.image_check.specs.Places as places
-use Rattle.image_check.specs.declared.place.Place.{Place}
-use Rattle.image_check.specs.declared.place.Place.TheVariants.{NotAStart, Outside, Inside}
-use Rattle.machine_step.specs.declared.worked.Seen.{Seen}
+use Rattle.image_check.specs.declared.place.Place.TheVariants.{NotAStart}
 use Rattle.paging.specs.Space.{Mode}
 use Rattle.machine_model.specs.State.{Setting, State, wedge_mode}
 use Rattle.machine_model.specs.Fit.{IsLevel}
@@ -28,6 +25,12 @@ none_counts m r counts e =
     let f : direct_addresses m.image.sites (r ∷ []) ≡ [] = ap (λ (l : List ℕ). l ++ []) e in
     let g : length (direct_addresses m.image.sites (r ∷ [])) ≡ 0 = ap (λ (l : List ℕ). length l) f in
     record { retired = omega (arith, g); passed = sym (ap (passed_on counts.passed) f) }
+
+pub one_counts : (m : Setting) (r : Report) (counts : Counts) (eip : ℕ) → direct_in m.image.sites r.completed ≡ eip ∷ []
+    → CountsOn m (r ∷ []) counts (record { retired = counts.retired + 1; passed = (31 * counts.passed + eip) % 2 ^ 64 })
+one_counts m r counts eip e =
+    let f : direct_addresses m.image.sites (r ∷ []) ≡ eip ∷ [] = ap (λ (l : List ℕ). l ++ []) e in
+    record { retired = ap (λ (l : List ℕ). counts.retired + length l) (sym f); passed = sym (ap (passed_on counts.passed) f) }
 
 -- ---- where the host may not run
 
@@ -117,20 +120,20 @@ module _ (done : StepsAreDone) (waits : WaitsCountNothing) (sites : SitesCountNo
       let eip = b.cpu.regs.eip in
       let zero = level_0 b.cpu.cpl level kernel in
       elim (placed (nat_lt eip 0x10000000) (places.is_start m.image.text (eip - 0x10000000)) (site_at m.image.sites (eip - 0x10000000)) out) [
-        inl low ↦ unstarted (no_stand m b mode zero (ap (λ (x : Bool). x && list_any (λ at. at == eip - 0x10000000) (Rattle.image_check.specs.Sweep.starts_of m.image.text)) (below eip low)))
-      | inr h ↦ elim h [
-          inl start ↦ unstarted (no_stand m b mode zero (no_start m.image.text m eip refl start))
-        | inr k ↦ sites m b report after m.image.sites kernel (inside m.image.sites eip k.1.0 (not_below eip k.0) k.1.1) went
+        | inl low ↦ unstarted (no_stand m b mode zero (ap (λ (x : Bool). x && list_any (λ at. at == eip - 0x10000000) (Rattle.image_check.specs.Sweep.starts_of m.image.text)) (below eip low)))
+        | inr h ↦ elim h [
+          | inl start ↦ unstarted (no_stand m b mode zero (no_start m.image.text m eip refl start))
+          | inr k ↦ sites m b report after m.image.sites kernel (inside m.image.sites eip k.1.0 (not_below eip k.0) k.1.1) went
         ]
       ]
 
   pub none_direct : m.mode ≡ wedge_mode m.image → IsLevel b.cpu.cpl → may_run b.cpu b.board m.image ≡ false → direct_in m.image.sites report.completed ≡ []
   none_direct mode level may =
       elim (by_parts b.cpu.halted (is_none (interrupt_of b.cpu b.board)) (b.cpu.cpl == 3) (is_outside (place_at m.image b.cpu.regs.eip)) may) [
-        inl halted ↦ waiting (inl halted)
-      | inr h ↦ elim h [
-          inl takes ↦ waiting (inr (some_of (interrupt_of b.cpu b.board) takes))
-        | inr k ↦ at_0 mode level k.0 k.1
+        | inl halted ↦ waiting (inl halted)
+        | inr h ↦ elim h [
+          | inl takes ↦ waiting (inr (some_of (interrupt_of b.cpu b.board) takes))
+          | inr k ↦ at_0 mode level k.0 k.1
         ]
       ]
 
