@@ -14,3 +14,5 @@ pub mod FitParts
 pub mod FitRows
 pub mod FitSteps
 pub mod KeptOver
+pub mod Completing
+pub mod CountingNone

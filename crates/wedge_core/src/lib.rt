@@ -15,6 +15,6 @@ mod slice;
 mod stretch;
 
 pub use guest::Guest;
-pub use laws::views_lend;
+pub use laws::{alones_go, views_lend};
 pub use run::run_wedge;
 pub use running::Running;
