@@ -9,3 +9,6 @@ pub mod Lending
 pub mod Seeing
 pub mod Patches
 pub mod Resting
+pub mod RunPieces
+pub mod WholeRuns
+pub mod Booted

@@ -25,6 +25,7 @@ use host_cpl3::Host;
 use image_check::Checked;
 use image_laws::patching;
 use image_load::{Pause, StartFault, load};
+use machine_model::each_run_begins_fit;
 use pv_io::{Failed, Sink};
 use run_trace::Notes;
 use shadow_tables::{Shadow, Shadows};
@@ -202,6 +203,7 @@ fn start_in(
     match load(image, ram, frames) {
         Err(small) => Err(StartFault::TooSmall(small)),
         Ok(boot) => {
+            each_run_begins_fit();
             let mut pool = Pool::new(ram, frames, count);
             let running = adopt_in(ram, image, boot.cpu, Board::new(), 0, frames, &mut pool);
             Ok((Guest { running }, pool))
