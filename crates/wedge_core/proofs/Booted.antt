@@ -31,10 +31,10 @@ text_there : (image : Image) (frames : ℕ) → need image ≤ frames → part (
 text_there image frames fits =
     let n = frames * 4096 in
     let z = with_tables (with_directory (with_part (replicate n 0) 0x2000 boot_descriptors) image frames) image frames in
-    let l = length-replicate {A = ℕ} n 0 in
+    let l : length (replicate n 0) ≡ n = length-replicate {A = ℕ} n 0 in
     let start : n ≤ length (replicate n 0) = omega (arith, l) in
     let long : n ≤ length z = reaches n _ 0x18000 _ (reaches n _ 0x14000 _ (reaches n _ 0x4000 _ (reaches n _ 0x1110 _ (reaches n _ 0x1100 _ (reaches n _ 0x1C00 _ (reaches n _ 0x2000 _ start)))))) in
-    let with_text = reaches n z 0x100000 image.text long in
+    let with_text : n ≤ length (with_part z 0x100000 image.text) = reaches n z 0x100000 image.text long in
     part-with_part_below (with_part z 0x100000 image.text) (4096 * data_frame image) image.init 0x100000 (length image.text) (omega (arith, with_text, fits)) (omega arith)
     ∙ part-with_part z 0x100000 image.text (length image.text) (omega (arith, long, fits)) refl
 

@@ -34,6 +34,9 @@ returns-in-Ok c =
     let count = c.new-pool.ensures.frames.1 in
     let same_base = keeps.same.0 in
     let same_count = keeps.same.1 in
+    let lengths = keeps.lengths in
+    let free = ap length c.new-pool.ensures.list ∙ length-frames_from n c.args.count in
+    let held = c.adopt_in-running.ensures.held.counted in
     let cpu : c.in-Ok.boot.cpu ≡ boot_cpu image n = ap (λ (b : Boot). b.cpu) ok.1 in
     let here : c.adopt_in-running.result.cpu ≡ boot_cpu image n = ap (λ (b : State). b.cpu) (c.adopt_in-running.ensures.state []) ∙ cpu in
     record {
@@ -48,6 +51,7 @@ returns-in-Ok c =
           able = subst IsAble (sym here) (record { fit = c.each_run_begins_fit.ensures (wedge image [] n); users = λ (e : 0 ≡ 3). absurd (omega (arith, e)) });
           fills = c.adopt_in-running.ensures.fills;
           two = c.adopt_in-running.ensures.two;
+          all = omega (arith, lengths, free, held, count, same_count);
         },
       );
     }
