@@ -93,6 +93,8 @@ impl Guest {
         ensures two { IfOk result (λ guest. guest.running.held ≡ 2) }
         ensures fills { IfOk result (λ guest. guest.running.fills ≡ 0) }
         ensures pool { IfOk result (λ guest. Keeps pool.old pool.new (H.bytes host.old) (H.bytes host.new) [] (held_by guest.running.shadows (H.bytes host.new))) }
+        ensures refused { OnErr result ((H.bytes host.new ≡ H.bytes host.old) × (pool.new ≡ pool.old)) }
+        ensures started { H.is_started host.new ≡ true }
         ensures retired { H.retired host.new ≡ H.retired host.old }
         ensures passed { H.passed host.new ≡ H.passed host.old }
     {
@@ -126,6 +128,7 @@ impl Guest {
         ensures reached { GoesOn result (self.new.running.step ≡ self.old.running.step + k) }
         ensures held { GoesOn result (IsHeld IsShadow held_by slot_at (ground image.now self.old.running.frames) self.new.running pool.new (H.bytes host.new)) }
         ensures able { GoesOn result (IsAble self.new.running.cpu) }
+        ensures stands { Pauses result (∥ IsShadow self.new.running.shadows (H.bytes host.new) ∥₁) }
         ensures pool { Pauses result (Keeps pool.old pool.new (H.bytes host.old) (H.bytes host.new) (held_by self.old.running.shadows (H.bytes host.old)) (held_by self.new.running.shadows (H.bytes host.new))) }
         ensures started { H.is_started host.new ≡ true }
         ensures frames { self.new.running.frames ≡ self.old.running.frames }
@@ -146,8 +149,12 @@ impl Guest {
         ensures two { length (held_by self.new.running.shadows (H.bytes host.new)) ≡ 2 }
         ensures held { self.new.running.held ≡ 2 }
         ensures moves { Moves pool.old pool.new (H.bytes host.old) (H.bytes host.new) (held_by self.old.running.shadows (H.bytes host.old)) (held_by self.new.running.shadows (H.bytes host.new)) }
+        ensures cpu { self.new.running.cpu ≡ self.old.running.cpu }
+        ensures board { self.new.running.board ≡ self.old.running.board }
+        ensures frames { self.new.running.frames ≡ self.old.running.frames }
         ensures step { self.new.running.step ≡ self.old.running.step }
         ensures fills { self.new.running.fills ≡ self.old.running.fills }
+        ensures started { H.is_started host.new ≡ true }
         ensures retired { H.retired host.new ≡ H.retired host.old }
         ensures passed { H.passed host.new ≡ H.passed host.old }
     {
