@@ -12,3 +12,4 @@ pub mod Resting
 pub mod RunPieces
 pub mod WholeRuns
 pub mod Booted
+pub mod Released

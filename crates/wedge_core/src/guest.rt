@@ -6,6 +6,7 @@ ghost use Rattle.guest_ram.specs.Bytes.{part};
 ghost use Rattle.frame_pool.specs.Pool.{base_of, free_list, Stands};
 ghost use Rattle.frame_pool.specs.Held.{Owns, Moves};
 ghost use Rattle.board.specs.Scripts.{Events, is_script};
+ghost use Rattle.image_check.specs.Image.{Image};
 ghost use Rattle.image_load.specs.Boot.{text_pages};
 ghost use Rattle.pv_io.specs.Causes.{Rose};
 ghost use Rattle.shadow_tables.specs.Slots.{IsShadow, held as held_by, slot_at};
@@ -149,6 +150,7 @@ impl Guest {
         ensures two { length (held_by self.new.running.shadows (H.bytes host.new)) ≡ 2 }
         ensures held { self.new.running.held ≡ 2 }
         ensures moves { Moves pool.old pool.new (H.bytes host.old) (H.bytes host.new) (held_by self.old.running.shadows (H.bytes host.old)) (held_by self.new.running.shadows (H.bytes host.new)) }
+        ensures again { (image : Image) → IsHeld IsShadow held_by slot_at (ground image self.old.running.frames) self.old.running pool.old (H.bytes host.old) → IsHeld IsShadow held_by slot_at (ground image self.old.running.frames) self.new.running pool.new (H.bytes host.new) }
         ensures cpu { self.new.running.cpu ≡ self.old.running.cpu }
         ensures board { self.new.running.board ≡ self.old.running.board }
         ensures frames { self.new.running.frames ≡ self.old.running.frames }
