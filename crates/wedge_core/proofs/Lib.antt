@@ -10,3 +10,7 @@ pub mod Seeing
 pub mod Patches
 pub mod Resting
 pub mod Counting
+pub mod RunPieces
+pub mod WholeRuns
+pub mod Booted
+pub mod Released

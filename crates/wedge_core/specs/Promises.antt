@@ -7,6 +7,8 @@ use Rattle.sites.specs.Patched.{patched}
 use Rattle.board.specs.Scripts.{Events}
 use Rattle.image_check.specs.Image.{Image}
 use Rattle.image_load.specs.Boot.{need}
+use Rattle.image_load.specs.declared.fault.Pause.{Pause}
+use Rattle.image_load.specs.declared.fault.Pause.TheVariants as pause
 use Rattle.image_load.specs.declared.fault.RunFault.{RunFault}
 use Rattle.image_load.specs.declared.fault.RunFault.TheVariants as fault
 use Rattle.run_trace.specs.declared.items.End.{End}
@@ -54,3 +56,8 @@ abbrev pub WedgeAnswers : Image → Events → ℕ → ℕ → Option (List ℕ)
 WedgeAnswers image script frames n old new before now counts_before counts_after memory (Ok ended) =
     (text : List ℕ) × (need image ≤ frames) × Promise (wedge image script frames) n text ended.steps ended.end counts_before counts_after memory × Appends old new text × (before ≤ now)
 WedgeAnswers image script frames n old new before now counts_before counts_after memory (Err fault) = RefusedWedge image script frames n old new before now fault
+
+-- the end of a run whose last slice paused so
+abbrev pub end_of : Pause → End
+end_of pause.Reached = Bound
+end_of (pause.Stopped stop) = Stopped stop

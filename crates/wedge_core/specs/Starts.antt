@@ -1,6 +1,6 @@
 -- How a guest starts.
 use Rattle.std.specs.Prelude.{◌≡◌, ℕ, ◌+◌, ◌*◌, ◌≤◌, ◌<◌, List, length, replicate, Option, Result, Ok, Err}
-use Rattle.frame_pool.specs.Pool.{base_of, count_of}
+use Rattle.frame_pool.specs.Pool.{base_of, count_of, free_list}
 use Rattle.frame_pool.specs.declared.Pool.{Pool}
 use Rattle.board.specs.Scripts.{Events}
 use Rattle.image_check.specs.Image.{Image}
@@ -15,13 +15,15 @@ use Rattle.wedge_core.specs.declared.guest.Guest.{Guest}
 use Rattle.wedge_core.specs.declared.running.Running.{Running}
 
 module _ {S : Type 0} (stands : S → List ℕ → Type 0) (frames : S → List ℕ → List ℕ) (slots : S → List ℕ → ℕ → Option Slot) where
-  -- the guest stands where every run begins, over this pool and memory
+  -- The guest stands where every run begins, over this pool and memory. The frames that it holds and those that are free
+  -- are all of the pool's.
   pub record Begins (m : Setting) (g : Running S) (pool : Pool) (memory : List ℕ) : Type 0 where
     pub held : IsHeld stands frames slots m g pool memory
     pub state : state_of stands frames slots m g memory ≡ boot m
     pub able : IsAble g.cpu
     pub fills : g.fills ≡ 0
     pub two : g.held ≡ 2
+    pub all : length (free_list pool memory) + g.held ≡ count_of pool
 
 -- the host's memory has the guest's frames and the pool's
 abbrev pub StartedAs : (Shadow → List ℕ → Type 0) → (Shadow → List ℕ → List ℕ) → (Shadow → List ℕ → ℕ → Option Slot) → Image → ℕ → ℕ → List ℕ → Result (Guest × Pool) StartFault → Type 0

@@ -6,6 +6,7 @@ ghost use Rattle.guest_ram.specs.Bytes.{part};
 ghost use Rattle.frame_pool.specs.Pool.{base_of, free_list, Stands};
 ghost use Rattle.frame_pool.specs.Held.{Owns, Moves};
 ghost use Rattle.board.specs.Scripts.{Events, is_script};
+ghost use Rattle.image_check.specs.Image.{Image};
 ghost use Rattle.image_load.specs.Boot.{text_pages};
 ghost use Rattle.pv_io.specs.Causes.{Rose};
 ghost use Rattle.shadow_tables.specs.Slots.{IsShadow, held as held_by, slot_at};
@@ -25,6 +26,7 @@ use host_cpl3::Host;
 use image_check::Checked;
 use image_laws::patching;
 use image_load::{Pause, StartFault, load};
+use machine_model::each_run_begins_fit;
 use pv_io::{Failed, Sink};
 use run_trace::Notes;
 use shadow_tables::{Shadow, Shadows};
@@ -92,6 +94,8 @@ impl Guest {
         ensures two { IfOk result (λ guest. guest.running.held ≡ 2) }
         ensures fills { IfOk result (λ guest. guest.running.fills ≡ 0) }
         ensures pool { IfOk result (λ guest. Keeps pool.old pool.new (H.bytes host.old) (H.bytes host.new) [] (held_by guest.running.shadows (H.bytes host.new))) }
+        ensures refused { OnErr result ((H.bytes host.new ≡ H.bytes host.old) × (pool.new ≡ pool.old)) }
+        ensures started { H.is_started host.new ≡ true }
         ensures retired { H.retired host.new ≡ H.retired host.old }
         ensures passed { H.passed host.new ≡ H.passed host.old }
     {
@@ -125,6 +129,7 @@ impl Guest {
         ensures reached { GoesOn result (self.new.running.step ≡ self.old.running.step + k) }
         ensures held { GoesOn result (IsHeld IsShadow held_by slot_at (ground image.now self.old.running.frames) self.new.running pool.new (H.bytes host.new)) }
         ensures able { GoesOn result (IsAble self.new.running.cpu) }
+        ensures stands { Pauses result (∥ IsShadow self.new.running.shadows (H.bytes host.new) ∥₁) }
         ensures pool { Pauses result (Keeps pool.old pool.new (H.bytes host.old) (H.bytes host.new) (held_by self.old.running.shadows (H.bytes host.old)) (held_by self.new.running.shadows (H.bytes host.new))) }
         ensures started { H.is_started host.new ≡ true }
         ensures frames { self.new.running.frames ≡ self.old.running.frames }
@@ -145,8 +150,13 @@ impl Guest {
         ensures two { length (held_by self.new.running.shadows (H.bytes host.new)) ≡ 2 }
         ensures held { self.new.running.held ≡ 2 }
         ensures moves { Moves pool.old pool.new (H.bytes host.old) (H.bytes host.new) (held_by self.old.running.shadows (H.bytes host.old)) (held_by self.new.running.shadows (H.bytes host.new)) }
+        ensures again { (image : Image) → IsHeld IsShadow held_by slot_at (ground image self.old.running.frames) self.old.running pool.old (H.bytes host.old) → IsHeld IsShadow held_by slot_at (ground image self.old.running.frames) self.new.running pool.new (H.bytes host.new) }
+        ensures cpu { self.new.running.cpu ≡ self.old.running.cpu }
+        ensures board { self.new.running.board ≡ self.old.running.board }
+        ensures frames { self.new.running.frames ≡ self.old.running.frames }
         ensures step { self.new.running.step ≡ self.old.running.step }
         ensures fills { self.new.running.fills ≡ self.old.running.fills }
+        ensures started { H.is_started host.new ≡ true }
         ensures retired { H.retired host.new ≡ H.retired host.old }
         ensures passed { H.passed host.new ≡ H.passed host.old }
     {
@@ -202,6 +212,7 @@ fn start_in(
     match load(image, ram, frames) {
         Err(small) => Err(StartFault::TooSmall(small)),
         Ok(boot) => {
+            each_run_begins_fit();
             let mut pool = Pool::new(ram, frames, count);
             let running = adopt_in(ram, image, boot.cpu, Board::new(), 0, frames, &mut pool);
             Ok((Guest { running }, pool))
