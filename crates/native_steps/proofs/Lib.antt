@@ -30,3 +30,4 @@ pub mod Repeated
 pub mod Tables
 pub mod Quiet
 pub mod Stretching
+pub mod Looks

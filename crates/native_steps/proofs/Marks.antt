@@ -310,13 +310,13 @@ walk_is ram frames cr3 page e d t h =
     ∙ ap (λ x. Found e x (word_place dir page)) h.dir_is
     ∙ ap (λ x. Found e d x) h.word_is
 
-has_1 : (w x : ℕ) → x % 32 ≡ w % 32 → has x 1 ≡ has w 1
+pub has_1 : (w x : ℕ) → x % 32 ≡ w % 32 → has x 1 ≡ has w 1
 has_1 w x e = ap (λ n. n == 1) (let g : x / 1 % 2 ≡ w / 1 % 2 = omega (arith, e) in g)
 
-has_2 : (w x : ℕ) → x % 32 ≡ w % 32 → has x 2 ≡ has w 2
+pub has_2 : (w x : ℕ) → x % 32 ≡ w % 32 → has x 2 ≡ has w 2
 has_2 w x e = ap (λ n. n == 1) (let g : x / 2 % 2 ≡ w / 2 % 2 = omega (arith, e) in g)
 
-has_4 : (w x : ℕ) → x % 32 ≡ w % 32 → has x 4 ≡ has w 4
+pub has_4 : (w x : ℕ) → x % 32 ≡ w % 32 → has x 4 ≡ has w 4
 has_4 w x e = ap (λ n. n == 1) (let g : x / 4 % 2 ≡ w / 4 % 2 = omega (arith, e) in g)
 
 -- the places of a walk's words

@@ -83,7 +83,7 @@ own_back mode text count own e a n k le lt = ap (λ (x : Mode). is_own (with_bac
 own_front_still : (mode : Mode) (text count : ℕ) (own : Own) → mode ≡ Wedge text count own → (a n c d k : ℕ) → a ≤ k → k < a + n → is_own (with_back (with_front mode a n) c d) k ≡ true
 own_front_still mode text count own e a n c d k le lt = ap (λ (x : Mode). is_own (with_back (with_front x a n) c d) k) e ∙ true_or (nat_le a k && nat_lt k (a + n)) _ (in_piece a n k le lt)
 
-front_is : (at len : ℕ) (s t : Space) (x : Unit {0}) → owning_front at len s ≡ Ok (x, t) → record s { mode = with_front s.mode (place s at) len } ≡ t
+pub front_is : (at len : ℕ) (s t : Space) (x : Unit {0}) → owning_front at len s ≡ Ok (x, t) → record s { mode = with_front s.mode (place s at) len } ≡ t
 unfolding owning_front
 front_is at len s t x e = let p : ◌≡◌ {A = Unit {0} × Space} (tt, record s { mode = with_front s.mode (place s at) len }) (x, t) = cc in ap (λ (q : Unit {0} × Space). q.1) p
 

@@ -108,7 +108,7 @@ module _ (m : Setting) (b : State) (kernel : Bool) where
 
   -- ---- where touches are ready
 
-  on_ready : (o : Touch × Space) (f : Space → Touch × Space) (t : Space) → and_then o f ≡ (Ready, t) → (o.0 ≡ Ready) × (f o.1 ≡ (Ready, t))
+  pub on_ready : (o : Touch × Space) (f : Space → Touch × Space) (t : Space) → and_then o f ≡ (Ready, t) → (o.0 ≡ Ready) × (f o.1 ≡ (Ready, t))
   on_ready o f t e = by_touch o.0 o.1 e
     where
       by_touch : (x : Touch) (s : Space) → go_on x s f ≡ (Ready, t) → (x ≡ Ready) × (f s ≡ (Ready, t))
@@ -116,7 +116,7 @@ module _ (m : Setting) (b : State) (kernel : Bool) where
       by_touch (Fault code cr2) s g = absurd (let y : Fault code cr2 ≡ Ready = ap (λ (z : Touch × Space). z.0) g in cc)
       by_touch (Stop stop) s g = absurd (let y : Stop stop ≡ Ready = ap (λ (z : Touch × Space). z.0) g in cc)
 
-  pair : (o : Touch × Space) → o.0 ≡ Ready → o ≡ (Ready, o.1)
+  pub pair : (o : Touch × Space) → o.0 ≡ Ready → o ≡ (Ready, o.1)
   pair o e = ap (λ (x : Touch). (x, o.1)) e
 
   unready_in : (s : Space) → In s → In (unready s)
@@ -138,7 +138,7 @@ module _ (m : Setting) (b : State) (kernel : Bool) where
     pub place_is : place t at ≡ 4096 * frame + at % 4096
     pub bytes_is : bytes ≡ part t.ram (4096 * frame + at % 4096) len
 
-  taken_parts : (at len : ℕ) (o : Touch) (s : Space) (bytes : List ℕ) (t : Space) → taken at len o s ≡ Ok (bytes, t) → (o ≡ Ready) × ((part s.ram (place s at) len ≡ bytes) × (s ≡ t))
+  pub taken_parts : (at len : ℕ) (o : Touch) (s : Space) (bytes : List ℕ) (t : Space) → taken at len o s ≡ Ok (bytes, t) → (o ≡ Ready) × ((part s.ram (place s at) len ≡ bytes) × (s ≡ t))
   taken_parts at len Ready s bytes t e =
       let p : ◌≡◌ {A = List ℕ × Space} (part s.ram (place s at) len, s) (bytes, t) = cc in
       (refl, (ap (λ (q : List ℕ × Space). q.0) p, ap (λ (q : List ℕ × Space). q.1) p))

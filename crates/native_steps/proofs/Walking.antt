@@ -73,7 +73,7 @@ decided_readied s fetch page at access e = by_text (walks_text s page) e
 
 -- ---- an entry that may be used
 
-usable_parts : (o : Option Entry) (access : Access) (wp : Bool) (e : Entry) → usable o access wp ≡ Some e → (o ≡ Some e) × (allows e access wp ≡ true)
+pub usable_parts : (o : Option Entry) (access : Access) (wp : Bool) (e : Entry) → usable o access wp ≡ Some e → (o ≡ Some e) × (allows e access wp ≡ true)
 usable_parts None access wp e h = absurd cc
 usable_parts (Some x) access wp e h = by_test (allows x access wp) refl h
   where

@@ -7,4 +7,5 @@ mod texts;
 
 pub use laws::{
     at_sites, backward, forward, lends_still, native_completes, not_entered, steps_again, stretch,
+    uses_are_seen,
 };

@@ -1,0 +1,81 @@
+-- How a program finds the pages that the next instruction uses without doing its step: by the entries that are there,
+-- and by walks that set nothing. A fetch sets the accessed flags of its walks before it reads its bytes, so they are
+-- read as these flags leave them.
+use Rattle.std.specs.Prelude.{◌≡◌, ℕ, ◌+◌, ◌*◌, ◌/◌, ◌%◌, ◌^◌, ◌≤◌, ◌<◌, Bool, true, false, ◌==◌, List, [], ◌∷◌, ◌++◌, length, Option, Some, None, Ok, bit_or, if◌then◌else◌}
+use Rattle.std.specs.List.{list_any, All}
+use Rattle.std.specs.FinMap.{get}
+use Rattle.guest_ram.specs.Bytes.{AreBytes, byte, part, with_byte}
+use Rattle.ia32_types.specs.declared.insn.Insn.{Insn}
+use Rattle.ia32_decode.specs.declared.answer.Decoded.{Decoded}
+use Rattle.ia32_decode.specs.declared.answer.Decoded.TheVariants as begins
+use Rattle.ia32_decode.specs.Decoding.{decoded}
+use Rattle.ia32_decode.specs.Front.{longest, front_len}
+use Rattle.paging.specs.declared.entry.Access.{Access}
+use Rattle.paging.specs.declared.entry.Entry.{Entry}
+use Rattle.paging.specs.declared.entry.Walk.{Walk}
+use Rattle.paging.specs.declared.entry.Walk.TheVariants.{Absent, Beyond, Found}
+use Rattle.paging.specs.Fresh.{fresh, grants}
+use Rattle.paging.specs.Space.{Space}
+use Rattle.paging.specs.Uses.{usable}
+use Rattle.machine_model.specs.State.{Setting, State, space_at_start, wedge_mode}
+use Rattle.machine_model.specs.Instruction.{next_page, fetched}
+use Rattle.machine_model.specs.Clash.{Use, protects, access_of, fetch_uses, range_uses, uses_at}
+
+-- memory with the accessed flag set in these bytes
+abbrev pub marked : List ℕ → List ℕ → List ℕ
+marked ram [] = ram
+marked ram (at ∷ marks) = marked (with_byte ram at (bit_or (byte ram at) 32)) marks
+
+-- where a fetch finds a page, and the bytes that its walk marks
+pub record Seen : Type 0 where
+  pub frame : ℕ
+  pub marks : List ℕ
+
+abbrev pub found_by : Access → Bool → Walk → Option Seen
+found_by access wp Absent = None
+found_by access wp Beyond = None
+found_by access wp (Found entry dir_at word_at) = if grants entry access wp then Some (record { frame = entry.frame; marks = dir_at ∷ word_at ∷ [] }) else None
+
+-- by an entry that may be used, or else by a walk
+abbrev pub seen_by : Option Entry → Access → Bool → Walk → Option Seen
+seen_by (Some entry) access wp walk = Some (record { frame = entry.frame; marks = [] })
+seen_by None access wp walk = found_by access wp walk
+
+abbrev pub seen : Setting → State → ℕ → Option Seen
+seen m b page = seen_by (usable (get b.set page) (access_of b false) (protects b)) (access_of b false) (protects b) (fresh b.ram m.frames b.cpu.cr3 page)
+
+-- bytes of a page
+abbrev pub bytes_seen : List ℕ → Seen → ℕ → ℕ → List ℕ
+bytes_seen ram x at len = part ram (4096 * x.frame + at % 4096) len
+
+-- with the bytes of the next page
+abbrev pub uses_on : State → List ℕ → List ℕ → Option Seen → List Use
+uses_on b ram front None = fetch_uses b (b.cpu.regs.eip / 4096 ∷ next_page b.cpu.regs.eip / 4096 ∷ [])
+uses_on b ram front (Some x) =
+    fetch_uses b (b.cpu.regs.eip / 4096 ∷ next_page b.cpu.regs.eip / 4096 ∷ [])
+    ++ range_uses b (decoded (front ++ bytes_seen (marked ram x.marks) x (next_page b.cpu.regs.eip) longest))
+
+-- behind the bytes of the first page
+abbrev pub uses_behind : Setting → State → List ℕ → List ℕ → Decoded → List Use
+uses_behind m b ram front (begins.Insn insn len) = fetch_uses b (b.cpu.regs.eip / 4096 ∷ []) ++ range_uses b (begins.Insn insn len)
+uses_behind m b ram front begins.Outside = fetch_uses b (b.cpu.regs.eip / 4096 ∷ [])
+uses_behind m b ram front begins.Short =
+    if b.cpu.regs.eip / 4096 == 1048575 then fetch_uses b (b.cpu.regs.eip / 4096 ∷ []) else uses_on b ram front (seen m b (next_page b.cpu.regs.eip / 4096))
+
+abbrev pub uses_from : Setting → State → Option Seen → List Use
+uses_from m b None = fetch_uses b (b.cpu.regs.eip / 4096 ∷ [])
+uses_from m b (Some x) =
+    uses_behind m b (marked b.ram x.marks) (bytes_seen (marked b.ram x.marks) x b.cpu.regs.eip (front_len b.cpu.regs.eip))
+    (decoded (bytes_seen (marked b.ram x.marks) x b.cpu.regs.eip (front_len b.cpu.regs.eip)))
+
+-- the pages that the instruction at EIP uses, as a program finds them
+abbrev pub uses_seen : Setting → State → List Use
+uses_seen m b = uses_from m b (seen m b (b.cpu.regs.eip / 4096))
+
+-- Where the step's fetch gives an instruction, these are the pages that the step itself uses.
+abbrev pub UsesAreSeen : Type 0
+UsesAreSeen =
+    (m : Setting) (b : State)
+    → m.mode ≡ wedge_mode m.image → 4096 * m.frames ≤ length b.ram → AreBytes b.ram → b.cpu.regs.eip < 2 ^ 32
+    → (insn : Insn) (len : ℕ) (fetch : Space) → fetched (b.cpu.cpl == 3) b.cpu.regs.eip (space_at_start m.mode m.frames b.cpu b.ram b.set) ≡ Ok (begins.Insn insn len, fetch)
+    → uses_at m b ≡ uses_seen m b
