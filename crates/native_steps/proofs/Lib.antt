@@ -31,3 +31,4 @@ pub mod Tables
 pub mod Quiet
 pub mod Stretching
 pub mod Looks
+pub mod Marked

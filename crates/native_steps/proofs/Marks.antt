@@ -149,7 +149,7 @@ one_marked x p v aligned room m = record {
       (byte_other x p v (a + 2) in_bounds (λ g. omega (arith, g, even, aligned)))
       (byte_other x p v (a + 3) in_bounds (λ g. omega (arith, g, even, aligned))))
 
-bytes_with : (x : List ℕ) (p v : ℕ) → p < length x → AreBytes x → v < 256 → AreBytes (with_byte x p v)
+pub bytes_with : (x : List ℕ) (p v : ℕ) → p < length x → AreBytes x → v < 256 → AreBytes (with_byte x p v)
 bytes_with x p v lt h small = λ k.
     elim (cases_eq k p) [
       | inl is ↦ let e : byte (with_byte x p v) k ≡ v = ap (byte (with_byte x p v)) is ∙ byte-with_byte x p v lt in unbyte (with_byte x p v) k (omega (arith, e, small))

@@ -79,3 +79,9 @@ UsesAreSeen =
     → m.mode ≡ wedge_mode m.image → 4096 * m.frames ≤ length b.ram → AreBytes b.ram → b.cpu.regs.eip < 2 ^ 32
     → (insn : Insn) (len : ℕ) (fetch : Space) → fetched (b.cpu.cpl == 3) b.cpu.regs.eip (space_at_start m.mode m.frames b.cpu b.ram b.set) ≡ Ok (begins.Insn insn len, fetch)
     → uses_at m b ≡ uses_seen m b
+
+-- A byte of such a memory is that of the memory, with the flag where it is marked.
+abbrev pub MarksAreRead : Type 0
+MarksAreRead =
+    (ram marks : List ℕ) (k : ℕ) → AreBytes ram → All (λ at. at < length ram) marks
+    → byte (marked ram marks) k ≡ (if list_any (λ at. at == k) marks then bit_or (byte ram k) 32 else byte ram k)

@@ -3,7 +3,7 @@ ghost use Rattle.native_steps.specs.Backward.{Backward, NativeCompletes};
 ghost use Rattle.native_steps.specs.Again.{Again};
 ghost use Rattle.native_steps.specs.Behind.{LendsStill};
 ghost use Rattle.native_steps.specs.Stretch.{Stretch};
-ghost use Rattle.native_steps.specs.Looking.{UsesAreSeen};
+ghost use Rattle.native_steps.specs.Looking.{MarksAreRead, UsesAreSeen};
 
 use crate::texts::texts;
 use host_cpl3::borders;
@@ -77,5 +77,6 @@ pub fn stretch()
 
 /// By what is kept, and by walks that set nothing, a program finds the pages that the next instruction uses.
 pub fn uses_are_seen()
-    ensures { UsesAreSeen }
+    ensures uses { UsesAreSeen }
+    ensures bytes { MarksAreRead }
 {}
