@@ -1,5 +1,5 @@
 -- What a run looks at to find a clash.
-use Rattle.std.specs.Prelude.{ℕ, zero, suc, ◌*◌, ◌<◌, List, [], ◌∷◌, Bool, Option, Some, None, map, slice_index_or}
+use Rattle.std.specs.Prelude.{ℕ, zero, suc, ◌*◌, ◌<◌, List, [], ◌∷◌, Bool, false, Option, Some, None, map, slice_index_or}
 use Rattle.std.specs.List.{All}
 use Rattle.descriptors.specs.declared.cpu.Cpu.{Cpu}
 use Rattle.board.specs.Boards.{at_reset}
@@ -32,10 +32,10 @@ AreIn frames places = All (λ at. at < 4096 * frames) places
 
 -- a use of a page, at the level of the processor
 abbrev pub model_use : Bool → PageUse → Use
-model_use user use = record { page = use.page; access = record { write = use.write; user = user } }
+model_use user u = record { page = u.page; access = record { write = u.write; user = user } }
 
 abbrev pub model_uses : Bool → List PageUse → List Use
-model_uses user uses = map (λ (use : PageUse). model_use user use) uses
+model_uses user uses = map (λ (u : PageUse). model_use user u) uses
 
 -- the pages of the first n uses, the latest first
 abbrev pub before : List PageUse → ℕ → List ℕ

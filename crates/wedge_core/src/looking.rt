@@ -1,6 +1,6 @@
 //! What a fetch would read, found without doing its step: by what is kept, and by walks that set nothing.
 
-ghost use Rattle.std.specs.Prelude.{◌≡◌, ℕ, ◌+◌, ◌*◌, ◌%◌, ◌≤◌, ◌<◌, ◌^◌, ◌==◌, ◌++◌, length, Bool, List, IfSome, bit_or, if◌then◌else◌};
+ghost use Rattle.std.specs.Prelude.{◌≡◌, ℕ, ◌+◌, ◌*◌, ◌/◌, ◌%◌, ◌≤◌, ◌<◌, ◌^◌, ◌==◌, ◌++◌, length, Bool, List, IfSome, bit_or, if◌then◌else◌};
 ghost use Rattle.std.specs.List.{list_any};
 ghost use Rattle.guest_ram.specs.Bytes.{byte, part};
 ghost use Rattle.shadow_tables.specs.Entries.{entries_of};
@@ -10,7 +10,7 @@ ghost use Rattle.native_steps.specs.Stands.{shown};
 ghost use Rattle.wedge_core.specs.Standing.{ground};
 ghost use Rattle.wedge_core.specs.Clashing.{AreIn, looked, marks_of, map_seen};
 
-use crate::sight::{byte, walk};
+use crate::sight::{are_bytes, byte, walk};
 use arrayvec::ArrayVec;
 use descriptors::Cpu;
 use guest_ram::Ram;
@@ -138,8 +138,7 @@ fn byte_seen(
     ensures { result ≡ byte (marked (marked (shown (ground image.now frames) ram.now) (marks_of earlier)) (marks_of marks)) place }
 {
     uses_are_seen();
-    let _len = ram.len();
-    let _text = image.text();
+    are_bytes(ram, image, frames);
     let first = flag(byte(ram, image, frames, place), is_marked(earlier, place));
     flag(first, is_marked(marks, place))
 }

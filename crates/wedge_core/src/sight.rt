@@ -1,7 +1,7 @@
 //! The guest's memory in the host's, read with the text as it was before it was patched.
 
 ghost use Rattle.std.specs.Prelude.{◌≡◌, ◌+◌, ◌*◌, ◌≤◌, ◌<◌, ◌^◌, length};
-ghost use Rattle.guest_ram.specs.Bytes.{byte, word32};
+ghost use Rattle.guest_ram.specs.Bytes.{AreBytes, byte, word32};
 ghost use Rattle.paging.specs.Fresh.{entry_of, fresh, FoundIn};
 ghost use Rattle.step_mem.specs.Shown.{laid};
 ghost use Rattle.native_steps.specs.Stands.{shown};
@@ -11,6 +11,25 @@ use crate::opened::TEXT_FRAME;
 use guest_ram::Ram;
 use image_check::Checked;
 use paging::{Entry, Walk};
+
+/// How many there are, each a byte.
+fn count(bytes: &[u8]) -> usize
+    ensures count { result ≡ length bytes.now }
+    ensures bytes { AreBytes bytes.now }
+{
+    bytes.len()
+}
+
+/// Memory, as the guest sees it, is bytes.
+pub fn are_bytes(ram: &Ram, image: &Checked, frames: u32)
+    requires frames { 4096 * frames ≤ length ram.now }
+    requires laid { 0x100000 + length image.now.text ≤ 4096 * frames }
+    ensures bytes { AreBytes (shown (ground image.now frames) ram.now) }
+    ensures length { length (shown (ground image.now frames) ram.now) ≡ 4096 * frames }
+{
+    let _len = ram.len();
+    let _count = count(image.text());
+}
 
 /// The byte at a place.
 pub fn byte(ram: &Ram, image: &Checked, frames: u32, at: u32) -> u8
