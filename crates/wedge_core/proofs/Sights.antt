@@ -1,9 +1,9 @@
 -- The guest's memory is bytes, also with marks.
-use Rattle.std.proofs.Common.{◌≡◌, ℕ, suc, zero, ◌+◌, ◌*◌, ◌≤◌, ◌<◌, List, [], ◌∷◌, length, take, refl, sym, ap, subst, ◌∙◌, arith, bit_or}
-use Rattle.std.proofs.lemmas.List.{length-take-le}
+use Rattle.std.proofs.Common.{◌≡◌, ℕ, suc, zero, ◌+◌, ◌*◌, ◌≤◌, ◌<◌, List, [], ◌∷◌, ◌++◌, length, take, append_assoc, refl, sym, ap, subst, ◌∙◌, arith, bit_or}
+use Rattle.std.proofs.lemmas.List.{length-take-le, places, same_lists}
 use Rattle.std.specs.List.{All}
 use Rattle.guest_ram.specs.Bytes.{AreBytes, byte, part, with_byte}
-use Rattle.guest_ram.proofs.Bytes.{byte_lt, bytes-part, bytes-with_part, length-with_part, length-with_byte}
+use Rattle.guest_ram.proofs.Bytes.{byte_lt, bytes-part, part-append, bytes-with_part, length-with_part, length-with_byte}
 use Rattle.machine_model.specs.State.{Setting}
 use Rattle.native_steps.specs.Looking.{marked}
 use Rattle.native_steps.specs.Stands.{shown}
@@ -45,3 +45,19 @@ marked_fit ram (p ∷ ps) n e within fit =
 
 pub are_in : (n k : ℕ) (marks : List ℕ) → k ≡ n → All (λ at. at < n) marks → All (λ at. at < k) marks
 are_in n k marks e h = subst (λ j. All (λ at. at < j) marks) (sym e) h
+
+-- bytes behind bytes of a part
+pub part_none : (m xs : List ℕ) (a : ℕ) → xs ≡ xs ++ part m a 0
+unfolding part
+part_none m xs a = sym (same_lists _ _ (grind (arith, places)) (λ j d i. grind (arith, places)))
+
+one_part : (m : List ℕ) (a : ℕ) → a < length m → part m a 1 ≡ byte m a ∷ []
+unfolding part byte
+one_part [] a lt = absurd (omega (arith, lt))
+one_part (x ∷ xs) zero lt = refl
+one_part (x ∷ xs) (suc a) lt = one_part xs a (omega (arith, lt))
+
+pub part_next : (m xs ys zs : List ℕ) (a i v : ℕ) → a + i < length m → ys ≡ xs ++ part m a i → v ≡ byte m (a + i) → zs ≡ ys ++ v ∷ [] → zs ≡ xs ++ part m a (i + 1)
+part_next m xs ys zs a i v lt e f g =
+    g ∙ (ap (λ l. l ++ v ∷ []) e ∙ (append_assoc xs (part m a i) (v ∷ [])
+    ∙ (ap (λ n. xs ++ (part m a i ++ n ∷ [])) f ∙ (ap (λ l. xs ++ (part m a i ++ l)) (sym (one_part m (a + i) lt)) ∙ ap (λ l. xs ++ l) (part-append m a i 1)))))

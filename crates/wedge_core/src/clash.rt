@@ -1,7 +1,7 @@
 //! Whether the next step's instruction uses a page twice, and what is kept for the page doesn't allow the later use. It
 //! is found without doing the step.
 
-ghost use Rattle.std.specs.Prelude.{◌≡◌, ℕ, ◌+◌, ◌*◌, ◌/◌, ◌%◌, ◌≤◌, ◌<◌, ◌^◌, ◌==◌, ◌++◌, Bool, List, [], ◌∷◌, Ok, Some, IfSome, length, map};
+ghost use Rattle.std.specs.Prelude.{◌≡◌, ℕ, ◌+◌, ◌*◌, ◌/◌, ◌%◌, ◌≤◌, ◌<◌, ◌^◌, ◌==◌, ◌++◌, Bool, true, false, List, [], ◌∷◌, Ok, Some, IfSome, length, map};
 ghost use Rattle.std.specs.FinMap.{get};
 ghost use Rattle.std.specs.List.{list_any, All};
 ghost use Rattle.board.specs.declared.devices.Board.{Board};
