@@ -14,3 +14,4 @@ pub mod RunPieces
 pub mod WholeRuns
 pub mod Booted
 pub mod Released
+pub mod Sights

@@ -9,3 +9,4 @@ pub mod Stepping
 pub mod Starts
 pub mod Promises
 pub mod AloneLaws
+pub mod Clashing

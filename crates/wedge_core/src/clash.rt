@@ -1,258 +1,228 @@
 //! Whether the next step's instruction uses a page twice, and what is kept for the page doesn't allow the later use. It
-//! is found without doing the step: by what is kept, and by walks that set nothing.
+//! is found without doing the step.
 
+ghost use Rattle.std.specs.Prelude.{◌≡◌, ℕ, ◌+◌, ◌*◌, ◌/◌, ◌%◌, ◌≤◌, ◌<◌, ◌^◌, ◌==◌, ◌++◌, Bool, true, false, List, [], ◌∷◌, Ok, Some, IfSome, length, map};
+ghost use Rattle.std.specs.FinMap.{get};
+ghost use Rattle.std.specs.List.{list_any, All};
+ghost use Rattle.board.specs.declared.devices.Board.{Board};
+ghost use Rattle.board.specs.Scripts.{Events};
+ghost use Rattle.ia32_types.specs.declared.insn.Insn.{Insn};
+ghost use Rattle.ia32_decode.specs.declared.answer.Decoded.TheVariants as begins;
+ghost use Rattle.ia32_decode.specs.Decoding.{decoded};
+ghost use Rattle.ia32_decode.specs.Front.{front_len, longest};
+ghost use Rattle.ia32_exec.specs.Effect.{ranges_of};
+ghost use Rattle.ia32_exec.specs.Short.{IsShort};
+ghost use Rattle.paging.specs.Space.{Space};
+ghost use Rattle.machine_model.specs.Clash.{clash_in, instruction_clashes, is_refused_by, uses_of};
+ghost use Rattle.machine_model.specs.Instruction.{fetched, next_page};
+ghost use Rattle.paging.specs.Fresh.{has};
+ghost use Rattle.machine_model.specs.State.{State, space_at_start, wedge};
+ghost use Rattle.native_steps.specs.Looking.{marked, seen, uses_on, uses_seen};
+ghost use Rattle.native_steps.specs.Stands.{shown};
+ghost use Rattle.shadow_tables.specs.Entries.{entries_of};
+ghost use Rattle.step_mem.specs.Changes.{AreWithin};
+ghost use Rattle.wedge_core.specs.Clashing.{looked, AreIn, marks_of, before, model_uses};
+ghost use Rattle.wedge_core.specs.Standing.{ground};
+
+use crate::looking::{Bytes, Seen, access_of, fetched, protects, read};
+use arrayvec::ArrayVec;
 use descriptors::Cpu;
 use guest_ram::Ram;
 use ia32_decode::{Decoded, decode};
 use ia32_exec::{Range, ranges};
-use paging::{Access, Entry, Walk, allows, grants, walk};
+use ia32_types::Insn;
+use image_check::Checked;
+use native_steps::uses_are_seen;
+use paging::{Access, allows};
 use shadow_tables::Shadows;
 
 /// No instruction is longer.
 const LONGEST: u32 = 11;
 
-/// What decides where an access of the next step leads.
+/// One use of a page.
 #[derive(Clone, Copy)]
-struct Looking<'a, S: Shadows> {
-    ram: &'a Ram,
-    shadows: &'a S,
-    frames: u32,
-    cr3: u32,
-    user: bool,
-    wp: bool,
+pub struct PageUse {
+    pub page: u32,
+    pub write: bool,
 }
 
-/// Up to two places of bytes in which a walk would set the accessed flag.
-#[derive(Clone, Copy)]
-struct Marks {
-    dir: Option<u32>,
-    word: Option<u32>,
-}
-
-/// Where a fetch finds its page, and what its walk would mark.
-#[derive(Clone, Copy)]
-struct Seen {
-    frame: u32,
-    marks: Marks,
-}
-
-/// The bytes that a fetch finds.
-#[derive(Clone, Copy)]
-struct Bytes {
-    list: [u8; 22],
-    len: usize,
-}
-
-/// Up to six pages, each with its access.
-#[derive(Clone, Copy)]
-struct Uses {
-    pages: [u32; 6],
-    writes: [bool; 6],
-    len: usize,
-}
-
-const NONE: Marks = Marks {
-    dir: None,
-    word: None,
-};
-
-impl<S: Shadows> Looking<'_, S> {
-    fn entry(&self, page: u32) -> Option<Entry> {
-        if page >= 0x10_0000 {
-            return None;
-        }
-        self.shadows.kept(self.ram, page)
-    }
-
-    fn access(&self, write: bool) -> Access {
-        Access {
-            write,
-            user: self.user,
+impl Default for PageUse {
+    fn default() -> PageUse {
+        PageUse {
+            page: 0,
+            write: false,
         }
     }
+}
 
-    /// Where a fetch of the page leads.
-    fn fetched(&self, page: u32) -> Option<Seen> {
-        let access = self.access(false);
-        if let Some(entry) = self.entry(page)
-            && allows(&entry, access, self.wp)
-        {
-            return Some(Seen {
-                frame: entry.frame,
-                marks: NONE,
-            });
+/// The uses of an instruction: two pages of its fetch, and two of either range at most.
+type Uses = ArrayVec<PageUse, 6>;
+
+/// Adds the first page of a range, and its last where that is another.
+fn add_range(uses: &mut Uses, range: Option<Range>, write: bool)
+    requires short { IsShort range }
+    requires room { length uses.old.items ≤ 4 }
+    ensures uses { (user : Bool) → model_uses user uses.new.items ≡ model_uses user uses.old.items ++ uses_of (record { write = write; user = user }) range }
+    ensures few { length uses.new.items ≤ length uses.old.items + 2 }
+{
+    if let Some(range) = range {
+        let first = range.at / 4096;
+        let last = ((u64::from(range.at) + u64::from(range.len) - 1) / 4096) as u32;
+        uses.push(PageUse { page: first, write });
+        if last != first {
+            uses.push(PageUse { page: last, write });
         }
-        match walk(self.ram, self.frames, self.cr3, page) {
-            Walk::Found {
-                entry,
-                dir_at,
-                word_at,
-            } => {
-                if grants(&entry, access, self.wp) {
-                    Some(Seen {
-                        frame: entry.frame,
-                        marks: Marks {
-                            dir: Some(dir_at),
-                            word: Some(word_at),
-                        },
-                    })
-                } else {
-                    None
+    }
+}
+
+/// Adds the uses of an instruction's ranges.
+fn add_ranges(uses: &mut Uses, insn: &Insn, cpu: &Cpu)
+    requires room { length uses.old.items ≤ 2 }
+    ensures uses { (user : Bool) → model_uses user uses.new.items ≡ model_uses user uses.old.items ++ (uses_of (record { write = false; user = user }) (ranges_of insn.now cpu.now.regs).read ++ uses_of (record { write = true; user = user }) (ranges_of insn.now cpu.now.regs).write) }
+    ensures few { length uses.new.items ≤ 6 }
+{
+    let ranges = ranges(insn, &cpu.regs);
+    add_range(uses, ranges.read, false);
+    add_range(uses, ranges.write, true);
+}
+
+/// How many bytes at an address lie in its page, of those that an instruction may have.
+fn front_len(at: u32) -> u32
+    ensures len { result ≡ front_len at }
+    ensures few { result ≤ 11 }
+    ensures one { at % 4096 + result ≤ 4096 }
+{
+    LONGEST.min(4096 - at % 4096)
+}
+
+/// The pages that the instruction at EIP uses.
+fn uses<S: Shadows>(cpu: &Cpu, shadows: &S, ram: &Ram, image: &Checked, frames: u32) -> Uses
+    requires frames { 4096 * frames ≤ length ram.now }
+    requires laid { 0x100000 + length image.now.text ≤ 4096 * frames }
+    requires stands { ∥ S.stands shadows.now ram.now ∥₁ }
+    requires kept { AreWithin frames (entries_of (S.slots shadows.now ram.now)) }
+    ensures { model_uses (cpu.now.cpl == 3) result.items ≡ uses_seen (ground image.now frames) (looked cpu.now (shown (ground image.now frames) ram.now) (entries_of (S.slots shadows.now ram.now))) }
+{
+    let eip = cpu.regs.eip;
+    let mut uses: Uses = ArrayVec::new();
+    uses.push(PageUse {
+        page: eip / 4096,
+        write: false,
+    });
+    match fetched(cpu, shadows, ram, image, frames, eip / 4096) {
+        None => uses,
+        Some(first) => {
+            let mut bytes: Bytes = ArrayVec::new();
+            read(ram, image, frames, None, first, eip, front_len(eip), &mut bytes);
+            match decode(bytes.as_slice()) {
+                Decoded::Insn(insn, _) => {
+                    add_ranges(&mut uses, &insn, cpu);
+                    uses
+                }
+                Decoded::Outside => uses,
+                Decoded::Short => {
+                    if eip / 4096 < 0xF_FFFF {
+                        add_next(cpu, shadows, ram, image, frames, first, &mut bytes, &mut uses);
+                    }
+                    uses
                 }
             }
-            _ => None,
         }
     }
+}
 
-    /// Bytes of a page as the fetch reads them, whose walks have set their flags by then.
-    fn read(&self, at: u32, len: u32, frame: u32, first: Marks, second: Marks, into: &mut Bytes) {
-        for i in 0..len {
-            let place = frame * 4096 + at % 4096 + i;
-            let byte = self.ram.read8(place);
-            let marked = is_marked(first, place) || is_marked(second, place);
-            into.push(if marked { byte | 32 } else { byte });
-        }
-    }
-
-    /// The uses of the instruction at EIP, or none where it isn't found.
-    fn uses(&self, cpu: &Cpu) -> Option<Uses> {
-        let eip = cpu.regs.eip;
-        let mut uses = Uses::new();
-        let first = self.fetched(eip / 4096)?;
-        uses.push(eip / 4096, false);
-        let mut bytes = Bytes::new();
-        let front = LONGEST.min(4096 - eip % 4096);
-        self.read(eip, front, first.frame, first.marks, NONE, &mut bytes);
-        match decode(bytes.as_slice()) {
-            Decoded::Insn(insn, _) => {
-                uses.add_ranges(&insn, cpu);
-                Some(uses)
-            }
-            Decoded::Outside => Some(uses),
-            Decoded::Short => self.uses_on(cpu, first, bytes, uses),
-        }
-    }
-
-    /// With the bytes of the next page.
-    fn uses_on(&self, cpu: &Cpu, first: Seen, bytes: Bytes, uses: Uses) -> Option<Uses> {
-        let mut bytes = bytes;
-        let mut uses = uses;
-        let page = cpu.regs.eip / 4096;
-        if page == 0xF_FFFF {
-            return Some(uses);
-        }
-        uses.push(page + 1, false);
-        let second = self.fetched(page + 1)?;
-        let at = (page + 1) * 4096;
-        self.read(
-            at,
-            LONGEST,
-            second.frame,
-            first.marks,
-            second.marks,
-            &mut bytes,
-        );
+/// Adds the uses that the bytes of the next page tell of.
+fn add_next<S: Shadows>(
+    cpu: &Cpu,
+    shadows: &S,
+    ram: &Ram,
+    image: &Checked,
+    frames: u32,
+    first: Seen,
+    bytes: &mut Bytes,
+    uses: &mut Uses,
+)
+    requires frames { 4096 * frames ≤ length ram.now }
+    requires laid { 0x100000 + length image.now.text ≤ 4096 * frames }
+    requires stands { ∥ S.stands shadows.now ram.now ∥₁ }
+    requires kept { AreWithin frames (entries_of (S.slots shadows.now ram.now)) }
+    requires marks { AreIn frames (marks_of first.marks) }
+    requires page { cpu.now.regs.eip / 4096 < 1048575 }
+    requires few { length bytes.old.items ≤ 11 }
+    requires one { model_uses (cpu.now.cpl == 3) uses.old.items ≡ record { page = cpu.now.regs.eip / 4096; access = record { write = false; user = cpu.now.cpl == 3 } } ∷ [] }
+    requires single { length uses.old.items ≡ 1 }
+    ensures { model_uses (cpu.now.cpl == 3) uses.new.items ≡ uses_on (looked cpu.now (shown (ground image.now frames) ram.now) (entries_of (S.slots shadows.now ram.now))) (marked (shown (ground image.now frames) ram.now) (marks_of first.marks)) bytes.old.items
+        (seen (ground image.now frames) (looked cpu.now (shown (ground image.now frames) ram.now) (entries_of (S.slots shadows.now ram.now))) (next_page cpu.now.regs.eip / 4096)) }
+{
+    let page = cpu.regs.eip / 4096 + 1;
+    uses.push(PageUse { page, write: false });
+    if let Some(second) = fetched(cpu, shadows, ram, image, frames, page) {
+        read(ram, image, frames, first.marks, second, page * 4096, LONGEST, bytes);
         if let Decoded::Insn(insn, _) = decode(bytes.as_slice()) {
-            uses.add_ranges(&insn, cpu);
+            add_ranges(uses, &insn, cpu);
         }
-        Some(uses)
     }
 }
 
-fn is_marked(marks: Marks, place: u32) -> bool {
-    marks.dir == Some(place) || marks.word == Some(place)
-}
-
-impl Bytes {
-    fn new() -> Bytes {
-        Bytes {
-            list: [0; 22],
-            len: 0,
-        }
-    }
-
-    fn push(&mut self, byte: u8) {
-        if self.len < 22 {
-            self.list[self.len] = byte;
-            self.len += 1;
-        }
-    }
-
-    fn as_slice(&self) -> &[u8] {
-        &self.list[..self.len]
-    }
-}
-
-impl Uses {
-    fn new() -> Uses {
-        Uses {
-            pages: [0; 6],
-            writes: [false; 6],
-            len: 0,
-        }
-    }
-
-    fn push(&mut self, page: u32, write: bool) {
-        if self.len < 6 {
-            self.pages[self.len] = page;
-            self.writes[self.len] = write;
-            self.len += 1;
-        }
-    }
-
-    fn add_range(&mut self, range: Option<Range>, write: bool) {
-        if let Some(range) = range {
-            let first = range.at / 4096;
-            let last = ((u64::from(range.at) + u64::from(range.len) - 1) / 4096) as u32;
-            self.push(first, write);
-            if last != first {
-                self.push(last, write);
-            }
-        }
-    }
-
-    fn add_ranges(&mut self, insn: &ia32_types::Insn, cpu: &Cpu) {
-        let ranges = ranges(insn, &cpu.regs);
-        self.add_range(ranges.read, false);
-        self.add_range(ranges.write, true);
-    }
-
-    fn was_used(&self, n: usize, page: u32) -> bool {
-        for i in 0..n {
-            if self.pages[i] == page {
-                return true;
-            }
-        }
-        false
-    }
-}
-
-/// A page is used twice, and what is kept for it doesn't allow the later use.
-fn is_clash<S: Shadows>(looking: &Looking<S>, uses: &Uses) -> bool {
-    for i in 0..uses.len {
-        let page = uses.pages[i];
-        if uses.was_used(i, page)
-            && let Some(entry) = looking.entry(page)
-            && !allows(&entry, looking.access(uses.writes[i]), looking.wp)
-        {
+/// One of the first n uses is of this page.
+fn was_used(uses: &[PageUse], n: usize, page: u32) -> bool
+    requires within { n ≤ length uses.now }
+    ensures { result ≡ list_any (λ p. p == page) (before uses.now n) }
+{
+    let mut i = n;
+    while i > 0 {
+        i -= 1;
+        if uses[i].page == page {
             return true;
         }
     }
     false
 }
 
-/// The step of this processor clashes with what the shadows keep.
-pub fn clashes<S: Shadows>(cpu: &Cpu, frames: u32, shadows: &S, ram: &Ram) -> bool {
-    let looking = Looking {
-        ram,
-        shadows,
-        frames,
-        cr3: cpu.cr3,
-        user: cpu.cpl == 3,
-        wp: cpu.cr0 / 65536 % 2 == 1,
-    };
-    match looking.uses(cpu) {
-        None => false,
-        Some(uses) => is_clash(&looking, &uses),
+/// What is kept for the page doesn't allow the access.
+fn is_refused<S: Shadows>(shadows: &S, ram: &Ram, page: u32, access: Access, wp: bool) -> bool
+    requires stands { ∥ S.stands shadows.now ram.now ∥₁ }
+    ensures { result ≡ is_refused_by (get (entries_of (S.slots shadows.now ram.now)) page) access wp }
+{
+    if page >= 0x10_0000 {
+        return false;
     }
+    match shadows.kept(ram, page) {
+        None => false,
+        Some(entry) => !allows(&entry, access, wp),
+    }
+}
+
+/// A page is used twice, and what is kept for it doesn't allow the later use.
+fn is_clash<S: Shadows>(cpu: &Cpu, shadows: &S, ram: &Ram, uses: &[PageUse]) -> bool
+    requires stands { ∥ S.stands shadows.now ram.now ∥₁ }
+    ensures { result ≡ clash_in (get (entries_of (S.slots shadows.now ram.now))) (has cpu.now.cr0 65536) (model_uses (cpu.now.cpl == 3) uses.now) }
+{
+    for i in 0..uses.len() {
+        let page = uses[i].page;
+        let access = access_of(cpu, uses[i].write);
+        if was_used(uses, i, page) && is_refused(shadows, ram, page, access, protects(cpu)) {
+            return true;
+        }
+    }
+    false
+}
+
+/// The next instruction of this processor clashes with what the shadows keep, by the pages that a look at it finds. These
+/// are those that the step itself uses, where its fetch gives an instruction.
+pub fn clashes<S: Shadows>(cpu: &Cpu, frames: u32, shadows: &S, ram: &Ram, image: &Checked) -> bool
+    requires frames { 4096 * frames ≤ length ram.now }
+    requires laid { 0x100000 + length image.now.text ≤ 4096 * frames }
+    requires stands { ∥ S.stands shadows.now ram.now ∥₁ }
+    requires kept { AreWithin frames (entries_of (S.slots shadows.now ram.now)) }
+    ensures looked { result ≡ clash_in (get (entries_of (S.slots shadows.now ram.now))) (has cpu.now.cr0 65536) (uses_seen (ground image.now frames) (looked cpu.now (shown (ground image.now frames) ram.now) (entries_of (S.slots shadows.now ram.now)))) }
+    ensures step { (script : Events) (b : State) (insn : Insn) (len : ℕ) (fetch : Space) → b.cpu ≡ cpu.now → b.ram ≡ shown (ground image.now frames) ram.now → b.set ≡ entries_of (S.slots shadows.now ram.now)
+        → fetched (b.cpu.cpl == 3) b.cpu.regs.eip (space_at_start (wedge image.now script frames).mode frames b.cpu b.ram b.set) ≡ Ok (begins.Insn insn len, fetch)
+        → result ≡ instruction_clashes (wedge image.now script frames) b }
+{
+    uses_are_seen();
+    let _len = ram.len();
+    let _text = image.text();
+    let uses = uses(cpu, shadows, ram, image, frames);
+    is_clash(cpu, shadows, ram, uses.as_slice())
 }

@@ -51,7 +51,7 @@ pub fn begin_native<S: Shadows + Drop>(
     ram: &mut Ram,
     image: &Checked,
 ) -> Result<Attempt, Stop> {
-    make_room(running, pool, ram);
+    make_room(running, pool, ram, image);
     let text = Some(original(image));
     let guard = Guard {
         text: &text,
@@ -78,9 +78,14 @@ pub fn begin_native<S: Shadows + Drop>(
 }
 
 /// All translations leave before a step for whose pages frames may lack, or which clashes.
-fn make_room<S: Shadows + Drop>(running: &mut Running<S>, pool: &mut Pool, ram: &mut Ram) {
+fn make_room<S: Shadows + Drop>(
+    running: &mut Running<S>,
+    pool: &mut Pool,
+    ram: &mut Ram,
+    image: &Checked,
+) {
     let few = pool.free() < ROOM;
-    if few || clashes(&running.cpu, running.frames, &running.shadows, ram) {
+    if few || clashes(&running.cpu, running.frames, &running.shadows, ram, image) {
         let free = pool.free() + running.held;
         running.shadows.drop_all(ram, pool);
         running.held = free - pool.free();
