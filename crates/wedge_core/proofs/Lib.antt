@@ -9,3 +9,7 @@ pub mod Lending
 pub mod Seeing
 pub mod Patches
 pub mod Resting
+pub mod Texts
+pub mod Joined
+pub mod Going
+pub mod Keeping
