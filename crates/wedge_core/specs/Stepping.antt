@@ -22,17 +22,15 @@ pub record Goes (m : Setting) (b : State) (seen : Seen) (new : State) (before af
   pub items : report.items ≡ items_at b.step (whats seen)
   pub counts : CountsOn m (report ∷ []) before after
 
--- or it stops; neither the count of steps nor the host's counts have risen
-pub record Halts (m : Setting) (b : State) (stop : Stop) (new : State) (before after : Counts) : Type 0 where
+-- or it stops
+pub record Halts (m : Setting) (b : State) (stop : Stop) : Type 0 where
   pub chosen : Set
   pub allowed : IsPartOf chosen b.set
   pub stands : stepped m (with_set b chosen) ≡ Stands stop
-  pub here : new.step ≡ b.step
-  pub counts : after ≡ before
 
 abbrev pub StepAs : Setting → State → Result Seen Stop → State → Counts → Counts → Type 0
 StepAs m b (Ok seen) new before after = Goes m b seen new before after
-StepAs m b (Err stop) new before after = Halts m b stop new before after
+StepAs m b (Err stop) new before after = Halts m b stop
 
 -- A step of which the host did nothing went, or stops.
 pub record Alone (m : Setting) (b : State) (seen : Seen) (new : State) : Type 0 where

@@ -107,6 +107,9 @@ fn one_step<S: Shadows + Drop, H: Host>(
     ensures stands { ∥ S.stands running.new.shadows (H.bytes host.new) ∥₁ }
     ensures pool { Keeps pool.old pool.new (H.bytes host.old) (H.bytes host.new) (S.frames running.old.shadows (H.bytes host.old)) (S.frames running.new.shadows (H.bytes host.new)) }
     ensures few { H.retired host.new ≤ H.retired host.old + 1 }
+    ensures stays { OnErr result (running.new.step ≡ running.old.step) }
+    ensures retired { OnErr result (H.retired host.new ≡ H.retired host.old) }
+    ensures passed { OnErr result (H.passed host.new ≡ H.passed host.old) }
     ensures started { H.is_started host.new ≡ true }
     ensures frames { running.new.frames ≡ running.old.frames }
 {

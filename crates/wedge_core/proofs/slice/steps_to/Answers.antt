@@ -105,14 +105,18 @@ returns-in-Err-clause-slice g c =
     let by_frames = subst (λ (n : ℕ). StepAs (wedge c.args.image.now c.args.script.now.list n) (at n mid then_memory) (Err c.in-Err.stop) (at n new new_memory) mid_counts new_counts) (c.stretch.ensures.frames ∙ inv.frames) (c.in-Err.ensures.step c.args.script.now.list) in
     let step : StepAs m (record (at f r memory) { board = given r.board c.args.script.now.list r.step }) (Err c.in-Err.stop) (at f new new_memory) so_far new_counts =
     turned m (at f r memory) (at f mid then_memory) (at f new new_memory) c.begin.new.self (Err c.in-Err.stop) so_far mid_counts new_counts stays c.begin.ensures same by_frames in
+    let e = c.in-Err.ensures.stays in
+    let n = c.stretch.ensures.count in
+    let still : new.step ≡ r.step = omega (arith, e, n, none) in
+    let unmoved : new_counts ≡ so_far = counts_same (g.H.Host.retired c.stretch.new.host) (g.H.Host.retired c.one_step.new.host) (g.H.Host.passed c.stretch.new.host) (g.H.Host.passed c.one_step.new.host) c.in-Err.ensures.retired c.in-Err.ensures.passed ∙ same in
     record {
       sets = inv.going.sets;
       reports = inv.going.reports;
       last = with_set (at f r memory) inv.going.whole;
       steps = inv.going.steps;
-      ends = (c.loop-running-test.true, step.here, stops_next m old (at f r memory) counts so_far told tells c.in-Err.stop step.chosen inv.going step.allowed step.stands);
+      ends = (c.loop-running-test.true, still, stops_next m old (at f r memory) counts so_far told tells c.in-Err.stop step.chosen inv.going step.allowed step.stands);
       text = inv.going.text;
-      counts = subst (λ (x : Counts). CountsOn m inv.going.reports counts x) (sym step.counts) inv.going.counts;
+      counts = subst (λ (x : Counts). CountsOn m inv.going.reports counts x) (sym unmoved) inv.going.counts;
     }
 
 pub returns-in-Err-clause-pool : goal.returns-in-Err-clause-pool
