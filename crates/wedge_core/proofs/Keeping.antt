@@ -1,9 +1,11 @@
 -- What a guest leaves of a pool, over several steps; and what stands whatever its board and count are.
-use Rattle.std.proofs.Common.{◌≡◌, ℕ, ◌+◌, ◌*◌, ◌≤◌, List, length, Option, refl, sym, subst, ◌∙◌, arith}
-use Rattle.frame_pool.specs.Pool.{free_list}
-use Rattle.frame_pool.specs.Held.{times}
+use Rattle.std.proofs.Common.{◌≡◌, ℕ, ◌+◌, ◌*◌, ◌≤◌, List, length, drop, Option, refl, sym, ap, subst, ◌∙◌, arith}
+use Rattle.frame_pool.specs.Frames.{IsNotIn}
+use Rattle.frame_pool.specs.Pool.{base_of, free_list, Stands}
+use Rattle.frame_pool.specs.Held.{times, Moves}
 use Rattle.frame_pool.specs.declared.Pool.{Pool}
 use Rattle.frame_pool.proofs.Lengths.{times-IsNotIn}
+use Rattle.frame_pool.proofs.Above.{frame-above, free_list-above}
 use Rattle.board.specs.declared.devices.Board.{Board}
 use Rattle.shadow_tables.specs.Slots.{Slot}
 use Rattle.image_check.specs.Image.{Image}
@@ -36,6 +38,22 @@ keeps_join p q r m n o fs gs hs a b = record {
       let free = times-IsNotIn g (free_list p m) out.out in
       b.out g (a.out g out held) (omega (arith, t, free, held));
 }
+
+-- what is written below the pool leaves it
+pub keeps_above : (p : Pool) (m n : List ℕ) (limit : ℕ) (fs gs : List ℕ) → Stands p m → limit ≤ 4096 * base_of p → drop limit n ≡ drop limit m → length n ≡ length m → gs ≡ fs → Keeps p p m n fs gs
+keeps_above p m n limit fs gs stands low above size same =
+    let free = free_list-above p m n limit low above size stands in
+    record {
+      same = (refl, refl);
+      size = size;
+      together = λ f. ap (λ (l : List ℕ). times f l + times f gs) free ∙ ap (λ (l : List ℕ). times f (free_list p m) + times f l) same;
+      lengths = ap (λ (l : List ℕ). length l + length gs) free ∙ ap (λ (l : List ℕ). length (free_list p m) + length l) same;
+      others = λ g behind free held. frame-above m n limit g (omega (arith, behind, low)) above;
+      out = λ g out held. record { low = out.low; high = out.high; out = subst (λ (l : List ℕ). IsNotIn g l) (sym free) out.out };
+    }
+
+pub keeps_moves : (p q : Pool) (m n fs gs : List ℕ) → Moves p q m n fs gs → Keeps p q m n fs gs
+keeps_moves p q m n fs gs v = record { same = v.same; size = v.size; together = v.together; lengths = v.lengths; others = λ g low free held. v.others g free held; out = v.out }
 
 module _ {S : Type 0} (stands : S → List ℕ → Type 0) (frames : S → List ℕ → List ℕ) (slots : S → List ℕ → ℕ → Option Slot) where
   pub held_later : (m : Setting) (g : Running S) (board : Board) (step : ℕ) (pool : Pool) (memory : List ℕ) → g.step ≤ step
