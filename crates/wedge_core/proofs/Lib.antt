@@ -13,3 +13,4 @@ pub mod Texts
 pub mod Joined
 pub mod Going
 pub mod Keeping
+pub mod Asked
