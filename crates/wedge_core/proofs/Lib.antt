@@ -15,3 +15,8 @@ pub mod WholeRuns
 pub mod Booted
 pub mod Released
 pub mod Sights
+pub mod Texts
+pub mod Joined
+pub mod Going
+pub mod Keeping
+pub mod Asked

@@ -53,3 +53,10 @@ pub record Passes (m : Setting) (b : State) (whole : Set) (new : State) (before 
   pub part : IsPartOf new.set left
   pub silent : trace_of reports ≡ []
   pub counts : CountsOn m reports before after
+
+-- One instruction that the host did, as a step of the guest in which nothing is seen.
+pub record Once (m : Setting) (b new : State) (before after : Counts) : Type 0 where
+  pub report : Report
+  pub went : stepped m b ≡ Went report new
+  pub silent : report.items ≡ []
+  pub counts : CountsOn m (report ∷ []) before after

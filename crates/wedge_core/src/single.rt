@@ -1,6 +1,6 @@
 //! One step that the host has no part in.
 
-ghost use Rattle.std.specs.Prelude.{◌≡◌, ℕ, List, ◌+◌, ◌*◌, ◌/◌, ◌%◌, ◌==◌, ◌≤◌, ◌<◌, ◌^◌, length, true, OnOk};
+ghost use Rattle.std.specs.Prelude.{◌≡◌, ℕ, List, ◌+◌, ◌*◌, ◌/◌, ◌%◌, ◌==◌, ◌≤◌, ◌<◌, ◌^◌, length, true, OnErr, OnOk};
 ghost use Rattle.frame_pool.specs.Held.{Owns, Moves};
 ghost use Rattle.frame_pool.specs.Pool.{base_of, free_list};
 ghost use Rattle.board.specs.Boards.{board_step};
@@ -14,6 +14,7 @@ ghost use Rattle.step_mem.specs.Sound.{IsSound};
 ghost use Rattle.machine_step.specs.Worked.{dropping, IsDropped};
 ghost use Rattle.machine_model.specs.State.{wedge};
 ghost use Rattle.wedge_core.specs.Parts.{IsPartOf};
+ghost use Rattle.wedge_core.specs.Pools.{Keeps};
 ghost use Rattle.wedge_core.specs.Standing.{AreOpen, IsHeld, ground, side_of, state_of, wp_of};
 ghost use Rattle.wedge_core.specs.Stepping.{AloneAs};
 
@@ -75,6 +76,10 @@ pub fn step_alone<S: Shadows + Drop>(
     requires bound { running.old.step < 2 ^ 40 }
     ensures step { (script : Events) → AloneAs (wedge image.now script running.old.frames) (state_of S.stands S.frames S.slots (wedge image.now script running.old.frames) running.old ram.old) result (state_of S.stands S.frames S.slots (wedge image.now script running.old.frames) running.new ram.new) }
     ensures held { OnOk result (IsHeld S.stands S.frames S.slots (ground image.now running.old.frames) running.new pool.new ram.new) }
+    ensures count { OnOk result (running.new.step ≡ running.old.step + 1) }
+    ensures stays { OnErr result (running.new.step ≡ running.old.step) }
+    ensures stands { ∥ S.stands running.new.shadows ram.new ∥₁ }
+    ensures pool { Keeps pool.old pool.new ram.old ram.new (S.frames running.old.shadows ram.old) (S.frames running.new.shadows ram.new) }
     ensures frames { running.new.frames ≡ running.old.frames }
 {
     let text = Some(original(image));

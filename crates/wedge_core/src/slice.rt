@@ -17,7 +17,7 @@ ghost use Rattle.machine_model.specs.Step.{items_at};
 ghost use Rattle.machine_step.specs.Worked.{whats};
 ghost use Rattle.run_trace.specs.Steps.{items_of};
 ghost use Rattle.wedge_core.specs.Slices.{SliceAs, GoesOn, Pauses};
-ghost use Rattle.wedge_core.specs.Stepping.{StepAs};
+ghost use Rattle.wedge_core.specs.Stepping.{AloneAs, StepAs};
 
 use crate::native::{Attempt, begin_native};
 use crate::rest::rest;
@@ -107,11 +107,14 @@ fn one_step<S: Shadows + Drop, H: Host>(
     ensures stands { ∥ S.stands running.new.shadows (H.bytes host.new) ∥₁ }
     ensures pool { Keeps pool.old pool.new (H.bytes host.old) (H.bytes host.new) (S.frames running.old.shadows (H.bytes host.old)) (S.frames running.new.shadows (H.bytes host.new)) }
     ensures few { H.retired host.new ≤ H.retired host.old + 1 }
+    ensures stays { OnErr result (running.new.step ≡ running.old.step) }
+    ensures retired { OnErr result (H.retired host.new ≡ H.retired host.old) }
+    ensures passed { OnErr result (H.passed host.new ≡ H.passed host.old) }
     ensures started { H.is_started host.new ≡ true }
     ensures frames { running.new.frames ≡ running.old.frames }
 {
     if !may_run(&running.cpu, &running.board, image) {
-        return step_alone(running, pool, host.ram_mut(), image);
+        return by_rules(running, pool, host, image);
     }
     match begin_native(running, pool, host.ram_mut(), image)? {
         Attempt::Went(seen) => Ok(seen),
@@ -120,6 +123,30 @@ fn one_step<S: Shadows + Drop, H: Host>(
             Ok(Seen::Nothing)
         }
     }
+}
+
+/// One step by the rules alone, over the host's memory. The host completes nothing.
+fn by_rules<S: Shadows + Drop, H: Host>(
+    running: &mut Running<S>,
+    pool: &mut Pool,
+    host: &mut H,
+    image: &Checked,
+) -> Result<Seen, Stop>
+    requires started { H.is_started host.old ≡ true }
+    requires held { IsHeld S.stands S.frames S.slots (ground image.now running.old.frames) running.old pool.old (H.bytes host.old) }
+    requires bound { running.old.step < 2 ^ 40 }
+    ensures step { (script : Events) → AloneAs (wedge image.now script running.old.frames) (state_of S.stands S.frames S.slots (wedge image.now script running.old.frames) running.old (H.bytes host.old)) result (state_of S.stands S.frames S.slots (wedge image.now script running.old.frames) running.new (H.bytes host.new)) }
+    ensures held { OnOk result (IsHeld S.stands S.frames S.slots (ground image.now running.old.frames) running.new pool.new (H.bytes host.new)) }
+    ensures count { OnOk result (running.new.step ≡ running.old.step + 1) }
+    ensures stays { OnErr result (running.new.step ≡ running.old.step) }
+    ensures stands { ∥ S.stands running.new.shadows (H.bytes host.new) ∥₁ }
+    ensures pool { Keeps pool.old pool.new (H.bytes host.old) (H.bytes host.new) (S.frames running.old.shadows (H.bytes host.old)) (S.frames running.new.shadows (H.bytes host.new)) }
+    ensures retired { H.retired host.new ≡ H.retired host.old }
+    ensures passed { H.passed host.new ≡ H.passed host.old }
+    ensures started { H.is_started host.new ≡ true }
+    ensures frames { running.new.frames ≡ running.old.frames }
+{
+    step_alone(running, pool, host.ram_mut(), image)
 }
 
 /// What a step lets be seen, as items.

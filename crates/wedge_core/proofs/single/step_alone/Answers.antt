@@ -23,6 +23,7 @@ use Rattle.wedge_core.specs.Standing.{IsHeld, IsOpenSlot, AreOpen, state_of, gro
 use Rattle.wedge_core.proofs.Alones.{alone_from, began}
 use Rattle.wedge_core.proofs.Opening.{same_open}
 use Rattle.wedge_core.proofs.Parts.{part_within, part_join, dropped_part}
+use Rattle.wedge_core.proofs.Keeping.{keeps_join, keeps_above, keeps_moves}
 use Rattle.wedge_core.proofs.Memories.{Leaves, step_leaves, text_within, shown_is, front_same, shown_same, host_same, host_left}
 use Rattle.wedge_core.proofs.single.step_alone.Goals as goal
 
@@ -168,3 +169,52 @@ returns-in-Ok-clause-held g c =
       within = part_within n _ whole1 (part_join _ _ _ c.go.ensures.part (dropped_part c.in-Ok.worked.dropped whole1)) (subst (λ (k : ℕ). AreWithin k whole1) frames1 c.step_in-outcome.ensures.sound.within);
       open_to = subst (λ (x : Cpu). AreOpen image (wp_of x) (g.S.Shadows.slots c.go.new.running.shadows ram2)) (sym c.go.ensures.cpu) open1;
     }
+
+pub returns-in-Err-clause-stands : goal.returns-in-Err-clause-stands
+returns-in-Err-clause-stands g c = first c.step_in-outcome.ensures.sound.stands_now
+
+pub returns-in-Err-clause-pool : goal.returns-in-Err-clause-pool
+returns-in-Err-clause-pool g c =
+    let running = c.args.running.now in
+    let image = c.args.image.now in
+    let n = running.frames in
+    let ram0 = c.args.ram.now in
+    let ram1 = c.step_in-outcome.new.ram in
+    let state1 = c.step_in-outcome.new.state in
+    let o = c.original in
+    let held = c.requires.held in
+    let frames1 : state1.control.frames ≡ n = ap (λ (k : Control). k.frames) c.step_in-outcome.ensures.control ∙ c.begin-state.ensures.frames in
+    let hid = subst (λ (x : Guard). laying.hidden x n ram1 ≡ laying.hidden x n ram0) c.begin-state.ensures.guard
+    (subst (λ (k : ℕ). laying.hidden c.begin-state.result.guard k ram1 ≡ laying.hidden c.begin-state.result.guard k ram0) c.begin-state.ensures.frames c.step_in-outcome.ensures.hidden) in
+    let fits1 : 4096 * n ≤ length ram1 = (let q = c.step_in-outcome.ensures.sound.frames_in in omega (arith, q, frames1)) in
+    let left = step_leaves image n o.result.first o.result.count ram0 ram1 held.wedge.room held.host.room fits1 o.ensures.first o.ensures.count hid in
+    let behind : 4096 * n ≤ 4096 * base_of c.args.pool.now = (let h = held.behind in omega (arith, h)) in
+    let samein = g.met.S.Shadows.above running.shadows c.args.pool.now ram0 ram1 (4096 * n) held.owns behind left.above left.size in
+    let frames_same = g.met.S.Shadows.same_frames running.shadows ram0 ram1 held.stand samein in
+    let fs = g.S.Shadows.frames running.shadows ram0 in
+    let gs = g.S.Shadows.frames running.shadows ram1 in
+    keeps_above c.args.pool.now ram0 ram1 (4096 * n) fs gs held.owns.stands behind left.above left.size frames_same
+
+pub returns-in-Ok-clause-pool : goal.returns-in-Ok-clause-pool
+returns-in-Ok-clause-pool g c =
+    let running = c.args.running.now in
+    let image = c.args.image.now in
+    let n = running.frames in
+    let ram0 = c.args.ram.now in
+    let ram1 = c.step_in-outcome.new.ram in
+    let state1 = c.step_in-outcome.new.state in
+    let o = c.original in
+    let held = c.requires.held in
+    let frames1 : state1.control.frames ≡ n = ap (λ (k : Control). k.frames) c.step_in-outcome.ensures.control ∙ c.begin-state.ensures.frames in
+    let hid = subst (λ (x : Guard). laying.hidden x n ram1 ≡ laying.hidden x n ram0) c.begin-state.ensures.guard
+    (subst (λ (k : ℕ). laying.hidden c.begin-state.result.guard k ram1 ≡ laying.hidden c.begin-state.result.guard k ram0) c.begin-state.ensures.frames c.step_in-outcome.ensures.hidden) in
+    let fits1 : 4096 * n ≤ length ram1 = (let q = c.step_in-outcome.ensures.sound.frames_in in omega (arith, q, frames1)) in
+    let left = step_leaves image n o.result.first o.result.count ram0 ram1 held.wedge.room held.host.room fits1 o.ensures.first o.ensures.count hid in
+    let behind : 4096 * n ≤ 4096 * base_of c.args.pool.now = (let h = held.behind in omega (arith, h)) in
+    let samein = g.met.S.Shadows.above running.shadows c.args.pool.now ram0 ram1 (4096 * n) held.owns behind left.above left.size in
+    let frames_same = g.met.S.Shadows.same_frames running.shadows ram0 ram1 held.stand samein in
+    let fs = g.S.Shadows.frames running.shadows ram0 in
+    let gs = g.S.Shadows.frames running.shadows ram1 in
+    let hs = g.S.Shadows.frames c.go.new.running.shadows c.go.new.ram in
+    keeps_join c.args.pool.now c.args.pool.now c.go.new.pool ram0 ram1 c.go.new.ram fs gs hs (keeps_above c.args.pool.now ram0 ram1 (4096 * n) fs gs held.owns.stands behind left.above left.size frames_same)
+    (keeps_moves c.args.pool.now c.go.new.pool ram1 c.go.new.ram gs hs c.go.ensures.moves)
