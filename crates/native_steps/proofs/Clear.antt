@@ -1,5 +1,5 @@
 -- The pages that an instruction uses, where none clashes: where one was used before, its entry allows the later use too.
-use Rattle.std.proofs.Common.{◌≡◌, ℕ, zero, suc, ◌+◌, ◌-◌, ◌/◌, ◌≤◌, ◌<◌, ◌==◌, List, [], ◌∷◌, ◌++◌, length, map, Bool, true, false, cond, ◌&&◌, ◌||◌, not, Option, Some, None, Ok, refl, sym, ap, subst, ◌∙◌, arith}
+use Rattle.std.proofs.Common.{◌≡◌, ℕ, zero, suc, ◌+◌, ◌-◌, ◌/◌, ◌≤◌, ◌<◌, ◌==◌, List, [], ◌∷◌, ◌++◌, length, map, Bool, true, false, cond, ◌&&◌, ◌||◌, not, Option, Some, None, Ok, refl, sym, ap, ◌∙◌, arith}
 use Rattle.std.specs.Prelude.{slice_index_or, if◌then◌else◌}
 use Rattle.std.specs.Option.{ForSome}
 use Rattle.std.specs.List.{Contains, list_any}
@@ -21,7 +21,7 @@ use Rattle.machine_model.specs.Instruction.{fetched}
 use Rattle.machine_model.specs.Clash as clashing
 use Rattle.machine_model.specs.Clash.{access_of, fetch_uses, is_refused_by, clash_behind, instruction_clashes}
 use Rattle.native_steps.specs.Forward.{wp_of}
-use Rattle.native_steps.proofs.Choices.{clash, eq_true}
+use Rattle.native_steps.proofs.Choices.{eq_true}
 use Rattle.native_steps.proofs.Short.{ranges_short}
 
 -- a page that an instruction uses
@@ -119,9 +119,9 @@ module _ (b : State) where
       map-append (as_use b) (map (used false) pages) (range_uses false ranges.read ++ range_uses true ranges.write)
       ∙ ap (λ (l : List clashing.Use). l ++ map (as_use b) (range_uses false ranges.read ++ range_uses true ranges.write)) (fetch_same pages)
       ∙ ap (λ (l : List clashing.Use). fetch_uses b pages ++ l)
-        (map-append (as_use b) (range_uses false ranges.read) (range_uses true ranges.write)
-        ∙ ap (λ (l : List clashing.Use). l ++ map (as_use b) (range_uses true ranges.write)) (range_same false ranges.read short.0)
-        ∙ ap (λ (l : List clashing.Use). clashing.uses_of (access_of b false) ranges.read ++ l) (range_same true ranges.write short.1))
+      (map-append (as_use b) (range_uses false ranges.read) (range_uses true ranges.write)
+      ∙ ap (λ (l : List clashing.Use). l ++ map (as_use b) (range_uses true ranges.write)) (range_same false ranges.read short.0)
+      ∙ ap (λ (l : List clashing.Use). clashing.uses_of (access_of b false) ranges.read ++ l) (range_same true ranges.write short.1))
 
 -- an instruction that was fetched and doesn't clash
 pub clear_from : (m : Setting) (b : State) (insn : Insn) (len : ℕ) (fetch : Space)

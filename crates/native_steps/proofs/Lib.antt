@@ -27,6 +27,8 @@ pub mod Walking
 pub mod Through
 pub mod Repeating
 pub mod Repeated
+pub mod Wrote
+pub mod Granting
 pub mod Tables
 pub mod Quiet
 pub mod Stretching

@@ -21,6 +21,7 @@ use Rattle.ia32_exec.specs.declared.access.Range.{Range}
 use Rattle.ia32_exec.specs.Ranges.{Covers}
 use Rattle.ia32_exec.specs.Short.{IsShort}
 use Rattle.ia32_exec.specs.Commit.{list_of}
+use Rattle.ia32_exec.specs.UserEffect.{user_effect}
 use Rattle.ia32_exec.specs.Effect.{ranges_of}
 use Rattle.descriptors.specs.declared.cpu.Cpu.{Cpu}
 use Rattle.paging.specs.declared.entry.Entry.{Entry}
@@ -118,13 +119,13 @@ module _ (flags : UserFlagsAgree) (m : Setting) (v : View) (b : State) (mode : m
 
   -- ---- the fetch
 
-  record Began (insn : Insn) (len : ℕ) (t : Space) : Type 0 where
-    within : IsWithin m b v.kernel t
-    pages : List ℕ
-    went : t.went ≡ pages
-    shape : IsShaped insn
-    way : (last : Space) → Through m b v.kernel (after [] (map (used false) pages)) t last → Way (Fetches m (settled b last) v.kernel) last.ram b.cpu.regs.eip insn len
-    way_pages : (last : Space) (th : Through m b v.kernel (after [] (map (used false) pages)) t last) → went_of b.cpu.regs.eip (way last th) ≡ pages
+  pub record Began (insn : Insn) (len : ℕ) (t : Space) : Type 0 where
+    pub within : IsWithin m b v.kernel t
+    pub pages : List ℕ
+    pub went : t.went ≡ pages
+    pub shape : IsShaped insn
+    pub way : (last : Space) → Through m b v.kernel (after [] (map (used false) pages)) t last → Way (Fetches m (settled b last) v.kernel) last.ram b.cpu.regs.eip insn len
+    pub way_pages : (last : Space) (th : Through m b v.kernel (after [] (map (used false) pages)) t last) → went_of b.cpu.regs.eip (way last th) ≡ pages
 
   moved : (ps : List ℕ) (s t last : Space) → s ≡ t → Through m b v.kernel ps t last → Through m b v.kernel ps s last
   moved ps s t last e th = subst (λ (x : Space). Through m b v.kernel ps x last) (sym e) th
@@ -175,7 +176,7 @@ module _ (flags : UserFlagsAgree) (m : Setting) (v : View) (b : State) (mode : m
     through : Through m b v.kernel ps s t
     range : RangeOf ps s t write o
 
-  last_is : (r : Range) → 1 ≤ r.len → (r.at + r.len - 1) / 4096 ≡ last_page r
+  pub last_is : (r : Range) → 1 ≤ r.len → (r.at + r.len - 1) / 4096 ≡ last_page r
   last_is r some = omega (arith, some)
 
   ranged : (ps : List ℕ) (s t : Space) (write : Bool) (o : Option Range) → IsWithin m b v.kernel s → IsShort o → Clear ps (range_uses write o) → reached b.cpu write o s ≡ Ok (tt, t) → Ranged ps s t write o
@@ -195,15 +196,15 @@ module _ (flags : UserFlagsAgree) (m : Setting) (v : View) (b : State) (mode : m
       second false is d other there = subst (λ p. IsServed m b v.kernel p write) (sym (last_is r short.0)) (d.0 (subst (Contains ((r.at / 4096) ∷ ps)) (last_is r short.0) there))
 
   -- the entries of a range at the end of the translations
-  record HasRange (last : Space) (write : Bool) (r : Range) : Type 0 where
-    fits : r.at + r.len ≤ 2 ^ 32
-    above : v.kernel ≡ true → 0x11000000 ≤ r.at
-    first : ℕ
-    has_first : HasEntry v.kernel (wp_of b) last.set write (r.at / 4096) first
-    free_first : IsFree m b v.kernel false (r.at / 4096) first
-    last_frame : ℕ
-    has_last : HasEntry v.kernel (wp_of b) last.set write ((r.at + r.len - 1) / 4096) last_frame
-    free_last : IsFree m b v.kernel false ((r.at + r.len - 1) / 4096) last_frame
+  pub record HasRange (last : Space) (write : Bool) (r : Range) : Type 0 where
+    pub fits : r.at + r.len ≤ 2 ^ 32
+    pub above : v.kernel ≡ true → 0x11000000 ≤ r.at
+    pub first : ℕ
+    pub has_first : HasEntry v.kernel (wp_of b) last.set write (r.at / 4096) first
+    pub free_first : IsFree m b v.kernel false (r.at / 4096) first
+    pub last_frame : ℕ
+    pub has_last : HasEntry v.kernel (wp_of b) last.set write ((r.at + r.len - 1) / 4096) last_frame
+    pub free_last : IsFree m b v.kernel false ((r.at + r.len - 1) / 4096) last_frame
 
   above_of : (s : Space) → IsWithin m b v.kernel s → (write : Bool) (at : ℕ) → window_stop s.mode (record { write = write; user = not v.kernel }) at ≡ None → v.kernel ≡ true → 0x11000000 ≤ at
   above_of s h write at e = window_above v.kernel at (ap (λ (x : Mode). window_stop x (record { write = write; user = not v.kernel }) at) (sym h.mode) ∙ e)
@@ -242,7 +243,7 @@ module _ (flags : UserFlagsAgree) (m : Setting) (v : View) (b : State) (mode : m
     free_last = g.free_last;
   }
 
-  HasRanges : Space → Bool → Option Range → Type 0
+  unfoldable pub HasRanges : Space → Bool → Option Range → Type 0
   HasRanges last write None = Unit {0}
   HasRanges last write (Some r) = HasRange last write r
 
@@ -304,7 +305,7 @@ module _ (flags : UserFlagsAgree) (m : Setting) (v : View) (b : State) (mode : m
     abbrev writes : Option Range
     writes = (ranges_of insn b.cpu.regs).write
 
-    short : IsShort reads × IsShort writes
+    pub short : IsShort reads × IsShort writes
     short = ranges_short insn b.cpu.regs
 
     fetch_is : fetched (not v.kernel) b.cpu.regs.eip start ≡ Ok (begins.Insn insn len, fetch)
@@ -313,7 +314,7 @@ module _ (flags : UserFlagsAgree) (m : Setting) (v : View) (b : State) (mode : m
     all_clear : Clear [] (map (used false) fetch.went ++ (range_uses false reads ++ range_uses true writes))
     all_clear = subst (λ (u : Bool). AreClear b.set u (wp_of b) [] (uses_of fetch.went (ranges_of insn b.cpu.regs))) user clear
 
-    first : Began insn len fetch
+    pub first : Began insn len fetch
     first = began insn len fetch (range_uses false reads ++ range_uses true writes) fetch_is all_clear
 
     abbrev fetch_pages : List ℕ
@@ -334,17 +335,17 @@ module _ (flags : UserFlagsAgree) (m : Setting) (v : View) (b : State) (mode : m
     third : Ranged read_pages read write true writes
     third = ranged read_pages read write true writes second.through.within short.1 rest.1 t.write
 
-    whole : Through m b v.kernel fetch_pages fetch write
+    pub whole : Through m b v.kernel fetch_pages fetch write
     whole = through_on m b v.kernel fetch_pages read_pages fetch read write second.through third.through (before_after (range_uses false reads) fetch_pages)
 
     -- their entries at the end
     read_now : HasRanges read false reads
     read_now = has_now fetch_pages fetch read false reads first.within second
 
-    read_end : HasRanges write false reads
+    pub read_end : HasRanges write false reads
     read_end = has_later fetch_pages read write false reads short.0 read_now third.through
 
-    write_end : HasRanges write true writes
+    pub write_end : HasRanges write true writes
     write_end = has_now read_pages read write true writes second.through.within third
 
     -- ---- again
@@ -401,7 +402,7 @@ module _ (flags : UserFlagsAgree) (m : Setting) (v : View) (b : State) (mode : m
     unfolding byte_at place
     byte_read x e = ap (byte write.ram) e
 
-    bytes_same : (x : ℕ) → byte_by reads read write x ≡ byte_of (settled b write) x
+    pub bytes_same : (x : ℕ) → byte_by reads read write x ≡ byte_of (settled b write) x
     bytes_same x = choice (is_in reads x) refl
       where
         choice : (i : Bool) → is_in reads x ≡ i → cond i (byte_at (with_ram read write.ram) x) (byte_at write x) ≡ byte_of (settled b write) x
@@ -422,7 +423,7 @@ module _ (flags : UserFlagsAgree) (m : Setting) (v : View) (b : State) (mode : m
         choice true = again_byte (with_ram again_read.space again_write.space.ram) mixed x
         choice false = again_byte again_write.space again_write.at x
 
-    all : (P : ℕ → Type 0) (o : Option Range) → ((x : ℕ) → P x) → Covers P o
+    pub all : (P : ℕ → Type 0) (o : Option Range) → ((x : ℕ) → P x) → Covers P o
     all P None h = tt
     all P (Some r) h = λ j lt. h (r.at + j)
 
@@ -462,15 +463,24 @@ module _ (flags : UserFlagsAgree) (m : Setting) (v : View) (b : State) (mode : m
         by_test true g = ap (λ (o : Result). renoted others news o) g
         by_test false g = absurd cc
 
-    original : (regs : Regs) (stores : Stores) → effect_of v (settled b write) insn len ≡ outcomes.Done regs stores → stepped m b ≡ finish write.ram write.set write.went write.tables write.wrote regs stores
-    original regs stores e =
+    -- the effect over the step's bytes is that over the bytes of the state that is left
+    same_effect : user_effect (selectors_of v) insn len b.cpu.regs (byte_by reads read write) ≡ effect_of v (settled b write) insn len
+    same_effect =
+        user_same (byte_by reads read write) (byte_of (settled b write)) (selectors_of v) insn len b.cpu.regs first.shape
+        (all (λ x. byte_by reads read write x ≡ byte_of (settled b write) x) reads bytes_same) (all (λ x. byte_by reads read write x ≡ byte_of (settled b write) x) writes bytes_same)
+
+    pub outcome : stepped m b ≡ after_instruction m (unheld b) (begun b insn) (done_by (unheld b).cpu write (effect_of v (settled b write) insn len))
+    outcome =
         stepped_by m v.kernel b sees.level next
         ∙ ap (after_fetch m (unheld b)) t.fetched
         ∙ by_op_is m insn.op (unheld b) insn len fetch soft
         ∙ instructed_is m (unheld b) (begun b insn) flags (selectors_of v) (unheld b).cpu (selects_by v b.cpu sees) fetch read write insn len user_held first.shape t.permitted (record { free = t.segments; read = t.read; write = t.write })
-        ∙ ap (λ (o : exec.Outcome). after_instruction m (unheld b) (begun b insn) (done_by (unheld b).cpu write o))
-        (user_same (byte_by reads read write) (byte_of (settled b write)) (selectors_of v) insn len b.cpu.regs first.shape
-        (all (λ x. byte_by reads read write x ≡ byte_of (settled b write) x) reads bytes_same) (all (λ x. byte_by reads read write x ≡ byte_of (settled b write) x) writes bytes_same) ∙ e)
+        ∙ ap (λ (o : exec.Outcome). after_instruction m (unheld b) (begun b insn) (done_by (unheld b).cpu write o)) same_effect
+
+    original : (regs : Regs) (stores : Stores) → effect_of v (settled b write) insn len ≡ outcomes.Done regs stores → stepped m b ≡ finish write.ram write.set write.went write.tables write.wrote regs stores
+    original regs stores e =
+        outcome
+        ∙ ap (λ (o : exec.Outcome). after_instruction m (unheld b) (begun b insn) (done_by (unheld b).cpu write o)) e
         ∙ finished_is write regs stores
 
     next_again : IsNext m v.kernel (settled b write)

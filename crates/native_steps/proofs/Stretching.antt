@@ -1,6 +1,5 @@
 -- A run of the host, one instruction behind the other.
-use Rattle.std.proofs.Common.{◌≡◌, ℕ, zero, suc, ◌+◌, ◌-◌, ◌*◌, ◌%◌, ◌^◌, ◌≤◌, ◌<◌, List, [], ◌∷◌, ◌++◌, length, replicate, drop, Bool, true, false, cond, ◌&&◌, Option, Some, None, Ok, Err, refl, sym, ap, subst, ◌∙◌, inl, arith}
-use Rattle.std.specs.Prelude.{slice_index_or}
+use Rattle.std.proofs.Common.{◌≡◌, ℕ, zero, suc, ◌+◌, ◌-◌, ◌*◌, ◌%◌, ◌^◌, ◌≤◌, List, [], ◌∷◌, ◌++◌, length, replicate, Bool, true, Option, Some, None, Ok, Err, refl, sym, ap, subst, ◌∙◌, inl, arith}
 use Rattle.std.specs.List.{All}
 use Rattle.ia32_types.specs.declared.flags.Regs.{Regs}
 use Rattle.paging.specs.Fresh.{has}
@@ -19,14 +18,14 @@ use Rattle.host_cpl3.specs.HostStep.{host_step}
 use Rattle.host_cpl3.specs.HostRun.{Standing, counted, after_step, host_run}
 use Rattle.host_cpl3.specs.Borders.{BeginsBelow, EntersTheWindow, ExitsInTheWindow}
 use Rattle.machine_model.specs.State.{Setting, State, Loosened}
-use Rattle.machine_model.specs.Step.{Report, Completed as Whole, Went, stepped, step_of}
+use Rattle.machine_model.specs.Step.{Report, Went, step_of}
 use Rattle.machine_model.specs.Run.{Set, Steps, trace_of}
-use Rattle.machine_model.specs.Counts.{is_direct, direct_in, direct_addresses, direct_count, passed_on, passed_digest}
+use Rattle.machine_model.specs.Counts.{is_direct, direct_in, direct_addresses, passed_on}
 use Rattle.native_steps.specs.Lends.{Lends, AreKept}
 use Rattle.native_steps.specs.Stands.{IsWedge, Stands}
 use Rattle.native_steps.specs.Behind.{AreBehind, LendsStill}
 use Rattle.native_steps.specs.Forward.{wp_of, IsEntrance, IsNext, Follows, Forward, NotEntered, AtSites}
-use Rattle.native_steps.specs.Stretch.{Abreast, board_now, AreQuiet, board_after, EndsAs, Stretched, Stretch}
+use Rattle.native_steps.specs.Stretch.{Abreast, board_now, AreQuiet, EndsAs, Stretched}
 use Rattle.native_steps.proofs.Choices.{chosen, both, clash}
 use Rattle.native_steps.proofs.Completing.{no_window}
 use Rattle.native_steps.proofs.Quiet.{IsLater, quiet_on, board_on}

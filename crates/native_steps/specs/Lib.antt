@@ -7,3 +7,4 @@ pub mod Again
 pub mod Behind
 pub mod Stretch
 pub mod TextLaws
+pub mod Granted

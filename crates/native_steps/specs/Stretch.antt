@@ -1,6 +1,6 @@
 -- A stretch: instructions that the host completes one behind the other are as many steps of the guest, each with the
 -- translations that are there.
-use Rattle.std.specs.Prelude.{◌≡◌, ℕ, zero, suc, ◌+◌, ◌-◌, ◌*◌, ◌≤◌, false, true, List, [], length, replicate, drop, Some, None}
+use Rattle.std.specs.Prelude.{◌≡◌, ℕ, zero, suc, ◌+◌, ◌*◌, ◌≤◌, false, true, List, [], length, replicate, drop, Some, None}
 use Rattle.std.specs.List.{All}
 use Rattle.board.specs.declared.devices.Board.{Board}
 use Rattle.board.specs.Boards.{given, board_steps, comes_within}

@@ -2,9 +2,11 @@
 //! what the guest's step uses and the host's tables lend, the host completes. All over definitions.
 #![tactic(auto)]
 
+mod granted;
 mod laws;
 mod texts;
 
+pub use granted::grants;
 pub use laws::{
     at_sites, backward, forward, lends_still, native_completes, not_entered, steps_again, stretch,
 };
