@@ -8,3 +8,4 @@ pub mod Slices
 pub mod Stepping
 pub mod Starts
 pub mod Promises
+pub mod Attempts

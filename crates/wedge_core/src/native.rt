@@ -1,5 +1,17 @@
 //! One step whose instruction the host does, where it is done.
 
+ghost use Rattle.std.specs.Prelude.{◌≡◌, ℕ, ◌+◌, ◌*◌, ◌/◌, ◌%◌, ◌==◌, ◌≤◌, ◌<◌, ◌^◌, length, true, false, take, Ok, OnOk};
+ghost use Rattle.frame_pool.specs.Pool.{free_list};
+ghost use Rattle.frame_pool.specs.Held.{Moves};
+ghost use Rattle.image_check.specs.Image.{Image};
+ghost use Rattle.board.specs.Scripts.{Events};
+ghost use Rattle.machine_model.specs.State.{wedge};
+ghost use Rattle.wedge_core.specs.Attempts.{is_native, AttemptAs, WhereAsked, WhereWent};
+ghost use Rattle.wedge_core.specs.Parts.{IsPartOf};
+ghost use Rattle.wedge_core.specs.Pools.{Keeps};
+ghost use Rattle.wedge_core.specs.Standing.{IsHeld, IsAble, ground, set_of, state_of};
+ghost use Rattle.wedge_core.specs.Views.{may_run, view_by};
+
 use crate::clash::clashes;
 use crate::running::Running;
 use crate::single::{NOT_YET, go, keep, original, text_frames};
@@ -30,7 +42,9 @@ const ROOM: u32 = 8;
 
 /// The instruction is one that the host does by itself: at level 0 an insensitive one, at level 3 any that needs neither
 /// a higher level nor a descriptor.
-fn is_native(insn: &Insn, cpu: &Cpu) -> bool {
+fn is_native(insn: &Insn, cpu: &Cpu) -> bool
+    ensures { result ≡ is_native (cpu.now.cpl == 3) insn.now.op }
+{
     match insn.op {
         Op::Int | Op::Int3 => false,
         Op::PushFlags
@@ -50,7 +64,22 @@ pub fn begin_native<S: Shadows + Drop>(
     pool: &mut Pool,
     ram: &mut Ram,
     image: &Checked,
-) -> Result<Attempt, Stop> {
+) -> Result<Attempt, Stop>
+    requires held { IsHeld S.stands S.frames S.slots (ground image.now running.old.frames) running.old pool.old ram.old }
+    requires able { IsAble running.old.cpu }
+    requires runs { may_run running.old.cpu running.old.board image.now ≡ true }
+    requires bound { running.old.step < 2 ^ 40 }
+    requires enough { 16 ≤ length (free_list pool.old ram.old) + running.old.held }
+    ensures step { (script : Events) → AttemptAs (wedge image.now script running.old.frames) (view_by (S.directory running.new.shadows) running.old.cpu)
+        (state_of S.stands S.frames S.slots (wedge image.now script running.old.frames) running.old ram.old) result
+        (state_of S.stands S.frames S.slots (wedge image.now script running.old.frames) running.new ram.new) ram.new }
+    ensures held { OnOk result (IsHeld S.stands S.frames S.slots (ground image.now running.old.frames) (record running.new { step = running.old.step + 1 }) pool.new ram.new) }
+    ensures count { WhereWent result (running.new.step ≡ running.old.step + 1) }
+    ensures asked { WhereAsked result (running.new ≡ record running.old { shadows = running.new.shadows; held = running.new.held; fills = running.new.fills }) }
+    ensures stands { ∥ S.stands running.new.shadows ram.new ∥₁ }
+    ensures pool { Keeps pool.old pool.new ram.old ram.new (S.frames running.old.shadows ram.old) (S.frames running.new.shadows ram.new) }
+    ensures frames { running.new.frames ≡ running.old.frames }
+{
     make_room(running, pool, ram);
     let text = Some(original(image));
     let guard = Guard {
@@ -78,7 +107,16 @@ pub fn begin_native<S: Shadows + Drop>(
 }
 
 /// All translations leave before a step for whose pages frames may lack, or which clashes.
-fn make_room<S: Shadows + Drop>(running: &mut Running<S>, pool: &mut Pool, ram: &mut Ram) {
+fn make_room<S: Shadows + Drop>(running: &mut Running<S>, pool: &mut Pool, ram: &mut Ram)
+    requires held { (image : Image) × IsHeld S.stands S.frames S.slots (ground image running.old.frames) running.old pool.old ram.old }
+    requires enough { 16 ≤ length (free_list pool.old ram.old) + running.old.held }
+    ensures held { (image : Image) → IsHeld S.stands S.frames S.slots (ground image running.old.frames) running.old pool.old ram.old → IsHeld S.stands S.frames S.slots (ground image running.old.frames) running.new pool.new ram.new }
+    ensures part { IsPartOf (set_of S.stands S.frames S.slots running.new ram.new) (set_of S.stands S.frames S.slots running.old ram.old) }
+    ensures room { 8 ≤ length (free_list pool.new ram.new) }
+    ensures same { running.new ≡ record running.old { shadows = running.new.shadows; held = running.new.held } }
+    ensures guest { take (4096 * running.old.frames) ram.new ≡ take (4096 * running.old.frames) ram.old }
+    ensures moves { Moves pool.old pool.new ram.old ram.new (S.frames running.old.shadows ram.old) (S.frames running.new.shadows ram.new) }
+{
     let few = pool.free() < ROOM;
     if few || clashes(&running.cpu, running.frames, &running.shadows, ram) {
         let free = pool.free() + running.held;
