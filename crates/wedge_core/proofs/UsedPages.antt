@@ -1,5 +1,5 @@
 -- How many pages a step may have used.
-use Rattle.std.proofs.Common.{◌≡◌, ℕ, ◌+◌, ◌≤◌, ◌<◌, List, [], ◌∷◌, ◌++◌, length, length-append, take, take-suc, get_or, add-one, map, Bool, true, false, ◌&&◌, ◌||◌, not, cond, ◌⊎◌, inl, inr, refl, sym, ap, ◌∙◌, arith}
+use Rattle.std.proofs.Common.{◌≡◌, ℕ, zero, suc, ◌==◌, ◌+◌, ◌≤◌, ◌<◌, List, [], ◌∷◌, ◌++◌, length, length-append, take, take-suc, get_or, add-one, map, Bool, true, false, ◌&&◌, ◌||◌, not, cond, ◌⊎◌, inl, inr, refl, sym, ap, ◌∙◌, arith}
 use Rattle.std.proofs.lemmas.List.{take_all, length-map}
 use Rattle.std.proofs.lemmas.Bool.Decides.{eqb_tells}
 use Rattle.step_mem.specs.declared.changes.Change.{Change}
@@ -47,3 +47,16 @@ each_all test xs i l all x h = all x (ap (is_among x) (take_all i xs l) ∙ h)
 
 pub each_none : (test : ℕ → Bool) (xs : List ℕ) → (x : ℕ) → is_among x (take 0 xs) ≡ true → test x ≡ true
 each_none test xs x h = absurd (let z : false ≡ true = h in cc)
+
+-- the page at an index is one of them
+pub among_at : (xs : List ℕ) (i : ℕ) → i < length xs → is_among (get_or xs i 0) xs ≡ true
+among_at [] i l = absurd (omega (arith, l))
+among_at (x ∷ xs) zero l = ap (λ b. b || is_among x xs) (same x)
+  where
+    same : (n : ℕ) → (n == n) ≡ true
+    same n = elim (eqb_tells n n) [ inl t ↦ t.0 | inr n ↦ absurd (n.1 refl) ]
+among_at (x ∷ xs) (suc i) l = ap (λ b. (get_or xs i 0 == x) || b) (among_at xs i (omega (arith, l))) ∙ or_true (get_or xs i 0 == x)
+  where
+    or_true : (b : Bool) → (b || true) ≡ true
+    or_true true = refl
+    or_true false = refl

@@ -8,4 +8,5 @@ pub mod Slices
 pub mod Stepping
 pub mod Starts
 pub mod Promises
+pub mod Closed
 pub mod Attempts

@@ -9,6 +9,8 @@ ghost use Rattle.shadow_tables.specs.Entries.{entries_of};
 ghost use Rattle.step_mem.specs.Changes.{changed};
 ghost use Rattle.step_mem.specs.Sound.{IsSound};
 ghost use Rattle.machine_step.specs.Worked.{dropping, IsDropped};
+ghost use Rattle.wedge_mem.specs.Settled.{pages_of};
+ghost use Rattle.wedge_core.specs.Closed.{MayClose, Closes};
 ghost use Rattle.wedge_core.specs.Parts.{IsPartOf};
 ghost use Rattle.wedge_core.specs.Standing.{AreOpen, wp_of};
 
@@ -36,6 +38,8 @@ pub fn close<S: Shadows>(
     ensures moves { Moves pool.old pool.new ram.old ram.new (S.frames shadows.old ram.old) (S.frames shadows.new ram.new) }
     ensures part { IsPartOf (entries_of (S.slots shadows.new ram.new)) (changed (entries_of (S.slots shadows.old ram.old)) state.now.changes) }
     ensures shows { (image : Image) → count ≡ text_pages image → AreOpen image state.now.control.wp (S.slots shadows.old ram.old) → AreOpen image state.now.control.wp (S.slots shadows.new ram.new) }
+    ensures whole { MayClose count side (changed (entries_of (S.slots shadows.old ram.old)) state.now.changes) (pages_of state.now.went state.now.changes) (length (free_list pool.old ram.old))
+        → Closes (S.slots shadows.old ram.old) (S.slots shadows.new ram.new) (changed (entries_of (S.slots shadows.old ram.old)) state.now.changes) (pages_of state.now.went state.now.changes) side state.now.control.wp (S.tracked shadows.new) state.now.wrote }
     ensures few { result ≤ 128 }
 {
     if !are_open(shadows, ram, state, side, count) {

@@ -1,6 +1,7 @@
 //! One step whose instruction the host does, where it is done.
 
 ghost use Rattle.std.specs.Prelude.{◌≡◌, ℕ, ◌+◌, ◌*◌, ◌/◌, ◌%◌, ◌==◌, ◌≤◌, ◌<◌, ◌^◌, length, true, false, take, Ok, OnOk};
+ghost use Rattle.std.specs.FinMap.{empty};
 ghost use Rattle.frame_pool.specs.Pool.{free_list};
 ghost use Rattle.frame_pool.specs.Held.{Moves};
 ghost use Rattle.image_check.specs.Image.{Image};
@@ -119,10 +120,23 @@ fn make_room<S: Shadows + Drop>(running: &mut Running<S>, pool: &mut Pool, ram: 
 {
     let few = pool.free() < ROOM;
     if few || clashes(&running.cpu, running.frames, &running.shadows, ram) {
-        let free = pool.free() + running.held;
-        running.shadows.drop_all(ram, pool);
-        running.held = free - pool.free();
+        drop_kept(running, pool, ram);
     }
+}
+
+/// All translations leave, and with them all frames but two.
+fn drop_kept<S: Shadows + Drop>(running: &mut Running<S>, pool: &mut Pool, ram: &mut Ram)
+    requires held { (image : Image) × IsHeld S.stands S.frames S.slots (ground image running.old.frames) running.old pool.old ram.old }
+    ensures held { (image : Image) → IsHeld S.stands S.frames S.slots (ground image running.old.frames) running.old pool.old ram.old → IsHeld S.stands S.frames S.slots (ground image running.old.frames) running.new pool.new ram.new }
+    ensures none { set_of S.stands S.frames S.slots running.new ram.new ≡ empty }
+    ensures room { length (free_list pool.new ram.new) + 2 ≡ length (free_list pool.old ram.old) + running.old.held }
+    ensures same { running.new ≡ record running.old { shadows = running.new.shadows; held = running.new.held } }
+    ensures guest { take (4096 * running.old.frames) ram.new ≡ take (4096 * running.old.frames) ram.old }
+    ensures moves { Moves pool.old pool.new ram.old ram.new (S.frames running.old.shadows ram.old) (S.frames running.new.shadows ram.new) }
+{
+    let free = pool.free() + running.held;
+    running.shadows.drop_all(ram, pool);
+    running.held = free - pool.free();
 }
 
 /// Fetches the instruction. None where the host is to do it: its ranges are translated, and its effect is done.

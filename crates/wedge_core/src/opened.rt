@@ -1,6 +1,6 @@
 //! Which of a step's pages a view may show.
 
-ghost use Rattle.std.specs.Prelude.{◌≡◌, ℕ, ◌+◌, ◌≤◌, ◌&&◌, length, true, nat_le, nat_lt};
+ghost use Rattle.std.specs.Prelude.{◌≡◌, ℕ, ◌+◌, ◌≤◌, ◌&&◌, length, true, false, nat_le, nat_lt};
 ghost use Rattle.std.specs.FinMap.{get};
 ghost use Rattle.std.specs.Option.{ForSome};
 ghost use Rattle.paging.specs.declared.entry.Entry.{Entry as Translation};
@@ -68,8 +68,10 @@ fn is_entry_open(count: u32, side: Side, entry: Option<Entry>) -> bool
 pub fn are_open<S: Shadows>(shadows: &S, ram: &Ram, state: &State, side: Side, count: u32) -> bool
     requires stands { ∥ S.stands shadows.now ram.now ∥₁ }
     requires few { length state.now.went + length state.now.changes ≤ 128 }
-    ensures { result ≡ true → (page : ℕ) → is_among page (pages_of state.now.went state.now.changes) ≡ true
+    ensures opened { result ≡ true → (page : ℕ) → is_among page (pages_of state.now.went state.now.changes) ≡ true
         → is_entry_open count side (get (changed (entries_of (S.slots shadows.now ram.now)) state.now.changes) page) ≡ true }
+    ensures barred { result ≡ false → (page : ℕ) × (is_among page (pages_of state.now.went state.now.changes) ≡ true)
+        × (is_entry_open count side (get (changed (entries_of (S.slots shadows.now ram.now)) state.now.changes) page) ≡ false) }
 {
     let pages = pages_of(state);
     for page in pages.as_slice() {

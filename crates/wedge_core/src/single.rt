@@ -13,6 +13,8 @@ ghost use Rattle.step_mem.specs.Changes.{changed};
 ghost use Rattle.step_mem.specs.Sound.{IsSound};
 ghost use Rattle.machine_step.specs.Worked.{dropping, IsDropped};
 ghost use Rattle.machine_model.specs.State.{wedge};
+ghost use Rattle.wedge_mem.specs.Settled.{pages_of};
+ghost use Rattle.wedge_core.specs.Closed.{MayClose, Closes};
 ghost use Rattle.wedge_core.specs.Parts.{IsPartOf};
 ghost use Rattle.wedge_core.specs.Standing.{AreOpen, IsHeld, ground, side_of, state_of, wp_of};
 ghost use Rattle.wedge_core.specs.Stepping.{AloneAs};
@@ -122,6 +124,9 @@ pub fn keep<S: Shadows + Drop>(
     ensures moves { Moves pool.old pool.new ram.old ram.new (S.frames running.old.shadows ram.old) (S.frames running.new.shadows ram.new) }
     ensures part { IsPartOf (entries_of (S.slots running.new.shadows ram.new)) (changed (entries_of (S.slots running.old.shadows ram.old)) state.now.changes) }
     ensures shows { (image : Image) → count ≡ text_pages image → AreOpen image state.now.control.wp (S.slots running.old.shadows ram.old) → AreOpen image state.now.control.wp (S.slots running.new.shadows ram.new) }
+    ensures whole { MayClose count (side_of (running.old.cpu.cpl == 3)) (changed (entries_of (S.slots running.old.shadows ram.old)) state.now.changes) (pages_of state.now.went state.now.changes) (length (free_list pool.old ram.old))
+        → Closes (S.slots running.old.shadows ram.old) (S.slots running.new.shadows ram.new) (changed (entries_of (S.slots running.old.shadows ram.old)) state.now.changes) (pages_of state.now.went state.now.changes)
+        (side_of (running.old.cpu.cpl == 3)) state.now.control.wp (S.tracked running.new.shadows) state.now.wrote }
     ensures counted { running.new.held ≡ length (S.frames running.new.shadows ram.new) }
     ensures fills { running.new.fills ≤ running.old.fills + 128 }
     ensures same { running.new ≡ record running.old { shadows = running.new.shadows; held = running.new.held; fills = running.new.fills } }

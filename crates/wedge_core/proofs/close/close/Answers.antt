@@ -1,4 +1,4 @@
-use Rattle.std.proofs.Common.{◌≡◌, ℕ, ◌+◌, ◌≤◌, ◌<◌, true, length, refl, sym, ap, subst, ◌∙◌, arith}
+use Rattle.std.proofs.Common.{◌≡◌, ℕ, ◌+◌, ◌≤◌, ◌<◌, true, false, length, refl, sym, ap, subst, ◌∙◌, arith}
 use Rattle.std.specs.FinMap.{get}
 use Rattle.image_load.specs.Boot.{text_pages}
 use Rattle.wedge_mem.specs.Owned.{first, owns}
@@ -33,7 +33,7 @@ returns-in-Some-clause-part g c = part_same _ _ c.in-Some.ensures.entries
 
 pub returns-in-Some-clause-shows : goal.returns-in-Some-clause-shows
 returns-in-Some-clause-shows g c = λ image is h.
-    let tested = c.are_open.ensures c.if-not-are_open.false in
+    let tested = c.are_open.ensures.opened c.if-not-are_open.false in
     settled_open image c.args.state.now.control.wp _ _ (changed (entries_of (g.S.Shadows.slots c.args.shadows.now c.args.ram.now)) c.args.state.now.changes) (pages_of c.args.state.now.went c.args.state.now.changes) c.args.side _
     c.in-Some.ensures.kept
     (λ page e. subst (λ (count : ℕ). is_entry_open count c.args.side (get (changed (entries_of (g.S.Shadows.slots c.args.shadows.now c.args.ram.now)) c.args.state.now.changes) page) ≡ true) is (tested page e)) h
@@ -56,3 +56,14 @@ drop_all-requires-clause-stands g c = first c.requires.sound.stands_now
 
 pub drop_all-requires-clause-owns : goal.drop_all-requires-clause-owns
 drop_all-requires-clause-owns g c = owns c.requires.sound.stands_now
+
+pub returns-then-not-are_open-clause-whole : goal.returns-then-not-are_open-clause-whole
+returns-then-not-are_open-clause-whole g c = λ may.
+    let page = c.are_open.ensures.barred c.if-not-are_open.true in
+    absurd (let f : true ≡ false = sym (may.open_to page.0 page.1.0) ∙ page.1.1 in cc)
+
+pub returns-in-None-clause-whole : goal.returns-in-None-clause-whole
+returns-in-None-clause-whole g c = λ may. let room = may.room in let few = c.in-None.ensures.count in absurd (omega (arith, room, few))
+
+pub returns-in-Some-clause-whole : goal.returns-in-Some-clause-whole
+returns-in-Some-clause-whole g c = λ may. record { settles = c.in-Some.ensures.kept; untracked = c.in-Some.ensures.untracked; entries = c.in-Some.ensures.entries }
