@@ -60,10 +60,10 @@ drop_all-requires-clause-owns g c = owns c.requires.sound.stands_now
 pub returns-then-not-are_open-clause-whole : goal.returns-then-not-are_open-clause-whole
 returns-then-not-are_open-clause-whole g c = λ may.
     let page = c.are_open.ensures.barred c.if-not-are_open.true in
-    absurd (let f : true ≡ false = sym (may.open_to page.0 page.1.0) ∙ page.1.1 in cc)
+    absurd (let f : true ≡ false = sym (may.open_to page.0 page.1) ∙ page.2 in cc)
 
 pub returns-in-None-clause-whole : goal.returns-in-None-clause-whole
 returns-in-None-clause-whole g c = λ may. let room = may.room in let few = c.in-None.ensures.count in absurd (omega (arith, room, few))
 
 pub returns-in-Some-clause-whole : goal.returns-in-Some-clause-whole
-returns-in-Some-clause-whole g c = λ may. record { settles = c.in-Some.ensures.kept; untracked = c.in-Some.ensures.untracked; entries = c.in-Some.ensures.entries }
+returns-in-Some-clause-whole g c = λ may. record { settles = c.in-Some.ensures.kept; untracked = c.in-Some.ensures.untracked refl; entries = c.in-Some.ensures.entries }
