@@ -9,3 +9,4 @@ pub mod Lending
 pub mod Seeing
 pub mod Patches
 pub mod Resting
+pub mod Reaching
