@@ -27,12 +27,14 @@ use Rattle.native_steps.specs.Forward.{wp_of, IsNext}
 use Rattle.native_steps.specs.Backward.{IsTranslated}
 use Rattle.native_steps.specs.Again.{settled, AreWithin}
 
--- The page has an entry that lets the access pass, and leads where this side's view may lead. A write's frame was noted.
+-- The step went through the page, whose entry lets the access pass and leads where this side's view may lead. A write's
+-- frame was noted.
 pub record IsGranted (image : Image) (kernel wp : Bool) (s : Space) (write : Bool) (page : ℕ) : Type 0 where
   pub entry : Entry
   pub kept : get s.set page ≡ Some entry
   pub allowed : allows entry (record { write = write; user = not kernel }) wp ≡ true
   pub is_open : IsOpen kernel image page entry.frame
+  pub through : Contains s.went page
   pub told : write ≡ true → Contains s.wrote entry.frame
 
 abbrev pub IsRangeGranted : Image → Bool → Bool → Space → Bool → Option Range → Type 0
