@@ -12,13 +12,18 @@ use Rattle.shadow_tables.specs.Host.{lent, frame_below}
 use Rattle.shadow_tables.specs.Slots.{Slot, filled, is_among, is_side, is_user, is_adequate, permits}
 use Rattle.shadow_tables.specs.declared.words.Side.{Side}
 use Rattle.shadow_tables.specs.declared.words.Side.TheVariants.{Kernel, User}
+use Rattle.ia32_exec.specs.declared.access.Range.{Range}
+use Rattle.ia32_exec.specs.declared.access.Ranges.{Ranges}
+use Rattle.host_cpl3.specs.Access.{last_page}
+use Rattle.std.proofs.lemmas.Bool.{cases_lt}
 use Rattle.image_check.specs.Image.{Image}
 use Rattle.machine_model.specs.Run.{Set}
-use Rattle.native_steps.specs.Backward.{IsReached}
-use Rattle.native_steps.specs.Granted.{IsGranted}
+use Rattle.native_steps.specs.Backward.{IsReached, IsRangeReached, AreReached}
+use Rattle.native_steps.specs.Granted.{IsGranted, IsRangeGranted, AreGranted}
 use Rattle.wedge_mem.specs.Settled.{filled_by}
 use Rattle.wedge_core.specs.Closed.{Closes}
 use Rattle.wedge_core.specs.Standing.{is_kernel}
+use Rattle.wedge_core.proofs.Bools.{none_some}
 
 user_is : (side : Side) → not (is_kernel side) ≡ is_user side
 user_is Kernel = refl
@@ -71,3 +76,27 @@ reached_now image side wp s old new pages tracked memory root page write closes 
       ∙ ap (λ b. cond b (frame_below (length memory / 4096) g.entry.frame) None) adequate
       ∙ leads_there (length memory / 4096) g.entry.frame (within g.entry g.kept),
     )
+
+-- all pages that the instruction uses
+module _ (image : Image) (side : Side) (wp : Bool) (s : Space) (old new : ℕ → Option Slot) (pages tracked : List ℕ) (memory : List ℕ) (root : ℕ) (closes : Closes old new s.set pages side wp tracked s.wrote)
+    (through : (page : ℕ) → Contains s.went page → is_among page pages ≡ true) (beyond : (page : ℕ) → 2 ^ 20 ≤ page → get s.set page ≡ None)
+    (host : (page : ℕ) (write : Bool) → page < 2 ^ 20 → reached memory (length memory / 4096) root page write ≡ lent (length memory / 4096) (new page) side write)
+    (within : (page : ℕ) (entry : Entry) → get s.set page ≡ Some entry → entry.frame < length memory / 4096)
+  where
+  page_reached : (page : ℕ) (write : Bool) → IsGranted image (is_kernel side) wp s write page → IsReached memory root write page
+  page_reached page write g =
+      elim (cases_lt page (2 ^ 20)) [
+        | inl small ↦ reached_now image side wp s old new pages tracked memory root page write closes small (through page g.through) (host page write small) (within page) g
+        | inr high ↦ absurd (none_some g.entry (sym (beyond page high) ∙ g.kept))
+      ]
+
+  range_reached : (write : Bool) (o : Option Range) → IsRangeGranted image (is_kernel side) wp s write o → IsRangeReached memory root write o
+  range_reached write None h = tt
+  range_reached write (Some r) h = (page_reached (r.at / 4096) write h.0, page_reached (last_page r) write h.1)
+
+  pub all_reached : (fetch : List ℕ) (ranges : Ranges) → AreGranted image (is_kernel side) wp s fetch ranges → AreReached memory root fetch ranges
+  all_reached fetch ranges g = record {
+    fetch = λ page c. page_reached page false (g.fetch page c);
+    read = range_reached false ranges.read g.read;
+    write = range_reached true ranges.write g.write;
+  }
