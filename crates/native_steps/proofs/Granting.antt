@@ -41,6 +41,7 @@ use Rattle.native_steps.proofs.Same.{user_same}
 use Rattle.native_steps.proofs.Uses.{reaching_earlier, went_by, range_went}
 use Rattle.native_steps.proofs.Wrote.{Wrote, range_wrote}
 use Rattle.native_steps.proofs.Together.{level_user}
+use Rattle.native_steps.proofs.WentPages.{went_of}
 use Rattle.native_steps.proofs.Repeated as again
 
 -- ---- where a page that isn't barred may lead
@@ -144,7 +145,7 @@ module _ (flags : UserFlagsAgree) (m : Setting) (v : View) (b : State) (mode : m
     next_is : next_page b.cpu.regs.eip / 4096 ≡ b.cpu.regs.eip / 4096 + 1
     next_is = omega arith
 
-    by_way : (y : Way (Fetches m (settled b write) v.kernel) write.ram b.cpu.regs.eip insn len) (page : ℕ) → Contains (again.went_of b.cpu.regs.eip y) page → Contains write.went page → Granted false page
+    by_way : (y : Way (Fetches m (settled b write) v.kernel) write.ram b.cpu.regs.eip insn len) (page : ℕ) → Contains (went_of b.cpu.regs.eip y) page → Contains write.went page → Granted false page
     by_way (inl w) page c there =
         elim (head_cases (b.cpu.regs.eip / 4096) [] page c) [
           | inl e ↦ subst (Granted false) e (fetched_page (b.cpu.regs.eip / 4096) w.frame w.page (subst (Contains write.went) (sym e) there))

@@ -26,6 +26,7 @@ pub mod Marks
 pub mod Walking
 pub mod Through
 pub mod Repeating
+pub mod WentPages
 pub mod Repeated
 pub mod Wrote
 pub mod Granting

@@ -23,7 +23,6 @@ use Rattle.ia32_exec.specs.Short.{IsShort}
 use Rattle.ia32_exec.specs.Commit.{list_of}
 use Rattle.ia32_exec.specs.UserEffect.{user_effect}
 use Rattle.ia32_exec.specs.Effect.{ranges_of}
-use Rattle.descriptors.specs.declared.cpu.Cpu.{Cpu}
 use Rattle.paging.specs.declared.entry.Entry.{Entry}
 use Rattle.paging.specs.Space.{Mode, Space, place, place_by, byte_at, with_ram}
 use Rattle.paging.specs.Uses.{window_stop}
@@ -48,55 +47,23 @@ use Rattle.native_steps.specs.Again.{AreWithin, settled, StepsAgain}
 use Rattle.native_steps.proofs.Clear.{Use, used, range_uses, uses_of, AreClear}
 use Rattle.native_steps.proofs.Choices.{is_false, clash, le_told, lt_told, both, eq_told}
 use Rattle.native_steps.proofs.Same.{user_same}
-use Rattle.native_steps.proofs.Pages.{At, Comes, HasEntry, IsFree, range_passes, reaching_comes, fetching_comes}
-use Rattle.native_steps.proofs.Ways.{front_at, Way}
+use Rattle.native_steps.proofs.Pages.{At, Comes, HasEntry, IsFree, range_passes, reaching_comes}
+use Rattle.native_steps.proofs.Ways.{Way}
 use Rattle.native_steps.proofs.Doing.{IsUser, IsPopFlags, instructed_is}
-use Rattle.native_steps.proofs.Uses.{window_above, range_went, went_by}
-use Rattle.native_steps.proofs.Fetching.{Fetches, IsFetch, IsIn, IsPast, fetch_parts, by_parts, fetching_went, fetched_comes, same_value}
+use Rattle.native_steps.proofs.Uses.{window_above}
+use Rattle.native_steps.proofs.Fetching.{Fetches, IsFetch, IsIn, IsPast, fetch_parts, by_parts, fetching_went, fetched_comes}
 use Rattle.native_steps.proofs.Stored.{stored_is}
 use Rattle.native_steps.proofs.Shaped.{decoded_shaped}
 use Rattle.native_steps.proofs.Walking.{IsWithin, IsServed}
 use Rattle.native_steps.proofs.Through.{Before, after, before_after, clear_split, within_as, Through, through_on, through_same, RangeThrough, range_through}
 use Rattle.native_steps.proofs.Repeating.{first_through, in_way, owns_in, across_way, left_is, left_in}
+use Rattle.native_steps.proofs.WentPages.{went_of, way_went, went_after, range_goes}
 use Rattle.native_steps.proofs.Together.{level_user, stepped_by, by_op_is, selects_by, without_rights, not_soft, no_pop}
 
 -- a result with other notes of walks and writes
 abbrev renoted : List ℕ → List ℕ → Result → Result
 renoted tables wrote (Went report b) = Went (record report { tables = tables; wrote = wrote }) b
 renoted tables wrote (Stands stop) = Stands stop
-
--- the pages of a fetch
-abbrev pub went_of : (eip : ℕ) {A B : Type 0} → A ⊎ B → List ℕ
-went_of eip (inl w) = (eip / 4096) ∷ []
-went_of eip (inr w) = (eip / 4096) ∷ (next_page eip / 4096) ∷ []
-
--- a fetch through these pages goes through these pages
-way_went : (m : Setting) (a : State) (kernel : Bool) (u w : Space) (eip : ℕ) (insn : Insn) (len : ℕ) → At m a u → u.went ≡ [] → (y : Way (Fetches m a kernel) a.ram eip insn len) → fetched (not kernel) eip u ≡ Ok (begins.Insn insn len, w) → w.went ≡ went_of eip y
-way_went m a kernel u w eip insn len h empty y e =
-    let p = fetch_parts (not kernel) eip insn len u w e in
-    by_way p (by_parts (not kernel) eip insn len p.front p.first w (decoded p.front) refl p.goes_on) y
-  where
-    first_went : (p : IsFetch (not kernel) eip insn len u w) → p.first.went ≡ (eip / 4096) ∷ []
-    first_went p = fetching_went (not kernel) eip (front_len eip) u p.front p.first p.reads ∙ ap (λ (l : List ℕ). l ++ (eip / 4096) ∷ []) empty
-
-    front_of : (p : IsFetch (not kernel) eip insn len u w) (frame : ℕ) → Fetches m a kernel (eip / 4096) frame → front_at a.ram frame eip ≡ p.front
-    front_of p frame f = let c = fetching_comes m a kernel u eip (front_len eip) frame h f.entry f.free in same_value (front_at a.ram frame eip) p.front c.space p.first (sym c.is ∙ p.reads)
-
-    by_way : (p : IsFetch (not kernel) eip insn len u w) → IsIn eip insn len p.front p.first w ⊎ IsPast (not kernel) eip insn len p.front p.first w → (z : Way (Fetches m a kernel) a.ram eip insn len) → w.went ≡ went_of eip z
-    by_way p (inl x) (inl z) = x.went ∙ first_went p
-    by_way p (inl x) (inr z) = absurd (let f : begins.Short ≡ begins.Insn insn len = sym z.cut ∙ ap decoded (front_of p z.frame z.page) ∙ x.is in cc)
-    by_way p (inr x) (inl z) = absurd (let f : begins.Short ≡ begins.Insn insn len = sym x.cut ∙ ap decoded (sym (front_of p z.frame z.page)) ∙ z.is in cc)
-    by_way p (inr x) (inr z) = x.on.went ∙ ap (λ (l : List ℕ). l ++ (next_page eip / 4096) ∷ []) (first_went p)
-
--- what a range adds
-went_after : List ℕ → Option Range → List ℕ
-went_after went None = went
-went_after went (Some r) = went_by went r.at r.len
-
-range_goes : (cpu : Cpu) (s t : Space) (write : Bool) (o : Option Range) → reached cpu write o s ≡ Ok (tt, t) → t.went ≡ went_after s.went o
-unfolding went_after
-range_goes cpu s t write None e = let p : ◌≡◌ {A = Unit {0} × Space} (tt, s) (tt, t) = cc in sym (ap (λ (q : Unit {0} × Space). q.1.went) p)
-range_goes cpu s t write (Some r) e = range_went s t r.at r.len (record { write = write; user = cpu.cpl == 3 }) e
 
 module _ (flags : UserFlagsAgree) (m : Setting) (v : View) (b : State) (mode : m.mode ≡ wedge_mode m.image) (room : 4096 * m.frames ≤ length b.ram) (fit : AreBytes b.ram) (sound : AreWithin m b.set) (sees : Sees v b.cpu) (next : IsNext m v.kernel b) (small : b.cpu.regs.eip < 2 ^ 32) where
   abbrev k : Bool

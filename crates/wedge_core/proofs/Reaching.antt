@@ -72,9 +72,9 @@ reached_now image side wp s old new pages tracked memory root page write closes 
     let adequate = lets_pass tracked side g.entry wp write allowed (λ w. closes.untracked g.entry.frame (among s.wrote g.entry.frame (g.told w))) in (
       g.entry.frame,
       host
-      ∙ ap (λ (o : Option Slot). lent (length memory / 4096) o side write) kept
-      ∙ ap (λ b. cond b (frame_below (length memory / 4096) g.entry.frame) None) adequate
-      ∙ leads_there (length memory / 4096) g.entry.frame (within g.entry g.kept),
+          ∙ ap (λ (o : Option Slot). lent (length memory / 4096) o side write) kept
+          ∙ ap (λ b. cond b (frame_below (length memory / 4096) g.entry.frame) None) adequate
+          ∙ leads_there (length memory / 4096) g.entry.frame (within g.entry g.kept),
     )
 
 -- all pages that the instruction uses
@@ -83,20 +83,20 @@ module _ (image : Image) (side : Side) (wp : Bool) (s : Space) (old new : ℕ �
     (host : (page : ℕ) (write : Bool) → page < 2 ^ 20 → reached memory (length memory / 4096) root page write ≡ lent (length memory / 4096) (new page) side write)
     (within : (page : ℕ) (entry : Entry) → get s.set page ≡ Some entry → entry.frame < length memory / 4096)
   where
-  page_reached : (page : ℕ) (write : Bool) → IsGranted image (is_kernel side) wp s write page → IsReached memory root write page
-  page_reached page write g =
-      elim (cases_lt page (2 ^ 20)) [
-        | inl small ↦ reached_now image side wp s old new pages tracked memory root page write closes small (through page g.through) (host page write small) (within page) g
-        | inr high ↦ absurd (none_some g.entry (sym (beyond page high) ∙ g.kept))
-      ]
+    page_reached : (page : ℕ) (write : Bool) → IsGranted image (is_kernel side) wp s write page → IsReached memory root write page
+    page_reached page write g =
+        elim (cases_lt page (2 ^ 20)) [
+          | inl small ↦ reached_now image side wp s old new pages tracked memory root page write closes small (through page g.through) (host page write small) (within page) g
+          | inr high ↦ absurd (none_some g.entry (sym (beyond page high) ∙ g.kept))
+        ]
 
-  range_reached : (write : Bool) (o : Option Range) → IsRangeGranted image (is_kernel side) wp s write o → IsRangeReached memory root write o
-  range_reached write None h = tt
-  range_reached write (Some r) h = (page_reached (r.at / 4096) write h.0, page_reached (last_page r) write h.1)
+    range_reached : (write : Bool) (o : Option Range) → IsRangeGranted image (is_kernel side) wp s write o → IsRangeReached memory root write o
+    range_reached write None h = tt
+    range_reached write (Some r) h = (page_reached (r.at / 4096) write h.0, page_reached (last_page r) write h.1)
 
-  pub all_reached : (fetch : List ℕ) (ranges : Ranges) → AreGranted image (is_kernel side) wp s fetch ranges → AreReached memory root fetch ranges
-  all_reached fetch ranges g = record {
-    fetch = λ page c. page_reached page false (g.fetch page c);
-    read = range_reached false ranges.read g.read;
-    write = range_reached true ranges.write g.write;
-  }
+    pub all_reached : (fetch : List ℕ) (ranges : Ranges) → AreGranted image (is_kernel side) wp s fetch ranges → AreReached memory root fetch ranges
+    all_reached fetch ranges g = record {
+      fetch = λ page c. page_reached page false (g.fetch page c);
+      read = range_reached false ranges.read g.read;
+      write = range_reached true ranges.write g.write;
+    }
