@@ -1,6 +1,6 @@
 -- Quotients and remainders, as numbers.
-use Rattle.std.proofs.Common.{◌≡◌, ℕ, ◌+◌, ◌-◌, ◌*◌, ◌/◌, ◌%◌, ◌^◌, ◌<◌, ◌≤◌, Bool, true, false, arith, refl, sym, ap, ◌∙◌, subst, inl, inr, ℤ, pos, negsuc, ◌≤ℤ◌, Option, Some, None, cond, eqb}
-use Rattle.std.specs.Prelude.{nat_lt, IfSome}
+use Rattle.std.proofs.Common.{◌≡◌, ℕ, ◌+◌, ◌-◌, ◌*◌, ◌/◌, ◌%◌, ◌^◌, ◌<◌, ◌≤◌, Bool, true, false, arith, refl, sym, ap, div-lt_iff_lt-mul, ◌∙◌, subst, inl, inr, ℤ, pos, negsuc, ◌≤ℤ◌, Option, Some, None, cond, eqb}
+use Rattle.std.specs.Prelude.{nat_lt, IfSome, is_some, ◌==◌, ◌⊎◌}
 use Rattle.std.specs.Int.RustNames.{int_div, int_rem, unsigned_abs}
 use Rattle.std.proofs.lemmas.Int.{ints, quot-rem, rem_below}
 use Rattle.std.proofs.lemmas.Bool.Decides.{nat_tests, eqb_tells}
@@ -102,3 +102,36 @@ pub signed_division : (s : Size) (high b by : ℕ) →
     IfSome (divide true s high b by) (λ q. DividesSigned (signed_at (double_top s) (low s high * span s + low s b)) (signed s (low s by)) (signed s q.0) (signed s q.1))
 unfolding divide
 signed_division s high b by = divided_signed s (low s high * span s + low s b) (low s by) (low_small s by)
+
+-- where there is a quotient
+some_as : {A : Type 0} (x : A) (zero fit below : Bool) → (zero ≡ true → below ≡ false) → (zero ≡ false → fit ≡ below) → is_some (cond zero None (cond fit (Some x) None)) ≡ below
+some_as x true fit below z f = sym (z refl)
+some_as x false true below z f = f refl
+some_as x false false below z f = f refl
+
+none_below : (h d : ℕ) → (d == 0) ≡ true → nat_lt h d ≡ false
+none_below h d e = grind (arith, nat_tests)
+
+-- a test of one order is a test of the other
+as_test : (a b c d : ℕ) → (a < b → c < d) → (c < d → a < b) → nat_lt a b ≡ nat_lt c d
+as_test a b c d f g = grind (arith, nat_tests, f, g)
+
+upper_half : (m h l d : ℕ) → 0 < d → (h * m + l < m * d → h < d) → (h < d → h * m + l < m * d) → nat_lt ((h * m + l) / d) m ≡ nat_lt h d
+upper_half m h l d some f g =
+    as_test ((h * m + l) / d) m h d (λ less. f ((div-lt_iff_lt-mul some).0 less)) (λ less. (div-lt_iff_lt-mul some).1 (g less))
+
+upper : (s : Size) (h l d : ℕ) → l < span s → 0 < d → nat_lt ((h * span s + l) / d) (span s) ≡ nat_lt h d
+upper Byte h l d small some = upper_half (2 ^ 8) h l d some (λ p. omega arith) (λ p. omega arith)
+upper Word h l d small some = upper_half (2 ^ 16) h l d some (λ p. omega arith) (λ p. omega arith)
+upper Long h l d small some = upper_half (2 ^ 32) h l d some (λ p. omega arith) (λ p. omega arith)
+
+positive : (d : ℕ) → (d == 0) ≡ false → 0 < d
+positive d e = grind (arith, nat_tests)
+
+pub refused : (s : Size) (high b by : ℕ) → is_some (divide false s high b by) ≡ nat_lt (low s high) (low s by)
+unfolding divide unsigned_quotient
+refused s high b by =
+    let n = low s high * span s + low s b in
+    let d = low s by in
+    some_as (n / d, n % d) (d == 0) (nat_lt (n / d) (span s)) (nat_lt (low s high) d)
+    (none_below (low s high) d) (λ e. upper s (low s high) (low s b) d (low_small s b) (positive d e))

@@ -26,7 +26,7 @@ pub use effect_of::effect;
 pub use exec_of::exec;
 pub use laws::{push_all_then_pop_all, push_then_pop, repeated_turns};
 pub use memory::LinearMem;
-pub use order::holds_after_compare;
+pub use order::conditions_after_compare;
 pub use outcome::{Effect, Outcome, Store, Stores};
 pub use ranges_of::{ranges, segment_of};
 pub use registers::{address_of, with_register};
