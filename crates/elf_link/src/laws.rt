@@ -1,17 +1,20 @@
 //! What linking is, in words that name no order of work.
 
-ghost use Rattle.std.specs.Prelude.{◌≡◌, ◌+◌, ◌≤◌, ◌<◌, ◌++◌, ℕ, take, true, false, not, ◌&&◌, List, All, length, slice_get, slice_index, Some, None, if◌then◌else◌};
+ghost use Rattle.std.specs.Prelude.{◌≡◌, ◌+◌, ◌≤◌, ◌<◌, ◌++◌, ℕ, take, true, false, not, ◌&&◌, List, All, length, slice_get, slice_index, sum_by, Some, None, if◌then◌else◌};
 ghost use Rattle.std.specs.Str.{bytes_eq};
 ghost use Rattle.elf_form.specs.ObjectParts.{ObjectParts};
 ghost use Rattle.elf_form.specs.declared.object.Symbol.{Symbol as SymbolView};
 ghost use Rattle.elf_form.specs.declared.object.Reloc.{Reloc as RelocView};
 ghost use Rattle.elf_link.specs.declared.target.Target.{Target as TargetView};
-ghost use Rattle.elf_link.specs.declared.fault.LinkCause.TheVariants.{NoSymbol, NotText};
-ghost use Rattle.elf_link.specs.Layout.{text_at, init_at, bss_at, bases};
+ghost use Rattle.elf_link.specs.declared.fault.LinkCause.TheVariants.{NoSymbol, NotText, TextTooLarge, InitTooLarge, TooManySymbols, SitesForm};
+ghost use Rattle.sites.specs.declared.limits.TheConstants.{TEXT_LIMIT};
+ghost use Rattle.elf_link.specs.Layout.{text_at, init_at, bss_at, bases, numbered, text_end, memory_end};
+ghost use Rattle.elf_link.specs.Sites.{sites_wrong};
+ghost use Rattle.elf_link.specs.Order.{IsFirstRefused};
 ghost use Rattle.elf_link.specs.Symbols.{is_text, is_exported, target, lookup, target_of, globals};
 ghost use Rattle.elf_form.specs.Linkable.{IsLinkable};
 ghost use Rattle.elf_link.specs.Relocations.{reloc_cause, with_fields};
-ghost use Rattle.elf_link.specs.Refusals.{first_doubled, is_among};
+ghost use Rattle.elf_link.specs.Refusals.{Refused, first, first_doubled, is_among, object_cause, object_refusal, relocs_refusal, start, start_refusal, refusal, doubled, doubled_cause};
 ghost use Rattle.elf_link.specs.Doubled.{IsFirstDoubled};
 ghost use Rattle.elf_link.specs.Linked.{linked_text, linked_init};
 
@@ -53,4 +56,31 @@ pub fn relocations_refused()
 pub fn names_doubled()
     ensures found { (others names : List (List ℕ)) (name : List ℕ) → first_doubled others names ≡ Some name → IsFirstDoubled others names name }
     ensures none { (others names : List (List ℕ)) → first_doubled others names ≡ None → (k : ℕ) (name : List ℕ) → slice_get names k ≡ Some name → is_among name (others ++ take k names) ≡ false }
+{}
+
+/// Each object is tested by itself, the first that is refused is told, and none before it is refused by any cause.
+#[tactic(auto, using(crate::proofs::OrderLaws::first_refused, crate::proofs::OrderLaws::none_refused))]
+pub fn objects_in_order()
+    ensures found { (os : List ObjectParts) (r : Refused) → first (object_refusal os) (numbered os) ≡ Some r → IsFirstRefused (object_cause os) os r }
+    ensures none { (os : List ObjectParts) → first (object_refusal os) (numbered os) ≡ None → (i : ℕ) (o : ObjectParts) → slice_get os i ≡ Some o → object_cause os (i, o) ≡ None }
+{}
+
+/// What an object is refused for, in this order, over the objects up to and with it, laid out by themselves: their text with its
+/// last jump is above its limit; their data and zeroed bytes are; they have too many symbols; the object's sites are wrong; it
+/// defines a name again.
+#[tactic(auto, using(crate::proofs::OrderLaws::text_first, crate::proofs::OrderLaws::init_second, crate::proofs::OrderLaws::symbols_third, crate::proofs::OrderLaws::sites_fourth, crate::proofs::OrderLaws::names_last))]
+pub fn causes_in_order()
+    ensures text { (os : List ObjectParts) (p : ℕ × ObjectParts) → TEXT_LIMIT < text_end (take (p.0 + 1) os) + 2 → object_cause os p ≡ Some TextTooLarge }
+    ensures init { (os : List ObjectParts) (p : ℕ × ObjectParts) → text_end (take (p.0 + 1) os) + 2 ≤ TEXT_LIMIT → 33554432 < memory_end (take (p.0 + 1) os) → object_cause os p ≡ Some InitTooLarge }
+    ensures symbols { (os : List ObjectParts) (p : ℕ × ObjectParts) → text_end (take (p.0 + 1) os) + 2 ≤ TEXT_LIMIT → memory_end (take (p.0 + 1) os) ≤ 33554432 → 65536 < sum_by (λ o. length o.symbols) (take (p.0 + 1) os) → object_cause os p ≡ Some TooManySymbols }
+    ensures sites { (os : List ObjectParts) (p : ℕ × ObjectParts) → text_end (take (p.0 + 1) os) + 2 ≤ TEXT_LIMIT → memory_end (take (p.0 + 1) os) ≤ 33554432 → sum_by (λ o. length o.symbols) (take (p.0 + 1) os) ≤ 65536 → sites_wrong os p ≡ true → object_cause os p ≡ Some SitesForm }
+    ensures names { (os : List ObjectParts) (p : ℕ × ObjectParts) → text_end (take (p.0 + 1) os) + 2 ≤ TEXT_LIMIT → memory_end (take (p.0 + 1) os) ≤ 33554432 → sum_by (λ o. length o.symbols) (take (p.0 + 1) os) ≤ 65536 → sites_wrong os p ≡ false → object_cause os p ≡ doubled_cause (doubled os p) }
+{}
+
+/// All objects are tested before any relocation, and all relocations before the entry.
+#[tactic(auto, using(crate::proofs::OrderLaws::objects_first, crate::proofs::OrderLaws::relocs_second, crate::proofs::OrderLaws::start_last))]
+pub fn stages_in_order()
+    ensures objects { (os : List ObjectParts) (r : Refused) → first (object_refusal os) (numbered os) ≡ Some r → refusal os ≡ Some r }
+    ensures relocations { (os : List ObjectParts) (r : Refused) → first (object_refusal os) (numbered os) ≡ None → first (relocs_refusal os) (numbered os) ≡ Some r → refusal os ≡ Some r }
+    ensures start { (os : List ObjectParts) → first (object_refusal os) (numbered os) ≡ None → first (relocs_refusal os) (numbered os) ≡ None → refusal os ≡ start_refusal (start os) }
 {}
