@@ -8,3 +8,4 @@ pub mod Ones
 pub mod Wholes
 pub mod Joining
 pub mod Freshly
+pub mod FitBehind

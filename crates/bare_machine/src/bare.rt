@@ -16,10 +16,11 @@ use crate::machine::Bare;
 use crate::slice::steps_to;
 use bare_mem::Cached;
 use board::{Board, Script};
-use descriptors::Cpu;
+use descriptors::{Cpu, Hidden};
 use guest_ram::Ram;
 use image_check::Checked;
 use image_load::{Pause, StartFault, load};
+use machine_model::runs_keep_fit;
 use pv_io::{Failed, Sink};
 use std::alloc::Global;
 use xlate_buffer::Cache;
@@ -78,9 +79,12 @@ impl<C: Cache> Bare<C> {
         ensures kept { GoesOn result (IsKept self.new.frames (state_of C.entries self.new)) }
         ensures frames { GoesOn result (self.new.frames ≡ self.old.frames) }
         ensures exact { GoesOn result (C.is_exact self.new.kept.cache ≡ C.is_exact self.old.kept.cache) }
+        ensures fit { Fit self.old.cpu → GoesOn result (Fit self.new.cpu) }
         ensures later { O.faults out.old ≤ O.faults out.new }
         ensures cause { OnErr result (Rose (O.faults out.old) (O.faults out.new)) }
     {
+        runs_keep_fit();
+        segment_count(&self.cpu.seg);
         let bound = self.step + k;
         steps_to(self, script, bound, out)
     }
@@ -117,6 +121,14 @@ impl<C: Cache> Bare<C> {
     {
         self.kept.lent()
     }
+}
+
+/// How many segment registers the processor has.
+fn segment_count(segments: &[Hidden; 4]) -> usize
+    ensures count { result ≡ length segments.now }
+    ensures four { length segments.now ≡ 4 }
+{
+    segments.len()
 }
 
 fn start_in<C: Cache>(

@@ -14,3 +14,4 @@ pub mod LinkLaws
 pub mod PlaceLaws
 pub mod CauseLaws
 pub mod DoubledLaws
+pub mod OrderLaws

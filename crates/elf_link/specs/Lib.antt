@@ -11,3 +11,4 @@ pub mod Steps
 pub mod Answers
 pub mod Facts
 pub mod Doubled
+pub mod Order

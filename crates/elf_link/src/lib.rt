@@ -14,6 +14,9 @@ mod target;
 mod totals;
 
 pub use fault::{LinkCause, LinkFault};
-pub use laws::{names_doubled, names_found, parts_apart, parts_stand, relocations_refused};
+pub use laws::{
+    causes_in_order, names_doubled, names_found, objects_in_order, parts_apart, parts_stand,
+    relocations_in_order, relocations_refused, sites_refused, stages_in_order,
+};
 pub use linkable::are_linkable;
 pub use linking::{link, linked};

@@ -15,25 +15,21 @@ pub struct Bytes<'a> {
 }
 
 impl LinearMem for Bytes<'_> {
-    ghost use Rattle.std.specs.Prelude.{◌≡◌, ◌<◌, ◌^◌};
+    ghost use Rattle.std.specs.Prelude.{◌≡◌, ◌==◌};
     ghost use Rattle.host_cpl3.specs.Pages.{byte_at};
     ghost use Rattle.host_cpl3.specs.Reaches.{IsRead};
 
     ghost byte = { λ b at. byte_at b.ram.now b.root at };
 
+    ghost same = { λ b i j. i == j };
+
     ghost readable = { λ b at. IsRead b.ram.now b.root b.read b.write at };
 
-    ghost writable = { λ b at. at < 2 ^ 32 };
-
-    ghost after = { λ a ws b. Unit {0} };
+    ghost writable = { λ b at. ⊥ };
 
     ghost read_in_space = { λ b at h. h.space };
 
-    ghost write_in_space = { λ b at h. h };
-
-    ghost nothing = { λ b. tt };
-
-    ghost joined = { λ a b c v w p q. tt };
+    ghost write_in_space = { λ b at h. absurd h };
 
     fn read(&self, at: u32, size: Size) -> u32 {
         match size {
@@ -48,8 +44,10 @@ impl LinearMem for Bytes<'_> {
         }
     }
 
-    /// Nothing is kept of what is written, and nothing told of it.
-    fn write(&mut self, _at: u32, _size: Size, _value: u32) {}
+    /// No byte may be written.
+    fn write(&mut self, _at: u32, _size: Size, _value: u32) {
+        unreachable!()
+    }
 }
 
 impl Bytes<'_> {

@@ -3,7 +3,6 @@
 
 mod arithmetic;
 mod laws;
-mod order;
 mod products;
 mod quotients;
 mod shifts;
@@ -12,8 +11,10 @@ mod status;
 mod sums;
 
 pub use arithmetic::alu;
-pub use laws::{differences_in_range, divisions, products_divided, sums_in_range};
-pub use order::compare;
+pub use laws::{
+    comparisons, differences_in_range, divisions, divisions_refused, products_divided,
+    quotients_found, sums_in_range,
+};
 pub use products::multiply;
 pub use quotients::divide;
 pub use shifts::shift;

@@ -1,5 +1,5 @@
 -- Where EIP is after an instruction.
-use Rattle.std.proofs.Common.{◌≡◌, ℕ, ◌+◌, ◌-◌, ◌%◌, ◌^◌, Bool, true, false, cond, Option, Some, None, refl, ap, ◌∙◌, inl, inr, ◌⊎◌, nat_lt}
+use Rattle.std.proofs.Common.{◌≡◌, ℕ, ◌+◌, ◌-◌, ◌%◌, ◌^◌, Bool, true, false, cond, Option, Some, None, refl, ap, ◌∙◌, inl, inr, nat_lt}
 use Rattle.std.specs.Prelude.{◌==◌, slice_index}
 use Rattle.ia32_types.specs.declared.size.Size.{Size}
 use Rattle.ia32_types.specs.declared.size.Size.TheVariants.{Byte, Word, Long}
@@ -11,7 +11,6 @@ use Rattle.ia32_types.specs.declared.insn.Operand.{Operand}
 use Rattle.ia32_types.specs.declared.insn.Operand.TheVariants.{Absent, Register, Memory, Segment, Control}
 use Rattle.ia32_types.specs.Flags.{carry_at, direction_at}
 use Rattle.ia32_exec.specs.declared.outcome.Outcome.{Outcome}
-use Rattle.ia32_exec.specs.declared.outcome.Outcome.TheVariants.{Done, Raise, Stop}
 use Rattle.ia32_exec.specs.Operands.{stored, kept_in}
 use Rattle.ia32_exec.specs.Registers.{with_register, with_whole, passed}
 use Rattle.ia32_exec.specs.Arithmetic.{arithmetic, tested, shifted, upper, with_halves, multiplied, product_to, signed_by, signed_multiplied, multiplied_by, shared, divided}

@@ -19,8 +19,7 @@ use Rattle.ia32_alu.specs.Status.{changed, settled}
 use Rattle.ia32_alu.specs.Arithmetic.{alu}
 use Rattle.ia32_alu.specs.Shift.{shift}
 use Rattle.ia32_alu.specs.Product.{multiply}
-use Rattle.ia32_exec.specs.declared.outcome.Outcome.{Outcome}
-use Rattle.ia32_exec.specs.declared.outcome.Outcome.TheVariants.{Done, Raise, Stop}
+use Rattle.ia32_exec.specs.declared.outcome.Outcome.TheVariants.{Done, Stop}
 use Rattle.ia32_exec.specs.declared.outcome.Stores.{Stores}
 use Rattle.ia32_exec.specs.declared.outcome.Stores.TheVariants.{Nothing}
 use Rattle.ia32_exec.specs.declared.selectors.Selectors.{Selectors}

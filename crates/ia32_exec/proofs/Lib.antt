@@ -1,6 +1,7 @@
 pub mod Within
 pub mod OrderRules
 pub mod TurnRules
+pub mod StoreRules
 pub mod UserWithin
 mod EipAfter
 mod FlagsAfter

@@ -1,7 +1,7 @@
 -- What an instruction writes at CPL 3 lies in its write range.
 use Rattle.std.proofs.Common.{◌≡◌, ℕ, Bool, true, false, refl, sym, subst}
 use Rattle.std.specs.Prelude.{if◌then◌else◌}
-use Rattle.ia32_types.specs.declared.size.Size.TheVariants.{Word, Long}
+use Rattle.ia32_types.specs.declared.size.Size.TheVariants.{Word}
 use Rattle.ia32_types.specs.declared.flags.Regs.{Regs}
 use Rattle.ia32_types.specs.declared.stop.Stop.TheVariants.{Unsupported}
 use Rattle.ia32_types.specs.declared.insn.Insn.{Insn}

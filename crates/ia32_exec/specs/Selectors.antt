@@ -1,6 +1,6 @@
 -- Segment registers read and pushed.
 use Rattle.std.specs.Prelude.{ℕ}
-use Rattle.ia32_types.specs.declared.size.Size.TheVariants.{Word, Long}
+use Rattle.ia32_types.specs.declared.size.Size.TheVariants.{Word}
 use Rattle.ia32_types.specs.declared.register.Seg.{Seg}
 use Rattle.ia32_types.specs.declared.register.Seg.TheVariants.{Es, Cs, Ss, Ds}
 use Rattle.ia32_types.specs.declared.flags.Regs.{Regs}

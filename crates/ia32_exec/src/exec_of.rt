@@ -1,4 +1,5 @@
 ghost use Rattle.std.specs.Prelude.{◌≡◌, ◌+◌, ◌*◌, ◌<◌, ℕ, length, slice_index};
+ghost use Rattle.ia32_exec.specs.Memory.{all_stored};
 ghost use Rattle.ia32_exec.specs.Ranges.{AreAll};
 ghost use Rattle.ia32_exec.specs.Effect.{effect, ranges_of};
 ghost use Rattle.ia32_types.specs.Shape.{IsShaped, IsDone};
@@ -9,18 +10,22 @@ use crate::memory::LinearMem;
 use crate::outcome::{Effect, Outcome, Stores};
 use ia32_types::{Insn, Regs, Size};
 
+#[tactic(auto, unfolding(crate::specs::Memory::all_stored))]
 fn write_eight<M: LinearMem>(at: u32, values: [u32; 8], mem: &mut M)
     requires { AreAll (M.writable mem.old) at 32 }
-    ensures { M.after mem.old (longs_to 8 at values) mem.new }
+    ensures written { M.byte mem.new ≡ all_stored (M.same mem.old) (longs_to 8 at values) (M.byte mem.old) }
+    ensures places { M.same mem.new ≡ M.same mem.old }
 {
     for k in 0..8u32 {
         mem.write(at + 4 * k, Size::Long, values[k as usize]);
     }
 }
 
+#[tactic(auto, unfolding(crate::specs::Memory::all_stored))]
 fn write_all<M: LinearMem>(stores: &Stores, mem: &mut M)
     requires { AreStored (M.writable mem.old) stores.now }
-    ensures written { M.after mem.old (list_of stores.now) mem.new }
+    ensures written { M.byte mem.new ≡ all_stored (M.same mem.old) (list_of stores.now) (M.byte mem.old) }
+    ensures places { M.same mem.new ≡ M.same mem.old }
     ensures kept { IsKeptUnlessWritten stores.now mem.old mem.new }
 {
     match *stores {
@@ -38,13 +43,15 @@ fn write_all<M: LinearMem>(stores: &Stores, mem: &mut M)
 /// site but PUSHF and POPF, and neither INT nor INT3, which the machines deliver themselves. The crate of
 /// the table shows that: its law `shapes` gives `shape`, and its law `done_by_registers` gives `kind`.
 /// Of `len` nothing is asked; EIP passes that many bytes.
+#[tactic(auto, unfolding(crate::specs::Memory::all_stored))]
 pub fn exec<M: LinearMem>(insn: &Insn, len: u8, regs: &mut Regs, mem: &mut M) -> Effect
     requires kind { IsDone insn.now.op }
     requires shape { IsShaped insn.now }
     requires ready { IsReady (M.readable mem.old) (M.writable mem.old) (ranges_of insn.now regs.old) }
     ensures answer { result ≡ answer_of (effect insn.now len regs.old (M.byte mem.old)) }
     ensures registers { regs.new ≡ registers_of (effect insn.now len regs.old (M.byte mem.old)) regs.old }
-    ensures memory { M.after mem.old (list_of (stores_of (effect insn.now len regs.old (M.byte mem.old)))) mem.new }
+    ensures memory { M.byte mem.new ≡ all_stored (M.same mem.old) (list_of (stores_of (effect insn.now len regs.old (M.byte mem.old)))) (M.byte mem.old) }
+    ensures places { M.same mem.new ≡ M.same mem.old }
     ensures kept { IsKeptUnlessWritten (stores_of (effect insn.now len regs.old (M.byte mem.old))) mem.old mem.new }
 {
     match effect(insn, len, regs, mem) {

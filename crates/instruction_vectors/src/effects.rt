@@ -23,25 +23,21 @@ struct Flat {
 }
 
 impl LinearMem for Flat {
-    ghost use Rattle.std.specs.Prelude.{◌≡◌, ◌<◌, ◌≤◌, ◌-◌, ◌^◌, refl, slice_index};
+    ghost use Rattle.std.specs.Prelude.{◌≡◌, ◌<◌, ◌≤◌, ◌-◌, ◌^◌};
     ghost use Rattle.std.proofs.Common.{arith};
-    ghost use Rattle.instruction_vectors.specs.Flat.{put_all, put_all-joined};
+    ghost use Rattle.instruction_vectors.specs.Flat.{byte_at, is_same};
 
-    ghost byte = { λ m at. slice_index m.bytes (at - 65536) };
+    ghost byte = { λ m. byte_at m.bytes };
+
+    ghost same = { λ m. is_same };
 
     ghost readable = { λ m at. (65536 ≤ at) × (at < 65792) };
 
     ghost writable = { λ m at. (65536 ≤ at) × (at < 65792) };
 
-    ghost after = { λ a ws b. b.bytes ≡ put_all 65536 ws a.bytes };
-
     ghost read_in_space = { λ m at h. Prim.omega arith };
 
     ghost write_in_space = { λ m at h. Prim.omega arith };
-
-    ghost nothing = { λ m. refl };
-
-    ghost joined = { λ a b c v w p q. put_all-joined 65536 v w a.bytes b.bytes c.bytes p q };
 
     fn read(&self, at: u32, size: Size) -> u32 {
         let at = (at - BASE) as usize;
@@ -59,7 +55,20 @@ impl LinearMem for Flat {
     }
 
     fn write(&mut self, at: u32, size: Size, value: u32) {
-        let at = (at - BASE) as usize;
+        self.put((at - BASE) as usize, size, value);
+    }
+}
+
+impl Flat {
+    ghost use Rattle.std.specs.Prelude.{◌≡◌, ◌≤◌, ◌+◌, ◌/◌};
+    ghost use Rattle.ia32_types.specs.Size.{width};
+    ghost use Rattle.instruction_vectors.specs.Flat.{put};
+
+    /// Writes the low bits of a number, from the byte with that index on.
+    fn put(&mut self, at: usize, size: Size, value: u32)
+        requires { at + width size / 8 ≤ 256 }
+        ensures { self.new.bytes ≡ put size at value self.old.bytes }
+    {
         self.bytes[at] = (value % 0x100) as u8;
         match size {
             Size::Byte => {}

@@ -1,8 +1,5 @@
 -- Each step counts.
-use Rattle.std.proofs.Common.{◌≡◌, ℕ, ◌+◌, ◌*◌, ◌%◌, Bool, true, false, cond, ◌==◌, List, [], ◌∷◌, Option, Some, None, Ok, Err, refl}
-use Rattle.std.specs.FinMap.{FinMap}
-use Rattle.std.specs.Ordering.{nat_cmp}
-use Rattle.paging.specs.declared.entry.Entry.{Entry}
+use Rattle.std.proofs.Common.{ℕ, ◌+◌, ◌*◌, ◌%◌, Bool, true, false, cond, ◌==◌, List, [], ◌∷◌, Option, Some, None, Ok, Err, refl}
 use Rattle.ia32_types.specs.declared.stop.Stop.TheVariants as stops
 use Rattle.ia32_types.specs.declared.stop.Did.{Did}
 use Rattle.ia32_types.specs.declared.stop.Did.TheVariants as did
@@ -13,7 +10,6 @@ use Rattle.ia32_decode.specs.declared.answer.Decoded.{Decoded}
 use Rattle.ia32_decode.specs.declared.answer.Decoded.TheVariants as begins
 use Rattle.descriptors.specs.declared.cpu.Cpu.{Cpu}
 use Rattle.paging.specs.Space.{Space}
-use Rattle.paging.specs.Fresh.{has}
 use Rattle.paging.specs.Work.{Outcome}
 use Rattle.sys_exec.specs.declared.effect.Refusal.{Refusal}
 use Rattle.sys_exec.specs.declared.effect.Refusal.TheVariants as refusal
@@ -34,7 +30,7 @@ use Rattle.run_trace.specs.declared.items.What.TheVariants.{Irq}
 use Rattle.machine_model.specs.State.{Setting, State, space_at_start}
 use Rattle.machine_model.specs.Instruction.{fetched, instructed, passed}
 use Rattle.machine_model.specs.Rules.{stands_well, may_leave}
-use Rattle.machine_model.specs.Step.{Completed, Result, Stands, entered, begun, begins_next, went, after_read, after_write, out_item, code_of, after_delivery, raised, after_effect, after_software, interrupts_by, by_op, by_decoded, after_refusal, after_fetch, fetches_next, worked, interrupt_of, interrupted, by_interrupt, unheld, step_of}
+use Rattle.machine_model.specs.Step.{Completed, Result, Stands, entered, begun, begins_next, went, after_read, after_write, out_item, code_of, after_delivery, after_effect, after_software, by_op, by_decoded, after_refusal, after_fetch, fetches_next, worked, interrupt_of, interrupted, by_interrupt, unheld, step_of}
 use Rattle.machine_model.specs.Ends.{StepsTo, EachStepCounts}
 
 read_counts : (b : State) (c : Completed) (cpu : Cpu) (port : ℕ) (wide : Bool) (s : Space) (x : PortRead × Board) → StepsTo (b.step + 1) (after_read b c cpu port wide s x)

@@ -1,12 +1,12 @@
 -- From every state a run can go on to its end.
-use Rattle.std.proofs.Common.{◌≡◌, ℕ, zero, suc, ◌+◌, ◌-◌, ◌≤◌, List, [], ◌∷◌, refl, sym, subst, ap, ◌∙◌, arith, inl, Some, None}
-use Rattle.std.specs.FinMap.{get, empty, get-empty}
+use Rattle.std.proofs.Common.{◌≡◌, ℕ, zero, suc, ◌+◌, ◌-◌, [], ◌∷◌, refl, sym, ◌∙◌, arith, Some, None}
+use Rattle.std.specs.FinMap.{empty, get-empty}
 use Rattle.std.specs.Ordering.{nat_cmp}
 use Rattle.paging.specs.declared.entry.Entry.{Entry}
 use Rattle.run_trace.specs.declared.items.End.TheVariants.{Bound, Stopped}
 use Rattle.machine_model.specs.State.{Setting, State, Loosened}
 use Rattle.machine_model.specs.Step.{Report, Result, Went, Stands, step_of}
-use Rattle.machine_model.specs.Run.{Set, Steps, Run}
+use Rattle.machine_model.specs.Run.{Steps}
 use Rattle.machine_model.specs.Ends.{StepsTo, HasEnd, EachRunHasAnEnd}
 use Rattle.machine_model.proofs.Counting.{each_counts}
 

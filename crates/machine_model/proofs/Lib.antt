@@ -6,3 +6,13 @@ pub mod Written
 pub mod Walked
 pub mod Counting
 pub mod Ending
+pub mod FlagsAfter
+pub mod Yielding
+pub mod AbleRows
+pub mod AbleSteps
+pub mod FitParts
+pub mod FitRows
+pub mod FitSteps
+pub mod KeptOver
+pub mod Completing
+pub mod CountingNone

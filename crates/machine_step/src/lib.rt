@@ -11,6 +11,8 @@ mod rules;
 mod stepping;
 mod worked;
 
+pub use delivery::refuse;
+pub use fetch::fetch as fetch_at;
 pub use instruction::carry_out;
 pub use native::{plain_divides, reach};
 pub use rules::Rules;

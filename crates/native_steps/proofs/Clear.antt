@@ -1,5 +1,5 @@
 -- The pages that an instruction uses, where none clashes: where one was used before, its entry allows the later use too.
-use Rattle.std.proofs.Common.{◌≡◌, ℕ, zero, suc, ◌+◌, ◌-◌, ◌/◌, ◌≤◌, ◌<◌, ◌==◌, List, [], ◌∷◌, ◌++◌, length, map, Bool, true, false, cond, ◌&&◌, ◌||◌, not, Option, Some, None, Ok, refl, sym, ap, subst, ◌∙◌, arith}
+use Rattle.std.proofs.Common.{◌≡◌, ℕ, zero, suc, ◌+◌, ◌-◌, ◌/◌, ◌≤◌, ◌<◌, ◌==◌, List, [], ◌∷◌, ◌++◌, length, map, Bool, true, false, cond, ◌&&◌, ◌||◌, not, Option, Some, None, Ok, refl, sym, ap, ◌∙◌, arith}
 use Rattle.std.specs.Prelude.{slice_index_or, if◌then◌else◌}
 use Rattle.std.specs.Option.{ForSome}
 use Rattle.std.specs.List.{Contains, list_any}
@@ -21,7 +21,7 @@ use Rattle.machine_model.specs.Instruction.{fetched}
 use Rattle.machine_model.specs.Clash as clashing
 use Rattle.machine_model.specs.Clash.{access_of, fetch_uses, is_refused_by, clash_behind, instruction_clashes}
 use Rattle.native_steps.specs.Forward.{wp_of}
-use Rattle.native_steps.proofs.Choices.{clash, eq_true}
+use Rattle.native_steps.proofs.Choices.{eq_true}
 use Rattle.native_steps.proofs.Short.{ranges_short}
 
 -- a page that an instruction uses

@@ -24,9 +24,11 @@ pub mod Marks
 pub mod Walking
 pub mod Through
 pub mod Repeating
+pub mod WentPages
 pub mod Repeated
-pub mod Tables
+pub mod Wrote
+pub mod Granting
 pub mod Quiet
-pub mod Stretching
+pub mod Advancing
 pub mod Looks
 pub mod Marked

@@ -1,5 +1,5 @@
 -- A program that sets nothing finds the pages that a fetch goes through, and the bytes that it reads.
-use Rattle.std.proofs.Common.{◌≡◌, ℕ, ◌+◌, ◌-◌, ◌*◌, ◌/◌, ◌%◌, ◌^◌, ◌<◌, ◌≤◌, List, [], ◌∷◌, ◌++◌, length, Bool, true, false, cond, ◌&&◌, ◌||◌, not, ◌==◌, Option, Some, None, Ok, refl, sym, ap, subst, ◌∙◌, inl, inr, ◌⊎◌, arith}
+use Rattle.std.proofs.Common.{◌≡◌, ℕ, ◌+◌, ◌*◌, ◌/◌, ◌%◌, ◌^◌, ◌<◌, ◌≤◌, List, [], ◌∷◌, ◌++◌, length, Bool, true, false, cond, ◌&&◌, not, ◌==◌, Option, Some, None, Ok, refl, sym, ap, subst, ◌∙◌, inl, inr, ◌⊎◌, arith}
 use Rattle.std.specs.List.{Contains}
 use Rattle.std.specs.FinMap.{FinMap, get, insert, get-insert}
 use Rattle.std.specs.Ordering.{nat_cmp}
@@ -19,16 +19,16 @@ use Rattle.paging.specs.declared.entry.Touch.TheVariants.{Ready, Stop}
 use Rattle.paging.specs.declared.entry.Walk.{Walk}
 use Rattle.paging.specs.declared.entry.Walk.TheVariants.{Absent, Beyond, Found}
 use Rattle.paging.specs.Fresh.{has, dir_place, word_place, fresh, tables_read, grants, flagged}
-use Rattle.paging.specs.Space.{Mode, Own, Space, place, place_by}
+use Rattle.paging.specs.Space.{Space, place, place_by}
 use Rattle.paging.specs.Uses.{tables_of, Decision, is_barred, dirtied, decided, settled, usable, by_entry, page_uses, and_then, unready, made_ready, fetches}
 use Rattle.machine_model.specs.State.{Setting, State, space_at_start, wedge_mode}
 use Rattle.machine_model.specs.Instruction.{fetching, next_page, fetched}
-use Rattle.machine_model.specs.Clash.{Use, access_of, fetch_uses, range_uses, uses_by, uses_at}
+use Rattle.machine_model.specs.Clash.{access_of, fetch_uses, range_uses, uses_by}
 use Rattle.native_steps.specs.Forward.{wp_of}
 use Rattle.native_steps.specs.Looking.{marked, Seen, found_by, seen_by, seen, bytes_seen, uses_on, uses_behind, uses_from, uses_seen, UsesAreSeen}
 use Rattle.native_steps.proofs.Choices.{chosen, passed_by, eq_true, is_false, eq_told}
 use Rattle.native_steps.proofs.Marks.{AreMarked, IsWalk, walk_parts, walk_is, dir_in, word_in, has_1, has_2, has_4}
-use Rattle.native_steps.proofs.Walking.{IsWithin, IsReadied, decided_readied, usable_parts}
+use Rattle.native_steps.proofs.Walking.{IsWithin, decided_readied, usable_parts}
 use Rattle.native_steps.proofs.Through.{on_ready, pair, taken_parts, fetch_through}
 use Rattle.native_steps.proofs.Fetching.{IsFetch, fetch_parts, by_parts, IsIn, IsPast, fetching_went}
 use Rattle.native_steps.proofs.Repeating.{front_is}

@@ -1,9 +1,9 @@
 -- The bytes of a memory in which accessed flags are set.
-use Rattle.std.proofs.Common.{◌≡◌, ℕ, suc, zero, ◌+◌, ◌*◌, ◌/◌, ◌%◌, ◌<◌, List, [], ◌∷◌, length, Bool, true, false, cond, ◌||◌, ◌==◌, refl, sym, ap, subst, ◌∙◌, arith, bit_or}
+use Rattle.std.proofs.Common.{◌≡◌, ℕ, suc, ◌/◌, ◌%◌, ◌<◌, [], ◌∷◌, length, Bool, true, false, cond, ◌||◌, ◌==◌, refl, sym, ap, subst, ◌∙◌, arith, bit_or}
 use Rattle.std.specs.List.{list_any, All}
-use Rattle.guest_ram.specs.Bytes.{AreBytes, byte, with_byte}
+use Rattle.guest_ram.specs.Bytes.{byte, with_byte}
 use Rattle.guest_ram.proofs.Bytes.{byte-with_byte, byte_lt, length-with_byte}
-use Rattle.native_steps.specs.Looking.{marked, MarksAreRead}
+use Rattle.native_steps.specs.Looking.{MarksAreRead}
 use Rattle.native_steps.proofs.Choices.{clash, eq_true, eq_told}
 use Rattle.native_steps.proofs.Marks.{or_32, has_them, byte_other, bytes_with}
 

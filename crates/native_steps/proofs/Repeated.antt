@@ -21,8 +21,8 @@ use Rattle.ia32_exec.specs.declared.access.Range.{Range}
 use Rattle.ia32_exec.specs.Ranges.{Covers}
 use Rattle.ia32_exec.specs.Short.{IsShort}
 use Rattle.ia32_exec.specs.Commit.{list_of}
+use Rattle.ia32_exec.specs.UserEffect.{user_effect}
 use Rattle.ia32_exec.specs.Effect.{ranges_of}
-use Rattle.descriptors.specs.declared.cpu.Cpu.{Cpu}
 use Rattle.paging.specs.declared.entry.Entry.{Entry}
 use Rattle.paging.specs.Space.{Mode, Space, place, place_by, byte_at, with_ram}
 use Rattle.paging.specs.Uses.{window_stop}
@@ -46,55 +46,23 @@ use Rattle.native_steps.specs.Backward.{IsTranslated}
 use Rattle.native_steps.specs.Again.{AreWithin, settled, StepsAgain}
 use Rattle.native_steps.proofs.Clear.{Use, used, range_uses, uses_of, AreClear}
 use Rattle.native_steps.proofs.Choices.{is_false, clash, le_told, lt_told, both, eq_told}
-use Rattle.native_steps.proofs.Pages.{At, Comes, HasEntry, IsFree, range_passes, reaching_comes, fetching_comes}
-use Rattle.native_steps.proofs.Ways.{front_at, Way}
+use Rattle.native_steps.proofs.Pages.{At, Comes, HasEntry, IsFree, range_passes, reaching_comes}
+use Rattle.native_steps.proofs.Ways.{Way}
 use Rattle.native_steps.proofs.Doing.{IsUser, IsPopFlags, instructed_is}
-use Rattle.native_steps.proofs.Uses.{window_above, range_went, went_by}
-use Rattle.native_steps.proofs.Fetching.{Fetches, IsFetch, IsIn, IsPast, fetch_parts, by_parts, fetching_went, fetched_comes, same_value}
+use Rattle.native_steps.proofs.Uses.{window_above}
+use Rattle.native_steps.proofs.Fetching.{Fetches, IsFetch, IsIn, IsPast, fetch_parts, by_parts, fetching_went, fetched_comes}
 use Rattle.native_steps.proofs.Stored.{stored_is}
 use Rattle.native_steps.proofs.Shaped.{decoded_shaped}
 use Rattle.native_steps.proofs.Walking.{IsWithin, IsServed}
 use Rattle.native_steps.proofs.Through.{Before, after, before_after, clear_split, within_as, Through, through_on, through_same, RangeThrough, range_through}
 use Rattle.native_steps.proofs.Repeating.{first_through, in_way, owns_in, across_way, left_is, left_in}
+use Rattle.native_steps.proofs.WentPages.{went_of, way_went, went_after, range_goes}
 use Rattle.native_steps.proofs.Together.{level_user, stepped_by, by_op_is, selects_by, without_rights, not_soft, no_pop}
 
 -- a result with other notes of walks and writes
 abbrev renoted : List ℕ → List ℕ → Result → Result
 renoted tables wrote (Went report b) = Went (record report { tables = tables; wrote = wrote }) b
 renoted tables wrote (Stands stop) = Stands stop
-
--- the pages of a fetch
-abbrev pub went_of : (eip : ℕ) {A B : Type 0} → A ⊎ B → List ℕ
-went_of eip (inl w) = (eip / 4096) ∷ []
-went_of eip (inr w) = (eip / 4096) ∷ (next_page eip / 4096) ∷ []
-
--- a fetch through these pages goes through these pages
-way_went : (m : Setting) (a : State) (kernel : Bool) (u w : Space) (eip : ℕ) (insn : Insn) (len : ℕ) → At m a u → u.went ≡ [] → (y : Way (Fetches m a kernel) a.ram eip insn len) → fetched (not kernel) eip u ≡ Ok (begins.Insn insn len, w) → w.went ≡ went_of eip y
-way_went m a kernel u w eip insn len h empty y e =
-    let p = fetch_parts (not kernel) eip insn len u w e in
-    by_way p (by_parts (not kernel) eip insn len p.front p.first w (decoded p.front) refl p.goes_on) y
-  where
-    first_went : (p : IsFetch (not kernel) eip insn len u w) → p.first.went ≡ (eip / 4096) ∷ []
-    first_went p = fetching_went (not kernel) eip (front_len eip) u p.front p.first p.reads ∙ ap (λ (l : List ℕ). l ++ (eip / 4096) ∷ []) empty
-
-    front_of : (p : IsFetch (not kernel) eip insn len u w) (frame : ℕ) → Fetches m a kernel (eip / 4096) frame → front_at a.ram frame eip ≡ p.front
-    front_of p frame f = let c = fetching_comes m a kernel u eip (front_len eip) frame h f.entry f.free in same_value (front_at a.ram frame eip) p.front c.space p.first (sym c.is ∙ p.reads)
-
-    by_way : (p : IsFetch (not kernel) eip insn len u w) → IsIn eip insn len p.front p.first w ⊎ IsPast (not kernel) eip insn len p.front p.first w → (z : Way (Fetches m a kernel) a.ram eip insn len) → w.went ≡ went_of eip z
-    by_way p (inl x) (inl z) = x.went ∙ first_went p
-    by_way p (inl x) (inr z) = absurd (let f : begins.Short ≡ begins.Insn insn len = sym z.cut ∙ ap decoded (front_of p z.frame z.page) ∙ x.is in cc)
-    by_way p (inr x) (inl z) = absurd (let f : begins.Short ≡ begins.Insn insn len = sym x.cut ∙ ap decoded (sym (front_of p z.frame z.page)) ∙ z.is in cc)
-    by_way p (inr x) (inr z) = x.on.went ∙ ap (λ (l : List ℕ). l ++ (next_page eip / 4096) ∷ []) (first_went p)
-
--- what a range adds
-went_after : List ℕ → Option Range → List ℕ
-went_after went None = went
-went_after went (Some r) = went_by went r.at r.len
-
-range_goes : (cpu : Cpu) (s t : Space) (write : Bool) (o : Option Range) → reached cpu write o s ≡ Ok (tt, t) → t.went ≡ went_after s.went o
-unfolding went_after
-range_goes cpu s t write None e = let p : ◌≡◌ {A = Unit {0} × Space} (tt, s) (tt, t) = cc in sym (ap (λ (q : Unit {0} × Space). q.1.went) p)
-range_goes cpu s t write (Some r) e = range_went s t r.at r.len (record { write = write; user = cpu.cpl == 3 }) e
 
 module _ (flags : EffectLaws) (m : Setting) (v : View) (b : State) (mode : m.mode ≡ wedge_mode m.image) (room : 4096 * m.frames ≤ length b.ram) (fit : AreBytes b.ram) (sound : AreWithin m b.set) (sees : Sees v b.cpu) (next : IsNext m v.kernel b) (small : b.cpu.regs.eip < 2 ^ 32) where
   abbrev k : Bool
@@ -117,13 +85,13 @@ module _ (flags : EffectLaws) (m : Setting) (v : View) (b : State) (mode : m.mod
 
   -- ---- the fetch
 
-  record Began (insn : Insn) (len : ℕ) (t : Space) : Type 0 where
-    within : IsWithin m b v.kernel t
-    pages : List ℕ
-    went : t.went ≡ pages
-    shape : IsShaped insn
-    way : (last : Space) → Through m b v.kernel (after [] (map (used false) pages)) t last → Way (Fetches m (settled b last) v.kernel) last.ram b.cpu.regs.eip insn len
-    way_pages : (last : Space) (th : Through m b v.kernel (after [] (map (used false) pages)) t last) → went_of b.cpu.regs.eip (way last th) ≡ pages
+  pub record Began (insn : Insn) (len : ℕ) (t : Space) : Type 0 where
+    pub within : IsWithin m b v.kernel t
+    pub pages : List ℕ
+    pub went : t.went ≡ pages
+    pub shape : IsShaped insn
+    pub way : (last : Space) → Through m b v.kernel (after [] (map (used false) pages)) t last → Way (Fetches m (settled b last) v.kernel) last.ram b.cpu.regs.eip insn len
+    pub way_pages : (last : Space) (th : Through m b v.kernel (after [] (map (used false) pages)) t last) → went_of b.cpu.regs.eip (way last th) ≡ pages
 
   moved : (ps : List ℕ) (s t last : Space) → s ≡ t → Through m b v.kernel ps t last → Through m b v.kernel ps s last
   moved ps s t last e th = subst (λ (x : Space). Through m b v.kernel ps x last) (sym e) th
@@ -174,7 +142,7 @@ module _ (flags : EffectLaws) (m : Setting) (v : View) (b : State) (mode : m.mod
     through : Through m b v.kernel ps s t
     range : RangeOf ps s t write o
 
-  last_is : (r : Range) → 1 ≤ r.len → (r.at + r.len - 1) / 4096 ≡ last_page r
+  pub last_is : (r : Range) → 1 ≤ r.len → (r.at + r.len - 1) / 4096 ≡ last_page r
   last_is r some = omega (arith, some)
 
   ranged : (ps : List ℕ) (s t : Space) (write : Bool) (o : Option Range) → IsWithin m b v.kernel s → IsShort o → Clear ps (range_uses write o) → reached b.cpu write o s ≡ Ok (tt, t) → Ranged ps s t write o
@@ -194,15 +162,15 @@ module _ (flags : EffectLaws) (m : Setting) (v : View) (b : State) (mode : m.mod
       second false is d other there = subst (λ p. IsServed m b v.kernel p write) (sym (last_is r short.0)) (d.0 (subst (Contains ((r.at / 4096) ∷ ps)) (last_is r short.0) there))
 
   -- the entries of a range at the end of the translations
-  record HasRange (last : Space) (write : Bool) (r : Range) : Type 0 where
-    fits : r.at + r.len ≤ 2 ^ 32
-    above : v.kernel ≡ true → 0x11000000 ≤ r.at
-    first : ℕ
-    has_first : HasEntry v.kernel (wp_of b) last.set write (r.at / 4096) first
-    free_first : IsFree m b v.kernel false (r.at / 4096) first
-    last_frame : ℕ
-    has_last : HasEntry v.kernel (wp_of b) last.set write ((r.at + r.len - 1) / 4096) last_frame
-    free_last : IsFree m b v.kernel false ((r.at + r.len - 1) / 4096) last_frame
+  pub record HasRange (last : Space) (write : Bool) (r : Range) : Type 0 where
+    pub fits : r.at + r.len ≤ 2 ^ 32
+    pub above : v.kernel ≡ true → 0x11000000 ≤ r.at
+    pub first : ℕ
+    pub has_first : HasEntry v.kernel (wp_of b) last.set write (r.at / 4096) first
+    pub free_first : IsFree m b v.kernel false (r.at / 4096) first
+    pub last_frame : ℕ
+    pub has_last : HasEntry v.kernel (wp_of b) last.set write ((r.at + r.len - 1) / 4096) last_frame
+    pub free_last : IsFree m b v.kernel false ((r.at + r.len - 1) / 4096) last_frame
 
   above_of : (s : Space) → IsWithin m b v.kernel s → (write : Bool) (at : ℕ) → window_stop s.mode (record { write = write; user = not v.kernel }) at ≡ None → v.kernel ≡ true → 0x11000000 ≤ at
   above_of s h write at e = window_above v.kernel at (ap (λ (x : Mode). window_stop x (record { write = write; user = not v.kernel }) at) (sym h.mode) ∙ e)
@@ -241,7 +209,7 @@ module _ (flags : EffectLaws) (m : Setting) (v : View) (b : State) (mode : m.mod
     free_last = g.free_last;
   }
 
-  HasRanges : Space → Bool → Option Range → Type 0
+  unfoldable pub HasRanges : Space → Bool → Option Range → Type 0
   HasRanges last write None = Unit {0}
   HasRanges last write (Some r) = HasRange last write r
 
@@ -303,7 +271,7 @@ module _ (flags : EffectLaws) (m : Setting) (v : View) (b : State) (mode : m.mod
     abbrev writes : Option Range
     writes = (ranges_of insn b.cpu.regs).write
 
-    short : IsShort reads × IsShort writes
+    pub short : IsShort reads × IsShort writes
     short = ranges_short insn b.cpu.regs
 
     fetch_is : fetched (not v.kernel) b.cpu.regs.eip start ≡ Ok (begins.Insn insn len, fetch)
@@ -312,7 +280,7 @@ module _ (flags : EffectLaws) (m : Setting) (v : View) (b : State) (mode : m.mod
     all_clear : Clear [] (map (used false) fetch.went ++ (range_uses false reads ++ range_uses true writes))
     all_clear = subst (λ (u : Bool). AreClear b.set u (wp_of b) [] (uses_of fetch.went (ranges_of insn b.cpu.regs))) user clear
 
-    first : Began insn len fetch
+    pub first : Began insn len fetch
     first = began insn len fetch (range_uses false reads ++ range_uses true writes) fetch_is all_clear
 
     abbrev fetch_pages : List ℕ
@@ -333,17 +301,17 @@ module _ (flags : EffectLaws) (m : Setting) (v : View) (b : State) (mode : m.mod
     third : Ranged read_pages read write true writes
     third = ranged read_pages read write true writes second.through.within short.1 rest.1 t.write
 
-    whole : Through m b v.kernel fetch_pages fetch write
+    pub whole : Through m b v.kernel fetch_pages fetch write
     whole = through_on m b v.kernel fetch_pages read_pages fetch read write second.through third.through (before_after (range_uses false reads) fetch_pages)
 
     -- their entries at the end
     read_now : HasRanges read false reads
     read_now = has_now fetch_pages fetch read false reads first.within second
 
-    read_end : HasRanges write false reads
+    pub read_end : HasRanges write false reads
     read_end = has_later fetch_pages read write false reads short.0 read_now third.through
 
-    write_end : HasRanges write true writes
+    pub write_end : HasRanges write true writes
     write_end = has_now read_pages read write true writes second.through.within third
 
     -- ---- again
@@ -400,7 +368,7 @@ module _ (flags : EffectLaws) (m : Setting) (v : View) (b : State) (mode : m.mod
     unfolding byte_at place
     byte_read x e = ap (byte write.ram) e
 
-    bytes_same : (x : ℕ) → byte_by reads read write x ≡ byte_of (settled b write) x
+    pub bytes_same : (x : ℕ) → byte_by reads read write x ≡ byte_of (settled b write) x
     bytes_same x = choice (is_in reads x) refl
       where
         choice : (i : Bool) → is_in reads x ≡ i → cond i (byte_at (with_ram read write.ram) x) (byte_at write x) ≡ byte_of (settled b write) x
@@ -421,7 +389,7 @@ module _ (flags : EffectLaws) (m : Setting) (v : View) (b : State) (mode : m.mod
         choice true = again_byte (with_ram again_read.space again_write.space.ram) mixed x
         choice false = again_byte again_write.space again_write.at x
 
-    all : (P : ℕ → Type 0) (o : Option Range) → ((x : ℕ) → P x) → Covers P o
+    pub all : (P : ℕ → Type 0) (o : Option Range) → ((x : ℕ) → P x) → Covers P o
     all P None h = tt
     all P (Some r) h = λ j lt. h (r.at + j)
 
@@ -461,15 +429,24 @@ module _ (flags : EffectLaws) (m : Setting) (v : View) (b : State) (mode : m.mod
         by_test true g = ap (λ (o : Result). renoted others news o) g
         by_test false g = absurd cc
 
-    original : (regs : Regs) (stores : Stores) → effect_of v (settled b write) insn len ≡ outcomes.Done regs stores → stepped m b ≡ finish write.ram write.set write.went write.tables write.wrote regs stores
-    original regs stores e =
+    -- the effect over the step's bytes is that over the bytes of the state that is left
+    same_effect : user_effect (selectors_of v) insn len b.cpu.regs (byte_by reads read write) ≡ effect_of v (settled b write) insn len
+    same_effect =
+        flags.same (byte_by reads read write) (byte_of (settled b write)) (selectors_of v) insn len b.cpu.regs first.shape
+        (all (λ x. byte_by reads read write x ≡ byte_of (settled b write) x) reads bytes_same) (all (λ x. byte_by reads read write x ≡ byte_of (settled b write) x) writes bytes_same)
+
+    pub outcome : stepped m b ≡ after_instruction m (unheld b) (begun b insn) (done_by (unheld b).cpu write (effect_of v (settled b write) insn len))
+    outcome =
         stepped_by m v.kernel b sees.level next
         ∙ ap (after_fetch m (unheld b)) t.fetched
         ∙ by_op_is m insn.op (unheld b) insn len fetch soft
         ∙ instructed_is m (unheld b) (begun b insn) flags.agree (selectors_of v) (unheld b).cpu (selects_by v b.cpu sees) fetch read write insn len user_held first.shape t.permitted (record { free = t.segments; read = t.read; write = t.write })
-        ∙ ap (λ (o : exec.Outcome). after_instruction m (unheld b) (begun b insn) (done_by (unheld b).cpu write o))
-        (flags.same (byte_by reads read write) (byte_of (settled b write)) (selectors_of v) insn len b.cpu.regs first.shape
-        (all (λ x. byte_by reads read write x ≡ byte_of (settled b write) x) reads bytes_same) (all (λ x. byte_by reads read write x ≡ byte_of (settled b write) x) writes bytes_same) ∙ e)
+        ∙ ap (λ (o : exec.Outcome). after_instruction m (unheld b) (begun b insn) (done_by (unheld b).cpu write o)) same_effect
+
+    original : (regs : Regs) (stores : Stores) → effect_of v (settled b write) insn len ≡ outcomes.Done regs stores → stepped m b ≡ finish write.ram write.set write.went write.tables write.wrote regs stores
+    original regs stores e =
+        outcome
+        ∙ ap (λ (o : exec.Outcome). after_instruction m (unheld b) (begun b insn) (done_by (unheld b).cpu write o)) e
         ∙ finished_is write regs stores
 
     next_again : IsNext m v.kernel (settled b write)

@@ -96,7 +96,7 @@ window_above true at e k = le_told 285212672 at (told (nat_le 285212672 at) (nat
 
 -- ---- through which pages a range goes
 
-pub went_by : List ℕ → ℕ → ℕ → List ℕ
+unfoldable pub went_by : List ℕ → ℕ → ℕ → List ℕ
 went_by went at len = cond ((at + len - 1) / 4096 == at / 4096) (went ++ (at / 4096) ∷ []) ((went ++ (at / 4096) ∷ []) ++ ((at + len - 1) / 4096) ∷ [])
 
 made_went : (o : Touch) (s : Space) (at len : ℕ) (write : Bool) → (go_on o s (made_ready at len write)).1.went ≡ s.went

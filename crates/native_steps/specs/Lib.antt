@@ -4,8 +4,8 @@ pub mod Native
 pub mod Forward
 pub mod Backward
 pub mod Again
-pub mod Behind
 pub mod Stretch
 pub mod TextLaws
 pub mod EffectLaws
 pub mod Looking
+pub mod Granted

@@ -1,7 +1,7 @@
 -- How a program finds the pages that the next instruction uses without doing its step: by the entries that are there,
 -- and by walks that set nothing. A fetch sets the accessed flags of its walks before it reads its bytes, so they are
 -- read as these flags leave them.
-use Rattle.std.specs.Prelude.{◌≡◌, ℕ, ◌+◌, ◌*◌, ◌/◌, ◌%◌, ◌^◌, ◌≤◌, ◌<◌, Bool, true, false, ◌==◌, List, [], ◌∷◌, ◌++◌, length, Option, Some, None, Ok, bit_or, if◌then◌else◌}
+use Rattle.std.specs.Prelude.{◌≡◌, ℕ, ◌+◌, ◌*◌, ◌/◌, ◌%◌, ◌^◌, ◌≤◌, ◌<◌, Bool, false, ◌==◌, List, [], ◌∷◌, ◌++◌, length, Option, Some, None, Ok, bit_or, if◌then◌else◌}
 use Rattle.std.specs.List.{list_any, All}
 use Rattle.std.specs.FinMap.{get}
 use Rattle.guest_ram.specs.Bytes.{AreBytes, byte, part, with_byte}

@@ -1,6 +1,6 @@
--- A stretch: instructions that the host completes one behind the other are as many steps of the guest, each with the
--- translations that are there.
-use Rattle.std.specs.Prelude.{◌≡◌, ℕ, zero, suc, ◌+◌, ◌-◌, ◌*◌, ◌≤◌, false, true, List, [], length, replicate, drop, Some, None}
+-- A stretch: instructions that the host completes one behind the other, over tables that lend no more than the guest's
+-- translations whatever its frames hold, are as many steps of the guest, each with the translations that are there.
+use Rattle.std.specs.Prelude.{◌≡◌, ℕ, zero, suc, ◌+◌, ◌*◌, ◌≤◌, false, true, List, [], length, replicate, drop, Some, None}
 use Rattle.std.specs.List.{All}
 use Rattle.board.specs.declared.devices.Board.{Board}
 use Rattle.board.specs.Boards.{given, board_steps, comes_within}
@@ -17,15 +17,19 @@ use Rattle.machine_model.specs.Run.{Steps, trace_of}
 use Rattle.machine_model.specs.Counts.{direct_count, passed_digest}
 use Rattle.native_steps.specs.Lends.{Lends, AreKept}
 use Rattle.native_steps.specs.Stands.{IsWedge, Stands}
-use Rattle.native_steps.specs.Behind.{AreBehind}
 use Rattle.native_steps.specs.Forward.{wp_of, IsEntrance}
 
+-- the same memory behind the guest's frames
+pub record SameBehind (m : Setting) (old new : List ℕ) : Type 0 where
+  pub size : length new ≡ length old
+  pub beyond : drop (4096 * m.frames) new ≡ drop (4096 * m.frames) old
+
 -- The host, with these registers and this memory, and the guest stand at the same instruction, which the host may do:
--- the processor is awake, and no delivery is held off.
-pub record Abreast (m : Setting) (v : View) (b : State) (s : Standing) : Type 0 where
+-- the processor is awake, and no delivery is held off. The tables lend no more than the guest's translations, whatever
+-- its frames hold.
+pub record Beside (m : Setting) (v : View) (b : State) (s : Standing) : Type 0 where
   pub stands : Stands m s.ram v b
-  pub lends : Lends m s.ram v.root v.kernel (wp_of b) b.set
-  pub behind : AreBehind m s.ram v.root
+  pub lends : (memory : List ℕ) → SameBehind m s.ram memory → Lends m memory v.root v.kernel (wp_of b) b.set
   pub regs : b.cpu.regs ≡ s.regs
   pub awake : b.cpu.halted ≡ false
   pub unheld : b.cpu.held ≡ false
@@ -60,16 +64,16 @@ EndsAs m v exits.Wrap last t = t ≡ last
 EndsAs m v exits.Budget last t = t ≡ last
 
 -- The host completes n instructions, and stands at last. The guest has done n steps by then, with the translations that
--- it had: all of them count, nothing is seen in them, no walk is done, and both stand abreast again. Of the host's memory
--- nothing behind the guest's frames has changed.
-pub record Stretched (m : Setting) (v : View) (b : State) (k : ℕ) (s : Standing) (exit : Exit) (t : Standing) : Type 0 where
+-- it had: all of them count, nothing is seen in them, no walk is done, and both stand beside one another again. Of the
+-- host's memory nothing behind the guest's frames has changed.
+pub record Advanced (m : Setting) (v : View) (b : State) (k : ℕ) (s : Standing) (exit : Exit) (t : Standing) : Type 0 where
   pub n : ℕ
   pub few : n ≤ k
   pub last : Standing
   pub after : State
   pub reports : List Report
   pub steps : Steps m b (replicate n b.set) reports after
-  pub abreast : Abreast m v after last
+  pub beside : Beside m v after last
   pub cpu : after.cpu ≡ record b.cpu { regs = last.regs }
   pub set : after.set ≡ b.set
   pub board : after.board ≡ board_after m b n
@@ -80,12 +84,11 @@ pub record Stretched (m : Setting) (v : View) (b : State) (k : ℕ) (s : Standin
   pub direct : direct_count m.image.sites reports ≡ n
   pub passed : last.passed ≡ passed_digest m.image.sites s.passed reports
   pub retired : last.retired ≡ s.retired + n
-  pub size : length last.ram ≡ length s.ram
-  pub beyond : drop (4096 * m.frames) last.ram ≡ drop (4096 * m.frames) s.ram
+  pub behind : SameBehind m s.ram last.ram
   pub ends : EndsAs m v exit last t
 
--- what a run of the host is, begun abreast of the guest in quiet steps
-abbrev pub Stretch : Type 0
-Stretch =
+-- what a run of the host is, begun beside the guest in quiet steps
+abbrev pub Advances : Type 0
+Advances =
     (m : Setting) (v : View) (k : ℕ) (b : State) (s : Standing)
-    → IsWedge m → Abreast m v b s → AreQuiet m b k → Stretched m v b k s (host_run v k s).0 (host_run v k s).1
+    → IsWedge m → Beside m v b s → AreQuiet m b k → Advanced m v b k s (host_run v k s).0 (host_run v k s).1

@@ -1,8 +1,7 @@
 ghost use Rattle.native_steps.specs.Forward.{Forward, NotEntered, AtSites};
 ghost use Rattle.native_steps.specs.Backward.{Backward, NativeCompletes};
 ghost use Rattle.native_steps.specs.Again.{Again};
-ghost use Rattle.native_steps.specs.Behind.{LendsStill};
-ghost use Rattle.native_steps.specs.Stretch.{Stretch};
+ghost use Rattle.native_steps.specs.Stretch.{Advances};
 ghost use Rattle.native_steps.specs.Looking.{MarksAreRead, UsesAreSeen};
 
 use crate::effects::effects;
@@ -58,20 +57,14 @@ pub fn steps_again()
     effects();
 }
 
-/// Tables behind the guest's frames lend the same after an instruction, which changes those frames alone.
-pub fn lends_still()
-    ensures { LendsStill }
-{}
-
-/// A run of the host, begun where the guest stands and in quiet steps, is as many steps of the guest as it completes
+/// A run of the host, begun beside the guest and in quiet steps, is as many steps of the guest as it completes
 /// instructions, with the translations as they are. All of them count, and the host's counts are theirs.
-pub fn stretch()
-    ensures { Stretch }
+pub fn advances()
+    ensures { Advances }
 {
     forward();
     not_entered();
     at_sites();
-    lends_still();
     borders();
 }
 

@@ -3,10 +3,12 @@
 #![tactic(auto)]
 
 mod effects;
+mod granted;
 mod laws;
 mod texts;
 
+pub use granted::grants;
 pub use laws::{
-    at_sites, backward, forward, lends_still, native_completes, not_entered, steps_again, stretch,
+    advances, at_sites, backward, forward, native_completes, not_entered, steps_again,
     uses_are_seen,
 };

@@ -50,7 +50,7 @@ fault_once text f g (inr h) (inl k) = absurd (omega (arith, h.0, k.0))
 fault_once text f g (inr h) (inr k) = cc (h.1, k.1)
 
 -- a text says one thing
-said_once : (text : List ℕ) (r s : Result (List SourceItem) (ℕ × SourceCause)) → SaysSource text r → SaysSource text s → r ≡ s
+pub said_once : (text : List ℕ) (r s : Result (List SourceItem) (ℕ × SourceCause)) → SaysSource text r → SaysSource text s → r ≡ s
 said_once text (Ok i) (Ok j) h k = ap (λ (x : List SourceItem). Ok x) (read_once text i j h k)
 said_once text (Ok i) (Err g) h k = absurd (read_or_not text i g h k)
 said_once text (Err f) (Ok j) h k = absurd (read_or_not text j f k h)

@@ -26,14 +26,14 @@ use Rattle.image_load.specs.Boot.{need}
 use Rattle.board.specs.Texts.{script_of}
 use Rattle.run_trace.specs.declared.items.End.{End}
 use Rattle.run_trace.specs.declared.items.End.TheVariants.{Bound, Stopped}
-use Rattle.pv_tool.specs.Words.{Command, Burn, Link, Check, RunBare}
+use Rattle.pv_tool.specs.Words.{Command, Burn, Link, Check, RunBare, RunWedge, Work}
 use Rattle.pv_tool.specs.Outside.{Outside}
-use Rattle.pv_tool.specs.Outcome.{Outcome, printed, stored_as, ended}
+use Rattle.pv_tool.specs.Outcome.{Outcome, printed, stored_as, status_of}
 use Rattle.pv_tool.specs.Burning.{HasBurnt, object_made_line, written, burned}
 use Rattle.pv_tool.specs.Linking.{HasObjects, HoldObjects, ImageReadsBack, image_made_line, linked, Links, AllRead, NoObject}
 use Rattle.pv_tool.specs.Checking.{HasImage, accepted_line, Checks, checked}
-use Rattle.pv_tool.specs.Running.{HasScript, FindsRun, RunsOn, Ran, Small, RunsScript, RunsImage, Runs}
-use Rattle.pv_tool.specs.Meaning.{Gives, Finds, saved, Keeps, Counts, NoLoadFault, NoStoreFault, NoFault, ComesTo, PrintsRun, Leaves, IsStored, Prints, NoStore, NoPut, Means}
+use Rattle.pv_tool.specs.Running.{HasScript, FindsRun, RunsOn, RunsBare, RunsPatched, Ran, Small, RunsScript, RunsImage, Runs}
+use Rattle.pv_tool.specs.Meaning.{Gives, Finds, saved, Keeps, Counts, NoLoadFault, NoStoreFault, NoFault, ComesTo, PrintsRun, Leaves, IsStored, NoStore, NoPut, Means}
 use Rattle.pv_tool.specs.Delivery.{Says, Whole, Cut, Ends, Delivers, Stored, NotStored, NoMemory}
 use Rattle.pv_tool.specs.declared.halt.Halt.{Halt}
 use Rattle.pv_tool.specs.declared.halt.Halt.TheVariants as halt
@@ -42,13 +42,14 @@ use Rattle.pv_tool.specs.declared.status.Status.TheVariants as status
 use Rattle.pv_tool.proofs.SameFiles.{same_file}
 use Rattle.pv_tool.proofs.BurnMeanings.{is_burnt, burns_once}
 use Rattle.pv_tool.proofs.LinkMeanings.{links_once, links_found}
-use Rattle.pv_tool.proofs.RunMeanings.{runs_none}
+use Rattle.pv_tool.proofs.RunMeanings.{AreEnds, bare_ends, patched_ends, runs_none}
+use Rattle.pv_tool.proofs.WorkMeanings.{works_none, works_once}
 
 -- ---- what is stored
 
-ended_refused : (end : End) (text : List ℕ) → (ended end text).status ≡ status.Refused → ⊥
-ended_refused Bound text is = cc
-ended_refused (Stopped stop) text is = cc
+ended_refused : (end : End) → status_of end ≡ status.Refused → ⊥
+ended_refused Bound is = cc
+ended_refused (Stopped stop) is = cc
 
 some_or_none : (file : List ℕ × List ℕ) → Some file ≡ None → ⊥
 some_or_none file is = cc
@@ -84,13 +85,14 @@ checked_none : (r : Result Image Refusal) → (checked r).stored ≡ None
 checked_none (Ok image) = refl
 checked_none (Err refusal) = refl
 
-script_none : (image : Image) (frames n : ℕ) (r : Result Events (ℕ × ScriptCause)) (w : Outcome) → RunsScript image frames n r w → w.stored ≡ None
-script_none image frames n (Ok events) w h = runs_none image events frames n w h
-script_none image frames n (Err (line, cause)) w h = ap (λ (v : Outcome). v.stored) h
+script_none : (runs : Image → Events → Outcome → Type 0) (frames : ℕ) (image : Image) (r : Result Events (ℕ × ScriptCause)) (w : Outcome) → AreEnds runs → RunsScript runs frames image r w → w.stored ≡ None
+script_none runs frames image (Ok events) w are h = runs_none runs image events frames w are h
+script_none runs frames image (Err (line, cause)) w are h = ap (λ (v : Outcome). v.stored) h
 
-image_none : (files : Option FileMap) (script : List ℕ) (frames n : ℕ) (r : Result Image Refusal) (w : Outcome) → RunsImage files script frames n r w → w.stored ≡ None
-image_none files script frames n (Ok image) w h = script_none image frames n (script_of h.0) w h.2
-image_none files script frames n (Err refusal) w h = ap (λ (v : Outcome). v.stored) h
+image_none : (runs : Image → Events → Outcome → Type 0) (frames : ℕ) (files : Option FileMap) (script : List ℕ) (r : Result Image Refusal) (w : Outcome) → AreEnds runs
+    → RunsImage runs frames files script r w → w.stored ≡ None
+image_none runs frames files script (Ok image) w are h = script_none runs frames image (script_of h.0) w are h.2
+image_none runs frames files script (Err refusal) w are h = ap (λ (v : Outcome). v.stored) h
 
 none_saved : (name : Option (List ℕ)) (stored : Option (List ℕ × List ℕ)) → stored ≡ None → IsSaved name stored
 none_saved name stored is = subst (λ (s : Option (List ℕ × List ℕ)). IsSaved name s) (sym is) tt
@@ -99,7 +101,9 @@ gives_saved : (command : Command) (files : Option FileMap) (w : Outcome) → Giv
 gives_saved (Burn source object) files w h = subst (λ (v : Outcome). IsSaved (Some object) v.stored) (sym h.comes) (burned_saved object h.said)
 gives_saved (Link image objects) files w h = links_saved files image objects w h
 gives_saved (Check image) files w h = none_saved None w.stored (ap (λ (v : Outcome). v.stored) h.2 ∙ checked_none (image_of h.0))
-gives_saved (RunBare image script frames n) files w h = none_saved None w.stored (image_none files script frames n (image_of h.0) w h.2)
+gives_saved (RunBare image script frames n) files w h = none_saved None w.stored (image_none (RunsBare frames n) frames files script (image_of h.0) w (bare_ends frames n) h.2)
+gives_saved (RunWedge image script frames n) files w h = none_saved None w.stored (image_none (RunsPatched frames n) frames files script (image_of h.0) w (patched_ends frames n) h.2)
+gives_saved (Work number) files w h = none_saved None w.stored (works_none number w h)
 
 changes_same : (old new : Option FileMap) (name : List ℕ) → new ≡ old → ChangesAt old new name
 changes_same None new name same = tt
@@ -138,12 +142,6 @@ means_keeps command o status.Words h = absurd h
 
 -- ---- where no fault came
 
-came : (command : Command) (o : Outside) (told : FileMap) (w : Outcome) (st : Status) → o.files ≡ Some told → ((v : Outcome) → Gives command (Some told) v → v ≡ w)
-    → Prints command o st → ComesTo w o st
-came command o told w st files only h =
-    let same = only h.0 (subst (λ (f : Option FileMap). Gives command f h.0) files h.1) in
-    (sym h.2 ∙ ap (λ (v : Outcome). v.status) same, subst (λ (v : Outcome). IsStored v.stored o.files o.files_after) same h.3, subst (λ (v : Outcome). Appends o.taken o.taken_after v.text) same h.4)
-
 -- a load that failed, and a store
 no_load : (command : Command) (o : Outside) → NoLoadFault command o → Rose o.loads o.loads_after → (o.sure ≡ true → Finds command o.files → ⊥) → ⊥
 no_load command o (inl none) rose unsure = none rose
@@ -155,43 +153,56 @@ no_store None stored o n bytes saved is none rose unsure = subst (λ (s : Option
 no_store (Some name) stored o n bytes saved is (inl none) rose unsure = none rose
 no_store (Some name) stored o n bytes saved is (inr sure) rose unsure = unsure sure
 
+-- where no fault came and memory was found, the work's outcome was told
+pub came_to : (command : Command) (o : Outside) (st : Status) → NoFault command o → st ≢ status.Memory → Means command o st → (w : Outcome) × Gives command o.files w × ComesTo w o st
+came_to command o status.Done none found h = (h.0, h.1, (sym h.2, h.3, h.4, h.5))
+came_to command o status.Stopped none found h = (h.0, h.1, (sym h.2, h.3, h.4, h.5))
+came_to command o status.Refused none found h = (h.0, h.1, (sym h.2, h.3, h.4, h.5))
+came_to command o status.ReadFault none found h = absurd (no_load command o none.loads h.0 h.3)
+came_to command o status.WriteFault none found (v, gives, NoStore name bytes is changes rose unsure same) =
+    absurd (no_store (saved command) v.stored o name bytes (gives_saved command o.files v gives) is none.stores rose unsure)
+came_to command o status.WriteFault none found (v, gives, NoPut stored front rose) = absurd (none.puts rose)
+came_to command o status.Memory none found h = absurd (found refl)
+came_to command o status.Words none found h = absurd h
+
 -- work that can come to one thing only comes to that
 pub comes_to : (command : Command) (o : Outside) (told : FileMap) (w : Outcome) (st : Status) → o.files ≡ Some told
     → ((v : Outcome) → Gives command (Some told) v → v ≡ w) → NoFault command o → st ≢ status.Memory → Means command o st → ComesTo w o st
-comes_to command o told w status.Done files only none found h = came command o told w status.Done files only h
-comes_to command o told w status.Stopped files only none found h = came command o told w status.Stopped files only h
-comes_to command o told w status.Refused files only none found h = came command o told w status.Refused files only h
-comes_to command o told w status.ReadFault files only none found h = absurd (no_load command o none.loads h.0 h.3)
-comes_to command o told w status.WriteFault files only none found (v, gives, NoStore name bytes is changes rose unsure same) =
-    absurd (no_store (saved command) v.stored o name bytes (gives_saved command o.files v gives) is none.stores rose unsure)
-comes_to command o told w status.WriteFault files only none found (v, gives, NoPut stored front rose) = absurd (none.puts rose)
-comes_to command o told w status.Memory files only none found h = absurd (found refl)
-comes_to command o told w status.Words files only none found h = absurd h
+comes_to command o told w st files only none found h =
+    let c = came_to command o st none found h in
+    subst (λ (v : Outcome). ComesTo v o st) (only c.0 (subst (λ (f : Option FileMap). Gives command f c.0) files c.1)) c.2
 
 -- ---- refusals
 
-script_once : (image : Image) (frames n : ℕ) (r : Result Events (ℕ × ScriptCause)) (w v : Outcome) → w.status ≡ status.Refused
-    → RunsScript image frames n r w → RunsScript image frames n r v → v ≡ w
-script_once image frames n (Ok events) w v is (Small lt one) (Small le two) = two ∙ sym one
-script_once image frames n (Ok events) w v is (Small lt one) (Ran text count end run two) = absurd (omega (arith, lt, run.fits))
-script_once image frames n (Ok events) w v is (Ran text count end run one) h = absurd (ended_refused end text (sym (ap (λ (x : Outcome). x.status) one) ∙ is))
-script_once image frames n (Err (line, cause)) w v is one two = two ∙ sym one
+script_once : (runs : Image → Events → Outcome → Type 0) (frames : ℕ) (image : Image) (r : Result Events (ℕ × ScriptCause)) (w v : Outcome) → AreEnds runs → w.status ≡ status.Refused
+    → RunsScript runs frames image r w → RunsScript runs frames image r v → v ≡ w
+script_once runs frames image (Ok events) w v are is (Small lt one) (Small le two) = two ∙ sym one
+script_once runs frames image (Ok events) w v are is (Small lt one) (Ran fits ran) = absurd (omega (arith, lt, fits))
+script_once runs frames image (Ok events) w v are is (Ran fits ran) h = absurd (ended_refused (are.end image events w ran) (sym (are.ends image events w ran) ∙ is))
+script_once runs frames image (Err (line, cause)) w v are is one two = two ∙ sym one
 
-image_once : (told : FileMap) (script : List ℕ) (frames n : ℕ) (r : Result Image Refusal) (w v : Outcome) → w.status ≡ status.Refused
-    → RunsImage (Some told) script frames n r w → RunsImage (Some told) script frames n r v → v ≡ w
-image_once told script frames n (Ok image) w v is one two =
+image_once : (runs : Image → Events → Outcome → Type 0) (frames : ℕ) (told : FileMap) (script : List ℕ) (r : Result Image Refusal) (w v : Outcome) → AreEnds runs → w.status ≡ status.Refused
+    → RunsImage runs frames (Some told) script r w → RunsImage runs frames (Some told) script r v → v ≡ w
+image_once runs frames told script (Ok image) w v are is one two =
     let same = same_file told script two.0 one.0 two.1 one.1 in
-    script_once image frames n (script_of one.0) w v is one.2 (subst (λ (f : List ℕ). RunsScript image frames n (script_of f) v) same two.2)
-image_once told script frames n (Err refusal) w v is one two = two ∙ sym one
+    script_once runs frames image (script_of one.0) w v are is one.2 (subst (λ (f : List ℕ). RunsScript runs frames image (script_of f) v) same two.2)
+image_once runs frames told script (Err refusal) w v are is one two = two ∙ sym one
+
+-- a run that is refused comes to nothing else, on either machine
+run_once : (runs : Image → Events → Outcome → Type 0) (frames : ℕ) (told : FileMap) (image script : List ℕ) (w v : Outcome) → AreEnds runs → w.status ≡ status.Refused
+    → Runs runs frames (Some told) image script w → Runs runs frames (Some told) image script v → v ≡ w
+run_once runs frames told image script w v are is h k =
+    let same = same_file told image k.0 h.0 k.1 h.1 in
+    image_once runs frames told script (image_of h.0) w v are is h.2 (subst (λ (f : List ℕ). RunsImage runs frames (Some told) script (image_of f) v) same k.2)
 
 -- work that is refused comes to nothing else
 pub refused_once : (command : Command) (told : FileMap) (w : Outcome) → w.status ≡ status.Refused → Gives command (Some told) w → (v : Outcome) → Gives command (Some told) v → v ≡ w
 refused_once (Burn source object) told w is h v k = burns_once told source object w v h k
 refused_once (Link image objects) told w is h v k = links_once told image objects w v h k
 refused_once (Check image) told w is h v k = checks_once told image w v h k
-refused_once (RunBare image script frames n) told w is h v k =
-    let same = same_file told image k.0 h.0 k.1 h.1 in
-    image_once told script frames n (image_of h.0) w v is h.2 (subst (λ (f : List ℕ). RunsImage (Some told) script frames n (image_of f) v) same k.2)
+refused_once (RunBare image script frames n) told w is h v k = run_once (RunsBare frames n) frames told image script w v (bare_ends frames n) is h k
+refused_once (RunWedge image script frames n) told w is h v k = run_once (RunsPatched frames n) frames told image script w v (patched_ends frames n) is h k
+refused_once (Work number) told w is h v k = works_once number w v is h k
 
 written_none : (name : List ℕ) (r : Result ObjectParts burning.Fault) → (written name r).status ≡ status.Refused → (written name r).stored ≡ None
 written_none name (Ok o) is = cc
@@ -215,7 +226,9 @@ refused_none (Burn source object) files w is h =
     ap (λ (v : Outcome). v.stored) h.comes ∙ burned_none object h.said (sym (ap (λ (v : Outcome). v.status) h.comes) ∙ is)
 refused_none (Link image objects) files w is h = links_none files image objects w is h
 refused_none (Check image) files w is h = ap (λ (v : Outcome). v.stored) h.2 ∙ checked_none (image_of h.0)
-refused_none (RunBare image script frames n) files w is h = image_none files script frames n (image_of h.0) w h.2
+refused_none (RunBare image script frames n) files w is h = image_none (RunsBare frames n) frames files script (image_of h.0) w (bare_ends frames n) h.2
+refused_none (RunWedge image script frames n) files w is h = image_none (RunsPatched frames n) frames files script (image_of h.0) w (patched_ends frames n) h.2
+refused_none (Work number) files w is h = works_none number w h
 
 pub refused_again : (command : Command) (o : Outside) (told : FileMap) (w : Outcome) (st : Status) → o.files ≡ Some told → Gives command (Some told) w → w.status ≡ status.Refused
     → NoFault command o → st ≢ status.Memory → Means command o st
@@ -226,43 +239,31 @@ refused_again command o told w st files gives is none found h =
 
 -- ---- completeness of `run`
 
--- an outcome of memory that is large enough is that of a run
-ran : (program : Image) (events : Events) (frames n : ℕ) (o : Outside) (w : Outcome) (st : Status) → need program ≤ frames → RunsOn program events frames n w → ComesTo w o st
-    → PrintsRun program events frames n o st
-ran program events frames n o w st le (Small lt one) came = absurd (omega (arith, lt, le))
-ran program events frames n o w st le (Ran text count end run one) came = (text, count, end, run, subst (λ (v : Outcome). ComesTo v o st) one came)
-
--- over these files a run goes on to its text
-runs_both : (told : FileMap) (image script : List ℕ) (frames n : ℕ) (program : Image) (events : Events) (w : Outcome)
-    → HasImage (Some told) image program → HasScript (Some told) script events → Runs (Some told) image script frames n w → RunsOn program events frames n w
-runs_both told image script frames n program events w has says h =
+-- over these files a run goes on to its outcome
+pub runs_both : (runs : Image → Events → Outcome → Type 0) (frames : ℕ) (told : FileMap) (image script : List ℕ) (program : Image) (events : Events) (w : Outcome)
+    → HasImage (Some told) image program → HasScript (Some told) script events → Runs runs frames (Some told) image script w → RunsOn (runs program events) program frames w
+runs_both runs frames told image script program events w has says h =
     let same = same_file told image h.0 has.0 h.1 has.1 in
-    let of_file = subst (λ (f : List ℕ). RunsImage (Some told) script frames n (image_of f) w) same h.2 in
-    let of_image = subst (λ (r : Result Image Refusal). RunsImage (Some told) script frames n r w) has.2 of_file in
+    let of_file = subst (λ (f : List ℕ). RunsImage runs frames (Some told) script (image_of f) w) same h.2 in
+    let of_image = subst (λ (r : Result Image Refusal). RunsImage runs frames (Some told) script r w) has.2 of_file in
     let same_script = same_file told script of_image.0 says.0 of_image.1 says.1 in
-    let of_text = subst (λ (f : List ℕ). RunsScript program frames n (script_of f) w) same_script of_image.2 in
-    subst (λ (r : Result Events (ℕ × ScriptCause)). RunsScript program frames n r w) says.2 of_text
+    let of_text = subst (λ (f : List ℕ). RunsScript runs frames program (script_of f) w) same_script of_image.2 in
+    subst (λ (r : Result Events (ℕ × ScriptCause)). RunsScript runs frames program r w) says.2 of_text
 
-run_came : (image script : List ℕ) (frames n : ℕ) (o : Outside) (told : FileMap) (program : Image) (events : Events) (st : Status) → o.files ≡ Some told
-    → HasImage (Some told) image program → HasScript (Some told) script events → need program ≤ frames → Prints (RunBare image script frames n) o st
-    → PrintsRun program events frames n o st
-run_came image script frames n o told program events st files has says le h =
-    let gives = subst (λ (f : Option FileMap). Runs f image script frames n h.0) files h.1 in
-    ran program events frames n o h.0 st le (runs_both told image script frames n program events h.0 has says gives) (sym h.2, h.3, h.4)
+-- an outcome of memory that is large enough is that of a run
+pub ran : (runs : Image → Events → Outcome → Type 0) (frames : ℕ) (program : Image) (events : Events) (w : Outcome) → need program ≤ frames → RunsOn (runs program events) program frames w → runs program events w
+ran runs frames program events w le (Small lt one) = absurd (omega (arith, lt, le))
+ran runs frames program events w le (Ran fits h) = h
 
 pub run_ends : (image script : List ℕ) (frames n : ℕ) (o : Outside) (told : FileMap) (program : Image) (events : Events) (st : Status) → o.files ≡ Some told
     → HasImage (Some told) image program → HasScript (Some told) script events → need program ≤ frames
     → NoFault (RunBare image script frames n) o → st ≢ status.Memory → Means (RunBare image script frames n) o st
     → PrintsRun program events frames n o st
-run_ends image script frames n o told program events status.Done files has says le none found h = run_came image script frames n o told program events status.Done files has says le h
-run_ends image script frames n o told program events status.Stopped files has says le none found h = run_came image script frames n o told program events status.Stopped files has says le h
-run_ends image script frames n o told program events status.Refused files has says le none found h = run_came image script frames n o told program events status.Refused files has says le h
-run_ends image script frames n o told program events status.ReadFault files has says le none found h = absurd (no_load (RunBare image script frames n) o none.loads h.0 h.3)
-run_ends image script frames n o told program events status.WriteFault files has says le none found (w, gives, NoStore name bytes is changes rose unsure same) =
-    absurd (no_store None w.stored o name bytes (gives_saved (RunBare image script frames n) o.files w gives) is none.stores rose unsure)
-run_ends image script frames n o told program events status.WriteFault files has says le none found (w, gives, NoPut stored front rose) = absurd (none.puts rose)
-run_ends image script frames n o told program events status.Memory files has says le none found h = absurd (found refl)
-run_ends image script frames n o told program events status.Words files has says le none found h = absurd h
+run_ends image script frames n o told program events st files has says le none found h =
+    let w = came_to (RunBare image script frames n) o st none found h in
+    let gives = subst (λ (f : Option FileMap). Runs (RunsBare frames n) frames f image script w.0) files w.1 in
+    let run = ran (RunsBare frames n) frames program events w.0 le (runs_both (RunsBare frames n) frames told image script program events w.0 has says gives) in
+    (run.text, run.count, run.end, run.run, subst (λ (v : Outcome). ComesTo v o st) run.comes w.2)
 
 -- ---- completeness of the others
 
@@ -331,13 +332,13 @@ held_objects told (name ∷ names) [] h = absurd h
 held_objects told (name ∷ names) (o ∷ os) h = ((object_bytes o, h.0, h.2 h.1), held_objects told names os h.3)
 
 -- where the work comes to something, each file that it reaches is held
-run_found : (told : FileMap) (image script : List ℕ) (frames n : ℕ) (w : Outcome) → Runs (Some told) image script frames n w → FindsRun (Some told) image script
-run_found told image script frames n w h = (
+run_found : (runs : Image → Events → Outcome → Type 0) (frames : ℕ) (told : FileMap) (image script : List ℕ) (w : Outcome) → Runs runs frames (Some told) image script w → FindsRun (Some told) image script
+run_found runs frames told image script w h = (
   (h.0, h.1),
   λ program has.
       let same = same_file told image h.0 has.0 h.1 has.1 in
-      let of_file = subst (λ (f : List ℕ). RunsImage (Some told) script frames n (image_of f) w) same h.2 in
-      let of_image = subst (λ (r : Result Image Refusal). RunsImage (Some told) script frames n r w) has.2 of_file in
+      let of_file = subst (λ (f : List ℕ). RunsImage runs frames (Some told) script (image_of f) w) same h.2 in
+      let of_image = subst (λ (r : Result Image Refusal). RunsImage runs frames (Some told) script r w) has.2 of_file in
       (of_image.0, of_image.1),
 )
 
@@ -345,7 +346,9 @@ pub gives_found : (command : Command) (told : FileMap) (w : Outcome) → Gives c
 gives_found (Burn source object) told w h = (h.text, h.holds)
 gives_found (Link image objects) told w h = links_found told image objects w h
 gives_found (Check image) told w h = (h.0, h.1)
-gives_found (RunBare image script frames n) told w h = run_found told image script frames n w h
+gives_found (RunBare image script frames n) told w h = run_found (RunsBare frames n) frames told image script w h
+gives_found (RunWedge image script frames n) told w h = run_found (RunsPatched frames n) frames told image script w h
+gives_found (Work number) told w h = tt
 
 pub image_again : (told : FileMap) (name : List ℕ) (p : ImageParts) (program : Image) → told name ≡ Some (image_bytes p) → length (image_bytes p) ≤ 33554432 → ImageReadsBack p
     → image_from p ≡ Ok program → HasImage (Some told) name program

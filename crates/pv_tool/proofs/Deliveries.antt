@@ -6,11 +6,13 @@ use Rattle.pv_io.specs.Sink.{Appends}
 use Rattle.pv_io.specs.declared.files.Files as disk
 use Rattle.pv_io.specs.declared.sink.Sink as sink
 use Rattle.bare_machine.proofs.Texts.{rose_later}
-use Rattle.pv_tool.specs.Words.{Command}
-use Rattle.pv_tool.specs.Outside.{Outside, outside, OnlyRead, NotRead}
+use Rattle.pv_tool.specs.Words.{Command, Burn, Link, Check, RunBare, RunWedge, Work}
+use Rattle.host_cpl3.specs.declared.host.Host as hosts
+use Rattle.wedge_core.specs.Slices as host
+use Rattle.pv_tool.specs.Outside.{Outside, beside, outside, OnlyRead, NotRead}
 use Rattle.pv_tool.specs.Outcome.{Outcome, refused, stored_as}
 use Rattle.pv_tool.specs.Delivery.{HaltsAs, RefusesAs, Says, Whole, Cut, Ends, Delivers, Stored, NotStored, NoMemory}
-use Rattle.pv_tool.specs.Meaning.{Means, Gives, Finds, Counts, KeepsCount, IsStored, NoStore, NoPut, saved}
+use Rattle.pv_tool.specs.Meaning.{Means, Gives, Finds, Counts, KeepsCount, IsStored, HostDoes, IsIdle, NoStore, NoPut, saved}
 use Rattle.pv_tool.specs.declared.halt.Halt.{Halt}
 use Rattle.pv_tool.specs.declared.halt.Halt.TheVariants as halt
 use Rattle.pv_tool.specs.declared.status.Status.{Status}
@@ -33,32 +35,50 @@ IsEnd status.WriteFault = ⊥
 IsEnd status.Memory = ⊥
 
 pub prints : (command : Command) (o : Outside) (w : Outcome) (st : Status) → w.status ≡ st → IsEnd st
-    → Gives command o.files w → IsStored w.stored o.files o.files_after → Appends o.taken o.taken_after w.text → Means command o st
-prints command o w status.Done is end gives stored appends = (w, gives, is, stored, appends)
-prints command o w status.Stopped is end gives stored appends = (w, gives, is, stored, appends)
-prints command o w status.Refused is end gives stored appends = (w, gives, is, stored, appends)
-prints command o w status.Words is end gives stored appends = absurd end
-prints command o w status.ReadFault is end gives stored appends = absurd end
-prints command o w status.WriteFault is end gives stored appends = absurd end
-prints command o w status.Memory is end gives stored appends = absurd end
+    → Gives command o.files w → IsStored w.stored o.files o.files_after → Appends o.taken o.taken_after w.text → HostDoes w o → Means command o st
+prints command o w status.Done is end gives stored appends does = (w, gives, is, stored, appends, does)
+prints command o w status.Stopped is end gives stored appends does = (w, gives, is, stored, appends, does)
+prints command o w status.Refused is end gives stored appends does = (w, gives, is, stored, appends, does)
+prints command o w status.Words is end gives stored appends does = absurd end
+prints command o w status.ReadFault is end gives stored appends does = absurd end
+prints command o w status.WriteFault is end gives stored appends does = absurd end
+prints command o w status.Memory is end gives stored appends does = absurd end
 
 -- an outcome whose text was told
 pub says : (command : Command) (o : Outside) (w : Outcome) (st : Status) → IsEnd w.status
-    → Gives command o.files w → IsStored w.stored o.files o.files_after → Says w.text w.status o.taken o.taken_after o.puts o.puts_after st → Means command o st
-says command o w st end gives stored (Whole is appends) =
-    subst (λ (s : Status). Means command o s) (sym is) (prints command o w w.status refl end gives stored appends)
-says command o w st end gives stored (Cut is front rose) =
+    → Gives command o.files w → IsStored w.stored o.files o.files_after → (st ≡ w.status → HostDoes w o)
+    → Says w.text w.status o.taken o.taken_after o.puts o.puts_after st → Means command o st
+says command o w st end gives stored does (Whole is appends) =
+    subst (λ (s : Status). Means command o s) (sym is) (prints command o w w.status refl end gives stored appends (does is))
+says command o w st end gives stored does (Cut is front rose) =
     subst (λ (s : Status). Means command o s) (sym is) (w, gives, NoPut stored front rose)
+
+-- a host that has completed nothing
+pub idle : (command : Command) (o : Outside) → o.completed_after ≡ o.completed → IsIdle command o
+idle (Burn source object) o none = none
+idle (Link image objects) o none = none
+idle (Check image) o none = none
+idle (RunBare image script frames n) o none = none
+idle (RunWedge image script frames n) o none = none
+idle (Work number) o none = tt
+
+idle_since : (command : Command) (o : Outside) (loads : ℕ) → IsIdle command o → IsIdle command (record o { loads = loads })
+idle_since (Burn source object) o loads h = h
+idle_since (Link image objects) o loads h = h
+idle_since (Check image) o loads h = h
+idle_since (RunBare image script frames n) o loads h = h
+idle_since (RunWedge image script frames n) o loads h = h
+idle_since (Work number) o loads h = h
 
 -- work that ended with nothing stored
 pub halts : (told : List ℕ → Type 0) (held : Type 0) (command : Command) (o : Outside) (st : Status) (h : Halt)
     → ((line : List ℕ) → told line → Gives command o.files (refused line)) → (Finds command o.files → held) → o.files_after ≡ o.files
-    → HaltsAs told held o.sure o.loads o.loads_after h → Ends h o.taken o.taken_after o.puts o.puts_after st → Means command o st
-halts told held command o st (halt.Refused line) gives needs same is ends = says command o (refused line) st tt (gives line is) same ends
-halts told held command o st halt.ReadFault gives needs same is ends =
-    subst (λ (s : Status). Means command o s) (sym ends.0) (is.0, same, ends.1, λ sure all. is.1 sure (needs all))
-halts told held command o st halt.Memory gives needs same is ends =
-    subst (λ (s : Status). Means command o s) (sym ends.0) (same, ends.1)
+    → o.completed_after ≡ o.completed → HaltsAs told held o.sure o.loads o.loads_after h → Ends h o.taken o.taken_after o.puts o.puts_after st → Means command o st
+halts told held command o st (halt.Refused line) gives needs same none is ends = says command o (refused line) st tt (gives line is) same (λ end. none) ends
+halts told held command o st halt.ReadFault gives needs same none is ends =
+    subst (λ (s : Status). Means command o s) (sym ends.0) (is.0, same, ends.1, (λ sure all. is.1 sure (needs all)), none)
+halts told held command o st halt.Memory gives needs same none is ends =
+    subst (λ (s : Status). Means command o s) (sym ends.0) (same, ends.1, idle command o none)
 
 -- the same since an earlier load, over the files as they were then
 pub halts_since : (told : List ℕ → Type 0) (held : Type 0) (sure sure2 : Bool) (loads mid after : ℕ) (h : Halt)
@@ -92,29 +112,29 @@ halts_as told told2 held held2 sure before now halt.Memory to from is = is
 
 -- ---- what was made
 
-delivers : (command : Command) (o : Outside) (name bytes line : List ℕ) (st : Status) → Gives command o.files (stored_as name bytes line)
+delivers : (command : Command) (o : Outside) (name bytes line : List ℕ) (st : Status) → Gives command o.files (stored_as name bytes line) → o.completed_after ≡ o.completed
     → Delivers name bytes line o st → Means command o st
-delivers command o name bytes line st gives (Stored stores said) = says command o (stored_as name bytes line) st tt gives stores said
-delivers command o name bytes line st gives (NotStored is changes rose unsure same) =
+delivers command o name bytes line st gives none (Stored stores said) = says command o (stored_as name bytes line) st tt gives stores (λ end. none) said
+delivers command o name bytes line st gives none (NotStored is changes rose unsure same) =
     subst (λ (s : Status). Means command o s) (sym is) (stored_as name bytes line, gives, NoStore name bytes refl changes rose unsure same)
-delivers command o name bytes line st gives (NoMemory is same none) = subst (λ (s : Status). Means command o s) (sym is) (same, none)
+delivers command o name bytes line st gives none (NoMemory is same put) = subst (λ (s : Status). Means command o s) (sym is) (same, put, idle command o none)
 
 since_loads : (command : Command) (o : Outside) (loads : ℕ) (st : Status) → loads ≤ o.loads → Means command o st → Means command (record o { loads = loads }) st
 since_loads command o loads status.Done le h = h
 since_loads command o loads status.Stopped le h = h
 since_loads command o loads status.Refused le h = h
-since_loads command o loads status.ReadFault le h = (rose_later loads o.loads o.loads_after le h.0, h.1, h.2, h.3)
+since_loads command o loads status.ReadFault le h = (rose_later loads o.loads o.loads_after le h.0, h.1, h.2, h.3, h.4)
 since_loads command o loads status.WriteFault le (w, gives, NoStore name bytes is changes rose unsure same) = (w, gives, NoStore name bytes is changes rose unsure same)
 since_loads command o loads status.WriteFault le (w, gives, NoPut stored front rose) = (w, gives, NoPut stored front rose)
-since_loads command o loads status.Memory le h = h
+since_loads command o loads status.Memory le h = (h.0, h.1, idle_since command o loads h.2)
 since_loads command o loads status.Words le h = absurd h
 
 -- what was made is delivered, over the files as they were before they were read
 pub delivered : (command : Command) (o : Outside) (files : Option FileMap) (sure : Bool) (loads stores : ℕ) (name bytes line : List ℕ) (st : Status)
-    → o.files ≡ files → o.sure ≡ sure → o.stores ≡ stores → loads ≤ o.loads → Gives command files (stored_as name bytes line) → Delivers name bytes line o st
+    → o.files ≡ files → o.sure ≡ sure → o.stores ≡ stores → loads ≤ o.loads → Gives command files (stored_as name bytes line) → o.completed_after ≡ o.completed → Delivers name bytes line o st
     → Means command (record o { files = files; sure = sure; stores = stores; loads = loads }) st
-delivered command o files sure loads stores name bytes line st same_files same_sure same_stores le gives done =
-    let first = since_loads command o loads st le (delivers command o name bytes line st (subst (λ (f : Option FileMap). Gives command f (stored_as name bytes line)) (sym same_files) gives) done) in
+delivered command o files sure loads stores name bytes line st same_files same_sure same_stores le gives none done =
+    let first = since_loads command o loads st le (delivers command o name bytes line st (subst (λ (f : Option FileMap). Gives command f (stored_as name bytes line)) (sym same_files) gives) none done) in
     let over_files = subst (λ (f : Option FileMap). Means command (record o { files = f; loads = loads }) st) same_files first in
     let over_sure = subst (λ (b : Bool). Means command (record o { files = files; sure = b; loads = loads }) st) same_sure over_files in
     subst (λ (n : ℕ). Means command (record o { files = files; sure = sure; stores = n; loads = loads }) st) same_stores over_sure
@@ -149,8 +169,20 @@ same_count None before now same = same
 same_count (Some name) before now same = omega (arith, same)
 
 -- of work that stored nothing
-pub counts_read : {F S : Type 0} (f : disk.Ghosts F) (s : sink.Ghosts S) (command : Command) (a b : F) (out out2 : S) → OnlyRead f (Finds command (f.held a)) a b → Counts command (outside f s a b out out2)
-counts_read f s command a b out out2 read = record {
+pub counts_read : {F S : Type 0} (f : disk.Ghosts F) (s : sink.Ghosts S) (command : Command) (a b : F) (out out2 : S) (completed : host.Counts) (memory : List ℕ)
+    → OnlyRead f (Finds command (f.held a)) a b → Counts command (beside f s a b out out2 completed memory)
+counts_read f s command a b out out2 completed memory read = record {
+  same_sure = read.same_sure;
+  loads = read.later;
+  stores = same_count (saved command) (f.store_faults a) (f.store_faults b) read.same_stores;
+  sure_loads = read.no_fault;
+  sure_stores = λ sure. read.same_stores;
+}
+
+-- the same beside a host
+pub counts_host : {F S H : Type 0} (f : disk.Ghosts F) (s : sink.Ghosts S) (h : hosts.Ghosts H) (command : Command) (a b : F) (out out2 : S) (host host2 : H)
+    → OnlyRead f (Finds command (f.held a)) a b → Counts command (outside f s h a b out out2 host host2)
+counts_host f s h command a b out out2 host host2 read = record {
   same_sure = read.same_sure;
   loads = read.later;
   stores = same_count (saved command) (f.store_faults a) (f.store_faults b) read.same_stores;
@@ -159,10 +191,10 @@ counts_read f s command a b out out2 read = record {
 }
 
 -- of work that stored
-pub counts_stored : {F S : Type 0} (f : disk.Ghosts F) (s : sink.Ghosts S) (command : Command) (a b c : F) (out out2 : S)
+pub counts_stored : {F S : Type 0} (f : disk.Ghosts F) (s : sink.Ghosts S) (command : Command) (a b c : F) (out out2 : S) (completed : host.Counts) (memory : List ℕ)
     → (f.store_faults a ≤ f.store_faults c → KeepsCount (saved command) (f.store_faults a) (f.store_faults c))
-    → OnlyRead f (Finds command (f.held a)) a b → NotRead f b c → Counts command (outside f s a c out out2)
-counts_stored f s command a b c out out2 keeps read stored = record {
+    → OnlyRead f (Finds command (f.held a)) a b → NotRead f b c → Counts command (beside f s a c out out2 completed memory)
+counts_stored f s command a b c out out2 completed memory keeps read stored = record {
   same_sure = stored.same_sure ∙ read.same_sure;
   loads = omega (arith, read.later, stored.same_loads);
   stores = keeps (omega (arith, read.same_stores, stored.later));

@@ -1,5 +1,5 @@
--- The meaning of `run` on the bare machine.
-use Rattle.std.proofs.Common.{◌≡◌, inl, inr, ℕ, ◌<◌, List, Option, None, Result, Ok, refl, sym, ap, subst}
+-- The meaning of `run`, on either machine.
+use Rattle.std.proofs.Common.{◌≡◌, inl, inr, ℕ, ◌<◌, List, Option, None, Result, Ok, Err, refl, sym, ap, subst, ◌∙◌}
 use Rattle.pv_io.specs.Causes.{Rose}
 use Rattle.pv_io.specs.Files.{FileMap}
 use Rattle.pv_io.specs.Sink.{Appends, AppendsFront}
@@ -8,89 +8,183 @@ use Rattle.board.specs.declared.fault.ScriptCause.{ScriptCause}
 use Rattle.image_check.specs.Image.{Image}
 use Rattle.image_check.specs.Refusals.{Refusal}
 use Rattle.image_load.specs.Boot.{need}
+use Rattle.image_load.specs.declared.boot.TooSmall.{TooSmall}
+use Rattle.image_load.specs.declared.fault.RunFault.{RunFault}
+use Rattle.image_load.specs.declared.fault.RunFault.TheVariants as fault
 use Rattle.run_trace.specs.declared.items.End.{End}
 use Rattle.run_trace.specs.declared.items.End.TheVariants.{Bound, Stopped}
-use Rattle.bare_machine.specs.Answers.{HasRun}
-use Rattle.pv_tool.specs.Words.{RunBare}
-use Rattle.pv_tool.specs.Lines.{image_line, script_line, small_line}
+use Rattle.run_trace.specs.declared.items.Ended.{Ended}
+use Rattle.run_trace.specs.Text.{text_of}
+use Rattle.machine_model.specs.State.{wedge}
+use Rattle.machine_model.specs.Step.{Report}
+use Rattle.machine_model.specs.Run.{trace_of}
+use Rattle.bare_machine.specs.Answers.{RunAnswers}
+use Rattle.wedge_core.specs.Slices.{Counts}
+use Rattle.wedge_core.specs.Promises.{WedgeAnswers}
+use Rattle.pv_tool.specs.Words.{Command}
+use Rattle.pv_tool.specs.Lines.{small_line}
 use Rattle.pv_tool.specs.Outside.{Outside}
-use Rattle.pv_tool.specs.Outcome.{Outcome, refused, ended}
+use Rattle.pv_tool.specs.Outcome.{Outcome, HostedRun, refused, ended, ended_on_host, status_of}
 use Rattle.pv_tool.specs.Delivery.{Says, Whole, Cut}
-use Rattle.pv_tool.specs.Checking.{HasImage, HasNoImage}
-use Rattle.pv_tool.specs.Running.{HasScript, HasNoScript, RunsOn, Ran, Small, RunsScript, RunsImage, Runs, RanAs}
-use Rattle.pv_tool.specs.Meaning.{Means, IsStored}
+use Rattle.pv_tool.specs.Checking.{HasImage}
+use Rattle.pv_tool.specs.Running.{HasScript, NoRun, NoImage, NoScript, RunsBare, RunsPatched, RunsOn, Ran, Small, RunsScript, RunsImage, Runs, ToldAs, RanAs}
+use Rattle.pv_tool.specs.Meaning.{Means, Gives, IsStored}
 use Rattle.pv_tool.specs.declared.status.Status.{Status}
 use Rattle.pv_tool.specs.declared.status.Status.TheVariants as status
-use Rattle.pv_tool.proofs.Deliveries.{IsEnd, says}
+use Rattle.pv_tool.proofs.Deliveries.{IsEnd, says, idle}
 
 -- ---- one run
 
--- the text of a run was put
-pub ran_to : (image : Image) (events : Events) (frames n : ℕ) (old new : Option (List ℕ)) (before now : ℕ) (text : List ℕ) (count : ℕ) (end end2 : End) (st : Status)
-    → end ≡ end2 → st ≡ (ended end2 text).status → HasRun image events frames n text count end → Appends old new text → RanAs image events frames n old new before now st
-ran_to image events frames n old new before now text count end Bound st same is run appends =
-    inl (ended Bound text, Ran text count Bound (subst (λ (e : End). HasRun image events frames n text count e) same run) refl, Whole is appends)
-ran_to image events frames n old new before now text count end (Stopped stop) st same is run appends =
-    inl (ended (Stopped stop) text, Ran text count (Stopped stop) (subst (λ (e : End). HasRun image events frames n text count e) same run) refl, Whole is appends)
+-- the same bytes were taken
+appends_on : (old mid new : Option (List ℕ)) (text : List ℕ) → new ≡ mid → Appends old mid text → Appends old new text
+appends_on old mid new text same h = subst (λ (t : Option (List ℕ)). Appends old t text) (sym same) h
 
--- the output failed within it
-pub ran_short : (image : Image) (events : Events) (frames n : ℕ) (old new : Option (List ℕ)) (before now : ℕ) (text : List ℕ) (count : ℕ) (end : End)
-    → HasRun image events frames n text count end → AppendsFront old new text → Rose before now → RanAs image events frames n old new before now status.WriteFault
-ran_short image events frames n old new before now text count Bound run front rose = inl (ended Bound text, Ran text count Bound run refl, Cut refl front rose)
-ran_short image events frames n old new before now text count (Stopped stop) run front rose =
-    inl (ended (Stopped stop) text, Ran text count (Stopped stop) run refl, Cut refl front rose)
+front_on : (old mid new : Option (List ℕ)) (text : List ℕ) → new ≡ mid → AppendsFront old mid text → AppendsFront old new text
+front_on old mid new text same h = subst (λ (t : Option (List ℕ)). AppendsFront old t text) (sym same) h
 
--- the memory is too small
-pub ran_small : (image : Image) (events : Events) (frames n : ℕ) (old new : Option (List ℕ)) (before now : ℕ) (line : List ℕ) (st : Status)
-    → frames < need image → line ≡ small_line (need image) frames → Says line status.Refused old new before now st → RanAs image events frames n old new before now st
-ran_small image events frames n old new before now line st lt is said = inl (refused line, Small lt (ap refused is), said)
+rose_on : (before mid now : ℕ) → now ≡ mid → Rose before mid → Rose before now
+rose_on before mid now same h = subst (λ (n : ℕ). Rose before n) (sym same) h
+
+says_from : (line : List ℕ) (old mid new : Option (List ℕ)) (before middle now : ℕ) (st : Status) → mid ≡ old → middle ≡ before
+    → Says line status.Refused mid new middle now st → Says line status.Refused old new before now st
+says_from line old mid new before middle now st same count h =
+    subst (λ (n : ℕ). Says line status.Refused old new n now st) count (subst (λ (t : Option (List ℕ)). Says line status.Refused t new middle now st) same h)
+
+-- the line of memory that is too small was put
+too_small : (ran : Outcome → Type 0) (image : Image) (frames : ℕ) (old new : Option (List ℕ)) (before now : ℕ) (c c2 : Counts) (memory : List ℕ) (small : TooSmall) (st : Status)
+    → frames < need image → small ≡ record { need = need image; have = frames } → c2 ≡ c → Says (small_line small.need small.have) status.Refused old new before now st
+    → RanAs (RunsOn ran image frames) old new before now c c2 memory st
+too_small ran image frames old new before now c c2 memory small st lt is none said =
+    inl (
+      refused (small_line small.need small.have),
+      Small lt (ap (λ (s : TooSmall). refused (small_line s.need s.have)) is),
+      said,
+      λ end. none,
+    )
+
+-- what the bare machine answered was told
+pub ran_bare : (image : Image) (events : Events) (frames n : ℕ) (old mid new : Option (List ℕ)) (before middle now : ℕ) (r : Result Ended RunFault) (c : Counts) (memory : List ℕ) (st : Status)
+    → RunAnswers image events frames n old mid before middle r → ToldAs r mid new middle now st
+    → RanAs (RunsOn (RunsBare frames n image events) image frames) old new before now c c memory st
+ran_bare image events frames n old mid new before middle now (Ok e) c memory st h told =
+    inl (
+      ended e.end h.0,
+      Ran h.1.fits (record { text = h.0; count = e.steps; end = e.end; run = h.1; comes = refl }),
+      Whole told.0 (appends_on old mid new h.0 told.1 h.2),
+      λ end. refl,
+    )
+ran_bare image events frames n old mid new before middle now (Err fault.Write) c memory st h told =
+    inl (
+      ended h.2 h.0,
+      Ran h.3.fits (record { text = h.0; count = h.1; end = h.2; run = h.3; comes = refl }),
+      Cut told.0 (front_on old mid new h.0 told.1 h.4) (rose_on before middle now told.2 h.5),
+      λ end. refl,
+    )
+ran_bare image events frames n old mid new before middle now (Err (fault.TooSmall small)) c memory st h (inl said) =
+    too_small (RunsBare frames n image events) image frames old new before now c c memory small st h.0 h.1 refl
+    (says_from (small_line small.need small.have) old mid new before middle now st h.2 h.3 said)
+ran_bare image events frames n old mid new before middle now (Err (fault.TooSmall small)) c memory st h (inr none) = inr (none.0, none.1 ∙ h.2, refl)
+ran_bare image events frames n old mid new before middle now (Err fault.Memory) c memory st h told = inr (told.0, told.1 ∙ h.0, refl)
+
+-- a status of no run
+no_write : (end : End) → status.WriteFault ≡ status_of end → ⊥
+no_write Bound is = cc
+no_write (Stopped stop) is = cc
+
+-- the text of a run, by its last state
+pub text_at : (reports : List Report) (text : List ℕ) (count last : ℕ) (end : End) → text ≡ text_of (trace_of reports) count end → count ≡ last → text ≡ text_of (trace_of reports) last end
+text_at reports text count last end is same = is ∙ ap (λ (n : ℕ). text_of (trace_of reports) n end) same
+
+-- what was answered of a patched run was told
+pub ran_patched : (image : Image) (events : Events) (frames n : ℕ) (old mid new : Option (List ℕ)) (before middle now : ℕ) (r : Result Ended RunFault) (c c2 : Counts) (memory : List ℕ) (st : Status)
+    → WedgeAnswers image events frames n old mid before middle c c2 memory r → ToldAs r mid new middle now st
+    → RanAs (RunsOn (RunsPatched frames n image events) image frames) old new before now c c2 memory st
+ran_patched image events frames n old mid new before middle now (Ok e) c c2 memory st h told =
+    let p = h.2 in
+    let run : HostedRun = record { setting = wedge image events frames; reports = p.reports; last = p.last; end = e.end } in
+    inl (
+      ended_on_host run,
+      Ran h.1 (record { sets = p.sets; reports = p.reports; last = p.last; end = e.end; run = p.run; comes = refl }),
+      Whole told.0 (appends_on old mid new (ended_on_host run).text told.1 (subst (λ (t : List ℕ). Appends old mid t) (text_at p.reports h.0 e.steps p.last.step e.end p.text_is p.count_is) h.3)),
+      λ end. (p.counts, p.memory_is),
+    )
+ran_patched image events frames n old mid new before middle now (Err fault.Write) c c2 memory st h told =
+    let g = h.4 in
+    let run : HostedRun = record { setting = wedge image events frames; reports = g.reports; last = g.last; end = h.2 } in
+    inl (
+      ended_on_host run,
+      Ran h.3 (record { sets = g.sets; reports = g.reports; last = g.last; end = h.2; run = g.run; comes = refl }),
+      Cut told.0 (front_on old mid new (ended_on_host run).text told.1 (subst (λ (t : List ℕ). AppendsFront old mid t) (text_at g.reports h.0 h.1 g.last.step h.2 g.text_is g.count_is) h.5)) (rose_on before middle now told.2 h.6),
+      λ end. absurd (no_write h.2 (sym told.0 ∙ end)),
+    )
+ran_patched image events frames n old mid new before middle now (Err (fault.TooSmall small)) c c2 memory st h (inl said) =
+    too_small (RunsPatched frames n image events) image frames old new before now c c2 memory small st h.0 h.1 h.4
+    (says_from (small_line small.need small.have) old mid new before middle now st h.2 h.3 said)
+ran_patched image events frames n old mid new before middle now (Err (fault.TooSmall small)) c c2 memory st h (inr none) = inr (none.0, none.1 ∙ h.2, h.4)
+ran_patched image events frames n old mid new before middle now (Err fault.Memory) c c2 memory st h told = inr (told.0, told.1 ∙ h.0, h.2)
 
 -- ---- what runs come to
 
-ended_none : (end : End) (text : List ℕ) → (ended end text).stored ≡ None
-ended_none Bound text = refl
-ended_none (Stopped stop) text = refl
+-- such outcomes are those of runs: nothing is stored, and a run was done or stopped
+pub record AreEnds (runs : Image → Events → Outcome → Type 0) : Type 0 where
+  pub stores : (image : Image) (events : Events) (w : Outcome) → runs image events w → w.stored ≡ None
+  pub end : (image : Image) (events : Events) (w : Outcome) → runs image events w → End
+  pub ends : (image : Image) (events : Events) (w : Outcome) (h : runs image events w) → w.status ≡ status_of (end image events w h)
 
-ended_end : (end : End) (text : List ℕ) → IsEnd (ended end text).status
-ended_end Bound text = tt
-ended_end (Stopped stop) text = tt
+pub bare_ends : (frames n : ℕ) → AreEnds (RunsBare frames n)
+bare_ends frames n = record {
+  stores = λ image events w h. ap (λ (v : Outcome). v.stored) h.comes;
+  end = λ image events w h. h.end;
+  ends = λ image events w h. ap (λ (v : Outcome). v.status) h.comes;
+}
 
-pub runs_none : (image : Image) (events : Events) (frames n : ℕ) (w : Outcome) → RunsOn image events frames n w → w.stored ≡ None
-runs_none image events frames n w (Ran text count end run is) = subst (λ (v : Outcome). v.stored ≡ None) (sym is) (ended_none end text)
-runs_none image events frames n w (Small lt is) = ap (λ (v : Outcome). v.stored) is
+pub patched_ends : (frames n : ℕ) → AreEnds (RunsPatched frames n)
+patched_ends frames n = record {
+  stores = λ image events w h. ap (λ (v : Outcome). v.stored) h.comes;
+  end = λ image events w h. h.end;
+  ends = λ image events w h. ap (λ (v : Outcome). v.status) h.comes;
+}
 
-runs_end : (image : Image) (events : Events) (frames n : ℕ) (w : Outcome) → RunsOn image events frames n w → IsEnd w.status
-runs_end image events frames n w (Ran text count end run is) = subst (λ (v : Outcome). IsEnd v.status) (sym is) (ended_end end text)
-runs_end image events frames n w (Small lt is) = subst (λ (v : Outcome). IsEnd v.status) (sym is) tt
+is_end : (end : End) → IsEnd (status_of end)
+is_end Bound = tt
+is_end (Stopped stop) = tt
+
+pub runs_none : (runs : Image → Events → Outcome → Type 0) (image : Image) (events : Events) (frames : ℕ) (w : Outcome) → AreEnds runs → RunsOn (runs image events) image frames w → w.stored ≡ None
+runs_none runs image events frames w are (Ran fits ran) = are.stores image events w ran
+runs_none runs image events frames w are (Small lt is) = ap (λ (v : Outcome). v.stored) is
+
+runs_end : (runs : Image → Events → Outcome → Type 0) (image : Image) (events : Events) (frames : ℕ) (w : Outcome) → AreEnds runs → RunsOn (runs image events) image frames w → IsEnd w.status
+runs_end runs image events frames w are (Ran fits ran) = subst (λ (s : Status). IsEnd s) (sym (are.ends image events w ran)) (is_end (are.end image events w ran))
+runs_end runs image events frames w are (Small lt is) = subst (λ (v : Outcome). IsEnd v.status) (sym is) tt
 
 -- ---- with the files
 
-pub no_image : (files : Option FileMap) (image script : List ℕ) (frames n : ℕ) (line : List ℕ)
-    → (refusal : Refusal) × HasNoImage files image refusal × (line ≡ image_line refusal) → Runs files image script frames n (refused line)
-no_image files image script frames n line h =
-    (h.1.0, h.1.1, subst (λ (r : Result Image Refusal). RunsImage files script frames n r (refused line)) (sym h.1.2) (ap refused h.2))
+with_image : (runs : Image → Events → Outcome → Type 0) (files : Option FileMap) (image script : List ℕ) (frames : ℕ) (i : Image) (w : Outcome) → HasImage files image i
+    → RunsImage runs frames files script (Ok i) w → Runs runs frames files image script w
+with_image runs files image script frames i w has h =
+    (has.0, has.1, subst (λ (r : Result Image Refusal). RunsImage runs frames files script r w) (sym has.2) h)
 
-with_image : (files : Option FileMap) (image script : List ℕ) (frames n : ℕ) (i : Image) (w : Outcome) → HasImage files image i → RunsImage files script frames n (Ok i) w → Runs files image script frames n w
-with_image files image script frames n i w has runs =
-    (has.0, has.1, subst (λ (r : Result Image Refusal). RunsImage files script frames n r w) (sym has.2) runs)
+-- there is nothing to run
+pub no_run : (runs : Image → Events → Outcome → Type 0) (files : Option FileMap) (image script : List ℕ) (frames : ℕ) (line : List ℕ)
+    → NoRun files image script line → Runs runs frames files image script (refused line)
+no_run runs files image script frames line (NoImage refusal has is) =
+    (has.0, has.1, subst (λ (r : Result Image Refusal). RunsImage runs frames files script r (refused line)) (sym has.2) (ap refused is))
+no_run runs files image script frames line (NoScript i at cause has none is) =
+    with_image runs files image script frames i (refused line) has
+    (none.0, none.1, subst (λ (r : Result Events (ℕ × ScriptCause)). RunsScript runs frames i r (refused line)) (sym none.2) (ap refused is))
 
-pub no_script : (files : Option FileMap) (image script : List ℕ) (frames n : ℕ) (i : Image) (line : List ℕ) → HasImage files image i
-    → (at : ℕ) × (cause : ScriptCause) × HasNoScript files script (at, cause) × (line ≡ script_line at cause) → Runs files image script frames n (refused line)
-no_script files image script frames n i line has h =
-    with_image files image script frames n i (refused line) has
-    (h.2.0, h.2.1, subst (λ (r : Result Events (ℕ × ScriptCause)). RunsScript i frames n r (refused line)) (sym h.2.2) (ap refused h.3))
-
-pub both : (files : Option FileMap) (image script : List ℕ) (frames n : ℕ) (i : Image) (s : Events) (w : Outcome) → HasImage files image i → HasScript files script s
-    → RunsOn i s frames n w → Runs files image script frames n w
-both files image script frames n i s w has says runs =
-    with_image files image script frames n i w has
-    (says.0, says.1, subst (λ (r : Result Events (ℕ × ScriptCause)). RunsScript i frames n r w) (sym says.2) runs)
+both : (runs : Image → Events → Outcome → Type 0) (files : Option FileMap) (image script : List ℕ) (frames : ℕ) (i : Image) (s : Events) (w : Outcome) → HasImage files image i
+    → HasScript files script s → RunsOn (runs i s) i frames w → Runs runs frames files image script w
+both runs files image script frames i s w has says h =
+    with_image runs files image script frames i w has
+    (says.0, says.1, subst (λ (r : Result Events (ℕ × ScriptCause)). RunsScript runs frames i r w) (sym says.2) h)
 
 -- a run of the files' image and script
-pub run_means : (image script : List ℕ) (frames n : ℕ) (o : Outside) (st : Status) (i : Image) (s : Events) → HasImage o.files image i → HasScript o.files script s → o.files_after ≡ o.files
-    → RanAs i s frames n o.taken o.taken_after o.puts o.puts_after st → Means (RunBare image script frames n) o st
-run_means image script frames n o st i s has has_script same (inl (w, runs, said)) =
-    says (RunBare image script frames n) o w st (runs_end i s frames n w runs) (both o.files image script frames n i s w has has_script runs)
-    (subst (λ (x : Option (List ℕ × List ℕ)). IsStored x o.files o.files_after) (sym (runs_none i s frames n w runs)) same) said
-run_means image script frames n o st i s has has_script same (inr (is, none)) =
-    subst (λ (x : Status). Means (RunBare image script frames n) o x) (sym is) (same, none)
+pub run_means : (command : Command) (runs : Image → Events → Outcome → Type 0) (image script : List ℕ) (frames : ℕ) (o : Outside) (st : Status) (i : Image) (s : Events) → AreEnds runs
+    → ((w : Outcome) → Runs runs frames o.files image script w → Gives command o.files w) → HasImage o.files image i → HasScript o.files script s → o.files_after ≡ o.files
+    → RanAs (RunsOn (runs i s) i frames) o.taken o.taken_after o.puts o.puts_after o.completed o.completed_after o.memory_after st → Means command o st
+run_means command runs image script frames o st i s are gives has has_script same (inl (w, h, said, does)) =
+    says command o w st (runs_end runs i s frames w are h) (gives w (both runs o.files image script frames i s w has has_script h))
+    (subst (λ (x : Option (List ℕ × List ℕ)). IsStored x o.files o.files_after) (sym (runs_none runs i s frames w are h)) same) does said
+run_means command runs image script frames o st i s are gives has has_script same (inr (is, none, still)) =
+    subst (λ (x : Status). Means command o x) (sym is) (same, none, idle command o still)

@@ -92,3 +92,16 @@ link_line object link.TextTooLarge = object_line 33 object
 link_line object link.InitTooLarge = object_line 34 object
 link_line object link.TooManySymbols = object_line 35 object
 link_line object link.SitesForm = object_line 36 object
+
+-- what `work` tells: the number, how many bytes of text and how many sites the image has, how many items there were in the
+-- second run's trace, and how many fills
+abbrev pub work_line : ℕ → ℕ → ℕ → ℕ → ℕ → List ℕ
+work_line number text sites items fills =
+    codes "work " ++ (decimal number ++ (codes " text " ++ (decimal text ++ (codes " sites " ++ (decimal sites ++ (codes " items " ++ (decimal items ++ (codes " fills " ++ (decimal fills ++ codes "\n")))))))))
+
+-- two texts are the same, or the first of their lines, from 1, that differs or is missing
+abbrev pub same_line : List ℕ
+same_line = codes "same\n"
+
+abbrev pub differ_line : ℕ → List ℕ
+differ_line line = codes "differ line " ++ (decimal line ++ codes "\n")

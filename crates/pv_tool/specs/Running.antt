@@ -1,5 +1,5 @@
 -- The work of `run`: the image, then the script, then the run of both.
-use Rattle.std.specs.Prelude.{◌≡◌, ◌⊎◌, ℕ, ◌<◌, List, Option, Result, Ok, Err}
+use Rattle.std.specs.Prelude.{◌≡◌, ◌⊎◌, ℕ, ◌<◌, ◌≤◌, List, Option, Some, None, Result, Ok, Err}
 use Rattle.pv_io.specs.Files.{FileMap, Holds, IsHeld}
 use Rattle.board.specs.Scripts.{Events}
 use Rattle.board.specs.Texts.{script_of}
@@ -8,12 +8,20 @@ use Rattle.image_check.specs.Image.{Image}
 use Rattle.image_check.specs.Refusals.{Refusal}
 use Rattle.image_check.specs.Checking.{image_of}
 use Rattle.image_load.specs.Boot.{need}
+use Rattle.image_load.specs.declared.fault.RunFault.{RunFault}
+use Rattle.image_load.specs.declared.fault.RunFault.TheVariants as fault
 use Rattle.run_trace.specs.declared.items.End.{End}
+use Rattle.run_trace.specs.declared.items.Ended.{Ended}
+use Rattle.machine_model.specs.State.{State, boot, wedge}
+use Rattle.machine_model.specs.Step.{Report}
+use Rattle.machine_model.specs.Run.{Set, Run}
 use Rattle.bare_machine.specs.Answers.{HasRun}
+use Rattle.wedge_core.specs.Slices.{Counts, CountsOn}
+use Rattle.wedge_core.specs.Promises.{HasMemory}
 use Rattle.pv_tool.specs.Lines.{image_line, script_line, small_line}
-use Rattle.pv_tool.specs.Outcome.{Outcome, refused, ended}
+use Rattle.pv_tool.specs.Outcome.{Outcome, HostedRun, refused, ended, ended_on_host, status_of}
 use Rattle.pv_tool.specs.Delivery.{Says}
-use Rattle.pv_tool.specs.Checking.{HasImage}
+use Rattle.pv_tool.specs.Checking.{HasImage, HasNoImage}
 use Rattle.pv_tool.specs.declared.status.Status.{Status}
 use Rattle.pv_tool.specs.declared.status.Status.TheVariants as status
 
@@ -27,26 +35,63 @@ HasNoScript files name fault = (file : List ℕ) × Holds files name file × (sc
 abbrev pub FindsRun : Option FileMap → List ℕ → List ℕ → Type 0
 FindsRun files image script = IsHeld files image × ((program : Image) → HasImage files image program → IsHeld files script)
 
--- a run of the image with its text, or a refusal where the image needs more frames than there are
-pub data RunsOn (image : Image) (events : Events) (frames n : ℕ) (w : Outcome) : Type 0 where
-  Ran : (text : List ℕ) (count : ℕ) (end : End) → HasRun image events frames n text count end → w ≡ ended end text → RunsOn image events frames n w
-  Small : frames < need image → w ≡ refused (small_line (need image) frames) → RunsOn image events frames n w
+-- why there is nothing to run: the file of the image, or of the script of an image that is accepted
+pub data NoRun (files : Option FileMap) (image script line : List ℕ) : Type 0 where
+  NoImage : (refusal : Refusal) → HasNoImage files image refusal → line ≡ image_line refusal → NoRun files image script line
+  NoScript : (program : Image) (at : ℕ) (cause : ScriptCause) → HasImage files image program → HasNoScript files script (at, cause)
+      → line ≡ script_line at cause → NoRun files image script line
+
+-- a run of the bare machine, with its text
+pub record RunsBare (frames n : ℕ) (image : Image) (events : Events) (w : Outcome) : Type 0 where
+  pub text : List ℕ
+  pub count : ℕ
+  pub end : End
+  pub run : HasRun image events frames n text count end
+  pub comes : w ≡ ended end text
+
+-- a run under the monitor's rules, whose direct instructions are the host's
+pub record RunsPatched (frames n : ℕ) (image : Image) (events : Events) (w : Outcome) : Type 0 where
+  pub sets : List Set
+  pub reports : List Report
+  pub last : State
+  pub end : End
+  pub run : Run (wedge image events frames) n (boot (wedge image events frames)) sets reports last end
+  pub comes : w ≡ ended_on_host (record { setting = wedge image events frames; reports = reports; last = last; end = end })
+
+-- what a run comes to, or a refusal where the image needs more frames than there are
+pub data RunsOn (ran : Outcome → Type 0) (image : Image) (frames : ℕ) (w : Outcome) : Type 0 where
+  Ran : need image ≤ frames → ran w → RunsOn ran image frames w
+  Small : frames < need image → w ≡ refused (small_line (need image) frames) → RunsOn ran image frames w
 
 -- over what the script's file says
-abbrev pub RunsScript : Image → ℕ → ℕ → Result Events (ℕ × ScriptCause) → Outcome → Type 0
-RunsScript image frames n (Ok events) w = RunsOn image events frames n w
-RunsScript image frames n (Err (line, cause)) w = w ≡ refused (script_line line cause)
+abbrev pub RunsScript : (Image → Events → Outcome → Type 0) → ℕ → Image → Result Events (ℕ × ScriptCause) → Outcome → Type 0
+RunsScript runs frames image (Ok events) w = RunsOn (runs image events) image frames w
+RunsScript runs frames image (Err (line, cause)) w = w ≡ refused (script_line line cause)
 
 -- over what the image's file is: where it is refused the script isn't read
-abbrev pub RunsImage : Option FileMap → List ℕ → ℕ → ℕ → Result Image Refusal → Outcome → Type 0
-RunsImage files script frames n (Ok image) w = (file : List ℕ) × Holds files script file × RunsScript image frames n (script_of file) w
-RunsImage files script frames n (Err refusal) w = w ≡ refused (image_line refusal)
+abbrev pub RunsImage : (Image → Events → Outcome → Type 0) → ℕ → Option FileMap → List ℕ → Result Image Refusal → Outcome → Type 0
+RunsImage runs frames files script (Ok image) w = (file : List ℕ) × Holds files script file × RunsScript runs frames image (script_of file) w
+RunsImage runs frames files script (Err refusal) w = w ≡ refused (image_line refusal)
 
-abbrev pub Runs : Option FileMap → List ℕ → List ℕ → ℕ → ℕ → Outcome → Type 0
-Runs files image script frames n w = (file : List ℕ) × Holds files image file × RunsImage files script frames n (image_of file) w
+-- what the files of an image and a script come to, on a machine whose runs have such outcomes
+abbrev pub Runs : (Image → Events → Outcome → Type 0) → ℕ → Option FileMap → List ℕ → List ℕ → Outcome → Type 0
+Runs runs frames files image script w = (file : List ℕ) × Holds files image file × RunsImage runs frames files script (image_of file) w
 
--- a run's text was put, or a refusal's line, unless no memory was found
-abbrev pub RanAs : Image → Events → ℕ → ℕ → Option (List ℕ) → Option (List ℕ) → ℕ → ℕ → Status → Type 0
-RanAs image events frames n old new before now result =
-    ((w : Outcome) × RunsOn image events frames n w × Says w.text w.status old new before now result)
-    ⊎ ((result ≡ status.Memory) × (new ≡ old))
+-- what the host has done of a run, and its memory; of no run it has done nothing
+abbrev pub HostDid : Option HostedRun → Counts → Counts → List ℕ → Type 0
+HostDid None completed completed2 memory2 = completed2 ≡ completed
+HostDid (Some r) completed completed2 memory2 = CountsOn r.setting r.reports completed completed2 × HasMemory r.setting r.last r.end memory2
+
+-- How a run's answer is told: its text was put before, or a refusal's line is, unless no memory is found for it.
+abbrev pub ToldAs : Result Ended RunFault → Option (List ℕ) → Option (List ℕ) → ℕ → ℕ → Status → Type 0
+ToldAs (Ok ended) old new before now result = (result ≡ status_of ended.end) × (new ≡ old) × (now ≡ before)
+ToldAs (Err fault.Write) old new before now result = (result ≡ status.WriteFault) × (new ≡ old) × (now ≡ before)
+ToldAs (Err (fault.TooSmall small)) old new before now result =
+    Says (small_line small.need small.have) status.Refused old new before now result ⊎ ((result ≡ status.Memory) × (new ≡ old))
+ToldAs (Err fault.Memory) old new before now result = (result ≡ status.Memory) × (new ≡ old)
+
+-- A run's text was put, or a refusal's line, and the host has done what is its part, unless no memory was found.
+abbrev pub RanAs : (Outcome → Type 0) → Option (List ℕ) → Option (List ℕ) → ℕ → ℕ → Counts → Counts → List ℕ → Status → Type 0
+RanAs runs old new before now completed completed2 memory2 result =
+    ((w : Outcome) × runs w × Says w.text w.status old new before now result × (result ≡ w.status → HostDid w.hosted completed completed2 memory2))
+    ⊎ ((result ≡ status.Memory) × (new ≡ old) × (completed2 ≡ completed))

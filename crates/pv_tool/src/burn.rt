@@ -9,8 +9,9 @@ ghost use Rattle.asm_parse.specs.Running.{SourceAs};
 ghost use Rattle.elf_form.specs.ObjectParts.{ObjectParts};
 ghost use Rattle.elf_form.specs.ObjectLayout.{IsWholeObject, object_bytes};
 ghost use Rattle.afterburner.specs.Burnt.{Fault, burnt};
+ghost use Rattle.wedge_core.specs.Slices.{Counts as HostCounts};
 ghost use Rattle.pv_tool.specs.Words.{Burn};
-ghost use Rattle.pv_tool.specs.Outside.{outside, OnlyRead};
+ghost use Rattle.pv_tool.specs.Outside.{beside, OnlyRead};
 ghost use Rattle.pv_tool.specs.Outcome.{refused};
 ghost use Rattle.pv_tool.specs.Delivery.{Halts, RefusesAs};
 ghost use Rattle.pv_tool.specs.Burning.{Burns, HasBurnt, HasSource, HasNoSource, ReadsBack, object_made_line, source_line, burn_line};
@@ -36,8 +37,8 @@ pub fn burn<F: Files, S: Sink>(
     files: &mut F,
     out: &mut S,
 ) -> Status
-    ensures meaning { Means (Burn source.now object.now) (outside F.Files S.Sink files.old files.new out.old out.new) result }
-    ensures counts { Counts (Burn source.now object.now) (outside F.Files S.Sink files.old files.new out.old out.new) }
+    ensures meaning { (completed : HostCounts) (memory : List ℕ) → Means (Burn source.now object.now) (beside F.Files S.Sink files.old files.new out.old out.new completed memory) result }
+    ensures counts { (completed : HostCounts) (memory : List ℕ) → Counts (Burn source.now object.now) (beside F.Files S.Sink files.old files.new out.old out.new completed memory) }
     ensures leaves { result ≡ Status.Done → Leaves (Burn source.now object.now) (F.held files.old) (F.held files.new) }
 {
     match made(alloc, source, files) {

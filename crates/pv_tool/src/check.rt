@@ -1,12 +1,13 @@
 //! The command `check`.
 
-ghost use Rattle.std.specs.Prelude.{◌≡◌, IfOk, IfErr};
+ghost use Rattle.std.specs.Prelude.{◌≡◌, List, ℕ, IfOk, IfErr};
 ghost use Rattle.pv_io.specs.Files.{IsHeld};
 ghost use Rattle.elf_form.specs.Faults.{Fault};
 ghost use Rattle.image_check.specs.Refusals.{Refusal, Refuses};
+ghost use Rattle.wedge_core.specs.Slices.{Counts as HostCounts};
 ghost use Rattle.pv_tool.specs.Words.{Check};
 ghost use Rattle.pv_tool.specs.Lines.{image_line, place_line, form_number};
-ghost use Rattle.pv_tool.specs.Outside.{outside, OnlyRead};
+ghost use Rattle.pv_tool.specs.Outside.{beside, OnlyRead};
 ghost use Rattle.pv_tool.specs.Delivery.{Halts, RefusesAs};
 ghost use Rattle.pv_tool.specs.Checking.{HasImage, HasNoImage, accepted_line, format_words};
 ghost use Rattle.pv_tool.specs.Meaning.{Means, Counts};
@@ -22,8 +23,8 @@ use std::alloc::{AllocError, Global};
 
 /// Tells what an image has, or why it is not accepted.
 pub fn check<F: Files, S: Sink>(alloc: Global, name: &str, files: &mut F, out: &mut S) -> Status
-    ensures meaning { Means (Check name.now) (outside F.Files S.Sink files.old files.new out.old out.new) result }
-    ensures counts { Counts (Check name.now) (outside F.Files S.Sink files.old files.new out.old out.new) }
+    ensures meaning { (completed : HostCounts) (memory : List ℕ) → Means (Check name.now) (beside F.Files S.Sink files.old files.new out.old out.new completed memory) result }
+    ensures counts { (completed : HostCounts) (memory : List ℕ) → Counts (Check name.now) (beside F.Files S.Sink files.old files.new out.old out.new completed memory) }
 {
     match accepted(alloc, name, files) {
         Err(halt) => end(&halt, out),
@@ -47,8 +48,8 @@ pub fn accepted<F: Files>(alloc: Global, name: &str, files: &mut F) -> Result<Ch
     }
 }
 
-// Why an image is not accepted, unless it was memory that was not found.
-fn refusal_of(alloc: Global, fault: &CheckFault) -> Halt
+/// Why an image is not accepted, unless it was memory that was not found.
+pub fn refusal_of(alloc: Global, fault: &CheckFault) -> Halt
     ensures { RefusesAs (λ line. (refusal : Refusal) × Refuses fault.now refusal × (line ≡ image_line refusal)) result }
 {
     match fault {

@@ -1,8 +1,9 @@
 //! Files are read, and what the work of a command came to is told to the outside.
 
-ghost use Rattle.std.specs.Prelude.{◌≡◌, ◌≤◌, Ok, IfOk, IfErr};
+ghost use Rattle.std.specs.Prelude.{◌≡◌, ◌≤◌, List, ℕ, Ok, IfOk, IfErr};
 ghost use Rattle.pv_io.specs.Files.{Holds, IsHeld};
-ghost use Rattle.pv_tool.specs.Outside.{outside, OnlyRead, NotRead};
+ghost use Rattle.wedge_core.specs.Slices.{Counts as HostCounts};
+ghost use Rattle.pv_tool.specs.Outside.{beside, OnlyRead, NotRead};
 ghost use Rattle.pv_tool.specs.Delivery.{Halts, RefusesAs, Says, Ends, Delivers};
 
 use crate::halt::{Halt, Line};
@@ -53,7 +54,7 @@ pub struct Made {
 
 /// Stores what was made, and then prints its line.
 pub fn deliver<F: Files, S: Sink>(made: &Made, name: &str, files: &mut F, out: &mut S) -> Status
-    ensures delivers { Delivers name.now made.now.file.items made.now.line (outside F.Files S.Sink files.old files.new out.old out.new) result }
+    ensures delivers { (completed : HostCounts) (memory : List ℕ) → Delivers name.now made.now.file.items made.now.line (beside F.Files S.Sink files.old files.new out.old out.new completed memory) result }
     ensures stored { NotRead F.Files files.old files.new }
 {
     match files.store(name, &made.file) {

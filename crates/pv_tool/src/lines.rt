@@ -1,7 +1,7 @@
 //! The lines that are printed, and the numbers of the causes in them.
 
 ghost use Rattle.std.specs.Prelude.{◌≡◌, IfOk};
-ghost use Rattle.pv_tool.specs.Lines.{sizes_line, place_line, line_line, small_line, object_place_line, object_name_line, object_line, link_line, script_number, form_number, check_number};
+ghost use Rattle.pv_tool.specs.Lines.{sizes_line, place_line, line_line, small_line, object_place_line, object_name_line, object_line, link_line, work_line, same_line, differ_line, script_number, form_number, check_number};
 
 use crate::halt::Line;
 use board::ScriptCause;
@@ -120,6 +120,51 @@ pub fn link_line(alloc: Global, object: u32, cause: &LinkCause) -> Result<Line, 
         LinkCause::TooManySymbols => object_line(alloc, 35, object),
         LinkCause::SitesForm => object_line(alloc, 36, object),
     }
+}
+
+/// What `work` tells of a kernel.
+#[derive(Clone, Copy)]
+pub struct Told {
+    pub number: u32,
+    pub text: usize,
+    pub sites: usize,
+    pub items: usize,
+    pub fills: u64,
+}
+
+/// The first line of `work`.
+pub fn work_line(alloc: Global, told: Told) -> Result<Line, AllocError>
+    ensures { IfOk result (λ line. line ≡ work_line told.number told.text told.sites told.items told.fills) }
+{
+    let number = told.number;
+    let text = told.text;
+    let sites = told.sites;
+    let items = told.items;
+    let fills = told.fills;
+    let line = format!(in alloc;
+        "work {number} text {text} sites {sites} items {items} fills {fills}\n"
+    )?;
+    Ok(Line {
+        bytes: line.into_bytes(),
+    })
+}
+
+/// Two texts are the same.
+pub fn same_line(alloc: Global) -> Result<Line, AllocError>
+    ensures { IfOk result (λ line. line ≡ same_line) }
+{
+    let bytes = Vec::from_slice(alloc, b"same\n")?;
+    Ok(Line { bytes })
+}
+
+/// The first line, from 1, in which two texts differ.
+pub fn differ_line(alloc: Global, line: usize) -> Result<Line, AllocError>
+    ensures { IfOk result (λ l. l ≡ differ_line line) }
+{
+    let line = format!(in alloc; "differ line {line}\n")?;
+    Ok(Line {
+        bytes: line.into_bytes(),
+    })
 }
 
 /// The number of a cause of a script.

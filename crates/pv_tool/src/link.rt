@@ -7,9 +7,10 @@ ghost use Rattle.elf_form.specs.ObjectParts.{ObjectParts};
 ghost use Rattle.elf_form.specs.ImageParts.{ImageParts};
 ghost use Rattle.elf_form.specs.ImageLayout.{IsWritableImage, image_bytes};
 ghost use Rattle.elf_form.specs.Linkable.{IsLinkable};
+ghost use Rattle.wedge_core.specs.Slices.{Counts as HostCounts};
 ghost use Rattle.pv_tool.specs.Words.{Link};
 ghost use Rattle.pv_tool.specs.Lines.{form_number, object_place_line};
-ghost use Rattle.pv_tool.specs.Outside.{outside, OnlyRead};
+ghost use Rattle.pv_tool.specs.Outside.{beside, OnlyRead};
 ghost use Rattle.pv_tool.specs.Outcome.{refused};
 ghost use Rattle.pv_tool.specs.Delivery.{Halts, RefusesAs};
 ghost use Rattle.pv_tool.specs.Linking.{Links, HasObject, HasNoObject, HasObjects, FindsObjects, FirstFault, HasLinked, ImageReadsBack, image_made_line};
@@ -34,8 +35,8 @@ pub fn link<F: Files, S: Sink>(
     out: &mut S,
 ) -> Status
     requires { length objects.now ≤ 64 }
-    ensures meaning { Means (Link image.now (map string_bytes objects.now)) (outside F.Files S.Sink files.old files.new out.old out.new) result }
-    ensures counts { Counts (Link image.now (map string_bytes objects.now)) (outside F.Files S.Sink files.old files.new out.old out.new) }
+    ensures meaning { (completed : HostCounts) (memory : List ℕ) → Means (Link image.now (map string_bytes objects.now)) (beside F.Files S.Sink files.old files.new out.old out.new completed memory) result }
+    ensures counts { (completed : HostCounts) (memory : List ℕ) → Counts (Link image.now (map string_bytes objects.now)) (beside F.Files S.Sink files.old files.new out.old out.new completed memory) }
     ensures leaves { result ≡ Status.Done → Leaves (Link image.now (map string_bytes objects.now)) (F.held files.old) (F.held files.new) }
 {
     match made(alloc, objects, files) {

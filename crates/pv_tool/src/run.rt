@@ -1,15 +1,17 @@
 //! The command `run` on the bare machine.
 
-ghost use Rattle.std.specs.Prelude.{◌≡◌, ◌≤◌, ◌^◌, true, ℕ, Err, IfOk, IfErr};
+ghost use Rattle.std.specs.Prelude.{◌≡◌, ◌≤◌, ◌^◌, true, ℕ, List, IfOk, IfErr};
 ghost use Rattle.pv_io.specs.Files.{IsHeld};
 ghost use Rattle.board.specs.Scripts.{is_script};
 ghost use Rattle.board.specs.declared.fault.ScriptCause.{ScriptCause};
+ghost use Rattle.wedge_core.specs.Slices.{Counts as HostCounts};
 ghost use Rattle.pv_tool.specs.Words.{RunBare};
 ghost use Rattle.pv_tool.specs.View.{AreWithin};
 ghost use Rattle.pv_tool.specs.Lines.{script_line};
-ghost use Rattle.pv_tool.specs.Outside.{outside, OnlyRead};
+ghost use Rattle.pv_tool.specs.Outside.{beside, OnlyRead};
 ghost use Rattle.pv_tool.specs.Delivery.{Halts};
-ghost use Rattle.pv_tool.specs.Running.{HasScript, HasNoScript, RanAs};
+ghost use Rattle.pv_tool.specs.Checking.{HasImage};
+ghost use Rattle.pv_tool.specs.Running.{HasScript, HasNoScript, NoRun, FindsRun, RunsOn, RunsBare, RanAs, ToldAs};
 ghost use Rattle.pv_tool.specs.Meaning.{Means, Counts};
 
 use crate::check::accepted;
@@ -23,10 +25,10 @@ use board::{Script, ScriptFault, read_script};
 use image_check::Checked;
 use image_load::RunFault;
 use pv_io::{Files, Sink};
-use run_trace::End;
+use run_trace::{End, Ended};
 use std::alloc::Global;
 
-/// Runs an image under a script, and prints its trace.
+/// Runs an image under a script on the bare machine, and prints its trace.
 pub fn run<F: Files, S: Sink>(
     alloc: Global,
     words: RunWords<'_>,
@@ -34,16 +36,45 @@ pub fn run<F: Files, S: Sink>(
     out: &mut S,
 ) -> Status
     requires { AreWithin words }
-    ensures meaning { Means (RunBare words.entry.image.now words.entry.script.now words.entry.frames words.entry.n) (outside F.Files S.Sink files.old files.new out.old out.new) result }
-    ensures counts { Counts (RunBare words.entry.image.now words.entry.script.now words.entry.frames words.entry.n) (outside F.Files S.Sink files.old files.new out.old out.new) }
+    ensures meaning { (completed : HostCounts) (memory : List ℕ) → Means (RunBare words.entry.image.now words.entry.script.now words.entry.frames words.entry.n) (beside F.Files S.Sink files.old files.new out.old out.new completed memory) result }
+    ensures counts { (completed : HostCounts) (memory : List ℕ) → Counts (RunBare words.entry.image.now words.entry.script.now words.entry.frames words.entry.n) (beside F.Files S.Sink files.old files.new out.old out.new completed memory) }
 {
-    match accepted(alloc, words.image, files) {
+    match found(alloc, words.image, words.script, files) {
         Err(halt) => end(&halt, out),
-        Ok(image) => match scripted(alloc, words.script, files) {
-            Err(halt) => end(&halt, out),
-            Ok(events) => run_it(alloc, &image, &events, words.frames, words.n, out),
-        },
+        Ok(found) => run_it(
+            alloc,
+            &found.image,
+            &found.script,
+            words.frames,
+            words.n,
+            out,
+        ),
     }
+}
+
+/// An accepted image, and the script under which it is run.
+#[derive(Drop)]
+pub struct Runnable {
+    pub image: Checked,
+    pub script: Script,
+}
+
+/// The image and the script that files hold. Where the image is refused the script is not read.
+pub fn found<F: Files>(
+    alloc: Global,
+    image: &str,
+    script: &str,
+    files: &mut F,
+) -> Result<Runnable, Halt>
+    ensures image { IfOk result (λ found. HasImage (F.held files.old) image.now found.image) }
+    ensures script { IfOk result (λ found. HasScript (F.held files.old) script.now found.script.list) }
+    ensures form { IfOk result (λ found. is_script found.script.list ≡ true) }
+    ensures halted { IfErr result (Halts F.Files (FindsRun (F.held files.old) image.now script.now) files.old files.new (NoRun (F.held files.old) image.now script.now)) }
+    ensures read { OnlyRead F.Files (FindsRun (F.held files.old) image.now script.now) files.old files.new }
+{
+    let image = accepted(alloc, image, files)?;
+    let script = scripted(alloc, script, files)?;
+    Ok(Runnable { image, script })
 }
 
 // The events that a file says.
@@ -63,7 +94,7 @@ fn scripted<F: Files>(alloc: Global, name: &str, files: &mut F) -> Result<Script
     }
 }
 
-// Runs the image, and answers how the run ended.
+// Runs the image on the bare machine, and answers how the run ended.
 fn run_it<S: Sink>(
     alloc: Global,
     image: &Checked,
@@ -74,9 +105,17 @@ fn run_it<S: Sink>(
 ) -> Status
     requires script { is_script events.now.list ≡ true }
     requires limits { (2048 ≤ frames) × (frames ≤ 16384) × (n ≤ 2 ^ 40) }
-    ensures { RanAs image.now events.now.list frames n (S.taken out.old) (S.taken out.new) (S.faults out.old) (S.faults out.new) result }
+    ensures { (completed : HostCounts) (memory : List ℕ) → RanAs (RunsOn (RunsBare frames n image.now events.now.list) image.now frames) (S.taken out.old) (S.taken out.new) (S.faults out.old) (S.faults out.new) completed completed memory result }
 {
-    match run_bare(alloc, image, events, frames, n, out) {
+    let ran = run_bare(alloc, image, events, frames, n, out);
+    told(alloc, ran, out)
+}
+
+/// The status of a run that has put its text. The line of a refusal is printed.
+pub fn told<S: Sink>(alloc: Global, ran: Result<Ended, RunFault>, out: &mut S) -> Status
+    ensures { ToldAs ran (S.taken out.old) (S.taken out.new) (S.faults out.old) (S.faults out.new) result }
+{
+    match ran {
         Ok(ended) => match ended.end {
             End::Bound => Status::Done,
             End::Stopped(_) => Status::Stopped,

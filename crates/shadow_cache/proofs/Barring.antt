@@ -1,28 +1,33 @@
 -- Taking the right to write from pair after pair.
-use Rattle.std.proofs.Common.{◌≡◌, ◌≢◌, ℕ, zero, suc, ◌+◌, ◌^◌, ◌<◌, ◌≤◌, List, [], ◌∷◌, ◌++◌, length, slice_get, Option, Some, None, refl, sym, ap, ◌∙◌, subst, add-one, arith}
+use Rattle.std.proofs.Common.{◌≡◌, ℕ, zero, suc, ◌+◌, ◌≤◌, List, [], ◌∷◌, ◌++◌, length, slice_get, Some, refl, sym, ap, ◌∙◌, subst, add-one, arith}
 use Rattle.frame_pool.specs.Held.{times, Holds, Writes, SameIn}
-use Rattle.shadow_tables.specs.Slots.{Slot, held, slot_at, barred, SameSlots, LosesWrites, IsShadow}
+use Rattle.shadow_tables.specs.Slots.{held, slot_at, barred, SameSlots, LosesWrites, IsShadow}
 use Rattle.shadow_cache.specs.Pairs.{frames_of, AreShadows}
 use Rattle.shadow_cache.specs.Others.{AreKept, AllLoseWrites}
 use Rattle.shadow_cache.specs.declared.pair.Pair.{Pair}
-use Rattle.shadow_cache.specs.Laws.{frames-cons, times-frames, kept-same, kept-shadows, kept-frames}
+use Rattle.shadow_tables.specs.Opened.{KeepsTables}
+use Rattle.shadow_cache.specs.Laws.{keeps-same, frames-cons, times-frames, kept-same, kept-shadows, kept-frames}
 use Rattle.shadow_tables.specs.Laws.Views.{held-stays, slot_at-stays, IsShadow-stays}
 use Rattle.shadow_cache.proofs.Leaving.{same-some}
 
 -- the first n have lost it, and the others are as they were
 abbrev pub FirstLose : ℕ → List Pair → (m m' : List ℕ) → ℕ → Type 0
 FirstLose n [] m m' frame = Unit {0}
-FirstLose zero (p ∷ ps) m m' frame = SameSlots (slot_at p.shadow m) (slot_at p.shadow m') × FirstLose zero ps m m' frame
-FirstLose (suc n) (p ∷ ps) m m' frame = LosesWrites (slot_at p.shadow m) (slot_at p.shadow m') (frame ∷ []) × FirstLose n ps m m' frame
+FirstLose zero (p ∷ ps) m m' frame =
+    SameSlots (slot_at p.shadow m) (slot_at p.shadow m') × FirstLose zero ps m m' frame × (held p.shadow m' ≡ held p.shadow m)
+    × KeepsTables p.shadow m m'
+FirstLose (suc n) (p ∷ ps) m m' frame =
+    LosesWrites (slot_at p.shadow m) (slot_at p.shadow m') (frame ∷ []) × FirstLose n ps m m' frame × (held p.shadow m' ≡ held p.shadow m)
+    × KeepsTables p.shadow m m'
 
 pub lose-none : (ps : List Pair) (m : List ℕ) (frame : ℕ) → FirstLose 0 ps m m frame
 lose-none [] m frame = tt
-lose-none (p ∷ ps) m frame = ((λ page l. refl), lose-none ps m frame)
+lose-none (p ∷ ps) m frame = ((λ page l. refl), lose-none ps m frame, refl, λ side index l ne. ne)
 
 pub lose-all : (n : ℕ) (ps : List Pair) (m m' : List ℕ) (frame : ℕ) → length ps ≤ n → FirstLose n ps m m' frame → AllLoseWrites ps m m' frame
 lose-all n [] m m' frame l h = tt
 lose-all zero (p ∷ ps) m m' frame l h = absurd (omega (arith, l))
-lose-all (suc n) (p ∷ ps) m m' frame l h = (h.0, lose-all n ps m m' frame (omega (arith, l)) h.1)
+lose-all (suc n) (p ∷ ps) m m' frame l h = (h.0, lose-all n ps m m' frame (omega (arith, l)) h.1, h.2, h.3)
 
 -- ---- what is written in the frames of one leaves the others as they were
 
@@ -73,17 +78,29 @@ bar-frames (q ∷ qs) (suc i) p m m' e h o s w =
 
 kept-none : (ps : List Pair) (m m1 m2 : List ℕ) (frame : ℕ) → FirstLose 0 ps m m1 frame → AreKept ps m1 m2 → FirstLose 0 ps m m2 frame
 kept-none [] m m1 m2 frame h k = tt
-kept-none (p ∷ ps) m m1 m2 frame h k = ((λ page l. k.2 page l ∙ h.0 page l), kept-none ps m m1 m2 frame h.1 k.3)
+kept-none (p ∷ ps) m m1 m2 frame h k =
+    ((λ page l. k.2 page l ∙ h.0 page l), kept-none ps m m1 m2 frame h.1 k.3, k.1 ∙ h.2, λ side index l ne. k.4 side index l (h.3 side index l ne))
 
-lose-suc : (i : ℕ) (ps : List Pair) (p : Pair) (m m1 m2 : List ℕ) (frame : ℕ) → slice_get ps i ≡ Some p → AreShadows ps m1 → Holds m1 (frames_of ps m1) → LosesWrites (slot_at p.shadow m1) (slot_at p.shadow m2) (frame ∷ []) → Writes (held p.shadow m1) m1 m2 → FirstLose i ps m m1 frame → FirstLose (suc i) ps m m2 frame
-lose-suc i [] p m m1 m2 frame e h o s w f = tt
-lose-suc zero (q ∷ qs) p m m1 m2 frame e h o s w f =
+lose-suc : (i : ℕ) (ps : List Pair) (p : Pair) (m m1 m2 : List ℕ) (frame : ℕ) → slice_get ps i ≡ Some p → AreShadows ps m1 → Holds m1 (frames_of ps m1) → LosesWrites (slot_at p.shadow m1) (slot_at p.shadow m2) (frame ∷ []) → Writes (held p.shadow m1) m1 m2 → held p.shadow m2 ≡ held p.shadow m1 → KeepsTables p.shadow m1 m2 → FirstLose i ps m m1 frame → FirstLose (suc i) ps m m2 frame
+lose-suc i [] p m m1 m2 frame e h o s w d k f = tt
+lose-suc zero (q ∷ qs) p m m1 m2 frame e h o s w d k f =
     let same = same-some q p e in
     let w' : Writes (held q.shadow m1) m1 m2 = subst (λ (x : Pair). Writes (held x.shadow m1) m1 m2) (sym same) w in
     let s' : LosesWrites (slot_at q.shadow m1) (slot_at q.shadow m2) (frame ∷ []) = subst (λ (x : Pair). LosesWrites (slot_at x.shadow m1) (slot_at x.shadow m2) (frame ∷ [])) (sym same) s in
-    ((λ page l. s' page l ∙ ap (barred (frame ∷ [])) (f.0 page l)), kept-none qs m m1 m2 frame f.1 (kept-same qs m1 m2 h.1 (rest-same q qs m1 m2 o w')))
-lose-suc (suc i) (q ∷ qs) p m m1 m2 frame e h o s w f =
-    ((λ page l. slot_at-stays q.shadow m1 m2 h.0 (first-same q qs i p m1 m2 e o w) page l ∙ f.0 page l), lose-suc i qs p m m1 m2 frame e h.1 (rest-holds q qs m1 o) s w f.1)
+    let d' : held q.shadow m2 ≡ held q.shadow m1 = subst (λ (x : Pair). held x.shadow m2 ≡ held x.shadow m1) (sym same) d in
+    let k' : KeepsTables q.shadow m1 m2 = subst (λ (x : Pair). KeepsTables x.shadow m1 m2) (sym same) k in (
+      (λ page l. s' page l ∙ ap (barred (frame ∷ [])) (f.0 page l)),
+      kept-none qs m m1 m2 frame f.1 (kept-same qs m1 m2 h.1 (rest-same q qs m1 m2 o w')),
+      d' ∙ f.2,
+      λ side index l ne. k' side index l (f.3 side index l ne),
+    )
+lose-suc (suc i) (q ∷ qs) p m m1 m2 frame e h o s w d k f =
+    let same = first-same q qs i p m1 m2 e o w in (
+      (λ page l. slot_at-stays q.shadow m1 m2 h.0 same page l ∙ f.0 page l),
+      lose-suc i qs p m m1 m2 frame e h.1 (rest-holds q qs m1 o) s w d k f.1,
+      held-stays q.shadow m1 m2 h.0 same ∙ f.2,
+      λ side index l ne. keeps-same q.shadow m1 m2 same side index l (f.3 side index l ne),
+    )
 
-pub lose-more : (i : ℕ) (ps : List Pair) (p : Pair) (m m1 m2 : List ℕ) (frame : ℕ) → slice_get ps i ≡ Some p → AreShadows ps m1 → Holds m1 (frames_of ps m1) → LosesWrites (slot_at p.shadow m1) (slot_at p.shadow m2) (frame ∷ []) → Writes (held p.shadow m1) m1 m2 → FirstLose i ps m m1 frame → FirstLose (i + 1) ps m m2 frame
-lose-more i ps p m m1 m2 frame e h o s w f = subst (λ n. FirstLose n ps m m2 frame) (sym (add-one i)) (lose-suc i ps p m m1 m2 frame e h o s w f)
+pub lose-more : (i : ℕ) (ps : List Pair) (p : Pair) (m m1 m2 : List ℕ) (frame : ℕ) → slice_get ps i ≡ Some p → AreShadows ps m1 → Holds m1 (frames_of ps m1) → LosesWrites (slot_at p.shadow m1) (slot_at p.shadow m2) (frame ∷ []) → Writes (held p.shadow m1) m1 m2 → held p.shadow m2 ≡ held p.shadow m1 → KeepsTables p.shadow m1 m2 → FirstLose i ps m m1 frame → FirstLose (i + 1) ps m m2 frame
+lose-more i ps p m m1 m2 frame e h o s w d k f = subst (λ n. FirstLose n ps m m2 frame) (sym (add-one i)) (lose-suc i ps p m m1 m2 frame e h o s w d k f)

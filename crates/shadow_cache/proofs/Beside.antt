@@ -1,17 +1,16 @@
 -- A call on the other pairs, beside which the present one stays as it was.
-use Rattle.std.proofs.Common.{◌≡◌, ◌≢◌, ℕ, zero, suc, ◌+◌, ◌^◌, ◌<◌, ◌≤◌, ◌⊎◌, List, [], ◌∷◌, ◌++◌, length, replicate, filter, get_or, slice_set, Bool, true, false, not, ◌||◌, cond, eqb, Option, Some, None, refl, sym, ap, ◌∙◌, subst, inl, inr, arith}
+use Rattle.std.proofs.Common.{◌≡◌, ℕ, zero, suc, ◌<◌, ◌≤◌, ◌⊎◌, List, [], ◌∷◌, ◌++◌, length, replicate, filter, get_or, slice_set, Bool, true, false, not, ◌||◌, cond, Option, refl, sym, ap, ◌∙◌, subst, inl, inr, arith}
 use Rattle.std.proofs.lemmas.List.{length-replicate}
-use Rattle.std.proofs.lemmas.Bool.Decides.{eqb_tells}
 use Rattle.frame_pool.specs.declared.Pool.{Pool}
-use Rattle.frame_pool.specs.Held.{times, Holds, Owns, Writes, Moves, SameIn}
+use Rattle.frame_pool.specs.Held.{times, Holds, Owns, Moves, SameIn}
 use Rattle.frame_pool.proofs.Lengths.{times-append}
 use Rattle.frame_pool.proofs.Held.{Owns-part, Owns-moves, Owns-counts, Holds-from_Owns, Moves-counts, Moves-counts_from, Moves-beside, SameIn-beside}
-use Rattle.shadow_tables.specs.Slots.{Slot, is_among, ArePart, held, slot_at, SameSlots, IsShadow}
+use Rattle.shadow_tables.specs.Slots.{Slot, ArePart, held, slot_at, SameSlots, IsShadow}
 use Rattle.shadow_tables.specs.Laws.Views.{held-stays, slot_at-stays, IsShadow-stays}
 use Rattle.shadow_cache.specs.Pairs.{no_tables, reads, any_reads, tables_of, frames_of, AreShadows, AreSized, BarsWrites, AllBarWrites, IsRoots}
-use Rattle.shadow_cache.specs.Others.{AreKept}
 use Rattle.shadow_cache.specs.declared.pair.Pair.{Pair}
-use Rattle.shadow_cache.specs.Laws.{frames-cons, times-frames, kept-shadows, kept-barred, bars-same, tables-any}
+use Rattle.shadow_tables.specs.Opened.{KeepsTables}
+use Rattle.shadow_cache.specs.Laws.{keeps-same, frames-cons, times-frames, bars-same, tables-any}
 
 -- ---- fewer frames that are barred
 
@@ -49,6 +48,9 @@ module _ (pool pool' : Pool) (p : Pair) (ps ps' : List Pair) (m m' : List ℕ) (
 
     pub beside-slots : SameSlots (slot_at p.shadow m) (slot_at p.shadow m')
     beside-slots page l = slot_at-stays p.shadow m m' h.shadows.0 aside page l
+
+    pub beside-tables : KeepsTables p.shadow m m'
+    beside-tables = keeps-same p.shadow m m' aside
 
     swap' : (f : ℕ) → times f (frames_of (p ∷ ps') m') ≡ times f (frames_of ps' m' ++ held p.shadow m)
     swap' f =

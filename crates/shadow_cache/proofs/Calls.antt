@@ -1,18 +1,17 @@
 -- What each call comes to.
-use Rattle.std.proofs.Common.{◌≡◌, ◌≢◌, ℕ, zero, suc, ◌+◌, ◌^◌, ◌<◌, ◌≤◌, List, [], ◌∷◌, ◌++◌, length, replicate, filter, get_or, slice_set, Bool, true, false, not, ◌||◌, ◌&&◌, cond, eqb, Option, Some, None, refl, sym, ap, ◌∙◌, subst, inl, inr, arith}
-use Rattle.std.proofs.lemmas.Bool.Decides.{eqb_tells}
-use Rattle.frame_pool.specs.Pool.{free_list}
+use Rattle.std.proofs.Common.{◌≡◌, ℕ, zero, suc, ◌<◌, ◌≤◌, List, [], ◌∷◌, ◌++◌, length, filter, get_or, slice_set, Bool, true, false, not, ◌||◌, cond, refl, sym, ap, ◌∙◌, subst, inl, inr, arith}
 use Rattle.frame_pool.specs.declared.Pool.{Pool}
-use Rattle.frame_pool.specs.Held.{times, Holds, Owns, Writes, Moves, SameIn}
+use Rattle.frame_pool.specs.Held.{Holds, Owns, Moves}
 use Rattle.frame_pool.proofs.Held.{Moves-trans, Owns-moves}
-use Rattle.shadow_tables.specs.Slots.{Slot, is_among, ArePart, held, slot_at, SameSlots, IsShadow, IsEmpty}
-use Rattle.shadow_cache.specs.Pairs.{no_tables, reads, any_reads, tables_of, frames_of, AreShadows, AreSized, BarsWrites, AllBarWrites, IsRoots}
+use Rattle.shadow_tables.specs.Slots.{is_among, ArePart, held, slot_at, SameSlots, IsShadow, IsEmpty}
+use Rattle.shadow_tables.specs.Opened.{KeepsTables}
+use Rattle.shadow_cache.specs.Pairs.{no_tables, reads, any_reads, tables_of, frames_of, AreSized, BarsWrites, AllBarWrites, IsRoots}
 use Rattle.shadow_cache.specs.Others.{AreKept}
 use Rattle.shadow_cache.specs.declared.pair.Pair.{Pair}
 use Rattle.shadow_cache.specs.Laws.{frames-cons, kept-shadows, kept-barred, tables-any}
 use Rattle.shadow_cache.proofs.Leaving.{none-frames}
-use Rattle.shadow_cache.proofs.Present.{none-some, present-owns, move-roots, move-moves, move-owns}
-use Rattle.shadow_cache.proofs.Beside.{bars-fewer, all-fewer, tables-part, few-filter, sized-filter, barred-filter, any-filter, none-reads, or-less, or-right, reads-set, reads-there, no-reads, no-length, beside-shadow, beside-held, beside-slots, beside-moves, beside-owns, beside-roots}
+use Rattle.shadow_cache.proofs.Present.{none-some, present-owns, move-roots, move-moves}
+use Rattle.shadow_cache.proofs.Beside.{bars-fewer, all-fewer, tables-part, few-filter, sized-filter, barred-filter, any-filter, none-reads, or-less, or-right, reads-set, reads-there, no-reads, no-length, beside-shadow, beside-held, beside-slots, beside-tables, beside-moves, beside-owns, beside-roots}
 
 -- ---- the same views
 
@@ -119,7 +118,7 @@ spoilt-reads : (b : Bool) (p : Pair) (frame x : ℕ) → reads (spoilt b p frame
 spoilt-reads false p frame x e = e
 spoilt-reads true p frame x e = elim (reads-set p.tables frame x false) [ inl s ↦ sym s ∙ e | inr t ↦ absurd (clash _ t.2 e) ]
 
-read-there : (bits : List Bool) (i : ℕ) → get_or bits i false ≡ true → i < length bits
+pub read-there : (bits : List Bool) (i : ℕ) → get_or bits i false ≡ true → i < length bits
 read-there [] i e = cc
 read-there (b ∷ bs) zero e = omega arith
 read-there (b ∷ bs) (suc i) e = let r = read-there bs i e in omega (arith, r)
@@ -165,6 +164,7 @@ module _ (pool pool1 : Pool) (p p' : Pair) (ps ps' : List Pair) (m m1 : List ℕ
         subst (λ s. held s m1 ≡ held s m) same (beside-held pool pool1 p ps ps' m m1 h o v),
         subst (λ s. SameSlots (slot_at s m) (slot_at s m1)) same (beside-slots pool pool1 p ps ps' m m1 h o v),
         kept,
+        subst (λ s. KeepsTables s m m1) same (beside-tables pool pool1 p ps ps' m m1 h o v),
       )
 
   pub spoilt-untracked : is_among frame (tables_of (p' ∷ ps')) ≡ false

@@ -1,10 +1,9 @@
 -- A load of CR3.
-use Rattle.std.proofs.Common.{◌≡◌, ◌≢◌, ℕ, zero, suc, ◌+◌, ◌^◌, ◌<◌, ◌≤◌, List, [], ◌∷◌, ◌++◌, length, take, drop, slice_get, remove, replicate, get_or, Bool, true, false, ◌||◌, cond, MatchOption, Option, Some, None, refl, sym, ap, ◌∙◌, subst, inl, inr, arith}
-use Rattle.frame_pool.specs.Pool.{free_list}
+use Rattle.std.proofs.Common.{◌≡◌, ℕ, zero, suc, ◌≤◌, List, [], ◌∷◌, ◌++◌, length, take, drop, slice_get, remove, get_or, Bool, true, false, ◌||◌, MatchOption, Option, Some, None, refl, sym, ap, ◌∙◌, subst, arith}
 use Rattle.frame_pool.specs.declared.Pool.{Pool}
 use Rattle.frame_pool.specs.Held.{times, Holds, Owns, Moves, SameIn}
-use Rattle.frame_pool.proofs.Held.{Owns-moves, Owns-counts, Holds-from_Owns, Moves-counts, Moves-trans, Moves-refl, Moves-beside, SameIn-beside}
-use Rattle.shadow_tables.specs.Slots.{held, slot_at, IsShadow, IsEmpty}
+use Rattle.frame_pool.proofs.Held.{Owns-moves, Holds-from_Owns, Moves-counts, Moves-refl, Moves-beside, SameIn-beside}
+use Rattle.shadow_tables.specs.Slots.{held, slot_at, IsEmpty}
 use Rattle.shadow_cache.specs.Pairs.{no_tables, reads, any_reads, frames_of, AreShadows, AreSized, BarsWrites, AllBarWrites, IsRoots}
 use Rattle.shadow_cache.specs.Others.{AreKept, place_of}
 use Rattle.shadow_cache.specs.Switched.{Opens, ComesBack, Comes}
@@ -143,12 +142,12 @@ module _ (pool pool' : Pool) (q : Pair) (ps : List Pair) (m m' : List ℕ) (h : 
 pub kept-front : (ps : List Pair) (i : ℕ) (p : Pair) (m m' : List ℕ) → slice_get ps i ≡ Some p → AreKept ps m m' → AreKept (p ∷ remove ps i) m m'
 kept-front [] i p m m' e k = absurd cc
 kept-front (q ∷ qs) zero p m m' e k = subst (λ (x : Pair). AreKept (x ∷ qs) m m') (same-some q p e) k
-kept-front (q ∷ qs) (suc i) p m m' e k = let r = kept-front qs i p m m' e k.3 in (r.0, r.1, r.2, (k.0, k.1, k.2, r.3))
+kept-front (q ∷ qs) (suc i) p m m' e k = let r = kept-front qs i p m m' e k.3 in (r.0, r.1, r.2, (k.0, k.1, k.2, r.3, k.4), r.4)
 
 pub kept-take : (n : ℕ) (ps : List Pair) (m m' : List ℕ) → AreKept ps m m' → AreKept (take n ps) m m'
 kept-take zero ps m m' k = tt
 kept-take (suc n) [] m m' k = tt
-kept-take (suc n) (p ∷ ps) m m' k = (k.0, k.1, k.2, kept-take n ps m m' k.3)
+kept-take (suc n) (p ∷ ps) m m' k = (k.0, k.1, k.2, kept-take n ps m m' k.3, k.4)
 
 comes-by : (o : Option ℕ) (ps ps' : List Pair) (m m1 m2 : List ℕ) (cr3 : ℕ) → AreKept ps m m1 → MatchOption o (Opens ps ps' m1 m2 cr3) (λ i. ComesBack ps ps' m1 m2 i) → MatchOption o (Opens ps ps' m m2 cr3) (λ i. ComesBack ps ps' m m2 i)
 comes-by None ps ps' m m1 m2 cr3 k x =

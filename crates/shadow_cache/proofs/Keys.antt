@@ -1,5 +1,5 @@
 -- Pairs under keys, and what one change of the slab does to them.
-use Rattle.std.proofs.Common.{◌≡◌, ◌≢◌, ℕ, zero, suc, ◌+◌, ◌<◌, ◌≤◌, List, [], ◌∷◌, ◌++◌, length, take, drop, get_or, slice_get, slice_set, remove, Option, Some, None, IsSome, refl, sym, ap, ◌∙◌, subst, inl, inr, rules, arith}
+use Rattle.std.proofs.Common.{◌≡◌, ◌≢◌, ℕ, zero, suc, ◌+◌, ◌<◌, List, [], ◌∷◌, length, get_or, slice_get, slice_set, remove, Option, Some, None, IsSome, refl, sym, ap, ◌∙◌, subst, inl, inr, rules, arith}
 use Rattle.std.proofs.lemmas.Bool.Decides.{eqb_tells}
 use Rattle.frame_pool.specs.Frames.{IsNotIn, AreDistinct}
 use Rattle.slab.specs.Slab.{Slab, get, slab_len, Updates}

@@ -1,17 +1,16 @@
 -- A pair that leaves, among others that stay.
-use Rattle.std.proofs.Common.{◌≡◌, ◌≢◌, ℕ, zero, suc, ◌+◌, ◌^◌, ◌<◌, ◌≤◌, List, [], ◌∷◌, ◌++◌, ◌||◌, length, take, drop, slice_get, remove, filter, Bool, true, false, not, cond, eqb, Option, Some, None, refl, sym, ap, ◌∙◌, subst, inl, inr, arith}
+use Rattle.std.proofs.Common.{◌≡◌, ◌≢◌, ℕ, zero, suc, ◌+◌, ◌<◌, ◌≤◌, List, [], ◌∷◌, ◌++◌, ◌||◌, length, take, drop, slice_get, remove, filter, Bool, true, false, cond, eqb, Some, None, refl, sym, ap, ◌∙◌, subst, inl, inr, arith}
 use Rattle.std.proofs.lemmas.Bool.{cases_lt}
 use Rattle.std.proofs.lemmas.Bool.Decides.{eqb_tells}
-use Rattle.frame_pool.specs.Pool.{free_list}
 use Rattle.frame_pool.specs.declared.Pool.{Pool}
-use Rattle.frame_pool.specs.Held.{times, Holds, Owns, Moves, SameIn}
-use Rattle.frame_pool.proofs.Lengths.{times-append, times-none}
-use Rattle.frame_pool.proofs.Held.{Owns-counts, Owns-part, Owns-moves, Moves-counts, Moves-counts_from, Moves-beside, SameIn-beside}
-use Rattle.shadow_tables.specs.Slots.{held, slot_at, IsShadow}
+use Rattle.frame_pool.specs.Held.{times, Owns, Moves}
+use Rattle.frame_pool.proofs.Lengths.{times-append}
+use Rattle.frame_pool.proofs.Held.{Owns-counts, Owns-part, Moves-counts_from, Moves-beside, SameIn-beside}
+use Rattle.shadow_tables.specs.Slots.{held, IsShadow}
 use Rattle.shadow_cache.specs.Pairs.{reads, any_reads, frames_of, AreShadows}
 use Rattle.shadow_cache.specs.Others.{AreKept, one_later, place_of}
 use Rattle.shadow_cache.specs.declared.pair.Pair.{Pair}
-use Rattle.shadow_cache.specs.Laws.{frames-cons, times-frames, kept-same, kept-shadows, kept-frames}
+use Rattle.shadow_cache.specs.Laws.{times-frames, kept-same, kept-frames}
 
 -- ---- lists
 
@@ -38,17 +37,18 @@ shadows-remove (q ∷ qs) (suc i) m h = (h.0, shadows-remove qs i m h.1)
 
 pub kept-refl : (ps : List Pair) (m : List ℕ) → AreShadows ps m → AreKept ps m m
 kept-refl [] m h = tt
-kept-refl (p ∷ ps) m h = (h.0, refl, λ page l. refl, kept-refl ps m h.1)
+kept-refl (p ∷ ps) m h = (h.0, refl, λ page l. refl, kept-refl ps m h.1, λ side index l ne. ne)
 
 pub kept-trans : (ps : List Pair) (m m1 m2 : List ℕ) → AreKept ps m m1 → AreKept ps m1 m2 → AreKept ps m m2
 kept-trans [] m m1 m2 a b = tt
-kept-trans (p ∷ ps) m m1 m2 a b = (b.0, b.1 ∙ a.1, λ page l. b.2 page l ∙ a.2 page l, kept-trans ps m m1 m2 a.3 b.3)
+kept-trans (p ∷ ps) m m1 m2 a b =
+    (b.0, b.1 ∙ a.1, λ page l. b.2 page l ∙ a.2 page l, kept-trans ps m m1 m2 a.3 b.3, λ side index l ne. b.4 side index l (a.4 side index l ne))
 
 pub kept-remove : (ps : List Pair) (i : ℕ) (m m' : List ℕ) → AreKept ps m m' → AreKept (remove ps i) m m'
 kept-remove [] zero m m' k = tt
 kept-remove [] (suc i) m m' k = tt
 kept-remove (q ∷ qs) zero m m' k = k.3
-kept-remove (q ∷ qs) (suc i) m m' k = (k.0, k.1, k.2, kept-remove qs i m m' k.3)
+kept-remove (q ∷ qs) (suc i) m m' k = (k.0, k.1, k.2, kept-remove qs i m m' k.3, k.4)
 
 or-true : (a : Bool) → (a || true) ≡ true
 or-true true = refl

@@ -7,3 +7,16 @@ pub mod Calls
 pub mod Noting
 pub mod Coming
 pub mod Noted
+pub mod LastFills
+pub mod Since
+pub mod Tabled
+pub mod SlotSteps
+pub mod Told
+pub mod PairSteps
+pub mod CallSteps
+pub mod Apart
+pub mod Away
+pub mod Whole
+pub mod Gone
+pub mod OneLoad
+pub mod Places

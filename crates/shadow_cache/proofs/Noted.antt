@@ -1,7 +1,7 @@
 -- From which frames the present tables were read, after each call.
-use Rattle.std.proofs.Common.{◌≡◌, ℕ, ◌<◌, List, [], ◌∷◌, length, get_or, slice_set, Bool, true, false, cond, refl, sym, ap, ◌∙◌, inl, inr, arith}
+use Rattle.std.proofs.Common.{◌≡◌, ℕ, ◌<◌, List, [], ◌∷◌, length, slice_set, Bool, true, false, cond, refl, ap, ◌∙◌, inl, inr, arith}
 use Rattle.shadow_cache.specs.Pairs.{reads}
-use Rattle.shadow_cache.specs.After.{noted_in, written_in, marked_by}
+use Rattle.shadow_cache.specs.After.{noted_in, written_in}
 use Rattle.shadow_cache.specs.declared.pair.Pair.{Pair}
 use Rattle.shadow_cache.proofs.Beside.{reads-set, reads-there}
 

@@ -1,19 +1,20 @@
 -- A frame that is noted, and a new pair.
-use Rattle.std.proofs.Common.{◌≡◌, ◌≢◌, ℕ, zero, suc, ◌+◌, ◌^◌, ◌<◌, ◌≤◌, ◌⊎◌, List, [], ◌∷◌, ◌++◌, length, replicate, get_or, slice_set, Bool, true, false, not, ◌||◌, ◌&&◌, cond, eqb, Option, Some, None, refl, sym, ap, ◌∙◌, subst, inl, inr, arith}
+use Rattle.std.proofs.Common.{◌≡◌, ℕ, zero, suc, ◌<◌, ◌⊎◌, List, [], ◌∷◌, ◌++◌, length, get_or, slice_set, Bool, true, false, not, ◌||◌, ◌&&◌, eqb, Option, Some, None, refl, sym, ap, ◌∙◌, subst, inl, inr, arith}
 use Rattle.std.proofs.lemmas.Bool.Decides.{eqb_tells}
 use Rattle.frame_pool.specs.declared.Pool.{Pool}
-use Rattle.frame_pool.specs.Held.{times, Holds, Owns, Writes, Moves, SameIn}
+use Rattle.frame_pool.specs.Held.{Holds, Owns, Writes, Moves, SameIn}
 use Rattle.frame_pool.proofs.Held.{Holds-writes, Writes-trans, Moves-kept}
-use Rattle.shadow_tables.specs.Slots.{Slot, barred, is_among, ArePart, held, slot_at, SameSlots, LosesWrites, IsShadow, IsEmpty}
+use Rattle.shadow_tables.specs.Slots.{Slot, barred, is_among, ArePart, held, slot_at, LosesWrites, IsShadow, IsEmpty}
 use Rattle.shadow_tables.specs.Laws.Views.{held-stays, slot_at-stays, IsShadow-stays}
-use Rattle.shadow_cache.specs.Pairs.{no_tables, reads, any_reads, tables_of, frames_of, AreShadows, AreSized, BarsWrites, AllBarWrites, IsRoots}
+use Rattle.shadow_cache.specs.Pairs.{no_tables, any_reads, tables_of, frames_of, AreShadows, BarsWrites, AllBarWrites, IsRoots}
 use Rattle.shadow_cache.specs.Others.{AreKept, AllLoseWrites}
 use Rattle.shadow_cache.specs.declared.pair.Pair.{Pair}
-use Rattle.shadow_cache.specs.Laws.{frames-cons, times-frames, kept-same, kept-shadows, kept-frames, tables-any}
+use Rattle.shadow_tables.specs.Opened.{KeepsTables}
+use Rattle.shadow_cache.specs.Laws.{keeps-same, frames-cons, times-frames, kept-same, kept-shadows, tables-any}
 use Rattle.shadow_cache.proofs.Leaving.{none-frames}
 use Rattle.shadow_cache.proofs.Barring.{rest-holds}
 use Rattle.shadow_cache.proofs.Present.{none-some, apart, write-frames, write-memory}
-use Rattle.shadow_cache.proofs.Beside.{reads-set, reads-there, no-reads, no-length}
+use Rattle.shadow_cache.proofs.Beside.{reads-set, reads-there, no-length}
 
 -- ---- a new pair
 
@@ -74,7 +75,12 @@ all-noted t u frame (p ∷ ps) m m' i l b = (bars-noted t u frame (slot_at p.sha
 
 all-lose : (ps : List Pair) (m m1 m2 : List ℕ) (frame : ℕ) → AreKept ps m m1 → AllLoseWrites ps m1 m2 frame → AllLoseWrites ps m m2 frame
 all-lose [] m m1 m2 frame k l = tt
-all-lose (p ∷ ps) m m1 m2 frame k l = ((λ page h. l.0 page h ∙ ap (barred (one frame)) (k.2 page h)), all-lose ps m m1 m2 frame k.3 l.1)
+all-lose (p ∷ ps) m m1 m2 frame k l = (
+  (λ page h. l.0 page h ∙ ap (barred (one frame)) (k.2 page h)),
+  all-lose ps m m1 m2 frame k.3 l.1,
+  l.2 ∙ k.1,
+  λ side index h ne. l.3 side index h (k.4 side index h ne),
+)
 
 or-none : (c : Bool) → (c || false) ≡ c
 or-none true = refl
@@ -133,8 +139,13 @@ module _ (p : Pair) (ps : List Pair) (m m1 m2 : List ℕ) (frame : ℕ) (h : IsR
     pub note-loses : LosesWrites (slot_at p.shadow m) (slot_at p.shadow m2) (frame ∷ [])
     note-loses page l = slot_at-stays p.shadow m1 m2 s1 apart2 page l ∙ l1 page l
 
-    pub note-all : AllLoseWrites (p ∷ ps) m m2 frame
-    note-all = (note-loses, all-lose ps m m1 m2 frame kept1 l2)
+    pub note-all : KeepsTables p.shadow m m1 → AllLoseWrites (p ∷ ps) m m2 frame
+    note-all k = (
+      note-loses,
+      all-lose ps m m1 m2 frame kept1 l2,
+      held-stays p.shadow m1 m2 s1 apart2 ∙ e1,
+      λ side index h ne. keeps-same p.shadow m1 m2 apart2 side index h (k side index h ne),
+    )
 
     pub note-frames : frames_of (noted p frame ∷ ps) m2 ≡ frames_of (p ∷ ps) m
     note-frames =

@@ -1,13 +1,13 @@
 -- A call on the present pair, beside which the others stay as they were.
-use Rattle.std.proofs.Common.{◌≡◌, ◌≢◌, ℕ, ◌+◌, ◌/◌, ◌^◌, ◌<◌, ◌≤◌, List, [], ◌∷◌, ◌++◌, length, Bool, true, false, not, ◌&&◌, ◌||◌, Option, Some, None, refl, sym, ap, ◌∙◌, subst, inl, inr, arith}
+use Rattle.std.proofs.Common.{◌≡◌, ℕ, ◌/◌, ◌^◌, ◌<◌, List, ◌∷◌, ◌++◌, Bool, true, false, not, ◌&&◌, Option, Some, None, refl, sym, ap, ◌∙◌, subst, inl, inr}
 use Rattle.std.proofs.lemmas.Bool.Decides.{eqb_tells}
 use Rattle.frame_pool.specs.declared.Pool.{Pool}
-use Rattle.frame_pool.specs.Held.{times, Holds, Owns, Writes, Moves, SameIn}
+use Rattle.frame_pool.specs.Held.{Holds, Owns, Writes, Moves, SameIn}
 use Rattle.frame_pool.proofs.Held.{Owns-part, Owns-moves, Holds-from_Owns, Holds-writes, Moves-beside, SameIn-beside, SameIn-writes, Writes-more, Moves-kept}
 use Rattle.paging.specs.declared.entry.Entry.{Entry}
 use Rattle.shadow_tables.specs.Slots.{Slot, filled, permits, held, slot_at, LosesDir, IsShadow}
 use Rattle.shadow_tables.specs.declared.words.Side.{Side}
-use Rattle.shadow_cache.specs.Pairs.{any_reads, frames_of, AreShadows, AreSized, BarsWrites, AllBarWrites, IsRoots}
+use Rattle.shadow_cache.specs.Pairs.{any_reads, frames_of, BarsWrites, IsRoots}
 use Rattle.shadow_cache.specs.Others.{AreKept}
 use Rattle.shadow_cache.specs.declared.pair.Pair.{Pair}
 use Rattle.shadow_cache.specs.Laws.{frames-cons, kept-same, kept-shadows, kept-frames, kept-barred}

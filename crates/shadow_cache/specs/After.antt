@@ -1,6 +1,7 @@
 -- What each call makes of the pairs, the present one first.
 use Rattle.std.specs.Prelude.{◌≡◌, ℕ, List, [], ◌∷◌, Option, None, filter, not, slice_set, true, false, if◌then◌else◌}
-use Rattle.shadow_tables.specs.Slots.{Slot, slot_at, root_of}
+use Rattle.shadow_tables.specs.Slots.{Slot, held, slot_at, root_of}
+use Rattle.shadow_tables.specs.Opened.{KeepsTables, HasOpened}
 use Rattle.shadow_tables.specs.declared.words.Side.{Side}
 use Rattle.shadow_cache.specs.Pairs.{no_tables, reads}
 use Rattle.shadow_cache.specs.Switched.{IsFresh}
@@ -15,6 +16,16 @@ slots_of (p ∷ ps) m page = slot_at p.shadow m page
 abbrev pub directory_of : List Pair → Side → ℕ
 directory_of [] side = 0
 directory_of (p ∷ ps) side = root_of p.shadow side
+
+-- the tables of the present pair, after a fill under this directory index of the view
+abbrev pub OpensIn : List Pair → (m m' : List ℕ) → Side → ℕ → Type 0
+OpensIn [] m m' side index = Unit {0}
+OpensIn (p ∷ ps) m m' side index = HasOpened p.shadow m m' side index
+
+-- it holds the same frames, and no table of it went
+abbrev pub KeepsIn : List Pair → (m m' : List ℕ) → Type 0
+KeepsIn [] m m' = Unit {0}
+KeepsIn (p ∷ ps) m m' = (held p.shadow m' ≡ held p.shadow m) × KeepsTables p.shadow m m'
 
 -- the pairs beside the present one
 abbrev pub beside : List Pair → List Pair

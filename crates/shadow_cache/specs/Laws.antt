@@ -1,21 +1,24 @@
 -- The proofs of the laws of `Roots`. They stand here since an impl of the trait may name this folder alone.
-use Rattle.std.proofs.Common.{◌≡◌, ◌≢◌, ℕ, zero, suc, ◌+◌, ◌*◌, ◌^◌, ◌<◌, ◌≤◌, List, [], ◌∷◌, ◌++◌, length, length-append, get_or, Bool, true, false, ◌||◌, cond, eqb, Option, Some, None, refl, sym, ap, ◌∙◌, subst, inl, inr, add-zero, arith}
+use Rattle.std.proofs.Common.{◌≡◌, ℕ, zero, suc, ◌+◌, ◌*◌, ◌^◌, ◌<◌, ◌≤◌, List, [], ◌∷◌, ◌++◌, length, length-append, get_or, Bool, true, false, ◌||◌, eqb, Option, Some, refl, sym, ap, ◌∙◌, subst, inl, inr, arith}
 use Rattle.std.proofs.Props.{props}
 use Rattle.std.proofs.Math.Logic.{∥∥₁_elim, ∥∥₁_map}
 use Rattle.std.proofs.lemmas.Bool.Decides.{eqb_tells}
-use Rattle.std.proofs.lemmas.Grind.{merely}
 use Rattle.std.specs.Coded.{Unit-prop}
 use mathlib.Core.HLevel.{Π_prop, ×_prop}
-use Rattle.frame_pool.specs.Held.{times, Holds, Writes, SameIn}
+use Rattle.frame_pool.specs.Held.{times, Holds, SameIn}
 use Rattle.frame_pool.proofs.Lengths.{times-append}
 use Rattle.frame_pool.proofs.Held.{Holds-writes}
 use Rattle.frame_pool.proofs.Props.{Holds-prop}
 use Rattle.paging.specs.Reached.{reached, walk_frames}
 use Rattle.shadow_tables.specs.Host.{lent}
-use Rattle.shadow_tables.specs.Slots.{Slot, is_among, held, slot_at, root_of, SameSlots, IsShadow}
+use Rattle.shadow_tables.specs.Slots.{Slot, is_among, roots, held, slot_at, root_of, SameSlots, IsShadow}
+use Rattle.shadow_tables.specs.Opened.{KeepsTables}
+use Rattle.shadow_tables.specs.declared.shadow.Shadow.{Shadow}
+use Rattle.shadow_views.proofs.Counts.{owned-root}
+use Rattle.shadow_views.proofs.Changes.{dir-frame}
 use Rattle.shadow_tables.specs.declared.words.Side.{Side}
 use Rattle.shadow_tables.specs.Laws as below
-use Rattle.shadow_tables.specs.Laws.Views.{held-stays, slot_at-stays, IsShadow-stays}
+use Rattle.shadow_tables.specs.Laws.Views.{in-root, held-stays, slot_at-stays, IsShadow-stays}
 use Rattle.shadow_tables.specs.Laws.Props.{IsShadow-prop}
 use Rattle.shadow_cache.specs.Pairs.{reads, any_reads, places_from, tables_of, frames_of, AreShadows, AreSized, BarsWrites, AllBarWrites, IsRoots}
 use Rattle.shadow_cache.specs.Others.{AreKept}
@@ -68,11 +71,21 @@ same-rest p ps m m' e = record { size = e.size; frames = λ f h. e.frames f (let
 
 -- ---- pairs that keep what they kept
 
+pub keeps-same : (s : Shadow) (m m' : List ℕ) → SameIn (held s m) m m' → KeepsTables s m m'
+keeps-same s m m' e = λ side index l ne z.
+    let r = root_of s side in
+    ne (sym (dir-frame m m' r index (e.frames r (owned-root m r (roots s) (in-root s side))) l) ∙ z)
+
 pub kept-same : (ps : List Pair) (m m' : List ℕ) → AreShadows ps m → SameIn (frames_of ps m) m m' → AreKept ps m m'
 kept-same [] m m' h e = tt
 kept-same (p ∷ ps) m m' h e =
-    let here = same-first p ps m m' e in
-    (IsShadow-stays p.shadow m m' h.0 here, held-stays p.shadow m m' h.0 here, λ page l. slot_at-stays p.shadow m m' h.0 here page l, kept-same ps m m' h.1 (same-rest p ps m m' e))
+    let here = same-first p ps m m' e in (
+      IsShadow-stays p.shadow m m' h.0 here,
+      held-stays p.shadow m m' h.0 here,
+      λ page l. slot_at-stays p.shadow m m' h.0 here page l,
+      kept-same ps m m' h.1 (same-rest p ps m m' e),
+      keeps-same p.shadow m m' here,
+    )
 
 pub kept-shadows : (ps : List Pair) (m m' : List ℕ) → AreKept ps m m' → AreShadows ps m'
 kept-shadows [] m m' k = tt

@@ -4,4 +4,8 @@ pub mod Others
 pub mod Switched
 pub mod Roots
 pub mod After
+pub mod Past
+pub mod Replayed
+pub mod Agreeing
+pub mod Away
 pub mod Laws

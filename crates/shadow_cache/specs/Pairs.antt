@@ -1,5 +1,5 @@
 -- Pairs of views, one for each value of CR3 that is kept, over a memory.
-use Rattle.std.specs.Prelude.{◌≡◌, ℕ, suc, ◌^◌, ◌<◌, ◌≤◌, List, [], ◌∷◌, ◌++◌, length, slice_index_or, replicate, Bool, true, false, ◌||◌, not, if◌then◌else◌, Option, Some}
+use Rattle.std.specs.Prelude.{◌≡◌, ℕ, suc, ◌^◌, ◌<◌, ◌≤◌, List, [], ◌∷◌, ◌++◌, length, slice_index_or, replicate, Bool, true, false, ◌||◌, if◌then◌else◌, Option, Some}
 use Rattle.frame_pool.specs.Held.{Holds}
 use Rattle.shadow_tables.specs.Slots.{Slot, held, slot_at, IsShadow}
 use Rattle.shadow_cache.specs.declared.pair.Pair.{Pair}

@@ -1,5 +1,5 @@
 -- Where a load of CR3 leads.
-use Rattle.std.specs.Prelude.{◌≡◌, ℕ, List, [], ◌∷◌, take, remove, slice_get, false, if◌then◌else◌, Option, Some, MatchOption}
+use Rattle.std.specs.Prelude.{◌≡◌, ℕ, List, [], ◌∷◌, take, remove, slice_get, false, if◌then◌else◌, Some, MatchOption}
 use Rattle.shadow_tables.specs.Slots.{IsEmpty}
 use Rattle.shadow_cache.specs.Pairs.{no_tables}
 use Rattle.shadow_cache.specs.Others.{AreKept, place_of}

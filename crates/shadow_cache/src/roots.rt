@@ -1,4 +1,4 @@
-ghost use Rattle.std.specs.Prelude.{◌≡◌, ℕ, ◌+◌, ◌≤◌, ◌<◌, ◌^◌, List, [], ◌∷◌, length, Some, None, false, IfOk, OnErr};
+ghost use Rattle.std.specs.Prelude.{◌≡◌, ℕ, ◌+◌, ◌/◌, ◌≤◌, ◌<◌, ◌^◌, List, [], ◌∷◌, ◌++◌, length, Some, None, false, IfOk, OnErr};
 ghost use Rattle.std.specs.FinMap.{empty, insert, remove};
 ghost use Rattle.frame_pool.specs.Pool.{free_list, Stands};
 ghost use Rattle.frame_pool.specs.declared.Pool.{Pool};
@@ -31,6 +31,9 @@ impl Roots {
     ghost use Rattle.shadow_cache.specs.Roots.{pairs_of};
     ghost use Rattle.shadow_cache.specs.After.{IsStart};
     ghost use Rattle.shadow_cache.specs.Switched.{IsSwitched};
+    ghost use Rattle.shadow_cache.specs.Agreeing.{Agree};
+    ghost use Rattle.shadow_cache.specs.declared.call_lists.RootsCall.{RootsCall};
+    ghost use Rattle.shadow_cache.specs.declared.call_lists.RootsCall.TheVariants.{Switch};
 
     /// One pair, of this value, that keeps nothing. Takes the room for 8.
     pub fn new(alloc: Global, ram: &mut Ram, pool: &mut Pool, cr3: u32) -> Result<Roots, AllocError>
@@ -41,6 +44,7 @@ impl Roots {
         ensures starts { IfOk result (λ r. IsStart (pairs_of r) ram.new cr3) }
         ensures owns { IfOk result (λ r. Owns pool.new ram.new (frames_of (pairs_of r) ram.new)) }
         ensures moves { IfOk result (λ r. Moves pool.old pool.new ram.old ram.new [] (frames_of (pairs_of r) ram.new)) }
+        ensures told { IfOk result (λ r. Agree cr3 [] (pairs_of r) ram.new) }
     {
         let others = Pairs::new(alloc)?;
         let present = Pair::new(ram, pool, cr3);
@@ -56,6 +60,7 @@ impl Roots {
         ensures switched { IsSwitched (pairs_of self.old) (pairs_of self.new) ram.old ram.new cr3 }
         ensures owns { Owns pool.new ram.new (frames_of (pairs_of self.new) ram.new) }
         ensures moves { Moves pool.old pool.new ram.old ram.new (frames_of (pairs_of self.old) ram.old) (frames_of (pairs_of self.new) ram.new) }
+        ensures told { (value : ℕ) (calls : List RootsCall) → Agree value calls (pairs_of self.old) ram.old → Agree value (calls ++ Switch cr3 ∷ []) (pairs_of self.new) ram.new }
     {
         put_by(&mut self.others, ram, pool, self.present);
         self.present = come(&mut self.others, ram, pool, cr3);
@@ -78,7 +83,11 @@ impl Roots {
 
 impl Roots {
     ghost use Rattle.shadow_cache.specs.Roots.{pairs_of};
-    ghost use Rattle.shadow_cache.specs.After.{slots_of, directory_of, beside, noted_in, written_in, emptied};
+    ghost use Rattle.shadow_cache.specs.Agreeing.{Agree};
+    ghost use Rattle.shadow_cache.specs.declared.call_lists.RootsCall.{RootsCall};
+    ghost use Rattle.shadow_cache.specs.declared.call_lists.RootsCall.TheVariants.{Shared};
+    ghost use Rattle.shadow_tables.specs.declared.calls.Call.TheVariants.{Fill, DropPage, DropDir, DropAll, Note, Written};
+    ghost use Rattle.shadow_cache.specs.After.{slots_of, directory_of, beside, OpensIn, KeepsIn, noted_in, written_in, emptied};
 
     /// Drops the page in the present pair.
     pub fn drop_page(&mut self, ram: &mut Ram, page: u32)
@@ -88,10 +97,12 @@ impl Roots {
         ensures others { AreKept (beside (pairs_of self.old)) ram.old ram.new }
         ensures stands { ∥ IsRoots (pairs_of self.new) ram.new ∥₁ }
         ensures turns { Turns (slots_of (pairs_of self.old) ram.old) (slots_of (pairs_of self.new) ram.new) page None }
+        ensures tables { KeepsIn (pairs_of self.old) ram.old ram.new }
         ensures entries { entries_of (slots_of (pairs_of self.new) ram.new) ≡ remove (entries_of (slots_of (pairs_of self.old) ram.old)) page }
         ensures frames { frames_of (pairs_of self.new) ram.new ≡ frames_of (pairs_of self.old) ram.old }
         ensures memory { Writes (frames_of (pairs_of self.old) ram.old) ram.old ram.new }
         ensures moves { (p : Pool) → Owns p ram.old (frames_of (pairs_of self.old) ram.old) → Moves p p ram.old ram.new (frames_of (pairs_of self.old) ram.old) (frames_of (pairs_of self.new) ram.new) }
+        ensures told { (value : ℕ) (calls : List RootsCall) → Agree value calls (pairs_of self.old) ram.old → Agree value (calls ++ Shared (DropPage page) ∷ []) (pairs_of self.new) ram.new }
     {
         let mut shadow = self.present.shadow;
         shadow.drop_page(ram, page);
@@ -105,10 +116,12 @@ impl Roots {
         ensures others { AreKept (beside (pairs_of self.old)) ram.old ram.new }
         ensures stands { ∥ IsRoots (pairs_of self.new) ram.new ∥₁ }
         ensures loses { LosesDir (slots_of (pairs_of self.old) ram.old) (slots_of (pairs_of self.new) ram.new) index }
+        ensures tables { KeepsIn (pairs_of self.old) ram.old ram.new }
         ensures entries { entries_of (slots_of (pairs_of self.new) ram.new) ≡ without_dir (entries_of (slots_of (pairs_of self.old) ram.old)) index }
         ensures frames { frames_of (pairs_of self.new) ram.new ≡ frames_of (pairs_of self.old) ram.old }
         ensures memory { Writes (frames_of (pairs_of self.old) ram.old) ram.old ram.new }
         ensures moves { (p : Pool) → Owns p ram.old (frames_of (pairs_of self.old) ram.old) → Moves p p ram.old ram.new (frames_of (pairs_of self.old) ram.old) (frames_of (pairs_of self.new) ram.new) }
+        ensures told { (value : ℕ) (calls : List RootsCall) → Agree value calls (pairs_of self.old) ram.old → Agree value (calls ++ Shared (DropDir index) ∷ []) (pairs_of self.new) ram.new }
     {
         let mut shadow = self.present.shadow;
         shadow.drop_dir(ram, index);
@@ -127,9 +140,11 @@ impl Roots {
         ensures stands { ∥ IsRoots (pairs_of self.new) ram.new ∥₁ }
         ensures turns { Turns (slots_of (pairs_of self.old) ram.old) (slots_of (pairs_of self.new) ram.new) entry.page (Some (filled (is_among entry.frame (tables_of (pairs_of self.old))) side entry wp)) }
         ensures entries { entries_of (slots_of (pairs_of self.new) ram.new) ≡ insert (entries_of (slots_of (pairs_of self.old) ram.old)) entry.page entry }
+        ensures table { OpensIn (pairs_of self.old) ram.old ram.new side (entry.page / 1024) }
         ensures one { length (free_list pool.old ram.old) ≤ length (free_list pool.new ram.new) + 1 }
         ensures owns { Owns pool.new ram.new (frames_of (pairs_of self.new) ram.new) }
         ensures moves { Moves pool.old pool.new ram.old ram.new (frames_of (pairs_of self.old) ram.old) (frames_of (pairs_of self.new) ram.new) }
+        ensures told { (value : ℕ) (calls : List RootsCall) → Agree value calls (pairs_of self.old) ram.old → Agree value (calls ++ Shared (Fill side entry wp) ∷ []) (pairs_of self.new) ram.new }
     {
         let barred = self.tracks(entry.frame);
         let mut shadow = self.present.shadow;
@@ -149,6 +164,7 @@ impl Roots {
         ensures two { length (frames_of (pairs_of self.new) ram.new) ≡ 2 }
         ensures owns { Owns pool.new ram.new (frames_of (pairs_of self.new) ram.new) }
         ensures moves { Moves pool.old pool.new ram.old ram.new (frames_of (pairs_of self.old) ram.old) (frames_of (pairs_of self.new) ram.new) }
+        ensures told { (value : ℕ) (calls : List RootsCall) → Agree value calls (pairs_of self.old) ram.old → Agree value (calls ++ Shared DropAll ∷ []) (pairs_of self.new) ram.new }
     {
         let before = self.present;
         leave_all(&mut self.others, ram, pool);
@@ -171,6 +187,7 @@ impl Roots {
         ensures frames { frames_of (pairs_of self.new) ram.new ≡ frames_of (pairs_of self.old) ram.old }
         ensures memory { Writes (frames_of (pairs_of self.old) ram.old) ram.old ram.new }
         ensures moves { (p : Pool) → Owns p ram.old (frames_of (pairs_of self.old) ram.old) → Moves p p ram.old ram.new (frames_of (pairs_of self.old) ram.old) (frames_of (pairs_of self.new) ram.new) }
+        ensures told { (value : ℕ) (calls : List RootsCall) → Agree value calls (pairs_of self.old) ram.old → Agree value (calls ++ Shared (Note frame) ∷ []) (pairs_of self.new) ram.new }
     {
         let before = self.present;
         before.shadow.bar(ram, frame);
@@ -194,6 +211,7 @@ impl Roots {
         ensures fewer { length (free_list pool.old ram.old) ≤ length (free_list pool.new ram.new) }
         ensures owns { Owns pool.new ram.new (frames_of (pairs_of self.new) ram.new) }
         ensures moves { Moves pool.old pool.new ram.old ram.new (frames_of (pairs_of self.old) ram.old) (frames_of (pairs_of self.new) ram.new) }
+        ensures told { (value : ℕ) (calls : List RootsCall) → Agree value calls (pairs_of self.old) ram.old → Agree value (calls ++ Shared (Written frame) ∷ []) (pairs_of self.new) ram.new }
     {
         let before = self.present;
         leave_readers(&mut self.others, ram, pool, frame);

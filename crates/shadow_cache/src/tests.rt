@@ -1,13 +1,14 @@
-ghost use Rattle.std.specs.Prelude.{◌≡◌};
+ghost use Rattle.std.specs.Prelude.{◌≡◌, ◌≤◌, ◌<◌, ◌^◌};
 ghost use Rattle.frame_pool.specs.Held.{Owns};
 ghost use Rattle.shadow_cache.specs.Pairs.{frames_of, IsRoots};
 ghost use Rattle.shadow_cache.specs.Roots.{pairs_of};
+ghost use Rattle.shadow_cache.specs.Replayed.{IsFitCall, AreFitCalls};
 
-use crate::Roots;
+use crate::{Roots, RootsCall, replay};
 use frame_pool::Pool;
 use guest_ram::Ram;
 use paging::Entry;
-use shadow_tables::{Shadows, Side};
+use shadow_tables::{Call, Shadows, Side};
 use std::alloc::Global;
 use std::process::Abort;
 
@@ -136,16 +137,18 @@ fn brings_entries_back_until_a_table_is_written(rt: HostRuntime) {
     assert!(rt; !seen(&bench).1);
 }
 
-// A ninth value takes the place of the first.
+// A ninth value takes the place of the first, and an eighth does not. Eight pairs hold 16 frames and a table.
 #[test]
 fn keeps_eight_values(rt: HostRuntime) {
-    let mut bench = fill(&rt, begin(&rt, rt.alloc()), 0x20);
-    for k in 0..8 {
-        bench = go(&rt, bench, 0x2000 + 0x1000 * k);
+    for others in 7..9 {
+        let mut bench = fill(&rt, go(&rt, begin(&rt, rt.alloc()), 0x2000), 0x20);
+        for k in 0..others {
+            bench = go(&rt, bench, 0x3000 + 0x1000 * k);
+        }
+        let bench = go(&rt, bench, 0x2000);
+        assert_eq!(rt; seen(&bench).0.is_some(), others == 7);
+        assert_eq!(rt; bench.pool.free(), if others == 7 { 47 } else { 48 });
     }
-    let bench = go(&rt, bench, 0x1000);
-    assert!(rt; seen(&bench).0.is_none());
-    assert_eq!(rt; bench.pool.free(), 48);
 }
 
 // No page of a frame that any pair reads as a table is writable.
@@ -162,4 +165,72 @@ fn bars_writes_to_tables_of_all_pairs(rt: HostRuntime) {
     assert!(rt; !seen(&bench).1);
     let bench = fill(&rt, written(bench, 0x14), 0x14);
     assert!(rt; seen(&bench).1);
+}
+
+/// A fill that the present pair's tables don't bar, in a kernel's view.
+fn filled(frame: u32) -> RootsCall
+    requires { frame < 2 ^ 20 }
+    ensures { IsFitCall result }
+{
+    RootsCall::Shared(Call::Fill(Side::Kernel, entry(frame), true))
+}
+
+/// What is kept for the page after these calls over a pool of so many frames, whether it may be written, how many calls
+/// were done, and how many frames are free then.
+fn told(
+    rt: &impl Abort,
+    alloc: Global,
+    frames: u32,
+    calls: &[RootsCall],
+) -> (Option<Entry>, bool, usize, u32)
+    requires fit { AreFitCalls calls.now }
+    requires frames { 2 ≤ frames × frames ≤ 64 }
+{
+    let mut ram = Ram::new(alloc, 128).expect(rt, "memory");
+    assert_eq!(rt; ram.len(), 524288);
+    let mut pool = Pool::new(&mut ram, 64, frames);
+    assert!(rt; pool.free() >= 2);
+    let after = replay(alloc, &mut ram, &mut pool, 0x1000, calls).expect(rt, "memory");
+    (
+        after.roots.kept(&ram, 0x11000),
+        after.roots.adequate(&ram, Side::Kernel, 0x11000, true),
+        after.done,
+        pool.free(),
+    )
+}
+
+// As calls of a list. A write to a frame that was noted, by whichever pair, is not adequate until the frame was written
+// and the page filled again.
+#[test]
+fn replays_a_list(rt: HostRuntime) {
+    let list = [
+        filled(0x20),
+        RootsCall::Shared(Call::Note(0x14)),
+        RootsCall::Switch(0x30000),
+        RootsCall::Shared(Call::Note(0x20)),
+        RootsCall::Switch(0x1000),
+        RootsCall::Shared(Call::Written(0x20)),
+        filled(0x20),
+    ];
+    assert_eq!(rt;
+        told(&rt, rt.alloc(), 64, &list[..1]),
+        (Some(entry(0x20)), true, 1, 61)
+    );
+    assert_eq!(rt; told(&rt, rt.alloc(), 64, &list[..3]), (None, false, 3, 59));
+    assert_eq!(rt;
+        told(&rt, rt.alloc(), 64, &list[..5]),
+        (Some(entry(0x20)), false, 5, 59)
+    );
+    assert_eq!(rt;
+        told(&rt, rt.alloc(), 64, &list[..6]),
+        (Some(entry(0x20)), false, 6, 61)
+    );
+    assert_eq!(rt;
+        told(&rt, rt.alloc(), 64, &list),
+        (Some(entry(0x20)), true, 7, 61)
+    );
+    assert_eq!(rt;
+        told(&rt, rt.alloc(), 4, &list),
+        (Some(entry(0x20)), true, 2, 1)
+    );
 }

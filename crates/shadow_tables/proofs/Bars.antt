@@ -5,6 +5,8 @@ use Rattle.frame_pool.specs.Held.{Holds, Writes}
 use Rattle.frame_pool.proofs.Held.{Writes-refl, Writes-trans, Holds-writes}
 use Rattle.shadow_views.specs.Tables.{dir, at, owned, IsIn, Puts}
 use Rattle.shadow_views.proofs.Changes.{at-none}
+use Rattle.shadow_tables.specs.Opened.{KeepsTables}
+use Rattle.shadow_tables.proofs.Tabled.{keeps-trans, puts-keep}
 use Rattle.shadow_tables.specs.Slots.{Slot, barred, barred_word, has, slot_of, by_words, roots, held, slot_at, IsMarked, IsShadow, Becomes}
 use Rattle.shadow_tables.specs.Sweeps.{Sweeps}
 use Rattle.shadow_tables.specs.declared.shadow.Shadow.{Shadow}
@@ -209,6 +211,9 @@ module _ (s : Shadow) (m m1 m2 : List ℕ) (page frame : ℕ) (h : IsShadow s m)
   pub bar-writes : Writes (held s m) m m2
   bar-writes = Writes-trans (held s m) m m1 m2 a.writes (subst (λ (fs : List ℕ). Writes fs m1 m2) a.frames b.writes)
 
+  pub bar-tables : KeepsTables s m m2
+  bar-tables = keeps-trans s m m1 m2 (puts-keep s m m1 s.kernel page (barred_word frame (at m s.kernel page)) a) (puts-keep s m1 m2 s.user page (barred_word frame (at m1 s.user page)) b)
+
   pub bars : Becomes s m m2 page (barred (frame ∷ []) (slot_at s m page))
   bars =
       record {
@@ -237,9 +242,9 @@ bars-none s m index frame h a b =
     (λ page l x y. (
     let n = dir-none s m index page a b (omega (arith, x, y)) in n ∙ sym (ap (barred (frame ∷ [])) n)))
 
-pub bars-more : (s : Shadow) (m m1 m2 : List ℕ) (first n frame : ℕ) → first ≤ n → n < 2 ^ 20 → Sweeps s m m1 first n (without s m frame) → Becomes s m1 m2 n (without s m1 frame n) → held s m2 ≡ held s m1 → Writes (held s m1) m1 m2 → Sweeps s m m2 first (n + 1) (without s m frame)
-bars-more s m m1 m2 first n frame le small a b f w =
-    sweeps-more s m m1 m2 first n (without s m frame) (without s m1 frame n) le a b (ap (barred (frame ∷ [])) (a.others n small (λ x y. absurd (omega (arith, y))))) f w
+pub bars-more : (s : Shadow) (m m1 m2 : List ℕ) (first n frame : ℕ) → first ≤ n → n < 2 ^ 20 → Sweeps s m m1 first n (without s m frame) → Becomes s m1 m2 n (without s m1 frame n) → held s m2 ≡ held s m1 → Writes (held s m1) m1 m2 → KeepsTables s m1 m2 → Sweeps s m m2 first (n + 1) (without s m frame)
+bars-more s m m1 m2 first n frame le small a b f w k =
+    sweeps-more s m m1 m2 first n (without s m frame) (without s m1 frame n) le a b (ap (barred (frame ∷ [])) (a.others n small (λ x y. absurd (omega (arith, y))))) f w k
 
 pub bars-trans : (s : Shadow) (m m1 m2 : List ℕ) (first n last frame : ℕ) → first ≤ n → n ≤ last → Sweeps s m m1 first n (without s m frame) → Sweeps s m1 m2 n last (without s m1 frame) → Sweeps s m m2 first last (without s m frame)
 bars-trans s m m1 m2 first n last frame x y a b =

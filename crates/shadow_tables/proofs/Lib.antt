@@ -1,5 +1,6 @@
 pub mod Packed
 pub mod Fills
 pub mod Lists
+pub mod Tabled
 pub mod Sweeps
 pub mod Bars

@@ -4,6 +4,7 @@ ghost use Rattle.std.specs.Prelude.{◌≡◌, ◌≢◌, ℕ, ◌+◌, ◌*◌,
 ghost use Rattle.frame_pool.specs.Held.{Holds, Writes};
 ghost use Rattle.shadow_views.specs.Tables.{at, owned, IsIn, IsView, Puts};
 ghost use Rattle.shadow_tables.specs.Slots.{barred, barred_word, held, slot_at, IsShadow, Becomes, LosesWrites};
+ghost use Rattle.shadow_tables.specs.Opened.{KeepsTables};
 ghost use Rattle.shadow_tables.specs.Sweeps.{Sweeps};
 
 use crate::shadow::Shadow;
@@ -30,6 +31,7 @@ impl Shadow {
         requires page { page < 2 ^ 20 }
         ensures becomes { Becomes self.now ram.old ram.new page (barred (frame ∷ []) (slot_at self.now ram.old page)) }
         ensures held { held self.now ram.new ≡ held self.now ram.old }
+        ensures tables { KeepsTables self.now ram.old ram.new }
         ensures memory { Writes (held self.now ram.old) ram.old ram.new }
     {
         bar_word(ram, self.root(Side::Kernel), page, frame);
@@ -58,6 +60,7 @@ impl Shadow {
         ensures shadow { IsShadow self.now ram.new }
         ensures loses { LosesWrites (slot_at self.now ram.old) (slot_at self.now ram.new) (frame ∷ []) }
         ensures held { held self.now ram.new ≡ held self.now ram.old }
+        ensures tables { KeepsTables self.now ram.old ram.new }
         ensures memory { Writes (held self.now ram.old) ram.old ram.new }
     {
         for index in 0..1024 {

@@ -1,21 +1,23 @@
 //! The views of a kernel and of a user.
 
-ghost use Rattle.std.specs.Prelude.{◌≡◌, ℕ, ◌+◌, ◌*◌, ◌≤◌, ◌<◌, ◌^◌, length, Some, None, IfSome, false, [], ◌∷◌};
+ghost use Rattle.std.specs.Prelude.{◌≡◌, ◌≢◌, ℕ, List, ◌+◌, ◌*◌, ◌/◌, ◌≤◌, ◌<◌, ◌^◌, length, Some, None, IfSome, false, [], ◌∷◌};
 ghost use Rattle.frame_pool.specs.Pool.{free_list, Stands, Takes};
 ghost use Rattle.frame_pool.specs.declared.Pool.{Pool};
 ghost use Rattle.frame_pool.specs.Held.{Owns, Writes, Moves};
 ghost use Rattle.std.specs.FinMap.{get, insert, remove};
 ghost use Rattle.std.specs.FinMap.{empty as no_entries};
+ghost use Rattle.shadow_views.specs.Tables.{dir, owned, IsIn, IsView, Opens};
 ghost use Rattle.shadow_tables.specs.Entries.{entries_of};
 ghost use Rattle.paging.specs.Uses.{without_dir};
 ghost use Rattle.shadow_tables.specs.Slots.{filled, barred, held, slot_at, IsShadow, Becomes, LosesDir, LosesWrites, entry_in, is_adequate, root_of, IsEmpty};
+ghost use Rattle.shadow_tables.specs.Opened.{KeepsTables, HasOpened};
 ghost use Rattle.shadow_tables.specs.Sweeps.{Sweeps};
 
 use crate::words::{Side, entry_of, lets, word_of};
 use frame_pool::Pool;
 use guest_ram::Ram;
 use paging::Entry;
-use shadow_views::{clear, empty, look, open, set};
+use shadow_views::{clear, empty, has_table, look, set};
 
 /// The roots of both views.
 #[derive(Clone, Copy)]
@@ -33,6 +35,20 @@ fn taken(ram: &mut Ram, pool: &mut Pool) -> u32
     match pool.take(ram) {
         Some(frame) => frame,
         None => 0,
+    }
+}
+
+/// Takes a frame for the table of a directory word, where none is there.
+fn open(ram: &mut Ram, pool: &mut Pool, root: u32, index: u32)
+    requires view { IsView ram.old root }
+    requires index { index < 1024 }
+    requires stands { Stands pool.old ram.old }
+    requires free { 1 ≤ length (free_list pool.old ram.old) }
+    ensures opens { (rs : List ℕ) → Owns pool.old ram.old (owned ram.old rs) → IsIn root rs → Opens pool.old pool.new ram.old ram.new rs root index }
+    ensures there { dir ram.old root index ≢ 0 → (pool.new ≡ pool.old) × (ram.new ≡ ram.old) }
+{
+    if !has_table(ram, root, index) {
+        shadow_views::open(ram, pool, root, index);
     }
 }
 
@@ -112,6 +128,7 @@ impl Shadow {
         ensures becomes { Becomes self.old ram.old ram.new page None }
         ensures entries { entries_of (slot_at self.old ram.new) ≡ remove (entries_of (slot_at self.old ram.old)) page }
         ensures held { held self.old ram.new ≡ held self.old ram.old }
+        ensures tables { KeepsTables self.old ram.old ram.new }
         ensures memory { Writes (held self.old ram.old) ram.old ram.new }
         ensures moves { (p : Pool) → Owns p ram.old (held self.old ram.old) → Moves p p ram.old ram.new (held self.old ram.old) (held self.old ram.new) }
     {
@@ -128,6 +145,7 @@ impl Shadow {
         ensures loses { LosesDir (slot_at self.old ram.old) (slot_at self.old ram.new) index }
         ensures entries { entries_of (slot_at self.old ram.new) ≡ without_dir (entries_of (slot_at self.old ram.old)) index }
         ensures held { held self.old ram.new ≡ held self.old ram.old }
+        ensures tables { KeepsTables self.old ram.old ram.new }
         ensures memory { Writes (held self.old ram.old) ram.old ram.new }
         ensures moves { (p : Pool) → Owns p ram.old (held self.old ram.old) → Moves p p ram.old ram.new (held self.old ram.old) (held self.old ram.new) }
     {
@@ -147,6 +165,7 @@ impl Shadow {
         ensures becomes { Becomes self.old ram.old ram.new entry.page (Some (filled false side entry wp)) }
         ensures entries { entries_of (slot_at self.old ram.new) ≡ insert (entries_of (slot_at self.old ram.old)) entry.page entry }
         ensures one { length (free_list pool.old ram.old) ≤ length (free_list pool.new ram.new) + 1 }
+        ensures table { HasOpened self.old ram.old ram.new side (entry.page / 1024) }
         ensures owns { Owns pool.new ram.new (held self.old ram.new) }
         ensures moves { Moves pool.old pool.new ram.old ram.new (held self.old ram.old) (held self.old ram.new) }
     {
@@ -172,6 +191,7 @@ impl Shadow {
         ensures becomes { Becomes self.old ram.old ram.new entry.page (Some (filled barred side entry wp)) }
         ensures entries { entries_of (slot_at self.old ram.new) ≡ insert (entries_of (slot_at self.old ram.old)) entry.page entry }
         ensures one { length (free_list pool.old ram.old) ≤ length (free_list pool.new ram.new) + 1 }
+        ensures table { HasOpened self.old ram.old ram.new side (entry.page / 1024) }
         ensures owns { Owns pool.new ram.new (held self.old ram.new) }
         ensures moves { Moves pool.old pool.new ram.old ram.new (held self.old ram.old) (held self.old ram.new) }
     {

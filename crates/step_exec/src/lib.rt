@@ -7,6 +7,7 @@ mod laws;
 mod memory;
 mod ranges;
 mod store;
+mod users;
 mod view;
 mod work;
 
@@ -14,4 +15,5 @@ pub use agreement::plain_agrees;
 pub use instruction::{complete, plain, reach_both};
 pub use laws::{divides, has_user_form};
 pub use memory::StepMem;
+pub use users::user_outcome;
 pub use work::{deliver_in, sys_in};

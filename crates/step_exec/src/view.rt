@@ -27,7 +27,7 @@ fn is_in(range: Option<Range>, at: u32) -> bool
 }
 
 impl<B: Kept> LinearMem for View<'_, B> {
-    ghost use Rattle.std.specs.Prelude.{◌≡◌, ◌<◌, ◌^◌};
+    ghost use Rattle.std.specs.Prelude.{◌≡◌, ◌==◌};
     ghost use Rattle.step_mem.specs.Sound.{IsSound, space_at};
     ghost use Rattle.step_exec.specs.Divided.{byte_of};
     ghost use Rattle.step_exec.specs.Ready.{IsOpen};
@@ -36,17 +36,13 @@ impl<B: Kept> LinearMem for View<'_, B> {
 
     ghost readable = { λ m at. IsSound (B.entries m.kept.now) (B.floor m.kept.now) (B.stands m.kept.now) m.ram.now m.state.now × IsOpen m.ranges m.state.now at };
 
-    ghost writable = { λ m at. at < 2 ^ 32 };
+    ghost same = { λ m i j. i == j };
 
-    ghost after = { λ a ws b. Unit {0} };
+    ghost writable = { λ m at. ⊥ };
 
     ghost read_in_space = { λ m at h. h.1.space };
 
-    ghost write_in_space = { λ m at h. h };
-
-    ghost nothing = { λ m. tt };
-
-    ghost joined = { λ a b c v w p q. tt };
+    ghost write_in_space = { λ m at h. absurd h };
 
     fn read(&self, at: u32, size: Size) -> u32 {
         match size {
@@ -61,8 +57,10 @@ impl<B: Kept> LinearMem for View<'_, B> {
         }
     }
 
-    /// A view keeps nothing that is written, and tells nothing of it.
-    fn write(&mut self, _at: u32, _size: Size, _value: u32) {}
+    /// No byte may be written.
+    fn write(&mut self, _at: u32, _size: Size, _value: u32) {
+        unreachable!()
+    }
 }
 
 impl<B: Kept> View<'_, B> {

@@ -8,4 +8,5 @@ mod settling;
 mod telling;
 
 pub use lent::Lent;
+pub use pages::{entry_of, pages_of};
 pub use settling::settle;

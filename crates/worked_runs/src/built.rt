@@ -1,11 +1,15 @@
-//! Kernels from their sources: `burn`, `link`, `check`, and `run --bare` of the image.
+//! Kernels from their sources: `burn`, `link`, `check`, and runs of the image on both machines.
 
+use crate::machines::{Prints, both_print};
+use host_cpl3::Machine;
+use image_check::{Checked, check};
 use pv_io::{Files, IoAnswer, MemFiles, MemSink};
 use pv_tool::{Status, top};
-use std::alloc::Global;
+use std::alloc::{AllocError, Global};
 use std::test::Fail;
 
-/// A source, what `burn`, `link` and `check` print of it, and a run of its image.
+/// A source, what `burn`, `link` and `check` print of it, and runs of its image.
+#[derive(Clone, Copy)]
 struct Kernel<'a> {
     source: &'a [u8],
     object: &'a [u8],
@@ -13,7 +17,15 @@ struct Kernel<'a> {
     accepted: &'a [u8],
     script: &'a [u8],
     bound: &'a str,
-    prints: &'a [u8],
+    prints: Prints<'a>,
+}
+
+pub fn words(alloc: Global, all: &[&str]) -> Result<Vec<String>, AllocError> {
+    let mut words = Vec::new(alloc);
+    for word in all {
+        words.push(String::from_str(alloc, word)?)?;
+    }
+    Ok(words)
 }
 
 /// The status and the output of a list of words.
@@ -23,12 +35,27 @@ pub fn answer(
     all: &[&str],
 ) -> Result<(Status, MemSink), IoAnswer> {
     let mut out = MemSink::new(alloc, 4096, Vec::new(alloc))?;
-    let mut words = Vec::new(alloc);
-    for word in all {
-        words.push(String::from_str(alloc, word)?)?;
-    }
-    let status = top(alloc, &words, files, &mut out);
+    let words = words(alloc, all)?;
+    let status = top(alloc, &words, files, &mut out, &mut Machine::new());
     Ok((status, out))
+}
+
+/// Files with a source S, its object O and image I, and an empty script B.
+pub fn linked(alloc: Global, source: &[u8]) -> Result<MemFiles, IoAnswer> {
+    let mut files = MemFiles::new(alloc, Vec::new(alloc))?;
+    files.store("S", source)?;
+    files.store("B", b"")?;
+    answer(alloc, &mut files, &["burn", "S", "O"])?;
+    answer(alloc, &mut files, &["link", "I", "O"])?;
+    Ok(files)
+}
+
+/// The image of a source.
+pub fn image_of(alloc: Global, source: &[u8]) -> Result<Checked, Fail> {
+    let mut files = linked(alloc, source)?;
+    let mut bytes = Vec::new(alloc);
+    files.load(alloc, "I", &mut bytes)?;
+    Ok(check(alloc, &bytes)?)
 }
 
 const SENDS_A_BYTE: Kernel<'static> = Kernel {
@@ -38,12 +65,12 @@ const SENDS_A_BYTE: Kernel<'static> = Kernel {
     accepted: b"accepted text 19 data 0 bss 0 sites 2 format 1\n",
     script: b"",
     bound: "8",
-    prints: b"2 out8 03f8 48\n2 tx 48\nend steps 8\n",
+    prints: Prints::Alike((0, b"2 out8 03f8 48\n2 tx 48\nend steps 8\n")),
 };
 
 const NO_STEP: Kernel<'static> = Kernel {
     bound: "0",
-    prints: b"end steps 0\n",
+    prints: Prints::Alike((0, b"end steps 0\n")),
     ..SENDS_A_BYTE
 };
 
@@ -54,7 +81,7 @@ const EMPTY_SOURCE: Kernel<'static> = Kernel {
     accepted: b"accepted text 2 data 0 bss 0 sites 0 format 1\n",
     script: b"",
     bound: "5",
-    prints: b"end steps 5\n",
+    prints: Prints::Alike((0, b"end steps 5\n")),
 };
 
 const CALL_THROUGH_A_REGISTER: Kernel<'static> = Kernel {
@@ -64,7 +91,7 @@ const CALL_THROUGH_A_REGISTER: Kernel<'static> = Kernel {
     accepted: b"accepted text 29 data 0 bss 0 sites 4 format 1\n",
     script: b"",
     bound: "9",
-    prints: b"7 out8 0080 01\nend steps 9\n",
+    prints: Prints::Alike((0, b"7 out8 0080 01\nend steps 9\n")),
 };
 
 const RETURN_INTO_AN_IMMEDIATE: Kernel<'static> = Kernel {
@@ -74,7 +101,10 @@ const RETURN_INTO_AN_IMMEDIATE: Kernel<'static> = Kernel {
     accepted: b"accepted text 25 data 0 bss 0 sites 1 format 1\n",
     script: b"",
     bound: "20",
-    prints: b"end steps 20\n",
+    prints: Prints::Apart {
+        bare: (0, b"end steps 20\n"),
+        wedge: (4, b"end steps 6 stop 12 NotAStart\n"),
+    },
 };
 
 const TEXT_IS_READ: Kernel<'static> = Kernel {
@@ -84,11 +114,27 @@ const TEXT_IS_READ: Kernel<'static> = Kernel {
     accepted: b"accepted text 7 data 0 bss 0 sites 0 format 1\n",
     script: b"",
     bound: "3",
-    prints: b"end steps 3\n",
+    prints: Prints::Apart {
+        bare: (0, b"end steps 3\n"),
+        wedge: (4, b"end steps 0 stop 9 TextTouched\n"),
+    },
 };
 
 const TEXT_IS_READ_IN_THE_DIRECT_MAP: Kernel<'static> = Kernel {
     source: b"_start: movl 0xC0100000,%eax\n",
+    prints: Prints::Apart {
+        bare: (0, b"end steps 3\n"),
+        wedge: (4, b"end steps 0 stop 13 TextMapped\n"),
+    },
+    ..TEXT_IS_READ
+};
+
+const WEDGE_IS_READ: Kernel<'static> = Kernel {
+    source: b"_start: movl 0x04F4F4F9,%eax\n",
+    prints: Prints::Apart {
+        bare: (4, b"end steps 0 stop 4 DeliveryFailed\n"),
+        wedge: (4, b"end steps 0 stop 10 WedgeTouched\n"),
+    },
     ..TEXT_IS_READ
 };
 
@@ -99,7 +145,10 @@ const FLAGS_OF_A_PAGE: Kernel<'static> = Kernel {
     accepted: b"accepted text 32 data 4 bss 0 sites 2 format 1\n",
     script: b"",
     bound: "9",
-    prints: b"2 out32 0080 00101023\n8 out32 0080 00101063\nend steps 9\n",
+    prints: Prints::Alike((
+        0,
+        b"2 out32 0080 00101023\n8 out32 0080 00101063\nend steps 9\n",
+    )),
 };
 
 const BY_GCC: Kernel<'static> = Kernel {
@@ -109,7 +158,7 @@ const BY_GCC: Kernel<'static> = Kernel {
     accepted: b"accepted text 33 data 8 bss 0 sites 3 format 1\n",
     script: b"",
     bound: "8",
-    prints: b"3 out8 0080 21\nend steps 8\n",
+    prints: Prints::Alike((0, b"3 out8 0080 21\nend steps 8\n")),
 };
 
 const SERIAL_LINE: Kernel<'static> = Kernel {
@@ -119,7 +168,28 @@ const SERIAL_LINE: Kernel<'static> = Kernel {
     accepted: b"accepted text 17 data 0 bss 0 sites 2 format 1\n",
     script: b"4 rx 41",
     bound: "7",
-    prints: b"1 in8 03fd 60\n6 in8 03fd 61\nend steps 7\n",
+    prints: Prints::Alike((0, b"1 in8 03fd 60\n6 in8 03fd 61\nend steps 7\n")),
+};
+
+// Nothing comes, so a halted processor waits.
+const HALTS_FOR_LONG: Kernel<'static> = Kernel {
+    source: b"_start: sti; hlt; nop\n",
+    object: b"object text 6 data 0 bss 0 sites 1\n",
+    image: b"image text 8 data 0 bss 0 sites 1\n",
+    accepted: b"accepted text 8 data 0 bss 0 sites 1 format 1\n",
+    script: b"",
+    bound: "1000",
+    prints: Prints::Alike((0, b"end steps 1000\n")),
+};
+
+const LOADS_CR3: Kernel<'static> = Kernel {
+    source: b"_start: movl %cr3,%eax; movl %eax,%cr3; movb $1,%al; outb %al,$0x80\n",
+    object: b"object text 17 data 0 bss 0 sites 3\n",
+    image: b"image text 19 data 0 bss 0 sites 3\n",
+    accepted: b"accepted text 19 data 0 bss 0 sites 3 format 1\n",
+    script: b"",
+    bound: "12",
+    prints: Prints::Alike((0, b"7 out8 0080 01\nend steps 12\n")),
 };
 
 const REPEATED_STORE: Kernel<'static> = Kernel {
@@ -129,7 +199,7 @@ const REPEATED_STORE: Kernel<'static> = Kernel {
     accepted: b"accepted text 19 data 4 bss 0 sites 1 format 1\n",
     script: b"",
     bound: "6",
-    prints: b"5 out8 0080 00\nend steps 6\n",
+    prints: Prints::Alike((0, b"5 out8 0080 00\nend steps 6\n")),
 };
 
 const ALIGNED_TEXT: Kernel<'static> = Kernel {
@@ -139,7 +209,7 @@ const ALIGNED_TEXT: Kernel<'static> = Kernel {
     accepted: b"accepted text 23 data 0 bss 0 sites 2 format 1\n",
     script: b"",
     bound: "20",
-    prints: b"end steps 20\n",
+    prints: Prints::Alike((0, b"end steps 20\n")),
 };
 
 const ZEROED_PAGE: Kernel<'static> = Kernel {
@@ -149,7 +219,7 @@ const ZEROED_PAGE: Kernel<'static> = Kernel {
     accepted: b"accepted text 7 data 1 bss 8191 sites 0 format 1\n",
     script: b"",
     bound: "2",
-    prints: b"end steps 2\n",
+    prints: Prints::Alike((0, b"end steps 2\n")),
 };
 
 #[test]
@@ -163,9 +233,12 @@ fn sources_become_kernels_that_run(rt: HostRuntime) -> Result<(), Fail> {
         &RETURN_INTO_AN_IMMEDIATE,
         &TEXT_IS_READ,
         &TEXT_IS_READ_IN_THE_DIRECT_MAP,
+        &WEDGE_IS_READ,
         &FLAGS_OF_A_PAGE,
         &BY_GCC,
         &SERIAL_LINE,
+        &HALTS_FOR_LONG,
+        &LOADS_CR3,
         &REPEATED_STORE,
         &ALIGNED_TEXT,
         &ZEROED_PAGE,
@@ -179,10 +252,7 @@ fn sources_become_kernels_that_run(rt: HostRuntime) -> Result<(), Fail> {
         assert_eq!(rt; out.bytes(), kernel.image);
         let (_, out) = answer(alloc, &mut files, &["check", "I"])?;
         assert_eq!(rt; out.bytes(), kernel.accepted);
-        let run = ["run", "--bare", "I", "B", "2048", kernel.bound];
-        let (status, out) = answer(alloc, &mut files, &run)?;
-        assert_eq!(rt; out.bytes(), kernel.prints);
-        assert_eq!(rt; status.number(), 0);
+        both_print(&rt, alloc, &mut files, kernel.bound, &kernel.prints)?;
     }
     Ok(())
 }

@@ -1,6 +1,7 @@
 //! Interrupts, holds, halts and the serial line.
 
-use crate::kernel::{Kernel, prints};
+use crate::kernel::{Kernel, runs};
+use crate::machines::Prints;
 use std::test::Fail;
 
 // a request waits before STI; the interrupt comes after HLT, and the saved EIP is behind it
@@ -25,8 +26,10 @@ const STI_THEN_HLT: Kernel<'static> = Kernel {
     ],
     script: b"32 line 1",
     bound: "39",
-    status: 0,
-    prints: b"6 out8 0020 11\n11 out8 0021 20\n16 out8 0021 04\n21 out8 0021 01\n26 out8 0021 fd\n36 irq 21\n38 out32 0080 10000058\nend steps 39\n",
+    prints: Prints::Alike((
+        0,
+        b"6 out8 0020 11\n11 out8 0021 20\n16 out8 0021 04\n21 out8 0021 01\n26 out8 0021 fd\n36 irq 21\n38 out32 0080 10000058\nend steps 39\n",
+    )),
 };
 
 // a count of 2: the first edge is seen 16 steps after its high byte, inside the padding of PUSHF, and IRET comes back there
@@ -57,8 +60,10 @@ const INTERRUPT_INSIDE_PADDING: Kernel<'static> = Kernel {
     ],
     script: b"",
     bound: "79",
-    status: 0,
-    prints: b"6 out8 0020 11\n11 out8 0021 20\n16 out8 0021 04\n21 out8 0021 01\n26 out8 0021 fe\n32 out8 0043 34\n37 out8 0040 02\n48 out8 0040 00\n64 irq 20\n66 out32 0080 1000007c\n75 out8 0080 55\nend steps 79\n",
+    prints: Prints::Alike((
+        0,
+        b"6 out8 0020 11\n11 out8 0021 20\n16 out8 0021 04\n21 out8 0021 01\n26 out8 0021 fe\n32 out8 0043 34\n37 out8 0040 02\n48 out8 0040 00\n64 irq 20\n66 out32 0080 1000007c\n75 out8 0080 55\nend steps 79\n",
+    )),
 };
 
 // POPF turns IF on with a request waiting; the interrupt comes in the next step
@@ -83,8 +88,10 @@ const POPF_LETS_INTERRUPTS_IN: Kernel<'static> = Kernel {
     ],
     script: b"32 line 1",
     bound: "37",
-    status: 0,
-    prints: b"6 out8 0020 11\n11 out8 0021 20\n16 out8 0021 04\n21 out8 0021 01\n26 out8 0021 fd\n34 irq 21\n36 out32 0080 1000005a\nend steps 37\n",
+    prints: Prints::Alike((
+        0,
+        b"6 out8 0020 11\n11 out8 0021 20\n16 out8 0021 04\n21 out8 0021 01\n26 out8 0021 fd\n34 irq 21\n36 out32 0080 1000005a\nend steps 37\n",
+    )),
 };
 
 // movl $0x3fd,%edx; inb %dx,%al; inb %dx,%al, with a byte that comes between
@@ -101,8 +108,7 @@ const SERIAL_LINE: Kernel<'static> = Kernel {
     ],
     script: b"4 rx 41",
     bound: "7",
-    status: 0,
-    prints: b"1 in8 03fd 60\n6 in8 03fd 61\nend steps 7\n",
+    prints: Prints::Alike((0, b"1 in8 03fd 60\n6 in8 03fd 61\nend steps 7\n")),
 };
 
 // sti; hlt, with nothing that comes
@@ -113,14 +119,13 @@ const HALTED_FOR_LONG: Kernel<'static> = Kernel {
     sites: &[0x00, 0x00, 0x00, 0x00, 0x03, 0x02, 0x05, 0x00],
     script: b"",
     bound: "1000",
-    status: 0,
-    prints: b"end steps 1000\n",
+    prints: Prints::Alike((0, b"end steps 1000\n")),
 };
 
 // the same, for the greatest bound: a processor that waits costs no time
 const HALTED_FOR_EVER: Kernel<'static> = Kernel {
     bound: "1099511627776",
-    prints: b"end steps 1099511627776\n",
+    prints: Prints::Alike((0, b"end steps 1099511627776\n")),
     ..HALTED_FOR_LONG
 };
 
@@ -135,9 +140,7 @@ fn events_come_at_their_step(rt: HostRuntime) -> Result<(), Fail> {
         &HALTED_FOR_LONG,
         &HALTED_FOR_EVER,
     ] {
-        let (status, out) = prints(alloc, kernel)?;
-        assert_eq!(rt; out.bytes(), kernel.prints);
-        assert_eq!(rt; status.number(), kernel.status);
+        runs(&rt, alloc, kernel)?;
     }
     Ok(())
 }

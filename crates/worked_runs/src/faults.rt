@@ -1,20 +1,14 @@
 //! Loads, stores and puts that fail or are never made, and words of no form.
 
-use crate::built::answer;
+use crate::built::{answer, words};
+use crate::machines::run_on;
+use host_cpl3::Machine;
 use pv_io::{Files, IoAnswer, MemFiles, MemSink, SureFiles, SureSink};
 use pv_tool::{Status, top};
 use std::alloc::{AllocError, Global};
 use std::test::Fail;
 
 const SOURCE: &[u8] = b"_start: hlt\n";
-
-fn words(alloc: Global, all: &[&str]) -> Result<Vec<String>, AllocError> {
-    let mut words = Vec::new(alloc);
-    for word in all {
-        words.push(String::from_str(alloc, word)?)?;
-    }
-    Ok(words)
-}
 
 /// A list of one call.
 fn only(alloc: Global, call: u64) -> Result<Vec<u64>, AllocError> {
@@ -47,7 +41,8 @@ type Failing<'a> = (&'a [&'a str], u64, u64, u8);
 fn a_load_or_store_that_fails_is_the_last_call(rt: HostRuntime) -> Result<(), Fail> {
     let alloc = rt.alloc();
     let run = ["run", "--bare", "I", "B", "2048", "8"];
-    let rows: [Failing<'_>; 8] = [
+    let run_wedge = ["run", "--wedge", "I", "B", "2048", "8"];
+    let rows: [Failing<'_>; 10] = [
         (["burn", "S", "P"].as_slice(), 1, 0, 5),
         (["burn", "S", "P"].as_slice(), 2, 1, 6),
         (["link", "P", "O", "O"].as_slice(), 1, 0, 5),
@@ -56,6 +51,8 @@ fn a_load_or_store_that_fails_is_the_last_call(rt: HostRuntime) -> Result<(), Fa
         (["check", "I"].as_slice(), 1, 0, 5),
         (run.as_slice(), 1, 0, 5),
         (run.as_slice(), 2, 1, 5),
+        (run_wedge.as_slice(), 1, 0, 5),
+        (run_wedge.as_slice(), 2, 1, 5),
     ];
     for (all, made, failing, status) in rows {
         let mut files = held(alloc)?;
@@ -77,7 +74,7 @@ fn a_load_or_store_that_fails_is_the_last_call(rt: HostRuntime) -> Result<(), Fa
 #[test]
 fn nothing_is_loaded_behind_a_refusal_or_a_missing_name(rt: HostRuntime) -> Result<(), Fail> {
     let alloc = rt.alloc();
-    let rows: [(&[&str], u8, u64); 10] = [
+    let rows: [(&[&str], u8, u64); 12] = [
         (
             ["run", "--bare", "X", "missing", "2048", "1"].as_slice(),
             3,
@@ -94,6 +91,12 @@ fn nothing_is_loaded_behind_a_refusal_or_a_missing_name(rt: HostRuntime) -> Resu
             2,
         ),
         (["run", "--bare", "I", "X", "2048", "1"].as_slice(), 3, 2),
+        (
+            ["run", "--wedge", "X", "missing", "2048", "1"].as_slice(),
+            3,
+            1,
+        ),
+        (["run", "--wedge", "I", "X", "2048", "1"].as_slice(), 3, 2),
         (["link", "P", "X", "missing"].as_slice(), 3, 1),
         (["link", "P", "missing", "O"].as_slice(), 5, 1),
         (["link", "P", "O", "missing", "X"].as_slice(), 5, 2),
@@ -122,7 +125,7 @@ fn told(
 ) -> Result<(Status, MemSink), AllocError> {
     let mut out = MemSink::new(alloc, 4096, only(alloc, call)?)?;
     let words = words(alloc, all)?;
-    let status = top(alloc, &words, files, &mut out);
+    let status = top(alloc, &words, files, &mut out, &mut Machine::new());
     Ok((status, out))
 }
 
@@ -184,6 +187,35 @@ fn each_line_is_one_put_and_its_fault_is_told(rt: HostRuntime) -> Result<(), Fai
 }
 
 #[test]
+fn a_sink_that_fails_ends_both_runs(rt: HostRuntime) -> Result<(), Fail> {
+    // The call of the sink that fails, the status, and what the sink took.
+    let alloc = rt.alloc();
+    let rows: [(u64, u8, &[u8]); 4] = [
+        (0, 6, b""),
+        (1, 6, b"2 out8 03f8 48\n"),
+        (2, 6, b"2 out8 03f8 48\n2 tx 48\n"),
+        (3, 0, b"2 out8 03f8 48\n2 tx 48\nend steps 8\n"),
+    ];
+    let mut files = held(alloc)?;
+    files.store(
+        "T",
+        b"_start: movl $0x3f8,%edx; movb $0x48,%al; outb %al,%dx; hlt\n",
+    )?;
+    answer(alloc, &mut files, &["burn", "T", "U"])?;
+    answer(alloc, &mut files, &["link", "I", "U"])?;
+    for machine in ["--bare", "--wedge"] {
+        for (call, number, taken) in rows {
+            let mut host = Machine::new();
+            let mut out = MemSink::new(alloc, 4096, only(alloc, call)?)?;
+            let status = run_on(alloc, &mut files, machine, "2048", "8", &mut host, &mut out)?;
+            assert_eq!(rt; out.bytes(), taken, "run {machine}");
+            assert_eq!(rt; status.number(), number, "run {machine}");
+        }
+    }
+    Ok(())
+}
+
+#[test]
 fn a_source_may_become_its_own_object(rt: HostRuntime) -> Result<(), Fail> {
     let alloc = rt.alloc();
     let mut files = held(alloc)?;
@@ -209,18 +241,20 @@ fn sure_files_and_a_sure_sink_never_fail(rt: HostRuntime) -> Result<(), Fail> {
     files.store("B", b"")?;
     files.store("S", SOURCE)?;
     let mut out = SureSink::new();
-    let rows: [(&[&str], u8); 7] = [
+    let rows: [(&[&str], u8); 8] = [
         (["burn", "S", "O"].as_slice(), 0),
         (["link", "I", "O"].as_slice(), 0),
         (["check", "I"].as_slice(), 0),
         (["run", "--bare", "I", "B", "2048", "8"].as_slice(), 0),
         (["run", "--bare", "I", "B", "16384", "100"].as_slice(), 0),
+        (["run", "--wedge", "I", "B", "16384", "100"].as_slice(), 0),
         (["run", "--bare", "S", "missing", "2048", "8"].as_slice(), 3),
         (["link", "no", "S", "missing"].as_slice(), 3),
     ];
     for (all, status) in rows {
         let words = words(alloc, all)?;
-        assert_eq!(rt; top(alloc, &words, &mut files, &mut out).number(), status);
+        let answered = top(alloc, &words, &mut files, &mut out, &mut Machine::new());
+        assert_eq!(rt; answered.number(), status);
     }
     assert_eq!(rt; files.load_faults, 0);
     Ok(())
@@ -240,6 +274,9 @@ fn words_of_no_form_are_refused(rt: HostRuntime) -> Result<(), Fail> {
         ["run", "--bare", "I", "B", "2047", "1"].as_slice(),
         ["run", "--bare", "I", "B", "02048", "1"].as_slice(),
         ["run", "--bare", "I", "B", "2048", "1099511627777"].as_slice(),
+        ["run", "--wedge", "I", "B", "2048"].as_slice(),
+        ["run", "--wedge", "I", "B", "16385", "1"].as_slice(),
+        ["run", "--wedge", "I", "B", "2048", "01"].as_slice(),
         ["--help"].as_slice(),
     ] {
         let mut files = held(alloc)?;

@@ -1,13 +1,16 @@
-//! A kernel, its image file, and a run of it.
+//! A kernel, its image file, and runs of it.
 
 ghost use Rattle.std.specs.Prelude.{◌<◌};
 
-use pv_io::{Files, IoAnswer, MemFiles, MemSink};
-use pv_tool::{Status, top};
+use crate::machines::{Prints, both_print};
+use pv_io::{Files, MemFiles};
 use std::alloc::{AllocError, Global};
+use std::process::Abort;
+use std::test::Fail;
 
-/// A kernel's parts, what it is run with, and what the run prints. The bytes are those of GNU as, with each sensitive
+/// A kernel's parts, what it is run with, and what its runs print. The bytes are those of GNU as, with each sensitive
 /// instruction padded; `sites` has eight bytes a site.
+#[derive(Clone, Copy)]
 pub struct Kernel<'a> {
     pub text: &'a [u8],
     pub init: &'a [u8],
@@ -15,8 +18,7 @@ pub struct Kernel<'a> {
     pub sites: &'a [u8],
     pub script: &'a [u8],
     pub bound: &'a str,
-    pub status: u8,
-    pub prints: &'a [u8],
+    pub prints: Prints<'a>,
 }
 
 fn put(out: &mut Vec<u8>, longs: &[u32]) -> Result<(), AllocError> {
@@ -85,17 +87,11 @@ fn image(alloc: Global, kernel: &Kernel<'_>) -> Result<Vec<u8>, AllocError> {
     Ok(out)
 }
 
-/// The status and the output of `run --bare`.
-pub fn prints(alloc: Global, kernel: &Kernel<'_>) -> Result<(Status, MemSink), IoAnswer> {
+/// Each machine prints what is wanted of the kernel.
+pub fn runs(rt: &impl Abort, alloc: Global, kernel: &Kernel<'_>) -> Result<(), Fail> {
     let file = image(alloc, kernel)?;
     let mut files = MemFiles::new(alloc, Vec::new(alloc))?;
-    files.store("A", &file)?;
+    files.store("I", &file)?;
     files.store("B", kernel.script)?;
-    let mut out = MemSink::new(alloc, 4096, Vec::new(alloc))?;
-    let mut words = Vec::new(alloc);
-    for word in ["run", "--bare", "A", "B", "2048", kernel.bound] {
-        words.push(String::from_str(alloc, word)?)?;
-    }
-    let status = top(alloc, &words, &mut files, &mut out);
-    Ok((status, out))
+    both_print(rt, alloc, &mut files, kernel.bound, &kernel.prints)
 }

@@ -1,4 +1,4 @@
-//! Whole runs of small kernels, by the call that the program makes.
+//! Whole runs of small kernels on both machines, by the call that the program makes.
 #![tactic(auto)]
 
 #[cfg(test)]
@@ -14,9 +14,17 @@ mod formats;
 #[cfg(test)]
 mod forms;
 #[cfg(test)]
+mod guests;
+#[cfg(test)]
 mod hostile;
 #[cfg(test)]
 mod kernel;
+#[cfg(test)]
+mod machines;
+#[cfg(test)]
+mod made;
+#[cfg(test)]
+mod patched;
 #[cfg(test)]
 mod plain;
 #[cfg(test)]
@@ -25,3 +33,5 @@ mod refused;
 mod slices;
 #[cfg(test)]
 mod user;
+#[cfg(test)]
+mod watched;

@@ -1,6 +1,7 @@
 //! Kernels at level 0 that run to their bound.
 
-use crate::kernel::{Kernel, prints};
+use crate::kernel::{Kernel, runs};
+use crate::machines::Prints;
 use std::test::Fail;
 
 // movl $0x3f8,%edx; movb $0x48,%al; outb %al,%dx; hlt
@@ -17,8 +18,7 @@ const A_BYTE_IS_SENT: Kernel<'static> = Kernel {
     ],
     script: b"",
     bound: "8",
-    status: 0,
-    prints: b"2 out8 03f8 48\n2 tx 48\nend steps 8\n",
+    prints: Prints::Alike((0, b"2 out8 03f8 48\n2 tx 48\nend steps 8\n")),
 };
 
 // the same, for no step
@@ -35,8 +35,7 @@ const NO_STEP: Kernel<'static> = Kernel {
     ],
     script: b"",
     bound: "0",
-    status: 0,
-    prints: b"end steps 0\n",
+    prints: Prints::Alike((0, b"end steps 0\n")),
 };
 
 // what the link gives of an empty source
@@ -47,8 +46,7 @@ const NO_INSTRUCTION_OF_ITS_OWN: Kernel<'static> = Kernel {
     sites: &[],
     script: b"",
     bound: "5",
-    status: 0,
-    prints: b"end steps 5\n",
+    prints: Prints::Alike((0, b"end steps 5\n")),
 };
 
 // movl 0xC0014000,%eax: the table word of the text's first page, whose accessed flag the fetch has set
@@ -65,8 +63,7 @@ const ACCESSED_FLAG_IS_SEEN: Kernel<'static> = Kernel {
     ],
     script: b"",
     bound: "8",
-    status: 0,
-    prints: b"2 out8 0080 21\nend steps 8\n",
+    prints: Prints::Alike((0, b"2 out8 0080 21\nend steps 8\n")),
 };
 
 // sti; pushf; popl %eax; outl %eax,$0x80; hlt
@@ -84,8 +81,7 @@ const FLAGS_ARE_PUSHED: Kernel<'static> = Kernel {
     ],
     script: b"",
     bound: "12",
-    status: 0,
-    prints: b"11 out32 0080 00000202\nend steps 12\n",
+    prints: Prints::Alike((0, b"11 out32 0080 00000202\nend steps 12\n")),
 };
 
 // call *%eax; its RET comes back inside the padding
@@ -103,8 +99,7 @@ const CALL_THROUGH_A_REGISTER: Kernel<'static> = Kernel {
     ],
     script: b"",
     bound: "12",
-    status: 0,
-    prints: b"7 out8 0080 07\nend steps 12\n",
+    prints: Prints::Alike((0, b"7 out8 0080 07\nend steps 12\n")),
 };
 
 // RET to the second byte of a MOV
@@ -118,8 +113,10 @@ const RETURN_INTO_AN_IMMEDIATE: Kernel<'static> = Kernel {
     sites: &[0x0D, 0x00, 0x00, 0x00, 0x15, 0x01, 0x05, 0x00],
     script: b"",
     bound: "20",
-    status: 0,
-    prints: b"end steps 20\n",
+    prints: Prints::Apart {
+        bare: (0, b"end steps 20\n"),
+        wedge: (4, b"end steps 6 stop 12 NotAStart\n"),
+    },
 };
 
 // movl 0x10000000,%eax
@@ -130,8 +127,10 @@ const TEXT_IS_READ: Kernel<'static> = Kernel {
     sites: &[],
     script: b"",
     bound: "2",
-    status: 0,
-    prints: b"end steps 2\n",
+    prints: Prints::Apart {
+        bare: (0, b"end steps 2\n"),
+        wedge: (4, b"end steps 0 stop 9 TextTouched\n"),
+    },
 };
 
 // movl 0xC0100000,%eax
@@ -142,8 +141,10 @@ const TEXT_IS_READ_IN_THE_DIRECT_MAP: Kernel<'static> = Kernel {
     sites: &[],
     script: b"",
     bound: "2",
-    status: 0,
-    prints: b"end steps 2\n",
+    prints: Prints::Apart {
+        bare: (0, b"end steps 2\n"),
+        wedge: (4, b"end steps 0 stop 13 TextMapped\n"),
+    },
 };
 
 // the table word of the data's page: accessed after a read, dirty after a write
@@ -161,8 +162,10 @@ const FLAGS_OF_A_PAGE: Kernel<'static> = Kernel {
     ],
     script: b"",
     bound: "9",
-    status: 0,
-    prints: b"2 out32 0080 00101023\n8 out32 0080 00101063\nend steps 9\n",
+    prints: Prints::Alike((
+        0,
+        b"2 out32 0080 00101023\n8 out32 0080 00101063\nend steps 9\n",
+    )),
 };
 
 // rep stosb of three bytes: three steps
@@ -176,8 +179,7 @@ const REPEATED_STORE: Kernel<'static> = Kernel {
     sites: &[0x0C, 0x00, 0x00, 0x00, 0x14, 0x02, 0x05, 0x00],
     script: b"",
     bound: "6",
-    status: 0,
-    prints: b"5 out8 0080 00\nend steps 6\n",
+    prints: Prints::Alike((0, b"5 out8 0080 00\nend steps 6\n")),
 };
 
 // movl %cr3,%eax; movl %eax,%cr3; movb $1,%al; outb %al,$0x80
@@ -194,8 +196,7 @@ const CR3_IS_LOADED: Kernel<'static> = Kernel {
     ],
     script: b"",
     bound: "12",
-    status: 0,
-    prints: b"7 out8 0080 01\nend steps 12\n",
+    prints: Prints::Alike((0, b"7 out8 0080 01\nend steps 12\n")),
 };
 
 #[test]
@@ -215,9 +216,7 @@ fn kernels_run_to_their_bound(rt: HostRuntime) -> Result<(), Fail> {
         &REPEATED_STORE,
         &CR3_IS_LOADED,
     ] {
-        let (status, out) = prints(alloc, kernel)?;
-        assert_eq!(rt; out.bytes(), kernel.prints);
-        assert_eq!(rt; status.number(), kernel.status);
+        runs(&rt, alloc, kernel)?;
     }
     Ok(())
 }

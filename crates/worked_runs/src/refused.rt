@@ -1,6 +1,8 @@
 //! Sources, objects and images that are refused, by the line that tells why.
 
-use crate::built::answer;
+use crate::built::{answer, linked};
+use crate::kernel::{Kernel, runs};
+use crate::machines::{Prints, both_print};
 use pv_io::{Files, MemFiles};
 use std::test::Fail;
 
@@ -66,31 +68,39 @@ fn links_are_refused_by_object_and_name(rt: HostRuntime) -> Result<(), Fail> {
     Ok(())
 }
 
+// rdtsc
+const RDTSC: Kernel<'static> = Kernel {
+    text: &[0x0F, 0x31, 0xEB, 0xFE],
+    init: &[],
+    bss: 0,
+    sites: &[],
+    script: b"",
+    bound: "1",
+    prints: Prints::Alike((3, b"refused 65 at 0\n")),
+};
+
 #[test]
-fn images_are_refused_by_their_place(rt: HostRuntime) -> Result<(), Fail> {
+fn images_are_refused_on_both_machines(rt: HostRuntime) -> Result<(), Fail> {
     let alloc = rt.alloc();
-    let mut files = MemFiles::new(alloc, Vec::new(alloc))?;
-    files.store("B", b"")?;
-    for (source, n, line) in [
+    runs(&rt, alloc, &RDTSC)?;
+    for (source, line) in [
         // a jump to the second byte of a site
         (
             b"_start: jmp f+1\nf: cli\n".as_slice(),
-            "1",
             b"refused 70 at 0\n".as_slice(),
         ),
         // 2,305 frames are needed
         (
             b".bss\n.zero 8388608\n",
-            "1",
             b"refused 90 need 2305 have 2048\n",
         ),
     ] {
-        files.store("S", source)?;
-        answer(alloc, &mut files, &["burn", "S", "O"])?;
-        answer(alloc, &mut files, &["link", "I", "O"])?;
-        let (status, out) = answer(alloc, &mut files, &["run", "--bare", "I", "B", "2048", n])?;
-        assert_eq!(rt; out.bytes(), line);
-        assert_eq!(rt; status.number(), 3);
+        let mut files = linked(alloc, source)?;
+        both_print(&rt, alloc, &mut files, "1", &Prints::Alike((3, line)))?;
     }
-    Ok(())
+    // a script whose steps fall
+    let mut files = linked(alloc, b"nop\n")?;
+    files.store("B", b"5 rx 41\n3 rx 42\n")?;
+    let falls = Prints::Alike((3, b"refused 82 line 2\n"));
+    both_print(&rt, alloc, &mut files, "1", &falls)
 }

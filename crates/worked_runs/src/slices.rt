@@ -2,22 +2,22 @@
 
 ghost use Rattle.std.specs.Prelude.{◌≤◌, ◌^◌};
 
-use crate::built::answer;
+use crate::built::image_of;
 use bare_machine::{Bare, run_fresh};
 use board::read_script;
-use image_check::{Checked, check};
+use image_check::Checked;
 use image_load::Pause;
 use kernel_gen::kernel;
-use pv_io::{Files, IoAnswer, MemFiles, MemSink};
+use pv_io::MemSink;
 use run_trace::{End, Ended, put_end};
 use std::alloc::Global;
 use std::test::Fail;
 use xlate_buffer::Buffer;
 
-const SENDS_A_BYTE: &[u8] = b"_start:\nmovl $0x3f8,%edx\nmovb $0x48,%al\noutb %al,%dx\nhlt\n";
+pub const SENDS_A_BYTE: &[u8] = b"_start:\nmovl $0x3f8,%edx\nmovb $0x48,%al\noutb %al,%dx\nhlt\n";
 
-// Unmasks the timer's line, lets the timer interrupt NOPs, shows where it did, and halts.
-const IS_INTERRUPTED: &[u8] = b"\
+/// Unmasks the timer's line, lets the timer interrupt NOPs, shows where it did, and halts.
+pub const IS_INTERRUPTED: &[u8] = b"\
 .data\n\
 idt_register:\n\
 .word 0x7ff\n\
@@ -72,17 +72,6 @@ outl %eax,$0x80\n\
 pushl %eax\n\
 iret\n";
 
-// The file of a source's image.
-fn file(alloc: Global, source: &[u8]) -> Result<Vec<u8>, IoAnswer> {
-    let mut files = MemFiles::new(alloc, Vec::new(alloc))?;
-    files.store("S", source)?;
-    answer(alloc, &mut files, &["burn", "S", "O"])?;
-    answer(alloc, &mut files, &["link", "I", "O"])?;
-    let mut bytes = Vec::new(alloc);
-    files.load(alloc, "I", &mut bytes)?;
-    Ok(bytes)
-}
-
 // What a run of at most `n` steps prints that pauses after the first `first` steps, and then after each `each` of them.
 fn prints(alloc: Global, image: &Checked, first: u64, each: u64, n: u64) -> Result<MemSink, Fail>
     requires { n ≤ 2 ^ 40 }
@@ -119,7 +108,7 @@ fn prints(alloc: Global, image: &Checked, first: u64, each: u64, n: u64) -> Resu
 #[test]
 fn slices_of_one_step_print_the_same(rt: HostRuntime) -> Result<(), Fail> {
     let alloc = rt.alloc();
-    let image = check(alloc, &file(alloc, SENDS_A_BYTE)?)?;
+    let image = image_of(alloc, SENDS_A_BYTE)?;
     let out = prints(alloc, &image, 1, 1, 8)?;
     assert_eq!(rt;
         out.bytes(),
@@ -131,7 +120,7 @@ fn slices_of_one_step_print_the_same(rt: HostRuntime) -> Result<(), Fail> {
 #[test]
 fn a_pause_at_any_step_changes_nothing(rt: HostRuntime) -> Result<(), Fail> {
     let alloc = rt.alloc();
-    let image = check(alloc, &file(alloc, IS_INTERRUPTED)?)?;
+    let image = image_of(alloc, IS_INTERRUPTED)?;
     let whole = prints(alloc, &image, 80, 80, 80)?;
     assert!(rt;
         whole.bytes().ends_with(
@@ -149,7 +138,7 @@ fn a_pause_at_any_step_changes_nothing(rt: HostRuntime) -> Result<(), Fail> {
 fn prints_fresh(alloc: Global, source: &[u8], n: u64) -> Result<MemSink, Fail>
     requires { n ≤ 2 ^ 40 }
 {
-    let image = check(alloc, &file(alloc, source)?)?;
+    let image = image_of(alloc, source)?;
     let script = read_script(alloc, b"")?;
     let mut out = MemSink::new(alloc, 4096, Vec::new(alloc))?;
     match run_fresh(alloc, &image, &script, 2048, n, &mut out) {
@@ -168,7 +157,7 @@ fn fresh_runs_print_the_same_where_nothing_is_stale(rt: HostRuntime) -> Result<(
         b"2 out8 03f8 48\n2 tx 48\nend steps 8\n".as_slice()
     );
     let interrupted = prints_fresh(alloc, IS_INTERRUPTED, 80)?;
-    let image = check(alloc, &file(alloc, IS_INTERRUPTED)?)?;
+    let image = image_of(alloc, IS_INTERRUPTED)?;
     assert_eq!(rt;
         interrupted.bytes(),
         prints(alloc, &image, 80, 80, 80)?.bytes()

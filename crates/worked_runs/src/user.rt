@@ -1,6 +1,7 @@
 //! Code at level 3: what it may not do, and the gates that it may use.
 
-use crate::kernel::{Kernel, prints};
+use crate::kernel::{Kernel, runs};
+use crate::machines::Prints;
 use std::test::Fail;
 
 // CLI, INT 0x80 through a gate of level 3, INT 0x20 through one of level 0, and a read of the text
@@ -43,17 +44,17 @@ const USER_CODE: Kernel<'static> = Kernel {
     ],
     script: b"",
     bound: "78",
-    status: 0,
-    prints: b"43 out32 0080 00000000\n51 out8 0080 77\n59 out32 0080 00000102\n67 out32 0080 00000005\n74 out32 0080 10000000\nend steps 78\n",
+    prints: Prints::Alike((
+        0,
+        b"43 out32 0080 00000000\n51 out8 0080 77\n59 out32 0080 00000102\n67 out32 0080 00000005\n74 out32 0080 10000000\nend steps 78\n",
+    )),
 };
 
 #[test]
 fn user_code_is_held_back(rt: HostRuntime) -> Result<(), Fail> {
     let alloc = rt.alloc();
     for kernel in [&USER_CODE] {
-        let (status, out) = prints(alloc, kernel)?;
-        assert_eq!(rt; out.bytes(), kernel.prints);
-        assert_eq!(rt; status.number(), kernel.status);
+        runs(&rt, alloc, kernel)?;
     }
     Ok(())
 }

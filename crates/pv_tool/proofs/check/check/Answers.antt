@@ -1,19 +1,20 @@
+use Rattle.std.proofs.Common.{refl}
 use Rattle.pv_tool.specs.Words.{Check}
 use Rattle.pv_tool.proofs.Deliveries.{halts, counts_read}
 use Rattle.pv_tool.proofs.CheckMeanings.{refuses_image, tells_image}
 use Rattle.pv_tool.proofs.check.check.Goals as goal
 
 pub returns-in-Err-clause-meaning : goal.returns-in-Err-clause-meaning
-returns-in-Err-clause-meaning g c =
+returns-in-Err-clause-meaning g c = λ completed memory.
     halts _ _ (Check c.args.name.now) _ c.end.result c.in-Err.halt (λ line told. refuses_image _ c.args.name.now line told) (λ held. held) c.in-Err.ensures.read.held
-    c.in-Err.ensures.halted c.end.ensures
+    refl c.in-Err.ensures.halted c.end.ensures
 
 pub returns-clause-meaning : goal.returns-clause-meaning
-returns-clause-meaning g c =
-    tells_image c.args.name.now c.in-Ok-line_of.line c.in-Ok.image _ c.print.result c.in-Ok.ensures.image c.in-Ok-line_of.ensures c.in-Ok.ensures.read.held c.print.ensures
+returns-clause-meaning g c = λ completed memory.
+    tells_image c.args.name.now c.in-Ok-line_of.line c.in-Ok.image _ c.print.result c.in-Ok.ensures.image c.in-Ok-line_of.ensures c.in-Ok.ensures.read.held refl c.print.ensures
 
 pub returns-in-Err-clause-counts : goal.returns-in-Err-clause-counts
-returns-in-Err-clause-counts g c = counts_read g.F.Files g.S.Sink (Check c.args.name.now) c.args.files.now c.accepted.new.files c.args.out.now c.end.new.out c.in-Err.ensures.read
+returns-in-Err-clause-counts g c = λ completed memory. counts_read g.F.Files g.S.Sink (Check c.args.name.now) c.args.files.now c.accepted.new.files c.args.out.now c.end.new.out completed memory c.in-Err.ensures.read
 
 pub returns-clause-counts : goal.returns-clause-counts
-returns-clause-counts g c = counts_read g.F.Files g.S.Sink (Check c.args.name.now) c.args.files.now c.accepted.new.files c.args.out.now c.print.new.out c.in-Ok.ensures.read
+returns-clause-counts g c = λ completed memory. counts_read g.F.Files g.S.Sink (Check c.args.name.now) c.args.files.now c.accepted.new.files c.args.out.now c.print.new.out completed memory c.in-Ok.ensures.read

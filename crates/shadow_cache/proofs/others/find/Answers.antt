@@ -1,4 +1,4 @@
-use Rattle.std.proofs.Common.{sym, ◌∙◌, eqb, arith}
+use Rattle.std.proofs.Common.{sym, eqb, arith}
 use Rattle.shadow_cache.proofs.Leaving.{place-at, place-none, none-more, other-value}
 use Rattle.shadow_cache.proofs.others.find.Goals as goal
 

@@ -1,4 +1,4 @@
-use Rattle.std.proofs.Common.{◌≡◌, List, remove, sym, ap, ◌∙◌, subst}
+use Rattle.std.proofs.Common.{List, sym, subst}
 use Rattle.frame_pool.specs.Held.{Moves}
 use Rattle.shadow_cache.specs.Pairs.{frames_of}
 use Rattle.shadow_cache.specs.Others.{AreKept}

@@ -1,5 +1,5 @@
-use Rattle.std.proofs.Common.{◌≡◌, ℕ, List, [], ◌∷◌, length, refl, sym, ap, ◌∙◌, subst, arith}
-use Rattle.frame_pool.specs.Held.{Owns, Moves}
+use Rattle.std.proofs.Common.{ℕ, List, ap, ◌∙◌, subst, arith}
+use Rattle.frame_pool.specs.Held.{Moves}
 use Rattle.frame_pool.proofs.Held.{Owns-moves, Moves-trans, Moves-refl}
 use Rattle.shadow_cache.specs.Pairs.{frames_of}
 use Rattle.shadow_cache.specs.declared.pair.Pair.{Pair}

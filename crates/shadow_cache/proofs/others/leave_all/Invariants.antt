@@ -1,4 +1,4 @@
-use Rattle.std.proofs.Common.{List, length}
+use Rattle.std.proofs.Common.{length}
 use Rattle.frame_pool.specs.Held.{Moves}
 use Rattle.shadow_cache.specs.Pairs.{frames_of, AreShadows}
 use Rattle.shadow_cache.proofs.others.leave_all.Given as goal

@@ -1,5 +1,4 @@
-use Rattle.std.proofs.Common.{◌≡◌, ℕ, suc, ◌+◌, ◌-◌, ◌<◌, ◌≤◌, List, length, take, drop, filter, slice_get, remove, not, Bool, true, false, Some, refl, sym, ap, ◌∙◌, subst, arith}
-use Rattle.frame_pool.specs.Held.{Owns, Moves}
+use Rattle.std.proofs.Common.{◌≡◌, ℕ, suc, ◌-◌, List, length, slice_get, remove, not, sym, ap, ◌∙◌, subst, arith}
 use Rattle.frame_pool.proofs.Held.{Owns-moves, Moves-trans, Moves-refl}
 use Rattle.shadow_cache.specs.Pairs.{reads, frames_of}
 use Rattle.shadow_cache.specs.Others.{AreKept}

@@ -1,16 +1,12 @@
-use Rattle.std.proofs.Common.{◌≡◌, ℕ, ◌+◌, ◌<◌, ◌≤◌, List, [], ◌∷◌, length, take, remove, slice_get, cond, MatchOption, true, false, Option, Some, None, refl, sym, ap, ◌∙◌, subst, arith}
-use Rattle.std.proofs.lemmas.Grind.{merely}
-use Rattle.frame_pool.specs.Held.{Holds, Owns, Moves}
-use Rattle.frame_pool.proofs.Held.{Owns-moves, Moves-trans, Moves-refl, Holds-from_Owns}
-use Rattle.shadow_cache.specs.Pairs.{reads, any_reads, frames_of, AreShadows, AreSized, AllBarWrites, IsRoots}
-use Rattle.shadow_cache.specs.Others.{AreKept, place_of}
-use Rattle.shadow_cache.specs.Switched.{staying, IsFresh, Opens, ComesBack, Comes}
-use Rattle.shadow_cache.specs.Roots.{pairs_of}
-use Rattle.shadow_cache.specs.Laws.{had, kept-shadows, kept-barred}
+use Rattle.std.proofs.Common.{◌≡◌, ℕ, ◌≤◌, List, ◌∷◌, length, remove, MatchOption, Option, sym, ap, ◌∙◌, subst, arith}
+use Rattle.frame_pool.specs.Held.{Moves}
+use Rattle.frame_pool.proofs.Held.{Owns-moves, Moves-trans}
+use Rattle.shadow_cache.specs.Pairs.{frames_of, IsRoots}
+use Rattle.shadow_cache.specs.Others.{AreKept}
+use Rattle.shadow_cache.specs.Switched.{Opens, ComesBack}
 use Rattle.shadow_cache.specs.declared.pair.Pair.{Pair}
-use Rattle.shadow_cache.proofs.Leaving.{kept-trans, kept-refl, leaves-owns, leaves-kept, leaves-moves}
-use Rattle.shadow_cache.proofs.Beside.{or-right}
-use Rattle.shadow_cache.proofs.Coming.{sub-roots, sized-remove, barred-remove, any-remove, front-roots, front-moves, last-leaves, none-leaves, take-few, open-kept, open-moves, open-roots, comes-after}
+use Rattle.shadow_cache.proofs.Leaving.{kept-trans, kept-refl}
+use Rattle.shadow_cache.proofs.Coming.{front-roots, front-moves, take-few, open-kept, open-moves, open-roots}
 use Rattle.shadow_cache.proofs.switching.come.Goals as goal
 
 front : (ps qs : List Pair) (p : Pair) (i : ℕ) → qs ≡ remove ps i → p ∷ remove ps i ≡ p ∷ qs

@@ -1,16 +1,10 @@
-use Rattle.std.proofs.Common.{◌≡◌, ℕ, ◌+◌, ◌<◌, ◌≤◌, List, [], ◌∷◌, length, take, remove, slice_get, cond, MatchOption, true, false, Option, Some, None, refl, sym, ap, ◌∙◌, subst, arith}
-use Rattle.std.proofs.lemmas.Grind.{merely}
-use Rattle.frame_pool.specs.Held.{Holds, Owns, Moves}
-use Rattle.frame_pool.proofs.Held.{Owns-moves, Moves-trans, Moves-refl, Holds-from_Owns}
-use Rattle.shadow_cache.specs.Pairs.{reads, any_reads, frames_of, AreShadows, AreSized, AllBarWrites, IsRoots}
-use Rattle.shadow_cache.specs.Others.{AreKept, place_of}
-use Rattle.shadow_cache.specs.Switched.{staying, IsFresh, Opens, ComesBack, Comes}
-use Rattle.shadow_cache.specs.Roots.{pairs_of}
-use Rattle.shadow_cache.specs.Laws.{had, kept-shadows, kept-barred}
+use Rattle.std.proofs.Common.{List, length, sym, ap, ◌∙◌, subst, arith}
+use Rattle.frame_pool.proofs.Held.{Owns-moves, Moves-refl, Holds-from_Owns}
+use Rattle.shadow_cache.specs.Pairs.{any_reads, frames_of, AreSized, AllBarWrites}
+use Rattle.shadow_cache.specs.Laws.{kept-shadows, kept-barred}
 use Rattle.shadow_cache.specs.declared.pair.Pair.{Pair}
-use Rattle.shadow_cache.proofs.Leaving.{kept-refl, leaves-owns, leaves-kept, leaves-moves}
-use Rattle.shadow_cache.proofs.Beside.{or-right}
-use Rattle.shadow_cache.proofs.Coming.{sub-roots, sized-remove, barred-remove, any-remove, front-roots, front-moves, last-leaves, none-leaves, take-few, open-kept, open-moves, open-roots, comes-after}
+use Rattle.shadow_cache.proofs.Leaving.{kept-refl}
+use Rattle.shadow_cache.proofs.Coming.{sub-roots, sized-remove, barred-remove, any-remove, last-leaves, none-leaves, take-few}
 use Rattle.shadow_cache.proofs.switching.make_room.Goals as goal
 
 pub returns-then-len-eq-PAIRS-clause-rest : goal.returns-then-len-eq-PAIRS-clause-rest

@@ -1,8 +1,7 @@
-use Rattle.std.proofs.Common.{◌≡◌, ◌≢◌, ℕ, suc, ◌+◌, ◌*◌, ◌<◌, ◌≤◌, List, [], ◌∷◌, length, get_or, slice_get, slice_set, remove, Option, Some, None, IsSome, refl, sym, ap, ◌∙◌, subst, arith}
-use Rattle.slab.specs.Slab.{Slab, get, slab_len, Updates}
+use Rattle.std.proofs.Common.{ℕ, List, length, get_or, slice_set, IsSome, sym, ap, ◌∙◌, subst, arith}
+use Rattle.slab.specs.Slab.{get}
 use Rattle.shadow_cache.specs.declared.pair.Pair.{Pair}
-use Rattle.shadow_cache.specs.Keyed.{listed, AreThere, IsKeyed}
-use Rattle.shadow_cache.proofs.Keys.{listed-length, there-at, listed-at, default, within, replaced, removed, pushed}
+use Rattle.shadow_cache.proofs.Keys.{there-at, within, replaced}
 use Rattle.shadow_cache.proofs.pairs.Pairs.replace.Goals as goal
 
 pub offset_bounds-deref-i : goal.offset_bounds-deref-i

@@ -1,8 +1,7 @@
-use Rattle.std.proofs.Common.{◌≡◌, ◌≢◌, ℕ, suc, ◌+◌, ◌*◌, ◌<◌, ◌≤◌, List, [], ◌∷◌, length, get_or, slice_get, slice_set, remove, Option, Some, None, IsSome, refl, sym, ap, ◌∙◌, subst, arith}
-use Rattle.slab.specs.Slab.{Slab, get, slab_len, Updates}
+use Rattle.std.proofs.Common.{◌≡◌, List, get_or, slice_get, remove, IsSome, sym, ap, ◌∙◌, subst, arith}
+use Rattle.slab.specs.Slab.{get}
 use Rattle.shadow_cache.specs.declared.pair.Pair.{Pair}
-use Rattle.shadow_cache.specs.Keyed.{listed, AreThere, IsKeyed}
-use Rattle.shadow_cache.proofs.Keys.{listed-length, there-at, listed-at, default, within, replaced, removed, pushed}
+use Rattle.shadow_cache.proofs.Keys.{there-at, listed-at, default, within, removed}
 use Rattle.shadow_cache.proofs.pairs.Pairs.take.Goals as goal
 
 pub remove-key-requires : goal.remove-key-requires

@@ -1,14 +1,13 @@
-use Rattle.std.proofs.Common.{◌≡◌, ℕ, List, ◌∷◌, Option, Some, None, refl, sym, ap, ◌∙◌, subst, arith}
+use Rattle.std.proofs.Common.{List, ◌∷◌, ap, ◌∙◌}
 use Rattle.std.proofs.lemmas.Grind.{merely}
-use Rattle.shadow_tables.specs.Slots.{root_of, slot_at}
-use Rattle.shadow_tables.specs.Laws as below
 use Rattle.std.proofs.Common.{false}
 use Rattle.shadow_cache.specs.Pairs.{no_tables}
 use Rattle.shadow_cache.specs.declared.pair.Pair.{Pair}
 use Rattle.shadow_cache.specs.Roots.{pairs_of}
 use Rattle.shadow_cache.specs.Laws.{had}
-use Rattle.shadow_cache.proofs.Beside.{others-owns, tables-part}
-use Rattle.shadow_cache.proofs.Calls.{alone-shadow, alone-owns, dropped-roots, dropped-moves, dropped-owns, dropped-two, dropped-tracked, spoilt-same, spoilt-fewer, spoilt-roots, spoilt-slots, spoilt-untracked, spoilt-moves, spoilt-owns}
+use Rattle.shadow_cache.proofs.Beside.{others-owns}
+use Rattle.shadow_cache.proofs.Calls.{alone-shadow, alone-owns, dropped-roots, dropped-moves, dropped-owns, dropped-two, dropped-tracked}
+use Rattle.shadow_cache.proofs.CallSteps.{step-drop_all}
 use Rattle.shadow_cache.proofs.roots.Roots.drop_all.Goals as goal
 
 pub leave_all-requires-clause-shadows : goal.leave_all-requires-clause-shadows
@@ -56,3 +55,8 @@ returns-clause-moves c =
 
 pub returns-clause-pairs : goal.returns-clause-pairs
 returns-clause-pairs c = ap (λ (x : Pair). x ∷ c.leave_all.new.pairs) c.emptied-self.ensures ∙ ap (λ (xs : List Pair). record c.args.self.now.present { tables = no_tables; marked = false } ∷ xs) c.leave_all.ensures.none
+
+pub returns-clause-told : goal.returns-clause-told
+returns-clause-told c = λ value calls a.
+    let r = c.args.self.now in
+    step-drop_all value calls r.present r.others (c.emptied-self.result ∷ c.leave_all.new.pairs) c.args.ram.now c.drop_all.new.ram (returns-clause-pairs c) c.drop_all.ensures.empty.none (returns-clause-two c) a

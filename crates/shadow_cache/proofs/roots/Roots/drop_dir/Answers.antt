@@ -1,11 +1,10 @@
-use Rattle.std.proofs.Common.{◌≡◌, ℕ, List, ◌∷◌, Option, Some, None, refl, sym, ap, ◌∙◌, subst, arith}
 use Rattle.std.proofs.lemmas.Grind.{merely}
-use Rattle.frame_pool.specs.Held.{Owns, Writes, Moves}
-use Rattle.shadow_tables.specs.Slots.{held, slot_at, IsShadow}
-use Rattle.shadow_cache.specs.Pairs.{any_reads, frames_of, IsRoots}
+use Rattle.shadow_tables.specs.Slots.{slot_at}
+use Rattle.shadow_cache.specs.Pairs.{any_reads}
 use Rattle.shadow_cache.specs.Roots.{pairs_of}
-use Rattle.shadow_cache.specs.Laws.{had, tables-any}
-use Rattle.shadow_cache.proofs.Present.{bars-dropped, bars-lost, bars-filled, write-roots, write-frames, write-memory, write-moves, present-owns, move-roots, move-moves, move-owns, write-kept, move-kept}
+use Rattle.shadow_cache.specs.Laws.{had}
+use Rattle.shadow_cache.proofs.Present.{bars-lost, write-roots, write-frames, write-memory, write-moves, write-kept}
+use Rattle.shadow_cache.proofs.CallSteps.{step-drop_dir}
 use Rattle.shadow_cache.proofs.roots.Roots.drop_dir.Goals as goal
 
 pub drop_dir-requires-clause-shadow : goal.drop_dir-requires-clause-shadow
@@ -35,3 +34,8 @@ pub returns-clause-others : goal.returns-clause-others
 returns-clause-others c =
     let r = c.args.self.now in let m = c.args.ram.now in let n = c.drop_dir.new.ram in let h = had (pairs_of r) m c.requires.stands in let e = c.drop_dir.ensures in
     write-kept r.present r.others m n h e.shadow e.held e.memory
+
+pub returns-clause-told : goal.returns-clause-told
+returns-clause-told c = λ value calls a.
+    let r = c.args.self.now in let e = c.drop_dir.ensures in
+    step-drop_dir value calls r.present r.others c.args.ram.now c.drop_dir.new.ram (returns-clause-others c) e.held e.tables c.args.index e.loses a

@@ -1,11 +1,11 @@
-use Rattle.std.proofs.Common.{◌≡◌, ℕ, List, ◌∷◌, Option, Some, None, refl, sym, ap, ◌∙◌, subst, arith}
+use Rattle.std.proofs.Common.{Some, sym, ap, ◌∙◌}
 use Rattle.std.proofs.lemmas.Grind.{merely}
-use Rattle.frame_pool.specs.Held.{Owns, Writes, Moves}
-use Rattle.shadow_tables.specs.Slots.{filled, held, slot_at, IsShadow}
-use Rattle.shadow_cache.specs.Pairs.{any_reads, frames_of, IsRoots}
+use Rattle.shadow_tables.specs.Slots.{filled, slot_at}
+use Rattle.shadow_cache.specs.Pairs.{any_reads}
 use Rattle.shadow_cache.specs.Roots.{pairs_of}
 use Rattle.shadow_cache.specs.Laws.{had, tables-any}
-use Rattle.shadow_cache.proofs.Present.{bars-dropped, bars-lost, bars-filled, write-roots, write-frames, write-memory, write-moves, present-owns, move-roots, move-moves, move-owns, write-kept, move-kept}
+use Rattle.shadow_cache.proofs.Present.{bars-filled, present-owns, move-roots, move-moves, move-owns, move-kept}
+use Rattle.shadow_cache.proofs.CallSteps.{step-fill}
 use Rattle.shadow_cache.proofs.roots.Roots.fill.Goals as goal
 
 pub hold-requires-clause-shadow : goal.hold-requires-clause-shadow
@@ -44,3 +44,8 @@ pub returns-clause-others : goal.returns-clause-others
 returns-clause-others c =
     let r = c.args.self.now in let m = c.args.ram.now in let n = c.hold.new.ram in let h = had (pairs_of r) m c.requires.stands in let e = c.hold.ensures in
     move-kept c.args.pool.now c.hold.new.pool r.present r.others m n h c.requires.owns e.becomes.shadow e.moves
+
+pub returns-clause-told : goal.returns-clause-told
+returns-clause-told c = λ value calls a.
+    let r = c.args.self.now in
+    step-fill value calls c.args.side c.args.entry c.args.wp r.present r.others c.args.ram.now c.hold.new.ram c.requires.page (returns-clause-others c) (returns-clause-turns c) c.hold.ensures.table a

@@ -1,9 +1,9 @@
-use Rattle.std.proofs.Common.{◌≡◌, ℕ, List, [], ◌∷◌, sym, ap, ◌∙◌, subst}
+use Rattle.std.proofs.Common.{List, [], ◌∷◌, sym, ap, subst}
 use Rattle.std.proofs.lemmas.Grind.{merely}
 use Rattle.frame_pool.specs.Held.{Owns, Moves}
-use Rattle.shadow_cache.specs.Pairs.{frames_of}
 use Rattle.shadow_cache.specs.declared.pair.Pair.{Pair}
 use Rattle.shadow_cache.proofs.Noting.{alone-frames, fresh-roots}
+use Rattle.shadow_cache.proofs.CallSteps.{agree-start}
 use Rattle.shadow_cache.proofs.roots.Roots.new.Goals as goal
 
 pub returns-clause-stands : goal.returns-clause-stands
@@ -24,3 +24,8 @@ returns-clause-starts c =
       alone = ap (λ (ps : List Pair). c.new-present.result ∷ ps) c.in_ok-others.ensures;
       fresh = record { value = e.cr3; empty = e.empty; tables = e.tables; unmarked = e.marked };
     }
+
+pub returns-clause-told : goal.returns-clause-told
+returns-clause-told c =
+    let s = returns-clause-starts c in
+    agree-start c.args.cr3 s.pair (c.new-present.result ∷ c.in_ok-others.others) c.new-present.new.ram s.alone s.fresh

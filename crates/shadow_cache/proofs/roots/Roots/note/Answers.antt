@@ -1,7 +1,7 @@
-use Rattle.std.proofs.Common.{◌≡◌, ℕ, List, ◌∷◌, [], Option, Some, None, refl, sym, ap, ◌∙◌, subst, arith}
+use Rattle.std.proofs.Common.{◌≡◌, ◌∷◌, [], sym, ap, subst}
 use Rattle.std.proofs.lemmas.Grind.{merely}
 use Rattle.frame_pool.specs.Held.{Moves}
-use Rattle.shadow_tables.specs.Slots.{ArePart, LosesWrites, root_of, slot_at}
+use Rattle.shadow_tables.specs.Slots.{ArePart, LosesWrites, slot_at}
 use Rattle.shadow_tables.specs.Laws.Entries.{entries_of-barred}
 use Rattle.shadow_tables.specs.Entries.{entries_of}
 use Rattle.shadow_cache.specs.Pairs.{frames_of, tables_of, IsRoots}
@@ -9,6 +9,7 @@ use Rattle.shadow_cache.specs.Roots.{pairs_of}
 use Rattle.shadow_cache.specs.declared.pair.Pair.{Pair}
 use Rattle.shadow_cache.specs.Laws.{had}
 use Rattle.shadow_cache.proofs.Noting.{note-shadows, note-holds, note-roots, note-slots, note-loses, note-tracked, note-frames, note-memory, note-moves, note-all}
+use Rattle.shadow_cache.proofs.CallSteps.{step-note}
 use Rattle.shadow_cache.proofs.roots.Roots.note.Goals as goal
 
 pub bar-requires : goal.bar-requires
@@ -65,4 +66,9 @@ returns-clause-pairs c = ap (λ (x : Pair). x ∷ c.args.self.now.others) c.note
 pub returns-clause-loses : goal.returns-clause-loses
 returns-clause-loses c =
     let r = c.args.self.now in let m = c.args.ram.now in let h = had (pairs_of r) m c.requires.stands in let e = c.bar.ensures in let b = c.bar_all.ensures in
-    note-all r.present r.others m c.bar.new.ram c.bar_all.new.ram c.args.frame h c.requires.frame e.shadow e.loses e.held e.memory b.shadows b.frames b.loses b.memory
+    note-all r.present r.others m c.bar.new.ram c.bar_all.new.ram c.args.frame h c.requires.frame e.shadow e.loses e.held e.memory b.shadows b.frames b.loses b.memory e.tables
+
+pub returns-clause-told : goal.returns-clause-told
+returns-clause-told c = λ value calls a.
+    let r = c.args.self.now in let h = had (pairs_of r) c.args.ram.now c.requires.stands in
+    step-note value calls c.args.frame r.present r.others (c.noted-self.result ∷ r.others) c.args.ram.now c.bar_all.new.ram (returns-clause-pairs c) h.sized.0 c.requires.frame (returns-clause-loses c) a

@@ -1,16 +1,12 @@
-use Rattle.std.proofs.Common.{◌≡◌, ℕ, ◌+◌, ◌<◌, ◌≤◌, List, [], ◌∷◌, length, take, remove, slice_get, cond, MatchOption, true, false, Option, Some, None, refl, sym, ap, ◌∙◌, subst, arith}
-use Rattle.std.proofs.lemmas.Grind.{merely}
-use Rattle.frame_pool.specs.Held.{Holds, Owns, Moves}
-use Rattle.frame_pool.proofs.Held.{Owns-moves, Moves-trans, Moves-refl, Holds-from_Owns}
-use Rattle.shadow_cache.specs.Pairs.{reads, any_reads, frames_of, AreShadows, AreSized, AllBarWrites, IsRoots}
-use Rattle.shadow_cache.specs.Others.{AreKept, place_of}
-use Rattle.shadow_cache.specs.Switched.{staying, IsFresh, Opens, ComesBack, Comes}
+use Rattle.std.proofs.Common.{List, ◌∷◌, subst}
+use Rattle.frame_pool.proofs.Held.{Owns-moves, Moves-trans}
+use Rattle.shadow_cache.specs.Pairs.{frames_of}
+use Rattle.shadow_cache.specs.Switched.{Comes}
 use Rattle.shadow_cache.specs.Roots.{pairs_of}
-use Rattle.shadow_cache.specs.Laws.{had, kept-shadows, kept-barred}
+use Rattle.shadow_cache.specs.Laws.{had}
 use Rattle.shadow_cache.specs.declared.pair.Pair.{Pair}
-use Rattle.shadow_cache.proofs.Leaving.{kept-refl, leaves-owns, leaves-kept, leaves-moves}
-use Rattle.shadow_cache.proofs.Beside.{or-right}
-use Rattle.shadow_cache.proofs.Coming.{sub-roots, sized-remove, barred-remove, any-remove, front-roots, front-moves, last-leaves, none-leaves, take-few, open-kept, open-moves, open-roots, comes-after}
+use Rattle.shadow_cache.proofs.Coming.{comes-after}
+use Rattle.shadow_cache.proofs.CallSteps.{step-switch}
 use Rattle.shadow_cache.proofs.roots.Roots.switch.Goals as goal
 
 pub put_by-requires : goal.put_by-requires
@@ -36,3 +32,7 @@ pub returns-clause-owns : goal.returns-clause-owns
 returns-clause-owns c =
     Owns-moves c.args.pool.now c.come-self.new.pool c.args.ram.now c.come-self.new.ram (frames_of (pairs_of c.args.self.now) c.args.ram.now)
     (frames_of (c.come-self.result ∷ c.come-self.new.others) c.come-self.new.ram) c.requires.owns (returns-clause-moves c)
+
+pub returns-clause-told : goal.returns-clause-told
+returns-clause-told c = λ value calls a.
+    step-switch value calls c.args.cr3 c.args.ram.now c.come-self.new.ram (pairs_of c.args.self.now) (c.come-self.result ∷ c.come-self.new.others) (returns-clause-switched c) a

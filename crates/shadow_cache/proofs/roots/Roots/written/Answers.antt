@@ -1,13 +1,14 @@
-use Rattle.std.proofs.Common.{◌≡◌, ℕ, List, ◌∷◌, Option, Some, None, refl, sym, ap, ◌∙◌, subst, arith}
+use Rattle.std.proofs.Common.{List, ◌∷◌, ap, ◌∙◌}
 use Rattle.std.proofs.lemmas.Grind.{merely}
 use Rattle.shadow_tables.specs.Slots.{root_of, slot_at}
 use Rattle.shadow_tables.specs.Laws as below
 use Rattle.shadow_cache.specs.Roots.{pairs_of}
 use Rattle.shadow_cache.specs.Laws.{had}
 use Rattle.shadow_cache.proofs.Beside.{others-owns, tables-part}
-use Rattle.shadow_cache.proofs.Calls.{alone-shadow, alone-owns, dropped-roots, dropped-moves, dropped-owns, dropped-two, dropped-tracked, spoilt-same, spoilt-fewer, spoilt-roots, spoilt-slots, spoilt-untracked, spoilt-moves, spoilt-owns, spoilt-kept}
+use Rattle.shadow_cache.proofs.Calls.{spoilt-same, spoilt-fewer, spoilt-roots, spoilt-slots, spoilt-untracked, spoilt-moves, spoilt-owns, spoilt-kept}
 use Rattle.shadow_cache.specs.After.{marked_by}
 use Rattle.shadow_cache.specs.declared.pair.Pair.{Pair}
+use Rattle.shadow_cache.proofs.CallSteps.{step-written}
 use Rattle.shadow_cache.proofs.roots.Roots.written.Goals as goal
 
 pub leave_readers-requires-clause-shadows : goal.leave_readers-requires-clause-shadows
@@ -65,3 +66,8 @@ pub returns-clause-kept : goal.returns-clause-kept
 returns-clause-kept c =
     let r = c.args.self.now in let m = c.args.ram.now in let h = had (pairs_of r) m c.requires.stands in
     spoilt-kept c.args.pool.now c.leave_readers.new.pool r.present c.written-self.result r.others c.leave_readers.new.pairs m c.leave_readers.new.ram c.args.frame h c.requires.owns c.leave_readers.ensures.rest c.leave_readers.ensures.kept c.leave_readers.ensures.moves c.written-self.ensures
+
+pub returns-clause-told : goal.returns-clause-told
+returns-clause-told c = λ value calls a.
+    let r = c.args.self.now in
+    step-written value calls c.args.frame r.present r.others (c.written-self.result ∷ c.leave_readers.new.pairs) c.args.ram.now c.leave_readers.new.ram (returns-clause-pairs c) (returns-clause-kept c) a

@@ -37,4 +37,4 @@ loop-word-preserved c =
     let e = c.bar_page.ensures in
     let place : first + l.word + 1 ≡ first + (l.word + 1) = omega arith in
     subst (λ k. Sweeps s m n first k (without s m c.args.frame)) place
-    (bars-more s m l.ram n first (first + l.word) c.args.frame (omega arith) (omega arith) l.invariant e.becomes e.held e.memory)
+    (bars-more s m l.ram n first (first + l.word) c.args.frame (omega arith) (omega arith) l.invariant e.becomes e.held e.memory e.tables)

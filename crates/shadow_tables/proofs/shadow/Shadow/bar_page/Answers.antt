@@ -4,7 +4,7 @@ use Rattle.shadow_views.proofs.Changes.{IsView-from_Holds}
 use Rattle.shadow_tables.specs.Slots.{roots}
 use Rattle.shadow_tables.specs.Laws.Views.{in-kernel, in-user}
 use Rattle.shadow_tables.proofs.Fills.{held-after}
-use Rattle.shadow_tables.proofs.Bars.{put-in, bars, bar-frames, bar-writes}
+use Rattle.shadow_tables.proofs.Bars.{put-in, bars, bar-frames, bar-writes, bar-tables}
 use Rattle.shadow_tables.proofs.shadow.Shadow.bar_page.Goals as goal
 
 pub bar_word-requires-clause-view : goal.bar_word-requires-clause-view
@@ -38,3 +38,10 @@ returns-clause-memory c =
     let a = put-in s m n c.root.result s.kernel page frame c.requires.shadow.holds c.root.ensures (in-kernel s) c.bar_word.ensures.puts in
     let b = put-in s n o c.root-2.result s.user page frame (held-after s m n s.kernel page _ c.requires.shadow a) c.root-2.ensures (in-user s) c.bar_word-2.ensures.puts in
     bar-writes s m n o page frame c.requires.shadow c.requires.page a b
+
+pub returns-clause-tables : goal.returns-clause-tables
+returns-clause-tables c =
+    let s = c.args.self.now in let m = c.args.ram.now in let n = c.bar_word.new.ram in let o = c.bar_word-2.new.ram in let page = c.args.page in let frame = c.args.frame in
+    let a = put-in s m n c.root.result s.kernel page frame c.requires.shadow.holds c.root.ensures (in-kernel s) c.bar_word.ensures.puts in
+    let b = put-in s n o c.root-2.result s.user page frame (held-after s m n s.kernel page _ c.requires.shadow a) c.root-2.ensures (in-user s) c.bar_word-2.ensures.puts in
+    bar-tables s m n o page frame c.requires.shadow c.requires.page a b

@@ -25,7 +25,7 @@ loop-word-preserved c =
     let same = l.invariant.same in
     let step : Sweeps s m n first (first + l.word + 1) (λ page. None) =
     sweeps-more s m l.ram n first (first + l.word) (λ page. None) None (omega arith) l.invariant.sweeps
-    (rw same at becomes) refl (rw same at c.drop_page.ensures.held) (rw same at c.drop_page.ensures.memory)
+    (rw same at becomes) refl (rw same at c.drop_page.ensures.held) (rw same at c.drop_page.ensures.memory) (rw same at c.drop_page.ensures.tables)
     in
     let place : first + l.word + 1 ≡ first + (l.word + 1) = omega arith in
     record { same = c.drop_page.ensures.same ∙ same; sweeps = subst (λ k. Sweeps s m n first k (λ page. None)) place step }

@@ -6,6 +6,7 @@ use Rattle.shadow_tables.specs.Laws.Entries.{entries_of-turned}
 use Rattle.shadow_views.proofs.Changes.{IsView-from_Holds}
 use Rattle.shadow_tables.specs.Laws.Views.{in-kernel, in-user}
 use Rattle.shadow_tables.proofs.Fills.{drops, drop-half}
+use Rattle.shadow_tables.proofs.Tabled.{keeps-trans, puts-keep}
 use Rattle.shadow_tables.proofs.shadow.Shadow.drop_page.Goals as goal
 
 pub clear-requires-clause-view : goal.clear-requires-clause-view
@@ -52,3 +53,10 @@ pub returns-clause-moves : goal.returns-clause-moves
 returns-clause-moves c = λ p o.
     let s = c.args.self.now in let m = c.args.ram.now in let n = c.clear-2.new.ram in
     Moves-kept p m n (held s m) (held s n) o (returns-clause-held c) (returns-clause-memory c)
+
+pub returns-clause-tables : goal.returns-clause-tables
+returns-clause-tables c =
+    let s = c.args.self.now in let m = c.args.ram.now in let n = c.clear.new.ram in
+    let a = c.clear.ensures.puts (roots s) c.requires.shadow.holds (in-kernel s) in
+    let h = drop-half s m n c.args.page c.requires.shadow a in
+    keeps-trans s m n c.clear-2.new.ram (puts-keep s m n s.kernel c.args.page 0 a) (puts-keep s n c.clear-2.new.ram s.user c.args.page 0 (c.clear-2.ensures.puts (roots s) h (in-user s)))

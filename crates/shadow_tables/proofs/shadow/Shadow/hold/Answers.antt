@@ -6,6 +6,7 @@ use Rattle.shadow_views.proofs.Changes.{IsView-from_Holds}
 use Rattle.frame_pool.proofs.Held.{Holds-from_Owns, Owns-moves}
 use Rattle.shadow_tables.specs.Laws.Views.{in-root}
 use Rattle.shadow_tables.specs.Laws.Entries.{entries_of-turned}
+use Rattle.shadow_tables.proofs.Tabled.{opened-table}
 use Rattle.shadow_tables.proofs.Fills.{fills, fill-moves, fill-takes, dropped-owns, dropped-free, opened-owns}
 use Rattle.shadow_tables.proofs.shadow.Shadow.hold.Goals as goal
 
@@ -88,3 +89,10 @@ pub returns-clause-one : goal.returns-clause-one
 returns-clause-one c =
     fill-takes c.args.self.now c.args.pool.now c.args.ram.now c.drop_page.new.ram c.requires.owns c.drop_page.ensures.held c.drop_page.ensures.memory
     c.open.new.pool c.open.new.ram c.set.new.ram c.root-root.result (c.args.entry.page / 1024) c.args.entry.page c.word_of.result (opened c.before) (put c)
+
+pub returns-clause-table : goal.returns-clause-table
+returns-clause-table c =
+    let s = c.args.self.now in
+    let e = c.root-root.ensures ∙ ap (λ x. root_of x c.args.side) c.drop_page.ensures.same in
+    opened-table s c.args.pool.now c.open.new.pool c.args.ram.now c.drop_page.new.ram c.open.new.ram c.set.new.ram c.args.side c.root-root.result c.args.entry.page c.word_of.result c.requires.page e
+    c.drop_page.ensures.held c.drop_page.ensures.tables (opened c.before) (λ ne. (c.open.ensures.there ne).1) (put c) (moved c) (returns-clause-one c)

@@ -1,0 +1,76 @@
+-- Memory after numbers were written.
+use Rattle.std.proofs.Common.{◌≡◌, ◌⊎◌, ℕ, zero, suc, ◌+◌, ◌*◌, ◌/◌, ◌%◌, ◌^◌, ◌<◌, ◌≤◌, Bool, true, false, List, [], ◌∷◌, ◌++◌, refl, ap, sym, ◌∙◌, subst, add-one, inl, inr, arith}
+use Rattle.std.specs.Prelude.{slice_index, nat_le, nat_lt, ◌==◌, ◌&&◌, ◌-◌, if◌then◌else◌}
+use Rattle.std.proofs.Math.Path.{fun_ext}
+use Rattle.std.proofs.lemmas.Bool.Decides.{nat_tests}
+use Rattle.ia32_types.specs.declared.size.Size.TheVariants.{Long}
+use Rattle.ia32_types.specs.Size.{width}
+use Rattle.ia32_exec.specs.declared.outcome.Store.{Store}
+use Rattle.ia32_exec.specs.Memory.{with_bytes, store, stored, all_stored}
+use Rattle.ia32_exec.specs.Commit.{longs_to}
+use Rattle.ia32_exec.specs.Turns.{written, all_written}
+
+stored_last : (same : ℕ → ℕ → Bool) (ws : List Store) (w : Store) (b : ℕ → ℕ) → all_stored same (ws ++ w ∷ []) b ≡ stored same w (all_stored same ws b)
+unfolding all_stored
+stored_last same [] w b = refl
+stored_last same (x ∷ ws) w b = stored_last same ws w (stored same x b)
+
+one_more : (k at : ℕ) (vs : List ℕ) → longs_to (k + 1) at vs ≡ longs_to k at vs ++ store (at + 4 * k) Long (slice_index vs k) ∷ []
+one_more k at vs = rw (add-one k) refl
+
+pub stored_more : (s t : ℕ → ℕ → Bool) (b c d : ℕ → ℕ) (k at : ℕ) (vs : List ℕ) → t ≡ s → c ≡ all_stored s (longs_to k at vs) b → d ≡ stored t (store (at + 4 * k) Long (slice_index vs k)) c
+    → d ≡ all_stored s (longs_to (k + 1) at vs) b
+stored_more s t b c d k at vs places before now =
+    let w : Store = store (at + 4 * k) Long (slice_index vs k) in
+    now ∙ (ap (λ (x : ℕ → ℕ → Bool). stored x w c) places ∙ (ap (λ (x : ℕ → ℕ). stored s w x) before
+    ∙ (sym (stored_last s (longs_to k at vs) w b) ∙ ap (λ (ws : List Store). all_stored s ws b) (sym (one_more k at vs)))))
+
+same_or_less : (k n : ℕ) → k ≤ n → (k ≡ n) ⊎ (k < n)
+same_or_less k n le = grind (arith, nat_tests)
+
+module _ (same : ℕ → ℕ → Bool) (at v : ℕ) (b : ℕ → ℕ) where
+  pub others : (n x : ℕ) → ((k : ℕ) → k < n → same (at + k) x ≡ false) → with_bytes same n at v b x ≡ b x
+  unfolding with_bytes
+  others zero x h = refl
+  others (suc n) x h = rw (h n (omega arith)) (others n x (λ k lt. h k (omega arith)))
+
+  pub held : (n k : ℕ) → k < n → same (at + k) (at + k) ≡ true → ((j : ℕ) → k < j → j < n → same (at + j) (at + k) ≡ false) → with_bytes same n at v b (at + k) ≡ v / 2 ^ (8 * k) % 2 ^ 8
+  unfolding with_bytes
+  held zero k lt itself later = absurd (omega arith)
+  held (suc n) k lt itself later = by (same_or_less k n (omega arith)) (λ below. held n k below itself (λ j a z. later j a (omega arith))) where
+    by : (k ≡ n) ⊎ (k < n) → (k < n → with_bytes same n at v b (at + k) ≡ v / 2 ^ (8 * k) % 2 ^ 8) → with_bytes same (suc n) at v b (at + k) ≡ v / 2 ^ (8 * k) % 2 ^ 8
+    by (inl e) ih = rw (ap (λ (j : ℕ). same (at + j) (at + k)) (sym e) ∙ itself) (ap (λ (j : ℕ). v / 2 ^ (8 * j) % 2 ^ 8) (sym e))
+    by (inr below) ih = rw (later n below (omega arith)) (ih below)
+
+-- where each address leads to a byte of its own
+is_itself : (n : ℕ) → (n == n) ≡ true
+is_itself n = grind (arith, nat_tests)
+
+is_another : (m n : ℕ) → (m ≡ n → ⊥) → (m == n) ≡ false
+is_another m n h = grind (arith, nat_tests, h)
+
+later_is_another : (at j k : ℕ) → k < j → (at + j == at + k) ≡ false
+later_is_another at j k lt = grind (arith, nat_tests)
+
+inside : (at n x : ℕ) → (nat_le at x && nat_lt x (at + n)) ≡ true → (at ≤ x) × (x < at + n)
+inside at n x e = (grind (arith, nat_tests), grind (arith, nat_tests))
+
+outside : (at n x k : ℕ) → (nat_le at x && nat_lt x (at + n)) ≡ false → k < n → (at + k == x) ≡ false
+outside at n x k e lt = grind (arith, nat_tests)
+
+in_flat : (n at v : ℕ) (b : ℕ → ℕ) (x : ℕ) → with_bytes (λ i j. i == j) n at v b x ≡ (if nat_le at x && nat_lt x (at + n) then v / 2 ^ (8 * (x - at)) % 2 ^ 8 else b x)
+in_flat n at v b x = by (nat_le at x && nat_lt x (at + n)) refl where
+  by : (t : Bool) → (nat_le at x && nat_lt x (at + n)) ≡ t → with_bytes (λ i j. i == j) n at v b x ≡ (if t then v / 2 ^ (8 * (x - at)) % 2 ^ 8 else b x)
+  by true e =
+      let h = inside at n x e in
+      let whole : at + (x - at) ≡ x = omega arith in
+      let P : ℕ → Type 0 = λ y. with_bytes (λ i j. i == j) n at v b y ≡ v / 2 ^ (8 * (x - at)) % 2 ^ 8 in
+      subst P whole (held (λ i j. i == j) at v b n (x - at) (omega arith) (is_itself (at + (x - at))) (λ j a z. later_is_another at j (x - at) a))
+  by false e = others (λ i j. i == j) at v b n x (λ k lt. outside at n x k e lt)
+
+pub flat : (ws : List Store) (b : ℕ → ℕ) → all_stored (λ i j. i == j) ws b ≡ all_written ws b
+unfolding all_stored
+flat [] b = refl
+flat (w ∷ ws) b =
+    let one : stored (λ i j. i == j) w b ≡ written w b = fun_ext (in_flat (width w.size / 8) w.at w.value b) in
+    ap (all_stored (λ i j. i == j) ws) one ∙ flat ws (written w b)

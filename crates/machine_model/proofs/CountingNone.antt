@@ -1,0 +1,139 @@
+-- Steps that count nothing, and those that count.
+use Rattle.std.proofs.Common.{◌≡◌, ◌⊎◌, inl, inr, ℕ, ◌==◌, Bool, true, false, cond, not, ◌&&◌, refl, sym, ap, ◌∙◌, List, [], ◌∷◌, Option, Some, None, Ok, Err, is_some}
+use Rattle.std.specs.Option.{ForSome}
+use Rattle.ia32_types.specs.declared.insn.Insn.{Insn}
+use Rattle.ia32_types.specs.declared.insn.Op.{Op}
+use Rattle.ia32_types.specs.declared.insn.Op.TheVariants as op
+use Rattle.ia32_decode.specs.declared.answer.Decoded.{Decoded}
+use Rattle.ia32_decode.specs.declared.answer.Decoded.TheVariants as begins
+use Rattle.paging.specs.Work.{Outcome}
+use Rattle.sys_exec.specs.declared.effect.Refusal.{Refusal}
+use Rattle.sites.specs.declared.site.Site.{Site}
+use Rattle.machine_model.specs.State.{Setting, State}
+use Rattle.machine_model.specs.Step.{Completed, begun, interrupt_of}
+use Rattle.image_check.specs.Places.{is_site_at}
+use Rattle.machine_model.specs.Counts.{is_software, needs_descriptor, is_direct, direct_in}
+use Rattle.machine_model.specs.Alone.{Reads, is_barred, is_native, WaitsCountNothing, SitesCountNothing, OthersCountNothing, NativesAreDirect}
+use Rattle.machine_model.proofs.Completing.{each_done, both, clash}
+
+-- nothing where each that could be completed leads nowhere
+never : (o : Option Completed) → ForSome o (λ c. ⊥) → o ≡ None
+never None h = refl
+never (Some c) h = absurd (h c refl)
+
+not_some : {A : Type 0} (o : Option A) → o ≡ None → is_some o ≡ true → ⊥
+not_some o e f = let g : is_some o ≡ false = ap is_some e in cc
+
+pub waits : WaitsCountNothing
+waits m b report after h e = never report.completed (λ c is.
+    let d = each_done m b report after e c is in
+    elim h [ inl halted ↦ clash b.cpu.halted halted d.awake | inr takes ↦ not_some (interrupt_of b.cpu b.board) d.takes_none takes ])
+
+-- nothing is direct where none that could be completed is
+indirect : (sites : List Site) (o : Option Completed) → ForSome o (λ c. is_direct sites c ≡ false) → direct_in sites o ≡ []
+indirect sites None h = refl
+indirect sites (Some c) h = ap (λ x. cond x (c.eip ∷ []) []) (h c refl)
+
+never_and : (x : Bool) → (not x && false) ≡ false
+never_and true = refl
+never_and false = refl
+
+-- the test of what began from a state
+direct_as : (sites : List Site) (b : State) (c : Completed) → c ≡ begun b c.insn
+    → is_direct sites c ≡ (not (is_software c.insn.op) && cond (b.cpu.cpl == 3) (not (needs_descriptor c.insn.op)) (not (is_site_at sites b.cpu.regs.eip)))
+direct_as sites b c e =
+    ap (λ (x : ℕ). not (is_software c.insn.op) && cond c.user (not (needs_descriptor c.insn.op)) (not (is_site_at sites x))) (ap (λ (x : Completed). x.eip) e)
+    ∙ ap (λ (x : Bool). not (is_software c.insn.op) && cond x (not (needs_descriptor c.insn.op)) (not (is_site_at sites b.cpu.regs.eip))) (ap (λ (x : Completed). x.user) e)
+
+pub in_sites : SitesCountNothing
+in_sites m b report after sites kernel inside e = indirect sites report.completed (λ c is.
+    let d = each_done m b report after e c is in
+    let soft = is_software c.insn.op in
+    direct_as sites b c d.same
+    ∙ (ap (λ (x : Bool). not soft && cond x (not (needs_descriptor c.insn.op)) (not (is_site_at sites b.cpu.regs.eip))) kernel
+    ∙ (ap (λ (x : Bool). not soft && not x) inside ∙ never_and soft)))
+
+decoded_in : Decoded → Outcome Refusal Decoded → Decoded
+decoded_in other (Ok x) = x.0
+decoded_in other (Err e) = other
+
+insn_in : Insn → Decoded → Insn
+insn_in other (begins.Insn insn len) = insn
+insn_in other begins.Short = other
+insn_in other begins.Outside = other
+
+-- what is read is one instruction
+one_read : (m : Setting) (b : State) (x y : Insn) → Reads m b x → Reads m b y → x ≡ y
+unfolding decoded_in insn_in
+one_read m b x y r s =
+    let e : begins.Insn x r.len ≡ begins.Insn y s.len = ap (decoded_in (begins.Insn x r.len)) (sym r.fetches ∙ s.fetches) in
+    ap (insn_in x) e
+
+soft_or_needs : (o : Op) → is_native true o ≡ false → is_barred o ≡ false → (not (is_software o) && not (needs_descriptor o)) ≡ false
+soft_or_needs op.Int n k = refl
+soft_or_needs op.Int3 n k = refl
+soft_or_needs op.LoadSeg n k = refl
+soft_or_needs op.PopSeg n k = refl
+soft_or_needs op.FarJump n k = refl
+soft_or_needs op.Iret n k = refl
+soft_or_needs op.Cli n k = absurd (clash true refl k)
+soft_or_needs op.Sti n k = absurd (clash true refl k)
+soft_or_needs op.Hlt n k = absurd (clash true refl k)
+soft_or_needs op.ReadControl n k = absurd (clash true refl k)
+soft_or_needs op.WriteControl n k = absurd (clash true refl k)
+soft_or_needs op.LoadGdt n k = absurd (clash true refl k)
+soft_or_needs op.LoadIdt n k = absurd (clash true refl k)
+soft_or_needs op.LoadTask n k = absurd (clash true refl k)
+soft_or_needs op.DropPage n k = absurd (clash true refl k)
+soft_or_needs op.PortIn n k = absurd (clash true refl k)
+soft_or_needs op.PortOut n k = absurd (clash true refl k)
+soft_or_needs o n k = absurd (clash true refl n)
+
+by_soft : (sites : List Site) (b : State) (c : Completed) → c ≡ begun b c.insn → is_software c.insn.op ≡ true → is_direct sites c ≡ false
+by_soft sites b c same soft = ap (λ (x : Bool). not x && cond c.user (not (needs_descriptor c.insn.op)) (not (is_site_at sites c.eip))) soft
+
+by_user : (sites : List Site) (b : State) (c : Completed) → c ≡ begun b c.insn → (b.cpu.cpl == 3) ≡ true → is_native (b.cpu.cpl == 3) c.insn.op ≡ false → is_barred c.insn.op ≡ false → is_direct sites c ≡ false
+by_user sites b c same user native lets =
+    direct_as sites b c same
+    ∙ (ap (λ (x : Bool). not (is_software c.insn.op) && cond x (not (needs_descriptor c.insn.op)) (not (is_site_at sites b.cpu.regs.eip))) user
+    ∙ soft_or_needs c.insn.op (ap (λ x. is_native x c.insn.op) (sym user) ∙ native) lets)
+
+pub others : OthersCountNothing
+others m b report after sites insn reads native h e = indirect sites report.completed (λ c is.
+    let d = each_done m b report after e c is in
+    let one : insn ≡ c.insn = one_read m b insn c.insn reads d.reads in
+    let now : is_native (b.cpu.cpl == 3) c.insn.op ≡ false = ap (λ (x : Insn). is_native (b.cpu.cpl == 3) x.op) (sym one) ∙ native in
+    elim h [
+      | inl user ↦ by_user sites b c d.same (both (b.cpu.cpl == 3) _ user).0 now (d.lets user)
+      | inr soft ↦ by_soft sites b c d.same (ap (λ (x : Insn). is_software x.op) (sym one) ∙ soft)
+    ])
+
+native_test : (user inside : Bool) (o : Op) → is_native user o ≡ true → (user ≡ true) ⊎ (inside ≡ false) → (not (is_software o) && cond user (not (needs_descriptor o)) (not inside)) ≡ true
+native_test user inside o n h = by_place user inside o n h
+  where
+    plain : (o : Op) → is_native true o ≡ true → (not (is_software o) && not (needs_descriptor o)) ≡ true
+    plain op.Int n = absurd (clash false n refl)
+    plain op.Int3 n = absurd (clash false n refl)
+    plain op.LoadSeg n = absurd (clash false n refl)
+    plain op.PopSeg n = absurd (clash false n refl)
+    plain op.FarJump n = absurd (clash false n refl)
+    plain op.Iret n = absurd (clash false n refl)
+    plain o n = refl
+
+    hard : (o : Op) → is_native false o ≡ true → not (is_software o) ≡ true
+    hard op.Int n = absurd (clash false n refl)
+    hard op.Int3 n = absurd (clash false n refl)
+    hard o n = refl
+
+    by_place : (user inside : Bool) (o : Op) → is_native user o ≡ true → (user ≡ true) ⊎ (inside ≡ false) → (not (is_software o) && cond user (not (needs_descriptor o)) (not inside)) ≡ true
+    by_place true inside o n h = plain o n
+    by_place false true o n h = absurd (elim h [ inl u ↦ clash false u refl | inr i ↦ clash true refl i ])
+    by_place false false o n h = ap (λ x. x && true) (hard o n)
+
+pub natives : NativesAreDirect
+natives m b report after sites insn c reads native h e is =
+    let d = each_done m b report after e c is in
+    let one : insn ≡ c.insn = one_read m b insn c.insn reads d.reads in
+    let now : is_native (b.cpu.cpl == 3) c.insn.op ≡ true = ap (λ (x : Insn). is_native (b.cpu.cpl == 3) x.op) (sym one) ∙ native in
+    let test : is_direct sites c ≡ true = direct_as sites b c d.same ∙ native_test (b.cpu.cpl == 3) (is_site_at sites b.cpu.regs.eip) c.insn.op now (elim h [ inl u ↦ inl (ap (λ x. x == 3) u) | inr i ↦ inr i ]) in
+    ap (direct_in sites) is ∙ (ap (λ x. cond x (c.eip ∷ []) []) test ∙ ap (λ (x : Completed). x.eip ∷ []) d.same)

@@ -1,0 +1,329 @@
+-- An insensitive instruction leaves the flags that are the system's own.
+use Rattle.std.proofs.Common.{◌≡◌, ℕ, ◌+◌, ◌-◌, ◌*◌, ◌/◌, ◌%◌, ◌^◌, ◌<◌, ◌≤◌, Bool, true, false, cond, refl, sym, ap, subst, ◌∙◌, ◌⊎◌, inl, inr, Option, Some, None, arith}
+use Rattle.std.specs.Prelude.{slice_index, nat_lt, bit_and}
+use Rattle.ia32_types.specs.declared.size.Size.{Size}
+use Rattle.ia32_types.specs.declared.size.Size.TheVariants.{Byte, Word, Long}
+use Rattle.ia32_types.specs.declared.flags.Regs.{Regs}
+use Rattle.ia32_types.specs.declared.flags.Flags.{Flags}
+use Rattle.ia32_types.specs.declared.stop.Stop.TheVariants.{FlagBits}
+use Rattle.ia32_types.specs.declared.insn.Insn.{Insn}
+use Rattle.ia32_types.specs.declared.insn.Operand.{Operand}
+use Rattle.ia32_types.specs.declared.insn.Operand.TheVariants.{Absent, Register, Memory, Segment, Control}
+use Rattle.ia32_types.specs.declared.insn.Op.{Op}
+use Rattle.ia32_types.specs.declared.insn.Op.TheVariants.{Add, Or, Adc, Sbb, And, Sub, Xor, Cmp, Test, Not, Neg, Mul, Imul, ImulBy, Div, Idiv, Inc, Dec, Rol, Ror, Shl, Shr, Sar, Mov, Movzx, Movsx, Lea, Xchg, Push, Pop, Pusha, Popa, Cwde, Cdq, Leave, Nop, Jcc, Setcc, Jmp, Call, Ud2, Movs, Stos, Lods, Clc, Stc, Cld, Std, PushFlags, PopFlags}
+use Rattle.ia32_types.specs.Bits.{worth, with_bit}
+use Rattle.ia32_types.proofs.FlagBits.{set_is}
+use Rattle.std.proofs.lemmas.Nat.{and_or_apart}
+use Rattle.ia32_types.specs.Flags.{carry_at, parity_at, adjust_at, zero_at, sign_at, direction_at, overflow_at, flag_put}
+use Rattle.ia32_types.specs.Size.{span}
+use Rattle.ia32_alu.specs.declared.status.Status.{Status}
+use Rattle.ia32_alu.specs.Status.{changed, settled}
+use Rattle.ia32_alu.specs.Arithmetic.{alu}
+use Rattle.ia32_alu.specs.Shift.{shift}
+use Rattle.ia32_alu.specs.Product.{multiply}
+use Rattle.ia32_exec.specs.declared.outcome.Outcome.{Outcome}
+use Rattle.ia32_exec.specs.declared.outcome.Outcome.TheVariants.{Done, Raise, Stop}
+use Rattle.ia32_exec.specs.declared.outcome.Stores.{Stores}
+use Rattle.ia32_exec.specs.declared.outcome.Stores.TheVariants.{Nothing}
+use Rattle.ia32_exec.specs.Registers.{register, with_register, with_whole, passed}
+use Rattle.ia32_exec.specs.Operands.{value_of, stored, kept_in, done}
+use Rattle.ia32_exec.specs.Arithmetic.{flagged, computed, count_of, arithmetic, tested, shifted, with_halves, upper, multiplied, signed_by, signed_multiplied, product_to, multiplied_by, shared, divided}
+use Rattle.ia32_exec.specs.Moves.{moved, zero_extended, sign_extended, loaded_address, exchanged, widened, sign_spread}
+use Rattle.ia32_exec.specs.Stack.{is_foreign, taken, top_of_stack, raised, pushed, pushed_number, popped, all_pushed, all_popped, left, called, flags_pushed, flags_popped}
+use Rattle.ia32_exec.specs.Control.{condition, jump, jumped, branched, set_by, flag_made}
+use Rattle.ia32_exec.specs.Strings.{is_over, string, turn, moved_on, counted}
+use Rattle.ia32_exec.specs.Effect.{row, effect}
+
+-- ---- IF and IOPL
+
+-- both have the same bits among those that no flag of the profile takes
+pub record AreSet (f g : Flags) : Type 0 where
+  pub fixed : bit_and g.bits 2 ≡ bit_and f.bits 2
+  pub others : bit_and g.bits 4294951208 ≡ bit_and f.bits 4294951208
+
+-- a bit that is made new is none of those that a mask has
+put_apart : (n at mask : ℕ) (b : Bool) → at < 32 → bit_and (1 * 2 ^ at % 2 ^ 32) mask ≡ 0 → with_bit (with_bit n at false) at true ≡ with_bit n at true → bit_and (with_bit n at b) mask ≡ bit_and n mask
+put_apart n at mask true h e again = ap (λ x. bit_and x mask) (sym (set_is n at h)) ∙ and_or_apart mask n (1 * 2 ^ at % 2 ^ 32) e
+put_apart n at mask false h e again =
+    sym (and_or_apart mask (with_bit n at false) (1 * 2 ^ at % 2 ^ 32) e)
+    ∙ ap (λ x. bit_and x mask) (set_is (with_bit n at false) at h ∙ again ∙ sym (set_is n at h)) ∙ and_or_apart mask n (1 * 2 ^ at % 2 ^ 32) e
+
+put_set : (f : Flags) (at : ℕ) (b : Bool) → at < 32 → bit_and (1 * 2 ^ at % 2 ^ 32) 2 ≡ 0 → bit_and (1 * 2 ^ at % 2 ^ 32) 4294951208 ≡ 0
+    → with_bit (with_bit f.bits at false) at true ≡ with_bit f.bits at true → AreSet f (flag_put f at b)
+put_set f at b h e k again = record { fixed = put_apart f.bits at 2 b h e again; others = put_apart f.bits at 4294951208 b h k again }
+
+-- both have the same IF, the same bits from IOPL on, and the same of those
+pub record AreKept (f g : Flags) : Type 0 where
+  pub interrupt : g.bits / 512 % 2 ≡ f.bits / 512 % 2
+  pub level : g.bits / 4096 ≡ f.bits / 4096
+  pub set : AreSet f g
+
+set_same : (f : Flags) → AreSet f f
+set_same f = record { fixed = refl; others = refl }
+
+pub set_on : (f g h : Flags) → AreSet f g → AreSet g h → AreSet f h
+set_on f g h p q = record { fixed = q.fixed ∙ p.fixed; others = q.others ∙ p.others }
+
+pub set_9 : (f : Flags) (b : Bool) → AreSet f (flag_put f 9 b)
+set_9 f b = put_set f 9 b (omega arith) refl refl (omega arith)
+
+pub set_12 : (f : Flags) (b : Bool) → AreSet f (flag_put f 12 b)
+set_12 f b = put_set f 12 b (omega arith) refl refl (omega arith)
+
+pub set_13 : (f : Flags) (b : Bool) → AreSet f (flag_put f 13 b)
+set_13 f b = put_set f 13 b (omega arith) refl refl (omega arith)
+
+kept_same : (f : Flags) → AreKept f f
+kept_same f = record { interrupt = refl; level = refl; set = set_same f }
+
+kept_on : (f g h : Flags) → AreKept f g → AreKept g h → AreKept f h
+kept_on f g h p q = record { interrupt = q.interrupt ∙ p.interrupt; level = q.level ∙ p.level; set = set_on f g h p.set q.set }
+
+small : (b : Bool) → worth b ≤ 1
+small true = omega arith
+small false = omega arith
+
+kept_0 : (f : Flags) (b : Bool) → AreKept f (flag_put f 0 b)
+kept_0 f b = let s = small b in record { interrupt = omega (arith, s); level = omega (arith, s); set = put_set f 0 b (omega arith) refl refl (omega arith) }
+
+kept_2 : (f : Flags) (b : Bool) → AreKept f (flag_put f 2 b)
+kept_2 f b = let s = small b in record { interrupt = omega (arith, s); level = omega (arith, s); set = put_set f 2 b (omega arith) refl refl (omega arith) }
+
+kept_4 : (f : Flags) (b : Bool) → AreKept f (flag_put f 4 b)
+kept_4 f b = let s = small b in record { interrupt = omega (arith, s); level = omega (arith, s); set = put_set f 4 b (omega arith) refl refl (omega arith) }
+
+kept_6 : (f : Flags) (b : Bool) → AreKept f (flag_put f 6 b)
+kept_6 f b = let s = small b in record { interrupt = omega (arith, s); level = omega (arith, s); set = put_set f 6 b (omega arith) refl refl (omega arith) }
+
+kept_7 : (f : Flags) (b : Bool) → AreKept f (flag_put f 7 b)
+kept_7 f b = let s = small b in record { interrupt = omega (arith, s); level = omega (arith, s); set = put_set f 7 b (omega arith) refl refl (omega arith) }
+
+kept_10 : (f : Flags) (b : Bool) → AreKept f (flag_put f 10 b)
+kept_10 f b = let s = small b in record { interrupt = omega (arith, s); level = omega (arith, s); set = put_set f 10 b (omega arith) refl refl (omega arith) }
+
+kept_11 : (f : Flags) (b : Bool) → AreKept f (flag_put f 11 b)
+kept_11 f b = let s = small b in record { interrupt = omega (arith, s); level = omega (arith, s); set = put_set f 11 b (omega arith) refl refl (omega arith) }
+
+change_kept : (f : Flags) (at : ℕ) (b : Option Bool) → ((v : Bool) → AreKept f (flag_put f at v)) → AreKept f (changed f at b)
+unfolding changed
+change_kept f at None h = kept_same f
+change_kept f at (Some v) h = h v
+
+settled_kept : (s : Status) (f : Flags) → AreKept f (settled s f)
+unfolding settled
+settled_kept s f =
+    let c = changed f carry_at s.carry in
+    let p = changed c parity_at s.parity in
+    let a = changed p adjust_at s.adjust in
+    let z = changed a zero_at s.zero in
+    let n = changed z sign_at s.sign in
+    kept_on f c _ (change_kept f carry_at s.carry (kept_0 f))
+    (kept_on c p _ (change_kept c parity_at s.parity (kept_2 c))
+    (kept_on p a _ (change_kept p adjust_at s.adjust (kept_4 p))
+    (kept_on a z _ (change_kept a zero_at s.zero (kept_6 a))
+    (kept_on z n _ (change_kept z sign_at s.sign (kept_7 z))
+    (change_kept n overflow_at s.overflow (kept_11 n))))))
+
+pub taken_kept : (f : Flags) (v : ℕ) → AreKept f (taken f v)
+unfolding taken
+taken_kept f v =
+    kept_on f _ _ (kept_0 f _) (kept_on _ _ _ (kept_2 _ _) (kept_on _ _ _ (kept_4 _ _) (kept_on _ _ _ (kept_6 _ _) (kept_on _ _ _ (kept_7 _ _) (kept_on _ _ _ (kept_10 _ _) (kept_11 _ _))))))
+
+alu_kept : (o : Op) (s : Size) (a b : ℕ) (f : Flags) → AreKept f (alu o s a b f).1
+unfolding alu
+alu_kept o s a b f = settled_kept _ f
+
+shift_kept : (o : Op) (s : Size) (a b : ℕ) (f : Flags) → AreKept f (shift o s a b f).1
+unfolding shift
+shift_kept o s a b f = settled_kept _ f
+
+multiply_kept : (sign : Bool) (s : Size) (a b : ℕ) (f : Flags) → AreKept f (multiply sign s a b f).1
+unfolding multiply
+multiply_kept sign s a b f = settled_kept _ f
+
+-- ---- registers
+
+-- the same flags
+pub record IsApart (r n : Regs) : Type 0 where
+  pub flags : n.flags ≡ r.flags
+
+apart_same : (r : Regs) → IsApart r r
+apart_same r = record { flags = refl }
+
+apart_choice : (c : Bool) (r x y : Regs) → IsApart r x → IsApart r y → IsApart r (cond c x y)
+apart_choice true r x y h k = h
+apart_choice false r x y h k = k
+
+apart_on : (r n p : Regs) → IsApart r n → IsApart n p → IsApart r p
+apart_on r n p h k = record { flags = k.flags ∙ h.flags }
+
+pub apart_register : (s : Size) (n v : ℕ) (r : Regs) → IsApart r (with_register s n v r)
+unfolding with_register
+apart_register Byte n v r = apart_choice (nat_lt n 4) r _ _ (record { flags = refl }) (record { flags = refl })
+apart_register Word n v r = record { flags = refl }
+apart_register Long n v r = record { flags = refl }
+
+apart_stored : (o : Operand) (s : Size) (v : ℕ) (r : Regs) → IsApart r (stored o s v r).0
+apart_stored Absent s v r = apart_same r
+apart_stored (Register n) s v r = apart_register s n v r
+apart_stored (Memory a) s v r = apart_same r
+apart_stored (Segment g) s v r = apart_same r
+apart_stored (Control n) s v r = apart_same r
+
+apart_kept : (o : Operand) (s : Size) (v : ℕ) (r : Regs) → IsApart r (kept_in o s v r)
+apart_kept Absent s v r = apart_same r
+apart_kept (Register n) s v r = apart_register s n v r
+apart_kept (Memory a) s v r = apart_same r
+apart_kept (Segment g) s v r = apart_same r
+apart_kept (Control n) s v r = apart_same r
+
+apart_halves : (s : Size) (below above : ℕ) (r : Regs) → IsApart r (with_halves s below above r)
+apart_halves s below above r = apart_on r (with_register s 0 below r) _ (apart_register s 0 below r) (apart_register s (upper s) above (with_register s 0 below r))
+
+-- ---- what is left
+
+abbrev pub Leaves : Regs → Outcome → Type 0
+Leaves r (Done n stores) = AreKept r.flags n.flags
+Leaves r (Raise vector code) = Unit {0}
+Leaves r (Stop stop) = Unit {0}
+
+module _ (i : Insn) (len : ℕ) (r : Regs) where
+  -- past it, with registers
+  next_with : (f : Flags) (n : Regs) → AreKept r.flags f → IsApart (passed len (record r { flags = f })) n → AreKept r.flags n.flags
+  next_with f n k a = subst (AreKept r.flags) (sym a.flags) k
+
+  next : (n : Regs) → IsApart (passed len r) n → AreKept r.flags n.flags
+  next n a = next_with r.flags n (kept_same r.flags) a
+
+  of_arithmetic : (b : ℕ → ℕ) → Leaves r (arithmetic i len r b)
+  unfolding arithmetic
+  of_arithmetic b = next_with (computed i r b).1 _ (alu_kept i.op i.size _ _ r.flags) (apart_stored i.a i.size (computed i r b).0 (flagged len (computed i r b).1 r))
+
+  of_tested : (b : ℕ → ℕ) → Leaves r (tested i len r b)
+  unfolding tested
+  of_tested b = next_with (computed i r b).1 _ (alu_kept i.op i.size _ _ r.flags) (apart_same _)
+
+  of_shifted : (b : ℕ → ℕ) → Leaves r (shifted i len r b)
+  unfolding shifted
+  of_shifted b =
+      let o = shift i.op i.size (value_of i.a i.size r b) (count_of i.b i.imm r) r.flags in
+      next_with o.1 _ (shift_kept i.op i.size _ _ r.flags) (apart_stored i.a i.size o.0 (flagged len o.1 r))
+
+  of_multiplied : (sign : Bool) (b : ℕ → ℕ) → Leaves r (multiplied sign i len r b)
+  unfolding multiplied
+  of_multiplied sign b =
+      let p = multiply sign i.size (register i.size 0 r) (value_of i.a i.size r b) r.flags in
+      next_with p.1 _ (multiply_kept sign i.size _ _ r.flags) (apart_halves i.size (p.0 % span i.size) (p.0 / span i.size) (flagged len p.1 r))
+
+  of_product : (x y : ℕ) → Leaves r (product_to i x y len r)
+  unfolding product_to
+  of_product x y =
+      let p = multiply true i.size x y r.flags in
+      next_with p.1 _ (multiply_kept true i.size x y r.flags) (apart_kept i.a i.size (p.0 % span i.size) (flagged len p.1 r))
+
+  of_signed : (o : Operand) (b : ℕ → ℕ) → Leaves r (signed_by o i len r b)
+  of_signed Absent b = of_multiplied true b
+  of_signed (Register n) b = of_product _ _
+  of_signed (Memory a) b = of_product _ _
+  of_signed (Segment g) b = of_product _ _
+  of_signed (Control n) b = of_product _ _
+
+  of_shared : (s : Size) (q : Option (ℕ × ℕ)) → Leaves r (shared s q (passed len r))
+  of_shared s None = tt
+  of_shared s (Some q) = next _ (apart_halves s q.0 q.1 (passed len r))
+
+  of_divided : (sign : Bool) (b : ℕ → ℕ) → Leaves r (divided sign i len r b)
+  unfolding divided
+  of_divided sign b = of_shared i.size _
+
+  of_stored : (o : Operand) (s : Size) (v : ℕ) (n : Regs) → IsApart (passed len r) n → Leaves r (done (stored o s v n))
+  of_stored o s v n a = next _ (apart_on (passed len r) n _ a (apart_stored o s v n))
+
+  of_kept : (o : Operand) (s : Size) (v : ℕ) (n : Regs) (ws : Stores) → IsApart (passed len r) n → Leaves r (Done (kept_in o s v n) ws)
+  of_kept o s v n ws a = next _ (apart_on (passed len r) n _ a (apart_kept o s v n))
+
+  of_flag : (at : ℕ) (b : Bool) → ((v : Bool) → AreKept r.flags (flag_put r.flags at v)) → Leaves r (flag_made at b len r)
+  unfolding flag_made
+  of_flag at b k = next_with (flag_put r.flags at b) _ (k b) (apart_same _)
+
+  of_branch : (c : Bool) (ws : Stores) → Leaves r (Done (cond c (jumped i len r) (passed len r)) ws)
+  of_branch true ws = kept_same r.flags
+  of_branch false ws = kept_same r.flags
+
+  of_flags : (c : Bool) (v : ℕ) → Leaves r (cond c (Stop FlagBits) (Done (passed len (with_whole 4 (raised 4 r) (record r { flags = taken r.flags v }))) Nothing))
+  of_flags true v = tt
+  of_flags false v = taken_kept r.flags v
+
+  -- one turn
+  of_counted : (rep : Bool) (n : Regs) (ws : Stores) → IsApart r n → Leaves r (Done (counted rep (slice_index r.r 1) len n) ws)
+  of_counted false n ws a = subst (AreKept r.flags) (sym a.flags) (kept_same r.flags)
+  of_counted true n ws a = choice (Rattle.std.proofs.Common.eqb (slice_index r.r 1) 1)
+    where
+      choice : (c : Bool) → Leaves r (Done (cond c (passed len (with_whole 1 (slice_index r.r 1 - 1) n)) (with_whole 1 (slice_index r.r 1 - 1) n)) ws)
+      choice true = subst (AreKept r.flags) (sym a.flags) (kept_same r.flags)
+      choice false = subst (AreKept r.flags) (sym a.flags) (kept_same r.flags)
+
+  of_over : (c : Bool) (n : Regs) (ws vs : Stores) → Leaves r (Done n ws) → Leaves r (cond c (Done (passed len r) vs) (Done n ws))
+  of_over true n ws vs h = next _ (apart_same _)
+  of_over false n ws vs h = h
+
+  turned_lods : (v : ℕ) → IsApart r (moved_on 6 i.size (with_register i.size 0 v r))
+  turned_lods v = apart_on r (with_register i.size 0 v r) _ (apart_register i.size 0 v r) (record { flags = refl })
+
+  row_leaves : (o : Op) (b : ℕ → ℕ) → Leaves r (row o i len r b)
+  unfolding signed_multiplied multiplied_by moved zero_extended sign_extended loaded_address exchanged pushed pushed_number popped all_pushed all_popped widened sign_spread left set_by jump branched called flags_pushed flags_popped string
+  row_leaves Add b = of_arithmetic b
+  row_leaves Or b = of_arithmetic b
+  row_leaves Adc b = of_arithmetic b
+  row_leaves Sbb b = of_arithmetic b
+  row_leaves And b = of_arithmetic b
+  row_leaves Sub b = of_arithmetic b
+  row_leaves Xor b = of_arithmetic b
+  row_leaves Not b = of_arithmetic b
+  row_leaves Neg b = of_arithmetic b
+  row_leaves Inc b = of_arithmetic b
+  row_leaves Dec b = of_arithmetic b
+  row_leaves Cmp b = of_tested b
+  row_leaves Test b = of_tested b
+  row_leaves Rol b = of_shifted b
+  row_leaves Ror b = of_shifted b
+  row_leaves Shl b = of_shifted b
+  row_leaves Shr b = of_shifted b
+  row_leaves Sar b = of_shifted b
+  row_leaves Mul b = of_multiplied false b
+  row_leaves Imul b = of_signed i.b b
+  row_leaves ImulBy b = of_product _ _
+  row_leaves Div b = of_divided false b
+  row_leaves Idiv b = of_divided true b
+  row_leaves Mov b = of_stored i.a i.size _ (passed len r) (apart_same _)
+  row_leaves Movzx b = of_kept i.a Long _ (passed len r) Nothing (apart_same _)
+  row_leaves Movsx b = of_kept i.a Long _ (passed len r) Nothing (apart_same _)
+  row_leaves Lea b = of_kept i.a Long _ (passed len r) Nothing (apart_same _)
+  row_leaves Xchg b = of_kept i.b i.size _ _ Nothing (apart_stored i.a i.size _ (passed len r))
+  row_leaves Push b = kept_same r.flags
+  row_leaves Pop b = of_stored i.a Long _ _ (record { flags = refl })
+  row_leaves Pusha b = kept_same r.flags
+  row_leaves Popa b = kept_same r.flags
+  row_leaves Cwde b = next _ (apart_register Long 0 _ (passed len r))
+  row_leaves Cdq b = next _ (apart_register Long 2 _ (passed len r))
+  row_leaves Leave b = kept_same r.flags
+  row_leaves Nop b = next _ (apart_same _)
+  row_leaves Setcc b = of_stored i.a Byte _ (passed len r) (apart_same _)
+  row_leaves Movs b = of_over (is_over i r) _ (turn Movs i.size r b).1 Nothing (of_counted i.rep _ (turn Movs i.size r b).1 (record { flags = refl }))
+  row_leaves Stos b = of_over (is_over i r) _ (turn Stos i.size r b).1 Nothing (of_counted i.rep _ (turn Stos i.size r b).1 (record { flags = refl }))
+  row_leaves Lods b = of_over (is_over i r) _ Nothing Nothing (of_counted i.rep _ Nothing (turned_lods _))
+  row_leaves Clc b = of_flag carry_at false (kept_0 r.flags)
+  row_leaves Stc b = of_flag carry_at true (kept_0 r.flags)
+  row_leaves Cld b = of_flag direction_at false (kept_10 r.flags)
+  row_leaves Std b = of_flag direction_at true (kept_10 r.flags)
+  row_leaves PushFlags b = kept_same r.flags
+  row_leaves PopFlags b = of_flags (is_foreign (top_of_stack r b)) (top_of_stack r b)
+  row_leaves Jcc b = of_branch (condition i.sel r.flags) Nothing
+  row_leaves Jmp b = kept_same r.flags
+  row_leaves Call b = kept_same r.flags
+  row_leaves Ud2 b = tt
+  row_leaves o b = tt
+
+  pub effect_leaves : (b : ℕ → ℕ) → Leaves r (effect i len r b)
+  unfolding effect
+  effect_leaves b = row_leaves i.op b

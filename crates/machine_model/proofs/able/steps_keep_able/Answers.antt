@@ -1,0 +1,5 @@
+use Rattle.machine_model.proofs.AbleSteps.{each_keeps}
+use Rattle.machine_model.proofs.able.steps_keep_able.Goals as goal
+
+pub returns : goal.returns
+returns c = each_keeps

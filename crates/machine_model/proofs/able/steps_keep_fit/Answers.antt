@@ -1,0 +1,5 @@
+use Rattle.machine_model.proofs.FitSteps.{each_keeps_fit}
+use Rattle.machine_model.proofs.able.steps_keep_fit.Goals as goal
+
+pub returns : goal.returns
+returns c = each_keeps_fit

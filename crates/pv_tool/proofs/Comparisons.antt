@@ -1,0 +1,106 @@
+-- What `work` promises, where it is done.
+use Rattle.std.proofs.Common.{◌≡◌, ◌≢◌, ℕ, ◌≤◌, false, List, Option, Some, Result, Ok, Err, refl, sym, ap, subst, ◌∙◌, arith}
+use Rattle.pv_io.specs.Causes.{Rose}
+use Rattle.pv_io.specs.Sink.{Appends}
+use Rattle.kernel_gen.specs.Kernels.{kernel_text}
+use Rattle.image_check.specs.Image.{Image}
+use Rattle.image_load.specs.Boot.{need}
+use Rattle.machine_model.specs.State.{boot}
+use Rattle.machine_model.specs.Agreement.{RunsAgree}
+use Rattle.pv_tool.specs.Words.{Command, Work}
+use Rattle.pv_tool.specs.Outside.{Outside}
+use Rattle.pv_tool.specs.Outcome.{Outcome}
+use Rattle.pv_tool.specs.Running.{Ran, Small}
+use Rattle.pv_tool.specs.Working.{Builds, RunsTwice, WorksOn, Works, first_text, second_setting}
+use Rattle.pv_tool.specs.Comparison.{IsComparison, HasComparison}
+use Rattle.pv_tool.specs.Meaning.{Means, ComesTo, NoStore, NoPut, reads_files}
+use Rattle.pv_tool.specs.declared.status.Status.{Status}
+use Rattle.pv_tool.specs.declared.status.Status.TheVariants as status
+use Rattle.pv_tool.proofs.LineTexts.{same_exactly}
+use Rattle.pv_tool.proofs.WorkMeanings.{builds_once, works_none, works_once}
+
+-- both lines of two runs were printed
+is_comparison : RunsAgree → (number : ℕ) (program : Image) (o : Outside) (st : Status) (w : Outcome) → RunsTwice number program w → ComesTo w o st → IsComparison number program o
+is_comparison agree number program o st w run came =
+    let here = subst (λ (v : Outcome). ComesTo v o st) run.comes came in
+    record {
+      second = run.second;
+      count = run.last.step;
+      end = run.end;
+      fills = run.fills;
+      told = run.told;
+      same = same_exactly (first_text program) run.second run.told run.compares;
+      compares = run.compares;
+      printed = here.2;
+      promise = record {
+        sets = run.sets;
+        reports = run.reports;
+        last = run.last;
+        run = run.run;
+        count_is = refl;
+        text_is = run.second_is;
+        counts = here.3.0;
+        memory_is = here.3.1;
+      };
+      bare_run = agree (second_setting program) 100000 (boot (second_setting program)) run.sets run.reports run.last run.end run.run;
+    }
+
+not_done : status.Refused ≡ status.Done → ⊥
+not_done is = cc
+
+-- what is done has run an image
+done_on : (number : ℕ) (made : Result Image (List ℕ)) (w : Outcome) → WorksOn number made w → w.status ≡ status.Done → (program : Image) × (made ≡ Ok program) × RunsTwice number program w
+done_on number (Ok image) w (Ran fits run) is = (image, refl, run)
+done_on number (Ok image) w (Small lt one) is = absurd (not_done (sym (ap (λ (v : Outcome). v.status) one) ∙ is))
+done_on number (Err line) w one is = absurd (not_done (sym (ap (λ (v : Outcome). v.status) one) ∙ is))
+
+of_done : RunsAgree → (number : ℕ) (o : Outside) → Means (Work number) o status.Done → HasComparison number o
+of_done agree number o (w, works, is, stored, appends, does) =
+    let d = done_on number works.made w works.comes is in
+    record {
+      program = d.0;
+      builds = subst (λ (m : Result Image (List ℕ)). Builds (kernel_text number) m) d.1 works.builds;
+      comparison = is_comparison agree number d.0 o status.Done w d.2 (sym is, stored, appends, does);
+    }
+
+pub has_comparison : RunsAgree → (number : ℕ) (o : Outside) (st : Status) → st ≡ status.Done → Means (Work number) o st → HasComparison number o
+has_comparison agree number o st done h = of_done agree number o (subst (λ (s : Status). Means (Work number) o s) done h)
+
+-- where no put failed and memory was found, the work's outcome was told
+came_to_work : (number : ℕ) (o : Outside) (st : Status) → (Rose o.puts o.puts_after → ⊥) → st ≢ status.Memory → st ≢ status.ReadFault → Means (Work number) o st → (w : Outcome) × Works number w × ComesTo w o st
+came_to_work number o status.Done none found read h = (h.0, h.1, (sym h.2, h.3, h.4, h.5))
+came_to_work number o status.Stopped none found read h = (h.0, h.1, (sym h.2, h.3, h.4, h.5))
+came_to_work number o status.Refused none found read h = (h.0, h.1, (sym h.2, h.3, h.4, h.5))
+came_to_work number o status.ReadFault none found read h = absurd (read refl)
+came_to_work number o status.WriteFault none found read (v, gives, NoStore name bytes is changes rose unsure same) =
+    let stored = works_none number v gives in
+    cc (stored, is)
+came_to_work number o status.WriteFault none found read (v, gives, NoPut stored front rose) = absurd (none rose)
+came_to_work number o status.Memory none found read h = absurd (found refl)
+came_to_work number o status.Words none found read h = absurd h
+
+ran_twice : (number : ℕ) (program : Image) (w : Outcome) → need program ≤ 4096 → WorksOn number (Ok program) w → RunsTwice number program w
+ran_twice number program w le (Ran fits run) = run
+ran_twice number program w le (Small lt is) = absurd (omega (arith, le, lt))
+
+-- a kernel that is built into an image, for which there are frames, is run twice
+pub work_completes : RunsAgree → (number : ℕ) (program : Image) (o : Outside) (st : Status) → Builds (kernel_text number) (Ok program) → need program ≤ 4096
+    → (Rose o.puts o.puts_after → ⊥) → st ≢ status.Memory → st ≢ status.ReadFault → Means (Work number) o st → (st ≡ status.Done) × IsComparison number program o
+work_completes agree number program o st builds le none found read h =
+    let c = came_to_work number o st none found read h in
+    let made = builds_once (kernel_text number) (Ok program) c.1.made builds c.1.builds in
+    let run = ran_twice number program c.0 le (subst (λ (m : Result Image (List ℕ)). WorksOn number m c.0) made c.1.comes) in
+    (c.2.0 ∙ ap (λ (v : Outcome). v.status) run.comes, is_comparison agree number program o st c.0 run c.2)
+
+-- a refusal of the kernel is told
+pub work_refuses : (number : ℕ) (w : Outcome) (o : Outside) (st : Status) → Works number w → w.status ≡ status.Refused
+    → (Rose o.puts o.puts_after → ⊥) → st ≢ status.Memory → st ≢ status.ReadFault → Means (Work number) o st → (st ≡ status.Refused) × Appends o.taken o.taken_after w.text
+work_refuses number w o st works is none found read h =
+    let c = came_to_work number o st none found read h in
+    let here = subst (λ (v : Outcome). ComesTo v o st) (works_once number w c.0 is works c.1) c.2 in
+    (here.0 ∙ is, here.2)
+
+-- `work` answers no read fault, where it is what the words ask for
+pub no_load : (a : Command) (form : Option Command) (same : Type 0) (st : Status) → Some a ≡ form → (reads_files (Some a) ≡ false → same × (st ≢ status.ReadFault))
+    → (number : ℕ) → form ≡ Some (Work number) → st ≢ status.ReadFault
+no_load a form same st is h number be = (h (ap reads_files (is ∙ be))).1

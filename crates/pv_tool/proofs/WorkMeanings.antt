@@ -1,0 +1,169 @@
+-- The meaning of `work`.
+use Rattle.std.proofs.Common.{◌≡◌, ◌≢◌, inl, inr, ℕ, List, [], ◌∷◌, ◌++◌, Option, None, Result, Ok, Err, IfOk, IfErr, refl, sym, ap, subst, ◌∙◌, arith}
+use Rattle.kernel_gen.specs.Kernels.{kernel_text}
+use Rattle.asm_lex.specs.declared.fault.SourceCause.{SourceCause}
+use Rattle.asm_parse.specs.declared.tree.SourceItem.{SourceItem}
+use Rattle.asm_parse.specs.Running.{SourceAs}
+use Rattle.elf_form.specs.ObjectParts.{ObjectParts}
+use Rattle.elf_form.specs.ImageParts.{ImageParts}
+use Rattle.elf_form.specs.ImageLayout.{image_bytes}
+use Rattle.afterburner.specs.Burnt.{burnt}
+use Rattle.elf_link.specs.Linked.{linked_image}
+use Rattle.image_check.specs.Image.{Image}
+use Rattle.image_check.specs.Checking.{image_of}
+use Rattle.wedge_core.specs.Slices.{Counts}
+use Rattle.pv_tool.specs.Words.{Work}
+use Rattle.pv_tool.specs.Texts.{Compares}
+use Rattle.pv_tool.specs.Outside.{Outside}
+use Rattle.pv_tool.specs.Outcome.{Outcome, HostedRun, refused, compared}
+use Rattle.pv_tool.specs.Delivery.{RefusesAs, Says, Whole, Cut, Ends}
+use Rattle.pv_tool.specs.Burning.{IsNoSource, source_line}
+use Rattle.pv_tool.specs.Running.{Ran, Small}
+use Rattle.pv_tool.specs.Working.{Builds, Answers, object_made, image_made, image_accepted, built, built_of, ◌>>=◌, second_setting, told_line, HasTexts, IsTooLarge, TellsBoth, RunsTwice, WorksOn, Works, WorkedAs}
+use Rattle.pv_tool.specs.Meaning.{Means, IsStored}
+use Rattle.pv_tool.specs.declared.halt.Halt.{Halt}
+use Rattle.pv_tool.specs.declared.halt.Halt.TheVariants as halt
+use Rattle.pv_tool.specs.declared.status.Status.{Status}
+use Rattle.pv_tool.specs.declared.status.Status.TheVariants as status
+use Rattle.pv_tool.proofs.Deliveries.{IsEnd, says}
+use Rattle.pv_tool.proofs.BurnMeanings.{said_once}
+use Rattle.pv_tool.proofs.RunMeanings.{text_at}
+
+-- ---- what a kernel is built into
+
+-- a part refuses what its definition refuses
+pub refused_by : {X : Type 0} (h : Halt) (wanted : Result X (List ℕ)) (told : List ℕ → Type 0) → ((line : List ℕ) → wanted ≡ Err line → told line)
+    → Answers {X = X} (Err h) wanted → RefusesAs told h
+refused_by (halt.Refused line) wanted told to is = to line is
+refused_by halt.ReadFault wanted told to is = absurd is
+refused_by halt.Memory wanted told to is = tt
+
+pub answers_ok : {X : Type 0} (r : Result X Halt) (wanted : Result X (List ℕ)) (P : X → Type 0) → ((x : X) → wanted ≡ Ok x → P x) → Answers r wanted → IfOk r P
+answers_ok (Ok x) wanted P to is = to x is
+answers_ok (Err h) wanted P to is = tt
+
+pub answers_err : {X : Type 0} (r : Result X Halt) (wanted : Result X (List ℕ)) (told : List ℕ → Type 0) → ((line : List ℕ) → wanted ≡ Err line → told line) → Answers r wanted → IfErr r (RefusesAs told)
+answers_err (Ok x) wanted told to is = tt
+answers_err {X} (Err h) wanted told to is = refused_by {X = X} h wanted told to is
+
+abbrev linked_alone : ObjectParts → Result ImageParts (List ℕ)
+linked_alone o = image_made (linked_image (o ∷ []))
+
+abbrev accepted_file : ImageParts → Result Image (List ℕ)
+accepted_file p = image_accepted (image_of (image_bytes p))
+
+pub no_text : (text kernel line : List ℕ) → text ≡ kernel → (at : ℕ) × (cause : SourceCause) × IsNoSource text (at, cause) × (line ≡ source_line at cause) → Builds kernel (Err line)
+no_text text kernel line same h =
+    record { said = Err (h.0, h.1); says = subst (λ (t : List ℕ). IsNoSource t (h.0, h.1)) same h.2; comes = ap (λ (l : List ℕ). Err l) h.3 }
+
+of_items : (text kernel : List ℕ) (items : List SourceItem) (r : Result Image (List ℕ)) → text ≡ kernel → SourceAs text items → r ≡ built items → Builds kernel r
+of_items text kernel items r same source is = record { said = Ok items; says = subst (λ (t : List ℕ). SourceAs t items) same source; comes = is }
+
+pub no_object : (text kernel line : List ℕ) (items : List SourceItem) → text ≡ kernel → SourceAs text items → object_made (burnt items) ≡ Err line → Builds kernel (Err line)
+no_object text kernel line items same source is =
+    of_items text kernel items (Err line) same source (sym (ap (λ (r : Result ObjectParts (List ℕ)). (r >>= linked_alone) >>= accepted_file) is))
+
+pub from_object : (text kernel : List ℕ) (items : List SourceItem) (o : ObjectParts) (r : Result ImageParts (List ℕ)) → text ≡ kernel → SourceAs text items → object_made (burnt items) ≡ Ok o
+    → image_made (linked_image (o ∷ [])) ≡ r → Builds kernel (r >>= accepted_file)
+from_object text kernel items o r same source made is =
+    of_items text kernel items (r >>= accepted_file) same source
+    (sym (ap (λ (m : Result ObjectParts (List ℕ)). (m >>= linked_alone) >>= accepted_file) made ∙ ap (λ (m : Result ImageParts (List ℕ)). m >>= accepted_file) is))
+
+pub from_image : (text kernel : List ℕ) (items : List SourceItem) (o : ObjectParts) (p : ImageParts) (r : Result Image (List ℕ)) → text ≡ kernel → SourceAs text items
+    → object_made (burnt items) ≡ Ok o → image_made (linked_image (o ∷ [])) ≡ Ok p → image_accepted (image_of (image_bytes p)) ≡ r → Builds kernel r
+from_image text kernel items o p r same source made linked is =
+    subst (λ (x : Result Image (List ℕ)). Builds kernel x) is (from_object text kernel items o (Ok p) same source made linked)
+
+pub builds_once : (text : List ℕ) (r s : Result Image (List ℕ)) → Builds text r → Builds text s → s ≡ r
+builds_once text r s h k = k.comes ∙ (ap built_of (said_once text k.said h.said k.says h.says) ∙ sym h.comes)
+
+-- ---- what is told
+
+-- work that has ended with a refusal, or without memory
+pub work_ends : (number : ℕ) (told : List ℕ → Type 0) (h : Halt) (old new : Option (List ℕ)) (before now : ℕ) (c c2 : Counts) (memory : List ℕ) (st : Status) → RefusesAs told h
+    → ((line : List ℕ) → told line → Works number (refused line) × (c2 ≡ c)) → Ends h old new before now st → WorkedAs number old new before now c c2 memory st
+work_ends number told (halt.Refused line) old new before now c c2 memory st is to ends =
+    let both = to line is in
+    inl (refused line, both.0, ends, λ end. both.1)
+work_ends number told halt.ReadFault old new before now c c2 memory st is to ends = absurd is
+work_ends number told halt.Memory old new before now c c2 memory st is to ends = inr (ends.0, ends.1)
+
+pub refuses_kernel : (number : ℕ) (line : List ℕ) → Builds (kernel_text number) (Err line) → Works number (refused line)
+refuses_kernel number line h = record { made = Err line; builds = h; comes = refl }
+
+pub too_large : (number : ℕ) (image : Image) (c c2 : Counts) (line : List ℕ) → Builds (kernel_text number) (Ok image) → IsTooLarge image c c2 line → Works number (refused line) × (c2 ≡ c)
+too_large number image c c2 line h large = (record { made = Ok image; builds = h; comes = Small large.0 (ap refused large.1) }, large.2)
+
+-- both runs were told
+pub work_tells : (number : ℕ) (image : Image) (first second : List ℕ) (fills : ℕ) (old new : Option (List ℕ)) (before now : ℕ) (c c2 : Counts) (memory : List ℕ) (st : Status)
+    → Builds (kernel_text number) (Ok image) → HasTexts image first second c c2 memory → TellsBoth (told_line number image second fills) first second old new before now st
+    → WorkedAs number old new before now c c2 memory st
+work_tells number image first second fills old new before now c c2 memory st h t (inl (told, compares, said)) =
+    let p = t.promise in
+    let run : HostedRun = record { setting = second_setting image; reports = p.reports; last = p.last; end = t.end } in
+    let twice : RunsTwice number image (compared run (told_line number image second fills ++ told)) = record {
+      sets = p.sets;
+      reports = p.reports;
+      last = p.last;
+      end = t.end;
+      run = p.run;
+      second = second;
+      second_is = text_at p.reports second t.count p.last.step t.end p.text_is p.count_is;
+      fills = fills;
+      told = told;
+      compares = subst (λ (f : List ℕ). Compares f second told) t.first_is compares;
+      comes = refl;
+    } in
+    inl (compared run (told_line number image second fills ++ told), record { made = Ok image; builds = h; comes = Ran t.fits twice }, said, λ end. (p.counts, p.memory_is))
+work_tells number image first second fills old new before now c c2 memory st h t (inr none) = inr none
+
+-- ---- what the outcomes are
+
+on_end : (number : ℕ) (made : Result Image (List ℕ)) (w : Outcome) → WorksOn number made w → IsEnd w.status
+on_end number (Ok image) w (Ran fits run) = subst (λ (v : Outcome). IsEnd v.status) (sym run.comes) tt
+on_end number (Ok image) w (Small lt is) = subst (λ (v : Outcome). IsEnd v.status) (sym is) tt
+on_end number (Err line) w is = subst (λ (v : Outcome). IsEnd v.status) (sym is) tt
+
+works_end : (number : ℕ) (w : Outcome) → Works number w → IsEnd w.status
+works_end number w h = on_end number h.made w h.comes
+
+on_none : (number : ℕ) (made : Result Image (List ℕ)) (w : Outcome) → WorksOn number made w → w.stored ≡ None
+on_none number (Ok image) w (Ran fits run) = ap (λ (v : Outcome). v.stored) run.comes
+on_none number (Ok image) w (Small lt is) = ap (λ (v : Outcome). v.stored) is
+on_none number (Err line) w is = ap (λ (v : Outcome). v.stored) is
+
+-- `work` stores nothing
+pub works_none : (number : ℕ) (w : Outcome) → Works number w → w.stored ≡ None
+works_none number w h = on_none number h.made w h.comes
+
+not_refused : status.Done ≡ status.Refused → ⊥
+not_refused is = cc
+
+on_once : (number : ℕ) (made : Result Image (List ℕ)) (w v : Outcome) → w.status ≡ status.Refused → WorksOn number made w → WorksOn number made v → v ≡ w
+on_once number (Ok image) w v is (Small lt one) (Small le two) = two ∙ sym one
+on_once number (Ok image) w v is (Small lt one) (Ran fits run) = absurd (omega (arith, lt, fits))
+on_once number (Ok image) w v is (Ran fits run) other = absurd (not_refused (sym (ap (λ (u : Outcome). u.status) run.comes) ∙ is))
+on_once number (Err line) w v is one two = two ∙ sym one
+
+-- `work` that is refused comes to nothing else
+pub works_once : (number : ℕ) (w v : Outcome) → w.status ≡ status.Refused → Works number w → Works number v → v ≡ w
+works_once number w v is h k =
+    let same = builds_once (kernel_text number) h.made k.made h.builds k.builds in
+    on_once number h.made w v is h.comes (subst (λ (m : Result Image (List ℕ)). WorksOn number m v) same k.comes)
+
+-- ---- what the status means
+
+pub work_means : (number : ℕ) (o : Outside) (st : Status) → o.files_after ≡ o.files
+    → WorkedAs number o.taken o.taken_after o.puts o.puts_after o.completed o.completed_after o.memory_after st → Means (Work number) o st
+work_means number o st same (inl (w, h, said, does)) =
+    says (Work number) o w st (works_end number w h) h (subst (λ (x : Option (List ℕ × List ℕ)). IsStored x o.files o.files_after) (sym (works_none number w h)) same) does said
+work_means number o st same (inr (is, none)) = subst (λ (x : Status). Means (Work number) o x) (sym is) (same, none, tt)
+
+said_no_read : (w : Outcome) (old new : Option (List ℕ)) (before now : ℕ) (st : Status) → IsEnd w.status → Says w.text w.status old new before now st → st ≢ status.ReadFault
+said_no_read w old new before now st end (Whole is appends) = λ read. subst (λ (s : Status). IsEnd s) (sym is ∙ read) end
+said_no_read w old new before now st end (Cut is front rose) = λ read. cc (is, read)
+
+-- no load fails
+pub work_no_read : (number : ℕ) (old new : Option (List ℕ)) (before now : ℕ) (c c2 : Counts) (memory : List ℕ) (st : Status) → WorkedAs number old new before now c c2 memory st → st ≢ status.ReadFault
+work_no_read number old new before now c c2 memory st (inl (w, h, said, does)) = said_no_read w old new before now st (works_end number w h) said
+work_no_read number old new before now c c2 memory st (inr (is, none)) = λ read. cc (is, read)

@@ -1,0 +1,41 @@
+-- What `work` promises of its two runs.
+use Rattle.std.specs.Prelude.{◌≡◌, ◌↔◌, ℕ, List, [], ◌++◌, Ok}
+use Rattle.pv_io.specs.Sink.{Appends}
+use Rattle.kernel_gen.specs.Kernels.{kernel_text}
+use Rattle.image_check.specs.Image.{Image}
+use Rattle.run_trace.specs.declared.items.End.{End}
+use Rattle.machine_model.specs.State.{boot}
+use Rattle.machine_model.specs.Run.{Run}
+use Rattle.machine_model.specs.Agreement.{bound_on_bare, end_on_bare}
+use Rattle.bare_machine.specs.Machine.{bare}
+use Rattle.wedge_core.specs.Promises.{Promise}
+use Rattle.pv_tool.specs.Lines.{same_line}
+use Rattle.pv_tool.specs.Outside.{Outside}
+use Rattle.pv_tool.specs.Texts.{Compares}
+use Rattle.pv_tool.specs.Working.{Builds, first_text, second_setting, told_line}
+
+-- of an image that is made of this number
+pub record IsComparison (number : ℕ) (program : Image) (o : Outside) : Type 0 where
+  -- the second run's text, and how it ends
+  pub second : List ℕ
+  pub count : ℕ
+  pub end : End
+  -- how many entries its shadows were given
+  pub fills : ℕ
+  -- The second line is `same` exactly where the first run's text, which is a function of the image, is equal to the second's.
+  -- Else it tells the first line that differs or is missing.
+  pub told : List ℕ
+  pub same : (told ≡ same_line) ↔ (first_text program ≡ second)
+  pub compares : Compares (first_text program) second told
+  pub printed : Appends o.taken o.taken_after (told_line number program second fills ++ told)
+  -- The second text is that of one run from boot under the monitor's rules. The host completed its direct instructions, no
+  -- more and no fewer, and after all steps its first frames are this run's memory with the text patched.
+  pub promise : Promise (second_setting program) 100000 second count end o.completed o.completed_after o.memory_after
+  -- it is a run of the bare machine, up to a stop of the monitor's own
+  pub bare_run : Run (bare program [] 4096) (bound_on_bare 100000 promise.last end) (boot (bare program [] 4096)) promise.sets promise.reports promise.last (end_on_bare end)
+
+-- of the image that the number's kernel is built into
+pub record HasComparison (number : ℕ) (o : Outside) : Type 0 where
+  pub program : Image
+  pub builds : Builds (kernel_text number) (Ok program)
+  pub comparison : IsComparison number program o

@@ -1,0 +1,42 @@
+-- The headline: for every accepted image, every script, memory size and bound n, what `run --wedge` prints is the text of a
+-- trace, with step numbers, that the unpatched image can give on the bare machine; it ends after n steps, or at a named stop
+-- whose condition holds in the state which that run has reached.
+use Rattle.std.specs.Prelude.{◌≡◌, ℕ, List}
+use Rattle.pv_io.specs.Sink.{Appends}
+use Rattle.board.specs.Scripts.{Events}
+use Rattle.image_check.specs.Image.{Image}
+use Rattle.run_trace.specs.declared.items.End.{End}
+use Rattle.machine_model.specs.State.{boot, wedge}
+use Rattle.machine_model.specs.Run.{Run}
+use Rattle.machine_model.specs.Agreement.{bound_on_bare, end_on_bare}
+use Rattle.bare_machine.specs.Machine.{bare}
+use Rattle.wedge_core.specs.Promises.{Promise}
+use Rattle.pv_tool.specs.Outside.{Outside}
+use Rattle.pv_tool.specs.Outcome.{status_of}
+use Rattle.pv_tool.specs.Checking.{HasImage}
+use Rattle.pv_tool.specs.Running.{HasScript}
+use Rattle.pv_tool.specs.declared.status.Status.{Status}
+
+-- of this image, under these events
+pub record IsHeadline (program : Image) (events : Events) (frames n : ℕ) (o : Outside) (status : Status) : Type 0 where
+  -- what was printed, and how it ends: after n steps, or at a stop
+  pub text : List ℕ
+  pub count : ℕ
+  pub end : End
+  pub printed : Appends o.taken o.taken_after text
+  pub status_is : status ≡ status_of end
+  -- It is the text of one run from boot, step by step under the monitor's rules, which ends so. The host completed this
+  -- run's direct instructions, no more and no fewer, at their addresses in their order. After n steps the host's first
+  -- frames are this run's memory with the text patched.
+  pub promise : Promise (wedge program events frames) n text count end o.completed o.completed_after o.memory_after
+  -- It is a run of the bare machine, on the unpatched image, with the same translations before each step, the same items
+  -- and the same states. Where it ends at a stop of the monitor's own the bare machine's run is that up to there.
+  pub bare_run : Run (bare program events frames) (bound_on_bare n promise.last end) (boot (bare program events frames)) promise.sets promise.reports promise.last (end_on_bare end)
+
+-- of the image and the events that the files hold
+pub record HasHeadline (image script : List ℕ) (frames n : ℕ) (o : Outside) (status : Status) : Type 0 where
+  pub program : Image
+  pub events : Events
+  pub accepted : HasImage o.files image program
+  pub read : HasScript o.files script events
+  pub headline : IsHeadline program events frames n o status

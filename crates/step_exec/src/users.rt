@@ -1,0 +1,52 @@
+//! What an instruction that a user's code does by itself comes to.
+
+ghost use Rattle.std.specs.Prelude.{◌≡◌};
+ghost use Rattle.ia32_types.specs.Shape.{IsShaped};
+ghost use Rattle.ia32_exec.specs.Effect.{ranges_of};
+ghost use Rattle.ia32_exec.specs.UserEffect.{user_effect, IsUserDone};
+ghost use Rattle.step_mem.specs.Sound.{IsSound, space_at};
+ghost use Rattle.step_exec.specs.Divided.{byte_of};
+ghost use Rattle.step_exec.specs.Ready.{AreMade};
+ghost use Rattle.step_exec.specs.Users.{selectors_of};
+
+use crate::view::View;
+use descriptors::Cpu;
+use guest_ram::Ram;
+use ia32_exec::{Outcome, Selectors, ranges, user_effect};
+use ia32_types::Insn;
+use step_mem::{Kept, State};
+
+fn selectors_of(cpu: &Cpu) -> Selectors
+    ensures { result ≡ selectors_of cpu.now }
+{
+    Selectors {
+        es: cpu.seg[0].sel,
+        cs: cpu.seg[1].sel,
+        ss: cpu.seg[2].sel,
+        ds: cpu.seg[3].sel,
+    }
+}
+
+/// The effect of an instruction whose ranges are both translated, as at level 3 and IOPL 0. Nothing is written.
+pub fn user_outcome<B: Kept>(
+    insn: &Insn,
+    len: u8,
+    cpu: &Cpu,
+    ram: &Ram,
+    kept: &B,
+    state: &State,
+) -> Outcome
+    requires kind { IsUserDone insn.now.op }
+    requires shape { IsShaped insn.now }
+    requires sound { IsSound (B.entries kept.now) (B.floor kept.now) (B.stands kept.now) ram.now state.now }
+    requires made { AreMade (ranges_of insn.now cpu.now.regs) state.now }
+    ensures { result ≡ user_effect (selectors_of cpu.now) insn.now len cpu.now.regs (byte_of (ranges_of insn.now cpu.now.regs) (space_at (B.entries kept.now) ram.now state.now)) }
+{
+    let view = View {
+        ram,
+        kept,
+        state,
+        ranges: ranges(insn, &cpu.regs),
+    };
+    user_effect(&selectors_of(cpu), insn, len, &cpu.regs, &view)
+}

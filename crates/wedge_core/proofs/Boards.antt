@@ -1,0 +1,8 @@
+-- Steps of the board.
+use Rattle.std.proofs.Common.{◌≡◌, refl}
+use Rattle.board.specs.declared.devices.Board.{Board}
+use Rattle.board.specs.Boards.{board_step, board_steps}
+
+pub one_step : (board : Board) → board_steps 1 board ≡ board_step board
+unfolding board_steps
+one_step board = refl

@@ -1,0 +1,24 @@
+-- Where nothing is kept nothing clashes.
+use Rattle.std.proofs.Common.{◌≡◌, ℕ, List, [], ◌∷◌, Bool, true, false, ◌&&◌, ◌||◌, ◌==◌, Option, None, refl, ap, ◌∙◌}
+use Rattle.std.specs.List.{list_any}
+use Rattle.std.specs.FinMap.{get, empty, get-empty}
+use Rattle.std.specs.Ordering.{nat_cmp}
+use Rattle.paging.specs.declared.entry.Entry.{Entry}
+use Rattle.machine_model.specs.State.{Setting, State}
+use Rattle.machine_model.specs.Run.{Set}
+use Rattle.machine_model.specs.Clash.{Use, protects, uses_at, is_refused_by, clash_behind, instruction_clashes}
+
+and_false : (b : Bool) → (b && false) ≡ false
+and_false true = refl
+and_false false = refl
+
+none_clash : (entries : ℕ → Option Entry) (wp : Bool) → ((page : ℕ) → entries page ≡ None) → (used : List ℕ) (us : List Use) → clash_behind entries wp used us ≡ false
+none_clash entries wp none used [] = refl
+none_clash entries wp none used (u ∷ us) =
+    ap (λ (o : Option Entry). (list_any (λ (page : ℕ). page == u.page) used && is_refused_by o u.access wp) || clash_behind entries wp (u.page ∷ used) us) (none u.page)
+    ∙ ap (λ (b : Bool). b || clash_behind entries wp (u.page ∷ used) us) (and_false (list_any (λ (page : ℕ). page == u.page) used))
+    ∙ none_clash entries wp none (u.page ∷ used) us
+
+pub empty_clear : (m : Setting) (b : State) → b.set ≡ empty → instruction_clashes m b ≡ false
+unfolding instruction_clashes
+empty_clear m b e = none_clash (get b.set) (protects b) (λ page. ap (λ (s : Set). get s page) e ∙ get-empty nat_cmp page) [] (uses_at m b)

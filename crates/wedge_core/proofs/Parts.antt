@@ -1,0 +1,55 @@
+-- Some of a set of translations.
+use Rattle.std.proofs.Common.{◌≡◌, ℕ, None, refl, sym, ap, ◌∙◌, inl, inr}
+use Rattle.std.specs.FinMap.{get, empty, remove, get-empty}
+use Rattle.std.specs.Ordering.{nat_cmp}
+use Rattle.std.proofs.lemmas.Bool.Decides.{eqb_tells}
+use Rattle.step_mem.specs.Changes.{AreWithin}
+use Rattle.step_mem.proofs.Changed.{get_with_same, get_with_other}
+use Rattle.machine_step.specs.declared.worked.Dropped.{Dropped}
+use Rattle.machine_step.specs.declared.worked.Dropped.TheVariants as dropped
+use Rattle.machine_step.specs.Worked.{dropping}
+use Rattle.machine_model.specs.Run.{Set}
+use Rattle.machine_model.specs.State.{Setting, State, Loosened}
+use Rattle.wedge_core.specs.Parts.{IsPartOf}
+use Rattle.wedge_core.proofs.Bools.{none_some}
+
+pub part_same : (part whole : Set) → part ≡ whole → IsPartOf part whole
+part_same part whole is = record { each = λ page e h. ap (λ (set : Set). get set page) (sym is) ∙ h }
+
+pub part_empty : (part whole : Set) → part ≡ empty → IsPartOf part whole
+part_empty part whole is = record { each = λ page e h. absurd (none_some e (sym (get-empty nat_cmp page) ∙ (ap (λ (set : Set). get set page) (sym is) ∙ h))) }
+
+pub part_join : (a b c : Set) → IsPartOf a b → IsPartOf b c → IsPartOf a c
+part_join a b c p q = record { each = λ page e h. q.each page e (p.each page e h) }
+
+-- a part may be gone by
+pub part_allowed : (m : Setting) (b : State) (part : Set) → IsPartOf part b.set → Loosened m b part
+part_allowed m b part h = record { each = λ page e is. inl (h.each page e is) }
+
+-- and so behind what leaves
+pub part_dropped : (d : Dropped) (a b : Set) → IsPartOf a b → IsPartOf (dropping d a) (dropping d b)
+part_dropped dropped.Nothing a b p = p
+part_dropped (dropped.Page page) a b p = record {
+  each = λ q e is.
+      elim (eqb_tells q page) [
+        | inl t ↦ absurd (none_some e (sym (ap (λ k. get (remove a page) k) t.1 ∙ get_with_same a page None) ∙ is))
+        | inr n ↦ get_with_other b page None q n.1 ∙ p.each q e (sym (get_with_other a page None q n.1) ∙ is)
+      ];
+}
+part_dropped dropped.All a b p = part_same empty empty refl
+
+-- what is part of a set that lies within the frames lies there too
+pub part_within : (frames : ℕ) (part whole : Set) → IsPartOf part whole → AreWithin frames whole → AreWithin frames part
+part_within frames part whole p h = λ page e is. h page e (p.each page e is)
+
+-- what leaves leaves a part
+pub dropped_part : (d : Dropped) (set : Set) → IsPartOf (dropping d set) set
+dropped_part dropped.Nothing set = part_same set set refl
+dropped_part (dropped.Page page) set = record {
+  each = λ q e is.
+      elim (eqb_tells q page) [
+        | inl t ↦ absurd (none_some e (sym (ap (λ k. get (remove set page) k) t.1 ∙ get_with_same set page None) ∙ is))
+        | inr n ↦ sym (get_with_other set page None q n.1) ∙ is
+      ];
+}
+dropped_part dropped.All set = part_empty empty set refl

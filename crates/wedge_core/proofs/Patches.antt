@@ -1,0 +1,39 @@
+-- A guest's memory whose text was patched.
+use Rattle.std.proofs.Common.{◌≡◌, ℕ, ◌+◌, ◌*◌, ◌≤◌, List, [], ◌∷◌, length, take, drop, sym, ap, ◌∙◌, arith}
+use Rattle.std.proofs.lemmas.List.{places, same_lists, length-take-le}
+use Rattle.guest_ram.specs.Bytes.{part, with_part}
+use Rattle.guest_ram.proofs.Bytes.{with_part-with_part, with_part-part}
+use Rattle.sites.specs.declared.site.Site.{Site}
+use Rattle.sites.specs.Patched.{AreInside}
+use Rattle.machine_model.specs.State.{Setting}
+use Rattle.native_steps.specs.Stands.{shown}
+
+-- sites of a text that stands in a memory
+pub inside_moved : (len new at : ℕ) (sites : List Site) → at + len ≤ new → AreInside len 0 sites → AreInside new at sites
+inside_moved len new at [] le h = tt
+inside_moved len new at (s ∷ sites) le h = let fits = h.1 in (h.0, omega (arith, fits, le), inside_moved len new at sites le h.2)
+
+pub drop_behind : (m : List ℕ) (a : ℕ) (bs : List ℕ) (k : ℕ) → a + length bs ≤ k → a + length bs ≤ length m → drop k (with_part m a bs) ≡ drop k m
+unfolding with_part
+drop_behind m a bs k le fits = same_lists _ _ (grind (arith, places)) (λ j d i. grind (arith, places))
+
+take_with : (m : List ℕ) (a : ℕ) (bs : List ℕ) (k : ℕ) → a + length bs ≤ k → k ≤ length m → take k (with_part m a bs) ≡ with_part (take k m) a bs
+unfolding with_part
+take_with m a bs k le fits = same_lists _ _ (grind (arith, places)) (λ j d i. grind (arith, places))
+
+part_front : (l : List ℕ) (n a k : ℕ) → a + k ≤ n → part (take n l) a k ≡ part l a k
+unfolding part
+part_front l n a k h = same_lists _ _ (grind (arith, places)) (λ j d i. grind (arith, places))
+
+-- with the text laid over it, it is as it was
+pub unpatched : (m : Setting) (ram patches : List ℕ) → length patches ≡ length m.image.text → 0x100000 + length m.image.text ≤ 4096 * m.frames → 4096 * m.frames ≤ length ram
+    → part ram 0x100000 (length m.image.text) ≡ m.image.text → shown m (with_part ram 0x100000 patches) ≡ take (4096 * m.frames) ram
+unfolding shown
+unpatched m ram patches same room fits text =
+    let n = 4096 * m.frames in
+    let x = take n ram in
+    let long : length x ≡ n = length-take-le n ram fits in
+    let there : part x 0x100000 (length m.image.text) ≡ m.image.text = part_front ram n 0x100000 (length m.image.text) room ∙ text in
+    ap (λ (l : List ℕ). with_part l 0x100000 m.image.text) (take_with ram 0x100000 patches n (omega (arith, same, room)) fits)
+    ∙ (with_part-with_part x 0x100000 patches m.image.text (omega (arith, same, room, long)) same
+    ∙ (ap (with_part x 0x100000) (sym there) ∙ with_part-part x 0x100000 (length m.image.text) (omega (arith, room, long))))

@@ -1,0 +1,172 @@
+-- Steps in which a halted processor has nothing to do.
+use Rattle.std.proofs.Common.{◌≡◌, ℕ, zero, suc, ◌+◌, ◌-◌, ◌<◌, Bool, true, false, List, [], ◌∷◌, replicate, length, cond, Option, None, refl, sym, ap, subst, ◌∙◌, inl, arith}
+use Rattle.std.specs.Prelude.{◌&&◌, ◌||◌, ◌==◌, nat_lt, nat_le, not, if◌then◌else◌}
+use Rattle.std.proofs.lemmas.Bool.Decides.{nat_tests}
+use Rattle.pit8254.specs.Timers.{edge_comes, edge_within, timer_step}
+use Rattle.board.specs.declared.devices.Board.{Board}
+use Rattle.board.specs.Scripts.{Events}
+use Rattle.board.specs.Boards.{edged, given, board_step, board_steps, event_within, comes_within, vector}
+use Rattle.descriptors.specs.declared.cpu.Cpu.{Cpu}
+use Rattle.paging.specs.Fresh.{has}
+use Rattle.machine_model.specs.State.{Setting, State, Loosened, space_at_start}
+use Rattle.machine_model.specs.Step.{Report, Went, step_of, stepped, by_interrupt, interrupt_of, unheld}
+use Rattle.machine_model.specs.Run.{Set, Steps, trace_of}
+use Rattle.paging.specs.Space.{Space}
+use Rattle.sites.specs.declared.site.Site.{Site}
+use Rattle.machine_model.specs.Step.{went, worked, begins_next}
+use Rattle.machine_model.specs.Counts.{direct_addresses, passed_on}
+use Rattle.wedge_core.specs.Parts.{IsPartOf, with_set}
+use Rattle.wedge_core.specs.Slices.{Counts, CountsOn}
+use Rattle.wedge_core.specs.Stepping.{Passes}
+use Rattle.wedge_core.proofs.Parts.{part_same}
+
+neither : (a b : Bool) → (a || b) ≡ false → (a ≡ false) × (b ≡ false)
+neither false b h = (refl, h)
+neither true b h = absurd (cc)
+
+-- no event in some steps after t: none in the first of them
+given_quiet : (board : Board) (t j : ℕ) (script : Events) → event_within t (suc j) script ≡ false → given board script (t + 1) ≡ board
+unfolding given
+given_quiet board t j [] h = refl
+given_quiet board t j (x ∷ xs) h =
+    let parts = neither (nat_lt t x.0 && nat_le x.0 (t + suc j)) (event_within t (suc j) xs) h in
+    let other : (x.0 == t + 1) ≡ false = grind (arith, nat_tests, parts.0) in
+    rw other (given_quiet board t j xs parts.1)
+
+-- and none in the others
+quiet_later : (t j : ℕ) (script : Events) → event_within t (suc j) script ≡ false → event_within (t + 1) j script ≡ false
+quiet_later t j [] h = refl
+quiet_later t j (x ∷ xs) h =
+    let parts = neither (nat_lt t x.0 && nat_le x.0 (t + suc j)) (event_within t (suc j) xs) h in
+    let out : (nat_lt (t + 1) x.0 && nat_le x.0 (t + 1 + j)) ≡ false = grind (arith, nat_tests, parts.0) in
+    rw out (quiet_later t j xs parts.1)
+
+-- nothing comes to the board in some steps: neither in the first of them, nor in the others
+pub record Quiet (board : Board) (script : Events) (t j : ℕ) : Type 0 where
+  pub no_event : given board script (t + 1) ≡ board
+  pub no_edge : edge_comes board.pit ≡ false
+  pub later : comes_within (board_step board) script (t + 1) j ≡ false
+
+quiet_from : (board : Board) (script : Events) (t j : ℕ) → comes_within board script t (suc j) ≡ false → Quiet board script t j
+unfolding comes_within edge_within board_step
+quiet_from board script t j h =
+    let both = neither (edge_comes board.pit || edge_within j (timer_step board.pit)) (event_within t (suc j) script) h in
+    let edges = neither (edge_comes board.pit) (edge_within j (timer_step board.pit)) both.0 in
+    record {
+      no_event = given_quiet board t j script both.1;
+      no_edge = edges.0;
+      later = rw (edges.1, quiet_later t j script both.1) refl;
+    }
+
+-- a step of the board without an edge changes no vector
+vector_same : (board : Board) → edge_comes board.pit ≡ false → vector (board_step board) ≡ vector board
+unfolding vector board_step edged
+vector_same board h = rw h refl
+
+interrupt_same : (cpu : Cpu) (board : Board) → edge_comes board.pit ≡ false → interrupt_of cpu (board_step board) ≡ interrupt_of cpu board
+interrupt_same cpu board h = ap (λ (v : Option ℕ). if has cpu.regs.flags.bits 512 && not cpu.held then v else None) (vector_same board h)
+
+-- a processor whose deliveries are not held off
+abbrev pub resting : Cpu → List ℕ → Set → Board → ℕ → State
+resting cpu ram set board step = record { cpu = record cpu { held = false }; ram = ram; set = set; board = board; step = step }
+
+abbrev pub nothing : Report
+nothing = record { items = []; completed = None; pages = []; tables = []; wrote = [] }
+
+no_step : (board : Board) → board_steps 0 board ≡ board
+unfolding board_steps
+no_step board = refl
+
+-- a halted processor does nothing
+halted_works : (m : Setting) (b : State) (s : Space) → b.cpu.halted ≡ true → worked m b s ≡ went [] None b b.cpu b.board s
+unfolding worked
+halted_works m b s e = ap (λ (h : Bool). cond h (went [] None b b.cpu b.board s) (begins_next m b s)) e
+
+-- one such step
+idle_step : (s : Setting) (cpu : Cpu) (ram : List ℕ) (whole set : Set) (board : Board) (step : ℕ)
+    → cpu.halted ≡ true → given board s.script step ≡ board → interrupt_of (record cpu { held = false }) board ≡ None
+    → step_of s (resting cpu ram whole board step) set ≡ Went nothing (resting cpu ram set (board_step board) (step + 1))
+unfolding step_of
+idle_step s cpu ram whole set board step halted no_event none =
+    let b = resting cpu ram set board step in
+    let space = space_at_start s.mode s.frames b.cpu ram set in
+    ap (λ (d : Board). stepped s (record b { board = d })) no_event
+    ∙ (ap (λ (o : Option ℕ). by_interrupt s o (unheld b) space) none
+    ∙ halted_works s (unheld b) space halted)
+
+-- some such steps
+pub idle_steps : (k : ℕ) (s : Setting) (cpu : Cpu) (ram : List ℕ) (whole set : Set) (board : Board) (t : ℕ)
+    → cpu.halted ≡ true → interrupt_of (record cpu { held = false }) board ≡ None → comes_within board s.script t (suc k) ≡ false
+    → Loosened s (resting cpu ram whole board (t + 1)) set
+    → Steps s (resting cpu ram whole board (t + 1)) (set ∷ replicate k set) (nothing ∷ replicate k nothing) (resting cpu ram set (board_steps (suc k) board) (t + 1 + suc k))
+unfolding Steps board_steps
+idle_steps zero s cpu ram whole set board t halted none quiet allowed =
+    let q = quiet_from board s.script t 0 quiet in
+    (resting cpu ram set (board_step board) (t + 1 + 1), nothing, [], allowed, idle_step s cpu ram whole set board (t + 1) halted q.no_event none, (refl, refl), refl)
+idle_steps (suc k) s cpu ram whole set board t halted none quiet allowed =
+    let q = quiet_from board s.script t (suc k) quiet in
+    let rest = idle_steps k s cpu ram set set (board_step board) (t + 1) halted (interrupt_same (record cpu { held = false }) board q.no_edge ∙ none) q.later (record { each = λ page e is. inl is }) in (
+      resting cpu ram set (board_step board) (t + 1 + 1),
+      nothing,
+      nothing ∷ replicate k nothing,
+      allowed,
+      idle_step s cpu ram whole set board (t + 1) halted q.no_event none,
+      subst (λ (n : ℕ). Steps s (resting cpu ram set (board_step board) (t + 1 + 1)) (set ∷ replicate k set) (nothing ∷ replicate k nothing) (resting cpu ram set (board_steps (suc k) (board_step board)) n)) (omega arith) rest,
+      refl,
+    )
+
+-- nothing is seen in them
+pub nothing_seen : (k : ℕ) → trace_of (replicate k nothing) ≡ []
+nothing_seen zero = refl
+nothing_seen (suc k) = nothing_seen k
+
+-- and none of them counts
+none_direct : (sites : List Site) (k : ℕ) → direct_addresses sites (replicate k nothing) ≡ []
+none_direct sites zero = refl
+none_direct sites (suc k) = none_direct sites k
+
+counts_stay : (m : Setting) (k : ℕ) (counts : Counts) → CountsOn m (replicate k nothing) counts counts
+counts_stay m k counts = record {
+  retired = let e = ap length (none_direct m.image.sites k) in omega (arith, e);
+  passed = sym (ap (passed_on counts.passed) (none_direct m.image.sites k));
+}
+
+steps_none : (m : Setting) (b : State) → Steps m b [] [] b
+unfolding Steps
+steps_none m b = (refl, refl)
+
+-- no step passes
+pub rests_none : (m : Setting) (b : State) (whole : Set) (counts : Counts) → IsPartOf b.set whole → Passes m b whole b counts counts
+rests_none m b whole counts h = record { sets = []; reports = []; left = whole; steps = steps_none m (with_set b whole); part = h; silent = refl; counts = counts_stay m 0 counts }
+
+rests_at : (j : ℕ) (s : Setting) (cpu : Cpu) (ram : List ℕ) (whole set : Set) (board : Board) (t : ℕ) (counts : Counts)
+    → cpu.halted ≡ true → interrupt_of (record cpu { held = false }) board ≡ None → comes_within board s.script t (suc j) ≡ false → IsPartOf set whole
+    → Passes s (resting cpu ram set board (t + 1)) whole (resting cpu ram set (board_steps (suc j) board) (t + 1 + suc j)) counts counts
+rests_at j s cpu ram whole set board t counts halted none quiet part = record {
+  sets = set ∷ replicate j set;
+  reports = nothing ∷ replicate j nothing;
+  left = set;
+  steps = idle_steps j s cpu ram whole set board t halted none quiet (record { each = λ page e is. inl (part.each page e is) });
+  part = part_same set set refl;
+  silent = nothing_seen (suc j);
+  counts = counts_stay s (suc j) counts;
+}
+
+-- the state some steps later, with these translations
+abbrev pub rested : State → ℕ → State
+rested b k = record b { board = board_steps k b.board; step = b.step + k }
+
+-- so many steps pass
+pub rests_some : (k : ℕ) (s : Setting) (b : State) (whole : Set) (counts : Counts) → 0 < b.step → b.cpu.halted ≡ true → b.cpu.held ≡ false → interrupt_of b.cpu b.board ≡ None
+    → (0 < k → comes_within b.board s.script (b.step - 1) k ≡ false) → IsPartOf b.set whole → Passes s b whole (rested b k) counts counts
+rests_some zero s b whole counts begun halted held none quiet part =
+    let same : b.step ≡ b.step + 0 = omega arith in
+    subst (λ (n : ℕ). Passes s b whole (record b { board = board_steps 0 b.board; step = n }) counts counts) same
+    (subst (λ (d : Board). Passes s b whole (record b { board = d }) counts counts) (sym (no_step b.board)) (rests_none s b whole counts part))
+rests_some (suc j) s b whole counts begun halted held none quiet part =
+    let step_is : b.step - 1 + 1 ≡ b.step = omega arith in
+    let cpu_is : record b.cpu { held = false } ≡ b.cpu = ap (λ (h : Bool). record b.cpu { held = h }) (sym held) in
+    let none_then = subst (λ (c : Cpu). interrupt_of c b.board ≡ None) (sym cpu_is) none in
+    subst (λ (c : Cpu). Passes s (record b { cpu = c }) whole (record b { cpu = c; board = board_steps (suc j) b.board; step = b.step + suc j }) counts counts) cpu_is
+    (subst (λ (n : ℕ). Passes s (record b { cpu = record b.cpu { held = false }; step = n }) whole (record b { cpu = record b.cpu { held = false }; board = board_steps (suc j) b.board; step = n + suc j }) counts counts) step_is
+    (rests_at j s b.cpu b.ram whole b.set b.board (b.step - 1) counts halted none_then (quiet (omega arith)) part))

@@ -1,0 +1,63 @@
+-- The guest's memory is bytes, also with marks.
+use Rattle.std.proofs.Common.{◌≡◌, ℕ, suc, zero, ◌+◌, ◌*◌, ◌≤◌, ◌<◌, List, [], ◌∷◌, ◌++◌, length, take, append_assoc, refl, sym, ap, subst, ◌∙◌, arith, bit_or}
+use Rattle.std.proofs.lemmas.List.{length-take-le, places, same_lists}
+use Rattle.std.specs.List.{All}
+use Rattle.guest_ram.specs.Bytes.{AreBytes, byte, part, with_byte}
+use Rattle.guest_ram.proofs.Bytes.{byte_lt, bytes-part, part-append, bytes-with_part, length-with_part, length-with_byte}
+use Rattle.machine_model.specs.State.{Setting}
+use Rattle.native_steps.specs.Looking.{marked}
+use Rattle.native_steps.specs.Stands.{shown}
+use Rattle.native_steps.proofs.Marks.{or_32, bytes_with}
+
+front_fit : (l : List ℕ) (n : ℕ) → AreBytes l → AreBytes (take n l)
+unfolding part
+front_fit l n h = bytes-part l 0 n h
+
+pub shown_fit : (m : Setting) (memory : List ℕ) → 4096 * m.frames ≤ length memory → 0x100000 + length m.image.text ≤ 4096 * m.frames → AreBytes memory → AreBytes m.image.text → AreBytes (shown m memory)
+unfolding shown
+shown_fit m memory room laid h t =
+    let e = length-take-le (4096 * m.frames) memory room in
+    bytes-with_part (take (4096 * m.frames) memory) 0x100000 m.image.text (omega (arith, e, laid)) (front_fit memory (4096 * m.frames) h) t
+
+pub shown_long : (m : Setting) (memory : List ℕ) → 4096 * m.frames ≤ length memory → 0x100000 + length m.image.text ≤ 4096 * m.frames → length (shown m memory) ≡ 4096 * m.frames
+unfolding shown
+shown_long m memory room laid =
+    let e = length-take-le (4096 * m.frames) memory room in
+    length-with_part (take (4096 * m.frames) memory) 0x100000 m.image.text (omega (arith, e, laid)) ∙ e
+
+pub marked_long : (ram marks : List ℕ) (n : ℕ) → length ram ≡ n → All (λ at. at < n) marks → length (marked ram marks) ≡ n
+marked_long ram [] n e within = e
+marked_long ram (p ∷ ps) n e within =
+    let small : p < n = within 0 p (omega arith) in
+    let lt : p < length ram = omega (arith, small, e) in
+    marked_long (with_byte ram p (bit_or (byte ram p) 32)) ps n (length-with_byte ram p (bit_or (byte ram p) 32) lt ∙ e) (λ i d below. within (suc i) d (omega (arith, below)))
+
+pub marked_fit : (ram marks : List ℕ) (n : ℕ) → length ram ≡ n → All (λ at. at < n) marks → AreBytes ram → AreBytes (marked ram marks)
+marked_fit ram [] n e within fit = fit
+marked_fit ram (p ∷ ps) n e within fit =
+    let v : ℕ = bit_or (byte ram p) 32 in
+    let small : p < n = within 0 p (omega arith) in
+    let lt : p < length ram = omega (arith, small, e) in
+    let old : byte ram p < 256 = byte_lt ram p fit in
+    let o = or_32 (byte ram p) old in
+    let new : v < 256 = omega (arith, o, old) in
+    marked_fit (with_byte ram p v) ps n (length-with_byte ram p v lt ∙ e) (λ i d below. within (suc i) d (omega (arith, below))) (bytes_with ram p v lt fit new)
+
+pub are_in : (n k : ℕ) (marks : List ℕ) → k ≡ n → All (λ at. at < n) marks → All (λ at. at < k) marks
+are_in n k marks e h = subst (λ j. All (λ at. at < j) marks) (sym e) h
+
+-- bytes behind bytes of a part
+pub part_none : (m xs : List ℕ) (a : ℕ) → xs ≡ xs ++ part m a 0
+unfolding part
+part_none m xs a = sym (same_lists _ _ (grind (arith, places)) (λ j d i. grind (arith, places)))
+
+one_part : (m : List ℕ) (a : ℕ) → a < length m → part m a 1 ≡ byte m a ∷ []
+unfolding part byte
+one_part [] a lt = absurd (omega (arith, lt))
+one_part (x ∷ xs) zero lt = refl
+one_part (x ∷ xs) (suc a) lt = one_part xs a (omega (arith, lt))
+
+pub part_next : (m xs ys zs : List ℕ) (a i v : ℕ) → a + i < length m → ys ≡ xs ++ part m a i → v ≡ byte m (a + i) → zs ≡ ys ++ v ∷ [] → zs ≡ xs ++ part m a (i + 1)
+part_next m xs ys zs a i v lt e f g =
+    g ∙ (ap (λ l. l ++ v ∷ []) e ∙ (append_assoc xs (part m a i) (v ∷ [])
+    ∙ (ap (λ n. xs ++ (part m a i ++ n ∷ [])) f ∙ (ap (λ l. xs ++ (part m a i ++ l)) (sym (one_part m (a + i) lt)) ∙ ap (λ l. xs ++ l) (part-append m a i 1)))))

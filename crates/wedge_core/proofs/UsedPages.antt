@@ -1,0 +1,62 @@
+-- How many pages a step may have used.
+use Rattle.std.proofs.Common.{◌≡◌, ℕ, zero, suc, ◌==◌, ◌+◌, ◌≤◌, ◌<◌, List, [], ◌∷◌, ◌++◌, length, length-append, take, take-suc, get_or, add-one, Bool, true, false, ◌&&◌, ◌||◌, not, cond, ◌⊎◌, inl, inr, refl, sym, ap, ◌∙◌, arith}
+use Rattle.std.proofs.lemmas.List.{take_all, length-map}
+use Rattle.std.proofs.lemmas.Bool.Decides.{eqb_tells}
+use Rattle.step_mem.specs.declared.changes.Change.{Change}
+use Rattle.std.specs.FinMap.{FinMap, get}
+use Rattle.std.specs.Ordering.{nat_cmp}
+use Rattle.paging.specs.declared.entry.Entry.{Entry}
+use Rattle.shadow_tables.specs.Slots.{is_among}
+use Rattle.wedge_mem.specs.Settled.{used, has_entry, pages_of}
+
+used_by : (b : Bool) (page : ℕ) (rest pages : List ℕ) → length rest ≤ length pages → length (cond b (page ∷ rest) rest) ≤ length (page ∷ pages)
+used_by true page rest pages h = omega (arith, h)
+used_by false page rest pages h = omega (arith, h)
+
+pub used_few : (set : FinMap nat_cmp Entry) (pages : List ℕ) → length (used set pages) ≤ length pages
+used_few set [] = omega arith
+used_few set (page ∷ pages) = used_by (has_entry (get set page) && not (is_among page pages)) page (used set pages) pages (used_few set pages)
+
+pub pages_long : (went : List ℕ) (changes : List Change) → length (pages_of went changes) ≡ length went + length changes
+pages_long went changes = rw (length-append, length-map) refl
+
+among-append : (x : ℕ) (xs : List ℕ) (y : ℕ) → is_among x (xs ++ y ∷ []) ≡ true → is_among x xs ≡ false → x ≡ y
+among-append x [] y h e = elim (eqb_tells x y) [ inl t ↦ t.1 | inr n ↦ (let q = n.0 in absurd (let z : false ≡ true = sym (ap (λ b. b || false) q) ∙ h in cc)) ]
+among-append x (z ∷ xs) y h e =
+    elim (eqb_tells x z) [
+      | inl t ↦ (let q = t.0 in absurd (let f : true ≡ false = sym (ap (λ b. b || is_among x xs) q) ∙ e in cc))
+      | inr n ↦ among-append x xs y (sym (ap (λ b. b || is_among x (xs ++ y ∷ [])) n.0) ∙ h) (sym (ap (λ b. b || is_among x xs) n.0) ∙ e)
+    ]
+
+bool_cases : (b : Bool) → (b ≡ true) ⊎ (b ≡ false)
+bool_cases true = inl refl
+bool_cases false = inr refl
+
+-- what holds of the pages before an index, and of the one there
+pub each_more : (test : ℕ → Bool) (xs : List ℕ) (i : ℕ) → i < length xs → test (get_or xs i 0) ≡ true → ((x : ℕ) → is_among x (take i xs) ≡ true → test x ≡ true) → (x : ℕ) → is_among x (take (i + 1) xs) ≡ true → test x ≡ true
+each_more test xs i l here before x h =
+    elim (bool_cases (is_among x (take i xs))) [
+      | inl t ↦ before x t
+      | inr n ↦
+          let e : x ≡ get_or xs i 0 = among-append x (take i xs) (get_or xs i 0) (sym (ap (is_among x) (rw add-one (take-suc xs i 0 l))) ∙ h) n in
+          ap test e ∙ here
+    ]
+
+pub each_all : (test : ℕ → Bool) (xs : List ℕ) (i : ℕ) → length xs ≤ i → ((x : ℕ) → is_among x (take i xs) ≡ true → test x ≡ true) → (x : ℕ) → is_among x xs ≡ true → test x ≡ true
+each_all test xs i l all x h = all x (ap (is_among x) (take_all i xs l) ∙ h)
+
+pub each_none : (test : ℕ → Bool) (xs : List ℕ) → (x : ℕ) → is_among x (take 0 xs) ≡ true → test x ≡ true
+each_none test xs x h = absurd (let z : false ≡ true = h in cc)
+
+-- the page at an index is one of them
+pub among_at : (xs : List ℕ) (i : ℕ) → i < length xs → is_among (get_or xs i 0) xs ≡ true
+among_at [] i l = absurd (omega (arith, l))
+among_at (x ∷ xs) zero l = ap (λ b. b || is_among x xs) (same x)
+  where
+    same : (n : ℕ) → (n == n) ≡ true
+    same n = elim (eqb_tells n n) [ inl t ↦ t.0 | inr n ↦ absurd (n.1 refl) ]
+among_at (x ∷ xs) (suc i) l = ap (λ b. (get_or xs i 0 == x) || b) (among_at xs i (omega (arith, l))) ∙ or_true (get_or xs i 0 == x)
+  where
+    or_true : (b : Bool) → (b || true) ≡ true
+    or_true true = refl
+    or_true false = refl

@@ -1,0 +1,152 @@
+-- From a slice and the last line to a whole run.
+use Rattle.std.proofs.Common.{◌≡◌, ℕ, ◌+◌, ◌*◌, ◌≤◌, List, [], ◌++◌, length, take, Option, Ok, Err, refl, sym, ap, subst, ◌∙◌, append_assoc, arith}
+use Rattle.std.proofs.lemmas.List.{append-nil, places, same_lists, length-take-le}
+use Rattle.guest_ram.specs.Bytes.{part, with_part}
+use Rattle.guest_ram.proofs.Bytes.{with_part-with_part, with_part-part, length-part}
+use Rattle.frame_pool.specs.declared.Pool.{Pool}
+use Rattle.pv_io.specs.declared.answer.Failed.{Failed}
+use Rattle.pv_io.specs.Causes.{Rose}
+use Rattle.pv_io.specs.Sink.{Appends, AppendsFront}
+use Rattle.sites.specs.Patched.{patched}
+use Rattle.board.specs.Scripts.{Events}
+use Rattle.image_check.specs.Image.{Image}
+use Rattle.image_load.specs.Boot.{need}
+use Rattle.image_load.specs.declared.fault.Pause.{Pause}
+use Rattle.image_load.specs.declared.fault.Pause.TheVariants.{Reached, Stopped}
+use Rattle.image_load.specs.declared.fault.RunFault.TheVariants as fault
+use Rattle.run_trace.specs.declared.items.End.{End}
+use Rattle.run_trace.specs.Text.{lines_of, end_line, text_of}
+use Rattle.shadow_tables.specs.Slots.{IsShadow, held as held_by, slot_at}
+use Rattle.shadow_tables.specs.declared.shadow.Shadow.{Shadow}
+use Rattle.machine_model.specs.State.{Setting, State, boot, wedge}
+use Rattle.machine_model.specs.Step.{Report}
+use Rattle.machine_model.specs.Run.{Steps, CanGive, trace_of}
+use Rattle.machine_model.proofs.Ending.{each_ends}
+use Rattle.native_steps.specs.Stands.{IsHost, shown}
+use Rattle.wedge_core.specs.Promises.{Promise, WedgeAnswers, end_of, with_patches}
+use Rattle.wedge_core.specs.Slices.{Counts, SliceAs, GoesOn}
+use Rattle.wedge_core.specs.Standing.{IsHeld, ground}
+use Rattle.wedge_core.specs.declared.running.Running.{Running}
+use Rattle.wedge_core.proofs.Memories.{text_within}
+use Rattle.wedge_core.proofs.RunPieces.{run_join, seen_join, lines_both, put_both, put_front, put_none}
+
+part_front : (l : List ℕ) (n a k : ℕ) → a + k ≤ n → part (take n l) a k ≡ part l a k
+unfolding part
+part_front l n a k h = same_lists _ _ (grind (arith, places)) (λ j d i. grind (arith, places))
+
+-- the host's first frames are the guest's memory with the text patched
+pub front_is : (m : Setting) (memory : List ℕ) → IsHost m memory → 0x100000 + length m.image.text ≤ 4096 * m.frames → take (4096 * m.frames) memory ≡ with_patches m.image (shown m memory)
+unfolding shown
+front_is m memory host room =
+    let n = 4096 * m.frames in
+    let k = length m.image.text in
+    let x = take n memory in
+    let p = patched m.image.text 0 m.image.sites in
+    let long : length x ≡ n = length-take-le n memory host.room in
+    let there : part x 0x100000 k ≡ p = part_front memory n 0x100000 k room ∙ host.text in
+    let same : length p ≡ k = ap length (sym there) ∙ length-part x 0x100000 k (omega (arith, room, long)) in
+    sym (with_part-with_part x 0x100000 m.image.text p (omega (arith, room, long)) (sym same)
+    ∙ (ap (with_part x 0x100000) (sym there) ∙ with_part-part x 0x100000 k (omega (arith, room, long))))
+
+-- and so it is where a slice has done its steps
+pub front_held : (pause : Pause) (image : Image) (script : Events) (frames : ℕ) (g : Running Shadow) (pool : Pool) (memory : List ℕ)
+    → GoesOn (Ok pause) (IsHeld IsShadow held_by slot_at (ground image frames) g pool memory) → GoesOn (Ok pause) (take (4096 * frames) memory ≡ with_patches image (shown (wedge image script frames) memory))
+front_held Reached image script frames g pool memory h =
+    let room = h.wedge.room in
+    let within = text_within image in
+    front_is (wedge image script frames) memory (record { room = h.host.room; text = h.host.text }) (omega (arith, room, within))
+front_held (Stopped stop) image script frames g pool memory h = tt
+
+text_is : (reports : List Report) (count : ℕ) (end : End) → lines_of (trace_of reports) ++ end_line count end ≡ text_of (trace_of reports) count end
+unfolding text_of
+text_is reports count end = refl
+
+-- the slice that ended is a run
+pub promised : (m : Setting) (n : ℕ) (old new : State) (before after : Counts) (told tells : Option (List ℕ)) (pause : Pause) (memory : List ℕ)
+    → old ≡ boot m → GoesOn (Ok pause) (take (4096 * m.frames) memory ≡ with_patches m.image new.ram) → (h : SliceAs m n old new before after told tells (Ok pause))
+    → Promise m n (lines_of (trace_of h.reports) ++ end_line new.step (end_of pause)) new.step (end_of pause) before after memory
+promised m n old new before after told tells Reached memory is has h = record {
+  sets = h.sets;
+  reports = h.reports;
+  last = h.last;
+  run = record { steps = subst (λ (b : State). Steps m b h.sets h.reports h.last) is h.steps; ends = h.ends.0 };
+  count_is = ap (λ (b : State). b.step) h.ends.1;
+  text_is = text_is h.reports new.step (end_of Reached);
+  counts = h.counts;
+  memory_is = has ∙ ap (λ (b : State). with_patches m.image b.ram) h.ends.1;
+}
+promised m n old new before after told tells (Stopped stop) memory is has h = record {
+  sets = h.sets;
+  reports = h.reports;
+  last = h.last;
+  run = record { steps = subst (λ (b : State). Steps m b h.sets h.reports h.last) is h.steps; ends = (h.ends.0, h.ends.2) };
+  count_is = h.ends.1;
+  text_is = text_is h.reports new.step (end_of (Stopped stop));
+  counts = h.counts;
+  memory_is = tt;
+}
+
+pub given_by : (m : Setting) (n : ℕ) (text : List ℕ) (count : ℕ) (end : End) (before after : Counts) (memory : List ℕ) → Promise m n text count end before after memory → CanGive m n text count end
+given_by m n text count end before after memory p = record { sets = p.sets; reports = p.reports; last = p.last; run = p.run; count_is = p.count_is; text_is = p.text_is }
+
+-- all lines and the last one were put
+pub whole_put : (image : Image) (script : Events) (frames n : ℕ) (old new : State) (counts counts_after : Counts) (a b c : Option (List ℕ)) (pause : Pause) (before mid now fills : ℕ) (memory : List ℕ)
+    → need image ≤ frames → old ≡ boot (wedge image script frames) → GoesOn (Ok pause) (take (4096 * frames) memory ≡ with_patches image new.ram)
+    → (h : SliceAs (wedge image script frames) n old new counts counts_after a b (Ok pause)) → Appends b c (end_line new.step (end_of pause)) → before ≤ mid → mid ≤ now
+    → WedgeAnswers image script frames n a c before now counts counts_after memory (Ok (record { steps = new.step; end = end_of pause; fills = fills }))
+whole_put image script frames n old new counts counts_after a b c pause before mid now fills memory fits is has h put le more = (
+  lines_of (trace_of h.reports) ++ end_line new.step (end_of pause),
+  fits,
+  promised (wedge image script frames) n old new counts counts_after a b pause memory is has h,
+  put_both a b c _ _ h.text put,
+  omega (arith, le, more),
+)
+
+-- all lines and a front of the last one
+pub whole_unput : (image : Image) (script : Events) (frames n : ℕ) (old new : State) (counts counts_after : Counts) (a b c : Option (List ℕ)) (pause : Pause) (before mid now : ℕ) (memory : List ℕ)
+    → need image ≤ frames → old ≡ boot (wedge image script frames) → GoesOn (Ok pause) (take (4096 * frames) memory ≡ with_patches image new.ram)
+    → (h : SliceAs (wedge image script frames) n old new counts counts_after a b (Ok pause)) → AppendsFront b c (end_line new.step (end_of pause)) → before ≤ mid → Rose mid now
+    → WedgeAnswers image script frames n a c before now counts counts_after memory (Err fault.Write)
+whole_unput image script frames n old new counts counts_after a b c pause before mid now memory fits is has h put le rose =
+    let text = lines_of (trace_of h.reports) ++ end_line new.step (end_of pause) in (
+      text,
+      new.step,
+      end_of pause,
+      fits,
+      given_by (wedge image script frames) n text new.step (end_of pause) counts counts_after memory (promised (wedge image script frames) n old new counts counts_after a b pause memory is has h),
+      put_front a b c (lines_of (trace_of h.reports)) (end_line new.step (end_of pause)) [] _ h.text put (ap (λ (l : List ℕ). lines_of (trace_of h.reports) ++ l) (sym (append-nil (end_line new.step (end_of pause))))),
+      omega (arith, le, rose),
+    )
+
+-- the text of a run that goes on
+text_join : (reports later : List Report) (count : ℕ) (end : End) → text_of (trace_of (reports ++ later)) count end ≡ lines_of (trace_of reports) ++ (lines_of (trace_of later) ++ end_line count end)
+text_join reports later count end =
+    sym (text_is (reports ++ later) count end)
+    ∙ (ap (λ (l : List ℕ). l ++ end_line count end) (ap lines_of (seen_join reports later) ∙ lines_both (trace_of reports) (trace_of later))
+    ∙ append_assoc (lines_of (trace_of reports)) (lines_of (trace_of later)) (end_line count end))
+
+-- a front of the lines
+pub whole_front : (image : Image) (script : Events) (frames n : ℕ) (old new : State) (counts counts_after : Counts) (a b : Option (List ℕ)) (failed : Failed) (before now : ℕ) (memory : List ℕ)
+    → need image ≤ frames → old ≡ boot (wedge image script frames) → SliceAs (wedge image script frames) n old new counts counts_after a b (Err failed) → Rose before now
+    → WedgeAnswers image script frames n a b before now counts counts_after memory (Err fault.Write)
+whole_front image script frames n old new counts counts_after a b failed before now memory fits is h rose =
+    let m = wedge image script frames in
+    let e = each_ends m n h.last h.ends in (
+      text_of (trace_of (h.reports ++ e.reports)) e.last.step e.end,
+      e.last.step,
+      e.end,
+      fits,
+      record {
+        sets = h.sets ++ e.sets;
+        reports = h.reports ++ e.reports;
+        last = e.last;
+        run = record {
+          steps = subst (λ (s : State). Steps m s (h.sets ++ e.sets) (h.reports ++ e.reports) e.last) is (run_join m old h.last e.last h.sets e.sets h.reports e.reports h.steps e.run.steps);
+          ends = e.run.ends;
+        };
+        count_is = refl;
+        text_is = refl;
+      },
+      put_front a a b [] (lines_of (trace_of h.reports)) (lines_of (trace_of e.reports) ++ end_line e.last.step e.end) _ (put_none a) h.text (text_join h.reports e.reports e.last.step e.end),
+      rose,
+    )

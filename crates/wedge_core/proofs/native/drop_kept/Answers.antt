@@ -1,0 +1,41 @@
+use Rattle.std.proofs.Common.{ℕ, ◌%◌, sym, ap, ◌∙◌, arith}
+use Rattle.std.specs.FinMap.{empty}
+use Rattle.wedge_core.specs.Standing.{ground, wp_of}
+use Rattle.wedge_core.proofs.Memories.{text_within, front_same, host_same}
+use Rattle.wedge_core.proofs.Opening.{none_open}
+use Rattle.wedge_core.proofs.Parts.{part_within, part_empty}
+use Rattle.wedge_core.proofs.native.drop_kept.Goals as goal
+
+pub returns-clause-guest : goal.returns-clause-guest
+returns-clause-guest g c =
+    let held = c.requires.held.1 in
+    front_same c.args.running.now.frames c.args.pool.now c.drop_all.new.pool c.args.ram.now c.drop_all.new.ram _ _ held.behind held.owns c.drop_all.ensures.moves
+
+pub returns-clause-held : goal.returns-clause-held
+returns-clause-held g c = λ image held.
+    let n = c.args.running.now.frames in
+    let m = ground image n in
+    let room = held.wedge.room in
+    let text = text_within image in
+    let moves = c.drop_all.ensures.moves in
+    let front = front_same n c.args.pool.now c.drop_all.new.pool c.args.ram.now c.drop_all.new.ram _ _ held.behind held.owns moves in
+    let lengths = moves.lengths in
+    let few = held.few in
+    let counted = held.counted in
+    let before = c.free.ensures.count c.args.ram.now in
+    let after = c.free-2.ensures.count c.drop_all.new.ram in
+    record {
+      wedge = held.wedge;
+      frames_are = held.frames_are;
+      size = held.size;
+      host = host_same m c.args.ram.now c.drop_all.new.ram (omega (arith, room, text)) moves.size front held.host;
+      whole = ap (λ (k : ℕ). k % 4096) moves.size ∙ held.whole;
+      behind = (let h = held.behind in let e = moves.same.0 in omega (arith, h, e));
+      stand = c.drop_all.ensures.stands;
+      owns = c.drop_all.ensures.owns;
+      counted = omega (arith, counted, before, after, lengths);
+      few = omega (arith, few, lengths);
+      fills = held.fills;
+      within = part_within n _ empty (part_empty _ empty c.drop_all.ensures.entries) (λ page e is. absurd (Rattle.wedge_core.proofs.Bools.none_some e (sym (Rattle.std.specs.FinMap.get-empty Rattle.std.specs.Ordering.nat_cmp page) ∙ is)));
+      open_to = none_open image (wp_of c.args.running.now.cpu) _ c.drop_all.ensures.none;
+    }

@@ -1,0 +1,555 @@
+use Rattle.std.proofs.Common.{◌≡◌, ℕ, ◌+◌, ◌*◌, ◌/◌, ◌==◌, ◌≤◌, ◌<◌, ◌^◌, Bool, List, [], length, refl, sym, ap, subst, ◌∙◌, Some, arith}
+use Rattle.std.proofs.lemmas.Result.{err_from_is_err_and}
+use Rattle.std.specs.FinMap.{FinMap, get}
+use Rattle.std.specs.Ordering.{nat_cmp}
+use Rattle.guest_ram.specs.Bytes.{AreBytes}
+use Rattle.descriptors.specs.declared.cpu.Cpu.{Cpu}
+use Rattle.frame_pool.specs.Held.{Owns}
+use Rattle.frame_pool.specs.Pool.{base_of, free_list}
+use Rattle.image_load.specs.Boot.{text_pages}
+use Rattle.paging.specs.declared.entry.Entry.{Entry}
+use Rattle.paging.specs.Space.{Mode, Wedge, Space}
+use Rattle.shadow_tables.specs.Entries.{entries_of}
+use Rattle.step_mem.specs.Changes.{AreWithin, changed}
+use Rattle.step_mem.specs.Shown as laying
+use Rattle.step_mem.specs.Sound.{IsSound, space_at}
+use Rattle.step_mem.specs.declared.guard.Guard.{Guard}
+use Rattle.step_mem.specs.declared.state.State as kept_state
+use Rattle.step_mem.specs.declared.walking.Control.{Control}
+use Rattle.wedge_mem.specs.Owned.{first, owns}
+use Rattle.machine_model.specs.State.{wedge, wedge_mode}
+use Rattle.machine_model.specs.Step.{fetches_next, unheld}
+use Rattle.native_steps.specs.Again as again
+use Rattle.native_steps.specs.Lends.{Lends}
+use Rattle.native_steps.specs.Stands.{IsWedge, IsHost, shown}
+use Rattle.wedge_core.specs.Standing.{AreOpen, state_of, side_of, wp_of}
+use Rattle.wedge_core.specs.Told.{told}
+use Rattle.wedge_core.specs.Tries.{IsPrepared, OthersAreUsers}
+use Rattle.wedge_core.specs.declared.running.Running.{Running}
+use Rattle.wedge_core.proofs.Filling.{fills_same, fills_join}
+use Rattle.wedge_core.proofs.Asking.{may_close, others, asks}
+use Rattle.wedge_core.proofs.Memories.{shown_is, shown_same, front_same, host_same, host_left, text_within}
+use Rattle.wedge_core.proofs.Nexts.{next_from, others_users, starts, step_is, idle}
+use Rattle.wedge_core.proofs.Opening.{same_open}
+use Rattle.wedge_core.proofs.Parts.{part_same, part_within, part_join, dropped_part}
+use Rattle.wedge_core.proofs.Seeing.{side_is}
+use Rattle.wedge_core.proofs.Telling.{told_same, told_within}
+use Rattle.wedge_core.proofs.AfterTry.{any_script, told_sound, closes_told, after, few_after, held_then, keeps_then, keeps_still}
+use Rattle.wedge_core.proofs.native.try_once.Goals as goal
+
+pub go-requires-clause-counted : goal.go-requires-clause-counted
+go-requires-clause-counted g c =
+    let running = c.args.running.now in
+    let image = c.args.image.now in
+    let n = running.frames in
+    let ram0 = c.args.ram.now in
+    let pool0 = c.args.pool.now in
+    let ram1 = c.try_native.new.ram in
+    let state0 = c.begin-state.result in
+    let state1 = c.try_native.new.state in
+    let o = c.original in
+    let held = c.requires.held in
+    let frames1 : state1.control.frames ≡ n = ap (λ (k : Control). k.frames) c.try_native.ensures.control ∙ c.begin-state.ensures.frames in
+    let hid = subst (λ (x : Guard). laying.hidden x n ram1 ≡ laying.hidden x n ram0) c.begin-state.ensures.guard
+    (subst (λ (k : ℕ). laying.hidden c.begin-state.result.guard k ram1 ≡ laying.hidden c.begin-state.result.guard k ram0) c.begin-state.ensures.frames c.try_native.ensures.hidden) in
+    let fits1 : 4096 * n ≤ length ram1 = (let q = c.try_native.ensures.sound.frames_in in omega (arith, q, frames1)) in
+    let a = after g.S.Shadows.stands g.S.Shadows.frames g.S.Shadows.slots g.met.S.Shadows.above g.met.S.Shadows.same_frames g.met.S.Shadows.same_slots g.met.S.Shadows.same_entries image running pool0 ram0 ram1 o.result.first o.result.count held fits1
+    o.ensures.first o.ensures.count hid in
+    held.counted ∙ ap length (sym a.frames_same)
+
+pub go-requires-clause-few : goal.go-requires-clause-few
+go-requires-clause-few g c =
+    let running = c.args.running.now in
+    let image = c.args.image.now in
+    let n = running.frames in
+    let ram0 = c.args.ram.now in
+    let pool0 = c.args.pool.now in
+    let ram1 = c.try_native.new.ram in
+    let state0 = c.begin-state.result in
+    let state1 = c.try_native.new.state in
+    let o = c.original in
+    let held = c.requires.held in
+    let frames1 : state1.control.frames ≡ n = ap (λ (k : Control). k.frames) c.try_native.ensures.control ∙ c.begin-state.ensures.frames in
+    let hid = subst (λ (x : Guard). laying.hidden x n ram1 ≡ laying.hidden x n ram0) c.begin-state.ensures.guard
+    (subst (λ (k : ℕ). laying.hidden c.begin-state.result.guard k ram1 ≡ laying.hidden c.begin-state.result.guard k ram0) c.begin-state.ensures.frames c.try_native.ensures.hidden) in
+    let fits1 : 4096 * n ≤ length ram1 = (let q = c.try_native.ensures.sound.frames_in in omega (arith, q, frames1)) in
+    let a = after g.S.Shadows.stands g.S.Shadows.frames g.S.Shadows.slots g.met.S.Shadows.above g.met.S.Shadows.same_frames g.met.S.Shadows.same_slots g.met.S.Shadows.same_entries image running pool0 ram0 ram1 o.result.first o.result.count held fits1
+    o.ensures.first o.ensures.count hid in
+    few_after g.S.Shadows.stands g.S.Shadows.frames g.S.Shadows.slots image running pool0 ram0 ram1 held a
+
+pub keep-requires-clause-counted : goal.keep-requires-clause-counted
+keep-requires-clause-counted g c =
+    let running = c.args.running.now in
+    let image = c.args.image.now in
+    let n = running.frames in
+    let ram0 = c.args.ram.now in
+    let pool0 = c.args.pool.now in
+    let ram1 = c.try_native.new.ram in
+    let state0 = c.begin-state.result in
+    let state1 = c.try_native.new.state in
+    let o = c.original in
+    let held = c.requires.held in
+    let frames1 : state1.control.frames ≡ n = ap (λ (k : Control). k.frames) c.try_native.ensures.control ∙ c.begin-state.ensures.frames in
+    let hid = subst (λ (x : Guard). laying.hidden x n ram1 ≡ laying.hidden x n ram0) c.begin-state.ensures.guard
+    (subst (λ (k : ℕ). laying.hidden c.begin-state.result.guard k ram1 ≡ laying.hidden c.begin-state.result.guard k ram0) c.begin-state.ensures.frames c.try_native.ensures.hidden) in
+    let fits1 : 4096 * n ≤ length ram1 = (let q = c.try_native.ensures.sound.frames_in in omega (arith, q, frames1)) in
+    let a = after g.S.Shadows.stands g.S.Shadows.frames g.S.Shadows.slots g.met.S.Shadows.above g.met.S.Shadows.same_frames g.met.S.Shadows.same_slots g.met.S.Shadows.same_entries image running pool0 ram0 ram1 o.result.first o.result.count held fits1
+    o.ensures.first o.ensures.count hid in
+    held.counted ∙ ap length (sym a.frames_same)
+
+pub keep-requires-clause-few : goal.keep-requires-clause-few
+keep-requires-clause-few g c =
+    let running = c.args.running.now in
+    let image = c.args.image.now in
+    let n = running.frames in
+    let ram0 = c.args.ram.now in
+    let pool0 = c.args.pool.now in
+    let ram1 = c.try_native.new.ram in
+    let state0 = c.begin-state.result in
+    let state1 = c.try_native.new.state in
+    let o = c.original in
+    let held = c.requires.held in
+    let frames1 : state1.control.frames ≡ n = ap (λ (k : Control). k.frames) c.try_native.ensures.control ∙ c.begin-state.ensures.frames in
+    let hid = subst (λ (x : Guard). laying.hidden x n ram1 ≡ laying.hidden x n ram0) c.begin-state.ensures.guard
+    (subst (λ (k : ℕ). laying.hidden c.begin-state.result.guard k ram1 ≡ laying.hidden c.begin-state.result.guard k ram0) c.begin-state.ensures.frames c.try_native.ensures.hidden) in
+    let fits1 : 4096 * n ≤ length ram1 = (let q = c.try_native.ensures.sound.frames_in in omega (arith, q, frames1)) in
+    let a = after g.S.Shadows.stands g.S.Shadows.frames g.S.Shadows.slots g.met.S.Shadows.above g.met.S.Shadows.same_frames g.met.S.Shadows.same_slots g.met.S.Shadows.same_entries image running pool0 ram0 ram1 o.result.first o.result.count held fits1
+    o.ensures.first o.ensures.count hid in
+    few_after g.S.Shadows.stands g.S.Shadows.frames g.S.Shadows.slots image running pool0 ram0 ram1 held a
+
+pub keep-requires-clause-sound : goal.keep-requires-clause-sound
+keep-requires-clause-sound g c =
+    let running = c.args.running.now in
+    let image = c.args.image.now in
+    let n = running.frames in
+    let ram0 = c.args.ram.now in
+    let pool0 = c.args.pool.now in
+    let ram1 = c.try_native.new.ram in
+    let state0 = c.begin-state.result in
+    let state1 = c.try_native.new.state in
+    let o = c.original in
+    let held = c.requires.held in
+    let frames1 : state1.control.frames ≡ n = ap (λ (k : Control). k.frames) c.try_native.ensures.control ∙ c.begin-state.ensures.frames in
+    let hid = subst (λ (x : Guard). laying.hidden x n ram1 ≡ laying.hidden x n ram0) c.begin-state.ensures.guard
+    (subst (λ (k : ℕ). laying.hidden c.begin-state.result.guard k ram1 ≡ laying.hidden c.begin-state.result.guard k ram0) c.begin-state.ensures.frames c.try_native.ensures.hidden) in
+    let fits1 : 4096 * n ≤ length ram1 = (let q = c.try_native.ensures.sound.frames_in in omega (arith, q, frames1)) in
+    let a = after g.S.Shadows.stands g.S.Shadows.frames g.S.Shadows.slots g.met.S.Shadows.above g.met.S.Shadows.same_frames g.met.S.Shadows.same_slots g.met.S.Shadows.same_entries image running pool0 ram0 ram1 o.result.first o.result.count held fits1
+    o.ensures.first o.ensures.count hid in
+    let m = wedge image [] n in
+    let b = state_of g.S.Shadows.stands g.S.Shadows.frames g.S.Shadows.slots m running ram0 in
+    let mode : Mode = Wedge o.result.first o.result.count (record { front = 0; front_len = 0; back = 0; back_len = 0 }) in
+    let mode_is : wedge_mode image ≡ mode = λ i. Wedge (sym o.ensures.first i) (sym o.ensures.count i) (record { front = 0; front_len = 0; back = 0; back_len = 0 }) in
+    let laid = shown_is m o.result.bytes.now o.result.first ram0 o.ensures.bytes o.ensures.first in
+    let s0 = space_at (λ r. entries_of (g.S.Shadows.slots running.shadows r)) ram0 state0 in
+    let t = space_at (λ r. entries_of (g.S.Shadows.slots running.shadows r)) ram1 state1 in
+    let start = starts m b mode s0 mode_is (laying.laid o.result.bytes.now o.result.first n ram0) laid c.begin-state.ensures.space in
+    let w : IsWedge m = record { mode = held.wedge.mode; accepted = held.wedge.accepted; room = held.wedge.room } in
+    let any = any_script image [] n ram0 in
+    let fit : AreBytes b.ram = subst AreBytes (sym any) c.are_bytes.ensures.bytes in
+    let long : length b.ram ≡ 4096 * n = ap length any ∙ c.are_bytes.ensures.length in
+    let room : 4096 * n ≤ length b.ram = omega (arith, long) in
+    let sound : again.AreWithin m b.set = λ page entry is. (held.within page entry is).1 in
+    let small = c.eip_fits.ensures in
+    let next = next_from m b c.requires.runs small in
+    let tries = rw c.in-None.is at (c.in_ok-worked.ensures.tries m (unheld b) (record { has = refl; over = refl })) in
+    let p = subst (λ (s : Space). IsPrepared (unheld b) s t) start tries.1 in
+    let clear = c.requires.clear [] p.insn p.len p.after_fetch p.fetches in
+    let other = others c.native_laws.ensures.grants c.native_laws.ensures.again c.native_laws.ensures.completes m w (g.S.Shadows.directory running.shadows) b room fit sound (c.native_laws.ensures.sees (g.S.Shadows.directory running.shadows) running.cpu c.requires.able) next small t p clear in
+    let kept1 = entries_of (g.S.Shadows.slots running.shadows ram1) in
+    let told_is : changed kept1 (told state1.went state1.changes) ≡ changed kept1 state1.changes = told_same kept1 state1.changes state1.went (λ q no. other q no ∙ ap (λ (set : FinMap nat_cmp Entry). get set q) (sym a.entries_same)) in
+    let kept = λ (r : List ℕ). entries_of (g.S.Shadows.slots running.shadows r) in
+    let floor = 4096 * base_of pool0 in
+    let stand = λ (r : List ℕ). (∥ g.S.Shadows.stands running.shadows r ∥₁) × Owns pool0 r (g.S.Shadows.frames running.shadows r) in
+    let within1 : AreWithin state1.control.frames (entries_of (g.S.Shadows.slots running.shadows ram1)) =
+    subst (λ (set : FinMap nat_cmp Entry). AreWithin state1.control.frames set) (sym a.entries_same) (subst (λ (k : ℕ). AreWithin k (entries_of (g.S.Shadows.slots running.shadows ram0))) (sym frames1) held.within) in
+    subst (λ (x : kept_state.State). IsSound kept floor stand ram1 x) (sym c.keep_told.ensures) (told_sound kept floor stand ram1 state1 c.try_native.ensures.sound told_is within1)
+
+pub returns-in_err-worked-clause-stands : goal.returns-in_err-worked-clause-stands
+returns-in_err-worked-clause-stands g c =
+    first c.try_native.ensures.sound.stands_now
+
+pub returns-in_err-worked-clause-counted : goal.returns-in_err-worked-clause-counted
+returns-in_err-worked-clause-counted g c =
+    let running = c.args.running.now in
+    let image = c.args.image.now in
+    let n = running.frames in
+    let ram0 = c.args.ram.now in
+    let pool0 = c.args.pool.now in
+    let ram1 = c.try_native.new.ram in
+    let state0 = c.begin-state.result in
+    let state1 = c.try_native.new.state in
+    let o = c.original in
+    let held = c.requires.held in
+    let frames1 : state1.control.frames ≡ n = ap (λ (k : Control). k.frames) c.try_native.ensures.control ∙ c.begin-state.ensures.frames in
+    let hid = subst (λ (x : Guard). laying.hidden x n ram1 ≡ laying.hidden x n ram0) c.begin-state.ensures.guard
+    (subst (λ (k : ℕ). laying.hidden c.begin-state.result.guard k ram1 ≡ laying.hidden c.begin-state.result.guard k ram0) c.begin-state.ensures.frames c.try_native.ensures.hidden) in
+    let fits1 : 4096 * n ≤ length ram1 = (let q = c.try_native.ensures.sound.frames_in in omega (arith, q, frames1)) in
+    let a = after g.S.Shadows.stands g.S.Shadows.frames g.S.Shadows.slots g.met.S.Shadows.above g.met.S.Shadows.same_frames g.met.S.Shadows.same_slots g.met.S.Shadows.same_entries image running pool0 ram0 ram1 o.result.first o.result.count held fits1
+    o.ensures.first o.ensures.count hid in
+    held.counted ∙ ap length (sym a.frames_same)
+
+pub returns-in_err-worked-clause-pool : goal.returns-in_err-worked-clause-pool
+returns-in_err-worked-clause-pool g c =
+    let running = c.args.running.now in
+    let image = c.args.image.now in
+    let n = running.frames in
+    let ram0 = c.args.ram.now in
+    let pool0 = c.args.pool.now in
+    let ram1 = c.try_native.new.ram in
+    let state0 = c.begin-state.result in
+    let state1 = c.try_native.new.state in
+    let o = c.original in
+    let held = c.requires.held in
+    let frames1 : state1.control.frames ≡ n = ap (λ (k : Control). k.frames) c.try_native.ensures.control ∙ c.begin-state.ensures.frames in
+    let hid = subst (λ (x : Guard). laying.hidden x n ram1 ≡ laying.hidden x n ram0) c.begin-state.ensures.guard
+    (subst (λ (k : ℕ). laying.hidden c.begin-state.result.guard k ram1 ≡ laying.hidden c.begin-state.result.guard k ram0) c.begin-state.ensures.frames c.try_native.ensures.hidden) in
+    let fits1 : 4096 * n ≤ length ram1 = (let q = c.try_native.ensures.sound.frames_in in omega (arith, q, frames1)) in
+    let a = after g.S.Shadows.stands g.S.Shadows.frames g.S.Shadows.slots g.met.S.Shadows.above g.met.S.Shadows.same_frames g.met.S.Shadows.same_slots g.met.S.Shadows.same_entries image running pool0 ram0 ram1 o.result.first o.result.count held fits1
+    o.ensures.first o.ensures.count hid in
+    keeps_still g.S.Shadows.stands g.S.Shadows.frames g.S.Shadows.slots image running pool0 ram0 ram1 held a
+
+pub returns-in_err-worked-clause-step : goal.returns-in_err-worked-clause-step
+returns-in_err-worked-clause-step g c = λ script.
+    let running = c.args.running.now in
+    let image = c.args.image.now in
+    let n = running.frames in
+    let ram0 = c.args.ram.now in
+    let pool0 = c.args.pool.now in
+    let ram1 = c.try_native.new.ram in
+    let state0 = c.begin-state.result in
+    let state1 = c.try_native.new.state in
+    let o = c.original in
+    let held = c.requires.held in
+    let frames1 : state1.control.frames ≡ n = ap (λ (k : Control). k.frames) c.try_native.ensures.control ∙ c.begin-state.ensures.frames in
+    let hid = subst (λ (x : Guard). laying.hidden x n ram1 ≡ laying.hidden x n ram0) c.begin-state.ensures.guard
+    (subst (λ (k : ℕ). laying.hidden c.begin-state.result.guard k ram1 ≡ laying.hidden c.begin-state.result.guard k ram0) c.begin-state.ensures.frames c.try_native.ensures.hidden) in
+    let fits1 : 4096 * n ≤ length ram1 = (let q = c.try_native.ensures.sound.frames_in in omega (arith, q, frames1)) in
+    let a = after g.S.Shadows.stands g.S.Shadows.frames g.S.Shadows.slots g.met.S.Shadows.above g.met.S.Shadows.same_frames g.met.S.Shadows.same_slots g.met.S.Shadows.same_entries image running pool0 ram0 ram1 o.result.first o.result.count held fits1
+    o.ensures.first o.ensures.count hid in
+    let m = wedge image script n in
+    let b = state_of g.S.Shadows.stands g.S.Shadows.frames g.S.Shadows.slots m running ram0 in
+    let mode : Mode = Wedge o.result.first o.result.count (record { front = 0; front_len = 0; back = 0; back_len = 0 }) in
+    let mode_is : wedge_mode image ≡ mode = λ i. Wedge (sym o.ensures.first i) (sym o.ensures.count i) (record { front = 0; front_len = 0; back = 0; back_len = 0 }) in
+    let laid = shown_is m o.result.bytes.now o.result.first ram0 o.ensures.bytes o.ensures.first in
+    let s0 = space_at (λ r. entries_of (g.S.Shadows.slots running.shadows r)) ram0 state0 in
+    let t = space_at (λ r. entries_of (g.S.Shadows.slots running.shadows r)) ram1 state1 in
+    let start = starts m b mode s0 mode_is (laying.laid o.result.bytes.now o.result.first n ram0) laid c.begin-state.ensures.space in
+    let w : IsWedge m = record { mode = held.wedge.mode; accepted = held.wedge.accepted; room = held.wedge.room } in
+    let any = any_script image script n ram0 in
+    let fit : AreBytes b.ram = subst AreBytes (sym any) c.are_bytes.ensures.bytes in
+    let long : length b.ram ≡ 4096 * n = ap length any ∙ c.are_bytes.ensures.length in
+    let room : 4096 * n ≤ length b.ram = omega (arith, long) in
+    let sound : again.AreWithin m b.set = λ page entry is. (held.within page entry is).1 in
+    let small = c.eip_fits.ensures in
+    let next = next_from m b c.requires.runs small in
+    let tries = c.in_err-worked.ensures.tries m (unheld b) (record { has = refl; over = refl }) in
+    let sees = c.native_laws.ensures.sees (g.S.Shadows.directory running.shadows) running.cpu c.requires.able in
+    let r = err_from_is_err_and c.from_residual.result c.from_residual.ensures.1 in
+    rw (r.1, r.2) (record { chosen = b.set; allowed = part_same b.set b.set refl; stands = step_is m b sees.level next ∙ (ap (fetches_next m (unheld b)) (sym start) ∙ tries) })
+
+pub returns-in-Some-clause-step : goal.returns-in-Some-clause-step
+returns-in-Some-clause-step g c = λ script.
+    let running = c.args.running.now in
+    let image = c.args.image.now in
+    let n = running.frames in
+    let ram0 = c.args.ram.now in
+    let pool0 = c.args.pool.now in
+    let ram1 = c.try_native.new.ram in
+    let state0 = c.begin-state.result in
+    let state1 = c.try_native.new.state in
+    let o = c.original in
+    let held = c.requires.held in
+    let frames1 : state1.control.frames ≡ n = ap (λ (k : Control). k.frames) c.try_native.ensures.control ∙ c.begin-state.ensures.frames in
+    let hid = subst (λ (x : Guard). laying.hidden x n ram1 ≡ laying.hidden x n ram0) c.begin-state.ensures.guard
+    (subst (λ (k : ℕ). laying.hidden c.begin-state.result.guard k ram1 ≡ laying.hidden c.begin-state.result.guard k ram0) c.begin-state.ensures.frames c.try_native.ensures.hidden) in
+    let fits1 : 4096 * n ≤ length ram1 = (let q = c.try_native.ensures.sound.frames_in in omega (arith, q, frames1)) in
+    let a = after g.S.Shadows.stands g.S.Shadows.frames g.S.Shadows.slots g.met.S.Shadows.above g.met.S.Shadows.same_frames g.met.S.Shadows.same_slots g.met.S.Shadows.same_entries image running pool0 ram0 ram1 o.result.first o.result.count held fits1
+    o.ensures.first o.ensures.count hid in
+    let m = wedge image script n in
+    let b = state_of g.S.Shadows.stands g.S.Shadows.frames g.S.Shadows.slots m running ram0 in
+    let mode : Mode = Wedge o.result.first o.result.count (record { front = 0; front_len = 0; back = 0; back_len = 0 }) in
+    let mode_is : wedge_mode image ≡ mode = λ i. Wedge (sym o.ensures.first i) (sym o.ensures.count i) (record { front = 0; front_len = 0; back = 0; back_len = 0 }) in
+    let laid = shown_is m o.result.bytes.now o.result.first ram0 o.ensures.bytes o.ensures.first in
+    let s0 = space_at (λ r. entries_of (g.S.Shadows.slots running.shadows r)) ram0 state0 in
+    let t = space_at (λ r. entries_of (g.S.Shadows.slots running.shadows r)) ram1 state1 in
+    let start = starts m b mode s0 mode_is (laying.laid o.result.bytes.now o.result.first n ram0) laid c.begin-state.ensures.space in
+    let w : IsWedge m = record { mode = held.wedge.mode; accepted = held.wedge.accepted; room = held.wedge.room } in
+    let any = any_script image script n ram0 in
+    let fit : AreBytes b.ram = subst AreBytes (sym any) c.are_bytes.ensures.bytes in
+    let long : length b.ram ≡ 4096 * n = ap length any ∙ c.are_bytes.ensures.length in
+    let room : 4096 * n ≤ length b.ram = omega (arith, long) in
+    let sound : again.AreWithin m b.set = λ page entry is. (held.within page entry is).1 in
+    let small = c.eip_fits.ensures in
+    let next = next_from m b c.requires.runs small in
+    let host0 : IsHost m ram0 = record { room = held.host.room; text = held.host.text } in
+    let sees = c.native_laws.ensures.sees (g.S.Shadows.directory running.shadows) running.cpu c.requires.able in
+    let tries = rw c.in-Some.is at (c.in_ok-worked.ensures.tries m (unheld b) (record { has = refl; over = refl })) in
+    let stepped_is = step_is m b sees.level next ∙ (ap (fetches_next m (unheld b)) (sym start) ∙ tries.0) in
+    let users = others_users m w ram0 host0 b refl room fit sound small (c.native_laws.ensures.text image held.wedge.accepted) next c.requires.able in
+    let none = tries.1 (subst (OthersAreUsers (unheld b)) (sym start) users) image.sites in
+    let text1 = c.try_native.ensures.text ∙ ap (λ (x : Guard). x.text) c.begin-state.ensures.guard in
+    let here : laying.laid o.result.bytes.now o.result.first n ram1 ≡ t.ram = λ i. laying.shown_by (sym text1 i).now (sym frames1 i) ram1 in
+    let front = front_same n pool0 c.go.new.pool ram1 c.go.new.ram (g.S.Shadows.frames running.shadows ram1) (g.S.Shadows.frames c.go.new.running.shadows c.go.new.ram) held.behind (owns c.try_native.ensures.sound.stands_now) c.go.ensures.moves in
+    let ram_is : shown m c.go.new.ram ≡ t.ram = shown_same m ram1 c.go.new.ram front ∙ (sym (shown_is m o.result.bytes.now o.result.first ram1 o.ensures.bytes o.ensures.first) ∙ here) in
+    idle m b c.in-Some.worked c.try_native.new.board t (state_of g.S.Shadows.stands g.S.Shadows.frames g.S.Shadows.slots m c.go.new.running c.go.new.ram) stepped_is c.go.ensures.cpu ram_is c.go.ensures.board c.go.ensures.step c.go.ensures.part none
+
+pub returns-in-Some-clause-held : goal.returns-in-Some-clause-held
+returns-in-Some-clause-held g c =
+    let running = c.args.running.now in
+    let image = c.args.image.now in
+    let n = running.frames in
+    let ram0 = c.args.ram.now in
+    let pool0 = c.args.pool.now in
+    let ram1 = c.try_native.new.ram in
+    let state0 = c.begin-state.result in
+    let state1 = c.try_native.new.state in
+    let o = c.original in
+    let held = c.requires.held in
+    let frames1 : state1.control.frames ≡ n = ap (λ (k : Control). k.frames) c.try_native.ensures.control ∙ c.begin-state.ensures.frames in
+    let hid = subst (λ (x : Guard). laying.hidden x n ram1 ≡ laying.hidden x n ram0) c.begin-state.ensures.guard
+    (subst (λ (k : ℕ). laying.hidden c.begin-state.result.guard k ram1 ≡ laying.hidden c.begin-state.result.guard k ram0) c.begin-state.ensures.frames c.try_native.ensures.hidden) in
+    let fits1 : 4096 * n ≤ length ram1 = (let q = c.try_native.ensures.sound.frames_in in omega (arith, q, frames1)) in
+    let a = after g.S.Shadows.stands g.S.Shadows.frames g.S.Shadows.slots g.met.S.Shadows.above g.met.S.Shadows.same_frames g.met.S.Shadows.same_slots g.met.S.Shadows.same_entries image running pool0 ram0 ram1 o.result.first o.result.count held fits1
+    o.ensures.first o.ensures.count hid in
+    let wp1 : state1.control.wp ≡ wp_of running.cpu = ap (λ (k : Control). k.wp) c.try_native.ensures.control ∙ ap (λ (x : Space). x.wp) c.begin-state.ensures.space in
+    let slots1 = same_open image (wp_of running.cpu) (g.S.Shadows.slots running.shadows ram0) (g.S.Shadows.slots running.shadows ram1) a.slots_same held.open_to in
+    let whole1 = changed (entries_of (g.S.Shadows.slots running.shadows ram1)) state1.changes in
+    let open1 = c.go.ensures.shows image c.text_frames.ensures (subst (λ (x : Bool). AreOpen image x (g.S.Shadows.slots running.shadows ram1)) (sym wp1) slots1) in
+    let fills = c.go.ensures.fills in
+    let count = c.go.ensures.step in
+    held_then g.S.Shadows.stands g.S.Shadows.frames g.S.Shadows.slots image running (record c.go.new.running { step = running.step + 1 }) pool0 c.go.new.pool ram0 ram1 c.go.new.ram held a (owns c.try_native.ensures.sound.stands_now) c.go.ensures.moves
+    c.go.ensures.stands c.go.ensures.owns c.go.ensures.counted (omega (arith, fills, count)) c.go.ensures.frames
+    (part_within n _ whole1 (part_join _ _ _ c.go.ensures.part (dropped_part c.in-Some.worked.dropped whole1)) (subst (λ (k : ℕ). AreWithin k whole1) frames1 c.try_native.ensures.sound.within))
+    (subst (λ (x : Cpu). AreOpen image (wp_of x) (g.S.Shadows.slots c.go.new.running.shadows c.go.new.ram)) (sym c.go.ensures.cpu) open1)
+
+pub returns-in-Some-clause-pool : goal.returns-in-Some-clause-pool
+returns-in-Some-clause-pool g c =
+    let running = c.args.running.now in
+    let image = c.args.image.now in
+    let n = running.frames in
+    let ram0 = c.args.ram.now in
+    let pool0 = c.args.pool.now in
+    let ram1 = c.try_native.new.ram in
+    let state0 = c.begin-state.result in
+    let state1 = c.try_native.new.state in
+    let o = c.original in
+    let held = c.requires.held in
+    let frames1 : state1.control.frames ≡ n = ap (λ (k : Control). k.frames) c.try_native.ensures.control ∙ c.begin-state.ensures.frames in
+    let hid = subst (λ (x : Guard). laying.hidden x n ram1 ≡ laying.hidden x n ram0) c.begin-state.ensures.guard
+    (subst (λ (k : ℕ). laying.hidden c.begin-state.result.guard k ram1 ≡ laying.hidden c.begin-state.result.guard k ram0) c.begin-state.ensures.frames c.try_native.ensures.hidden) in
+    let fits1 : 4096 * n ≤ length ram1 = (let q = c.try_native.ensures.sound.frames_in in omega (arith, q, frames1)) in
+    let a = after g.S.Shadows.stands g.S.Shadows.frames g.S.Shadows.slots g.met.S.Shadows.above g.met.S.Shadows.same_frames g.met.S.Shadows.same_slots g.met.S.Shadows.same_entries image running pool0 ram0 ram1 o.result.first o.result.count held fits1
+    o.ensures.first o.ensures.count hid in
+    keeps_then g.S.Shadows.stands g.S.Shadows.frames g.S.Shadows.slots image running c.go.new.running pool0 c.go.new.pool ram0 ram1 c.go.new.ram held a c.go.ensures.moves
+
+pub returns-in-None-clause-pool : goal.returns-in-None-clause-pool
+returns-in-None-clause-pool g c =
+    let running = c.args.running.now in
+    let image = c.args.image.now in
+    let n = running.frames in
+    let ram0 = c.args.ram.now in
+    let pool0 = c.args.pool.now in
+    let ram1 = c.try_native.new.ram in
+    let state0 = c.begin-state.result in
+    let state1 = c.try_native.new.state in
+    let o = c.original in
+    let held = c.requires.held in
+    let frames1 : state1.control.frames ≡ n = ap (λ (k : Control). k.frames) c.try_native.ensures.control ∙ c.begin-state.ensures.frames in
+    let hid = subst (λ (x : Guard). laying.hidden x n ram1 ≡ laying.hidden x n ram0) c.begin-state.ensures.guard
+    (subst (λ (k : ℕ). laying.hidden c.begin-state.result.guard k ram1 ≡ laying.hidden c.begin-state.result.guard k ram0) c.begin-state.ensures.frames c.try_native.ensures.hidden) in
+    let fits1 : 4096 * n ≤ length ram1 = (let q = c.try_native.ensures.sound.frames_in in omega (arith, q, frames1)) in
+    let a = after g.S.Shadows.stands g.S.Shadows.frames g.S.Shadows.slots g.met.S.Shadows.above g.met.S.Shadows.same_frames g.met.S.Shadows.same_slots g.met.S.Shadows.same_entries image running pool0 ram0 ram1 o.result.first o.result.count held fits1
+    o.ensures.first o.ensures.count hid in
+    keeps_then g.S.Shadows.stands g.S.Shadows.frames g.S.Shadows.slots image running c.keep.new.running pool0 c.keep.new.pool ram0 ram1 c.keep.new.ram held a c.keep.ensures.moves
+
+pub returns-in-None-clause-asked : goal.returns-in-None-clause-asked
+returns-in-None-clause-asked g c =
+    let running = c.args.running.now in
+    let m = wedge c.args.image.now [] running.frames in
+    let b = state_of g.S.Shadows.stands g.S.Shadows.frames g.S.Shadows.slots m running c.args.ram.now in
+    let tries = rw c.in-None.is at (c.in_ok-worked.ensures.tries m (unheld b) (record { has = refl; over = refl })) in
+    let new = c.keep.new.running in
+    c.keep.ensures.same ∙ (λ i. record running { board = tries.0 i; shadows = new.shadows; held = new.held; fills = new.fills })
+
+pub returns-in-None-clause-held : goal.returns-in-None-clause-held
+returns-in-None-clause-held g c =
+    let running = c.args.running.now in
+    let image = c.args.image.now in
+    let n = running.frames in
+    let ram0 = c.args.ram.now in
+    let pool0 = c.args.pool.now in
+    let ram1 = c.try_native.new.ram in
+    let state0 = c.begin-state.result in
+    let state1 = c.try_native.new.state in
+    let o = c.original in
+    let held = c.requires.held in
+    let frames1 : state1.control.frames ≡ n = ap (λ (k : Control). k.frames) c.try_native.ensures.control ∙ c.begin-state.ensures.frames in
+    let hid = subst (λ (x : Guard). laying.hidden x n ram1 ≡ laying.hidden x n ram0) c.begin-state.ensures.guard
+    (subst (λ (k : ℕ). laying.hidden c.begin-state.result.guard k ram1 ≡ laying.hidden c.begin-state.result.guard k ram0) c.begin-state.ensures.frames c.try_native.ensures.hidden) in
+    let fits1 : 4096 * n ≤ length ram1 = (let q = c.try_native.ensures.sound.frames_in in omega (arith, q, frames1)) in
+    let a = after g.S.Shadows.stands g.S.Shadows.frames g.S.Shadows.slots g.met.S.Shadows.above g.met.S.Shadows.same_frames g.met.S.Shadows.same_slots g.met.S.Shadows.same_entries image running pool0 ram0 ram1 o.result.first o.result.count held fits1
+    o.ensures.first o.ensures.count hid in
+    let wp1 : state1.control.wp ≡ wp_of running.cpu = ap (λ (k : Control). k.wp) c.try_native.ensures.control ∙ ap (λ (x : Space). x.wp) c.begin-state.ensures.space in
+    let slots1 = same_open image (wp_of running.cpu) (g.S.Shadows.slots running.shadows ram0) (g.S.Shadows.slots running.shadows ram1) a.slots_same held.open_to in
+    let new = c.keep.new.running in
+    let ram3 = c.keep.new.ram in
+    let same = c.keep.ensures.same in
+    let cpu_is : new.cpu ≡ running.cpu = ap (λ (r : Running g.row.S.Denot). r.cpu) same in
+    let state2 = c.keep_told.new.state in
+    let whole2 = changed (entries_of (g.S.Shadows.slots running.shadows ram1)) state2.changes in
+    let told_state = c.keep_told.ensures in
+    let wp2 : state2.control.wp ≡ wp_of running.cpu = ap (λ (x : kept_state.State). x.control.wp) told_state ∙ wp1 in
+    let open3 = subst (λ (x : Bool). AreOpen image x (g.S.Shadows.slots new.shadows ram3)) wp2 (c.keep.ensures.shows image c.text_frames-in-None.ensures (subst (λ (x : Bool). AreOpen image x (g.S.Shadows.slots running.shadows ram1)) (sym wp2) slots1)) in
+    let kept1 = entries_of (g.S.Shadows.slots running.shadows ram1) in
+    let within1 : AreWithin n (changed kept1 state1.changes) = subst (λ (k : ℕ). AreWithin k (changed kept1 state1.changes)) frames1 c.try_native.ensures.sound.within in
+    let base1 : AreWithin n kept1 = subst (λ (set : FinMap nat_cmp Entry). AreWithin n set) (sym a.entries_same) held.within in
+    let within2 : AreWithin n whole2 = subst (λ (x : kept_state.State). AreWithin n (changed kept1 x.changes)) (sym told_state) (told_within n kept1 state1.changes state1.went base1 within1) in
+    let fills = c.keep.ensures.fills in
+    let before = held.fills in
+    held_then g.S.Shadows.stands g.S.Shadows.frames g.S.Shadows.slots image running (record new { step = running.step + 1 }) pool0 c.keep.new.pool ram0 ram1 ram3 held a (owns c.try_native.ensures.sound.stands_now) c.keep.ensures.moves
+    c.keep.ensures.stands c.keep.ensures.owns c.keep.ensures.counted (omega (arith, fills, before)) (ap (λ (r : Running g.row.S.Denot). r.frames) same)
+    (part_within n _ whole2 c.keep.ensures.part within2)
+    (subst (λ (x : Cpu). AreOpen image (wp_of x) (g.S.Shadows.slots new.shadows ram3)) (sym cpu_is) open3)
+
+pub returns-in-None-clause-step : goal.returns-in-None-clause-step
+returns-in-None-clause-step g c = λ script.
+    let running = c.args.running.now in
+    let image = c.args.image.now in
+    let n = running.frames in
+    let ram0 = c.args.ram.now in
+    let pool0 = c.args.pool.now in
+    let ram1 = c.try_native.new.ram in
+    let state0 = c.begin-state.result in
+    let state1 = c.try_native.new.state in
+    let o = c.original in
+    let held = c.requires.held in
+    let frames1 : state1.control.frames ≡ n = ap (λ (k : Control). k.frames) c.try_native.ensures.control ∙ c.begin-state.ensures.frames in
+    let hid = subst (λ (x : Guard). laying.hidden x n ram1 ≡ laying.hidden x n ram0) c.begin-state.ensures.guard
+    (subst (λ (k : ℕ). laying.hidden c.begin-state.result.guard k ram1 ≡ laying.hidden c.begin-state.result.guard k ram0) c.begin-state.ensures.frames c.try_native.ensures.hidden) in
+    let fits1 : 4096 * n ≤ length ram1 = (let q = c.try_native.ensures.sound.frames_in in omega (arith, q, frames1)) in
+    let a = after g.S.Shadows.stands g.S.Shadows.frames g.S.Shadows.slots g.met.S.Shadows.above g.met.S.Shadows.same_frames g.met.S.Shadows.same_slots g.met.S.Shadows.same_entries image running pool0 ram0 ram1 o.result.first o.result.count held fits1
+    o.ensures.first o.ensures.count hid in
+    let m = wedge image script n in
+    let b = state_of g.S.Shadows.stands g.S.Shadows.frames g.S.Shadows.slots m running ram0 in
+    let mode : Mode = Wedge o.result.first o.result.count (record { front = 0; front_len = 0; back = 0; back_len = 0 }) in
+    let mode_is : wedge_mode image ≡ mode = λ i. Wedge (sym o.ensures.first i) (sym o.ensures.count i) (record { front = 0; front_len = 0; back = 0; back_len = 0 }) in
+    let laid = shown_is m o.result.bytes.now o.result.first ram0 o.ensures.bytes o.ensures.first in
+    let s0 = space_at (λ r. entries_of (g.S.Shadows.slots running.shadows r)) ram0 state0 in
+    let t = space_at (λ r. entries_of (g.S.Shadows.slots running.shadows r)) ram1 state1 in
+    let start = starts m b mode s0 mode_is (laying.laid o.result.bytes.now o.result.first n ram0) laid c.begin-state.ensures.space in
+    let w : IsWedge m = record { mode = held.wedge.mode; accepted = held.wedge.accepted; room = held.wedge.room } in
+    let any = any_script image script n ram0 in
+    let fit : AreBytes b.ram = subst AreBytes (sym any) c.are_bytes.ensures.bytes in
+    let long : length b.ram ≡ 4096 * n = ap length any ∙ c.are_bytes.ensures.length in
+    let room : 4096 * n ≤ length b.ram = omega (arith, long) in
+    let sound : again.AreWithin m b.set = λ page entry is. (held.within page entry is).1 in
+    let small = c.eip_fits.ensures in
+    let next = next_from m b c.requires.runs small in
+    let directory = g.S.Shadows.directory c.keep.new.running.shadows in
+    let tries = rw c.in-None.is at (c.in_ok-worked.ensures.tries m (unheld b) (record { has = refl; over = refl })) in
+    let p = subst (λ (s : Space). IsPrepared (unheld b) s t) start tries.1 in
+    let clear = c.requires.clear script p.insn p.len p.after_fetch p.fetches in
+    let other = others c.native_laws.ensures.grants c.native_laws.ensures.again c.native_laws.ensures.completes m w directory b room fit sound (c.native_laws.ensures.sees directory running.cpu c.requires.able) next small t p clear in
+    let kept1 = entries_of (g.S.Shadows.slots running.shadows ram1) in
+    let told_is : changed kept1 (told state1.went state1.changes) ≡ changed kept1 state1.changes = told_same kept1 state1.changes state1.went (λ q no. other q no ∙ ap (λ (set : FinMap nat_cmp Entry). get set q) (sym a.entries_same)) in
+    let wp1 : state1.control.wp ≡ wp_of running.cpu = ap (λ (k : Control). k.wp) c.try_native.ensures.control ∙ ap (λ (x : Space). x.wp) c.begin-state.ensures.space in
+    let slots1 = same_open image (wp_of running.cpu) (g.S.Shadows.slots running.shadows ram0) (g.S.Shadows.slots running.shadows ram1) a.slots_same held.open_to in
+    let new = c.keep.new.running in
+    let ram3 = c.keep.new.ram in
+    let same = c.keep.ensures.same in
+    let cpu_is : new.cpu ≡ running.cpu = ap (λ (r : Running g.row.S.Denot). r.cpu) same in
+    let side = side_of (running.cpu.cpl == 3) in
+    let slots3 = g.S.Shadows.slots new.shadows ram3 in
+    let within1 : AreWithin n (changed kept1 state1.changes) = subst (λ (k : ℕ). AreWithin k (changed kept1 state1.changes)) frames1 c.try_native.ensures.sound.within in
+    let free1 = length (free_list pool0 ram1) in
+    let enough : 8 ≤ free1 = (let e = ap length a.free_same in let r = c.requires.room in omega (arith, e, r)) in
+    let may = may_close c.native_laws.ensures.grants c.native_laws.ensures.again c.native_laws.ensures.completes m w directory b room fit sound (c.native_laws.ensures.sees directory running.cpu c.requires.able) next small t p clear n c.text_frames-in-None.result free1 state1.changes c.text_frames-in-None.ensures within1 enough in
+    let closes = closes_told (g.S.Shadows.slots running.shadows ram1) slots3 kept1 t.set c.text_frames-in-None.result side free1 (wp_of running.cpu) (g.S.Shadows.tracked new.shadows) state1 c.keep_told.new.state c.keep_told.ensures told_is wp1 c.keep.ensures.whole may in
+    let text1 = c.try_native.ensures.text ∙ ap (λ (x : Guard). x.text) c.begin-state.ensures.guard in
+    let here : laying.laid o.result.bytes.now o.result.first n ram1 ≡ t.ram = λ i. laying.shown_by (sym text1 i).now (sym frames1 i) ram1 in
+    let front = front_same n pool0 c.keep.new.pool ram1 ram3 (g.S.Shadows.frames running.shadows ram1) (g.S.Shadows.frames new.shadows ram3) held.behind (owns c.try_native.ensures.sound.stands_now) c.keep.ensures.moves in
+    let ram_is : shown m ram3 ≡ t.ram = shown_same m ram1 ram3 front ∙ (sym (shown_is m o.result.bytes.now o.result.first ram1 o.ensures.bytes o.ensures.first) ∙ here) in
+    let size : length ram3 ≡ length ram0 = c.keep.ensures.moves.size ∙ a.left.size in
+    let pages_of_ram : 4096 * (length ram3 / 4096) ≡ length ram3 = (let h = held.whole in omega (arith, size, h)) in
+    let roomy : 4096 * n ≤ length ram3 = (let h = held.host.room in omega (arith, size, h)) in
+    let host = λ (page : ℕ) (write : Bool) (lt : page < 2 ^ 20). g.met.S.Shadows.host new.shadows ram3 (length ram3 / 4096) side page write c.keep.ensures.stands pages_of_ram lt in
+    let beyond = λ (page : ℕ) (le : 2 ^ 20 ≤ page). ap (λ (set : FinMap nat_cmp Entry). get set page) (sym closes.entries) ∙ g.met.S.Shadows.none_beyond new.shadows ram3 page le in
+    let within = λ (page : ℕ) (entry : Entry) (is : get t.set page ≡ Some entry). let lt : entry.frame < n = (within1 page entry is).1 in let below : entry.frame < length ram3 / 4096 = omega (arith, lt, roomy) in below in
+    let host3 : IsHost m ram3 =
+    (let text = text_within image in let r = held.wedge.room in host_same m ram1 ram3 (omega (arith, r, text)) c.keep.ensures.moves.size front (host_left m (text_pages image) ram0 ram1 text a.left (record { room = held.host.room; text = held.host.text }))) in
+    let sees = c.native_laws.ensures.sees directory running.cpu c.requires.able in
+    let wp2 : c.keep_told.new.state.control.wp ≡ wp_of running.cpu = ap (λ (x : kept_state.State). x.control.wp) c.keep_told.ensures ∙ wp1 in
+    let open3 = subst (λ (x : Bool). AreOpen image x slots3) wp2 (c.keep.ensures.shows image c.text_frames-in-None.ensures (subst (λ (x : Bool). AreOpen image x (g.S.Shadows.slots running.shadows ram1)) (sym wp2) slots1)) in
+    let lends = subst (λ (k : Bool). Lends m ram3 (directory side) k (wp_of running.cpu) t.set) (side_is running.cpu)
+    (c.native_laws.ensures.lends m ram3 (directory side) side (wp_of running.cpu) slots3 t.set host (λ page lt. g.met.S.Shadows.entry_at new.shadows ram3 page lt) (subst (λ (set : FinMap nat_cmp Entry). AreWithin n set) (sym closes.entries) within1) open3
+    (part_same (entries_of slots3) t.set closes.entries)) in
+    let state_is : state_of g.S.Shadows.stands g.S.Shadows.frames g.S.Shadows.slots m new ram3 ≡ again.settled b t =
+    λ i. record { cpu = cpu_is i; ram = ram_is i; set = closes.entries i; board = (ap (λ (r : Running g.row.S.Denot). r.board) same ∙ tries.0) i; step = ap (λ (r : Running g.row.S.Denot). r.step) same i } in
+    asks c.native_laws.ensures.grants c.native_laws.ensures.again c.native_laws.ensures.completes m w directory b room fit sound (c.native_laws.ensures.sees directory running.cpu c.requires.able) next small t p clear (g.S.Shadows.slots running.shadows ram1) slots3 state1.changes (g.S.Shadows.tracked new.shadows) ram3 closes beyond host within (record { host = host3; ram = sym ram_is; sees = sees }) lends
+    (state_of g.S.Shadows.stands g.S.Shadows.frames g.S.Shadows.slots m new ram3) state_is
+
+pub returns-in_err-worked-clause-filled : goal.returns-in_err-worked-clause-filled
+returns-in_err-worked-clause-filled g c =
+    let running = c.args.running.now in
+    let image = c.args.image.now in
+    let n = running.frames in
+    let ram0 = c.args.ram.now in
+    let pool0 = c.args.pool.now in
+    let ram1 = c.try_native.new.ram in
+    let state0 = c.begin-state.result in
+    let state1 = c.try_native.new.state in
+    let o = c.original in
+    let held = c.requires.held in
+    let frames1 : state1.control.frames ≡ n = ap (λ (k : Control). k.frames) c.try_native.ensures.control ∙ c.begin-state.ensures.frames in
+    let hid = subst (λ (x : Guard). laying.hidden x n ram1 ≡ laying.hidden x n ram0) c.begin-state.ensures.guard
+    (subst (λ (k : ℕ). laying.hidden c.begin-state.result.guard k ram1 ≡ laying.hidden c.begin-state.result.guard k ram0) c.begin-state.ensures.frames c.try_native.ensures.hidden) in
+    let fits1 : 4096 * n ≤ length ram1 = (let q = c.try_native.ensures.sound.frames_in in omega (arith, q, frames1)) in
+    let a = after g.S.Shadows.stands g.S.Shadows.frames g.S.Shadows.slots g.met.S.Shadows.above g.met.S.Shadows.same_frames g.met.S.Shadows.same_slots g.met.S.Shadows.same_entries image running pool0 ram0 ram1 o.result.first o.result.count held fits1
+    o.ensures.first o.ensures.count hid in
+    let set0 = entries_of (g.S.Shadows.slots running.shadows ram0) in
+    let set1 = entries_of (g.S.Shadows.slots running.shadows ram1) in
+    fills_same set0 set1 running.fills a.entries_same
+
+pub returns-in-Some-clause-filled : goal.returns-in-Some-clause-filled
+returns-in-Some-clause-filled g c =
+    let running = c.args.running.now in
+    let image = c.args.image.now in
+    let n = running.frames in
+    let ram0 = c.args.ram.now in
+    let pool0 = c.args.pool.now in
+    let ram1 = c.try_native.new.ram in
+    let state0 = c.begin-state.result in
+    let state1 = c.try_native.new.state in
+    let o = c.original in
+    let held = c.requires.held in
+    let frames1 : state1.control.frames ≡ n = ap (λ (k : Control). k.frames) c.try_native.ensures.control ∙ c.begin-state.ensures.frames in
+    let hid = subst (λ (x : Guard). laying.hidden x n ram1 ≡ laying.hidden x n ram0) c.begin-state.ensures.guard
+    (subst (λ (k : ℕ). laying.hidden c.begin-state.result.guard k ram1 ≡ laying.hidden c.begin-state.result.guard k ram0) c.begin-state.ensures.frames c.try_native.ensures.hidden) in
+    let fits1 : 4096 * n ≤ length ram1 = (let q = c.try_native.ensures.sound.frames_in in omega (arith, q, frames1)) in
+    let a = after g.S.Shadows.stands g.S.Shadows.frames g.S.Shadows.slots g.met.S.Shadows.above g.met.S.Shadows.same_frames g.met.S.Shadows.same_slots g.met.S.Shadows.same_entries image running pool0 ram0 ram1 o.result.first o.result.count held fits1
+    o.ensures.first o.ensures.count hid in
+    let set0 = entries_of (g.S.Shadows.slots running.shadows ram0) in
+    let set1 = entries_of (g.S.Shadows.slots running.shadows ram1) in
+    fills_join _ _ _ _ _ _ (fills_same set0 set1 running.fills a.entries_same) c.go.ensures.filled
+
+pub returns-in-None-clause-filled : goal.returns-in-None-clause-filled
+returns-in-None-clause-filled g c =
+    let running = c.args.running.now in
+    let image = c.args.image.now in
+    let n = running.frames in
+    let ram0 = c.args.ram.now in
+    let pool0 = c.args.pool.now in
+    let ram1 = c.try_native.new.ram in
+    let state0 = c.begin-state.result in
+    let state1 = c.try_native.new.state in
+    let o = c.original in
+    let held = c.requires.held in
+    let frames1 : state1.control.frames ≡ n = ap (λ (k : Control). k.frames) c.try_native.ensures.control ∙ c.begin-state.ensures.frames in
+    let hid = subst (λ (x : Guard). laying.hidden x n ram1 ≡ laying.hidden x n ram0) c.begin-state.ensures.guard
+    (subst (λ (k : ℕ). laying.hidden c.begin-state.result.guard k ram1 ≡ laying.hidden c.begin-state.result.guard k ram0) c.begin-state.ensures.frames c.try_native.ensures.hidden) in
+    let fits1 : 4096 * n ≤ length ram1 = (let q = c.try_native.ensures.sound.frames_in in omega (arith, q, frames1)) in
+    let a = after g.S.Shadows.stands g.S.Shadows.frames g.S.Shadows.slots g.met.S.Shadows.above g.met.S.Shadows.same_frames g.met.S.Shadows.same_slots g.met.S.Shadows.same_entries image running pool0 ram0 ram1 o.result.first o.result.count held fits1
+    o.ensures.first o.ensures.count hid in
+    let set0 = entries_of (g.S.Shadows.slots running.shadows ram0) in
+    let set1 = entries_of (g.S.Shadows.slots running.shadows ram1) in
+    fills_join _ _ _ _ _ _ (fills_same set0 set1 running.fills a.entries_same) c.keep.ensures.filled

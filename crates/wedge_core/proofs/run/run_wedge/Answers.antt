@@ -1,0 +1,48 @@
+use Rattle.std.proofs.Common.{◌≡◌, ℕ, [], sym, subst, arith}
+use Rattle.shadow_tables.specs.Slots.{IsShadow, held as held_by, slot_at}
+use Rattle.machine_model.specs.State.{boot, wedge}
+use Rattle.wedge_core.specs.Promises.{WedgeAnswers}
+use Rattle.wedge_core.specs.Slices.{Counts}
+use Rattle.wedge_core.specs.Standing.{IsHeld, ground, state_of}
+use Rattle.wedge_core.proofs.run.run_wedge.Goals as goal
+
+pub whole-requires-clause-held : goal.whole-requires-clause-held
+whole-requires-clause-held g c =
+    let b = c.in-Ok.ensures.started.4 [] in
+    subst (λ (f : ℕ). IsHeld IsShadow held_by slot_at (ground c.args.image.now f) c.in-Ok.guest.running c.in-Ok.pool (g.H.Host.bytes c.start.new.host)) (sym b.held.frames_are) b.held
+
+pub whole-requires-clause-able : goal.whole-requires-clause-able
+whole-requires-clause-able g c = let b = c.in-Ok.ensures.started.4 [] in b.able
+
+pub whole-requires-clause-fits : goal.whole-requires-clause-fits
+whole-requires-clause-fits g c =
+    let b = c.in-Ok.ensures.started.4 [] in
+    let frames = b.held.frames_are in
+    let fits = c.in-Ok.ensures.started.0 in
+    omega (arith, frames, fits)
+
+pub whole-requires-clause-first : goal.whole-requires-clause-first
+whole-requires-clause-first g c =
+    let b = c.in-Ok.ensures.started.4 c.args.script.now.list in
+    subst (λ (f : ℕ). state_of IsShadow held_by slot_at (wedge c.args.image.now c.args.script.now.list f) c.in-Ok.guest.running (g.H.Host.bytes c.start.new.host) ≡ boot (wedge c.args.image.now c.args.script.now.list f)) (sym b.held.frames_are) b.state
+
+pub whole-requires-clause-enough : goal.whole-requires-clause-enough
+whole-requires-clause-enough g c =
+    let b = c.in-Ok.ensures.started.4 [] in
+    let all = b.all in
+    let count = c.in-Ok.ensures.started.3 in
+    let pool = c.requires.pool in
+    omega (arith, all, count, pool)
+
+pub returns-in-Ok : goal.returns-in-Ok
+returns-in-Ok g c =
+    let b = c.in-Ok.ensures.started.4 [] in
+    let image = c.args.image.now in
+    let script = c.args.script.now.list in
+    let after : Counts = record { retired = g.H.Host.retired c.whole.new.host; passed = g.H.Host.passed c.whole.new.host } in
+    let begun : Counts = record { retired = g.H.Host.retired c.start.new.host; passed = g.H.Host.passed c.start.new.host } in
+    let here = subst (λ (f : ℕ). WedgeAnswers image script f c.args.n (g.O.Sink.taken c.args.out.now) (g.O.Sink.taken c.whole.new.out) (g.O.Sink.faults c.args.out.now) (g.O.Sink.faults c.whole.new.out) begun after (g.H.Host.bytes c.whole.new.host) c.whole.result) b.held.frames_are c.whole.ensures.whole in
+    record {
+      run = subst (λ (x : Counts). WedgeAnswers image script c.args.frames c.args.n (g.O.Sink.taken c.args.out.now) (g.O.Sink.taken c.whole.new.out) (g.O.Sink.faults c.args.out.now) (g.O.Sink.faults c.whole.new.out) x after (g.H.Host.bytes c.whole.new.host) c.whole.result)
+          (λ i. record { retired = c.start.ensures.retired i; passed = c.start.ensures.passed i }) here;
+    }

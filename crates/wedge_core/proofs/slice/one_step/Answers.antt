@@ -1,0 +1,209 @@
+use Rattle.std.proofs.Common.{◌≡◌, ℕ, ◌*◌, ◌≤◌, List, [], length, drop, refl, sym, subst, ◌∙◌, arith, ap}
+use Rattle.frame_pool.specs.Held.{Owns}
+use Rattle.frame_pool.specs.Pool.{base_of}
+use Rattle.shadow_tables.specs.Entries.{entries_of}
+use Rattle.host_cpl3.specs.Hosts.{standing}
+use Rattle.machine_model.specs.State.{wedge}
+use Rattle.wedge_core.specs.Attempts.{Asks, Idle}
+use Rattle.wedge_core.specs.Pools.{Keeps}
+use Rattle.wedge_core.specs.Ran.{Ran}
+use Rattle.wedge_core.specs.Slices.{Counts}
+use Rattle.wedge_core.specs.Standing.{IsHeld, ground, state_of}
+use Rattle.wedge_core.specs.Stepping.{StepAs}
+use Rattle.wedge_core.specs.Views.{view_by}
+use Rattle.wedge_core.specs.declared.running.Running.{Running}
+use Rattle.wedge_core.specs.Filled.{FillsOn}
+use Rattle.wedge_core.proofs.Going.{counted, counts_same}
+use Rattle.wedge_core.proofs.OnceRan.{SameKept, IsOnce, once_goes_on, once_counts, once_stands, once_able, once_held, once_keeps, once_fills, alone_able, idle_able, idle_goes}
+use Rattle.wedge_core.proofs.slice.one_step.Given.{Over}
+use Rattle.wedge_core.proofs.slice.one_step.Goals as goal
+
+pub returns-then-not-may_run-clause-step : goal.returns-then-not-may_run-clause-step
+returns-then-not-may_run-clause-step g c = λ script.
+    let m = wedge c.args.image.now script c.args.running.now.frames in
+    let at = λ (r : Running g.row.S.Denot) (memory : List ℕ). state_of g.S.Shadows.stands g.S.Shadows.frames g.S.Shadows.slots m r memory in
+    let old = at c.args.running.now (g.H.Host.bytes c.args.host.now) in
+    let new = at c.by_rules.new.running (g.H.Host.bytes c.by_rules.new.host) in
+    let before = counted (g.H.Host.retired c.args.host.now) (g.H.Host.passed c.args.host.now) in
+    let same = counts_same (g.H.Host.retired c.args.host.now) (g.H.Host.retired c.by_rules.new.host) (g.H.Host.passed c.args.host.now) (g.H.Host.passed c.by_rules.new.host) c.by_rules.ensures.retired c.by_rules.ensures.passed in
+    subst (λ (x : Counts). StepAs m old c.by_rules.result new before x) (sym same)
+    (c.alones_go.ensures m old c.by_rules.result new before refl c.requires.able.level (sym c.may_run.ensures ∙ c.if-not-may_run.true) (c.by_rules.ensures.step script))
+
+pub returns-then-not-may_run-clause-able : goal.returns-then-not-may_run-clause-able
+returns-then-not-may_run-clause-able g c =
+    let m = ground c.args.image.now c.args.running.now.frames in
+    let at = λ (r : Running g.row.S.Denot) (memory : List ℕ). state_of g.S.Shadows.stands g.S.Shadows.frames g.S.Shadows.slots m r memory in
+    alone_able c.steps_keep_able.ensures m (at c.args.running.now (g.H.Host.bytes c.args.host.now)) c.by_rules.result (at c.by_rules.new.running (g.H.Host.bytes c.by_rules.new.host)) refl c.requires.able (c.by_rules.ensures.step [])
+
+-- the memory that was lent, at both ends
+module _ (g : Over) (c : goal.In-Went g) where
+  old_memory : c.ram_mut.result.now ≡ g.H.Host.bytes c.args.host.now
+  old_memory = c.ram_mut.ensures.ram
+
+  new_memory : c.begin_native.new.ram ≡ g.H.Host.bytes (g.H.Host.with_bytes c.args.host.now c.begin_native.new.ram)
+  new_memory = sym (g.met.H.Host.bytes_changed c.args.host.now c.begin_native.new.ram)
+
+  went : (script : _) → Idle (wedge c.args.image.now script c.args.running.now.frames)
+      (state_of g.S.Shadows.stands g.S.Shadows.frames g.S.Shadows.slots (wedge c.args.image.now script c.args.running.now.frames) c.args.running.now c.ram_mut.result.now) c.in-Went.seen
+      (state_of g.S.Shadows.stands g.S.Shadows.frames g.S.Shadows.slots (wedge c.args.image.now script c.args.running.now.frames) c.begin_native.new.running c.begin_native.new.ram)
+  went script = rw c.in-Went.is at (c.in_ok-seen.ensures.step script)
+
+pub returns-in-Went-clause-step : goal.returns-in-Went-clause-step
+returns-in-Went-clause-step g c = λ script.
+    let m = wedge c.args.image.now script c.args.running.now.frames in
+    let at = λ (r : Running g.row.S.Denot) (memory : List ℕ). state_of g.S.Shadows.stands g.S.Shadows.frames g.S.Shadows.slots m r memory in
+    let host = g.H.Host.with_bytes c.args.host.now c.begin_native.new.ram in
+    let before = counted (g.H.Host.retired c.args.host.now) (g.H.Host.passed c.args.host.now) in
+    let after = counted (g.H.Host.retired host) (g.H.Host.passed host) in
+    let same = counts_same (g.H.Host.retired c.args.host.now) (g.H.Host.retired host) (g.H.Host.passed c.args.host.now) (g.H.Host.passed host) (g.met.H.Host.retired_stays c.args.host.now c.begin_native.new.ram) (g.met.H.Host.passed_stays c.args.host.now c.begin_native.new.ram) in
+    let i = subst (λ (l : List ℕ). Idle m (at c.args.running.now (g.H.Host.bytes c.args.host.now)) c.in-Went.seen (at c.begin_native.new.running l)) (new_memory g c)
+    (subst (λ (l : List ℕ). Idle m (at c.args.running.now l) c.in-Went.seen (at c.begin_native.new.running c.begin_native.new.ram)) (old_memory g c) (went g c script)) in
+    idle_goes m _ c.in-Went.seen _ before after (sym same) i
+
+pub returns-in-Went-clause-held : goal.returns-in-Went-clause-held
+returns-in-Went-clause-held g c =
+    let count = rw c.in-Went.is at c.in_ok-seen.ensures.count in
+    let r = c.begin_native.new.running in
+    let held = subst (λ (k : ℕ). IsHeld g.S.Shadows.stands g.S.Shadows.frames g.S.Shadows.slots (ground c.args.image.now c.args.running.now.frames) (record r { step = k }) c.begin_native.new.pool c.begin_native.new.ram) (sym count) c.in_ok-seen.ensures.held in
+    subst (λ (l : List ℕ). IsHeld g.S.Shadows.stands g.S.Shadows.frames g.S.Shadows.slots (ground c.args.image.now c.args.running.now.frames) r c.begin_native.new.pool l) (new_memory g c) held
+
+pub returns-in-Went-clause-able : goal.returns-in-Went-clause-able
+returns-in-Went-clause-able g c = idle_able c.steps_keep_able.ensures _ _ c.in-Went.seen _ refl c.requires.able (went g c [])
+
+pub returns-in-Went-clause-pool : goal.returns-in-Went-clause-pool
+returns-in-Went-clause-pool g c =
+    let p = c.args.pool.now in
+    let q = c.begin_native.new.pool in
+    let fs = λ (l : List ℕ). g.S.Shadows.frames c.args.running.now.shadows l in
+    let gs = λ (l : List ℕ). g.S.Shadows.frames c.begin_native.new.running.shadows l in
+    let m1 = c.begin_native.new.ram in
+    subst (λ (l : List ℕ). Keeps p q (g.H.Host.bytes c.args.host.now) l (fs (g.H.Host.bytes c.args.host.now)) (gs l)) (new_memory g c)
+    (subst (λ (l : List ℕ). Keeps p q l m1 (fs l) (gs m1)) (old_memory g c) c.in_ok-seen.ensures.pool)
+
+-- ---- the host did it
+module _ (g : Over) (c : goal.After-run_on-one g) where
+  lent : c.ram_mut.result.now ≡ g.H.Host.bytes c.args.host.now
+  lent = c.ram_mut.ensures.ram
+
+  given_back : g.H.Host.bytes (g.H.Host.with_bytes c.args.host.now c.begin_native.new.ram) ≡ c.begin_native.new.ram
+  given_back = g.met.H.Host.bytes_changed c.args.host.now c.begin_native.new.ram
+
+  kept_above : (n : ℕ) → ∥ g.S.Shadows.stands c.begin_native.new.running.shadows c.begin_native.new.ram ∥₁ → Owns c.begin_native.new.pool c.begin_native.new.ram (g.S.Shadows.frames c.begin_native.new.running.shadows c.begin_native.new.ram)
+      → n ≤ base_of c.begin_native.new.pool → (now : List ℕ) → drop (4096 * n) now ≡ drop (4096 * n) c.begin_native.new.ram → length now ≡ length c.begin_native.new.ram
+      → SameKept g.S.Shadows.stands g.S.Shadows.frames g.S.Shadows.slots c.begin_native.new.running.shadows c.begin_native.new.pool c.begin_native.new.ram now
+  kept_above n stands owns low now above size =
+      let s = c.begin_native.new.running.shadows in
+      let p = c.begin_native.new.pool in
+      let old = c.begin_native.new.ram in
+      let under : 4096 * n ≤ 4096 * base_of p = omega (arith, low) in
+      let e = g.met.S.Shadows.above s p old now (4096 * n) owns under above size in
+      record {
+        stand = g.met.S.Shadows.stays s old now stands e;
+        owns = g.met.S.Shadows.owned_above s p old now (4096 * n) stands owns under above size;
+        frames_are = g.met.S.Shadows.same_frames s old now stands e;
+        slots_are = g.met.S.Shadows.same_slots s old now stands e;
+        entries_are = g.met.S.Shadows.same_entries s old now stands e;
+      }
+
+  ran : Ran (view_by (g.S.Shadows.directory c.begin_native.new.running.shadows) c.begin_native.new.running.cpu) 1
+      (standing c.begin_native.new.running.cpu.regs c.begin_native.new.ram (g.H.Host.retired c.args.host.now) (g.H.Host.passed c.args.host.now))
+      c.begin_native.new.running c.run_on-one.result c.run_on-one.new.running (g.H.Host.bytes c.run_on-one.new.host) (g.H.Host.retired c.run_on-one.new.host) (g.H.Host.passed c.run_on-one.new.host)
+  ran =
+      let r = c.begin_native.new.running in
+      let v = view_by (g.S.Shadows.directory r.shadows) r.cpu in
+      let x = c.run_on-one.new in
+      let host = g.H.Host.with_bytes c.args.host.now c.begin_native.new.ram in
+      subst (λ (k : ℕ). Ran v 1 (standing r.cpu.regs c.begin_native.new.ram (g.H.Host.retired c.args.host.now) k) r c.run_on-one.result x.running (g.H.Host.bytes x.host) (g.H.Host.retired x.host) (g.H.Host.passed x.host)) (g.met.H.Host.passed_stays c.args.host.now c.begin_native.new.ram)
+      (subst (λ (k : ℕ). Ran v 1 (standing r.cpu.regs c.begin_native.new.ram k (g.H.Host.passed host)) r c.run_on-one.result x.running (g.H.Host.bytes x.host) (g.H.Host.retired x.host) (g.H.Host.passed x.host)) (g.met.H.Host.retired_stays c.args.host.now c.begin_native.new.ram)
+      (subst (λ (l : List ℕ). Ran v 1 (standing r.cpu.regs l (g.H.Host.retired host) (g.H.Host.passed host)) r c.run_on-one.result x.running (g.H.Host.bytes x.host) (g.H.Host.retired x.host) (g.H.Host.passed x.host)) given_back c.run_on-one.ensures.ran))
+
+  once : IsOnce g.S.Shadows.stands g.S.Shadows.frames g.S.Shadows.slots g.S.Shadows.directory c.args.image.now c.args.running.now c.begin_native.new.running c.run_on-one.new.running c.begin_native.new.pool
+      (g.H.Host.bytes c.args.host.now) c.begin_native.new.ram (g.H.Host.bytes c.run_on-one.new.host)
+      (counted (g.H.Host.retired c.args.host.now) (g.H.Host.passed c.args.host.now)) (counted (g.H.Host.retired c.run_on-one.new.host) (g.H.Host.passed c.run_on-one.new.host)) c.run_on-one.result
+  once =
+      let n = c.args.running.now.frames in
+      let at = λ (script : _) (r : Running g.row.S.Denot) (memory : List ℕ). state_of g.S.Shadows.stands g.S.Shadows.frames g.S.Shadows.slots (wedge c.args.image.now script n) r memory in
+      record {
+        asks = λ script. subst (λ (l : List ℕ). Asks (wedge c.args.image.now script n) (view_by (g.S.Shadows.directory c.begin_native.new.running.shadows) c.args.running.now.cpu) (at script c.args.running.now l) (at script c.begin_native.new.running c.begin_native.new.ram) c.begin_native.new.ram) lent
+            (rw c.in-Asked.is at (c.in_ok-seen.ensures.step script));
+        ran = ran;
+        same = rw c.in-Asked.is at c.in_ok-seen.ensures.asked;
+        held = c.in_ok-seen.ensures.held;
+        kept = λ above size. kept_above n c.in_ok-seen.ensures.held.stand c.in_ok-seen.ensures.held.owns c.in_ok-seen.ensures.held.behind (g.H.Host.bytes c.run_on-one.new.host) above size;
+      }
+
+pub returns-in-Asked-clause-step : goal.returns-in-Asked-clause-step
+returns-in-Asked-clause-step g c = λ script. once_goes_on g.S.Shadows.stands g.S.Shadows.frames g.S.Shadows.slots g.S.Shadows.directory _ _ _ _ _ _ _ _ _ _ _ (once g c) script
+
+pub returns-in-Asked-clause-held : goal.returns-in-Asked-clause-held
+returns-in-Asked-clause-held g c = once_held g.S.Shadows.stands g.S.Shadows.frames g.S.Shadows.slots g.S.Shadows.directory _ _ _ _ _ _ _ _ _ _ _ (once g c)
+
+pub returns-in-Asked-clause-able : goal.returns-in-Asked-clause-able
+returns-in-Asked-clause-able g c = once_able g.S.Shadows.stands g.S.Shadows.frames g.S.Shadows.slots g.S.Shadows.directory _ _ _ _ _ _ _ _ _ _ _ (once g c) c.steps_keep_able.ensures c.requires.able
+
+pub returns-in-Asked-clause-count : goal.returns-in-Asked-clause-count
+returns-in-Asked-clause-count g c = once_counts g.S.Shadows.stands g.S.Shadows.frames g.S.Shadows.slots g.S.Shadows.directory _ _ _ _ _ _ _ _ _ _ _ (once g c)
+
+pub returns-in-Asked-clause-stands : goal.returns-in-Asked-clause-stands
+returns-in-Asked-clause-stands g c = once_stands g.S.Shadows.stands g.S.Shadows.frames g.S.Shadows.slots g.S.Shadows.directory _ _ _ _ _ _ _ _ _ _ _ (once g c)
+
+pub returns-in-Asked-clause-pool : goal.returns-in-Asked-clause-pool
+returns-in-Asked-clause-pool g c =
+    let gs = λ (l : List ℕ). g.S.Shadows.frames c.args.running.now.shadows l in
+    let m1 = c.begin_native.new.ram in
+    once_keeps g.S.Shadows.stands g.S.Shadows.frames g.S.Shadows.slots g.S.Shadows.directory _ _ _ _ _ _ _ _ _ _ _ (once g c) c.args.pool.now
+    (subst (λ (l : List ℕ). Keeps c.args.pool.now c.begin_native.new.pool l m1 (gs l) (g.S.Shadows.frames c.begin_native.new.running.shadows m1)) (lent g c) c.in_ok-seen.ensures.pool)
+
+pub returns-in-Went-clause-filled : goal.returns-in-Went-clause-filled
+returns-in-Went-clause-filled g c =
+    let old = λ (l : List ℕ). entries_of (g.S.Shadows.slots c.args.running.now.shadows l) in
+    let new = λ (l : List ℕ). entries_of (g.S.Shadows.slots c.begin_native.new.running.shadows l) in
+    let fills = c.args.running.now.fills in
+    let m1 = c.begin_native.new.ram in
+    subst (λ (l : List ℕ). FillsOn (old (g.H.Host.bytes c.args.host.now)) (new l) fills c.begin_native.new.running.fills) (new_memory g c)
+    (subst (λ (l : List ℕ). FillsOn (old l) (new m1) fills c.begin_native.new.running.fills) (old_memory g c) c.in_ok-seen.ensures.filled)
+
+pub returns-in-Asked-clause-filled : goal.returns-in-Asked-clause-filled
+returns-in-Asked-clause-filled g c =
+    let old = λ (l : List ℕ). entries_of (g.S.Shadows.slots c.args.running.now.shadows l) in
+    let m1 = c.begin_native.new.ram in
+    once_fills g.S.Shadows.stands g.S.Shadows.frames g.S.Shadows.slots g.S.Shadows.directory _ _ _ _ _ _ _ _ _ _ _ (once g c)
+    (subst (λ (l : List ℕ). FillsOn (old l) (entries_of (g.S.Shadows.slots c.begin_native.new.running.shadows m1)) c.args.running.now.fills c.begin_native.new.running.fills) (lent g c) c.in_ok-seen.ensures.filled)
+
+pub returns-in-Went-clause-started : goal.returns-in-Went-clause-started
+returns-in-Went-clause-started g c = g.met.H.Host.started_so c.args.host.now c.begin_native.new.ram
+
+pub returns-in-Went-clause-stands : goal.returns-in-Went-clause-stands
+returns-in-Went-clause-stands g c = subst (λ (l : List ℕ). ∥ g.S.Shadows.stands c.begin_native.new.running.shadows l ∥₁) (new_memory g c) c.in_ok-seen.ensures.stands
+
+pub returns-in-Went-clause-count : goal.returns-in-Went-clause-count
+returns-in-Went-clause-count g c = rw c.in-Went.is at c.in_ok-seen.ensures.count
+
+pub run_on-one-requires-clause-started : goal.run_on-one-requires-clause-started
+run_on-one-requires-clause-started g c = g.met.H.Host.started_so c.args.host.now c.begin_native.new.ram
+
+pub run_on-one-requires-clause-stands : goal.run_on-one-requires-clause-stands
+run_on-one-requires-clause-stands g c =
+    subst (λ (l : List ℕ). ∥ g.S.Shadows.stands c.begin_native.new.running.shadows l ∥₁) (sym (g.met.H.Host.bytes_changed c.args.host.now c.begin_native.new.ram)) c.in_ok-seen.ensures.stands
+
+pub run_on-one-requires-clause-bound : goal.run_on-one-requires-clause-bound
+run_on-one-requires-clause-bound g c =
+    let same = ap (λ (r : Running g.row.S.Denot). r.step) (rw c.in-Asked.is at c.in_ok-seen.ensures.asked) in
+    let bound = c.requires.bound in
+    omega (arith, same, bound)
+
+pub run_on-one-requires-clause-room : goal.run_on-one-requires-clause-room
+run_on-one-requires-clause-room g c =
+    let same = g.met.H.Host.retired_stays c.args.host.now c.begin_native.new.ram in
+    let room = c.requires.room in
+    omega (arith, same, room)
+
+pub returns-in-Went-clause-counted : goal.returns-in-Went-clause-counted
+returns-in-Went-clause-counted g c =
+    let r = c.begin_native.new.running in
+    subst (λ (l : List ℕ). r.held ≡ length (g.S.Shadows.frames r.shadows l)) (new_memory g c) c.in_ok-seen.ensures.counted
+
+pub returns-in-Asked-clause-counted : goal.returns-in-Asked-clause-counted
+returns-in-Asked-clause-counted g c =
+    let held = once_held g.S.Shadows.stands g.S.Shadows.frames g.S.Shadows.slots g.S.Shadows.directory _ _ _ _ _ _ _ _ _ _ _ (once g c) in
+    held.counted

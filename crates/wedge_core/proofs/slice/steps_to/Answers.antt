@@ -1,0 +1,257 @@
+use Rattle.std.proofs.Common.{◌≡◌, ℕ, List, Ok, Err, refl, sym, ap, subst, ◌∙◌, arith}
+use Rattle.pv_io.specs.Sink.{Appends, AppendsFront}
+use Rattle.board.specs.Boards.{given}
+use Rattle.run_trace.specs.declared.items.Item.{Item}
+use Rattle.run_trace.specs.Text.{lines_of}
+use Rattle.machine_model.specs.State.{wedge}
+use Rattle.machine_model.specs.Step.{items_at}
+use Rattle.machine_step.specs.Worked.{whats}
+use Rattle.wedge_core.specs.declared.running.Running.{Running}
+use Rattle.wedge_core.specs.Parts.{with_set}
+use Rattle.wedge_core.specs.Pools.{Keeps}
+use Rattle.wedge_core.specs.Slices.{Counts, CountsOn}
+use Rattle.wedge_core.specs.Standing.{IsHeld, IsAble, ground, set_of, state_of}
+use Rattle.wedge_core.specs.Stepping.{Passes, StepAs}
+use Rattle.wedge_core.proofs.Going.{going_none, going_past, going_on, stepped_put, stepped_front, stops_next, counted, counts_same, turned}
+use Rattle.wedge_core.specs.Filled.{FillsOn}
+use Rattle.wedge_core.proofs.Filling.{fills_same, fills_join}
+use Rattle.wedge_core.proofs.Keeping.{keeps_same, keeps_join, held_later, held_given, held_at, enough_then}
+use Rattle.wedge_core.proofs.slice.steps_to.Goals as goal
+
+pub loop-running-init : goal.loop-running-init
+loop-running-init g c =
+    let m = wedge c.args.image.now c.args.script.now.list c.args.running.now.frames in
+    record {
+      going = going_none m (state_of g.S.Shadows.stands g.S.Shadows.frames g.S.Shadows.slots m c.args.running.now (g.H.Host.bytes c.args.host.now)) (counted (g.H.Host.retired c.args.host.now) (g.H.Host.passed c.args.host.now)) (g.O.Sink.taken c.args.out.now);
+      held = c.requires.held;
+      able = c.requires.able;
+      pool = keeps_same c.args.pool.now (g.H.Host.bytes c.args.host.now) (g.S.Shadows.frames c.args.running.now.shadows (g.H.Host.bytes c.args.host.now));
+      filled = fills_same (set_of g.S.Shadows.stands g.S.Shadows.frames g.S.Shadows.slots c.args.running.now (g.H.Host.bytes c.args.host.now)) (set_of g.S.Shadows.stands g.S.Shadows.frames g.S.Shadows.slots c.args.running.now (g.H.Host.bytes c.args.host.now)) c.args.running.now.fills refl;
+      started = c.requires.started;
+      frames = refl;
+      later = omega arith;
+      bound = c.requires.begun;
+      room = c.requires.room;
+    }
+
+pub stretch-requires-clause-held : goal.stretch-requires-clause-held
+stretch-requires-clause-held g c = (c.loop-running.pool, held_given g.S.Shadows.stands g.S.Shadows.frames g.S.Shadows.slots c.args.image.now c.args.running.now.frames c.loop-running.running.frames c.loop-running.running c.begin.new.self c.loop-running.pool (g.H.Host.bytes c.loop-running.host) c.loop-running.invariant.frames c.loop-running.invariant.held)
+
+pub loop-running-preserved-then-stretch-gt0 : goal.loop-running-preserved-then-stretch-gt0
+loop-running-preserved-then-stretch-gt0 g c =
+    let f = c.args.running.now.frames in
+    let m = wedge c.args.image.now c.args.script.now.list f in
+    let at = λ (n : ℕ) (r : Running g.row.S.Denot) (memory : List ℕ). state_of g.S.Shadows.stands g.S.Shadows.frames g.S.Shadows.slots (wedge c.args.image.now c.args.script.now.list n) r memory in
+    let old = at f c.args.running.now (g.H.Host.bytes c.args.host.now) in
+    let counts = counted (g.H.Host.retired c.args.host.now) (g.H.Host.passed c.args.host.now) in
+    let r = c.loop-running.running in
+    let memory = g.H.Host.bytes c.loop-running.host in
+    let so_far = counted (g.H.Host.retired c.loop-running.host) (g.H.Host.passed c.loop-running.host) in
+    let told = g.O.Sink.taken c.args.out.now in
+    let tells = g.O.Sink.taken c.loop-running.out in
+    let inv = c.loop-running.invariant in
+    let mid = c.stretch.new.running in
+    let then_memory = g.H.Host.bytes c.stretch.new.host in
+    let mid_counts = counted (g.H.Host.retired c.stretch.new.host) (g.H.Host.passed c.stretch.new.host) in
+    let passes = subst (λ (n : ℕ). Passes (wedge c.args.image.now c.args.script.now.list n) (at n r memory) inv.going.whole (at n mid then_memory) so_far mid_counts) inv.frames
+    (c.stretch.ensures.passes c.if-stretch-gt0.true r.board (sym c.begin.ensures) inv.going.whole inv.going.part) in
+    record {
+      going = going_past m old (at f r memory) (at f mid then_memory) counts so_far mid_counts told tells inv.going passes;
+      held = held_at g.S.Shadows.stands g.S.Shadows.frames g.S.Shadows.slots c.args.image.now r.frames f mid c.loop-running.pool then_memory inv.frames (c.stretch.ensures.held c.loop-running.pool (held_given g.S.Shadows.stands g.S.Shadows.frames g.S.Shadows.slots c.args.image.now c.args.running.now.frames c.loop-running.running.frames c.loop-running.running c.begin.new.self c.loop-running.pool (g.H.Host.bytes c.loop-running.host) c.loop-running.invariant.frames c.loop-running.invariant.held));
+      able = c.stretch.ensures.able;
+      pool = keeps_join c.args.pool.now c.loop-running.pool c.loop-running.pool (g.H.Host.bytes c.args.host.now) (g.H.Host.bytes c.loop-running.host) (g.H.Host.bytes c.stretch.new.host)
+          (g.S.Shadows.frames c.args.running.now.shadows (g.H.Host.bytes c.args.host.now)) (g.S.Shadows.frames c.loop-running.running.shadows (g.H.Host.bytes c.loop-running.host)) (g.S.Shadows.frames c.stretch.new.running.shadows (g.H.Host.bytes c.stretch.new.host))
+          c.loop-running.invariant.pool (c.stretch.ensures.pool c.loop-running.pool (held_given g.S.Shadows.stands g.S.Shadows.frames g.S.Shadows.slots c.args.image.now c.args.running.now.frames c.loop-running.running.frames c.loop-running.running c.begin.new.self c.loop-running.pool (g.H.Host.bytes c.loop-running.host) c.loop-running.invariant.frames c.loop-running.invariant.held));
+      filled = fills_join _ _ _ _ _ _ inv.filled c.stretch.ensures.filled;
+      started = c.stretch.ensures.started;
+      frames = c.stretch.ensures.frames ∙ inv.frames;
+      later = inv.later;
+      bound = c.stretch.ensures.most;
+      room = (let e = c.stretch.ensures.retired in let n = c.stretch.ensures.count in let k = c.stretch.ensures.most in let h = inv.room in omega (arith, e, n, k, h));
+    }
+
+pub one_step-requires-clause-held : goal.one_step-requires-clause-held
+one_step-requires-clause-held g c =
+    held_at g.S.Shadows.stands g.S.Shadows.frames g.S.Shadows.slots c.args.image.now c.loop-running.running.frames c.stretch.new.running.frames c.stretch.new.running c.loop-running.pool (g.H.Host.bytes c.stretch.new.host) (sym c.stretch.ensures.frames)
+    (c.stretch.ensures.held c.loop-running.pool (held_given g.S.Shadows.stands g.S.Shadows.frames g.S.Shadows.slots c.args.image.now c.args.running.now.frames c.loop-running.running.frames c.loop-running.running c.begin.new.self c.loop-running.pool (g.H.Host.bytes c.loop-running.host) c.loop-running.invariant.frames c.loop-running.invariant.held))
+
+pub one_step-requires-clause-enough : goal.one_step-requires-clause-enough
+one_step-requires-clause-enough g c =
+    let f = c.args.running.now.frames in
+    enough_then g.S.Shadows.stands g.S.Shadows.frames g.S.Shadows.slots (ground c.args.image.now f) c.args.running.now c.stretch.new.running c.args.pool.now c.loop-running.pool (g.H.Host.bytes c.args.host.now) (g.H.Host.bytes c.stretch.new.host) c.requires.held
+    (held_at g.S.Shadows.stands g.S.Shadows.frames g.S.Shadows.slots c.args.image.now c.loop-running.running.frames f c.stretch.new.running c.loop-running.pool (g.H.Host.bytes c.stretch.new.host) c.loop-running.invariant.frames (c.stretch.ensures.held c.loop-running.pool (held_given g.S.Shadows.stands g.S.Shadows.frames g.S.Shadows.slots c.args.image.now c.args.running.now.frames c.loop-running.running.frames c.loop-running.running c.begin.new.self c.loop-running.pool (g.H.Host.bytes c.loop-running.host) c.loop-running.invariant.frames c.loop-running.invariant.held)))
+    (keeps_join c.args.pool.now c.loop-running.pool c.loop-running.pool (g.H.Host.bytes c.args.host.now) (g.H.Host.bytes c.loop-running.host) (g.H.Host.bytes c.stretch.new.host)
+    (g.S.Shadows.frames c.args.running.now.shadows (g.H.Host.bytes c.args.host.now)) (g.S.Shadows.frames c.loop-running.running.shadows (g.H.Host.bytes c.loop-running.host)) (g.S.Shadows.frames c.stretch.new.running.shadows (g.H.Host.bytes c.stretch.new.host))
+    c.loop-running.invariant.pool (c.stretch.ensures.pool c.loop-running.pool (held_given g.S.Shadows.stands g.S.Shadows.frames g.S.Shadows.slots c.args.image.now c.args.running.now.frames c.loop-running.running.frames c.loop-running.running c.begin.new.self c.loop-running.pool (g.H.Host.bytes c.loop-running.host) c.loop-running.invariant.frames c.loop-running.invariant.held))) c.requires.enough
+
+pub returns-in-Err-clause-slice : goal.returns-in-Err-clause-slice
+returns-in-Err-clause-slice g c =
+    let f = c.args.running.now.frames in
+    let m = wedge c.args.image.now c.args.script.now.list f in
+    let at = λ (n : ℕ) (r : Running g.row.S.Denot) (memory : List ℕ). state_of g.S.Shadows.stands g.S.Shadows.frames g.S.Shadows.slots (wedge c.args.image.now c.args.script.now.list n) r memory in
+    let old = at f c.args.running.now (g.H.Host.bytes c.args.host.now) in
+    let counts = counted (g.H.Host.retired c.args.host.now) (g.H.Host.passed c.args.host.now) in
+    let r = c.loop-running.running in
+    let memory = g.H.Host.bytes c.loop-running.host in
+    let so_far = counted (g.H.Host.retired c.loop-running.host) (g.H.Host.passed c.loop-running.host) in
+    let told = g.O.Sink.taken c.args.out.now in
+    let tells = g.O.Sink.taken c.loop-running.out in
+    let inv = c.loop-running.invariant in
+    let mid = c.stretch.new.running in
+    let then_memory = g.H.Host.bytes c.stretch.new.host in
+    let new = c.one_step.new.running in
+    let new_memory = g.H.Host.bytes c.one_step.new.host in
+    let mid_counts = counted (g.H.Host.retired c.stretch.new.host) (g.H.Host.passed c.stretch.new.host) in
+    let new_counts = counted (g.H.Host.retired c.one_step.new.host) (g.H.Host.passed c.one_step.new.host) in
+    let none : c.stretch.result ≡ 0 = omega (arith, c.if-stretch-gt0.false) in
+    let stays = subst (λ (n : ℕ). at n mid then_memory ≡ at n (record r { board = c.begin.new.self }) memory) inv.frames (c.stretch.ensures.stays none) in
+    let same : mid_counts ≡ so_far = counts_same (g.H.Host.retired c.loop-running.host) (g.H.Host.retired c.stretch.new.host) (g.H.Host.passed c.loop-running.host) (g.H.Host.passed c.stretch.new.host) (let e = c.stretch.ensures.retired in omega (arith, e, none)) (c.stretch.ensures.passed none) in
+    let by_frames = subst (λ (n : ℕ). StepAs (wedge c.args.image.now c.args.script.now.list n) (at n mid then_memory) (Err c.in-Err.stop) (at n new new_memory) mid_counts new_counts) (c.stretch.ensures.frames ∙ inv.frames) (c.in-Err.ensures.step c.args.script.now.list) in
+    let step : StepAs m (record (at f r memory) { board = given r.board c.args.script.now.list r.step }) (Err c.in-Err.stop) (at f new new_memory) so_far new_counts =
+    turned m (at f r memory) (at f mid then_memory) (at f new new_memory) c.begin.new.self (Err c.in-Err.stop) so_far mid_counts new_counts stays c.begin.ensures same by_frames in
+    let e = c.in-Err.ensures.stays in
+    let n = c.stretch.ensures.count in
+    let still : new.step ≡ r.step = omega (arith, e, n, none) in
+    let unmoved : new_counts ≡ so_far = counts_same (g.H.Host.retired c.stretch.new.host) (g.H.Host.retired c.one_step.new.host) (g.H.Host.passed c.stretch.new.host) (g.H.Host.passed c.one_step.new.host) c.in-Err.ensures.retired c.in-Err.ensures.passed ∙ same in
+    record {
+      sets = inv.going.sets;
+      reports = inv.going.reports;
+      last = with_set (at f r memory) inv.going.whole;
+      steps = inv.going.steps;
+      ends = (c.loop-running-test.true, still, stops_next m old (at f r memory) counts so_far told tells c.in-Err.stop step.chosen inv.going step.allowed step.stands);
+      text = inv.going.text;
+      counts = subst (λ (x : Counts). CountsOn m inv.going.reports counts x) (sym unmoved) inv.going.counts;
+    }
+
+pub returns-in-Err-clause-pool : goal.returns-in-Err-clause-pool
+returns-in-Err-clause-pool g c =
+    keeps_join c.args.pool.now c.loop-running.pool c.one_step.new.pool (g.H.Host.bytes c.args.host.now) (g.H.Host.bytes c.stretch.new.host) (g.H.Host.bytes c.one_step.new.host)
+    (g.S.Shadows.frames c.args.running.now.shadows (g.H.Host.bytes c.args.host.now)) (g.S.Shadows.frames c.stretch.new.running.shadows (g.H.Host.bytes c.stretch.new.host)) (g.S.Shadows.frames c.one_step.new.running.shadows (g.H.Host.bytes c.one_step.new.host))
+    (keeps_join c.args.pool.now c.loop-running.pool c.loop-running.pool (g.H.Host.bytes c.args.host.now) (g.H.Host.bytes c.loop-running.host) (g.H.Host.bytes c.stretch.new.host)
+    (g.S.Shadows.frames c.args.running.now.shadows (g.H.Host.bytes c.args.host.now)) (g.S.Shadows.frames c.loop-running.running.shadows (g.H.Host.bytes c.loop-running.host)) (g.S.Shadows.frames c.stretch.new.running.shadows (g.H.Host.bytes c.stretch.new.host))
+    c.loop-running.invariant.pool (c.stretch.ensures.pool c.loop-running.pool (held_given g.S.Shadows.stands g.S.Shadows.frames g.S.Shadows.slots c.args.image.now c.args.running.now.frames c.loop-running.running.frames c.loop-running.running c.begin.new.self c.loop-running.pool (g.H.Host.bytes c.loop-running.host) c.loop-running.invariant.frames c.loop-running.invariant.held))) c.in-Err.ensures.pool
+
+pub returns-in-Err-put_step-clause-slice : goal.returns-in-Err-put_step-clause-slice
+returns-in-Err-put_step-clause-slice g c =
+    let f = c.args.running.now.frames in
+    let m = wedge c.args.image.now c.args.script.now.list f in
+    let at = λ (n : ℕ) (r : Running g.row.S.Denot) (memory : List ℕ). state_of g.S.Shadows.stands g.S.Shadows.frames g.S.Shadows.slots (wedge c.args.image.now c.args.script.now.list n) r memory in
+    let old = at f c.args.running.now (g.H.Host.bytes c.args.host.now) in
+    let counts = counted (g.H.Host.retired c.args.host.now) (g.H.Host.passed c.args.host.now) in
+    let r = c.loop-running.running in
+    let memory = g.H.Host.bytes c.loop-running.host in
+    let so_far = counted (g.H.Host.retired c.loop-running.host) (g.H.Host.passed c.loop-running.host) in
+    let told = g.O.Sink.taken c.args.out.now in
+    let tells = g.O.Sink.taken c.loop-running.out in
+    let inv = c.loop-running.invariant in
+    let mid = c.stretch.new.running in
+    let then_memory = g.H.Host.bytes c.stretch.new.host in
+    let new = c.one_step.new.running in
+    let new_memory = g.H.Host.bytes c.one_step.new.host in
+    let mid_counts = counted (g.H.Host.retired c.stretch.new.host) (g.H.Host.passed c.stretch.new.host) in
+    let new_counts = counted (g.H.Host.retired c.one_step.new.host) (g.H.Host.passed c.one_step.new.host) in
+    let none : c.stretch.result ≡ 0 = omega (arith, c.if-stretch-gt0.false) in
+    let stays = subst (λ (n : ℕ). at n mid then_memory ≡ at n (record r { board = c.begin.new.self }) memory) inv.frames (c.stretch.ensures.stays none) in
+    let same : mid_counts ≡ so_far = counts_same (g.H.Host.retired c.loop-running.host) (g.H.Host.retired c.stretch.new.host) (g.H.Host.passed c.loop-running.host) (g.H.Host.passed c.stretch.new.host) (let e = c.stretch.ensures.retired in omega (arith, e, none)) (c.stretch.ensures.passed none) in
+    let by_frames = subst (λ (n : ℕ). StepAs (wedge c.args.image.now c.args.script.now.list n) (at n mid then_memory) (Ok c.in-Ok.seen) (at n new new_memory) mid_counts new_counts) (c.stretch.ensures.frames ∙ inv.frames) (c.in-Ok.ensures.step c.args.script.now.list) in
+    let step : StepAs m (record (at f r memory) { board = given r.board c.args.script.now.list r.step }) (Ok c.in-Ok.seen) (at f new new_memory) so_far new_counts =
+    turned m (at f r memory) (at f mid then_memory) (at f new new_memory) c.begin.new.self (Ok c.in-Ok.seen) so_far mid_counts new_counts stays c.begin.ensures same by_frames in
+    let step_same : c.stretch.new.running.step ≡ r.step = (let e = c.stretch.ensures.count in omega (arith, e, none)) in
+    let items = c.items_of.ensures.items ∙ ap (λ (n : ℕ). items_at n (whats c.in-Ok.seen)) step_same in
+    let last = g.O.Sink.taken c.put_step.new.out in
+    let put = subst (λ (l : List Item). AppendsFront tells last (lines_of l)) items c.in-Err-put_step.ensures.failed in
+    let s = going_on m old (at f r memory) (at f new new_memory) c.in-Ok.seen counts so_far new_counts told tells inv.going step in
+    record {
+      sets = s.sets;
+      reports = s.reports;
+      last = with_set (at f new new_memory) s.whole;
+      steps = s.steps;
+      ends = (let n = c.in-Ok.ensures.count in let t = c.loop-running-test.true in omega (arith, n, step_same, t));
+      text = stepped_front m old (at f r memory) (at f new new_memory) c.in-Ok.seen counts new_counts told tells last s put;
+      counts = s.counts;
+    }
+
+pub loop-running-preserved : goal.loop-running-preserved
+loop-running-preserved g c =
+    let f = c.args.running.now.frames in
+    let m = wedge c.args.image.now c.args.script.now.list f in
+    let at = λ (n : ℕ) (r : Running g.row.S.Denot) (memory : List ℕ). state_of g.S.Shadows.stands g.S.Shadows.frames g.S.Shadows.slots (wedge c.args.image.now c.args.script.now.list n) r memory in
+    let old = at f c.args.running.now (g.H.Host.bytes c.args.host.now) in
+    let counts = counted (g.H.Host.retired c.args.host.now) (g.H.Host.passed c.args.host.now) in
+    let r = c.loop-running.running in
+    let memory = g.H.Host.bytes c.loop-running.host in
+    let so_far = counted (g.H.Host.retired c.loop-running.host) (g.H.Host.passed c.loop-running.host) in
+    let told = g.O.Sink.taken c.args.out.now in
+    let tells = g.O.Sink.taken c.loop-running.out in
+    let inv = c.loop-running.invariant in
+    let mid = c.stretch.new.running in
+    let then_memory = g.H.Host.bytes c.stretch.new.host in
+    let new = c.one_step.new.running in
+    let new_memory = g.H.Host.bytes c.one_step.new.host in
+    let mid_counts = counted (g.H.Host.retired c.stretch.new.host) (g.H.Host.passed c.stretch.new.host) in
+    let new_counts = counted (g.H.Host.retired c.one_step.new.host) (g.H.Host.passed c.one_step.new.host) in
+    let none : c.stretch.result ≡ 0 = omega (arith, c.if-stretch-gt0.false) in
+    let stays = subst (λ (n : ℕ). at n mid then_memory ≡ at n (record r { board = c.begin.new.self }) memory) inv.frames (c.stretch.ensures.stays none) in
+    let same : mid_counts ≡ so_far = counts_same (g.H.Host.retired c.loop-running.host) (g.H.Host.retired c.stretch.new.host) (g.H.Host.passed c.loop-running.host) (g.H.Host.passed c.stretch.new.host) (let e = c.stretch.ensures.retired in omega (arith, e, none)) (c.stretch.ensures.passed none) in
+    let by_frames = subst (λ (n : ℕ). StepAs (wedge c.args.image.now c.args.script.now.list n) (at n mid then_memory) (Ok c.in-Ok.seen) (at n new new_memory) mid_counts new_counts) (c.stretch.ensures.frames ∙ inv.frames) (c.in-Ok.ensures.step c.args.script.now.list) in
+    let step : StepAs m (record (at f r memory) { board = given r.board c.args.script.now.list r.step }) (Ok c.in-Ok.seen) (at f new new_memory) so_far new_counts =
+    turned m (at f r memory) (at f mid then_memory) (at f new new_memory) c.begin.new.self (Ok c.in-Ok.seen) so_far mid_counts new_counts stays c.begin.ensures same by_frames in
+    let step_same : c.stretch.new.running.step ≡ r.step = (let e = c.stretch.ensures.count in omega (arith, e, none)) in
+    let items = c.items_of.ensures.items ∙ ap (λ (n : ℕ). items_at n (whats c.in-Ok.seen)) step_same in
+    let last = g.O.Sink.taken c.put_step.new.out in
+    let put = subst (λ (l : List Item). Appends tells last (lines_of l)) items c.in-Ok-put_step.ensures.ok in
+    let stepped = stepped_put m old (at f r memory) (at f new new_memory) c.in-Ok.seen counts new_counts told tells last (going_on m old (at f r memory) (at f new new_memory) c.in-Ok.seen counts so_far new_counts told tells inv.going step) put in
+    let rested = c.rest.new.running in
+    let frames_then : new.frames ≡ f = c.in-Ok.ensures.frames ∙ (c.stretch.ensures.frames ∙ inv.frames) in
+    let passes = subst (λ (n : ℕ). Passes (wedge c.args.image.now c.args.script.now.list n) (at n new new_memory) stepped.whole (at n rested new_memory) new_counts new_counts) frames_then
+    (c.rest.ensures.passes c.args.image.now new_memory stepped.whole new_counts stepped.part) in
+    let held = held_later g.S.Shadows.stands g.S.Shadows.frames g.S.Shadows.slots (ground c.args.image.now f) new rested.board rested.step c.one_step.new.pool new_memory c.rest.ensures.later
+    (held_at g.S.Shadows.stands g.S.Shadows.frames g.S.Shadows.slots c.args.image.now mid.frames f new c.one_step.new.pool new_memory (c.stretch.ensures.frames ∙ inv.frames) c.in-Ok.ensures.held) in
+    let as_were : rested ≡ record new { board = rested.board; step = rested.step } = c.rest.ensures.same in
+    record {
+      going = going_past m old (at f new new_memory) (at f rested new_memory) counts new_counts new_counts told last stepped passes;
+      held = subst (λ (x : Running g.row.S.Denot). IsHeld g.S.Shadows.stands g.S.Shadows.frames g.S.Shadows.slots (ground c.args.image.now f) x c.one_step.new.pool new_memory) (sym as_were) held;
+      able = subst IsAble (sym (ap (λ (x : Running g.row.S.Denot). x.cpu) as_were)) c.in-Ok.ensures.able;
+      pool = subst (λ (x : Running g.row.S.Denot). Keeps c.args.pool.now c.one_step.new.pool (g.H.Host.bytes c.args.host.now) new_memory (g.S.Shadows.frames c.args.running.now.shadows (g.H.Host.bytes c.args.host.now)) (g.S.Shadows.frames x.shadows new_memory)) (sym as_were)
+          (keeps_join c.args.pool.now c.loop-running.pool c.one_step.new.pool (g.H.Host.bytes c.args.host.now) (g.H.Host.bytes c.stretch.new.host) (g.H.Host.bytes c.one_step.new.host)
+          (g.S.Shadows.frames c.args.running.now.shadows (g.H.Host.bytes c.args.host.now)) (g.S.Shadows.frames c.stretch.new.running.shadows (g.H.Host.bytes c.stretch.new.host)) (g.S.Shadows.frames c.one_step.new.running.shadows (g.H.Host.bytes c.one_step.new.host))
+          (keeps_join c.args.pool.now c.loop-running.pool c.loop-running.pool (g.H.Host.bytes c.args.host.now) (g.H.Host.bytes c.loop-running.host) (g.H.Host.bytes c.stretch.new.host)
+          (g.S.Shadows.frames c.args.running.now.shadows (g.H.Host.bytes c.args.host.now)) (g.S.Shadows.frames c.loop-running.running.shadows (g.H.Host.bytes c.loop-running.host)) (g.S.Shadows.frames c.stretch.new.running.shadows (g.H.Host.bytes c.stretch.new.host))
+          c.loop-running.invariant.pool (c.stretch.ensures.pool c.loop-running.pool (held_given g.S.Shadows.stands g.S.Shadows.frames g.S.Shadows.slots c.args.image.now c.args.running.now.frames c.loop-running.running.frames c.loop-running.running c.begin.new.self c.loop-running.pool (g.H.Host.bytes c.loop-running.host) c.loop-running.invariant.frames c.loop-running.invariant.held))) c.in-Ok.ensures.pool);
+      filled = subst (λ (x : Running g.row.S.Denot). FillsOn (set_of g.S.Shadows.stands g.S.Shadows.frames g.S.Shadows.slots c.args.running.now (g.H.Host.bytes c.args.host.now)) (set_of g.S.Shadows.stands g.S.Shadows.frames g.S.Shadows.slots x new_memory) c.args.running.now.fills x.fills) (sym as_were)
+          (fills_join _ _ _ _ _ _ (fills_join _ _ _ _ _ _ inv.filled c.stretch.ensures.filled) c.in-Ok.ensures.filled);
+      started = c.in-Ok.ensures.started;
+      frames = ap (λ (x : Running g.row.S.Denot). x.frames) as_were ∙ frames_then;
+      later = (let a = inv.later in let b = c.in-Ok-put_step.ensures.later in omega (arith, a, b));
+      bound = c.rest.ensures.within;
+      room = (let h = inv.room in let t = c.loop-running-test.true in let few = c.in-Ok.ensures.few in let e = c.stretch.ensures.retired in let n = c.in-Ok.ensures.count in let l = c.rest.ensures.later in let w = c.rest.ensures.within in omega (arith, h, t, few, e, n, l, w, none, step_same));
+    }
+
+pub returns-clause-slice : goal.returns-clause-slice
+returns-clause-slice g c =
+    let f = c.args.running.now.frames in
+    let m = wedge c.args.image.now c.args.script.now.list f in
+    let at = λ (n : ℕ) (r : Running g.row.S.Denot) (memory : List ℕ). state_of g.S.Shadows.stands g.S.Shadows.frames g.S.Shadows.slots (wedge c.args.image.now c.args.script.now.list n) r memory in
+    let old = at f c.args.running.now (g.H.Host.bytes c.args.host.now) in
+    let counts = counted (g.H.Host.retired c.args.host.now) (g.H.Host.passed c.args.host.now) in
+    let r = c.loop-running.running in
+    let memory = g.H.Host.bytes c.loop-running.host in
+    let so_far = counted (g.H.Host.retired c.loop-running.host) (g.H.Host.passed c.loop-running.host) in
+    let told = g.O.Sink.taken c.args.out.now in
+    let tells = g.O.Sink.taken c.loop-running.out in
+    let inv = c.loop-running.invariant in
+    record {
+      sets = inv.going.sets;
+      reports = inv.going.reports;
+      last = with_set (at f r memory) inv.going.whole;
+      steps = inv.going.steps;
+      ends = ((let a = inv.bound in let b = c.loop-running-test.false in omega (arith, a, b)), refl, inv.going.part);
+      text = inv.going.text;
+      counts = inv.going.counts;
+    }
+
+pub returns-in-Err-clause-filled : goal.returns-in-Err-clause-filled
+returns-in-Err-clause-filled g c = fills_join _ _ _ _ _ _ (fills_join _ _ _ _ _ _ c.loop-running.invariant.filled c.stretch.ensures.filled) c.in-Err.ensures.filled
+
+pub returns-in-Err-put_step-clause-filled : goal.returns-in-Err-put_step-clause-filled
+returns-in-Err-put_step-clause-filled g c = fills_join _ _ _ _ _ _ (fills_join _ _ _ _ _ _ c.loop-running.invariant.filled c.stretch.ensures.filled) c.in-Ok.ensures.filled

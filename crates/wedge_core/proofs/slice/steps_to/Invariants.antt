@@ -1,0 +1,28 @@
+use Rattle.std.proofs.Common.{◌≡◌, ◌+◌, ◌-◌, ◌≤◌, ◌<◌, ◌^◌, true}
+use Rattle.machine_model.specs.State.{wedge}
+use Rattle.wedge_core.specs.Filled.{FillsOn}
+use Rattle.wedge_core.specs.Pools.{Keeps}
+use Rattle.wedge_core.specs.Standing.{IsHeld, IsAble, ground, set_of, state_of}
+use Rattle.wedge_core.proofs.Going.{Going}
+use Rattle.wedge_core.proofs.slice.steps_to.Given as goal
+
+abbrev pub invariant-loop-running : goal.invariant-loop-running
+invariant-loop-running g l = record {
+  going : Going (wedge l.image l.script.list l.fn.running.frames)
+      (state_of g.S.Shadows.stands g.S.Shadows.frames g.S.Shadows.slots (wedge l.image l.script.list l.fn.running.frames) l.fn.running (g.H.Host.bytes l.fn.host))
+      (state_of g.S.Shadows.stands g.S.Shadows.frames g.S.Shadows.slots (wedge l.image l.script.list l.fn.running.frames) l.running (g.H.Host.bytes l.host))
+      (record { retired = g.H.Host.retired l.fn.host; passed = g.H.Host.passed l.fn.host }) (record { retired = g.H.Host.retired l.host; passed = g.H.Host.passed l.host })
+      (g.O.Sink.taken l.fn.out) (g.O.Sink.taken l.out);
+  held : IsHeld g.S.Shadows.stands g.S.Shadows.frames g.S.Shadows.slots (ground l.image l.fn.running.frames) l.running l.pool (g.H.Host.bytes l.host);
+  able : IsAble l.running.cpu;
+  pool : Keeps l.fn.pool l.pool (g.H.Host.bytes l.fn.host) (g.H.Host.bytes l.host) (g.S.Shadows.frames l.fn.running.shadows (g.H.Host.bytes l.fn.host)) (g.S.Shadows.frames l.running.shadows (g.H.Host.bytes l.host));
+  filled : FillsOn (set_of g.S.Shadows.stands g.S.Shadows.frames g.S.Shadows.slots l.fn.running (g.H.Host.bytes l.fn.host)) (set_of g.S.Shadows.stands g.S.Shadows.frames g.S.Shadows.slots l.running (g.H.Host.bytes l.host)) l.fn.running.fills l.running.fills;
+  started : g.H.Host.is_started l.host ≡ true;
+  frames : l.running.frames ≡ l.fn.running.frames;
+  later : g.O.Sink.faults l.fn.out ≤ g.O.Sink.faults l.out;
+  bound : l.running.step ≤ l.bound;
+  room : g.H.Host.retired l.host + (l.bound - l.running.step) < 2 ^ 64;
+}
+
+abbrev pub decreases-loop-running : goal.decreases-loop-running
+decreases-loop-running g l = l.bound - l.running.step

@@ -1,0 +1,63 @@
+-- What a patched run promises: one run under the monitor's rules gives its text, its direct instructions and its memory.
+use Rattle.std.specs.Prelude.{◌≡◌, ℕ, ◌*◌, ◌≤◌, ◌<◌, List, Option, Result, Ok, Err, take}
+use Rattle.guest_ram.specs.Bytes.{with_part}
+use Rattle.pv_io.specs.Causes.{Rose}
+use Rattle.pv_io.specs.Sink.{Appends, AppendsFront}
+use Rattle.sites.specs.Patched.{patched}
+use Rattle.board.specs.Scripts.{Events}
+use Rattle.image_check.specs.Image.{Image}
+use Rattle.image_load.specs.Boot.{need}
+use Rattle.image_load.specs.declared.fault.Pause.{Pause}
+use Rattle.image_load.specs.declared.fault.Pause.TheVariants as pause
+use Rattle.image_load.specs.declared.fault.RunFault.{RunFault}
+use Rattle.image_load.specs.declared.fault.RunFault.TheVariants as fault
+use Rattle.run_trace.specs.declared.items.End.{End}
+use Rattle.run_trace.specs.declared.items.End.TheVariants.{Bound, Stopped}
+use Rattle.run_trace.specs.declared.items.Ended.{Ended}
+use Rattle.run_trace.specs.Text.{text_of}
+use Rattle.machine_model.specs.State.{Setting, State, boot, wedge}
+use Rattle.machine_model.specs.Step.{Report}
+use Rattle.machine_model.specs.Run.{Set, Run, CanGive, trace_of}
+use Rattle.wedge_core.specs.Slices.{Counts, CountsOn}
+
+-- the guest's memory as the host has it: with the patched text in the text's place
+abbrev pub with_patches : Image → List ℕ → List ℕ
+with_patches image ram = with_part ram 0x100000 (patched image.text 0 image.sites)
+
+abbrev pub HasMemory : Setting → State → End → List ℕ → Type 0
+HasMemory m last Bound memory = take (4096 * m.frames) memory ≡ with_patches m.image last.ram
+HasMemory m last (Stopped stop) memory = Unit {0}
+
+-- One run from the start has this text, count of steps and end. The host completed exactly its direct instructions, and
+-- where it has done all its steps, its memory is the host's first frames with the text patched.
+pub record Promise (m : Setting) (n : ℕ) (text : List ℕ) (count : ℕ) (end : End) (before after : Counts) (memory : List ℕ) : Type 0 where
+  pub sets : List Set
+  pub reports : List Report
+  pub last : State
+  pub run : Run m n (boot m) sets reports last end
+  pub count_is : count ≡ last.step
+  pub text_is : text ≡ text_of (trace_of reports) count end
+  pub counts : CountsOn m reports before after
+  pub memory_is : HasMemory m last end memory
+
+-- what stands after a refusal
+abbrev pub RefusedWedge : Image → Events → ℕ → ℕ → Option (List ℕ) → Option (List ℕ) → ℕ → ℕ → Counts → Counts → RunFault → Type 0
+-- the sink failed, and has taken a front of the text of some run
+RefusedWedge image script frames n old new before now counts_before counts_after fault.Write =
+    (text : List ℕ) × (count : ℕ) × (end : End) × (need image ≤ frames) × CanGive (wedge image script frames) n text count end × AppendsFront old new text × Rose before now
+-- the image needs more frames than there are; nothing was written, and the host completed nothing
+RefusedWedge image script frames n old new before now counts_before counts_after (fault.TooSmall small) =
+    (frames < need image) × (small ≡ record { need = need image; have = frames }) × (new ≡ old) × (now ≡ before) × (counts_after ≡ counts_before)
+-- nothing was written, and the host completed nothing
+RefusedWedge image script frames n old new before now counts_before counts_after fault.Memory = (new ≡ old) × (now ≡ before) × (counts_after ≡ counts_before)
+
+-- what stands after a run: the sink's bytes and faults, and the host's counts and memory
+abbrev pub WedgeAnswers : Image → Events → ℕ → ℕ → Option (List ℕ) → Option (List ℕ) → ℕ → ℕ → Counts → Counts → List ℕ → Result Ended RunFault → Type 0
+WedgeAnswers image script frames n old new before now counts_before counts_after memory (Ok ended) =
+    (text : List ℕ) × (need image ≤ frames) × Promise (wedge image script frames) n text ended.steps ended.end counts_before counts_after memory × Appends old new text × (before ≤ now)
+WedgeAnswers image script frames n old new before now counts_before counts_after memory (Err fault) = RefusedWedge image script frames n old new before now counts_before counts_after fault
+
+-- the end of a run whose last slice paused so
+abbrev pub end_of : Pause → End
+end_of pause.Reached = Bound
+end_of (pause.Stopped stop) = Stopped stop

@@ -1,0 +1,40 @@
+-- What the host did at one call, and where that leaves the guest.
+use Rattle.std.specs.Prelude.{◌≡◌, ℕ, ◌+◌, ◌≤◌, ◌<◌, List, false}
+use Rattle.ia32_types.specs.declared.flags.Regs.{Regs}
+use Rattle.board.specs.Boards.{board_steps}
+use Rattle.host_cpl3.specs.declared.view.View.{View}
+use Rattle.host_cpl3.specs.declared.exit.Exit.{Exit}
+use Rattle.host_cpl3.specs.declared.exit.Exit.TheVariants as exits
+use Rattle.host_cpl3.specs.HostRun.{Standing, host_run}
+use Rattle.wedge_core.specs.declared.running.Running.{Running}
+
+-- The guest's registers behind an exit: a jump into the window is taken back, so that EIP is the site's.
+abbrev pub landed : Exit → Regs → Regs
+landed (exits.Entry at) regs = record regs { eip = at + 0x0B0B0B07 }
+landed (exits.Fault vector code cr2) regs = regs
+landed (exits.Soft vector) regs = regs
+landed exits.Outside regs = regs
+landed exits.FlagBits regs = regs
+landed exits.Wrap regs = regs
+landed exits.Budget regs = regs
+
+-- a jump into the window leads below its end
+abbrev pub LeadsLow : Exit → Type 0
+LeadsLow (exits.Entry at) = at < 0x06000000
+LeadsLow (exits.Fault vector code cr2) = Unit {0}
+LeadsLow (exits.Soft vector) = Unit {0}
+LeadsLow exits.Outside = Unit {0}
+LeadsLow exits.FlagBits = Unit {0}
+LeadsLow exits.Wrap = Unit {0}
+LeadsLow exits.Budget = Unit {0}
+
+-- The host ran at most k instructions from where it stood, and completed `done` of them. The guest's processor, board and
+-- count followed, if it completed any.
+pub record Ran {S : Type 0} (v : View) (k : ℕ) (s : Standing) (old : Running S) (done : ℕ) (new : Running S) (memory : List ℕ) (retired passed : ℕ) : Type 0 where
+  pub exit : Exit
+  pub regs : Regs
+  pub run : host_run v k s ≡ (exit, record { regs = regs; ram = memory; retired = retired; passed = passed })
+  pub count : retired ≡ s.retired + done
+  pub few : done ≤ k
+  pub none : done ≡ 0 → new ≡ old
+  pub some : 0 < done → new ≡ record old { cpu = record old.cpu { regs = landed exit regs; held = false }; board = board_steps done old.board; step = old.step + done }

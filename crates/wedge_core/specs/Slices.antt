@@ -1,0 +1,55 @@
+-- What a slice of a patched run says.
+use Rattle.std.specs.Prelude.{◌≡◌, ℕ, ◌+◌, ◌≤◌, ◌<◌, List, Option, Result, Ok, Err}
+use Rattle.pv_io.specs.declared.answer.Failed.{Failed}
+use Rattle.pv_io.specs.Sink.{Appends, AppendsFront}
+use Rattle.image_load.specs.declared.fault.Pause.{Pause}
+use Rattle.image_load.specs.declared.fault.Pause.TheVariants.{Reached, Stopped}
+use Rattle.run_trace.specs.Text.{lines_of}
+use Rattle.machine_model.specs.State.{Setting, State}
+use Rattle.machine_model.specs.Step.{Report}
+use Rattle.machine_model.specs.Run.{Set, Steps, StopsAt, trace_of}
+use Rattle.machine_model.specs.Counts.{direct_count, passed_digest}
+use Rattle.wedge_core.specs.Parts.{IsPartOf, with_set}
+
+-- The host's count of completed instructions, and its digest of their addresses.
+pub record Counts : Type 0 where
+  pub retired : ℕ
+  pub passed : ℕ
+
+-- the direct instructions of these steps were added
+pub record CountsOn (m : Setting) (reports : List Report) (old new : Counts) : Type 0 where
+  pub retired : new.retired ≡ old.retired + direct_count m.image.sites reports
+  pub passed : new.passed ≡ passed_digest m.image.sites old.passed reports
+
+-- All steps were done, and what is kept is part of what the last one left; or the next one stops. The sink may fail before.
+abbrev pub PausesAs : Setting → ℕ → State → State → Result Pause Failed → Type 0
+PausesAs m bound last new (Ok Reached) = (last.step ≡ bound) × (new ≡ with_set last new.set) × IsPartOf new.set last.set
+PausesAs m bound last new (Ok (Stopped stop)) = (last.step < bound) × (new.step ≡ last.step) × StopsAt m last stop
+PausesAs m bound last new (Err failed) = last.step ≤ bound
+
+-- the text was put, or a front of it where the sink failed
+abbrev pub PutsAs : List ℕ → Option (List ℕ) → Option (List ℕ) → Result Pause Failed → Type 0
+PutsAs text old new (Ok pause) = Appends old new text
+PutsAs text old new (Err failed) = AppendsFront old new text
+
+-- Steps under the monitor's rules, up to the bound or to a stop, led from the old state to the last. The lines of what
+-- was seen in them were put, and the host completed their direct instructions.
+pub record SliceAs (m : Setting) (bound : ℕ) (old new : State) (before after : Counts) (told tells : Option (List ℕ)) (result : Result Pause Failed) : Type 0 where
+  pub sets : List Set
+  pub reports : List Report
+  pub last : State
+  pub steps : Steps m old sets reports last
+  pub ends : PausesAs m bound last new result
+  pub text : PutsAs (lines_of (trace_of reports)) told tells result
+  pub counts : CountsOn m reports before after
+
+-- what holds where the run can go on
+abbrev pub GoesOn : Result Pause Failed → Type 0 → Type 0
+GoesOn (Ok Reached) fact = fact
+GoesOn (Ok (Stopped stop)) fact = Unit {0}
+GoesOn (Err failed) fact = Unit {0}
+
+-- what holds where the sink has not failed
+abbrev pub Pauses : Result Pause Failed → Type 0 → Type 0
+Pauses (Ok pause) fact = fact
+Pauses (Err failed) fact = Unit {0}

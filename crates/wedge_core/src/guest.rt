@@ -1,0 +1,272 @@
+//! A guest that goes on in slices.
+
+ghost use Rattle.std.specs.Prelude.{◌≡◌, ℕ, ◌+◌, ◌*◌, ◌%◌, ◌≤◌, ◌<◌, ◌^◌, [], length, replicate, take, true, IfOk, OnErr};
+ghost use Rattle.std.specs.FinMap.{empty};
+ghost use Rattle.guest_ram.specs.Bytes.{part};
+ghost use Rattle.frame_pool.specs.Pool.{base_of, count_of, free_list, SameOutside, Stands};
+ghost use Rattle.frame_pool.specs.Held.{Owns, Moves};
+ghost use Rattle.board.specs.Scripts.{Events, is_script};
+ghost use Rattle.image_check.specs.Image.{Image};
+ghost use Rattle.image_load.specs.Boot.{text_pages};
+ghost use Rattle.pv_io.specs.Causes.{Rose};
+ghost use Rattle.shadow_tables.specs.Slots.{IsShadow, held as held_by, slot_at};
+ghost use Rattle.machine_model.specs.State.{wedge};
+ghost use Rattle.wedge_core.specs.Filled.{FillsOn, IsFilled};
+ghost use Rattle.wedge_core.specs.Pools.{Keeps};
+ghost use Rattle.wedge_core.specs.Promises.{with_patches};
+ghost use Rattle.wedge_core.specs.Slices.{SliceAs, GoesOn, Pauses};
+ghost use Rattle.wedge_core.specs.Standing.{IsHeld, IsAble, ground, set_of, state_of};
+ghost use Rattle.wedge_core.specs.Starts.{StartedAs};
+
+use crate::running::Running;
+use crate::slice::steps_to;
+use board::{Board, Script};
+use descriptors::Cpu;
+use frame_pool::Pool;
+use guest_ram::Ram;
+use host_cpl3::Host;
+use image_check::Checked;
+use image_laws::patching;
+use image_load::{Pause, StartFault, load};
+use machine_model::each_run_begins_able;
+use pv_io::{Failed, Sink};
+use run_trace::Notes;
+use shadow_tables::{Shadow, Shadows};
+use sites::patch;
+use std::alloc::{AllocError, Global};
+
+/// Where the text stands in the guest's memory.
+const TEXT_AT: u32 = 0x10_0000;
+
+/// A guest of a host: it runs its patched text there. Its memory is the front of the host's, and its shadows lie in
+/// frames of a pool.
+#[derive(Drop)]
+pub struct Guest {
+    pub running: Running<Shadow>,
+}
+
+impl Guest {
+    /// Starts the host with the guest's frames and the pool's, puts the image into the guest's memory, and patches its
+    /// text.
+    pub fn start<H: Host>(
+        alloc: Global,
+        image: &Checked,
+        frames: u32,
+        pool: u32,
+        host: &mut H,
+    ) -> Result<(Guest, Pool), StartFault>
+        requires frames { (2048 ≤ frames) × (frames ≤ 16384) }
+        requires pool { (16 ≤ pool) × (pool ≤ 512) }
+        ensures started { StartedAs IsShadow held_by slot_at image.now frames pool (H.bytes host.new) result }
+        ensures running { IfOk result (λ _. H.is_started host.new ≡ true) }
+        ensures filled { IfOk result (λ started. IsFilled (set_of IsShadow held_by slot_at started.0.running (H.bytes host.new)) started.0.running.fills) }
+        ensures retired { H.retired host.new ≡ H.retired host.old }
+        ensures passed { H.passed host.new ≡ H.passed host.old }
+    {
+        match host.start(alloc, frames + pool) {
+            Err(_) => Err(StartFault::Memory),
+            Ok(()) => start_in(host.ram_mut(), image, frames, pool),
+        }
+    }
+
+    /// Patches the text in the guest's memory, which the host's has at its front, and goes on from there with no
+    /// translation.
+    pub fn adopt<H: Host>(
+        _alloc: Global,
+        image: &Checked,
+        cpu: Cpu,
+        board: Board,
+        step: u64,
+        frames: u32,
+        host: &mut H,
+        pool: &mut Pool,
+    ) -> Result<Guest, AllocError>
+        requires started { H.is_started host.old ≡ true }
+        requires frames { (2048 ≤ frames) × (frames ≤ 16384) }
+        requires able { IsAble cpu }
+        requires room { 4096 * frames ≤ length (H.bytes host.old) }
+        requires whole { length (H.bytes host.old) % 4096 ≡ 0 }
+        requires fits { 0x100 + text_pages image.now ≤ frames }
+        requires text { part (H.bytes host.old) 0x100000 (length image.now.text) ≡ image.now.text }
+        requires behind { frames ≤ base_of pool.old }
+        requires stands { Stands pool.old (H.bytes host.old) }
+        requires free { 2 ≤ length (free_list pool.old (H.bytes host.old)) }
+        ensures held { IfOk result (λ guest. IsHeld IsShadow held_by slot_at (ground image.now frames) guest.running pool.new (H.bytes host.new)) }
+        ensures state { IfOk result (λ guest. (script : Events) → state_of IsShadow held_by slot_at (wedge image.now script frames) guest.running (H.bytes host.new)
+            ≡ record { cpu = cpu; ram = take (4096 * frames) (H.bytes host.old); set = empty; board = board; step = step }) }
+        ensures two { IfOk result (λ guest. guest.running.held ≡ 2) }
+        ensures fills { IfOk result (λ guest. guest.running.fills ≡ 0) }
+        ensures filled { IfOk result (λ guest. IsFilled (set_of IsShadow held_by slot_at guest.running (H.bytes host.new)) guest.running.fills) }
+        ensures pool { IfOk result (λ guest. Keeps pool.old pool.new (H.bytes host.old) (H.bytes host.new) [] (held_by guest.running.shadows (H.bytes host.new))) }
+        ensures refused { OnErr result ((H.bytes host.new ≡ H.bytes host.old) × (pool.new ≡ pool.old)) }
+        ensures started { H.is_started host.new ≡ true }
+        ensures retired { H.retired host.new ≡ H.retired host.old }
+        ensures passed { H.passed host.new ≡ H.passed host.old }
+    {
+        let running = adopt_in(host.ram_mut(), image, cpu, board, step, frames, pool);
+        Ok(Guest { running })
+    }
+
+    /// Makes `k` steps, or ends before a step that stops. The lines of a step go to the sink at its end.
+    pub fn slice<H: Host, O: Sink, L: Notes>(
+        &mut self,
+        image: &Checked,
+        script: &Script,
+        k: u64,
+        pool: &mut Pool,
+        host: &mut H,
+        out: &mut O,
+        _notes: &mut L,
+    ) -> Result<Pause, Failed>
+        requires started { H.is_started host.old ≡ true }
+        requires held { IsHeld IsShadow held_by slot_at (ground image.now self.old.running.frames) self.old.running pool.old (H.bytes host.old) }
+        requires able { IsAble self.old.running.cpu }
+        requires script { is_script script.now.list ≡ true }
+        requires bound { self.old.running.step + k ≤ 2 ^ 40 }
+        requires room { H.retired host.old + k < 2 ^ 64 }
+        requires enough { 16 ≤ length (free_list pool.old (H.bytes host.old)) + self.old.running.held }
+        ensures slice { SliceAs (wedge image.now script.now.list self.old.running.frames) (self.old.running.step + k)
+            (state_of IsShadow held_by slot_at (wedge image.now script.now.list self.old.running.frames) self.old.running (H.bytes host.old))
+            (state_of IsShadow held_by slot_at (wedge image.now script.now.list self.old.running.frames) self.new.running (H.bytes host.new))
+            (record { retired = H.retired host.old; passed = H.passed host.old }) (record { retired = H.retired host.new; passed = H.passed host.new })
+            (O.taken out.old) (O.taken out.new) result }
+        ensures reached { GoesOn result (self.new.running.step ≡ self.old.running.step + k) }
+        ensures held { GoesOn result (IsHeld IsShadow held_by slot_at (ground image.now self.old.running.frames) self.new.running pool.new (H.bytes host.new)) }
+        ensures able { GoesOn result (IsAble self.new.running.cpu) }
+        ensures memory { GoesOn result (take (4096 * self.old.running.frames) (H.bytes host.new) ≡ with_patches image.now (state_of IsShadow held_by slot_at (wedge image.now script.now.list self.old.running.frames) self.new.running (H.bytes host.new)).ram) }
+        ensures counted { Pauses result (self.new.running.held ≡ length (held_by self.new.running.shadows (H.bytes host.new))) }
+        ensures stands { Pauses result (∥ IsShadow self.new.running.shadows (H.bytes host.new) ∥₁) }
+        ensures owns { Pauses result (Owns pool.new (H.bytes host.new) (held_by self.new.running.shadows (H.bytes host.new))) }
+        ensures fills { FillsOn (set_of IsShadow held_by slot_at self.old.running (H.bytes host.old)) (set_of IsShadow held_by slot_at self.new.running (H.bytes host.new)) self.old.running.fills self.new.running.fills }
+        ensures filled { IsFilled (set_of IsShadow held_by slot_at self.old.running (H.bytes host.old)) self.old.running.fills → IsFilled (set_of IsShadow held_by slot_at self.new.running (H.bytes host.new)) self.new.running.fills }
+        ensures pool { Pauses result (Keeps pool.old pool.new (H.bytes host.old) (H.bytes host.new) (held_by self.old.running.shadows (H.bytes host.old)) (held_by self.new.running.shadows (H.bytes host.new))) }
+        ensures started { H.is_started host.new ≡ true }
+        ensures frames { self.new.running.frames ≡ self.old.running.frames }
+        ensures later { O.faults out.old ≤ O.faults out.new }
+        ensures cause { OnErr result (Rose (O.faults out.old) (O.faults out.new)) }
+    {
+        let bound = self.running.step + k;
+        steps_to(&mut self.running, image, script, bound, pool, host, out)
+    }
+
+    /// Drops all shadows. The guest holds two frames then.
+    pub fn release<H: Host>(&mut self, pool: &mut Pool, host: &mut H)
+        requires started { H.is_started host.old ≡ true }
+        requires stands { ∥ IsShadow self.old.running.shadows (H.bytes host.old) ∥₁ }
+        requires owns { Owns pool.old (H.bytes host.old) (held_by self.old.running.shadows (H.bytes host.old)) }
+        ensures stands { ∥ IsShadow self.new.running.shadows (H.bytes host.new) ∥₁ }
+        ensures owns { Owns pool.new (H.bytes host.new) (held_by self.new.running.shadows (H.bytes host.new)) }
+        ensures two { length (held_by self.new.running.shadows (H.bytes host.new)) ≡ 2 }
+        ensures held { self.new.running.held ≡ 2 }
+        ensures moves { Moves pool.old pool.new (H.bytes host.old) (H.bytes host.new) (held_by self.old.running.shadows (H.bytes host.old)) (held_by self.new.running.shadows (H.bytes host.new)) }
+        ensures again { (image : Image) → IsHeld IsShadow held_by slot_at (ground image self.old.running.frames) self.old.running pool.old (H.bytes host.old) → IsHeld IsShadow held_by slot_at (ground image self.old.running.frames) self.new.running pool.new (H.bytes host.new) }
+        ensures cpu { self.new.running.cpu ≡ self.old.running.cpu }
+        ensures board { self.new.running.board ≡ self.old.running.board }
+        ensures frames { self.new.running.frames ≡ self.old.running.frames }
+        ensures step { self.new.running.step ≡ self.old.running.step }
+        ensures fills { self.new.running.fills ≡ self.old.running.fills }
+        ensures filled { IsFilled (set_of IsShadow held_by slot_at self.new.running (H.bytes host.new)) self.new.running.fills }
+        ensures outside { SameOutside (base_of pool.old) (count_of pool.old) (H.bytes host.old) (H.bytes host.new) }
+        ensures started { H.is_started host.new ≡ true }
+        ensures retired { H.retired host.new ≡ H.retired host.old }
+        ensures passed { H.passed host.new ≡ H.passed host.old }
+    {
+        Shadows::drop_all(&mut self.running.shadows, host.ram_mut(), pool);
+        self.running.held = 2;
+    }
+
+    pub fn cpu(&self) -> &Cpu
+        ensures { result.now ≡ self.now.running.cpu }
+    {
+        &self.running.cpu
+    }
+
+    pub fn board(&self) -> &Board
+        ensures { result.now ≡ self.now.running.board }
+    {
+        &self.running.board
+    }
+
+    /// How many steps were done.
+    pub fn step(&self) -> u64
+        ensures { result ≡ self.now.running.step }
+    {
+        self.running.step
+    }
+
+    /// How many frames of the pool it holds.
+    pub fn held(&self) -> u32
+        ensures { result ≡ self.now.running.held }
+    {
+        self.running.held
+    }
+
+    /// How many pages were filled.
+    pub fn fills(&self) -> u64
+        ensures { result ≡ self.now.running.fills }
+    {
+        self.running.fills
+    }
+}
+
+fn start_in(
+    ram: &mut Ram,
+    image: &Checked,
+    frames: u32,
+    count: u32,
+) -> Result<(Guest, Pool), StartFault>
+    requires zero { ram.old ≡ replicate ((frames + count) * 4096) 0 }
+    requires frames { (2048 ≤ frames) × (frames ≤ 16384) }
+    requires count { (16 ≤ count) × (count ≤ 512) }
+    ensures started { StartedAs IsShadow held_by slot_at image.now frames count ram.new result }
+{
+    match load(image, ram, frames) {
+        Err(small) => Err(StartFault::TooSmall(small)),
+        Ok(boot) => {
+            each_run_begins_able();
+            let mut pool = Pool::new(ram, frames, count);
+            let running = adopt_in(ram, image, boot.cpu, Board::new(), 0, frames, &mut pool);
+            Ok((Guest { running }, pool))
+        }
+    }
+}
+
+fn adopt_in(
+    ram: &mut Ram,
+    image: &Checked,
+    cpu: Cpu,
+    board: Board,
+    step: u64,
+    frames: u32,
+    pool: &mut Pool,
+) -> Running<Shadow>
+    requires frames { (2048 ≤ frames) × (frames ≤ 16384) }
+    requires room { 4096 * frames ≤ length ram.old }
+    requires whole { length ram.old % 4096 ≡ 0 }
+    requires fits { 0x100 + text_pages image.now ≤ frames }
+    requires text { part ram.old 0x100000 (length image.now.text) ≡ image.now.text }
+    requires behind { frames ≤ base_of pool.old }
+    requires stands { Stands pool.old ram.old }
+    requires free { 2 ≤ length (free_list pool.old ram.old) }
+    ensures held { IsHeld IsShadow held_by slot_at (ground image.now frames) result pool.new ram.new }
+    ensures state { (script : Events) → state_of IsShadow held_by slot_at (wedge image.now script frames) result ram.new
+        ≡ record { cpu = cpu; ram = take (4096 * frames) ram.old; set = empty; board = board; step = step } }
+    ensures two { result.held ≡ 2 }
+    ensures fills { result.fills ≡ 0 }
+    ensures pool { Keeps pool.old pool.new ram.old ram.new [] (held_by result.shadows ram.new) }
+{
+    patching();
+    let _text = image.text();
+    let _free = pool.free();
+    patch(ram, TEXT_AT, image.sites());
+    let shadows = Shadow::new(ram, pool);
+    Running {
+        cpu,
+        board,
+        step,
+        frames,
+        fills: 0,
+        held: 2,
+        shadows,
+    }
+}

@@ -1,0 +1,23 @@
+//! The patched run: a guest's patched text on an unprivileged host.
+#![tactic(auto)]
+
+mod clash;
+mod close;
+mod guest;
+mod laws;
+mod looking;
+mod native;
+mod opened;
+mod rest;
+mod run;
+mod running;
+mod sight;
+mod single;
+mod slice;
+mod stretch;
+mod told;
+
+pub use guest::Guest;
+pub use laws::{alones_go, views_lend};
+pub use run::run_wedge;
+pub use running::Running;

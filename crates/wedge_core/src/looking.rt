@@ -1,0 +1,172 @@
+//! What a fetch would read, found without doing its step: by what is kept, and by walks that set nothing.
+
+ghost use Rattle.std.specs.Prelude.{◌≡◌, ℕ, ◌+◌, ◌*◌, ◌/◌, ◌%◌, ◌≤◌, ◌<◌, ◌^◌, ◌==◌, ◌++◌, length, Bool, List, IfSome, bit_or, if◌then◌else◌};
+ghost use Rattle.std.specs.List.{list_any};
+ghost use Rattle.guest_ram.specs.Bytes.{byte, part};
+ghost use Rattle.shadow_tables.specs.Entries.{entries_of};
+ghost use Rattle.native_steps.specs.Looking.{marked, seen};
+ghost use Rattle.step_mem.specs.Changes.{AreWithin};
+ghost use Rattle.native_steps.specs.Stands.{shown};
+ghost use Rattle.wedge_core.specs.Standing.{ground};
+ghost use Rattle.wedge_core.specs.Clashing.{AreIn, looked, marks_of, map_seen};
+
+use crate::sight::{are_bytes, byte, walk};
+use arrayvec::ArrayVec;
+use descriptors::Cpu;
+use guest_ram::Ram;
+use image_check::Checked;
+use native_steps::uses_are_seen;
+use paging::{Access, Walk, allows, grants};
+use shadow_tables::Shadows;
+
+/// The bytes that a fetch finds.
+pub type Bytes = ArrayVec<u8, 32>;
+
+/// The places of the two bytes in which a walk sets the accessed flag.
+#[derive(Clone, Copy)]
+pub struct Marks {
+    pub dir: u32,
+    pub word: u32,
+}
+
+/// Where a fetch finds its page, and what its walk would mark.
+#[derive(Clone, Copy)]
+pub struct Seen {
+    pub frame: u32,
+    pub marks: Option<Marks>,
+}
+
+/// The rules for supervisor writes to read-only pages hold for this processor.
+pub fn protects(cpu: &Cpu) -> bool
+    ensures { result ≡ (cpu.now.cr0 / 65536 % 2 == 1) }
+{
+    cpu.cr0 / 65536 % 2 == 1
+}
+
+/// The access of this processor.
+pub fn access_of(cpu: &Cpu, write: bool) -> Access
+    ensures { result ≡ record { write = write; user = cpu.now.cpl == 3 } }
+{
+    Access {
+        write,
+        user: cpu.cpl == 3,
+    }
+}
+
+/// Where a fetch of the page leads.
+pub fn fetched<S: Shadows>(
+    cpu: &Cpu,
+    shadows: &S,
+    ram: &Ram,
+    image: &Checked,
+    frames: u32,
+    page: u32,
+) -> Option<Seen>
+    requires frames { 4096 * frames ≤ length ram.now }
+    requires laid { 0x100000 + length image.now.text ≤ 4096 * frames }
+    requires stands { ∥ S.stands shadows.now ram.now ∥₁ }
+    requires kept { AreWithin frames (entries_of (S.slots shadows.now ram.now)) }
+    requires page { page < 2 ^ 20 }
+    ensures seen { map_seen result ≡ seen (ground image.now frames) (looked cpu.now (shown (ground image.now frames) ram.now) (entries_of (S.slots shadows.now ram.now))) page }
+    ensures marks { IfSome result (λ s. AreIn frames (marks_of s.marks)) }
+    ensures frame { IfSome result (λ s. s.frame < frames) }
+{
+    let access = access_of(cpu, false);
+    let wp = protects(cpu);
+    if let Some(entry) = shadows.kept(ram, page)
+        && allows(&entry, access, wp)
+    {
+        return Some(Seen {
+            frame: entry.frame,
+            marks: None,
+        });
+    }
+    match walk(ram, image, frames, cpu.cr3, page) {
+        Walk::Absent => None,
+        Walk::Beyond => None,
+        Walk::Found {
+            entry,
+            dir_at,
+            word_at,
+        } => {
+            if !grants(&entry, access, wp) {
+                return None;
+            }
+            let marks = Marks {
+                dir: dir_at,
+                word: word_at,
+            };
+            Some(Seen {
+                frame: entry.frame,
+                marks: Some(marks),
+            })
+        }
+    }
+}
+
+/// The place is one of these.
+fn is_marked(marks: Option<Marks>, place: u32) -> bool
+    ensures { result ≡ list_any (λ at. at == place) (marks_of marks) }
+{
+    match marks {
+        None => false,
+        Some(marks) => marks.dir == place || marks.word == place,
+    }
+}
+
+/// The byte with the accessed flag, where it is marked.
+fn flag(byte: u8, is: bool) -> u8
+    ensures { result ≡ (if is then bit_or byte 32 else byte) }
+{
+    if is { byte | 32 } else { byte }
+}
+
+/// The byte at a place, once walks have set their flags.
+fn byte_seen(
+    ram: &Ram,
+    image: &Checked,
+    frames: u32,
+    earlier: Option<Marks>,
+    marks: Option<Marks>,
+    place: u32,
+) -> u8
+    requires frames { 4096 * frames ≤ length ram.now }
+    requires laid { 0x100000 + length image.now.text ≤ 4096 * frames }
+    requires earlier { AreIn frames (marks_of earlier) }
+    requires marks { AreIn frames (marks_of marks) }
+    requires within { place < 4096 * frames }
+    ensures { result ≡ byte (marked (marked (shown (ground image.now frames) ram.now) (marks_of earlier)) (marks_of marks)) place }
+{
+    uses_are_seen();
+    are_bytes(ram, image, frames);
+    let first = flag(byte(ram, image, frames, place), is_marked(earlier, place));
+    flag(first, is_marked(marks, place))
+}
+
+/// Bytes of a page as a fetch reads them, whose walks have set their flags by then.
+pub fn read(
+    ram: &Ram,
+    image: &Checked,
+    frames: u32,
+    earlier: Option<Marks>,
+    seen: Seen,
+    at: u32,
+    len: u32,
+    into: &mut Bytes,
+)
+    requires frames { 4096 * frames ≤ length ram.now }
+    requires laid { 0x100000 + length image.now.text ≤ 4096 * frames }
+    requires earlier { AreIn frames (marks_of earlier) }
+    requires marks { AreIn frames (marks_of seen.marks) }
+    requires frame { seen.frame < frames }
+    requires one { at % 4096 + len ≤ 4096 }
+    requires few { len ≤ 11 }
+    requires room { length into.old.items ≤ 11 }
+    ensures { into.new.items ≡ into.old.items ++ part (marked (marked (shown (ground image.now frames) ram.now) (marks_of earlier)) (marks_of seen.marks)) (4096 * seen.frame + at % 4096) len }
+{
+    let _len = ram.len();
+    let start = seen.frame * 4096 + at % 4096;
+    for i in 0..len {
+        into.push(byte_seen(ram, image, frames, earlier, seen.marks, start + i));
+    }
+}

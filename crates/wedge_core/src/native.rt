@@ -1,0 +1,295 @@
+//! One step whose instruction the host does, where it is done.
+
+ghost use Rattle.std.specs.Prelude.{◌≡◌, ℕ, ◌+◌, ◌*◌, ◌/◌, ◌%◌, ◌==◌, ◌≤◌, ◌<◌, ◌^◌, List, length, true, false, take, Ok, OnOk, OnErr};
+ghost use Rattle.std.specs.FinMap.{empty};
+ghost use Rattle.frame_pool.specs.Pool.{free_list};
+ghost use Rattle.frame_pool.specs.Held.{Moves};
+ghost use Rattle.image_check.specs.Image.{Image};
+ghost use Rattle.board.specs.Scripts.{Events};
+ghost use Rattle.machine_model.specs.State.{wedge};
+ghost use Rattle.machine_model.specs.Alone.{is_native};
+ghost use Rattle.wedge_core.specs.Attempts.{AttemptAs, WhereAsked, WhereWent};
+ghost use Rattle.wedge_core.specs.Clashing.{IsClear};
+ghost use Rattle.wedge_core.specs.Filled.{FillsOn};
+ghost use Rattle.wedge_core.specs.Parts.{IsPartOf};
+ghost use Rattle.wedge_core.specs.Pools.{Keeps};
+ghost use Rattle.wedge_core.specs.Standing.{IsHeld, IsAble, ground, set_of, state_of};
+ghost use Rattle.wedge_core.specs.Views.{may_run, view_by};
+ghost use Rattle.wedge_core.specs.Tries.{TriesAs};
+ghost use Rattle.wedge_core.specs.Prepared.{PreparesAs, prepared};
+ghost use Rattle.ia32_rows.specs.Spells.{Spells};
+ghost use Rattle.paging.specs.Work.{Gives};
+ghost use Rattle.std.specs.Prelude.{IfOk, IfSome};
+ghost use Rattle.step_mem.specs.Shown.{hidden};
+ghost use Rattle.step_mem.specs.Sound.{IsSound, space_at};
+ghost use Rattle.machine_model.specs.State.{Setting, State as Whole};
+ghost use Rattle.machine_step.specs.Ruled.{IsRuled};
+ghost use Rattle.machine_step.specs.Worked.{IsDropped};
+
+use crate::clash::clashes;
+use crate::laws::native_laws;
+use crate::running::Running;
+use crate::sight::are_bytes;
+use crate::single::{NOT_YET, go, keep, original, text_frames};
+use crate::told::keep_told;
+use board::Board;
+use descriptors::Cpu;
+use frame_pool::Pool;
+use guest_ram::Ram;
+use ia32_decode::Decoded;
+use ia32_exec::Outcome;
+use ia32_types::{Insn, Op, Stop, sensitive};
+use image_check::Checked;
+use machine_step::{Rules, Seen, Worked, begin, carry_out, fetch_at, refuse};
+use shadow_tables::Shadows;
+use step_exec::{reach_both, user_outcome};
+use step_mem::{Guard, Kept, State};
+use sys_exec::Refusal;
+use wedge_mem::Lent;
+
+/// Such a step went, or the host is to do it: its pages are filled, and nothing else is done.
+#[derive(Clone, Copy)]
+pub enum Attempt {
+    Went(Seen),
+    Asked,
+}
+
+/// How many frames are free at least where the pages of one instruction are filled.
+const ROOM: u32 = 8;
+
+/// The instruction is one that the host does by itself: at level 0 an insensitive one, at level 3 any that needs neither
+/// a higher level nor a descriptor.
+fn is_native(insn: &Insn, cpu: &Cpu) -> bool
+    ensures { result ≡ is_native (cpu.now.cpl == 3) insn.now.op }
+{
+    match insn.op {
+        Op::Int | Op::Int3 => false,
+        Op::PushFlags
+        | Op::PopFlags
+        | Op::ReadSeg
+        | Op::PushSeg
+        | Op::Return
+        | Op::JumpTo
+        | Op::CallTo => cpu.cpl == 3,
+        _ => sensitive(insn).is_none(),
+    }
+}
+
+/// Begins the step of a processor that takes no interrupt, is not halted, and is at level 3 or at a start outside sites.
+pub fn begin_native<S: Shadows + Drop>(
+    running: &mut Running<S>,
+    pool: &mut Pool,
+    ram: &mut Ram,
+    image: &Checked,
+) -> Result<Attempt, Stop>
+    requires held { IsHeld S.stands S.frames S.slots (ground image.now running.old.frames) running.old pool.old ram.old }
+    requires able { IsAble running.old.cpu }
+    requires runs { may_run running.old.cpu running.old.board image.now ≡ true }
+    requires bound { running.old.step < 2 ^ 40 }
+    requires enough { 16 ≤ length (free_list pool.old ram.old) + running.old.held }
+    ensures step { (script : Events) → AttemptAs (wedge image.now script running.old.frames) (view_by (S.directory running.new.shadows) running.old.cpu)
+        (state_of S.stands S.frames S.slots (wedge image.now script running.old.frames) running.old ram.old) result
+        (state_of S.stands S.frames S.slots (wedge image.now script running.old.frames) running.new ram.new) ram.new }
+    ensures held { OnOk result (IsHeld S.stands S.frames S.slots (ground image.now running.old.frames) (record running.new { step = running.old.step + 1 }) pool.new ram.new) }
+    ensures count { WhereWent result (running.new.step ≡ running.old.step + 1) }
+    ensures stays { OnErr result (running.new.step ≡ running.old.step) }
+    ensures asked { WhereAsked result (running.new ≡ record running.old { shadows = running.new.shadows; held = running.new.held; fills = running.new.fills }) }
+    ensures counted { running.new.held ≡ length (S.frames running.new.shadows ram.new) }
+    ensures filled { FillsOn (set_of S.stands S.frames S.slots running.old ram.old) (set_of S.stands S.frames S.slots running.new ram.new) running.old.fills running.new.fills }
+    ensures stands { ∥ S.stands running.new.shadows ram.new ∥₁ }
+    ensures pool { Keeps pool.old pool.new ram.old ram.new (S.frames running.old.shadows ram.old) (S.frames running.new.shadows ram.new) }
+    ensures frames { running.new.frames ≡ running.old.frames }
+{
+    make_room(running, pool, ram, image);
+    try_once(running, pool, ram, image)
+}
+
+/// The same where frames are free for the pages of an instruction, and the next one doesn't clash with what is kept.
+fn try_once<S: Shadows + Drop>(
+    running: &mut Running<S>,
+    pool: &mut Pool,
+    ram: &mut Ram,
+    image: &Checked,
+) -> Result<Attempt, Stop>
+    requires held { IsHeld S.stands S.frames S.slots (ground image.now running.old.frames) running.old pool.old ram.old }
+    requires able { IsAble running.old.cpu }
+    requires runs { may_run running.old.cpu running.old.board image.now ≡ true }
+    requires bound { running.old.step < 2 ^ 40 }
+    requires room { 8 ≤ length (free_list pool.old ram.old) }
+    requires clear { (script : Events) → IsClear (wedge image.now script running.old.frames) (state_of S.stands S.frames S.slots (wedge image.now script running.old.frames) running.old ram.old) }
+    ensures step { (script : Events) → AttemptAs (wedge image.now script running.old.frames) (view_by (S.directory running.new.shadows) running.old.cpu)
+        (state_of S.stands S.frames S.slots (wedge image.now script running.old.frames) running.old ram.old) result
+        (state_of S.stands S.frames S.slots (wedge image.now script running.old.frames) running.new ram.new) ram.new }
+    ensures held { OnOk result (IsHeld S.stands S.frames S.slots (ground image.now running.old.frames) (record running.new { step = running.old.step + 1 }) pool.new ram.new) }
+    ensures count { WhereWent result (running.new.step ≡ running.old.step + 1) }
+    ensures stays { OnErr result (running.new.step ≡ running.old.step) }
+    ensures asked { WhereAsked result (running.new ≡ record running.old { shadows = running.new.shadows; held = running.new.held; fills = running.new.fills }) }
+    ensures counted { running.new.held ≡ length (S.frames running.new.shadows ram.new) }
+    ensures filled { FillsOn (set_of S.stands S.frames S.slots running.old ram.old) (set_of S.stands S.frames S.slots running.new ram.new) running.old.fills running.new.fills }
+    ensures stands { ∥ S.stands running.new.shadows ram.new ∥₁ }
+    ensures pool { Keeps pool.old pool.new ram.old ram.new (S.frames running.old.shadows ram.old) (S.frames running.new.shadows ram.new) }
+    ensures frames { running.new.frames ≡ running.old.frames }
+{
+    native_laws();
+    are_bytes(ram, image, running.frames);
+    eip_fits(&running.cpu);
+    let text = Some(original(image));
+    let guard = Guard {
+        text: &text,
+        own: NOT_YET,
+    };
+    let rules = Rules { image: Some(image) };
+    let kept = Lent {
+        shadows: &running.shadows,
+        pool: &*pool,
+    };
+    let mut cpu = running.cpu;
+    cpu.held = false;
+    let mut state = begin(&cpu, ram, &kept, running.frames, guard);
+    match try_native(&rules, &cpu, &mut running.board, ram, &kept, &mut state)? {
+        Some(worked) => {
+            go(running, pool, ram, &state, &worked, text_frames(image));
+            Ok(Attempt::Went(worked.seen))
+        }
+        None => {
+            keep_told(&mut state);
+            keep(running, pool, ram, &state, text_frames(image));
+            Ok(Attempt::Asked)
+        }
+    }
+}
+
+/// EIP is a number of 32 bits.
+fn eip_fits(cpu: &Cpu)
+    ensures { cpu.now.regs.eip < 2 ^ 32 }
+{
+    let _eip = cpu.regs.eip;
+}
+
+/// All translations leave before a step for whose pages frames may lack, or which clashes.
+fn make_room<S: Shadows + Drop>(
+    running: &mut Running<S>,
+    pool: &mut Pool,
+    ram: &mut Ram,
+    image: &Checked,
+)
+    requires held { IsHeld S.stands S.frames S.slots (ground image.now running.old.frames) running.old pool.old ram.old }
+    requires enough { 16 ≤ length (free_list pool.old ram.old) + running.old.held }
+    ensures held { IsHeld S.stands S.frames S.slots (ground image.now running.old.frames) running.new pool.new ram.new }
+    ensures part { IsPartOf (set_of S.stands S.frames S.slots running.new ram.new) (set_of S.stands S.frames S.slots running.old ram.old) }
+    ensures room { 8 ≤ length (free_list pool.new ram.new) }
+    ensures clear { (script : Events) → IsClear (wedge image.now script running.old.frames) (state_of S.stands S.frames S.slots (wedge image.now script running.old.frames) running.new ram.new) }
+    ensures same { running.new ≡ record running.old { shadows = running.new.shadows; held = running.new.held } }
+    ensures guest { take (4096 * running.old.frames) ram.new ≡ take (4096 * running.old.frames) ram.old }
+    ensures moves { Moves pool.old pool.new ram.old ram.new (S.frames running.old.shadows ram.old) (S.frames running.new.shadows ram.new) }
+{
+    let few = pool.free() < ROOM;
+    if few || clashes(&running.cpu, running.frames, &running.shadows, ram, image) {
+        drop_kept(running, pool, ram);
+    }
+}
+
+/// All translations leave, and with them all frames but two.
+fn drop_kept<S: Shadows + Drop>(running: &mut Running<S>, pool: &mut Pool, ram: &mut Ram)
+    requires held { (image : Image) × IsHeld S.stands S.frames S.slots (ground image running.old.frames) running.old pool.old ram.old }
+    ensures held { (image : Image) → IsHeld S.stands S.frames S.slots (ground image running.old.frames) running.old pool.old ram.old → IsHeld S.stands S.frames S.slots (ground image running.old.frames) running.new pool.new ram.new }
+    ensures none { set_of S.stands S.frames S.slots running.new ram.new ≡ empty }
+    ensures room { length (free_list pool.new ram.new) + 2 ≡ length (free_list pool.old ram.old) + running.old.held }
+    ensures same { running.new ≡ record running.old { shadows = running.new.shadows; held = running.new.held } }
+    ensures guest { take (4096 * running.old.frames) ram.new ≡ take (4096 * running.old.frames) ram.old }
+    ensures moves { Moves pool.old pool.new ram.old ram.new (S.frames running.old.shadows ram.old) (S.frames running.new.shadows ram.new) }
+{
+    let free = pool.free() + running.held;
+    running.shadows.drop_all(ram, pool);
+    running.held = free - pool.free();
+}
+
+/// Fetches the instruction. None where the host is to do it: its ranges are translated, and its effect is done.
+fn try_native<B: Kept>(
+    rules: &Rules,
+    cpu: &Cpu,
+    board: &mut Board,
+    ram: &mut Ram,
+    kept: &B,
+    state: &mut State,
+) -> Result<Option<Worked>, Stop>
+    requires able { IsAble cpu.now }
+    requires sound { IsSound (B.entries kept.now) (B.floor kept.now) (B.stands kept.now) ram.old state.old }
+    requires pages { state.old.pages ≡ 0 }
+    ensures sound { IsSound (B.entries kept.now) (B.floor kept.now) (B.stands kept.now) ram.new state.new }
+    ensures tries { (m : Setting) (b : Whole) → IsRuled m rules.now → TriesAs m (record b { cpu = cpu.now; board = board.old }) (space_at (B.entries kept.now) ram.old state.old) result board.new (space_at (B.entries kept.now) ram.new state.new) }
+    ensures dropped { IfOk result (λ o. IfSome o (λ w. IsDropped w.dropped)) }
+    ensures control { state.new.control ≡ state.old.control }
+    ensures text { state.new.guard.text ≡ state.old.guard.text }
+    ensures hidden { hidden state.old.guard state.old.control.frames ram.new ≡ hidden state.old.guard state.old.control.frames ram.old }
+{
+    match fetch_at(ram, kept, state, cpu.cpl == 3, cpu.regs.eip) {
+        Err(refusal) => Ok(Some(refuse(rules, cpu, ram, kept, state, refusal)?)),
+        Ok(Decoded::Insn(insn, len)) => {
+            if is_native(&insn, cpu) {
+                prepare(rules, &insn, len, cpu, ram, kept, state)
+            } else {
+                Ok(Some(carry_out(rules, &insn, len, cpu, board, ram, kept, state)?))
+            }
+        }
+        Ok(_) => Err(Stop::Unsupported),
+    }
+}
+
+/// Prepares an instruction that was fetched for the host. Where it raises or stops, the step goes on so.
+fn prepare<B: Kept>(
+    rules: &Rules,
+    insn: &Insn,
+    len: u8,
+    cpu: &Cpu,
+    ram: &mut Ram,
+    kept: &B,
+    state: &mut State,
+) -> Result<Option<Worked>, Stop>
+    requires spelled { (bytes : List ℕ) × Spells bytes insn.now }
+    requires native { is_native (cpu.now.cpl == 3) insn.now.op ≡ true }
+    requires able { IsAble cpu.now }
+    requires sound { IsSound (B.entries kept.now) (B.floor kept.now) (B.stands kept.now) ram.old state.old }
+    requires pages { state.old.pages ≤ 8 }
+    ensures sound { IsSound (B.entries kept.now) (B.floor kept.now) (B.stands kept.now) ram.new state.new }
+    ensures prepares { (m : Setting) (b : Whole) → IsRuled m rules.now → PreparesAs m (record b { cpu = cpu.now }) insn.now len (space_at (B.entries kept.now) ram.old state.old) result (space_at (B.entries kept.now) ram.new state.new) }
+    ensures dropped { IfOk result (λ o. IfSome o (λ w. IsDropped w.dropped)) }
+    ensures control { state.new.control ≡ state.old.control }
+    ensures guard { state.new.guard ≡ state.old.guard }
+    ensures hidden { hidden state.old.guard state.old.control.frames ram.new ≡ hidden state.old.guard state.old.control.frames ram.old }
+{
+    match weigh(insn, len, cpu, ram, kept, state) {
+        Ok(()) => Ok(None),
+        Err(refusal) => Ok(Some(refuse(rules, cpu, ram, kept, state, refusal)?)),
+    }
+}
+
+/// Translates the ranges of an instruction and finds its effect, of which nothing is done. What refuses a range, or raises
+/// or stops in its place, is the refusal.
+#[tactic(auto, unfolding(crate::specs::Prepared::prepared))]
+fn weigh<B: Kept>(
+    insn: &Insn,
+    len: u8,
+    cpu: &Cpu,
+    ram: &mut Ram,
+    kept: &B,
+    state: &mut State,
+) -> Result<(), Refusal>
+    requires spelled { (bytes : List ℕ) × Spells bytes insn.now }
+    requires native { is_native (cpu.now.cpl == 3) insn.now.op ≡ true }
+    requires sound { IsSound (B.entries kept.now) (B.floor kept.now) (B.stands kept.now) ram.old state.old }
+    requires pages { state.old.pages ≤ 8 }
+    ensures sound { IsSound (B.entries kept.now) (B.floor kept.now) (B.stands kept.now) ram.new state.new }
+    ensures prepared { Gives result (space_at (B.entries kept.now) ram.new state.new) (prepared insn.now len cpu.now (space_at (B.entries kept.now) ram.old state.old)) }
+    ensures pages { state.new.pages ≤ state.old.pages + 4 }
+    ensures control { state.new.control ≡ state.old.control }
+    ensures guard { state.new.guard ≡ state.old.guard }
+    ensures hidden { hidden state.old.guard state.old.control.frames ram.new ≡ hidden state.old.guard state.old.control.frames ram.old }
+{
+    reach_both(insn, cpu, ram, kept, state)?;
+    match user_outcome(insn, len, cpu, ram, kept, state) {
+        Outcome::Done(_, _) => Ok(()),
+        Outcome::Raise(vector, code) => Err(Refusal::Raise { vector, code }),
+        Outcome::Stop(stop) => Err(Refusal::Stop(stop)),
+    }
+}

@@ -1,0 +1,97 @@
+//! Whole patched runs.
+
+ghost use Rattle.std.specs.Prelude.{◌≡◌, ◌+◌, ◌≤◌, ◌^◌, length, true};
+ghost use Rattle.board.specs.Scripts.{is_script};
+ghost use Rattle.frame_pool.specs.Pool.{free_list};
+ghost use Rattle.image_load.specs.Boot.{need};
+ghost use Rattle.shadow_tables.specs.Slots.{IsShadow, held as held_by, slot_at};
+ghost use Rattle.machine_model.specs.State.{boot, wedge};
+ghost use Rattle.wedge_core.specs.Promises.{WedgeAnswers, end_of};
+ghost use Rattle.wedge_core.specs.Standing.{IsHeld, IsAble, ground, state_of};
+
+use crate::guest::Guest;
+use board::Script;
+use frame_pool::Pool;
+use host_cpl3::Host;
+use image_check::Checked;
+use image_load::{Pause, RunFault, StartFault};
+use pv_io::Sink;
+use run_trace::{End, Ended, NoNotes, put_end};
+use std::alloc::Global;
+
+/// Runs an image's patched text for at most so many steps, and puts the text of its trace.
+pub fn run_wedge<H: Host, O: Sink>(
+    alloc: Global,
+    image: &Checked,
+    script: &Script,
+    frames: u32,
+    n: u64,
+    pool: u32,
+    host: &mut H,
+    out: &mut O,
+) -> Result<Ended, RunFault>
+    requires frames { (2048 ≤ frames) × (frames ≤ 16384) }
+    requires script { is_script script.now.list ≡ true }
+    requires bound { n ≤ 2 ^ 40 }
+    requires pool { (16 ≤ pool) × (pool ≤ 512) }
+    requires room { H.retired host.old ≤ 2 ^ 63 }
+    ensures run { WedgeAnswers image.now script.now.list frames n (O.taken out.old) (O.taken out.new) (O.faults out.old) (O.faults out.new)
+        (record { retired = H.retired host.old; passed = H.passed host.old }) (record { retired = H.retired host.new; passed = H.passed host.new }) (H.bytes host.new) result }
+{
+    match Guest::start(alloc, image, frames, pool, host) {
+        Err(StartFault::TooSmall(small)) => Err(RunFault::TooSmall(small)),
+        Err(StartFault::Memory) => Err(RunFault::Memory),
+        Ok((guest, pool)) => {
+            let mut guest = guest;
+            let mut pool = pool;
+            whole(&mut guest, image, script, n, &mut pool, host, out)
+        }
+    }
+}
+
+/// One slice, and the last line.
+fn whole<H: Host, O: Sink>(
+    guest: &mut Guest,
+    image: &Checked,
+    script: &Script,
+    n: u64,
+    pool: &mut Pool,
+    host: &mut H,
+    out: &mut O,
+) -> Result<Ended, RunFault>
+    requires started { H.is_started host.old ≡ true }
+    requires held { IsHeld IsShadow held_by slot_at (ground image.now guest.old.running.frames) guest.old.running pool.old (H.bytes host.old) }
+    requires able { IsAble guest.old.running.cpu }
+    requires fits { need image.now ≤ guest.old.running.frames }
+    requires script { is_script script.now.list ≡ true }
+    requires first { state_of IsShadow held_by slot_at (wedge image.now script.now.list guest.old.running.frames) guest.old.running (H.bytes host.old) ≡ boot (wedge image.now script.now.list guest.old.running.frames) }
+    requires bound { n ≤ 2 ^ 40 }
+    requires room { H.retired host.old ≤ 2 ^ 63 }
+    requires enough { 16 ≤ length (free_list pool.old (H.bytes host.old)) + guest.old.running.held }
+    ensures whole { WedgeAnswers image.now script.now.list guest.old.running.frames n (O.taken out.old) (O.taken out.new) (O.faults out.old) (O.faults out.new)
+        (record { retired = H.retired host.old; passed = H.passed host.old }) (record { retired = H.retired host.new; passed = H.passed host.new }) (H.bytes host.new) result }
+{
+    let pause = match guest.slice(image, script, n, pool, host, out, &mut NoNotes) {
+        Err(_) => return Err(RunFault::Write),
+        Ok(pause) => pause,
+    };
+    let ended = Ended {
+        steps: guest.step(),
+        end: end_of(pause),
+        fills: guest.fills(),
+    };
+    match put_end(&ended, out) {
+        Err(_) => Err(RunFault::Write),
+        Ok(()) => Ok(ended),
+    }
+}
+
+/// The end of a run whose last slice paused so.
+fn end_of(pause: Pause) -> End
+    ensures { result ≡ end_of pause }
+{
+    match pause {
+        Pause::Reached => End::Bound,
+        Pause::Stopped(stop) => End::Stopped(stop),
+    }
+}

@@ -1,0 +1,185 @@
+//! One step that the host has no part in.
+
+ghost use Rattle.std.specs.Prelude.{◌≡◌, ℕ, List, ◌+◌, ◌*◌, ◌/◌, ◌%◌, ◌==◌, ◌≤◌, ◌<◌, ◌^◌, length, true, OnErr, OnOk};
+ghost use Rattle.frame_pool.specs.Held.{Owns, Moves};
+ghost use Rattle.frame_pool.specs.Pool.{base_of, free_list};
+ghost use Rattle.board.specs.Boards.{board_step};
+ghost use Rattle.board.specs.Scripts.{Events};
+ghost use Rattle.image_check.specs.Image.{Image};
+ghost use Rattle.image_load.specs.Boot.{text_pages};
+ghost use Rattle.paging.specs.Fresh.{has};
+ghost use Rattle.shadow_tables.specs.Entries.{entries_of};
+ghost use Rattle.step_mem.specs.Changes.{changed};
+ghost use Rattle.step_mem.specs.Sound.{IsSound};
+ghost use Rattle.machine_step.specs.Worked.{dropping, IsDropped};
+ghost use Rattle.machine_model.specs.State.{wedge};
+ghost use Rattle.wedge_mem.specs.Settled.{pages_of};
+ghost use Rattle.wedge_core.specs.Closed.{MayClose, Closes};
+ghost use Rattle.wedge_core.specs.Filled.{FillsOn};
+ghost use Rattle.wedge_core.specs.Parts.{IsPartOf};
+ghost use Rattle.wedge_core.specs.Pools.{Keeps};
+ghost use Rattle.wedge_core.specs.Standing.{AreOpen, IsHeld, ground, set_of, side_of, state_of, wp_of};
+ghost use Rattle.wedge_core.specs.Stepping.{AloneAs};
+
+use crate::close::{close, leave};
+use crate::opened::TEXT_FRAME;
+use crate::running::Running;
+use frame_pool::Pool;
+use guest_ram::Ram;
+use ia32_types::Stop;
+use image_check::Checked;
+use machine_step::{Rules, Seen, Worked, begin, step_in};
+use shadow_tables::{Shadows, Side};
+use step_mem::{Guard, Own, State, Text};
+use wedge_mem::Lent;
+
+/// How many frames hold the text.
+pub fn text_frames(image: &Checked) -> u32
+    ensures { result ≡ text_pages image.now }
+{
+    (image.text().len() as u32 + 4095) / 4096
+}
+
+/// The side of the view that a processor at this level uses.
+pub fn side_of(cpl: u8) -> Side
+    ensures { result ≡ side_of (cpl == 3) }
+{
+    if cpl == 3 { Side::User } else { Side::Kernel }
+}
+
+/// The text as the guest sees it.
+pub fn original(image: &Checked) -> Text<'_>
+    ensures first { result.first ≡ 256 }
+    ensures count { result.count ≡ text_pages image.now }
+    ensures bytes { result.bytes.now ≡ image.now.text }
+{
+    Text {
+        first: TEXT_FRAME,
+        count: text_frames(image),
+        bytes: image.text(),
+    }
+}
+
+/// No byte is an instruction's own yet.
+pub const NOT_YET: Own = Own {
+    front: 0,
+    front_len: 0,
+    back: 0,
+    back_len: 0,
+};
+
+/// One step by the rules, or the stop that it meets. The events of the step were given.
+pub fn step_alone<S: Shadows + Drop>(
+    running: &mut Running<S>,
+    pool: &mut Pool,
+    ram: &mut Ram,
+    image: &Checked,
+) -> Result<Seen, Stop>
+    requires held { IsHeld S.stands S.frames S.slots (ground image.now running.old.frames) running.old pool.old ram.old }
+    requires bound { running.old.step < 2 ^ 40 }
+    ensures step { (script : Events) → AloneAs (wedge image.now script running.old.frames) (state_of S.stands S.frames S.slots (wedge image.now script running.old.frames) running.old ram.old) result (state_of S.stands S.frames S.slots (wedge image.now script running.old.frames) running.new ram.new) }
+    ensures held { OnOk result (IsHeld S.stands S.frames S.slots (ground image.now running.old.frames) running.new pool.new ram.new) }
+    ensures count { OnOk result (running.new.step ≡ running.old.step + 1) }
+    ensures stays { OnErr result (running.new.step ≡ running.old.step) }
+    ensures counted { running.new.held ≡ length (S.frames running.new.shadows ram.new) }
+    ensures stands { ∥ S.stands running.new.shadows ram.new ∥₁ }
+    ensures filled { FillsOn (set_of S.stands S.frames S.slots running.old ram.old) (set_of S.stands S.frames S.slots running.new ram.new) running.old.fills running.new.fills }
+    ensures pool { Keeps pool.old pool.new ram.old ram.new (S.frames running.old.shadows ram.old) (S.frames running.new.shadows ram.new) }
+    ensures frames { running.new.frames ≡ running.old.frames }
+{
+    let text = Some(original(image));
+    let guard = Guard {
+        text: &text,
+        own: NOT_YET,
+    };
+    let rules = Rules { image: Some(image) };
+    let kept = Lent {
+        shadows: &running.shadows,
+        pool: &*pool,
+    };
+    let mut state = begin(&running.cpu, ram, &kept, running.frames, guard);
+    let outcome = step_in(
+        &rules,
+        &running.cpu,
+        &mut running.board,
+        ram,
+        &kept,
+        &mut state,
+    );
+    match outcome {
+        Ok(worked) => {
+            go(running, pool, ram, &state, &worked, text_frames(image));
+            Ok(worked.seen)
+        }
+        Err(stop) => Err(stop),
+    }
+}
+
+/// What a step left of its translations is kept.
+pub fn keep<S: Shadows + Drop>(
+    running: &mut Running<S>,
+    pool: &mut Pool,
+    ram: &mut Ram,
+    state: &State,
+    count: u32,
+)
+    requires sound { IsSound (λ m. entries_of (S.slots running.old.shadows m)) (4096 * base_of pool.old) (λ m. (∥ S.stands running.old.shadows m ∥₁) × Owns pool.old m (S.frames running.old.shadows m)) ram.old state.now }
+    requires counted { running.old.held ≡ length (S.frames running.old.shadows ram.old) }
+    requires few { length (free_list pool.old ram.old) + length (S.frames running.old.shadows ram.old) < 2 ^ 32 }
+    requires fills { running.old.fills ≤ 2 ^ 48 }
+    ensures stands { ∥ S.stands running.new.shadows ram.new ∥₁ }
+    ensures owns { Owns pool.new ram.new (S.frames running.new.shadows ram.new) }
+    ensures moves { Moves pool.old pool.new ram.old ram.new (S.frames running.old.shadows ram.old) (S.frames running.new.shadows ram.new) }
+    ensures part { IsPartOf (entries_of (S.slots running.new.shadows ram.new)) (changed (entries_of (S.slots running.old.shadows ram.old)) state.now.changes) }
+    ensures shows { (image : Image) → count ≡ text_pages image → AreOpen image state.now.control.wp (S.slots running.old.shadows ram.old) → AreOpen image state.now.control.wp (S.slots running.new.shadows ram.new) }
+    ensures whole { MayClose count (side_of (running.old.cpu.cpl == 3)) (changed (entries_of (S.slots running.old.shadows ram.old)) state.now.changes) (pages_of state.now.went state.now.changes) (length (free_list pool.old ram.old))
+        → Closes (S.slots running.old.shadows ram.old) (S.slots running.new.shadows ram.new) (changed (entries_of (S.slots running.old.shadows ram.old)) state.now.changes) (pages_of state.now.went state.now.changes)
+        (side_of (running.old.cpu.cpl == 3)) state.now.control.wp (S.tracked running.new.shadows) state.now.wrote }
+    ensures counted { running.new.held ≡ length (S.frames running.new.shadows ram.new) }
+    ensures fills { running.new.fills ≤ running.old.fills + 128 }
+    ensures filled { FillsOn (entries_of (S.slots running.old.shadows ram.old)) (entries_of (S.slots running.new.shadows ram.new)) running.old.fills running.new.fills }
+    ensures same { running.new ≡ record running.old { shadows = running.new.shadows; held = running.new.held; fills = running.new.fills } }
+{
+    let all = pool.free() + running.held;
+    let side = side_of(running.cpu.cpl);
+    let fills = close(&mut running.shadows, pool, ram, state, side, count);
+    running.fills += u64::from(fills);
+    running.held = all - pool.free();
+}
+
+/// The end of a step that went: its translations are settled, the count rises, and the board advances.
+pub fn go<S: Shadows + Drop>(
+    running: &mut Running<S>,
+    pool: &mut Pool,
+    ram: &mut Ram,
+    state: &State,
+    worked: &Worked,
+    count: u32,
+)
+    requires sound { IsSound (λ m. entries_of (S.slots running.old.shadows m)) (4096 * base_of pool.old) (λ m. (∥ S.stands running.old.shadows m ∥₁) × Owns pool.old m (S.frames running.old.shadows m)) ram.old state.now }
+    requires counted { running.old.held ≡ length (S.frames running.old.shadows ram.old) }
+    requires few { length (free_list pool.old ram.old) + length (S.frames running.old.shadows ram.old) < 2 ^ 32 }
+    requires fills { running.old.fills ≤ 128 * running.old.step }
+    requires bound { running.old.step < 2 ^ 40 }
+    requires page { IsDropped worked.now.dropped }
+    ensures stands { ∥ S.stands running.new.shadows ram.new ∥₁ }
+    ensures owns { Owns pool.new ram.new (S.frames running.new.shadows ram.new) }
+    ensures moves { Moves pool.old pool.new ram.old ram.new (S.frames running.old.shadows ram.old) (S.frames running.new.shadows ram.new) }
+    ensures part { IsPartOf (entries_of (S.slots running.new.shadows ram.new)) (dropping worked.now.dropped (changed (entries_of (S.slots running.old.shadows ram.old)) state.now.changes)) }
+    ensures shows { (image : Image) → count ≡ text_pages image → AreOpen image state.now.control.wp (S.slots running.old.shadows ram.old) → AreOpen image (wp_of worked.now.cpu) (S.slots running.new.shadows ram.new) }
+    ensures counted { running.new.held ≡ length (S.frames running.new.shadows ram.new) }
+    ensures fills { running.new.fills ≤ 128 * running.new.step }
+    ensures filled { FillsOn (entries_of (S.slots running.old.shadows ram.old)) (entries_of (S.slots running.new.shadows ram.new)) running.old.fills running.new.fills }
+    ensures cpu { running.new.cpu ≡ worked.now.cpu }
+    ensures board { running.new.board ≡ board_step running.old.board }
+    ensures step { running.new.step ≡ running.old.step + 1 }
+    ensures frames { running.new.frames ≡ running.old.frames }
+{
+    keep(running, pool, ram, state, count);
+    let all = pool.free() + running.held;
+    leave(&mut running.shadows, pool, ram, state.control.wp, worked);
+    running.held = all - pool.free();
+    running.cpu = worked.cpu;
+    running.step += 1;
+    running.board.advance(1);
+}

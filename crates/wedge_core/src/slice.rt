@@ -1,0 +1,178 @@
+//! A slice of a patched run.
+
+ghost use Rattle.std.specs.Prelude.{◌≡◌, ℕ, ◌+◌, ◌-◌, ◌*◌, ◌/◌, ◌%◌, ◌==◌, ◌≤◌, ◌<◌, ◌^◌, length, true, false, OnOk};
+ghost use Rattle.frame_pool.specs.declared.Pool.{Pool as Frames};
+ghost use Rattle.frame_pool.specs.Pool.{free_list};
+ghost use Rattle.board.specs.declared.devices.Board.{Board as Devices};
+ghost use Rattle.board.specs.Boards.{given};
+ghost use Rattle.board.specs.Scripts.{Events, is_script};
+ghost use Rattle.machine_model.specs.State.{wedge};
+ghost use Rattle.machine_model.specs.Run.{Set};
+ghost use Rattle.wedge_core.specs.Filled.{FillsOn};
+ghost use Rattle.wedge_core.specs.Parts.{IsPartOf};
+ghost use Rattle.wedge_core.specs.Standing.{IsHeld, IsAble, ground, set_of, state_of};
+ghost use Rattle.std.specs.Prelude.{OnErr};
+ghost use Rattle.pv_io.specs.Causes.{Rose};
+ghost use Rattle.wedge_core.specs.Pools.{Keeps};
+ghost use Rattle.machine_model.specs.Step.{items_at};
+ghost use Rattle.machine_step.specs.Worked.{whats};
+ghost use Rattle.run_trace.specs.Steps.{items_of};
+ghost use Rattle.wedge_core.specs.Slices.{SliceAs, GoesOn, Pauses};
+ghost use Rattle.wedge_core.specs.Stepping.{AloneAs, StepAs};
+
+use crate::laws::alones_go;
+use crate::native::{Attempt, begin_native};
+use crate::rest::rest;
+use crate::running::Running;
+use crate::single::step_alone;
+use crate::stretch::{may_run, run_on, stretch};
+use board::Script;
+use frame_pool::Pool;
+use host_cpl3::Host;
+use ia32_types::Stop;
+use image_check::Checked;
+use image_load::Pause;
+use machine_model::steps_keep_able;
+use machine_step::Seen;
+use pv_io::{Failed, Sink};
+use run_trace::{Item, StepItems, put_step};
+use shadow_tables::Shadows;
+
+/// Steps up to a count of steps, or to a stop. The lines of a step go to the sink at its end.
+pub fn steps_to<S: Shadows + Drop, H: Host, O: Sink>(
+    running: &mut Running<S>,
+    image: &Checked,
+    script: &Script,
+    bound: u64,
+    pool: &mut Pool,
+    host: &mut H,
+    out: &mut O,
+) -> Result<Pause, Failed>
+    requires started { H.is_started host.old ≡ true }
+    requires held { IsHeld S.stands S.frames S.slots (ground image.now running.old.frames) running.old pool.old (H.bytes host.old) }
+    requires able { IsAble running.old.cpu }
+    requires script { is_script script.now.list ≡ true }
+    requires begun { running.old.step ≤ bound }
+    requires bound { bound ≤ 2 ^ 40 }
+    requires room { H.retired host.old + (bound - running.old.step) < 2 ^ 64 }
+    requires enough { 16 ≤ length (free_list pool.old (H.bytes host.old)) + running.old.held }
+    ensures slice { SliceAs (wedge image.now script.now.list running.old.frames) bound
+        (state_of S.stands S.frames S.slots (wedge image.now script.now.list running.old.frames) running.old (H.bytes host.old)) (state_of S.stands S.frames S.slots (wedge image.now script.now.list running.old.frames) running.new (H.bytes host.new))
+        (record { retired = H.retired host.old; passed = H.passed host.old }) (record { retired = H.retired host.new; passed = H.passed host.new })
+        (O.taken out.old) (O.taken out.new) result }
+    ensures reached { GoesOn result (running.new.step ≡ bound) }
+    ensures held { GoesOn result (IsHeld S.stands S.frames S.slots (ground image.now running.old.frames) running.new pool.new (H.bytes host.new)) }
+    ensures able { GoesOn result (IsAble running.new.cpu) }
+    ensures counted { Pauses result (running.new.held ≡ length (S.frames running.new.shadows (H.bytes host.new))) }
+    ensures stands { Pauses result (∥ S.stands running.new.shadows (H.bytes host.new) ∥₁) }
+    ensures filled { FillsOn (set_of S.stands S.frames S.slots running.old (H.bytes host.old)) (set_of S.stands S.frames S.slots running.new (H.bytes host.new)) running.old.fills running.new.fills }
+    ensures pool { Pauses result (Keeps pool.old pool.new (H.bytes host.old) (H.bytes host.new) (S.frames running.old.shadows (H.bytes host.old)) (S.frames running.new.shadows (H.bytes host.new))) }
+    ensures started { H.is_started host.new ≡ true }
+    ensures frames { running.new.frames ≡ running.old.frames }
+    ensures later { O.faults out.old ≤ O.faults out.new }
+    ensures cause { OnErr result (Rose (O.faults out.old) (O.faults out.new)) }
+{
+    while running.step < bound {
+        running.board.begin(script, running.step);
+        if stretch(running, host, image, script, bound) > 0 {
+            continue;
+        }
+        let before = running.step;
+        match one_step(running, pool, host, image) {
+            Err(stop) => return Ok(Pause::Stopped(stop)),
+            Ok(seen) => match put_step(&items_of(before, seen), out) {
+                Ok(()) => {}
+                Err(failed) => return Err(failed),
+            },
+        }
+        rest(running, script, bound);
+    }
+    Ok(Pause::Reached)
+}
+
+/// One step, whose events were given.
+fn one_step<S: Shadows + Drop, H: Host>(
+    running: &mut Running<S>,
+    pool: &mut Pool,
+    host: &mut H,
+    image: &Checked,
+) -> Result<Seen, Stop>
+    requires started { H.is_started host.old ≡ true }
+    requires held { IsHeld S.stands S.frames S.slots (ground image.now running.old.frames) running.old pool.old (H.bytes host.old) }
+    requires able { IsAble running.old.cpu }
+    requires bound { running.old.step < 2 ^ 40 }
+    requires room { H.retired host.old + 1 < 2 ^ 64 }
+    requires enough { 16 ≤ length (free_list pool.old (H.bytes host.old)) + running.old.held }
+    ensures step { (script : Events) → StepAs (wedge image.now script running.old.frames)
+        (state_of S.stands S.frames S.slots (wedge image.now script running.old.frames) running.old (H.bytes host.old)) result (state_of S.stands S.frames S.slots (wedge image.now script running.old.frames) running.new (H.bytes host.new))
+        (record { retired = H.retired host.old; passed = H.passed host.old }) (record { retired = H.retired host.new; passed = H.passed host.new }) }
+    ensures held { OnOk result (IsHeld S.stands S.frames S.slots (ground image.now running.old.frames) running.new pool.new (H.bytes host.new)) }
+    ensures able { OnOk result (IsAble running.new.cpu) }
+    ensures count { OnOk result (running.new.step ≡ running.old.step + 1) }
+    ensures stands { ∥ S.stands running.new.shadows (H.bytes host.new) ∥₁ }
+    ensures filled { FillsOn (set_of S.stands S.frames S.slots running.old (H.bytes host.old)) (set_of S.stands S.frames S.slots running.new (H.bytes host.new)) running.old.fills running.new.fills }
+    ensures pool { Keeps pool.old pool.new (H.bytes host.old) (H.bytes host.new) (S.frames running.old.shadows (H.bytes host.old)) (S.frames running.new.shadows (H.bytes host.new)) }
+    ensures few { H.retired host.new ≤ H.retired host.old + 1 }
+    ensures stays { OnErr result (running.new.step ≡ running.old.step) }
+    ensures counted { running.new.held ≡ length (S.frames running.new.shadows (H.bytes host.new)) }
+    ensures retired { OnErr result (H.retired host.new ≡ H.retired host.old) }
+    ensures passed { OnErr result (H.passed host.new ≡ H.passed host.old) }
+    ensures started { H.is_started host.new ≡ true }
+    ensures frames { running.new.frames ≡ running.old.frames }
+{
+    alones_go();
+    steps_keep_able();
+    if !may_run(&running.cpu, &running.board, image) {
+        return by_rules(running, pool, host, image);
+    }
+    match begin_native(running, pool, host.ram_mut(), image)? {
+        Attempt::Went(seen) => Ok(seen),
+        Attempt::Asked => {
+            let _one = run_on(running, host, 1);
+            Ok(Seen::Nothing)
+        }
+    }
+}
+
+/// One step by the rules alone, over the host's memory. The host completes nothing.
+fn by_rules<S: Shadows + Drop, H: Host>(
+    running: &mut Running<S>,
+    pool: &mut Pool,
+    host: &mut H,
+    image: &Checked,
+) -> Result<Seen, Stop>
+    requires started { H.is_started host.old ≡ true }
+    requires held { IsHeld S.stands S.frames S.slots (ground image.now running.old.frames) running.old pool.old (H.bytes host.old) }
+    requires bound { running.old.step < 2 ^ 40 }
+    ensures step { (script : Events) → AloneAs (wedge image.now script running.old.frames) (state_of S.stands S.frames S.slots (wedge image.now script running.old.frames) running.old (H.bytes host.old)) result (state_of S.stands S.frames S.slots (wedge image.now script running.old.frames) running.new (H.bytes host.new)) }
+    ensures held { OnOk result (IsHeld S.stands S.frames S.slots (ground image.now running.old.frames) running.new pool.new (H.bytes host.new)) }
+    ensures count { OnOk result (running.new.step ≡ running.old.step + 1) }
+    ensures stays { OnErr result (running.new.step ≡ running.old.step) }
+    ensures counted { running.new.held ≡ length (S.frames running.new.shadows (H.bytes host.new)) }
+    ensures stands { ∥ S.stands running.new.shadows (H.bytes host.new) ∥₁ }
+    ensures filled { FillsOn (set_of S.stands S.frames S.slots running.old (H.bytes host.old)) (set_of S.stands S.frames S.slots running.new (H.bytes host.new)) running.old.fills running.new.fills }
+    ensures pool { Keeps pool.old pool.new (H.bytes host.old) (H.bytes host.new) (S.frames running.old.shadows (H.bytes host.old)) (S.frames running.new.shadows (H.bytes host.new)) }
+    ensures retired { H.retired host.new ≡ H.retired host.old }
+    ensures passed { H.passed host.new ≡ H.passed host.old }
+    ensures started { H.is_started host.new ≡ true }
+    ensures frames { running.new.frames ≡ running.old.frames }
+{
+    step_alone(running, pool, host.ram_mut(), image)
+}
+
+/// What a step lets be seen, as items.
+fn items_of(step: u64, seen: Seen) -> StepItems
+    ensures items { items_of result ≡ items_at step (whats seen) }
+    ensures few { result.len ≤ 2 }
+{
+    let mut items = StepItems::new();
+    match seen {
+        Seen::Nothing => {}
+        Seen::One(what) => items.add(Item { step, what }),
+        Seen::Two(first, second) => {
+            items.add(Item { step, what: first });
+            items.add(Item { step, what: second });
+        }
+    }
+    items
+}

@@ -1,0 +1,156 @@
+//! Instructions that the host does one behind the other.
+
+ghost use Rattle.std.specs.Prelude.{◌≡◌, ℕ, ◌+◌, ◌-◌, ◌*◌, ◌/◌, ◌%◌, ◌==◌, ◌≤◌, ◌<◌, ◌^◌, length, true, false, OnOk};
+ghost use Rattle.frame_pool.specs.declared.Pool.{Pool as Frames};
+ghost use Rattle.frame_pool.specs.Pool.{free_list};
+ghost use Rattle.board.specs.declared.devices.Board.{Board as Devices};
+ghost use Rattle.board.specs.Boards.{given, comes_within};
+ghost use Rattle.board.specs.Scripts.{Events, is_script};
+ghost use Rattle.machine_model.specs.State.{wedge};
+ghost use Rattle.machine_model.specs.Run.{Set};
+ghost use Rattle.wedge_core.specs.Filled.{FillsOn};
+ghost use Rattle.wedge_core.specs.Parts.{IsPartOf};
+ghost use Rattle.wedge_core.specs.Standing.{IsHeld, IsAble, ground, set_of, state_of};
+ghost use Rattle.wedge_core.specs.Views.{may_run, view_by};
+ghost use Rattle.wedge_core.specs.Pools.{Keeps};
+ghost use Rattle.wedge_core.specs.Stepping.{Passes};
+ghost use Rattle.wedge_core.specs.Ran.{Ran, LeadsLow, landed};
+ghost use Rattle.host_cpl3.specs.Hosts.{standing};
+
+use crate::laws::views_lend;
+use crate::running::Running;
+use crate::single::side_of;
+use board::{Board, Script};
+use descriptors::Cpu;
+use host_cpl3::{Exit, Host, View, borders, each_is_run};
+use ia32_types::Regs;
+use image_check::{Checked, Place};
+use machine_step::interrupt;
+use native_steps::advances;
+use shadow_tables::{Shadows, Side};
+
+/// What a site's address in the window adds to the site's own.
+const WINDOW_BELOW: u32 = 0x0B0B_0B07;
+
+/// The processor's next instruction is one that the host may do: no interrupt is taken, and at level 0 it stands at a start outside sites.
+pub fn may_run(cpu: &Cpu, board: &Board, image: &Checked) -> bool
+    ensures { result ≡ may_run cpu.now board.now image.now }
+{
+    if cpu.halted || interrupt(cpu, board).is_some() {
+        return false;
+    }
+    if cpu.cpl == 3 {
+        return true;
+    }
+    matches!(image.place_at(cpu.regs.eip), Place::Outside)
+}
+
+/// The view of this processor.
+fn view_of<S: Shadows>(cpu: &Cpu, shadows: &S) -> View
+    ensures { result ≡ view_by (S.directory shadows.now) cpu.now }
+{
+    let side = side_of(cpu.cpl);
+    View {
+        kernel: cpu.cpl != 3,
+        root: shadows.root(side),
+        es: cpu.seg[0].sel,
+        cs: cpu.seg[1].sel,
+        ss: cpu.seg[2].sel,
+        ds: cpu.seg[3].sel,
+        es_null: cpu.seg[0].null,
+        ds_null: cpu.seg[3].null,
+    }
+}
+
+/// The registers behind an exit. A jump into the window is taken back, so that EIP is the site's.
+fn landed(exit: Exit, regs: Regs) -> Regs
+    requires { LeadsLow exit }
+    ensures { result ≡ landed exit regs }
+{
+    match exit {
+        Exit::Entry(at) => Regs {
+            eip: at + WINDOW_BELOW,
+            ..regs
+        },
+        _ => regs,
+    }
+}
+
+/// Lets the host do at most so many instructions, and says how many it has done. The board and the count follow.
+pub fn run_on<S: Shadows + Drop, H: Host>(running: &mut Running<S>, host: &mut H, k: u64) -> u64
+    requires started { H.is_started host.old ≡ true }
+    requires stands { ∥ S.stands running.old.shadows (H.bytes host.old) ∥₁ }
+    requires bound { running.old.step + k ≤ 2 ^ 40 }
+    requires room { H.retired host.old + k < 2 ^ 64 }
+    ensures ran { Ran (view_by (S.directory running.old.shadows) running.old.cpu) k
+        (standing running.old.cpu.regs (H.bytes host.old) (H.retired host.old) (H.passed host.old)) running.old result running.new (H.bytes host.new) (H.retired host.new) (H.passed host.new) }
+    ensures started { H.is_started host.new ≡ true }
+{
+    each_is_run();
+    borders();
+    let view = view_of(&running.cpu, &running.shadows);
+    let before = host.retired();
+    let mut regs = running.cpu.regs;
+    let exit = host.resume(&view, &mut regs, k);
+    let done = host.retired() - before;
+    if done == 0 {
+        return 0;
+    }
+    running.cpu.regs = landed(exit, regs);
+    running.cpu.held = false;
+    running.step += done;
+    running.board.advance(done);
+    done
+}
+
+/// A stretch up to the bound, the next edge or the next event. The events of this step were given.
+pub fn stretch<S: Shadows + Drop, H: Host>(
+    running: &mut Running<S>,
+    host: &mut H,
+    image: &Checked,
+    script: &Script,
+    bound: u64,
+) -> u64
+    requires started { H.is_started host.old ≡ true }
+    requires held { (pool : Frames) × IsHeld S.stands S.frames S.slots (ground image.now running.old.frames) running.old pool (H.bytes host.old) }
+    requires able { IsAble running.old.cpu }
+    requires script { is_script script.now.list ≡ true }
+    requires begun { running.old.step ≤ bound }
+    requires bound { bound ≤ 2 ^ 40 }
+    requires room { H.retired host.old + (bound - running.old.step) < 2 ^ 64 }
+    ensures passes { 0 < result → (board : Devices) → given board script.now.list running.old.step ≡ running.old.board → (whole : Set) → IsPartOf (set_of S.stands S.frames S.slots running.old (H.bytes host.old)) whole
+        → Passes (wedge image.now script.now.list running.old.frames) (record (state_of S.stands S.frames S.slots (wedge image.now script.now.list running.old.frames) running.old (H.bytes host.old)) { board = board }) whole
+        (state_of S.stands S.frames S.slots (wedge image.now script.now.list running.old.frames) running.new (H.bytes host.new))
+        (record { retired = H.retired host.old; passed = H.passed host.old }) (record { retired = H.retired host.new; passed = H.passed host.new }) }
+    ensures stays { result ≡ 0 → state_of S.stands S.frames S.slots (wedge image.now script.now.list running.old.frames) running.new (H.bytes host.new) ≡ state_of S.stands S.frames S.slots (wedge image.now script.now.list running.old.frames) running.old (H.bytes host.old) }
+    ensures held { (pool : Frames) → IsHeld S.stands S.frames S.slots (ground image.now running.old.frames) running.old pool (H.bytes host.old) → IsHeld S.stands S.frames S.slots (ground image.now running.old.frames) running.new pool (H.bytes host.new) }
+    ensures pool { (pool : Frames) → IsHeld S.stands S.frames S.slots (ground image.now running.old.frames) running.old pool (H.bytes host.old) → Keeps pool pool (H.bytes host.old) (H.bytes host.new) (S.frames running.old.shadows (H.bytes host.old)) (S.frames running.new.shadows (H.bytes host.new)) }
+    ensures filled { FillsOn (set_of S.stands S.frames S.slots running.old (H.bytes host.old)) (set_of S.stands S.frames S.slots running.new (H.bytes host.new)) running.old.fills running.new.fills }
+    ensures able { IsAble running.new.cpu }
+    ensures started { H.is_started host.new ≡ true }
+    ensures frames { running.new.frames ≡ running.old.frames }
+    ensures count { running.new.step ≡ running.old.step + result }
+    ensures most { running.new.step ≤ bound }
+    ensures retired { H.retired host.new ≡ H.retired host.old + result }
+    ensures passed { result ≡ 0 → H.passed host.new ≡ H.passed host.old }
+{
+    if running.cpu.held || !may_run(&running.cpu, &running.board, image) {
+        return 0;
+    }
+    views_lend();
+    advances();
+    let k = steps_until_next(&running.board, script, running.step, bound - running.step);
+    run_on(running, host, k)
+}
+
+/// How many steps, up to a number, pass before an edge or an event can come. The events of this step were given.
+fn steps_until_next(board: &Board, script: &Script, step: u64, most: u64) -> u64
+    requires script { is_script script.now.list ≡ true }
+    ensures most { result ≤ most }
+    ensures quiet { 0 < result → comes_within board.now script.now.list step (result - 1) ≡ false }
+{
+    match board.next_event(script, step) {
+        None => most,
+        Some(next) => most.min(next),
+    }
+}

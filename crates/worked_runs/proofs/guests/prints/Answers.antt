@@ -1,0 +1,16 @@
+use Rattle.std.proofs.Common.{ℕ, [], sym, subst, ap, arith}
+use Rattle.host_cpl3.specs.Hosts.{held}
+use Rattle.shadow_tables.specs.Slots.{IsShadow, held as held_by, slot_at}
+use Rattle.machine_model.specs.State.{State}
+use Rattle.wedge_core.specs.Standing.{IsHeld, ground}
+use Rattle.worked_runs.proofs.guests.prints.Goals as goal
+
+pub loop-init : goal.loop-init
+loop-init c =
+    let b = c.in_ok-guest.ensures.started.4 [] in
+    let begun = ap (λ (s : State). s.step) b.state in (
+      c.in_ok-guest.ensures.running,
+      subst (λ (f : ℕ). IsHeld IsShadow held_by slot_at (ground c.args.image.now f) c.in_ok-guest.guest.running c.in_ok-guest.pool (held c.start.new.host.ram)) (sym b.held.frames_are) b.held,
+      b.able,
+      omega (arith, begun),
+    )

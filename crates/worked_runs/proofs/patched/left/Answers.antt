@@ -1,0 +1,28 @@
+use Rattle.std.proofs.Common.{ℕ, [], sym, subst, ap, arith}
+use Rattle.host_cpl3.specs.Hosts.{held}
+use Rattle.shadow_tables.specs.Slots.{IsShadow, held as held_by, slot_at}
+use Rattle.machine_model.specs.State.{State}
+use Rattle.wedge_core.specs.Standing.{IsHeld, ground}
+use Rattle.worked_runs.proofs.patched.left.Goals as goal
+
+pub slice-requires-clause-held : goal.slice-requires-clause-held
+slice-requires-clause-held c =
+    let b = c.in_ok-guest.ensures.started.4 [] in
+    subst (λ (f : ℕ). IsHeld IsShadow held_by slot_at (ground c.args.image.now f) c.in_ok-guest.guest.running c.in_ok-guest.pool (held c.start.new.host.ram)) (sym b.held.frames_are) b.held
+
+pub slice-requires-clause-able : goal.slice-requires-clause-able
+slice-requires-clause-able c = let b = c.in_ok-guest.ensures.started.4 [] in b.able
+
+pub slice-requires-clause-bound : goal.slice-requires-clause-bound
+slice-requires-clause-bound c =
+    let b = c.in_ok-guest.ensures.started.4 [] in
+    let begun = ap (λ (s : State). s.step) b.state in
+    let few = c.requires in
+    omega (arith, begun, few)
+
+pub slice-requires-clause-enough : goal.slice-requires-clause-enough
+slice-requires-clause-enough c =
+    let b = c.in_ok-guest.ensures.started.4 [] in
+    let all = b.all in
+    let count = c.in_ok-guest.ensures.started.3 in
+    omega (arith, all, count)
