@@ -2,7 +2,7 @@
 
 use crate::reach::Reach;
 use guest_ram::Ram;
-use ia32_exec::LinearMem;
+use ia32_exec::LinearBytes;
 use ia32_types::Size;
 
 /// Memory with the two ranges that were reached: what is read alone, and what is written.
@@ -14,22 +14,15 @@ pub struct Bytes<'a> {
     pub write: Reach,
 }
 
-impl LinearMem for Bytes<'_> {
-    ghost use Rattle.std.specs.Prelude.{◌≡◌, ◌==◌};
+impl LinearBytes for Bytes<'_> {
     ghost use Rattle.host_cpl3.specs.Pages.{byte_at};
     ghost use Rattle.host_cpl3.specs.Reaches.{IsRead};
 
     ghost byte = { λ b at. byte_at b.ram.now b.root at };
 
-    ghost same = { λ b i j. i == j };
-
     ghost readable = { λ b at. IsRead b.ram.now b.root b.read b.write at };
 
-    ghost writable = { λ b at. ⊥ };
-
     ghost read_in_space = { λ b at h. h.space };
-
-    ghost write_in_space = { λ b at h. absurd h };
 
     fn read(&self, at: u32, size: Size) -> u32 {
         match size {
@@ -42,11 +35,6 @@ impl LinearMem for Bytes<'_> {
                     + self.byte(at + 3) * 0x100_0000
             }
         }
-    }
-
-    /// No byte may be written.
-    fn write(&mut self, _at: u32, _size: Size, _value: u32) {
-        unreachable!()
     }
 }
 

@@ -27,7 +27,7 @@ pub use after::{eip_goes_on, same_over_ranges, system_flags_stay};
 pub use effect_of::effect;
 pub use exec_of::exec;
 pub use laws::{push_all_then_pop_all, push_then_pop, repeated_turns, writes_hold};
-pub use memory::LinearMem;
+pub use memory::{LinearBytes, LinearMem};
 pub use order::conditions_after_compare;
 pub use outcome::{Effect, Outcome, Store, Stores};
 pub use ranges_of::{ranges, segment_of};

@@ -6,7 +6,7 @@ ghost use Rattle.ia32_exec.specs.Operands.{IsReadable};
 ghost use Rattle.ia32_types.specs.Shape.{IsNamed};
 ghost use Rattle.ia32_exec.specs.Stack.{stack_of, lowered, raised, pushed_number, pushed, top_of_stack, slot_of, popped, all_pushed, all_popped, left, called, flags_pushed, is_foreign, taken, flags_popped};
 
-use crate::memory::LinearMem;
+use crate::memory::LinearBytes;
 use crate::operands::{source_of, stored};
 use crate::outcome::{Outcome, Store, Stores};
 use crate::registers::{passed, with_whole};
@@ -40,7 +40,7 @@ pub fn pushed_number(value: u32, regs: Regs) -> Outcome
 
 /// PUSH.
 #[tactic(auto, unfolding(crate::specs::Stack::pushed))]
-pub fn pushed<M: LinearMem>(insn: &Insn, len: u8, regs: &Regs, mem: &M) -> Outcome
+pub fn pushed<M: LinearBytes>(insn: &Insn, len: u8, regs: &Regs, mem: &M) -> Outcome
     requires { IsReadable (M.readable mem.now) insn.now.a Long regs.now }
     ensures { result ≡ pushed insn.now len regs.now (M.byte mem.now) }
 {
@@ -48,7 +48,7 @@ pub fn pushed<M: LinearMem>(insn: &Insn, len: u8, regs: &Regs, mem: &M) -> Outco
     pushed_number(value, passed(u32::from(len), *regs))
 }
 
-fn top_of_stack<M: LinearMem>(regs: &Regs, mem: &M) -> u32
+fn top_of_stack<M: LinearBytes>(regs: &Regs, mem: &M) -> u32
     requires { IsAllAt (M.readable mem.now) (stack_of regs.now) Long }
     ensures { result ≡ top_of_stack regs.now (M.byte mem.now) }
 {
@@ -57,7 +57,7 @@ fn top_of_stack<M: LinearMem>(regs: &Regs, mem: &M) -> u32
 
 /// POP.
 #[tactic(auto, unfolding(crate::specs::Stack::popped))]
-pub fn popped<M: LinearMem>(insn: &Insn, len: u8, regs: &Regs, mem: &M) -> Outcome
+pub fn popped<M: LinearBytes>(insn: &Insn, len: u8, regs: &Regs, mem: &M) -> Outcome
     requires named { IsNamed insn.now.a }
     requires covered { IsAllAt (M.readable mem.now) (stack_of regs.now) Long }
     ensures { result ≡ popped insn.now len regs.now (M.byte mem.now) }
@@ -80,7 +80,7 @@ pub fn all_pushed(len: u8, regs: &Regs) -> Outcome
     Outcome::Done(after, Stores::Eight(at, values))
 }
 
-fn slot<M: LinearMem>(k: u32, regs: &Regs, mem: &M) -> u32
+fn slot<M: LinearBytes>(k: u32, regs: &Regs, mem: &M) -> u32
     requires within { k < 8 }
     requires covered { AreAll (M.readable mem.now) (stack_of regs.now) 32 }
     ensures { result ≡ slot_of k regs.now (M.byte mem.now) }
@@ -90,7 +90,7 @@ fn slot<M: LinearMem>(k: u32, regs: &Regs, mem: &M) -> u32
 
 /// POPA.
 #[tactic(auto, unfolding(crate::specs::Stack::all_popped))]
-pub fn all_popped<M: LinearMem>(len: u8, regs: &Regs, mem: &M) -> Outcome
+pub fn all_popped<M: LinearBytes>(len: u8, regs: &Regs, mem: &M) -> Outcome
     requires { AreAll (M.readable mem.now) (stack_of regs.now) 32 }
     ensures { result ≡ all_popped len regs.now (M.byte mem.now) }
 {
@@ -109,7 +109,7 @@ pub fn all_popped<M: LinearMem>(len: u8, regs: &Regs, mem: &M) -> Outcome
 
 /// LEAVE.
 #[tactic(auto, unfolding(crate::specs::Stack::left))]
-pub fn left<M: LinearMem>(len: u8, regs: &Regs, mem: &M) -> Outcome
+pub fn left<M: LinearBytes>(len: u8, regs: &Regs, mem: &M) -> Outcome
     requires { IsAllAt (M.readable mem.now) (slice_index regs.now.r 5) Long }
     ensures { result ≡ left len regs.now (M.byte mem.now) }
 {
@@ -172,7 +172,7 @@ pub fn taken(flags: Flags, image: Flags) -> Flags
 
 /// POPF at CPL 3 and IOPL 0.
 #[tactic(auto, unfolding(crate::specs::Stack::flags_popped))]
-pub fn flags_popped<M: LinearMem>(len: u8, regs: &Regs, mem: &M) -> Outcome
+pub fn flags_popped<M: LinearBytes>(len: u8, regs: &Regs, mem: &M) -> Outcome
     requires { IsAllAt (M.readable mem.now) (stack_of regs.now) Long }
     ensures { result ≡ flags_popped len regs.now (M.byte mem.now) }
 {

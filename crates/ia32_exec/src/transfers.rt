@@ -7,7 +7,7 @@ ghost use Rattle.ia32_exec.specs.Stack.{stack_of, raised};
 ghost use Rattle.ia32_types.specs.Places.{is_place};
 ghost use Rattle.ia32_exec.specs.Transfers.{returned, jumped_through, called_through};
 
-use crate::memory::LinearMem;
+use crate::memory::LinearBytes;
 use crate::operands::value_of;
 use crate::outcome::{Outcome, Store, Stores};
 use crate::registers::{passed, with_whole};
@@ -29,7 +29,7 @@ fn raised_over(more: u32, regs: &Regs) -> u32
 
 /// RET.
 #[tactic(auto, unfolding(crate::specs::Transfers::returned))]
-pub fn returned<M: LinearMem>(insn: &Insn, regs: &Regs, mem: &M) -> Outcome
+pub fn returned<M: LinearBytes>(insn: &Insn, regs: &Regs, mem: &M) -> Outcome
     requires { IsAllAt (M.readable mem.now) (stack_of regs.now) Long }
     ensures { result ≡ returned insn.now regs.now (M.byte mem.now) }
 {
@@ -40,7 +40,7 @@ pub fn returned<M: LinearMem>(insn: &Insn, regs: &Regs, mem: &M) -> Outcome
 
 /// JMP through an operand.
 #[tactic(auto, unfolding(crate::specs::Transfers::jumped_through))]
-pub fn jumped_through<M: LinearMem>(insn: &Insn, regs: &Regs, mem: &M) -> Outcome
+pub fn jumped_through<M: LinearBytes>(insn: &Insn, regs: &Regs, mem: &M) -> Outcome
     requires { IsReadable (M.readable mem.now) insn.now.a Long regs.now }
     ensures { result ≡ jumped_through insn.now regs.now (M.byte mem.now) }
 {
@@ -53,7 +53,7 @@ pub fn jumped_through<M: LinearMem>(insn: &Insn, regs: &Regs, mem: &M) -> Outcom
 
 /// CALL through an operand.
 #[tactic(auto, unfolding(crate::specs::Transfers::called_through))]
-pub fn called_through<M: LinearMem>(insn: &Insn, len: u8, regs: &Regs, mem: &M) -> Outcome
+pub fn called_through<M: LinearBytes>(insn: &Insn, len: u8, regs: &Regs, mem: &M) -> Outcome
     requires { IsReadable (M.readable mem.now) insn.now.a Long regs.now }
     ensures { result ≡ called_through insn.now len regs.now (M.byte mem.now) }
 {

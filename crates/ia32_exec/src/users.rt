@@ -4,7 +4,7 @@ ghost use Rattle.ia32_exec.specs.Effect.{ranges_of, IsReadReady};
 ghost use Rattle.ia32_exec.specs.UserEffect.{user_effect, IsUserDone};
 
 use crate::effect_of::effect;
-use crate::memory::LinearMem;
+use crate::memory::LinearBytes;
 use crate::outcome::Outcome;
 use crate::selectors::{Selectors, selector_pushed, selector_read};
 use crate::transfers::{called_through, jumped_through, returned};
@@ -12,7 +12,7 @@ use ia32_types::{Insn, Op, Regs};
 
 /// What an instruction comes to at CPL 3 and IOPL 0, with these selectors.
 #[tactic(auto, unfolding(crate::specs::UserEffect::user_effect, crate::specs::Effect::ranges_of))]
-pub fn user_effect<M: LinearMem>(
+pub fn user_effect<M: LinearBytes>(
     selectors: &Selectors,
     insn: &Insn,
     len: u8,

@@ -10,7 +10,7 @@ mod stack;
 mod steps;
 mod strings;
 
-use ia32_exec::{Effect, LinearMem, Range, exec, ranges};
+use ia32_exec::{Effect, LinearBytes, LinearMem, Range, exec, ranges};
 use ia32_types::{Address, Flags, Insn, Op, Operand, Reg, Regs, Size};
 use std::process::Abort;
 
@@ -22,22 +22,16 @@ struct Flat {
     bytes: [u8; 256],
 }
 
-impl LinearMem for Flat {
-    ghost use Rattle.std.specs.Prelude.{◌≡◌, ◌<◌, ◌≤◌, ◌-◌, ◌^◌};
+impl LinearBytes for Flat {
+    ghost use Rattle.std.specs.Prelude.{◌<◌, ◌≤◌, ◌^◌};
     ghost use Rattle.std.proofs.Common.{arith};
-    ghost use Rattle.instruction_vectors.specs.Flat.{byte_at, is_same};
+    ghost use Rattle.instruction_vectors.specs.Flat.{byte_at};
 
     ghost byte = { λ m. byte_at m.bytes };
 
-    ghost same = { λ m. is_same };
-
     ghost readable = { λ m at. (65536 ≤ at) × (at < 65792) };
 
-    ghost writable = { λ m at. (65536 ≤ at) × (at < 65792) };
-
     ghost read_in_space = { λ m at h. Prim.omega arith };
-
-    ghost write_in_space = { λ m at h. Prim.omega arith };
 
     fn read(&self, at: u32, size: Size) -> u32 {
         let at = (at - BASE) as usize;
@@ -53,6 +47,18 @@ impl LinearMem for Flat {
             }
         }
     }
+}
+
+impl LinearMem for Flat {
+    ghost use Rattle.std.specs.Prelude.{◌≡◌, ◌<◌, ◌≤◌, ◌-◌, ◌^◌};
+    ghost use Rattle.std.proofs.Common.{arith};
+    ghost use Rattle.instruction_vectors.specs.Flat.{is_same};
+
+    ghost same = { λ m. is_same };
+
+    ghost writable = { λ m at. (65536 ≤ at) × (at < 65792) };
+
+    ghost write_in_space = { λ m at h. Prim.omega arith };
 
     fn write(&mut self, at: u32, size: Size, value: u32) {
         self.put((at - BASE) as usize, size, value);

@@ -4,7 +4,7 @@ ghost use Rattle.std.specs.Prelude.{◌≡◌};
 ghost use Rattle.step_exec.specs.Plain.{is_in};
 
 use guest_ram::Ram;
-use ia32_exec::{LinearMem, Range, Ranges};
+use ia32_exec::{LinearBytes, Range, Ranges};
 use ia32_types::Size;
 use step_mem::{Kept, State};
 
@@ -26,8 +26,7 @@ fn is_in(range: Option<Range>, at: u32) -> bool
     }
 }
 
-impl<B: Kept> LinearMem for View<'_, B> {
-    ghost use Rattle.std.specs.Prelude.{◌≡◌, ◌==◌};
+impl<B: Kept> LinearBytes for View<'_, B> {
     ghost use Rattle.step_mem.specs.Sound.{IsSound, space_at};
     ghost use Rattle.step_exec.specs.Divided.{byte_of};
     ghost use Rattle.step_exec.specs.Ready.{IsOpen};
@@ -36,13 +35,7 @@ impl<B: Kept> LinearMem for View<'_, B> {
 
     ghost readable = { λ m at. IsSound (B.entries m.kept.now) (B.floor m.kept.now) (B.stands m.kept.now) m.ram.now m.state.now × IsOpen m.ranges m.state.now at };
 
-    ghost same = { λ m i j. i == j };
-
-    ghost writable = { λ m at. ⊥ };
-
     ghost read_in_space = { λ m at h. h.1.space };
-
-    ghost write_in_space = { λ m at h. absurd h };
 
     fn read(&self, at: u32, size: Size) -> u32 {
         match size {
@@ -55,11 +48,6 @@ impl<B: Kept> LinearMem for View<'_, B> {
                     + self.byte(at + 3) * 0x100_0000
             }
         }
-    }
-
-    /// No byte may be written.
-    fn write(&mut self, _at: u32, _size: Size, _value: u32) {
-        unreachable!()
     }
 }
 
