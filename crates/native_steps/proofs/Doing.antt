@@ -5,7 +5,7 @@ use Rattle.std.specs.FinMap.{get}
 use Rattle.guest_ram.specs.Bytes as bytes
 use Rattle.ia32_types.specs.declared.size.Size.TheVariants.{Word, Long}
 use Rattle.ia32_types.specs.declared.register.Seg.{Seg}
-use Rattle.ia32_types.specs.declared.register.Seg.TheVariants.{Es, Cs, Ss, Ds}
+use Rattle.ia32_types.specs.declared.register.Seg.TheVariants.{Es, Ss}
 use Rattle.ia32_types.specs.declared.flags.Regs.{Regs}
 use Rattle.ia32_types.specs.declared.flags.Flags.{Flags}
 use Rattle.ia32_types.specs.declared.stop.Stop.TheVariants as stops
