@@ -4,15 +4,15 @@ use Rattle.std.proofs.lemmas.List.{take_more, take_all, take-append-drop}
 use Rattle.std.proofs.lemmas.List.Sums.{fold-append}
 use Rattle.std.specs.Prelude.{Result, Ok, Err, IfOk, OnOk}
 use Rattle.asm_lex.specs.declared.lexing.TheConstants.{LIMIT}
-use Rattle.asm_parse.specs.declared.tree.Argument.{Argument}
-use Rattle.asm_parse.specs.declared.tree.SourceItem.{SourceItem}
-use Rattle.asm_parse.specs.Size.{body_count, items_count}
-use Rattle.asm_parse.specs.Readable.{IsReadable, argument_names, body_names, names_in}
+use Rattle.asm_source.specs.declared.tree.Argument.{Argument}
+use Rattle.asm_source.specs.declared.tree.SourceItem.{SourceItem}
+use Rattle.asm_source.specs.Size.{body_count, items_count}
+use Rattle.asm_source.specs.Readable.{IsReadable, argument_names, body_names, names_in}
 use Rattle.afterburner.specs.declared.fault.BurnFault.{BurnFault}
 use Rattle.afterburner.specs.declared.fault.Stop.TheVariants as stop
 use Rattle.afterburner.specs.declared.fault.BurnCause.{BurnCause}
 use Rattle.afterburner.specs.declared.fault.Stop.{Stop}
-use Rattle.asm_parse.specs.declared.directive_table.DirectiveName.{DirectiveName}
+use Rattle.asm_source.specs.declared.directive_table.DirectiveName.{DirectiveName}
 use Rattle.afterburner.specs.State.{State, fresh}
 use Rattle.afterburner.specs.Sections.{labelled}
 use Rattle.afterburner.specs.Directives.{directed}

@@ -3,11 +3,10 @@ use Rattle.std.proofs.Common.{◌≡◌, ◌<◌, ◌+◌, ℕ, zero, suc, Bool,
 use Rattle.std.specs.Prelude.{◌||◌, slice_get, not}
 use Rattle.std.specs.List.{flat_map, list_any, position_or_len}
 use Rattle.std.specs.Str.{bytes_eq}
-use Rattle.asm_parse.specs.declared.tree.Argument.{Argument}
-use Rattle.asm_parse.specs.declared.tree.SourceItem.{SourceItem}
-use Rattle.asm_parse.specs.Statements.{symbol_in}
-use Rattle.asm_parse.specs.Scope.{holds, added}
-use Rattle.asm_parse.specs.Readable.{argument_names, body_names, name_list, names_in}
+use Rattle.asm_source.specs.declared.tree.Argument.{Argument}
+use Rattle.asm_source.specs.declared.tree.SourceItem.{SourceItem}
+use Rattle.asm_source.specs.Names.{symbol_in, holds, added}
+use Rattle.asm_source.specs.Readable.{argument_names, body_names, name_list, names_in}
 use Rattle.afterburner.specs.Names.{name_number}
 use Rattle.afterburner.specs.Sound.{AreHeld}
 

@@ -1,8 +1,8 @@
 -- What is refused is the first item that can't be made.
 use Rattle.std.proofs.Common.{◌≡◌, ◌∙◌, sym, ap, ℕ, List, [], ◌∷◌, fold, refl}
 use Rattle.std.specs.Prelude.{Result, Ok, Err}
-use Rattle.asm_parse.specs.declared.tree.SourceItem.{SourceItem}
-use Rattle.asm_parse.specs.Readable.{names_in}
+use Rattle.asm_source.specs.declared.tree.SourceItem.{SourceItem}
+use Rattle.asm_source.specs.Readable.{names_in}
 use Rattle.elf_form.specs.ObjectParts.{ObjectParts}
 use Rattle.afterburner.specs.declared.fault.BurnCause.{BurnCause}
 use Rattle.afterburner.specs.declared.fault.BurnFault.{BurnFault}

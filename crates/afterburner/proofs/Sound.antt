@@ -6,17 +6,17 @@ use Rattle.std.specs.List.{flat_map}
 use Rattle.std.proofs.lemmas.List.Elements.{All-append, All-nil, All-cons}
 use Rattle.elf_form.specs.declared.object.Reloc.{Reloc}
 use Rattle.sites.specs.declared.site.Site.{Site}
-use Rattle.asm_parse.specs.declared.tree.Argument.{Argument}
-use Rattle.asm_parse.specs.Statements.{symbol_in}
-use Rattle.asm_parse.specs.Readable.{name_list, argument_names}
+use Rattle.asm_source.specs.declared.tree.Argument.{Argument}
+use Rattle.asm_source.specs.Names.{symbol_in}
+use Rattle.asm_source.specs.Readable.{name_list, argument_names}
 use Rattle.afterburner.specs.declared.fault.BurnCause.TheVariants as cause
 use Rattle.afterburner.specs.declared.section.Section.{Section}
 use Rattle.afterburner.specs.declared.section.Section.TheVariants as section
 use Rattle.afterburner.specs.declared.symbol.Binding.{Binding}
 use Rattle.afterburner.specs.declared.value.Width.{Width}
 use Rattle.afterburner.specs.declared.value.Width.TheVariants as width
-use Rattle.asm_parse.specs.declared.directive_table.DirectiveName.{DirectiveName}
-use Rattle.asm_parse.specs.declared.directive_table.DirectiveName.TheVariants as directive
+use Rattle.asm_source.specs.declared.directive_table.DirectiveName.{DirectiveName}
+use Rattle.asm_source.specs.declared.directive_table.DirectiveName.TheVariants as directive
 use Rattle.afterburner.specs.State.{State, undefined, fresh}
 use Rattle.afterburner.specs.Names.{name_number}
 use Rattle.afterburner.specs.Symbols.{bound}

@@ -15,17 +15,16 @@ use Rattle.elf_form.specs.ObjectLayout.{layout, is_of, relocated_part, IsPlaced,
 use Rattle.sites.specs.Spelling.{spelling}
 use Rattle.sites.specs.Limits.{in_text}
 use Rattle.sites.proofs.TextSites.{in_form, forms, length-spelling}
-use Rattle.asm_parse.specs.declared.tree.Value.{Value}
-use Rattle.asm_parse.specs.declared.tree.Form.{Form}
-use Rattle.asm_parse.specs.declared.tree.Form.TheVariants as form
-use Rattle.asm_parse.specs.declared.tree.Argument.{Argument}
-use Rattle.asm_parse.specs.declared.tree.Body.{Body}
-use Rattle.asm_parse.specs.declared.tree.Body.TheVariants as body
-use Rattle.asm_parse.specs.declared.tree.SourceItem.{SourceItem}
-use Rattle.asm_parse.specs.Statements.{symbol_in, name_of}
-use Rattle.asm_parse.specs.Scope.{holds, added}
-use Rattle.asm_parse.specs.Size.{name_size, value_size, form_size, arguments_size, body_size, items_size}
-use Rattle.asm_parse.specs.Readable.{IsReadable, name_list, argument_names, body_names, names_in}
+use Rattle.asm_source.specs.declared.tree.Value.{Value}
+use Rattle.asm_source.specs.declared.tree.Form.{Form}
+use Rattle.asm_source.specs.declared.tree.Form.TheVariants as form
+use Rattle.asm_source.specs.declared.tree.Argument.{Argument}
+use Rattle.asm_source.specs.declared.tree.Body.{Body}
+use Rattle.asm_source.specs.declared.tree.Body.TheVariants as body
+use Rattle.asm_source.specs.declared.tree.SourceItem.{SourceItem}
+use Rattle.asm_source.specs.Names.{symbol_in, name_of, holds, added}
+use Rattle.asm_source.specs.Size.{name_size, value_size, form_size, arguments_size, body_size, items_size}
+use Rattle.asm_source.specs.Readable.{IsReadable, name_list, argument_names, body_names, names_in}
 use Rattle.afterburner.specs.declared.symbol.Definition.{Definition}
 use Rattle.afterburner.specs.State.{State, undefined}
 use Rattle.afterburner.specs.Objects.{symbol, symbols_seen, are, defines, is_global, ordered, ordered_number, renumbered, object, reaches, value_at}

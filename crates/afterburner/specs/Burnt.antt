@@ -1,9 +1,9 @@
 -- The object of a source's items, or the first that is refused and why.
 use Rattle.std.specs.Prelude.{◌≡◌, ℕ, ◌+◌, false, nat_lt, List, length, fold, Result, Ok, Err, if◌then◌else◌}
-use Rattle.asm_parse.specs.declared.tree.Body.{Body}
-use Rattle.asm_parse.specs.declared.tree.Body.TheVariants as body
-use Rattle.asm_parse.specs.declared.tree.SourceItem.{SourceItem}
-use Rattle.asm_parse.specs.Readable.{names_in}
+use Rattle.asm_source.specs.declared.tree.Body.{Body}
+use Rattle.asm_source.specs.declared.tree.Body.TheVariants as body
+use Rattle.asm_source.specs.declared.tree.SourceItem.{SourceItem}
+use Rattle.asm_source.specs.Readable.{names_in}
 use Rattle.elf_form.specs.ObjectParts.{ObjectParts}
 use Rattle.sites.specs.declared.limits.TheConstants.{TEXT_LIMIT, SITE_LIMIT}
 use Rattle.afterburner.specs.declared.fault.BurnCause.{BurnCause}

@@ -1,6 +1,6 @@
 -- Instructions: spelled, padded and annotated.
 use Rattle.std.specs.Prelude.{ℕ, ◌+◌, ◌-◌, max, Bool, true, false, ◌&&◌, List, [], ◌∷◌, ◌++◌, length, take, replicate, Option, Some, None, Result, Ok, Err, slice_set, slice_index_or, if◌then◌else◌}
-use Rattle.asm_parse.specs.declared.tree.Argument.{Argument}
+use Rattle.asm_source.specs.declared.tree.Argument.{Argument}
 use Rattle.ia32_types.specs.declared.site.SiteKind.{SiteKind}
 use Rattle.ia32_types.specs.declared.site.SiteKind.TheVariants as site
 use Rattle.ia32_types.specs.Site.{sensitive_kind}

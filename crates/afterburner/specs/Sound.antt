@@ -6,7 +6,7 @@ use Rattle.sites.specs.declared.site.Site.{Site}
 use Rattle.sites.specs.declared.limits.TheConstants.{TEXT_LIMIT, SITE_LIMIT}
 use Rattle.sites.specs.Spelling.{spelling, AreInGaps, IsInForm}
 use Rattle.sites.specs.Limits.{in_text}
-use Rattle.asm_parse.specs.Scope.{holds}
+use Rattle.asm_source.specs.Names.{holds}
 use Rattle.afterburner.specs.State.{State}
 
 -- The field of a relocation lies in its section, and its name is one of so many.

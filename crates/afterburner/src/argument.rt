@@ -2,10 +2,10 @@
 
 ghost use Rattle.std.specs.Prelude.{◌≡◌, ◌≤◌, ◌^◌, ◌<◌, IfSome};
 ghost use Rattle.std.specs.Option.{option_copied};
-ghost use Rattle.asm_parse.specs.Statements.{symbol_in};
+ghost use Rattle.asm_source.specs.Names.{symbol_in};
 ghost use Rattle.afterburner.specs.Arguments.{number_in, text_in, count_of, count_in, count_at, text_at, symbol_at, limit_of, limit_at, alignment, power};
 
-use asm_parse::{Argument, Form, Name, Value};
+use asm_source::{Argument, Form, Name, Value};
 
 /// The symbol's name in an argument.
 pub fn symbol(argument: &Argument) -> Option<&Name>

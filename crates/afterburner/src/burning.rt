@@ -1,8 +1,8 @@
 //! From the items of a source to its object.
 
 ghost use Rattle.std.specs.Prelude.{◌≡◌, ◌≤◌, ◌<◌, ◌+◌, length, OnOk, IfOk};
-ghost use Rattle.asm_parse.specs.Readable.{IsReadable, body_names, names_in};
-ghost use Rattle.asm_parse.specs.Size.{body_count};
+ghost use Rattle.asm_source.specs.Readable.{IsReadable, body_names, names_in};
+ghost use Rattle.asm_source.specs.Size.{body_count};
 ghost use Rattle.asm_lex.specs.declared.lexing.TheConstants.{LIMIT};
 ghost use Rattle.elf_form.specs.ObjectLayout.{IsWholeObject};
 ghost use Rattle.afterburner.specs.Burnt.{Makes, Gives, FaultOf, parted, made, item_made, all_made, burnt};
@@ -15,7 +15,7 @@ use crate::fault::{BurnFault, Stop};
 use crate::limits::limited;
 use crate::names::{Names, names_of};
 use crate::object::object;
-use asm_parse::{Body, Source, SourceItem};
+use asm_source::{Body, Source, SourceItem};
 use elf_form::{Object, object_length};
 use std::alloc::{AllocError, Global};
 

@@ -15,7 +15,7 @@ use crate::limits::INIT_LIMIT;
 use crate::names::Names;
 use crate::section::{Section, is_init, put};
 use crate::value::{Width, fits, put_value};
-use asm_parse::Argument;
+use asm_source::Argument;
 use elf_form::Reloc;
 use std::alloc::AllocError;
 

@@ -11,7 +11,7 @@ use crate::names::Names;
 use crate::section::{Section, section_named};
 use crate::symbol::Binding;
 use crate::value::Width;
-use asm_parse::{Argument, DirectiveName, directive_name};
+use asm_source::{Argument, DirectiveName, directive_name};
 
 /// The directive of this name. One that is none says nothing, as one that is skipped.
 pub fn directive_of(name: &[u8]) -> DirectiveName

@@ -2,7 +2,7 @@
 
 ghost use Rattle.std.specs.Prelude.{◌≡◌, ◌≤◌, ◌<◌, ◌+◌, ◌++◌, ◌^◌, length, take, OnOk};
 ghost use Rattle.ia32_types.specs.Site.{sensitive_kind};
-ghost use Rattle.asm_parse.specs.Readable.{argument_names};
+ghost use Rattle.asm_source.specs.Readable.{argument_names};
 ghost use Rattle.asm_instruction.specs.Assembled.{IsShort, HasFields};
 ghost use Rattle.afterburner.specs.Burnt.{Makes};
 ghost use Rattle.afterburner.specs.Sound.{IsSound, AreHeld};
@@ -15,7 +15,7 @@ use crate::fault::{BurnCause, Stop};
 use crate::names::Names;
 use crate::section::{is_text, put};
 use asm_instruction::{Assembled, Named, Refusal, assemble};
-use asm_parse::Argument;
+use asm_source::Argument;
 use elf_form::Reloc;
 use ia32_types::{SiteKind, sensitive};
 use sites::{Site, TEXT_LIMIT};

@@ -2,12 +2,12 @@
 
 ghost use Rattle.std.specs.Prelude.{◌≡◌, ◌<◌, ◌≤◌, [], length, fold, slice_get, Some, IfOk, OnOk};
 ghost use Rattle.std.specs.Option.{option_copied};
-ghost use Rattle.asm_parse.specs.Scope.{holds, added};
-ghost use Rattle.asm_parse.specs.Readable.{argument_names, body_names, names_in};
+ghost use Rattle.asm_source.specs.Names.{holds, added};
+ghost use Rattle.asm_source.specs.Readable.{argument_names, body_names, names_in};
 ghost use Rattle.afterburner.specs.Names.{name_number};
 
 use crate::argument::symbol;
-use asm_parse::{Argument, Body, Name, Source};
+use asm_source::{Argument, Body, Name, Source};
 use indexmap::IndexSet;
 use std::alloc::{AllocError, Global};
 use std::marker::Model;
@@ -21,7 +21,7 @@ pub struct Names {
 
 impl Model for Names {
     ghost use Rattle.std.specs.Prelude.{List, ℕ};
-    ghost use Rattle.asm_parse.specs.Keys.{key_bytes};
+    ghost use Rattle.asm_source.specs.Keys.{key_bytes};
 
     ghost Value = { List (List ℕ) };
 
@@ -111,7 +111,7 @@ fn add_body(alloc: Global, names: &mut Names, body: &Body) -> Result<(), AllocEr
 }
 
 /// The names of a source.
-#[tactic(auto, unfolding(asm_parse::specs::Readable::names_in))]
+#[tactic(auto, unfolding(asm_source::specs::Readable::names_in))]
 pub fn names_of(alloc: Global, source: &Source) -> Result<Names, AllocError>
     ensures { IfOk result (λ names. names ≡ names_in source.now) }
 {

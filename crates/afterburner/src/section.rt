@@ -4,7 +4,7 @@ ghost use Rattle.std.specs.Prelude.{◌≡◌, ◌≤◌, ◌<◌, ◌+◌, ◌+
 ghost use Rattle.afterburner.specs.Sections as spec;
 
 use crate::assembly::Assembly;
-use asm_parse::begins;
+use asm_source::begins;
 use elf_form::Place;
 use std::alloc::AllocError;
 

@@ -8,7 +8,7 @@ ghost use Rattle.afterburner.specs.Sections as sections;
 use crate::assembly::Assembly;
 use crate::names::Names;
 use crate::section::{gap, place_of};
-use asm_parse::Name;
+use asm_source::Name;
 use elf_form::Place;
 
 /// How far a name reaches, by the strongest directive that spoke of it. A name of which none spoke

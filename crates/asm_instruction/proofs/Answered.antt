@@ -5,7 +5,7 @@ use Rattle.ia32_encode.specs.declared.bytes.ArrayBytes.{ArrayBytes}
 use Rattle.ia32_encode.specs.declared.choose.Wide.{Wide}
 use Rattle.ia32_encode.specs.Chosen.{chosen}
 use Rattle.ia32_encode.proofs.Taking.{chosen_good}
-use Rattle.asm_parse.specs.declared.tree.Argument.{Argument}
+use Rattle.asm_source.specs.declared.tree.Argument.{Argument}
 use Rattle.asm_instruction.specs.declared.draft.Draft.{Draft}
 use Rattle.asm_instruction.specs.declared.mnemonic.Mnemonic.{Mnemonic}
 use Rattle.asm_instruction.specs.declared.assembled.Assembled.{Assembled}

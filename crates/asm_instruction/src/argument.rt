@@ -8,7 +8,7 @@ use crate::field::{field, fits_field};
 use crate::register::{
     byte_register, control_register, long_register, segment_register, word_register,
 };
-use asm_parse::{Argument, Form, Name, Value};
+use asm_source::{Argument, Form, Name, Value};
 use ia32_types::{Address, Reg, Seg, Size};
 
 /// A number as it is written, and whether a symbol's address is added to it.

@@ -9,7 +9,7 @@ use crate::assembled::{Assembled, Named, Refusal};
 use crate::draft::Draft;
 use crate::mnemonic::{Mnemonic, drafted, known_name};
 use crate::refused::refused_name;
-use asm_parse::Argument;
+use asm_source::Argument;
 use ia32_encode::{ArrayBytes, NoForm, Wide, encode};
 
 const EMPTY: ArrayBytes = ArrayBytes {

@@ -1,5 +1,5 @@
 ghost use Rattle.std.specs.Prelude.{◌≡◌, ℕ, Bool, List, Ok};
-ghost use Rattle.asm_parse.specs.declared.tree.Argument.{Argument};
+ghost use Rattle.asm_source.specs.declared.tree.Argument.{Argument};
 ghost use Rattle.asm_instruction.specs.declared.assembled.Assembled.{Assembled};
 ghost use Rattle.asm_instruction.specs.Assembled.{assembled, IsRight, IsFromChosen, IsBranchRight};
 

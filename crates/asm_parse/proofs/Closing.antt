@@ -12,14 +12,15 @@ use Rattle.asm_lex.specs.Words.{Word, Scan, scan}
 use Rattle.asm_lex.specs.Source.{IsGap, IsToken, Lexed}
 use Rattle.asm_lex.proofs.Again.{again}
 use Rattle.asm_lex.proofs.Found.{found}
-use Rattle.asm_parse.specs.declared.symbol.Symbol.{Symbol}
-use Rattle.asm_parse.specs.declared.symbol.Symbol.TheVariants as symbol
+use Rattle.asm_argument.specs.declared.symbol.Symbol.{Symbol}
+use Rattle.asm_argument.specs.declared.symbol.Symbol.TheVariants as symbol
 use Rattle.asm_parse.specs.declared.state.State.{State}
 use Rattle.asm_parse.specs.declared.state.State.TheVariants as state
 use Rattle.asm_parse.specs.ScopeView.{ScopeView}
 use Rattle.asm_parse.specs.Scope.{fresh}
 use Rattle.asm_parse.specs.Statement.{doom, fault_line}
-use Rattle.asm_parse.specs.Reading.{Fault, placed, number_value, mark_symbol, number_symbol, symbol_of, next_word}
+use Rattle.asm_argument.specs.Symbols.{number_value, mark_symbol, number_symbol, symbol_of}
+use Rattle.asm_parse.specs.Reading.{Fault, placed, next_word}
 use Rattle.asm_parse.specs.Running.{Running, ◌>>=◌, one_byte_over, moved, one_byte, run, start}
 use Rattle.asm_parse.proofs.Words.{read_words}
 use Rattle.asm_parse.proofs.Scopes.{GoodIn, fresh_good}

@@ -6,18 +6,19 @@ use Rattle.std.proofs.lemmas.List.{append-nil}
 use Rattle.std.proofs.lemmas.Bool.{eqb-true}
 use Rattle.asm_lex.specs.declared.fault.SourceCause.TheVariants as cause
 use Rattle.asm_lex.specs.Words.{Word}
-use Rattle.asm_parse.specs.declared.symbol.Symbol.{Symbol}
-use Rattle.asm_parse.specs.declared.symbol.Symbol.TheVariants as symbol
+use Rattle.asm_argument.specs.declared.symbol.Symbol.{Symbol}
+use Rattle.asm_argument.specs.declared.symbol.Symbol.TheVariants as symbol
 use Rattle.asm_parse.specs.declared.state.State.{State}
 use Rattle.asm_parse.specs.declared.state.State.TheVariants as state
 use Rattle.asm_parse.specs.ScopeView.{ScopeView}
 use Rattle.asm_parse.specs.Scope.{fresh}
-use Rattle.asm_parse.specs.Operand.{begun}
-use Rattle.asm_parse.specs.Reading.{placed, symbol_of, is_part, ending_at, next_word}
+use Rattle.asm_argument.specs.Operand.{begun}
+use Rattle.asm_argument.specs.Symbols.{symbol_of}
+use Rattle.asm_parse.specs.Reading.{placed, is_part, ending_at, next_word}
 use Rattle.asm_parse.proofs.Words.{read_words}
 use Rattle.asm_parse.specs.Statement.{sectioned, ended, section, next_step, fault_line}
 use Rattle.asm_parse.specs.Statements.{is_inner, are_flags, symbols, text_of, Touch, IsStatement, Statements}
-use Rattle.asm_parse.proofs.Operands.{more}
+use Rattle.asm_argument.proofs.Operands.{more}
 use Rattle.asm_parse.proofs.Stated.{Answer, is_naming, not_longer}
 use Rattle.asm_parse.proofs.Quiet.{WordGoes, word_goes}
 use Rattle.asm_parse.proofs.Lines.{bind_ok}

@@ -12,16 +12,16 @@ use Rattle.asm_lex.specs.Bytes.{class_of, is_digit, is_letter, is_word}
 use Rattle.asm_lex.specs.declared.token.TokenKind.TheVariants as kind
 use Rattle.asm_lex.specs.Words.{Word}
 use Rattle.asm_lex.specs.Source.{lines_after}
-use Rattle.asm_parse.specs.declared.symbol.Symbol.{Symbol}
-use Rattle.asm_parse.specs.declared.symbol.Symbol.TheVariants as symbol
-use Rattle.asm_parse.specs.declared.operand.Shape.{Shape}
-use Rattle.asm_parse.specs.declared.operand.Shape.TheVariants as shape
-use Rattle.asm_parse.specs.declared.operand.Place.TheVariants as place
-use Rattle.asm_parse.specs.declared.operand.Partial.{Partial}
-use Rattle.asm_parse.specs.declared.operand.Partial.TheVariants as partial
-use Rattle.asm_parse.specs.declared.tree.Form.{Form}
-use Rattle.asm_parse.specs.declared.tree.Form.TheVariants as form
-use Rattle.asm_parse.specs.declared.tree.Argument.{Argument}
+use Rattle.asm_argument.specs.declared.symbol.Symbol.{Symbol}
+use Rattle.asm_argument.specs.declared.symbol.Symbol.TheVariants as symbol
+use Rattle.asm_argument.specs.declared.operand.Shape.{Shape}
+use Rattle.asm_argument.specs.declared.operand.Shape.TheVariants as shape
+use Rattle.asm_argument.specs.declared.operand.Place.TheVariants as place
+use Rattle.asm_argument.specs.declared.operand.Partial.{Partial}
+use Rattle.asm_argument.specs.declared.operand.Partial.TheVariants as partial
+use Rattle.asm_source.specs.declared.tree.Form.{Form}
+use Rattle.asm_source.specs.declared.tree.Form.TheVariants as form
+use Rattle.asm_source.specs.declared.tree.Argument.{Argument}
 use Rattle.asm_parse.specs.declared.directive.Directive.{Directive}
 use Rattle.asm_parse.specs.declared.directive.Directive.TheVariants as directive
 use Rattle.asm_parse.specs.declared.directive.Head.{Head}
@@ -30,16 +30,17 @@ use Rattle.asm_parse.specs.declared.state.Open.{Open}
 use Rattle.asm_parse.specs.declared.state.State.{State}
 use Rattle.asm_parse.specs.declared.state.State.TheVariants as state
 use Rattle.asm_parse.specs.ScopeView.{ScopeView}
-use Rattle.asm_parse.specs.Scope.{holds, has_room, is_spent, pushed, noted, defined_too}
-use Rattle.asm_parse.specs.Operand.{is_operand, takes_numbers, fits, is_register, signed, turned, named, plain, of_memory, finished, is_nothing}
-use Rattle.asm_parse.specs.Grammar.{IsValue, IsForm}
-use Rattle.asm_parse.specs.Escapes.{opening, string_text}
-use Rattle.asm_parse.specs.Reading.{symbol_of}
+use Rattle.asm_source.specs.Names.{holds}
+use Rattle.asm_parse.specs.Scope.{has_room, is_spent, pushed, noted, defined_too}
+use Rattle.asm_argument.specs.Operand.{is_operand, takes_numbers, fits, is_register, signed, turned, named, plain, of_memory, finished, is_nothing}
+use Rattle.asm_argument.specs.Grammar.{IsValue, IsForm}
+use Rattle.asm_argument.specs.Escapes.{opening, string_text}
+use Rattle.asm_argument.specs.Symbols.{symbol_of}
 use Rattle.asm_parse.specs.Statement.{item_of, resumed, sectioned, is_passed, is_rep, is_unknown, is_taken, lacks_names, if_doomed, doom}
 use Rattle.asm_parse.specs.Directives.{shape_at, least, defines, is_instruction, is_section, is_dotted, changes_section, directive_of, is_known, is_change, is_defining}
 use Rattle.asm_parse.specs.Statements.{IsSeen, Sees, IsArgument, IsNext, Separated, HasArguments, has_list, Statement, symbols}
 use Rattle.asm_parse.proofs.Words.{read_words}
-use Rattle.asm_parse.proofs.Operands.{ok, operand_run}
+use Rattle.asm_argument.proofs.Operands.{ok, operand_run}
 use Rattle.asm_parse.proofs.Names.{named_in}
 use Rattle.asm_parse.proofs.Scopes.{Each, GoodIn, or_right, same_name, same_holds}
 use Rattle.asm_parse.proofs.Quiet.{IsOpen, StateIs}

@@ -6,14 +6,14 @@ use Rattle.asm_lex.specs.declared.token.TokenKind.{TokenKind}
 use Rattle.asm_lex.specs.declared.token.TokenKind.TheVariants as kind
 use Rattle.asm_lex.specs.Words.{Word}
 use Rattle.asm_lex.specs.Source.{IsGap, IsToken, Lexed}
-use Rattle.asm_parse.specs.declared.symbol.Symbol.{Symbol}
-use Rattle.asm_parse.specs.declared.symbol.Symbol.TheVariants as symbol
-use Rattle.asm_parse.specs.declared.escapes.Escape.{Escape}
-use Rattle.asm_parse.specs.declared.escapes.Escape.TheVariants as escape
-use Rattle.asm_parse.specs.declared.escapes.Unescaped.{Unescaped}
+use Rattle.asm_argument.specs.declared.symbol.Symbol.{Symbol}
+use Rattle.asm_argument.specs.declared.symbol.Symbol.TheVariants as symbol
+use Rattle.asm_argument.specs.declared.escapes.Escape.{Escape}
+use Rattle.asm_argument.specs.declared.escapes.Escape.TheVariants as escape
+use Rattle.asm_argument.specs.declared.escapes.Unescaped.{Unescaped}
 use Rattle.asm_lex.specs.Bytes.{is_octal}
-use Rattle.asm_parse.specs.Escapes.{gives, joined, escaped, plain, escape_step, listed, opening, string_text}
-use Rattle.asm_parse.specs.Reading.{number_value, mark_symbol, number_symbol, symbol_of}
+use Rattle.asm_argument.specs.Escapes.{gives, joined, escaped, plain, escape_step, listed, opening, string_text}
+use Rattle.asm_argument.specs.Symbols.{number_value, mark_symbol, number_symbol, symbol_of}
 use Rattle.asm_parse.specs.Statements.{symbols}
 
 -- the bytes that a symbol stands for, or one

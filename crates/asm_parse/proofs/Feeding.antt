@@ -12,33 +12,18 @@ use Rattle.asm_lex.specs.Words.{Word}
 use Rattle.asm_lex.specs.declared.fault.SourceFault.{SourceFault}
 use Rattle.asm_lex.specs.declared.fault.SourceFault.TheVariants as fault
 use Rattle.asm_parse.specs.Statement.{Does, next_step, fault_line}
-use Rattle.asm_parse.specs.Reading.{placed, at_line, Feeds, symbol_of, is_longer, ending_at, with_end, next_word, digit_of, digits_value}
-use Rattle.asm_parse.specs.declared.symbol.Symbol.{Symbol}
+use Rattle.asm_argument.specs.Symbols.{symbol_of, digit_of, digits_value}
+use Rattle.asm_parse.specs.Reading.{placed, at_line, Feeds, is_longer, ending_at, with_end, next_word}
+use Rattle.asm_argument.specs.declared.symbol.Symbol.{Symbol}
 
 pub feeds : (new : ScopeView) (line : ℕ) (s : Result State Stop) (r : Result (ScopeView × State) SourceCause) → Does new s r → Feeds new (at_line line s) (placed line r)
 feeds new line (Ok st) r h = rw h refl
 feeds new line (Err (stop.Cause c)) r h = rw h refl
 feeds new line (Err stop.Memory) r h = tt
 
--- ---- a number that grows too large
-
-pub grows : (base so_far : ℕ) (bs : List ℕ) → 1 ≤ base → so_far ≤ digits_value base so_far bs
-grows base so_far [] h = omega arith
-grows base so_far (b ∷ bs) h = omega (arith, mul-le-mul_left so_far h, grows base (so_far * base + digit_of b) bs h)
-
-pub too_large : (base value total i : ℕ) (bytes : List ℕ) → 1 ≤ base → i < length bytes → digits_value base value (drop i bytes) ≡ total → (value * base + digit_of (get_or bytes i 0) < 4294967296 → ⊥)
-    → ◌≡◌ {A = Option ℕ} None (cond (ltb total 4294967296) (Some total) None)
-too_large base value total i bytes h lt e big =
-    let rest : drop i bytes ≡ get_or bytes i 0 ∷ drop (suc i) bytes = drop-cons bytes i 0 lt in
-    let is : digits_value base (value * base + digit_of (get_or bytes i 0)) (drop (suc i) bytes) ≡ total = ap (digits_value base value) (sym rest) ∙ e in
-    let above : 4294967296 ≤ total = omega (arith, is, grows base (value * base + digit_of (get_or bytes i 0)) (drop (suc i) bytes) h) in
-    rw (le-ltb _ _ above) refl
-
-pub done_value : (base value total i : ℕ) (bytes : List ℕ) → length bytes ≤ i → digits_value base value (drop i bytes) ≡ total → value < 4294967296
-    → ◌≡◌ {A = Option ℕ} (Some value) (cond (ltb total 4294967296) (Some total) None)
-done_value base value total i bytes le e small =
-    let is : value ≡ total = ap (digits_value base value) (sym (nil_from_length (drop i bytes) (omega (arith, length-drop i bytes)))) ∙ e in
-    rw (← is, lt-ltb _ _ small) refl
+pub fed_symbol : (new : ScopeView) (line at : ℕ) (s : Result State Stop) (r : Result (ScopeView × State) SourceCause) (out : Result State SourceFault)
+    → at ≡ line → out ≡ at_line at s → Does new s r → Feeds new out (placed line r)
+fed_symbol new line at s r out e is h = rw (is, e) (feeds new line s r h)
 
 -- ---- a word
 

@@ -1,4 +1,3 @@
-pub mod Operands
 pub mod Names
 pub mod Words
 pub mod Scopes

@@ -3,20 +3,21 @@ use Rattle.std.proofs.Common.{◌≡◌, ℕ, Bool, true, false, cond, List, [],
 use Rattle.std.specs.Prelude.{pos, not}
 use Rattle.asm_lex.specs.declared.fault.SourceCause.{SourceCause}
 use Rattle.asm_lex.specs.declared.fault.SourceCause.TheVariants as cause
-use Rattle.asm_parse.specs.declared.symbol.Symbol.{Symbol}
-use Rattle.asm_parse.specs.declared.symbol.Symbol.TheVariants as symbol
-use Rattle.asm_parse.specs.declared.operand.Shape.{Shape}
-use Rattle.asm_parse.specs.declared.operand.Place.TheVariants as place
-use Rattle.asm_parse.specs.declared.operand.Partial.{Partial}
-use Rattle.asm_parse.specs.declared.operand.Partial.TheVariants as partial
-use Rattle.asm_parse.specs.declared.tree.Form.{Form}
-use Rattle.asm_parse.specs.declared.tree.Form.TheVariants as form
+use Rattle.asm_argument.specs.declared.symbol.Symbol.{Symbol}
+use Rattle.asm_argument.specs.declared.symbol.Symbol.TheVariants as symbol
+use Rattle.asm_argument.specs.declared.operand.Shape.{Shape}
+use Rattle.asm_argument.specs.declared.operand.Place.TheVariants as place
+use Rattle.asm_argument.specs.declared.operand.Partial.{Partial}
+use Rattle.asm_argument.specs.declared.operand.Partial.TheVariants as partial
+use Rattle.asm_source.specs.declared.tree.Form.{Form}
+use Rattle.asm_source.specs.declared.tree.Form.TheVariants as form
 use Rattle.asm_parse.specs.ScopeView.{ScopeView}
-use Rattle.asm_parse.specs.Scope.{holds, has_room, noted, defined_too}
-use Rattle.asm_parse.specs.Operand.{is_operand, takes_names, takes_sums, takes_minus, takes_numbers, takes_text, fits, signed, turned, named, plain, of_memory, is_register, is_scale, is_nothing, first, allowed, counted, lowered, registered, is_low, next_symbol, operand_step, finished, is_finished, name_in}
+use Rattle.asm_source.specs.Names.{holds, name_of, symbol_in}
+use Rattle.asm_parse.specs.Scope.{has_room, noted, defined_too}
+use Rattle.asm_argument.specs.Operand.{is_operand, takes_names, takes_sums, takes_minus, takes_numbers, takes_text, fits, signed, turned, named, plain, of_memory, is_register, is_scale, is_nothing, first, allowed, counted, lowered, registered, is_low, next_symbol, operand_step, finished, is_finished, name_in}
 use Rattle.asm_parse.specs.Statement.{noting}
-use Rattle.asm_parse.specs.Statements.{IsSeen, name_of, symbol_in}
-use Rattle.asm_parse.proofs.Operands.{ok, registered_ok, allowed_ok, counted_ok, lowered_ok, scale_ok, ok_is, operand_run}
+use Rattle.asm_parse.specs.Statements.{IsSeen}
+use Rattle.asm_argument.proofs.Operands.{ok, registered_ok, allowed_ok, counted_ok, lowered_ok, scale_ok, ok_is, operand_run}
 
 pub seen_noting : {sc sc2 : ScopeView} {d : Bool} {n : List ℕ} → IsSeen sc d n sc2 → noting sc d n ≡ Ok sc2
 seen_noting (IsSeen.used room) = rw room refl

@@ -4,11 +4,11 @@ use Rattle.std.proofs.lemmas.List.{length-append}
 use Rattle.std.specs.Prelude.{not, ◌&&◌, ◌||◌, is_none, nat_lt, ◌+◌}
 use Rattle.asm_lex.specs.declared.fault.SourceCause.{SourceCause}
 use Rattle.asm_lex.specs.declared.fault.SourceCause.TheVariants as cause
-use Rattle.asm_parse.specs.declared.symbol.Symbol.{Symbol}
-use Rattle.asm_parse.specs.declared.symbol.Symbol.TheVariants as symbol
-use Rattle.asm_parse.specs.declared.operand.Shape.{Shape}
-use Rattle.asm_parse.specs.declared.operand.Partial.{Partial}
-use Rattle.asm_parse.specs.declared.tree.Argument.{Argument}
+use Rattle.asm_argument.specs.declared.symbol.Symbol.{Symbol}
+use Rattle.asm_argument.specs.declared.symbol.Symbol.TheVariants as symbol
+use Rattle.asm_argument.specs.declared.operand.Shape.{Shape}
+use Rattle.asm_argument.specs.declared.operand.Partial.{Partial}
+use Rattle.asm_source.specs.declared.tree.Argument.{Argument}
 use Rattle.asm_parse.specs.declared.directive.Directive.{Directive}
 use Rattle.asm_parse.specs.declared.directive.Directive.TheVariants as directive
 use Rattle.asm_parse.specs.declared.directive.Head.{Head}
@@ -19,14 +19,16 @@ use Rattle.asm_parse.specs.declared.state.State.TheVariants as state
 use Rattle.asm_lex.specs.Words.{Word}
 use Rattle.asm_lex.specs.declared.token.TokenKind.{TokenKind}
 use Rattle.asm_parse.specs.ScopeView.{ScopeView}
-use Rattle.asm_parse.specs.Reading.{symbol_of, is_longer, longer, ending_at, with_end, next_word}
-use Rattle.asm_parse.specs.Scope.{holds, has_room, is_spent, fresh, pushed}
-use Rattle.asm_parse.specs.declared.operand.Shape.TheVariants as shape
-use Rattle.asm_parse.specs.declared.operand.Place.TheVariants as place
-use Rattle.asm_parse.specs.declared.operand.Partial.TheVariants as partial
+use Rattle.asm_argument.specs.Symbols.{symbol_of}
+use Rattle.asm_parse.specs.Reading.{is_longer, longer, ending_at, with_end, next_word}
+use Rattle.asm_source.specs.Names.{holds}
+use Rattle.asm_parse.specs.Scope.{has_room, is_spent, fresh, pushed}
+use Rattle.asm_argument.specs.declared.operand.Shape.TheVariants as shape
+use Rattle.asm_argument.specs.declared.operand.Place.TheVariants as place
+use Rattle.asm_argument.specs.declared.operand.Partial.TheVariants as partial
 use Rattle.asm_parse.proofs.Scopes.{GoodIn, fresh_good, seen_good, spent_noting}
 use Rattle.asm_parse.proofs.Names.{noting_seen, Keeps, name_step, IsSome, symbol_some, operand_next}
-use Rattle.asm_parse.specs.Operand.{operand_step, is_finished, is_nothing, name_in}
+use Rattle.asm_argument.specs.Operand.{operand_step, is_finished, is_nothing, name_in}
 use Rattle.asm_parse.specs.Statement.{item_of, resumed, noting, after_noting, with_name, after_step, at_shape, within, argument_of, comma_behind, end_behind, ended, complete, complete_with, is_bare, takes_star, argument_step, nothing_yet, labelled, label, is_rep, rep_step, instruction_step, of_directive, directive_step, is_passed, section_name, section, unless_skipping, start_step, colon_behind, other_behind, named_step, sectioned_step, flags_step, skip, with_scope, stray_cause, step, is_place, strayed, next_step, is_unknown, is_taken, lacks_names, if_doomed, doom, or_line, fault_line}
 use Rattle.asm_parse.specs.Directives.{shape_at, least, defines, is_instruction, directive_of, is_dotted, is_section, is_defining}
 

@@ -12,7 +12,8 @@ use Rattle.std.specs.Str.{bytes_eq}
 use Rattle.asm_lex.specs.declared.fault.SourceCause.{SourceCause}
 use Rattle.asm_lex.specs.declared.fault.SourceCause.TheVariants as cause
 use Rattle.asm_parse.specs.ScopeView.{ScopeView}
-use Rattle.asm_parse.specs.Scope.{fresh, holds, added, has_room, is_spent, noted, defined_too}
+use Rattle.asm_source.specs.Names.{holds, added}
+use Rattle.asm_parse.specs.Scope.{fresh, has_room, is_spent, noted, defined_too}
 use Rattle.asm_parse.specs.Statement.{noting}
 use Rattle.asm_parse.specs.Statements.{IsSeen}
 

@@ -4,35 +4,35 @@ use Rattle.std.proofs.lemmas.List.{length-append}
 use Rattle.std.specs.Prelude.{ℤ, pos}
 use Rattle.asm_lex.specs.declared.lexing.TheConstants.{LIMIT}
 use Rattle.asm_lex.specs.Words.{Word}
-use Rattle.asm_parse.specs.declared.symbol.Symbol.{Symbol}
-use Rattle.asm_parse.specs.declared.symbol.Symbol.TheVariants as symbol
-use Rattle.asm_parse.specs.declared.operand.Shape.{Shape}
-use Rattle.asm_parse.specs.declared.operand.Partial.TheVariants as partial
-use Rattle.asm_parse.specs.declared.operand.Partial.{Partial}
-use Rattle.asm_parse.specs.declared.tree.Value.{Value}
-use Rattle.asm_parse.specs.declared.tree.Form.{Form}
-use Rattle.asm_parse.specs.declared.tree.Form.TheVariants as form
-use Rattle.asm_parse.specs.declared.tree.Argument.{Argument}
-use Rattle.asm_parse.specs.declared.tree.Body.TheVariants as body
-use Rattle.asm_parse.specs.declared.tree.SourceItem.{SourceItem}
+use Rattle.asm_argument.specs.declared.symbol.Symbol.{Symbol}
+use Rattle.asm_argument.specs.declared.symbol.Symbol.TheVariants as symbol
+use Rattle.asm_argument.specs.declared.operand.Shape.{Shape}
+use Rattle.asm_argument.specs.declared.operand.Partial.TheVariants as partial
+use Rattle.asm_argument.specs.declared.operand.Partial.{Partial}
+use Rattle.asm_source.specs.declared.tree.Value.{Value}
+use Rattle.asm_source.specs.declared.tree.Form.{Form}
+use Rattle.asm_source.specs.declared.tree.Form.TheVariants as form
+use Rattle.asm_source.specs.declared.tree.Argument.{Argument}
+use Rattle.asm_source.specs.declared.tree.Body.TheVariants as body
+use Rattle.asm_source.specs.declared.tree.SourceItem.{SourceItem}
 use Rattle.asm_parse.specs.declared.directive.Directive.{Directive}
 use Rattle.asm_parse.specs.declared.directive.Directive.TheVariants as kind
 use Rattle.asm_parse.specs.declared.directive.Head.{Head}
 use Rattle.asm_parse.specs.declared.directive.Head.TheVariants as head
 use Rattle.asm_parse.specs.ScopeView.{ScopeView}
 use Rattle.asm_parse.specs.Scope.{fresh, pushed}
-use Rattle.asm_parse.specs.Operand.{begun, takes_absent}
-use Rattle.asm_parse.specs.Grammar.{IsConstant, IsValue, IsAddress, IsForm}
+use Rattle.asm_argument.specs.Operand.{begun, takes_absent}
+use Rattle.asm_argument.specs.Grammar.{IsConstant, IsValue, IsAddress, IsForm}
 use Rattle.asm_parse.specs.Statement.{item_of, resumed, sectioned}
 use Rattle.asm_parse.specs.Directives.{shape_at}
 use Rattle.asm_parse.specs.Statements.{IsSeen, Sees, IsArgument, IsNext, Separated, HasArguments, Statement, symbols, text_of, IsStatement, Statements}
 use Rattle.std.specs.Prelude.{IfOk, Result, Ok, Err}
 use Rattle.asm_lex.specs.declared.fault.SourceFault.{SourceFault}
-use Rattle.asm_parse.specs.Reading.{symbol_of}
+use Rattle.asm_argument.specs.Symbols.{symbol_of}
 use Rattle.asm_parse.specs.Running.{Says, Parses, read}
 use Rattle.asm_parse.proofs.Sources.{parsed_is}
-use Rattle.asm_parse.specs.Size.{name_size, value_size, form_size, arguments_size, body_size, body_count, items_size, items_count}
-use Rattle.asm_parse.proofs.Operands.{absent_begun}
+use Rattle.asm_source.specs.Size.{name_size, value_size, form_size, arguments_size, body_size, body_count, items_size, items_count}
+use Rattle.asm_argument.proofs.Operands.{absent_begun}
 use Rattle.asm_parse.proofs.Stated.{first_shape}
 use Rattle.asm_parse.proofs.Costs.{cost, costs, costs-append, weight, ArePaid, paid_costs, Paid, lexed_pays}
 

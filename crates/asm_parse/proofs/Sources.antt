@@ -10,7 +10,7 @@ use Rattle.asm_lex.specs.declared.fault.SourceFault.TheVariants as fault
 use Rattle.asm_lex.specs.Words.{Scan, scan}
 use Rattle.asm_lex.proofs.Again.{again}
 use Rattle.asm_lex.proofs.Found.{found}
-use Rattle.asm_parse.specs.declared.tree.SourceItem.{SourceItem}
+use Rattle.asm_source.specs.declared.tree.SourceItem.{SourceItem}
 use Rattle.asm_parse.specs.declared.state.State.{State}
 use Rattle.asm_parse.specs.declared.state.State.TheVariants as state
 use Rattle.asm_parse.specs.ScopeView.{ScopeView}

@@ -9,8 +9,8 @@ use Rattle.asm_lex.specs.declared.token.TokenKind.TheVariants as kind
 use Rattle.asm_lex.specs.Bytes.{class_of, is_source, is_digit, is_letter, is_word}
 use Rattle.asm_lex.specs.Words.{Word}
 use Rattle.asm_lex.specs.Source.{IsGap, IsToken, lines_after, Lexed}
-use Rattle.asm_parse.specs.declared.symbol.Symbol.{Symbol}
-use Rattle.asm_parse.specs.Reading.{symbol_of}
+use Rattle.asm_argument.specs.declared.symbol.Symbol.{Symbol}
+use Rattle.asm_argument.specs.Symbols.{symbol_of}
 use Rattle.asm_parse.specs.Statements.{symbols}
 
 pub record Piece : Type 0 where

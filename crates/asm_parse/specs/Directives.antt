@@ -2,41 +2,16 @@
 use Rattle.std.specs.Str.{bytes_eq}
 use Rattle.std.specs.List.{starts_with}
 use Rattle.std.specs.Prelude.{codes, nat_eq, ℕ, ◌==◌, Bool, true, false, ◌&&◌, ◌||◌, List, [], ◌∷◌, Option, Some, None, if◌then◌else◌}
-use Rattle.asm_parse.specs.declared.operand.Shape.{Shape}
-use Rattle.asm_parse.specs.declared.operand.Shape.TheVariants as shape
-use Rattle.asm_parse.specs.declared.directive_table.DirectiveName.{DirectiveName}
-use Rattle.asm_parse.specs.declared.directive_table.DirectiveName.TheVariants as called
+use Rattle.asm_argument.specs.declared.operand.Shape.{Shape}
+use Rattle.asm_argument.specs.declared.operand.Shape.TheVariants as shape
+use Rattle.asm_source.specs.declared.directive_table.DirectiveName.{DirectiveName}
+use Rattle.asm_source.specs.declared.directive_table.DirectiveName.TheVariants as called
 use Rattle.asm_parse.specs.declared.directive.Directive.{Directive}
 use Rattle.asm_parse.specs.declared.directive.Directive.TheVariants as directive
 use Rattle.asm_parse.specs.declared.directive.Head.{Head}
 use Rattle.asm_parse.specs.declared.directive.Head.TheVariants as head
 
 -- ---- names
-
-abbrev pub begins : List ℕ → List ℕ → Bool
-begins name text = starts_with nat_eq name text
-
--- Every directive, by its name.
-unfoldable pub directive_name : List ℕ → Option DirectiveName
-directive_name n =
-    if bytes_eq n (codes ".text") then Some called.Text else
-    if bytes_eq n (codes ".data") then Some called.Data else
-    if bytes_eq n (codes ".bss") then Some called.Bss else
-    if bytes_eq n (codes ".section") then Some called.Section else
-    if bytes_eq n (codes ".globl") || bytes_eq n (codes ".global") then Some called.Global else
-    if bytes_eq n (codes ".local") then Some called.Local else
-    if bytes_eq n (codes ".byte") then Some called.Bytes else
-    if bytes_eq n (codes ".short") || bytes_eq n (codes ".word") || bytes_eq n (codes ".value") then Some called.Shorts else
-    if bytes_eq n (codes ".long") || bytes_eq n (codes ".int") then Some called.Longs else
-    if bytes_eq n (codes ".ascii") then Some called.Ascii else
-    if bytes_eq n (codes ".asciz") || bytes_eq n (codes ".string") then Some called.Asciz else
-    if bytes_eq n (codes ".zero") || bytes_eq n (codes ".skip") || bytes_eq n (codes ".space") then Some called.Zeros else
-    if bytes_eq n (codes ".align") || bytes_eq n (codes ".balign") then Some called.Aligned else
-    if bytes_eq n (codes ".p2align") then Some called.Powered else
-    if bytes_eq n (codes ".comm") then Some called.Common else
-    if bytes_eq n (codes ".lcomm") then Some called.LocalCommon else
-    if bytes_eq n (codes ".file") || bytes_eq n (codes ".type") || bytes_eq n (codes ".size") || bytes_eq n (codes ".ident") || bytes_eq n (codes ".code32") || bytes_eq n (codes ".loc") || begins n (codes ".cfi_") then Some called.Skipped else
-    None
 
 -- the family of a directive, by its arguments
 abbrev pub family : DirectiveName → Directive

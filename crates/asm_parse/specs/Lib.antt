@@ -1,13 +1,7 @@
-pub mod Operand
-pub mod Escapes
-pub mod Keys
 pub mod ScopeView
 pub mod Scope
-pub mod Grammar
 pub mod Directives
 pub mod Statement
 pub mod Reading
 pub mod Statements
 pub mod Running
-pub mod Size
-pub mod Readable

@@ -15,7 +15,7 @@ use Rattle.asm_lex.specs.Words.{line_after}
 use Rattle.asm_lex.specs.Lines.{first_lines}
 use Rattle.asm_parse.specs.declared.state.State.{State}
 use Rattle.asm_parse.specs.declared.state.State.TheVariants as state
-use Rattle.asm_parse.specs.declared.tree.SourceItem.{SourceItem}
+use Rattle.asm_source.specs.declared.tree.SourceItem.{SourceItem}
 use Rattle.asm_parse.specs.ScopeView.{ScopeView}
 use Rattle.asm_parse.specs.Scope.{fresh}
 use Rattle.asm_lex.specs.Words.{Word}

@@ -2,15 +2,8 @@
 use Rattle.std.specs.Prelude.{ℕ, Bool, false, ◌||◌, not, nat_lt, List, [], ◌∷◌, ◌++◌, length, if◌then◌else◌}
 use Rattle.std.specs.List.{list_any}
 use Rattle.std.specs.Str.{bytes_eq}
-use Rattle.asm_parse.specs.declared.tree.SourceItem.{SourceItem}
+use Rattle.asm_source.specs.declared.tree.SourceItem.{SourceItem}
 use Rattle.asm_parse.specs.ScopeView.{ScopeView}
-
-abbrev pub holds : List (List ℕ) → List ℕ → Bool
-holds names name = list_any (λ n. bytes_eq name n) names
-
--- a name at the end of those before it, where it is not among them
-abbrev pub added : List (List ℕ) → List ℕ → List (List ℕ)
-added names name = if holds names name then names else names ++ name ∷ []
 
 abbrev pub fresh : ScopeView
 fresh = record { items = []; names = []; defined = []; skipping = false }

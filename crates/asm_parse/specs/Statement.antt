@@ -3,17 +3,17 @@ use Rattle.std.specs.Str.{bytes_eq}
 use Rattle.std.specs.Prelude.{codes, nat_eq, is_none, nat_lt, ◌≡◌, ℕ, ◌==◌, Bool, true, false, not, ◌&&◌, ◌||◌, List, [], ◌∷◌, ◌++◌, length, Option, Some, None, Result, Ok, Err, if◌then◌else◌}
 use Rattle.asm_lex.specs.declared.fault.SourceCause.{SourceCause}
 use Rattle.asm_lex.specs.declared.fault.SourceCause.TheVariants as cause
-use Rattle.asm_parse.specs.declared.symbol.Symbol.{Symbol}
-use Rattle.asm_parse.specs.declared.symbol.Symbol.TheVariants as symbol
-use Rattle.asm_parse.specs.declared.operand.Shape.{Shape}
-use Rattle.asm_parse.specs.declared.operand.Shape.TheVariants as shape
-use Rattle.asm_parse.specs.declared.operand.Partial.{Partial}
-use Rattle.asm_parse.specs.declared.operand.Partial.TheVariants as partial
-use Rattle.asm_parse.specs.declared.tree.Argument.{Argument}
-use Rattle.asm_parse.specs.declared.tree.Form.{Form}
-use Rattle.asm_parse.specs.declared.tree.Form.TheVariants as form
-use Rattle.asm_parse.specs.declared.tree.Body.TheVariants as body
-use Rattle.asm_parse.specs.declared.tree.SourceItem.{SourceItem}
+use Rattle.asm_argument.specs.declared.symbol.Symbol.{Symbol}
+use Rattle.asm_argument.specs.declared.symbol.Symbol.TheVariants as symbol
+use Rattle.asm_argument.specs.declared.operand.Shape.{Shape}
+use Rattle.asm_argument.specs.declared.operand.Shape.TheVariants as shape
+use Rattle.asm_argument.specs.declared.operand.Partial.{Partial}
+use Rattle.asm_argument.specs.declared.operand.Partial.TheVariants as partial
+use Rattle.asm_source.specs.declared.tree.Argument.{Argument}
+use Rattle.asm_source.specs.declared.tree.Form.{Form}
+use Rattle.asm_source.specs.declared.tree.Form.TheVariants as form
+use Rattle.asm_source.specs.declared.tree.Body.TheVariants as body
+use Rattle.asm_source.specs.declared.tree.SourceItem.{SourceItem}
 use Rattle.asm_parse.specs.declared.directive.Directive.{Directive}
 use Rattle.asm_parse.specs.declared.directive.Directive.TheVariants as directive
 use Rattle.asm_parse.specs.declared.directive.Head.{Head}
@@ -25,8 +25,9 @@ use Rattle.asm_parse.specs.declared.stop.Stop.{Stop}
 use Rattle.asm_parse.specs.declared.stop.Stop.TheVariants as stop
 use Rattle.asm_parse.specs.Directives.{shape_at, least, is_instruction, defines, directive_of, is_dotted, changes_section, is_section, is_unread, is_defining}
 use Rattle.asm_parse.specs.ScopeView.{ScopeView}
-use Rattle.asm_parse.specs.Scope.{holds, has_room, is_spent, fresh, pushed, noted, defined_too}
-use Rattle.asm_parse.specs.Operand.{operand_step, begun, finished, is_finished, is_nothing, is_unbegun, awaits_register, is_register, name_in}
+use Rattle.asm_source.specs.Names.{holds}
+use Rattle.asm_parse.specs.Scope.{has_room, is_spent, fresh, pushed, noted, defined_too}
+use Rattle.asm_argument.specs.Operand.{operand_step, begun, finished, is_finished, is_nothing, is_unbegun, awaits_register, is_register, name_in}
 
 -- a token with which no argument begins
 abbrev pub begins_nothing : Symbol → Bool

@@ -2,23 +2,25 @@
 use Rattle.std.specs.Prelude.{◌≡◌, ℕ, ◌+◌, nat_lt, Bool, true, false, List, [], ◌∷◌, ◌++◌, length, Option, Some, None}
 use Rattle.std.specs.List.{list_all}
 use Rattle.asm_lex.specs.Words.{Word}
-use Rattle.asm_parse.specs.declared.symbol.Symbol.{Symbol}
-use Rattle.asm_parse.specs.declared.symbol.Symbol.TheVariants as symbol
-use Rattle.asm_parse.specs.declared.operand.Shape.{Shape}
-use Rattle.asm_parse.specs.declared.tree.Value.{Value}
-use Rattle.asm_parse.specs.declared.tree.Form.{Form}
-use Rattle.asm_parse.specs.declared.tree.Form.TheVariants as form
-use Rattle.asm_parse.specs.declared.tree.Argument.{Argument}
-use Rattle.asm_parse.specs.declared.tree.Body.TheVariants as body
+use Rattle.asm_argument.specs.declared.symbol.Symbol.{Symbol}
+use Rattle.asm_argument.specs.declared.symbol.Symbol.TheVariants as symbol
+use Rattle.asm_argument.specs.declared.operand.Shape.{Shape}
+use Rattle.asm_source.specs.declared.tree.Value.{Value}
+use Rattle.asm_source.specs.declared.tree.Form.{Form}
+use Rattle.asm_source.specs.declared.tree.Form.TheVariants as form
+use Rattle.asm_source.specs.declared.tree.Argument.{Argument}
+use Rattle.asm_source.specs.declared.tree.Body.TheVariants as body
 use Rattle.asm_parse.specs.declared.directive.Directive.{Directive}
 use Rattle.asm_parse.specs.declared.directive.Directive.TheVariants as kind
 use Rattle.asm_parse.specs.declared.directive.Head.{Head}
 use Rattle.asm_parse.specs.declared.directive.Head.TheVariants as head
 use Rattle.asm_parse.specs.ScopeView.{ScopeView}
-use Rattle.asm_parse.specs.Scope.{holds, has_room, pushed, noted, defined_too}
-use Rattle.asm_parse.specs.Operand.{is_operand}
-use Rattle.asm_parse.specs.Grammar.{IsForm}
-use Rattle.asm_parse.specs.Reading.{symbol_of, is_part}
+use Rattle.asm_source.specs.Names.{holds}
+use Rattle.asm_parse.specs.Scope.{has_room, pushed, noted, defined_too}
+use Rattle.asm_argument.specs.Operand.{is_operand}
+use Rattle.asm_argument.specs.Grammar.{IsForm}
+use Rattle.asm_argument.specs.Symbols.{symbol_of}
+use Rattle.asm_parse.specs.Reading.{is_part}
 use Rattle.asm_parse.specs.Statement.{item_of, resumed, sectioned, is_rep, is_passed}
 use Rattle.asm_parse.specs.Directives.{shape_at, least, defines, is_dotted, is_section, directive_of}
 
@@ -33,16 +35,6 @@ pub data IsSeen : ScopeView → Bool → List ℕ → ScopeView → Type 0 where
 abbrev pub Sees : ScopeView → Bool → Option (List ℕ) → ScopeView → Type 0
 Sees sc def None sc2 = sc ≡ sc2
 Sees sc def (Some n) sc2 = IsSeen sc def n sc2
-
-abbrev pub name_of : Option Value → Option (List ℕ)
-name_of None = None
-name_of (Some v) = v.name
-
--- the symbol's name in an argument
-abbrev pub symbol_in : Form → Option (List ℕ)
-symbol_in (form.Immediate v) = v.name
-symbol_in (form.Memory v b i s) = name_of v
-symbol_in _ = None
 
 -- ---- arguments
 

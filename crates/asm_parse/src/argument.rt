@@ -4,15 +4,14 @@ ghost use Rattle.std.specs.Prelude.{◌≡◌, length};
 ghost use Rattle.asm_parse.specs.Statement as spec;
 
 use crate::directive::{Directive, Head, defines, is_instruction, least, shape_at};
-use crate::operand::{
-    Partial, begun, finished, is_finished, is_nothing, is_unbegun, name_in, operand_step,
-};
 use crate::scope::Scope;
 use crate::state::{Open, State};
 use crate::stop::Stop;
-use crate::symbol::Symbol;
-use crate::tree::{Argument, Arguments, Body, Name, SourceItem};
+use asm_argument::{
+    Partial, Symbol, begun, finished, is_finished, is_nothing, is_unbegun, name_in, operand_step,
+};
 use asm_lex::SourceCause;
+use asm_source::{Argument, Arguments, Body, Name, SourceItem};
 use std::alloc::Global;
 
 /// Whether no argument begins with the symbol.

@@ -5,14 +5,13 @@ ghost use Rattle.std.specs.Option.{option_copied};
 ghost use Rattle.asm_parse.specs.Statement as spec;
 
 use crate::directive::{directive_named, is_defining, is_dotted};
-use crate::operand::awaits_register;
 use crate::scope::Scope;
 use crate::state::State;
 use crate::statement::step;
 use crate::stop::Stop;
-use crate::symbol::Symbol;
-use crate::tree::Name;
+use asm_argument::{Symbol, awaits_register};
 use asm_lex::SourceCause;
+use asm_source::Name;
 use std::alloc::Global;
 
 /// Whether a fault at a `%` is that it stands there.

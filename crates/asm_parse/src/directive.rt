@@ -4,10 +4,8 @@ ghost use Rattle.std.specs.Prelude.{◌≡◌};
 ghost use Rattle.asm_parse.specs.Directives as spec;
 ghost use Rattle.asm_parse.specs.Statement.{is_rep};
 
-use crate::bytes::{begins, is_text};
-use crate::directive_table::{DirectiveName, directive_name};
-use crate::operand::Shape;
-use crate::tree::Name;
+use asm_argument::Shape;
+use asm_source::{DirectiveName, Name, begins, directive_name, is_text};
 
 /// What a directive's arguments are.
 #[derive(Clone, Copy, Debug, PartialEq, Eq)]

@@ -2,18 +2,19 @@
 
 ghost use Rattle.std.specs.Prelude.{◌≡◌, ◌≤◌, ◌<◌};
 ghost use Rattle.std.specs.Prelude.{length, List, IfOk};
-ghost use Rattle.asm_parse.specs.declared.tree.SourceItem.{SourceItem};
+ghost use Rattle.asm_source.specs.declared.tree.SourceItem.{SourceItem};
 ghost use Rattle.asm_parse.specs.Running.{SourceAs};
-ghost use Rattle.asm_parse.specs.Readable.{IsReadable};
-ghost use Rattle.asm_parse.specs.Size.{items_size, items_count};
+ghost use Rattle.asm_source.specs.Readable.{IsReadable};
+ghost use Rattle.asm_source.specs.Size.{items_size, items_count};
 ghost use Rattle.asm_lex.specs.declared.fault.SourceCause.TheVariants.{OpenComment, TooLong};
 ghost use Rattle.asm_lex.specs.declared.fault.SourceFault.TheVariants.{At};
 ghost use Rattle.asm_parse.specs.Running as run;
 
 use crate::dead::left_open;
 use crate::reading::read;
-use crate::tree::Source;
+use crate::state::discard;
 use asm_lex::{LIMIT, Mode, SourceCause, SourceFault, with_newline};
+use asm_source::Source;
 use std::alloc::Global;
 
 /// Reads a source that isn't too long.
@@ -31,11 +32,15 @@ fn parsed(alloc: Global, text: &[u8]) -> Result<Source, SourceFault>
         Ok((scope, state, mode)) => match mode {
             Mode::Block(began) => {
                 let (line, cause) = left_open(&scope, &state, began);
+                discard(state);
                 Err(SourceFault::At { line, cause })
             }
-            _ => Ok(Source {
-                items: scope.into_items(),
-            }),
+            _ => {
+                discard(state);
+                Ok(Source {
+                    items: scope.into_items(),
+                })
+            }
         },
     }
 }

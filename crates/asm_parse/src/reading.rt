@@ -10,119 +10,13 @@ ghost use Rattle.asm_parse.specs.Reading as spec;
 ghost use Rattle.asm_parse.specs.Running as run;
 
 use crate::dead::{fault_line, next_step, stopped};
-use crate::escapes::string_bytes;
 use crate::scope::Scope;
-use crate::state::State;
+use crate::state::{State, discard};
 use crate::stop::Stop;
-use crate::symbol::Symbol;
-use crate::tree::Name;
+use asm_argument::{Symbol, symbol_of};
 use asm_lex::{Mode, Next, SourceFault, Stepped, Token, TokenKind};
+use asm_source::Name;
 use std::alloc::{AllocError, Global};
-
-fn digit_of(b: u8) -> u8
-    ensures { result ≡ spec.digit_of b }
-{
-    if b <= b'9' {
-        b.saturating_sub(b'0')
-    } else if b <= b'F' {
-        b - 55
-    } else {
-        b.saturating_sub(87)
-    }
-}
-
-/// The number that these digits go on with, where it is below 2^32.
-fn digits_value(base: u8, so_far: u32, bytes: &[u8]) -> Option<u32>
-    requires base { 1 ≤ base }
-    ensures { result ≡ (if nat_lt (spec.digits_value base so_far bytes.now) (2 ^ 32) then Some (spec.digits_value base so_far bytes.now) else None) }
-{
-    let mut value = so_far;
-    for b in bytes {
-        let Some(product) = value.checked_mul(u32::from(base)) else {
-            return None;
-        };
-        let Some(next) = product.checked_add(u32::from(digit_of(*b))) else {
-            return None;
-        };
-        value = next;
-    }
-    Some(value)
-}
-
-/// The number, where it is below 2^32.
-fn number_value(bytes: &[u8]) -> Option<u32>
-    ensures { result ≡ (if nat_lt (spec.number_value bytes.now) (2 ^ 32) then Some (spec.number_value bytes.now) else None) }
-{
-    match bytes {
-        [] => Some(0),
-        [first] => Some(u32::from(digit_of(*first))),
-        [first, second, rest @ ..] => {
-            if *first == b'\'' {
-                Some(u32::from(*second))
-            } else if *first == b'0' {
-                if *second == b'x' {
-                    digits_value(16, 0, rest)
-                } else {
-                    digits_value(8, 0, &bytes[1..])
-                }
-            } else {
-                digits_value(10, u32::from(digit_of(*first)), &bytes[1..])
-            }
-        }
-    }
-}
-
-fn mark_symbol(m: u8) -> Symbol
-    ensures { result ≡ spec.mark_symbol m }
-{
-    if m == b'$' {
-        Symbol::Dollar
-    } else if m == b'%' {
-        Symbol::Percent
-    } else if m == b'(' {
-        Symbol::Open
-    } else if m == b')' {
-        Symbol::Close
-    } else if m == b'*' {
-        Symbol::Star
-    } else if m == b'+' {
-        Symbol::Plus
-    } else if m == b',' {
-        Symbol::Comma
-    } else if m == b'-' {
-        Symbol::Minus
-    } else if m == b':' {
-        Symbol::Colon
-    } else {
-        Symbol::At
-    }
-}
-
-fn number_symbol(bytes: &[u8]) -> Symbol
-    ensures { result ≡ spec.number_symbol (spec.number_value bytes.now) }
-{
-    match number_value(bytes) {
-        Some(n) => Symbol::Number(n),
-        None => Symbol::Big,
-    }
-}
-
-/// A token as the grammar sees it.
-fn symbol_of(alloc: Global, kind: TokenKind, bytes: &[u8]) -> Result<Symbol, AllocError>
-    ensures { IfOk result (λ s. s ≡ spec.symbol_of kind bytes.now) }
-{
-    match kind {
-        TokenKind::Name => Ok(Symbol::Name(Name {
-            bytes: Vec::from_slice(alloc, bytes)?,
-        })),
-        TokenKind::Number => Ok(number_symbol(bytes)),
-        TokenKind::Text => Ok(Symbol::Text(Name {
-            bytes: string_bytes(alloc, bytes)?,
-        })),
-        TokenKind::Mark(m) => Ok(mark_symbol(m)),
-        TokenKind::End => Ok(Symbol::End),
-    }
-}
 
 /// The answer of a step, with its line.
 fn at_line(line: u32, stepped: Result<State, Stop>) -> Result<State, SourceFault>
@@ -136,7 +30,6 @@ fn at_line(line: u32, stepped: Result<State, Stop>) -> Result<State, SourceFault
 }
 
 /// A token as the grammar sees it, in this line.
-#[tactic(auto, using(crate::proofs::Feeding::feeds))]
 fn feed_symbol(
     alloc: Global,
     scope: &mut Scope,
@@ -286,6 +179,7 @@ fn second_token(
             Next::Goes(mode) => Ok((state, mode)),
             Next::Stops(_, cause) => {
                 let (line, cause) = stopped(scope, &state, line, cause);
+                discard(state);
                 Err(SourceFault::At { line, cause })
             }
         },

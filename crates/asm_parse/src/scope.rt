@@ -1,10 +1,11 @@
 //! What the statements before say.
 
 ghost use Rattle.std.specs.Prelude.{◌≡◌, OnOk};
+ghost use Rattle.asm_source.specs.Names.{holds};
 ghost use Rattle.asm_parse.specs.Scope as spec;
 
 use crate::symbol_set::SymbolSet;
-use crate::tree::{Name, SourceItem};
+use asm_source::{Name, SourceItem};
 use std::alloc::{AllocError, Global};
 use std::marker::Model;
 
@@ -45,7 +46,7 @@ impl Scope {
     }
 
     pub fn is_defined(&self, name: &Name) -> bool
-        ensures { result ≡ spec.holds self.now.defined name.now }
+        ensures { result ≡ holds self.now.defined name.now }
     {
         self.defined.holds(&name.bytes)
     }

@@ -1,9 +1,9 @@
 //! What a statement has left open.
 
 use crate::directive::Head;
-use crate::operand::Partial;
-use crate::tree::{Arguments, Name};
+use asm_argument::Partial;
 use asm_lex::SourceCause;
+use asm_source::{Arguments, Name};
 
 /// A directive or an instruction as far as it has been read.
 #[derive(Debug, Drop)]
@@ -31,3 +31,6 @@ pub enum State {
     /// Behind a `%` that may not stand in its place: its line, and why.
     Stray(u32, SourceCause),
 }
+
+/// Lets go of what a statement has left open.
+pub fn discard(_state: State) {}

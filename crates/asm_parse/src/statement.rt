@@ -8,13 +8,12 @@ use crate::directive::{
     Directive, Head, changes_section, directive_named, is_dotted, is_rep, is_section,
     is_skipped_section,
 };
-use crate::register::is_register;
 use crate::scope::Scope;
 use crate::state::State;
 use crate::stop::Stop;
-use crate::symbol::Symbol;
-use crate::tree::{Argument, Arguments, Body, Form, Name, SourceItem};
+use asm_argument::{Symbol, is_register};
 use asm_lex::SourceCause;
+use asm_source::{Argument, Arguments, Body, Form, Name, SourceItem};
 use std::alloc::Global;
 
 /// The rest of a statement that isn't read.

@@ -1,7 +1,7 @@
 //! The different symbols of a source, in the order in which they were first seen.
 
 ghost use Rattle.std.specs.Prelude.{◌≡◌, [], length, OnOk};
-ghost use Rattle.asm_parse.specs.Scope as spec;
+ghost use Rattle.asm_source.specs.Names as spec;
 
 use indexmap::IndexSet;
 use std::alloc::{AllocError, Global};
@@ -15,7 +15,7 @@ pub struct SymbolSet {
 
 impl Model for SymbolSet {
     ghost use Rattle.std.specs.Prelude.{List, ℕ};
-    ghost use Rattle.asm_parse.specs.Keys.{key_bytes};
+    ghost use Rattle.asm_source.specs.Keys.{key_bytes};
 
     ghost Value = { List (List ℕ) };
 

@@ -14,11 +14,11 @@ use Rattle.ia32_rows.specs.Rows.{rows}
 use Rattle.ia32_encode.specs.declared.bytes.ArrayBytes.{ArrayBytes}
 use Rattle.ia32_encode.specs.declared.choose.Wide.{Wide}
 use Rattle.ia32_encode.specs.Chosen.{chosen}
-use Rattle.asm_parse.specs.declared.tree.Value.{Value}
-use Rattle.asm_parse.specs.declared.tree.Form.{Form as ArgumentForm}
-use Rattle.asm_parse.specs.declared.tree.Form.TheVariants as form
-use Rattle.asm_parse.specs.declared.tree.Argument.{Argument}
-use Rattle.asm_parse.specs.Statements.{symbol_in}
+use Rattle.asm_source.specs.declared.tree.Value.{Value}
+use Rattle.asm_source.specs.declared.tree.Form.{Form as ArgumentForm}
+use Rattle.asm_source.specs.declared.tree.Form.TheVariants as form
+use Rattle.asm_source.specs.declared.tree.Argument.{Argument}
+use Rattle.asm_source.specs.Names.{symbol_in}
 use Rattle.asm_instruction.specs.declared.argument.Number.{Number}
 use Rattle.asm_instruction.specs.declared.argument.Memory.{Memory}
 use Rattle.asm_instruction.specs.declared.argument.Given.{Given}

@@ -9,9 +9,9 @@ use Rattle.ia32_types.specs.declared.site.SiteKind.TheVariants as site
 use Rattle.ia32_types.specs.Site.{kind_of, sensitive_kind}
 use Rattle.ia32_rows.specs.Spelling.{parts_at, insn_of}
 use Rattle.ia32_rows.specs.Rows.{rows}
-use Rattle.asm_parse.specs.declared.tree.Body.TheVariants as body
-use Rattle.asm_parse.specs.declared.tree.Argument.{Argument}
-use Rattle.asm_parse.specs.Statements.{symbol_in}
+use Rattle.asm_source.specs.declared.tree.Body.TheVariants as body
+use Rattle.asm_source.specs.declared.tree.Argument.{Argument}
+use Rattle.asm_source.specs.Names.{symbol_in}
 use Rattle.elf_form.specs.declared.object.Place.TheVariants as place
 use Rattle.elf_form.specs.declared.object.Reloc.{Reloc}
 use Rattle.sites.specs.declared.site.Site.{Site}

@@ -2,10 +2,10 @@
 use Rattle.std.specs.Prelude.{◌≡◌, ◌⊎◌, ℕ, pos, true, List, Ok, Err}
 use Rattle.std.specs.List.{AllByRecursion}
 use Rattle.ia32_rows.specs.Spells.{AreBytes}
-use Rattle.asm_parse.specs.declared.tree.Argument.{Argument}
-use Rattle.asm_parse.specs.declared.tree.Body.{Body}
-use Rattle.asm_parse.specs.declared.tree.Body.TheVariants as body
-use Rattle.asm_parse.specs.declared.tree.SourceItem.{SourceItem}
+use Rattle.asm_source.specs.declared.tree.Argument.{Argument}
+use Rattle.asm_source.specs.declared.tree.Body.{Body}
+use Rattle.asm_source.specs.declared.tree.Body.TheVariants as body
+use Rattle.asm_source.specs.declared.tree.SourceItem.{SourceItem}
 use Rattle.elf_form.specs.ObjectParts.{ObjectParts}
 use Rattle.elf_form.specs.Linkable.{IsLinkable}
 use Rattle.asm_instruction.specs.declared.assembled.Assembled.{Assembled}

@@ -2,7 +2,7 @@
 use Rattle.std.proofs.Common.{◌≡◌, inl, inr, ℕ, List, Option, Some, Result, Ok, Err, sym, ap, subst, ◌∙◌, arith}
 use Rattle.pv_io.specs.Files.{FileMap}
 use Rattle.asm_lex.specs.declared.fault.SourceCause.{SourceCause}
-use Rattle.asm_parse.specs.declared.tree.SourceItem.{SourceItem}
+use Rattle.asm_source.specs.declared.tree.SourceItem.{SourceItem}
 use Rattle.asm_parse.specs.Running.{SourceAs}
 use Rattle.asm_parse.proofs.Sources.{is_read}
 use Rattle.elf_form.specs.ObjectParts.{ObjectParts}

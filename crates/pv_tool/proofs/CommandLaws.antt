@@ -6,7 +6,7 @@ use Rattle.pv_io.specs.Causes.{Rose}
 use Rattle.pv_io.specs.Files.{FileMap, Stores, ChangesAt}
 use Rattle.pv_io.specs.Sink.{Appends}
 use Rattle.asm_lex.specs.declared.fault.SourceCause.{SourceCause}
-use Rattle.asm_parse.specs.declared.tree.SourceItem.{SourceItem}
+use Rattle.asm_source.specs.declared.tree.SourceItem.{SourceItem}
 use Rattle.board.specs.Scripts.{Events}
 use Rattle.board.specs.declared.fault.ScriptCause.{ScriptCause}
 use Rattle.elf_form.specs.ObjectParts.{ObjectParts}

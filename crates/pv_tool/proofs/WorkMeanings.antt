@@ -2,7 +2,7 @@
 use Rattle.std.proofs.Common.{◌≡◌, ◌≢◌, inl, inr, ℕ, List, [], ◌∷◌, ◌++◌, Option, None, Result, Ok, Err, IfOk, IfErr, refl, sym, ap, subst, ◌∙◌, arith}
 use Rattle.kernel_gen.specs.Kernels.{kernel_text}
 use Rattle.asm_lex.specs.declared.fault.SourceCause.{SourceCause}
-use Rattle.asm_parse.specs.declared.tree.SourceItem.{SourceItem}
+use Rattle.asm_source.specs.declared.tree.SourceItem.{SourceItem}
 use Rattle.asm_parse.specs.Running.{SourceAs}
 use Rattle.elf_form.specs.ObjectParts.{ObjectParts}
 use Rattle.elf_form.specs.ImageParts.{ImageParts}

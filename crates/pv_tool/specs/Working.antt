@@ -3,7 +3,7 @@
 use Rattle.std.specs.Prelude.{◌≡◌, ◌⊎◌, ℕ, ◌-◌, ◌≤◌, ◌<◌, List, [], ◌∷◌, ◌++◌, length, Option, Result, Ok, Err}
 use Rattle.kernel_gen.specs.Kernels.{kernel_text}
 use Rattle.asm_lex.specs.declared.fault.SourceCause.{SourceCause}
-use Rattle.asm_parse.specs.declared.tree.SourceItem.{SourceItem}
+use Rattle.asm_source.specs.declared.tree.SourceItem.{SourceItem}
 use Rattle.elf_form.specs.Faults.{Fault}
 use Rattle.elf_form.specs.ObjectParts.{ObjectParts}
 use Rattle.elf_form.specs.ObjectLayout.{object_bytes}

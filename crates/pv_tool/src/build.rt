@@ -3,7 +3,7 @@
 ghost use Rattle.std.specs.Prelude.{◌≡◌, ℕ, [], ◌∷◌, Ok, Err, IfOk, IfErr};
 ghost use Rattle.kernel_gen.specs.Kernels.{kernel_text};
 ghost use Rattle.asm_lex.specs.declared.fault.SourceCause.{SourceCause};
-ghost use Rattle.asm_parse.specs.Readable.{IsReadable};
+ghost use Rattle.asm_source.specs.Readable.{IsReadable};
 ghost use Rattle.asm_parse.specs.Running.{SourceAs};
 ghost use Rattle.elf_form.specs.ImageLayout.{IsWritableImage, image_bytes};
 ghost use Rattle.elf_form.specs.Linkable.{IsLinkable};

@@ -3,8 +3,8 @@
 ghost use Rattle.std.specs.Prelude.{◌≡◌, ◌≤◌, List, ℕ, Ok, IfOk, IfErr, OnOk};
 ghost use Rattle.pv_io.specs.Files.{Holds, IsHeld};
 ghost use Rattle.asm_lex.specs.declared.fault.SourceCause.{SourceCause};
-ghost use Rattle.asm_parse.specs.declared.tree.SourceItem.{SourceItem};
-ghost use Rattle.asm_parse.specs.Readable.{IsReadable};
+ghost use Rattle.asm_source.specs.declared.tree.SourceItem.{SourceItem};
+ghost use Rattle.asm_source.specs.Readable.{IsReadable};
 ghost use Rattle.asm_parse.specs.Running.{SourceAs};
 ghost use Rattle.elf_form.specs.ObjectParts.{ObjectParts};
 ghost use Rattle.elf_form.specs.ObjectLayout.{IsWholeObject, object_bytes};

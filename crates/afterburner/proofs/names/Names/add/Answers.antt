@@ -1,5 +1,5 @@
 use Rattle.std.proofs.Common.{List, ℕ, ap, sym, ◌∙◌}
-use Rattle.asm_parse.specs.Scope.{holds}
+use Rattle.asm_source.specs.Names.{holds}
 use Rattle.afterburner.proofs.Keyed.{key_added}
 use Rattle.afterburner.proofs.names.Names.add.Goals as goal
 

@@ -1,7 +1,7 @@
 //! The names of the directives.
 
 ghost use Rattle.std.specs.Prelude.{◌≡◌};
-ghost use Rattle.asm_parse.specs.Directives as spec;
+ghost use Rattle.asm_source.specs.DirectiveTable as spec;
 
 use crate::bytes::{begins, is_text};
 
@@ -35,7 +35,7 @@ pub enum DirectiveName {
 }
 
 /// The directive of this name: of all that there are.
-#[tactic(auto, unfolding(crate::specs::Directives::directive_name))]
+#[tactic(auto, unfolding(crate::specs::DirectiveTable::directive_name))]
 pub fn directive_name(name: &[u8]) -> Option<DirectiveName>
     ensures { result ≡ spec.directive_name name.now }
 {

@@ -1,6 +1,6 @@
 use Rattle.std.proofs.Common.{sym, ◌∙◌}
-use Rattle.asm_parse.proofs.Operands.{not_big, next_default}
-use Rattle.asm_parse.proofs.operand.operand_step.Goals as goal
+use Rattle.asm_argument.proofs.Operands.{not_big, next_default}
+use Rattle.asm_argument.proofs.operand.operand_step.Goals as goal
 
 pub returns : goal.returns
 returns c =

@@ -1,12 +1,12 @@
 -- How much a source says: the bytes of its names and strings, and the number of its items and arguments.
 use Rattle.std.specs.Prelude.{ℕ, ◌+◌, List, [], ◌∷◌, length, Option, Some, None}
-use Rattle.asm_parse.specs.declared.tree.Value.{Value}
-use Rattle.asm_parse.specs.declared.tree.Form.{Form}
-use Rattle.asm_parse.specs.declared.tree.Form.TheVariants as form
-use Rattle.asm_parse.specs.declared.tree.Argument.{Argument}
-use Rattle.asm_parse.specs.declared.tree.Body.{Body}
-use Rattle.asm_parse.specs.declared.tree.Body.TheVariants as body
-use Rattle.asm_parse.specs.declared.tree.SourceItem.{SourceItem}
+use Rattle.asm_source.specs.declared.tree.Value.{Value}
+use Rattle.asm_source.specs.declared.tree.Form.{Form}
+use Rattle.asm_source.specs.declared.tree.Form.TheVariants as form
+use Rattle.asm_source.specs.declared.tree.Argument.{Argument}
+use Rattle.asm_source.specs.declared.tree.Body.{Body}
+use Rattle.asm_source.specs.declared.tree.Body.TheVariants as body
+use Rattle.asm_source.specs.declared.tree.SourceItem.{SourceItem}
 
 abbrev pub name_size : Option (List ℕ) → ℕ
 name_size None = 0

@@ -2,13 +2,12 @@
 use Rattle.std.specs.Prelude.{ℕ, ◌≤◌, List, [], ◌∷◌, ◌++◌, length, fold, All, Option, Some, None}
 use Rattle.std.specs.List.{flat_map}
 use Rattle.asm_lex.specs.declared.lexing.TheConstants.{LIMIT}
-use Rattle.asm_parse.specs.declared.tree.Argument.{Argument}
-use Rattle.asm_parse.specs.declared.tree.Body.{Body}
-use Rattle.asm_parse.specs.declared.tree.Body.TheVariants as body
-use Rattle.asm_parse.specs.declared.tree.SourceItem.{SourceItem}
-use Rattle.asm_parse.specs.Scope.{added}
-use Rattle.asm_parse.specs.Size.{items_size, items_count}
-use Rattle.asm_parse.specs.Statements.{symbol_in}
+use Rattle.asm_source.specs.declared.tree.Argument.{Argument}
+use Rattle.asm_source.specs.declared.tree.Body.{Body}
+use Rattle.asm_source.specs.declared.tree.Body.TheVariants as body
+use Rattle.asm_source.specs.declared.tree.SourceItem.{SourceItem}
+use Rattle.asm_source.specs.Names.{added, symbol_in}
+use Rattle.asm_source.specs.Size.{items_size, items_count}
 
 abbrev pub name_list : Option (List ℕ) → List (List ℕ)
 name_list None = []

@@ -4,19 +4,19 @@ use Rattle.std.proofs.lemmas.List.{append-nil}
 use Rattle.std.specs.Prelude.{ℤ, pos}
 use Rattle.asm_lex.specs.declared.fault.SourceCause.{SourceCause}
 use Rattle.asm_lex.specs.declared.fault.SourceCause.TheVariants as cause
-use Rattle.asm_parse.specs.declared.symbol.Symbol.{Symbol}
-use Rattle.asm_parse.specs.declared.symbol.Symbol.TheVariants as symbol
-use Rattle.asm_parse.specs.declared.operand.Shape.{Shape}
-use Rattle.asm_parse.specs.declared.operand.Shape.TheVariants as shape
-use Rattle.asm_parse.specs.declared.operand.Place.{Place}
-use Rattle.asm_parse.specs.declared.operand.Place.TheVariants as place
-use Rattle.asm_parse.specs.declared.operand.Partial.{Partial}
-use Rattle.asm_parse.specs.declared.operand.Partial.TheVariants as partial
-use Rattle.asm_parse.specs.declared.tree.Value.{Value}
-use Rattle.asm_parse.specs.declared.tree.Form.{Form}
-use Rattle.asm_parse.specs.declared.tree.Form.TheVariants as form
-use Rattle.asm_parse.specs.Grammar.{IsConstant, IsValue, IsAddress, IsForm}
-use Rattle.asm_parse.specs.Operand.{takes_names, takes_sums, takes_minus, takes_numbers, takes_text, takes_absent, begun, fits, counted, allowed, lowered, registered, signed, turned, named, plain, of_memory, is_operand, first, is_low, is_register, is_scale, open_paren, address_step, next_symbol, operand_step, finished}
+use Rattle.asm_argument.specs.declared.symbol.Symbol.{Symbol}
+use Rattle.asm_argument.specs.declared.symbol.Symbol.TheVariants as symbol
+use Rattle.asm_argument.specs.declared.operand.Shape.{Shape}
+use Rattle.asm_argument.specs.declared.operand.Shape.TheVariants as shape
+use Rattle.asm_argument.specs.declared.operand.Place.{Place}
+use Rattle.asm_argument.specs.declared.operand.Place.TheVariants as place
+use Rattle.asm_argument.specs.declared.operand.Partial.{Partial}
+use Rattle.asm_argument.specs.declared.operand.Partial.TheVariants as partial
+use Rattle.asm_source.specs.declared.tree.Value.{Value}
+use Rattle.asm_source.specs.declared.tree.Form.{Form}
+use Rattle.asm_source.specs.declared.tree.Form.TheVariants as form
+use Rattle.asm_argument.specs.Grammar.{IsConstant, IsValue, IsAddress, IsForm}
+use Rattle.asm_argument.specs.Operand.{takes_names, takes_sums, takes_minus, takes_numbers, takes_text, takes_absent, begun, fits, counted, allowed, lowered, registered, signed, turned, named, plain, of_memory, is_operand, first, is_low, is_register, is_scale, open_paren, address_step, next_symbol, operand_step, finished}
 
 abbrev pub ok : Partial → Result Partial SourceCause
 ok p = Ok p

@@ -2,12 +2,13 @@
 
 ghost use Rattle.std.specs.Prelude.{◌≡◌};
 ghost use Rattle.std.specs.Option.{option_copied};
-ghost use Rattle.asm_parse.specs.Operand as spec;
+ghost use Rattle.asm_argument.specs.Operand as spec;
 
+use crate::address::address_step;
 use crate::register::is_register;
 use crate::symbol::Symbol;
-use crate::tree::{Form, Name, Value};
 use asm_lex::SourceCause;
+use asm_source::{Form, Name, Value};
 
 /// What may stand in an argument's place.
 #[derive(Clone, Copy, Debug, PartialEq, Eq)]
@@ -96,7 +97,10 @@ fn plain(number: i64) -> Value
     Value { name: None, number }
 }
 
-fn of_memory(value: Option<Value>, base: Option<Name>, index: Option<Name>, scale: u8) -> Form
+/// Lets go of what has been read.
+pub fn discard(_so_far: Partial) {}
+
+pub fn of_memory(value: Option<Value>, base: Option<Name>, index: Option<Name>, scale: u8) -> Form
     ensures { result ≡ spec.of_memory value base index scale }
 {
     Form::Memory {
@@ -193,6 +197,7 @@ fn allowed(may: bool, then: Partial) -> Result<Partial, SourceCause>
     if may {
         Ok(then)
     } else {
+        discard(then);
         Err(SourceCause::BadOperand)
     }
 }
@@ -220,10 +225,12 @@ fn counted(may: bool, fits: bool, then: Partial) -> Result<Partial, SourceCause>
     ensures { result ≡ spec.counted may fits then }
 {
     if !may {
+        discard(then);
         Err(SourceCause::BadOperand)
     } else if fits {
         Ok(then)
     } else {
+        discard(then);
         Err(SourceCause::BadArgument)
     }
 }
@@ -262,25 +269,21 @@ fn lowered(n: u32, fits: bool, then: Partial) -> Result<Partial, SourceCause>
     if is_low(n) {
         counted(true, fits, then)
     } else {
+        discard(then);
         Err(SourceCause::BadNumber)
     }
 }
 
 /// A register's name where it is one.
-fn registered(is: bool, then: Partial) -> Result<Partial, SourceCause>
+pub fn registered(is: bool, then: Partial) -> Result<Partial, SourceCause>
     ensures { result ≡ spec.registered is then }
 {
     if is {
         Ok(then)
     } else {
+        discard(then);
         Err(SourceCause::BadRegister)
     }
-}
-
-fn is_scale(n: u32) -> bool
-    ensures { result ≡ spec.is_scale n }
-{
-    n == 1 || n == 2 || n == 4 || n == 8
 }
 
 /// The next symbol of an argument.
@@ -349,62 +352,6 @@ fn open(shape: Shape, place: Place, value: Value) -> Result<Partial, SourceCause
     }
 }
 
-/// The next symbol within parentheses.
-fn address_step(so_far: Partial, symbol: Symbol) -> Result<Partial, SourceCause>
-    ensures { result ≡ spec.address_step so_far symbol }
-{
-    match so_far {
-        Partial::Open(value) => match symbol {
-            Symbol::Percent => Ok(Partial::BasePercent(value)),
-            Symbol::Comma => Ok(Partial::IndexComma(value, None)),
-            _ => Err(SourceCause::BadOperand),
-        },
-        Partial::BasePercent(value) => match symbol {
-            Symbol::Name(name) => {
-                let is = is_register(&name);
-                registered(is, Partial::Base(value, name))
-            }
-            _ => Err(SourceCause::BadRegister),
-        },
-        Partial::Base(value, base) => match symbol {
-            Symbol::Close => Ok(Partial::Whole(of_memory(value, Some(base), None, 1))),
-            Symbol::Comma => Ok(Partial::IndexComma(value, Some(base))),
-            _ => Err(SourceCause::BadOperand),
-        },
-        Partial::IndexComma(value, base) => match symbol {
-            Symbol::Percent => Ok(Partial::IndexPercent(value, base)),
-            _ => Err(SourceCause::BadOperand),
-        },
-        Partial::IndexPercent(value, base) => match symbol {
-            Symbol::Name(name) => {
-                let is = is_register(&name);
-                registered(is, Partial::Index(value, base, name))
-            }
-            _ => Err(SourceCause::BadRegister),
-        },
-        Partial::Index(value, base, index) => match symbol {
-            Symbol::Close => Ok(Partial::Whole(of_memory(value, base, Some(index), 1))),
-            Symbol::Comma => Ok(Partial::Scale(value, base, index)),
-            _ => Err(SourceCause::BadOperand),
-        },
-        Partial::Scale(value, base, index) => match symbol {
-            Symbol::Number(n) => {
-                if is_scale(n) {
-                    Ok(Partial::Scaled(value, base, index, n as u8))
-                } else {
-                    Err(SourceCause::BadScale)
-                }
-            }
-            _ => Err(SourceCause::BadOperand),
-        },
-        Partial::Scaled(value, base, index, scale) => match symbol {
-            Symbol::Close => Ok(Partial::Whole(of_memory(value, base, Some(index), scale))),
-            _ => Err(SourceCause::BadOperand),
-        },
-        _ => Err(SourceCause::BadOperand),
-    }
-}
-
 /// The form that has been read, where it may end here.
 pub fn finished(so_far: Partial) -> Option<Form>
     ensures { result ≡ spec.finished so_far }
@@ -416,7 +363,10 @@ pub fn finished(so_far: Partial) -> Option<Form>
         Partial::Number(Place::Memory, value) => Some(of_memory(Some(value), None, None, 1)),
         Partial::Whole(form) => Some(form),
         Partial::Absent => Some(Form::Absent),
-        _ => None,
+        other => {
+            discard(other);
+            None
+        }
     }
 }
 

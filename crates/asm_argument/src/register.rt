@@ -1,10 +1,9 @@
 //! The names of registers.
 
 ghost use Rattle.std.specs.Prelude.{◌≡◌};
-ghost use Rattle.asm_parse.specs.Operand as spec;
+ghost use Rattle.asm_argument.specs.Operand as spec;
 
-use crate::bytes::is_text;
-use crate::tree::Name;
+use asm_source::{Name, is_text};
 
 /// Whether the name is one of the 24 general registers, `es`, `cs`, `ss`, `ds`, `cr0`, `cr2`, `cr3`
 /// or `cr4`.

@@ -58,7 +58,7 @@ pub struct Arguments {
 
 impl Model for Arguments {
     ghost use Rattle.std.specs.Prelude.{List};
-    ghost use Rattle.asm_parse.specs.declared.tree.Argument.{Argument};
+    ghost use Rattle.asm_source.specs.declared.tree.Argument.{Argument};
 
     ghost Value = { List Argument };
 
@@ -99,7 +99,7 @@ pub struct Source {
 
 impl Model for Source {
     ghost use Rattle.std.specs.Prelude.{List};
-    ghost use Rattle.asm_parse.specs.declared.tree.SourceItem.{SourceItem};
+    ghost use Rattle.asm_source.specs.declared.tree.SourceItem.{SourceItem};
 
     ghost Value = { List SourceItem };
 

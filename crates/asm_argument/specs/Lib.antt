@@ -1,0 +1,4 @@
+pub mod Escapes
+pub mod Symbols
+pub mod Operand
+pub mod Grammar

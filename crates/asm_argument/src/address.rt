@@ -1,0 +1,158 @@
+//! The base, index and scale of an argument, symbol by symbol.
+
+ghost use Rattle.std.specs.Prelude.{◌≡◌};
+ghost use Rattle.asm_argument.specs.declared.operand.Partial.TheVariants as partial;
+ghost use Rattle.asm_argument.specs.Operand as spec;
+
+use crate::operand::{Partial, discard, of_memory, registered};
+use crate::register::is_register;
+use crate::symbol::Symbol;
+use asm_lex::SourceCause;
+use asm_source::{Name, Value};
+
+fn is_scale(n: u32) -> bool
+    ensures { result ≡ spec.is_scale n }
+{
+    n == 1 || n == 2 || n == 4 || n == 8
+}
+
+/// A symbol behind an opening parenthesis.
+fn open_step(value: Option<Value>, symbol: Symbol) -> Result<Partial, SourceCause>
+    ensures { result ≡ spec.address_step (partial.Open value) symbol }
+{
+    match symbol {
+        Symbol::Percent => Ok(Partial::BasePercent(value)),
+        Symbol::Comma => Ok(Partial::IndexComma(value, None)),
+        _ => Err(SourceCause::BadOperand),
+    }
+}
+
+/// A symbol behind the `%` of a base.
+fn base_percent_step(value: Option<Value>, symbol: Symbol) -> Result<Partial, SourceCause>
+    ensures { result ≡ spec.address_step (partial.BasePercent value) symbol }
+{
+    match symbol {
+        Symbol::Name(name) => {
+            let is = is_register(&name);
+            registered(is, Partial::Base(value, name))
+        }
+        _ => Err(SourceCause::BadRegister),
+    }
+}
+
+/// A symbol behind a base.
+fn base_step(value: Option<Value>, base: Name, symbol: Symbol) -> Result<Partial, SourceCause>
+    ensures { result ≡ spec.address_step (partial.Base value base) symbol }
+{
+    match symbol {
+        Symbol::Close => Ok(Partial::Whole(of_memory(value, Some(base), None, 1))),
+        Symbol::Comma => Ok(Partial::IndexComma(value, Some(base))),
+        _ => Err(SourceCause::BadOperand),
+    }
+}
+
+/// A symbol behind the comma of an index.
+fn index_comma_step(
+    value: Option<Value>,
+    base: Option<Name>,
+    symbol: Symbol,
+) -> Result<Partial, SourceCause>
+    ensures { result ≡ spec.address_step (partial.IndexComma value base) symbol }
+{
+    match symbol {
+        Symbol::Percent => Ok(Partial::IndexPercent(value, base)),
+        _ => Err(SourceCause::BadOperand),
+    }
+}
+
+/// A symbol behind the `%` of an index.
+fn index_percent_step(
+    value: Option<Value>,
+    base: Option<Name>,
+    symbol: Symbol,
+) -> Result<Partial, SourceCause>
+    ensures { result ≡ spec.address_step (partial.IndexPercent value base) symbol }
+{
+    match symbol {
+        Symbol::Name(name) => {
+            let is = is_register(&name);
+            registered(is, Partial::Index(value, base, name))
+        }
+        _ => Err(SourceCause::BadRegister),
+    }
+}
+
+/// A symbol behind an index.
+fn index_step(
+    value: Option<Value>,
+    base: Option<Name>,
+    index: Name,
+    symbol: Symbol,
+) -> Result<Partial, SourceCause>
+    ensures { result ≡ spec.address_step (partial.Index value base index) symbol }
+{
+    match symbol {
+        Symbol::Close => Ok(Partial::Whole(of_memory(value, base, Some(index), 1))),
+        Symbol::Comma => Ok(Partial::Scale(value, base, index)),
+        _ => Err(SourceCause::BadOperand),
+    }
+}
+
+/// A symbol behind the comma of a scale.
+fn scale_step(
+    value: Option<Value>,
+    base: Option<Name>,
+    index: Name,
+    symbol: Symbol,
+) -> Result<Partial, SourceCause>
+    ensures { result ≡ spec.address_step (partial.Scale value base index) symbol }
+{
+    match symbol {
+        Symbol::Number(n) => {
+            if is_scale(n) {
+                Ok(Partial::Scaled(value, base, index, n as u8))
+            } else {
+                Err(SourceCause::BadScale)
+            }
+        }
+        _ => Err(SourceCause::BadOperand),
+    }
+}
+
+/// A symbol behind a scale.
+fn scaled_step(
+    value: Option<Value>,
+    base: Option<Name>,
+    index: Name,
+    scale: u8,
+    symbol: Symbol,
+) -> Result<Partial, SourceCause>
+    ensures { result ≡ spec.address_step (partial.Scaled value base index scale) symbol }
+{
+    match symbol {
+        Symbol::Close => Ok(Partial::Whole(of_memory(value, base, Some(index), scale))),
+        _ => Err(SourceCause::BadOperand),
+    }
+}
+
+/// The next symbol within parentheses.
+pub fn address_step(so_far: Partial, symbol: Symbol) -> Result<Partial, SourceCause>
+    ensures { result ≡ spec.address_step so_far symbol }
+{
+    match so_far {
+        Partial::Open(value) => open_step(value, symbol),
+        Partial::BasePercent(value) => base_percent_step(value, symbol),
+        Partial::Base(value, base) => base_step(value, base, symbol),
+        Partial::IndexComma(value, base) => index_comma_step(value, base, symbol),
+        Partial::IndexPercent(value, base) => index_percent_step(value, base, symbol),
+        Partial::Index(value, base, index) => index_step(value, base, index, symbol),
+        Partial::Scale(value, base, index) => scale_step(value, base, index, symbol),
+        Partial::Scaled(value, base, index, scale) => {
+            scaled_step(value, base, index, scale, symbol)
+        }
+        other => {
+            discard(other);
+            Err(SourceCause::BadOperand)
+        }
+    }
+}

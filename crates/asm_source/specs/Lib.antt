@@ -1,0 +1,5 @@
+pub mod Names
+pub mod Keys
+pub mod DirectiveTable
+pub mod Size
+pub mod Readable
