@@ -1,5 +1,5 @@
 -- A slice on its way.
-use Rattle.std.proofs.Common.{◌≡◌, ℕ, List, [], ◌∷◌, ◌++◌, Option, Result, refl, sym, ap, subst, ◌∙◌}
+use Rattle.std.proofs.Common.{◌≡◌, ℕ, Bool, List, [], ◌∷◌, ◌++◌, Option, Result, refl, sym, ap, subst, ◌∙◌}
 use Rattle.std.proofs.lemmas.List.{append-nil}
 use Rattle.pv_io.specs.Sink.{Appends, AppendsFront}
 use Rattle.board.specs.declared.devices.Board.{Board}
@@ -12,10 +12,11 @@ use Rattle.run_trace.specs.Text.{lines_of}
 use Rattle.machine_model.specs.State.{Setting, State}
 use Rattle.machine_model.specs.Step.{Report, Stands, stepped, step_of, items_at}
 use Rattle.machine_model.specs.Run.{Set, Steps, StopsAt, trace_of}
-use Rattle.wedge_core.specs.Parts.{IsPartOf, with_set}
+use Rattle.wedge_core.specs.Parts.{IsPartOf, left_of, with_set}
 use Rattle.wedge_core.specs.Slices.{Counts, CountsOn}
 use Rattle.wedge_core.specs.Stepping.{Goes, Passes, StepAs}
-use Rattle.wedge_core.proofs.Parts.{part_same, part_join, part_allowed}
+use Rattle.wedge_core.specs.declared.running.Lost.{Lost}
+use Rattle.wedge_core.proofs.Parts.{part_same, part_left, part_join, part_allowed}
 use Rattle.wedge_core.proofs.Joined.{steps_join, no_steps, steps_one, trace_join, counts_join, counts_none}
 use Rattle.wedge_core.proofs.Texts.{appends_both, appends_none, front_of, lines_join}
 
@@ -76,16 +77,17 @@ chosen_first : (m : Setting) (now : State) (whole chosen : Set) → step_of m (w
 unfolding step_of
 chosen_first m now whole chosen = refl
 
-pub going_on : (m : Setting) (old now new : State) (seen : Seen) (a b c : Counts) (told tells : Option (List ℕ)) → (g : Going m old now a b told tells) → Goes m (eventful m now) seen new b c → Stepped m old now new seen a c told tells
-going_on m old now new seen a b c told tells g r =
-    let allowed = part_allowed m (with_set now g.whole) r.chosen (part_join r.chosen now.set g.whole r.allowed g.part) in
-    let one = steps_one m (with_set now g.whole) (with_set new r.whole) r.chosen r.report allowed (chosen_first m now g.whole r.chosen ∙ r.went) in
+pub going_on : (m : Setting) (old now new : State) (lost : Lost) (seen : Seen) (a b c : Counts) (told tells : Option (List ℕ)) → (g : Going m old now a b told tells) → Goes m (eventful m now) lost seen new b c → Stepped m old now new seen a c told tells
+going_on m old now new lost seen a b c told tells g r =
+    let chosen : Set = left_of lost.before now.set in
+    let allowed = part_allowed m (with_set now g.whole) chosen (part_join chosen now.set g.whole (part_left lost.before chosen now.set refl) g.part) in
+    let one = steps_one m (with_set now g.whole) (with_set new r.whole) chosen r.report allowed (chosen_first m now g.whole chosen ∙ r.went) in
     record {
-      sets = g.sets ++ r.chosen ∷ [];
+      sets = g.sets ++ chosen ∷ [];
       reports = g.reports ++ r.report ∷ [];
       whole = r.whole;
-      steps = steps_join m old (with_set now g.whole) (with_set new r.whole) g.sets (r.chosen ∷ []) g.reports (r.report ∷ []) g.steps one;
-      part = r.part;
+      steps = steps_join m old (with_set now g.whole) (with_set new r.whole) g.sets (chosen ∷ []) g.reports (r.report ∷ []) g.steps one;
+      part = part_left lost.after new.set r.whole r.left;
       front = trace_of g.reports;
       trace = trace_join g.reports (r.report ∷ []) ∙ ap (λ (l : List Item). trace_of g.reports ++ l) (append-nil r.report.items ∙ r.items);
       text = g.text;
@@ -115,13 +117,14 @@ stepped_front m old now new seen a b told tells last s put =
     subst (λ (l : List ℕ). AppendsFront told last l) (sym is) (front_of told tells last (lines_of s.front) (lines_of (items_at now.step (whats seen))) s.text put)
 
 -- the next step stops
-pub stops_next : (m : Setting) (old now : State) (a b : Counts) (told tells : Option (List ℕ)) (stop : Stop) (chosen : Set) → (g : Going m old now a b told tells) → IsPartOf chosen now.set
-    → stepped m (with_set (eventful m now) chosen) ≡ Stands stop → StopsAt m (with_set now g.whole) stop
-stops_next m old now a b told tells stop chosen g allowed stands = record {
-  set = chosen;
-  allowed = part_allowed m (with_set now g.whole) chosen (part_join chosen now.set g.whole allowed g.part);
-  stands = chosen_first m now g.whole chosen ∙ stands;
-}
+pub stops_next : (m : Setting) (old now : State) (a b : Counts) (told tells : Option (List ℕ)) (stop : Stop) (before : Bool) → (g : Going m old now a b told tells) → stepped m (with_set (eventful m now) (left_of before now.set)) ≡ Stands stop → StopsAt m (with_set now g.whole) stop
+stops_next m old now a b told tells stop before g stands =
+    let chosen : Set = left_of before now.set in
+    record {
+      set = chosen;
+      allowed = part_allowed m (with_set now g.whole) chosen (part_join chosen now.set g.whole (part_left before chosen now.set refl) g.part);
+      stands = chosen_first m now g.whole chosen ∙ stands;
+    }
 
 abbrev pub counted : ℕ → ℕ → Counts
 counted retired passed = record { retired = retired; passed = passed }
@@ -130,9 +133,9 @@ pub counts_same : (retired retired' passed passed' : ℕ) → retired' ≡ retir
 counts_same retired retired' passed passed' r p = λ i. counted (r i) (p i)
 
 -- a step behind an empty stretch, whose events were given
-pub turned : (m : Setting) (now mid new : State) (board : Board) (result : Result Seen Stop) (a b c : Counts) → mid ≡ record now { board = board } → board ≡ given now.board m.script now.step → b ≡ a
-    → StepAs m mid result new b c → StepAs m (eventful m now) result new a c
-turned m now mid new board result a b c is events same step =
-    subst (λ (x : Counts). StepAs m (eventful m now) result new x c) same
-    (subst (λ (d : Board). StepAs m (record now { board = d }) result new b c) events
-    (subst (λ (x : State). StepAs m x result new b c) is step))
+pub turned : (m : Setting) (now mid new : State) (board : Board) (lost : Lost) (result : Result Seen Stop) (a b c : Counts) → mid ≡ record now { board = board } → board ≡ given now.board m.script now.step → b ≡ a
+    → StepAs m mid lost result new b c → StepAs m (eventful m now) lost result new a c
+turned m now mid new board lost result a b c is events same step =
+    subst (λ (x : Counts). StepAs m (eventful m now) lost result new x c) same
+    (subst (λ (d : Board). StepAs m (record now { board = d }) lost result new b c) events
+    (subst (λ (x : State). StepAs m x lost result new b c) is step))

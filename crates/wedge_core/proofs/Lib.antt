@@ -37,7 +37,8 @@ pub mod Asking
 pub mod Nexts
 pub mod Before
 pub mod AfterTry
-pub mod AskedOnce
 pub mod Filling
 pub mod Guests
 pub mod Owning
+pub mod Closing
+pub mod Losing

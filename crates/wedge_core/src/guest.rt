@@ -18,7 +18,7 @@ ghost use Rattle.wedge_core.specs.Slices.{SliceAs, GoesOn, Pauses};
 ghost use Rattle.wedge_core.specs.Standing.{IsHeld, IsAble, ground, set_of, state_of};
 ghost use Rattle.wedge_core.specs.Starts.{StartedAs};
 
-use crate::running::Running;
+use crate::running::{Lost, Running};
 use crate::slice::steps_to;
 use board::{Board, Script};
 use descriptors::Cpu;
@@ -268,5 +268,9 @@ fn adopt_in(
         fills: 0,
         held: 2,
         shadows,
+        lost: Lost {
+            before: false,
+            after: false,
+        },
     }
 }

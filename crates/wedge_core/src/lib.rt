@@ -20,4 +20,4 @@ mod told;
 pub use guest::Guest;
 pub use laws::{alones_go, views_lend};
 pub use run::run_wedge;
-pub use running::Running;
+pub use running::{Lost, Running};

@@ -23,7 +23,7 @@ ghost use Rattle.wedge_core.specs.Stepping.{AloneAs, StepAs};
 use crate::laws::alones_go;
 use crate::native::{Attempt, begin_native};
 use crate::rest::rest;
-use crate::running::Running;
+use crate::running::{Lost, Running};
 use crate::single::step_alone;
 use crate::stretch::{may_run, run_on, stretch};
 use board::Script;
@@ -90,7 +90,7 @@ pub fn steps_to<S: Shadows + Drop, H: Host, O: Sink>(
     Ok(Pause::Reached)
 }
 
-/// One step, whose events were given.
+/// One step, whose events were given. Whether all translations were dropped before it or after it is noted.
 fn one_step<S: Shadows + Drop, H: Host>(
     running: &mut Running<S>,
     pool: &mut Pool,
@@ -104,7 +104,7 @@ fn one_step<S: Shadows + Drop, H: Host>(
     requires room { H.retired host.old + 1 < 2 ^ 64 }
     requires enough { 16 ≤ length (free_list pool.old (H.bytes host.old)) + running.old.held }
     ensures step { (script : Events) → StepAs (wedge image.now script running.old.frames)
-        (state_of S.stands S.frames S.slots (wedge image.now script running.old.frames) running.old (H.bytes host.old)) result (state_of S.stands S.frames S.slots (wedge image.now script running.old.frames) running.new (H.bytes host.new))
+        (state_of S.stands S.frames S.slots (wedge image.now script running.old.frames) running.old (H.bytes host.old)) running.new.lost result (state_of S.stands S.frames S.slots (wedge image.now script running.old.frames) running.new (H.bytes host.new))
         (record { retired = H.retired host.old; passed = H.passed host.old }) (record { retired = H.retired host.new; passed = H.passed host.new }) }
     ensures held { OnOk result (IsHeld S.stands S.frames S.slots (ground image.now running.old.frames) running.new pool.new (H.bytes host.new)) }
     ensures able { OnOk result (IsAble running.new.cpu) }
@@ -114,6 +114,7 @@ fn one_step<S: Shadows + Drop, H: Host>(
     ensures pool { Keeps pool.old pool.new (H.bytes host.old) (H.bytes host.new) (S.frames running.old.shadows (H.bytes host.old)) (S.frames running.new.shadows (H.bytes host.new)) }
     ensures few { H.retired host.new ≤ H.retired host.old + 1 }
     ensures stays { OnErr result (running.new.step ≡ running.old.step) }
+    ensures unfilled { OnErr result (running.new.fills ≡ running.old.fills) }
     ensures counted { running.new.held ≡ length (S.frames running.new.shadows (H.bytes host.new)) }
     ensures retired { OnErr result (H.retired host.new ≡ H.retired host.old) }
     ensures passed { OnErr result (H.passed host.new ≡ H.passed host.old) }
@@ -122,6 +123,10 @@ fn one_step<S: Shadows + Drop, H: Host>(
 {
     alones_go();
     steps_keep_able();
+    running.lost = Lost {
+        before: false,
+        after: false,
+    };
     if !may_run(&running.cpu, &running.board, image) {
         return by_rules(running, pool, host, image);
     }
@@ -144,10 +149,12 @@ fn by_rules<S: Shadows + Drop, H: Host>(
     requires started { H.is_started host.old ≡ true }
     requires held { IsHeld S.stands S.frames S.slots (ground image.now running.old.frames) running.old pool.old (H.bytes host.old) }
     requires bound { running.old.step < 2 ^ 40 }
-    ensures step { (script : Events) → AloneAs (wedge image.now script running.old.frames) (state_of S.stands S.frames S.slots (wedge image.now script running.old.frames) running.old (H.bytes host.old)) result (state_of S.stands S.frames S.slots (wedge image.now script running.old.frames) running.new (H.bytes host.new)) }
+    ensures step { (script : Events) → AloneAs (wedge image.now script running.old.frames) (state_of S.stands S.frames S.slots (wedge image.now script running.old.frames) running.old (H.bytes host.old)) running.new.lost.after result (state_of S.stands S.frames S.slots (wedge image.now script running.old.frames) running.new (H.bytes host.new)) }
+    ensures before { running.new.lost.before ≡ running.old.lost.before }
     ensures held { OnOk result (IsHeld S.stands S.frames S.slots (ground image.now running.old.frames) running.new pool.new (H.bytes host.new)) }
     ensures count { OnOk result (running.new.step ≡ running.old.step + 1) }
     ensures stays { OnErr result (running.new.step ≡ running.old.step) }
+    ensures unfilled { OnErr result (running.new.fills ≡ running.old.fills) }
     ensures counted { running.new.held ≡ length (S.frames running.new.shadows (H.bytes host.new)) }
     ensures stands { ∥ S.stands running.new.shadows (H.bytes host.new) ∥₁ }
     ensures filled { FillsOn (set_of S.stands S.frames S.slots running.old (H.bytes host.old)) (set_of S.stands S.frames S.slots running.new (H.bytes host.new)) running.old.fills running.new.fills }

@@ -106,9 +106,9 @@ returns-in-Err-clause-slice g c =
     let none : c.stretch.result ≡ 0 = omega (arith, c.if-stretch-gt0.false) in
     let stays = subst (λ (n : ℕ). at n mid then_memory ≡ at n (record r { board = c.begin.new.self }) memory) inv.frames (c.stretch.ensures.stays none) in
     let same : mid_counts ≡ so_far = counts_same (g.H.Host.retired c.loop-running.host) (g.H.Host.retired c.stretch.new.host) (g.H.Host.passed c.loop-running.host) (g.H.Host.passed c.stretch.new.host) (let e = c.stretch.ensures.retired in omega (arith, e, none)) (c.stretch.ensures.passed none) in
-    let by_frames = subst (λ (n : ℕ). StepAs (wedge c.args.image.now c.args.script.now.list n) (at n mid then_memory) (Err c.in-Err.stop) (at n new new_memory) mid_counts new_counts) (c.stretch.ensures.frames ∙ inv.frames) (c.in-Err.ensures.step c.args.script.now.list) in
-    let step : StepAs m (record (at f r memory) { board = given r.board c.args.script.now.list r.step }) (Err c.in-Err.stop) (at f new new_memory) so_far new_counts =
-    turned m (at f r memory) (at f mid then_memory) (at f new new_memory) c.begin.new.self (Err c.in-Err.stop) so_far mid_counts new_counts stays c.begin.ensures same by_frames in
+    let by_frames = subst (λ (n : ℕ). StepAs (wedge c.args.image.now c.args.script.now.list n) (at n mid then_memory) new.lost (Err c.in-Err.stop) (at n new new_memory) mid_counts new_counts) (c.stretch.ensures.frames ∙ inv.frames) (c.in-Err.ensures.step c.args.script.now.list) in
+    let step : StepAs m (record (at f r memory) { board = given r.board c.args.script.now.list r.step }) new.lost (Err c.in-Err.stop) (at f new new_memory) so_far new_counts =
+    turned m (at f r memory) (at f mid then_memory) (at f new new_memory) c.begin.new.self new.lost (Err c.in-Err.stop) so_far mid_counts new_counts stays c.begin.ensures same by_frames in
     let e = c.in-Err.ensures.stays in
     let n = c.stretch.ensures.count in
     let still : new.step ≡ r.step = omega (arith, e, n, none) in
@@ -118,7 +118,7 @@ returns-in-Err-clause-slice g c =
       reports = inv.going.reports;
       last = with_set (at f r memory) inv.going.whole;
       steps = inv.going.steps;
-      ends = (c.loop-running-test.true, still, stops_next m old (at f r memory) counts so_far told tells c.in-Err.stop step.chosen inv.going step.allowed step.stands);
+      ends = (c.loop-running-test.true, still, stops_next m old (at f r memory) counts so_far told tells c.in-Err.stop new.lost.before inv.going step.stands);
       text = inv.going.text;
       counts = subst (λ (x : Counts). CountsOn m inv.going.reports counts x) (sym unmoved) inv.going.counts;
     }
@@ -153,14 +153,14 @@ returns-in-Err-put_step-clause-slice g c =
     let none : c.stretch.result ≡ 0 = omega (arith, c.if-stretch-gt0.false) in
     let stays = subst (λ (n : ℕ). at n mid then_memory ≡ at n (record r { board = c.begin.new.self }) memory) inv.frames (c.stretch.ensures.stays none) in
     let same : mid_counts ≡ so_far = counts_same (g.H.Host.retired c.loop-running.host) (g.H.Host.retired c.stretch.new.host) (g.H.Host.passed c.loop-running.host) (g.H.Host.passed c.stretch.new.host) (let e = c.stretch.ensures.retired in omega (arith, e, none)) (c.stretch.ensures.passed none) in
-    let by_frames = subst (λ (n : ℕ). StepAs (wedge c.args.image.now c.args.script.now.list n) (at n mid then_memory) (Ok c.in-Ok.seen) (at n new new_memory) mid_counts new_counts) (c.stretch.ensures.frames ∙ inv.frames) (c.in-Ok.ensures.step c.args.script.now.list) in
-    let step : StepAs m (record (at f r memory) { board = given r.board c.args.script.now.list r.step }) (Ok c.in-Ok.seen) (at f new new_memory) so_far new_counts =
-    turned m (at f r memory) (at f mid then_memory) (at f new new_memory) c.begin.new.self (Ok c.in-Ok.seen) so_far mid_counts new_counts stays c.begin.ensures same by_frames in
+    let by_frames = subst (λ (n : ℕ). StepAs (wedge c.args.image.now c.args.script.now.list n) (at n mid then_memory) new.lost (Ok c.in-Ok.seen) (at n new new_memory) mid_counts new_counts) (c.stretch.ensures.frames ∙ inv.frames) (c.in-Ok.ensures.step c.args.script.now.list) in
+    let step : StepAs m (record (at f r memory) { board = given r.board c.args.script.now.list r.step }) new.lost (Ok c.in-Ok.seen) (at f new new_memory) so_far new_counts =
+    turned m (at f r memory) (at f mid then_memory) (at f new new_memory) c.begin.new.self new.lost (Ok c.in-Ok.seen) so_far mid_counts new_counts stays c.begin.ensures same by_frames in
     let step_same : c.stretch.new.running.step ≡ r.step = (let e = c.stretch.ensures.count in omega (arith, e, none)) in
     let items = c.items_of.ensures.items ∙ ap (λ (n : ℕ). items_at n (whats c.in-Ok.seen)) step_same in
     let last = g.O.Sink.taken c.put_step.new.out in
     let put = subst (λ (l : List Item). AppendsFront tells last (lines_of l)) items c.in-Err-put_step.ensures.failed in
-    let s = going_on m old (at f r memory) (at f new new_memory) c.in-Ok.seen counts so_far new_counts told tells inv.going step in
+    let s = going_on m old (at f r memory) (at f new new_memory) new.lost c.in-Ok.seen counts so_far new_counts told tells inv.going step in
     record {
       sets = s.sets;
       reports = s.reports;
@@ -193,14 +193,14 @@ loop-running-preserved g c =
     let none : c.stretch.result ≡ 0 = omega (arith, c.if-stretch-gt0.false) in
     let stays = subst (λ (n : ℕ). at n mid then_memory ≡ at n (record r { board = c.begin.new.self }) memory) inv.frames (c.stretch.ensures.stays none) in
     let same : mid_counts ≡ so_far = counts_same (g.H.Host.retired c.loop-running.host) (g.H.Host.retired c.stretch.new.host) (g.H.Host.passed c.loop-running.host) (g.H.Host.passed c.stretch.new.host) (let e = c.stretch.ensures.retired in omega (arith, e, none)) (c.stretch.ensures.passed none) in
-    let by_frames = subst (λ (n : ℕ). StepAs (wedge c.args.image.now c.args.script.now.list n) (at n mid then_memory) (Ok c.in-Ok.seen) (at n new new_memory) mid_counts new_counts) (c.stretch.ensures.frames ∙ inv.frames) (c.in-Ok.ensures.step c.args.script.now.list) in
-    let step : StepAs m (record (at f r memory) { board = given r.board c.args.script.now.list r.step }) (Ok c.in-Ok.seen) (at f new new_memory) so_far new_counts =
-    turned m (at f r memory) (at f mid then_memory) (at f new new_memory) c.begin.new.self (Ok c.in-Ok.seen) so_far mid_counts new_counts stays c.begin.ensures same by_frames in
+    let by_frames = subst (λ (n : ℕ). StepAs (wedge c.args.image.now c.args.script.now.list n) (at n mid then_memory) new.lost (Ok c.in-Ok.seen) (at n new new_memory) mid_counts new_counts) (c.stretch.ensures.frames ∙ inv.frames) (c.in-Ok.ensures.step c.args.script.now.list) in
+    let step : StepAs m (record (at f r memory) { board = given r.board c.args.script.now.list r.step }) new.lost (Ok c.in-Ok.seen) (at f new new_memory) so_far new_counts =
+    turned m (at f r memory) (at f mid then_memory) (at f new new_memory) c.begin.new.self new.lost (Ok c.in-Ok.seen) so_far mid_counts new_counts stays c.begin.ensures same by_frames in
     let step_same : c.stretch.new.running.step ≡ r.step = (let e = c.stretch.ensures.count in omega (arith, e, none)) in
     let items = c.items_of.ensures.items ∙ ap (λ (n : ℕ). items_at n (whats c.in-Ok.seen)) step_same in
     let last = g.O.Sink.taken c.put_step.new.out in
     let put = subst (λ (l : List Item). Appends tells last (lines_of l)) items c.in-Ok-put_step.ensures.ok in
-    let stepped = stepped_put m old (at f r memory) (at f new new_memory) c.in-Ok.seen counts new_counts told tells last (going_on m old (at f r memory) (at f new new_memory) c.in-Ok.seen counts so_far new_counts told tells inv.going step) put in
+    let stepped = stepped_put m old (at f r memory) (at f new new_memory) c.in-Ok.seen counts new_counts told tells last (going_on m old (at f r memory) (at f new new_memory) new.lost c.in-Ok.seen counts so_far new_counts told tells inv.going step) put in
     let rested = c.rest.new.running in
     let frames_then : new.frames ≡ f = c.in-Ok.ensures.frames ∙ (c.stretch.ensures.frames ∙ inv.frames) in
     let passes = subst (λ (n : ℕ). Passes (wedge c.args.image.now c.args.script.now.list n) (at n new new_memory) stepped.whole (at n rested new_memory) new_counts new_counts) frames_then
