@@ -1,5 +1,5 @@
 -- What is kept behind a step whose pages were settled, or for which frames lacked.
-use Rattle.std.proofs.Common.{◌≡◌, ℕ, ◌+◌, ◌≤◌, ◌<◌, ◌^◌, List, length, Bool, true, false, Option, Some, None, refl, sym, ap, subst, ◌∙◌, arith}
+use Rattle.std.proofs.Common.{◌≡◌, ℕ, ◌+◌, ◌≤◌, ◌<◌, ◌^◌, List, length, Bool, true, false, Option, Some, None, refl, ap, subst, arith}
 use Rattle.std.specs.Prelude.{MatchOption, IfSome, IsSome, is_none}
 use Rattle.std.specs.FinMap.{get, empty, len}
 use Rattle.image_check.specs.Image.{Image}

@@ -2,7 +2,7 @@
 use Rattle.std.proofs.Common.{◌≡◌, ℕ, ◌+◌, ◌≤◌, ◌<◌, zero, suc, replicate, length, Bool, true, false, List, [], ◌∷◌, ◌++◌, Option, Result, Ok, Err, refl, sym, ap, subst, ◌∙◌, append_assoc, arith}
 use Rattle.std.specs.List.{All, list_any}
 use Rattle.std.proofs.lemmas.List.{append-nil}
-use Rattle.std.proofs.lemmas.List.Elements.{All-nil, All-cons, All-append, All-replicate, All-weaker, All-tail, All-head}
+use Rattle.std.proofs.lemmas.List.Elements.{All-nil, All-cons, All-append, All-replicate, All-weaker}
 use Rattle.pv_io.specs.declared.answer.Failed.{Failed}
 use Rattle.pv_io.specs.Sink.{Appends, AppendsFront}
 use Rattle.image_load.specs.declared.fault.Pause.TheVariants.{Reached, Stopped}
@@ -16,7 +16,7 @@ use Rattle.run_trace.specs.Notes.{Note}
 use Rattle.run_trace.specs.Text.{lines_of}
 use Rattle.machine_model.specs.State.{Setting, State, Loosened}
 use Rattle.machine_model.specs.Step.{Report, Stands, stepped, step_of, items_at}
-use Rattle.machine_model.specs.Run.{Set, Steps, StopsAt, trace_of}
+use Rattle.machine_model.specs.Run.{Set, Steps, trace_of}
 use Rattle.machine_model.specs.Notes.{AreLeft, AreNotes, is_emptied, set_told}
 use Rattle.wedge_core.specs.Filled.{FillsOn}
 use Rattle.wedge_core.specs.Noted.{NotesOn, emptied_if, notes_then}
@@ -28,7 +28,7 @@ use Rattle.wedge_core.proofs.Parts.{part_left, part_join, part_allowed}
 use Rattle.wedge_core.proofs.Joined.{steps_join, no_steps, steps_one, trace_join, counts_join, counts_none}
 use Rattle.wedge_core.proofs.Filling.{fills_same, fills_part, fills_join}
 use Rattle.wedge_core.proofs.Texts.{appends_both, appends_none, front_of, lines_join}
-use Rattle.wedge_core.proofs.EmptiedNotes.{IsUpTo, SoFar, Tried, none_yet, try_next, go_next, so_far_later, told_is, told_more, told_none, told_before, up_to_later, tried_none, none_dropped, dropped_once, are_pages, steps_until}
+use Rattle.wedge_core.proofs.EmptiedNotes.{SoFar, Tried, none_yet, try_next, go_next, so_far_later, told_is, told_more, told_none, told_before, up_to_later, tried_none, none_dropped, dropped_once, are_pages, steps_until}
 use Rattle.wedge_core.proofs.ToldSteps.{ToldBy, told_nothing, told_one, told_join, told_on, left_behind, steps_counted, are_told}
 
 -- each of these sets has no more pages than the first one, and than were filled since

@@ -11,7 +11,7 @@ use Rattle.machine_model.specs.Notes.{AreTold, AreLeft, set_told}
 use Rattle.machine_model.proofs.Counting.{each_counts}
 use Rattle.wedge_core.specs.Noted.{emptied_if}
 use Rattle.wedge_core.specs.Parts.{with_set}
-use Rattle.wedge_core.proofs.EmptiedNotes.{IsUpTo, told_none, told_before, up_to_later}
+use Rattle.wedge_core.proofs.EmptiedNotes.{IsUpTo, told_none, told_before}
 
 -- before each step the translations are those that the one before left, but for what the notes tell
 pub ToldBy : Setting → State → List Set → List Note → Type 0
