@@ -21,6 +21,7 @@ use Rattle.host_cpl3.specs.Borders.{BeginsBelow, EntersTheWindow, ExitsInTheWind
 use Rattle.machine_model.specs.State.{Setting, State, Loosened}
 use Rattle.machine_model.specs.Step.{Report, Went, step_of}
 use Rattle.machine_model.specs.Run.{Set, Steps, trace_of}
+use Rattle.machine_model.specs.Notes.{AreLeft}
 use Rattle.machine_model.specs.Counts.{is_direct, direct_in, direct_addresses, passed_on}
 use Rattle.native_steps.specs.Lends.{Lends, AreKept}
 use Rattle.native_steps.specs.Stands.{IsWedge, Stands}
@@ -57,6 +58,9 @@ behind_same m memory = record { size = refl; beyond = refl }
 
 behind_join : (m : Setting) (a b c : List ℕ) → SameBehind m a b → SameBehind m b c → SameBehind m a c
 behind_join m a b c p q = record { size = q.size ∙ p.size; beyond = q.beyond ∙ p.beyond }
+
+went_there : (a b : Report) (x y : State) → Went a x ≡ Went b y → x ≡ y
+went_there a b x y is = cc
 
 any_allowed : (m : Setting) (b : State) → Loosened m b b.set
 any_allowed m b = record { each = λ page e is. inl is }
@@ -180,6 +184,12 @@ module _ (laws : Laws) (m : Setting) (v : View) (w : IsWedge m) where
             after = r.after;
             reports = follows.report ∷ r.reports;
             steps = (after, follows.report, r.reports, any_allowed m b, went, subst (λ (x : Set). Steps m after (replicate r.n x) r.reports r.after) set_is r.steps, refl);
+            left = (
+              refl,
+              λ report mid is.
+                  subst (λ (x : State). AreLeft m x (replicate r.n b.set)) (went_there follows.report report after mid (sym went ∙ is))
+                  (subst (λ (x : Set). AreLeft m after (replicate r.n x)) set_is r.left),
+            );
             beside = r.beside;
             cpu = r.cpu ∙ ap (λ (c : Cpu). record c { regs = r.last.regs }) cpu_is;
             set = r.set ∙ set_is;
@@ -206,6 +216,7 @@ module _ (laws : Laws) (m : Setting) (v : View) (w : IsWedge m) where
       after = b;
       reports = [];
       steps = (refl, refl);
+      left = tt;
       beside = h;
       cpu = ap (λ (r : Regs). record b.cpu { regs = r }) h.regs;
       set = refl;
@@ -282,6 +293,7 @@ module _ (laws : Laws) (m : Setting) (v : View) (w : IsWedge m) where
     after = b;
     reports = [];
     steps = (refl, refl);
+    left = tt;
     beside = h;
     cpu = ap (λ (r : Regs). record b.cpu { regs = r }) h.regs;
     set = refl;

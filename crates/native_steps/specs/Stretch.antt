@@ -14,6 +14,7 @@ use Rattle.host_cpl3.specs.HostRun.{Standing, host_run}
 use Rattle.machine_model.specs.State.{Setting, State}
 use Rattle.machine_model.specs.Step.{Report, interrupt_of}
 use Rattle.machine_model.specs.Run.{Steps, trace_of}
+use Rattle.machine_model.specs.Notes.{AreLeft}
 use Rattle.machine_model.specs.Counts.{direct_count, passed_digest}
 use Rattle.native_steps.specs.Lends.{Lends, AreKept}
 use Rattle.native_steps.specs.Stands.{IsWedge, Stands}
@@ -64,8 +65,8 @@ EndsAs m v exits.Wrap last t = t ≡ last
 EndsAs m v exits.Budget last t = t ≡ last
 
 -- The host completes n instructions, and stands at last. The guest has done n steps by then, with the translations that
--- it had: all of them count, nothing is seen in them, no walk is done, and both stand beside one another again. Of the
--- host's memory nothing behind the guest's frames has changed.
+-- it had, which none of them changes: all of them count, nothing is seen in them, no walk is done, and both stand beside
+-- one another again. Of the host's memory nothing behind the guest's frames has changed.
 pub record Advanced (m : Setting) (v : View) (b : State) (k : ℕ) (s : Standing) (exit : Exit) (t : Standing) : Type 0 where
   pub n : ℕ
   pub few : n ≤ k
@@ -73,6 +74,7 @@ pub record Advanced (m : Setting) (v : View) (b : State) (k : ℕ) (s : Standing
   pub after : State
   pub reports : List Report
   pub steps : Steps m b (replicate n b.set) reports after
+  pub left : AreLeft m b (replicate n b.set)
   pub beside : Beside m v after last
   pub cpu : after.cpu ≡ record b.cpu { regs = last.regs }
   pub set : after.set ≡ b.set

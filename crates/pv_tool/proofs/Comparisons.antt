@@ -42,6 +42,7 @@ is_comparison agree number program o st w run came =
         counts = here.3.0;
         memory_is = here.3.1;
       };
+      filled = run.filled;
       bare_run = agree (second_setting program) 100000 (boot (second_setting program)) run.sets run.reports run.last run.end run.run;
     }
 

@@ -100,12 +100,12 @@ pub ran_patched : (image : Image) (events : Events) (frames n : ℕ) (old mid ne
     → WedgeAnswers image events frames n old mid before middle c c2 memory r → ToldAs r mid new middle now st
     → RanAs (RunsOn (RunsPatched frames n image events) image frames) old new before now c c2 memory st
 ran_patched image events frames n old mid new before middle now (Ok e) c c2 memory st h told =
-    let p = h.2 in
+    let p = h.1 in
     let run : HostedRun = record { setting = wedge image events frames; reports = p.reports; last = p.last; end = e.end } in
     inl (
       ended_on_host run,
-      Ran h.1 (record { sets = p.sets; reports = p.reports; last = p.last; end = e.end; run = p.run; comes = refl }),
-      Whole told.0 (appends_on old mid new (ended_on_host run).text told.1 (subst (λ (t : List ℕ). Appends old mid t) (text_at p.reports h.0 e.steps p.last.step e.end p.text_is p.count_is) h.3)),
+      Ran h.2 (record { sets = p.sets; reports = p.reports; last = p.last; end = e.end; run = p.run; comes = refl }),
+      Whole told.0 (appends_on old mid new (ended_on_host run).text told.1 (subst (λ (t : List ℕ). Appends old mid t) (text_at p.reports h.0 e.steps p.last.step e.end p.text_is p.count_is) h.4)),
       λ end. (p.counts, p.memory_is),
     )
 ran_patched image events frames n old mid new before middle now (Err fault.Write) c c2 memory st h told =

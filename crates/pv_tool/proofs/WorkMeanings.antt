@@ -96,7 +96,7 @@ too_large number image c c2 line h large = (record { made = Ok image; builds = h
 
 -- both runs were told
 pub work_tells : (number : ℕ) (image : Image) (first second : List ℕ) (fills : ℕ) (old new : Option (List ℕ)) (before now : ℕ) (c c2 : Counts) (memory : List ℕ) (st : Status)
-    → Builds (kernel_text number) (Ok image) → HasTexts image first second c c2 memory → TellsBoth (told_line number image second fills) first second old new before now st
+    → Builds (kernel_text number) (Ok image) → HasTexts image first second fills c c2 memory → TellsBoth (told_line number image second fills) first second old new before now st
     → WorkedAs number old new before now c c2 memory st
 work_tells number image first second fills old new before now c c2 memory st h t (inl (told, compares, said)) =
     let p = t.promise in
@@ -110,6 +110,7 @@ work_tells number image first second fills old new before now c c2 memory st h t
       second = second;
       second_is = text_at p.reports second t.count p.last.step t.end p.text_is p.count_is;
       fills = fills;
+      filled = t.filled;
       told = told;
       compares = subst (λ (f : List ℕ). Compares f second told) t.first_is compares;
       comes = refl;

@@ -8,7 +8,7 @@ use Rattle.machine_model.specs.State.{boot}
 use Rattle.machine_model.specs.Run.{Run}
 use Rattle.machine_model.specs.Agreement.{bound_on_bare, end_on_bare}
 use Rattle.bare_machine.specs.Machine.{bare}
-use Rattle.wedge_core.specs.Promises.{Promise}
+use Rattle.wedge_core.specs.Promises.{Promise, HasFills}
 use Rattle.pv_tool.specs.Lines.{same_line}
 use Rattle.pv_tool.specs.Outside.{Outside}
 use Rattle.pv_tool.specs.Texts.{Compares}
@@ -20,7 +20,7 @@ pub record IsComparison (number : ℕ) (program : Image) (o : Outside) : Type 0 
   pub second : List ℕ
   pub count : ℕ
   pub end : End
-  -- how many entries its shadows were given
+  -- how many pages were filled in it
   pub fills : ℕ
   -- The second line is `same` exactly where the first run's text, which is a function of the image, is equal to the second's.
   -- Else it tells the first line that differs or is missing.
@@ -31,6 +31,8 @@ pub record IsComparison (number : ℕ) (program : Image) (o : Outside) : Type 0 
   -- The second text is that of one run from boot under the monitor's rules. The host completed its direct instructions, no
   -- more and no fewer, and after all steps its first frames are this run's memory with the text patched.
   pub promise : Promise (second_setting program) 100000 second count end o.completed o.completed_after o.memory_after
+  -- what was printed as filled is what this run has filled
+  pub filled : HasFills (second_setting program) promise.sets promise.last fills
   -- it is a run of the bare machine, up to a stop of the monitor's own
   pub bare_run : Run (bare program [] 4096) (bound_on_bare 100000 promise.last end) (boot (bare program [] 4096)) promise.sets promise.reports promise.last (end_on_bare end)
 

@@ -25,7 +25,7 @@ use Rattle.machine_model.specs.Step.{Report}
 use Rattle.machine_model.specs.Run.{Set, Run, trace_of}
 use Rattle.bare_machine.specs.FreshRuns.{fresh_run, course_text}
 use Rattle.wedge_core.specs.Slices.{Counts}
-use Rattle.wedge_core.specs.Promises.{Promise}
+use Rattle.wedge_core.specs.Promises.{Promise, HasFills}
 use Rattle.pv_tool.specs.Lines.{form_number, object_place_line, link_line, image_line, small_line, work_line}
 use Rattle.pv_tool.specs.Texts.{lines, Compares}
 use Rattle.pv_tool.specs.Outcome.{Outcome, refused, compared}
@@ -99,7 +99,8 @@ second_setting image = wedge image [] 4096
 abbrev pub told_line : ℕ → Image → List ℕ → ℕ → List ℕ
 told_line number image second fills = work_line number (length image.text) (length image.sites) (length (lines second) - 1) fills
 
--- a run under the monitor's rules, whose direct instructions are the host's, and the two lines
+-- a run under the monitor's rules, whose direct instructions are the host's, and the two lines, of which the first tells the
+-- pages that were filled in this run
 pub record RunsTwice (number : ℕ) (image : Image) (w : Outcome) : Type 0 where
   pub sets : List Set
   pub reports : List Report
@@ -109,6 +110,7 @@ pub record RunsTwice (number : ℕ) (image : Image) (w : Outcome) : Type 0 where
   pub second : List ℕ
   pub second_is : second ≡ text_of (trace_of reports) last.step end
   pub fills : ℕ
+  pub filled : HasFills (second_setting image) sets last fills
   pub told : List ℕ
   pub compares : Compares (first_text image) second told
   pub comes : w ≡ compared (record { setting = second_setting image; reports = reports; last = last; end = end }) (told_line number image second fills ++ told)
@@ -124,13 +126,14 @@ pub record Works (number : ℕ) (w : Outcome) : Type 0 where
   pub builds : Builds (kernel_text number) made
   pub comes : WorksOn number made w
 
--- both texts, and what the host has done of the second run
-pub record HasTexts (image : Image) (first second : List ℕ) (before after : Counts) (memory : List ℕ) : Type 0 where
+-- both texts, what was filled in the second run, and what the host has done of it
+pub record HasTexts (image : Image) (first second : List ℕ) (fills : ℕ) (before after : Counts) (memory : List ℕ) : Type 0 where
   pub fits : need image ≤ 4096
   pub first_is : first ≡ first_text image
   pub count : ℕ
   pub end : End
   pub promise : Promise (second_setting image) 100000 second count end before after memory
+  pub filled : HasFills (second_setting image) promise.sets promise.last fills
 
 -- the image needs more frames than there are, and the host has done nothing
 abbrev pub IsTooLarge : Image → Counts → Counts → List ℕ → Type 0

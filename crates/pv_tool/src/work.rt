@@ -3,7 +3,7 @@
 ghost use Rattle.std.specs.Prelude.{◌≡◌, ◌≤◌, ◌<◌, ◌^◌, ℕ, [], ◌++◌, IfOk, IfErr};
 ghost use Rattle.image_load.specs.Boot.{need};
 ghost use Rattle.image_load.specs.declared.boot.TooSmall.{TooSmall};
-ghost use Rattle.wedge_core.specs.Promises.{Promise};
+ghost use Rattle.wedge_core.specs.Promises.{Promise, HasFills};
 ghost use Rattle.run_trace.specs.declared.items.End.{End};
 ghost use Rattle.pv_tool.specs.Lines.{small_line};
 ghost use Rattle.pv_tool.specs.Texts.{Compares};
@@ -47,7 +47,7 @@ pub fn work<S: Sink, H: Host>(alloc: Global, number: u32, out: &mut S, host: &mu
     }
 }
 
-/// What two runs have printed, and how many entries the second gave to its shadows.
+/// What two runs have printed, and how many pages were filled in the second.
 #[derive(Drop)]
 struct Texts {
     first: Vec<u8>,
@@ -58,7 +58,7 @@ struct Texts {
 // Runs an image on the bare machine with nothing cached, and then patched on a host, each under an empty script.
 fn both<H: Host>(alloc: Global, image: &Checked, host: &mut H) -> Result<Texts, Halt>
     requires room { H.retired host.old ≤ 2 ^ 63 }
-    ensures texts { IfOk result (λ t. HasTexts image.now t.first.items t.second.items (completed_by H.Host host.old) (completed_by H.Host host.new) (H.bytes host.new)) }
+    ensures texts { IfOk result (λ t. HasTexts image.now t.first.items t.second.items t.fills (completed_by H.Host host.old) (completed_by H.Host host.new) (H.bytes host.new)) }
     ensures refused { IfErr result (RefusesAs (IsTooLarge image.now (completed_by H.Host host.old) (completed_by H.Host host.new))) }
 {
     let events = Script {
@@ -96,7 +96,7 @@ fn patched<H: Host>(
 ) -> Result<(Vec<u8>, u64), Halt>
     requires events { events.now.list ≡ [] }
     requires room { H.retired host.old ≤ 2 ^ 63 }
-    ensures text { IfOk result (λ ran. (count : ℕ) × (end : End) × Promise (second_setting image.now) 100000 ran.0.items count end (completed_by H.Host host.old) (completed_by H.Host host.new) (H.bytes host.new)) }
+    ensures text { IfOk result (λ ran. (count : ℕ) × (end : End) × (run : Promise (second_setting image.now) 100000 ran.0.items count end (completed_by H.Host host.old) (completed_by H.Host host.new) (H.bytes host.new)) × HasFills (second_setting image.now) run.sets run.last ran.1) }
     ensures refused { IfErr result (RefusesAs (IsTooLarge image.now (completed_by H.Host host.old) (completed_by H.Host host.new))) }
 {
     let mut kept = Kept::new(alloc);

@@ -68,15 +68,16 @@ told_sound kept floor stands ram s h same within =
     }
 
 -- what is kept of such a step
-pub closes_told : (old new : ℕ → Option Slot) (base set : FinMap nat_cmp Entry) (count : ℕ) (side : Side) (free : ℕ) (wp : Bool) (tracked : List ℕ) (s t : kept_state.State) → t ≡ as_told s → changed base (told s.went s.changes) ≡ set → s.control.wp ≡ wp
-    → (MayClose count side (changed base t.changes) (pages_of t.went t.changes) free → Closes old new (changed base t.changes) (pages_of t.went t.changes) side t.control.wp tracked t.wrote)
-    → MayClose count side set (pages_of s.went (told s.went s.changes)) free → Closes old new set (pages_of s.went (told s.went s.changes)) side wp tracked s.wrote
-closes_told old new base set count side free wp tracked s t e same wp_is whole may =
+pub closes_told : (dropped : Bool) (old new : ℕ → Option Slot) (base set : FinMap nat_cmp Entry) (count : ℕ) (side : Side) (free : ℕ) (wp : Bool) (tracked : List ℕ) (s t : kept_state.State) → t ≡ as_told s → changed base (told s.went s.changes) ≡ set → s.control.wp ≡ wp
+    → (MayClose count side (changed base t.changes) (pages_of t.went t.changes) free → (dropped ≡ false) × Closes old new (changed base t.changes) (pages_of t.went t.changes) side t.control.wp tracked t.wrote)
+    → MayClose count side set (pages_of s.went (told s.went s.changes)) free → (dropped ≡ false) × Closes old new set (pages_of s.went (told s.went s.changes)) side wp tracked s.wrote
+closes_told dropped old new base set count side free wp tracked s t e same wp_is whole may =
     let pages = pages_of s.went (told s.went s.changes) in
     let here = subst (λ (x : FinMap nat_cmp Entry). MayClose count side x pages free) (sym same) may in
     let there = subst (λ (x : kept_state.State). MayClose count side (changed base x.changes) (pages_of x.went x.changes) free) (sym e) here in
-    let back = subst (λ (x : kept_state.State). Closes old new (changed base x.changes) (pages_of x.went x.changes) side x.control.wp tracked x.wrote) e (whole there) in
-    subst (λ (b : Bool). Closes old new set pages side b tracked s.wrote) wp_is (subst (λ (x : FinMap nat_cmp Entry). Closes old new x pages side s.control.wp tracked s.wrote) same back)
+    let closes = whole there in
+    let back = subst (λ (x : kept_state.State). Closes old new (changed base x.changes) (pages_of x.went x.changes) side x.control.wp tracked x.wrote) e closes.1 in
+    (closes.0, subst (λ (b : Bool). Closes old new set pages side b tracked s.wrote) wp_is (subst (λ (x : FinMap nat_cmp Entry). Closes old new x pages side s.control.wp tracked s.wrote) same back))
 
 module _ {S : Type 0} (stands : S → List ℕ → Type 0) (frames : S → List ℕ → List ℕ) (slots : S → List ℕ → ℕ → Option Slot) where
   pub record After (image : Image) (n : ℕ) (shadows : S) (pool : Pool) (old new : List ℕ) : Type 0 where

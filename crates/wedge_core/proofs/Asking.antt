@@ -53,7 +53,6 @@ use Rattle.wedge_core.specs.Told.{told}
 use Rattle.wedge_core.specs.Tries.{IsPrepared}
 use Rattle.wedge_core.specs.Views.{view_by}
 use Rattle.wedge_core.proofs.Elsewhere.{elsewhere_on, fetched_elsewhere, reached_elsewhere}
-use Rattle.wedge_core.proofs.Parts.{part_same}
 use Rattle.wedge_core.proofs.Reaching.{among, all_reached}
 use Rattle.wedge_core.proofs.Seeing.{side_is}
 use Rattle.wedge_core.proofs.Telling.{went_all, among_contains, among_first, used_within}
@@ -252,10 +251,9 @@ module _ (grants : Grants) (repeats : Again) (completes : NativeCompletes) (m : 
             completes m memory v (settled b t) w stands lends next_there p.insn p.len a.fetched a.reads a.writes a.translated
             (subst (λ (l : List ℕ). AreReached memory (directory (side_of (b.cpu.cpl == 3))) l (ranges_of p.insn b.cpu.regs)) fetched_same reached_all) p.regs p.stores effect_is
 
-        pub asks : (after : State) → after ≡ settled b t → Asks m (view_by directory b.cpu) b after memory
-        asks after e = subst (λ (x : State). Asks m (view_by directory b.cpu) b x memory) (sym e) (record {
-          chosen = b.set;
-          allowed = part_same b.set b.set refl;
+        pub asks : (dropped : Bool) → dropped ≡ false → (after : State) → after ≡ settled b t → Asks m (view_by directory b.cpu) b false dropped after memory
+        asks dropped kept after e = subst (λ (x : State). Asks m (view_by directory b.cpu) b false dropped x memory) (sym e) (record {
+          kept = kept;
           regs = p.regs;
           completes = completed;
           same = λ report then went. (t.tables, t.wrote, same_again.same p.regs p.stores effect_is report then went);

@@ -16,10 +16,9 @@ use Rattle.machine_model.specs.Counts.{direct_in, direct_addresses, passed_on}
 use Rattle.machine_model.specs.Step.{Completed, Report, Went, interrupt_of, stepped}
 use Rattle.machine_model.specs.Alone.{StepsAreDone, WaitsCountNothing, SitesCountNothing}
 use Rattle.wedge_core.specs.AloneLaws.{AlonesGo}
-use Rattle.wedge_core.specs.Parts.{with_set}
+use Rattle.wedge_core.specs.Parts.{left_of, with_set}
 use Rattle.wedge_core.specs.Slices.{Counts, CountsOn}
 use Rattle.wedge_core.specs.Views.{is_outside, may_run}
-use Rattle.wedge_core.proofs.Parts.{part_same}
 
 pub none_counts : (m : Setting) (r : Report) (counts : Counts) → direct_in m.image.sites r.completed ≡ [] → CountsOn m (r ∷ []) counts counts
 none_counts m r counts e =
@@ -139,17 +138,18 @@ module _ (done : StepsAreDone) (waits : WaitsCountNothing) (sites : SitesCountNo
         ]
       ]
 
+-- where nothing was dropped before it
+by_all : (m : Setting) (b : State) (before : Bool) → before ≡ false → stepped m (with_set b (left_of before b.set)) ≡ stepped m b
+by_all m b before nothing = ap (λ (x : Bool). stepped m (with_set b (left_of x b.set))) nothing
+
 pub each_goes : StepsAreDone → WaitsCountNothing → SitesCountNothing → AlonesGo
-each_goes done waits sites m b (Ok seen) new counts mode level may a =
+each_goes done waits sites m b lost (Ok seen) new counts mode level may nothing a =
     record {
-      chosen = b.set;
-      allowed = part_same b.set b.set refl;
       report = a.report;
       whole = a.whole;
-      went = a.went;
-      part = a.part;
+      went = by_all m b lost.before nothing ∙ a.went;
+      left = a.left;
       items = a.items;
       counts = none_counts m a.report counts (none_direct done waits sites m b a.report (with_set new a.whole) a.went mode level may);
     }
-each_goes done waits sites m b (Err stop) new counts mode level may a =
-    record { chosen = b.set; allowed = part_same b.set b.set refl; stands = a }
+each_goes done waits sites m b lost (Err stop) new counts mode level may nothing a = record { stands = by_all m b lost.before nothing ∙ a }

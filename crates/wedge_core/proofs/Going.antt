@@ -1,71 +1,186 @@
 -- A slice on its way.
-use Rattle.std.proofs.Common.{◌≡◌, ℕ, List, [], ◌∷◌, ◌++◌, Option, Result, refl, sym, ap, subst, ◌∙◌}
+use Rattle.std.proofs.Common.{◌≡◌, ℕ, ◌+◌, ◌≤◌, ◌<◌, zero, suc, replicate, length, Bool, true, false, List, [], ◌∷◌, ◌++◌, Option, Result, Ok, Err, refl, sym, ap, subst, ◌∙◌, append_assoc, arith}
+use Rattle.std.specs.List.{All, list_any}
 use Rattle.std.proofs.lemmas.List.{append-nil}
+use Rattle.std.proofs.lemmas.List.Elements.{All-nil, All-cons, All-append, All-replicate, All-weaker}
+use Rattle.pv_io.specs.declared.answer.Failed.{Failed}
 use Rattle.pv_io.specs.Sink.{Appends, AppendsFront}
+use Rattle.image_load.specs.declared.fault.Pause.TheVariants.{Reached, Stopped}
 use Rattle.board.specs.declared.devices.Board.{Board}
 use Rattle.board.specs.Boards.{given}
 use Rattle.ia32_types.specs.declared.stop.Stop.{Stop}
 use Rattle.machine_step.specs.declared.worked.Seen.{Seen}
 use Rattle.machine_step.specs.Worked.{whats}
 use Rattle.run_trace.specs.declared.items.Item.{Item}
+use Rattle.run_trace.specs.Notes.{Note}
 use Rattle.run_trace.specs.Text.{lines_of}
-use Rattle.machine_model.specs.State.{Setting, State}
+use Rattle.machine_model.specs.State.{Setting, State, Loosened}
 use Rattle.machine_model.specs.Step.{Report, Stands, stepped, step_of, items_at}
-use Rattle.machine_model.specs.Run.{Set, Steps, StopsAt, trace_of}
-use Rattle.wedge_core.specs.Parts.{IsPartOf, with_set}
-use Rattle.wedge_core.specs.Slices.{Counts, CountsOn}
-use Rattle.wedge_core.specs.Stepping.{Goes, Passes, StepAs}
-use Rattle.wedge_core.proofs.Parts.{part_same, part_join, part_allowed}
+use Rattle.machine_model.specs.Run.{Set, Steps, trace_of}
+use Rattle.machine_model.specs.Notes.{AreLeft, AreNotes, is_emptied, set_told}
+use Rattle.wedge_core.specs.Filled.{FillsOn}
+use Rattle.wedge_core.specs.Noted.{NotesOn, emptied_if, notes_then}
+use Rattle.wedge_core.specs.Parts.{IsPartOf, left_of, with_set}
+use Rattle.wedge_core.specs.Slices.{Counts, CountsOn, SliceAs}
+use Rattle.wedge_core.specs.Stepping.{Goes, Halts, Passes, StepAs}
+use Rattle.wedge_core.specs.declared.running.Lost.{Lost}
+use Rattle.wedge_core.proofs.Parts.{part_left, part_join, part_allowed}
 use Rattle.wedge_core.proofs.Joined.{steps_join, no_steps, steps_one, trace_join, counts_join, counts_none}
+use Rattle.wedge_core.proofs.Filling.{fills_same, fills_part, fills_join}
 use Rattle.wedge_core.proofs.Texts.{appends_both, appends_none, front_of, lines_join}
+use Rattle.wedge_core.proofs.EmptiedNotes.{SoFar, Tried, none_yet, try_next, go_next, so_far_later, told_is, told_more, told_none, told_before, up_to_later, tried_none, none_dropped, dropped_once, are_pages, steps_until}
+use Rattle.wedge_core.proofs.ToldSteps.{ToldBy, told_nothing, told_one, told_join, told_on, left_behind, steps_counted, are_told}
 
--- Some steps were done, and what is kept is part of what they left. Their lines were put, and the counts follow.
-pub record Going (m : Setting) (old now : State) (before after : Counts) (told tells : Option (List ℕ)) : Type 0 where
+-- each of these sets has no more pages than the first one, and than were filled since
+abbrev pub EachFilled : Set → ℕ → ℕ → List Set → Type 0
+EachFilled first before after sets = All (λ (set : Set). FillsOn first set before after) sets
+
+-- Some steps were done. What is kept is what they left, but for what the notes tell, by which they went too. Their lines
+-- were put, and the counts follow.
+pub record Going (m : Setting) (old now : State) (before after : Counts) (told tells : Option (List ℕ)) (fills filled : ℕ) (notes_on : List Note → Type 0) : Type 0 where
   pub sets : List Set
   pub reports : List Report
   pub whole : Set
+  pub notes : List Note
   pub steps : Steps m old sets reports (with_set now whole)
-  pub part : IsPartOf now.set whole
+  pub kept : now.set ≡ set_told notes now.step whole
+  pub by : ToldBy m old sets notes
+  pub so_far : SoFar old.step now.step notes
+  pub tells_notes : notes_on notes
+  pub each_filled : EachFilled old.set fills filled sets
+  pub enough : FillsOn old.set now.set fills filled
   pub text : Appends told tells (lines_of (trace_of reports))
   pub counts : CountsOn m reports before after
 
-pub going_none : (m : Setting) (b : State) (counts : Counts) (told : Option (List ℕ)) → Going m b b counts counts told told
-going_none m b counts told = record {
+pub going_none : (m : Setting) (b : State) (counts : Counts) (told : Option (List ℕ)) (fills : ℕ) (notes_on : List Note → Type 0) → notes_on [] → Going m b b counts counts told told fills fills notes_on
+going_none m b counts told fills notes_on none = record {
   sets = [];
   reports = [];
   whole = b.set;
+  notes = [];
   steps = no_steps m b;
-  part = part_same b.set b.set refl;
+  kept = refl;
+  by = told_nothing m b [];
+  so_far = none_yet b.step;
+  tells_notes = none;
+  each_filled = All-nil (λ (set : Set). FillsOn b.set set fills fills);
+  enough = fills_same b.set b.set fills refl;
   text = appends_none told;
   counts = counts_none m counts;
 }
 
+-- none of them is behind the first
+pub begun : (m : Setting) (old now : State) (a b : Counts) (told tells : Option (List ℕ)) (fills filled : ℕ) (notes_on : List Note → Type 0) → (g : Going m old now a b told tells fills filled notes_on) → old.step + length g.sets ≡ now.step
+begun m old now a b told tells fills filled notes_on g = sym (steps_counted m old g.sets g.reports (with_set now g.whole) g.steps)
+
+-- what is left of a set is part of it
+told_part : (b : Bool) (set : Set) → IsPartOf (left_of b set) set
+told_part b set = part_left b (left_of b set) set refl
+
+filled_later : (first : Set) (before mid after : ℕ) (sets : List Set) → mid ≤ after → EachFilled first before mid sets → EachFilled first before after sets
+filled_later first before mid after sets le h =
+    All-weaker (λ (set : Set). FillsOn first set before mid) (λ (set : Set). FillsOn first set before after)
+    (λ set f. let r = f.rises in let e = f.enough in record { rises = omega (arith, r, le); enough = omega (arith, e, le) }) sets h
+
+filled_push : (first : Set) (before after : ℕ) (sets : List Set) (set : Set) → EachFilled first before after sets → FillsOn first set before after → EachFilled first before after (sets ++ set ∷ [])
+filled_push first before after sets set h f =
+    let P = λ (x : Set). FillsOn first x before after in
+    All-append P sets (set ∷ []) h (All-cons P set [] f (All-nil P))
+
+enough_later : (first set : Set) (before mid after : ℕ) → mid ≤ after → FillsOn first set before mid → FillsOn first set before after
+enough_later first set before mid after le f =
+    let r = f.rises in
+    let e = f.enough in
+    record { rises = omega (arith, r, le); enough = omega (arith, e, le) }
+
+-- what is kept is part of what was left
+pub kept_part : (m : Setting) (old now : State) (a b : Counts) (told tells : Option (List ℕ)) (fills filled : ℕ) (notes_on : List Note → Type 0) → (g : Going m old now a b told tells fills filled notes_on) → IsPartOf now.set g.whole
+kept_part m old now a b told tells fills filled notes_on g =
+    subst (λ (x : Set). IsPartOf x g.whole) (sym (g.kept ∙ told_is now.step now.step g.whole g.notes g.so_far.until)) (told_part (list_any (is_emptied now.step) g.notes) g.whole)
+
+kept_allowed : (m : Setting) (old now : State) (a b : Counts) (told tells : Option (List ℕ)) (fills filled : ℕ) (notes_on : List Note → Type 0) → (g : Going m old now a b told tells fills filled notes_on) → Loosened m (with_set now g.whole) now.set
+kept_allowed m old now a b told tells fills filled notes_on g = part_allowed m (with_set now g.whole) now.set (kept_part m old now a b told tells fills filled notes_on g)
+
+-- the same step, by what was chosen
+chosen_there : (m : Setting) (now : State) (whole chosen : Set) → step_of m (with_set now whole) chosen ≡ step_of m now chosen
+unfolding step_of
+chosen_there m now whole chosen = refl
+
 -- steps in which nothing is seen
-pub going_past : (m : Setting) (old now new : State) (a b c : Counts) (told tells : Option (List ℕ)) → (g : Going m old now a b told tells) → Passes m now g.whole new b c → Going m old new a c told tells
-going_past m old now new a b c told tells g p =
-    let silent : trace_of (g.reports ++ p.reports) ≡ trace_of g.reports =
-    trace_join g.reports p.reports ∙ (ap (λ (l : List Item). trace_of g.reports ++ l) p.silent ∙ append-nil (trace_of g.reports)) in
-    record {
-      sets = g.sets ++ p.sets;
-      reports = g.reports ++ p.reports;
-      whole = p.left;
-      steps = steps_join m old (with_set now g.whole) (with_set new p.left) g.sets p.sets g.reports p.reports g.steps p.steps;
-      part = p.part;
-      text = subst (λ (l : List Item). Appends told tells (lines_of l)) (sym silent) g.text;
-      counts = counts_join m g.reports p.reports a b c g.counts p.counts;
-    }
+
+pub going_past : (m : Setting) (old now new : State) (a b c : Counts) (told tells : Option (List ℕ)) (fills mid filled : ℕ) (notes_on : List Note → Type 0) → (g : Going m old now a b told tells fills mid notes_on) → FillsOn now.set new.set mid filled
+    → Passes m now new b c → Going m old new a c told tells fills filled notes_on
+unfolding Steps
+going_past m old now new a b c told tells fills mid filled notes_on g f p = by p.n p.steps p.left
+  where
+    silent : trace_of (g.reports ++ p.reports) ≡ trace_of g.reports
+    silent = trace_join g.reports p.reports ∙ (ap (λ (l : List Item). trace_of g.reports ++ l) p.silent ∙ append-nil (trace_of g.reports))
+
+    put : Appends told tells (lines_of (trace_of (g.reports ++ p.reports)))
+    put = subst (λ (l : List Item). Appends told tells (lines_of l)) (sym silent) g.text
+
+    enough : FillsOn old.set new.set fills filled
+    enough = fills_join old.set now.set new.set fills mid filled g.enough f
+
+    rises : mid ≤ filled
+    rises = f.rises
+
+    by : (n : ℕ) → Steps m now (replicate n now.set) p.reports new → AreLeft m now (replicate n now.set) → Going m old new a c told tells fills filled notes_on
+    by zero steps left =
+        let same : g.reports ++ p.reports ≡ g.reports = ap (λ (l : List Report). g.reports ++ l) steps.0 ∙ append-nil g.reports in
+        record {
+          sets = g.sets;
+          reports = g.reports ++ p.reports;
+          whole = g.whole;
+          notes = g.notes;
+          steps = subst (λ (l : List Report). Steps m old g.sets l (with_set new g.whole)) (sym same) (subst (λ (x : State). Steps m old g.sets g.reports (with_set x g.whole)) (sym steps.1) g.steps);
+          kept = subst (λ (x : State). x.set ≡ set_told g.notes x.step g.whole) (sym steps.1) g.kept;
+          by = g.by;
+          so_far = subst (λ (x : State). SoFar old.step x.step g.notes) (sym steps.1) g.so_far;
+          tells_notes = g.tells_notes;
+          each_filled = filled_later old.set fills mid filled g.sets rises g.each_filled;
+          enough = enough;
+          text = put;
+          counts = counts_join m g.reports p.reports a b c g.counts p.counts;
+        }
+    by (suc n) steps left =
+        let count = steps_counted m now (replicate (suc n) now.set) p.reports new steps in
+        let later : now.step < new.step = omega (arith, count) in
+        let first : EachFilled old.set fills filled (replicate (suc n) now.set) = All-replicate (λ (set : Set). FillsOn old.set set fills filled) (suc n) now.set (enough_later old.set now.set fills mid filled rises g.enough) in
+        record {
+          sets = g.sets ++ replicate (suc n) now.set;
+          reports = g.reports ++ p.reports;
+          whole = new.set;
+          notes = g.notes;
+          steps = steps_join m old (with_set now g.whole) new g.sets (replicate (suc n) now.set) g.reports p.reports g.steps
+              (steps.0, steps.1, steps.2, kept_allowed m old now a b told tells fills mid notes_on g, chosen_there m now g.whole now.set ∙ steps.4, steps.5, steps.6);
+          kept = sym (told_none now.step new.step new.set g.notes later g.so_far.until);
+          by = told_join m old (with_set now g.whole) g.sets (replicate (suc n) now.set) g.reports g.notes g.steps g.by (left_behind m now g.whole (replicate (suc n) now.set) g.notes g.kept g.so_far.until left);
+          so_far = so_far_later old.step now.step new.step g.notes later g.so_far;
+          tells_notes = g.tells_notes;
+          each_filled = All-append (λ (set : Set). FillsOn old.set set fills filled) g.sets (replicate (suc n) now.set) (filled_later old.set fills mid filled g.sets rises g.each_filled) first;
+          enough = enough;
+          text = put;
+          counts = counts_join m g.reports p.reports a b c g.counts p.counts;
+        }
 
 -- the state to which the events of its step were given
 abbrev pub eventful : Setting → State → State
 eventful m b = record b { board = given b.board m.script b.step }
 
 -- Some steps were done, and one more. Of its lines something was put.
-pub record Stepped (m : Setting) (old now new : State) (seen : Seen) (before after : Counts) (told tells : Option (List ℕ)) : Type 0 where
+pub record Stepped (m : Setting) (old now new : State) (seen : Seen) (before after : Counts) (told tells : Option (List ℕ)) (fills filled : ℕ) (notes_on : List Note → Type 0) : Type 0 where
   pub sets : List Set
   pub reports : List Report
   pub whole : Set
+  pub notes : List Note
   pub steps : Steps m old sets reports (with_set new whole)
-  pub part : IsPartOf new.set whole
+  pub kept : new.set ≡ set_told notes new.step whole
+  pub by : ToldBy m old sets notes
+  pub so_far : SoFar old.step new.step notes
+  pub tells_notes : notes_on notes
+  pub each_filled : EachFilled old.set fills filled sets
+  pub enough : FillsOn old.set new.set fills filled
   pub front : List Item
   pub trace : trace_of reports ≡ front ++ items_at now.step (whats seen)
   pub text : Appends told tells (lines_of front)
@@ -76,16 +191,68 @@ chosen_first : (m : Setting) (now : State) (whole chosen : Set) → step_of m (w
 unfolding step_of
 chosen_first m now whole chosen = refl
 
-pub going_on : (m : Setting) (old now new : State) (seen : Seen) (a b c : Counts) (told tells : Option (List ℕ)) → (g : Going m old now a b told tells) → Goes m (eventful m now) seen new b c → Stepped m old now new seen a c told tells
-going_on m old now new seen a b c told tells g r =
-    let allowed = part_allowed m (with_set now g.whole) r.chosen (part_join r.chosen now.set g.whole r.allowed g.part) in
-    let one = steps_one m (with_set now g.whole) (with_set new r.whole) r.chosen r.report allowed (chosen_first m now g.whole r.chosen ∙ r.went) in
+-- the next step is tried, before which all translations may have been dropped
+module _ (m : Setting) (old now : State) (a b : Counts) (told tells : Option (List ℕ)) (fills mid : ℕ) (notes_on : List Note → Type 0) (g : Going m old now a b told tells fills mid notes_on) (dropped : Bool) where
+  abbrev pub notes_tried : List Note
+  notes_tried = g.notes ++ emptied_if dropped now.step
+
+  abbrev pub chosen : Set
+  chosen = left_of dropped now.set
+
+  pub here : old.step + length g.sets ≡ now.step
+  here = begun m old now a b told tells fills mid notes_on g
+
+  pub first : old.step ≤ now.step
+  first = let n = here in omega (arith, n)
+
+  pub chosen_told : chosen ≡ set_told notes_tried now.step g.whole
+  chosen_told = ap (left_of dropped) g.kept ∙ sym (told_more dropped now.step g.whole g.notes g.so_far.until)
+
+  pub chosen_allowed : Loosened m (with_set now g.whole) chosen
+  chosen_allowed = part_allowed m (with_set now g.whole) chosen (part_join chosen now.set g.whole (told_part dropped now.set) (kept_part m old now a b told tells fills mid notes_on g))
+
+  pub tried : Tried old.step now.step notes_tried
+  tried = try_next dropped old.step now.step g.notes first g.so_far
+
+  pub by_then : ToldBy m old g.sets notes_tried
+  by_then = told_on dropped m old g.sets g.notes now.step (let n = here in omega (arith, n)) g.so_far.until g.by
+
+  pub enough_chosen : FillsOn old.set chosen fills mid
+  enough_chosen = fills_join old.set now.set chosen fills mid mid g.enough (fills_part now.set chosen mid (told_part dropped now.set))
+
+-- and goes
+pub going_on : (m : Setting) (old now new : State) (lost : Lost) (seen : Seen) (a b c : Counts) (told tells : Option (List ℕ)) (fills mid filled : ℕ) (notes_on notes_after : List Note → Type 0)
+    → (g : Going m old now a b told tells fills mid notes_on) → Goes m (eventful m now) lost seen new b c → new.step ≡ now.step + 1 → FillsOn now.set new.set mid filled
+    → ((notes : List Note) → notes_on notes → notes_after (notes ++ notes_then lost now.step)) → Stepped m old now new seen a c told tells fills filled notes_after
+going_on m old now new lost seen a b c told tells fills mid filled notes_on notes_after g r count f on =
+    let set = left_of lost.before now.set in
+    let before = g.notes ++ emptied_if lost.before now.step in
+    let notes = before ++ emptied_if lost.after (now.step + 1) in
+    let allowed = chosen_allowed m old now a b told tells fills mid notes_on g lost.before in
+    let tried_now = tried m old now a b told tells fills mid notes_on g lost.before in
+    let low = first m old now a b told tells fills mid notes_on g lost.before in
+    let n = here m old now a b told tells fills mid notes_on g lost.before in
+    let up = up_to_later now.step (now.step + 1) before (omega arith) tried_now.until in
+    let one = steps_one m (with_set now g.whole) (with_set new r.whole) set r.report allowed (chosen_first m now g.whole set ∙ r.went) in
+    let rises = f.rises in
+    let is : set_told notes (now.step + 1) r.whole ≡ left_of lost.after r.whole =
+    told_more lost.after (now.step + 1) r.whole before up ∙ ap (left_of lost.after) (told_none now.step (now.step + 1) r.whole before (omega arith) tried_now.until) in
+    let by_before = told_on lost.after m old g.sets before (now.step + 1) (omega (arith, n)) up (by_then m old now a b told tells fills mid notes_on g lost.before) in
+    let by_now = told_one m (with_set now g.whole) set notes
+    (chosen_told m old now a b told tells fills mid notes_on g lost.before ∙ sym (told_before lost.after (now.step + 1) now.step g.whole before (omega arith) up)) in
     record {
-      sets = g.sets ++ r.chosen ∷ [];
+      sets = g.sets ++ set ∷ [];
       reports = g.reports ++ r.report ∷ [];
       whole = r.whole;
-      steps = steps_join m old (with_set now g.whole) (with_set new r.whole) g.sets (r.chosen ∷ []) g.reports (r.report ∷ []) g.steps one;
-      part = r.part;
+      notes = notes;
+      steps = steps_join m old (with_set now g.whole) (with_set new r.whole) g.sets (set ∷ []) g.reports (r.report ∷ []) g.steps one;
+      kept = r.left ∙ (sym is ∙ ap (λ (s : ℕ). set_told notes s r.whole) (sym count));
+      by = told_join m old (with_set now g.whole) g.sets (set ∷ []) g.reports notes g.steps by_before by_now;
+      so_far = subst (λ (s : ℕ). SoFar old.step s notes) (sym count) (go_next lost.after old.step now.step before low tried_now);
+      tells_notes = subst notes_after (sym (append_assoc g.notes (emptied_if lost.before now.step) (emptied_if lost.after (now.step + 1)))) (on g.notes g.tells_notes);
+      each_filled = filled_push old.set fills filled g.sets set (filled_later old.set fills mid filled g.sets rises g.each_filled)
+          (enough_later old.set set fills mid filled rises (enough_chosen m old now a b told tells fills mid notes_on g lost.before));
+      enough = fills_join old.set now.set new.set fills mid filled g.enough f;
       front = trace_of g.reports;
       trace = trace_join g.reports (r.report ∷ []) ∙ ap (λ (l : List Item). trace_of g.reports ++ l) (append-nil r.report.items ∙ r.items);
       text = g.text;
@@ -93,34 +260,114 @@ going_on m old now new seen a b c told tells g r =
     }
 
 -- its lines were put
-pub stepped_put : (m : Setting) (old now new : State) (seen : Seen) (a b : Counts) (told tells last : Option (List ℕ)) → Stepped m old now new seen a b told tells
-    → Appends tells last (lines_of (items_at now.step (whats seen))) → Going m old new a b told last
-stepped_put m old now new seen a b told tells last s put =
+pub stepped_put : (m : Setting) (old now new : State) (seen : Seen) (a b : Counts) (told tells last : Option (List ℕ)) (fills filled : ℕ) (notes_on : List Note → Type 0) → Stepped m old now new seen a b told tells fills filled notes_on
+    → Appends tells last (lines_of (items_at now.step (whats seen))) → Going m old new a b told last fills filled notes_on
+stepped_put m old now new seen a b told tells last fills filled notes_on s put =
     let is : lines_of (trace_of s.reports) ≡ lines_of s.front ++ lines_of (items_at now.step (whats seen)) = ap lines_of s.trace ∙ lines_join s.front (items_at now.step (whats seen)) in
     record {
       sets = s.sets;
       reports = s.reports;
       whole = s.whole;
+      notes = s.notes;
       steps = s.steps;
-      part = s.part;
+      kept = s.kept;
+      by = s.by;
+      so_far = s.so_far;
+      tells_notes = s.tells_notes;
+      each_filled = s.each_filled;
+      enough = s.enough;
       text = subst (λ (l : List ℕ). Appends told last l) (sym is) (appends_both told tells last (lines_of s.front) (lines_of (items_at now.step (whats seen))) s.text put);
       counts = s.counts;
     }
 
 -- or a front of them
-pub stepped_front : (m : Setting) (old now new : State) (seen : Seen) (a b : Counts) (told tells last : Option (List ℕ)) → (s : Stepped m old now new seen a b told tells)
+pub stepped_front : (m : Setting) (old now new : State) (seen : Seen) (a b : Counts) (told tells last : Option (List ℕ)) (fills filled : ℕ) (notes_on : List Note → Type 0) → (s : Stepped m old now new seen a b told tells fills filled notes_on)
     → AppendsFront tells last (lines_of (items_at now.step (whats seen))) → AppendsFront told last (lines_of (trace_of s.reports))
-stepped_front m old now new seen a b told tells last s put =
+stepped_front m old now new seen a b told tells last fills filled notes_on s put =
     let is : lines_of (trace_of s.reports) ≡ lines_of s.front ++ lines_of (items_at now.step (whats seen)) = ap lines_of s.trace ∙ lines_join s.front (items_at now.step (whats seen)) in
     subst (λ (l : List ℕ). AppendsFront told last l) (sym is) (front_of told tells last (lines_of s.front) (lines_of (items_at now.step (whats seen))) s.text put)
 
+-- ---- where the slice ends
+
+are_notes : (m : Setting) (old : State) (sets : List Set) (last : ℕ) (notes : List Note) → Tried old.step last notes → AreNotes m old sets last notes
+are_notes m old sets last notes h = record {
+  ordered = h.ordered;
+  until = steps_until last notes h.until;
+  pages = are_pages last notes h.until;
+  few = λ step. let few = h.few step in omega (arith, few);
+  once = λ step page. dropped_once last step page notes h.until;
+  held = λ earlier now later page e is. absurd (let no : false ≡ true = sym (none_dropped last now.before.step page notes h.until) ∙ is in cc);
+}
+
+-- all steps were done
+pub reached : (m : Setting) (bound : ℕ) (old now : State) (a b : Counts) (told tells : Option (List ℕ)) (fills filled : ℕ) (notes_on : List Note → Type 0) → Going m old now a b told tells fills filled notes_on → now.step ≡ bound
+    → SliceAs m bound old now a b told tells fills filled notes_on (Ok Reached)
+reached m bound old now a b told tells fills filled notes_on g n = record {
+  sets = g.sets;
+  reports = g.reports;
+  last = with_set now g.whole;
+  notes = g.notes;
+  steps = g.steps;
+  ends = (n, refl, kept_part m old now a b told tells fills filled notes_on g);
+  text = g.text;
+  counts = g.counts;
+  noted = record {
+    told = are_told m old g.sets g.notes g.by;
+    are = are_notes m old g.sets now.step g.notes (tried_none old.step now.step g.notes g.so_far);
+    ends = g.kept;
+  };
+  tells_notes = g.tells_notes;
+  each_filled = filled_push old.set fills filled g.sets (set_told g.notes now.step g.whole) g.each_filled (subst (λ (x : Set). FillsOn old.set x fills filled) g.kept g.enough);
+}
+
 -- the next step stops
-pub stops_next : (m : Setting) (old now : State) (a b : Counts) (told tells : Option (List ℕ)) (stop : Stop) (chosen : Set) → (g : Going m old now a b told tells) → IsPartOf chosen now.set
-    → stepped m (with_set (eventful m now) chosen) ≡ Stands stop → StopsAt m (with_set now g.whole) stop
-stops_next m old now a b told tells stop chosen g allowed stands = record {
-  set = chosen;
-  allowed = part_allowed m (with_set now g.whole) chosen (part_join chosen now.set g.whole allowed g.part);
-  stands = chosen_first m now g.whole chosen ∙ stands;
+pub stopped : (m : Setting) (bound : ℕ) (old now new : State) (lost : Lost) (stop : Stop) (a b : Counts) (told tells : Option (List ℕ)) (fills mid filled : ℕ) (notes_on notes_after : List Note → Type 0)
+    → Going m old now a b told tells fills mid notes_on → Halts m (eventful m now) lost stop → now.step < bound → new.step ≡ now.step → mid ≤ filled
+    → ((notes : List Note) → notes_on notes → notes_after (notes ++ emptied_if lost.before now.step)) → SliceAs m bound old new a b told tells fills filled notes_after (Ok (Stopped stop))
+stopped m bound old now new lost stop a b told tells fills mid filled notes_on notes_after g h lt still rises on =
+    let set = left_of lost.before now.set in
+    let notes = g.notes ++ emptied_if lost.before now.step in
+    let told_set = chosen_told m old now a b told tells fills mid notes_on g lost.before in
+    let stands = chosen_first m now g.whole set ∙ h.stands in
+    record {
+      sets = g.sets;
+      reports = g.reports;
+      last = with_set now g.whole;
+      notes = notes;
+      steps = g.steps;
+      ends = (lt, still, record { set = set; allowed = chosen_allowed m old now a b told tells fills mid notes_on g lost.before; stands = stands });
+      text = g.text;
+      counts = g.counts;
+      noted = record {
+        told = are_told m old g.sets notes (by_then m old now a b told tells fills mid notes_on g lost.before);
+        are = are_notes m old g.sets now.step notes (tried m old now a b told tells fills mid notes_on g lost.before);
+        ends = subst (λ (x : Set). step_of m (with_set now g.whole) x ≡ Stands stop) told_set stands;
+      };
+      tells_notes = on g.notes g.tells_notes;
+      each_filled = filled_push old.set fills filled g.sets (set_told notes now.step g.whole) (filled_later old.set fills mid filled g.sets rises g.each_filled)
+          (subst (λ (x : Set). FillsOn old.set x fills filled) told_set (enough_later old.set set fills mid filled rises (enough_chosen m old now a b told tells fills mid notes_on g lost.before)));
+    }
+
+-- the lines of a step were not put
+pub failed : (m : Setting) (bound : ℕ) (old now new : State) (seen : Seen) (fault : Failed) (a b : Counts) (told tells last : Option (List ℕ)) (fills filled : ℕ) (notes_on : List Note → Type 0)
+    → Stepped m old now new seen a b told tells fills filled notes_on → AppendsFront tells last (lines_of (items_at now.step (whats seen))) → new.step ≤ bound
+    → SliceAs m bound old new a b told last fills filled notes_on (Err fault)
+failed m bound old now new seen fault a b told tells last fills filled notes_on s put le = record {
+  sets = s.sets;
+  reports = s.reports;
+  last = with_set new s.whole;
+  notes = s.notes;
+  steps = s.steps;
+  ends = le;
+  text = stepped_front m old now new seen a b told tells last fills filled notes_on s put;
+  counts = s.counts;
+  noted = record {
+    told = are_told m old s.sets s.notes s.by;
+    are = are_notes m old s.sets new.step s.notes (tried_none old.step new.step s.notes s.so_far);
+    ends = tt;
+  };
+  tells_notes = s.tells_notes;
+  each_filled = filled_push old.set fills filled s.sets (set_told s.notes new.step s.whole) s.each_filled (subst (λ (x : Set). FillsOn old.set x fills filled) s.kept s.enough);
 }
 
 abbrev pub counted : ℕ → ℕ → Counts
@@ -130,9 +377,16 @@ pub counts_same : (retired retired' passed passed' : ℕ) → retired' ≡ retir
 counts_same retired retired' passed passed' r p = λ i. counted (r i) (p i)
 
 -- a step behind an empty stretch, whose events were given
-pub turned : (m : Setting) (now mid new : State) (board : Board) (result : Result Seen Stop) (a b c : Counts) → mid ≡ record now { board = board } → board ≡ given now.board m.script now.step → b ≡ a
-    → StepAs m mid result new b c → StepAs m (eventful m now) result new a c
-turned m now mid new board result a b c is events same step =
-    subst (λ (x : Counts). StepAs m (eventful m now) result new x c) same
-    (subst (λ (d : Board). StepAs m (record now { board = d }) result new b c) events
-    (subst (λ (x : State). StepAs m x result new b c) is step))
+pub turned : (m : Setting) (now mid new : State) (board : Board) (lost : Lost) (result : Result Seen Stop) (a b c : Counts) → mid ≡ record now { board = board } → board ≡ given now.board m.script now.step → b ≡ a
+    → StepAs m mid lost result new b c → StepAs m (eventful m now) lost result new a c
+turned m now mid new board lost result a b c is events same step =
+    subst (λ (x : Counts). StepAs m (eventful m now) lost result new x c) same
+    (subst (λ (d : Board). StepAs m (record now { board = d }) lost result new b c) events
+    (subst (λ (x : State). StepAs m x lost result new b c) is step))
+
+-- notes go on with those of one step more
+pub notes_on_more : (wanted : Bool) (told tells last : List Note → Type 0) (more : List Note) → NotesOn wanted tells last more → (notes : List Note) → NotesOn wanted told tells notes → NotesOn wanted told last (notes ++ more)
+notes_on_more wanted told tells last more on notes h w so_far here = subst last (append_assoc so_far notes more) (on w (so_far ++ notes) (h w so_far here))
+
+pub notes_on_none : (wanted : Bool) (told : List Note → Type 0) → NotesOn wanted told told []
+notes_on_none wanted told w so_far here = subst told (sym (append-nil so_far)) here

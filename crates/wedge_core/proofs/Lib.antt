@@ -1,3 +1,4 @@
+pub mod EmptiedNotes
 pub mod Opening
 pub mod Bools
 pub mod Parts
@@ -26,6 +27,7 @@ pub mod Landing
 pub mod Stretched
 pub mod Preparing
 pub mod Uncounted
+pub mod ToldSteps
 pub mod Trying
 pub mod LookedUses
 pub mod OnceRan
@@ -37,7 +39,8 @@ pub mod Asking
 pub mod Nexts
 pub mod Before
 pub mod AfterTry
-pub mod AskedOnce
 pub mod Filling
 pub mod Guests
 pub mod Owning
+pub mod Closing
+pub mod Losing

@@ -28,12 +28,11 @@ use Rattle.native_steps.specs.Stands.{IsWedge, IsHost, IsLevel, shown}
 use Rattle.native_steps.specs.TextLaws.{TextLaws}
 use Rattle.native_steps.proofs.Together.{stepped_by}
 use Rattle.wedge_core.specs.Attempts.{Idle}
-use Rattle.wedge_core.specs.Parts.{IsPartOf}
+use Rattle.wedge_core.specs.Parts.{left_of}
 use Rattle.wedge_core.specs.Tries.{OthersAreUsers}
 use Rattle.wedge_core.specs.Views.{is_outside, may_run}
 use Rattle.wedge_core.proofs.Bools.{both, is_not}
 use Rattle.wedge_core.proofs.Insensitive.{insensitive}
-use Rattle.wedge_core.proofs.Parts.{part_same}
 
 none_of : {A : Type 0} (o : Option A) → is_none o ≡ true → o ≡ None
 none_of None e = refl
@@ -107,18 +106,16 @@ starts m b mode s mode_is laid laid_is e = e ∙ (λ i. space_at_start (sym mode
 pub step_is : (m : Setting) (b : State) → IsLevel (not (b.cpu.cpl == 3)) b.cpu.cpl → IsNext m (not (b.cpu.cpl == 3)) b → stepped m b ≡ fetches_next m (unheld b) (space_at_start m.mode m.frames b.cpu b.ram b.set)
 step_is m b level next = stepped_by m (not (b.cpu.cpl == 3)) b level next
 
-pub idle : (m : Setting) (b : State) (worked : Worked) (board : Board) (t : Space) (new : State) → stepped m b ≡ went_as b worked board t → new.cpu ≡ worked.cpu → new.ram ≡ t.ram → new.board ≡ board_step board → new.step ≡ b.step + 1
-    → IsPartOf new.set (dropping worked.dropped t.set) → direct_in m.image.sites (completed_by worked.completed) ≡ [] → Idle m b worked.seen new
-idle m b worked board t new e cpu ram boards step part none =
+pub idle : (m : Setting) (b : State) (after : Bool) (worked : Worked) (board : Board) (t : Space) (new : State) → stepped m b ≡ went_as b worked board t → new.cpu ≡ worked.cpu → new.ram ≡ t.ram → new.board ≡ board_step board → new.step ≡ b.step + 1
+    → new.set ≡ left_of after (dropping worked.dropped t.set) → direct_in m.image.sites (completed_by worked.completed) ≡ [] → Idle m b false after worked.seen new
+idle m b after worked board t new e cpu ram boards step left none =
     let whole : Set = dropping worked.dropped t.set in
     record {
-      chosen = b.set;
-      allowed = part_same b.set b.set refl;
       alone = record {
         report = record { items = items_at b.step (whats worked.seen); completed = completed_by worked.completed; pages = t.went; tables = t.tables; wrote = t.wrote };
         whole = whole;
         went = e ∙ (λ i. Went (record { items = items_at b.step (whats worked.seen); completed = completed_by worked.completed; pages = t.went; tables = t.tables; wrote = t.wrote }) (record { cpu = sym cpu i; ram = sym ram i; set = whole; board = sym boards i; step = sym step i }));
-        part = part;
+        left = left;
         items = refl;
       };
       uncounted = none;

@@ -32,13 +32,14 @@ use Rattle.native_steps.specs.Forward.{Follows}
 use Rattle.native_steps.specs.Stands.{IsHost, shown}
 use Rattle.wedge_core.specs.Attempts.{Asks, Idle}
 use Rattle.wedge_core.specs.Filled.{FillsOn}
-use Rattle.wedge_core.specs.Parts.{with_set}
+use Rattle.wedge_core.specs.Parts.{left_of, with_set}
 use Rattle.wedge_core.specs.Pools.{Keeps}
 use Rattle.wedge_core.specs.Views.{view_by}
 use Rattle.wedge_core.specs.Ran.{Ran, landed}
 use Rattle.wedge_core.specs.Slices.{Counts, CountsOn}
 use Rattle.wedge_core.specs.Standing.{IsHeld, IsAble, AreOpen, ground, state_of, wp_of}
 use Rattle.wedge_core.specs.Stepping.{AloneAs, Goes}
+use Rattle.wedge_core.specs.declared.running.Lost.{Lost}
 use Rattle.wedge_core.specs.declared.running.Running.{Running}
 use Rattle.wedge_core.proofs.Asked.{once_goes}
 use Rattle.wedge_core.proofs.Boards.{one_step}
@@ -107,17 +108,17 @@ module _ {S : Type 0} (stands : S → List ℕ → Type 0) (frames : S → List 
       ∙ ap (λ (g : Running S). state_of stands frames slots m g now) (sym is)
 
   -- it went, from what was kept before the instruction's pages were filled
-  pub asked_goes : (m : Setting) (v : View) (b : State) (old new : Running S) (memory now : List ℕ) (before after : Counts) (done : ℕ)
-      → (a : Asks m v b (state_of stands frames slots m old memory) memory)
+  pub asked_goes : (m : Setting) (v : View) (b : State) (old new : Running S) (memory now : List ℕ) (before after : Counts) (done : ℕ) (lost : Lost)
+      → (a : Asks m v b lost.before lost.after (state_of stands frames slots m old memory) memory)
       → Ran v 1 (standing old.cpu.regs memory before.retired before.passed) old done new now after.retired after.passed
       → entries_of (slots old.shadows now) ≡ entries_of (slots old.shadows memory)
-      → Goes m b Nothing (state_of stands frames slots m new now) before after
-  asked_goes m v b old new memory now before after done a ran entries =
+      → Goes m b lost Nothing (state_of stands frames slots m new now) before after
+  asked_goes m v b old new memory now before after done lost a ran entries =
       let filled = state_of stands frames slots m old memory in
       let f = a.completes.follows in
       let r = ran_once m v filled old memory a.regs before after done new now refl a.completes ran in
       let is = after_is m v old new memory now a.regs a.completes.after_memory f r.new_is r.memory_is entries in
-      once_goes m b filled (state_of stands frames slots m new now) before after a.chosen a.allowed
+      once_goes m b filled (state_of stands frames slots m new now) before after lost a.kept
       (record { report = f.report; went = f.went ∙ ap (λ (x : State). Went f.report x) is; silent = f.unseen; counts = counts_one m v filled memory a.regs a.completes.after_memory before after f r.retired r.passed })
       a.same
 
@@ -161,9 +162,9 @@ module _ {S : Type 0} (stands : S → List ℕ → Type 0) (frames : S → List 
 
   -- The guest g0 was asked for one instruction: its pages were filled, which gave g1, and the host did it, which gave g2.
   pub record IsOnce (directory : S → Side → ℕ) (image : Image) (g0 g1 g2 : Running S) (pool : Pool) (m0 m1 m2 : List ℕ) (before after : Counts) (done : ℕ) : Type 0 where
-    pub asks : (script : Events) → Asks (wedge image script g0.frames) (view_by (directory g1.shadows) g0.cpu) (state_of stands frames slots (wedge image script g0.frames) g0 m0) (state_of stands frames slots (wedge image script g0.frames) g1 m1) m1
+    pub asks : (script : Events) → Asks (wedge image script g0.frames) (view_by (directory g1.shadows) g0.cpu) (state_of stands frames slots (wedge image script g0.frames) g0 m0) g1.lost.before g1.lost.after (state_of stands frames slots (wedge image script g0.frames) g1 m1) m1
     pub ran : Ran (view_by (directory g1.shadows) g1.cpu) 1 (standing g1.cpu.regs m1 before.retired before.passed) g1 done g2 m2 after.retired after.passed
-    pub same : g1 ≡ record g0 { shadows = g1.shadows; held = g1.held; fills = g1.fills }
+    pub same : g1 ≡ record g0 { shadows = g1.shadows; held = g1.held; fills = g1.fills; lost = g1.lost }
     pub held : IsHeld stands frames slots (ground image g0.frames) (record g1 { step = g0.step + 1 }) pool m1
     pub kept : drop (4096 * g0.frames) m2 ≡ drop (4096 * g0.frames) m1 → length m2 ≡ length m1 → SameKept g1.shadows pool m1 m2
 
@@ -174,11 +175,11 @@ module _ {S : Type 0} (stands : S → List ℕ → Type 0) (frames : S → List 
     step_is : g1.step ≡ g0.step
     step_is = ap (λ (g : Running S). g.step) o.same
 
-    asks_now : (script : Events) → Asks (wedge image script g0.frames) (view_by (directory g1.shadows) g1.cpu) (state_of stands frames slots (wedge image script g0.frames) g0 m0) (state_of stands frames slots (wedge image script g0.frames) g1 m1) m1
+    asks_now : (script : Events) → Asks (wedge image script g0.frames) (view_by (directory g1.shadows) g1.cpu) (state_of stands frames slots (wedge image script g0.frames) g0 m0) g1.lost.before g1.lost.after (state_of stands frames slots (wedge image script g0.frames) g1 m1) m1
     asks_now script =
-        subst (λ (x : Cpu). Asks (wedge image script g0.frames) (view_by (directory g1.shadows) x) (state_of stands frames slots (wedge image script g0.frames) g0 m0) (state_of stands frames slots (wedge image script g0.frames) g1 m1) m1) (sym cpu_is) (o.asks script)
+        subst (λ (x : Cpu). Asks (wedge image script g0.frames) (view_by (directory g1.shadows) x) (state_of stands frames slots (wedge image script g0.frames) g0 m0) g1.lost.before g1.lost.after (state_of stands frames slots (wedge image script g0.frames) g1 m1) m1) (sym cpu_is) (o.asks script)
 
-    ran : (a : Asks (ground image g0.frames) (view_by (directory g1.shadows) g1.cpu) (state_of stands frames slots (ground image g0.frames) g0 m0) (state_of stands frames slots (ground image g0.frames) g1 m1) m1)
+    ran : (a : Asks (ground image g0.frames) (view_by (directory g1.shadows) g1.cpu) (state_of stands frames slots (ground image g0.frames) g0 m0) g1.lost.before g1.lost.after (state_of stands frames slots (ground image g0.frames) g1 m1) m1)
         → RanOnce g1 a.regs a.completes.after_memory done g2 m2 before after
     ran a = ran_once (ground image g0.frames) (view_by (directory g1.shadows) g1.cpu) (state_of stands frames slots (ground image g0.frames) g1 m1) g1 m1 a.regs before after done g2 m2 refl a.completes o.ran
 
@@ -194,9 +195,13 @@ module _ {S : Type 0} (stands : S → List ℕ → Type 0) (frames : S → List 
     shadows_are : g2.shadows ≡ g1.shadows
     shadows_are = let a = asks_now [] in ap (λ (g : Running S). g.shadows) (ran a).new_is
 
-    pub once_goes_on : (script : Events) → Goes (wedge image script g0.frames) (state_of stands frames slots (wedge image script g0.frames) g0 m0) Nothing (state_of stands frames slots (wedge image script g0.frames) g2 m2) before after
+    lost_is : g2.lost ≡ g1.lost
+    lost_is = let a = asks_now [] in ap (λ (g : Running S). g.lost) (ran a).new_is
+
+    pub once_goes_on : (script : Events) → Goes (wedge image script g0.frames) (state_of stands frames slots (wedge image script g0.frames) g0 m0) g2.lost Nothing (state_of stands frames slots (wedge image script g0.frames) g2 m2) before after
     once_goes_on script =
-        asked_goes (wedge image script g0.frames) (view_by (directory g1.shadows) g1.cpu) (state_of stands frames slots (wedge image script g0.frames) g0 m0) g1 g2 m1 m2 before after done (asks_now script) o.ran kept.entries_are
+        subst (λ (x : Lost). Goes (wedge image script g0.frames) (state_of stands frames slots (wedge image script g0.frames) g0 m0) x Nothing (state_of stands frames slots (wedge image script g0.frames) g2 m2) before after) (sym lost_is)
+        (asked_goes (wedge image script g0.frames) (view_by (directory g1.shadows) g1.cpu) (state_of stands frames slots (wedge image script g0.frames) g0 m0) g1 g2 m1 m2 before after done g1.lost (asks_now script) o.ran kept.entries_are)
 
     pub once_counts : g2.step ≡ g0.step + 1
     once_counts = let a = asks_now [] in let e = ap (λ (g : Running S). g.step) (ran a).new_is in let f = step_is in omega (arith, e, f)
@@ -244,22 +249,20 @@ module _ {S : Type 0} (stands : S → List ℕ → Type 0) (frames : S → List 
 -- ---- steps that went otherwise
 
 -- what the host had no part in
-pub alone_able : StepsKeepAble → (m : Setting) (b : State) (result : Result Seen Stop) (new : State) → m.mode ≡ wedge_mode m.image → IsAble b.cpu → AloneAs m b result new → OnOk result (IsAble new.cpu)
-alone_able keeps m b (Ok seen) new mode able a = keeps m b mode able a.report (with_set new a.whole) a.went
-alone_able keeps m b (Err stop) new mode able a = tt
+pub alone_able : StepsKeepAble → (m : Setting) (b : State) (after : Bool) (result : Result Seen Stop) (new : State) → m.mode ≡ wedge_mode m.image → IsAble b.cpu → AloneAs m b after result new → OnOk result (IsAble new.cpu)
+alone_able keeps m b after (Ok seen) new mode able a = keeps m b mode able a.report (with_set new a.whole) a.went
+alone_able keeps m b after (Err stop) new mode able a = tt
 
 -- what was begun for the host and went without it
-pub idle_able : StepsKeepAble → (m : Setting) (b : State) (seen : Seen) (new : State) → m.mode ≡ wedge_mode m.image → IsAble b.cpu → Idle m b seen new → IsAble new.cpu
-idle_able keeps m b seen new mode able i = keeps m (with_set b i.chosen) mode able i.alone.report (with_set new i.alone.whole) i.alone.went
+pub idle_able : StepsKeepAble → (m : Setting) (b : State) (before after : Bool) (seen : Seen) (new : State) → m.mode ≡ wedge_mode m.image → IsAble b.cpu → Idle m b before after seen new → IsAble new.cpu
+idle_able keeps m b before after seen new mode able i = keeps m (with_set b (left_of before b.set)) mode able i.alone.report (with_set new i.alone.whole) i.alone.went
 
-pub idle_goes : (m : Setting) (b : State) (seen : Seen) (new : State) (before after : Counts) → before ≡ after → Idle m b seen new → Goes m b seen new before after
-idle_goes m b seen new before after same i = record {
-  chosen = i.chosen;
-  allowed = i.allowed;
+pub idle_goes : (m : Setting) (b : State) (lost : Lost) (seen : Seen) (new : State) (before after : Counts) → before ≡ after → Idle m b lost.before lost.after seen new → Goes m b lost seen new before after
+idle_goes m b lost seen new before after same i = record {
   report = i.alone.report;
   whole = i.alone.whole;
   went = i.alone.went;
-  part = i.alone.part;
+  left = i.alone.left;
   items = i.alone.items;
   counts = subst (λ (x : Counts). CountsOn m (i.alone.report ∷ []) before x) same (none_counts m i.alone.report before i.uncounted);
 }

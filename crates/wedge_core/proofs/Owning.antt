@@ -1,9 +1,9 @@
 -- What a guest leaves of a pool it owns as it did.
-use Rattle.std.proofs.Common.{◌≡◌, ℕ, ◌+◌, ◌*◌, ◌<◌, ◌≤◌, List, [], ◌∷◌, length, Ok, Err, Result, arith}
-use Rattle.frame_pool.specs.Frames.{IsNotIn, AreDistinct, AreWithin}
-use Rattle.frame_pool.specs.Pool.{free_list, Stands}
+use Rattle.std.proofs.Common.{ℕ, ◌+◌, ◌<◌, ◌≤◌, List, [], ◌∷◌, Ok, Err, Result, arith}
+use Rattle.frame_pool.specs.Frames.{AreDistinct, AreWithin}
+use Rattle.frame_pool.specs.Pool.{free_list}
 use Rattle.frame_pool.specs.declared.Pool.{Pool}
-use Rattle.frame_pool.specs.Held.{hit, times, Owns}
+use Rattle.frame_pool.specs.Held.{times, Owns}
 use Rattle.frame_pool.proofs.Held.{Owns-sum, Owns-within}
 use Rattle.frame_pool.proofs.Lengths.{hit-self, times-cons, IsNotIn-times}
 use Rattle.pv_io.specs.declared.answer.Failed.{Failed}

@@ -1,7 +1,8 @@
 -- Some of a set of translations.
-use Rattle.std.proofs.Common.{◌≡◌, ℕ, None, refl, sym, ap, ◌∙◌, inl, inr}
-use Rattle.std.specs.FinMap.{get, empty, remove, get-empty}
+use Rattle.std.proofs.Common.{◌≡◌, ℕ, Bool, true, false, ◌||◌, None, refl, sym, ap, ◌∙◌, inl, inr}
+use Rattle.std.specs.FinMap.{get, empty, remove, get-empty, same_map, nat_cmp-IsAntisymmetric}
 use Rattle.std.specs.Ordering.{nat_cmp}
+use Rattle.std.proofs.lemmas.Cmp.{nat_cmp_total}
 use Rattle.std.proofs.lemmas.Bool.Decides.{eqb_tells}
 use Rattle.step_mem.specs.Changes.{AreWithin}
 use Rattle.step_mem.proofs.Changed.{get_with_same, get_with_other}
@@ -10,7 +11,7 @@ use Rattle.machine_step.specs.declared.worked.Dropped.TheVariants as dropped
 use Rattle.machine_step.specs.Worked.{dropping}
 use Rattle.machine_model.specs.Run.{Set}
 use Rattle.machine_model.specs.State.{Setting, State, Loosened}
-use Rattle.wedge_core.specs.Parts.{IsPartOf}
+use Rattle.wedge_core.specs.Parts.{IsPartOf, left_of}
 use Rattle.wedge_core.proofs.Bools.{none_some}
 
 pub part_same : (part whole : Set) → part ≡ whole → IsPartOf part whole
@@ -25,18 +26,6 @@ part_join a b c p q = record { each = λ page e h. q.each page e (p.each page e 
 -- a part may be gone by
 pub part_allowed : (m : Setting) (b : State) (part : Set) → IsPartOf part b.set → Loosened m b part
 part_allowed m b part h = record { each = λ page e is. inl (h.each page e is) }
-
--- and so behind what leaves
-pub part_dropped : (d : Dropped) (a b : Set) → IsPartOf a b → IsPartOf (dropping d a) (dropping d b)
-part_dropped dropped.Nothing a b p = p
-part_dropped (dropped.Page page) a b p = record {
-  each = λ q e is.
-      elim (eqb_tells q page) [
-        | inl t ↦ absurd (none_some e (sym (ap (λ k. get (remove a page) k) t.1 ∙ get_with_same a page None) ∙ is))
-        | inr n ↦ get_with_other b page None q n.1 ∙ p.each q e (sym (get_with_other a page None q n.1) ∙ is)
-      ];
-}
-part_dropped dropped.All a b p = part_same empty empty refl
 
 -- what is part of a set that lies within the frames lies there too
 pub part_within : (frames : ℕ) (part whole : Set) → IsPartOf part whole → AreWithin frames whole → AreWithin frames part
@@ -53,3 +42,26 @@ dropped_part (dropped.Page page) set = record {
       ];
 }
 dropped_part dropped.All set = part_empty empty set refl
+
+-- what is left of a set is a part
+pub part_left : (lost : Bool) (part whole : Set) → part ≡ left_of lost whole → IsPartOf part whole
+part_left true part whole is = part_empty part whole is
+part_left false part whole is = part_same part whole is
+
+-- of nothing nothing leaves
+none_dropped : (d : Dropped) → dropping d empty ≡ empty
+none_dropped dropped.Nothing = refl
+none_dropped (dropped.Page page) =
+    let none : Set = empty in
+    same_map nat_cmp_total nat_cmp-IsAntisymmetric (remove none page) none
+    (λ q. elim (eqb_tells q page) [
+      | inl t ↦ ap (λ (k : ℕ). get (remove none page) k) t.1 ∙ (get_with_same none page None ∙ sym (get-empty nat_cmp q))
+      | inr n ↦ get_with_other none page None q n.1
+    ])
+none_dropped dropped.All = refl
+
+-- all may leave before some of them do, and behind that
+pub left_twice : (d : Dropped) (first second : Bool) (set mid new : Set) → mid ≡ left_of first set → new ≡ left_of second (dropping d mid) → new ≡ left_of (first || second) (dropping d set)
+left_twice d true true set mid new is then = then
+left_twice d true false set mid new is then = then ∙ (ap (dropping d) is ∙ none_dropped d)
+left_twice d false second set mid new is then = then ∙ ap (λ (x : Set). left_of second (dropping d x)) is

@@ -11,14 +11,13 @@ use Rattle.paging.specs.Fresh.{has}
 use Rattle.machine_model.specs.State.{Setting, State, Loosened, space_at_start}
 use Rattle.machine_model.specs.Step.{Report, Went, step_of, stepped, by_interrupt, interrupt_of, unheld}
 use Rattle.machine_model.specs.Run.{Set, Steps, trace_of}
+use Rattle.machine_model.specs.Notes.{AreLeft}
 use Rattle.paging.specs.Space.{Space}
 use Rattle.sites.specs.declared.site.Site.{Site}
 use Rattle.machine_model.specs.Step.{went, worked, begins_next}
 use Rattle.machine_model.specs.Counts.{direct_addresses, passed_on}
-use Rattle.wedge_core.specs.Parts.{IsPartOf, with_set}
 use Rattle.wedge_core.specs.Slices.{Counts, CountsOn}
 use Rattle.wedge_core.specs.Stepping.{Passes}
-use Rattle.wedge_core.proofs.Parts.{part_same}
 
 neither : (a b : Bool) → (a || b) ≡ false → (a ≡ false) × (b ≡ false)
 neither false b h = (refl, h)
@@ -115,6 +114,23 @@ idle_steps (suc k) s cpu ram whole set board t halted none quiet allowed =
       refl,
     )
 
+went_there : (a b : Report) (x y : State) → Went a x ≡ Went b y → x ≡ y
+went_there a b x y is = cc
+
+-- and none of them changes the translations
+idle_left : (k : ℕ) (s : Setting) (cpu : Cpu) (ram : List ℕ) (set : Set) (board : Board) (t : ℕ)
+    → cpu.halted ≡ true → interrupt_of (record cpu { held = false }) board ≡ None → comes_within board s.script t (suc k) ≡ false
+    → AreLeft s (resting cpu ram set board (t + 1)) (set ∷ replicate k set)
+idle_left zero s cpu ram set board t halted none quiet = (refl, λ now mid is. tt)
+idle_left (suc k) s cpu ram set board t halted none quiet =
+    let q = quiet_from board s.script t (suc k) quiet in
+    let next = resting cpu ram set (board_step board) (t + 1 + 1) in (
+      refl,
+      λ now mid is.
+          subst (λ (x : State). AreLeft s x (set ∷ replicate k set)) (went_there nothing now next mid (sym (idle_step s cpu ram set set board (t + 1) halted q.no_event none) ∙ is))
+          (idle_left k s cpu ram set (board_step board) (t + 1) halted (interrupt_same (record cpu { held = false }) board q.no_edge ∙ none) q.later),
+    )
+
 -- nothing is seen in them
 pub nothing_seen : (k : ℕ) → trace_of (replicate k nothing) ≡ []
 nothing_seen zero = refl
@@ -136,18 +152,17 @@ unfolding Steps
 steps_none m b = (refl, refl)
 
 -- no step passes
-pub rests_none : (m : Setting) (b : State) (whole : Set) (counts : Counts) → IsPartOf b.set whole → Passes m b whole b counts counts
-rests_none m b whole counts h = record { sets = []; reports = []; left = whole; steps = steps_none m (with_set b whole); part = h; silent = refl; counts = counts_stay m 0 counts }
+pub rests_none : (m : Setting) (b : State) (counts : Counts) → Passes m b b counts counts
+rests_none m b counts = record { n = 0; reports = []; steps = steps_none m b; left = tt; silent = refl; counts = counts_stay m 0 counts }
 
-rests_at : (j : ℕ) (s : Setting) (cpu : Cpu) (ram : List ℕ) (whole set : Set) (board : Board) (t : ℕ) (counts : Counts)
-    → cpu.halted ≡ true → interrupt_of (record cpu { held = false }) board ≡ None → comes_within board s.script t (suc j) ≡ false → IsPartOf set whole
-    → Passes s (resting cpu ram set board (t + 1)) whole (resting cpu ram set (board_steps (suc j) board) (t + 1 + suc j)) counts counts
-rests_at j s cpu ram whole set board t counts halted none quiet part = record {
-  sets = set ∷ replicate j set;
+rests_at : (j : ℕ) (s : Setting) (cpu : Cpu) (ram : List ℕ) (set : Set) (board : Board) (t : ℕ) (counts : Counts)
+    → cpu.halted ≡ true → interrupt_of (record cpu { held = false }) board ≡ None → comes_within board s.script t (suc j) ≡ false
+    → Passes s (resting cpu ram set board (t + 1)) (resting cpu ram set (board_steps (suc j) board) (t + 1 + suc j)) counts counts
+rests_at j s cpu ram set board t counts halted none quiet = record {
+  n = suc j;
   reports = nothing ∷ replicate j nothing;
-  left = set;
-  steps = idle_steps j s cpu ram whole set board t halted none quiet (record { each = λ page e is. inl (part.each page e is) });
-  part = part_same set set refl;
+  steps = idle_steps j s cpu ram set set board t halted none quiet (record { each = λ page e is. inl is });
+  left = idle_left j s cpu ram set board t halted none quiet;
   silent = nothing_seen (suc j);
   counts = counts_stay s (suc j) counts;
 }
@@ -157,16 +172,16 @@ abbrev pub rested : State → ℕ → State
 rested b k = record b { board = board_steps k b.board; step = b.step + k }
 
 -- so many steps pass
-pub rests_some : (k : ℕ) (s : Setting) (b : State) (whole : Set) (counts : Counts) → 0 < b.step → b.cpu.halted ≡ true → b.cpu.held ≡ false → interrupt_of b.cpu b.board ≡ None
-    → (0 < k → comes_within b.board s.script (b.step - 1) k ≡ false) → IsPartOf b.set whole → Passes s b whole (rested b k) counts counts
-rests_some zero s b whole counts begun halted held none quiet part =
+pub rests_some : (k : ℕ) (s : Setting) (b : State) (counts : Counts) → 0 < b.step → b.cpu.halted ≡ true → b.cpu.held ≡ false → interrupt_of b.cpu b.board ≡ None
+    → (0 < k → comes_within b.board s.script (b.step - 1) k ≡ false) → Passes s b (rested b k) counts counts
+rests_some zero s b counts begun halted held none quiet =
     let same : b.step ≡ b.step + 0 = omega arith in
-    subst (λ (n : ℕ). Passes s b whole (record b { board = board_steps 0 b.board; step = n }) counts counts) same
-    (subst (λ (d : Board). Passes s b whole (record b { board = d }) counts counts) (sym (no_step b.board)) (rests_none s b whole counts part))
-rests_some (suc j) s b whole counts begun halted held none quiet part =
+    subst (λ (n : ℕ). Passes s b (record b { board = board_steps 0 b.board; step = n }) counts counts) same
+    (subst (λ (d : Board). Passes s b (record b { board = d }) counts counts) (sym (no_step b.board)) (rests_none s b counts))
+rests_some (suc j) s b counts begun halted held none quiet =
     let step_is : b.step - 1 + 1 ≡ b.step = omega arith in
     let cpu_is : record b.cpu { held = false } ≡ b.cpu = ap (λ (h : Bool). record b.cpu { held = h }) (sym held) in
     let none_then = subst (λ (c : Cpu). interrupt_of c b.board ≡ None) (sym cpu_is) none in
-    subst (λ (c : Cpu). Passes s (record b { cpu = c }) whole (record b { cpu = c; board = board_steps (suc j) b.board; step = b.step + suc j }) counts counts) cpu_is
-    (subst (λ (n : ℕ). Passes s (record b { cpu = record b.cpu { held = false }; step = n }) whole (record b { cpu = record b.cpu { held = false }; board = board_steps (suc j) b.board; step = n + suc j }) counts counts) step_is
-    (rests_at j s b.cpu b.ram whole b.set b.board (b.step - 1) counts halted none_then (quiet (omega arith)) part))
+    subst (λ (c : Cpu). Passes s (record b { cpu = c }) (record b { cpu = c; board = board_steps (suc j) b.board; step = b.step + suc j }) counts counts) cpu_is
+    (subst (λ (n : ℕ). Passes s (record b { cpu = record b.cpu { held = false }; step = n }) (record b { cpu = record b.cpu { held = false }; board = board_steps (suc j) b.board; step = n + suc j }) counts counts) step_is
+    (rests_at j s b.cpu b.ram b.set b.board (b.step - 1) counts halted none_then (quiet (omega arith))))

@@ -244,14 +244,12 @@ module _ {S : Type 0} (stands : S → List ℕ → Type 0) (frames : S → List 
                 (advanced.board ∙ (ap (board_after m begun) count_is ∙ (board_some m begun done some ∙ (ap (board_steps done) is ∙ sym (ap (λ (x : Running S). x.board) now_is)))))
                 (advanced.count ∙ (ap (λ (n : ℕ). g.step + n) count_is ∙ sym (ap (λ (x : Running S). x.step) now_is)))
 
-            pub passes_on : Passes m (record (state_of stands frames slots m g memory) { board = board }) whole (state_of stands frames slots m now after_memory)
-                (record { retired = retired; passed = passed }) (record { retired = retired_then; passed = passed_then })
-            passes_on = record {
-              sets = replicate advanced.n whole;
+            pub passes_on : whole ≡ kept memory → Passes m begun (state_of stands frames slots m now after_memory) (record { retired = retired; passed = passed }) (record { retired = retired_then; passed = passed_then })
+            passes_on exact = record {
+              n = advanced.n;
               reports = advanced.reports;
-              left = whole;
-              steps = subst (Steps m begun (replicate advanced.n whole) advanced.reports) after_is advanced.steps;
-              part = subst (λ (x : Set). IsPartOf x whole) (sym now_set) part;
+              steps = subst (Steps m begun (replicate advanced.n whole) advanced.reports) (after_is ∙ ap (with_set (state_of stands frames slots m now after_memory)) (exact ∙ sym now_set)) advanced.steps;
+              left = advanced.left;
               silent = advanced.unseen;
               counts = record { retired = (let a = r.count in let b = count_is in let c = advanced.direct in omega (arith, a, b, c)); passed = lands_there.passed ∙ advanced.passed };
             }

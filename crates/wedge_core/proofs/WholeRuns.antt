@@ -1,6 +1,8 @@
 -- From a slice and the last line to a whole run.
-use Rattle.std.proofs.Common.{◌≡◌, ℕ, ◌+◌, ◌*◌, ◌≤◌, List, [], ◌++◌, length, take, Option, Ok, Err, refl, sym, ap, subst, ◌∙◌, append_assoc, arith}
+use Rattle.std.proofs.Common.{◌≡◌, ℕ, ◌+◌, ◌*◌, ◌≤◌, List, [], ◌∷◌, ◌++◌, length, take, Option, Ok, Err, refl, sym, ap, subst, ◌∙◌, append_assoc, arith}
+use Rattle.std.specs.FinMap.{len}
 use Rattle.std.proofs.lemmas.List.{append-nil, places, same_lists, length-take-le}
+use Rattle.std.proofs.lemmas.List.Elements.{All-weaker}
 use Rattle.guest_ram.specs.Bytes.{part, with_part}
 use Rattle.guest_ram.proofs.Bytes.{with_part-with_part, with_part-part, length-part}
 use Rattle.frame_pool.specs.declared.Pool.{Pool}
@@ -15,18 +17,22 @@ use Rattle.image_load.specs.declared.fault.Pause.{Pause}
 use Rattle.image_load.specs.declared.fault.Pause.TheVariants.{Reached, Stopped}
 use Rattle.image_load.specs.declared.fault.RunFault.TheVariants as fault
 use Rattle.run_trace.specs.declared.items.End.{End}
+use Rattle.run_trace.specs.Notes.{Note}
 use Rattle.run_trace.specs.Text.{lines_of, end_line, text_of}
 use Rattle.shadow_tables.specs.Slots.{IsShadow, held as held_by, slot_at}
 use Rattle.shadow_tables.specs.declared.shadow.Shadow.{Shadow}
 use Rattle.machine_model.specs.State.{Setting, State, boot, wedge}
 use Rattle.machine_model.specs.Step.{Report}
-use Rattle.machine_model.specs.Run.{Steps, CanGive, trace_of}
+use Rattle.machine_model.specs.Run.{Set, Steps, EndsIn, CanGive, trace_of}
+use Rattle.machine_model.specs.Notes.{AreTold, AreNotes, set_told}
 use Rattle.machine_model.proofs.Ending.{each_ends}
 use Rattle.native_steps.specs.Stands.{IsHost, shown}
-use Rattle.wedge_core.specs.Promises.{Promise, WedgeAnswers, end_of, with_patches}
-use Rattle.wedge_core.specs.Slices.{Counts, SliceAs, GoesOn}
+use Rattle.wedge_core.specs.Promises.{HasMemory, Promise, HasFills, WedgeAnswers, end_of, with_patches}
+use Rattle.wedge_core.specs.Slices.{Counts, PausesAs, SliceAs, GoesOn}
 use Rattle.wedge_core.specs.Standing.{IsHeld, ground}
+use Rattle.wedge_core.specs.Filled.{FillsOn}
 use Rattle.wedge_core.specs.declared.running.Running.{Running}
+use Rattle.wedge_core.proofs.Filling.{empty_few}
 use Rattle.wedge_core.proofs.Memories.{text_within}
 use Rattle.wedge_core.proofs.RunPieces.{run_join, seen_join, lines_both, put_both, put_front, put_none}
 
@@ -57,63 +63,81 @@ front_held Reached image script frames g pool memory h =
     front_is (wedge image script frames) memory (record { room = h.host.room; text = h.host.text }) (omega (arith, room, within))
 front_held (Stopped stop) image script frames g pool memory h = tt
 
-text_is : (reports : List Report) (count : ℕ) (end : End) → lines_of (trace_of reports) ++ end_line count end ≡ text_of (trace_of reports) count end
+pub text_is : (reports : List Report) (count : ℕ) (end : End) → lines_of (trace_of reports) ++ end_line count end ≡ text_of (trace_of reports) count end
 unfolding text_of
 text_is reports count end = refl
 
+-- a slice that pauses ends so
+pub ends_by : (m : Setting) (n : ℕ) (last new : State) (pause : Pause) → PausesAs m n last new (Ok pause) → EndsIn m n last (end_of pause)
+ends_by m n last new Reached h = h.0
+ends_by m n last new (Stopped stop) h = (h.0, h.2)
+
+pub count_by : (m : Setting) (n : ℕ) (last new : State) (pause : Pause) → PausesAs m n last new (Ok pause) → new.step ≡ last.step
+count_by m n last new Reached h = ap (λ (b : State). b.step) h.1
+count_by m n last new (Stopped stop) h = h.1
+
+pub memory_by : (m : Setting) (n : ℕ) (last new : State) (pause : Pause) (memory : List ℕ) → GoesOn (Ok pause) (take (4096 * m.frames) memory ≡ with_patches m.image new.ram) → PausesAs m n last new (Ok pause)
+    → HasMemory m last (end_of pause) memory
+memory_by m n last new Reached memory has h = has ∙ ap (λ (b : State). with_patches m.image b.ram) h.1
+memory_by m n last new (Stopped stop) memory has h = tt
+
 -- the slice that ended is a run
-pub promised : (m : Setting) (n : ℕ) (old new : State) (before after : Counts) (told tells : Option (List ℕ)) (pause : Pause) (memory : List ℕ)
-    → old ≡ boot m → GoesOn (Ok pause) (take (4096 * m.frames) memory ≡ with_patches m.image new.ram) → (h : SliceAs m n old new before after told tells (Ok pause))
+abbrev pub promised : (m : Setting) (n : ℕ) (old new : State) (before after : Counts) (told tells : Option (List ℕ)) (fills filled : ℕ) (notes_on : List Note → Type 0) (pause : Pause) (memory : List ℕ)
+    → old ≡ boot m → GoesOn (Ok pause) (take (4096 * m.frames) memory ≡ with_patches m.image new.ram) → (h : SliceAs m n old new before after told tells fills filled notes_on (Ok pause))
     → Promise m n (lines_of (trace_of h.reports) ++ end_line new.step (end_of pause)) new.step (end_of pause) before after memory
-promised m n old new before after told tells Reached memory is has h = record {
+promised m n old new before after told tells fills filled notes_on pause memory is has h = record {
   sets = h.sets;
   reports = h.reports;
   last = h.last;
-  run = record { steps = subst (λ (b : State). Steps m b h.sets h.reports h.last) is h.steps; ends = h.ends.0 };
-  count_is = ap (λ (b : State). b.step) h.ends.1;
-  text_is = text_is h.reports new.step (end_of Reached);
+  run = record { steps = subst (λ (b : State). Steps m b h.sets h.reports h.last) is h.steps; ends = ends_by m n h.last new pause h.ends };
+  count_is = count_by m n h.last new pause h.ends;
+  text_is = text_is h.reports new.step (end_of pause);
   counts = h.counts;
-  memory_is = has ∙ ap (λ (b : State). with_patches m.image b.ram) h.ends.1;
+  memory_is = memory_by m n h.last new pause memory has h.ends;
 }
-promised m n old new before after told tells (Stopped stop) memory is has h = record {
-  sets = h.sets;
-  reports = h.reports;
-  last = h.last;
-  run = record { steps = subst (λ (b : State). Steps m b h.sets h.reports h.last) is h.steps; ends = (h.ends.0, h.ends.2) };
-  count_is = h.ends.1;
-  text_is = text_is h.reports new.step (end_of (Stopped stop));
-  counts = h.counts;
-  memory_is = tt;
+
+-- and what was filled in it
+has_fills : (m : Setting) (n : ℕ) (old new : State) (before after : Counts) (told tells : Option (List ℕ)) (fills filled : ℕ) (notes_on : List Note → Type 0) (pause : Pause)
+    → old ≡ boot m → fills ≡ 0 → filled ≤ 128 * new.step → (h : SliceAs m n old new before after told tells fills filled notes_on (Ok pause)) → HasFills m h.sets h.last filled
+has_fills m n old new before after told tells fills filled notes_on pause is none few h = record {
+  notes = h.notes;
+  told = subst (λ (b : State). AreTold m b h.sets h.notes) is h.noted.told;
+  are = subst (λ (b : State). AreNotes m b h.sets h.last.step h.notes) is h.noted.are;
+  enough = (let empty_first = empty_few old.set (ap (λ (b : State). b.set) is) in
+      All-weaker (λ (set : Set). FillsOn old.set set fills filled) (λ (set : Set). len set ≤ filled) (λ set f. let e = f.enough in omega (arith, e, none, empty_first))
+      (h.sets ++ set_told h.notes h.last.step h.last.set ∷ []) h.each_filled);
+  few = (let same = count_by m n h.last new pause h.ends in omega (arith, few, same));
 }
 
 pub given_by : (m : Setting) (n : ℕ) (text : List ℕ) (count : ℕ) (end : End) (before after : Counts) (memory : List ℕ) → Promise m n text count end before after memory → CanGive m n text count end
 given_by m n text count end before after memory p = record { sets = p.sets; reports = p.reports; last = p.last; run = p.run; count_is = p.count_is; text_is = p.text_is }
 
 -- all lines and the last one were put
-pub whole_put : (image : Image) (script : Events) (frames n : ℕ) (old new : State) (counts counts_after : Counts) (a b c : Option (List ℕ)) (pause : Pause) (before mid now fills : ℕ) (memory : List ℕ)
-    → need image ≤ frames → old ≡ boot (wedge image script frames) → GoesOn (Ok pause) (take (4096 * frames) memory ≡ with_patches image new.ram)
-    → (h : SliceAs (wedge image script frames) n old new counts counts_after a b (Ok pause)) → Appends b c (end_line new.step (end_of pause)) → before ≤ mid → mid ≤ now
-    → WedgeAnswers image script frames n a c before now counts counts_after memory (Ok (record { steps = new.step; end = end_of pause; fills = fills }))
-whole_put image script frames n old new counts counts_after a b c pause before mid now fills memory fits is has h put le more = (
+pub whole_put : (image : Image) (script : Events) (frames n : ℕ) (old new : State) (counts counts_after : Counts) (a b c : Option (List ℕ)) (fills filled : ℕ) (notes_on : List Note → Type 0) (pause : Pause) (before mid now : ℕ) (memory : List ℕ)
+    → need image ≤ frames → old ≡ boot (wedge image script frames) → fills ≡ 0 → filled ≤ 128 * new.step → GoesOn (Ok pause) (take (4096 * frames) memory ≡ with_patches image new.ram)
+    → (h : SliceAs (wedge image script frames) n old new counts counts_after a b fills filled notes_on (Ok pause)) → Appends b c (end_line new.step (end_of pause)) → before ≤ mid → mid ≤ now
+    → WedgeAnswers image script frames n a c before now counts counts_after memory (Ok (record { steps = new.step; end = end_of pause; fills = filled }))
+whole_put image script frames n old new counts counts_after a b c fills filled notes_on pause before mid now memory fits is none few has h put le more = (
   lines_of (trace_of h.reports) ++ end_line new.step (end_of pause),
+  promised (wedge image script frames) n old new counts counts_after a b fills filled notes_on pause memory is has h,
   fits,
-  promised (wedge image script frames) n old new counts counts_after a b pause memory is has h,
+  has_fills (wedge image script frames) n old new counts counts_after a b fills filled notes_on pause is none few h,
   put_both a b c _ _ h.text put,
   omega (arith, le, more),
 )
 
 -- all lines and a front of the last one
-pub whole_unput : (image : Image) (script : Events) (frames n : ℕ) (old new : State) (counts counts_after : Counts) (a b c : Option (List ℕ)) (pause : Pause) (before mid now : ℕ) (memory : List ℕ)
+pub whole_unput : (image : Image) (script : Events) (frames n : ℕ) (old new : State) (counts counts_after : Counts) (a b c : Option (List ℕ)) (fills filled : ℕ) (notes_on : List Note → Type 0) (pause : Pause) (before mid now : ℕ) (memory : List ℕ)
     → need image ≤ frames → old ≡ boot (wedge image script frames) → GoesOn (Ok pause) (take (4096 * frames) memory ≡ with_patches image new.ram)
-    → (h : SliceAs (wedge image script frames) n old new counts counts_after a b (Ok pause)) → AppendsFront b c (end_line new.step (end_of pause)) → before ≤ mid → Rose mid now
+    → (h : SliceAs (wedge image script frames) n old new counts counts_after a b fills filled notes_on (Ok pause)) → AppendsFront b c (end_line new.step (end_of pause)) → before ≤ mid → Rose mid now
     → WedgeAnswers image script frames n a c before now counts counts_after memory (Err fault.Write)
-whole_unput image script frames n old new counts counts_after a b c pause before mid now memory fits is has h put le rose =
+whole_unput image script frames n old new counts counts_after a b c fills filled notes_on pause before mid now memory fits is has h put le rose =
     let text = lines_of (trace_of h.reports) ++ end_line new.step (end_of pause) in (
       text,
       new.step,
       end_of pause,
       fits,
-      given_by (wedge image script frames) n text new.step (end_of pause) counts counts_after memory (promised (wedge image script frames) n old new counts counts_after a b pause memory is has h),
+      given_by (wedge image script frames) n text new.step (end_of pause) counts counts_after memory (promised (wedge image script frames) n old new counts counts_after a b fills filled notes_on pause memory is has h),
       put_front a b c (lines_of (trace_of h.reports)) (end_line new.step (end_of pause)) [] _ h.text put (ap (λ (l : List ℕ). lines_of (trace_of h.reports) ++ l) (sym (append-nil (end_line new.step (end_of pause))))),
       omega (arith, le, rose),
     )
@@ -126,10 +150,10 @@ text_join reports later count end =
     ∙ append_assoc (lines_of (trace_of reports)) (lines_of (trace_of later)) (end_line count end))
 
 -- a front of the lines
-pub whole_front : (image : Image) (script : Events) (frames n : ℕ) (old new : State) (counts counts_after : Counts) (a b : Option (List ℕ)) (failed : Failed) (before now : ℕ) (memory : List ℕ)
-    → need image ≤ frames → old ≡ boot (wedge image script frames) → SliceAs (wedge image script frames) n old new counts counts_after a b (Err failed) → Rose before now
+pub whole_front : (image : Image) (script : Events) (frames n : ℕ) (old new : State) (counts counts_after : Counts) (a b : Option (List ℕ)) (fills filled : ℕ) (notes_on : List Note → Type 0) (failed : Failed) (before now : ℕ) (memory : List ℕ)
+    → need image ≤ frames → old ≡ boot (wedge image script frames) → SliceAs (wedge image script frames) n old new counts counts_after a b fills filled notes_on (Err failed) → Rose before now
     → WedgeAnswers image script frames n a b before now counts counts_after memory (Err fault.Write)
-whole_front image script frames n old new counts counts_after a b failed before now memory fits is h rose =
+whole_front image script frames n old new counts counts_after a b fills filled notes_on failed before now memory fits is h rose =
     let m = wedge image script frames in
     let e = each_ends m n h.last h.ends in (
       text_of (trace_of (h.reports ++ e.reports)) e.last.step e.end,

@@ -1,4 +1,5 @@
--- A step that the host has no part in counts nothing, where the host could not have done it.
+-- A step that the host has no part in, and before which nothing was dropped, counts nothing, where the host could not have
+-- done it.
 use Rattle.std.specs.Prelude.{◌≡◌, false, Result}
 use Rattle.ia32_types.specs.declared.stop.Stop.{Stop}
 use Rattle.machine_step.specs.declared.worked.Seen.{Seen}
@@ -7,8 +8,9 @@ use Rattle.machine_model.specs.Fit.{IsLevel}
 use Rattle.wedge_core.specs.Slices.{Counts}
 use Rattle.wedge_core.specs.Stepping.{AloneAs, StepAs}
 use Rattle.wedge_core.specs.Views.{may_run}
+use Rattle.wedge_core.specs.declared.running.Lost.{Lost}
 
 abbrev pub AlonesGo : Type 0
 AlonesGo =
-    (m : Setting) (b : State) (result : Result Seen Stop) (new : State) (counts : Counts) → m.mode ≡ wedge_mode m.image → IsLevel b.cpu.cpl → may_run b.cpu b.board m.image ≡ false
-    → AloneAs m b result new → StepAs m b result new counts counts
+    (m : Setting) (b : State) (lost : Lost) (result : Result Seen Stop) (new : State) (counts : Counts) → m.mode ≡ wedge_mode m.image → IsLevel b.cpu.cpl → may_run b.cpu b.board m.image ≡ false
+    → lost.before ≡ false → AloneAs m b lost.after result new → StepAs m b lost result new counts counts

@@ -1,3 +1,4 @@
+pub mod Noted
 pub mod Opened
 pub mod Parts
 pub mod Pools

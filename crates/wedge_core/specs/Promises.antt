@@ -1,5 +1,7 @@
 -- What a patched run promises: one run under the monitor's rules gives its text, its direct instructions and its memory.
-use Rattle.std.specs.Prelude.{◌≡◌, ℕ, ◌*◌, ◌≤◌, ◌<◌, List, Option, Result, Ok, Err, take}
+use Rattle.std.specs.Prelude.{◌≡◌, ℕ, ◌*◌, ◌≤◌, ◌<◌, List, [], ◌∷◌, ◌++◌, Option, Result, Ok, Err, take}
+use Rattle.std.specs.FinMap.{len}
+use Rattle.std.specs.List.{All}
 use Rattle.guest_ram.specs.Bytes.{with_part}
 use Rattle.pv_io.specs.Causes.{Rose}
 use Rattle.pv_io.specs.Sink.{Appends, AppendsFront}
@@ -14,10 +16,12 @@ use Rattle.image_load.specs.declared.fault.RunFault.TheVariants as fault
 use Rattle.run_trace.specs.declared.items.End.{End}
 use Rattle.run_trace.specs.declared.items.End.TheVariants.{Bound, Stopped}
 use Rattle.run_trace.specs.declared.items.Ended.{Ended}
+use Rattle.run_trace.specs.Notes.{Note}
 use Rattle.run_trace.specs.Text.{text_of}
 use Rattle.machine_model.specs.State.{Setting, State, boot, wedge}
 use Rattle.machine_model.specs.Step.{Report}
 use Rattle.machine_model.specs.Run.{Set, Run, CanGive, trace_of}
+use Rattle.machine_model.specs.Notes.{AreTold, AreNotes, set_told}
 use Rattle.wedge_core.specs.Slices.{Counts, CountsOn}
 
 -- the guest's memory as the host has it: with the patched text in the text's place
@@ -40,6 +44,16 @@ pub record Promise (m : Setting) (n : ℕ) (text : List ℕ) (count : ℕ) (end 
   pub counts : CountsOn m reports before after
   pub memory_is : HasMemory m last end memory
 
+-- How many pages were filled in a run from the start. Each of its steps goes by what the one before left, but for what was
+-- dropped, as notes could tell it. Each of these sets, and the one that is left at the end, has no more pages than were
+-- filled. A step fills at most 128, so that none were filled where no step was done.
+pub record HasFills (m : Setting) (sets : List Set) (last : State) (fills : ℕ) : Type 0 where
+  pub notes : List Note
+  pub told : AreTold m (boot m) sets notes
+  pub are : AreNotes m (boot m) sets last.step notes
+  pub enough : All (λ (set : Set). len set ≤ fills) (sets ++ set_told notes last.step last.set ∷ [])
+  pub few : fills ≤ 128 * last.step
+
 -- what stands after a refusal
 abbrev pub RefusedWedge : Image → Events → ℕ → ℕ → Option (List ℕ) → Option (List ℕ) → ℕ → ℕ → Counts → Counts → RunFault → Type 0
 -- the sink failed, and has taken a front of the text of some run
@@ -54,7 +68,7 @@ RefusedWedge image script frames n old new before now counts_before counts_after
 -- what stands after a run: the sink's bytes and faults, and the host's counts and memory
 abbrev pub WedgeAnswers : Image → Events → ℕ → ℕ → Option (List ℕ) → Option (List ℕ) → ℕ → ℕ → Counts → Counts → List ℕ → Result Ended RunFault → Type 0
 WedgeAnswers image script frames n old new before now counts_before counts_after memory (Ok ended) =
-    (text : List ℕ) × (need image ≤ frames) × Promise (wedge image script frames) n text ended.steps ended.end counts_before counts_after memory × Appends old new text × (before ≤ now)
+    (text : List ℕ) × (run : Promise (wedge image script frames) n text ended.steps ended.end counts_before counts_after memory) × (need image ≤ frames) × HasFills (wedge image script frames) run.sets run.last ended.fills × Appends old new text × (before ≤ now)
 WedgeAnswers image script frames n old new before now counts_before counts_after memory (Err fault) = RefusedWedge image script frames n old new before now counts_before counts_after fault
 
 -- the end of a run whose last slice paused so

@@ -1,14 +1,19 @@
 -- What a slice of a patched run says.
-use Rattle.std.specs.Prelude.{◌≡◌, ℕ, ◌+◌, ◌≤◌, ◌<◌, List, Option, Result, Ok, Err}
+use Rattle.std.specs.Prelude.{◌≡◌, ℕ, ◌+◌, ◌≤◌, ◌<◌, List, [], ◌∷◌, ◌++◌, Option, Result, Ok, Err}
+use Rattle.std.specs.List.{All}
 use Rattle.pv_io.specs.declared.answer.Failed.{Failed}
 use Rattle.pv_io.specs.Sink.{Appends, AppendsFront}
 use Rattle.image_load.specs.declared.fault.Pause.{Pause}
 use Rattle.image_load.specs.declared.fault.Pause.TheVariants.{Reached, Stopped}
+use Rattle.run_trace.specs.Notes.{Note}
 use Rattle.run_trace.specs.Text.{lines_of}
 use Rattle.machine_model.specs.State.{Setting, State}
 use Rattle.machine_model.specs.Step.{Report}
 use Rattle.machine_model.specs.Run.{Set, Steps, StopsAt, trace_of}
 use Rattle.machine_model.specs.Counts.{direct_count, passed_digest}
+use Rattle.machine_model.specs.Notes.{set_told}
+use Rattle.wedge_core.specs.Filled.{FillsOn}
+use Rattle.wedge_core.specs.Noted.{IsNoted}
 use Rattle.wedge_core.specs.Parts.{IsPartOf, with_set}
 
 -- The host's count of completed instructions, and its digest of their addresses.
@@ -33,15 +38,21 @@ PutsAs text old new (Ok pause) = Appends old new text
 PutsAs text old new (Err failed) = AppendsFront old new text
 
 -- Steps under the monitor's rules, up to the bound or to a stop, led from the old state to the last. The lines of what
--- was seen in them were put, and the host completed their direct instructions.
-pub record SliceAs (m : Setting) (bound : ℕ) (old new : State) (before after : Counts) (told tells : Option (List ℕ)) (result : Result Pause Failed) : Type 0 where
+-- was seen in them were put, and the host completed their direct instructions. They go by what is left of translations,
+-- but for those that these notes tell to be dropped. Each of their sets, and the one behind them, has no more pages than
+-- there were at first and were filled since.
+pub record SliceAs (m : Setting) (bound : ℕ) (old new : State) (before after : Counts) (told tells : Option (List ℕ)) (fills filled : ℕ) (notes_on : List Note → Type 0) (result : Result Pause Failed) : Type 0 where
   pub sets : List Set
   pub reports : List Report
   pub last : State
+  pub notes : List Note
   pub steps : Steps m old sets reports last
   pub ends : PausesAs m bound last new result
   pub text : PutsAs (lines_of (trace_of reports)) told tells result
   pub counts : CountsOn m reports before after
+  pub noted : IsNoted m old new sets last notes result
+  pub tells_notes : notes_on notes
+  pub each_filled : All (λ (set : Set). FillsOn old.set set fills filled) (sets ++ set_told notes last.step last.set ∷ [])
 
 -- what holds where the run can go on
 abbrev pub GoesOn : Result Pause Failed → Type 0 → Type 0

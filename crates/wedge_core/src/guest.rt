@@ -1,6 +1,6 @@
 //! A guest that goes on in slices.
 
-ghost use Rattle.std.specs.Prelude.{◌≡◌, ℕ, ◌+◌, ◌*◌, ◌%◌, ◌≤◌, ◌<◌, ◌^◌, [], length, replicate, take, true, IfOk, OnErr};
+ghost use Rattle.std.specs.Prelude.{◌≡◌, ℕ, ◌+◌, ◌*◌, ◌%◌, ◌≤◌, ◌<◌, ◌^◌, [], length, replicate, take, true, false, IfOk, OnErr};
 ghost use Rattle.std.specs.FinMap.{empty};
 ghost use Rattle.guest_ram.specs.Bytes.{part};
 ghost use Rattle.frame_pool.specs.Pool.{base_of, count_of, free_list, SameOutside, Stands};
@@ -12,13 +12,14 @@ ghost use Rattle.pv_io.specs.Causes.{Rose};
 ghost use Rattle.shadow_tables.specs.Slots.{IsShadow, held as held_by, slot_at};
 ghost use Rattle.machine_model.specs.State.{wedge};
 ghost use Rattle.wedge_core.specs.Filled.{FillsOn, IsFilled};
+ghost use Rattle.wedge_core.specs.Noted.{NotesOn};
 ghost use Rattle.wedge_core.specs.Pools.{Keeps};
 ghost use Rattle.wedge_core.specs.Promises.{with_patches};
 ghost use Rattle.wedge_core.specs.Slices.{SliceAs, GoesOn, Pauses};
 ghost use Rattle.wedge_core.specs.Standing.{IsHeld, IsAble, ground, set_of, state_of};
 ghost use Rattle.wedge_core.specs.Starts.{StartedAs};
 
-use crate::running::Running;
+use crate::running::{Lost, Running};
 use crate::slice::steps_to;
 use board::{Board, Script};
 use descriptors::Cpu;
@@ -107,7 +108,8 @@ impl Guest {
         Ok(Guest { running })
     }
 
-    /// Makes `k` steps, or ends before a step that stops. The lines of a step go to the sink at its end.
+    /// Makes `k` steps, or ends before a step that stops. The lines of a step go to the sink at its end. Where notes are
+    /// wanted, it is told before which steps all translations were dropped.
     pub fn slice<H: Host, O: Sink, L: Notes>(
         &mut self,
         image: &Checked,
@@ -116,7 +118,7 @@ impl Guest {
         pool: &mut Pool,
         host: &mut H,
         out: &mut O,
-        _notes: &mut L,
+        notes: &mut L,
     ) -> Result<Pause, Failed>
         requires started { H.is_started host.old ≡ true }
         requires held { IsHeld IsShadow held_by slot_at (ground image.now self.old.running.frames) self.old.running pool.old (H.bytes host.old) }
@@ -129,7 +131,9 @@ impl Guest {
             (state_of IsShadow held_by slot_at (wedge image.now script.now.list self.old.running.frames) self.old.running (H.bytes host.old))
             (state_of IsShadow held_by slot_at (wedge image.now script.now.list self.old.running.frames) self.new.running (H.bytes host.new))
             (record { retired = H.retired host.old; passed = H.passed host.old }) (record { retired = H.retired host.new; passed = H.passed host.new })
-            (O.taken out.old) (O.taken out.new) result }
+            (O.taken out.old) (O.taken out.new) self.old.running.fills self.new.running.fills (NotesOn (L.wants notes.old) (L.tells notes.old) (L.tells notes.new)) result }
+        ensures wants { L.wants notes.new ≡ L.wants notes.old }
+        ensures silent { L.wants notes.old ≡ false → notes.new ≡ notes.old }
         ensures reached { GoesOn result (self.new.running.step ≡ self.old.running.step + k) }
         ensures held { GoesOn result (IsHeld IsShadow held_by slot_at (ground image.now self.old.running.frames) self.new.running pool.new (H.bytes host.new)) }
         ensures able { GoesOn result (IsAble self.new.running.cpu) }
@@ -138,6 +142,7 @@ impl Guest {
         ensures stands { Pauses result (∥ IsShadow self.new.running.shadows (H.bytes host.new) ∥₁) }
         ensures owns { Pauses result (Owns pool.new (H.bytes host.new) (held_by self.new.running.shadows (H.bytes host.new))) }
         ensures fills { FillsOn (set_of IsShadow held_by slot_at self.old.running (H.bytes host.old)) (set_of IsShadow held_by slot_at self.new.running (H.bytes host.new)) self.old.running.fills self.new.running.fills }
+        ensures few { Pauses result (self.new.running.fills ≤ 128 * self.new.running.step) }
         ensures filled { IsFilled (set_of IsShadow held_by slot_at self.old.running (H.bytes host.old)) self.old.running.fills → IsFilled (set_of IsShadow held_by slot_at self.new.running (H.bytes host.new)) self.new.running.fills }
         ensures pool { Pauses result (Keeps pool.old pool.new (H.bytes host.old) (H.bytes host.new) (held_by self.old.running.shadows (H.bytes host.old)) (held_by self.new.running.shadows (H.bytes host.new))) }
         ensures started { H.is_started host.new ≡ true }
@@ -146,7 +151,16 @@ impl Guest {
         ensures cause { OnErr result (Rose (O.faults out.old) (O.faults out.new)) }
     {
         let bound = self.running.step + k;
-        steps_to(&mut self.running, image, script, bound, pool, host, out)
+        steps_to(
+            &mut self.running,
+            image,
+            script,
+            bound,
+            pool,
+            host,
+            out,
+            notes,
+        )
     }
 
     /// Drops all shadows. The guest holds two frames then.
@@ -268,5 +282,9 @@ fn adopt_in(
         fills: 0,
         held: 2,
         shadows,
+        lost: Lost {
+            before: false,
+            after: false,
+        },
     }
 }

@@ -11,7 +11,7 @@ ghost use Rattle.machine_model.specs.Alone.{is_native};
 ghost use Rattle.wedge_core.specs.Attempts.{AttemptAs, WhereAsked, WhereWent};
 ghost use Rattle.wedge_core.specs.Clashing.{IsClear};
 ghost use Rattle.wedge_core.specs.Filled.{FillsOn};
-ghost use Rattle.wedge_core.specs.Parts.{IsPartOf};
+ghost use Rattle.wedge_core.specs.Parts.{left_of};
 ghost use Rattle.wedge_core.specs.Pools.{Keeps};
 ghost use Rattle.wedge_core.specs.Standing.{IsHeld, IsAble, ground, set_of, state_of};
 ghost use Rattle.wedge_core.specs.Views.{may_run, view_by};
@@ -87,13 +87,15 @@ pub fn begin_native<S: Shadows + Drop>(
     requires runs { may_run running.old.cpu running.old.board image.now ≡ true }
     requires bound { running.old.step < 2 ^ 40 }
     requires enough { 16 ≤ length (free_list pool.old ram.old) + running.old.held }
+    requires kept { running.old.lost.before ≡ false }
     ensures step { (script : Events) → AttemptAs (wedge image.now script running.old.frames) (view_by (S.directory running.new.shadows) running.old.cpu)
-        (state_of S.stands S.frames S.slots (wedge image.now script running.old.frames) running.old ram.old) result
+        (state_of S.stands S.frames S.slots (wedge image.now script running.old.frames) running.old ram.old) running.new.lost.before running.new.lost.after result
         (state_of S.stands S.frames S.slots (wedge image.now script running.old.frames) running.new ram.new) ram.new }
     ensures held { OnOk result (IsHeld S.stands S.frames S.slots (ground image.now running.old.frames) (record running.new { step = running.old.step + 1 }) pool.new ram.new) }
     ensures count { WhereWent result (running.new.step ≡ running.old.step + 1) }
     ensures stays { OnErr result (running.new.step ≡ running.old.step) }
-    ensures asked { WhereAsked result (running.new ≡ record running.old { shadows = running.new.shadows; held = running.new.held; fills = running.new.fills }) }
+    ensures unfilled { OnErr result (running.new.fills ≡ running.old.fills) }
+    ensures asked { WhereAsked result (running.new ≡ record running.old { shadows = running.new.shadows; held = running.new.held; fills = running.new.fills; lost = running.new.lost }) }
     ensures counted { running.new.held ≡ length (S.frames running.new.shadows ram.new) }
     ensures filled { FillsOn (set_of S.stands S.frames S.slots running.old ram.old) (set_of S.stands S.frames S.slots running.new ram.new) running.old.fills running.new.fills }
     ensures stands { ∥ S.stands running.new.shadows ram.new ∥₁ }
@@ -118,12 +120,14 @@ fn try_once<S: Shadows + Drop>(
     requires room { 8 ≤ length (free_list pool.old ram.old) }
     requires clear { (script : Events) → IsClear (wedge image.now script running.old.frames) (state_of S.stands S.frames S.slots (wedge image.now script running.old.frames) running.old ram.old) }
     ensures step { (script : Events) → AttemptAs (wedge image.now script running.old.frames) (view_by (S.directory running.new.shadows) running.old.cpu)
-        (state_of S.stands S.frames S.slots (wedge image.now script running.old.frames) running.old ram.old) result
+        (state_of S.stands S.frames S.slots (wedge image.now script running.old.frames) running.old ram.old) false running.new.lost.after result
         (state_of S.stands S.frames S.slots (wedge image.now script running.old.frames) running.new ram.new) ram.new }
     ensures held { OnOk result (IsHeld S.stands S.frames S.slots (ground image.now running.old.frames) (record running.new { step = running.old.step + 1 }) pool.new ram.new) }
     ensures count { WhereWent result (running.new.step ≡ running.old.step + 1) }
     ensures stays { OnErr result (running.new.step ≡ running.old.step) }
-    ensures asked { WhereAsked result (running.new ≡ record running.old { shadows = running.new.shadows; held = running.new.held; fills = running.new.fills }) }
+    ensures unfilled { OnErr result (running.new.fills ≡ running.old.fills) }
+    ensures before { running.new.lost.before ≡ running.old.lost.before }
+    ensures asked { WhereAsked result (running.new ≡ record running.old { shadows = running.new.shadows; held = running.new.held; fills = running.new.fills; lost = running.new.lost }) }
     ensures counted { running.new.held ≡ length (S.frames running.new.shadows ram.new) }
     ensures filled { FillsOn (set_of S.stands S.frames S.slots running.old ram.old) (set_of S.stands S.frames S.slots running.new ram.new) running.old.fills running.new.fills }
     ensures stands { ∥ S.stands running.new.shadows ram.new ∥₁ }
@@ -166,7 +170,7 @@ fn eip_fits(cpu: &Cpu)
     let _eip = cpu.regs.eip;
 }
 
-/// All translations leave before a step for whose pages frames may lack, or which clashes.
+/// All translations leave before a step for whose pages frames may lack, or which clashes. Before another they stay.
 fn make_room<S: Shadows + Drop>(
     running: &mut Running<S>,
     pool: &mut Pool,
@@ -175,11 +179,12 @@ fn make_room<S: Shadows + Drop>(
 )
     requires held { IsHeld S.stands S.frames S.slots (ground image.now running.old.frames) running.old pool.old ram.old }
     requires enough { 16 ≤ length (free_list pool.old ram.old) + running.old.held }
+    requires kept { running.old.lost.before ≡ false }
     ensures held { IsHeld S.stands S.frames S.slots (ground image.now running.old.frames) running.new pool.new ram.new }
-    ensures part { IsPartOf (set_of S.stands S.frames S.slots running.new ram.new) (set_of S.stands S.frames S.slots running.old ram.old) }
+    ensures left { set_of S.stands S.frames S.slots running.new ram.new ≡ left_of running.new.lost.before (set_of S.stands S.frames S.slots running.old ram.old) }
     ensures room { 8 ≤ length (free_list pool.new ram.new) }
     ensures clear { (script : Events) → IsClear (wedge image.now script running.old.frames) (state_of S.stands S.frames S.slots (wedge image.now script running.old.frames) running.new ram.new) }
-    ensures same { running.new ≡ record running.old { shadows = running.new.shadows; held = running.new.held } }
+    ensures same { running.new ≡ record running.old { shadows = running.new.shadows; held = running.new.held; lost = running.new.lost } }
     ensures guest { take (4096 * running.old.frames) ram.new ≡ take (4096 * running.old.frames) ram.old }
     ensures moves { Moves pool.old pool.new ram.old ram.new (S.frames running.old.shadows ram.old) (S.frames running.new.shadows ram.new) }
 {
@@ -189,19 +194,21 @@ fn make_room<S: Shadows + Drop>(
     }
 }
 
-/// All translations leave, and with them all frames but two.
+/// All translations leave before a step, and with them all frames but two. It is noted.
 fn drop_kept<S: Shadows + Drop>(running: &mut Running<S>, pool: &mut Pool, ram: &mut Ram)
     requires held { (image : Image) × IsHeld S.stands S.frames S.slots (ground image running.old.frames) running.old pool.old ram.old }
     ensures held { (image : Image) → IsHeld S.stands S.frames S.slots (ground image running.old.frames) running.old pool.old ram.old → IsHeld S.stands S.frames S.slots (ground image running.old.frames) running.new pool.new ram.new }
     ensures none { set_of S.stands S.frames S.slots running.new ram.new ≡ empty }
     ensures room { length (free_list pool.new ram.new) + 2 ≡ length (free_list pool.old ram.old) + running.old.held }
-    ensures same { running.new ≡ record running.old { shadows = running.new.shadows; held = running.new.held } }
+    ensures lost { running.new.lost.before ≡ true }
+    ensures same { running.new ≡ record running.old { shadows = running.new.shadows; held = running.new.held; lost = running.new.lost } }
     ensures guest { take (4096 * running.old.frames) ram.new ≡ take (4096 * running.old.frames) ram.old }
     ensures moves { Moves pool.old pool.new ram.old ram.new (S.frames running.old.shadows ram.old) (S.frames running.new.shadows ram.new) }
 {
     let free = pool.free() + running.held;
     running.shadows.drop_all(ram, pool);
     running.held = free - pool.free();
+    running.lost.before = true;
 }
 
 /// Fetches the instruction. None where the host is to do it: its ranges are translated, and its effect is done.

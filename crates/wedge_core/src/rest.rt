@@ -9,8 +9,6 @@ ghost use Rattle.std.specs.Prelude.{None};
 ghost use Rattle.machine_model.specs.Step.{interrupt_of};
 ghost use Rattle.board.specs.Scripts.{Events, is_script};
 ghost use Rattle.machine_model.specs.State.{wedge};
-ghost use Rattle.machine_model.specs.Run.{Set};
-ghost use Rattle.wedge_core.specs.Parts.{IsPartOf};
 ghost use Rattle.wedge_core.specs.Standing.{IsHeld, IsAble, ground, set_of, state_of};
 ghost use Rattle.image_check.specs.Image.{Image};
 ghost use Rattle.std.specs.Prelude.{List};
@@ -28,8 +26,8 @@ pub fn rest<S: Shadows + Drop>(running: &mut Running<S>, script: &Script, bound:
     requires begun { 0 < running.old.step }
     requires within { running.old.step ≤ bound }
     requires bound { bound ≤ 2 ^ 40 }
-    ensures passes { (image : Image) (memory : List ℕ) (whole : Set) (counts : Counts) → IsPartOf (set_of S.stands S.frames S.slots running.old memory) whole
-        → Passes (wedge image script.now.list running.old.frames) (state_of S.stands S.frames S.slots (wedge image script.now.list running.old.frames) running.old memory) whole
+    ensures passes { (image : Image) (memory : List ℕ) (counts : Counts)
+        → Passes (wedge image script.now.list running.old.frames) (state_of S.stands S.frames S.slots (wedge image script.now.list running.old.frames) running.old memory)
         (state_of S.stands S.frames S.slots (wedge image script.now.list running.old.frames) running.new memory) counts counts }
     ensures same { running.new ≡ record running.old { board = running.new.board; step = running.new.step } }
     ensures later { running.old.step ≤ running.new.step }

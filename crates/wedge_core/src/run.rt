@@ -65,6 +65,7 @@ fn whole<H: Host, O: Sink>(
     requires fits { need image.now ≤ guest.old.running.frames }
     requires script { is_script script.now.list ≡ true }
     requires first { state_of IsShadow held_by slot_at (wedge image.now script.now.list guest.old.running.frames) guest.old.running (H.bytes host.old) ≡ boot (wedge image.now script.now.list guest.old.running.frames) }
+    requires unfilled { guest.old.running.fills ≡ 0 }
     requires bound { n ≤ 2 ^ 40 }
     requires room { H.retired host.old ≤ 2 ^ 63 }
     requires enough { 16 ≤ length (free_list pool.old (H.bytes host.old)) + guest.old.running.held }

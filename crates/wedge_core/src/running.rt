@@ -4,9 +4,16 @@ use board::Board;
 use descriptors::Cpu;
 use shadow_tables::Shadows;
 
+/// Whether all translations were dropped before the step that was tried last, and after it.
+#[derive(Clone, Copy)]
+pub struct Lost {
+    pub before: bool,
+    pub after: bool,
+}
+
 /// A guest between two of its steps: its processor and board, how many steps were done, how many frames its memory has,
-/// how many pages were filled, how many frames of the pool it holds, and the shadows that hold them. Its memory is the
-/// front of the host's.
+/// how many pages were filled, how many frames of the pool it holds, the shadows that hold them, and what the last step
+/// lost of its translations. Its memory is the front of the host's.
 #[derive(Drop)]
 pub struct Running<S: Shadows + Drop> {
     pub cpu: Cpu,
@@ -16,4 +23,5 @@ pub struct Running<S: Shadows + Drop> {
     pub fills: u64,
     pub held: u32,
     pub shadows: S,
+    pub lost: Lost,
 }

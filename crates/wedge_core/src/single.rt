@@ -1,6 +1,6 @@
 //! One step that the host has no part in.
 
-ghost use Rattle.std.specs.Prelude.{◌≡◌, ℕ, List, ◌+◌, ◌*◌, ◌/◌, ◌%◌, ◌==◌, ◌≤◌, ◌<◌, ◌^◌, length, true, OnErr, OnOk};
+ghost use Rattle.std.specs.Prelude.{◌≡◌, ℕ, List, false, ◌+◌, ◌*◌, ◌/◌, ◌%◌, ◌==◌, ◌≤◌, ◌<◌, ◌^◌, length, true, OnErr, OnOk};
 ghost use Rattle.frame_pool.specs.Held.{Owns, Moves};
 ghost use Rattle.frame_pool.specs.Pool.{base_of, free_list};
 ghost use Rattle.board.specs.Boards.{board_step};
@@ -16,7 +16,7 @@ ghost use Rattle.machine_model.specs.State.{wedge};
 ghost use Rattle.wedge_mem.specs.Settled.{pages_of};
 ghost use Rattle.wedge_core.specs.Closed.{MayClose, Closes};
 ghost use Rattle.wedge_core.specs.Filled.{FillsOn};
-ghost use Rattle.wedge_core.specs.Parts.{IsPartOf};
+ghost use Rattle.wedge_core.specs.Parts.{left_of};
 ghost use Rattle.wedge_core.specs.Pools.{Keeps};
 ghost use Rattle.wedge_core.specs.Standing.{AreOpen, IsHeld, ground, set_of, side_of, state_of, wp_of};
 ghost use Rattle.wedge_core.specs.Stepping.{AloneAs};
@@ -77,10 +77,12 @@ pub fn step_alone<S: Shadows + Drop>(
 ) -> Result<Seen, Stop>
     requires held { IsHeld S.stands S.frames S.slots (ground image.now running.old.frames) running.old pool.old ram.old }
     requires bound { running.old.step < 2 ^ 40 }
-    ensures step { (script : Events) → AloneAs (wedge image.now script running.old.frames) (state_of S.stands S.frames S.slots (wedge image.now script running.old.frames) running.old ram.old) result (state_of S.stands S.frames S.slots (wedge image.now script running.old.frames) running.new ram.new) }
+    ensures step { (script : Events) → AloneAs (wedge image.now script running.old.frames) (state_of S.stands S.frames S.slots (wedge image.now script running.old.frames) running.old ram.old) running.new.lost.after result (state_of S.stands S.frames S.slots (wedge image.now script running.old.frames) running.new ram.new) }
+    ensures before { running.new.lost.before ≡ running.old.lost.before }
     ensures held { OnOk result (IsHeld S.stands S.frames S.slots (ground image.now running.old.frames) running.new pool.new ram.new) }
     ensures count { OnOk result (running.new.step ≡ running.old.step + 1) }
     ensures stays { OnErr result (running.new.step ≡ running.old.step) }
+    ensures unfilled { OnErr result (running.new.fills ≡ running.old.fills) }
     ensures counted { running.new.held ≡ length (S.frames running.new.shadows ram.new) }
     ensures stands { ∥ S.stands running.new.shadows ram.new ∥₁ }
     ensures filled { FillsOn (set_of S.stands S.frames S.slots running.old ram.old) (set_of S.stands S.frames S.slots running.new ram.new) running.old.fills running.new.fills }
@@ -115,7 +117,7 @@ pub fn step_alone<S: Shadows + Drop>(
     }
 }
 
-/// What a step left of its translations is kept.
+/// What a step left of its translations is kept, or nothing.
 pub fn keep<S: Shadows + Drop>(
     running: &mut Running<S>,
     pool: &mut Pool,
@@ -130,24 +132,32 @@ pub fn keep<S: Shadows + Drop>(
     ensures stands { ∥ S.stands running.new.shadows ram.new ∥₁ }
     ensures owns { Owns pool.new ram.new (S.frames running.new.shadows ram.new) }
     ensures moves { Moves pool.old pool.new ram.old ram.new (S.frames running.old.shadows ram.old) (S.frames running.new.shadows ram.new) }
-    ensures part { IsPartOf (entries_of (S.slots running.new.shadows ram.new)) (changed (entries_of (S.slots running.old.shadows ram.old)) state.now.changes) }
+    ensures left { entries_of (S.slots running.new.shadows ram.new) ≡ left_of running.new.lost.after (changed (entries_of (S.slots running.old.shadows ram.old)) state.now.changes) }
+    ensures before { running.new.lost.before ≡ running.old.lost.before }
     ensures shows { (image : Image) → count ≡ text_pages image → AreOpen image state.now.control.wp (S.slots running.old.shadows ram.old) → AreOpen image state.now.control.wp (S.slots running.new.shadows ram.new) }
     ensures whole { MayClose count (side_of (running.old.cpu.cpl == 3)) (changed (entries_of (S.slots running.old.shadows ram.old)) state.now.changes) (pages_of state.now.went state.now.changes) (length (free_list pool.old ram.old))
-        → Closes (S.slots running.old.shadows ram.old) (S.slots running.new.shadows ram.new) (changed (entries_of (S.slots running.old.shadows ram.old)) state.now.changes) (pages_of state.now.went state.now.changes)
+        → (running.new.lost.after ≡ false) × Closes (S.slots running.old.shadows ram.old) (S.slots running.new.shadows ram.new) (changed (entries_of (S.slots running.old.shadows ram.old)) state.now.changes) (pages_of state.now.went state.now.changes)
         (side_of (running.old.cpu.cpl == 3)) state.now.control.wp (S.tracked running.new.shadows) state.now.wrote }
     ensures counted { running.new.held ≡ length (S.frames running.new.shadows ram.new) }
     ensures fills { running.new.fills ≤ running.old.fills + 128 }
     ensures filled { FillsOn (entries_of (S.slots running.old.shadows ram.old)) (entries_of (S.slots running.new.shadows ram.new)) running.old.fills running.new.fills }
-    ensures same { running.new ≡ record running.old { shadows = running.new.shadows; held = running.new.held; fills = running.new.fills } }
+    ensures same { running.new ≡ record running.old { shadows = running.new.shadows; held = running.new.held; fills = running.new.fills; lost = running.new.lost } }
 {
     let all = pool.free() + running.held;
     let side = side_of(running.cpu.cpl);
-    let fills = close(&mut running.shadows, pool, ram, state, side, count);
-    running.fills += u64::from(fills);
+    let settled = close(&mut running.shadows, pool, ram, state, side, count);
     running.held = all - pool.free();
+    match settled {
+        None => running.lost.after = true,
+        Some(filled) => {
+            running.lost.after = false;
+            running.fills += u64::from(filled);
+        }
+    }
 }
 
-/// The end of a step that went: its translations are settled, the count rises, and the board advances.
+/// The end of a step that went: its translations are settled, the count rises, and the board advances. Whether all
+/// translations were dropped is noted.
 pub fn go<S: Shadows + Drop>(
     running: &mut Running<S>,
     pool: &mut Pool,
@@ -165,7 +175,8 @@ pub fn go<S: Shadows + Drop>(
     ensures stands { ∥ S.stands running.new.shadows ram.new ∥₁ }
     ensures owns { Owns pool.new ram.new (S.frames running.new.shadows ram.new) }
     ensures moves { Moves pool.old pool.new ram.old ram.new (S.frames running.old.shadows ram.old) (S.frames running.new.shadows ram.new) }
-    ensures part { IsPartOf (entries_of (S.slots running.new.shadows ram.new)) (dropping worked.now.dropped (changed (entries_of (S.slots running.old.shadows ram.old)) state.now.changes)) }
+    ensures left { entries_of (S.slots running.new.shadows ram.new) ≡ left_of running.new.lost.after (dropping worked.now.dropped (changed (entries_of (S.slots running.old.shadows ram.old)) state.now.changes)) }
+    ensures before { running.new.lost.before ≡ running.old.lost.before }
     ensures shows { (image : Image) → count ≡ text_pages image → AreOpen image state.now.control.wp (S.slots running.old.shadows ram.old) → AreOpen image (wp_of worked.now.cpu) (S.slots running.new.shadows ram.new) }
     ensures counted { running.new.held ≡ length (S.frames running.new.shadows ram.new) }
     ensures fills { running.new.fills ≤ 128 * running.new.step }
@@ -177,7 +188,8 @@ pub fn go<S: Shadows + Drop>(
 {
     keep(running, pool, ram, state, count);
     let all = pool.free() + running.held;
-    leave(&mut running.shadows, pool, ram, state.control.wp, worked);
+    let other = leave(&mut running.shadows, pool, ram, state.control.wp, worked);
+    running.lost.after |= other;
     running.held = all - pool.free();
     running.cpu = worked.cpu;
     running.step += 1;

@@ -9,7 +9,7 @@ ghost use Rattle.board.specs.Scripts.{Events, is_script};
 ghost use Rattle.machine_model.specs.State.{wedge};
 ghost use Rattle.machine_model.specs.Run.{Set};
 ghost use Rattle.wedge_core.specs.Filled.{FillsOn};
-ghost use Rattle.wedge_core.specs.Parts.{IsPartOf};
+ghost use Rattle.wedge_core.specs.Noted.{NotesOn};
 ghost use Rattle.wedge_core.specs.Standing.{IsHeld, IsAble, ground, set_of, state_of};
 ghost use Rattle.std.specs.Prelude.{OnErr};
 ghost use Rattle.pv_io.specs.Causes.{Rose};
@@ -22,8 +22,9 @@ ghost use Rattle.wedge_core.specs.Stepping.{AloneAs, StepAs};
 
 use crate::laws::alones_go;
 use crate::native::{Attempt, begin_native};
+use crate::noting::{tell, tell_both};
 use crate::rest::rest;
-use crate::running::Running;
+use crate::running::{Lost, Running};
 use crate::single::step_alone;
 use crate::stretch::{may_run, run_on, stretch};
 use board::Script;
@@ -35,11 +36,12 @@ use image_load::Pause;
 use machine_model::steps_keep_able;
 use machine_step::Seen;
 use pv_io::{Failed, Sink};
-use run_trace::{Item, StepItems, put_step};
+use run_trace::{Item, Notes, StepItems, put_step};
 use shadow_tables::Shadows;
 
-/// Steps up to a count of steps, or to a stop. The lines of a step go to the sink at its end.
-pub fn steps_to<S: Shadows + Drop, H: Host, O: Sink>(
+/// Steps up to a count of steps, or to a stop. The lines of a step go to the sink at its end. Before which steps all
+/// translations were dropped is told, where notes are wanted.
+pub fn steps_to<S: Shadows + Drop, H: Host, O: Sink, L: Notes>(
     running: &mut Running<S>,
     image: &Checked,
     script: &Script,
@@ -47,6 +49,7 @@ pub fn steps_to<S: Shadows + Drop, H: Host, O: Sink>(
     pool: &mut Pool,
     host: &mut H,
     out: &mut O,
+    notes: &mut L,
 ) -> Result<Pause, Failed>
     requires started { H.is_started host.old ≡ true }
     requires held { IsHeld S.stands S.frames S.slots (ground image.now running.old.frames) running.old pool.old (H.bytes host.old) }
@@ -59,13 +62,16 @@ pub fn steps_to<S: Shadows + Drop, H: Host, O: Sink>(
     ensures slice { SliceAs (wedge image.now script.now.list running.old.frames) bound
         (state_of S.stands S.frames S.slots (wedge image.now script.now.list running.old.frames) running.old (H.bytes host.old)) (state_of S.stands S.frames S.slots (wedge image.now script.now.list running.old.frames) running.new (H.bytes host.new))
         (record { retired = H.retired host.old; passed = H.passed host.old }) (record { retired = H.retired host.new; passed = H.passed host.new })
-        (O.taken out.old) (O.taken out.new) result }
+        (O.taken out.old) (O.taken out.new) running.old.fills running.new.fills (NotesOn (L.wants notes.old) (L.tells notes.old) (L.tells notes.new)) result }
+    ensures wants { L.wants notes.new ≡ L.wants notes.old }
+    ensures silent { L.wants notes.old ≡ false → notes.new ≡ notes.old }
     ensures reached { GoesOn result (running.new.step ≡ bound) }
     ensures held { GoesOn result (IsHeld S.stands S.frames S.slots (ground image.now running.old.frames) running.new pool.new (H.bytes host.new)) }
     ensures able { GoesOn result (IsAble running.new.cpu) }
     ensures counted { Pauses result (running.new.held ≡ length (S.frames running.new.shadows (H.bytes host.new))) }
     ensures stands { Pauses result (∥ S.stands running.new.shadows (H.bytes host.new) ∥₁) }
     ensures filled { FillsOn (set_of S.stands S.frames S.slots running.old (H.bytes host.old)) (set_of S.stands S.frames S.slots running.new (H.bytes host.new)) running.old.fills running.new.fills }
+    ensures few { Pauses result (running.new.fills ≤ 128 * running.new.step) }
     ensures pool { Pauses result (Keeps pool.old pool.new (H.bytes host.old) (H.bytes host.new) (S.frames running.old.shadows (H.bytes host.old)) (S.frames running.new.shadows (H.bytes host.new))) }
     ensures started { H.is_started host.new ≡ true }
     ensures frames { running.new.frames ≡ running.old.frames }
@@ -79,18 +85,24 @@ pub fn steps_to<S: Shadows + Drop, H: Host, O: Sink>(
         }
         let before = running.step;
         match one_step(running, pool, host, image) {
-            Err(stop) => return Ok(Pause::Stopped(stop)),
-            Ok(seen) => match put_step(&items_of(before, seen), out) {
-                Ok(()) => {}
-                Err(failed) => return Err(failed),
-            },
+            Err(stop) => {
+                tell(notes, running.lost.before, before);
+                return Ok(Pause::Stopped(stop));
+            }
+            Ok(seen) => {
+                tell_both(notes, running.lost, before);
+                match put_step(&items_of(before, seen), out) {
+                    Ok(()) => {}
+                    Err(failed) => return Err(failed),
+                }
+            }
         }
         rest(running, script, bound);
     }
     Ok(Pause::Reached)
 }
 
-/// One step, whose events were given.
+/// One step, whose events were given. Whether all translations were dropped before it or after it is noted.
 fn one_step<S: Shadows + Drop, H: Host>(
     running: &mut Running<S>,
     pool: &mut Pool,
@@ -104,7 +116,7 @@ fn one_step<S: Shadows + Drop, H: Host>(
     requires room { H.retired host.old + 1 < 2 ^ 64 }
     requires enough { 16 ≤ length (free_list pool.old (H.bytes host.old)) + running.old.held }
     ensures step { (script : Events) → StepAs (wedge image.now script running.old.frames)
-        (state_of S.stands S.frames S.slots (wedge image.now script running.old.frames) running.old (H.bytes host.old)) result (state_of S.stands S.frames S.slots (wedge image.now script running.old.frames) running.new (H.bytes host.new))
+        (state_of S.stands S.frames S.slots (wedge image.now script running.old.frames) running.old (H.bytes host.old)) running.new.lost result (state_of S.stands S.frames S.slots (wedge image.now script running.old.frames) running.new (H.bytes host.new))
         (record { retired = H.retired host.old; passed = H.passed host.old }) (record { retired = H.retired host.new; passed = H.passed host.new }) }
     ensures held { OnOk result (IsHeld S.stands S.frames S.slots (ground image.now running.old.frames) running.new pool.new (H.bytes host.new)) }
     ensures able { OnOk result (IsAble running.new.cpu) }
@@ -114,6 +126,7 @@ fn one_step<S: Shadows + Drop, H: Host>(
     ensures pool { Keeps pool.old pool.new (H.bytes host.old) (H.bytes host.new) (S.frames running.old.shadows (H.bytes host.old)) (S.frames running.new.shadows (H.bytes host.new)) }
     ensures few { H.retired host.new ≤ H.retired host.old + 1 }
     ensures stays { OnErr result (running.new.step ≡ running.old.step) }
+    ensures unfilled { OnErr result (running.new.fills ≡ running.old.fills) }
     ensures counted { running.new.held ≡ length (S.frames running.new.shadows (H.bytes host.new)) }
     ensures retired { OnErr result (H.retired host.new ≡ H.retired host.old) }
     ensures passed { OnErr result (H.passed host.new ≡ H.passed host.old) }
@@ -122,6 +135,10 @@ fn one_step<S: Shadows + Drop, H: Host>(
 {
     alones_go();
     steps_keep_able();
+    running.lost = Lost {
+        before: false,
+        after: false,
+    };
     if !may_run(&running.cpu, &running.board, image) {
         return by_rules(running, pool, host, image);
     }
@@ -144,10 +161,12 @@ fn by_rules<S: Shadows + Drop, H: Host>(
     requires started { H.is_started host.old ≡ true }
     requires held { IsHeld S.stands S.frames S.slots (ground image.now running.old.frames) running.old pool.old (H.bytes host.old) }
     requires bound { running.old.step < 2 ^ 40 }
-    ensures step { (script : Events) → AloneAs (wedge image.now script running.old.frames) (state_of S.stands S.frames S.slots (wedge image.now script running.old.frames) running.old (H.bytes host.old)) result (state_of S.stands S.frames S.slots (wedge image.now script running.old.frames) running.new (H.bytes host.new)) }
+    ensures step { (script : Events) → AloneAs (wedge image.now script running.old.frames) (state_of S.stands S.frames S.slots (wedge image.now script running.old.frames) running.old (H.bytes host.old)) running.new.lost.after result (state_of S.stands S.frames S.slots (wedge image.now script running.old.frames) running.new (H.bytes host.new)) }
+    ensures before { running.new.lost.before ≡ running.old.lost.before }
     ensures held { OnOk result (IsHeld S.stands S.frames S.slots (ground image.now running.old.frames) running.new pool.new (H.bytes host.new)) }
     ensures count { OnOk result (running.new.step ≡ running.old.step + 1) }
     ensures stays { OnErr result (running.new.step ≡ running.old.step) }
+    ensures unfilled { OnErr result (running.new.fills ≡ running.old.fills) }
     ensures counted { running.new.held ≡ length (S.frames running.new.shadows (H.bytes host.new)) }
     ensures stands { ∥ S.stands running.new.shadows (H.bytes host.new) ∥₁ }
     ensures filled { FillsOn (set_of S.stands S.frames S.slots running.old (H.bytes host.old)) (set_of S.stands S.frames S.slots running.new (H.bytes host.new)) running.old.fills running.new.fills }

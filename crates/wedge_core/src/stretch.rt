@@ -7,9 +7,7 @@ ghost use Rattle.board.specs.declared.devices.Board.{Board as Devices};
 ghost use Rattle.board.specs.Boards.{given, comes_within};
 ghost use Rattle.board.specs.Scripts.{Events, is_script};
 ghost use Rattle.machine_model.specs.State.{wedge};
-ghost use Rattle.machine_model.specs.Run.{Set};
 ghost use Rattle.wedge_core.specs.Filled.{FillsOn};
-ghost use Rattle.wedge_core.specs.Parts.{IsPartOf};
 ghost use Rattle.wedge_core.specs.Standing.{IsHeld, IsAble, ground, set_of, state_of};
 ghost use Rattle.wedge_core.specs.Views.{may_run, view_by};
 ghost use Rattle.wedge_core.specs.Pools.{Keeps};
@@ -118,8 +116,8 @@ pub fn stretch<S: Shadows + Drop, H: Host>(
     requires begun { running.old.step ≤ bound }
     requires bound { bound ≤ 2 ^ 40 }
     requires room { H.retired host.old + (bound - running.old.step) < 2 ^ 64 }
-    ensures passes { 0 < result → (board : Devices) → given board script.now.list running.old.step ≡ running.old.board → (whole : Set) → IsPartOf (set_of S.stands S.frames S.slots running.old (H.bytes host.old)) whole
-        → Passes (wedge image.now script.now.list running.old.frames) (record (state_of S.stands S.frames S.slots (wedge image.now script.now.list running.old.frames) running.old (H.bytes host.old)) { board = board }) whole
+    ensures passes { 0 < result → (board : Devices) → given board script.now.list running.old.step ≡ running.old.board
+        → Passes (wedge image.now script.now.list running.old.frames) (record (state_of S.stands S.frames S.slots (wedge image.now script.now.list running.old.frames) running.old (H.bytes host.old)) { board = board })
         (state_of S.stands S.frames S.slots (wedge image.now script.now.list running.old.frames) running.new (H.bytes host.new))
         (record { retired = H.retired host.old; passed = H.passed host.old }) (record { retired = H.retired host.new; passed = H.passed host.new }) }
     ensures stays { result ≡ 0 → state_of S.stands S.frames S.slots (wedge image.now script.now.list running.old.frames) running.new (H.bytes host.new) ≡ state_of S.stands S.frames S.slots (wedge image.now script.now.list running.old.frames) running.old (H.bytes host.old) }

@@ -1,8 +1,8 @@
-use Rattle.std.proofs.Common.{◌≡◌, ℕ, ap, subst, OnErr}
+use Rattle.std.proofs.Common.{◌≡◌, ℕ, Bool, false, ap, sym, ◌∙◌, subst, OnErr}
 use Rattle.machine_model.specs.State.{wedge}
 use Rattle.wedge_core.specs.Attempts.{AttemptAs}
 use Rattle.shadow_tables.specs.Entries.{entries_of}
-use Rattle.wedge_core.specs.Parts.{with_set}
+use Rattle.wedge_core.specs.Parts.{left_of, with_set}
 use Rattle.wedge_core.specs.Standing.{state_of}
 use Rattle.wedge_core.specs.Views.{view_by}
 use Rattle.wedge_core.specs.declared.running.Running.{Running}
@@ -11,6 +11,7 @@ use Rattle.wedge_core.proofs.Before.{attempt_before}
 use Rattle.wedge_core.proofs.Filling.{fills_join, fills_part}
 use Rattle.wedge_core.proofs.Keeping.{keeps_join, keeps_moves}
 use Rattle.wedge_core.proofs.Memories.{shown_same}
+use Rattle.wedge_core.proofs.Parts.{part_left}
 use Rattle.wedge_core.proofs.native.begin_native.Goals as goal
 
 pub returns-clause-step : goal.returns-clause-step
@@ -24,15 +25,16 @@ returns-clause-step g c = λ script.
     let new = c.try_once.new.running in
     let m = wedge image script running.frames in
     let b = state_of g.S.Shadows.stands g.S.Shadows.frames g.S.Shadows.slots m running ram0 in
-    let here = record running { shadows = mid.shadows; held = mid.held } in
+    let here = record running { shadows = mid.shadows; held = mid.held; lost = mid.lost } in
     let d = state_of g.S.Shadows.stands g.S.Shadows.frames g.S.Shadows.slots m here ram1 in
     let view = view_by (g.S.Shadows.directory new.shadows) running.cpu in
     let after = state_of g.S.Shadows.stands g.S.Shadows.frames g.S.Shadows.slots m new ram2 in
     let tried = subst (λ (r : Running g.row.S.Denot). AttemptAs (wedge image script r.frames) (view_by (g.S.Shadows.directory new.shadows) r.cpu)
-    (state_of g.S.Shadows.stands g.S.Shadows.frames g.S.Shadows.slots (wedge image script r.frames) r ram1) c.try_once.result
+    (state_of g.S.Shadows.stands g.S.Shadows.frames g.S.Shadows.slots (wedge image script r.frames) r ram1) false new.lost.after c.try_once.result
     (state_of g.S.Shadows.stands g.S.Shadows.frames g.S.Shadows.slots (wedge image script r.frames) new ram2) ram2) c.make_room.ensures.same (c.try_once.ensures.step script) in
     let is : d ≡ with_set b d.set = λ i. record b { ram = shown_same m ram0 ram1 c.make_room.ensures.guest i; set = d.set } in
-    attempt_before m view b d c.try_once.result after ram2 is c.make_room.ensures.part tried
+    let left : d.set ≡ left_of new.lost.before b.set = c.make_room.ensures.left ∙ ap (λ (x : Bool). left_of x b.set) (sym c.try_once.ensures.before) in
+    attempt_before m view b d new.lost.before new.lost.after c.try_once.result after ram2 is left tried
 
 pub returns-clause-pool : goal.returns-clause-pool
 returns-clause-pool g c =
@@ -47,6 +49,11 @@ returns-clause-stays g c =
     let same = ap (λ (r : Running g.row.S.Denot). r.step) c.make_room.ensures.same in
     subst (λ (k : ℕ). OnErr c.try_once.result (c.try_once.new.running.step ≡ k)) same c.try_once.ensures.stays
 
+pub returns-clause-unfilled : goal.returns-clause-unfilled
+returns-clause-unfilled g c =
+    let same = ap (λ (r : Running g.row.S.Denot). r.fills) c.make_room.ensures.same in
+    subst (λ (k : ℕ). OnErr c.try_once.result (c.try_once.new.running.fills ≡ k)) same c.try_once.ensures.unfilled
+
 pub returns-clause-filled : goal.returns-clause-filled
 returns-clause-filled g c =
     let running = c.args.running.now in
@@ -56,4 +63,4 @@ returns-clause-filled g c =
     let set1 = entries_of (g.S.Shadows.slots mid.shadows c.make_room.new.ram) in
     let set2 = entries_of (g.S.Shadows.slots new.shadows c.try_once.new.ram) in
     let same = ap (λ (r : Running g.row.S.Denot). r.fills) c.make_room.ensures.same in
-    fills_join set0 set1 set2 running.fills running.fills new.fills (fills_part set0 set1 running.fills c.make_room.ensures.part) (subst (λ (k : ℕ). FillsOn set1 set2 k new.fills) same c.try_once.ensures.filled)
+    fills_join set0 set1 set2 running.fills running.fills new.fills (fills_part set0 set1 running.fills (part_left c.make_room.new.running.lost.before set1 set0 c.make_room.ensures.left)) (subst (λ (k : ℕ). FillsOn set1 set2 k new.fills) same c.try_once.ensures.filled)

@@ -1,13 +1,21 @@
-use Rattle.std.proofs.Common.{refl, sym, ◌∙◌}
+use Rattle.std.proofs.Common.{Bool, refl, sym, ap, ◌∙◌}
 use Rattle.machine_model.specs.State.{wedge}
+use Rattle.shadow_tables.specs.Entries.{entries_of}
+use Rattle.wedge_core.specs.Parts.{left_of}
 use Rattle.wedge_core.specs.Standing.{state_of}
 use Rattle.wedge_core.proofs.Clashless.{empty_clear}
-use Rattle.wedge_core.proofs.Parts.{part_empty}
 use Rattle.wedge_core.proofs.AfterTry.{any_script}
 use Rattle.wedge_core.proofs.native.make_room.Goals as goal
 
-pub returns-then-few-clause-part : goal.returns-then-few-clause-part
-returns-then-few-clause-part g c = part_empty _ _ c.drop_kept.ensures.none
+pub returns-then-few-clause-left : goal.returns-then-few-clause-left
+returns-then-few-clause-left g c =
+    let old = entries_of (g.S.Shadows.slots c.args.running.now.shadows c.args.ram.now) in
+    c.drop_kept.ensures.none ∙ ap (λ (x : Bool). left_of x old) (sym c.drop_kept.ensures.lost)
+
+pub returns-else-clashes-clause-left : goal.returns-else-clashes-clause-left
+returns-else-clashes-clause-left g c =
+    let old = entries_of (g.S.Shadows.slots c.args.running.now.shadows c.args.ram.now) in
+    ap (λ (x : Bool). left_of x old) (sym c.requires.kept)
 
 pub returns-then-few-clause-clear : goal.returns-then-few-clause-clear
 returns-then-few-clause-clear g c = λ script insn len after e.

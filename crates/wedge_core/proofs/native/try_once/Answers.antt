@@ -31,7 +31,7 @@ use Rattle.wedge_core.proofs.Asking.{may_close, others, asks}
 use Rattle.wedge_core.proofs.Memories.{shown_is, shown_same, front_same, host_same, host_left, text_within}
 use Rattle.wedge_core.proofs.Nexts.{next_from, others_users, starts, step_is, idle}
 use Rattle.wedge_core.proofs.Opening.{same_open}
-use Rattle.wedge_core.proofs.Parts.{part_same, part_within, part_join, dropped_part}
+use Rattle.wedge_core.proofs.Parts.{part_same, part_left, part_within, part_join, dropped_part}
 use Rattle.wedge_core.proofs.Seeing.{side_is}
 use Rattle.wedge_core.proofs.Telling.{told_same, told_within}
 use Rattle.wedge_core.proofs.AfterTry.{any_script, told_sound, closes_told, after, few_after, held_then, keeps_then, keeps_still}
@@ -245,7 +245,7 @@ returns-in_err-worked-clause-step g c = λ script.
     let tries = c.in_err-worked.ensures.tries m (unheld b) (record { has = refl; over = refl }) in
     let sees = c.native_laws.ensures.sees (g.S.Shadows.directory running.shadows) running.cpu c.requires.able in
     let r = err_from_is_err_and c.from_residual.result c.from_residual.ensures.1 in
-    rw (r.1, r.2) (record { chosen = b.set; allowed = part_same b.set b.set refl; stands = step_is m b sees.level next ∙ (ap (fetches_next m (unheld b)) (sym start) ∙ tries) })
+    rw (r.1, r.2) (step_is m b sees.level next ∙ (ap (fetches_next m (unheld b)) (sym start) ∙ tries))
 
 pub returns-in-Some-clause-step : goal.returns-in-Some-clause-step
 returns-in-Some-clause-step g c = λ script.
@@ -291,7 +291,7 @@ returns-in-Some-clause-step g c = λ script.
     let here : laying.laid o.result.bytes.now o.result.first n ram1 ≡ t.ram = λ i. laying.shown_by (sym text1 i).now (sym frames1 i) ram1 in
     let front = front_same n pool0 c.go.new.pool ram1 c.go.new.ram (g.S.Shadows.frames running.shadows ram1) (g.S.Shadows.frames c.go.new.running.shadows c.go.new.ram) held.behind (owns c.try_native.ensures.sound.stands_now) c.go.ensures.moves in
     let ram_is : shown m c.go.new.ram ≡ t.ram = shown_same m ram1 c.go.new.ram front ∙ (sym (shown_is m o.result.bytes.now o.result.first ram1 o.ensures.bytes o.ensures.first) ∙ here) in
-    idle m b c.in-Some.worked c.try_native.new.board t (state_of g.S.Shadows.stands g.S.Shadows.frames g.S.Shadows.slots m c.go.new.running c.go.new.ram) stepped_is c.go.ensures.cpu ram_is c.go.ensures.board c.go.ensures.step c.go.ensures.part none
+    idle m b c.go.new.running.lost.after c.in-Some.worked c.try_native.new.board t (state_of g.S.Shadows.stands g.S.Shadows.frames g.S.Shadows.slots m c.go.new.running c.go.new.ram) stepped_is c.go.ensures.cpu ram_is c.go.ensures.board c.go.ensures.step c.go.ensures.left none
 
 pub returns-in-Some-clause-held : goal.returns-in-Some-clause-held
 returns-in-Some-clause-held g c =
@@ -319,7 +319,7 @@ returns-in-Some-clause-held g c =
     let count = c.go.ensures.step in
     held_then g.S.Shadows.stands g.S.Shadows.frames g.S.Shadows.slots image running (record c.go.new.running { step = running.step + 1 }) pool0 c.go.new.pool ram0 ram1 c.go.new.ram held a (owns c.try_native.ensures.sound.stands_now) c.go.ensures.moves
     c.go.ensures.stands c.go.ensures.owns c.go.ensures.counted (omega (arith, fills, count)) c.go.ensures.frames
-    (part_within n _ whole1 (part_join _ _ _ c.go.ensures.part (dropped_part c.in-Some.worked.dropped whole1)) (subst (λ (k : ℕ). AreWithin k whole1) frames1 c.try_native.ensures.sound.within))
+    (part_within n _ whole1 (part_join _ _ _ (part_left _ _ _ c.go.ensures.left) (dropped_part c.in-Some.worked.dropped whole1)) (subst (λ (k : ℕ). AreWithin k whole1) frames1 c.try_native.ensures.sound.within))
     (subst (λ (x : Cpu). AreOpen image (wp_of x) (g.S.Shadows.slots c.go.new.running.shadows c.go.new.ram)) (sym c.go.ensures.cpu) open1)
 
 pub returns-in-Some-clause-pool : goal.returns-in-Some-clause-pool
@@ -369,7 +369,7 @@ returns-in-None-clause-asked g c =
     let b = state_of g.S.Shadows.stands g.S.Shadows.frames g.S.Shadows.slots m running c.args.ram.now in
     let tries = rw c.in-None.is at (c.in_ok-worked.ensures.tries m (unheld b) (record { has = refl; over = refl })) in
     let new = c.keep.new.running in
-    c.keep.ensures.same ∙ (λ i. record running { board = tries.0 i; shadows = new.shadows; held = new.held; fills = new.fills })
+    c.keep.ensures.same ∙ (λ i. record running { board = tries.0 i; shadows = new.shadows; held = new.held; fills = new.fills; lost = new.lost })
 
 pub returns-in-None-clause-held : goal.returns-in-None-clause-held
 returns-in-None-clause-held g c =
@@ -408,7 +408,7 @@ returns-in-None-clause-held g c =
     let before = held.fills in
     held_then g.S.Shadows.stands g.S.Shadows.frames g.S.Shadows.slots image running (record new { step = running.step + 1 }) pool0 c.keep.new.pool ram0 ram1 ram3 held a (owns c.try_native.ensures.sound.stands_now) c.keep.ensures.moves
     c.keep.ensures.stands c.keep.ensures.owns c.keep.ensures.counted (omega (arith, fills, before)) (ap (λ (r : Running g.row.S.Denot). r.frames) same)
-    (part_within n _ whole2 c.keep.ensures.part within2)
+    (part_within n _ whole2 (part_left _ _ _ c.keep.ensures.left) within2)
     (subst (λ (x : Cpu). AreOpen image (wp_of x) (g.S.Shadows.slots new.shadows ram3)) (sym cpu_is) open3)
 
 pub returns-in-None-clause-step : goal.returns-in-None-clause-step
@@ -464,7 +464,8 @@ returns-in-None-clause-step g c = λ script.
     let free1 = length (free_list pool0 ram1) in
     let enough : 8 ≤ free1 = (let e = ap length a.free_same in let r = c.requires.room in omega (arith, e, r)) in
     let may = may_close c.native_laws.ensures.grants c.native_laws.ensures.again c.native_laws.ensures.completes m w directory b room fit sound (c.native_laws.ensures.sees directory running.cpu c.requires.able) next small t p clear n c.text_frames-in-None.result free1 state1.changes c.text_frames-in-None.ensures within1 enough in
-    let closes = closes_told (g.S.Shadows.slots running.shadows ram1) slots3 kept1 t.set c.text_frames-in-None.result side free1 (wp_of running.cpu) (g.S.Shadows.tracked new.shadows) state1 c.keep_told.new.state c.keep_told.ensures told_is wp1 c.keep.ensures.whole may in
+    let kept_all = closes_told new.lost.after (g.S.Shadows.slots running.shadows ram1) slots3 kept1 t.set c.text_frames-in-None.result side free1 (wp_of running.cpu) (g.S.Shadows.tracked new.shadows) state1 c.keep_told.new.state c.keep_told.ensures told_is wp1 c.keep.ensures.whole may in
+    let closes = kept_all.1 in
     let text1 = c.try_native.ensures.text ∙ ap (λ (x : Guard). x.text) c.begin-state.ensures.guard in
     let here : laying.laid o.result.bytes.now o.result.first n ram1 ≡ t.ram = λ i. laying.shown_by (sym text1 i).now (sym frames1 i) ram1 in
     let front = front_same n pool0 c.keep.new.pool ram1 ram3 (g.S.Shadows.frames running.shadows ram1) (g.S.Shadows.frames new.shadows ram3) held.behind (owns c.try_native.ensures.sound.stands_now) c.keep.ensures.moves in
@@ -485,7 +486,7 @@ returns-in-None-clause-step g c = λ script.
     (part_same (entries_of slots3) t.set closes.entries)) in
     let state_is : state_of g.S.Shadows.stands g.S.Shadows.frames g.S.Shadows.slots m new ram3 ≡ again.settled b t =
     λ i. record { cpu = cpu_is i; ram = ram_is i; set = closes.entries i; board = (ap (λ (r : Running g.row.S.Denot). r.board) same ∙ tries.0) i; step = ap (λ (r : Running g.row.S.Denot). r.step) same i } in
-    asks c.native_laws.ensures.grants c.native_laws.ensures.again c.native_laws.ensures.completes m w directory b room fit sound (c.native_laws.ensures.sees directory running.cpu c.requires.able) next small t p clear (g.S.Shadows.slots running.shadows ram1) slots3 state1.changes (g.S.Shadows.tracked new.shadows) ram3 closes beyond host within (record { host = host3; ram = sym ram_is; sees = sees }) lends
+    asks c.native_laws.ensures.grants c.native_laws.ensures.again c.native_laws.ensures.completes m w directory b room fit sound (c.native_laws.ensures.sees directory running.cpu c.requires.able) next small t p clear (g.S.Shadows.slots running.shadows ram1) slots3 state1.changes (g.S.Shadows.tracked new.shadows) ram3 closes beyond host within (record { host = host3; ram = sym ram_is; sees = sees }) lends new.lost.after kept_all.0
     (state_of g.S.Shadows.stands g.S.Shadows.frames g.S.Shadows.slots m new ram3) state_is
 
 pub returns-in_err-worked-clause-filled : goal.returns-in_err-worked-clause-filled

@@ -4,14 +4,14 @@ use Rattle.wedge_core.proofs.Resting.{rests_none, rests_some}
 use Rattle.wedge_core.proofs.rest.rest.Goals as goal
 
 pub returns-then-not-is_resting-clause-passes : goal.returns-then-not-is_resting-clause-passes
-returns-then-not-is_resting-clause-passes g c = λ image memory whole counts part.
+returns-then-not-is_resting-clause-passes g c = λ image memory counts.
     let running = c.args.running.now in
     let m = wedge image c.args.script.now.list running.frames in
-    rests_none m (state_of g.S.Shadows.stands g.S.Shadows.frames g.S.Shadows.slots m running memory) whole counts part
+    rests_none m (state_of g.S.Shadows.stands g.S.Shadows.frames g.S.Shadows.slots m running memory) counts
 
 pub returns-clause-passes : goal.returns-clause-passes
-returns-clause-passes g c = λ image memory whole counts part.
+returns-clause-passes g c = λ image memory counts.
     let running = c.args.running.now in
     let m = wedge image c.args.script.now.list running.frames in
     let is = c.is_resting.ensures c.if-not-is_resting.false in
-    rw c.advance.ensures (rests_some c.quiet_steps-k.result m (state_of g.S.Shadows.stands g.S.Shadows.frames g.S.Shadows.slots m running memory) whole counts c.requires.begun is.0 is.1 is.2 c.quiet_steps-k.ensures.quiet part)
+    rw c.advance.ensures (rests_some c.quiet_steps-k.result m (state_of g.S.Shadows.stands g.S.Shadows.frames g.S.Shadows.slots m running memory) counts c.requires.begun is.0 is.1 is.2 c.quiet_steps-k.ensures.quiet)

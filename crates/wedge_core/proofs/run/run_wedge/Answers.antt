@@ -46,3 +46,6 @@ returns-in-Ok g c =
       run = subst (λ (x : Counts). WedgeAnswers image script c.args.frames c.args.n (g.O.Sink.taken c.args.out.now) (g.O.Sink.taken c.whole.new.out) (g.O.Sink.faults c.args.out.now) (g.O.Sink.faults c.whole.new.out) x after (g.H.Host.bytes c.whole.new.host) c.whole.result)
           (λ i. record { retired = c.start.ensures.retired i; passed = c.start.ensures.passed i }) here;
     }
+
+pub whole-requires-clause-unfilled : goal.whole-requires-clause-unfilled
+whole-requires-clause-unfilled g c = let b = c.in-Ok.ensures.started.4 [] in b.fills

@@ -16,7 +16,7 @@ use Rattle.native_steps.specs.Stands.{shown}
 use Rattle.wedge_core.specs.Standing.{AreOpen, state_of, ground, wp_of}
 use Rattle.wedge_core.proofs.Alones.{alone_from, began}
 use Rattle.wedge_core.proofs.Opening.{same_open}
-use Rattle.wedge_core.proofs.Parts.{part_within, part_join, dropped_part}
+use Rattle.wedge_core.proofs.Parts.{part_left, part_within, part_join, dropped_part}
 use Rattle.wedge_core.proofs.Keeping.{keeps_join, keeps_above, keeps_moves}
 use Rattle.wedge_core.proofs.Memories.{step_leaves, text_within, shown_is, front_same, shown_same, host_same, host_left}
 use Rattle.wedge_core.proofs.Filling.{fills_same, fills_join}
@@ -115,7 +115,7 @@ returns-in-Ok-clause-step g c = λ script.
     let here : laying.laid o.result.bytes.now o.result.first n ram1 ≡ s1.ram = λ i. laying.shown_by (sym text1 i).now (sym frames1 i) ram1 in
     let front = front_same n c.args.pool.now c.go.new.pool ram1 c.go.new.ram (g.S.Shadows.frames running.shadows ram1) (g.S.Shadows.frames c.go.new.running.shadows c.go.new.ram) held.behind (owns c.step_in-outcome.ensures.sound.stands_now) c.go.ensures.moves in
     let ram_is : shown m c.go.new.ram ≡ s1.ram = shown_same m ram1 c.go.new.ram front ∙ (sym (shown_is m o.result.bytes.now o.result.first ram1 o.ensures.bytes o.ensures.first) ∙ here) in
-    alone_from m b w c.step_in-outcome.new.board s1 (state_of g.S.Shadows.stands g.S.Shadows.frames g.S.Shadows.slots m c.go.new.running c.go.new.ram) (sym start ∙ raw) c.go.ensures.cpu ram_is c.go.ensures.board c.go.ensures.step c.go.ensures.part
+    alone_from m b c.go.new.running.lost.after w c.step_in-outcome.new.board s1 (state_of g.S.Shadows.stands g.S.Shadows.frames g.S.Shadows.slots m c.go.new.running c.go.new.ram) (sym start ∙ raw) c.go.ensures.cpu ram_is c.go.ensures.board c.go.ensures.step c.go.ensures.left
 
 pub returns-in-Ok-clause-held : goal.returns-in-Ok-clause-held
 returns-in-Ok-clause-held g c =
@@ -161,7 +161,7 @@ returns-in-Ok-clause-held g c =
       counted = c.go.ensures.counted;
       few = omega (arith, few, free, same, lengths);
       fills = c.go.ensures.fills;
-      within = part_within n _ whole1 (part_join _ _ _ c.go.ensures.part (dropped_part c.in-Ok.worked.dropped whole1)) (subst (λ (k : ℕ). AreWithin k whole1) frames1 c.step_in-outcome.ensures.sound.within);
+      within = part_within n _ whole1 (part_join _ _ _ (part_left _ _ _ c.go.ensures.left) (dropped_part c.in-Ok.worked.dropped whole1)) (subst (λ (k : ℕ). AreWithin k whole1) frames1 c.step_in-outcome.ensures.sound.within);
       open_to = subst (λ (x : Cpu). AreOpen image (wp_of x) (g.S.Shadows.slots c.go.new.running.shadows ram2)) (sym c.go.ensures.cpu) open1;
     }
 

@@ -1,4 +1,4 @@
-use Rattle.std.proofs.Common.{◌≡◌, ℕ, ◌*◌, ◌≤◌, List, [], length, drop, refl, sym, subst, ◌∙◌, arith, ap}
+use Rattle.std.proofs.Common.{◌≡◌, ℕ, false, ◌*◌, ◌≤◌, List, [], length, drop, refl, sym, subst, ◌∙◌, arith, ap}
 use Rattle.frame_pool.specs.Held.{Owns}
 use Rattle.frame_pool.specs.Pool.{base_of}
 use Rattle.shadow_tables.specs.Entries.{entries_of}
@@ -15,6 +15,7 @@ use Rattle.wedge_core.specs.declared.running.Running.{Running}
 use Rattle.wedge_core.specs.Filled.{FillsOn}
 use Rattle.wedge_core.proofs.Going.{counted, counts_same}
 use Rattle.wedge_core.proofs.OnceRan.{SameKept, IsOnce, once_goes_on, once_counts, once_stands, once_able, once_held, once_keeps, once_fills, alone_able, idle_able, idle_goes}
+use Rattle.wedge_core.proofs.Losing.{held_lost}
 use Rattle.wedge_core.proofs.slice.one_step.Given.{Over}
 use Rattle.wedge_core.proofs.slice.one_step.Goals as goal
 
@@ -26,14 +27,15 @@ returns-then-not-may_run-clause-step g c = λ script.
     let new = at c.by_rules.new.running (g.H.Host.bytes c.by_rules.new.host) in
     let before = counted (g.H.Host.retired c.args.host.now) (g.H.Host.passed c.args.host.now) in
     let same = counts_same (g.H.Host.retired c.args.host.now) (g.H.Host.retired c.by_rules.new.host) (g.H.Host.passed c.args.host.now) (g.H.Host.passed c.by_rules.new.host) c.by_rules.ensures.retired c.by_rules.ensures.passed in
-    subst (λ (x : Counts). StepAs m old c.by_rules.result new before x) (sym same)
-    (c.alones_go.ensures m old c.by_rules.result new before refl c.requires.able.level (sym c.may_run.ensures ∙ c.if-not-may_run.true) (c.by_rules.ensures.step script))
+    let lost = c.by_rules.new.running.lost in
+    subst (λ (x : Counts). StepAs m old lost c.by_rules.result new before x) (sym same)
+    (c.alones_go.ensures m old lost c.by_rules.result new before refl c.requires.able.level (sym c.may_run.ensures ∙ c.if-not-may_run.true) c.by_rules.ensures.before (c.by_rules.ensures.step script))
 
 pub returns-then-not-may_run-clause-able : goal.returns-then-not-may_run-clause-able
 returns-then-not-may_run-clause-able g c =
     let m = ground c.args.image.now c.args.running.now.frames in
     let at = λ (r : Running g.row.S.Denot) (memory : List ℕ). state_of g.S.Shadows.stands g.S.Shadows.frames g.S.Shadows.slots m r memory in
-    alone_able c.steps_keep_able.ensures m (at c.args.running.now (g.H.Host.bytes c.args.host.now)) c.by_rules.result (at c.by_rules.new.running (g.H.Host.bytes c.by_rules.new.host)) refl c.requires.able (c.by_rules.ensures.step [])
+    alone_able c.steps_keep_able.ensures m (at c.args.running.now (g.H.Host.bytes c.args.host.now)) c.by_rules.new.running.lost.after c.by_rules.result (at c.by_rules.new.running (g.H.Host.bytes c.by_rules.new.host)) refl c.requires.able (c.by_rules.ensures.step [])
 
 -- the memory that was lent, at both ends
 module _ (g : Over) (c : goal.In-Went g) where
@@ -44,7 +46,7 @@ module _ (g : Over) (c : goal.In-Went g) where
   new_memory = sym (g.met.H.Host.bytes_changed c.args.host.now c.begin_native.new.ram)
 
   went : (script : _) → Idle (wedge c.args.image.now script c.args.running.now.frames)
-      (state_of g.S.Shadows.stands g.S.Shadows.frames g.S.Shadows.slots (wedge c.args.image.now script c.args.running.now.frames) c.args.running.now c.ram_mut.result.now) c.in-Went.seen
+      (state_of g.S.Shadows.stands g.S.Shadows.frames g.S.Shadows.slots (wedge c.args.image.now script c.args.running.now.frames) c.args.running.now c.ram_mut.result.now) c.begin_native.new.running.lost.before c.begin_native.new.running.lost.after c.in-Went.seen
       (state_of g.S.Shadows.stands g.S.Shadows.frames g.S.Shadows.slots (wedge c.args.image.now script c.args.running.now.frames) c.begin_native.new.running c.begin_native.new.ram)
   went script = rw c.in-Went.is at (c.in_ok-seen.ensures.step script)
 
@@ -56,9 +58,10 @@ returns-in-Went-clause-step g c = λ script.
     let before = counted (g.H.Host.retired c.args.host.now) (g.H.Host.passed c.args.host.now) in
     let after = counted (g.H.Host.retired host) (g.H.Host.passed host) in
     let same = counts_same (g.H.Host.retired c.args.host.now) (g.H.Host.retired host) (g.H.Host.passed c.args.host.now) (g.H.Host.passed host) (g.met.H.Host.retired_stays c.args.host.now c.begin_native.new.ram) (g.met.H.Host.passed_stays c.args.host.now c.begin_native.new.ram) in
-    let i = subst (λ (l : List ℕ). Idle m (at c.args.running.now (g.H.Host.bytes c.args.host.now)) c.in-Went.seen (at c.begin_native.new.running l)) (new_memory g c)
-    (subst (λ (l : List ℕ). Idle m (at c.args.running.now l) c.in-Went.seen (at c.begin_native.new.running c.begin_native.new.ram)) (old_memory g c) (went g c script)) in
-    idle_goes m _ c.in-Went.seen _ before after (sym same) i
+    let lost = c.begin_native.new.running.lost in
+    let i = subst (λ (l : List ℕ). Idle m (at c.args.running.now (g.H.Host.bytes c.args.host.now)) lost.before lost.after c.in-Went.seen (at c.begin_native.new.running l)) (new_memory g c)
+    (subst (λ (l : List ℕ). Idle m (at c.args.running.now l) lost.before lost.after c.in-Went.seen (at c.begin_native.new.running c.begin_native.new.ram)) (old_memory g c) (went g c script)) in
+    idle_goes m _ lost c.in-Went.seen _ before after (sym same) i
 
 pub returns-in-Went-clause-held : goal.returns-in-Went-clause-held
 returns-in-Went-clause-held g c =
@@ -68,7 +71,7 @@ returns-in-Went-clause-held g c =
     subst (λ (l : List ℕ). IsHeld g.S.Shadows.stands g.S.Shadows.frames g.S.Shadows.slots (ground c.args.image.now c.args.running.now.frames) r c.begin_native.new.pool l) (new_memory g c) held
 
 pub returns-in-Went-clause-able : goal.returns-in-Went-clause-able
-returns-in-Went-clause-able g c = idle_able c.steps_keep_able.ensures _ _ c.in-Went.seen _ refl c.requires.able (went g c [])
+returns-in-Went-clause-able g c = idle_able c.steps_keep_able.ensures _ _ _ _ c.in-Went.seen _ refl c.requires.able (went g c [])
 
 pub returns-in-Went-clause-pool : goal.returns-in-Went-clause-pool
 returns-in-Went-clause-pool g c =
@@ -124,7 +127,7 @@ module _ (g : Over) (c : goal.After-run_on-one g) where
       let n = c.args.running.now.frames in
       let at = λ (script : _) (r : Running g.row.S.Denot) (memory : List ℕ). state_of g.S.Shadows.stands g.S.Shadows.frames g.S.Shadows.slots (wedge c.args.image.now script n) r memory in
       record {
-        asks = λ script. subst (λ (l : List ℕ). Asks (wedge c.args.image.now script n) (view_by (g.S.Shadows.directory c.begin_native.new.running.shadows) c.args.running.now.cpu) (at script c.args.running.now l) (at script c.begin_native.new.running c.begin_native.new.ram) c.begin_native.new.ram) lent
+        asks = λ script. subst (λ (l : List ℕ). Asks (wedge c.args.image.now script n) (view_by (g.S.Shadows.directory c.begin_native.new.running.shadows) c.args.running.now.cpu) (at script c.args.running.now l) c.begin_native.new.running.lost.before c.begin_native.new.running.lost.after (at script c.begin_native.new.running c.begin_native.new.ram) c.begin_native.new.ram) lent
             (rw c.in-Asked.is at (c.in_ok-seen.ensures.step script));
         ran = ran;
         same = rw c.in-Asked.is at c.in_ok-seen.ensures.asked;
@@ -207,3 +210,12 @@ pub returns-in-Asked-clause-counted : goal.returns-in-Asked-clause-counted
 returns-in-Asked-clause-counted g c =
     let held = once_held g.S.Shadows.stands g.S.Shadows.frames g.S.Shadows.slots g.S.Shadows.directory _ _ _ _ _ _ _ _ _ _ _ (once g c) in
     held.counted
+
+pub by_rules-requires-clause-held : goal.by_rules-requires-clause-held
+by_rules-requires-clause-held g c =
+    held_lost g.S.Shadows.stands g.S.Shadows.frames g.S.Shadows.slots (ground c.args.image.now c.args.running.now.frames) c.args.running.now c.args.pool.now (g.H.Host.bytes c.args.host.now) _ c.requires.held
+
+pub begin_native-requires-clause-held : goal.begin_native-requires-clause-held
+begin_native-requires-clause-held g c =
+    subst (λ (l : List ℕ). IsHeld g.S.Shadows.stands g.S.Shadows.frames g.S.Shadows.slots (ground c.args.image.now c.args.running.now.frames) (record c.args.running.now { lost = record { before = false; after = false } }) c.args.pool.now l) (sym c.ram_mut.ensures.ram)
+    (held_lost g.S.Shadows.stands g.S.Shadows.frames g.S.Shadows.slots (ground c.args.image.now c.args.running.now.frames) c.args.running.now c.args.pool.now (g.H.Host.bytes c.args.host.now) _ c.requires.held)

@@ -1,18 +1,19 @@
-use Rattle.std.proofs.Common.{◌≡◌, ℕ, List, Ok, Err, refl, sym, ap, subst, ◌∙◌, arith}
+use Rattle.std.proofs.Common.{◌≡◌, ℕ, ◌+◌, ◌≤◌, Bool, List, Ok, Err, refl, sym, ap, subst, ◌∙◌, arith}
 use Rattle.pv_io.specs.Sink.{Appends, AppendsFront}
 use Rattle.board.specs.Boards.{given}
+use Rattle.image_load.specs.declared.fault.Pause.TheVariants.{Stopped}
 use Rattle.run_trace.specs.declared.items.Item.{Item}
 use Rattle.run_trace.specs.Text.{lines_of}
 use Rattle.machine_model.specs.State.{wedge}
 use Rattle.machine_model.specs.Step.{items_at}
 use Rattle.machine_step.specs.Worked.{whats}
 use Rattle.wedge_core.specs.declared.running.Running.{Running}
-use Rattle.wedge_core.specs.Parts.{with_set}
+use Rattle.wedge_core.specs.Noted.{NotesOn, emptied_if, notes_then}
 use Rattle.wedge_core.specs.Pools.{Keeps}
-use Rattle.wedge_core.specs.Slices.{Counts, CountsOn}
+use Rattle.wedge_core.specs.Slices.{Counts, SliceAs}
 use Rattle.wedge_core.specs.Standing.{IsHeld, IsAble, ground, set_of, state_of}
 use Rattle.wedge_core.specs.Stepping.{Passes, StepAs}
-use Rattle.wedge_core.proofs.Going.{going_none, going_past, going_on, stepped_put, stepped_front, stops_next, counted, counts_same, turned}
+use Rattle.wedge_core.proofs.Going.{going_none, going_past, going_on, stepped_put, reached, stopped, failed, counted, counts_same, turned, notes_on_more, notes_on_none}
 use Rattle.wedge_core.specs.Filled.{FillsOn}
 use Rattle.wedge_core.proofs.Filling.{fills_same, fills_join}
 use Rattle.wedge_core.proofs.Keeping.{keeps_same, keeps_join, held_later, held_given, held_at, enough_then}
@@ -22,13 +23,16 @@ pub loop-running-init : goal.loop-running-init
 loop-running-init g c =
     let m = wedge c.args.image.now c.args.script.now.list c.args.running.now.frames in
     record {
-      going = going_none m (state_of g.S.Shadows.stands g.S.Shadows.frames g.S.Shadows.slots m c.args.running.now (g.H.Host.bytes c.args.host.now)) (counted (g.H.Host.retired c.args.host.now) (g.H.Host.passed c.args.host.now)) (g.O.Sink.taken c.args.out.now);
+      going = going_none m (state_of g.S.Shadows.stands g.S.Shadows.frames g.S.Shadows.slots m c.args.running.now (g.H.Host.bytes c.args.host.now)) (counted (g.H.Host.retired c.args.host.now) (g.H.Host.passed c.args.host.now)) (g.O.Sink.taken c.args.out.now) c.args.running.now.fills
+          (NotesOn (g.L.Notes.wants c.args.notes.now) (g.L.Notes.tells c.args.notes.now) (g.L.Notes.tells c.args.notes.now)) (notes_on_none (g.L.Notes.wants c.args.notes.now) (g.L.Notes.tells c.args.notes.now));
       held = c.requires.held;
       able = c.requires.able;
       pool = keeps_same c.args.pool.now (g.H.Host.bytes c.args.host.now) (g.S.Shadows.frames c.args.running.now.shadows (g.H.Host.bytes c.args.host.now));
       filled = fills_same (set_of g.S.Shadows.stands g.S.Shadows.frames g.S.Shadows.slots c.args.running.now (g.H.Host.bytes c.args.host.now)) (set_of g.S.Shadows.stands g.S.Shadows.frames g.S.Shadows.slots c.args.running.now (g.H.Host.bytes c.args.host.now)) c.args.running.now.fills refl;
       started = c.requires.started;
       frames = refl;
+      wants = refl;
+      silent = λ w. refl;
       later = omega arith;
       bound = c.requires.begun;
       room = c.requires.room;
@@ -53,10 +57,11 @@ loop-running-preserved-then-stretch-gt0 g c =
     let mid = c.stretch.new.running in
     let then_memory = g.H.Host.bytes c.stretch.new.host in
     let mid_counts = counted (g.H.Host.retired c.stretch.new.host) (g.H.Host.passed c.stretch.new.host) in
-    let passes = subst (λ (n : ℕ). Passes (wedge c.args.image.now c.args.script.now.list n) (at n r memory) inv.going.whole (at n mid then_memory) so_far mid_counts) inv.frames
-    (c.stretch.ensures.passes c.if-stretch-gt0.true r.board (sym c.begin.ensures) inv.going.whole inv.going.part) in
+    let passes = subst (λ (n : ℕ). Passes (wedge c.args.image.now c.args.script.now.list n) (at n r memory) (at n mid then_memory) so_far mid_counts) inv.frames
+    (c.stretch.ensures.passes c.if-stretch-gt0.true r.board (sym c.begin.ensures)) in
+    let on = NotesOn (g.L.Notes.wants c.args.notes.now) (g.L.Notes.tells c.args.notes.now) (g.L.Notes.tells c.loop-running.notes) in
     record {
-      going = going_past m old (at f r memory) (at f mid then_memory) counts so_far mid_counts told tells inv.going passes;
+      going = going_past m old (at f r memory) (at f mid then_memory) counts so_far mid_counts told tells c.args.running.now.fills r.fills mid.fills on inv.going c.stretch.ensures.filled passes;
       held = held_at g.S.Shadows.stands g.S.Shadows.frames g.S.Shadows.slots c.args.image.now r.frames f mid c.loop-running.pool then_memory inv.frames (c.stretch.ensures.held c.loop-running.pool (held_given g.S.Shadows.stands g.S.Shadows.frames g.S.Shadows.slots c.args.image.now c.args.running.now.frames c.loop-running.running.frames c.loop-running.running c.begin.new.self c.loop-running.pool (g.H.Host.bytes c.loop-running.host) c.loop-running.invariant.frames c.loop-running.invariant.held));
       able = c.stretch.ensures.able;
       pool = keeps_join c.args.pool.now c.loop-running.pool c.loop-running.pool (g.H.Host.bytes c.args.host.now) (g.H.Host.bytes c.loop-running.host) (g.H.Host.bytes c.stretch.new.host)
@@ -65,6 +70,8 @@ loop-running-preserved-then-stretch-gt0 g c =
       filled = fills_join _ _ _ _ _ _ inv.filled c.stretch.ensures.filled;
       started = c.stretch.ensures.started;
       frames = c.stretch.ensures.frames ∙ inv.frames;
+      wants = inv.wants;
+      silent = inv.silent;
       later = inv.later;
       bound = c.stretch.ensures.most;
       room = (let e = c.stretch.ensures.retired in let n = c.stretch.ensures.count in let k = c.stretch.ensures.most in let h = inv.room in omega (arith, e, n, k, h));
@@ -106,22 +113,38 @@ returns-in-Err-clause-slice g c =
     let none : c.stretch.result ≡ 0 = omega (arith, c.if-stretch-gt0.false) in
     let stays = subst (λ (n : ℕ). at n mid then_memory ≡ at n (record r { board = c.begin.new.self }) memory) inv.frames (c.stretch.ensures.stays none) in
     let same : mid_counts ≡ so_far = counts_same (g.H.Host.retired c.loop-running.host) (g.H.Host.retired c.stretch.new.host) (g.H.Host.passed c.loop-running.host) (g.H.Host.passed c.stretch.new.host) (let e = c.stretch.ensures.retired in omega (arith, e, none)) (c.stretch.ensures.passed none) in
-    let by_frames = subst (λ (n : ℕ). StepAs (wedge c.args.image.now c.args.script.now.list n) (at n mid then_memory) (Err c.in-Err.stop) (at n new new_memory) mid_counts new_counts) (c.stretch.ensures.frames ∙ inv.frames) (c.in-Err.ensures.step c.args.script.now.list) in
-    let step : StepAs m (record (at f r memory) { board = given r.board c.args.script.now.list r.step }) (Err c.in-Err.stop) (at f new new_memory) so_far new_counts =
-    turned m (at f r memory) (at f mid then_memory) (at f new new_memory) c.begin.new.self (Err c.in-Err.stop) so_far mid_counts new_counts stays c.begin.ensures same by_frames in
+    let by_frames = subst (λ (n : ℕ). StepAs (wedge c.args.image.now c.args.script.now.list n) (at n mid then_memory) new.lost (Err c.in-Err.stop) (at n new new_memory) mid_counts new_counts) (c.stretch.ensures.frames ∙ inv.frames) (c.in-Err.ensures.step c.args.script.now.list) in
+    let step : StepAs m (record (at f r memory) { board = given r.board c.args.script.now.list r.step }) new.lost (Err c.in-Err.stop) (at f new new_memory) so_far new_counts =
+    turned m (at f r memory) (at f mid then_memory) (at f new new_memory) c.begin.new.self new.lost (Err c.in-Err.stop) so_far mid_counts new_counts stays c.begin.ensures same by_frames in
     let e = c.in-Err.ensures.stays in
     let n = c.stretch.ensures.count in
     let still : new.step ≡ r.step = omega (arith, e, n, none) in
     let unmoved : new_counts ≡ so_far = counts_same (g.H.Host.retired c.stretch.new.host) (g.H.Host.retired c.one_step.new.host) (g.H.Host.passed c.stretch.new.host) (g.H.Host.passed c.one_step.new.host) c.in-Err.ensures.retired c.in-Err.ensures.passed ∙ same in
-    record {
-      sets = inv.going.sets;
-      reports = inv.going.reports;
-      last = with_set (at f r memory) inv.going.whole;
-      steps = inv.going.steps;
-      ends = (c.loop-running-test.true, still, stops_next m old (at f r memory) counts so_far told tells c.in-Err.stop step.chosen inv.going step.allowed step.stands);
-      text = inv.going.text;
-      counts = subst (λ (x : Counts). CountsOn m inv.going.reports counts x) (sym unmoved) inv.going.counts;
-    }
+    let step_same : mid.step ≡ r.step = omega (arith, n, none) in
+    let wanted = g.L.Notes.wants c.args.notes.now in
+    let first = g.L.Notes.tells c.args.notes.now in
+    let before = g.L.Notes.tells c.loop-running.notes in
+    let after = g.L.Notes.tells c.tell.new.notes in
+    let told_now = subst (λ (k : ℕ). NotesOn wanted before after (emptied_if new.lost.before k)) step_same
+    (subst (λ (w : Bool). NotesOn w before after (emptied_if new.lost.before mid.step)) inv.wants c.tell.ensures.told) in
+    let rises : r.fills ≤ new.fills = (let e0 = c.stretch.ensures.filled in let e1 = c.in-Err.ensures.filled in let r0 = e0.rises in let r1 = e1.rises in omega (arith, r0, r1)) in
+    let ends = stopped m c.args.bound old (at f r memory) (at f new new_memory) new.lost c.in-Err.stop counts so_far told tells c.args.running.now.fills r.fills new.fills (NotesOn wanted first before) (NotesOn wanted first after)
+    inv.going step c.loop-running-test.true still rises (notes_on_more wanted first before after (emptied_if new.lost.before r.step) told_now) in
+    subst (λ (x : Counts). SliceAs m c.args.bound old (at f new new_memory) counts x told tells c.args.running.now.fills new.fills (NotesOn wanted first after) (Ok (Stopped c.in-Err.stop))) (sym unmoved) ends
+
+pub returns-in-Err-clause-wants : goal.returns-in-Err-clause-wants
+returns-in-Err-clause-wants g c = c.tell.ensures.wants ∙ c.loop-running.invariant.wants
+
+pub returns-in-Err-clause-silent : goal.returns-in-Err-clause-silent
+returns-in-Err-clause-silent g c = λ unwanted. c.tell.ensures.silent (c.loop-running.invariant.wants ∙ unwanted) ∙ c.loop-running.invariant.silent unwanted
+
+pub returns-in-Err-clause-few : goal.returns-in-Err-clause-few
+returns-in-Err-clause-few g c =
+    let held = c.stretch.ensures.held c.loop-running.pool (held_given g.S.Shadows.stands g.S.Shadows.frames g.S.Shadows.slots c.args.image.now c.args.running.now.frames c.loop-running.running.frames c.loop-running.running c.begin.new.self c.loop-running.pool (g.H.Host.bytes c.loop-running.host) c.loop-running.invariant.frames c.loop-running.invariant.held) in
+    let few = held.fills in
+    let same = c.in-Err.ensures.unfilled in
+    let still = c.in-Err.ensures.stays in
+    omega (arith, few, same, still)
 
 pub returns-in-Err-clause-pool : goal.returns-in-Err-clause-pool
 returns-in-Err-clause-pool g c =
@@ -153,23 +176,25 @@ returns-in-Err-put_step-clause-slice g c =
     let none : c.stretch.result ≡ 0 = omega (arith, c.if-stretch-gt0.false) in
     let stays = subst (λ (n : ℕ). at n mid then_memory ≡ at n (record r { board = c.begin.new.self }) memory) inv.frames (c.stretch.ensures.stays none) in
     let same : mid_counts ≡ so_far = counts_same (g.H.Host.retired c.loop-running.host) (g.H.Host.retired c.stretch.new.host) (g.H.Host.passed c.loop-running.host) (g.H.Host.passed c.stretch.new.host) (let e = c.stretch.ensures.retired in omega (arith, e, none)) (c.stretch.ensures.passed none) in
-    let by_frames = subst (λ (n : ℕ). StepAs (wedge c.args.image.now c.args.script.now.list n) (at n mid then_memory) (Ok c.in-Ok.seen) (at n new new_memory) mid_counts new_counts) (c.stretch.ensures.frames ∙ inv.frames) (c.in-Ok.ensures.step c.args.script.now.list) in
-    let step : StepAs m (record (at f r memory) { board = given r.board c.args.script.now.list r.step }) (Ok c.in-Ok.seen) (at f new new_memory) so_far new_counts =
-    turned m (at f r memory) (at f mid then_memory) (at f new new_memory) c.begin.new.self (Ok c.in-Ok.seen) so_far mid_counts new_counts stays c.begin.ensures same by_frames in
+    let by_frames = subst (λ (n : ℕ). StepAs (wedge c.args.image.now c.args.script.now.list n) (at n mid then_memory) new.lost (Ok c.in-Ok.seen) (at n new new_memory) mid_counts new_counts) (c.stretch.ensures.frames ∙ inv.frames) (c.in-Ok.ensures.step c.args.script.now.list) in
+    let step : StepAs m (record (at f r memory) { board = given r.board c.args.script.now.list r.step }) new.lost (Ok c.in-Ok.seen) (at f new new_memory) so_far new_counts =
+    turned m (at f r memory) (at f mid then_memory) (at f new new_memory) c.begin.new.self new.lost (Ok c.in-Ok.seen) so_far mid_counts new_counts stays c.begin.ensures same by_frames in
     let step_same : c.stretch.new.running.step ≡ r.step = (let e = c.stretch.ensures.count in omega (arith, e, none)) in
     let items = c.items_of.ensures.items ∙ ap (λ (n : ℕ). items_at n (whats c.in-Ok.seen)) step_same in
     let last = g.O.Sink.taken c.put_step.new.out in
     let put = subst (λ (l : List Item). AppendsFront tells last (lines_of l)) items c.in-Err-put_step.ensures.failed in
-    let s = going_on m old (at f r memory) (at f new new_memory) c.in-Ok.seen counts so_far new_counts told tells inv.going step in
-    record {
-      sets = s.sets;
-      reports = s.reports;
-      last = with_set (at f new new_memory) s.whole;
-      steps = s.steps;
-      ends = (let n = c.in-Ok.ensures.count in let t = c.loop-running-test.true in omega (arith, n, step_same, t));
-      text = stepped_front m old (at f r memory) (at f new new_memory) c.in-Ok.seen counts new_counts told tells last s put;
-      counts = s.counts;
-    }
+    let count : new.step ≡ r.step + 1 = (let n = c.in-Ok.ensures.count in omega (arith, n, step_same)) in
+    let wanted = g.L.Notes.wants c.args.notes.now in
+    let first = g.L.Notes.tells c.args.notes.now in
+    let before = g.L.Notes.tells c.loop-running.notes in
+    let after = g.L.Notes.tells c.tell_both.new.notes in
+    let told_now = subst (λ (k : ℕ). NotesOn wanted before after (notes_then new.lost k)) step_same
+    (subst (λ (w : Bool). NotesOn w before after (notes_then new.lost mid.step)) inv.wants c.tell_both.ensures.told) in
+    let more = fills_join (at f r memory).set (at f mid then_memory).set (at f new new_memory).set r.fills mid.fills new.fills c.stretch.ensures.filled c.in-Ok.ensures.filled in
+    let s = going_on m old (at f r memory) (at f new new_memory) new.lost c.in-Ok.seen counts so_far new_counts told tells c.args.running.now.fills r.fills new.fills (NotesOn wanted first before) (NotesOn wanted first after)
+    inv.going step count more (notes_on_more wanted first before after (notes_then new.lost r.step) told_now) in
+    failed m c.args.bound old (at f r memory) (at f new new_memory) c.in-Ok.seen c.in-Err-put_step.failed counts new_counts told tells last c.args.running.now.fills new.fills (NotesOn wanted first after) s put
+    (let t = c.loop-running-test.true in omega (arith, count, t))
 
 pub loop-running-preserved : goal.loop-running-preserved
 loop-running-preserved g c =
@@ -193,23 +218,34 @@ loop-running-preserved g c =
     let none : c.stretch.result ≡ 0 = omega (arith, c.if-stretch-gt0.false) in
     let stays = subst (λ (n : ℕ). at n mid then_memory ≡ at n (record r { board = c.begin.new.self }) memory) inv.frames (c.stretch.ensures.stays none) in
     let same : mid_counts ≡ so_far = counts_same (g.H.Host.retired c.loop-running.host) (g.H.Host.retired c.stretch.new.host) (g.H.Host.passed c.loop-running.host) (g.H.Host.passed c.stretch.new.host) (let e = c.stretch.ensures.retired in omega (arith, e, none)) (c.stretch.ensures.passed none) in
-    let by_frames = subst (λ (n : ℕ). StepAs (wedge c.args.image.now c.args.script.now.list n) (at n mid then_memory) (Ok c.in-Ok.seen) (at n new new_memory) mid_counts new_counts) (c.stretch.ensures.frames ∙ inv.frames) (c.in-Ok.ensures.step c.args.script.now.list) in
-    let step : StepAs m (record (at f r memory) { board = given r.board c.args.script.now.list r.step }) (Ok c.in-Ok.seen) (at f new new_memory) so_far new_counts =
-    turned m (at f r memory) (at f mid then_memory) (at f new new_memory) c.begin.new.self (Ok c.in-Ok.seen) so_far mid_counts new_counts stays c.begin.ensures same by_frames in
+    let by_frames = subst (λ (n : ℕ). StepAs (wedge c.args.image.now c.args.script.now.list n) (at n mid then_memory) new.lost (Ok c.in-Ok.seen) (at n new new_memory) mid_counts new_counts) (c.stretch.ensures.frames ∙ inv.frames) (c.in-Ok.ensures.step c.args.script.now.list) in
+    let step : StepAs m (record (at f r memory) { board = given r.board c.args.script.now.list r.step }) new.lost (Ok c.in-Ok.seen) (at f new new_memory) so_far new_counts =
+    turned m (at f r memory) (at f mid then_memory) (at f new new_memory) c.begin.new.self new.lost (Ok c.in-Ok.seen) so_far mid_counts new_counts stays c.begin.ensures same by_frames in
     let step_same : c.stretch.new.running.step ≡ r.step = (let e = c.stretch.ensures.count in omega (arith, e, none)) in
     let items = c.items_of.ensures.items ∙ ap (λ (n : ℕ). items_at n (whats c.in-Ok.seen)) step_same in
     let last = g.O.Sink.taken c.put_step.new.out in
     let put = subst (λ (l : List Item). Appends tells last (lines_of l)) items c.in-Ok-put_step.ensures.ok in
-    let stepped = stepped_put m old (at f r memory) (at f new new_memory) c.in-Ok.seen counts new_counts told tells last (going_on m old (at f r memory) (at f new new_memory) c.in-Ok.seen counts so_far new_counts told tells inv.going step) put in
+    let count : new.step ≡ r.step + 1 = (let n = c.in-Ok.ensures.count in omega (arith, n, step_same)) in
+    let wanted = g.L.Notes.wants c.args.notes.now in
+    let first = g.L.Notes.tells c.args.notes.now in
+    let before = g.L.Notes.tells c.loop-running.notes in
+    let after = g.L.Notes.tells c.tell_both.new.notes in
+    let told_now = subst (λ (k : ℕ). NotesOn wanted before after (notes_then new.lost k)) step_same
+    (subst (λ (w : Bool). NotesOn w before after (notes_then new.lost mid.step)) inv.wants c.tell_both.ensures.told) in
+    let more = fills_join (at f r memory).set (at f mid then_memory).set (at f new new_memory).set r.fills mid.fills new.fills c.stretch.ensures.filled c.in-Ok.ensures.filled in
+    let s = going_on m old (at f r memory) (at f new new_memory) new.lost c.in-Ok.seen counts so_far new_counts told tells c.args.running.now.fills r.fills new.fills (NotesOn wanted first before) (NotesOn wanted first after)
+    inv.going step count more (notes_on_more wanted first before after (notes_then new.lost r.step) told_now) in
+    let stepped = stepped_put m old (at f r memory) (at f new new_memory) c.in-Ok.seen counts new_counts told tells last c.args.running.now.fills new.fills (NotesOn wanted first after) s put in
     let rested = c.rest.new.running in
     let frames_then : new.frames ≡ f = c.in-Ok.ensures.frames ∙ (c.stretch.ensures.frames ∙ inv.frames) in
-    let passes = subst (λ (n : ℕ). Passes (wedge c.args.image.now c.args.script.now.list n) (at n new new_memory) stepped.whole (at n rested new_memory) new_counts new_counts) frames_then
-    (c.rest.ensures.passes c.args.image.now new_memory stepped.whole new_counts stepped.part) in
+    let passes = subst (λ (n : ℕ). Passes (wedge c.args.image.now c.args.script.now.list n) (at n new new_memory) (at n rested new_memory) new_counts new_counts) frames_then
+    (c.rest.ensures.passes c.args.image.now new_memory new_counts) in
     let held = held_later g.S.Shadows.stands g.S.Shadows.frames g.S.Shadows.slots (ground c.args.image.now f) new rested.board rested.step c.one_step.new.pool new_memory c.rest.ensures.later
     (held_at g.S.Shadows.stands g.S.Shadows.frames g.S.Shadows.slots c.args.image.now mid.frames f new c.one_step.new.pool new_memory (c.stretch.ensures.frames ∙ inv.frames) c.in-Ok.ensures.held) in
     let as_were : rested ≡ record new { board = rested.board; step = rested.step } = c.rest.ensures.same in
     record {
-      going = going_past m old (at f new new_memory) (at f rested new_memory) counts new_counts new_counts told last stepped passes;
+      going = going_past m old (at f new new_memory) (at f rested new_memory) counts new_counts new_counts told last c.args.running.now.fills new.fills rested.fills (NotesOn wanted first after) stepped
+          (subst (λ (x : Running g.row.S.Denot). FillsOn (set_of g.S.Shadows.stands g.S.Shadows.frames g.S.Shadows.slots new new_memory) (set_of g.S.Shadows.stands g.S.Shadows.frames g.S.Shadows.slots x new_memory) new.fills x.fills) (sym as_were) (fills_same _ _ new.fills refl)) passes;
       held = subst (λ (x : Running g.row.S.Denot). IsHeld g.S.Shadows.stands g.S.Shadows.frames g.S.Shadows.slots (ground c.args.image.now f) x c.one_step.new.pool new_memory) (sym as_were) held;
       able = subst IsAble (sym (ap (λ (x : Running g.row.S.Denot). x.cpu) as_were)) c.in-Ok.ensures.able;
       pool = subst (λ (x : Running g.row.S.Denot). Keeps c.args.pool.now c.one_step.new.pool (g.H.Host.bytes c.args.host.now) new_memory (g.S.Shadows.frames c.args.running.now.shadows (g.H.Host.bytes c.args.host.now)) (g.S.Shadows.frames x.shadows new_memory)) (sym as_were)
@@ -222,6 +258,8 @@ loop-running-preserved g c =
           (fills_join _ _ _ _ _ _ (fills_join _ _ _ _ _ _ inv.filled c.stretch.ensures.filled) c.in-Ok.ensures.filled);
       started = c.in-Ok.ensures.started;
       frames = ap (λ (x : Running g.row.S.Denot). x.frames) as_were ∙ frames_then;
+      wants = c.tell_both.ensures.wants ∙ inv.wants;
+      silent = λ unwanted. c.tell_both.ensures.silent (inv.wants ∙ unwanted) ∙ inv.silent unwanted;
       later = (let a = inv.later in let b = c.in-Ok-put_step.ensures.later in omega (arith, a, b));
       bound = c.rest.ensures.within;
       room = (let h = inv.room in let t = c.loop-running-test.true in let few = c.in-Ok.ensures.few in let e = c.stretch.ensures.retired in let n = c.in-Ok.ensures.count in let l = c.rest.ensures.later in let w = c.rest.ensures.within in omega (arith, h, t, few, e, n, l, w, none, step_same));
@@ -240,18 +278,20 @@ returns-clause-slice g c =
     let told = g.O.Sink.taken c.args.out.now in
     let tells = g.O.Sink.taken c.loop-running.out in
     let inv = c.loop-running.invariant in
-    record {
-      sets = inv.going.sets;
-      reports = inv.going.reports;
-      last = with_set (at f r memory) inv.going.whole;
-      steps = inv.going.steps;
-      ends = ((let a = inv.bound in let b = c.loop-running-test.false in omega (arith, a, b)), refl, inv.going.part);
-      text = inv.going.text;
-      counts = inv.going.counts;
-    }
+    reached m c.args.bound old (at f r memory) counts so_far told tells c.args.running.now.fills r.fills (NotesOn (g.L.Notes.wants c.args.notes.now) (g.L.Notes.tells c.args.notes.now) (g.L.Notes.tells c.loop-running.notes)) inv.going
+    (let a = inv.bound in let b = c.loop-running-test.false in omega (arith, a, b))
+
+pub returns-clause-few : goal.returns-clause-few
+returns-clause-few g c = c.loop-running.invariant.held.fills
 
 pub returns-in-Err-clause-filled : goal.returns-in-Err-clause-filled
 returns-in-Err-clause-filled g c = fills_join _ _ _ _ _ _ (fills_join _ _ _ _ _ _ c.loop-running.invariant.filled c.stretch.ensures.filled) c.in-Err.ensures.filled
 
 pub returns-in-Err-put_step-clause-filled : goal.returns-in-Err-put_step-clause-filled
 returns-in-Err-put_step-clause-filled g c = fills_join _ _ _ _ _ _ (fills_join _ _ _ _ _ _ c.loop-running.invariant.filled c.stretch.ensures.filled) c.in-Ok.ensures.filled
+
+pub returns-in-Err-put_step-clause-wants : goal.returns-in-Err-put_step-clause-wants
+returns-in-Err-put_step-clause-wants g c = c.tell_both.ensures.wants ∙ c.loop-running.invariant.wants
+
+pub returns-in-Err-put_step-clause-silent : goal.returns-in-Err-put_step-clause-silent
+returns-in-Err-put_step-clause-silent g c = λ unwanted. c.tell_both.ensures.silent (c.loop-running.invariant.wants ∙ unwanted) ∙ c.loop-running.invariant.silent unwanted

@@ -1,6 +1,8 @@
-use Rattle.std.proofs.Common.{◌≡◌, ◌+◌, arith}
+use Rattle.std.proofs.Common.{◌≡◌, ◌+◌, refl, arith}
 use Rattle.host_cpl3.specs.Hosts.{standing}
+use Rattle.wedge_core.specs.Standing.{set_of}
 use Rattle.wedge_core.specs.Views.{view_by}
+use Rattle.wedge_core.proofs.Parts.{part_same}
 use Rattle.wedge_core.proofs.Landing.{may_runs}
 use Rattle.wedge_core.proofs.Stretched.{Laws, passes_on, stays_on, passed_on, held_then, keeps_then, able_then, frames_then, fills_then, filled_then, step_then}
 use Rattle.wedge_core.proofs.stretch.stretch.Goals as goal
@@ -47,9 +49,10 @@ returns g c =
     let begun = c.requires.begun in
     let count : now.step ≡ old.step + done = step_then stands frames slots directory old now view start k done memory_then retired_then passed_then ran in
     record {
-      passes = λ some board is whole part.
+      passes = λ some board is.
+          let kept = set_of stands frames slots old memory in
           passes_on stands frames slots directory laws image old.frames old c.requires.held.0 memory c.requires.held.1 views.lends views.sees c.advances.ensures c.requires.able may c.if-running.false retired passed k done now memory_then retired_then passed_then ran
-          script quiet board is whole part some;
+          script quiet board is kept (part_same kept kept refl) some refl;
       stays = stays_on stands frames slots directory laws image old.frames old c.requires.held.0 memory c.requires.held.1 views.lends views.sees c.advances.ensures c.requires.able may c.if-running.false retired passed k done now memory_then retired_then passed_then ran
           script quiet;
       held = λ pool h. held_then stands frames slots directory laws image old.frames old pool memory h views.lends views.sees c.advances.ensures c.requires.able may c.if-running.false retired passed k done now memory_then retired_then passed_then ran script quiet;

@@ -1,0 +1,37 @@
+-- Which translations the steps of a slice go by, and what is told of those that it loses.
+use Rattle.std.specs.Prelude.{◌≡◌, ℕ, ◌+◌, Bool, true, false, List, [], ◌∷◌, ◌++◌, Result, Ok, Err}
+use Rattle.pv_io.specs.declared.answer.Failed.{Failed}
+use Rattle.image_load.specs.declared.fault.Pause.{Pause}
+use Rattle.image_load.specs.declared.fault.Pause.TheVariants.{Reached, Stopped}
+use Rattle.run_trace.specs.Notes.{Note, emptied_at}
+use Rattle.machine_model.specs.State.{Setting, State}
+use Rattle.machine_model.specs.Step.{Stands, step_of}
+use Rattle.machine_model.specs.Run.{Set}
+use Rattle.machine_model.specs.Notes.{AreTold, AreNotes, set_told}
+use Rattle.wedge_core.specs.declared.running.Lost.{Lost}
+
+-- What is kept at the end, or what the step that stops goes by: what the last step left, but for what the notes tell.
+abbrev pub EndsTold : Setting → State → State → List Note → Result Pause Failed → Type 0
+EndsTold m last new notes (Ok Reached) = new.set ≡ set_told notes last.step last.set
+EndsTold m last new notes (Ok (Stopped stop)) = step_of m last (set_told notes last.step last.set) ≡ Stands stop
+EndsTold m last new notes (Err failed) = Unit {0}
+
+-- Before each step of a slice the translations are those that the step before left, without those that were dropped by
+-- these notes; and so at its end.
+pub record IsNoted (m : Setting) (old new : State) (sets : List Set) (last : State) (notes : List Note) (result : Result Pause Failed) : Type 0 where
+  pub told : AreTold m old sets notes
+  pub are : AreNotes m old sets last.step notes
+  pub ends : EndsTold m last new notes result
+
+-- where notes are wanted, and some were told, these come behind them
+abbrev pub NotesOn : Bool → (List Note → Type 0) → (List Note → Type 0) → List Note → Type 0
+NotesOn wanted told tells notes = wanted ≡ true → (so_far : List Note) → told so_far → tells (so_far ++ notes)
+
+-- a note of all translations, where they were dropped before a step
+abbrev pub emptied_if : Bool → ℕ → List Note
+emptied_if true step = emptied_at step ∷ []
+emptied_if false step = []
+
+-- what is told of a step that went, and of the next one
+abbrev pub notes_then : Lost → ℕ → List Note
+notes_then lost step = emptied_if lost.before step ++ emptied_if lost.after (step + 1)
