@@ -1,8 +1,5 @@
 -- A step's answer in the words of the reader.
-use Rattle.std.proofs.Common.{◌≡◌, ℕ, suc, ◌+◌, ◌*◌, ◌<◌, Bool, false, ◌≤◌, cond, ltb, List, [], ◌∷◌, length, drop, get_or, Option, Some, None, Result, Ok, Err, refl, sym, ap, ◌∙◌, arith, drop-cons}
-use Rattle.std.proofs.Math.Nat.{mul-le-mul_left}
-use Rattle.std.proofs.lemmas.Bool.{le-ltb, lt-ltb}
-use Rattle.std.proofs.lemmas.List.{nil_from_length, length-drop}
+use Rattle.std.proofs.Common.{◌≡◌, ℕ, ◌+◌, false, length, Result, Ok, Err, refl, ap}
 use Rattle.asm_lex.specs.declared.fault.SourceCause.{SourceCause}
 use Rattle.asm_parse.specs.declared.state.State.{State}
 use Rattle.asm_parse.specs.declared.stop.Stop.{Stop}
@@ -12,7 +9,7 @@ use Rattle.asm_lex.specs.Words.{Word}
 use Rattle.asm_lex.specs.declared.fault.SourceFault.{SourceFault}
 use Rattle.asm_lex.specs.declared.fault.SourceFault.TheVariants as fault
 use Rattle.asm_parse.specs.Statement.{Does, next_step, fault_line}
-use Rattle.asm_argument.specs.Symbols.{symbol_of, digit_of, digits_value}
+use Rattle.asm_argument.specs.Symbols.{symbol_of}
 use Rattle.asm_parse.specs.Reading.{placed, at_line, Feeds, is_longer, ending_at, with_end, next_word}
 use Rattle.asm_argument.specs.declared.symbol.Symbol.{Symbol}
 

@@ -1,5 +1,5 @@
 -- A source, read from left to right.
-use Rattle.std.specs.Prelude.{◌≡◌, ℕ, ◌+◌, ◌-◌, ◌*◌, ◌^◌, ◌≤◌, ◌==◌, ◌&&◌, ◌||◌, not, Bool, true, false, nat_lt, nat_le, List, [], ◌∷◌, ◌++◌, length, take, drop, Option, Some, None, Result, Ok, Err, if◌then◌else◌}
+use Rattle.std.specs.Prelude.{◌≡◌, ℕ, ◌+◌, ◌≤◌, ◌==◌, ◌&&◌, ◌||◌, not, Bool, false, List, ◌++◌, length, Option, Some, None, Result, Ok, Err, if◌then◌else◌}
 use Rattle.std.specs.List.{list_all}
 use Rattle.asm_lex.specs.declared.fault.SourceCause.{SourceCause}
 use Rattle.asm_lex.specs.declared.fault.SourceFault.{SourceFault}
@@ -7,14 +7,12 @@ use Rattle.asm_lex.specs.declared.fault.SourceFault.TheVariants as fault
 use Rattle.asm_lex.specs.declared.token.Token.{Token}
 use Rattle.asm_lex.specs.declared.token.TokenKind.{TokenKind}
 use Rattle.asm_lex.specs.declared.token.TokenKind.TheVariants as kind
-use Rattle.asm_argument.specs.declared.symbol.Symbol.{Symbol}
-use Rattle.asm_argument.specs.declared.symbol.Symbol.TheVariants as symbol
+use Rattle.asm_argument.specs.Symbols.{symbol_of}
 use Rattle.asm_parse.specs.declared.state.State.{State}
 use Rattle.asm_parse.specs.declared.state.State.TheVariants as state
 use Rattle.asm_parse.specs.declared.stop.Stop.{Stop}
 use Rattle.asm_parse.specs.declared.stop.Stop.TheVariants as stop
 use Rattle.asm_parse.specs.ScopeView.{ScopeView}
-use Rattle.asm_argument.specs.Escapes.{string_text, opening}
 use Rattle.asm_parse.specs.Statement.{next_step, fault_line}
 use Rattle.asm_lex.specs.Words.{Word, word_of}
 

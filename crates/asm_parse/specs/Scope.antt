@@ -1,8 +1,7 @@
 -- What the statements before say, and how it grows.
-use Rattle.std.specs.Prelude.{ℕ, Bool, false, ◌||◌, not, nat_lt, List, [], ◌∷◌, ◌++◌, length, if◌then◌else◌}
-use Rattle.std.specs.List.{list_any}
-use Rattle.std.specs.Str.{bytes_eq}
+use Rattle.std.specs.Prelude.{ℕ, Bool, false, ◌||◌, not, nat_lt, List, [], ◌∷◌, ◌++◌, length}
 use Rattle.asm_source.specs.declared.tree.SourceItem.{SourceItem}
+use Rattle.asm_source.specs.Names.{holds, added}
 use Rattle.asm_parse.specs.ScopeView.{ScopeView}
 
 abbrev pub fresh : ScopeView

@@ -5,9 +5,7 @@ use Rattle.asm_lex.specs.Words.{Word}
 use Rattle.asm_argument.specs.declared.symbol.Symbol.{Symbol}
 use Rattle.asm_argument.specs.declared.symbol.Symbol.TheVariants as symbol
 use Rattle.asm_argument.specs.declared.operand.Shape.{Shape}
-use Rattle.asm_source.specs.declared.tree.Value.{Value}
 use Rattle.asm_source.specs.declared.tree.Form.{Form}
-use Rattle.asm_source.specs.declared.tree.Form.TheVariants as form
 use Rattle.asm_source.specs.declared.tree.Argument.{Argument}
 use Rattle.asm_source.specs.declared.tree.Body.TheVariants as body
 use Rattle.asm_parse.specs.declared.directive.Directive.{Directive}
@@ -15,7 +13,7 @@ use Rattle.asm_parse.specs.declared.directive.Directive.TheVariants as kind
 use Rattle.asm_parse.specs.declared.directive.Head.{Head}
 use Rattle.asm_parse.specs.declared.directive.Head.TheVariants as head
 use Rattle.asm_parse.specs.ScopeView.{ScopeView}
-use Rattle.asm_source.specs.Names.{holds}
+use Rattle.asm_source.specs.Names.{holds, symbol_in}
 use Rattle.asm_parse.specs.Scope.{has_room, pushed, noted, defined_too}
 use Rattle.asm_argument.specs.Operand.{is_operand}
 use Rattle.asm_argument.specs.Grammar.{IsForm}
