@@ -68,8 +68,7 @@ wrong_is parts fit Target at =
     let P : List Swept → List Site → Type 0 = λ swept sites. LeadsAstray swept sites at in
     (both_read_so parts fit at f P (λ swept sites e. target_so swept sites at e), so_both_read parts fit at f P (λ swept sites h. so_target swept sites at h))
 wrong_is parts fit EntryStart at =
-    let P : List Swept → List Site → Type 0 = λ swept sites. (IsEntrance swept sites (entry_at parts) → ⊥) × (at ≡ entry_at parts) in
-    (
+    let P : List Swept → List Site → Type 0 = λ swept sites. (IsEntrance swept sites (entry_at parts) → ⊥) × (at ≡ entry_at parts) in (
       (λ e. let h = both_read_so parts fit at (entry_start parts) P (λ swept sites is. entry_so parts swept sites at is) e in (h.0, h.1.0, h.1.1)),
       (λ h. so_both_read parts fit at (entry_start parts) P (λ swept sites is. so_entry parts swept sites at is) (h.0, (h.1, h.2))),
     )
@@ -115,7 +114,7 @@ so_none None h = refl
 so_none (Some at) h = absurd (h at refl)
 
 module _ (parts : ImageParts) (fit : AreBytes parts.text) (at : ℕ) (cause : CheckCause) where
-  refused_so : IsFirst causes parts at cause → IsRefused parts at cause
+  pub refused_so : IsFirst causes parts at cause → IsRefused parts at cause
   refused_so h =
       let f = first_in_list causes parts at cause h in
       record {
@@ -125,7 +124,7 @@ module _ (parts : ImageParts) (fit : AreBytes parts.text) (at : ℕ) (cause : Ch
         before = λ j c place lt there is. none_so (wrong c parts) place (f.before j c lt there) ((wrong_is parts fit c place).1 is);
       }
 
-  so_refused : IsRefused parts at cause → IsFirst causes parts at cause
+  pub so_refused : IsRefused parts at cause → IsFirst causes parts at cause
   so_refused h = list_first causes parts at cause h.index h.there ((wrong_is parts fit cause at).1 h.wrong) (λ j c lt there. so_none (wrong c parts) (λ place is. h.before j c place lt there ((wrong_is parts fit c place).0 is)))
 
 abbrev no_image : Refusal → Result Image Refusal

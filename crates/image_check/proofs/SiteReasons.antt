@@ -67,37 +67,43 @@ EitherIs a b at = (a ≡ Some at) ⊎ (b ≡ Some at)
 
 lower_so : (a b : Option ℕ) (at : ℕ) → lower a b ≡ Some at → IsLowest (EitherIs a b) at
 lower_so None None at e = absurd cc
-lower_so None (Some b) at e = let same : b ≡ at = cc in (inr e, λ k h. elim h [ | inl is ↦ absurd cc | inr is ↦ let other : b ≡ k = cc in omega (arith, same, other) ])
-lower_so (Some a) None at e = let same : a ≡ at = cc in (inl e, λ k h. elim h [ | inl is ↦ let other : a ≡ k = cc in omega (arith, same, other) | inr is ↦ absurd cc ])
+lower_so None (Some b) at e = let same : b ≡ at = cc in (inr e, λ k h. elim h [ inl is ↦ absurd cc | inr is ↦ let other : b ≡ k = cc in omega (arith, same, other) ])
+lower_so (Some a) None at e = let same : a ≡ at = cc in (inl e, λ k h. elim h [ inl is ↦ let other : a ≡ k = cc in omega (arith, same, other) | inr is ↦ absurd cc ])
 lower_so (Some a) (Some b) at e =
     let same : min a b ≡ at = cc in
     elim (lower_of a b) [
-      | inl first ↦ (inl (ap some (sym first.0 ∙ same)), λ k h. elim h [
-            | inl is ↦ let other : a ≡ k = cc in let least = first.0 in omega (arith, same, other, least)
-            | inr is ↦ let other : b ≡ k = cc in let least = first.0 in let le = first.1 in omega (arith, same, other, least, le)
-          ])
-      | inr second ↦ (inr (ap some (sym second.0 ∙ same)), λ k h. elim h [
-            | inl is ↦ let other : a ≡ k = cc in let least = second.0 in let le = second.1 in omega (arith, same, other, least, le)
-            | inr is ↦ let other : b ≡ k = cc in let least = second.0 in omega (arith, same, other, least)
-          ])
+      | inl first ↦ (
+        inl (ap some (sym first.0 ∙ same)),
+        λ k h. elim h [
+          | inl is ↦ let other : a ≡ k = cc in let least = first.0 in omega (arith, same, other, least)
+          | inr is ↦ let other : b ≡ k = cc in let least = first.0 in let le = first.1 in omega (arith, same, other, least, le)
+        ],
+      )
+      | inr second ↦ (
+        inr (ap some (sym second.0 ∙ same)),
+        λ k h. elim h [
+          | inl is ↦ let other : a ≡ k = cc in let least = second.0 in let le = second.1 in omega (arith, same, other, least, le)
+          | inr is ↦ let other : b ≡ k = cc in let least = second.0 in omega (arith, same, other, least)
+        ],
+      )
     ]
 
 so_lower : (a b : Option ℕ) (at : ℕ) → IsLowest (EitherIs a b) at → lower a b ≡ Some at
-so_lower None None at h = elim h.0 [ | inl is ↦ is | inr is ↦ is ]
-so_lower None (Some b) at h = elim h.0 [ | inl is ↦ absurd cc | inr is ↦ is ]
-so_lower (Some a) None at h = elim h.0 [ | inl is ↦ is | inr is ↦ absurd cc ]
+so_lower None None at h = elim h.0 [ inl is ↦ is | inr is ↦ is ]
+so_lower None (Some b) at h = elim h.0 [ inl is ↦ absurd cc | inr is ↦ is ]
+so_lower (Some a) None at h = elim h.0 [ inl is ↦ is | inr is ↦ absurd cc ]
 so_lower (Some a) (Some b) at h =
     let to_a : at ≤ a = h.1 a (inl refl) in
     let to_b : at ≤ b = h.1 b (inr refl) in
     elim h.0 [
       | inl is ↦ let same : a ≡ at = cc in elim (lower_of a b) [
-          | inl first ↦ ap some (first.0 ∙ same)
-          | inr second ↦ let le = second.1 in ap some (second.0 ∙ omega (arith, to_b, le, same))
-        ]
+        | inl first ↦ ap some (first.0 ∙ same)
+        | inr second ↦ let le = second.1 in ap some (second.0 ∙ omega (arith, to_b, le, same))
+      ]
       | inr is ↦ let same : b ≡ at = cc in elim (lower_of a b) [
-          | inl first ↦ let le = first.1 in ap some (first.0 ∙ omega (arith, to_a, le, same))
-          | inr second ↦ ap some (second.0 ∙ same)
-        ]
+        | inl first ↦ let le = first.1 in ap some (first.0 ∙ omega (arith, to_a, le, same))
+        | inr second ↦ ap some (second.0 ∙ same)
+      ]
     ]
 
 module _ (swept : List Swept) (sites : List Site) (at : ℕ) where

@@ -59,7 +59,7 @@ module _ (entrance : ℕ → Bool) where
               place = more.place;
               direct = more.direct;
               astray = more.astray;
-              right = λ s c b. elim (first_or_later t more.before s c) [ | inl same ↦ one_right s (ap (λ (u : Swept). leads_wrong entrance (piece_of u).role) (sym same) ∙ leads) b | inr c' ↦ more.right s c' b ];
+              right = λ s c b. elim (first_or_later t more.before s c) [ inl same ↦ one_right s (ap (λ (u : Swept). leads_wrong entrance (piece_of u).role) (sym same) ∙ leads) b | inr c' ↦ more.right s c' b ];
             }
       ] where
         wrong_branch : (s : Swept) → leads_wrong entrance (piece_of s).role ≡ true → (is_branch s.insn.op ≡ true) × (entrance (target_of s.at s.len s.insn) ≡ false)
