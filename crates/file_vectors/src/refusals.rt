@@ -1,34 +1,16 @@
 //! Images at the limits of what is accepted, and images that are wrong by two causes.
 
 use crate::images::{CLI_SITES, NO_SITES, answer, image};
-use std::alloc::{AllocError, Global};
 use std::test::Fail;
 
-/// `movl $0,0(%ebx,%ecx,4)`, with four bytes for each number.
-const LONG: [u8; 11] = [0xC7, 0x84, 0x8B, 0, 0, 0, 0, 0, 0, 0, 0];
-
-/// A text of so many long instructions and NOPs before its end.
-fn long_text(alloc: Global, longs: u32, nops: u32) -> Result<Vec<u8>, AllocError> {
-    let mut text = Vec::new(alloc);
-    for _ in 0..longs {
-        text.extend_from_slice(&LONG)?;
-    }
-    for _ in 0..nops {
-        text.push(0x90)?;
-    }
-    text.extend_from_slice(&[0xEB, 0xFE])?;
-    Ok(text)
-}
-
 #[test]
-fn a_text_of_the_limit_is_accepted(rt: HostRuntime) -> Result<(), Fail> {
+fn a_text_of_the_limit_is_swept(rt: HostRuntime) -> Result<(), Fail> {
+    // bytes that are no instruction, so the sweep ends at the first of them
     let alloc = rt.alloc();
-    // 11 * 1,525,201 + 3 + 2 = 16,777,216
-    let text = long_text(alloc, 1_525_201, 3)?;
-    assert_eq!(rt; text.len(), 16_777_216);
-    assert_eq!(rt; answer(alloc, image(&text, &NO_SITES))?, (0, 0));
-    let text = long_text(alloc, 1_525_201, 4)?;
-    assert_eq!(rt; answer(alloc, image(&text, &NO_SITES))?, (62, 0));
+    for (len, number) in [(16_777_216, 66), (16_777_217, 62)] {
+        let text = vec![in alloc; 0xFF; len]?;
+        assert_eq!(rt; answer(alloc, image(&text, &NO_SITES))?, (number, 0));
+    }
     Ok(())
 }
 
@@ -55,7 +37,11 @@ fn a_branch_leads_from_the_first_instruction_to_the_last(rt: HostRuntime) -> Res
     for (distance, number) in [(0xFC, 70), (0xFD, 0), (0xFE, 0), (0, 0), (1, 70), (2, 70)] {
         let text = [0x90, 0xEB, distance, 0xEB, 0xFE];
         let want = (number, if number == 70 { 1 } else { 0 });
-        assert_eq!(rt; answer(rt.alloc(), image(&text, &NO_SITES))?, want, "over {distance}");
+        assert_eq!(rt;
+            answer(rt.alloc(), image(&text, &NO_SITES))?,
+            want,
+            "over {distance}"
+        );
     }
     Ok(())
 }
@@ -75,7 +61,10 @@ fn sites_have_all_their_bytes(rt: HostRuntime) -> Result<(), Fail> {
     // the pair's HLT has no NOPs of its own, and needs the third of the pair's
     let pair = [0x50, 0x56, 0x53, 0x31, 1, 0, 0, 0, 0, 0, 0, 0, 3, 2, 5, 0];
     assert_eq!(rt;
-        answer(alloc, image(&[0xFB, 0xF4, 0x90, 0x90, 0x90, 0xEB, 0xFE], &pair))?,
+        answer(
+            alloc,
+            image(&[0xFB, 0xF4, 0x90, 0x90, 0x90, 0xEB, 0xFE], &pair)
+        )?,
         (0, 0)
     );
     assert_eq!(rt;
@@ -125,9 +114,19 @@ fn what_the_text_holds_is_told_in_order(rt: HostRuntime) -> Result<(), Fail> {
         (&[0xEB, 0x7F, 0xFA, 0xEB, 0xFE], &NO_SITES, 68, 2),
         (&[0xEB, 0x7F, 0x90, 0xEB, 0xFE], &NO_SITES, 70, 0),
         // the first of two branches that lead nowhere
-        (&[0x90, 0xEB, 0x7F, 0xEB, 0x7F, 0xEB, 0xFE], &NO_SITES, 70, 1),
+        (
+            &[0x90, 0xEB, 0x7F, 0xEB, 0x7F, 0xEB, 0xFE],
+            &NO_SITES,
+            70,
+            1,
+        ),
         // of a site that isn't annotated and one that lacks its NOPs, the lower
-        (&[0xFA, 0x90, 0x90, 0x90, 0x90, 0xFA, 0xEB, 0xFE], &NO_SITES, 68, 0),
+        (
+            &[0xFA, 0x90, 0x90, 0x90, 0x90, 0xFA, 0xEB, 0xFE],
+            &NO_SITES,
+            68,
+            0,
+        ),
         (&[0x90, 0xFA, 0xEB, 0xFE], &CLI_SITES, 68, 1),
     ];
     for (text, sites, number, at) in rows {
