@@ -8,17 +8,17 @@ use std::test::Fail;
 
 // The text, annotations and places of a file. Data is not there, but zeroed bytes may be.
 #[derive(Clone, Copy)]
-struct Parts<'a> {
-    text: &'a [u8],
-    sites: &'a [u8],
-    text_at: u32,
-    init_at: u32,
-    bss: u32,
-    entry: u32,
+pub struct Parts<'a> {
+    pub text: &'a [u8],
+    pub sites: &'a [u8],
+    pub text_at: u32,
+    pub init_at: u32,
+    pub bss: u32,
+    pub entry: u32,
 }
 
 // An image in its usual places.
-fn image<'a>(text: &'a [u8], sites: &'a [u8]) -> Parts<'a> {
+pub fn image<'a>(text: &'a [u8], sites: &'a [u8]) -> Parts<'a> {
     Parts {
         text,
         sites,
@@ -39,7 +39,7 @@ fn put(out: &mut Vec<u8>, longs: &[u32]) -> Result<(), AllocError> {
 // The header, two program headers, the text, the annotations, the names of the sections, and the
 // sections: null, .pv_sites, .shstrtab. All by the layout of ELF files of 32 bits.
 fn file(alloc: Global, parts: Parts<'_>) -> Result<Vec<u8>, AllocError> {
-    let text = (parts.text.len() % 65536) as u32;
+    let text = (parts.text.len() % 67_108_864) as u32;
     let sites = (parts.sites.len() % 65536) as u32;
     let names = 116 + text + sites;
     let mut out = Vec::new(alloc);
@@ -85,7 +85,7 @@ fn file(alloc: Global, parts: Parts<'_>) -> Result<Vec<u8>, AllocError> {
 }
 
 // The number of the refusal and its place; 0 where the file is accepted, 1 where memory ran out.
-fn answer(alloc: Global, parts: Parts<'_>) -> Result<(u32, u32), AllocError> {
+pub fn answer(alloc: Global, parts: Parts<'_>) -> Result<(u32, u32), AllocError> {
     let file = file(alloc, parts)?;
     Ok(match check(alloc, &file) {
         Ok(_) => (0, 0),
@@ -105,10 +105,10 @@ const HELLO_SITES: [u8; 24] = [
     0x50, 0x56, 0x53, 0x31, 2, 0, 0, 0, 7, 0, 0, 0, 0x14, 1, 5, 0, 12, 0, 0, 0, 4, 1, 5, 0,
 ];
 
-const NO_SITES: [u8; 8] = [0x50, 0x56, 0x53, 0x31, 0, 0, 0, 0];
+pub const NO_SITES: [u8; 8] = [0x50, 0x56, 0x53, 0x31, 0, 0, 0, 0];
 
 // One site of CLI at offset 5.
-const CLI_SITES: [u8; 16] = [0x50, 0x56, 0x53, 0x31, 1, 0, 0, 0, 5, 0, 0, 0, 1, 1, 5, 0];
+pub const CLI_SITES: [u8; 16] = [0x50, 0x56, 0x53, 0x31, 1, 0, 0, 0, 5, 0, 0, 0, 1, 1, 5, 0];
 
 #[test]
 fn an_image_is_accepted(rt: HostRuntime) -> Result<(), Fail> {

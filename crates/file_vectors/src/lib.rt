@@ -17,6 +17,8 @@ mod loaded;
 #[cfg(test)]
 mod objects;
 #[cfg(test)]
+mod refusals;
+#[cfg(test)]
 mod streams;
 #[cfg(test)]
 mod vectors;

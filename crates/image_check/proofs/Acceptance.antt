@@ -80,7 +80,7 @@ equal m n e = grind (arith, nat_tests)
 itself : (n : ℕ) → (n == n) ≡ true
 itself n = grind (arith, nat_tests)
 
-same_site : (s t : Site) → is_same s t ≡ true → s ≡ t
+pub same_site : (s t : Site) → is_same s t ≡ true → s ≡ t
 same_site s t e =
     let a = both (s.at == t.at && number s.kind == number t.kind && s.len == t.len) (s.total == t.total) e in
     let b = both (s.at == t.at && number s.kind == number t.kind) (s.len == t.len) a.0 in
@@ -94,7 +94,7 @@ same_site s t e =
     ∙ ap (λ n. record { at = t.at; kind = t.kind; len = n; total = s.total }) len
     ∙ ap (λ n. record { at = t.at; kind = t.kind; len = t.len; total = n }) total
 
-is_itself : (s : Site) → is_same s s ≡ true
+pub is_itself : (s : Site) → is_same s s ≡ true
 is_itself s = rw (itself s.at, itself (number s.kind), itself s.len, itself s.total) refl
 
 found_same : (b : Bool) (x : Option ℕ) (at : ℕ) → cond b x (Some at) ≡ None → (b ≡ true) × (x ≡ None)
@@ -148,7 +148,7 @@ turned : (b : Bool) → not b ≡ true → b ≡ false
 turned true e = absurd cc
 turned false e = refl
 
-not_false : (b : Bool) → not b ≡ false → b ≡ true
+pub not_false : (b : Bool) → not b ≡ false → b ≡ true
 not_false true e = refl
 not_false false e = absurd cc
 
@@ -197,7 +197,7 @@ is_entrance_so swept sites at h =
 
 -- ---- branches
 
-branch_role : (s : Swept) → is_branch s.insn.op ≡ true → (piece_of s).role ≡ role.Branch (target_of s.at s.len s.insn)
+pub branch_role : (s : Swept) → is_branch s.insn.op ≡ true → (piece_of s).role ≡ role.Branch (target_of s.at s.len s.insn)
 branch_role s e = ap (λ b. cond b (role.Branch (target_of s.at s.len s.insn)) (cond (is_nop s.insn.op) role.Nop (site_role (sensitive_kind s.insn)))) e
 
 first_right : (b : Bool) (at : ℕ) (x : Option ℕ) → cond b (Some at) x ≡ None → (b ≡ false) × (x ≡ None)
@@ -219,7 +219,7 @@ site_leads : (entrance : ℕ → Bool) (o : Option SiteKind) → leads_wrong ent
 site_leads entrance (Some kind) = refl
 site_leads entrance None = refl
 
-other_leads : (entrance : ℕ → Bool) (b : Bool) (o : Option SiteKind) → leads_wrong entrance (cond b role.Nop (site_role o)) ≡ false
+pub other_leads : (entrance : ℕ → Bool) (b : Bool) (o : Option SiteKind) → leads_wrong entrance (cond b role.Nop (site_role o)) ≡ false
 other_leads entrance true o = refl
 other_leads entrance false o = site_leads entrance o
 

@@ -15,7 +15,10 @@ use Rattle.image_check.specs.Refusals.{Refusal, Form, Wrong, Gives, ◌>>=◌}
 use Rattle.image_check.specs.Checking.{as_form, image_from, image_of}
 use Rattle.image_check.specs.Accepts.{Accepts}
 use Rattle.image_check.specs.Causes.{causes, IsFirst}
+use Rattle.image_check.specs.Reasons.{IsRefused}
 use Rattle.image_check.proofs.CauseLaws.{first_exact, not_image}
+use Rattle.image_check.proofs.FileLimits.{text_bytes}
+use Rattle.image_check.proofs.ReasonLaws.{refused_so, so_refused}
 use Rattle.image_check.proofs.Acceptance.{image_accepts, accepts_image}
 
 pub if_accepted : (bytes : List ℕ) (r : Result Image CheckFault) → AreBytes bytes → Gives (λ image. image) r (image_of bytes) → IfOk r (Accepts bytes)
@@ -57,6 +60,14 @@ first_refused bytes parts at cause form first = rw (as_read bytes parts form) ((
 
 pub if_first_only : (bytes : List ℕ) (r : Result Image CheckFault) → Gives (λ image. image) r (image_of bytes) → (parts : ImageParts) (at : ℕ) (cause : CheckCause) → ImageAs bytes parts → IsFirst causes parts at cause → Gives (λ image. image) r (not_image (Wrong at cause))
 if_first_only bytes r given parts at cause form first = as_given bytes r given (not_image (Wrong at cause)) (first_refused bytes parts at cause form first)
+
+pub if_refused : (bytes : List ℕ) (r : Result Image CheckFault) → AreBytes bytes → Gives (λ image. image) r (image_of bytes) → (at : ℕ) (cause : CheckCause) → r ≡ Err (faults.At at cause) → (parts : ImageParts) × ImageAs bytes parts × IsRefused parts at cause
+if_refused bytes r fit given at cause e =
+    let h = if_first bytes r given at cause e in
+    (h.0, h.1, refused_so h.0 (text_bytes bytes h.0 h.1 fit) at cause h.2)
+
+pub if_refused_only : (bytes : List ℕ) (r : Result Image CheckFault) → AreBytes bytes → Gives (λ image. image) r (image_of bytes) → (parts : ImageParts) (at : ℕ) (cause : CheckCause) → ImageAs bytes parts → IsRefused parts at cause → Gives (λ image. image) r (not_image (Wrong at cause))
+if_refused_only bytes r fit given parts at cause form h = if_first_only bytes r given parts at cause form (so_refused parts (text_bytes bytes parts form fit) at cause h)
 
 form_refused : (bytes : List ℕ) (fault : Fault) → image_in bytes ≡ Err fault → image_of bytes ≡ not_image (Form fault)
 unfolding image_of

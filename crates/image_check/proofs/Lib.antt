@@ -16,3 +16,8 @@ pub mod Starts
 pub mod SweepLaws
 pub mod TargetSteps
 pub mod SweepSteps
+pub mod FrontSites
+pub mod PlaceReasons
+pub mod SiteReasons
+pub mod TargetReasons
+pub mod ReasonLaws

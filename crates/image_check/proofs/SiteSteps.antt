@@ -69,7 +69,7 @@ found-skip skipped i ps d lt in_ps =
     let k : skipped ≡ suc (skipped - 1) = omega arith in
     ap (λ n. found_behind n (drop i ps)) k ∙ ap (found_behind (suc (skipped - 1))) (next_of ps i d in_ps) ∙ skip_first (skipped - 1) (slice_index_or ps i d) (drop (i + 1) ps)
 
-look_at : (p : Piece) (ps : List Piece) → found_behind 0 (p ∷ ps) ≡ found_by p (λ n. found_behind n ps) (begun_by p ps)
+pub look_at : (p : Piece) (ps : List Piece) → found_behind 0 (p ∷ ps) ≡ found_by p (λ n. found_behind n ps) (begun_by p ps)
 unfolding found_behind
 look_at p ps = refl
 

@@ -8,5 +8,6 @@ pub mod Conditions
 pub mod Checking
 pub mod Accepts
 pub mod Causes
+pub mod Reasons
 pub mod Places
 pub mod Layout

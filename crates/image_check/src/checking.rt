@@ -15,6 +15,7 @@ ghost use Rattle.image_check.specs.Conditions.{last_at, ends_at, text_end, lower
 ghost use Rattle.image_check.specs.Checking.{as_form, as_sites, annotated, entered, image_from, image_of, image_with};
 ghost use Rattle.image_check.specs.Accepts.{AreStarts, Accepts};
 ghost use Rattle.image_check.specs.Causes.{causes, IsFirst};
+ghost use Rattle.image_check.specs.Reasons.{IsRefused};
 ghost use Rattle.image_check.specs.Image.{Image as Accepted};
 ghost use Rattle.image_check.specs.declared.fault.CheckCause.{CheckCause};
 
@@ -173,6 +174,9 @@ pub fn check(alloc: Global, bytes: &[u8]) -> Result<Checked, CheckFault>
     // A refusal is the first cause by which the file's image is wrong, at its place.
     ensures first { (at : ℕ) (cause : CheckCause) → result ≡ Err (CheckFault.At at cause) → (parts : ImageParts) × ImageAs bytes.now parts × IsFirst causes parts at cause }
     ensures first_only { (parts : ImageParts) (at : ℕ) (cause : CheckCause) → ImageAs bytes.now parts → IsFirst causes parts at cause → Gives (λ checked. checked) result (Err (Wrong at cause)) }
+    // The same by the causes' conditions: the cause's holds there, and none before it in their order.
+    ensures refused { (at : ℕ) (cause : CheckCause) → result ≡ Err (CheckFault.At at cause) → (parts : ImageParts) × ImageAs bytes.now parts × IsRefused parts at cause }
+    ensures refused_only { (parts : ImageParts) (at : ℕ) (cause : CheckCause) → ImageAs bytes.now parts → IsRefused parts at cause → Gives (λ checked. checked) result (Err (Wrong at cause)) }
     // A file that is no image is refused as the reading refuses it.
     ensures form { (fault : Fault) → image_in bytes.now ≡ Err fault → Gives (λ checked. checked) result (Err (Form fault)) }
     ensures exact { Gives (λ checked. checked) result (image_of bytes.now) }

@@ -15,5 +15,7 @@ mod target;
 pub use checked::Checked;
 pub use checking::check;
 pub use fault::{CheckCause, CheckFault};
-pub use laws::{first_cause, one_sweep};
+pub use laws::{
+    causes_are_conditions, first_cause, one_sweep, refused_in_order, sites_from_the_front,
+};
 pub use place::Place;
