@@ -21,3 +21,8 @@ pub mod Keyed
 pub mod Costs
 pub mod Sizes
 pub mod Readability
+pub mod Tails
+pub mod Refusing
+pub mod Stopping
+pub mod Places
+pub mod Later

@@ -11,3 +11,4 @@ pub mod Statements
 pub mod Running
 pub mod Size
 pub mod Readable
+pub mod Refusals
