@@ -26,3 +26,4 @@ pub mod Refusing
 pub mod Stopping
 pub mod Places
 pub mod Later
+pub mod Walking

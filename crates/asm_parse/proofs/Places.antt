@@ -79,6 +79,7 @@ rep_fails sc b _ c h = same_fault _ c h
 
 list_fails : (sc : ScopeView) (b : ℕ) (n : List ℕ) (k : Directive) (s : Symbol) (c : SourceCause) → is_passed sc n ≡ false → is_dotted n ≡ true → directive_of n ≡ Some k → has_list k ≡ true → argument_step sc (nothing_yet b (head.Directive k n)) s ≡ Err c
     → value_cause (head.Directive k n) [] sc [] s ≡ c
+unfolding fresh_arguments
 list_fails sc b n k s c passed dotted dir list h =
     argument_refused sc b (nothing_yet b (head.Directive k n)) (symbol.Name n ∷ []) sc
     (fresh_arguments sc b (symbol.Name n ∷ []) (head.Directive k n) (Leads.directive passed dotted dir list) (λ ss args sc2 has count. Statement.directive passed dotted dir list has count)) s c h
@@ -90,6 +91,7 @@ directive_fails sc b n s c passed dotted (Some kind.Section) e h = section_fails
 directive_fails sc b n s c passed dotted (Some k) e h = list_fails sc b n k s c passed dotted e refl h
 
 instruction_fails : (sc : ScopeView) (b : ℕ) (n : List ℕ) (s : Symbol) (c : SourceCause) → is_passed sc n ≡ false → is_dotted n ≡ false → is_rep n ≡ false → argument_step sc (nothing_yet b (head.Instruction false n)) s ≡ Err c → operand_cause [] s ≡ c
+unfolding fresh_arguments
 instruction_fails sc b n s c passed dotted rep h =
     argument_refused sc b (nothing_yet b (head.Instruction false n)) (symbol.Name n ∷ []) sc
     (fresh_arguments sc b (symbol.Name n ∷ []) (head.Instruction false n) (Leads.instruction passed dotted rep) (λ ss args sc2 has count. Statement.instruction passed dotted rep has)) s c h
@@ -108,7 +110,7 @@ named_fails sc b n s c h = other_fails sc b n s c (is_passed sc n) (is_dotted n)
 
 -- ---- a `%`
 
-behind_is : (sc0 : ScopeView) (p : Place) (sc : ScopeView) (st : State) (line : ℕ) (s : Symbol) (rest : List Symbol) (c : SourceCause) → ((c : SourceCause) → step sc st line s ≡ Err c → cause_at sc0 p s ≡ c) → next_step sc st line s ≡ Err c → behind_cause sc0 p s rest ≡ c
+pub behind_is : (sc0 : ScopeView) (p : Place) (sc : ScopeView) (st : State) (line : ℕ) (s : Symbol) (rest : List Symbol) (c : SourceCause) → ((c : SourceCause) → step sc st line s ≡ Err c → cause_at sc0 p s ≡ c) → next_step sc st line s ≡ Err c → behind_cause sc0 p s rest ≡ c
 behind_is sc0 p sc st line symbol.Percent rest c f h = by_result (step sc st line symbol.Percent) refl h
   where
     not_place : (d : SourceCause) → is_place d ≡ false → percent_cause d rest ≡ d
@@ -127,9 +129,17 @@ behind_is sc0 p sc st line s rest c f h = f c h
 
 -- ---- the place of a state
 
+-- these symbols begin with the change to a named section
+pub record InSection (sc0 : ScopeView) (ss : List Symbol) : Type 0 where
+  pub directive : List ℕ
+  pub name : List ℕ
+  pub more : List Symbol
+  pub whole : ss ≡ symbol.Name directive ∷ symbol.Name name ∷ more
+  pub naming : IsNaming sc0 directive name
+
 -- what is known besides of a statement's words
 abbrev pub Extra : ScopeView → State → List Word → Type 0
-Extra sc0 (state.Flags b n m) ps = Stands sc0 (symbols ps) Place.section
+Extra sc0 (state.Flags b n m) ps = InSection sc0 (symbols ps)
 Extra sc0 (state.Arguments o) ps = (p : Word) × (q : Word) × (rest : List Word) × (ps ≡ p ∷ q ∷ rest)
 Extra sc0 st ps = Unit {0}
 
@@ -213,19 +223,26 @@ at_skip sc0 sc line ps f = record {
   byte = λ c. refl;
 }
 
-at_flags : (sc0 sc : ScopeView) (b : ℕ) (n m : List ℕ) (ps : List Word) → Stands sc0 (symbols ps) Place.section → Standing sc0 (state.Flags b n m) ps sc
+in_section : (sc0 : ScopeView) (ss : List Symbol) → InSection sc0 ss → Stands sc0 ss Place.section
+in_section sc0 ss g = subst (λ (x : List Symbol). Stands sc0 x Place.section) (sym g.whole) (Stands.section g.more g.naming.passed g.naming.dotted g.naming.section g.naming.is)
+
+at_flags : (sc0 sc : ScopeView) (b : ℕ) (n m : List ℕ) (ps : List Word) → InSection sc0 (symbols ps) → Standing sc0 (state.Flags b n m) ps sc
 at_flags sc0 sc b n m ps st = record {
   place = Place.section;
-  stands = st;
+  stands = in_section sc0 (symbols ps) st;
   cause = λ line s rest c h. absurd (flags_pass sc b n m line s c h);
   percent = λ line rest c h. absurd cc;
   byte = λ c. refl;
 }
 
-section_stands : (sc0 : ScopeView) (ps : List Word) (b : ℕ) (n m : List ℕ) (e : ℕ) → InName sc0 ps b n m e → (more : List Word) → Stands sc0 (symbols (ps ++ more)) Place.section
-section_stands sc0 ps b n m e g more =
-    let is : symbols (ps ++ more) ≡ symbol.Name n ∷ symbol.Name g.front ∷ symbols (g.parts ++ more) = rw (g.whole, g.named, g.behind) refl in
-    subst (λ (x : List Symbol). Stands sc0 x Place.section) (sym is) (Stands.section (symbols (g.parts ++ more)) g.naming.passed g.naming.dotted g.naming.section g.naming.is)
+pub section_words : (sc0 : ScopeView) (ps : List Word) (b : ℕ) (n m : List ℕ) (e : ℕ) → InName sc0 ps b n m e → (more : List Word) → InSection sc0 (symbols (ps ++ more))
+section_words sc0 ps b n m e g more = record {
+  directive = n;
+  name = g.front;
+  more = symbols (g.parts ++ more);
+  whole = rw (g.whole, g.named, g.behind) refl;
+  naming = g.naming;
+}
 
 sectioned_fails : (sc : ScopeView) (b : ℕ) (n m : List ℕ) (s : Symbol) (c : SourceCause) → sectioned_step sc b n m s ≡ Err c → other_cause s ≡ c
 sectioned_fails sc b n m symbol.End c h = absurd cc
@@ -235,7 +252,7 @@ sectioned_fails sc b n m _ c h = same_fault _ c h
 at_section : (sc0 sc : ScopeView) (b : ℕ) (n m : List ℕ) (e : ℕ) (ps : List Word) → InName sc0 ps b n m e → Standing sc0 (state.Sectioned b n m e) ps sc
 at_section sc0 sc b n m e ps g = record {
   place = Place.section;
-  stands = subst (λ (x : List Word). Stands sc0 (symbols x) Place.section) (append-nil ps) (section_stands sc0 ps b n m e g []);
+  stands = subst (λ (x : List Word). Stands sc0 (symbols x) Place.section) (append-nil ps) (in_section sc0 (symbols (ps ++ [])) (section_words sc0 ps b n m e g []));
   cause = λ line s rest c h. behind_is sc0 Place.section sc (state.Sectioned b n m e) line s rest c (λ d k. sectioned_fails sc b n m s d k) h;
   percent = λ line rest c h. ap (λ (x : SourceCause). percent_cause x rest) (sectioned_fails sc b n m symbol.Percent c h);
   byte = λ c. refl;
@@ -340,8 +357,8 @@ module _ (sc0 : ScopeView) (line : ℕ) (o : Open) (ss : List Symbol) (sc : Scop
     place = Place.argument o.head o.done w.behind (stars o.star ++ w.arg);
     stands = subst (λ (x : List Symbol). Stands sc0 x (Place.argument o.head o.done w.behind (stars o.star ++ w.arg))) (ap symbols (sym e))
     (Stands.argument (symbol_of p.kind p.bytes) (symbol_of q.kind q.bytes) (symbols rest) w.lead w.front (stars o.star ++ w.arg) (ap symbols (sym e) ∙ (sym same ∙ w.whole)) w.leads w.separated opens);
-    cause = λ line s rest c h. behind_is sc0 (Place.argument o.head o.done w.behind (stars o.star ++ w.arg)) sc (state.Arguments o) line s rest c (λ d k. argument_refused sc0 line o ss sc w s d k) h;
-    percent = λ line rest c h. ap (λ (x : SourceCause). percent_cause x rest) (argument_refused sc0 line o ss sc w symbol.Percent c h);
+    cause = λ at s more c h. behind_is sc0 (Place.argument o.head o.done w.behind (stars o.star ++ w.arg)) sc (state.Arguments o) at s more c (λ d k. argument_refused sc0 line o ss sc w s d k) h;
+    percent = λ at more c h. ap (λ (x : SourceCause). percent_cause x more) (argument_refused sc0 line o ss sc w symbol.Percent c h);
     byte = byte_is;
   }
 

@@ -296,7 +296,7 @@ module _ (sc0 : ScopeView) (line : ℕ) (o : Open) (ss : List Symbol) (sc : Scop
   arguments_begun symbol.Star h = star_begun (takes_star o) refl h
   arguments_begun s h = within_begun s h
 
-pub fresh_arguments : (sc0 : ScopeView) (line : ℕ) (lead : List Symbol) (h : Head) → Leads sc0 h lead → Ending sc0 line lead h → InArguments sc0 line (nothing_yet line h) lead sc0
+unfoldable pub fresh_arguments : (sc0 : ScopeView) (line : ℕ) (lead : List Symbol) (h : Head) → Leads sc0 h lead → Ending sc0 line lead h → InArguments sc0 line (nothing_yet line h) lead sc0
 fresh_arguments sc0 line lead h leads ends = record {
   lead = lead;
   front = [];

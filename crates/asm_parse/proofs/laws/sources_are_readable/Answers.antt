@@ -1,3 +1,4 @@
+use Rattle.asm_parse.proofs.Walking.{Found}
 use Rattle.asm_parse.proofs.Places.{standing}
 use Rattle.asm_parse.proofs.Later.{leads_on}
 use Rattle.asm_parse.proofs.Readability.{source_items}
