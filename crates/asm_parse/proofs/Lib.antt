@@ -27,3 +27,5 @@ pub mod Stopping
 pub mod Places
 pub mod Later
 pub mod Walking
+pub mod Refused
+pub mod Worded

@@ -148,6 +148,7 @@ pub record Standing (sc0 : ScopeView) (st : State) (ps : List Word) (sc : ScopeV
   pub stands : Stands sc0 (symbols ps) place
   pub cause : (line : ℕ) (s : Symbol) (rest : List Symbol) (c : SourceCause) → next_step sc st line s ≡ Err c → refused_cause sc0 place s rest ≡ c
   pub percent : (line : ℕ) (rest : List Symbol) (c : SourceCause) → step sc st line symbol.Percent ≡ Err c → refused_cause sc0 place symbol.Percent rest ≡ percent_cause c rest
+  pub first : st ≡ state.Start → (sc0 ≡ sc) × (place ≡ Place.first)
   pub byte : (c : SourceCause) → or_cause (pending sc st) c ≡ byte_cause sc0 place c
 
 start_fails : (sc : ScopeView) (line : ℕ) (s : Symbol) (c : SourceCause) → step sc state.Start line s ≡ Err c → other_cause s ≡ c
@@ -174,6 +175,7 @@ at_start sc = record {
   stands = Stands.first;
   cause = λ line s rest c h. first_cause sc line s rest c h;
   percent = λ line rest c h. ap (λ (x : SourceCause). percent_cause x rest) (start_fails sc line symbol.Percent c h);
+  first = λ e. (refl, refl);
   byte = λ c. refl;
 }
 
@@ -201,6 +203,7 @@ at_named sc b n ps e alive = record {
   stands = subst (λ (x : List Symbol). Stands sc x (Place.named n)) (sym e) Stands.named;
   cause = λ line s rest c h. behind_is sc (Place.named n) sc (state.Named b n) line s rest c (λ d k. named_fails sc b n s d k) h;
   percent = λ line rest c h. ap (λ (x : SourceCause). percent_cause x rest) (named_fails sc b n symbol.Percent c h);
+  first = λ e. absurd cc;
   byte = λ c. named_byte sc b n c alive;
 }
 
@@ -220,6 +223,7 @@ at_skip sc0 sc line ps f = record {
   stands = Stands.skipped {line = line} f;
   cause = λ line s rest c h. absurd (passes sc line s c h);
   percent = λ line rest c h. absurd cc;
+  first = λ e. absurd cc;
   byte = λ c. refl;
 }
 
@@ -232,6 +236,7 @@ at_flags sc0 sc b n m ps st = record {
   stands = in_section sc0 (symbols ps) st;
   cause = λ line s rest c h. absurd (flags_pass sc b n m line s c h);
   percent = λ line rest c h. absurd cc;
+  first = λ e. absurd cc;
   byte = λ c. refl;
 }
 
@@ -255,6 +260,7 @@ at_section sc0 sc b n m e ps g = record {
   stands = subst (λ (x : List Word). Stands sc0 (symbols x) Place.section) (append-nil ps) (in_section sc0 (symbols (ps ++ [])) (section_words sc0 ps b n m e g []));
   cause = λ line s rest c h. behind_is sc0 Place.section sc (state.Sectioned b n m e) line s rest c (λ d k. sectioned_fails sc b n m s d k) h;
   percent = λ line rest c h. ap (λ (x : SourceCause). percent_cause x rest) (sectioned_fails sc b n m symbol.Percent c h);
+  first = λ e. absurd cc;
   byte = λ c. refl;
 }
 
@@ -359,6 +365,7 @@ module _ (sc0 : ScopeView) (line : ℕ) (o : Open) (ss : List Symbol) (sc : Scop
     (Stands.argument (symbol_of p.kind p.bytes) (symbol_of q.kind q.bytes) (symbols rest) w.lead w.front (stars o.star ++ w.arg) (ap symbols (sym e) ∙ (sym same ∙ w.whole)) w.leads w.separated opens);
     cause = λ at s more c h. behind_is sc0 (Place.argument o.head o.done w.behind (stars o.star ++ w.arg)) sc (state.Arguments o) at s more c (λ d k. argument_refused sc0 line o ss sc w s d k) h;
     percent = λ at more c h. ap (λ (x : SourceCause). percent_cause x more) (argument_refused sc0 line o ss sc w symbol.Percent c h);
+    first = λ e. absurd cc;
     byte = byte_is;
   }
 

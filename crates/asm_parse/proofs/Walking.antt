@@ -57,14 +57,14 @@ beginning ws sc st named runs alive =
 err_not_ok : {A : Type 0} {f : Fault} {y : A} (r : Result A Fault) → r ≡ Err f → r ≡ Ok y → ⊥
 err_not_ok r e h = absurd cc
 
-refused_never : (ws : List Word) (w : Word) (sc : ScopeView) (st : State) (f : Fault) → read_words fresh state.Start ws ≡ Ok (sc, st) → placed (fault_line sc st w.line) (next_word sc st w) ≡ Err f → IsNoBeginning (ws ++ w ∷ [])
+pub refused_never : (ws : List Word) (w : Word) (sc : ScopeView) (st : State) (f : Fault) → read_words fresh state.Start ws ≡ Ok (sc, st) → placed (fault_line sc st w.line) (next_word sc st w) ≡ Err f → IsNoBeginning (ws ++ w ∷ [])
 refused_never ws w sc st f runs h = λ more sc2 statements.
     let g : read_words fresh state.Start (ws ++ (w ∷ more)) ≡ Ok (sc2, state.Start) = ap (read_words fresh state.Start) (sym (append_assoc ws (w ∷ []) more)) ∙ statements_run statements in
     let k : read_words sc st (w ∷ more) ≡ Ok (sc2, state.Start) = sym (words_append ws (w ∷ more) fresh state.Start (sc, st) runs) ∙ g in
     let e : read_words sc st (w ∷ more) ≡ Err f = ap (λ (r : Result (ScopeView × State) Fault). r >>= λ y. read_words y.0 y.1 more) h in
     err_not_ok (read_words sc st (w ∷ more)) e k
 
-doomed_never : (ws : List Word) (w : Word) (sc : ScopeView) (st : State) (z : ScopeView × State) (l : ℕ) → read_words fresh state.Start ws ≡ Ok (sc, st) → next_word sc st w ≡ Ok z → GoodIn Any z.0 → doom z.0 z.1 ≡ Some l → IsNoBeginning (ws ++ w ∷ [])
+pub doomed_never : (ws : List Word) (w : Word) (sc : ScopeView) (st : State) (z : ScopeView × State) (l : ℕ) → read_words fresh state.Start ws ≡ Ok (sc, st) → next_word sc st w ≡ Ok z → GoodIn Any z.0 → doom z.0 z.1 ≡ Some l → IsNoBeginning (ws ++ w ∷ [])
 doomed_never ws w sc st z l runs h good d = λ more sc2 statements.
     let g : read_words fresh state.Start (ws ++ (w ∷ more)) ≡ Ok (sc2, state.Start) = ap (read_words fresh state.Start) (sym (append_assoc ws (w ∷ []) more)) ∙ statements_run statements in
     let k : read_words sc st (w ∷ more) ≡ Ok (sc2, state.Start) = sym (words_append ws (w ∷ more) fresh state.Start (sc, st) runs) ∙ g in
@@ -81,7 +81,7 @@ pub data Found (all : List Word) (e : Ending) (f : Fault) : Type 0 where
 
 -- ---- a word that doesn't go on
 
-word_fails : (sc : ScopeView) (st : State) (w : Word) (c : SourceCause) → next_word sc st w ≡ Err c → next_step sc st w.line (symbol_of w.kind w.bytes) ≡ Err c
+pub word_fails : (sc : ScopeView) (st : State) (w : Word) (c : SourceCause) → next_word sc st w ≡ Err c → next_step sc st w.line (symbol_of w.kind w.bytes) ≡ Err c
 word_fails sc st w c h = by_test (is_longer st w.at w.kind w.bytes) h
   where
     by_result : (r : Answer) → with_end (w.at + length w.bytes) r ≡ Err c → r ≡ Err c
@@ -93,7 +93,7 @@ word_fails sc st w c h = by_test (is_longer st w.at w.kind w.bytes) h
     by_test false h = by_result (next_step sc st w.line (symbol_of w.kind w.bytes)) h
 
 -- behind a `%` that may not stand there
-stray_fault : (sc : ScopeView) (l : ℕ) (c : SourceCause) (ws : List Word) (e : Ending) (f : Fault) → is_place c ≡ true → fault_in sc (state.Stray l c) ws e ≡ Some f → f ≡ (l, percent_cause c (symbols ws))
+pub stray_fault : (sc : ScopeView) (l : ℕ) (c : SourceCause) (ws : List Word) (e : Ending) (f : Fault) → is_place c ≡ true → fault_in sc (state.Stray l c) ws e ≡ Some f → f ≡ (l, percent_cause c (symbols ws))
 stray_fault sc l c [] e f is h = by_end e h
   where
     nothing : (c : SourceCause) → is_place c ≡ true → percent_cause c [] ≡ cause.BadRegister
@@ -167,11 +167,11 @@ later_alive sc (state.Stray k c) e l h d = absurd cc
 later_alive sc state.Start e l h d = absurd cc
 later_alive sc _ e l h d = absurd cc
 
-data Doomed (sc : ScopeView) (st : State) (w : Word) (z : ScopeView × State) : Type 0 where
+pub data Doomed (sc : ScopeView) (st : State) (w : Word) (z : ScopeView × State) : Type 0 where
   name : (n : List ℕ) → st ≡ state.Start → symbol_of w.kind w.bytes ≡ symbol.Name n → z ≡ (sc, state.Named w.line n) → Doomed sc st w z
   astray : (c : SourceCause) → symbol_of w.kind w.bytes ≡ symbol.Percent → step sc st w.line symbol.Percent ≡ Err c → is_place c ≡ true → z ≡ (fresh, state.Stray (fault_line sc st w.line) c) → Doomed sc st w z
 
-doomed_word : (sc : ScopeView) (st : State) (w : Word) (z : ScopeView × State) (l : ℕ) → next_word sc st w ≡ Ok z → doom z.0 z.1 ≡ Some l → Doomed sc st w z
+pub doomed_word : (sc : ScopeView) (st : State) (w : Word) (z : ScopeView × State) (l : ℕ) → next_word sc st w ≡ Ok z → doom z.0 z.1 ≡ Some l → Doomed sc st w z
 doomed_word sc st w z l h d = elim (word_goes sc st w z h) [
   | WordGoes.on t k ↦ absurd (longer_alive sc st w l t (sym (ap (λ (x : ScopeView × State). doom x.0 x.1) k) ∙ d))
   | WordGoes.as_symbol y t f k ↦ by_lead y k (leads_on sc st w.line (symbol_of w.kind w.bytes) y f)
@@ -189,7 +189,7 @@ named_start : (b : ℕ) (n : List ℕ) → state.Named b n ≡ state.Start → �
 named_start b n e = absurd cc
 
 -- behind a name with which no statement begins
-name_fault : (sc : ScopeView) (b : ℕ) (n : List ℕ) (ws : List Word) (e : Ending) (f : Fault) → GoodIn Any sc → doom sc (state.Named b n) ≡ Some b → fault_in sc (state.Named b n) ws e ≡ Some f → f ≡ (b, first_name_cause sc n (symbols ws))
+pub name_fault : (sc : ScopeView) (b : ℕ) (n : List ℕ) (ws : List Word) (e : Ending) (f : Fault) → GoodIn Any sc → doom sc (state.Named b n) ≡ Some b → fault_in sc (state.Named b n) ws e ≡ Some f → f ≡ (b, first_name_cause sc n (symbols ws))
 name_fault sc b n [] Ending.whole f good d h = absurd cc
 name_fault sc b n [] (Ending.broken l c) f good d h =
     sym (some_same (stopped sc (state.Named b n) l c) f h) ∙ (ap (λ (x : Option ℕ). (or_line x l, or_cause (pending sc (state.Named b n)) c)) d ∙ ap (λ (x : SourceCause). (b, x)) (name_pending sc b b n c d))

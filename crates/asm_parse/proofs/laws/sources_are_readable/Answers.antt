@@ -1,4 +1,5 @@
-use Rattle.asm_parse.proofs.Walking.{Found}
+use Rattle.asm_parse.proofs.Refused.{found_fault}
+use Rattle.asm_parse.proofs.Worded.{EndsSo}
 use Rattle.asm_parse.proofs.Places.{standing}
 use Rattle.asm_parse.proofs.Later.{leads_on}
 use Rattle.asm_parse.proofs.Readability.{source_items}
