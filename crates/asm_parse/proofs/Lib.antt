@@ -29,3 +29,4 @@ pub mod Later
 pub mod Walking
 pub mod Refused
 pub mod Worded
+pub mod Faulted
