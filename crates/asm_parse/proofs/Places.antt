@@ -362,7 +362,7 @@ module _ (sc0 : ScopeView) (line : ℕ) (o : Open) (ss : List Symbol) (sc : Scop
   at_arguments ps same p q rest e = record {
     place = Place.argument o.head o.done w.behind (stars o.star ++ w.arg);
     stands = subst (λ (x : List Symbol). Stands sc0 x (Place.argument o.head o.done w.behind (stars o.star ++ w.arg))) (ap symbols (sym e))
-    (Stands.argument (symbol_of p.kind p.bytes) (symbol_of q.kind q.bytes) (symbols rest) w.lead w.front (stars o.star ++ w.arg) (ap symbols (sym e) ∙ (sym same ∙ w.whole)) w.leads w.separated opens);
+        (Stands.argument (symbol_of p.kind p.bytes) (symbol_of q.kind q.bytes) (symbols rest) w.lead w.front (stars o.star ++ w.arg) (ap symbols (sym e) ∙ (sym same ∙ w.whole)) w.leads w.separated opens);
     cause = λ at s more c h. behind_is sc0 (Place.argument o.head o.done w.behind (stars o.star ++ w.arg)) sc (state.Arguments o) at s more c (λ d k. argument_refused sc0 line o ss sc w s d k) h;
     percent = λ at more c h. ap (λ (x : SourceCause). percent_cause x more) (argument_refused sc0 line o ss sc w symbol.Percent c h);
     first = λ e. absurd cc;
