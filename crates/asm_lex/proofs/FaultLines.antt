@@ -27,7 +27,7 @@ use Rattle.asm_lex.proofs.Again.{again}
 
 -- ---- a fault is in its line
 
-abbrev StopsIn : ℕ → Next → Type 0
+abbrev pub StopsIn : ℕ → Next → Type 0
 StopsIn line (Goes m) = Unit {0}
 StopsIn line (Stops l c) = l ≡ line
 
@@ -43,7 +43,7 @@ begins_in _ at line b = tt
 begun_in : (at line b : ℕ) → StopsIn line (begun at line b).next
 begun_in at line b = begins_in (class_of b) at line b
 
-step_in : (m : Mode) (at line b : ℕ) → StopsIn line (stepped m at line b).next
+pub step_in : (m : Mode) (at line b : ℕ) → StopsIn line (stepped m at line b).next
 step_in mode.Between at line b = begun_in at line b
 step_in mode.Slash at line b = either line (b == 42) (goes (mode.Block line)) (stops line cause.BadCharacter) tt refl
 step_in mode.Line at line b = either line (b == 10) (emits kind.End at 1) (cond (is_source b) (goes mode.Line) (stops line cause.NotAscii)) tt (either line (is_source b) (goes mode.Line) (stops line cause.NotAscii) tt refl)

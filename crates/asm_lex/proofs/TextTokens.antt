@@ -96,7 +96,7 @@ at_newline (mode.Quote s) at line = tt
 at_newline (mode.Text s) at line = tt
 at_newline (mode.Escape s) at line = tt
 
-last_closed : (bs : List ℕ) (m : Mode) (at line : ℕ) → IsClosed (token_scan m at line (bs ++ 10 ∷ [])).ending
+pub last_closed : (bs : List ℕ) (m : Mode) (at line : ℕ) → IsClosed (token_scan m at line (bs ++ 10 ∷ [])).ending
 last_closed [] m at line = by_next (stepped m at line 10).next (at_newline m at line)
   where
     by_next : (n : Next) → IsClosed n → IsClosed (let r : Tokens = elim n [ Goes k ↦ token_scan k (at + 1) (line_after line 10) [] | Stops l c ↦ record { tokens = []; ending = Stops l c } ] in r.ending)

@@ -45,7 +45,7 @@ mark_is m =
 number_is : (n : ℕ) → SymbolIs IsName (number_symbol n)
 number_is n = symbol_either (nat_lt n (2 ^ 32)) _ _ tt tt
 
-token_is : (k : TokenKind) (piece rest : List ℕ) → IsToken k piece rest → SymbolIs IsName (symbol_of k piece)
+pub token_is : (k : TokenKind) (piece rest : List ℕ) → IsToken k piece rest → SymbolIs IsName (symbol_of k piece)
 token_is k piece rest (IsToken.end h) = tt
 token_is k piece rest (IsToken.mark {b} h) = mark_is b
 token_is k piece rest (IsToken.name {b} {bs} h g f) = (h, g)
@@ -53,7 +53,7 @@ token_is k piece rest (IsToken.number {b} {bs} h g f e) = number_is (number_valu
 token_is k piece rest (IsToken.character {b} {c} h g) = number_is (number_value (b ∷ c ∷ []))
 token_is k piece rest (IsToken.string h g) = tt
 
-abbrev AreNamed : List Word → Type 0
+abbrev pub AreNamed : List Word → Type 0
 AreNamed [] = Unit {0}
 AreNamed (w ∷ ws) = SymbolIs IsName (symbol_of w.kind w.bytes) × AreNamed ws
 
@@ -71,11 +71,11 @@ named_of (state.Flags b n m) h = tt
 named_of (state.Arguments o) h = tt
 named_of (state.Stray l c) h = tt
 
-record Fine (y : ScopeView × State) : Type 0 where
-  scope : GoodIn IsName y.0
-  state : StateIs IsName y.1
+pub record Fine (y : ScopeView × State) : Type 0 where
+  pub scope : GoodIn IsName y.0
+  pub state : StateIs IsName y.1
 
-words_fine : (ws : List Word) (sc : ScopeView) (st : State) (y : ScopeView × State) → AreNamed ws → GoodIn IsName sc → StateIs IsName st → read_words sc st ws ≡ Ok y → Fine y
+pub words_fine : (ws : List Word) (sc : ScopeView) (st : State) (y : ScopeView × State) → AreNamed ws → GoodIn IsName sc → StateIs IsName st → read_words sc st ws ≡ Ok y → Fine y
 words_fine [] sc st y are g is h = let e : (sc, st) ≡ y = cc in subst Fine e (record { scope = g; state = is })
 words_fine (w ∷ ws) sc st y are g is h =
     let z = bind_ok (placed (fault_line sc st w.line) (next_word sc st w)) (λ z. read_words z.0 z.1 ws) y h in

@@ -25,7 +25,7 @@ use Rattle.asm_parse.proofs.Lines.{bind_ok}
 use Rattle.asm_parse.proofs.Said.{IsNaming, Begun, start_begun, begun_more, next_begun}
 
 -- where words end that go on from this place
-abbrev ends_at : ℕ → List Word → ℕ
+abbrev pub ends_at : ℕ → List Word → ℕ
 ends_at at [] = at
 ends_at at (w ∷ ws) = ends_at (w.at + length w.bytes) ws
 
@@ -42,22 +42,22 @@ text_more [] w = append-nil w.bytes
 text_more (v ∷ ws) w = ap (λ (x : List ℕ). v.bytes ++ x) (text_more ws w) ∙ sym (append_assoc v.bytes (text_of ws) w.bytes)
 
 -- These words are the change of a section up to its name, which ends at this place.
-record InName (sc0 : ScopeView) (ws : List Word) (b : ℕ) (n m : List ℕ) (e : ℕ) : Type 0 where
-  first : Word
-  second : Word
-  parts : List Word
-  front : List ℕ
-  whole : ws ≡ first ∷ second ∷ parts
-  line : b ≡ first.line
-  named : symbol_of first.kind first.bytes ≡ symbol.Name n
-  behind : symbol_of second.kind second.bytes ≡ symbol.Name front
-  naming : IsNaming sc0 n front
-  touch : Touch (second.at + length second.bytes) parts
-  name : m ≡ front ++ text_of parts
-  ends : e ≡ ends_at (second.at + length second.bytes) parts
+pub record InName (sc0 : ScopeView) (ws : List Word) (b : ℕ) (n m : List ℕ) (e : ℕ) : Type 0 where
+  pub first : Word
+  pub second : Word
+  pub parts : List Word
+  pub front : List ℕ
+  pub whole : ws ≡ first ∷ second ∷ parts
+  pub line : b ≡ first.line
+  pub named : symbol_of first.kind first.bytes ≡ symbol.Name n
+  pub behind : symbol_of second.kind second.bytes ≡ symbol.Name front
+  pub naming : IsNaming sc0 n front
+  pub touch : Touch (second.at + length second.bytes) parts
+  pub name : m ≡ front ++ text_of parts
+  pub ends : e ≡ ends_at (second.at + length second.bytes) parts
 
 -- a statement once these words have ended
-abbrev InFlags : ScopeView → List Word → ℕ → List ℕ → List ℕ → Type 0
+abbrev pub InFlags : ScopeView → List Word → ℕ → List ℕ → List ℕ → Type 0
 InFlags sc0 ws b n m = (rest : List Word) (ss : List Symbol) → symbols rest ≡ ss ++ symbol.End ∷ [] → list_all is_inner ss ≡ true → IsStatement sc0 (ws ++ rest) (sectioned sc0 b n m)
 
 name_ends : (sc0 : ScopeView) (ws rest : List Word) (b : ℕ) (n m : List ℕ) (e : ℕ) (ss : List Symbol) → InName sc0 ws b n m e → symbols rest ≡ ss ++ symbol.End ∷ [] → are_flags ss ≡ true → IsStatement sc0 (ws ++ rest) (sectioned sc0 b n m)
@@ -83,13 +83,13 @@ name_longer sc0 ws w b n m e g at part = record {
 }
 
 -- the words of the statement that has begun
-abbrev HeldBy : ScopeView → State → Word → List Word → ScopeView → Type 0
+abbrev pub HeldBy : ScopeView → State → Word → List Word → ScopeView → Type 0
 HeldBy sc0 state.Start w ps sc = IsStatement sc0 (w ∷ ps) sc
 HeldBy sc0 (state.Sectioned b n m e) w ps sc = (sc0 ≡ sc) × InName sc0 (w ∷ ps) b n m e
 HeldBy sc0 (state.Flags b n m) w ps sc = (sc0 ≡ sc) × InFlags sc0 (w ∷ ps) b n m
 HeldBy sc0 st w ps sc = Begun sc0 w.line st (symbols (w ∷ ps)) sc
 
-abbrev Held : ScopeView → State → List Word → ScopeView → Type 0
+abbrev pub Held : ScopeView → State → List Word → ScopeView → Type 0
 Held sc0 st [] sc = (st ≡ state.Start) × (sc0 ≡ sc)
 Held sc0 st (w ∷ ps) sc = (st ≡ state.Start → ⊥) × HeldBy sc0 st w ps sc
 
@@ -198,7 +198,7 @@ flags_symbol sc0 sc b n m p ps w y same g symbol.End is h =
 flags_symbol sc0 sc b n m p ps w y same g symbol.Percent is h = flags_stay sc0 sc b n m p ps w y same g symbol.Percent is refl (ok_state (sc, state.Flags b n m) y h)
 flags_symbol sc0 sc b n m p ps w y same g s is h = flags_stay sc0 sc b n m p ps w y same g s is refl (ok_state (sc, state.Flags b n m) y h)
 
-held_more : (sc0 sc : ScopeView) (st : State) (p : Word) (ps : List Word) (w : Word) (z : ScopeView × State) → (st ≡ state.Start → ⊥) → HeldBy sc0 st p ps sc → next_word sc st w ≡ Ok z → HeldBy sc0 z.1 p (ps ++ w ∷ []) z.0
+pub held_more : (sc0 sc : ScopeView) (st : State) (p : Word) (ps : List Word) (w : Word) (z : ScopeView × State) → (st ≡ state.Start → ⊥) → HeldBy sc0 st p ps sc → next_word sc st w ≡ Ok z → HeldBy sc0 z.1 p (ps ++ w ∷ []) z.0
 held_more sc0 sc state.Start p ps w z inside g h = absurd (inside refl)
 held_more sc0 sc (state.Named b n) p ps w z inside g h = plain_more sc0 sc (state.Named b n) p ps w z inside refl g h
 held_more sc0 sc state.Skip p ps w z inside g h = plain_more sc0 sc state.Skip p ps w z inside refl g h
@@ -211,7 +211,7 @@ held_more sc0 sc (state.Arguments o) p ps w z inside g h = plain_more sc0 sc (st
 held_more sc0 sc (state.Stray l c) p ps w z inside g h = plain_more sc0 sc (state.Stray l c) p ps w z inside refl g h
 
 -- the first word of a statement
-first_held : (sc : ScopeView) (w : Word) (z : ScopeView × State) → next_word sc state.Start w ≡ Ok z → HeldBy sc z.1 w [] z.0
+pub first_held : (sc : ScopeView) (w : Word) (z : ScopeView × State) → next_word sc state.Start w ≡ Ok z → HeldBy sc z.1 w [] z.0
 first_held sc w z h = elim (word_goes sc state.Start w z h) [
   | WordGoes.on t k ↦ absurd cc
   | WordGoes.as_symbol y t f k ↦
@@ -219,7 +219,7 @@ first_held sc w z h = elim (word_goes sc state.Start w z h) [
       held_is sc w [] z (y.0, ending_at (w.at + length w.bytes) y.1) k (begun_held sc y.0 y.1 w [] (w.at + length w.bytes) (λ v e. absurd cc) b)
 ]
 
-placed_ok : (line : ℕ) (r : Answer) (z : ScopeView × State) → placed line r ≡ Ok z → r ≡ Ok z
+pub placed_ok : (line : ℕ) (r : Answer) (z : ScopeView × State) → placed line r ≡ Ok z → r ≡ Ok z
 placed_ok line (Ok x) z h = let e : x ≡ z = cc in ap (λ (q : ScopeView × State). Ok q) e
 placed_ok line (Err c) z h = absurd cc
 

@@ -49,14 +49,14 @@ use Rattle.asm_parse.proofs.Written.{Piece, words_at, symbols_of, ArePieces, pie
 
 -- ---- one argument
 
-record Finish (sh : Shape) (p : Partial) : Type 0 where
-  pieces : List Piece
-  are : ArePieces pieces
-  last : Partial
-  form : Form
-  runs : operand_run sh p (symbols_of pieces) ≡ ok last
-  ends : finished last ≡ Some form
-  names : named_in last ≡ named_in p
+pub record Finish (sh : Shape) (p : Partial) : Type 0 where
+  pub pieces : List Piece
+  pub are : ArePieces pieces
+  pub last : Partial
+  pub form : Form
+  pub runs : operand_run sh p (symbols_of pieces) ≡ ok last
+  pub ends : finished last ≡ Some form
+  pub names : named_in last ≡ named_in p
 
 low_register : is_register low ≡ true
 unfolding is_register
@@ -104,7 +104,7 @@ zero_fits _ = refl
 low_close : ArePieces (the_name low ∷ the_mark 41 ∷ [])
 low_close = (name_piece low low_name, (close_piece, tt))
 
-finish : (sh : Shape) (p : Partial) → (is_nothing p ≡ true → sh ≡ shape.Name → ⊥) → Finish sh p
+pub finish : (sh : Shape) (p : Partial) → (is_nothing p ≡ true → sh ≡ shape.Name → ⊥) → Finish sh p
 finish sh partial.Nothing never = finish_nothing sh (never refl)
 finish sh partial.Absent never = done sh partial.Absent form.Absent refl
 finish sh partial.Percent never = record { pieces = the_name low ∷ []; are = (name_piece low low_name, tt); last = partial.Whole (form.Register low); form = form.Register low; runs = rw (low_register, operand_run) refl; ends = refl; names = refl }

@@ -27,7 +27,7 @@ finish r text = run r text >>= λ s. closed s s.mode
 
 -- ---- what is dead stays dead
 
-words_doomed : (ws : List Word) (sc : ScopeView) (st : State) (l : ℕ) (y : ScopeView × State) → GoodIn Any sc → doom sc st ≡ Some l → read_words sc st ws ≡ Ok y → y.1 ≡ state.Start → ⊥
+pub words_doomed : (ws : List Word) (sc : ScopeView) (st : State) (l : ℕ) (y : ScopeView × State) → GoodIn Any sc → doom sc st ≡ Some l → read_words sc st ws ≡ Ok y → y.1 ≡ state.Start → ⊥
 words_doomed [] sc st l y good d h e =
     let g : (sc, st) ≡ y = cc in
     let start : st ≡ state.Start = ap (λ (x : ScopeView × State). x.1) g ∙ e in

@@ -20,3 +20,12 @@ pub mod Keyed
 pub mod Costs
 pub mod Sizes
 pub mod Readability
+pub mod Tails
+pub mod Refusing
+pub mod Stopping
+pub mod Places
+pub mod Later
+pub mod Walking
+pub mod Refused
+pub mod Worded
+pub mod Faulted

@@ -10,6 +10,7 @@ use Rattle.asm_lex.specs.Words.{Word}
 use Rattle.asm_argument.specs.declared.symbol.Symbol.{Symbol}
 use Rattle.asm_argument.specs.declared.symbol.Symbol.TheVariants as symbol
 use Rattle.asm_argument.specs.declared.operand.Shape.{Shape}
+use Rattle.asm_argument.specs.declared.operand.Shape.TheVariants as shape
 use Rattle.asm_argument.specs.declared.operand.Partial.{Partial}
 use Rattle.asm_argument.specs.declared.operand.Partial.TheVariants as partial
 use Rattle.asm_source.specs.declared.tree.Argument.{Argument}
@@ -23,13 +24,14 @@ use Rattle.asm_parse.specs.declared.state.State.{State}
 use Rattle.asm_parse.specs.declared.state.State.TheVariants as state
 use Rattle.asm_parse.specs.ScopeView.{ScopeView}
 use Rattle.asm_parse.specs.Scope.{pushed, fresh}
-use Rattle.asm_argument.specs.Operand.{is_operand, begun, operand_step, finished, is_finished, is_nothing}
+use Rattle.asm_argument.specs.Operand.{is_operand, begun, operand_step, finished, is_finished, is_nothing, is_unbegun}
 use Rattle.asm_argument.specs.Grammar.{IsForm}
-use Rattle.asm_argument.specs.Symbols.{symbol_of}
 use Rattle.asm_parse.specs.Reading.{placed, is_part, ending_at, next_word}
+use Rattle.asm_argument.specs.Symbols.{symbol_of}
 use Rattle.asm_parse.proofs.Words.{read_words}
 use Rattle.asm_parse.specs.Statement.{item_of, resumed, sectioned, noting, with_name, after_noting, after_step, at_shape, within, argument_step, is_bare, takes_star, ended, ended_as, comma_behind, end_behind, complete, nothing_yet, named_step, labelled, label, directive_step, of_directive, rep_step, section_name, unless_skipping, skip, section, sectioned_step, flags_step, start_step, step, argument_of, is_place, strayed, next_step, fault_line, with_scope, is_passed, is_rep}
 use Rattle.asm_parse.specs.Directives.{shape_at, least, defines, is_instruction, directive_of, is_dotted, is_section}
+use Rattle.asm_parse.specs.Refusals.{Leads}
 use Rattle.asm_parse.specs.Statements.{IsSeen, Sees, IsArgument, IsNext, Separated, HasArguments, is_inner, is_unlabelled, are_flags, has_list, Statement, symbols, text_of, Touch, IsStatement, Statements}
 use Rattle.asm_argument.proofs.Operands.{Spelled, begun_spelled, more, spelled_form}
 use Rattle.asm_parse.proofs.Names.{noting_seen, named_in, name_step, finished_named, is_finished_some, operand_next}
@@ -39,7 +41,7 @@ use Rattle.asm_parse.proofs.Lines.{bind_ok}
 
 -- ---- what has been read of a statement
 
-abbrev stars : Bool → List Symbol
+abbrev pub stars : Bool → List Symbol
 stars true = symbol.Star ∷ []
 stars false = []
 
@@ -49,17 +51,19 @@ Ending sc0 line lead h = (ss : List Symbol) (args : List Argument) (sc2 : ScopeV
     → Statement sc0 line (lead ++ (ss ++ symbol.End ∷ [])) (resumed (pushed sc2 (item_of line h args)) h)
 
 pub record InArguments (sc0 : ScopeView) (line : ℕ) (o : Open) (ss : List Symbol) (sc : ScopeView) : Type 0 where
-  lead : List Symbol
-  front : List Symbol
-  arg : List Symbol
-  behind : ScopeView
-  ends : Ending sc0 line lead o.head
-  same_line : o.line ≡ line
-  separated : Separated o.head sc0 front o.done behind
-  spelled : ((o.so_far ≡ partial.Nothing) × (arg ≡ [])) ⊎ ((sh : Shape) × (shape_at o.head (length o.done) ≡ Some sh) × Spelled sh o.so_far arg)
-  starred : o.star ≡ true → is_instruction o.head ≡ true
-  sees : Sees behind (defines o.head (length o.done)) (named_in o.so_far) sc
-  whole : ss ≡ lead ++ (front ++ (stars o.star ++ arg))
+  pub lead : List Symbol
+  pub front : List Symbol
+  pub arg : List Symbol
+  pub behind : ScopeView
+  pub leads : Leads sc0 o.head lead
+  pub ends : Ending sc0 line lead o.head
+  pub same_line : o.line ≡ line
+  pub separated : Separated o.head sc0 front o.done behind
+  pub spelled : ((o.so_far ≡ partial.Nothing) × (arg ≡ [])) ⊎ ((sh : Shape) × (shape_at o.head (length o.done) ≡ Some sh) × Spelled sh o.so_far arg)
+  pub solid : is_unbegun o.so_far ≡ false → arg ≡ [] → ⊥
+  pub starred : o.star ≡ true → is_instruction o.head ≡ true
+  pub sees : Sees behind (defines o.head (length o.done)) (named_in o.so_far) sc
+  pub whole : ss ≡ lead ++ (front ++ (stars o.star ++ arg))
 
 -- the change of a section to one of this name
 pub record IsNaming (sc0 : ScopeView) (n m : List ℕ) : Type 0 where
@@ -84,6 +88,14 @@ led sc0 line ss x y e b = let g : x ≡ y = cc in subst (λ (z : ScopeView × St
 push_end : (a b c d ss : List Symbol) (s : Symbol) → ss ≡ a ++ (b ++ (c ++ d)) → ss ++ s ∷ [] ≡ a ++ (b ++ (c ++ (d ++ s ∷ [])))
 push_end a b c d ss s e =
     ap (λ (x : List Symbol). x ++ s ∷ []) e ∙ (append_assoc a (b ++ (c ++ d)) (s ∷ []) ∙ ap (λ (x : List Symbol). a ++ x) (append_assoc b (c ++ d) (s ∷ []) ∙ ap (λ (x : List Symbol). b ++ x) (append_assoc c d (s ∷ []))))
+
+end_not_nil : (xs : List Symbol) (x : Symbol) → xs ++ x ∷ [] ≡ [] → ⊥
+end_not_nil [] x e = absurd cc
+end_not_nil (y ∷ ys) x e = absurd cc
+
+begun_solid : (sh : Shape) → is_unbegun (begun sh) ≡ false → ⊥
+begun_solid shape.Fill e = absurd cc
+begun_solid _ e = absurd cc
 
 same_shape : (a b : Shape) → ◌≡◌ {A = Option Shape} (Some a) (Some b) → a ≡ b
 same_shape a b e = cc
@@ -143,10 +155,12 @@ module _ (sc0 : ScopeView) (line : ℕ) (o : Open) (ss : List Symbol) (sc : Scop
     front = w.front;
     arg = w.arg ++ s ∷ [];
     behind = w.behind;
+    leads = w.leads;
     ends = w.ends;
     same_line = w.same_line;
     separated = w.separated;
     spelled = inr (sh, may, sp);
+    solid = λ u e. end_not_nil w.arg s e;
     starred = w.starred;
     sees = sees;
     whole = push_end w.lead w.front (stars o.star) w.arg ss s w.whole;
@@ -199,10 +213,12 @@ module _ (sc0 : ScopeView) (line : ℕ) (o : Open) (ss : List Symbol) (sc : Scop
     front = w.front ++ ((stars o.star ++ w.arg) ++ symbol.Comma ∷ []);
     arg = [];
     behind = sc;
+    leads = w.leads;
     ends = w.ends;
     same_line = w.same_line;
     separated = Separated.more w.separated (ended_next f fin);
     spelled = inr (sh, may, begun_spelled sh);
+    solid = λ u e. begun_solid sh u;
     starred = λ e. absurd cc;
     sees = subst (λ (x : Option (List ℕ)). Sees sc (defines o.head (length (o.done ++ record { star = o.star; form = f } ∷ []))) x sc) (sym (begun_unnamed sh)) refl;
     whole = ap (λ (x : List Symbol). x ++ symbol.Comma ∷ []) w.whole ∙ (append_assoc w.lead (w.front ++ (stars o.star ++ w.arg)) (symbol.Comma ∷ [])
@@ -263,10 +279,12 @@ module _ (sc0 : ScopeView) (line : ℕ) (o : Open) (ss : List Symbol) (sc : Scop
         front = w.front;
         arg = w.arg;
         behind = w.behind;
+        leads = w.leads;
         ends = w.ends;
         same_line = w.same_line;
         separated = w.separated;
         spelled = w.spelled;
+        solid = w.solid;
         starred = λ e. b.2;
         sees = w.sees;
         whole = push_end w.lead w.front [] [] ss symbol.Star (w.whole ∙ ap (λ (x : List Symbol). w.lead ++ (w.front ++ x)) nil) ∙ ap (λ (x : List Symbol). w.lead ++ (w.front ++ (symbol.Star ∷ x))) (sym arg);
@@ -279,16 +297,18 @@ module _ (sc0 : ScopeView) (line : ℕ) (o : Open) (ss : List Symbol) (sc : Scop
   arguments_begun symbol.Star h = star_begun (takes_star o) refl h
   arguments_begun s h = within_begun s h
 
-fresh_arguments : (sc0 : ScopeView) (line : ℕ) (lead : List Symbol) (h : Head) → Ending sc0 line lead h → InArguments sc0 line (nothing_yet line h) lead sc0
-fresh_arguments sc0 line lead h ends = record {
+unfoldable pub fresh_arguments : (sc0 : ScopeView) (line : ℕ) (lead : List Symbol) (h : Head) → Leads sc0 h lead → Ending sc0 line lead h → InArguments sc0 line (nothing_yet line h) lead sc0
+fresh_arguments sc0 line lead h leads ends = record {
   lead = lead;
   front = [];
   arg = [];
   behind = sc0;
+  leads = leads;
   ends = ends;
   same_line = refl;
   separated = Separated.none;
   spelled = inl (refl, refl);
+  solid = λ u e. absurd cc;
   starred = λ e. absurd cc;
   sees = refl;
   whole = sym (append-nil lead);
@@ -315,7 +335,7 @@ section_begun sc line n _ y passed dotted dir h = absurd cc
 list_begun : (sc : ScopeView) (line : ℕ) (n : List ℕ) (k : Directive) (s : Symbol) (y : ScopeView × State) → is_passed sc n ≡ false → is_dotted n ≡ true → directive_of n ≡ Some k → has_list k ≡ true → argument_step sc (nothing_yet line (head.Directive k n)) s ≡ Ok y
     → Begun sc line y.1 (symbol.Name n ∷ s ∷ []) y.0
 list_begun sc line n k s y passed dotted dir list h =
-    arguments_begun sc line (nothing_yet line (head.Directive k n)) (symbol.Name n ∷ []) sc y (fresh_arguments sc line (symbol.Name n ∷ []) (head.Directive k n) (λ ss args sc2 has count. Statement.directive passed dotted dir list has count)) s h
+    arguments_begun sc line (nothing_yet line (head.Directive k n)) (symbol.Name n ∷ []) sc y (fresh_arguments sc line (symbol.Name n ∷ []) (head.Directive k n) (Leads.directive passed dotted dir list) (λ ss args sc2 has count. Statement.directive passed dotted dir list has count)) s h
 
 directive_begun : (sc : ScopeView) (line : ℕ) (n : List ℕ) (s : Symbol) (y : ScopeView × State) → is_passed sc n ≡ false → is_dotted n ≡ true → (s ≡ symbol.Colon → ⊥) → (d : Option Directive) → directive_of n ≡ d → of_directive d sc line n s ≡ Ok y
     → Begun sc line y.1 (symbol.Name n ∷ s ∷ []) y.0
@@ -327,7 +347,7 @@ directive_begun sc line n s y passed dotted other (Some k) e h = list_begun sc l
 rep_begun : (sc : ScopeView) (line : ℕ) (n : List ℕ) (s : Symbol) (y : ScopeView × State) → is_passed sc n ≡ false → is_dotted n ≡ false → is_rep n ≡ true → rep_step sc line s ≡ Ok y → Begun sc line y.1 (symbol.Name n ∷ s ∷ []) y.0
 rep_begun sc line n (symbol.Name m) y passed dotted rep h =
     led sc line _ (sc, state.Arguments (nothing_yet line (head.Instruction true m))) y h
-    (fresh_arguments sc line (symbol.Name n ∷ symbol.Name m ∷ []) (head.Instruction true m) (λ ss args sc2 has count. Statement.repeated passed dotted rep has))
+    (fresh_arguments sc line (symbol.Name n ∷ symbol.Name m ∷ []) (head.Instruction true m) (Leads.repeated passed dotted rep) (λ ss args sc2 has count. Statement.repeated passed dotted rep has))
 rep_begun sc line n _ y passed dotted rep h = absurd cc
 
 other_begun : (sc : ScopeView) (line : ℕ) (n : List ℕ) (s : Symbol) (y : ScopeView × State) → (s ≡ symbol.Colon → ⊥) → (t u v : Bool) → is_passed sc n ≡ t → is_dotted n ≡ u → is_rep n ≡ v
@@ -337,7 +357,7 @@ other_begun sc line n s y other false true v a b c h = directive_begun sc line n
 other_begun sc line n s y other false false true a b c h = rep_begun sc line n s y a b c h
 other_begun sc line n s y other false false false a b c h =
     arguments_begun sc line (nothing_yet line (head.Instruction false n)) (symbol.Name n ∷ []) sc y
-    (fresh_arguments sc line (symbol.Name n ∷ []) (head.Instruction false n) (λ ss args sc2 has count. Statement.instruction a b c has)) s h
+    (fresh_arguments sc line (symbol.Name n ∷ []) (head.Instruction false n) (Leads.instruction a b c) (λ ss args sc2 has count. Statement.instruction a b c has)) s h
 
 label_begun : (sc : ScopeView) (line : ℕ) (n : List ℕ) (y : ScopeView × State) → (r : Result ScopeView SourceCause) → noting sc true n ≡ r → sc.skipping ≡ false → labelled line n r ≡ Ok y → Begun sc line y.1 (symbol.Name n ∷ symbol.Colon ∷ []) y.0
 label_begun sc line n y (Err c) e sk h = absurd cc

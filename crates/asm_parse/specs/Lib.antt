@@ -5,3 +5,4 @@ pub mod Statement
 pub mod Reading
 pub mod Statements
 pub mod Running
+pub mod Refusals

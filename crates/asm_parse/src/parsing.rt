@@ -8,6 +8,7 @@ ghost use Rattle.asm_source.specs.Readable.{IsReadable};
 ghost use Rattle.asm_source.specs.Size.{items_size, items_count};
 ghost use Rattle.asm_lex.specs.declared.fault.SourceCause.TheVariants.{OpenComment, TooLong};
 ghost use Rattle.asm_lex.specs.declared.fault.SourceFault.TheVariants.{At};
+ghost use Rattle.asm_parse.specs.Refusals.{RefusedFor};
 ghost use Rattle.asm_parse.specs.Running as run;
 
 use crate::dead::left_open;
@@ -46,7 +47,7 @@ fn parsed(alloc: Global, text: &[u8]) -> Result<Source, SourceFault>
 }
 
 /// The items of the source.
-#[tactic(auto, using(crate::proofs::Sources::refused_line, crate::proofs::Sources::parsed_is, crate::proofs::Sources::are_parsed, crate::proofs::Sources::none_parsed, crate::proofs::Sources::refused_alive, crate::proofs::Sizes::parsed_size, crate::proofs::Sizes::parsed_count, crate::proofs::Readability::parsed_readable))]
+#[tactic(auto, using(crate::proofs::Sources::refused_line, crate::proofs::Sources::parsed_is, crate::proofs::Sources::are_parsed, crate::proofs::Sources::none_parsed, crate::proofs::Sources::refused_alive, crate::proofs::Sizes::parsed_size, crate::proofs::Sizes::parsed_count, crate::proofs::Readability::parsed_readable, crate::proofs::Faulted::parsed_refused))]
 pub fn parse(alloc: Global, text: &[u8]) -> Result<Source, SourceFault>
     ensures long { LIMIT < length text.now → result ≡ Err (At 1 TooLong) }
 
@@ -71,6 +72,9 @@ pub fn parse(alloc: Global, text: &[u8]) -> Result<Source, SourceFault>
 
     // The lines before it go on.
     ensures alive { length text.now ≤ LIMIT → run.AliveBefore text.now result }
+
+    // The cause is that of the first word with which no source goes on, or of what ends the words: by cases, in the grammar's words.
+    ensures cause { length text.now ≤ LIMIT → RefusedFor text.now result }
 {
     if text.len() > LIMIT {
         return Err(SourceFault::At {
