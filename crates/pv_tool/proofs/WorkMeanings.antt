@@ -1,5 +1,5 @@
 -- The meaning of `work`.
-use Rattle.std.proofs.Common.{◌≡◌, ◌≢◌, inl, inr, ℕ, List, [], ◌∷◌, ◌++◌, Option, None, Result, Ok, Err, IfOk, IfErr, refl, sym, ap, subst, ◌∙◌, arith}
+use Rattle.std.proofs.Common.{◌≡◌, ◌≢◌, inl, inr, ℕ, List, [], ◌∷◌, ◌++◌, Option, Some, None, Result, Ok, Err, IfOk, IfErr, refl, sym, ap, subst, ◌∙◌, arith}
 use Rattle.kernel_gen.specs.Kernels.{kernel_text}
 use Rattle.asm_lex.specs.declared.fault.SourceCause.{SourceCause}
 use Rattle.asm_source.specs.declared.tree.SourceItem.{SourceItem}
@@ -11,7 +11,11 @@ use Rattle.afterburner.specs.Burnt.{burnt}
 use Rattle.elf_link.specs.Linked.{linked_image}
 use Rattle.image_check.specs.Image.{Image}
 use Rattle.image_check.specs.Checking.{image_of}
+use Rattle.board.specs.Scripts.{Events}
+use Rattle.run_trace.specs.declared.items.End.{End}
+use Rattle.run_trace.specs.declared.items.Ended.{Ended}
 use Rattle.wedge_core.specs.Slices.{Counts}
+use Rattle.wedge_core.specs.Promises.{Promise, HasFills, WedgeAnswers}
 use Rattle.pv_tool.specs.Words.{Work}
 use Rattle.pv_tool.specs.Texts.{Compares}
 use Rattle.pv_tool.specs.Outside.{Outside}
@@ -76,6 +80,22 @@ from_image text kernel items o p r same source made linked is =
 
 pub builds_once : (text : List ℕ) (r s : Result Image (List ℕ)) → Builds text r → Builds text s → s ≡ r
 builds_once text r s h k = k.comes ∙ (ap built_of (said_once text k.said h.said k.says h.says) ∙ sym h.comes)
+
+-- ---- what the second run answers
+
+some_same : (a b : List ℕ) → Some a ≡ Some b → a ≡ b
+some_same a b is = cc
+
+-- of a sink that had taken nothing
+pub second_ran : (image : Image) (events : Events) (old text : List ℕ) (before now : ℕ) (c c2 : Counts) (memory : List ℕ) (ended : Ended) → events ≡ [] → old ≡ []
+    → WedgeAnswers image events 4096 100000 (Some old) (Some text) before now c c2 memory (Ok ended)
+    → (count : ℕ) × (end : End) × (run : Promise (second_setting image) 100000 text count end c c2 memory) × HasFills (second_setting image) run.sets run.last ended.fills
+second_ran image events old text before now c c2 memory ended none first answers =
+    let h = subst (λ (e : Events). WedgeAnswers image e 4096 100000 (Some old) (Some text) before now c c2 memory (Ok ended)) none answers in
+    let is : h.0 ≡ text = sym (some_same text (old ++ h.0) h.4 ∙ ap (λ (l : List ℕ). l ++ h.0) first) in
+    let m = second_setting image in
+    let moved = subst (λ (t : List ℕ). (run : Promise m 100000 t ended.steps ended.end c c2 memory) × HasFills m run.sets run.last ended.fills) is (h.1, h.3) in
+    (ended.steps, ended.end, moved.0, moved.1)
 
 -- ---- what is told
 
