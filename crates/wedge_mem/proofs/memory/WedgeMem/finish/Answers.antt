@@ -1,10 +1,8 @@
-use Rattle.std.proofs.Common.{◌≡◌, ℕ, ◌+◌, ◌*◌, ◌≤◌, List, Option, sym, ap, subst}
+use Rattle.std.proofs.Common.{◌≡◌, ◌+◌, ◌*◌, ◌≤◌, List, sym, ap, subst}
 use Rattle.std.specs.Prelude.{MatchOption}
-use Rattle.std.specs.FinMap.{FinMap, empty}
-use Rattle.std.specs.Ordering.{nat_cmp}
+use Rattle.std.specs.FinMap.{empty}
 use Rattle.frame_pool.specs.Held.{Owns}
 use Rattle.frame_pool.specs.Pool.{base_of}
-use Rattle.paging.specs.declared.entry.Entry.{Entry}
 use Rattle.shadow_tables.specs.Entries.{entries_of}
 use Rattle.step_mem.specs.Changes.{changed}
 use Rattle.step_mem.specs.declared.changes.Change.{Change}
@@ -28,6 +26,6 @@ invariant_of-self g c =
     record {
       laid = subst (λ (p : Progress). p.first + p.count ≤ p.control.frames) (sym c.new-self.ensures) old.laid;
       going = subst (λ (p : Progress). IsGoing (λ m. entries_of (s u.shadows m)) (4096 * base_of u.pool) (λ m. (∥ g.S.Shadows.stands u.shadows m ∥₁) × Owns u.pool m (f u.shadows m)) u.ram p) (sym c.new-self.ensures)
-      (going_first (λ m. entries_of (s u.shadows m)) (4096 * base_of u.pool) (λ m. (∥ g.S.Shadows.stands u.shadows m ∥₁) × Owns u.pool m (f u.shadows m)) u.ram old.step.control old.step.first old.step.count
-      room.0 room.1 old.laid (both c.settle-count.ensures.stands c.settle-count.ensures.owns) (left_within c.settle-count.result after (changed before old.step.changes) frames kept sound.within));
+          (going_first (λ m. entries_of (s u.shadows m)) (4096 * base_of u.pool) (λ m. (∥ g.S.Shadows.stands u.shadows m ∥₁) × Owns u.pool m (f u.shadows m)) u.ram old.step.control old.step.first old.step.count
+          room.0 room.1 old.laid (both c.settle-count.ensures.stands c.settle-count.ensures.owns) (left_within c.settle-count.result after (changed before old.step.changes) frames kept sound.within));
     }
