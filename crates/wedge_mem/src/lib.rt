@@ -3,10 +3,14 @@
 
 mod filling;
 mod lent;
+mod memory;
 mod pages;
+mod progress;
+mod serving;
 mod settling;
 mod telling;
 
 pub use lent::Lent;
+pub use memory::WedgeMem;
 pub use pages::{entry_of, pages_of};
 pub use settling::settle;

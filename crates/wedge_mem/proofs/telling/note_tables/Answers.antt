@@ -1,4 +1,4 @@
-use Rattle.std.proofs.Common.{◌≡◌, ℕ, List, sym, ◌∙◌, subst}
+use Rattle.std.proofs.Common.{ℕ, List, ◌∙◌, subst}
 use Rattle.frame_pool.specs.Held.{Writes}
 use Rattle.frame_pool.proofs.Held.{Writes-trans}
 use Rattle.shadow_tables.proofs.Lists.{within-trans}

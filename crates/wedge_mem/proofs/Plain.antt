@@ -1,0 +1,89 @@
+-- A step of a guest's memory as it begins, and an instruction's bytes in two pages.
+use Rattle.std.proofs.Common.{◌≡◌, ℕ, ◌+◌, ◌-◌, ◌*◌, ◌<◌, ◌≤◌, List, [], length, false, Option, Some, None, refl, sym, ap, ◌∙◌, subst, arith}
+use Rattle.std.specs.Prelude.{nat_le, MatchOption}
+use Rattle.std.specs.FinMap.{FinMap, get, empty, get-empty}
+use Rattle.std.specs.Ordering.{nat_cmp}
+use Rattle.std.specs.Option.{ForSome}
+use Rattle.std.proofs.lemmas.Bool.Decides.{nat_tests}
+use Rattle.frame_pool.specs.Held.{Moves, Owns}
+use Rattle.frame_pool.specs.declared.Pool.{Pool}
+use Rattle.paging.specs.declared.entry.Entry.{Entry}
+use Rattle.paging.specs.Space.{Space, place}
+use Rattle.paging.specs.Uses.{with_front, with_back}
+use Rattle.step_mem.specs.Changes.{AreWithin}
+use Rattle.step_mem.specs.Guard.{IsLaid}
+use Rattle.step_mem.specs.declared.guard.Text.{Text}
+use Rattle.step_mem.specs.declared.walking.Control.{Control}
+use Rattle.wedge_mem.specs.Progress.{IsGoing, IsPlain, left_in_page, owning}
+
+short : (bytes : List ℕ) (n : ℕ) → bytes ≡ [] → length bytes ≤ n
+short bytes n e = rw e (omega arith)
+
+laid : (text : Option Text) (first count frames : ℕ) → IsPlain text first count → first + count ≤ frames → IsLaid text frames
+laid None first count frames h l = absurd h
+laid (Some text) first count frames h l = ((let a = h.0 in let b = h.1 in omega (arith, a, b, l)), short text.bytes.now (4096 * text.count) h.2)
+
+-- nothing is used yet
+pub going_first : (kept : List ℕ → FinMap nat_cmp Entry) (floor : ℕ) (stands : List ℕ → Type 0) (ram : List ℕ) (control : Control) (first count : ℕ)
+    → 4096 * control.frames ≤ length ram → 4096 * control.frames ≤ floor → first + count ≤ control.frames → ∥ stands ram ∥₁ → AreWithin control.frames (kept ram)
+    → IsGoing kept floor stands ram (record {
+      control = control;
+      first = first;
+      count = count;
+      own = record { front = 0; front_len = 0; back = 0; back_len = 0 };
+      changes = [];
+      pages = 0;
+      went = [];
+      tables = [];
+      wrote = [];
+      ready = record { start = 0; len = 0; write = false };
+      earlier = record { start = 0; len = 0; count = 0 };
+    })
+going_first kept floor stands ram control first count room low among s w guard h =
+    record {
+      frames_in = room;
+      below = low;
+      laid_in = laid guard.text.now first count control.frames h.0 among;
+      counted = omega arith;
+      few = omega arith;
+      noted = refl;
+      read = omega arith;
+      written = omega arith;
+      fits = omega arith;
+      stands_now = s;
+      within = w;
+      reached = λ at l k. absurd (omega (arith, l, k));
+      apart = λ e at l k. absurd (omega (arith, l, k));
+      earlier_counted = omega arith;
+      earlier_fits = omega arith;
+      earlier_within = w;
+      earlier_reached = λ at l k. absurd (omega (arith, l, k));
+    }
+
+none_some : (entry : Entry) → None ≡ Some entry → ⊥
+none_some entry e = cc
+
+none_within : (found : Option Entry) (page frames : ℕ) → found ≡ None → ForSome found (λ entry. (entry.page ≡ page) × (entry.frame < frames))
+none_within found page frames e = λ entry is. absurd (none_some entry (sym e ∙ is))
+
+-- what is left of a set at the end of a step is within the frames
+pub left_within : (result : Option ℕ) (left set : FinMap nat_cmp Entry) (frames : ℕ) → MatchOption result (left ≡ empty) (λ n. left ≡ set) → AreWithin frames set → AreWithin frames left
+left_within None left set frames e w = λ page. none_within (get left page) page frames (ap (λ (s : FinMap nat_cmp Entry). get s page) e ∙ get-empty nat_cmp page)
+left_within (Some n) left set frames e w = subst (λ s. AreWithin frames s) (sym e) w
+
+-- a pool of which frames moved still lies behind the guest's frames
+pub room_left : (p p' : Pool) (m m' fs fs' : List ℕ) (frames : ℕ) → Moves p p' m m' fs fs' → 4096 * frames ≤ length m → 4096 * frames ≤ 4096 * p.base → (4096 * frames ≤ length m') × (4096 * frames ≤ 4096 * p'.base)
+room_left p p' m m' fs fs' frames v room low = let size = v.size in let same = v.same.0 in (omega (arith, size, room), omega (arith, same, low))
+
+pub room_first : (p : Pool) (m fs : List ℕ) (frames : ℕ) → Owns p m fs → frames ≤ p.base → (4096 * frames ≤ length m) × (4096 * frames ≤ 4096 * p.base)
+room_first p m fs frames o low = let room = o.stands.room in (omega (arith, room, low), omega (arith, low))
+
+-- bytes that reach a second page
+pub own_two : (s t u : Space) (at len left : ℕ) → left ≡ left_in_page at → left < len → t ≡ record s { mode = with_front s.mode (place s at) left }
+    → u ≡ record t { mode = with_back t.mode (place t (at + left)) (len - left) } → u ≡ owning s at len
+unfolding place
+own_two s t u at len left e l a b =
+    let past : nat_le len (left_in_page at) ≡ false = grind (arith, nat_tests, e, l) in
+    b ∙ ap (λ (t : Space). record t { mode = with_back t.mode (place t (at + left)) (len - left) }) a
+    ∙ ap (λ n. record s { mode = with_back (with_front s.mode (place s at) n) (place s (at + n)) (len - n) }) e
+    ∙ sym (rw past refl)

@@ -1,0 +1,94 @@
+-- What a step of a guest's memory did so far, over memory as it stands: the frames of the text are kept from data, and
+-- what lies in them is what memory has.
+use Rattle.std.specs.Prelude.{◌≡◌, ℕ, ◌+◌, ◌-◌, ◌%◌, List, [], take, Bool, false, Option, Some, None, nat_le, if◌then◌else◌}
+use Rattle.std.specs.FinMap.{FinMap}
+use Rattle.std.specs.Ordering.{nat_cmp}
+use Rattle.paging.specs.declared.entry.Entry.{Entry}
+use Rattle.paging.specs.Space.{Space, Wedge, place}
+use Rattle.paging.specs.Uses.{with_front, with_back}
+use Rattle.step_mem.specs.Changes.{changed}
+use Rattle.step_mem.specs.Guard.{own_of}
+use Rattle.step_mem.specs.Shown.{laid}
+use Rattle.step_mem.specs.Sound.{IsSound}
+use Rattle.step_mem.specs.declared.guard.Guard.{Guard}
+use Rattle.step_mem.specs.declared.guard.Text.{Text}
+use Rattle.step_mem.specs.declared.state.State.{State}
+use Rattle.wedge_mem.specs.declared.progress.Progress.{Progress}
+
+-- the frames of a text, of which no original bytes are laid over memory
+abbrev pub IsPlain : Option Text → ℕ → ℕ → Type 0
+IsPlain None first count = ⊥
+IsPlain (Some text) first count = (text.first ≡ first) × (text.count ≡ count) × (text.bytes.now ≡ [])
+
+-- a guard of these frames, with the instruction's own bytes
+abbrev pub Guards : Guard → Progress → Type 0
+Guards guard p = IsPlain guard.text.now p.first p.count × (guard.own ≡ p.own)
+
+-- the same under a guard
+abbrev pub state_by : Guard → Progress → State
+state_by guard p =
+    record {
+      control = p.control;
+      guard = guard;
+      changes = p.changes;
+      pages = p.pages;
+      went = p.went;
+      tables = p.tables;
+      wrote = p.wrote;
+      ready = p.ready;
+      earlier = p.earlier;
+    }
+
+-- it is sound under each guard of these frames
+abbrev pub IsGoing : (List ℕ → FinMap nat_cmp Entry) → ℕ → (List ℕ → Type 0) → List ℕ → Progress → Type 0
+IsGoing kept floor stands ram p = (guard : Guard) → Guards guard p → IsSound kept floor stands ram (state_by guard p)
+
+-- what it stands for
+abbrev pub space_in : (List ℕ → FinMap nat_cmp Entry) → List ℕ → Progress → Space
+space_in kept ram p =
+    record {
+      ram = laid [] p.first p.control.frames ram;
+      frames = p.control.frames;
+      set = changed (kept ram) p.changes;
+      cr3 = p.control.cr3;
+      wp = p.control.wp;
+      mode = Wedge p.first p.count (own_of p.own);
+      pages = p.pages;
+      went = p.went;
+      tables = p.tables;
+      wrote = p.wrote;
+      ready = record { start = p.ready.start; len = p.ready.len; write = p.ready.write };
+      earlier = record { start = p.earlier.start; len = p.earlier.len; set = changed (kept ram) (take p.earlier.count p.changes) };
+    }
+
+-- at the beginning of a step nothing is used or ready
+abbrev pub space_at_first : List ℕ → FinMap nat_cmp Entry → (frames cr3 : ℕ) → Bool → (first count : ℕ) → Space
+space_at_first ram set frames cr3 wp first count =
+    record {
+      ram = laid [] first frames ram;
+      frames = frames;
+      set = set;
+      cr3 = cr3;
+      wp = wp;
+      mode = Wedge first count (record { front = 0; front_len = 0; back = 0; back_len = 0 });
+      pages = 0;
+      went = [];
+      tables = [];
+      wrote = [];
+      ready = record { start = 0; len = 0; write = false };
+      earlier = record { start = 0; len = 0; set = set };
+    }
+
+-- how many bytes of a page lie from an address on
+abbrev pub left_in_page : ℕ → ℕ
+left_in_page at = 4096 - at % 4096
+
+-- the instruction's bytes are those at an address, in one page or two
+abbrev pub owning : Space → ℕ → ℕ → Space
+owning s at len =
+    if nat_le len (left_in_page at) then record s { mode = with_front s.mode (place s at) len } else
+    record s { mode = with_back (with_front s.mode (place s at) (left_in_page at)) (place s (at + left_in_page at)) (len - left_in_page at) }
+
+-- the same frames, registers and own bytes
+abbrev pub IsTheSame : (before after : Progress) → Type 0
+IsTheSame before after = (after.control ≡ before.control) × (after.first ≡ before.first) × (after.count ≡ before.count) × (after.own ≡ before.own)
