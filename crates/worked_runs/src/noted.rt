@@ -81,13 +81,7 @@ fn told(alloc: Global, first: u64) -> Result<Heard, Fail>
             return Ok(heard);
         }
         match guest.slice(
-            &image,
-            &script,
-            k,
-            &mut pool,
-            &mut host,
-            &mut out,
-            &mut heard,
+            &image, &script, k, &mut pool, &mut host, &mut out, &mut heard,
         ) {
             Ok(Pause::Reached) => {}
             _ => return Err(Fail::from("the guest stopped")),
@@ -103,7 +97,11 @@ fn write_protection_and_a_clash_are_told(rt: HostRuntime) -> Result<(), Fail> {
     for first in [0u64, 1, 2, 3, 7, 9] {
         let heard = told(rt.alloc(), first)?;
         assert!(rt; heard.whole);
-        assert_eq!(rt; heard.steps.as_slice(), [2, 7].as_slice(), "after {first} steps");
+        assert_eq!(rt;
+            heard.steps.as_slice(),
+            [2, 7].as_slice(),
+            "after {first} steps"
+        );
     }
     Ok(())
 }
