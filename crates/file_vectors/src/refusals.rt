@@ -4,17 +4,6 @@ use crate::images::{CLI_SITES, NO_SITES, answer, image};
 use std::test::Fail;
 
 #[test]
-fn a_text_of_the_limit_is_swept(rt: HostRuntime) -> Result<(), Fail> {
-    // bytes that are no instruction, so the sweep ends at the first of them
-    let alloc = rt.alloc();
-    for (len, number) in [(16_777_216, 66), (16_777_217, 62)] {
-        let text = vec![in alloc; 0xFF; len]?;
-        assert_eq!(rt; answer(alloc, image(&text, &NO_SITES))?, (number, 0));
-    }
-    Ok(())
-}
-
-#[test]
 fn the_entry_is_from_the_first_byte_to_the_last(rt: HostRuntime) -> Result<(), Fail> {
     // NOP, and the end at 1
     let mut parts = image(&[0x90, 0xEB, 0xFE], &NO_SITES);

@@ -24,8 +24,6 @@ mod machines;
 #[cfg(test)]
 mod made;
 #[cfg(test)]
-mod noted;
-#[cfg(test)]
 mod patched;
 #[cfg(test)]
 mod plain;
