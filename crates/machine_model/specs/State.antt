@@ -46,6 +46,10 @@ pub record State : Type 0 where
 abbrev pub boot : Setting → State
 boot s = record { cpu = boot_cpu s.image s.frames; ram = boot_ram s.image s.frames; set = empty; board = at_reset; step = 0 }
 
+-- the PSE flag of CR4: directory words may map pages of 4 MB
+abbrev pub pse_of : Cpu → Bool
+pse_of cpu = has cpu.cr4 16
+
 -- memory as a step of this processor reaches it, before its first access
 abbrev pub space_at_start : Mode → ℕ → Cpu → List ℕ → FinMap nat_cmp Entry → Space
 space_at_start mode frames cpu ram set =
@@ -54,6 +58,7 @@ space_at_start mode frames cpu ram set =
       frames = frames;
       set = set;
       cr3 = cpu.cr3;
+      pse = pse_of cpu;
       wp = has cpu.cr0 65536;
       mode = mode;
       pages = 0;
@@ -64,12 +69,13 @@ space_at_start mode frames cpu ram set =
       earlier = record { start = 0; len = 0; set = set };
     }
 
--- a fresh walk of a page finds this entry, though its dirty flag may be clear in the entry, with the accessed flag set in both words
+-- A fresh walk of a page finds this entry, though its dirty flag may be clear in the entry, with the accessed flag set
+-- in both words, which for a page of 4 MB are one word.
 pub record IsCacheable (s : Setting) (b : State) (page : ℕ) (e : Entry) : Type 0 where
   pub dir_at : ℕ
   pub word_at : ℕ
   pub dirty : Bool
-  pub found : fresh b.ram s.frames b.cpu.cr3 page ≡ Found (record e { dirty = dirty }) dir_at word_at
+  pub found : fresh b.ram s.frames b.cpu.cr3 (pse_of b.cpu) page ≡ Found (record e { dirty = dirty }) dir_at word_at
   pub accessed : (has (word32 b.ram dir_at) 32 ≡ true) × (has (word32 b.ram word_at) 32 ≡ true)
   pub is_dirty : e.dirty ≡ true → dirty ≡ true
 
