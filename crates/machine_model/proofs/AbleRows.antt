@@ -14,7 +14,7 @@ use Rattle.ia32_exec.specs.declared.outcome.Outcome as exec
 use Rattle.ia32_exec.specs.declared.outcome.Outcome.TheVariants as outcomes
 use Rattle.ia32_exec.specs.Stack.{taken}
 use Rattle.ia32_exec.specs.Effect.{effect, ranges_of}
-use Rattle.descriptors.specs.Form.{descriptor_of, other_descriptor, is_data, is_of_system, is_foreign, dpl_of}
+use Rattle.descriptors.specs.Form.{descriptor_of, other_descriptor, is_data, is_of_system, is_foreign_form, dpl_of}
 use Rattle.descriptors.specs.declared.cpu.Cpu.{Cpu}
 use Rattle.descriptors.specs.declared.cpu.Hidden.{Hidden}
 use Rattle.descriptors.specs.declared.form.Descriptor.{Descriptor}
@@ -23,7 +23,7 @@ use Rattle.paging.specs.Fresh.{has}
 use Rattle.paging.specs.Work.{Outcome, Work, unless, writes}
 use Rattle.ia32_exec.specs.Registers.{address_of}
 use Rattle.ia32_types.specs.declared.size.Size.TheVariants.{Word}
-use Rattle.event_entry.specs.Deliver.{seg_of}
+use Rattle.descriptors.specs.Segments.{seg_of}
 use Rattle.step_exec.specs.Plain.{is_refused, finished, byte_by, reached, after_writes, after_reads, executed}
 use Rattle.sys_exec.specs.declared.effect.Refusal.{Refusal}
 use Rattle.sys_exec.specs.declared.effect.Refusal.TheVariants as refusals
@@ -34,7 +34,6 @@ use Rattle.sys_exec.specs.declared.effect.SysEffect.TheVariants as effects
 use Rattle.sys_exec.specs.declared.effect.Done.{Done}
 use Rattle.sys_exec.specs.declared.effect.Loading.{Loading}
 use Rattle.sys_exec.specs.declared.iret.Popped.{Popped}
-use Rattle.sys_exec.specs.Access.{refused}
 use Rattle.sys_exec.specs.Operand.{protection_0, kernel_alone, selector, selector_in, operand_reached, long_of, pulled, pushed, past, past_pop, next}
 use Rattle.sys_exec.specs.Segment.{protection, form_stop, absent, loading, ends_if, selected, marked, load_data, load_task, stack_tests, jump_tests, return_tests, find_stack, find_return, find_jump}
 use Rattle.sys_exec.specs.Iret.{is_within, with_interrupt, with_level, new_flags, kept_segment, popped, popped_outer, return_same, return_outer, interrupt_return}
@@ -216,7 +215,7 @@ module _ (cpu : Cpu) (able : IsAble cpu) where
   tested_return : (sel low high : ℕ) → Yields (λ done. IsLevel (sel % 4)) (return_tests cpu.cpl sel (descriptor_of low high))
   tested_return sel low high =
       let d = descriptor_of low high in
-      any_yields (ends_if (protection sel) (is_of_system d)) (λ one. any_yields (ends_if form_stop (is_foreign d)) (λ two. then_yields (stops_yields (protection sel) (is_data d || (nat_lt (sel % 4) cpu.cpl || not (dpl_of d == sel % 4)))) (λ three t.
+      any_yields (ends_if (protection sel) (is_of_system d)) (λ one. any_yields (ends_if form_stop (is_foreign_form d)) (λ two. then_yields (stops_yields (protection sel) (is_data d || (nat_lt (sel % 4) cpu.cpl || not (dpl_of d == sel % 4)))) (λ three t.
       let level = eq_told (dpl_of d) (sel % 4) (was _ (neither _ _ (neither (is_data d) _ t).1).1) in
       unless_keeps (absent 11 sel) _ (subst IsLevel level (level_of low high)))))
 

@@ -22,7 +22,9 @@ use Rattle.event_entry.specs.declared.refusal.Kind.{Kind}
 use Rattle.event_entry.specs.declared.refusal.Kind.TheVariants.{Raised, Soft, External}
 use Rattle.event_entry.specs.declared.refusal.NotDelivered.{NotDelivered}
 use Rattle.event_entry.specs.declared.refusal.NotDelivered.TheVariants as not_delivered
-use Rattle.event_entry.specs.Deliver.{entry_of, code_marking, stack_of, push_frame, mark, entered, delivered}
+use Rattle.descriptors.specs.Access.{mark}
+use Rattle.event_entry.specs.Access.{denials}
+use Rattle.event_entry.specs.Deliver.{entry_of, code_marking, stack_of, push_frame, entered, delivered}
 use Rattle.board.specs.declared.devices.Board.{Board}
 use Rattle.board.specs.declared.devices.PortRead.{PortRead}
 use Rattle.board.specs.declared.devices.PortRead.TheVariants as read
@@ -68,7 +70,7 @@ delivered_able : (cpu : Cpu) (vector : ℕ) (kind : Kind) (code : Option ℕ) �
 unfolding delivered
 delivered_able cpu vector kind code =
     any_yields (entry_of cpu vector kind) (λ entry. any_yields (code_marking cpu entry.sel) (λ marking. any_yields (stack_of cpu) (λ stack.
-    any_yields (push_frame cpu stack code) (λ top. any_yields (mark cpu entry.sel marking) (λ one. any_yields (mark cpu stack.sel stack.marking) (λ two.
+    any_yields (push_frame cpu stack code) (λ top. any_yields (mark denials cpu entry.sel marking) (λ one. any_yields (mark denials cpu stack.sel stack.marking) (λ two.
     gives_yields (in_handler cpu.seg (entry.sel / 4 * 4) stack.sel (entered cpu entry stack top) refl refl)))))))
 
 module _ (m : Setting) (b : State) where

@@ -8,11 +8,11 @@ use Rattle.ia32_types.specs.Flags.{interrupt_at, flag_put}
 use Rattle.ia32_types.proofs.FlagBits.{set_is}
 use Rattle.ia32_types.specs.declared.flags.Flags.{Flags}
 use Rattle.ia32_exec.specs.Stack.{taken}
-use Rattle.descriptors.specs.Form.{descriptor_of, is_data, is_code, is_of_system, is_foreign, dpl_of, is_present}
+use Rattle.descriptors.specs.Form.{descriptor_of, is_data, is_code, is_of_system, is_foreign_form, dpl_of, is_present}
 use Rattle.descriptors.specs.declared.cpu.Cpu.{Cpu}
 use Rattle.descriptors.specs.declared.cpu.Hidden.{Hidden}
 use Rattle.descriptors.specs.declared.form.Descriptor.{Descriptor}
-use Rattle.event_entry.specs.Deliver.{seg_of}
+use Rattle.descriptors.specs.Segments.{seg_of}
 use Rattle.sys_exec.specs.declared.effect.Loading.{Loading}
 use Rattle.sys_exec.specs.Operand.{protection_0}
 use Rattle.sys_exec.specs.Segment.{protection, form_stop, absent, loading, ends_if, selected, marked, find_data, data_tests, load_data, stack_tests, jump_tests, return_tests, find_stack, find_return, find_jump}
@@ -157,7 +157,7 @@ module _ (cpu : Cpu) (whole : IsWhole cpu) where
       then_yields (tested cpl sel d) (λ two level. gives_yields {x = loading sel pair.1 d} (record { segment = record { null = sym far; level = level_of pair.0 pair.1 }; there = refl; level_is = level }))))
     where
       tested : (cpl sel : ℕ) (d : Descriptor) → Yields (λ done. dpl_of d ≡ cpl) (stack_tests cpl sel d)
-      tested cpl sel d = any_yields (ends_if (protection sel) (is_of_system d)) (λ one. any_yields (ends_if form_stop (is_foreign d)) (λ two.
+      tested cpl sel d = any_yields (ends_if (protection sel) (is_of_system d)) (λ one. any_yields (ends_if form_stop (is_foreign_form d)) (λ two.
           then_yields (stops_yields (protection sel) (not (sel % 4 == cpl) || (is_code d || not (dpl_of d == cpl)))) (λ three t.
           keeps_yields (ends_if (absent 12 sel) (not (is_present d))) (equal_levels (dpl_of d) cpl (neither (is_code d) _ (neither (not (sel % 4 == cpl)) _ t).1).1))))
 
@@ -169,7 +169,7 @@ module _ (cpu : Cpu) (whole : IsWhole cpu) where
       (record { segment = record { null = sym (jump_below sel (cpu.cpl % 4) far); level = level_of pair.0 pair.1 }; there = refl; level_is = level }))))
     where
       tested : (sel : ℕ) (d : Descriptor) → Yields (λ done. dpl_of d ≡ cpu.cpl) (jump_tests cpu.cpl sel d)
-      tested sel d = any_yields (ends_if form_stop (is_of_system d || is_foreign d)) (λ one.
+      tested sel d = any_yields (ends_if form_stop (is_of_system d || is_foreign_form d)) (λ one.
           then_yields (stops_yields (protection sel) (is_data d || (nat_lt cpu.cpl (sel % 4) || not (dpl_of d == cpu.cpl)))) (λ three t.
           keeps_yields (ends_if (absent 11 sel) (not (is_present d))) (equal_levels (dpl_of d) cpu.cpl (neither (nat_lt cpu.cpl (sel % 4)) _ (neither (is_data d) _ t).1).1)))
 
@@ -190,7 +190,7 @@ module _ (cpu : Cpu) (whole : IsWhole cpu) where
       }))))
     where
       tested : (sel : ℕ) (d : Descriptor) → Yields (λ done. (dpl_of d ≡ sel % 4) × (nat_lt (sel % 4) cpu.cpl ≡ false)) (return_tests cpu.cpl sel d)
-      tested sel d = any_yields (ends_if (protection sel) (is_of_system d)) (λ one. any_yields (ends_if form_stop (is_foreign d)) (λ two.
+      tested sel d = any_yields (ends_if (protection sel) (is_of_system d)) (λ one. any_yields (ends_if form_stop (is_foreign_form d)) (λ two.
           then_yields (stops_yields (protection sel) (is_data d || (nat_lt (sel % 4) cpu.cpl || not (dpl_of d == sel % 4)))) (λ three t.
           let both_are = neither (nat_lt (sel % 4) cpu.cpl) _ (neither (is_data d) _ t).1 in
           keeps_yields (ends_if (absent 11 sel) (not (is_present d))) (equal_levels (dpl_of d) (sel % 4) both_are.1, both_are.0))))

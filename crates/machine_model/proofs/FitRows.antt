@@ -21,7 +21,7 @@ use Rattle.descriptors.specs.declared.cpu.Cpu.{Cpu}
 use Rattle.descriptors.specs.declared.cpu.Hidden.{Hidden}
 use Rattle.paging.specs.Space.{Space}
 use Rattle.paging.specs.Work.{Outcome, unless, writes}
-use Rattle.event_entry.specs.Deliver.{seg_of}
+use Rattle.descriptors.specs.Segments.{seg_of}
 use Rattle.step_exec.specs.Plain.{is_refused, finished, byte_by, reached, after_writes, after_reads, executed}
 use Rattle.sys_exec.specs.declared.effect.Refusal.{Refusal}
 use Rattle.sys_exec.specs.declared.effect.Refusal.TheVariants as refusals

@@ -26,8 +26,10 @@ use Rattle.event_entry.specs.declared.refusal.Kind.{Kind}
 use Rattle.event_entry.specs.declared.refusal.Kind.TheVariants.{Raised, Soft, External}
 use Rattle.event_entry.specs.declared.refusal.NotDelivered.{NotDelivered}
 use Rattle.event_entry.specs.declared.refusal.NotDelivered.TheVariants as not_delivered
-use Rattle.event_entry.specs.Access.{failed, reaching}
-use Rattle.event_entry.specs.Deliver.{seg_of, is_usable, entry_of, code_marking, data_marking, inner_stack, stack_of, push_frame, mark, flags_kept, entered, delivered}
+use Rattle.descriptors.specs.Segments.{seg_of}
+use Rattle.descriptors.specs.Access.{reaching, by_processor, mark}
+use Rattle.event_entry.specs.Access.{failed, denials}
+use Rattle.event_entry.specs.Deliver.{is_usable, entry_of, code_marking, data_marking, inner_stack, stack_of, push_frame, flags_kept, entered, delivered}
 use Rattle.board.specs.declared.devices.Board.{Board}
 use Rattle.board.specs.declared.devices.PortRead.{PortRead}
 use Rattle.board.specs.declared.devices.PortRead.TheVariants as read
@@ -75,9 +77,9 @@ inner_usable : (cpu : Cpu) → OfValue (inner_stack cpu) (λ stack. nat_lt stack
 unfolding inner_stack
 inner_usable cpu =
     any_yields (unless failed (cpu.task.loaded && nat_le 9 cpu.task.limit)) (λ one.
-    any_yields (reaching ((cpu.task.base + 4) % 2 ^ 32) 4 false) (λ two.
+    any_yields (reaching denials ((cpu.task.base + 4) % 2 ^ 32) 4 (by_processor false)) (λ two.
     any_yields (reads ((cpu.task.base + 4) % 2 ^ 32) Long) (λ top.
-    any_yields (reaching ((cpu.task.base + 8) % 2 ^ 32) 2 false) (λ three.
+    any_yields (reaching denials ((cpu.task.base + 8) % 2 ^ 32) 2 (by_processor false)) (λ three.
     any_yields (reads ((cpu.task.base + 8) % 2 ^ 32) Word) (λ sel.
     then_yields (data_usable cpu sel) (λ marking far. gives_yields {x = record { top = top; sel = sel; marking = marking; inner = true }} far))))))
 
@@ -107,7 +109,7 @@ module _ (cpu : Cpu) (whole : IsWhole cpu) where
   unfolding delivered
   delivered_whole vector kind code =
       any_yields (entry_of cpu vector kind) (λ entry. then_yields (code_usable cpu entry.sel) (λ marking far. then_yields stack_usable (λ stack low.
-      any_yields (push_frame cpu stack code) (λ top. any_yields (mark cpu entry.sel marking) (λ one. any_yields (mark cpu stack.sel stack.marking) (λ two.
+      any_yields (push_frame cpu stack code) (λ top. any_yields (mark denials cpu entry.sel marking) (λ one. any_yields (mark denials cpu stack.sel stack.marking) (λ two.
       let handler : Hidden = record { sel = entry.sel / 4 * 4; null = false; dpl = 0 } in
       let inner : Hidden = record { sel = stack.sel; null = false; dpl = 0 } in
       let first = slice_set cpu.seg 1 handler in

@@ -1,7 +1,7 @@
 -- What a run under a monitor's rules needs of the processor before each of its steps, and that each step keeps it.
 use Rattle.std.specs.Prelude.{◌≡◌, true, false, List}
 use Rattle.descriptors.specs.declared.cpu.Cpu.{Cpu}
-use Rattle.event_entry.specs.Deliver.{seg_of}
+use Rattle.descriptors.specs.Segments.{seg_of}
 use Rattle.machine_model.specs.State.{Setting, State, wedge_mode, boot}
 use Rattle.machine_model.specs.Rules.{is_open}
 use Rattle.machine_model.specs.Fit.{IsLevel}

@@ -2,7 +2,7 @@
 use Rattle.std.specs.Prelude.{◌≡◌, ◌⊎◌, ℕ, true, false, nat_lt, All, bit_and}
 use Rattle.descriptors.specs.declared.cpu.Cpu.{Cpu}
 use Rattle.descriptors.specs.declared.cpu.Hidden.{Hidden}
-use Rattle.event_entry.specs.Deliver.{seg_of}
+use Rattle.descriptors.specs.Segments.{seg_of}
 
 -- of the four levels of privilege these are used
 abbrev pub IsLevel : ℕ → Type 0

@@ -45,14 +45,14 @@ use Rattle.sys_exec.specs.declared.effect.Refusal.TheVariants as refusal
 use Rattle.sys_exec.specs.declared.effect.Done.{Done}
 use Rattle.sys_exec.specs.declared.effect.SysEffect.TheVariants as effects
 use Rattle.sys_exec.specs.Access.{reaching}
-use Rattle.sys_exec.specs.Operand.{protection_0, by_level, place_of, seg_of, selector_in, reg_at, operand_reached, long_of, pulled, pushed, with_regs, past, past_with, past_push, past_pop, gone_to, next}
+use Rattle.sys_exec.specs.Operand.{protection_0, by_level, selector_in, reg_at, operand_reached, long_of, pulled, pushed, with_regs, past, past_with, past_push, past_pop, gone_to, next}
 use Rattle.sys_exec.specs.Branch as branch
 use Rattle.sys_exec.specs.Flags.{with_flags, push_flags, pop_flags}
 use Rattle.sys_exec.specs.Iret.{is_plain, is_within, new_flags}
 use Rattle.sys_exec.specs.Move.{selector_kept, read_seg, push_seg}
 use Rattle.sys_exec.specs.Sys.{row, sys_work}
 use Rattle.sys_exec.specs.Agreement.{UserFlagsAgree}
-use Rattle.step_exec.specs.Plain.{number_of, is_null, is_refused, reached, is_in, byte_by, finished, after_reads, after_writes, executed}
+use Rattle.step_exec.specs.Plain.{is_null, is_refused, reached, is_in, byte_by, finished, after_reads, after_writes, executed}
 use Rattle.host_cpl3.specs.Permit.{permitted_row, permitted}
 use Rattle.machine_model.specs.Instruction as instruction
 use Rattle.machine_model.specs.Instruction.{done_plainly, instructed}
@@ -93,12 +93,6 @@ executed_is i len cpu s t u free e g =
 
 -- ---- accesses of the others
 
-place_number : (g : Seg) → place_of g ≡ number_of g
-place_number Es = refl
-place_number Cs = refl
-place_number Ss = refl
-place_number Ds = refl
-
 pushed_is : (cpu : Cpu) (v : ℕ) (s t : Space) → reaching (lowered 4 cpu.regs) 4 (by_level cpu true) s ≡ Ok (tt, t) → pushed cpu v s ≡ Ok (tt, saved t (lowered 4 cpu.regs) Long v)
 unfolding pushed
 pushed_is cpu v s t e = ap (λ (o : Outcome Refusal (Unit {0})). on_value o (λ (x : Unit {0}). writes (lowered 4 cpu.regs) Long v)) e
@@ -111,9 +105,8 @@ operand_is : (cpu : Cpu) (a : Address) (len : ℕ) (write : Bool) (s t : Space) 
     → operand_reached cpu a len write s ≡ Ok (tt, t)
 unfolding operand_reached
 operand_is cpu a len write s t free e =
-    let null : (seg_of cpu.seg (place_of (segment_of a.base))).null ≡ false = ap (λ k. (seg_of cpu.seg k).null) (place_number (segment_of a.base)) ∙ free in
     ap (λ (o : Outcome Refusal (Unit {0})). on_value o (λ (x : Unit {0}). reaching (address_of a cpu.regs) len (by_level cpu write)))
-    (chosen (not (seg_of cpu.seg (place_of (segment_of a.base))).null) (Ok (tt, s)) (Err (protection_0, s)) (ap not null))
+    (chosen (not (is_null cpu (segment_of a.base))) (Ok (tt, s)) (Err (protection_0, s)) (ap not free))
     ∙ e
 
 -- a number of four bytes that are these

@@ -16,8 +16,10 @@ use Rattle.paging.specs.Fresh.{allows}
 use Rattle.paging.specs.Space.{Mode, Wedge, Own, Space, place, place_by}
 use Rattle.paging.specs.Uses.{is_barred, window_stop, usable, by_entry, page_uses, and_then, unready, made_ready, second_page, by_pages, by_window, uses, fetches}
 use Rattle.paging.specs.Work.{Outcome, Work, on_value}
+use Rattle.descriptors.specs.Access as accesses
+use Rattle.descriptors.specs.Access.{met}
 use Rattle.sys_exec.specs.declared.effect.Refusal.{Refusal}
-use Rattle.sys_exec.specs.Access.{met, reaching}
+use Rattle.sys_exec.specs.Access.{denials, reaching}
 use Rattle.image_load.specs.Boot.{text_pages}
 use Rattle.machine_model.specs.State.{Setting, State, wedge_mode}
 use Rattle.machine_model.specs.Instruction.{taken, fetching}
@@ -141,8 +143,8 @@ module _ (m : Setting) (b : State) (kernel : Bool) where
       }
 
   pub reaching_comes : (s : Space) (at len : ℕ) (write : Bool) → Passes m b (uses s at len (by_side write)) → Comes m b tt (reaching at len (by_side write) s)
-  unfolding reaching
-  reaching_comes s at len write p = record { space = p.space; is = ap (λ (o : Touch × Space). met o.0 o.1) p.is; at = p.at }
+  unfolding accesses.reaching
+  reaching_comes s at len write p = record { space = p.space; is = ap (λ (o : Touch × Space). met denials o.0 o.1) p.is; at = p.at }
 
   pub fetch_passes : (s : Space) (at len frame : ℕ) → At m b s → HasEntry kernel (wp_of b) b.set false (at / 4096) frame → IsFree true (at / 4096) frame
       → Passes m b (fetches s at len (not kernel))

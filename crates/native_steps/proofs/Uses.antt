@@ -10,7 +10,9 @@ use Rattle.paging.specs.declared.entry.Touch.{Touch}
 use Rattle.paging.specs.declared.entry.Touch.TheVariants.{Ready, Fault, Stop}
 use Rattle.paging.specs.Space.{Space, Earlier, earlier_of}
 use Rattle.paging.specs.Uses.{is_barred, window_stop, usable, by_entry, page_uses, go_on, and_then, unready, made_ready, second_page, by_pages, by_window, uses}
-use Rattle.sys_exec.specs.Access.{met, reaching}
+use Rattle.descriptors.specs.Access as accesses
+use Rattle.descriptors.specs.Access.{met}
+use Rattle.sys_exec.specs.Access.{denials, reaching}
 use Rattle.native_steps.proofs.Choices.{not_lt, le_told}
 use Rattle.native_steps.proofs.Went.{page_went}
 
@@ -54,13 +56,13 @@ uses_earlier s at len access = either (nat_lt (2 ^ 32) (at + len))
     either true = refl
     either false = window_earlier (window_stop s.mode access at) at len access (unready s)
 
-met_space : (o : Touch) (s t : Space) → met o s ≡ Ok (tt, t) → (o ≡ Ready) × (s ≡ t)
+met_space : (o : Touch) (s t : Space) → met denials o s ≡ Ok (tt, t) → (o ≡ Ready) × (s ≡ t)
 met_space Ready s t e = let p : ◌≡◌ {A = Unit {0} × Space} (tt, s) (tt, t) = cc in (refl, ap (λ (q : Unit {0} × Space). q.1) p)
 met_space (Fault code cr2) s t e = absurd cc
 met_space (Stop stop) s t e = absurd cc
 
 pub reaching_uses : (s t : Space) (at len : ℕ) (access : Access) → reaching at len access s ≡ Ok (tt, t) → ((uses s at len access).0 ≡ Ready) × ((uses s at len access).1 ≡ t)
-unfolding reaching
+unfolding accesses.reaching
 reaching_uses s t at len access e = met_space (uses s at len access).0 (uses s at len access).1 t e
 
 -- the translations from before the last range

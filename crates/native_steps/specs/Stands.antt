@@ -5,7 +5,7 @@ use Rattle.descriptors.specs.declared.cpu.Cpu.{Cpu}
 use Rattle.sites.specs.Patched.{patched}
 use Rattle.image_check.specs.Accepts.{IsAccepted}
 use Rattle.image_load.specs.Boot.{text_pages}
-use Rattle.sys_exec.specs.Operand.{seg_of}
+use Rattle.descriptors.specs.Segments.{seg_of}
 use Rattle.host_cpl3.specs.declared.view.View.{View}
 use Rattle.machine_model.specs.State.{Setting, State, wedge_mode}
 use Rattle.machine_model.specs.Rules.{is_open}
@@ -33,14 +33,14 @@ IsLevel false cpl = cpl ≡ 3
 -- the view has the processor's selectors, and denies what its null segments deny
 pub record Sees (v : View) (cpu : Cpu) : Type 0 where
   pub level : IsLevel v.kernel cpu.cpl
-  pub es : v.es ≡ (seg_of cpu.seg 0).sel
-  pub cs : v.cs ≡ (seg_of cpu.seg 1).sel
-  pub ss : v.ss ≡ (seg_of cpu.seg 2).sel
-  pub ds : v.ds ≡ (seg_of cpu.seg 3).sel
-  pub es_null : v.es_null ≡ (seg_of cpu.seg 0).null
-  pub cs_null : (seg_of cpu.seg 1).null ≡ false
-  pub ss_null : (seg_of cpu.seg 2).null ≡ false
-  pub ds_null : v.ds_null ≡ (seg_of cpu.seg 3).null
+  pub es : v.es ≡ (seg_of cpu 0).sel
+  pub cs : v.cs ≡ (seg_of cpu 1).sel
+  pub ss : v.ss ≡ (seg_of cpu 2).sel
+  pub ds : v.ds ≡ (seg_of cpu 3).sel
+  pub es_null : v.es_null ≡ (seg_of cpu 0).null
+  pub cs_null : (seg_of cpu 1).null ≡ false
+  pub ss_null : (seg_of cpu 2).null ≡ false
+  pub ds_null : v.ds_null ≡ (seg_of cpu 3).null
   pub user_flags : v.kernel ≡ false → is_open cpu ≡ true
 
 -- The guest's state over the host's memory; the host's registers are those of the state's processor.

@@ -12,7 +12,8 @@ use Rattle.paging.specs.Uses.{uses}
 use Rattle.paging.specs.Work.{Outcome, on_value, unless, ◌>>=◌}
 use Rattle.sys_exec.specs.declared.effect.Refusal.{Refusal}
 use Rattle.sys_exec.specs.declared.effect.Refusal.TheVariants.{Raise}
-use Rattle.sys_exec.specs.Access.{met, reaching}
+use Rattle.descriptors.specs.Access.{met, reaching}
+use Rattle.sys_exec.specs.Access.{denials}
 use Rattle.step_exec.specs.Plain.{is_refused, reached, is_in, byte_by, finished, after_reads, after_writes, translated, executed}
 use Rattle.step_exec.specs.Divided.{both_reached, byte_of, completed, divided}
 use Rattle.step_exec.proofs.UserReads.{uses_earlier}
@@ -28,7 +29,7 @@ finish_with : Insn → ℕ → Cpu → Option Range → Space → Outcome Refusa
 finish_with insn len cpu write s = finished cpu s (effect insn len cpu.regs (byte_of (record { read = (ranges_of insn cpu.regs).read; write = write }) s))
 
 written_as : (insn : Insn) (len : ℕ) (cpu : Cpu) (w : Range) (before : Space) (touch : Touch) (after : Space) → after.earlier ≡ earlier_of before
-    → after_writes insn len cpu before (met touch after) ≡ on_value (met touch after) (λ _. finish_with insn len cpu (Some w))
+    → after_writes insn len cpu before (met denials touch after) ≡ on_value (met denials touch after) (λ _. finish_with insn len cpu (Some w))
 unfolding finish_with
 written_as insn len cpu w before Ready after e = ap (λ b. finished cpu after (effect insn len cpu.regs b)) (bytes_as (ranges_of insn cpu.regs).read before after e)
 written_as insn len cpu w before (Fault code at) after e = refl

@@ -28,6 +28,8 @@ use Rattle.ia32_exec.specs.Selectors.{selector_of, selector_to, read_from, pushe
 use Rattle.ia32_exec.specs.Effect as plain
 use Rattle.ia32_exec.specs.Effect.{effect, ranges_of, ranges_row, on_stack}
 use Rattle.ia32_exec.specs.UserEffect.{user_row, user_effect}
+use Rattle.descriptors.specs.Access as accesses
+use Rattle.descriptors.specs.Access.{met}
 use Rattle.descriptors.specs.declared.cpu.Cpu.{Cpu}
 use Rattle.paging.specs.declared.entry.Access.{Access}
 use Rattle.paging.specs.declared.entry.Touch.{Touch}
@@ -38,17 +40,17 @@ use Rattle.paging.specs.Work.{Outcome, Work, on_value, ◌>>=◌, gives, unless,
 use Rattle.sys_exec.specs.declared.effect.Refusal.{Refusal}
 use Rattle.sys_exec.specs.declared.effect.Refusal.TheVariants as refusal
 use Rattle.sys_exec.specs.declared.effect.Done.{Done}
-use Rattle.sys_exec.specs.Access.{met, reaching}
+use Rattle.sys_exec.specs.Access.{denials, reaching}
 use Rattle.sys_exec.specs.Iret.{new_flags}
 use Rattle.sys_exec.specs.Flags.{push_flags, pop_flags, with_flags}
 use Rattle.sys_exec.specs.Move.{read_seg, selector_kept, push_seg}
 use Rattle.sys_exec.specs.Branch.{return_to, jump_to, call_to}
 use Rattle.sys_exec.specs.Branch as branch
-use Rattle.sys_exec.specs.Operand.{place_of, seg_of, selector_in, operand_reached, long_of, pulled, pushed, with_regs, past, past_pop, next, by_level}
+use Rattle.sys_exec.specs.Operand.{selector_in, operand_reached, long_of, pulled, pushed, with_regs, past, past_pop, next, by_level}
 use Rattle.sys_exec.specs.Sys as sys
 use Rattle.sys_exec.specs.Sys.{sys_work}
 use Rattle.sys_exec.proofs.Rows.{user_flags_agree}
-use Rattle.step_exec.specs.Plain.{number_of, is_null, byte_by}
+use Rattle.step_exec.specs.Plain.{is_null, byte_by}
 use Rattle.step_exec.specs.Users.{selectors_of, user_finished, user_form, user_executed, IsUserSite, IsUser, HasUserForm}
 use Rattle.step_exec.proofs.UserReads.{number_read, uses_earlier, earlier_read}
 
@@ -68,12 +70,6 @@ after_write (Err x) at size v h k e = refl
 nonnull : (n : Bool) (s : Space) (rest : Space → Outcome Refusal Done) → n ≡ false → on_value (unless (refusal.Raise 13 0) (not n) s) (λ _. rest) ≡ rest s
 nonnull true s rest e = absurd cc
 nonnull false s rest e = refl
-
-same_place : (g : Seg) → place_of g ≡ number_of g
-same_place Es = refl
-same_place Cs = refl
-same_place Ss = refl
-same_place Ds = refl
 
 same_selector : (cpu : Cpu) (g : Seg) → selector_of (selectors_of cpu) g ≡ selector_in cpu g
 same_selector cpu Es = refl
@@ -125,8 +121,7 @@ jump_form (Memory a) cpu s n =
     let at : ℕ = address_of a r in
     let range : Range = record { at = at; len = 4; seg = segment_of a.base } in
     let k : ℕ → Work Refusal Done = λ v. next (with_regs cpu (record r { eip = v })) in
-    ap (λ p. on_value (on_value (on_value (unless (refusal.Raise 13 0) (not (seg_of cpu.seg p).null) s) (λ _. reaching at 4 (by_level cpu false))) (λ _. reads at Long)) k) (same_place (segment_of a.base))
-    ∙ memory_read (is_null cpu (segment_of a.base)) s at (by_level cpu false) (λ t. user_finished cpu (outcomes.Done (gone_to (value_of (Memory a) Long r (byte_by (Some range) t t)) r) Nothing) t) k
+    memory_read (is_null cpu (segment_of a.base)) s at (by_level cpu false) (λ t. user_finished cpu (outcomes.Done (gone_to (value_of (Memory a) Long r (byte_by (Some range) t t)) r) Nothing) t) k
     (λ t. ap (λ v. k v t) (sym (number_read range t t refl)))
 
 -- a number of 4 bytes is pushed
@@ -185,8 +180,7 @@ kept_form (Register k) sel len cpu s p n = ap (λ j. next (with_regs cpu (passed
 kept_form (Memory a) sel len cpu s p n =
     let r = cpu.regs in
     let at : ℕ = address_of a r in
-    ap (λ q. on_value (on_value (unless (refusal.Raise 13 0) (not (seg_of cpu.seg q).null) s) (λ _. reaching at 2 (by_level cpu true))) (λ _. (writes {E = Refusal} at Word sel >>= (λ _. next (past cpu len))))) (same_place (segment_of a.base))
-    ∙ memory_write (is_null cpu (segment_of a.base)) s at (by_level cpu true) sel (λ t. user_finished cpu (outcomes.Done (passed len r) (One (store at Word sel))) t) (next (past cpu len)) (λ t. refl)
+    memory_write (is_null cpu (segment_of a.base)) s at (by_level cpu true) sel (λ t. user_finished cpu (outcomes.Done (passed len r) (One (store at Word sel))) t) (next (past cpu len)) (λ t. refl)
 kept_form Absent sel len cpu s p n = absurd cc
 kept_form (Segment g) sel len cpu s p n = absurd cc
 kept_form (Control k) sel len cpu s p n = absurd cc
@@ -207,8 +201,8 @@ plain_number range before after = number_at (byte_by (Some range) before after) 
 
 -- the push of a CALL through memory, after its target's range
 call_second : (touch : Touch) (s t : Space) (cpu : Cpu) (range : Range) (eip : ℕ) → t.earlier ≡ earlier_of s → range.len ≡ 4
-    → on_value (on_value (met touch t) (λ _. (reads_earlier {E = Refusal} range.at Long >>= (λ target. (writes {E = Refusal} (lowered 4 cpu.regs) Long eip >>= (λ _. gives target)))))) (λ v. next (with_regs cpu (gone_to v (with_whole 4 (lowered 4 cpu.regs) cpu.regs))))
-    ≡ on_value (met touch t)
+    → on_value (on_value (met denials touch t) (λ _. (reads_earlier {E = Refusal} range.at Long >>= (λ target. (writes {E = Refusal} (lowered 4 cpu.regs) Long eip >>= (λ _. gives target)))))) (λ v. next (with_regs cpu (gone_to v (with_whole 4 (lowered 4 cpu.regs) cpu.regs))))
+    ≡ on_value (met denials touch t)
     (λ _ u. user_finished cpu (outcomes.Done (gone_to (plain_number range s u) (with_whole 4 (lowered 4 cpu.regs) cpu.regs)) (One (store (lowered 4 cpu.regs) Long eip))) u)
 call_second Ready s t cpu range eip e four =
     ap (λ v. next (with_regs cpu (gone_to v (with_whole 4 (lowered 4 cpu.regs) cpu.regs))) (saved t (lowered 4 cpu.regs) Long eip)) (earlier_read s t range.at e ∙ sym (number_read range s t four))
@@ -222,7 +216,7 @@ call_first : (n : Bool) (s : Space) (cpu : Cpu) (range : Range) (eip : ℕ) → 
     ≡ on_value (unless (refusal.Raise 13 0) (not n) s) (λ _ t. on_value (unless (refusal.Raise 13 0) (not (is_null cpu Ss)) t) (λ _ u. on_value (reaching range.at range.len (by_level cpu false) u)
     (λ _ v. on_value (reaching (lowered 4 cpu.regs) 4 (by_level cpu true) v)
     (λ _ w. user_finished cpu (outcomes.Done (gone_to (plain_number range v w) (with_whole 4 (lowered 4 cpu.regs) cpu.regs)) (One (store (lowered 4 cpu.regs) Long eip))) w))))
-unfolding reaching
+unfolding accesses.reaching
 call_first true s cpu range eip null four = refl
 call_first false s cpu range eip null four =
     by_outcome (reaching range.at range.len (by_level cpu false) s)
@@ -249,10 +243,7 @@ call_form (Register k) len cpu s p n null =
     ∙ push_done cpu s (passed len cpu.regs).eip (gone_to (slice_index cpu.regs.r k) (with_whole 4 (lowered 4 cpu.regs) cpu.regs)) null
 call_form (Memory a) len cpu s p n null =
     let range : Range = record { at = address_of a cpu.regs; len = 4; seg = segment_of a.base } in
-    ap (λ q. on_value (on_value (on_value (unless (refusal.Raise 13 0) (not (seg_of cpu.seg q).null) s) (λ _. reaching range.at range.len (by_level cpu false)))
-    (λ _. (reaching (lowered 4 cpu.regs) 4 (by_level cpu true) >>= (λ _. (reads_earlier range.at Long >>= (λ target. (writes (lowered 4 cpu.regs) Long (passed len cpu.regs).eip >>= (λ _. gives target))))))))
-    (λ v. next (with_regs cpu (gone_to v (with_whole 4 (lowered 4 cpu.regs) cpu.regs))))) (same_place (segment_of a.base))
-    ∙ call_first (is_null cpu (segment_of a.base)) s cpu range (passed len cpu.regs).eip null refl
+    call_first (is_null cpu (segment_of a.base)) s cpu range (passed len cpu.regs).eip null refl
 call_form Absent len cpu s p n null = absurd cc
 call_form (Segment g) len cpu s p n null = absurd cc
 call_form (Control k) len cpu s p n null = absurd cc

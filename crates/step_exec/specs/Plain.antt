@@ -3,7 +3,6 @@
 use Rattle.std.specs.Prelude.{ℕ, ◌+◌, Bool, true, false, ◌==◌, ◌&&◌, ◌||◌, not, nat_le, nat_lt, List, [], ◌∷◌, Option, Some, None, Ok, Err, if◌then◌else◌}
 use Rattle.ia32_types.specs.declared.insn.Insn.{Insn}
 use Rattle.ia32_types.specs.declared.register.Seg.{Seg}
-use Rattle.ia32_types.specs.declared.register.Seg.TheVariants.{Es, Cs, Ss, Ds}
 use Rattle.ia32_exec.specs.declared.outcome.Outcome as exec
 use Rattle.ia32_exec.specs.declared.outcome.Outcome.TheVariants as outcomes
 use Rattle.ia32_exec.specs.declared.outcome.Store.{Store}
@@ -11,22 +10,16 @@ use Rattle.ia32_exec.specs.declared.access.Range.{Range}
 use Rattle.ia32_exec.specs.declared.access.Ranges.{Ranges}
 use Rattle.ia32_exec.specs.Effect.{effect, ranges_of}
 use Rattle.ia32_exec.specs.Commit.{list_of}
+use Rattle.descriptors.specs.Segments.{segment_in}
 use Rattle.descriptors.specs.declared.cpu.Cpu.{Cpu}
 use Rattle.paging.specs.Space.{Space, byte_at, with_ram, saved}
 use Rattle.paging.specs.Work.{Outcome, Work, ◌>>=◌, gives, unless}
 use Rattle.sys_exec.specs.declared.effect.Refusal.{Refusal}
 use Rattle.sys_exec.specs.declared.effect.Refusal.TheVariants as refusal
 use Rattle.sys_exec.specs.Access.{reaching}
-use Rattle.sys_exec.specs.Operand.{seg_of}
-
-abbrev pub number_of : Seg → ℕ
-number_of Es = 0
-number_of Cs = 1
-number_of Ss = 2
-number_of Ds = 3
 
 abbrev pub is_null : Cpu → Seg → Bool
-is_null cpu seg = (seg_of cpu.seg (number_of seg)).null
+is_null cpu seg = (segment_in cpu seg).null
 
 -- a range, if there is one, is denied by a null segment
 abbrev pub is_denied : Cpu → Option Range → Bool

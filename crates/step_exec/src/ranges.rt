@@ -20,12 +20,7 @@ use sys_exec::Refusal;
 fn is_null(cpu: &Cpu, seg: Seg) -> bool
     ensures { result ≡ is_null cpu.now seg }
 {
-    match seg {
-        Seg::Es => cpu.seg[0].null,
-        Seg::Cs => cpu.seg[1].null,
-        Seg::Ss => cpu.seg[2].null,
-        Seg::Ds => cpu.seg[3].null,
-    }
+    cpu.segment(seg).null
 }
 
 // A null segment denies the range.
@@ -46,7 +41,7 @@ pub fn is_refused(cpu: &Cpu, ranges: &Ranges) -> bool
 }
 
 /// Translates a range, if there is one.
-#[tactic(auto, unfolding(sys_exec::specs::Access::reaching))]
+#[tactic(auto, unfolding(descriptors::specs::Access::reaching))]
 pub fn reach<B: Kept>(
     ram: &mut Ram,
     kept: &B,

@@ -13,17 +13,17 @@ use crate::view::View;
 use descriptors::Cpu;
 use guest_ram::Ram;
 use ia32_exec::{Outcome, Selectors, ranges, user_effect};
-use ia32_types::Insn;
+use ia32_types::{Insn, Seg};
 use step_mem::{Kept, State};
 
 fn selectors_of(cpu: &Cpu) -> Selectors
     ensures { result ≡ selectors_of cpu.now }
 {
     Selectors {
-        es: cpu.seg[0].sel,
-        cs: cpu.seg[1].sel,
-        ss: cpu.seg[2].sel,
-        ds: cpu.seg[3].sel,
+        es: cpu.segment(Seg::Es).sel,
+        cs: cpu.segment(Seg::Cs).sel,
+        ss: cpu.segment(Seg::Ss).sel,
+        ds: cpu.segment(Seg::Ds).sel,
     }
 }
 

@@ -6,11 +6,11 @@ use Rattle.ia32_types.specs.declared.insn.Operand.TheVariants.{Absent, Register,
 use Rattle.ia32_types.specs.declared.size.Size.TheVariants.{Long}
 use Rattle.ia32_exec.specs.Registers.{address_of, with_whole}
 use Rattle.ia32_exec.specs.Stack.{lowered, raised}
-use Rattle.paging.specs.Work.{Work, ◌>>=◌, gives, reads_earlier, writes}
+use Rattle.paging.specs.Work.{Work, ◌>>=◌, refuses, gives, reads_earlier, writes}
 use Rattle.descriptors.specs.declared.cpu.Cpu.{Cpu}
 use Rattle.sys_exec.specs.declared.effect.Refusal.{Refusal}
 use Rattle.sys_exec.specs.declared.effect.Done.{Done}
-use Rattle.sys_exec.specs.Access.{reaching, refused}
+use Rattle.sys_exec.specs.Access.{reaching}
 use Rattle.sys_exec.specs.Operand.{unsupported, by_level, reg_at, operand_reached, long_of, pulled, pushed, with_regs, past, past_push, gone_to, next}
 
 -- RET; the number of bytes that it drops besides
@@ -43,6 +43,6 @@ call_to (Register k) len cpu = do
 call_to (Memory a) len cpu = do
   target ← called_through a len cpu
   next (gone_to (past_push cpu len) target)
-call_to Absent len cpu = refused unsupported
-call_to (Segment seg) len cpu = refused unsupported
-call_to (Control k) len cpu = refused unsupported
+call_to Absent len cpu = refuses unsupported
+call_to (Segment seg) len cpu = refuses unsupported
+call_to (Control k) len cpu = refuses unsupported

@@ -3,13 +3,12 @@ use Rattle.std.specs.Prelude.{ℕ, ◌==◌, ◌&&◌, ◌%◌, if◌then◌else
 use Rattle.ia32_types.specs.declared.insn.Operand.{Operand}
 use Rattle.ia32_types.specs.declared.insn.Operand.TheVariants.{Register, Control}
 use Rattle.ia32_types.specs.declared.stop.Stop.TheVariants as stops
-use Rattle.paging.specs.Work.{Work, ◌>>=◌, gives, unless}
+use Rattle.paging.specs.Work.{Work, ◌>>=◌, refuses, gives, unless}
 use Rattle.descriptors.specs.declared.cpu.Cpu.{Cpu}
 use Rattle.sys_exec.specs.declared.effect.Refusal.{Refusal}
 use Rattle.sys_exec.specs.declared.effect.Refusal.TheVariants.{Stop}
 use Rattle.sys_exec.specs.declared.effect.SysEffect.TheVariants as effects
 use Rattle.sys_exec.specs.declared.effect.Done.{Done}
-use Rattle.sys_exec.specs.Access.{refused}
 use Rattle.sys_exec.specs.Operand.{unsupported, kernel_alone, reg_at, past, past_with, next}
 
 abbrev pub control_stop : Refusal
@@ -49,14 +48,14 @@ load_control cpu number v =
     (if number == 2 then gives (record { cpu = record cpu { cr2 = v }; effect = effects.Next }) else
     (if number == 3 then load_control_3 cpu v else
     (if number == 4 then load_control_4 cpu v else
-    refused unsupported)))
+    refuses unsupported)))
 
 -- MOV to a control register
 unfoldable pub write_control : Operand → Operand → ℕ → Cpu → Work Refusal Done
 write_control (Control number) (Register k) len cpu = do
   _ ← kernel_alone cpu
   load_control (past cpu len) number (reg_at cpu k)
-write_control a b len cpu = refused unsupported
+write_control a b len cpu = refuses unsupported
 
 unfoldable pub control_of : Cpu → ℕ → Work Refusal ℕ
 control_of cpu number =
@@ -64,7 +63,7 @@ control_of cpu number =
     (if number == 2 then gives cpu.cr2 else
     (if number == 3 then gives cpu.cr3 else
     (if number == 4 then gives cpu.cr4 else
-    refused unsupported)))
+    refuses unsupported)))
 
 -- MOV from a control register
 unfoldable pub read_control : Operand → Operand → ℕ → Cpu → Work Refusal Done
@@ -72,4 +71,4 @@ read_control (Register k) (Control number) len cpu = do
   _ ← kernel_alone cpu
   v ← control_of cpu number
   next (past_with cpu len (k % 8) v)
-read_control a b len cpu = refused unsupported
+read_control a b len cpu = refuses unsupported

@@ -7,6 +7,7 @@ use Rattle.ia32_types.specs.Bits.{bit}
 use Rattle.ia32_types.specs.Flags.{interrupt_at, flag_put}
 use Rattle.ia32_exec.specs.Stack.{is_foreign, taken}
 use Rattle.paging.specs.Work.{Work, ◌>>=◌, gives, unless, reads}
+use Rattle.descriptors.specs.Segments.{seg_of}
 use Rattle.descriptors.specs.declared.cpu.Cpu.{Cpu}
 use Rattle.descriptors.specs.declared.cpu.Hidden.{Hidden}
 use Rattle.sys_exec.specs.declared.effect.Refusal.{Refusal}
@@ -15,7 +16,7 @@ use Rattle.sys_exec.specs.declared.effect.Loading.{Loading}
 use Rattle.sys_exec.specs.declared.iret.Popped.{Popped}
 use Rattle.sys_exec.specs.declared.iret.Outer.{Outer}
 use Rattle.sys_exec.specs.Access.{reaching}
-use Rattle.sys_exec.specs.Operand.{by_level, seg_of}
+use Rattle.sys_exec.specs.Operand.{by_level}
 use Rattle.sys_exec.specs.Segment.{find_return, find_stack, marked}
 
 abbrev pub top_of : Cpu → ℕ
@@ -74,7 +75,7 @@ kept_segment cpl hidden = if nat_lt hidden.dpl cpl then record { sel = 0; null =
 
 abbrev pub outer_segments : Cpu → ℕ → Hidden → Hidden → List Hidden
 outer_segments cpu cpl code stack =
-    slice_set (slice_set (slice_set (slice_set cpu.seg 0 (kept_segment cpl (seg_of cpu.seg 0))) 3 (kept_segment cpl (seg_of cpu.seg 3))) 1 code) 2 stack
+    slice_set (slice_set (slice_set (slice_set cpu.seg 0 (kept_segment cpl (seg_of cpu 0))) 3 (kept_segment cpl (seg_of cpu 3))) 1 code) 2 stack
 
 unfoldable pub return_same : Cpu → Popped → Loading → Work Refusal Cpu
 return_same cpu p code = do

@@ -1,25 +1,24 @@
 -- Operands of one instruction, the stack, and how an instruction ends.
-use Rattle.std.specs.Prelude.{ℕ, ◌%◌, Bool, true, false, ◌==◌, not, slice_index, slice_index_or, List}
+use Rattle.std.specs.Prelude.{ℕ, ◌%◌, Bool, true, false, ◌==◌, not, slice_index}
 use Rattle.ia32_types.specs.declared.flags.Regs.{Regs}
 use Rattle.ia32_types.specs.declared.insn.Address.{Address}
 use Rattle.ia32_types.specs.declared.insn.Operand.{Operand}
 use Rattle.ia32_types.specs.declared.insn.Operand.TheVariants as operands
 use Rattle.ia32_types.specs.declared.register.Seg.{Seg}
-use Rattle.ia32_types.specs.declared.register.Seg.TheVariants.{Es, Cs, Ss, Ds}
 use Rattle.ia32_types.specs.declared.size.Size.TheVariants as sizes
 use Rattle.ia32_types.specs.declared.stop.Stop.TheVariants as stops
 use Rattle.ia32_exec.specs.Registers.{address_of, with_whole, passed}
 use Rattle.ia32_exec.specs.Ranges.{segment_of}
 use Rattle.ia32_exec.specs.Stack.{stack_of, lowered, raised}
 use Rattle.paging.specs.declared.entry.Access.{Access}
-use Rattle.paging.specs.Work.{Work, ◌>>=◌, gives, unless, reads, writes}
+use Rattle.paging.specs.Work.{Work, ◌>>=◌, refuses, gives, unless, reads, writes}
+use Rattle.descriptors.specs.Segments.{segment_in}
 use Rattle.descriptors.specs.declared.cpu.Cpu.{Cpu}
-use Rattle.descriptors.specs.declared.cpu.Hidden.{Hidden}
 use Rattle.sys_exec.specs.declared.effect.Refusal.{Refusal}
 use Rattle.sys_exec.specs.declared.effect.Refusal.TheVariants.{Raise, Stop}
 use Rattle.sys_exec.specs.declared.effect.SysEffect.TheVariants as effects
 use Rattle.sys_exec.specs.declared.effect.Done.{Done}
-use Rattle.sys_exec.specs.Access.{reaching, refused}
+use Rattle.sys_exec.specs.Access.{reaching}
 
 -- no row has such operands
 abbrev pub unsupported : Refusal
@@ -36,18 +35,8 @@ kernel_alone cpu = unless protection_0 (cpu.cpl == 0)
 abbrev pub by_level : Cpu → Bool → Access
 by_level cpu write = record { write = write; user = cpu.cpl == 3 }
 
--- the place of a segment register
-abbrev pub place_of : Seg → ℕ
-place_of Es = 0
-place_of Cs = 1
-place_of Ss = 2
-place_of Ds = 3
-
-abbrev pub seg_of : List Hidden → ℕ → Hidden
-seg_of seg k = slice_index_or seg k (record { sel = 0; null = false; dpl = 0 })
-
 abbrev pub selector_in : Cpu → Seg → ℕ
-selector_in cpu seg = (seg_of cpu.seg (place_of seg)).sel
+selector_in cpu seg = (segment_in cpu seg).sel
 
 abbrev pub reg_at : Cpu → ℕ → ℕ
 reg_at cpu k = slice_index cpu.regs.r (k % 8)
@@ -55,7 +44,7 @@ reg_at cpu k = slice_index cpu.regs.r (k % 8)
 -- an operand in memory: its segment isn't null, and its range is translated
 unfoldable pub operand_reached : Cpu → Address → ℕ → Bool → Work Refusal (Unit {0})
 operand_reached cpu a len write = do
-  _ ← unless protection_0 (not (seg_of cpu.seg (place_of (segment_of a.base))).null)
+  _ ← unless protection_0 (not (segment_in cpu (segment_of a.base)).null)
   reaching (address_of a cpu.regs) len (by_level cpu write)
 
 -- a selector from a register or from two bytes of memory
@@ -64,9 +53,9 @@ selector cpu (operands.Register k) = gives (reg_at cpu k % 65536)
 selector cpu (operands.Memory a) = do
   _ ← operand_reached cpu a 2 false
   reads (address_of a cpu.regs) sizes.Word
-selector cpu operands.Absent = refused unsupported
-selector cpu (operands.Segment seg) = refused unsupported
-selector cpu (operands.Control k) = refused unsupported
+selector cpu operands.Absent = refuses unsupported
+selector cpu (operands.Segment seg) = refuses unsupported
+selector cpu (operands.Control k) = refuses unsupported
 
 -- a number of four bytes from a register or from memory
 unfoldable pub long_of : Cpu → Operand → Work Refusal ℕ
@@ -74,9 +63,9 @@ long_of cpu (operands.Register k) = gives (reg_at cpu k)
 long_of cpu (operands.Memory a) = do
   _ ← operand_reached cpu a 4 false
   reads (address_of a cpu.regs) sizes.Long
-long_of cpu operands.Absent = refused unsupported
-long_of cpu (operands.Segment seg) = refused unsupported
-long_of cpu (operands.Control k) = refused unsupported
+long_of cpu operands.Absent = refuses unsupported
+long_of cpu (operands.Segment seg) = refuses unsupported
+long_of cpu (operands.Control k) = refuses unsupported
 
 -- the number on top of the stack
 unfoldable pub pulled : Cpu → Work Refusal ℕ

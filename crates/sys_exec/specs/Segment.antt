@@ -1,9 +1,11 @@
 -- Loads of segment registers, each as the list of its tests in their order, and the accessed flag. Intel SDM volume 3,
 -- protection; where this list differs from the manual in an order or in a code, the list decides.
-use Rattle.std.specs.Prelude.{ℕ, ◌+◌, ◌*◌, ◌/◌, ◌%◌, ◌^◌, Bool, true, false, ◌==◌, nat_lt, ◌||◌, not, if◌then◌else◌, Option, Some, None, bit_or}
+use Rattle.std.specs.Prelude.{ℕ, ◌+◌, ◌*◌, ◌/◌, ◌%◌, ◌^◌, Bool, true, false, ◌==◌, nat_lt, ◌||◌, not, if◌then◌else◌, Option, bit_or}
 use Rattle.ia32_types.specs.declared.stop.Stop.TheVariants as stops
-use Rattle.paging.specs.Work.{Work, ◌>>=◌, gives, unless}
-use Rattle.descriptors.specs.Form.{descriptor_of, kind_of, marking, is_code, is_data, is_of_system, is_foreign, dpl_of, is_present, is_used}
+use Rattle.paging.specs.Work.{Work, ◌>>=◌, refuses, gives, unless}
+use Rattle.descriptors.specs.Form.{descriptor_of, access_rights, marking, is_code, is_data, is_of_system, is_foreign_form, dpl_of, is_present, is_used}
+use Rattle.descriptors.specs.Segments.{slot}
+use Rattle.descriptors.specs.Access.{pair_at, byte_set, mark}
 use Rattle.descriptors.specs.declared.cpu.Cpu.{Cpu}
 use Rattle.descriptors.specs.declared.cpu.Hidden.{Hidden}
 use Rattle.descriptors.specs.declared.cpu.Task.{Task}
@@ -12,7 +14,7 @@ use Rattle.descriptors.specs.declared.form.Descriptor.TheVariants as forms
 use Rattle.sys_exec.specs.declared.effect.Refusal.{Refusal}
 use Rattle.sys_exec.specs.declared.effect.Refusal.TheVariants.{Raise, Stop}
 use Rattle.sys_exec.specs.declared.effect.Loading.{Loading}
-use Rattle.sys_exec.specs.Access.{pair_at, slot, refused, byte_set}
+use Rattle.sys_exec.specs.Access.{denials}
 use Rattle.sys_exec.specs.Operand.{protection_0}
 
 -- a general protection fault with the selector's error code
@@ -34,7 +36,7 @@ unfoldable pub selected : Cpu → Refusal → ℕ → Work Refusal (ℕ × ℕ)
 selected cpu local sel = do
   _ ← ends_if local (sel / 4 % 2 == 1)
   _ ← ends_if (protection sel) (nat_lt cpu.gdt.limit (sel / 8 * 8 + 7))
-  pair_at (slot cpu sel)
+  pair_at denials (slot cpu sel)
 
 -- the register as it is loaded, and what byte 5 is to become
 abbrev pub loaded : ℕ → ℕ → Option ℕ → Loading
@@ -50,7 +52,7 @@ null_segment sel = record { sel = sel; null = true; dpl = 0 }
 abbrev pub data_tests : ℕ → ℕ → Descriptor → Work Refusal (Unit {0})
 data_tests cpl sel d = do
   _ ← ends_if (protection sel) (is_of_system d)
-  _ ← ends_if form_stop (is_foreign d || is_code d)
+  _ ← ends_if form_stop (is_foreign_form d || is_code d)
   _ ← ends_if (protection sel) (nat_lt (dpl_of d) cpl || nat_lt (dpl_of d) (sel % 4))
   ends_if (absent 11 sel) (not (is_present d))
 
@@ -61,12 +63,8 @@ find_data cpu sel = do
   gives (loading sel pair.1 (descriptor_of pair.0 pair.1))
 
 -- the accessed flag is set where it is clear
-abbrev pub mark : Cpu → ℕ → Option ℕ → Work Refusal (Unit {0})
-mark cpu sel None = gives tt
-mark cpu sel (Some v) = byte_set ((slot cpu sel + 5) % 2 ^ 32) v
-
 abbrev pub marked : Cpu → Loading → Work Refusal (Unit {0})
-marked cpu l = mark cpu l.hidden.sel l.marking
+marked cpu l = mark denials cpu l.hidden.sel l.marking
 
 unfoldable pub load_data : Cpu → ℕ → Work Refusal Hidden
 load_data cpu sel = if nat_lt sel 4 then gives (null_segment sel) else do
@@ -78,7 +76,7 @@ load_data cpu sel = if nat_lt sel 4 then gives (null_segment sel) else do
 abbrev pub stack_tests : ℕ → ℕ → Descriptor → Work Refusal (Unit {0})
 stack_tests cpl sel d = do
   _ ← ends_if (protection sel) (is_of_system d)
-  _ ← ends_if form_stop (is_foreign d)
+  _ ← ends_if form_stop (is_foreign_form d)
   _ ← ends_if (protection sel) (not (sel % 4 == cpl) || (is_code d || not (dpl_of d == cpl)))
   ends_if (absent 12 sel) (not (is_present d))
 
@@ -93,7 +91,7 @@ find_stack cpu cpl sel = do
 abbrev pub return_tests : ℕ → ℕ → Descriptor → Work Refusal (Unit {0})
 return_tests cpl sel d = do
   _ ← ends_if (protection sel) (is_of_system d)
-  _ ← ends_if form_stop (is_foreign d)
+  _ ← ends_if form_stop (is_foreign_form d)
   _ ← ends_if (protection sel) (is_data d || (nat_lt (sel % 4) cpl || not (dpl_of d == sel % 4)))
   ends_if (absent 11 sel) (not (is_present d))
 
@@ -107,7 +105,7 @@ find_return cpu sel = do
 -- the code that a far jump goes to; the register gets the level in use
 abbrev pub jump_tests : ℕ → ℕ → Descriptor → Work Refusal (Unit {0})
 jump_tests cpl sel d = do
-  _ ← ends_if form_stop (is_of_system d || is_foreign d)
+  _ ← ends_if form_stop (is_of_system d || is_foreign_form d)
   _ ← ends_if (protection sel) (is_data d || (nat_lt cpl (sel % 4) || not (dpl_of d == cpl)))
   ends_if (absent 11 sel) (not (is_present d))
 
@@ -120,17 +118,17 @@ find_jump cpu sel = do
 
 -- the task register: type 1, a task of 16 bits, is not told; the task must be available, and becomes busy
 abbrev pub is_old_task : ℕ → Bool
-is_old_task high = kind_of high % 0x20 == 1
+is_old_task high = access_rights high % 0x20 == 1
 
 abbrev pub as_task : ℕ → Descriptor → Work Refusal Task
 as_task sel (forms.Task base limit present busy) = do
   _ ← ends_if (protection sel) busy
   _ ← ends_if (absent 11 sel) (not present)
   gives (record { sel = sel; base = base; limit = limit; loaded = true })
-as_task sel (forms.Code dpl present used) = refused (protection sel)
-as_task sel (forms.Plain dpl present used) = refused (protection sel)
-as_task sel forms.System = refused (protection sel)
-as_task sel forms.Foreign = refused (protection sel)
+as_task sel (forms.Code dpl present used) = refuses (protection sel)
+as_task sel (forms.Plain dpl present used) = refuses (protection sel)
+as_task sel forms.System = refuses (protection sel)
+as_task sel forms.Foreign = refuses (protection sel)
 
 unfoldable pub load_task : Cpu → ℕ → Work Refusal Task
 load_task cpu sel = do
@@ -138,5 +136,5 @@ load_task cpu sel = do
   pair ← selected cpu (protection sel) sel
   _ ← ends_if form_stop (is_old_task pair.1)
   task ← as_task sel (descriptor_of pair.0 pair.1)
-  _ ← byte_set ((slot cpu sel + 5) % 2 ^ 32) (bit_or (kind_of pair.1) 2)
+  _ ← byte_set denials ((slot cpu sel + 5) % 2 ^ 32) (bit_or (access_rights pair.1) 2)
   gives task

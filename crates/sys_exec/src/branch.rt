@@ -6,13 +6,13 @@ ghost use Rattle.ia32_exec.specs.Stack.{raised};
 ghost use Rattle.sys_exec.specs.Branch.{return_to, jump_to, called_through, call_to};
 ghost use Rattle.sys_exec.specs.Asked.{GivesAsked};
 
-use crate::access::reach;
 use crate::effect::{Done, Refusal};
 use crate::operand::{
-    UNSUPPORTED, address_of, by_level, gone_to, long_of, lowered, next, past, past_push, pull,
-    push, reach_operand, reg_at,
+    UNSUPPORTED, by_level, gone_to, long_of, lowered, next, past, past_push, pull, push,
+    reach_operand, reg_at,
 };
-use descriptors::Cpu;
+use descriptors::{Cpu, reach};
+use ia32_exec::address_of;
 use ia32_types::{Address, Operand, Size};
 use paging::GuestMem;
 
@@ -62,7 +62,7 @@ fn call_through<M: GuestMem>(a: &Address, len: u8, cpu: &Cpu, mem: &mut M) -> Re
 {
     reach_operand(cpu, mem, a, 4, false)?;
     let top = lowered(cpu);
-    reach(mem, top, 4, by_level(cpu, true))?;
+    reach::<M, Refusal>(mem, top, 4, by_level(cpu, true))?;
     let target = mem.load_earlier(address_of(*a, &cpu.regs), Size::Long);
     mem.save(top, Size::Long, past(cpu, len).regs.eip);
     Ok(target)

@@ -2,14 +2,13 @@
 
 ghost use Rattle.std.specs.Prelude.{◌≡◌, ◌+◌, ◌*◌, ◌/◌, ◌%◌, ◌≤◌, ◌<◌, ◌^◌};
 ghost use Rattle.paging.specs.Work.{Gives};
-ghost use Rattle.ia32_exec.specs.Stack.{is_foreign, taken};
 ghost use Rattle.sys_exec.specs.Iret.{popped, popped_outer, is_plain, is_within, with_interrupt, with_level, new_flags, returned, kept_segment, outer_segments, return_same, return_outer, interrupt_return};
 
-use crate::access::reach;
 use crate::effect::{Loading, Refusal};
 use crate::operand::by_level;
-use crate::segment::{find_return, find_stack, mark};
-use descriptors::{Cpu, Hidden};
+use crate::segment::{find_return, find_stack, mark_loaded};
+use descriptors::{Cpu, Hidden, reach};
+use ia32_exec::{is_foreign, taken};
 use ia32_types::{Flags, Regs, Size, Stop};
 use paging::GuestMem;
 
@@ -36,7 +35,7 @@ fn pop<M: GuestMem>(cpu: &Cpu, mem: &mut M) -> Result<Popped, Refusal>
     ensures frame { M.frame mem.new ≡ M.frame mem.old }
 {
     let top = cpu.regs.r[4];
-    reach(mem, top, 12, by_level(cpu, false))?;
+    reach::<M, Refusal>(mem, top, 12, by_level(cpu, false))?;
     let eip = mem.load(top, Size::Long);
     let sel = mem.load(top + 4, Size::Long);
     let flags = mem.load(top + 8, Size::Long);
@@ -55,39 +54,13 @@ fn pop_outer<M: GuestMem>(cpu: &Cpu, mem: &mut M) -> Result<Outer, Refusal>
     ensures frame { M.frame mem.new ≡ M.frame mem.old }
 {
     let at = cpu.regs.r[4].wrapping_add(12);
-    reach(mem, at, 8, by_level(cpu, false))?;
+    reach::<M, Refusal>(mem, at, 8, by_level(cpu, false))?;
     let top = mem.load(at, Size::Long);
     let sel = mem.load(at + 4, Size::Long);
     Ok(Outer {
         top,
         sel: (sel % 65536) as u16,
     })
-}
-
-fn is_foreign(image: Flags) -> bool
-    ensures { result ≡ is_foreign image.bits }
-{
-    image.bit(8)
-        || image.bit(14)
-        || image.bit(17)
-        || image.bit(18)
-        || image.bit(19)
-        || image.bit(20)
-        || image.bit(21)
-}
-
-/// The flags that are popped at every level.
-#[tactic(auto, unfolding(ia32_exec::specs::Stack::taken))]
-fn taken(flags: Flags, image: Flags) -> Flags
-    ensures { result ≡ taken flags image.bits }
-{
-    let flags = flags.with_bit(0, image.bit(0));
-    let flags = flags.with_bit(2, image.bit(2));
-    let flags = flags.with_bit(4, image.bit(4));
-    let flags = flags.with_bit(6, image.bit(6));
-    let flags = flags.with_bit(7, image.bit(7));
-    let flags = flags.with_bit(10, image.bit(10));
-    flags.with_bit(11, image.bit(11))
 }
 
 /// An image that sets none of the flags that aren't kept.
@@ -191,7 +164,7 @@ fn return_same<M: GuestMem>(
     if !is_plain(p.flags) {
         return Err(Refusal::Stop(Stop::FlagBits));
     }
-    mark(cpu, mem, code)?;
+    mark_loaded(cpu, mem, code)?;
     let mut seg = cpu.seg;
     seg[1] = code.hidden;
     Ok(returned(cpu, p, cpu.regs.r[4].wrapping_add(12), cpu.cpl, seg))
@@ -215,8 +188,8 @@ fn return_outer<M: GuestMem>(
     if !is_plain(p.flags) {
         return Err(Refusal::Stop(Stop::FlagBits));
     }
-    mark(cpu, mem, code)?;
-    mark(cpu, mem, &stack)?;
+    mark_loaded(cpu, mem, code)?;
+    mark_loaded(cpu, mem, &stack)?;
     let seg = outer_segments(cpu, cpl, code.hidden, stack.hidden);
     Ok(returned(cpu, p, outer.top, cpl, seg))
 }

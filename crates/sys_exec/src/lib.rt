@@ -1,7 +1,6 @@
 //! Sensitive instructions, over any memory of the guest.
 #![tactic(auto)]
 
-mod access;
 mod agreement;
 mod branch;
 mod control;

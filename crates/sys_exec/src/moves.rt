@@ -7,11 +7,12 @@ ghost use Rattle.sys_exec.specs.Asked.{GivesAsked};
 
 use crate::effect::{Done, Refusal};
 use crate::operand::{
-    UNSUPPORTED, address_of, gone_to, next, past, past_pop, past_push, past_with, pull, push,
-    reach_operand, selector, selector_in,
+    UNSUPPORTED, gone_to, next, past, past_pop, past_push, past_with, pull, push, reach_operand,
+    selector, selector_in,
 };
-use crate::segment::{find_jump, find_stack, load_data, mark};
+use crate::segment::{find_jump, find_stack, load_data, mark_loaded};
 use descriptors::Cpu;
+use ia32_exec::address_of;
 use ia32_types::{Insn, Operand, Seg, Size};
 use paging::GuestMem;
 
@@ -81,7 +82,7 @@ fn load_by<M: GuestMem>(
         Seg::Cs => return Err(UNSUPPORTED),
         Seg::Ss => {
             let loading = find_stack(cpu, mem, cpu.cpl, sel)?;
-            mark(cpu, mem, &loading)?;
+            mark_loaded(cpu, mem, &loading)?;
             after.seg[2] = loading.hidden;
             after.held = true;
         }
@@ -164,7 +165,7 @@ pub fn far_jump<M: GuestMem>(insn: &Insn, cpu: &Cpu, mem: &mut M) -> Result<Done
     ensures asked { GivesAsked result }
 {
     let code = find_jump(cpu, mem, insn.sel)?;
-    mark(cpu, mem, &code)?;
+    mark_loaded(cpu, mem, &code)?;
     let mut after = gone_to(cpu, insn.imm);
     after.seg[1] = code.hidden;
     Ok(next(after))

@@ -3,15 +3,15 @@
 ghost use Rattle.std.specs.Prelude.{◌≡◌, ◌+◌, ◌*◌, ◌%◌, ◌≤◌, ◌<◌, ◌^◌, OnOk};
 ghost use Rattle.paging.specs.Work.{Gives};
 ghost use Rattle.paging.specs.Space.{IsReach};
-ghost use Rattle.ia32_exec.specs.Registers.{address_of, part_of, with_whole, passed};
+ghost use Rattle.ia32_exec.specs.Registers.{address_of, with_whole, passed};
 ghost use Rattle.ia32_exec.specs.Ranges.{segment_of};
 ghost use Rattle.ia32_exec.specs.Stack.{lowered, raised};
-ghost use Rattle.sys_exec.specs.Operand.{place_of, selector_in, reg_at, operand_reached, selector, long_of, pulled, pushed, by_level, past, past_with, past_push, past_pop, gone_to};
+ghost use Rattle.sys_exec.specs.Operand.{selector_in, reg_at, operand_reached, selector, long_of, pulled, pushed, by_level, past, past_with, past_push, past_pop, gone_to};
 
-use crate::access::reach;
 use crate::effect::{Done, Refusal, SysEffect};
-use descriptors::Cpu;
-use ia32_types::{Address, Operand, Reg, Regs, Seg, Size, Stop};
+use descriptors::{Cpu, reach};
+use ia32_exec::{address_of, segment_of};
+use ia32_types::{Address, Operand, Seg, Size, Stop};
 use paging::{Access, GuestMem};
 
 pub const UNSUPPORTED: Refusal = Refusal::Stop(Stop::Unsupported);
@@ -20,36 +20,6 @@ pub const PROTECTION_0: Refusal = Refusal::Raise {
     vector: 13,
     code: 0,
 };
-
-fn segment_of(base: Option<Reg>) -> Seg
-    ensures { result ≡ segment_of base }
-{
-    match base {
-        Some(Reg::Esp) => Seg::Ss,
-        Some(Reg::Ebp) => Seg::Ss,
-        _ => Seg::Ds,
-    }
-}
-
-fn part_of(register: Option<Reg>, regs: &Regs) -> u32
-    ensures { result ≡ part_of register regs.now.r }
-{
-    match register {
-        None => 0,
-        Some(register) => regs.r[register.number() as usize],
-    }
-}
-
-/// The linear address of an operand.
-#[tactic(auto, unfolding(ia32_exec::specs::Registers::address_of))]
-pub fn address_of(address: Address, regs: &Regs) -> u32
-    ensures { result ≡ address_of address regs.now }
-{
-    let base = u64::from(part_of(address.base, regs));
-    let index = u64::from(part_of(address.index, regs));
-    let sum = base + index * u64::from(address.scale) + u64::from(address.disp);
-    (sum % 0x1_0000_0000) as u32
-}
 
 pub fn by_level(cpu: &Cpu, write: bool) -> Access
     ensures { result ≡ by_level cpu.now write }
@@ -60,22 +30,10 @@ pub fn by_level(cpu: &Cpu, write: bool) -> Access
     }
 }
 
-fn place_of(seg: Seg) -> usize
-    ensures place { result ≡ place_of seg }
-    ensures small { result < 4 }
-{
-    match seg {
-        Seg::Es => 0,
-        Seg::Cs => 1,
-        Seg::Ss => 2,
-        Seg::Ds => 3,
-    }
-}
-
 pub fn selector_in(cpu: &Cpu, seg: Seg) -> u16
     ensures { result ≡ selector_in cpu.now seg }
 {
-    cpu.seg[place_of(seg)].sel
+    cpu.segment(seg).sel
 }
 
 pub fn reg_at(cpu: &Cpu, k: u8) -> u32
@@ -101,10 +59,11 @@ pub fn reach_operand<M: GuestMem>(
     ensures frame { M.frame mem.new ≡ M.frame mem.old }
     ensures ready { OnOk result (IsReach (M.space mem.new) (address_of a.now cpu.now.regs) len write) }
 {
-    if cpu.seg[place_of(segment_of(a.base))].null {
+    if cpu.segment(segment_of(a.base)).null {
         return Err(PROTECTION_0);
     }
-    reach(mem, address_of(*a, &cpu.regs), len, by_level(cpu, write))
+    let at = address_of(*a, &cpu.regs);
+    reach::<M, Refusal>(mem, at, len, by_level(cpu, write))
 }
 
 /// A selector from a register or from memory.
@@ -157,7 +116,7 @@ pub fn pull<M: GuestMem>(cpu: &Cpu, mem: &mut M) -> Result<u32, Refusal>
     ensures frame { M.frame mem.new ≡ M.frame mem.old }
 {
     let top = cpu.regs.r[4];
-    reach(mem, top, 4, by_level(cpu, false))?;
+    reach::<M, Refusal>(mem, top, 4, by_level(cpu, false))?;
     Ok(mem.load(top, Size::Long))
 }
 
@@ -170,7 +129,7 @@ pub fn push<M: GuestMem>(cpu: &Cpu, mem: &mut M, value: u32) -> Result<(), Refus
     ensures frame { M.frame mem.new ≡ M.frame mem.old }
 {
     let at = lowered(cpu);
-    reach(mem, at, 4, by_level(cpu, true))?;
+    reach::<M, Refusal>(mem, at, 4, by_level(cpu, true))?;
     mem.save(at, Size::Long, value);
     Ok(())
 }

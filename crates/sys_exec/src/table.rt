@@ -7,9 +7,10 @@ ghost use Rattle.sys_exec.specs.Table.{table_at, load_gdt, load_idt, load_tr, dr
 ghost use Rattle.sys_exec.specs.Asked.{GivesAsked};
 
 use crate::effect::{Done, Refusal, SysEffect};
-use crate::operand::{PROTECTION_0, UNSUPPORTED, address_of, next, past, reach_operand, selector};
+use crate::operand::{PROTECTION_0, UNSUPPORTED, next, past, reach_operand, selector};
 use crate::segment::load_task;
 use descriptors::{Cpu, Table};
+use ia32_exec::address_of;
 use ia32_types::{Operand, Size};
 use paging::GuestMem;
 

@@ -12,7 +12,8 @@ use Rattle.event_entry.specs.declared.refusal.Kind.{Kind}
 use Rattle.event_entry.specs.declared.refusal.NotDelivered.{NotDelivered}
 use Rattle.event_entry.specs.declared.delivery.Entry.{Entry}
 use Rattle.event_entry.specs.declared.delivery.Stack.{Stack}
-use Rattle.event_entry.specs.Deliver.{seg_of, code_len, outer_len, stack_of, inner_stack, push_frame, entered, delivered}
+use Rattle.descriptors.specs.Segments.{seg_of}
+use Rattle.event_entry.specs.Deliver.{code_len, outer_len, stack_of, inner_stack, push_frame, entered, delivered}
 use Rattle.sys_exec.specs.declared.effect.Refusal.{Refusal}
 use Rattle.sys_exec.specs.declared.effect.Loading.{Loading}
 use Rattle.sys_exec.specs.declared.effect.Done.{Done}

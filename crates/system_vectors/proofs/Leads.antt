@@ -11,7 +11,8 @@ use Rattle.descriptors.specs.declared.cpu.Cpu.{Cpu}
 use Rattle.descriptors.specs.declared.cpu.Hidden.{Hidden}
 use Rattle.event_entry.specs.declared.delivery.Entry.{Entry}
 use Rattle.event_entry.specs.declared.delivery.Stack.{Stack}
-use Rattle.event_entry.specs.Deliver.{seg_of, code_len, outer_len, entered, flags_kept}
+use Rattle.descriptors.specs.Segments.{seg_of}
+use Rattle.event_entry.specs.Deliver.{code_len, outer_len, entered, flags_kept}
 use Rattle.sys_exec.specs.Iret.{new_flags, is_within, with_interrupt, with_level}
 use Rattle.system_vectors.specs.Resumed.{IsInterrupted, at_return, user_segments, resumed}
 use Rattle.system_vectors.proofs.FlagsBack.{flags_back, no_trap, no_nesting}

@@ -7,7 +7,8 @@ use Rattle.paging.specs.Space.{Space}
 use Rattle.descriptors.specs.declared.cpu.Cpu.{Cpu}
 use Rattle.descriptors.specs.declared.cpu.Hidden.{Hidden}
 use Rattle.event_entry.specs.declared.refusal.Kind.{Kind}
-use Rattle.event_entry.specs.Deliver.{seg_of, code_len, delivered}
+use Rattle.descriptors.specs.Segments.{seg_of}
+use Rattle.event_entry.specs.Deliver.{code_len, delivered}
 use Rattle.sys_exec.specs.declared.effect.Done.{Done}
 use Rattle.sys_exec.specs.declared.effect.Loading.{Loading}
 use Rattle.sys_exec.specs.declared.iret.Popped.{Popped}

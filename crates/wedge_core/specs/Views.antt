@@ -6,7 +6,7 @@ use Rattle.image_check.specs.Image.{Image}
 use Rattle.image_check.specs.declared.place.Place.{Place}
 use Rattle.image_check.specs.declared.place.Place.TheVariants.{NotAStart, Outside, Inside}
 use Rattle.image_check.specs.Places.{place_at}
-use Rattle.sys_exec.specs.Operand.{seg_of}
+use Rattle.descriptors.specs.Segments.{seg_of}
 use Rattle.shadow_tables.specs.declared.words.Side.{Side}
 use Rattle.host_cpl3.specs.declared.view.View.{View}
 use Rattle.machine_model.specs.Step.{interrupt_of}
@@ -27,10 +27,10 @@ view_by directory cpu =
     record {
       kernel = not (cpu.cpl == 3);
       root = directory (side_of (cpu.cpl == 3));
-      cs = (seg_of cpu.seg 1).sel;
-      ss = (seg_of cpu.seg 2).sel;
-      ds = (seg_of cpu.seg 3).sel;
-      es = (seg_of cpu.seg 0).sel;
-      ds_null = (seg_of cpu.seg 3).null;
-      es_null = (seg_of cpu.seg 0).null;
+      cs = (seg_of cpu 1).sel;
+      ss = (seg_of cpu 2).sel;
+      ds = (seg_of cpu 3).sel;
+      es = (seg_of cpu 0).sel;
+      ds_null = (seg_of cpu 3).null;
+      es_null = (seg_of cpu 0).null;
     }
