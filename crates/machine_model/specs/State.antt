@@ -3,6 +3,7 @@ use Rattle.std.specs.Prelude.{◌≡◌, ◌⊎◌, ℕ, Bool, true, false, List
 use Rattle.std.specs.Option.{ForSome}
 use Rattle.std.specs.FinMap.{FinMap, get, empty}
 use Rattle.std.specs.Ordering.{nat_cmp}
+use Rattle.descriptors.specs.Controls.{pse_of}
 use Rattle.descriptors.specs.declared.cpu.Cpu.{Cpu}
 use Rattle.paging.specs.declared.entry.Entry.{Entry}
 use Rattle.paging.specs.declared.entry.Walk.TheVariants.{Found}
@@ -45,10 +46,6 @@ pub record State : Type 0 where
 -- where every run begins
 abbrev pub boot : Setting → State
 boot s = record { cpu = boot_cpu s.image s.frames; ram = boot_ram s.image s.frames; set = empty; board = at_reset; step = 0 }
-
--- the PSE flag of CR4: directory words may map pages of 4 MB
-abbrev pub pse_of : Cpu → Bool
-pse_of cpu = has cpu.cr4 16
 
 -- memory as a step of this processor reaches it, before its first access
 abbrev pub space_at_start : Mode → ℕ → Cpu → List ℕ → FinMap nat_cmp Entry → Space

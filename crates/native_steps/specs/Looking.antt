@@ -10,6 +10,7 @@ use Rattle.ia32_decode.specs.declared.answer.Decoded.{Decoded}
 use Rattle.ia32_decode.specs.declared.answer.Decoded.TheVariants as begins
 use Rattle.ia32_decode.specs.Decoding.{decoded}
 use Rattle.ia32_decode.specs.Front.{longest, front_len}
+use Rattle.descriptors.specs.Controls.{pse_of}
 use Rattle.paging.specs.declared.entry.Access.{Access}
 use Rattle.paging.specs.declared.entry.Entry.{Entry}
 use Rattle.paging.specs.declared.entry.Walk.{Walk}
@@ -17,7 +18,7 @@ use Rattle.paging.specs.declared.entry.Walk.TheVariants.{Absent, Beyond, Reserve
 use Rattle.paging.specs.Fresh.{fresh, grants}
 use Rattle.paging.specs.Space.{Space}
 use Rattle.paging.specs.Uses.{usable}
-use Rattle.machine_model.specs.State.{Setting, State, pse_of, space_at_start, wedge_mode}
+use Rattle.machine_model.specs.State.{Setting, State, space_at_start, wedge_mode}
 use Rattle.machine_model.specs.Instruction.{next_page, fetched}
 use Rattle.machine_model.specs.Clash.{Use, protects, access_of, fetch_uses, range_uses, uses_at}
 
