@@ -231,10 +231,10 @@ table_kept x y frames cr3 pse page e d t m small room h =
       flag = ap (λ n. has (word32 y n) 64) (place ∙ h.word_is);
     }
 
-same_large : (w x page : ℕ) → x / 4096 ≡ w / 4096 → large_frame x page ≡ large_frame w page
+pub same_large : (w x page : ℕ) → x / 4096 ≡ w / 4096 → large_frame x page ≡ large_frame w page
 same_large w x page e = omega (arith, e)
 
-same_reserved : (w x : ℕ) → x / 4096 ≡ w / 4096 → has_reserved x ≡ has_reserved w
+pub same_reserved : (w x : ℕ) → x / 4096 ≡ w / 4096 → has_reserved x ≡ has_reserved w
 same_reserved w x e = ap (λ n. not (n == 0)) (let g : x / 8192 % 512 ≡ w / 8192 % 512 = omega (arith, e) in g)
 
 large_kept : (x y : List ℕ) (frames cr3 : ℕ) (pse : Bool) (page : ℕ) (e : Entry) (d t : ℕ) → AreMarked x y → page < 2 ^ 20 → 4096 * frames ≤ length x → IsLarge x frames cr3 pse page e d t → IsStill y frames cr3 pse page e d t
