@@ -265,7 +265,7 @@ module _ (cpu : Cpu) (able : IsAble cpu) where
       if_yields (number == 0) (any_yields (unless control_stop (bit_and v control_0_needed == control_0_needed && bit_and v control_0_refused == 0)) (λ done. goes_on _ refl refl refl))
       (if_yields (number == 2) (goes_on _ refl refl refl)
       (if_yields (number == 3) (any_yields (unless control_stop (bit_and v control_3_refused == 0)) (λ done. gives_yields (record { suits = same _ refl refl refl; stays = refl })))
-      (if_yields (number == 4) (any_yields (unless control_stop (v == 0 || v == 0x10)) (λ done. gives_yields (record { suits = same _ refl refl refl; stays = drops_all (record (past cpu len) { cr4 = v }) (changes_pse (past cpu len) v) refl }))
+      (if_yields (number == 4) (any_yields (unless control_stop (v == 0 || v == 0x10)) (λ done. gives_yields (record { suits = same _ refl refl refl; stays = drops_all (record (past cpu len) { cr4 = v }) (changes_pse (past cpu len) v) refl })))
       (record { each = λ s. tt }))))
 
   of_write_control : (a b : Operand) (len : ℕ) → Yields (IsLeft cpu) (write_control a b len cpu)
