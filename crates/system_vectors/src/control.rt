@@ -1,6 +1,6 @@
 //! MOV to and from the control registers, bit by bit.
 
-use crate::world::{Case, NONE, Seen, cpu_at, past, refused, run, with, with_flags};
+use crate::world::{Answer, Case, NONE, Seen, cpu_at, past, refused, run, with, with_flags};
 use descriptors::Cpu;
 use ia32_types::Stop;
 use std::test::Fail;
@@ -73,12 +73,21 @@ const CR3: [Given; 18] = [
     (0xFFFF_F019, None),
 ];
 
-const CR4: [Given; 5] = [
+const CR4: [Given; 6] = [
     (0x0000_0000, Some(0x0000_0000)),
     (0x0000_0001, None),
-    (0x0000_0010, None), // PSE (4)
+    (0x0000_0010, Some(0x0000_0010)), // PSE (4)
+    (0x0000_0030, None),
     (0x0000_0080, None), // PGE (7)
     (0x8000_0000, None),
+];
+
+// CR4 before, what is given, and what is asked
+const PSE: [(u32, u32, SysEffect); 4] = [
+    (0x00, 0x00, SysEffect::Next),
+    (0x00, 0x10, SysEffect::DropAll),
+    (0x10, 0x10, SysEffect::Next),
+    (0x10, 0x00, SysEffect::DropAll),
 ];
 
 const CR2: [Given; 4] = [
@@ -108,14 +117,15 @@ fn with_control(cpu: Cpu, number: u8, v: u32) -> Cpu {
     then
 }
 
-// MOV to a control register: all translations leave the set where it is CR3.
+// MOV to a control register: all translations leave the set where it is CR3, and where it changes PSE, which is clear
+// before.
 fn given(number: u8, row: Given) -> Case {
     let (v, then) = row;
     let cpu = with(cpu_at(0), 3, v);
     match then {
         None => refused(cpu, NONE, to(number), STOP),
         Some(kept) => {
-            let effect = if number == 3 {
+            let effect = if number == 3 || number == 4 && v == 0x10 {
                 SysEffect::DropAll
             } else {
                 SysEffect::Next
@@ -140,11 +150,18 @@ fn control_registers_keep_their_bits(rt: HostRuntime) -> Result<(), Fail> {
         }
     }
     for bit in 0..32u32 {
+        let kept = if bit == 4 { Some(0x10) } else { None };
         assert_eq!(rt;
-            run(alloc, &given(4, (1 << bit, None)))?,
+            run(alloc, &given(4, (1 << bit, kept)))?,
             Seen::Right,
             "CR4 {bit}"
         );
+    }
+    for (before, v, effect) in PSE {
+        let mut case = given(4, (v, Some(v)));
+        case.cpu.cr4 = before;
+        case.answer = Answer::Asks(effect);
+        assert_eq!(rt; run(alloc, &case)?, Seen::Right, "CR4 {before} {v}");
     }
     Ok(())
 }

@@ -114,8 +114,8 @@ fn tables_are_read_in_one_range(rt: HostRuntime) -> Result<(), Fail> {
 }
 
 // The address is mapped by nothing, and its segment may be null.
-fn dropped(cpu: Cpu) -> Case {
-    let mut case = refused(cpu, NONE, INVLPG, SysEffect::DropPage(0x12345));
+fn dropped(cpu: Cpu, effect: SysEffect) -> Case {
+    let mut case = refused(cpu, NONE, INVLPG, effect);
     case.then = past(cpu, 7);
     case
 }
@@ -123,9 +123,17 @@ fn dropped(cpu: Cpu) -> Case {
 #[test]
 fn a_page_is_dropped_without_an_access(rt: HostRuntime) -> Result<(), Fail> {
     let alloc = rt.alloc();
-    assert_eq!(rt; run(alloc, &dropped(cpu_at(0)))?, Seen::Right);
+    let page = SysEffect::DropPage(0x12345);
+    assert_eq!(rt; run(alloc, &dropped(cpu_at(0), page))?, Seen::Right);
     assert_eq!(rt;
-        run(alloc, &dropped(with_segment(cpu_at(0), 3, null(0))))?,
+        run(alloc, &dropped(with_segment(cpu_at(0), 3, null(0)), page))?,
+        Seen::Right
+    );
+    // bits 31 to 22 of the address
+    let mut large = cpu_at(0);
+    large.cr4 = 0x10;
+    assert_eq!(rt;
+        run(alloc, &dropped(large, SysEffect::DropDir(0x48)))?,
         Seen::Right
     );
     assert_eq!(rt; run(alloc, &by_user(INVLPG))?, Seen::Right);
