@@ -24,6 +24,8 @@ mod machines;
 #[cfg(test)]
 mod made;
 #[cfg(test)]
+mod noted;
+#[cfg(test)]
 mod patched;
 #[cfg(test)]
 mod plain;
