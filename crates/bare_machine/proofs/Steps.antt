@@ -1,12 +1,14 @@
 -- What a step comes to, from what its parts did.
-use Rattle.std.proofs.Common.{◌≡◌, ℕ, [], Bool, true, cond, None, refl, ap}
+use Rattle.std.proofs.Common.{◌≡◌, ℕ, ◌/◌, [], Bool, true, cond, None, Some, refl, sym, ap, ◌∙◌, inl, inr}
+use Rattle.std.proofs.lemmas.Bool.Decides.{eqb_tells}
 use Rattle.std.specs.FinMap.{FinMap, empty}
 use Rattle.std.specs.Ordering.{nat_cmp}
 use Rattle.board.specs.declared.devices.Board.{Board}
 use Rattle.board.specs.Boards.{board_step, board_steps}
 use Rattle.paging.specs.declared.entry.Entry.{Entry}
 use Rattle.paging.specs.Space.{Space}
-use Rattle.paging.specs.Uses.{with_entry}
+use Rattle.paging.specs.Uses.{with_entry, without_dir}
+use Rattle.xlate_buffer.proofs.Caching.{dir_gone, dir_other}
 use Rattle.step_mem.specs.Changes.{AreWithin}
 use Rattle.step_mem.proofs.Changed.{Within_with}
 use Rattle.bare_mem.specs.Part.{IsPartOf}
@@ -21,10 +23,21 @@ use Rattle.bare_machine.proofs.Begun.{none_within}
 part_within : (frames : ℕ) (whole part : FinMap nat_cmp Entry) → AreWithin frames whole → IsPartOf part whole → AreWithin frames part
 part_within frames whole part h p = λ page e is. h page e (p.each page e is)
 
+none_some : (x : Entry) → None ≡ Some x → ⊥
+none_some x e = cc
+
+dir_within : (frames index : ℕ) (set : FinMap nat_cmp Entry) → AreWithin frames set → AreWithin frames (without_dir set index)
+dir_within frames index set h = λ page x is.
+    elim (eqb_tells (page / 1024) index) [
+      | inl t ↦ absurd (none_some x (sym (dir_gone set index page t.1) ∙ is))
+      | inr f ↦ h page x (sym (dir_other set index page f.1) ∙ is)
+    ]
+
 -- a set that loses entries stays within memory
 pub within_dropped : (frames : ℕ) (d : Dropped) (set part : FinMap nat_cmp Entry) → AreWithin frames set → IsPartOf part (dropping d set) → AreWithin frames part
 within_dropped frames dropped.Nothing set part h p = part_within frames set part h p
 within_dropped frames (dropped.Page page) set part h p = part_within frames (with_entry set page None) part (Within_with frames set page None h tt) p
+within_dropped frames (dropped.Dir index) set part h p = part_within frames (without_dir set index) part (dir_within frames index set h) p
 within_dropped frames dropped.All set part h p = part_within frames empty part (none_within frames empty refl) p
 
 -- one step of the board

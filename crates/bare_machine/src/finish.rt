@@ -13,7 +13,7 @@ ghost use Rattle.run_trace.specs.declared.items.What.{What as Shown};
 ghost use Rattle.bare_machine.specs.Machine.{state_of, Goes, IsKept};
 
 use crate::machine::Bare;
-use bare_mem::{Cached, drop_all, drop_page, settle};
+use bare_mem::{Cached, drop_all, drop_dir, drop_page, settle};
 use descriptors::Cpu;
 use machine_step::Dropped;
 use step_mem::Changes;
@@ -48,6 +48,7 @@ fn drop_from<C: Cache>(kept: &mut Cached<C>, dropped: Dropped)
     match dropped {
         Dropped::Nothing => {}
         Dropped::Page(page) => drop_page(kept, page),
+        Dropped::Dir(index) => drop_dir(kept, index),
         Dropped::All => drop_all(kept),
     }
 }

@@ -44,6 +44,7 @@ pub fn first_state() -> State<'static> {
     let control = Control {
         frames: 0,
         cr3: 0,
+        pse: false,
         wp: false,
     };
     State::new(

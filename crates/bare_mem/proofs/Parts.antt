@@ -1,11 +1,12 @@
 -- Sets that lose entries.
-use Rattle.std.proofs.Common.{◌≡◌, ◌≢◌, ℕ, sym, ap, ◌∙◌, Option, Some, None, inl, inr}
+use Rattle.std.proofs.Common.{◌≡◌, ◌≢◌, ℕ, ◌/◌, sym, ap, ◌∙◌, Option, Some, None, inl, inr}
 use Rattle.std.proofs.lemmas.Bool.Decides.{eqb_tells}
 use Rattle.std.proofs.lemmas.Cmp.{nat_cmp_total}
 use Rattle.std.specs.FinMap.{FinMap, get, empty, get-empty, same_map, nat_cmp-IsAntisymmetric}
 use Rattle.std.specs.Ordering.{nat_cmp}
 use Rattle.paging.specs.declared.entry.Entry.{Entry}
-use Rattle.paging.specs.Uses.{with_entry}
+use Rattle.paging.specs.Uses.{with_entry, without_dir}
+use Rattle.xlate_buffer.proofs.Caching.{dir_gone, dir_other}
 use Rattle.xlate_buffer.specs.Caches.{IsSameOrGone}
 use Rattle.step_mem.proofs.Changed.{get_with_same, get_with_other}
 use Rattle.step_mem.specs.Changes.{AreWithin}
@@ -35,6 +36,24 @@ all_turned old new page entry here others = same_map nat_cmp_total nat_cmp-IsAnt
       | inl t ↦ ap (get new) t.1 ∙ here ∙ sym (get_with_same old page entry) ∙ ap (get (with_entry old page entry)) (sym t.1)
       | inr f ↦ others q f.1 ∙ sym (get_with_other old page entry q f.1)
     ])
+
+-- the pages of a directory index are gone, and others are as before
+pub dir_turned : (old new : FinMap nat_cmp Entry) (index : ℕ) → ((q : ℕ) → q / 1024 ≡ index → get new q ≡ None) → ((q : ℕ) → q / 1024 ≢ index → get new q ≡ get old q) → new ≡ without_dir old index
+dir_turned old new index gone others = same_map nat_cmp_total nat_cmp-IsAntisymmetric _ _ (λ q.
+    elim (eqb_tells (q / 1024) index) [
+      | inl t ↦ gone q t.1 ∙ sym (dir_gone old index q t.1)
+      | inr f ↦ others q f.1 ∙ sym (dir_other old index q f.1)
+    ])
+
+-- a part of a set is one without the pages of a directory index
+pub dir_part : (part whole : FinMap nat_cmp Entry) (index : ℕ) → IsPartOf part whole → IsPartOf (without_dir part index) (without_dir whole index)
+dir_part part whole index h = record {
+  each = λ q x is.
+      elim (eqb_tells (q / 1024) index) [
+        | inl t ↦ absurd (none_some x (sym (dir_gone part index q t.1) ∙ is))
+        | inr f ↦ dir_other whole index q f.1 ∙ h.each q x (sym (dir_other part index q f.1) ∙ is)
+      ];
+}
 
 pub all_gone : (new : FinMap nat_cmp Entry) → ((q : ℕ) → get new q ≡ None) → new ≡ empty
 all_gone new gone = same_map nat_cmp_total nat_cmp-IsAntisymmetric _ _ (λ q. gone q ∙ sym (get-empty nat_cmp q))

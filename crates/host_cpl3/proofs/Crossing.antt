@@ -41,7 +41,7 @@ there_below write at page frame walk false t e = absurd cc
 pub page_below : (m : List ℕ) (root : ℕ) (write : Bool) (at frame : ℕ) → page_met m root write at ≡ Ok frame → at < 2 ^ 32
 unfolding page_met
 page_below m root write at frame e =
-    let lt = there_below write at (at / 4096) frame (fresh m (length m / 4096) (4096 * root) (at / 4096)) (nat_lt (at / 4096) 1048576) refl e in
+    let lt = there_below write at (at / 4096) frame (fresh m (length m / 4096) (4096 * root) false (at / 4096)) (nat_lt (at / 4096) 1048576) refl e in
     omega (arith, lt)
 
 pub begins_below : (v : View) (m : List ℕ) (r : Regs) (x : Done × List ℕ) → host_step v m r ≡ Ok x → r.eip < 2 ^ 32

@@ -25,7 +25,7 @@ found_at false true false false e x y p q s t e' = absurd cc
 found_at false true false true true x y p q s t e' = absurd cc
 
 -- where a walk found the table's word
-pub word_of : (m : List ℕ) (n cr3 page : ℕ) (entry : Entry) (d w : ℕ) → fresh m n cr3 page ≡ Found entry d w → word_place (word32 m (dir_place cr3 page)) page ≡ w
+pub word_of : (m : List ℕ) (n cr3 page : ℕ) (entry : Entry) (d w : ℕ) → fresh m n cr3 false page ≡ Found entry d w → word_place (word32 m (dir_place cr3 page)) page ≡ w
 unfolding fresh
 word_of m n cr3 page entry d w e =
     let dir : ℕ = word32 m (dir_place cr3 page) in
@@ -33,7 +33,7 @@ word_of m n cr3 page entry d w e =
     found_at (leb n (cr3 / 4096)) (has dir 1) (leb n (dir / 4096)) (has word 1) (leb n (word / 4096)) (entry_of page dir word) entry (dir_place cr3 page) (word_place dir page) d w e
 
 -- the frame of the table that a walk found is that of the directory's word
-pub table_found : (m : List ℕ) (n root page : ℕ) (entry : Entry) (d w : ℕ) → fresh m n (4096 * root) page ≡ Found entry d w → w / 4096 ≡ table_of m root page
+pub table_found : (m : List ℕ) (n root page : ℕ) (entry : Entry) (d w : ℕ) → fresh m n (4096 * root) false page ≡ Found entry d w → w / 4096 ≡ table_of m root page
 table_found m n root page entry d w e =
     let is = word_of m n (4096 * root) page entry d w e in
     let dir : ℕ = word32 m (dir_place (4096 * root) page) in
@@ -41,8 +41,8 @@ table_found m n root page entry d w e =
     ap (λ x. x / 4096) (sym is) ∙ same
 
 -- a page of the address space is walked by its words
-pub walked_is : (m : List ℕ) (root page : ℕ) → page < 2 ^ 20 → walked m root page ≡ fresh m (length m / 4096) (4096 * root) page
-walked_is m root page lt = ap (λ (b : Bool). cond b (fresh m (length m / 4096) (4096 * root) page) Absent) (let in_space : ltb page 1048576 ≡ true = grind (arith, nat_tests) in in_space)
+pub walked_is : (m : List ℕ) (root page : ℕ) → page < 2 ^ 20 → walked m root page ≡ fresh m (length m / 4096) (4096 * root) false page
+walked_is m root page lt = ap (λ (b : Bool). cond b (fresh m (length m / 4096) (4096 * root) false page) Absent) (let in_space : ltb page 1048576 ≡ true = grind (arith, nat_tests) in in_space)
 
 -- memories that agree on the directory and on the page's table
 same_walk : (m m' : List ℕ) (root page : ℕ) → page < 2 ^ 20 → length m' ≡ length m → frame m' root ≡ frame m root → frame m' (table_of m root page) ≡ frame m (table_of m root page) → walked m' root page ≡ walked m root page
@@ -59,8 +59,8 @@ same_walk m m' root page l n r t =
     in
     let cr3 : ℕ = 4096 * root in
     walked_is m' root page l
-    ∙ ap (λ k. cond (leb (k / 4096) (cr3 / 4096)) Beyond (by_dir m' (k / 4096) cr3 page (word32 m' (dir_place cr3 page)))) n
-    ∙ ap (λ x. cond (leb (length m / 4096) (cr3 / 4096)) Beyond (by_dir m' (length m / 4096) cr3 page x)) one
+    ∙ ap (λ k. cond (leb (k / 4096) (cr3 / 4096)) Beyond (by_dir m' (k / 4096) cr3 false page (word32 m' (dir_place cr3 page)))) n
+    ∙ ap (λ x. cond (leb (length m / 4096) (cr3 / 4096)) Beyond (by_dir m' (length m / 4096) cr3 false page x)) one
     ∙ ap (λ x. cond (leb (length m / 4096) (cr3 / 4096)) Beyond (cond (not (has dir 1)) Absent (cond (leb (length m / 4096) (dir / 4096)) Beyond (by_word (length m / 4096) cr3 page dir x)))) two
     ∙ sym (walked_is m root page l)
 
@@ -118,10 +118,10 @@ keep_kept buffer new tables m root page table e n is same old k q =
     ])
 
 -- what a walk has just found
-pub new_kept : (m : List ℕ) (len root page : ℕ) (e : Entry) (d w : ℕ) → len ≡ length m → page < 2 ^ 20 → Found e d w ≡ fresh m (len / 4096) (root * 4096) page → e.frame < len / 4096 → IsKept m root page e (w / 4096)
+pub new_kept : (m : List ℕ) (len root page : ℕ) (e : Entry) (d w : ℕ) → len ≡ length m → page < 2 ^ 20 → Found e d w ≡ fresh m (len / 4096) (root * 4096) false page → e.frame < len / 4096 → IsKept m root page e (w / 4096)
 new_kept m len root page e d w is l f inside =
     let cr3 : 4096 * root ≡ root * 4096 = omega arith in
-    let found : fresh m (length m / 4096) (4096 * root) page ≡ Found e d w = ap (λ n. fresh m (n / 4096) (4096 * root) page) (sym is) ∙ ap (λ r. fresh m (len / 4096) r page) cr3 ∙ sym f in
+    let found : fresh m (length m / 4096) (4096 * root) false page ≡ Found e d w = ap (λ n. fresh m (n / 4096) (4096 * root) false page) (sym is) ∙ ap (λ r. fresh m (len / 4096) r false page) cr3 ∙ sym f in
     record {
       page_in = l;
       found = ap entry_in (walked_is m root page l ∙ found);

@@ -4,7 +4,7 @@ use Rattle.std.proofs.Math.Dec.{leb}
 use Rattle.std.proofs.lemmas.Bool.Decides.{eqb_tells, leb_tells}
 use Rattle.ia32_exec.specs.declared.access.Range.{Range}
 use Rattle.paging.specs.declared.entry.Walk.{Walk}
-use Rattle.paging.specs.declared.entry.Walk.TheVariants.{Absent, Beyond, Found}
+use Rattle.paging.specs.declared.entry.Walk.TheVariants.{Absent, Beyond, Reserved, Found}
 use Rattle.paging.specs.Reached.{reached_by}
 use Rattle.host_cpl3.specs.declared.exit.Exit.{Exit}
 use Rattle.host_cpl3.specs.declared.view.View.{View}
@@ -28,6 +28,7 @@ rights false h false there at f frame e = absurd cc
 walk_leads : (write : Bool) (at : ℕ) (w : Walk) (frame : ℕ) → by_walk write at w ≡ Ok frame → reached_by false w ≡ Some frame
 walk_leads write at Absent frame e = absurd cc
 walk_leads write at Beyond frame e = absurd cc
+walk_leads write at Reserved frame e = absurd cc
 walk_leads write at (Found entry d t) frame e = rights entry.user entry.write write true at entry.frame frame e
 
 -- the page of an access that was met is there for a read

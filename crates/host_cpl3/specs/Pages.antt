@@ -1,10 +1,10 @@
 -- Where addresses lead, by a walk of the view's tables as they stand, with a user's rights, over all frames of the
--- host's memory `m`. `root` is the frame of the directory.
+-- host's memory `m`. Its pages are of 4 KB. `root` is the frame of the directory.
 use Rattle.std.specs.Prelude.{ℕ, ◌+◌, ◌*◌, ◌/◌, ◌%◌, ◌^◌, List, length, Bool, true, false, nat_lt, Option, Some, None, Ok, Err, if◌then◌else◌}
 use Rattle.guest_ram.specs.Bytes.{byte}
 use Rattle.paging.specs.declared.entry.Entry.{Entry}
 use Rattle.paging.specs.declared.entry.Walk.{Walk}
-use Rattle.paging.specs.declared.entry.Walk.TheVariants.{Absent, Beyond, Found}
+use Rattle.paging.specs.declared.entry.Walk.TheVariants.{Absent, Beyond, Reserved, Found}
 use Rattle.paging.specs.Fresh.{fresh}
 use Rattle.paging.specs.Reached.{reached_by}
 use Rattle.paging.specs.Uses.{fault_code}
@@ -14,17 +14,19 @@ use Rattle.host_cpl3.specs.Met.{Met}
 
 -- behind the last page of the address space there is none
 abbrev pub walked : List ℕ → ℕ → ℕ → Walk
-walked m root page = if nat_lt page (2 ^ 20) then fresh m (length m / 4096) (4096 * root) page else Absent
+walked m root page = if nat_lt page (2 ^ 20) then fresh m (length m / 4096) (4096 * root) false page else Absent
 
 -- a page that isn't there lacks one of its words, or has a table or a frame outside the memory
 abbrev pub is_there : Walk → Bool
 is_there Absent = false
 is_there Beyond = false
+is_there Reserved = false
 is_there (Found entry dir_at word_at) = true
 
 abbrev pub entry_in : Walk → Option Entry
 entry_in Absent = None
 entry_in Beyond = None
+entry_in Reserved = None
 entry_in (Found entry dir_at word_at) = Some entry
 
 -- the page fault of an access whose first byte in the page is at an address

@@ -57,7 +57,7 @@ impl Walks {
             return Some(entry);
         }
         self.count = self.count.wrapping_add(1);
-        match walk(ram, ram.len() / 4096, root * 4096, page) {
+        match walk(ram, ram.len() / 4096, root * 4096, false, page) {
             Walk::Found { entry, word_at, .. } => {
                 self.tables[page as usize % 64] = word_at / 4096;
                 self.buffer.keep(entry);

@@ -15,6 +15,7 @@ use Rattle.ia32_exec.specs.declared.outcome.Outcome.TheVariants as outcomes
 use Rattle.ia32_exec.specs.Stack.{taken}
 use Rattle.ia32_exec.specs.Effect.{effect, ranges_of}
 use Rattle.descriptors.specs.Form.{descriptor_of, other_descriptor, is_data, is_of_system, is_foreign_form, dpl_of}
+use Rattle.descriptors.specs.Controls.{pse_of}
 use Rattle.descriptors.specs.declared.cpu.Cpu.{Cpu}
 use Rattle.descriptors.specs.declared.cpu.Hidden.{Hidden}
 use Rattle.descriptors.specs.declared.form.Descriptor.{Descriptor}
@@ -37,9 +38,9 @@ use Rattle.sys_exec.specs.declared.iret.Popped.{Popped}
 use Rattle.sys_exec.specs.Operand.{protection_0, kernel_alone, selector, selector_in, operand_reached, long_of, pulled, pushed, past, past_pop, next}
 use Rattle.sys_exec.specs.Segment.{protection, form_stop, absent, loading, ends_if, selected, marked, load_data, load_task, stack_tests, jump_tests, return_tests, find_stack, find_return, find_jump}
 use Rattle.sys_exec.specs.Iret.{is_within, with_interrupt, with_level, new_flags, kept_segment, popped, popped_outer, return_same, return_outer, interrupt_return}
-use Rattle.sys_exec.specs.Control.{control_stop, control_0_needed, control_0_refused, control_3_refused, control_of, load_control, write_control, read_control}
+use Rattle.sys_exec.specs.Control.{control_stop, control_0_needed, control_0_refused, control_3_refused, changes_pse, control_of, load_control, write_control, read_control}
 use Rattle.sys_exec.specs.Flags.{with_flags, clear_interrupts, set_interrupts, halt, push_flags, pop_flags}
-use Rattle.sys_exec.specs.Table.{table_at, load_gdt, load_idt, load_tr, dropped, drop_page}
+use Rattle.sys_exec.specs.Table.{table_at, load_gdt, load_idt, load_tr, drop_at, dropped, drop_page}
 use Rattle.sys_exec.specs.Move.{selector_kept, read_seg, load_by, load_seg, push_seg, pop_seg, far_jump}
 use Rattle.sys_exec.specs.Port.{port_in, port_out}
 use Rattle.sys_exec.specs.Branch.{return_to, jump_to, called_through, call_to}
@@ -254,13 +255,17 @@ module _ (cpu : Cpu) (able : IsAble cpu) where
   of_read_control (operands.Register k) (operands.Control number) len = any_yields (kernel_alone cpu) (λ done. any_yields (control_of cpu number) (λ v. goes_on _ refl refl refl))
   of_read_control a b len = record { each = λ s. tt }
 
+  drops_all : (new : Cpu) (changes : Bool) → new.cpl ≡ cpu.cpl → Stays cpu new (cond changes effects.DropAll effects.Next)
+  drops_all new true same = same
+  drops_all new false same = tt
+
   of_load_control : (len number v : ℕ) → Yields (IsLeft cpu) (load_control (past cpu len) number v)
   unfolding load_control
   of_load_control len number v =
       if_yields (number == 0) (any_yields (unless control_stop (bit_and v control_0_needed == control_0_needed && bit_and v control_0_refused == 0)) (λ done. goes_on _ refl refl refl))
       (if_yields (number == 2) (goes_on _ refl refl refl)
       (if_yields (number == 3) (any_yields (unless control_stop (bit_and v control_3_refused == 0)) (λ done. gives_yields (record { suits = same _ refl refl refl; stays = refl })))
-      (if_yields (number == 4) (any_yields (unless control_stop (v == 0)) (λ done. goes_on _ refl refl refl))
+      (if_yields (number == 4) (any_yields (unless control_stop (v == 0 || v == 0x10)) (λ done. gives_yields (record { suits = same _ refl refl refl; stays = drops_all (record (past cpu len) { cr4 = v }) (changes_pse (past cpu len) v) refl })))
       (record { each = λ s. tt }))))
 
   of_write_control : (a b : Operand) (len : ℕ) → Yields (IsLeft cpu) (write_control a b len cpu)
@@ -282,8 +287,12 @@ module _ (cpu : Cpu) (able : IsAble cpu) where
   unfolding load_tr
   of_tr a len = any_yields (kernel_alone cpu) (λ done. any_yields (selector cpu a) (λ sel. any_yields (load_task cpu sel) (λ task. goes_on _ refl refl refl)))
 
+  drops_stay : (new : Cpu) (pse : Bool) (at : ℕ) → new.cpl ≡ cpu.cpl → Stays cpu new (drop_at pse at)
+  drops_stay new true at same = same
+  drops_stay new false at same = same
+
   of_dropped : (len : ℕ) (a : Operand) → Yields (IsLeft cpu) (dropped len cpu a)
-  of_dropped len (operands.Memory a) = gives_yields (record { suits = same _ refl refl refl; stays = refl })
+  of_dropped len (operands.Memory a) = gives_yields (record { suits = same _ refl refl refl; stays = drops_stay (past cpu len) (pse_of cpu) (address_of a cpu.regs) refl })
   of_dropped len a = record { each = λ s. tt }
 
   of_drop_page : (a : Operand) (len : ℕ) → Yields (IsLeft cpu) (drop_page a len cpu)

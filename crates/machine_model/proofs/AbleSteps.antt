@@ -137,6 +137,7 @@ module _ (m : Setting) (b : State) (text count : ℕ) (own : Own) (mode : m.mode
   of_effect c effects.Next cpu s h k = chosen (may_leave m.mode b.cpu cpu) (went [] (Some c) b cpu b.board s) (Stands stops.UserFlags) (of_next cpu h) tt
   of_effect c effects.Halted cpu s h k = at_level b.cpu cpu h k
   of_effect c (effects.DropPage page) cpu s h k = at_level b.cpu cpu h k
+  of_effect c (effects.DropDir index) cpu s h k = at_level b.cpu cpu h k
   of_effect c effects.DropAll cpu s h k = at_level b.cpu cpu h k
   of_effect c (effects.PortIn port wide) cpu s h k = of_read c cpu port wide s (port_read b.board port wide) (at_level b.cpu cpu h k)
   of_effect c (effects.PortOut port wide value) cpu s h k = of_write c cpu (out_item port wide value) s (port_written b.board port wide value) (at_level b.cpu cpu h k)

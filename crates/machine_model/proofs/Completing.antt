@@ -166,6 +166,7 @@ module _ (m : Setting) (b : State) (P : Completed → Type 0) where
   of_effect c effects.Next cpu s p = chosen P (may_leave m.mode b.cpu cpu) (went [] (Some c) b cpu b.board s) (Stands stops.UserFlags) (λ may. in_some P c p) (λ may_not. tt)
   of_effect c effects.Halted cpu s p = in_some P c p
   of_effect c (effects.DropPage page) cpu s p = in_some P c p
+  of_effect c (effects.DropDir index) cpu s p = in_some P c p
   of_effect c effects.DropAll cpu s p = in_some P c p
   of_effect c (effects.PortIn port wide) cpu s p = of_read c cpu port wide s (port_read b.board port wide) p
   of_effect c (effects.PortOut port wide value) cpu s p = of_write c cpu (out_item port wide value) s (port_written b.board port wide value) p

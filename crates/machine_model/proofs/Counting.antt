@@ -57,6 +57,7 @@ effect_counts : (m : Setting) (b : State) (c : Completed) (e : SysEffect) (cpu :
 effect_counts m b c effects.Next cpu s = chosen (b.step + 1) (may_leave m.mode b.cpu cpu) (went [] (Some c) b cpu b.board s) (Stands stops.UserFlags) refl tt
 effect_counts m b c effects.Halted cpu s = refl
 effect_counts m b c (effects.DropPage page) cpu s = refl
+effect_counts m b c (effects.DropDir index) cpu s = refl
 effect_counts m b c effects.DropAll cpu s = refl
 effect_counts m b c (effects.PortIn port wide) cpu s = read_counts b c cpu port wide s (port_read b.board port wide)
 effect_counts m b c (effects.PortOut port wide value) cpu s = write_counts b c cpu (out_item port wide value) s (port_written b.board port wide value)

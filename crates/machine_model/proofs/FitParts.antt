@@ -1,5 +1,5 @@
 -- What keeps a processor fit: its flags, control registers and segments, and the segments that an instruction finds.
-use Rattle.std.proofs.Common.{◌≡◌, ℕ, ◌+◌, ◌*◌, ◌/◌, ◌%◌, ◌<◌, ◌==◌, Bool, true, false, cond, not, ◌||◌, refl, sym, ap, subst, ◌∙◌, inl, List, length, All, slice_index_or, slice_set, nat_lt, bit_and, bit_or, arith}
+use Rattle.std.proofs.Common.{◌≡◌, ℕ, ◌+◌, ◌*◌, ◌/◌, ◌%◌, ◌<◌, ◌==◌, Bool, true, false, cond, not, ◌||◌, refl, sym, ap, subst, ◌∙◌, ◌⊎◌, inl, List, length, All, slice_index_or, slice_set, nat_lt, bit_and, bit_or, arith}
 use Rattle.std.proofs.lemmas.Bool.Decides.{nat_tests}
 use Rattle.std.proofs.lemmas.List.{get_or-set_other, get_or-set_same}
 use Rattle.std.proofs.lemmas.Nat.{and_block, and_or_apart, and_mask}
@@ -138,7 +138,7 @@ module _ (cpu : Cpu) (whole : IsWhole cpu) where
         on = ap (λ x. bit_and x 2147483665) c0 ∙ fit.controls.on;
         others = ap (λ x. bit_and x 2147155904) c0 ∙ fit.controls.others;
         directory = ap (λ x. bit_and x 4071) c3 ∙ fit.controls.directory;
-        extensions = c4 ∙ fit.controls.extensions;
+        extensions = subst (λ (n : ℕ). (n ≡ 0) ⊎ (n ≡ 16)) (sym c4) fit.controls.extensions;
       };
       halted = λ e. l ∙ fit.halted (sym h ∙ e);
     };

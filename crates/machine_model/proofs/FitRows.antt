@@ -1,5 +1,5 @@
 -- Each instruction leaves a processor fit.
-use Rattle.std.proofs.Common.{◌≡◌, ℕ, ◌%◌, ◌==◌, Bool, true, false, cond, not, ◌&&◌, refl, sym, ap, subst, ◌∙◌, List, length, Ok, Err, All, slice_index_or, slice_set, nat_lt, bit_and, bit_or, arith}
+use Rattle.std.proofs.Common.{◌≡◌, ℕ, ◌%◌, ◌==◌, Bool, true, false, cond, not, ◌&&◌, refl, sym, ap, subst, ◌∙◌, ◌⊎◌, ◌||◌, inl, inr, List, length, Ok, Err, All, slice_index_or, slice_set, nat_lt, bit_and, bit_or, arith}
 use Rattle.std.proofs.lemmas.Bool.Decides.{nat_tests}
 use Rattle.std.proofs.lemmas.List.{length-set}
 use Rattle.std.proofs.lemmas.List.Elements.{All-set}
@@ -32,7 +32,7 @@ use Rattle.sys_exec.specs.declared.iret.Popped.{Popped}
 use Rattle.sys_exec.specs.Operand.{protection_0, kernel_alone, selector, selector_in, operand_reached, long_of, pulled, pushed, past, past_pop, reg_at, next}
 use Rattle.sys_exec.specs.Segment.{marked, load_task}
 use Rattle.sys_exec.specs.Iret.{is_within, new_flags, kept_segment, popped, popped_outer, return_same, return_outer, interrupt_return}
-use Rattle.sys_exec.specs.Control.{control_stop, control_0_needed, control_0_refused, control_3_refused, control_of, load_control, write_control, read_control}
+use Rattle.sys_exec.specs.Control.{control_stop, control_0_needed, control_0_refused, control_3_refused, changes_pse, control_of, load_control, write_control, read_control}
 use Rattle.sys_exec.specs.Flags.{with_flags, clear_interrupts, set_interrupts, halt, push_flags, pop_flags}
 use Rattle.sys_exec.specs.Table.{table_at, load_gdt, load_idt, load_tr, dropped, drop_page}
 use Rattle.sys_exec.specs.Move.{selector_kept, read_seg, load_by, load_seg, push_seg, pop_seg, far_jump}
@@ -163,6 +163,13 @@ module _ (cpu : Cpu) (whole : IsWhole cpu) where
   of_read_control (operands.Register k) (operands.Control number) len = any_yields (kernel_alone cpu) (λ done. any_yields (control_of cpu number) (λ v. goes_on _ refl refl refl refl refl refl refl))
   of_read_control a b len = record { each = λ s. tt }
 
+  control_4 : (v : ℕ) → (v == 0 || v == 0x10) ≡ true → (v ≡ 0) ⊎ (v ≡ 16)
+  control_4 v t = one_of (v == 0) refl t
+    where
+      one_of : (b : Bool) → (v == 0) ≡ b → (b || v == 0x10) ≡ true → (v ≡ 0) ⊎ (v ≡ 16)
+      one_of true e u = inl (eq_told v 0 e)
+      one_of false e u = inr (eq_told v 16 u)
+
   of_load_control : (len number v : ℕ) → Yields (λ (d : Done). IsWhole d.cpu) (load_control (past cpu len) number v)
   unfolding load_control
   of_load_control len number v =
@@ -183,11 +190,12 @@ module _ (cpu : Cpu) (whole : IsWhole cpu) where
         directory = eq_told (bit_and v control_3_refused) 0 t;
         extensions = fit.controls.extensions;
       }) refl refl refl refl)))
-      (if_yields (number == 4) (then_yields (unless_yields control_stop (v == 0)) (λ done t. goes (record after { cr4 = v }) (controlled (record after { cr4 = v }) (record {
+      (if_yields (number == 4) (then_yields (unless_yields control_stop (v == 0 || v == 0x10)) (λ done t. gives_yields {x = record { cpu = record after { cr4 = v }; effect = cond (changes_pse after v) effects.DropAll effects.Next }}
+      (controlled (record after { cr4 = v }) (record {
         on = fit.controls.on;
         others = fit.controls.others;
         directory = fit.controls.directory;
-        extensions = eq_told v 0 t;
+        extensions = control_4 v t;
       }) refl refl refl refl)))
       (record { each = λ s. tt }))))
 

@@ -155,6 +155,7 @@ module _ (m : Setting) (b : State) where
   of_effect c effects.Next cpu s h = chosen (may_leave m.mode b.cpu cpu) (step.went [] (Some c) b cpu b.board s) (Stands stops.UserFlags) (λ leave. h) (λ no. tt)
   of_effect c effects.Halted cpu s h = h
   of_effect c (effects.DropPage page) cpu s h = h
+  of_effect c (effects.DropDir index) cpu s h = h
   of_effect c effects.DropAll cpu s h = h
   of_effect c (effects.PortIn port wide) cpu s h = of_read c cpu port wide s (port_read b.board port wide) h
   of_effect c (effects.PortOut port wide value) cpu s h = of_write c cpu (out_item port wide value) s (port_written b.board port wide value) h

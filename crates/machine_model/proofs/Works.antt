@@ -151,6 +151,7 @@ effect_agrees : deliveries.DeliveriesAgree → (m : Setting) (b : State) (comple
 effect_agrees law m b completed effects.Next cpu s = guarded (may_leave m.mode b.cpu cpu) (went [] (Some completed) b cpu b.board s) stops.UserFlags refl
 effect_agrees law m b completed effects.Halted cpu s = inr refl
 effect_agrees law m b completed (effects.DropPage page) cpu s = inr refl
+effect_agrees law m b completed (effects.DropDir index) cpu s = inr refl
 effect_agrees law m b completed effects.DropAll cpu s = inr refl
 effect_agrees law m b completed (effects.PortIn port wide) cpu s = inr refl
 effect_agrees law m b completed (effects.PortOut port wide value) cpu s = inr refl
@@ -163,6 +164,7 @@ stopped_effect m b completed (effects.Stop stop) cpu s h = h
 stopped_effect m b completed effects.Next cpu s h = absurd (clash h)
 stopped_effect m b completed effects.Halted cpu s h = absurd (clash h)
 stopped_effect m b completed (effects.DropPage page) cpu s h = absurd (clash h)
+stopped_effect m b completed (effects.DropDir index) cpu s h = absurd (clash h)
 stopped_effect m b completed effects.DropAll cpu s h = absurd (clash h)
 stopped_effect m b completed (effects.PortIn port wide) cpu s h = absurd (clash h)
 stopped_effect m b completed (effects.PortOut port wide value) cpu s h = absurd (clash h)

@@ -100,5 +100,8 @@ pub record ExamplesHold : Type 0 where
   pub before : is_start (image_of (0x90 ∷ 0xEB ∷ 0xFE ∷ [])) 0x0FFFFFFF ≡ false
   pub behind : is_start (image_of (0x90 ∷ 0xEB ∷ 0xFE ∷ [])) 0x10000003 ≡ false
   -- a directory in frame 0 whose first word names frame 1, and whose second word is clear
-  pub both_read : tables_read (3 ∷ 16 ∷ 0 ∷ 0 ∷ 0 ∷ 0 ∷ 0 ∷ 0 ∷ []) 2 0 0 ≡ 0 ∷ 1 ∷ []
-  pub directory_read : tables_read (3 ∷ 16 ∷ 0 ∷ 0 ∷ 0 ∷ 0 ∷ 0 ∷ 0 ∷ []) 2 0 1024 ≡ 0 ∷ []
+  pub both_read : tables_read (3 ∷ 16 ∷ 0 ∷ 0 ∷ 0 ∷ 0 ∷ 0 ∷ 0 ∷ []) 2 0 false 0 ≡ 0 ∷ 1 ∷ []
+  pub directory_read : tables_read (3 ∷ 16 ∷ 0 ∷ 0 ∷ 0 ∷ 0 ∷ 0 ∷ 0 ∷ []) 2 0 false 1024 ≡ 0 ∷ []
+  -- with bit 7 the first word names a table, or under PSE maps a page of 4 MB
+  pub table_read : tables_read (131 ∷ 16 ∷ 0 ∷ 0 ∷ []) 2 0 false 0 ≡ 0 ∷ 1 ∷ []
+  pub no_table_read : tables_read (131 ∷ 16 ∷ 0 ∷ 0 ∷ []) 2 0 true 0 ≡ 0 ∷ []

@@ -3,6 +3,7 @@ use Rattle.std.specs.Prelude.{◌≡◌, ◌⊎◌, ℕ, Bool, true, false, List
 use Rattle.std.specs.Option.{ForSome}
 use Rattle.std.specs.FinMap.{FinMap, get, empty}
 use Rattle.std.specs.Ordering.{nat_cmp}
+use Rattle.descriptors.specs.Controls.{pse_of}
 use Rattle.descriptors.specs.declared.cpu.Cpu.{Cpu}
 use Rattle.paging.specs.declared.entry.Entry.{Entry}
 use Rattle.paging.specs.declared.entry.Walk.TheVariants.{Found}
@@ -54,6 +55,7 @@ space_at_start mode frames cpu ram set =
       frames = frames;
       set = set;
       cr3 = cpu.cr3;
+      pse = pse_of cpu;
       wp = has cpu.cr0 65536;
       mode = mode;
       pages = 0;
@@ -64,12 +66,13 @@ space_at_start mode frames cpu ram set =
       earlier = record { start = 0; len = 0; set = set };
     }
 
--- a fresh walk of a page finds this entry, though its dirty flag may be clear in the entry, with the accessed flag set in both words
+-- A fresh walk of a page finds this entry, though its dirty flag may be clear in the entry, with the accessed flag set
+-- in both words, which for a page of 4 MB are one word.
 pub record IsCacheable (s : Setting) (b : State) (page : ℕ) (e : Entry) : Type 0 where
   pub dir_at : ℕ
   pub word_at : ℕ
   pub dirty : Bool
-  pub found : fresh b.ram s.frames b.cpu.cr3 page ≡ Found (record e { dirty = dirty }) dir_at word_at
+  pub found : fresh b.ram s.frames b.cpu.cr3 (pse_of b.cpu) page ≡ Found (record e { dirty = dirty }) dir_at word_at
   pub accessed : (has (word32 b.ram dir_at) 32 ≡ true) × (has (word32 b.ram word_at) 32 ≡ true)
   pub is_dirty : e.dirty ≡ true → dirty ≡ true
 

@@ -15,6 +15,7 @@ use Rattle.descriptors.specs.declared.cpu.Cpu.{Cpu}
 use Rattle.paging.specs.declared.entry.Entry.{Entry}
 use Rattle.paging.specs.Space.{Space}
 use Rattle.paging.specs.Fresh.{has}
+use Rattle.paging.specs.Uses.{without_dir}
 use Rattle.paging.specs.Work.{Outcome}
 use Rattle.sys_exec.specs.declared.effect.Refusal.{Refusal}
 use Rattle.sys_exec.specs.declared.effect.Refusal.TheVariants as refusal
@@ -122,6 +123,7 @@ abbrev pub after_effect : Setting → State → Completed → SysEffect → Cpu 
 after_effect m b completed effects.Next cpu s = ended m completed b cpu s
 after_effect m b completed effects.Halted cpu s = went [] (Some completed) b cpu b.board s
 after_effect m b completed (effects.DropPage page) cpu s = went [] (Some completed) b cpu b.board (record s { set = remove s.set page })
+after_effect m b completed (effects.DropDir index) cpu s = went [] (Some completed) b cpu b.board (record s { set = without_dir s.set index })
 after_effect m b completed effects.DropAll cpu s = went [] (Some completed) b cpu b.board (record s { set = empty })
 after_effect m b completed (effects.PortIn port wide) cpu s = after_read b completed cpu port wide s (port_read b.board port wide)
 after_effect m b completed (effects.PortOut port wide value) cpu s =

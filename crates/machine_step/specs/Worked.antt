@@ -5,6 +5,7 @@ use Rattle.std.specs.Ordering.{nat_cmp}
 use Rattle.ia32_types.specs.declared.stop.Stop.{Stop}
 use Rattle.paging.specs.declared.entry.Entry.{Entry}
 use Rattle.paging.specs.Space.{Space}
+use Rattle.paging.specs.Uses.{without_dir}
 use Rattle.board.specs.declared.devices.Board.{Board}
 use Rattle.run_trace.specs.declared.items.What.{What}
 use Rattle.machine_model.specs.State.{State}
@@ -32,10 +33,12 @@ completed_by (Some done) = Some (completed_of done)
 abbrev pub dropping : Dropped → FinMap nat_cmp Entry → FinMap nat_cmp Entry
 dropping dropped.Nothing set = set
 dropping (dropped.Page page) set = remove set page
+dropping (dropped.Dir index) set = without_dir set index
 dropping dropped.All set = empty
 
 abbrev pub IsDropped : Dropped → Type 0
 IsDropped (dropped.Page page) = page < 2 ^ 20
+IsDropped (dropped.Dir index) = index < 2 ^ 10
 IsDropped _ = Unit {0}
 
 -- the step went, and left this board and this memory

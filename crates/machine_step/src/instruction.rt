@@ -120,6 +120,7 @@ fn follow<B: Kept>(
         SysEffect::Next => ended(rules, completed, before, cpu),
         SysEffect::Halted => done(completed, cpu, Dropped::Nothing),
         SysEffect::DropPage(page) => done(completed, cpu, Dropped::Page(page)),
+        SysEffect::DropDir(index) => done(completed, cpu, Dropped::Dir(index)),
         SysEffect::DropAll => done(completed, cpu, Dropped::All),
         SysEffect::PortIn { port, wide } => read(cpu, board, completed, port, wide),
         SysEffect::PortOut { port, wide, value } => write(cpu, board, completed, port, wide, value),

@@ -105,6 +105,7 @@ pub fn begin<'g, B: Kept>(
     let control = Control {
         frames,
         cr3: cpu.cr3,
+        pse: cpu.pse(),
         wp: cpu.cr0 / 65536 % 2 == 1,
     };
     State::new(control, guard)
@@ -133,6 +134,7 @@ fn begin_again<'g, B: Kept>(
     let control = Control {
         frames,
         cr3: cpu.cr3,
+        pse: cpu.pse(),
         wp: cpu.cr0 / 65536 % 2 == 1,
     };
     state.renew(control, guard);

@@ -17,6 +17,8 @@ pub enum Seen {
 pub enum Dropped {
     Nothing,
     Page(u32),
+    /// The pages of a directory index.
+    Dir(u32),
     All,
 }
 

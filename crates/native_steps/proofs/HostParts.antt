@@ -54,7 +54,7 @@ module _ (memory : List ℕ) (root : ℕ) where
 
   -- within the address space that is the tables' frame
   leads_so : (page : ℕ) → page < 2 ^ 20 → (write : Bool) → reached_by write (walked memory root page) ≡ reached memory (length memory / 4096) root page write
-  leads_so page lt write = ap (reached_by write) (chosen (nat_lt page 1048576) (fresh memory (length memory / 4096) (4096 * root) page) Absent (lt_true page 1048576 lt))
+  leads_so page lt write = ap (reached_by write) (chosen (nat_lt page 1048576) (fresh memory (length memory / 4096) (4096 * root) false page) Absent (lt_true page 1048576 lt))
 
   pub leads_told : (page : ℕ) → page < 2 ^ 20 → (write : Bool) (frame : ℕ) → Leads write page frame → reached memory (length memory / 4096) root page write ≡ Some frame
   leads_told page lt write frame e = sym (leads_so page lt write) ∙ e

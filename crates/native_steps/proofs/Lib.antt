@@ -21,6 +21,7 @@ pub mod Deriving
 pub mod SiteJumps
 pub mod Clear
 pub mod Marks
+pub mod Walks
 pub mod Walking
 pub mod Through
 pub mod Repeating

@@ -12,13 +12,14 @@ use Rattle.ia32_decode.specs.declared.answer.Decoded.{Decoded}
 use Rattle.ia32_decode.specs.declared.answer.Decoded.TheVariants as begins
 use Rattle.ia32_decode.specs.Decoding.{decoded}
 use Rattle.ia32_decode.specs.Front.{longest, front_len}
+use Rattle.descriptors.specs.Controls.{pse_of}
 use Rattle.paging.specs.declared.entry.Access.{Access}
 use Rattle.paging.specs.declared.entry.Entry.{Entry}
 use Rattle.paging.specs.declared.entry.Touch.{Touch}
 use Rattle.paging.specs.declared.entry.Touch.TheVariants.{Ready, Stop}
 use Rattle.paging.specs.declared.entry.Walk.{Walk}
-use Rattle.paging.specs.declared.entry.Walk.TheVariants.{Absent, Beyond, Found}
-use Rattle.paging.specs.Fresh.{has, dir_place, word_place, fresh, tables_read, grants, flagged}
+use Rattle.paging.specs.declared.entry.Walk.TheVariants.{Absent, Beyond, Reserved, Found}
+use Rattle.paging.specs.Fresh.{has, dir_place, word_place, large_frame, fresh, tables_read, grants, flagged}
 use Rattle.paging.specs.Space.{Space, place, place_by}
 use Rattle.paging.specs.Uses.{tables_of, Decision, is_barred, dirtied, decided, settled, usable, by_entry, page_uses, and_then, unready, made_ready, fetches}
 use Rattle.machine_model.specs.State.{Setting, State, space_at_start, wedge_mode}
@@ -27,7 +28,8 @@ use Rattle.machine_model.specs.Clash.{access_of, fetch_uses, range_uses, uses_by
 use Rattle.native_steps.specs.Forward.{wp_of}
 use Rattle.native_steps.specs.Looking.{marked, Seen, found_by, seen_by, seen, bytes_seen, uses_on, uses_behind, uses_from, uses_seen, UsesAreSeen}
 use Rattle.native_steps.proofs.Choices.{chosen, passed_by, eq_true, is_false, eq_told}
-use Rattle.native_steps.proofs.Marks.{AreMarked, IsWalk, walk_parts, walk_is, dir_in, word_in, has_1, has_2, has_4}
+use Rattle.native_steps.proofs.Marks.{AreMarked}
+use Rattle.native_steps.proofs.Walks.{IsByTable, IsLarge, IsWalk, ByTable, Large, walk_parts, walk_is, dir_in, word_in, has_1, has_2, has_4, same_size, same_large, same_reserved}
 use Rattle.native_steps.proofs.Walking.{IsWithin, decided_readied, usable_parts}
 use Rattle.native_steps.proofs.Through.{on_ready, pair, taken_parts, fetch_through}
 use Rattle.native_steps.proofs.Fetching.{IsFetch, fetch_parts, by_parts, IsIn, IsPast, fetching_went}
@@ -35,8 +37,8 @@ use Rattle.native_steps.proofs.Repeating.{front_is}
 
 -- ---- walks of a memory and of the one with more flags
 
-walk_before : (x y : List ℕ) (frames cr3 page : ℕ) (e : Entry) (d t : ℕ) → AreMarked x y → page < 2 ^ 20 → 4096 * frames ≤ length x → IsWalk y frames cr3 page e d t → (dirty : Bool) × IsWalk x frames cr3 page (record e { dirty = dirty }) d t
-walk_before x y frames cr3 page e d t m small room h =
+table_before : (x y : List ℕ) (frames cr3 : ℕ) (pse : Bool) (page : ℕ) (e : Entry) (d t : ℕ) → AreMarked x y → page < 2 ^ 20 → 4096 * frames ≤ length x → IsByTable y frames cr3 pse page e d t → (dirty : Bool) × IsByTable x frames cr3 pse page (record e { dirty = dirty }) d t
+table_before x y frames cr3 pse page e d t m small room h =
     let dp = dir_in frames cr3 page h.root small in
     let old : ℕ = word32 x (dir_place cr3 page) in
     let new : ℕ = word32 y (dir_place cr3 page) in
@@ -58,6 +60,7 @@ walk_before x y frames cr3 page e d t m small room h =
       record {
         root = h.root;
         present = sym (has_1 old new dir.low) ∙ h.present;
+        small = sym (same_size pse old new dir.size) ∙ h.small;
         table = table_in;
         word_present = sym (has_1 old_word new_word low_word) ∙ h.word_present;
         word_in = omega (arith, within, frame_word);
@@ -73,16 +76,47 @@ walk_before x y frames cr3 page e d t m small room h =
       },
     )
 
-found_before : (x y : List ℕ) (frames cr3 page : ℕ) (access : Access) (wp : Bool) (s : Seen) → AreMarked x y → page < 2 ^ 20 → 4096 * frames ≤ length x
-    → found_by access wp (fresh y frames cr3 page) ≡ Some s → found_by access wp (fresh x frames cr3 page) ≡ Some s
-found_before x y frames cr3 page access wp s m small room h = by_walk (fresh y frames cr3 page) refl h
+large_before : (x y : List ℕ) (frames cr3 : ℕ) (pse : Bool) (page : ℕ) (e : Entry) (d t : ℕ) → AreMarked x y → page < 2 ^ 20 → 4096 * frames ≤ length x → IsLarge y frames cr3 pse page e d t → (dirty : Bool) × IsLarge x frames cr3 pse page (record e { dirty = dirty }) d t
+large_before x y frames cr3 pse page e d t m small room h =
+    let dp = dir_in frames cr3 page h.root small in
+    let old : ℕ = word32 x (dir_place cr3 page) in
+    let new : ℕ = word32 y (dir_place cr3 page) in
+    let dir = m.each (dir_place cr3 page) dp.0 (omega (arith, dp.1, room)) in
+    let frame : large_frame new page ≡ large_frame old page = same_large old new page dir.frame in
+    let within = h.frame_in in
+    let dirty : Bool = has old 64 in (
+      dirty,
+      record {
+        root = h.root;
+        present = sym (has_1 old new dir.low) ∙ h.present;
+        large = sym (same_size pse old new dir.size) ∙ h.large;
+        clear = sym (same_reserved old new dir.frame) ∙ h.clear;
+        frame_in = omega (arith, within, frame);
+        entry_is =
+            ap (λ f. record { page = page; frame = f; user = has old 4; write = has old 2; dirty = dirty }) (sym frame)
+            ∙ ap (λ u. record { page = page; frame = large_frame new page; user = u; write = has old 2; dirty = dirty }) (sym (has_4 old new dir.low))
+            ∙ ap (λ u. record { page = page; frame = large_frame new page; user = has new 4; write = u; dirty = dirty }) (sym (has_2 old new dir.low))
+            ∙ ap (λ (z : Entry). record z { dirty = dirty }) h.entry_is;
+        dir_is = h.dir_is;
+        word_is = h.word_is;
+      },
+    )
+
+walk_before : (x y : List ℕ) (frames cr3 : ℕ) (pse : Bool) (page : ℕ) (e : Entry) (d t : ℕ) → AreMarked x y → page < 2 ^ 20 → 4096 * frames ≤ length x → IsWalk y frames cr3 pse page e d t → (dirty : Bool) × IsWalk x frames cr3 pse page (record e { dirty = dirty }) d t
+walk_before x y frames cr3 pse page e d t m small room (ByTable h) = let p = table_before x y frames cr3 pse page e d t m small room h in (p.0, ByTable p.1)
+walk_before x y frames cr3 pse page e d t m small room (Large h) = let p = large_before x y frames cr3 pse page e d t m small room h in (p.0, Large p.1)
+
+found_before : (x y : List ℕ) (frames cr3 : ℕ) (pse : Bool) (page : ℕ) (access : Access) (wp : Bool) (s : Seen) → AreMarked x y → page < 2 ^ 20 → 4096 * frames ≤ length x
+    → found_by access wp (fresh y frames cr3 pse page) ≡ Some s → found_by access wp (fresh x frames cr3 pse page) ≡ Some s
+found_before x y frames cr3 pse page access wp s m small room h = by_walk (fresh y frames cr3 pse page) refl h
   where
-    by_walk : (w : Walk) → fresh y frames cr3 page ≡ w → found_by access wp w ≡ Some s → found_by access wp (fresh x frames cr3 page) ≡ Some s
+    by_walk : (w : Walk) → fresh y frames cr3 pse page ≡ w → found_by access wp w ≡ Some s → found_by access wp (fresh x frames cr3 pse page) ≡ Some s
     by_walk Absent is g = absurd cc
     by_walk Beyond is g = absurd cc
+    by_walk Reserved is g = absurd cc
     by_walk (Found e d t) is g =
-        let p = walk_before x y frames cr3 page e d t m small room (walk_parts y frames cr3 page e d t is) in
-        ap (found_by access wp) (walk_is x frames cr3 page (record e { dirty = p.0 }) d t p.1) ∙ g
+        let p = walk_before x y frames cr3 pse page e d t m small room (walk_parts y frames cr3 pse page e d t is) in
+        ap (found_by access wp) (walk_is x frames cr3 pse page (record e { dirty = p.0 }) d t p.1) ∙ g
 
 -- ---- one page of a fetch
 
@@ -92,13 +126,14 @@ record Look : Type 0 where
   set : FinMap nat_cmp Entry
   frames : ℕ
   cr3 : ℕ
+  pse : Bool
   wp : Bool
 
 abbrev look : Space → Look
-look s = record { ram = s.ram; set = s.set; frames = s.frames; cr3 = s.cr3; wp = s.wp }
+look s = record { ram = s.ram; set = s.set; frames = s.frames; cr3 = s.cr3; pse = s.pse; wp = s.wp }
 
 abbrev seen_in : Look → Access → ℕ → Option Seen
-seen_in s access page = seen_by (usable (get s.set page) access s.wp) access s.wp (fresh s.ram s.frames s.cr3 page)
+seen_in s access page = seen_by (usable (get s.set page) access s.wp) access s.wp (fresh s.ram s.frames s.cr3 s.pse page)
 
 record PageSeen (access : Access) (s t : Look) (page : ℕ) : Type 0 where
   x : Seen
@@ -110,6 +145,7 @@ record PageSeen (access : Access) (s t : Look) (page : ℕ) : Type 0 where
   others : (q : ℕ) → (q == page) ≡ false → get t.set q ≡ get s.set q
   frames : t.frames ≡ s.frames
   cr3 : t.cr3 ≡ s.cr3
+  pse : t.pse ≡ s.pse
   wp : t.wp ≡ s.wp
 
 module _ (user : Bool) (s t : Space) (page at : ℕ) where
@@ -127,7 +163,7 @@ module _ (user : Bool) (s t : Space) (page at : ℕ) where
       choice false y =
           subst (λ (z : Space). PageSeen reading (look s) (look z) page) (ap (λ (o : Touch × Space). o.1) y) (record {
             x = record { frame = e.frame; marks = [] };
-            is = ap (λ (o : Option Entry). seen_by o reading s.wp (fresh s.ram s.frames s.cr3 page)) found;
+            is = ap (λ (o : Option Entry). seen_by o reading s.wp (fresh s.ram s.frames s.cr3 s.pse page)) found;
             ram = refl;
             entry = e;
             kept = (usable_parts (get s.set page) reading s.wp e found).0;
@@ -135,6 +171,7 @@ module _ (user : Bool) (s t : Space) (page at : ℕ) where
             others = λ q other. refl;
             frames = refl;
             cr3 = refl;
+            pse = refl;
             wp = refl;
           })
 
@@ -146,12 +183,12 @@ module _ (user : Bool) (s t : Space) (page at : ℕ) where
       let entry : Entry = dirtied r.entry false in
       let got : (q : ℕ) → get (insert s.set page entry) q ≡ cond (q == page) (Some entry) (get s.set q) = λ q.
       get-insert nat_cmp_total s.set page entry q ∙ ap (λ c. cond c (Some entry) (get s.set q)) (unsigned_tied q page) in
-      let built : Space = record seen_now { ram = flagged s.ram r.dir_at r.word_at false; set = insert s.set page entry; tables = s.tables ++ tables_read s.ram s.frames s.cr3 page } in
+      let built : Space = record seen_now { ram = flagged s.ram r.dir_at r.word_at false; set = insert s.set page entry; tables = s.tables ++ tables_read s.ram s.frames s.cr3 s.pse page } in
       let end : built ≡ t = sym (ap (λ (d : Decision). (settled seen_now page d).1) r.is) ∙ ap (λ (o : Touch × Space). o.1) h in
       subst (λ (z : Space). PageSeen reading (look s) (look z) page) end (record {
         x = record { frame = r.entry.frame; marks = r.dir_at ∷ r.word_at ∷ [] };
         is =
-            ap (λ (o : Option Entry). seen_by o reading s.wp (fresh s.ram s.frames s.cr3 page)) none
+            ap (λ (o : Option Entry). seen_by o reading s.wp (fresh s.ram s.frames s.cr3 s.pse page)) none
             ∙ ap (found_by reading s.wp) r.found
             ∙ chosen (grants r.entry reading s.wp) (Some (record { frame = r.entry.frame; marks = r.dir_at ∷ r.word_at ∷ [] })) None r.granted;
         ram = refl;
@@ -161,6 +198,7 @@ module _ (user : Bool) (s t : Space) (page at : ℕ) where
         others = λ q other. got q ∙ passed_by (q == page) (Some entry) (get s.set q) other;
         frames = refl;
         cr3 = refl;
+        pse = refl;
         wp = refl;
       })
 
@@ -217,13 +255,13 @@ module _ (m : Setting) (b : State) (kernel : Bool) (mode : m.mode ≡ wedge_mode
   access_is = ap (λ (u : Bool). record { write = false; user = u }) user
 
   start_in : IsWithin m b kernel start
-  start_in = record { frames = refl; cr3 = refl; wp = refl; own = record { front = 0; front_len = 0; back = 0; back_len = 0 }; mode = mode; room = room; fit = fit; pages = λ q lt. inl refl }
+  start_in = record { frames = refl; cr3 = refl; pse = refl; wp = refl; own = record { front = 0; front_len = 0; back = 0; back_len = 0 }; mode = mode; room = room; fit = fit; pages = λ q lt. inl refl }
 
   none_before : (q : ℕ) → Contains {X = ℕ} [] q → ⊥
   none_before q c = let lt = c.1 in omega (arith, lt)
 
   seen_is : (page : ℕ) (o : Option Seen) → seen_in (look start) access page ≡ o → seen m b page ≡ o
-  seen_is page o e = ap (λ (a : Access). seen_by (usable (get b.set page) a (wp_of b)) a (wp_of b) (fresh b.ram m.frames b.cpu.cr3 page)) access_is ∙ e
+  seen_is page o e = ap (λ (a : Access). seen_by (usable (get b.set page) a (wp_of b)) a (wp_of b) (fresh b.ram m.frames b.cpu.cr3 (pse_of b.cpu) page)) access_is ∙ e
 
   module _ (insn : Insn) (len : ℕ) (t : Space) (p : IsFetch (not kernel) eip insn len start t) where
     first : FetchSeen (not kernel) start p.first eip (front_len eip) p.front
@@ -273,17 +311,18 @@ module _ (m : Setting) (b : State) (kernel : Bool) (mode : m.mode ≡ wedge_mode
       there = ap (λ (z : Look). seen_in z access next) before_is ∙ second.page.is
 
       -- and as it was before
-      by_use : (o : Option Entry) → usable (get b.set next) access (wp_of b) ≡ o → seen_by o access (wp_of b) (fresh p.first.ram m.frames b.cpu.cr3 next) ≡ Some y → seen_by o access (wp_of b) (fresh b.ram m.frames b.cpu.cr3 next) ≡ Some y
+      by_use : (o : Option Entry) → usable (get b.set next) access (wp_of b) ≡ o → seen_by o access (wp_of b) (fresh p.first.ram m.frames b.cpu.cr3 (pse_of b.cpu) next) ≡ Some y → seen_by o access (wp_of b) (fresh b.ram m.frames b.cpu.cr3 (pse_of b.cpu) next) ≡ Some y
       by_use (Some e) is g = g
-      by_use None is g = found_before b.ram p.first.ram m.frames b.cpu.cr3 next access (wp_of b) y marks next_small room g
+      by_use None is g = found_before b.ram p.first.ram m.frames b.cpu.cr3 (pse_of b.cpu) next access (wp_of b) y marks next_small room g
 
-      same_entry : seen_in (look p.first) access next ≡ seen_by (usable (get b.set next) access (wp_of b)) access (wp_of b) (fresh p.first.ram m.frames b.cpu.cr3 next)
+      same_entry : seen_in (look p.first) access next ≡ seen_by (usable (get b.set next) access (wp_of b)) access (wp_of b) (fresh p.first.ram m.frames b.cpu.cr3 (pse_of b.cpu) next)
       same_entry =
           let f = first.page in
-          ap (λ (e : Option Entry). seen_by (usable e access p.first.wp) access p.first.wp (fresh p.first.ram p.first.frames p.first.cr3 next)) (f.others next next_other)
-          ∙ ap (λ (w : Bool). seen_by (usable (get b.set next) access w) access w (fresh p.first.ram p.first.frames p.first.cr3 next)) f.wp
-          ∙ ap (λ (n : ℕ). seen_by (usable (get b.set next) access (wp_of b)) access (wp_of b) (fresh p.first.ram n p.first.cr3 next)) f.frames
-          ∙ ap (λ (n : ℕ). seen_by (usable (get b.set next) access (wp_of b)) access (wp_of b) (fresh p.first.ram m.frames n next)) f.cr3
+          ap (λ (e : Option Entry). seen_by (usable e access p.first.wp) access p.first.wp (fresh p.first.ram p.first.frames p.first.cr3 p.first.pse next)) (f.others next next_other)
+          ∙ ap (λ (w : Bool). seen_by (usable (get b.set next) access w) access w (fresh p.first.ram p.first.frames p.first.cr3 p.first.pse next)) f.wp
+          ∙ ap (λ (n : ℕ). seen_by (usable (get b.set next) access (wp_of b)) access (wp_of b) (fresh p.first.ram n p.first.cr3 p.first.pse next)) f.frames
+          ∙ ap (λ (n : ℕ). seen_by (usable (get b.set next) access (wp_of b)) access (wp_of b) (fresh p.first.ram m.frames n p.first.pse next)) f.cr3
+          ∙ ap (λ (w : Bool). seen_by (usable (get b.set next) access (wp_of b)) access (wp_of b) (fresh p.first.ram m.frames b.cpu.cr3 w next)) f.pse
 
       next_seen : seen m b next ≡ Some y
       next_seen = seen_is next (Some y) (by_use (usable (get b.set next) access (wp_of b)) refl (sym same_entry ∙ there))

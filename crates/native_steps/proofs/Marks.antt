@@ -1,13 +1,11 @@
--- The flags that walks set change no frame and no right.
+-- The flags that walks set change no frame, no size and no right.
 use Rattle.std.proofs.Common.{◌≡◌, ℕ, zero, suc, ◌+◌, ◌*◌, ◌/◌, ◌%◌, ◌^◌, ◌<◌, ◌≤◌, List, length, Bool, true, false, cond, ◌&&◌, not, ◌==◌, refl, sym, ap, subst, ◌∙◌, ◌⊎◌, inl, inr, arith}
 use Rattle.std.specs.Prelude.{bit_or, nat_le}
 use Rattle.std.proofs.lemmas.Bool.{cases_lt}
 use Rattle.guest_ram.specs.Bytes.{AreBytes, byte, word32, with_byte}
 use Rattle.guest_ram.proofs.Bytes.{byte-with_byte, byte-with_part_below, byte-with_part_above, length-with_byte, word32-is, byte_lt}
-use Rattle.paging.specs.declared.entry.Entry.{Entry}
-use Rattle.paging.specs.declared.entry.Walk.TheVariants.{Absent, Beyond, Found}
-use Rattle.paging.specs.Fresh.{has, dir_place, word_place, entry_of, by_word, by_dir, fresh, flagged}
-use Rattle.native_steps.proofs.Choices.{passed_by, both, eq_told, eq_true, clash, not_le, le_false}
+use Rattle.paging.specs.Fresh.{has, flagged}
+use Rattle.native_steps.proofs.Choices.{both, eq_told, eq_true, clash}
 
 -- ---- bytes with a flag more
 
@@ -44,6 +42,7 @@ pub record IsMark (b v : ℕ) : Type 0 where
   pub old : b < 256
   pub new : v < 256
   pub low : v % 32 ≡ b % 32
+  pub high : v / 128 ≡ b / 128
   pub dirty : b / 64 % 2 ≡ 1 → v / 64 % 2 ≡ 1
 
 -- the flags of a read, and of a write
@@ -53,10 +52,10 @@ flags_of write = cond write 96 32
 mark_is : (write : Bool) (b : ℕ) → b < 256 → IsMark b (bit_or b (flags_of write))
 mark_is true b lt =
     let e = or_96 b lt in
-    record { old = lt; new = omega (arith, e, lt); low = omega (arith, e); dirty = λ d. omega (arith, e, d) }
+    record { old = lt; new = omega (arith, e, lt); low = omega (arith, e); high = omega (arith, e, lt); dirty = λ d. omega (arith, e, d) }
 mark_is false b lt =
     let e = or_32 b lt in
-    record { old = lt; new = omega (arith, e, lt); low = omega (arith, e); dirty = λ d. omega (arith, e, d) }
+    record { old = lt; new = omega (arith, e, lt); low = omega (arith, e); high = omega (arith, e, lt); dirty = λ d. omega (arith, e, d) }
 
 -- a byte that has them stays
 pub has_them : (write : Bool) (b : ℕ) → b < 256 → has b 32 ≡ true → (write ≡ true → has b 64 ≡ true) → bit_or b (flags_of write) ≡ b
@@ -75,10 +74,11 @@ has_them false b lt h k =
 pub record IsMarked (w x : ℕ) : Type 0 where
   pub low : x % 32 ≡ w % 32
   pub frame : x / 4096 ≡ w / 4096
+  pub size : x / 128 % 2 ≡ w / 128 % 2
   pub dirty : w / 64 % 2 ≡ 1 → x / 64 % 2 ≡ 1
 
 same_word : (w x : ℕ) → x ≡ w → IsMarked w x
-same_word w x e = record { low = ap (λ n. n % 32) e; frame = ap (λ n. n / 4096) e; dirty = λ d. ap (λ n. n / 64 % 2) e ∙ d }
+same_word w x e = record { low = ap (λ n. n % 32) e; frame = ap (λ n. n / 4096) e; size = ap (λ n. n / 128 % 2) e; dirty = λ d. ap (λ n. n / 64 % 2) e ∙ d }
 
 -- memory in which words have flags more
 pub record AreMarked (ram new : List ℕ) : Type 0 where
@@ -92,7 +92,7 @@ marked_on x y z h k = record {
       let p = h.each a aligned room in
       let long = h.long in
       let q = k.each a aligned (omega (arith, long, room)) in
-      record { low = q.low ∙ p.low; frame = q.frame ∙ p.frame; dirty = λ d. q.dirty (p.dirty d) };
+      record { low = q.low ∙ p.low; frame = q.frame ∙ p.frame; size = q.size ∙ p.size; dirty = λ d. q.dirty (p.dirty d) };
 }
 
 pub marked_same : (x : List ℕ) → AreMarked x x
@@ -133,9 +133,11 @@ one_marked x p v aligned room m = record {
       let small = m.old in
       let fits = m.new in
       let low = m.low in
+      let high = m.high in
       record {
         low = omega (arith, w, n, first, old, one, two, three, low);
         frame = omega (arith, w, n, first, old, one, two, three, small, fits);
+        size = omega (arith, w, n, first, old, one, two, three, small, fits, high);
         dirty = λ d.
             let was : byte x p / 64 % 2 ≡ 1 = omega (arith, w, old, d) in
             let now = m.dirty was in
@@ -234,144 +236,3 @@ module _ (x : List ℕ) (d t : ℕ) (write : Bool) (d_even : d % 4 ≡ 0) (t_eve
           ∙ has_them write (byte first t) (byte_lt first t first_fit) (ap (λ n. has n 32) same ∙ had.0) (λ f. ap (λ n. has n 64) same ∙ had.1 f)
           ∙ same
       second false e = let long = first_long in byte_other first t _ k (omega (arith, long, t_in)) (λ g. clash (k == t) (eq_true k t g) e) ∙ one
-
--- ---- walks
-
--- the parts of a walk that finds an entry
-pub record IsWalk (ram : List ℕ) (frames cr3 page : ℕ) (e : Entry) (d t : ℕ) : Type 0 where
-  pub root : cr3 / 4096 < frames
-  pub present : has (word32 ram (dir_place cr3 page)) 1 ≡ true
-  pub table : word32 ram (dir_place cr3 page) / 4096 < frames
-  pub word_present : has (word32 ram (word_place (word32 ram (dir_place cr3 page)) page)) 1 ≡ true
-  pub word_in : word32 ram (word_place (word32 ram (dir_place cr3 page)) page) / 4096 < frames
-  pub entry_is : entry_of page (word32 ram (dir_place cr3 page)) (word32 ram (word_place (word32 ram (dir_place cr3 page)) page)) ≡ e
-  pub dir_is : dir_place cr3 page ≡ d
-  pub word_is : word_place (word32 ram (dir_place cr3 page)) page ≡ t
-
-pub walk_parts : (ram : List ℕ) (frames cr3 page : ℕ) (e : Entry) (d t : ℕ) → fresh ram frames cr3 page ≡ Found e d t → IsWalk ram frames cr3 page e d t
-unfolding fresh
-walk_parts ram frames cr3 page e d t h = by_root (nat_le frames (cr3 / 4096)) refl h
-  where
-    dir : ℕ
-    dir = word32 ram (dir_place cr3 page)
-
-    word : ℕ
-    word = word32 ram (word_place (word32 ram (dir_place cr3 page)) page)
-
-    by_frame : (root : nat_le frames (cr3 / 4096) ≡ false) (p : has (word32 ram (dir_place cr3 page)) 1 ≡ true) (q : nat_le frames (word32 ram (dir_place cr3 page) / 4096) ≡ false)
-        (r : has (word32 ram (word_place (word32 ram (dir_place cr3 page)) page)) 1 ≡ true) (beyond : Bool) → nat_le frames (word32 ram (word_place (word32 ram (dir_place cr3 page)) page) / 4096) ≡ beyond
-        → cond beyond Beyond (Found (entry_of page (word32 ram (dir_place cr3 page)) (word32 ram (word_place (word32 ram (dir_place cr3 page)) page))) (dir_place cr3 page) (word_place (word32 ram (dir_place cr3 page)) page)) ≡ Found e d t
-        → IsWalk ram frames cr3 page e d t
-    by_frame root p q r true is g = absurd cc
-    by_frame root p q r false is g = record {
-      root = not_le frames (cr3 / 4096) root;
-      present = p;
-      table = not_le frames (word32 ram (dir_place cr3 page) / 4096) q;
-      word_present = r;
-      word_in = not_le frames (word32 ram (word_place (word32 ram (dir_place cr3 page)) page) / 4096) is;
-      entry_is = cc;
-      dir_is = cc;
-      word_is = cc;
-    }
-
-    by_word_there : (root : nat_le frames (cr3 / 4096) ≡ false) (p : has (word32 ram (dir_place cr3 page)) 1 ≡ true) (q : nat_le frames (word32 ram (dir_place cr3 page) / 4096) ≡ false)
-        (there : Bool) → has (word32 ram (word_place (word32 ram (dir_place cr3 page)) page)) 1 ≡ there
-        → cond (not there) Absent (cond (nat_le frames (word32 ram (word_place (word32 ram (dir_place cr3 page)) page) / 4096)) Beyond (Found (entry_of page (word32 ram (dir_place cr3 page)) (word32 ram (word_place (word32 ram (dir_place cr3 page)) page))) (dir_place cr3 page) (word_place (word32 ram (dir_place cr3 page)) page))) ≡ Found e d t
-        → IsWalk ram frames cr3 page e d t
-    by_word_there root p q false is g = absurd cc
-    by_word_there root p q true is g = by_frame root p q is (nat_le frames (word32 ram (word_place (word32 ram (dir_place cr3 page)) page) / 4096)) refl g
-
-    by_table : (root : nat_le frames (cr3 / 4096) ≡ false) (p : has (word32 ram (dir_place cr3 page)) 1 ≡ true) (beyond : Bool) → nat_le frames (word32 ram (dir_place cr3 page) / 4096) ≡ beyond
-        → cond beyond Beyond (by_word frames cr3 page (word32 ram (dir_place cr3 page)) (word32 ram (word_place (word32 ram (dir_place cr3 page)) page))) ≡ Found e d t → IsWalk ram frames cr3 page e d t
-    by_table root p true is g = absurd cc
-    by_table root p false is g = by_word_there root p is (has (word32 ram (word_place (word32 ram (dir_place cr3 page)) page)) 1) refl g
-
-    by_dir_there : (root : nat_le frames (cr3 / 4096) ≡ false) (there : Bool) → has (word32 ram (dir_place cr3 page)) 1 ≡ there
-        → cond (not there) Absent (cond (nat_le frames (word32 ram (dir_place cr3 page) / 4096)) Beyond (by_word frames cr3 page (word32 ram (dir_place cr3 page)) (word32 ram (word_place (word32 ram (dir_place cr3 page)) page)))) ≡ Found e d t
-        → IsWalk ram frames cr3 page e d t
-    by_dir_there root false is g = absurd cc
-    by_dir_there root true is g = by_table root is (nat_le frames (word32 ram (dir_place cr3 page) / 4096)) refl g
-
-    by_root : (beyond : Bool) → nat_le frames (cr3 / 4096) ≡ beyond → cond beyond Beyond (by_dir ram frames cr3 page (word32 ram (dir_place cr3 page))) ≡ Found e d t → IsWalk ram frames cr3 page e d t
-    by_root true is g = absurd cc
-    by_root false is g = by_dir_there is (has (word32 ram (dir_place cr3 page)) 1) refl g
-
-pub walk_is : (ram : List ℕ) (frames cr3 page : ℕ) (e : Entry) (d t : ℕ) → IsWalk ram frames cr3 page e d t → fresh ram frames cr3 page ≡ Found e d t
-unfolding fresh
-walk_is ram frames cr3 page e d t h =
-    let dir : ℕ = word32 ram (dir_place cr3 page) in
-    let word : ℕ = word32 ram (word_place dir page) in
-    passed_by (nat_le frames (cr3 / 4096)) Beyond _ (le_false frames (cr3 / 4096) h.root)
-    ∙ passed_by (not (has dir 1)) Absent _ (ap not h.present)
-    ∙ passed_by (nat_le frames (dir / 4096)) Beyond _ (le_false frames (dir / 4096) h.table)
-    ∙ passed_by (not (has word 1)) Absent _ (ap not h.word_present)
-    ∙ passed_by (nat_le frames (word / 4096)) Beyond _ (le_false frames (word / 4096) h.word_in)
-    ∙ ap (λ x. Found x (dir_place cr3 page) (word_place dir page)) h.entry_is
-    ∙ ap (λ x. Found e x (word_place dir page)) h.dir_is
-    ∙ ap (λ x. Found e d x) h.word_is
-
-pub has_1 : (w x : ℕ) → x % 32 ≡ w % 32 → has x 1 ≡ has w 1
-has_1 w x e = ap (λ n. n == 1) (let g : x / 1 % 2 ≡ w / 1 % 2 = omega (arith, e) in g)
-
-pub has_2 : (w x : ℕ) → x % 32 ≡ w % 32 → has x 2 ≡ has w 2
-has_2 w x e = ap (λ n. n == 1) (let g : x / 2 % 2 ≡ w / 2 % 2 = omega (arith, e) in g)
-
-pub has_4 : (w x : ℕ) → x % 32 ≡ w % 32 → has x 4 ≡ has w 4
-has_4 w x e = ap (λ n. n == 1) (let g : x / 4 % 2 ≡ w / 4 % 2 = omega (arith, e) in g)
-
--- the places of a walk's words
-pub dir_in : (frames cr3 page : ℕ) → cr3 / 4096 < frames → page < 2 ^ 20 → (dir_place cr3 page % 4 ≡ 0) × (dir_place cr3 page + 4 ≤ 4096 * frames)
-dir_in frames cr3 page lt small = (omega arith, omega (arith, lt, small))
-
-pub word_in : (frames dir page : ℕ) → dir / 4096 < frames → (word_place dir page % 4 ≡ 0) × (word_place dir page + 4 ≤ 4096 * frames)
-word_in frames dir page lt = (omega arith, omega (arith, lt))
-
--- the same entry in a memory with more flags, but that it may be dirty
-pub record IsStill (ram : List ℕ) (frames cr3 page : ℕ) (e : Entry) (d t : ℕ) : Type 0 where
-  pub dirty : Bool
-  pub walk : IsWalk ram frames cr3 page (record e { dirty = dirty }) d t
-  pub more : e.dirty ≡ true → dirty ≡ true
-  pub flag : dirty ≡ has (word32 ram t) 64
-
-pub walk_kept : (x y : List ℕ) (frames cr3 page : ℕ) (e : Entry) (d t : ℕ) → AreMarked x y → page < 2 ^ 20 → 4096 * frames ≤ length x → IsWalk x frames cr3 page e d t → IsStill y frames cr3 page e d t
-walk_kept x y frames cr3 page e d t m small room h =
-    let dp = dir_in frames cr3 page h.root small in
-    let old : ℕ = word32 x (dir_place cr3 page) in
-    let dir = m.each (dir_place cr3 page) dp.0 (omega (arith, dp.1, room)) in
-    let wp = word_in frames old page h.table in
-    let place : word_place (word32 y (dir_place cr3 page)) page ≡ word_place old page = ap (λ n. n * 4096 + page % 1024 * 4) dir.frame in
-    let word = m.each (word_place old page) wp.0 (omega (arith, wp.1, room)) in
-    let again : word32 y (word_place (word32 y (dir_place cr3 page)) page) ≡ word32 y (word_place old page) = ap (word32 y) place in
-    let low_dir = dir.low in
-    let low_word : word32 y (word_place (word32 y (dir_place cr3 page)) page) % 32 ≡ word32 x (word_place old page) % 32 = ap (λ n. n % 32) again ∙ word.low in
-    let frame_word : word32 y (word_place (word32 y (dir_place cr3 page)) page) / 4096 ≡ word32 x (word_place old page) / 4096 = ap (λ n. n / 4096) again ∙ word.frame in
-    let new_word : ℕ = word32 y (word_place (word32 y (dir_place cr3 page)) page) in
-    let old_word : ℕ = word32 x (word_place old page) in
-    let table = h.table in
-    let within = h.word_in in
-    let dir_frame = dir.frame in
-    let was = h.entry_is in
-    record {
-      dirty = has new_word 64;
-      walk = record {
-        root = h.root;
-        present = has_1 old (word32 y (dir_place cr3 page)) low_dir ∙ h.present;
-        table = omega (arith, table, dir_frame);
-        word_present = has_1 old_word new_word low_word ∙ h.word_present;
-        word_in = omega (arith, within, frame_word);
-        entry_is =
-            ap (λ f. record { page = page; frame = f; user = has (word32 y (dir_place cr3 page)) 4 && has new_word 4; write = has (word32 y (dir_place cr3 page)) 2 && has new_word 2; dirty = has new_word 64 }) frame_word
-            ∙ ap (λ u. record { page = page; frame = old_word / 4096; user = u && has new_word 4; write = has (word32 y (dir_place cr3 page)) 2 && has new_word 2; dirty = has new_word 64 }) (has_4 old (word32 y (dir_place cr3 page)) low_dir)
-            ∙ ap (λ u. record { page = page; frame = old_word / 4096; user = has old 4 && u; write = has (word32 y (dir_place cr3 page)) 2 && has new_word 2; dirty = has new_word 64 }) (has_4 old_word new_word low_word)
-            ∙ ap (λ u. record { page = page; frame = old_word / 4096; user = has old 4 && has old_word 4; write = u && has new_word 2; dirty = has new_word 64 }) (has_2 old (word32 y (dir_place cr3 page)) low_dir)
-            ∙ ap (λ u. record { page = page; frame = old_word / 4096; user = has old 4 && has old_word 4; write = has old 2 && u; dirty = has new_word 64 }) (has_2 old_word new_word low_word)
-            ∙ ap (λ (z : Entry). record z { dirty = has new_word 64 }) was;
-        dir_is = h.dir_is;
-        word_is = place ∙ h.word_is;
-      };
-      more = λ g.
-          let flag : has old_word 64 ≡ true = ap (λ (z : Entry). z.dirty) was ∙ g in
-          let turned = word.dirty (eq_told (old_word / 64 % 2) 1 flag) in
-          ap (λ n. has n 64) again ∙ eq_true (word32 y (word_place old page) / 64 % 2) 1 turned;
-      flag = ap (λ n. has (word32 y n) 64) (place ∙ h.word_is);
-    }

@@ -110,7 +110,7 @@ module _ (flags : EffectLaws) (m : Setting) (v : View) (b : State) (mode : m.mod
           let w = f.through.within in
           let is = owns_in m b v.kernel mode room fit sound small insn len t p x in
           record {
-            within = subst (IsWithin m b v.kernel) is (within_as m b v.kernel p.first (record p.first { mode = Rattle.paging.specs.Uses.with_front p.first.mode (place p.first b.cpu.regs.eip) len }) w refl refl refl refl refl
+            within = subst (IsWithin m b v.kernel) is (within_as m b v.kernel p.first (record p.first { mode = Rattle.paging.specs.Uses.with_front p.first.mode (place p.first b.cpu.regs.eip) len }) w refl refl refl refl refl refl
                 (record { front = place p.first b.cpu.regs.eip; front_len = len; back = 0; back_len = 0 }) (ap (λ (y : Mode). Rattle.paging.specs.Uses.with_front y (place p.first b.cpu.regs.eip) len) w.mode));
             pages = (b.cpu.regs.eip / 4096) ∷ [];
             went = x.went ∙ first_went p;

@@ -105,7 +105,7 @@ module _ (m : Setting) (b : State) (kernel : Bool) (mode : m.mode ≡ wedge_mode
   start = space_at_start m.mode m.frames b.cpu b.ram b.set
 
   pub start_in : IsWithin m b kernel (space_at_start m.mode m.frames b.cpu b.ram b.set)
-  start_in = record { frames = refl; cr3 = refl; wp = refl; own = record { front = 0; front_len = 0; back = 0; back_len = 0 }; mode = mode; room = room; fit = fit; pages = λ q lt. inl refl }
+  start_in = record { frames = refl; cr3 = refl; pse = refl; wp = refl; own = record { front = 0; front_len = 0; back = 0; back_len = 0 }; mode = mode; room = room; fit = fit; pages = λ q lt. inl refl }
 
   -- entries lead to the guest's frames
   pub frame_in : (s : Space) (page frame : ℕ) (write : Bool) → IsWithin m b kernel s → page < 2 ^ 20 → HasEntry kernel (wp_of b) s.set write page frame → frame < m.frames
@@ -193,7 +193,7 @@ module _ (m : Setting) (b : State) (kernel : Bool) (mode : m.mode ≡ wedge_mode
       owning_in : IsWithin m b kernel owning
       owning_in =
           let w = first_through.through.within in
-          within_as m b kernel p.first owning w refl refl refl refl refl (record { front = place p.first b.cpu.regs.eip; front_len = front_len b.cpu.regs.eip; back = 0; back_len = 0 })
+          within_as m b kernel p.first owning w refl refl refl refl refl refl (record { front = place p.first b.cpu.regs.eip; front_len = front_len b.cpu.regs.eip; back = 0; back_len = 0 })
           (ap (λ (y : Mode). with_front y (place p.first b.cpu.regs.eip) (front_len b.cpu.regs.eip)) w.mode)
 
       next_small : next_page b.cpu.regs.eip / 4096 < 2 ^ 20
@@ -215,7 +215,7 @@ module _ (m : Setting) (b : State) (kernel : Bool) (mode : m.mode ≡ wedge_mode
       pub left_in : IsWithin m b kernel left
       left_in =
           let w = second_through.through.within in
-          within_as m b kernel x.on.after left w refl refl refl refl refl (record w.own { back = place x.on.after (next_page b.cpu.regs.eip); back_len = len - front_len b.cpu.regs.eip })
+          within_as m b kernel x.on.after left w refl refl refl refl refl refl (record w.own { back = place x.on.after (next_page b.cpu.regs.eip); back_len = len - front_len b.cpu.regs.eip })
           (ap (λ (y : Mode). with_back y (place x.on.after (next_page b.cpu.regs.eip)) (len - front_len b.cpu.regs.eip)) w.mode)
 
       next_is : next_page b.cpu.regs.eip / 4096 ≡ b.cpu.regs.eip / 4096 + 1

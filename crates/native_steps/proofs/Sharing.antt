@@ -9,7 +9,7 @@ use Rattle.ia32_exec.specs.Ranges.{Covers}
 use Rattle.ia32_exec.specs.Short.{IsShort}
 use Rattle.paging.specs.declared.entry.Entry.{Entry}
 use Rattle.paging.specs.declared.entry.Walk.{Walk}
-use Rattle.paging.specs.declared.entry.Walk.TheVariants.{Absent, Beyond, Found}
+use Rattle.paging.specs.declared.entry.Walk.TheVariants.{Absent, Beyond, Reserved, Found}
 use Rattle.paging.specs.Reached.{reached_by}
 use Rattle.paging.specs.Space.{place_by}
 use Rattle.paging.specs.Uses.{is_text, is_given}
@@ -44,6 +44,7 @@ read_rights false h write f frame e = absurd (none (not write || (h || false)) e
 reads_too : (write : Bool) (w : Walk) (frame : ℕ) → reached_by write w ≡ Some frame → reached_by false w ≡ Some frame
 reads_too write Absent frame e = absurd cc
 reads_too write Beyond frame e = absurd cc
+reads_too write Reserved frame e = absurd cc
 reads_too write (Found entry d t) frame e = read_rights entry.user entry.write write entry.frame frame e
 
 -- ---- the window of the text

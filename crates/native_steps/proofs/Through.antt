@@ -65,10 +65,11 @@ module _ (m : Setting) (b : State) (kernel : Bool) where
   Clear ps us = AreClear b.set (not kernel) (wp_of b) ps us
 
   -- the same bytes and translations, with other accounts
-  pub within_as : (s t : Space) → In s → s.ram ≡ t.ram → s.set ≡ t.set → s.frames ≡ t.frames → s.cr3 ≡ t.cr3 → s.wp ≡ t.wp → (own : Own) → t.mode ≡ Wedge 0x100 (text_pages m.image) own → In t
-  within_as s t h ram set frames cr3 wp own mode = record {
+  pub within_as : (s t : Space) → In s → s.ram ≡ t.ram → s.set ≡ t.set → s.frames ≡ t.frames → s.cr3 ≡ t.cr3 → s.pse ≡ t.pse → s.wp ≡ t.wp → (own : Own) → t.mode ≡ Wedge 0x100 (text_pages m.image) own → In t
+  within_as s t h ram set frames cr3 pse wp own mode = record {
     frames = sym frames ∙ h.frames;
     cr3 = sym cr3 ∙ h.cr3;
+    pse = sym pse ∙ h.pse;
     wp = sym wp ∙ h.wp;
     own = own;
     mode = mode;
@@ -120,7 +121,7 @@ module _ (m : Setting) (b : State) (kernel : Bool) where
   pair o e = ap (λ (x : Touch). (x, o.1)) e
 
   unready_in : (s : Space) → In s → In (unready s)
-  unready_in s h = within_as s (unready s) h refl refl refl refl refl h.own h.mode
+  unready_in s h = within_as s (unready s) h refl refl refl refl refl refl h.own h.mode
 
   placed : (s : Space) (at frame : ℕ) (write : Bool) → HasEntry kernel (wp_of b) s.set write (at / 4096) frame → place s at ≡ 4096 * frame + at % 4096
   unfolding place
@@ -157,7 +158,7 @@ module _ (m : Setting) (b : State) (kernel : Bool) where
       let left : record o.1 { ready = record { start = at; len = len; write = false } } ≡ t = ap (λ (x : Touch × Space). x.1) q.1 in
       subst (λ (x : Space). FetchThrough ps s x at len bytes) left (record {
         through = record {
-          within = within_as o.1 (record o.1 { ready = record { start = at; len = len; write = false } }) l.within refl refl refl refl refl l.within.own l.within.mode;
+          within = within_as o.1 (record o.1 { ready = record { start = at; len = len; write = false } }) l.within refl refl refl refl refl refl l.within.own l.within.mode;
           marks = th.marks;
           mode = th.mode;
           owns = th.owns;
@@ -259,7 +260,7 @@ module _ (m : Setting) (b : State) (kernel : Bool) where
       let g = q.1.0 in
       subst (λ (x : Space). RangeThrough ps s x write at len) q.1.1 (record {
         through = record {
-          within = within_as u (made_ready at len write u).1 g.through.within refl refl refl refl refl g.through.within.own g.through.within.mode;
+          within = within_as u (made_ready at len write u).1 g.through.within refl refl refl refl refl refl g.through.within.own g.through.within.mode;
           marks = g.through.marks;
           mode = g.through.mode;
           owns = g.through.owns;

@@ -7,13 +7,14 @@ use Rattle.std.specs.Cmp.{unsigned_tied}
 use Rattle.std.proofs.lemmas.Cmp.{nat_cmp_total}
 use Rattle.guest_ram.specs.Bytes.{AreBytes, byte, word32}
 use Rattle.ia32_types.specs.declared.stop.Stop.TheVariants as stops
+use Rattle.descriptors.specs.Controls.{pse_of}
 use Rattle.paging.specs.declared.entry.Access.{Access}
 use Rattle.paging.specs.declared.entry.Entry.{Entry}
 use Rattle.paging.specs.declared.entry.Touch.{Touch}
 use Rattle.paging.specs.declared.entry.Touch.TheVariants.{Ready, Fault, Stop}
 use Rattle.paging.specs.declared.entry.Walk.{Walk}
-use Rattle.paging.specs.declared.entry.Walk.TheVariants.{Absent, Beyond, Found}
-use Rattle.paging.specs.Fresh.{has, dir_place, fresh, tables_read, grants, allows, flagged}
+use Rattle.paging.specs.declared.entry.Walk.TheVariants.{Absent, Beyond, Reserved, Found}
+use Rattle.paging.specs.Fresh.{has, fresh, tables_read, grants, allows, flagged}
 use Rattle.paging.specs.Space.{Mode, Wedge, Own, Space}
 use Rattle.paging.specs.Uses.{Tables, tables_of, Decision, is_barred, is_own, walks_text, marks_own, fault_code, dirtied, by_walk, decided, settled, usable, by_entry, page_uses}
 use Rattle.image_load.specs.Boot.{text_pages}
@@ -21,7 +22,8 @@ use Rattle.machine_model.specs.State.{Setting, State}
 use Rattle.native_steps.specs.Forward.{wp_of}
 use Rattle.native_steps.proofs.Choices.{chosen, passed_by, both, eq_told, eq_true}
 use Rattle.native_steps.proofs.Pages.{HasEntry, IsFree}
-use Rattle.native_steps.proofs.Marks.{AreMarked, marked_same, flagged_marked, flagged_fit, flagged_dirty, flagged_kept, IsWalk, IsStill, walk_parts, walk_is, walk_kept, dir_in, word_in}
+use Rattle.native_steps.proofs.Marks.{AreMarked, marked_same, flagged_marked, flagged_fit, flagged_dirty, flagged_kept}
+use Rattle.native_steps.proofs.Walks.{IsWalk, AreIn, IsStill, walk_parts, walk_is, walk_in, walk_kept, page_is as page_of_walk}
 
 -- ---- a decision that lets the access pass
 
@@ -29,15 +31,16 @@ pub record IsReadied (s : Tables) (fetch : Bool) (page : ℕ) (access : Access) 
   pub entry : Entry
   pub dir_at : ℕ
   pub word_at : ℕ
-  pub found : fresh s.ram s.frames s.cr3 page ≡ Found entry dir_at word_at
+  pub found : fresh s.ram s.frames s.cr3 s.pse page ≡ Found entry dir_at word_at
   pub granted : grants entry access s.wp ≡ true
   pub free : is_barred s.mode fetch access.user entry.page entry.frame ≡ false
   pub own : marks_own s dir_at word_at access.write ≡ false
   pub is : d ≡ record { met = Ready; entry = Some (dirtied entry access.write); ram = flagged s.ram dir_at word_at access.write }
 
-walk_readied : (s : Tables) (fetch : Bool) (page at : ℕ) (access : Access) (w : Walk) → fresh s.ram s.frames s.cr3 page ≡ w → (by_walk s fetch at access w).met ≡ Ready → IsReadied s fetch page access (by_walk s fetch at access w)
+walk_readied : (s : Tables) (fetch : Bool) (page at : ℕ) (access : Access) (w : Walk) → fresh s.ram s.frames s.cr3 s.pse page ≡ w → (by_walk s fetch at access w).met ≡ Ready → IsReadied s fetch page access (by_walk s fetch at access w)
 walk_readied s fetch page at access Absent is e = absurd cc
 walk_readied s fetch page at access Beyond is e = absurd cc
+walk_readied s fetch page at access Reserved is e = absurd cc
 walk_readied s fetch page at access (Found entry d t) is e = by_grant (grants entry access s.wp) refl e
   where
     by_own : grants entry access s.wp ≡ true → is_barred s.mode fetch access.user entry.page entry.frame ≡ false → (o : Bool) → marks_own s d t access.write ≡ o
@@ -66,10 +69,10 @@ pub decided_readied : (s : Tables) (fetch : Bool) (page at : ℕ) (access : Acce
 unfolding decided
 decided_readied s fetch page at access e = by_text (walks_text s page) e
   where
-    by_text : (text : Bool) → (cond {A = Decision} text (record { met = Stop stops.TableInText; entry = None; ram = s.ram }) (by_walk s fetch at access (fresh s.ram s.frames s.cr3 page))).met ≡ Ready
-        → IsReadied s fetch page access (cond text (record { met = Stop stops.TableInText; entry = None; ram = s.ram }) (by_walk s fetch at access (fresh s.ram s.frames s.cr3 page)))
+    by_text : (text : Bool) → (cond {A = Decision} text (record { met = Stop stops.TableInText; entry = None; ram = s.ram }) (by_walk s fetch at access (fresh s.ram s.frames s.cr3 s.pse page))).met ≡ Ready
+        → IsReadied s fetch page access (cond text (record { met = Stop stops.TableInText; entry = None; ram = s.ram }) (by_walk s fetch at access (fresh s.ram s.frames s.cr3 s.pse page)))
     by_text true x = absurd cc
-    by_text false x = walk_readied s fetch page at access (fresh s.ram s.frames s.cr3 page) refl x
+    by_text false x = walk_readied s fetch page at access (fresh s.ram s.frames s.cr3 s.pse page) refl x
 
 -- ---- an entry that may be used
 
@@ -98,7 +101,7 @@ module _ (m : Setting) (b : State) (kernel : Bool) where
     pub dir_at : ℕ
     pub word_at : ℕ
     pub dirty : Bool
-    pub walk : IsWalk ram m.frames b.cpu.cr3 page (record entry { dirty = dirty }) dir_at word_at
+    pub walk : IsWalk ram m.frames b.cpu.cr3 (pse_of b.cpu) page (record entry { dirty = dirty }) dir_at word_at
     pub more : entry.dirty ≡ true → dirty ≡ true
 
   -- its entry is as before the step, or comes from a walk
@@ -108,6 +111,7 @@ module _ (m : Setting) (b : State) (kernel : Bool) where
   pub record IsWithin (s : Space) : Type 0 where
     pub frames : s.frames ≡ m.frames
     pub cr3 : s.cr3 ≡ b.cpu.cr3
+    pub pse : s.pse ≡ pse_of b.cpu
     pub wp : s.wp ≡ wp_of b
     pub own : Own
     pub mode : s.mode ≡ Wedge 0x100 (text_pages m.image) own
@@ -149,7 +153,7 @@ module _ (m : Setting) (b : State) (kernel : Bool) where
       where
         left : seen ≡ t → is_barred s.mode fetch (not kernel) page e.frame ≡ false → get s.set page ≡ Some e → allows e (side write) s.wp ≡ true → Leaves s t page write fetch
         left y f kept allowed = subst (λ (z : Space). Leaves s z page write fetch) y (record {
-          within = record { frames = h.frames; cr3 = h.cr3; wp = h.wp; own = h.own; mode = h.mode; room = h.room; fit = h.fit; pages = h.pages };
+          within = record { frames = h.frames; cr3 = h.cr3; pse = h.pse; wp = h.wp; own = h.own; mode = h.mode; room = h.room; fit = h.fit; pages = h.pages };
           frame = e.frame;
           has = record { entry = e; kept = kept; frame_is = refl; allowed = ap (allows e (side write)) (sym h.wp) ∙ allowed };
           free = ap (λ (z : Mode). is_barred z fetch (not kernel) page e.frame) (sym h.mode) ∙ f;
@@ -166,7 +170,7 @@ module _ (m : Setting) (b : State) (kernel : Bool) where
     -- ---- by a walk
 
     module _ (small : page < 2 ^ 20) (none : usable (get s.set page) (side write) s.wp ≡ None) (r : IsReadied (tables_of s) fetch page (side write) (decided (tables_of s) fetch page at (side write)))
-        (t_is : record s { pages = s.pages + 1; went = s.went ++ page ∷ []; ram = flagged s.ram r.dir_at r.word_at write; set = insert s.set page (dirtied r.entry write); tables = s.tables ++ tables_read s.ram s.frames s.cr3 page } ≡ t)
+        (t_is : record s { pages = s.pages + 1; went = s.went ++ page ∷ []; ram = flagged s.ram r.dir_at r.word_at write; set = insert s.set page (dirtied r.entry write); tables = s.tables ++ tables_read s.ram s.frames s.cr3 s.pse page } ≡ t)
       where
         ram_is : flagged s.ram r.dir_at r.word_at write ≡ t.ram
         ram_is = ap (λ (x : Space). x.ram) t_is
@@ -174,34 +178,28 @@ module _ (m : Setting) (b : State) (kernel : Bool) where
         set_is : insert s.set page (dirtied r.entry write) ≡ t.set
         set_is = ap (λ (x : Space). x.set) t_is
 
-        walk : IsWalk s.ram m.frames b.cpu.cr3 page r.entry r.dir_at r.word_at
+        walk : IsWalk s.ram m.frames b.cpu.cr3 (pse_of b.cpu) page r.entry r.dir_at r.word_at
         walk =
-            walk_parts s.ram m.frames b.cpu.cr3 page r.entry r.dir_at r.word_at
-            (ap (λ x. fresh s.ram x b.cpu.cr3 page) (sym h.frames) ∙ ap (λ x. fresh s.ram s.frames x page) (sym h.cr3) ∙ r.found)
+            walk_parts s.ram m.frames b.cpu.cr3 (pse_of b.cpu) page r.entry r.dir_at r.word_at
+            (ap (λ x. fresh s.ram x b.cpu.cr3 (pse_of b.cpu) page) (sym h.frames) ∙ ap (λ x. fresh s.ram s.frames x (pse_of b.cpu) page) (sym h.cr3) ∙ ap (λ x. fresh s.ram s.frames s.cr3 x page) (sym h.pse) ∙ r.found)
 
-        dir_there : (r.dir_at % 4 ≡ 0) × (r.dir_at + 4 ≤ 4096 * m.frames)
-        dir_there = let p = dir_in m.frames b.cpu.cr3 page walk.root small in let e = walk.dir_is in (ap (λ x. x % 4) (sym e) ∙ p.0, omega (arith, p.1, e))
-
-        word_there : (r.word_at % 4 ≡ 0) × (r.word_at + 4 ≤ 4096 * m.frames)
-        word_there =
-            let p = word_in m.frames (word32 s.ram (dir_place b.cpu.cr3 page)) page walk.table in
-            let e = walk.word_is in
-            (ap (λ x. x % 4) (sym e) ∙ p.0, omega (arith, p.1, e))
+        there : AreIn m.frames r.dir_at r.word_at
+        there = walk_in s.ram m.frames b.cpu.cr3 (pse_of b.cpu) page r.entry r.dir_at r.word_at small walk
 
         dir_room : r.dir_at + 4 ≤ length s.ram
-        dir_room = let p = dir_there.1 in let room = h.room in omega (arith, p, room)
+        dir_room = let p = there.dir_within in let room = h.room in omega (arith, p, room)
 
         word_room : r.word_at + 4 ≤ length s.ram
-        word_room = let p = word_there.1 in let room = h.room in omega (arith, p, room)
+        word_room = let p = there.word_within in let room = h.room in omega (arith, p, room)
 
         marks : AreMarked s.ram t.ram
-        marks = subst (AreMarked s.ram) ram_is (flagged_marked s.ram r.dir_at r.word_at write dir_there.0 word_there.0 dir_room word_room h.fit)
+        marks = subst (AreMarked s.ram) ram_is (flagged_marked s.ram r.dir_at r.word_at write there.dir_even there.word_even dir_room word_room h.fit)
 
         fit : AreBytes t.ram
-        fit = subst AreBytes ram_is (flagged_fit s.ram r.dir_at r.word_at write dir_there.0 word_there.0 dir_room word_room h.fit)
+        fit = subst AreBytes ram_is (flagged_fit s.ram r.dir_at r.word_at write there.dir_even there.word_even dir_room word_room h.fit)
 
         dirty_there : write ≡ true → word32 t.ram r.word_at / 64 % 2 ≡ 1
-        dirty_there e = subst (λ (x : List ℕ). word32 x r.word_at / 64 % 2 ≡ 1) ram_is (flagged_dirty s.ram r.dir_at r.word_at write dir_there.0 word_there.0 dir_room word_room h.fit e)
+        dirty_there e = subst (λ (x : List ℕ). word32 x r.word_at / 64 % 2 ≡ 1) ram_is (flagged_dirty s.ram r.dir_at r.word_at write there.dir_even there.word_even dir_room word_room h.fit e)
 
         got : (q : ℕ) → get t.set q ≡ cond (q == page) (Some (dirtied r.entry write)) (get s.set q)
         got q =
@@ -215,8 +213,8 @@ module _ (m : Setting) (b : State) (kernel : Bool) where
         got_there : (q : ℕ) → (q == page) ≡ false → get t.set q ≡ get s.set q
         got_there q e = got q ∙ passed_by (q == page) _ _ e
 
-        still : (q : ℕ) (e : Entry) (d x : ℕ) → q < 2 ^ 20 → IsWalk s.ram m.frames b.cpu.cr3 q e d x → IsStill t.ram m.frames b.cpu.cr3 q e d x
-        still q e d x lt k = walk_kept s.ram t.ram m.frames b.cpu.cr3 q e d x marks lt h.room k
+        still : (q : ℕ) (e : Entry) (d x : ℕ) → q < 2 ^ 20 → IsWalk s.ram m.frames b.cpu.cr3 (pse_of b.cpu) q e d x → IsStill t.ram m.frames b.cpu.cr3 (pse_of b.cpu) q e d x
+        still q e d x lt k = walk_kept s.ram t.ram m.frames b.cpu.cr3 (pse_of b.cpu) q e d x marks lt h.room k
 
         or_true : (x : Bool) → (x || true) ≡ true
         or_true true = refl
@@ -227,11 +225,11 @@ module _ (m : Setting) (b : State) (kernel : Bool) where
             let k = still page r.entry r.dir_at r.word_at small walk in
             record { entry = dirtied r.entry write; kept = got_here; dir_at = r.dir_at; word_at = r.word_at; dirty = k.dirty; walk = k.walk; more = λ e. more k (r.entry.dirty) refl e }
           where
-            by_write : (k : IsStill t.ram m.frames b.cpu.cr3 page r.entry r.dir_at r.word_at) → (x : Bool) → write ≡ x → (false || x) ≡ true → k.dirty ≡ true
+            by_write : (k : IsStill t.ram m.frames b.cpu.cr3 (pse_of b.cpu) page r.entry r.dir_at r.word_at) → (x : Bool) → write ≡ x → (false || x) ≡ true → k.dirty ≡ true
             by_write k true e g = k.flag ∙ eq_true (word32 t.ram r.word_at / 64 % 2) 1 (dirty_there e)
             by_write k false e g = absurd (let f : false ≡ true = g in cc)
 
-            more : (k : IsStill t.ram m.frames b.cpu.cr3 page r.entry r.dir_at r.word_at) → (d : Bool) → r.entry.dirty ≡ d → (d || write) ≡ true → k.dirty ≡ true
+            more : (k : IsStill t.ram m.frames b.cpu.cr3 (pse_of b.cpu) page r.entry r.dir_at r.word_at) → (d : Bool) → r.entry.dirty ≡ d → (d || write) ≡ true → k.dirty ≡ true
             more k true e g = k.more e
             more k false e g = by_write k write refl g
 
@@ -252,6 +250,7 @@ module _ (m : Setting) (b : State) (kernel : Bool) where
             record {
               frames = ap (λ (x : Space). x.frames) (sym t_is) ∙ h.frames;
               cr3 = ap (λ (x : Space). x.cr3) (sym t_is) ∙ h.cr3;
+              pse = ap (λ (x : Space). x.pse) (sym t_is) ∙ h.pse;
               wp = ap (λ (x : Space). x.wp) (sym t_is) ∙ h.wp;
               own = h.own;
               mode = ap (λ (x : Space). x.mode) (sym t_is) ∙ h.mode;
@@ -277,7 +276,7 @@ module _ (m : Setting) (b : State) (kernel : Bool) where
         has_here = record { entry = dirtied r.entry write; kept = got_here; frame_is = refl; allowed = allowed_by r.entry write (r.entry.dirty || write) granted (written write r.entry.dirty) }
 
         page_is : r.entry.page ≡ page
-        page_is = sym (ap (λ (e : Entry). e.page) walk.entry_is)
+        page_is = page_of_walk s.ram m.frames b.cpu.cr3 (pse_of b.cpu) page r.entry r.dir_at r.word_at walk
 
         free : IsFree m b kernel fetch page r.entry.frame
         free =
@@ -311,7 +310,7 @@ module _ (m : Setting) (b : State) (kernel : Bool) where
         owns k o =
             let p = either (is_own s.mode r.dir_at && not (has (byte s.ram r.dir_at) 32)) (is_own s.mode r.word_at && (not (has (byte s.ram r.word_at) 32) || (write && not (has (byte s.ram r.word_at) 64)))) r.own in
             ap (λ (x : List ℕ). byte x k) (sym ram_is)
-            ∙ flagged_kept s.ram r.dir_at r.word_at write dir_there.0 word_there.0 dir_room word_room h.fit k
+            ∙ flagged_kept s.ram r.dir_at r.word_at write there.dir_even there.word_even dir_room word_room h.fit k
             (λ e. ap (λ n. has (byte s.ram n) 32) e ∙ not_and (is_own s.mode r.dir_at) (has (byte s.ram r.dir_at) 32) p.0 (ap (is_own s.mode) (sym e) ∙ o))
             (λ e.
             let q = not_both (is_own s.mode r.word_at) (has (byte s.ram r.word_at) 32) (has (byte s.ram r.word_at) 64) p.1 (ap (is_own s.mode) (sym e) ∙ o) in
@@ -331,7 +330,7 @@ module _ (m : Setting) (b : State) (kernel : Bool) where
             let one : ◌≡◌ {A = Option Entry} (Some k.entry) (Some x.entry) = sym k.kept ∙ x.kept in
             let same : k.entry ≡ x.entry = cc one in
             let two : Found (record k.entry { dirty = k.dirty }) k.dir_at k.word_at ≡ Found r.entry r.dir_at r.word_at =
-            sym (walk_is s.ram m.frames b.cpu.cr3 page (record k.entry { dirty = k.dirty }) k.dir_at k.word_at k.walk) ∙ walk_is s.ram m.frames b.cpu.cr3 page r.entry r.dir_at r.word_at walk in
+            sym (walk_is s.ram m.frames b.cpu.cr3 (pse_of b.cpu) page (record k.entry { dirty = k.dirty }) k.dir_at k.word_at k.walk) ∙ walk_is s.ram m.frames b.cpu.cr3 (pse_of b.cpu) page r.entry r.dir_at r.word_at walk in
             let there : record k.entry { dirty = k.dirty } ≡ r.entry = cc two in
             let p = both (grants x.entry (side w) (wp_of b)) (not w || x.entry.dirty) x.allowed in
             let grants_there : grants r.entry (side w) (wp_of b) ≡ true =

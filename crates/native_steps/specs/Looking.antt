@@ -10,10 +10,11 @@ use Rattle.ia32_decode.specs.declared.answer.Decoded.{Decoded}
 use Rattle.ia32_decode.specs.declared.answer.Decoded.TheVariants as begins
 use Rattle.ia32_decode.specs.Decoding.{decoded}
 use Rattle.ia32_decode.specs.Front.{longest, front_len}
+use Rattle.descriptors.specs.Controls.{pse_of}
 use Rattle.paging.specs.declared.entry.Access.{Access}
 use Rattle.paging.specs.declared.entry.Entry.{Entry}
 use Rattle.paging.specs.declared.entry.Walk.{Walk}
-use Rattle.paging.specs.declared.entry.Walk.TheVariants.{Absent, Beyond, Found}
+use Rattle.paging.specs.declared.entry.Walk.TheVariants.{Absent, Beyond, Reserved, Found}
 use Rattle.paging.specs.Fresh.{fresh, grants}
 use Rattle.paging.specs.Space.{Space}
 use Rattle.paging.specs.Uses.{usable}
@@ -34,6 +35,7 @@ pub record Seen : Type 0 where
 abbrev pub found_by : Access → Bool → Walk → Option Seen
 found_by access wp Absent = None
 found_by access wp Beyond = None
+found_by access wp Reserved = None
 found_by access wp (Found entry dir_at word_at) = if grants entry access wp then Some (record { frame = entry.frame; marks = dir_at ∷ word_at ∷ [] }) else None
 
 -- by an entry that may be used, or else by a walk
@@ -42,7 +44,7 @@ seen_by (Some entry) access wp walk = Some (record { frame = entry.frame; marks 
 seen_by None access wp walk = found_by access wp walk
 
 abbrev pub seen : Setting → State → ℕ → Option Seen
-seen m b page = seen_by (usable (get b.set page) (access_of b false) (protects b)) (access_of b false) (protects b) (fresh b.ram m.frames b.cpu.cr3 page)
+seen m b page = seen_by (usable (get b.set page) (access_of b false) (protects b)) (access_of b false) (protects b) (fresh b.ram m.frames b.cpu.cr3 (pse_of b.cpu) page)
 
 -- bytes of a page
 abbrev pub bytes_seen : List ℕ → Seen → ℕ → ℕ → List ℕ

@@ -8,11 +8,11 @@ use Rattle.ia32_types.specs.declared.stop.Stop.TheVariants as stops
 use Rattle.paging.specs.declared.entry.Access.{Access}
 use Rattle.paging.specs.declared.entry.Entry.{Entry}
 use Rattle.paging.specs.declared.entry.Walk.{Walk}
-use Rattle.paging.specs.declared.entry.Walk.TheVariants.{Absent, Beyond, Found}
+use Rattle.paging.specs.declared.entry.Walk.TheVariants.{Absent, Beyond, Reserved, Found}
 use Rattle.paging.specs.declared.entry.Touch.{Touch}
 use Rattle.paging.specs.declared.entry.Touch.TheVariants.{Ready, Fault, Stop}
 use Rattle.paging.specs.Space.{Mode, Bare, Wedge, Space}
-use Rattle.paging.specs.Fresh.{has, dir_place, fresh, grants}
+use Rattle.paging.specs.Fresh.{has, dir_place, is_large, fresh, grants}
 use Rattle.paging.specs.Uses.{Tables, tables_of, Decision, is_barred, window_stop, walks_text, marks_own, by_walk, decided, settled, usable, by_entry, page_uses, go_on, and_then, unready, made_ready, second_page, by_pages, by_window, uses, fetches}
 use Rattle.paging.specs.Agreement.{bare, is_extra_stop, is_extra, TouchAgrees, UsesAgree, FetchesAgree}
 
@@ -29,10 +29,11 @@ bare_tables t = record t { mode = Bare }
 abbrev DecisionAgrees : Decision → Decision → Type 0
 DecisionAgrees d e = (is_extra d.met ≡ true) ⊎ (e ≡ d)
 
-no_text : (b c : Bool) → (b && (c && false)) ≡ false
-no_text true true = refl
-no_text true false = refl
-no_text false c = refl
+no_text : (b c d : Bool) → (b && (c && (d && false))) ≡ false
+no_text true true true = refl
+no_text true true false = refl
+no_text true false d = refl
+no_text false c d = refl
 
 -- denied first, then the monitor's two tests, on the bare machine both false
 after_tests : (denied text own : Bool) (a b c d : Decision) → is_extra b.met ≡ true → is_extra c.met ≡ true → DecisionAgrees (cond denied a (cond text b (cond own c d))) (cond denied a d)
@@ -51,6 +52,7 @@ walk_agrees : (t : Tables) (fetch : Bool) (at : ℕ) (access : Access) (walk : W
 unfolding marks_own
 walk_agrees t fetch at access Absent = inr refl
 walk_agrees t fetch at access Beyond = inr refl
+walk_agrees t fetch at access Reserved = inr refl
 walk_agrees t fetch at access (Found entry dir_at word_at) =
     rw (bare_bars fetch access.user entry.page entry.frame)
     (after_tests (not (grants entry access t.wp)) (is_barred t.mode fetch access.user entry.page entry.frame) (marks_own t dir_at word_at access.write) _ _ _ _ refl refl)
@@ -62,11 +64,13 @@ after_text false false a b c e h k = k
 
 bare_walks : (t : Tables) (page : ℕ) → walks_text (bare_tables t) page ≡ false
 unfolding walks_text
-bare_walks t page = no_text (nat_lt (t.cr3 / 4096) t.frames) (has (word32 t.ram (dir_place t.cr3 page)) 1)
+bare_walks t page =
+    let dir : ℕ = word32 t.ram (dir_place t.cr3 page) in
+    no_text (nat_lt (t.cr3 / 4096) t.frames) (has dir 1) (not (is_large t.pse dir))
 
 decided_agrees : (t : Tables) (fetch : Bool) (page at : ℕ) (access : Access) → DecisionAgrees (decided t fetch page at access) (decided (bare_tables t) fetch page at access)
 unfolding decided
-decided_agrees t fetch page at access = after_text (walks_text t page) (walks_text (bare_tables t) page) _ _ _ (bare_walks t page) refl (walk_agrees t fetch at access (fresh t.ram t.frames t.cr3 page))
+decided_agrees t fetch page at access = after_text (walks_text t page) (walks_text (bare_tables t) page) _ _ _ (bare_walks t page) refl (walk_agrees t fetch at access (fresh t.ram t.frames t.cr3 t.pse page))
 
 settled_agrees : (s : Space) (page : ℕ) (d e : Decision) → DecisionAgrees d e → TouchAgrees (settled s page d) (settled (bare s) page e)
 settled_agrees s page d e (inl h) = inl h

@@ -42,6 +42,8 @@ pub record Space : Type 0 where
   -- the cached translations, by page
   pub set : FinMap nat_cmp Entry
   pub cr3 : ℕ
+  -- the PSE flag of CR4 and the WP flag of CR0
+  pub pse : Bool
   pub wp : Bool
   pub mode : Mode
   -- through how many pages this step went, and through which, in their order

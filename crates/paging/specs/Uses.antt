@@ -9,11 +9,11 @@ use Rattle.ia32_types.specs.declared.stop.Stop.TheVariants as stops
 use Rattle.paging.specs.declared.entry.Access.{Access}
 use Rattle.paging.specs.declared.entry.Entry.{Entry}
 use Rattle.paging.specs.declared.entry.Walk.{Walk}
-use Rattle.paging.specs.declared.entry.Walk.TheVariants.{Absent, Beyond, Found}
+use Rattle.paging.specs.declared.entry.Walk.TheVariants.{Absent, Beyond, Reserved, Found}
 use Rattle.paging.specs.declared.entry.Touch.{Touch}
 use Rattle.paging.specs.declared.entry.Touch.TheVariants.{Ready, Fault, Stop}
 use Rattle.paging.specs.Space.{Mode, Bare, Wedge, Space, earlier_of, frames_of}
-use Rattle.paging.specs.Fresh.{has, dir_place, fresh, tables_read, grants, allows, flagged}
+use Rattle.paging.specs.Fresh.{has, dir_place, is_large, fresh, tables_read, grants, allows, flagged}
 
 -- the frame holds text
 abbrev pub is_text : Mode → ℕ → Bool
@@ -50,17 +50,22 @@ pub record Tables : Type 0 where
   pub ram : List ℕ
   pub frames : ℕ
   pub cr3 : ℕ
+  pub pse : Bool
   pub wp : Bool
   pub mode : Mode
 
 abbrev pub tables_of : Space → Tables
-tables_of s = record { ram = s.ram; frames = s.frames; cr3 = s.cr3; wp = s.wp; mode = s.mode }
+tables_of s = record { ram = s.ram; frames = s.frames; cr3 = s.cr3; pse = s.pse; wp = s.wp; mode = s.mode }
+
+-- the table that a directory word names stands in a frame that holds text
+abbrev pub table_is_text : Mode → Bool → ℕ → Bool
+table_is_text mode pse dir = has dir 1 && (not (is_large pse dir) && is_text mode (dir / 4096))
 
 -- a walk reads a directory word or a table word in a frame that holds text
 unfoldable pub walks_text : Tables → ℕ → Bool
 walks_text s page =
     is_text s.mode (s.cr3 / 4096)
-    || (nat_lt (s.cr3 / 4096) s.frames && (has (word32 s.ram (dir_place s.cr3 page)) 1 && is_text s.mode (word32 s.ram (dir_place s.cr3 page) / 4096)))
+    || (nat_lt (s.cr3 / 4096) s.frames && table_is_text s.mode s.pse (word32 s.ram (dir_place s.cr3 page)))
 
 -- a walk turns a clear flag on in a byte of the instruction
 unfoldable pub marks_own : Tables → ℕ → ℕ → Bool → Bool
@@ -86,6 +91,7 @@ pub record Decision : Type 0 where
 abbrev pub by_walk : Tables → (fetch : Bool) → ℕ → Access → Walk → Decision
 by_walk s fetch at access Absent = record { met = Fault (fault_code false access) at; entry = None; ram = s.ram }
 by_walk s fetch at access Beyond = record { met = Stop stops.BeyondRam; entry = None; ram = s.ram }
+by_walk s fetch at access Reserved = record { met = Stop stops.ControlBits; entry = None; ram = s.ram }
 by_walk s fetch at access (Found entry dir_at word_at) =
     if not (grants entry access s.wp) then record { met = Fault (fault_code true access) at; entry = None; ram = s.ram } else
     (if is_barred s.mode fetch access.user entry.page entry.frame then record { met = Stop stops.TextMapped; entry = None; ram = s.ram } else
@@ -95,7 +101,7 @@ by_walk s fetch at access (Found entry dir_at word_at) =
 unfoldable pub decided : Tables → (fetch : Bool) → ℕ → ℕ → Access → Decision
 decided s fetch page at access =
     if walks_text s page then record { met = Stop stops.TableInText; entry = None; ram = s.ram } else
-    by_walk s fetch at access (fresh s.ram s.frames s.cr3 page)
+    by_walk s fetch at access (fresh s.ram s.frames s.cr3 s.pse page)
 
 -- the page's entry is this one, or there is none
 abbrev pub with_entry : FinMap nat_cmp Entry → ℕ → Option Entry → FinMap nat_cmp Entry
@@ -109,7 +115,7 @@ without_dir set index = retain_keys set (λ page. not (page / 1024 == index))
 -- the old entry leaves, and a fresh walk decides
 abbrev pub settled : Space → ℕ → Decision → Touch × Space
 settled s page d =
-    (d.met, record s { ram = d.ram; set = with_entry s.set page d.entry; tables = s.tables ++ tables_read s.ram s.frames s.cr3 page })
+    (d.met, record s { ram = d.ram; set = with_entry s.set page d.entry; tables = s.tables ++ tables_read s.ram s.frames s.cr3 s.pse page })
 
 -- an entry that lets the access pass
 abbrev pub usable : Option Entry → Access → Bool → Option Entry

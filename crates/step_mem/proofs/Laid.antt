@@ -8,10 +8,10 @@ use Rattle.std.proofs.lemmas.Bool.{cases_lt}
 use Rattle.guest_ram.specs.Bytes.{part, byte, word32, with_part, with_byte}
 use Rattle.guest_ram.proofs.Bytes.{length-with_byte, byte-part}
 use Rattle.paging.specs.declared.entry.Walk.{Walk}
-use Rattle.paging.specs.declared.entry.Walk.TheVariants.{Absent, Beyond}
+use Rattle.paging.specs.declared.entry.Walk.TheVariants.{Absent, Beyond, Reserved}
 use Rattle.paging.specs.Space.{Mode}
-use Rattle.paging.specs.Fresh.{has, flagged, fresh, by_dir, by_word, dir_place, word_place}
-use Rattle.paging.specs.Uses.{is_text, walks_text}
+use Rattle.paging.specs.Fresh.{has, flagged, fresh, is_large, has_reserved, large_frame, by_dir, by_large, by_word, dir_place, word_place}
+use Rattle.paging.specs.Uses.{is_text, table_is_text, walks_text}
 use Rattle.paging.proofs.Drops.{drop-with_byte}
 use Rattle.step_mem.specs.declared.guard.Own.{Own}
 use Rattle.step_mem.specs.declared.guard.Text.{Text}
@@ -141,18 +141,28 @@ pick : (b : Bool) (P : Walk → Type 0) (w x : Walk) → P w → (b ≡ false �
 pick true P w x h k = h
 pick false P w x h k = k refl
 
-same_dir : (kept : Option Text) (own : Own) (frames : ℕ) (ram : List ℕ) (cr3 page dir : ℕ) → 4096 * frames ≤ length ram → IsLaid kept frames → (has dir 1 && is_text (mode_by kept own) (dir / 4096)) ≡ false → by_dir (shown_by kept frames ram) frames cr3 page dir ≡ by_dir ram frames cr3 page dir
-same_dir kept own frames ram cr3 page dir room laid h =
+-- the table that is read holds no text
+table_apart : (mode : Mode) (pse : Bool) (dir : ℕ) → not (has dir 1) ≡ false → is_large pse dir ≡ false → table_is_text mode pse dir ≡ false → is_text mode (dir / 4096) ≡ false
+table_apart mode pse dir p large h =
+    small (is_large pse dir) (is_text mode (dir / 4096)) large (second_of (has dir 1) (not (is_large pse dir) && is_text mode (dir / 4096)) p h)
+  where
+    small : (a b : Bool) → a ≡ false → (not a && b) ≡ false → b ≡ false
+    small false b e k = k
+    small true b e k = absurd (cc)
+
+same_dir : (kept : Option Text) (own : Own) (frames : ℕ) (ram : List ℕ) (cr3 : ℕ) (pse : Bool) (page dir : ℕ) → 4096 * frames ≤ length ram → IsLaid kept frames → table_is_text (mode_by kept own) pse dir ≡ false → by_dir (shown_by kept frames ram) frames cr3 pse page dir ≡ by_dir ram frames cr3 pse page dir
+same_dir kept own frames ram cr3 pse page dir room laid h =
     choose (not (has dir 1)) Absent _ _
-    (λ p. choose (nat_le frames (dir / 4096)) Beyond _ _
+    (λ p. choose (is_large pse dir) (by_large frames cr3 page dir) _ _
+    (λ large. choose (nat_le frames (dir / 4096)) Beyond _ _
     (λ q.
     let in_frames : dir / 4096 < frames = grind (arith, nat_tests) in
     let at = word_place dir page in
     let frame : at / 4096 ≡ dir / 4096 = omega arith in
     let within : at < 4096 * frames = omega arith in
     let one : at % 4096 + 4 ≤ 4096 = omega arith in
-    let apart : is_text (mode_by kept own) (at / 4096) ≡ false = rw frame (second_of (has dir 1) (is_text (mode_by kept own) (dir / 4096)) p h) in
-    ap (by_word frames cr3 page dir) (shown_word kept own frames ram at room laid within one apart)))
+    let apart : is_text (mode_by kept own) (at / 4096) ≡ false = rw frame (table_apart (mode_by kept own) pse dir p large h) in
+    ap (by_word frames cr3 page dir) (shown_word kept own frames ram at room laid within one apart))))
 
 -- where the directory word lies
 dir_apart : (mode : Mode) (cr3 page : ℕ) → page < 2 ^ 20 → is_text mode (cr3 / 4096) ≡ false → is_text mode (dir_place cr3 page / 4096) ≡ false
@@ -161,9 +171,9 @@ dir_apart mode cr3 page small h = let frame : dir_place cr3 page / 4096 ≡ cr3 
 word_apart : (mode : Mode) (dir page : ℕ) → is_text mode (dir / 4096) ≡ false → is_text mode (word_place dir page / 4096) ≡ false
 word_apart mode dir page h = let frame : word_place dir page / 4096 ≡ dir / 4096 = omega arith in rw frame h
 
-pub record WalksApart (kept : Option Text) (own : Own) (frames : ℕ) (ram : List ℕ) (cr3 page : ℕ) : Type 0 where
+pub record WalksApart (kept : Option Text) (own : Own) (frames : ℕ) (ram : List ℕ) (cr3 : ℕ) (pse : Bool) (page : ℕ) : Type 0 where
   pub root : is_text (mode_by kept own) (cr3 / 4096) ≡ false
-  pub dir : cr3 / 4096 < frames → (has (word32 ram (dir_place cr3 page)) 1 && is_text (mode_by kept own) (word32 ram (dir_place cr3 page) / 4096)) ≡ false
+  pub dir : cr3 / 4096 < frames → table_is_text (mode_by kept own) pse (word32 ram (dir_place cr3 page)) ≡ false
 
 -- the directory word is the same
 same_word : (kept : Option Text) (own : Own) (frames : ℕ) (ram : List ℕ) (cr3 page : ℕ) → 4096 * frames ≤ length ram → IsLaid kept frames → page < 2 ^ 20 → is_text (mode_by kept own) (cr3 / 4096) ≡ false → cr3 / 4096 < frames
@@ -174,10 +184,10 @@ same_word kept own frames ram cr3 page room laid small root in_frames =
     let one : at % 4096 + 4 ≤ 4096 = omega arith in
     shown_word kept own frames ram at room laid within one (dir_apart (mode_by kept own) cr3 page small root)
 
-pub walks_apart : (kept : Option Text) (own : Own) (frames : ℕ) (ram : List ℕ) (cr3 page : ℕ) (wp : Bool) → 4096 * frames ≤ length ram → IsLaid kept frames → page < 2 ^ 20
-    → walks_text (record { ram = shown_by kept frames ram; frames = frames; cr3 = cr3; wp = wp; mode = mode_by kept own }) page ≡ false → WalksApart kept own frames ram cr3 page
+pub walks_apart : (kept : Option Text) (own : Own) (frames : ℕ) (ram : List ℕ) (cr3 : ℕ) (pse : Bool) (page : ℕ) (wp : Bool) → 4096 * frames ≤ length ram → IsLaid kept frames → page < 2 ^ 20
+    → walks_text (record { ram = shown_by kept frames ram; frames = frames; cr3 = cr3; pse = pse; wp = wp; mode = mode_by kept own }) page ≡ false → WalksApart kept own frames ram cr3 pse page
 unfolding walks_text
-walks_apart kept own frames ram cr3 page wp room laid small h =
+walks_apart kept own frames ram cr3 pse page wp room laid small h =
     let parts = neither (is_text (mode_by kept own) (cr3 / 4096)) _ h in
     record {
       root = parts.0;
@@ -186,33 +196,38 @@ walks_apart kept own frames ram cr3 page wp room laid small h =
           rw (same_word kept own frames ram cr3 page room laid small parts.0 in_frames) at (holding (nat_lt (cr3 / 4096) frames) _ tested parts.1);
     }
 
-pub shown_fresh : (kept : Option Text) (own : Own) (frames : ℕ) (ram : List ℕ) (cr3 page : ℕ) → 4096 * frames ≤ length ram → IsLaid kept frames → page < 2 ^ 20 → WalksApart kept own frames ram cr3 page
-    → fresh (shown_by kept frames ram) frames cr3 page ≡ fresh ram frames cr3 page
+pub shown_fresh : (kept : Option Text) (own : Own) (frames : ℕ) (ram : List ℕ) (cr3 : ℕ) (pse : Bool) (page : ℕ) → 4096 * frames ≤ length ram → IsLaid kept frames → page < 2 ^ 20 → WalksApart kept own frames ram cr3 pse page
+    → fresh (shown_by kept frames ram) frames cr3 pse page ≡ fresh ram frames cr3 pse page
 unfolding fresh
-shown_fresh kept own frames ram cr3 page room laid small h =
+shown_fresh kept own frames ram cr3 pse page room laid small h =
     choose (nat_le frames (cr3 / 4096)) Beyond _ _
     (λ q.
     let in_frames : cr3 / 4096 < frames = grind (arith, nat_tests) in
-    ap (by_dir (shown_by kept frames ram) frames cr3 page) (same_word kept own frames ram cr3 page room laid small h.root in_frames)
-    ∙ same_dir kept own frames ram cr3 page (word32 ram (dir_place cr3 page)) room laid (h.dir in_frames))
+    ap (by_dir (shown_by kept frames ram) frames cr3 pse page) (same_word kept own frames ram cr3 page room laid small h.root in_frames)
+    ∙ same_dir kept own frames ram cr3 pse page (word32 ram (dir_place cr3 page)) room laid (h.dir in_frames))
 
-pub found_apart : (kept : Option Text) (own : Own) (frames : ℕ) (ram : List ℕ) (cr3 page : ℕ) → page < 2 ^ 20 → WalksApart kept own frames ram cr3 page → IsFoundApart (mode_by kept own) (fresh ram frames cr3 page)
+pub found_apart : (kept : Option Text) (own : Own) (frames : ℕ) (ram : List ℕ) (cr3 : ℕ) (pse : Bool) (page : ℕ) → page < 2 ^ 20 → WalksApart kept own frames ram cr3 pse page → IsFoundApart (mode_by kept own) (fresh ram frames cr3 pse page)
 unfolding fresh
-found_apart kept own frames ram cr3 page small h =
+found_apart kept own frames ram cr3 pse page small h =
     let dir = word32 ram (dir_place cr3 page) in
     let word = word32 ram (word_place dir page) in
     let mode = mode_by kept own in
+    let root = dir_apart mode cr3 page small h.root in
     pick (nat_le frames (cr3 / 4096)) (IsFoundApart mode) Beyond _ tt
     (λ q.
     let in_frames : cr3 / 4096 < frames = grind (arith, nat_tests) in
     pick (not (has dir 1)) (IsFoundApart mode) Absent _ tt
     (λ p.
+    pick (is_large pse dir) (IsFoundApart mode) (by_large frames cr3 page dir) _
+    (pick (has_reserved dir) (IsFoundApart mode) Reserved _ tt
+    (λ _. pick (nat_le frames (large_frame dir page)) (IsFoundApart mode) Beyond _ tt (λ _. (root, root))))
+    (λ large.
     pick (nat_le frames (dir / 4096)) (IsFoundApart mode) Beyond _ tt
     (λ _.
     pick (not (has word 1)) (IsFoundApart mode) Absent _ tt
     (λ _.
     pick (nat_le frames (word / 4096)) (IsFoundApart mode) Beyond _ tt
-    (λ _. (dir_apart mode cr3 page small h.root, word_apart mode dir page (second_of (has dir 1) (is_text mode (dir / 4096)) p (h.dir in_frames))))))))
+    (λ _. (root, word_apart mode dir page (table_apart mode pse dir p large (h.dir in_frames)))))))))
 
 -- ---- what isn't reached
 

@@ -2,7 +2,7 @@
 use Rattle.std.specs.Prelude.{◌≡◌, ℕ, ◌*◌, ◌/◌, ◌++◌, false, List, Option, Some, None, take, drop}
 use Rattle.guest_ram.specs.Bytes.{part, with_part}
 use Rattle.paging.specs.declared.entry.Walk.{Walk}
-use Rattle.paging.specs.declared.entry.Walk.TheVariants.{Absent, Beyond, Found}
+use Rattle.paging.specs.declared.entry.Walk.TheVariants.{Absent, Beyond, Reserved, Found}
 use Rattle.paging.specs.Space.{Mode}
 use Rattle.paging.specs.Uses.{is_text}
 use Rattle.step_mem.specs.declared.guard.Text.{Text}
@@ -35,4 +35,5 @@ hidden guard frames ram = hidden_by guard.text.now frames ram
 abbrev pub IsFoundApart : Mode → Walk → Type 0
 IsFoundApart mode Absent = Unit {0}
 IsFoundApart mode Beyond = Unit {0}
+IsFoundApart mode Reserved = Unit {0}
 IsFoundApart mode (Found entry dir_at word_at) = (is_text mode (dir_at / 4096) ≡ false) × (is_text mode (word_at / 4096) ≡ false)

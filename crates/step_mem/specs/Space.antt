@@ -27,6 +27,7 @@ space_of kept ram control guard changes rest =
       frames = control.frames;
       set = changed (kept ram) changes;
       cr3 = control.cr3;
+      pse = control.pse;
       wp = control.wp;
       mode = mode_of guard;
       pages = rest.pages;

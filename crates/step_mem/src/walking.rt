@@ -2,7 +2,7 @@
 
 ghost use Rattle.std.specs.Prelude.{◌≡◌, ◌+◌, ◌*◌, ◌≤◌, ◌<◌, ◌^◌, ◌++◌, length, drop, IfSome, IsSome, false};
 ghost use Rattle.paging.specs.Uses.{decided, walks_text, marks_own, fault_code, is_barred};
-ghost use Rattle.paging.specs.Fresh.{fresh, tables_read, FoundIn};
+ghost use Rattle.paging.specs.Fresh.{fresh, is_large, tables_read, FoundIn};
 ghost use Rattle.step_mem.specs.Guard.{mode_of, IsLaid};
 ghost use Rattle.step_mem.specs.Shown.{shown, hidden, IsFoundApart};
 ghost use Rattle.step_mem.specs.Tables.{tables};
@@ -19,7 +19,17 @@ use paging::{Access, Entry, Touch, Walk, grants, walk};
 pub struct Control {
     pub frames: u32,
     pub cr3: u32,
+    /// The PSE flag of CR4.
+    pub pse: bool,
+    /// The WP flag of CR0.
     pub wp: bool,
+}
+
+/// The directory word maps a page of 4 MB by itself.
+fn is_large(pse: bool, dir: u32) -> bool
+    ensures { result ≡ is_large pse dir }
+{
+    pse && dir / 128 % 2 == 1
 }
 
 #[tactic(auto, unfolding(paging::specs::Uses::walks_text))]
@@ -43,7 +53,7 @@ fn walks_text(ram: &Ram, control: Control, guard: &Guard, page: u32) -> bool
         control.frames,
         dir_frame * 4096 + page / 1024 * 4,
     );
-    dir % 2 == 1 && is_text(guard, dir / 4096)
+    dir % 2 == 1 && (!is_large(control.pse, dir) && is_text(guard, dir / 4096))
 }
 
 /// A walk over words that lie in frames that hold no text.
@@ -52,11 +62,11 @@ fn walk_apart(ram: &Ram, control: Control, guard: &Guard, page: u32) -> Walk
     requires laid { IsLaid guard.now.text.now control.frames }
     requires page { page < 2 ^ 20 }
     requires apart { walks_text (tables ram.now control guard.now) page ≡ false }
-    ensures walk { result ≡ fresh (shown guard.now control.frames ram.now) control.frames control.cr3 page }
+    ensures walk { result ≡ fresh (shown guard.now control.frames ram.now) control.frames control.cr3 control.pse page }
     ensures found { FoundIn control.frames page result }
     ensures apart { IsFoundApart (mode_of guard.now) result }
 {
-    walk(ram, control.frames, control.cr3, page)
+    walk(ram, control.frames, control.cr3, control.pse, page)
 }
 
 #[tactic(auto, unfolding(paging::specs::Uses::marks_own))]
@@ -88,7 +98,7 @@ pub fn note_tables(ram: &Ram, control: Control, guard: &Guard, page: u32, tables
     requires laid { IsLaid guard.now.text.now control.frames }
     requires page { page < 2 ^ 20 }
     requires room { length tables.old ≤ 126 }
-    ensures noted { tables.new ≡ tables.old ++ tables_read (shown guard.now control.frames ram.now) control.frames control.cr3 page }
+    ensures noted { tables.new ≡ tables.old ++ tables_read (shown guard.now control.frames ram.now) control.frames control.cr3 control.pse page }
     ensures few { length tables.new ≤ length tables.old + 2 }
 {
     let dir_frame = control.cr3 / 4096;
@@ -103,7 +113,7 @@ pub fn note_tables(ram: &Ram, control: Control, guard: &Guard, page: u32, tables
         control.frames,
         dir_frame * 4096 + page / 1024 * 4,
     );
-    if dir % 2 == 1 && dir / 4096 < control.frames {
+    if dir % 2 == 1 && (!is_large(control.pse, dir) && dir / 4096 < control.frames) {
         tables.push(dir / 4096);
     }
 }
@@ -151,6 +161,7 @@ pub fn decide(
             None,
         ),
         Walk::Beyond => (Touch::Stop(Stop::BeyondRam), None),
+        Walk::Reserved => (Touch::Stop(Stop::ControlBits), None),
         Walk::Found {
             entry,
             dir_at,

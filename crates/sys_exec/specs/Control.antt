@@ -1,5 +1,5 @@
 -- MOV to and from the control registers.
-use Rattle.std.specs.Prelude.{ℕ, ◌==◌, ◌&&◌, ◌%◌, if◌then◌else◌, bit_and, bit_or}
+use Rattle.std.specs.Prelude.{ℕ, ◌/◌, ◌%◌, Bool, ◌==◌, ◌&&◌, ◌||◌, not, if◌then◌else◌, bit_and, bit_or}
 use Rattle.ia32_types.specs.declared.insn.Operand.{Operand}
 use Rattle.ia32_types.specs.declared.insn.Operand.TheVariants.{Register, Control}
 use Rattle.ia32_types.specs.declared.stop.Stop.TheVariants as stops
@@ -36,11 +36,15 @@ load_control_3 cpu v = do
   _ ← unless control_stop (bit_and v control_3_refused == 0)
   gives (record { cpu = record cpu { cr3 = v }; effect = effects.DropAll })
 
--- CR4 has no bit
+-- a value of CR4 changes PSE (4)
+abbrev pub changes_pse : Cpu → ℕ → Bool
+changes_pse cpu v = not (v / 0x10 % 2 == cpu.cr4 / 0x10 % 2)
+
+-- CR4: PSE may be given, and where it changes the set is emptied
 abbrev pub load_control_4 : Cpu → ℕ → Work Refusal Done
 load_control_4 cpu v = do
-  _ ← unless control_stop (v == 0)
-  gives (record { cpu = record cpu { cr4 = v }; effect = effects.Next })
+  _ ← unless control_stop (v == 0 || v == 0x10)
+  gives (record { cpu = record cpu { cr4 = v }; effect = if changes_pse cpu v then effects.DropAll else effects.Next })
 
 unfoldable pub load_control : Cpu → ℕ → ℕ → Work Refusal Done
 load_control cpu number v =

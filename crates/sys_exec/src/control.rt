@@ -38,10 +38,15 @@ fn load_control(cpu: &Cpu, number: u8, v: u32) -> Result<Done, Refusal>
             (Cpu { cr3: v, ..*cpu }, SysEffect::DropAll)
         }
         4 => {
-            if v != 0 {
+            if v != 0 && v != 16 {
                 return Err(Refusal::Stop(Stop::ControlBits));
             }
-            (Cpu { cr4: v, ..*cpu }, SysEffect::Next)
+            let effect = if v / 16 % 2 != cpu.cr4 / 16 % 2 {
+                SysEffect::DropAll
+            } else {
+                SysEffect::Next
+            };
+            (Cpu { cr4: v, ..*cpu }, effect)
         }
         _ => return Err(UNSUPPORTED),
     };

@@ -3,8 +3,8 @@
 ghost use Rattle.std.specs.Prelude.{◌≡◌, ◌+◌, ◌*◌, ◌≤◌, ◌<◌, ◌^◌, OnOk};
 ghost use Rattle.paging.specs.Work.{Gives};
 ghost use Rattle.paging.specs.Space.{Space};
-ghost use Rattle.sys_exec.specs.Table.{table_at, load_gdt, load_idt, load_tr, drop_page};
-ghost use Rattle.sys_exec.specs.Asked.{GivesAsked};
+ghost use Rattle.sys_exec.specs.Table.{table_at, load_gdt, load_idt, load_tr, drop_at, drop_page};
+ghost use Rattle.sys_exec.specs.Asked.{IsAsked, GivesAsked};
 
 use crate::effect::{Done, Refusal, SysEffect};
 use crate::operand::{PROTECTION_0, UNSUPPORTED, next, past, reach_operand, selector};
@@ -98,6 +98,18 @@ pub fn load_tr<M: GuestMem>(a: &Operand, len: u8, cpu: &Cpu, mem: &mut M) -> Res
     }))
 }
 
+/// What leaves the set for an address.
+fn drop_at(pse: bool, at: u32) -> SysEffect
+    ensures drops { result ≡ drop_at pse at }
+    ensures asked { IsAsked result }
+{
+    if pse {
+        SysEffect::DropDir(at / 4194304)
+    } else {
+        SysEffect::DropPage(at / 4096)
+    }
+}
+
 /// INVLPG.
 #[tactic(auto, unfolding(crate::specs::Table::drop_page))]
 pub fn drop_page(a: &Operand, len: u8, cpu: &Cpu) -> Result<Done, Refusal>
@@ -110,7 +122,7 @@ pub fn drop_page(a: &Operand, len: u8, cpu: &Cpu) -> Result<Done, Refusal>
     match a {
         Operand::Memory(a) => Ok(Done {
             cpu: past(cpu, len),
-            effect: SysEffect::DropPage(address_of(*a, &cpu.regs) / 4096),
+            effect: drop_at(cpu.pse(), address_of(*a, &cpu.regs)),
         }),
         Operand::Absent => Err(UNSUPPORTED),
         Operand::Register(_) => Err(UNSUPPORTED),

@@ -73,10 +73,11 @@ const CR3: [Given; 18] = [
     (0xFFFF_F019, None),
 ];
 
-const CR4: [Given; 5] = [
+const CR4: [Given; 6] = [
     (0x0000_0000, Some(0x0000_0000)),
     (0x0000_0001, None),
-    (0x0000_0010, None), // PSE (4)
+    (0x0000_0010, Some(0x0000_0010)), // PSE (4)
+    (0x0000_0011, None),
     (0x0000_0080, None), // PGE (7)
     (0x8000_0000, None),
 ];
@@ -108,14 +109,14 @@ fn with_control(cpu: Cpu, number: u8, v: u32) -> Cpu {
     then
 }
 
-// MOV to a control register: all translations leave the set where it is CR3.
+// MOV to a control register: all translations leave the set where it is CR3, or where it turns PSE on.
 fn given(number: u8, row: Given) -> Case {
     let (v, then) = row;
     let cpu = with(cpu_at(0), 3, v);
     match then {
         None => refused(cpu, NONE, to(number), STOP),
         Some(kept) => {
-            let effect = if number == 3 {
+            let effect = if number == 3 || (number == 4 && kept == 0x10) {
                 SysEffect::DropAll
             } else {
                 SysEffect::Next

@@ -131,3 +131,21 @@ fn a_page_is_dropped_without_an_access(rt: HostRuntime) -> Result<(), Fail> {
     assert_eq!(rt; run(alloc, &by_user(INVLPG))?, Seen::Right);
     Ok(())
 }
+
+// With pages of 4 MB every page of the directory index is dropped.
+fn dropped_with_pse() -> Case {
+    let cpu = Cpu {
+        cr4: 0x10,
+        ..cpu_at(0)
+    };
+    let mut case = refused(cpu, NONE, INVLPG, SysEffect::DropDir(0x48));
+    case.then = past(cpu, 7);
+    case
+}
+
+#[test]
+fn a_directory_is_dropped_with_pse(rt: HostRuntime) -> Result<(), Fail> {
+    let alloc = rt.alloc();
+    assert_eq!(rt; run(alloc, &dropped_with_pse())?, Seen::Right);
+    Ok(())
+}

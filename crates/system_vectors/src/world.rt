@@ -241,6 +241,7 @@ fn begin<'g, B: Kept>(cpu: &Cpu, ram: &Ram, kept: &B, frames: u32, guard: Guard<
     let control = Control {
         frames,
         cr3: cpu.cr3,
+        pse: cpu.pse(),
         wp: cpu.cr0 / 65536 % 2 == 1,
     };
     State::new(control, guard)

@@ -14,7 +14,7 @@ use Rattle.paging.specs.declared.entry.Access.{Access}
 use Rattle.paging.specs.declared.entry.Entry.{Entry}
 use Rattle.paging.specs.declared.entry.Touch.{Touch}
 use Rattle.paging.specs.declared.entry.Touch.TheVariants.{Ready, Stop}
-use Rattle.paging.specs.Fresh.{has, dir_place, word_place, fresh}
+use Rattle.paging.specs.Fresh.{has, dir_place, word_place, is_large, fresh}
 use Rattle.paging.specs.Space.{Mode, Space, place}
 use Rattle.paging.specs.Uses.{Tables, tables_of, Decision, is_text, is_given, is_barred, walks_text, by_walk, decided, usable, by_entry, page_uses, and_then, unready, made_ready, fetches, with_front}
 use Rattle.image_load.specs.Boot.{text_pages}
@@ -29,12 +29,13 @@ use Rattle.native_steps.specs.Again as again
 use Rattle.native_steps.proofs.Choices.{both, clash, eq_told, eq_true, le_told, le_true, lt_true}
 use Rattle.native_steps.proofs.Completing.{start_there}
 use Rattle.native_steps.proofs.Fetching.{Fetches, IsFetch, IsIn, IsPast, fetch_parts, by_parts}
-use Rattle.native_steps.proofs.Marks.{walk_parts, dir_in, word_in, flagged_kept}
+use Rattle.native_steps.proofs.Marks.{flagged_kept}
 use Rattle.native_steps.proofs.Repeating.{start_in, part_same, front_is, owns_in, in_way, left_is, left_in, across_way}
 use Rattle.native_steps.proofs.Shown.{text_shown}
 use Rattle.native_steps.proofs.Standing.{way_to}
 use Rattle.native_steps.proofs.Through.{Through, through_same, within_as, taken_parts, on_ready, pair, fetch_through}
 use Rattle.native_steps.proofs.Walking.{IsWithin, IsServed, decided_readied}
+use Rattle.native_steps.proofs.Walks.{IsWalk, ByTable, Large, walk_parts, walk_in}
 use Rattle.native_steps.proofs.Ways.{Way}
 
 -- ---- the frames of the text stay
@@ -48,27 +49,42 @@ second_of true true z e f g = g
 second_of false y z e f g = absurd cc
 second_of true false z e f g = absurd cc
 
+last_of : (x y : Bool) → x ≡ false → (not x && y) ≡ false → y ≡ false
+last_of false y e g = g
+last_of true y e g = absurd cc
+
 walks_apart : (s : Tables) (fetch : Bool) (page at : ℕ) (access : Access) → (decided s fetch page at access).met ≡ Ready → walks_text s page ≡ false
 unfolding decided
 walks_apart s fetch page at access e = by (walks_text s page) e
   where
-    by : (text : Bool) → (cond {A = Decision} text (record { met = Stop stops.TableInText; entry = None; ram = s.ram }) (by_walk s fetch at access (fresh s.ram s.frames s.cr3 page))).met ≡ Ready → text ≡ false
+    by : (text : Bool) → (cond {A = Decision} text (record { met = Stop stops.TableInText; entry = None; ram = s.ram }) (by_walk s fetch at access (fresh s.ram s.frames s.cr3 s.pse page))).met ≡ Ready → text ≡ false
     by true x = absurd cc
     by false x = refl
 
--- the two words of a walk lie in frames that hold no text
+-- the words of a walk lie in frames that hold no text; that of a page of 4 MB is one
 roots_apart : (s : Tables) (page : ℕ) → walks_text s page ≡ false → (is_text s.mode (s.cr3 / 4096) ≡ false)
-    × (s.cr3 / 4096 < s.frames → has (word32 s.ram (dir_place s.cr3 page)) 1 ≡ true → is_text s.mode (word32 s.ram (dir_place s.cr3 page) / 4096) ≡ false)
+    × (s.cr3 / 4096 < s.frames → has (word32 s.ram (dir_place s.cr3 page)) 1 ≡ true → is_large s.pse (word32 s.ram (dir_place s.cr3 page)) ≡ false → is_text s.mode (word32 s.ram (dir_place s.cr3 page) / 4096) ≡ false)
 unfolding walks_text
 roots_apart s page e =
+    let dir : ℕ = word32 s.ram (dir_place s.cr3 page) in
     let p = either (is_text s.mode (s.cr3 / 4096)) _ e in
-    (p.0, λ lt h. second_of (nat_lt (s.cr3 / 4096) s.frames) (has (word32 s.ram (dir_place s.cr3 page)) 1) _ (lt_true (s.cr3 / 4096) s.frames lt) h p.1)
+    (p.0, λ lt h small. last_of (is_large s.pse dir) (is_text s.mode (dir / 4096)) small (second_of (nat_lt (s.cr3 / 4096) s.frames) (has dir 1) _ (lt_true (s.cr3 / 4096) s.frames lt) h p.1))
 
 dir_frame : (cr3 page : ℕ) → page < 2 ^ 20 → dir_place cr3 page / 4096 ≡ cr3 / 4096
 dir_frame cr3 page small = omega arith
 
 word_frame : (dir page : ℕ) → word_place dir page / 4096 ≡ dir / 4096
 word_frame dir page = omega arith
+
+places_apart : (s : Tables) (page : ℕ) (e : Entry) (d t : ℕ) → page < 2 ^ 20 → walks_text s page ≡ false → IsWalk s.ram s.frames s.cr3 s.pse page e d t → (is_text s.mode (d / 4096) ≡ false) × (is_text s.mode (t / 4096) ≡ false)
+places_apart s page e d t small apart (ByTable h) =
+    let p = roots_apart s page apart in (
+      ap (λ (n : ℕ). is_text s.mode (n / 4096)) (sym h.dir_is) ∙ (ap (is_text s.mode) (dir_frame s.cr3 page small) ∙ p.0),
+      ap (λ (n : ℕ). is_text s.mode (n / 4096)) (sym h.word_is) ∙ (ap (is_text s.mode) (word_frame (word32 s.ram (dir_place s.cr3 page)) page) ∙ p.1 h.root h.present h.small),
+    )
+places_apart s page e d t small apart (Large h) =
+    let free = ap (is_text s.mode) (dir_frame s.cr3 page small) ∙ (roots_apart s page apart).0 in
+    (ap (λ (n : ℕ). is_text s.mode (n / 4096)) (sym h.dir_is) ∙ free, ap (λ (n : ℕ). is_text s.mode (n / 4096)) (sym h.word_is) ∙ free)
 
 module _ (m : Setting) (b : State) where
   abbrev In : Space → Type 0
@@ -104,19 +120,15 @@ module _ (m : Setting) (b : State) where
       by_usable None x =
           let met : (decided (tables_of s) fetch page at (record { write = write; user = false })).met ≡ Ready = ap (λ (o : Touch × Space). o.0) x in
           let r = decided_readied (tables_of s) fetch page at (record { write = write; user = false }) met in
-          let apart = roots_apart (tables_of s) page (walks_apart (tables_of s) fetch page at (record { write = write; user = false }) met) in
-          let walk = walk_parts s.ram s.frames s.cr3 page r.entry r.dir_at r.word_at r.found in
-          let dir : ℕ = word32 s.ram (dir_place s.cr3 page) in
-          let p = dir_in s.frames s.cr3 page walk.root small in
-          let q = word_in s.frames dir page walk.table in
-          let d_is = walk.dir_is in
-          let w_is = walk.word_is in
+          let apart = walks_apart (tables_of s) fetch page at (record { write = write; user = false }) met in
+          let walk = walk_parts s.ram s.frames s.cr3 s.pse page r.entry r.dir_at r.word_at r.found in
+          let there = walk_in s.ram s.frames s.cr3 s.pse page r.entry r.dir_at r.word_at small walk in
+          let free = places_apart (tables_of s) page r.entry r.dir_at r.word_at small apart walk in
+          let d_in = there.dir_within in
+          let w_in = there.word_within in
           let room : 4096 * s.frames ≤ length s.ram = (let a = h.room in let f = h.frames in omega (arith, a, f)) in
-          let dir_free : is_text s.mode (r.dir_at / 4096) ≡ false = ap (λ (n : ℕ). is_text s.mode (n / 4096)) (sym d_is) ∙ (ap (is_text s.mode) (dir_frame s.cr3 page small) ∙ apart.0) in
-          let word_free : is_text s.mode (r.word_at / 4096) ≡ false =
-          ap (λ (n : ℕ). is_text s.mode (n / 4096)) (sym w_is) ∙ (ap (is_text s.mode) (word_frame dir page) ∙ apart.1 walk.root walk.present) in
-          let kept = flagged_kept s.ram r.dir_at r.word_at write (ap (λ n. n % 4) (sym d_is) ∙ p.0) (ap (λ n. n % 4) (sym w_is) ∙ q.0) (omega (arith, p.1, d_is, room)) (omega (arith, q.1, w_is, room)) h.fit k
-          (λ f. absurd (off_text s h k r.dir_at text dir_free f)) (λ f. absurd (off_text s h k r.word_at text word_free f)) in
+          let kept = flagged_kept s.ram r.dir_at r.word_at write there.dir_even there.word_even (omega (arith, d_in, room)) (omega (arith, w_in, room)) h.fit k
+          (λ f. absurd (off_text s h k r.dir_at text free.0 f)) (λ f. absurd (off_text s h k r.word_at text free.1 f)) in
           ap (λ (o : Touch × Space). byte o.1.ram k) (sym x) ∙ (ap (λ (z : Decision). byte z.ram k) r.is ∙ kept)
 
   none_there : (q : ℕ) → Contains {X = ℕ} [] q → ⊥
@@ -130,7 +142,7 @@ module _ (m : Setting) (b : State) where
       let whole : and_then o (made_ready at len false) ≡ (Ready, t) = pair m b true (fetches s at len false) p.0 ∙ ap (λ (x : Space). (Ready, x)) p.1.1 in
       let q = on_ready m b true o (made_ready at len false) t whole in
       let th = fetch_through m b true [] s t at len bytes h small (λ c. absurd (none_there (at / 4096) c)) e in
-      let quiet = within_as m b true s (unready s) h refl refl refl refl refl h.own h.mode in
+      let quiet = within_as m b true s (unready s) h refl refl refl refl refl refl h.own h.mode in
       record {
         long = th.through.marks.long;
         same = λ k text. ap (λ (x : Touch × Space). byte x.1.ram k) (sym q.1) ∙ page_text (unready s) o.1 true (at / 4096) at false quiet small (pair m b true o q.0) k text;
@@ -227,7 +239,7 @@ module _ (m : Setting) (w : IsWedge m) (memory : List ℕ) (host : IsHost m memo
         owning_in : (p : IsFetch false b.cpu.regs.eip insn len start t) (n : ℕ) → In m b (record p.first { mode = with_front p.first.mode (place p.first b.cpu.regs.eip) n })
         owning_in p n =
             let v = first_in p in
-            within_as m b true p.first (record p.first { mode = with_front p.first.mode (place p.first b.cpu.regs.eip) n }) v refl refl refl refl refl
+            within_as m b true p.first (record p.first { mode = with_front p.first.mode (place p.first b.cpu.regs.eip) n }) v refl refl refl refl refl refl
             (record { front = place p.first b.cpu.regs.eip; front_len = n; back = 0; back_len = 0 }) (ap (λ (y : Mode). with_front y (place p.first b.cpu.regs.eip) n) v.mode)
 
         by_end : (p : IsFetch false b.cpu.regs.eip insn len start t) → IsIn b.cpu.regs.eip insn len p.front p.first t ⊎ IsPast false b.cpu.regs.eip insn len p.front p.first t → kind_of insn.op ≡ None

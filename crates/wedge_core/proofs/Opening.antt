@@ -1,7 +1,7 @@
 -- What a view may show, when slots change.
-use Rattle.std.proofs.Common.{◌≡◌, ℕ, ◌<◌, ◌^◌, Bool, true, false, ◌&&◌, not, inl, inr, refl, sym, ap, subst, ◌∙◌, Option, Some, None, List, arith}
+use Rattle.std.proofs.Common.{◌≡◌, ℕ, ◌/◌, ◌<◌, ◌^◌, Bool, true, false, ◌&&◌, not, inl, inr, refl, sym, ap, subst, ◌∙◌, Option, Some, None, List, arith}
 use Rattle.std.specs.Prelude.{nat_le, ◌==◌}
-use Rattle.std.proofs.lemmas.Bool.Decides.{nat_tests}
+use Rattle.std.proofs.lemmas.Bool.Decides.{nat_tests, eqb_tells}
 use Rattle.std.specs.Option.{ForSome}
 use Rattle.std.specs.FinMap.{FinMap, get, empty, get-empty}
 use Rattle.std.specs.Ordering.{nat_cmp}
@@ -11,7 +11,7 @@ use Rattle.image_check.specs.Image.{Image}
 use Rattle.image_load.specs.Boot.{text_pages}
 use Rattle.shadow_tables.specs.Entries.{entries_of}
 use Rattle.shadow_tables.specs.Calls.{IsWithin}
-use Rattle.shadow_tables.specs.Slots.{Slot, filled, is_among, is_user, permits, entry_in, Turns}
+use Rattle.shadow_tables.specs.Slots.{Slot, filled, is_among, is_user, permits, entry_in, Turns, LosesDir}
 use Rattle.shadow_tables.specs.declared.words.Side.{Side}
 use Rattle.shadow_tables.specs.declared.words.Side.TheVariants.{Kernel, User}
 use Rattle.native_steps.specs.Lends.{IsOpen}
@@ -103,6 +103,14 @@ turned_open image wp old new gone t h page lt = by (page == gone) refl
     by false e =
         let other : page ≡ gone → ⊥ = λ same. let f : (page == gone) ≡ true = grind (arith, nat_tests, same) in absurd (let g : true ≡ false = sym f ∙ e in cc) in
         subst (λ (o : Option Slot). ForSome o (IsOpenSlot image wp)) (sym (t.others page lt other)) (h page lt)
+
+-- the pages of a directory index are gone
+pub lost_open : (image : Image) (wp : Bool) (old new : ℕ → Option Slot) (index : ℕ) → LosesDir old new index → AreOpen image wp old → AreOpen image wp new
+lost_open image wp old new index t h page lt =
+    elim (eqb_tells (page / 1024) index) [
+      | inl same ↦ λ slot there. absurd (none_some slot (sym (t.gone page lt same.1) ∙ there))
+      | inr other ↦ subst (λ (o : Option Slot). ForSome o (IsOpenSlot image wp)) (sym (t.others page lt other.1)) (h page lt)
+    ]
 
 -- what is kept stays the same
 pub same_open : (image : Image) (wp : Bool) (old new : ℕ → Option Slot) → ((page : ℕ) → page < 2 ^ 20 → new page ≡ old page) → AreOpen image wp old → AreOpen image wp new

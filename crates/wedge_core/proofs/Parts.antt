@@ -1,9 +1,11 @@
 -- Some of a set of translations.
-use Rattle.std.proofs.Common.{◌≡◌, ℕ, Bool, true, false, ◌||◌, None, refl, sym, ap, ◌∙◌, inl, inr}
-use Rattle.std.specs.FinMap.{get, empty, remove, get-empty, same_map, nat_cmp-IsAntisymmetric}
+use Rattle.std.proofs.Common.{◌≡◌, ℕ, ◌/◌, ◌==◌, Bool, true, false, ◌||◌, cond, not, Option, Some, None, refl, sym, ap, ◌∙◌, inl, inr}
+use Rattle.std.specs.FinMap.{get, empty, remove, get-empty, get-retain_keys, same_map, nat_cmp-IsAntisymmetric}
 use Rattle.std.specs.Ordering.{nat_cmp}
 use Rattle.std.proofs.lemmas.Cmp.{nat_cmp_total}
 use Rattle.std.proofs.lemmas.Bool.Decides.{eqb_tells}
+use Rattle.paging.specs.declared.entry.Entry.{Entry}
+use Rattle.paging.specs.Uses.{without_dir}
 use Rattle.step_mem.specs.Changes.{AreWithin}
 use Rattle.step_mem.proofs.Changed.{get_with_same, get_with_other}
 use Rattle.machine_step.specs.declared.worked.Dropped.{Dropped}
@@ -31,6 +33,20 @@ part_allowed m b part h = record { each = λ page e is. inl (h.each page e is) }
 pub part_within : (frames : ℕ) (part whole : Set) → IsPartOf part whole → AreWithin frames whole → AreWithin frames part
 part_within frames part whole p h = λ page e is. h page e (p.each page e is)
 
+-- a page's entry, once those of a directory index are gone
+dir_get : (set : Set) (index q : ℕ) → get (without_dir set index) q ≡ cond (not (q / 1024 == index)) (get set q) None
+dir_get set index q =
+    let p : ℕ → Bool = λ x. not (x / 1024 == index) in
+    get-retain_keys set p q (λ x t. ap p (sym (nat_cmp-IsAntisymmetric q x t)))
+
+was_some : (stays : Bool) (o : Option Entry) (e : Entry) → cond stays o None ≡ Some e → o ≡ Some e
+was_some true o e h = h
+was_some false o e h = absurd (none_some e h)
+
+none_anyhow : (stays : Bool) → cond {A = Option Entry} stays None None ≡ None
+none_anyhow true = refl
+none_anyhow false = refl
+
 -- what leaves leaves a part
 pub dropped_part : (d : Dropped) (set : Set) → IsPartOf (dropping d set) set
 dropped_part dropped.Nothing set = part_same set set refl
@@ -41,6 +57,7 @@ dropped_part (dropped.Page page) set = record {
         | inr n ↦ sym (get_with_other set page None q n.1) ∙ is
       ];
 }
+dropped_part (dropped.Dir index) set = record { each = λ q e is. was_some (not (q / 1024 == index)) (get set q) e (sym (dir_get set index q) ∙ is) }
 dropped_part dropped.All set = part_empty empty set refl
 
 -- what is left of a set is a part
@@ -58,6 +75,12 @@ none_dropped (dropped.Page page) =
       | inl t ↦ ap (λ (k : ℕ). get (remove none page) k) t.1 ∙ (get_with_same none page None ∙ sym (get-empty nat_cmp q))
       | inr n ↦ get_with_other none page None q n.1
     ])
+none_dropped (dropped.Dir index) =
+    let none : Set = empty in
+    same_map nat_cmp_total nat_cmp-IsAntisymmetric (without_dir none index) none
+    (λ q.
+    let stays : Bool = not (q / 1024 == index) in
+    dir_get none index q ∙ (ap (λ (o : Option Entry). cond stays o None) (get-empty nat_cmp q) ∙ (none_anyhow stays ∙ sym (get-empty nat_cmp q))))
 none_dropped dropped.All = refl
 
 -- all may leave before some of them do, and behind that

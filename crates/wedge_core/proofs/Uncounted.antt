@@ -150,6 +150,7 @@ module _ (m : Setting) (b : State) (P : Option Completed → Type 0) (none : P N
   of_effect c effects.Next cpu s p = chosen P (may_leave m.mode b.cpu cpu) (went [] (Some c) b cpu b.board s) (Stands stops.UserFlags) p tt
   of_effect c effects.Halted cpu s p = p
   of_effect c (effects.DropPage page) cpu s p = p
+  of_effect c (effects.DropDir index) cpu s p = p
   of_effect c effects.DropAll cpu s p = p
   of_effect c (effects.PortIn port wide) cpu s p = of_read c cpu port wide s (port_read b.board port wide) p
   of_effect c (effects.PortOut port wide value) cpu s p = of_write c cpu (out_item port wide value) s (port_written b.board port wide value) p

@@ -65,6 +65,7 @@ pub fn drop_from<S: Shadows>(shadows: &mut S, pool: &mut Pool, ram: &mut Ram, dr
     match dropped {
         Dropped::Nothing => {}
         Dropped::Page(page) => shadows.drop_page(ram, page),
+        Dropped::Dir(index) => shadows.drop_dir(ram, index),
         Dropped::All => shadows.drop_all(ram, pool),
     }
 }

@@ -81,9 +81,10 @@ pub fn fetched<S: Shadows>(
             marks: None,
         });
     }
-    match walk(ram, image, frames, cpu.cr3, page) {
+    match walk(ram, image, frames, cpu.cr3, cpu.pse(), page) {
         Walk::Absent => None,
         Walk::Beyond => None,
+        Walk::Reserved => None,
         Walk::Found {
             entry,
             dir_at,

@@ -51,6 +51,7 @@ space_in kept ram p =
       frames = p.control.frames;
       set = changed (kept ram) p.changes;
       cr3 = p.control.cr3;
+      pse = p.control.pse;
       wp = p.control.wp;
       mode = Wedge p.first p.count (own_of p.own);
       pages = p.pages;
@@ -62,13 +63,14 @@ space_in kept ram p =
     }
 
 -- at the beginning of a step nothing is used or ready
-abbrev pub space_at_first : List ℕ → FinMap nat_cmp Entry → (frames cr3 : ℕ) → Bool → (first count : ℕ) → Space
-space_at_first ram set frames cr3 wp first count =
+abbrev pub space_at_first : List ℕ → FinMap nat_cmp Entry → (frames cr3 : ℕ) → (pse wp : Bool) → (first count : ℕ) → Space
+space_at_first ram set frames cr3 pse wp first count =
     record {
       ram = laid [] first frames ram;
       frames = frames;
       set = set;
       cr3 = cr3;
+      pse = pse;
       wp = wp;
       mode = Wedge first count (record { front = 0; front_len = 0; back = 0; back_len = 0 });
       pages = 0;

@@ -20,6 +20,8 @@ mod hostile;
 #[cfg(test)]
 mod kernel;
 #[cfg(test)]
+mod large;
+#[cfg(test)]
 mod machines;
 #[cfg(test)]
 mod made;

@@ -1,12 +1,13 @@
 -- The map of the buffer after calls, page by page.
-use Rattle.std.proofs.Common.{◌≡◌, ℕ, ◌%◌, Bool, cond, not, eqb, List, [], ◌∷◌, sym, ap, ◌∙◌, Option, Some, None, inl, inr}
+use Rattle.std.proofs.Common.{◌≡◌, ℕ, ◌/◌, ◌%◌, Bool, cond, not, eqb, List, [], ◌∷◌, sym, ap, ◌∙◌, Option, Some, None, inl, inr}
 use Rattle.std.proofs.lemmas.Bool.Decides.{eqb_tells}
 use Rattle.std.proofs.lemmas.Cmp.{nat_cmp_total}
 use Rattle.std.specs.FinMap.{FinMap, get, insert, retain_keys, get-empty, get-insert, get-remove, get-retain_keys, nat_cmp-IsAntisymmetric}
 use Rattle.std.specs.Ordering.{nat_cmp}
 use Rattle.std.specs.Cmp.{unsigned_tied}
 use Rattle.paging.specs.declared.entry.Entry.{Entry}
-use Rattle.xlate_buffer.specs.Calls.{Call, Keep, DropPage, DropAll, made_by, last_kept}
+use Rattle.xlate_buffer.proofs.Caching.{dir_get}
+use Rattle.xlate_buffer.specs.Calls.{Call, Keep, DropPage, DropDir, DropAll, made_by, last_kept}
 
 -- an equal page has an equal remainder
 split : (q : ℕ) (e : Entry) (o : Option Entry) →
@@ -41,4 +42,5 @@ finds (DropPage q ∷ earlier) page =
     get-remove nat_cmp_total (made_by earlier) q page
     ∙ ap (λ b. cond b None (get (made_by earlier) page)) (unsigned_tied page q)
     ∙ ap (λ o. cond (eqb page q) None o) (finds earlier page)
+finds (DropDir index ∷ earlier) page = dir_get (made_by earlier) index page ∙ ap (λ o. cond (eqb (page / 1024) index) None o) (finds earlier page)
 finds (DropAll ∷ earlier) page = get-empty nat_cmp page

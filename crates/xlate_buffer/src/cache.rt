@@ -1,4 +1,4 @@
-ghost use Rattle.std.specs.Prelude.{◌≡◌, ◌≢◌, ℕ, ◌<◌, ◌^◌, Bool, true, false, Some, None};
+ghost use Rattle.std.specs.Prelude.{◌≡◌, ◌≢◌, ℕ, ◌/◌, ◌<◌, ◌^◌, Bool, true, false, Some, None};
 ghost use Rattle.std.specs.FinMap.{FinMap, get};
 ghost use Rattle.std.specs.Ordering.{nat_cmp};
 ghost use Rattle.paging.specs.declared.entry.Entry.{Entry};
@@ -33,6 +33,12 @@ pub trait Cache: Drop {
         ensures others { (other : ℕ) → other ≢ page → get (entries self.new) other ≡ get (entries self.old) other }
         ensures same { is_exact self.new ≡ is_exact self.old };
 
+    /// The pages of a directory index are kept no longer.
+    fn drop_dir(&mut self, index: u32)
+        ensures gone { (page : ℕ) → page / 1024 ≡ index → get (entries self.new) page ≡ None }
+        ensures others { (other : ℕ) → other / 1024 ≢ index → get (entries self.new) other ≡ get (entries self.old) other }
+        ensures same { is_exact self.new ≡ is_exact self.old };
+
     /// Nothing is kept any longer.
     fn drop_all(&mut self)
         ensures gone { (page : ℕ) → get (entries self.new) page ≡ None }
@@ -58,6 +64,10 @@ impl Cache for Buffer {
 
     fn drop_page(&mut self, page: u32) {
         self.drop_page(page);
+    }
+
+    fn drop_dir(&mut self, index: u32) {
+        self.drop_dir(index);
     }
 
     fn drop_all(&mut self) {

@@ -1,9 +1,10 @@
 //! A buffer of 64 translations, at most one for each remainder of a page's number by 64.
 #![tactic(auto)]
 
-ghost use Rattle.std.specs.Prelude.{◌≡◌, ◌<◌, ◌^◌, ◌%◌, ◌==◌, not};
+ghost use Rattle.std.specs.Prelude.{◌≡◌, ◌<◌, ◌^◌, ◌/◌, ◌%◌, ◌==◌, not};
 ghost use Rattle.std.specs.FinMap as map;
-ghost use Rattle.xlate_buffer.specs.Places.{of_page};
+ghost use Rattle.xlate_buffer.specs.Places.{of_page, outside};
+ghost use Rattle.paging.specs.Uses.{without_dir};
 
 mod cache;
 mod laws;
@@ -66,6 +67,15 @@ impl Buffer {
         }
     }
 
+    /// The pages of a directory index are kept no longer.
+    pub fn drop_dir(&mut self, index: u32)
+        ensures { self.new ≡ without_dir self.old index }
+    {
+        for k in 0..64 {
+            self.places[k] = outside(index, self.places[k]);
+        }
+    }
+
     /// Nothing is kept any longer.
     pub fn drop_all(&mut self)
         ensures { self.new ≡ map.empty }
@@ -80,6 +90,16 @@ fn of_page(page: u32, entry: Option<Entry>) -> Option<Entry>
 {
     match entry {
         Some(entry) if page == entry.page => Some(entry),
+        _ => None,
+    }
+}
+
+/// The entry, unless its page is of the directory index.
+fn outside(index: u32, entry: Option<Entry>) -> Option<Entry>
+    ensures { result ≡ outside index entry }
+{
+    match entry {
+        Some(entry) if entry.page / 1024 != index => Some(entry),
         _ => None,
     }
 }

@@ -77,7 +77,7 @@ by_word-is n c page w v write s k =
           by_word-bits n c page w v write w4 w2 v4 v1 both
     ]
 
-by_dir-is : (m : List ℕ) (n c page w v : ℕ) (write : Bool) → w % 4096 ≡ 7 → w / 4096 < n → word32 m (word_place w page) ≡ v → (v ≢ 0 → IsMarked v) → reached_by write (by_dir m n c page w) ≡ lent_word n v write
+by_dir-is : (m : List ℕ) (n c page w v : ℕ) (write : Bool) → w % 4096 ≡ 7 → w / 4096 < n → word32 m (word_place w page) ≡ v → (v ≢ 0 → IsMarked v) → reached_by write (by_dir m n c false page w) ≡ lent_word n v write
 by_dir-is m n c page w v write s l e k =
     let w1 : eqb (w / 1 % 2) 1 ≡ true = ap (λ y. eqb y 1) (let q : w / 1 % 2 ≡ 1 = omega (arith, s) in q) in
     let lt : leb n (w / 4096) ≡ false = elim (leb_tells n (w / 4096)) [ inl t ↦ absurd (let g = t.1 in omega (arith, g, l)) | inr t ↦ t.0 ] in
@@ -86,7 +86,7 @@ by_dir-is m n c page w v write s l e k =
     ∙ ap (λ x. reached_by write (by_word n c page w x)) e
     ∙ by_word-is n c page w v write s k
 
-by_dir-none : (m : List ℕ) (n c page w : ℕ) (write : Bool) → w ≡ 0 → reached_by write (by_dir m n c page w) ≡ None
+by_dir-none : (m : List ℕ) (n c page w : ℕ) (write : Bool) → w ≡ 0 → reached_by write (by_dir m n c false page w) ≡ None
 by_dir-none m n c page zero write e = refl
 by_dir-none m n c page (suc w) write e = absurd (omega (arith, e))
 
@@ -99,8 +99,8 @@ view-is s m n r page write h i e l =
     let lt : leb n (4096 * r / 4096) ≡ false = elim (leb_tells n (4096 * r / 4096)) [ inl t ↦ absurd (let g = t.1 in omega (arith, g, same, root, e)) | inr t ↦ t.0 ] in
     let place : dir_place (4096 * r) page ≡ 4096 * r + 4 * (page / 1024) = omega (arith, same) in
     let w : ℕ = dir m r (page / 1024) in
-    ap (λ b. reached_by write (cond b Beyond (by_dir m n (4096 * r) page (word32 m (dir_place (4096 * r) page))))) lt
-    ∙ ap (λ x. reached_by write (by_dir m n (4096 * r) page (word32 m x))) place
+    ap (λ b. reached_by write (cond b Beyond (by_dir m n (4096 * r) false page (word32 m (dir_place (4096 * r) page))))) lt
+    ∙ ap (λ x. reached_by write (by_dir m n (4096 * r) false page (word32 m x))) place
     ∙ elim (eqb_tells w 0) [
       | inl z ↦ by_dir-none m n (4096 * r) page w write z.1 ∙ sym (lent-none n write) ∙ ap (λ x. lent_word n x write) (sym (at-none m r page z.1))
       | inr z ↦

@@ -32,4 +32,6 @@ returns c = record {
   behind = refl;
   both_read = refl;
   directory_read = refl;
+  table_read = refl;
+  no_table_read = refl;
 }

@@ -28,7 +28,7 @@ after g c =
 pub returns-clause-settled : goal.returns-clause-settled
 returns-clause-settled g c = λ rest.
     let s = space_of (g.B.Kept.entries c.args.base.now) c.args.ram.now c.args.control c.args.guard.now c.args.changes.now (with_tables rest c.args.tables.now) in
-    let read = c.args.tables.now ++ tables_read (shown c.args.guard.now c.args.control.frames c.args.ram.now) c.args.control.frames c.args.control.cr3 c.args.page in
+    let read = c.args.tables.now ++ tables_read (shown c.args.guard.now c.args.control.frames c.args.ram.now) c.args.control.frames c.args.control.cr3 c.args.control.pse c.args.page in
     ap (settled s c.args.page) c.decide-met.ensures.decided
     ∙ ap (λ set. (c.decide-met.result.0, record s { ram = shown c.args.guard.now c.args.control.frames c.decide-met.new.ram; set = set; tables = read })) (sym (after g c))
     ∙ ap (λ tables. (c.decide-met.result.0, record s { ram = shown c.args.guard.now c.args.control.frames c.decide-met.new.ram; set = changed (g.B.Kept.entries c.args.base.now c.decide-met.new.ram) c.push.new.self; tables = tables })) (sym c.note_tables.ensures.noted)
