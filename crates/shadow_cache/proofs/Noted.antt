@@ -1,22 +1,10 @@
 -- From which frames the present tables were read, and whether one of those was written, after each call.
-use Rattle.std.proofs.Common.{◌≡◌, ℕ, ◌<◌, List, [], ◌∷◌, length, get_or, slice_set, Bool, true, false, ◌||◌, cond, eqb, Option, Some, None, refl, sym, ap, ◌∙◌, inl, inr, arith}
+use Rattle.std.proofs.Common.{◌≡◌, ℕ, ◌<◌, List, ◌∷◌, length, get_or, slice_set, Bool, true, false, ◌||◌, cond, eqb, Some, refl, sym, ap, ◌∙◌, inl, inr, arith}
 use Rattle.std.proofs.lemmas.Bool.Decides.{eqb_tells}
 use Rattle.shadow_cache.specs.Pairs.{reads}
-use Rattle.shadow_cache.specs.After.{emptied, noted_in, written_in}
+use Rattle.shadow_cache.specs.After.{emptied, mark_of, noted_in, noted_of, value_of, written_in}
 use Rattle.shadow_cache.specs.declared.pair.Pair.{Pair}
 use Rattle.shadow_cache.proofs.Beside.{no-reads, reads-set, reads-there}
-
-abbrev pub first_reads : List Pair → ℕ → Bool
-first_reads [] f = false
-first_reads (p ∷ ps) f = reads p f
-
-abbrev pub first_marked : List Pair → Bool
-first_marked [] = false
-first_marked (p ∷ ps) = p.marked
-
-abbrev pub first_value : List Pair → Option ℕ
-first_value [] = None
-first_value (p ∷ ps) = Some p.cr3
 
 or-true : (b : Bool) → (b || true) ≡ true
 or-true true = refl
@@ -42,8 +30,8 @@ set-exact bits i f l =
           ]
     ]
 
-pub noted-exact : (p : Pair) (ps qs : List Pair) (frame f : ℕ) → length p.tables ≡ 16384 → frame < 16384 → qs ≡ noted_in (p ∷ ps) frame → first_reads qs f ≡ (reads p f || eqb f frame)
-noted-exact p ps qs frame f size low e = ap (λ xs. first_reads xs f) e ∙ set-exact p.tables frame f (omega (arith, size, low))
+pub noted-exact : (p : Pair) (ps qs : List Pair) (frame f : ℕ) → length p.tables ≡ 16384 → frame < 16384 → qs ≡ noted_in (p ∷ ps) frame → noted_of qs f ≡ (reads p f || eqb f frame)
+noted-exact p ps qs frame f size low e = ap (λ xs. noted_of xs f) e ∙ set-exact p.tables frame f (omega (arith, size, low))
 
 abbrev spoilt : Bool → Pair → ℕ → Pair
 spoilt b p frame = cond b (record p { tables = slice_set p.tables frame false; marked = true }) p
@@ -52,35 +40,35 @@ marked-other : (b : Bool) (p : Pair) (frame f : ℕ) → (f ≡ frame → ⊥) �
 marked-other true p frame f n = elim (reads-set p.tables frame f false) [ inl s ↦ s | inr t ↦ absurd (n t.0) ]
 marked-other false p frame f n = refl
 
-pub written-other : (p : Pair) (ps qs : List Pair) (frame f : ℕ) → qs ≡ written_in (p ∷ ps) frame → (f ≡ frame → ⊥) → first_reads qs f ≡ reads p f
-written-other p ps qs frame f e n = ap (λ xs. first_reads xs f) e ∙ marked-other (reads p frame) p frame f n
+pub written-other : (p : Pair) (ps qs : List Pair) (frame f : ℕ) → qs ≡ written_in (p ∷ ps) frame → (f ≡ frame → ⊥) → noted_of qs f ≡ reads p f
+written-other p ps qs frame f e n = ap (λ xs. noted_of xs f) e ∙ marked-other (reads p frame) p frame f n
 
 there-by : (b : Bool) (p : Pair) (frame : ℕ) → reads (spoilt b p frame) frame ≡ true → reads p frame ≡ true
 there-by true p frame h = elim (reads-set p.tables frame frame false) [ inl s ↦ sym s ∙ h | inr t ↦ absurd (clash (reads (spoilt true p frame) frame) t.2 h) ]
 there-by false p frame h = h
 
-pub written-there : (p : Pair) (ps qs : List Pair) (frame : ℕ) → qs ≡ written_in (p ∷ ps) frame → first_reads qs frame ≡ true → reads p frame ≡ true
-written-there p ps qs frame e h = there-by (reads p frame) p frame (sym (ap (λ xs. first_reads xs frame) e) ∙ h)
+pub written-there : (p : Pair) (ps qs : List Pair) (frame : ℕ) → qs ≡ written_in (p ∷ ps) frame → noted_of qs frame ≡ true → reads p frame ≡ true
+written-there p ps qs frame e h = there-by (reads p frame) p frame (sym (ap (λ xs. noted_of xs frame) e) ∙ h)
 
 marked-by : (b : Bool) (p : Pair) (frame : ℕ) → (spoilt b p frame).marked ≡ (p.marked || b)
 marked-by true p frame = sym (or-true p.marked)
 marked-by false p frame = sym (or-false p.marked)
 
-pub written-marked : (p : Pair) (ps qs : List Pair) (frame : ℕ) → qs ≡ written_in (p ∷ ps) frame → first_marked qs ≡ (p.marked || reads p frame)
-written-marked p ps qs frame e = ap first_marked e ∙ marked-by (reads p frame) p frame
+pub written-marked : (p : Pair) (ps qs : List Pair) (frame : ℕ) → qs ≡ written_in (p ∷ ps) frame → mark_of qs ≡ (p.marked || reads p frame)
+written-marked p ps qs frame e = ap mark_of e ∙ marked-by (reads p frame) p frame
 
 value-by : (b : Bool) (p : Pair) (frame : ℕ) → (spoilt b p frame).cr3 ≡ p.cr3
 value-by true p frame = refl
 value-by false p frame = refl
 
-pub written-value : (p : Pair) (ps qs : List Pair) (frame : ℕ) → qs ≡ written_in (p ∷ ps) frame → first_value qs ≡ Some p.cr3
-written-value p ps qs frame e = ap first_value e ∙ ap (λ v. Some v) (value-by (reads p frame) p frame)
+pub written-value : (p : Pair) (ps qs : List Pair) (frame : ℕ) → qs ≡ written_in (p ∷ ps) frame → value_of qs ≡ Some p.cr3
+written-value p ps qs frame e = ap value_of e ∙ ap (λ v. Some v) (value-by (reads p frame) p frame)
 
-pub emptied-reads : (p : Pair) (ps qs : List Pair) (f : ℕ) → qs ≡ emptied (p ∷ ps) → first_reads qs f ≡ true → reads p f ≡ true
-emptied-reads p ps qs f e h = absurd (clash (first_reads qs f) (ap (λ xs. first_reads xs f) e ∙ no-reads f) h)
+pub emptied-reads : (p : Pair) (ps qs : List Pair) (f : ℕ) → qs ≡ emptied (p ∷ ps) → noted_of qs f ≡ true → reads p f ≡ true
+emptied-reads p ps qs f e h = absurd (clash (noted_of qs f) (ap (λ xs. noted_of xs f) e ∙ no-reads f) h)
 
-pub emptied-marked : (p : Pair) (ps qs : List Pair) → qs ≡ emptied (p ∷ ps) → first_marked qs ≡ true → p.marked ≡ true
-emptied-marked p ps qs e h = absurd (clash (first_marked qs) (ap first_marked e) h)
+pub emptied-marked : (p : Pair) (ps qs : List Pair) → qs ≡ emptied (p ∷ ps) → mark_of qs ≡ true → p.marked ≡ true
+emptied-marked p ps qs e h = absurd (clash (mark_of qs) (ap mark_of e) h)
 
-pub emptied-value : (p : Pair) (ps qs : List Pair) → qs ≡ emptied (p ∷ ps) → first_value qs ≡ Some p.cr3
-emptied-value p ps qs e = ap first_value e
+pub emptied-value : (p : Pair) (ps qs : List Pair) → qs ≡ emptied (p ∷ ps) → value_of qs ≡ Some p.cr3
+emptied-value p ps qs e = ap value_of e

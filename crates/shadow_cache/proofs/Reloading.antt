@@ -5,7 +5,7 @@ use Rattle.shadow_tables.specs.Aside.{Aside, IsSame, AreSame}
 use Rattle.shadow_tables.specs.Slots.{ArePart, slot_at}
 use Rattle.shadow_cache.specs.Pairs.{reads, any_reads, tables_of, AreUnmarked, OthersUnmarked}
 use Rattle.shadow_cache.specs.Others.{AreKept, one_later, place_of}
-use Rattle.shadow_cache.specs.After.{beside}
+use Rattle.shadow_cache.specs.After.{beside, mark_of, value_of}
 use Rattle.shadow_cache.specs.Asides.{aside_of, asides_of}
 use Rattle.shadow_cache.specs.Switched as switched
 use Rattle.shadow_cache.specs.Switched.{IsFresh, Opens, ComesBack, IsSwitched}
@@ -15,7 +15,6 @@ use Rattle.shadow_cache.specs.declared.pair.Pair.{Pair}
 use Rattle.shadow_cache.proofs.Beside.{no-reads, tables-part, or-less, or-right}
 use Rattle.shadow_cache.proofs.Coming.{any-remove, unmarked-at}
 use Rattle.shadow_cache.proofs.Leaving.{same-some, any-at}
-use Rattle.shadow_cache.proofs.Noted.{first_marked, first_value}
 
 -- ---- the present pair is put by
 
@@ -109,8 +108,8 @@ first_aside cr3 [] m = begun cr3
 first_aside cr3 (p ∷ ps) m = record { cr3 = cr3; tables = reads p; slots = slot_at p.shadow m }
 
 pub record IsReloaded (cr3 : ℕ) (left : List Aside) (ps : List Pair) (m : List ℕ) : Type 0 where
-  pub value : first_value ps ≡ Some cr3
-  pub marked : first_marked ps ≡ false
+  pub value : value_of ps ≡ Some cr3
+  pub marked : mark_of ps ≡ false
   pub present : IsSame (coming cr3 left) (first_aside cr3 ps m)
   pub asides : AreSame (staying cr3 left) (asides_of (beside ps) m)
 

@@ -22,7 +22,7 @@ use Rattle.shadow_tables.specs.Laws as below
 use Rattle.shadow_tables.specs.Laws.Views.{in-root, held-stays, slot_at-stays, IsShadow-stays}
 use Rattle.shadow_tables.specs.Laws.Props.{IsShadow-prop}
 use Rattle.shadow_cache.specs.Pairs.{reads, any_reads, places_from, tables_of, frames_of, AreShadows, AreSized, BarsWrites, AllBarWrites, AreUnmarked, OthersUnmarked, IsRoots}
-use Rattle.shadow_tables.specs.Aside.{AreSame, AllFit, AllBarred}
+use Rattle.shadow_tables.specs.Aside.{AreSame, AllFit, AllBarred, AllTracked}
 use Rattle.shadow_cache.specs.Asides.{asides_of}
 use Rattle.shadow_cache.specs.Others.{AreKept}
 use Rattle.shadow_cache.specs.declared.pair.Pair.{Pair}
@@ -228,3 +228,24 @@ asides-length (p ∷ ps) m = ap suc (asides-length ps m)
 
 pub few-asides : (p : Pair) (ps : List Pair) (m : List ℕ) → ∥ IsRoots (p ∷ ps) m ∥₁ → length (asides_of ps m) ≤ 7
 few-asides p ps m h = let few = (had (p ∷ ps) m h).few in let e = asides-length ps m in omega (arith, few, e)
+
+-- ---- the frames of tables are tracked
+
+or-first : (a b : Bool) → a ≡ true → (a || b) ≡ true
+or-first true b e = refl
+or-first false b e = absurd cc
+
+or-second : (a b : Bool) → b ≡ true → (a || b) ≡ true
+or-second true b e = refl
+or-second false b e = e
+
+pub noted-tracked : (p : Pair) (ps : List Pair) (f : ℕ) → reads p f ≡ true → is_among f (tables_of (p ∷ ps)) ≡ true
+noted-tracked p ps f e = tables-any (p ∷ ps) f ∙ or-first (reads p f) (any_reads ps f) e
+
+all-tracked : (ps : List Pair) (m tracked : List ℕ) → ((f : ℕ) → any_reads ps f ≡ true → is_among f tracked ≡ true) → AllTracked tracked (asides_of ps m)
+all-tracked [] m tracked i = tt
+all-tracked (p ∷ ps) m tracked i =
+    (λ f e. i f (or-first (reads p f) (any_reads ps f) e), all-tracked ps m tracked (λ f e. i f (or-second (reads p f) (any_reads ps f) e)))
+
+pub asides-tracked : (p : Pair) (ps : List Pair) (m : List ℕ) → AllTracked (tables_of (p ∷ ps)) (asides_of ps m)
+asides-tracked p ps m = all-tracked ps m (tables_of (p ∷ ps)) (λ f e. tables-any (p ∷ ps) f ∙ or-second (reads p f) (any_reads ps f) e)

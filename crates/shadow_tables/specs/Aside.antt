@@ -1,6 +1,6 @@
 -- What is kept beside the present tables, for values of CR3 that may be loaded again.
 use Rattle.std.specs.Prelude.{◌≡◌, ℕ, ◌^◌, ◌<◌, ◌||◌, not, Bool, true, false, Option, Some, List, [], ◌∷◌, filter}
-use Rattle.shadow_tables.specs.Slots.{Slot, SameSlots, LosesWrites}
+use Rattle.shadow_tables.specs.Slots.{Slot, is_among, SameSlots, LosesWrites}
 
 -- A value of CR3 that isn't the present one: the frames from which the guest's tables were read under it, and what is
 -- kept for each page.
@@ -59,3 +59,8 @@ abbrev pub AllBarred : (ℕ → Bool) → List Aside → Type 0
 AllBarred test [] = Unit {0}
 AllBarred test (a ∷ asides) =
     ((page : ℕ) (slot : Slot) → page < 2 ^ 20 → a.slots page ≡ Some slot → test slot.entry.frame ≡ true → slot.writes ≡ false) × AllBarred test asides
+
+-- each frame from which tables were read is one of these
+abbrev pub AllTracked : List ℕ → List Aside → Type 0
+AllTracked tracked [] = Unit {0}
+AllTracked tracked (a ∷ asides) = ((frame : ℕ) → a.tables frame ≡ true → is_among frame tracked ≡ true) × AllTracked tracked asides

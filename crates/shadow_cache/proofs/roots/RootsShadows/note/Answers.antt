@@ -2,7 +2,8 @@ use Rattle.std.proofs.Common.{ap}
 use Rattle.shadow_cache.specs.Laws.{had}
 use Rattle.shadow_cache.specs.Roots.{pairs_of}
 use Rattle.shadow_cache.proofs.Asided.{others-lose}
-use Rattle.shadow_cache.proofs.Noted.{first_marked, first_value, noted-exact}
+use Rattle.shadow_cache.specs.After.{mark_of, value_of}
+use Rattle.shadow_cache.proofs.Noted.{noted-exact}
 use Rattle.shadow_cache.proofs.roots.RootsShadows.note.Goals as goal
 
 pub returns-clause-noted : goal.returns-clause-noted
@@ -11,10 +12,10 @@ returns-clause-noted c = λ f.
     noted-exact r.present r.others (pairs_of c.note.new.self) c.args.frame f (had (pairs_of r) c.args.ram.now c.requires.stands).sized.0 c.requires.frame c.note.ensures.pairs
 
 pub returns-clause-marked : goal.returns-clause-marked
-returns-clause-marked c = ap first_marked c.note.ensures.pairs
+returns-clause-marked c = ap mark_of c.note.ensures.pairs
 
 pub returns-clause-value : goal.returns-clause-value
-returns-clause-value c = ap first_value c.note.ensures.pairs
+returns-clause-value c = ap value_of c.note.ensures.pairs
 
 pub returns-clause-asides : goal.returns-clause-asides
 returns-clause-asides c =
