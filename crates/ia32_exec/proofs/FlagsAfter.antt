@@ -1,6 +1,6 @@
 -- An instruction leaves the flags that are the system's own.
 use Rattle.std.proofs.Common.{◌≡◌, ℕ, ◌+◌, ◌-◌, ◌*◌, ◌/◌, ◌%◌, ◌^◌, ◌<◌, ◌≤◌, Bool, true, false, cond, refl, sym, ap, subst, ◌∙◌, ◌⊎◌, inl, inr, Option, Some, None, arith}
-use Rattle.std.specs.Prelude.{slice_index, nat_lt}
+use Rattle.std.specs.Prelude.{slice_index, nat_lt, bit_and}
 use Rattle.ia32_types.specs.declared.size.Size.{Size}
 use Rattle.ia32_types.specs.declared.size.Size.TheVariants.{Byte, Word, Long}
 use Rattle.ia32_types.specs.declared.flags.Regs.{Regs}
@@ -12,6 +12,7 @@ use Rattle.ia32_types.specs.declared.insn.Operand.TheVariants.{Absent, Register,
 use Rattle.ia32_types.specs.declared.insn.Op.{Op}
 use Rattle.ia32_types.specs.declared.insn.Op.TheVariants.{Add, Or, Adc, Sbb, And, Sub, Xor, Cmp, Test, Not, Neg, Mul, Imul, ImulBy, Div, Idiv, Inc, Dec, Rol, Ror, Shl, Shr, Sar, Mov, Movzx, Movsx, Lea, Xchg, Push, Pop, Pusha, Popa, Cwde, Cdq, Leave, Nop, Jcc, Setcc, Jmp, Call, Ud2, Movs, Stos, Lods, Clc, Stc, Cld, Std, PushFlags, PopFlags, ReadSeg, PushSeg, Return, JumpTo, CallTo}
 use Rattle.ia32_types.specs.Bits.{worth}
+use Rattle.ia32_types.proofs.FlagBits.{put_apart}
 use Rattle.ia32_types.specs.Flags.{carry_at, parity_at, adjust_at, zero_at, sign_at, direction_at, overflow_at, flag_put}
 use Rattle.ia32_types.specs.Size.{span}
 use Rattle.ia32_alu.specs.declared.status.Status.{Status}
@@ -35,40 +36,47 @@ use Rattle.ia32_types.specs.Places.{is_place}
 use Rattle.ia32_exec.specs.Transfers.{returned, jumped_through, called_through}
 use Rattle.ia32_exec.specs.Selectors.{selector_to, read_from, pushed_from, selector_read, selector_pushed}
 use Rattle.ia32_exec.specs.UserEffect.{user_row, user_effect}
-use Rattle.ia32_exec.specs.FlagsAfter.{AreKept, Leaves, SystemFlagsStay}
+use Rattle.ia32_exec.specs.FlagsAfter.{AreSet, AreKept, Leaves, SystemFlagsStay, InsensitiveStay}
 
--- ---- IF and IOPL
+-- ---- IF, IOPL, and the bits that no instruction may set
+
+put_set : (f : Flags) (at : ℕ) (b : Bool) → at < 32 → bit_and (1 * 2 ^ at % 2 ^ 32) 2 ≡ 0 → bit_and (1 * 2 ^ at % 2 ^ 32) 0xFFFF_C128 ≡ 0 → AreSet f (flag_put f at b)
+put_set f at b h e k = record { fixed = put_apart f.bits at 2 b h e; others = put_apart f.bits at 0xFFFF_C128 b h k }
 
 kept_same : (f : Flags) → AreKept f f
-kept_same f = record { interrupt = refl; level = refl }
+kept_same f = record { interrupt = refl; level = refl; set = record { fixed = refl; others = refl } }
 
 kept_on : (f g h : Flags) → AreKept f g → AreKept g h → AreKept f h
-kept_on f g h p q = record { interrupt = q.interrupt ∙ p.interrupt; level = q.level ∙ p.level }
+kept_on f g h p q = record {
+  interrupt = q.interrupt ∙ p.interrupt;
+  level = q.level ∙ p.level;
+  set = record { fixed = q.set.fixed ∙ p.set.fixed; others = q.set.others ∙ p.set.others };
+}
 
 small : (b : Bool) → worth b ≤ 1
 small true = omega arith
 small false = omega arith
 
 kept_0 : (f : Flags) (b : Bool) → AreKept f (flag_put f 0 b)
-kept_0 f b = let s = small b in record { interrupt = omega (arith, s); level = omega (arith, s) }
+kept_0 f b = let s = small b in record { interrupt = omega (arith, s); level = omega (arith, s); set = put_set f 0 b (omega arith) refl refl }
 
 kept_2 : (f : Flags) (b : Bool) → AreKept f (flag_put f 2 b)
-kept_2 f b = let s = small b in record { interrupt = omega (arith, s); level = omega (arith, s) }
+kept_2 f b = let s = small b in record { interrupt = omega (arith, s); level = omega (arith, s); set = put_set f 2 b (omega arith) refl refl }
 
 kept_4 : (f : Flags) (b : Bool) → AreKept f (flag_put f 4 b)
-kept_4 f b = let s = small b in record { interrupt = omega (arith, s); level = omega (arith, s) }
+kept_4 f b = let s = small b in record { interrupt = omega (arith, s); level = omega (arith, s); set = put_set f 4 b (omega arith) refl refl }
 
 kept_6 : (f : Flags) (b : Bool) → AreKept f (flag_put f 6 b)
-kept_6 f b = let s = small b in record { interrupt = omega (arith, s); level = omega (arith, s) }
+kept_6 f b = let s = small b in record { interrupt = omega (arith, s); level = omega (arith, s); set = put_set f 6 b (omega arith) refl refl }
 
 kept_7 : (f : Flags) (b : Bool) → AreKept f (flag_put f 7 b)
-kept_7 f b = let s = small b in record { interrupt = omega (arith, s); level = omega (arith, s) }
+kept_7 f b = let s = small b in record { interrupt = omega (arith, s); level = omega (arith, s); set = put_set f 7 b (omega arith) refl refl }
 
 kept_10 : (f : Flags) (b : Bool) → AreKept f (flag_put f 10 b)
-kept_10 f b = let s = small b in record { interrupt = omega (arith, s); level = omega (arith, s) }
+kept_10 f b = let s = small b in record { interrupt = omega (arith, s); level = omega (arith, s); set = put_set f 10 b (omega arith) refl refl }
 
 kept_11 : (f : Flags) (b : Bool) → AreKept f (flag_put f 11 b)
-kept_11 f b = let s = small b in record { interrupt = omega (arith, s); level = omega (arith, s) }
+kept_11 f b = let s = small b in record { interrupt = omega (arith, s); level = omega (arith, s); set = put_set f 11 b (omega arith) refl refl }
 
 change_kept : (f : Flags) (at : ℕ) (b : Option Bool) → ((v : Bool) → AreKept f (flag_put f at v)) → AreKept f (changed f at b)
 unfolding changed
@@ -330,3 +338,6 @@ module _ (i : Insn) (len : ℕ) (r : Regs) where
 
 pub flags_stay : SystemFlagsStay
 flags_stay i len r g b = flags_left i len r g b
+
+pub insensitive_stay : InsensitiveStay
+insensitive_stay = record { effects = effect_leaves; images = taken_kept }

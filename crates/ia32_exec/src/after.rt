@@ -1,7 +1,7 @@
 //! Laws of the definitions: what each instruction leaves alone.
 
 ghost use Rattle.ia32_exec.specs.EipAfter.{EipGoesOn};
-ghost use Rattle.ia32_exec.specs.FlagsAfter.{SystemFlagsStay};
+ghost use Rattle.ia32_exec.specs.FlagsAfter.{InsensitiveStay, SystemFlagsStay};
 ghost use Rattle.ia32_exec.specs.SameBytes.{SameOverRanges};
 
 /// EIP is past the instruction, or at a direct branch further by its distance, or, in a repeated string instruction,
@@ -10,9 +10,10 @@ pub fn eip_goes_on()
     ensures { EipGoesOn }
 {}
 
-/// IF, and the bits from IOPL on, stay.
+/// IF, the bits from IOPL on, and those that no instruction may set stay.
 pub fn system_flags_stay()
-    ensures { SystemFlagsStay }
+    ensures user { SystemFlagsStay }
+    ensures insensitive { InsensitiveStay }
 {}
 
 /// An instruction comes to the same over bytes that are the same in its ranges.

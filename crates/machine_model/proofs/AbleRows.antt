@@ -14,6 +14,7 @@ use Rattle.ia32_exec.specs.declared.outcome.Outcome as exec
 use Rattle.ia32_exec.specs.declared.outcome.Outcome.TheVariants as outcomes
 use Rattle.ia32_exec.specs.Stack.{taken}
 use Rattle.ia32_exec.specs.Effect.{effect, ranges_of}
+use Rattle.ia32_exec.specs.FlagsAfter.{AreKept, Leaves, InsensitiveStay}
 use Rattle.descriptors.specs.Form.{descriptor_of, other_descriptor, is_data, is_of_system, is_foreign_form, dpl_of}
 use Rattle.descriptors.specs.Controls.{pse_of}
 use Rattle.descriptors.specs.declared.cpu.Cpu.{Cpu}
@@ -49,7 +50,6 @@ use Rattle.machine_model.specs.Fit.{IsLevel}
 use Rattle.machine_model.specs.Rules.{is_open}
 use Rattle.machine_model.specs.Able.{IsAble}
 use Rattle.machine_model.specs.Instruction.{is_plain, done_plainly, instructed}
-use Rattle.machine_model.proofs.FlagsAfter.{AreKept, Leaves, taken_kept, effect_leaves}
 use Rattle.machine_model.proofs.Yielding.{Ends, Yields, then_yields, any_yields, gives_yields, unless_yields, stops_yields, if_yields}
 
 -- The processor behind an instruction. A user's flags stay open; that they are where the level rises is left to the
@@ -136,7 +136,18 @@ level_of low high = grind (arith, level_choice, level_other)
 abbrev pub flags_tested : ℕ → Work Refusal (Unit {0})
 flags_tested image = unless (refusals.Stop stops.FlagBits) (iret.is_plain image)
 
-module _ (cpu : Cpu) (able : IsAble cpu) where
+-- ---- the same but for registers
+
+-- the processor with its level, segments and flags as they were
+pub same : (cpu : Cpu) → IsAble cpu → (new : Cpu) → new.cpl ≡ cpu.cpl → new.seg ≡ cpu.seg → new.regs.flags ≡ cpu.regs.flags → Suits cpu new
+same cpu able new l s f = record {
+  level = subst IsLevel (sym l) able.level;
+  code = ap (λ (x : List Hidden). (slice_index_or x 1 none).null) s ∙ able.code;
+  stack = ap (λ (x : List Hidden). (slice_index_or x 2 none).null) s ∙ able.stack;
+  users = λ u. ap (λ (x : Flags). has x.bits 512 && x.bits / 4096 % 4 == 0) f ∙ able.users u;
+}
+
+module _ (stay : InsensitiveStay) (cpu : Cpu) (able : IsAble cpu) where
   -- ---- flags
 
   no_level : cpu.cpl ≡ 3 → cpu.regs.flags.bits / 4096 % 4 ≡ 0
@@ -157,23 +168,13 @@ module _ (cpu : Cpu) (able : IsAble cpu) where
 
   popped_open : (image : ℕ) → cpu.cpl ≡ 3 → (has (new_flags cpu image).bits 512 && (new_flags cpu image).bits / 4096 % 4 == 0) ≡ true
   popped_open image u =
-      ap (λ (f : Flags). has f.bits 512 && f.bits / 4096 % 4 == 0) (popped_flags image u) ∙ kept_open (taken cpu.regs.flags image) (taken_kept cpu.regs.flags image) u
-
-  -- ---- the same but for registers
-
-  pub same : (new : Cpu) → new.cpl ≡ cpu.cpl → new.seg ≡ cpu.seg → new.regs.flags ≡ cpu.regs.flags → Suits cpu new
-  same new l s f = record {
-    level = subst IsLevel (sym l) able.level;
-    code = ap (λ (x : List Hidden). (slice_index_or x 1 none).null) s ∙ able.code;
-    stack = ap (λ (x : List Hidden). (slice_index_or x 2 none).null) s ∙ able.stack;
-    users = λ u. ap (λ (x : Flags). has x.bits 512 && x.bits / 4096 % 4 == 0) f ∙ able.users u;
-  }
+      ap (λ (f : Flags). has f.bits 512 && f.bits / 4096 % 4 == 0) (popped_flags image u) ∙ kept_open (taken cpu.regs.flags image) (stay.images cpu.regs.flags image) u
 
   goes : (new : Cpu) → Suits cpu new → Yields (IsLeft cpu) (next new)
   goes new h = gives_yields (record { suits = h; stays = tt })
 
   goes_on : (new : Cpu) → new.cpl ≡ cpu.cpl → new.seg ≡ cpu.seg → new.regs.flags ≡ cpu.regs.flags → Yields (IsLeft cpu) (next new)
-  goes_on new l s f = goes new (same new l s f)
+  goes_on new l s f = goes new (same cpu able new l s f)
 
   -- ---- flags and HLT
 
@@ -197,7 +198,7 @@ module _ (cpu : Cpu) (able : IsAble cpu) where
 
   of_hlt : (len : ℕ) → Yields (IsLeft cpu) (halt len cpu)
   unfolding halt
-  of_hlt len = any_yields (kernel_alone cpu) (λ done. gives_yields (record { suits = same _ refl refl refl; stays = refl }))
+  of_hlt len = any_yields (kernel_alone cpu) (λ done. gives_yields (record { suits = same cpu able _ refl refl refl; stays = refl }))
 
   of_pushf : (len : ℕ) → Yields (IsLeft cpu) (push_flags len cpu)
   unfolding push_flags
@@ -264,8 +265,8 @@ module _ (cpu : Cpu) (able : IsAble cpu) where
   of_load_control len number v =
       if_yields (number == 0) (any_yields (unless control_stop (bit_and v control_0_needed == control_0_needed && bit_and v control_0_refused == 0)) (λ done. goes_on _ refl refl refl))
       (if_yields (number == 2) (goes_on _ refl refl refl)
-      (if_yields (number == 3) (any_yields (unless control_stop (bit_and v control_3_refused == 0)) (λ done. gives_yields (record { suits = same _ refl refl refl; stays = refl })))
-      (if_yields (number == 4) (any_yields (unless control_stop (v == 0 || v == 0x10)) (λ done. gives_yields (record { suits = same _ refl refl refl; stays = drops_all (record (past cpu len) { cr4 = v }) (changes_pse (past cpu len) v) refl })))
+      (if_yields (number == 3) (any_yields (unless control_stop (bit_and v control_3_refused == 0)) (λ done. gives_yields (record { suits = same cpu able _ refl refl refl; stays = refl })))
+      (if_yields (number == 4) (any_yields (unless control_stop (v == 0 || v == 0x10)) (λ done. gives_yields (record { suits = same cpu able _ refl refl refl; stays = drops_all (record (past cpu len) { cr4 = v }) (changes_pse (past cpu len) v) refl })))
       (record { each = λ s. tt }))))
 
   of_write_control : (a b : Operand) (len : ℕ) → Yields (IsLeft cpu) (write_control a b len cpu)
@@ -292,7 +293,7 @@ module _ (cpu : Cpu) (able : IsAble cpu) where
   drops_stay new false at same = same
 
   of_dropped : (len : ℕ) (a : Operand) → Yields (IsLeft cpu) (dropped len cpu a)
-  of_dropped len (operands.Memory a) = gives_yields (record { suits = same _ refl refl refl; stays = drops_stay (past cpu len) (pse_of cpu) (address_of a cpu.regs) refl })
+  of_dropped len (operands.Memory a) = gives_yields (record { suits = same cpu able _ refl refl refl; stays = drops_stay (past cpu len) (pse_of cpu) (address_of a cpu.regs) refl })
   of_dropped len a = record { each = λ s. tt }
 
   of_drop_page : (a : Operand) (len : ℕ) → Yields (IsLeft cpu) (drop_page a len cpu)
@@ -336,7 +337,7 @@ module _ (cpu : Cpu) (able : IsAble cpu) where
 
   of_load_seg : (insn : Insn) (a : Operand) (len : ℕ) → Yields (IsLeft cpu) (load_seg insn a len cpu)
   unfolding load_seg
-  of_load_seg insn (operands.Segment seg) len = any_yields (selector cpu insn.b) (λ sel. of_load (past cpu len) sel seg (same _ refl refl refl))
+  of_load_seg insn (operands.Segment seg) len = any_yields (selector cpu insn.b) (λ sel. of_load (past cpu len) sel seg (same cpu able _ refl refl refl))
   of_load_seg insn a len = record { each = λ s. tt }
 
   of_push_seg : (a : Operand) (len : ℕ) → Yields (IsLeft cpu) (push_seg a len cpu)
@@ -346,7 +347,7 @@ module _ (cpu : Cpu) (able : IsAble cpu) where
 
   of_pop_seg : (a : Operand) (len : ℕ) → Yields (IsLeft cpu) (pop_seg a len cpu)
   unfolding pop_seg
-  of_pop_seg (operands.Segment seg) len = any_yields (pulled cpu) (λ v. of_load (past_pop cpu len) (v % 65536) seg (same _ refl refl refl))
+  of_pop_seg (operands.Segment seg) len = any_yields (pulled cpu) (λ v. of_load (past_pop cpu len) (v % 65536) seg (same cpu able _ refl refl refl))
   of_pop_seg a len = record { each = λ s. tt }
 
   found_jump : (sel : ℕ) → Yields (λ (l : Loading). l.hidden.null ≡ false) (find_jump cpu sel)
@@ -366,11 +367,11 @@ module _ (cpu : Cpu) (able : IsAble cpu) where
 
   of_port_in : (insn : Insn) (len : ℕ) → Yields (IsLeft cpu) (port_in insn len cpu)
   unfolding port_in
-  of_port_in insn len = any_yields (unless protection_0 (is_within cpu)) (λ done. gives_yields (record { suits = same _ refl refl refl; stays = refl }))
+  of_port_in insn len = any_yields (unless protection_0 (is_within cpu)) (λ done. gives_yields (record { suits = same cpu able _ refl refl refl; stays = refl }))
 
   of_port_out : (insn : Insn) (len : ℕ) → Yields (IsLeft cpu) (port_out insn len cpu)
   unfolding port_out
-  of_port_out insn len = any_yields (unless protection_0 (is_within cpu)) (λ done. gives_yields (record { suits = same _ refl refl refl; stays = refl }))
+  of_port_out insn len = any_yields (unless protection_0 (is_within cpu)) (λ done. gives_yields (record { suits = same cpu able _ refl refl refl; stays = refl }))
 
   of_return : (more : ℕ) → Yields (IsLeft cpu) (return_to more cpu)
   unfolding return_to
@@ -426,7 +427,7 @@ module _ (cpu : Cpu) (able : IsAble cpu) where
 
   of_writes : (insn : Insn) (len : ℕ) (before : Space) (o : Outcome Refusal (Unit {0})) → Ends (Suits cpu) (after_writes insn len cpu before o)
   of_writes insn len before (Ok done) =
-      of_finished done.1 (effect insn len cpu.regs (byte_by (ranges_of insn cpu.regs).read before done.1)) (effect_leaves insn len cpu.regs (byte_by (ranges_of insn cpu.regs).read before done.1))
+      of_finished done.1 (effect insn len cpu.regs (byte_by (ranges_of insn cpu.regs).read before done.1)) (stay.effects insn len cpu.regs (byte_by (ranges_of insn cpu.regs).read before done.1))
   of_writes insn len before (Err refused) = tt
 
   of_reads : (insn : Insn) (len : ℕ) (o : Outcome Refusal (Unit {0})) → Ends (Suits cpu) (after_reads insn len cpu o)

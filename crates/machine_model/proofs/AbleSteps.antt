@@ -3,12 +3,13 @@ use Rattle.std.proofs.Common.{◌≡◌, ℕ, ◌+◌, ◌*◌, ◌/◌, ◌%◌
 use Rattle.ia32_types.specs.declared.stop.Stop.TheVariants as stops
 use Rattle.ia32_types.specs.declared.stop.Did.{Did}
 use Rattle.ia32_types.specs.declared.stop.Did.TheVariants as did
-use Rattle.ia32_types.specs.declared.size.Size.TheVariants.{Byte, Long}
 use Rattle.ia32_types.specs.declared.insn.Insn.{Insn}
 use Rattle.ia32_types.specs.declared.insn.Op.{Op}
 use Rattle.ia32_types.specs.declared.insn.Op.TheVariants as op
 use Rattle.ia32_decode.specs.declared.answer.Decoded.{Decoded}
 use Rattle.ia32_decode.specs.declared.answer.Decoded.TheVariants as begins
+use Rattle.ia32_exec.specs.FlagsAfter.{InsensitiveStay}
+use Rattle.ia32_exec.specs.Registers.{with_register}
 use Rattle.descriptors.specs.declared.cpu.Cpu.{Cpu}
 use Rattle.descriptors.specs.declared.cpu.Hidden.{Hidden}
 use Rattle.paging.specs.Space.{Mode, Own, Wedge, Space}
@@ -39,7 +40,6 @@ use Rattle.machine_model.specs.Instruction.{fetched, instructed, passed, with_ac
 use Rattle.machine_model.specs.Step as step
 use Rattle.machine_model.specs.Step.{Completed, Report, Result, Went, Stands, begun, begins_next, went, after_read, after_write, out_item, code_of, after_delivery, after_effect, after_software, after_instruction, by_op, by_decoded, after_refusal, after_fetch, fetches_next, worked, interrupt_of, interrupted, by_interrupt, unheld, stepped}
 use Rattle.machine_model.specs.Able.{IsAble, StepsKeepAble}
-use Rattle.machine_model.proofs.FlagsAfter.{apart_register}
 use Rattle.machine_model.proofs.Yielding.{Ends, Yields, any_yields, gives_yields}
 use Rattle.machine_model.proofs.AbleRows.{Suits, Stays, IsLeft, null_1, null_2, other, same, left}
 
@@ -114,7 +114,7 @@ let_leave mode text count own old new is below above leave =
     sym (ap (λ x. not ((x == 0) && (new.cpl == 3)) || is_open new) below ∙ ap (λ x. not ((0 == 0) && (x == 3)) || is_open new) above)
     ∙ (sym (ap (λ x. may_leave x old new) is) ∙ leave)
 
-module _ (m : Setting) (b : State) (text count : ℕ) (own : Own) (mode : m.mode ≡ Wedge text count own) (able : IsAble b.cpu) where
+module _ (m : Setting) (b : State) (text count : ℕ) (own : Own) (mode : m.mode ≡ Wedge text count own) (stay : InsensitiveStay) (able : IsAble b.cpu) where
   of_next : (new : Cpu) → Suits b.cpu new → may_leave m.mode b.cpu new ≡ true → IsAble new
   of_next new h leave = record {
     level = h.level;
@@ -124,9 +124,10 @@ module _ (m : Setting) (b : State) (text count : ℕ) (own : Own) (mode : m.mode
   }
 
   of_read : (c : Completed) (cpu : Cpu) (port : ℕ) (wide : Bool) (s : Space) (x : PortRead × Board) → IsAble cpu → LeavesAble (after_read b c cpu port wide s x)
+  unfolding with_register
   of_read c cpu port wide s (read.Stop, board) h = tt
-  of_read c cpu port true s (read.Value value, board) h = with_flags cpu (with_accumulator true value cpu) h refl refl (apart_register Long 0 value cpu.regs).flags
-  of_read c cpu port false s (read.Value value, board) h = with_flags cpu (with_accumulator false value cpu) h refl refl (apart_register Byte 0 value cpu.regs).flags
+  of_read c cpu port true s (read.Value value, board) h = with_flags cpu (with_accumulator true value cpu) h refl refl refl
+  of_read c cpu port false s (read.Value value, board) h = with_flags cpu (with_accumulator false value cpu) h refl refl refl
 
   of_write : (c : Completed) (cpu : Cpu) (item : What) (s : Space) (x : Did × Board) → IsAble cpu → LeavesAble (after_write b c cpu item s x)
   of_write c cpu item s (did.Stop, board) h = tt
@@ -157,7 +158,7 @@ module _ (m : Setting) (b : State) (text count : ℕ) (own : Own) (mode : m.mode
   of_op op.Int insn len s =
       of_software m b (begun b insn) (insn.imm % 256) (delivered (passed len b.cpu) (insn.imm % 256) Soft None s) ((delivered_able (passed len b.cpu) (insn.imm % 256) Soft None).each s)
   of_op op.Int3 insn len s = of_software m b (begun b insn) 3 (delivered (passed len b.cpu) 3 Soft None s) ((delivered_able (passed len b.cpu) 3 Soft None).each s)
-  of_op o insn len s = of_instruction (begun b insn) (instructed insn len b.cpu s) (left b.cpu able insn len s)
+  of_op o insn len s = of_instruction (begun b insn) (instructed insn len b.cpu s) (left stay b.cpu able insn len s)
 
   of_decoded : (d : Decoded) (s : Space) → LeavesAble (by_decoded m b d s)
   of_decoded (begins.Insn insn len) s = of_op insn.op insn len s
@@ -181,8 +182,8 @@ module _ (m : Setting) (b : State) (text count : ℕ) (own : Own) (mode : m.mode
 unheld_able : (b : State) → IsAble b.cpu → IsAble (unheld b).cpu
 unheld_able b h = record { level = h.level; code = h.code; stack = h.stack; users = h.users }
 
-pub each_keeps : StepsKeepAble
-each_keeps m b mode able report after is =
+pub each_keeps : InsensitiveStay → StepsKeepAble
+each_keeps stay m b mode able report after is =
     subst LeavesAble is
-    (of_interrupt m (unheld b) 0x100 (text_pages m.image) (record { front = 0; front_len = 0; back = 0; back_len = 0 }) mode (unheld_able b able)
+    (of_interrupt m (unheld b) 0x100 (text_pages m.image) (record { front = 0; front_len = 0; back = 0; back_len = 0 }) mode stay (unheld_able b able)
     (interrupt_of b.cpu b.board) (space_at_start m.mode m.frames b.cpu b.ram b.set))

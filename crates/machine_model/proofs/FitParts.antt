@@ -5,8 +5,9 @@ use Rattle.std.proofs.lemmas.List.{get_or-set_other, get_or-set_same}
 use Rattle.std.proofs.lemmas.Nat.{and_block, and_or_apart, and_mask}
 use Rattle.ia32_types.specs.Bits.{bit}
 use Rattle.ia32_types.specs.Flags.{interrupt_at, flag_put}
-use Rattle.ia32_types.proofs.FlagBits.{set_is}
+use Rattle.ia32_types.proofs.FlagBits.{set_is, put_apart}
 use Rattle.ia32_types.specs.declared.flags.Flags.{Flags}
+use Rattle.ia32_exec.specs.FlagsAfter.{AreSet, AreKept}
 use Rattle.ia32_exec.specs.Stack.{taken}
 use Rattle.descriptors.specs.Form.{descriptor_of, is_data, is_code, is_of_system, is_foreign_form, dpl_of, is_present}
 use Rattle.descriptors.specs.declared.cpu.Cpu.{Cpu}
@@ -18,7 +19,6 @@ use Rattle.sys_exec.specs.Operand.{protection_0}
 use Rattle.sys_exec.specs.Segment.{protection, form_stop, absent, loading, ends_if, selected, marked, find_data, data_tests, load_data, stack_tests, jump_tests, return_tests, find_stack, find_return, find_jump}
 use Rattle.sys_exec.specs.Iret.{is_within, with_interrupt, new_flags}
 use Rattle.machine_model.specs.Fit.{IsLevel, IsSegment, IsOfLevel, AreFlags, Fit}
-use Rattle.machine_model.proofs.FlagsAfter.{AreSet, set_on, set_9, set_12, set_13, taken_kept}
 use Rattle.machine_model.proofs.Yielding.{Yields, then_yields, any_yields, gives_yields, stops_yields, by_yields, keeps_yields}
 use Rattle.machine_model.proofs.AbleRows.{none, eq_told, neither, was, level_of}
 
@@ -34,6 +34,19 @@ still_flags f g e k h = record { fixed = e ∙ h.fixed; others = k ∙ h.others 
 pub set_flags : (f g : Flags) → AreSet f g → AreFlags f.bits → AreFlags g.bits
 set_flags f g s h = still_flags f.bits g.bits s.fixed s.others h
 
+set_on : (f g h : Flags) → AreSet f g → AreSet g h → AreSet f h
+set_on f g h p q = record { fixed = q.fixed ∙ p.fixed; others = q.others ∙ p.others }
+
+pub set_interrupt : (f : Flags) (b : Bool) → AreSet f (flag_put f interrupt_at b)
+set_interrupt f b = record { fixed = put_apart f.bits 9 2 b (omega arith) refl; others = put_apart f.bits 9 4294951208 b (omega arith) refl }
+
+-- the two bits of IOPL
+set_12 : (f : Flags) (b : Bool) → AreSet f (flag_put f 12 b)
+set_12 f b = record { fixed = put_apart f.bits 12 2 b (omega arith) refl; others = put_apart f.bits 12 4294951208 b (omega arith) refl }
+
+set_13 : (f : Flags) (b : Bool) → AreSet f (flag_put f 13 b)
+set_13 f b = record { fixed = put_apart f.bits 13 2 b (omega arith) refl; others = put_apart f.bits 13 4294951208 b (omega arith) refl }
+
 set_choice : (test : Bool) (f g h : Flags) → AreSet f g → AreSet f h → AreSet f (cond test g h)
 set_choice true f g h p q = p
 set_choice false f g h p q = q
@@ -41,14 +54,14 @@ set_choice false f g h p q = q
 same_set : (f : Flags) → AreSet f f
 same_set f = record { fixed = refl; others = refl }
 
-pub popped_set : (cpu : Cpu) (image : ℕ) → AreSet cpu.regs.flags (new_flags cpu image)
+pub popped_set : ((f : Flags) (image : ℕ) → AreKept f (taken f image)) → (cpu : Cpu) (image : ℕ) → AreSet cpu.regs.flags (new_flags cpu image)
 unfolding new_flags
-popped_set cpu image =
+popped_set images cpu image =
     let t = taken cpu.regs.flags image in
     let i = with_interrupt cpu t image in
     let two = flag_put i 12 (bit image 12) in
-    set_on cpu.regs.flags t _ (taken_kept cpu.regs.flags image).set
-    (set_on t i _ (set_choice (is_within cpu) t _ t (set_9 t (bit image interrupt_at)) (same_set t))
+    set_on cpu.regs.flags t _ (images cpu.regs.flags image).set
+    (set_on t i _ (set_choice (is_within cpu) t _ t (set_interrupt t (bit image interrupt_at)) (same_set t))
     (set_choice (cpu.cpl == 0) i _ i (set_on i two _ (set_12 i (bit image 12)) (set_13 two (bit image 13))) (same_set i)))
 
 -- ---- controls

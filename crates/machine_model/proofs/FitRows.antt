@@ -17,6 +17,7 @@ use Rattle.ia32_exec.specs.declared.outcome.Outcome as exec
 use Rattle.ia32_exec.specs.declared.outcome.Outcome.TheVariants as outcomes
 use Rattle.ia32_exec.specs.Registers.{address_of}
 use Rattle.ia32_exec.specs.Effect.{effect, ranges_of}
+use Rattle.ia32_exec.specs.FlagsAfter.{Leaves, InsensitiveStay}
 use Rattle.descriptors.specs.declared.cpu.Cpu.{Cpu}
 use Rattle.descriptors.specs.declared.cpu.Hidden.{Hidden}
 use Rattle.paging.specs.Space.{Space}
@@ -41,12 +42,11 @@ use Rattle.sys_exec.specs.Branch.{return_to, jump_to, called_through, call_to}
 use Rattle.sys_exec.specs.Sys.{row, sys_work}
 use Rattle.machine_model.specs.Fit.{IsLevel, IsSegment, AreFlags, AreControls, Fit}
 use Rattle.machine_model.specs.Instruction.{is_plain, done_plainly, instructed}
-use Rattle.machine_model.proofs.FlagsAfter.{Leaves, set_9, effect_leaves}
 use Rattle.machine_model.proofs.Yielding.{Ends, Yields, then_yields, any_yields, gives_yields, unless_yields, if_yields, by_yields}
 use Rattle.machine_model.proofs.AbleRows.{none, eq_told, both, flags_tested}
-use Rattle.machine_model.proofs.FitParts.{IsWhole, set_flags, popped_set, control_on, control_others, kept_code, put_there, of_level, kept_fits, flagged, same, IsBack, found_stack, found_jump, found_return, data_loaded}
+use Rattle.machine_model.proofs.FitParts.{IsWhole, set_flags, set_interrupt, popped_set, control_on, control_others, kept_code, put_there, of_level, kept_fits, flagged, same, IsBack, found_stack, found_jump, found_return, data_loaded}
 
-module _ (cpu : Cpu) (whole : IsWhole cpu) where
+module _ (stay : InsensitiveStay) (cpu : Cpu) (whole : IsWhole cpu) where
   fit : Fit cpu
   fit = whole.fit
 
@@ -63,11 +63,11 @@ module _ (cpu : Cpu) (whole : IsWhole cpu) where
   unfolding clear_interrupts
   of_cli len = any_yields (unless protection_0 (is_within cpu)) (λ done.
       let f = flag_put cpu.regs.flags interrupt_at false in
-      goes (with_flags (past cpu len) f) (flagged cpu whole (with_flags (past cpu len) f) f refl (set_9 cpu.regs.flags false) refl refl refl refl refl refl))
+      goes (with_flags (past cpu len) f) (flagged cpu whole (with_flags (past cpu len) f) f refl (set_interrupt cpu.regs.flags false) refl refl refl refl refl refl))
 
   of_sti : (len : ℕ) → Yields (λ (d : Done). IsWhole d.cpu) (set_interrupts len cpu)
   unfolding set_interrupts
-  of_sti len = any_yields (unless protection_0 (is_within cpu)) (λ done. goes _ (flagged cpu whole _ (flag_put cpu.regs.flags interrupt_at true) refl (set_9 cpu.regs.flags true) refl refl refl refl refl refl))
+  of_sti len = any_yields (unless protection_0 (is_within cpu)) (λ done. goes _ (flagged cpu whole _ (flag_put cpu.regs.flags interrupt_at true) refl (set_interrupt cpu.regs.flags true) refl refl refl refl refl refl))
 
   of_hlt : (len : ℕ) → Yields (λ (d : Done). IsWhole d.cpu) (halt len cpu)
   unfolding halt
@@ -91,7 +91,7 @@ module _ (cpu : Cpu) (whole : IsWhole cpu) where
   of_popf : (len : ℕ) → Yields (λ (d : Done). IsWhole d.cpu) (pop_flags len cpu)
   unfolding pop_flags
   of_popf len = any_yields (pulled cpu) (λ image. any_yields (flags_tested image) (λ done.
-      goes (with_flags (past_pop cpu len) (new_flags cpu image)) (flagged cpu whole (with_flags (past_pop cpu len) (new_flags cpu image)) (new_flags cpu image) refl (popped_set cpu image) refl refl refl refl refl refl)))
+      goes (with_flags (past_pop cpu len) (new_flags cpu image)) (flagged cpu whole (with_flags (past_pop cpu len) (new_flags cpu image)) (new_flags cpu image) refl (popped_set stay.images cpu image) refl refl refl refl refl refl)))
 
   -- ---- IRET
 
@@ -103,7 +103,7 @@ module _ (cpu : Cpu) (whole : IsWhole cpu) where
       segments = All-set IsSegment cpu.seg 1 code.hidden h.found.segment fit.segments;
       code = of_level _ code.hidden _ (put_there cpu.seg 1 code.hidden (omega (arith, whole.four))) h.found.there (h.found.level_is ∙ meet (p.sel % 4) cpu.cpl h.outward inward);
       stack = of_level _ (seg_of cpu 2) _ (kept_code cpu.seg 1 2 code.hidden (λ d. omega (arith, d))) fit.stack.there fit.stack.level;
-      flags = set_flags cpu.regs.flags (new_flags cpu p.flags) (popped_set cpu p.flags) fit.flags;
+      flags = set_flags cpu.regs.flags (new_flags cpu p.flags) (popped_set stay.images cpu p.flags) fit.flags;
       controls = record { on = fit.controls.on; others = fit.controls.others; directory = fit.controls.directory; extensions = fit.controls.extensions };
       halted = fit.halted;
     };
@@ -131,7 +131,7 @@ module _ (cpu : Cpu) (whole : IsWhole cpu) where
           segments = All-set IsSegment with_code 2 stack.hidden k.segment (All-set IsSegment segments 1 code.hidden h.found.segment (All-set IsSegment first 3 ds ds_fits (All-set IsSegment cpu.seg 0 es es_fits fit.segments)));
           code = of_level _ code.hidden _ (kept_code with_code 2 1 stack.hidden (λ d. omega (arith, d)) ∙ put_there segments 1 code.hidden (omega (arith, four))) h.found.there h.found.level_is;
           stack = of_level _ stack.hidden _ (put_there with_code 2 stack.hidden (omega (arith, still))) k.there k.level_is;
-          flags = set_flags cpu.regs.flags (new_flags cpu p.flags) (popped_set cpu p.flags) fit.flags;
+          flags = set_flags cpu.regs.flags (new_flags cpu p.flags) (popped_set stay.images cpu p.flags) fit.flags;
           controls = record { on = fit.controls.on; others = fit.controls.others; directory = fit.controls.directory; extensions = fit.controls.extensions };
           halted = λ e. absurd (let f : true ≡ false = sym e ∙ awake in cc);
         };
@@ -366,7 +366,7 @@ module _ (cpu : Cpu) (whole : IsWhole cpu) where
 
   of_writes : (insn : Insn) (len : ℕ) (before : Space) (o : Outcome Refusal (Unit {0})) → Ends IsWhole (after_writes insn len cpu before o)
   of_writes insn len before (Ok done) =
-      of_finished done.1 (effect insn len cpu.regs (byte_by (ranges_of insn cpu.regs).read before done.1)) (effect_leaves insn len cpu.regs (byte_by (ranges_of insn cpu.regs).read before done.1))
+      of_finished done.1 (effect insn len cpu.regs (byte_by (ranges_of insn cpu.regs).read before done.1)) (stay.effects insn len cpu.regs (byte_by (ranges_of insn cpu.regs).read before done.1))
   of_writes insn len before (Err refused) = tt
 
   of_reads : (insn : Insn) (len : ℕ) (o : Outcome Refusal (Unit {0})) → Ends IsWhole (after_reads insn len cpu o)

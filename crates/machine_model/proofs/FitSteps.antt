@@ -7,12 +7,14 @@ use Rattle.std.proofs.lemmas.Nat.{and_assoc}
 use Rattle.ia32_types.specs.declared.stop.Stop.TheVariants as stops
 use Rattle.ia32_types.specs.declared.stop.Did.{Did}
 use Rattle.ia32_types.specs.declared.stop.Did.TheVariants as did
-use Rattle.ia32_types.specs.declared.size.Size.TheVariants.{Byte, Long, Word}
+use Rattle.ia32_types.specs.declared.size.Size.TheVariants.{Long, Word}
 use Rattle.ia32_types.specs.declared.insn.Insn.{Insn}
 use Rattle.ia32_types.specs.declared.insn.Op.{Op}
 use Rattle.ia32_types.specs.declared.insn.Op.TheVariants as op
 use Rattle.ia32_decode.specs.declared.answer.Decoded.{Decoded}
 use Rattle.ia32_decode.specs.declared.answer.Decoded.TheVariants as begins
+use Rattle.ia32_exec.specs.FlagsAfter.{InsensitiveStay}
+use Rattle.ia32_exec.specs.Registers.{with_register}
 use Rattle.descriptors.specs.declared.cpu.Cpu.{Cpu}
 use Rattle.descriptors.specs.declared.cpu.Hidden.{Hidden}
 use Rattle.paging.specs.Space.{Space}
@@ -44,7 +46,6 @@ use Rattle.machine_model.specs.Instruction.{fetched, instructed, passed, with_ac
 use Rattle.machine_model.specs.Step as step
 use Rattle.machine_model.specs.Step.{Completed, Result, Went, Stands, begun, begins_next, went, after_read, after_write, out_item, code_of, after_delivery, after_effect, after_software, after_instruction, by_op, by_decoded, after_refusal, after_fetch, fetches_next, worked, interrupt_of, interrupted, by_interrupt, unheld}
 use Rattle.machine_model.specs.StaysFit.{StepsKeepFit}
-use Rattle.machine_model.proofs.FlagsAfter.{apart_register}
 use Rattle.machine_model.proofs.Yielding.{Ends, Yields, OfValue, then_yields, any_yields, gives_yields, unless_yields, keeps_yields, by_yields}
 use Rattle.machine_model.proofs.AbleRows.{none, both}
 use Rattle.machine_model.proofs.FitParts.{IsWhole, of_level, put_there, kept_code, not_below, same}
@@ -142,9 +143,10 @@ module _ (m : Setting) (b : State) where
   of_raised cpu vector code s h = of_delivery [] b.board (delivered cpu vector Raised (code_of vector code) s) ((delivered_whole cpu h vector Raised (code_of vector code)).each s)
 
   of_read : (c : Completed) (cpu : Cpu) (port : ℕ) (wide : Bool) (s : Space) (x : PortRead × Board) → IsWhole cpu → LeavesWhole (after_read b c cpu port wide s x)
+  unfolding with_register
   of_read c cpu port wide s (read.Stop, board) h = tt
-  of_read c cpu port true s (read.Value value, board) h = same cpu h (with_accumulator true value cpu) refl refl (apart_register Long 0 value cpu.regs).flags refl refl refl refl
-  of_read c cpu port false s (read.Value value, board) h = same cpu h (with_accumulator false value cpu) refl refl (apart_register Byte 0 value cpu.regs).flags refl refl refl refl
+  of_read c cpu port true s (read.Value value, board) h = same cpu h (with_accumulator true value cpu) refl refl refl refl refl refl refl
+  of_read c cpu port false s (read.Value value, board) h = same cpu h (with_accumulator false value cpu) refl refl refl refl refl refl refl
 
   of_write : (c : Completed) (cpu : Cpu) (item : What) (s : Space) (x : Did × Board) → IsWhole cpu → LeavesWhole (after_write b c cpu item s x)
   of_write c cpu item s (did.Stop, board) h = tt
@@ -162,7 +164,7 @@ module _ (m : Setting) (b : State) where
   of_effect c (effects.Raise vector code) cpu s h = of_raised cpu vector code s h
   of_effect c (effects.Stop stop) cpu s h = tt
 
-  module _ (whole : IsWhole b.cpu) where
+  module _ (stay : InsensitiveStay) (whole : IsWhole b.cpu) where
     of_software : (c : Completed) (vector : ℕ) (o : Outcome NotDelivered Cpu) → Ends IsWhole o → LeavesWhole (after_software m b c vector o)
     of_software c vector (Ok done) h = of_entered [] (Some c) done.0 b.board done.1 h
     of_software c vector (Err (not_delivered.Privilege, s)) h = of_raised b.cpu 13 (8 * vector + 2) s whole
@@ -190,7 +192,7 @@ module _ (m : Setting) (b : State) where
     of_op : b.cpu.halted ≡ false → (o : Op) (insn : Insn) (len : ℕ) (s : Space) → LeavesWhole (by_op m o b insn len s)
     of_op awake op.Int insn len s = by_int (begun b insn) len (insn.imm % 256) s
     of_op awake op.Int3 insn len s = by_int (begun b insn) len 3 s
-    of_op awake o insn len s = of_instruction (begun b insn) (instructed insn len b.cpu s) (left b.cpu whole awake insn len s)
+    of_op awake o insn len s = of_instruction (begun b insn) (instructed insn len b.cpu s) (left stay b.cpu whole awake insn len s)
 
     of_decoded : b.cpu.halted ≡ false → (d : Decoded) (s : Space) → LeavesWhole (by_decoded m b d s)
     of_decoded awake (begins.Insn insn len) s = of_op awake insn.op insn len s
@@ -212,9 +214,9 @@ module _ (m : Setting) (b : State) where
     of_interrupt None s = of_work s
     of_interrupt (Some v) s = of_delivery (Irq v ∷ []) (acknowledged b.board) (delivered b.cpu v External None s) ((delivered_whole b.cpu whole v External None).each s)
 
-pub each_keeps_fit : StepsKeepFit
-each_keeps_fit m b fit four report after is =
+pub each_keeps_fit : InsensitiveStay → StepsKeepFit
+each_keeps_fit stay m b fit four report after is =
     let whole : IsWhole b.cpu = record { fit = fit; four = four } in
     let w = subst LeavesWhole is
-    (of_interrupt m (unheld b) (same b.cpu whole (record b.cpu { held = false }) refl refl refl refl refl refl refl) (interrupt_of b.cpu b.board) (space_at_start m.mode m.frames b.cpu b.ram b.set)) in
+    (of_interrupt m (unheld b) stay (same b.cpu whole (record b.cpu { held = false }) refl refl refl refl refl refl refl) (interrupt_of b.cpu b.board) (space_at_start m.mode m.frames b.cpu b.ram b.set)) in
     (w.fit, w.four)

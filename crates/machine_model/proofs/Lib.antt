@@ -6,7 +6,6 @@ pub mod Written
 pub mod Walked
 pub mod Counting
 pub mod Ending
-pub mod FlagsAfter
 pub mod Yielding
 pub mod AbleRows
 pub mod AbleSteps
