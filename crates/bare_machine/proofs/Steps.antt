@@ -44,8 +44,3 @@ within_dropped frames dropped.All set part h p = part_within frames empty part (
 pub one_step : (board : Board) → board_steps 1 board ≡ board_step board
 unfolding board_steps
 one_step board = refl
-
--- a halted processor does nothing
-pub halted_works : (m : Setting) (b : State) (s : Space) → b.cpu.halted ≡ true → worked m b s ≡ went [] None b b.cpu b.board s
-unfolding worked
-halted_works m b s e = ap (λ (h : Bool). cond h (went [] None b b.cpu b.board s) (begins_next m b s)) e

@@ -11,6 +11,7 @@ ghost use Rattle.bare_machine.specs.Machine.{bare, state_of, IsKept, Rests};
 
 use crate::machine::Bare;
 use board::Script;
+use machine_model::halted_steps_rest;
 use machine_step::interrupt;
 use xlate_buffer::Cache;
 
@@ -33,6 +34,7 @@ pub fn rest<C: Cache>(machine: &mut Bare<C>, script: &Script, n: u64)
     if !is_resting(machine) {
         return;
     }
+    halted_steps_rest();
     let k = quiet_steps(machine, script, n - machine.step);
     machine.board.advance(k);
     machine.step += k;

@@ -6,3 +6,4 @@ pub mod Lines
 pub mod Saves
 pub mod Forms
 pub mod Sayings
+pub mod QuietSteps

@@ -1,7 +1,6 @@
 -- A text that is read line by line says what its lines say.
-use Rattle.std.proofs.Common.{◌≡◌, ℕ, ◌+◌, ◌-◌, ◌<◌, ◌≤◌, Bool, true, false, List, [], ◌∷◌, ◌++◌, length, take, drop, get_or, Option, Some, None, Result, Ok, Err, refl, sym, ap, subst, ◌∙◌, arith, add-one, drop-cons, length-drop, below_more}
-use Rattle.std.specs.Prelude.{nat_lt, nat_le, fold, slice_index_or, if◌then◌else◌}
-use Rattle.std.specs.List.{flat_map}
+use Rattle.std.proofs.Common.{◌≡◌, ℕ, ◌+◌, ◌<◌, ◌≤◌, Bool, true, false, List, [], ◌∷◌, ◌++◌, length, take, drop, get_or, Option, Some, None, Result, Ok, Err, refl, sym, ap, subst, ◌∙◌, arith, add-one, drop-cons, length-drop, below_more}
+use Rattle.std.specs.Prelude.{nat_lt, nat_le, fold, if◌then◌else◌}
 use Rattle.std.proofs.lemmas.Grind.{flat_map-append}
 use Rattle.std.proofs.lemmas.List.{append-nil, take_all, take_more}
 use Rattle.board.specs.declared.script.Event.{Event}
@@ -13,7 +12,7 @@ use Rattle.board.specs.declared.fault.ScriptFault.TheVariants.{At, Memory}
 use Rattle.board.specs.Scripts.{Events, max_events}
 use Rattle.board.specs.Texts.{Reading, line_of, line_read, lines_read, events_of, cut_at, script_of, at_start}
 use Rattle.board.specs.Reads.{ReadAs}
-use Rattle.board.specs.Lines.{said, events_on, last_step, badness, badness_of, AreGood, LinesSay, FaultSays, AnswerSays}
+use Rattle.board.specs.Lines.{said, events_on, last_step, badness, badness_of, AreGood, LinesSay, AnswerSays}
 use Rattle.board.proofs.Readings.{stays}
 
 -- what was read when line i comes

@@ -3,6 +3,7 @@
 
 mod devices;
 mod fault;
+mod laws;
 mod ports;
 mod read;
 mod reading;
@@ -12,5 +13,6 @@ mod script;
 
 pub use devices::{Board, PortRead};
 pub use fault::{ScriptCause, ScriptFault};
+pub use laws::steps_are_quiet;
 pub use reading::read_script;
 pub use script::{Event, Script};

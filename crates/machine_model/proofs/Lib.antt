@@ -15,3 +15,4 @@ pub mod FitSteps
 pub mod KeptOver
 pub mod Completing
 pub mod CountingNone
+pub mod HaltedSteps

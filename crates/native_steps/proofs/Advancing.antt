@@ -6,6 +6,7 @@ use Rattle.ia32_types.specs.declared.flags.Regs.{Regs}
 use Rattle.ia32_exec.specs.Digest.{digest}
 use Rattle.paging.specs.Fresh.{has}
 use Rattle.descriptors.specs.declared.cpu.Cpu.{Cpu}
+use Rattle.board.specs.Quiet.{StepsAreQuiet}
 use Rattle.sites.specs.declared.site.Site.{Site}
 use Rattle.image_check.specs.Places.{linear, site_at}
 use Rattle.image_laws.specs.Patches.{window_at}
@@ -32,7 +33,7 @@ use Rattle.native_steps.proofs.Choices.{chosen, both, clash}
 use Rattle.native_steps.proofs.Completing.{no_window}
 use Rattle.native_steps.proofs.Quiet.{IsLater, quiet_on, board_on}
 
--- the laws of one instruction
+-- the laws of one instruction, and of one step of the board
 pub record Laws : Type 0 where
   pub forward : Forward
   pub not_entered : NotEntered
@@ -40,6 +41,7 @@ pub record Laws : Type 0 where
   pub below : BeginsBelow
   pub enters : EntersTheWindow
   pub exits : ExitsInTheWindow
+  pub quiet : StepsAreQuiet
 
 same_done : (a c : Done) (x y : List ℕ) → ◌≡◌ {A = Met (Done × List ℕ)} (Ok (a, x)) (Ok (c, y)) → a ≡ c
 same_done a c x y g = let q : ◌≡◌ {A = Done × List ℕ} (a, x) (c, y) = cc in ap (λ (o : Done × List ℕ). o.0) q
@@ -205,7 +207,7 @@ module _ (laws : Laws) (m : Setting) (v : View) (w : IsWedge m) where
             beside = r.beside;
             cpu = r.cpu ∙ ap (λ (c : Cpu). record c { regs = r.last.regs }) cpu_is;
             set = r.set ∙ set_is;
-            board = r.board ∙ board_on m b after later k r.n r.few q;
+            board = r.board ∙ board_on laws.quiet m b after later k r.n r.few q;
             count = omega (arith, r.count, later.count);
             unseen = ap (λ (x : List Rattle.run_trace.specs.declared.items.Item.Item). x ++ trace_of r.reports) follows.unseen ∙ r.unseen;
             pages = all_more (λ (x : Report). AreKept b.set x.pages) follows.report r.reports pages_kept (subst (λ (x : Set). All (λ (y : Report). AreKept x y.pages) r.reports) set_is r.pages);
@@ -296,7 +298,7 @@ module _ (laws : Laws) (m : Setting) (v : View) (w : IsWedge m) where
         → ((c : State) (t : Standing) → Beside m v c t → AreQuiet m c k → Advanced m v c k t (host_run v k t).0 (host_run v k t).1)
         → Advanced m v b (suc k) s (after_step s met (host_run v k)).0 (after_step s met (host_run v k)).1
     by_step (Ok (Completed regs, ram)) e rest =
-        one_more regs ram e _ _ (rest (after regs ram e) (counted s regs ram) (beside regs ram e) (quiet_on m b (after regs ram e) (later regs ram e) k q))
+        one_more regs ram e _ _ (rest (after regs ram e) (counted s regs ram) (beside regs ram e) (quiet_on laws.quiet m b (after regs ram e) (later regs ram e) k q))
     by_step (Ok (Entered regs, ram)) e rest = none_done (exits.Entry regs.eip) (record s { regs = regs; ram = ram }) (entry_ends regs ram e)
     by_step (Err exit) e rest = none_done exit s (exit_ends exit e)
 

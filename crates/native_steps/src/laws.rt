@@ -6,6 +6,7 @@ ghost use Rattle.native_steps.specs.Looking.{MarksAreRead, UsesAreSeen};
 
 use crate::effects::effects;
 use crate::texts::texts;
+use board::steps_are_quiet;
 use host_cpl3::borders;
 use image_laws::{inside_sites, jumps_out, places};
 
@@ -66,6 +67,7 @@ pub fn advances()
     not_entered();
     at_sites();
     borders();
+    steps_are_quiet();
 }
 
 /// By what is kept, and by walks that set nothing, a program finds the pages that the next instruction uses.

@@ -1,5 +1,5 @@
 use Rattle.bare_machine.specs.Machine.{bare, state_of}
-use Rattle.bare_machine.proofs.Quiet.{rests_none, rests_some}
+use Rattle.bare_machine.proofs.Resting.{rests_none, rests_some}
 use Rattle.bare_machine.proofs.idle.rest.Goals as goal
 
 pub returns-then-not-is_resting-clause-rests : goal.returns-then-not-is_resting-clause-rests
@@ -10,4 +10,4 @@ returns-clause-rests g c = λ image whole part.
     let m = c.args.machine.now in
     let s = bare image c.args.script.now.list m.frames in
     let is = c.is_resting.ensures c.if-not-is_resting.false in
-    rw c.advance.ensures (rests_some c.quiet_steps-k.result s (state_of g.C.Cache.entries m) whole c.requires.begun is.0 is.1 is.2 c.quiet_steps-k.ensures.quiet part)
+    rw c.advance.ensures (rests_some c.halted_steps_rest.ensures c.quiet_steps-k.result s (state_of g.C.Cache.entries m) whole c.requires.begun is.0 is.1 is.2 c.quiet_steps-k.ensures.quiet part)

@@ -10,4 +10,5 @@ returns c = λ m v k b s w h q.
       below = c.borders.ensures.below;
       enters = c.borders.ensures.enters;
       exits = c.borders.ensures.exits;
+      quiet = c.steps_are_quiet.ensures;
     }) m v w k b s h q
