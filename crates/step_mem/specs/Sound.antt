@@ -1,13 +1,29 @@
 -- The parts of a step's memory: what holds of them, and what they stand for.
-use Rattle.std.specs.Prelude.{◌≡◌, ℕ, ◌+◌, ◌*◌, ◌/◌, ◌≤◌, ◌<◌, ◌^◌, true, List, length, take, IsSome}
+use Rattle.std.specs.Prelude.{◌≡◌, ℕ, ◌+◌, ◌*◌, ◌/◌, ◌≤◌, ◌<◌, ◌^◌, true, false, List, [], length, take, IsSome}
 use Rattle.std.specs.FinMap.{FinMap, get}
 use Rattle.std.specs.Ordering.{nat_cmp}
 use Rattle.paging.specs.declared.entry.Entry.{Entry}
 use Rattle.paging.specs.Space.{Space}
+use Rattle.step_mem.specs.declared.guard.Guard.{Guard}
 use Rattle.step_mem.specs.declared.state.State.{State}
+use Rattle.step_mem.specs.declared.walking.Control.{Control}
 use Rattle.step_mem.specs.Changes.{changed, AreWithin}
 use Rattle.step_mem.specs.Guard.{mode_of, IsLaid, IsApart}
 use Rattle.step_mem.specs.Space.{space_of}
+
+-- at the beginning of a step nothing is used or ready
+abbrev pub begun : Control → Guard → State
+begun control guard = record {
+  control = control;
+  guard = guard;
+  changes = [];
+  pages = 0;
+  went = [];
+  tables = [];
+  wrote = [];
+  ready = record { start = 0; len = 0; write = false };
+  earlier = record { start = 0; len = 0; count = 0 };
+}
 
 abbrev pub space_at : (List ℕ → FinMap nat_cmp Entry) → List ℕ → State → Space
 space_at kept ram state =

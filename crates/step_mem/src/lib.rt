@@ -14,7 +14,7 @@ mod walking;
 mod went;
 
 pub use access::{bytes, load, load_earlier, save};
-pub use changes::{Change, Changes};
+pub use changes::{Change, Changes, last_change};
 pub use guard::{Guard, Own, Text};
 pub use kept::Kept;
 pub use own::{own_back, own_front};

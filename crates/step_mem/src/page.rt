@@ -10,7 +10,7 @@ ghost use Rattle.step_mem.specs.Shown.{hidden};
 ghost use Rattle.step_mem.specs.Space.{Rest, space_of, one_more, with_tables};
 ghost use Rattle.step_mem.specs.Tables.{tables as tables_at};
 
-use crate::changes::{Change, Changes, change_of, last};
+use crate::changes::{Change, Changes, change_of, last_change};
 use crate::guard::{Guard, is_barred};
 use crate::kept::Kept;
 use crate::walking::{Control, decide, note_tables};
@@ -25,7 +25,7 @@ pub fn look<B: Kept>(ram: &Ram, base: &B, changes: &[Change], page: u32) -> Opti
     requires { ∥ B.stands base.now ram.now ∥₁ }
     ensures { result ≡ get (changed (B.entries base.now ram.now) changes.now) page }
 {
-    match last(changes, page) {
+    match last_change(changes, page) {
         Some(entry) => entry,
         None => base.entry(ram, page),
     }

@@ -1,6 +1,7 @@
 //! What a step keeps beside memory.
 
-ghost use Rattle.std.specs.Prelude.{◌≡◌, [], false};
+ghost use Rattle.std.specs.Prelude.{◌≡◌};
+ghost use Rattle.step_mem.specs.Sound.{begun};
 
 use crate::changes::Changes;
 use crate::guard::Guard;
@@ -40,17 +41,7 @@ pub struct State<'a> {
 impl<'a> State<'a> {
     /// At the beginning of a step nothing is used or ready.
     pub fn new(control: Control, guard: Guard<'a>) -> State<'a>
-        ensures { result ≡ record {
-          control = control;
-          guard = guard.entry;
-          changes = [];
-          pages = 0;
-          went = [];
-          tables = [];
-          wrote = [];
-          ready = record { start = 0; len = 0; write = false };
-          earlier = record { start = 0; len = 0; count = 0 };
-        } }
+        ensures { result ≡ begun control guard.entry }
     {
         State {
             control,
@@ -72,22 +63,10 @@ impl<'a> State<'a> {
             },
         }
     }
-}
 
-impl<'a> State<'a> {
     /// The next step begins, in the place of the last one: its state is as a new one.
     pub fn renew(&mut self, control: Control, guard: Guard<'a>)
-        ensures { self.new ≡ record {
-          control = control;
-          guard = guard.entry;
-          changes = [];
-          pages = 0;
-          went = [];
-          tables = [];
-          wrote = [];
-          ready = record { start = 0; len = 0; write = false };
-          earlier = record { start = 0; len = 0; count = 0 };
-        } }
+        ensures { self.new ≡ begun control guard.entry }
     {
         self.control = control;
         self.guard = guard;
