@@ -1,6 +1,7 @@
 //! One step.
 
 ghost use Rattle.std.specs.Prelude.{◌≡◌, ◌+◌, ◌*◌, ◌≤◌, length, IfOk};
+ghost use Rattle.descriptors.specs.Controls.{pse_of};
 ghost use Rattle.paging.specs.Fresh.{has};
 ghost use Rattle.step_mem.specs.Changes.{AreWithin};
 ghost use Rattle.step_mem.specs.Guard.{mode_of, IsLaid};
@@ -82,6 +83,18 @@ pub fn step_again<'g, B: Kept>(
     step_in(rules, cpu, board, ram, kept, state)
 }
 
+/// What a walk goes by: the frames, the directory, and the two flags.
+fn control(cpu: &Cpu, frames: u32) -> Control
+    ensures { result ≡ record { frames = frames; cr3 = cpu.now.cr3; pse = pse_of cpu.now; wp = has cpu.now.cr0 65536 } }
+{
+    Control {
+        frames,
+        cr3: cpu.cr3,
+        pse: cpu.pse(),
+        wp: cpu.cr0 / 65536 % 2 == 1,
+    }
+}
+
 /// What a step keeps, before its first access.
 pub fn begin<'g, B: Kept>(
     cpu: &Cpu,
@@ -102,15 +115,10 @@ pub fn begin<'g, B: Kept>(
     ensures guard { result.guard ≡ guard.entry }
 {
     let _len = ram.len();
-    let control = Control {
-        frames,
-        cr3: cpu.cr3,
-        pse: cpu.pse(),
-        wp: cpu.cr0 / 65536 % 2 == 1,
-    };
-    State::new(control, guard)
+    State::new(control(cpu, frames), guard)
 }
 
+/// The same in the place of an earlier step's.
 fn begin_again<'g, B: Kept>(
     cpu: &Cpu,
     ram: &Ram,
@@ -131,13 +139,7 @@ fn begin_again<'g, B: Kept>(
     ensures guard { state.new.guard ≡ guard.entry }
 {
     let _len = ram.len();
-    let control = Control {
-        frames,
-        cr3: cpu.cr3,
-        pse: cpu.pse(),
-        wp: cpu.cr0 / 65536 % 2 == 1,
-    };
-    state.renew(control, guard);
+    state.renew(control(cpu, frames), guard);
 }
 
 /// One step in its memory, of which nothing was used yet.
