@@ -37,7 +37,7 @@ pub fn owns_its_bytes()
 {}
 
 /// Where a range is ready for a write, the frames of all its bytes are among those that the step reports as written. A
-/// walk that finds an entry reads the frames of both its words.
+/// walk that finds an entry reads the frames of both its words, or that of the one word of a page of 4 MB.
 pub fn steps_are_noted()
     ensures writes { WritesAreNoted }
     ensures walks { WalksAreNoted }
