@@ -13,13 +13,13 @@ use Rattle.ia32_types.specs.Bits.{worth}
 use Rattle.pic8259.specs.declared.phase.Phase.{Phase as ChipPhase}
 use Rattle.pic8259.specs.declared.phase.Phase.TheVariants.{Never, AwaitsBase, AwaitsCascade, AwaitsMode, Ready}
 use Rattle.pic8259.specs.declared.chip.Selected.{Selected}
-use Rattle.pic8259.specs.declared.chip.Selected.TheVariants.{Requests, Service}
+use Rattle.pic8259.specs.declared.chip.Selected.TheVariants.{InterruptRequest, InService}
 use Rattle.pic8259.specs.declared.chip.Chip.{Chip}
 use Rattle.pic8259.specs.declared.pair.Pair.{Pair}
 use Rattle.pic8259.specs.Phases.{phase_fits}
 use Rattle.pic8259.specs.Requests.{chip_fits, pair_fits, stands_for_slave}
 use Rattle.pit8254.specs.declared.timer.Phase.{Phase as TimerPhase}
-use Rattle.pit8254.specs.declared.timer.Phase.TheVariants.{AwaitsControl, AwaitsLow, AwaitsHigh}
+use Rattle.pit8254.specs.declared.timer.Phase.TheVariants.{AwaitsControlWord, AwaitsLow, AwaitsHigh}
 use Rattle.pit8254.specs.declared.timer.Count.{Count}
 use Rattle.pit8254.specs.declared.timer.Timer.{Timer}
 use Rattle.pit8254.specs.Counts.{is_period, is_next_period, is_count}
@@ -85,12 +85,12 @@ worth_small true = refl
 worth_small false = refl
 
 selected_back : (selected : Selected) → selected_of (selected_number selected) ≡ selected
-selected_back Requests = refl
-selected_back Service = refl
+selected_back InterruptRequest = refl
+selected_back InService = refl
 
 selected_small : (selected : Selected) → nat_le (selected_number selected) 1 ≡ true
-selected_small Requests = refl
-selected_small Service = refl
+selected_small InterruptRequest = refl
+selected_small InService = refl
 
 -- a chip whose seven bytes stand alone
 chip_back : (chip : Chip) → chip_at (chip_bytes chip) 0 ≡ chip
@@ -109,17 +109,17 @@ chip_met chip fits =
 -- a timer
 
 phase_again : (phase : TimerPhase) → timer_phase_of (timer_number phase) (low_byte phase) ≡ phase
-phase_again AwaitsControl = refl
+phase_again AwaitsControlWord = refl
 phase_again AwaitsLow = refl
 phase_again (AwaitsHigh low) = refl
 
 number_small : (phase : TimerPhase) → nat_le (timer_number phase) 2 ≡ true
-number_small AwaitsControl = refl
+number_small AwaitsControlWord = refl
 number_small AwaitsLow = refl
 number_small (AwaitsHigh low) = refl
 
 low_met : (phase : TimerPhase) → (timer_number phase == 2 || low_byte phase == 0) ≡ true
-low_met AwaitsControl = refl
+low_met AwaitsControlWord = refl
 low_met AwaitsLow = refl
 low_met (AwaitsHigh low) = refl
 
@@ -244,10 +244,10 @@ pub saved_back : (board : Board) → is_count board.pit.count ≡ true → board
 unfolding saved board_at
 saved_back board pit =
     let pair : Chip → Chip → Pair = λ master slave. record { master = master; slave = slave } in
-    let port : Bool → List ℕ → Registers = λ interrupts kept. record board.uart { interrupts = interrupts; kept = kept } in
+    let port : Bool → List ℕ → Registers = λ interrupt_enable kept. record board.uart { interrupt_enable = interrupt_enable; kept = kept } in
     let make : Pair → Timer → Registers → Board = λ pics pit uart. record { pics = pics; pit = pit; uart = uart } in
     let pics = two pair (chip_back board.pics.master) (chip_back board.pics.slave) in
-    let uart = two port (worth_back board.uart.interrupts) (waiting_back board.uart.kept (replicate (25 - length board.uart.kept) 0)) in
+    let uart = two port (worth_back board.uart.interrupt_enable) (waiting_back board.uart.kept (replicate (25 - length board.uart.kept) 0)) in
     two (λ x y. make x (timer_at (saved board)) y) pics uart
     ∙ ap (λ x. make board.pics x board.uart) (timer_back board board.pit pit)
 
@@ -271,7 +271,7 @@ saved_form board pics pit uart =
     (chip_met board.pics.slave each.1)
     (join (stands_for_slave (pair_at (saved board))) true (ap stands_for_slave back ∙ chips.1) refl)
     (timer_met board board.pit pit)
-    (join _ _ (worth_small board.uart.interrupts)
+    (join _ _ (worth_small board.uart.interrupt_enable)
     (join _ _ port.0
     (join _ _ port.1
     (join _ _

@@ -5,13 +5,13 @@ use Rattle.std.specs.Int.{from_le_bytes, w32, w64}
 use Rattle.pic8259.specs.declared.phase.Phase.{Phase as ChipPhase}
 use Rattle.pic8259.specs.declared.phase.Phase.TheVariants.{Never, AwaitsBase, AwaitsCascade, AwaitsMode, Ready}
 use Rattle.pic8259.specs.declared.chip.Selected.{Selected}
-use Rattle.pic8259.specs.declared.chip.Selected.TheVariants.{Requests, Service}
+use Rattle.pic8259.specs.declared.chip.Selected.TheVariants.{InterruptRequest, InService}
 use Rattle.pic8259.specs.declared.chip.Chip.{Chip}
 use Rattle.pic8259.specs.declared.pair.Pair.{Pair}
 use Rattle.pic8259.specs.Phases.{phase_fits}
 use Rattle.pic8259.specs.Requests.{stands_for_slave}
 use Rattle.pit8254.specs.declared.timer.Phase.{Phase as TimerPhase}
-use Rattle.pit8254.specs.declared.timer.Phase.TheVariants.{AwaitsControl, AwaitsLow, AwaitsHigh}
+use Rattle.pit8254.specs.declared.timer.Phase.TheVariants.{AwaitsControlWord, AwaitsLow, AwaitsHigh}
 use Rattle.pit8254.specs.declared.timer.Count.{Count}
 use Rattle.pit8254.specs.declared.timer.Timer.{Timer}
 use Rattle.pit8254.specs.Timers.{steps_per_tick}
@@ -40,10 +40,10 @@ phase_of n =
     else if n == 3 then AwaitsMode else Ready
 
 abbrev pub selected_of : ℕ → Selected
-selected_of n = if n == 0 then Requests else Service
+selected_of n = if n == 0 then InterruptRequest else InService
 
 abbrev pub timer_phase_of : ℕ → ℕ → TimerPhase
-timer_phase_of n low = if n == 0 then AwaitsControl else if n == 1 then AwaitsLow else AwaitsHigh low
+timer_phase_of n low = if n == 0 then AwaitsControlWord else if n == 1 then AwaitsLow else AwaitsHigh low
 
 abbrev pub period_of : ℕ → Option ℕ
 period_of n = if n == 0 then None else Some n
@@ -58,9 +58,9 @@ abbrev pub chip_at : List ℕ → ℕ → Chip
 chip_at bytes o = record {
   phase = phase_of (slice_index bytes o);
   once_ready = slice_index bytes (o + 1) == 1;
-  requests = slice_index bytes (o + 2);
-  service = slice_index bytes (o + 3);
-  mask = slice_index bytes (o + 4);
+  interrupt_request = slice_index bytes (o + 2);
+  in_service = slice_index bytes (o + 3);
+  interrupt_mask = slice_index bytes (o + 4);
   base = slice_index bytes (o + 5);
   selected = selected_of (slice_index bytes (o + 6));
 }
@@ -76,12 +76,12 @@ timer_at bytes = record {
 
 abbrev pub settings_at : List ℕ → Settings
 settings_at bytes = record {
-  interrupts = slice_index bytes 32 == 1;
+  interrupt_enable = slice_index bytes 32 == 1;
   line_control = slice_index bytes 33;
   modem_control = slice_index bytes 34;
   scratch = slice_index bytes 35;
-  divisor_low = slice_index bytes 36;
-  divisor_high = slice_index bytes 37;
+  divisor_latch_low = slice_index bytes 36;
+  divisor_latch_high = slice_index bytes 37;
 }
 
 abbrev pub waiting_at : List ℕ → List ℕ

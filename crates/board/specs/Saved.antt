@@ -1,11 +1,13 @@
 -- A board as 64 bytes. The places and the numbers are this project's own; numbers of several bytes have the lowest
 -- first.
 --
---   0 to 6      the master: phase, once ready, requests, service, mask, base, selected register
+--   0 to 6      the master: phase, once ready, the interrupt request, in-service and interrupt mask registers, base,
+--               selected register
 --   7 to 13     the slave, in the same order
 --   14, 15      the timer's phase, the low byte that it has
 --   16, 20, 24  period (4), next period (4), left (8); 0 for none
---   32 to 38    the serial port: IER, LCR, MCR, SCR, the divisor's low and high byte, the number of bytes that wait
+--   32 to 38    the serial port: the interrupt enable, line control, modem control and scratch registers, the divisor
+--               latch's low and high byte, the number of bytes that wait
 --   39 to 63    the bytes that wait, oldest first, which are 16 at most, then zeros
 use Rattle.std.specs.Prelude.{ℕ, ◌-◌, List, [], ◌∷◌, ◌++◌, length, Option, Some, None, unwrap_or, replicate}
 use Rattle.std.specs.Int.{to_le_bytes, w32, w64}
@@ -13,10 +15,10 @@ use Rattle.ia32_types.specs.Bits.{worth}
 use Rattle.pic8259.specs.declared.phase.Phase.{Phase as ChipPhase}
 use Rattle.pic8259.specs.declared.phase.Phase.TheVariants.{Never, AwaitsBase, AwaitsCascade, AwaitsMode, Ready}
 use Rattle.pic8259.specs.declared.chip.Selected.{Selected}
-use Rattle.pic8259.specs.declared.chip.Selected.TheVariants.{Requests, Service}
+use Rattle.pic8259.specs.declared.chip.Selected.TheVariants.{InterruptRequest, InService}
 use Rattle.pic8259.specs.declared.chip.Chip.{Chip}
 use Rattle.pit8254.specs.declared.timer.Phase.{Phase as TimerPhase}
-use Rattle.pit8254.specs.declared.timer.Phase.TheVariants.{AwaitsControl, AwaitsLow, AwaitsHigh}
+use Rattle.pit8254.specs.declared.timer.Phase.TheVariants.{AwaitsControlWord, AwaitsLow, AwaitsHigh}
 use Rattle.pit8254.specs.declared.timer.Count.{Count}
 use Rattle.pit8254.specs.declared.timer.Timer.{Timer}
 use Rattle.uart16550.specs.Registers.{Registers}
@@ -32,16 +34,16 @@ phase_number AwaitsMode = 3
 phase_number Ready = 4
 
 abbrev pub selected_number : Selected → ℕ
-selected_number Requests = 0
-selected_number Service = 1
+selected_number InterruptRequest = 0
+selected_number InService = 1
 
 abbrev pub timer_number : TimerPhase → ℕ
-timer_number AwaitsControl = 0
+timer_number AwaitsControlWord = 0
 timer_number AwaitsLow = 1
 timer_number (AwaitsHigh low) = 2
 
 abbrev pub low_byte : TimerPhase → ℕ
-low_byte AwaitsControl = 0
+low_byte AwaitsControlWord = 0
 low_byte AwaitsLow = 0
 low_byte (AwaitsHigh low) = low
 
@@ -61,7 +63,7 @@ steps_left_in (Some count) = count.left
 
 abbrev pub chip_bytes : Chip → List ℕ
 chip_bytes chip =
-    phase_number chip.phase ∷ worth chip.once_ready ∷ chip.requests ∷ chip.service ∷ chip.mask ∷ chip.base
+    phase_number chip.phase ∷ worth chip.once_ready ∷ chip.interrupt_request ∷ chip.in_service ∷ chip.interrupt_mask ∷ chip.base
     ∷ selected_number chip.selected ∷ []
 
 abbrev pub timer_bytes : Timer → List ℕ
@@ -71,7 +73,7 @@ timer_bytes timer =
 
 abbrev pub set_bytes : Registers → List ℕ
 set_bytes r =
-    worth r.interrupts ∷ r.line_control ∷ r.modem_control ∷ r.scratch ∷ r.divisor_low ∷ r.divisor_high ∷ length r.kept ∷ []
+    worth r.interrupt_enable ∷ r.line_control ∷ r.modem_control ∷ r.scratch ∷ r.divisor_latch_low ∷ r.divisor_latch_high ∷ length r.kept ∷ []
 
 abbrev pub waiting_bytes : List ℕ → List ℕ
 waiting_bytes kept = kept ++ replicate (25 - length kept) 0

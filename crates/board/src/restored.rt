@@ -52,14 +52,14 @@ fn chip_at(bytes: &[u8; 64], at: usize) -> Chip
     Chip {
         phase: phase_of(bytes[at]),
         once_ready: bytes[at + 1] == 1,
-        requests: bytes[at + 2],
-        service: bytes[at + 3],
-        mask: bytes[at + 4],
+        interrupt_request: bytes[at + 2],
+        in_service: bytes[at + 3],
+        interrupt_mask: bytes[at + 4],
         base: bytes[at + 5],
         selected: if bytes[at + 6] == 0 {
-            Selected::Requests
+            Selected::InterruptRequest
         } else {
-            Selected::Service
+            Selected::InService
         },
     }
 }
@@ -95,7 +95,7 @@ pub fn timer_at(bytes: &[u8; 64]) -> Timer
 {
     Timer {
         phase: match bytes[14] {
-            0 => TimerPhase::AwaitsControl,
+            0 => TimerPhase::AwaitsControlWord,
             1 => TimerPhase::AwaitsLow,
             _ => TimerPhase::AwaitsHigh(bytes[15]),
         },
@@ -107,12 +107,12 @@ pub fn settings_at(bytes: &[u8; 64]) -> Settings
     ensures { result ≡ settings_at bytes.now }
 {
     Settings {
-        interrupts: bytes[32] == 1,
+        interrupt_enable: bytes[32] == 1,
         line_control: bytes[33],
         modem_control: bytes[34],
         scratch: bytes[35],
-        divisor_low: bytes[36],
-        divisor_high: bytes[37],
+        divisor_latch_low: bytes[36],
+        divisor_latch_high: bytes[37],
     }
 }
 

@@ -65,8 +65,8 @@ fn selected_number(selected: Selected) -> u8
     ensures { result ≡ selected_number selected }
 {
     match selected {
-        Selected::Requests => 0,
-        Selected::Service => 1,
+        Selected::InterruptRequest => 0,
+        Selected::InService => 1,
     }
 }
 
@@ -76,9 +76,9 @@ fn chip_bytes(chip: &Chip) -> [u8; 7]
     [
         phase_number(chip.phase),
         chip.once_ready as u8,
-        chip.requests,
-        chip.service,
-        chip.mask,
+        chip.interrupt_request,
+        chip.in_service,
+        chip.interrupt_mask,
         chip.base,
         selected_number(chip.selected),
     ]
@@ -88,7 +88,7 @@ fn timer_bytes(timer: &Timer) -> [u8; 18]
     ensures { result ≡ timer_bytes timer.now }
 {
     let (phase, low) = match timer.phase {
-        TimerPhase::AwaitsControl => (0, 0),
+        TimerPhase::AwaitsControlWord => (0, 0),
         TimerPhase::AwaitsLow => (1, 0),
         TimerPhase::AwaitsHigh(low) => (2, low),
     };
@@ -110,12 +110,12 @@ fn set_bytes(settings: &Settings, kept: &[u8]) -> [u8; 7]
     ensures { result ≡ set_bytes (registers_of settings.now kept.now) }
 {
     [
-        settings.interrupts as u8,
+        settings.interrupt_enable as u8,
         settings.line_control,
         settings.modem_control,
         settings.scratch,
-        settings.divisor_low,
-        settings.divisor_high,
+        settings.divisor_latch_low,
+        settings.divisor_latch_high,
         kept.len() as u8,
     ]
 }

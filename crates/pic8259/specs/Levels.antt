@@ -8,6 +8,6 @@ highest register = if register == 0 then None else Some (trailing_zeros w8 regis
 
 -- a request beside the highest level in service, which blocks itself and lower ones
 abbrev pub unblocked : Option ℕ → Option ℕ → Option ℕ
-unblocked None service = None
+unblocked None in_service = None
 unblocked (Some level) None = Some level
 unblocked (Some level) (Some served) = if nat_lt level served then Some level else None

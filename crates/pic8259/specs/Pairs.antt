@@ -43,9 +43,9 @@ written pair port v =
 unfoldable pub read_at : Pair → ℕ → ℕ
 read_at pair port =
     if port == 0x20 then even_read_of pair.master.selected pair.master
-    else if port == 0x21 then pair.master.mask
+    else if port == 0x21 then pair.master.interrupt_mask
     else if port == 0xA0 then even_read_of pair.slave.selected pair.slave
-    else if port == 0xA1 then pair.slave.mask
+    else if port == 0xA1 then pair.slave.interrupt_mask
     else 0xFF
 
 -- a rising edge at a line: those from 8 on are the slave's

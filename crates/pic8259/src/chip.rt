@@ -10,21 +10,22 @@ use ia32_types::{Did, with_bit};
 /// Which register a read of the even port gives.
 #[derive(Clone, Copy, Debug, PartialEq, Eq)]
 pub enum Selected {
-    Requests,
-    Service,
+    InterruptRequest,
+    InService,
 }
 
-/// One controller. In the three registers bit n stands for level n.
+/// One controller. In its interrupt request, in-service and interrupt mask registers bit n stands for level n.
 #[derive(Clone, Copy, Debug, PartialEq, Eq)]
 pub struct Chip {
     pub phase: Phase,
     /// It was ready at some time, and raises requests since then.
     pub once_ready: bool,
-    pub requests: u8,
-    pub service: u8,
-    pub mask: u8,
+    pub interrupt_request: u8,
+    pub in_service: u8,
+    pub interrupt_mask: u8,
     /// The vector of level 0.
     pub base: u8,
+    /// The register that a read of the even port gives.
     pub selected: Selected,
 }
 
@@ -36,11 +37,11 @@ impl Chip {
         Chip {
             phase: Phase::Never,
             once_ready: false,
-            requests: 0,
-            service: 0,
-            mask: 0xFF,
+            interrupt_request: 0,
+            in_service: 0,
+            interrupt_mask: 0xFF,
             base: 0,
-            selected: Selected::Requests,
+            selected: Selected::InterruptRequest,
         }
     }
 
@@ -60,10 +61,10 @@ impl Chip {
         ensures { self.new ≡ started self.old }
     {
         self.phase = Phase::AwaitsBase;
-        self.requests = 0;
-        self.service = 0;
-        self.mask = 0;
-        self.selected = Selected::Requests;
+        self.interrupt_request = 0;
+        self.in_service = 0;
+        self.interrupt_mask = 0;
+        self.selected = Selected::InterruptRequest;
     }
 
     fn end(&mut self, level: Option<u8>)
@@ -71,7 +72,7 @@ impl Chip {
         ensures { self.new ≡ ended_at self.old level }
     {
         if let Some(level) = level {
-            self.service = with_bit(self.service, level, false);
+            self.in_service = with_bit(self.in_service, level, false);
         }
     }
 
@@ -88,7 +89,7 @@ impl Chip {
                 Did::Done
             }
             0x20 => {
-                self.end(highest(self.service));
+                self.end(highest(self.in_service));
                 Did::Done
             }
             0x60..=0x67 => {
@@ -96,11 +97,11 @@ impl Chip {
                 Did::Done
             }
             0x0A => {
-                self.selected = Selected::Requests;
+                self.selected = Selected::InterruptRequest;
                 Did::Done
             }
             0x0B => {
-                self.selected = Selected::Service;
+                self.selected = Selected::InService;
                 Did::Done
             }
             _ => Did::Stop,
@@ -115,7 +116,7 @@ impl Chip {
         ensures chip { IsChip self.new }
     {
         match self.phase {
-            Phase::Never | Phase::Ready => self.mask = v,
+            Phase::Never | Phase::Ready => self.interrupt_mask = v,
             Phase::AwaitsBase => {
                 self.base = v - v % 8;
                 self.phase = Phase::AwaitsCascade;
@@ -142,8 +143,8 @@ impl Chip {
         ensures { result ≡ even_read_of self.now.selected self.now }
     {
         match self.selected {
-            Selected::Requests => self.requests,
-            Selected::Service => self.service,
+            Selected::InterruptRequest => self.interrupt_request,
+            Selected::InService => self.in_service,
         }
     }
 
@@ -155,7 +156,7 @@ impl Chip {
         ensures request { self.new ≡ with_request self.old level on }
         ensures chip { IsChip self.new }
     {
-        self.requests = with_bit(self.requests, level, on);
+        self.interrupt_request = with_bit(self.interrupt_request, level, on);
     }
 
     /// The level that the controller raises.
@@ -167,7 +168,7 @@ impl Chip {
         if !self.once_ready {
             return None;
         }
-        unblocked(highest(self.requests & !self.mask), highest(self.service))
+        unblocked(highest(self.interrupt_request & !self.interrupt_mask), highest(self.in_service))
     }
 
     /// Moves the request that is raised, if any, into service.
@@ -178,8 +179,8 @@ impl Chip {
         ensures chip { IsChip self.new }
     {
         if let Some(level) = self.raised() {
-            self.requests = with_bit(self.requests, level, false);
-            self.service = with_bit(self.service, level, true);
+            self.interrupt_request = with_bit(self.interrupt_request, level, false);
+            self.in_service = with_bit(self.in_service, level, true);
         }
     }
 }

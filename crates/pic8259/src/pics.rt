@@ -89,9 +89,9 @@ impl Pics {
     {
         match port {
             0x20 => self.pair.master.read_even(),
-            0x21 => self.pair.master.mask,
+            0x21 => self.pair.master.interrupt_mask,
             0xA0 => self.pair.slave.read_even(),
-            0xA1 => self.pair.slave.mask,
+            0xA1 => self.pair.slave.interrupt_mask,
             _ => 0xFF,
         }
     }

@@ -4,7 +4,7 @@ use Rattle.std.specs.Prelude.{ℕ, zero, suc, ◌+◌, ◌-◌, ◌*◌, Bool, f
 use Rattle.ia32_types.specs.declared.stop.Did.{Did}
 use Rattle.ia32_types.specs.declared.stop.Did.TheVariants.{Done, Stop}
 use Rattle.pit8254.specs.declared.timer.Phase.{Phase}
-use Rattle.pit8254.specs.declared.timer.Phase.TheVariants.{AwaitsControl, AwaitsLow, AwaitsHigh}
+use Rattle.pit8254.specs.declared.timer.Phase.TheVariants.{AwaitsControlWord, AwaitsLow, AwaitsHigh}
 use Rattle.pit8254.specs.declared.timer.Count.{Count}
 use Rattle.pit8254.specs.declared.timer.Timer.{Timer}
 
@@ -18,7 +18,7 @@ fresh period = record { period = period; next_period = None; left = steps_per_ti
 
 -- before any control word
 abbrev pub at_reset : Timer
-at_reset = record { phase = AwaitsControl; count = None }
+at_reset = record { phase = AwaitsControlWord; count = None }
 
 -- a count of 0 means 65,536
 unfoldable pub period_of : ℕ → ℕ → ℕ
@@ -30,12 +30,12 @@ counting None period = fresh period
 counting (Some count) period = record count { next_period = Some period }
 
 -- a byte at the control port: mode 2 or mode 3 of channel 0, low byte first. None where it isn't served
-unfoldable pub controlled : Timer → ℕ → Option Timer
-controlled timer v = if v == 0x34 || v == 0x36 then Some (record { phase = AwaitsLow; count = None }) else None
+unfoldable pub control_word_written : Timer → ℕ → Option Timer
+control_word_written timer v = if v == 0x34 || v == 0x36 then Some (record { phase = AwaitsLow; count = None }) else None
 
 -- a byte at the count port, by what is awaited
 abbrev pub count_written : Phase → Option Count → ℕ → Option Timer
-count_written AwaitsControl count v = None
+count_written AwaitsControlWord count v = None
 count_written AwaitsLow count v = Some (record { phase = AwaitsHigh v; count = count })
 count_written (AwaitsHigh low) count v =
     if period_of low v == 1 then None else Some (record { phase = AwaitsLow; count = Some (counting count (period_of low v)) })
@@ -51,7 +51,7 @@ answer timer (Some new) = (Done, new)
 -- a write to a port: one that isn't the timer's is ignored
 unfoldable pub written : Timer → ℕ → ℕ → Did × Timer
 written timer port v =
-    if port == 0x43 then answer timer (controlled timer v)
+    if port == 0x43 then answer timer (control_word_written timer v)
     else if port == 0x40 then answer timer (count_written timer.phase timer.count v)
     else (Done, timer)
 

@@ -2,7 +2,7 @@ ghost use Rattle.std.specs.Prelude.{◌≡◌, ◌+◌, ◌*◌, ◌<◌, ◌≤
 ghost use Rattle.std.specs.Option.{ForSome};
 ghost use Rattle.ia32_types.specs.Firsts.{IsFirst};
 ghost use Rattle.ia32_types.specs.declared.stop.Did.TheVariants.{Stop};
-ghost use Rattle.pit8254.specs.Timers.{at_reset, fresh, period_of, counting, controlled, count_written, written, timer_step, after_steps, edge_within, left_in};
+ghost use Rattle.pit8254.specs.Timers.{at_reset, fresh, period_of, counting, control_word_written, count_written, written, timer_step, after_steps, edge_within, left_in};
 ghost use Rattle.pit8254.specs.Counts.{is_period, is_count, IsAfter};
 
 use crate::timer::{Count, Phase, Timer};
@@ -34,7 +34,7 @@ impl Pit {
     {
         Pit {
             timer: Timer {
-                phase: Phase::AwaitsControl,
+                phase: Phase::AwaitsControlWord,
                 count: None,
             },
         }
@@ -62,7 +62,7 @@ impl Pit {
 
     /// A write to the count port 0x40 or the control port 0x43. Other ports are ignored. A byte that the board doesn't
     /// serve stops and changes nothing.
-    #[tactic(auto, unfolding(crate::specs::Timers::written, crate::specs::Timers::controlled))]
+    #[tactic(auto, unfolding(crate::specs::Timers::written, crate::specs::Timers::control_word_written))]
     pub fn write(&mut self, port: u16, v: u8) -> Did
         ensures written { written self.old port v ≡ (result, self.new) }
         ensures stopped { result ≡ Stop → self.new ≡ self.old }
@@ -81,7 +81,7 @@ impl Pit {
             return Did::Done;
         }
         match self.timer.phase {
-            Phase::AwaitsControl => Did::Stop,
+            Phase::AwaitsControlWord => Did::Stop,
             Phase::AwaitsLow => {
                 self.timer.phase = Phase::AwaitsHigh(v);
                 Did::Done

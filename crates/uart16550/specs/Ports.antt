@@ -9,18 +9,18 @@ use Rattle.uart16550.specs.Registers.{Registers, room}
 -- all registers start at 0
 abbrev pub at_reset : Registers
 at_reset = record {
-  interrupts = false;
+  interrupt_enable = false;
   line_control = 0;
   modem_control = 0;
   scratch = 0;
-  divisor_low = 0;
-  divisor_high = 0;
+  divisor_latch_low = 0;
+  divisor_latch_high = 0;
   kept = [];
 }
 
--- LCR bit 7, the divisor latch access bit: offsets 0 and 1 are the divisor
-abbrev pub divisor_shown : Registers → Bool
-divisor_shown r = bit r.line_control 7
+-- the divisor latch access bit, bit 7 of the line control register: offsets 0 and 1 are the divisor latch
+abbrev pub divisor_latch_access : Registers → Bool
+divisor_latch_access r = bit r.line_control 7
 
 -- a received byte waits
 abbrev pub waits : Registers → Bool
@@ -28,59 +28,60 @@ waits r = nat_lt 0 (length r.kept)
 
 -- the port asks for an interrupt
 abbrev pub line_of : Registers → Bool
-line_of r = r.interrupts && waits r
+line_of r = r.interrupt_enable && waits r
 
 abbrev pub is_port : ℕ → Bool
 is_port port = nat_le 0x3F8 port && nat_le port 0x3FF
 
 -- writes, by register
 
--- offset 0: the transmitter, or the divisor's low byte
+-- offset 0: the transmitter holding register, or the divisor latch's low byte
 abbrev pub data_written : Registers → ℕ → Did × Registers
-data_written r v = if divisor_shown r then (Done, record r { divisor_low = v }) else (Sent v, r)
+data_written r v = if divisor_latch_access r then (Done, record r { divisor_latch_low = v }) else (Sent v, r)
 
--- offset 1: IER, of which the profile serves bit 0, or the divisor's high byte
-abbrev pub enable_written : Registers → ℕ → Did × Registers
-enable_written r v =
-    if divisor_shown r then (Done, record r { divisor_high = v })
-    else if nat_le v 1 then (Done, record r { interrupts = v == 1 })
+-- offset 1: the interrupt enable register, of which the profile serves bit 0, or the divisor latch's high byte
+abbrev pub interrupt_enable_written : Registers → ℕ → Did × Registers
+interrupt_enable_written r v =
+    if divisor_latch_access r then (Done, record r { divisor_latch_high = v })
+    else if nat_le v 1 then (Done, record r { interrupt_enable = v == 1 })
     else (Stop, r)
 
--- offset 2: FCR, of which bit 1 empties the receiver
-abbrev pub fifo_written : Registers → ℕ → Did × Registers
-fifo_written r v = if bit v 1 then (Done, record r { kept = [] }) else (Done, r)
+-- offset 2: the FIFO control register, of which bit 1 empties the receiver
+abbrev pub fifo_control_written : Registers → ℕ → Did × Registers
+fifo_control_written r v = if bit v 1 then (Done, record r { kept = [] }) else (Done, r)
 
--- offset 4: MCR, without loopback (bit 4)
-abbrev pub modem_written : Registers → ℕ → Did × Registers
-modem_written r v = if bit v 4 then (Stop, r) else (Done, record r { modem_control = v % 16 })
+-- offset 4: the modem control register, without loopback (bit 4)
+abbrev pub modem_control_written : Registers → ℕ → Did × Registers
+modem_control_written r v = if bit v 4 then (Stop, r) else (Done, record r { modem_control = v % 16 })
 
--- offsets 3 and 7 keep what is written, and offsets 5 and 6 ignore it, as a port that isn't this one's does
+-- offsets 3 and 7, the line control register and the scratch register, keep what is written, and offsets 5 and 6 ignore
+-- it, as a port that isn't this one's does
 unfoldable pub written : Registers → ℕ → ℕ → Did × Registers
 written r port v =
     if port == 0x3F8 then data_written r v
-    else if port == 0x3F9 then enable_written r v
-    else if port == 0x3FA then fifo_written r v
+    else if port == 0x3F9 then interrupt_enable_written r v
+    else if port == 0x3FA then fifo_control_written r v
     else if port == 0x3FB then (Done, record r { line_control = v })
-    else if port == 0x3FC then modem_written r v
+    else if port == 0x3FC then modem_control_written r v
     else if port == 0x3FF then (Done, record r { scratch = v })
     else (Done, r)
 
 -- reads, by register
 
--- offset 0: the oldest byte, or 0 where there is none
+-- offset 0: the receiver buffer register, which is the oldest byte, or 0 where there is none
 abbrev pub data_read : Registers → ℕ
-data_read r = if divisor_shown r then r.divisor_low else slice_index r.kept 0
+data_read r = if divisor_latch_access r then r.divisor_latch_low else slice_index r.kept 0
 
-abbrev pub enable_read : Registers → ℕ
-enable_read r = if divisor_shown r then r.divisor_high else (if r.interrupts then 1 else 0)
+abbrev pub interrupt_enable_read : Registers → ℕ
+interrupt_enable_read r = if divisor_latch_access r then r.divisor_latch_high else (if r.interrupt_enable then 1 else 0)
 
--- offset 2, IIR: 4 says that received data is there, and 1 that nothing asks for an interrupt. Offset 5, LSR: the
--- transmitter is always empty. Offset 6, MSR: DCD, DSR and CTS are always there. A port that isn't this one's reads
--- all ones
+-- offset 2, the interrupt identification register: 4 says that received data is there, and 1 that nothing asks for an
+-- interrupt. Offset 5, the line status register: the transmitter is always empty. Offset 6, the modem status register:
+-- carrier detect, data set ready and clear to send are always there. A port that isn't this one's reads all ones
 unfoldable pub read_at : Registers → ℕ → ℕ
 read_at r port =
     if port == 0x3F8 then data_read r
-    else if port == 0x3F9 then enable_read r
+    else if port == 0x3F9 then interrupt_enable_read r
     else if port == 0x3FA then (if line_of r then 4 else 1)
     else if port == 0x3FB then r.line_control
     else if port == 0x3FC then r.modem_control
@@ -91,7 +92,7 @@ read_at r port =
 
 -- a read of the data takes the oldest byte
 unfoldable pub after_read : Registers → ℕ → Registers
-after_read r port = if port == 0x3F8 && not (divisor_shown r) then record r { kept = drop 1 r.kept } else r
+after_read r port = if port == 0x3F8 && not (divisor_latch_access r) then record r { kept = drop 1 r.kept } else r
 
 -- a byte that comes is kept where there is room, and else lost
 unfoldable pub received : Registers → ℕ → Registers

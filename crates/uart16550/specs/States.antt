@@ -5,22 +5,22 @@ use Rattle.uart16550.specs.Registers.{Registers, room}
 
 abbrev pub settings_of : Registers → Settings
 settings_of r = record {
-  interrupts = r.interrupts;
+  interrupt_enable = r.interrupt_enable;
   line_control = r.line_control;
   modem_control = r.modem_control;
   scratch = r.scratch;
-  divisor_low = r.divisor_low;
-  divisor_high = r.divisor_high;
+  divisor_latch_low = r.divisor_latch_low;
+  divisor_latch_high = r.divisor_latch_high;
 }
 
 abbrev pub registers_of : Settings → List ℕ → Registers
 registers_of s kept = record {
-  interrupts = s.interrupts;
+  interrupt_enable = s.interrupt_enable;
   line_control = s.line_control;
   modem_control = s.modem_control;
   scratch = s.scratch;
-  divisor_low = s.divisor_low;
-  divisor_high = s.divisor_high;
+  divisor_latch_low = s.divisor_latch_low;
+  divisor_latch_high = s.divisor_latch_high;
   kept = kept;
 }
 

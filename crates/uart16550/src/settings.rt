@@ -1,14 +1,14 @@
 /// What the registers were set to.
 #[derive(Clone, Copy, Debug, PartialEq, Eq)]
 pub struct Settings {
-    /// IER bit 0.
-    pub interrupts: bool,
-    /// LCR.
+    /// Bit 0 of the interrupt enable register.
+    pub interrupt_enable: bool,
+    /// The line control register.
     pub line_control: u8,
-    /// MCR, of which bits 0 to 3 are kept.
+    /// The modem control register, of which bits 0 to 3 are kept.
     pub modem_control: u8,
-    /// SCR.
+    /// The scratch register.
     pub scratch: u8,
-    pub divisor_low: u8,
-    pub divisor_high: u8,
+    pub divisor_latch_low: u8,
+    pub divisor_latch_high: u8,
 }

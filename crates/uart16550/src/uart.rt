@@ -1,6 +1,6 @@
 ghost use Rattle.std.specs.Prelude.{◌≡◌, ◌≤◌, true, Some, None, if◌then◌else◌};
 ghost use Rattle.ia32_types.specs.declared.stop.Did.TheVariants.{Stop};
-ghost use Rattle.uart16550.specs.Ports.{at_reset, divisor_shown, waits, line_of, written, read_at, after_read, received};
+ghost use Rattle.uart16550.specs.Ports.{at_reset, divisor_latch_access, waits, line_of, written, read_at, after_read, received};
 ghost use Rattle.uart16550.specs.States.{settings_of, registers_of, port_fits};
 
 use crate::settings::Settings;
@@ -11,13 +11,13 @@ use std::marker::Model;
 /// The serial port.
 #[derive(Drop)]
 pub struct Uart {
-    /// IER bit 0: a byte that waits raises the line.
-    interrupts: bool,
+    /// Bit 0 of the interrupt enable register: a byte that waits raises the line.
+    interrupt_enable: bool,
     line_control: u8,
     modem_control: u8,
     scratch: u8,
-    divisor_low: u8,
-    divisor_high: u8,
+    divisor_latch_low: u8,
+    divisor_latch_high: u8,
     /// The bytes that wait, oldest first.
     kept: ArrayVec<u8, 16>,
 }
@@ -29,12 +29,12 @@ impl Model for Uart {
     ghost Value = { Registers };
 
     ghost view = { λ u. record {
-      interrupts = u.interrupts;
+      interrupt_enable = u.interrupt_enable;
       line_control = u.line_control;
       modem_control = u.modem_control;
       scratch = u.scratch;
-      divisor_low = u.divisor_low;
-      divisor_high = u.divisor_high;
+      divisor_latch_low = u.divisor_latch_low;
+      divisor_latch_high = u.divisor_latch_high;
       kept = u.kept.items;
     } };
 
@@ -48,12 +48,12 @@ impl Uart {
         ensures { result ≡ at_reset }
     {
         Uart {
-            interrupts: false,
+            interrupt_enable: false,
             line_control: 0,
             modem_control: 0,
             scratch: 0,
-            divisor_low: 0,
-            divisor_high: 0,
+            divisor_latch_low: 0,
+            divisor_latch_high: 0,
             kept: ArrayVec::new(),
         }
     }
@@ -64,12 +64,12 @@ impl Uart {
         ensures fits { port_fits result.modem_control self.now.kept ≡ true }
     {
         Settings {
-            interrupts: self.interrupts,
+            interrupt_enable: self.interrupt_enable,
             line_control: self.line_control,
             modem_control: self.modem_control,
             scratch: self.scratch,
-            divisor_low: self.divisor_low,
-            divisor_high: self.divisor_high,
+            divisor_latch_low: self.divisor_latch_low,
+            divisor_latch_high: self.divisor_latch_high,
         }
     }
 
@@ -92,12 +92,12 @@ impl Uart {
         match kept.try_extend_from_slice(waiting) {
             Err(_) => None,
             Ok(()) => Some(Uart {
-                interrupts: settings.interrupts,
+                interrupt_enable: settings.interrupt_enable,
                 line_control: settings.line_control,
                 modem_control: settings.modem_control,
                 scratch: settings.scratch,
-                divisor_low: settings.divisor_low,
-                divisor_high: settings.divisor_high,
+                divisor_latch_low: settings.divisor_latch_low,
+                divisor_latch_high: settings.divisor_latch_high,
                 kept,
             }),
         }
@@ -112,16 +112,16 @@ impl Uart {
     {
         match port {
             0x3F8 => {
-                if !self.divisor_shown() {
+                if !self.divisor_latch_access() {
                     return Did::Sent(v);
                 }
-                self.divisor_low = v;
+                self.divisor_latch_low = v;
             }
             0x3F9 => {
-                if self.divisor_shown() {
-                    self.divisor_high = v;
+                if self.divisor_latch_access() {
+                    self.divisor_latch_high = v;
                 } else if v <= 1 {
-                    self.interrupts = v == 1;
+                    self.interrupt_enable = v == 1;
                 } else {
                     return Did::Stop;
                 }
@@ -152,8 +152,8 @@ impl Uart {
     {
         match port {
             0x3F8 => {
-                if self.divisor_shown() {
-                    self.divisor_low
+                if self.divisor_latch_access() {
+                    self.divisor_latch_low
                 } else if self.kept.is_empty() {
                     0
                 } else {
@@ -161,9 +161,9 @@ impl Uart {
                 }
             }
             0x3F9 => {
-                if self.divisor_shown() {
-                    self.divisor_high
-                } else if self.interrupts {
+                if self.divisor_latch_access() {
+                    self.divisor_latch_high
+                } else if self.interrupt_enable {
                     1
                 } else {
                     0
@@ -193,11 +193,11 @@ impl Uart {
     pub fn line(&self) -> bool
         ensures { result ≡ line_of self.now }
     {
-        self.interrupts && self.waits()
+        self.interrupt_enable && self.waits()
     }
 
-    fn divisor_shown(&self) -> bool
-        ensures { result ≡ divisor_shown self.now }
+    fn divisor_latch_access(&self) -> bool
+        ensures { result ≡ divisor_latch_access self.now }
     {
         bit(self.line_control, 7)
     }
