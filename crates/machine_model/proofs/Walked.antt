@@ -33,9 +33,9 @@ pub record Finds (walk : Walk) (dir_at word_at : ℕ) : Type 0 where
   pub word_is : word_of walk ≡ word_at
 
 -- a test that ends the walk was not met
-passed : (test : Bool) (a b : Walk) (d w : ℕ) → is_found a ≡ false → Finds (cond test a b) d w → (test ≡ false) × Finds b d w
-passed true a b d w e h = absurd (clash (sym e ∙ h.found))
-passed false a b d w e h = (refl, h)
+else_finds : (test : Bool) (a b : Walk) (d w : ℕ) → is_found a ≡ false → Finds (cond test a b) d w → (test ≡ false) × Finds b d w
+else_finds true a b d w e h = absurd (clash (sym e ∙ h.found))
+else_finds false a b d w e h = (refl, h)
 
 not_true : (b : Bool) → not b ≡ false → b ≡ true
 not_true true e = refl
@@ -72,8 +72,8 @@ either : (ram : List ℕ) (frames cr3 : ℕ) (pse : Bool) (page dir_at word_at :
 unfolding fresh
 either ram frames cr3 pse page dir_at word_at h =
     let dir = word32 ram (dir_place cr3 page) in
-    let one = passed (nat_le frames (cr3 / 4096)) Beyond (by_dir ram frames cr3 pse page dir) dir_at word_at refl h in
-    let two = passed (not (has dir 1)) Absent (cond (is_large pse dir) (by_large frames cr3 page dir) (by_table ram frames cr3 page dir)) dir_at word_at refl one.1 in
+    let one = else_finds (nat_le frames (cr3 / 4096)) Beyond (by_dir ram frames cr3 pse page dir) dir_at word_at refl h in
+    let two = else_finds (not (has dir 1)) Absent (cond (is_large pse dir) (by_large frames cr3 page dir) (by_table ram frames cr3 page dir)) dir_at word_at refl one.1 in
     by_size one.0 (not_true (has dir 1) two.0) (is_large pse dir) refl two.1
   where
     of_table : nat_le frames (cr3 / 4096) ≡ false → has (word32 ram (dir_place cr3 page)) 1 ≡ true → is_large pse (word32 ram (dir_place cr3 page)) ≡ false
@@ -81,17 +81,17 @@ either ram frames cr3 pse page dir_at word_at h =
     of_table near present small found =
         let dir = word32 ram (dir_place cr3 page) in
         let word = word32 ram (word_place dir page) in
-        let three = passed (nat_le frames (dir / 4096)) Beyond (by_word frames cr3 page dir word) dir_at word_at refl found in
-        let four = passed (not (has word 1)) Absent (cond (nat_le frames (word / 4096)) Beyond (Found (entry_of page dir word) (dir_place cr3 page) (word_place dir page))) dir_at word_at refl three.1 in
-        let five = passed (nat_le frames (word / 4096)) Beyond (Found (entry_of page dir word) (dir_place cr3 page) (word_place dir page)) dir_at word_at refl four.1 in
+        let three = else_finds (nat_le frames (dir / 4096)) Beyond (by_word frames cr3 page dir word) dir_at word_at refl found in
+        let four = else_finds (not (has word 1)) Absent (cond (nat_le frames (word / 4096)) Beyond (Found (entry_of page dir word) (dir_place cr3 page) (word_place dir page))) dir_at word_at refl three.1 in
+        let five = else_finds (nat_le frames (word / 4096)) Beyond (Found (entry_of page dir word) (dir_place cr3 page) (word_place dir page)) dir_at word_at refl four.1 in
         record { near = near; present = present; small = small; inside = within frames (dir / 4096) three.0; dir_is = five.1.dir_is; word_is = five.1.word_is }
 
     of_large : nat_le frames (cr3 / 4096) ≡ false → has (word32 ram (dir_place cr3 page)) 1 ≡ true → is_large pse (word32 ram (dir_place cr3 page)) ≡ true
         → Finds (by_large frames cr3 page (word32 ram (dir_place cr3 page))) dir_at word_at → One ram frames cr3 pse page dir_at word_at
     of_large near present large found =
         let dir = word32 ram (dir_place cr3 page) in
-        let three = passed (has_reserved dir) Reserved (cond (nat_le frames (large_frame dir page)) Beyond (Found (large_entry page dir) (dir_place cr3 page) (dir_place cr3 page))) dir_at word_at refl found in
-        let four = passed (nat_le frames (large_frame dir page)) Beyond (Found (large_entry page dir) (dir_place cr3 page) (dir_place cr3 page)) dir_at word_at refl three.1 in
+        let three = else_finds (has_reserved dir) Reserved (cond (nat_le frames (large_frame dir page)) Beyond (Found (large_entry page dir) (dir_place cr3 page) (dir_place cr3 page))) dir_at word_at refl found in
+        let four = else_finds (nat_le frames (large_frame dir page)) Beyond (Found (large_entry page dir) (dir_place cr3 page) (dir_place cr3 page)) dir_at word_at refl three.1 in
         record { near = near; present = present; large = large; dir_is = four.1.dir_is; word_is = four.1.word_is }
 
     by_size : nat_le frames (cr3 / 4096) ≡ false → has (word32 ram (dir_place cr3 page)) 1 ≡ true → (large : Bool) → is_large pse (word32 ram (dir_place cr3 page)) ≡ large

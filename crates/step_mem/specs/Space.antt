@@ -44,14 +44,3 @@ one_more rest page = record rest { pages = rest.pages + 1; went = rest.went ++ p
 -- with other tables read
 abbrev pub with_tables : Rest → List ℕ → Rest
 with_tables rest tables = record rest { tables = tables }
-
-abbrev pub space_at_start : (List ℕ → FinMap nat_cmp Entry) → List ℕ → Control → Guard → Space
-space_at_start kept ram control guard =
-    space_of kept ram control guard [] (record {
-      pages = 0;
-      went = [];
-      tables = [];
-      wrote = [];
-      ready = record { start = 0; len = 0; write = false };
-      earlier = record { start = 0; len = 0; set = kept ram };
-    })
