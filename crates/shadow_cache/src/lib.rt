@@ -14,6 +14,3 @@ pub use coming_back::{
     pairs_are_apart, pairs_are_as_told, pairs_come_back, pairs_leave, pairs_leave_or_stay,
 };
 pub use roots::Roots;
-
-#[cfg(test)]
-mod tests;
