@@ -1,11 +1,13 @@
+//! Shadow tables, against a plain map.
+
 ghost use Rattle.std.specs.Prelude.{◌≡◌, ◌<◌, ◌≤◌, ◌^◌, length};
 ghost use Rattle.shadow_tables.specs.Calls.{IsFit};
 ghost use Rattle.shadow_tables.specs.Slots.{IsShadow};
 
-use super::*;
 use frame_pool::Pool;
 use guest_ram::Ram;
 use paging::Entry;
+use shadow_tables::{Call, Shadow, Shadows, Side, replay};
 
 fn entry(frame: u32, write: bool, dirty: bool) -> Entry
     ensures page { result.page ≡ 69632 }
