@@ -76,8 +76,8 @@ found_on : (t u : Space) → Follows t u → 4096 * t.frames ≤ length t.ram �
     → IsFoundBy t.ram t.frames t.cr3 t.pse (λ f. among f t.tables) page e → IsFoundBy u.ram u.frames u.cr3 u.pse tables page e
 found_on t u k room apart tables holds page small e found =
     let still : IsFoundBy u.ram t.frames t.cr3 t.pse (λ f. among f t.tables) page e =
-    found_still u.wrote t.ram u.ram t.frames t.cr3 t.pse (λ f. among f t.tables) page e small room k.memory
-    (λ f m c. apart f (k.tables f (among_told f t.tables m)) c) found in
+    found_still t.ram u.ram t.frames t.cr3 t.pse (λ f. among f t.tables) page e room small
+    (λ at even within m. k.memory.words at even within (λ c. apart (at / 4096) (k.tables (at / 4096) (among_told (at / 4096) t.tables m)) c)) found in
     let wide : IsFoundBy u.ram t.frames t.cr3 t.pse tables page e = record {
       dir_at = still.dir_at;
       word_at = still.word_at;

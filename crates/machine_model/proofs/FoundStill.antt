@@ -9,7 +9,7 @@ use Rattle.paging.specs.declared.entry.Walk.{Walk}
 use Rattle.paging.specs.declared.entry.Walk.TheVariants.{Absent, Beyond, Reserved, Found}
 use Rattle.paging.specs.Fresh.{has, dir_place, word_place, entry_of, is_large, has_reserved, large_frame, large_entry, by_word, by_large, by_table, by_dir, fresh, flagged, tables_read}
 use Rattle.paging.specs.Uses.{dirtied}
-use Rattle.machine_model.specs.Reloading.{HasMoreFlags, MemoryFollows, IsFoundBy, HoldsOf}
+use Rattle.machine_model.specs.Reloading.{HasMoreFlags, IsFoundBy, HoldsOf, FoundStays}
 use Rattle.machine_model.proofs.MoreFlags.{flagged_follows, flagged_dir, flagged_word, flagged_dirty}
 use Rattle.machine_model.proofs.Walked.{walks_are_noted}
 
@@ -286,17 +286,16 @@ walk_still x y frames cr3 pse page e d t dir word (inr h) = directory_is y frame
 
 -- ---- entries that are found
 
-pub found_still : (wrote : List ℕ) (x y : List ℕ) (frames cr3 : ℕ) (pse : Bool) (tables : ℕ → Bool) (page : ℕ) (e : Entry) → page < 2 ^ 20 → 4096 * frames ≤ length x
-    → MemoryFollows wrote x y → ((frame : ℕ) → tables frame ≡ true → Contains wrote frame → ⊥) → IsFoundBy x frames cr3 pse tables page e → IsFoundBy y frames cr3 pse tables page e
-found_still wrote x y frames cr3 pse tables page e small room m free k =
+pub found_still : FoundStays
+found_still x y frames cr3 pse tables page e room small more k =
     let old : Entry = record e { dirty = k.dirty } in
     let w = walk_parts x frames cr3 pse page old k.dir_at k.word_at k.found in
     let even = walk_even x frames cr3 pse page old k.dir_at k.word_at w in
     let within = walk_within x frames cr3 pse page old k.dir_at k.word_at small w in
     let low = within.dir_within in
     let high = within.word_within in
-    let dir = m.words k.dir_at even.dir_even (omega (arith, low, room)) (free (k.dir_at / 4096) k.words.0) in
-    let word = m.words k.word_at even.word_even (omega (arith, high, room)) (free (k.word_at / 4096) k.words.1) in
+    let dir = more k.dir_at even.dir_even (omega (arith, low, room)) k.words.0 in
+    let word = more k.word_at even.word_even (omega (arith, high, room)) k.words.1 in
     record {
       dir_at = k.dir_at;
       word_at = k.word_at;

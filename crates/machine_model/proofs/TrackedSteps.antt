@@ -46,7 +46,7 @@ use Rattle.machine_model.specs.Instruction.{taken, fetching, owning_front, ownin
 use Rattle.machine_model.specs.Step.{Report, Completed, Result, Went, Stands, went, in_item, after_read, after_write, out_item, entered, after_delivery, raised, code_of, after_effect, effect_on, after_software, interrupts_by, begun, by_op, by_decoded, after_refusal, after_fetch, begins_next, worked, interrupted, interrupt_of, by_interrupt, unheld, step_of}
 use Rattle.machine_model.specs.Run.{Set}
 use Rattle.machine_model.specs.Reloading.{MemoryFollows, IsFoundBy, Follows, Leaves}
-use Rattle.machine_model.specs.Following.{FetchedFollows, RangesFollow, InstructedFollows, DeliveredFollows, IsLeftBy, StepsFollow, StepsKeepMemory, WordsStayFound, SetsAreFound}
+use Rattle.machine_model.specs.Following.{FetchedFollows, RangesFollow, InstructedFollows, DeliveredFollows, IsLeftBy, StepsFollow, StepsKeepMemory, WordsStayFound, SetsAreFound, FoundAreCacheable}
 use Rattle.machine_model.proofs.FoundStill.{found_still}
 use Rattle.machine_model.proofs.Following.{same_follows, fetches_follow, aside}
 use Rattle.machine_model.proofs.Tracking.{Tracks, tracks, leaves_on}
@@ -262,8 +262,11 @@ clash t e f = cc
 
 pub words_stay_found : WordsStayFound
 words_stay_found m b set report b2 cr3 pse tables page e room small is none found =
-    found_still report.wrote b.ram b2.ram m.frames cr3 pse tables page e small room (steps_keep_memory m b set report b2 is)
-    (λ frame held c. clash (tables frame) held (none frame c)) found
+    found_still b.ram b2.ram m.frames cr3 pse tables page e room small
+    (λ at even within held. (steps_keep_memory m b set report b2 is).words at even within (λ c. clash (tables (at / 4096)) held (none (at / 4096) c))) found
+
+pub found_are_cacheable : FoundAreCacheable
+found_are_cacheable m b tables page e k = record { dir_at = k.dir_at; word_at = k.word_at; dirty = k.dirty; found = k.found; accessed = k.accessed; is_dirty = k.is_dirty }
 
 found_there : (m : Setting) (b : State) (set : Set) (report : Report) (b2 : State) (h : IsLeftBy (space_at_start m.mode m.frames b.cpu b.ram set) report b2) (tables : ℕ → Bool) (page : ℕ) (e : Entry)
     → IsFoundBy h.last.ram h.last.frames h.last.cr3 h.last.pse tables page e → IsFoundBy b2.ram m.frames b.cpu.cr3 (pse_of b.cpu) tables page e

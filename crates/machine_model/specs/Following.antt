@@ -11,7 +11,7 @@ use Rattle.paging.specs.Space.{Space}
 use Rattle.step_exec.specs.Divided.{both_reached}
 use Rattle.event_entry.specs.declared.refusal.Kind.{Kind}
 use Rattle.event_entry.specs.Deliver.{delivered}
-use Rattle.machine_model.specs.State.{Setting, State, space_at_start}
+use Rattle.machine_model.specs.State.{Setting, State, IsCacheable, space_at_start}
 use Rattle.machine_model.specs.Instruction.{fetched, instructed}
 use Rattle.machine_model.specs.Step.{Report, Went, step_of}
 use Rattle.machine_model.specs.Run.{Set}
@@ -65,3 +65,8 @@ SetsAreFound =
     (m : Setting) (b : State) (set : Set) (report : Report) (b2 : State) → 4096 * m.frames ≤ length b.ram → step_of m b set ≡ Went report b2
     → AreApart report.tables report.wrote → (tables : ℕ → Bool) → HoldsOf tables report.tables → (page : ℕ) → page < 2 ^ 20
     → ForSome (get b2.set page) (λ e. (get set page ≡ Some e) ⊎ IsFoundBy b2.ram m.frames b.cpu.cr3 (pse_of b.cpu) tables page e)
+
+-- what is found from the directory in use may be added to the translations before a step
+abbrev pub FoundAreCacheable : Type 0
+FoundAreCacheable =
+    (m : Setting) (b : State) (tables : ℕ → Bool) (page : ℕ) (e : Entry) → IsFoundBy b.ram m.frames b.cpu.cr3 (pse_of b.cpu) tables page e → IsCacheable m b page e

@@ -40,6 +40,13 @@ pub record IsFoundBy (ram : List ℕ) (frames cr3 : ℕ) (pse : Bool) (tables : 
   pub is_dirty : e.dirty ≡ true → dirty ≡ true
   pub words : (tables (dir_at / 4096) ≡ true) × (tables (word_at / 4096) ≡ true)
 
+-- What is found so stays found where, in the frames of which the test holds, words have at most flags more.
+abbrev pub FoundStays : Type 0
+FoundStays =
+    (old new : List ℕ) (frames cr3 : ℕ) (pse : Bool) (tables : ℕ → Bool) (page : ℕ) (e : Entry) → 4096 * frames ≤ length old → page < 2 ^ 20
+    → ((at : ℕ) → at % 4 ≡ 0 → at + 4 ≤ length old → tables (at / 4096) ≡ true → HasMoreFlags (word32 old at) (word32 new at))
+    → IsFoundBy old frames cr3 pse tables page e → IsFoundBy new frames cr3 pse tables page e
+
 -- the test holds of each of these frames
 abbrev pub HoldsOf : (ℕ → Bool) → List ℕ → Type 0
 HoldsOf tables frames = (frame : ℕ) → Contains frames frame → tables frame ≡ true

@@ -1,8 +1,8 @@
 //! Laws of what steps leave of the words that walks read: for translations that are used again when the value of CR3 that
 //! they were found by comes back.
 
-ghost use Rattle.machine_model.specs.Reloading.{FollowsItself, FollowsOn, UsesFollow, FetchesFollow};
-ghost use Rattle.machine_model.specs.Following.{FetchedFollows, RangesFollow, InstructedFollows, DeliveredFollows, StepsFollow, StepsKeepMemory, WordsStayFound, SetsAreFound};
+ghost use Rattle.machine_model.specs.Reloading.{FoundStays, FollowsItself, FollowsOn, UsesFollow, FetchesFollow};
+ghost use Rattle.machine_model.specs.Following.{FetchedFollows, RangesFollow, InstructedFollows, DeliveredFollows, StepsFollow, StepsKeepMemory, WordsStayFound, SetsAreFound, FoundAreCacheable};
 
 /// Memory within a step follows itself, and memory that follows goes on following.
 pub fn following_goes_on()
@@ -42,4 +42,11 @@ pub fn words_stay_found()
 /// The translations that a step leaves were there before, or a walk finds them.
 pub fn sets_are_found()
     ensures { SetsAreFound }
+{}
+
+/// What a walk finds it finds still where its words have at most flags more. From the directory in use it is what may be
+/// added to the translations before a step.
+pub fn found_stays()
+    ensures stays { FoundStays }
+    ensures cacheable { FoundAreCacheable }
 {}
