@@ -5,7 +5,7 @@ use Rattle.std.specs.List.{Contains}
 use Rattle.std.specs.FinMap.{get, insert, remove, get-insert, get-remove}
 use Rattle.std.specs.Cmp.{unsigned_tied}
 use Rattle.std.proofs.lemmas.Cmp.{nat_cmp_total}
-use Rattle.std.proofs.lemmas.List.Elements.{Contains-append_left, Contains-append_right}
+use Rattle.std.proofs.lemmas.List.Elements.{Contains-append_left, Contains-append_right, Contains-push}
 use Rattle.guest_ram.specs.Bytes as bytes
 use Rattle.guest_ram.specs.Bytes.{word32}
 use Rattle.guest_ram.proofs.Bytes.{word32-is}
@@ -23,8 +23,8 @@ use Rattle.paging.specs.Fresh.{fresh, tables_read, grants, flagged}
 use Rattle.paging.specs.Space.{Mode, Span, Earlier, Space, width, place, with_byte, written, saved, frames_of}
 use Rattle.paging.specs.Uses.{tables_of, Decision, is_barred, window_stop, walks_text, marks_own, dirtied, by_walk, decided, settled, usable, by_entry, page_uses, go_on, and_then, unready, made_ready, second_page, by_pages, by_window, uses, fetches}
 use Rattle.machine_model.specs.Reloading.{MemoryFollows, IsFoundBy, HoldsOf, AreApart, Follows, FollowsItself, FollowsOn, UsesFollow, FetchesFollow}
-use Rattle.machine_model.proofs.MoreFlags.{eq_told, not_eq, flags_by, long_with, byte_other, memory_same, memory_on, flagged_follows}
-use Rattle.machine_model.proofs.FoundStill.{found_still, found_fresh, fresh_even}
+use Rattle.machine_model.proofs.MoreFlags.{eq_told, not_eq, flags_by, long_with, byte_other, memory_same, memory_on, flagged_follows, flagged_other}
+use Rattle.machine_model.proofs.FoundStill.{found_still, found_fresh, fresh_even, words_noted}
 
 -- ---- membership as a test
 
@@ -68,6 +68,8 @@ same_follows s = record {
   memory = memory_same s.wrote s.ram;
   wrote = λ frame c. c;
   tables = λ frame c. c;
+  pages = λ page c. c;
+  others = λ all at lt free clear. refl;
   each = λ room apart tables holds page small e is. inl is;
 }
 
@@ -102,6 +104,11 @@ follows_on s t u h k = record {
   memory = memory_on t.wrote u.wrote s.ram t.ram u.ram k.wrote h.memory k.memory;
   wrote = λ f c. k.wrote f (h.wrote f c);
   tables = λ f c. k.tables f (h.tables f c);
+  pages = λ p c. k.pages p (h.pages p c);
+  others = λ all at lt free clear.
+      let long = h.memory.long in
+      k.others all at (omega (arith, lt, long)) free clear
+      ∙ h.others (λ p c. all p (k.pages p c)) at lt (λ c. free (k.wrote (at / 4096) c)) (λ c. clear (k.tables (at / 4096) c));
   each = λ room apart tables holds page small e is.
       let long = h.memory.long in
       let frames = h.frames in
@@ -116,14 +123,17 @@ follows_on s t u h k = record {
 }
 
 -- what isn't memory changes nothing of it
-pub aside : (s : Space) (mode : Mode) (pages : ℕ) (went : List ℕ) (ready : Span) (earlier : Earlier) → Follows s (record s { mode = mode; pages = pages; went = went; ready = ready; earlier = earlier })
-aside s mode pages went ready earlier = record {
+pub aside : (s : Space) (mode : Mode) (pages : ℕ) (went : List ℕ) (ready : Span) (earlier : Earlier) → ((page : ℕ) → Contains s.went page → Contains went page)
+    → Follows s (record s { mode = mode; pages = pages; went = went; ready = ready; earlier = earlier })
+aside s mode pages went ready earlier more = record {
   frames = refl;
   cr3 = refl;
   pse = refl;
   memory = memory_same s.wrote s.ram;
   wrote = λ frame c. c;
   tables = λ frame c. c;
+  pages = more;
+  others = λ all at lt free clear. refl;
   each = λ room apart tables holds page small e is. inl is;
 }
 
@@ -142,6 +152,8 @@ none_follows s page read = record {
   memory = memory_same s.wrote s.ram;
   wrote = λ frame c. c;
   tables = λ frame c. Contains-append_left s.tables read frame c;
+  pages = λ page c. c;
+  others = λ all at lt free clear. refl;
   each = λ room apart tables holds q small e is. inl (not_absent _ (get s.set q) e (sym (get-remove nat_cmp_total s.set page q) ∙ is));
 }
 
@@ -153,9 +165,9 @@ one_or_other q page new o e = by_test (q == page) refl
     by_test false is h = inr h
 
 -- the entry of a fresh walk joins it
-walk_follows : (s : Space) (page : ℕ) (e : Entry) (d t : ℕ) (write : Bool) → fresh s.ram s.frames s.cr3 s.pse page ≡ Found e d t
+walk_follows : (s : Space) (page : ℕ) (e : Entry) (d t : ℕ) (write : Bool) → Contains s.went page → fresh s.ram s.frames s.cr3 s.pse page ≡ Found e d t
     → Follows s (record s { ram = flagged s.ram d t write; set = insert s.set page (dirtied e write); tables = s.tables ++ tables_read s.ram s.frames s.cr3 s.pse page })
-walk_follows s page e d t write is =
+walk_follows s page e d t write gone is =
     let even = fresh_even s.ram s.frames s.cr3 s.pse page e d t is in
     record {
       frames = refl;
@@ -164,8 +176,12 @@ walk_follows s page e d t write is =
       memory = flagged_follows s.ram d t write even.0 even.1 s.wrote;
       wrote = λ frame c. c;
       tables = λ frame c. Contains-append_left s.tables (tables_read s.ram s.frames s.cr3 s.pse page) frame c;
-      each = λ room apart tables holds q small found there.
-          elim (one_or_other q page (dirtied e write) (get s.set q) found (got q ∙ there)) [
+      pages = λ q c. c;
+      others = λ all at lt free clear.
+          let noted = words_noted s.ram s.frames s.cr3 s.pse page e d t (all page gone) is in
+          flagged_other s.ram d t write even.0 even.1 at lt (λ g. clear (there at d g noted.0)) (λ g. clear (there at t g noted.1));
+      each = λ room apart tables holds q small found has.
+          elim (one_or_other q page (dirtied e write) (get s.set q) found (got q ∙ has)) [
             | inr old ↦ inl old
             | inl here ↦ inr (subst (λ p. IsFoundBy (flagged s.ram d t write) s.frames s.cr3 s.pse tables p found) (sym here.0)
                 (subst (λ (x : Entry). IsFoundBy (flagged s.ram d t write) s.frames s.cr3 s.pse tables page x) here.1
@@ -174,6 +190,10 @@ walk_follows s page e d t write is =
           ];
     }
   where
+    there : (at place : ℕ) → at ≡ place → Contains (tables_read s.ram s.frames s.cr3 s.pse page) (place / 4096) → Contains (s.tables ++ tables_read s.ram s.frames s.cr3 s.pse page) (at / 4096)
+    there at place g c =
+        Contains-append_right s.tables (tables_read s.ram s.frames s.cr3 s.pse page) (at / 4096) (subst (λ n. Contains (tables_read s.ram s.frames s.cr3 s.pse page) (n / 4096)) (sym g) c)
+
     got : (q : ℕ) → cond (q == page) (Some (dirtied e write)) (get s.set q) ≡ get (insert s.set page (dirtied e write)) q
     got q = sym (get-insert nat_cmp_total s.set page (dirtied e write) q ∙ ap (λ c. cond c (Some (dirtied e write)) (get s.set q)) (unsigned_tied q page))
 
@@ -185,37 +205,37 @@ either : (P : Decision → Type 0) (test : Bool) (a b : Decision) → P a → P 
 either P true a b h k = h
 either P false a b h k = k
 
-walk_decides : (s : Space) (fetch : Bool) (page at : ℕ) (access : Access) (w : Walk) → fresh s.ram s.frames s.cr3 s.pse page ≡ w → Decides s page (by_walk (tables_of s) fetch at access w)
-walk_decides s fetch page at access Absent is = none_follows s page (tables_read s.ram s.frames s.cr3 s.pse page)
-walk_decides s fetch page at access Beyond is = none_follows s page (tables_read s.ram s.frames s.cr3 s.pse page)
-walk_decides s fetch page at access Reserved is = none_follows s page (tables_read s.ram s.frames s.cr3 s.pse page)
-walk_decides s fetch page at access (Found entry d t) is =
+walk_decides : (s : Space) (fetch : Bool) (page at : ℕ) (access : Access) (w : Walk) → Contains s.went page → fresh s.ram s.frames s.cr3 s.pse page ≡ w → Decides s page (by_walk (tables_of s) fetch at access w)
+walk_decides s fetch page at access Absent gone is = none_follows s page (tables_read s.ram s.frames s.cr3 s.pse page)
+walk_decides s fetch page at access Beyond gone is = none_follows s page (tables_read s.ram s.frames s.cr3 s.pse page)
+walk_decides s fetch page at access Reserved gone is = none_follows s page (tables_read s.ram s.frames s.cr3 s.pse page)
+walk_decides s fetch page at access (Found entry d t) gone is =
     let none = none_follows s page (tables_read s.ram s.frames s.cr3 s.pse page) in
     either (Decides s page) (not (grants entry access s.wp)) _ _ none
     (either (Decides s page) (is_barred s.mode fetch access.user entry.page entry.frame) _ _ none
-    (either (Decides s page) (marks_own (tables_of s) d t access.write) _ _ none (walk_follows s page entry d t access.write is)))
+    (either (Decides s page) (marks_own (tables_of s) d t access.write) _ _ none (walk_follows s page entry d t access.write gone is)))
 
-decided_follows : (s : Space) (fetch : Bool) (page at : ℕ) (access : Access) → Decides s page (decided (tables_of s) fetch page at access)
+decided_follows : (s : Space) (fetch : Bool) (page at : ℕ) (access : Access) → Contains s.went page → Decides s page (decided (tables_of s) fetch page at access)
 unfolding decided
-decided_follows s fetch page at access =
+decided_follows s fetch page at access gone =
     either (Decides s page) (walks_text (tables_of s) page) _ _ (none_follows s page (tables_read s.ram s.frames s.cr3 s.pse page))
-    (walk_decides s fetch page at access (fresh s.ram s.frames s.cr3 s.pse page) refl)
+    (walk_decides s fetch page at access (fresh s.ram s.frames s.cr3 s.pse page) gone refl)
 
 -- either way memory is as it is
 both_ways : (s u : Space) (test : Bool) (a b : Touch) → Follows s u → Follows s (cond {A = Touch × Space} test (a, u) (b, u)).1
 both_ways s u true a b h = h
 both_ways s u false a b h = h
 
-entry_follows : (s : Space) (fetch : Bool) (page at : ℕ) (access : Access) (o : Option Entry) → Follows s (by_entry s fetch page at access o).1
-entry_follows s fetch page at access None = decided_follows s fetch page at access
-entry_follows s fetch page at access (Some entry) = both_ways s s (is_barred s.mode fetch access.user page entry.frame) (Stop stops.TextMapped) Ready (same_follows s)
+entry_follows : (s : Space) (fetch : Bool) (page at : ℕ) (access : Access) (o : Option Entry) → Contains s.went page → Follows s (by_entry s fetch page at access o).1
+entry_follows s fetch page at access None gone = decided_follows s fetch page at access gone
+entry_follows s fetch page at access (Some entry) gone = both_ways s s (is_barred s.mode fetch access.user page entry.frame) (Stop stops.TextMapped) Ready (same_follows s)
 
 page_follows : (s : Space) (fetch : Bool) (page at : ℕ) (access : Access) → Follows s (page_uses s fetch page at access).1
 unfolding page_uses
 page_follows s fetch page at access =
     let seen : Space = record s { pages = s.pages + 1; went = s.went ++ page ∷ [] } in
-    follows_on s seen _ (aside s s.mode (s.pages + 1) (s.went ++ page ∷ []) s.ready s.earlier)
-    (entry_follows seen fetch page at access (usable (get s.set page) access s.wp))
+    follows_on s seen _ (aside s s.mode (s.pages + 1) (s.went ++ page ∷ []) s.ready s.earlier (λ p c. Contains-append_left s.went (page ∷ []) p c))
+    (entry_follows seen fetch page at access (usable (get s.set page) access s.wp) (Contains-push s.went page))
 
 -- ---- one range
 
@@ -228,7 +248,7 @@ then_follows : (s : Space) (p : Touch × Space) (f : Space → Touch × Space) �
 then_follows s p f h k = going s p.0 p.1 f h k
 
 unready_follows : (s : Space) → Follows s (unready s)
-unready_follows s = aside s s.mode s.pages s.went (record { start = 0; len = 0; write = false }) (record { start = s.ready.start; len = s.ready.len; set = s.set })
+unready_follows s = aside s s.mode s.pages s.went (record { start = 0; len = 0; write = false }) (record { start = s.ready.start; len = s.ready.len; set = s.set }) (λ page c. c)
 
 noted_more : (write : Bool) (wrote more : List ℕ) (frame : ℕ) → Contains wrote frame → Contains (cond write (wrote ++ more) wrote) frame
 noted_more true wrote more frame h = Contains-append_left wrote more frame h
@@ -242,6 +262,8 @@ ready_follows at len write s = record {
   memory = memory_same _ s.ram;
   wrote = noted_more write s.wrote (frames_of s at len);
   tables = λ frame c. c;
+  pages = λ page c. c;
+  others = λ all byte lt free clear. refl;
   each = λ room apart tables holds page small e is. inl is;
 }
 
@@ -341,5 +363,7 @@ saved_follows s at size v h = record {
   memory = kept_follows s.wrote s.ram (written s at size v) (saved_memory s at size v h);
   wrote = λ frame c. c;
   tables = λ frame c. c;
+  pages = λ page c. c;
+  others = λ all byte lt free clear. (saved_memory s at size v h).bytes byte lt free;
   each = λ room apart tables holds page small e is. inl is;
 }

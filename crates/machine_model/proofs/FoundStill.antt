@@ -313,17 +313,17 @@ second_in : (x y : ℕ) (xs : List ℕ) → Contains (x ∷ y ∷ xs) y
 second_in x y xs = (1, omega arith, refl)
 
 -- the frames of both words are noted
-words_noted : (ram : List ℕ) (frames cr3 : ℕ) (pse : Bool) (page : ℕ) (e : Entry) (d t : ℕ) (tables : ℕ → Bool) → page < 2 ^ 20 → fresh ram frames cr3 pse page ≡ Found e d t
-    → HoldsOf tables (tables_read ram frames cr3 pse page) → (tables (d / 4096) ≡ true) × (tables (t / 4096) ≡ true)
-words_noted ram frames cr3 pse page e d t tables small is holds =
+pub words_noted : (ram : List ℕ) (frames cr3 : ℕ) (pse : Bool) (page : ℕ) (e : Entry) (d t : ℕ) → page < 2 ^ 20 → fresh ram frames cr3 pse page ≡ Found e d t
+    → Contains (tables_read ram frames cr3 pse page) (d / 4096) × Contains (tables_read ram frames cr3 pse page) (t / 4096)
+words_noted ram frames cr3 pse page e d t small is =
     elim (walks_are_noted ram frames cr3 pse page d t e small is) [
       | inl both ↦ (
-        holds (d / 4096) (subst (λ (l : List ℕ). Contains l (d / 4096)) (sym both) (head_in (d / 4096) (t / 4096 ∷ []))),
-        holds (t / 4096) (subst (λ (l : List ℕ). Contains l (t / 4096)) (sym both) (second_in (d / 4096) (t / 4096) [])),
+        subst (λ (l : List ℕ). Contains l (d / 4096)) (sym both) (head_in (d / 4096) (t / 4096 ∷ [])),
+        subst (λ (l : List ℕ). Contains l (t / 4096)) (sym both) (second_in (d / 4096) (t / 4096) []),
       )
       | inr one ↦
-          let first = holds (d / 4096) (subst (λ (l : List ℕ). Contains l (d / 4096)) (sym one.1) (head_in (d / 4096) [])) in
-          (first, ap (λ n. tables (n / 4096)) one.0 ∙ first)
+          let first : Contains (tables_read ram frames cr3 pse page) (d / 4096) = subst (λ (l : List ℕ). Contains l (d / 4096)) (sym one.1) (head_in (d / 4096) []) in
+          (first, subst (λ n. Contains (tables_read ram frames cr3 pse page) (n / 4096)) (sym one.0) first)
     ]
 
 dirty_then : (dirty write flag : Bool) → (dirty ≡ true → flag ≡ true) → (write ≡ true → flag ≡ true) → (dirty || write) ≡ true → flag ≡ true
@@ -343,6 +343,7 @@ found_fresh x frames cr3 pse tables page e d t write small room is holds =
     let dir_room : d + 4 ≤ length x = omega (arith, low, room) in
     let word_room : t + 4 ≤ length x = omega (arith, high, room) in
     let m = flagged_follows x d t write even.dir_even even.word_even [] in
+    let noted = words_noted x frames cr3 pse page e d t small is in
     let dir = m.words d even.dir_even dir_room (λ c. none (d / 4096) c) in
     let word = m.words t even.word_even word_room (λ c. none (t / 4096) c) in
     record {
@@ -352,7 +353,7 @@ found_fresh x frames cr3 pse tables page e d t write small room is holds =
       found = walk_still x (flagged x d t write) frames cr3 pse page e d t dir word w;
       accessed = (flagged_dir x d t write even.dir_even even.word_even dir_room, flagged_word x d t write even.dir_even even.word_even word_room);
       is_dirty = dirty_then e.dirty write _ (λ f. word.dirty (sym (dirty_of x frames cr3 pse page e d t w) ∙ f)) (λ f. flagged_dirty x d t write even.dir_even even.word_even f word_room);
-      words = words_noted x frames cr3 pse page e d t tables small is holds;
+      words = (holds (d / 4096) noted.0, holds (t / 4096) noted.1);
     }
   where
     none : (frame : ℕ) → Contains [] frame → ⊥

@@ -214,3 +214,10 @@ module _ (x : List ℕ) (d t : ℕ) (write : Bool) (d_even : d % 4 ≡ 0) (t_eve
       let long = long_with x d (bit_or (byte x d) 32) in
       let now : byte final t ≡ bit_or (byte marked t) (flags_of write) = byte-with_byte marked t _ (omega (arith, room, long)) in
       word_has_64 final t ∙ (ap (λ n. has n 64) now ∙ (ap (λ w. has (bit_or (byte marked t) (flags_of w)) 64) is ∙ marked_dirty (byte marked t)))
+
+  -- and nothing else changes
+  pub flagged_other : (k : ℕ) → k < length x → (k ≡ d → ⊥) → (k ≡ t → ⊥) → byte (flagged x d t write) k ≡ byte x k
+  unfolding flagged
+  flagged_other k lt not_dir not_word =
+      let long = long_with x d (bit_or (byte x d) 32) in
+      byte_other marked t (bit_or (byte marked t) (flags_of write)) k (omega (arith, lt, long)) not_word ∙ byte_other x d (bit_or (byte x d) 32) k lt not_dir

@@ -5,6 +5,7 @@ use Rattle.std.specs.Option.{ForSome}
 use Rattle.std.specs.FinMap.{get, empty, remove, get-empty, get-remove, get-retain_keys, nat_cmp-IsAntisymmetric}
 use Rattle.std.specs.Ordering.{nat_cmp}
 use Rattle.std.proofs.lemmas.Cmp.{nat_cmp_total}
+use Rattle.guest_ram.specs.Bytes.{byte}
 use Rattle.ia32_types.specs.declared.stop.Stop.{Stop}
 use Rattle.ia32_types.specs.declared.stop.Stop.TheVariants as stops
 use Rattle.ia32_types.specs.declared.stop.Did.{Did}
@@ -46,7 +47,7 @@ use Rattle.machine_model.specs.Instruction.{taken, fetching, owning_front, ownin
 use Rattle.machine_model.specs.Step.{Report, Completed, Result, Went, Stands, went, in_item, after_read, after_write, out_item, entered, after_delivery, raised, code_of, after_effect, effect_on, after_software, interrupts_by, begun, by_op, by_decoded, after_refusal, after_fetch, begins_next, worked, interrupted, interrupt_of, by_interrupt, unheld, step_of}
 use Rattle.machine_model.specs.Run.{Set}
 use Rattle.machine_model.specs.Reloading.{MemoryFollows, IsFoundBy, Follows, Leaves}
-use Rattle.machine_model.specs.Following.{FetchedFollows, RangesFollow, InstructedFollows, DeliveredFollows, IsLeftBy, StepsFollow, StepsKeepMemory, WordsStayFound, SetsAreFound, FoundAreCacheable}
+use Rattle.machine_model.specs.Following.{FetchedFollows, RangesFollow, InstructedFollows, DeliveredFollows, IsLeftBy, StepsFollow, StepsKeepMemory, OthersStay, WordsStayFound, SetsAreFound, FoundAreCacheable}
 use Rattle.machine_model.proofs.FoundStill.{found_still}
 use Rattle.machine_model.proofs.Following.{same_follows, fetches_follow, aside}
 use Rattle.machine_model.proofs.Tracking.{Tracks, tracks, leaves_on}
@@ -67,11 +68,11 @@ fetching_tracks user at len = record { each = λ s. taken_leaves at len s (fetch
 
 front_tracks : (at len : ℕ) → Tracks (owning_front at len)
 unfolding owning_front
-front_tracks at len = record { each = λ s. aside s (with_front s.mode (place s at) len) s.pages s.went s.ready s.earlier }
+front_tracks at len = record { each = λ s. aside s (with_front s.mode (place s at) len) s.pages s.went s.ready s.earlier (λ page c. c) }
 
 back_tracks : (at len : ℕ) → Tracks (owning_back at len)
 unfolding owning_back
-back_tracks at len = record { each = λ s. aside s (with_back s.mode (place s at) len) s.pages s.went s.ready s.earlier }
+back_tracks at len = record { each = λ s. aside s (with_back s.mode (place s at) len) s.pages s.went s.ready s.earlier (λ page c. c) }
 
 owned_tracks : (eip : ℕ) (d : Decoded) → Tracks (owned eip d)
 owned_tracks eip (begins.Insn insn len) = search (tracks, back_tracks) depth 8
@@ -123,11 +124,11 @@ IsLeft s (Went report b) = IsLeftBy s report b
 IsLeft s (Stands stop) = Unit {0}
 
 went_left : (s t : Space) (whats : List What) (completed : Option Completed) (b : State) (cpu : Cpu) (board : Board) → Follows s t → IsLeft s (went whats completed b cpu board t)
-went_left s t whats completed b cpu board h = record { last = t; follows = h; ram = refl; set = λ page e is. is; tables = refl; wrote = refl }
+went_left s t whats completed b cpu board h = record { last = t; follows = h; ram = refl; set = λ page e is. is; tables = refl; wrote = refl; pages = refl }
 
 dropped_left : (s t : Space) (set : Set) (completed : Option Completed) (b : State) (cpu : Cpu) (board : Board) → Follows s t → ((page : ℕ) → ForSome (get set page) (λ e. get t.set page ≡ Some e))
     → IsLeft s (went [] completed b cpu board (record t { set = set }))
-dropped_left s t set completed b cpu board h fewer = record { last = t; follows = h; ram = refl; set = fewer; tables = refl; wrote = refl }
+dropped_left s t set completed b cpu board h fewer = record { last = t; follows = h; ram = refl; set = fewer; tables = refl; wrote = refl; pages = refl }
 
 guarded : (s : Space) (test : Bool) (r : Result) (stop : Stop) → IsLeft s r → IsLeft s (cond test r (Stands stop))
 guarded s true r stop h = h
@@ -256,6 +257,13 @@ pub steps_keep_memory : StepsKeepMemory
 steps_keep_memory m b set report b2 is =
     let h = steps_follow m b set report b2 is in
     subst (λ (w : List ℕ). MemoryFollows w b.ram b2.ram) (sym h.wrote) (subst (MemoryFollows h.last.wrote b.ram) (sym h.ram) h.follows.memory)
+
+pub others_stay : OthersStay
+others_stay m b set report b2 at is all lt free clear =
+    let h = steps_follow m b set report b2 is in
+    ap (λ (x : List ℕ). byte x at) h.ram
+    ∙ h.follows.others (λ page c. all page (subst (λ (l : List ℕ). Contains l page) (sym h.pages) c)) at lt
+    (λ c. free (subst (λ (l : List ℕ). Contains l (at / 4096)) (sym h.wrote) c)) (λ c. clear (subst (λ (l : List ℕ). Contains l (at / 4096)) (sym h.tables) c))
 
 clash : (t : Bool) → t ≡ true → t ≡ false → ⊥
 clash t e f = cc

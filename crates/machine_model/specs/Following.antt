@@ -1,7 +1,9 @@
 -- How memory and translations follow over the parts of a step, and over a step: the statements of the laws.
-use Rattle.std.specs.Prelude.{◌≡◌, ◌⊎◌, ℕ, ◌*◌, ◌^◌, ◌<◌, ◌≤◌, Bool, length, Option, Some}
+use Rattle.std.specs.Prelude.{◌≡◌, ◌⊎◌, ℕ, ◌*◌, ◌/◌, ◌^◌, ◌<◌, ◌≤◌, Bool, length, Option, Some}
+use Rattle.std.specs.List.{Contains}
 use Rattle.std.specs.Option.{ForSome}
 use Rattle.std.specs.FinMap.{get}
+use Rattle.guest_ram.specs.Bytes.{byte}
 use Rattle.ia32_types.specs.declared.insn.Insn.{Insn}
 use Rattle.ia32_exec.specs.Effect.{ranges_of}
 use Rattle.descriptors.specs.Controls.{pse_of}
@@ -15,7 +17,7 @@ use Rattle.machine_model.specs.State.{Setting, State, IsCacheable, space_at_star
 use Rattle.machine_model.specs.Instruction.{fetched, instructed}
 use Rattle.machine_model.specs.Step.{Report, Went, step_of}
 use Rattle.machine_model.specs.Run.{Set}
-use Rattle.machine_model.specs.Reloading.{MemoryFollows, IsFoundBy, HoldsOf, AreNone, AreApart, Follows, Leaves}
+use Rattle.machine_model.specs.Reloading.{ArePages, MemoryFollows, IsFoundBy, HoldsOf, AreNone, AreApart, Follows, Leaves}
 
 -- the fetch of an instruction, both ranges of one, what one does, and a delivery
 abbrev pub FetchedFollows : Type 0
@@ -39,6 +41,7 @@ pub record IsLeftBy (s : Space) (report : Report) (b : State) : Type 0 where
   pub set : (page : ℕ) → ForSome (get b.set page) (λ e. get last.set page ≡ Some e)
   pub tables : report.tables ≡ last.tables
   pub wrote : report.wrote ≡ last.wrote
+  pub pages : report.pages ≡ last.went
 
 abbrev pub StepsFollow : Type 0
 StepsFollow =
@@ -49,6 +52,13 @@ StepsFollow =
 abbrev pub StepsKeepMemory : Type 0
 StepsKeepMemory =
     (m : Setting) (b : State) (set : Set) (report : Report) (b2 : State) → step_of m b set ≡ Went report b2 → MemoryFollows report.wrote b.ram b2.ram
+
+-- It changes nothing in a frame that it reports neither as written nor as a table, where the pages that it went through
+-- are those of the address space.
+abbrev pub OthersStay : Type 0
+OthersStay =
+    (m : Setting) (b : State) (set : Set) (report : Report) (b2 : State) (at : ℕ) → step_of m b set ≡ Went report b2 → ArePages report.pages → at < length b.ram
+    → (Contains report.wrote (at / 4096) → ⊥) → (Contains report.tables (at / 4096) → ⊥) → byte b2.ram at ≡ byte b.ram at
 
 -- Where a step writes no frame of which the test holds, what a walk finds by words in such frames it finds behind the
 -- step, whatever value CR3 has meanwhile.

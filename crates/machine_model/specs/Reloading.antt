@@ -4,7 +4,7 @@ use Rattle.std.specs.Prelude.{◌≡◌, ◌⊎◌, ℕ, ◌+◌, ◌*◌, ◌/�
 use Rattle.std.specs.List.{Contains}
 use Rattle.std.specs.Option.{ForSome}
 use Rattle.std.specs.FinMap.{get}
-use Rattle.guest_ram.specs.Bytes.{word32}
+use Rattle.guest_ram.specs.Bytes.{byte, word32}
 use Rattle.paging.specs.declared.entry.Access.{Access}
 use Rattle.paging.specs.declared.entry.Entry.{Entry}
 use Rattle.paging.specs.declared.entry.Walk.TheVariants.{Found}
@@ -59,7 +59,11 @@ AreNone tables frames = (frame : ℕ) → Contains frames frame → tables frame
 abbrev pub AreApart : List ℕ → List ℕ → Type 0
 AreApart tables wrote = (frame : ℕ) → Contains tables frame → Contains wrote frame → ⊥
 
--- Memory within a step, and the same after further accesses. Where no frame that was read as a directory or table was
+-- each is a page of the address space
+abbrev pub ArePages : List ℕ → Type 0
+ArePages pages = (page : ℕ) → Contains pages page → page < 2 ^ 20
+
+-- Memory within a step, and the same after further accesses. Flags come on in the frames that the step notes as tables. Where no frame that was read as a directory or table was
 -- written, each translation of the set was in it before, or is what a fresh walk finds, by words in frames that the step
 -- notes as tables.
 pub record Follows (s t : Space) : Type 0 where
@@ -69,6 +73,8 @@ pub record Follows (s t : Space) : Type 0 where
   pub memory : MemoryFollows t.wrote s.ram t.ram
   pub wrote : (frame : ℕ) → Contains s.wrote frame → Contains t.wrote frame
   pub tables : (frame : ℕ) → Contains s.tables frame → Contains t.tables frame
+  pub pages : (page : ℕ) → Contains s.went page → Contains t.went page
+  pub others : ArePages t.went → (at : ℕ) → at < length s.ram → (Contains t.wrote (at / 4096) → ⊥) → (Contains t.tables (at / 4096) → ⊥) → byte t.ram at ≡ byte s.ram at
   pub each : 4096 * s.frames ≤ length s.ram → AreApart t.tables t.wrote → (tables : ℕ → Bool) → HoldsOf tables t.tables → (page : ℕ) → page < 2 ^ 20
       → ForSome (get t.set page) (λ e. (get s.set page ≡ Some e) ⊎ IsFoundBy t.ram t.frames t.cr3 t.pse tables page e)
 

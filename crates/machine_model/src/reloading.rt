@@ -2,7 +2,7 @@
 //! they were found by comes back.
 
 ghost use Rattle.machine_model.specs.Reloading.{FoundStays, FollowsItself, FollowsOn, UsesFollow, FetchesFollow};
-ghost use Rattle.machine_model.specs.Following.{FetchedFollows, RangesFollow, InstructedFollows, DeliveredFollows, StepsFollow, StepsKeepMemory, WordsStayFound, SetsAreFound, FoundAreCacheable};
+ghost use Rattle.machine_model.specs.Following.{FetchedFollows, RangesFollow, InstructedFollows, DeliveredFollows, StepsFollow, StepsKeepMemory, OthersStay, WordsStayFound, SetsAreFound, FoundAreCacheable};
 
 /// Memory within a step follows itself, and memory that follows goes on following.
 pub fn following_goes_on()
@@ -29,9 +29,11 @@ pub fn steps_follow()
     ensures { StepsFollow }
 {}
 
-/// A step changes memory in the frames that it reports as written and, outside them, by flags that come on in words.
+/// A step changes memory in the frames that it reports as written and, outside them, by flags that come on in words of the
+/// frames that it reports as tables.
 pub fn memory_follows()
-    ensures { StepsKeepMemory }
+    ensures words { StepsKeepMemory }
+    ensures others { OthersStay }
 {}
 
 /// What a walk finds by words in frames that a step doesn't write is found behind it.
