@@ -63,9 +63,9 @@ AreApart tables wrote = (frame : ℕ) → Contains tables frame → Contains wro
 abbrev pub ArePages : List ℕ → Type 0
 ArePages pages = (page : ℕ) → Contains pages page → page < 2 ^ 20
 
--- Memory within a step, and the same after further accesses. Flags come on in the frames that the step notes as tables. Where no frame that was read as a directory or table was
--- written, each translation of the set was in it before, or is what a fresh walk finds, by words in frames that the step
--- notes as tables.
+-- Memory within a step, and the same after further accesses. Where a frame is noted neither as written nor as a table,
+-- nothing changed in it. Where no frame that was read as a directory or table was written, each translation of the set was
+-- in it before, or is what a fresh walk finds, by words in frames that the step notes as tables.
 pub record Follows (s t : Space) : Type 0 where
   pub frames : t.frames ≡ s.frames
   pub cr3 : t.cr3 ≡ s.cr3
