@@ -1,5 +1,5 @@
 -- What each call makes of the pairs, the present one first.
-use Rattle.std.specs.Prelude.{◌≡◌, ℕ, List, [], ◌∷◌, Option, None, filter, not, slice_set, true, false, if◌then◌else◌}
+use Rattle.std.specs.Prelude.{◌≡◌, ℕ, List, [], ◌∷◌, Bool, Option, Some, None, filter, not, slice_set, true, false, if◌then◌else◌}
 use Rattle.shadow_tables.specs.Slots.{Slot, held, slot_at, root_of}
 use Rattle.shadow_tables.specs.Opened.{KeepsTables, HasOpened}
 use Rattle.shadow_tables.specs.declared.words.Side.{Side}
@@ -16,6 +16,19 @@ slots_of (p ∷ ps) m page = slot_at p.shadow m page
 abbrev pub directory_of : List Pair → Side → ℕ
 directory_of [] side = 0
 directory_of (p ∷ ps) side = root_of p.shadow side
+
+-- its value, its mark, and from which frames its tables were read
+abbrev pub value_of : List Pair → Option ℕ
+value_of [] = None
+value_of (p ∷ ps) = Some p.cr3
+
+abbrev pub mark_of : List Pair → Bool
+mark_of [] = false
+mark_of (p ∷ ps) = p.marked
+
+abbrev pub noted_of : List Pair → ℕ → Bool
+noted_of [] frame = false
+noted_of (p ∷ ps) frame = reads p frame
 
 -- the tables of the present pair, after a fill under this directory index of the view
 abbrev pub OpensIn : List Pair → (m m' : List ℕ) → Side → ℕ → Type 0

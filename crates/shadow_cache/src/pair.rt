@@ -2,7 +2,9 @@ ghost use Rattle.std.specs.Prelude.{◌≡◌, ◌≤◌, ◌<◌, [], length, f
 ghost use Rattle.frame_pool.specs.Pool.{free_list, Stands};
 ghost use Rattle.frame_pool.specs.Held.{Owns, Moves};
 ghost use Rattle.shadow_cache.specs.Pairs.{no_tables, reads};
-ghost use Rattle.shadow_tables.specs.Slots.{held, IsEmpty};
+ghost use Rattle.std.specs.FinMap.{empty as no_entries};
+ghost use Rattle.shadow_tables.specs.Entries.{entries_of};
+ghost use Rattle.shadow_tables.specs.Slots.{held, slot_at, IsEmpty};
 
 use frame_pool::Pool;
 use guest_ram::Ram;
@@ -30,6 +32,7 @@ impl Pair {
         requires free { 2 ≤ length (free_list pool.old ram.old) }
         ensures cr3 { result.cr3 ≡ cr3 }
         ensures empty { IsEmpty result.shadow ram.new }
+        ensures entries { entries_of (slot_at result.shadow ram.new) ≡ no_entries }
         ensures tables { result.tables ≡ no_tables }
         ensures marked { result.marked ≡ false }
         ensures owns { Owns pool.new ram.new (held result.shadow ram.new) }

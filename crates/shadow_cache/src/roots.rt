@@ -29,7 +29,8 @@ pub struct Roots {
 
 impl Roots {
     ghost use Rattle.shadow_cache.specs.Roots.{pairs_of};
-    ghost use Rattle.shadow_cache.specs.After.{IsStart};
+    ghost use Rattle.shadow_cache.specs.After.{IsStart, beside, mark_of, noted_of, slots_of, value_of};
+    ghost use Rattle.shadow_cache.specs.Asides.{asides_of};
     ghost use Rattle.shadow_cache.specs.Switched.{IsSwitched};
     ghost use Rattle.shadow_cache.specs.Agreeing.{Agree};
     ghost use Rattle.shadow_cache.specs.declared.call_lists.RootsCall.{RootsCall};
@@ -45,6 +46,11 @@ impl Roots {
         ensures owns { IfOk result (λ r. Owns pool.new ram.new (frames_of (pairs_of r) ram.new)) }
         ensures moves { IfOk result (λ r. Moves pool.old pool.new ram.old ram.new [] (frames_of (pairs_of r) ram.new)) }
         ensures told { IfOk result (λ r. Agree cr3 [] (pairs_of r) ram.new) }
+        ensures entries { IfOk result (λ r. entries_of (slots_of (pairs_of r) ram.new) ≡ empty) }
+        ensures value { IfOk result (λ r. value_of (pairs_of r) ≡ Some cr3) }
+        ensures unmarked { IfOk result (λ r. mark_of (pairs_of r) ≡ false) }
+        ensures unread { IfOk result (λ r. (f : ℕ) → noted_of (pairs_of r) f ≡ false) }
+        ensures alone { IfOk result (λ r. asides_of (beside (pairs_of r)) ram.new ≡ []) }
     {
         let others = Pairs::new(alloc)?;
         let present = Pair::new(ram, pool, cr3);
@@ -222,6 +228,7 @@ impl Roots {
 impl Shadows for Roots {
     ghost use Rattle.shadow_cache.specs.Roots.{pairs_of};
     ghost use Rattle.shadow_cache.specs.Laws as laws;
+    ghost use Rattle.shadow_cache.specs.Asides.{asides_of};
     ghost use Rattle.shadow_cache.specs.Pairs.{reads};
 
     ghost stands = { λ r m. IsRoots (pairs_of r) m };
@@ -231,6 +238,12 @@ impl Shadows for Roots {
     ghost tracked = { λ r. tables_of (pairs_of r) };
 
     ghost noted = { λ r f. reads r.present f };
+
+    ghost marked = { λ r. r.present.marked };
+
+    ghost value = { λ r. Some r.present.cr3 };
+
+    ghost asides = { λ r m. asides_of r.others m };
 
     ghost slots = { λ r m page. slot_at r.present.shadow m page };
 
@@ -248,11 +261,21 @@ impl Shadows for Roots {
 
     ghost barred = { λ r m page slot h l e t. laws.barred r.present r.others m page slot h l e t };
 
+    ghost asides_fit = { λ r m h. laws.asides-fit r.present r.others m h };
+
+    ghost asides_barred = { λ r m h. laws.asides-barred r.present r.others m h };
+
+    ghost noted_tracked = { λ r f u n. laws.noted-tracked r.present r.others f n };
+
+    ghost asides_tracked = { λ r m. laws.asides-tracked r.present r.others m };
+
     ghost stays = { λ r m m' h e. laws.stays (pairs_of r) m m' h e };
 
     ghost same_frames = { λ r m m' h e. laws.same-frames (pairs_of r) m m' h e };
 
     ghost same_slots = { λ r m m' h e. laws.same-slots r.present r.others m m' h e };
+
+    ghost same_asides = { λ r m m' h e. laws.same-asides r.present r.others m m' h e };
 
     fn root(&self, side: Side) -> u32 {
         self.present.shadow.root(side)

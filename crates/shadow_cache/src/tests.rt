@@ -4,7 +4,7 @@ ghost use Rattle.shadow_cache.specs.Pairs.{frames_of, IsRoots};
 ghost use Rattle.shadow_cache.specs.Roots.{pairs_of};
 ghost use Rattle.shadow_cache.specs.Replayed.{IsFitCall, AreFitCalls};
 
-use crate::{Roots, RootsCall, replay};
+use crate::{Reloads, Roots, RootsCall, replay};
 use frame_pool::Pool;
 use guest_ram::Ram;
 use paging::Entry;
@@ -58,7 +58,7 @@ fn go(rt: &impl Abort, bench: Bench, cr3: u32) -> Bench
         mut roots,
     } = bench;
     assert!(rt; pool.free() >= 2);
-    roots.switch(&mut ram, &mut pool, cr3);
+    Reloads::switch(&mut roots, &mut ram, &mut pool, cr3);
     Bench { ram, pool, roots }
 }
 

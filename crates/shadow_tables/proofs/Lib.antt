@@ -4,3 +4,4 @@ pub mod Lists
 pub mod Tabled
 pub mod Sweeps
 pub mod Bars
+pub mod Asides

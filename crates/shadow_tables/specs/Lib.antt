@@ -1,4 +1,5 @@
 pub mod Slots
+pub mod Aside
 pub mod Opened
 pub mod Entries
 pub mod Host

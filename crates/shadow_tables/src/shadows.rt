@@ -1,12 +1,13 @@
 //! What keeps the translations of a guest for its host.
 
-ghost use Rattle.std.specs.Prelude.{◌≡◌, ℕ, ◌+◌, ◌*◌, ◌/◌, ◌≤◌, ◌<◌, ◌^◌, List, [], ◌∷◌, length, drop, Bool, Option, Some, None, IfSome, true, false};
+ghost use Rattle.std.specs.Prelude.{◌≡◌, ℕ, ◌+◌, ◌*◌, ◌/◌, ◌≤◌, ◌<◌, ◌^◌, List, [], ◌∷◌, length, drop, Bool, Option, Some, None, IfSome, true, false, ◌||◌, ◌==◌};
 ghost use Rattle.std.specs.FinMap.{get, insert, remove, empty};
 ghost use Rattle.frame_pool.specs.Pool.{base_of, free_list};
 ghost use Rattle.frame_pool.specs.declared.Pool.{Pool};
 ghost use Rattle.frame_pool.specs.Held.{times, Holds, Owns, Writes, Moves, SameIn};
 ghost use Rattle.paging.specs.Reached.{reached, walk_frames};
 ghost use Rattle.paging.specs.Uses.{without_dir};
+ghost use Rattle.shadow_tables.specs.Aside.{Aside, AreSame, LoseWrites, AllFit, AllBarred, AllTracked, spared};
 ghost use Rattle.shadow_tables.specs.Entries.{entries_of};
 ghost use Rattle.shadow_tables.specs.Host.{lent};
 ghost use Rattle.shadow_tables.specs.Slots.{Slot, filled, is_among, ArePart, entry_in, is_adequate, Turns, LosesDir, LosesWrites, SameSlots, IsShadow, held, slot_at, root_of};
@@ -34,6 +35,16 @@ pub trait Shadows {
     /// The frames from which the guest's present tables were read, as far as it matters here: all, where no other
     /// tables are kept than the present ones.
     ghost noted: { Self → ℕ → Bool };
+
+    /// A frame from which the present tables were read was written: what is kept of them doesn't come back once another
+    /// value of CR3 was loaded. So it is too where nothing comes back.
+    ghost marked: { Self → Bool };
+
+    /// The value of CR3 to which the present tables belong, where it is kept.
+    ghost value: { Self → Option ℕ };
+
+    /// What they keep for values of CR3 that aren't present and may be loaded again, the last used first.
+    ghost asides: { Self → List ℕ → List Aside };
 
     /// What they keep for each page.
     ghost slots: { Self → List ℕ → ℕ → Option Slot };
@@ -67,6 +78,9 @@ pub trait Shadows {
         ensures turns { Turns (slots self.old ram.old) (slots self.new ram.new) page None }
         ensures entries { entries_of (slots self.new ram.new) ≡ remove (entries_of (slots self.old ram.old)) page }
         ensures noted { (f : ℕ) → noted self.new f ≡ noted self.old f }
+        ensures marked { marked self.new ≡ marked self.old }
+        ensures value { value self.new ≡ value self.old }
+        ensures asides { AreSame (asides self.old ram.old) (asides self.new ram.new) }
         ensures tracked { tracked self.new ≡ tracked self.old }
         ensures roots { (side : Side) → directory self.new side ≡ directory self.old side }
         ensures frames { frames self.new ram.new ≡ frames self.old ram.old }
@@ -81,6 +95,9 @@ pub trait Shadows {
         ensures loses { LosesDir (slots self.old ram.old) (slots self.new ram.new) index }
         ensures entries { entries_of (slots self.new ram.new) ≡ without_dir (entries_of (slots self.old ram.old)) index }
         ensures noted { (f : ℕ) → noted self.new f ≡ noted self.old f }
+        ensures marked { marked self.new ≡ marked self.old }
+        ensures value { value self.new ≡ value self.old }
+        ensures asides { AreSame (asides self.old ram.old) (asides self.new ram.new) }
         ensures tracked { tracked self.new ≡ tracked self.old }
         ensures roots { (side : Side) → directory self.new side ≡ directory self.old side }
         ensures frames { frames self.new ram.new ≡ frames self.old ram.old }
@@ -99,6 +116,9 @@ pub trait Shadows {
         ensures turns { Turns (slots self.old ram.old) (slots self.new ram.new) entry.page (Some (filled (is_among entry.frame (tracked self.old)) side entry wp)) }
         ensures entries { entries_of (slots self.new ram.new) ≡ insert (entries_of (slots self.old ram.old)) entry.page entry }
         ensures noted { (f : ℕ) → noted self.new f ≡ noted self.old f }
+        ensures marked { marked self.new ≡ marked self.old }
+        ensures value { value self.new ≡ value self.old }
+        ensures asides { AreSame (asides self.old ram.old) (asides self.new ram.new) }
         ensures tracked { tracked self.new ≡ tracked self.old }
         ensures roots { (side : Side) → directory self.new side ≡ directory self.old side }
         ensures one { length (free_list pool.old ram.old) ≤ length (free_list pool.new ram.new) + 1 }
@@ -112,6 +132,10 @@ pub trait Shadows {
         ensures stands { ∥ stands self.new ram.new ∥₁ }
         ensures none { (page : ℕ) → page < 2 ^ 20 → slots self.new ram.new page ≡ None }
         ensures entries { entries_of (slots self.new ram.new) ≡ empty }
+        ensures noted { (f : ℕ) → noted self.new f ≡ true → noted self.old f ≡ true }
+        ensures marked { marked self.new ≡ true → marked self.old ≡ true }
+        ensures value { value self.new ≡ value self.old }
+        ensures asides { asides self.new ram.new ≡ [] }
         ensures tracked { ArePart (tracked self.new) (tracked self.old) }
         ensures roots { (side : Side) → directory self.new side ≡ directory self.old side }
         ensures two { length (frames self.new ram.new) ≡ 2 }
@@ -126,8 +150,10 @@ pub trait Shadows {
         ensures stands { ∥ stands self.new ram.new ∥₁ }
         ensures slots { LosesWrites (slots self.old ram.old) (slots self.new ram.new) (tracked self.new) }
         ensures entries { entries_of (slots self.new ram.new) ≡ entries_of (slots self.old ram.old) }
-        ensures noted { noted self.new frame ≡ true }
-        ensures noted_before { (f : ℕ) → noted self.old f ≡ true → noted self.new f ≡ true }
+        ensures noted { (f : ℕ) → noted self.new f ≡ (noted self.old f || (f == frame)) }
+        ensures marked { marked self.new ≡ marked self.old }
+        ensures value { value self.new ≡ value self.old }
+        ensures asides { LoseWrites (frame ∷ []) (asides self.old ram.old) (asides self.new ram.new) }
         ensures tracked { ArePart (tracked self.new) (frame ∷ tracked self.old) }
         ensures roots { (side : Side) → directory self.new side ≡ directory self.old side }
         ensures frames { frames self.new ram.new ≡ frames self.old ram.old }
@@ -142,6 +168,10 @@ pub trait Shadows {
         ensures slots { SameSlots (slots self.old ram.old) (slots self.new ram.new) }
         ensures entries { entries_of (slots self.new ram.new) ≡ entries_of (slots self.old ram.old) }
         ensures noted { (f : ℕ) → (f ≡ frame → ⊥) → noted self.new f ≡ noted self.old f }
+        ensures noted_there { noted self.new frame ≡ true → noted self.old frame ≡ true }
+        ensures marked { marked self.new ≡ (marked self.old || noted self.old frame) }
+        ensures value { value self.new ≡ value self.old }
+        ensures asides { AreSame (spared frame (asides self.old ram.old)) (asides self.new ram.new) }
         ensures tracked { ArePart (tracked self.new) (tracked self.old) }
         ensures untracked { is_among frame (tracked self.new) ≡ false }
         ensures roots { (side : Side) → directory self.new side ≡ directory self.old side }
@@ -167,12 +197,25 @@ pub trait Shadows {
     /// No write to a tracked frame is adequate.
     ghost barred: { (s : Self) (m : List ℕ) (page : ℕ) (slot : Slot) → ∥ stands s m ∥₁ → page < 2 ^ 20 → slots s m page ≡ Some slot → is_among slot.entry.frame (tracked s) ≡ true → slot.writes ≡ false };
 
+    /// The same of what is kept for other values of CR3.
+    ghost asides_fit: { (s : Self) (m : List ℕ) → ∥ stands s m ∥₁ → AllFit (asides s m) };
+
+    ghost asides_barred: { (s : Self) (m : List ℕ) → ∥ stands s m ∥₁ → AllBarred (λ f. is_among f (tracked s)) (asides s m) };
+
+    /// The frames from which tables were read are tracked, where what was kept by them is to stay or come back: so no
+    /// write that the host may do changes them.
+    ghost noted_tracked: { (s : Self) (f : ℕ) → marked s ≡ false → noted s f ≡ true → is_among f (tracked s) ≡ true };
+
+    ghost asides_tracked: { (s : Self) (m : List ℕ) → AllTracked (tracked s) (asides s m) };
+
     /// A write in other frames makes no difference.
     ghost stays: { (s : Self) (m m' : List ℕ) → ∥ stands s m ∥₁ → SameIn (frames s m) m m' → ∥ stands s m' ∥₁ };
 
     ghost same_frames: { (s : Self) (m m' : List ℕ) → ∥ stands s m ∥₁ → SameIn (frames s m) m m' → frames s m' ≡ frames s m };
 
     ghost same_slots: { (s : Self) (m m' : List ℕ) → ∥ stands s m ∥₁ → SameIn (frames s m) m m' → SameSlots (slots s m) (slots s m') };
+
+    ghost same_asides: { (s : Self) (m m' : List ℕ) → ∥ stands s m ∥₁ → SameIn (frames s m) m m' → AreSame (asides s m) (asides s m') };
 
     ghost same_entries: { (s : Self) (m m' : List ℕ) → ∥ stands s m ∥₁ → SameIn (frames s m) m m' → entries_of (slots s m') ≡ entries_of (slots s m) } = { λ s m m' h e. laws.same-entries (slots s m) (slots s m') (same_slots s m m' h e) };
 
@@ -196,6 +239,12 @@ impl Shadows for Shadow {
 
     ghost noted = { λ s f. true };
 
+    ghost marked = { λ s. true };
+
+    ghost value = { λ s. None };
+
+    ghost asides = { λ s m. [] };
+
     ghost slots = { λ s m page. slot_at s m page };
 
     ghost directory = { λ s side. root_of s side };
@@ -212,11 +261,21 @@ impl Shadows for Shadow {
 
     ghost barred = { λ s m page slot h l e t. laws.none-tracked slot.entry.frame slot.writes t };
 
+    ghost asides_fit = { λ s m h. tt };
+
+    ghost asides_barred = { λ s m h. tt };
+
+    ghost noted_tracked = { λ s f u n. laws.never-unmarked f u };
+
+    ghost asides_tracked = { λ s m. tt };
+
     ghost stays = { λ s m m' h e. laws.stays s m m' h e };
 
     ghost same_frames = { λ s m m' h e. laws.same-frames s m m' h e };
 
     ghost same_slots = { λ s m m' h e. laws.same-slots s m m' h e };
+
+    ghost same_asides = { λ s m m' h e. tt };
 
     fn root(&self, side: Side) -> u32 {
         Shadow::root(self, side)
@@ -246,7 +305,7 @@ impl Shadows for Shadow {
         Shadow::drop_all(self, ram, pool);
     }
 
-    /// Nothing is tracked.
+    /// Nothing is tracked, and nothing comes back.
     fn note(&mut self, _ram: &mut Ram, _frame: u32) {}
 
     fn written(&mut self, _ram: &mut Ram, _pool: &mut Pool, _frame: u32) {}

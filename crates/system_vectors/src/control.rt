@@ -109,7 +109,7 @@ fn with_control(cpu: Cpu, number: u8, v: u32) -> Cpu {
     then
 }
 
-// MOV to a control register: all translations leave the set where it is CR3, or where it turns PSE on.
+// MOV to a control register, where CR4 is 0: all translations leave the set where it is CR3, or where it turns PSE on.
 fn given(number: u8, row: Given) -> Case {
     let (v, then) = row;
     let cpu = with(cpu_at(0), 3, v);
@@ -141,10 +141,41 @@ fn control_registers_keep_their_bits(rt: HostRuntime) -> Result<(), Fail> {
         }
     }
     for bit in 0..32u32 {
+        // PSE (4) alone is kept
+        let kept = if bit == 4 { Some(0x10) } else { None };
         assert_eq!(rt;
-            run(alloc, &given(4, (1 << bit, None)))?,
+            run(alloc, &given(4, (1 << bit, kept)))?,
             Seen::Right,
             "CR4 {bit}"
+        );
+    }
+    Ok(())
+}
+
+/// CR4, what it is given, and what is asked: all translations leave the set where PSE changes, and else none.
+const SWITCHES: [(u32, u32, SysEffect); 4] = [
+    (0, 0, SysEffect::Next),
+    (0, 0x10, SysEffect::DropAll),
+    (0x10, 0x10, SysEffect::Next),
+    (0x10, 0, SysEffect::DropAll),
+];
+
+fn switched(cr4: u32, v: u32, effect: SysEffect) -> Case {
+    let cpu = with_control(with(cpu_at(0), 3, v), 4, cr4);
+    let mut case = refused(cpu, NONE, to(4), effect);
+    case.then = with_control(past(cpu, 3), 4, v);
+    case
+}
+
+#[test]
+fn a_change_of_pse_drops_all(rt: HostRuntime) -> Result<(), Fail> {
+    let alloc = rt.alloc();
+    for row in &SWITCHES {
+        let (cr4, v, effect) = *row;
+        assert_eq!(rt;
+            run(alloc, &switched(cr4, v, effect))?,
+            Seen::Right,
+            "{row:?}"
         );
     }
     Ok(())

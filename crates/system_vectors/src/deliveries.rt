@@ -130,7 +130,8 @@ const REFUSED: [Row; 48] = [
 #[test]
 fn deliveries_meet_their_tests(rt: HostRuntime) -> Result<(), Fail> {
     let alloc = rt.alloc();
-    for (cpl, but) in REFUSED {
+    for row in &REFUSED {
+        let (cpl, but) = *row;
         for kind in [Kind::Raised, Kind::External] {
             let case = changed(refused(cpl, kind, None, FAILED), but);
             assert_eq!(rt; run(alloc, &case)?, Seen::Right, "{cpl} {but:?}");
@@ -218,8 +219,8 @@ fn soft(row: Soft) -> Case {
 #[test]
 fn software_events_are_tested_by_the_gates_level(rt: HostRuntime) -> Result<(), Fail> {
     let alloc = rt.alloc();
-    for row in SOFT {
-        assert_eq!(rt; run(alloc, &soft(row))?, Seen::Right, "{row:?}");
+    for row in &SOFT {
+        assert_eq!(rt; run(alloc, &soft(*row))?, Seen::Right, "{row:?}");
     }
     Ok(())
 }
@@ -239,7 +240,8 @@ const TAKEN: [Row; 8] = [
 #[test]
 fn deliveries_need_no_more(rt: HostRuntime) -> Result<(), Fail> {
     let alloc = rt.alloc();
-    for (cpl, but) in TAKEN {
+    for row in &TAKEN {
+        let (cpl, but) = *row;
         let case = taken(
             changed(refused(cpl, Kind::External, None, FAILED), but),
             0x0000_0002,
@@ -278,11 +280,11 @@ fn entering(row: Entry, cpl: u8, code: Option<u32>) -> Case {
 #[test]
 fn frames_are_pushed(rt: HostRuntime) -> Result<(), Fail> {
     let alloc = rt.alloc();
-    for row in FLAGS {
+    for row in &FLAGS {
         for cpl in [0u8, 3] {
             for code in [None, Some(0x5A5A_0001)] {
                 assert_eq!(rt;
-                    run(alloc, &entering(row, cpl, code))?,
+                    run(alloc, &entering(*row, cpl, code))?,
                     Seen::Right,
                     "{row:?} {cpl} {code:?}"
                 );
@@ -319,8 +321,8 @@ fn marking(row: Marks) -> Case {
 #[test]
 fn accessed_bits_are_written(rt: HostRuntime) -> Result<(), Fail> {
     let alloc = rt.alloc();
-    for row in MARKS {
-        assert_eq!(rt; run(alloc, &marking(row))?, Seen::Right, "{row:?}");
+    for row in &MARKS {
+        assert_eq!(rt; run(alloc, &marking(*row))?, Seen::Right, "{row:?}");
     }
     Ok(())
 }
@@ -360,8 +362,8 @@ fn back(row: Round) -> Case {
 #[test]
 fn a_return_gives_the_processor_back(rt: HostRuntime) -> Result<(), Fail> {
     let alloc = rt.alloc();
-    for row in ROUNDS {
-        assert_eq!(rt; run(alloc, &back(row))?, Seen::Right, "{row:?}");
+    for row in &ROUNDS {
+        assert_eq!(rt; run(alloc, &back(*row))?, Seen::Right, "{row:?}");
     }
     Ok(())
 }

@@ -63,9 +63,9 @@ fn set(row: Row) -> Case {
 #[test]
 fn the_interrupt_flag_is_set_by_level(rt: HostRuntime) -> Result<(), Fail> {
     let alloc = rt.alloc();
-    for row in ROWS {
-        assert_eq!(rt; run(alloc, &cleared(row))?, Seen::Right, "CLI {row:?}");
-        assert_eq!(rt; run(alloc, &set(row))?, Seen::Right, "STI {row:?}");
+    for row in &ROWS {
+        assert_eq!(rt; run(alloc, &cleared(*row))?, Seen::Right, "CLI {row:?}");
+        assert_eq!(rt; run(alloc, &set(*row))?, Seen::Right, "STI {row:?}");
     }
     Ok(())
 }

@@ -314,15 +314,15 @@ fn task_loaded() -> Case {
 #[test]
 fn data_segments_meet_their_tests(rt: HostRuntime) -> Result<(), Fail> {
     let alloc = rt.alloc();
-    for row in DATA {
+    for row in &DATA {
         for place in [0usize, 3] {
             assert_eq!(rt;
-                run(alloc, &moved(place, row))?,
+                run(alloc, &moved(place, *row))?,
                 Seen::Right,
                 "MOV {place} {row:?}"
             );
             assert_eq!(rt;
-                run(alloc, &popped(place, row))?,
+                run(alloc, &popped(place, *row))?,
                 Seen::Right,
                 "POP {place} {row:?}"
             );
@@ -334,9 +334,9 @@ fn data_segments_meet_their_tests(rt: HostRuntime) -> Result<(), Fail> {
 #[test]
 fn stacks_meet_their_tests(rt: HostRuntime) -> Result<(), Fail> {
     let alloc = rt.alloc();
-    for row in STACK {
-        assert_eq!(rt; run(alloc, &moved(2, row))?, Seen::Right, "MOV {row:?}");
-        assert_eq!(rt; run(alloc, &popped(2, row))?, Seen::Right, "POP {row:?}");
+    for row in &STACK {
+        assert_eq!(rt; run(alloc, &moved(2, *row))?, Seen::Right, "MOV {row:?}");
+        assert_eq!(rt; run(alloc, &popped(2, *row))?, Seen::Right, "POP {row:?}");
     }
     Ok(())
 }
@@ -344,8 +344,8 @@ fn stacks_meet_their_tests(rt: HostRuntime) -> Result<(), Fail> {
 #[test]
 fn far_jumps_meet_their_tests(rt: HostRuntime) -> Result<(), Fail> {
     let alloc = rt.alloc();
-    for row in JUMP {
-        assert_eq!(rt; run(alloc, &jumped(row))?, Seen::Right, "{row:?}");
+    for row in &JUMP {
+        assert_eq!(rt; run(alloc, &jumped(*row))?, Seen::Right, "{row:?}");
     }
     Ok(())
 }
@@ -353,8 +353,8 @@ fn far_jumps_meet_their_tests(rt: HostRuntime) -> Result<(), Fail> {
 #[test]
 fn tasks_meet_their_tests(rt: HostRuntime) -> Result<(), Fail> {
     let alloc = rt.alloc();
-    for row in TASKS {
-        assert_eq!(rt; run(alloc, &task_refused(row))?, Seen::Right, "{row:?}");
+    for row in &TASKS {
+        assert_eq!(rt; run(alloc, &task_refused(*row))?, Seen::Right, "{row:?}");
     }
     assert_eq!(rt; run(alloc, &task_loaded())?, Seen::Right);
     Ok(())
@@ -432,8 +432,8 @@ fn reached(row: Reach) -> Case {
 #[test]
 fn descriptors_are_reached_by_the_supervisor(rt: HostRuntime) -> Result<(), Fail> {
     let alloc = rt.alloc();
-    for row in REACHES {
-        assert_eq!(rt; run(alloc, &reached(row))?, Seen::Right, "{row:?}");
+    for row in &REACHES {
+        assert_eq!(rt; run(alloc, &reached(*row))?, Seen::Right, "{row:?}");
     }
     Ok(())
 }

@@ -80,10 +80,10 @@ fn pushed(row: Row) -> Case {
 #[test]
 fn selectors_are_told(rt: HostRuntime) -> Result<(), Fail> {
     let alloc = rt.alloc();
-    for row in ROWS {
-        assert_eq!(rt; run(alloc, &to_register(row))?, Seen::Right, "{row:?}");
-        assert_eq!(rt; run(alloc, &to_memory(row))?, Seen::Right, "{row:?}");
-        assert_eq!(rt; run(alloc, &pushed(row))?, Seen::Right, "{row:?}");
+    for row in &ROWS {
+        assert_eq!(rt; run(alloc, &to_register(*row))?, Seen::Right, "{row:?}");
+        assert_eq!(rt; run(alloc, &to_memory(*row))?, Seen::Right, "{row:?}");
+        assert_eq!(rt; run(alloc, &pushed(*row))?, Seen::Right, "{row:?}");
     }
     Ok(())
 }

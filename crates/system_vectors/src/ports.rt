@@ -113,10 +113,10 @@ fn asked(row: Row, level: Level) -> Case {
 #[test]
 fn ports_are_reached_by_level(rt: HostRuntime) -> Result<(), Fail> {
     let alloc = rt.alloc();
-    for row in ROWS {
-        for level in LEVELS {
+    for row in &ROWS {
+        for level in &LEVELS {
             assert_eq!(rt;
-                run(alloc, &asked(row, level))?,
+                run(alloc, &asked(*row, *level))?,
                 Seen::Right,
                 "{row:?} {level:?}"
             );

@@ -132,8 +132,8 @@ fn tested(row: Refused) -> Case {
 #[test]
 fn returns_meet_their_tests(rt: HostRuntime) -> Result<(), Fail> {
     let alloc = rt.alloc();
-    for row in TESTS {
-        assert_eq!(rt; run(alloc, &tested(row))?, Seen::Right, "{row:?}");
+    for row in &TESTS {
+        assert_eq!(rt; run(alloc, &tested(*row))?, Seen::Right, "{row:?}");
     }
     Ok(())
 }
@@ -165,8 +165,8 @@ fn gone(row: Goes) -> Case {
 #[test]
 fn returns_load_code_and_stack(rt: HostRuntime) -> Result<(), Fail> {
     let alloc = rt.alloc();
-    for row in GOES {
-        assert_eq!(rt; run(alloc, &gone(row))?, Seen::Right, "{row:?}");
+    for row in &GOES {
+        assert_eq!(rt; run(alloc, &gone(*row))?, Seen::Right, "{row:?}");
     }
     Ok(())
 }
@@ -227,14 +227,14 @@ fn taken_outwards() -> Case {
 #[test]
 fn flags_are_taken_by_level(rt: HostRuntime) -> Result<(), Fail> {
     let alloc = rt.alloc();
-    for row in FLAGS {
+    for row in &FLAGS {
         assert_eq!(rt;
-            run(alloc, &taken_by_iret(row))?,
+            run(alloc, &taken_by_iret(*row))?,
             Seen::Right,
             "IRET {row:?}"
         );
         assert_eq!(rt;
-            run(alloc, &taken_by_popf(row))?,
+            run(alloc, &taken_by_popf(*row))?,
             Seen::Right,
             "POPF {row:?}"
         );
@@ -254,6 +254,16 @@ const IMAGES: [u32; 7] = [
     0x0020_0002,
 ];
 
+/// The level, the selector of an IRET, 0 for POPF, and the instruction.
+const POPPING: [(u8, u16, [u8; 8]); 6] = [
+    (0, 0x08, IRET),
+    (3, 0x1B, IRET),
+    (0, 0x1B, IRET),
+    (0, 0x3B, IRET),
+    (0, 0, POPF),
+    (3, 0, POPF),
+];
+
 fn stopped(cpl: u8, code: u16, image: u32, bytes: [u8; 8]) -> Case {
     let before = if code == 0 {
         let mut words = NONE;
@@ -268,17 +278,11 @@ fn stopped(cpl: u8, code: u16, image: u32, bytes: [u8; 8]) -> Case {
 #[test]
 fn images_of_other_flags_stop(rt: HostRuntime) -> Result<(), Fail> {
     let alloc = rt.alloc();
-    for image in IMAGES {
-        for (cpl, code, bytes) in [
-            (0, 0x08, IRET),
-            (3, 0x1B, IRET),
-            (0, 0x1B, IRET),
-            (0, 0x3B, IRET),
-            (0, 0, POPF),
-            (3, 0, POPF),
-        ] {
+    for image in &IMAGES {
+        for row in &POPPING {
+            let (cpl, code, bytes) = *row;
             assert_eq!(rt;
-                run(alloc, &stopped(cpl, code, image, bytes))?,
+                run(alloc, &stopped(cpl, code, *image, bytes))?,
                 Seen::Right,
                 "{cpl} {code} {image}"
             );
@@ -434,8 +438,8 @@ fn reached(row: Reach) -> Case {
 #[test]
 fn returns_read_with_the_rights_of_their_level(rt: HostRuntime) -> Result<(), Fail> {
     let alloc = rt.alloc();
-    for row in REACHES {
-        assert_eq!(rt; run(alloc, &reached(row))?, Seen::Right, "{row:?}");
+    for row in &REACHES {
+        assert_eq!(rt; run(alloc, &reached(*row))?, Seen::Right, "{row:?}");
     }
     // a return at the same level reads no more than twelve
     let cpu = with(cpu_at(0), 4, 0xEFF4);

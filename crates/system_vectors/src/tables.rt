@@ -107,8 +107,8 @@ fn reached(row: Reach) -> Case {
 #[test]
 fn tables_are_read_in_one_range(rt: HostRuntime) -> Result<(), Fail> {
     let alloc = rt.alloc();
-    for row in REACHES {
-        assert_eq!(rt; run(alloc, &reached(row))?, Seen::Right, "{row:?}");
+    for row in &REACHES {
+        assert_eq!(rt; run(alloc, &reached(*row))?, Seen::Right, "{row:?}");
     }
     Ok(())
 }

@@ -137,12 +137,13 @@ fn put_tables(ram: &mut Ram) {
         put32(ram, 0x2000 + 4 * page, page * 0x1000 + rights);
     }
     let mut at = GDT + 8;
-    for byte in FLAT {
+    for byte in &FLAT {
         put32(ram, at, 0x0000_FFFF);
-        put32(ram, at.wrapping_add(4), 0x00CF_0000 | byte << 8);
+        put32(ram, at.wrapping_add(4), 0x00CF_0000 | *byte << 8);
         at = at.wrapping_add(8);
     }
-    for (low, high) in OTHER {
+    for row in &OTHER {
+        let (low, high) = *row;
         put32(ram, at, low);
         put32(ram, at.wrapping_add(4), high);
         at = at.wrapping_add(8);

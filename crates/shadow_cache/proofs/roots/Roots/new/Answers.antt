@@ -1,7 +1,9 @@
-use Rattle.std.proofs.Common.{List, [], ◌∷◌, sym, ap, subst}
+use Rattle.std.proofs.Common.{ℕ, List, Bool, [], ◌∷◌, get_or, false, Some, sym, ap, ◌∙◌, subst}
 use Rattle.std.proofs.lemmas.Grind.{merely}
 use Rattle.frame_pool.specs.Held.{Owns, Moves}
+use Rattle.shadow_cache.specs.Asides.{asides_of}
 use Rattle.shadow_cache.specs.declared.pair.Pair.{Pair}
+use Rattle.shadow_cache.proofs.Beside.{no-reads}
 use Rattle.shadow_cache.proofs.Noting.{alone-frames, fresh-roots}
 use Rattle.shadow_cache.proofs.CallSteps.{agree-start}
 use Rattle.shadow_cache.proofs.roots.Roots.new.Goals as goal
@@ -29,3 +31,12 @@ pub returns-clause-told : goal.returns-clause-told
 returns-clause-told c =
     let s = returns-clause-starts c in
     agree-start c.args.cr3 s.pair (c.new-present.result ∷ c.in_ok-others.others) c.new-present.new.ram s.alone s.fresh
+
+pub returns-clause-value : goal.returns-clause-value
+returns-clause-value c = ap (λ (v : ℕ). Some v) c.new-present.ensures.cr3
+
+pub returns-clause-unread : goal.returns-clause-unread
+returns-clause-unread c = λ f. ap (λ (bits : List Bool). get_or bits f false) c.new-present.ensures.tables ∙ no-reads f
+
+pub returns-clause-alone : goal.returns-clause-alone
+returns-clause-alone c = ap (λ (ps : List Pair). asides_of ps c.new-present.new.ram) c.in_ok-others.ensures
