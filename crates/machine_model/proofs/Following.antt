@@ -22,7 +22,7 @@ use Rattle.paging.specs.declared.entry.Touch.TheVariants.{Ready, Fault, Stop}
 use Rattle.paging.specs.Fresh.{fresh, tables_read, grants, flagged}
 use Rattle.paging.specs.Space.{Mode, Span, Earlier, Space, width, place, with_byte, written, saved, frames_of}
 use Rattle.paging.specs.Uses.{tables_of, Decision, is_barred, window_stop, walks_text, marks_own, dirtied, by_walk, decided, settled, usable, by_entry, page_uses, go_on, and_then, unready, made_ready, second_page, by_pages, by_window, uses, fetches}
-use Rattle.machine_model.specs.Reloading.{MemoryFollows, IsFoundBy, HoldsOf, AreApart, Follows, FollowsItself, FollowsOn, UsesFollow, FetchesFollow}
+use Rattle.machine_model.specs.Reloading.{MemoryFollows, IsFoundBy, HoldsOf, AreApart, Follows, FollowsItself, FollowsOn, FoundOver, AllFoundOver, UsesFollow, FetchesFollow}
 use Rattle.machine_model.proofs.MoreFlags.{eq_told, not_eq, flags_by, long_with, byte_other, memory_same, memory_on, flagged_follows, flagged_other}
 use Rattle.machine_model.proofs.FoundStill.{found_still, found_fresh, fresh_even, words_noted}
 
@@ -121,6 +121,28 @@ follows_on s t u h k = record {
         ]
       ];
 }
+
+not_both : (b : Bool) → b ≡ true → b ≡ false → ⊥
+not_both b e f = cc
+
+pub found_over : FoundOver
+found_over s t cr3 pse tables page e k room none small found =
+    found_still s.ram t.ram s.frames cr3 pse tables page e room small
+    (λ at even within held. k.memory.words at even within (λ c. not_both (tables (at / 4096)) held (none (at / 4096) c))) found
+
+-- the same, in the words of the later memory
+found_later : (s t : Space) (tables : ℕ → Bool) (page : ℕ) (e : Entry) → Follows s t → IsFoundBy t.ram s.frames s.cr3 s.pse tables page e → IsFoundBy t.ram t.frames t.cr3 t.pse tables page e
+found_later s t tables page e k found =
+    subst (λ p. IsFoundBy t.ram t.frames t.cr3 p tables page e) (sym k.pse)
+    (subst (λ c. IsFoundBy t.ram t.frames c s.pse tables page e) (sym k.cr3)
+    (subst (λ n. IsFoundBy t.ram n s.cr3 s.pse tables page e) (sym k.frames) found))
+
+pub all_found_over : AllFoundOver
+all_found_over s t tables k room none holds all page small e is =
+    elim (k.each room (λ frame c d. not_both (tables frame) (holds frame c) (none frame d)) tables holds page small e is) [
+      | inl old ↦ found_later s t tables page e k (found_over s t s.cr3 s.pse tables page e k room none small (all page small e old))
+      | inr found ↦ found
+    ]
 
 -- what isn't memory changes nothing of it
 pub aside : (s : Space) (mode : Mode) (pages : ℕ) (went : List ℕ) (ready : Span) (earlier : Earlier) → ((page : ℕ) → Contains s.went page → Contains went page)

@@ -85,6 +85,24 @@ FollowsItself = (s : Space) → Follows s s
 abbrev pub FollowsOn : Type 0
 FollowsOn = (s t u : Space) → Follows s t → Follows t u → Follows s u
 
+-- Over memory that follows, where none of the frames of which the test holds was written: what a walk finds by words in
+-- them is found still, whatever value of CR3 it begins from.
+abbrev pub FoundOver : Type 0
+FoundOver =
+    (s t : Space) (cr3 : ℕ) (pse : Bool) (tables : ℕ → Bool) (page : ℕ) (e : Entry) → Follows s t → 4096 * s.frames ≤ length s.ram → AreNone tables t.wrote → page < 2 ^ 20
+    → IsFoundBy s.ram s.frames cr3 pse tables page e → IsFoundBy t.ram s.frames cr3 pse tables page e
+
+-- a walk finds each translation of the set by words in frames of which the test holds
+abbrev pub AreFoundBy : Space → (ℕ → Bool) → Type 0
+AreFoundBy s tables = (page : ℕ) → page < 2 ^ 20 → ForSome (get s.set page) (λ e. IsFoundBy s.ram s.frames s.cr3 s.pse tables page e)
+
+-- And where the test holds of all frames that the step notes as tables, a walk finds each translation of the set, if it
+-- found each before.
+abbrev pub AllFoundOver : Type 0
+AllFoundOver =
+    (s t : Space) (tables : ℕ → Bool) → Follows s t → 4096 * s.frames ≤ length s.ram → AreNone tables t.wrote → HoldsOf tables t.tables
+    → AreFoundBy s tables → AreFoundBy t tables
+
 -- each translation of a range leaves memory that follows, ready or not, and each fetch
 abbrev pub UsesFollow : Type 0
 UsesFollow = (s : Space) (at len : ℕ) (access : Access) → Follows s (uses s at len access).1

@@ -1,13 +1,20 @@
 //! Laws of what steps leave of the words that walks read: for translations that are used again when the value of CR3 that
 //! they were found by comes back.
 
-ghost use Rattle.machine_model.specs.Reloading.{FoundStays, FollowsItself, FollowsOn, UsesFollow, FetchesFollow};
+ghost use Rattle.machine_model.specs.Reloading.{FoundStays, FollowsItself, FollowsOn, FoundOver, AllFoundOver, UsesFollow, FetchesFollow};
 ghost use Rattle.machine_model.specs.Following.{FetchedFollows, RangesFollow, InstructedFollows, DeliveredFollows, StepsFollow, StepsKeepMemory, OthersStay, WordsStayFound, SetsAreFound, FoundAreCacheable};
 
 /// Memory within a step follows itself, and memory that follows goes on following.
 pub fn following_goes_on()
     ensures itself { FollowsItself }
     ensures on { FollowsOn }
+{}
+
+/// Over memory that follows, what walks find by words in frames that aren't written they find still, and so each
+/// translation of the set.
+pub fn found_follows()
+    ensures one { FoundOver }
+    ensures all { AllFoundOver }
 {}
 
 /// Each translation of a range, ready or not, and each fetch, leaves memory that follows.
