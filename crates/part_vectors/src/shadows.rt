@@ -147,6 +147,15 @@ fn passes(kept: Option<Plain>, side: Side, write: bool) -> bool {
     }
 }
 
+// One view lets the same pass.
+fn is_so(shadow: &Shadow, ram: &Ram, page: u32, side: Side, kept: Option<Plain>) -> bool
+    requires shadow { IsShadow shadow.now ram.now }
+    requires page { page < 2 ^ 20 }
+{
+    shadow.adequate(ram, side, page, false) == passes(kept, side, false)
+        && shadow.adequate(ram, side, page, true) == passes(kept, side, true)
+}
+
 fn agrees(shadow: &Shadow, ram: &Ram, page: u32, kept: Option<Plain>) -> bool
     requires shadow { IsShadow shadow.now ram.now }
     requires page { page < 2 ^ 20 }
@@ -155,11 +164,9 @@ fn agrees(shadow: &Shadow, ram: &Ram, page: u32, kept: Option<Plain>) -> bool
         None => None,
         Some(kept) => Some(kept.entry),
     };
-    let reads = [Side::Kernel, Side::User].map(|side| shadow.adequate(ram, side, page, false)
-        == passes(kept, side, false));
-    let writes = [Side::Kernel, Side::User].map(|side| shadow.adequate(ram, side, page, true)
-        == passes(kept, side, true));
-    shadow.kept(ram, page) == entry && reads == [true, true] && writes == [true, true]
+    shadow.kept(ram, page) == entry
+        && is_so(shadow, ram, page, Side::Kernel, kept)
+        && is_so(shadow, ram, page, Side::User, kept)
 }
 
 fn agree(shadow: &Shadow, ram: &Ram, plain: &[Option<Plain>; 8]) -> bool

@@ -233,11 +233,12 @@ fn is_symbol(symbol: &Symbol, row: &Named) -> bool {
 }
 
 fn are_symbols(symbols: &[Symbol], rows: &[Named]) -> bool {
+    for (symbol, row) in symbols.iter().zip(rows.iter()) {
+        if !is_symbol(symbol, row) {
+            return false;
+        }
+    }
     symbols.len() == rows.len()
-        && symbols
-            .iter()
-            .zip(rows.iter())
-            .all(|(symbol, row)| is_symbol(symbol, row))
 }
 
 /// Whether a source has these symbols and relocations.
