@@ -1,25 +1,22 @@
 -- A text is refused in one line for one cause, and one that is refused has no reading.
-use Rattle.std.proofs.Common.{◌≡◌, ℕ, ◌+◌, ◌≤◌, Bool, true, false, List, [], ◌∷◌, ◌++◌, length, Option, Some, None, Result, Ok, Err, refl, sym, ap, subst, ◌∙◌, ◌⊎◌, inl, inr, append_assoc}
+use Rattle.std.proofs.Common.{◌≡◌, ℕ, ◌+◌, List, [], ◌∷◌, ◌++◌, Option, Some, None, Result, Ok, Err, refl, sym, ap, subst, ◌∙◌, ◌⊎◌, inl, inr, append_assoc}
 use Rattle.std.proofs.lemmas.List.{append-nil}
 use Rattle.asm_lex.specs.declared.fault.SourceCause.{SourceCause}
-use Rattle.asm_lex.specs.declared.fault.SourceCause.TheVariants as cause
 use Rattle.asm_lex.specs.declared.fault.SourceFault.{SourceFault}
 use Rattle.asm_lex.specs.declared.fault.SourceFault.TheVariants as fault
 use Rattle.asm_lex.specs.Words.{Word}
-use Rattle.asm_lex.specs.Source.{LexedSource}
 use Rattle.asm_argument.specs.declared.symbol.Symbol.{Symbol}
-use Rattle.asm_argument.specs.declared.symbol.Symbol.TheVariants as symbol
 use Rattle.asm_source.specs.declared.tree.SourceItem.{SourceItem}
 use Rattle.asm_parse.specs.declared.state.State.{State}
 use Rattle.asm_parse.specs.declared.state.State.TheVariants as state
 use Rattle.asm_parse.specs.ScopeView.{ScopeView}
 use Rattle.asm_parse.specs.Scope.{fresh}
 use Rattle.asm_argument.specs.Symbols.{symbol_of}
-use Rattle.asm_parse.specs.Statement.{doom, step, fault_line}
-use Rattle.asm_parse.specs.Reading.{Fault, placed, next_word}
+use Rattle.asm_parse.specs.Statement.{doom, fault_line}
+use Rattle.asm_parse.specs.Reading.{placed, next_word}
 use Rattle.asm_parse.specs.Running.{◌>>=◌, read, Parses, HasReading}
 use Rattle.asm_parse.specs.Statements.{symbols, Statements}
-use Rattle.asm_parse.specs.Refusals.{Ending, Worded, IsBeginning, IsNoBeginning, Place, Reaches, percent_cause, first_name_cause, refused_cause, byte_cause, Refused, RefusesAs}
+use Rattle.asm_parse.specs.Refusals.{Ending, Worded, IsBeginning, IsNoBeginning, Place, Reaches, refused_cause, byte_cause, Refused, RefusesAs}
 use Rattle.asm_parse.proofs.Words.{read_words}
 use Rattle.asm_parse.proofs.Scopes.{GoodIn, fresh_good}
 use Rattle.asm_parse.proofs.Quiet.{Any, any_next}

@@ -1,10 +1,9 @@
 -- Where symbols stand in arguments the reader is in the arguments, with what has been read of them so.
-use Rattle.std.proofs.Common.{◌≡◌, ℕ, ◌+◌, Bool, true, false, cond, List, [], ◌∷◌, ◌++◌, length, Option, Some, None, Result, Ok, Err, refl, sym, ap, subst, ◌∙◌, ◌⊎◌, inl, inr, append_assoc}
+use Rattle.std.proofs.Common.{◌≡◌, ℕ, ◌+◌, Bool, true, false, List, [], ◌∷◌, ◌++◌, length, Option, Some, None, Result, Ok, Err, refl, sym, ap, subst, ◌∙◌, ◌⊎◌, inl, inr, append_assoc}
 use Rattle.std.specs.List.{list_all}
 use Rattle.std.proofs.lemmas.List.{append-nil}
 use Rattle.asm_lex.specs.declared.fault.SourceCause.{SourceCause}
 use Rattle.asm_lex.specs.declared.fault.SourceCause.TheVariants as cause
-use Rattle.asm_lex.specs.Words.{Word}
 use Rattle.asm_argument.specs.declared.symbol.Symbol.{Symbol}
 use Rattle.asm_argument.specs.declared.symbol.Symbol.TheVariants as symbol
 use Rattle.asm_argument.specs.declared.operand.Shape.{Shape}
@@ -12,17 +11,12 @@ use Rattle.asm_argument.specs.declared.operand.Shape.TheVariants as shape
 use Rattle.asm_argument.specs.declared.operand.Partial.{Partial}
 use Rattle.asm_argument.specs.declared.operand.Partial.TheVariants as partial
 use Rattle.asm_source.specs.declared.tree.Argument.{Argument}
-use Rattle.asm_source.specs.declared.tree.Form.{Form}
 use Rattle.asm_parse.specs.declared.directive.Head.{Head}
-use Rattle.asm_parse.specs.declared.directive.Head.TheVariants as head
-use Rattle.asm_parse.specs.declared.directive.Directive.{Directive}
-use Rattle.asm_parse.specs.declared.directive.Directive.TheVariants as kind
 use Rattle.asm_parse.specs.declared.state.Open.{Open}
 use Rattle.asm_parse.specs.declared.state.State.{State}
 use Rattle.asm_parse.specs.declared.state.State.TheVariants as state
 use Rattle.asm_parse.specs.ScopeView.{ScopeView}
-use Rattle.asm_argument.specs.Operand.{is_operand, begun, next_symbol, finished, is_unbegun, name_in}
-use Rattle.asm_argument.specs.Grammar.{IsForm}
+use Rattle.asm_argument.specs.Operand.{begun, next_symbol, finished, is_unbegun}
 use Rattle.asm_parse.specs.Directives.{shape_at, defines, is_instruction}
 use Rattle.asm_parse.specs.Statement.{noting, after_noting, with_name, argument_step, nothing_yet}
 use Rattle.asm_parse.specs.Statements.{IsSeen, Sees, IsArgument, Separated, is_inner, Statement}
@@ -72,7 +66,7 @@ separated_inner (Separated.more {ss} {ts} sep next) = all_more ss (ts ++ symbol.
 
 opens_inner : {o : Option Shape} {ss : List Symbol} → Opens o ss → list_all is_inner ss ≡ true
 opens_inner Opens.nothing = refl
-opens_inner (Opens.some {sh} {ss} more_ a is) = all_front ss more_ (argument_inner is)
+opens_inner (Opens.some {sh} {ss} later a is) = all_front ss later (argument_inner is)
 
 pub body_inner : {h : Head} {sc sc2 : ScopeView} {front arg : List Symbol} {done : List Argument} {o : Option Shape} → Separated h sc front done sc2 → Opens o arg → list_all is_inner (front ++ arg) ≡ true
 body_inner {front} {arg} sep opens = all_more front arg (separated_inner sep) (opens_inner opens)
@@ -107,7 +101,7 @@ separated_colon : {h : Head} {sc sc2 : ScopeView} {ss : List Symbol} {done : Lis
 separated_colon Separated.none c = c
 separated_colon (Separated.more {ss} {ts} sep next) c = elim (colon_front ss (ts ++ symbol.Comma ∷ []) c) [
   | inl first ↦ separated_colon sep first
-  | inr (none, later) ↦ elim (colon_front ts (symbol.Comma ∷ []) later) [ | inl first ↦ argument_colon next.is first | inr (none_so, comma) ↦ comma ]
+  | inr (none, later) ↦ elim (colon_front ts (symbol.Comma ∷ []) later) [ inl first ↦ argument_colon next.is first | inr (none_so, comma) ↦ comma ]
 ]
 
 pub body_colon : {h : Head} {sc sc2 : ScopeView} {front arg : List Symbol} {done : List Argument} {o : Option Shape} → Separated h sc front done sc2 → Opens o arg → IsColon (front ++ arg) → ⊥
@@ -118,7 +112,7 @@ body_colon {front} {arg} sep opens c = elim (colon_front front arg c) [
   where
     of_arg : {o : Option Shape} {ss : List Symbol} → Opens o ss → IsColon ss → ⊥
     of_arg Opens.nothing c = c
-    of_arg (Opens.some {sh} {ss} more_ a is) c = argument_colon is (more_colon ss more_ c)
+    of_arg (Opens.some {sh} {ss} later a is) c = argument_colon is (more_colon ss later c)
 
 -- ---- the reader in arguments
 
@@ -247,16 +241,16 @@ module _ (sc0 : ScopeView) (line : ℕ) (h : Head) (done : List Argument) (behin
 
 -- what has been read at the end of some symbols of the argument
 record Reached (sc0 : ScopeView) (line : ℕ) (h : Head) (done : List Argument) (behind : ScopeView) (arg : List Symbol) (y : Pair) : Type 0 where
-  open_ : Open
-  is : y.1 ≡ state.Arguments open_
-  within : Within sc0 line h done behind arg y.0 open_
+  reader : Open
+  is : y.1 ≡ state.Arguments reader
+  within : Within sc0 line h done behind arg y.0 reader
 
 args_run : (sc0 : ScopeView) (line : ℕ) (h : Head) (done : List Argument) (behind : ScopeView) (sh : Shape) (rest arg : List Symbol) (sc : ScopeView) (o : Open) (q : Partial) (fin : Pair) → Within sc0 line h done behind arg sc o → shape_at o.head (length o.done) ≡ Some sh
     → operand_run sh o.so_far rest ≡ ok q → inners sc (state.Arguments o) rest ≡ Ok fin → Reached sc0 line h done behind (arg ++ rest) fin
 args_run sc0 line h done behind sh [] arg sc o q fin w may run k =
     let e : (sc, state.Arguments o) ≡ fin = same_pair (sc, state.Arguments o) fin k in
     record {
-      open_ = o;
+      reader = o;
       is = sym (ap (λ (x : Pair). x.1) e);
       within = subst (λ (x : ScopeView). Within sc0 line h done behind (arg ++ []) x o) (ap (λ (x : Pair). x.0) e) (subst (λ (x : List Symbol). Within sc0 line h done behind x sc o) (sym (append-nil arg)) w);
     }
@@ -301,8 +295,8 @@ module _ (sc0 : ScopeView) (line : ℕ) (h : Head) (lead front : List Symbol) (d
       ends = leads_end line leads;
       same_line = refl;
       separated = sep;
-      spelled = elim either [ | inl e ↦ inl (e, refl) | inr (sh, may, e) ↦ inr (sh, may, subst (λ (x : Partial). Spelled sh x []) (sym e) (begun_spelled sh)) ];
-      solid = λ u e. elim either [ | inl f ↦ nothing_solid (ap is_unbegun (sym f) ∙ u) | inr (sh, may, f) ↦ begun_solid sh (ap is_unbegun (sym f) ∙ u) ];
+      spelled = elim either [ inl e ↦ inl (e, refl) | inr (sh, may, e) ↦ inr (sh, may, subst (λ (x : Partial). Spelled sh x []) (sym e) (begun_spelled sh)) ];
+      solid = λ u e. elim either [ inl f ↦ nothing_solid (ap is_unbegun (sym f) ∙ u) | inr (sh, may, f) ↦ begun_solid sh (ap is_unbegun (sym f) ∙ u) ];
       starred = starred;
       sees = subst (λ (x : Option (List ℕ)). Sees behind (defines h (length done)) x behind) (sym (unnamed either)) refl;
       whole = refl;
@@ -318,42 +312,42 @@ module _ (sc0 : ScopeView) (line : ℕ) (h : Head) (lead front : List Symbol) (d
       unnamed (inr (sh, may, e)) = ap named_in e ∙ begun_unnamed sh
 
   -- an argument of this shape, a star behind which is read already or stands first
-  shaped : (sh : Shape) → shape_at h (length done) ≡ Some sh → (ss more_ : List Symbol) (a : Argument) (p : Partial) (fin : Pair) → p ≡ begun sh → (xs : List Symbol) → xs ≡ ss ++ more_ → IsArgument sh xs a
+  shaped : (sh : Shape) → shape_at h (length done) ≡ Some sh → (ss later : List Symbol) (a : Argument) (p : Partial) (fin : Pair) → p ≡ begun sh → (xs : List Symbol) → xs ≡ ss ++ later → IsArgument sh xs a
       → inners behind (state.Arguments (open_at line h done false p)) ss ≡ Ok fin → Reached sc0 line h done behind ss fin
-  shaped sh may ss more_ a p fin is xs e (IsArgument.plain {f} form) k =
+  shaped sh may ss later a p fin is xs e (IsArgument.plain {f} form) k =
       let r = form_reads sh xs f form in
-      let run : operand_run sh p (ss ++ more_) ≡ ok r.last = ap (λ (x : Partial). operand_run sh x (ss ++ more_)) is ∙ (ap (operand_run sh (begun sh)) (sym e) ∙ r.runs) in
-      let front_ = run_prefix sh ss more_ p r.last run in
-      args_run sc0 line h done behind sh ss [] behind (open_at line h done false p) front_.0 fin (fresh_within p (inr (sh, may, is)) false (λ none_so. absurd cc)) may front_.1 k
-  shaped sh may [] more_ a p fin is xs e (IsArgument.starred operand form) k =
+      let run : operand_run sh p (ss ++ later) ≡ ok r.last = ap (λ (x : Partial). operand_run sh x (ss ++ later)) is ∙ (ap (operand_run sh (begun sh)) (sym e) ∙ r.runs) in
+      let front_run = run_prefix sh ss later p r.last run in
+      args_run sc0 line h done behind sh ss [] behind (open_at line h done false p) front_run.0 fin (fresh_within p (inr (sh, may, is)) false (λ none_so. absurd cc)) may front_run.1 k
+  shaped sh may [] later a p fin is xs e (IsArgument.starred operand form) k =
       let same : (behind, state.Arguments (open_at line h done false p)) ≡ fin = same_pair (behind, state.Arguments (open_at line h done false p)) fin k in
       record {
-        open_ = open_at line h done false p;
+        reader = open_at line h done false p;
         is = sym (ap (λ (x : Pair). x.1) same);
         within = subst (λ (x : ScopeView). Within sc0 line h done behind [] x (open_at line h done false p)) (ap (λ (x : Pair). x.0) same) (fresh_within p (inr (sh, may, is)) false (λ none_so. absurd cc));
       }
-  shaped sh may (s ∷ ss) more_ a p fin is xs e (IsArgument.starred {ss = rest} {f} operand form) k =
-      let head_ : symbol.Star ≡ s = cc in
-      let tail_ : rest ≡ ss ++ more_ = cc in
+  shaped sh may (s ∷ ss) later a p fin is xs e (IsArgument.starred {ss = rest} {f} operand form) k =
+      let first : symbol.Star ≡ s = cc in
+      let others : rest ≡ ss ++ later = cc in
       let r = form_reads sh rest f form in
-      let run : operand_run sh p (ss ++ more_) ≡ ok r.last = ap (λ (x : Partial). operand_run sh x (ss ++ more_)) is ∙ (ap (operand_run sh (begun sh)) (sym tail_) ∙ r.runs) in
-      let front_ = run_prefix sh ss more_ p r.last run in
+      let run : operand_run sh p (ss ++ later) ≡ ok r.last = ap (λ (x : Partial). operand_run sh x (ss ++ later)) is ∙ (ap (operand_run sh (begun sh)) (sym others) ∙ r.runs) in
+      let front_run = run_prefix sh ss later p r.last run in
       let takes : argument_step behind (open_at line h done false p) symbol.Star ≡ Ok (behind, state.Arguments (open_at line h done true p)) = rw (is, operand_begun sh operand, operand_head h (length done) sh may operand) refl in
       let k2 : inners behind (state.Arguments (open_at line h done true p)) ss ≡ Ok fin =
-      sym (ap (λ (x : Answer). elim x [ Ok y ↦ inners y.0 y.1 ss | Err c ↦ Err c ]) takes) ∙ (ap (λ (x : Symbol). inners behind (state.Arguments (open_at line h done false p)) (x ∷ ss)) head_ ∙ k) in
-      let reached = args_run sc0 line h done behind sh ss (symbol.Star ∷ []) behind (open_at line h done true p) front_.0 fin (fresh_within p (inr (sh, may, is)) true (λ _. operand_head h (length done) sh may operand)) may front_.1 k2 in
-      subst (λ (x : Symbol). Reached sc0 line h done behind (x ∷ ss) fin) head_ reached
+      sym (ap (λ (x : Answer). elim x [ Ok y ↦ inners y.0 y.1 ss | Err c ↦ Err c ]) takes) ∙ (ap (λ (x : Symbol). inners behind (state.Arguments (open_at line h done false p)) (x ∷ ss)) first ∙ k) in
+      let reached = args_run sc0 line h done behind sh ss (symbol.Star ∷ []) behind (open_at line h done true p) front_run.0 fin (fresh_within p (inr (sh, may, is)) true (λ _. operand_head h (length done) sh may operand)) may front_run.1 k2 in
+      subst (λ (x : Symbol). Reached sc0 line h done behind (x ∷ ss) fin) first reached
 
   opened : (o : Option Shape) (arg : List Symbol) → shape_at h (length done) ≡ o → Opens o arg → (p : Partial) → ((sh : Shape) → shape_at h (length done) ≡ Some sh → p ≡ begun sh) → (p ≡ partial.Nothing) ⊎ ((sh : Shape) × (shape_at h (length done) ≡ Some sh) × (p ≡ begun sh))
       → (fin : Pair) → inners behind (state.Arguments (open_at line h done false p)) arg ≡ Ok fin → Reached sc0 line h done behind arg fin
   opened o arg may Opens.nothing p begins either fin k =
       let same : (behind, state.Arguments (open_at line h done false p)) ≡ fin = same_pair (behind, state.Arguments (open_at line h done false p)) fin k in
       record {
-        open_ = open_at line h done false p;
+        reader = open_at line h done false p;
         is = sym (ap (λ (x : Pair). x.1) same);
         within = subst (λ (x : ScopeView). Within sc0 line h done behind [] x (open_at line h done false p)) (ap (λ (x : Pair). x.0) same) (fresh_within p either false (λ none_so. absurd cc));
       }
-  opened o arg may (Opens.some {sh} more_ a is) p begins either fin k = shaped sh may arg more_ a p fin (begins sh may) (arg ++ more_) refl is k
+  opened o arg may (Opens.some {sh} later a is) p begins either fin k = shaped sh may arg later a p fin (begins sh may) (arg ++ later) refl is k
 
   -- What has been read behind the lead suits the place.
   pub arguments_reached : (arg : List Symbol) → Opens (shape_at h (length done)) arg → (fin : Pair) → inners sc0 (state.Arguments (nothing_yet line h)) (front ++ arg) ≡ Ok fin → Suits sc0 (Place.argument h done behind arg) fin.0 fin.1
@@ -362,4 +356,4 @@ module _ (sc0 : ScopeView) (line : ℕ) (h : Head) (lead front : List Symbol) (d
       let f = front_runs line sep two.0 two.1 in
       let k2 : inners behind (state.Arguments (open_at line h done false f.so_far)) arg ≡ Ok fin = ap (λ (x : Pair). inners x.0 x.1 arg) (sym f.is) ∙ two.2 in
       let r = opened (shape_at h (length done)) arg refl opens f.so_far f.begins f.either fin k2 in
-      subst (λ (x : State). Suits sc0 (Place.argument h done behind arg) fin.0 x) (sym r.is) (within_suits sc0 line h done behind arg fin.0 r.open_ r.within)
+      subst (λ (x : State). Suits sc0 (Place.argument h done behind arg) fin.0 x) (sym r.is) (within_suits sc0 line h done behind arg fin.0 r.reader r.within)

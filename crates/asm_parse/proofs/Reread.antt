@@ -2,7 +2,6 @@
 use Rattle.std.proofs.Common.{◌≡◌, ℕ, ◌+◌, Bool, true, false, cond, List, [], ◌∷◌, ◌++◌, length, Option, Some, None, Result, Ok, Err, refl, sym, ap, subst, ◌∙◌, ◌⊎◌, inl, inr}
 use Rattle.std.specs.List.{list_all}
 use Rattle.asm_lex.specs.declared.fault.SourceCause.{SourceCause}
-use Rattle.asm_lex.specs.declared.fault.SourceCause.TheVariants as cause
 use Rattle.asm_lex.specs.Words.{Word}
 use Rattle.asm_argument.specs.declared.symbol.Symbol.{Symbol}
 use Rattle.asm_argument.specs.declared.symbol.Symbol.TheVariants as symbol
@@ -19,7 +18,7 @@ use Rattle.asm_argument.specs.Operand.{operand_step, is_finished, name_in}
 use Rattle.asm_argument.specs.Symbols.{symbol_of}
 use Rattle.asm_parse.specs.Directives.{shape_at, defines}
 use Rattle.asm_parse.specs.Statement.{noting, after_noting, with_name, after_step, at_shape, within, argument_of, comma_behind, ended, takes_star, argument_step, with_scope, step, next_step, strayed, is_place, fault_line, doom, skip}
-use Rattle.asm_parse.specs.Reading.{Fault, placed, is_longer, longer, ending_at, with_end, next_word}
+use Rattle.asm_parse.specs.Reading.{Fault, placed, ending_at, with_end, next_word}
 use Rattle.asm_parse.specs.Running.{◌>>=◌}
 use Rattle.asm_parse.specs.Statements.{is_inner, symbols}
 use Rattle.asm_parse.specs.Refusals.{Place}

@@ -1,11 +1,9 @@
 -- Whatever place words lead to, what is refused behind them has the cause of that place.
-use Rattle.std.proofs.Common.{◌≡◌, ℕ, ◌+◌, Bool, true, false, cond, List, [], ◌∷◌, ◌++◌, length, Option, Some, None, Result, Ok, Err, refl, sym, ap, subst, ◌∙◌, ◌⊎◌, inl, inr}
+use Rattle.std.proofs.Common.{◌≡◌, ℕ, ◌+◌, true, false, List, [], ◌∷◌, ◌++◌, length, Some, None, Ok, Err, refl, sym, ap, subst, ◌∙◌}
 use Rattle.std.specs.List.{list_all}
-use Rattle.asm_lex.specs.declared.fault.SourceCause.{SourceCause}
 use Rattle.asm_lex.specs.Words.{Word}
 use Rattle.asm_argument.specs.declared.symbol.Symbol.{Symbol}
 use Rattle.asm_argument.specs.declared.symbol.Symbol.TheVariants as symbol
-use Rattle.asm_argument.specs.declared.operand.Shape.{Shape}
 use Rattle.asm_source.specs.declared.tree.Argument.{Argument}
 use Rattle.asm_parse.specs.declared.directive.Directive.{Directive}
 use Rattle.asm_parse.specs.declared.directive.Directive.TheVariants as kind
@@ -18,14 +16,14 @@ use Rattle.asm_parse.specs.ScopeView.{ScopeView}
 use Rattle.asm_parse.specs.Scope.{fresh}
 use Rattle.asm_argument.specs.Symbols.{symbol_of}
 use Rattle.asm_parse.specs.Directives.{shape_at, is_dotted, directive_of, is_section}
-use Rattle.asm_parse.specs.Statement.{argument_step, nothing_yet, is_rep, is_passed, of_directive, other_behind, step, doom}
+use Rattle.asm_parse.specs.Statement.{argument_step, nothing_yet, is_passed, of_directive, other_behind, step, doom}
 use Rattle.asm_parse.specs.Reading.{ending_at}
 use Rattle.asm_parse.specs.Statements.{has_list, is_inner, Separated, Statement, symbols}
 use Rattle.asm_parse.specs.Refusals.{Place, Leads, Opens, Stands, Reaches}
 use Rattle.asm_parse.proofs.Words.{read_words}
 use Rattle.asm_parse.proofs.Stated.{Answer, inners, words_append, named_section, statements_run}
 use Rattle.asm_parse.proofs.Places.{Suits, start_suits, named_suits, skip_suits}
-use Rattle.asm_parse.proofs.Reread.{Pair, OnWord, on_word, inner_parts, section_stays, first_argument, arguments_read}
+use Rattle.asm_parse.proofs.Reread.{Pair, on_word, inner_parts, section_stays, first_argument, arguments_read}
 use Rattle.asm_parse.proofs.Unchanged.{skipped_state}
 use Rattle.asm_parse.proofs.Reopened.{body_inner, IsColon, body_colon, arguments_reached}
 
@@ -88,11 +86,11 @@ behind_name w (v ∷ ws) sc n h body fin name rest some inside never goes k aliv
     let never2 : IsColon (symbol_of v.kind v.bytes ∷ symbols ws) → ⊥ = subst (λ (x : List Symbol). IsColon x → ⊥) (sym rest) never in
     let inside2 : list_all is_inner (symbol_of v.kind v.bytes ∷ symbols ws) ≡ true = ap (list_all is_inner) rest ∙ inside in
     let p = inner_parts (symbol_of v.kind v.bytes) (symbols ws) inside2 in
-    let step_ : argument_step sc (nothing_yet w.line h) (symbol_of v.kind v.bytes) ≡ Ok two.next = sym (not_colon sc w.line v.line n (symbol_of v.kind v.bytes) (symbols ws) never2 ∙ goes (symbol_of v.kind v.bytes)) ∙ two.goes in
-    let more_ = first_argument sc (nothing_yet w.line h) (symbol_of v.kind v.bytes) two.next p.0 step_ in
-    let rest2 : read_words two.next.0 two.next.1 ws ≡ Ok fin = ap (λ (x : State). read_words two.next.0 x ws) (sym (ending_argument two.next.1 (v.at + length v.bytes) more_.0 more_.1)) ∙ two.rest in
+    let argument_goes : argument_step sc (nothing_yet w.line h) (symbol_of v.kind v.bytes) ≡ Ok two.next = sym (not_colon sc w.line v.line n (symbol_of v.kind v.bytes) (symbols ws) never2 ∙ goes (symbol_of v.kind v.bytes)) ∙ two.goes in
+    let opens_on = first_argument sc (nothing_yet w.line h) (symbol_of v.kind v.bytes) two.next p.0 argument_goes in
+    let rest2 : read_words two.next.0 two.next.1 ws ≡ Ok fin = ap (λ (x : State). read_words two.next.0 x ws) (sym (ending_argument two.next.1 (v.at + length v.bytes) opens_on.0 opens_on.1)) ∙ two.rest in
     let all : inners sc (state.Arguments (nothing_yet w.line h)) (symbol_of v.kind v.bytes ∷ symbols ws) ≡ Ok fin =
-    ap (λ (r : Answer). elim r [ Ok y ↦ inners y.0 y.1 (symbols ws) | Err c ↦ Err c ]) step_ ∙ arguments_read ws two.next.0 two.next.1 more_.0 fin more_.1 p.1 rest2 alive in
+    ap (λ (r : Answer). elim r [ Ok y ↦ inners y.0 y.1 (symbols ws) | Err c ↦ Err c ]) argument_goes ∙ arguments_read ws two.next.0 two.next.1 opens_on.0 fin opens_on.1 p.1 rest2 alive in
     ap (inners sc (state.Arguments (nothing_yet w.line h))) (sym rest) ∙ all
 
 of_list : (k : Directive) (sc : ScopeView) (line : ℕ) (n : List ℕ) (s : Symbol) → has_list k ≡ true → of_directive (Some k) sc line n s ≡ argument_step sc (nothing_yet line (head.Directive k n)) s

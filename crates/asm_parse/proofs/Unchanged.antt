@@ -1,8 +1,7 @@
 -- A statement that leaves what was said as it is, and what is read of one that isn't read.
-use Rattle.std.proofs.Common.{◌≡◌, ℕ, ◌+◌, Bool, true, false, cond, List, [], ◌∷◌, ◌++◌, length, Option, Some, None, Result, Ok, Err, refl, sym, ap, subst, ◌∙◌, ◌⊎◌, inl, inr, arith}
+use Rattle.std.proofs.Common.{◌≡◌, ℕ, ◌+◌, Bool, true, false, List, [], ◌∷◌, ◌++◌, length, Option, Some, None, Ok, refl, sym, ap, subst, ◌∙◌, ◌⊎◌, inl, inr, arith}
 use Rattle.std.specs.List.{list_all}
 use Rattle.std.proofs.lemmas.List.{length-append}
-use Rattle.asm_lex.specs.declared.fault.SourceCause.{SourceCause}
 use Rattle.asm_lex.specs.declared.fault.SourceCause.TheVariants as cause
 use Rattle.asm_lex.specs.Words.{Word}
 use Rattle.asm_argument.specs.declared.symbol.Symbol.{Symbol}
@@ -18,16 +17,14 @@ use Rattle.asm_parse.specs.declared.state.State.TheVariants as state
 use Rattle.asm_parse.specs.ScopeView.{ScopeView}
 use Rattle.asm_parse.specs.Scope.{pushed}
 use Rattle.asm_argument.specs.Symbols.{symbol_of}
-use Rattle.asm_parse.specs.Statement.{item_of, resumed, skip, unless_skipping, start_step, other_behind, step, doom, with_scope}
+use Rattle.asm_parse.specs.Statement.{item_of, resumed, skip, unless_skipping, other_behind, step, doom, with_scope}
 use Rattle.asm_parse.specs.Reading.{ending_at}
 use Rattle.asm_parse.specs.Statements.{IsSeen, Sees, Separated, HasArguments, is_inner, is_unlabelled, is_nameless, Statement, symbols}
-use Rattle.asm_parse.specs.Refusals.{Place}
 use Rattle.asm_source.specs.Names.{symbol_in}
 use Rattle.asm_parse.specs.Directives.{defines}
 use Rattle.asm_parse.proofs.Words.{read_words}
 use Rattle.asm_parse.proofs.Stated.{Answer}
-use Rattle.asm_parse.proofs.Places.{Suits, skip_suits}
-use Rattle.asm_parse.proofs.Reread.{Pair, OnWord, on_word, inner_parts, skip_stays}
+use Rattle.asm_parse.proofs.Reread.{Pair, on_word, inner_parts, skip_stays}
 
 -- ---- what a statement says is one item more
 
