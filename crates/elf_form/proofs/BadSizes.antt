@@ -93,12 +93,13 @@ module _ (r : Role) (bytes : List ℕ) where
         sum_none : sum_of [] ≡ 0
         sum_none = refl
     by_fits has ih false over = (
-        ([], at, entries (at + 40) 40 n, refl, role_is r (names bytes) bytes at has, omega (arith, sum_here at [] has, above (total + (size bytes at + pad 4096 (size bytes at))) over), refl),
-        λ k h. omega (arith, h.6, entry_from at 40 (suc n) h.1 (subst (λ (xs : List ℕ). Contains xs h.1) (sym h.3) (split_contains h.0 h.1 h.2))),
-      )
+      ([], at, entries (at + 40) 40 n, refl, role_is r (names bytes) bytes at has, omega (arith, sum_here at [] has, above (total + (size bytes at + pad 4096 (size bytes at))) over), refl),
+      λ k h. omega (arith, h.6, entry_from at 40 (suc n) h.1 (subst (λ (xs : List ℕ). Contains xs h.1) (sym h.3) (split_contains h.0 h.1 h.2))),
+    )
       where
         above : (m : ℕ) → nat_lt m 4294967296 ≡ false → 4294967296 ≤ m
-        above m e = elim (cases_lt m 4294967296) [ | inl lt ↦ absurd (both_ways (lt-ltb m 4294967296 lt) e) | inr le ↦ le ]
+        above m e = elim (cases_lt m 4294967296) [ inl lt ↦ absurd (both_ways (lt-ltb m 4294967296 lt) e) | inr le ↦ le ]
+
     by : (b : Bool) → has_role r (names bytes) bytes at ≡ b → ((more : ℕ) → Finds (joined_fault r (names bytes) bytes more (entries (at + 40) 40 n)) (Over r bytes more (entries (at + 40) 40 n)))
         → Finds (cond b (cond (nat_lt (total + (size bytes at + pad 4096 (size bytes at))) 4294967296) (joined_fault r (names bytes) bytes (total + (size bytes at + pad 4096 (size bytes at))) (entries (at + 40) 40 n)) (Some (at + 20))) (joined_fault r (names bytes) bytes total (entries (at + 40) 40 n)))
         (Over r bytes total (at ∷ entries (at + 40) 40 n))
@@ -114,9 +115,9 @@ module _ (r : Role) (bytes : List ℕ) where
 
   too_much_finds : Finds (joined_fault r (names bytes) bytes 0 (sections bytes)) Joined
   too_much_finds = finds_as (joined_fault r (names bytes) bytes 0 (sections bytes)) (Over r bytes 0 (sections bytes)) Joined
-    (λ k h. (h.1, record { before = h.0; later = h.2; sections_are = h.3; reads = h.4; together = omega (arith, h.5) }, h.6))
-    (λ k h. (h.1.before, h.0, h.1.later, h.1.sections_are, h.1.reads, omega (arith, h.1.together), h.2))
-    (joined_finds (section_table bytes) (section_count bytes) 0)
+      (λ k h. (h.1, record { before = h.0; later = h.2; sections_are = h.3; reads = h.4; together = omega (arith, h.5) }, h.6))
+      (λ k h. (h.1.before, h.0, h.1.later, h.1.sections_are, h.1.reads, omega (arith, h.1.together), h.2))
+      (joined_finds (section_table bytes) (section_count bytes) 0)
 
 -- ---- sizes of entries
 
@@ -126,12 +127,13 @@ entries_finds entry bytes s =
     to from
     (finds_else (bad (not (size bytes s % entry == 0)) (s + 20)) (bad (not (word32 bytes (s + 36) == entry)) (s + 36)) (λ k. (size bytes s % entry ≢ 0) × (k ≡ s + 20)) (λ k. (word32 bytes (s + 36) ≢ entry) × (k ≡ s + 36)) (λ i j a b. omega (arith, a.1, b.1))
     (finds_field (size bytes s % entry) 0 (s + 20)) (finds_field (word32 bytes (s + 36)) entry (s + 36))) where
-  to : (k : ℕ) → ((size bytes s % entry ≢ 0) × (k ≡ s + 20)) ⊎ ((word32 bytes (s + 36) ≢ entry) × (k ≡ s + 36)) → IsBadEntrySize entry bytes s k
-  to k (inl (h, e)) = IsBadEntrySize.uneven h e
-  to k (inr (h, e)) = IsBadEntrySize.other h e
-  from : (k : ℕ) → IsBadEntrySize entry bytes s k → ((size bytes s % entry ≢ 0) × (k ≡ s + 20)) ⊎ ((word32 bytes (s + 36) ≢ entry) × (k ≡ s + 36))
-  from k (IsBadEntrySize.uneven h e) = inl (h, e)
-  from k (IsBadEntrySize.other h e) = inr (h, e)
+      to : (k : ℕ) → ((size bytes s % entry ≢ 0) × (k ≡ s + 20)) ⊎ ((word32 bytes (s + 36) ≢ entry) × (k ≡ s + 36)) → IsBadEntrySize entry bytes s k
+      to k (inl (h, e)) = IsBadEntrySize.uneven h e
+      to k (inr (h, e)) = IsBadEntrySize.other h e
+
+      from : (k : ℕ) → IsBadEntrySize entry bytes s k → ((size bytes s % entry ≢ 0) × (k ≡ s + 20)) ⊎ ((word32 bytes (s + 36) ≢ entry) × (k ≡ s + 36))
+      from k (IsBadEntrySize.uneven h e) = inl (h, e)
+      from k (IsBadEntrySize.other h e) = inr (h, e)
 
 entry_within : (entry : ℕ) (bytes : List ℕ) (s k : ℕ) → IsBadEntrySize entry bytes s k → (s ≤ k) × (k < s + 40)
 entry_within entry bytes s k (IsBadEntrySize.uneven h e) = (omega (arith, e), omega (arith, e))
@@ -211,14 +213,19 @@ module _ (bytes : List ℕ) where
 
   abbrev Parts1 : ℕ → Type 0
   Parts1 k = TableSize k ⊎ RelocSize k
+
   abbrev Parts2 : ℕ → Type 0
   Parts2 k = Joined role.Bss bytes k ⊎ Parts1 k
+
   abbrev Parts3 : ℕ → Type 0
   Parts3 k = Joined role.Init bytes k ⊎ Parts2 k
+
   abbrev Parts4 : ℕ → Type 0
   Parts4 k = ((word16 bytes 46 ≢ 40) × (k ≡ 46)) ⊎ Parts3 k
+
   abbrev Parts5 : ℕ → Type 0
   Parts5 k = ((word16 bytes 40 ≢ 52) × (k ≡ 40)) ⊎ Parts4 k
+
   abbrev Parts6 : ℕ → Type 0
   Parts6 k = Parts5 k ⊎ TooLong k
 
@@ -273,9 +280,9 @@ module _ (bytes : List ℕ) where
 
   memory_by : (xs : List ℕ) → loaded bytes ≡ xs → Finds (memory_sizes bytes (found xs)) (λ k. FirstSize k ⊎ SecondSize k)
   unfolding memory_sizes found
-  memory_by [] e = λ k p. elim p [ | inl h ↦ absurd (let never : slice_get [] 0 ≡ Some h.0 = ap (λ (x : List ℕ). slice_get x 0) (sym e) ∙ h.1 in cc) | inr h ↦ absurd (let never : slice_get [] 1 ≡ Some h.0 = ap (λ (x : List ℕ). slice_get x 1) (sym e) ∙ h.1 in cc) ]
+  memory_by [] e = λ k p. elim p [ inl h ↦ absurd (let never : slice_get [] 0 ≡ Some h.0 = ap (λ (x : List ℕ). slice_get x 0) (sym e) ∙ h.1 in cc) | inr h ↦ absurd (let never : slice_get [] 1 ≡ Some h.0 = ap (λ (x : List ℕ). slice_get x 1) (sym e) ∙ h.1 in cc) ]
   memory_by (a ∷ []) e =
-      finds_as (first_size bytes a) FirstSize (λ k. FirstSize k ⊎ SecondSize k) (λ k h. inl h) (λ k p. elim p [ | inl h ↦ h | inr h ↦ absurd (let never : slice_get (a ∷ []) 1 ≡ Some h.0 = ap (λ (x : List ℕ). slice_get x 1) (sym e) ∙ h.1 in cc) ])
+      finds_as (first_size bytes a) FirstSize (λ k. FirstSize k ⊎ SecondSize k) (λ k h. inl h) (λ k p. elim p [ inl h ↦ h | inr h ↦ absurd (let never : slice_get (a ∷ []) 1 ≡ Some h.0 = ap (λ (x : List ℕ). slice_get x 1) (sym e) ∙ h.1 in cc) ])
       (first_finds a (ap (λ (x : List ℕ). slice_get x 0) e))
   memory_by (a ∷ b ∷ []) e = finds_lower (first_size bytes a) (second_size bytes b) FirstSize SecondSize (first_finds a (ap (λ (x : List ℕ). slice_get x 0) e)) (second_finds b (ap (λ (x : List ℕ). slice_get x 1) e))
   memory_by (a ∷ b ∷ c ∷ rest) e = finds_lower (first_size bytes a) (second_size bytes b) FirstSize SecondSize (first_finds a (ap (λ (x : List ℕ). slice_get x 0) e)) (second_finds b (ap (λ (x : List ℕ). slice_get x 1) e))
@@ -286,10 +293,13 @@ module _ (bytes : List ℕ) where
 
   abbrev Image1 : ℕ → Type 0
   Image1 k = (FirstSize k ⊎ SecondSize k) ⊎ TooLong k
+
   abbrev Image2 : ℕ → Type 0
   Image2 k = ((word16 bytes 46 ≢ 40) × (k ≡ 46)) ⊎ Image1 k
+
   abbrev Image3 : ℕ → Type 0
   Image3 k = ((word16 bytes 42 ≢ 32) × (k ≡ 42)) ⊎ Image2 k
+
   abbrev Image4 : ℕ → Type 0
   Image4 k = ((word16 bytes 40 ≢ 52) × (k ≡ 40)) ⊎ Image3 k
 
@@ -312,7 +322,7 @@ module _ (bytes : List ℕ) where
   pub image_sizes_finds : Finds (sizes bytes) (IsBadImageSize bytes)
   unfolding sizes
   image_sizes_finds = finds_as (sizes bytes) Image4 (IsBadImageSize bytes) image_to image_from
-    (finds_lower (header_size bytes) _ (λ k. (word16 bytes 40 ≢ 52) × (k ≡ 40)) Image3 (finds_field (word16 bytes 40) 52 40)
-    (finds_lower (program_size bytes) _ (λ k. (word16 bytes 42 ≢ 32) × (k ≡ 42)) Image2 (finds_field (word16 bytes 42) 32 42)
-    (finds_lower (section_size bytes) _ (λ k. (word16 bytes 46 ≢ 40) × (k ≡ 46)) Image1 (finds_field (word16 bytes 46) 40 46)
-    (finds_lower (memory_sizes bytes (loads bytes)) (too_long bytes) (λ k. FirstSize k ⊎ SecondSize k) TooLong memory_finds (finds_bad (nat_lt 33554432 (length bytes)) 33554432)))))
+      (finds_lower (header_size bytes) _ (λ k. (word16 bytes 40 ≢ 52) × (k ≡ 40)) Image3 (finds_field (word16 bytes 40) 52 40)
+      (finds_lower (program_size bytes) _ (λ k. (word16 bytes 42 ≢ 32) × (k ≡ 42)) Image2 (finds_field (word16 bytes 42) 32 42)
+      (finds_lower (section_size bytes) _ (λ k. (word16 bytes 46 ≢ 40) × (k ≡ 46)) Image1 (finds_field (word16 bytes 46) 40 46)
+      (finds_lower (memory_sizes bytes (loads bytes)) (too_long bytes) (λ k. FirstSize k ⊎ SecondSize k) TooLong memory_finds (finds_bad (nat_lt 33554432 (length bytes)) 33554432)))))

@@ -97,10 +97,10 @@ module _ (bytes : List ℕ) where
   section_names_finds : Finds (section_names_fault bytes) (λ k. NoNames k ⊎ NoName k)
   section_names_finds = by (has_strings bytes (word16 bytes 50)) (section_count bytes == 0) refl refl where
     by : (t u : Bool) → has_strings bytes (word16 bytes 50) ≡ t → (section_count bytes == 0) ≡ u → Finds (cond (t || u) (nameless bytes) (Some 50)) (λ k. NoNames k ⊎ NoName k)
-    by true u has count = finds_as (nameless bytes) (IsNameless bytes) (λ k. NoNames k ⊎ NoName k) (λ k h. inr (has, h)) (λ k p. elim p [ | inl n ↦ absurd (both_ways has n.0) | inr n ↦ n.1 ]) (nameless_finds bytes)
+    by true u has count = finds_as (nameless bytes) (IsNameless bytes) (λ k. NoNames k ⊎ NoName k) (λ k h. inr (has, h)) (λ k p. elim p [ inl n ↦ absurd (both_ways has n.0) | inr n ↦ n.1 ]) (nameless_finds bytes)
     by false true has count =
-        finds_as (nameless bytes) (IsNameless bytes) (λ k. NoNames k ⊎ NoName k) (λ k h. absurd (no_sections (eqb-true (section_count bytes) 0 count) k h)) (λ k p. elim p [ | inl n ↦ absurd (n.1 (eqb-true (section_count bytes) 0 count)) | inr n ↦ absurd (both_ways n.0 has) ]) (nameless_finds bytes)
-    by false false has count = (inl (has, eqb-false (section_count bytes) 0 count, refl), λ k p. elim p [ | inl n ↦ omega (arith, n.2) | inr n ↦ absurd (both_ways n.0 has) ])
+        finds_as (nameless bytes) (IsNameless bytes) (λ k. NoNames k ⊎ NoName k) (λ k h. absurd (no_sections (eqb-true (section_count bytes) 0 count) k h)) (λ k p. elim p [ inl n ↦ absurd (n.1 (eqb-true (section_count bytes) 0 count)) | inr n ↦ absurd (both_ways n.0 has) ]) (nameless_finds bytes)
+    by false false has count = (inl (has, eqb-false (section_count bytes) 0 count, refl), λ k p. elim p [ inl n ↦ omega (arith, n.2) | inr n ↦ absurd (both_ways n.0 has) ])
 
   abbrev NoTable : ℕ → ℕ → Type 0
   NoTable s k = (has_strings bytes (word32 bytes (s + 24)) ≡ false) × (k ≡ s + 24)
@@ -114,8 +114,8 @@ module _ (bytes : List ℕ) where
       finds_as (symbols_fault Names (table_of bytes) (strings_of bytes) (names bytes) bytes) (λ k. (y : ℕ) × Contains (symbols_of (table_of bytes)) y × ((is_unnamed (strings_of bytes) bytes y ≡ true) × (k ≡ y))) Unnamed
       to (λ k h. (k, h.0, (h.1, refl)))
       (finds_some (symbol_test Names (strings_of bytes) (names bytes) bytes) (λ y k. (is_unnamed (strings_of bytes) bytes y ≡ true) × (k ≡ y)) 16 (λ y. finds_bad (is_unnamed (strings_of bytes) bytes y) y) (λ y k h. (omega (arith, h.1), omega (arith, h.1))) ((table_of bytes).at + 16) ((table_of bytes).count - 1)) where
-    to : (k : ℕ) → (y : ℕ) × Contains (symbols_of (table_of bytes)) y × ((is_unnamed (strings_of bytes) bytes y ≡ true) × (k ≡ y)) → Unnamed k
-    to k (y, there, (wrong, same)) = subst Unnamed (sym same) (there, wrong)
+        to : (k : ℕ) → (y : ℕ) × Contains (symbols_of (table_of bytes)) y × ((is_unnamed (strings_of bytes) bytes y ≡ true) × (k ≡ y)) → Unnamed k
+        to k (y, there, (wrong, same)) = subst Unnamed (sym same) (there, wrong)
 
   -- what is asked of the names of the symbols of a table
   abbrev asked : ℕ → Option ℕ
@@ -152,14 +152,16 @@ module _ (bytes : List ℕ) where
       (finds_at (then_of (first (has_role role.Symbols (names bytes) bytes) (sections bytes)) asked) (symbol_names_fault bytes (found (filter (has_role role.Symbols (names bytes) bytes) (sections bytes)))) (λ k. (s : ℕ) × IsTable bytes s × Asked s k)
       (asked_of (has_role role.Symbols (names bytes) bytes) (sections bytes))
       (finds_then (first (has_role role.Symbols (names bytes) bytes) (sections bytes)) (IsOf role.Symbols bytes) asked Asked (first_of_role role.Symbols bytes) asked_finds)) where
-    link_is : (s : ℕ) → IsTable bytes s → link_of bytes ≡ word32 bytes (s + 24)
-    link_is s h = ap (λ (x : ℕ). word32 bytes (x + 24)) (table_section bytes s h)
-    to : (k : ℕ) → (s : ℕ) × IsTable bytes s × Asked s k → SymbolNames k
-    to k (s, h, inl a) = inr a
-    to k (s, h, inr (never, e)) = inl (s, h, (sym (ap (has_strings bytes) (link_is s h)) ∙ never, e))
-    from : (k : ℕ) → SymbolNames k → (s : ℕ) × IsTable bytes s × Asked s k
-    from k (inl (s, h, (never, e))) = (s, h, inr (ap (has_strings bytes) (link_is s h) ∙ never, e))
-    from k (inr a) = let t = symbol_table bytes k a.1.0 in (t.0, t.1, inl a)
+        link_is : (s : ℕ) → IsTable bytes s → link_of bytes ≡ word32 bytes (s + 24)
+        link_is s h = ap (λ (x : ℕ). word32 bytes (x + 24)) (table_section bytes s h)
+
+        to : (k : ℕ) → (s : ℕ) × IsTable bytes s × Asked s k → SymbolNames k
+        to k (s, h, inl a) = inr a
+        to k (s, h, inr (never, e)) = inl (s, h, (sym (ap (has_strings bytes) (link_is s h)) ∙ never, e))
+
+        from : (k : ℕ) → SymbolNames k → (s : ℕ) × IsTable bytes s × Asked s k
+        from k (inl (s, h, (never, e))) = (s, h, inr (ap (has_strings bytes) (link_is s h) ∙ never, e))
+        from k (inr a) = let t = symbol_table bytes k a.1.0 in (t.0, t.1, inl a)
 
   abbrev Places : ℕ → Type 0
   Places k = (NoNames k ⊎ NoName k) ⊎ SymbolNames k
@@ -179,7 +181,7 @@ module _ (bytes : List ℕ) where
   pub string_places_finds : Finds (string_places bytes) (IsBadName bytes)
   unfolding string_places
   string_places_finds = finds_as (string_places bytes) Places (IsBadName bytes) name_to name_from
-    (finds_lower (section_names_fault bytes) (symbol_names_fault bytes (with_role role.Symbols (names bytes) bytes)) (λ k. NoNames k ⊎ NoName k) SymbolNames section_names_finds symbol_names_finds)
+      (finds_lower (section_names_fault bytes) (symbol_names_fault bytes (with_role role.Symbols (names bytes) bytes)) (λ k. NoNames k ⊎ NoName k) SymbolNames section_names_finds symbol_names_finds)
 
 -- ---- relocations of sections that are kept
 
@@ -213,7 +215,7 @@ module _ (bytes : List ℕ) where
   number_kept role.Text h = refl
   number_kept role.Init h = refl
   number_kept role.Bss h = refl
-  number_kept _ h = absurd (elim h [ | inl a ↦ omega (arith, a) | inr b ↦ elim b [ | inl c ↦ omega (arith, c) | inr c ↦ omega (arith, c) ] ])
+  number_kept _ h = absurd (elim h [ inl a ↦ omega (arith, a) | inr b ↦ elim b [ inl c ↦ omega (arith, c) | inr c ↦ omega (arith, c) ] ])
 
   of_role : (r : Role) (e : Entry) → (role_number r ≡ 2) ⊎ ((role_number r ≡ 3) ⊎ (role_number r ≡ 4)) → Contains (relocs_of r (names bytes) bytes) e → IsReloc bytes e
   unfolding relocs_of
@@ -236,7 +238,7 @@ module _ (bytes : List ℕ) where
   reloc_roles : (e : Entry) → IsReloc bytes e → In role.Text e ⊎ (In role.Init e ⊎ In role.Bss e)
   reloc_roles e (s, h, there) = elim (kept_number (target_role (names bytes) bytes s) h.1) [
     | inl a ↦ inl (in_role role.Text e s h there a)
-    | inr b ↦ elim b [ | inl c ↦ inr (inl (in_role role.Init e s h there c)) | inr c ↦ inr (inr (in_role role.Bss e s h there c)) ]
+    | inr b ↦ elim b [ inl c ↦ inr (inl (in_role role.Init e s h there c)) | inr c ↦ inr (inr (in_role role.Bss e s h there c)) ]
   ]
 
   module _ (test : RelocTest) (P : Entry → ℕ → Type 0) (each : (e : Entry) → Finds (reloc_test test (table_of bytes) (names bytes) bytes e) (P e)) where
@@ -249,18 +251,19 @@ module _ (bytes : List ℕ) where
 
     kept_finds : Finds (kept_relocs test bytes) (λ k. (e : Entry) × IsReloc bytes e × P e k)
     kept_finds = finds_as (kept_relocs test bytes) (λ k. Of role.Text k ⊎ (Of role.Init k ⊎ Of role.Bss k)) (λ k. (e : Entry) × IsReloc bytes e × P e k)
-      to from
-      (finds_lower (relocs_fault test (table_of bytes) (names bytes) bytes (relocs_of role.Text (names bytes) bytes)) _ (Of role.Text) (λ k. Of role.Init k ⊎ Of role.Bss k) (role_finds role.Text)
-      (finds_lower (relocs_fault test (table_of bytes) (names bytes) bytes (relocs_of role.Init (names bytes) bytes)) (relocs_fault test (table_of bytes) (names bytes) bytes (relocs_of role.Bss (names bytes) bytes)) (Of role.Init) (Of role.Bss) (role_finds role.Init) (role_finds role.Bss))) where
-      to : (k : ℕ) → Of role.Text k ⊎ (Of role.Init k ⊎ Of role.Bss k) → (e : Entry) × IsReloc bytes e × P e k
-      to k (inl (e, h, p)) = (e, of_role role.Text e (inl refl) h, p)
-      to k (inr (inl (e, h, p))) = (e, of_role role.Init e (inr (inl refl)) h, p)
-      to k (inr (inr (e, h, p))) = (e, of_role role.Bss e (inr (inr refl)) h, p)
-      from : (k : ℕ) → (e : Entry) × IsReloc bytes e × P e k → Of role.Text k ⊎ (Of role.Init k ⊎ Of role.Bss k)
-      from k (e, h, p) = elim (reloc_roles e h) [
-        | inl a ↦ inl (e, a, p)
-        | inr b ↦ elim b [ | inl c ↦ inr (inl (e, c, p)) | inr c ↦ inr (inr (e, c, p)) ]
-      ]
+        to from
+        (finds_lower (relocs_fault test (table_of bytes) (names bytes) bytes (relocs_of role.Text (names bytes) bytes)) _ (Of role.Text) (λ k. Of role.Init k ⊎ Of role.Bss k) (role_finds role.Text)
+        (finds_lower (relocs_fault test (table_of bytes) (names bytes) bytes (relocs_of role.Init (names bytes) bytes)) (relocs_fault test (table_of bytes) (names bytes) bytes (relocs_of role.Bss (names bytes) bytes)) (Of role.Init) (Of role.Bss) (role_finds role.Init) (role_finds role.Bss))) where
+          to : (k : ℕ) → Of role.Text k ⊎ (Of role.Init k ⊎ Of role.Bss k) → (e : Entry) × IsReloc bytes e × P e k
+          to k (inl (e, h, p)) = (e, of_role role.Text e (inl refl) h, p)
+          to k (inr (inl (e, h, p))) = (e, of_role role.Init e (inr (inl refl)) h, p)
+          to k (inr (inr (e, h, p))) = (e, of_role role.Bss e (inr (inr refl)) h, p)
+
+          from : (k : ℕ) → (e : Entry) × IsReloc bytes e × P e k → Of role.Text k ⊎ (Of role.Init k ⊎ Of role.Bss k)
+          from k (e, h, p) = elim (reloc_roles e h) [
+            | inl a ↦ inl (e, a, p)
+            | inr b ↦ elim b [ inl c ↦ inr (inl (e, c, p)) | inr c ↦ inr (inr (e, c, p)) ]
+          ]
 
   -- ---- symbols
 
@@ -273,9 +276,9 @@ module _ (bytes : List ℕ) where
     by : (t : Bool) → is_file bytes y ≡ t → Finds (cond t None (bad (not (has_binding bytes y)) (y + 12) or_else bad (not (has_place (names bytes) bytes y)) (y + 14))) (SymbolBad y)
     by true is = λ k h. both_ways is h.0
     by false is = finds_as (bad (not (has_binding bytes y)) (y + 12) or_else bad (not (has_place (names bytes) bytes y)) (y + 14)) (λ k. ((has_binding bytes y ≡ false) × (k ≡ y + 12)) ⊎ ((has_place (names bytes) bytes y ≡ false) × (k ≡ y + 14))) (SymbolBad y)
-      (λ k h. (is, h)) (λ k h. h.1)
-      (finds_else (bad (not (has_binding bytes y)) (y + 12)) (bad (not (has_place (names bytes) bytes y)) (y + 14)) (λ k. (has_binding bytes y ≡ false) × (k ≡ y + 12)) (λ k. (has_place (names bytes) bytes y ≡ false) × (k ≡ y + 14)) (λ i j a b. omega (arith, a.1, b.1))
-      (finds_not (has_binding bytes y) (y + 12)) (finds_not (has_place (names bytes) bytes y) (y + 14)))
+        (λ k h. (is, h)) (λ k h. h.1)
+        (finds_else (bad (not (has_binding bytes y)) (y + 12)) (bad (not (has_place (names bytes) bytes y)) (y + 14)) (λ k. (has_binding bytes y ≡ false) × (k ≡ y + 12)) (λ k. (has_place (names bytes) bytes y ≡ false) × (k ≡ y + 14)) (λ i j a b. omega (arith, a.1, b.1))
+        (finds_not (has_binding bytes y) (y + 12)) (finds_not (has_place (names bytes) bytes y) (y + 14)))
 
   symbol_within : (y k : ℕ) → SymbolBad y k → (y ≤ k) × (k < y + 16)
   symbol_within y k (file, inl (h, e)) = (omega (arith, e), omega (arith, e))
@@ -325,7 +328,7 @@ module _ (bytes : List ℕ) where
   pub symbol_form_finds : Finds (symbol_form bytes) (IsBadSymbol bytes)
   unfolding symbol_form
   symbol_form_finds = finds_as (symbol_form bytes) SymbolAt (IsBadSymbol bytes) symbol_to symbol_from
-    (finds_lower (symbols_fault Globals (table_of bytes) (strings_of bytes) (names bytes) bytes) (kept_relocs Named bytes) GlobalAt (λ k. (e : Entry) × IsReloc bytes e × NamedBad e k) globals_find (kept_finds Named NamedBad named_find))
+      (finds_lower (symbols_fault Globals (table_of bytes) (strings_of bytes) (names bytes) bytes) (kept_relocs Named bytes) GlobalAt (λ k. (e : Entry) × IsReloc bytes e × NamedBad e k) globals_find (kept_finds Named NamedBad named_find))
 
   -- ---- relocations
 
@@ -342,15 +345,15 @@ module _ (bytes : List ℕ) where
   links_find : Finds (sections_fault Links (table_of bytes) (names bytes) bytes) LinkAt
   unfolding sections_fault
   links_find = finds_some (section_test Links (table_of bytes) (names bytes) bytes) LinkBad 40
-    (λ s. finds_if (is_reloc_section (names bytes) bytes s) (bad (not (is_linked (table_of bytes) (names bytes) bytes s)) (s + 24)) None (λ k. (is_linked (table_of bytes) (names bytes) bytes s ≡ false) × (k ≡ s + 24)) (λ k. ⊥) (finds_not (is_linked (table_of bytes) (names bytes) bytes s) (s + 24)) (λ k never. never))
-    link_within (section_table bytes) (section_count bytes)
+      (λ s. finds_if (is_reloc_section (names bytes) bytes s) (bad (not (is_linked (table_of bytes) (names bytes) bytes s)) (s + 24)) None (λ k. (is_linked (table_of bytes) (names bytes) bytes s ≡ false) × (k ≡ s + 24)) (λ k. ⊥) (finds_not (is_linked (table_of bytes) (names bytes) bytes s) (s + 24)) (λ k never. never))
+      link_within (section_table bytes) (section_count bytes)
 
   abbrev FormBad : Entry → ℕ → Type 0
   FormBad e k = ((is_outside (names bytes) bytes e ≡ true) × (k ≡ e.at)) ⊎ (((not (has_kind bytes e.at) || names_none (table_of bytes) bytes e.at) ≡ true) × (k ≡ e.at + 4))
 
   form_find : (e : Entry) → Finds (reloc_test Form (table_of bytes) (names bytes) bytes e) (FormBad e)
   form_find e = finds_else (bad (is_outside (names bytes) bytes e) e.at) (bad (not (has_kind bytes e.at) || names_none (table_of bytes) bytes e.at) (e.at + 4)) (λ k. (is_outside (names bytes) bytes e ≡ true) × (k ≡ e.at)) (λ k. ((not (has_kind bytes e.at) || names_none (table_of bytes) bytes e.at) ≡ true) × (k ≡ e.at + 4)) (λ i j a b. omega (arith, a.1, b.1))
-    (finds_bad (is_outside (names bytes) bytes e) e.at) (finds_bad (not (has_kind bytes e.at) || names_none (table_of bytes) bytes e.at) (e.at + 4))
+      (finds_bad (is_outside (names bytes) bytes e) e.at) (finds_bad (not (has_kind bytes e.at) || names_none (table_of bytes) bytes e.at) (e.at + 4))
 
   abbrev RelocAt : ℕ → Type 0
   RelocAt k = LinkAt k ⊎ ((e : Entry) × IsReloc bytes e × FormBad e k)
@@ -373,4 +376,4 @@ module _ (bytes : List ℕ) where
   pub reloc_form_finds : Finds (reloc_form bytes) (IsBadReloc bytes)
   unfolding reloc_form
   reloc_form_finds = finds_as (reloc_form bytes) RelocAt (IsBadReloc bytes) reloc_to reloc_from
-    (finds_lower (sections_fault Links (table_of bytes) (names bytes) bytes) (kept_relocs Form bytes) LinkAt (λ k. (e : Entry) × IsReloc bytes e × FormBad e k) links_find (kept_finds Form FormBad form_find))
+      (finds_lower (sections_fault Links (table_of bytes) (names bytes) bytes) (kept_relocs Form bytes) LinkAt (λ k. (e : Entry) × IsReloc bytes e × FormBad e k) links_find (kept_finds Form FormBad form_find))

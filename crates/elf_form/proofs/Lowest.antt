@@ -73,24 +73,24 @@ finds_field m n at = finds_as (bad (not (m == n)) at) (λ k. ((m == n) ≡ false
 -- ---- two searches
 
 pub finds_lower : (a b : Option ℕ) (P Q : ℕ → Type 0) → Finds a P → Finds b Q → Finds (a or_lower b) (λ k. P k ⊎ Q k)
-finds_lower None None P Q h g = λ k e. elim e [ | inl p ↦ h k p | inr q ↦ g k q ]
-finds_lower None (Some b) P Q h g = (inr g.0, λ k e. elim e [ | inl p ↦ absurd (h k p) | inr q ↦ g.1 k q ])
-finds_lower (Some a) None P Q h g = (inl h.0, λ k e. elim e [ | inl p ↦ h.1 k p | inr q ↦ absurd (g k q) ])
+finds_lower None None P Q h g = λ k e. elim e [ inl p ↦ h k p | inr q ↦ g k q ]
+finds_lower None (Some b) P Q h g = (inr g.0, λ k e. elim e [ inl p ↦ absurd (h k p) | inr q ↦ g.1 k q ])
+finds_lower (Some a) None P Q h g = (inl h.0, λ k e. elim e [ inl p ↦ h.1 k p | inr q ↦ absurd (g k q) ])
 finds_lower (Some a) (Some b) P Q h g = elim (cases_lt b a) [
   | inl lt ↦ finds_at (Some b) (cond (nat_lt b a) (Some b) (Some a)) (λ k. P k ⊎ Q k) (sym (ap (λ c. cond c (some b) (some a)) (lt-ltb b a lt)))
-      (inr g.0, λ k e. elim e [ | inl p ↦ omega (arith, h.1 k p, lt) | inr q ↦ g.1 k q ])
+      (inr g.0, λ k e. elim e [ inl p ↦ omega (arith, h.1 k p, lt) | inr q ↦ g.1 k q ])
   | inr le ↦ finds_at (Some a) (cond (nat_lt b a) (Some b) (Some a)) (λ k. P k ⊎ Q k) (sym (ap (λ c. cond c (some b) (some a)) (le-ltb b a le)))
-      (inl h.0, λ k e. elim e [ | inl p ↦ h.1 k p | inr q ↦ omega (arith, g.1 k q, le) ])
+      (inl h.0, λ k e. elim e [ inl p ↦ h.1 k p | inr q ↦ omega (arith, g.1 k q, le) ])
 ]
 
 pub finds_else : (a b : Option ℕ) (P Q : ℕ → Type 0) → ((i j : ℕ) → P i → Q j → i ≤ j) → Finds a P → Finds b Q → Finds (a or_else b) (λ k. P k ⊎ Q k)
-finds_else None b P Q below h g = finds_as b Q (λ k. P k ⊎ Q k) (λ k q. inr q) (λ k e. elim e [ | inl p ↦ absurd (h k p) | inr q ↦ q ]) g
-finds_else (Some a) b P Q below h g = (inl h.0, λ k e. elim e [ | inl p ↦ h.1 k p | inr q ↦ below a k h.0 q ])
+finds_else None b P Q below h g = finds_as b Q (λ k. P k ⊎ Q k) (λ k q. inr q) (λ k e. elim e [ inl p ↦ absurd (h k p) | inr q ↦ q ]) g
+finds_else (Some a) b P Q below h g = (inl h.0, λ k e. elim e [ inl p ↦ h.1 k p | inr q ↦ below a k h.0 q ])
 
 -- a search that is made where a test says so
 pub finds_if : (b : Bool) (o q : Option ℕ) (P Q : ℕ → Type 0) → Finds o P → Finds q Q → Finds (cond b o q) (λ k. ((b ≡ true) × P k) ⊎ ((b ≡ false) × Q k))
-finds_if true o q P Q h g = finds_as o P (λ k. ((true ≡ true) × P k) ⊎ ((true ≡ false) × Q k)) (λ k p. inl (refl, p)) (λ k e. elim e [ | inl p ↦ p.1 | inr x ↦ absurd (cc x.0) ]) h
-finds_if false o q P Q h g = finds_as q Q (λ k. ((false ≡ true) × P k) ⊎ ((false ≡ false) × Q k)) (λ k p. inr (refl, p)) (λ k e. elim e [ | inl x ↦ absurd (cc x.0) | inr p ↦ p.1 ]) g
+finds_if true o q P Q h g = finds_as o P (λ k. ((true ≡ true) × P k) ⊎ ((true ≡ false) × Q k)) (λ k p. inl (refl, p)) (λ k e. elim e [ inl p ↦ p.1 | inr x ↦ absurd (cc x.0) ]) h
+finds_if false o q P Q h g = finds_as q Q (λ k. ((false ≡ true) × P k) ⊎ ((false ≡ false) × Q k)) (λ k p. inr (refl, p)) (λ k e. elim e [ inl x ↦ absurd (cc x.0) | inr p ↦ p.1 ]) g
 
 -- ---- entries of a table, of which each gives places within itself
 
@@ -111,16 +111,18 @@ module _ (f : ℕ → Option ℕ) (P : ℕ → ℕ → Type 0) (size : ℕ) (eac
       to
       from
       (finds_else (f at) (first_some f (entries (at + size) size n)) (P at) (λ k. (x : ℕ) × Contains (entries (at + size) size n) x × P x k) below (each at) (finds_some (at + size) n)) where
-    to : (k : ℕ) → P at k ⊎ ((x : ℕ) × Contains (entries (at + size) size n) x × P x k) → (x : ℕ) × Contains (at ∷ entries (at + size) size n) x × P x k
-    to k (inl p) = (at, has_first at (entries (at + size) size n), p)
-    to k (inr (x, there, p)) = (x, has_later at x (entries (at + size) size n) there, p)
-    from : (k : ℕ) → (x : ℕ) × Contains (at ∷ entries (at + size) size n) x × P x k → P at k ⊎ ((x : ℕ) × Contains (entries (at + size) size n) x × P x k)
-    from k (x, there, p) = elim (first_or_later at x (entries (at + size) size n) there) [
-      | inl is ↦ inl (subst (λ y. P y k) (sym is) p)
-      | inr later ↦ inr (x, later, p)
-    ]
-    below : (i j : ℕ) → P at i → (x : ℕ) × Contains (entries (at + size) size n) x × P x j → i ≤ j
-    below i j p (x, there, q) = omega (arith, (within at i p).1, (within x j q).0, entry_from (at + size) size n x there)
+        to : (k : ℕ) → P at k ⊎ ((x : ℕ) × Contains (entries (at + size) size n) x × P x k) → (x : ℕ) × Contains (at ∷ entries (at + size) size n) x × P x k
+        to k (inl p) = (at, has_first at (entries (at + size) size n), p)
+        to k (inr (x, there, p)) = (x, has_later at x (entries (at + size) size n) there, p)
+
+        from : (k : ℕ) → (x : ℕ) × Contains (at ∷ entries (at + size) size n) x × P x k → P at k ⊎ ((x : ℕ) × Contains (entries (at + size) size n) x × P x k)
+        from k (x, there, p) = elim (first_or_later at x (entries (at + size) size n) there) [
+          | inl is ↦ inl (subst (λ y. P y k) (sym is) p)
+          | inr later ↦ inr (x, later, p)
+        ]
+
+        below : (i j : ℕ) → P at i → (x : ℕ) × Contains (entries (at + size) size n) x × P x j → i ≤ j
+        below i j p (x, there, q) = omega (arith, (within at i p).1, (within x j q).0, entry_from (at + size) size n x there)
 
 -- the first that passes a test, by one of its fields
 some_first : (p : ℕ → Bool) (field : ℕ) (xs : List ℕ) → first_some (λ x. bad (p x) (x + field)) xs ≡ field_of field (first p xs)
@@ -149,8 +151,8 @@ finds_first_entry p at size n lt =
     to
     (λ k h. (k, h.0, h.1, omega arith))
     (finds_at (field_of 0 (first p (entries at size n))) (first p (entries at size n)) (λ k. (x : ℕ) × Contains (entries at size n) x × (p x ≡ true) × (k ≡ x + 0)) (plus_zero (first p (entries at size n))) (finds_first p 0 at size n lt)) where
-  to : (k : ℕ) → (x : ℕ) × Contains (entries at size n) x × (p x ≡ true) × (k ≡ x + 0) → Contains (entries at size n) k × (p k ≡ true)
-  to k (x, there, is, same) = let e : x ≡ k = omega (arith, same) in subst (λ y. Contains (entries at size n) y × (p y ≡ true)) e (there, is)
+      to : (k : ℕ) → (x : ℕ) × Contains (entries at size n) x × (p x ≡ true) × (k ≡ x + 0) → Contains (entries at size n) k × (p k ≡ true)
+      to k (x, there, is, same) = let e : x ≡ k = omega (arith, same) in subst (λ y. Contains (entries at size n) y × (p y ≡ true)) e (there, is)
 
 -- ---- the first and the second of those that pass a test
 
@@ -188,44 +190,48 @@ finds_second p field size at (suc n) lt = by (p at) refl (finds_second p field s
       (first_found field p (entries (at + size) size n) ∙ sym (second_after field at (filter p (entries (at + size) size n))))
       (finds_as (field_of field (first p (entries (at + size) size n))) (λ k. (x : ℕ) × Contains (entries (at + size) size n) x × (p x ≡ true) × (k ≡ x + field)) (λ k. (s : ℕ) × IsLater p (at ∷ entries (at + size) size n) s × (k ≡ s + field))
       to from (finds_first p field (at + size) size n lt)) where
-    to : (k : ℕ) → (x : ℕ) × Contains (entries (at + size) size n) x × (p x ≡ true) × (k ≡ x + field) → (s : ℕ) × IsLater p (at ∷ entries (at + size) size n) s × (k ≡ s + field)
-    to k (x, there, passed, same) = (x, ((has_later at x (entries (at + size) size n) there, passed), at, (has_first at (entries (at + size) size n), is), omega (arith, entry_from (at + size) size n x there, lt)), same)
-    from : (k : ℕ) → (s : ℕ) × IsLater p (at ∷ entries (at + size) size n) s × (k ≡ s + field) → (x : ℕ) × Contains (entries (at + size) size n) x × (p x ≡ true) × (k ≡ x + field)
-    from k (s, ((there, passed), t, (t_there, t_is), below), same) = elim (first_or_later at s (entries (at + size) size n) there) [
-      | inl is_first ↦ absurd (omega (arith, is_first, below, entry_from at size (suc n) t t_there))
-      | inr later ↦ (s, later, passed, same)
-    ]
+        to : (k : ℕ) → (x : ℕ) × Contains (entries (at + size) size n) x × (p x ≡ true) × (k ≡ x + field) → (s : ℕ) × IsLater p (at ∷ entries (at + size) size n) s × (k ≡ s + field)
+        to k (x, there, passed, same) = (x, ((has_later at x (entries (at + size) size n) there, passed), at, (has_first at (entries (at + size) size n), is), omega (arith, entry_from (at + size) size n x there, lt)), same)
+
+        from : (k : ℕ) → (s : ℕ) × IsLater p (at ∷ entries (at + size) size n) s × (k ≡ s + field) → (x : ℕ) × Contains (entries (at + size) size n) x × (p x ≡ true) × (k ≡ x + field)
+        from k (s, ((there, passed), t, (t_there, t_is), below), same) = elim (first_or_later at s (entries (at + size) size n) there) [
+          | inl is_first ↦ absurd (omega (arith, is_first, below, entry_from at size (suc n) t t_there))
+          | inr later ↦ (s, later, passed, same)
+        ]
   by false is ih =
       finds_as (second_field field (found (filter p (entries (at + size) size n)))) (λ k. (s : ℕ) × IsLater p (entries (at + size) size n) s × (k ≡ s + field)) (λ k. (s : ℕ) × IsLater p (at ∷ entries (at + size) size n) s × (k ≡ s + field))
       to from ih where
-    to : (k : ℕ) → (s : ℕ) × IsLater p (entries (at + size) size n) s × (k ≡ s + field) → (s : ℕ) × IsLater p (at ∷ entries (at + size) size n) s × (k ≡ s + field)
-    to k (s, ((there, passed), t, (t_there, t_is), below), same) = (s, ((has_later at s (entries (at + size) size n) there, passed), t, (has_later at t (entries (at + size) size n) t_there, t_is), below), same)
-    other : (s : ℕ) → Contains (at ∷ entries (at + size) size n) s → p s ≡ true → Contains (entries (at + size) size n) s
-    other s there passed = elim (first_or_later at s (entries (at + size) size n) there) [
-      | inl is_first ↦ absurd (let never : p s ≡ false = ap p (sym is_first) ∙ is in cc)
-      | inr later ↦ later
-    ]
-    from : (k : ℕ) → (s : ℕ) × IsLater p (at ∷ entries (at + size) size n) s × (k ≡ s + field) → (s : ℕ) × IsLater p (entries (at + size) size n) s × (k ≡ s + field)
-    from k (s, ((there, passed), t, (t_there, t_is), below), same) = (s, ((other s there passed, passed), t, (other t t_there t_is, t_is), below), same)
+        to : (k : ℕ) → (s : ℕ) × IsLater p (entries (at + size) size n) s × (k ≡ s + field) → (s : ℕ) × IsLater p (at ∷ entries (at + size) size n) s × (k ≡ s + field)
+        to k (s, ((there, passed), t, (t_there, t_is), below), same) = (s, ((has_later at s (entries (at + size) size n) there, passed), t, (has_later at t (entries (at + size) size n) t_there, t_is), below), same)
+
+        other : (s : ℕ) → Contains (at ∷ entries (at + size) size n) s → p s ≡ true → Contains (entries (at + size) size n) s
+        other s there passed = elim (first_or_later at s (entries (at + size) size n) there) [
+          | inl is_first ↦ absurd (let never : p s ≡ false = ap p (sym is_first) ∙ is in cc)
+          | inr later ↦ later
+        ]
+
+        from : (k : ℕ) → (s : ℕ) × IsLater p (at ∷ entries (at + size) size n) s × (k ≡ s + field) → (s : ℕ) × IsLater p (entries (at + size) size n) s × (k ≡ s + field)
+        from k (s, ((there, passed), t, (t_there, t_is), below), same) = (s, ((other s there passed, passed), t, (other t t_there t_is, t_is), below), same)
 
 -- ---- the lowest of what the elements of a list give
 
 module _ {A : Type 0} (f : A → Option ℕ) (P : A → ℕ → Type 0) (each : (x : A) → Finds (f x) (P x)) where
   finds_from : (o : Option ℕ) (Q : ℕ → Type 0) (xs : List A) → Finds o Q → Finds (fold (λ lowest x. lowest or_lower f x) o xs) (λ k. Q k ⊎ ((x : A) × Contains xs x × P x k))
-  finds_from o Q [] h = finds_as o Q (λ k. Q k ⊎ ((x : A) × Contains [] x × P x k)) (λ k q. inl q) (λ k e. elim e [ | inl q ↦ q | inr x ↦ absurd (has_none x.0 x.1) ]) h
+  finds_from o Q [] h = finds_as o Q (λ k. Q k ⊎ ((x : A) × Contains [] x × P x k)) (λ k q. inl q) (λ k e. elim e [ inl q ↦ q | inr x ↦ absurd (has_none x.0 x.1) ]) h
   finds_from o Q (x ∷ xs) h =
       finds_as (fold (λ lowest y. lowest or_lower f y) (o or_lower f x) xs) (λ k. (Q k ⊎ P x k) ⊎ ((y : A) × Contains xs y × P y k)) (λ k. Q k ⊎ ((y : A) × Contains (x ∷ xs) y × P y k))
       to from (finds_from (o or_lower f x) (λ k. Q k ⊎ P x k) xs (finds_lower o (f x) Q (P x) h (each x))) where
-    to : (k : ℕ) → (Q k ⊎ P x k) ⊎ ((y : A) × Contains xs y × P y k) → Q k ⊎ ((y : A) × Contains (x ∷ xs) y × P y k)
-    to k (inl (inl q)) = inl q
-    to k (inl (inr p)) = inr (x, has_first x xs, p)
-    to k (inr (y, there, p)) = inr (y, has_later x y xs there, p)
-    from : (k : ℕ) → Q k ⊎ ((y : A) × Contains (x ∷ xs) y × P y k) → (Q k ⊎ P x k) ⊎ ((y : A) × Contains xs y × P y k)
-    from k (inl q) = inl (inl q)
-    from k (inr (y, there, p)) = elim (first_or_later x y xs there) [
-      | inl is ↦ inl (inr (subst (λ (z : A). P z k) (sym is) p))
-      | inr later ↦ inr (y, later, p)
-    ]
+        to : (k : ℕ) → (Q k ⊎ P x k) ⊎ ((y : A) × Contains xs y × P y k) → Q k ⊎ ((y : A) × Contains (x ∷ xs) y × P y k)
+        to k (inl (inl q)) = inl q
+        to k (inl (inr p)) = inr (x, has_first x xs, p)
+        to k (inr (y, there, p)) = inr (y, has_later x y xs there, p)
+
+        from : (k : ℕ) → Q k ⊎ ((y : A) × Contains (x ∷ xs) y × P y k) → (Q k ⊎ P x k) ⊎ ((y : A) × Contains xs y × P y k)
+        from k (inl q) = inl (inl q)
+        from k (inr (y, there, p)) = elim (first_or_later x y xs there) [
+          | inl is ↦ inl (inr (subst (λ (z : A). P z k) (sym is) p))
+          | inr later ↦ inr (y, later, p)
+        ]
 
   pub finds_fold : (xs : List A) → Finds (fold (λ lowest x. lowest or_lower f x) None xs) (λ k. (x : A) × Contains xs x × P x k)
-  finds_fold xs = finds_as (fold (λ lowest x. lowest or_lower f x) None xs) (λ k. ⊥ ⊎ ((x : A) × Contains xs x × P x k)) (λ k. (x : A) × Contains xs x × P x k) (λ k e. elim e [ | inl never ↦ absurd never | inr h ↦ h ]) (λ k h. inr h) (finds_from None (λ k. ⊥) xs (λ k never. never))
+  finds_fold xs = finds_as (fold (λ lowest x. lowest or_lower f x) None xs) (λ k. ⊥ ⊎ ((x : A) × Contains xs x × P x k)) (λ k. (x : A) × Contains xs x × P x k) (λ k e. elim e [ inl never ↦ absurd never | inr h ↦ h ]) (λ k h. inr h) (finds_from None (λ k. ⊥) xs (λ k never. never))

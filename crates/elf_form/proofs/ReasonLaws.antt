@@ -47,8 +47,10 @@ module _ (bytes : List ℕ) where
   two_is a b e false is = (((λ t. not_all (test t (same_text a b t (sym e ∙ t.are)) (same_init a b t (sym e ∙ t.are))) is), refl), λ k p. omega (arith, p.1)) where
     same_text : (a b : ℕ) (t : AreTwo bytes) → a ∷ b ∷ [] ≡ t.text ∷ t.init ∷ [] → t.text ≡ a
     same_text a b t h = cc
+
     same_init : (a b : ℕ) (t : AreTwo bytes) → a ∷ b ∷ [] ≡ t.text ∷ t.init ∷ [] → t.init ≡ b
     same_init a b t h = cc
+
     test : (t : AreTwo bytes) → t.text ≡ a → t.init ≡ b → (is_executable bytes a && not (is_executable bytes b)) ≡ true
     test t x y =
         and_from (is_executable bytes a) (not (is_executable bytes b))

@@ -65,6 +65,7 @@ pub data IsBadEntrySize (entry : ℕ) (bytes : List ℕ) (s at : ℕ) : Type 0 w
   uneven : size bytes s % entry ≢ 0 → at ≡ s + 20 → IsBadEntrySize entry bytes s at
   other : word32 bytes (s + 36) ≢ entry → at ≡ s + 36 → IsBadEntrySize entry bytes s at
 
+-- A size of an object that is wrong: e_ehsize, e_shentsize, sh_size of a section with which those that are joined are too much, sh_size and sh_entsize of the symbol table and of relocations, or the file's own.
 pub data IsBadObjectSize (bytes : List ℕ) (at : ℕ) : Type 0 where
   header : word16 bytes 40 ≢ 52 → at ≡ 40 → IsBadObjectSize bytes at
   section_header : word16 bytes 46 ≢ 40 → at ≡ 46 → IsBadObjectSize bytes at
@@ -78,6 +79,7 @@ pub data IsBadObjectSize (bytes : List ℕ) (at : ℕ) : Type 0 where
 abbrev pub loaded : List ℕ → List ℕ
 loaded bytes = filter (is_load bytes) (headers bytes)
 
+-- A size of an image that is wrong: e_ehsize, e_phentsize, e_shentsize, p_memsz of the first and of the second part that is loaded, or the file's own.
 pub data IsBadImageSize (bytes : List ℕ) (at : ℕ) : Type 0 where
   header : word16 bytes 40 ≢ 52 → at ≡ 40 → IsBadImageSize bytes at
   program_header : word16 bytes 42 ≢ 32 → at ≡ 42 → IsBadImageSize bytes at
@@ -88,6 +90,7 @@ pub data IsBadImageSize (bytes : List ℕ) (at : ℕ) : Type 0 where
 
 -- ---- sections and segments
 
+-- A section that an object may not have: an allocated one of another type (at sh_type), a second text (at sh_flags), a second section of sites (at sh_name), data or zeroed bytes at another alignment (at sh_addralign).
 pub data IsBadSection (bytes : List ℕ) (at : ℕ) : Type 0 where
   foreign : (s : ℕ) → IsOf role.Foreign bytes s → at ≡ s + 4 → IsBadSection bytes at
   text : (s : ℕ) → IsSecond (IsOf role.Text bytes) s → at ≡ s + 8 → IsBadSection bytes at
@@ -102,11 +105,13 @@ pub record AreTwo (bytes : List ℕ) : Type 0 where
   pub executable : word32 bytes (text + 24) % 2 ≡ 1
   pub other : word32 bytes (init + 24) % 2 ≢ 1
 
+-- Program headers in another number or order (at e_phnum), no section of sites (at e_shnum), or a second one (at sh_name).
 pub data IsBadPart (bytes : List ℕ) (at : ℕ) : Type 0 where
   program : (AreTwo bytes → ⊥) → at ≡ 44 → IsBadPart bytes at
   none : ((s : ℕ) → IsNamedSites bytes s → ⊥) → at ≡ 48 → IsBadPart bytes at
   sites : (s : ℕ) → IsSecond (IsNamedSites bytes) s → at ≡ s → IsBadPart bytes at
 
+-- a section with the flag SHF_COMPRESSED, at sh_flags
 abbrev pub IsCompressed : List ℕ → ℕ → Type 0
 IsCompressed bytes at = (s : ℕ) × IsSectionAt bytes s × (is_compressed bytes s ≡ true) × (at ≡ s + 8)
 
@@ -116,6 +121,7 @@ IsCompressed bytes at = (s : ℕ) × IsSectionAt bytes s × (is_compressed bytes
 abbrev pub IsNameless : List ℕ → ℕ → Type 0
 IsNameless bytes s = IsSectionAt bytes s × (is_nameless (names bytes) bytes s ≡ true)
 
+-- The header names no table of names (at e_shstrndx), a section's name doesn't end in it (at sh_name), the symbol table names no string table (at sh_link), or a symbol's name doesn't end in that (at st_name).
 pub data IsBadName (bytes : List ℕ) (at : ℕ) : Type 0 where
   no_names : has_strings bytes (word16 bytes 50) ≡ false → section_count bytes ≢ 0 → at ≡ 50 → IsBadName bytes at
   section : has_strings bytes (word16 bytes 50) ≡ true → IsNameless bytes at → IsBadName bytes at
@@ -133,11 +139,12 @@ pub data IsNeeded (bytes : List ℕ) (y : ℕ) : Type 0 where
   global : Contains (symbols_of (table_of bytes)) y → binding bytes y ≢ 0 → IsNeeded bytes y
   named : (e : Entry) → IsReloc bytes e → has_symbol (table_of bytes) bytes e.at ≡ true → y ≡ symbol_of (table_of bytes) bytes e.at → IsNeeded bytes y
 
--- It is neither local nor global, or neither undefined nor in a section that is kept.
+-- It is neither local nor global (at st_info), or neither undefined nor in a section that is kept (at st_shndx). A symbol for a file is never bad.
 pub data IsBadSymbol (bytes : List ℕ) (at : ℕ) : Type 0 where
   bound : (y : ℕ) → IsNeeded bytes y → is_file bytes y ≡ false → has_binding bytes y ≡ false → at ≡ y + 12 → IsBadSymbol bytes at
   placed : (y : ℕ) → IsNeeded bytes y → is_file bytes y ≡ false → has_place (names bytes) bytes y ≡ false → at ≡ y + 14 → IsBadSymbol bytes at
 
+-- Relocations go by another section than the symbol table (at sh_link), a field isn't inside its section (at r_offset), a relocation is of another type than R_386_32 and R_386_PC32, or names no symbol (at r_info).
 pub data IsBadReloc (bytes : List ℕ) (at : ℕ) : Type 0 where
   link : (s : ℕ) → IsRelocs bytes s → is_linked (table_of bytes) (names bytes) bytes s ≡ false → at ≡ s + 24 → IsBadReloc bytes at
   outside : (e : Entry) → IsReloc bytes e → is_outside (names bytes) bytes e ≡ true → at ≡ e.at → IsBadReloc bytes at
