@@ -90,7 +90,7 @@ run_fault (b ∷ bs) r f h =
 
 -- ---- the words' names
 
-worded_named : {at line : ℕ} {text : List ℕ} {ws : List Word} {e : Ending} → Worded at line text ws e → AreNamed ws
+pub worded_named : {at line : ℕ} {text : List ℕ} {ws : List Word} {e : Ending} → Worded at line text ws e → AreNamed ws
 worded_named Worded.none = tt
 worded_named (Worded.gap piece rest e g w) = worded_named w
 worded_named (Worded.token k piece rest e t w) = (token_is k piece rest t, worded_named w)

@@ -29,3 +29,9 @@ pub mod Walking
 pub mod Refused
 pub mod Worded
 pub mod Faulted
+pub mod OneWording
+pub mod Reread
+pub mod Unchanged
+pub mod Reopened
+pub mod Suited
+pub mod OneCause

@@ -1,7 +1,7 @@
 -- What has been read of a statement leads to a place, and what is refused there has its cause.
 use Rattle.std.proofs.Common.{◌≡◌, ℕ, Bool, true, false, cond, List, [], ◌∷◌, ◌++◌, length, Option, Some, None, Result, Ok, Err, refl, sym, ap, subst, ◌∙◌, ◌⊎◌, inl, inr, append_assoc}
 use Rattle.std.proofs.lemmas.List.{append-nil}
-use Rattle.std.specs.Prelude.{◌==◌, ◌&&◌, ◌||◌, ◌+◌, not, nat_lt, is_none}
+use Rattle.std.specs.Prelude.{◌==◌, ◌&&◌, ◌||◌, ◌+◌, ◌^◌, not, nat_lt, is_none}
 use Rattle.std.specs.List.{list_all}
 use Rattle.asm_lex.specs.declared.fault.SourceCause.{SourceCause}
 use Rattle.asm_lex.specs.declared.fault.SourceCause.TheVariants as cause
@@ -24,7 +24,10 @@ use Rattle.asm_parse.specs.declared.state.State.TheVariants as state
 use Rattle.asm_parse.specs.ScopeView.{ScopeView}
 use Rattle.asm_parse.specs.Scope.{fresh}
 use Rattle.asm_argument.specs.Grammar.{IsForm}
-use Rattle.asm_argument.specs.Symbols.{symbol_of}
+use Rattle.asm_lex.specs.declared.token.TokenKind.{TokenKind}
+use Rattle.asm_lex.specs.declared.token.TokenKind.TheVariants as token
+use Rattle.asm_argument.specs.Symbols.{mark_symbol, number_value, symbol_of}
+use Rattle.asm_parse.specs.Reading.{is_part}
 use Rattle.asm_argument.specs.Operand.{is_operand, is_unbegun, is_nothing, awaits_register, is_register}
 use Rattle.asm_parse.specs.Directives.{shape_at, is_instruction, directive_of, is_dotted, is_section}
 use Rattle.asm_parse.specs.Statement.{misplaced, begins_nothing, noting, with_scope, nothing_yet, argument_step, labelled, label, is_rep, rep_step, is_passed, section_name, of_directive, directive_step, instruction_step, section, unless_skipping, start_step, colon_behind, other_behind, named_step, sectioned_step, flags_step, stray_cause, step, skip, is_unknown, is_taken, lacks_names, if_doomed, doom, or_line, fault_line, is_place, stray, strayed, next_step, if_pending, pending, or_cause}
@@ -136,6 +139,7 @@ pub record InSection (sc0 : ScopeView) (ss : List Symbol) : Type 0 where
   pub more : List Symbol
   pub whole : ss ≡ symbol.Name directive ∷ symbol.Name name ∷ more
   pub naming : IsNaming sc0 directive name
+  pub inner : list_all is_inner more ≡ true
 
 -- what is known besides of a statement's words
 abbrev pub Extra : ScopeView → State → List Word → Type 0
@@ -143,13 +147,17 @@ Extra sc0 (state.Flags b n m) ps = InSection sc0 (symbols ps)
 Extra sc0 (state.Arguments o) ps = (p : Word) × (q : Word) × (rest : List Word) × (ps ≡ p ∷ q ∷ rest)
 Extra sc0 st ps = Unit {0}
 
-pub record Standing (sc0 : ScopeView) (st : State) (ps : List Word) (sc : ScopeView) : Type 0 where
-  pub place : Place
-  pub stands : Stands sc0 (symbols ps) place
+-- In this state what is refused has the cause of the place.
+pub record Suits (sc0 : ScopeView) (place : Place) (sc : ScopeView) (st : State) : Type 0 where
   pub cause : (line : ℕ) (s : Symbol) (rest : List Symbol) (c : SourceCause) → next_step sc st line s ≡ Err c → refused_cause sc0 place s rest ≡ c
   pub percent : (line : ℕ) (rest : List Symbol) (c : SourceCause) → step sc st line symbol.Percent ≡ Err c → refused_cause sc0 place symbol.Percent rest ≡ percent_cause c rest
   pub first : st ≡ state.Start → (sc0 ≡ sc) × (place ≡ Place.first)
   pub byte : (c : SourceCause) → or_cause (pending sc st) c ≡ byte_cause sc0 place c
+
+pub record Standing (sc0 : ScopeView) (st : State) (ps : List Word) (sc : ScopeView) : Type 0 where
+  pub place : Place
+  pub stands : Stands sc0 (symbols ps) place
+  pub suits : Suits sc0 place sc st
 
 start_fails : (sc : ScopeView) (line : ℕ) (s : Symbol) (c : SourceCause) → step sc state.Start line s ≡ Err c → other_cause s ≡ c
 start_fails sc line symbol.End c h = absurd cc
@@ -169,15 +177,16 @@ first_cause : (sc : ScopeView) (line : ℕ) (s : Symbol) (rest : List Symbol) (c
 first_cause sc line (symbol.Name n) rest c h = absurd cc
 first_cause sc line s rest c h = behind_is sc Place.first sc state.Start line s rest c (λ d k. start_fails sc line s d k) h
 
-at_start : (sc : ScopeView) → Standing sc state.Start [] sc
-at_start sc = record {
-  place = Place.first;
-  stands = Stands.first;
+pub start_suits : (sc : ScopeView) → Suits sc Place.first sc state.Start
+start_suits sc = record {
   cause = λ line s rest c h. first_cause sc line s rest c h;
   percent = λ line rest c h. ap (λ (x : SourceCause). percent_cause x rest) (start_fails sc line symbol.Percent c h);
   first = λ e. (refl, refl);
   byte = λ c. refl;
 }
+
+at_start : (sc : ScopeView) → Standing sc state.Start [] sc
+at_start sc = record { place = Place.first; stands = Stands.first; suits = start_suits sc }
 
 or_false : (a b : Bool) → (a || b) ≡ false → b ≡ false
 or_false true b h = absurd cc
@@ -197,15 +206,16 @@ named_byte sc b n c alive = by_test (is_unknown sc n) refl
         let lacks : lacks_names sc n ≡ false = or_false (is_unknown sc n && is_taken sc n) (lacks_names sc n) (not_doomed _ b alive) in
         rw (e, lacks) refl
 
-at_named : (sc : ScopeView) (b : ℕ) (n : List ℕ) (ps : List Word) → symbols ps ≡ symbol.Name n ∷ [] → doom sc (state.Named b n) ≡ None → Standing sc (state.Named b n) ps sc
-at_named sc b n ps e alive = record {
-  place = Place.named n;
-  stands = subst (λ (x : List Symbol). Stands sc x (Place.named n)) (sym e) Stands.named;
+pub named_suits : (sc : ScopeView) (b : ℕ) (n : List ℕ) → doom sc (state.Named b n) ≡ None → Suits sc (Place.named n) sc (state.Named b n)
+named_suits sc b n alive = record {
   cause = λ line s rest c h. behind_is sc (Place.named n) sc (state.Named b n) line s rest c (λ d k. named_fails sc b n s d k) h;
   percent = λ line rest c h. ap (λ (x : SourceCause). percent_cause x rest) (named_fails sc b n symbol.Percent c h);
   first = λ e. absurd cc;
   byte = λ c. named_byte sc b n c alive;
 }
+
+at_named : (sc : ScopeView) (b : ℕ) (n : List ℕ) (ps : List Word) → symbols ps ≡ symbol.Name n ∷ [] → doom sc (state.Named b n) ≡ None → Standing sc (state.Named b n) ps sc
+at_named sc b n ps e alive = record { place = Place.named n; stands = subst (λ (x : List Symbol). Stands sc x (Place.named n)) (sym e) Stands.named; suits = named_suits sc b n alive }
 
 passes : (sc : ScopeView) (line : ℕ) (s : Symbol) (c : SourceCause) → next_step sc state.Skip line s ≡ Err c → ⊥
 passes sc line symbol.Percent c h = absurd cc
@@ -217,36 +227,74 @@ flags_pass sc b n m line symbol.Percent c h = absurd cc
 flags_pass sc b n m line symbol.End c h = absurd cc
 flags_pass sc b n m line _ c h = absurd cc
 
-at_skip : (sc0 sc : ScopeView) (line : ℕ) (ps : List Word) → ((rest : List Symbol) → list_all is_inner rest ≡ true → Statement sc0 line (symbols ps ++ (rest ++ symbol.End ∷ [])) sc0) → Standing sc0 state.Skip ps sc
-at_skip sc0 sc line ps f = record {
-  place = Place.skipped;
-  stands = Stands.skipped {line = line} f;
+pub skip_suits : (sc0 sc : ScopeView) → Suits sc0 Place.skipped sc state.Skip
+skip_suits sc0 sc = record {
   cause = λ line s rest c h. absurd (passes sc line s c h);
   percent = λ line rest c h. absurd cc;
   first = λ e. absurd cc;
   byte = λ c. refl;
 }
 
-in_section : (sc0 : ScopeView) (ss : List Symbol) → InSection sc0 ss → Stands sc0 ss Place.section
-in_section sc0 ss g = subst (λ (x : List Symbol). Stands sc0 x Place.section) (sym g.whole) (Stands.section g.more g.naming.passed g.naming.dotted g.naming.section g.naming.is)
+at_skip : (sc0 sc : ScopeView) (line : ℕ) (ps : List Word) → ((rest : List Symbol) → list_all is_inner rest ≡ true → Statement sc0 line (symbols ps ++ (rest ++ symbol.End ∷ [])) sc0) → Standing sc0 state.Skip ps sc
+at_skip sc0 sc line ps f = record { place = Place.skipped; stands = Stands.skipped {line = line} f; suits = skip_suits sc0 sc }
 
-at_flags : (sc0 sc : ScopeView) (b : ℕ) (n m : List ℕ) (ps : List Word) → InSection sc0 (symbols ps) → Standing sc0 (state.Flags b n m) ps sc
-at_flags sc0 sc b n m ps st = record {
-  place = Place.section;
-  stands = in_section sc0 (symbols ps) st;
+in_section : (sc0 : ScopeView) (ss : List Symbol) → InSection sc0 ss → Stands sc0 ss Place.section
+in_section sc0 ss g = subst (λ (x : List Symbol). Stands sc0 x Place.section) (sym g.whole) (Stands.section g.more g.naming.passed g.naming.dotted g.naming.section g.naming.is g.inner)
+
+pub flags_suits : (sc0 sc : ScopeView) (b : ℕ) (n m : List ℕ) → Suits sc0 Place.section sc (state.Flags b n m)
+flags_suits sc0 sc b n m = record {
   cause = λ line s rest c h. absurd (flags_pass sc b n m line s c h);
   percent = λ line rest c h. absurd cc;
   first = λ e. absurd cc;
   byte = λ c. refl;
 }
 
-pub section_words : (sc0 : ScopeView) (ps : List Word) (b : ℕ) (n m : List ℕ) (e : ℕ) → InName sc0 ps b n m e → (more : List Word) → InSection sc0 (symbols (ps ++ more))
-section_words sc0 ps b n m e g more = record {
+at_flags : (sc0 sc : ScopeView) (b : ℕ) (n m : List ℕ) (ps : List Word) → InSection sc0 (symbols ps) → Standing sc0 (state.Flags b n m) ps sc
+at_flags sc0 sc b n m ps st = record { place = Place.section; stands = in_section sc0 (symbols ps) st; suits = flags_suits sc0 sc b n m }
+
+-- ---- symbols in front of a statement's end
+
+inner_either : (t : Bool) (a b : Symbol) → is_inner a ≡ true → is_inner b ≡ true → is_inner (cond t a b) ≡ true
+inner_either true a b p q = p
+inner_either false a b p q = q
+
+mark_inner : (m : ℕ) → is_inner (mark_symbol m) ≡ true
+mark_inner m =
+    inner_either (m == 36) symbol.Dollar _ refl (inner_either (m == 37) symbol.Percent _ refl (inner_either (m == 40) symbol.Open _ refl (inner_either (m == 41) symbol.Close _ refl (inner_either (m == 42) symbol.Star _ refl
+    (inner_either (m == 43) symbol.Plus _ refl (inner_either (m == 44) symbol.Comma _ refl (inner_either (m == 45) symbol.Minus _ refl (inner_either (m == 58) symbol.Colon symbol.At refl refl))))))))
+
+part_inner : (k : TokenKind) (bytes : List ℕ) → is_part k bytes ≡ true → is_inner (symbol_of k bytes) ≡ true
+part_inner token.End bytes h = absurd cc
+part_inner token.Name bytes h = refl
+part_inner token.Number bytes h = inner_either (nat_lt (number_value bytes) (2 ^ 32)) (symbol.Number (number_value bytes)) symbol.Big refl refl
+part_inner token.Text bytes h = refl
+part_inner (token.Mark m) bytes h = mark_inner m
+
+pub all_more : (xs ys : List Symbol) → list_all is_inner xs ≡ true → list_all is_inner ys ≡ true → list_all is_inner (xs ++ ys) ≡ true
+all_more [] ys p q = q
+all_more (symbol.End ∷ xs) ys p q = absurd cc
+all_more (x ∷ xs) ys p q = all_more xs ys p q
+
+pub symbols_append : (ps qs : List Word) → symbols (ps ++ qs) ≡ symbols ps ++ symbols qs
+symbols_append [] qs = refl
+symbols_append (p ∷ ps) qs = ap (λ (x : List Symbol). symbol_of p.kind p.bytes ∷ x) (symbols_append ps qs)
+
+pub all_and : (s : Symbol) (ss : List Symbol) → is_inner s ≡ true → list_all is_inner ss ≡ true → list_all is_inner (s ∷ ss) ≡ true
+all_and symbol.End ss p q = absurd cc
+all_and s ss p q = q
+
+touch_inner : (e : ℕ) (parts : List Word) → Touch e parts → list_all is_inner (symbols parts) ≡ true
+touch_inner e [] h = refl
+touch_inner e (w ∷ ws) (at, part, more) = all_and (symbol_of w.kind w.bytes) (symbols ws) (part_inner w.kind w.bytes part) (touch_inner (w.at + length w.bytes) ws more)
+
+pub section_words : (sc0 : ScopeView) (ps : List Word) (b : ℕ) (n m : List ℕ) (e : ℕ) → InName sc0 ps b n m e → (more : List Word) → list_all is_inner (symbols more) ≡ true → InSection sc0 (symbols (ps ++ more))
+section_words sc0 ps b n m e g more inner = record {
   directive = n;
   name = g.front;
   more = symbols (g.parts ++ more);
   whole = rw (g.whole, g.named, g.behind) refl;
   naming = g.naming;
+  inner = ap (list_all is_inner) (symbols_append g.parts more) ∙ all_more (symbols g.parts) (symbols more) (touch_inner (g.second.at + length g.second.bytes) g.parts g.touch) inner;
 }
 
 sectioned_fails : (sc : ScopeView) (b : ℕ) (n m : List ℕ) (s : Symbol) (c : SourceCause) → sectioned_step sc b n m s ≡ Err c → other_cause s ≡ c
@@ -254,14 +302,19 @@ sectioned_fails sc b n m symbol.End c h = absurd cc
 sectioned_fails sc b n m symbol.Comma c h = absurd cc
 sectioned_fails sc b n m _ c h = same_fault _ c h
 
-at_section : (sc0 sc : ScopeView) (b : ℕ) (n m : List ℕ) (e : ℕ) (ps : List Word) → InName sc0 ps b n m e → Standing sc0 (state.Sectioned b n m e) ps sc
-at_section sc0 sc b n m e ps g = record {
-  place = Place.section;
-  stands = subst (λ (x : List Word). Stands sc0 (symbols x) Place.section) (append-nil ps) (in_section sc0 (symbols (ps ++ [])) (section_words sc0 ps b n m e g []));
+pub section_suits : (sc0 sc : ScopeView) (b : ℕ) (n m : List ℕ) (e : ℕ) → Suits sc0 Place.section sc (state.Sectioned b n m e)
+section_suits sc0 sc b n m e = record {
   cause = λ line s rest c h. behind_is sc0 Place.section sc (state.Sectioned b n m e) line s rest c (λ d k. sectioned_fails sc b n m s d k) h;
   percent = λ line rest c h. ap (λ (x : SourceCause). percent_cause x rest) (sectioned_fails sc b n m symbol.Percent c h);
   first = λ e. absurd cc;
   byte = λ c. refl;
+}
+
+at_section : (sc0 sc : ScopeView) (b : ℕ) (n m : List ℕ) (e : ℕ) (ps : List Word) → InName sc0 ps b n m e → Standing sc0 (state.Sectioned b n m e) ps sc
+at_section sc0 sc b n m e ps g = record {
+  place = Place.section;
+  stands = subst (λ (x : List Word). Stands sc0 (symbols x) Place.section) (append-nil ps) (in_section sc0 (symbols (ps ++ [])) (section_words sc0 ps b n m e g [] refl));
+  suits = section_suits sc0 sc b n m e;
 }
 
 -- ---- in arguments
@@ -358,15 +411,20 @@ module _ (sc0 : ScopeView) (line : ℕ) (o : Open) (ss : List Symbol) (sc : Scop
       by_star : (t : Bool) → o.star ≡ t → Opens (shape_at o.head (length o.done)) (stars o.star ++ w.arg)
       by_star t e = rw e (whole t e (shape_at o.head (length o.done)) refl)
 
+  pub arguments_suit : Suits sc0 (Place.argument o.head o.done w.behind (stars o.star ++ w.arg)) sc (state.Arguments o)
+  arguments_suit = record {
+    cause = λ at s more c h. behind_is sc0 (Place.argument o.head o.done w.behind (stars o.star ++ w.arg)) sc (state.Arguments o) at s more c (λ d k. argument_refused sc0 line o ss sc w s d k) h;
+    percent = λ at more c h. ap (λ (x : SourceCause). percent_cause x more) (argument_refused sc0 line o ss sc w symbol.Percent c h);
+    first = λ e. absurd cc;
+    byte = byte_is;
+  }
+
   at_arguments : (ps : List Word) → ss ≡ symbols ps → (p : Word) (q : Word) (rest : List Word) → ps ≡ p ∷ q ∷ rest → Standing sc0 (state.Arguments o) ps sc
   at_arguments ps same p q rest e = record {
     place = Place.argument o.head o.done w.behind (stars o.star ++ w.arg);
     stands = subst (λ (x : List Symbol). Stands sc0 x (Place.argument o.head o.done w.behind (stars o.star ++ w.arg))) (ap symbols (sym e))
         (Stands.argument (symbol_of p.kind p.bytes) (symbol_of q.kind q.bytes) (symbols rest) w.lead w.front (stars o.star ++ w.arg) (ap symbols (sym e) ∙ (sym same ∙ w.whole)) w.leads w.separated opens);
-    cause = λ at s more c h. behind_is sc0 (Place.argument o.head o.done w.behind (stars o.star ++ w.arg)) sc (state.Arguments o) at s more c (λ d k. argument_refused sc0 line o ss sc w s d k) h;
-    percent = λ at more c h. ap (λ (x : SourceCause). percent_cause x more) (argument_refused sc0 line o ss sc w symbol.Percent c h);
-    first = λ e. absurd cc;
-    byte = byte_is;
+    suits = arguments_suit;
   }
 
 -- What is held of a statement stands in a place.

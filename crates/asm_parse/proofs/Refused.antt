@@ -12,11 +12,11 @@ use Rattle.asm_parse.specs.declared.state.State.{State}
 use Rattle.asm_parse.specs.declared.state.State.TheVariants as state
 use Rattle.asm_parse.specs.ScopeView.{ScopeView}
 use Rattle.asm_parse.specs.Scope.{fresh}
-use Rattle.asm_parse.specs.Statement.{step, next_step, fault_line, doom, or_line, pending, or_cause, stopped, left_open, open_at_end, is_unknown, is_taken, lacks_names, if_doomed, is_place, strayed, with_scope, start_step, unless_skipping}
-use Rattle.asm_parse.specs.Reading.{Fault, placed, is_longer, ending_at, next_word}
+use Rattle.asm_parse.specs.Statement.{sectioned, step, next_step, fault_line, doom, or_line, pending, or_cause, stopped, left_open, open_at_end, is_unknown, is_taken, lacks_names, if_doomed, is_place, strayed, with_scope, start_step, unless_skipping}
+use Rattle.asm_parse.specs.Reading.{Fault, placed, is_longer, longer, ending_at, next_word}
 use Rattle.asm_argument.specs.Symbols.{symbol_of}
 use Rattle.asm_parse.specs.Running.{◌>>=◌}
-use Rattle.asm_parse.specs.Statements.{symbols, IsStatement, Statements}
+use Rattle.asm_parse.specs.Statements.{is_inner, symbols, IsStatement, Statements}
 use Rattle.asm_parse.specs.Refusals.{Ending, IsBeginning, IsNoBeginning, Place, Stands, Reaches, percent_cause, first_name_cause, refused_cause, byte_cause}
 use Rattle.asm_parse.proofs.Words.{read_words}
 use Rattle.asm_parse.proofs.Scopes.{GoodIn, fresh_good}
@@ -25,7 +25,7 @@ use Rattle.asm_parse.proofs.Stated.{words_append, is_naming, not_longer}
 use Rattle.asm_parse.proofs.Said.{Begun, begun_more, next_begun, start_begun}
 use Rattle.asm_parse.proofs.Collected.{Held, HeldBy, held_more, first_held}
 use Rattle.asm_parse.proofs.Closing.{AreNamed}
-use Rattle.asm_parse.proofs.Places.{Extra, InSection, Standing, standing, section_words}
+use Rattle.asm_parse.proofs.Places.{Extra, InSection, Standing, standing, all_more, all_and, section_words}
 use Rattle.asm_parse.proofs.Walking.{fault_in, beginning, refused_never, doomed_never, Found, word_fails, stray_fault, name_fault, Doomed, doomed_word}
 
 abbrev Answer : Type 0
@@ -79,13 +79,14 @@ first_quiet sc line s = start_quiet sc line s
 begun_flags : (sc0 sc : ScopeView) (line : ℕ) (ss : List Symbol) (st : State) (b : ℕ) (n m : List ℕ) → Begun sc0 line st ss sc → st ≡ state.Flags b n m → ⊥
 begun_flags sc0 sc line ss st b n m g e = subst (λ (x : State). Begun sc0 line x ss sc) e g
 
-more_section : (sc0 : ScopeView) (ps : List Word) (w : Word) → InSection sc0 (symbols ps) → InSection sc0 (symbols (ps ++ w ∷ []))
-more_section sc0 ps w g = record {
+more_section : (sc0 : ScopeView) (ps : List Word) (w : Word) → InSection sc0 (symbols ps) → is_inner (symbol_of w.kind w.bytes) ≡ true → InSection sc0 (symbols (ps ++ w ∷ []))
+more_section sc0 ps w g inner = record {
   directive = g.directive;
   name = g.name;
   more = g.more ++ symbol_of w.kind w.bytes ∷ [];
   whole = symbols_end ps w ∙ ap (λ (x : List Symbol). x ++ symbol_of w.kind w.bytes ∷ []) g.whole;
   naming = g.naming;
+  inner = all_more g.more (symbol_of w.kind w.bytes ∷ []) g.inner (all_and (symbol_of w.kind w.bytes) [] inner refl);
 }
   where
     symbols_end : (ps : List Word) (w : Word) → symbols (ps ++ w ∷ []) ≡ symbols ps ++ symbol_of w.kind w.bytes ∷ []
@@ -115,6 +116,29 @@ module _ (sc0 sc : ScopeView) (w : Word) (z : ScopeView × State) where
         (next_begun sc sc w.line w.line state.Start (symbol_of w.kind w.bytes ∷ []) (symbol_of w.kind w.bytes) y (start_begun sc w.line (symbol_of w.kind w.bytes) y) f) flags
   ]
 
+  inner_or : (s : Symbol) → (s ≡ symbol.End) ⊎ (is_inner s ≡ true)
+  inner_or symbol.End = inl refl
+  inner_or s = inr refl
+
+  -- an end leads behind the statement
+  name_ended : (line a : ℕ) (k l : List ℕ) (x b : ℕ) (n m : List ℕ) (y : ScopeView × State) → next_step sc (state.Sectioned a k l x) line symbol.End ≡ Ok y → y.1 ≡ state.Flags b n m → ⊥
+  name_ended line a k l x b n m y h e = let g : (sectioned sc a k l, state.Start) ≡ y = cc in let f : state.Start ≡ state.Flags b n m = ap (λ (v : ScopeView × State). v.1) g ∙ e in absurd cc
+
+  flags_ended : (line a : ℕ) (k l : List ℕ) (b : ℕ) (n m : List ℕ) (y : ScopeView × State) → next_step sc (state.Flags a k l) line symbol.End ≡ Ok y → y.1 ≡ state.Flags b n m → ⊥
+  flags_ended line a k l b n m y h e = let g : (sectioned sc a k l, state.Start) ≡ y = cc in let f : state.Start ≡ state.Flags b n m = ap (λ (v : ScopeView × State). v.1) g ∙ e in absurd cc
+
+  flags_inner : (st : State) (b : ℕ) (n m : List ℕ) → ((y : ScopeView × State) → next_step sc st w.line symbol.End ≡ Ok y → y.1 ≡ state.Flags b n m → ⊥) → ((longer_to : State) → longer_to ≡ longer st (w.at + length w.bytes) w.bytes → is_longer st w.at w.kind w.bytes ≡ true → longer_to ≡ state.Flags b n m → ⊥)
+      → next_word sc st w ≡ Ok z → z.1 ≡ state.Flags b n m → is_inner (symbol_of w.kind w.bytes) ≡ true
+  flags_inner st b n m never never_on h e = elim (word_goes sc st w z h) [
+    | WordGoes.on t k ↦ absurd (never_on z.1 (ap (λ (v : ScopeView × State). v.1) k) t e)
+    | WordGoes.as_symbol y t f k ↦
+        let flags : y.1 ≡ state.Flags b n m = ending_flags y.1 (w.at + length w.bytes) b n m (sym (ap (λ (x : ScopeView × State). x.1) k) ∙ e) in
+        elim (inner_or (symbol_of w.kind w.bytes)) [
+          | inl end ↦ absurd (never y (ap (next_step sc st w.line) (sym end) ∙ f) flags)
+          | inr inner ↦ inner
+        ]
+  ]
+
   start_arguments : (o : Open) → next_word sc state.Start w ≡ Ok z → z.1 ≡ state.Arguments o → ⊥
   start_arguments o h e = elim (word_goes sc state.Start w z h) [
     | WordGoes.on t k ↦ absurd cc
@@ -129,8 +153,11 @@ module _ (sc0 sc : ScopeView) (w : Word) (z : ScopeView × State) where
   flags_extra state.Start (p ∷ ps) b n m held extra h e = absurd (held.0 refl)
   flags_extra (state.Named a k) (p ∷ ps) b n m held extra h e = absurd (plain_flags (state.Named a k) p ps b n m held.0 refl held.1 h e)
   flags_extra state.Skip (p ∷ ps) b n m held extra h e = absurd (plain_flags state.Skip p ps b n m held.0 refl held.1 h e)
-  flags_extra (state.Sectioned a k l x) (p ∷ ps) b n m held extra h e = section_words sc0 (p ∷ ps) a k l x held.1.1 (w ∷ [])
-  flags_extra (state.Flags a k l) (p ∷ ps) b n m held extra h e = more_section sc0 (p ∷ ps) w extra
+  flags_extra (state.Sectioned a k l x) (p ∷ ps) b n m held extra h e =
+      section_words sc0 (p ∷ ps) a k l x held.1.1 (w ∷ [])
+      (all_and (symbol_of w.kind w.bytes) [] (flags_inner (state.Sectioned a k l x) b n m (λ y f g. name_ended w.line a k l x b n m y f g) (λ v f t g. absurd cc) h e) refl)
+  flags_extra (state.Flags a k l) (p ∷ ps) b n m held extra h e =
+      more_section sc0 (p ∷ ps) w extra (flags_inner (state.Flags a k l) b n m (λ y f g. flags_ended w.line a k l b n m y f g) (λ v f t g. absurd cc) h e)
   flags_extra (state.Arguments o) (p ∷ ps) b n m held extra h e = absurd (plain_flags (state.Arguments o) p ps b n m held.0 refl held.1 h e)
   flags_extra (state.Stray l c) (p ∷ ps) b n m held extra h e = absurd (plain_flags (state.Stray l c) p ps b n m held.0 refl held.1 h e)
 
@@ -153,7 +180,7 @@ statements_append : {sc sc2 sc3 : ScopeView} {ws ps : List Word} → Statements 
 statements_append {ps} Statements.none st = Statements.more ps [] (sym (append-nil ps)) st Statements.none
 statements_append {ps} (Statements.more piece rest e is tail) st = Statements.more piece (rest ++ ps) (ap (λ (x : List Word). x ++ ps) e ∙ append_assoc piece rest ps) is (statements_append tail st)
 
-named_front : (xs ys : List Word) → AreNamed (xs ++ ys) → AreNamed xs
+pub named_front : (xs ys : List Word) → AreNamed (xs ++ ys) → AreNamed xs
 named_front [] ys h = tt
 named_front (x ∷ xs) ys h = (h.0, named_front xs ys h.1)
 
@@ -243,7 +270,7 @@ module _ (all : List Word) (e : Ending) (f : Fault) (named : AreNamed all) where
       let r = reaches [] sc st k in
       let whole : (k.before ++ k.begun) ≡ all = sym (k.whole ∙ append-nil (k.before ++ k.begun)) in
       let s = stands [] sc st k in
-      let fault : f ≡ (l, byte_cause k.scope s.place c) = sym (some_same (stopped sc st l c) f h) ∙ (ap (λ (x : Option ℕ). (or_line x l, or_cause (pending sc st) c)) k.alive ∙ ap (λ (x : SourceCause). (l, x)) (s.byte c)) in
+      let fault : f ≡ (l, byte_cause k.scope s.place c) = sym (some_same (stopped sc st l c) f h) ∙ (ap (λ (x : Option ℕ). (or_line x l, or_cause (pending sc st) c)) k.alive ∙ ap (λ (x : SourceCause). (l, x)) (s.suits.byte c)) in
       Found.byte is (subst IsBeginning whole (begins [] sc st k)) (subst (λ (x : List Word). Reaches x k.scope s.place) whole r) fault
   at_end sc st k (Ending.comment l) is h =
       let whole : (k.before ++ k.begun) ≡ all = sym (k.whole ∙ append-nil (k.before ++ k.begun)) in
@@ -253,7 +280,7 @@ module _ (all : List Word) (e : Ending) (f : Fault) (named : AreNamed all) where
   at_refused : (w : Word) (ws : List Word) (sc : ScopeView) (st : State) (c : SourceCause) → Walk all (w ∷ ws) sc st → next_word sc st w ≡ Err c → placed_in (fault_line sc st w.line) ws e (Err c) ≡ Some f → Found all e f
   at_refused w ws sc st c k h g =
       let s = stands (w ∷ ws) sc st k in
-      let same = s.cause w.line (symbol_of w.kind w.bytes) (symbols ws) c (word_fails sc st w c h) in
+      let same = s.suits.cause w.line (symbol_of w.kind w.bytes) (symbols ws) c (word_fails sc st w c h) in
       let fault : f ≡ (w.line, refused_cause k.scope s.place (symbol_of w.kind w.bytes) (symbols ws)) = sym (some_same (fault_line sc st w.line, c) f g) ∙ (ap (λ (x : Option ℕ). (or_line x w.line, c)) k.alive ∙ ap (λ (x : SourceCause). (w.line, x)) (sym same)) in
       Found.word (k.before ++ k.begun) ws w k.whole (begins (w ∷ ws) sc st k) (refused_never (k.before ++ k.begun) w sc st (fault_line sc st w.line, c) k.runs (ap (placed (fault_line sc st w.line)) h)) (reaches (w ∷ ws) sc st k) fault
 
@@ -267,7 +294,7 @@ module _ (all : List Word) (e : Ending) (f : Fault) (named : AreNamed all) where
 
       by_doomed : Doomed sc st w z → f ≡ (w.line, refused_cause k.scope (stands (w ∷ ws) sc st k).place (symbol_of w.kind w.bytes) (symbols ws))
       by_doomed (Doomed.name n x y q) =
-          let at_first = (stands (w ∷ ws) sc st k).first x in
+          let at_first = (stands (w ∷ ws) sc st k).suits.first x in
           let dead : doom sc (state.Named w.line n) ≡ Some l = sym (ap (λ (v : ScopeView × State). doom v.0 v.1) q) ∙ d in
           let dead2 : doom sc (state.Named w.line n) ≡ Some w.line = same_line ((is_unknown sc n && is_taken sc n) || lacks_names sc n) w.line l dead in
           let fault : f ≡ (w.line, first_name_cause sc n (symbols ws)) = name_fault sc w.line n ws e f k.good dead2 (sym (ap (λ (v : ScopeView × State). fault_in v.0 v.1 ws e) q) ∙ g) in
@@ -279,7 +306,7 @@ module _ (all : List Word) (e : Ending) (f : Fault) (named : AreNamed all) where
           let at_line : z ≡ (fresh, state.Stray w.line c) = q ∙ ap (λ (o : Option ℕ). (fresh, state.Stray (or_line o w.line) c)) k.alive in
           let fault : f ≡ (w.line, percent_cause c (symbols ws)) = stray_fault fresh w.line c ws e f p (sym (ap (λ (v : ScopeView × State). fault_in v.0 v.1 ws e) at_line) ∙ g) in
           let same : refused_cause k.scope (stands (w ∷ ws) sc st k).place (symbol_of w.kind w.bytes) (symbols ws) ≡ percent_cause c (symbols ws) =
-          ap (λ (v : Symbol). refused_cause k.scope (stands (w ∷ ws) sc st k).place v (symbols ws)) y ∙ (stands (w ∷ ws) sc st k).percent w.line (symbols ws) c x in
+          ap (λ (v : Symbol). refused_cause k.scope (stands (w ∷ ws) sc st k).place v (symbols ws)) y ∙ (stands (w ∷ ws) sc st k).suits.percent w.line (symbols ws) c x in
           fault ∙ ap (λ (v : SourceCause). (w.line, v)) (sym same)
 
   find : (ws : List Word) (sc : ScopeView) (st : State) → Walk all ws sc st → fault_in sc st ws e ≡ Some f → Found all e f

@@ -46,7 +46,7 @@ stars true = symbol.Star ∷ []
 stars false = []
 
 -- These symbols and arguments with an end are a statement.
-abbrev Ending : ScopeView → ℕ → List Symbol → Head → Type 0
+abbrev pub Ending : ScopeView → ℕ → List Symbol → Head → Type 0
 Ending sc0 line lead h = (ss : List Symbol) (args : List Argument) (sc2 : ScopeView) → HasArguments h sc0 ss args sc2 → nat_lt (length args) (least h) ≡ false
     → Statement sc0 line (lead ++ (ss ++ symbol.End ∷ [])) (resumed (pushed sc2 (item_of line h args)) h)
 
@@ -85,22 +85,22 @@ Begun sc0 line (state.Stray l c) ss sc = Unit {0}
 pub led : (sc0 : ScopeView) (line : ℕ) (ss : List Symbol) (x y : ScopeView × State) → ◌≡◌ {A = Answer} (Ok x) (Ok y) → Begun sc0 line x.1 ss x.0 → Begun sc0 line y.1 ss y.0
 led sc0 line ss x y e b = let g : x ≡ y = cc in subst (λ (z : ScopeView × State). Begun sc0 line z.1 ss z.0) g b
 
-push_end : (a b c d ss : List Symbol) (s : Symbol) → ss ≡ a ++ (b ++ (c ++ d)) → ss ++ s ∷ [] ≡ a ++ (b ++ (c ++ (d ++ s ∷ [])))
+pub push_end : (a b c d ss : List Symbol) (s : Symbol) → ss ≡ a ++ (b ++ (c ++ d)) → ss ++ s ∷ [] ≡ a ++ (b ++ (c ++ (d ++ s ∷ [])))
 push_end a b c d ss s e =
     ap (λ (x : List Symbol). x ++ s ∷ []) e ∙ (append_assoc a (b ++ (c ++ d)) (s ∷ []) ∙ ap (λ (x : List Symbol). a ++ x) (append_assoc b (c ++ d) (s ∷ []) ∙ ap (λ (x : List Symbol). b ++ x) (append_assoc c d (s ∷ []))))
 
-end_not_nil : (xs : List Symbol) (x : Symbol) → xs ++ x ∷ [] ≡ [] → ⊥
+pub end_not_nil : (xs : List Symbol) (x : Symbol) → xs ++ x ∷ [] ≡ [] → ⊥
 end_not_nil [] x e = absurd cc
 end_not_nil (y ∷ ys) x e = absurd cc
 
-begun_solid : (sh : Shape) → is_unbegun (begun sh) ≡ false → ⊥
+pub begun_solid : (sh : Shape) → is_unbegun (begun sh) ≡ false → ⊥
 begun_solid shape.Fill e = absurd cc
 begun_solid _ e = absurd cc
 
 same_shape : (a b : Shape) → ◌≡◌ {A = Option Shape} (Some a) (Some b) → a ≡ b
 same_shape a b e = cc
 
-sees_none : (sc sc2 : ScopeView) (d : Bool) (o : Option (List ℕ)) → o ≡ None → Sees sc d o sc2 → sc ≡ sc2
+pub sees_none : (sc sc2 : ScopeView) (d : Bool) (o : Option (List ℕ)) → o ≡ None → Sees sc d o sc2 → sc ≡ sc2
 sees_none sc sc2 d o e h = subst (λ (x : Option (List ℕ)). Sees sc d x sc2) e h
 
 star_argument : (sh : Shape) (b : Bool) (ss : List Symbol) (f : Form) → (b ≡ true → is_operand sh ≡ true) → IsForm sh ss f → IsArgument sh (stars b ++ ss) (record { star = b; form = f })
@@ -148,7 +148,7 @@ module _ (sc0 : ScopeView) (line : ℕ) (o : Open) (ss : List Symbol) (sc : Scop
     | inr (sh2, may2, sp) ↦ subst (λ (p : Partial). Spelled sh2 p w.arg) e sp
   ]
 
-  advance : (s : Symbol) (sh : Shape) (q : Partial) (sc2 : ScopeView) → shape_at o.head (length o.done) ≡ Some sh → Spelled sh q (w.arg ++ s ∷ []) → Sees w.behind (defines o.head (length o.done)) (named_in q) sc2
+  unfoldable pub advance : (s : Symbol) (sh : Shape) (q : Partial) (sc2 : ScopeView) → shape_at o.head (length o.done) ≡ Some sh → Spelled sh q (w.arg ++ s ∷ []) → Sees w.behind (defines o.head (length o.done)) (named_in q) sc2
       → InArguments sc0 line (record o { so_far = q }) (ss ++ s ∷ []) sc2
   advance s sh q sc2 may sp sees = record {
     lead = w.lead;

@@ -63,7 +63,7 @@ inner_step sc (state.Arguments o) line s y h = h
 inner_step sc (state.Stray l c) line s y h = absurd cc
 
 -- what goes on goes on behind a `%` too
-step_next : (sc : ScopeView) (st : State) (line : ℕ) (s : Symbol) (y : ScopeView × State) → step sc st line s ≡ Ok y → next_step sc st line s ≡ Ok y
+pub step_next : (sc : ScopeView) (st : State) (line : ℕ) (s : Symbol) (y : ScopeView × State) → step sc st line s ≡ Ok y → next_step sc st line s ≡ Ok y
 step_next sc st line symbol.Percent y h = ap (strayed (fault_line sc st line)) h
 step_next sc st line _ y h = h
 
@@ -200,7 +200,7 @@ none_shape : (sh : Shape) → ◌≡◌ {A = Option Shape} None (Some sh) → �
 none_shape sh e = absurd cc
 
 -- an operand stands in an instruction
-operand_head : (h : Head) (i : ℕ) (sh : Shape) → shape_at h i ≡ Some sh → is_operand sh ≡ true → is_instruction h ≡ true
+pub operand_head : (h : Head) (i : ℕ) (sh : Shape) → shape_at h i ≡ Some sh → is_operand sh ≡ true → is_instruction h ≡ true
 operand_head (head.Instruction r n) i sh e k = refl
 operand_head (head.Directive kind.Bytes n) i sh e k = absurd (not_operand shape.Number sh refl e k)
 operand_head (head.Directive kind.Longs n) i sh e k = absurd (not_operand shape.Value sh refl e k)
@@ -221,7 +221,7 @@ pub instruction_operand : (h : Head) (i : ℕ) (sh : Shape) → is_instruction h
 instruction_operand (head.Instruction r n) i sh k e = let g : shape.Operand ≡ sh = cc in ap is_operand (sym g)
 instruction_operand (head.Directive d n) i sh k e = absurd cc
 
-operand_begun : (sh : Shape) → is_operand sh ≡ true → is_nothing (begun sh) ≡ true
+pub operand_begun : (sh : Shape) → is_operand sh ≡ true → is_nothing (begun sh) ≡ true
 operand_begun shape.Fill h = absurd cc
 operand_begun _ h = refl
 
@@ -265,7 +265,7 @@ pub comma_runs : (sc : ScopeView) (line : ℕ) (h : Head) (done : List Argument)
     → argument_step sc (open_at line h done a.star q) symbol.Comma ≡ Ok (sc, state.Arguments (open_at line h (done ++ a ∷ []) false (begun sh)))
 comma_runs sc line h done a q sh fin may = rw (finished_is q a.form fin, fin, may) refl
 
-separated_runs : (line : ℕ) {h : Head} {sc sc2 : ScopeView} {ss : List Symbol} {args : List Argument} → Separated h sc ss args sc2 → (sh : Shape) → shape_at h (length args) ≡ Some sh
+pub separated_runs : (line : ℕ) {h : Head} {sc sc2 : ScopeView} {ss : List Symbol} {args : List Argument} → Separated h sc ss args sc2 → (sh : Shape) → shape_at h (length args) ≡ Some sh
     → inners sc (state.Arguments (nothing_yet line h)) ss ≡ Ok (sc2, state.Arguments (open_at line h args false (begun sh)))
 separated_runs line {h} Separated.none sh may = rw (first_shape h sh may) refl
 separated_runs line {h} {sc} {sc2} (Separated.more {ss} {ts} {before} {a} {sc1} sep next) sh may =

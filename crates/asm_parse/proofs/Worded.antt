@@ -75,7 +75,7 @@ unfolding is_source
 source_backslash = refl
 
 -- a byte of a comment that goes on
-unclosed_parts : (star : Bool) (b : ℕ) (bs : List ℕ) → is_unclosed star (b ∷ bs) ≡ true → (is_source b ≡ true) × ((star && (b == 47)) ≡ false) × (is_unclosed (b == 42) bs ≡ true)
+pub unclosed_parts : (star : Bool) (b : ℕ) (bs : List ℕ) → is_unclosed star (b ∷ bs) ≡ true → (is_source b ≡ true) × ((star && (b == 47)) ≡ false) × (is_unclosed (b == 42) bs ≡ true)
 unclosed_parts star b bs h =
     let outer = and_both (is_source b && not (star && (b == 47))) (is_unclosed (b == 42) bs) h in
     let inner = and_both (is_source b) (not (star && (b == 47))) outer.0 in
@@ -89,7 +89,7 @@ comment_breaks (b ∷ bs) rest next star seen at line l u h =
     in_body star b (bs ++ (next ∷ rest)) seen at line l p.0 p.1 ∙ comment_breaks bs rest next (b == 42) (seen ++ b ∷ []) (at + 1) (line_after line b) l p.2 h
 
 -- a comment that doesn't end has no words
-comment_empty : (bs : List ℕ) (star : Bool) (seen : List ℕ) (at line l : ℕ) → is_unclosed star bs ≡ true → (scan (comment_mode star l) seen at line bs).words ≡ []
+pub comment_empty : (bs : List ℕ) (star : Bool) (seen : List ℕ) (at line l : ℕ) → is_unclosed star bs ≡ true → (scan (comment_mode star l) seen at line bs).words ≡ []
 comment_empty [] true seen at line l u = refl
 comment_empty [] false seen at line l u = refl
 comment_empty (b ∷ bs) star seen at line l u =
@@ -133,7 +133,7 @@ ten_no_quote : (b : ℕ) → (b == 10) ≡ true → (b == 34) ≡ false
 ten_no_quote b h = rw (eqb-true _ _ h) refl
 
 -- Where a byte is wrong, the scan has no word more, and stops there.
-wrong_breaks : (piece rest : List ℕ) (next : ℕ) (c : SourceCause) → IsWrong piece next c → (seen : List ℕ) (at line : ℕ) → Breaks mode.Between seen at line (piece ++ (next ∷ rest)) (lines_after line piece) c
+pub wrong_breaks : (piece rest : List ℕ) (next : ℕ) (c : SourceCause) → IsWrong piece next c → (seen : List ℕ) (at line : ℕ) → Breaks mode.Between seen at line (piece ++ (next ∷ rest)) (lines_after line piece) c
 wrong_breaks piece rest next c (IsWrong.foreign h) seen at line = rw h refl
 wrong_breaks piece rest next c (IsWrong.other h) seen at line = rw h refl
 wrong_breaks piece rest next c (IsWrong.slash {b} h e) seen at line = rw (h, e) refl
@@ -160,7 +160,7 @@ pub data EndsSo : Ending → Next → Type 0 where
   broken : {l : ℕ} {c : SourceCause} → EndsSo (Ending.broken l c) (Stops l c)
   comment : {l : ℕ} → EndsSo (Ending.comment l) (Goes (mode.Block l))
 
-lexed_worded : {at line : ℕ} {text : List ℕ} {ws : List Word} → Lexed at line text ws → Worded at line text ws Ending.whole
+pub lexed_worded : {at line : ℕ} {text : List ℕ} {ws : List Word} → Lexed at line text ws → Worded at line text ws Ending.whole
 lexed_worded Lexed.none = Worded.none
 lexed_worded (Lexed.gap piece rest e g more) = Worded.gap piece rest e g (lexed_worded more)
 lexed_worded (Lexed.token k piece rest e t more) = Worded.token k piece rest e t (lexed_worded more)
@@ -191,7 +191,7 @@ comment_goes (b ∷ bs) star seen at line l u =
 abbrev WordedWrong : ℕ → ℕ → List ℕ → List ℕ → ℕ → SourceCause → Type 0
 WordedWrong at line text seen l c = (e : Ending) × wrong_ending l c e (scan mode.Between seen at line text).ending × Worded at line text (scan mode.Between seen at line text).words e
 
-seen_more : (seen piece : List ℕ) (at : ℕ) → length seen ≡ at → length (seen ++ piece) ≡ at + length piece
+pub seen_more : (seen piece : List ℕ) (at : ℕ) → length seen ≡ at → length (seen ++ piece) ≡ at + length piece
 seen_more seen piece at e = length-append seen piece ∙ ap (λ (n : ℕ). n + length piece) e
 
 wrong_worded : {line l : ℕ} {text : List ℕ} {c : SourceCause} → Wrong line text l c → (seen : List ℕ) (at : ℕ) → length seen ≡ at → WordedWrong at line text seen l c

@@ -83,7 +83,7 @@ pub data Place : Type 0 where
 pub data Stands (sc : ScopeView) : List Symbol → Place → Type 0 where
   first : Stands sc [] Place.first
   named : {n : List ℕ} → Stands sc (symbol.Name n ∷ []) (Place.named n)
-  section : {n m : List ℕ} (ss : List Symbol) → is_passed sc n ≡ false → is_dotted n ≡ true → directive_of n ≡ Some kind.Section → is_section m ≡ true → Stands sc (symbol.Name n ∷ symbol.Name m ∷ ss) Place.section
+  section : {n m : List ℕ} (ss : List Symbol) → is_passed sc n ≡ false → is_dotted n ≡ true → directive_of n ≡ Some kind.Section → is_section m ≡ true → list_all is_inner ss ≡ true → Stands sc (symbol.Name n ∷ symbol.Name m ∷ ss) Place.section
   skipped : {line : ℕ} {ss : List Symbol} → ((rest : List Symbol) → list_all is_inner rest ≡ true → Statement sc line (ss ++ (rest ++ symbol.End ∷ [])) sc) → Stands sc ss Place.skipped
   argument : {h : Head} {sc2 : ScopeView} {done : List Argument} (s t : Symbol) (ss lead front arg : List Symbol) → s ∷ t ∷ ss ≡ lead ++ (front ++ arg) → Leads sc h lead → Separated h sc front done sc2 → Opens (shape_at h (length done)) arg
       → Stands sc (s ∷ t ∷ ss) (Place.argument h done sc2 arg)
@@ -257,3 +257,9 @@ abbrev pub RefusedFor : List ℕ → Result (List SourceItem) SourceFault → Ty
 RefusedFor text (Ok x) = Unit {0}
 RefusedFor text (Err fault.Memory) = Unit {0}
 RefusedFor text (Err (fault.At l c)) = Refused text l c
+
+-- the refusal in this line for this cause, unless memory ran out
+abbrev pub RefusesAs : ℕ → SourceCause → Result (List SourceItem) SourceFault → Type 0
+RefusesAs l c (Ok x) = ⊥
+RefusesAs l c (Err fault.Memory) = Unit {0}
+RefusesAs l c (Err (fault.At k d)) = (k ≡ l) × (d ≡ c)

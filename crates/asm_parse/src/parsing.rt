@@ -1,14 +1,15 @@
 //! The items of a source.
 
 ghost use Rattle.std.specs.Prelude.{◌≡◌, ◌≤◌, ◌<◌};
-ghost use Rattle.std.specs.Prelude.{length, List, IfOk};
+ghost use Rattle.std.specs.Prelude.{ℕ, length, List, IfOk};
 ghost use Rattle.asm_source.specs.declared.tree.SourceItem.{SourceItem};
 ghost use Rattle.asm_parse.specs.Running.{SourceAs};
 ghost use Rattle.asm_source.specs.Readable.{IsReadable};
 ghost use Rattle.asm_source.specs.Size.{items_size, items_count};
 ghost use Rattle.asm_lex.specs.declared.fault.SourceCause.TheVariants.{OpenComment, TooLong};
 ghost use Rattle.asm_lex.specs.declared.fault.SourceFault.TheVariants.{At};
-ghost use Rattle.asm_parse.specs.Refusals.{RefusedFor};
+ghost use Rattle.asm_lex.specs.declared.fault.SourceCause.{SourceCause as CauseView};
+ghost use Rattle.asm_parse.specs.Refusals.{Refused, RefusedFor, RefusesAs};
 ghost use Rattle.asm_parse.specs.Running as run;
 
 use crate::dead::left_open;
@@ -47,7 +48,7 @@ fn parsed(alloc: Global, text: &[u8]) -> Result<Source, SourceFault>
 }
 
 /// The items of the source.
-#[tactic(auto, using(crate::proofs::Sources::refused_line, crate::proofs::Sources::parsed_is, crate::proofs::Sources::are_parsed, crate::proofs::Sources::none_parsed, crate::proofs::Sources::refused_alive, crate::proofs::Sizes::parsed_size, crate::proofs::Sizes::parsed_count, crate::proofs::Readability::parsed_readable, crate::proofs::Faulted::parsed_refused))]
+#[tactic(auto, using(crate::proofs::Sources::refused_line, crate::proofs::Sources::parsed_is, crate::proofs::Sources::are_parsed, crate::proofs::Sources::none_parsed, crate::proofs::Sources::refused_alive, crate::proofs::Sizes::parsed_size, crate::proofs::Sizes::parsed_count, crate::proofs::Readability::parsed_readable, crate::proofs::Faulted::parsed_refused, crate::proofs::OneCause::parsed_refused_only))]
 pub fn parse(alloc: Global, text: &[u8]) -> Result<Source, SourceFault>
     ensures long { LIMIT < length text.now → result ≡ Err (At 1 TooLong) }
 
@@ -75,6 +76,9 @@ pub fn parse(alloc: Global, text: &[u8]) -> Result<Source, SourceFault>
 
     // The cause is that of the first word with which no source goes on, or of what ends the words: by cases, in the grammar's words.
     ensures cause { length text.now ≤ LIMIT → RefusedFor text.now result }
+
+    // Where these words say a line and a cause of the text, it is refused so, unless memory runs out.
+    ensures cause_only { length text.now ≤ LIMIT → (line : ℕ) (cause : CauseView) → Refused text.now line cause → RefusesAs line cause result }
 {
     if text.len() > LIMIT {
         return Err(SourceFault::At {

@@ -67,6 +67,13 @@ unfolding chain
 sound-chain [] bytes x h = refl
 sound-chain (c ∷ cs) bytes x h = rw h.0 (sound-chain cs bytes x h.1)
 
+first_chain : (A : Type 0) (cs : List ElfCause) (bytes : List ℕ) (x : A) (e : Fault) → IsFirstOf (λ c. wrong c bytes) cs e → chain cs bytes x ≡ failed A e
+unfolding chain
+first_chain A [] bytes x e h = absurd h
+first_chain A (c ∷ cs) bytes x e (inl (here, same)) =
+    ap (λ (o : Option ℕ). test c o >>= λ _. chain cs bytes x) here ∙ ap (λ (d : ElfCause). failed A (record { at = e.at; cause = d })) (sym same)
+first_chain A (c ∷ cs) bytes x e (inr (none, later)) = ap (λ (o : Option ℕ). test c o >>= λ _. chain cs bytes x) none ∙ first_chain A cs bytes x e later
+
 -- ---- two and one
 
 two-is : (xs : List ℕ) (a b : ℕ) → found xs ≡ Two a b → xs ≡ a ∷ b ∷ []
@@ -112,6 +119,12 @@ read_first bytes e h =
       | inl fails ↦ chain-err (ℕ × ℕ × ℕ) causes bytes (places bytes) e (sym (tests-chain bytes) ∙ fails)
       | inr goes ↦ absurd (cc goes.2)
     ]
+
+pub read_by_first : (bytes : List ℕ) (e : Fault) → IsFirstOf (λ c. wrong c bytes) causes e → image_in bytes ≡ Err e
+unfolding image_in places
+read_by_first bytes e h =
+    let fails : tests bytes ≡ failed (ℕ × ℕ × ℕ) e = tests-chain bytes ∙ first_chain (ℕ × ℕ × ℕ) causes bytes (places bytes) e h in
+    ap (λ (r : Result (ℕ × ℕ × ℕ) Fault). r >>= λ at. Ok (parts_at bytes at.0 at.1 at.2)) fails
 
 two_loads : (bytes : List ℕ) → loads bytes ≡ Two (first_of (loads bytes)) (second_of (loads bytes)) → filter (is_load bytes) (headers bytes) ≡ first_of (loads bytes) ∷ second_of (loads bytes) ∷ []
 unfolding loads

@@ -23,3 +23,9 @@ pub mod RecordLaws
 pub mod ObjectAcceptance
 mod EachEntry
 pub mod LinkableObjects
+pub mod Lowest
+pub mod OrderLaws
+pub mod BadSections
+pub mod BadSizes
+pub mod BadSymbols
+pub mod ReasonLaws

@@ -29,6 +29,13 @@ chain-err A wrong (c ∷ cs) x e h =
       | inr goes ↦ inr (passed c (wrong c) goes.1, chain-err A wrong cs x e goes.2)
     ]
 
+first_chain : (A : Type 0) (wrong : ElfCause → Option ℕ) (cs : List ElfCause) (x : A) (e : Fault) → IsFirstOf wrong cs e → chain wrong cs x ≡ failed A e
+unfolding chain
+first_chain A wrong [] x e h = absurd h
+first_chain A wrong (c ∷ cs) x e (inl (here, same)) =
+    ap (λ (o : Option ℕ). test c o >>= λ _. chain wrong cs x) here ∙ ap (λ (d : ElfCause). failed A (record { at = e.at; cause = d })) (sym same)
+first_chain A wrong (c ∷ cs) x e (inr (none, later)) = ap (λ (o : Option ℕ). test c o >>= λ _. chain wrong cs x) none ∙ first_chain A wrong cs x e later
+
 abbrev AllNone : (ElfCause → Option ℕ) → List ElfCause → Type 0
 AllNone wrong [] = Unit {0}
 AllNone wrong (c ∷ cs) = (wrong c ≡ None) × AllNone wrong cs
@@ -82,3 +89,6 @@ pub if_first : (bytes : List ℕ) (r : Result ObjectParts ElfFault) → Gives (�
 if_first bytes r given at cause e =
     chain-err ObjectParts (wrong_object bytes) all_causes (object_at bytes) (record { at = at; cause = cause })
     (sym (tests-chain bytes) ∙ subst (λ (s : Result ObjectParts ElfFault). Gives (λ o. o) s (object_in bytes)) e given)
+
+pub object_by_first : (bytes : List ℕ) (e : Fault) → IsFirstOf (wrong_object bytes) all_causes e → object_in bytes ≡ Err e
+object_by_first bytes e h = tests-chain bytes ∙ first_chain ObjectParts (wrong_object bytes) all_causes (object_at bytes) e h

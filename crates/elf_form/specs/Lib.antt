@@ -16,3 +16,5 @@ pub mod Symbols
 pub mod ObjectReading
 pub mod KeptRelocs
 pub mod Linkable
+pub mod Order
+pub mod Reasons

@@ -13,6 +13,7 @@ ghost use Rattle.elf_form.specs.KeptRelocs.{AreKept};
 ghost use Rattle.elf_form.specs.Linkable.{IsLinkable};
 ghost use Rattle.elf_form.specs.ObjectParts.{ObjectParts};
 ghost use Rattle.elf_form.specs.ObjectReading.{table_of as table_in, kept_relocs, symbol_form, reloc_form, text_in, sites_in, object_at, late_tests, middle_tests, early_tests, object_in, wrong_object, all_causes, ObjectAs};
+ghost use Rattle.elf_form.specs.Reasons.{IsRefusedObject, no_object};
 
 use crate::cause::{ElfCause, ElfFault};
 use crate::entries::{entries_of, relocs_fault};
@@ -196,6 +197,9 @@ pub fn read_object(alloc: Global, bytes: &[u8]) -> Result<Object, ElfFault>
     ensures only { (object : ObjectParts) → ObjectAs bytes.now object → Gives (λ o. o) result (Ok object) }
     // A fault is the first cause that holds, at its place.
     ensures first { (at : ℕ) (cause : ElfCause) → result ≡ Err (ElfFault.At at cause) → IsFirstOf (wrong_object bytes.now) all_causes (record { at = at; cause = cause }) }
+    // The same by the causes' conditions: at the cause's place its own holds, and at no place does one of a cause before it.
+    ensures refused { (at : ℕ) (cause : ElfCause) → result ≡ Err (ElfFault.At at cause) → IsRefusedObject bytes.now at cause }
+    ensures refused_only { (at : ℕ) (cause : ElfCause) → IsRefusedObject bytes.now at cause → Gives (λ o. o) result (no_object at cause) }
     ensures exact { Gives (λ o. o) result (object_in bytes.now) }
     // What is read can be linked.
     ensures linkable { IfOk result (λ o. IsLinkable o) }

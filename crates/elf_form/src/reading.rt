@@ -8,6 +8,7 @@ ghost use Rattle.elf_form.specs.ImageParts.{ImageParts};
 ghost use Rattle.elf_form.specs.declared.cause.ElfCause.{ElfCause};
 ghost use Rattle.elf_form.specs.Accepted.{ImageAs, wrong, causes};
 ghost use Rattle.elf_form.specs.Reading.{section_form, section_tests, header_tests, tests, image_in, parts_at, ArePlaces};
+ghost use Rattle.elf_form.specs.Reasons.{IsRefusedImage, no_image};
 
 use crate::cause::{ElfCause, ElfFault};
 use crate::header::{class, cut, encoding, file_type, lower, machine, magic, version};
@@ -111,6 +112,9 @@ pub fn read_image(alloc: Global, bytes: &[u8]) -> Result<Image, ElfFault>
     ensures only { (image : ImageParts) → ImageAs bytes.now image → Gives (λ image. image) result (Ok image) }
     // A fault is the first cause that holds, at its place.
     ensures first { (at : ℕ) (cause : ElfCause) → result ≡ Err (ElfFault.At at cause) → IsFirstOf (λ c. wrong c bytes.now) causes (record { at = at; cause = cause }) }
+    // The same by the causes' conditions: at the cause's place its own holds, and at no place does one of a cause before it.
+    ensures refused { (at : ℕ) (cause : ElfCause) → result ≡ Err (ElfFault.At at cause) → IsRefusedImage bytes.now at cause }
+    ensures refused_only { (at : ℕ) (cause : ElfCause) → IsRefusedImage bytes.now at cause → Gives (λ image. image) result (no_image at cause) }
     ensures exact { Gives (λ image. image) result (image_in bytes.now) }
 {
     image(alloc, bytes)

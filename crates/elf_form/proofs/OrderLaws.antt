@@ -1,0 +1,130 @@
+-- The first part that passes the end.
+use Rattle.std.specs.List.{Contains}
+use Rattle.std.proofs.Common.{◌≡◌, ℕ, zero, suc, ◌+◌, ◌*◌, ◌<◌, ◌≤◌, Bool, true, false, ◌&&◌, cond, List, [], ◌∷◌, ◌++◌, length, map, filter, nat_lt, Option, Some, None, refl, sym, ap, ◌∙◌, inl, inr, subst, slice_get, arith}
+use Rattle.std.specs.Prelude.{◌↔◌}
+use Rattle.std.proofs.lemmas.Bool.{cases_lt, le-ltb, lt-ltb}
+use Rattle.guest_ram.specs.Bytes.{word32}
+use Rattle.elf_form.specs.Faults.{bad, ◌or_else◌}
+use Rattle.elf_form.specs.Tables.{first}
+use Rattle.elf_form.specs.Header.{header_table, section_table, header_count, section_count, headers, sections, passes, has_contents, header_passes, section_passes, part_of, cut}
+use Rattle.elf_form.specs.Order.{named_by_header, named_by_section, named_parts, IsPast, IsFirstPast}
+use Rattle.elf_form.proofs.Lowest.{some, has_first, has_later, first_or_later, has_none}
+
+-- where the first of some parts begins that passes the end
+past_in : ℕ → List (ℕ × ℕ) → Option ℕ
+past_in size [] = None
+past_in size (p ∷ ps) = cond (nat_lt size (p.0 + p.1)) (Some p.0) (past_in size ps)
+
+one_more : (size : ℕ) (p : ℕ × ℕ) (ps : List (ℕ × ℕ)) → past_in size (p ∷ ps) ≡ (bad (nat_lt size (p.0 + p.1)) p.0 or_else past_in size ps)
+unfolding past_in
+one_more size p ps = by (nat_lt size (p.0 + p.1)) where
+  by : (b : Bool) → cond b (Some p.0) (past_in size ps) ≡ (bad b p.0 or_else past_in size ps)
+  by true = refl
+  by false = refl
+
+else_nothing : (a : Option ℕ) → (a or_else None) ≡ a
+else_nothing None = refl
+else_nothing (Some at) = refl
+
+past_append : (size : ℕ) (ps qs : List (ℕ × ℕ)) → past_in size (ps ++ qs) ≡ (past_in size ps or_else past_in size qs)
+unfolding past_in
+past_append size [] qs = refl
+past_append size (p ∷ ps) qs = by (nat_lt size (p.0 + p.1)) (past_append size ps qs) where
+  by : (b : Bool) → past_in size (ps ++ qs) ≡ (past_in size ps or_else past_in size qs) → cond b (Some p.0) (past_in size (ps ++ qs)) ≡ (cond b (Some p.0) (past_in size ps) or_else past_in size qs)
+  by true e = refl
+  by false e = e
+
+module _ (bytes : List ℕ) where
+  headers_past : (hs : List ℕ) → part_of bytes 4 (first (header_passes bytes) hs) ≡ past_in (length bytes) (map (named_by_header bytes) hs)
+  unfolding first past_in
+  headers_past [] = refl
+  headers_past (h ∷ hs) = by (header_passes bytes h) (headers_past hs) where
+    by : (b : Bool) → part_of bytes 4 (first (header_passes bytes) hs) ≡ past_in (length bytes) (map (named_by_header bytes) hs) → part_of bytes 4 (cond b (Some h) (first (header_passes bytes) hs)) ≡ cond b (Some (word32 bytes (h + 4))) (past_in (length bytes) (map (named_by_header bytes) hs))
+    by true e = refl
+    by false e = e
+
+  sections_past : (ss : List ℕ) → part_of bytes 16 (first (section_passes bytes) ss) ≡ past_in (length bytes) (map (named_by_section bytes) (filter (has_contents bytes) ss))
+  unfolding first past_in
+  sections_past [] = refl
+  sections_past (s ∷ ss) = by (has_contents bytes s) (passes bytes (word32 bytes (s + 16)) (word32 bytes (s + 20))) refl (sections_past ss) where
+    by : (b c : Bool) → passes bytes (word32 bytes (s + 16)) (word32 bytes (s + 20)) ≡ c → part_of bytes 16 (first (section_passes bytes) ss) ≡ past_in (length bytes) (map (named_by_section bytes) (filter (has_contents bytes) ss)) → part_of bytes 16 (cond (b && passes bytes (word32 bytes (s + 16)) (word32 bytes (s + 20))) (Some s) (first (section_passes bytes) ss)) ≡ past_in (length bytes) (map (named_by_section bytes) (cond b (s ∷ filter (has_contents bytes) ss) (filter (has_contents bytes) ss)))
+    by false c is e = e
+    by true c is e = both c is where
+      both : (c : Bool) → passes bytes (word32 bytes (s + 16)) (word32 bytes (s + 20)) ≡ c → part_of bytes 16 (cond (passes bytes (word32 bytes (s + 16)) (word32 bytes (s + 20))) (Some s) (first (section_passes bytes) ss)) ≡ cond (passes bytes (word32 bytes (s + 16)) (word32 bytes (s + 20))) (Some (word32 bytes (s + 16))) (past_in (length bytes) (map (named_by_section bytes) (filter (has_contents bytes) ss)))
+      both true is = rw is refl
+      both false is = rw is e
+
+  cut_past : cut bytes ≡ past_in (length bytes) (named_parts bytes)
+  unfolding cut
+  cut_past =
+      sym (
+      one_more (length bytes) (0, 52) _
+      ∙ ap (λ (o : Option ℕ). bad (passes bytes 0 52) 0 or_else o) (
+      one_more (length bytes) (header_table bytes, 32 * header_count bytes) _
+      ∙ ap (λ (o : Option ℕ). bad (passes bytes (header_table bytes) (32 * header_count bytes)) (header_table bytes) or_else o) (
+      one_more (length bytes) (section_table bytes, 40 * section_count bytes) _
+      ∙ ap (λ (o : Option ℕ). bad (passes bytes (section_table bytes) (40 * section_count bytes)) (section_table bytes) or_else o) (
+      past_append (length bytes) (map (named_by_header bytes) (headers bytes)) (map (named_by_section bytes) (filter (has_contents bytes) (sections bytes)))
+      ∙ ap (λ (o : Option ℕ). o or_else past_in (length bytes) (map (named_by_section bytes) (filter (has_contents bytes) (sections bytes)))) (sym (headers_past (headers bytes)))
+      ∙ ap (λ (o : Option ℕ). part_of bytes 4 (first (header_passes bytes) (headers bytes)) or_else o) (sym (sections_past (sections bytes)))))))
+
+module _ (size : ℕ) where
+  past_so : (parts : List (ℕ × ℕ)) (at : ℕ) → past_in size parts ≡ Some at → IsFirstPast size parts at
+  unfolding past_in
+  past_so [] at e = absurd cc
+  past_so (p ∷ ps) at e = elim (cases_lt size (p.0 + p.1)) [
+    | inl lt ↦
+        let is : some p.0 ≡ Some at = sym (ap (λ b. cond b (Some p.0) (past_in size ps)) (lt-ltb _ _ lt)) ∙ e in
+        record { index = 0; part = p; there = refl; begins = cc; past = lt; before = λ j q l t. absurd (omega arith) }
+    | inr le ↦
+        let more = past_so ps at (sym (ap (λ b. cond b (Some p.0) (past_in size ps)) (le-ltb _ _ le)) ∙ e) in
+        record { index = suc more.index; part = more.part; there = more.there; begins = more.begins; past = more.past; before = step le more }
+  ] where
+    step : p.0 + p.1 ≤ size → (more : IsFirstPast size ps at) (j : ℕ) (q : ℕ × ℕ) → j < suc more.index → slice_get (p ∷ ps) j ≡ Some q → q.0 + q.1 ≤ size
+    step le more zero q lt there = let same : p ≡ q = cc in let sum : p.0 + p.1 ≡ q.0 + q.1 = ap (λ (r : ℕ × ℕ). r.0 + r.1) same in omega (arith, sum, le)
+    step le more (suc j) q lt there = more.before j q (omega arith) there
+
+  so_past : (parts : List (ℕ × ℕ)) (index : ℕ) (part : ℕ × ℕ) → slice_get parts index ≡ Some part → size < part.0 + part.1 → ((j : ℕ) (p : ℕ × ℕ) → j < index → slice_get parts j ≡ Some p → p.0 + p.1 ≤ size) → past_in size parts ≡ Some part.0
+  unfolding past_in
+  so_past [] index part there past before = absurd cc
+  so_past (p ∷ ps) zero part there past before =
+      let same : p ≡ part = cc in
+      ap (λ (q : ℕ × ℕ). cond (nat_lt size (q.0 + q.1)) (Some q.0) (past_in size ps)) same ∙ ap (λ b. cond b (Some part.0) (past_in size ps)) (lt-ltb _ _ past)
+  so_past (p ∷ ps) (suc k) part there past before =
+      ap (λ b. cond b (Some p.0) (past_in size ps)) (le-ltb _ _ (before 0 p (omega arith) refl))
+      ∙ so_past ps k part there past (λ j q lt at. before (suc j) q (omega arith) at)
+
+pub cut_exact : (bytes : List ℕ) (at : ℕ) → (cut bytes ≡ Some at) ↔ IsFirstPast (length bytes) (named_parts bytes) at
+cut_exact bytes at = (
+  (λ e. past_so (length bytes) (named_parts bytes) at (sym (cut_past bytes) ∙ e)),
+  (λ h. cut_past bytes ∙ so_past (length bytes) (named_parts bytes) h.index h.part h.there h.past h.before ∙ ap some h.begins),
+)
+
+-- ---- no part passes the end
+
+pub there_contains : {A : Type 0} (xs : List A) (k : ℕ) (x : A) → slice_get xs k ≡ Some x → Contains xs x
+there_contains [] k x e = absurd cc
+there_contains (y ∷ ys) zero x e = let same : y ≡ x = cc in subst (Contains (y ∷ ys)) same (has_first y ys)
+there_contains (y ∷ ys) (suc k) x e = has_later y x ys (there_contains ys k x e)
+
+module _ (size : ℕ) where
+  none_past : (parts : List (ℕ × ℕ)) (at : ℕ) → past_in size parts ≡ None → IsPast size parts at → ⊥
+  unfolding past_in
+  none_past [] at e h = has_none h.0 h.1
+  none_past (p ∷ ps) at e (part, there, past, begins) = elim (cases_lt size (p.0 + p.1)) [
+    | inl lt ↦ absurd (let is : some p.0 ≡ None = sym (ap (λ b. cond b (Some p.0) (past_in size ps)) (lt-ltb _ _ lt)) ∙ e in cc)
+    | inr le ↦ elim (first_or_later p part ps there) [
+      | inl same ↦ absurd (let sum : p.0 + p.1 ≡ part.0 + part.1 = ap (λ (r : ℕ × ℕ). r.0 + r.1) same in omega (arith, sum, le, past))
+      | inr later ↦ none_past ps at (sym (ap (λ b. cond b (Some p.0) (past_in size ps)) (le-ltb _ _ le)) ∙ e) (part, later, past, begins)
+    ]
+  ]
+
+  past_none : (parts : List (ℕ × ℕ)) (o : Option ℕ) → past_in size parts ≡ o → ((at : ℕ) → IsPast size parts at → ⊥) → o ≡ None
+  past_none parts None e never = refl
+  past_none parts (Some at) e never = let h = past_so size parts at e in absurd (never at (h.part, there_contains parts h.index h.part h.there, h.past, sym h.begins))
+
+pub cut_none : (bytes : List ℕ) → (cut bytes ≡ None) ↔ ((at : ℕ) → IsPast (length bytes) (named_parts bytes) at → ⊥)
+cut_none bytes = (
+  (λ e at h. none_past (length bytes) (named_parts bytes) at (sym (cut_past bytes) ∙ e) h),
+  (λ never. cut_past bytes ∙ past_none (length bytes) (named_parts bytes) (past_in (length bytes) (named_parts bytes)) refl never),
+)

@@ -1,0 +1,218 @@
+-- Each cause holds exactly where its condition does, and a refusal is the first cause that holds.
+use Rattle.std.proofs.Common.{◌≡◌, ◌≢◌, ℕ, zero, suc, ◌+◌, ◌%◌, ◌<◌, Bool, true, false, not, ◌&&◌, List, [], ◌∷◌, length, Option, Some, None, Result, Err, refl, sym, ap, ◌∙◌, subst, inl, inr, ◌⊎◌, slice_get, arith}
+use Rattle.std.specs.Prelude.{◌↔◌, ◌==◌}
+use Rattle.std.proofs.lemmas.Bool.{eqb-true, eqb-false, eq-eqb, ne_eqb, and_parts, and_from, not-true, not_from_false}
+use Rattle.guest_ram.specs.Bytes.{byte, word16, word32}
+use Rattle.elf_form.specs.declared.cause.ElfCause.{ElfCause}
+use Rattle.elf_form.specs.declared.cause.ElfCause.TheVariants.{Truncated, Magic, Class, Encoding, Version, FileType, Machine, Sizes, SectionForm, Compressed, StringPlace, SymbolForm, RelocForm}
+use Rattle.elf_form.specs.declared.cause.ElfFault.{ElfFault}
+use Rattle.elf_form.specs.declared.cause.ElfFault.TheVariants as faults
+use Rattle.elf_form.specs.ImageParts.{ImageParts}
+use Rattle.elf_form.specs.ObjectParts.{ObjectParts}
+use Rattle.elf_form.specs.Faults.{Fault, IsFirstOf, bad, Gives}
+use Rattle.elf_form.specs.Tables.{found}
+use Rattle.elf_form.specs.Header.{cut, magic, class, encoding, version, file_type, machine}
+use Rattle.elf_form.specs.Segments.{loads, is_executable, order}
+use Rattle.elf_form.specs.Sections.{one_of, sites_sections}
+use Rattle.elf_form.specs.Reading.{section_form, image_in}
+use Rattle.elf_form.specs.Accepted.{wrong, causes}
+use Rattle.elf_form.specs.ObjectReading.{object_in, wrong_object, all_causes}
+use Rattle.elf_form.specs.Order.{named_parts, IsPast, IsFirstPast, IsLowest, HasPlace, IsRefused}
+use Rattle.elf_form.specs.Reasons.{loaded, AreTwo, IsBadPart, IsBadVersion, IsBadObject, IsBadImage, IsRefusedObject, IsRefusedImage, no_object, no_image}
+use Rattle.elf_form.proofs.OrderLaws.{cut_exact, cut_none}
+use Rattle.elf_form.proofs.Lowest.{Finds, finds_so, so_finds, finds_none, none_finds, finds_as, finds_lower, finds_field}
+use Rattle.elf_form.proofs.BadSections.{object_form_finds, compressed_finds, nameless_finds, SitesPart, sites_finds}
+use Rattle.elf_form.proofs.BadSizes.{object_sizes_finds, image_sizes_finds}
+use Rattle.elf_form.proofs.BadSymbols.{string_places_finds, symbol_form_finds, reloc_form_finds}
+use Rattle.elf_form.proofs.Acceptance.{if_first, read_by_first}
+use Rattle.elf_form.proofs.ObjectAcceptance.{if_first as object_first, object_by_first}
+
+-- ---- the program headers and the section of sites of an image
+
+not_all : {t : Bool} → t ≡ true → t ≡ false → ⊥
+not_all e f = absurd cc
+
+module _ (bytes : List ℕ) where
+  abbrev NotTwo : ℕ → Type 0
+  NotTwo k = (AreTwo bytes → ⊥) × (k ≡ 44)
+
+  other_list : (xs : List ℕ) → loaded bytes ≡ xs → ((a b : ℕ) → xs ≡ a ∷ b ∷ [] → ⊥) → Finds (Some 44) NotTwo
+  other_list xs e never = (((λ t. never t.text t.init (sym e ∙ t.are)), refl), λ k p. omega (arith, p.1))
+
+  two_is : (a b : ℕ) → loaded bytes ≡ a ∷ b ∷ [] → (t : Bool) → (is_executable bytes a && not (is_executable bytes b)) ≡ t → Finds (bad (not t) 44) NotTwo
+  two_is a b e true is =
+      let both = and_parts (is_executable bytes a) (not (is_executable bytes b)) is in
+      let two : AreTwo bytes = record { text = a; init = b; are = e; executable = eqb-true (word32 bytes (a + 24) % 2) 1 both.0; other = eqb-false (word32 bytes (b + 24) % 2) 1 (not-true (is_executable bytes b) both.1) } in
+      λ k p. p.0 two
+  two_is a b e false is = (((λ t. not_all (test t (same_text a b t (sym e ∙ t.are)) (same_init a b t (sym e ∙ t.are))) is), refl), λ k p. omega (arith, p.1)) where
+    same_text : (a b : ℕ) (t : AreTwo bytes) → a ∷ b ∷ [] ≡ t.text ∷ t.init ∷ [] → t.text ≡ a
+    same_text a b t h = cc
+
+    same_init : (a b : ℕ) (t : AreTwo bytes) → a ∷ b ∷ [] ≡ t.text ∷ t.init ∷ [] → t.init ≡ b
+    same_init a b t h = cc
+
+    test : (t : AreTwo bytes) → t.text ≡ a → t.init ≡ b → (is_executable bytes a && not (is_executable bytes b)) ≡ true
+    test t x y =
+        and_from (is_executable bytes a) (not (is_executable bytes b))
+        (subst (λ (h : ℕ). is_executable bytes h ≡ true) x (eq-eqb (word32 bytes (t.text + 24) % 2) 1 t.executable))
+        (not_from_false (is_executable bytes b) (subst (λ (h : ℕ). is_executable bytes h ≡ false) y (ne_eqb (word32 bytes (t.init + 24) % 2) 1 t.other)))
+
+  order_by : (xs : List ℕ) → loaded bytes ≡ xs → Finds (order bytes (found xs)) NotTwo
+  unfolding order found
+  order_by [] e = other_list [] e (λ a b h. absurd cc)
+  order_by (a ∷ []) e = other_list (a ∷ []) e (λ c d h. absurd cc)
+  order_by (a ∷ b ∷ []) e = two_is a b e (is_executable bytes a && not (is_executable bytes b)) refl
+  order_by (a ∷ b ∷ c ∷ rest) e = other_list (a ∷ b ∷ c ∷ rest) e (λ d f h. absurd cc)
+
+  order_finds : Finds (order bytes (loads bytes)) NotTwo
+  unfolding loads
+  order_finds = order_by (loaded bytes) refl
+
+  abbrev PartAt : ℕ → Type 0
+  PartAt k = NotTwo k ⊎ SitesPart bytes k
+
+  part_to : (k : ℕ) → PartAt k → IsBadPart bytes k
+  part_to k (inl (never, e)) = IsBadPart.program never e
+  part_to k (inr (inl (never, e))) = IsBadPart.none never e
+  part_to k (inr (inr (s, h, e))) = IsBadPart.sites s h e
+
+  part_from : (k : ℕ) → IsBadPart bytes k → PartAt k
+  part_from k (IsBadPart.program never e) = inl (never, e)
+  part_from k (IsBadPart.none never e) = inr (inl (never, e))
+  part_from k (IsBadPart.sites s h e) = inr (inr (s, h, e))
+
+  section_form_finds : Finds (section_form bytes) (IsBadPart bytes)
+  unfolding section_form
+  section_form_finds = finds_as (section_form bytes) PartAt (IsBadPart bytes) part_to part_from (finds_lower (order bytes (loads bytes)) (one_of (sites_sections bytes)) NotTwo (SitesPart bytes) order_finds (sites_finds bytes))
+
+  version_finds : Finds (version bytes) (IsBadVersion bytes)
+  version_finds = finds_lower (bad (not (byte bytes 6 == 1)) 6) (bad (not (word32 bytes 20 == 1)) 20) (λ k. (byte bytes 6 ≢ 1) × (k ≡ 6)) (λ k. (word32 bytes 20 ≢ 1) × (k ≡ 20)) (finds_field (byte bytes 6) 1 6) (finds_field (word32 bytes 20) 1 20)
+
+-- ---- all causes
+
+-- what is computed has the cause's place, and none where no field is bad
+pub record Meets (bytes : List ℕ) (o : Option ℕ) (place : ℕ → Type 0) (bad : ℕ → Type 0) : Type 0 where
+  pub exact : (at : ℕ) → (o ≡ Some at) ↔ place at
+  pub none : (o ≡ None) ↔ ((at : ℕ) → bad at → ⊥)
+
+by_finding : (bytes : List ℕ) (o : Option ℕ) (P : ℕ → Type 0) → Finds o P → Meets bytes o (IsLowest P) P
+by_finding bytes o P h = record {
+  exact = λ at. ((λ e. finds_so o P at h e), (λ l. so_finds o P at h l));
+  none = ((λ e. finds_none o P h e), (λ never. none_finds o P h never));
+}
+
+by_cut : (bytes : List ℕ) → Meets bytes (cut bytes) (IsFirstPast (length bytes) (named_parts bytes)) (IsPast (length bytes) (named_parts bytes))
+by_cut bytes = record { exact = cut_exact bytes; none = cut_none bytes }
+
+object_meets : (bytes : List ℕ) (cause : ElfCause) → Meets bytes (wrong_object bytes cause) (HasPlace (IsBadObject bytes) bytes cause) (IsBadObject bytes cause)
+unfolding wrong_object
+object_meets bytes Truncated = by_cut bytes
+object_meets bytes Magic = by_finding bytes (magic bytes) (IsBadObject bytes Magic) (finds_field (word32 bytes 0) 1179403647 0)
+object_meets bytes Class = by_finding bytes (class bytes) (IsBadObject bytes Class) (finds_field (byte bytes 4) 1 4)
+object_meets bytes Encoding = by_finding bytes (encoding bytes) (IsBadObject bytes Encoding) (finds_field (byte bytes 5) 1 5)
+object_meets bytes Version = by_finding bytes (version bytes) (IsBadObject bytes Version) (version_finds bytes)
+object_meets bytes FileType = by_finding bytes (file_type 1 bytes) (IsBadObject bytes FileType) (finds_field (word16 bytes 16) 1 16)
+object_meets bytes Machine = by_finding bytes (machine bytes) (IsBadObject bytes Machine) (finds_field (word16 bytes 18) 3 18)
+object_meets bytes Sizes = by_finding bytes (wrong_object bytes Sizes) (IsBadObject bytes Sizes) (object_sizes_finds bytes)
+object_meets bytes SectionForm = by_finding bytes (wrong_object bytes SectionForm) (IsBadObject bytes SectionForm) (object_form_finds bytes)
+object_meets bytes Compressed = by_finding bytes (wrong_object bytes Compressed) (IsBadObject bytes Compressed) (compressed_finds bytes)
+object_meets bytes StringPlace = by_finding bytes (wrong_object bytes StringPlace) (IsBadObject bytes StringPlace) (string_places_finds bytes)
+object_meets bytes SymbolForm = by_finding bytes (wrong_object bytes SymbolForm) (IsBadObject bytes SymbolForm) (symbol_form_finds bytes)
+object_meets bytes RelocForm = by_finding bytes (wrong_object bytes RelocForm) (IsBadObject bytes RelocForm) (reloc_form_finds bytes)
+
+image_meets : (bytes : List ℕ) (cause : ElfCause) → Meets bytes (wrong cause bytes) (HasPlace (IsBadImage bytes) bytes cause) (IsBadImage bytes cause)
+unfolding wrong
+image_meets bytes Truncated = by_cut bytes
+image_meets bytes Magic = by_finding bytes (magic bytes) (IsBadImage bytes Magic) (finds_field (word32 bytes 0) 1179403647 0)
+image_meets bytes Class = by_finding bytes (class bytes) (IsBadImage bytes Class) (finds_field (byte bytes 4) 1 4)
+image_meets bytes Encoding = by_finding bytes (encoding bytes) (IsBadImage bytes Encoding) (finds_field (byte bytes 5) 1 5)
+image_meets bytes Version = by_finding bytes (version bytes) (IsBadImage bytes Version) (version_finds bytes)
+image_meets bytes FileType = by_finding bytes (file_type 2 bytes) (IsBadImage bytes FileType) (finds_field (word16 bytes 16) 2 16)
+image_meets bytes Machine = by_finding bytes (machine bytes) (IsBadImage bytes Machine) (finds_field (word16 bytes 18) 3 18)
+image_meets bytes Sizes = by_finding bytes (wrong Sizes bytes) (IsBadImage bytes Sizes) (image_sizes_finds bytes)
+image_meets bytes SectionForm = by_finding bytes (wrong SectionForm bytes) (IsBadImage bytes SectionForm) (section_form_finds bytes)
+image_meets bytes Compressed = by_finding bytes (wrong Compressed bytes) (IsBadImage bytes Compressed) (compressed_finds bytes)
+image_meets bytes StringPlace = by_finding bytes (wrong StringPlace bytes) (IsBadImage bytes StringPlace) (nameless_finds bytes)
+image_meets bytes SymbolForm = by_finding bytes None (IsBadImage bytes SymbolForm) (λ k never. never)
+image_meets bytes RelocForm = by_finding bytes None (IsBadImage bytes RelocForm) (λ k never. never)
+
+pub object_exact : (bytes : List ℕ) (cause : ElfCause) (at : ℕ) → (wrong_object bytes cause ≡ Some at) ↔ HasPlace (IsBadObject bytes) bytes cause at
+object_exact bytes cause at = (object_meets bytes cause).exact at
+
+pub object_none : (bytes : List ℕ) (cause : ElfCause) → (wrong_object bytes cause ≡ None) ↔ ((at : ℕ) → IsBadObject bytes cause at → ⊥)
+object_none bytes cause = (object_meets bytes cause).none
+
+pub image_exact : (bytes : List ℕ) (cause : ElfCause) (at : ℕ) → (wrong cause bytes ≡ Some at) ↔ HasPlace (IsBadImage bytes) bytes cause at
+image_exact bytes cause at = (image_meets bytes cause).exact at
+
+pub image_none : (bytes : List ℕ) (cause : ElfCause) → (wrong cause bytes ≡ None) ↔ ((at : ℕ) → IsBadImage bytes cause at → ⊥)
+image_none bytes cause = (image_meets bytes cause).none
+
+-- ---- the order
+
+abbrev a_cause : ElfCause → Option ElfCause
+a_cause c = Some c
+
+cause_is : (a b : ElfCause) → a_cause a ≡ a_cause b → a ≡ b
+cause_is a b e = cc
+
+module _ (bytes : List ℕ) (place_of : ElfCause → Option ℕ) (bad_by : ElfCause → ℕ → Type 0) (meets : (c : ElfCause) → Meets bytes (place_of c) (HasPlace bad_by bytes c) (bad_by c)) where
+  first_so : (cs : List ElfCause) (at : ℕ) (cause : ElfCause) → IsFirstOf place_of cs (record { at = at; cause = cause }) → IsRefused bad_by cs bytes at cause
+  first_so [] at cause h = absurd h
+  first_so (c ∷ cs) at cause (inl here) = record {
+    index = 0;
+    there = ap a_cause (sym here.1);
+    place = ((meets cause).exact at).0 (ap place_of here.1 ∙ here.0);
+    before = λ j d k lt there. absurd (omega (arith, lt));
+  }
+  first_so (c ∷ cs) at cause (inr later) =
+      let more = first_so cs at cause later.1 in
+      record { index = suc more.index; there = more.there; place = more.place; before = step more } where
+        step : (more : IsRefused bad_by cs bytes at cause) (j : ℕ) (d : ElfCause) (k : ℕ) → j < suc more.index → slice_get (c ∷ cs) j ≡ Some d → bad_by d k → ⊥
+        step more zero d k lt there = let same : c ≡ d = cause_is c d there in (meets d).none.0 (ap place_of (sym same) ∙ later.0) k
+        step more (suc j) d k lt there = more.before j d k (omega (arith, lt)) there
+
+  so_first : (cs : List ElfCause) (at : ℕ) (cause : ElfCause) (index : ℕ) → slice_get cs index ≡ Some cause → HasPlace bad_by bytes cause at → ((j : ℕ) (c : ElfCause) (k : ℕ) → j < index → slice_get cs j ≡ Some c → bad_by c k → ⊥) → IsFirstOf place_of cs (record { at = at; cause = cause })
+  so_first [] at cause index there place before = absurd cc
+  so_first (c ∷ cs) at cause zero there place before = let same : c ≡ cause = cause_is c cause there in inl (ap place_of same ∙ ((meets cause).exact at).1 place, sym same)
+  so_first (c ∷ cs) at cause (suc i) there place before =
+      inr ((meets c).none.1 (λ k. before 0 c k (omega arith) refl), so_first cs at cause i there place (λ j d k lt there2. before (suc j) d k (omega (arith, lt)) there2))
+
+  pub refused_exact : (cs : List ElfCause) (at : ℕ) (cause : ElfCause) → IsFirstOf place_of cs (record { at = at; cause = cause }) ↔ IsRefused bad_by cs bytes at cause
+  refused_exact cs at cause = (first_so cs at cause, λ h. so_first cs at cause h.index h.there h.place h.before)
+
+-- ---- the readers
+
+pub object_refused : (bytes : List ℕ) (r : Result ObjectParts ElfFault) → Gives (λ o. o) r (object_in bytes) → (at : ℕ) (cause : ElfCause) → r ≡ Err (faults.At at cause) → IsRefusedObject bytes at cause
+object_refused bytes r given at cause e = (refused_exact bytes (wrong_object bytes) (IsBadObject bytes) (object_meets bytes) all_causes at cause).0 (object_first bytes r given at cause e)
+
+pub object_refused_only : (bytes : List ℕ) (r : Result ObjectParts ElfFault) → Gives (λ o. o) r (object_in bytes) → (at : ℕ) (cause : ElfCause) → IsRefusedObject bytes at cause → Gives (λ o. o) r (no_object at cause)
+object_refused_only bytes r given at cause h =
+    subst (λ (read : Result ObjectParts Fault). Gives (λ o. o) r read) (object_by_first bytes (record { at = at; cause = cause }) ((refused_exact bytes (wrong_object bytes) (IsBadObject bytes) (object_meets bytes) all_causes at cause).1 h)) given
+
+pub image_refused : (bytes : List ℕ) (r : Result ImageParts ElfFault) → Gives (λ image. image) r (image_in bytes) → (at : ℕ) (cause : ElfCause) → r ≡ Err (faults.At at cause) → IsRefusedImage bytes at cause
+image_refused bytes r given at cause e = (refused_exact bytes (λ c. wrong c bytes) (IsBadImage bytes) (image_meets bytes) causes at cause).0 (if_first bytes r given at cause e)
+
+pub image_refused_only : (bytes : List ℕ) (r : Result ImageParts ElfFault) → Gives (λ image. image) r (image_in bytes) → (at : ℕ) (cause : ElfCause) → IsRefusedImage bytes at cause → Gives (λ image. image) r (no_image at cause)
+image_refused_only bytes r given at cause h =
+    subst (λ (read : Result ImageParts Fault). Gives (λ image. image) r read) (read_by_first bytes (record { at = at; cause = cause }) ((refused_exact bytes (λ c. wrong c bytes) (IsBadImage bytes) (image_meets bytes) causes at cause).1 h)) given
+
+-- ---- what is read of a file
+
+abbrev failed_object : ℕ → ElfCause → Result ObjectParts ElfFault
+failed_object at cause = Err (faults.At at cause)
+
+abbrev failed_image : ℕ → ElfCause → Result ImageParts ElfFault
+failed_image at cause = Err (faults.At at cause)
+
+pub objects_in_order : (bytes : List ℕ) (at : ℕ) (cause : ElfCause) → (object_in bytes ≡ no_object at cause) ↔ IsRefusedObject bytes at cause
+objects_in_order bytes at cause = (
+  (λ e. object_refused bytes (failed_object at cause) e at cause refl),
+  (λ h. object_by_first bytes (record { at = at; cause = cause }) ((refused_exact bytes (wrong_object bytes) (IsBadObject bytes) (object_meets bytes) all_causes at cause).1 h)),
+)
+
+pub images_in_order : (bytes : List ℕ) (at : ℕ) (cause : ElfCause) → (image_in bytes ≡ no_image at cause) ↔ IsRefusedImage bytes at cause
+images_in_order bytes at cause = (
+  (λ e. image_refused bytes (failed_image at cause) e at cause refl),
+  (λ h. read_by_first bytes (record { at = at; cause = cause }) ((refused_exact bytes (λ c. wrong c bytes) (IsBadImage bytes) (image_meets bytes) causes at cause).1 h)),
+)

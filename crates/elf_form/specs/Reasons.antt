@@ -1,0 +1,204 @@
+-- Why a file is no object or no image: each cause by the condition that it stands for, with the offset of the bad field (System V ABI, chapters 4 and 5; which files are read is the profile's).
+use Rattle.std.specs.Prelude.{◌≡◌, ◌≢◌, ◌⊎◌, ℕ, ◌+◌, ◌%◌, ◌^◌, ◌≤◌, ◌<◌, true, false, List, [], ◌∷◌, ◌++◌, length, filter, slice_get, Some, Result, Err}
+use Rattle.std.specs.List.{Contains, sum_by}
+use Rattle.guest_ram.specs.Bytes.{byte, word16, word32}
+use Rattle.elf_form.specs.declared.cause.ElfCause.{ElfCause}
+use Rattle.elf_form.specs.declared.cause.ElfCause.TheVariants.{Truncated, Magic, Class, Encoding, Version, FileType, Machine, Sizes, SectionForm, Compressed, StringPlace, SymbolForm, RelocForm}
+use Rattle.elf_form.specs.declared.roles.Role.{Role}
+use Rattle.elf_form.specs.declared.roles.Role.TheVariants as role
+use Rattle.elf_form.specs.declared.symbols.Entry.{Entry}
+use Rattle.elf_form.specs.ImageParts.{ImageParts}
+use Rattle.elf_form.specs.ObjectParts.{ObjectParts}
+use Rattle.elf_form.specs.Faults.{Fault}
+use Rattle.elf_form.specs.Output.{pad}
+use Rattle.elf_form.specs.Header.{section_count, headers, sections}
+use Rattle.elf_form.specs.Segments.{is_load}
+use Rattle.elf_form.specs.Sections.{names, is_sites, is_nameless, is_compressed}
+use Rattle.elf_form.specs.Roles.{role as role_of, has_role, is_kept, alignment, alignments, size}
+use Rattle.elf_form.specs.Symbols.{symbols_of, binding, is_file, has_binding, has_place, target_role, relocs_in, is_linked, is_unnamed, has_symbol, symbol_of, is_outside, has_kind, names_none}
+use Rattle.elf_form.specs.ObjectReading.{has_strings, table_of, strings_of, link_of, all_causes}
+use Rattle.elf_form.specs.Accepted.{causes}
+use Rattle.elf_form.specs.Order.{named_parts, IsPast, IsLowest, IsRefused}
+
+-- ---- sections
+
+-- the offset of a section's header
+abbrev pub IsSectionAt : List ℕ → ℕ → Type 0
+IsSectionAt bytes s = Contains (sections bytes) s
+
+-- a section that is read as this
+abbrev pub IsOf : Role → List ℕ → ℕ → Type 0
+IsOf r bytes s = IsSectionAt bytes s × (role_of (names bytes) bytes s ≡ r)
+
+-- one of some sections, behind another of them
+abbrev pub IsSecond : (ℕ → Type 0) → ℕ → Type 0
+IsSecond P s = P s × (t : ℕ) × P t × (t < s)
+
+-- the sections named `.pv_sites`
+abbrev pub IsNamedSites : List ℕ → ℕ → Type 0
+IsNamedSites bytes s = IsSectionAt bytes s × (is_sites (names bytes) bytes s ≡ true)
+
+-- ---- sizes
+
+-- a section's bytes, in whole pages of 4,096
+abbrev pub in_pages : List ℕ → ℕ → ℕ
+in_pages bytes s = size bytes s + pad 4096 (size bytes s)
+
+-- A section with which those that are read as this come to 2^32 bytes or more together.
+pub record IsTooMuch (r : Role) (bytes : List ℕ) (s : ℕ) : Type 0 where
+  pub before : List ℕ
+  pub later : List ℕ
+  pub sections_are : sections bytes ≡ before ++ s ∷ later
+  pub reads : role_of (names bytes) bytes s ≡ r
+  pub together : 2 ^ 32 ≤ sum_by (in_pages bytes) (filter (has_role r (names bytes) bytes) (before ++ s ∷ []))
+
+-- the symbol table: the first section of symbols
+abbrev pub IsTable : List ℕ → ℕ → Type 0
+IsTable bytes s = IsLowest (IsOf role.Symbols bytes) s
+
+-- the relocations of a section that is kept
+abbrev pub IsRelocs : List ℕ → ℕ → Type 0
+IsRelocs bytes s = IsOf role.Relocs bytes s × (is_kept (target_role (names bytes) bytes s) ≡ true)
+
+-- a size that is no multiple of that of an entry, or another size of entries
+pub data IsBadEntrySize (entry : ℕ) (bytes : List ℕ) (s at : ℕ) : Type 0 where
+  uneven : size bytes s % entry ≢ 0 → at ≡ s + 20 → IsBadEntrySize entry bytes s at
+  other : word32 bytes (s + 36) ≢ entry → at ≡ s + 36 → IsBadEntrySize entry bytes s at
+
+-- A size of an object that is wrong: e_ehsize, e_shentsize, sh_size of a section with which those that are joined are too much, sh_size and sh_entsize of the symbol table and of relocations, or the file's own.
+pub data IsBadObjectSize (bytes : List ℕ) (at : ℕ) : Type 0 where
+  header : word16 bytes 40 ≢ 52 → at ≡ 40 → IsBadObjectSize bytes at
+  section_header : word16 bytes 46 ≢ 40 → at ≡ 46 → IsBadObjectSize bytes at
+  init : (s : ℕ) → IsTooMuch role.Init bytes s → at ≡ s + 20 → IsBadObjectSize bytes at
+  bss : (s : ℕ) → IsTooMuch role.Bss bytes s → at ≡ s + 20 → IsBadObjectSize bytes at
+  symbols : (s : ℕ) → IsTable bytes s → IsBadEntrySize 16 bytes s at → IsBadObjectSize bytes at
+  relocs : (s : ℕ) → IsRelocs bytes s → IsBadEntrySize 8 bytes s at → IsBadObjectSize bytes at
+  file : 33554432 < length bytes → at ≡ 33554432 → IsBadObjectSize bytes at
+
+-- the program headers of parts that are loaded
+abbrev pub loaded : List ℕ → List ℕ
+loaded bytes = filter (is_load bytes) (headers bytes)
+
+-- A size of an image that is wrong: e_ehsize, e_phentsize, e_shentsize, p_memsz of the first and of the second part that is loaded, or the file's own.
+pub data IsBadImageSize (bytes : List ℕ) (at : ℕ) : Type 0 where
+  header : word16 bytes 40 ≢ 52 → at ≡ 40 → IsBadImageSize bytes at
+  program_header : word16 bytes 42 ≢ 32 → at ≡ 42 → IsBadImageSize bytes at
+  section_header : word16 bytes 46 ≢ 40 → at ≡ 46 → IsBadImageSize bytes at
+  first : (h : ℕ) → slice_get (loaded bytes) 0 ≡ Some h → word32 bytes (h + 20) ≢ word32 bytes (h + 16) → at ≡ h + 20 → IsBadImageSize bytes at
+  second : (h : ℕ) → slice_get (loaded bytes) 1 ≡ Some h → word32 bytes (h + 20) < word32 bytes (h + 16) → at ≡ h + 20 → IsBadImageSize bytes at
+  file : 33554432 < length bytes → at ≡ 33554432 → IsBadImageSize bytes at
+
+-- ---- sections and segments
+
+-- A section that an object may not have: an allocated one of another type (at sh_type), a second text (at sh_flags), a second section of sites (at sh_name), data or zeroed bytes at another alignment (at sh_addralign).
+pub data IsBadSection (bytes : List ℕ) (at : ℕ) : Type 0 where
+  foreign : (s : ℕ) → IsOf role.Foreign bytes s → at ≡ s + 4 → IsBadSection bytes at
+  text : (s : ℕ) → IsSecond (IsOf role.Text bytes) s → at ≡ s + 8 → IsBadSection bytes at
+  sites : (s : ℕ) → IsSecond (IsOf role.Sites bytes) s → at ≡ s → IsBadSection bytes at
+  aligned : (s : ℕ) → IsOf role.Init bytes s ⊎ IsOf role.Bss bytes s → (Contains alignments (alignment bytes s) → ⊥) → at ≡ s + 32 → IsBadSection bytes at
+
+-- Two program headers are loaded, and the first alone is executable.
+pub record AreTwo (bytes : List ℕ) : Type 0 where
+  pub text : ℕ
+  pub init : ℕ
+  pub are : loaded bytes ≡ text ∷ init ∷ []
+  pub executable : word32 bytes (text + 24) % 2 ≡ 1
+  pub other : word32 bytes (init + 24) % 2 ≢ 1
+
+-- Program headers in another number or order (at e_phnum), no section of sites (at e_shnum), or a second one (at sh_name).
+pub data IsBadPart (bytes : List ℕ) (at : ℕ) : Type 0 where
+  program : (AreTwo bytes → ⊥) → at ≡ 44 → IsBadPart bytes at
+  none : ((s : ℕ) → IsNamedSites bytes s → ⊥) → at ≡ 48 → IsBadPart bytes at
+  sites : (s : ℕ) → IsSecond (IsNamedSites bytes) s → at ≡ s → IsBadPart bytes at
+
+-- a section with the flag SHF_COMPRESSED, at sh_flags
+abbrev pub IsCompressed : List ℕ → ℕ → Type 0
+IsCompressed bytes at = (s : ℕ) × IsSectionAt bytes s × (is_compressed bytes s ≡ true) × (at ≡ s + 8)
+
+-- ---- names
+
+-- a section whose name no zero byte ends within the names
+abbrev pub IsNameless : List ℕ → ℕ → Type 0
+IsNameless bytes s = IsSectionAt bytes s × (is_nameless (names bytes) bytes s ≡ true)
+
+-- The header names no table of names (at e_shstrndx), a section's name doesn't end in it (at sh_name), the symbol table names no string table (at sh_link), or a symbol's name doesn't end in that (at st_name).
+pub data IsBadName (bytes : List ℕ) (at : ℕ) : Type 0 where
+  no_names : has_strings bytes (word16 bytes 50) ≡ false → section_count bytes ≢ 0 → at ≡ 50 → IsBadName bytes at
+  section : has_strings bytes (word16 bytes 50) ≡ true → IsNameless bytes at → IsBadName bytes at
+  no_table : (s : ℕ) → IsTable bytes s → has_strings bytes (word32 bytes (s + 24)) ≡ false → at ≡ s + 24 → IsBadName bytes at
+  symbol : has_strings bytes (link_of bytes) ≡ true → Contains (symbols_of (table_of bytes)) at → is_unnamed (strings_of bytes) bytes at ≡ true → IsBadName bytes at
+
+-- ---- symbols and relocations
+
+-- a relocation of a section that is kept
+abbrev pub IsReloc : List ℕ → Entry → Type 0
+IsReloc bytes e = (s : ℕ) × IsRelocs bytes s × Contains (relocs_in bytes s) e
+
+-- A symbol is needed: it isn't local, or a relocation names it.
+pub data IsNeeded (bytes : List ℕ) (y : ℕ) : Type 0 where
+  global : Contains (symbols_of (table_of bytes)) y → binding bytes y ≢ 0 → IsNeeded bytes y
+  named : (e : Entry) → IsReloc bytes e → has_symbol (table_of bytes) bytes e.at ≡ true → y ≡ symbol_of (table_of bytes) bytes e.at → IsNeeded bytes y
+
+-- It is neither local nor global (at st_info), or neither undefined nor in a section that is kept (at st_shndx). A symbol for a file is never bad.
+pub data IsBadSymbol (bytes : List ℕ) (at : ℕ) : Type 0 where
+  bound : (y : ℕ) → IsNeeded bytes y → is_file bytes y ≡ false → has_binding bytes y ≡ false → at ≡ y + 12 → IsBadSymbol bytes at
+  placed : (y : ℕ) → IsNeeded bytes y → is_file bytes y ≡ false → has_place (names bytes) bytes y ≡ false → at ≡ y + 14 → IsBadSymbol bytes at
+
+-- Relocations go by another section than the symbol table (at sh_link), a field isn't inside its section (at r_offset), a relocation is of another type than R_386_32 and R_386_PC32, or names no symbol (at r_info).
+pub data IsBadReloc (bytes : List ℕ) (at : ℕ) : Type 0 where
+  link : (s : ℕ) → IsRelocs bytes s → is_linked (table_of bytes) (names bytes) bytes s ≡ false → at ≡ s + 24 → IsBadReloc bytes at
+  outside : (e : Entry) → IsReloc bytes e → is_outside (names bytes) bytes e ≡ true → at ≡ e.at → IsBadReloc bytes at
+  kind : (e : Entry) → IsReloc bytes e → has_kind bytes e.at ≡ false → at ≡ e.at + 4 → IsBadReloc bytes at
+  symbol : (e : Entry) → IsReloc bytes e → names_none (table_of bytes) bytes e.at ≡ true → at ≡ e.at + 4 → IsBadReloc bytes at
+
+-- ---- all causes
+
+-- the fields of the header that have one value
+abbrev pub IsBadVersion : List ℕ → ℕ → Type 0
+IsBadVersion bytes at = ((byte bytes 6 ≢ 1) × (at ≡ 6)) ⊎ ((word32 bytes 20 ≢ 1) × (at ≡ 20))
+
+-- An object is bad by a cause at this place.
+abbrev pub IsBadObject : List ℕ → ElfCause → ℕ → Type 0
+IsBadObject bytes Truncated at = IsPast (length bytes) (named_parts bytes) at
+IsBadObject bytes Magic at = (word32 bytes 0 ≢ 0x464C457F) × (at ≡ 0)
+IsBadObject bytes Class at = (byte bytes 4 ≢ 1) × (at ≡ 4)
+IsBadObject bytes Encoding at = (byte bytes 5 ≢ 1) × (at ≡ 5)
+IsBadObject bytes Version at = IsBadVersion bytes at
+IsBadObject bytes FileType at = (word16 bytes 16 ≢ 1) × (at ≡ 16)
+IsBadObject bytes Machine at = (word16 bytes 18 ≢ 3) × (at ≡ 18)
+IsBadObject bytes Sizes at = IsBadObjectSize bytes at
+IsBadObject bytes SectionForm at = IsBadSection bytes at
+IsBadObject bytes Compressed at = IsCompressed bytes at
+IsBadObject bytes StringPlace at = IsBadName bytes at
+IsBadObject bytes SymbolForm at = IsBadSymbol bytes at
+IsBadObject bytes RelocForm at = IsBadReloc bytes at
+
+-- An image is.
+abbrev pub IsBadImage : List ℕ → ElfCause → ℕ → Type 0
+IsBadImage bytes Truncated at = IsPast (length bytes) (named_parts bytes) at
+IsBadImage bytes Magic at = (word32 bytes 0 ≢ 0x464C457F) × (at ≡ 0)
+IsBadImage bytes Class at = (byte bytes 4 ≢ 1) × (at ≡ 4)
+IsBadImage bytes Encoding at = (byte bytes 5 ≢ 1) × (at ≡ 5)
+IsBadImage bytes Version at = IsBadVersion bytes at
+IsBadImage bytes FileType at = (word16 bytes 16 ≢ 2) × (at ≡ 16)
+IsBadImage bytes Machine at = (word16 bytes 18 ≢ 3) × (at ≡ 18)
+IsBadImage bytes Sizes at = IsBadImageSize bytes at
+IsBadImage bytes SectionForm at = IsBadPart bytes at
+IsBadImage bytes Compressed at = IsCompressed bytes at
+IsBadImage bytes StringPlace at = IsNameless bytes at
+IsBadImage bytes SymbolForm at = ⊥
+IsBadImage bytes RelocForm at = ⊥
+
+-- A file is no object, or no image: it is bad by a cause, and by none before it.
+abbrev pub IsRefusedObject : List ℕ → ℕ → ElfCause → Type 0
+IsRefusedObject bytes at cause = IsRefused (IsBadObject bytes) all_causes bytes at cause
+
+abbrev pub IsRefusedImage : List ℕ → ℕ → ElfCause → Type 0
+IsRefusedImage bytes at cause = IsRefused (IsBadImage bytes) causes bytes at cause
+
+-- the refusal of an object, and of an image
+abbrev pub no_object : ℕ → ElfCause → Result ObjectParts Fault
+no_object at cause = Err (record { at = at; cause = cause })
+
+abbrev pub no_image : ℕ → ElfCause → Result ImageParts Fault
+no_image at cause = Err (record { at = at; cause = cause })

@@ -1,0 +1,238 @@
+//! Shadows of several values of CR3.
+
+ghost use Rattle.std.specs.Prelude.{◌≡◌, ◌≤◌, ◌<◌, ◌^◌};
+ghost use Rattle.frame_pool.specs.Held.{Owns};
+ghost use Rattle.shadow_cache.specs.Pairs.{frames_of, IsRoots};
+ghost use Rattle.shadow_cache.specs.Roots.{pairs_of};
+ghost use Rattle.shadow_cache.specs.Replayed.{IsFitCall, AreFitCalls};
+
+use frame_pool::Pool;
+use guest_ram::Ram;
+use paging::Entry;
+use shadow_cache::{Reloads, Roots, RootsCall, replay};
+use shadow_tables::{Call, Shadows, Side};
+use std::alloc::Global;
+use std::process::Abort;
+
+/// A page of the kernel's that may be written.
+fn entry(frame: u32) -> Entry
+    ensures page { result.page ≡ 69632 }
+    ensures frame { result.frame ≡ frame }
+{
+    Entry {
+        page: 0x11000,
+        frame,
+        user: false,
+        write: true,
+        dirty: true,
+    }
+}
+
+#[derive(Drop)]
+struct Bench {
+    ram: Ram,
+    pool: Pool,
+    roots: Roots,
+}
+
+/// Pairs of 0x1000 alone, over a pool of 64 frames.
+fn begin(rt: &impl Abort, alloc: Global) -> Bench
+    ensures stands { ∥ IsRoots (pairs_of result.roots) result.ram ∥₁ }
+    ensures owns { Owns result.pool result.ram (frames_of (pairs_of result.roots) result.ram) }
+{
+    let mut ram = Ram::new(alloc, 128).expect(rt, "memory");
+    assert_eq!(rt; ram.len(), 524288);
+    let mut pool = Pool::new(&mut ram, 64, 64);
+    assert!(rt; pool.free() >= 2);
+    let roots = Roots::new(alloc, &mut ram, &mut pool, 0x1000).expect(rt, "memory");
+    Bench { ram, pool, roots }
+}
+
+fn go(rt: &impl Abort, bench: Bench, cr3: u32) -> Bench
+    requires stands { ∥ IsRoots (pairs_of bench.roots) bench.ram ∥₁ }
+    requires owns { Owns bench.pool bench.ram (frames_of (pairs_of bench.roots) bench.ram) }
+    ensures stands { ∥ IsRoots (pairs_of result.roots) result.ram ∥₁ }
+    ensures owns { Owns result.pool result.ram (frames_of (pairs_of result.roots) result.ram) }
+{
+    let Bench {
+        mut ram,
+        mut pool,
+        mut roots,
+    } = bench;
+    assert!(rt; pool.free() >= 2);
+    Reloads::switch(&mut roots, &mut ram, &mut pool, cr3);
+    Bench { ram, pool, roots }
+}
+
+fn fill(rt: &impl Abort, bench: Bench, frame: u32) -> Bench
+    requires stands { ∥ IsRoots (pairs_of bench.roots) bench.ram ∥₁ }
+    requires owns { Owns bench.pool bench.ram (frames_of (pairs_of bench.roots) bench.ram) }
+    ensures stands { ∥ IsRoots (pairs_of result.roots) result.ram ∥₁ }
+    ensures owns { Owns result.pool result.ram (frames_of (pairs_of result.roots) result.ram) }
+{
+    let Bench {
+        mut ram,
+        mut pool,
+        mut roots,
+    } = bench;
+    assert!(rt; pool.free() >= 1);
+    assert!(rt; frame < 0x10_0000);
+    roots.fill(&mut ram, &mut pool, Side::Kernel, entry(frame), true);
+    Bench { ram, pool, roots }
+}
+
+fn note(rt: &impl Abort, bench: Bench, frame: u32) -> Bench
+    requires stands { ∥ IsRoots (pairs_of bench.roots) bench.ram ∥₁ }
+    requires owns { Owns bench.pool bench.ram (frames_of (pairs_of bench.roots) bench.ram) }
+    ensures stands { ∥ IsRoots (pairs_of result.roots) result.ram ∥₁ }
+    ensures owns { Owns result.pool result.ram (frames_of (pairs_of result.roots) result.ram) }
+{
+    let Bench {
+        mut ram,
+        pool,
+        mut roots,
+    } = bench;
+    assert!(rt; frame < 16384);
+    roots.note(&mut ram, frame);
+    Bench { ram, pool, roots }
+}
+
+fn written(bench: Bench, frame: u32) -> Bench
+    requires stands { ∥ IsRoots (pairs_of bench.roots) bench.ram ∥₁ }
+    requires owns { Owns bench.pool bench.ram (frames_of (pairs_of bench.roots) bench.ram) }
+    ensures stands { ∥ IsRoots (pairs_of result.roots) result.ram ∥₁ }
+    ensures owns { Owns result.pool result.ram (frames_of (pairs_of result.roots) result.ram) }
+{
+    let Bench {
+        mut ram,
+        mut pool,
+        mut roots,
+    } = bench;
+    roots.written(&mut ram, &mut pool, frame);
+    Bench { ram, pool, roots }
+}
+
+/// What is kept for the page, and whether it may be written.
+fn seen(bench: &Bench) -> (Option<Entry>, bool)
+    requires { ∥ IsRoots (pairs_of bench.now.roots) bench.now.ram ∥₁ }
+{
+    (
+        bench.roots.kept(&bench.ram, 0x11000),
+        bench
+            .roots
+            .adequate(&bench.ram, Side::Kernel, 0x11000, true),
+    )
+}
+
+// An entry comes back with its value of CR3, unless a frame that its tables were read from was written.
+#[test]
+fn brings_entries_back_until_a_table_is_written(rt: HostRuntime) {
+    let bench = fill(&rt, begin(&rt, rt.alloc()), 0x20);
+    let bench = note(&rt, bench, 0x14);
+    let bench = go(&rt, bench, 0x30000);
+    assert!(rt; !seen(&bench).1);
+    let bench = go(&rt, bench, 0x1000);
+    assert!(rt; seen(&bench).1);
+    let bench = written(bench, 0x14);
+    assert!(rt; seen(&bench).1);
+    let bench = go(&rt, go(&rt, bench, 0x30000), 0x1000);
+    assert!(rt; !seen(&bench).1);
+}
+
+// A ninth value takes the place of the first, and an eighth does not. Eight pairs hold 16 frames and a table.
+#[test]
+fn keeps_eight_values(rt: HostRuntime) {
+    for others in 7..9 {
+        let mut bench = fill(&rt, go(&rt, begin(&rt, rt.alloc()), 0x2000), 0x20);
+        for k in 0..others {
+            bench = go(&rt, bench, 0x3000 + 0x1000 * k);
+        }
+        let bench = go(&rt, bench, 0x2000);
+        assert_eq!(rt; seen(&bench).0.is_some(), others == 7);
+        assert_eq!(rt; bench.pool.free(), if others == 7 { 47 } else { 48 });
+    }
+}
+
+// No page of a frame that any pair reads as a table is writable.
+#[test]
+fn bars_writes_to_tables_of_all_pairs(rt: HostRuntime) {
+    let bench = fill(&rt, begin(&rt, rt.alloc()), 0x14);
+    assert!(rt; seen(&bench).1);
+    let bench = note(&rt, go(&rt, bench, 0x30000), 0x14);
+    let bench = fill(&rt, bench, 0x14);
+    assert_eq!(rt; seen(&bench).0, Some(entry(0x14)));
+    assert!(rt; !seen(&bench).1);
+    let bench = go(&rt, bench, 0x1000);
+    assert_eq!(rt; seen(&bench).0, Some(entry(0x14)));
+    assert!(rt; !seen(&bench).1);
+    let bench = fill(&rt, written(bench, 0x14), 0x14);
+    assert!(rt; seen(&bench).1);
+}
+
+/// A fill that the present pair's tables don't bar, in a kernel's view.
+fn filled(frame: u32) -> RootsCall
+    requires { frame < 2 ^ 20 }
+    ensures { IsFitCall result }
+{
+    RootsCall::Shared(Call::Fill(Side::Kernel, entry(frame), true))
+}
+
+/// What is kept for the page after these calls over a pool of so many frames, whether it may be written, how many calls
+/// were done, and how many frames are free then.
+fn told(
+    rt: &impl Abort,
+    alloc: Global,
+    frames: u32,
+    calls: &[RootsCall],
+) -> (Option<Entry>, bool, usize, u32)
+    requires fit { AreFitCalls calls.now }
+    requires frames { 2 ≤ frames × frames ≤ 64 }
+{
+    let mut ram = Ram::new(alloc, 128).expect(rt, "memory");
+    assert_eq!(rt; ram.len(), 524288);
+    let mut pool = Pool::new(&mut ram, 64, frames);
+    assert!(rt; pool.free() >= 2);
+    let after = replay(alloc, &mut ram, &mut pool, 0x1000, calls).expect(rt, "memory");
+    (
+        after.roots.kept(&ram, 0x11000),
+        after.roots.adequate(&ram, Side::Kernel, 0x11000, true),
+        after.done,
+        pool.free(),
+    )
+}
+
+// As calls of a list. A write to a frame that was noted, by whichever pair, is not adequate until the frame was written
+// and the page filled again.
+#[test]
+fn replays_a_list(rt: HostRuntime) {
+    let list = [
+        filled(0x20),
+        RootsCall::Shared(Call::Note(0x14)),
+        RootsCall::Switch(0x30000),
+        RootsCall::Shared(Call::Note(0x20)),
+        RootsCall::Switch(0x1000),
+        RootsCall::Shared(Call::Written(0x20)),
+        filled(0x20),
+    ];
+    assert_eq!(rt;
+        told(&rt, rt.alloc(), 64, &list[..1]),
+        (Some(entry(0x20)), true, 1, 61)
+    );
+    assert_eq!(rt; told(&rt, rt.alloc(), 64, &list[..3]), (None, false, 3, 59));
+    assert_eq!(rt;
+        told(&rt, rt.alloc(), 64, &list[..5]),
+        (Some(entry(0x20)), false, 5, 59)
+    );
+    assert_eq!(rt;
+        told(&rt, rt.alloc(), 64, &list[..6]),
+        (Some(entry(0x20)), false, 6, 61)
+    );
+    assert_eq!(rt;
+        told(&rt, rt.alloc(), 64, &list),
+        (Some(entry(0x20)), true, 7, 61)
+    );
+    assert_eq!(rt;
+        told(&rt, rt.alloc(), 4, &list),
+        (Some(entry(0x20)), true, 2, 1)
+    );
+}

@@ -1,8 +1,0 @@
-use Rattle.shadow_tables.specs.Laws.{had}
-use Rattle.shadow_tables.proofs.tests.keeps_what_a_plain_map_keeps.Goals as goal
-
-pub agree-requires : goal.agree-requires
-agree-requires g c = had c.replay.new.shadows c.replay.new.ram c.replay.ensures.stands
-
-pub loop-step-preserved : goal.loop-step-preserved
-loop-step-preserved g c = record { shadow = had c.replay.new.shadows c.replay.new.ram c.replay.ensures.stands; owns = c.replay.ensures.owns }
