@@ -1,9 +1,9 @@
 //! Laws of what a run under a monitor's rules needs of the processor.
 
-use ia32_exec::system_flags_stay;
-
 ghost use Rattle.machine_model.specs.Able.{StepsKeepAble, RunsKeepAble, EachRunBeginsAble};
 ghost use Rattle.machine_model.specs.StaysFit.{StepsKeepFit, RunsKeepFit};
+
+use ia32_exec::system_flags_stay;
 
 /// Each step under a monitor's rules that goes keeps what the run needs of the processor.
 pub fn steps_keep_able()

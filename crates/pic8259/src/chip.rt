@@ -168,7 +168,10 @@ impl Chip {
         if !self.once_ready {
             return None;
         }
-        unblocked(highest(self.interrupt_request & !self.interrupt_mask), highest(self.in_service))
+        unblocked(
+            highest(self.interrupt_request & !self.interrupt_mask),
+            highest(self.in_service),
+        )
     }
 
     /// Moves the request that is raised, if any, into service.
