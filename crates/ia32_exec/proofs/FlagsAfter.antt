@@ -38,7 +38,7 @@ use Rattle.ia32_exec.specs.Selectors.{selector_to, read_from, pushed_from, selec
 use Rattle.ia32_exec.specs.UserEffect.{user_row, user_effect}
 use Rattle.ia32_exec.specs.FlagsAfter.{AreSet, AreKept, Leaves, SystemFlagsStay, InsensitiveStay}
 
--- ---- IF, IOPL, and the bits that no instruction may set
+-- ---- IF, IOPL, and the bits that the profile never sets
 
 put_set : (f : Flags) (at : ℕ) (b : Bool) → at < 32 → bit_and (1 * 2 ^ at % 2 ^ 32) 2 ≡ 0 → bit_and (1 * 2 ^ at % 2 ^ 32) 0xFFFF_C128 ≡ 0 → AreSet f (flag_put f at b)
 put_set f at b h e k = record { fixed = put_apart f.bits at 2 b h e; others = put_apart f.bits at 0xFFFF_C128 b h k }

@@ -10,7 +10,7 @@ use Rattle.ia32_exec.specs.Effect.{effect}
 use Rattle.ia32_exec.specs.Stack.{taken}
 use Rattle.ia32_exec.specs.UserEffect.{user_effect}
 
--- both have the same bit 1, and the same of the bits that no instruction may set: 3, 5, 8, and 14 and up
+-- both have the same bit 1, and the same of the bits that the profile never sets: 3, 5, 8, and 14 and up
 pub record AreSet (f g : Flags) : Type 0 where
   pub fixed : bit_and g.bits 2 ≡ bit_and f.bits 2
   pub others : bit_and g.bits 0xFFFF_C128 ≡ bit_and f.bits 0xFFFF_C128

@@ -10,7 +10,7 @@ pub fn eip_goes_on()
     ensures { EipGoesOn }
 {}
 
-/// IF, the bits from IOPL on, and those that no instruction may set stay.
+/// IF, the bits from IOPL on, and those that the profile never sets stay.
 pub fn system_flags_stay()
     ensures user { SystemFlagsStay }
     ensures insensitive { InsensitiveStay }
