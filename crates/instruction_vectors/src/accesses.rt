@@ -4,6 +4,7 @@
 use ia32_decode::{Decoded, decode};
 use ia32_exec::{Range, Ranges, ranges};
 use ia32_types::{Flags, Regs, Seg};
+use std::process::Abort;
 
 const REGS: Regs = Regs {
     r: [
@@ -264,25 +265,25 @@ fn are_accessed(row: &Row) -> bool {
         })
 }
 
-#[test]
-fn operands_are_accessed(rt: HostRuntime) {
-    for row in &DATA {
+fn all_are_accessed(rt: &impl Abort, rows: &[Row]) {
+    for row in rows {
         assert!(rt; are_accessed(row), "{}", row.0);
     }
+}
+
+#[test]
+fn operands_are_accessed(rt: HostRuntime) {
+    all_are_accessed(&rt, &DATA);
 }
 
 #[test]
 fn the_stack_is_accessed(rt: HostRuntime) {
-    for row in &STACK {
-        assert!(rt; are_accessed(row), "{}", row.0);
-    }
+    all_are_accessed(&rt, &STACK);
 }
 
 #[test]
 fn strings_are_accessed(rt: HostRuntime) {
-    for row in &STRINGS {
-        assert!(rt; are_accessed(row), "{}", row.0);
-    }
+    all_are_accessed(&rt, &STRINGS);
 }
 
 /// A string instruction that repeats does nothing more where ECX is 0.

@@ -1,5 +1,6 @@
 use ia32_decode::{Decoded, decode};
 use ia32_types::{Insn, same_insn};
+use std::process::Abort;
 
 mod arithmetic;
 mod control;
@@ -60,5 +61,12 @@ fn is_decoded(spelling: &Spelling) -> bool {
             same_insn(&insn, &spelling.insn) && usize::from(len) == spelling.bytes.len()
         }
         Decoded::Short | Decoded::Outside => false,
+    }
+}
+
+/// Each of these is decoded.
+fn are_decoded(rt: &impl Abort, spellings: &[Spelling]) {
+    for spelling in spellings {
+        assert!(rt; is_decoded(spelling), "{}", spelling.text);
     }
 }

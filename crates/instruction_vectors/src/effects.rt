@@ -398,3 +398,9 @@ fn check_against(rt: &impl Abort, case: &Case) {
     assert_eq!(rt; regs.flags.bits, case.flags_after, "{case:?}");
     assert_eq!(rt; sum_of(&mem), case.memory, "{case:?}");
 }
+
+fn check_all(rt: &impl Abort, cases: &[Case]) {
+    for case in cases {
+        check_against(rt, case);
+    }
+}

@@ -1,6 +1,7 @@
 use ia32_decode::{Decoded, decode};
 use ia32_encode::{ArrayBytes, NoForm, Wide, encode};
 use ia32_types::Insn;
+use std::process::Abort;
 
 mod kept;
 mod no_forms;
@@ -119,4 +120,18 @@ fn are_placed(placed: &Placed) -> bool {
 fn has_no_form(insn: &Insn, wide: Wide) -> bool {
     let mut into = BEFORE;
     encode(insn, wide, &mut into) == Err(NoForm) && into == BEFORE
+}
+
+/// Each of these is its own chosen spelling.
+fn are_kept(rt: &impl Abort, rows: &[&[u8]]) {
+    for bytes in rows {
+        assert!(rt; is_kept(bytes), "{bytes:?}");
+    }
+}
+
+/// Each of these has its chosen spelling.
+fn are_chosen(rt: &impl Abort, choices: &[Choice]) {
+    for choice in choices {
+        assert!(rt; is_chosen(choice), "{}", choice.text);
+    }
 }

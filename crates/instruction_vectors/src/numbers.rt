@@ -11,6 +11,7 @@ mod sums;
 
 use ia32_alu::{alu, divide, shift};
 use ia32_types::{Flags, Op, Size};
+use std::process::Abort;
 
 /// Instruction, size, operands and flags; the result and the flags after it.
 type Row = (Op, Size, u32, u32, u32, u32, u32);
@@ -27,6 +28,18 @@ fn outcome(op: Op, size: Size, a: u32, b: u32, bits: u32) -> Option<(u32, u32)> 
         _ => return None,
     };
     Some((value, after.bits))
+}
+
+/// Each row is the instruction's outcome.
+fn agree(rt: &impl Abort, rows: &[Row]) {
+    for row in rows {
+        let (op, size, a, b, bits, value, after) = *row;
+        assert_eq!(rt;
+            outcome(op, size, a, b, bits),
+            Some((value, after)),
+            "{row:?}"
+        );
+    }
 }
 
 #[test]

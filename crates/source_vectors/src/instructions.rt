@@ -94,6 +94,16 @@ fn is_assembled(rt: &HostRuntime, line: &Line) -> bool {
     }
 }
 
+/// The first line that is not assembled so.
+fn first_wrong(rt: &HostRuntime, lines: &[Line]) -> Option<&'static str> {
+    for line in lines {
+        if !is_assembled(rt, line) {
+            return Some(line.text);
+        }
+    }
+    None
+}
+
 fn is_refused(rt: &HostRuntime, text: &str, refusal: Refusal) -> bool {
     assembled(rt, text) == Some(Err(refusal))
 }

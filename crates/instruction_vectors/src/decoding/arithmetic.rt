@@ -1,4 +1,4 @@
-use super::{Spelling, is_decoded, spelling};
+use super::{Spelling, are_decoded, spelling};
 
 /// ADD to CMP, as GNU objdump reads the bytes.
 const ARITHMETIC_1: [Spelling; 56] = [
@@ -129,21 +129,15 @@ const ARITHMETIC_3: [Spelling; 3] = [
 
 #[test]
 fn arithmetic_1_are_decoded(rt: HostRuntime) {
-    for spelling in &ARITHMETIC_1 {
-        assert!(rt; is_decoded(spelling), "{}", spelling.text);
-    }
+    are_decoded(&rt, &ARITHMETIC_1);
 }
 
 #[test]
 fn arithmetic_2_are_decoded(rt: HostRuntime) {
-    for spelling in &ARITHMETIC_2 {
-        assert!(rt; is_decoded(spelling), "{}", spelling.text);
-    }
+    are_decoded(&rt, &ARITHMETIC_2);
 }
 
 #[test]
 fn arithmetic_3_are_decoded(rt: HostRuntime) {
-    for spelling in &ARITHMETIC_3 {
-        assert!(rt; is_decoded(spelling), "{}", spelling.text);
-    }
+    are_decoded(&rt, &ARITHMETIC_3);
 }

@@ -1,4 +1,4 @@
-use super::{Spelling, is_decoded, spelling};
+use super::{Spelling, are_decoded, spelling};
 
 /// Branches, SETcc, interrupts, strings and single bytes, as GNU objdump reads the bytes.
 const CONTROL_1: [Spelling; 56] = [
@@ -85,14 +85,10 @@ const CONTROL_2: [Spelling; 19] = [
 
 #[test]
 fn control_1_are_decoded(rt: HostRuntime) {
-    for spelling in &CONTROL_1 {
-        assert!(rt; is_decoded(spelling), "{}", spelling.text);
-    }
+    are_decoded(&rt, &CONTROL_1);
 }
 
 #[test]
 fn control_2_are_decoded(rt: HostRuntime) {
-    for spelling in &CONTROL_2 {
-        assert!(rt; is_decoded(spelling), "{}", spelling.text);
-    }
+    are_decoded(&rt, &CONTROL_2);
 }

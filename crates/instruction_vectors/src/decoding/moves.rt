@@ -1,4 +1,4 @@
-use super::{Spelling, is_decoded, spelling};
+use super::{Spelling, are_decoded, spelling};
 
 /// MOV, LEA, XCHG, PUSH and POP, as GNU objdump reads the bytes.
 const MOVES_1: [Spelling; 56] = [
@@ -171,21 +171,15 @@ const MOVES_3: [Spelling; 45] = [
 
 #[test]
 fn moves_1_are_decoded(rt: HostRuntime) {
-    for spelling in &MOVES_1 {
-        assert!(rt; is_decoded(spelling), "{}", spelling.text);
-    }
+    are_decoded(&rt, &MOVES_1);
 }
 
 #[test]
 fn moves_2_are_decoded(rt: HostRuntime) {
-    for spelling in &MOVES_2 {
-        assert!(rt; is_decoded(spelling), "{}", spelling.text);
-    }
+    are_decoded(&rt, &MOVES_2);
 }
 
 #[test]
 fn moves_3_are_decoded(rt: HostRuntime) {
-    for spelling in &MOVES_3 {
-        assert!(rt; is_decoded(spelling), "{}", spelling.text);
-    }
+    are_decoded(&rt, &MOVES_3);
 }

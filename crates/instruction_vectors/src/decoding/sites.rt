@@ -1,4 +1,4 @@
-use super::{Spelling, is_decoded, spelling};
+use super::{Spelling, are_decoded, spelling};
 
 /// The sensitive instructions, as GNU objdump reads the bytes.
 const SITES: [Spelling; 51] = [
@@ -57,7 +57,5 @@ const SITES: [Spelling; 51] = [
 
 #[test]
 fn sites_are_decoded(rt: HostRuntime) {
-    for spelling in &SITES {
-        assert!(rt; is_decoded(spelling), "{}", spelling.text);
-    }
+    are_decoded(&rt, &SITES);
 }

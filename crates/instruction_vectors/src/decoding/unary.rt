@@ -1,4 +1,4 @@
-use super::{Spelling, is_decoded, spelling};
+use super::{Spelling, are_decoded, spelling};
 
 /// TEST, products, INC, DEC, shifts and rotations, as GNU objdump reads the bytes.
 const UNARY_1: [Spelling; 56] = [
@@ -96,14 +96,10 @@ const UNARY_2: [Spelling; 30] = [
 
 #[test]
 fn unary_1_are_decoded(rt: HostRuntime) {
-    for spelling in &UNARY_1 {
-        assert!(rt; is_decoded(spelling), "{}", spelling.text);
-    }
+    are_decoded(&rt, &UNARY_1);
 }
 
 #[test]
 fn unary_2_are_decoded(rt: HostRuntime) {
-    for spelling in &UNARY_2 {
-        assert!(rt; is_decoded(spelling), "{}", spelling.text);
-    }
+    are_decoded(&rt, &UNARY_2);
 }

@@ -1,4 +1,4 @@
-use super::{Case, REGISTERS, check_against};
+use super::{Case, REGISTERS, check_all};
 use ia32_types::{Op, Operand, Size};
 
 const CASES: [Case; 20] = [
@@ -286,7 +286,5 @@ const CASES: [Case; 20] = [
 
 #[test]
 fn strings_agree_with_a_processor(rt: HostRuntime) {
-    for case in &CASES {
-        check_against(&rt, case);
-    }
+    check_all(&rt, &CASES);
 }

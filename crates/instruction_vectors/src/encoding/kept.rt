@@ -1,4 +1,4 @@
-use super::is_kept;
+use super::are_kept;
 
 /// Instructions in the chosen spelling, as GNU as writes them.
 const KEPT_1: [&[u8]; 64] = [
@@ -410,42 +410,30 @@ const KEPT_6: [&[u8]; 58] = [
 
 #[test]
 fn kept_1_are_chosen(rt: HostRuntime) {
-    for bytes in &KEPT_1 {
-        assert!(rt; is_kept(bytes), "{bytes:?}");
-    }
+    are_kept(&rt, &KEPT_1);
 }
 
 #[test]
 fn kept_2_are_chosen(rt: HostRuntime) {
-    for bytes in &KEPT_2 {
-        assert!(rt; is_kept(bytes), "{bytes:?}");
-    }
+    are_kept(&rt, &KEPT_2);
 }
 
 #[test]
 fn kept_3_are_chosen(rt: HostRuntime) {
-    for bytes in &KEPT_3 {
-        assert!(rt; is_kept(bytes), "{bytes:?}");
-    }
+    are_kept(&rt, &KEPT_3);
 }
 
 #[test]
 fn kept_4_are_chosen(rt: HostRuntime) {
-    for bytes in &KEPT_4 {
-        assert!(rt; is_kept(bytes), "{bytes:?}");
-    }
+    are_kept(&rt, &KEPT_4);
 }
 
 #[test]
 fn kept_5_are_chosen(rt: HostRuntime) {
-    for bytes in &KEPT_5 {
-        assert!(rt; is_kept(bytes), "{bytes:?}");
-    }
+    are_kept(&rt, &KEPT_5);
 }
 
 #[test]
 fn kept_6_are_chosen(rt: HostRuntime) {
-    for bytes in &KEPT_6 {
-        assert!(rt; is_kept(bytes), "{bytes:?}");
-    }
+    are_kept(&rt, &KEPT_6);
 }

@@ -1,4 +1,4 @@
-use super::{Choice, choice, is_chosen};
+use super::{Choice, are_chosen, choice};
 
 /// Instructions in another spelling, and the chosen one: that of GNU as, but for direct branches, which always
 /// have the long form, two registers of XCHG, of which the lower is the r/m operand, and RET with 0.
@@ -118,14 +118,10 @@ const OTHERS_2: [Choice; 42] = [
 
 #[test]
 fn others_1_are_chosen(rt: HostRuntime) {
-    for choice in &OTHERS_1 {
-        assert!(rt; is_chosen(choice), "{}", choice.text);
-    }
+    are_chosen(&rt, &OTHERS_1);
 }
 
 #[test]
 fn others_2_are_chosen(rt: HostRuntime) {
-    for choice in &OTHERS_2 {
-        assert!(rt; is_chosen(choice), "{}", choice.text);
-    }
+    are_chosen(&rt, &OTHERS_2);
 }

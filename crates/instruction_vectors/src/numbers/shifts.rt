@@ -1,4 +1,4 @@
-use super::{Row, outcome};
+use super::{Row, agree};
 use ia32_types::{Op, Size};
 
 const ROWS: [Row; 180] = [
@@ -370,12 +370,5 @@ const ROWS: [Row; 180] = [
 
 #[test]
 fn shifts_and_rotations_are_those_of_a_processor(rt: HostRuntime) {
-    for row in &ROWS {
-        let (op, size, a, b, bits, value, after) = *row;
-        assert_eq!(rt;
-            outcome(op, size, a, b, bits),
-            Some((value, after)),
-            "{row:?}"
-        );
-    }
+    agree(&rt, &ROWS);
 }

@@ -1,4 +1,4 @@
-use super::{Line, assembles, is_assembled};
+use super::{Line, assembles, first_wrong};
 use asm_instruction::Named;
 use std::test::*;
 
@@ -96,7 +96,5 @@ static ARITHMETIC: [Line; 70] = [
 
 #[test]
 fn arithmetic_is_assembled(rt: HostRuntime) {
-    for line in &ARITHMETIC {
-        assert!(rt; is_assembled(&rt, line), "{}", line.text);
-    }
+    assert_eq!(rt; first_wrong(&rt, &ARITHMETIC), None);
 }

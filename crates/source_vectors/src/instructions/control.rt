@@ -1,4 +1,4 @@
-use super::{Line, assembles, is_assembled};
+use super::{Line, assembles, first_wrong};
 use asm_instruction::Named;
 use std::test::*;
 
@@ -72,7 +72,5 @@ static CONTROL: [Line; 61] = [
 
 #[test]
 fn jumps_calls_and_interrupts_are_assembled(rt: HostRuntime) {
-    for line in &CONTROL {
-        assert!(rt; is_assembled(&rt, line), "{}", line.text);
-    }
+    assert_eq!(rt; first_wrong(&rt, &CONTROL), None);
 }

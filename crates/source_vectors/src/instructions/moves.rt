@@ -1,4 +1,4 @@
-use super::{Line, assembles, is_assembled};
+use super::{Line, assembles, first_wrong};
 use asm_instruction::Named;
 use std::test::*;
 
@@ -46,7 +46,5 @@ static MOVES: [Line; 38] = [
 
 #[test]
 fn moves_are_assembled(rt: HostRuntime) {
-    for line in &MOVES {
-        assert!(rt; is_assembled(&rt, line), "{}", line.text);
-    }
+    assert_eq!(rt; first_wrong(&rt, &MOVES), None);
 }

@@ -1,4 +1,4 @@
-use super::{Line, assembles, is_assembled};
+use super::{Line, assembles, first_wrong};
 use asm_instruction::Named;
 use std::test::*;
 
@@ -81,7 +81,5 @@ static OTHERS: [Line; 67] = [
 
 #[test]
 fn flags_strings_system_and_addresses_are_assembled(rt: HostRuntime) {
-    for line in &OTHERS {
-        assert!(rt; is_assembled(&rt, line), "{}", line.text);
-    }
+    assert_eq!(rt; first_wrong(&rt, &OTHERS), None);
 }

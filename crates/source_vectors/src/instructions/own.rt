@@ -1,4 +1,4 @@
-use super::{Line, assembles, is_assembled};
+use super::{Line, assembles, first_wrong};
 use asm_instruction::Named;
 use std::test::*;
 
@@ -18,7 +18,5 @@ static OWN: [Line; 10] = [
 
 #[test]
 fn own_choices_are_taken(rt: HostRuntime) {
-    for line in &OWN {
-        assert!(rt; is_assembled(&rt, line), "{}", line.text);
-    }
+    assert_eq!(rt; first_wrong(&rt, &OWN), None);
 }

@@ -1,4 +1,4 @@
-use super::{Line, assembles, is_assembled};
+use super::{Line, assembles, first_wrong};
 use asm_instruction::Named;
 use std::test::*;
 
@@ -25,7 +25,5 @@ static SHIFTS: [Line; 17] = [
 
 #[test]
 fn shifts_are_assembled(rt: HostRuntime) {
-    for line in &SHIFTS {
-        assert!(rt; is_assembled(&rt, line), "{}", line.text);
-    }
+    assert_eq!(rt; first_wrong(&rt, &SHIFTS), None);
 }

@@ -1,4 +1,4 @@
-use super::{Line, assembles, is_assembled};
+use super::{Line, assembles, first_wrong};
 use asm_instruction::Named;
 use std::test::*;
 
@@ -35,7 +35,5 @@ static STACK: [Line; 27] = [
 
 #[test]
 fn stack_instructions_are_assembled(rt: HostRuntime) {
-    for line in &STACK {
-        assert!(rt; is_assembled(&rt, line), "{}", line.text);
-    }
+    assert_eq!(rt; first_wrong(&rt, &STACK), None);
 }
