@@ -44,3 +44,6 @@ pub mod Guests
 pub mod Owning
 pub mod Closing
 pub mod Losing
+pub mod Shedding
+pub mod Readying
+pub mod Behind

@@ -58,10 +58,10 @@ open_within image wp a b w h = record {
       (subst (λ (e : Entry). IsOpen (is_kernel b.side) image e.page e.frame) (sym w.1) (h.leads write (lets_within a b w write l)));
 }
 
-some_is : (a b : Slot) → Some a ≡ Some b → a ≡ b
+pub some_is : (a b : Slot) → Some a ≡ Some b → a ≡ b
 some_is a b h = cc
 
-within_open : (image : Image) (wp : Bool) (a b : Option Slot) → IsWithin a b → ForSome b (IsOpenSlot image wp) → ForSome a (IsOpenSlot image wp)
+pub within_open : (image : Image) (wp : Bool) (a b : Option Slot) → IsWithin a b → ForSome b (IsOpenSlot image wp) → ForSome a (IsOpenSlot image wp)
 within_open image wp None b w h = λ slot e. absurd (none_some slot e)
 within_open image wp (Some a) None w h = absurd w
 within_open image wp (Some a) (Some b) w h = λ slot e. subst (IsOpenSlot image wp) (some_is a slot e) (open_within image wp a b w (h b refl))
