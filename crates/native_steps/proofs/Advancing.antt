@@ -1,6 +1,7 @@
 -- A run of the host, one instruction behind the other, beside the guest.
 use Rattle.std.proofs.Common.{◌≡◌, ℕ, zero, suc, ◌-◌, ◌≤◌, List, [], ◌∷◌, ◌++◌, length, replicate, Bool, true, Option, Some, None, Ok, Err, refl, sym, ap, subst, ◌∙◌, inl, arith}
 use Rattle.std.specs.List.{All}
+use Rattle.guest_ram.specs.Bytes.{frame}
 use Rattle.ia32_types.specs.declared.flags.Regs.{Regs}
 use Rattle.ia32_exec.specs.Digest.{digest}
 use Rattle.paging.specs.Fresh.{has}
@@ -23,10 +24,10 @@ use Rattle.machine_model.specs.Step.{Report, Went, step_of}
 use Rattle.machine_model.specs.Run.{Set, Steps, trace_of}
 use Rattle.machine_model.specs.Notes.{AreLeft}
 use Rattle.machine_model.specs.Counts.{is_direct, direct_in, direct_addresses, passed_on}
-use Rattle.native_steps.specs.Lends.{Lends, AreKept}
+use Rattle.native_steps.specs.Lends.{Lends, IsUnlent, AreKept}
 use Rattle.native_steps.specs.Stands.{IsWedge, Stands}
 use Rattle.native_steps.specs.Forward.{wp_of, IsEntrance, IsNext, Follows, Forward, NotEntered, AtSites}
-use Rattle.native_steps.specs.Stretch.{SameBehind, Beside, board_now, AreQuiet, EndsAs, Advanced}
+use Rattle.native_steps.specs.Stretch.{SameBehind, StaysUnlent, Beside, board_now, AreQuiet, EndsAs, Advanced}
 use Rattle.native_steps.proofs.Choices.{chosen, both, clash}
 use Rattle.native_steps.proofs.Completing.{no_window}
 use Rattle.native_steps.proofs.Quiet.{IsLater, quiet_on, board_on}
@@ -134,8 +135,19 @@ module _ (laws : Laws) (m : Setting) (v : View) (w : IsWedge m) where
       unfolding now
       behind = record { size = follows.size; beyond = follows.behind }
 
+      untouched : (at : ℕ) → IsUnlent s.ram v.root at → frame ram at ≡ frame s.ram at
+      unfolding now
+      untouched = follows.untouched
+
+      guest_untouched : (at : ℕ) → IsUnlent s.ram v.root at → frame after.ram at ≡ frame b.ram at
+      unfolding after now
+      guest_untouched = follows.guest_untouched
+
       still : (memory : List ℕ) → SameBehind m ram memory → Lends m memory v.root v.kernel (wp_of b) b.set
       still memory same = h.lends memory (behind_join m s.ram ram memory behind same)
+
+      unlent_on : (at : ℕ) → StaysUnlent m v s.ram at → StaysUnlent m v ram at
+      unlent_on at none memory same = none memory (behind_join m s.ram ram memory behind same)
 
       beside : Beside m v after (counted s regs ram)
       unfolding after
@@ -202,6 +214,8 @@ module _ (laws : Laws) (m : Setting) (v : View) (w : IsWedge m) where
             passed = r.passed ∙ ap (λ (x : ℕ). passed_on (digest s.passed x) (direct_addresses m.image.sites r.reports)) (sym begun_at) ∙ sym (ap (passed_on s.passed) addresses);
             retired = omega (arith, r.retired);
             behind = behind_join m s.ram ram r.last.ram behind r.behind;
+            untouched = λ at none. r.untouched at (unlent_on at none) ∙ untouched at (none s.ram (behind_same m s.ram));
+            guest_untouched = λ at none. r.guest_untouched at (unlent_on at none) ∙ guest_untouched at (none s.ram (behind_same m s.ram));
             ends = r.ends;
           }
 
@@ -229,6 +243,8 @@ module _ (laws : Laws) (m : Setting) (v : View) (w : IsWedge m) where
       passed = refl;
       retired = omega arith;
       behind = behind_same m s.ram;
+      untouched = λ at none. refl;
+      guest_untouched = λ at none. refl;
       ends = ends;
     }
 
@@ -306,6 +322,8 @@ module _ (laws : Laws) (m : Setting) (v : View) (w : IsWedge m) where
     passed = refl;
     retired = omega arith;
     behind = behind_same m s.ram;
+    untouched = λ at none. refl;
+    guest_untouched = λ at none. refl;
     ends = refl;
   }
   advanced (suc k) b s h q = by_step b s k h q (host_step v s.ram s.regs) refl (advanced k)

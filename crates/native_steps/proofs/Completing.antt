@@ -4,6 +4,7 @@ use Rattle.std.specs.Prelude.{nat_le, nat_lt}
 use Rattle.std.specs.List.{Contains}
 use Rattle.std.specs.FinMap.{FinMap, get}
 use Rattle.std.specs.Ordering.{nat_cmp}
+use Rattle.guest_ram.specs.Bytes.{frame}
 use Rattle.ia32_types.specs.declared.flags.Regs.{Regs}
 use Rattle.ia32_types.specs.declared.insn.Insn.{Insn}
 use Rattle.ia32_types.specs.declared.stop.Stop.TheVariants as stops
@@ -38,6 +39,7 @@ use Rattle.image_check.specs.Places.{linear}
 use Rattle.machine_model.specs.State.{Setting, State}
 use Rattle.machine_model.specs.Rules as rules
 use Rattle.machine_model.specs.Step as step
+use Rattle.native_steps.specs.Lends.{IsUnlent}
 use Rattle.native_steps.specs.Stands.{IsWedge, IsLevel, Sees, Stands, shown}
 use Rattle.native_steps.specs.Native.{byte_of, effect_of, done_by, IsNative}
 use Rattle.native_steps.specs.Forward.{IsEntrance, IsNext, Follows}
@@ -45,8 +47,9 @@ use Rattle.native_steps.specs.Backward.{Completes}
 use Rattle.native_steps.proofs.Choices.{chosen, passed_by, is_false, both, clash, lt_false, le_true, eq_told}
 use Rattle.native_steps.proofs.Doing.{plain_effect}
 use Rattle.ia32_exec.specs.FlagsAfter.{AreKept, Leaves}
-use Rattle.native_steps.proofs.Sharing.{IsFound, covers}
-use Rattle.native_steps.proofs.Stored.{stored_is, IsPlace, Keeps, stores_kept}
+use Rattle.native_steps.proofs.Shown.{shown_same}
+use Rattle.native_steps.proofs.Sharing.{IsFound, covers, covers_elsewhere}
+use Rattle.native_steps.proofs.Stored.{stored_is, IsPlace, Keeps, stores_kept, IsBeside, frame_still}
 use Rattle.native_steps.specs.TextLaws.{TextLaws}
 use Rattle.native_steps.proofs.Together.{IsCommon, native}
 
@@ -158,6 +161,16 @@ module _ (flags : EffectLaws) (m : Setting) (w : IsWedge m) (laws : TextLaws m.i
       keeps : Keeps m w memory (place memory v.root) (all_stored (place memory v.root) memory (list_of stores)) (all_stored (place memory v.root) (shown m memory) (list_of stores))
       keeps = stores_kept m w memory (place memory v.root) stands.host stores stored.1
 
+      -- none of them lies in a frame to which no write passes
+      untouched : (at : ℕ) → IsUnlent memory v.root at → frame (all_stored (place memory v.root) memory (list_of stores)) at ≡ frame memory at
+      untouched at none =
+          frame_still memory (place memory v.root) at stores
+          (within_user (IsBeside memory (place memory v.root) at) (selectors_of v) insn len b.cpu.regs (byte_of b) (outcomes.Done regs stores) (sym e)
+          (covers_elsewhere m w memory v b stands at none (IsBeside memory (place memory v.root) at) (λ a f other. record {
+            within = let lt = f.within in let p = f.host in let room = stands.host.room in omega (arith, lt, p, room);
+            other = other;
+          }) (ranges_of insn b.cpu.regs).write c.write))
+
       end : Space
       end = stored_all n.space (list_of stores)
 
@@ -168,6 +181,12 @@ module _ (flags : EffectLaws) (m : Setting) (w : IsWedge m) (laws : TextLaws m.i
           ∙ ap (λ (x : List ℕ). all_stored (space.place n.space) x (list_of stores)) (n.ram ∙ stands.ram)
           ∙ stores_same (space.place n.space) (place memory v.root) (shown m memory) stores stored.0
           ∙ keeps.shown_is
+
+      guest_untouched : (at : ℕ) → IsUnlent memory v.root at → frame end.ram at ≡ frame b.ram at
+      guest_untouched at none =
+          ap (λ (x : List ℕ). frame x at) end_ram
+          ∙ shown_same m w memory stands.host (all_stored (place memory v.root) memory (list_of stores)) keeps.long at (untouched at none)
+          ∙ sym (ap (λ (x : List ℕ). frame x at) stands.ram)
 
       end_pages : Rattle.native_steps.specs.Lends.AreKept b.set end.went
       unfolding end
@@ -252,6 +271,8 @@ module _ (flags : EffectLaws) (m : Setting) (w : IsWedge m) (laws : TextLaws m.i
         interrupts = let k = kept in ap (λ n. n == 1) k.interrupt;
         size = keeps.long;
         behind = keeps.behind;
+        untouched = untouched;
+        guest_untouched = guest_untouched;
         leads = leads;
       }
 

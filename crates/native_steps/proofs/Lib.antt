@@ -3,6 +3,7 @@ pub mod Short
 pub mod Pages
 pub mod Ways
 pub mod HostParts
+pub mod Framed
 pub mod Shown
 pub mod Went
 pub mod Uses

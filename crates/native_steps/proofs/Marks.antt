@@ -1,5 +1,5 @@
 -- The flags that walks set change no frame, no size and no right.
-use Rattle.std.proofs.Common.{◌≡◌, ℕ, zero, suc, ◌+◌, ◌*◌, ◌/◌, ◌%◌, ◌^◌, ◌<◌, ◌≤◌, List, length, Bool, true, false, cond, ◌&&◌, not, ◌==◌, refl, sym, ap, subst, ◌∙◌, ◌⊎◌, inl, inr, arith}
+use Rattle.std.proofs.Common.{◌≡◌, ℕ, zero, suc, ◌+◌, ◌*◌, ◌/◌, ◌%◌, ◌<◌, ◌≤◌, List, length, Bool, true, false, cond, ◌&&◌, ◌==◌, refl, sym, ap, subst, ◌∙◌, ◌⊎◌, inl, inr, arith}
 use Rattle.std.specs.Prelude.{bit_or, nat_le}
 use Rattle.std.proofs.lemmas.Bool.{cases_lt}
 use Rattle.guest_ram.specs.Bytes.{AreBytes, byte, word32, with_byte}

@@ -16,6 +16,7 @@ use Rattle.ia32_decode.specs.declared.answer.Decoded.TheVariants as begins
 use Rattle.ia32_decode.specs.Answer.{Begins, Answers}
 use Rattle.ia32_decode.specs.Decoding.{decoded}
 use Rattle.ia32_decode.proofs.Exact.{answered, decoded_back}
+use Rattle.descriptors.specs.Controls.{pse_of}
 use Rattle.paging.specs.declared.entry.Entry.{Entry}
 use Rattle.paging.specs.Space.{Mode, Wedge, Own, Space, place}
 use Rattle.paging.specs.Uses.{is_own, with_front, with_back}
@@ -32,6 +33,7 @@ use Rattle.native_steps.proofs.Pages.{HasEntry}
 use Rattle.native_steps.proofs.Ways.{front_at, back_at, IsFront, IsAcross, Way}
 use Rattle.native_steps.proofs.Fetching.{Fetches, IsFetch, IsIn, IsPast, bound, same_space}
 use Rattle.native_steps.proofs.Walking.{IsWithin, IsServed}
+use Rattle.native_steps.proofs.Walks.{walk_frame}
 use Rattle.native_steps.proofs.Through.{after, within_as, Through, FetchThrough, fetch_through}
 
 -- ---- the same bytes
@@ -115,11 +117,10 @@ module _ (m : Setting) (b : State) (kernel : Bool) (mode : m.mode ≡ wedge_mode
         | inr k ↦
             let one : ◌≡◌ {A = Option Entry} (Some k.entry) (Some e.entry) = sym k.kept ∙ e.kept in
             let same : k.entry ≡ e.entry = cc one in
-            let within = k.walk.word_in in
-            let from = ap (λ (x : Entry). x.frame) k.walk.entry_is in
+            let within : k.entry.frame < m.frames = walk_frame s.ram m.frames b.cpu.cr3 (pse_of b.cpu) page (record k.entry { dirty = k.dirty }) k.dir_at k.word_at k.walk in
             let to = ap (λ (x : Entry). x.frame) same in
             let is = e.frame_is in
-            omega (arith, within, from, to, is)
+            omega (arith, within, to, is)
       ]
 
   eip : ℕ

@@ -18,7 +18,7 @@ use Rattle.host_cpl3.specs.declared.view.View.{View}
 use Rattle.host_cpl3.specs.Pages.{walked, place_in, place, byte_at}
 use Rattle.host_cpl3.specs.Access.{last_page}
 use Rattle.machine_model.specs.State.{Setting, State, wedge_mode}
-use Rattle.native_steps.specs.Lends.{IsOpen, IsLent, Lends}
+use Rattle.native_steps.specs.Lends.{IsOpen, IsLent, IsUnlent, Lends}
 use Rattle.native_steps.specs.Stands.{IsWedge, Stands}
 use Rattle.native_steps.specs.Native.{byte_of}
 use Rattle.native_steps.specs.Forward.{wp_of}
@@ -165,6 +165,30 @@ module _ (m : Setting) (w : IsWedge m) (memory : List ℕ) (v : View) (b : State
         | inl below ↦ page_found write (r.at + k) (r.at / 4096) h.first (omega (arith, below)) h.first_is
         | inr above ↦ page_found write (r.at + k) (last_page r) h.last (omega (arith, above, lt, few)) h.last_is
       ]
+
+  -- an address of a page that may be written leads to a frame that is lent for it
+  page_elsewhere : (f : ℕ) → IsUnlent memory v.root f → (a page frame : ℕ) → a / 4096 ≡ page → page < 2 ^ 20 → Shares true page frame → place memory v.root a / 4096 ≡ f → ⊥
+  unfolding place
+  page_elsewhere f none a page frame e lt s there =
+      let leads : reached_by false (walked memory v.root (a / 4096)) ≡ Some frame =
+      ap (λ p. reached_by false (walked memory v.root p)) e ∙ reads_too true (walked memory v.root page) frame s.leads in
+      let at : place_in (reached_by false (walked memory v.root (a / 4096))) a ≡ 4096 * frame + a % 4096 = ap (λ (o : Option ℕ). place_in o a) leads in
+      let same : frame ≡ f = omega (arith, at, there) in
+      none page lt (leads_told memory v.root page lt true frame s.leads ∙ ap Some same)
+
+  elsewhere : (f : ℕ) → IsUnlent memory v.root f → (r : Range) → IsShared true r → (k : ℕ) → k < r.len → place memory v.root (r.at + k) / 4096 ≡ f → ⊥
+  elsewhere f none r h k lt =
+      let few = h.few in
+      let fits = h.fits in
+      let some = h.some in
+      elim (cases_lt ((r.at + k) / 4096) (r.at / 4096 + 1)) [
+        | inl below ↦ page_elsewhere f none (r.at + k) (r.at / 4096) h.first (omega (arith, below)) (omega (arith, fits, some)) h.first_is
+        | inr above ↦ page_elsewhere f none (r.at + k) (last_page r) h.last (omega (arith, above, lt, few)) (omega (arith, fits, some)) h.last_is
+      ]
+
+  pub covers_elsewhere : (f : ℕ) → IsUnlent memory v.root f → (P : ℕ → Type 0) → ((a : ℕ) → IsFound a → (place memory v.root a / 4096 ≡ f → ⊥) → P a) → (o : Option Range) → AreShared true o → Covers P o
+  covers_elsewhere f none P g None h = tt
+  covers_elsewhere f none P g (Some r) h = λ k lt. g (r.at + k) (found true r h k lt) (elsewhere f none r h k lt)
 
   pub covers : (P : ℕ → Type 0) → ((a : ℕ) → IsFound a → P a) → (write : Bool) (o : Option Range) → AreShared write o → Covers P o
   covers P f write None h = tt

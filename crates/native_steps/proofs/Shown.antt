@@ -3,7 +3,7 @@ use Rattle.std.proofs.Common.{◌≡◌, ℕ, ◌+◌, ◌*◌, ◌<◌, ◌≤�
 use Rattle.std.specs.Prelude.{nat_le, nat_lt}
 use Rattle.std.proofs.lemmas.List.{places, same_lists, length-take-le}
 use Rattle.std.proofs.lemmas.Bool.{cases_lt}
-use Rattle.guest_ram.specs.Bytes.{byte, part, with_part, with_byte}
+use Rattle.guest_ram.specs.Bytes.{byte, part, frame, with_part, with_byte}
 use Rattle.guest_ram.proofs.Bytes.{length-with_part, length-with_byte, part-with_part_above, part-with_part_below, part-with_part, part-part, byte-part, with_part-comm}
 use Rattle.paging.specs.Uses.{is_text}
 use Rattle.sites.specs.Patched.{patched}
@@ -11,6 +11,7 @@ use Rattle.image_load.specs.Boot.{text_pages}
 use Rattle.machine_model.specs.State.{Setting, wedge_mode}
 use Rattle.native_steps.specs.Stands.{IsWedge, IsHost, shown}
 use Rattle.native_steps.proofs.Choices.{le_true, lt_true, clash}
+use Rattle.native_steps.proofs.Framed.{laid_same}
 
 -- a place that is not in the text
 abbrev pub IsApart : Setting → ℕ → ℕ → Type 0
@@ -77,6 +78,13 @@ module _ (m : Setting) (w : IsWedge m) (memory : List ℕ) (h : IsHost m memory)
 
   pub text_patched : (at n : ℕ) → at + n ≤ length m.image.text → part memory (0x100000 + at) n ≡ part (patched m.image.text 0 m.image.sites) at n
   text_patched at n le = sym (part-part memory 0x100000 (length m.image.text) at n le) ∙ ap (λ (x : List ℕ). part x at n) h.text
+
+  -- a frame that another memory has as well is the same in what it shows
+  pub shown_same : (other : List ℕ) → length other ≡ length memory → (f : ℕ) → frame other f ≡ frame memory f → frame (shown m other) f ≡ frame (shown m memory) f
+  unfolding shown
+  shown_same other long f same =
+      let room = h.room in
+      laid_same other memory m.image.text (4096 * m.frames) 0x100000 f long (omega (arith, long, room)) (omega (arith, w.room)) same
 
   -- a byte that is written outside the text
   module _ (a v : ℕ) (lt : a < 4096 * m.frames) (far : IsApart m a 1) where

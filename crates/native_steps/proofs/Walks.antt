@@ -1,5 +1,5 @@
 -- Walks that find an entry, and that flags which are set meanwhile leave them so.
-use Rattle.std.proofs.Common.{◌≡◌, ℕ, ◌+◌, ◌*◌, ◌/◌, ◌%◌, ◌^◌, ◌<◌, ◌≤◌, List, length, Bool, true, false, cond, ◌&&◌, not, ◌==◌, refl, sym, ap, ◌∙◌, ◌⊎◌, inl, inr, arith}
+use Rattle.std.proofs.Common.{◌≡◌, ℕ, ◌+◌, ◌*◌, ◌/◌, ◌%◌, ◌^◌, ◌<◌, ◌≤◌, List, length, Bool, true, false, cond, ◌&&◌, not, ◌==◌, refl, sym, ap, ◌∙◌, arith}
 use Rattle.std.specs.Prelude.{nat_le}
 use Rattle.guest_ram.specs.Bytes.{word32}
 use Rattle.paging.specs.declared.entry.Entry.{Entry}
@@ -179,6 +179,17 @@ walk_in ram frames cr3 pse page e d t small (Large h) =
 pub page_is : (ram : List ℕ) (frames cr3 : ℕ) (pse : Bool) (page : ℕ) (e : Entry) (d t : ℕ) → IsWalk ram frames cr3 pse page e d t → e.page ≡ page
 page_is ram frames cr3 pse page e d t (ByTable h) = sym (ap (λ (x : Entry). x.page) h.entry_is)
 page_is ram frames cr3 pse page e d t (Large h) = sym (ap (λ (x : Entry). x.page) h.entry_is)
+
+-- the frame is in the memory
+pub walk_frame : (ram : List ℕ) (frames cr3 : ℕ) (pse : Bool) (page : ℕ) (e : Entry) (d t : ℕ) → IsWalk ram frames cr3 pse page e d t → e.frame < frames
+walk_frame ram frames cr3 pse page e d t (ByTable h) =
+    let within = h.word_in in
+    let is = ap (λ (x : Entry). x.frame) h.entry_is in
+    omega (arith, within, is)
+walk_frame ram frames cr3 pse page e d t (Large h) =
+    let within = h.frame_in in
+    let is = ap (λ (x : Entry). x.frame) h.entry_is in
+    omega (arith, within, is)
 
 -- the same entry in a memory with more flags, but that it may be dirty
 pub record IsStill (ram : List ℕ) (frames cr3 : ℕ) (pse : Bool) (page : ℕ) (e : Entry) (d t : ℕ) : Type 0 where

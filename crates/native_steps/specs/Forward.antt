@@ -1,5 +1,6 @@
 -- What the host completes, the guest's step does.
 use Rattle.std.specs.Prelude.{◌≡◌, ℕ, ◌+◌, ◌-◌, ◌*◌, ◌^◌, ◌≤◌, ◌<◌, List, [], length, drop, Bool, true, false, Some, None, Ok}
+use Rattle.guest_ram.specs.Bytes.{frame}
 use Rattle.ia32_types.specs.declared.flags.Regs.{Regs}
 use Rattle.paging.specs.Fresh.{has}
 use Rattle.board.specs.Boards.{board_step}
@@ -15,7 +16,7 @@ use Rattle.host_cpl3.specs.HostStep.{host_step}
 use Rattle.machine_model.specs.State.{Setting, State}
 use Rattle.machine_model.specs.Rules.{is_start}
 use Rattle.machine_model.specs.Step as step
-use Rattle.native_steps.specs.Lends.{Lends, AreKept}
+use Rattle.native_steps.specs.Lends.{Lends, IsUnlent, AreKept}
 use Rattle.native_steps.specs.Stands.{IsWedge, Stands}
 use Rattle.machine_model.specs.Counts.{is_direct}
 
@@ -35,7 +36,8 @@ pub record IsNext (m : Setting) (kernel : Bool) (b : State) : Type 0 where
   pub outside : kernel ≡ true → site_at m.image.sites (b.cpu.regs.eip - 0x10000000) ≡ None
 
 -- The guest's step goes, with nothing seen and no walk. Its instruction counts, and leaves these registers and, over this memory,
--- the guest's. Nothing else changes but the board, and that a hold ends; IF stays.
+-- the guest's. Nothing else changes but the board, and that a hold ends; IF stays. Of the host's memory nothing behind the
+-- guest's frames has changed, and of the guest's no frame to which the tables let no write pass.
 pub record Follows (m : Setting) (v : View) (b : State) (memory : List ℕ) (regs : Regs) (after_memory : List ℕ) : Type 0 where
   pub report : step.Report
   pub after : State
@@ -55,6 +57,8 @@ pub record Follows (m : Setting) (v : View) (b : State) (memory : List ℕ) (reg
   pub interrupts : has regs.flags.bits 512 ≡ has b.cpu.regs.flags.bits 512
   pub size : length after_memory ≡ length memory
   pub behind : drop (4096 * m.frames) after_memory ≡ drop (4096 * m.frames) memory
+  pub untouched : (at : ℕ) → IsUnlent memory v.root at → frame after_memory at ≡ frame memory at
+  pub guest_untouched : (at : ℕ) → IsUnlent memory v.root at → frame after.ram at ≡ frame b.ram at
   pub leads : v.kernel ≡ true → IsEntrance m.image regs.eip
 
 abbrev pub wp_of : State → Bool

@@ -31,6 +31,10 @@ pub record IsLent (m : Setting) (kernel wp : Bool) (set : FinMap nat_cmp Entry) 
 pub record Lends (m : Setting) (memory : List ℕ) (root : ℕ) (kernel wp : Bool) (set : FinMap nat_cmp Entry) : Type 0 where
   pub each : (page : ℕ) → page < 2 ^ 20 → (write : Bool) → ForSome (reached memory (length memory / 4096) root page write) (IsLent m kernel wp set write page)
 
+-- These tables let no user's write pass to the frame: each page is lent for reads alone, or to another frame, or not at all.
+abbrev pub IsUnlent : List ℕ → ℕ → ℕ → Type 0
+IsUnlent memory root at = (page : ℕ) → page < 2 ^ 20 → reached memory (length memory / 4096) root page true ≡ Some at → ⊥
+
 -- these pages have entries
 abbrev pub AreKept : FinMap nat_cmp Entry → List ℕ → Type 0
 AreKept set pages = (page : ℕ) → Contains pages page → (entry : Entry) × (get set page ≡ Some entry)

@@ -2,6 +2,7 @@
 -- translations whatever its frames hold, are as many steps of the guest, each with the translations that are there.
 use Rattle.std.specs.Prelude.{◌≡◌, ℕ, zero, suc, ◌+◌, ◌*◌, ◌≤◌, false, true, List, [], length, replicate, drop, Some, None}
 use Rattle.std.specs.List.{All}
+use Rattle.guest_ram.specs.Bytes.{frame}
 use Rattle.board.specs.declared.devices.Board.{Board}
 use Rattle.board.specs.Boards.{given, board_steps, comes_within}
 use Rattle.sites.specs.declared.site.Site.{Site}
@@ -16,7 +17,7 @@ use Rattle.machine_model.specs.Step.{Report, interrupt_of}
 use Rattle.machine_model.specs.Run.{Steps, trace_of}
 use Rattle.machine_model.specs.Notes.{AreLeft}
 use Rattle.machine_model.specs.Counts.{direct_count, passed_digest}
-use Rattle.native_steps.specs.Lends.{Lends, AreKept}
+use Rattle.native_steps.specs.Lends.{Lends, IsUnlent, AreKept}
 use Rattle.native_steps.specs.Stands.{IsWedge, Stands}
 use Rattle.native_steps.specs.Forward.{wp_of, IsEntrance}
 
@@ -24,6 +25,10 @@ use Rattle.native_steps.specs.Forward.{wp_of, IsEntrance}
 pub record SameBehind (m : Setting) (old new : List ℕ) : Type 0 where
   pub size : length new ≡ length old
   pub beyond : drop (4096 * m.frames) new ≡ drop (4096 * m.frames) old
+
+-- These tables let no user's write pass to the frame, whatever the guest's frames hold.
+abbrev pub StaysUnlent : Setting → View → List ℕ → ℕ → Type 0
+StaysUnlent m v old at = (memory : List ℕ) → SameBehind m old memory → IsUnlent memory v.root at
 
 -- The host, with these registers and this memory, and the guest stand at the same instruction, which the host may do:
 -- the processor is awake, and no delivery is held off. The tables lend no more than the guest's translations, whatever
@@ -66,7 +71,8 @@ EndsAs m v exits.Budget last t = t ≡ last
 
 -- The host completes n instructions, and stands at last. The guest has done n steps by then, with the translations that
 -- it had, which none of them changes: all of them count, nothing is seen in them, no walk is done, and both stand beside
--- one another again. Of the host's memory nothing behind the guest's frames has changed.
+-- one another again. Of the host's memory nothing behind the guest's frames has changed, and of the guest's no frame to
+-- which the tables let no write pass.
 pub record Advanced (m : Setting) (v : View) (b : State) (k : ℕ) (s : Standing) (exit : Exit) (t : Standing) : Type 0 where
   pub n : ℕ
   pub few : n ≤ k
@@ -87,6 +93,8 @@ pub record Advanced (m : Setting) (v : View) (b : State) (k : ℕ) (s : Standing
   pub passed : last.passed ≡ passed_digest m.image.sites s.passed reports
   pub retired : last.retired ≡ s.retired + n
   pub behind : SameBehind m s.ram last.ram
+  pub untouched : (at : ℕ) → StaysUnlent m v s.ram at → frame last.ram at ≡ frame s.ram at
+  pub guest_untouched : (at : ℕ) → StaysUnlent m v s.ram at → frame after.ram at ≡ frame b.ram at
   pub ends : EndsAs m v exit last t
 
 -- what a run of the host is, begun beside the guest in quiet steps
