@@ -7,7 +7,7 @@ use Rattle.frame_pool.proofs.Lengths.{times-append}
 use Rattle.frame_pool.proofs.Held.{Owns-part, Owns-moves, Owns-counts, Holds-from_Owns, Moves-counts, Moves-counts_from, Moves-beside, SameIn-beside}
 use Rattle.shadow_tables.specs.Slots.{Slot, ArePart, held, slot_at, SameSlots, IsShadow}
 use Rattle.shadow_tables.specs.Laws.Views.{held-stays, slot_at-stays, IsShadow-stays}
-use Rattle.shadow_cache.specs.Pairs.{no_tables, reads, any_reads, tables_of, frames_of, AreShadows, AreSized, BarsWrites, AllBarWrites, IsRoots}
+use Rattle.shadow_cache.specs.Pairs.{no_tables, reads, any_reads, tables_of, frames_of, AreShadows, AreSized, BarsWrites, AllBarWrites, AreUnmarked, IsRoots}
 use Rattle.shadow_cache.specs.declared.pair.Pair.{Pair}
 use Rattle.shadow_tables.specs.Opened.{KeepsTables}
 use Rattle.shadow_cache.specs.Laws.{keeps-same, frames-cons, times-frames, bars-same, tables-any}
@@ -66,9 +66,9 @@ module _ (pool pool' : Pool) (p : Pair) (ps ps' : List Pair) (m m' : List ℕ) (
     beside-owns = Owns-moves pool pool' m m' (frames_of (p ∷ ps) m) (frames_of (p ∷ ps') m') o beside-moves
 
     -- fewer others, and of fewer tables
-    pub beside-roots : (p' : Pair) → p'.shadow ≡ p.shadow → length p'.tables ≡ 16384 → length ps' ≤ length ps → AreShadows ps' m' → AreSized ps' → AllBarWrites (any_reads (p ∷ ps)) ps' m'
+    pub beside-roots : (p' : Pair) → p'.shadow ≡ p.shadow → length p'.tables ≡ 16384 → length ps' ≤ length ps → AreShadows ps' m' → AreSized ps' → AllBarWrites (any_reads (p ∷ ps)) ps' m' → AreUnmarked ps'
         → ((x : ℕ) → any_reads (p' ∷ ps') x ≡ true → any_reads (p ∷ ps) x ≡ true) → IsRoots (p' ∷ ps') m'
-    beside-roots p' same size few shadows sized barred fewer =
+    beside-roots p' same size few shadows sized barred unmarked fewer =
         let same' = sym same in let most = h.few in
         let all = frames-cons p ps' m' ∙ ap (λ s. held s m' ++ frames_of ps' m') same' ∙ sym (frames-cons p' ps' m') in
         record {
@@ -81,6 +81,7 @@ module _ (pool pool' : Pool) (p : Pair) (ps ps' : List Pair) (m m' : List ℕ) (
                 (subst (λ s. BarsWrites (any_reads (p ∷ ps)) (slot_at s m')) same' (bars-same (any_reads (p ∷ ps)) (slot_at p.shadow m) (slot_at p.shadow m') beside-slots h.barred.0)),
             all-fewer (any_reads (p ∷ ps)) (any_reads (p' ∷ ps')) ps' m' fewer barred,
           );
+          unmarked = unmarked;
         }
 
 -- ---- those that a test lets stay
@@ -108,6 +109,14 @@ one-barred test false p qs m h k = k
 pub barred-filter : (test : ℕ → Bool) (t : Pair → Bool) (ps : List Pair) (m : List ℕ) → AllBarWrites test ps m → AllBarWrites test (filter t ps) m
 barred-filter test t [] m h = tt
 barred-filter test t (p ∷ ps) m h = one-barred test (t p) p (filter t ps) m h.0 (barred-filter test t ps m h.1)
+
+one-unmarked : (b : Bool) (p : Pair) (qs : List Pair) → p.marked ≡ false → AreUnmarked qs → AreUnmarked (cond b (p ∷ qs) qs)
+one-unmarked true p qs h k = (h, k)
+one-unmarked false p qs h k = k
+
+pub unmarked-filter : (t : Pair → Bool) (ps : List Pair) → AreUnmarked ps → AreUnmarked (filter t ps)
+unmarked-filter t [] h = tt
+unmarked-filter t (p ∷ ps) h = one-unmarked (t p) p (filter t ps) h.0 (unmarked-filter t ps h.1)
 
 pub or-less : (a b c : Bool) → (a || b) ≡ true → (b ≡ true → c ≡ true) → (a || c) ≡ true
 or-less true b c e h = refl

@@ -5,13 +5,13 @@ use Rattle.frame_pool.specs.Held.{Holds, Owns, Moves}
 use Rattle.frame_pool.proofs.Held.{Moves-trans, Owns-moves}
 use Rattle.shadow_tables.specs.Slots.{is_among, ArePart, held, slot_at, SameSlots, IsShadow, IsEmpty}
 use Rattle.shadow_tables.specs.Opened.{KeepsTables}
-use Rattle.shadow_cache.specs.Pairs.{no_tables, reads, any_reads, tables_of, frames_of, AreSized, BarsWrites, AllBarWrites, IsRoots}
+use Rattle.shadow_cache.specs.Pairs.{no_tables, reads, any_reads, tables_of, frames_of, AreSized, BarsWrites, AllBarWrites, AreUnmarked, IsRoots}
 use Rattle.shadow_cache.specs.Others.{AreKept}
 use Rattle.shadow_cache.specs.declared.pair.Pair.{Pair}
 use Rattle.shadow_cache.specs.Laws.{frames-cons, kept-shadows, kept-barred, tables-any}
 use Rattle.shadow_cache.proofs.Leaving.{none-frames}
 use Rattle.shadow_cache.proofs.Present.{none-some, present-owns, move-roots, move-moves}
-use Rattle.shadow_cache.proofs.Beside.{bars-fewer, all-fewer, tables-part, few-filter, sized-filter, barred-filter, any-filter, none-reads, or-less, or-right, reads-set, reads-there, no-reads, no-length, beside-shadow, beside-held, beside-slots, beside-tables, beside-moves, beside-owns, beside-roots}
+use Rattle.shadow_cache.proofs.Beside.{bars-fewer, all-fewer, tables-part, few-filter, sized-filter, barred-filter, unmarked-filter, any-filter, none-reads, or-less, or-right, reads-set, reads-there, no-reads, no-length, beside-shadow, beside-held, beside-slots, beside-tables, beside-moves, beside-owns, beside-roots}
 
 -- ---- the same views
 
@@ -30,6 +30,7 @@ roots-shadow p p' ps m h e size i =
         bars-fewer (any_reads (p ∷ ps)) (any_reads (p' ∷ ps)) (slot_at p'.shadow m) i (subst (λ s. BarsWrites (any_reads (p ∷ ps)) (slot_at s m)) e' h.barred.0),
         all-fewer (any_reads (p ∷ ps)) (any_reads (p' ∷ ps)) ps m i h.barred.1,
       );
+      unmarked = h.unmarked;
     }
 
 -- ---- all dropped
@@ -52,7 +53,7 @@ module _ (pool pool1 pool2 : Pool) (p : Pair) (ps ps' : List Pair) (m m1 m2 : Li
   gone = subst (Moves pool pool1 m m1 (frames_of ps m)) (sym (none-frames m1)) v
 
   alone : IsRoots (p ∷ []) m1
-  alone = beside-roots pool pool1 p ps [] m m1 h o gone p refl h.sized.0 (omega arith) tt tt tt (λ x e. or-less (reads p x) false (any_reads ps x) e (λ f. absurd (clash false refl f)))
+  alone = beside-roots pool pool1 p ps [] m m1 h o gone p refl h.sized.0 (omega arith) tt tt tt tt (λ x e. or-less (reads p x) false (any_reads ps x) e (λ f. absurd (clash false refl f)))
 
   pub alone-shadow : IsShadow p.shadow m1
   alone-shadow = beside-shadow pool pool1 p ps [] m m1 h o gone
@@ -152,6 +153,7 @@ module _ (pool pool1 : Pool) (p p' : Pair) (ps ps' : List Pair) (m m1 : List ℕ
       (kept-shadows ps' m m1 kept)
       (subst AreSized (sym rest) (sized-filter (λ y. not (reads y frame)) ps h.sized.1))
       (kept-barred (any_reads (p ∷ ps)) ps' m m1 kept (subst (λ (xs : List Pair). AllBarWrites (any_reads (p ∷ ps)) xs m) (sym rest) (barred-filter (any_reads (p ∷ ps)) (λ y. not (reads y frame)) ps m h.barred.1)))
+      (subst AreUnmarked (sym rest) (unmarked-filter (λ y. not (reads y frame)) ps h.unmarked))
       spoilt-fewer
 
   pub spoilt-slots : SameSlots (slot_at p.shadow m) (slot_at p'.shadow m1)

@@ -4,7 +4,7 @@ use Rattle.frame_pool.specs.declared.Pool.{Pool}
 use Rattle.frame_pool.specs.Held.{times, Holds, Owns, Moves, SameIn}
 use Rattle.frame_pool.proofs.Held.{Owns-moves, Holds-from_Owns, Moves-counts, Moves-refl, Moves-beside, SameIn-beside}
 use Rattle.shadow_tables.specs.Slots.{held, slot_at, IsEmpty}
-use Rattle.shadow_cache.specs.Pairs.{no_tables, reads, any_reads, frames_of, AreShadows, AreSized, BarsWrites, AllBarWrites, IsRoots}
+use Rattle.shadow_cache.specs.Pairs.{no_tables, reads, any_reads, frames_of, AreShadows, AreSized, BarsWrites, AllBarWrites, AreUnmarked, OthersUnmarked, IsRoots}
 use Rattle.shadow_cache.specs.Others.{AreKept, place_of}
 use Rattle.shadow_cache.specs.Switched.{Opens, ComesBack, Comes}
 use Rattle.shadow_cache.specs.declared.pair.Pair.{Pair}
@@ -15,15 +15,31 @@ use Rattle.shadow_cache.proofs.Beside.{all-fewer, or-less, or-right, no-reads, n
 
 -- ---- some of the pairs
 
-pub sub-roots : (ps qs : List Pair) (m : List ℕ) → length qs ≤ 8 → Holds m (frames_of qs m) → AreShadows qs m → AreSized qs → AllBarWrites (any_reads ps) qs m → ((x : ℕ) → any_reads qs x ≡ true → any_reads ps x ≡ true) → IsRoots qs m
-sub-roots ps qs m few holds shadows sized barred i =
-    record { few = few; holds = holds; shadows = shadows; sized = sized; barred = all-fewer (any_reads ps) (any_reads qs) qs m i barred }
+pub sub-roots : (ps qs : List Pair) (m : List ℕ) → length qs ≤ 8 → Holds m (frames_of qs m) → AreShadows qs m → AreSized qs → AllBarWrites (any_reads ps) qs m → ((x : ℕ) → any_reads qs x ≡ true → any_reads ps x ≡ true) → OthersUnmarked qs → IsRoots qs m
+sub-roots ps qs m few holds shadows sized barred i unmarked =
+    record { few = few; holds = holds; shadows = shadows; sized = sized; barred = all-fewer (any_reads ps) (any_reads qs) qs m i barred; unmarked = unmarked }
 
 pub sized-remove : (ps : List Pair) (i : ℕ) → AreSized ps → AreSized (remove ps i)
 sized-remove [] zero h = tt
 sized-remove [] (suc i) h = tt
 sized-remove (q ∷ qs) zero h = h.1
 sized-remove (q ∷ qs) (suc i) h = (h.0, sized-remove qs i h.1)
+
+pub unmarked-remove : (ps : List Pair) (i : ℕ) → AreUnmarked ps → AreUnmarked (remove ps i)
+unmarked-remove [] zero h = tt
+unmarked-remove [] (suc i) h = tt
+unmarked-remove (q ∷ qs) zero h = h.1
+unmarked-remove (q ∷ qs) (suc i) h = (h.0, unmarked-remove qs i h.1)
+
+pub unmarked-at : (ps : List Pair) (i : ℕ) (p : Pair) → slice_get ps i ≡ Some p → AreUnmarked ps → p.marked ≡ false
+unmarked-at [] i p e h = absurd cc
+unmarked-at (q ∷ qs) zero p e h = subst (λ (x : Pair). x.marked ≡ false) (same-some q p e) h.0
+unmarked-at (q ∷ qs) (suc i) p e h = unmarked-at qs i p e h.1
+
+-- all of them, so all but the first
+pub all-unmarked : (ps : List Pair) → AreUnmarked ps → OthersUnmarked ps
+all-unmarked [] h = tt
+all-unmarked (p ∷ ps) h = h.1
 
 sized-at : (ps : List Pair) (i : ℕ) (p : Pair) → slice_get ps i ≡ Some p → AreSized ps → length p.tables ≡ 16384
 sized-at [] i p e h = absurd cc
@@ -65,8 +81,8 @@ module _ (ps : List Pair) (i : ℕ) (p : Pair) (m : List ℕ) (here : slice_get 
   front-any : (x : ℕ) → any_reads (p ∷ remove ps i) x ≡ true → any_reads ps x ≡ true
   front-any x e = front-by x (reads p x) refl e
 
-  pub front-roots : IsRoots (p ∷ remove ps i) m
-  front-roots =
+  pub front-roots : AreUnmarked ps → IsRoots (p ∷ remove ps i) m
+  front-roots unmarked =
       let n = length-remove ps i p here in let few = h.few in
       sub-roots ps (p ∷ remove ps i) m (omega (arith, n, few))
       (record {
@@ -74,7 +90,7 @@ module _ (ps : List Pair) (i : ℕ) (p : Pair) (m : List ℕ) (here : slice_get 
         once = λ f. (let c = front-counts f in let o = h.holds.once f in omega (arith, c, o));
       })
       (shadows-at ps i p m here h.shadows, shadows-remove ps i m h.shadows) (sized-at ps i p here h.sized, sized-remove ps i h.sized)
-      (barred-at (any_reads ps) ps i p m here h.barred, barred-remove (any_reads ps) ps i m h.barred) front-any
+      (barred-at (any_reads ps) ps i p m here h.barred, barred-remove (any_reads ps) ps i m h.barred) front-any (unmarked-remove ps i unmarked)
 
   pub front-moves : (pool : Pool) → Owns pool m (frames_of ps m) → Moves pool pool m m (frames_of ps m) (frames_of (p ∷ remove ps i) m)
   front-moves pool o = Moves-counts pool pool m m (frames_of ps m) (frames_of ps m) (frames_of (p ∷ remove ps i) m) front-counts (Moves-refl pool m (frames_of ps m) o.stands)
@@ -127,15 +143,15 @@ module _ (pool pool' : Pool) (q : Pair) (ps : List Pair) (m m' : List ℕ) (h : 
   pub open-moves : Moves pool pool' m m' (frames_of ps m) (frames_of (q ∷ ps) m')
   open-moves = subst (Moves pool pool' m m' (frames_of ps m)) (sym open-frames) (Moves-beside pool pool' m m' [] (held q.shadow m') (frames_of ps m) v)
 
-  pub open-roots : IsRoots (q ∷ ps) m'
-  open-roots =
+  pub open-roots : AreUnmarked ps → IsRoots (q ∷ ps) m'
+  open-roots unmarked =
       let none : (x : ℕ) → reads q x ≡ false = λ x. ap (λ bs. get_or bs x false) t ∙ no-reads x in
       sub-roots ps (q ∷ ps) m' (omega (arith, few))
       (Holds-from_Owns pool' m' (frames_of (q ∷ ps) m') (Owns-moves pool pool' m m' (frames_of ps m) (frames_of (q ∷ ps) m') o open-moves))
       (e.shadow, kept-shadows ps m m' open-kept)
       (ap (λ (bs : List Bool). length bs) t ∙ no-length, h.sized)
       ((λ page slot l s y. absurd (none-some slot (sym (e.none page l) ∙ s))), kept-barred (any_reads ps) ps m m' open-kept h.barred)
-      (λ x y. sym (ap (λ b. b || any_reads ps x) (none x)) ∙ y)
+      (λ x y. sym (ap (λ b. b || any_reads ps x) (none x)) ∙ y) unmarked
 
 -- ---- what is kept all the while
 

@@ -20,3 +20,5 @@ pub mod Whole
 pub mod Gone
 pub mod OneLoad
 pub mod Places
+pub mod Asided
+pub mod Reloading

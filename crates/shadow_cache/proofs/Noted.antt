@@ -1,24 +1,86 @@
--- From which frames the present tables were read, after each call.
-use Rattle.std.proofs.Common.{◌≡◌, ℕ, ◌<◌, List, [], ◌∷◌, length, slice_set, Bool, true, false, cond, refl, ap, ◌∙◌, inl, inr, arith}
+-- From which frames the present tables were read, and whether one of those was written, after each call.
+use Rattle.std.proofs.Common.{◌≡◌, ℕ, ◌<◌, List, [], ◌∷◌, length, get_or, slice_set, Bool, true, false, ◌||◌, cond, eqb, Option, Some, None, refl, sym, ap, ◌∙◌, inl, inr, arith}
+use Rattle.std.proofs.lemmas.Bool.Decides.{eqb_tells}
 use Rattle.shadow_cache.specs.Pairs.{reads}
-use Rattle.shadow_cache.specs.After.{noted_in, written_in}
+use Rattle.shadow_cache.specs.After.{emptied, noted_in, written_in}
 use Rattle.shadow_cache.specs.declared.pair.Pair.{Pair}
-use Rattle.shadow_cache.proofs.Beside.{reads-set, reads-there}
+use Rattle.shadow_cache.proofs.Beside.{no-reads, reads-set, reads-there}
 
 abbrev pub first_reads : List Pair → ℕ → Bool
 first_reads [] f = false
 first_reads (p ∷ ps) f = reads p f
 
-pub noted-there : (p : Pair) (ps qs : List Pair) (frame : ℕ) → length p.tables ≡ 16384 → frame < 16384 → qs ≡ noted_in (p ∷ ps) frame → first_reads qs frame ≡ true
-noted-there p ps qs frame size low e = ap (λ xs. first_reads xs frame) e ∙ reads-there p.tables frame true (omega (arith, size, low))
+abbrev pub first_marked : List Pair → Bool
+first_marked [] = false
+first_marked (p ∷ ps) = p.marked
 
-pub noted-before : (p : Pair) (ps qs : List Pair) (frame f : ℕ) → qs ≡ noted_in (p ∷ ps) frame → reads p f ≡ true → first_reads qs f ≡ true
-noted-before p ps qs frame f e h =
-    ap (λ xs. first_reads xs f) e ∙ elim (reads-set p.tables frame f true) [ inl s ↦ s ∙ h | inr t ↦ t.2 ]
+abbrev pub first_value : List Pair → Option ℕ
+first_value [] = None
+first_value (p ∷ ps) = Some p.cr3
 
-marked-other : (b : Bool) (p : Pair) (frame f : ℕ) → (f ≡ frame → ⊥) → reads (cond b (record p { tables = slice_set p.tables frame false; marked = true }) p) f ≡ reads p f
+or-true : (b : Bool) → (b || true) ≡ true
+or-true true = refl
+or-true false = refl
+
+or-false : (b : Bool) → (b || false) ≡ b
+or-false true = refl
+or-false false = refl
+
+clash : (b : Bool) → b ≡ false → b ≡ true → ⊥
+clash b e f = cc
+
+set-exact : (bits : List Bool) (i f : ℕ) → i < length bits → get_or (slice_set bits i true) f false ≡ (get_or bits f false || eqb f i)
+set-exact bits i f l =
+    elim (eqb_tells f i) [
+      | inl t ↦
+          ap (λ y. get_or (slice_set bits i true) y false) t.1 ∙ reads-there bits i true l
+          ∙ sym (ap (λ b. get_or bits f false || b) t.0 ∙ or-true (get_or bits f false))
+      | inr t ↦
+          elim (reads-set bits i f true) [
+            | inl s ↦ s ∙ sym (ap (λ b. get_or bits f false || b) t.0 ∙ or-false (get_or bits f false))
+            | inr u ↦ absurd (t.1 u.0)
+          ]
+    ]
+
+pub noted-exact : (p : Pair) (ps qs : List Pair) (frame f : ℕ) → length p.tables ≡ 16384 → frame < 16384 → qs ≡ noted_in (p ∷ ps) frame → first_reads qs f ≡ (reads p f || eqb f frame)
+noted-exact p ps qs frame f size low e = ap (λ xs. first_reads xs f) e ∙ set-exact p.tables frame f (omega (arith, size, low))
+
+abbrev spoilt : Bool → Pair → ℕ → Pair
+spoilt b p frame = cond b (record p { tables = slice_set p.tables frame false; marked = true }) p
+
+marked-other : (b : Bool) (p : Pair) (frame f : ℕ) → (f ≡ frame → ⊥) → reads (spoilt b p frame) f ≡ reads p f
 marked-other true p frame f n = elim (reads-set p.tables frame f false) [ inl s ↦ s | inr t ↦ absurd (n t.0) ]
 marked-other false p frame f n = refl
 
 pub written-other : (p : Pair) (ps qs : List Pair) (frame f : ℕ) → qs ≡ written_in (p ∷ ps) frame → (f ≡ frame → ⊥) → first_reads qs f ≡ reads p f
 written-other p ps qs frame f e n = ap (λ xs. first_reads xs f) e ∙ marked-other (reads p frame) p frame f n
+
+there-by : (b : Bool) (p : Pair) (frame : ℕ) → reads (spoilt b p frame) frame ≡ true → reads p frame ≡ true
+there-by true p frame h = elim (reads-set p.tables frame frame false) [ inl s ↦ sym s ∙ h | inr t ↦ absurd (clash (reads (spoilt true p frame) frame) t.2 h) ]
+there-by false p frame h = h
+
+pub written-there : (p : Pair) (ps qs : List Pair) (frame : ℕ) → qs ≡ written_in (p ∷ ps) frame → first_reads qs frame ≡ true → reads p frame ≡ true
+written-there p ps qs frame e h = there-by (reads p frame) p frame (sym (ap (λ xs. first_reads xs frame) e) ∙ h)
+
+marked-by : (b : Bool) (p : Pair) (frame : ℕ) → (spoilt b p frame).marked ≡ (p.marked || b)
+marked-by true p frame = sym (or-true p.marked)
+marked-by false p frame = sym (or-false p.marked)
+
+pub written-marked : (p : Pair) (ps qs : List Pair) (frame : ℕ) → qs ≡ written_in (p ∷ ps) frame → first_marked qs ≡ (p.marked || reads p frame)
+written-marked p ps qs frame e = ap first_marked e ∙ marked-by (reads p frame) p frame
+
+value-by : (b : Bool) (p : Pair) (frame : ℕ) → (spoilt b p frame).cr3 ≡ p.cr3
+value-by true p frame = refl
+value-by false p frame = refl
+
+pub written-value : (p : Pair) (ps qs : List Pair) (frame : ℕ) → qs ≡ written_in (p ∷ ps) frame → first_value qs ≡ Some p.cr3
+written-value p ps qs frame e = ap first_value e ∙ ap (λ v. Some v) (value-by (reads p frame) p frame)
+
+pub emptied-reads : (p : Pair) (ps qs : List Pair) (f : ℕ) → qs ≡ emptied (p ∷ ps) → first_reads qs f ≡ true → reads p f ≡ true
+emptied-reads p ps qs f e h = absurd (clash (first_reads qs f) (ap (λ xs. first_reads xs f) e ∙ no-reads f) h)
+
+pub emptied-marked : (p : Pair) (ps qs : List Pair) → qs ≡ emptied (p ∷ ps) → first_marked qs ≡ true → p.marked ≡ true
+emptied-marked p ps qs e h = absurd (clash (first_marked qs) (ap first_marked e) h)
+
+pub emptied-value : (p : Pair) (ps qs : List Pair) → qs ≡ emptied (p ∷ ps) → first_value qs ≡ Some p.cr3
+emptied-value p ps qs e = ap first_value e

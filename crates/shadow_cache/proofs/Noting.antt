@@ -34,6 +34,7 @@ fresh-roots p ps m e f t =
       shadows = (f.shadow, tt);
       sized = (ap (λ (bs : List Bool). length bs) t ∙ no-length, tt);
       barred = (λ page slot l q y. absurd (none-some slot (sym (f.none page l) ∙ q)), tt);
+      unmarked = tt;
     })
 
 -- ---- a right to write that goes
@@ -175,6 +176,7 @@ module _ (p : Pair) (ps : List Pair) (m m1 m2 : List ℕ) (frame : ℕ) (h : IsR
             bars-noted (any_reads (p ∷ ps)) (any_reads (noted p frame ∷ ps)) frame (slot_at p.shadow m) (slot_at p.shadow m2) any-noted note-loses h.barred.0,
             all-noted (any_reads (p ∷ ps)) (any_reads (noted p frame ∷ ps)) frame ps m m2 any-noted (all-lose ps m m1 m2 frame kept1 l2) h.barred.1,
           );
+          unmarked = h.unmarked;
         }
 
     any-is : (x : ℕ) → any_reads (p ∷ ps) x ≡ false → eqb x frame ≡ any_reads (noted p frame ∷ ps) x

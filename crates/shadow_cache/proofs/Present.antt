@@ -60,6 +60,7 @@ module _ (p : Pair) (ps : List Pair) (m m' : List ℕ) (h : IsRoots (p ∷ ps) m
         shadows = (s, kept-shadows ps m m' k);
         sized = h.sized;
         barred = (b, kept-barred (any_reads (p ∷ ps)) ps m m' k h.barred.1);
+        unmarked = h.unmarked;
       }
 
 -- only its frames were written, and they are the same ones

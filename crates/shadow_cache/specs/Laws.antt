@@ -3,6 +3,7 @@ use Rattle.std.proofs.Common.{◌≡◌, ℕ, zero, suc, ◌+◌, ◌*◌, ◌^�
 use Rattle.std.proofs.Props.{props}
 use Rattle.std.proofs.Math.Logic.{∥∥₁_elim, ∥∥₁_map}
 use Rattle.std.proofs.lemmas.Bool.Decides.{eqb_tells}
+use Rattle.std.proofs.lemmas.Grind.{merely}
 use Rattle.std.specs.Coded.{Unit-prop}
 use mathlib.Core.HLevel.{Π_prop, ×_prop}
 use Rattle.frame_pool.specs.Held.{times, Holds, SameIn}
@@ -20,7 +21,9 @@ use Rattle.shadow_tables.specs.declared.words.Side.{Side}
 use Rattle.shadow_tables.specs.Laws as below
 use Rattle.shadow_tables.specs.Laws.Views.{in-root, held-stays, slot_at-stays, IsShadow-stays}
 use Rattle.shadow_tables.specs.Laws.Props.{IsShadow-prop}
-use Rattle.shadow_cache.specs.Pairs.{reads, any_reads, places_from, tables_of, frames_of, AreShadows, AreSized, BarsWrites, AllBarWrites, IsRoots}
+use Rattle.shadow_cache.specs.Pairs.{reads, any_reads, places_from, tables_of, frames_of, AreShadows, AreSized, BarsWrites, AllBarWrites, AreUnmarked, OthersUnmarked, IsRoots}
+use Rattle.shadow_tables.specs.Aside.{AreSame, AllFit, AllBarred}
+use Rattle.shadow_cache.specs.Asides.{asides_of}
 use Rattle.shadow_cache.specs.Others.{AreKept}
 use Rattle.shadow_cache.specs.declared.pair.Pair.{Pair}
 
@@ -40,6 +43,14 @@ AllBarWrites-prop test (p ∷ ps) m =
     let last : (slot : Slot) → IsProp (slot.writes ≡ false) = λ slot. Prim.hlevel props in
     ×_prop (Π_prop (λ page. Π_prop (λ slot. Π_prop (λ _. Π_prop (λ _. Π_prop (λ _. last slot)))))) (AllBarWrites-prop test ps m)
 
+AreUnmarked-prop : (ps : List Pair) → IsProp (AreUnmarked ps)
+AreUnmarked-prop [] = Unit-prop
+AreUnmarked-prop (p ∷ ps) = let here : IsProp (p.marked ≡ false) = Prim.hlevel props in ×_prop here (AreUnmarked-prop ps)
+
+OthersUnmarked-prop : (ps : List Pair) → IsProp (OthersUnmarked ps)
+OthersUnmarked-prop [] = Unit-prop
+OthersUnmarked-prop (p ∷ ps) = AreUnmarked-prop ps
+
 IsRoots-prop : (ps : List Pair) (m : List ℕ) → IsProp (IsRoots ps m)
 IsRoots-prop ps m x y =
     let few_prop : IsProp (length ps ≤ 8) = Prim.hlevel props in
@@ -49,6 +60,7 @@ IsRoots-prop ps m x y =
       shadows = AreShadows-prop ps m x.shadows y.shadows i;
       sized = AreSized-prop ps x.sized y.sized i;
       barred = AllBarWrites-prop (any_reads ps) ps m x.barred y.barred i;
+      unmarked = OthersUnmarked-prop ps x.unmarked y.unmarked i;
     }
 
 pub had : (ps : List Pair) (m : List ℕ) → ∥ IsRoots ps m ∥₁ → IsRoots ps m
@@ -112,6 +124,7 @@ roots-stay ps m m' h e =
       shadows = kept-shadows ps m m' k;
       sized = h.sized;
       barred = kept-barred (any_reads ps) ps m m' k h.barred;
+      unmarked = h.unmarked;
     }
 
 -- ---- the frames that were read as tables
@@ -185,3 +198,33 @@ same-frames ps m m' h e = kept-frames ps m m' (kept-same ps m m' (had ps m h).sh
 
 pub same-slots : (p : Pair) (ps : List Pair) (m m' : List ℕ) → ∥ IsRoots (p ∷ ps) m ∥₁ → SameIn (frames_of (p ∷ ps) m) m m' → SameSlots (slot_at p.shadow m) (slot_at p.shadow m')
 same-slots p ps m m' h e = (kept-same (p ∷ ps) m m' (had (p ∷ ps) m h).shadows e).2
+
+-- ---- what is kept for other values
+
+pub same-kept : (ps : List Pair) (m m' : List ℕ) → AreKept ps m m' → AreSame (asides_of ps m) (asides_of ps m')
+same-kept [] m m' k = tt
+same-kept (p ∷ ps) m m' k = (record { cr3 = refl; tables = λ f. refl; slots = k.2 }, same-kept ps m m' k.3)
+
+pub same-asides : (p : Pair) (ps : List Pair) (m m' : List ℕ) → ∥ IsRoots (p ∷ ps) m ∥₁ → SameIn (frames_of (p ∷ ps) m) m m' → AreSame (asides_of ps m) (asides_of ps m')
+same-asides p ps m m' h e = same-kept ps m m' (kept-same (p ∷ ps) m m' (had (p ∷ ps) m h).shadows e).3
+
+all-fit : (ps : List Pair) (m : List ℕ) → AreShadows ps m → AllFit (asides_of ps m)
+all-fit [] m h = tt
+all-fit (p ∷ ps) m h = (λ page slot l e. below.fits p.shadow m page slot (merely h.0) l e, all-fit ps m h.1)
+
+pub asides-fit : (p : Pair) (ps : List Pair) (m : List ℕ) → ∥ IsRoots (p ∷ ps) m ∥₁ → AllFit (asides_of ps m)
+asides-fit p ps m h = all-fit ps m (had (p ∷ ps) m h).shadows.1
+
+all-barred : (t u : ℕ → Bool) (ps : List Pair) (m : List ℕ) → ((f : ℕ) → u f ≡ t f) → AllBarWrites t ps m → AllBarred u (asides_of ps m)
+all-barred t u [] m i h = tt
+all-barred t u (p ∷ ps) m i h = (λ page slot l e y. h.0 page slot l e (sym (i slot.entry.frame) ∙ y), all-barred t u ps m i h.1)
+
+pub asides-barred : (p : Pair) (ps : List Pair) (m : List ℕ) → ∥ IsRoots (p ∷ ps) m ∥₁ → AllBarred (λ f. is_among f (tables_of (p ∷ ps))) (asides_of ps m)
+asides-barred p ps m h = all-barred (any_reads (p ∷ ps)) (λ f. is_among f (tables_of (p ∷ ps))) ps m (λ f. tables-any (p ∷ ps) f) (had (p ∷ ps) m h).barred.1
+
+asides-length : (ps : List Pair) (m : List ℕ) → length (asides_of ps m) ≡ length ps
+asides-length [] m = refl
+asides-length (p ∷ ps) m = ap suc (asides-length ps m)
+
+pub few-asides : (p : Pair) (ps : List Pair) (m : List ℕ) → ∥ IsRoots (p ∷ ps) m ∥₁ → length (asides_of ps m) ≤ 7
+few-asides p ps m h = let few = (had (p ∷ ps) m h).few in let e = asides-length ps m in omega (arith, few, e)

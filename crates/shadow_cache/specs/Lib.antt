@@ -9,3 +9,5 @@ pub mod Replayed
 pub mod Agreeing
 pub mod Away
 pub mod Laws
+pub mod Asides
+pub mod Reloaded

@@ -49,6 +49,15 @@ abbrev pub AllBarWrites : (ℕ → Bool) → List Pair → List ℕ → Type 0
 AllBarWrites test [] m = Unit {0}
 AllBarWrites test (p ∷ ps) m = BarsWrites test (slot_at p.shadow m) × AllBarWrites test ps m
 
+abbrev pub AreUnmarked : List Pair → Type 0
+AreUnmarked [] = Unit {0}
+AreUnmarked (p ∷ ps) = (p.marked ≡ false) × AreUnmarked ps
+
+-- only the present pair may be marked
+abbrev pub OthersUnmarked : List Pair → Type 0
+OthersUnmarked [] = Unit {0}
+OthersUnmarked (p ∷ ps) = AreUnmarked ps
+
 -- At most 8 pairs, each with views of its own, none of which gives a right to write to a frame from which the tables
 -- of any were read.
 pub record IsRoots (ps : List Pair) (m : List ℕ) : Type 0 where
@@ -57,3 +66,4 @@ pub record IsRoots (ps : List Pair) (m : List ℕ) : Type 0 where
   pub shadows : AreShadows ps m
   pub sized : AreSized ps
   pub barred : AllBarWrites (any_reads ps) ps m
+  pub unmarked : OthersUnmarked ps

@@ -6,6 +6,7 @@ mod coming_back;
 mod others;
 mod pair;
 mod pairs;
+mod reloads;
 mod roots;
 mod switching;
 
@@ -13,6 +14,7 @@ pub use call_lists::{Replayed, RootsCall, replay};
 pub use coming_back::{
     pairs_are_apart, pairs_are_as_told, pairs_come_back, pairs_leave, pairs_leave_or_stay,
 };
+pub use reloads::Reloads;
 pub use roots::Roots;
 
 #[cfg(test)]

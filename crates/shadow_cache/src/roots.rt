@@ -222,6 +222,7 @@ impl Roots {
 impl Shadows for Roots {
     ghost use Rattle.shadow_cache.specs.Roots.{pairs_of};
     ghost use Rattle.shadow_cache.specs.Laws as laws;
+    ghost use Rattle.shadow_cache.specs.Asides.{asides_of};
     ghost use Rattle.shadow_cache.specs.Pairs.{reads};
 
     ghost stands = { λ r m. IsRoots (pairs_of r) m };
@@ -231,6 +232,12 @@ impl Shadows for Roots {
     ghost tracked = { λ r. tables_of (pairs_of r) };
 
     ghost noted = { λ r f. reads r.present f };
+
+    ghost marked = { λ r. r.present.marked };
+
+    ghost value = { λ r. Some r.present.cr3 };
+
+    ghost asides = { λ r m. asides_of r.others m };
 
     ghost slots = { λ r m page. slot_at r.present.shadow m page };
 
@@ -248,11 +255,17 @@ impl Shadows for Roots {
 
     ghost barred = { λ r m page slot h l e t. laws.barred r.present r.others m page slot h l e t };
 
+    ghost asides_fit = { λ r m h. laws.asides-fit r.present r.others m h };
+
+    ghost asides_barred = { λ r m h. laws.asides-barred r.present r.others m h };
+
     ghost stays = { λ r m m' h e. laws.stays (pairs_of r) m m' h e };
 
     ghost same_frames = { λ r m m' h e. laws.same-frames (pairs_of r) m m' h e };
 
     ghost same_slots = { λ r m m' h e. laws.same-slots r.present r.others m m' h e };
+
+    ghost same_asides = { λ r m m' h e. laws.same-asides r.present r.others m m' h e };
 
     fn root(&self, side: Side) -> u32 {
         self.present.shadow.root(side)

@@ -3,7 +3,7 @@
 ghost use Rattle.std.specs.Prelude.{◌≡◌, ℕ, ◌≤◌, ◌<◌, List, ◌∷◌, length, take};
 ghost use Rattle.frame_pool.specs.Pool.{free_list};
 ghost use Rattle.frame_pool.specs.Held.{Owns, Moves};
-ghost use Rattle.shadow_cache.specs.Pairs.{frames_of, IsRoots};
+ghost use Rattle.shadow_cache.specs.Pairs.{frames_of, AreUnmarked, IsRoots};
 ghost use Rattle.shadow_cache.specs.Others.{AreKept};
 ghost use Rattle.shadow_cache.specs.Switched.{staying, Comes};
 
@@ -19,6 +19,7 @@ pub fn put_by(others: &mut Pairs, ram: &mut Ram, pool: &mut Pool, before: Pair)
     requires owns { Owns pool.old ram.old (frames_of (before ∷ others.old) ram.old) }
     ensures staying { others.new ≡ staying (before ∷ others.old) }
     ensures roots { IsRoots others.new ram.new }
+    ensures unmarked { AreUnmarked others.new }
     ensures kept { AreKept others.new ram.old ram.new }
     ensures fewer { length (free_list pool.old ram.old) ≤ length (free_list pool.new ram.new) }
     ensures moves { Moves pool.old pool.new ram.old ram.new (frames_of (before ∷ others.old) ram.old) (frames_of others.new ram.new) }
@@ -33,9 +34,11 @@ pub fn put_by(others: &mut Pairs, ram: &mut Ram, pool: &mut Pool, before: Pair)
 /// Of 8 pairs the last leaves.
 fn make_room(others: &mut Pairs, ram: &mut Ram, pool: &mut Pool)
     requires roots { IsRoots others.old ram.old }
+    requires unmarked { AreUnmarked others.old }
     requires owns { Owns pool.old ram.old (frames_of others.old ram.old) }
     ensures rest { others.new ≡ take 7 others.old }
     ensures roots { IsRoots others.new ram.new }
+    ensures unmarked { AreUnmarked others.new }
     ensures kept { AreKept others.new ram.old ram.new }
     ensures fewer { length (free_list pool.old ram.old) ≤ length (free_list pool.new ram.new) }
     ensures moves { Moves pool.old pool.new ram.old ram.new (frames_of others.old ram.old) (frames_of others.new ram.new) }
@@ -48,6 +51,7 @@ fn make_room(others: &mut Pairs, ram: &mut Ram, pool: &mut Pool)
 /// The pair of this value, taken out, or a new one.
 pub fn come(others: &mut Pairs, ram: &mut Ram, pool: &mut Pool, cr3: u32) -> Pair
     requires roots { IsRoots others.old ram.old }
+    requires unmarked { AreUnmarked others.old }
     requires owns { Owns pool.old ram.old (frames_of others.old ram.old) }
     requires free { 2 ≤ length (free_list pool.old ram.old) }
     ensures comes { Comes others.old (result ∷ others.new) ram.old ram.new cr3 }

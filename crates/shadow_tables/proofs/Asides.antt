@@ -108,7 +108,7 @@ spared-same frame [] (y ∷ ys) h = absurd h
 spared-same frame (x ∷ xs) [] h = absurd h
 spared-same frame (x ∷ xs) (y ∷ ys) h = same-by (not (x.tables frame)) (not (y.tables frame)) x y (spared frame xs) (spared frame ys) (ap not (h.0.tables frame)) h.0 (spared-same frame xs ys h.1)
 
-any-same : (s t : ℕ → Bool) (frames : List ℕ) → ((f : ℕ) → t f ≡ s f) → any_of t frames ≡ any_of s frames
+pub any-same : (s t : ℕ → Bool) (frames : List ℕ) → ((f : ℕ) → t f ≡ s f) → any_of t frames ≡ any_of s frames
 any-same s t [] h = refl
 any-same s t (f ∷ fs) h = ap (λ b. b || any_of t fs) (h f) ∙ ap (λ b. s f || b) (any-same s t fs h)
 

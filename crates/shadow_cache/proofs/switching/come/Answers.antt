@@ -14,7 +14,7 @@ front ps qs p i e = ap (λ (xs : List Pair). p ∷ xs) (sym e)
 
 pub returns-in-Some-clause-roots : goal.returns-in-Some-clause-roots
 returns-in-Some-clause-roots c =
-    subst (λ (xs : List Pair). IsRoots xs c.args.ram.now) (front c.args.others.now c.take.new.self c.take.result c.in-Some.i c.take.ensures.rest) (front-roots c.args.others.now c.in-Some.i c.take.result c.args.ram.now c.take.ensures.pair c.requires.roots)
+    subst (λ (xs : List Pair). IsRoots xs c.args.ram.now) (front c.args.others.now c.take.new.self c.take.result c.in-Some.i c.take.ensures.rest) (front-roots c.args.others.now c.in-Some.i c.take.result c.args.ram.now c.take.ensures.pair c.requires.roots c.requires.unmarked)
 
 pub returns-in-Some-clause-moves : goal.returns-in-Some-clause-moves
 returns-in-Some-clause-moves c =
@@ -44,7 +44,7 @@ returns-in-None-clause-roots c =
     let a = c.make_room.ensures in let e = c.new.ensures in
     let o = Owns-moves c.args.pool.now c.make_room.new.pool c.args.ram.now c.make_room.new.ram (frames_of c.args.others.now c.args.ram.now) (frames_of c.make_room.new.others c.make_room.new.ram) c.requires.owns a.moves in
     let few : length c.make_room.new.others ≤ 7 = (let t = take-few 7 c.args.others.now in let s = ap (λ (xs : List Pair). length xs) a.rest in omega (arith, t, s)) in
-    open-roots c.make_room.new.pool c.new.new.pool c.new.result c.make_room.new.others c.make_room.new.ram c.new.new.ram a.roots o e.moves e.empty e.tables few
+    open-roots c.make_room.new.pool c.new.new.pool c.new.result c.make_room.new.others c.make_room.new.ram c.new.new.ram a.roots o e.moves e.empty e.tables few a.unmarked
 
 pub returns-in-None-clause-moves : goal.returns-in-None-clause-moves
 returns-in-None-clause-moves c =

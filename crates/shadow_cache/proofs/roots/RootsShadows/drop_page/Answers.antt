@@ -1,6 +1,18 @@
 use Rattle.std.proofs.Common.{ap}
-use Rattle.shadow_cache.proofs.Noted.{first_reads}
+use Rattle.shadow_cache.specs.Roots.{pairs_of}
+use Rattle.shadow_cache.proofs.Asided.{others-kept}
+use Rattle.shadow_cache.proofs.Noted.{first_reads, first_marked, first_value}
 use Rattle.shadow_cache.proofs.roots.RootsShadows.drop_page.Goals as goal
 
 pub returns-clause-noted : goal.returns-clause-noted
 returns-clause-noted c = λ f. ap (λ ps. first_reads ps f) c.drop_page.ensures.pairs
+
+pub returns-clause-marked : goal.returns-clause-marked
+returns-clause-marked c = ap first_marked c.drop_page.ensures.pairs
+
+pub returns-clause-value : goal.returns-clause-value
+returns-clause-value c = ap first_value c.drop_page.ensures.pairs
+
+pub returns-clause-asides : goal.returns-clause-asides
+returns-clause-asides c =
+    let r = c.args.self.now in others-kept r.present r.others (pairs_of c.drop_page.new.self) c.args.ram.now c.drop_page.new.ram c.drop_page.ensures.pairs c.drop_page.ensures.others

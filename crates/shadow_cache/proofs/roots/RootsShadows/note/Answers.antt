@@ -1,12 +1,21 @@
+use Rattle.std.proofs.Common.{ap}
 use Rattle.shadow_cache.specs.Laws.{had}
 use Rattle.shadow_cache.specs.Roots.{pairs_of}
-use Rattle.shadow_cache.proofs.Noted.{noted-there, noted-before}
+use Rattle.shadow_cache.proofs.Asided.{others-lose}
+use Rattle.shadow_cache.proofs.Noted.{first_marked, first_value, noted-exact}
 use Rattle.shadow_cache.proofs.roots.RootsShadows.note.Goals as goal
 
 pub returns-clause-noted : goal.returns-clause-noted
-returns-clause-noted c =
+returns-clause-noted c = λ f.
     let r = c.args.self.now in
-    noted-there r.present r.others (pairs_of c.note.new.self) c.args.frame (had (pairs_of r) c.args.ram.now c.requires.stands).sized.0 c.requires.frame c.note.ensures.pairs
+    noted-exact r.present r.others (pairs_of c.note.new.self) c.args.frame f (had (pairs_of r) c.args.ram.now c.requires.stands).sized.0 c.requires.frame c.note.ensures.pairs
 
-pub returns-clause-noted_before : goal.returns-clause-noted_before
-returns-clause-noted_before c = λ f h. let r = c.args.self.now in noted-before r.present r.others (pairs_of c.note.new.self) c.args.frame f c.note.ensures.pairs h
+pub returns-clause-marked : goal.returns-clause-marked
+returns-clause-marked c = ap first_marked c.note.ensures.pairs
+
+pub returns-clause-value : goal.returns-clause-value
+returns-clause-value c = ap first_value c.note.ensures.pairs
+
+pub returns-clause-asides : goal.returns-clause-asides
+returns-clause-asides c =
+    let r = c.args.self.now in others-lose r.present r.others (pairs_of c.note.new.self) c.args.ram.now c.note.new.ram c.args.frame c.note.ensures.pairs c.note.ensures.loses

@@ -1,6 +1,20 @@
 use Rattle.shadow_cache.specs.Roots.{pairs_of}
-use Rattle.shadow_cache.proofs.Noted.{written-other}
+use Rattle.shadow_cache.proofs.Asided.{others-spared}
+use Rattle.shadow_cache.proofs.Noted.{written-other, written-there, written-marked, written-value}
 use Rattle.shadow_cache.proofs.roots.RootsShadows.written.Goals as goal
 
 pub returns-clause-noted : goal.returns-clause-noted
 returns-clause-noted c = λ f n. let r = c.args.self.now in written-other r.present r.others (pairs_of c.written.new.self) c.args.frame f c.written.ensures.pairs n
+
+pub returns-clause-noted_there : goal.returns-clause-noted_there
+returns-clause-noted_there c = let r = c.args.self.now in written-there r.present r.others (pairs_of c.written.new.self) c.args.frame c.written.ensures.pairs
+
+pub returns-clause-marked : goal.returns-clause-marked
+returns-clause-marked c = let r = c.args.self.now in written-marked r.present r.others (pairs_of c.written.new.self) c.args.frame c.written.ensures.pairs
+
+pub returns-clause-value : goal.returns-clause-value
+returns-clause-value c = let r = c.args.self.now in written-value r.present r.others (pairs_of c.written.new.self) c.args.frame c.written.ensures.pairs
+
+pub returns-clause-asides : goal.returns-clause-asides
+returns-clause-asides c =
+    let r = c.args.self.now in others-spared r.present r.others (pairs_of c.written.new.self) c.args.ram.now c.written.new.ram c.args.frame c.written.ensures.pairs c.written.ensures.kept

@@ -1,0 +1,48 @@
+//! Loads of CR3.
+
+ghost use Rattle.std.specs.Prelude.{◌≡◌, ℕ, List, ◌≤◌, length, Some, false};
+ghost use Rattle.frame_pool.specs.Pool.{free_list};
+ghost use Rattle.frame_pool.specs.Held.{Owns, Moves};
+ghost use Rattle.shadow_tables.specs.Aside.{IsSame, AreSame};
+ghost use Rattle.shadow_tables.specs.Slots.{ArePart};
+ghost use Rattle.shadow_cache.specs.Laws as laws;
+ghost use Rattle.shadow_cache.specs.Reloaded.{put_by, coming, staying};
+
+use crate::roots::Roots;
+use frame_pool::Pool;
+use guest_ram::Ram;
+use shadow_tables::Shadows;
+
+/// Shadows that put by what they keep under a value of CR3 for when it is loaded again.
+pub trait Reloads: Shadows {
+    /// CR3 is loaded with this value. What is kept of the present tables is put by, unless it is marked. What was put by
+    /// under this value comes back; otherwise nothing is kept under it yet, and of eight values the one that was used
+    /// longest ago goes.
+    fn switch(&mut self, ram: &mut Ram, pool: &mut Pool, cr3: u32)
+        requires stands { ∥ Self.stands self.old ram.old ∥₁ }
+        requires owns { Owns pool.old ram.old (Self.frames self.old ram.old) }
+        requires free { 2 ≤ length (free_list pool.old ram.old) }
+        ensures stands { ∥ Self.stands self.new ram.new ∥₁ }
+        ensures value { Self.value self.new ≡ Some cr3 }
+        ensures marked { Self.marked self.new ≡ false }
+        ensures present { IsSame (coming cr3 (put_by (Self.value self.old) (Self.marked self.old) (Self.noted self.old) (Self.slots self.old ram.old) (Self.asides self.old ram.old)))
+            (record { cr3 = cr3; tables = Self.noted self.new; slots = Self.slots self.new ram.new }) }
+        ensures asides { AreSame (staying cr3 (put_by (Self.value self.old) (Self.marked self.old) (Self.noted self.old) (Self.slots self.old ram.old) (Self.asides self.old ram.old)))
+            (Self.asides self.new ram.new) }
+        ensures tracked { ArePart (Self.tracked self.new) (Self.tracked self.old) }
+        ensures owns { Owns pool.new ram.new (Self.frames self.new ram.new) }
+        ensures moves { Moves pool.old pool.new ram.old ram.new (Self.frames self.old ram.old) (Self.frames self.new ram.new) };
+
+    /// At most eight values are kept, the present one among them.
+    ghost few: { (s : Self) (m : List ℕ) → ∥ Self.stands s m ∥₁ → length (Self.asides s m) ≤ 7 };
+}
+
+impl Reloads for Roots {
+    ghost use Rattle.shadow_cache.specs.Roots.{pairs_of};
+
+    ghost few = { λ r m h. laws.few-asides r.present r.others m h };
+
+    fn switch(&mut self, ram: &mut Ram, pool: &mut Pool, cr3: u32) {
+        Roots::switch(self, ram, pool, cr3);
+    }
+}
