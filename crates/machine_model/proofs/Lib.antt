@@ -16,3 +16,12 @@ pub mod FitSteps
 pub mod KeptOver
 pub mod Completing
 pub mod CountingNone
+pub mod MoreFlags
+pub mod FoundStill
+pub mod Following
+pub mod Tracking
+pub mod TrackedParts
+pub mod TrackedRows
+pub mod TrackedDeliveries
+pub mod TrackedPlain
+pub mod TrackedSteps
