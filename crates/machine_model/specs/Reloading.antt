@@ -62,6 +62,8 @@ pub record Follows (s t : Space) : Type 0 where
   pub memory : MemoryFollows t.wrote s.ram t.ram
   pub wrote : (frame : ℕ) → Contains s.wrote frame → Contains t.wrote frame
   pub tables : (frame : ℕ) → Contains s.tables frame → Contains t.tables frame
+  -- those that were read since are frames that there are
+  pub low : (frame : ℕ) → Contains t.tables frame → Contains s.tables frame ⊎ (frame < s.frames)
   pub each : 4096 * s.frames ≤ length s.ram → AreApart t.tables t.wrote → (tables : ℕ → Bool) → HoldsOf tables t.tables → (page : ℕ) → page < 2 ^ 20
       → ForSome (get t.set page) (λ e. (get s.set page ≡ Some e) ⊎ IsFoundBy t.ram t.frames t.cr3 t.pse tables page e)
 

@@ -22,7 +22,7 @@ use Rattle.shadow_tables.specs.Laws as below
 use Rattle.shadow_tables.specs.Laws.Views.{in-root, held-stays, slot_at-stays, IsShadow-stays}
 use Rattle.shadow_tables.specs.Laws.Props.{IsShadow-prop}
 use Rattle.shadow_cache.specs.Pairs.{reads, any_reads, places_from, tables_of, frames_of, AreShadows, AreSized, BarsWrites, AllBarWrites, AreUnmarked, OthersUnmarked, IsRoots}
-use Rattle.shadow_tables.specs.Aside.{AreSame, AllFit, AllBarred}
+use Rattle.shadow_tables.specs.Aside.{AreSame, AllFit, AllBarred, AllTracked}
 use Rattle.shadow_cache.specs.Asides.{asides_of}
 use Rattle.shadow_cache.specs.Others.{AreKept}
 use Rattle.shadow_cache.specs.declared.pair.Pair.{Pair}
@@ -221,6 +221,21 @@ all-barred t u (p ∷ ps) m i h = (λ page slot l e y. h.0 page slot l e (sym (i
 
 pub asides-barred : (p : Pair) (ps : List Pair) (m : List ℕ) → ∥ IsRoots (p ∷ ps) m ∥₁ → AllBarred (λ f. is_among f (tables_of (p ∷ ps))) (asides_of ps m)
 asides-barred p ps m h = all-barred (any_reads (p ∷ ps)) (λ f. is_among f (tables_of (p ∷ ps))) ps m (λ f. tables-any (p ∷ ps) f) (had (p ∷ ps) m h).barred.1
+
+or-true : (b : Bool) → (b || true) ≡ true
+or-true true = refl
+or-true false = refl
+
+pub noted-tracked : (p : Pair) (ps : List Pair) (frame : ℕ) → reads p frame ≡ true → is_among frame (tables_of (p ∷ ps)) ≡ true
+noted-tracked p ps frame e = tables-any (p ∷ ps) frame ∙ ap (λ b. b || any_reads ps frame) e
+
+all-tracked : (t : ℕ → Bool) (ps : List Pair) (m : List ℕ) → ((f : ℕ) → any_reads ps f ≡ true → t f ≡ true) → AllTracked t (asides_of ps m)
+all-tracked t [] m h = tt
+all-tracked t (p ∷ ps) m h =
+    (λ f e. h f (ap (λ b. b || any_reads ps f) e), all-tracked t ps m (λ f e. h f (ap (λ b. reads p f || b) e ∙ or-true (reads p f))))
+
+pub asides-tracked : (p : Pair) (ps : List Pair) (m : List ℕ) → AllTracked (λ f. is_among f (tables_of (p ∷ ps))) (asides_of ps m)
+asides-tracked p ps m = all-tracked (λ f. is_among f (tables_of (p ∷ ps))) ps m (λ f e. tables-any (p ∷ ps) f ∙ (ap (λ b. reads p f || b) e ∙ or-true (reads p f)))
 
 asides-length : (ps : List Pair) (m : List ℕ) → length (asides_of ps m) ≡ length ps
 asides-length [] m = refl

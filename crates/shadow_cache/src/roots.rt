@@ -259,6 +259,10 @@ impl Shadows for Roots {
 
     ghost asides_barred = { λ r m h. laws.asides-barred r.present r.others m h };
 
+    ghost noted_tracked = { λ r frame unmarked n. laws.noted-tracked r.present r.others frame n };
+
+    ghost asides_tracked = { λ r m. laws.asides-tracked r.present r.others m };
+
     ghost stays = { λ r m m' h e. laws.stays (pairs_of r) m m' h e };
 
     ghost same_frames = { λ r m m' h e. laws.same-frames (pairs_of r) m m' h e };

@@ -59,3 +59,8 @@ abbrev pub AllBarred : (ℕ → Bool) → List Aside → Type 0
 AllBarred test [] = Unit {0}
 AllBarred test (a ∷ asides) =
     ((page : ℕ) (slot : Slot) → page < 2 ^ 20 → a.slots page ≡ Some slot → test slot.entry.frame ≡ true → slot.writes ≡ false) × AllBarred test asides
+
+-- the test holds of every frame from which the tables of any of them were read
+abbrev pub AllTracked : (ℕ → Bool) → List Aside → Type 0
+AllTracked test [] = Unit {0}
+AllTracked test (a ∷ asides) = ((frame : ℕ) → a.tables frame ≡ true → test frame ≡ true) × AllTracked test asides

@@ -7,7 +7,7 @@ ghost use Rattle.frame_pool.specs.declared.Pool.{Pool};
 ghost use Rattle.frame_pool.specs.Held.{times, Holds, Owns, Writes, Moves, SameIn};
 ghost use Rattle.paging.specs.Reached.{reached, walk_frames};
 ghost use Rattle.paging.specs.Uses.{without_dir};
-ghost use Rattle.shadow_tables.specs.Aside.{Aside, AreSame, LoseWrites, AllFit, AllBarred, spared};
+ghost use Rattle.shadow_tables.specs.Aside.{Aside, AreSame, LoseWrites, AllFit, AllBarred, AllTracked, spared};
 ghost use Rattle.shadow_tables.specs.Entries.{entries_of};
 ghost use Rattle.shadow_tables.specs.Host.{lent};
 ghost use Rattle.shadow_tables.specs.Slots.{Slot, filled, is_among, ArePart, entry_in, is_adequate, Turns, LosesDir, LosesWrites, SameSlots, IsShadow, held, slot_at, root_of};
@@ -202,6 +202,11 @@ pub trait Shadows {
 
     ghost asides_barred: { (s : Self) (m : List ℕ) → ∥ stands s m ∥₁ → AllBarred (λ f. is_among f (tracked s)) (asides s m) };
 
+    /// The tables that what is kept was read from are tracked, as far as it may come back.
+    ghost noted_tracked: { (s : Self) (frame : ℕ) → marked s ≡ false → noted s frame ≡ true → is_among frame (tracked s) ≡ true };
+
+    ghost asides_tracked: { (s : Self) (m : List ℕ) → AllTracked (λ f. is_among f (tracked s)) (asides s m) };
+
     /// A write in other frames makes no difference.
     ghost stays: { (s : Self) (m m' : List ℕ) → ∥ stands s m ∥₁ → SameIn (frames s m) m m' → ∥ stands s m' ∥₁ };
 
@@ -258,6 +263,10 @@ impl Shadows for Shadow {
     ghost asides_fit = { λ s m h. tt };
 
     ghost asides_barred = { λ s m h. tt };
+
+    ghost noted_tracked = { λ s frame unmarked n. laws.never-unmarked frame unmarked };
+
+    ghost asides_tracked = { λ s m. tt };
 
     ghost stays = { λ s m m' h e. laws.stays s m m' h e };
 

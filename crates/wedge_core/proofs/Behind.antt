@@ -1,7 +1,8 @@
 -- What is kept may be used again behind the accesses of a step, and behind what the host writes.
-use Rattle.std.proofs.Common.{◌≡◌, ◌⊎◌, ℕ, zero, suc, ◌+◌, ◌*◌, ◌/◌, ◌%◌, ◌^◌, ◌<◌, ◌≤◌, ◌==◌, List, [], ◌∷◌, length, Bool, true, false, ◌||◌, cond, Option, Some, None, refl, sym, ap, subst, ◌∙◌, inl, inr, arith}
+use Rattle.std.proofs.Common.{◌≡◌, ◌⊎◌, ℕ, zero, suc, ◌+◌, ◌*◌, ◌/◌, ◌%◌, ◌^◌, ◌<◌, ◌≤◌, ◌==◌, List, [], ◌∷◌, length, Bool, true, false, ◌||◌, not, cond, Option, Some, None, refl, sym, ap, subst, ◌∙◌, inl, inr, arith}
 use Rattle.std.proofs.lemmas.Bool.{cases_lt}
-use Rattle.std.proofs.lemmas.Bool.Decides.{eqb_tells}
+use Rattle.std.proofs.lemmas.Bool.Decides.{eqb_tells, nat_tests}
+use Rattle.std.specs.Prelude.{nat_le}
 use Rattle.std.specs.List.{Contains}
 use Rattle.std.specs.Option.{ForSome}
 use Rattle.std.specs.FinMap.{get}
@@ -19,7 +20,8 @@ use Rattle.machine_model.specs.State.{Setting}
 use Rattle.machine_model.proofs.FoundStill.{found_still}
 use Rattle.machine_model.proofs.MoreFlags.{flags_by}
 use Rattle.native_steps.specs.Stands.{shown}
-use Rattle.wedge_core.specs.Ready.{IsReadyAside, AreReady, AreReadyBehind, IsReadyBut, IsReady, IsReadyBehind, or_among}
+use Rattle.wedge_mem.specs.Told.{guest_frames, read_by}
+use Rattle.wedge_core.specs.Ready.{IsReadyAside, AreReady, AreReadyBehind, IsReadyBut, IsReady, IsReadyBehind}
 use Rattle.wedge_core.proofs.Bools.{none_some}
 use Rattle.wedge_core.proofs.Opening.{some_is}
 use Rattle.wedge_core.proofs.Shedding.{AllWithin, Sheds, found_tables, ready_shed}
@@ -65,20 +67,36 @@ pub any_same : (s t : ℕ → Bool) (frames : List ℕ) → ((f : ℕ) → t f �
 any_same s t [] h = refl
 any_same s t (f ∷ fs) h = ap (λ (b : Bool). b || any_of t fs) (h f) ∙ ap (λ (b : Bool). s f || b) (any_same s t fs h)
 
-module _ (noted : ℕ → Bool) (tables wrote : List ℕ) (none : any_of (or_among noted tables) wrote ≡ false) where
+-- a frame that a guest has
+among_guest : (tables : List ℕ) (f : ℕ) → is_among f tables ≡ true → f < 16384 → is_among f (guest_frames tables) ≡ true
+among_guest [] f a lt = a
+among_guest (x ∷ xs) f a lt = by (nat_le 16384 x) refl
+  where
+    by : (b : Bool) → nat_le 16384 x ≡ b → is_among f (cond (not b) (x ∷ guest_frames xs) (guest_frames xs)) ≡ true
+    by true e = elim (eqb_tells f x) [
+      | inl t ↦ let same = t.1 in absurd (let le : 16384 ≤ x = grind (arith, nat_tests, e) in omega (arith, same, le, lt))
+      | inr n ↦ among_guest xs f (sym (or_false (f == x) (is_among f xs) n.0) ∙ a) lt
+    ]
+    by false e = elim (eqb_tells f x) [
+      | inl t ↦ ap (λ (b : Bool). b || is_among f (guest_frames xs)) t.0
+      | inr n ↦ ap (λ (b : Bool). b || is_among f (guest_frames xs)) n.0 ∙ among_guest xs f (sym (or_false (f == x) (is_among f xs) n.0) ∙ a) lt
+    ]
+
+module _ (noted : ℕ → Bool) (tables wrote : List ℕ) (low : (frame : ℕ) → Contains tables frame → frame < 16384) (none : any_of (read_by noted tables) wrote ≡ false) where
   -- no frame that was noted was written
   unwritten : (frame : ℕ) → noted frame ≡ true → Contains wrote frame → ⊥
-  unwritten frame n c = clash (noted frame) n (left_false (noted frame) (is_among frame tables) (any_none (or_among noted tables) wrote none frame (contains_among wrote frame c)))
+  unwritten frame n c = clash (noted frame) n (left_false (noted frame) (is_among frame (guest_frames tables)) (any_none (read_by noted tables) wrote none frame (contains_among wrote frame c)))
 
   apart : (frame : ℕ) → Contains tables frame → Contains wrote frame → ⊥
   apart frame t c =
-      clash (is_among frame tables) (contains_among tables frame t) (right_false (noted frame) (is_among frame tables) (any_none (or_among noted tables) wrote none frame (contains_among wrote frame c)))
+      clash (is_among frame (guest_frames tables)) (among_guest tables frame (contains_among tables frame t) (low frame t))
+      (right_false (noted frame) (is_among frame (guest_frames tables)) (any_none (read_by noted tables) wrote none frame (contains_among wrote frame c)))
 
-holds_of : (noted : ℕ → Bool) (tables : List ℕ) (frame : ℕ) → Contains tables frame → or_among noted tables frame ≡ true
-holds_of noted tables frame c = ap (λ (b : Bool). noted frame || b) (contains_among tables frame c) ∙ or_true (noted frame)
+holds_of : (noted : ℕ → Bool) (tables : List ℕ) → ((frame : ℕ) → Contains tables frame → frame < 16384) → (frame : ℕ) → Contains tables frame → read_by noted tables frame ≡ true
+holds_of noted tables low frame c = ap (λ (b : Bool). noted frame || b) (among_guest tables frame (contains_among tables frame c) (low frame c)) ∙ or_true (noted frame)
 
-noted_holds : (noted : ℕ → Bool) (tables : List ℕ) (frame : ℕ) → noted frame ≡ true → or_among noted tables frame ≡ true
-noted_holds noted tables frame e = ap (λ (b : Bool). b || is_among frame tables) e
+noted_holds : (noted : ℕ → Bool) (tables : List ℕ) (frame : ℕ) → noted frame ≡ true → read_by noted tables frame ≡ true
+noted_holds noted tables frame e = ap (λ (b : Bool). b || is_among frame (guest_frames tables)) e
 
 -- ---- what is kept for another value
 
@@ -116,6 +134,8 @@ module _ {S : Type 0} (slots : S → List ℕ → ℕ → Option Slot) (noted : 
     pub cr3 : first.cr3 ≡ cpu.cr3
     pub pse : first.pse ≡ pse_of cpu
     pub room : 4096 * m.frames ≤ length (shown m memory)
+    pub small : m.frames ≤ 16384
+    pub untold : first.tables ≡ []
     pub kept : (page : ℕ) → page < 2 ^ 20 → get first.set page ≡ entry_in (slots s memory page)
     pub same : AreSame (asides s memory) (asides s then)
 
@@ -127,37 +147,46 @@ module _ {S : Type 0} (slots : S → List ℕ → ℕ → Option Slot) (noted : 
           subst (λ (l : List ℕ). MemoryFollows wrote (shown m memory) l) k.then_ram
           (subst (λ (l : List ℕ). MemoryFollows wrote l last.ram) k.ram (subst (λ (w : List ℕ). MemoryFollows w first.ram last.ram) wrote_are k.follows.memory))
 
+      low : (frame : ℕ) → Contains tables frame → frame < 16384
+      low frame c =
+          let few = k.small in
+          let fr = k.frames in
+          elim (k.follows.low frame (subst (λ (l : List ℕ). Contains l frame) (sym tables_are) c)) [
+            | inl before ↦ absurd (clash false (contains_among [] frame (subst (λ (l : List ℕ). Contains l frame) k.untold before)) refl)
+            | inr lt ↦ omega (arith, lt, few, fr)
+          ]
+
       -- what was kept before
-      old_found : marked s ≡ false → any_of (or_among (noted s) tables) wrote ≡ false → (page : ℕ) → page < 2 ^ 20 → (e : Entry) → get first.set page ≡ Some e
-          → IsFoundBy (shown m then) m.frames cpu.cr3 (pse_of cpu) (or_among (noted s) tables) page e
+      old_found : marked s ≡ false → any_of (read_by (noted s) tables) wrote ≡ false → (page : ℕ) → page < 2 ^ 20 → (e : Entry) → get first.set page ≡ Some e
+          → IsFoundBy (shown m then) m.frames cpu.cr3 (pse_of cpu) (read_by (noted s) tables) page e
       old_found un none page lt e is = by (slots s memory page) refl
         where
-          by : (o : Option Slot) → slots s memory page ≡ o → IsFoundBy (shown m then) m.frames cpu.cr3 (pse_of cpu) (or_among (noted s) tables) page e
+          by : (o : Option Slot) → slots s memory page ≡ o → IsFoundBy (shown m then) m.frames cpu.cr3 (pse_of cpu) (read_by (noted s) tables) page e
           by None at = absurd (none_some e (sym (k.kept page lt ∙ ap entry_in at) ∙ is))
           by (Some slot) at =
               let same : slot.entry ≡ e = (let x : Some slot.entry ≡ Some e = sym (k.kept page lt ∙ ap entry_in at) ∙ is in cc) in
               let here = h.present un page lt refl slot at in
-              let still = found_still wrote (shown m memory) (shown m then) m.frames cpu.cr3 (pse_of cpu) (noted s) page slot.entry lt k.room follows (unwritten (noted s) tables wrote none) here in
-              subst (λ (x : Entry). IsFoundBy (shown m then) m.frames cpu.cr3 (pse_of cpu) (or_among (noted s) tables) page x) same
-              (found_tables (shown m then) m.frames cpu.cr3 (pse_of cpu) (noted s) (or_among (noted s) tables) page slot.entry (noted_holds (noted s) tables) still)
+              let still = found_still wrote (shown m memory) (shown m then) m.frames cpu.cr3 (pse_of cpu) (noted s) page slot.entry lt k.room follows (unwritten (noted s) tables wrote low none) here in
+              subst (λ (x : Entry). IsFoundBy (shown m then) m.frames cpu.cr3 (pse_of cpu) (read_by (noted s) tables) page x) same
+              (found_tables (shown m then) m.frames cpu.cr3 (pse_of cpu) (noted s) (read_by (noted s) tables) page slot.entry (noted_holds (noted s) tables) still)
 
       -- or what it left
-      new_found : marked s ≡ false → any_of (or_among (noted s) tables) wrote ≡ false → (page : ℕ) → page < 2 ^ 20 → (e : Entry) → get last.set page ≡ Some e
-          → IsFoundBy (shown m then) m.frames cpu.cr3 (pse_of cpu) (or_among (noted s) tables) page e
+      new_found : marked s ≡ false → any_of (read_by (noted s) tables) wrote ≡ false → (page : ℕ) → page < 2 ^ 20 → (e : Entry) → get last.set page ≡ Some e
+          → IsFoundBy (shown m then) m.frames cpu.cr3 (pse_of cpu) (read_by (noted s) tables) page e
       new_found un none page lt e is =
           let room = k.room in
           let fr = k.frames in
           let size = ap length k.ram in
           let there = k.follows.each (omega (arith, room, fr, size))
-          (λ frame t w. apart (noted s) tables wrote none frame (subst (λ (l : List ℕ). Contains l frame) tables_are t) (subst (λ (l : List ℕ). Contains l frame) wrote_are w))
-          (or_among (noted s) tables) (λ frame t. holds_of (noted s) tables frame (subst (λ (l : List ℕ). Contains l frame) tables_are t)) page lt e is in
+          (λ frame t w. apart (noted s) tables wrote low none frame (subst (λ (l : List ℕ). Contains l frame) tables_are t) (subst (λ (l : List ℕ). Contains l frame) wrote_are w))
+          (read_by (noted s) tables) (λ frame t. holds_of (noted s) tables low frame (subst (λ (l : List ℕ). Contains l frame) tables_are t)) page lt e is in
           elim there [
             | inl was ↦ old_found un none page lt e was
             | inr found ↦
-                subst (λ (b : Bool). IsFoundBy (shown m then) m.frames cpu.cr3 b (or_among (noted s) tables) page e) (k.follows.pse ∙ k.pse)
-                (subst (λ (c : ℕ). IsFoundBy (shown m then) m.frames c last.pse (or_among (noted s) tables) page e) (k.follows.cr3 ∙ k.cr3)
-                (subst (λ (n : ℕ). IsFoundBy (shown m then) n last.cr3 last.pse (or_among (noted s) tables) page e) (k.follows.frames ∙ k.frames)
-                (subst (λ (l : List ℕ). IsFoundBy l last.frames last.cr3 last.pse (or_among (noted s) tables) page e) k.then_ram found)))
+                subst (λ (b : Bool). IsFoundBy (shown m then) m.frames cpu.cr3 b (read_by (noted s) tables) page e) (k.follows.pse ∙ k.pse)
+                (subst (λ (c : ℕ). IsFoundBy (shown m then) m.frames c last.pse (read_by (noted s) tables) page e) (k.follows.cr3 ∙ k.cr3)
+                (subst (λ (n : ℕ). IsFoundBy (shown m then) n last.cr3 last.pse (read_by (noted s) tables) page e) (k.follows.frames ∙ k.frames)
+                (subst (λ (l : List ℕ). IsFoundBy l last.frames last.cr3 last.pse (read_by (noted s) tables) page e) k.then_ram found)))
           ]
 
       pub behind_ready : (out : ℕ → Bool) (set : Set) → ((page : ℕ) → page < 2 ^ 20 → out page ≡ false → (e : Entry) → get set page ≡ Some e → (get first.set page ≡ Some e) ⊎ (get last.set page ≡ Some e))

@@ -150,13 +150,13 @@ changed_few set went changes =
 
 -- ---- one call, and two
 
-pub fills_same : (old new : Set) (fills : ℕ) → new ≡ old → FillsOn old new fills fills
-fills_same old new fills is = record { rises = omega arith; enough = (let e = ap (λ (s : Set). len s) is in omega (arith, e)) }
+pub fills_same : (old new fills : ℕ) → new ≡ old → FillsOn old new fills fills
+fills_same old new fills is = record { rises = omega arith; enough = omega (arith, is) }
 
-pub fills_part : (old new : Set) (fills : ℕ) → IsPartOf new old → FillsOn old new fills fills
-fills_part old new fills p = record { rises = omega arith; enough = (let f = part_few new old p in omega (arith, f)) }
+pub fills_fewer : (old new fills : ℕ) → new ≤ old → FillsOn old new fills fills
+fills_fewer old new fills few = record { rises = omega arith; enough = omega (arith, few) }
 
-pub fills_join : (a b c : Set) (x y z : ℕ) → FillsOn a b x y → FillsOn b c y z → FillsOn a c x z
+pub fills_join : (a b c x y z : ℕ) → FillsOn a b x y → FillsOn b c y z → FillsOn a c x z
 fills_join a b c x y z f g =
     let p = f.rises in
     let q = g.rises in
@@ -164,18 +164,10 @@ fills_join a b c x y z f g =
     let s = g.enough in
     record { rises = omega (arith, p, q); enough = omega (arith, r, s) }
 
+-- some of the pages that are kept
+pub fills_within : (pages few new before after : ℕ) → few ≤ new → FillsOn pages new before after → FillsOn pages few before after
+fills_within pages few new before after le f = let e = f.enough in record { rises = f.rises; enough = omega (arith, e, le) }
+
 -- none are kept
 pub empty_few : (set : Set) → set ≡ empty → len set ≡ 0
 empty_few set is = ap (λ (s : Set). len s) is ∙ len-empty nat_cmp Entry
-
--- a run of the host fills nothing
-pub ran_fills : {S : Type 0} (slots : S → List ℕ → ℕ → Option Slot) (v : View) (k : ℕ) (s : Standing) (old new : Running S) (done : ℕ) (m0 memory : List ℕ) (retired passed : ℕ) → Ran v k s old done new memory retired passed
-    → entries_of (slots old.shadows memory) ≡ entries_of (slots old.shadows m0) → FillsOn (entries_of (slots old.shadows m0)) (entries_of (slots new.shadows memory)) old.fills new.fills
-ran_fills {S} slots v k s old new done m0 memory retired passed r same =
-    elim (zero-or done) [ inl z ↦ by (r.none z) | inr n ↦ by_some (r.some n) ]
-  where
-    by : new ≡ old → FillsOn (entries_of (slots old.shadows m0)) (entries_of (slots new.shadows memory)) old.fills new.fills
-    by is = subst (λ (g : Running S). FillsOn (entries_of (slots old.shadows m0)) (entries_of (slots g.shadows memory)) old.fills g.fills) (sym is) (fills_same _ _ old.fills same)
-
-    by_some : new ≡ record old { cpu = record old.cpu { regs = landed r.exit r.regs; held = false }; board = board_steps done old.board; step = old.step + done } → FillsOn (entries_of (slots old.shadows m0)) (entries_of (slots new.shadows memory)) old.fills new.fills
-    by_some is = subst (λ (g : Running S). FillsOn (entries_of (slots old.shadows m0)) (entries_of (slots g.shadows memory)) old.fills g.fills) (sym is) (fills_same _ _ old.fills same)

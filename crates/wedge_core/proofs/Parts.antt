@@ -29,6 +29,9 @@ part_join a b c p q = record { each = λ page e h. q.each page e (p.each page e 
 pub part_allowed : (m : Setting) (b : State) (part : Set) → IsPartOf part b.set → Loosened m b part
 part_allowed m b part h = record { each = λ page e is. inl (h.each page e is) }
 
+pub part_loosened : (m : Setting) (b : State) (part set : Set) → IsPartOf part set → Loosened m b set → Loosened m b part
+part_loosened m b part set p h = record { each = λ page e is. h.each page e (p.each page e is) }
+
 -- what is part of a set that lies within the frames lies there too
 pub part_within : (frames : ℕ) (part whole : Set) → IsPartOf part whole → AreWithin frames whole → AreWithin frames part
 part_within frames part whole p h = λ page e is. h page e (p.each page e is)

@@ -17,8 +17,9 @@ use Rattle.machine_model.specs.Reloading.{IsFoundBy}
 use Rattle.machine_model.specs.Run.{Set}
 use Rattle.machine_model.specs.State.{Setting}
 use Rattle.native_steps.specs.Stands.{shown}
+use Rattle.wedge_mem.specs.Told.{read_by}
 use Rattle.wedge_core.specs.Filled.{pages_aside, pages_kept}
-use Rattle.wedge_core.specs.Ready.{IsFoundIn, AreFound, IsReadyAside, AreReady, AllOpen, AreReadyBehind, IsReadyBut, IsReady, IsReadyBehind, or_among}
+use Rattle.wedge_core.specs.Ready.{IsFoundIn, AreFound, IsReadyAside, AreReady, AllOpen, AreReadyBehind, IsReadyBut, IsReady, IsReadyBehind}
 use Rattle.wedge_core.specs.Standing.{AreOpen, wp_of}
 use Rattle.wedge_core.proofs.Bools.{none_some}
 use Rattle.wedge_core.proofs.Shedding.{AllWithin, within_entries, some_within, found_tables, Sheds, AllShed, same_shed, lost_shed, shed_pages, open_shed, all_ready_shed, ready_spared, spared_pages, open_spared, loaded_pages, put_by_pages, Each, each_coming, each_staying, coming_value, begun_ready, ready_each, each_ready, open_each}
@@ -83,8 +84,8 @@ module _ {S : Type 0} (slots : S → List ℕ → ℕ → Option Slot) (noted : 
 
   -- all that the step left is kept
   pub settled_ready : (out : ℕ → Bool) (m : Setting) (cpu : Cpu) (old new : S) (memory then : List ℕ) (set : Set) (tables wrote : List ℕ)
-      → value new ≡ value old → (marked new ≡ false → (marked old ≡ false) × (any_of (or_among (noted old) tables) wrote ≡ false))
-      → (marked new ≡ false → (page : ℕ) → page < 2 ^ 20 → (e : Entry) → IsFoundBy (shown m memory) m.frames cpu.cr3 (pse_of cpu) (or_among (noted old) tables) page e → IsFoundBy (shown m memory) m.frames cpu.cr3 (pse_of cpu) (noted new) page e)
+      → value new ≡ value old → (marked new ≡ false → (marked old ≡ false) × (any_of (read_by (noted old) tables) wrote ≡ false))
+      → (marked new ≡ false → (page : ℕ) → page < 2 ^ 20 → (e : Entry) → IsFoundBy (shown m memory) m.frames cpu.cr3 (pse_of cpu) (read_by (noted old) tables) page e → IsFoundBy (shown m memory) m.frames cpu.cr3 (pse_of cpu) (noted new) page e)
       → ((page : ℕ) → page < 2 ^ 20 → get set page ≡ entry_in (slots new then page))
       → AllShed (all_spared wrote (asides old memory)) (asides new then) → shown m then ≡ shown m memory
       → IsReadyBehind slots noted marked value asides out m cpu old memory set tables wrote → IsReadyBut slots noted marked value asides out m cpu new then

@@ -29,7 +29,6 @@ use Rattle.native_steps.specs.Lends.{Lends}
 use Rattle.native_steps.specs.Stands.{IsHost, shown}
 use Rattle.native_steps.specs.Stretch.{SameBehind, Beside, Advanced, Advances, board_after}
 use Rattle.wedge_core.specs.declared.running.Running.{Running}
-use Rattle.wedge_core.specs.Filled.{FillsOn}
 use Rattle.wedge_core.specs.Parts.{IsPartOf, with_set}
 use Rattle.wedge_core.specs.Pools.{Keeps}
 use Rattle.wedge_core.specs.Ran.{Ran, landed}
@@ -37,7 +36,6 @@ use Rattle.wedge_core.specs.Standing.{IsHeld, AreOpen, ground, wp_of, side_of, s
 use Rattle.wedge_core.specs.Stepping.{Passes}
 use Rattle.wedge_core.specs.ViewLaws.{ViewsLend, ViewsSee}
 use Rattle.wedge_core.specs.Views.{view_by}
-use Rattle.wedge_core.proofs.Filling.{fills_same}
 use Rattle.wedge_core.proofs.Keeping.{keeps_above}
 use Rattle.wedge_core.proofs.Opening.{same_open}
 use Rattle.wedge_core.proofs.Parts.{part_same}
@@ -292,12 +290,6 @@ module _ {S : Type 0} (stands : S → List ℕ → Type 0) (frames : S → List 
               state_is (state_of stands frames slots (wedge image script f) now after_memory) (state_of stands frames slots (wedge image script f) g memory)
               (ap (λ (x : State). x.cpu) e) (shown_any image script f after_memory ∙ (ap (λ (x : State). x.ram) e ∙ sym (shown_any image script f memory)))
               (ap (λ (x : State). x.set) e) (ap (λ (x : State). x.board) e) (ap (λ (x : State). x.step) e)
-
-          pub filled_then : now.fills ≡ g.fills → FillsOn (set_of stands frames slots g memory) (set_of stands frames slots now after_memory) g.fills now.fills
-          filled_then same =
-              let set0 = set_of stands frames slots g memory in
-              let set1 = set_of stands frames slots now after_memory in
-              subst (λ (k : ℕ). FillsOn set0 set1 g.fills k) (sym same) (fills_same set0 set1 g.fills (now_set [] calm g.board (none_given g.board g.step) (kept memory) itself))
 
           pub passed_on : done ≡ 0 → passed_then ≡ passed
           passed_on none = passed_same [] calm g.board (none_given g.board g.step) (kept memory) itself none

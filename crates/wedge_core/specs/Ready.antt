@@ -1,5 +1,5 @@
 -- What the shadows keep under a value of CR3 may be used again when the value is loaded: fresh walks find it.
-use Rattle.std.specs.Prelude.{◌≡◌, ℕ, ◌^◌, ◌<◌, List, [], ◌∷◌, Bool, true, false, ◌==◌, ◌/◌, ◌||◌, ◌&&◌, Option, Some}
+use Rattle.std.specs.Prelude.{◌≡◌, ℕ, ◌^◌, ◌<◌, List, [], ◌∷◌, Bool, true, false, ◌==◌, ◌/◌, ◌&&◌, Option, Some}
 use Rattle.std.specs.Option.{ForSome}
 use Rattle.std.specs.FinMap.{get}
 use Rattle.descriptors.specs.Controls.{pse_of}
@@ -13,6 +13,7 @@ use Rattle.machine_model.specs.State.{Setting}
 use Rattle.machine_step.specs.declared.worked.Dropped.{Dropped}
 use Rattle.machine_step.specs.declared.worked.Dropped.TheVariants as dropped
 use Rattle.native_steps.specs.Stands.{shown}
+use Rattle.wedge_mem.specs.Told.{read_by}
 use Rattle.wedge_core.specs.Standing.{AreOpen, wp_of}
 
 -- in the guest's memory, with the processor's pages of 4 MB, a walk from this directory finds the page's entry, by words in
@@ -41,10 +42,6 @@ AllOpen image wp (a ∷ asides) = AreOpen image wp a.slots × AllOpen image wp a
 abbrev pub AreReadyBehind : List ℕ → Setting → Cpu → List ℕ → List Aside → Type 0
 AreReadyBehind wrote m cpu ram [] = Unit {0}
 AreReadyBehind wrote m cpu ram (a ∷ asides) = (any_of a.tables wrote ≡ false → IsReadyAside m cpu ram a) × AreReadyBehind wrote m cpu ram asides
-
--- these frames too
-abbrev pub or_among : (ℕ → Bool) → List ℕ → ℕ → Bool
-or_among tables frames frame = tables frame || is_among frame frames
 
 abbrev pub is_all : Dropped → Bool
 is_all dropped.Nothing = false
@@ -78,6 +75,6 @@ module _ {S : Type 0} (slots : S → List ℕ → ℕ → Option Slot) (noted : 
   -- written those.
   pub record IsReadyBehind (out : ℕ → Bool) (m : Setting) (cpu : Cpu) (s : S) (memory : List ℕ) (set : Set) (tables wrote : List ℕ) : Type 0 where
     pub value_is : value s ≡ Some cpu.cr3
-    pub present : marked s ≡ false → any_of (or_among (noted s) tables) wrote ≡ false → (page : ℕ) → page < 2 ^ 20 → out page ≡ false
-        → ForSome (get set page) (IsFoundBy (shown m memory) m.frames cpu.cr3 (pse_of cpu) (or_among (noted s) tables) page)
+    pub present : marked s ≡ false → any_of (read_by (noted s) tables) wrote ≡ false → (page : ℕ) → page < 2 ^ 20 → out page ≡ false
+        → ForSome (get set page) (IsFoundBy (shown m memory) m.frames cpu.cr3 (pse_of cpu) (read_by (noted s) tables) page)
     pub others : AreReadyBehind wrote m cpu (shown m memory) (asides s memory)
