@@ -46,7 +46,7 @@ right_false : (a b : Bool) → (a || b) ≡ false → b ≡ false
 right_false true b e = absurd (let f : true ≡ false = e in cc)
 right_false false b e = e
 
-clash : (b : Bool) → b ≡ true → b ≡ false → ⊥
+pub clash : (b : Bool) → b ≡ true → b ≡ false → ⊥
 clash b t f = let g : true ≡ false = sym t ∙ f in cc
 
 pub contains_among : (xs : List ℕ) (q : ℕ) → Contains xs q → is_among q xs ≡ true

@@ -47,3 +47,4 @@ pub mod Losing
 pub mod Shedding
 pub mod Readying
 pub mod Behind
+pub mod Untouched

@@ -109,7 +109,7 @@ module _ {S : Type 0} (stands : S → List ℕ → Type 0) (frames : S → List 
 
   -- it went, from what was kept before the instruction's pages were filled
   pub asked_goes : (m : Setting) (v : View) (b : State) (old new : Running S) (memory now : List ℕ) (before after : Counts) (done : ℕ) (lost : Lost)
-      → (a : Asks m v b lost.before lost.after (state_of stands frames slots m old memory) memory)
+      → (a : Asks m v b lost.before lost (state_of stands frames slots m old memory) memory)
       → Ran v 1 (standing old.cpu.regs memory before.retired before.passed) old done new now after.retired after.passed
       → entries_of (slots old.shadows now) ≡ entries_of (slots old.shadows memory)
       → Goes m b lost Nothing (state_of stands frames slots m new now) before after
@@ -162,7 +162,7 @@ module _ {S : Type 0} (stands : S → List ℕ → Type 0) (frames : S → List 
 
   -- The guest g0 was asked for one instruction: its pages were filled, which gave g1, and the host did it, which gave g2.
   pub record IsOnce (directory : S → Side → ℕ) (image : Image) (g0 g1 g2 : Running S) (pool : Pool) (m0 m1 m2 : List ℕ) (before after : Counts) (done : ℕ) : Type 0 where
-    pub asks : (script : Events) → Asks (wedge image script g0.frames) (view_by (directory g1.shadows) g0.cpu) (state_of stands frames slots (wedge image script g0.frames) g0 m0) g1.lost.before g1.lost.after (state_of stands frames slots (wedge image script g0.frames) g1 m1) m1
+    pub asks : (script : Events) → Asks (wedge image script g0.frames) (view_by (directory g1.shadows) g0.cpu) (state_of stands frames slots (wedge image script g0.frames) g0 m0) g1.lost.before g1.lost (state_of stands frames slots (wedge image script g0.frames) g1 m1) m1
     pub ran : Ran (view_by (directory g1.shadows) g1.cpu) 1 (standing g1.cpu.regs m1 before.retired before.passed) g1 done g2 m2 after.retired after.passed
     pub same : g1 ≡ record g0 { shadows = g1.shadows; held = g1.held; fills = g1.fills; lost = g1.lost }
     pub held : IsHeld stands frames slots (ground image g0.frames) (record g1 { step = g0.step + 1 }) pool m1
@@ -175,11 +175,11 @@ module _ {S : Type 0} (stands : S → List ℕ → Type 0) (frames : S → List 
     step_is : g1.step ≡ g0.step
     step_is = ap (λ (g : Running S). g.step) o.same
 
-    asks_now : (script : Events) → Asks (wedge image script g0.frames) (view_by (directory g1.shadows) g1.cpu) (state_of stands frames slots (wedge image script g0.frames) g0 m0) g1.lost.before g1.lost.after (state_of stands frames slots (wedge image script g0.frames) g1 m1) m1
+    asks_now : (script : Events) → Asks (wedge image script g0.frames) (view_by (directory g1.shadows) g1.cpu) (state_of stands frames slots (wedge image script g0.frames) g0 m0) g1.lost.before g1.lost (state_of stands frames slots (wedge image script g0.frames) g1 m1) m1
     asks_now script =
-        subst (λ (x : Cpu). Asks (wedge image script g0.frames) (view_by (directory g1.shadows) x) (state_of stands frames slots (wedge image script g0.frames) g0 m0) g1.lost.before g1.lost.after (state_of stands frames slots (wedge image script g0.frames) g1 m1) m1) (sym cpu_is) (o.asks script)
+        subst (λ (x : Cpu). Asks (wedge image script g0.frames) (view_by (directory g1.shadows) x) (state_of stands frames slots (wedge image script g0.frames) g0 m0) g1.lost.before g1.lost (state_of stands frames slots (wedge image script g0.frames) g1 m1) m1) (sym cpu_is) (o.asks script)
 
-    ran : (a : Asks (ground image g0.frames) (view_by (directory g1.shadows) g1.cpu) (state_of stands frames slots (ground image g0.frames) g0 m0) g1.lost.before g1.lost.after (state_of stands frames slots (ground image g0.frames) g1 m1) m1)
+    ran : (a : Asks (ground image g0.frames) (view_by (directory g1.shadows) g1.cpu) (state_of stands frames slots (ground image g0.frames) g0 m0) g1.lost.before g1.lost (state_of stands frames slots (ground image g0.frames) g1 m1) m1)
         → RanOnce g1 a.regs a.completes.after_memory done g2 m2 before after
     ran a = ran_once (ground image g0.frames) (view_by (directory g1.shadows) g1.cpu) (state_of stands frames slots (ground image g0.frames) g1 m1) g1 m1 a.regs before after done g2 m2 refl a.completes o.ran
 
@@ -249,15 +249,15 @@ module _ {S : Type 0} (stands : S → List ℕ → Type 0) (frames : S → List 
 -- ---- steps that went otherwise
 
 -- what the host had no part in
-pub alone_able : StepsKeepAble → (m : Setting) (b : State) (after : Bool) (result : Result Seen Stop) (new : State) → m.mode ≡ wedge_mode m.image → IsAble b.cpu → AloneAs m b after result new → OnOk result (IsAble new.cpu)
-alone_able keeps m b after (Ok seen) new mode able a = keeps m b mode able a.report (with_set new a.whole) a.went
-alone_able keeps m b after (Err stop) new mode able a = tt
+pub alone_able : StepsKeepAble → (m : Setting) (b : State) (lost : Lost) (result : Result Seen Stop) (new : State) → m.mode ≡ wedge_mode m.image → IsAble b.cpu → AloneAs m b lost result new → OnOk result (IsAble new.cpu)
+alone_able keeps m b lost (Ok seen) new mode able a = keeps m b mode able a.report (with_set new a.whole) a.went
+alone_able keeps m b lost (Err stop) new mode able a = tt
 
 -- what was begun for the host and went without it
-pub idle_able : StepsKeepAble → (m : Setting) (b : State) (before after : Bool) (seen : Seen) (new : State) → m.mode ≡ wedge_mode m.image → IsAble b.cpu → Idle m b before after seen new → IsAble new.cpu
-idle_able keeps m b before after seen new mode able i = keeps m (with_set b (left_of before b.set)) mode able i.alone.report (with_set new i.alone.whole) i.alone.went
+pub idle_able : StepsKeepAble → (m : Setting) (b : State) (before : Bool) (lost : Lost) (seen : Seen) (new : State) → m.mode ≡ wedge_mode m.image → IsAble b.cpu → Idle m b before lost seen new → IsAble new.cpu
+idle_able keeps m b before lost seen new mode able i = keeps m (with_set b (left_of before b.set)) mode able i.alone.report (with_set new i.alone.whole) i.alone.went
 
-pub idle_goes : (m : Setting) (b : State) (lost : Lost) (seen : Seen) (new : State) (before after : Counts) → before ≡ after → Idle m b lost.before lost.after seen new → Goes m b lost seen new before after
+pub idle_goes : (m : Setting) (b : State) (lost : Lost) (seen : Seen) (new : State) (before after : Counts) → before ≡ after → Idle m b lost.before lost seen new → Goes m b lost seen new before after
 idle_goes m b lost seen new before after same i = record {
   report = i.alone.report;
   whole = i.alone.whole;

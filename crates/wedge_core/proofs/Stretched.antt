@@ -1,6 +1,7 @@
 -- A guest behind a run of its host: its steps, and that it is held as before.
 use Rattle.std.proofs.Common.{◌≡◌, ℕ, zero, suc, ◌+◌, ◌-◌, ◌*◌, ◌/◌, ◌%◌, ◌≤◌, ◌<◌, ◌^◌, ◌==◌, Bool, true, false, ◌||◌, not, List, [], length, drop, replicate, Option, refl, sym, ap, subst, ◌∙◌, arith}
 use Rattle.std.specs.FinMap.{get}
+use Rattle.guest_ram.specs.Bytes.{frame}
 use Rattle.frame_pool.specs.Pool.{base_of}
 use Rattle.frame_pool.specs.declared.Pool.{Pool}
 use Rattle.frame_pool.specs.Held.{Owns, SameIn}
@@ -25,7 +26,7 @@ use Rattle.machine_model.specs.State.{Setting, State, wedge}
 use Rattle.machine_model.specs.Run.{Set, Steps}
 use Rattle.machine_model.specs.Rules.{is_open}
 use Rattle.machine_model.specs.Able.{IsAble}
-use Rattle.native_steps.specs.Lends.{Lends}
+use Rattle.native_steps.specs.Lends.{Lends, IsUnlent}
 use Rattle.native_steps.specs.Stands.{IsHost, shown}
 use Rattle.native_steps.specs.Stretch.{SameBehind, Beside, Advanced, Advances, board_after}
 use Rattle.wedge_core.specs.declared.running.Running.{Running}
@@ -176,7 +177,7 @@ module _ {S : Type 0} (stands : S → List ℕ → Type 0) (frames : S → List 
         abbrev end : Standing
         end = standing r.regs after_memory retired_then passed_then
 
-        shadows_is : now.shadows ≡ g.shadows
+        pub shadows_is : now.shadows ≡ g.shadows
         shadows_is = by done r.none r.some
           where
             by : (n : ℕ) → (n ≡ 0 → now ≡ g) → (0 < n → now ≡ record g { cpu = record g.cpu { regs = landed r.exit r.regs; held = false }; board = board_steps n g.board; step = g.step + n }) → now.shadows ≡ g.shadows
@@ -278,10 +279,10 @@ module _ {S : Type 0} (stands : S → List ℕ → Type 0) (frames : S → List 
           itself : IsPartOf (kept memory) (kept memory)
           itself = part_same (kept memory) (kept memory) refl
 
-          same_there : SameBehind (ground image f) memory after_memory
+          pub same_there : SameBehind (ground image f) memory after_memory
           same_there = behind_is [] calm g.board (none_given g.board g.step) (kept memory) itself
 
-          host_there : IsHost (ground image f) after_memory
+          pub host_there : IsHost (ground image f) after_memory
           host_there = host_is [] calm g.board (none_given g.board g.step) (kept memory) itself
 
           pub stays_on : done ≡ 0 → state_of stands frames slots (wedge image script f) now after_memory ≡ state_of stands frames slots (wedge image script f) g memory
@@ -290,6 +291,13 @@ module _ {S : Type 0} (stands : S → List ℕ → Type 0) (frames : S → List 
               state_is (state_of stands frames slots (wedge image script f) now after_memory) (state_of stands frames slots (wedge image script f) g memory)
               (ap (λ (x : State). x.cpu) e) (shown_any image script f after_memory ∙ (ap (λ (x : State). x.ram) e ∙ sym (shown_any image script f memory)))
               (ap (λ (x : State). x.set) e) (ap (λ (x : State). x.board) e) (ap (λ (x : State). x.step) e)
+
+          -- no frame to which the view lets no write pass, whatever the guest's frames hold, has changed
+          pub untouched_then : (at : ℕ) → ((new : List ℕ) → SameBehind (ground image f) memory new → IsUnlent new (directory g.shadows (side_of (g.cpu.cpl == 3))) at)
+              → frame (shown (ground image f) after_memory) at ≡ frame (shown (ground image f) memory) at
+          untouched_then at unlent =
+              let a = advanced [] calm g.board (none_given g.board g.step) (kept memory) itself in
+              ap (λ (l : List ℕ). frame l at) (sym (ram_is [] calm g.board (none_given g.board g.step) (kept memory) itself)) ∙ a.guest_untouched at (λ new same. unlent new (record { size = same.size; beyond = same.beyond }))
 
           pub passed_on : done ≡ 0 → passed_then ≡ passed
           passed_on none = passed_same [] calm g.board (none_given g.board g.step) (kept memory) itself none
