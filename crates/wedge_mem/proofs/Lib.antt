@@ -3,3 +3,4 @@ pub mod Filled
 pub mod Below
 pub mod Passed
 pub mod Plain
+pub mod Told

@@ -1,3 +1,4 @@
 pub mod Owned
 pub mod Progress
 pub mod Settled
+pub mod Told

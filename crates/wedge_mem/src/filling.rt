@@ -4,6 +4,7 @@ ghost use Rattle.std.specs.Prelude.{◌≡◌, ◌+◌, ◌*◌, ◌≤◌, ◌<
 ghost use Rattle.std.specs.FinMap.{get};
 ghost use Rattle.frame_pool.specs.Pool.{free_list};
 ghost use Rattle.frame_pool.specs.Held.{Owns, Moves};
+ghost use Rattle.shadow_tables.specs.Aside.{AreSame};
 ghost use Rattle.shadow_tables.specs.Entries.{entries_of};
 ghost use Rattle.shadow_tables.specs.Slots.{is_among, Turns};
 ghost use Rattle.shadow_tables.specs.declared.words.Side.{Side as View};
@@ -36,6 +37,9 @@ fn fill_page<S: Shadows>(
     ensures turns { Turns (S.slots shadows.old ram.old) (S.slots shadows.new ram.new) page (filled_by side wp (S.tracked shadows.old) entry) }
     ensures tracked { S.tracked shadows.new ≡ S.tracked shadows.old }
     ensures noted { (frame : ℕ) → S.noted shadows.new frame ≡ S.noted shadows.old frame }
+    ensures marked { S.marked shadows.new ≡ S.marked shadows.old }
+    ensures value { S.value shadows.new ≡ S.value shadows.old }
+    ensures asides { AreSame (S.asides shadows.old ram.old) (S.asides shadows.new ram.new) }
     ensures roots { (view : View) → S.directory shadows.new view ≡ S.directory shadows.old view }
     ensures left { length (free_list pool.old ram.old) ≤ length (free_list pool.new ram.new) + (if has_entry entry then 1 else 0) }
     ensures moves { Moves pool.old pool.new ram.old ram.new (S.frames shadows.old ram.old) (S.frames shadows.new ram.new) }
@@ -66,6 +70,9 @@ fn fill_last<S: Shadows>(
         ≡ (if (q == page) && not (is_among page later.now) then filled_by side wp (S.tracked shadows.old) (get (changed (entries_of (S.slots shadows.old ram.old)) changes.now) page) else S.slots shadows.old ram.old q) }
     ensures tracked { S.tracked shadows.new ≡ S.tracked shadows.old }
     ensures noted { (frame : ℕ) → S.noted shadows.new frame ≡ S.noted shadows.old frame }
+    ensures marked { S.marked shadows.new ≡ S.marked shadows.old }
+    ensures value { S.value shadows.new ≡ S.value shadows.old }
+    ensures asides { AreSame (S.asides shadows.old ram.old) (S.asides shadows.new ram.new) }
     ensures roots { (view : View) → S.directory shadows.new view ≡ S.directory shadows.old view }
     ensures left { length (free_list pool.old ram.old) ≤ length (free_list pool.new ram.new) + (if has_entry (get (changed (entries_of (S.slots shadows.old ram.old)) changes.now) page) && not (is_among page later.now) then 1 else 0) }
     ensures moves { Moves pool.old pool.new ram.old ram.new (S.frames shadows.old ram.old) (S.frames shadows.new ram.new) }
@@ -95,6 +102,9 @@ pub fn fill_pages<S: Shadows>(
     ensures fills { Fills (S.slots shadows.old ram.old) (S.slots shadows.new ram.new) (changed (entries_of (S.slots shadows.old ram.old)) changes.now) pages.now side wp (S.tracked shadows.old) }
     ensures tracked { S.tracked shadows.new ≡ S.tracked shadows.old }
     ensures noted { (frame : ℕ) → S.noted shadows.new frame ≡ S.noted shadows.old frame }
+    ensures marked { S.marked shadows.new ≡ S.marked shadows.old }
+    ensures value { S.value shadows.new ≡ S.value shadows.old }
+    ensures asides { AreSame (S.asides shadows.old ram.old) (S.asides shadows.new ram.new) }
     ensures roots { (view : View) → S.directory shadows.new view ≡ S.directory shadows.old view }
     ensures moves { Moves pool.old pool.new ram.old ram.new (S.frames shadows.old ram.old) (S.frames shadows.new ram.new) }
 {

@@ -1,7 +1,7 @@
 //! The guest's memory of one step of a patched run.
 
 ghost use Rattle.std.proofs.Props.{props};
-ghost use Rattle.std.specs.Prelude.{◌≡◌, ℕ, ◌+◌, ◌*◌, ◌/◌, ◌%◌, ◌≤◌, ◌<◌, ◌^◌, length, take, false, IfSome, IsSome, MatchOption};
+ghost use Rattle.std.specs.Prelude.{◌≡◌, ℕ, ◌+◌, ◌*◌, ◌/◌, ◌%◌, ◌≤◌, ◌<◌, ◌^◌, length, take, true, false, ◌||◌, [], IfSome, IsSome, MatchOption};
 ghost use Rattle.std.specs.FinMap.{empty, get};
 ghost use Rattle.descriptors.specs.Controls.{pse_of};
 ghost use Rattle.frame_pool.specs.Held.{Moves, Owns};
@@ -9,11 +9,14 @@ ghost use Rattle.frame_pool.specs.Pool.{base_of, free_list};
 ghost use Rattle.paging.specs.Fresh.{has};
 ghost use Rattle.paging.specs.Space.{Readied};
 ghost use Rattle.paging.specs.Uses.{fetches};
+ghost use Rattle.shadow_tables.specs.Aside.{LoseWrites, any_of, all_spared};
 ghost use Rattle.shadow_tables.specs.Entries.{entries_of};
+ghost use Rattle.shadow_tables.specs.Slots.{is_among};
 ghost use Rattle.step_mem.specs.Changes.{AreWithin};
 ghost use Rattle.step_mem.specs.Shown.{beyond};
 ghost use Rattle.wedge_mem.specs.Progress.{IsGoing, owning, space_at_first, space_in};
 ghost use Rattle.wedge_mem.specs.Settled.{Settles, pages_of, used};
+ghost use Rattle.wedge_mem.specs.Told.{guest_frames, read_by};
 
 use crate::lent::Lent;
 use crate::progress::Progress;
@@ -123,6 +126,13 @@ impl<'a, S: Shadows> WedgeMem<'a, S> {
             (λ n. entries_of (S.slots self.new.shadows.now self.new.ram.now) ≡ (⟦<WedgeMem<'a, S> as GuestMem>⟧.space self.old).set) }
         ensures filled { IfSome result (λ n. Settles (S.slots self.old.shadows.now self.old.ram.now) (S.slots self.new.shadows.now self.new.ram.now) (⟦<WedgeMem<'a, S> as GuestMem>⟧.space self.old).set
             (pages_of self.old.step.went self.old.step.changes) side (⟦<WedgeMem<'a, S> as GuestMem>⟧.space self.old).wp (S.tracked self.new.shadows.now)) }
+        ensures noted { IsSome result → (frame : ℕ) → is_among frame self.old.step.wrote ≡ false → S.noted self.new.shadows.now frame ≡ read_by (S.noted self.old.shadows.now) self.old.step.tables frame }
+        ensures noted_only { (frame : ℕ) → S.noted self.new.shadows.now frame ≡ true → read_by (S.noted self.old.shadows.now) self.old.step.tables frame ≡ true }
+        ensures marked { MatchOption result (S.marked self.new.shadows.now ≡ true → S.marked self.old.shadows.now ≡ true)
+            (λ n. S.marked self.new.shadows.now ≡ (S.marked self.old.shadows.now || any_of (read_by (S.noted self.old.shadows.now) self.old.step.tables) self.old.step.wrote)) }
+        ensures value { S.value self.new.shadows.now ≡ S.value self.old.shadows.now }
+        ensures asides { MatchOption result (S.asides self.new.shadows.now self.new.ram.now ≡ [])
+            (λ n. LoseWrites (guest_frames self.old.step.tables) (all_spared self.old.step.wrote (S.asides self.old.shadows.now self.old.ram.now)) (S.asides self.new.shadows.now self.new.ram.now)) }
         ensures guest { take (4096 * base_of self.old.pool.now) self.new.ram.now ≡ take (4096 * base_of self.old.pool.now) self.old.ram.now }
         ensures begins { ((⟦<WedgeMem<'a, S> as GuestMem>⟧.space self.new).pages ≡ 0) × ((⟦<WedgeMem<'a, S> as GuestMem>⟧.space self.new).set ≡ entries_of (S.slots self.new.shadows.now self.new.ram.now)) }
         ensures same_memory { self.new.ram.ghost_name ≡ self.old.ram.ghost_name }

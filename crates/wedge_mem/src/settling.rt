@@ -1,15 +1,17 @@
 //! The end of a step: the shadows keep what the step left.
 
-ghost use Rattle.std.specs.Prelude.{◌≡◌, ◌+◌, ◌*◌, ◌≤◌, ◌<◌, ◌^◌, ℕ, List, length, true, false, take, IfSome, IsSome, MatchOption};
+ghost use Rattle.std.specs.Prelude.{◌≡◌, ◌+◌, ◌*◌, ◌≤◌, ◌<◌, ◌^◌, ℕ, List, length, true, false, ◌||◌, [], take, IfSome, IsSome, MatchOption};
 ghost use Rattle.std.specs.FinMap.{FinMap, empty, get};
 ghost use Rattle.frame_pool.specs.Pool.{base_of, free_list};
 ghost use Rattle.frame_pool.specs.Held.{Owns, Moves};
+ghost use Rattle.shadow_tables.specs.Aside.{LoseWrites, any_of, all_spared};
 ghost use Rattle.shadow_tables.specs.Entries.{entries_of};
 ghost use Rattle.shadow_tables.specs.Slots.{is_among, ArePart};
 ghost use Rattle.shadow_tables.specs.declared.words.Side.{Side as View};
 ghost use Rattle.step_mem.specs.Changes.{changed};
 ghost use Rattle.step_mem.specs.Sound.{IsSound};
 ghost use Rattle.wedge_mem.specs.Settled.{Settles, pages_of, used};
+ghost use Rattle.wedge_mem.specs.Told.{guest_frames, read_by};
 
 use crate::filling::fill_pages;
 use crate::pages::{count_used, pages_of};
@@ -20,8 +22,10 @@ use shadow_tables::{Shadows, Side};
 use step_mem::State;
 
 /// Settles the shadows to the set that a step left: every page that the step went through is filled from its entry on
-/// that side, or dropped where it has none. The frames that its walks read are noted, and those that it wrote are told,
-/// before. Answers how many entries the pages have. None where fewer frames are free than that: all is dropped then.
+/// that side, or dropped where it has none. The frames that its walks read are noted before, and only then those that it
+/// wrote are told: the present tables are marked where one of them is both. What is kept for another value of CR3 goes
+/// where the step wrote a frame of its tables. Answers how many entries the pages have. None where fewer frames are free
+/// than that: all is dropped then.
 pub fn settle<S: Shadows>(
     shadows: &mut S,
     ram: &mut Ram,
@@ -41,7 +45,13 @@ pub fn settle<S: Shadows>(
         (λ n. entries_of (S.slots shadows.new ram.new) ≡ changed (entries_of (S.slots shadows.old ram.old)) state.now.changes) }
     ensures kept { IfSome result (λ n. Settles (S.slots shadows.old ram.old) (S.slots shadows.new ram.new) (changed (entries_of (S.slots shadows.old ram.old)) state.now.changes)
         (pages_of state.now.went state.now.changes) side state.now.control.wp (S.tracked shadows.new)) }
-    ensures noted { IsSome result → (frame : ℕ) → frame < 16384 → is_among frame state.now.tables ≡ true → is_among frame state.now.wrote ≡ false → S.noted shadows.new frame ≡ true }
+    ensures noted { IsSome result → (frame : ℕ) → is_among frame state.now.wrote ≡ false → S.noted shadows.new frame ≡ read_by (S.noted shadows.old) state.now.tables frame }
+    ensures noted_only { (frame : ℕ) → S.noted shadows.new frame ≡ true → read_by (S.noted shadows.old) state.now.tables frame ≡ true }
+    ensures marked { MatchOption result (S.marked shadows.new ≡ true → S.marked shadows.old ≡ true)
+        (λ n. S.marked shadows.new ≡ (S.marked shadows.old || any_of (read_by (S.noted shadows.old) state.now.tables) state.now.wrote)) }
+    ensures value { S.value shadows.new ≡ S.value shadows.old }
+    ensures asides { MatchOption result (S.asides shadows.new ram.new ≡ [])
+        (λ n. LoseWrites (guest_frames state.now.tables) (all_spared state.now.wrote (S.asides shadows.old ram.old)) (S.asides shadows.new ram.new)) }
     ensures untracked { IsSome result → (frame : ℕ) → is_among frame state.now.wrote ≡ true → is_among frame (S.tracked shadows.new) ≡ false }
     ensures guest { take (4096 * base_of pool.old) ram.new ≡ take (4096 * base_of pool.old) ram.old }
 {

@@ -1,12 +1,14 @@
 //! Telling the shadows which frames a step read as tables, and which it wrote.
 
-ghost use Rattle.std.specs.Prelude.{◌≡◌, ◌^◌, ◌<◌, ◌≤◌, ℕ, length, true, false};
+ghost use Rattle.std.specs.Prelude.{◌≡◌, ◌^◌, ◌<◌, ◌≤◌, ℕ, length, true, false, ◌||◌, [], ◌∷◌};
 ghost use Rattle.frame_pool.specs.Pool.{free_list};
 ghost use Rattle.frame_pool.specs.Held.{Owns, Moves, Writes};
+ghost use Rattle.shadow_tables.specs.Aside.{AreSame, LoseWrites, any_of, all_spared};
 ghost use Rattle.shadow_tables.specs.Calls.{IsWithin};
 ghost use Rattle.shadow_tables.specs.Entries.{entries_of};
 ghost use Rattle.shadow_tables.specs.Slots.{is_among, ArePart, SameSlots};
 ghost use Rattle.shadow_tables.specs.declared.words.Side.{Side as View};
+ghost use Rattle.wedge_mem.specs.Told.{guest_frames, read_by};
 
 use frame_pool::Pool;
 use guest_ram::Ram;
@@ -16,8 +18,10 @@ use shadow_tables::Shadows;
 fn note_table<S: Shadows>(shadows: &mut S, ram: &mut Ram, frame: u32)
     requires stands { ∥ S.stands shadows.old ram.old ∥₁ }
     ensures stands { ∥ S.stands shadows.new ram.new ∥₁ }
-    ensures noted { frame < 16384 → S.noted shadows.new frame ≡ true }
-    ensures noted_before { (frame : ℕ) → S.noted shadows.old frame ≡ true → S.noted shadows.new frame ≡ true }
+    ensures noted { (f : ℕ) → S.noted shadows.new f ≡ read_by (S.noted shadows.old) (frame ∷ []) f }
+    ensures marked { S.marked shadows.new ≡ S.marked shadows.old }
+    ensures value { S.value shadows.new ≡ S.value shadows.old }
+    ensures asides { LoseWrites (guest_frames (frame ∷ [])) (S.asides shadows.old ram.old) (S.asides shadows.new ram.new) }
     ensures slots { (page : ℕ) → page < 2 ^ 20 → IsWithin (S.slots shadows.new ram.new page) (S.slots shadows.old ram.old page) }
     ensures entries { entries_of (S.slots shadows.new ram.new) ≡ entries_of (S.slots shadows.old ram.old) }
     ensures roots { (view : View) → S.directory shadows.new view ≡ S.directory shadows.old view }
@@ -33,8 +37,10 @@ fn note_table<S: Shadows>(shadows: &mut S, ram: &mut Ram, frame: u32)
 pub fn note_tables<S: Shadows>(shadows: &mut S, ram: &mut Ram, tables: &[u32])
     requires stands { ∥ S.stands shadows.old ram.old ∥₁ }
     ensures stands { ∥ S.stands shadows.new ram.new ∥₁ }
-    ensures noted { (frame : ℕ) → is_among frame tables.now ≡ true → frame < 16384 → S.noted shadows.new frame ≡ true }
-    ensures noted_before { (frame : ℕ) → S.noted shadows.old frame ≡ true → S.noted shadows.new frame ≡ true }
+    ensures noted { (frame : ℕ) → S.noted shadows.new frame ≡ read_by (S.noted shadows.old) tables.now frame }
+    ensures marked { S.marked shadows.new ≡ S.marked shadows.old }
+    ensures value { S.value shadows.new ≡ S.value shadows.old }
+    ensures asides { LoseWrites (guest_frames tables.now) (S.asides shadows.old ram.old) (S.asides shadows.new ram.new) }
     ensures slots { (page : ℕ) → page < 2 ^ 20 → IsWithin (S.slots shadows.new ram.new page) (S.slots shadows.old ram.old page) }
     ensures entries { entries_of (S.slots shadows.new ram.new) ≡ entries_of (S.slots shadows.old ram.old) }
     ensures roots { (view : View) → S.directory shadows.new view ≡ S.directory shadows.old view }
@@ -55,6 +61,10 @@ pub fn tell_written<S: Shadows>(shadows: &mut S, ram: &mut Ram, pool: &mut Pool,
     ensures entries { entries_of (S.slots shadows.new ram.new) ≡ entries_of (S.slots shadows.old ram.old) }
     ensures tracked { ArePart (S.tracked shadows.new) (S.tracked shadows.old) }
     ensures noted { (frame : ℕ) → is_among frame wrote.now ≡ false → S.noted shadows.new frame ≡ S.noted shadows.old frame }
+    ensures noted_less { (frame : ℕ) → S.noted shadows.new frame ≡ true → S.noted shadows.old frame ≡ true }
+    ensures marked { S.marked shadows.new ≡ (S.marked shadows.old || any_of (S.noted shadows.old) wrote.now) }
+    ensures value { S.value shadows.new ≡ S.value shadows.old }
+    ensures asides { AreSame (all_spared wrote.now (S.asides shadows.old ram.old)) (S.asides shadows.new ram.new) }
     ensures untracked { (frame : ℕ) → is_among frame wrote.now ≡ true → is_among frame (S.tracked shadows.new) ≡ false }
     ensures roots { (view : View) → S.directory shadows.new view ≡ S.directory shadows.old view }
     ensures fewer { length (free_list pool.old ram.old) ≤ length (free_list pool.new ram.new) }

@@ -5,6 +5,7 @@ use Rattle.frame_pool.specs.Pool.{free_list}
 use Rattle.paging.specs.declared.entry.Entry.{Entry}
 use Rattle.shadow_tables.specs.Entries.{entries_of}
 use Rattle.shadow_tables.specs.Slots.{Slot, is_among}
+use Rattle.shadow_tables.proofs.Asides.{same-trans}
 use Rattle.step_mem.specs.Changes.{changed}
 use Rattle.wedge_mem.specs.Settled.{filled_by, has_entry}
 use Rattle.wedge_mem.proofs.Lists.{later-is, used-at, if-some}
@@ -57,6 +58,9 @@ loop-i-preserved g c =
       slots = fill-more xs l.i old now new (λ q. filled_by c.args.side c.args.wp tracked (get set q)) v c.loop-i-test.true v-is l.invariant.slots
           (λ q h. e.slots q h ∙ ap (λ ys. cond (eqb q page && not (is_among page ys)) v (now q)) later);
       noted = λ frame. e.noted frame ∙ l.invariant.noted frame;
+      marked = e.marked ∙ l.invariant.marked;
+      value = e.value ∙ l.invariant.value;
+      asides = same-trans (g.S.Shadows.asides c.args.shadows.now c.args.ram.now) (g.S.Shadows.asides l.shadows l.ram) (g.S.Shadows.asides c.fill_last.new.shadows c.fill_last.new.ram) l.invariant.asides e.asides;
       tracked = e.tracked ∙ l.invariant.tracked;
       roots = λ view. e.roots view ∙ l.invariant.roots view;
       left = omega (arith, count, left, spent);

@@ -1,10 +1,13 @@
-use Rattle.std.proofs.Common.{ap, ◌∙◌, subst}
+use Rattle.std.proofs.Common.{ℕ, List, ap, ◌∙◌, subst}
+use Rattle.shadow_tables.specs.Aside.{LoseWrites, AreSame, all_spared}
 use Rattle.shadow_tables.specs.Entries.{entries_of}
 use Rattle.step_mem.specs.Changes.{changed}
 use Rattle.wedge_mem.specs.Owned.{first, owns}
 use Rattle.wedge_mem.specs.Settled.{Fills}
+use Rattle.wedge_mem.specs.Told.{guest_frames}
 use Rattle.wedge_mem.proofs.Below.{below-same}
 use Rattle.wedge_mem.proofs.Passed.{owns-noted, owns-told, owns-all, moves-all}
+use Rattle.wedge_mem.proofs.Told.{all-told}
 use Rattle.wedge_mem.proofs.Filled.{entries-filled}
 use Rattle.wedge_mem.proofs.settling.settle.Goals as goal
 
@@ -64,3 +67,12 @@ returns-clause-entries g c =
     entries-filled (s t.shadows t.ram) (s u.shadows u.ram) went cs c.args.side c.args.state.now.control.wp (g.S.Shadows.tracked t.shadows) c.pages_of-pages.ensures.pages
     (subst (λ xs. Fills (s t.shadows t.ram) (s u.shadows u.ram) (changed (entries_of (s t.shadows t.ram)) cs) xs c.args.side c.args.state.now.control.wp (g.S.Shadows.tracked t.shadows)) (c.as_slice-4.ensures ∙ c.pages_of-pages.ensures.all) c.fill_pages.ensures.fills)
     ∙ ap (λ e. changed e cs) same
+
+pub returns-clause-asides : goal.returns-clause-asides
+returns-clause-asides g c =
+    let a = g.S.Shadows.asides in let n = c.note_tables.new in let t = c.tell_written.new in let u = c.fill_pages.new in
+    let st = c.args.state.now in
+    all-told st.wrote st.tables (a c.args.shadows.now c.args.ram.now) (a n.shadows n.ram) (a t.shadows t.ram) (a u.shadows u.ram)
+    (subst (λ (fs : List ℕ). LoseWrites (guest_frames fs) (a c.args.shadows.now c.args.ram.now) (a n.shadows n.ram)) c.as_slice-2.ensures c.note_tables.ensures.asides)
+    (subst (λ (fs : List ℕ). AreSame (all_spared fs (a n.shadows n.ram)) (a t.shadows t.ram)) c.as_slice-3.ensures c.tell_written.ensures.asides)
+    c.fill_pages.ensures.asides

@@ -1,14 +1,17 @@
-use Rattle.std.proofs.Common.{◌≡◌, ℕ, take, true, ◌^◌, ◌<◌}
+use Rattle.std.proofs.Common.{◌≡◌, ℕ, take, ◌^◌, ◌<◌}
 use Rattle.frame_pool.specs.Held.{Writes}
+use Rattle.shadow_tables.specs.Aside.{LoseWrites}
 use Rattle.shadow_tables.specs.Calls.{IsWithin}
-use Rattle.shadow_tables.specs.Slots.{is_among}
 use Rattle.shadow_tables.specs.Entries.{entries_of}
+use Rattle.wedge_mem.specs.Told.{guest_frames, read_by}
 use Rattle.wedge_mem.proofs.telling.note_tables.Given as goal
 
 abbrev pub invariant-loop-frame : goal.invariant-loop-frame
 invariant-loop-frame g l = record {
-  noted : (frame : ℕ) → is_among frame (take l.frame-index l.tables) ≡ true → frame < 16384 → g.S.Shadows.noted l.shadows frame ≡ true;
-  noted_before : (frame : ℕ) → g.S.Shadows.noted l.fn.shadows frame ≡ true → g.S.Shadows.noted l.shadows frame ≡ true;
+  noted : (frame : ℕ) → g.S.Shadows.noted l.shadows frame ≡ read_by (g.S.Shadows.noted l.fn.shadows) (take l.frame-index l.tables) frame;
+  marked : g.S.Shadows.marked l.shadows ≡ g.S.Shadows.marked l.fn.shadows;
+  value : g.S.Shadows.value l.shadows ≡ g.S.Shadows.value l.fn.shadows;
+  asides : LoseWrites (guest_frames (take l.frame-index l.tables)) (g.S.Shadows.asides l.fn.shadows l.fn.ram) (g.S.Shadows.asides l.shadows l.ram);
   stands : ∥ g.S.Shadows.stands l.shadows l.ram ∥₁;
   slots : (page : ℕ) → page < 2 ^ 20 → IsWithin (g.S.Shadows.slots l.shadows l.ram page) (g.S.Shadows.slots l.fn.shadows l.fn.ram page);
   entries : entries_of (g.S.Shadows.slots l.shadows l.ram) ≡ entries_of (g.S.Shadows.slots l.fn.shadows l.fn.ram);

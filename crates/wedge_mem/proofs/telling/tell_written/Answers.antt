@@ -1,6 +1,7 @@
-use Rattle.std.proofs.Common.{◌∙◌, arith}
-use Rattle.frame_pool.proofs.Held.{Owns-moves, Moves-trans}
-use Rattle.wedge_mem.proofs.Lists.{untracked-more, noted-less}
+use Rattle.std.proofs.Common.{get_or, refl, sym, ◌∙◌, arith}
+use Rattle.frame_pool.proofs.Held.{Owns-moves, Moves-refl, Moves-trans}
+use Rattle.wedge_mem.proofs.Lists.{true-false, untracked-more, noted-less}
+use Rattle.wedge_mem.proofs.Told.{first-marked, first-spared, less-noted, more-marked, more-spared}
 use Rattle.wedge_mem.proofs.telling.tell_written.Goals as goal
 
 pub written-requires-clause-owns : goal.written-requires-clause-owns
@@ -8,17 +9,41 @@ written-requires-clause-owns g c =
     let l = c.loop-frame in let f = g.S.Shadows.frames in
     Owns-moves c.args.pool.now l.pool c.args.ram.now l.ram (f c.args.shadows.now c.args.ram.now) (f l.shadows l.ram) c.requires.owns l.invariant.moves
 
+pub loop-frame-init : goal.loop-frame-init
+loop-frame-init g c =
+    let a = g.S.Shadows.asides c.args.shadows.now c.args.ram.now in
+    record {
+      stands = c.requires.stands;
+      slots = λ page h. refl;
+      entries = refl;
+      tracked = λ f h. h;
+      noted = λ frame h. refl;
+      noted_less = λ frame h. h;
+      marked = first-marked (g.S.Shadows.marked c.args.shadows.now);
+      value = refl;
+      asides = first-spared a;
+      untracked = λ frame h. absurd (true-false (sym h));
+      roots = λ view. refl;
+      fewer = omega arith;
+      moves = Moves-refl _ _ _ c.requires.owns.stands;
+    }
+
 pub loop-frame-preserved : goal.loop-frame-preserved
 loop-frame-preserved g c =
     let l = c.loop-frame in let f = g.S.Shadows.frames in
     let e = c.written.ensures in
     let before = l.invariant.fewer in let now = e.fewer in
+    let noted = g.S.Shadows.noted in let marked = g.S.Shadows.marked in let a = g.S.Shadows.asides in let n = c.written.new in
     record {
       stands = e.stands;
       slots = λ page h. e.slots page h ∙ l.invariant.slots page h;
       entries = e.entries ∙ l.invariant.entries;
       tracked = λ x h. l.invariant.tracked x (e.tracked x h);
       noted = noted-less c.args.wrote.now l.frame-index (g.S.Shadows.noted c.args.shadows.now) (g.S.Shadows.noted l.shadows) (g.S.Shadows.noted c.written.new.self) c.loop-frame-test.true e.noted l.invariant.noted;
+      noted_less = less-noted (get_or c.args.wrote.now l.frame-index 0) (noted c.args.shadows.now) (noted l.shadows) (noted n.self) e.noted e.noted_there l.invariant.noted_less;
+      marked = more-marked c.args.wrote.now l.frame-index (noted c.args.shadows.now) (noted l.shadows) (marked c.args.shadows.now) (marked l.shadows) (marked n.self) c.loop-frame-test.true l.invariant.marked e.marked l.invariant.noted_less l.invariant.noted;
+      value = e.value ∙ l.invariant.value;
+      asides = more-spared c.args.wrote.now l.frame-index (a c.args.shadows.now c.args.ram.now) (a l.shadows l.ram) (a n.self n.ram) c.loop-frame-test.true l.invariant.asides e.asides;
       untracked = untracked-more c.args.wrote.now l.frame-index (g.S.Shadows.tracked l.shadows) (g.S.Shadows.tracked c.written.new.self) c.loop-frame-test.true e.tracked e.untracked l.invariant.untracked;
       roots = λ view. e.roots view ∙ l.invariant.roots view;
       fewer = omega (arith, before, now);
