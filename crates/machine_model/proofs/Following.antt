@@ -3,9 +3,7 @@ use Rattle.std.proofs.Common.{◌≡◌, ℕ, ◌+◌, ◌-◌, ◌*◌, ◌/◌
 use Rattle.std.specs.Prelude.{nat_le, nat_lt}
 use Rattle.std.proofs.lemmas.Bool.Decides.{nat_tests}
 use Rattle.std.specs.List.{Contains}
-use Rattle.std.specs.Option.{ForSome}
-use Rattle.std.specs.FinMap.{FinMap, get, insert, remove, get-insert, get-remove}
-use Rattle.std.specs.Ordering.{nat_cmp}
+use Rattle.std.specs.FinMap.{get, insert, remove, get-insert, get-remove}
 use Rattle.std.specs.Cmp.{unsigned_tied}
 use Rattle.std.proofs.lemmas.Cmp.{nat_cmp_total}
 use Rattle.std.proofs.lemmas.List.Elements.{Contains-append_left, Contains-append_right}
@@ -24,7 +22,7 @@ use Rattle.paging.specs.declared.entry.Touch.{Touch}
 use Rattle.paging.specs.declared.entry.Touch.TheVariants.{Ready, Fault, Stop}
 use Rattle.paging.specs.Fresh.{fresh, has, is_large, dir_place, table_in, tables_read, grants, flagged}
 use Rattle.paging.specs.Space.{Mode, Span, Earlier, Space, width, place, with_byte, written, saved, frames_of}
-use Rattle.paging.specs.Uses.{tables_of, Decision, is_barred, window_stop, walks_text, marks_own, fault_code, dirtied, by_walk, decided, settled, usable, by_entry, page_uses, go_on, and_then, unready, made_ready, second_page, by_pages, by_window, uses, fetches}
+use Rattle.paging.specs.Uses.{tables_of, Decision, is_barred, window_stop, walks_text, marks_own, dirtied, by_walk, decided, settled, usable, by_entry, page_uses, go_on, and_then, unready, made_ready, second_page, by_pages, by_window, uses, fetches}
 use Rattle.machine_model.specs.Reloading.{MemoryFollows, IsFoundBy, HoldsOf, AreApart, Follows, FollowsItself, FollowsOn, UsesFollow, FetchesFollow}
 use Rattle.machine_model.proofs.MoreFlags.{eq_told, not_eq, flags_by, long_with, byte_other, memory_same, memory_on, flagged_follows}
 use Rattle.machine_model.proofs.FoundStill.{found_still, found_fresh, fresh_even}
@@ -212,9 +210,9 @@ walk_follows s page e d t write is =
           elim (one_or_other q page (dirtied e write) (get s.set q) found (got q ∙ there)) [
             | inr old ↦ inl old
             | inl here ↦ inr (subst (λ p. IsFoundBy (flagged s.ram d t write) s.frames s.cr3 s.pse tables p found) (sym here.0)
-            (subst (λ (x : Entry). IsFoundBy (flagged s.ram d t write) s.frames s.cr3 s.pse tables page x) here.1
-            (found_fresh s.ram s.frames s.cr3 s.pse tables page e d t write (subst (λ n. n < 2 ^ 20) here.0 small) room is
-            (λ f c. holds f (Contains-append_right s.tables (tables_read s.ram s.frames s.cr3 s.pse page) f c)))))
+                (subst (λ (x : Entry). IsFoundBy (flagged s.ram d t write) s.frames s.cr3 s.pse tables page x) here.1
+                (found_fresh s.ram s.frames s.cr3 s.pse tables page e d t write (subst (λ n. n < 2 ^ 20) here.0 small) room is
+                (λ f c. holds f (Contains-append_right s.tables (tables_read s.ram s.frames s.cr3 s.pse page) f c)))))
           ];
     }
   where

@@ -10,7 +10,7 @@ use Rattle.paging.specs.declared.entry.Walk.TheVariants.{Absent, Beyond, Reserve
 use Rattle.paging.specs.Fresh.{has, dir_place, word_place, entry_of, is_large, has_reserved, large_frame, large_entry, by_word, by_large, by_table, by_dir, fresh, flagged, tables_read}
 use Rattle.paging.specs.Uses.{dirtied}
 use Rattle.machine_model.specs.Reloading.{HasMoreFlags, MemoryFollows, IsFoundBy, HoldsOf}
-use Rattle.machine_model.proofs.MoreFlags.{eq_told, flagged_follows, flagged_dir, flagged_word, flagged_dirty}
+use Rattle.machine_model.proofs.MoreFlags.{flagged_follows, flagged_dir, flagged_word, flagged_dirty}
 use Rattle.machine_model.proofs.Walked.{walks_are_noted}
 
 -- ---- tests

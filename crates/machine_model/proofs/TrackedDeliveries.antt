@@ -1,9 +1,9 @@
 -- Memory follows over a delivery.
-use Rattle.std.proofs.Common.{◌≡◌, ℕ, ◌+◌, ◌-◌, ◌%◌, ◌^◌, ◌≤◌, Bool, true, false, cond, refl, Option, Some, None, arith}
+use Rattle.std.proofs.Common.{ℕ, ◌+◌, ◌-◌, ◌%◌, ◌^◌, ◌≤◌, Bool, true, false, cond, refl, Option, Some, None, arith}
 use Rattle.std.specs.Prelude.{slice_index}
 use Rattle.ia32_types.specs.declared.size.Size.TheVariants.{Long}
 use Rattle.paging.specs.declared.entry.Access.{Access}
-use Rattle.paging.specs.Work.{Work, ◌>>=◌, gives, writes}
+use Rattle.paging.specs.Work.{◌>>=◌, gives, writes}
 use Rattle.descriptors.specs.Segments.{seg_of}
 use Rattle.descriptors.specs.Access.{reaching, by_processor, pair_at, mark}
 use Rattle.descriptors.specs.declared.cpu.Cpu.{Cpu}

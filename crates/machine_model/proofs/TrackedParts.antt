@@ -1,5 +1,5 @@
 -- Memory follows over the parts of rows.
-use Rattle.std.proofs.Common.{◌≡◌, ℕ, ◌+◌, ◌≤◌, Bool, true, refl, Ok, Err, arith}
+use Rattle.std.proofs.Common.{ℕ, ◌≤◌, Bool, true, refl, arith}
 use Rattle.ia32_types.specs.declared.insn.Address.{Address}
 use Rattle.ia32_types.specs.declared.insn.Operand.{Operand}
 use Rattle.ia32_types.specs.declared.insn.Operand.TheVariants as operands
@@ -15,7 +15,7 @@ use Rattle.sys_exec.specs.declared.effect.Refusal.{Refusal}
 use Rattle.sys_exec.specs.declared.effect.Loading.{Loading}
 use Rattle.sys_exec.specs.declared.iret.Popped.{Popped}
 use Rattle.sys_exec.specs.Access.{denials, reaching}
-use Rattle.sys_exec.specs.Operand.{unsupported, by_level, operand_reached, selector, long_of, pulled, pushed}
+use Rattle.sys_exec.specs.Operand.{by_level, operand_reached, selector, long_of, pulled, pushed}
 use Rattle.sys_exec.specs.Segment.{protection, selected, data_tests, find_data, marked, load_data, stack_tests, find_stack, return_tests, find_return, jump_tests, find_jump, as_task, load_task}
 use Rattle.sys_exec.specs.Iret.{popped, popped_outer, return_same, return_outer, interrupt_return}
 use Rattle.machine_model.proofs.Tracking.{Tracks, Opens, tracks, then_opens, opened_then, unless_tracks, refuses_tracks, writes_within, reaching_tracks, reaching_opens, pair_tracks, byte_tracks, mark_tracks}

@@ -1,5 +1,5 @@
 -- Memory follows over a plain instruction, whose numbers go into its write range.
-use Rattle.std.proofs.Common.{◌≡◌, ℕ, zero, suc, ◌+◌, ◌*◌, ◌/◌, ◌<◌, ◌≤◌, Bool, true, false, cond, List, [], ◌∷◌, ◌++◌, refl, subst, Option, Some, None, Ok, Err, arith, not}
+use Rattle.std.proofs.Common.{◌≡◌, ℕ, zero, suc, ◌+◌, ◌*◌, ◌/◌, ◌≤◌, Bool, true, false, cond, List, [], ◌∷◌, ◌++◌, refl, subst, Option, Some, None, Ok, Err, arith, not}
 use Rattle.std.specs.Prelude.{slice_index}
 use Rattle.ia32_types.specs.declared.size.Size.{Size}
 use Rattle.ia32_types.specs.declared.size.Size.TheVariants.{Byte, Word, Long}
@@ -21,10 +21,10 @@ use Rattle.ia32_exec.specs.Memory.{store}
 use Rattle.ia32_exec.specs.Ranges.{operand_range, AreAll, Covers}
 use Rattle.ia32_exec.specs.Commit.{longs_to, list_of, stores_of, AreStored}
 use Rattle.ia32_exec.specs.Strings.{is_over}
-use Rattle.ia32_exec.specs.Effect.{effect, unless_over, ranges_row, ranges_of}
+use Rattle.ia32_exec.specs.Effect.{effect, ranges_row, ranges_of}
 use Rattle.ia32_exec.proofs.Within.{within}
-use Rattle.paging.specs.Space.{Space, width, place, saved}
-use Rattle.paging.specs.Work.{Outcome, Work}
+use Rattle.paging.specs.Space.{Space, place, saved}
+use Rattle.paging.specs.Work.{Outcome}
 use Rattle.descriptors.specs.declared.cpu.Cpu.{Cpu}
 use Rattle.sys_exec.specs.declared.effect.Refusal.{Refusal}
 use Rattle.sys_exec.specs.declared.effect.Refusal.TheVariants as refusal

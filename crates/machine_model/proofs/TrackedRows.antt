@@ -1,5 +1,5 @@
 -- Memory follows over each row.
-use Rattle.std.proofs.Common.{ℕ, ◌+◌, ◌≤◌, true, false, refl, arith}
+use Rattle.std.proofs.Common.{ℕ, true, false, refl, arith}
 use Rattle.ia32_types.specs.declared.insn.Insn.{Insn}
 use Rattle.ia32_types.specs.declared.insn.Op.{Op}
 use Rattle.ia32_types.specs.declared.insn.Op.TheVariants as ops
@@ -22,8 +22,8 @@ use Rattle.sys_exec.specs.Move.{selector_kept, read_seg, load_by, load_seg, push
 use Rattle.sys_exec.specs.Port.{port_in, port_out}
 use Rattle.sys_exec.specs.Branch.{return_to, jump_to, called_through, call_to}
 use Rattle.sys_exec.specs.Sys.{returned_by, row, sys_work}
-use Rattle.machine_model.proofs.Tracking.{Tracks, then_tracks, opened_then, then_within, gives_within, gives_tracks, refuses_tracks, writes_within, reads_earlier_within, reaching_opens}
-use Rattle.machine_model.proofs.TrackedParts.{parts, operand, operand_opens, jump_found}
+use Rattle.machine_model.proofs.Tracking.{Tracks, then_tracks, opened_then, then_within, gives_within, refuses_tracks, writes_within, reads_earlier_within, reaching_opens}
+use Rattle.machine_model.proofs.TrackedParts.{parts, operand, operand_opens}
 
 cli : (len : ℕ) (cpu : Cpu) → Tracks (clear_interrupts len cpu)
 unfolding clear_interrupts

@@ -1,8 +1,8 @@
 -- Memory follows over a step.
-use Rattle.std.proofs.Common.{◌≡◌, ℕ, ◌+◌, ◌*◌, ◌/◌, ◌%◌, ◌^◌, ◌<◌, ◌≤◌, ◌==◌, Bool, true, false, cond, not, refl, sym, ap, subst, ◌∙◌, ◌⊎◌, inl, inr, List, [], ◌∷◌, length, Option, Some, None, Ok, Err, arith}
+use Rattle.std.proofs.Common.{◌≡◌, ℕ, ◌+◌, ◌*◌, ◌/◌, ◌%◌, ◌==◌, Bool, true, false, cond, not, refl, sym, ap, subst, ◌∙◌, inl, inr, List, [], ◌∷◌, Option, Some, None, Ok, Err}
 use Rattle.std.specs.List.{Contains}
 use Rattle.std.specs.Option.{ForSome}
-use Rattle.std.specs.FinMap.{FinMap, get, empty, remove, retain_keys, get-empty, get-remove, get-retain_keys, nat_cmp-IsAntisymmetric}
+use Rattle.std.specs.FinMap.{get, empty, remove, get-empty, get-remove, get-retain_keys, nat_cmp-IsAntisymmetric}
 use Rattle.std.specs.Ordering.{nat_cmp}
 use Rattle.std.proofs.lemmas.Cmp.{nat_cmp_total}
 use Rattle.ia32_types.specs.declared.stop.Stop.{Stop}
@@ -27,7 +27,7 @@ use Rattle.sys_exec.specs.declared.effect.Refusal.TheVariants as refusal
 use Rattle.sys_exec.specs.declared.effect.Done.{Done}
 use Rattle.sys_exec.specs.declared.effect.SysEffect.{SysEffect}
 use Rattle.sys_exec.specs.declared.effect.SysEffect.TheVariants as effects
-use Rattle.sys_exec.specs.Sys.{told, told_refusal, sys_work}
+use Rattle.sys_exec.specs.Sys.{told, sys_work}
 use Rattle.step_exec.specs.Plain.{executed}
 use Rattle.event_entry.specs.declared.refusal.Kind.TheVariants.{Raised, Soft, External}
 use Rattle.event_entry.specs.declared.refusal.NotDelivered.{NotDelivered}
@@ -43,13 +43,13 @@ use Rattle.run_trace.specs.declared.items.What.TheVariants.{Sent, Irq}
 use Rattle.machine_model.specs.State.{Setting, State, space_at_start}
 use Rattle.machine_model.specs.Rules.{stands_well, may_leave}
 use Rattle.machine_model.specs.Instruction.{taken, fetching, owning_front, owning_back, owned, fetched_on, fetched_by, fetched, passed, is_plain, done_plainly, instructed, with_accumulator}
-use Rattle.machine_model.specs.Step.{Report, Completed, Result, Went, Stands, went, in_item, after_read, after_write, out_item, entered, after_delivery, raised, code_of, ended, after_effect, effect_on, after_software, interrupts_by, begun, by_op, by_decoded, after_refusal, after_fetch, fetches_next, begins_next, worked, interrupted, interrupt_of, by_interrupt, unheld, stepped, step_of}
+use Rattle.machine_model.specs.Step.{Report, Completed, Result, Went, Stands, went, in_item, after_read, after_write, out_item, entered, after_delivery, raised, code_of, after_effect, effect_on, after_software, interrupts_by, begun, by_op, by_decoded, after_refusal, after_fetch, begins_next, worked, interrupted, interrupt_of, by_interrupt, unheld, step_of}
 use Rattle.machine_model.specs.Run.{Set}
-use Rattle.machine_model.specs.Reloading.{MemoryFollows, IsFoundBy, HoldsOf, AreNone, AreApart, Follows, Leaves}
+use Rattle.machine_model.specs.Reloading.{MemoryFollows, IsFoundBy, Follows, Leaves}
 use Rattle.machine_model.specs.Following.{FetchedFollows, RangesFollow, InstructedFollows, DeliveredFollows, IsLeftBy, StepsFollow, StepsKeepMemory, WordsStayFound, SetsAreFound}
 use Rattle.machine_model.proofs.FoundStill.{found_still}
-use Rattle.machine_model.proofs.Following.{same_follows, follows_on, fetches_follow, aside}
-use Rattle.machine_model.proofs.Tracking.{Tracks, tracks, leaves_on, then_tracks, gives_tracks, refuses_tracks, if_tracks}
+use Rattle.machine_model.proofs.Following.{same_follows, fetches_follow, aside}
+use Rattle.machine_model.proofs.Tracking.{Tracks, tracks, leaves_on}
 use Rattle.machine_model.proofs.TrackedRows.{sys_tracks}
 use Rattle.machine_model.proofs.TrackedPlain.{both_tracks, plain_tracks}
 use Rattle.machine_model.proofs.TrackedDeliveries.{delivered_tracks}

@@ -1,13 +1,12 @@
 -- Lists of accesses after which memory follows. A write is one of them where a range that holds it was made ready for a
 -- write before, whose frames are then noted.
-use Rattle.std.proofs.Common.{◌≡◌, ℕ, ◌+◌, ◌/◌, ◌<◌, ◌≤◌, Bool, true, false, cond, refl, sym, ap, subst, ◌∙◌, Option, Some, None, Ok, Err, arith}
-use Rattle.std.specs.List.{Contains}
+use Rattle.std.proofs.Common.{◌≡◌, ℕ, ◌+◌, ◌<◌, ◌≤◌, Bool, true, false, cond, refl, Option, Some, None, Ok, Err, arith}
 use Rattle.ia32_types.specs.declared.size.Size.{Size}
-use Rattle.ia32_types.specs.declared.size.Size.TheVariants.{Byte, Word, Long}
+use Rattle.ia32_types.specs.declared.size.Size.TheVariants.{Byte}
 use Rattle.paging.specs.declared.entry.Access.{Access}
 use Rattle.paging.specs.declared.entry.Touch.{Touch}
 use Rattle.paging.specs.declared.entry.Touch.TheVariants as touch
-use Rattle.paging.specs.Space.{Space, width, place, saved}
+use Rattle.paging.specs.Space.{Space, width, place}
 use Rattle.paging.specs.Uses.{uses}
 use Rattle.paging.specs.Work.{Outcome, Work, on_value, ◌>>=◌, gives, refuses, unless, reads, reads_earlier, writes}
 use Rattle.descriptors.specs.declared.cpu.Cpu.{Cpu}
