@@ -9,7 +9,7 @@ use Rattle.pv_io.specs.declared.answer.Failed.{Failed}
 use Rattle.image_check.specs.Image.{Image}
 use Rattle.image_load.specs.declared.fault.Pause.{Pause}
 use Rattle.image_load.specs.declared.fault.StartFault.{StartFault}
-use Rattle.shadow_tables.specs.Slots.{IsShadow, held as held_by, slot_at}
+use Rattle.shadow_cache.specs.Views as roots
 use Rattle.machine_model.specs.State.{State, wedge}
 use Rattle.machine_model.specs.Run.{Set}
 use Rattle.native_steps.specs.Stands.{shown}
@@ -47,21 +47,12 @@ outside_of p p' m m' fs fs' o v = record {
       (not_between p.base p.count g fs out (λ f k. ((o.out f k).low, (o.out f k).high)));
 }
 
--- a guest that keeps nothing
-pub none_filled : (set : Set) (fills : ℕ) → set ≡ Rattle.std.specs.FinMap.empty → IsFilled set fills
-none_filled set fills is = let none = empty_few set is in omega (arith, none)
-
-pub started_filled : (image : Image) (frames count : ℕ) (memory : List ℕ) (result : Result (Guest × Pool) StartFault) → StartedAs IsShadow held_by slot_at image frames count memory result
-    → IfOk result (λ started. IsFilled (set_of IsShadow held_by slot_at started.0.running memory) started.0.running.fills)
-started_filled image frames count memory (Ok started) s = none_filled _ started.0.running.fills (ap (λ (b : State). b.set) (s.4 []).state)
-started_filled image frames count memory (Err fault) s = tt
-
 -- where each page that was kept had been filled, each that is kept was
-pub still_filled : (old new : Set) (before after : ℕ) → FillsOn old new before after → IsFilled old before → IsFilled new after
+pub still_filled : (old new before after : ℕ) → FillsOn old new before after → IsFilled old before → IsFilled new after
 still_filled old new before after f h = let e = f.enough in omega (arith, e, h)
 
 -- the host's first frames, where a slice has done its steps
-pub front_after : (result : Result Pause Failed) (image : Image) (script : Events) (frames : ℕ) (g : Running Rattle.shadow_tables.specs.declared.shadow.Shadow.Shadow) (pool : Pool) (memory : List ℕ)
-    → GoesOn result (IsHeld IsShadow held_by slot_at (ground image frames) g pool memory) → GoesOn result (take (4096 * frames) memory ≡ with_patches image (shown (wedge image script frames) memory))
+pub front_after : (result : Result Pause Failed) (image : Image) (script : Events) (frames : ℕ) (g : Running Rattle.shadow_cache.specs.declared.roots.Roots.Roots) (pool : Pool) (memory : List ℕ)
+    → GoesOn result (IsHeld roots.stands roots.frames roots.slots (ground image frames) g pool memory) → GoesOn result (take (4096 * frames) memory ≡ with_patches image (shown (wedge image script frames) memory))
 front_after (Ok pause) image script frames g pool memory h = front_held pause image script frames g pool memory h
 front_after (Err failed) image script frames g pool memory h = tt

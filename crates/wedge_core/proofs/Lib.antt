@@ -48,3 +48,7 @@ pub mod Shedding
 pub mod Readying
 pub mod Behind
 pub mod Untouched
+pub mod Resettling
+pub mod StepReady
+pub mod Returning
+pub mod Dropping

@@ -84,7 +84,7 @@ settled_open image wp old new set pages side tracked s tested h page lt = by (is
 pub none_open : (image : Image) (wp : Bool) (slots : ℕ → Option Slot) → ((page : ℕ) → page < 2 ^ 20 → slots page ≡ None) → AreOpen image wp slots
 none_open image wp slots none page lt = λ slot e. absurd (none_some slot (sym (none page lt) ∙ e))
 
-no_slot : (o : Option Slot) → entry_in o ≡ None → o ≡ None
+pub no_slot : (o : Option Slot) → entry_in o ≡ None → o ≡ None
 no_slot None h = refl
 no_slot (Some slot) h = absurd (none_some slot.entry (sym h))
 

@@ -37,7 +37,7 @@ pub part_within : (frames : ℕ) (part whole : Set) → IsPartOf part whole → 
 part_within frames part whole p h = λ page e is. h page e (p.each page e is)
 
 -- a page's entry, once those of a directory index are gone
-dir_get : (set : Set) (index q : ℕ) → get (without_dir set index) q ≡ cond (not (q / 1024 == index)) (get set q) None
+pub dir_get : (set : Set) (index q : ℕ) → get (without_dir set index) q ≡ cond (not (q / 1024 == index)) (get set q) None
 dir_get set index q =
     let p : ℕ → Bool = λ x. not (x / 1024 == index) in
     get-retain_keys set p q (λ x t. ap p (sym (nat_cmp-IsAntisymmetric q x t)))

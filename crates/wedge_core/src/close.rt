@@ -1,6 +1,6 @@
 //! The end of a step, for what is kept of the translations.
 
-ghost use Rattle.std.specs.Prelude.{◌≡◌, ℕ, List, Bool, true, false, ◌+◌, ◌*◌, ◌≤◌, ◌<◌, ◌^◌, length, is_none, IfSome, None};
+ghost use Rattle.std.specs.Prelude.{◌≡◌, ◌⊎◌, ℕ, List, Bool, true, false, ◌+◌, ◌*◌, ◌≤◌, ◌<◌, ◌^◌, length, is_none, IfSome, None};
 ghost use Rattle.std.specs.FinMap.{empty};
 ghost use Rattle.frame_pool.specs.Held.{Owns, Moves};
 ghost use Rattle.frame_pool.specs.Pool.{base_of, free_list};
@@ -120,7 +120,7 @@ fn drop_pages<S: Shadows>(shadows: &mut S, ram: &mut Ram, pages: &[u32])
     requires stands { ∥ S.stands shadows.old ram.old ∥₁ }
     ensures stands { ∥ S.stands shadows.new ram.new ∥₁ }
     ensures gone { (page : ℕ) → page < 2 ^ 20 → is_among page pages.now ≡ true → S.slots shadows.new ram.new page ≡ None }
-    ensures others { (page : ℕ) → page < 2 ^ 20 → is_among page pages.now ≡ false → S.slots shadows.new ram.new page ≡ S.slots shadows.old ram.old page }
+    ensures others { (page : ℕ) → page < 2 ^ 20 → (S.slots shadows.new ram.new page ≡ None) ⊎ (S.slots shadows.new ram.new page ≡ S.slots shadows.old ram.old page) }
     ensures noted { (f : ℕ) → S.noted shadows.new f ≡ S.noted shadows.old f }
     ensures marked { S.marked shadows.new ≡ S.marked shadows.old }
     ensures value { S.value shadows.new ≡ S.value shadows.old }
@@ -154,7 +154,7 @@ fn load<S: Reloads>(
     ensures fewer { pages_kept S.slots S.asides shadows.new ram.new ≤ pages_kept S.slots S.asides shadows.old ram.old }
     ensures shows { (image : Image) (wp : Bool) → AreOpen image wp (S.slots shadows.old ram.old) → AllOpen image wp (S.asides shadows.old ram.old) → AreOpen image wp (S.slots shadows.new ram.new) }
     ensures ready { (m : Setting) (before after : Cpu) → m.frames ≤ base_of pool.old → after.cr3 ≡ cr3 → pse_of after ≡ pse_of before → wp_of after ≡ wp_of before
-        → IsReadyBut S.slots S.noted S.marked S.value S.asides (λ page. is_among page pages.now) m before shadows.old ram.old
+        → AreOpen m.image (wp_of before) (S.slots shadows.old ram.old) → IsReadyBut S.slots S.noted S.marked S.value S.asides (λ page. is_among page pages.now) m before shadows.old ram.old
         → IsReady S.slots S.noted S.marked S.value S.asides m after shadows.new ram.new × AreFound m after (shown m ram.new) cr3 (S.noted shadows.new) (S.slots shadows.new ram.new) }
 {
     if wanted || pool.free() < 2 {
@@ -220,7 +220,7 @@ pub fn leave<S: Reloads>(
     ensures wanted { wanted ≡ true → result.back ≡ false }
     ensures fewer { pages_kept S.slots S.asides shadows.new ram.new ≤ pages_kept S.slots S.asides shadows.old ram.old }
     ensures shows { (image : Image) → AreOpen image (wp_of before.now) (S.slots shadows.old ram.old) → AllOpen image (wp_of before.now) (S.asides shadows.old ram.old) → AreOpen image (wp_of worked.now.cpu) (S.slots shadows.new ram.new) }
-    ensures ready { (m : Setting) → m.frames ≤ base_of pool.old → IsReadyBut S.slots S.noted S.marked S.value S.asides (leaving worked.now.dropped pages.now) m before.now shadows.old ram.old
+    ensures ready { (m : Setting) → m.frames ≤ base_of pool.old → AreOpen m.image (wp_of before.now) (S.slots shadows.old ram.old) → IsReadyBut S.slots S.noted S.marked S.value S.asides (leaving worked.now.dropped pages.now) m before.now shadows.old ram.old
         → IsReady S.slots S.noted S.marked S.value S.asides m worked.now.cpu shadows.new ram.new
         × (result.back ≡ true → AreFound m worked.now.cpu (shown m ram.new) worked.now.cpu.cr3 (S.noted shadows.new) (S.slots shadows.new ram.new)) }
 {

@@ -195,7 +195,7 @@ pub fn go<S: Reloads + Drop>(
     ensures moves { Moves pool.old pool.new ram.old ram.new (S.frames running.old.shadows ram.old) (S.frames running.new.shadows ram.new) }
     ensures left { running.new.lost.back ≡ false → entries_of (S.slots running.new.shadows ram.new) ≡ left_of running.new.lost.after (dropping worked.now.dropped (changed (entries_of (S.slots running.old.shadows ram.old)) state.now.changes)) }
     ensures wanted { wanted ≡ true → running.new.lost.back ≡ false }
-    ensures ready { (m : Setting) → m.frames ≡ state.now.control.frames
+    ensures ready { (m : Setting) → m.frames ≡ state.now.control.frames → count ≡ text_pages m.image → AreOpen m.image state.now.control.wp (S.slots running.old.shadows ram.old)
         → IsReadyBehind S.slots S.noted S.marked S.value S.asides (leaving worked.now.dropped (pages_of state.now.went state.now.changes)) m running.old.cpu running.old.shadows ram.old (changed (entries_of (S.slots running.old.shadows ram.old)) state.now.changes) state.now.tables state.now.wrote
         → IsReady S.slots S.noted S.marked S.value S.asides m running.new.cpu running.new.shadows ram.new
         × (running.new.lost.back ≡ true → AreFound m running.new.cpu (shown m ram.new) running.new.cpu.cr3 (S.noted running.new.shadows) (S.slots running.new.shadows ram.new)) }

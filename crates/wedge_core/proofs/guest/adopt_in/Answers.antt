@@ -10,7 +10,7 @@ use Rattle.frame_pool.proofs.Calls.{IsOut-same}
 use Rattle.frame_pool.proofs.Held.{Owns-none}
 use Rattle.sites.specs.Patched.{patched, AreInside}
 use Rattle.sites.specs.declared.site.Site.{Site}
-use Rattle.shadow_tables.specs.Slots.{held as held_by}
+use Rattle.shadow_cache.specs.Views as roots
 use Rattle.machine_model.specs.Run.{Set}
 use Rattle.machine_model.specs.State.{wedge}
 use Rattle.native_steps.specs.Stands.{shown}
@@ -95,7 +95,7 @@ returns-clause-held c =
     let free1 = free_list-above pool0 ram0 ram1 (4096 * n) behind above1 c.patch.ensures.len c.requires.stands in
     let ram2 = c.new-shadows.new.ram in
     let moves = c.new-shadows.ensures.moves in
-    let front = front_same n pool0 c.new-shadows.new.pool ram1 ram2 [] (held_by c.new-shadows.result ram2) c.requires.behind owned1 moves in
+    let front = front_same n pool0 c.new-shadows.new.pool ram1 ram2 [] (roots.frames c.new-shadows.result ram2) c.requires.behind owned1 moves in
     let m = ground image n in
     let e = ap length free1 in
     let count = c.free-free.ensures.count ram0 in
@@ -144,7 +144,7 @@ returns-clause-state c = λ script.
     let free1 = free_list-above pool0 ram0 ram1 (4096 * n) behind above1 c.patch.ensures.len c.requires.stands in
     let ram2 = c.new-shadows.new.ram in
     let moves = c.new-shadows.ensures.moves in
-    let front = front_same n pool0 c.new-shadows.new.pool ram1 ram2 [] (held_by c.new-shadows.result ram2) c.requires.behind owned1 moves in
+    let front = front_same n pool0 c.new-shadows.new.pool ram1 ram2 [] (roots.frames c.new-shadows.result ram2) c.requires.behind owned1 moves in
     let m = wedge image script n in
     let ram_is : shown m ram2 ≡ take (4096 * n) ram0 =
     shown_same m ram1 ram2 front ∙ (ap (shown m) is1 ∙ unpatched m ram0 patches long (omega (arith, text, fits)) room c.requires.text) in
@@ -170,7 +170,7 @@ returns-clause-pool c =
     let free1 = free_list-above pool0 ram0 ram1 (4096 * n) behind above1 c.patch.ensures.len c.requires.stands in
     let ram2 = c.new-shadows.new.ram in
     let moves = c.new-shadows.ensures.moves in
-    let front = front_same n pool0 c.new-shadows.new.pool ram1 ram2 [] (held_by c.new-shadows.result ram2) c.requires.behind owned1 moves in
+    let front = front_same n pool0 c.new-shadows.new.pool ram1 ram2 [] (roots.frames c.new-shadows.result ram2) c.requires.behind owned1 moves in
     record {
       same = moves.same;
       size = moves.size ∙ c.patch.ensures.len;

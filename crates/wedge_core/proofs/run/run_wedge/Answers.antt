@@ -1,5 +1,5 @@
 use Rattle.std.proofs.Common.{◌≡◌, ℕ, [], sym, subst, arith}
-use Rattle.shadow_tables.specs.Slots.{IsShadow, held as held_by, slot_at}
+use Rattle.shadow_cache.specs.Views as roots
 use Rattle.machine_model.specs.State.{boot, wedge}
 use Rattle.wedge_core.specs.Promises.{WedgeAnswers}
 use Rattle.wedge_core.specs.Slices.{Counts}
@@ -9,7 +9,7 @@ use Rattle.wedge_core.proofs.run.run_wedge.Goals as goal
 pub whole-requires-clause-held : goal.whole-requires-clause-held
 whole-requires-clause-held g c =
     let b = c.in-Ok.ensures.started.4 [] in
-    subst (λ (f : ℕ). IsHeld IsShadow held_by slot_at (ground c.args.image.now f) c.in-Ok.guest.running c.in-Ok.pool (g.H.Host.bytes c.start.new.host)) (sym b.held.frames_are) b.held
+    subst (λ (f : ℕ). IsHeld roots.stands roots.frames roots.slots (ground c.args.image.now f) c.in-Ok.guest.running c.in-Ok.pool (g.H.Host.bytes c.start.new.host)) (sym b.held.frames_are) b.held
 
 pub whole-requires-clause-able : goal.whole-requires-clause-able
 whole-requires-clause-able g c = let b = c.in-Ok.ensures.started.4 [] in b.able
@@ -24,7 +24,7 @@ whole-requires-clause-fits g c =
 pub whole-requires-clause-first : goal.whole-requires-clause-first
 whole-requires-clause-first g c =
     let b = c.in-Ok.ensures.started.4 c.args.script.now.list in
-    subst (λ (f : ℕ). state_of IsShadow held_by slot_at (wedge c.args.image.now c.args.script.now.list f) c.in-Ok.guest.running (g.H.Host.bytes c.start.new.host) ≡ boot (wedge c.args.image.now c.args.script.now.list f)) (sym b.held.frames_are) b.state
+    subst (λ (f : ℕ). state_of roots.stands roots.frames roots.slots (wedge c.args.image.now c.args.script.now.list f) c.in-Ok.guest.running (g.H.Host.bytes c.start.new.host) ≡ boot (wedge c.args.image.now c.args.script.now.list f)) (sym b.held.frames_are) b.state
 
 pub whole-requires-clause-enough : goal.whole-requires-clause-enough
 whole-requires-clause-enough g c =

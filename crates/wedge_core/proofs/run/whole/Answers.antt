@@ -3,7 +3,7 @@ use Rattle.pv_io.specs.Sink.{Appends, AppendsFront}
 use Rattle.run_trace.specs.declared.items.End.{End}
 use Rattle.run_trace.specs.Notes.{Note}
 use Rattle.run_trace.specs.Text.{end_line}
-use Rattle.shadow_tables.specs.Slots.{IsShadow, held as held_by, slot_at}
+use Rattle.shadow_cache.specs.Views as roots
 use Rattle.machine_model.specs.State.{State, wedge}
 use Rattle.wedge_core.specs.Noted.{NotesOn}
 use Rattle.wedge_core.specs.Promises.{WedgeAnswers, end_of}
@@ -32,8 +32,8 @@ returns-in-Err g c =
     let m = wedge c.args.image.now c.args.script.now.list f in
     let before : Counts = record { retired = g.H.Host.retired c.args.host.now; passed = g.H.Host.passed c.args.host.now } in
     let after : Counts = record { retired = g.H.Host.retired c.slice.new.host; passed = g.H.Host.passed c.slice.new.host } in
-    let old = state_of IsShadow held_by slot_at m c.args.guest.now.running (g.H.Host.bytes c.args.host.now) in
-    let new = state_of IsShadow held_by slot_at m c.slice.new.self.running (g.H.Host.bytes c.slice.new.host) in
+    let old = state_of roots.stands roots.frames roots.slots m c.args.guest.now.running (g.H.Host.bytes c.args.host.now) in
+    let new = state_of roots.stands roots.frames roots.slots m c.slice.new.self.running (g.H.Host.bytes c.slice.new.host) in
     let h = subst (λ (n : ℕ). SliceAs m n old new before after (g.O.Sink.taken c.args.out.now) (g.O.Sink.taken c.slice.new.out) fills filled no_notes (Err c.in-Err.field-0)) is c.in-Err.ensures.slice in
     record { whole = whole_front c.args.image.now c.args.script.now.list f c.args.n old new before after _ _ fills filled no_notes c.in-Err.field-0 _ _ (g.H.Host.bytes c.slice.new.host) c.requires.fits c.requires.first h c.in-Err.ensures.cause }
 
@@ -51,8 +51,8 @@ returns-in-Err-put_end g c =
     let memory = g.H.Host.bytes c.slice.new.host in
     let before : Counts = record { retired = g.H.Host.retired c.args.host.now; passed = g.H.Host.passed c.args.host.now } in
     let after : Counts = record { retired = g.H.Host.retired c.slice.new.host; passed = g.H.Host.passed c.slice.new.host } in
-    let old = state_of IsShadow held_by slot_at m c.args.guest.now.running (g.H.Host.bytes c.args.host.now) in
-    let new = state_of IsShadow held_by slot_at m c.slice.new.self.running memory in
+    let old = state_of roots.stands roots.frames roots.slots m c.args.guest.now.running (g.H.Host.bytes c.args.host.now) in
+    let new = state_of roots.stands roots.frames roots.slots m c.slice.new.self.running memory in
     let h = subst (λ (n : ℕ). SliceAs m n old new before after (g.O.Sink.taken c.args.out.now) (g.O.Sink.taken c.slice.new.out) fills filled no_notes (Ok pause)) is c.in-Ok.ensures.slice in
     let has = front_held pause image script f c.slice.new.self.running c.slice.new.pool memory c.in-Ok.ensures.held in
     let put = subst (λ (k : ℕ). AppendsFront (g.O.Sink.taken c.slice.new.out) (g.O.Sink.taken c.put_end.new.out) (end_line k (end_of pause))) c.step.ensures
@@ -73,8 +73,8 @@ returns-in-Ok-put_end g c =
     let memory = g.H.Host.bytes c.slice.new.host in
     let before : Counts = record { retired = g.H.Host.retired c.args.host.now; passed = g.H.Host.passed c.args.host.now } in
     let after : Counts = record { retired = g.H.Host.retired c.slice.new.host; passed = g.H.Host.passed c.slice.new.host } in
-    let old = state_of IsShadow held_by slot_at m c.args.guest.now.running (g.H.Host.bytes c.args.host.now) in
-    let new = state_of IsShadow held_by slot_at m c.slice.new.self.running memory in
+    let old = state_of roots.stands roots.frames roots.slots m c.args.guest.now.running (g.H.Host.bytes c.args.host.now) in
+    let new = state_of roots.stands roots.frames roots.slots m c.slice.new.self.running memory in
     let h = subst (λ (n : ℕ). SliceAs m n old new before after (g.O.Sink.taken c.args.out.now) (g.O.Sink.taken c.slice.new.out) fills filled no_notes (Ok pause)) is c.in-Ok.ensures.slice in
     let has = front_held pause image script f c.slice.new.self.running c.slice.new.pool memory c.in-Ok.ensures.held in
     let put = subst (λ (k : ℕ). Appends (g.O.Sink.taken c.slice.new.out) (g.O.Sink.taken c.put_end.new.out) (end_line k (end_of pause))) c.step.ensures
