@@ -70,16 +70,16 @@ any_same s t (f ∷ fs) h = ap (λ (b : Bool). b || any_of t fs) (h f) ∙ ap (�
 -- a frame that a guest has
 among_guest : (tables : List ℕ) (f : ℕ) → is_among f tables ≡ true → f < 16384 → is_among f (guest_frames tables) ≡ true
 among_guest [] f a lt = a
-among_guest (x ∷ xs) f a lt = by (nat_le 16384 x) refl
+among_guest (x ∷ xs) f a lt = by (nat_le 16384 x) refl (λ h. among_guest xs f h lt)
   where
-    by : (b : Bool) → nat_le 16384 x ≡ b → is_among f (cond (not b) (x ∷ guest_frames xs) (guest_frames xs)) ≡ true
-    by true e = elim (eqb_tells f x) [
+    by : (b : Bool) → nat_le 16384 x ≡ b → (is_among f xs ≡ true → is_among f (guest_frames xs) ≡ true) → is_among f (cond (not b) (x ∷ guest_frames xs) (guest_frames xs)) ≡ true
+    by true e rest = elim (eqb_tells f x) [
       | inl t ↦ let same = t.1 in absurd (let le : 16384 ≤ x = grind (arith, nat_tests, e) in omega (arith, same, le, lt))
-      | inr n ↦ among_guest xs f (sym (or_false (f == x) (is_among f xs) n.0) ∙ a) lt
+      | inr n ↦ rest (sym (or_false (f == x) (is_among f xs) n.0) ∙ a)
     ]
-    by false e = elim (eqb_tells f x) [
+    by false e rest = elim (eqb_tells f x) [
       | inl t ↦ ap (λ (b : Bool). b || is_among f (guest_frames xs)) t.0
-      | inr n ↦ ap (λ (b : Bool). b || is_among f (guest_frames xs)) n.0 ∙ among_guest xs f (sym (or_false (f == x) (is_among f xs) n.0) ∙ a) lt
+      | inr n ↦ ap (λ (b : Bool). b || is_among f (guest_frames xs)) n.0 ∙ rest (sym (or_false (f == x) (is_among f xs) n.0) ∙ a)
     ]
 
 module _ (noted : ℕ → Bool) (tables wrote : List ℕ) (low : (frame : ℕ) → Contains tables frame → frame < 16384) (none : any_of (read_by noted tables) wrote ≡ false) where
@@ -109,6 +109,9 @@ aside_behind wrote m cpu ram then a room follows none h = record {
   open_to = h.open_to;
 }
 
+shed : (a b : Aside) → IsSame a b → Sheds a b
+shed a b k = record { cr3 = k.cr3; tables = k.tables; slots = λ page lt. within-same (b.slots page) (a.slots page) (k.slots page lt) }
+
 pub asides_behind : (wrote : List ℕ) (m : Setting) (cpu : Cpu) (ram then : List ℕ) (olds news : List Aside) → 4096 * m.frames ≤ length ram → MemoryFollows wrote ram then → AreSame olds news
     → AreReady m cpu ram olds → AreReadyBehind wrote m cpu then news
 asides_behind wrote m cpu ram then [] [] room follows same h = tt
@@ -119,10 +122,6 @@ asides_behind wrote m cpu ram then (o ∷ os) (n ∷ ns) room follows same h = (
       ready_shed m cpu then o n (shed o n same.0) (aside_behind wrote m cpu ram then o room follows (sym (any_same o.tables n.tables wrote same.0.tables) ∙ none) h.0),
   asides_behind wrote m cpu ram then os ns room follows same.1 h.1,
 )
-  where
-    shed : (a b : Aside) → IsSame a b → Sheds a b
-    unfolding AllWithin
-    shed a b k = record { cr3 = k.cr3; tables = k.tables; slots = λ page lt. within-same (b.slots page) (a.slots page) (k.slots page lt) }
 
 module _ {S : Type 0} (slots : S → List ℕ → ℕ → Option Slot) (noted : S → ℕ → Bool) (marked : S → Bool) (value : S → Option ℕ) (asides : S → List ℕ → List Aside) where
   -- what a step's memory stands for before its first access and behind its last
@@ -202,33 +201,33 @@ module _ {S : Type 0} (slots : S → List ℕ → ℕ → Option Slot) (noted : 
   -- the frames of these tables are as they were
   module _ (m : Setting) (ram then : List ℕ) (size : length then ≡ length ram) (room : 4096 * m.frames ≤ length ram) (long : length ram ≤ 4096 * m.frames) where
     -- the guest's frames of which the test doesn't hold
-    unheld : (ℕ → Bool) → ℕ → List ℕ
+    abbrev pub unheld : (ℕ → Bool) → ℕ → List ℕ
     unheld tables zero = []
     unheld tables (suc n) = cond (tables n) (unheld tables n) (n ∷ unheld tables n)
 
     among_unheld : (tables : ℕ → Bool) (n f : ℕ) → is_among f (unheld tables n) ≡ true → tables f ≡ false
     among_unheld tables zero f a = absurd (clash false a refl)
-    among_unheld tables (suc n) f a = by (tables n) refl a
+    among_unheld tables (suc n) f a = by (tables n) refl a (λ x. among_unheld tables n f x)
       where
-        by : (b : Bool) → tables n ≡ b → is_among f (cond b (unheld tables n) (n ∷ unheld tables n)) ≡ true → tables f ≡ false
-        by true e x = among_unheld tables n f x
-        by false e x = elim (eqb_tells f n) [
+        by : (b : Bool) → tables n ≡ b → is_among f (cond b (unheld tables n) (n ∷ unheld tables n)) ≡ true → (is_among f (unheld tables n) ≡ true → tables f ≡ false) → tables f ≡ false
+        by true e x rest = rest x
+        by false e x rest = elim (eqb_tells f n) [
           | inl t ↦ ap tables t.1 ∙ e
-          | inr o ↦ among_unheld tables n f (sym (or_false (f == n) (is_among f (unheld tables n)) o.0) ∙ x)
+          | inr o ↦ rest (sym (or_false (f == n) (is_among f (unheld tables n)) o.0) ∙ x)
         ]
 
     is_unheld : (tables : ℕ → Bool) (n f : ℕ) → f < n → tables f ≡ false → is_among f (unheld tables n) ≡ true
     is_unheld tables zero f lt e = absurd (omega (arith, lt))
-    is_unheld tables (suc n) f lt e = by (tables n) refl
+    is_unheld tables (suc n) f lt e = by (tables n) refl (λ l. is_unheld tables n f l e)
       where
-        by : (b : Bool) → tables n ≡ b → is_among f (cond b (unheld tables n) (n ∷ unheld tables n)) ≡ true
-        by true t = elim (cases_lt f n) [
-          | inl l ↦ is_unheld tables n f l e
-          | inr g ↦ absurd (clash (tables n) t (let same : f ≡ n = omega (arith, lt, g) in ap tables (sym same) ∙ e))
+        by : (b : Bool) → tables n ≡ b → (f < n → is_among f (unheld tables n) ≡ true) → is_among f (cond b (unheld tables n) (n ∷ unheld tables n)) ≡ true
+        by true t rest = elim (cases_lt f n) [
+          | inl l ↦ rest l
+          | inr g ↦ absurd (clash (tables n) t (let same : n ≡ f = omega (arith, lt, g) in ap tables same ∙ e))
         ]
-        by false t = elim (eqb_tells f n) [
+        by false t rest = elim (eqb_tells f n) [
           | inl s ↦ ap (λ (b : Bool). b || is_among f (unheld tables n)) s.0
-          | inr o ↦ ap (λ (b : Bool). b || is_among f (unheld tables n)) o.0 ∙ is_unheld tables n f (let x = o.1 in elim (cases_lt f n) [ inl l ↦ l | inr g ↦ absurd (x (omega (arith, lt, g))) ]) e
+          | inr o ↦ ap (λ (b : Bool). b || is_among f (unheld tables n)) o.0 ∙ rest (elim (cases_lt f n) [ inl l ↦ l | inr g ↦ absurd (o.1 (omega (arith, lt, g))) ])
         ]
 
     pub untouched : (tables : ℕ → Bool) → ((at : ℕ) → at % 4 ≡ 0 → at + 4 ≤ length ram → tables (at / 4096) ≡ true → word32 then at ≡ word32 ram at) → MemoryFollows (unheld tables m.frames) ram then

@@ -2,7 +2,7 @@
 use Rattle.std.proofs.Common.{◌≡◌, ◌⊎◌, ℕ, ◌==◌, ◌+◌, ◌^◌, ◌<◌, ◌≤◌, List, [], ◌∷◌, ◌++◌, length, take, take-suc, get_or, add-one, Bool, true, false, ◌||◌, Option, None, refl, sym, ap, subst, ◌∙◌, inl, inr, arith}
 use Rattle.std.proofs.lemmas.List.{take_all}
 use Rattle.std.proofs.lemmas.Bool.Decides.{eqb_tells}
-use Rattle.shadow_tables.specs.Slots.{Slot, is_among, Turns}
+use Rattle.shadow_tables.specs.Slots.{Slot, is_among}
 
 among_last : (x : ℕ) (xs : List ℕ) (y : ℕ) → is_among x (xs ++ y ∷ []) ≡ true → (is_among x xs ≡ true) ⊎ (x ≡ y)
 among_last x [] y h = elim (eqb_tells x y) [ inl t ↦ inr t.1 | inr n ↦ absurd (let z : false ≡ true = sym (ap (λ (b : Bool). b || false) n.0) ∙ h in cc) ]
@@ -24,22 +24,20 @@ none_before x xs h = let z : false ≡ true = h in cc
 pub all_before : (x : ℕ) (xs : List ℕ) (i : ℕ) → length xs ≤ i → is_among x xs ≡ true → is_among x (take i xs) ≡ true
 all_before x xs i l h = ap (is_among x) (take_all i xs l) ∙ h
 
-module _ (old mid new : ℕ → Option Slot) (xs : List ℕ) (i : ℕ) (l : i < length xs) where
-  -- the next page is dropped
-  pub next_gone : Turns mid new (get_or xs i 0) None → ((page : ℕ) → page < 2 ^ 20 → is_among page (take i xs) ≡ true → mid page ≡ None) → (page : ℕ) → page < 2 ^ 20 → is_among page (take (i + 1) xs) ≡ true → new page ≡ None
-  next_gone t before page lt h =
-      elim (eqb_tells page (get_or xs i 0)) [
-        | inl e ↦ ap new e.1 ∙ t.there
-        | inr n ↦ elim (among_next page xs i l h) [ inl k ↦ t.others page lt n.1 ∙ before page lt k | inr e ↦ absurd (n.1 e) ]
-      ]
+module _ (old mid new : ℕ → Option Slot) (xs : List ℕ) (i : ℕ) (l : i < length xs) (there : get_or xs i 0 < 2 ^ 20 → new (get_or xs i 0) ≡ None)
+    (rest : (other : ℕ) → other < 2 ^ 20 → (other ≡ get_or xs i 0 → ⊥) → new other ≡ mid other)
+  where
+    -- the next page is dropped
+    pub next_gone : ((page : ℕ) → page < 2 ^ 20 → is_among page (take i xs) ≡ true → mid page ≡ None) → (page : ℕ) → page < 2 ^ 20 → is_among page (take (i + 1) xs) ≡ true → new page ≡ None
+    next_gone before page lt h =
+        elim (eqb_tells page (get_or xs i 0)) [
+          | inl e ↦ let same = e.1 in ap new same ∙ there (omega (arith, same, lt))
+          | inr n ↦ elim (among_next page xs i l h) [ inl k ↦ rest page lt n.1 ∙ before page lt k | inr e ↦ absurd (n.1 e) ]
+        ]
 
-  pub next_others : Turns mid new (get_or xs i 0) None → ((page : ℕ) → page < 2 ^ 20 → (mid page ≡ None) ⊎ (mid page ≡ old page)) → (page : ℕ) → page < 2 ^ 20 → (new page ≡ None) ⊎ (new page ≡ old page)
-  next_others t before page lt =
-      elim (eqb_tells page (get_or xs i 0)) [
-        | inl e ↦ inl (ap new e.1 ∙ t.there)
-        | inr n ↦ elim (before page lt) [ inl none ↦ inl (t.others page lt n.1 ∙ none) | inr same ↦ inr (t.others page lt n.1 ∙ same) ]
-      ]
-
-  -- or it is none of the address space
-  pub next_beyond : 2 ^ 20 ≤ get_or xs i 0 → ((page : ℕ) → page < 2 ^ 20 → is_among page (take i xs) ≡ true → mid page ≡ None) → (page : ℕ) → page < 2 ^ 20 → is_among page (take (i + 1) xs) ≡ true → mid page ≡ None
-  next_beyond far before page lt h = elim (among_next page xs i l h) [ inl k ↦ before page lt k | inr e ↦ absurd (omega (arith, e, far, lt)) ]
+    pub next_others : ((page : ℕ) → page < 2 ^ 20 → (mid page ≡ None) ⊎ (mid page ≡ old page)) → (page : ℕ) → page < 2 ^ 20 → (new page ≡ None) ⊎ (new page ≡ old page)
+    next_others before page lt =
+        elim (eqb_tells page (get_or xs i 0)) [
+          | inl e ↦ let same = e.1 in inl (ap new same ∙ there (omega (arith, same, lt)))
+          | inr n ↦ elim (before page lt) [ inl none ↦ inl (rest page lt n.1 ∙ none) | inr was ↦ inr (rest page lt n.1 ∙ was) ]
+        ]

@@ -1,5 +1,5 @@
 -- What a view may show, when slots change.
-use Rattle.std.proofs.Common.{◌≡◌, ℕ, ◌/◌, ◌<◌, ◌^◌, Bool, true, false, ◌&&◌, not, inl, inr, refl, sym, ap, subst, ◌∙◌, Option, Some, None, List, arith}
+use Rattle.std.proofs.Common.{◌≡◌, ◌⊎◌, ℕ, ◌/◌, ◌<◌, ◌^◌, Bool, true, false, ◌&&◌, not, inl, inr, refl, sym, ap, subst, ◌∙◌, Option, Some, None, List, arith}
 use Rattle.std.specs.Prelude.{nat_le, ◌==◌}
 use Rattle.std.proofs.lemmas.Bool.Decides.{nat_tests, eqb_tells}
 use Rattle.std.specs.Option.{ForSome}
@@ -115,3 +115,11 @@ lost_open image wp old new index t h page lt =
 -- what is kept stays the same
 pub same_open : (image : Image) (wp : Bool) (old new : ℕ → Option Slot) → ((page : ℕ) → page < 2 ^ 20 → new page ≡ old page) → AreOpen image wp old → AreOpen image wp new
 same_open image wp old new same h page lt = subst (λ (o : Option Slot). ForSome o (IsOpenSlot image wp)) (sym (same page lt)) (h page lt)
+
+-- some of it is gone
+pub some_open : (image : Image) (wp : Bool) (old new : ℕ → Option Slot) → ((page : ℕ) → page < 2 ^ 20 → (new page ≡ None) ⊎ (new page ≡ old page)) → AreOpen image wp old → AreOpen image wp new
+some_open image wp old new each h page lt =
+    elim (each page lt) [
+      | inl none ↦ λ slot e. absurd (none_some slot (sym none ∙ e))
+      | inr same ↦ subst (λ (o : Option Slot). ForSome o (IsOpenSlot image wp)) (sym same) (h page lt)
+    ]

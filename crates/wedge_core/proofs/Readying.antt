@@ -128,7 +128,6 @@ module _ {S : Type 0} (slots : S → List ℕ → ℕ → Option Slot) (noted : 
 
   put_none : (s : S) (memory : List ℕ) → ((page : ℕ) → page < 2 ^ 20 → slots s memory page ≡ None) → asides s memory ≡ []
       → Each (λ (a : Aside). (page : ℕ) → page < 2 ^ 20 → a.slots page ≡ None) (put_by (value s) (marked s) (noted s) (slots s memory) (asides s memory))
-  unfolding Each
   put_none s memory none alone = by (value s) (marked s)
     where
       P : Aside → Type 0

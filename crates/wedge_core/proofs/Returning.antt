@@ -6,7 +6,9 @@ use Rattle.std.specs.FinMap.{get, len}
 use Rattle.descriptors.specs.Controls.{pse_of}
 use Rattle.descriptors.specs.declared.cpu.Cpu.{Cpu}
 use Rattle.paging.specs.declared.entry.Entry.{Entry}
-use Rattle.shadow_tables.specs.Aside.{Aside, AreSame}
+use Rattle.shadow_tables.specs.Aside.{Aside}
+use Rattle.shadow_tables.specs.Calls.{IsWithin}
+use Rattle.shadow_tables.proofs.Lists.{within-same}
 use Rattle.shadow_tables.specs.Entries.{entries_of}
 use Rattle.shadow_tables.specs.Laws.Entries.{get-entries_of, none-entries_of}
 use Rattle.shadow_tables.specs.Slots.{Slot, entry_in}
@@ -82,6 +84,24 @@ fewer_pages old new olds news part shed =
     let few = part_few new old part in
     let same = shed_pages olds news shed in
     omega (arith, few, same)
+
+-- a slot that is gone or as it was
+pub some_part : (old new : ℕ → Option Slot) → ((page : ℕ) → page < 2 ^ 20 → (new page ≡ None) ⊎ (new page ≡ old page)) → IsPartOf (entries_of new) (entries_of old)
+some_part old new each = record {
+  each = λ page e is.
+      elim (cases_lt page (2 ^ 20)) [
+        | inl lt ↦ elim (each page lt) [
+          | inl none ↦ absurd (none_some e (sym (get-entries_of new page lt ∙ ap entry_in none) ∙ is))
+          | inr same ↦ get-entries_of old page lt ∙ (sym (get-entries_of new page lt ∙ ap entry_in same) ∙ is)
+        ]
+        | inr ge ↦ absurd (none_some e (sym (none-entries_of new page ge) ∙ is))
+      ];
+}
+
+pub chosen_out : (b : Bool) (new old : Option Slot) → (b ≡ true → new ≡ None) → (new ≡ None) ⊎ (new ≡ old) → (new ≡ None) ⊎ ((b ≡ false) × IsWithin new old)
+chosen_out true new old gone each = inl (gone refl)
+chosen_out false new old gone (inl none) = inl none
+chosen_out false new old gone (inr same) = inr (refl, within-same new old same)
 
 -- ---- under the same rules, and with less left out
 

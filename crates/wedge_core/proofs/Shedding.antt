@@ -25,7 +25,7 @@ use Rattle.wedge_core.proofs.Opening.{some_is, within_open, none_open}
 
 -- ---- slots with fewer rights
 
-pub AllWithin : (new old : ℕ → Option Slot) → Type 0
+abbrev pub AllWithin : (new old : ℕ → Option Slot) → Type 0
 AllWithin new old = (page : ℕ) → page < 2 ^ 20 → IsWithin (new page) (old page)
 
 within_entry : (a b : Option Slot) → IsWithin a b → entry_in a ≡ entry_in b
@@ -35,7 +35,6 @@ within_entry (Some a) None w = absurd w
 within_entry (Some a) (Some b) w = ap (λ (e : Entry). Some e) w.1
 
 pub within_entries : (new old : ℕ → Option Slot) → AllWithin new old → entries_of new ≡ entries_of old
-unfolding AllWithin
 within_entries new old h = same_map nat_cmp_total nat_cmp-IsAntisymmetric (entries_of new) (entries_of old) (λ q. elim (cases_lt q (2 ^ 20)) [
   | inl l ↦ get-entries_of new q l ∙ (within_entry (new q) (old q) (h q l) ∙ sym (get-entries_of old q l))
   | inr g ↦ none-entries_of new q g ∙ sym (none-entries_of old q g)
@@ -63,7 +62,6 @@ found_tables ram frames cr3 pse tables more page e h f = record {
 module _ (m : Setting) (cpu : Cpu) (ram : List ℕ) where
   pub found_within : (cr3 value : ℕ) (tables more : ℕ → Bool) (new old : ℕ → Option Slot) → value ≡ cr3 → ((f : ℕ) → tables f ≡ true → more f ≡ true) → AllWithin new old
       → AreFound m cpu ram cr3 tables old → AreFound m cpu ram value more new
-  unfolding AllWithin
   found_within cr3 value tables more new old is wider w h page lt =
       let P = λ (e : Entry). IsFoundBy ram m.frames value (Rattle.descriptors.specs.Controls.pse_of cpu) more page e in
       some_within P (new page) (old page) (w page lt) (λ slot e.
@@ -77,25 +75,22 @@ pub record Sheds (old new : Aside) : Type 0 where
   pub tables : (f : ℕ) → new.tables f ≡ old.tables f
   pub slots : AllWithin new.slots old.slots
 
-pub AllShed : List Aside → List Aside → Type 0
+abbrev pub AllShed : List Aside → List Aside → Type 0
 AllShed [] [] = Unit {0}
 AllShed [] (n ∷ ns) = ⊥
 AllShed (o ∷ os) [] = ⊥
 AllShed (o ∷ os) (n ∷ ns) = Sheds o n × AllShed os ns
 
 is_shed : (old new : Aside) → IsSame old new → Sheds old new
-unfolding AllWithin
 is_shed old new h = record { cr3 = h.cr3; tables = h.tables; slots = λ page lt. within-same (new.slots page) (old.slots page) (h.slots page lt) }
 
 pub same_shed : (olds news : List Aside) → AreSame olds news → AllShed olds news
-unfolding AllShed
 same_shed [] [] h = tt
 same_shed [] (n ∷ ns) h = h
 same_shed (o ∷ os) [] h = h
 same_shed (o ∷ os) (n ∷ ns) h = (is_shed o n h.0, same_shed os ns h.1)
 
 pub lost_shed : (frames : List ℕ) (olds news : List Aside) → LoseWrites frames olds news → AllShed olds news
-unfolding AllShed AllWithin
 lost_shed frames [] [] h = tt
 lost_shed frames [] (n ∷ ns) h = h
 lost_shed frames (o ∷ os) [] h = h
@@ -104,7 +99,6 @@ lost_shed frames (o ∷ os) (n ∷ ns) h =
 
 -- as many pages
 pub shed_pages : (olds news : List Aside) → AllShed olds news → pages_aside news ≡ pages_aside olds
-unfolding AllShed
 shed_pages [] [] h = refl
 shed_pages [] (n ∷ ns) h = absurd h
 shed_pages (o ∷ os) [] h = absurd h
@@ -114,7 +108,6 @@ shed_pages (o ∷ os) (n ∷ ns) h =
     omega (arith, here, rest)
 
 pub open_shed : (image : Image) (wp : Bool) (olds news : List Aside) → AllShed olds news → AllOpen image wp olds → AllOpen image wp news
-unfolding AllShed AllWithin
 open_shed image wp [] [] h a = tt
 open_shed image wp [] (n ∷ ns) h a = absurd h
 open_shed image wp (o ∷ os) [] h a = absurd h
@@ -139,14 +132,12 @@ spared_pages wrote (a ∷ asides) = if_pages (not (any_of a.tables wrote)) a (al
 
 module _ (m : Setting) (cpu : Cpu) (ram : List ℕ) where
   pub ready_shed : (old new : Aside) → Sheds old new → IsReadyAside m cpu ram old → IsReadyAside m cpu ram new
-  unfolding AllWithin
   ready_shed old new s h = record {
     found = found_within m cpu ram old.cr3 new.cr3 old.tables new.tables new.slots old.slots s.cr3 (λ f e. s.tables f ∙ e) s.slots h.found;
     open_to = λ page lt. within_open m.image (wp_of cpu) (new.slots page) (old.slots page) (s.slots page lt) (h.open_to page lt);
   }
 
   pub all_ready_shed : (olds news : List Aside) → AllShed olds news → AreReady m cpu ram olds → AreReady m cpu ram news
-  unfolding AllShed
   all_ready_shed [] [] h a = tt
   all_ready_shed [] (n ∷ ns) h a = absurd h
   all_ready_shed (o ∷ os) [] h a = absurd h
@@ -214,23 +205,20 @@ put_by_pages (Some cr3) false tables slots asides = omega arith
 
 -- what is said of each value is said of the one that comes, and of those beside it
 module _ (P : Aside → Type 0) where
-  pub Each : List Aside → Type 0
+  abbrev pub Each : List Aside → Type 0
   Each [] = Unit {0}
   Each (a ∷ asides) = P a × Each asides
 
   each_taken : (n : ℕ) (asides : List Aside) → Each asides → Each (take n asides)
-  unfolding Each
   each_taken zero asides h = tt
   each_taken (suc n) [] h = tt
   each_taken (suc n) (a ∷ asides) h = (h.0, each_taken n asides h.1)
 
   one_but : (b : Bool) (a : Aside) (asides rest : List Aside) → P a → Each asides → Each rest → Each (cond b asides (a ∷ rest))
-  unfolding Each
   one_but true a asides rest h all k = all
   one_but false a asides rest h all k = (h, k)
 
   each_but : (cr3 : ℕ) (asides : List Aside) → Each asides → Each (but_cr3 cr3 asides)
-  unfolding Each
   each_but cr3 [] h = tt
   each_but cr3 (a ∷ asides) h = one_but (a.cr3 == cr3) a asides (but_cr3 cr3 asides) h.0 h.1 (each_but cr3 asides h.1)
 
@@ -246,7 +234,6 @@ module _ (P : Aside → Type 0) where
   one_of cr3 false a o h k = k
 
   pub each_coming : (cr3 : ℕ) (asides : List Aside) → P (begun cr3) → Each asides → P (coming cr3 asides)
-  unfolding Each
   each_coming cr3 [] none h = none
   each_coming cr3 (a ∷ asides) none h = one_of cr3 (a.cr3 == cr3) a (of_cr3 cr3 asides) h.0 (each_coming cr3 asides none h.1)
 
@@ -267,16 +254,13 @@ module _ (m : Setting) (cpu : Cpu) (ram : List ℕ) where
   }
 
   pub ready_each : (asides : List Aside) → AreReady m cpu ram asides → Each (IsReadyAside m cpu ram) asides
-  unfolding Each
   ready_each [] h = tt
   ready_each (a ∷ asides) h = (h.0, ready_each asides h.1)
 
   pub each_ready : (asides : List Aside) → Each (IsReadyAside m cpu ram) asides → AreReady m cpu ram asides
-  unfolding Each
   each_ready [] h = tt
   each_ready (a ∷ asides) h = (h.0, each_ready asides h.1)
 
 pub open_each : (image : Image) (wp : Bool) (asides : List Aside) → AllOpen image wp asides → Each (λ (a : Aside). AreOpen image wp a.slots) asides
-unfolding Each
 open_each image wp [] h = tt
 open_each image wp (a ∷ asides) h = (h.0, open_each image wp asides h.1)

@@ -1,6 +1,6 @@
 //! The end of a step, for what is kept of the translations.
 
-ghost use Rattle.std.specs.Prelude.{◌≡◌, ◌⊎◌, ℕ, List, Bool, true, false, ◌+◌, ◌*◌, ◌≤◌, ◌<◌, ◌^◌, length, is_none, IfSome, None};
+ghost use Rattle.std.specs.Prelude.{◌≡◌, ◌⊎◌, ℕ, List, Bool, true, false, ◌+◌, ◌*◌, ◌≤◌, ◌<◌, ◌^◌, length, is_none, IfSome, None, []};
 ghost use Rattle.std.specs.FinMap.{empty};
 ghost use Rattle.frame_pool.specs.Held.{Owns, Moves};
 ghost use Rattle.frame_pool.specs.Pool.{base_of, free_list};
@@ -115,6 +115,23 @@ fn is_all(dropped: Dropped) -> bool
     }
 }
 
+/// Drops a page, if it is one of the address space.
+fn drop_one<S: Shadows>(shadows: &mut S, ram: &mut Ram, page: u32)
+    requires stands { ∥ S.stands shadows.old ram.old ∥₁ }
+    ensures stands { ∥ S.stands shadows.new ram.new ∥₁ }
+    ensures gone { page < 2 ^ 20 → S.slots shadows.new ram.new page ≡ None }
+    ensures others { (other : ℕ) → other < 2 ^ 20 → (other ≡ page → ⊥) → S.slots shadows.new ram.new other ≡ S.slots shadows.old ram.old other }
+    ensures noted { (f : ℕ) → S.noted shadows.new f ≡ S.noted shadows.old f }
+    ensures marked { S.marked shadows.new ≡ S.marked shadows.old }
+    ensures value { S.value shadows.new ≡ S.value shadows.old }
+    ensures asides { AreSame (S.asides shadows.old ram.old) (S.asides shadows.new ram.new) }
+    ensures moves { (p : Pool) → Owns p ram.old (S.frames shadows.old ram.old) → Moves p p ram.old ram.new (S.frames shadows.old ram.old) (S.frames shadows.new ram.new) }
+{
+    if page < 0x10_0000 {
+        shadows.drop_page(ram, page);
+    }
+}
+
 /// Drops pages, of which some may be none of the address space.
 fn drop_pages<S: Shadows>(shadows: &mut S, ram: &mut Ram, pages: &[u32])
     requires stands { ∥ S.stands shadows.old ram.old ∥₁ }
@@ -128,9 +145,37 @@ fn drop_pages<S: Shadows>(shadows: &mut S, ram: &mut Ram, pages: &[u32])
     ensures moves { (p : Pool) → Owns p ram.old (S.frames shadows.old ram.old) → Moves p p ram.old ram.new (S.frames shadows.old ram.old) (S.frames shadows.new ram.new) }
 {
     for page in pages {
-        if *page < 0x10_0000 {
-            shadows.drop_page(ram, *page);
-        }
+        drop_one(shadows, ram, *page);
+    }
+}
+
+/// Before CR3 is loaded these pages are dropped. Where notes are wanted, or frames lack, all is dropped.
+fn make_way<S: Shadows>(
+    shadows: &mut S,
+    pool: &mut Pool,
+    ram: &mut Ram,
+    pages: &[u32],
+    wanted: bool,
+)
+    requires stands { ∥ S.stands shadows.old ram.old ∥₁ }
+    requires owns { Owns pool.old ram.old (S.frames shadows.old ram.old) }
+    requires enough { 4 ≤ length (free_list pool.old ram.old) + length (S.frames shadows.old ram.old) }
+    ensures stands { ∥ S.stands shadows.new ram.new ∥₁ }
+    ensures owns { Owns pool.new ram.new (S.frames shadows.new ram.new) }
+    ensures moves { Moves pool.old pool.new ram.old ram.new (S.frames shadows.old ram.old) (S.frames shadows.new ram.new) }
+    ensures room { 2 ≤ length (free_list pool.new ram.new) }
+    ensures none { wanted ≡ true → (page : ℕ) → page < 2 ^ 20 → S.slots shadows.new ram.new page ≡ None }
+    ensures alone { wanted ≡ true → S.asides shadows.new ram.new ≡ [] }
+    ensures fewer { pages_kept S.slots S.asides shadows.new ram.new ≤ pages_kept S.slots S.asides shadows.old ram.old }
+    ensures shows { (image : Image) (wp : Bool) → AreOpen image wp (S.slots shadows.old ram.old) → AreOpen image wp (S.slots shadows.new ram.new) }
+    ensures opens { (image : Image) (wp : Bool) → AllOpen image wp (S.asides shadows.old ram.old) → AllOpen image wp (S.asides shadows.new ram.new) }
+    ensures ready { (m : Setting) (cpu : Cpu) → m.frames ≤ base_of pool.old → IsReadyBut S.slots S.noted S.marked S.value S.asides (λ page. is_among page pages.now) m cpu shadows.old ram.old
+        → IsReady S.slots S.noted S.marked S.value S.asides m cpu shadows.new ram.new }
+{
+    if wanted || pool.free() < 2 {
+        shadows.drop_all(ram, pool);
+    } else {
+        drop_pages(shadows, ram, pages);
     }
 }
 
@@ -157,11 +202,7 @@ fn load<S: Reloads>(
         → AreOpen m.image (wp_of before) (S.slots shadows.old ram.old) → IsReadyBut S.slots S.noted S.marked S.value S.asides (λ page. is_among page pages.now) m before shadows.old ram.old
         → IsReady S.slots S.noted S.marked S.value S.asides m after shadows.new ram.new × AreFound m after (shown m ram.new) cr3 (S.noted shadows.new) (S.slots shadows.new ram.new) }
 {
-    if wanted || pool.free() < 2 {
-        shadows.drop_all(ram, pool);
-    } else {
-        drop_pages(shadows, ram, pages);
-    }
+    make_way(shadows, pool, ram, pages, wanted);
     shadows.switch(ram, pool, cr3);
 }
 

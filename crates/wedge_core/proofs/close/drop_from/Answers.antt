@@ -3,8 +3,9 @@ use Rattle.std.proofs.Common.{◌≡◌, ◌⊎◌, ℕ, ◌/◌, ◌<◌, ◌^�
 use Rattle.std.proofs.lemmas.Bool.Decides.{eqb_tells}
 use Rattle.shadow_tables.specs.Calls.{IsWithin}
 use Rattle.shadow_tables.proofs.Lists.{within-same}
+use Rattle.machine_step.specs.declared.worked.Dropped.{Dropped}
 use Rattle.machine_step.specs.declared.worked.Dropped.TheVariants as dropped
-use Rattle.wedge_core.specs.Ready.{AllOpen, leaving}
+use Rattle.wedge_core.specs.Ready.{AllOpen, IsReadyBut, leaving}
 use Rattle.wedge_core.proofs.Memories.{front_same, shown_same}
 use Rattle.wedge_core.proofs.Opening.{none_open, turned_open, lost_open}
 use Rattle.wedge_core.proofs.Parts.{part_join, part_same, dropped_part}
@@ -60,7 +61,8 @@ returns-in-Page-clause-ready g c = λ m cpu pages low all h.
       | inl e ↦ inl (subst (λ (k : ℕ). g.S.Shadows.slots c.drop_page.new.self c.drop_page.new.ram k ≡ None) (sym e.1) c.drop_page.ensures.turns.there)
       | inr n ↦ inr (n.0, within-same _ _ (c.drop_page.ensures.turns.others page lt n.1))
     ])
-    (same_shed _ _ c.drop_page.ensures.asides) (shown_same m c.args.ram.now c.drop_page.new.ram front) h
+    (same_shed _ _ c.drop_page.ensures.asides) (shown_same m c.args.ram.now c.drop_page.new.ram front)
+    (subst (λ (d : Dropped). IsReadyBut g.S.Shadows.slots g.S.Shadows.noted g.S.Shadows.marked g.S.Shadows.value g.S.Shadows.asides (leaving d pages) m cpu c.args.shadows.now c.args.ram.now) c.in-Page.is h)
 
 pub returns-in-Dir-clause-ready : goal.returns-in-Dir-clause-ready
 returns-in-Dir-clause-ready g c = λ m cpu pages low all h.
@@ -72,7 +74,8 @@ returns-in-Dir-clause-ready g c = λ m cpu pages low all h.
       | inl e ↦ inl (c.drop_dir.ensures.loses.gone page lt e.1)
       | inr n ↦ inr (n.0, within-same _ _ (c.drop_dir.ensures.loses.others page lt n.1))
     ])
-    (same_shed _ _ c.drop_dir.ensures.asides) (shown_same m c.args.ram.now c.drop_dir.new.ram front) h
+    (same_shed _ _ c.drop_dir.ensures.asides) (shown_same m c.args.ram.now c.drop_dir.new.ram front)
+    (subst (λ (d : Dropped). IsReadyBut g.S.Shadows.slots g.S.Shadows.noted g.S.Shadows.marked g.S.Shadows.value g.S.Shadows.asides (leaving d pages) m cpu c.args.shadows.now c.args.ram.now) c.in-Dir.is h)
 
 pub returns-in-All-clause-opens : goal.returns-in-All-clause-opens
 returns-in-All-clause-opens g c = λ image wp h. subst (AllOpen image wp) (sym c.drop_all.ensures.asides) tt
