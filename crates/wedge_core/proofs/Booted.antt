@@ -53,7 +53,7 @@ front_stands image frames count old new same is =
     let e : 4096 * frames ≡ frames * 4096 = omega arith in
     frames_same frames old new (λ g l. same.others g (inl l)) ∙ (ap (λ k. take k old) e ∙ is)
 
-part_front : (l : List ℕ) (n a k : ℕ) → a + k ≤ n → part (take n l) a k ≡ part l a k
+pub part_front : (l : List ℕ) (n a k : ℕ) → a + k ≤ n → part (take n l) a k ≡ part l a k
 unfolding part
 part_front l n a k h = same_lists _ _ (grind (arith, places)) (λ j d i. grind (arith, places))
 

@@ -13,7 +13,7 @@ use Rattle.shadow_cache.specs.Views as roots
 use Rattle.machine_model.specs.State.{State, wedge}
 use Rattle.machine_model.specs.Run.{Set}
 use Rattle.native_steps.specs.Stands.{shown}
-use Rattle.wedge_core.specs.Filled.{FillsOn, IsFilled}
+use Rattle.wedge_core.specs.Filled.{FillsOn, IsFilled, pages_kept}
 use Rattle.wedge_core.specs.Promises.{with_patches}
 use Rattle.wedge_core.specs.Slices.{GoesOn}
 use Rattle.wedge_core.specs.Standing.{IsHeld, ground, set_of}
@@ -56,3 +56,12 @@ pub front_after : (result : Result Pause Failed) (image : Image) (script : Event
     → GoesOn result (IsHeld roots.stands roots.frames roots.slots (ground image frames) g pool memory) → GoesOn result (take (4096 * frames) memory ≡ with_patches image (shown (wedge image script frames) memory))
 front_after (Ok pause) image script frames g pool memory h = front_held pause image script frames g pool memory h
 front_after (Err failed) image script frames g pool memory h = tt
+
+-- where none is kept, each was filled
+pub none_kept : (pages fills : ℕ) → pages ≡ 0 → IsFilled pages fills
+none_kept pages fills none = omega (arith, none)
+
+pub none_kept_ok : (memory : List ℕ) (result : Result (Guest × Pool) StartFault) → IfOk result (λ started. pages_kept roots.slots roots.asides started.0.running.shadows memory ≡ 0)
+    → IfOk result (λ started. IsFilled (pages_kept roots.slots roots.asides started.0.running.shadows memory) started.0.running.fills)
+none_kept_ok memory (Ok started) none = none_kept (pages_kept roots.slots roots.asides started.0.running.shadows memory) started.0.running.fills none
+none_kept_ok memory (Err fault) none = tt

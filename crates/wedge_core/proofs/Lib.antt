@@ -38,6 +38,7 @@ pub mod Insensitive
 pub mod Asking
 pub mod Nexts
 pub mod Before
+pub mod Adopted
 pub mod AfterTry
 pub mod Filling
 pub mod Guests
@@ -49,6 +50,7 @@ pub mod Readying
 pub mod Behind
 pub mod Untouched
 pub mod Resettling
-pub mod StepReady
+pub mod Stays
+mod StepReady
 pub mod Returning
 pub mod Dropping

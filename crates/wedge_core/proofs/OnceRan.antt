@@ -1,5 +1,7 @@
 -- One instruction that the host was asked to do, as the guest's step.
-use Rattle.std.proofs.Common.{◌≡◌, ℕ, ◌+◌, ◌*◌, ◌%◌, ◌≤◌, List, [], ◌∷◌, length, drop, Bool, false, cond, Option, Result, Ok, Err, OnOk, refl, sym, ap, subst, ◌∙◌, arith}
+use Rattle.std.proofs.Common.{◌≡◌, ℕ, ◌+◌, ◌*◌, ◌%◌, ◌==◌, ◌≤◌, List, [], ◌∷◌, length, drop, Bool, false, cond, Option, Result, Ok, Err, OnOk, refl, sym, ap, subst, ◌∙◌, arith}
+use Rattle.guest_ram.specs.Bytes.{frame}
+use Rattle.descriptors.specs.Controls.{pse_of}
 use Rattle.frame_pool.specs.Held.{Owns}
 use Rattle.frame_pool.specs.declared.Pool.{Pool}
 use Rattle.frame_pool.proofs.Above.{free_list-above}
@@ -29,6 +31,7 @@ use Rattle.machine_model.specs.Run.{Set}
 use Rattle.machine_model.specs.Counts.{direct_in}
 use Rattle.native_steps.specs.Backward.{Completes}
 use Rattle.native_steps.specs.Forward.{Follows}
+use Rattle.native_steps.specs.Lends.{IsUnlent}
 use Rattle.native_steps.specs.Stands.{IsHost, shown}
 use Rattle.wedge_core.specs.Attempts.{Asks, Idle}
 use Rattle.wedge_core.specs.Filled.{FillsOn}
@@ -37,7 +40,7 @@ use Rattle.wedge_core.specs.Pools.{Keeps}
 use Rattle.wedge_core.specs.Views.{view_by}
 use Rattle.wedge_core.specs.Ran.{Ran, landed}
 use Rattle.wedge_core.specs.Slices.{Counts, CountsOn}
-use Rattle.wedge_core.specs.Standing.{IsHeld, IsAble, AreOpen, ground, state_of, wp_of}
+use Rattle.wedge_core.specs.Standing.{IsHeld, IsAble, AreOpen, ground, side_of, state_of, wp_of}
 use Rattle.wedge_core.specs.Stepping.{AloneAs, Goes}
 use Rattle.wedge_core.specs.declared.running.Lost.{Lost}
 use Rattle.wedge_core.specs.declared.running.Running.{Running}
@@ -169,7 +172,7 @@ module _ {S : Type 0} (stands : S → List ℕ → Type 0) (frames : S → List 
     pub kept : drop (4096 * g0.frames) m2 ≡ drop (4096 * g0.frames) m1 → length m2 ≡ length m1 → SameKept g1.shadows pool m1 m2
 
   module _ (directory : S → Side → ℕ) (image : Image) (g0 g1 g2 : Running S) (pool : Pool) (m0 m1 m2 : List ℕ) (before after : Counts) (done : ℕ) (o : IsOnce directory image g0 g1 g2 pool m0 m1 m2 before after done) where
-    cpu_is : g1.cpu ≡ g0.cpu
+    pub cpu_is : g1.cpu ≡ g0.cpu
     cpu_is = ap (λ (g : Running S). g.cpu) o.same
 
     step_is : g1.step ≡ g0.step
@@ -183,16 +186,16 @@ module _ {S : Type 0} (stands : S → List ℕ → Type 0) (frames : S → List 
         → RanOnce g1 a.regs a.completes.after_memory done g2 m2 before after
     ran a = ran_once (ground image g0.frames) (view_by (directory g1.shadows) g1.cpu) (state_of stands frames slots (ground image g0.frames) g1 m1) g1 m1 a.regs before after done g2 m2 refl a.completes o.ran
 
-    behind_is : drop (4096 * g0.frames) m2 ≡ drop (4096 * g0.frames) m1
+    pub behind_is : drop (4096 * g0.frames) m2 ≡ drop (4096 * g0.frames) m1
     behind_is = let a = asks_now [] in ap (λ (l : List ℕ). drop (4096 * g0.frames) l) (ran a).memory_is ∙ a.completes.follows.behind
 
-    size_is : length m2 ≡ length m1
+    pub size_is : length m2 ≡ length m1
     size_is = let a = asks_now [] in ap (λ (l : List ℕ). length l) (ran a).memory_is ∙ a.completes.follows.size
 
-    kept : SameKept g1.shadows pool m1 m2
+    pub kept : SameKept g1.shadows pool m1 m2
     kept = o.kept behind_is size_is
 
-    shadows_are : g2.shadows ≡ g1.shadows
+    pub shadows_are : g2.shadows ≡ g1.shadows
     shadows_are = let a = asks_now [] in ap (λ (g : Running S). g.shadows) (ran a).new_is
 
     lost_is : g2.lost ≡ g1.lost
@@ -238,13 +241,29 @@ module _ {S : Type 0} (stands : S → List ℕ → Type 0) (frames : S → List 
         (keeps_join p0 pool pool m0 m1 m2 (frames g0.shadows m0) (frames g1.shadows m1) (frames g1.shadows m2) first
         (keeps_above pool m1 m2 (4096 * g0.frames) (frames g1.shadows m1) (frames g1.shadows m2) o.held.owns.stands (omega (arith, low)) behind_is size_is kept.frames_are))
 
-    pub once_fills : FillsOn (entries_of (slots g0.shadows m0)) (entries_of (slots g1.shadows m1)) g0.fills g1.fills → FillsOn (entries_of (slots g0.shadows m0)) (entries_of (slots g2.shadows m2)) g0.fills g2.fills
-    once_fills first =
+    pub once_fills : (pages : S → List ℕ → ℕ) (old : ℕ) → pages g1.shadows m2 ≡ pages g1.shadows m1 → FillsOn old (pages g1.shadows m1) g0.fills g1.fills → FillsOn old (pages g2.shadows m2) g0.fills g2.fills
+    once_fills pages old same first =
         let a = asks_now [] in
         let fills_are : g2.fills ≡ g1.fills = ap (λ (g : Running S). g.fills) (ran a).new_is in
-        subst (λ (k : ℕ). FillsOn (entries_of (slots g0.shadows m0)) (entries_of (slots g2.shadows m2)) g0.fills k) (sym fills_are)
-        (subst (λ (s : S). FillsOn (entries_of (slots g0.shadows m0)) (entries_of (slots s m2)) g0.fills g1.fills) (sym shadows_are)
-        (subst (λ (set : Set). FillsOn (entries_of (slots g0.shadows m0)) set g0.fills g1.fills) (sym kept.entries_are) first))
+        subst (λ (k : ℕ). FillsOn old (pages g2.shadows m2) g0.fills k) (sym fills_are)
+        (subst (λ (s : S). FillsOn old (pages s m2) g0.fills g1.fills) (sym shadows_are)
+        (subst (λ (k : ℕ). FillsOn old k g0.fills g1.fills) (sym same) first))
+
+    -- no frame to which the view lets no write pass has changed
+    pub once_untouched : (at : ℕ) → IsUnlent m1 (directory g1.shadows (side_of (g1.cpu.cpl == 3))) at → frame (shown (ground image g0.frames) m2) at ≡ frame (shown (ground image g0.frames) m1) at
+    once_untouched at unlent =
+        let a = asks_now [] in
+        let f = a.completes.follows in
+        ap (λ (l : List ℕ). frame (shown (ground image g0.frames) l) at) (ran a).memory_is ∙ (ap (λ (l : List ℕ). frame l at) (sym f.stands.ram) ∙ f.guest_untouched at unlent)
+
+    pub once_rules : (g2.cpu.cr3 ≡ g0.cpu.cr3) × (pse_of g2.cpu ≡ pse_of g0.cpu) × (wp_of g2.cpu ≡ wp_of g0.cpu)
+    once_rules =
+        let e = (ran (asks_now [])).new_is in
+        let c = cpu_is in
+        (ap (λ (g : Running S). g.cpu.cr3) e ∙ ap (λ (x : Cpu). x.cr3) c, ap (λ (g : Running S). pse_of g.cpu) e ∙ ap pse_of c, ap (λ (g : Running S). wp_of g.cpu) e ∙ ap wp_of c)
+
+    pub once_back : g1.lost.back ≡ false → g2.lost.back ≡ false
+    once_back back = ap (λ (l : Lost). l.back) lost_is ∙ back
 
 -- ---- steps that went otherwise
 

@@ -2,6 +2,7 @@
 use Rattle.std.proofs.Common.{◌≡◌, ℕ, zero, suc, ◌+◌, ◌-◌, ◌*◌, ◌/◌, ◌%◌, ◌≤◌, ◌<◌, ◌^◌, ◌==◌, Bool, true, false, ◌||◌, not, List, [], length, drop, replicate, Option, refl, sym, ap, subst, ◌∙◌, arith}
 use Rattle.std.specs.FinMap.{get}
 use Rattle.guest_ram.specs.Bytes.{frame}
+use Rattle.descriptors.specs.Controls.{pse_of}
 use Rattle.frame_pool.specs.Pool.{base_of}
 use Rattle.frame_pool.specs.declared.Pool.{Pool}
 use Rattle.frame_pool.specs.Held.{Owns, SameIn}
@@ -102,13 +103,13 @@ module _ {S : Type 0} (stands : S → List ℕ → Type 0) (frames : S → List 
     -- ---- memory that is the same behind the guest's frames
 
     module _ (new : List ℕ) (same : SameBehind (ground image f) memory new) where
-      limit : 4096 * f ≤ 4096 * base_of pool
+      pub limit : 4096 * f ≤ 4096 * base_of pool
       limit = let b = h.behind in omega (arith, b)
 
-      same_in : SameIn (frames g.shadows memory) memory new
+      pub same_in : SameIn (frames g.shadows memory) memory new
       same_in = laws.above g.shadows pool memory new (4096 * f) h.owns limit same.beyond same.size
 
-      stand : ∥ stands g.shadows new ∥₁
+      pub stand : ∥ stands g.shadows new ∥₁
       stand = laws.stays g.shadows memory new h.stand same_in
 
       owned : Owns pool new (frames g.shadows new)
@@ -117,10 +118,10 @@ module _ {S : Type 0} (stands : S → List ℕ → Type 0) (frames : S → List 
       frames_same : frames g.shadows new ≡ frames g.shadows memory
       frames_same = laws.same_frames g.shadows memory new h.stand same_in
 
-      set_same : kept new ≡ kept memory
+      pub set_same : kept new ≡ kept memory
       set_same = laws.same_entries g.shadows memory new h.stand same_in
 
-      whole_new : length new % 4096 ≡ 0
+      pub whole_new : length new % 4096 ≡ 0
       whole_new = ap (λ (n : ℕ). n % 4096) same.size ∙ h.whole
 
       within : AreWithin f (kept new)
@@ -183,6 +184,15 @@ module _ {S : Type 0} (stands : S → List ℕ → Type 0) (frames : S → List 
             by : (n : ℕ) → (n ≡ 0 → now ≡ g) → (0 < n → now ≡ record g { cpu = record g.cpu { regs = landed r.exit r.regs; held = false }; board = board_steps n g.board; step = g.step + n }) → now.shadows ≡ g.shadows
             by zero a b = ap (λ (x : Running S). x.shadows) (a refl)
             by (suc n) a b = ap (λ (x : Running S). x.shadows) (b (omega arith))
+
+        -- what walks go by, beside memory
+        pub rules_then : (now.cpu.cr3 ≡ g.cpu.cr3) × (pse_of now.cpu ≡ pse_of g.cpu) × (wp_of now.cpu ≡ wp_of g.cpu)
+        rules_then = by done r.none r.some
+          where
+            by : (n : ℕ) → (n ≡ 0 → now ≡ g) → (0 < n → now ≡ record g { cpu = record g.cpu { regs = landed r.exit r.regs; held = false }; board = board_steps n g.board; step = g.step + n })
+                → (now.cpu.cr3 ≡ g.cpu.cr3) × (pse_of now.cpu ≡ pse_of g.cpu) × (wp_of now.cpu ≡ wp_of g.cpu)
+            by zero a b = let e = a refl in (ap (λ (x : Running S). x.cpu.cr3) e, ap (λ (x : Running S). pse_of x.cpu) e, ap (λ (x : Running S). wp_of x.cpu) e)
+            by (suc n) a b = let e = b (omega arith) in (ap (λ (x : Running S). x.cpu.cr3) e, ap (λ (x : Running S). pse_of x.cpu) e, ap (λ (x : Running S). wp_of x.cpu) e)
 
         module _ (script : Events) (quiet : 0 < k → comes_within g.board script g.step (k - 1) ≡ false) (board : Board) (is : given board script g.step ≡ g.board) (whole : Set) (part : IsPartOf (kept memory) whole) where
           abbrev m : Setting

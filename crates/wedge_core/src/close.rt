@@ -1,6 +1,6 @@
 //! The end of a step, for what is kept of the translations.
 
-ghost use Rattle.std.specs.Prelude.{◌≡◌, ◌⊎◌, ℕ, List, Bool, true, false, ◌+◌, ◌*◌, ◌≤◌, ◌<◌, ◌^◌, length, is_none, IfSome, None, []};
+ghost use Rattle.std.specs.Prelude.{◌≡◌, ◌⊎◌, ◌&&◌, ◌||◌, not, ℕ, List, Bool, true, false, ◌+◌, ◌*◌, ◌≤◌, ◌<◌, ◌^◌, length, is_none, IfSome, None, []};
 ghost use Rattle.std.specs.FinMap.{empty};
 ghost use Rattle.frame_pool.specs.Held.{Owns, Moves};
 ghost use Rattle.frame_pool.specs.Pool.{base_of, free_list};
@@ -239,6 +239,24 @@ fn drop_by<S: Shadows>(
     false
 }
 
+/// CR3 wasn't loaded: it is the same, and what was dropped by the instruction isn't all, unless the rules changed.
+fn is_through(before: &Cpu, worked: &Worked, changed: bool) -> bool
+    ensures same { result ≡ true → worked.now.cpu.cr3 ≡ before.now.cr3 }
+    ensures other { result ≡ true → (changed || not (is_all worked.now.dropped)) ≡ true }
+{
+    if worked.cpu.cr3 != before.cr3 {
+        return false;
+    }
+    changed || !is_all(worked.dropped)
+}
+
+/// All was dropped, and not by the instruction.
+fn is_lost(dropped: bool, by: Dropped) -> bool
+    ensures { result ≡ (dropped && not (is_all by)) }
+{
+    dropped && !is_all(by)
+}
+
 /// What leaves at the end of a step that went, and what comes back. An instruction that drops all has loaded CR3, unless
 /// the rules changed with it. These are the pages that the step went through or changed.
 pub fn leave<S: Reloads>(
@@ -265,17 +283,16 @@ pub fn leave<S: Reloads>(
         → IsReady S.slots S.noted S.marked S.value S.asides m worked.now.cpu shadows.new ram.new
         × (result.back ≡ true → AreFound m worked.now.cpu (shown m ram.new) worked.now.cpu.cr3 (S.noted shadows.new) (S.slots shadows.new ram.new)) }
 {
-    let all = is_all(worked.dropped);
     let changed = drop_by(shadows, pool, ram, before, worked);
-    if worked.cpu.cr3 == before.cr3 && (changed || !all) {
+    if is_through(before, worked, changed) {
         return Left {
-            none: changed && !all,
+            none: is_lost(changed, worked.dropped),
             back: false,
         };
     }
     load(shadows, pool, ram, worked.cpu.cr3, pages, wanted);
     Left {
-        none: !all,
+        none: is_lost(true, worked.dropped),
         back: !wanted,
     }
 }

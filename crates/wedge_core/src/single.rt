@@ -31,6 +31,7 @@ use frame_pool::Pool;
 use guest_ram::Ram;
 use ia32_types::Stop;
 use image_check::Checked;
+use machine_model::steps_follow;
 use machine_step::{Rules, Seen, Worked, begin, step_in};
 use shadow_cache::Reloads;
 use shadow_tables::{Shadows, Side};
@@ -119,6 +120,7 @@ pub fn step_alone<S: Reloads + Drop>(
     );
     match outcome {
         Ok(worked) => {
+            steps_follow();
             let count = text_frames(image);
             go(running, pool, ram, &state, &worked, count, wanted);
             Ok(worked.seen)
