@@ -145,10 +145,10 @@ module _ {S : Type 0} (slots : S → List ℕ → ℕ → Option Slot) (noted : 
         (λ q y there. left.set q y (ap (λ (set : Set). get (dropping worked.dropped set) q) set_is ∙ there)) page out x is)
 
     -- whose instruction is left to the host
-    pub prepared_ready : FollowsOn → FetchedFollows → RangesFollow → (out : ℕ → Bool) (t : Space) (set : Set) → IsPrepared b first t → t.ram ≡ shown m then → t.set ≡ set
+    pub prepared_ready : FollowsOn → FetchedFollows → RangesFollow → (out : ℕ → Bool) (d : State) (t : Space) (set : Set) → IsPrepared d first t → t.ram ≡ shown m then → t.set ≡ set
         → IsReadyBehind slots noted marked value asides out m b.cpu s then set t.tables t.wrote
-    prepared_ready on fetched_follows ranges_follow out t set p ram set_is =
-        let fetch : Follows first p.after_fetch = subst (λ (o : Outcome Refusal Decoded). Leaves first o) p.fetches (fetched_follows (b.cpu.cpl == 3) b.cpu.regs.eip first) in
-        let ranges : Follows p.after_fetch t = subst (λ (o : Outcome Refusal (Unit {0})). Leaves p.after_fetch o) (both_is b first t p) (ranges_follow b.cpu p.insn p.after_fetch) in
+    prepared_ready on fetched_follows ranges_follow out d t set p ram set_is =
+        let fetch : Follows first p.after_fetch = subst (λ (o : Outcome Refusal Decoded). Leaves first o) p.fetches (fetched_follows (d.cpu.cpl == 3) d.cpu.regs.eip first) in
+        let ranges : Follows p.after_fetch t = subst (λ (o : Outcome Refusal (Unit {0})). Leaves p.after_fetch o) (both_is d first t p) (ranges_follow d.cpu p.insn p.after_fetch) in
         behind_ready slots noted marked value asides m b.cpu s memory then first t (step_from t (on first p.after_fetch t fetch ranges) ram) t.tables t.wrote refl refl h out set
         (λ page lt free x is. inr (ap (λ (y : Set). get y page) set_is ∙ is))

@@ -520,7 +520,7 @@ module _ (g : Over) (c : goal.After-go g) where
       let t = space_at (λ r. entries_of (g.S.Shadows.slots running.shadows r)) ram1 state1 in
       let start = starts m b mode s0 mode_is (laying.laid o.result.bytes.now o.result.first n ram0) laid c.begin-state.ensures.space in
       let w : IsWedge m = record { mode = held.wedge.mode; accepted = held.wedge.accepted; room = held.wedge.room } in
-      let any = any_script image script n ram0 in
+      let any = any_script image [] n ram0 in
       let fit : AreBytes b.ram = subst AreBytes (sym any) c.are_bytes.ensures.bytes in
       let long : length b.ram ≡ 4096 * n = ap length any ∙ c.are_bytes.ensures.length in
       let room : 4096 * n ≤ length b.ram = omega (arith, long) in
@@ -720,7 +720,7 @@ returns-in-None-clause-ready g c =
       same = asides1;
     } in
     let t_ram : t.ram ≡ shown m ram1 = sym here ∙ shown_is m o.result.bytes.now o.result.first ram1 o.ensures.bytes o.ensures.first in
-    let behind1 = prepared_ready g.S.Shadows.slots g.S.Shadows.noted g.S.Shadows.marked g.S.Shadows.value g.S.Shadows.asides image n b running.shadows ram0 ram1 k c.requires.ready c.native_laws.ensures.on c.native_laws.ensures.fetched c.native_laws.ensures.ranges (λ page. false) t t.set p t_ram refl in
+    let behind1 = prepared_ready g.S.Shadows.slots g.S.Shadows.noted g.S.Shadows.marked g.S.Shadows.value g.S.Shadows.asides image n b running.shadows ram0 ram1 k c.requires.ready c.native_laws.ensures.on c.native_laws.ensures.fetched c.native_laws.ensures.ranges (λ page. false) (unheld b) t t.set p t_ram refl in
     let state2 = c.keep_told.new.state in
     let behind2 = subst (λ (x : kept_state.State). IsReadyBehind g.S.Shadows.slots g.S.Shadows.noted g.S.Shadows.marked g.S.Shadows.value g.S.Shadows.asides (λ page. false) m running.cpu running.shadows ram1 (changed kept1 x.changes) x.tables x.wrote) (sym c.keep_told.ensures)
     (subst (λ (set : FinMap nat_cmp Entry). IsReadyBehind g.S.Shadows.slots g.S.Shadows.noted g.S.Shadows.marked g.S.Shadows.value g.S.Shadows.asides (λ page. false) m running.cpu running.shadows ram1 set state1.tables state1.wrote) (sym told_is) behind1) in

@@ -3,6 +3,7 @@ use Rattle.shadow_cache.specs.Views as roots
 use Rattle.machine_model.specs.State.{boot, wedge}
 use Rattle.wedge_core.specs.Promises.{WedgeAnswers}
 use Rattle.wedge_core.specs.Slices.{Counts}
+use Rattle.wedge_core.specs.Ready.{IsReady}
 use Rattle.wedge_core.specs.Standing.{IsHeld, ground, state_of}
 use Rattle.wedge_core.proofs.run.run_wedge.Goals as goal
 
@@ -49,3 +50,15 @@ returns-in-Ok g c =
 
 pub whole-requires-clause-unfilled : goal.whole-requires-clause-unfilled
 whole-requires-clause-unfilled g c = let b = c.in-Ok.ensures.started.4 [] in b.fills
+
+pub whole-requires-clause-ready : goal.whole-requires-clause-ready
+whole-requires-clause-ready g c =
+    let b = c.in-Ok.ensures.started.4 [] in
+    subst (λ (f : ℕ). IsReady roots.slots roots.noted roots.marked roots.value roots.asides (ground c.args.image.now f) c.in-Ok.guest.running.cpu c.in-Ok.guest.running.shadows (g.H.Host.bytes c.start.new.host)) (sym b.held.frames_are) c.in-Ok.ensures.ready
+
+pub whole-requires-clause-none : goal.whole-requires-clause-none
+whole-requires-clause-none g c =
+    let b = c.in-Ok.ensures.started.4 [] in
+    let none = b.fills in
+    let filled = c.in-Ok.ensures.filled in
+    omega (arith, none, filled)
