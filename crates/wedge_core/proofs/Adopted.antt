@@ -1,5 +1,5 @@
 -- Roots that keep nothing yet, over memory that differs in front of the pool.
-use Rattle.std.proofs.Common.{◌≡◌, ℕ, ◌+◌, ◌<◌, ◌^◌, List, [], ◌∷◌, length, length-append, false, Some, None, refl, sym, ap, ◌∙◌, arith}
+use Rattle.std.proofs.Common.{◌≡◌, ℕ, ◌<◌, ◌^◌, List, [], ◌∷◌, length, length-append, false, Some, None, ap, ◌∙◌, arith}
 use Rattle.std.specs.FinMap.{empty}
 use Rattle.descriptors.specs.declared.cpu.Cpu.{Cpu}
 use Rattle.frame_pool.specs.Held.{SameIn}

@@ -4,7 +4,6 @@ use Rattle.std.proofs.lemmas.Bool.{cases_lt}
 use Rattle.std.proofs.lemmas.Bool.Decides.{eqb_tells, nat_tests}
 use Rattle.std.specs.Prelude.{nat_le}
 use Rattle.std.specs.List.{Contains}
-use Rattle.std.specs.Option.{ForSome}
 use Rattle.std.specs.FinMap.{get}
 use Rattle.guest_ram.specs.Bytes.{word32}
 use Rattle.descriptors.specs.Controls.{pse_of}
@@ -12,7 +11,7 @@ use Rattle.descriptors.specs.declared.cpu.Cpu.{Cpu}
 use Rattle.paging.specs.declared.entry.Entry.{Entry}
 use Rattle.paging.specs.Space.{Space}
 use Rattle.shadow_tables.specs.Aside.{Aside, IsSame, AreSame, any_of}
-use Rattle.shadow_tables.specs.Slots.{Slot, is_among, entry_in, SameSlots}
+use Rattle.shadow_tables.specs.Slots.{Slot, is_among, entry_in}
 use Rattle.shadow_tables.proofs.Lists.{within-same}
 use Rattle.machine_model.specs.Reloading.{HasMoreFlags, MemoryFollows, IsFoundBy, Follows}
 use Rattle.machine_model.specs.Run.{Set}
@@ -21,11 +20,9 @@ use Rattle.machine_model.proofs.FoundStill.{found_still}
 use Rattle.machine_model.proofs.MoreFlags.{flags_by}
 use Rattle.native_steps.specs.Stands.{shown}
 use Rattle.wedge_mem.specs.Told.{guest_frames, read_by}
-use Rattle.wedge_core.specs.Ready.{IsReadyAside, AreReady, AreReadyBehind, IsReadyBut, IsReady, IsReadyBehind}
+use Rattle.wedge_core.specs.Ready.{IsReadyAside, AreReady, AreReadyBehind, IsReady, IsReadyBehind}
 use Rattle.wedge_core.proofs.Bools.{none_some}
-use Rattle.wedge_core.proofs.Opening.{some_is}
-use Rattle.wedge_core.proofs.Shedding.{AllWithin, Sheds, found_tables, ready_shed}
-use Rattle.wedge_core.proofs.Readying.{by_entry}
+use Rattle.wedge_core.proofs.Shedding.{Sheds, found_tables, ready_shed}
 use Rattle.wedge_core.proofs.Telling.{among_contains}
 
 -- ---- frames of a list

@@ -1,5 +1,5 @@
 -- Pages that are kept, counted.
-use Rattle.std.proofs.Common.{◌≡◌, ℕ, ◌+◌, ◌≤◌, ◌==◌, List, [], ◌∷◌, ◌++◌, length, length-append, map, Bool, true, false, T, cond, ◌&&◌, ◌||◌, not, ◌⊎◌, inl, inr, Option, Some, None, is_some, refl, sym, ap, ◌∙◌, arith, subst}
+use Rattle.std.proofs.Common.{◌≡◌, ℕ, ◌+◌, ◌≤◌, ◌==◌, List, [], ◌∷◌, ◌++◌, length, length-append, map, Bool, true, false, T, cond, ◌&&◌, ◌||◌, not, ◌⊎◌, inl, inr, Option, Some, None, is_some, refl, sym, ap, ◌∙◌, arith}
 use Rattle.std.specs.List.{list_any, AllByRecursion, IsDistinct}
 use Rattle.std.specs.List.Sorted.{IsStrictlySortedBy}
 use Rattle.std.specs.Cmp.{unsigned_tied, eq_by_cmp_equiv, nat_cmp_total}
@@ -14,12 +14,7 @@ use Rattle.std.proofs.lemmas.Map.Keys.{IsDistinct-from_sorted}
 use Rattle.std.proofs.lemmas.Map.Made.{length-le_from_is_member}
 use Rattle.std.proofs.lemmas.Bool.Decides.{eqb_tells}
 use Rattle.paging.specs.declared.entry.Entry.{Entry}
-use Rattle.shadow_tables.specs.Entries.{entries_of}
-use Rattle.shadow_tables.specs.Slots.{Slot, is_among}
-use Rattle.board.specs.Boards.{board_steps}
-use Rattle.frame_pool.proofs.Lengths.{zero-or}
-use Rattle.host_cpl3.specs.declared.view.View.{View}
-use Rattle.host_cpl3.specs.HostRun.{Standing}
+use Rattle.shadow_tables.specs.Slots.{is_among}
 use Rattle.step_mem.specs.Changes.{changed, page_of, entry_of}
 use Rattle.step_mem.specs.declared.changes.Change.{Change}
 use Rattle.step_mem.proofs.Changed.{get_with_other}
@@ -27,8 +22,6 @@ use Rattle.wedge_mem.specs.Settled.{used, has_entry, pages_of}
 use Rattle.machine_model.specs.Run.{Set}
 use Rattle.wedge_core.specs.Filled.{FillsOn}
 use Rattle.wedge_core.specs.Parts.{IsPartOf}
-use Rattle.wedge_core.specs.Ran.{Ran, landed}
-use Rattle.wedge_core.specs.declared.running.Running.{Running}
 
 -- ---- the pages of a set, each once
 

@@ -18,7 +18,7 @@ use Rattle.run_trace.specs.Text.{lines_of}
 use Rattle.machine_model.specs.State.{Setting, State, Loosened}
 use Rattle.machine_model.specs.Step.{Report, Stands, stepped, step_of, items_at}
 use Rattle.machine_model.specs.Run.{Set, Steps, trace_of}
-use Rattle.machine_model.specs.Notes.{AreLeft, AreNotes, is_emptied, set_told}
+use Rattle.machine_model.specs.Notes.{AreLeft, AreNotes, set_told}
 use Rattle.wedge_core.specs.Filled.{FillsOn}
 use Rattle.wedge_core.specs.Noted.{NotesOn, emptied_if, notes_then}
 use Rattle.wedge_core.specs.Parts.{IsPartOf, left_of, with_set}
@@ -29,7 +29,7 @@ use Rattle.wedge_core.proofs.Parts.{part_left, part_same, part_allowed, part_loo
 use Rattle.wedge_core.proofs.Joined.{steps_join, no_steps, steps_one, trace_join, counts_join, counts_none}
 use Rattle.wedge_core.proofs.Filling.{part_few}
 use Rattle.wedge_core.proofs.Texts.{appends_both, appends_none, front_of, lines_join}
-use Rattle.wedge_core.proofs.EmptiedNotes.{SoFar, Tried, none_yet, try_next, go_next, so_far_later, told_is, told_more, told_none, told_before, up_to_later, tried_none, none_dropped, dropped_once, are_pages, steps_until}
+use Rattle.wedge_core.proofs.EmptiedNotes.{SoFar, Tried, none_yet, try_next, go_next, so_far_later, told_more, told_none, told_before, up_to_later, tried_none, none_dropped, dropped_once, are_pages, steps_until}
 use Rattle.wedge_core.proofs.ToldSteps.{ToldBy, told_nothing, told_one, told_join, told_on, left_behind, steps_counted, are_told}
 
 -- each of these sets has no more pages than were kept at first and were filled since

@@ -1,5 +1,5 @@
 -- What a guest's calls say of its filled pages, of the bytes outside its pool, and of its memory.
-use Rattle.std.proofs.Common.{◌≡◌, ℕ, zero, suc, ◌+◌, ◌*◌, ◌<◌, ◌≤◌, ◌⊎◌, inl, inr, List, [], take, Result, Ok, Err, IfOk, refl, ap, arith}
+use Rattle.std.proofs.Common.{◌≡◌, ℕ, zero, suc, ◌+◌, ◌*◌, ◌<◌, ◌≤◌, ◌⊎◌, inl, inr, List, take, Result, Ok, Err, IfOk, refl, arith}
 use Rattle.frame_pool.specs.Pool.{base_of, count_of, free_list, SameOutside}
 use Rattle.frame_pool.specs.declared.Pool.{Pool}
 use Rattle.frame_pool.specs.Held.{times, Owns, Moves}
@@ -10,17 +10,14 @@ use Rattle.image_check.specs.Image.{Image}
 use Rattle.image_load.specs.declared.fault.Pause.{Pause}
 use Rattle.image_load.specs.declared.fault.StartFault.{StartFault}
 use Rattle.shadow_cache.specs.Views as roots
-use Rattle.machine_model.specs.State.{State, wedge}
-use Rattle.machine_model.specs.Run.{Set}
+use Rattle.machine_model.specs.State.{wedge}
 use Rattle.native_steps.specs.Stands.{shown}
 use Rattle.wedge_core.specs.Filled.{FillsOn, IsFilled, pages_kept}
 use Rattle.wedge_core.specs.Promises.{with_patches}
 use Rattle.wedge_core.specs.Slices.{GoesOn}
-use Rattle.wedge_core.specs.Standing.{IsHeld, ground, set_of}
-use Rattle.wedge_core.specs.Starts.{StartedAs}
+use Rattle.wedge_core.specs.Standing.{IsHeld, ground}
 use Rattle.wedge_core.specs.declared.guest.Guest.{Guest}
 use Rattle.wedge_core.specs.declared.running.Running.{Running}
-use Rattle.wedge_core.proofs.Filling.{empty_few}
 use Rattle.wedge_core.proofs.WholeRuns.{front_held}
 
 zero_or : (n : ℕ) → (n ≡ 0) ⊎ (1 ≤ n)

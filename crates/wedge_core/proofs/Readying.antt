@@ -1,17 +1,16 @@
 -- What is kept may be used again: behind drops, fills and loads of CR3.
-use Rattle.std.proofs.Common.{◌≡◌, ◌⊎◌, ℕ, ◌+◌, ◌^◌, ◌<◌, ◌≤◌, List, [], ◌∷◌, Bool, true, false, ◌||◌, ◌&&◌, Option, Some, None, refl, sym, ap, subst, ◌∙◌, inl, inr, arith}
+use Rattle.std.proofs.Common.{◌≡◌, ◌⊎◌, ℕ, ◌^◌, ◌<◌, ◌≤◌, List, [], ◌∷◌, Bool, true, false, Option, Some, None, refl, sym, ap, subst, ◌∙◌, inl, inr, arith}
 use Rattle.std.specs.Option.{ForSome}
 use Rattle.std.specs.FinMap.{get, empty, len}
 use Rattle.descriptors.specs.Controls.{pse_of}
 use Rattle.descriptors.specs.declared.cpu.Cpu.{Cpu}
 use Rattle.image_check.specs.Image.{Image}
 use Rattle.paging.specs.declared.entry.Entry.{Entry}
-use Rattle.shadow_tables.specs.Aside.{Aside, IsSame, AreSame, LoseWrites, any_of, all_spared}
+use Rattle.shadow_tables.specs.Aside.{Aside, IsSame, AreSame, any_of, all_spared}
 use Rattle.shadow_tables.specs.Calls.{IsWithin}
 use Rattle.shadow_tables.specs.Entries.{entries_of}
 use Rattle.shadow_tables.specs.Laws.Entries.{entries_of-none, entries_of-same}
-use Rattle.shadow_tables.specs.Slots.{Slot, is_among, entry_in, SameSlots}
-use Rattle.shadow_tables.proofs.Lists.{within-same}
+use Rattle.shadow_tables.specs.Slots.{Slot, entry_in}
 use Rattle.shadow_cache.specs.Reloaded.{put_by, begun, coming, staying}
 use Rattle.machine_model.specs.Reloading.{IsFoundBy}
 use Rattle.machine_model.specs.Run.{Set}
@@ -19,10 +18,10 @@ use Rattle.machine_model.specs.State.{Setting}
 use Rattle.native_steps.specs.Stands.{shown}
 use Rattle.wedge_mem.specs.Told.{read_by}
 use Rattle.wedge_core.specs.Filled.{pages_aside, pages_kept}
-use Rattle.wedge_core.specs.Ready.{IsFoundIn, AreFound, IsReadyAside, AreReady, AllOpen, AreReadyBehind, IsReadyBut, IsReady, IsReadyBehind}
+use Rattle.wedge_core.specs.Ready.{IsFoundIn, AreFound, IsReadyAside, AreReady, AllOpen, IsReadyBut, IsReady, IsReadyBehind}
 use Rattle.wedge_core.specs.Standing.{AreOpen, wp_of}
 use Rattle.wedge_core.proofs.Bools.{none_some}
-use Rattle.wedge_core.proofs.Shedding.{AllWithin, within_entries, some_within, found_tables, Sheds, AllShed, same_shed, lost_shed, shed_pages, open_shed, all_ready_shed, ready_spared, spared_pages, open_spared, loaded_pages, put_by_pages, Each, each_coming, each_staying, coming_value, begun_ready, ready_each, each_ready, open_each}
+use Rattle.wedge_core.proofs.Shedding.{some_within, found_tables, AllShed, same_shed, shed_pages, all_ready_shed, ready_spared, loaded_pages, put_by_pages, Each, each_coming, each_staying, coming_value, begun_ready, ready_each, each_ready, open_each}
 use Rattle.wedge_core.proofs.Opening.{none_open, same_open}
 
 -- a slot from the entry that the set gives the page
@@ -162,8 +161,7 @@ module _ {S : Type 0} (slots : S → List ℕ → ℕ → Option Slot) (noted : 
         (λ page lt slot e.
         subst (λ (r : List ℕ). IsFoundBy r m.frames cr3 (pse_of after) (noted new) page slot.entry) (sym ram)
         (found_tables (shown m memory) m.frames cr3 (pse_of after) (coming cr3 put).tables (noted new) page slot.entry (λ f t. s.present.tables f ∙ t)
-        (subst (λ (c : ℕ). IsFoundBy (shown m memory) m.frames c (pse_of after) (coming cr3 put).tables page slot.entry) (coming_value cr3 put) (here.found page lt slot (sym (s.present.slots page lt) ∙ e))))) in
-        (
+        (subst (λ (c : ℕ). IsFoundBy (shown m memory) m.frames c (pse_of after) (coming cr3 put).tables page slot.entry) (coming_value cr3 put) (here.found page lt slot (sym (s.present.slots page lt) ∙ e))))) in (
           record {
             value_is = s.value_is ∙ ap (λ (c : ℕ). Some c) (sym is);
             present = λ un page lt o slot e. subst (λ (c : ℕ). IsFoundBy (shown m then) m.frames c (pse_of after) (noted new) page slot.entry) (sym is) (found page lt slot e);

@@ -1,11 +1,10 @@
 -- What is kept behind a step whose pages were settled, or for which frames lacked: for each value of CR3.
-use Rattle.std.proofs.Common.{◌≡◌, ℕ, ◌+◌, ◌^◌, ◌<◌, ◌≤◌, List, [], ◌∷◌, Bool, true, false, ◌||◌, Option, Some, None, refl, sym, ap, subst, ◌∙◌, arith}
+use Rattle.std.proofs.Common.{◌≡◌, ℕ, ◌+◌, ◌^◌, ◌<◌, ◌≤◌, List, [], Bool, true, false, ◌||◌, Option, Some, None, refl, sym, ap, subst, ◌∙◌, arith}
 use Rattle.std.specs.Prelude.{MatchOption, IfSome, IsSome, is_none}
 use Rattle.std.specs.FinMap.{get, empty, get-empty, len}
 use Rattle.std.specs.Ordering.{nat_cmp}
 use Rattle.descriptors.specs.declared.cpu.Cpu.{Cpu}
 use Rattle.image_check.specs.Image.{Image}
-use Rattle.paging.specs.declared.entry.Entry.{Entry}
 use Rattle.shadow_tables.specs.Aside.{Aside, LoseWrites, any_of, all_spared}
 use Rattle.shadow_tables.specs.Entries.{entries_of}
 use Rattle.shadow_tables.specs.Slots.{Slot, is_among, entry_in}

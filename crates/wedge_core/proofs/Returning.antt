@@ -18,7 +18,7 @@ use Rattle.machine_step.specs.declared.worked.Dropped.TheVariants as dropped
 use Rattle.machine_step.specs.Worked.{dropping}
 use Rattle.machine_model.specs.Reloading.{IsFoundBy}
 use Rattle.machine_model.specs.Run.{Set}
-use Rattle.machine_model.specs.State.{Setting, State, Loosened, IsCacheable}
+use Rattle.machine_model.specs.State.{Setting, State, Loosened}
 use Rattle.native_steps.specs.Stands.{shown}
 use Rattle.native_steps.proofs.Walks.{IsWalk, ByTable, Large, walk_parts}
 use Rattle.wedge_core.specs.Filled.{pages_aside}

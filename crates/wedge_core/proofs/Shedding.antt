@@ -3,7 +3,7 @@ use Rattle.std.proofs.Common.{◌≡◌, ℕ, ◌+◌, ◌^◌, ◌<◌, ◌≤�
 use Rattle.std.proofs.lemmas.Bool.{cases_lt}
 use Rattle.std.proofs.lemmas.Cmp.{nat_cmp_total}
 use Rattle.std.specs.Option.{ForSome}
-use Rattle.std.specs.FinMap.{empty, len, len-empty, same_map, nat_cmp-IsAntisymmetric}
+use Rattle.std.specs.FinMap.{len, len-empty, same_map, nat_cmp-IsAntisymmetric}
 use Rattle.std.specs.Ordering.{nat_cmp}
 use Rattle.descriptors.specs.declared.cpu.Cpu.{Cpu}
 use Rattle.image_check.specs.Image.{Image}
@@ -13,7 +13,7 @@ use Rattle.shadow_tables.specs.Calls.{IsWithin}
 use Rattle.shadow_tables.specs.Entries.{entries_of}
 use Rattle.shadow_tables.specs.Laws.Entries.{get-entries_of, none-entries_of, entries_of-none}
 use Rattle.shadow_tables.specs.Slots.{Slot, entry_in}
-use Rattle.shadow_tables.proofs.Lists.{within-same, within-trans, note-within}
+use Rattle.shadow_tables.proofs.Lists.{within-same, note-within}
 use Rattle.shadow_cache.specs.Reloaded.{put_by, of_cr3, but_cr3, begun, coming, or_begun, beside_coming, staying}
 use Rattle.machine_model.specs.Reloading.{IsFoundBy}
 use Rattle.machine_model.specs.State.{Setting}

@@ -1,12 +1,10 @@
 -- What is kept may be used again behind the accesses of a step that went, and of one that is prepared for the host.
-use Rattle.std.proofs.Common.{◌≡◌, ◌⊎◌, ℕ, ◌+◌, ◌*◌, ◌/◌, ◌^◌, ◌<◌, ◌≤◌, ◌==◌, List, [], ◌∷◌, ◌++◌, length, map, Bool, true, false, ◌||◌, cond, not, Option, Some, None, Ok, refl, sym, ap, subst, ◌∙◌, inl, inr, arith}
+use Rattle.std.proofs.Common.{◌≡◌, ◌⊎◌, ℕ, ◌+◌, ◌^◌, ◌<◌, ◌≤◌, ◌==◌, List, [], ◌∷◌, ◌++◌, map, Bool, true, false, ◌||◌, cond, not, Option, Some, None, Ok, refl, sym, ap, subst, ◌∙◌, inl, inr, arith}
 use Rattle.std.proofs.lemmas.Bool.Decides.{eqb_tells}
 use Rattle.std.specs.Option.{ForSome}
-use Rattle.std.specs.FinMap.{get, remove}
+use Rattle.std.specs.FinMap.{get}
 use Rattle.board.specs.declared.devices.Board.{Board}
 use Rattle.board.specs.Boards.{given}
-use Rattle.descriptors.specs.Controls.{pse_of}
-use Rattle.descriptors.specs.declared.cpu.Cpu.{Cpu}
 use Rattle.ia32_decode.specs.declared.answer.Decoded.{Decoded}
 use Rattle.ia32_exec.specs.Effect.{ranges_of}
 use Rattle.image_check.specs.Image.{Image}
@@ -15,7 +13,7 @@ use Rattle.paging.specs.Space.{Space}
 use Rattle.paging.specs.Work.{Work, Outcome, ◌>>=◌, on_value, unless}
 use Rattle.sys_exec.specs.declared.effect.Refusal.{Refusal}
 use Rattle.sys_exec.specs.declared.effect.Refusal.TheVariants as refusal
-use Rattle.paging.specs.Uses.{with_entry, without_dir}
+use Rattle.paging.specs.Uses.{with_entry}
 use Rattle.shadow_tables.specs.Aside.{Aside, AreSame}
 use Rattle.shadow_tables.specs.Entries.{entries_of}
 use Rattle.shadow_tables.specs.Slots.{Slot, is_among, entry_in}
@@ -28,7 +26,7 @@ use Rattle.machine_step.specs.declared.worked.Dropped.{Dropped}
 use Rattle.machine_step.specs.declared.worked.Dropped.TheVariants as dropped
 use Rattle.machine_step.specs.declared.worked.Worked.{Worked}
 use Rattle.machine_step.specs.Worked.{dropping, went_as, whats, completed_by}
-use Rattle.machine_model.specs.Following.{StepsFollow, FetchedFollows, RangesFollow, IsLeftBy}
+use Rattle.machine_model.specs.Following.{StepsFollow, FetchedFollows, RangesFollow}
 use Rattle.machine_model.specs.Reloading.{Follows, FollowsOn, Leaves}
 use Rattle.machine_model.specs.Run.{Set}
 use Rattle.machine_model.specs.State.{Setting, State, space_at_start}

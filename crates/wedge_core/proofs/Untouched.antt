@@ -1,7 +1,6 @@
 -- What is kept may be used again behind what the host writes: its views let no write pass to a table.
-use Rattle.std.proofs.Common.{◌≡◌, ℕ, ◌+◌, ◌*◌, ◌/◌, ◌%◌, ◌^◌, ◌<◌, ◌≤◌, List, [], ◌∷◌, length, Bool, true, false, ◌&&◌, cond, Option, Some, None, refl, sym, ap, subst, ◌∙◌, arith}
+use Rattle.std.proofs.Common.{◌≡◌, ℕ, ◌+◌, ◌*◌, ◌/◌, ◌%◌, ◌^◌, ◌<◌, ◌≤◌, List, [], ◌∷◌, length, Bool, true, false, cond, Option, Some, None, refl, sym, ap, subst, ◌∙◌, arith}
 use Rattle.std.specs.Prelude.{nat_le}
-use Rattle.std.specs.Option.{ForSome}
 use Rattle.guest_ram.specs.Bytes.{frame, word32}
 use Rattle.guest_ram.proofs.Bytes.{word32-frame}
 use Rattle.descriptors.specs.Controls.{pse_of}
@@ -16,7 +15,7 @@ use Rattle.machine_model.specs.State.{Setting}
 use Rattle.native_steps.specs.Lends.{IsUnlent}
 use Rattle.native_steps.specs.Stands.{IsWedge, IsHost, shown}
 use Rattle.native_steps.proofs.Shown.{shown_length}
-use Rattle.wedge_core.specs.Ready.{IsReadyAside, AreReady, IsReadyBut, IsReady}
+use Rattle.wedge_core.specs.Ready.{AreReady, IsReady}
 use Rattle.wedge_core.specs.Standing.{wp_of}
 use Rattle.wedge_core.proofs.Bools.{both, none_some}
 use Rattle.wedge_core.proofs.Behind.{found_on, clash}

@@ -108,16 +108,7 @@ impl Guest {
         ensures retired { H.retired host.new ≡ H.retired host.old }
         ensures passed { H.passed host.new ≡ H.passed host.old }
     {
-        let running = adopt_in(
-            alloc,
-            host.ram_mut(),
-            image,
-            cpu,
-            board,
-            step,
-            frames,
-            pool,
-        )?;
+        let running = adopt_in(alloc, host.ram_mut(), image, cpu, board, step, frames, pool)?;
         Ok(Guest { running })
     }
 
@@ -258,7 +249,16 @@ fn start_in(
         Ok(boot) => {
             each_run_begins_able();
             let mut pool = Pool::new(ram, frames, count);
-            match adopt_in(alloc, ram, image, boot.cpu, Board::new(), 0, frames, &mut pool) {
+            match adopt_in(
+                alloc,
+                ram,
+                image,
+                boot.cpu,
+                Board::new(),
+                0,
+                frames,
+                &mut pool,
+            ) {
                 Err(_) => Err(StartFault::Memory),
                 Ok(running) => Ok((Guest { running }, pool)),
             }

@@ -13,7 +13,9 @@ ghost use Rattle.wedge_core.specs.AloneLaws.{AlonesGo};
 ghost use Rattle.wedge_core.specs.ViewLaws.{ViewsLend, ViewsSee};
 
 use image_laws::{fetching, goes_on, outside_sites, places};
-use machine_model::{following_goes_on, others_count_nothing, steps_are_done, steps_follow, works_follow};
+use machine_model::{
+    following_goes_on, others_count_nothing, steps_are_done, steps_follow, works_follow,
+};
 use native_steps::{grants, native_completes, steps_again};
 
 /// A view lends no more of a set of translations than the shadows keep of it, and shows the processor's segments.

@@ -1,4 +1,4 @@
-use Rattle.std.proofs.Common.{◌≡◌, ℕ, Bool, false, refl, sym, subst, ◌∙◌, arith}
+use Rattle.std.proofs.Common.{Bool, false, refl, sym, subst, ◌∙◌, arith}
 use Rattle.wedge_core.specs.Ready.{AllOpen, leaving, left_out}
 use Rattle.wedge_core.proofs.Readying.{none_pages}
 use Rattle.wedge_core.proofs.Returning.{rules_but, left_leaving}

@@ -1,7 +1,6 @@
 use Rattle.frame_pool.proofs.Held.{Owns-moves, Moves-refl}
-use Rattle.std.proofs.Common.{◌≡◌, ◌⊎◌, ℕ, ◌/◌, ◌<◌, ◌^◌, false, None, inl, inr, refl, sym, subst, ◌∙◌}
+use Rattle.std.proofs.Common.{◌≡◌, ℕ, ◌/◌, false, None, inl, inr, sym, subst, ◌∙◌}
 use Rattle.std.proofs.lemmas.Bool.Decides.{eqb_tells}
-use Rattle.shadow_tables.specs.Calls.{IsWithin}
 use Rattle.shadow_tables.proofs.Lists.{within-same}
 use Rattle.machine_step.specs.declared.worked.Dropped.{Dropped}
 use Rattle.machine_step.specs.declared.worked.Dropped.TheVariants as dropped

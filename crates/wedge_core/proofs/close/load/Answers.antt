@@ -1,4 +1,4 @@
-use Rattle.std.proofs.Common.{◌≡◌, ℕ, ◌≤◌, ap, sym, ◌∙◌, arith}
+use Rattle.std.proofs.Common.{◌≤◌, arith}
 use Rattle.frame_pool.specs.Pool.{base_of}
 use Rattle.frame_pool.proofs.Held.{Moves-trans}
 use Rattle.wedge_core.proofs.Memories.{front_same, shown_same}

@@ -1,10 +1,8 @@
-use Rattle.std.proofs.Common.{◌≡◌, ◌⊎◌, ℕ, ◌^◌, ◌<◌, Bool, true, false, ◌||◌, inl, inr, refl, sym, ap, subst, ◌∙◌, arith}
+use Rattle.std.proofs.Common.{false, sym, ◌∙◌, arith}
 use Rattle.frame_pool.proofs.Held.{Owns-moves}
-use Rattle.shadow_tables.proofs.Lists.{within-same}
 use Rattle.shadow_tables.specs.Slots.{is_among}
-use Rattle.wedge_core.specs.Ready.{AllOpen}
 use Rattle.wedge_core.proofs.Memories.{front_same, shown_same}
-use Rattle.wedge_core.proofs.Opening.{none_open, some_open}
+use Rattle.wedge_core.proofs.Opening.{some_open}
 use Rattle.wedge_core.proofs.Readying.{fewer_ready, none_ready, none_pages}
 use Rattle.wedge_core.proofs.Returning.{fewer_pages, some_part, chosen_out}
 use Rattle.wedge_core.proofs.Shedding.{same_shed, open_shed}

@@ -3,7 +3,7 @@ use Rattle.std.specs.FinMap.{get, get-empty}
 use Rattle.std.specs.Ordering.{nat_cmp}
 use Rattle.guest_ram.specs.Bytes.{part, with_part}
 use Rattle.frame_pool.specs.Held.{Owns, Moves, SameIn}
-use Rattle.frame_pool.specs.Pool.{base_of, free_list}
+use Rattle.frame_pool.specs.Pool.{base_of}
 use Rattle.frame_pool.specs.declared.Pool.{Pool}
 use Rattle.frame_pool.proofs.Above.{Owns-above, SameIn-above, free_list-above}
 use Rattle.frame_pool.proofs.Held.{Owns-none}

@@ -37,8 +37,7 @@ returns-in-Ok-adopt_in-clause-started c =
     let free = ap length c.new-pool.ensures.list ∙ length-frames_from n c.args.count in
     let held = c.in-Ok-adopt_in.ensures.held.counted in
     let cpu : c.in-Ok.boot.cpu ≡ boot_cpu image n = ap (λ (b : Boot). b.cpu) ok.1 in
-    let here : c.in-Ok-adopt_in.running.cpu ≡ boot_cpu image n = ap (λ (b : State). b.cpu) (c.in-Ok-adopt_in.ensures.state []) ∙ cpu in
-    (
+    let here : c.in-Ok-adopt_in.running.cpu ≡ boot_cpu image n = ap (λ (b : State). b.cpu) (c.in-Ok-adopt_in.ensures.state []) ∙ cpu in (
       ok.0,
       omega (arith, size),
       omega (arith, base, same_base),

@@ -1,4 +1,4 @@
-use Rattle.std.proofs.Common.{ℕ, ◌≤◌, ◌%◌, false, sym, ap, ◌∙◌, arith}
+use Rattle.std.proofs.Common.{ℕ, ◌%◌, false, sym, ap, ◌∙◌, arith}
 use Rattle.std.specs.FinMap.{empty}
 use Rattle.wedge_core.specs.Standing.{ground, wp_of}
 use Rattle.wedge_core.proofs.Memories.{text_within, front_same, host_same}

@@ -31,15 +31,13 @@ use Rattle.wedge_core.proofs.Asking.{may_close, others, asks}
 use Rattle.wedge_core.proofs.Memories.{shown_is, shown_same, front_same, host_same, host_left, text_within}
 use Rattle.wedge_core.proofs.Nexts.{next_from, others_users, starts, step_is, idle}
 use Rattle.wedge_core.proofs.Opening.{same_open}
-use Rattle.wedge_core.proofs.Parts.{part_same, part_left, part_within, part_join, dropped_part}
+use Rattle.wedge_core.proofs.Parts.{part_same, part_left, part_within}
 use Rattle.wedge_core.proofs.Seeing.{side_is}
 use Rattle.wedge_core.proofs.Telling.{told_same, told_within}
 use Rattle.wedge_core.proofs.AfterTry.{any_script, told_sound, closes_told, after, few_after, held_then, keeps_then, keeps_still}
-use Rattle.shadow_tables.specs.Aside.{AreSame}
 use Rattle.machine_step.specs.Worked.{dropping}
-use Rattle.wedge_mem.specs.Settled.{pages_of}
 use Rattle.wedge_core.specs.Parts.{with_set}
-use Rattle.wedge_core.specs.Ready.{AllOpen, AreFound, IsReady, IsReadyBehind, leaving}
+use Rattle.wedge_core.specs.Ready.{AllOpen, AreFound, IsReady, IsReadyBehind}
 use Rattle.wedge_core.specs.Standing.{ground}
 use Rattle.wedge_core.proofs.Returning.{is_left, all_loosened, all_within, within_left}
 use Rattle.wedge_core.proofs.Shedding.{open_shed, same_shed, ready_open}

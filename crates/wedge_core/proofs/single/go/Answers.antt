@@ -1,8 +1,6 @@
-use Rattle.std.proofs.Common.{◌≡◌, ℕ, ◌≤◌, Bool, List, length, ap, sym, subst, ◌∙◌, arith}
+use Rattle.std.proofs.Common.{◌≡◌, ℕ, ◌≤◌, Bool, List, ap, sym, subst, ◌∙◌, arith}
 use Rattle.frame_pool.specs.Pool.{base_of}
 use Rattle.frame_pool.proofs.Held.{Moves-trans}
-use Rattle.shadow_tables.specs.Entries.{entries_of}
-use Rattle.step_mem.specs.Changes.{changed}
 use Rattle.wedge_mem.specs.Settled.{pages_of}
 use Rattle.wedge_core.specs.Ready.{IsReadyBut, IsReadyBehind, leaving}
 use Rattle.wedge_core.specs.Standing.{AreOpen, wp_of}
@@ -10,7 +8,6 @@ use Rattle.wedge_core.specs.declared.running.Running.{Running}
 use Rattle.wedge_core.proofs.Parts.{left_twice}
 use Rattle.wedge_core.proofs.Boards.{one_step}
 use Rattle.wedge_core.proofs.Filling.{fills_join, fills_fewer}
-use Rattle.wedge_core.proofs.single.go.Given.{Over}
 use Rattle.wedge_core.proofs.single.go.Goals as goal
 
 pub leave-left-requires-clause-enough : goal.leave-left-requires-clause-enough

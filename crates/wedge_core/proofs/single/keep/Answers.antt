@@ -1,4 +1,4 @@
-use Rattle.std.proofs.Common.{◌≤◌, ap, arith}
+use Rattle.std.proofs.Common.{ap, arith}
 use Rattle.wedge_core.proofs.Filling.{fills_fewer}
 use Rattle.wedge_core.proofs.single.keep.Goals as goal
 

@@ -1,8 +1,6 @@
-use Rattle.std.proofs.Common.{◌≡◌, ℕ, ◌*◌, ◌%◌, ◌≤◌, Bool, true, List, [], length, refl, sym, ap, subst, ◌∙◌, arith}
+use Rattle.std.proofs.Common.{◌≡◌, ℕ, ◌*◌, ◌≤◌, Bool, true, List, [], length, refl, sym, ap, subst, ◌∙◌, arith}
 use Rattle.descriptors.specs.declared.cpu.Cpu.{Cpu}
 use Rattle.frame_pool.specs.Pool.{base_of}
-use Rattle.frame_pool.proofs.Above.{free_list-above}
-use Rattle.image_load.specs.Boot.{text_pages}
 use Rattle.paging.specs.Space.{Mode, Wedge, Space}
 use Rattle.shadow_tables.specs.Entries.{entries_of}
 use Rattle.step_mem.specs.Changes.{AreWithin, changed}
@@ -16,9 +14,8 @@ use Rattle.native_steps.specs.Stands.{shown}
 use Rattle.wedge_core.specs.Standing.{AreOpen, state_of, ground, wp_of}
 use Rattle.wedge_core.proofs.Alones.{alone_from, began}
 use Rattle.wedge_core.proofs.Opening.{same_open}
-use Rattle.wedge_core.proofs.Parts.{part_left, part_within, part_join, dropped_part}
-use Rattle.wedge_core.proofs.Keeping.{keeps_join, keeps_above, keeps_moves}
-use Rattle.wedge_core.proofs.Memories.{step_leaves, text_within, shown_is, front_same, shown_same, host_same, host_left}
+use Rattle.wedge_core.proofs.Keeping.{keeps_above}
+use Rattle.wedge_core.proofs.Memories.{step_leaves, shown_is, front_same, shown_same}
 use Rattle.wedge_core.proofs.Filling.{fills_same, fills_join}
 use Rattle.board.specs.Scripts.{Events}
 use Rattle.image_check.specs.Image.{Image}
