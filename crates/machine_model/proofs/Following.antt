@@ -1,6 +1,7 @@
 -- Memory follows over each access.
-use Rattle.std.proofs.Common.{◌≡◌, ℕ, ◌+◌, ◌-◌, ◌*◌, ◌/◌, ◌%◌, ◌^◌, ◌<◌, ◌≤◌, List, [], ◌∷◌, ◌++◌, length, Bool, true, false, cond, not, ◌==◌, Option, Some, None, zero, suc, refl, sym, ap, subst, ◌∙◌, ◌⊎◌, inl, inr, arith}
-use Rattle.std.specs.Prelude.{nat_lt}
+use Rattle.std.proofs.Common.{◌≡◌, ℕ, ◌+◌, ◌-◌, ◌*◌, ◌/◌, ◌%◌, ◌^◌, ◌<◌, ◌≤◌, List, [], ◌∷◌, ◌++◌, length, Bool, true, false, ◌&&◌, cond, not, ◌==◌, Option, Some, None, zero, suc, refl, sym, ap, subst, ◌∙◌, ◌⊎◌, inl, inr, arith}
+use Rattle.std.specs.Prelude.{nat_le, nat_lt}
+use Rattle.std.proofs.lemmas.Bool.Decides.{nat_tests}
 use Rattle.std.specs.List.{Contains}
 use Rattle.std.specs.FinMap.{get, insert, remove, get-insert, get-remove}
 use Rattle.std.specs.Cmp.{unsigned_tied}
@@ -19,7 +20,7 @@ use Rattle.paging.specs.declared.entry.Walk.{Walk}
 use Rattle.paging.specs.declared.entry.Walk.TheVariants.{Absent, Beyond, Reserved, Found}
 use Rattle.paging.specs.declared.entry.Touch.{Touch}
 use Rattle.paging.specs.declared.entry.Touch.TheVariants.{Ready, Fault, Stop}
-use Rattle.paging.specs.Fresh.{fresh, tables_read, grants, flagged}
+use Rattle.paging.specs.Fresh.{fresh, has, is_large, dir_place, table_in, tables_read, grants, flagged}
 use Rattle.paging.specs.Space.{Mode, Span, Earlier, Space, width, place, with_byte, written, saved, frames_of}
 use Rattle.paging.specs.Uses.{tables_of, Decision, is_barred, window_stop, walks_text, marks_own, dirtied, by_walk, decided, settled, usable, by_entry, page_uses, go_on, and_then, unready, made_ready, second_page, by_pages, by_window, uses, fetches}
 use Rattle.machine_model.specs.Reloading.{MemoryFollows, IsFoundBy, HoldsOf, AreApart, Follows, FollowsItself, FollowsOn, FoundOver, AllFoundOver, UsesFollow, FetchesFollow}
@@ -70,6 +71,7 @@ same_follows s = record {
   tables = λ frame c. c;
   pages = λ page c. c;
   others = λ all at lt free clear. refl;
+  low = λ frame c. inl c;
   each = λ room apart tables holds page small e is. inl is;
 }
 
@@ -109,6 +111,10 @@ follows_on s t u h k = record {
       let long = h.memory.long in
       k.others all at (omega (arith, lt, long)) free clear
       ∙ h.others (λ p c. all p (k.pages p c)) at lt (λ c. free (k.wrote (at / 4096) c)) (λ c. clear (k.tables (at / 4096) c));
+  low = λ f c. elim (k.low f c) [
+    | inl old ↦ h.low f old
+    | inr lt ↦ (let frames = h.frames in inr (omega (arith, lt, frames)))
+  ];
   each = λ room apart tables holds page small e is.
       let long = h.memory.long in
       let frames = h.frames in
@@ -156,6 +162,7 @@ aside s mode pages went ready earlier more = record {
   tables = λ frame c. c;
   pages = more;
   others = λ all at lt free clear. refl;
+  low = λ frame c. inl c;
   each = λ room apart tables holds page small e is. inl is;
 }
 
@@ -165,9 +172,42 @@ not_absent : (c : Bool) (o : Option Entry) (e : Entry) → cond c None o ≡ Som
 not_absent true o e is = absurd (let f : ◌≡◌ {A = Option Entry} None (Some e) = is in cc)
 not_absent false o e is = is
 
+-- the frames that a walk reads as a directory or table are there
+one_of : (x f : ℕ) → Contains (x ∷ []) f → x ≡ f
+one_of x f (zero, lt, e) = e
+one_of x f (suc k, lt, e) = absurd (omega (arith, lt))
+
+table_low : (frames : ℕ) (pse : Bool) (dir f : ℕ) → Contains (table_in frames pse dir) f → f < frames
+table_low frames pse dir f = by (has dir 1) (not (is_large pse dir)) (nat_lt (dir / 4096) frames) refl
+  where
+    by : (a b c : Bool) → nat_lt (dir / 4096) frames ≡ c → Contains (cond (a && (b && c)) (dir / 4096 ∷ []) []) f → f < frames
+    by true true true e h = let same = one_of (dir / 4096) f h in let lt : dir / 4096 < frames = grind (arith, nat_tests, e) in omega (arith, same, lt)
+    by true true false e h = absurd (let lt = h.1 in omega (arith, lt))
+    by true false c e h = absurd (let lt = h.1 in omega (arith, lt))
+    by false b c e h = absurd (let lt = h.1 in omega (arith, lt))
+
+read_low : (ram : List ℕ) (frames cr3 : ℕ) (pse : Bool) (page f : ℕ) → Contains (tables_read ram frames cr3 pse page) f → f < frames
+unfolding tables_read
+read_low ram frames cr3 pse page f = by (nat_le frames (cr3 / 4096)) refl
+  where
+    rest : (k : ℕ) → Contains (cr3 / 4096 ∷ table_in frames pse (word32 ram (dir_place cr3 page))) f → cr3 / 4096 < frames → f < frames
+    rest k (zero, lt, e) root = omega (arith, e, root)
+    rest k (suc i, lt, e) root = table_low frames pse (word32 ram (dir_place cr3 page)) f (i, omega (arith, lt), e)
+
+    by : (b : Bool) → nat_le frames (cr3 / 4096) ≡ b → Contains (cond b [] (cr3 / 4096 ∷ table_in frames pse (word32 ram (dir_place cr3 page)))) f → f < frames
+    by true e h = absurd (let lt = h.1 in omega (arith, lt))
+    by false e h = rest 0 h (grind (arith, nat_tests, e))
+
+-- of those that were read, and more
+more_low : (before read : List ℕ) (frames f : ℕ) → ((g : ℕ) → Contains read g → g < frames) → Contains (before ++ read) f → Contains before f ⊎ (f < frames)
+more_low [] read frames f h c = inr (h f c)
+more_low (x ∷ before) read frames f h (zero, lt, e) = inl (zero, omega arith, e)
+more_low (x ∷ before) read frames f h (suc k, lt, e) =
+    elim (more_low before read frames f h (k, omega (arith, lt), e)) [ inl c ↦ inl (suc c.0, (let l = c.1 in omega (arith, l)), c.2) | inr l ↦ inr l ]
+
 -- the entry of a page leaves the set
-none_follows : (s : Space) (page : ℕ) (read : List ℕ) → Follows s (record s { set = remove s.set page; tables = s.tables ++ read })
-none_follows s page read = record {
+none_follows : (s : Space) (page : ℕ) (read : List ℕ) → ((f : ℕ) → Contains read f → f < s.frames) → Follows s (record s { set = remove s.set page; tables = s.tables ++ read })
+none_follows s page read small = record {
   frames = refl;
   cr3 = refl;
   pse = refl;
@@ -176,7 +216,8 @@ none_follows s page read = record {
   tables = λ frame c. Contains-append_left s.tables read frame c;
   pages = λ page c. c;
   others = λ all at lt free clear. refl;
-  each = λ room apart tables holds q small e is. inl (not_absent _ (get s.set q) e (sym (get-remove nat_cmp_total s.set page q) ∙ is));
+  low = λ frame c. more_low s.tables read s.frames frame small c;
+  each = λ room apart tables holds q lt e is. inl (not_absent _ (get s.set q) e (sym (get-remove nat_cmp_total s.set page q) ∙ is));
 }
 
 one_or_other : (q page : ℕ) (new : Entry) (o : Option Entry) (e : Entry) → cond (q == page) (Some new) o ≡ Some e → ((q ≡ page) × (new ≡ e)) ⊎ (o ≡ Some e)
@@ -202,6 +243,7 @@ walk_follows s page e d t write gone is =
       others = λ all at lt free clear.
           let noted = words_noted s.ram s.frames s.cr3 s.pse page e d t (all page gone) is in
           flagged_other s.ram d t write even.0 even.1 at lt (λ g. clear (there at d g noted.0)) (λ g. clear (there at t g noted.1));
+      low = λ frame c. more_low s.tables (tables_read s.ram s.frames s.cr3 s.pse page) s.frames frame (λ f h. read_low s.ram s.frames s.cr3 s.pse page f h) c;
       each = λ room apart tables holds q small found has.
           elim (one_or_other q page (dirtied e write) (get s.set q) found (got q ∙ has)) [
             | inr old ↦ inl old
@@ -228,11 +270,11 @@ either P true a b h k = h
 either P false a b h k = k
 
 walk_decides : (s : Space) (fetch : Bool) (page at : ℕ) (access : Access) (w : Walk) → Contains s.went page → fresh s.ram s.frames s.cr3 s.pse page ≡ w → Decides s page (by_walk (tables_of s) fetch at access w)
-walk_decides s fetch page at access Absent gone is = none_follows s page (tables_read s.ram s.frames s.cr3 s.pse page)
-walk_decides s fetch page at access Beyond gone is = none_follows s page (tables_read s.ram s.frames s.cr3 s.pse page)
-walk_decides s fetch page at access Reserved gone is = none_follows s page (tables_read s.ram s.frames s.cr3 s.pse page)
+walk_decides s fetch page at access Absent gone is = none_follows s page (tables_read s.ram s.frames s.cr3 s.pse page) (λ f h. read_low s.ram s.frames s.cr3 s.pse page f h)
+walk_decides s fetch page at access Beyond gone is = none_follows s page (tables_read s.ram s.frames s.cr3 s.pse page) (λ f h. read_low s.ram s.frames s.cr3 s.pse page f h)
+walk_decides s fetch page at access Reserved gone is = none_follows s page (tables_read s.ram s.frames s.cr3 s.pse page) (λ f h. read_low s.ram s.frames s.cr3 s.pse page f h)
 walk_decides s fetch page at access (Found entry d t) gone is =
-    let none = none_follows s page (tables_read s.ram s.frames s.cr3 s.pse page) in
+    let none = none_follows s page (tables_read s.ram s.frames s.cr3 s.pse page) (λ f h. read_low s.ram s.frames s.cr3 s.pse page f h) in
     either (Decides s page) (not (grants entry access s.wp)) _ _ none
     (either (Decides s page) (is_barred s.mode fetch access.user entry.page entry.frame) _ _ none
     (either (Decides s page) (marks_own (tables_of s) d t access.write) _ _ none (walk_follows s page entry d t access.write gone is)))
@@ -240,7 +282,7 @@ walk_decides s fetch page at access (Found entry d t) gone is =
 decided_follows : (s : Space) (fetch : Bool) (page at : ℕ) (access : Access) → Contains s.went page → Decides s page (decided (tables_of s) fetch page at access)
 unfolding decided
 decided_follows s fetch page at access gone =
-    either (Decides s page) (walks_text (tables_of s) page) _ _ (none_follows s page (tables_read s.ram s.frames s.cr3 s.pse page))
+    either (Decides s page) (walks_text (tables_of s) page) _ _ (none_follows s page (tables_read s.ram s.frames s.cr3 s.pse page) (λ f h. read_low s.ram s.frames s.cr3 s.pse page f h))
     (walk_decides s fetch page at access (fresh s.ram s.frames s.cr3 s.pse page) gone refl)
 
 -- either way memory is as it is
@@ -286,6 +328,7 @@ ready_follows at len write s = record {
   tables = λ frame c. c;
   pages = λ page c. c;
   others = λ all byte lt free clear. refl;
+  low = λ frame c. inl c;
   each = λ room apart tables holds page small e is. inl is;
 }
 
@@ -387,5 +430,6 @@ saved_follows s at size v h = record {
   tables = λ frame c. c;
   pages = λ page c. c;
   others = λ all byte lt free clear. (saved_memory s at size v h).bytes byte lt free;
+  low = λ frame c. inl c;
   each = λ room apart tables holds page small e is. inl is;
 }

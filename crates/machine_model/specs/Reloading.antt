@@ -75,6 +75,8 @@ pub record Follows (s t : Space) : Type 0 where
   pub tables : (frame : ℕ) → Contains s.tables frame → Contains t.tables frame
   pub pages : (page : ℕ) → Contains s.went page → Contains t.went page
   pub others : ArePages t.went → (at : ℕ) → at < length s.ram → (Contains t.wrote (at / 4096) → ⊥) → (Contains t.tables (at / 4096) → ⊥) → byte t.ram at ≡ byte s.ram at
+  -- those that were read since are frames that there are
+  pub low : (frame : ℕ) → Contains t.tables frame → Contains s.tables frame ⊎ (frame < s.frames)
   pub each : 4096 * s.frames ≤ length s.ram → AreApart t.tables t.wrote → (tables : ℕ → Bool) → HoldsOf tables t.tables → (page : ℕ) → page < 2 ^ 20
       → ForSome (get t.set page) (λ e. (get s.set page ≡ Some e) ⊎ IsFoundBy t.ram t.frames t.cr3 t.pse tables page e)
 

@@ -222,30 +222,24 @@ all-barred t u (p ∷ ps) m i h = (λ page slot l e y. h.0 page slot l e (sym (i
 pub asides-barred : (p : Pair) (ps : List Pair) (m : List ℕ) → ∥ IsRoots (p ∷ ps) m ∥₁ → AllBarred (λ f. is_among f (tables_of (p ∷ ps))) (asides_of ps m)
 asides-barred p ps m h = all-barred (any_reads (p ∷ ps)) (λ f. is_among f (tables_of (p ∷ ps))) ps m (λ f. tables-any (p ∷ ps) f) (had (p ∷ ps) m h).barred.1
 
+or-true : (b : Bool) → (b || true) ≡ true
+or-true true = refl
+or-true false = refl
+
+pub noted-tracked : (p : Pair) (ps : List Pair) (frame : ℕ) → reads p frame ≡ true → is_among frame (tables_of (p ∷ ps)) ≡ true
+noted-tracked p ps frame e = tables-any (p ∷ ps) frame ∙ ap (λ b. b || any_reads ps frame) e
+
+all-tracked : (t : ℕ → Bool) (ps : List Pair) (m : List ℕ) → ((f : ℕ) → any_reads ps f ≡ true → t f ≡ true) → AllTracked t (asides_of ps m)
+all-tracked t [] m h = tt
+all-tracked t (p ∷ ps) m h =
+    (λ f e. h f (ap (λ b. b || any_reads ps f) e), all-tracked t ps m (λ f e. h f (ap (λ b. reads p f || b) e ∙ or-true (reads p f))))
+
+pub asides-tracked : (p : Pair) (ps : List Pair) (m : List ℕ) → AllTracked (λ f. is_among f (tables_of (p ∷ ps))) (asides_of ps m)
+asides-tracked p ps m = all-tracked (λ f. is_among f (tables_of (p ∷ ps))) ps m (λ f e. tables-any (p ∷ ps) f ∙ (ap (λ b. reads p f || b) e ∙ or-true (reads p f)))
+
 asides-length : (ps : List Pair) (m : List ℕ) → length (asides_of ps m) ≡ length ps
 asides-length [] m = refl
 asides-length (p ∷ ps) m = ap suc (asides-length ps m)
 
 pub few-asides : (p : Pair) (ps : List Pair) (m : List ℕ) → ∥ IsRoots (p ∷ ps) m ∥₁ → length (asides_of ps m) ≤ 7
 few-asides p ps m h = let few = (had (p ∷ ps) m h).few in let e = asides-length ps m in omega (arith, few, e)
-
--- ---- the frames of tables are tracked
-
-or-first : (a b : Bool) → a ≡ true → (a || b) ≡ true
-or-first true b e = refl
-or-first false b e = absurd cc
-
-or-second : (a b : Bool) → b ≡ true → (a || b) ≡ true
-or-second true b e = refl
-or-second false b e = e
-
-pub noted-tracked : (p : Pair) (ps : List Pair) (f : ℕ) → reads p f ≡ true → is_among f (tables_of (p ∷ ps)) ≡ true
-noted-tracked p ps f e = tables-any (p ∷ ps) f ∙ or-first (reads p f) (any_reads ps f) e
-
-all-tracked : (ps : List Pair) (m tracked : List ℕ) → ((f : ℕ) → any_reads ps f ≡ true → is_among f tracked ≡ true) → AllTracked tracked (asides_of ps m)
-all-tracked [] m tracked i = tt
-all-tracked (p ∷ ps) m tracked i =
-    (λ f e. i f (or-first (reads p f) (any_reads ps f) e), all-tracked ps m tracked (λ f e. i f (or-second (reads p f) (any_reads ps f) e)))
-
-pub asides-tracked : (p : Pair) (ps : List Pair) (m : List ℕ) → AllTracked (tables_of (p ∷ ps)) (asides_of ps m)
-asides-tracked p ps m = all-tracked ps m (tables_of (p ∷ ps)) (λ f e. tables-any (p ∷ ps) f ∙ or-second (reads p f) (any_reads ps f) e)

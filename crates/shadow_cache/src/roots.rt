@@ -265,7 +265,7 @@ impl Shadows for Roots {
 
     ghost asides_barred = { λ r m h. laws.asides-barred r.present r.others m h };
 
-    ghost noted_tracked = { λ r f u n. laws.noted-tracked r.present r.others f n };
+    ghost noted_tracked = { λ r frame unmarked n. laws.noted-tracked r.present r.others frame n };
 
     ghost asides_tracked = { λ r m. laws.asides-tracked r.present r.others m };
 

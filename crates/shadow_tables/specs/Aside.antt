@@ -60,7 +60,7 @@ AllBarred test [] = Unit {0}
 AllBarred test (a ∷ asides) =
     ((page : ℕ) (slot : Slot) → page < 2 ^ 20 → a.slots page ≡ Some slot → test slot.entry.frame ≡ true → slot.writes ≡ false) × AllBarred test asides
 
--- each frame from which tables were read is one of these
-abbrev pub AllTracked : List ℕ → List Aside → Type 0
-AllTracked tracked [] = Unit {0}
-AllTracked tracked (a ∷ asides) = ((frame : ℕ) → a.tables frame ≡ true → is_among frame tracked ≡ true) × AllTracked tracked asides
+-- the test holds of every frame from which the tables of any of them were read
+abbrev pub AllTracked : (ℕ → Bool) → List Aside → Type 0
+AllTracked test [] = Unit {0}
+AllTracked test (a ∷ asides) = ((frame : ℕ) → a.tables frame ≡ true → test frame ≡ true) × AllTracked test asides

@@ -64,8 +64,9 @@ held-roots s m =
 pub none-tracked : (frame : ℕ) (writes : Bool) → is_among frame [] ≡ true → writes ≡ false
 none-tracked frame writes e = cc
 
-pub never-unmarked : (f : ℕ) → true ≡ false → is_among f [] ≡ true
-never-unmarked f e = cc
+-- where nothing comes back, all tables that may are tracked
+pub never-unmarked : (frame : ℕ) → true ≡ false → is_among frame [] ≡ true
+never-unmarked frame e = cc
 
 pub stays : (s : Shadow) (m m' : List ℕ) → ∥ IsShadow s m ∥₁ → SameIn (held s m) m m' → ∥ IsShadow s m' ∥₁
 stays s m m' h e = ∥∥₁_map h (λ x. IsShadow-stays s m m' x e)

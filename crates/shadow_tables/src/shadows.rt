@@ -202,11 +202,10 @@ pub trait Shadows {
 
     ghost asides_barred: { (s : Self) (m : List ℕ) → ∥ stands s m ∥₁ → AllBarred (λ f. is_among f (tracked s)) (asides s m) };
 
-    /// The frames from which tables were read are tracked, where what was kept by them is to stay or come back: so no
-    /// write that the host may do changes them.
-    ghost noted_tracked: { (s : Self) (f : ℕ) → marked s ≡ false → noted s f ≡ true → is_among f (tracked s) ≡ true };
+    /// The tables that what is kept was read from are tracked, as far as it may come back.
+    ghost noted_tracked: { (s : Self) (frame : ℕ) → marked s ≡ false → noted s frame ≡ true → is_among frame (tracked s) ≡ true };
 
-    ghost asides_tracked: { (s : Self) (m : List ℕ) → AllTracked (tracked s) (asides s m) };
+    ghost asides_tracked: { (s : Self) (m : List ℕ) → AllTracked (λ f. is_among f (tracked s)) (asides s m) };
 
     /// A write in other frames makes no difference.
     ghost stays: { (s : Self) (m m' : List ℕ) → ∥ stands s m ∥₁ → SameIn (frames s m) m m' → ∥ stands s m' ∥₁ };
@@ -265,7 +264,7 @@ impl Shadows for Shadow {
 
     ghost asides_barred = { λ s m h. tt };
 
-    ghost noted_tracked = { λ s f u n. laws.never-unmarked f u };
+    ghost noted_tracked = { λ s frame unmarked n. laws.never-unmarked frame unmarked };
 
     ghost asides_tracked = { λ s m. tt };
 

@@ -82,6 +82,7 @@ closes_told dropped old new base set count side free wp tracked s t e same wp_is
 module _ {S : Type 0} (stands : S → List ℕ → Type 0) (frames : S → List ℕ → List ℕ) (slots : S → List ℕ → ℕ → Option Slot) where
   pub record After (image : Image) (n : ℕ) (shadows : S) (pool : Pool) (old new : List ℕ) : Type 0 where
     pub left : Leaves (text_pages image) n old new
+    pub same : SameIn (frames shadows old) old new
     pub behind : 4096 * n ≤ 4096 * base_of pool
     pub frames_same : frames shadows new ≡ frames shadows old
     pub free_same : free_list pool new ≡ free_list pool old
@@ -101,6 +102,7 @@ module _ {S : Type 0} (stands : S → List ℕ → Type 0) (frames : S → List 
       let same = above running.shadows pool ram0 ram1 (4096 * n) held.owns behind left.above left.size in
       record {
         left = left;
+        same = same;
         behind = behind;
         frames_same = same_frames running.shadows ram0 ram1 held.stand same;
         free_same = free_list-above pool ram0 ram1 (4096 * n) behind left.above left.size held.owns.stands;

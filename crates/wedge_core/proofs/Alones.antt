@@ -1,5 +1,5 @@
 -- A step that goes by the rules alone.
-use Rattle.std.proofs.Common.{◌≡◌, ℕ, ◌+◌, List, Bool, refl, sym, ap, ◌∙◌}
+use Rattle.std.proofs.Common.{◌≡◌, ℕ, ◌+◌, List, refl, sym, ap, ◌∙◌}
 use Rattle.board.specs.declared.devices.Board.{Board}
 use Rattle.board.specs.Boards.{board_step}
 use Rattle.paging.specs.Space.{Mode, Space}
@@ -8,13 +8,14 @@ use Rattle.machine_step.specs.Worked.{whats, completed_by, dropping, went_as}
 use Rattle.machine_model.specs.State.{Setting, State, space_at_start}
 use Rattle.machine_model.specs.Step.{Report, Went, stepped, items_at, by_interrupt, interrupt_of, unheld}
 use Rattle.machine_model.specs.Run.{Set}
-use Rattle.wedge_core.specs.Parts.{left_of}
+use Rattle.wedge_core.specs.Parts.{IsLeft}
+use Rattle.wedge_core.specs.declared.running.Lost.{Lost}
 use Rattle.wedge_core.specs.Stepping.{Alone}
 
-pub alone_from : (m : Setting) (b : State) (after : Bool) (w : Worked) (board : Board) (s : Space) (new : State)
+pub alone_from : (m : Setting) (b : State) (lost : Lost) (w : Worked) (board : Board) (s : Space) (new : State)
     → stepped m b ≡ went_as b w board s → new.cpu ≡ w.cpu → new.ram ≡ s.ram → new.board ≡ board_step board → new.step ≡ b.step + 1
-    → new.set ≡ left_of after (dropping w.dropped s.set) → Alone m b after w.seen new
-alone_from m b after w board s new e cpu ram boards step left =
+    → IsLeft m new (dropping w.dropped s.set) lost → Alone m b lost w.seen new
+alone_from m b lost w board s new e cpu ram boards step left =
     let whole : Set = dropping w.dropped s.set in
     let report : Report = record { items = items_at b.step (whats w.seen); completed = completed_by w.completed; pages = s.went; tables = s.tables; wrote = s.wrote } in
     record {

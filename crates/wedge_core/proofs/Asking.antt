@@ -46,6 +46,7 @@ use Rattle.native_steps.proofs.Uses.{went_by}
 use Rattle.native_steps.proofs.WentPages.{went_after, range_goes}
 use Rattle.wedge_mem.specs.Settled.{pages_of}
 use Rattle.wedge_core.specs.Attempts.{Asks}
+use Rattle.wedge_core.specs.declared.running.Lost.{Lost}
 use Rattle.wedge_core.specs.Closed.{MayClose, Closes}
 use Rattle.wedge_core.specs.Opened.{is_text_frame, is_given_frame, is_open_to, is_entry_open}
 use Rattle.wedge_core.specs.Standing.{is_kernel, side_of}
@@ -251,8 +252,8 @@ module _ (grants : Grants) (repeats : Again) (completes : NativeCompletes) (m : 
             completes m memory v (settled b t) w stands lends next_there p.insn p.len a.fetched a.reads a.writes a.translated
             (subst (λ (l : List ℕ). AreReached memory (directory (side_of (b.cpu.cpl == 3))) l (ranges_of p.insn b.cpu.regs)) fetched_same reached_all) p.regs p.stores effect_is
 
-        pub asks : (dropped : Bool) → dropped ≡ false → (after : State) → after ≡ settled b t → Asks m (view_by directory b.cpu) b false dropped after memory
-        asks dropped kept after e = subst (λ (x : State). Asks m (view_by directory b.cpu) b false dropped x memory) (sym e) (record {
+        pub asks : (lost : Lost) → (lost.after ≡ false) × (lost.back ≡ false) → (after : State) → after ≡ settled b t → Asks m (view_by directory b.cpu) b false lost after memory
+        asks lost kept after e = subst (λ (x : State). Asks m (view_by directory b.cpu) b false lost x memory) (sym e) (record {
           kept = kept;
           regs = p.regs;
           completes = completed;

@@ -12,8 +12,8 @@ use Rattle.board.specs.declared.devices.Board.{Board}
 use Rattle.board.specs.Scripts.{Events}
 use Rattle.image_check.specs.Image.{Image}
 use Rattle.image_load.specs.Boot.{need, data_frame, boot_ram, boot_descriptors, with_tables, with_directory}
-use Rattle.shadow_tables.specs.Slots.{IsShadow, held as held_by, slot_at}
-use Rattle.shadow_tables.specs.declared.shadow.Shadow.{Shadow}
+use Rattle.shadow_cache.specs.Views as roots
+use Rattle.shadow_cache.specs.declared.roots.Roots.{Roots}
 use Rattle.machine_model.specs.State.{State, wedge}
 use Rattle.wedge_core.specs.Standing.{IsHeld, ground}
 use Rattle.wedge_core.specs.declared.running.Running.{Running}
@@ -53,7 +53,7 @@ front_stands image frames count old new same is =
     let e : 4096 * frames ≡ frames * 4096 = omega arith in
     frames_same frames old new (λ g l. same.others g (inl l)) ∙ (ap (λ k. take k old) e ∙ is)
 
-part_front : (l : List ℕ) (n a k : ℕ) → a + k ≤ n → part (take n l) a k ≡ part l a k
+pub part_front : (l : List ℕ) (n a k : ℕ) → a + k ≤ n → part (take n l) a k ≡ part l a k
 unfolding part
 part_front l n a k h = same_lists _ _ (grind (arith, places)) (λ j d i. grind (arith, places))
 
@@ -70,8 +70,8 @@ pub begun_is : (cpu cpu2 : Cpu) (ram ram2 : List ℕ) (board board2 : Board) →
 begun_is cpu cpu2 ram ram2 board board2 p q t = λ i. record { cpu = p i; ram = q i; set = empty; board = t i; step = 0 }
 
 -- what a guest stands for doesn't depend on events
-pub held_with : (image : Image) (script : Events) (frames : ℕ) (g : Running Shadow) (pool : Pool) (memory : List ℕ)
-    → IsHeld IsShadow held_by slot_at (ground image frames) g pool memory → IsHeld IsShadow held_by slot_at (wedge image script frames) g pool memory
+pub held_with : (image : Image) (script : Events) (frames : ℕ) (g : Running Roots) (pool : Pool) (memory : List ℕ)
+    → IsHeld roots.stands roots.frames roots.slots (ground image frames) g pool memory → IsHeld roots.stands roots.frames roots.slots (wedge image script frames) g pool memory
 held_with image script frames g pool memory h = record {
   wedge = record { mode = refl; accepted = h.wedge.accepted; room = h.wedge.room };
   frames_are = h.frames_are;

@@ -1,5 +1,5 @@
 -- Pages that are kept, counted.
-use Rattle.std.proofs.Common.{◌≡◌, ℕ, ◌+◌, ◌≤◌, ◌==◌, List, [], ◌∷◌, ◌++◌, length, length-append, map, Bool, true, false, T, cond, ◌&&◌, ◌||◌, not, ◌⊎◌, inl, inr, Option, Some, None, is_some, refl, sym, ap, ◌∙◌, arith, subst}
+use Rattle.std.proofs.Common.{◌≡◌, ℕ, ◌+◌, ◌≤◌, ◌==◌, List, [], ◌∷◌, ◌++◌, length, length-append, map, Bool, true, false, T, cond, ◌&&◌, ◌||◌, not, ◌⊎◌, inl, inr, Option, Some, None, is_some, refl, sym, ap, ◌∙◌, arith}
 use Rattle.std.specs.List.{list_any, AllByRecursion, IsDistinct}
 use Rattle.std.specs.List.Sorted.{IsStrictlySortedBy}
 use Rattle.std.specs.Cmp.{unsigned_tied, eq_by_cmp_equiv, nat_cmp_total}
@@ -14,12 +14,7 @@ use Rattle.std.proofs.lemmas.Map.Keys.{IsDistinct-from_sorted}
 use Rattle.std.proofs.lemmas.Map.Made.{length-le_from_is_member}
 use Rattle.std.proofs.lemmas.Bool.Decides.{eqb_tells}
 use Rattle.paging.specs.declared.entry.Entry.{Entry}
-use Rattle.shadow_tables.specs.Entries.{entries_of}
-use Rattle.shadow_tables.specs.Slots.{Slot, is_among}
-use Rattle.board.specs.Boards.{board_steps}
-use Rattle.frame_pool.proofs.Lengths.{zero-or}
-use Rattle.host_cpl3.specs.declared.view.View.{View}
-use Rattle.host_cpl3.specs.HostRun.{Standing}
+use Rattle.shadow_tables.specs.Slots.{is_among}
 use Rattle.step_mem.specs.Changes.{changed, page_of, entry_of}
 use Rattle.step_mem.specs.declared.changes.Change.{Change}
 use Rattle.step_mem.proofs.Changed.{get_with_other}
@@ -27,8 +22,6 @@ use Rattle.wedge_mem.specs.Settled.{used, has_entry, pages_of}
 use Rattle.machine_model.specs.Run.{Set}
 use Rattle.wedge_core.specs.Filled.{FillsOn}
 use Rattle.wedge_core.specs.Parts.{IsPartOf}
-use Rattle.wedge_core.specs.Ran.{Ran, landed}
-use Rattle.wedge_core.specs.declared.running.Running.{Running}
 
 -- ---- the pages of a set, each once
 
@@ -150,13 +143,13 @@ changed_few set went changes =
 
 -- ---- one call, and two
 
-pub fills_same : (old new : Set) (fills : ℕ) → new ≡ old → FillsOn old new fills fills
-fills_same old new fills is = record { rises = omega arith; enough = (let e = ap (λ (s : Set). len s) is in omega (arith, e)) }
+pub fills_same : (old new fills : ℕ) → new ≡ old → FillsOn old new fills fills
+fills_same old new fills is = record { rises = omega arith; enough = omega (arith, is) }
 
-pub fills_part : (old new : Set) (fills : ℕ) → IsPartOf new old → FillsOn old new fills fills
-fills_part old new fills p = record { rises = omega arith; enough = (let f = part_few new old p in omega (arith, f)) }
+pub fills_fewer : (old new fills : ℕ) → new ≤ old → FillsOn old new fills fills
+fills_fewer old new fills few = record { rises = omega arith; enough = omega (arith, few) }
 
-pub fills_join : (a b c : Set) (x y z : ℕ) → FillsOn a b x y → FillsOn b c y z → FillsOn a c x z
+pub fills_join : (a b c x y z : ℕ) → FillsOn a b x y → FillsOn b c y z → FillsOn a c x z
 fills_join a b c x y z f g =
     let p = f.rises in
     let q = g.rises in
@@ -164,18 +157,10 @@ fills_join a b c x y z f g =
     let s = g.enough in
     record { rises = omega (arith, p, q); enough = omega (arith, r, s) }
 
+-- some of the pages that are kept
+pub fills_within : (pages few new before after : ℕ) → few ≤ new → FillsOn pages new before after → FillsOn pages few before after
+fills_within pages few new before after le f = let e = f.enough in record { rises = f.rises; enough = omega (arith, e, le) }
+
 -- none are kept
 pub empty_few : (set : Set) → set ≡ empty → len set ≡ 0
 empty_few set is = ap (λ (s : Set). len s) is ∙ len-empty nat_cmp Entry
-
--- a run of the host fills nothing
-pub ran_fills : {S : Type 0} (slots : S → List ℕ → ℕ → Option Slot) (v : View) (k : ℕ) (s : Standing) (old new : Running S) (done : ℕ) (m0 memory : List ℕ) (retired passed : ℕ) → Ran v k s old done new memory retired passed
-    → entries_of (slots old.shadows memory) ≡ entries_of (slots old.shadows m0) → FillsOn (entries_of (slots old.shadows m0)) (entries_of (slots new.shadows memory)) old.fills new.fills
-ran_fills {S} slots v k s old new done m0 memory retired passed r same =
-    elim (zero-or done) [ inl z ↦ by (r.none z) | inr n ↦ by_some (r.some n) ]
-  where
-    by : new ≡ old → FillsOn (entries_of (slots old.shadows m0)) (entries_of (slots new.shadows memory)) old.fills new.fills
-    by is = subst (λ (g : Running S). FillsOn (entries_of (slots old.shadows m0)) (entries_of (slots g.shadows memory)) old.fills g.fills) (sym is) (fills_same _ _ old.fills same)
-
-    by_some : new ≡ record old { cpu = record old.cpu { regs = landed r.exit r.regs; held = false }; board = board_steps done old.board; step = old.step + done } → FillsOn (entries_of (slots old.shadows m0)) (entries_of (slots new.shadows memory)) old.fills new.fills
-    by_some is = subst (λ (g : Running S). FillsOn (entries_of (slots old.shadows m0)) (entries_of (slots g.shadows memory)) old.fills g.fills) (sym is) (fills_same _ _ old.fills same)

@@ -1,6 +1,7 @@
 -- A slice on its way.
 use Rattle.std.proofs.Common.{◌≡◌, ℕ, ◌+◌, ◌≤◌, ◌<◌, zero, suc, replicate, length, Bool, true, false, List, [], ◌∷◌, ◌++◌, Option, Result, Ok, Err, refl, sym, ap, subst, ◌∙◌, append_assoc, arith}
-use Rattle.std.specs.List.{All, list_any}
+use Rattle.std.specs.List.{All}
+use Rattle.std.specs.FinMap.{len}
 use Rattle.std.proofs.lemmas.List.{append-nil}
 use Rattle.std.proofs.lemmas.List.Elements.{All-nil, All-cons, All-append, All-replicate, All-weaker}
 use Rattle.pv_io.specs.declared.answer.Failed.{Failed}
@@ -17,89 +18,83 @@ use Rattle.run_trace.specs.Text.{lines_of}
 use Rattle.machine_model.specs.State.{Setting, State, Loosened}
 use Rattle.machine_model.specs.Step.{Report, Stands, stepped, step_of, items_at}
 use Rattle.machine_model.specs.Run.{Set, Steps, trace_of}
-use Rattle.machine_model.specs.Notes.{AreLeft, AreNotes, is_emptied, set_told}
+use Rattle.machine_model.specs.Notes.{AreLeft, AreNotes, set_told}
 use Rattle.wedge_core.specs.Filled.{FillsOn}
 use Rattle.wedge_core.specs.Noted.{NotesOn, emptied_if, notes_then}
 use Rattle.wedge_core.specs.Parts.{IsPartOf, left_of, with_set}
 use Rattle.wedge_core.specs.Slices.{Counts, CountsOn, SliceAs}
 use Rattle.wedge_core.specs.Stepping.{Goes, Halts, Passes, StepAs}
 use Rattle.wedge_core.specs.declared.running.Lost.{Lost}
-use Rattle.wedge_core.proofs.Parts.{part_left, part_join, part_allowed}
+use Rattle.wedge_core.proofs.Parts.{part_left, part_same, part_allowed, part_loosened}
 use Rattle.wedge_core.proofs.Joined.{steps_join, no_steps, steps_one, trace_join, counts_join, counts_none}
-use Rattle.wedge_core.proofs.Filling.{fills_same, fills_part, fills_join}
+use Rattle.wedge_core.proofs.Filling.{part_few}
 use Rattle.wedge_core.proofs.Texts.{appends_both, appends_none, front_of, lines_join}
-use Rattle.wedge_core.proofs.EmptiedNotes.{SoFar, Tried, none_yet, try_next, go_next, so_far_later, told_is, told_more, told_none, told_before, up_to_later, tried_none, none_dropped, dropped_once, are_pages, steps_until}
+use Rattle.wedge_core.proofs.EmptiedNotes.{SoFar, Tried, none_yet, try_next, go_next, so_far_later, told_more, told_none, told_before, up_to_later, tried_none, none_dropped, dropped_once, are_pages, steps_until}
 use Rattle.wedge_core.proofs.ToldSteps.{ToldBy, told_nothing, told_one, told_join, told_on, left_behind, steps_counted, are_told}
 
--- each of these sets has no more pages than the first one, and than were filled since
-abbrev pub EachFilled : Set → ℕ → ℕ → List Set → Type 0
-EachFilled first before after sets = All (λ (set : Set). FillsOn first set before after) sets
+-- each of these sets has no more pages than were kept at first and were filled since
+abbrev pub EachFilled : ℕ → ℕ → ℕ → List Set → Type 0
+EachFilled pages before after sets = All (λ (set : Set). FillsOn pages (len set) before after) sets
 
--- Some steps were done. What is kept is what they left, but for what the notes tell, by which they went too. Their lines
--- were put, and the counts follow.
-pub record Going (m : Setting) (old now : State) (before after : Counts) (told tells : Option (List ℕ)) (fills filled : ℕ) (notes_on : List Note → Type 0) : Type 0 where
+-- Some steps were done. What is kept a run may go on with; where notes are wanted, it is what they left, but for what the
+-- notes tell, by which they went too. Their lines were put, and the counts follow.
+pub record Going (m : Setting) (old now : State) (before after : Counts) (told tells : Option (List ℕ)) (pages fills filled : ℕ) (wanted : Bool) (notes_on : List Note → Type 0) : Type 0 where
   pub sets : List Set
   pub reports : List Report
   pub whole : Set
   pub notes : List Note
   pub steps : Steps m old sets reports (with_set now whole)
-  pub kept : now.set ≡ set_told notes now.step whole
-  pub by : ToldBy m old sets notes
+  pub allowed : Loosened m (with_set now whole) now.set
+  pub kept : wanted ≡ true → now.set ≡ set_told notes now.step whole
+  pub by : wanted ≡ true → ToldBy m old sets notes
   pub so_far : SoFar old.step now.step notes
   pub tells_notes : notes_on notes
-  pub each_filled : EachFilled old.set fills filled sets
-  pub enough : FillsOn old.set now.set fills filled
+  pub each_filled : EachFilled pages fills filled sets
+  pub enough : FillsOn pages (len now.set) fills filled
   pub text : Appends told tells (lines_of (trace_of reports))
   pub counts : CountsOn m reports before after
 
-pub going_none : (m : Setting) (b : State) (counts : Counts) (told : Option (List ℕ)) (fills : ℕ) (notes_on : List Note → Type 0) → notes_on [] → Going m b b counts counts told told fills fills notes_on
-going_none m b counts told fills notes_on none = record {
+pub going_none : (m : Setting) (b : State) (counts : Counts) (told : Option (List ℕ)) (pages fills : ℕ) (wanted : Bool) (notes_on : List Note → Type 0) → notes_on [] → len b.set ≤ pages → Going m b b counts counts told told pages fills fills wanted notes_on
+going_none m b counts told pages fills wanted notes_on none few = record {
   sets = [];
   reports = [];
   whole = b.set;
   notes = [];
   steps = no_steps m b;
-  kept = refl;
-  by = told_nothing m b [];
+  allowed = part_allowed m b b.set (part_same b.set b.set refl);
+  kept = λ w. refl;
+  by = λ w. told_nothing m b [];
   so_far = none_yet b.step;
   tells_notes = none;
-  each_filled = All-nil (λ (set : Set). FillsOn b.set set fills fills);
-  enough = fills_same b.set b.set fills refl;
+  each_filled = All-nil (λ (set : Set). FillsOn pages (len set) fills fills);
+  enough = record { rises = omega arith; enough = omega (arith, few) };
   text = appends_none told;
   counts = counts_none m counts;
 }
 
 -- none of them is behind the first
-pub begun : (m : Setting) (old now : State) (a b : Counts) (told tells : Option (List ℕ)) (fills filled : ℕ) (notes_on : List Note → Type 0) → (g : Going m old now a b told tells fills filled notes_on) → old.step + length g.sets ≡ now.step
-begun m old now a b told tells fills filled notes_on g = sym (steps_counted m old g.sets g.reports (with_set now g.whole) g.steps)
+pub begun : (m : Setting) (old now : State) (a b : Counts) (told tells : Option (List ℕ)) (pages fills filled : ℕ) (wanted : Bool) (notes_on : List Note → Type 0) → (g : Going m old now a b told tells pages fills filled wanted notes_on) → old.step + length g.sets ≡ now.step
+begun m old now a b told tells pages fills filled wanted notes_on g = sym (steps_counted m old g.sets g.reports (with_set now g.whole) g.steps)
 
 -- what is left of a set is part of it
 told_part : (b : Bool) (set : Set) → IsPartOf (left_of b set) set
 told_part b set = part_left b (left_of b set) set refl
 
-filled_later : (first : Set) (before mid after : ℕ) (sets : List Set) → mid ≤ after → EachFilled first before mid sets → EachFilled first before after sets
-filled_later first before mid after sets le h =
-    All-weaker (λ (set : Set). FillsOn first set before mid) (λ (set : Set). FillsOn first set before after)
+filled_later : (pages before mid after : ℕ) (sets : List Set) → mid ≤ after → EachFilled pages before mid sets → EachFilled pages before after sets
+filled_later pages before mid after sets le h =
+    All-weaker (λ (set : Set). FillsOn pages (len set) before mid) (λ (set : Set). FillsOn pages (len set) before after)
     (λ set f. let r = f.rises in let e = f.enough in record { rises = omega (arith, r, le); enough = omega (arith, e, le) }) sets h
 
-filled_push : (first : Set) (before after : ℕ) (sets : List Set) (set : Set) → EachFilled first before after sets → FillsOn first set before after → EachFilled first before after (sets ++ set ∷ [])
-filled_push first before after sets set h f =
-    let P = λ (x : Set). FillsOn first x before after in
+filled_push : (pages before after : ℕ) (sets : List Set) (set : Set) → EachFilled pages before after sets → FillsOn pages (len set) before after → EachFilled pages before after (sets ++ set ∷ [])
+filled_push pages before after sets set h f =
+    let P = λ (x : Set). FillsOn pages (len x) before after in
     All-append P sets (set ∷ []) h (All-cons P set [] f (All-nil P))
 
-enough_later : (first set : Set) (before mid after : ℕ) → mid ≤ after → FillsOn first set before mid → FillsOn first set before after
-enough_later first set before mid after le f =
+enough_later : (pages few before mid after : ℕ) → mid ≤ after → FillsOn pages few before mid → FillsOn pages few before after
+enough_later pages few before mid after le f =
     let r = f.rises in
     let e = f.enough in
     record { rises = omega (arith, r, le); enough = omega (arith, e, le) }
-
--- what is kept is part of what was left
-pub kept_part : (m : Setting) (old now : State) (a b : Counts) (told tells : Option (List ℕ)) (fills filled : ℕ) (notes_on : List Note → Type 0) → (g : Going m old now a b told tells fills filled notes_on) → IsPartOf now.set g.whole
-kept_part m old now a b told tells fills filled notes_on g =
-    subst (λ (x : Set). IsPartOf x g.whole) (sym (g.kept ∙ told_is now.step now.step g.whole g.notes g.so_far.until)) (told_part (list_any (is_emptied now.step) g.notes) g.whole)
-
-kept_allowed : (m : Setting) (old now : State) (a b : Counts) (told tells : Option (List ℕ)) (fills filled : ℕ) (notes_on : List Note → Type 0) → (g : Going m old now a b told tells fills filled notes_on) → Loosened m (with_set now g.whole) now.set
-kept_allowed m old now a b told tells fills filled notes_on g = part_allowed m (with_set now g.whole) now.set (kept_part m old now a b told tells fills filled notes_on g)
 
 -- the same step, by what was chosen
 chosen_there : (m : Setting) (now : State) (whole chosen : Set) → step_of m (with_set now whole) chosen ≡ step_of m now chosen
@@ -108,10 +103,10 @@ chosen_there m now whole chosen = refl
 
 -- steps in which nothing is seen
 
-pub going_past : (m : Setting) (old now new : State) (a b c : Counts) (told tells : Option (List ℕ)) (fills mid filled : ℕ) (notes_on : List Note → Type 0) → (g : Going m old now a b told tells fills mid notes_on) → FillsOn now.set new.set mid filled
-    → Passes m now new b c → Going m old new a c told tells fills filled notes_on
+pub going_past : (m : Setting) (old now new : State) (a b c : Counts) (told tells : Option (List ℕ)) (pages fills mid filled : ℕ) (wanted : Bool) (notes_on : List Note → Type 0) → (g : Going m old now a b told tells pages fills mid wanted notes_on) → mid ≤ filled → FillsOn pages (len new.set) fills filled
+    → Passes m now new b c → Going m old new a c told tells pages fills filled wanted notes_on
 unfolding Steps
-going_past m old now new a b c told tells fills mid filled notes_on g f p = by p.n p.steps p.left
+going_past m old now new a b c told tells pages fills mid filled wanted notes_on g rises enough p = by p.n p.steps p.left
   where
     silent : trace_of (g.reports ++ p.reports) ≡ trace_of g.reports
     silent = trace_join g.reports p.reports ∙ (ap (λ (l : List Item). trace_of g.reports ++ l) p.silent ∙ append-nil (trace_of g.reports))
@@ -119,13 +114,7 @@ going_past m old now new a b c told tells fills mid filled notes_on g f p = by p
     put : Appends told tells (lines_of (trace_of (g.reports ++ p.reports)))
     put = subst (λ (l : List Item). Appends told tells (lines_of l)) (sym silent) g.text
 
-    enough : FillsOn old.set new.set fills filled
-    enough = fills_join old.set now.set new.set fills mid filled g.enough f
-
-    rises : mid ≤ filled
-    rises = f.rises
-
-    by : (n : ℕ) → Steps m now (replicate n now.set) p.reports new → AreLeft m now (replicate n now.set) → Going m old new a c told tells fills filled notes_on
+    by : (n : ℕ) → Steps m now (replicate n now.set) p.reports new → AreLeft m now (replicate n now.set) → Going m old new a c told tells pages fills filled wanted notes_on
     by zero steps left =
         let same : g.reports ++ p.reports ≡ g.reports = ap (λ (l : List Report). g.reports ++ l) steps.0 ∙ append-nil g.reports in
         record {
@@ -134,11 +123,12 @@ going_past m old now new a b c told tells fills mid filled notes_on g f p = by p
           whole = g.whole;
           notes = g.notes;
           steps = subst (λ (l : List Report). Steps m old g.sets l (with_set new g.whole)) (sym same) (subst (λ (x : State). Steps m old g.sets g.reports (with_set x g.whole)) (sym steps.1) g.steps);
-          kept = subst (λ (x : State). x.set ≡ set_told g.notes x.step g.whole) (sym steps.1) g.kept;
+          allowed = subst (λ (x : State). Loosened m (with_set x g.whole) x.set) (sym steps.1) g.allowed;
+          kept = λ w. subst (λ (x : State). x.set ≡ set_told g.notes x.step g.whole) (sym steps.1) (g.kept w);
           by = g.by;
           so_far = subst (λ (x : State). SoFar old.step x.step g.notes) (sym steps.1) g.so_far;
           tells_notes = g.tells_notes;
-          each_filled = filled_later old.set fills mid filled g.sets rises g.each_filled;
+          each_filled = filled_later pages fills mid filled g.sets rises g.each_filled;
           enough = enough;
           text = put;
           counts = counts_join m g.reports p.reports a b c g.counts p.counts;
@@ -146,19 +136,20 @@ going_past m old now new a b c told tells fills mid filled notes_on g f p = by p
     by (suc n) steps left =
         let count = steps_counted m now (replicate (suc n) now.set) p.reports new steps in
         let later : now.step < new.step = omega (arith, count) in
-        let first : EachFilled old.set fills filled (replicate (suc n) now.set) = All-replicate (λ (set : Set). FillsOn old.set set fills filled) (suc n) now.set (enough_later old.set now.set fills mid filled rises g.enough) in
+        let first : EachFilled pages fills filled (replicate (suc n) now.set) = All-replicate (λ (set : Set). FillsOn pages (len set) fills filled) (suc n) now.set (enough_later pages (len now.set) fills mid filled rises g.enough) in
         record {
           sets = g.sets ++ replicate (suc n) now.set;
           reports = g.reports ++ p.reports;
           whole = new.set;
           notes = g.notes;
           steps = steps_join m old (with_set now g.whole) new g.sets (replicate (suc n) now.set) g.reports p.reports g.steps
-              (steps.0, steps.1, steps.2, kept_allowed m old now a b told tells fills mid notes_on g, chosen_there m now g.whole now.set ∙ steps.4, steps.5, steps.6);
-          kept = sym (told_none now.step new.step new.set g.notes later g.so_far.until);
-          by = told_join m old (with_set now g.whole) g.sets (replicate (suc n) now.set) g.reports g.notes g.steps g.by (left_behind m now g.whole (replicate (suc n) now.set) g.notes g.kept g.so_far.until left);
+              (steps.0, steps.1, steps.2, g.allowed, chosen_there m now g.whole now.set ∙ steps.4, steps.5, steps.6);
+          allowed = part_allowed m (with_set new new.set) new.set (part_same new.set new.set refl);
+          kept = λ w. sym (told_none now.step new.step new.set g.notes later g.so_far.until);
+          by = λ w. told_join m old (with_set now g.whole) g.sets (replicate (suc n) now.set) g.reports g.notes g.steps (g.by w) (left_behind m now g.whole (replicate (suc n) now.set) g.notes (g.kept w) g.so_far.until left);
           so_far = so_far_later old.step now.step new.step g.notes later g.so_far;
           tells_notes = g.tells_notes;
-          each_filled = All-append (λ (set : Set). FillsOn old.set set fills filled) g.sets (replicate (suc n) now.set) (filled_later old.set fills mid filled g.sets rises g.each_filled) first;
+          each_filled = All-append (λ (set : Set). FillsOn pages (len set) fills filled) g.sets (replicate (suc n) now.set) (filled_later pages fills mid filled g.sets rises g.each_filled) first;
           enough = enough;
           text = put;
           counts = counts_join m g.reports p.reports a b c g.counts p.counts;
@@ -169,18 +160,19 @@ abbrev pub eventful : Setting → State → State
 eventful m b = record b { board = given b.board m.script b.step }
 
 -- Some steps were done, and one more. Of its lines something was put.
-pub record Stepped (m : Setting) (old now new : State) (seen : Seen) (before after : Counts) (told tells : Option (List ℕ)) (fills filled : ℕ) (notes_on : List Note → Type 0) : Type 0 where
+pub record Stepped (m : Setting) (old now new : State) (seen : Seen) (before after : Counts) (told tells : Option (List ℕ)) (pages fills filled : ℕ) (wanted : Bool) (notes_on : List Note → Type 0) : Type 0 where
   pub sets : List Set
   pub reports : List Report
   pub whole : Set
   pub notes : List Note
   pub steps : Steps m old sets reports (with_set new whole)
-  pub kept : new.set ≡ set_told notes new.step whole
-  pub by : ToldBy m old sets notes
+  pub allowed : Loosened m (with_set new whole) new.set
+  pub kept : wanted ≡ true → new.set ≡ set_told notes new.step whole
+  pub by : wanted ≡ true → ToldBy m old sets notes
   pub so_far : SoFar old.step new.step notes
   pub tells_notes : notes_on notes
-  pub each_filled : EachFilled old.set fills filled sets
-  pub enough : FillsOn old.set new.set fills filled
+  pub each_filled : EachFilled pages fills filled sets
+  pub enough : FillsOn pages (len new.set) fills filled
   pub front : List Item
   pub trace : trace_of reports ≡ front ++ items_at now.step (whats seen)
   pub text : Appends told tells (lines_of front)
@@ -192,7 +184,7 @@ unfolding step_of
 chosen_first m now whole chosen = refl
 
 -- the next step is tried, before which all translations may have been dropped
-module _ (m : Setting) (old now : State) (a b : Counts) (told tells : Option (List ℕ)) (fills mid : ℕ) (notes_on : List Note → Type 0) (g : Going m old now a b told tells fills mid notes_on) (dropped : Bool) where
+module _ (m : Setting) (old now : State) (a b : Counts) (told tells : Option (List ℕ)) (pages fills mid : ℕ) (wanted : Bool) (notes_on : List Note → Type 0) (g : Going m old now a b told tells pages fills mid wanted notes_on) (dropped : Bool) where
   abbrev pub notes_tried : List Note
   notes_tried = g.notes ++ emptied_if dropped now.step
 
@@ -200,59 +192,63 @@ module _ (m : Setting) (old now : State) (a b : Counts) (told tells : Option (Li
   chosen = left_of dropped now.set
 
   pub here : old.step + length g.sets ≡ now.step
-  here = begun m old now a b told tells fills mid notes_on g
+  here = begun m old now a b told tells pages fills mid wanted notes_on g
 
   pub first : old.step ≤ now.step
   first = let n = here in omega (arith, n)
 
-  pub chosen_told : chosen ≡ set_told notes_tried now.step g.whole
-  chosen_told = ap (left_of dropped) g.kept ∙ sym (told_more dropped now.step g.whole g.notes g.so_far.until)
+  pub chosen_told : wanted ≡ true → chosen ≡ set_told notes_tried now.step g.whole
+  chosen_told w = ap (left_of dropped) (g.kept w) ∙ sym (told_more dropped now.step g.whole g.notes g.so_far.until)
 
   pub chosen_allowed : Loosened m (with_set now g.whole) chosen
-  chosen_allowed = part_allowed m (with_set now g.whole) chosen (part_join chosen now.set g.whole (told_part dropped now.set) (kept_part m old now a b told tells fills mid notes_on g))
+  chosen_allowed = part_loosened m (with_set now g.whole) chosen now.set (told_part dropped now.set) g.allowed
 
   pub tried : Tried old.step now.step notes_tried
   tried = try_next dropped old.step now.step g.notes first g.so_far
 
-  pub by_then : ToldBy m old g.sets notes_tried
-  by_then = told_on dropped m old g.sets g.notes now.step (let n = here in omega (arith, n)) g.so_far.until g.by
+  pub by_then : wanted ≡ true → ToldBy m old g.sets notes_tried
+  by_then w = told_on dropped m old g.sets g.notes now.step (let n = here in omega (arith, n)) g.so_far.until (g.by w)
 
-  pub enough_chosen : FillsOn old.set chosen fills mid
-  enough_chosen = fills_join old.set now.set chosen fills mid mid g.enough (fills_part now.set chosen mid (told_part dropped now.set))
+  pub enough_chosen : FillsOn pages (len chosen) fills mid
+  enough_chosen =
+      let few = part_few chosen now.set (told_part dropped now.set) in
+      let r = g.enough.rises in
+      let e = g.enough.enough in
+      record { rises = r; enough = omega (arith, few, e) }
 
 -- and goes
-pub going_on : (m : Setting) (old now new : State) (lost : Lost) (seen : Seen) (a b c : Counts) (told tells : Option (List ℕ)) (fills mid filled : ℕ) (notes_on notes_after : List Note → Type 0)
-    → (g : Going m old now a b told tells fills mid notes_on) → Goes m (eventful m now) lost seen new b c → new.step ≡ now.step + 1 → FillsOn now.set new.set mid filled
-    → ((notes : List Note) → notes_on notes → notes_after (notes ++ notes_then lost now.step)) → Stepped m old now new seen a c told tells fills filled notes_after
-going_on m old now new lost seen a b c told tells fills mid filled notes_on notes_after g r count f on =
+pub going_on : (m : Setting) (old now new : State) (lost : Lost) (seen : Seen) (a b c : Counts) (told tells : Option (List ℕ)) (pages fills mid filled : ℕ) (wanted : Bool) (notes_on notes_after : List Note → Type 0)
+    → (g : Going m old now a b told tells pages fills mid wanted notes_on) → Goes m (eventful m now) lost seen new b c → new.step ≡ now.step + 1 → mid ≤ filled → FillsOn pages (len new.set) fills filled → (wanted ≡ true → lost.back ≡ false)
+    → ((notes : List Note) → notes_on notes → notes_after (notes ++ notes_then lost now.step)) → Stepped m old now new seen a c told tells pages fills filled wanted notes_after
+going_on m old now new lost seen a b c told tells pages fills mid filled wanted notes_on notes_after g r count rises enough exact on =
     let set = left_of lost.before now.set in
     let before = g.notes ++ emptied_if lost.before now.step in
     let notes = before ++ emptied_if lost.after (now.step + 1) in
-    let allowed = chosen_allowed m old now a b told tells fills mid notes_on g lost.before in
-    let tried_now = tried m old now a b told tells fills mid notes_on g lost.before in
-    let low = first m old now a b told tells fills mid notes_on g lost.before in
-    let n = here m old now a b told tells fills mid notes_on g lost.before in
+    let allowed = chosen_allowed m old now a b told tells pages fills mid wanted notes_on g lost.before in
+    let tried_now = tried m old now a b told tells pages fills mid wanted notes_on g lost.before in
+    let low = first m old now a b told tells pages fills mid wanted notes_on g lost.before in
+    let n = here m old now a b told tells pages fills mid wanted notes_on g lost.before in
     let up = up_to_later now.step (now.step + 1) before (omega arith) tried_now.until in
     let one = steps_one m (with_set now g.whole) (with_set new r.whole) set r.report allowed (chosen_first m now g.whole set ∙ r.went) in
-    let rises = f.rises in
     let is : set_told notes (now.step + 1) r.whole ≡ left_of lost.after r.whole =
     told_more lost.after (now.step + 1) r.whole before up ∙ ap (left_of lost.after) (told_none now.step (now.step + 1) r.whole before (omega arith) tried_now.until) in
-    let by_before = told_on lost.after m old g.sets before (now.step + 1) (omega (arith, n)) up (by_then m old now a b told tells fills mid notes_on g lost.before) in
-    let by_now = told_one m (with_set now g.whole) set notes
-    (chosen_told m old now a b told tells fills mid notes_on g lost.before ∙ sym (told_before lost.after (now.step + 1) now.step g.whole before (omega arith) up)) in
+    let by_before = λ (w : wanted ≡ true). told_on lost.after m old g.sets before (now.step + 1) (omega (arith, n)) up (by_then m old now a b told tells pages fills mid wanted notes_on g lost.before w) in
+    let by_now = λ (w : wanted ≡ true). told_one m (with_set now g.whole) set notes
+    (chosen_told m old now a b told tells pages fills mid wanted notes_on g lost.before w ∙ sym (told_before lost.after (now.step + 1) now.step g.whole before (omega arith) up)) in
     record {
       sets = g.sets ++ set ∷ [];
       reports = g.reports ++ r.report ∷ [];
       whole = r.whole;
       notes = notes;
       steps = steps_join m old (with_set now g.whole) (with_set new r.whole) g.sets (set ∷ []) g.reports (r.report ∷ []) g.steps one;
-      kept = r.left ∙ (sym is ∙ ap (λ (s : ℕ). set_told notes s r.whole) (sym count));
-      by = told_join m old (with_set now g.whole) g.sets (set ∷ []) g.reports notes g.steps by_before by_now;
+      allowed = r.left.allowed;
+      kept = λ w. r.left.exact (exact w) ∙ (sym is ∙ ap (λ (s : ℕ). set_told notes s r.whole) (sym count));
+      by = λ w. told_join m old (with_set now g.whole) g.sets (set ∷ []) g.reports notes g.steps (by_before w) (by_now w);
       so_far = subst (λ (s : ℕ). SoFar old.step s notes) (sym count) (go_next lost.after old.step now.step before low tried_now);
       tells_notes = subst notes_after (sym (append_assoc g.notes (emptied_if lost.before now.step) (emptied_if lost.after (now.step + 1)))) (on g.notes g.tells_notes);
-      each_filled = filled_push old.set fills filled g.sets set (filled_later old.set fills mid filled g.sets rises g.each_filled)
-          (enough_later old.set set fills mid filled rises (enough_chosen m old now a b told tells fills mid notes_on g lost.before));
-      enough = fills_join old.set now.set new.set fills mid filled g.enough f;
+      each_filled = filled_push pages fills filled g.sets set (filled_later pages fills mid filled g.sets rises g.each_filled)
+          (enough_later pages (len set) fills mid filled rises (enough_chosen m old now a b told tells pages fills mid wanted notes_on g lost.before));
+      enough = enough;
       front = trace_of g.reports;
       trace = trace_join g.reports (r.report ∷ []) ∙ ap (λ (l : List Item). trace_of g.reports ++ l) (append-nil r.report.items ∙ r.items);
       text = g.text;
@@ -260,9 +256,9 @@ going_on m old now new lost seen a b c told tells fills mid filled notes_on note
     }
 
 -- its lines were put
-pub stepped_put : (m : Setting) (old now new : State) (seen : Seen) (a b : Counts) (told tells last : Option (List ℕ)) (fills filled : ℕ) (notes_on : List Note → Type 0) → Stepped m old now new seen a b told tells fills filled notes_on
-    → Appends tells last (lines_of (items_at now.step (whats seen))) → Going m old new a b told last fills filled notes_on
-stepped_put m old now new seen a b told tells last fills filled notes_on s put =
+pub stepped_put : (m : Setting) (old now new : State) (seen : Seen) (a b : Counts) (told tells last : Option (List ℕ)) (pages fills filled : ℕ) (wanted : Bool) (notes_on : List Note → Type 0) → Stepped m old now new seen a b told tells pages fills filled wanted notes_on
+    → Appends tells last (lines_of (items_at now.step (whats seen))) → Going m old new a b told last pages fills filled wanted notes_on
+stepped_put m old now new seen a b told tells last pages fills filled wanted notes_on s put =
     let is : lines_of (trace_of s.reports) ≡ lines_of s.front ++ lines_of (items_at now.step (whats seen)) = ap lines_of s.trace ∙ lines_join s.front (items_at now.step (whats seen)) in
     record {
       sets = s.sets;
@@ -270,6 +266,7 @@ stepped_put m old now new seen a b told tells last fills filled notes_on s put =
       whole = s.whole;
       notes = s.notes;
       steps = s.steps;
+      allowed = s.allowed;
       kept = s.kept;
       by = s.by;
       so_far = s.so_far;
@@ -281,9 +278,9 @@ stepped_put m old now new seen a b told tells last fills filled notes_on s put =
     }
 
 -- or a front of them
-pub stepped_front : (m : Setting) (old now new : State) (seen : Seen) (a b : Counts) (told tells last : Option (List ℕ)) (fills filled : ℕ) (notes_on : List Note → Type 0) → (s : Stepped m old now new seen a b told tells fills filled notes_on)
+pub stepped_front : (m : Setting) (old now new : State) (seen : Seen) (a b : Counts) (told tells last : Option (List ℕ)) (pages fills filled : ℕ) (wanted : Bool) (notes_on : List Note → Type 0) → (s : Stepped m old now new seen a b told tells pages fills filled wanted notes_on)
     → AppendsFront tells last (lines_of (items_at now.step (whats seen))) → AppendsFront told last (lines_of (trace_of s.reports))
-stepped_front m old now new seen a b told tells last fills filled notes_on s put =
+stepped_front m old now new seen a b told tells last pages fills filled wanted notes_on s put =
     let is : lines_of (trace_of s.reports) ≡ lines_of s.front ++ lines_of (items_at now.step (whats seen)) = ap lines_of s.trace ∙ lines_join s.front (items_at now.step (whats seen)) in
     subst (λ (l : List ℕ). AppendsFront told last l) (sym is) (front_of told tells last (lines_of s.front) (lines_of (items_at now.step (whats seen))) s.text put)
 
@@ -300,34 +297,35 @@ are_notes m old sets last notes h = record {
 }
 
 -- all steps were done
-pub reached : (m : Setting) (bound : ℕ) (old now : State) (a b : Counts) (told tells : Option (List ℕ)) (fills filled : ℕ) (notes_on : List Note → Type 0) → Going m old now a b told tells fills filled notes_on → now.step ≡ bound
-    → SliceAs m bound old now a b told tells fills filled notes_on (Ok Reached)
-reached m bound old now a b told tells fills filled notes_on g n = record {
+pub reached : (m : Setting) (bound : ℕ) (old now : State) (a b : Counts) (told tells : Option (List ℕ)) (pages fills filled : ℕ) (wanted : Bool) (notes_on : List Note → Type 0) → Going m old now a b told tells pages fills filled wanted notes_on → now.step ≡ bound
+    → SliceAs m bound old now a b told tells pages fills filled wanted notes_on (Ok Reached)
+reached m bound old now a b told tells pages fills filled wanted notes_on g n = record {
   sets = g.sets;
   reports = g.reports;
   last = with_set now g.whole;
   notes = g.notes;
   steps = g.steps;
-  ends = (n, refl, kept_part m old now a b told tells fills filled notes_on g);
+  end = now.set;
+  ends = (n, refl, g.allowed);
   text = g.text;
   counts = g.counts;
-  noted = record {
-    told = are_told m old g.sets g.notes g.by;
+  noted = λ w. record {
+    told = are_told m old g.sets g.notes (g.by w);
     are = are_notes m old g.sets now.step g.notes (tried_none old.step now.step g.notes g.so_far);
-    ends = g.kept;
+    ends = g.kept w;
   };
   tells_notes = g.tells_notes;
-  each_filled = filled_push old.set fills filled g.sets (set_told g.notes now.step g.whole) g.each_filled (subst (λ (x : Set). FillsOn old.set x fills filled) g.kept g.enough);
+  each_filled = filled_push pages fills filled g.sets now.set g.each_filled g.enough;
 }
 
 -- the next step stops
-pub stopped : (m : Setting) (bound : ℕ) (old now new : State) (lost : Lost) (stop : Stop) (a b : Counts) (told tells : Option (List ℕ)) (fills mid filled : ℕ) (notes_on notes_after : List Note → Type 0)
-    → Going m old now a b told tells fills mid notes_on → Halts m (eventful m now) lost stop → now.step < bound → new.step ≡ now.step → mid ≤ filled
-    → ((notes : List Note) → notes_on notes → notes_after (notes ++ emptied_if lost.before now.step)) → SliceAs m bound old new a b told tells fills filled notes_after (Ok (Stopped stop))
-stopped m bound old now new lost stop a b told tells fills mid filled notes_on notes_after g h lt still rises on =
+pub stopped : (m : Setting) (bound : ℕ) (old now new : State) (lost : Lost) (stop : Stop) (a b : Counts) (told tells : Option (List ℕ)) (pages fills mid filled : ℕ) (wanted : Bool) (notes_on notes_after : List Note → Type 0)
+    → Going m old now a b told tells pages fills mid wanted notes_on → Halts m (eventful m now) lost stop → now.step < bound → new.step ≡ now.step → mid ≤ filled
+    → ((notes : List Note) → notes_on notes → notes_after (notes ++ emptied_if lost.before now.step)) → SliceAs m bound old new a b told tells pages fills filled wanted notes_after (Ok (Stopped stop))
+stopped m bound old now new lost stop a b told tells pages fills mid filled wanted notes_on notes_after g h lt still rises on =
     let set = left_of lost.before now.set in
     let notes = g.notes ++ emptied_if lost.before now.step in
-    let told_set = chosen_told m old now a b told tells fills mid notes_on g lost.before in
+    let told_set = chosen_told m old now a b told tells pages fills mid wanted notes_on g lost.before in
     let stands = chosen_first m now g.whole set ∙ h.stands in
     record {
       sets = g.sets;
@@ -335,39 +333,41 @@ stopped m bound old now new lost stop a b told tells fills mid filled notes_on n
       last = with_set now g.whole;
       notes = notes;
       steps = g.steps;
-      ends = (lt, still, record { set = set; allowed = chosen_allowed m old now a b told tells fills mid notes_on g lost.before; stands = stands });
+      end = set;
+      ends = (lt, still, chosen_allowed m old now a b told tells pages fills mid wanted notes_on g lost.before, stands);
       text = g.text;
       counts = g.counts;
-      noted = record {
-        told = are_told m old g.sets notes (by_then m old now a b told tells fills mid notes_on g lost.before);
-        are = are_notes m old g.sets now.step notes (tried m old now a b told tells fills mid notes_on g lost.before);
-        ends = subst (λ (x : Set). step_of m (with_set now g.whole) x ≡ Stands stop) told_set stands;
+      noted = λ w. record {
+        told = are_told m old g.sets notes (by_then m old now a b told tells pages fills mid wanted notes_on g lost.before w);
+        are = are_notes m old g.sets now.step notes (tried m old now a b told tells pages fills mid wanted notes_on g lost.before);
+        ends = subst (λ (x : Set). step_of m (with_set now g.whole) x ≡ Stands stop) (told_set w) stands;
       };
       tells_notes = on g.notes g.tells_notes;
-      each_filled = filled_push old.set fills filled g.sets (set_told notes now.step g.whole) (filled_later old.set fills mid filled g.sets rises g.each_filled)
-          (subst (λ (x : Set). FillsOn old.set x fills filled) told_set (enough_later old.set set fills mid filled rises (enough_chosen m old now a b told tells fills mid notes_on g lost.before)));
+      each_filled = filled_push pages fills filled g.sets set (filled_later pages fills mid filled g.sets rises g.each_filled)
+          (enough_later pages (len set) fills mid filled rises (enough_chosen m old now a b told tells pages fills mid wanted notes_on g lost.before));
     }
 
 -- the lines of a step were not put
-pub failed : (m : Setting) (bound : ℕ) (old now new : State) (seen : Seen) (fault : Failed) (a b : Counts) (told tells last : Option (List ℕ)) (fills filled : ℕ) (notes_on : List Note → Type 0)
-    → Stepped m old now new seen a b told tells fills filled notes_on → AppendsFront tells last (lines_of (items_at now.step (whats seen))) → new.step ≤ bound
-    → SliceAs m bound old new a b told last fills filled notes_on (Err fault)
-failed m bound old now new seen fault a b told tells last fills filled notes_on s put le = record {
+pub failed : (m : Setting) (bound : ℕ) (old now new : State) (seen : Seen) (fault : Failed) (a b : Counts) (told tells last : Option (List ℕ)) (pages fills filled : ℕ) (wanted : Bool) (notes_on : List Note → Type 0)
+    → Stepped m old now new seen a b told tells pages fills filled wanted notes_on → AppendsFront tells last (lines_of (items_at now.step (whats seen))) → new.step ≤ bound
+    → SliceAs m bound old new a b told last pages fills filled wanted notes_on (Err fault)
+failed m bound old now new seen fault a b told tells last pages fills filled wanted notes_on s put le = record {
   sets = s.sets;
   reports = s.reports;
   last = with_set new s.whole;
   notes = s.notes;
+  end = new.set;
   steps = s.steps;
   ends = le;
-  text = stepped_front m old now new seen a b told tells last fills filled notes_on s put;
+  text = stepped_front m old now new seen a b told tells last pages fills filled wanted notes_on s put;
   counts = s.counts;
-  noted = record {
-    told = are_told m old s.sets s.notes s.by;
+  noted = λ w. record {
+    told = are_told m old s.sets s.notes (s.by w);
     are = are_notes m old s.sets new.step s.notes (tried_none old.step new.step s.notes s.so_far);
     ends = tt;
   };
   tells_notes = s.tells_notes;
-  each_filled = filled_push old.set fills filled s.sets (set_told s.notes new.step s.whole) s.each_filled (subst (λ (x : Set). FillsOn old.set x fills filled) s.kept s.enough);
+  each_filled = filled_push pages fills filled s.sets new.set s.each_filled s.enough;
 }
 
 abbrev pub counted : ℕ → ℕ → Counts

@@ -1,5 +1,5 @@
 -- What a guest's calls say of its filled pages, of the bytes outside its pool, and of its memory.
-use Rattle.std.proofs.Common.{◌≡◌, ℕ, zero, suc, ◌+◌, ◌*◌, ◌<◌, ◌≤◌, ◌⊎◌, inl, inr, List, [], take, Result, Ok, Err, IfOk, refl, ap, arith}
+use Rattle.std.proofs.Common.{◌≡◌, ℕ, zero, suc, ◌+◌, ◌*◌, ◌<◌, ◌≤◌, ◌⊎◌, inl, inr, List, take, Result, Ok, Err, IfOk, refl, arith}
 use Rattle.frame_pool.specs.Pool.{base_of, count_of, free_list, SameOutside}
 use Rattle.frame_pool.specs.declared.Pool.{Pool}
 use Rattle.frame_pool.specs.Held.{times, Owns, Moves}
@@ -9,18 +9,15 @@ use Rattle.pv_io.specs.declared.answer.Failed.{Failed}
 use Rattle.image_check.specs.Image.{Image}
 use Rattle.image_load.specs.declared.fault.Pause.{Pause}
 use Rattle.image_load.specs.declared.fault.StartFault.{StartFault}
-use Rattle.shadow_tables.specs.Slots.{IsShadow, held as held_by, slot_at}
-use Rattle.machine_model.specs.State.{State, wedge}
-use Rattle.machine_model.specs.Run.{Set}
+use Rattle.shadow_cache.specs.Views as roots
+use Rattle.machine_model.specs.State.{wedge}
 use Rattle.native_steps.specs.Stands.{shown}
-use Rattle.wedge_core.specs.Filled.{FillsOn, IsFilled}
+use Rattle.wedge_core.specs.Filled.{FillsOn, IsFilled, pages_kept}
 use Rattle.wedge_core.specs.Promises.{with_patches}
 use Rattle.wedge_core.specs.Slices.{GoesOn}
-use Rattle.wedge_core.specs.Standing.{IsHeld, ground, set_of}
-use Rattle.wedge_core.specs.Starts.{StartedAs}
+use Rattle.wedge_core.specs.Standing.{IsHeld, ground}
 use Rattle.wedge_core.specs.declared.guest.Guest.{Guest}
 use Rattle.wedge_core.specs.declared.running.Running.{Running}
-use Rattle.wedge_core.proofs.Filling.{empty_few}
 use Rattle.wedge_core.proofs.WholeRuns.{front_held}
 
 zero_or : (n : ℕ) → (n ≡ 0) ⊎ (1 ≤ n)
@@ -47,21 +44,21 @@ outside_of p p' m m' fs fs' o v = record {
       (not_between p.base p.count g fs out (λ f k. ((o.out f k).low, (o.out f k).high)));
 }
 
--- a guest that keeps nothing
-pub none_filled : (set : Set) (fills : ℕ) → set ≡ Rattle.std.specs.FinMap.empty → IsFilled set fills
-none_filled set fills is = let none = empty_few set is in omega (arith, none)
-
-pub started_filled : (image : Image) (frames count : ℕ) (memory : List ℕ) (result : Result (Guest × Pool) StartFault) → StartedAs IsShadow held_by slot_at image frames count memory result
-    → IfOk result (λ started. IsFilled (set_of IsShadow held_by slot_at started.0.running memory) started.0.running.fills)
-started_filled image frames count memory (Ok started) s = none_filled _ started.0.running.fills (ap (λ (b : State). b.set) (s.4 []).state)
-started_filled image frames count memory (Err fault) s = tt
-
 -- where each page that was kept had been filled, each that is kept was
-pub still_filled : (old new : Set) (before after : ℕ) → FillsOn old new before after → IsFilled old before → IsFilled new after
+pub still_filled : (old new before after : ℕ) → FillsOn old new before after → IsFilled old before → IsFilled new after
 still_filled old new before after f h = let e = f.enough in omega (arith, e, h)
 
 -- the host's first frames, where a slice has done its steps
-pub front_after : (result : Result Pause Failed) (image : Image) (script : Events) (frames : ℕ) (g : Running Rattle.shadow_tables.specs.declared.shadow.Shadow.Shadow) (pool : Pool) (memory : List ℕ)
-    → GoesOn result (IsHeld IsShadow held_by slot_at (ground image frames) g pool memory) → GoesOn result (take (4096 * frames) memory ≡ with_patches image (shown (wedge image script frames) memory))
+pub front_after : (result : Result Pause Failed) (image : Image) (script : Events) (frames : ℕ) (g : Running Rattle.shadow_cache.specs.declared.roots.Roots.Roots) (pool : Pool) (memory : List ℕ)
+    → GoesOn result (IsHeld roots.stands roots.frames roots.slots (ground image frames) g pool memory) → GoesOn result (take (4096 * frames) memory ≡ with_patches image (shown (wedge image script frames) memory))
 front_after (Ok pause) image script frames g pool memory h = front_held pause image script frames g pool memory h
 front_after (Err failed) image script frames g pool memory h = tt
+
+-- where none is kept, each was filled
+pub none_kept : (pages fills : ℕ) → pages ≡ 0 → IsFilled pages fills
+none_kept pages fills none = omega (arith, none)
+
+pub none_kept_ok : (memory : List ℕ) (result : Result (Guest × Pool) StartFault) → IfOk result (λ started. pages_kept roots.slots roots.asides started.0.running.shadows memory ≡ 0)
+    → IfOk result (λ started. IsFilled (pages_kept roots.slots roots.asides started.0.running.shadows memory) started.0.running.fills)
+none_kept_ok memory (Ok started) none = none_kept (pages_kept roots.slots roots.asides started.0.running.shadows memory) started.0.running.fills none
+none_kept_ok memory (Err fault) none = tt

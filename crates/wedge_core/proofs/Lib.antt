@@ -38,9 +38,19 @@ pub mod Insensitive
 pub mod Asking
 pub mod Nexts
 pub mod Before
+pub mod Adopted
 pub mod AfterTry
 pub mod Filling
 pub mod Guests
 pub mod Owning
 pub mod Closing
 pub mod Losing
+pub mod Shedding
+pub mod Readying
+pub mod Behind
+pub mod Untouched
+pub mod Resettling
+pub mod Stays
+mod StepReady
+pub mod Returning
+pub mod Dropping

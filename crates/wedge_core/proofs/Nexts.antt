@@ -28,7 +28,8 @@ use Rattle.native_steps.specs.Stands.{IsWedge, IsHost, IsLevel, shown}
 use Rattle.native_steps.specs.TextLaws.{TextLaws}
 use Rattle.native_steps.proofs.Together.{stepped_by}
 use Rattle.wedge_core.specs.Attempts.{Idle}
-use Rattle.wedge_core.specs.Parts.{left_of}
+use Rattle.wedge_core.specs.Parts.{IsLeft}
+use Rattle.wedge_core.specs.declared.running.Lost.{Lost}
 use Rattle.wedge_core.specs.Tries.{OthersAreUsers}
 use Rattle.wedge_core.specs.Views.{is_outside, may_run}
 use Rattle.wedge_core.proofs.Bools.{both, is_not}
@@ -106,9 +107,9 @@ starts m b mode s mode_is laid laid_is e = e ∙ (λ i. space_at_start (sym mode
 pub step_is : (m : Setting) (b : State) → IsLevel (not (b.cpu.cpl == 3)) b.cpu.cpl → IsNext m (not (b.cpu.cpl == 3)) b → stepped m b ≡ fetches_next m (unheld b) (space_at_start m.mode m.frames b.cpu b.ram b.set)
 step_is m b level next = stepped_by m (not (b.cpu.cpl == 3)) b level next
 
-pub idle : (m : Setting) (b : State) (after : Bool) (worked : Worked) (board : Board) (t : Space) (new : State) → stepped m b ≡ went_as b worked board t → new.cpu ≡ worked.cpu → new.ram ≡ t.ram → new.board ≡ board_step board → new.step ≡ b.step + 1
-    → new.set ≡ left_of after (dropping worked.dropped t.set) → direct_in m.image.sites (completed_by worked.completed) ≡ [] → Idle m b false after worked.seen new
-idle m b after worked board t new e cpu ram boards step left none =
+pub idle : (m : Setting) (b : State) (lost : Lost) (worked : Worked) (board : Board) (t : Space) (new : State) → stepped m b ≡ went_as b worked board t → new.cpu ≡ worked.cpu → new.ram ≡ t.ram → new.board ≡ board_step board → new.step ≡ b.step + 1
+    → IsLeft m new (dropping worked.dropped t.set) lost → direct_in m.image.sites (completed_by worked.completed) ≡ [] → Idle m b false lost worked.seen new
+idle m b lost worked board t new e cpu ram boards step left none =
     let whole : Set = dropping worked.dropped t.set in
     record {
       alone = record {

@@ -1,5 +1,7 @@
 -- One instruction that the host was asked to do, as the guest's step.
-use Rattle.std.proofs.Common.{◌≡◌, ℕ, ◌+◌, ◌*◌, ◌%◌, ◌≤◌, List, [], ◌∷◌, length, drop, Bool, false, cond, Option, Result, Ok, Err, OnOk, refl, sym, ap, subst, ◌∙◌, arith}
+use Rattle.std.proofs.Common.{◌≡◌, ℕ, ◌+◌, ◌*◌, ◌%◌, ◌==◌, ◌≤◌, List, [], ◌∷◌, length, drop, Bool, false, cond, Option, Result, Ok, Err, OnOk, refl, sym, ap, subst, ◌∙◌, arith}
+use Rattle.guest_ram.specs.Bytes.{frame}
+use Rattle.descriptors.specs.Controls.{pse_of}
 use Rattle.frame_pool.specs.Held.{Owns}
 use Rattle.frame_pool.specs.declared.Pool.{Pool}
 use Rattle.frame_pool.proofs.Above.{free_list-above}
@@ -29,6 +31,7 @@ use Rattle.machine_model.specs.Run.{Set}
 use Rattle.machine_model.specs.Counts.{direct_in}
 use Rattle.native_steps.specs.Backward.{Completes}
 use Rattle.native_steps.specs.Forward.{Follows}
+use Rattle.native_steps.specs.Lends.{IsUnlent}
 use Rattle.native_steps.specs.Stands.{IsHost, shown}
 use Rattle.wedge_core.specs.Attempts.{Asks, Idle}
 use Rattle.wedge_core.specs.Filled.{FillsOn}
@@ -37,7 +40,7 @@ use Rattle.wedge_core.specs.Pools.{Keeps}
 use Rattle.wedge_core.specs.Views.{view_by}
 use Rattle.wedge_core.specs.Ran.{Ran, landed}
 use Rattle.wedge_core.specs.Slices.{Counts, CountsOn}
-use Rattle.wedge_core.specs.Standing.{IsHeld, IsAble, AreOpen, ground, state_of, wp_of}
+use Rattle.wedge_core.specs.Standing.{IsHeld, IsAble, AreOpen, ground, side_of, state_of, wp_of}
 use Rattle.wedge_core.specs.Stepping.{AloneAs, Goes}
 use Rattle.wedge_core.specs.declared.running.Lost.{Lost}
 use Rattle.wedge_core.specs.declared.running.Running.{Running}
@@ -109,7 +112,7 @@ module _ {S : Type 0} (stands : S → List ℕ → Type 0) (frames : S → List 
 
   -- it went, from what was kept before the instruction's pages were filled
   pub asked_goes : (m : Setting) (v : View) (b : State) (old new : Running S) (memory now : List ℕ) (before after : Counts) (done : ℕ) (lost : Lost)
-      → (a : Asks m v b lost.before lost.after (state_of stands frames slots m old memory) memory)
+      → (a : Asks m v b lost.before lost (state_of stands frames slots m old memory) memory)
       → Ran v 1 (standing old.cpu.regs memory before.retired before.passed) old done new now after.retired after.passed
       → entries_of (slots old.shadows now) ≡ entries_of (slots old.shadows memory)
       → Goes m b lost Nothing (state_of stands frames slots m new now) before after
@@ -162,37 +165,37 @@ module _ {S : Type 0} (stands : S → List ℕ → Type 0) (frames : S → List 
 
   -- The guest g0 was asked for one instruction: its pages were filled, which gave g1, and the host did it, which gave g2.
   pub record IsOnce (directory : S → Side → ℕ) (image : Image) (g0 g1 g2 : Running S) (pool : Pool) (m0 m1 m2 : List ℕ) (before after : Counts) (done : ℕ) : Type 0 where
-    pub asks : (script : Events) → Asks (wedge image script g0.frames) (view_by (directory g1.shadows) g0.cpu) (state_of stands frames slots (wedge image script g0.frames) g0 m0) g1.lost.before g1.lost.after (state_of stands frames slots (wedge image script g0.frames) g1 m1) m1
+    pub asks : (script : Events) → Asks (wedge image script g0.frames) (view_by (directory g1.shadows) g0.cpu) (state_of stands frames slots (wedge image script g0.frames) g0 m0) g1.lost.before g1.lost (state_of stands frames slots (wedge image script g0.frames) g1 m1) m1
     pub ran : Ran (view_by (directory g1.shadows) g1.cpu) 1 (standing g1.cpu.regs m1 before.retired before.passed) g1 done g2 m2 after.retired after.passed
     pub same : g1 ≡ record g0 { shadows = g1.shadows; held = g1.held; fills = g1.fills; lost = g1.lost }
     pub held : IsHeld stands frames slots (ground image g0.frames) (record g1 { step = g0.step + 1 }) pool m1
     pub kept : drop (4096 * g0.frames) m2 ≡ drop (4096 * g0.frames) m1 → length m2 ≡ length m1 → SameKept g1.shadows pool m1 m2
 
   module _ (directory : S → Side → ℕ) (image : Image) (g0 g1 g2 : Running S) (pool : Pool) (m0 m1 m2 : List ℕ) (before after : Counts) (done : ℕ) (o : IsOnce directory image g0 g1 g2 pool m0 m1 m2 before after done) where
-    cpu_is : g1.cpu ≡ g0.cpu
+    pub cpu_is : g1.cpu ≡ g0.cpu
     cpu_is = ap (λ (g : Running S). g.cpu) o.same
 
     step_is : g1.step ≡ g0.step
     step_is = ap (λ (g : Running S). g.step) o.same
 
-    asks_now : (script : Events) → Asks (wedge image script g0.frames) (view_by (directory g1.shadows) g1.cpu) (state_of stands frames slots (wedge image script g0.frames) g0 m0) g1.lost.before g1.lost.after (state_of stands frames slots (wedge image script g0.frames) g1 m1) m1
+    asks_now : (script : Events) → Asks (wedge image script g0.frames) (view_by (directory g1.shadows) g1.cpu) (state_of stands frames slots (wedge image script g0.frames) g0 m0) g1.lost.before g1.lost (state_of stands frames slots (wedge image script g0.frames) g1 m1) m1
     asks_now script =
-        subst (λ (x : Cpu). Asks (wedge image script g0.frames) (view_by (directory g1.shadows) x) (state_of stands frames slots (wedge image script g0.frames) g0 m0) g1.lost.before g1.lost.after (state_of stands frames slots (wedge image script g0.frames) g1 m1) m1) (sym cpu_is) (o.asks script)
+        subst (λ (x : Cpu). Asks (wedge image script g0.frames) (view_by (directory g1.shadows) x) (state_of stands frames slots (wedge image script g0.frames) g0 m0) g1.lost.before g1.lost (state_of stands frames slots (wedge image script g0.frames) g1 m1) m1) (sym cpu_is) (o.asks script)
 
-    ran : (a : Asks (ground image g0.frames) (view_by (directory g1.shadows) g1.cpu) (state_of stands frames slots (ground image g0.frames) g0 m0) g1.lost.before g1.lost.after (state_of stands frames slots (ground image g0.frames) g1 m1) m1)
+    ran : (a : Asks (ground image g0.frames) (view_by (directory g1.shadows) g1.cpu) (state_of stands frames slots (ground image g0.frames) g0 m0) g1.lost.before g1.lost (state_of stands frames slots (ground image g0.frames) g1 m1) m1)
         → RanOnce g1 a.regs a.completes.after_memory done g2 m2 before after
     ran a = ran_once (ground image g0.frames) (view_by (directory g1.shadows) g1.cpu) (state_of stands frames slots (ground image g0.frames) g1 m1) g1 m1 a.regs before after done g2 m2 refl a.completes o.ran
 
-    behind_is : drop (4096 * g0.frames) m2 ≡ drop (4096 * g0.frames) m1
+    pub behind_is : drop (4096 * g0.frames) m2 ≡ drop (4096 * g0.frames) m1
     behind_is = let a = asks_now [] in ap (λ (l : List ℕ). drop (4096 * g0.frames) l) (ran a).memory_is ∙ a.completes.follows.behind
 
-    size_is : length m2 ≡ length m1
+    pub size_is : length m2 ≡ length m1
     size_is = let a = asks_now [] in ap (λ (l : List ℕ). length l) (ran a).memory_is ∙ a.completes.follows.size
 
-    kept : SameKept g1.shadows pool m1 m2
+    pub kept : SameKept g1.shadows pool m1 m2
     kept = o.kept behind_is size_is
 
-    shadows_are : g2.shadows ≡ g1.shadows
+    pub shadows_are : g2.shadows ≡ g1.shadows
     shadows_are = let a = asks_now [] in ap (λ (g : Running S). g.shadows) (ran a).new_is
 
     lost_is : g2.lost ≡ g1.lost
@@ -238,26 +241,42 @@ module _ {S : Type 0} (stands : S → List ℕ → Type 0) (frames : S → List 
         (keeps_join p0 pool pool m0 m1 m2 (frames g0.shadows m0) (frames g1.shadows m1) (frames g1.shadows m2) first
         (keeps_above pool m1 m2 (4096 * g0.frames) (frames g1.shadows m1) (frames g1.shadows m2) o.held.owns.stands (omega (arith, low)) behind_is size_is kept.frames_are))
 
-    pub once_fills : FillsOn (entries_of (slots g0.shadows m0)) (entries_of (slots g1.shadows m1)) g0.fills g1.fills → FillsOn (entries_of (slots g0.shadows m0)) (entries_of (slots g2.shadows m2)) g0.fills g2.fills
-    once_fills first =
+    pub once_fills : (pages : S → List ℕ → ℕ) (old : ℕ) → pages g1.shadows m2 ≡ pages g1.shadows m1 → FillsOn old (pages g1.shadows m1) g0.fills g1.fills → FillsOn old (pages g2.shadows m2) g0.fills g2.fills
+    once_fills pages old same first =
         let a = asks_now [] in
         let fills_are : g2.fills ≡ g1.fills = ap (λ (g : Running S). g.fills) (ran a).new_is in
-        subst (λ (k : ℕ). FillsOn (entries_of (slots g0.shadows m0)) (entries_of (slots g2.shadows m2)) g0.fills k) (sym fills_are)
-        (subst (λ (s : S). FillsOn (entries_of (slots g0.shadows m0)) (entries_of (slots s m2)) g0.fills g1.fills) (sym shadows_are)
-        (subst (λ (set : Set). FillsOn (entries_of (slots g0.shadows m0)) set g0.fills g1.fills) (sym kept.entries_are) first))
+        subst (λ (k : ℕ). FillsOn old (pages g2.shadows m2) g0.fills k) (sym fills_are)
+        (subst (λ (s : S). FillsOn old (pages s m2) g0.fills g1.fills) (sym shadows_are)
+        (subst (λ (k : ℕ). FillsOn old k g0.fills g1.fills) (sym same) first))
+
+    -- no frame to which the view lets no write pass has changed
+    pub once_untouched : (at : ℕ) → IsUnlent m1 (directory g1.shadows (side_of (g1.cpu.cpl == 3))) at → frame (shown (ground image g0.frames) m2) at ≡ frame (shown (ground image g0.frames) m1) at
+    once_untouched at unlent =
+        let a = asks_now [] in
+        let f = a.completes.follows in
+        ap (λ (l : List ℕ). frame (shown (ground image g0.frames) l) at) (ran a).memory_is ∙ (ap (λ (l : List ℕ). frame l at) (sym f.stands.ram) ∙ f.guest_untouched at unlent)
+
+    pub once_rules : (g2.cpu.cr3 ≡ g0.cpu.cr3) × (pse_of g2.cpu ≡ pse_of g0.cpu) × (wp_of g2.cpu ≡ wp_of g0.cpu)
+    once_rules =
+        let e = (ran (asks_now [])).new_is in
+        let c = cpu_is in
+        (ap (λ (g : Running S). g.cpu.cr3) e ∙ ap (λ (x : Cpu). x.cr3) c, ap (λ (g : Running S). pse_of g.cpu) e ∙ ap pse_of c, ap (λ (g : Running S). wp_of g.cpu) e ∙ ap wp_of c)
+
+    pub once_back : g1.lost.back ≡ false → g2.lost.back ≡ false
+    once_back back = ap (λ (l : Lost). l.back) lost_is ∙ back
 
 -- ---- steps that went otherwise
 
 -- what the host had no part in
-pub alone_able : StepsKeepAble → (m : Setting) (b : State) (after : Bool) (result : Result Seen Stop) (new : State) → m.mode ≡ wedge_mode m.image → IsAble b.cpu → AloneAs m b after result new → OnOk result (IsAble new.cpu)
-alone_able keeps m b after (Ok seen) new mode able a = keeps m b mode able a.report (with_set new a.whole) a.went
-alone_able keeps m b after (Err stop) new mode able a = tt
+pub alone_able : StepsKeepAble → (m : Setting) (b : State) (lost : Lost) (result : Result Seen Stop) (new : State) → m.mode ≡ wedge_mode m.image → IsAble b.cpu → AloneAs m b lost result new → OnOk result (IsAble new.cpu)
+alone_able keeps m b lost (Ok seen) new mode able a = keeps m b mode able a.report (with_set new a.whole) a.went
+alone_able keeps m b lost (Err stop) new mode able a = tt
 
 -- what was begun for the host and went without it
-pub idle_able : StepsKeepAble → (m : Setting) (b : State) (before after : Bool) (seen : Seen) (new : State) → m.mode ≡ wedge_mode m.image → IsAble b.cpu → Idle m b before after seen new → IsAble new.cpu
-idle_able keeps m b before after seen new mode able i = keeps m (with_set b (left_of before b.set)) mode able i.alone.report (with_set new i.alone.whole) i.alone.went
+pub idle_able : StepsKeepAble → (m : Setting) (b : State) (before : Bool) (lost : Lost) (seen : Seen) (new : State) → m.mode ≡ wedge_mode m.image → IsAble b.cpu → Idle m b before lost seen new → IsAble new.cpu
+idle_able keeps m b before lost seen new mode able i = keeps m (with_set b (left_of before b.set)) mode able i.alone.report (with_set new i.alone.whole) i.alone.went
 
-pub idle_goes : (m : Setting) (b : State) (lost : Lost) (seen : Seen) (new : State) (before after : Counts) → before ≡ after → Idle m b lost.before lost.after seen new → Goes m b lost seen new before after
+pub idle_goes : (m : Setting) (b : State) (lost : Lost) (seen : Seen) (new : State) (before after : Counts) → before ≡ after → Idle m b lost.before lost seen new → Goes m b lost seen new before after
 idle_goes m b lost seen new before after same i = record {
   report = i.alone.report;
   whole = i.alone.whole;

@@ -1,5 +1,5 @@
 -- What a view may show, when slots change.
-use Rattle.std.proofs.Common.{◌≡◌, ℕ, ◌/◌, ◌<◌, ◌^◌, Bool, true, false, ◌&&◌, not, inl, inr, refl, sym, ap, subst, ◌∙◌, Option, Some, None, List, arith}
+use Rattle.std.proofs.Common.{◌≡◌, ◌⊎◌, ℕ, ◌/◌, ◌<◌, ◌^◌, Bool, true, false, ◌&&◌, not, inl, inr, refl, sym, ap, subst, ◌∙◌, Option, Some, None, List, arith}
 use Rattle.std.specs.Prelude.{nat_le, ◌==◌}
 use Rattle.std.proofs.lemmas.Bool.Decides.{nat_tests, eqb_tells}
 use Rattle.std.specs.Option.{ForSome}
@@ -58,10 +58,10 @@ open_within image wp a b w h = record {
       (subst (λ (e : Entry). IsOpen (is_kernel b.side) image e.page e.frame) (sym w.1) (h.leads write (lets_within a b w write l)));
 }
 
-some_is : (a b : Slot) → Some a ≡ Some b → a ≡ b
+pub some_is : (a b : Slot) → Some a ≡ Some b → a ≡ b
 some_is a b h = cc
 
-within_open : (image : Image) (wp : Bool) (a b : Option Slot) → IsWithin a b → ForSome b (IsOpenSlot image wp) → ForSome a (IsOpenSlot image wp)
+pub within_open : (image : Image) (wp : Bool) (a b : Option Slot) → IsWithin a b → ForSome b (IsOpenSlot image wp) → ForSome a (IsOpenSlot image wp)
 within_open image wp None b w h = λ slot e. absurd (none_some slot e)
 within_open image wp (Some a) None w h = absurd w
 within_open image wp (Some a) (Some b) w h = λ slot e. subst (IsOpenSlot image wp) (some_is a slot e) (open_within image wp a b w (h b refl))
@@ -84,7 +84,7 @@ settled_open image wp old new set pages side tracked s tested h page lt = by (is
 pub none_open : (image : Image) (wp : Bool) (slots : ℕ → Option Slot) → ((page : ℕ) → page < 2 ^ 20 → slots page ≡ None) → AreOpen image wp slots
 none_open image wp slots none page lt = λ slot e. absurd (none_some slot (sym (none page lt) ∙ e))
 
-no_slot : (o : Option Slot) → entry_in o ≡ None → o ≡ None
+pub no_slot : (o : Option Slot) → entry_in o ≡ None → o ≡ None
 no_slot None h = refl
 no_slot (Some slot) h = absurd (none_some slot.entry (sym h))
 
@@ -115,3 +115,11 @@ lost_open image wp old new index t h page lt =
 -- what is kept stays the same
 pub same_open : (image : Image) (wp : Bool) (old new : ℕ → Option Slot) → ((page : ℕ) → page < 2 ^ 20 → new page ≡ old page) → AreOpen image wp old → AreOpen image wp new
 same_open image wp old new same h page lt = subst (λ (o : Option Slot). ForSome o (IsOpenSlot image wp)) (sym (same page lt)) (h page lt)
+
+-- some of it is gone
+pub some_open : (image : Image) (wp : Bool) (old new : ℕ → Option Slot) → ((page : ℕ) → page < 2 ^ 20 → (new page ≡ None) ⊎ (new page ≡ old page)) → AreOpen image wp old → AreOpen image wp new
+some_open image wp old new each h page lt =
+    elim (each page lt) [
+      | inl none ↦ λ slot e. absurd (none_some slot (sym none ∙ e))
+      | inr same ↦ subst (λ (o : Option Slot). ForSome o (IsOpenSlot image wp)) (sym same) (h page lt)
+    ]

@@ -29,12 +29,15 @@ part_join a b c p q = record { each = λ page e h. q.each page e (p.each page e 
 pub part_allowed : (m : Setting) (b : State) (part : Set) → IsPartOf part b.set → Loosened m b part
 part_allowed m b part h = record { each = λ page e is. inl (h.each page e is) }
 
+pub part_loosened : (m : Setting) (b : State) (part set : Set) → IsPartOf part set → Loosened m b set → Loosened m b part
+part_loosened m b part set p h = record { each = λ page e is. h.each page e (p.each page e is) }
+
 -- what is part of a set that lies within the frames lies there too
 pub part_within : (frames : ℕ) (part whole : Set) → IsPartOf part whole → AreWithin frames whole → AreWithin frames part
 part_within frames part whole p h = λ page e is. h page e (p.each page e is)
 
 -- a page's entry, once those of a directory index are gone
-dir_get : (set : Set) (index q : ℕ) → get (without_dir set index) q ≡ cond (not (q / 1024 == index)) (get set q) None
+pub dir_get : (set : Set) (index q : ℕ) → get (without_dir set index) q ≡ cond (not (q / 1024 == index)) (get set q) None
 dir_get set index q =
     let p : ℕ → Bool = λ x. not (x / 1024 == index) in
     get-retain_keys set p q (λ x t. ap p (sym (nat_cmp-IsAntisymmetric q x t)))

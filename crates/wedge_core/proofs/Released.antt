@@ -6,8 +6,8 @@ use Rattle.frame_pool.specs.declared.Pool.{Pool}
 use Rattle.frame_pool.specs.Held.{Owns, Moves}
 use Rattle.image_check.specs.Image.{Image}
 use Rattle.shadow_tables.specs.Entries.{entries_of}
-use Rattle.shadow_tables.specs.Slots.{IsShadow, held as held_by, slot_at}
-use Rattle.shadow_tables.specs.declared.shadow.Shadow.{Shadow}
+use Rattle.shadow_cache.specs.Views as roots
+use Rattle.shadow_cache.specs.declared.roots.Roots.{Roots}
 use Rattle.machine_model.specs.Run.{Set}
 use Rattle.wedge_core.specs.Standing.{IsHeld, ground, wp_of}
 use Rattle.wedge_core.specs.declared.running.Running.{Running}
@@ -15,14 +15,14 @@ use Rattle.wedge_core.proofs.Bools.{none_some}
 use Rattle.wedge_core.proofs.Memories.{front_same, host_same, text_within}
 use Rattle.wedge_core.proofs.Opening.{none_open}
 
-pub held_on : (image : Image) (frames : ℕ) (g : Running Shadow) (s : Shadow) (p p' : Pool) (m m' : List ℕ)
-    → ∥ IsShadow s m' ∥₁ → ((page : ℕ) → page < 2 ^ 20 → slot_at s m' page ≡ None) → entries_of (slot_at s m') ≡ empty → length (held_by s m') ≡ 2 → Owns p' m' (held_by s m')
-    → Moves p p' m m' (held_by g.shadows m) (held_by s m') → IsHeld IsShadow held_by slot_at (ground image frames) g p m
-    → IsHeld IsShadow held_by slot_at (ground image frames) (record g { shadows = s; held = 2 }) p' m'
+pub held_on : (image : Image) (frames : ℕ) (g : Running Roots) (s : Roots) (p p' : Pool) (m m' : List ℕ)
+    → ∥ roots.stands s m' ∥₁ → ((page : ℕ) → page < 2 ^ 20 → roots.slots s m' page ≡ None) → entries_of (roots.slots s m') ≡ empty → length (roots.frames s m') ≡ 2 → Owns p' m' (roots.frames s m')
+    → Moves p p' m m' (roots.frames g.shadows m) (roots.frames s m') → IsHeld roots.stands roots.frames roots.slots (ground image frames) g p m
+    → IsHeld roots.stands roots.frames roots.slots (ground image frames) (record g { shadows = s; held = 2 }) p' m'
 held_on image frames g s p p' m m' stands none entries two owns moves h =
     let room = h.wedge.room in
     let within = text_within image in
-    let front = front_same frames p p' m m' (held_by g.shadows m) (held_by s m') h.behind h.owns moves in
+    let front = front_same frames p p' m m' (roots.frames g.shadows m) (roots.frames s m') h.behind h.owns moves in
     let low = h.behind in
     let same = moves.same.0 in
     let few = h.few in

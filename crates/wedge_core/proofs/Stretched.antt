@@ -1,6 +1,8 @@
 -- A guest behind a run of its host: its steps, and that it is held as before.
 use Rattle.std.proofs.Common.{◌≡◌, ℕ, zero, suc, ◌+◌, ◌-◌, ◌*◌, ◌/◌, ◌%◌, ◌≤◌, ◌<◌, ◌^◌, ◌==◌, Bool, true, false, ◌||◌, not, List, [], length, drop, replicate, Option, refl, sym, ap, subst, ◌∙◌, arith}
 use Rattle.std.specs.FinMap.{get}
+use Rattle.guest_ram.specs.Bytes.{frame}
+use Rattle.descriptors.specs.Controls.{pse_of}
 use Rattle.frame_pool.specs.Pool.{base_of}
 use Rattle.frame_pool.specs.declared.Pool.{Pool}
 use Rattle.frame_pool.specs.Held.{Owns, SameIn}
@@ -25,11 +27,10 @@ use Rattle.machine_model.specs.State.{Setting, State, wedge}
 use Rattle.machine_model.specs.Run.{Set, Steps}
 use Rattle.machine_model.specs.Rules.{is_open}
 use Rattle.machine_model.specs.Able.{IsAble}
-use Rattle.native_steps.specs.Lends.{Lends}
+use Rattle.native_steps.specs.Lends.{Lends, IsUnlent}
 use Rattle.native_steps.specs.Stands.{IsHost, shown}
 use Rattle.native_steps.specs.Stretch.{SameBehind, Beside, Advanced, Advances, board_after}
 use Rattle.wedge_core.specs.declared.running.Running.{Running}
-use Rattle.wedge_core.specs.Filled.{FillsOn}
 use Rattle.wedge_core.specs.Parts.{IsPartOf, with_set}
 use Rattle.wedge_core.specs.Pools.{Keeps}
 use Rattle.wedge_core.specs.Ran.{Ran, landed}
@@ -37,7 +38,6 @@ use Rattle.wedge_core.specs.Standing.{IsHeld, AreOpen, ground, wp_of, side_of, s
 use Rattle.wedge_core.specs.Stepping.{Passes}
 use Rattle.wedge_core.specs.ViewLaws.{ViewsLend, ViewsSee}
 use Rattle.wedge_core.specs.Views.{view_by}
-use Rattle.wedge_core.proofs.Filling.{fills_same}
 use Rattle.wedge_core.proofs.Keeping.{keeps_above}
 use Rattle.wedge_core.proofs.Opening.{same_open}
 use Rattle.wedge_core.proofs.Parts.{part_same}
@@ -103,13 +103,13 @@ module _ {S : Type 0} (stands : S → List ℕ → Type 0) (frames : S → List 
     -- ---- memory that is the same behind the guest's frames
 
     module _ (new : List ℕ) (same : SameBehind (ground image f) memory new) where
-      limit : 4096 * f ≤ 4096 * base_of pool
+      pub limit : 4096 * f ≤ 4096 * base_of pool
       limit = let b = h.behind in omega (arith, b)
 
-      same_in : SameIn (frames g.shadows memory) memory new
+      pub same_in : SameIn (frames g.shadows memory) memory new
       same_in = laws.above g.shadows pool memory new (4096 * f) h.owns limit same.beyond same.size
 
-      stand : ∥ stands g.shadows new ∥₁
+      pub stand : ∥ stands g.shadows new ∥₁
       stand = laws.stays g.shadows memory new h.stand same_in
 
       owned : Owns pool new (frames g.shadows new)
@@ -118,10 +118,10 @@ module _ {S : Type 0} (stands : S → List ℕ → Type 0) (frames : S → List 
       frames_same : frames g.shadows new ≡ frames g.shadows memory
       frames_same = laws.same_frames g.shadows memory new h.stand same_in
 
-      set_same : kept new ≡ kept memory
+      pub set_same : kept new ≡ kept memory
       set_same = laws.same_entries g.shadows memory new h.stand same_in
 
-      whole_new : length new % 4096 ≡ 0
+      pub whole_new : length new % 4096 ≡ 0
       whole_new = ap (λ (n : ℕ). n % 4096) same.size ∙ h.whole
 
       within : AreWithin f (kept new)
@@ -178,12 +178,21 @@ module _ {S : Type 0} (stands : S → List ℕ → Type 0) (frames : S → List 
         abbrev end : Standing
         end = standing r.regs after_memory retired_then passed_then
 
-        shadows_is : now.shadows ≡ g.shadows
+        pub shadows_is : now.shadows ≡ g.shadows
         shadows_is = by done r.none r.some
           where
             by : (n : ℕ) → (n ≡ 0 → now ≡ g) → (0 < n → now ≡ record g { cpu = record g.cpu { regs = landed r.exit r.regs; held = false }; board = board_steps n g.board; step = g.step + n }) → now.shadows ≡ g.shadows
             by zero a b = ap (λ (x : Running S). x.shadows) (a refl)
             by (suc n) a b = ap (λ (x : Running S). x.shadows) (b (omega arith))
+
+        -- what walks go by, beside memory
+        pub rules_then : (now.cpu.cr3 ≡ g.cpu.cr3) × (pse_of now.cpu ≡ pse_of g.cpu) × (wp_of now.cpu ≡ wp_of g.cpu)
+        rules_then = by done r.none r.some
+          where
+            by : (n : ℕ) → (n ≡ 0 → now ≡ g) → (0 < n → now ≡ record g { cpu = record g.cpu { regs = landed r.exit r.regs; held = false }; board = board_steps n g.board; step = g.step + n })
+                → (now.cpu.cr3 ≡ g.cpu.cr3) × (pse_of now.cpu ≡ pse_of g.cpu) × (wp_of now.cpu ≡ wp_of g.cpu)
+            by zero a b = let e = a refl in (ap (λ (x : Running S). x.cpu.cr3) e, ap (λ (x : Running S). pse_of x.cpu) e, ap (λ (x : Running S). wp_of x.cpu) e)
+            by (suc n) a b = let e = b (omega arith) in (ap (λ (x : Running S). x.cpu.cr3) e, ap (λ (x : Running S). pse_of x.cpu) e, ap (λ (x : Running S). wp_of x.cpu) e)
 
         module _ (script : Events) (quiet : 0 < k → comes_within g.board script g.step (k - 1) ≡ false) (board : Board) (is : given board script g.step ≡ g.board) (whole : Set) (part : IsPartOf (kept memory) whole) where
           abbrev m : Setting
@@ -280,10 +289,10 @@ module _ {S : Type 0} (stands : S → List ℕ → Type 0) (frames : S → List 
           itself : IsPartOf (kept memory) (kept memory)
           itself = part_same (kept memory) (kept memory) refl
 
-          same_there : SameBehind (ground image f) memory after_memory
+          pub same_there : SameBehind (ground image f) memory after_memory
           same_there = behind_is [] calm g.board (none_given g.board g.step) (kept memory) itself
 
-          host_there : IsHost (ground image f) after_memory
+          pub host_there : IsHost (ground image f) after_memory
           host_there = host_is [] calm g.board (none_given g.board g.step) (kept memory) itself
 
           pub stays_on : done ≡ 0 → state_of stands frames slots (wedge image script f) now after_memory ≡ state_of stands frames slots (wedge image script f) g memory
@@ -293,11 +302,12 @@ module _ {S : Type 0} (stands : S → List ℕ → Type 0) (frames : S → List 
               (ap (λ (x : State). x.cpu) e) (shown_any image script f after_memory ∙ (ap (λ (x : State). x.ram) e ∙ sym (shown_any image script f memory)))
               (ap (λ (x : State). x.set) e) (ap (λ (x : State). x.board) e) (ap (λ (x : State). x.step) e)
 
-          pub filled_then : now.fills ≡ g.fills → FillsOn (set_of stands frames slots g memory) (set_of stands frames slots now after_memory) g.fills now.fills
-          filled_then same =
-              let set0 = set_of stands frames slots g memory in
-              let set1 = set_of stands frames slots now after_memory in
-              subst (λ (k : ℕ). FillsOn set0 set1 g.fills k) (sym same) (fills_same set0 set1 g.fills (now_set [] calm g.board (none_given g.board g.step) (kept memory) itself))
+          -- no frame to which the view lets no write pass, whatever the guest's frames hold, has changed
+          pub untouched_then : (at : ℕ) → ((new : List ℕ) → SameBehind (ground image f) memory new → IsUnlent new (directory g.shadows (side_of (g.cpu.cpl == 3))) at)
+              → frame (shown (ground image f) after_memory) at ≡ frame (shown (ground image f) memory) at
+          untouched_then at unlent =
+              let a = advanced [] calm g.board (none_given g.board g.step) (kept memory) itself in
+              ap (λ (l : List ℕ). frame l at) (sym (ram_is [] calm g.board (none_given g.board g.step) (kept memory) itself)) ∙ a.guest_untouched at (λ new same. unlent new (record { size = same.size; beyond = same.beyond }))
 
           pub passed_on : done ≡ 0 → passed_then ≡ passed
           passed_on none = passed_same [] calm g.board (none_given g.board g.step) (kept memory) itself none

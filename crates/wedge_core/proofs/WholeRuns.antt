@@ -1,5 +1,5 @@
 -- From a slice and the last line to a whole run.
-use Rattle.std.proofs.Common.{◌≡◌, ℕ, ◌+◌, ◌*◌, ◌≤◌, List, [], ◌∷◌, ◌++◌, length, take, Option, Ok, Err, refl, sym, ap, subst, ◌∙◌, append_assoc, arith}
+use Rattle.std.proofs.Common.{◌≡◌, ℕ, ◌+◌, ◌*◌, ◌≤◌, Bool, List, [], ◌∷◌, ◌++◌, length, take, Option, Ok, Err, refl, sym, ap, subst, ◌∙◌, append_assoc, arith}
 use Rattle.std.specs.FinMap.{len}
 use Rattle.std.proofs.lemmas.List.{append-nil, places, same_lists, length-take-le}
 use Rattle.std.proofs.lemmas.List.Elements.{All-weaker}
@@ -19,12 +19,11 @@ use Rattle.image_load.specs.declared.fault.RunFault.TheVariants as fault
 use Rattle.run_trace.specs.declared.items.End.{End}
 use Rattle.run_trace.specs.Notes.{Note}
 use Rattle.run_trace.specs.Text.{lines_of, end_line, text_of}
-use Rattle.shadow_tables.specs.Slots.{IsShadow, held as held_by, slot_at}
-use Rattle.shadow_tables.specs.declared.shadow.Shadow.{Shadow}
-use Rattle.machine_model.specs.State.{Setting, State, boot, wedge}
+use Rattle.shadow_cache.specs.Views as roots
+use Rattle.shadow_cache.specs.declared.roots.Roots.{Roots}
+use Rattle.machine_model.specs.State.{Setting, State, Loosened, boot, wedge}
 use Rattle.machine_model.specs.Step.{Report}
 use Rattle.machine_model.specs.Run.{Set, Steps, EndsIn, CanGive, trace_of}
-use Rattle.machine_model.specs.Notes.{AreTold, AreNotes, set_told}
 use Rattle.machine_model.proofs.Ending.{each_ends}
 use Rattle.native_steps.specs.Stands.{IsHost, shown}
 use Rattle.wedge_core.specs.Promises.{HasMemory, Promise, HasFills, WedgeAnswers, end_of, with_patches}
@@ -32,7 +31,6 @@ use Rattle.wedge_core.specs.Slices.{Counts, PausesAs, SliceAs, GoesOn}
 use Rattle.wedge_core.specs.Standing.{IsHeld, ground}
 use Rattle.wedge_core.specs.Filled.{FillsOn}
 use Rattle.wedge_core.specs.declared.running.Running.{Running}
-use Rattle.wedge_core.proofs.Filling.{empty_few}
 use Rattle.wedge_core.proofs.Memories.{text_within}
 use Rattle.wedge_core.proofs.RunPieces.{run_join, seen_join, lines_both, put_both, put_front, put_none}
 
@@ -55,8 +53,8 @@ front_is m memory host room =
     ∙ (ap (with_part x 0x100000) (sym there) ∙ with_part-part x 0x100000 k (omega (arith, room, long))))
 
 -- and so it is where a slice has done its steps
-pub front_held : (pause : Pause) (image : Image) (script : Events) (frames : ℕ) (g : Running Shadow) (pool : Pool) (memory : List ℕ)
-    → GoesOn (Ok pause) (IsHeld IsShadow held_by slot_at (ground image frames) g pool memory) → GoesOn (Ok pause) (take (4096 * frames) memory ≡ with_patches image (shown (wedge image script frames) memory))
+pub front_held : (pause : Pause) (image : Image) (script : Events) (frames : ℕ) (g : Running Roots) (pool : Pool) (memory : List ℕ)
+    → GoesOn (Ok pause) (IsHeld roots.stands roots.frames roots.slots (ground image frames) g pool memory) → GoesOn (Ok pause) (take (4096 * frames) memory ≡ with_patches image (shown (wedge image script frames) memory))
 front_held Reached image script frames g pool memory h =
     let room = h.wedge.room in
     let within = text_within image in
@@ -68,76 +66,79 @@ unfolding text_of
 text_is reports count end = refl
 
 -- a slice that pauses ends so
-pub ends_by : (m : Setting) (n : ℕ) (last new : State) (pause : Pause) → PausesAs m n last new (Ok pause) → EndsIn m n last (end_of pause)
-ends_by m n last new Reached h = h.0
-ends_by m n last new (Stopped stop) h = (h.0, h.2)
+pub ends_by : (m : Setting) (n : ℕ) (last new : State) (end : Set) (pause : Pause) → PausesAs m n last new end (Ok pause) → EndsIn m n last (end_of pause)
+ends_by m n last new end Reached h = h.0
+ends_by m n last new end (Stopped stop) h = (h.0, record { set = end; allowed = h.2; stands = h.3 })
 
-pub count_by : (m : Setting) (n : ℕ) (last new : State) (pause : Pause) → PausesAs m n last new (Ok pause) → new.step ≡ last.step
-count_by m n last new Reached h = ap (λ (b : State). b.step) h.1
-count_by m n last new (Stopped stop) h = h.1
+pub count_by : (m : Setting) (n : ℕ) (last new : State) (end : Set) (pause : Pause) → PausesAs m n last new end (Ok pause) → new.step ≡ last.step
+count_by m n last new end Reached h = ap (λ (b : State). b.step) h.1
+count_by m n last new end (Stopped stop) h = h.1
 
-pub memory_by : (m : Setting) (n : ℕ) (last new : State) (pause : Pause) (memory : List ℕ) → GoesOn (Ok pause) (take (4096 * m.frames) memory ≡ with_patches m.image new.ram) → PausesAs m n last new (Ok pause)
+pub memory_by : (m : Setting) (n : ℕ) (last new : State) (end : Set) (pause : Pause) (memory : List ℕ) → GoesOn (Ok pause) (take (4096 * m.frames) memory ≡ with_patches m.image new.ram) → PausesAs m n last new end (Ok pause)
     → HasMemory m last (end_of pause) memory
-memory_by m n last new Reached memory has h = has ∙ ap (λ (b : State). with_patches m.image b.ram) h.1
-memory_by m n last new (Stopped stop) memory has h = tt
+memory_by m n last new end Reached memory has h = has ∙ ap (λ (b : State). with_patches m.image b.ram) h.1
+memory_by m n last new end (Stopped stop) memory has h = tt
 
 -- the slice that ended is a run
-abbrev pub promised : (m : Setting) (n : ℕ) (old new : State) (before after : Counts) (told tells : Option (List ℕ)) (fills filled : ℕ) (notes_on : List Note → Type 0) (pause : Pause) (memory : List ℕ)
-    → old ≡ boot m → GoesOn (Ok pause) (take (4096 * m.frames) memory ≡ with_patches m.image new.ram) → (h : SliceAs m n old new before after told tells fills filled notes_on (Ok pause))
+abbrev pub promised : (m : Setting) (n : ℕ) (old new : State) (before after : Counts) (told tells : Option (List ℕ)) (pages fills filled : ℕ) (wanted : Bool) (notes_on : List Note → Type 0) (pause : Pause) (memory : List ℕ)
+    → old ≡ boot m → GoesOn (Ok pause) (take (4096 * m.frames) memory ≡ with_patches m.image new.ram) → (h : SliceAs m n old new before after told tells pages fills filled wanted notes_on (Ok pause))
     → Promise m n (lines_of (trace_of h.reports) ++ end_line new.step (end_of pause)) new.step (end_of pause) before after memory
-promised m n old new before after told tells fills filled notes_on pause memory is has h = record {
+promised m n old new before after told tells pages fills filled wanted notes_on pause memory is has h = record {
   sets = h.sets;
   reports = h.reports;
   last = h.last;
-  run = record { steps = subst (λ (b : State). Steps m b h.sets h.reports h.last) is h.steps; ends = ends_by m n h.last new pause h.ends };
-  count_is = count_by m n h.last new pause h.ends;
+  run = record { steps = subst (λ (b : State). Steps m b h.sets h.reports h.last) is h.steps; ends = ends_by m n h.last new h.end pause h.ends };
+  count_is = count_by m n h.last new h.end pause h.ends;
   text_is = text_is h.reports new.step (end_of pause);
   counts = h.counts;
-  memory_is = memory_by m n h.last new pause memory has h.ends;
+  memory_is = memory_by m n h.last new h.end pause memory has h.ends;
 }
 
+-- a slice that pauses could go on
+allowed_by : (m : Setting) (n : ℕ) (last new : State) (end : Set) (pause : Pause) → PausesAs m n last new end (Ok pause) → Loosened m last end
+allowed_by m n last new end Reached h = h.2
+allowed_by m n last new end (Stopped stop) h = h.2
+
 -- and what was filled in it
-has_fills : (m : Setting) (n : ℕ) (old new : State) (before after : Counts) (told tells : Option (List ℕ)) (fills filled : ℕ) (notes_on : List Note → Type 0) (pause : Pause)
-    → old ≡ boot m → fills ≡ 0 → filled ≤ 128 * new.step → (h : SliceAs m n old new before after told tells fills filled notes_on (Ok pause)) → HasFills m h.sets h.last filled
-has_fills m n old new before after told tells fills filled notes_on pause is none few h = record {
-  notes = h.notes;
-  told = subst (λ (b : State). AreTold m b h.sets h.notes) is h.noted.told;
-  are = subst (λ (b : State). AreNotes m b h.sets h.last.step h.notes) is h.noted.are;
-  enough = (let empty_first = empty_few old.set (ap (λ (b : State). b.set) is) in
-      All-weaker (λ (set : Set). FillsOn old.set set fills filled) (λ (set : Set). len set ≤ filled) (λ set f. let e = f.enough in omega (arith, e, none, empty_first))
-      (h.sets ++ set_told h.notes h.last.step h.last.set ∷ []) h.each_filled);
-  few = (let same = count_by m n h.last new pause h.ends in omega (arith, few, same));
+has_fills : (m : Setting) (n : ℕ) (old new : State) (before after : Counts) (told tells : Option (List ℕ)) (pages fills filled : ℕ) (wanted : Bool) (notes_on : List Note → Type 0) (pause : Pause)
+    → pages ≡ 0 → fills ≡ 0 → filled ≤ 128 * new.step → (h : SliceAs m n old new before after told tells pages fills filled wanted notes_on (Ok pause)) → HasFills m h.sets h.last filled
+has_fills m n old new before after told tells pages fills filled wanted notes_on pause first none few h = record {
+  end = h.end;
+  allowed = allowed_by m n h.last new h.end pause h.ends;
+  enough = All-weaker (λ (set : Set). FillsOn pages (len set) fills filled) (λ (set : Set). len set ≤ filled) (λ set f. let e = f.enough in omega (arith, e, none, first))
+      (h.sets ++ h.end ∷ []) h.each_filled;
+  few = (let same = count_by m n h.last new h.end pause h.ends in omega (arith, few, same));
 }
 
 pub given_by : (m : Setting) (n : ℕ) (text : List ℕ) (count : ℕ) (end : End) (before after : Counts) (memory : List ℕ) → Promise m n text count end before after memory → CanGive m n text count end
 given_by m n text count end before after memory p = record { sets = p.sets; reports = p.reports; last = p.last; run = p.run; count_is = p.count_is; text_is = p.text_is }
 
 -- all lines and the last one were put
-pub whole_put : (image : Image) (script : Events) (frames n : ℕ) (old new : State) (counts counts_after : Counts) (a b c : Option (List ℕ)) (fills filled : ℕ) (notes_on : List Note → Type 0) (pause : Pause) (before mid now : ℕ) (memory : List ℕ)
-    → need image ≤ frames → old ≡ boot (wedge image script frames) → fills ≡ 0 → filled ≤ 128 * new.step → GoesOn (Ok pause) (take (4096 * frames) memory ≡ with_patches image new.ram)
-    → (h : SliceAs (wedge image script frames) n old new counts counts_after a b fills filled notes_on (Ok pause)) → Appends b c (end_line new.step (end_of pause)) → before ≤ mid → mid ≤ now
+pub whole_put : (image : Image) (script : Events) (frames n : ℕ) (old new : State) (counts counts_after : Counts) (a b c : Option (List ℕ)) (pages fills filled : ℕ) (wanted : Bool) (notes_on : List Note → Type 0) (pause : Pause) (before mid now : ℕ) (memory : List ℕ)
+    → need image ≤ frames → old ≡ boot (wedge image script frames) → pages ≡ 0 → fills ≡ 0 → filled ≤ 128 * new.step → GoesOn (Ok pause) (take (4096 * frames) memory ≡ with_patches image new.ram)
+    → (h : SliceAs (wedge image script frames) n old new counts counts_after a b pages fills filled wanted notes_on (Ok pause)) → Appends b c (end_line new.step (end_of pause)) → before ≤ mid → mid ≤ now
     → WedgeAnswers image script frames n a c before now counts counts_after memory (Ok (record { steps = new.step; end = end_of pause; fills = filled }))
-whole_put image script frames n old new counts counts_after a b c fills filled notes_on pause before mid now memory fits is none few has h put le more = (
+whole_put image script frames n old new counts counts_after a b c pages fills filled wanted notes_on pause before mid now memory fits is first none few has h put le more = (
   lines_of (trace_of h.reports) ++ end_line new.step (end_of pause),
-  promised (wedge image script frames) n old new counts counts_after a b fills filled notes_on pause memory is has h,
+  promised (wedge image script frames) n old new counts counts_after a b pages fills filled wanted notes_on pause memory is has h,
   fits,
-  has_fills (wedge image script frames) n old new counts counts_after a b fills filled notes_on pause is none few h,
+  has_fills (wedge image script frames) n old new counts counts_after a b pages fills filled wanted notes_on pause first none few h,
   put_both a b c _ _ h.text put,
   omega (arith, le, more),
 )
 
 -- all lines and a front of the last one
-pub whole_unput : (image : Image) (script : Events) (frames n : ℕ) (old new : State) (counts counts_after : Counts) (a b c : Option (List ℕ)) (fills filled : ℕ) (notes_on : List Note → Type 0) (pause : Pause) (before mid now : ℕ) (memory : List ℕ)
+pub whole_unput : (image : Image) (script : Events) (frames n : ℕ) (old new : State) (counts counts_after : Counts) (a b c : Option (List ℕ)) (pages fills filled : ℕ) (wanted : Bool) (notes_on : List Note → Type 0) (pause : Pause) (before mid now : ℕ) (memory : List ℕ)
     → need image ≤ frames → old ≡ boot (wedge image script frames) → GoesOn (Ok pause) (take (4096 * frames) memory ≡ with_patches image new.ram)
-    → (h : SliceAs (wedge image script frames) n old new counts counts_after a b fills filled notes_on (Ok pause)) → AppendsFront b c (end_line new.step (end_of pause)) → before ≤ mid → Rose mid now
+    → (h : SliceAs (wedge image script frames) n old new counts counts_after a b pages fills filled wanted notes_on (Ok pause)) → AppendsFront b c (end_line new.step (end_of pause)) → before ≤ mid → Rose mid now
     → WedgeAnswers image script frames n a c before now counts counts_after memory (Err fault.Write)
-whole_unput image script frames n old new counts counts_after a b c fills filled notes_on pause before mid now memory fits is has h put le rose =
+whole_unput image script frames n old new counts counts_after a b c pages fills filled wanted notes_on pause before mid now memory fits is has h put le rose =
     let text = lines_of (trace_of h.reports) ++ end_line new.step (end_of pause) in (
       text,
       new.step,
       end_of pause,
       fits,
-      given_by (wedge image script frames) n text new.step (end_of pause) counts counts_after memory (promised (wedge image script frames) n old new counts counts_after a b fills filled notes_on pause memory is has h),
+      given_by (wedge image script frames) n text new.step (end_of pause) counts counts_after memory (promised (wedge image script frames) n old new counts counts_after a b pages fills filled wanted notes_on pause memory is has h),
       put_front a b c (lines_of (trace_of h.reports)) (end_line new.step (end_of pause)) [] _ h.text put (ap (λ (l : List ℕ). lines_of (trace_of h.reports) ++ l) (sym (append-nil (end_line new.step (end_of pause))))),
       omega (arith, le, rose),
     )
@@ -150,10 +151,10 @@ text_join reports later count end =
     ∙ append_assoc (lines_of (trace_of reports)) (lines_of (trace_of later)) (end_line count end))
 
 -- a front of the lines
-pub whole_front : (image : Image) (script : Events) (frames n : ℕ) (old new : State) (counts counts_after : Counts) (a b : Option (List ℕ)) (fills filled : ℕ) (notes_on : List Note → Type 0) (failed : Failed) (before now : ℕ) (memory : List ℕ)
-    → need image ≤ frames → old ≡ boot (wedge image script frames) → SliceAs (wedge image script frames) n old new counts counts_after a b fills filled notes_on (Err failed) → Rose before now
+pub whole_front : (image : Image) (script : Events) (frames n : ℕ) (old new : State) (counts counts_after : Counts) (a b : Option (List ℕ)) (pages fills filled : ℕ) (wanted : Bool) (notes_on : List Note → Type 0) (failed : Failed) (before now : ℕ) (memory : List ℕ)
+    → need image ≤ frames → old ≡ boot (wedge image script frames) → SliceAs (wedge image script frames) n old new counts counts_after a b pages fills filled wanted notes_on (Err failed) → Rose before now
     → WedgeAnswers image script frames n a b before now counts counts_after memory (Err fault.Write)
-whole_front image script frames n old new counts counts_after a b fills filled notes_on failed before now memory fits is h rose =
+whole_front image script frames n old new counts counts_after a b pages fills filled wanted notes_on failed before now memory fits is h rose =
     let m = wedge image script frames in
     let e = each_ends m n h.last h.ends in (
       text_of (trace_of (h.reports ++ e.reports)) e.last.step e.end,

@@ -13,4 +13,4 @@ use Rattle.wedge_core.specs.declared.running.Lost.{Lost}
 abbrev pub AlonesGo : Type 0
 AlonesGo =
     (m : Setting) (b : State) (lost : Lost) (result : Result Seen Stop) (new : State) (counts : Counts) → m.mode ≡ wedge_mode m.image → IsLevel b.cpu.cpl → may_run b.cpu b.board m.image ≡ false
-    → lost.before ≡ false → AloneAs m b lost.after result new → StepAs m b lost result new counts counts
+    → lost.before ≡ false → AloneAs m b lost result new → StepAs m b lost result new counts counts

@@ -10,31 +10,32 @@ use Rattle.machine_model.specs.Counts.{direct_in}
 use Rattle.native_steps.specs.Backward.{Completes}
 use Rattle.wedge_core.specs.Parts.{left_of, with_set}
 use Rattle.wedge_core.specs.Stepping.{Alone}
+use Rattle.wedge_core.specs.declared.running.Lost.{Lost}
 use Rattle.wedge_core.specs.declared.native.Attempt.{Attempt}
 use Rattle.wedge_core.specs.declared.native.Attempt.TheVariants as attempt
 
 -- A step of which the host did nothing went, by the translations that were kept, or by none where all were dropped before
 -- it. What it completed, if anything, is not direct.
-pub record Idle (m : Setting) (b : State) (before after : Bool) (seen : Seen) (new : State) : Type 0 where
-  pub alone : Alone m (with_set b (left_of before b.set)) after seen new
+pub record Idle (m : Setting) (b : State) (before : Bool) (lost : Lost) (seen : Seen) (new : State) : Type 0 where
+  pub alone : Alone m (with_set b (left_of before b.set)) lost seen new
   pub uncounted : direct_in m.image.sites alone.report.completed ≡ []
 
 -- The host is to do the instruction: it completes it, in this view and over this memory. All that was translated for it is
 -- kept, since the host couldn't do it otherwise. What the guest's step is from what is kept now, it is from the
 -- translations that were kept before, or from none where all were dropped, but for what the step itself notes of its walks
 -- and writes.
-pub record Asks (m : Setting) (view : View) (b : State) (before after : Bool) (new : State) (memory : List ℕ) : Type 0 where
-  pub kept : after ≡ false
+pub record Asks (m : Setting) (view : View) (b : State) (before : Bool) (lost : Lost) (new : State) (memory : List ℕ) : Type 0 where
+  pub kept : (lost.after ≡ false) × (lost.back ≡ false)
   pub regs : Regs
   pub completes : Completes m memory view new regs
   pub same : (report : Report) (then : State) → stepped m new ≡ Went report then
       → (tables wrote : List ℕ) × (stepped m (with_set b (left_of before b.set)) ≡ Went (record report { tables = tables; wrote = wrote }) then)
 
--- Before the step all translations may have been dropped, and after it.
-abbrev pub AttemptAs : Setting → View → State → Bool → Bool → Result Attempt Stop → State → List ℕ → Type 0
-AttemptAs m view b before after (Ok (attempt.Went seen)) new memory = Idle m b before after seen new
-AttemptAs m view b before after (Ok attempt.Asked) new memory = Asks m view b before after new memory
-AttemptAs m view b before after (Err stop) new memory = stepped m (with_set b (left_of before b.set)) ≡ Stands stop
+-- Before the step all translations may have been dropped; `lost` says what it lost or brought back.
+abbrev pub AttemptAs : Setting → View → State → Bool → Lost → Result Attempt Stop → State → List ℕ → Type 0
+AttemptAs m view b before lost (Ok (attempt.Went seen)) new memory = Idle m b before lost seen new
+AttemptAs m view b before lost (Ok attempt.Asked) new memory = Asks m view b before lost new memory
+AttemptAs m view b before lost (Err stop) new memory = stepped m (with_set b (left_of before b.set)) ≡ Stands stop
 
 -- what holds where the host is asked, and where the step went
 abbrev pub WhereAsked : Result Attempt Stop → Type 0 → Type 0

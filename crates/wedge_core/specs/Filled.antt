@@ -1,13 +1,25 @@
 -- How many pages were filled, beside how many are kept.
-use Rattle.std.specs.Prelude.{ℕ, ◌+◌, ◌≤◌}
+use Rattle.std.specs.Prelude.{ℕ, ◌+◌, ◌≤◌, List, [], ◌∷◌, Option}
 use Rattle.std.specs.FinMap.{len}
-use Rattle.machine_model.specs.Run.{Set}
+use Rattle.shadow_tables.specs.Aside.{Aside}
+use Rattle.shadow_tables.specs.Entries.{entries_of}
+use Rattle.shadow_tables.specs.Slots.{Slot}
+
+-- how many pages are kept for values of CR3 that aren't present
+abbrev pub pages_aside : List Aside → ℕ
+pages_aside [] = 0
+pages_aside (a ∷ asides) = len (entries_of a.slots) + pages_aside asides
+
+module _ {S : Type 0} (slots : S → List ℕ → ℕ → Option Slot) (asides : S → List ℕ → List Aside) where
+  -- and for all values, the present one among them
+  abbrev pub pages_kept : S → List ℕ → ℕ
+  pages_kept s memory = len (entries_of (slots s memory)) + pages_aside (asides s memory)
 
 -- The count of filled pages doesn't fall, and the pages that are kept grow by no more than it rises.
-pub record FillsOn (old new : Set) (before after : ℕ) : Type 0 where
+pub record FillsOn (old new before after : ℕ) : Type 0 where
   pub rises : before ≤ after
-  pub enough : len new + before ≤ len old + after
+  pub enough : new + before ≤ old + after
 
 -- each page that is kept was filled
-abbrev pub IsFilled : Set → ℕ → Type 0
-IsFilled set fills = len set ≤ fills
+abbrev pub IsFilled : ℕ → ℕ → Type 0
+IsFilled pages fills = pages ≤ fills

@@ -18,3 +18,4 @@ pub mod Tries
 pub mod Prepared
 pub mod Told
 pub mod Filled
+pub mod Ready

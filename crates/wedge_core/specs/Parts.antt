@@ -1,9 +1,10 @@
 -- Some of a set of translations.
-use Rattle.std.specs.Prelude.{◌≡◌, ℕ, Bool, Some, if◌then◌else◌}
+use Rattle.std.specs.Prelude.{◌≡◌, ℕ, Bool, false, Some, if◌then◌else◌}
 use Rattle.std.specs.Option.{ForSome}
 use Rattle.std.specs.FinMap.{get, empty}
 use Rattle.machine_model.specs.Run.{Set}
-use Rattle.machine_model.specs.State.{State}
+use Rattle.machine_model.specs.State.{Setting, State, Loosened}
+use Rattle.wedge_core.specs.declared.running.Lost.{Lost}
 
 -- each entry of the part is one of the whole
 pub record IsPartOf (part whole : Set) : Type 0 where
@@ -16,3 +17,9 @@ left_of dropped set = if dropped then empty else set
 -- the state with other translations
 abbrev pub with_set : State → Set → State
 with_set b set = record b { set = set }
+
+-- What is kept in a state behind a step that left a set: all of it, or nothing where all were dropped. Where the step loaded
+-- CR3 and what was kept under the value came back, it is what a run may go on with.
+pub record IsLeft (m : Setting) (new : State) (whole : Set) (lost : Lost) : Type 0 where
+  pub allowed : Loosened m (with_set new whole) new.set
+  pub exact : lost.back ≡ false → new.set ≡ left_of lost.after whole

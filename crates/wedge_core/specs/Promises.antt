@@ -16,12 +16,10 @@ use Rattle.image_load.specs.declared.fault.RunFault.TheVariants as fault
 use Rattle.run_trace.specs.declared.items.End.{End}
 use Rattle.run_trace.specs.declared.items.End.TheVariants.{Bound, Stopped}
 use Rattle.run_trace.specs.declared.items.Ended.{Ended}
-use Rattle.run_trace.specs.Notes.{Note}
 use Rattle.run_trace.specs.Text.{text_of}
-use Rattle.machine_model.specs.State.{Setting, State, boot, wedge}
+use Rattle.machine_model.specs.State.{Setting, State, Loosened, boot, wedge}
 use Rattle.machine_model.specs.Step.{Report}
 use Rattle.machine_model.specs.Run.{Set, Run, CanGive, trace_of}
-use Rattle.machine_model.specs.Notes.{AreTold, AreNotes, set_told}
 use Rattle.wedge_core.specs.Slices.{Counts, CountsOn}
 
 -- the guest's memory as the host has it: with the patched text in the text's place
@@ -44,14 +42,12 @@ pub record Promise (m : Setting) (n : ℕ) (text : List ℕ) (count : ℕ) (end 
   pub counts : CountsOn m reports before after
   pub memory_is : HasMemory m last end memory
 
--- How many pages were filled in a run from the start. Each of its steps goes by what the one before left, but for what was
--- dropped, as notes could tell it. Each of these sets, and the one that is left at the end, has no more pages than were
--- filled. A step fills at most 128, so that none were filled where no step was done.
+-- How many pages were filled in a run from the start. Each of its sets, and the one with which it could go on, has no more
+-- pages than were filled. A step fills at most 128, so that none were filled where no step was done.
 pub record HasFills (m : Setting) (sets : List Set) (last : State) (fills : ℕ) : Type 0 where
-  pub notes : List Note
-  pub told : AreTold m (boot m) sets notes
-  pub are : AreNotes m (boot m) sets last.step notes
-  pub enough : All (λ (set : Set). len set ≤ fills) (sets ++ set_told notes last.step last.set ∷ [])
+  pub end : Set
+  pub allowed : Loosened m last end
+  pub enough : All (λ (set : Set). len set ≤ fills) (sets ++ end ∷ [])
   pub few : fills ≤ 128 * last.step
 
 -- what stands after a refusal

@@ -1,20 +1,20 @@
 -- What a slice of a patched run says.
-use Rattle.std.specs.Prelude.{◌≡◌, ℕ, ◌+◌, ◌≤◌, ◌<◌, List, [], ◌∷◌, ◌++◌, Option, Result, Ok, Err}
+use Rattle.std.specs.Prelude.{◌≡◌, ℕ, ◌+◌, ◌≤◌, ◌<◌, Bool, true, List, [], ◌∷◌, ◌++◌, Option, Result, Ok, Err}
 use Rattle.std.specs.List.{All}
+use Rattle.std.specs.FinMap.{len}
 use Rattle.pv_io.specs.declared.answer.Failed.{Failed}
 use Rattle.pv_io.specs.Sink.{Appends, AppendsFront}
 use Rattle.image_load.specs.declared.fault.Pause.{Pause}
 use Rattle.image_load.specs.declared.fault.Pause.TheVariants.{Reached, Stopped}
 use Rattle.run_trace.specs.Notes.{Note}
 use Rattle.run_trace.specs.Text.{lines_of}
-use Rattle.machine_model.specs.State.{Setting, State}
-use Rattle.machine_model.specs.Step.{Report}
-use Rattle.machine_model.specs.Run.{Set, Steps, StopsAt, trace_of}
+use Rattle.machine_model.specs.State.{Setting, State, Loosened}
+use Rattle.machine_model.specs.Step.{Report, Stands, step_of}
+use Rattle.machine_model.specs.Run.{Set, Steps, trace_of}
 use Rattle.machine_model.specs.Counts.{direct_count, passed_digest}
-use Rattle.machine_model.specs.Notes.{set_told}
 use Rattle.wedge_core.specs.Filled.{FillsOn}
 use Rattle.wedge_core.specs.Noted.{IsNoted}
-use Rattle.wedge_core.specs.Parts.{IsPartOf, with_set}
+use Rattle.wedge_core.specs.Parts.{with_set}
 
 -- The host's count of completed instructions, and its digest of their addresses.
 pub record Counts : Type 0 where
@@ -26,11 +26,12 @@ pub record CountsOn (m : Setting) (reports : List Report) (old new : Counts) : T
   pub retired : new.retired ≡ old.retired + direct_count m.image.sites reports
   pub passed : new.passed ≡ passed_digest m.image.sites old.passed reports
 
--- All steps were done, and what is kept is part of what the last one left; or the next one stops. The sink may fail before.
-abbrev pub PausesAs : Setting → ℕ → State → State → Result Pause Failed → Type 0
-PausesAs m bound last new (Ok Reached) = (last.step ≡ bound) × (new ≡ with_set last new.set) × IsPartOf new.set last.set
-PausesAs m bound last new (Ok (Stopped stop)) = (last.step < bound) × (new.step ≡ last.step) × StopsAt m last stop
-PausesAs m bound last new (Err failed) = last.step ≤ bound
+-- All steps were done, and these translations are kept, which a run may go on with; or the next step stops, by these
+-- translations, which it may go by. The sink may fail before.
+abbrev pub PausesAs : Setting → ℕ → State → State → Set → Result Pause Failed → Type 0
+PausesAs m bound last new end (Ok Reached) = (last.step ≡ bound) × (new ≡ with_set last end) × Loosened m last end
+PausesAs m bound last new end (Ok (Stopped stop)) = (last.step < bound) × (new.step ≡ last.step) × Loosened m last end × (step_of m last end ≡ Stands stop)
+PausesAs m bound last new end (Err failed) = last.step ≤ bound
 
 -- the text was put, or a front of it where the sink failed
 abbrev pub PutsAs : List ℕ → Option (List ℕ) → Option (List ℕ) → Result Pause Failed → Type 0
@@ -38,21 +39,22 @@ PutsAs text old new (Ok pause) = Appends old new text
 PutsAs text old new (Err failed) = AppendsFront old new text
 
 -- Steps under the monitor's rules, up to the bound or to a stop, led from the old state to the last. The lines of what
--- was seen in them were put, and the host completed their direct instructions. They go by what is left of translations,
--- but for those that these notes tell to be dropped. Each of their sets, and the one behind them, has no more pages than
--- there were at first and were filled since.
-pub record SliceAs (m : Setting) (bound : ℕ) (old new : State) (before after : Counts) (told tells : Option (List ℕ)) (fills filled : ℕ) (notes_on : List Note → Type 0) (result : Result Pause Failed) : Type 0 where
+-- was seen in them were put, and the host completed their direct instructions. Where notes are wanted, they go by what is
+-- left of translations, but for those that these notes tell to be dropped. Each of their sets, and the one behind them, has
+-- no more pages than were kept at first and were filled since.
+pub record SliceAs (m : Setting) (bound : ℕ) (old new : State) (before after : Counts) (told tells : Option (List ℕ)) (pages fills filled : ℕ) (wanted : Bool) (notes_on : List Note → Type 0) (result : Result Pause Failed) : Type 0 where
   pub sets : List Set
   pub reports : List Report
   pub last : State
+  pub end : Set
   pub notes : List Note
   pub steps : Steps m old sets reports last
-  pub ends : PausesAs m bound last new result
+  pub ends : PausesAs m bound last new end result
   pub text : PutsAs (lines_of (trace_of reports)) told tells result
   pub counts : CountsOn m reports before after
-  pub noted : IsNoted m old new sets last notes result
+  pub noted : wanted ≡ true → IsNoted m old new sets last notes result
   pub tells_notes : notes_on notes
-  pub each_filled : All (λ (set : Set). FillsOn old.set set fills filled) (sets ++ set_told notes last.step last.set ∷ [])
+  pub each_filled : All (λ (set : Set). FillsOn pages (len set) fills filled) (sets ++ end ∷ [])
 
 -- what holds where the run can go on
 abbrev pub GoesOn : Result Pause Failed → Type 0 → Type 0

@@ -10,7 +10,7 @@ use Rattle.image_load.specs.declared.fault.StartFault.TheVariants as start
 use Rattle.shadow_tables.specs.Slots.{Slot}
 use Rattle.machine_model.specs.State.{Setting, boot, wedge}
 use Rattle.wedge_core.specs.Standing.{IsHeld, IsAble, state_of}
-use Rattle.shadow_tables.specs.declared.shadow.Shadow.{Shadow}
+use Rattle.shadow_cache.specs.declared.roots.Roots.{Roots}
 use Rattle.wedge_core.specs.declared.guest.Guest.{Guest}
 use Rattle.wedge_core.specs.declared.running.Running.{Running}
 
@@ -26,7 +26,7 @@ module _ {S : Type 0} (stands : S → List ℕ → Type 0) (frames : S → List 
     pub all : length (free_list pool memory) + g.held ≡ count_of pool
 
 -- the host's memory has the guest's frames and the pool's
-abbrev pub StartedAs : (Shadow → List ℕ → Type 0) → (Shadow → List ℕ → List ℕ) → (Shadow → List ℕ → ℕ → Option Slot) → Image → ℕ → ℕ → List ℕ → Result (Guest × Pool) StartFault → Type 0
+abbrev pub StartedAs : (Roots → List ℕ → Type 0) → (Roots → List ℕ → List ℕ) → (Roots → List ℕ → ℕ → Option Slot) → Image → ℕ → ℕ → List ℕ → Result (Guest × Pool) StartFault → Type 0
 StartedAs stands frames slots image guest_frames count memory (Ok started) =
     (need image ≤ guest_frames) × (length memory ≡ 4096 * (guest_frames + count)) × (base_of started.1 ≡ guest_frames) × (count_of started.1 ≡ count)
     × ((script : Events) → Begins stands frames slots (wedge image script guest_frames) started.0.running started.1 memory)

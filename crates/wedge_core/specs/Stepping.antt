@@ -1,5 +1,5 @@
 -- What one step of a patched run comes to, and some of them.
-use Rattle.std.specs.Prelude.{◌≡◌, ℕ, List, [], ◌∷◌, replicate, Bool, Result, Ok, Err}
+use Rattle.std.specs.Prelude.{◌≡◌, ℕ, List, [], ◌∷◌, replicate, Result, Ok, Err}
 use Rattle.ia32_types.specs.declared.stop.Stop.{Stop}
 use Rattle.machine_step.specs.declared.worked.Seen.{Seen}
 use Rattle.machine_step.specs.Worked.{whats}
@@ -7,18 +7,18 @@ use Rattle.machine_model.specs.State.{Setting, State}
 use Rattle.machine_model.specs.Step.{Report, Went, Stands, stepped, items_at}
 use Rattle.machine_model.specs.Run.{Set, Steps, trace_of}
 use Rattle.machine_model.specs.Notes.{AreLeft}
-use Rattle.wedge_core.specs.Parts.{left_of, with_set}
+use Rattle.wedge_core.specs.Parts.{left_of, with_set, IsLeft}
 use Rattle.wedge_core.specs.Slices.{Counts, CountsOn}
 use Rattle.wedge_core.specs.declared.running.Lost.{Lost}
 
 -- A step whose events were given went, by the translations that were kept, or by none where all were dropped before it,
--- and let these things be seen. What it left of them is kept, or nothing where all were dropped after it. The host's
--- counts follow.
+-- and let these things be seen. What it left of them is kept, or nothing where all were dropped after it, or what came
+-- back. The host's counts follow.
 pub record Goes (m : Setting) (b : State) (lost : Lost) (seen : Seen) (new : State) (before after : Counts) : Type 0 where
   pub report : Report
   pub whole : Set
   pub went : stepped m (with_set b (left_of lost.before b.set)) ≡ Went report (with_set new whole)
-  pub left : new.set ≡ left_of lost.after whole
+  pub left : IsLeft m new whole lost
   pub items : report.items ≡ items_at b.step (whats seen)
   pub counts : CountsOn m (report ∷ []) before after
 
@@ -31,18 +31,18 @@ StepAs m b lost (Ok seen) new before after = Goes m b lost seen new before after
 StepAs m b lost (Err stop) new before after = Halts m b lost stop
 
 -- A step of which the host did nothing went, by all that was kept. What it left is kept, or nothing where all was dropped
--- after it.
-pub record Alone (m : Setting) (b : State) (after : Bool) (seen : Seen) (new : State) : Type 0 where
+-- after it, or what came back.
+pub record Alone (m : Setting) (b : State) (lost : Lost) (seen : Seen) (new : State) : Type 0 where
   pub report : Report
   pub whole : Set
   pub went : stepped m b ≡ Went report (with_set new whole)
-  pub left : new.set ≡ left_of after whole
+  pub left : IsLeft m new whole lost
   pub items : report.items ≡ items_at b.step (whats seen)
 
 -- or it stops
-abbrev pub AloneAs : Setting → State → Bool → Result Seen Stop → State → Type 0
-AloneAs m b after (Ok seen) new = Alone m b after seen new
-AloneAs m b after (Err stop) new = stepped m b ≡ Stands stop
+abbrev pub AloneAs : Setting → State → Lost → Result Seen Stop → State → Type 0
+AloneAs m b lost (Ok seen) new = Alone m b lost seen new
+AloneAs m b lost (Err stop) new = stepped m b ≡ Stands stop
 
 -- Some steps in which nothing is seen lead from one state to another. Each goes by the same translations, which the one
 -- before left.

@@ -9,14 +9,15 @@ ghost use Rattle.board.specs.Scripts.{Events, is_script};
 ghost use Rattle.image_check.specs.Image.{Image};
 ghost use Rattle.image_load.specs.Boot.{text_pages};
 ghost use Rattle.pv_io.specs.Causes.{Rose};
-ghost use Rattle.shadow_tables.specs.Slots.{IsShadow, held as held_by, slot_at};
+ghost use Rattle.shadow_cache.specs.Views as roots;
 ghost use Rattle.machine_model.specs.State.{wedge};
-ghost use Rattle.wedge_core.specs.Filled.{FillsOn, IsFilled};
+ghost use Rattle.wedge_core.specs.Filled.{FillsOn, IsFilled, pages_kept};
 ghost use Rattle.wedge_core.specs.Noted.{NotesOn};
 ghost use Rattle.wedge_core.specs.Pools.{Keeps};
 ghost use Rattle.wedge_core.specs.Promises.{with_patches};
+ghost use Rattle.wedge_core.specs.Ready.{IsReady};
 ghost use Rattle.wedge_core.specs.Slices.{SliceAs, GoesOn, Pauses};
-ghost use Rattle.wedge_core.specs.Standing.{IsHeld, IsAble, ground, set_of, state_of};
+ghost use Rattle.wedge_core.specs.Standing.{IsHeld, IsAble, ground, state_of};
 ghost use Rattle.wedge_core.specs.Starts.{StartedAs};
 
 use crate::running::{Lost, Running};
@@ -32,18 +33,19 @@ use image_load::{Pause, StartFault, load};
 use machine_model::each_run_begins_able;
 use pv_io::{Failed, Sink};
 use run_trace::Notes;
-use shadow_tables::{Shadow, Shadows};
+use shadow_cache::Roots;
+use shadow_tables::Shadows;
 use sites::patch;
 use std::alloc::{AllocError, Global};
 
 /// Where the text stands in the guest's memory.
 const TEXT_AT: u32 = 0x10_0000;
 
-/// A guest of a host: it runs its patched text there. Its memory is the front of the host's, and its shadows lie in
-/// frames of a pool.
+/// A guest of a host: it runs its patched text there. Its memory is the front of the host's, and its shadows, for each value
+/// of CR3 that may come back, lie in frames of a pool.
 #[derive(Drop)]
 pub struct Guest {
-    pub running: Running<Shadow>,
+    pub running: Running<Roots>,
 }
 
 impl Guest {
@@ -58,22 +60,23 @@ impl Guest {
     ) -> Result<(Guest, Pool), StartFault>
         requires frames { (2048 ≤ frames) × (frames ≤ 16384) }
         requires pool { (16 ≤ pool) × (pool ≤ 512) }
-        ensures started { StartedAs IsShadow held_by slot_at image.now frames pool (H.bytes host.new) result }
+        ensures started { StartedAs roots.stands roots.frames roots.slots image.now frames pool (H.bytes host.new) result }
         ensures running { IfOk result (λ _. H.is_started host.new ≡ true) }
-        ensures filled { IfOk result (λ started. IsFilled (set_of IsShadow held_by slot_at started.0.running (H.bytes host.new)) started.0.running.fills) }
+        ensures ready { IfOk result (λ started. IsReady roots.slots roots.noted roots.marked roots.value roots.asides (ground image.now frames) started.0.running.cpu started.0.running.shadows (H.bytes host.new)) }
+        ensures filled { IfOk result (λ started. IsFilled (pages_kept roots.slots roots.asides started.0.running.shadows (H.bytes host.new)) started.0.running.fills) }
         ensures retired { H.retired host.new ≡ H.retired host.old }
         ensures passed { H.passed host.new ≡ H.passed host.old }
     {
         match host.start(alloc, frames + pool) {
             Err(_) => Err(StartFault::Memory),
-            Ok(()) => start_in(host.ram_mut(), image, frames, pool),
+            Ok(()) => start_in(alloc, host.ram_mut(), image, frames, pool),
         }
     }
 
     /// Patches the text in the guest's memory, which the host's has at its front, and goes on from there with no
     /// translation.
     pub fn adopt<H: Host>(
-        _alloc: Global,
+        alloc: Global,
         image: &Checked,
         cpu: Cpu,
         board: Board,
@@ -92,19 +95,20 @@ impl Guest {
         requires behind { frames ≤ base_of pool.old }
         requires stands { Stands pool.old (H.bytes host.old) }
         requires free { 2 ≤ length (free_list pool.old (H.bytes host.old)) }
-        ensures held { IfOk result (λ guest. IsHeld IsShadow held_by slot_at (ground image.now frames) guest.running pool.new (H.bytes host.new)) }
-        ensures state { IfOk result (λ guest. (script : Events) → state_of IsShadow held_by slot_at (wedge image.now script frames) guest.running (H.bytes host.new)
+        ensures held { IfOk result (λ guest. IsHeld roots.stands roots.frames roots.slots (ground image.now frames) guest.running pool.new (H.bytes host.new)) }
+        ensures state { IfOk result (λ guest. (script : Events) → state_of roots.stands roots.frames roots.slots (wedge image.now script frames) guest.running (H.bytes host.new)
             ≡ record { cpu = cpu; ram = take (4096 * frames) (H.bytes host.old); set = empty; board = board; step = step }) }
         ensures two { IfOk result (λ guest. guest.running.held ≡ 2) }
         ensures fills { IfOk result (λ guest. guest.running.fills ≡ 0) }
-        ensures filled { IfOk result (λ guest. IsFilled (set_of IsShadow held_by slot_at guest.running (H.bytes host.new)) guest.running.fills) }
-        ensures pool { IfOk result (λ guest. Keeps pool.old pool.new (H.bytes host.old) (H.bytes host.new) [] (held_by guest.running.shadows (H.bytes host.new))) }
+        ensures ready { IfOk result (λ guest. IsReady roots.slots roots.noted roots.marked roots.value roots.asides (ground image.now frames) guest.running.cpu guest.running.shadows (H.bytes host.new)) }
+        ensures filled { IfOk result (λ guest. IsFilled (pages_kept roots.slots roots.asides guest.running.shadows (H.bytes host.new)) guest.running.fills) }
+        ensures pool { IfOk result (λ guest. Keeps pool.old pool.new (H.bytes host.old) (H.bytes host.new) [] (roots.frames guest.running.shadows (H.bytes host.new))) }
         ensures refused { OnErr result ((H.bytes host.new ≡ H.bytes host.old) × (pool.new ≡ pool.old)) }
         ensures started { H.is_started host.new ≡ true }
         ensures retired { H.retired host.new ≡ H.retired host.old }
         ensures passed { H.passed host.new ≡ H.passed host.old }
     {
-        let running = adopt_in(host.ram_mut(), image, cpu, board, step, frames, pool);
+        let running = adopt_in(alloc, host.ram_mut(), image, cpu, board, step, frames, pool)?;
         Ok(Guest { running })
     }
 
@@ -121,30 +125,32 @@ impl Guest {
         notes: &mut L,
     ) -> Result<Pause, Failed>
         requires started { H.is_started host.old ≡ true }
-        requires held { IsHeld IsShadow held_by slot_at (ground image.now self.old.running.frames) self.old.running pool.old (H.bytes host.old) }
+        requires held { IsHeld roots.stands roots.frames roots.slots (ground image.now self.old.running.frames) self.old.running pool.old (H.bytes host.old) }
+        requires ready { IsReady roots.slots roots.noted roots.marked roots.value roots.asides (ground image.now self.old.running.frames) self.old.running.cpu self.old.running.shadows (H.bytes host.old) }
         requires able { IsAble self.old.running.cpu }
         requires script { is_script script.now.list ≡ true }
         requires bound { self.old.running.step + k ≤ 2 ^ 40 }
         requires room { H.retired host.old + k < 2 ^ 64 }
         requires enough { 16 ≤ length (free_list pool.old (H.bytes host.old)) + self.old.running.held }
         ensures slice { SliceAs (wedge image.now script.now.list self.old.running.frames) (self.old.running.step + k)
-            (state_of IsShadow held_by slot_at (wedge image.now script.now.list self.old.running.frames) self.old.running (H.bytes host.old))
-            (state_of IsShadow held_by slot_at (wedge image.now script.now.list self.old.running.frames) self.new.running (H.bytes host.new))
+            (state_of roots.stands roots.frames roots.slots (wedge image.now script.now.list self.old.running.frames) self.old.running (H.bytes host.old))
+            (state_of roots.stands roots.frames roots.slots (wedge image.now script.now.list self.old.running.frames) self.new.running (H.bytes host.new))
             (record { retired = H.retired host.old; passed = H.passed host.old }) (record { retired = H.retired host.new; passed = H.passed host.new })
-            (O.taken out.old) (O.taken out.new) self.old.running.fills self.new.running.fills (NotesOn (L.wants notes.old) (L.tells notes.old) (L.tells notes.new)) result }
+            (O.taken out.old) (O.taken out.new) (pages_kept roots.slots roots.asides self.old.running.shadows (H.bytes host.old)) self.old.running.fills self.new.running.fills (L.wants notes.old) (NotesOn (L.wants notes.old) (L.tells notes.old) (L.tells notes.new)) result }
         ensures wants { L.wants notes.new ≡ L.wants notes.old }
         ensures silent { L.wants notes.old ≡ false → notes.new ≡ notes.old }
         ensures reached { GoesOn result (self.new.running.step ≡ self.old.running.step + k) }
-        ensures held { GoesOn result (IsHeld IsShadow held_by slot_at (ground image.now self.old.running.frames) self.new.running pool.new (H.bytes host.new)) }
+        ensures held { GoesOn result (IsHeld roots.stands roots.frames roots.slots (ground image.now self.old.running.frames) self.new.running pool.new (H.bytes host.new)) }
+        ensures ready { GoesOn result (IsReady roots.slots roots.noted roots.marked roots.value roots.asides (ground image.now self.old.running.frames) self.new.running.cpu self.new.running.shadows (H.bytes host.new)) }
         ensures able { GoesOn result (IsAble self.new.running.cpu) }
-        ensures memory { GoesOn result (take (4096 * self.old.running.frames) (H.bytes host.new) ≡ with_patches image.now (state_of IsShadow held_by slot_at (wedge image.now script.now.list self.old.running.frames) self.new.running (H.bytes host.new)).ram) }
-        ensures counted { Pauses result (self.new.running.held ≡ length (held_by self.new.running.shadows (H.bytes host.new))) }
-        ensures stands { Pauses result (∥ IsShadow self.new.running.shadows (H.bytes host.new) ∥₁) }
-        ensures owns { Pauses result (Owns pool.new (H.bytes host.new) (held_by self.new.running.shadows (H.bytes host.new))) }
-        ensures fills { FillsOn (set_of IsShadow held_by slot_at self.old.running (H.bytes host.old)) (set_of IsShadow held_by slot_at self.new.running (H.bytes host.new)) self.old.running.fills self.new.running.fills }
+        ensures memory { GoesOn result (take (4096 * self.old.running.frames) (H.bytes host.new) ≡ with_patches image.now (state_of roots.stands roots.frames roots.slots (wedge image.now script.now.list self.old.running.frames) self.new.running (H.bytes host.new)).ram) }
+        ensures counted { Pauses result (self.new.running.held ≡ length (roots.frames self.new.running.shadows (H.bytes host.new))) }
+        ensures stands { Pauses result (∥ roots.stands self.new.running.shadows (H.bytes host.new) ∥₁) }
+        ensures owns { Pauses result (Owns pool.new (H.bytes host.new) (roots.frames self.new.running.shadows (H.bytes host.new))) }
+        ensures fills { FillsOn (pages_kept roots.slots roots.asides self.old.running.shadows (H.bytes host.old)) (pages_kept roots.slots roots.asides self.new.running.shadows (H.bytes host.new)) self.old.running.fills self.new.running.fills }
         ensures few { Pauses result (self.new.running.fills ≤ 128 * self.new.running.step) }
-        ensures filled { IsFilled (set_of IsShadow held_by slot_at self.old.running (H.bytes host.old)) self.old.running.fills → IsFilled (set_of IsShadow held_by slot_at self.new.running (H.bytes host.new)) self.new.running.fills }
-        ensures pool { Pauses result (Keeps pool.old pool.new (H.bytes host.old) (H.bytes host.new) (held_by self.old.running.shadows (H.bytes host.old)) (held_by self.new.running.shadows (H.bytes host.new))) }
+        ensures filled { IsFilled (pages_kept roots.slots roots.asides self.old.running.shadows (H.bytes host.old)) self.old.running.fills → IsFilled (pages_kept roots.slots roots.asides self.new.running.shadows (H.bytes host.new)) self.new.running.fills }
+        ensures pool { Pauses result (Keeps pool.old pool.new (H.bytes host.old) (H.bytes host.new) (roots.frames self.old.running.shadows (H.bytes host.old)) (roots.frames self.new.running.shadows (H.bytes host.new))) }
         ensures started { H.is_started host.new ≡ true }
         ensures frames { self.new.running.frames ≡ self.old.running.frames }
         ensures later { O.faults out.old ≤ O.faults out.new }
@@ -166,20 +172,21 @@ impl Guest {
     /// Drops all shadows. The guest holds two frames then.
     pub fn release<H: Host>(&mut self, pool: &mut Pool, host: &mut H)
         requires started { H.is_started host.old ≡ true }
-        requires stands { ∥ IsShadow self.old.running.shadows (H.bytes host.old) ∥₁ }
-        requires owns { Owns pool.old (H.bytes host.old) (held_by self.old.running.shadows (H.bytes host.old)) }
-        ensures stands { ∥ IsShadow self.new.running.shadows (H.bytes host.new) ∥₁ }
-        ensures owns { Owns pool.new (H.bytes host.new) (held_by self.new.running.shadows (H.bytes host.new)) }
-        ensures two { length (held_by self.new.running.shadows (H.bytes host.new)) ≡ 2 }
+        requires stands { ∥ roots.stands self.old.running.shadows (H.bytes host.old) ∥₁ }
+        requires owns { Owns pool.old (H.bytes host.old) (roots.frames self.old.running.shadows (H.bytes host.old)) }
+        ensures stands { ∥ roots.stands self.new.running.shadows (H.bytes host.new) ∥₁ }
+        ensures owns { Owns pool.new (H.bytes host.new) (roots.frames self.new.running.shadows (H.bytes host.new)) }
+        ensures two { length (roots.frames self.new.running.shadows (H.bytes host.new)) ≡ 2 }
         ensures held { self.new.running.held ≡ 2 }
-        ensures moves { Moves pool.old pool.new (H.bytes host.old) (H.bytes host.new) (held_by self.old.running.shadows (H.bytes host.old)) (held_by self.new.running.shadows (H.bytes host.new)) }
-        ensures again { (image : Image) → IsHeld IsShadow held_by slot_at (ground image self.old.running.frames) self.old.running pool.old (H.bytes host.old) → IsHeld IsShadow held_by slot_at (ground image self.old.running.frames) self.new.running pool.new (H.bytes host.new) }
+        ensures moves { Moves pool.old pool.new (H.bytes host.old) (H.bytes host.new) (roots.frames self.old.running.shadows (H.bytes host.old)) (roots.frames self.new.running.shadows (H.bytes host.new)) }
+        ensures again { (image : Image) → IsHeld roots.stands roots.frames roots.slots (ground image self.old.running.frames) self.old.running pool.old (H.bytes host.old) → IsHeld roots.stands roots.frames roots.slots (ground image self.old.running.frames) self.new.running pool.new (H.bytes host.new) }
+        ensures ready { (image : Image) → IsReady roots.slots roots.noted roots.marked roots.value roots.asides (ground image self.old.running.frames) self.old.running.cpu self.old.running.shadows (H.bytes host.old) → IsReady roots.slots roots.noted roots.marked roots.value roots.asides (ground image self.old.running.frames) self.new.running.cpu self.new.running.shadows (H.bytes host.new) }
         ensures cpu { self.new.running.cpu ≡ self.old.running.cpu }
         ensures board { self.new.running.board ≡ self.old.running.board }
         ensures frames { self.new.running.frames ≡ self.old.running.frames }
         ensures step { self.new.running.step ≡ self.old.running.step }
         ensures fills { self.new.running.fills ≡ self.old.running.fills }
-        ensures filled { IsFilled (set_of IsShadow held_by slot_at self.new.running (H.bytes host.new)) self.new.running.fills }
+        ensures filled { IsFilled (pages_kept roots.slots roots.asides self.new.running.shadows (H.bytes host.new)) self.new.running.fills }
         ensures outside { SameOutside (base_of pool.old) (count_of pool.old) (H.bytes host.old) (H.bytes host.new) }
         ensures started { H.is_started host.new ≡ true }
         ensures retired { H.retired host.new ≡ H.retired host.old }
@@ -224,6 +231,7 @@ impl Guest {
 }
 
 fn start_in(
+    alloc: Global,
     ram: &mut Ram,
     image: &Checked,
     frames: u32,
@@ -232,20 +240,34 @@ fn start_in(
     requires zero { ram.old ≡ replicate ((frames + count) * 4096) 0 }
     requires frames { (2048 ≤ frames) × (frames ≤ 16384) }
     requires count { (16 ≤ count) × (count ≤ 512) }
-    ensures started { StartedAs IsShadow held_by slot_at image.now frames count ram.new result }
+    ensures started { StartedAs roots.stands roots.frames roots.slots image.now frames count ram.new result }
+    ensures ready { IfOk result (λ started. IsReady roots.slots roots.noted roots.marked roots.value roots.asides (ground image.now frames) started.0.running.cpu started.0.running.shadows ram.new) }
+    ensures none { IfOk result (λ started. pages_kept roots.slots roots.asides started.0.running.shadows ram.new ≡ 0) }
 {
     match load(image, ram, frames) {
         Err(small) => Err(StartFault::TooSmall(small)),
         Ok(boot) => {
             each_run_begins_able();
             let mut pool = Pool::new(ram, frames, count);
-            let running = adopt_in(ram, image, boot.cpu, Board::new(), 0, frames, &mut pool);
-            Ok((Guest { running }, pool))
+            match adopt_in(
+                alloc,
+                ram,
+                image,
+                boot.cpu,
+                Board::new(),
+                0,
+                frames,
+                &mut pool,
+            ) {
+                Err(_) => Err(StartFault::Memory),
+                Ok(running) => Ok((Guest { running }, pool)),
+            }
         }
     }
 }
 
 fn adopt_in(
+    alloc: Global,
     ram: &mut Ram,
     image: &Checked,
     cpu: Cpu,
@@ -253,7 +275,7 @@ fn adopt_in(
     step: u64,
     frames: u32,
     pool: &mut Pool,
-) -> Running<Shadow>
+) -> Result<Running<Roots>, AllocError>
     requires frames { (2048 ≤ frames) × (frames ≤ 16384) }
     requires room { 4096 * frames ≤ length ram.old }
     requires whole { length ram.old % 4096 ≡ 0 }
@@ -262,19 +284,22 @@ fn adopt_in(
     requires behind { frames ≤ base_of pool.old }
     requires stands { Stands pool.old ram.old }
     requires free { 2 ≤ length (free_list pool.old ram.old) }
-    ensures held { IsHeld IsShadow held_by slot_at (ground image.now frames) result pool.new ram.new }
-    ensures state { (script : Events) → state_of IsShadow held_by slot_at (wedge image.now script frames) result ram.new
-        ≡ record { cpu = cpu; ram = take (4096 * frames) ram.old; set = empty; board = board; step = step } }
-    ensures two { result.held ≡ 2 }
-    ensures fills { result.fills ≡ 0 }
-    ensures pool { Keeps pool.old pool.new ram.old ram.new [] (held_by result.shadows ram.new) }
+    ensures held { IfOk result (λ g. IsHeld roots.stands roots.frames roots.slots (ground image.now frames) g pool.new ram.new) }
+    ensures ready { IfOk result (λ g. IsReady roots.slots roots.noted roots.marked roots.value roots.asides (ground image.now frames) g.cpu g.shadows ram.new) }
+    ensures state { IfOk result (λ g. (script : Events) → state_of roots.stands roots.frames roots.slots (wedge image.now script frames) g ram.new
+        ≡ record { cpu = cpu; ram = take (4096 * frames) ram.old; set = empty; board = board; step = step }) }
+    ensures two { IfOk result (λ g. g.held ≡ 2) }
+    ensures fills { IfOk result (λ g. g.fills ≡ 0) }
+    ensures none { IfOk result (λ g. pages_kept roots.slots roots.asides g.shadows ram.new ≡ 0) }
+    ensures pool { IfOk result (λ g. Keeps pool.old pool.new ram.old ram.new [] (roots.frames g.shadows ram.new)) }
+    ensures refused { OnErr result ((ram.new ≡ ram.old) × (pool.new ≡ pool.old)) }
 {
     patching();
     let _text = image.text();
     let _free = pool.free();
+    let shadows = Roots::new(alloc, ram, pool, cpu.cr3)?;
     patch(ram, TEXT_AT, image.sites());
-    let shadows = Shadow::new(ram, pool);
-    Running {
+    Ok(Running {
         cpu,
         board,
         step,
@@ -285,6 +310,7 @@ fn adopt_in(
         lost: Lost {
             before: false,
             after: false,
+            back: false,
         },
-    }
+    })
 }

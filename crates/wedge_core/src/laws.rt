@@ -3,6 +3,8 @@
 
 ghost use Rattle.image_check.specs.Accepts.{IsAccepted};
 ghost use Rattle.image_check.specs.Image.{Image};
+ghost use Rattle.machine_model.specs.Following.{FetchedFollows, RangesFollow, StepsFollow};
+ghost use Rattle.machine_model.specs.Reloading.{FollowsOn};
 ghost use Rattle.native_steps.specs.Again.{Again};
 ghost use Rattle.native_steps.specs.Backward.{NativeCompletes};
 ghost use Rattle.native_steps.specs.Granted.{Grants};
@@ -11,7 +13,9 @@ ghost use Rattle.wedge_core.specs.AloneLaws.{AlonesGo};
 ghost use Rattle.wedge_core.specs.ViewLaws.{ViewsLend, ViewsSee};
 
 use image_laws::{fetching, goes_on, outside_sites, places};
-use machine_model::{others_count_nothing, steps_are_done};
+use machine_model::{
+    following_goes_on, others_count_nothing, steps_are_done, steps_follow, works_follow,
+};
 use native_steps::{grants, native_completes, steps_again};
 
 /// A view lends no more of a set of translations than the shadows keep of it, and shows the processor's segments.
@@ -37,7 +41,14 @@ pub fn native_laws()
     ensures lends { ViewsLend }
     ensures sees { ViewsSee }
     ensures text { (image : Image) → IsAccepted image → TextLaws image }
+    ensures steps { StepsFollow }
+    ensures on { FollowsOn }
+    ensures fetched { FetchedFollows }
+    ensures ranges { RangesFollow }
 {
+    following_goes_on();
+    works_follow();
+    steps_follow();
     grants();
     steps_again();
     native_completes();

@@ -10,7 +10,8 @@ ghost use Rattle.machine_model.specs.State.{wedge};
 ghost use Rattle.machine_model.specs.Alone.{is_native};
 ghost use Rattle.wedge_core.specs.Attempts.{AttemptAs, WhereAsked, WhereWent};
 ghost use Rattle.wedge_core.specs.Clashing.{IsClear};
-ghost use Rattle.wedge_core.specs.Filled.{FillsOn};
+ghost use Rattle.wedge_core.specs.Filled.{FillsOn, pages_kept};
+ghost use Rattle.wedge_core.specs.Ready.{IsReady};
 ghost use Rattle.wedge_core.specs.Parts.{left_of};
 ghost use Rattle.wedge_core.specs.Pools.{Keeps};
 ghost use Rattle.wedge_core.specs.Standing.{IsHeld, IsAble, ground, set_of, state_of};
@@ -41,6 +42,7 @@ use ia32_exec::Outcome;
 use ia32_types::{Insn, Op, Stop, sensitive};
 use image_check::Checked;
 use machine_step::{Rules, Seen, Worked, begin, carry_out, fetch_at, refuse};
+use shadow_cache::Reloads;
 use shadow_tables::Shadows;
 use step_exec::{reach_both, user_outcome};
 use step_mem::{Guard, Kept, State};
@@ -76,60 +78,69 @@ fn is_native(insn: &Insn, cpu: &Cpu) -> bool
 }
 
 /// Begins the step of a processor that takes no interrupt, is not halted, and is at level 3 or at a start outside sites.
-pub fn begin_native<S: Shadows + Drop>(
+pub fn begin_native<S: Reloads + Drop>(
     running: &mut Running<S>,
     pool: &mut Pool,
     ram: &mut Ram,
     image: &Checked,
+    wanted: bool,
 ) -> Result<Attempt, Stop>
     requires held { IsHeld S.stands S.frames S.slots (ground image.now running.old.frames) running.old pool.old ram.old }
+    requires ready { IsReady S.slots S.noted S.marked S.value S.asides (ground image.now running.old.frames) running.old.cpu running.old.shadows ram.old }
     requires able { IsAble running.old.cpu }
     requires runs { may_run running.old.cpu running.old.board image.now ≡ true }
     requires bound { running.old.step < 2 ^ 40 }
     requires enough { 16 ≤ length (free_list pool.old ram.old) + running.old.held }
-    requires kept { running.old.lost.before ≡ false }
+    requires kept { (running.old.lost.before ≡ false) × (running.old.lost.back ≡ false) }
     ensures step { (script : Events) → AttemptAs (wedge image.now script running.old.frames) (view_by (S.directory running.new.shadows) running.old.cpu)
-        (state_of S.stands S.frames S.slots (wedge image.now script running.old.frames) running.old ram.old) running.new.lost.before running.new.lost.after result
+        (state_of S.stands S.frames S.slots (wedge image.now script running.old.frames) running.old ram.old) running.new.lost.before running.new.lost result
         (state_of S.stands S.frames S.slots (wedge image.now script running.old.frames) running.new ram.new) ram.new }
     ensures held { OnOk result (IsHeld S.stands S.frames S.slots (ground image.now running.old.frames) (record running.new { step = running.old.step + 1 }) pool.new ram.new) }
+    ensures ready { OnOk result (IsReady S.slots S.noted S.marked S.value S.asides (ground image.now running.old.frames) running.new.cpu running.new.shadows ram.new) }
+    ensures wanted { OnOk result (wanted ≡ true → running.new.lost.back ≡ false) }
     ensures count { WhereWent result (running.new.step ≡ running.old.step + 1) }
     ensures stays { OnErr result (running.new.step ≡ running.old.step) }
     ensures unfilled { OnErr result (running.new.fills ≡ running.old.fills) }
     ensures asked { WhereAsked result (running.new ≡ record running.old { shadows = running.new.shadows; held = running.new.held; fills = running.new.fills; lost = running.new.lost }) }
     ensures counted { running.new.held ≡ length (S.frames running.new.shadows ram.new) }
-    ensures filled { FillsOn (set_of S.stands S.frames S.slots running.old ram.old) (set_of S.stands S.frames S.slots running.new ram.new) running.old.fills running.new.fills }
+    ensures filled { FillsOn (pages_kept S.slots S.asides running.old.shadows ram.old) (pages_kept S.slots S.asides running.new.shadows ram.new) running.old.fills running.new.fills }
     ensures stands { ∥ S.stands running.new.shadows ram.new ∥₁ }
     ensures pool { Keeps pool.old pool.new ram.old ram.new (S.frames running.old.shadows ram.old) (S.frames running.new.shadows ram.new) }
     ensures frames { running.new.frames ≡ running.old.frames }
 {
     make_room(running, pool, ram, image);
-    try_once(running, pool, ram, image)
+    try_once(running, pool, ram, image, wanted)
 }
 
 /// The same where frames are free for the pages of an instruction, and the next one doesn't clash with what is kept.
-fn try_once<S: Shadows + Drop>(
+fn try_once<S: Reloads + Drop>(
     running: &mut Running<S>,
     pool: &mut Pool,
     ram: &mut Ram,
     image: &Checked,
+    wanted: bool,
 ) -> Result<Attempt, Stop>
     requires held { IsHeld S.stands S.frames S.slots (ground image.now running.old.frames) running.old pool.old ram.old }
+    requires ready { IsReady S.slots S.noted S.marked S.value S.asides (ground image.now running.old.frames) running.old.cpu running.old.shadows ram.old }
     requires able { IsAble running.old.cpu }
     requires runs { may_run running.old.cpu running.old.board image.now ≡ true }
     requires bound { running.old.step < 2 ^ 40 }
     requires room { 8 ≤ length (free_list pool.old ram.old) }
     requires clear { (script : Events) → IsClear (wedge image.now script running.old.frames) (state_of S.stands S.frames S.slots (wedge image.now script running.old.frames) running.old ram.old) }
+    requires kept { running.old.lost.back ≡ false }
     ensures step { (script : Events) → AttemptAs (wedge image.now script running.old.frames) (view_by (S.directory running.new.shadows) running.old.cpu)
-        (state_of S.stands S.frames S.slots (wedge image.now script running.old.frames) running.old ram.old) false running.new.lost.after result
+        (state_of S.stands S.frames S.slots (wedge image.now script running.old.frames) running.old ram.old) false running.new.lost result
         (state_of S.stands S.frames S.slots (wedge image.now script running.old.frames) running.new ram.new) ram.new }
     ensures held { OnOk result (IsHeld S.stands S.frames S.slots (ground image.now running.old.frames) (record running.new { step = running.old.step + 1 }) pool.new ram.new) }
+    ensures ready { OnOk result (IsReady S.slots S.noted S.marked S.value S.asides (ground image.now running.old.frames) running.new.cpu running.new.shadows ram.new) }
+    ensures wanted { OnOk result (wanted ≡ true → running.new.lost.back ≡ false) }
     ensures count { WhereWent result (running.new.step ≡ running.old.step + 1) }
     ensures stays { OnErr result (running.new.step ≡ running.old.step) }
     ensures unfilled { OnErr result (running.new.fills ≡ running.old.fills) }
     ensures before { running.new.lost.before ≡ running.old.lost.before }
     ensures asked { WhereAsked result (running.new ≡ record running.old { shadows = running.new.shadows; held = running.new.held; fills = running.new.fills; lost = running.new.lost }) }
     ensures counted { running.new.held ≡ length (S.frames running.new.shadows ram.new) }
-    ensures filled { FillsOn (set_of S.stands S.frames S.slots running.old ram.old) (set_of S.stands S.frames S.slots running.new ram.new) running.old.fills running.new.fills }
+    ensures filled { FillsOn (pages_kept S.slots S.asides running.old.shadows ram.old) (pages_kept S.slots S.asides running.new.shadows ram.new) running.old.fills running.new.fills }
     ensures stands { ∥ S.stands running.new.shadows ram.new ∥₁ }
     ensures pool { Keeps pool.old pool.new ram.old ram.new (S.frames running.old.shadows ram.old) (S.frames running.new.shadows ram.new) }
     ensures frames { running.new.frames ≡ running.old.frames }
@@ -152,7 +163,8 @@ fn try_once<S: Shadows + Drop>(
     let mut state = begin(&cpu, ram, &kept, running.frames, guard);
     match try_native(&rules, &cpu, &mut running.board, ram, &kept, &mut state)? {
         Some(worked) => {
-            go(running, pool, ram, &state, &worked, text_frames(image));
+            let count = text_frames(image);
+            go(running, pool, ram, &state, &worked, count, wanted);
             Ok(Attempt::Went(worked.seen))
         }
         None => {
@@ -185,6 +197,9 @@ fn make_room<S: Shadows + Drop>(
     ensures room { 8 ≤ length (free_list pool.new ram.new) }
     ensures clear { (script : Events) → IsClear (wedge image.now script running.old.frames) (state_of S.stands S.frames S.slots (wedge image.now script running.old.frames) running.new ram.new) }
     ensures same { running.new ≡ record running.old { shadows = running.new.shadows; held = running.new.held; lost = running.new.lost } }
+    ensures ready { (m : Setting) → m.frames ≡ running.old.frames → IsReady S.slots S.noted S.marked S.value S.asides m running.old.cpu running.old.shadows ram.old → IsReady S.slots S.noted S.marked S.value S.asides m running.new.cpu running.new.shadows ram.new }
+    ensures back { running.new.lost.back ≡ running.old.lost.back }
+    ensures fewer { pages_kept S.slots S.asides running.new.shadows ram.new ≤ pages_kept S.slots S.asides running.old.shadows ram.old }
     ensures guest { take (4096 * running.old.frames) ram.new ≡ take (4096 * running.old.frames) ram.old }
     ensures moves { Moves pool.old pool.new ram.old ram.new (S.frames running.old.shadows ram.old) (S.frames running.new.shadows ram.new) }
 {
@@ -202,6 +217,9 @@ fn drop_kept<S: Shadows + Drop>(running: &mut Running<S>, pool: &mut Pool, ram: 
     ensures room { length (free_list pool.new ram.new) + 2 ≡ length (free_list pool.old ram.old) + running.old.held }
     ensures lost { running.new.lost.before ≡ true }
     ensures same { running.new ≡ record running.old { shadows = running.new.shadows; held = running.new.held; lost = running.new.lost } }
+    ensures ready { (m : Setting) → m.frames ≡ running.old.frames → IsReady S.slots S.noted S.marked S.value S.asides m running.old.cpu running.old.shadows ram.old → IsReady S.slots S.noted S.marked S.value S.asides m running.new.cpu running.new.shadows ram.new }
+    ensures back { running.new.lost.back ≡ running.old.lost.back }
+    ensures fewer { pages_kept S.slots S.asides running.new.shadows ram.new ≤ pages_kept S.slots S.asides running.old.shadows ram.old }
     ensures guest { take (4096 * running.old.frames) ram.new ≡ take (4096 * running.old.frames) ram.old }
     ensures moves { Moves pool.old pool.new ram.old ram.new (S.frames running.old.shadows ram.old) (S.frames running.new.shadows ram.new) }
 {

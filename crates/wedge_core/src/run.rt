@@ -4,9 +4,11 @@ ghost use Rattle.std.specs.Prelude.{◌≡◌, ◌+◌, ◌≤◌, ◌^◌, leng
 ghost use Rattle.board.specs.Scripts.{is_script};
 ghost use Rattle.frame_pool.specs.Pool.{free_list};
 ghost use Rattle.image_load.specs.Boot.{need};
-ghost use Rattle.shadow_tables.specs.Slots.{IsShadow, held as held_by, slot_at};
+ghost use Rattle.shadow_cache.specs.Views as roots;
 ghost use Rattle.machine_model.specs.State.{boot, wedge};
+ghost use Rattle.wedge_core.specs.Filled.{pages_kept};
 ghost use Rattle.wedge_core.specs.Promises.{WedgeAnswers, end_of};
+ghost use Rattle.wedge_core.specs.Ready.{IsReady};
 ghost use Rattle.wedge_core.specs.Standing.{IsHeld, IsAble, ground, state_of};
 
 use crate::guest::Guest;
@@ -60,12 +62,14 @@ fn whole<H: Host, O: Sink>(
     out: &mut O,
 ) -> Result<Ended, RunFault>
     requires started { H.is_started host.old ≡ true }
-    requires held { IsHeld IsShadow held_by slot_at (ground image.now guest.old.running.frames) guest.old.running pool.old (H.bytes host.old) }
+    requires held { IsHeld roots.stands roots.frames roots.slots (ground image.now guest.old.running.frames) guest.old.running pool.old (H.bytes host.old) }
+    requires ready { IsReady roots.slots roots.noted roots.marked roots.value roots.asides (ground image.now guest.old.running.frames) guest.old.running.cpu guest.old.running.shadows (H.bytes host.old) }
     requires able { IsAble guest.old.running.cpu }
     requires fits { need image.now ≤ guest.old.running.frames }
     requires script { is_script script.now.list ≡ true }
-    requires first { state_of IsShadow held_by slot_at (wedge image.now script.now.list guest.old.running.frames) guest.old.running (H.bytes host.old) ≡ boot (wedge image.now script.now.list guest.old.running.frames) }
+    requires first { state_of roots.stands roots.frames roots.slots (wedge image.now script.now.list guest.old.running.frames) guest.old.running (H.bytes host.old) ≡ boot (wedge image.now script.now.list guest.old.running.frames) }
     requires unfilled { guest.old.running.fills ≡ 0 }
+    requires none { pages_kept roots.slots roots.asides guest.old.running.shadows (H.bytes host.old) ≡ 0 }
     requires bound { n ≤ 2 ^ 40 }
     requires room { H.retired host.old ≤ 2 ^ 63 }
     requires enough { 16 ≤ length (free_list pool.old (H.bytes host.old)) + guest.old.running.held }

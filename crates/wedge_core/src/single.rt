@@ -1,6 +1,6 @@
 //! One step that the host has no part in.
 
-ghost use Rattle.std.specs.Prelude.{◌≡◌, ℕ, List, false, ◌+◌, ◌*◌, ◌/◌, ◌%◌, ◌==◌, ◌≤◌, ◌<◌, ◌^◌, length, true, OnErr, OnOk};
+ghost use Rattle.std.specs.Prelude.{◌≡◌, ℕ, Bool, List, false, ◌+◌, ◌*◌, ◌/◌, ◌%◌, ◌==◌, ◌≤◌, ◌<◌, ◌^◌, length, true, OnErr, OnOk};
 ghost use Rattle.frame_pool.specs.Held.{Owns, Moves};
 ghost use Rattle.frame_pool.specs.Pool.{base_of, free_list};
 ghost use Rattle.board.specs.Boards.{board_step};
@@ -12,12 +12,15 @@ ghost use Rattle.shadow_tables.specs.Entries.{entries_of};
 ghost use Rattle.step_mem.specs.Changes.{changed};
 ghost use Rattle.step_mem.specs.Sound.{IsSound};
 ghost use Rattle.machine_step.specs.Worked.{dropping, IsDropped};
-ghost use Rattle.machine_model.specs.State.{wedge};
+ghost use Rattle.machine_model.specs.State.{Setting, wedge};
+ghost use Rattle.native_steps.specs.Stands.{shown};
+ghost use Rattle.descriptors.specs.declared.cpu.Cpu.{Cpu};
 ghost use Rattle.wedge_mem.specs.Settled.{pages_of};
 ghost use Rattle.wedge_core.specs.Closed.{MayClose, Closes};
-ghost use Rattle.wedge_core.specs.Filled.{FillsOn};
+ghost use Rattle.wedge_core.specs.Filled.{FillsOn, pages_kept};
 ghost use Rattle.wedge_core.specs.Parts.{left_of};
 ghost use Rattle.wedge_core.specs.Pools.{Keeps};
+ghost use Rattle.wedge_core.specs.Ready.{IsReady, IsReadyBut, IsReadyBehind, AreFound, AllOpen, leaving};
 ghost use Rattle.wedge_core.specs.Standing.{AreOpen, IsHeld, ground, set_of, side_of, state_of, wp_of};
 ghost use Rattle.wedge_core.specs.Stepping.{AloneAs};
 
@@ -28,10 +31,12 @@ use frame_pool::Pool;
 use guest_ram::Ram;
 use ia32_types::Stop;
 use image_check::Checked;
+use machine_model::steps_follow;
 use machine_step::{Rules, Seen, Worked, begin, step_in};
+use shadow_cache::Reloads;
 use shadow_tables::{Shadows, Side};
 use step_mem::{Guard, Own, State, Text};
-use wedge_mem::Lent;
+use wedge_mem::{Lent, pages_of};
 
 /// How many frames hold the text.
 pub fn text_frames(image: &Checked) -> u32
@@ -69,15 +74,20 @@ pub const NOT_YET: Own = Own {
 };
 
 /// One step by the rules, or the stop that it meets. The events of the step were given.
-pub fn step_alone<S: Shadows + Drop>(
+pub fn step_alone<S: Reloads + Drop>(
     running: &mut Running<S>,
     pool: &mut Pool,
     ram: &mut Ram,
     image: &Checked,
+    wanted: bool,
 ) -> Result<Seen, Stop>
     requires held { IsHeld S.stands S.frames S.slots (ground image.now running.old.frames) running.old pool.old ram.old }
+    requires ready { IsReady S.slots S.noted S.marked S.value S.asides (ground image.now running.old.frames) running.old.cpu running.old.shadows ram.old }
     requires bound { running.old.step < 2 ^ 40 }
-    ensures step { (script : Events) → AloneAs (wedge image.now script running.old.frames) (state_of S.stands S.frames S.slots (wedge image.now script running.old.frames) running.old ram.old) running.new.lost.after result (state_of S.stands S.frames S.slots (wedge image.now script running.old.frames) running.new ram.new) }
+    requires enough { 16 ≤ length (free_list pool.old ram.old) + running.old.held }
+    ensures ready { OnOk result (IsReady S.slots S.noted S.marked S.value S.asides (ground image.now running.old.frames) running.new.cpu running.new.shadows ram.new) }
+    ensures wanted { OnOk result (wanted ≡ true → running.new.lost.back ≡ false) }
+    ensures step { (script : Events) → AloneAs (wedge image.now script running.old.frames) (state_of S.stands S.frames S.slots (wedge image.now script running.old.frames) running.old ram.old) running.new.lost result (state_of S.stands S.frames S.slots (wedge image.now script running.old.frames) running.new ram.new) }
     ensures before { running.new.lost.before ≡ running.old.lost.before }
     ensures held { OnOk result (IsHeld S.stands S.frames S.slots (ground image.now running.old.frames) running.new pool.new ram.new) }
     ensures count { OnOk result (running.new.step ≡ running.old.step + 1) }
@@ -85,7 +95,7 @@ pub fn step_alone<S: Shadows + Drop>(
     ensures unfilled { OnErr result (running.new.fills ≡ running.old.fills) }
     ensures counted { running.new.held ≡ length (S.frames running.new.shadows ram.new) }
     ensures stands { ∥ S.stands running.new.shadows ram.new ∥₁ }
-    ensures filled { FillsOn (set_of S.stands S.frames S.slots running.old ram.old) (set_of S.stands S.frames S.slots running.new ram.new) running.old.fills running.new.fills }
+    ensures filled { FillsOn (pages_kept S.slots S.asides running.old.shadows ram.old) (pages_kept S.slots S.asides running.new.shadows ram.new) running.old.fills running.new.fills }
     ensures pool { Keeps pool.old pool.new ram.old ram.new (S.frames running.old.shadows ram.old) (S.frames running.new.shadows ram.new) }
     ensures frames { running.new.frames ≡ running.old.frames }
 {
@@ -110,7 +120,9 @@ pub fn step_alone<S: Shadows + Drop>(
     );
     match outcome {
         Ok(worked) => {
-            go(running, pool, ram, &state, &worked, text_frames(image));
+            steps_follow();
+            let count = text_frames(image);
+            go(running, pool, ram, &state, &worked, count, wanted);
             Ok(worked.seen)
         }
         Err(stop) => Err(stop),
@@ -138,9 +150,14 @@ pub fn keep<S: Shadows + Drop>(
     ensures whole { MayClose count (side_of (running.old.cpu.cpl == 3)) (changed (entries_of (S.slots running.old.shadows ram.old)) state.now.changes) (pages_of state.now.went state.now.changes) (length (free_list pool.old ram.old))
         → (running.new.lost.after ≡ false) × Closes (S.slots running.old.shadows ram.old) (S.slots running.new.shadows ram.new) (changed (entries_of (S.slots running.old.shadows ram.old)) state.now.changes) (pages_of state.now.went state.now.changes)
         (side_of (running.old.cpu.cpl == 3)) state.now.control.wp (S.tracked running.new.shadows) state.now.wrote }
+    ensures ready { (out : ℕ → Bool) (m : Setting) (cpu : Cpu) → m.frames ≡ state.now.control.frames
+        → IsReadyBehind S.slots S.noted S.marked S.value S.asides out m cpu running.old.shadows ram.old (changed (entries_of (S.slots running.old.shadows ram.old)) state.now.changes) state.now.tables state.now.wrote
+        → IsReadyBut S.slots S.noted S.marked S.value S.asides out m cpu running.new.shadows ram.new }
+    ensures opens { (image : Image) (wp : Bool) → AllOpen image wp (S.asides running.old.shadows ram.old) → AllOpen image wp (S.asides running.new.shadows ram.new) }
+    ensures back { running.new.lost.back ≡ running.old.lost.back }
     ensures counted { running.new.held ≡ length (S.frames running.new.shadows ram.new) }
     ensures fills { running.new.fills ≤ running.old.fills + 128 }
-    ensures filled { FillsOn (entries_of (S.slots running.old.shadows ram.old)) (entries_of (S.slots running.new.shadows ram.new)) running.old.fills running.new.fills }
+    ensures filled { FillsOn (pages_kept S.slots S.asides running.old.shadows ram.old) (pages_kept S.slots S.asides running.new.shadows ram.new) running.old.fills running.new.fills }
     ensures same { running.new ≡ record running.old { shadows = running.new.shadows; held = running.new.held; fills = running.new.fills; lost = running.new.lost } }
 {
     let all = pool.free() + running.held;
@@ -157,14 +174,15 @@ pub fn keep<S: Shadows + Drop>(
 }
 
 /// The end of a step that went: its translations are settled, the count rises, and the board advances. Whether all
-/// translations were dropped is noted.
-pub fn go<S: Shadows + Drop>(
+/// translations were dropped, or some came back, is noted.
+pub fn go<S: Reloads + Drop>(
     running: &mut Running<S>,
     pool: &mut Pool,
     ram: &mut Ram,
     state: &State,
     worked: &Worked,
     count: u32,
+    wanted: bool,
 )
     requires sound { IsSound (λ m. entries_of (S.slots running.old.shadows m)) (4096 * base_of pool.old) (λ m. (∥ S.stands running.old.shadows m ∥₁) × Owns pool.old m (S.frames running.old.shadows m)) ram.old state.now }
     requires counted { running.old.held ≡ length (S.frames running.old.shadows ram.old) }
@@ -172,15 +190,22 @@ pub fn go<S: Shadows + Drop>(
     requires fills { running.old.fills ≤ 128 * running.old.step }
     requires bound { running.old.step < 2 ^ 40 }
     requires page { IsDropped worked.now.dropped }
+    requires rules { state.now.control.wp ≡ wp_of running.old.cpu }
+    requires enough { 4 ≤ length (free_list pool.old ram.old) + length (S.frames running.old.shadows ram.old) }
     ensures stands { ∥ S.stands running.new.shadows ram.new ∥₁ }
     ensures owns { Owns pool.new ram.new (S.frames running.new.shadows ram.new) }
     ensures moves { Moves pool.old pool.new ram.old ram.new (S.frames running.old.shadows ram.old) (S.frames running.new.shadows ram.new) }
-    ensures left { entries_of (S.slots running.new.shadows ram.new) ≡ left_of running.new.lost.after (dropping worked.now.dropped (changed (entries_of (S.slots running.old.shadows ram.old)) state.now.changes)) }
+    ensures left { running.new.lost.back ≡ false → entries_of (S.slots running.new.shadows ram.new) ≡ left_of running.new.lost.after (dropping worked.now.dropped (changed (entries_of (S.slots running.old.shadows ram.old)) state.now.changes)) }
+    ensures wanted { wanted ≡ true → running.new.lost.back ≡ false }
+    ensures ready { (m : Setting) → m.frames ≡ state.now.control.frames → count ≡ text_pages m.image → AreOpen m.image state.now.control.wp (S.slots running.old.shadows ram.old)
+        → IsReadyBehind S.slots S.noted S.marked S.value S.asides (leaving worked.now.dropped (pages_of state.now.went state.now.changes)) m running.old.cpu running.old.shadows ram.old (changed (entries_of (S.slots running.old.shadows ram.old)) state.now.changes) state.now.tables state.now.wrote
+        → IsReady S.slots S.noted S.marked S.value S.asides m running.new.cpu running.new.shadows ram.new
+        × (running.new.lost.back ≡ true → AreFound m running.new.cpu (shown m ram.new) running.new.cpu.cr3 (S.noted running.new.shadows) (S.slots running.new.shadows ram.new)) }
     ensures before { running.new.lost.before ≡ running.old.lost.before }
-    ensures shows { (image : Image) → count ≡ text_pages image → AreOpen image state.now.control.wp (S.slots running.old.shadows ram.old) → AreOpen image (wp_of worked.now.cpu) (S.slots running.new.shadows ram.new) }
+    ensures shows { (image : Image) → count ≡ text_pages image → AreOpen image state.now.control.wp (S.slots running.old.shadows ram.old) → AllOpen image state.now.control.wp (S.asides running.old.shadows ram.old) → AreOpen image (wp_of worked.now.cpu) (S.slots running.new.shadows ram.new) }
     ensures counted { running.new.held ≡ length (S.frames running.new.shadows ram.new) }
     ensures fills { running.new.fills ≤ 128 * running.new.step }
-    ensures filled { FillsOn (entries_of (S.slots running.old.shadows ram.old)) (entries_of (S.slots running.new.shadows ram.new)) running.old.fills running.new.fills }
+    ensures filled { FillsOn (pages_kept S.slots S.asides running.old.shadows ram.old) (pages_kept S.slots S.asides running.new.shadows ram.new) running.old.fills running.new.fills }
     ensures cpu { running.new.cpu ≡ worked.now.cpu }
     ensures board { running.new.board ≡ board_step running.old.board }
     ensures step { running.new.step ≡ running.old.step + 1 }
@@ -188,8 +213,18 @@ pub fn go<S: Shadows + Drop>(
 {
     keep(running, pool, ram, state, count);
     let all = pool.free() + running.held;
-    let other = leave(&mut running.shadows, pool, ram, state.control.wp, worked);
-    running.lost.after |= other;
+    let pages = pages_of(state);
+    let left = leave(
+        &mut running.shadows,
+        pool,
+        ram,
+        &running.cpu,
+        worked,
+        pages.as_slice(),
+        wanted,
+    );
+    running.lost.after |= left.none;
+    running.lost.back = left.back;
     running.held = all - pool.free();
     running.cpu = worked.cpu;
     running.step += 1;

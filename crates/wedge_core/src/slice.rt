@@ -8,7 +8,8 @@ ghost use Rattle.board.specs.Boards.{given};
 ghost use Rattle.board.specs.Scripts.{Events, is_script};
 ghost use Rattle.machine_model.specs.State.{wedge};
 ghost use Rattle.machine_model.specs.Run.{Set};
-ghost use Rattle.wedge_core.specs.Filled.{FillsOn};
+ghost use Rattle.wedge_core.specs.Filled.{FillsOn, pages_kept};
+ghost use Rattle.wedge_core.specs.Ready.{IsReady};
 ghost use Rattle.wedge_core.specs.Noted.{NotesOn};
 ghost use Rattle.wedge_core.specs.Standing.{IsHeld, IsAble, ground, set_of, state_of};
 ghost use Rattle.std.specs.Prelude.{OnErr};
@@ -37,11 +38,11 @@ use machine_model::steps_keep_able;
 use machine_step::Seen;
 use pv_io::{Failed, Sink};
 use run_trace::{Item, Notes, StepItems, put_step};
-use shadow_tables::Shadows;
+use shadow_cache::Reloads;
 
 /// Steps up to a count of steps, or to a stop. The lines of a step go to the sink at its end. Before which steps all
-/// translations were dropped is told, where notes are wanted.
-pub fn steps_to<S: Shadows + Drop, H: Host, O: Sink, L: Notes>(
+/// translations were dropped is told, where notes are wanted; then no translations are kept for another value of CR3.
+pub fn steps_to<S: Reloads + Drop, H: Host, O: Sink, L: Notes>(
     running: &mut Running<S>,
     image: &Checked,
     script: &Script,
@@ -53,6 +54,7 @@ pub fn steps_to<S: Shadows + Drop, H: Host, O: Sink, L: Notes>(
 ) -> Result<Pause, Failed>
     requires started { H.is_started host.old ≡ true }
     requires held { IsHeld S.stands S.frames S.slots (ground image.now running.old.frames) running.old pool.old (H.bytes host.old) }
+    requires ready { IsReady S.slots S.noted S.marked S.value S.asides (ground image.now running.old.frames) running.old.cpu running.old.shadows (H.bytes host.old) }
     requires able { IsAble running.old.cpu }
     requires script { is_script script.now.list ≡ true }
     requires begun { running.old.step ≤ bound }
@@ -62,15 +64,16 @@ pub fn steps_to<S: Shadows + Drop, H: Host, O: Sink, L: Notes>(
     ensures slice { SliceAs (wedge image.now script.now.list running.old.frames) bound
         (state_of S.stands S.frames S.slots (wedge image.now script.now.list running.old.frames) running.old (H.bytes host.old)) (state_of S.stands S.frames S.slots (wedge image.now script.now.list running.old.frames) running.new (H.bytes host.new))
         (record { retired = H.retired host.old; passed = H.passed host.old }) (record { retired = H.retired host.new; passed = H.passed host.new })
-        (O.taken out.old) (O.taken out.new) running.old.fills running.new.fills (NotesOn (L.wants notes.old) (L.tells notes.old) (L.tells notes.new)) result }
+        (O.taken out.old) (O.taken out.new) (pages_kept S.slots S.asides running.old.shadows (H.bytes host.old)) running.old.fills running.new.fills (L.wants notes.old) (NotesOn (L.wants notes.old) (L.tells notes.old) (L.tells notes.new)) result }
     ensures wants { L.wants notes.new ≡ L.wants notes.old }
     ensures silent { L.wants notes.old ≡ false → notes.new ≡ notes.old }
     ensures reached { GoesOn result (running.new.step ≡ bound) }
+    ensures ready { GoesOn result (IsReady S.slots S.noted S.marked S.value S.asides (ground image.now running.old.frames) running.new.cpu running.new.shadows (H.bytes host.new)) }
     ensures held { GoesOn result (IsHeld S.stands S.frames S.slots (ground image.now running.old.frames) running.new pool.new (H.bytes host.new)) }
     ensures able { GoesOn result (IsAble running.new.cpu) }
     ensures counted { Pauses result (running.new.held ≡ length (S.frames running.new.shadows (H.bytes host.new))) }
     ensures stands { Pauses result (∥ S.stands running.new.shadows (H.bytes host.new) ∥₁) }
-    ensures filled { FillsOn (set_of S.stands S.frames S.slots running.old (H.bytes host.old)) (set_of S.stands S.frames S.slots running.new (H.bytes host.new)) running.old.fills running.new.fills }
+    ensures filled { FillsOn (pages_kept S.slots S.asides running.old.shadows (H.bytes host.old)) (pages_kept S.slots S.asides running.new.shadows (H.bytes host.new)) running.old.fills running.new.fills }
     ensures few { Pauses result (running.new.fills ≤ 128 * running.new.step) }
     ensures pool { Pauses result (Keeps pool.old pool.new (H.bytes host.old) (H.bytes host.new) (S.frames running.old.shadows (H.bytes host.old)) (S.frames running.new.shadows (H.bytes host.new))) }
     ensures started { H.is_started host.new ≡ true }
@@ -78,13 +81,14 @@ pub fn steps_to<S: Shadows + Drop, H: Host, O: Sink, L: Notes>(
     ensures later { O.faults out.old ≤ O.faults out.new }
     ensures cause { OnErr result (Rose (O.faults out.old) (O.faults out.new)) }
 {
+    let wanted = notes.wanted();
     while running.step < bound {
         running.board.begin(script, running.step);
         if stretch(running, host, image, script, bound) > 0 {
             continue;
         }
         let before = running.step;
-        match one_step(running, pool, host, image) {
+        match one_step(running, pool, host, image, wanted) {
             Err(stop) => {
                 tell(notes, running.lost.before, before);
                 return Ok(Pause::Stopped(stop));
@@ -103,14 +107,16 @@ pub fn steps_to<S: Shadows + Drop, H: Host, O: Sink, L: Notes>(
 }
 
 /// One step, whose events were given. Whether all translations were dropped before it or after it is noted.
-fn one_step<S: Shadows + Drop, H: Host>(
+fn one_step<S: Reloads + Drop, H: Host>(
     running: &mut Running<S>,
     pool: &mut Pool,
     host: &mut H,
     image: &Checked,
+    wanted: bool,
 ) -> Result<Seen, Stop>
     requires started { H.is_started host.old ≡ true }
     requires held { IsHeld S.stands S.frames S.slots (ground image.now running.old.frames) running.old pool.old (H.bytes host.old) }
+    requires ready { IsReady S.slots S.noted S.marked S.value S.asides (ground image.now running.old.frames) running.old.cpu running.old.shadows (H.bytes host.old) }
     requires able { IsAble running.old.cpu }
     requires bound { running.old.step < 2 ^ 40 }
     requires room { H.retired host.old + 1 < 2 ^ 64 }
@@ -118,11 +124,13 @@ fn one_step<S: Shadows + Drop, H: Host>(
     ensures step { (script : Events) → StepAs (wedge image.now script running.old.frames)
         (state_of S.stands S.frames S.slots (wedge image.now script running.old.frames) running.old (H.bytes host.old)) running.new.lost result (state_of S.stands S.frames S.slots (wedge image.now script running.old.frames) running.new (H.bytes host.new))
         (record { retired = H.retired host.old; passed = H.passed host.old }) (record { retired = H.retired host.new; passed = H.passed host.new }) }
+    ensures ready { OnOk result (IsReady S.slots S.noted S.marked S.value S.asides (ground image.now running.old.frames) running.new.cpu running.new.shadows (H.bytes host.new)) }
+    ensures wanted { OnOk result (wanted ≡ true → running.new.lost.back ≡ false) }
     ensures held { OnOk result (IsHeld S.stands S.frames S.slots (ground image.now running.old.frames) running.new pool.new (H.bytes host.new)) }
     ensures able { OnOk result (IsAble running.new.cpu) }
     ensures count { OnOk result (running.new.step ≡ running.old.step + 1) }
     ensures stands { ∥ S.stands running.new.shadows (H.bytes host.new) ∥₁ }
-    ensures filled { FillsOn (set_of S.stands S.frames S.slots running.old (H.bytes host.old)) (set_of S.stands S.frames S.slots running.new (H.bytes host.new)) running.old.fills running.new.fills }
+    ensures filled { FillsOn (pages_kept S.slots S.asides running.old.shadows (H.bytes host.old)) (pages_kept S.slots S.asides running.new.shadows (H.bytes host.new)) running.old.fills running.new.fills }
     ensures pool { Keeps pool.old pool.new (H.bytes host.old) (H.bytes host.new) (S.frames running.old.shadows (H.bytes host.old)) (S.frames running.new.shadows (H.bytes host.new)) }
     ensures few { H.retired host.new ≤ H.retired host.old + 1 }
     ensures stays { OnErr result (running.new.step ≡ running.old.step) }
@@ -138,11 +146,12 @@ fn one_step<S: Shadows + Drop, H: Host>(
     running.lost = Lost {
         before: false,
         after: false,
+        back: false,
     };
     if !may_run(&running.cpu, &running.board, image) {
-        return by_rules(running, pool, host, image);
+        return by_rules(running, pool, host, image, wanted);
     }
-    match begin_native(running, pool, host.ram_mut(), image)? {
+    match begin_native(running, pool, host.ram_mut(), image, wanted)? {
         Attempt::Went(seen) => Ok(seen),
         Attempt::Asked => {
             let _one = run_on(running, host, 1);
@@ -152,31 +161,36 @@ fn one_step<S: Shadows + Drop, H: Host>(
 }
 
 /// One step by the rules alone, over the host's memory. The host completes nothing.
-fn by_rules<S: Shadows + Drop, H: Host>(
+fn by_rules<S: Reloads + Drop, H: Host>(
     running: &mut Running<S>,
     pool: &mut Pool,
     host: &mut H,
     image: &Checked,
+    wanted: bool,
 ) -> Result<Seen, Stop>
     requires started { H.is_started host.old ≡ true }
     requires held { IsHeld S.stands S.frames S.slots (ground image.now running.old.frames) running.old pool.old (H.bytes host.old) }
+    requires ready { IsReady S.slots S.noted S.marked S.value S.asides (ground image.now running.old.frames) running.old.cpu running.old.shadows (H.bytes host.old) }
     requires bound { running.old.step < 2 ^ 40 }
-    ensures step { (script : Events) → AloneAs (wedge image.now script running.old.frames) (state_of S.stands S.frames S.slots (wedge image.now script running.old.frames) running.old (H.bytes host.old)) running.new.lost.after result (state_of S.stands S.frames S.slots (wedge image.now script running.old.frames) running.new (H.bytes host.new)) }
+    requires enough { 16 ≤ length (free_list pool.old (H.bytes host.old)) + running.old.held }
+    ensures step { (script : Events) → AloneAs (wedge image.now script running.old.frames) (state_of S.stands S.frames S.slots (wedge image.now script running.old.frames) running.old (H.bytes host.old)) running.new.lost result (state_of S.stands S.frames S.slots (wedge image.now script running.old.frames) running.new (H.bytes host.new)) }
     ensures before { running.new.lost.before ≡ running.old.lost.before }
+    ensures ready { OnOk result (IsReady S.slots S.noted S.marked S.value S.asides (ground image.now running.old.frames) running.new.cpu running.new.shadows (H.bytes host.new)) }
+    ensures wanted { OnOk result (wanted ≡ true → running.new.lost.back ≡ false) }
     ensures held { OnOk result (IsHeld S.stands S.frames S.slots (ground image.now running.old.frames) running.new pool.new (H.bytes host.new)) }
     ensures count { OnOk result (running.new.step ≡ running.old.step + 1) }
     ensures stays { OnErr result (running.new.step ≡ running.old.step) }
     ensures unfilled { OnErr result (running.new.fills ≡ running.old.fills) }
     ensures counted { running.new.held ≡ length (S.frames running.new.shadows (H.bytes host.new)) }
     ensures stands { ∥ S.stands running.new.shadows (H.bytes host.new) ∥₁ }
-    ensures filled { FillsOn (set_of S.stands S.frames S.slots running.old (H.bytes host.old)) (set_of S.stands S.frames S.slots running.new (H.bytes host.new)) running.old.fills running.new.fills }
+    ensures filled { FillsOn (pages_kept S.slots S.asides running.old.shadows (H.bytes host.old)) (pages_kept S.slots S.asides running.new.shadows (H.bytes host.new)) running.old.fills running.new.fills }
     ensures pool { Keeps pool.old pool.new (H.bytes host.old) (H.bytes host.new) (S.frames running.old.shadows (H.bytes host.old)) (S.frames running.new.shadows (H.bytes host.new)) }
     ensures retired { H.retired host.new ≡ H.retired host.old }
     ensures passed { H.passed host.new ≡ H.passed host.old }
     ensures started { H.is_started host.new ≡ true }
     ensures frames { running.new.frames ≡ running.old.frames }
 {
-    step_alone(running, pool, host.ram_mut(), image)
+    step_alone(running, pool, host.ram_mut(), image, wanted)
 }
 
 /// What a step lets be seen, as items.

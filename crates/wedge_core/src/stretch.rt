@@ -7,8 +7,9 @@ ghost use Rattle.board.specs.declared.devices.Board.{Board as Devices};
 ghost use Rattle.board.specs.Boards.{given, comes_within};
 ghost use Rattle.board.specs.Scripts.{Events, is_script};
 ghost use Rattle.machine_model.specs.State.{wedge};
-ghost use Rattle.wedge_core.specs.Filled.{FillsOn};
-ghost use Rattle.wedge_core.specs.Standing.{IsHeld, IsAble, ground, set_of, state_of};
+ghost use Rattle.wedge_core.specs.Filled.{FillsOn, pages_kept};
+ghost use Rattle.wedge_core.specs.Ready.{IsReady};
+ghost use Rattle.wedge_core.specs.Standing.{IsHeld, IsAble, ground, state_of};
 ghost use Rattle.wedge_core.specs.Views.{may_run, view_by};
 ghost use Rattle.wedge_core.specs.Pools.{Keeps};
 ghost use Rattle.wedge_core.specs.Stepping.{Passes};
@@ -123,7 +124,8 @@ pub fn stretch<S: Shadows + Drop, H: Host>(
     ensures stays { result ≡ 0 → state_of S.stands S.frames S.slots (wedge image.now script.now.list running.old.frames) running.new (H.bytes host.new) ≡ state_of S.stands S.frames S.slots (wedge image.now script.now.list running.old.frames) running.old (H.bytes host.old) }
     ensures held { (pool : Frames) → IsHeld S.stands S.frames S.slots (ground image.now running.old.frames) running.old pool (H.bytes host.old) → IsHeld S.stands S.frames S.slots (ground image.now running.old.frames) running.new pool (H.bytes host.new) }
     ensures pool { (pool : Frames) → IsHeld S.stands S.frames S.slots (ground image.now running.old.frames) running.old pool (H.bytes host.old) → Keeps pool pool (H.bytes host.old) (H.bytes host.new) (S.frames running.old.shadows (H.bytes host.old)) (S.frames running.new.shadows (H.bytes host.new)) }
-    ensures filled { FillsOn (set_of S.stands S.frames S.slots running.old (H.bytes host.old)) (set_of S.stands S.frames S.slots running.new (H.bytes host.new)) running.old.fills running.new.fills }
+    ensures filled { FillsOn (pages_kept S.slots S.asides running.old.shadows (H.bytes host.old)) (pages_kept S.slots S.asides running.new.shadows (H.bytes host.new)) running.old.fills running.new.fills }
+    ensures ready { IsReady S.slots S.noted S.marked S.value S.asides (ground image.now running.old.frames) running.old.cpu running.old.shadows (H.bytes host.old) → IsReady S.slots S.noted S.marked S.value S.asides (ground image.now running.old.frames) running.new.cpu running.new.shadows (H.bytes host.new) }
     ensures able { IsAble running.new.cpu }
     ensures started { H.is_started host.new ≡ true }
     ensures frames { running.new.frames ≡ running.old.frames }

@@ -1,5 +1,5 @@
-use Rattle.std.proofs.Common.{◌≡◌, ℕ, List, length, true, false, Option, sym, ◌∙◌, arith}
-use Rattle.frame_pool.specs.Pool.{free_list}
+use Rattle.std.proofs.Common.{◌≡◌, ℕ, ◌≤◌, List, length, true, false, Option, sym, subst, ◌∙◌, arith}
+use Rattle.frame_pool.specs.Pool.{base_of, free_list}
 use Rattle.machine_model.specs.Run.{Set}
 use Rattle.shadow_tables.specs.Slots.{Slot}
 use Rattle.step_mem.specs.Changes.{changed}
@@ -8,6 +8,10 @@ use Rattle.wedge_mem.specs.Owned.{first, owns}
 use Rattle.wedge_mem.specs.Settled.{pages_of}
 use Rattle.wedge_core.proofs.Closing.{settled_left, settled_shows, settled_whole, settled_few, settled_filled}
 use Rattle.wedge_core.proofs.Opening.{none_open}
+use Rattle.wedge_core.proofs.Memories.{front_same, shown_same}
+use Rattle.wedge_core.proofs.Readying.{none_ready, none_pages}
+use Rattle.wedge_core.proofs.Resettling.{Settled, closed_opens, closed_none, closed_filled, closed_ready}
+use Rattle.wedge_core.specs.Ready.{AllOpen}
 use Rattle.wedge_core.proofs.close.close.Given.{Over}
 use Rattle.wedge_core.proofs.close.close.Goals as goal
 
@@ -67,6 +71,46 @@ returns-clause-whole g c = λ may.
 pub returns-clause-few : goal.returns-clause-few
 returns-clause-few g c = settled_few (set g c) c.args.state.now.went c.args.state.now.changes (free g c) c.settle.result c.settle.ensures.count (omega (arith, c.requires.sound.noted, c.requires.sound.counted, c.requires.sound.few))
 
+-- what the end of the step makes of what is kept
+module _ (g : Over) (c : goal.After-settle g) where
+  settled : Settled g.S.Shadows.slots g.S.Shadows.noted g.S.Shadows.marked g.S.Shadows.value g.S.Shadows.asides c.args.shadows.now c.settle.new.shadows c.args.ram.now c.settle.new.ram (set g c) c.args.state.now.tables c.args.state.now.wrote c.settle.result
+  settled = record {
+    entries = c.settle.ensures.entries;
+    at = λ page lt. g.met.S.Shadows.entry_at c.settle.new.shadows c.settle.new.ram page lt;
+    noted_is = c.settle.ensures.noted;
+    marked_is = c.settle.ensures.marked;
+    value_is = c.settle.ensures.value;
+    asides_are = c.settle.ensures.asides;
+  }
+
+pub returns-clause-opens : goal.returns-clause-opens
+returns-clause-opens g c = λ image wp h.
+    closed_opens image wp c.settle.result c.args.state.now.tables c.args.state.now.wrote (g.S.Shadows.asides c.args.shadows.now c.args.ram.now) (g.S.Shadows.asides c.settle.new.shadows c.settle.new.ram) c.settle.ensures.asides h
+
+pub returns-clause-fewer : goal.returns-clause-fewer
+returns-clause-fewer g c = λ e.
+    closed_none g.S.Shadows.slots g.S.Shadows.noted g.S.Shadows.marked g.S.Shadows.value g.S.Shadows.asides c.args.shadows.now c.settle.new.shadows c.args.ram.now c.settle.new.ram (set g c) c.args.state.now.tables c.args.state.now.wrote c.settle.result (settled g c) e
+
 pub returns-clause-filled : goal.returns-clause-filled
 returns-clause-filled g c =
-    settled_filled (entries_of (old g c)) (entries_of (new g c)) c.args.state.now.went c.args.state.now.changes (free g c) c.settle.result c.settle.ensures.count c.settle.ensures.entries
+    closed_filled c.settle.result c.args.state.now.tables c.args.state.now.wrote (entries_of (old g c)) (entries_of (new g c)) (g.S.Shadows.asides c.args.shadows.now c.args.ram.now) (g.S.Shadows.asides c.settle.new.shadows c.settle.new.ram) c.settle.ensures.asides
+    (settled_filled (entries_of (old g c)) (entries_of (new g c)) c.args.state.now.went c.args.state.now.changes (free g c) c.settle.result c.settle.ensures.count c.settle.ensures.entries)
+
+pub returns-clause-ready : goal.returns-clause-ready
+returns-clause-ready g c = λ out m cpu frames h.
+    let below = c.requires.sound.below in
+    let low : m.frames ≤ base_of c.args.pool.now = omega (arith, below, frames) in
+    let front = front_same m.frames c.args.pool.now c.settle.new.pool c.args.ram.now c.settle.new.ram _ _ low (owns c.requires.sound.stands_now) c.settle.ensures.moves in
+    closed_ready g.S.Shadows.slots g.S.Shadows.noted g.S.Shadows.marked g.S.Shadows.value g.S.Shadows.asides out m cpu c.args.shadows.now c.settle.new.shadows c.args.ram.now c.settle.new.ram (set g c) c.args.state.now.tables c.args.state.now.wrote c.settle.result (settled g c)
+    (shown_same m c.args.ram.now c.settle.new.ram front) h
+
+pub returns-then-not-are_open-clause-opens : goal.returns-then-not-are_open-clause-opens
+returns-then-not-are_open-clause-opens g c = λ image wp h. subst (AllOpen image wp) (sym c.drop_all.ensures.asides) tt
+
+pub returns-then-not-are_open-clause-fewer : goal.returns-then-not-are_open-clause-fewer
+returns-then-not-are_open-clause-fewer g c = λ e.
+    none_pages g.S.Shadows.slots g.S.Shadows.noted g.S.Shadows.marked g.S.Shadows.value g.S.Shadows.asides c.drop_all.new.self c.drop_all.new.ram c.drop_all.ensures.entries c.drop_all.ensures.asides
+
+pub returns-then-not-are_open-clause-ready : goal.returns-then-not-are_open-clause-ready
+returns-then-not-are_open-clause-ready g c = λ out m cpu frames h.
+    none_ready g.S.Shadows.slots g.S.Shadows.noted g.S.Shadows.marked g.S.Shadows.value g.S.Shadows.asides out m cpu c.drop_all.new.self c.drop_all.new.ram (c.drop_all.ensures.value ∙ h.value_is) c.drop_all.ensures.none c.drop_all.ensures.asides

@@ -1,181 +1,179 @@
 use Rattle.std.proofs.Common.{◌≡◌, ℕ, ◌+◌, ◌*◌, ◌%◌, ◌≤◌, List, [], length, take, drop, refl, sym, ap, subst, ◌∙◌, arith}
-use Rattle.std.proofs.lemmas.Grind.{merely}
 use Rattle.std.specs.FinMap.{get, get-empty}
 use Rattle.std.specs.Ordering.{nat_cmp}
 use Rattle.guest_ram.specs.Bytes.{part, with_part}
-use Rattle.frame_pool.specs.Held.{times}
+use Rattle.frame_pool.specs.Held.{Owns, Moves, SameIn}
 use Rattle.frame_pool.specs.Pool.{base_of}
-use Rattle.frame_pool.proofs.Above.{Owns-above, free_list-above, frame-above}
-use Rattle.frame_pool.proofs.Calls.{IsOut-same}
+use Rattle.frame_pool.specs.declared.Pool.{Pool}
+use Rattle.frame_pool.proofs.Above.{Owns-above, SameIn-above, free_list-above}
 use Rattle.frame_pool.proofs.Held.{Owns-none}
+use Rattle.image_check.specs.Image.{Image}
 use Rattle.sites.specs.Patched.{patched, AreInside}
 use Rattle.sites.specs.declared.site.Site.{Site}
-use Rattle.shadow_tables.specs.Slots.{held as held_by}
+use Rattle.shadow_cache.specs.Views as roots
+use Rattle.shadow_cache.specs.declared.roots.Roots.{Roots}
 use Rattle.machine_model.specs.Run.{Set}
 use Rattle.machine_model.specs.State.{wedge}
 use Rattle.native_steps.specs.Stands.{shown}
 use Rattle.wedge_core.specs.Standing.{ground, wp_of}
+use Rattle.wedge_core.proofs.Adopted.{IsNew, started, new_behind, new_frames, new_empty, new_ready, new_pages}
+use Rattle.wedge_core.proofs.Booted.{part_front}
 use Rattle.wedge_core.proofs.Bools.{none_some}
-use Rattle.wedge_core.proofs.Memories.{front_same, shown_same, host_same, text_within}
+use Rattle.wedge_core.proofs.Keeping.{keeps_join, keeps_above, keeps_moves}
+use Rattle.wedge_core.proofs.Memories.{front_same, text_within}
 use Rattle.wedge_core.proofs.Opening.{none_open}
 use Rattle.wedge_core.proofs.Patches.{inside_moved, drop_behind, unpatched}
 use Rattle.wedge_core.proofs.guest.adopt_in.Goals as goal
 
+-- the shadows were made
+module _ (c : goal.After-sites) where
+  abbrev image : Image
+  image = c.args.image.now
+
+  abbrev n : ℕ
+  n = c.args.frames
+
+  abbrev ram0 : List ℕ
+  ram0 = c.args.ram.now
+
+  abbrev ram1 : List ℕ
+  ram1 = c.new.new.ram
+
+  abbrev pool0 : Pool
+  pool0 = c.args.pool.now
+
+  abbrev pool1 : Pool
+  pool1 = c.new.new.pool
+
+  abbrev s : Roots
+  s = c.in_ok-shadows.shadows
+
+  moves : Moves pool0 pool1 ram0 ram1 [] (roots.frames s ram1)
+  moves = c.in_ok-shadows.ensures.moves
+
+  lies : 0x100000 + length image.text ≤ length ram1
+  lies =
+      let text = text_within image in
+      let fits = c.requires.fits in
+      let room = c.requires.room in
+      let size = moves.size in
+      omega (arith, text, fits, room, size)
+
+  front : take (4096 * n) ram1 ≡ take (4096 * n) ram0
+  front = front_same n pool0 pool1 ram0 ram1 [] (roots.frames s ram1) c.requires.behind (Owns-none pool0 ram0 c.requires.stands) moves
+
+  text1 : part ram1 0x100000 (length image.text) ≡ image.text
+  text1 =
+      let text = text_within image in
+      let fits = c.requires.fits in
+      let k = length image.text in
+      let inside : 0x100000 + k ≤ 4096 * n = omega (arith, text, fits) in
+      sym (part_front ram1 (4096 * n) 0x100000 k inside) ∙ (ap (λ (l : List ℕ). part l 0x100000 k) front ∙ (part_front ram0 (4096 * n) 0x100000 k inside ∙ c.requires.text))
+
+  new1 : IsNew s ram1 c.args.cpu.cr3
+  new1 = started s ram1 c.args.cpu.cr3 c.in_ok-shadows.ensures.stands c.in_ok-shadows.ensures.starts
+
 pub patch-requires : goal.patch-requires
 patch-requires c =
-    let image = c.args.image.now in
-    let n = c.args.frames in
-    let ram0 = c.args.ram.now in
-    let pool0 = c.args.pool.now in
-    let text = text_within image in
-    let fits = c.requires.fits in
-    let room = c.requires.room in
-    let lies : 0x100000 + length image.text ≤ length ram0 = omega (arith, text, fits, room) in
-    subst (λ (l : List Site). AreInside (length ram0) 0x100000 l) (sym c.sites.ensures.sites) (inside_moved (length image.text) (length ram0) 0x100000 image.sites lies c.sites.ensures.inside)
+    subst (λ (l : List Site). AreInside (length (ram1 c)) 0x100000 l) (sym c.sites.ensures.sites) (inside_moved (length (image c).text) (length (ram1 c)) 0x100000 (image c).sites (lies c) c.sites.ensures.inside)
 
-pub new-shadows-requires-clause-stands : goal.new-shadows-requires-clause-stands
-new-shadows-requires-clause-stands c =
-    let image = c.args.image.now in
-    let n = c.args.frames in
-    let ram0 = c.args.ram.now in
-    let pool0 = c.args.pool.now in
-    let text = text_within image in
-    let fits = c.requires.fits in
-    let room = c.requires.room in
-    let lies : 0x100000 + length image.text ≤ length ram0 = omega (arith, text, fits, room) in
-    let ram1 = c.patch.new.ram in
-    let patches = patched image.text 0 image.sites in
-    let long = c.patching.ensures.length image c.text-text.ensures.accepted in
-    let is1 : ram1 ≡ with_part ram0 0x100000 patches = c.patch.ensures.memory ∙ (ap (patched ram0 0x100000) c.sites.ensures.sites ∙ c.patching.ensures.memory image c.text-text.ensures.accepted ram0 0x100000 lies c.requires.text) in
-    let above1 : drop (4096 * n) ram1 ≡ drop (4096 * n) ram0 = ap (drop (4096 * n)) is1 ∙ drop_behind ram0 0x100000 patches (4096 * n) (omega (arith, long, text, fits)) (omega (arith, long, lies)) in
-    let behind : 4096 * n ≤ 4096 * base_of pool0 = (let h = c.requires.behind in omega (arith, h)) in
-    let owned1 = Owns-above pool0 ram0 ram1 (4096 * n) behind above1 c.patch.ensures.len [] (Owns-none pool0 ram0 c.requires.stands) in
-    let free1 = free_list-above pool0 ram0 ram1 (4096 * n) behind above1 c.patch.ensures.len c.requires.stands in
-    owned1.stands
+-- and the text was patched
+module _ (c : goal.After-patch) where
+  abbrev d : goal.After-sites
+  d = c.before
 
-pub new-shadows-requires-clause-free : goal.new-shadows-requires-clause-free
-new-shadows-requires-clause-free c =
-    let image = c.args.image.now in
-    let n = c.args.frames in
-    let ram0 = c.args.ram.now in
-    let pool0 = c.args.pool.now in
-    let text = text_within image in
-    let fits = c.requires.fits in
-    let room = c.requires.room in
-    let lies : 0x100000 + length image.text ≤ length ram0 = omega (arith, text, fits, room) in
-    let ram1 = c.patch.new.ram in
-    let patches = patched image.text 0 image.sites in
-    let long = c.patching.ensures.length image c.text-text.ensures.accepted in
-    let is1 : ram1 ≡ with_part ram0 0x100000 patches = c.patch.ensures.memory ∙ (ap (patched ram0 0x100000) c.sites.ensures.sites ∙ c.patching.ensures.memory image c.text-text.ensures.accepted ram0 0x100000 lies c.requires.text) in
-    let above1 : drop (4096 * n) ram1 ≡ drop (4096 * n) ram0 = ap (drop (4096 * n)) is1 ∙ drop_behind ram0 0x100000 patches (4096 * n) (omega (arith, long, text, fits)) (omega (arith, long, lies)) in
-    let behind : 4096 * n ≤ 4096 * base_of pool0 = (let h = c.requires.behind in omega (arith, h)) in
-    let owned1 = Owns-above pool0 ram0 ram1 (4096 * n) behind above1 c.patch.ensures.len [] (Owns-none pool0 ram0 c.requires.stands) in
-    let free1 = free_list-above pool0 ram0 ram1 (4096 * n) behind above1 c.patch.ensures.len c.requires.stands in
-    let e = ap length free1 in
-    let two = c.requires.free in
-    omega (arith, e, two)
+  abbrev ram2 : List ℕ
+  ram2 = c.patch.new.ram
+
+  abbrev patches : List ℕ
+  patches = patched (image d).text 0 (image d).sites
+
+  long : length patches ≡ length (image d).text
+  long = c.patching.ensures.length (image d) c.text-text.ensures.accepted
+
+  patched_is : ram2 ≡ with_part (ram1 d) 0x100000 patches
+  patched_is = c.patch.ensures.memory ∙ (ap (patched (ram1 d) 0x100000) c.sites.ensures.sites ∙ c.patching.ensures.memory (image d) c.text-text.ensures.accepted (ram1 d) 0x100000 (lies d) (text1 d))
+
+  above : drop (4096 * n d) ram2 ≡ drop (4096 * n d) (ram1 d)
+  above =
+      let text = text_within (image d) in
+      let fits = c.requires.fits in
+      let l = lies d in
+      let k = long in
+      ap (drop (4096 * n d)) patched_is ∙ drop_behind (ram1 d) 0x100000 patches (4096 * n d) (omega (arith, k, text, fits)) (omega (arith, k, l))
+
+  behind : 4096 * n d ≤ 4096 * base_of (pool1 d)
+  behind = let h = c.requires.behind in let same = (moves d).same.0 in omega (arith, h, same)
+
+  inside : SameIn (roots.frames (s d) (ram1 d)) (ram1 d) ram2
+  inside = SameIn-above (pool1 d) (ram1 d) ram2 (4096 * n d) behind above c.patch.ensures.len (roots.frames (s d) (ram1 d)) c.in_ok-shadows.ensures.owns
+
+  new2 : IsNew (s d) ram2 c.args.cpu.cr3
+  new2 = new_behind (s d) (ram1 d) ram2 c.args.cpu.cr3 inside (new1 d)
+
+  frames2 : roots.frames (s d) ram2 ≡ roots.frames (s d) (ram1 d)
+  frames2 = new_frames (s d) (ram1 d) ram2 c.args.cpu.cr3 inside (new1 d)
 
 pub returns-clause-held : goal.returns-clause-held
 returns-clause-held c =
-    let image = c.args.image.now in
-    let n = c.args.frames in
-    let ram0 = c.args.ram.now in
-    let pool0 = c.args.pool.now in
-    let text = text_within image in
+    let d = c.before in
+    let im = c.args.image.now in
+    let text = text_within im in
     let fits = c.requires.fits in
     let room = c.requires.room in
-    let lies : 0x100000 + length image.text ≤ length ram0 = omega (arith, text, fits, room) in
-    let ram1 = c.patch.new.ram in
-    let patches = patched image.text 0 image.sites in
-    let long = c.patching.ensures.length image c.text-text.ensures.accepted in
-    let is1 : ram1 ≡ with_part ram0 0x100000 patches = c.patch.ensures.memory ∙ (ap (patched ram0 0x100000) c.sites.ensures.sites ∙ c.patching.ensures.memory image c.text-text.ensures.accepted ram0 0x100000 lies c.requires.text) in
-    let above1 : drop (4096 * n) ram1 ≡ drop (4096 * n) ram0 = ap (drop (4096 * n)) is1 ∙ drop_behind ram0 0x100000 patches (4096 * n) (omega (arith, long, text, fits)) (omega (arith, long, lies)) in
-    let behind : 4096 * n ≤ 4096 * base_of pool0 = (let h = c.requires.behind in omega (arith, h)) in
-    let owned1 = Owns-above pool0 ram0 ram1 (4096 * n) behind above1 c.patch.ensures.len [] (Owns-none pool0 ram0 c.requires.stands) in
-    let free1 = free_list-above pool0 ram0 ram1 (4096 * n) behind above1 c.patch.ensures.len c.requires.stands in
-    let ram2 = c.new-shadows.new.ram in
-    let moves = c.new-shadows.ensures.moves in
-    let front = front_same n pool0 c.new-shadows.new.pool ram1 ram2 [] (held_by c.new-shadows.result ram2) c.requires.behind owned1 moves in
-    let m = ground image n in
-    let e = ap length free1 in
-    let count = c.free-free.ensures.count ram0 in
+    let moved = moves d in
+    let free = ap length (free_list-above (pool1 d) (ram1 d) (ram2 c) (4096 * n d) (behind c) (above c) c.patch.ensures.len moved.stands) in
+    let same_frames = ap length (frames2 c) in
+    let count = c.free-free.ensures.count (ram0 d) in
     let fit = c.free-free.type_inv in
-    let lengths = moves.lengths in
-    let same = moves.same.0 in
+    let lengths = moved.lengths in
     let low = c.requires.behind in
-    let size = moves.size in
+    let same = moved.same.0 in
+    let size = moved.size in
     let len = c.patch.ensures.len in
     record {
       wedge = record { mode = refl; accepted = c.text-text.ensures.accepted; room = fits };
       frames_are = refl;
       size = c.requires.frames;
-      host = host_same m ram1 ram2 (omega (arith, text, fits)) moves.size front (record {
-        room = omega (arith, len, room);
-        text = ap (λ (l : List ℕ). part l 0x100000 (length image.text)) (c.patch.ensures.memory ∙ ap (patched ram0 0x100000) c.sites.ensures.sites) ∙ c.patching.ensures.text_in_memory image c.text-text.ensures.accepted ram0 0x100000 lies c.requires.text;
-      });
-      whole = ap (λ (k : ℕ). k % 4096) (moves.size ∙ c.patch.ensures.len) ∙ c.requires.whole;
+      host = record {
+        room = omega (arith, len, size, room);
+        text = ap (λ (l : List ℕ). part l 0x100000 (length im.text)) (c.patch.ensures.memory ∙ ap (patched (ram1 d) 0x100000) c.sites.ensures.sites) ∙ c.patching.ensures.text_in_memory im c.text-text.ensures.accepted (ram1 d) 0x100000 (lies d) (text1 d);
+      };
+      whole = ap (λ (k : ℕ). k % 4096) (c.patch.ensures.len ∙ size) ∙ c.requires.whole;
       behind = omega (arith, low, same);
-      stand = merely c.new-shadows.ensures.empty.shadow;
-      owns = c.new-shadows.ensures.owns;
-      counted = sym (ap length c.new-shadows.ensures.empty.frames);
-      few = omega (arith, e, count, fit, lengths);
+      stand = (new2 c).stand;
+      owns = subst (λ (fs : List ℕ). Owns (pool1 d) (ram2 c) fs) (sym (frames2 c)) (Owns-above (pool1 d) (ram1 d) (ram2 c) (4096 * n d) (behind c) (above c) c.patch.ensures.len (roots.frames (s d) (ram1 d)) c.in_ok-shadows.ensures.owns);
+      counted = sym (new2 c).two;
+      few = omega (arith, free, same_frames, count, fit, lengths);
       fills = omega arith;
-      within = λ page x is. absurd (none_some x (sym (get-empty nat_cmp page) ∙ (ap (λ (set : Set). get set page) (sym c.new-shadows.ensures.entries) ∙ is)));
-      open_to = none_open image (wp_of c.args.cpu) _ c.new-shadows.ensures.empty.none;
+      within = λ page x is. absurd (none_some x (sym (get-empty nat_cmp page) ∙ (ap (λ (set : Set). get set page) (sym (new_empty (s d) (ram2 c) c.args.cpu.cr3 (new2 c))) ∙ is)));
+      open_to = none_open im (wp_of c.args.cpu) _ (new2 c).none;
     }
+
+pub returns-clause-ready : goal.returns-clause-ready
+returns-clause-ready c = let d = c.before in new_ready (ground (image d) (n d)) c.args.cpu (s d) (ram2 c) (new2 c)
+
+pub returns-clause-none : goal.returns-clause-none
+returns-clause-none c = let d = c.before in new_pages (s d) (ram2 c) c.args.cpu.cr3 (new2 c)
 
 pub returns-clause-state : goal.returns-clause-state
 returns-clause-state c = λ script.
-    let image = c.args.image.now in
-    let n = c.args.frames in
-    let ram0 = c.args.ram.now in
-    let pool0 = c.args.pool.now in
-    let text = text_within image in
+    let d = c.before in
+    let im = c.args.image.now in
+    let text = text_within im in
     let fits = c.requires.fits in
     let room = c.requires.room in
-    let lies : 0x100000 + length image.text ≤ length ram0 = omega (arith, text, fits, room) in
-    let ram1 = c.patch.new.ram in
-    let patches = patched image.text 0 image.sites in
-    let long = c.patching.ensures.length image c.text-text.ensures.accepted in
-    let is1 : ram1 ≡ with_part ram0 0x100000 patches = c.patch.ensures.memory ∙ (ap (patched ram0 0x100000) c.sites.ensures.sites ∙ c.patching.ensures.memory image c.text-text.ensures.accepted ram0 0x100000 lies c.requires.text) in
-    let above1 : drop (4096 * n) ram1 ≡ drop (4096 * n) ram0 = ap (drop (4096 * n)) is1 ∙ drop_behind ram0 0x100000 patches (4096 * n) (omega (arith, long, text, fits)) (omega (arith, long, lies)) in
-    let behind : 4096 * n ≤ 4096 * base_of pool0 = (let h = c.requires.behind in omega (arith, h)) in
-    let owned1 = Owns-above pool0 ram0 ram1 (4096 * n) behind above1 c.patch.ensures.len [] (Owns-none pool0 ram0 c.requires.stands) in
-    let free1 = free_list-above pool0 ram0 ram1 (4096 * n) behind above1 c.patch.ensures.len c.requires.stands in
-    let ram2 = c.new-shadows.new.ram in
-    let moves = c.new-shadows.ensures.moves in
-    let front = front_same n pool0 c.new-shadows.new.pool ram1 ram2 [] (held_by c.new-shadows.result ram2) c.requires.behind owned1 moves in
-    let m = wedge image script n in
-    let ram_is : shown m ram2 ≡ take (4096 * n) ram0 =
-    shown_same m ram1 ram2 front ∙ (ap (shown m) is1 ∙ unpatched m ram0 patches long (omega (arith, text, fits)) room c.requires.text) in
-    λ i. record { cpu = c.args.cpu; ram = ram_is i; set = c.new-shadows.ensures.entries i; board = c.args.board; step = c.args.step }
+    let size = (moves d).size in
+    let m = wedge im script (n d) in
+    let ram_is : shown m (ram2 c) ≡ take (4096 * n d) (ram0 d) =
+    ap (shown m) (patched_is c) ∙ (unpatched m (ram1 d) (patches c) (long c) (omega (arith, text, fits)) (omega (arith, room, size)) (text1 d) ∙ front d) in
+    let set_is = new_empty (s d) (ram2 c) c.args.cpu.cr3 (new2 c) in
+    λ i. record { cpu = c.args.cpu; ram = ram_is i; set = set_is i; board = c.args.board; step = c.args.step }
 
 pub returns-clause-pool : goal.returns-clause-pool
 returns-clause-pool c =
-    let image = c.args.image.now in
-    let n = c.args.frames in
-    let ram0 = c.args.ram.now in
-    let pool0 = c.args.pool.now in
-    let text = text_within image in
-    let fits = c.requires.fits in
-    let room = c.requires.room in
-    let lies : 0x100000 + length image.text ≤ length ram0 = omega (arith, text, fits, room) in
-    let ram1 = c.patch.new.ram in
-    let patches = patched image.text 0 image.sites in
-    let long = c.patching.ensures.length image c.text-text.ensures.accepted in
-    let is1 : ram1 ≡ with_part ram0 0x100000 patches = c.patch.ensures.memory ∙ (ap (patched ram0 0x100000) c.sites.ensures.sites ∙ c.patching.ensures.memory image c.text-text.ensures.accepted ram0 0x100000 lies c.requires.text) in
-    let above1 : drop (4096 * n) ram1 ≡ drop (4096 * n) ram0 = ap (drop (4096 * n)) is1 ∙ drop_behind ram0 0x100000 patches (4096 * n) (omega (arith, long, text, fits)) (omega (arith, long, lies)) in
-    let behind : 4096 * n ≤ 4096 * base_of pool0 = (let h = c.requires.behind in omega (arith, h)) in
-    let owned1 = Owns-above pool0 ram0 ram1 (4096 * n) behind above1 c.patch.ensures.len [] (Owns-none pool0 ram0 c.requires.stands) in
-    let free1 = free_list-above pool0 ram0 ram1 (4096 * n) behind above1 c.patch.ensures.len c.requires.stands in
-    let ram2 = c.new-shadows.new.ram in
-    let moves = c.new-shadows.ensures.moves in
-    let front = front_same n pool0 c.new-shadows.new.pool ram1 ram2 [] (held_by c.new-shadows.result ram2) c.requires.behind owned1 moves in
-    record {
-      same = moves.same;
-      size = moves.size ∙ c.patch.ensures.len;
-      together = λ f. moves.together f ∙ ap (λ (l : List ℕ). times f l + times f []) free1;
-      lengths = moves.lengths ∙ ap (λ (l : List ℕ). length l + 0) free1;
-      others = λ g low none held. moves.others g (ap (times g) free1 ∙ none) held ∙ frame-above ram0 ram1 (4096 * n) g (let h = c.requires.behind in omega (arith, h, low)) above1;
-      out = λ g o held. moves.out g (IsOut-same pool0 ram0 ram1 g free1 o) held;
-    }
+    let d = c.before in
+    let fs1 = roots.frames (s d) (ram1 d) in
+    let fs2 = roots.frames (s d) (ram2 c) in
+    keeps_join (pool0 d) (pool1 d) (pool1 d) (ram0 d) (ram1 d) (ram2 c) [] fs1 fs2 (keeps_moves (pool0 d) (pool1 d) (ram0 d) (ram1 d) [] fs1 (moves d))
+    (keeps_above (pool1 d) (ram1 d) (ram2 c) (4096 * n d) fs1 fs2 (moves d).stands (behind c) (above c) c.patch.ensures.len (frames2 c))

@@ -9,48 +9,45 @@ use Rattle.wedge_core.specs.Standing.{IsAble}
 use Rattle.wedge_core.proofs.Booted.{front_stands, text_stands, begun_is, held_with}
 use Rattle.wedge_core.proofs.guest.start_in.Goals as goal
 
-pub adopt_in-running-requires-clause-text : goal.adopt_in-running-requires-clause-text
-adopt_in-running-requires-clause-text c =
+pub adopt_in-requires-clause-text : goal.adopt_in-requires-clause-text
+adopt_in-requires-clause-text c =
     text_stands c.args.image.now c.args.frames c.new-pool.new.ram c.in-Ok.ensures.ok.0
     (front_stands c.args.image.now c.args.frames c.args.count c.load.new.ram c.new-pool.new.ram c.new-pool.ensures.memory c.in-Ok.ensures.front)
 
-pub adopt_in-running-requires-clause-free : goal.adopt_in-running-requires-clause-free
-adopt_in-running-requires-clause-free c =
+pub adopt_in-requires-clause-free : goal.adopt_in-requires-clause-free
+adopt_in-requires-clause-free c =
     let e = ap length c.new-pool.ensures.list ∙ length-frames_from c.args.frames c.args.count in
     let some = c.requires.count.0 in
     omega (arith, e, some)
 
-pub returns-in-Ok : goal.returns-in-Ok
-returns-in-Ok c =
+pub returns-in-Ok-adopt_in-clause-started : goal.returns-in-Ok-adopt_in-clause-started
+returns-in-Ok-adopt_in-clause-started c =
     let image = c.args.image.now in
     let n = c.args.frames in
     let ok = c.in-Ok.ensures.ok in
     let front = front_stands image n c.args.count c.load.new.ram c.new-pool.new.ram c.new-pool.ensures.memory c.in-Ok.ensures.front in
-    let keeps = c.adopt_in-running.ensures.pool in
+    let keeps = c.in-Ok-adopt_in.ensures.pool in
     let zeros : length c.args.ram.now ≡ (n + c.args.count) * 4096 = ap length c.requires.zero ∙ length-replicate {A = ℕ} ((n + c.args.count) * 4096) 0 in
-    let size : length c.adopt_in-running.new.ram ≡ (n + c.args.count) * 4096 = keeps.size ∙ (c.new-pool.ensures.len ∙ (c.in-Ok.ensures.len ∙ zeros)) in
+    let size : length c.adopt_in.new.ram ≡ (n + c.args.count) * 4096 = keeps.size ∙ (c.new-pool.ensures.len ∙ (c.in-Ok.ensures.len ∙ zeros)) in
     let base = c.new-pool.ensures.frames.0 in
     let count = c.new-pool.ensures.frames.1 in
     let same_base = keeps.same.0 in
     let same_count = keeps.same.1 in
     let lengths = keeps.lengths in
     let free = ap length c.new-pool.ensures.list ∙ length-frames_from n c.args.count in
-    let held = c.adopt_in-running.ensures.held.counted in
+    let held = c.in-Ok-adopt_in.ensures.held.counted in
     let cpu : c.in-Ok.boot.cpu ≡ boot_cpu image n = ap (λ (b : Boot). b.cpu) ok.1 in
-    let here : c.adopt_in-running.result.cpu ≡ boot_cpu image n = ap (λ (b : State). b.cpu) (c.adopt_in-running.ensures.state []) ∙ cpu in
-    record {
-      started = (
-        ok.0,
-        omega (arith, size),
-        omega (arith, base, same_base),
-        omega (arith, count, same_count),
-        λ script. record {
-          held = held_with image script n c.adopt_in-running.result c.adopt_in-running.new.pool c.adopt_in-running.new.ram c.adopt_in-running.ensures.held;
-          state = c.adopt_in-running.ensures.state script ∙ begun_is c.in-Ok.boot.cpu (boot_cpu image n) (take (4096 * n) c.new-pool.new.ram) (boot_ram image n) c.new.result at_reset cpu front c.new.ensures;
-          able = subst IsAble (sym here) (c.each_run_begins_able.ensures (wedge image [] n));
-          fills = c.adopt_in-running.ensures.fills;
-          two = c.adopt_in-running.ensures.two;
-          all = omega (arith, lengths, free, held, count, same_count);
-        },
-      );
-    }
+    let here : c.in-Ok-adopt_in.running.cpu ≡ boot_cpu image n = ap (λ (b : State). b.cpu) (c.in-Ok-adopt_in.ensures.state []) ∙ cpu in (
+      ok.0,
+      omega (arith, size),
+      omega (arith, base, same_base),
+      omega (arith, count, same_count),
+      λ script. record {
+        held = held_with image script n c.in-Ok-adopt_in.running c.adopt_in.new.pool c.adopt_in.new.ram c.in-Ok-adopt_in.ensures.held;
+        state = c.in-Ok-adopt_in.ensures.state script ∙ begun_is c.in-Ok.boot.cpu (boot_cpu image n) (take (4096 * n) c.new-pool.new.ram) (boot_ram image n) c.new.result at_reset cpu front c.new.ensures;
+        able = subst IsAble (sym here) (c.each_run_begins_able.ensures (wedge image [] n));
+        fills = c.in-Ok-adopt_in.ensures.fills;
+        two = c.in-Ok-adopt_in.ensures.two;
+        all = omega (arith, lengths, free, held, count, same_count);
+      },
+    )

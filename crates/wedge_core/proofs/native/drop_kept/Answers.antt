@@ -1,10 +1,20 @@
-use Rattle.std.proofs.Common.{ℕ, ◌%◌, sym, ap, ◌∙◌, arith}
+use Rattle.std.proofs.Common.{ℕ, ◌%◌, false, sym, ap, ◌∙◌, arith}
 use Rattle.std.specs.FinMap.{empty}
 use Rattle.wedge_core.specs.Standing.{ground, wp_of}
 use Rattle.wedge_core.proofs.Memories.{text_within, front_same, host_same}
 use Rattle.wedge_core.proofs.Opening.{none_open}
 use Rattle.wedge_core.proofs.Parts.{part_within, part_empty}
+use Rattle.wedge_core.proofs.Readying.{none_ready, none_pages}
 use Rattle.wedge_core.proofs.native.drop_kept.Goals as goal
+
+pub returns-clause-ready : goal.returns-clause-ready
+returns-clause-ready g c = λ m frames h.
+    none_ready g.S.Shadows.slots g.S.Shadows.noted g.S.Shadows.marked g.S.Shadows.value g.S.Shadows.asides (λ page. false) m c.args.running.now.cpu c.drop_all.new.self c.drop_all.new.ram (c.drop_all.ensures.value ∙ h.value_is) c.drop_all.ensures.none c.drop_all.ensures.asides
+
+pub returns-clause-fewer : goal.returns-clause-fewer
+returns-clause-fewer g c =
+    let none = none_pages g.S.Shadows.slots g.S.Shadows.noted g.S.Shadows.marked g.S.Shadows.value g.S.Shadows.asides c.drop_all.new.self c.drop_all.new.ram c.drop_all.ensures.entries c.drop_all.ensures.asides in
+    omega (arith, none)
 
 pub returns-clause-guest : goal.returns-clause-guest
 returns-clause-guest g c =

@@ -1,4 +1,4 @@
-use Rattle.std.proofs.Common.{◌≡◌, ℕ, ◌+◌, ◌*◌, ◌/◌, ◌==◌, ◌≤◌, ◌<◌, ◌^◌, Bool, List, [], length, refl, sym, ap, subst, ◌∙◌, Some, arith}
+use Rattle.std.proofs.Common.{◌≡◌, ℕ, ◌+◌, ◌*◌, ◌/◌, ◌==◌, ◌≤◌, ◌<◌, ◌^◌, Bool, true, false, List, [], length, refl, sym, ap, subst, ◌∙◌, Some, arith}
 use Rattle.std.proofs.lemmas.Result.{err_from_is_err_and}
 use Rattle.std.specs.FinMap.{FinMap, get}
 use Rattle.std.specs.Ordering.{nat_cmp}
@@ -31,10 +31,19 @@ use Rattle.wedge_core.proofs.Asking.{may_close, others, asks}
 use Rattle.wedge_core.proofs.Memories.{shown_is, shown_same, front_same, host_same, host_left, text_within}
 use Rattle.wedge_core.proofs.Nexts.{next_from, others_users, starts, step_is, idle}
 use Rattle.wedge_core.proofs.Opening.{same_open}
-use Rattle.wedge_core.proofs.Parts.{part_same, part_left, part_within, part_join, dropped_part}
+use Rattle.wedge_core.proofs.Parts.{part_same, part_left, part_within}
 use Rattle.wedge_core.proofs.Seeing.{side_is}
 use Rattle.wedge_core.proofs.Telling.{told_same, told_within}
 use Rattle.wedge_core.proofs.AfterTry.{any_script, told_sound, closes_told, after, few_after, held_then, keeps_then, keeps_still}
+use Rattle.machine_step.specs.Worked.{dropping}
+use Rattle.wedge_core.specs.Parts.{with_set}
+use Rattle.wedge_core.specs.Ready.{AllOpen, AreFound, IsReady, IsReadyBehind}
+use Rattle.wedge_core.specs.Standing.{ground}
+use Rattle.wedge_core.proofs.Returning.{is_left, all_loosened, all_within, within_left}
+use Rattle.wedge_core.proofs.Shedding.{open_shed, same_shed, ready_open}
+use Rattle.wedge_core.proofs.Stays.{kept_same}
+use Rattle.wedge_core.proofs.StepReady.{Steps, went_ready, prepared_ready}
+use Rattle.wedge_core.proofs.native.try_once.Given.{Over}
 use Rattle.wedge_core.proofs.native.try_once.Goals as goal
 
 pub go-requires-clause-counted : goal.go-requires-clause-counted
@@ -247,81 +256,6 @@ returns-in_err-worked-clause-step g c = λ script.
     let r = err_from_is_err_and c.from_residual.result c.from_residual.ensures.1 in
     rw (r.1, r.2) (step_is m b sees.level next ∙ (ap (fetches_next m (unheld b)) (sym start) ∙ tries))
 
-pub returns-in-Some-clause-step : goal.returns-in-Some-clause-step
-returns-in-Some-clause-step g c = λ script.
-    let running = c.args.running.now in
-    let image = c.args.image.now in
-    let n = running.frames in
-    let ram0 = c.args.ram.now in
-    let pool0 = c.args.pool.now in
-    let ram1 = c.try_native.new.ram in
-    let state0 = c.begin-state.result in
-    let state1 = c.try_native.new.state in
-    let o = c.original in
-    let held = c.requires.held in
-    let frames1 : state1.control.frames ≡ n = ap (λ (k : Control). k.frames) c.try_native.ensures.control ∙ c.begin-state.ensures.frames in
-    let hid = subst (λ (x : Guard). laying.hidden x n ram1 ≡ laying.hidden x n ram0) c.begin-state.ensures.guard
-    (subst (λ (k : ℕ). laying.hidden c.begin-state.result.guard k ram1 ≡ laying.hidden c.begin-state.result.guard k ram0) c.begin-state.ensures.frames c.try_native.ensures.hidden) in
-    let fits1 : 4096 * n ≤ length ram1 = (let q = c.try_native.ensures.sound.frames_in in omega (arith, q, frames1)) in
-    let a = after g.S.Shadows.stands g.S.Shadows.frames g.S.Shadows.slots g.met.S.Shadows.above g.met.S.Shadows.same_frames g.met.S.Shadows.same_slots g.met.S.Shadows.same_entries image running pool0 ram0 ram1 o.result.first o.result.count held fits1
-    o.ensures.first o.ensures.count hid in
-    let m = wedge image script n in
-    let b = state_of g.S.Shadows.stands g.S.Shadows.frames g.S.Shadows.slots m running ram0 in
-    let mode : Mode = Wedge o.result.first o.result.count (record { front = 0; front_len = 0; back = 0; back_len = 0 }) in
-    let mode_is : wedge_mode image ≡ mode = λ i. Wedge (sym o.ensures.first i) (sym o.ensures.count i) (record { front = 0; front_len = 0; back = 0; back_len = 0 }) in
-    let laid = shown_is m o.result.bytes.now o.result.first ram0 o.ensures.bytes o.ensures.first in
-    let s0 = space_at (λ r. entries_of (g.S.Shadows.slots running.shadows r)) ram0 state0 in
-    let t = space_at (λ r. entries_of (g.S.Shadows.slots running.shadows r)) ram1 state1 in
-    let start = starts m b mode s0 mode_is (laying.laid o.result.bytes.now o.result.first n ram0) laid c.begin-state.ensures.space in
-    let w : IsWedge m = record { mode = held.wedge.mode; accepted = held.wedge.accepted; room = held.wedge.room } in
-    let any = any_script image script n ram0 in
-    let fit : AreBytes b.ram = subst AreBytes (sym any) c.are_bytes.ensures.bytes in
-    let long : length b.ram ≡ 4096 * n = ap length any ∙ c.are_bytes.ensures.length in
-    let room : 4096 * n ≤ length b.ram = omega (arith, long) in
-    let sound : again.AreWithin m b.set = λ page entry is. (held.within page entry is).1 in
-    let small = c.eip_fits.ensures in
-    let next = next_from m b c.requires.runs small in
-    let host0 : IsHost m ram0 = record { room = held.host.room; text = held.host.text } in
-    let sees = c.native_laws.ensures.sees (g.S.Shadows.directory running.shadows) running.cpu c.requires.able in
-    let tries = rw c.in-Some.is at (c.in_ok-worked.ensures.tries m (unheld b) (record { has = refl; over = refl })) in
-    let stepped_is = step_is m b sees.level next ∙ (ap (fetches_next m (unheld b)) (sym start) ∙ tries.0) in
-    let users = others_users m w ram0 host0 b refl room fit sound small (c.native_laws.ensures.text image held.wedge.accepted) next c.requires.able in
-    let none = tries.1 (subst (OthersAreUsers (unheld b)) (sym start) users) image.sites in
-    let text1 = c.try_native.ensures.text ∙ ap (λ (x : Guard). x.text) c.begin-state.ensures.guard in
-    let here : laying.laid o.result.bytes.now o.result.first n ram1 ≡ t.ram = λ i. laying.shown_by (sym text1 i).now (sym frames1 i) ram1 in
-    let front = front_same n pool0 c.go.new.pool ram1 c.go.new.ram (g.S.Shadows.frames running.shadows ram1) (g.S.Shadows.frames c.go.new.running.shadows c.go.new.ram) held.behind (owns c.try_native.ensures.sound.stands_now) c.go.ensures.moves in
-    let ram_is : shown m c.go.new.ram ≡ t.ram = shown_same m ram1 c.go.new.ram front ∙ (sym (shown_is m o.result.bytes.now o.result.first ram1 o.ensures.bytes o.ensures.first) ∙ here) in
-    idle m b c.go.new.running.lost.after c.in-Some.worked c.try_native.new.board t (state_of g.S.Shadows.stands g.S.Shadows.frames g.S.Shadows.slots m c.go.new.running c.go.new.ram) stepped_is c.go.ensures.cpu ram_is c.go.ensures.board c.go.ensures.step c.go.ensures.left none
-
-pub returns-in-Some-clause-held : goal.returns-in-Some-clause-held
-returns-in-Some-clause-held g c =
-    let running = c.args.running.now in
-    let image = c.args.image.now in
-    let n = running.frames in
-    let ram0 = c.args.ram.now in
-    let pool0 = c.args.pool.now in
-    let ram1 = c.try_native.new.ram in
-    let state0 = c.begin-state.result in
-    let state1 = c.try_native.new.state in
-    let o = c.original in
-    let held = c.requires.held in
-    let frames1 : state1.control.frames ≡ n = ap (λ (k : Control). k.frames) c.try_native.ensures.control ∙ c.begin-state.ensures.frames in
-    let hid = subst (λ (x : Guard). laying.hidden x n ram1 ≡ laying.hidden x n ram0) c.begin-state.ensures.guard
-    (subst (λ (k : ℕ). laying.hidden c.begin-state.result.guard k ram1 ≡ laying.hidden c.begin-state.result.guard k ram0) c.begin-state.ensures.frames c.try_native.ensures.hidden) in
-    let fits1 : 4096 * n ≤ length ram1 = (let q = c.try_native.ensures.sound.frames_in in omega (arith, q, frames1)) in
-    let a = after g.S.Shadows.stands g.S.Shadows.frames g.S.Shadows.slots g.met.S.Shadows.above g.met.S.Shadows.same_frames g.met.S.Shadows.same_slots g.met.S.Shadows.same_entries image running pool0 ram0 ram1 o.result.first o.result.count held fits1
-    o.ensures.first o.ensures.count hid in
-    let wp1 : state1.control.wp ≡ wp_of running.cpu = ap (λ (k : Control). k.wp) c.try_native.ensures.control ∙ ap (λ (x : Space). x.wp) c.begin-state.ensures.space in
-    let slots1 = same_open image (wp_of running.cpu) (g.S.Shadows.slots running.shadows ram0) (g.S.Shadows.slots running.shadows ram1) a.slots_same held.open_to in
-    let whole1 = changed (entries_of (g.S.Shadows.slots running.shadows ram1)) state1.changes in
-    let open1 = c.go.ensures.shows image c.text_frames.ensures (subst (λ (x : Bool). AreOpen image x (g.S.Shadows.slots running.shadows ram1)) (sym wp1) slots1) in
-    let fills = c.go.ensures.fills in
-    let count = c.go.ensures.step in
-    held_then g.S.Shadows.stands g.S.Shadows.frames g.S.Shadows.slots image running (record c.go.new.running { step = running.step + 1 }) pool0 c.go.new.pool ram0 ram1 c.go.new.ram held a (owns c.try_native.ensures.sound.stands_now) c.go.ensures.moves
-    c.go.ensures.stands c.go.ensures.owns c.go.ensures.counted (omega (arith, fills, count)) c.go.ensures.frames
-    (part_within n _ whole1 (part_join _ _ _ (part_left _ _ _ c.go.ensures.left) (dropped_part c.in-Some.worked.dropped whole1)) (subst (λ (k : ℕ). AreWithin k whole1) frames1 c.try_native.ensures.sound.within))
-    (subst (λ (x : Cpu). AreOpen image (wp_of x) (g.S.Shadows.slots c.go.new.running.shadows c.go.new.ram)) (sym c.go.ensures.cpu) open1)
-
 pub returns-in-Some-clause-pool : goal.returns-in-Some-clause-pool
 returns-in-Some-clause-pool g c =
     let running = c.args.running.now in
@@ -399,7 +333,7 @@ returns-in-None-clause-held g c =
     let whole2 = changed (entries_of (g.S.Shadows.slots running.shadows ram1)) state2.changes in
     let told_state = c.keep_told.ensures in
     let wp2 : state2.control.wp ≡ wp_of running.cpu = ap (λ (x : kept_state.State). x.control.wp) told_state ∙ wp1 in
-    let open3 = subst (λ (x : Bool). AreOpen image x (g.S.Shadows.slots new.shadows ram3)) wp2 (c.keep.ensures.shows image c.text_frames-in-None.ensures (subst (λ (x : Bool). AreOpen image x (g.S.Shadows.slots running.shadows ram1)) (sym wp2) slots1)) in
+    let open3 = subst (λ (x : Bool). AreOpen image x (g.S.Shadows.slots new.shadows ram3)) wp2 (c.keep.ensures.shows image c.text_frames.ensures (subst (λ (x : Bool). AreOpen image x (g.S.Shadows.slots running.shadows ram1)) (sym wp2) slots1)) in
     let kept1 = entries_of (g.S.Shadows.slots running.shadows ram1) in
     let within1 : AreWithin n (changed kept1 state1.changes) = subst (λ (k : ℕ). AreWithin k (changed kept1 state1.changes)) frames1 c.try_native.ensures.sound.within in
     let base1 : AreWithin n kept1 = subst (λ (set : FinMap nat_cmp Entry). AreWithin n set) (sym a.entries_same) held.within in
@@ -463,8 +397,8 @@ returns-in-None-clause-step g c = λ script.
     let within1 : AreWithin n (changed kept1 state1.changes) = subst (λ (k : ℕ). AreWithin k (changed kept1 state1.changes)) frames1 c.try_native.ensures.sound.within in
     let free1 = length (free_list pool0 ram1) in
     let enough : 8 ≤ free1 = (let e = ap length a.free_same in let r = c.requires.room in omega (arith, e, r)) in
-    let may = may_close c.native_laws.ensures.grants c.native_laws.ensures.again c.native_laws.ensures.completes m w directory b room fit sound (c.native_laws.ensures.sees directory running.cpu c.requires.able) next small t p clear n c.text_frames-in-None.result free1 state1.changes c.text_frames-in-None.ensures within1 enough in
-    let kept_all = closes_told new.lost.after (g.S.Shadows.slots running.shadows ram1) slots3 kept1 t.set c.text_frames-in-None.result side free1 (wp_of running.cpu) (g.S.Shadows.tracked new.shadows) state1 c.keep_told.new.state c.keep_told.ensures told_is wp1 c.keep.ensures.whole may in
+    let may = may_close c.native_laws.ensures.grants c.native_laws.ensures.again c.native_laws.ensures.completes m w directory b room fit sound (c.native_laws.ensures.sees directory running.cpu c.requires.able) next small t p clear n c.text_frames.result free1 state1.changes c.text_frames.ensures within1 enough in
+    let kept_all = closes_told new.lost.after (g.S.Shadows.slots running.shadows ram1) slots3 kept1 t.set c.text_frames.result side free1 (wp_of running.cpu) (g.S.Shadows.tracked new.shadows) state1 c.keep_told.new.state c.keep_told.ensures told_is wp1 c.keep.ensures.whole may in
     let closes = kept_all.1 in
     let text1 = c.try_native.ensures.text ∙ ap (λ (x : Guard). x.text) c.begin-state.ensures.guard in
     let here : laying.laid o.result.bytes.now o.result.first n ram1 ≡ t.ram = λ i. laying.shown_by (sym text1 i).now (sym frames1 i) ram1 in
@@ -480,13 +414,13 @@ returns-in-None-clause-step g c = λ script.
     (let text = text_within image in let r = held.wedge.room in host_same m ram1 ram3 (omega (arith, r, text)) c.keep.ensures.moves.size front (host_left m (text_pages image) ram0 ram1 text a.left (record { room = held.host.room; text = held.host.text }))) in
     let sees = c.native_laws.ensures.sees directory running.cpu c.requires.able in
     let wp2 : c.keep_told.new.state.control.wp ≡ wp_of running.cpu = ap (λ (x : kept_state.State). x.control.wp) c.keep_told.ensures ∙ wp1 in
-    let open3 = subst (λ (x : Bool). AreOpen image x slots3) wp2 (c.keep.ensures.shows image c.text_frames-in-None.ensures (subst (λ (x : Bool). AreOpen image x (g.S.Shadows.slots running.shadows ram1)) (sym wp2) slots1)) in
+    let open3 = subst (λ (x : Bool). AreOpen image x slots3) wp2 (c.keep.ensures.shows image c.text_frames.ensures (subst (λ (x : Bool). AreOpen image x (g.S.Shadows.slots running.shadows ram1)) (sym wp2) slots1)) in
     let lends = subst (λ (k : Bool). Lends m ram3 (directory side) k (wp_of running.cpu) t.set) (side_is running.cpu)
     (c.native_laws.ensures.lends m ram3 (directory side) side (wp_of running.cpu) slots3 t.set host (λ page lt. g.met.S.Shadows.entry_at new.shadows ram3 page lt) (subst (λ (set : FinMap nat_cmp Entry). AreWithin n set) (sym closes.entries) within1) open3
     (part_same (entries_of slots3) t.set closes.entries)) in
     let state_is : state_of g.S.Shadows.stands g.S.Shadows.frames g.S.Shadows.slots m new ram3 ≡ again.settled b t =
     λ i. record { cpu = cpu_is i; ram = ram_is i; set = closes.entries i; board = (ap (λ (r : Running g.row.S.Denot). r.board) same ∙ tries.0) i; step = ap (λ (r : Running g.row.S.Denot). r.step) same i } in
-    asks c.native_laws.ensures.grants c.native_laws.ensures.again c.native_laws.ensures.completes m w directory b room fit sound (c.native_laws.ensures.sees directory running.cpu c.requires.able) next small t p clear (g.S.Shadows.slots running.shadows ram1) slots3 state1.changes (g.S.Shadows.tracked new.shadows) ram3 closes beyond host within (record { host = host3; ram = sym ram_is; sees = sees }) lends new.lost.after kept_all.0
+    asks c.native_laws.ensures.grants c.native_laws.ensures.again c.native_laws.ensures.completes m w directory b room fit sound (c.native_laws.ensures.sees directory running.cpu c.requires.able) next small t p clear (g.S.Shadows.slots running.shadows ram1) slots3 state1.changes (g.S.Shadows.tracked new.shadows) ram3 closes beyond host within (record { host = host3; ram = sym ram_is; sees = sees }) lends new.lost (kept_all.0, c.keep.ensures.back ∙ c.requires.kept)
     (state_of g.S.Shadows.stands g.S.Shadows.frames g.S.Shadows.slots m new ram3) state_is
 
 pub returns-in_err-worked-clause-filled : goal.returns-in_err-worked-clause-filled
@@ -507,9 +441,8 @@ returns-in_err-worked-clause-filled g c =
     let fits1 : 4096 * n ≤ length ram1 = (let q = c.try_native.ensures.sound.frames_in in omega (arith, q, frames1)) in
     let a = after g.S.Shadows.stands g.S.Shadows.frames g.S.Shadows.slots g.met.S.Shadows.above g.met.S.Shadows.same_frames g.met.S.Shadows.same_slots g.met.S.Shadows.same_entries image running pool0 ram0 ram1 o.result.first o.result.count held fits1
     o.ensures.first o.ensures.count hid in
-    let set0 = entries_of (g.S.Shadows.slots running.shadows ram0) in
-    let set1 = entries_of (g.S.Shadows.slots running.shadows ram1) in
-    fills_same set0 set1 running.fills a.entries_same
+    let asides1 = g.met.S.Shadows.same_asides running.shadows ram0 ram1 held.stand a.same in
+    fills_same _ _ running.fills (kept_same g.S.Shadows.slots g.S.Shadows.asides running.shadows ram0 ram1 a.entries_same asides1)
 
 pub returns-in-Some-clause-filled : goal.returns-in-Some-clause-filled
 returns-in-Some-clause-filled g c =
@@ -529,9 +462,8 @@ returns-in-Some-clause-filled g c =
     let fits1 : 4096 * n ≤ length ram1 = (let q = c.try_native.ensures.sound.frames_in in omega (arith, q, frames1)) in
     let a = after g.S.Shadows.stands g.S.Shadows.frames g.S.Shadows.slots g.met.S.Shadows.above g.met.S.Shadows.same_frames g.met.S.Shadows.same_slots g.met.S.Shadows.same_entries image running pool0 ram0 ram1 o.result.first o.result.count held fits1
     o.ensures.first o.ensures.count hid in
-    let set0 = entries_of (g.S.Shadows.slots running.shadows ram0) in
-    let set1 = entries_of (g.S.Shadows.slots running.shadows ram1) in
-    fills_join _ _ _ _ _ _ (fills_same set0 set1 running.fills a.entries_same) c.go.ensures.filled
+    let asides1 = g.met.S.Shadows.same_asides running.shadows ram0 ram1 held.stand a.same in
+    fills_join _ _ _ _ _ _ (fills_same _ _ running.fills (kept_same g.S.Shadows.slots g.S.Shadows.asides running.shadows ram0 ram1 a.entries_same asides1)) c.go.ensures.filled
 
 pub returns-in-None-clause-filled : goal.returns-in-None-clause-filled
 returns-in-None-clause-filled g c =
@@ -551,6 +483,245 @@ returns-in-None-clause-filled g c =
     let fits1 : 4096 * n ≤ length ram1 = (let q = c.try_native.ensures.sound.frames_in in omega (arith, q, frames1)) in
     let a = after g.S.Shadows.stands g.S.Shadows.frames g.S.Shadows.slots g.met.S.Shadows.above g.met.S.Shadows.same_frames g.met.S.Shadows.same_slots g.met.S.Shadows.same_entries image running pool0 ram0 ram1 o.result.first o.result.count held fits1
     o.ensures.first o.ensures.count hid in
-    let set0 = entries_of (g.S.Shadows.slots running.shadows ram0) in
-    let set1 = entries_of (g.S.Shadows.slots running.shadows ram1) in
-    fills_join _ _ _ _ _ _ (fills_same set0 set1 running.fills a.entries_same) c.keep.ensures.filled
+    let asides1 = g.met.S.Shadows.same_asides running.shadows ram0 ram1 held.stand a.same in
+    fills_join _ _ _ _ _ _ (fills_same _ _ running.fills (kept_same g.S.Shadows.slots g.S.Shadows.asides running.shadows ram0 ram1 a.entries_same asides1)) c.keep.ensures.filled
+
+module _ (g : Over) (c : goal.After-go g) where
+  ready_went : IsReady g.S.Shadows.slots g.S.Shadows.noted g.S.Shadows.marked g.S.Shadows.value g.S.Shadows.asides (ground c.args.image.now c.args.running.now.frames) c.go.new.running.cpu c.go.new.running.shadows c.go.new.ram
+      × (c.go.new.running.lost.back ≡ true → AreFound (ground c.args.image.now c.args.running.now.frames) c.go.new.running.cpu (shown (ground c.args.image.now c.args.running.now.frames) c.go.new.ram) c.go.new.running.cpu.cr3 (g.S.Shadows.noted c.go.new.running.shadows) (g.S.Shadows.slots c.go.new.running.shadows c.go.new.ram))
+  ready_went =
+      let running = c.args.running.now in
+      let image = c.args.image.now in
+      let n = running.frames in
+      let ram0 = c.args.ram.now in
+      let pool0 = c.args.pool.now in
+      let ram1 = c.try_native.new.ram in
+      let state0 = c.begin-state.result in
+      let state1 = c.try_native.new.state in
+      let o = c.original in
+      let held = c.requires.held in
+      let frames1 : state1.control.frames ≡ n = ap (λ (k : Control). k.frames) c.try_native.ensures.control ∙ c.begin-state.ensures.frames in
+      let hid = subst (λ (x : Guard). laying.hidden x n ram1 ≡ laying.hidden x n ram0) c.begin-state.ensures.guard
+      (subst (λ (k : ℕ). laying.hidden c.begin-state.result.guard k ram1 ≡ laying.hidden c.begin-state.result.guard k ram0) c.begin-state.ensures.frames c.try_native.ensures.hidden) in
+      let fits1 : 4096 * n ≤ length ram1 = (let q = c.try_native.ensures.sound.frames_in in omega (arith, q, frames1)) in
+      let a = after g.S.Shadows.stands g.S.Shadows.frames g.S.Shadows.slots g.met.S.Shadows.above g.met.S.Shadows.same_frames g.met.S.Shadows.same_slots g.met.S.Shadows.same_entries image running pool0 ram0 ram1 o.result.first o.result.count held fits1
+      o.ensures.first o.ensures.count hid in
+      let asides1 = g.met.S.Shadows.same_asides running.shadows ram0 ram1 held.stand a.same in
+      let wp1 : state1.control.wp ≡ wp_of running.cpu = ap (λ (k : Control). k.wp) c.try_native.ensures.control ∙ ap (λ (x : Space). x.wp) c.begin-state.ensures.space in
+      let open1 = subst (λ (x : Bool). AreOpen image x (g.S.Shadows.slots running.shadows ram1)) (sym wp1) (same_open image (wp_of running.cpu) (g.S.Shadows.slots running.shadows ram0) (g.S.Shadows.slots running.shadows ram1) a.slots_same held.open_to) in
+      let m = wedge image [] n in
+      let b = state_of g.S.Shadows.stands g.S.Shadows.frames g.S.Shadows.slots m running ram0 in
+      let mode : Mode = Wedge o.result.first o.result.count (record { front = 0; front_len = 0; back = 0; back_len = 0 }) in
+      let mode_is : wedge_mode image ≡ mode = λ i. Wedge (sym o.ensures.first i) (sym o.ensures.count i) (record { front = 0; front_len = 0; back = 0; back_len = 0 }) in
+      let laid = shown_is m o.result.bytes.now o.result.first ram0 o.ensures.bytes o.ensures.first in
+      let s0 = space_at (λ r. entries_of (g.S.Shadows.slots running.shadows r)) ram0 state0 in
+      let t = space_at (λ r. entries_of (g.S.Shadows.slots running.shadows r)) ram1 state1 in
+      let start = starts m b mode s0 mode_is (laying.laid o.result.bytes.now o.result.first n ram0) laid c.begin-state.ensures.space in
+      let w : IsWedge m = record { mode = held.wedge.mode; accepted = held.wedge.accepted; room = held.wedge.room } in
+      let any = any_script image [] n ram0 in
+      let fit : AreBytes b.ram = subst AreBytes (sym any) c.are_bytes.ensures.bytes in
+      let long : length b.ram ≡ 4096 * n = ap length any ∙ c.are_bytes.ensures.length in
+      let room : 4096 * n ≤ length b.ram = omega (arith, long) in
+      let sound : again.AreWithin m b.set = λ page entry is. (held.within page entry is).1 in
+      let small = c.eip_fits.ensures in
+      let next = next_from m b c.requires.runs small in
+      let host0 : IsHost m ram0 = record { room = held.host.room; text = held.host.text } in
+      let sees = c.native_laws.ensures.sees (g.S.Shadows.directory running.shadows) running.cpu c.requires.able in
+      let tries = rw c.in-Some.is at (c.in_ok-worked.ensures.tries m (unheld b) (record { has = refl; over = refl })) in
+      let stepped_is = step_is m b sees.level next ∙ (ap (fetches_next m (unheld b)) (sym start) ∙ tries.0) in
+      let text1 = c.try_native.ensures.text ∙ ap (λ (x : Guard). x.text) c.begin-state.ensures.guard in
+      let here : laying.laid o.result.bytes.now o.result.first n ram1 ≡ t.ram = λ i. laying.shown_by (sym text1 i).now (sym frames1 i) ram1 in
+      let k : Steps g.S.Shadows.slots g.S.Shadows.noted g.S.Shadows.marked g.S.Shadows.value g.S.Shadows.asides image n b running.shadows ram0 ram1 = record {
+        wedge = record { mode = held.wedge.mode; accepted = held.wedge.accepted; room = held.wedge.room };
+        host = held.host;
+        small = held.size.1;
+        ram = refl;
+        set = refl;
+        at = λ page lt. g.met.S.Shadows.entry_at running.shadows ram0 page lt;
+        entries = a.entries_same;
+        same = asides1;
+      } in
+      let t_ram : t.ram ≡ shown m ram1 = sym here ∙ shown_is m o.result.bytes.now o.result.first ram1 o.ensures.bytes o.ensures.first in
+      let behind1 = went_ready g.S.Shadows.slots g.S.Shadows.noted g.S.Shadows.marked g.S.Shadows.value g.S.Shadows.asides image n b running.shadows ram0 ram1 k c.requires.ready c.native_laws.ensures.steps c.in-Some.worked c.try_native.new.board t state1.changes stepped_is t_ram refl in
+      let ready1 = c.go.ensures.ready (ground image n) (sym frames1) c.text_frames-count.ensures open1 behind1 in
+      ready1
+
+pub returns-in-Some-clause-ready : goal.returns-in-Some-clause-ready
+returns-in-Some-clause-ready g c = (ready_went g c).0
+
+pub returns-in-Some-clause-step : goal.returns-in-Some-clause-step
+returns-in-Some-clause-step g c = λ script.
+    let running = c.args.running.now in
+    let image = c.args.image.now in
+    let n = running.frames in
+    let ram0 = c.args.ram.now in
+    let pool0 = c.args.pool.now in
+    let ram1 = c.try_native.new.ram in
+    let state0 = c.begin-state.result in
+    let state1 = c.try_native.new.state in
+    let o = c.original in
+    let held = c.requires.held in
+    let frames1 : state1.control.frames ≡ n = ap (λ (k : Control). k.frames) c.try_native.ensures.control ∙ c.begin-state.ensures.frames in
+    let hid = subst (λ (x : Guard). laying.hidden x n ram1 ≡ laying.hidden x n ram0) c.begin-state.ensures.guard
+    (subst (λ (k : ℕ). laying.hidden c.begin-state.result.guard k ram1 ≡ laying.hidden c.begin-state.result.guard k ram0) c.begin-state.ensures.frames c.try_native.ensures.hidden) in
+    let fits1 : 4096 * n ≤ length ram1 = (let q = c.try_native.ensures.sound.frames_in in omega (arith, q, frames1)) in
+    let a = after g.S.Shadows.stands g.S.Shadows.frames g.S.Shadows.slots g.met.S.Shadows.above g.met.S.Shadows.same_frames g.met.S.Shadows.same_slots g.met.S.Shadows.same_entries image running pool0 ram0 ram1 o.result.first o.result.count held fits1
+    o.ensures.first o.ensures.count hid in
+    let m = wedge image script n in
+    let b = state_of g.S.Shadows.stands g.S.Shadows.frames g.S.Shadows.slots m running ram0 in
+    let mode : Mode = Wedge o.result.first o.result.count (record { front = 0; front_len = 0; back = 0; back_len = 0 }) in
+    let mode_is : wedge_mode image ≡ mode = λ i. Wedge (sym o.ensures.first i) (sym o.ensures.count i) (record { front = 0; front_len = 0; back = 0; back_len = 0 }) in
+    let laid = shown_is m o.result.bytes.now o.result.first ram0 o.ensures.bytes o.ensures.first in
+    let s0 = space_at (λ r. entries_of (g.S.Shadows.slots running.shadows r)) ram0 state0 in
+    let t = space_at (λ r. entries_of (g.S.Shadows.slots running.shadows r)) ram1 state1 in
+    let start = starts m b mode s0 mode_is (laying.laid o.result.bytes.now o.result.first n ram0) laid c.begin-state.ensures.space in
+    let w : IsWedge m = record { mode = held.wedge.mode; accepted = held.wedge.accepted; room = held.wedge.room } in
+    let any = any_script image script n ram0 in
+    let fit : AreBytes b.ram = subst AreBytes (sym any) c.are_bytes.ensures.bytes in
+    let long : length b.ram ≡ 4096 * n = ap length any ∙ c.are_bytes.ensures.length in
+    let room : 4096 * n ≤ length b.ram = omega (arith, long) in
+    let sound : again.AreWithin m b.set = λ page entry is. (held.within page entry is).1 in
+    let small = c.eip_fits.ensures in
+    let next = next_from m b c.requires.runs small in
+    let host0 : IsHost m ram0 = record { room = held.host.room; text = held.host.text } in
+    let sees = c.native_laws.ensures.sees (g.S.Shadows.directory running.shadows) running.cpu c.requires.able in
+    let tries = rw c.in-Some.is at (c.in_ok-worked.ensures.tries m (unheld b) (record { has = refl; over = refl })) in
+    let stepped_is = step_is m b sees.level next ∙ (ap (fetches_next m (unheld b)) (sym start) ∙ tries.0) in
+    let users = others_users m w ram0 host0 b refl room fit sound small (c.native_laws.ensures.text image held.wedge.accepted) next c.requires.able in
+    let none = tries.1 (subst (OthersAreUsers (unheld b)) (sym start) users) image.sites in
+    let text1 = c.try_native.ensures.text ∙ ap (λ (x : Guard). x.text) c.begin-state.ensures.guard in
+    let here : laying.laid o.result.bytes.now o.result.first n ram1 ≡ t.ram = λ i. laying.shown_by (sym text1 i).now (sym frames1 i) ram1 in
+    let front = front_same n pool0 c.go.new.pool ram1 c.go.new.ram (g.S.Shadows.frames running.shadows ram1) (g.S.Shadows.frames c.go.new.running.shadows c.go.new.ram) held.behind (owns c.try_native.ensures.sound.stands_now) c.go.ensures.moves in
+    let ram_is : shown m c.go.new.ram ≡ t.ram = shown_same m ram1 c.go.new.ram front ∙ (sym (shown_is m o.result.bytes.now o.result.first ram1 o.ensures.bytes o.ensures.first) ∙ here) in
+    let new = state_of g.S.Shadows.stands g.S.Shadows.frames g.S.Shadows.slots m c.go.new.running c.go.new.ram in
+    let whole = dropping c.in-Some.worked.dropped t.set in
+    let left = is_left m new whole c.go.new.running.lost c.go.ensures.left
+    (λ back. all_loosened (ground image n) c.go.new.running.cpu (shown (ground image n) c.go.new.ram) c.go.new.running.cpu.cr3 (g.S.Shadows.noted c.go.new.running.shadows) (g.S.Shadows.slots c.go.new.running.shadows c.go.new.ram)
+    ((ready_went g c).1 back) m (with_set new whole) refl (any_script image script n c.go.new.ram) refl refl) in
+    idle m b c.go.new.running.lost c.in-Some.worked c.try_native.new.board t new stepped_is c.go.ensures.cpu ram_is c.go.ensures.board c.go.ensures.step left none
+
+pub returns-in-Some-clause-held : goal.returns-in-Some-clause-held
+returns-in-Some-clause-held g c =
+    let running = c.args.running.now in
+    let image = c.args.image.now in
+    let n = running.frames in
+    let ram0 = c.args.ram.now in
+    let pool0 = c.args.pool.now in
+    let ram1 = c.try_native.new.ram in
+    let state0 = c.begin-state.result in
+    let state1 = c.try_native.new.state in
+    let o = c.original in
+    let held = c.requires.held in
+    let frames1 : state1.control.frames ≡ n = ap (λ (k : Control). k.frames) c.try_native.ensures.control ∙ c.begin-state.ensures.frames in
+    let hid = subst (λ (x : Guard). laying.hidden x n ram1 ≡ laying.hidden x n ram0) c.begin-state.ensures.guard
+    (subst (λ (k : ℕ). laying.hidden c.begin-state.result.guard k ram1 ≡ laying.hidden c.begin-state.result.guard k ram0) c.begin-state.ensures.frames c.try_native.ensures.hidden) in
+    let fits1 : 4096 * n ≤ length ram1 = (let q = c.try_native.ensures.sound.frames_in in omega (arith, q, frames1)) in
+    let a = after g.S.Shadows.stands g.S.Shadows.frames g.S.Shadows.slots g.met.S.Shadows.above g.met.S.Shadows.same_frames g.met.S.Shadows.same_slots g.met.S.Shadows.same_entries image running pool0 ram0 ram1 o.result.first o.result.count held fits1
+    o.ensures.first o.ensures.count hid in
+    let asides1 = g.met.S.Shadows.same_asides running.shadows ram0 ram1 held.stand a.same in
+    let wp1 : state1.control.wp ≡ wp_of running.cpu = ap (λ (k : Control). k.wp) c.try_native.ensures.control ∙ ap (λ (x : Space). x.wp) c.begin-state.ensures.space in
+    let open1 = subst (λ (x : Bool). AreOpen image x (g.S.Shadows.slots running.shadows ram1)) (sym wp1) (same_open image (wp_of running.cpu) (g.S.Shadows.slots running.shadows ram0) (g.S.Shadows.slots running.shadows ram1) a.slots_same held.open_to) in
+    let opens1 = subst (λ (x : Bool). AllOpen image x (g.S.Shadows.asides running.shadows ram1)) (sym wp1) (open_shed image (wp_of running.cpu) (g.S.Shadows.asides running.shadows ram0) (g.S.Shadows.asides running.shadows ram1) (same_shed _ _ asides1) (ready_open (ground image n) running.cpu (shown (ground image n) ram0) (g.S.Shadows.asides running.shadows ram0) c.requires.ready.others)) in
+    let whole1 = changed (entries_of (g.S.Shadows.slots running.shadows ram1)) state1.changes in
+    let m = ground image n in
+    let slots2 = g.S.Shadows.slots c.go.new.running.shadows c.go.new.ram in
+    let within2 = within_left n slots2 c.in-Some.worked.dropped c.go.new.running.lost whole1 c.go.ensures.left (subst (λ (k : ℕ). AreWithin k whole1) frames1 c.try_native.ensures.sound.within)
+    (λ back. all_within m c.go.new.running.cpu (shown m c.go.new.ram) c.go.new.running.cpu.cr3 (g.S.Shadows.noted c.go.new.running.shadows) slots2 ((ready_went g c).1 back)) in
+    let open2 = c.go.ensures.shows image c.text_frames-count.ensures open1 opens1 in
+    let fills = c.go.ensures.fills in
+    let count = c.go.ensures.step in
+    held_then g.S.Shadows.stands g.S.Shadows.frames g.S.Shadows.slots image running (record c.go.new.running { step = running.step + 1 }) pool0 c.go.new.pool ram0 ram1 c.go.new.ram held a (owns c.try_native.ensures.sound.stands_now) c.go.ensures.moves
+    c.go.ensures.stands c.go.ensures.owns c.go.ensures.counted (omega (arith, fills, count)) c.go.ensures.frames within2
+    (subst (λ (x : Cpu). AreOpen image (wp_of x) slots2) (sym c.go.ensures.cpu) open2)
+
+pub go-requires-clause-rules : goal.go-requires-clause-rules
+go-requires-clause-rules g c =
+    let running = c.args.running.now in
+    let state1 = c.try_native.new.state in
+    let wp1 : state1.control.wp ≡ wp_of running.cpu = ap (λ (k : Control). k.wp) c.try_native.ensures.control ∙ ap (λ (x : Space). x.wp) c.begin-state.ensures.space in
+    wp1
+
+pub go-requires-clause-enough : goal.go-requires-clause-enough
+go-requires-clause-enough g c =
+    let running = c.args.running.now in
+    let image = c.args.image.now in
+    let n = running.frames in
+    let ram0 = c.args.ram.now in
+    let pool0 = c.args.pool.now in
+    let ram1 = c.try_native.new.ram in
+    let state0 = c.begin-state.result in
+    let state1 = c.try_native.new.state in
+    let o = c.original in
+    let held = c.requires.held in
+    let frames1 : state1.control.frames ≡ n = ap (λ (k : Control). k.frames) c.try_native.ensures.control ∙ c.begin-state.ensures.frames in
+    let hid = subst (λ (x : Guard). laying.hidden x n ram1 ≡ laying.hidden x n ram0) c.begin-state.ensures.guard
+    (subst (λ (k : ℕ). laying.hidden c.begin-state.result.guard k ram1 ≡ laying.hidden c.begin-state.result.guard k ram0) c.begin-state.ensures.frames c.try_native.ensures.hidden) in
+    let fits1 : 4096 * n ≤ length ram1 = (let q = c.try_native.ensures.sound.frames_in in omega (arith, q, frames1)) in
+    let a = after g.S.Shadows.stands g.S.Shadows.frames g.S.Shadows.slots g.met.S.Shadows.above g.met.S.Shadows.same_frames g.met.S.Shadows.same_slots g.met.S.Shadows.same_entries image running pool0 ram0 ram1 o.result.first o.result.count held fits1
+    o.ensures.first o.ensures.count hid in
+    let free = ap length a.free_same in
+    let room = c.requires.room in
+    omega (arith, free, room)
+
+pub returns-in-None-clause-ready : goal.returns-in-None-clause-ready
+returns-in-None-clause-ready g c =
+    let running = c.args.running.now in
+    let image = c.args.image.now in
+    let n = running.frames in
+    let ram0 = c.args.ram.now in
+    let pool0 = c.args.pool.now in
+    let ram1 = c.try_native.new.ram in
+    let state0 = c.begin-state.result in
+    let state1 = c.try_native.new.state in
+    let o = c.original in
+    let held = c.requires.held in
+    let frames1 : state1.control.frames ≡ n = ap (λ (k : Control). k.frames) c.try_native.ensures.control ∙ c.begin-state.ensures.frames in
+    let hid = subst (λ (x : Guard). laying.hidden x n ram1 ≡ laying.hidden x n ram0) c.begin-state.ensures.guard
+    (subst (λ (k : ℕ). laying.hidden c.begin-state.result.guard k ram1 ≡ laying.hidden c.begin-state.result.guard k ram0) c.begin-state.ensures.frames c.try_native.ensures.hidden) in
+    let fits1 : 4096 * n ≤ length ram1 = (let q = c.try_native.ensures.sound.frames_in in omega (arith, q, frames1)) in
+    let a = after g.S.Shadows.stands g.S.Shadows.frames g.S.Shadows.slots g.met.S.Shadows.above g.met.S.Shadows.same_frames g.met.S.Shadows.same_slots g.met.S.Shadows.same_entries image running pool0 ram0 ram1 o.result.first o.result.count held fits1
+    o.ensures.first o.ensures.count hid in
+    let asides1 = g.met.S.Shadows.same_asides running.shadows ram0 ram1 held.stand a.same in
+    let m = wedge image [] n in
+    let b = state_of g.S.Shadows.stands g.S.Shadows.frames g.S.Shadows.slots m running ram0 in
+    let mode : Mode = Wedge o.result.first o.result.count (record { front = 0; front_len = 0; back = 0; back_len = 0 }) in
+    let mode_is : wedge_mode image ≡ mode = λ i. Wedge (sym o.ensures.first i) (sym o.ensures.count i) (record { front = 0; front_len = 0; back = 0; back_len = 0 }) in
+    let laid = shown_is m o.result.bytes.now o.result.first ram0 o.ensures.bytes o.ensures.first in
+    let s0 = space_at (λ r. entries_of (g.S.Shadows.slots running.shadows r)) ram0 state0 in
+    let t = space_at (λ r. entries_of (g.S.Shadows.slots running.shadows r)) ram1 state1 in
+    let start = starts m b mode s0 mode_is (laying.laid o.result.bytes.now o.result.first n ram0) laid c.begin-state.ensures.space in
+    let w : IsWedge m = record { mode = held.wedge.mode; accepted = held.wedge.accepted; room = held.wedge.room } in
+    let any = any_script image [] n ram0 in
+    let fit : AreBytes b.ram = subst AreBytes (sym any) c.are_bytes.ensures.bytes in
+    let long : length b.ram ≡ 4096 * n = ap length any ∙ c.are_bytes.ensures.length in
+    let room : 4096 * n ≤ length b.ram = omega (arith, long) in
+    let sound : again.AreWithin m b.set = λ page entry is. (held.within page entry is).1 in
+    let small = c.eip_fits.ensures in
+    let next = next_from m b c.requires.runs small in
+    let directory = g.S.Shadows.directory c.keep.new.running.shadows in
+    let tries = rw c.in-None.is at (c.in_ok-worked.ensures.tries m (unheld b) (record { has = refl; over = refl })) in
+    let p = subst (λ (s : Space). IsPrepared (unheld b) s t) start tries.1 in
+    let clear = c.requires.clear [] p.insn p.len p.after_fetch p.fetches in
+    let other = others c.native_laws.ensures.grants c.native_laws.ensures.again c.native_laws.ensures.completes m w directory b room fit sound (c.native_laws.ensures.sees directory running.cpu c.requires.able) next small t p clear in
+    let kept1 = entries_of (g.S.Shadows.slots running.shadows ram1) in
+    let told_is : changed kept1 (told state1.went state1.changes) ≡ changed kept1 state1.changes = told_same kept1 state1.changes state1.went (λ q no. other q no ∙ ap (λ (set : FinMap nat_cmp Entry). get set q) (sym a.entries_same)) in
+    let text1 = c.try_native.ensures.text ∙ ap (λ (x : Guard). x.text) c.begin-state.ensures.guard in
+    let here : laying.laid o.result.bytes.now o.result.first n ram1 ≡ t.ram = λ i. laying.shown_by (sym text1 i).now (sym frames1 i) ram1 in
+    let k : Steps g.S.Shadows.slots g.S.Shadows.noted g.S.Shadows.marked g.S.Shadows.value g.S.Shadows.asides image n b running.shadows ram0 ram1 = record {
+      wedge = record { mode = held.wedge.mode; accepted = held.wedge.accepted; room = held.wedge.room };
+      host = held.host;
+      small = held.size.1;
+      ram = refl;
+      set = refl;
+      at = λ page lt. g.met.S.Shadows.entry_at running.shadows ram0 page lt;
+      entries = a.entries_same;
+      same = asides1;
+    } in
+    let t_ram : t.ram ≡ shown m ram1 = sym here ∙ shown_is m o.result.bytes.now o.result.first ram1 o.ensures.bytes o.ensures.first in
+    let behind1 = prepared_ready g.S.Shadows.slots g.S.Shadows.noted g.S.Shadows.marked g.S.Shadows.value g.S.Shadows.asides image n b running.shadows ram0 ram1 k c.requires.ready c.native_laws.ensures.on c.native_laws.ensures.fetched c.native_laws.ensures.ranges (λ page. false) (unheld b) t t.set p t_ram refl in
+    let state2 = c.keep_told.new.state in
+    let behind2 = subst (λ (x : kept_state.State). IsReadyBehind g.S.Shadows.slots g.S.Shadows.noted g.S.Shadows.marked g.S.Shadows.value g.S.Shadows.asides (λ page. false) m running.cpu running.shadows ram1 (changed kept1 x.changes) x.tables x.wrote) (sym c.keep_told.ensures)
+    (subst (λ (set : FinMap nat_cmp Entry). IsReadyBehind g.S.Shadows.slots g.S.Shadows.noted g.S.Shadows.marked g.S.Shadows.value g.S.Shadows.asides (λ page. false) m running.cpu running.shadows ram1 set state1.tables state1.wrote) (sym told_is) behind1) in
+    let frames2 : n ≡ state2.control.frames = sym (ap (λ (x : kept_state.State). x.control.frames) c.keep_told.ensures ∙ frames1) in
+    let ready2 = c.keep.ensures.ready (λ page. false) m running.cpu frames2 behind2 in
+    subst (λ (x : Cpu). IsReady g.S.Shadows.slots g.S.Shadows.noted g.S.Shadows.marked g.S.Shadows.value g.S.Shadows.asides m x c.keep.new.running.shadows c.keep.new.ram) (sym (ap (λ (r : Running g.row.S.Denot). r.cpu) c.keep.ensures.same)) ready2

@@ -1,15 +1,16 @@
 use Rattle.std.proofs.Common.{◌≡◌, ℕ, [], sym, subst, arith}
-use Rattle.shadow_tables.specs.Slots.{IsShadow, held as held_by, slot_at}
+use Rattle.shadow_cache.specs.Views as roots
 use Rattle.machine_model.specs.State.{boot, wedge}
 use Rattle.wedge_core.specs.Promises.{WedgeAnswers}
 use Rattle.wedge_core.specs.Slices.{Counts}
+use Rattle.wedge_core.specs.Ready.{IsReady}
 use Rattle.wedge_core.specs.Standing.{IsHeld, ground, state_of}
 use Rattle.wedge_core.proofs.run.run_wedge.Goals as goal
 
 pub whole-requires-clause-held : goal.whole-requires-clause-held
 whole-requires-clause-held g c =
     let b = c.in-Ok.ensures.started.4 [] in
-    subst (λ (f : ℕ). IsHeld IsShadow held_by slot_at (ground c.args.image.now f) c.in-Ok.guest.running c.in-Ok.pool (g.H.Host.bytes c.start.new.host)) (sym b.held.frames_are) b.held
+    subst (λ (f : ℕ). IsHeld roots.stands roots.frames roots.slots (ground c.args.image.now f) c.in-Ok.guest.running c.in-Ok.pool (g.H.Host.bytes c.start.new.host)) (sym b.held.frames_are) b.held
 
 pub whole-requires-clause-able : goal.whole-requires-clause-able
 whole-requires-clause-able g c = let b = c.in-Ok.ensures.started.4 [] in b.able
@@ -24,7 +25,7 @@ whole-requires-clause-fits g c =
 pub whole-requires-clause-first : goal.whole-requires-clause-first
 whole-requires-clause-first g c =
     let b = c.in-Ok.ensures.started.4 c.args.script.now.list in
-    subst (λ (f : ℕ). state_of IsShadow held_by slot_at (wedge c.args.image.now c.args.script.now.list f) c.in-Ok.guest.running (g.H.Host.bytes c.start.new.host) ≡ boot (wedge c.args.image.now c.args.script.now.list f)) (sym b.held.frames_are) b.state
+    subst (λ (f : ℕ). state_of roots.stands roots.frames roots.slots (wedge c.args.image.now c.args.script.now.list f) c.in-Ok.guest.running (g.H.Host.bytes c.start.new.host) ≡ boot (wedge c.args.image.now c.args.script.now.list f)) (sym b.held.frames_are) b.state
 
 pub whole-requires-clause-enough : goal.whole-requires-clause-enough
 whole-requires-clause-enough g c =
@@ -49,3 +50,15 @@ returns-in-Ok g c =
 
 pub whole-requires-clause-unfilled : goal.whole-requires-clause-unfilled
 whole-requires-clause-unfilled g c = let b = c.in-Ok.ensures.started.4 [] in b.fills
+
+pub whole-requires-clause-ready : goal.whole-requires-clause-ready
+whole-requires-clause-ready g c =
+    let b = c.in-Ok.ensures.started.4 [] in
+    subst (λ (f : ℕ). IsReady roots.slots roots.noted roots.marked roots.value roots.asides (ground c.args.image.now f) c.in-Ok.guest.running.cpu c.in-Ok.guest.running.shadows (g.H.Host.bytes c.start.new.host)) (sym b.held.frames_are) c.in-Ok.ensures.ready
+
+pub whole-requires-clause-none : goal.whole-requires-clause-none
+whole-requires-clause-none g c =
+    let b = c.in-Ok.ensures.started.4 [] in
+    let none = b.fills in
+    let filled = c.in-Ok.ensures.filled in
+    omega (arith, none, filled)

@@ -3,8 +3,9 @@ use Rattle.pv_io.specs.Sink.{Appends, AppendsFront}
 use Rattle.run_trace.specs.declared.items.End.{End}
 use Rattle.run_trace.specs.Notes.{Note}
 use Rattle.run_trace.specs.Text.{end_line}
-use Rattle.shadow_tables.specs.Slots.{IsShadow, held as held_by, slot_at}
+use Rattle.shadow_cache.specs.Views as roots
 use Rattle.machine_model.specs.State.{State, wedge}
+use Rattle.wedge_core.specs.Filled.{pages_kept}
 use Rattle.wedge_core.specs.Noted.{NotesOn}
 use Rattle.wedge_core.specs.Promises.{WedgeAnswers, end_of}
 use Rattle.wedge_core.specs.Slices.{Counts, SliceAs}
@@ -25,6 +26,7 @@ slice-requires-clause-bound g c =
 pub returns-in-Err : goal.returns-in-Err
 returns-in-Err g c =
     let fills = c.args.guest.now.running.fills in
+    let pages = pages_kept roots.slots roots.asides c.args.guest.now.running.shadows (g.H.Host.bytes c.args.host.now) in
     let filled = c.slice.new.self.running.fills in
     let begun = ap (λ (b : State). b.step) c.requires.first in
     let is : c.args.guest.now.running.step + c.args.n ≡ c.args.n = omega (arith, begun) in
@@ -32,14 +34,15 @@ returns-in-Err g c =
     let m = wedge c.args.image.now c.args.script.now.list f in
     let before : Counts = record { retired = g.H.Host.retired c.args.host.now; passed = g.H.Host.passed c.args.host.now } in
     let after : Counts = record { retired = g.H.Host.retired c.slice.new.host; passed = g.H.Host.passed c.slice.new.host } in
-    let old = state_of IsShadow held_by slot_at m c.args.guest.now.running (g.H.Host.bytes c.args.host.now) in
-    let new = state_of IsShadow held_by slot_at m c.slice.new.self.running (g.H.Host.bytes c.slice.new.host) in
-    let h = subst (λ (n : ℕ). SliceAs m n old new before after (g.O.Sink.taken c.args.out.now) (g.O.Sink.taken c.slice.new.out) fills filled no_notes (Err c.in-Err.field-0)) is c.in-Err.ensures.slice in
-    record { whole = whole_front c.args.image.now c.args.script.now.list f c.args.n old new before after _ _ fills filled no_notes c.in-Err.field-0 _ _ (g.H.Host.bytes c.slice.new.host) c.requires.fits c.requires.first h c.in-Err.ensures.cause }
+    let old = state_of roots.stands roots.frames roots.slots m c.args.guest.now.running (g.H.Host.bytes c.args.host.now) in
+    let new = state_of roots.stands roots.frames roots.slots m c.slice.new.self.running (g.H.Host.bytes c.slice.new.host) in
+    let h = subst (λ (n : ℕ). SliceAs m n old new before after (g.O.Sink.taken c.args.out.now) (g.O.Sink.taken c.slice.new.out) pages fills filled false no_notes (Err c.in-Err.field-0)) is c.in-Err.ensures.slice in
+    record { whole = whole_front c.args.image.now c.args.script.now.list f c.args.n old new before after _ _ pages fills filled false no_notes c.in-Err.field-0 _ _ (g.H.Host.bytes c.slice.new.host) c.requires.fits c.requires.first h c.in-Err.ensures.cause }
 
 pub returns-in-Err-put_end : goal.returns-in-Err-put_end
 returns-in-Err-put_end g c =
     let fills = c.args.guest.now.running.fills in
+    let pages = pages_kept roots.slots roots.asides c.args.guest.now.running.shadows (g.H.Host.bytes c.args.host.now) in
     let filled = c.slice.new.self.running.fills in
     let begun = ap (λ (b : State). b.step) c.requires.first in
     let is : c.args.guest.now.running.step + c.args.n ≡ c.args.n = omega (arith, begun) in
@@ -51,17 +54,18 @@ returns-in-Err-put_end g c =
     let memory = g.H.Host.bytes c.slice.new.host in
     let before : Counts = record { retired = g.H.Host.retired c.args.host.now; passed = g.H.Host.passed c.args.host.now } in
     let after : Counts = record { retired = g.H.Host.retired c.slice.new.host; passed = g.H.Host.passed c.slice.new.host } in
-    let old = state_of IsShadow held_by slot_at m c.args.guest.now.running (g.H.Host.bytes c.args.host.now) in
-    let new = state_of IsShadow held_by slot_at m c.slice.new.self.running memory in
-    let h = subst (λ (n : ℕ). SliceAs m n old new before after (g.O.Sink.taken c.args.out.now) (g.O.Sink.taken c.slice.new.out) fills filled no_notes (Ok pause)) is c.in-Ok.ensures.slice in
+    let old = state_of roots.stands roots.frames roots.slots m c.args.guest.now.running (g.H.Host.bytes c.args.host.now) in
+    let new = state_of roots.stands roots.frames roots.slots m c.slice.new.self.running memory in
+    let h = subst (λ (n : ℕ). SliceAs m n old new before after (g.O.Sink.taken c.args.out.now) (g.O.Sink.taken c.slice.new.out) pages fills filled false no_notes (Ok pause)) is c.in-Ok.ensures.slice in
     let has = front_held pause image script f c.slice.new.self.running c.slice.new.pool memory c.in-Ok.ensures.held in
     let put = subst (λ (k : ℕ). AppendsFront (g.O.Sink.taken c.slice.new.out) (g.O.Sink.taken c.put_end.new.out) (end_line k (end_of pause))) c.step.ensures
     (subst (λ (x : End). AppendsFront (g.O.Sink.taken c.slice.new.out) (g.O.Sink.taken c.put_end.new.out) (end_line c.step.result x)) c.end_of.ensures c.in-Err-put_end.ensures.failed) in
-    record { whole = whole_unput image script f c.args.n old new before after _ _ _ fills filled no_notes pause _ (g.O.Sink.faults c.slice.new.out) _ memory c.requires.fits c.requires.first has h put c.in-Ok.ensures.later c.in-Err-put_end.ensures.cause }
+    record { whole = whole_unput image script f c.args.n old new before after _ _ _ pages fills filled false no_notes pause _ (g.O.Sink.faults c.slice.new.out) _ memory c.requires.fits c.requires.first has h put c.in-Ok.ensures.later c.in-Err-put_end.ensures.cause }
 
 pub returns-in-Ok-put_end : goal.returns-in-Ok-put_end
 returns-in-Ok-put_end g c =
     let fills = c.args.guest.now.running.fills in
+    let pages = pages_kept roots.slots roots.asides c.args.guest.now.running.shadows (g.H.Host.bytes c.args.host.now) in
     let filled = c.slice.new.self.running.fills in
     let begun = ap (λ (b : State). b.step) c.requires.first in
     let is : c.args.guest.now.running.step + c.args.n ≡ c.args.n = omega (arith, begun) in
@@ -73,13 +77,13 @@ returns-in-Ok-put_end g c =
     let memory = g.H.Host.bytes c.slice.new.host in
     let before : Counts = record { retired = g.H.Host.retired c.args.host.now; passed = g.H.Host.passed c.args.host.now } in
     let after : Counts = record { retired = g.H.Host.retired c.slice.new.host; passed = g.H.Host.passed c.slice.new.host } in
-    let old = state_of IsShadow held_by slot_at m c.args.guest.now.running (g.H.Host.bytes c.args.host.now) in
-    let new = state_of IsShadow held_by slot_at m c.slice.new.self.running memory in
-    let h = subst (λ (n : ℕ). SliceAs m n old new before after (g.O.Sink.taken c.args.out.now) (g.O.Sink.taken c.slice.new.out) fills filled no_notes (Ok pause)) is c.in-Ok.ensures.slice in
+    let old = state_of roots.stands roots.frames roots.slots m c.args.guest.now.running (g.H.Host.bytes c.args.host.now) in
+    let new = state_of roots.stands roots.frames roots.slots m c.slice.new.self.running memory in
+    let h = subst (λ (n : ℕ). SliceAs m n old new before after (g.O.Sink.taken c.args.out.now) (g.O.Sink.taken c.slice.new.out) pages fills filled false no_notes (Ok pause)) is c.in-Ok.ensures.slice in
     let has = front_held pause image script f c.slice.new.self.running c.slice.new.pool memory c.in-Ok.ensures.held in
     let put = subst (λ (k : ℕ). Appends (g.O.Sink.taken c.slice.new.out) (g.O.Sink.taken c.put_end.new.out) (end_line k (end_of pause))) c.step.ensures
     (subst (λ (x : End). Appends (g.O.Sink.taken c.slice.new.out) (g.O.Sink.taken c.put_end.new.out) (end_line c.step.result x)) c.end_of.ensures c.in-Ok-put_end.ensures.ok) in
-    let done = whole_put image script f c.args.n old new before after _ _ _ fills filled no_notes pause _ (g.O.Sink.faults c.slice.new.out) _ memory c.requires.fits c.requires.first c.requires.unfilled c.in-Ok.ensures.few has h put c.in-Ok.ensures.later c.in-Ok-put_end.ensures.later in
+    let done = whole_put image script f c.args.n old new before after _ _ _ pages fills filled false no_notes pause _ (g.O.Sink.faults c.slice.new.out) _ memory c.requires.fits c.requires.first c.requires.none c.requires.unfilled c.in-Ok.ensures.few has h put c.in-Ok.ensures.later c.in-Ok-put_end.ensures.later in
     record {
       whole = subst (λ (k : ℕ). WedgeAnswers image script f c.args.n (g.O.Sink.taken c.args.out.now) (g.O.Sink.taken c.put_end.new.out) (g.O.Sink.faults c.args.out.now) (g.O.Sink.faults c.put_end.new.out) before after memory (Ok (record { steps = k; end = c.end_of.result; fills = c.fills.result }))) (sym c.step.ensures)
           (subst (λ (x : End). WedgeAnswers image script f c.args.n (g.O.Sink.taken c.args.out.now) (g.O.Sink.taken c.put_end.new.out) (g.O.Sink.faults c.args.out.now) (g.O.Sink.faults c.put_end.new.out) before after memory (Ok (record { steps = c.slice.new.self.running.step; end = x; fills = c.fills.result }))) (sym c.end_of.ensures)

@@ -1,23 +1,52 @@
-use Rattle.std.proofs.Common.{◌∙◌, ap}
-use Rattle.board.specs.Boards.{board_steps}
+use Rattle.std.proofs.Common.{◌≡◌, ℕ, ◌≤◌, Bool, List, ap, sym, subst, ◌∙◌, arith}
+use Rattle.frame_pool.specs.Pool.{base_of}
 use Rattle.frame_pool.proofs.Held.{Moves-trans}
-use Rattle.wedge_core.proofs.Parts.{part_join, part_left, dropped_part, left_twice}
+use Rattle.wedge_mem.specs.Settled.{pages_of}
+use Rattle.wedge_core.specs.Ready.{IsReadyBut, IsReadyBehind, leaving}
+use Rattle.wedge_core.specs.Standing.{AreOpen, wp_of}
+use Rattle.wedge_core.specs.declared.running.Running.{Running}
+use Rattle.wedge_core.proofs.Parts.{left_twice}
 use Rattle.wedge_core.proofs.Boards.{one_step}
-use Rattle.wedge_core.proofs.Filling.{fills_join, fills_part}
+use Rattle.wedge_core.proofs.Filling.{fills_join, fills_fewer}
 use Rattle.wedge_core.proofs.single.go.Goals as goal
 
+pub leave-left-requires-clause-enough : goal.leave-left-requires-clause-enough
+leave-left-requires-clause-enough g c = let e = c.requires.enough in let l = c.keep.ensures.moves.lengths in omega (arith, e, l)
+
 pub returns-clause-moves : goal.returns-clause-moves
-returns-clause-moves g c = Moves-trans _ _ _ _ _ _ _ _ _ c.keep.ensures.moves c.leave-other.ensures.moves
+returns-clause-moves g c = Moves-trans _ _ _ _ _ _ _ _ _ c.keep.ensures.moves c.leave-left.ensures.moves
 
 pub returns-clause-left : goal.returns-clause-left
-returns-clause-left g c = left_twice c.args.worked.now.dropped _ _ _ _ _ c.keep.ensures.left c.leave-other.ensures.left
+returns-clause-left g c = λ back. left_twice c.args.worked.now.dropped _ _ _ _ _ c.keep.ensures.left (c.leave-left.ensures.left back)
 
 pub returns-clause-shows : goal.returns-clause-shows
-returns-clause-shows g c = λ image is h. c.leave-other.ensures.shows image (c.keep.ensures.shows image is h)
+returns-clause-shows g c = λ image is h a.
+    let mid = c.keep.new.running in
+    let wp : wp_of mid.cpu ≡ c.args.state.now.control.wp = ap (λ (r : Running g.row.S.Denot). wp_of r.cpu) c.keep.ensures.same ∙ sym c.requires.rules in
+    c.leave-left.ensures.shows image (subst (λ (b : Bool). AreOpen image b (g.S.Shadows.slots mid.shadows c.keep.new.ram)) (sym wp) (c.keep.ensures.shows image is h))
+    (subst (λ (b : Bool). Rattle.wedge_core.specs.Ready.AllOpen image b (g.S.Shadows.asides mid.shadows c.keep.new.ram)) (sym wp) (c.keep.ensures.opens image _ a))
 
 pub returns-clause-board : goal.returns-clause-board
 returns-clause-board g c = c.advance.ensures ∙ (one_step _ ∙ ap (λ (r : _). Rattle.board.specs.Boards.board_step r.board) c.keep.ensures.same)
 
 pub returns-clause-filled : goal.returns-clause-filled
-returns-clause-filled g c =
-    fills_join _ _ _ _ _ _ c.keep.ensures.filled (fills_part _ _ _ (part_join _ _ _ (part_left _ _ _ c.leave-other.ensures.left) (dropped_part c.args.worked.now.dropped _)))
+returns-clause-filled g c = fills_join _ _ _ _ _ _ c.keep.ensures.filled (fills_fewer _ _ _ c.leave-left.ensures.fewer)
+
+pub returns-clause-ready : goal.returns-clause-ready
+returns-clause-ready g c = λ m frames is opened h.
+    let mid = c.keep.new.running in
+    let old = c.args.running.now in
+    let state = c.args.state.now in
+    let d = c.args.worked.now.dropped in
+    let pages = pages_of state.went state.changes in
+    let cpu_is = ap (λ (r : Running g.row.S.Denot). r.cpu) c.keep.ensures.same in
+    let wp : wp_of mid.cpu ≡ state.control.wp = ap wp_of cpu_is ∙ sym c.requires.rules in
+    let below = c.requires.sound.below in
+    let same = c.keep.ensures.moves.same.0 in
+    let low : m.frames ≤ base_of c.keep.new.pool = omega (arith, below, same, frames) in
+    let opened_mid = subst (λ (b : Bool). AreOpen m.image b (g.S.Shadows.slots mid.shadows c.keep.new.ram)) (sym wp) (c.keep.ensures.shows m.image is opened) in
+    let ready = c.keep.ensures.ready (leaving d pages) m old.cpu frames h in
+    let pages_are : pages ≡ _ = sym c.pages_of-pages.ensures.all ∙ sym c.as_slice.ensures in
+    let ready_mid = subst (λ (l : List ℕ). IsReadyBut g.S.Shadows.slots g.S.Shadows.noted g.S.Shadows.marked g.S.Shadows.value g.S.Shadows.asides (leaving d l) m mid.cpu mid.shadows c.keep.new.ram) pages_are
+    (subst (λ (x : Rattle.descriptors.specs.declared.cpu.Cpu.Cpu). IsReadyBut g.S.Shadows.slots g.S.Shadows.noted g.S.Shadows.marked g.S.Shadows.value g.S.Shadows.asides (leaving d pages) m x mid.shadows c.keep.new.ram) (sym cpu_is) ready) in
+    c.leave-left.ensures.ready m low opened_mid ready_mid

@@ -1,20 +1,25 @@
-use Rattle.std.proofs.Common.{◌≡◌, ℕ, false, ◌*◌, ◌≤◌, List, [], length, drop, refl, sym, subst, ◌∙◌, arith, ap}
+use Rattle.std.proofs.Common.{◌≡◌, ℕ, true, false, ◌*◌, ◌==◌, ◌≤◌, List, [], length, drop, refl, sym, subst, ◌∙◌, arith, ap}
 use Rattle.frame_pool.specs.Held.{Owns}
 use Rattle.frame_pool.specs.Pool.{base_of}
-use Rattle.shadow_tables.specs.Entries.{entries_of}
 use Rattle.host_cpl3.specs.Hosts.{standing}
 use Rattle.machine_model.specs.State.{wedge}
 use Rattle.wedge_core.specs.Attempts.{Asks, Idle}
 use Rattle.wedge_core.specs.Pools.{Keeps}
 use Rattle.wedge_core.specs.Ran.{Ran}
 use Rattle.wedge_core.specs.Slices.{Counts}
-use Rattle.wedge_core.specs.Standing.{IsHeld, ground, state_of}
+use Rattle.wedge_core.specs.Standing.{IsHeld, ground, side_of, state_of}
 use Rattle.wedge_core.specs.Stepping.{StepAs}
 use Rattle.wedge_core.specs.Views.{view_by}
 use Rattle.wedge_core.specs.declared.running.Running.{Running}
-use Rattle.wedge_core.specs.Filled.{FillsOn}
+use Rattle.descriptors.specs.declared.cpu.Cpu.{Cpu}
+use Rattle.shadow_tables.specs.Aside.{AreSame}
+use Rattle.shadow_tables.specs.Slots.{is_among}
+use Rattle.wedge_core.specs.Filled.{FillsOn, pages_kept}
+use Rattle.wedge_core.specs.Ready.{IsReady}
+use Rattle.wedge_core.proofs.Stays.{kept_same}
+use Rattle.wedge_core.proofs.Untouched.{Tracks, unlent, ready_on}
 use Rattle.wedge_core.proofs.Going.{counted, counts_same}
-use Rattle.wedge_core.proofs.OnceRan.{SameKept, IsOnce, once_goes_on, once_counts, once_stands, once_able, once_held, once_keeps, once_fills, alone_able, idle_able, idle_goes}
+use Rattle.wedge_core.proofs.OnceRan.{SameKept, IsOnce, cpu_is, behind_is, size_is, kept as once_kept, shadows_are, once_goes_on, once_counts, once_stands, once_able, once_held, once_keeps, once_fills, once_untouched, once_rules, once_back, alone_able, idle_able, idle_goes}
 use Rattle.wedge_core.proofs.Losing.{held_lost}
 use Rattle.wedge_core.proofs.slice.one_step.Given.{Over}
 use Rattle.wedge_core.proofs.slice.one_step.Goals as goal
@@ -35,7 +40,7 @@ pub returns-then-not-may_run-clause-able : goal.returns-then-not-may_run-clause-
 returns-then-not-may_run-clause-able g c =
     let m = ground c.args.image.now c.args.running.now.frames in
     let at = λ (r : Running g.row.S.Denot) (memory : List ℕ). state_of g.S.Shadows.stands g.S.Shadows.frames g.S.Shadows.slots m r memory in
-    alone_able c.steps_keep_able.ensures m (at c.args.running.now (g.H.Host.bytes c.args.host.now)) c.by_rules.new.running.lost.after c.by_rules.result (at c.by_rules.new.running (g.H.Host.bytes c.by_rules.new.host)) refl c.requires.able (c.by_rules.ensures.step [])
+    alone_able c.steps_keep_able.ensures m (at c.args.running.now (g.H.Host.bytes c.args.host.now)) c.by_rules.new.running.lost c.by_rules.result (at c.by_rules.new.running (g.H.Host.bytes c.by_rules.new.host)) refl c.requires.able (c.by_rules.ensures.step [])
 
 -- the memory that was lent, at both ends
 module _ (g : Over) (c : goal.In-Went g) where
@@ -46,7 +51,7 @@ module _ (g : Over) (c : goal.In-Went g) where
   new_memory = sym (g.met.H.Host.bytes_changed c.args.host.now c.begin_native.new.ram)
 
   went : (script : _) → Idle (wedge c.args.image.now script c.args.running.now.frames)
-      (state_of g.S.Shadows.stands g.S.Shadows.frames g.S.Shadows.slots (wedge c.args.image.now script c.args.running.now.frames) c.args.running.now c.ram_mut.result.now) c.begin_native.new.running.lost.before c.begin_native.new.running.lost.after c.in-Went.seen
+      (state_of g.S.Shadows.stands g.S.Shadows.frames g.S.Shadows.slots (wedge c.args.image.now script c.args.running.now.frames) c.args.running.now c.ram_mut.result.now) c.begin_native.new.running.lost.before c.begin_native.new.running.lost c.in-Went.seen
       (state_of g.S.Shadows.stands g.S.Shadows.frames g.S.Shadows.slots (wedge c.args.image.now script c.args.running.now.frames) c.begin_native.new.running c.begin_native.new.ram)
   went script = rw c.in-Went.is at (c.in_ok-seen.ensures.step script)
 
@@ -59,8 +64,8 @@ returns-in-Went-clause-step g c = λ script.
     let after = counted (g.H.Host.retired host) (g.H.Host.passed host) in
     let same = counts_same (g.H.Host.retired c.args.host.now) (g.H.Host.retired host) (g.H.Host.passed c.args.host.now) (g.H.Host.passed host) (g.met.H.Host.retired_stays c.args.host.now c.begin_native.new.ram) (g.met.H.Host.passed_stays c.args.host.now c.begin_native.new.ram) in
     let lost = c.begin_native.new.running.lost in
-    let i = subst (λ (l : List ℕ). Idle m (at c.args.running.now (g.H.Host.bytes c.args.host.now)) lost.before lost.after c.in-Went.seen (at c.begin_native.new.running l)) (new_memory g c)
-    (subst (λ (l : List ℕ). Idle m (at c.args.running.now l) lost.before lost.after c.in-Went.seen (at c.begin_native.new.running c.begin_native.new.ram)) (old_memory g c) (went g c script)) in
+    let i = subst (λ (l : List ℕ). Idle m (at c.args.running.now (g.H.Host.bytes c.args.host.now)) lost.before lost c.in-Went.seen (at c.begin_native.new.running l)) (new_memory g c)
+    (subst (λ (l : List ℕ). Idle m (at c.args.running.now l) lost.before lost c.in-Went.seen (at c.begin_native.new.running c.begin_native.new.ram)) (old_memory g c) (went g c script)) in
     idle_goes m _ lost c.in-Went.seen _ before after (sym same) i
 
 pub returns-in-Went-clause-held : goal.returns-in-Went-clause-held
@@ -127,7 +132,7 @@ module _ (g : Over) (c : goal.After-run_on-one g) where
       let n = c.args.running.now.frames in
       let at = λ (script : _) (r : Running g.row.S.Denot) (memory : List ℕ). state_of g.S.Shadows.stands g.S.Shadows.frames g.S.Shadows.slots (wedge c.args.image.now script n) r memory in
       record {
-        asks = λ script. subst (λ (l : List ℕ). Asks (wedge c.args.image.now script n) (view_by (g.S.Shadows.directory c.begin_native.new.running.shadows) c.args.running.now.cpu) (at script c.args.running.now l) c.begin_native.new.running.lost.before c.begin_native.new.running.lost.after (at script c.begin_native.new.running c.begin_native.new.ram) c.begin_native.new.ram) lent
+        asks = λ script. subst (λ (l : List ℕ). Asks (wedge c.args.image.now script n) (view_by (g.S.Shadows.directory c.begin_native.new.running.shadows) c.args.running.now.cpu) (at script c.args.running.now l) c.begin_native.new.running.lost.before c.begin_native.new.running.lost (at script c.begin_native.new.running c.begin_native.new.ram) c.begin_native.new.ram) lent
             (rw c.in-Asked.is at (c.in_ok-seen.ensures.step script));
         ran = ran;
         same = rw c.in-Asked.is at c.in_ok-seen.ensures.asked;
@@ -156,22 +161,6 @@ returns-in-Asked-clause-pool g c =
     let m1 = c.begin_native.new.ram in
     once_keeps g.S.Shadows.stands g.S.Shadows.frames g.S.Shadows.slots g.S.Shadows.directory _ _ _ _ _ _ _ _ _ _ _ (once g c) c.args.pool.now
     (subst (λ (l : List ℕ). Keeps c.args.pool.now c.begin_native.new.pool l m1 (gs l) (g.S.Shadows.frames c.begin_native.new.running.shadows m1)) (lent g c) c.in_ok-seen.ensures.pool)
-
-pub returns-in-Went-clause-filled : goal.returns-in-Went-clause-filled
-returns-in-Went-clause-filled g c =
-    let old = λ (l : List ℕ). entries_of (g.S.Shadows.slots c.args.running.now.shadows l) in
-    let new = λ (l : List ℕ). entries_of (g.S.Shadows.slots c.begin_native.new.running.shadows l) in
-    let fills = c.args.running.now.fills in
-    let m1 = c.begin_native.new.ram in
-    subst (λ (l : List ℕ). FillsOn (old (g.H.Host.bytes c.args.host.now)) (new l) fills c.begin_native.new.running.fills) (new_memory g c)
-    (subst (λ (l : List ℕ). FillsOn (old l) (new m1) fills c.begin_native.new.running.fills) (old_memory g c) c.in_ok-seen.ensures.filled)
-
-pub returns-in-Asked-clause-filled : goal.returns-in-Asked-clause-filled
-returns-in-Asked-clause-filled g c =
-    let old = λ (l : List ℕ). entries_of (g.S.Shadows.slots c.args.running.now.shadows l) in
-    let m1 = c.begin_native.new.ram in
-    once_fills g.S.Shadows.stands g.S.Shadows.frames g.S.Shadows.slots g.S.Shadows.directory _ _ _ _ _ _ _ _ _ _ _ (once g c)
-    (subst (λ (l : List ℕ). FillsOn (old l) (entries_of (g.S.Shadows.slots c.begin_native.new.running.shadows m1)) c.args.running.now.fills c.begin_native.new.running.fills) (lent g c) c.in_ok-seen.ensures.filled)
 
 pub returns-in-Went-clause-started : goal.returns-in-Went-clause-started
 returns-in-Went-clause-started g c = g.met.H.Host.started_so c.args.host.now c.begin_native.new.ram
@@ -217,5 +206,85 @@ by_rules-requires-clause-held g c =
 
 pub begin_native-requires-clause-held : goal.begin_native-requires-clause-held
 begin_native-requires-clause-held g c =
-    subst (λ (l : List ℕ). IsHeld g.S.Shadows.stands g.S.Shadows.frames g.S.Shadows.slots (ground c.args.image.now c.args.running.now.frames) (record c.args.running.now { lost = record { before = false; after = false } }) c.args.pool.now l) (sym c.ram_mut.ensures.ram)
+    subst (λ (l : List ℕ). IsHeld g.S.Shadows.stands g.S.Shadows.frames g.S.Shadows.slots (ground c.args.image.now c.args.running.now.frames) (record c.args.running.now { lost = record { before = false; after = false; back = false } }) c.args.pool.now l) (sym c.ram_mut.ensures.ram)
     (held_lost g.S.Shadows.stands g.S.Shadows.frames g.S.Shadows.slots (ground c.args.image.now c.args.running.now.frames) c.args.running.now c.args.pool.now (g.H.Host.bytes c.args.host.now) _ c.requires.held)
+
+pub by_rules-requires-clause-ready : goal.by_rules-requires-clause-ready
+by_rules-requires-clause-ready g c = c.requires.ready
+
+pub begin_native-requires-clause-ready : goal.begin_native-requires-clause-ready
+begin_native-requires-clause-ready g c =
+    let r = c.args.running.now in
+    subst (λ (l : List ℕ). IsReady g.S.Shadows.slots g.S.Shadows.noted g.S.Shadows.marked g.S.Shadows.value g.S.Shadows.asides (ground c.args.image.now r.frames) r.cpu r.shadows l) (sym c.ram_mut.ensures.ram) c.requires.ready
+
+pub returns-in-Went-clause-ready : goal.returns-in-Went-clause-ready
+returns-in-Went-clause-ready g c =
+    let r = c.begin_native.new.running in
+    subst (λ (l : List ℕ). IsReady g.S.Shadows.slots g.S.Shadows.noted g.S.Shadows.marked g.S.Shadows.value g.S.Shadows.asides (ground c.args.image.now c.args.running.now.frames) r.cpu r.shadows l) (new_memory g c) c.in_ok-seen.ensures.ready
+
+pub returns-in-Went-clause-filled : goal.returns-in-Went-clause-filled
+returns-in-Went-clause-filled g c =
+    let old = λ (l : List ℕ). pages_kept g.S.Shadows.slots g.S.Shadows.asides c.args.running.now.shadows l in
+    let new = λ (l : List ℕ). pages_kept g.S.Shadows.slots g.S.Shadows.asides c.begin_native.new.running.shadows l in
+    let fills = c.args.running.now.fills in
+    let m1 = c.begin_native.new.ram in
+    subst (λ (l : List ℕ). FillsOn (old (g.H.Host.bytes c.args.host.now)) (new l) fills c.begin_native.new.running.fills) (new_memory g c)
+    (subst (λ (l : List ℕ). FillsOn (old l) (new m1) fills c.begin_native.new.running.fills) (old_memory g c) c.in_ok-seen.ensures.filled)
+
+-- what is kept is behind the guest's frames, where the host wrote nothing
+module _ (g : Over) (c : goal.After-run_on-one g) where
+  abbrev r1 : Running g.row.S.Denot
+  r1 = c.begin_native.new.running
+
+  abbrev m1 : List ℕ
+  m1 = c.begin_native.new.ram
+
+  abbrev m2 : List ℕ
+  m2 = g.H.Host.bytes c.run_on-one.new.host
+
+  abbrev n : ℕ
+  n = c.args.running.now.frames
+
+  kept : SameKept g.S.Shadows.stands g.S.Shadows.frames g.S.Shadows.slots r1.shadows c.begin_native.new.pool m1 m2
+  kept = once_kept g.S.Shadows.stands g.S.Shadows.frames g.S.Shadows.slots g.S.Shadows.directory _ _ _ _ _ _ _ _ _ _ _ (once g c)
+
+  asides_same : AreSame (g.S.Shadows.asides r1.shadows m1) (g.S.Shadows.asides r1.shadows m2)
+  asides_same =
+      let held = c.in_ok-seen.ensures.held in
+      let low = held.behind in
+      let under : 4096 * n ≤ 4096 * base_of c.begin_native.new.pool = omega (arith, low) in
+      g.met.S.Shadows.same_asides r1.shadows m1 m2 held.stand (g.met.S.Shadows.above r1.shadows c.begin_native.new.pool m1 m2 (4096 * n) held.owns under
+      (behind_is g.S.Shadows.stands g.S.Shadows.frames g.S.Shadows.slots g.S.Shadows.directory _ _ _ _ _ _ _ _ _ _ _ (once g c)) (size_is g.S.Shadows.stands g.S.Shadows.frames g.S.Shadows.slots g.S.Shadows.directory _ _ _ _ _ _ _ _ _ _ _ (once g c)))
+
+pub returns-in-Asked-clause-filled : goal.returns-in-Asked-clause-filled
+returns-in-Asked-clause-filled g c =
+    let pages = λ (s : g.row.S.Denot) (l : List ℕ). pages_kept g.S.Shadows.slots g.S.Shadows.asides s l in
+    once_fills g.S.Shadows.stands g.S.Shadows.frames g.S.Shadows.slots g.S.Shadows.directory _ _ _ _ _ _ _ _ _ _ _ (once g c) pages (pages c.args.running.now.shadows (g.H.Host.bytes c.args.host.now))
+    (kept_same g.S.Shadows.slots g.S.Shadows.asides (r1 g c).shadows (m1 g c) (m2 g c) (kept g c).entries_are (asides_same g c))
+    (subst (λ (l : List ℕ). FillsOn (pages c.args.running.now.shadows l) (pages (r1 g c).shadows (m1 g c)) c.args.running.now.fills (r1 g c).fills) (lent g c) c.in_ok-seen.ensures.filled)
+
+pub returns-in-Asked-clause-ready : goal.returns-in-Asked-clause-ready
+returns-in-Asked-clause-ready g c =
+    let met = g.met.S.Shadows in
+    let r2 = c.run_on-one.new.running in
+    let held = c.in_ok-seen.ensures.held in
+    let held2 = once_held g.S.Shadows.stands g.S.Shadows.frames g.S.Shadows.slots g.S.Shadows.directory _ _ _ _ _ _ _ _ _ _ _ (once g c) in
+    let tracks : Tracks g.S.Shadows.stands g.S.Shadows.slots g.S.Shadows.noted g.S.Shadows.marked g.S.Shadows.value g.S.Shadows.asides g.S.Shadows.tracked g.S.Shadows.directory = record {
+      host = met.host;
+      barred = met.barred;
+      noted_tracked = met.noted_tracked;
+      asides_tracked = met.asides_tracked;
+    } in
+    let rules = once_rules g.S.Shadows.stands g.S.Shadows.frames g.S.Shadows.slots g.S.Shadows.directory _ _ _ _ _ _ _ _ _ _ _ (once g c) in
+    let same : (r1 g c).cpu ≡ c.args.running.now.cpu = cpu_is g.S.Shadows.stands g.S.Shadows.frames g.S.Shadows.slots g.S.Shadows.directory _ _ _ _ _ _ _ _ _ _ _ (once g c) in
+    let untouched = λ (at : ℕ) (t : is_among at (g.S.Shadows.tracked (r1 g c).shadows) ≡ true).
+    once_untouched g.S.Shadows.stands g.S.Shadows.frames g.S.Shadows.slots g.S.Shadows.directory _ _ _ _ _ _ _ _ _ _ _ (once g c) at
+    (unlent g.S.Shadows.stands g.S.Shadows.slots g.S.Shadows.noted g.S.Shadows.marked g.S.Shadows.value g.S.Shadows.asides g.S.Shadows.tracked g.S.Shadows.directory tracks (r1 g c).shadows (m1 g c) (side_of ((r1 g c).cpu.cpl == 3)) at held.stand held.whole t) in
+    let ready1 = subst (λ (x : Cpu). IsReady g.S.Shadows.slots g.S.Shadows.noted g.S.Shadows.marked g.S.Shadows.value g.S.Shadows.asides (ground c.args.image.now (n g c)) x (r1 g c).shadows (m1 g c)) same c.in_ok-seen.ensures.ready in
+    subst (λ (x : g.row.S.Denot). IsReady g.S.Shadows.slots g.S.Shadows.noted g.S.Shadows.marked g.S.Shadows.value g.S.Shadows.asides (ground c.args.image.now (n g c)) r2.cpu x (m2 g c))
+    (sym (shadows_are g.S.Shadows.stands g.S.Shadows.frames g.S.Shadows.slots g.S.Shadows.directory _ _ _ _ _ _ _ _ _ _ _ (once g c)))
+    (ready_on g.S.Shadows.stands g.S.Shadows.slots g.S.Shadows.noted g.S.Shadows.marked g.S.Shadows.value g.S.Shadows.asides g.S.Shadows.tracked g.S.Shadows.directory tracks (ground c.args.image.now (n g c)) held.wedge c.args.running.now.cpu r2.cpu (r1 g c).shadows (m1 g c) (m2 g c)
+    held.host held2.host rules.0 rules.1 rules.2 untouched (kept g c).slots_are (asides_same g c) ready1)
+
+pub returns-in-Asked-clause-wanted : goal.returns-in-Asked-clause-wanted
+returns-in-Asked-clause-wanted g c = λ w. once_back g.S.Shadows.stands g.S.Shadows.frames g.S.Shadows.slots g.S.Shadows.directory _ _ _ _ _ _ _ _ _ _ _ (once g c) (c.in_ok-seen.ensures.wanted w)

@@ -1,4 +1,8 @@
-use Rattle.std.proofs.Common.{◌≡◌, ℕ, ◌+◌, ◌≤◌, Bool, List, Ok, Err, refl, sym, ap, subst, ◌∙◌, arith}
+use Rattle.std.proofs.Common.{◌≡◌, ℕ, ◌+◌, ◌≤◌, Bool, true, List, Ok, Err, refl, sym, ap, subst, ◌∙◌, arith}
+use Rattle.std.specs.FinMap.{len}
+use Rattle.descriptors.specs.declared.cpu.Cpu.{Cpu}
+use Rattle.image_check.specs.Image.{Image}
+use Rattle.shadow_tables.specs.Entries.{entries_of}
 use Rattle.pv_io.specs.Sink.{Appends, AppendsFront}
 use Rattle.board.specs.Boards.{given}
 use Rattle.image_load.specs.declared.fault.Pause.TheVariants.{Stopped}
@@ -11,27 +15,31 @@ use Rattle.wedge_core.specs.declared.running.Running.{Running}
 use Rattle.wedge_core.specs.Noted.{NotesOn, emptied_if, notes_then}
 use Rattle.wedge_core.specs.Pools.{Keeps}
 use Rattle.wedge_core.specs.Slices.{Counts, SliceAs}
-use Rattle.wedge_core.specs.Standing.{IsHeld, IsAble, ground, set_of, state_of}
+use Rattle.wedge_core.specs.Ready.{IsReady}
+use Rattle.wedge_core.specs.Standing.{IsHeld, IsAble, ground, state_of}
 use Rattle.wedge_core.specs.Stepping.{Passes, StepAs}
 use Rattle.wedge_core.proofs.Going.{going_none, going_past, going_on, stepped_put, reached, stopped, failed, counted, counts_same, turned, notes_on_more, notes_on_none}
-use Rattle.wedge_core.specs.Filled.{FillsOn}
-use Rattle.wedge_core.proofs.Filling.{fills_same, fills_join}
+use Rattle.wedge_core.specs.Filled.{FillsOn, pages_kept}
+use Rattle.wedge_core.proofs.Filling.{fills_same, fills_join, fills_within}
 use Rattle.wedge_core.proofs.Keeping.{keeps_same, keeps_join, held_later, held_given, held_at, enough_then}
+use Rattle.wedge_core.proofs.slice.steps_to.Given.{Over}
 use Rattle.wedge_core.proofs.slice.steps_to.Goals as goal
 
 pub loop-running-init : goal.loop-running-init
 loop-running-init g c =
     let m = wedge c.args.image.now c.args.script.now.list c.args.running.now.frames in
     record {
-      going = going_none m (state_of g.S.Shadows.stands g.S.Shadows.frames g.S.Shadows.slots m c.args.running.now (g.H.Host.bytes c.args.host.now)) (counted (g.H.Host.retired c.args.host.now) (g.H.Host.passed c.args.host.now)) (g.O.Sink.taken c.args.out.now) c.args.running.now.fills
-          (NotesOn (g.L.Notes.wants c.args.notes.now) (g.L.Notes.tells c.args.notes.now) (g.L.Notes.tells c.args.notes.now)) (notes_on_none (g.L.Notes.wants c.args.notes.now) (g.L.Notes.tells c.args.notes.now));
+      going = going_none m (state_of g.S.Shadows.stands g.S.Shadows.frames g.S.Shadows.slots m c.args.running.now (g.H.Host.bytes c.args.host.now)) (counted (g.H.Host.retired c.args.host.now) (g.H.Host.passed c.args.host.now)) (g.O.Sink.taken c.args.out.now) (pages_kept g.S.Shadows.slots g.S.Shadows.asides c.args.running.now.shadows (g.H.Host.bytes c.args.host.now)) c.args.running.now.fills (g.L.Notes.wants c.args.notes.now)
+          (NotesOn (g.L.Notes.wants c.args.notes.now) (g.L.Notes.tells c.args.notes.now) (g.L.Notes.tells c.args.notes.now)) (notes_on_none (g.L.Notes.wants c.args.notes.now) (g.L.Notes.tells c.args.notes.now)) (omega arith);
       held = c.requires.held;
+      ready = c.requires.ready;
       able = c.requires.able;
       pool = keeps_same c.args.pool.now (g.H.Host.bytes c.args.host.now) (g.S.Shadows.frames c.args.running.now.shadows (g.H.Host.bytes c.args.host.now));
-      filled = fills_same (set_of g.S.Shadows.stands g.S.Shadows.frames g.S.Shadows.slots c.args.running.now (g.H.Host.bytes c.args.host.now)) (set_of g.S.Shadows.stands g.S.Shadows.frames g.S.Shadows.slots c.args.running.now (g.H.Host.bytes c.args.host.now)) c.args.running.now.fills refl;
+      filled = fills_same _ _ c.args.running.now.fills refl;
       started = c.requires.started;
       frames = refl;
       wants = refl;
+      wanted = c.wanted-wanted.ensures;
       silent = λ w. refl;
       later = omega arith;
       bound = c.requires.begun;
@@ -40,6 +48,14 @@ loop-running-init g c =
 
 pub stretch-requires-clause-held : goal.stretch-requires-clause-held
 stretch-requires-clause-held g c = (c.loop-running.pool, held_given g.S.Shadows.stands g.S.Shadows.frames g.S.Shadows.slots c.args.image.now c.args.running.now.frames c.loop-running.running.frames c.loop-running.running c.begin.new.self c.loop-running.pool (g.H.Host.bytes c.loop-running.host) c.loop-running.invariant.frames c.loop-running.invariant.held)
+
+-- the pages of what is kept present are some of all
+module _ (g : Over) where
+  few : (r : Running g.row.S.Denot) (memory : List ℕ) (pages before after : ℕ) → FillsOn pages (pages_kept g.S.Shadows.slots g.S.Shadows.asides r.shadows memory) before after → FillsOn pages (len (entries_of (g.S.Shadows.slots r.shadows memory))) before after
+  few r memory pages before after f = fills_within pages (len (entries_of (g.S.Shadows.slots r.shadows memory))) (pages_kept g.S.Shadows.slots g.S.Shadows.asides r.shadows memory) before after (omega arith) f
+
+  ready_at : (image : Image) (f n : ℕ) (cpu : Cpu) (s : g.row.S.Denot) (memory : List ℕ) → f ≡ n → IsReady g.S.Shadows.slots g.S.Shadows.noted g.S.Shadows.marked g.S.Shadows.value g.S.Shadows.asides (ground image f) cpu s memory → IsReady g.S.Shadows.slots g.S.Shadows.noted g.S.Shadows.marked g.S.Shadows.value g.S.Shadows.asides (ground image n) cpu s memory
+  ready_at image f n cpu s memory is h = subst (λ (k : ℕ). IsReady g.S.Shadows.slots g.S.Shadows.noted g.S.Shadows.marked g.S.Shadows.value g.S.Shadows.asides (ground image k) cpu s memory) is h
 
 pub loop-running-preserved-then-stretch-gt0 : goal.loop-running-preserved-then-stretch-gt0
 loop-running-preserved-then-stretch-gt0 g c =
@@ -61,8 +77,10 @@ loop-running-preserved-then-stretch-gt0 g c =
     (c.stretch.ensures.passes c.if-stretch-gt0.true r.board (sym c.begin.ensures)) in
     let on = NotesOn (g.L.Notes.wants c.args.notes.now) (g.L.Notes.tells c.args.notes.now) (g.L.Notes.tells c.loop-running.notes) in
     record {
-      going = going_past m old (at f r memory) (at f mid then_memory) counts so_far mid_counts told tells c.args.running.now.fills r.fills mid.fills on inv.going c.stretch.ensures.filled passes;
+      going = going_past m old (at f r memory) (at f mid then_memory) counts so_far mid_counts told tells (pages_kept g.S.Shadows.slots g.S.Shadows.asides c.args.running.now.shadows (g.H.Host.bytes c.args.host.now)) c.args.running.now.fills r.fills mid.fills (g.L.Notes.wants c.args.notes.now) on inv.going c.stretch.ensures.filled.rises
+          (few g mid then_memory _ _ _ (fills_join _ _ _ _ _ _ inv.filled c.stretch.ensures.filled)) passes;
       held = held_at g.S.Shadows.stands g.S.Shadows.frames g.S.Shadows.slots c.args.image.now r.frames f mid c.loop-running.pool then_memory inv.frames (c.stretch.ensures.held c.loop-running.pool (held_given g.S.Shadows.stands g.S.Shadows.frames g.S.Shadows.slots c.args.image.now c.args.running.now.frames c.loop-running.running.frames c.loop-running.running c.begin.new.self c.loop-running.pool (g.H.Host.bytes c.loop-running.host) c.loop-running.invariant.frames c.loop-running.invariant.held));
+      ready = ready_at g c.args.image.now r.frames f mid.cpu mid.shadows then_memory inv.frames (c.stretch.ensures.ready (ready_at g c.args.image.now f r.frames r.cpu r.shadows memory (sym inv.frames) inv.ready));
       able = c.stretch.ensures.able;
       pool = keeps_join c.args.pool.now c.loop-running.pool c.loop-running.pool (g.H.Host.bytes c.args.host.now) (g.H.Host.bytes c.loop-running.host) (g.H.Host.bytes c.stretch.new.host)
           (g.S.Shadows.frames c.args.running.now.shadows (g.H.Host.bytes c.args.host.now)) (g.S.Shadows.frames c.loop-running.running.shadows (g.H.Host.bytes c.loop-running.host)) (g.S.Shadows.frames c.stretch.new.running.shadows (g.H.Host.bytes c.stretch.new.host))
@@ -71,6 +89,7 @@ loop-running-preserved-then-stretch-gt0 g c =
       started = c.stretch.ensures.started;
       frames = c.stretch.ensures.frames ∙ inv.frames;
       wants = inv.wants;
+      wanted = inv.wanted;
       silent = inv.silent;
       later = inv.later;
       bound = c.stretch.ensures.most;
@@ -81,6 +100,15 @@ pub one_step-requires-clause-held : goal.one_step-requires-clause-held
 one_step-requires-clause-held g c =
     held_at g.S.Shadows.stands g.S.Shadows.frames g.S.Shadows.slots c.args.image.now c.loop-running.running.frames c.stretch.new.running.frames c.stretch.new.running c.loop-running.pool (g.H.Host.bytes c.stretch.new.host) (sym c.stretch.ensures.frames)
     (c.stretch.ensures.held c.loop-running.pool (held_given g.S.Shadows.stands g.S.Shadows.frames g.S.Shadows.slots c.args.image.now c.args.running.now.frames c.loop-running.running.frames c.loop-running.running c.begin.new.self c.loop-running.pool (g.H.Host.bytes c.loop-running.host) c.loop-running.invariant.frames c.loop-running.invariant.held))
+
+pub one_step-requires-clause-ready : goal.one_step-requires-clause-ready
+one_step-requires-clause-ready g c =
+    let f = c.args.running.now.frames in
+    let r = c.loop-running.running in
+    let mid = c.stretch.new.running in
+    let inv = c.loop-running.invariant in
+    ready_at g c.args.image.now r.frames mid.frames mid.cpu mid.shadows (g.H.Host.bytes c.stretch.new.host) (sym c.stretch.ensures.frames)
+    (c.stretch.ensures.ready (ready_at g c.args.image.now f r.frames r.cpu r.shadows (g.H.Host.bytes c.loop-running.host) (sym inv.frames) inv.ready))
 
 pub one_step-requires-clause-enough : goal.one_step-requires-clause-enough
 one_step-requires-clause-enough g c =
@@ -128,9 +156,9 @@ returns-in-Err-clause-slice g c =
     let told_now = subst (λ (k : ℕ). NotesOn wanted before after (emptied_if new.lost.before k)) step_same
     (subst (λ (w : Bool). NotesOn w before after (emptied_if new.lost.before mid.step)) inv.wants c.tell.ensures.told) in
     let rises : r.fills ≤ new.fills = (let e0 = c.stretch.ensures.filled in let e1 = c.in-Err.ensures.filled in let r0 = e0.rises in let r1 = e1.rises in omega (arith, r0, r1)) in
-    let ends = stopped m c.args.bound old (at f r memory) (at f new new_memory) new.lost c.in-Err.stop counts so_far told tells c.args.running.now.fills r.fills new.fills (NotesOn wanted first before) (NotesOn wanted first after)
+    let ends = stopped m c.args.bound old (at f r memory) (at f new new_memory) new.lost c.in-Err.stop counts so_far told tells (pages_kept g.S.Shadows.slots g.S.Shadows.asides c.args.running.now.shadows (g.H.Host.bytes c.args.host.now)) c.args.running.now.fills r.fills new.fills wanted (NotesOn wanted first before) (NotesOn wanted first after)
     inv.going step c.loop-running-test.true still rises (notes_on_more wanted first before after (emptied_if new.lost.before r.step) told_now) in
-    subst (λ (x : Counts). SliceAs m c.args.bound old (at f new new_memory) counts x told tells c.args.running.now.fills new.fills (NotesOn wanted first after) (Ok (Stopped c.in-Err.stop))) (sym unmoved) ends
+    subst (λ (x : Counts). SliceAs m c.args.bound old (at f new new_memory) counts x told tells (pages_kept g.S.Shadows.slots g.S.Shadows.asides c.args.running.now.shadows (g.H.Host.bytes c.args.host.now)) c.args.running.now.fills new.fills wanted (NotesOn wanted first after) (Ok (Stopped c.in-Err.stop))) (sym unmoved) ends
 
 pub returns-in-Err-clause-wants : goal.returns-in-Err-clause-wants
 returns-in-Err-clause-wants g c = c.tell.ensures.wants ∙ c.loop-running.invariant.wants
@@ -190,10 +218,12 @@ returns-in-Err-put_step-clause-slice g c =
     let after = g.L.Notes.tells c.tell_both.new.notes in
     let told_now = subst (λ (k : ℕ). NotesOn wanted before after (notes_then new.lost k)) step_same
     (subst (λ (w : Bool). NotesOn w before after (notes_then new.lost mid.step)) inv.wants c.tell_both.ensures.told) in
-    let more = fills_join (at f r memory).set (at f mid then_memory).set (at f new new_memory).set r.fills mid.fills new.fills c.stretch.ensures.filled c.in-Ok.ensures.filled in
-    let s = going_on m old (at f r memory) (at f new new_memory) new.lost c.in-Ok.seen counts so_far new_counts told tells c.args.running.now.fills r.fills new.fills (NotesOn wanted first before) (NotesOn wanted first after)
-    inv.going step count more (notes_on_more wanted first before after (notes_then new.lost r.step) told_now) in
-    failed m c.args.bound old (at f r memory) (at f new new_memory) c.in-Ok.seen c.in-Err-put_step.failed counts new_counts told tells last c.args.running.now.fills new.fills (NotesOn wanted first after) s put
+    let rises : r.fills ≤ new.fills = (let e0 = c.stretch.ensures.filled in let e1 = c.in-Ok.ensures.filled in let r0 = e0.rises in let r1 = e1.rises in omega (arith, r0, r1)) in
+    let more = few g new new_memory _ _ _ (fills_join _ _ _ _ _ _ (fills_join _ _ _ _ _ _ inv.filled c.stretch.ensures.filled) c.in-Ok.ensures.filled) in
+    let exact = λ (w : wanted ≡ true). c.in-Ok.ensures.wanted (inv.wanted ∙ w) in
+    let s = going_on m old (at f r memory) (at f new new_memory) new.lost c.in-Ok.seen counts so_far new_counts told tells (pages_kept g.S.Shadows.slots g.S.Shadows.asides c.args.running.now.shadows (g.H.Host.bytes c.args.host.now)) c.args.running.now.fills r.fills new.fills wanted (NotesOn wanted first before) (NotesOn wanted first after)
+    inv.going step count rises more exact (notes_on_more wanted first before after (notes_then new.lost r.step) told_now) in
+    failed m c.args.bound old (at f r memory) (at f new new_memory) c.in-Ok.seen c.in-Err-put_step.failed counts new_counts told tells last (pages_kept g.S.Shadows.slots g.S.Shadows.asides c.args.running.now.shadows (g.H.Host.bytes c.args.host.now)) c.args.running.now.fills new.fills wanted (NotesOn wanted first after) s put
     (let t = c.loop-running-test.true in omega (arith, count, t))
 
 pub loop-running-preserved : goal.loop-running-preserved
@@ -232,10 +262,12 @@ loop-running-preserved g c =
     let after = g.L.Notes.tells c.tell_both.new.notes in
     let told_now = subst (λ (k : ℕ). NotesOn wanted before after (notes_then new.lost k)) step_same
     (subst (λ (w : Bool). NotesOn w before after (notes_then new.lost mid.step)) inv.wants c.tell_both.ensures.told) in
-    let more = fills_join (at f r memory).set (at f mid then_memory).set (at f new new_memory).set r.fills mid.fills new.fills c.stretch.ensures.filled c.in-Ok.ensures.filled in
-    let s = going_on m old (at f r memory) (at f new new_memory) new.lost c.in-Ok.seen counts so_far new_counts told tells c.args.running.now.fills r.fills new.fills (NotesOn wanted first before) (NotesOn wanted first after)
-    inv.going step count more (notes_on_more wanted first before after (notes_then new.lost r.step) told_now) in
-    let stepped = stepped_put m old (at f r memory) (at f new new_memory) c.in-Ok.seen counts new_counts told tells last c.args.running.now.fills new.fills (NotesOn wanted first after) s put in
+    let rises : r.fills ≤ new.fills = (let e0 = c.stretch.ensures.filled in let e1 = c.in-Ok.ensures.filled in let r0 = e0.rises in let r1 = e1.rises in omega (arith, r0, r1)) in
+    let more = few g new new_memory _ _ _ (fills_join _ _ _ _ _ _ (fills_join _ _ _ _ _ _ inv.filled c.stretch.ensures.filled) c.in-Ok.ensures.filled) in
+    let exact = λ (w : wanted ≡ true). c.in-Ok.ensures.wanted (inv.wanted ∙ w) in
+    let s = going_on m old (at f r memory) (at f new new_memory) new.lost c.in-Ok.seen counts so_far new_counts told tells (pages_kept g.S.Shadows.slots g.S.Shadows.asides c.args.running.now.shadows (g.H.Host.bytes c.args.host.now)) c.args.running.now.fills r.fills new.fills wanted (NotesOn wanted first before) (NotesOn wanted first after)
+    inv.going step count rises more exact (notes_on_more wanted first before after (notes_then new.lost r.step) told_now) in
+    let stepped = stepped_put m old (at f r memory) (at f new new_memory) c.in-Ok.seen counts new_counts told tells last (pages_kept g.S.Shadows.slots g.S.Shadows.asides c.args.running.now.shadows (g.H.Host.bytes c.args.host.now)) c.args.running.now.fills new.fills wanted (NotesOn wanted first after) s put in
     let rested = c.rest.new.running in
     let frames_then : new.frames ≡ f = c.in-Ok.ensures.frames ∙ (c.stretch.ensures.frames ∙ inv.frames) in
     let passes = subst (λ (n : ℕ). Passes (wedge c.args.image.now c.args.script.now.list n) (at n new new_memory) (at n rested new_memory) new_counts new_counts) frames_then
@@ -244,9 +276,12 @@ loop-running-preserved g c =
     (held_at g.S.Shadows.stands g.S.Shadows.frames g.S.Shadows.slots c.args.image.now mid.frames f new c.one_step.new.pool new_memory (c.stretch.ensures.frames ∙ inv.frames) c.in-Ok.ensures.held) in
     let as_were : rested ≡ record new { board = rested.board; step = rested.step } = c.rest.ensures.same in
     record {
-      going = going_past m old (at f new new_memory) (at f rested new_memory) counts new_counts new_counts told last c.args.running.now.fills new.fills rested.fills (NotesOn wanted first after) stepped
-          (subst (λ (x : Running g.row.S.Denot). FillsOn (set_of g.S.Shadows.stands g.S.Shadows.frames g.S.Shadows.slots new new_memory) (set_of g.S.Shadows.stands g.S.Shadows.frames g.S.Shadows.slots x new_memory) new.fills x.fills) (sym as_were) (fills_same _ _ new.fills refl)) passes;
+      going = going_past m old (at f new new_memory) (at f rested new_memory) counts new_counts new_counts told last (pages_kept g.S.Shadows.slots g.S.Shadows.asides c.args.running.now.shadows (g.H.Host.bytes c.args.host.now)) c.args.running.now.fills new.fills rested.fills wanted (NotesOn wanted first after) stepped
+          (subst (λ (x : Running g.row.S.Denot). new.fills ≤ x.fills) (sym as_were) (omega arith))
+          (subst (λ (x : Running g.row.S.Denot). FillsOn (pages_kept g.S.Shadows.slots g.S.Shadows.asides c.args.running.now.shadows (g.H.Host.bytes c.args.host.now)) (len (entries_of (g.S.Shadows.slots x.shadows new_memory))) c.args.running.now.fills x.fills) (sym as_were) more) passes;
       held = subst (λ (x : Running g.row.S.Denot). IsHeld g.S.Shadows.stands g.S.Shadows.frames g.S.Shadows.slots (ground c.args.image.now f) x c.one_step.new.pool new_memory) (sym as_were) held;
+      ready = subst (λ (x : Running g.row.S.Denot). IsReady g.S.Shadows.slots g.S.Shadows.noted g.S.Shadows.marked g.S.Shadows.value g.S.Shadows.asides (ground c.args.image.now f) x.cpu x.shadows new_memory) (sym as_were)
+          (ready_at g c.args.image.now mid.frames f new.cpu new.shadows new_memory (c.stretch.ensures.frames ∙ inv.frames) c.in-Ok.ensures.ready);
       able = subst IsAble (sym (ap (λ (x : Running g.row.S.Denot). x.cpu) as_were)) c.in-Ok.ensures.able;
       pool = subst (λ (x : Running g.row.S.Denot). Keeps c.args.pool.now c.one_step.new.pool (g.H.Host.bytes c.args.host.now) new_memory (g.S.Shadows.frames c.args.running.now.shadows (g.H.Host.bytes c.args.host.now)) (g.S.Shadows.frames x.shadows new_memory)) (sym as_were)
           (keeps_join c.args.pool.now c.loop-running.pool c.one_step.new.pool (g.H.Host.bytes c.args.host.now) (g.H.Host.bytes c.stretch.new.host) (g.H.Host.bytes c.one_step.new.host)
@@ -254,11 +289,12 @@ loop-running-preserved g c =
           (keeps_join c.args.pool.now c.loop-running.pool c.loop-running.pool (g.H.Host.bytes c.args.host.now) (g.H.Host.bytes c.loop-running.host) (g.H.Host.bytes c.stretch.new.host)
           (g.S.Shadows.frames c.args.running.now.shadows (g.H.Host.bytes c.args.host.now)) (g.S.Shadows.frames c.loop-running.running.shadows (g.H.Host.bytes c.loop-running.host)) (g.S.Shadows.frames c.stretch.new.running.shadows (g.H.Host.bytes c.stretch.new.host))
           c.loop-running.invariant.pool (c.stretch.ensures.pool c.loop-running.pool (held_given g.S.Shadows.stands g.S.Shadows.frames g.S.Shadows.slots c.args.image.now c.args.running.now.frames c.loop-running.running.frames c.loop-running.running c.begin.new.self c.loop-running.pool (g.H.Host.bytes c.loop-running.host) c.loop-running.invariant.frames c.loop-running.invariant.held))) c.in-Ok.ensures.pool);
-      filled = subst (λ (x : Running g.row.S.Denot). FillsOn (set_of g.S.Shadows.stands g.S.Shadows.frames g.S.Shadows.slots c.args.running.now (g.H.Host.bytes c.args.host.now)) (set_of g.S.Shadows.stands g.S.Shadows.frames g.S.Shadows.slots x new_memory) c.args.running.now.fills x.fills) (sym as_were)
+      filled = subst (λ (x : Running g.row.S.Denot). FillsOn (pages_kept g.S.Shadows.slots g.S.Shadows.asides c.args.running.now.shadows (g.H.Host.bytes c.args.host.now)) (pages_kept g.S.Shadows.slots g.S.Shadows.asides x.shadows new_memory) c.args.running.now.fills x.fills) (sym as_were)
           (fills_join _ _ _ _ _ _ (fills_join _ _ _ _ _ _ inv.filled c.stretch.ensures.filled) c.in-Ok.ensures.filled);
       started = c.in-Ok.ensures.started;
       frames = ap (λ (x : Running g.row.S.Denot). x.frames) as_were ∙ frames_then;
       wants = c.tell_both.ensures.wants ∙ inv.wants;
+      wanted = inv.wanted;
       silent = λ unwanted. c.tell_both.ensures.silent (inv.wants ∙ unwanted) ∙ inv.silent unwanted;
       later = (let a = inv.later in let b = c.in-Ok-put_step.ensures.later in omega (arith, a, b));
       bound = c.rest.ensures.within;
@@ -278,7 +314,7 @@ returns-clause-slice g c =
     let told = g.O.Sink.taken c.args.out.now in
     let tells = g.O.Sink.taken c.loop-running.out in
     let inv = c.loop-running.invariant in
-    reached m c.args.bound old (at f r memory) counts so_far told tells c.args.running.now.fills r.fills (NotesOn (g.L.Notes.wants c.args.notes.now) (g.L.Notes.tells c.args.notes.now) (g.L.Notes.tells c.loop-running.notes)) inv.going
+    reached m c.args.bound old (at f r memory) counts so_far told tells (pages_kept g.S.Shadows.slots g.S.Shadows.asides c.args.running.now.shadows (g.H.Host.bytes c.args.host.now)) c.args.running.now.fills r.fills (g.L.Notes.wants c.args.notes.now) (NotesOn (g.L.Notes.wants c.args.notes.now) (g.L.Notes.tells c.args.notes.now) (g.L.Notes.tells c.loop-running.notes)) inv.going
     (let a = inv.bound in let b = c.loop-running-test.false in omega (arith, a, b))
 
 pub returns-clause-few : goal.returns-clause-few

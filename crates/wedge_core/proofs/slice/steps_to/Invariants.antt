@@ -1,9 +1,10 @@
 use Rattle.std.proofs.Common.{◌≡◌, ◌+◌, ◌-◌, ◌≤◌, ◌<◌, ◌^◌, true, false}
 use Rattle.machine_model.specs.State.{wedge}
-use Rattle.wedge_core.specs.Filled.{FillsOn}
+use Rattle.wedge_core.specs.Filled.{FillsOn, pages_kept}
 use Rattle.wedge_core.specs.Noted.{NotesOn}
 use Rattle.wedge_core.specs.Pools.{Keeps}
-use Rattle.wedge_core.specs.Standing.{IsHeld, IsAble, ground, set_of, state_of}
+use Rattle.wedge_core.specs.Ready.{IsReady}
+use Rattle.wedge_core.specs.Standing.{IsHeld, IsAble, ground, state_of}
 use Rattle.wedge_core.proofs.Going.{Going}
 use Rattle.wedge_core.proofs.slice.steps_to.Given as goal
 
@@ -13,15 +14,17 @@ invariant-loop-running g l = record {
       (state_of g.S.Shadows.stands g.S.Shadows.frames g.S.Shadows.slots (wedge l.image l.script.list l.fn.running.frames) l.fn.running (g.H.Host.bytes l.fn.host))
       (state_of g.S.Shadows.stands g.S.Shadows.frames g.S.Shadows.slots (wedge l.image l.script.list l.fn.running.frames) l.running (g.H.Host.bytes l.host))
       (record { retired = g.H.Host.retired l.fn.host; passed = g.H.Host.passed l.fn.host }) (record { retired = g.H.Host.retired l.host; passed = g.H.Host.passed l.host })
-      (g.O.Sink.taken l.fn.out) (g.O.Sink.taken l.out) l.fn.running.fills l.running.fills
+      (g.O.Sink.taken l.fn.out) (g.O.Sink.taken l.out) (pages_kept g.S.Shadows.slots g.S.Shadows.asides l.fn.running.shadows (g.H.Host.bytes l.fn.host)) l.fn.running.fills l.running.fills (g.L.Notes.wants l.fn.notes)
       (NotesOn (g.L.Notes.wants l.fn.notes) (g.L.Notes.tells l.fn.notes) (g.L.Notes.tells l.notes));
   held : IsHeld g.S.Shadows.stands g.S.Shadows.frames g.S.Shadows.slots (ground l.image l.fn.running.frames) l.running l.pool (g.H.Host.bytes l.host);
+  ready : IsReady g.S.Shadows.slots g.S.Shadows.noted g.S.Shadows.marked g.S.Shadows.value g.S.Shadows.asides (ground l.image l.fn.running.frames) l.running.cpu l.running.shadows (g.H.Host.bytes l.host);
   able : IsAble l.running.cpu;
   pool : Keeps l.fn.pool l.pool (g.H.Host.bytes l.fn.host) (g.H.Host.bytes l.host) (g.S.Shadows.frames l.fn.running.shadows (g.H.Host.bytes l.fn.host)) (g.S.Shadows.frames l.running.shadows (g.H.Host.bytes l.host));
-  filled : FillsOn (set_of g.S.Shadows.stands g.S.Shadows.frames g.S.Shadows.slots l.fn.running (g.H.Host.bytes l.fn.host)) (set_of g.S.Shadows.stands g.S.Shadows.frames g.S.Shadows.slots l.running (g.H.Host.bytes l.host)) l.fn.running.fills l.running.fills;
+  filled : FillsOn (pages_kept g.S.Shadows.slots g.S.Shadows.asides l.fn.running.shadows (g.H.Host.bytes l.fn.host)) (pages_kept g.S.Shadows.slots g.S.Shadows.asides l.running.shadows (g.H.Host.bytes l.host)) l.fn.running.fills l.running.fills;
   started : g.H.Host.is_started l.host ≡ true;
   frames : l.running.frames ≡ l.fn.running.frames;
   wants : g.L.Notes.wants l.notes ≡ g.L.Notes.wants l.fn.notes;
+  wanted : l.wanted ≡ g.L.Notes.wants l.fn.notes;
   silent : g.L.Notes.wants l.fn.notes ≡ false → l.notes ≡ l.fn.notes;
   later : g.O.Sink.faults l.fn.out ≤ g.O.Sink.faults l.out;
   bound : l.running.step ≤ l.bound;

@@ -1,10 +1,16 @@
-use Rattle.std.proofs.Common.{◌≡◌, ◌+◌, refl, arith}
+use Rattle.std.proofs.Common.{◌≡◌, ℕ, ◌+◌, ◌==◌, true, refl, sym, subst, arith}
 use Rattle.host_cpl3.specs.Hosts.{standing}
-use Rattle.wedge_core.specs.Standing.{set_of}
+use Rattle.shadow_tables.specs.Slots.{is_among}
+use Rattle.wedge_core.specs.Filled.{FillsOn, pages_kept}
+use Rattle.wedge_core.specs.Ready.{IsReady}
+use Rattle.wedge_core.specs.Standing.{ground, set_of, side_of}
 use Rattle.wedge_core.specs.Views.{view_by}
 use Rattle.wedge_core.proofs.Parts.{part_same}
 use Rattle.wedge_core.proofs.Landing.{may_runs}
-use Rattle.wedge_core.proofs.Stretched.{Laws, passes_on, stays_on, passed_on, held_then, keeps_then, able_then, frames_then, fills_then, filled_then, step_then}
+use Rattle.wedge_core.proofs.Stretched.{Laws, passes_on, stays_on, passed_on, held_then, keeps_then, able_then, frames_then, fills_then, step_then, rules_then, shadows_is, same_there, host_there, untouched_then, same_in, stand, whole_new, set_same}
+use Rattle.wedge_core.proofs.Filling.{fills_same}
+use Rattle.wedge_core.proofs.Stays.{kept_same}
+use Rattle.wedge_core.proofs.Untouched.{Tracks, unlent, ready_on}
 use Rattle.wedge_core.proofs.stretch.stretch.Goals as goal
 
 pub returns : goal.returns
@@ -48,6 +54,17 @@ returns g c =
     let most = c.steps_until_next-k.ensures.most in
     let begun = c.requires.begun in
     let count : now.step ≡ old.step + done = step_then stands frames slots directory old now view start k done memory_then retired_then passed_then ran in
+    let noted = g.S.Shadows.noted in
+    let marked = g.S.Shadows.marked in
+    let value = g.S.Shadows.value in
+    let asides = g.S.Shadows.asides in
+    let tracked = g.S.Shadows.tracked in
+    let pool = c.requires.held.0 in
+    let h = c.requires.held.1 in
+    let shadows = shadows_is stands frames slots directory laws image old.frames old pool memory h views.lends views.sees c.advances.ensures c.requires.able may c.if-running.false retired passed k done now memory_then retired_then passed_then ran in
+    let there = same_there stands frames slots directory laws image old.frames old pool memory h views.lends views.sees c.advances.ensures c.requires.able may c.if-running.false retired passed k done now memory_then retired_then passed_then ran script quiet in
+    let inside = same_in stands frames slots directory laws image old.frames old pool memory h memory_then there in
+    let asides_then = met.same_asides old.shadows memory memory_then h.stand inside in
     record {
       passes = λ some board is.
           let kept = set_of stands frames slots old memory in
@@ -57,8 +74,26 @@ returns g c =
           script quiet;
       held = λ pool h. held_then stands frames slots directory laws image old.frames old pool memory h views.lends views.sees c.advances.ensures c.requires.able may c.if-running.false retired passed k done now memory_then retired_then passed_then ran script quiet;
       pool = λ pool h. keeps_then stands frames slots directory laws image old.frames old pool memory h views.lends views.sees c.advances.ensures c.requires.able may c.if-running.false retired passed k done now memory_then retired_then passed_then ran script quiet;
-      filled = filled_then stands frames slots directory laws image old.frames old c.requires.held.0 memory c.requires.held.1 views.lends views.sees c.advances.ensures c.requires.able may c.if-running.false retired passed k done now memory_then retired_then passed_then ran
-          script quiet (fills_then stands frames slots directory old now view start k done memory_then retired_then passed_then ran);
+      filled =
+          subst (λ (s : g.row.S.Denot). FillsOn (pages_kept slots asides old.shadows memory) (pages_kept slots asides s memory_then) old.fills now.fills) (sym shadows)
+          (subst (λ (k : ℕ). FillsOn (pages_kept slots asides old.shadows memory) (pages_kept slots asides old.shadows memory_then) old.fills k) (sym (fills_then stands frames slots directory old now view start k done memory_then retired_then passed_then ran))
+          (fills_same _ _ old.fills (kept_same slots asides old.shadows memory memory_then (set_same stands frames slots directory laws image old.frames old pool memory h memory_then there) asides_then)));
+      ready = λ ready.
+          let tracks : Tracks stands slots noted marked value asides tracked directory = record {
+            host = met.host;
+            barred = met.barred;
+            noted_tracked = met.noted_tracked;
+            asides_tracked = met.asides_tracked;
+          } in
+          let rules = rules_then stands frames slots directory laws image old.frames old pool memory h views.lends views.sees c.advances.ensures c.requires.able may c.if-running.false retired passed k done now memory_then retired_then passed_then ran in
+          let host_then = host_there stands frames slots directory laws image old.frames old pool memory h views.lends views.sees c.advances.ensures c.requires.able may c.if-running.false retired passed k done now memory_then retired_then passed_then ran script quiet in
+          let untouched = λ (at : ℕ) (t : is_among at (tracked old.shadows) ≡ true).
+          untouched_then stands frames slots directory laws image old.frames old pool memory h views.lends views.sees c.advances.ensures c.requires.able may c.if-running.false retired passed k done now memory_then retired_then passed_then ran script quiet at
+          (λ other same. unlent stands slots noted marked value asides tracked directory tracks old.shadows other (side_of (old.cpu.cpl == 3)) at
+          (stand stands frames slots directory laws image old.frames old pool memory h other same) (whole_new stands frames slots directory laws image old.frames old pool memory h other same) t) in
+          let slots_then = met.same_slots old.shadows memory memory_then h.stand inside in
+          subst (λ (s : g.row.S.Denot). IsReady slots noted marked value asides (ground image old.frames) now.cpu s memory_then) (sym shadows)
+          (ready_on stands slots noted marked value asides tracked directory tracks (ground image old.frames) h.wedge old.cpu now.cpu old.shadows memory memory_then h.host host_then rules.0 rules.1 rules.2 untouched slots_then asides_then ready);
       able = able_then stands frames slots directory laws image old.frames old c.requires.held.0 memory c.requires.held.1 views.lends views.sees c.advances.ensures c.requires.able may c.if-running.false retired passed k done now memory_then retired_then passed_then ran
           script quiet;
       started = c.run_on.ensures.started;

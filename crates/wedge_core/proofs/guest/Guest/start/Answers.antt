@@ -1,11 +1,17 @@
 use Rattle.std.proofs.Common.{ℕ, List, IfOk, sym, subst}
-use Rattle.shadow_tables.specs.Slots.{IsShadow, held as held_by, slot_at}
-use Rattle.wedge_core.specs.Filled.{IsFilled}
-use Rattle.wedge_core.specs.Standing.{set_of}
-use Rattle.wedge_core.proofs.Guests.{started_filled}
+use Rattle.shadow_cache.specs.Views as roots
+use Rattle.wedge_core.specs.Filled.{IsFilled, pages_kept}
+use Rattle.wedge_core.specs.Ready.{IsReady}
+use Rattle.wedge_core.specs.Standing.{ground}
+use Rattle.wedge_core.proofs.Guests.{none_kept_ok}
 use Rattle.wedge_core.proofs.guest.Guest.start.Goals as goal
 
 pub returns-in-Ok-clause-filled : goal.returns-in-Ok-clause-filled
 returns-in-Ok-clause-filled g c =
-    subst (λ (l : List ℕ). IfOk c.start_in.result (λ started. IsFilled (set_of IsShadow held_by slot_at started.0.running l) started.0.running.fills)) (sym (g.met.H.Host.bytes_changed c.start.new.self c.start_in.new.ram))
-    (started_filled c.args.image.now c.args.frames c.args.pool c.start_in.new.ram c.start_in.result c.start_in.ensures.started)
+    subst (λ (l : List ℕ). IfOk c.start_in.result (λ started. IsFilled (pages_kept roots.slots roots.asides started.0.running.shadows l) started.0.running.fills)) (sym (g.met.H.Host.bytes_changed c.start.new.self c.start_in.new.ram))
+    (none_kept_ok c.start_in.new.ram c.start_in.result c.start_in.ensures.none)
+
+pub returns-in-Ok-clause-ready : goal.returns-in-Ok-clause-ready
+returns-in-Ok-clause-ready g c =
+    subst (λ (l : List ℕ). IfOk c.start_in.result (λ started. IsReady roots.slots roots.noted roots.marked roots.value roots.asides (ground c.args.image.now c.args.frames) started.0.running.cpu started.0.running.shadows l)) (sym (g.met.H.Host.bytes_changed c.start.new.self c.start_in.new.ram))
+    c.start_in.ensures.ready

@@ -1,0 +1,29 @@
+-- What `Roots` keep over a memory, in the words of the traits that they meet.
+use Rattle.std.specs.Prelude.{ℕ, List, Bool, Option, Some}
+use Rattle.shadow_tables.specs.Aside.{Aside}
+use Rattle.shadow_tables.specs.Slots.{Slot, slot_at}
+use Rattle.shadow_cache.specs.Asides.{asides_of}
+use Rattle.shadow_cache.specs.Pairs.{reads, frames_of, IsRoots}
+use Rattle.shadow_cache.specs.Roots.{pairs_of}
+use Rattle.shadow_cache.specs.declared.roots.Roots.{Roots}
+
+abbrev pub stands : Roots → List ℕ → Type 0
+stands r m = IsRoots (pairs_of r) m
+
+abbrev pub frames : Roots → List ℕ → List ℕ
+frames r m = frames_of (pairs_of r) m
+
+abbrev pub slots : Roots → List ℕ → ℕ → Option Slot
+slots r m page = slot_at r.present.shadow m page
+
+abbrev pub noted : Roots → ℕ → Bool
+noted r frame = reads r.present frame
+
+abbrev pub marked : Roots → Bool
+marked r = r.present.marked
+
+abbrev pub value : Roots → Option ℕ
+value r = Some r.present.cr3
+
+abbrev pub asides : Roots → List ℕ → List Aside
+asides r m = asides_of r.others m

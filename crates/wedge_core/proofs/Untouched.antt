@@ -1,0 +1,103 @@
+-- What is kept may be used again behind what the host writes: its views let no write pass to a table.
+use Rattle.std.proofs.Common.{◌≡◌, ℕ, ◌+◌, ◌*◌, ◌/◌, ◌%◌, ◌^◌, ◌<◌, ◌≤◌, List, [], ◌∷◌, length, Bool, true, false, cond, Option, Some, None, refl, sym, ap, subst, ◌∙◌, arith}
+use Rattle.std.specs.Prelude.{nat_le}
+use Rattle.guest_ram.specs.Bytes.{frame, word32}
+use Rattle.guest_ram.proofs.Bytes.{word32-frame}
+use Rattle.descriptors.specs.Controls.{pse_of}
+use Rattle.descriptors.specs.declared.cpu.Cpu.{Cpu}
+use Rattle.paging.specs.Reached.{reached}
+use Rattle.shadow_tables.specs.Aside.{Aside, AreSame, AllTracked}
+use Rattle.shadow_tables.specs.Host.{lent, frame_below}
+use Rattle.shadow_tables.specs.Slots.{Slot, is_among, is_side, is_adequate, SameSlots}
+use Rattle.shadow_tables.specs.declared.words.Side.{Side}
+use Rattle.machine_model.specs.Reloading.{IsFoundBy}
+use Rattle.machine_model.specs.State.{Setting}
+use Rattle.native_steps.specs.Lends.{IsUnlent}
+use Rattle.native_steps.specs.Stands.{IsWedge, IsHost, shown}
+use Rattle.native_steps.proofs.Shown.{shown_length}
+use Rattle.wedge_core.specs.Ready.{AreReady, IsReady}
+use Rattle.wedge_core.specs.Standing.{wp_of}
+use Rattle.wedge_core.proofs.Bools.{both, none_some}
+use Rattle.wedge_core.proofs.Behind.{found_on, clash}
+use Rattle.wedge_core.proofs.Readying.{all_rules}
+use Rattle.wedge_core.proofs.Shedding.{same_shed, all_ready_shed}
+
+-- ---- the frame to which a slot lets a write pass
+
+below_is : (n f at : ℕ) (b : Bool) → cond b None (Some f) ≡ Some at → f ≡ at
+below_is n f at true e = absurd (none_some at e)
+below_is n f at false e = cc
+
+slot_writes : (n at : ℕ) (slot : Slot) (side : Side) (b : Bool) → is_adequate (Some slot) side true ≡ b → cond b (frame_below n slot.entry.frame) None ≡ Some at → (slot.writes ≡ true) × (slot.entry.frame ≡ at)
+slot_writes n at slot side false e h = absurd (none_some at h)
+slot_writes n at slot side true e h = ((both (is_side slot.side side) slot.writes e).1, below_is n slot.entry.frame at (nat_le n slot.entry.frame) h)
+
+-- the slot that lends it
+pub record Writes (o : Option Slot) (at : ℕ) : Type 0 where
+  pub slot : Slot
+  pub there : o ≡ Some slot
+  pub writes : slot.writes ≡ true
+  pub leads : slot.entry.frame ≡ at
+
+pub lent_writes : (n at : ℕ) (o : Option Slot) (side : Side) → lent n o side true ≡ Some at → Writes o at
+lent_writes n at None side h = absurd (none_some at h)
+lent_writes n at (Some slot) side h = let w = slot_writes n at slot side (is_adequate (Some slot) side true) refl h in record { slot = slot; there = refl; writes = w.0; leads = w.1 }
+
+-- ---- words in frames that are as they were
+
+same_word : (ram then : List ℕ) (at : ℕ) → at % 4 ≡ 0 → frame then (at / 4096) ≡ frame ram (at / 4096) → word32 then at ≡ word32 ram at
+same_word ram then at even same =
+    let e : at ≡ 4096 * (at / 4096) + at % 4096 = omega arith in
+    let fits : at % 4096 + 4 ≤ 4096 = omega (arith, even) in
+    ap (word32 then) e ∙ (word32-frame then ram (at / 4096) (at % 4096) same fits ∙ ap (word32 ram) (sym e))
+
+asides_on : (m : Setting) (cpu : Cpu) (ram then : List ℕ) (size : length then ≡ length ram) (room : 4096 * m.frames ≤ length ram) (long : length ram ≤ 4096 * m.frames) (test : ℕ → Bool)
+    → ((f : ℕ) → test f ≡ true → frame then f ≡ frame ram f) → (asides : List Aside) → AllTracked test asides → AreReady m cpu ram asides → AreReady m cpu then asides
+asides_on m cpu ram then size room long test same [] t h = tt
+asides_on m cpu ram then size room long test same (a ∷ asides) t h = (
+  record {
+    found = λ page lt slot e.
+        found_on m ram then size room long a.tables (λ at even within k. same_word ram then at even (same (at / 4096) (t.0 (at / 4096) k))) a.cr3 (pse_of cpu) page slot.entry lt (h.0.found page lt slot e);
+    open_to = h.0.open_to;
+  },
+  asides_on m cpu ram then size room long test same asides t.1 h.1,
+)
+
+module _ {S : Type 0} (stands : S → List ℕ → Type 0) (slots : S → List ℕ → ℕ → Option Slot) (noted : S → ℕ → Bool) (marked : S → Bool) (value : S → Option ℕ) (asides : S → List ℕ → List Aside) (tracked : S → List ℕ) (directory : S → Side → ℕ) where
+  -- the laws of shadows that speak of tables
+  pub record Tracks : Type 0 where
+    pub host : (s : S) (m : List ℕ) (n : ℕ) (side : Side) (page : ℕ) (write : Bool) → ∥ stands s m ∥₁ → 4096 * n ≡ length m → page < 2 ^ 20 → reached m n (directory s side) page write ≡ lent n (slots s m page) side write
+    pub barred : (s : S) (m : List ℕ) (page : ℕ) (slot : Slot) → ∥ stands s m ∥₁ → page < 2 ^ 20 → slots s m page ≡ Some slot → is_among slot.entry.frame (tracked s) ≡ true → slot.writes ≡ false
+    pub noted_tracked : (s : S) (frame : ℕ) → marked s ≡ false → noted s frame ≡ true → is_among frame (tracked s) ≡ true
+    pub asides_tracked : (s : S) (m : List ℕ) → AllTracked (λ f. is_among f (tracked s)) (asides s m)
+
+  module _ (laws : Tracks) where
+    -- no view lets a write pass to a tracked frame
+    pub unlent : (s : S) (m : List ℕ) (side : Side) (at : ℕ) → ∥ stands s m ∥₁ → length m % 4096 ≡ 0 → is_among at (tracked s) ≡ true → IsUnlent m (directory s side) at
+    unlent s m side at stand whole t page lt h =
+        let all : 4096 * (length m / 4096) ≡ length m = omega (arith, whole) in
+        let w = lent_writes (length m / 4096) at (slots s m page) side (sym (laws.host s m (length m / 4096) side page true stand all lt) ∙ h) in
+        clash w.slot.writes w.writes (laws.barred s m page w.slot stand lt w.there (ap (λ (f : ℕ). is_among f (tracked s)) w.leads ∙ t))
+
+    -- so what is kept is found again, where no tracked frame has changed
+    pub ready_on : (m : Setting) (wedge : IsWedge m) (before after : Cpu) (s : S) (memory then : List ℕ) → IsHost m memory → IsHost m then → after.cr3 ≡ before.cr3 → pse_of after ≡ pse_of before → wp_of after ≡ wp_of before
+        → ((at : ℕ) → is_among at (tracked s) ≡ true → frame (shown m then) at ≡ frame (shown m memory) at) → SameSlots (slots s memory) (slots s then) → AreSame (asides s memory) (asides s then)
+        → IsReady slots noted marked value asides m before s memory → IsReady slots noted marked value asides m after s then
+    ready_on m wedge before after s memory then host host_then cr3 pse wp same slots_same asides_same h =
+        let ram = shown m memory in
+        let new = shown m then in
+        let a = shown_length m wedge memory host in
+        let b = shown_length m wedge then host_then in
+        let size : length new ≡ length ram = omega (arith, a, b) in
+        let room : 4096 * m.frames ≤ length ram = omega (arith, a) in
+        let long : length ram ≤ 4096 * m.frames = omega (arith, a) in
+        record {
+          value_is = h.value_is ∙ ap (λ (c : ℕ). Some c) (sym cr3);
+          present = λ un page lt o slot e.
+              let here = h.present un page lt refl slot (sym (slots_same page lt) ∙ e) in
+              let there = found_on m ram new size room long (noted s) (λ at even within k. same_word ram new at even (same (at / 4096) (laws.noted_tracked s (at / 4096) un k))) before.cr3 (pse_of before) page slot.entry lt here in
+              subst (λ (b : Bool). IsFoundBy new m.frames after.cr3 b (noted s) page slot.entry) (sym pse) (subst (λ (c : ℕ). IsFoundBy new m.frames c (pse_of before) (noted s) page slot.entry) (sym cr3) there);
+          others = all_rules m before after new (asides s then) pse wp
+              (all_ready_shed m before new (asides s memory) (asides s then) (same_shed (asides s memory) (asides s then) asides_same)
+              (asides_on m before ram new size room long (λ f. is_among f (tracked s)) same (asides s memory) (laws.asides_tracked s memory) h.others));
+        }
