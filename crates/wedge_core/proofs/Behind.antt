@@ -95,13 +95,19 @@ holds_of noted tables low frame c = ap (λ (b : Bool). noted frame || b) (among_
 noted_holds : (noted : ℕ → Bool) (tables : List ℕ) (frame : ℕ) → noted frame ≡ true → read_by noted tables frame ≡ true
 noted_holds noted tables frame e = ap (λ (b : Bool). b || is_among frame (guest_frames tables)) e
 
+-- over memory that follows, what is found by words in frames that weren't written is found still
+found_behind : (wrote ram then : List ℕ) (frames cr3 : ℕ) (pse : Bool) (tables : ℕ → Bool) (page : ℕ) (e : Entry) → page < 2 ^ 20 → 4096 * frames ≤ length ram → MemoryFollows wrote ram then
+    → ((frame : ℕ) → tables frame ≡ true → Contains wrote frame → ⊥) → IsFoundBy ram frames cr3 pse tables page e → IsFoundBy then frames cr3 pse tables page e
+found_behind wrote ram then frames cr3 pse tables page e lt room follows free h =
+    found_still ram then frames cr3 pse tables page e room lt (λ at even within t. follows.words at even within (free (at / 4096) t)) h
+
 -- ---- what is kept for another value
 
 aside_behind : (wrote : List ℕ) (m : Setting) (cpu : Cpu) (ram then : List ℕ) (a : Aside) → 4096 * m.frames ≤ length ram → MemoryFollows wrote ram then → any_of a.tables wrote ≡ false
     → IsReadyAside m cpu ram a → IsReadyAside m cpu then a
 aside_behind wrote m cpu ram then a room follows none h = record {
   found = λ page lt slot e.
-      found_still wrote ram then m.frames a.cr3 (pse_of cpu) a.tables page slot.entry lt room follows
+      found_behind wrote ram then m.frames a.cr3 (pse_of cpu) a.tables page slot.entry lt room follows
       (λ frame t c. clash (a.tables frame) t (any_none a.tables wrote none frame (contains_among wrote frame c))) (h.found page lt slot e);
   open_to = h.open_to;
 }
@@ -162,7 +168,7 @@ module _ {S : Type 0} (slots : S → List ℕ → ℕ → Option Slot) (noted : 
           by (Some slot) at =
               let same : slot.entry ≡ e = (let x : Some slot.entry ≡ Some e = sym (k.kept page lt ∙ ap entry_in at) ∙ is in cc) in
               let here = h.present un page lt refl slot at in
-              let still = found_still wrote (shown m memory) (shown m then) m.frames cpu.cr3 (pse_of cpu) (noted s) page slot.entry lt k.room follows (unwritten (noted s) tables wrote low none) here in
+              let still = found_behind wrote (shown m memory) (shown m then) m.frames cpu.cr3 (pse_of cpu) (noted s) page slot.entry lt k.room follows (unwritten (noted s) tables wrote low none) here in
               subst (λ (x : Entry). IsFoundBy (shown m then) m.frames cpu.cr3 (pse_of cpu) (read_by (noted s) tables) page x) same
               (found_tables (shown m then) m.frames cpu.cr3 (pse_of cpu) (noted s) (read_by (noted s) tables) page slot.entry (noted_holds (noted s) tables) still)
 
@@ -241,5 +247,5 @@ module _ (m : Setting) (ram then : List ℕ) (size : length then ≡ length ram)
   pub found_on : (tables : ℕ → Bool) → ((at : ℕ) → at % 4 ≡ 0 → at + 4 ≤ length ram → tables (at / 4096) ≡ true → word32 then at ≡ word32 ram at) → (cr3 : ℕ) (pse : Bool) (page : ℕ) (e : Entry) → page < 2 ^ 20
       → IsFoundBy ram m.frames cr3 pse tables page e → IsFoundBy then m.frames cr3 pse tables page e
   found_on tables same cr3 pse page e lt h =
-      found_still (unheld tables m.frames) ram then m.frames cr3 pse tables page e lt room (untouched tables same)
+      found_behind (unheld tables m.frames) ram then m.frames cr3 pse tables page e lt room (untouched tables same)
       (λ frame t c. clash (tables frame) t (among_unheld tables m.frames frame (contains_among (unheld tables m.frames) frame c))) h
