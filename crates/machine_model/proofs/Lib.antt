@@ -16,3 +16,10 @@ pub mod FitSteps
 pub mod KeptOver
 pub mod Completing
 pub mod CountingNone
+pub mod Using
+pub mod UsingWorks
+pub mod UsingParts
+pub mod UsingRows
+pub mod UsingDeliveries
+pub mod UsingPlain
+pub mod UsingSteps
