@@ -1,0 +1,5 @@
+pub mod Lists
+pub mod Counts
+pub mod Places
+pub mod Owed
+pub mod OwedStays

@@ -1,0 +1,10 @@
+//! Laws of what shadows remember of a run's translations, so that a value of CR3 that is loaded again brings back those
+//! that a run owes.
+#![tactic(auto)]
+
+mod remembering;
+
+pub use remembering::{
+    causes_owe_nothing, dropped_remembers, loads_remember, start_remembers, steps_remember,
+    still_remembers,
+};
