@@ -64,14 +64,19 @@ fn writes_and_reads_the_gaps(rt: HostRuntime) -> Result<(), Fail> {
     Ok(())
 }
 
+/// A number of sites, the head that tells it, and what read_sites answers.
+type Counted = (u32, &'static [u8], Result<usize, u32>);
+
+// 256 times CLI behind the longest gap: the last one ends at 256 * (2^24 - 1 + 5).
+const COUNTED: [Counted; 2] = [
+    (255, b"PVS2\xFF\0\0\0", Ok(255)),
+    (256, b"PVS2\0\x01\0\0", Err(1283)),
+];
+
 #[test]
 fn ends_have_four_bytes(rt: HostRuntime) -> Result<(), Fail> {
-    // 256 times CLI behind the longest gap: the last one ends at 256 * (2^24 - 1 + 5).
-    let rows: [(u32, &[u8], Result<usize, u32>); 2] = [
-        (255, b"PVS2\xFF\0\0\0", Ok(255)),
-        (256, b"PVS2\0\x01\0\0", Err(1283)),
-    ];
-    for (count, head, want) in rows {
+    for row in &COUNTED {
+        let (count, head, want) = *row;
         let mut bytes = Vec::from_slice(rt.alloc(), head)?;
         for _ in 0..count {
             bytes.extend_from_slice(&[0xFF, 0xFF, 0xFF, 1, 1])?;
@@ -93,65 +98,71 @@ fn answer(rt: &HostRuntime, bytes: &[u8]) -> Result<usize, u32> {
     }
 }
 
+// An absent section counts as the first of these.
+const ANSWERS: [(&[u8], Result<usize, u32>); 16] = [
+    (b"PVS1\0\0\0\0", Ok(0)),
+    (b"PV", Err(2)),
+    (b"PVS3\0\0\0\0", Err(3)),
+    (b"PWS2\0\0\0\0", Err(1)),
+    (b"PVS1\0\0\0\0\0", Err(8)),
+    (b"PVS1\x01\0\0\0", Err(8)),
+    (b"PVS1\x01\0\0\0\x07\0\0\0\x14\x01\x05\0", Ok(1)),
+    (b"PVS1\x01\0\0\0\x07\0\0\0\x18\x01\x05\0", Err(12)),
+    (b"PVS1\x01\0\0\0\x07\0\0\0\x0A\x07\x05\0", Err(14)),
+    (b"PVS1\x01\0\0\0\x07\0\0\0\x14\x01\x05\x01", Err(15)),
+    (b"PVS2\0\0\0\0", Ok(0)),
+    (b"PVS2\x01\0\0\0\x07\0\0\x14\x01", Ok(1)),
+    (b"PVS2\x01\0\0\0\x07\0\0\x14", Err(12)),
+    (b"PVS2\x01\0\0\0\x07\0\0\0\x01", Err(11)),
+    (b"PVS2\x01\0\0\0\x07\0\0\x14\x0C", Err(12)),
+    (b"PVS2\x01\0\0\0\x07\0\0\x14\x01\0", Err(13)),
+];
+
 #[test]
 fn names_the_first_bad_byte(rt: HostRuntime) {
-    // An absent section counts as the first of these.
-    let rows: [(&[u8], Result<usize, u32>); 16] = [
-        (b"PVS1\0\0\0\0", Ok(0)),
-        (b"PV", Err(2)),
-        (b"PVS3\0\0\0\0", Err(3)),
-        (b"PWS2\0\0\0\0", Err(1)),
-        (b"PVS1\0\0\0\0\0", Err(8)),
-        (b"PVS1\x01\0\0\0", Err(8)),
-        (b"PVS1\x01\0\0\0\x07\0\0\0\x14\x01\x05\0", Ok(1)),
-        (b"PVS1\x01\0\0\0\x07\0\0\0\x18\x01\x05\0", Err(12)),
-        (b"PVS1\x01\0\0\0\x07\0\0\0\x0A\x07\x05\0", Err(14)),
-        (b"PVS1\x01\0\0\0\x07\0\0\0\x14\x01\x05\x01", Err(15)),
-        (b"PVS2\0\0\0\0", Ok(0)),
-        (b"PVS2\x01\0\0\0\x07\0\0\x14\x01", Ok(1)),
-        (b"PVS2\x01\0\0\0\x07\0\0\x14", Err(12)),
-        (b"PVS2\x01\0\0\0\x07\0\0\0\x01", Err(11)),
-        (b"PVS2\x01\0\0\0\x07\0\0\x14\x0C", Err(12)),
-        (b"PVS2\x01\0\0\0\x07\0\0\x14\x01\0", Err(13)),
-    ];
-    for (bytes, want) in rows {
+    for row in &ANSWERS {
+        let (bytes, want) = *row;
         assert_eq!(rt; answer(&rt, bytes), want);
     }
 }
 
+/// CLI with four NOPs behind it, and LIDT, which has 7 bytes.
+const CLI_AND_LIDT: [Site; 2] = [
+    Site {
+        at: 0,
+        kind: SiteKind::Cli,
+        len: 1,
+        total: 5,
+    },
+    Site {
+        at: 6,
+        kind: SiteKind::LoadIdt,
+        len: 7,
+        total: 7,
+    },
+];
+
+/// Their text, with a byte behind each, and the same once they are patched.
+const UNPATCHED: [u8; 14] = [
+    0xFA, 0x90, 0x90, 0x90, 0x90, 0x40, 0x0F, 0x01, 0x1D, 0x10, 0, 0, 0x11, 0x41,
+];
+
+const PATCHED: [u8; 14] = [
+    0xE9, 0xF4, 0xF4, 0xF4, 0xF4, 0x40, 0xE9, 0xF4, 0xF4, 0xF4, 0xF4, 0xF4, 0xF4, 0x41,
+];
+
 #[test]
 fn patches_the_text_in_memory(rt: HostRuntime) -> Result<(), Fail> {
     let mut ram = Ram::new(rt.alloc(), 1)?;
-    // CLI with four NOPs behind it, and LIDT, which has 7 bytes.
     let sites = Sites {
-        list: Vec::from_slice(
-            rt.alloc(),
-            &[
-                Site {
-                    at: 0,
-                    kind: SiteKind::Cli,
-                    len: 1,
-                    total: 5,
-                },
-                Site {
-                    at: 6,
-                    kind: SiteKind::LoadIdt,
-                    len: 7,
-                    total: 7,
-                },
-            ],
-        )?,
+        list: Vec::from_slice(rt.alloc(), &CLI_AND_LIDT)?,
         format: 1,
     };
     assert_eq!(rt; ram.len(), 4096);
     if ram.len() == 4096 {
-        ram.put(256, &[0xFA, 0x90, 0x90, 0x90, 0x90, 0x40]);
-        ram.put(262, &[0x0F, 0x01, 0x1D, 0x10, 0, 0, 0x11, 0x41]);
+        ram.put(256, &UNPATCHED);
         patch(&mut ram, 256, &sites);
-        let want = [
-            0xE9, 0xF4, 0xF4, 0xF4, 0xF4, 0x40, 0xE9, 0xF4, 0xF4, 0xF4, 0xF4, 0xF4, 0xF4, 0x41,
-        ];
-        assert_eq!(rt; ram.part(256, 14), want.as_slice());
+        assert_eq!(rt; ram.part(256, 14), PATCHED.as_slice());
     }
     Ok(())
 }

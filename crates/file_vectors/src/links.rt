@@ -190,26 +190,25 @@ fn refuses_a_name_that_is_defined_nowhere(rt: HostRuntime) -> Result<(), Fail> {
     Ok(())
 }
 
+/// The text of a call and of what is called, and its site. g is 16 bytes behind the call, whose field is at 1: 16 - 4 - 1.
+const CALL_AND_CALLED: [u8; 24] = [
+    0xE8, 0x0B, 0, 0, 0, 0x90, 0x90, 0x90, 0x90, 0x90, 0x90, 0x90, 0x90, 0x90, 0x90, 0x90, 0xF4,
+    0x90, 0x90, 0x90, 0x90, 0xC3, 0xEB, 0xFE,
+];
+
+const CALLED_SITE: [u8; 16] = *b"PVS1\x01\0\0\0\x10\0\0\0\x04\x01\x05\0";
+
 #[test]
 fn calls_across_objects_and_moves_sites(rt: HostRuntime) -> Result<(), Fail> {
     let alloc = rt.alloc();
     let mut called = defining(alloc, b"g", &[0xF4, 0x90, 0x90, 0x90, 0x90, 0xC3])?;
-    called.sites = Vec::from_slice(
-        alloc,
-        &[0x50, 0x56, 0x53, 0x31, 1, 0, 0, 0, 0, 0, 0, 0, 4, 1, 5, 0],
-    )?;
+    called.sites = Vec::from_slice(alloc, b"PVS1\x01\0\0\0\0\0\0\0\x04\x01\x05\0")?;
     let objects = vec![in alloc; calling(alloc, b"g")?, called]?;
     let image = made(alloc, &objects);
     assert!(rt; image.is_some());
     if let Some(image) = image {
-        // g is 16 bytes behind the call, whose field is at 1: 16 - 4 - 1
-        let text = [
-            0xE8, 0x0B, 0, 0, 0, 0x90, 0x90, 0x90, 0x90, 0x90, 0x90, 0x90, 0x90, 0x90, 0x90, 0x90,
-            0xF4, 0x90, 0x90, 0x90, 0x90, 0xC3, 0xEB, 0xFE,
-        ];
-        let sites = [0x50, 0x56, 0x53, 0x31, 1, 0, 0, 0, 16, 0, 0, 0, 4, 1, 5, 0];
-        assert_eq!(rt; image.text.as_slice(), text.as_slice());
-        assert_eq!(rt; image.sites.as_slice(), sites.as_slice());
+        assert_eq!(rt; image.text.as_slice(), CALL_AND_CALLED.as_slice());
+        assert_eq!(rt; image.sites.as_slice(), CALLED_SITE.as_slice());
     }
     Ok(())
 }
@@ -294,18 +293,22 @@ fn refuses_branches_and_a_start_outside_text(rt: HostRuntime) -> Result<(), Fail
     Ok(())
 }
 
+/// How much text and how many zeroed bytes, how many of a second object, and the refusal.
+type Sized = (usize, u32, u32, Option<(u32, u8)>);
+
+const LIMITS: [Sized; 5] = [
+    (16_777_214, 0, 0, None),
+    (16_777_215, 0, 0, Some((0, 33))),
+    (0, 33_554_432, 0, None),
+    (0, 33_554_433, 0, Some((0, 34))),
+    (0, 33_554_432, 1, Some((1, 34))),
+];
+
 #[test]
 fn keeps_the_limits_of_sizes(rt: HostRuntime) -> Result<(), Fail> {
-    // text, zeroed bytes, and those of a second object
     let alloc = rt.alloc();
-    let rows = [
-        (16_777_214, 0, 0, None),
-        (16_777_215, 0, 0, Some((0, 33))),
-        (0, 33_554_432, 0, None),
-        (0, 33_554_433, 0, Some((0, 34))),
-        (0, 33_554_432, 1, Some((1, 34))),
-    ];
-    for (text, bss, more, want) in rows {
+    for row in &LIMITS {
+        let (text, bss, more, want) = *row;
         let mut first = plain(alloc, &[], &[], bss)?;
         first.text = vec![in alloc; 0x90; text]?;
         let mut objects = vec![in alloc; first]?;
@@ -329,10 +332,7 @@ fn keeps_the_limits_of_symbols_and_sites(rt: HostRuntime) -> Result<(), Fail> {
     let many = vec![in alloc; many]?;
     assert_eq!(rt; numbered(alloc, &many), Some((0, 35)));
     let mut past = defining(alloc, b"f", &[0xFA, 0x90, 0x90, 0x90])?;
-    past.sites = Vec::from_slice(
-        alloc,
-        &[0x50, 0x56, 0x53, 0x31, 1, 0, 0, 0, 0, 0, 0, 0, 1, 1, 5, 0],
-    )?;
+    past.sites = Vec::from_slice(alloc, b"PVS1\x01\0\0\0\0\0\0\0\x01\x01\x05\0")?;
     let past = vec![in alloc; worked(alloc)?, past]?;
     assert_eq!(rt; numbered(alloc, &past), Some((1, 36)));
     Ok(())
@@ -349,21 +349,26 @@ fn annotated(alloc: Global, text: usize, second: u8) -> Result<Object, AllocErro
     Ok(object)
 }
 
+/// How much text, the second site's offset, and how the annotations begin; nothing where the text is refused.
+type Gapped = (usize, u8, &'static [u8]);
+
+// Sites that overlap can be written by their offsets alone.
+const GAPPED: [Gapped; 4] = [
+    (4_194_302, 1, b"PVS1"),
+    (4_194_302, 9, b"PVS1"),
+    (4_194_303, 1, b""),
+    (
+        4_194_303,
+        9,
+        b"PVS2\x02\0\0\0\0\0\0\x01\x01\x04\0\0\x01\x01",
+    ),
+];
+
 #[test]
 fn long_texts_have_gaps(rt: HostRuntime) -> Result<(), Fail> {
-    // Sites that overlap can be written by their offsets alone.
     let alloc = rt.alloc();
-    let rows: [(usize, u8, &[u8]); 4] = [
-        (4_194_302, 1, b"PVS1"),
-        (4_194_302, 9, b"PVS1"),
-        (4_194_303, 1, b""),
-        (
-            4_194_303,
-            9,
-            b"PVS2\x02\0\0\0\0\0\0\x01\x01\x04\0\0\x01\x01",
-        ),
-    ];
-    for (text, second, want) in rows {
+    for row in &GAPPED {
+        let (text, second, want) = *row;
         let objects = vec![in alloc; annotated(alloc, text, second)?]?;
         match made(alloc, &objects) {
             Some(image) => assert!(rt; image.sites.starts_with(want) && want.len() > 0),

@@ -15,37 +15,47 @@ fn put(out: &mut Vec<u8>, longs: &[u32]) -> Result<(), AllocError> {
     Ok(())
 }
 
+const IDENTIFICATION: [u8; 16] = [0x7F, 0x45, 0x4C, 0x46, 1, 1, 1, 0, 0, 0, 0, 0, 0, 0, 0, 0];
+
+// What follows it in the header, the program header of the text, and that of data up to its size in the file.
+const HEADERS: [u32; 21] = [
+    0x0003_0002,
+    1,
+    0x1000_0000,
+    52,
+    147,
+    0,
+    0x0020_0034,
+    0x0028_0002,
+    0x0002_0003,
+    // text
+    1,
+    116,
+    0x1000_0000,
+    0x1000_0000,
+    2,
+    2,
+    5,
+    0x1000,
+    // data
+    1,
+    118,
+    0x1100_0000,
+    0x1100_0000,
+];
+
+// The section headers: null, .pv_sites, .shstrtab.
+const SECTIONS: [u32; 30] = [
+    0, 0, 0, 0, 0, 0, 0, 0, 0, 0, 1, 1, 0, 0, 118, 8, 0, 0, 4, 0, 11, 3, 0, 0, 126, 21, 0, 0, 0, 0,
+];
+
 // An image whose text is EB FE, with so many zeroed bytes and no sites.
 fn file(alloc: Global, bss: u32) -> Result<Vec<u8>, AllocError> {
-    let mut out = Vec::new(alloc);
-    out.extend_from_slice(&[0x7F, 0x45, 0x4C, 0x46, 1, 1, 1, 0, 0, 0, 0, 0, 0, 0, 0, 0])?;
-    put(
-        &mut out,
-        &[
-            0x0003_0002,
-            1,
-            0x1000_0000,
-            52,
-            147,
-            0,
-            0x0020_0034,
-            0x0028_0002,
-            0x0002_0003,
-        ],
-    )?;
-    put(
-        &mut out,
-        &[1, 116, 0x1000_0000, 0x1000_0000, 2, 2, 5, 0x1000],
-    )?;
-    put(
-        &mut out,
-        &[1, 118, 0x1100_0000, 0x1100_0000, 0, bss, 6, 0x1000],
-    )?;
-    out.extend_from_slice(&[0xEB, 0xFE, 0x50, 0x56, 0x53, 0x31, 0, 0, 0, 0])?;
-    out.extend_from_slice(b"\0.pv_sites\0.shstrtab\0")?;
-    put(&mut out, &[0, 0, 0, 0, 0, 0, 0, 0, 0, 0])?;
-    put(&mut out, &[1, 1, 0, 0, 118, 8, 0, 0, 4, 0])?;
-    put(&mut out, &[11, 3, 0, 0, 126, 21, 0, 0, 0, 0])?;
+    let mut out = Vec::from_slice(alloc, &IDENTIFICATION)?;
+    put(&mut out, &HEADERS)?;
+    put(&mut out, &[0, bss, 6, 0x1000])?;
+    out.extend_from_slice(b"\xEB\xFEPVS1\0\0\0\0\0.pv_sites\0.shstrtab\0")?;
+    put(&mut out, &SECTIONS)?;
     Ok(out)
 }
 
@@ -75,6 +85,23 @@ fn an_image_that_is_too_large_is_told(rt: HostRuntime) -> Result<(), Fail> {
     Ok(())
 }
 
+/// A place in memory, and the word there.
+const WORDS: [(u32, u32); 13] = [
+    (0x1100, 0x1_4003),
+    (0x1104, 0),
+    (0x1110, 0x1_8003),
+    (0x1C00, 0x4003),
+    (0x1C04, 0x5003),
+    (0x1C08, 0),
+    (0x2008, 0x0000_FFFF),
+    (0x200C, 0x00CF_9B00),
+    (0x1_4000, 0x10_0001),
+    (0x1_4004, 0),
+    (0x1_8000, 0x10_1003),
+    (0x5FFC, 0x7F_F003),
+    (0x10_0000, 0x0000_FEEB),
+];
+
 #[test]
 fn a_machine_starts_as_the_boot_state_says(rt: HostRuntime) -> Result<(), Fail> {
     let alloc = rt.alloc();
@@ -94,21 +121,8 @@ fn a_machine_starts_as_the_boot_state_says(rt: HostRuntime) -> Result<(), Fail> 
         }
         Err(_) => assert!(rt; false, "it is too small"),
     }
-    for (at, word) in [
-        (0x1100, 0x1_4003),
-        (0x1104, 0),
-        (0x1110, 0x1_8003),
-        (0x1C00, 0x4003),
-        (0x1C04, 0x5003),
-        (0x1C08, 0),
-        (0x2008, 0x0000_FFFF),
-        (0x200C, 0x00CF_9B00),
-        (0x1_4000, 0x10_0001),
-        (0x1_4004, 0),
-        (0x1_8000, 0x10_1003),
-        (0x5FFC, 0x7F_F003),
-        (0x10_0000, 0x0000_FEEB),
-    ] {
+    for row in &WORDS {
+        let (at, word) = *row;
         assert!(rt; at <= 0x7F_FFFC);
         assert_eq!(rt; ram.read32(at), word, "at {at}");
     }

@@ -13,34 +13,39 @@ const SITES: [u8; 24] = [
     0x50, 0x56, 0x53, 0x31, 2, 0, 0, 0, 7, 0, 0, 0, 20, 1, 5, 0, 12, 0, 0, 0, 4, 1, 5, 0,
 ];
 
+/// The text of the GCC object by objdump -d.
+const GCC_TEXT: [u8; 22] = [
+    0x8B, 0x44, 0x24, 0x04, 0x01, 0x05, 0, 0, 0, 0, 0xA1, 0, 0, 0, 0, 0x03, 0x05, 0, 0, 0, 0, 0xC3,
+];
+
 #[test]
 fn reads_the_parts_of_a_gcc_object(rt: HostRuntime) -> Result<(), Fail> {
     let object = read_object(rt.alloc(), &GCC_OBJECT)?;
-    // objdump -d
-    let text = [
-        0x8B, 0x44, 0x24, 0x04, 0x01, 0x05, 0, 0, 0, 0, 0xA1, 0, 0, 0, 0, 0x03, 0x05, 0, 0, 0, 0,
-        0xC3,
-    ];
-    assert_eq!(rt; object.text.as_slice(), text.as_slice());
+    assert_eq!(rt; object.text.as_slice(), GCC_TEXT.as_slice());
     assert_eq!(rt; object.init.as_slice(), [7, 0, 0, 0].as_slice());
     assert_eq!(rt; object.bss, 4);
     assert_eq!(rt; object.sites.as_slice(), b"PVS1\0\0\0\0".as_slice());
     Ok(())
 }
 
+/// A symbol's name, place and value, and whether it is global.
+type SymbolRow = (&'static [u8], Place, u32, bool);
+
+// readelf -s, without the null symbol and that of the source file; a section has no name
+const GCC_SYMBOLS: [SymbolRow; 5] = [
+    (b"", Place::Bss, 0, false),
+    (b"zeroed", Place::Bss, 0, false),
+    (b"add", Place::Text, 0, true),
+    (b"far_away", Place::Undefined, 0, true),
+    (b"near", Place::Init, 0, true),
+];
+
 #[test]
 fn reads_the_symbols_of_a_gcc_object(rt: HostRuntime) -> Result<(), Fail> {
     let object = read_object(rt.alloc(), &GCC_OBJECT)?;
-    // readelf -s, without the null symbol and that of the source file; a section has no name
-    let rows: [(&[u8], Place, u32, bool); 5] = [
-        (b"", Place::Bss, 0, false),
-        (b"zeroed", Place::Bss, 0, false),
-        (b"add", Place::Text, 0, true),
-        (b"far_away", Place::Undefined, 0, true),
-        (b"near", Place::Init, 0, true),
-    ];
-    assert_eq!(rt; object.symbols.len(), rows.len());
-    for (symbol, (name, place, value, global)) in object.symbols.iter().zip(rows) {
+    assert_eq!(rt; object.symbols.len(), 5);
+    for (symbol, row) in object.symbols.iter().zip(&GCC_SYMBOLS) {
+        let (name, place, value, global) = *row;
         assert_eq!(rt; symbol.name.list.as_slice(), name);
         assert_eq!(rt; symbol.place, place);
         assert_eq!(rt; symbol.value, value);
@@ -90,25 +95,29 @@ fn fault<T: Drop>(answer: Result<T, ElfFault>) -> Option<(u32, ElfCause)> {
     }
 }
 
+/// A byte of the worked object that is changed, and the fault.
+type Spoiled = (usize, u8, u32, ElfCause);
+
+// Section header 7 is the symbol table's, at 492; symbol 1 is at 112.
+const SPOILED: [Spoiled; 12] = [
+    (0, 0, 0, ElfCause::Magic),
+    (4, 2, 4, ElfCause::Class),
+    (20, 2, 20, ElfCause::Version),
+    (16, 2, 16, ElfCause::FileType),
+    (18, 62, 18, ElfCause::Machine),
+    (46, 64, 46, ElfCause::Sizes),
+    (528, 8, 528, ElfCause::Sizes),
+    (256, 9, 256, ElfCause::SectionForm),
+    (50, 2, 50, ElfCause::StringPlace),
+    (112, 9, 112, ElfCause::StringPlace),
+    (124, 0x20, 124, ElfCause::SymbolForm),
+    (126, 4, 126, ElfCause::SymbolForm),
+];
+
 #[test]
 fn names_the_first_fault(rt: HostRuntime) -> Result<(), Fail> {
-    // A byte of the worked object that is changed, and the fault. Section header 7 is the symbol
-    // table's, at 492; symbol 1 is at 112.
-    let rows = [
-        (0, 0, 0, ElfCause::Magic),
-        (4, 2, 4, ElfCause::Class),
-        (20, 2, 20, ElfCause::Version),
-        (16, 2, 16, ElfCause::FileType),
-        (18, 62, 18, ElfCause::Machine),
-        (46, 64, 46, ElfCause::Sizes),
-        (528, 8, 528, ElfCause::Sizes),
-        (256, 9, 256, ElfCause::SectionForm),
-        (50, 2, 50, ElfCause::StringPlace),
-        (112, 9, 112, ElfCause::StringPlace),
-        (124, 0x20, 124, ElfCause::SymbolForm),
-        (126, 4, 126, ElfCause::SymbolForm),
-    ];
-    for (index, byte, at, cause) in rows {
+    for row in &SPOILED {
+        let (index, byte, at, cause) = *row;
         let mut bytes = Vec::from_slice(rt.alloc(), &WORKED_OBJECT)?;
         if let Some(b) = bytes.get_mut(index) {
             *b = byte;
@@ -189,20 +198,28 @@ fn changed(alloc: Global, changes: &[(usize, &[u8])]) -> Result<Vec<u8>, AllocEr
     Ok(bytes)
 }
 
+/// A field, its index, where the string table has its header, how many headers there are, and the fault's place.
+type Index = (usize, &'static [u8], usize, u16, u32);
+
+// The header of the file names the table of names of sections, and that of the symbols that of names of symbols.
+const INDICES: [Index; 4] = [
+    (50, &[0, 0], 572, 10, 50),
+    (50, &[0xF1, 0xFF], 572, 0xFFFF, 50),
+    (516, &[0, 0, 0, 0], 532, 10, 516),
+    (516, &[0xF1, 0xFF, 0, 0], 532, 0xFFFF, 516),
+];
+
 #[test]
 fn indices_of_no_section_name_no_string_table(rt: HostRuntime) -> Result<(), Fail> {
-    // Header 0 is that of a string table, and the header of the file, or that of the symbols, names it by its index, or by a
-    // reserved one.
-    let section_names = &WORKED_OBJECT[572..612];
-    let symbol_names = &WORKED_OBJECT[532..572];
-    let rows: [(usize, &[u8], &[u8], u16, u32); 4] = [
-        (50, &[0, 0], section_names, 10, 50),
-        (50, &[0xF1, 0xFF], section_names, 0xFFFF, 50),
-        (516, &[0, 0, 0, 0], symbol_names, 10, 516),
-        (516, &[0xF1, 0xFF, 0, 0], symbol_names, 0xFFFF, 516),
-    ];
-    for (field, index, header, count, at) in rows {
-        // With 65,535 headers each index has one: those behind the tenth are all like header 0.
+    for row in &INDICES {
+        // Header 0 is that of the string table, which is named by its index or by a reserved one. With 65,535 headers each
+        // index has one: those behind the tenth are all like header 0.
+        let (field, index, from, count, at) = *row;
+        let header = WORKED_OBJECT
+            .get(from..)
+            .ok_or("short")?
+            .get(..40)
+            .ok_or("short")?;
         let headers = count.to_le_bytes();
         let mut bytes = changed(rt.alloc(), &[(field, index), (48, &headers), (212, header)])?;
         for _ in 10..count {

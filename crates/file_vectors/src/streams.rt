@@ -40,14 +40,20 @@ impl Write for Narrow<'_> {
     }
 }
 
+/// How many bytes are taken and what comes then, whether the piece was written, and the count of faults.
+type Piece = (u8, Option<ErrorKind>, bool, u64);
+
+const PIECES: [Piece; 4] = [
+    (4, None, true, 0),
+    (2, None, false, 1),
+    (2, Some(ErrorKind::BrokenPipe), false, 1),
+    (0, None, false, 1),
+];
+
 #[test]
 fn a_piece_is_written_whole_or_is_a_fault(rt: HostRuntime) -> Result<(), Fail> {
-    for (room, end, written, faults) in [
-        (4, None, true, 0),
-        (2, None, false, 1),
-        (2, Some(ErrorKind::BrokenPipe), false, 1),
-        (0, None, false, 1),
-    ] {
+    for row in &PIECES {
+        let (room, end, written, faults) = *row;
         let mut taken = Vec::new(rt.alloc());
         let mut out = StdSink::new(Narrow {
             taken: &mut taken,

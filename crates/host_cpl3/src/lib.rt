@@ -21,6 +21,3 @@ pub use host::Host;
 pub use laws::{borders, each_is_run};
 pub use machine::Machine;
 pub use view::View;
-
-#[cfg(test)]
-mod tests;

@@ -65,11 +65,24 @@ fn written(spelled: &[u8], wide: Wide) -> Option<ArrayBytes> {
     }
 }
 
+/// Bytes are there, and each is zero.
+fn are_zero(bytes: Option<&[u8]>) -> bool {
+    let Some(bytes) = bytes else {
+        return false;
+    };
+    for b in bytes {
+        if *b != 0 {
+            return false;
+        }
+    }
+    true
+}
+
 /// The first bytes are these, and the others are zero.
 fn are_written(into: &ArrayBytes, bytes: &[u8]) -> bool {
     usize::from(into.len) == bytes.len()
         && into.bytes.as_slice().starts_with(bytes)
-        && into.bytes.iter().skip(bytes.len()).all(|b| *b == 0)
+        && are_zero(into.bytes.as_slice().get(bytes.len()..))
 }
 
 const NARROW: Wide = Wide {

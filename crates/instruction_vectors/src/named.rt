@@ -94,7 +94,8 @@ fn named(op: Op) -> Insn {
 
 #[test]
 fn sites_have_kinds_and_numbers(rt: HostRuntime) {
-    for (number, kind, op) in SITES {
+    for row in &SITES {
+        let (number, kind, op) = *row;
         assert!(rt; sensitive(&named(op)) == Some(kind), "{op:?}");
         assert!(rt; kind as u8 == number, "{kind:?}");
     }
@@ -103,33 +104,40 @@ fn sites_have_kinds_and_numbers(rt: HostRuntime) {
 
 #[test]
 fn other_instructions_make_no_site(rt: HostRuntime) {
-    for op in PLAIN {
-        assert!(rt; sensitive(&named(op)) == None, "{op:?}");
+    for op in &PLAIN {
+        assert!(rt; sensitive(&named(*op)) == None, "{op:?}");
     }
 }
 
-/// The registers by their numbers in SDM volume 2, and the stops by theirs.
+/// The registers by their numbers in SDM volume 2.
+const REGISTERS: [(u8, Reg); 8] = [
+    (0, Reg::Eax),
+    (1, Reg::Ecx),
+    (2, Reg::Edx),
+    (3, Reg::Ebx),
+    (4, Reg::Esp),
+    (5, Reg::Ebp),
+    (6, Reg::Esi),
+    (7, Reg::Edi),
+];
+
+/// Stops by their numbers.
+const STOPS: [(u8, Stop); 5] = [
+    (1, Stop::Unsupported),
+    (6, Stop::DeviceUse),
+    (9, Stop::TextTouched),
+    (12, Stop::NotAStart),
+    (16, Stop::CodeIsTable),
+];
+
 #[test]
 fn numbers_are_the_documented_ones(rt: HostRuntime) {
-    for (number, reg) in [
-        (0, Reg::Eax),
-        (1, Reg::Ecx),
-        (2, Reg::Edx),
-        (3, Reg::Ebx),
-        (4, Reg::Esp),
-        (5, Reg::Ebp),
-        (6, Reg::Esi),
-        (7, Reg::Edi),
-    ] {
+    for row in &REGISTERS {
+        let (number, reg) = *row;
         assert!(rt; reg.number() == number, "{reg:?}");
     }
-    for (number, stop) in [
-        (1, Stop::Unsupported),
-        (6, Stop::DeviceUse),
-        (9, Stop::TextTouched),
-        (12, Stop::NotAStart),
-        (16, Stop::CodeIsTable),
-    ] {
+    for row in &STOPS {
+        let (number, stop) = *row;
         assert!(rt; stop as u8 == number, "{stop:?}");
     }
 }

@@ -23,3 +23,12 @@ pub mod UsingRows
 pub mod UsingDeliveries
 pub mod UsingPlain
 pub mod UsingSteps
+pub mod MoreFlags
+pub mod FoundStill
+pub mod Following
+pub mod Tracking
+pub mod TrackedParts
+pub mod TrackedRows
+pub mod TrackedDeliveries
+pub mod TrackedPlain
+pub mod TrackedSteps

@@ -6,19 +6,23 @@ fn sent(board: &mut Board, port: u16, v: u8) -> Did {
     board.port_out(port, false, v as u32)
 }
 
+/// Ports, and the bytes that start both controllers there.
+const STARTS: [(u16, u8); 8] = [
+    (0x20, 0x11),
+    (0x21, 0x20),
+    (0x21, 4),
+    (0x21, 1),
+    (0xA0, 0x11),
+    (0xA1, 0x28),
+    (0xA1, 2),
+    (0xA1, 1),
+];
+
 /// A board with both controllers started: the vector bases are 0x20 and 0x28.
 fn started() -> Board {
     let mut board = Board::new();
-    for (port, v) in [
-        (0x20, 0x11),
-        (0x21, 0x20),
-        (0x21, 4),
-        (0x21, 1),
-        (0xA0, 0x11),
-        (0xA1, 0x28),
-        (0xA1, 2),
-        (0xA1, 1),
-    ] {
+    for row in &STARTS {
+        let (port, v) = *row;
         let _ = sent(&mut board, port, v);
     }
     board
@@ -45,25 +49,28 @@ fn timer_asks_after_eight_steps_a_count(rt: HostRuntime) {
     assert_eq!(rt; board.pending(), None);
 }
 
+/// A port, whether four bytes are read, and what is read.
+const READS: [(u16, bool, PortRead); 13] = [
+    (0x40, false, PortRead::Stop),
+    (0x41, false, PortRead::Value(0xFF)),
+    (0x43, false, PortRead::Value(0xFF)),
+    (0x21, false, PortRead::Value(0xFF)),
+    (0x80, true, PortRead::Value(0xFFFF_FFFF)),
+    (0x1C, true, PortRead::Value(0xFFFF_FFFF)),
+    (0x1D, true, PortRead::Stop),
+    (0x22, true, PortRead::Value(0xFFFF_FFFF)),
+    (0x3F4, true, PortRead::Value(0xFFFF_FFFF)),
+    (0x3F5, true, PortRead::Stop),
+    (0x3FF, true, PortRead::Stop),
+    (0x400, true, PortRead::Value(0xFFFF_FFFF)),
+    (0xFFFF, true, PortRead::Value(0xFFFF_FFFF)),
+];
+
 #[test]
 fn ports_are_served_ignored_or_refused(rt: HostRuntime) {
     let mut board = Board::new();
-    let reads = [
-        (0x40, false, PortRead::Stop),
-        (0x41, false, PortRead::Value(0xFF)),
-        (0x43, false, PortRead::Value(0xFF)),
-        (0x21, false, PortRead::Value(0xFF)),
-        (0x80, true, PortRead::Value(0xFFFF_FFFF)),
-        (0x1C, true, PortRead::Value(0xFFFF_FFFF)),
-        (0x1D, true, PortRead::Stop),
-        (0x22, true, PortRead::Value(0xFFFF_FFFF)),
-        (0x3F4, true, PortRead::Value(0xFFFF_FFFF)),
-        (0x3F5, true, PortRead::Stop),
-        (0x3FF, true, PortRead::Stop),
-        (0x400, true, PortRead::Value(0xFFFF_FFFF)),
-        (0xFFFF, true, PortRead::Value(0xFFFF_FFFF)),
-    ];
-    for (port, wide, want) in reads {
+    for row in &READS {
+        let (port, wide, want) = *row;
         assert!(rt; board.port_in(port, wide) == want, "read of {port}");
     }
     assert!(rt; board.port_out(0x80, true, 0x1234_5678) == Did::Done);
@@ -92,37 +99,43 @@ fn a_received_byte_asks_once_its_interrupt_is_enabled(rt: HostRuntime) -> Result
     Ok(())
 }
 
+const EVENTS: [(u64, Event); 3] = [
+    (0, Event::Rx(0x4F)),
+    (7, Event::Line(5)),
+    (7, Event::Rx(10)),
+];
+
+/// A script, and the line and the cause of its refusal.
+type Refused = (&'static [u8], u64, ScriptCause);
+
+const REFUSED: [Refused; 16] = [
+    (b"7 line 2", 1, ScriptCause::BadNumber),
+    (b"0 rx 4G", 1, ScriptCause::BadNumber),
+    (b"x rx 41", 1, ScriptCause::BadNumber),
+    (b"0 rx 4", 1, ScriptCause::BadNumber),
+    (b"0 line 0", 1, ScriptCause::BadNumber),
+    (b"0 line 16", 1, ScriptCause::BadNumber),
+    (b"1099511627777 rx 41", 1, ScriptCause::BadNumber),
+    (b"0 rx 41\n1  rx 41", 2, ScriptCause::NoForm),
+    (b"0 rx", 1, ScriptCause::NoForm),
+    (b"0 tx 41", 1, ScriptCause::NoForm),
+    (b" rx 41", 1, ScriptCause::NoForm),
+    (b"0 rx 41 ", 1, ScriptCause::NoForm),
+    (b"5 rx 41\n3 rx 42", 2, ScriptCause::StepFalls),
+    (b"5 rx 41\n3 rx 4G", 2, ScriptCause::BadNumber),
+    (b"#\t", 1, ScriptCause::NotAscii),
+    (b"0 rx 41\r\n1", 1, ScriptCause::NotAscii),
+];
+
 #[test]
 fn scripts_are_read_and_refused(rt: HostRuntime) -> Result<(), Fail> {
     let script = read_script(rt.alloc(), b"# first\n0 rx 4F\n\n007 line 05\n7 rx 0a")?;
-    let events = [
-        (0, Event::Rx(0x4F)),
-        (7, Event::Line(5)),
-        (7, Event::Rx(10)),
-    ];
-    assert!(rt; script.list.as_slice() == events.as_slice());
+    assert!(rt; script.list.as_slice() == EVENTS.as_slice());
     let board = Board::new();
     assert_eq!(rt; board.next_event(&script, 0), Some(7));
     assert_eq!(rt; board.next_event(&script, 7), None);
-    let texts: [(&[u8], u64, ScriptCause); 16] = [
-        (b"7 line 2", 1, ScriptCause::BadNumber),
-        (b"0 rx 4G", 1, ScriptCause::BadNumber),
-        (b"x rx 41", 1, ScriptCause::BadNumber),
-        (b"0 rx 4", 1, ScriptCause::BadNumber),
-        (b"0 line 0", 1, ScriptCause::BadNumber),
-        (b"0 line 16", 1, ScriptCause::BadNumber),
-        (b"1099511627777 rx 41", 1, ScriptCause::BadNumber),
-        (b"0 rx 41\n1  rx 41", 2, ScriptCause::NoForm),
-        (b"0 rx", 1, ScriptCause::NoForm),
-        (b"0 tx 41", 1, ScriptCause::NoForm),
-        (b" rx 41", 1, ScriptCause::NoForm),
-        (b"0 rx 41 ", 1, ScriptCause::NoForm),
-        (b"5 rx 41\n3 rx 42", 2, ScriptCause::StepFalls),
-        (b"5 rx 41\n3 rx 4G", 2, ScriptCause::BadNumber),
-        (b"#\t", 1, ScriptCause::NotAscii),
-        (b"0 rx 41\r\n1", 1, ScriptCause::NotAscii),
-    ];
-    for (text, line, cause) in texts {
+    for row in &REFUSED {
+        let (text, line, cause) = *row;
         let answer = read_script(rt.alloc(), text).err().ok_or("read")?;
         assert_eq!(rt; answer, ScriptFault::At { line, cause });
     }
@@ -144,21 +157,25 @@ fn a_script_has_room_for_65536_events(rt: HostRuntime) -> Result<(), Fail> {
     Ok(())
 }
 
+/// Ports of the serial line and of the timer, and bytes for them.
+const WORK: [(u16, u8); 8] = [
+    (0x3F9, 1),
+    (0x3FB, 3),
+    (0x3FC, 0x0B),
+    (0x3FF, 0x5A),
+    (0x43, 0x34),
+    (0x40, 2),
+    (0x40, 0),
+    (0x40, 5),
+];
+
 /// A board in the midst of its work.
 fn working() -> Board {
     let mut board = started();
     board.uart.receive(0x48);
     board.uart.receive(0x69);
-    for (port, v) in [
-        (0x3F9, 1),
-        (0x3FB, 3),
-        (0x3FC, 0x0B),
-        (0x3FF, 0x5A),
-        (0x43, 0x34),
-        (0x40, 2),
-        (0x40, 0),
-        (0x40, 5),
-    ] {
+    for row in &WORK {
+        let (port, v) = *row;
         let _ = sent(&mut board, port, v);
     }
     board.advance(3);
@@ -190,57 +207,65 @@ fn board_is_saved_and_restored(rt: HostRuntime) -> Result<(), Fail> {
     Ok(())
 }
 
+/// A byte of that form, and a value that it never has.
+const WRONG: [(usize, u8); 24] = [
+    (0, 5),
+    (0, 0),
+    (1, 2),
+    (1, 0),
+    (2, 0x14),
+    (5, 0x21),
+    (6, 2),
+    (9, 1),
+    (14, 3),
+    (14, 1),
+    (16, 0),
+    (16, 1),
+    (18, 1),
+    (20, 1),
+    (24, 0),
+    (24, 17),
+    (31, 1),
+    (32, 2),
+    (34, 16),
+    (38, 1),
+    (38, 17),
+    (41, 1),
+    (55, 1),
+    (63, 1),
+];
+
 #[test]
 fn bytes_of_no_board_are_not_restored(rt: HostRuntime) {
-    for (at, value) in [
-        (0usize, 5u8),
-        (0, 0),
-        (1, 2),
-        (1, 0),
-        (2, 0x14),
-        (5, 0x21),
-        (6, 2),
-        (9, 1),
-        (14, 3),
-        (14, 1),
-        (16, 0),
-        (16, 1),
-        (18, 1),
-        (20, 1),
-        (24, 0),
-        (24, 17),
-        (31, 1),
-        (32, 2),
-        (34, 16),
-        (38, 1),
-        (38, 17),
-        (41, 1),
-        (55, 1),
-        (63, 1),
-    ] {
+    for row in &WRONG {
+        let (at, value) = *row;
         let mut bytes = WORKING;
         bytes[at % 64] = value;
         assert!(rt; Board::restore(&bytes).is_none(), "byte {at} is {value}");
     }
 }
 
+/// A byte of that form, and another value that it may have.
+const OTHER: [(usize, u8); 13] = [
+    (0, 1),
+    (2, 0xFB),
+    (3, 0xFF),
+    (4, 0xFF),
+    (5, 0xF8),
+    (6, 1),
+    (7, 3),
+    (15, 0xFF),
+    (20, 2),
+    (24, 16),
+    (33, 0xFF),
+    (34, 0),
+    (40, 0),
+];
+
 #[test]
 fn other_values_are_restored(rt: HostRuntime) {
-    for (at, value) in [
-        (0usize, 1u8),
-        (2, 0xFB),
-        (3, 0xFF),
-        (4, 0xFF),
-        (5, 0xF8),
-        (6, 1),
-        (7, 3),
-        (15, 0xFF),
-        (20, 2),
-        (24, 16),
-        (33, 0xFF),
-        (34, 0),
-        (40, 0),
-    ] {
+    for row in &OTHER {
+        let (at, value) = *row;
         let mut bytes = WORKING;
         bytes[at % 64] = value;
         assert!(rt; Board::restore(&bytes).is_some(), "byte {at} is {value}");

@@ -9,16 +9,19 @@ fn count(pit: &mut Pit, low: u8, high: u8) -> (Did, Did) {
     (pit.write(0x40, low), pit.write(0x40, high))
 }
 
+/// A control byte, a count's low and high byte, and the steps of its ticks.
+const COUNTS: [(u8, u8, u8, u64); 5] = [
+    (0x34, 2, 0, 16),
+    (0x36, 2, 0, 16),
+    (0x34, 0, 1, 2048),
+    (0x34, 0xFF, 0xFF, 524_280),
+    (0x34, 0, 0, 524_288),
+];
+
 #[test]
 fn a_count_is_eight_steps_a_tick(rt: HostRuntime) {
-    let table: [(u8, u8, u8, u64); 5] = [
-        (0x34, 2, 0, 16),
-        (0x36, 2, 0, 16),
-        (0x34, 0, 1, 2048),
-        (0x34, 0xFF, 0xFF, 524_280),
-        (0x34, 0, 0, 524_288),
-    ];
-    for (mode, low, high, steps) in table {
+    for row in &COUNTS {
+        let (mode, low, high, steps) = *row;
         let mut pit = Pit::new();
         assert_eq!(rt; control(&mut pit, mode), Did::Done);
         assert_eq!(rt; pit.left(), None);

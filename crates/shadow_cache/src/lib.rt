@@ -16,6 +16,3 @@ pub use coming_back::{
 };
 pub use reloads::Reloads;
 pub use roots::Roots;
-
-#[cfg(test)]
-mod tests;

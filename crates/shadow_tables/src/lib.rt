@@ -11,6 +11,3 @@ pub use calls::{Call, replay};
 pub use shadow::Shadow;
 pub use shadows::Shadows;
 pub use words::Side;
-
-#[cfg(test)]
-mod tests;

@@ -125,99 +125,103 @@ fn reads_as(rt: &HostRuntime, text: &str, items: &str) -> bool {
     }
 }
 
+/// A source, and its items.
+const DIRECTIVES: [(&str, &str); 25] = [
+    (".text\n.data\n.bss", "1 .text;2 .data;3 .bss;"),
+    (
+        ".section .rodata.str1.1,\"aMS\",@progbits,1",
+        "1 .section \".rodata.str1.1\";",
+    ),
+    (
+        ".section .debug-x\nnop\na: nop\n.text\nnop",
+        "1 .section \".debug-x\";4 .text;5 nop;",
+    ),
+    (
+        ".globl a; .global b; .local c",
+        "1 .globl a+0(,,1);1 .global b+0(,,1);1 .local c+0(,,1);",
+    ),
+    (
+        ".byte 1,-1,'a,0x1f,017",
+        "1 .byte 1(,,1) -1(,,1) 97(,,1) 31(,,1) 15(,,1);",
+    ),
+    (
+        ".short 1; .word 2\n.value 3",
+        "1 .short 1(,,1);1 .word 2(,,1);2 .value 3(,,1);",
+    ),
+    (
+        ".long a+4,b-8,c,-5",
+        "1 .long a+4(,,1) b+-8(,,1) c+0(,,1) -5(,,1);",
+    ),
+    (".int a--2,4294967295", "1 .int a+2(,,1) 4294967295(,,1);"),
+    (".long -2147483648,-0", "1 .long -2147483648(,,1) 0(,,1);"),
+    (
+        ".ascii \"a\\n\",\"\\101\"; .asciz \"\"",
+        "1 .ascii \"a\n\" \"A\";1 .asciz \"\";",
+    ),
+    (".string \"c\"", "1 .string \"c\";"),
+    (
+        ".zero 4; .skip 8; .space -0",
+        "1 .zero 4(,,1);1 .skip 8(,,1);1 .space 0(,,1);",
+    ),
+    (".p2align 4", "1 .p2align 4(,,1);"),
+    (".p2align 4,", "1 .p2align 4(,,1) _;"),
+    (".p2align 4,,10", "1 .p2align 4(,,1) _ 10(,,1);"),
+    (".p2align 12,-1,0", "1 .p2align 12(,,1) -1(,,1) 0(,,1);"),
+    (
+        ".align 4096; .balign 1",
+        "1 .align 4096(,,1);1 .balign 1(,,1);",
+    ),
+    (".comm a,4", "1 .comm a+0(,,1) 4(,,1);"),
+    (".comm b,4,16", "1 .comm b+0(,,1) 4(,,1) 16(,,1);"),
+    (".lcomm c,8", "1 .lcomm c+0(,,1) 8(,,1);"),
+    (
+        ".file \"k\"; .type a,@function; .size a,.-a; .ident \"x\"",
+        "",
+    ),
+    (
+        ".code32; .loc 1 2; .cfi_startproc\n.cfi_def_cfa_offset 8",
+        "",
+    ),
+    ("a: b:\n.L1: nop", "1 a:;1 b:;2 .L1:;2 nop;"),
+    ("a /* x\n y */ : # z\n\n;b:", "1 a:;4 b:;"),
+    (".note: nop; .: nop", "1 .note:;1 nop;1 .:;1 nop;"),
+];
+
 #[test]
 fn each_directive_has_its_items(rt: HostRuntime) {
-    let rows: [(&str, &str); 25] = [
-        (".text\n.data\n.bss", "1 .text;2 .data;3 .bss;"),
-        (
-            ".section .rodata.str1.1,\"aMS\",@progbits,1",
-            "1 .section \".rodata.str1.1\";",
-        ),
-        (
-            ".section .debug-x\nnop\na: nop\n.text\nnop",
-            "1 .section \".debug-x\";4 .text;5 nop;",
-        ),
-        (
-            ".globl a; .global b; .local c",
-            "1 .globl a+0(,,1);1 .global b+0(,,1);1 .local c+0(,,1);",
-        ),
-        (
-            ".byte 1,-1,'a,0x1f,017",
-            "1 .byte 1(,,1) -1(,,1) 97(,,1) 31(,,1) 15(,,1);",
-        ),
-        (
-            ".short 1; .word 2\n.value 3",
-            "1 .short 1(,,1);1 .word 2(,,1);2 .value 3(,,1);",
-        ),
-        (
-            ".long a+4,b-8,c,-5",
-            "1 .long a+4(,,1) b+-8(,,1) c+0(,,1) -5(,,1);",
-        ),
-        (".int a--2,4294967295", "1 .int a+2(,,1) 4294967295(,,1);"),
-        (".long -2147483648,-0", "1 .long -2147483648(,,1) 0(,,1);"),
-        (
-            ".ascii \"a\\n\",\"\\101\"; .asciz \"\"",
-            "1 .ascii \"a\n\" \"A\";1 .asciz \"\";",
-        ),
-        (".string \"c\"", "1 .string \"c\";"),
-        (
-            ".zero 4; .skip 8; .space -0",
-            "1 .zero 4(,,1);1 .skip 8(,,1);1 .space 0(,,1);",
-        ),
-        (".p2align 4", "1 .p2align 4(,,1);"),
-        (".p2align 4,", "1 .p2align 4(,,1) _;"),
-        (".p2align 4,,10", "1 .p2align 4(,,1) _ 10(,,1);"),
-        (".p2align 12,-1,0", "1 .p2align 12(,,1) -1(,,1) 0(,,1);"),
-        (
-            ".align 4096; .balign 1",
-            "1 .align 4096(,,1);1 .balign 1(,,1);",
-        ),
-        (".comm a,4", "1 .comm a+0(,,1) 4(,,1);"),
-        (".comm b,4,16", "1 .comm b+0(,,1) 4(,,1) 16(,,1);"),
-        (".lcomm c,8", "1 .lcomm c+0(,,1) 8(,,1);"),
-        (
-            ".file \"k\"; .type a,@function; .size a,.-a; .ident \"x\"",
-            "",
-        ),
-        (
-            ".code32; .loc 1 2; .cfi_startproc\n.cfi_def_cfa_offset 8",
-            "",
-        ),
-        ("a: b:\n.L1: nop", "1 a:;1 b:;2 .L1:;2 nop;"),
-        ("a /* x\n y */ : # z\n\n;b:", "1 a:;4 b:;"),
-        (".note: nop; .: nop", "1 .note:;1 nop;1 .:;1 nop;"),
-    ];
-    for (text, items) in rows.iter() {
+    for (text, items) in DIRECTIVES.iter() {
         assert!(rt; reads_as(&rt, text, items), "{text}");
     }
 }
 
+/// An instruction, and its item.
+const OPERANDS: [(&str, &str); 21] = [
+    ("hlt", "1 hlt;"),
+    ("push %eax", "1 push %eax;"),
+    ("mov %cr0,%eax", "1 mov %cr0 %eax;"),
+    ("push $4", "1 push $4;"),
+    ("push $-4", "1 push $-4;"),
+    ("push $a", "1 push $a+0;"),
+    ("push $a-3", "1 push $a+-3;"),
+    ("push 4", "1 push 4(,,1);"),
+    ("push a", "1 push a+0(,,1);"),
+    ("call foo+4", "1 call foo+4(,,1);"),
+    ("push (%eax)", "1 push (eax,,1);"),
+    ("push -4(%ebp)", "1 push -4(ebp,,1);"),
+    ("push a+4(%ebp)", "1 push a+4(ebp,,1);"),
+    ("push (%eax,%ebx)", "1 push (eax,ebx,1);"),
+    ("push 8(%eax,%ebx,4)", "1 push 8(eax,ebx,4);"),
+    ("push (,%eax,2)", "1 push (,eax,2);"),
+    ("push a(,%eax)", "1 push a+0(,eax,1);"),
+    ("jmp *%eax", "1 jmp *%eax;"),
+    ("jmp *.L4(,%eax,4)", "1 jmp *.L4+0(,eax,4);"),
+    ("rep movsl; ljmp $8,$a+1", "1 rep movsl;1 ljmp $8 $a+1;"),
+    ("in (%dx),%al", "1 in (dx,,1) %al;"),
+];
+
 #[test]
 fn each_operand_has_its_form(rt: HostRuntime) {
-    let rows: [(&str, &str); 21] = [
-        ("hlt", "1 hlt;"),
-        ("push %eax", "1 push %eax;"),
-        ("mov %cr0,%eax", "1 mov %cr0 %eax;"),
-        ("push $4", "1 push $4;"),
-        ("push $-4", "1 push $-4;"),
-        ("push $a", "1 push $a+0;"),
-        ("push $a-3", "1 push $a+-3;"),
-        ("push 4", "1 push 4(,,1);"),
-        ("push a", "1 push a+0(,,1);"),
-        ("call foo+4", "1 call foo+4(,,1);"),
-        ("push (%eax)", "1 push (eax,,1);"),
-        ("push -4(%ebp)", "1 push -4(ebp,,1);"),
-        ("push a+4(%ebp)", "1 push a+4(ebp,,1);"),
-        ("push (%eax,%ebx)", "1 push (eax,ebx,1);"),
-        ("push 8(%eax,%ebx,4)", "1 push 8(eax,ebx,4);"),
-        ("push (,%eax,2)", "1 push (,eax,2);"),
-        ("push a(,%eax)", "1 push a+0(,eax,1);"),
-        ("jmp *%eax", "1 jmp *%eax;"),
-        ("jmp *.L4(,%eax,4)", "1 jmp *.L4+0(,eax,4);"),
-        ("rep movsl; ljmp $8,$a+1", "1 rep movsl;1 ljmp $8 $a+1;"),
-        ("in (%dx),%al", "1 in (dx,,1) %al;"),
-    ];
-    for (text, items) in rows.iter() {
+    for (text, items) in OPERANDS.iter() {
         assert!(rt; reads_as(&rt, text, items), "{text}");
     }
 }

@@ -47,125 +47,131 @@ fn is_refused(rt: &HostRuntime, source: &[u8], line: u32, number: u8) -> bool {
     }
 }
 
+/// A source, its text and the number of its sites.
+const TEXTS: [(&str, &[u8], u32); 9] = [
+    (
+        "_start: movl $0x3f8,%edx; movb $0x48,%al; outb %al,%dx; hlt",
+        b"\xBA\xF8\x03\x00\x00\xB0\x48\xEE\x90\x90\x90\x90\xF4\x90\x90\x90\x90",
+        2,
+    ),
+    (
+        "_start: cli; .p2align 4; hlt",
+        b"\xFA\x90\x90\x90\x90\x90\x90\x90\x90\x90\x90\x90\x90\x90\x90\x90\xF4\x90\x90\x90\x90",
+        2,
+    ),
+    ("", b"", 0),
+    ("cli", b"\xFA\x90\x90\x90\x90", 1),
+    ("lidt 0x11000010", b"\x0F\x01\x1D\x10\x00\x00\x11", 1),
+    ("sti; hlt", b"\xFB\xF4\x90\x90\x90", 1),
+    ("sti; .file \"a\"; hlt", b"\xFB\xF4\x90\x90\x90", 1),
+    (
+        "sti; a: hlt",
+        b"\xFB\x90\x90\x90\x90\xF4\x90\x90\x90\x90",
+        2,
+    ),
+    (
+        "sti; .text; hlt; hlt",
+        b"\xFB\x90\x90\x90\x90\xF4\x90\x90\x90\x90\xF4\x90\x90\x90\x90",
+        3,
+    ),
+];
+
 #[test]
 fn sensitive_instructions_are_padded(rt: HostRuntime) {
-    let rows: [(&str, &[u8], u32); 9] = [
-        (
-            "_start: movl $0x3f8,%edx; movb $0x48,%al; outb %al,%dx; hlt",
-            b"\xBA\xF8\x03\x00\x00\xB0\x48\xEE\x90\x90\x90\x90\xF4\x90\x90\x90\x90",
-            2,
-        ),
-        (
-            "_start: cli; .p2align 4; hlt",
-            b"\xFA\x90\x90\x90\x90\x90\x90\x90\x90\x90\x90\x90\x90\x90\x90\x90\xF4\x90\x90\x90\x90",
-            2,
-        ),
-        ("", b"", 0),
-        ("cli", b"\xFA\x90\x90\x90\x90", 1),
-        ("lidt 0x11000010", b"\x0F\x01\x1D\x10\x00\x00\x11", 1),
-        ("sti; hlt", b"\xFB\xF4\x90\x90\x90", 1),
-        ("sti; .file \"a\"; hlt", b"\xFB\xF4\x90\x90\x90", 1),
-        (
-            "sti; a: hlt",
-            b"\xFB\x90\x90\x90\x90\xF4\x90\x90\x90\x90",
-            2,
-        ),
-        (
-            "sti; .text; hlt; hlt",
-            b"\xFB\x90\x90\x90\x90\xF4\x90\x90\x90\x90\xF4\x90\x90\x90\x90",
-            3,
-        ),
-    ];
-    for (source, text, sites) in rows.iter() {
+    for (source, text, sites) in TEXTS.iter() {
         assert!(rt; has_text(&rt, source, text, *sites), "{source}");
     }
 }
 
+/// A source, its data and how many zeroed bytes it has.
+const DATA: [(&str, &[u8], u32); 15] = [
+    (".data; .byte 1,-1,'a,255,-128", b"\x01\xFF\x61\xFF\x80", 0),
+    (
+        ".data; .short 1; .word -2; .value 0x1234",
+        b"\x01\x00\xFE\xFF\x34\x12",
+        0,
+    ),
+    (
+        ".data; .long -1, a+4; .int 0x12345678",
+        b"\xFF\xFF\xFF\xFF\x04\x00\x00\x00\x78\x56\x34\x12",
+        0,
+    ),
+    (
+        ".data; .ascii \"a\",\"b\"; .asciz \"c\"; .string \"\"",
+        b"abc\x00\x00",
+        0,
+    ),
+    (
+        ".section .rodata.str1.1,\"aMS\",@progbits,1; .zero 2; .byte 7; .skip 1; .space 1",
+        b"\x00\x00\x07\x00\x00",
+        0,
+    ),
+    (
+        ".data; .byte 1; .align 4; .byte 2",
+        b"\x01\x00\x00\x00\x02",
+        0,
+    ),
+    (".data; .byte 1; .balign 2; .byte 2", b"\x01\x00\x02", 0),
+    (
+        ".data; .byte 1; .p2align 2; .byte 2",
+        b"\x01\x00\x00\x00\x02",
+        0,
+    ),
+    (".data; .byte 1; .p2align 2,,2; .byte 2", b"\x01\x02", 0),
+    (
+        ".data; .byte 1; .p2align 2,,3; .byte 2",
+        b"\x01\x00\x00\x00\x02",
+        0,
+    ),
+    (".bss; .zero 3; .p2align 3; a: .skip 8; .space 1", b"", 17),
+    (".comm a,4; .comm b,4,16; .lcomm c,8", b"", 28),
+    (
+        ".data; .byte 1; .bss; .p2align 12; pg: .zero 4096; .text; movl $pg,%eax",
+        b"\x01",
+        4096,
+    ),
+    (
+        ".section .bss.x; .zero 1; .section .data.y; .byte 1",
+        b"\x01",
+        1,
+    ),
+    (".data; .section .note; .byte 9; .data; .byte 1", b"\x01", 0),
+];
+
 #[test]
 fn each_directive_makes_its_data(rt: HostRuntime) {
-    let rows: [(&str, &[u8], u32); 15] = [
-        (".data; .byte 1,-1,'a,255,-128", b"\x01\xFF\x61\xFF\x80", 0),
-        (
-            ".data; .short 1; .word -2; .value 0x1234",
-            b"\x01\x00\xFE\xFF\x34\x12",
-            0,
-        ),
-        (
-            ".data; .long -1, a+4; .int 0x12345678",
-            b"\xFF\xFF\xFF\xFF\x04\x00\x00\x00\x78\x56\x34\x12",
-            0,
-        ),
-        (
-            ".data; .ascii \"a\",\"b\"; .asciz \"c\"; .string \"\"",
-            b"abc\x00\x00",
-            0,
-        ),
-        (
-            ".section .rodata.str1.1,\"aMS\",@progbits,1; .zero 2; .byte 7; .skip 1; .space 1",
-            b"\x00\x00\x07\x00\x00",
-            0,
-        ),
-        (
-            ".data; .byte 1; .align 4; .byte 2",
-            b"\x01\x00\x00\x00\x02",
-            0,
-        ),
-        (".data; .byte 1; .balign 2; .byte 2", b"\x01\x00\x02", 0),
-        (
-            ".data; .byte 1; .p2align 2; .byte 2",
-            b"\x01\x00\x00\x00\x02",
-            0,
-        ),
-        (".data; .byte 1; .p2align 2,,2; .byte 2", b"\x01\x02", 0),
-        (
-            ".data; .byte 1; .p2align 2,,3; .byte 2",
-            b"\x01\x00\x00\x00\x02",
-            0,
-        ),
-        (".bss; .zero 3; .p2align 3; a: .skip 8; .space 1", b"", 17),
-        (".comm a,4; .comm b,4,16; .lcomm c,8", b"", 28),
-        (
-            ".data; .byte 1; .bss; .p2align 12; pg: .zero 4096; .text; movl $pg,%eax",
-            b"\x01",
-            4096,
-        ),
-        (
-            ".section .bss.x; .zero 1; .section .data.y; .byte 1",
-            b"\x01",
-            1,
-        ),
-        (".data; .section .note; .byte 9; .data; .byte 1", b"\x01", 0),
-    ];
-    for (source, init, bss) in rows.iter() {
+    for (source, init, bss) in DATA.iter() {
         assert!(rt; has_data(&rt, source, init, *bss), "{source}");
     }
 }
 
+/// A source, and the line and the number of its refusal.
+const REFUSED: [(&str, u32, u8); 20] = [
+    ("nop\nnope", 2, 20),
+    ("nop\n\nrdtsc", 3, 21),
+    ("addl $1,%al", 1, 22),
+    ("addb $256,%al", 1, 23),
+    (".data; .byte 256", 1, 23),
+    (".data; .byte -129", 1, 23),
+    (".data; .short 65536", 1, 23),
+    (".data; .long a-4294967295", 1, 23),
+    (".byte 256", 1, 23),
+    (".zero 4194304; nop", 1, 26),
+    (".data; .zero 33554432; nop", 1, 26),
+    (".data; .zero 33554432\n.byte 1", 2, 25),
+    (".data\n.zero 4294967295", 2, 25),
+    (".bss; .zero 33554433", 1, 25),
+    (".comm a,33554433", 1, 25),
+    (".data; cli", 1, 26),
+    (".data; rdtsc", 1, 21),
+    (".byte 1", 1, 26),
+    (".bss\n.byte 1", 2, 26),
+    (".bss; .ascii \"\"", 1, 26),
+];
+
 #[test]
 fn refusals_have_their_lines_and_causes(rt: HostRuntime) {
-    let rows: [(&str, u32, u8); 20] = [
-        ("nop\nnope", 2, 20),
-        ("nop\n\nrdtsc", 3, 21),
-        ("addl $1,%al", 1, 22),
-        ("addb $256,%al", 1, 23),
-        (".data; .byte 256", 1, 23),
-        (".data; .byte -129", 1, 23),
-        (".data; .short 65536", 1, 23),
-        (".data; .long a-4294967295", 1, 23),
-        (".byte 256", 1, 23),
-        (".zero 4194304; nop", 1, 26),
-        (".data; .zero 33554432; nop", 1, 26),
-        (".data; .zero 33554432\n.byte 1", 2, 25),
-        (".data\n.zero 4294967295", 2, 25),
-        (".bss; .zero 33554433", 1, 25),
-        (".comm a,33554433", 1, 25),
-        (".data; cli", 1, 26),
-        (".data; rdtsc", 1, 21),
-        (".byte 1", 1, 26),
-        (".bss\n.byte 1", 2, 26),
-        (".bss; .ascii \"\"", 1, 26),
-    ];
-    for (source, line, number) in rows.iter() {
+    for (source, line, number) in REFUSED.iter() {
         assert!(rt;
             is_refused(&rt, source.as_bytes(), *line, *number),
             "{source}"
@@ -216,28 +222,27 @@ fn long_text_has_gaps(rt: HostRuntime) -> Result<(), Fail> {
     Ok(())
 }
 
-fn is_symbol(symbol: &Symbol, row: &(&str, Place, u32, bool)) -> bool {
+/// A symbol's name, place and value, and whether it is global.
+type Named = (&'static str, Place, u32, bool);
+
+fn is_symbol(symbol: &Symbol, row: &Named) -> bool {
     symbol.name.list.as_slice() == row.0.as_bytes()
         && symbol.place == row.1
         && symbol.value == row.2
         && symbol.global == row.3
 }
 
-fn are_symbols(symbols: &[Symbol], rows: &[(&str, Place, u32, bool)]) -> bool {
+fn are_symbols(symbols: &[Symbol], rows: &[Named]) -> bool {
+    for (symbol, row) in symbols.iter().zip(rows.iter()) {
+        if !is_symbol(symbol, row) {
+            return false;
+        }
+    }
     symbols.len() == rows.len()
-        && symbols
-            .iter()
-            .zip(rows.iter())
-            .all(|(symbol, row)| is_symbol(symbol, row))
 }
 
 /// Whether a source has these symbols and relocations.
-fn has_symbols(
-    rt: &HostRuntime,
-    source: &str,
-    symbols: &[(&str, Place, u32, bool)],
-    relocs: &[Reloc],
-) -> bool {
+fn has_symbols(rt: &HostRuntime, source: &str, symbols: &[Named], relocs: &[Reloc]) -> bool {
     match answer(rt, source.as_bytes()) {
         Outcome::Made(object) => {
             are_symbols(&object.symbols, symbols) && object.relocs.as_slice() == relocs
@@ -246,22 +251,17 @@ fn has_symbols(
     }
 }
 
-const fn in_text(at: u32, symbol: u32, relative: bool) -> Reloc {
-    Reloc {
-        in_text: true,
-        at,
-        symbol,
-        relative,
-    }
+// A relocation in the text: its place, its symbol, and whether it is relative; and one in the data.
+macro_rules! in_text {
+    ($at:literal, $symbol:literal, $relative:literal) => {
+        Reloc { in_text: true, at: $at, symbol: $symbol, relative: $relative }
+    };
 }
 
-const fn in_data(at: u32, symbol: u32) -> Reloc {
-    Reloc {
-        in_text: false,
-        at,
-        symbol,
-        relative: false,
-    }
+macro_rules! in_data {
+    ($at:literal, $symbol:literal) => {
+        Reloc { in_text: false, at: $at, symbol: $symbol, relative: false }
+    };
 }
 
 const FROM_GCC: &str = "\t.file \"k.c\"
@@ -293,60 +293,51 @@ _start:
 \t.section .note.GNU-stack,\"\",@progbits
 ";
 
+const TEXT_OF_GCC: &[u8] =
+    b"\xB8\x01\x00\x00\x00\xFF\x24\x85\x00\x00\x00\x00\x90\x90\x90\x90\xB8\x21\x00\x00\x00\xE6\x80\x90\x90\x90\xF4\x90\x90\x90\x90";
+
+const SYMBOLS_OF_GCC: [Named; 5] = [
+    (".LFB0", Place::Text, 0, false),
+    (".L4", Place::Init, 0, false),
+    (".L2", Place::Text, 26, false),
+    (".L3", Place::Text, 16, false),
+    ("_start", Place::Text, 0, true),
+];
+
+const RELOCS_OF_GCC: [Reloc; 3] = [in_text!(8, 1, false), in_data!(0, 2), in_data!(4, 3)];
+
 #[test]
 fn output_of_gcc_is_burnt(rt: HostRuntime) {
-    assert!(rt;
-        has_text(
-            &rt,
-            FROM_GCC,
-            b"\xB8\x01\x00\x00\x00\xFF\x24\x85\x00\x00\x00\x00\x90\x90\x90\x90\xB8\x21\x00\x00\x00\xE6\x80\x90\x90\x90\xF4\x90\x90\x90\x90",
-            3
-        )
-    );
+    assert!(rt; has_text(&rt, FROM_GCC, TEXT_OF_GCC, 3));
     assert!(rt; has_data(&rt, FROM_GCC, b"\x00\x00\x00\x00\x00\x00\x00\x00", 0));
-    assert!(rt;
-        has_symbols(
-            &rt,
-            FROM_GCC,
-            &[
-                (".LFB0", Place::Text, 0, false),
-                (".L4", Place::Init, 0, false),
-                (".L2", Place::Text, 26, false),
-                (".L3", Place::Text, 16, false),
-                ("_start", Place::Text, 0, true),
-            ],
-            &[in_text(8, 1, false), in_data(0, 2), in_data(4, 3)]
-        )
-    );
+    assert!(rt; has_symbols(&rt, FROM_GCC, &SYMBOLS_OF_GCC, &RELOCS_OF_GCC));
 }
+
+const REACHES: &str =
+    ".comm a,4; .local b; .comm b,4; .lcomm c,4; .globl c; .global d; .local d; e: call f-1; .data; d: .long e, f; g:";
+
+const REACHING: [Named; 7] = [
+    ("b", Place::Bss, 4, false),
+    ("e", Place::Text, 0, false),
+    ("g", Place::Init, 8, false),
+    ("a", Place::Bss, 0, true),
+    ("c", Place::Bss, 8, true),
+    ("d", Place::Init, 0, true),
+    ("f", Place::Undefined, 0, true),
+];
+
+const REACHED: [Reloc; 3] = [in_text!(1, 6, true), in_data!(0, 1), in_data!(4, 6)];
+
+// In the order in which they are seen.
+const SEEN: [Named; 2] = [
+    ("a", Place::Undefined, 0, true),
+    ("b", Place::Undefined, 0, true),
+];
+
+const OF_BOTH: [Reloc; 2] = [in_text!(2, 1, false), in_text!(6, 0, false)];
 
 #[test]
 fn names_reach_as_far_as_directives_say(rt: HostRuntime) {
-    assert!(rt;
-        has_symbols(
-            &rt,
-            ".comm a,4; .local b; .comm b,4; .lcomm c,4; .globl c; .global d; .local d; e: call f-1; .data; d: .long e, f; g:",
-            &[
-                ("b", Place::Bss, 4, false),
-                ("e", Place::Text, 0, false),
-                ("g", Place::Init, 8, false),
-                ("a", Place::Bss, 0, true),
-                ("c", Place::Bss, 8, true),
-                ("d", Place::Init, 0, true),
-                ("f", Place::Undefined, 0, true),
-            ],
-            &[in_text(1, 6, true), in_data(0, 1), in_data(4, 6)]
-        )
-    );
-    assert!(rt;
-        has_symbols(
-            &rt,
-            "movl $a+4,b-8",
-            &[
-                ("a", Place::Undefined, 0, true),
-                ("b", Place::Undefined, 0, true)
-            ],
-            &[in_text(2, 1, false), in_text(6, 0, false)]
-        )
-    );
+    assert!(rt; has_symbols(&rt, REACHES, &REACHING, &REACHED));
+    assert!(rt; has_symbols(&rt, "movl $a+4,b-8", &SEEN, &OF_BOTH));
 }

@@ -19,103 +19,107 @@ fn items(rt: &HostRuntime, text: &[u8]) -> Option<usize> {
     }
 }
 
+/// A source, and the number of its items.
+const READ: [(&str, usize); 22] = [
+    (".text\n.data\n.bss\n", 3),
+    (".section .rodata.str1.1,\"aMS\",@progbits,1\n", 1),
+    (".globl a; .global b; .local c", 3),
+    (".byte 1,-1,'a,0x1f,017", 1),
+    (".short 1; .word 2; .value 3", 3),
+    (".long a+4,b-8,c,-5; .int a", 2),
+    (".ascii \"a\",\"b\"; .asciz \"\"; .string \"c\"", 3),
+    (".zero 4; .skip 4; .space -0", 3),
+    (
+        ".p2align 4\n.p2align 4,\n.p2align 4,,10\n.p2align 4,144,10\n.p2align 12,-1",
+        5,
+    ),
+    (".align 4096; .balign 1", 2),
+    (".comm a,4; .comm b,4,16; .lcomm c,8", 3),
+    (
+        ".file \"k\"; .type a,@function; .size a,.-a; .ident \"x\"",
+        0,
+    ),
+    (".code32; .loc 1 2; .cfi_startproc", 0),
+    (".section .note\nfoo: .data\na:", 3),
+    (".section .note,\"\"\n 5 5 ( %zz\n.text\nnop", 3),
+    ("_start: cli; hlt", 3),
+    ("rep movsl; ljmp $8,$a+1; in (%dx),%al", 3),
+    ("push %eax; push $a; push $-1; push a; push 4", 5),
+    ("push 4(%eax); push (%eax); push a-4(%eax,%ebx,8)", 3),
+    ("push (,%eax,2); push (%eax,%ebx); push a(,%eax)", 3),
+    ("jmp *%eax; call *4(%eax); call a+4; ret; ret $4", 5),
+    ("a b /* c\n */ # d\n e : f", 3),
+];
+
 #[test]
 fn each_directive_is_read(rt: HostRuntime) {
-    let rows: [(&str, usize); 22] = [
-        (".text\n.data\n.bss\n", 3),
-        (".section .rodata.str1.1,\"aMS\",@progbits,1\n", 1),
-        (".globl a; .global b; .local c", 3),
-        (".byte 1,-1,'a,0x1f,017", 1),
-        (".short 1; .word 2; .value 3", 3),
-        (".long a+4,b-8,c,-5; .int a", 2),
-        (".ascii \"a\",\"b\"; .asciz \"\"; .string \"c\"", 3),
-        (".zero 4; .skip 4; .space -0", 3),
-        (
-            ".p2align 4\n.p2align 4,\n.p2align 4,,10\n.p2align 4,144,10\n.p2align 12,-1",
-            5,
-        ),
-        (".align 4096; .balign 1", 2),
-        (".comm a,4; .comm b,4,16; .lcomm c,8", 3),
-        (
-            ".file \"k\"; .type a,@function; .size a,.-a; .ident \"x\"",
-            0,
-        ),
-        (".code32; .loc 1 2; .cfi_startproc", 0),
-        (".section .note\nfoo: .data\na:", 3),
-        (".section .note,\"\"\n 5 5 ( %zz\n.text\nnop", 3),
-        ("_start: cli; hlt", 3),
-        ("rep movsl; ljmp $8,$a+1; in (%dx),%al", 3),
-        ("push %eax; push $a; push $-1; push a; push 4", 5),
-        ("push 4(%eax); push (%eax); push a-4(%eax,%ebx,8)", 3),
-        ("push (,%eax,2); push (%eax,%ebx); push a(,%eax)", 3),
-        ("jmp *%eax; call *4(%eax); call a+4; ret; ret $4", 5),
-        ("a b /* c\n */ # d\n e : f", 3),
-    ];
-    for (text, count) in rows.iter() {
+    for (text, count) in READ.iter() {
         assert_eq!(rt; items(&rt, text.as_bytes()), Some(*count));
     }
 }
 
+/// A source, and the line and the number of its fault.
+const FAULTS: [(&str, u32, u8); 55] = [
+    ("nop\n\u{1}", 2, 1),
+    ("nop \u{e9}", 1, 1),
+    ("nop\n !", 2, 2),
+    ("nop\n/* a\n", 2, 3),
+    ("nop\n.ascii \"a", 2, 4),
+    (".ascii \"a\\\n\"", 1, 4),
+    (".ascii \"\\q\"", 1, 5),
+    ("\"a\\q", 1, 5),
+    ("push 08", 1, 6),
+    (".long 4294967296", 1, 6),
+    (".long -2147483649", 1, 6),
+    (".long 0X1F", 1, 6),
+    (".text 99999999999", 1, 6),
+    ("push %zz", 1, 7),
+    (".byte %zz", 1, 7),
+    ("%zz", 1, 7),
+    ("push %eax %", 1, 7),
+    ("push %\u{1}", 1, 7),
+    (".byte %/*\n*/ 1", 1, 7),
+    (".byte %/*\n", 1, 7),
+    ("%eax", 1, 8),
+    (".byte +", 1, 8),
+    (".byte 1 2", 1, 8),
+    (".byte /*\n*/ 5(", 2, 8),
+    (".globl a+1", 1, 8),
+    ("rep; movsl", 1, 8),
+    (".section .data foo", 1, 8),
+    (".section .note.GNU -stack", 1, 8),
+    (".section .note.GNU- stack", 1, 8),
+    (".section .note.GNU/**/-stack", 1, 8),
+    (".section .text\"a b\"", 1, 8),
+    (".section .text 99999999999", 1, 6),
+    ("push 4(,%eax,3)", 1, 9),
+    ("\n\n.foo 1", 3, 10),
+    (".foo /*\n*/ x", 2, 10),
+    (".foo:\n.foo /*\n*/ x", 2, 10),
+    (".foo \u{1}", 1, 10),
+    (".zero -1", 1, 11),
+    (".byte", 1, 11),
+    (".byte 1,,2", 1, 11),
+    (".byte foo", 1, 11),
+    (".byte %eax", 1, 11),
+    (".byte %/*\n*/ eax", 1, 11),
+    (".text 1", 1, 11),
+    (".align 3", 1, 11),
+    (".p2align 13", 1, 11),
+    (".p2align 4,5,", 1, 11),
+    (".p2align 4,5,-1", 1, 11),
+    (".section .init", 1, 11),
+    (".section \".text\"", 1, 11),
+    (".comm a", 1, 11),
+    (".comm a,4,3", 1, 11),
+    ("a:\na: b", 2, 12),
+    ("a:\n\n.comm a,4", 3, 12),
+    (".comm a,4\n.lcomm a,4", 2, 12),
+];
+
 #[test]
 fn faults_have_their_lines_and_causes(rt: HostRuntime) {
-    let rows: [(&str, u32, u8); 55] = [
-        ("nop\n\u{1}", 2, 1),
-        ("nop \u{e9}", 1, 1),
-        ("nop\n !", 2, 2),
-        ("nop\n/* a\n", 2, 3),
-        ("nop\n.ascii \"a", 2, 4),
-        (".ascii \"a\\\n\"", 1, 4),
-        (".ascii \"\\q\"", 1, 5),
-        ("\"a\\q", 1, 5),
-        ("push 08", 1, 6),
-        (".long 4294967296", 1, 6),
-        (".long -2147483649", 1, 6),
-        (".long 0X1F", 1, 6),
-        (".text 99999999999", 1, 6),
-        ("push %zz", 1, 7),
-        (".byte %zz", 1, 7),
-        ("%zz", 1, 7),
-        ("push %eax %", 1, 7),
-        ("push %\u{1}", 1, 7),
-        (".byte %/*\n*/ 1", 1, 7),
-        (".byte %/*\n", 1, 7),
-        ("%eax", 1, 8),
-        (".byte +", 1, 8),
-        (".byte 1 2", 1, 8),
-        (".byte /*\n*/ 5(", 2, 8),
-        (".globl a+1", 1, 8),
-        ("rep; movsl", 1, 8),
-        (".section .data foo", 1, 8),
-        (".section .note.GNU -stack", 1, 8),
-        (".section .note.GNU- stack", 1, 8),
-        (".section .note.GNU/**/-stack", 1, 8),
-        (".section .text\"a b\"", 1, 8),
-        (".section .text 99999999999", 1, 6),
-        ("push 4(,%eax,3)", 1, 9),
-        ("\n\n.foo 1", 3, 10),
-        (".foo /*\n*/ x", 2, 10),
-        (".foo:\n.foo /*\n*/ x", 2, 10),
-        (".foo \u{1}", 1, 10),
-        (".zero -1", 1, 11),
-        (".byte", 1, 11),
-        (".byte 1,,2", 1, 11),
-        (".byte foo", 1, 11),
-        (".byte %eax", 1, 11),
-        (".byte %/*\n*/ eax", 1, 11),
-        (".text 1", 1, 11),
-        (".align 3", 1, 11),
-        (".p2align 13", 1, 11),
-        (".p2align 4,5,", 1, 11),
-        (".p2align 4,5,-1", 1, 11),
-        (".section .init", 1, 11),
-        (".section \".text\"", 1, 11),
-        (".comm a", 1, 11),
-        (".comm a,4,3", 1, 11),
-        ("a:\na: b", 2, 12),
-        ("a:\n\n.comm a,4", 3, 12),
-        (".comm a,4\n.lcomm a,4", 2, 12),
-    ];
-    for (text, line, cause) in rows.iter() {
+    for (text, line, cause) in FAULTS.iter() {
         assert_eq!(rt; fault(&rt, text.as_bytes()), Some((*line, *cause)));
     }
 }
@@ -166,14 +170,16 @@ fn behind_all(alloc: Global, end: &str) -> Result<Vec<u8>, AllocError> {
     Ok(text)
 }
 
+/// What follows the last name, and the line and the number of the fault.
+const LAST_LINES: [(&str, u32, u8); 3] = [
+    (".comm /*\n*/ y,4", 65537, 14),
+    (".lcomm /*\n*/ %zz", 65537, 7),
+    (".globl /*\n*/ y", 65538, 14),
+];
+
 #[test]
 fn no_name_is_left(rt: HostRuntime) {
-    let rows: [(&str, u32, u8); 3] = [
-        (".comm /*\n*/ y,4", 65537, 14),
-        (".lcomm /*\n*/ %zz", 65537, 7),
-        (".globl /*\n*/ y", 65538, 14),
-    ];
-    for (end, line, cause) in rows.iter() {
+    for (end, line, cause) in LAST_LINES.iter() {
         let text = behind_all(rt.alloc(), end).expect(&rt, "memory");
         assert_eq!(rt; fault(&rt, &text), Some((*line, *cause)));
     }
@@ -242,20 +248,22 @@ fn text(rt: &HostRuntime, source: &[u8]) -> Option<Vec<u8>> {
     }
 }
 
+/// A directive, and the bytes of its first argument.
+const BYTES: [(&str, &str); 9] = [
+    (".ascii \"a\\n\\\"b\\101\\11c\\7\"", "a\n\"bA\tc\u{7}"),
+    (".string \"\\t\\r\\b\\f\\\\\\'\"", "\t\r\u{8}\u{c}\\'"),
+    (".section .note.GNU-stack,\"\",@progbits", ".note.GNU-stack"),
+    (".section .text-1", ".text-1"),
+    (".section .text.a--2 , 5", ".text.a--2"),
+    (".section .data.a+b:c(\n", ".data.a+b:c("),
+    (".section .bss-99999999999;nop", ".bss-99999999999"),
+    (".section .rodata\"a\"'b$%# c", ".rodata\"a\"'b$%"),
+    (".section .debug/**/,-", ".debug"),
+];
+
 #[test]
 fn strings_and_sections_have_their_bytes(rt: HostRuntime) {
-    let rows: [(&str, &str); 9] = [
-        (".ascii \"a\\n\\\"b\\101\\11c\\7\"", "a\n\"bA\tc\u{7}"),
-        (".string \"\\t\\r\\b\\f\\\\\\'\"", "\t\r\u{8}\u{c}\\'"),
-        (".section .note.GNU-stack,\"\",@progbits", ".note.GNU-stack"),
-        (".section .text-1", ".text-1"),
-        (".section .text.a--2 , 5", ".text.a--2"),
-        (".section .data.a+b:c(\n", ".data.a+b:c("),
-        (".section .bss-99999999999;nop", ".bss-99999999999"),
-        (".section .rodata\"a\"'b$%# c", ".rodata\"a\"'b$%"),
-        (".section .debug/**/,-", ".debug"),
-    ];
-    for (source, bytes) in rows.iter() {
+    for (source, bytes) in BYTES.iter() {
         assert!(rt;
             text(&rt, source.as_bytes())
                 .expect(&rt, "memory")

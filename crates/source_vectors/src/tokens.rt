@@ -3,10 +3,27 @@ use asm_parse::parse;
 use std::alloc::AllocError;
 use std::test::*;
 
-/// A token of this kind at this place.
-fn token(kind: TokenKind, at: u32, len: u32) -> Token {
-    Token { kind, at, len }
+// A token of this kind at this place, of so many bytes.
+macro_rules! token {
+    ($kind:expr, $at:literal, $len:literal) => {
+        Token { kind: $kind, at: $at, len: $len }
+    };
 }
+
+const LEXED: [Token; 12] = [
+    token!(TokenKind::Name, 0, 1),
+    token!(TokenKind::Mark(b':'), 1, 1),
+    token!(TokenKind::Name, 3, 5),
+    token!(TokenKind::Number, 9, 2),
+    token!(TokenKind::Mark(b','), 11, 1),
+    token!(TokenKind::Text, 13, 4),
+    token!(TokenKind::End, 21, 1),
+    token!(TokenKind::Mark(b'-'), 22, 1),
+    token!(TokenKind::Number, 23, 4),
+    token!(TokenKind::Mark(b','), 27, 1),
+    token!(TokenKind::Name, 28, 1),
+    token!(TokenKind::End, 36, 1),
+];
 
 #[test]
 fn tokens_have_their_kinds_and_places(rt: HostRuntime) {
@@ -21,21 +38,7 @@ fn tokens_have_their_kinds_and_places(rt: HostRuntime) {
     let tokens = lex(rt.alloc(), b"a:\t.long 'b, \"c;\" # d\n-0x8F,a/* \n */;").expect(
         &rt, "memory",
     );
-    let want = [
-        token(TokenKind::Name, 0, 1),
-        token(TokenKind::Mark(b':'), 1, 1),
-        token(TokenKind::Name, 3, 5),
-        token(TokenKind::Number, 9, 2),
-        token(TokenKind::Mark(b','), 11, 1),
-        token(TokenKind::Text, 13, 4),
-        token(TokenKind::End, 21, 1),
-        token(TokenKind::Mark(b'-'), 22, 1),
-        token(TokenKind::Number, 23, 4),
-        token(TokenKind::Mark(b','), 27, 1),
-        token(TokenKind::Name, 28, 1),
-        token(TokenKind::End, 36, 1),
-    ];
-    assert!(rt; tokens.as_slice() == want.as_slice());
+    assert!(rt; tokens.as_slice() == LEXED.as_slice());
 }
 
 /// The line and the number of a refusal.
@@ -46,23 +49,25 @@ fn fault(rt: &HostRuntime, text: &[u8]) -> Option<(u32, u8)> {
     }
 }
 
+/// A text, and the line and the number of its refusal.
+const REFUSED: [(&str, u32, u8); 12] = [
+    ("a\n\u{7f}", 2, 1),
+    ("# \u{1}", 1, 1),
+    ("a !", 1, 2),
+    ("\n/ *", 2, 2),
+    ("\n/* \n *", 2, 3),
+    ("\"a\n\"", 1, 4),
+    ("\"a\\", 1, 4),
+    ("\"\\x41\"", 1, 5),
+    ("08", 1, 6),
+    ("0x", 1, 6),
+    ("1f", 1, 6),
+    ("'\n", 1, 6),
+];
+
 #[test]
 fn refusals_have_their_lines(rt: HostRuntime) {
-    let rows: [(&str, u32, u8); 12] = [
-        ("a\n\u{7f}", 2, 1),
-        ("# \u{1}", 1, 1),
-        ("a !", 1, 2),
-        ("\n/ *", 2, 2),
-        ("\n/* \n *", 2, 3),
-        ("\"a\n\"", 1, 4),
-        ("\"a\\", 1, 4),
-        ("\"\\x41\"", 1, 5),
-        ("08", 1, 6),
-        ("0x", 1, 6),
-        ("1f", 1, 6),
-        ("'\n", 1, 6),
-    ];
-    for (text, line, cause) in rows.iter() {
+    for (text, line, cause) in REFUSED.iter() {
         assert_eq!(rt; fault(&rt, text.as_bytes()), Some((*line, *cause)));
     }
 }
@@ -92,7 +97,7 @@ fn long_texts_have_all_their_tokens(rt: HostRuntime) {
     let tokens = lex(rt.alloc(), &text).expect(&rt, "memory");
     assert_eq!(rt; tokens.len(), 2000);
     let last = tokens.last().copied();
-    assert_eq!(rt; last, Some(token(TokenKind::End, 3999, 1)));
+    assert_eq!(rt; last, Some(token!(TokenKind::End, 3999, 1)));
     let source = parse(rt.alloc(), &text).expect(&rt, "memory");
     assert_eq!(rt; source.items.len(), 1000);
 }

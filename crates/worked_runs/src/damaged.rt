@@ -41,32 +41,46 @@ fn checked(alloc: Global, bytes: &[u8]) -> Result<(u8, Vec<u8>), IoAnswer> {
     Ok((status.number(), Vec::from_slice(alloc, out.bytes())?))
 }
 
+/// The lengths or places from one up to another, and the line that is printed for each.
+type Stretch<'a> = (usize, usize, &'a [u8]);
+
+// The object's section table begins at 212 and ends the file.
+const CUT_OBJECTS: [Stretch<'static>; 2] = [
+    (0, 52, b"refused 40 object 0 at 0\n"),
+    (52, 612, b"refused 40 object 0 at 212\n"),
+];
+
 #[test]
-fn cut_files_are_refused_by_the_part_that_is_cut(rt: HostRuntime) -> Result<(), Fail> {
-    // The object's section table begins at 212 and ends the file; the image's program headers begin at 52, and its section
-    // table ends the file at 8,496.
+fn cut_objects_are_refused_by_the_part_that_is_cut(rt: HostRuntime) -> Result<(), Fail> {
     let alloc = rt.alloc();
     let object = file(alloc, "O")?;
     assert_eq!(rt; object.len(), 612);
-    for (from, to, line) in [
-        (0, 52, b"refused 40 object 0 at 0\n".as_slice()),
-        (52, 612, b"refused 40 object 0 at 212\n"),
-    ] {
+    for row in &CUT_OBJECTS {
+        let (from, to, line) = *row;
         for len in from..to {
             let cut = object.as_slice().get(..len).ok_or("short")?;
             let (status, told, stored) = linked(alloc, cut)?;
             assert_eq!(rt; told.as_slice(), line, "{len}");
-            assert_eq!(rt; status, 3);
-            assert!(rt; !stored);
+            assert!(rt; status == 3 && !stored);
         }
     }
+    Ok(())
+}
+
+// The image's program headers begin at 52, and its section table ends the file at 8,496.
+const CUT_IMAGES: [Stretch<'static>; 3] = [
+    (0, 52, b"refused 40 at 0\n"),
+    (52, 116, b"refused 40 at 52\n"),
+    (116, 8496, b"refused 40 at 8256\n"),
+];
+
+#[test]
+fn cut_images_are_refused_by_the_part_that_is_cut(rt: HostRuntime) -> Result<(), Fail> {
+    let alloc = rt.alloc();
     let image = file(alloc, "I")?;
     assert_eq!(rt; image.len(), 8496);
-    for (from, to, line) in [
-        (0, 52, b"refused 40 at 0\n".as_slice()),
-        (52, 116, b"refused 40 at 52\n"),
-        (116, 8496, b"refused 40 at 8256\n"),
-    ] {
+    for row in &CUT_IMAGES {
+        let (from, to, line) = *row;
         for len in from..to {
             let cut = image.as_slice().get(..len).ok_or("short")?;
             let (status, told) = checked(alloc, cut)?;
@@ -218,7 +232,8 @@ fn spoiled_fields_of_objects_are_refused_or_ignored(rt: HostRuntime) -> Result<(
     let alloc = rt.alloc();
     let object = file(alloc, "O")?;
     let good = b"image text 19 data 0 bss 0 sites 2\n".as_slice();
-    for (from, count) in [(20, 5), (212, 100)] {
+    for row in &[(20, 5), (212, 100)] {
+        let (from, count) = *row;
         for index in 0..count {
             let at = from + 4 * index;
             let (status, told, stored) = linked(alloc, &spoiled(alloc, &object, at)?)?;
@@ -244,7 +259,8 @@ fn spoiled_fields_of_images_are_refused_or_ignored(rt: HostRuntime) -> Result<()
     let alloc = rt.alloc();
     let image = file(alloc, "I")?;
     let good = b"accepted text 19 data 0 bss 0 sites 2 format 1\n".as_slice();
-    for (from, count) in [(20, 5), (52, 16), (8256, 60)] {
+    for row in &[(20, 5), (52, 16), (8256, 60)] {
+        let (from, count) = *row;
         for index in 0..count {
             let at = from + 4 * index;
             let (status, told) = checked(alloc, &spoiled(alloc, &image, at)?)?;
@@ -265,9 +281,6 @@ fn spoiled_fields_of_images_are_refused_or_ignored(rt: HostRuntime) -> Result<()
 }
 
 const SCRIPT: &[u8] = b"4 rx 41\n\n#x\n5 line 12";
-
-/// The lengths or places from one up to another, and the line that is printed for each.
-type Stretch<'a> = (usize, usize, &'a [u8]);
 
 const READ: &[u8] = b"end steps 0\n";
 
@@ -325,7 +338,8 @@ fn changed(alloc: Global, at: usize, byte: u8) -> Result<Vec<u8>, AllocError> {
 fn damaged_scripts_are_refused_by_their_line(rt: HostRuntime) -> Result<(), Fail> {
     let alloc = rt.alloc();
     let image = file(alloc, "I")?;
-    for (from, to, line) in CUT {
+    for row in &CUT {
+        let (from, to, line) = *row;
         for len in from..to {
             let script = SCRIPT.get(..len).ok_or("short")?;
             assert_eq!(rt; run(alloc, &image, script)?.as_slice(), line, "{len}");

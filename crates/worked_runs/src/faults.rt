@@ -8,6 +8,9 @@ use pv_tool::{Status, top};
 use std::alloc::{AllocError, Global};
 use std::test::Fail;
 
+/// The words of a command.
+type Words = &'static [&'static str];
+
 const SOURCE: &[u8] = b"_start: hlt\n";
 
 /// A list of one call.
@@ -35,26 +38,31 @@ fn holds(alloc: Global, files: &mut MemFiles, name: &str) -> bool {
 }
 
 /// The words, the calls of the files that they make and the number of that which fails, and the status. Nothing is printed.
-type Failing<'a> = (&'a [&'a str], u64, u64, u8);
+type Failing = (Words, u64, u64, u8);
+
+const RUN: Words = &["run", "--bare", "I", "B", "2048", "8"];
+
+const RUN_WEDGE: Words = &["run", "--wedge", "I", "B", "2048", "8"];
+
+/// Of each command each of its calls fails.
+const FAILING: [Failing; 10] = [
+    (&["burn", "S", "P"], 1, 0, 5),
+    (&["burn", "S", "P"], 2, 1, 6),
+    (&["link", "P", "O", "O"], 1, 0, 5),
+    (&["link", "P", "O", "O"], 2, 1, 5),
+    (&["link", "P", "O"], 2, 1, 6),
+    (&["check", "I"], 1, 0, 5),
+    (RUN, 1, 0, 5),
+    (RUN, 2, 1, 5),
+    (RUN_WEDGE, 1, 0, 5),
+    (RUN_WEDGE, 2, 1, 5),
+];
 
 #[test]
 fn a_load_or_store_that_fails_is_the_last_call(rt: HostRuntime) -> Result<(), Fail> {
     let alloc = rt.alloc();
-    let run = ["run", "--bare", "I", "B", "2048", "8"];
-    let run_wedge = ["run", "--wedge", "I", "B", "2048", "8"];
-    let rows: [Failing<'_>; 10] = [
-        (["burn", "S", "P"].as_slice(), 1, 0, 5),
-        (["burn", "S", "P"].as_slice(), 2, 1, 6),
-        (["link", "P", "O", "O"].as_slice(), 1, 0, 5),
-        (["link", "P", "O", "O"].as_slice(), 2, 1, 5),
-        (["link", "P", "O"].as_slice(), 2, 1, 6),
-        (["check", "I"].as_slice(), 1, 0, 5),
-        (run.as_slice(), 1, 0, 5),
-        (run.as_slice(), 2, 1, 5),
-        (run_wedge.as_slice(), 1, 0, 5),
-        (run_wedge.as_slice(), 2, 1, 5),
-    ];
-    for (all, made, failing, status) in rows {
+    for row in &FAILING {
+        let (all, made, failing, status) = *row;
         let mut files = held(alloc)?;
         let before = files.calls;
         files.fail = only(alloc, before.wrapping_add(failing))?;
@@ -71,40 +79,27 @@ fn a_load_or_store_that_fails_is_the_last_call(rt: HostRuntime) -> Result<(), Fa
     Ok(())
 }
 
+/// The words, the status, and how many files were loaded.
+const LOADED: [(Words, u8, u64); 12] = [
+    (&["run", "--bare", "X", "missing", "2048", "1"], 3, 1),
+    (&["run", "--bare", "missing", "X", "2048", "1"], 5, 1),
+    (&["run", "--bare", "I", "missing", "2048", "1"], 5, 2),
+    (&["run", "--bare", "I", "X", "2048", "1"], 3, 2),
+    (&["run", "--wedge", "X", "missing", "2048", "1"], 3, 1),
+    (&["run", "--wedge", "I", "X", "2048", "1"], 3, 2),
+    (&["link", "P", "X", "missing"], 3, 1),
+    (&["link", "P", "missing", "O"], 5, 1),
+    (&["link", "P", "O", "missing", "X"], 5, 2),
+    (&["link", "P", "O", "X", "missing"], 3, 2),
+    (&["check", "missing"], 5, 1),
+    (&["burn", "missing", "P"], 5, 1),
+];
+
 #[test]
 fn nothing_is_loaded_behind_a_refusal_or_a_missing_name(rt: HostRuntime) -> Result<(), Fail> {
     let alloc = rt.alloc();
-    let rows: [(&[&str], u8, u64); 12] = [
-        (
-            ["run", "--bare", "X", "missing", "2048", "1"].as_slice(),
-            3,
-            1,
-        ),
-        (
-            ["run", "--bare", "missing", "X", "2048", "1"].as_slice(),
-            5,
-            1,
-        ),
-        (
-            ["run", "--bare", "I", "missing", "2048", "1"].as_slice(),
-            5,
-            2,
-        ),
-        (["run", "--bare", "I", "X", "2048", "1"].as_slice(), 3, 2),
-        (
-            ["run", "--wedge", "X", "missing", "2048", "1"].as_slice(),
-            3,
-            1,
-        ),
-        (["run", "--wedge", "I", "X", "2048", "1"].as_slice(), 3, 2),
-        (["link", "P", "X", "missing"].as_slice(), 3, 1),
-        (["link", "P", "missing", "O"].as_slice(), 5, 1),
-        (["link", "P", "O", "missing", "X"].as_slice(), 5, 2),
-        (["link", "P", "O", "X", "missing"].as_slice(), 3, 2),
-        (["check", "missing"].as_slice(), 5, 1),
-        (["burn", "missing", "P"].as_slice(), 5, 1),
-    ];
-    for (all, status, made) in rows {
+    for row in &LOADED {
+        let (all, status, made) = *row;
         let mut files = held(alloc)?;
         let before = files.calls;
         let (answered, _) = answer(alloc, &mut files, all)?;
@@ -129,45 +124,50 @@ fn told(
     Ok((status, out))
 }
 
+/// The words, the call of the sink that fails, the status, and what the sink took.
+const PUT: [(Words, u64, u8, &[u8]); 12] = [
+    (&["burn", "S", "P"], 0, 6, b""),
+    (
+        &["burn", "S", "P"],
+        1,
+        0,
+        b"object text 5 data 0 bss 0 sites 1\n",
+    ),
+    (&["link", "P", "O"], 0, 6, b""),
+    (
+        &["link", "P", "O"],
+        1,
+        0,
+        b"image text 7 data 0 bss 0 sites 1\n",
+    ),
+    (&["check", "I"], 0, 6, b""),
+    (&["check", "X"], 0, 6, b""),
+    (&["check", "X"], 1, 3, b"refused 40 at 1094795585\n"),
+    (&["burn", "X", "Q"], 0, 6, b""),
+    (&["run", "--bare", "K", "B", "2048", "8"], 0, 6, b""),
+    (
+        &["run", "--bare", "K", "B", "2048", "8"],
+        1,
+        6,
+        b"2 out8 03f8 48\n",
+    ),
+    (
+        &["run", "--bare", "K", "B", "2048", "8"],
+        2,
+        6,
+        b"2 out8 03f8 48\n2 tx 48\n",
+    ),
+    (
+        &["run", "--bare", "K", "B", "2048", "8"],
+        3,
+        0,
+        b"2 out8 03f8 48\n2 tx 48\nend steps 8\n",
+    ),
+];
+
 #[test]
 fn each_line_is_one_put_and_its_fault_is_told(rt: HostRuntime) -> Result<(), Fail> {
-    // The words, the call of the sink that fails, the status, and what the sink took.
     let alloc = rt.alloc();
-    let run = ["run", "--bare", "K", "B", "2048", "8"];
-    let rows: [(&[&str], u64, u8, &[u8]); 12] = [
-        (["burn", "S", "P"].as_slice(), 0, 6, b""),
-        (
-            ["burn", "S", "P"].as_slice(),
-            1,
-            0,
-            b"object text 5 data 0 bss 0 sites 1\n",
-        ),
-        (["link", "P", "O"].as_slice(), 0, 6, b""),
-        (
-            ["link", "P", "O"].as_slice(),
-            1,
-            0,
-            b"image text 7 data 0 bss 0 sites 1\n",
-        ),
-        (["check", "I"].as_slice(), 0, 6, b""),
-        (["check", "X"].as_slice(), 0, 6, b""),
-        (
-            ["check", "X"].as_slice(),
-            1,
-            3,
-            b"refused 40 at 1094795585\n",
-        ),
-        (["burn", "X", "Q"].as_slice(), 0, 6, b""),
-        (run.as_slice(), 0, 6, b""),
-        (run.as_slice(), 1, 6, b"2 out8 03f8 48\n"),
-        (run.as_slice(), 2, 6, b"2 out8 03f8 48\n2 tx 48\n"),
-        (
-            run.as_slice(),
-            3,
-            0,
-            b"2 out8 03f8 48\n2 tx 48\nend steps 8\n",
-        ),
-    ];
     let mut files = held(alloc)?;
     files.store(
         "T",
@@ -175,7 +175,8 @@ fn each_line_is_one_put_and_its_fault_is_told(rt: HostRuntime) -> Result<(), Fai
     )?;
     answer(alloc, &mut files, &["burn", "T", "U"])?;
     answer(alloc, &mut files, &["link", "K", "U"])?;
-    for (all, call, status, taken) in rows {
+    for row in &PUT {
+        let (all, call, status, taken) = *row;
         let (answered, out) = told(alloc, &mut files, all, call)?;
         assert_eq!(rt; out.bytes(), taken);
         assert_eq!(rt; answered.number(), status);
@@ -186,16 +187,17 @@ fn each_line_is_one_put_and_its_fault_is_told(rt: HostRuntime) -> Result<(), Fai
     Ok(())
 }
 
+/// The call of the sink that fails, the status, and what the sink took.
+const ENDED: [(u64, u8, &[u8]); 4] = [
+    (0, 6, b""),
+    (1, 6, b"2 out8 03f8 48\n"),
+    (2, 6, b"2 out8 03f8 48\n2 tx 48\n"),
+    (3, 0, b"2 out8 03f8 48\n2 tx 48\nend steps 8\n"),
+];
+
 #[test]
 fn a_sink_that_fails_ends_both_runs(rt: HostRuntime) -> Result<(), Fail> {
-    // The call of the sink that fails, the status, and what the sink took.
     let alloc = rt.alloc();
-    let rows: [(u64, u8, &[u8]); 4] = [
-        (0, 6, b""),
-        (1, 6, b"2 out8 03f8 48\n"),
-        (2, 6, b"2 out8 03f8 48\n2 tx 48\n"),
-        (3, 0, b"2 out8 03f8 48\n2 tx 48\nend steps 8\n"),
-    ];
     let mut files = held(alloc)?;
     files.store(
         "T",
@@ -204,7 +206,8 @@ fn a_sink_that_fails_ends_both_runs(rt: HostRuntime) -> Result<(), Fail> {
     answer(alloc, &mut files, &["burn", "T", "U"])?;
     answer(alloc, &mut files, &["link", "I", "U"])?;
     for machine in ["--bare", "--wedge"] {
-        for (call, number, taken) in rows {
+        for row in &ENDED {
+            let (call, number, taken) = *row;
             let mut host = Machine::new();
             let mut out = MemSink::new(alloc, 4096, only(alloc, call)?)?;
             let status = run_on(alloc, &mut files, machine, "2048", "8", &mut host, &mut out)?;
@@ -234,6 +237,18 @@ fn a_source_may_become_its_own_object(rt: HostRuntime) -> Result<(), Fail> {
     Ok(())
 }
 
+/// The words, in this order, and the status.
+const NEVER_FAILING: [(Words, u8); 8] = [
+    (&["burn", "S", "O"], 0),
+    (&["link", "I", "O"], 0),
+    (&["check", "I"], 0),
+    (&["run", "--bare", "I", "B", "2048", "8"], 0),
+    (&["run", "--bare", "I", "B", "16384", "100"], 0),
+    (&["run", "--wedge", "I", "B", "16384", "100"], 0),
+    (&["run", "--bare", "S", "missing", "2048", "8"], 3),
+    (&["link", "no", "S", "missing"], 3),
+];
+
 #[test]
 fn sure_files_and_a_sure_sink_never_fail(rt: HostRuntime) -> Result<(), Fail> {
     let alloc = rt.alloc();
@@ -241,17 +256,8 @@ fn sure_files_and_a_sure_sink_never_fail(rt: HostRuntime) -> Result<(), Fail> {
     files.store("B", b"")?;
     files.store("S", SOURCE)?;
     let mut out = SureSink::new();
-    let rows: [(&[&str], u8); 8] = [
-        (["burn", "S", "O"].as_slice(), 0),
-        (["link", "I", "O"].as_slice(), 0),
-        (["check", "I"].as_slice(), 0),
-        (["run", "--bare", "I", "B", "2048", "8"].as_slice(), 0),
-        (["run", "--bare", "I", "B", "16384", "100"].as_slice(), 0),
-        (["run", "--wedge", "I", "B", "16384", "100"].as_slice(), 0),
-        (["run", "--bare", "S", "missing", "2048", "8"].as_slice(), 3),
-        (["link", "no", "S", "missing"].as_slice(), 3),
-    ];
-    for (all, status) in rows {
+    for row in &NEVER_FAILING {
+        let (all, status) = *row;
         let words = words(alloc, all)?;
         let answered = top(alloc, &words, &mut files, &mut out, &mut Machine::new());
         assert_eq!(rt; answered.number(), status);
@@ -260,28 +266,30 @@ fn sure_files_and_a_sure_sink_never_fail(rt: HostRuntime) -> Result<(), Fail> {
     Ok(())
 }
 
+const NO_FORM: [Words; 14] = [
+    &["burn", "S"],
+    &["burn", "", "O"],
+    &["link", "I"],
+    &["link", "I", "O", ""],
+    &["check", "I", "I"],
+    &["check", ""],
+    &["run", "--fast", "I", "B", "2048", "1"],
+    &["run", "--bare", "I", "B", "2047", "1"],
+    &["run", "--bare", "I", "B", "02048", "1"],
+    &["run", "--bare", "I", "B", "2048", "1099511627777"],
+    &["run", "--wedge", "I", "B", "2048"],
+    &["run", "--wedge", "I", "B", "16385", "1"],
+    &["run", "--wedge", "I", "B", "2048", "01"],
+    &["--help"],
+];
+
 #[test]
 fn words_of_no_form_are_refused(rt: HostRuntime) -> Result<(), Fail> {
     let alloc = rt.alloc();
-    for all in [
-        ["burn", "S"].as_slice(),
-        ["burn", "", "O"].as_slice(),
-        ["link", "I"].as_slice(),
-        ["link", "I", "O", ""].as_slice(),
-        ["check", "I", "I"].as_slice(),
-        ["check", ""].as_slice(),
-        ["run", "--fast", "I", "B", "2048", "1"].as_slice(),
-        ["run", "--bare", "I", "B", "2047", "1"].as_slice(),
-        ["run", "--bare", "I", "B", "02048", "1"].as_slice(),
-        ["run", "--bare", "I", "B", "2048", "1099511627777"].as_slice(),
-        ["run", "--wedge", "I", "B", "2048"].as_slice(),
-        ["run", "--wedge", "I", "B", "16385", "1"].as_slice(),
-        ["run", "--wedge", "I", "B", "2048", "01"].as_slice(),
-        ["--help"].as_slice(),
-    ] {
+    for words in &NO_FORM {
         let mut files = held(alloc)?;
         let before = files.calls;
-        let (status, out) = answer(alloc, &mut files, all)?;
+        let (status, out) = answer(alloc, &mut files, *words)?;
         assert_eq!(rt; status.number(), 2);
         assert_eq!(rt; out.bytes().len(), 0);
         assert_eq!(rt; files.calls, before);

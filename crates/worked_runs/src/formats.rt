@@ -37,6 +37,20 @@ fn with_annotations(alloc: Global, image: &[u8], annotations: &[u8]) -> Result<V
     Ok(changed)
 }
 
+/// Annotations, the line of `check`, the status, and what both machines print.
+type Annotated = (&'static [u8], &'static [u8], u8, &'static [u8]);
+
+const ANNOTATED: [Annotated; 3] = [
+    (
+        GAPS,
+        b"accepted text 19 data 0 bss 0 sites 2 format 2\n",
+        0,
+        b"2 out8 03f8 48\n2 tx 48\nend steps 8\n",
+    ),
+    (ONE, b"refused 68 at 12\n", 3, b"refused 68 at 12\n"),
+    (b"PV", b"refused 69 at 2\n", 3, b"refused 69 at 2\n"),
+];
+
 #[test]
 fn an_image_has_all_its_sites_by_places_or_gaps(rt: HostRuntime) -> Result<(), Fail> {
     let alloc = rt.alloc();
@@ -46,17 +60,8 @@ fn an_image_has_all_its_sites_by_places_or_gaps(rt: HostRuntime) -> Result<(), F
     )?;
     let mut image = Vec::new(alloc);
     files.load(alloc, "I", &mut image)?;
-    let runs = b"2 out8 03f8 48\n2 tx 48\nend steps 8\n".as_slice();
-    for (annotations, line, number, text) in [
-        (
-            GAPS,
-            b"accepted text 19 data 0 bss 0 sites 2 format 2\n".as_slice(),
-            0,
-            runs,
-        ),
-        (ONE, b"refused 68 at 12\n", 3, b"refused 68 at 12\n"),
-        (b"PV", b"refused 69 at 2\n", 3, b"refused 69 at 2\n"),
-    ] {
+    for row in &ANNOTATED {
+        let (annotations, line, number, text) = *row;
         let changed = with_annotations(alloc, &image, annotations)?;
         files.store("I", &changed)?;
         let (status, out) = answer(alloc, &mut files, &["check", "I"])?;
@@ -66,6 +71,24 @@ fn an_image_has_all_its_sites_by_places_or_gaps(rt: HostRuntime) -> Result<(), F
     }
     Ok(())
 }
+
+/// The words of a command, and its line.
+type Said = (&'static [&'static str], &'static [u8]);
+
+const LONG_TEXT: [Said; 3] = [
+    (
+        &["burn", "S", "O"],
+        b"object text 8192000 data 0 bss 0 sites 0\n",
+    ),
+    (
+        &["link", "I", "O"],
+        b"image text 8192002 data 0 bss 0 sites 0\n",
+    ),
+    (
+        &["check", "I"],
+        b"accepted text 8192002 data 0 bss 0 sites 0 format 2\n",
+    ),
+];
 
 #[test]
 fn a_long_text_has_gaps(rt: HostRuntime) -> Result<(), Fail> {
@@ -78,20 +101,8 @@ fn a_long_text_has_gaps(rt: HostRuntime) -> Result<(), Fail> {
     let mut files = MemFiles::new(alloc, Vec::new(alloc))?;
     files.store("S", &source)?;
     files.store("B", b"")?;
-    for (words, line) in [
-        (
-            ["burn", "S", "O"].as_slice(),
-            b"object text 8192000 data 0 bss 0 sites 0\n".as_slice(),
-        ),
-        (
-            ["link", "I", "O"].as_slice(),
-            b"image text 8192002 data 0 bss 0 sites 0\n".as_slice(),
-        ),
-        (
-            ["check", "I"].as_slice(),
-            b"accepted text 8192002 data 0 bss 0 sites 0 format 2\n".as_slice(),
-        ),
-    ] {
+    for row in &LONG_TEXT {
+        let (words, line) = *row;
         let (_, out) = answer(alloc, &mut files, words)?;
         assert_eq!(rt; out.bytes(), line);
     }

@@ -256,7 +256,8 @@ fn stops_end_hostile_kernels(rt: HostRuntime) -> Result<(), Fail> {
 #[test]
 fn a_monitor_keeps_its_windows(rt: HostRuntime) -> Result<(), Fail> {
     let alloc = rt.alloc();
-    for (source, text) in BORDERS {
+    for row in &BORDERS {
+        let (source, text) = *row;
         let mut files = built(alloc, source)?;
         let prints = Prints::Apart {
             bare: (4, b"end steps 0 stop 4 DeliveryFailed\n"),

@@ -34,6 +34,42 @@ fn len(bytes: &[u8]) -> u32
     (bytes.len() % 65536) as u32
 }
 
+const IDENTIFICATION: [u8; 16] = [0x7F, 0x45, 0x4C, 0x46, 1, 1, 1, 0, 0, 0, 0, 0, 0, 0, 0, 0];
+
+// How many entries the tables have, and how long these are.
+const SIZES: [u32; 4] = [0, 0x0020_0034, 0x0028_0002, 0x0002_0003];
+
+const NULL_SECTION: [u32; 10] = [0; 10];
+
+// The header of a file whose section headers stand there.
+fn put_header(out: &mut Vec<u8>, sections_at: u32) -> Result<(), AllocError> {
+    out.extend_from_slice(&IDENTIFICATION)?;
+    put(out, &[0x0003_0002, 1, 0x1000_0000, 52, sections_at])?;
+    put(out, &SIZES)
+}
+
+// The program headers, of so much text and data.
+fn put_programs(out: &mut Vec<u8>, text: u32, init: u32, bss: u32) -> Result<(), AllocError> {
+    put(
+        out,
+        &[1, 116, 0x1000_0000, 0x1000_0000, text, text, 5, 0x1000],
+    )?;
+    let whole = init.wrapping_add(bss);
+    put(
+        out,
+        &[
+            1,
+            text.wrapping_add(116),
+            0x1100_0000,
+            0x1100_0000,
+            init,
+            whole,
+            6,
+            0x1000,
+        ],
+    )
+}
+
 // An image file: header, program headers, text, data, annotations, names, section table.
 fn image(alloc: Global, kernel: &Kernel<'_>) -> Result<Vec<u8>, AllocError> {
     let text = len(kernel.text);
@@ -41,44 +77,14 @@ fn image(alloc: Global, kernel: &Kernel<'_>) -> Result<Vec<u8>, AllocError> {
     let sites = len(kernel.sites);
     let names = 124 + text + init + sites;
     let mut out = Vec::new(alloc);
-    out.extend_from_slice(&[0x7F, 0x45, 0x4C, 0x46, 1, 1, 1, 0, 0, 0, 0, 0, 0, 0, 0, 0])?;
-    put(
-        &mut out,
-        &[
-            0x0003_0002,
-            1,
-            0x1000_0000,
-            52,
-            names + 21,
-            0,
-            0x0020_0034,
-            0x0028_0002,
-            0x0002_0003,
-        ],
-    )?;
-    put(
-        &mut out,
-        &[1, 116, 0x1000_0000, 0x1000_0000, text, text, 5, 0x1000],
-    )?;
-    put(
-        &mut out,
-        &[
-            1,
-            116 + text,
-            0x1100_0000,
-            0x1100_0000,
-            init,
-            init.wrapping_add(kernel.bss),
-            6,
-            0x1000,
-        ],
-    )?;
+    put_header(&mut out, names + 21)?;
+    put_programs(&mut out, text, init, kernel.bss)?;
     out.extend_from_slice(kernel.text)?;
     out.extend_from_slice(kernel.init)?;
     put(&mut out, &[0x3153_5650, sites / 8])?;
     out.extend_from_slice(kernel.sites)?;
     out.extend_from_slice(b"\0.pv_sites\0.shstrtab\0")?;
-    put(&mut out, &[0, 0, 0, 0, 0, 0, 0, 0, 0, 0])?;
+    put(&mut out, &NULL_SECTION)?;
     put(
         &mut out,
         &[1, 1, 0, 0, 116 + text + init, 8 + sites, 0, 0, 4, 0],

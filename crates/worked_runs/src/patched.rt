@@ -141,19 +141,22 @@ fn left(alloc: Global, image: &Checked, n: u64, at: u32, len: u32) -> Result<Vec
     }
 }
 
+/// A source, and its text in memory before the first step.
+type Patched = (&'static [u8], [u8; 9]);
+
+const PATCHED: [Patched; 2] = [
+    (b"cli\n", [0xE9, 0xF4, 0xF4, 0xF4, 0xF4, 0xEB, 0xFE, 0, 0]),
+    (
+        b"lidt 0x11000010\n",
+        [0xE9, 0xF4, 0xF4, 0xF4, 0xF4, 0xF4, 0xF4, 0xEB, 0xFE],
+    ),
+];
+
 #[test]
 fn sites_are_patched_in_memory(rt: HostRuntime) -> Result<(), Fail> {
     let alloc = rt.alloc();
-    for (source, patched) in [
-        (
-            b"cli\n".as_slice(),
-            [0xE9, 0xF4, 0xF4, 0xF4, 0xF4, 0xEB, 0xFE, 0, 0],
-        ),
-        (
-            b"lidt 0x11000010\n",
-            [0xE9, 0xF4, 0xF4, 0xF4, 0xF4, 0xF4, 0xF4, 0xEB, 0xFE],
-        ),
-    ] {
+    for row in &PATCHED {
+        let (source, patched) = *row;
         let image = image_of(alloc, source)?;
         let bytes = left(alloc, &image, 0, 0x10_0000, 9)?;
         assert_eq!(rt; bytes.as_slice(), patched.as_slice());

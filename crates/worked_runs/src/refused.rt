@@ -6,22 +6,25 @@ use crate::machines::{Prints, both_print};
 use pv_io::{Files, MemFiles};
 use std::test::Fail;
 
+/// A source, and the line that is printed.
+type Refused = (&'static [u8], &'static [u8]);
+
+const SOURCES: [Refused; 8] = [
+    (b"nop\nnop\nrdtsc\n", b"refused 21 line 3\n"),
+    (b"movl $1,%eex\n", b"refused 7 line 1\n"),
+    (b".data; cli\n", b"refused 26 line 1\n"),
+    (b"addl $1,%al\n", b"refused 22 line 1\n"),
+    (b"nop\nmovw $70000,%ax\n", b"refused 23 line 2\n"),
+    (b"nop\nfrob\n", b"refused 20 line 2\n"),
+    (b"f: nop\nf: nop\n", b"refused 12 line 2\n"),
+    (b"/* never ends\n", b"refused 3 line 1\n"),
+];
+
 #[test]
 fn sources_are_refused_by_their_line(rt: HostRuntime) -> Result<(), Fail> {
     let alloc = rt.alloc();
-    for (source, line) in [
-        (
-            b"nop\nnop\nrdtsc\n".as_slice(),
-            b"refused 21 line 3\n".as_slice(),
-        ),
-        (b"movl $1,%eex\n", b"refused 7 line 1\n"),
-        (b".data; cli\n", b"refused 26 line 1\n"),
-        (b"addl $1,%al\n", b"refused 22 line 1\n"),
-        (b"nop\nmovw $70000,%ax\n", b"refused 23 line 2\n"),
-        (b"nop\nfrob\n", b"refused 20 line 2\n"),
-        (b"f: nop\nf: nop\n", b"refused 12 line 2\n"),
-        (b"/* never ends\n", b"refused 3 line 1\n"),
-    ] {
+    for row in &SOURCES {
+        let (source, line) = *row;
         let mut files = MemFiles::new(alloc, Vec::new(alloc))?;
         files.store("S", source)?;
         let (status, out) = answer(alloc, &mut files, &["burn", "S", "O"])?;
@@ -79,22 +82,22 @@ const RDTSC: Kernel<'static> = Kernel {
     prints: Prints::Alike((3, b"refused 65 at 0\n")),
 };
 
+const IMAGES: [Refused; 2] = [
+    // a jump to the second byte of a site
+    (b"_start: jmp f+1\nf: cli\n", b"refused 70 at 0\n"),
+    // 2,305 frames are needed
+    (
+        b".bss\n.zero 8388608\n",
+        b"refused 90 need 2305 have 2048\n",
+    ),
+];
+
 #[test]
 fn images_are_refused_on_both_machines(rt: HostRuntime) -> Result<(), Fail> {
     let alloc = rt.alloc();
     runs(&rt, alloc, &RDTSC)?;
-    for (source, line) in [
-        // a jump to the second byte of a site
-        (
-            b"_start: jmp f+1\nf: cli\n".as_slice(),
-            b"refused 70 at 0\n".as_slice(),
-        ),
-        // 2,305 frames are needed
-        (
-            b".bss\n.zero 8388608\n",
-            b"refused 90 need 2305 have 2048\n",
-        ),
-    ] {
+    for row in &IMAGES {
+        let (source, line) = *row;
         let mut files = linked(alloc, source)?;
         both_print(&rt, alloc, &mut files, "1", &Prints::Alike((3, line)))?;
     }

@@ -60,7 +60,11 @@ fn pops_to_an_address_above_the_risen_stack(rt: HostRuntime) {
         ..PLAIN
     };
     let ranges = ranges(&pop, &regs);
-    assert_eq!(rt; ranges.write.map(|x| x.at), Some(BASE + 0x8c));
+    let written_at = match ranges.write {
+        Some(range) => range.at,
+        None => 0,
+    };
+    assert_eq!(rt; written_at, BASE + 0x8c);
     assert_eq!(rt; step(&pop, 4, &mut regs, &mut mem), Some(Effect::Next));
     assert_eq!(rt; word_of(&mem, BASE + 0x8c), 0x0707_0707);
     assert_eq!(rt; regs.r[4], BASE + 0x84);

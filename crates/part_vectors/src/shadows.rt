@@ -1,11 +1,13 @@
+//! Shadow tables, against a plain map.
+
 ghost use Rattle.std.specs.Prelude.{◌≡◌, ◌<◌, ◌≤◌, ◌^◌, length};
 ghost use Rattle.shadow_tables.specs.Calls.{IsFit};
 ghost use Rattle.shadow_tables.specs.Slots.{IsShadow};
 
-use super::*;
 use frame_pool::Pool;
 use guest_ram::Ram;
 use paging::Entry;
+use shadow_tables::{Call, Shadow, Shadows, Side, replay};
 
 fn entry(frame: u32, write: bool, dirty: bool) -> Entry
     ensures page { result.page ≡ 69632 }
@@ -145,6 +147,15 @@ fn passes(kept: Option<Plain>, side: Side, write: bool) -> bool {
     }
 }
 
+// One view lets the same pass.
+fn is_so(shadow: &Shadow, ram: &Ram, page: u32, side: Side, kept: Option<Plain>) -> bool
+    requires shadow { IsShadow shadow.now ram.now }
+    requires page { page < 2 ^ 20 }
+{
+    shadow.adequate(ram, side, page, false) == passes(kept, side, false)
+        && shadow.adequate(ram, side, page, true) == passes(kept, side, true)
+}
+
 fn agrees(shadow: &Shadow, ram: &Ram, page: u32, kept: Option<Plain>) -> bool
     requires shadow { IsShadow shadow.now ram.now }
     requires page { page < 2 ^ 20 }
@@ -153,11 +164,9 @@ fn agrees(shadow: &Shadow, ram: &Ram, page: u32, kept: Option<Plain>) -> bool
         None => None,
         Some(kept) => Some(kept.entry),
     };
-    let reads = [Side::Kernel, Side::User].map(|side| shadow.adequate(ram, side, page, false)
-        == passes(kept, side, false));
-    let writes = [Side::Kernel, Side::User].map(|side| shadow.adequate(ram, side, page, true)
-        == passes(kept, side, true));
-    shadow.kept(ram, page) == entry && reads == [true, true] && writes == [true, true]
+    shadow.kept(ram, page) == entry
+        && is_so(shadow, ram, page, Side::Kernel, kept)
+        && is_so(shadow, ram, page, Side::User, kept)
 }
 
 fn agree(shadow: &Shadow, ram: &Ram, plain: &[Option<Plain>; 8]) -> bool

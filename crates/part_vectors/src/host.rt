@@ -1,10 +1,12 @@
+//! Instructions at level 3 through tables of a host.
+
 ghost use Rattle.std.specs.Prelude.{◌≡◌, ◌≤◌, ◌<◌, ◌+◌, ◌*◌, ◌^◌, true, length, IfOk, IsSome, IfSome};
 ghost use Rattle.guest_ram.specs.Bytes.{with_word32};
 ghost use Rattle.host_cpl3.specs.HostRun.{host_run};
 ghost use Rattle.host_cpl3.specs.Hosts.{standing};
 
-use crate::{Exit, Host, Machine, View};
 use guest_ram::Ram;
+use host_cpl3::{Exit, Host, Machine, View};
 use ia32_types::{Flags, Regs};
 use std::alloc::{AllocError, Global};
 
@@ -113,37 +115,43 @@ fn leaves_at_the_wedge_window(rt: HostRuntime) {
     assert_eq!(rt; machine.passed(), 0x1000_0000);
 }
 
-fn fault(vector: u8, code: u32, cr2: u32) -> Exit {
-    Exit::Fault { vector, code, cr2 }
+macro_rules! fault {
+    ($vector:literal, $code:literal, $cr2:literal) => {
+        Exit::Fault { vector: $vector, code: $code, cr2: $cr2 }
+    };
 }
 
-// In each row the first instruction exits: the code, whether the view is the kernel's, ESP, and the exit.
+/// Code whose first instruction exits, whether the view is the kernel's, ESP, and the exit.
+type Exiting = (&'static [u8], bool, u32, Exit);
+
+const EXITS: [Exiting; 16] = [
+    (b"\x0F\x31", true, 0, Exit::Outside),
+    (b"\xCC", true, 0, Exit::Soft(3)),
+    (b"\xCD\x21", false, 0, Exit::Soft(0x21)),
+    (b"\x0F\x0B", true, 0, fault!(6, 0, 0)),
+    (b"\xFA", false, 0, fault!(13, 0, 0)),
+    (b"\x8E\xD8", false, 0, fault!(13, 0, 0)),
+    (b"\xF7\xF1", true, 0, fault!(0, 0, 0)),
+    (b"\x9D", false, 0x1100_0000, Exit::FlagBits),
+    (b"\xA1\xFE\xFF\xFF\xFF", true, 0, Exit::Wrap),
+    (b"\xA1\x00\x00\x00\x10", true, 0, fault!(13, 0, 0)),
+    (b"\x50", true, 0x1000_1000, fault!(12, 0, 0)),
+    (b"\xA1\xFE\x1F\x00\x11", true, 0, fault!(14, 4, 0x1100_2000)),
+    (b"\xA3\x00\x10\x00\x11", true, 0, fault!(14, 7, 0x1100_1000)),
+    (b"\xA3\x00\x00\x00\x20", true, 0, fault!(14, 6, 0x2000_0000)),
+    (
+        b"\xFF\x15\x00\x20\x00\x11",
+        true,
+        0x1100_0004,
+        fault!(14, 4, 0x1100_2000),
+    ),
+    (b"\xC3", false, 0x1100_2000, fault!(14, 4, 0x1100_2000)),
+];
+
 #[test]
 fn exits_where_an_instruction_cannot_be_done(rt: HostRuntime) {
-    let rows: [(&[u8], bool, u32, Exit); 16] = [
-        (b"\x0F\x31", true, 0, Exit::Outside),
-        (b"\xCC", true, 0, Exit::Soft(3)),
-        (b"\xCD\x21", false, 0, Exit::Soft(0x21)),
-        (b"\x0F\x0B", true, 0, fault(6, 0, 0)),
-        (b"\xFA", false, 0, fault(13, 0, 0)),
-        (b"\x8E\xD8", false, 0, fault(13, 0, 0)),
-        (b"\xF7\xF1", true, 0, fault(0, 0, 0)),
-        (b"\x9D", false, 0x1100_0000, Exit::FlagBits),
-        (b"\xA1\xFE\xFF\xFF\xFF", true, 0, Exit::Wrap),
-        (b"\xA1\x00\x00\x00\x10", true, 0, fault(13, 0, 0)),
-        (b"\x50", true, 0x1000_1000, fault(12, 0, 0)),
-        (b"\xA1\xFE\x1F\x00\x11", true, 0, fault(14, 4, 0x1100_2000)),
-        (b"\xA3\x00\x10\x00\x11", true, 0, fault(14, 7, 0x1100_1000)),
-        (b"\xA3\x00\x00\x00\x20", true, 0, fault(14, 6, 0x2000_0000)),
-        (
-            b"\xFF\x15\x00\x20\x00\x11",
-            true,
-            0x1100_0004,
-            fault(14, 4, 0x1100_2000),
-        ),
-        (b"\xC3", false, 0x1100_2000, fault(14, 4, 0x1100_2000)),
-    ];
-    for (code, kernel, esp, exit) in rows {
+    for row in &EXITS {
+        let (code, kernel, esp, exit) = *row;
         if code.len() > 4096 {
             return;
         }
@@ -167,7 +175,7 @@ fn shows_the_selectors_of_the_view(rt: HostRuntime) {
         ..KERNEL
     };
     let mut regs = regs(0x1100_0010);
-    assert_eq!(rt; machine.resume(&view, &mut regs, 9), fault(13, 0, 0));
+    assert_eq!(rt; machine.resume(&view, &mut regs, 9), fault!(13, 0, 0));
     assert_eq!(rt; regs.r[0], 0x23);
     assert_eq!(rt; machine.ram().len(), 32768);
     assert_eq!(rt; machine.ram().read32(0x500C), 0x23);

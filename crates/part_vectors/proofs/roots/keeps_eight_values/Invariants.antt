@@ -1,7 +1,7 @@
 use Rattle.frame_pool.specs.Held.{Owns}
 use Rattle.shadow_cache.specs.Pairs.{frames_of, IsRoots}
 use Rattle.shadow_cache.specs.Roots.{pairs_of}
-use Rattle.shadow_cache.proofs.tests.keeps_eight_values.Given as goal
+use Rattle.part_vectors.proofs.roots.keeps_eight_values.Given as goal
 
 abbrev pub invariant-loop-k : goal.invariant-loop-k
 invariant-loop-k g l = record {

@@ -1,7 +1,7 @@
 use Rattle.frame_pool.proofs.Held.{Owns-moves}
 use Rattle.shadow_cache.specs.Pairs.{frames_of}
 use Rattle.shadow_cache.specs.Roots.{pairs_of}
-use Rattle.shadow_cache.proofs.tests.note.Goals as goal
+use Rattle.part_vectors.proofs.roots.note.Goals as goal
 
 pub returns-clause-owns : goal.returns-clause-owns
 returns-clause-owns g c =

@@ -1,5 +1,5 @@
 use Rattle.shadow_tables.specs.Laws.{had}
-use Rattle.shadow_tables.proofs.tests.keeps_what_a_plain_map_keeps.Goals as goal
+use Rattle.part_vectors.proofs.shadows.keeps_what_a_plain_map_keeps.Goals as goal
 
 pub agree-requires : goal.agree-requires
 agree-requires g c = had c.replay.new.shadows c.replay.new.ram c.replay.ensures.stands

@@ -1,13 +1,15 @@
+//! Shadows of several values of CR3.
+
 ghost use Rattle.std.specs.Prelude.{◌≡◌, ◌≤◌, ◌<◌, ◌^◌};
 ghost use Rattle.frame_pool.specs.Held.{Owns};
 ghost use Rattle.shadow_cache.specs.Pairs.{frames_of, IsRoots};
 ghost use Rattle.shadow_cache.specs.Roots.{pairs_of};
 ghost use Rattle.shadow_cache.specs.Replayed.{IsFitCall, AreFitCalls};
 
-use crate::{Reloads, Roots, RootsCall, replay};
 use frame_pool::Pool;
 use guest_ram::Ram;
 use paging::Entry;
+use shadow_cache::{Reloads, Roots, RootsCall, replay};
 use shadow_tables::{Call, Shadows, Side};
 use std::alloc::Global;
 use std::process::Abort;
