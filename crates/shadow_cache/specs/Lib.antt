@@ -11,3 +11,4 @@ pub mod Away
 pub mod Laws
 pub mod Asides
 pub mod Reloaded
+pub mod Opening
