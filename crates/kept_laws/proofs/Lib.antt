@@ -3,3 +3,4 @@ pub mod Counts
 pub mod Places
 pub mod Owed
 pub mod OwedStays
+pub mod Settling

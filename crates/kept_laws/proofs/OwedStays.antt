@@ -10,8 +10,8 @@ use Rattle.shadow_cache.specs.Reloaded.{put_by, coming, staying}
 use Rattle.machine_model.specs.State.{Setting, State}
 use Rattle.machine_model.specs.Taken.{Taken, loads_root}
 use Rattle.machine_model.specs.Keeping.{leaves, root_in, roots_in, HasEntriesOf, Returns}
-use Rattle.kept_laws.specs.Remembered.{was_read, Unwritten, IsOwed, IsAbsent, AreOfOne, AllRead, IsThere, IsRemembered}
-use Rattle.kept_laws.specs.OverSteps.{IsNotedBy, IsTold, StartRemembers, StillRemembers, StepsRemember, DroppedRemembers, LoadsRemember, LoadsBringBack}
+use Rattle.kept_laws.specs.Remembered.{ComesFrom, was_read, Unwritten, IsOwed, IsAbsent, AreOfOne, AllRead, IsThere, IsRemembered}
+use Rattle.kept_laws.specs.OverSteps.{IsNotedBy, IsTold, StartRemembers, StillRemembers, StepsRemember, SameRemembers, DroppedRemembers, LoadsRemember, LoadsBringBack}
 use Rattle.kept_laws.proofs.Lists.{Split, At_end, Within, split_of, split_more, all_front, all_end, all_at, any_right, read_more, read_last, unwritten_front, roots_more, loaded_more}
 use Rattle.kept_laws.proofs.Counts.{eq_told, ne_told, clash, member_first}
 use Rattle.kept_laws.proofs.Places.{same_alike, lose_alike, alike_absent, alike_of_one, alike_read, alike_there, filter_absent, filter_of_one, filter_read, more_read, all_stay, there_wider, staying_absent, staying_of_one, staying_read, staying_there, coming_there, coming_read}
@@ -135,6 +135,26 @@ steps_remember m steps t noted noted2 marked marked2 asides asides2 plain same t
       each = λ c old left since ne o. through m steps t noted2 marked2 asides2 plain same s c old left since ne o (split_of steps t old left since o.split);
     }
 
+-- the same is kept
+pub same_remembers : SameRemembers
+same_remembers m steps t noted marked asides plain same r =
+    let s : IsSettled m steps t noted marked asides = record {
+      other = r.other;
+      of_one = r.of_one;
+      noted_read = λ frame e. read_more steps t frame (r.noted_read frame e);
+      all_read = more_read steps t asides r.all_read;
+      unmarked = λ u. r.unmarked (unwritten_front steps t u);
+      each = λ c old left since ne u o. r.each c old left since ne o;
+    } in
+    record {
+      other = subst (λ (v : ℕ). IsAbsent v asides) (sym same) s.other;
+      of_one = s.of_one;
+      noted_read = s.noted_read;
+      all_read = s.all_read;
+      unmarked = s.unmarked;
+      each = λ c old left since ne o. through m steps t noted marked asides plain same s c old left since ne o (split_of steps t old left since o.split);
+    }
+
 -- ---- a load
 
 -- what is put by of the present tables, where they aren't marked
@@ -205,13 +225,13 @@ put_there m steps t noted marked slots asides loads s c old left since before o 
     (inr (ne, wider left t before since is t.before.cpu.cr3 h.1, there))
 
 -- what the load itself leaves
-own_there : (m : Setting) (steps : List Taken) (t : Taken) (noted : ℕ → Bool) (marked : Bool) (slots : ℕ → Option Slot) (asides : List Aside) → IsSettled m steps t noted marked asides → HasEntriesOf t (entries_of slots)
+own_there : (m : Setting) (steps : List Taken) (t : Taken) (noted : ℕ → Bool) (marked : Bool) (slots : ℕ → Option Slot) (asides : List Aside) → IsSettled m steps t noted marked asides → ComesFrom t (entries_of slots)
     → (c : ℕ) (loaded : List ℕ) → leaves c t ≡ true → Unwritten (steps ++ t ∷ []) → IsThere c t loaded (put_all t noted marked slots asides)
 own_there m steps t noted marked slots asides s has c loaded is u =
     subst (IsThere c t loaded) (sym (put t.before.cpu.cr3 marked noted slots asides (s.unmarked u))) (inl (left_is c t is, has))
 
 -- either way it is among all, and the loaded value was loaded
-all_there : (m : Setting) (steps : List Taken) (t : Taken) (noted : ℕ → Bool) (marked : Bool) (slots : ℕ → Option Slot) (asides : List Aside) → loads_root t ≡ true → IsSettled m steps t noted marked asides → HasEntriesOf t (entries_of slots)
+all_there : (m : Setting) (steps : List Taken) (t : Taken) (noted : ℕ → Bool) (marked : Bool) (slots : ℕ → Option Slot) (asides : List Aside) → loads_root t ≡ true → IsSettled m steps t noted marked asides → ComesFrom t (entries_of slots)
     → (c : ℕ) (old : List Taken) (left : Taken) (since : List Taken) → IsOwed m (steps ++ t ∷ []) t.after c old left since → Split steps t old left since
     → IsThere c left (roots_in (left ∷ since)) (put_all t noted marked slots asides) × (is_member eqb (roots_in (left ∷ since)) t.after.cpu.cr3 ≡ true)
 all_there m steps t noted marked slots asides loads s has c old left since o (At_end at is none) = (
@@ -245,7 +265,7 @@ loads_remember m steps t noted noted1 noted2 marked marked1 marked2 slots1 slots
       },
       λ old left since o.
           let h = all_there m steps t noted1 marked1 slots1 asides1 loads s has w old left since o (split_of steps t old left since o.split) in
-          subst (HasEntriesOf left) (sym slots) (coming_there w left (roots_in (left ∷ since)) all h.0),
+          subst (ComesFrom left) (sym slots) (coming_there w left (roots_in (left ∷ since)) all h.0),
     )
 
 -- what the rule asks behind a load is owed before the next step
@@ -264,4 +284,4 @@ returned m earlier now b c old left since is h = record {
 
 pub loads_bring_back : LoadsBringBack
 loads_bring_back m steps t now slots before set owed old left since h =
-    subst (HasEntriesOf left) (sym set) (owed old left since (returned m (steps ++ t ∷ []) now t.after t.after.cpu.cr3 old left since before h))
+    subst (HasEntriesOf left) (sym set) (owed old left since (returned m (steps ++ t ∷ []) now t.after t.after.cpu.cr3 old left since before h)).has

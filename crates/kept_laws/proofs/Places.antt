@@ -10,7 +10,7 @@ use Rattle.shadow_tables.specs.Laws.Entries.{entries_of-same, entries_of-barred}
 use Rattle.shadow_cache.specs.Reloaded.{of_cr3, but_cr3, or_begun, coming, beside_coming, staying}
 use Rattle.machine_model.specs.Taken.{Taken}
 use Rattle.machine_model.specs.Keeping.{HasEntriesOf}
-use Rattle.kept_laws.specs.Remembered.{was_read, IsAbsent, AreOfOne, AllRead, IsThere}
+use Rattle.kept_laws.specs.Remembered.{ComesFrom, was_read, IsAbsent, AreOfOne, AllRead, IsThere}
 use Rattle.kept_laws.proofs.Lists.{read_more}
 use Rattle.kept_laws.proofs.Counts.{eq_told, ne_told, eq_is, ne_is, clash, but, but_member, member_or, absent_apart, no_more}
 
@@ -56,7 +56,7 @@ pub alike_there : (c : ℕ) (left : Taken) (loaded : List ℕ) (xs ys : List Asi
 alike_there c left loaded [] ys h k = absurd k
 alike_there c left loaded (a ∷ xs) [] h k = absurd h
 alike_there c left loaded (a ∷ xs) (b ∷ ys) h (inl k) =
-    inl (h.0 ∙ k.0, subst (HasEntriesOf left) (sym h.2) k.1)
+    inl (h.0 ∙ k.0, subst (ComesFrom left) (sym h.2) k.1)
 alike_there c left loaded (a ∷ xs) (b ∷ ys) h (inr k) =
     inr (λ e. k.0 (sym h.0 ∙ e), subst (λ (v : ℕ). is_member eqb loaded v ≡ true) (sym h.0) k.1, alike_there c left loaded xs ys h.3 k.2)
 
@@ -274,16 +274,16 @@ staying_there w c left loaded xs ne here few ones k = by (of_cr3 w xs) refl
     by None is = take_there 7 c left loaded (w ∷ []) xs (omega arith) few (one_seen c w loaded xs ne here (none_absent w xs is)) ones k
     by (Some a) is = but_there w c left loaded xs ne k
 
-pub coming_there : (c : ℕ) (left : Taken) (loaded : List ℕ) (xs : List Aside) → IsThere c left loaded xs → HasEntriesOf left (entries_of (coming c xs).slots)
+pub coming_there : (c : ℕ) (left : Taken) (loaded : List ℕ) (xs : List Aside) → IsThere c left loaded xs → ComesFrom left (entries_of (coming c xs).slots)
 coming_there c left loaded [] k = absurd k
 coming_there c left loaded (a ∷ xs) (inl k) = by (a.cr3 == c) (eq_is a.cr3 c k.0)
   where
-    by : (b : Bool) → b ≡ true → HasEntriesOf left (entries_of (or_begun c (cond b (Some a) (of_cr3 c xs))).slots)
+    by : (b : Bool) → b ≡ true → ComesFrom left (entries_of (or_begun c (cond b (Some a) (of_cr3 c xs))).slots)
     by true e = k.1
     by false e = clash true refl (sym e)
 coming_there c left loaded (a ∷ xs) (inr k) = by (a.cr3 == c) (ne_is a.cr3 c k.0) (coming_there c left loaded xs k.2)
   where
-    by : (b : Bool) → b ≡ false → HasEntriesOf left (entries_of (coming c xs).slots) → HasEntriesOf left (entries_of (or_begun c (cond b (Some a) (of_cr3 c xs))).slots)
+    by : (b : Bool) → b ≡ false → ComesFrom left (entries_of (coming c xs).slots) → ComesFrom left (entries_of (or_begun c (cond b (Some a) (of_cr3 c xs))).slots)
     by true e rest = clash true refl e
     by false e rest = rest
 

@@ -1,10 +1,13 @@
 -- What shadows keep for values of CR3 that aren't present, beside the steps of the run so far.
-use Rattle.std.specs.Prelude.{◌≡◌, ◌⊎◌, ℕ, ◌≤◌, Bool, true, false, ◌==◌, eqb, not, List, [], ◌∷◌, ◌++◌}
+use Rattle.std.specs.Prelude.{◌≡◌, ◌⊎◌, ℕ, ◌≤◌, Bool, true, false, ◌==◌, eqb, not, List, [], ◌∷◌, ◌++◌, Some}
 use Rattle.std.specs.List.{list_any, filter, All}
 use Rattle.std.specs.Set.{is_member, distinct_count}
+use Rattle.std.specs.Option.{ForSome}
+use Rattle.std.specs.FinMap.{get}
 use Rattle.shadow_tables.specs.Aside.{Aside}
 use Rattle.shadow_tables.specs.Entries.{entries_of}
 use Rattle.machine_model.specs.State.{Setting, State}
+use Rattle.machine_model.specs.Run.{Set}
 use Rattle.machine_model.specs.Taken.{Taken}
 use Rattle.machine_model.specs.Keeping.{leaves, roots_in, tables_in, clashes, HasEntriesOf}
 
@@ -45,12 +48,16 @@ abbrev pub AllRead : List Taken → List Aside → Type 0
 AllRead steps [] = Unit {0}
 AllRead steps (a ∷ asides) = ((frame : ℕ) → a.tables frame ≡ true → was_read steps frame ≡ true) × AllRead steps asides
 
--- What is kept for c has the entries of the set before `left`, but perhaps those of pages that `left` used. Before it stand
--- only values that were loaded since.
+-- this set has every entry of the set before a step, but perhaps those of pages that the step itself used, and no other
+pub record ComesFrom (left : Taken) (set : Set) : Type 0 where
+  pub has : HasEntriesOf left set
+  pub only : (page : ℕ) → ForSome (get set page) (λ e. get left.set page ≡ Some e)
+
+-- What is kept for c comes from the set before `left`. Before it stand only values that were loaded since.
 abbrev pub IsThere : ℕ → Taken → List ℕ → List Aside → Type 0
 IsThere c left loaded [] = ⊥
 IsThere c left loaded (a ∷ asides) =
-    ((a.cr3 ≡ c) × HasEntriesOf left (entries_of a.slots)) ⊎ ((a.cr3 ≡ c → ⊥) × (is_member eqb loaded a.cr3 ≡ true) × IsThere c left loaded asides)
+    ((a.cr3 ≡ c) × ComesFrom left (entries_of a.slots)) ⊎ ((a.cr3 ≡ c → ⊥) × (is_member eqb loaded a.cr3 ≡ true) × IsThere c left loaded asides)
 
 -- Between two steps of a run, of which these were done: what is kept for each value of CR3 that isn't present, the last
 -- used first. What is owed is there. The frames that are noted as tables, of the present value and of each other, were

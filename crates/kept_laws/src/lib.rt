@@ -5,6 +5,6 @@
 mod remembering;
 
 pub use remembering::{
-    causes_owe_nothing, dropped_remembers, loads_remember, start_remembers, steps_remember,
-    still_remembers,
+    causes_owe_nothing, dropped_remembers, loads_remember, settling_tells, start_remembers,
+    steps_remember, still_remembers,
 };

@@ -1,6 +1,6 @@
 //! Over the steps of a run, what is owed for each value of CR3 is kept.
 
-ghost use Rattle.kept_laws.specs.OverSteps.{StartRemembers, StillRemembers, StepsRemember, DroppedRemembers, CausesOweNothing, LoadsRemember, LoadsBringBack};
+ghost use Rattle.kept_laws.specs.OverSteps.{StartRemembers, StillRemembers, StepsRemember, SameRemembers, SettlingTells, DroppedComesFrom, DroppedRemembers, CausesOweNothing, LoadsRemember, LoadsBringBack};
 
 /// At first nothing is owed.
 pub fn start_remembers()
@@ -14,7 +14,15 @@ pub fn still_remembers()
 
 /// A step that doesn't load CR3 keeps what is owed, where it notes, marks and leaves out as shadows do.
 pub fn steps_remember()
-    ensures { StepsRemember }
+    ensures settled { StepsRemember }
+    ensures same { SameRemembers }
+{}
+
+/// What shadows say of themselves where they are settled is what these laws ask. Where the pages that a step used are then
+/// dropped, what is kept comes from its set.
+pub fn settling_tells()
+    ensures told { SettlingTells }
+    ensures dropped { DroppedComesFrom }
 {}
 
 /// Where nothing is owed, all may be dropped.
