@@ -4,3 +4,5 @@ pub mod Places
 pub mod Owed
 pub mod OwedStays
 pub mod Settling
+pub mod Holding
+pub mod FoundStays
