@@ -4,10 +4,10 @@ use Rattle.std.proofs.lemmas.List.{reverse-append}
 use Rattle.std.specs.List.{All}
 use Rattle.std.proofs.lemmas.List.Elements.{All-head, All-tail}
 use Rattle.machine_model.specs.State.{Setting, State}
-use Rattle.machine_model.specs.Step.{Report, Result, Went, Stands, step_of}
+use Rattle.machine_model.specs.Step.{Report, Result, Went, step_of}
 use Rattle.machine_model.specs.Run.{Set, Steps}
 use Rattle.machine_model.specs.Taken.{Taken, behind, steps_by, loads_root}
-use Rattle.machine_model.specs.Keeping.{leaves, set_left, held_by, held}
+use Rattle.machine_model.specs.Keeping.{leaves, set_left, held_by}
 use Rattle.kept_laws.specs.Judged.{TakenOn, HeldStays, HeldBack}
 
 -- ---- the steps that a run takes

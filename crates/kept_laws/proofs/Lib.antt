@@ -6,3 +6,5 @@ pub mod OwedStays
 pub mod Settling
 pub mod Holding
 pub mod FoundStays
+pub mod Refetching
+pub mod Clashing

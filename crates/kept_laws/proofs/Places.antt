@@ -9,7 +9,6 @@ use Rattle.shadow_tables.specs.Entries.{entries_of}
 use Rattle.shadow_tables.specs.Laws.Entries.{entries_of-same, entries_of-barred}
 use Rattle.shadow_cache.specs.Reloaded.{of_cr3, but_cr3, or_begun, coming, beside_coming, staying}
 use Rattle.machine_model.specs.Taken.{Taken}
-use Rattle.machine_model.specs.Keeping.{HasEntriesOf}
 use Rattle.kept_laws.specs.Remembered.{ComesFrom, was_read, IsAbsent, AreOfOne, AllRead, IsThere}
 use Rattle.kept_laws.proofs.Lists.{read_more}
 use Rattle.kept_laws.proofs.Counts.{eq_told, ne_told, eq_is, ne_is, clash, but, but_member, member_or, absent_apart, no_more}

@@ -1,22 +1,19 @@
 -- What shadows say where they are settled on what a step left.
-use Rattle.std.proofs.Common.{◌≡◌, ℕ, zero, suc, ◌^◌, ◌<◌, ◌≤◌, List, [], ◌∷◌, ◌++◌, Bool, true, false, cond, not, ◌||◌, ◌==◌, eqb, Option, Some, None, refl, sym, ap, subst, ◌∙◌, ◌⊎◌, inl, inr, arith}
+use Rattle.std.proofs.Common.{◌≡◌, ℕ, ◌^◌, ◌<◌, List, [], ◌∷◌, Bool, true, false, cond, not, ◌||◌, ◌==◌, Option, Some, None, refl, sym, ap, ◌∙◌, ◌⊎◌, inl, inr, arith}
 use Rattle.std.proofs.lemmas.Bool.{cases_lt}
-use Rattle.std.specs.Prelude.{nat_le, filter}
+use Rattle.std.specs.Prelude.{nat_le}
 use Rattle.std.specs.List.{list_any, Contains}
-use Rattle.std.specs.Option.{ForSome}
 use Rattle.std.specs.FinMap.{get}
 use Rattle.std.proofs.lemmas.List.Elements.{Contains-append_right}
 use Rattle.paging.specs.declared.entry.Entry.{Entry}
 use Rattle.shadow_tables.specs.Aside.{any_of}
-use Rattle.shadow_tables.specs.Slots.{Slot, is_among, entry_in}
+use Rattle.shadow_tables.specs.Slots.{is_among, entry_in}
 use Rattle.shadow_tables.specs.Entries.{entries_of}
 use Rattle.shadow_tables.specs.Laws.Entries.{get-entries_of, none-entries_of}
 use Rattle.wedge_mem.specs.Told.{guest_frames, read_by}
-use Rattle.machine_model.specs.Run.{Set}
 use Rattle.machine_model.specs.Taken.{Taken}
-use Rattle.kept_laws.specs.Remembered.{ComesFrom}
 use Rattle.kept_laws.specs.OverSteps.{IsNotedBy, SettlingTells, DroppedComesFrom}
-use Rattle.kept_laws.proofs.Counts.{eq_told, eq_is, clash}
+use Rattle.kept_laws.proofs.Counts.{eq_told, eq_is}
 
 -- ---- frames that were read as tables
 

@@ -1,10 +1,10 @@
 -- By which translations a run judges that a step clashes, and by which the rule for kept translations does.
-use Rattle.std.specs.Prelude.{◌≡◌, ℕ, ◌*◌, ◌^◌, ◌<◌, ◌≤◌, Bool, true, false, List, [], ◌∷◌, ◌++◌, length, Option, Some, None}
+use Rattle.std.specs.Prelude.{◌≡◌, ℕ, ◌*◌, ◌^◌, ◌<◌, ◌≤◌, true, false, List, [], ◌∷◌, ◌++◌, length, Some, None}
 use Rattle.std.specs.List.{All}
 use Rattle.std.specs.Option.{ForSome}
 use Rattle.std.specs.FinMap.{get}
+use Rattle.guest_ram.specs.Bytes.{AreBytes}
 use Rattle.descriptors.specs.Controls.{pse_of}
-use Rattle.paging.specs.declared.entry.Entry.{Entry}
 use Rattle.machine_model.specs.State.{Setting, State}
 use Rattle.machine_model.specs.Step.{Report, Went, step_of}
 use Rattle.machine_model.specs.Run.{Set, Steps}
@@ -53,14 +53,14 @@ FoundGoesOn =
 -- by the first clashes by the others.
 abbrev pub ClashesAgree : Type 0
 ClashesAgree =
-    (m : Setting) (b : State) (steps : List Taken) (kept others : Set) → 4096 * m.frames ≤ length b.ram
+    (m : Setting) (b : State) (steps : List Taken) (kept others : Set) → 4096 * m.frames ≤ length b.ram → AreBytes b.ram
     → ((page : ℕ) → ForSome (get kept page) (λ e. get others page ≡ Some e)) → AllFound m b b.cpu.cr3 steps others → ((page : ℕ) → 2 ^ 20 ≤ page → get others page ≡ None)
     → clashes_from m (record b { set = kept }) ≡ true → clashes_from m (record b { set = others }) ≡ true
 
 -- So behind a load of CR3 a run that drops all, since the next step clashes by what came back, has a cause by the rule.
 abbrev pub ClashesAreJudged : Type 0
 ClashesAreJudged =
-    (m : Setting) (steps : List Taken) (t : Taken) (b : State) (kept : Set) (old : List Taken) (left : Taken) (since : List Taken) → loads_root t ≡ true → 4096 * m.frames ≤ length b.ram
+    (m : Setting) (steps : List Taken) (t : Taken) (b : State) (kept : Set) (old : List Taken) (left : Taken) (since : List Taken) → loads_root t ≡ true → 4096 * m.frames ≤ length b.ram → AreBytes b.ram
     → b.cpu.cr3 ≡ t.after.cpu.cr3 → IsFoundStill m (steps ++ t ∷ []) b → IsOwed m (steps ++ t ∷ []) b t.after.cpu.cr3 old left since
     → ((page : ℕ) → ForSome (get kept page) (λ e. get left.set page ≡ Some e)) → ((page : ℕ) → 2 ^ 20 ≤ page → get left.set page ≡ None)
     → clashes_from m (record b { set = kept }) ≡ true → clashes m (steps ++ t ∷ []) b ≡ true

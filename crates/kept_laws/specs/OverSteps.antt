@@ -10,7 +10,7 @@ use Rattle.shadow_cache.specs.Reloaded.{put_by, coming, staying}
 use Rattle.machine_model.specs.State.{Setting, State}
 use Rattle.machine_model.specs.Run.{Set}
 use Rattle.machine_model.specs.Taken.{Taken, loads_root}
-use Rattle.machine_model.specs.Keeping.{clashes, HasEntriesOf, Reloads}
+use Rattle.machine_model.specs.Keeping.{clashes, Reloads}
 use Rattle.kept_laws.specs.Remembered.{ComesFrom, IsOwed, IsRemembered, Unwritten, was_read}
 
 -- the frame was noted before, or a walk of the step read it as a directory or table

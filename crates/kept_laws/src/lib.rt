@@ -5,7 +5,7 @@
 mod judging;
 mod remembering;
 
-pub use judging::{found_goes_on, held_is, taken_on};
+pub use judging::{clashes_agree, found_goes_on, held_is, taken_on};
 pub use remembering::{
     causes_owe_nothing, dropped_remembers, loads_remember, settling_tells, start_remembers,
     steps_remember, still_remembers,

@@ -108,11 +108,11 @@ inserted set page q e = get-insert nat_cmp_total set page e q ∙ ap (λ c. cond
 removed : (set : Set) (page q : ℕ) → get (remove set page) q ≡ cond (q == page) None (get set q)
 removed set page q = get-remove nat_cmp_total set page q ∙ ap (λ c. cond c None (get set q)) (unsigned_tied q page)
 
-there : (set : Set) (page : ℕ) (o : Option Entry) → get (with_entry set page o) page ≡ o
+pub there : (set : Set) (page : ℕ) (o : Option Entry) → get (with_entry set page o) page ≡ o
 there set page None = removed set page page ∙ ap (λ c. cond c None (get set page)) (same_test page page refl)
 there set page (Some e) = inserted set page page e ∙ ap (λ c. cond c (Some e) (get set page)) (same_test page page refl)
 
-elsewhere : (set : Set) (page q : ℕ) (o : Option Entry) → (q ≡ page → ⊥) → get (with_entry set page o) q ≡ get set q
+pub elsewhere : (set : Set) (page q : ℕ) (o : Option Entry) → (q ≡ page → ⊥) → get (with_entry set page o) q ≡ get set q
 elsewhere set page q None ne = removed set page q ∙ ap (λ c. cond c None (get set q)) (other_test q page ne)
 elsewhere set page q (Some e) ne = inserted set page q e ∙ ap (λ c. cond c (Some e) (get set q)) (other_test q page ne)
 
@@ -144,6 +144,9 @@ fresh_of ram frames cr3 pse page =
     either_walk page (nat_le frames (cr3 / 4096)) _ _ tt
     (either_walk page (not (has dir 1)) _ _ tt
     (either_walk page (is_large pse dir) _ _ (large_of frames cr3 page dir) (table_of ram frames cr3 page dir)))
+
+pub found_page : (ram : List ℕ) (frames cr3 : ℕ) (pse : Bool) (page : ℕ) (e : Entry) (d t : ℕ) → fresh ram frames cr3 pse page ≡ Found e d t → e.page ≡ page
+found_page ram frames cr3 pse page e d t is = subst (IsOf page) is (fresh_of ram frames cr3 pse page)
 
 -- ---- what one page's use decides
 
