@@ -110,3 +110,6 @@ loaded-opened indices p ps qs m m' cr3 c h = comes-opened indices (staying (p �
 pub start-opened : (indices : ℕ → Bool) (p : Pair) (ps : List Pair) (m : List ℕ) → ps ≡ [] → IsEmpty p.shadow m → AllOpenedOnly indices (p ∷ ps) m
 start-opened indices p ps m none h =
     (only-none indices p.shadow m (no-longer (held p.shadow m) (roots p.shadow) h.frames), subst (λ (xs : List Pair). AllOpenedOnly indices xs m) (sym none) tt)
+
+pub renewed-opened : (indices : ℕ → Bool) (p : Pair) (ps qs : List Pair) (m' : List ℕ) → qs ≡ emptied (p ∷ ps) → length (frames_of qs m') ≡ 2 → AllOpenedOnly indices qs m'
+renewed-opened indices p ps qs m' e two = emptied-opened indices p ps qs m' e two
