@@ -8,3 +8,4 @@ pub mod Holding
 pub mod FoundStays
 pub mod Refetching
 pub mod Clashing
+pub mod Nexts

@@ -269,7 +269,7 @@ loads_remember m steps t noted noted1 noted2 marked marked1 marked2 slots1 slots
     )
 
 -- what the rule asks behind a load is owed before the next step
-returned : (m : Setting) (earlier : List Taken) (now : Taken) (b : State) (c : ℕ) (old : List Taken) (left : Taken) (since : List Taken) → now.before ≡ b → Returns m earlier now c old left since → IsOwed m earlier b c old left since
+pub returned : (m : Setting) (earlier : List Taken) (now : Taken) (b : State) (c : ℕ) (old : List Taken) (left : Taken) (since : List Taken) → now.before ≡ b → Returns m earlier now c old left since → IsOwed m earlier b c old left since
 returned m earlier now b c old left since is h = record {
   split = h.split;
   is_left = h.is_left;
