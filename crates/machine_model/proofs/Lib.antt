@@ -16,6 +16,13 @@ pub mod KeptOver
 pub mod Completing
 pub mod CountingNone
 pub mod HaltedSteps
+pub mod Using
+pub mod UsingWorks
+pub mod UsingParts
+pub mod UsingRows
+pub mod UsingDeliveries
+pub mod UsingPlain
+pub mod UsingSteps
 pub mod MoreFlags
 pub mod FoundStill
 pub mod Following

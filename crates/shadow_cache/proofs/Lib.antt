@@ -22,3 +22,4 @@ pub mod OneLoad
 pub mod Places
 pub mod Asided
 pub mod Reloading
+pub mod Openings

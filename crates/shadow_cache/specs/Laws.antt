@@ -24,6 +24,9 @@ use Rattle.shadow_tables.specs.Laws.Props.{IsShadow-prop}
 use Rattle.shadow_cache.specs.Pairs.{reads, any_reads, places_from, tables_of, frames_of, AreShadows, AreSized, BarsWrites, AllBarWrites, AreUnmarked, OthersUnmarked, IsRoots}
 use Rattle.shadow_tables.specs.Aside.{AreSame, AllFit, AllBarred, AllTracked}
 use Rattle.shadow_cache.specs.Asides.{asides_of}
+use Rattle.shadow_tables.specs.Laws.Openings.{only-same, held-size}
+use Rattle.shadow_cache.specs.Opening.{AllOpenedOnly}
+use Rattle.std.specs.Set.{is_member, distinct_count}
 use Rattle.shadow_cache.specs.Others.{AreKept}
 use Rattle.shadow_cache.specs.declared.pair.Pair.{Pair}
 
@@ -243,3 +246,35 @@ asides-length (p ∷ ps) m = ap suc (asides-length ps m)
 
 pub few-asides : (p : Pair) (ps : List Pair) (m : List ℕ) → ∥ IsRoots (p ∷ ps) m ∥₁ → length (asides_of ps m) ≤ 7
 few-asides p ps m h = let few = (had (p ∷ ps) m h).few in let e = asides-length ps m in omega (arith, few, e)
+
+-- ---- for which directory indices tables are there
+
+all-same : (indices : ℕ → Bool) (ps : List Pair) (m m' : List ℕ) → SameIn (frames_of ps m) m m' → AllOpenedOnly indices ps m → AllOpenedOnly indices ps m'
+all-same indices [] m m' e h = tt
+all-same indices (p ∷ ps) m m' e h = (only-same indices p.shadow m m' (same-first p ps m m' e) h.0, all-same indices ps m m' (same-rest p ps m m' e) h.1)
+
+pub same-opened : (ps : List Pair) (m m' : List ℕ) (indices : ℕ → Bool) → SameIn (frames_of ps m) m m' → AllOpenedOnly indices ps m → AllOpenedOnly indices ps m'
+same-opened ps m m' indices e h = all-same indices ps m m' e h
+
+pub wider-opened : (ps : List Pair) (m : List ℕ) (indices more : ℕ → Bool) → ((index : ℕ) → indices index ≡ true → more index ≡ true) → AllOpenedOnly indices ps m → AllOpenedOnly more ps m
+wider-opened [] m indices more w h = tt
+wider-opened (p ∷ ps) m indices more w h = (λ side index l t. w index (h.0 side index l t), wider-opened ps m indices more w h.1)
+
+all-sized : (ps : List Pair) (m : List ℕ) (indices : ℕ → Bool) (xs : List ℕ) → AllOpenedOnly indices ps m → ((index : ℕ) → index < 1024 → indices index ≡ true → is_member eqb xs index ≡ true) → (n : ℕ) → length ps ≤ n
+    → length (frames_of ps m) ≤ n * (2 + 2 * distinct_count eqb xs)
+unfolding frames_of
+all-sized [] m indices xs h all n few = omega arith
+all-sized (p ∷ ps) m indices xs h all zero few = absurd (omega (arith, few))
+all-sized (p ∷ ps) m indices xs h all (suc n) few =
+    let a = length-append (held p.shadow m) (frames_of ps m) in
+    let b = held-size indices p.shadow m xs h.0 all in
+    let c = all-sized ps m indices xs h.1 all n (omega (arith, few)) in
+    let d = one-pair n (2 + 2 * distinct_count eqb xs) in
+    omega (arith, a, b, c, d)
+  where
+    one-pair : (n k : ℕ) → suc n * k ≡ k + n * k
+    one-pair n k = omega arith
+
+pub frames-sized : (p : Pair) (ps : List Pair) (m : List ℕ) (indices : ℕ → Bool) (xs : List ℕ) → ∥ IsRoots (p ∷ ps) m ∥₁ → AllOpenedOnly indices (p ∷ ps) m → ((index : ℕ) → index < 1024 → indices index ≡ true → is_member eqb xs index ≡ true)
+    → length (frames_of (p ∷ ps) m) ≤ 8 * (2 + 2 * distinct_count eqb xs)
+frames-sized p ps m indices xs h only all = all-sized (p ∷ ps) m indices xs only all 8 (had (p ∷ ps) m h).few

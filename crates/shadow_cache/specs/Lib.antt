@@ -12,3 +12,4 @@ pub mod Laws
 pub mod Asides
 pub mod Reloaded
 pub mod Views
+pub mod Opening

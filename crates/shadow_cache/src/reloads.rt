@@ -1,6 +1,10 @@
 //! Loads of CR3.
 
-ghost use Rattle.std.specs.Prelude.{◌≡◌, ℕ, List, ◌≤◌, length, Some, false};
+ghost use Rattle.std.specs.Prelude.{◌≡◌, ℕ, ◌+◌, ◌*◌, ◌<◌, ◌≤◌, ◌^◌, Bool, true, List, [], length, Some, None, false, eqb};
+ghost use Rattle.std.specs.FinMap.{empty};
+ghost use Rattle.shadow_tables.specs.Entries.{entries_of};
+ghost use Rattle.shadow_tables.specs.declared.words.Side.{Side};
+ghost use Rattle.std.specs.Set.{is_member, distinct_count};
 ghost use Rattle.frame_pool.specs.Pool.{free_list};
 ghost use Rattle.frame_pool.specs.Held.{Owns, Moves};
 ghost use Rattle.shadow_tables.specs.Aside.{IsSame, AreSame};
@@ -30,11 +34,35 @@ pub trait Reloads: Shadows {
         ensures asides { AreSame (staying cr3 (put_by (Self.value self.old) (Self.marked self.old) (Self.noted self.old) (Self.slots self.old ram.old) (Self.asides self.old ram.old)))
             (Self.asides self.new ram.new) }
         ensures tracked { ArePart (Self.tracked self.new) (Self.tracked self.old) }
+        ensures opened { (indices : ℕ → Bool) → Self.opened self.old ram.old indices → Self.opened self.new ram.new indices }
+        ensures owns { Owns pool.new ram.new (Self.frames self.new ram.new) }
+        ensures moves { Moves pool.old pool.new ram.old ram.new (Self.frames self.old ram.old) (Self.frames self.new ram.new) };
+
+    /// Drops all, so that the present tables are as new: nothing is noted of them, and they aren't marked.
+    fn renew(&mut self, ram: &mut Ram, pool: &mut Pool)
+        requires stands { ∥ Self.stands self.old ram.old ∥₁ }
+        requires owns { Owns pool.old ram.old (Self.frames self.old ram.old) }
+        ensures stands { ∥ Self.stands self.new ram.new ∥₁ }
+        ensures none { (page : ℕ) → page < 2 ^ 20 → Self.slots self.new ram.new page ≡ None }
+        ensures entries { entries_of (Self.slots self.new ram.new) ≡ empty }
+        ensures noted { (frame : ℕ) → Self.noted self.new frame ≡ false }
+        ensures marked { Self.marked self.new ≡ false }
+        ensures value { Self.value self.new ≡ Self.value self.old }
+        ensures asides { Self.asides self.new ram.new ≡ [] }
+        ensures opened { (indices : ℕ → Bool) → Self.opened self.new ram.new indices }
+        ensures tracked { ArePart (Self.tracked self.new) (Self.tracked self.old) }
+        ensures roots { (side : Side) → Self.directory self.new side ≡ Self.directory self.old side }
+        ensures two { length (Self.frames self.new ram.new) ≡ 2 }
         ensures owns { Owns pool.new ram.new (Self.frames self.new ram.new) }
         ensures moves { Moves pool.old pool.new ram.old ram.new (Self.frames self.old ram.old) (Self.frames self.new ram.new) };
 
     /// At most eight values are kept, the present one among them.
     ghost few: { (s : Self) (m : List ℕ) → ∥ Self.stands s m ∥₁ → length (Self.asides s m) ≤ 7 };
+
+    /// Each of them holds two frames, and at most one more in each view for a directory index for which it has a table: so
+    /// at most 400 where these are at most 24.
+    ghost sized: { (s : Self) (m : List ℕ) (indices : ℕ → Bool) (among : List ℕ) → ∥ Self.stands s m ∥₁ → Self.opened s m indices
+        → ((index : ℕ) → index < 1024 → indices index ≡ true → is_member eqb among index ≡ true) → length (Self.frames s m) ≤ 8 * (2 + 2 * distinct_count eqb among) };
 }
 
 impl Reloads for Roots {
@@ -42,7 +70,13 @@ impl Reloads for Roots {
 
     ghost few = { λ r m h. laws.few-asides r.present r.others m h };
 
+    ghost sized = { λ r m indices among h o all. laws.frames-sized r.present r.others m indices among h o all };
+
     fn switch(&mut self, ram: &mut Ram, pool: &mut Pool, cr3: u32) {
         Roots::switch(self, ram, pool, cr3);
+    }
+
+    fn renew(&mut self, ram: &mut Ram, pool: &mut Pool) {
+        Roots::drop_all(self, ram, pool);
     }
 }

@@ -1,4 +1,4 @@
-ghost use Rattle.std.specs.Prelude.{◌≡◌, ℕ, ◌+◌, ◌/◌, ◌≤◌, ◌<◌, ◌^◌, List, [], ◌∷◌, ◌++◌, length, Some, None, false, IfOk, OnErr};
+ghost use Rattle.std.specs.Prelude.{◌≡◌, ℕ, ◌+◌, ◌/◌, ◌≤◌, ◌<◌, ◌^◌, Bool, List, [], ◌∷◌, ◌++◌, length, Some, None, false, IfOk, OnErr};
 ghost use Rattle.std.specs.FinMap.{empty, insert, remove};
 ghost use Rattle.frame_pool.specs.Pool.{free_list, Stands};
 ghost use Rattle.frame_pool.specs.declared.Pool.{Pool};
@@ -30,6 +30,7 @@ pub struct Roots {
 impl Roots {
     ghost use Rattle.shadow_cache.specs.Roots.{pairs_of};
     ghost use Rattle.shadow_cache.specs.After.{IsStart, beside, mark_of, noted_of, slots_of, value_of};
+    ghost use Rattle.shadow_cache.specs.Opening.{AllOpenedOnly};
     ghost use Rattle.shadow_cache.specs.Asides.{asides_of};
     ghost use Rattle.shadow_cache.specs.Switched.{IsSwitched};
     ghost use Rattle.shadow_cache.specs.Agreeing.{Agree};
@@ -51,6 +52,7 @@ impl Roots {
         ensures unmarked { IfOk result (λ r. mark_of (pairs_of r) ≡ false) }
         ensures unread { IfOk result (λ r. (f : ℕ) → noted_of (pairs_of r) f ≡ false) }
         ensures alone { IfOk result (λ r. asides_of (beside (pairs_of r)) ram.new ≡ []) }
+        ensures opened { (indices : ℕ → Bool) → IfOk result (λ r. AllOpenedOnly indices (pairs_of r) ram.new) }
     {
         let others = Pairs::new(alloc)?;
         let present = Pair::new(ram, pool, cr3);
@@ -230,6 +232,7 @@ impl Shadows for Roots {
     ghost use Rattle.shadow_cache.specs.Laws as laws;
     ghost use Rattle.shadow_cache.specs.Asides.{asides_of};
     ghost use Rattle.shadow_cache.specs.Pairs.{reads};
+    ghost use Rattle.shadow_cache.specs.Opening.{AllOpenedOnly};
 
     ghost stands = { λ r m. IsRoots (pairs_of r) m };
 
@@ -244,6 +247,8 @@ impl Shadows for Roots {
     ghost value = { λ r. Some r.present.cr3 };
 
     ghost asides = { λ r m. asides_of r.others m };
+
+    ghost opened = { λ r m indices. AllOpenedOnly indices (pairs_of r) m };
 
     ghost slots = { λ r m page. slot_at r.present.shadow m page };
 
@@ -276,6 +281,10 @@ impl Shadows for Roots {
     ghost same_slots = { λ r m m' h e. laws.same-slots r.present r.others m m' h e };
 
     ghost same_asides = { λ r m m' h e. laws.same-asides r.present r.others m m' h e };
+
+    ghost same_opened = { λ r m m' indices h e o. laws.same-opened (pairs_of r) m m' indices e o };
+
+    ghost wider = { λ r m indices more w o. laws.wider-opened (pairs_of r) m indices more w o };
 
     fn root(&self, side: Side) -> u32 {
         self.present.shadow.root(side)

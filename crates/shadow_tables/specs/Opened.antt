@@ -1,5 +1,5 @@
 -- Which tables the views have. A fill opens one where there is none, and all stay until the views are emptied.
-use Rattle.std.specs.Prelude.{◌≡◌, ◌≢◌, ℕ, ◌+◌, ◌<◌, ◌≤◌, List, length}
+use Rattle.std.specs.Prelude.{◌≡◌, ◌≢◌, ℕ, ◌+◌, ◌<◌, ◌≤◌, Bool, true, List, length}
 use Rattle.shadow_views.specs.Tables.{dir}
 use Rattle.shadow_tables.specs.Slots.{held, root_of}
 use Rattle.shadow_tables.specs.declared.words.Side.{Side}
@@ -19,3 +19,7 @@ pub record HasOpened (s : Shadow) (m m' : List ℕ) (side : Side) (index : ℕ) 
   pub others : KeepsTables s m m'
   pub already : HasTable s m side index → held s m' ≡ held s m
   pub one : length (held s m') ≤ length (held s m) + 1
+
+-- the views have tables only for directory indices of which the test is true
+abbrev pub HasOpenedOnly : (ℕ → Bool) → Shadow → List ℕ → Type 0
+HasOpenedOnly indices s m = (side : Side) (index : ℕ) → index < 1024 → HasTable s m side index → indices index ≡ true

@@ -46,6 +46,10 @@ pub trait Shadows {
     /// What they keep for values of CR3 that aren't present and may be loaded again, the last used first.
     ghost asides: { Self → List ℕ → List Aside };
 
+    /// They have tables only for pages under directory indices of which the test is true, those for other values of CR3
+    /// too: as far as it matters how many frames they hold.
+    ghost opened: { Self → List ℕ → (ℕ → Bool) → Type 0 };
+
     /// What they keep for each page.
     ghost slots: { Self → List ℕ → ℕ → Option Slot };
 
@@ -82,6 +86,7 @@ pub trait Shadows {
         ensures value { value self.new ≡ value self.old }
         ensures asides { AreSame (asides self.old ram.old) (asides self.new ram.new) }
         ensures tracked { tracked self.new ≡ tracked self.old }
+        ensures opened { (indices : ℕ → Bool) → opened self.old ram.old indices → opened self.new ram.new indices }
         ensures roots { (side : Side) → directory self.new side ≡ directory self.old side }
         ensures frames { frames self.new ram.new ≡ frames self.old ram.old }
         ensures memory { Writes (frames self.old ram.old) ram.old ram.new }
@@ -99,6 +104,7 @@ pub trait Shadows {
         ensures value { value self.new ≡ value self.old }
         ensures asides { AreSame (asides self.old ram.old) (asides self.new ram.new) }
         ensures tracked { tracked self.new ≡ tracked self.old }
+        ensures opened { (indices : ℕ → Bool) → opened self.old ram.old indices → opened self.new ram.new indices }
         ensures roots { (side : Side) → directory self.new side ≡ directory self.old side }
         ensures frames { frames self.new ram.new ≡ frames self.old ram.old }
         ensures memory { Writes (frames self.old ram.old) ram.old ram.new }
@@ -120,6 +126,7 @@ pub trait Shadows {
         ensures value { value self.new ≡ value self.old }
         ensures asides { AreSame (asides self.old ram.old) (asides self.new ram.new) }
         ensures tracked { tracked self.new ≡ tracked self.old }
+        ensures opened { (indices : ℕ → Bool) → indices (entry.page / 1024) ≡ true → opened self.old ram.old indices → opened self.new ram.new indices }
         ensures roots { (side : Side) → directory self.new side ≡ directory self.old side }
         ensures one { length (free_list pool.old ram.old) ≤ length (free_list pool.new ram.new) + 1 }
         ensures owns { Owns pool.new ram.new (frames self.new ram.new) }
@@ -137,6 +144,7 @@ pub trait Shadows {
         ensures value { value self.new ≡ value self.old }
         ensures asides { asides self.new ram.new ≡ [] }
         ensures tracked { ArePart (tracked self.new) (tracked self.old) }
+        ensures opened { (indices : ℕ → Bool) → opened self.old ram.old indices → opened self.new ram.new indices }
         ensures roots { (side : Side) → directory self.new side ≡ directory self.old side }
         ensures two { length (frames self.new ram.new) ≡ 2 }
         ensures owns { Owns pool.new ram.new (frames self.new ram.new) }
@@ -155,6 +163,7 @@ pub trait Shadows {
         ensures value { value self.new ≡ value self.old }
         ensures asides { LoseWrites (frame ∷ []) (asides self.old ram.old) (asides self.new ram.new) }
         ensures tracked { ArePart (tracked self.new) (frame ∷ tracked self.old) }
+        ensures opened { (indices : ℕ → Bool) → opened self.old ram.old indices → opened self.new ram.new indices }
         ensures roots { (side : Side) → directory self.new side ≡ directory self.old side }
         ensures frames { frames self.new ram.new ≡ frames self.old ram.old }
         ensures memory { Writes (frames self.old ram.old) ram.old ram.new }
@@ -174,6 +183,7 @@ pub trait Shadows {
         ensures asides { AreSame (spared frame (asides self.old ram.old)) (asides self.new ram.new) }
         ensures tracked { ArePart (tracked self.new) (tracked self.old) }
         ensures untracked { is_among frame (tracked self.new) ≡ false }
+        ensures opened { (indices : ℕ → Bool) → opened self.old ram.old indices → opened self.new ram.new indices }
         ensures roots { (side : Side) → directory self.new side ≡ directory self.old side }
         ensures fewer { length (free_list pool.old ram.old) ≤ length (free_list pool.new ram.new) }
         ensures owns { Owns pool.new ram.new (frames self.new ram.new) }
@@ -216,6 +226,10 @@ pub trait Shadows {
 
     ghost same_asides: { (s : Self) (m m' : List ℕ) → ∥ stands s m ∥₁ → SameIn (frames s m) m m' → AreSame (asides s m) (asides s m') };
 
+    ghost same_opened: { (s : Self) (m m' : List ℕ) (indices : ℕ → Bool) → ∥ stands s m ∥₁ → SameIn (frames s m) m m' → opened s m indices → opened s m' indices };
+
+    ghost wider: { (s : Self) (m : List ℕ) (indices more : ℕ → Bool) → ((index : ℕ) → indices index ≡ true → more index ≡ true) → opened s m indices → opened s m more };
+
     ghost same_entries: { (s : Self) (m m' : List ℕ) → ∥ stands s m ∥₁ → SameIn (frames s m) m m' → entries_of (slots s m') ≡ entries_of (slots s m) } = { λ s m m' h e. laws.same-entries (slots s m) (slots s m') (same_slots s m m' h e) };
 
     /// The entries as a map: that of a page, and none from the last page on.
@@ -243,6 +257,8 @@ impl Shadows for Shadow {
     ghost value = { λ s. None };
 
     ghost asides = { λ s m. [] };
+
+    ghost opened = { λ s m indices. Unit {0} };
 
     ghost slots = { λ s m page. slot_at s m page };
 
@@ -275,6 +291,10 @@ impl Shadows for Shadow {
     ghost same_slots = { λ s m m' h e. laws.same-slots s m m' h e };
 
     ghost same_asides = { λ s m m' h e. tt };
+
+    ghost same_opened = { λ s m m' indices h e o. tt };
+
+    ghost wider = { λ s m indices more w o. tt };
 
     fn root(&self, side: Side) -> u32 {
         Shadow::root(self, side)

@@ -1,5 +1,5 @@
 -- Lists of pages, gone through from the first on.
-use Rattle.std.proofs.Common.{◌≡◌, ℕ, ◌+◌, ◌-◌, ◌<◌, List, [], ◌∷◌, ◌++◌, ◌⊎◌, length, drop, drop-cons, take, take-suc, get_or, add-one, zero-add, Bool, true, false, not, cond, eqb, ◌&&◌, ◌||◌, Option, Some, None, IfSome, refl, sym, ap, ◌∙◌, subst, inl, inr, arith}
+use Rattle.std.proofs.Common.{◌≡◌, ℕ, zero, suc, ◌+◌, ◌-◌, ◌<◌, List, [], ◌∷◌, ◌++◌, ◌⊎◌, length, drop, drop-cons, take, take-suc, get_or, add-one, zero-add, Bool, true, false, not, cond, eqb, ◌&&◌, ◌||◌, Option, Some, None, IfSome, refl, sym, ap, ◌∙◌, subst, inl, inr, arith}
 use Rattle.std.proofs.lemmas.List.{take_all, length-drop}
 use Rattle.std.proofs.lemmas.Bool.Decides.{eqb_tells}
 use Rattle.std.specs.FinMap.{FinMap, get}
@@ -107,3 +107,13 @@ noted-more xs i old new l here stays before x h low =
           let low' : get_or xs i 0 < 16384 = subst (λ y. y < 16384) e low in
           subst (λ y. new y ≡ true) (sym e) (here low')
     ]
+
+or-true : (a b : Bool) → b ≡ true → (a || b) ≡ true
+or-true true b e = refl
+or-true false b e = e
+
+-- an element is among its list
+pub element-among : (xs : List ℕ) (i : ℕ) → i < length xs → is_among (get_or xs i 0) xs ≡ true
+element-among [] i l = absurd (omega (arith, l))
+element-among (x ∷ xs) zero l = elim (eqb_tells x x) [ inl t ↦ ap (λ b. b || is_among x xs) t.0 | inr n ↦ absurd (n.1 refl) ]
+element-among (x ∷ xs) (suc i) l = or-true (eqb (get_or xs i 0) x) (is_among (get_or xs i 0) xs) (element-among xs i (omega (arith, l)))

@@ -1,6 +1,6 @@
 //! Filling the pages of a step.
 
-ghost use Rattle.std.specs.Prelude.{◌≡◌, ◌+◌, ◌*◌, ◌≤◌, ◌<◌, ◌^◌, ℕ, length, true, false, IfSome, ◌==◌, ◌&&◌, not, if◌then◌else◌};
+ghost use Rattle.std.specs.Prelude.{◌≡◌, ◌+◌, ◌*◌, ◌≤◌, ◌<◌, ◌^◌, ℕ, length, true, false, IfSome, ◌==◌, ◌&&◌, not, if◌then◌else◌, Bool, ◌/◌};
 ghost use Rattle.std.specs.FinMap.{get};
 ghost use Rattle.frame_pool.specs.Pool.{free_list};
 ghost use Rattle.frame_pool.specs.Held.{Owns, Moves};
@@ -40,6 +40,7 @@ fn fill_page<S: Shadows>(
     ensures marked { S.marked shadows.new ≡ S.marked shadows.old }
     ensures value { S.value shadows.new ≡ S.value shadows.old }
     ensures asides { AreSame (S.asides shadows.old ram.old) (S.asides shadows.new ram.new) }
+    ensures opened { (indices : ℕ → Bool) → indices (page / 1024) ≡ true → S.opened shadows.old ram.old indices → S.opened shadows.new ram.new indices }
     ensures roots { (view : View) → S.directory shadows.new view ≡ S.directory shadows.old view }
     ensures left { length (free_list pool.old ram.old) ≤ length (free_list pool.new ram.new) + (if has_entry entry then 1 else 0) }
     ensures moves { Moves pool.old pool.new ram.old ram.new (S.frames shadows.old ram.old) (S.frames shadows.new ram.new) }
@@ -73,6 +74,7 @@ fn fill_last<S: Shadows>(
     ensures marked { S.marked shadows.new ≡ S.marked shadows.old }
     ensures value { S.value shadows.new ≡ S.value shadows.old }
     ensures asides { AreSame (S.asides shadows.old ram.old) (S.asides shadows.new ram.new) }
+    ensures opened { (indices : ℕ → Bool) → indices (page / 1024) ≡ true → S.opened shadows.old ram.old indices → S.opened shadows.new ram.new indices }
     ensures roots { (view : View) → S.directory shadows.new view ≡ S.directory shadows.old view }
     ensures left { length (free_list pool.old ram.old) ≤ length (free_list pool.new ram.new) + (if has_entry (get (changed (entries_of (S.slots shadows.old ram.old)) changes.now) page) && not (is_among page later.now) then 1 else 0) }
     ensures moves { Moves pool.old pool.new ram.old ram.new (S.frames shadows.old ram.old) (S.frames shadows.new ram.new) }
@@ -105,6 +107,7 @@ pub fn fill_pages<S: Shadows>(
     ensures marked { S.marked shadows.new ≡ S.marked shadows.old }
     ensures value { S.value shadows.new ≡ S.value shadows.old }
     ensures asides { AreSame (S.asides shadows.old ram.old) (S.asides shadows.new ram.new) }
+    ensures opened { (indices : ℕ → Bool) → ((page : ℕ) → is_among page pages.now ≡ true → indices (page / 1024) ≡ true) → S.opened shadows.old ram.old indices → S.opened shadows.new ram.new indices }
     ensures roots { (view : View) → S.directory shadows.new view ≡ S.directory shadows.old view }
     ensures moves { Moves pool.old pool.new ram.old ram.new (S.frames shadows.old ram.old) (S.frames shadows.new ram.new) }
 {

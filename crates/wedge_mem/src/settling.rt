@@ -1,6 +1,6 @@
 //! The end of a step: the shadows keep what the step left.
 
-ghost use Rattle.std.specs.Prelude.{◌≡◌, ◌+◌, ◌*◌, ◌≤◌, ◌<◌, ◌^◌, ℕ, List, length, true, false, ◌||◌, [], take, IfSome, IsSome, MatchOption};
+ghost use Rattle.std.specs.Prelude.{◌≡◌, ◌+◌, ◌*◌, ◌≤◌, ◌<◌, ◌^◌, ℕ, List, length, true, false, ◌||◌, [], take, IfSome, IsSome, MatchOption, Bool, ◌/◌};
 ghost use Rattle.std.specs.FinMap.{FinMap, empty, get};
 ghost use Rattle.frame_pool.specs.Pool.{base_of, free_list};
 ghost use Rattle.frame_pool.specs.Held.{Owns, Moves};
@@ -53,6 +53,7 @@ pub fn settle<S: Shadows>(
     ensures asides { MatchOption result (S.asides shadows.new ram.new ≡ [])
         (λ n. LoseWrites (guest_frames state.now.tables) (all_spared state.now.wrote (S.asides shadows.old ram.old)) (S.asides shadows.new ram.new)) }
     ensures untracked { IsSome result → (frame : ℕ) → is_among frame state.now.wrote ≡ true → is_among frame (S.tracked shadows.new) ≡ false }
+    ensures opened { (indices : ℕ → Bool) → ((page : ℕ) → is_among page (pages_of state.now.went state.now.changes) ≡ true → indices (page / 1024) ≡ true) → S.opened shadows.old ram.old indices → S.opened shadows.new ram.new indices }
     ensures guest { take (4096 * base_of pool.old) ram.new ≡ take (4096 * base_of pool.old) ram.old }
 {
     let _len = ram.len();

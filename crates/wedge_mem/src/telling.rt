@@ -1,6 +1,6 @@
 //! Telling the shadows which frames a step read as tables, and which it wrote.
 
-ghost use Rattle.std.specs.Prelude.{◌≡◌, ◌^◌, ◌<◌, ◌≤◌, ℕ, length, true, false, ◌||◌, [], ◌∷◌};
+ghost use Rattle.std.specs.Prelude.{◌≡◌, ◌^◌, ◌<◌, ◌≤◌, ℕ, length, true, false, ◌||◌, [], ◌∷◌, Bool, ◌/◌};
 ghost use Rattle.frame_pool.specs.Pool.{free_list};
 ghost use Rattle.frame_pool.specs.Held.{Owns, Moves, Writes};
 ghost use Rattle.shadow_tables.specs.Aside.{AreSame, LoseWrites, any_of, all_spared};
@@ -24,6 +24,7 @@ fn note_table<S: Shadows>(shadows: &mut S, ram: &mut Ram, frame: u32)
     ensures asides { LoseWrites (guest_frames (frame ∷ [])) (S.asides shadows.old ram.old) (S.asides shadows.new ram.new) }
     ensures slots { (page : ℕ) → page < 2 ^ 20 → IsWithin (S.slots shadows.new ram.new page) (S.slots shadows.old ram.old page) }
     ensures entries { entries_of (S.slots shadows.new ram.new) ≡ entries_of (S.slots shadows.old ram.old) }
+    ensures opened { (indices : ℕ → Bool) → S.opened shadows.old ram.old indices → S.opened shadows.new ram.new indices }
     ensures roots { (view : View) → S.directory shadows.new view ≡ S.directory shadows.old view }
     ensures frames { S.frames shadows.new ram.new ≡ S.frames shadows.old ram.old }
     ensures memory { Writes (S.frames shadows.old ram.old) ram.old ram.new }
@@ -43,6 +44,7 @@ pub fn note_tables<S: Shadows>(shadows: &mut S, ram: &mut Ram, tables: &[u32])
     ensures asides { LoseWrites (guest_frames tables.now) (S.asides shadows.old ram.old) (S.asides shadows.new ram.new) }
     ensures slots { (page : ℕ) → page < 2 ^ 20 → IsWithin (S.slots shadows.new ram.new page) (S.slots shadows.old ram.old page) }
     ensures entries { entries_of (S.slots shadows.new ram.new) ≡ entries_of (S.slots shadows.old ram.old) }
+    ensures opened { (indices : ℕ → Bool) → S.opened shadows.old ram.old indices → S.opened shadows.new ram.new indices }
     ensures roots { (view : View) → S.directory shadows.new view ≡ S.directory shadows.old view }
     ensures frames { S.frames shadows.new ram.new ≡ S.frames shadows.old ram.old }
     ensures memory { Writes (S.frames shadows.old ram.old) ram.old ram.new }
@@ -66,6 +68,7 @@ pub fn tell_written<S: Shadows>(shadows: &mut S, ram: &mut Ram, pool: &mut Pool,
     ensures value { S.value shadows.new ≡ S.value shadows.old }
     ensures asides { AreSame (all_spared wrote.now (S.asides shadows.old ram.old)) (S.asides shadows.new ram.new) }
     ensures untracked { (frame : ℕ) → is_among frame wrote.now ≡ true → is_among frame (S.tracked shadows.new) ≡ false }
+    ensures opened { (indices : ℕ → Bool) → S.opened shadows.old ram.old indices → S.opened shadows.new ram.new indices }
     ensures roots { (view : View) → S.directory shadows.new view ≡ S.directory shadows.old view }
     ensures fewer { length (free_list pool.old ram.old) ≤ length (free_list pool.new ram.new) }
     ensures moves { Moves pool.old pool.new ram.old ram.new (S.frames shadows.old ram.old) (S.frames shadows.new ram.new) }

@@ -8,7 +8,7 @@ use Rattle.shadow_tables.specs.Slots.{Slot, is_among}
 use Rattle.shadow_tables.proofs.Asides.{same-trans}
 use Rattle.step_mem.specs.Changes.{changed}
 use Rattle.wedge_mem.specs.Settled.{filled_by, has_entry}
-use Rattle.wedge_mem.proofs.Lists.{later-is, used-at, if-some}
+use Rattle.wedge_mem.proofs.Lists.{element-among, later-is, used-at, if-some}
 use Rattle.wedge_mem.proofs.Filled.{entry-still, fill-more}
 use Rattle.wedge_mem.proofs.filling.fill_pages.Goals as goal
 
@@ -61,6 +61,7 @@ loop-i-preserved g c =
       marked = e.marked ∙ l.invariant.marked;
       value = e.value ∙ l.invariant.value;
       asides = same-trans (g.S.Shadows.asides c.args.shadows.now c.args.ram.now) (g.S.Shadows.asides l.shadows l.ram) (g.S.Shadows.asides c.fill_last.new.shadows c.fill_last.new.ram) l.invariant.asides e.asides;
+      opened = λ indices all h. e.opened indices (all page (element-among xs l.i c.loop-i-test.true)) (l.invariant.opened indices all h);
       tracked = e.tracked ∙ l.invariant.tracked;
       roots = λ view. e.roots view ∙ l.invariant.roots view;
       left = omega (arith, count, left, spent);

@@ -1,4 +1,4 @@
-use Rattle.std.proofs.Common.{◌≡◌, ℕ, ◌^◌, ◌<◌, ◌≤◌, length, drop, ◌&&◌, not, cond}
+use Rattle.std.proofs.Common.{◌≡◌, ℕ, Bool, true, ◌/◌, ◌^◌, ◌<◌, ◌≤◌, length, drop, ◌&&◌, not, cond}
 use Rattle.std.specs.FinMap.{get}
 use Rattle.frame_pool.specs.Pool.{free_list}
 use Rattle.frame_pool.specs.Held.{Moves}
@@ -18,6 +18,7 @@ invariant-loop-i g l = let set = changed (entries_of (g.S.Shadows.slots l.fn.sha
   marked : g.S.Shadows.marked l.shadows ≡ g.S.Shadows.marked l.fn.shadows;
   value : g.S.Shadows.value l.shadows ≡ g.S.Shadows.value l.fn.shadows;
   asides : AreSame (g.S.Shadows.asides l.fn.shadows l.fn.ram) (g.S.Shadows.asides l.shadows l.ram);
+  opened : (indices : ℕ → Bool) → ((page : ℕ) → is_among page l.pages ≡ true → indices (page / 1024) ≡ true) → g.S.Shadows.opened l.fn.shadows l.fn.ram indices → g.S.Shadows.opened l.shadows l.ram indices;
   tracked : g.S.Shadows.tracked l.shadows ≡ g.S.Shadows.tracked l.fn.shadows;
   roots : (view : _) → g.S.Shadows.directory l.shadows view ≡ g.S.Shadows.directory l.fn.shadows view;
   left : length (used set (drop l.i l.pages)) ≤ length (free_list l.pool l.ram);

@@ -18,6 +18,7 @@ loop-frame-init g c =
       slots = λ page h. within-refl _;
       entries = refl;
       roots = λ view. refl;
+      opened = λ indices h. h;
       frames = refl;
       memory = Writes-refl _ _;
     }
@@ -35,6 +36,7 @@ loop-frame-preserved g c =
       slots = λ page h. within-trans _ _ _ (e.slots page h) (l.invariant.slots page h);
       entries = e.entries ∙ l.invariant.entries;
       roots = λ view. e.roots view ∙ l.invariant.roots view;
+      opened = λ indices h. e.opened indices (l.invariant.opened indices h);
       frames = e.frames ∙ l.invariant.frames;
       memory = Writes-trans fs c.args.ram.now l.ram n.ram l.invariant.memory (subst (λ (gs : List ℕ). Writes gs l.ram n.ram) l.invariant.frames e.memory);
     }

@@ -1,4 +1,4 @@
-use Rattle.std.proofs.Common.{◌≡◌, ℕ, take, ◌^◌, ◌<◌}
+use Rattle.std.proofs.Common.{◌≡◌, ℕ, Bool, take, ◌^◌, ◌<◌}
 use Rattle.frame_pool.specs.Held.{Writes}
 use Rattle.shadow_tables.specs.Aside.{LoseWrites}
 use Rattle.shadow_tables.specs.Calls.{IsWithin}
@@ -16,6 +16,7 @@ invariant-loop-frame g l = record {
   slots : (page : ℕ) → page < 2 ^ 20 → IsWithin (g.S.Shadows.slots l.shadows l.ram page) (g.S.Shadows.slots l.fn.shadows l.fn.ram page);
   entries : entries_of (g.S.Shadows.slots l.shadows l.ram) ≡ entries_of (g.S.Shadows.slots l.fn.shadows l.fn.ram);
   roots : (view : _) → g.S.Shadows.directory l.shadows view ≡ g.S.Shadows.directory l.fn.shadows view;
+  opened : (indices : ℕ → Bool) → g.S.Shadows.opened l.fn.shadows l.fn.ram indices → g.S.Shadows.opened l.shadows l.ram indices;
   frames : g.S.Shadows.frames l.shadows l.ram ≡ g.S.Shadows.frames l.fn.shadows l.fn.ram;
   memory : Writes (g.S.Shadows.frames l.fn.shadows l.fn.ram) l.fn.ram l.ram;
 }

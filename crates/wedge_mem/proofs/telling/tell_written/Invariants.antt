@@ -1,4 +1,4 @@
-use Rattle.std.proofs.Common.{◌≡◌, ℕ, ◌≤◌, length, take, true, false, ◌||◌}
+use Rattle.std.proofs.Common.{◌≡◌, ℕ, Bool, ◌≤◌, length, take, true, false, ◌||◌}
 use Rattle.frame_pool.specs.Pool.{free_list}
 use Rattle.frame_pool.specs.Held.{Moves}
 use Rattle.shadow_tables.specs.Aside.{AreSame, any_of, all_spared}
@@ -15,6 +15,7 @@ invariant-loop-frame g l = record {
   noted : (frame : ℕ) → is_among frame (take l.frame-index l.wrote) ≡ false → g.S.Shadows.noted l.shadows frame ≡ g.S.Shadows.noted l.fn.shadows frame;
   noted_less : (frame : ℕ) → g.S.Shadows.noted l.shadows frame ≡ true → g.S.Shadows.noted l.fn.shadows frame ≡ true;
   marked : g.S.Shadows.marked l.shadows ≡ (g.S.Shadows.marked l.fn.shadows || any_of (g.S.Shadows.noted l.fn.shadows) (take l.frame-index l.wrote));
+  opened : (indices : ℕ → Bool) → g.S.Shadows.opened l.fn.shadows l.fn.ram indices → g.S.Shadows.opened l.shadows l.ram indices;
   value : g.S.Shadows.value l.shadows ≡ g.S.Shadows.value l.fn.shadows;
   asides : AreSame (all_spared (take l.frame-index l.wrote) (g.S.Shadows.asides l.fn.shadows l.fn.ram)) (g.S.Shadows.asides l.shadows l.ram);
   untracked : (frame : ℕ) → is_among frame (take l.frame-index l.wrote) ≡ true → is_among frame (g.S.Shadows.tracked l.shadows) ≡ false;

@@ -1,6 +1,7 @@
 use Rattle.shadow_cache.specs.Roots.{pairs_of}
 use Rattle.shadow_cache.specs.Laws.{had}
 use Rattle.shadow_cache.proofs.Reloading.{reloaded, reloaded-tracked}
+use Rattle.shadow_cache.proofs.Openings.{loaded-opened}
 use Rattle.shadow_cache.proofs.reloads.RootsReloads.switch.Goals as goal
 
 pub returns-clause-value : goal.returns-clause-value
@@ -25,3 +26,7 @@ returns-clause-asides c =
 
 pub returns-clause-tracked : goal.returns-clause-tracked
 returns-clause-tracked c = let r = c.args.self.now in reloaded-tracked c.args.cr3 r.present r.others (pairs_of c.switch.new.self) c.args.ram.now c.switch.new.ram c.switch.ensures.switched
+
+pub returns-clause-opened : goal.returns-clause-opened
+returns-clause-opened c = λ indices h.
+    let r = c.args.self.now in loaded-opened indices r.present r.others (pairs_of c.switch.new.self) c.args.ram.now c.switch.new.ram c.args.cr3 c.switch.ensures.switched h

@@ -6,6 +6,7 @@ use Rattle.shadow_cache.specs.declared.pair.Pair.{Pair}
 use Rattle.shadow_cache.proofs.Beside.{no-reads}
 use Rattle.shadow_cache.proofs.Noting.{alone-frames, fresh-roots}
 use Rattle.shadow_cache.proofs.CallSteps.{agree-start}
+use Rattle.shadow_cache.proofs.Openings.{start-opened}
 use Rattle.shadow_cache.proofs.roots.Roots.new.Goals as goal
 
 pub returns-clause-stands : goal.returns-clause-stands
@@ -40,3 +41,6 @@ returns-clause-unread c = λ f. ap (λ (bits : List Bool). get_or bits f false) 
 
 pub returns-clause-alone : goal.returns-clause-alone
 returns-clause-alone c = ap (λ (ps : List Pair). asides_of ps c.new-present.new.ram) c.in_ok-others.ensures
+
+pub returns-clause-opened : goal.returns-clause-opened
+returns-clause-opened c = λ indices. start-opened indices c.new-present.result c.in_ok-others.others c.new-present.new.ram c.in_ok-others.ensures c.new-present.ensures.empty

@@ -2,6 +2,7 @@ use Rattle.std.proofs.Common.{ap}
 use Rattle.shadow_cache.specs.Roots.{pairs_of}
 use Rattle.shadow_cache.proofs.Asided.{others-kept}
 use Rattle.shadow_cache.specs.After.{mark_of, noted_of, value_of}
+use Rattle.shadow_cache.proofs.Openings.{dropped-opened}
 use Rattle.shadow_cache.proofs.roots.RootsShadows.drop_page.Goals as goal
 
 pub returns-clause-noted : goal.returns-clause-noted
@@ -16,3 +17,8 @@ returns-clause-value c = ap value_of c.drop_page.ensures.pairs
 pub returns-clause-asides : goal.returns-clause-asides
 returns-clause-asides c =
     let r = c.args.self.now in others-kept r.present r.others (pairs_of c.drop_page.new.self) c.args.ram.now c.drop_page.new.ram c.drop_page.ensures.pairs c.drop_page.ensures.others
+
+pub returns-clause-opened : goal.returns-clause-opened
+returns-clause-opened c = λ indices h.
+    let r = c.args.self.now in
+    dropped-opened indices r.present r.others (pairs_of c.drop_page.new.self) c.args.ram.now c.drop_page.new.ram c.drop_page.ensures.pairs c.drop_page.ensures.tables c.drop_page.ensures.others h

@@ -1,7 +1,8 @@
-use Rattle.std.proofs.Common.{ap}
+use Rattle.std.proofs.Common.{ap, ◌/◌, arith}
 use Rattle.shadow_cache.specs.Roots.{pairs_of}
 use Rattle.shadow_cache.proofs.Asided.{others-kept}
 use Rattle.shadow_cache.specs.After.{mark_of, noted_of, value_of}
+use Rattle.shadow_cache.proofs.Openings.{filled-opened}
 use Rattle.shadow_cache.proofs.roots.RootsShadows.fill.Goals as goal
 
 pub returns-clause-noted : goal.returns-clause-noted
@@ -16,3 +17,9 @@ returns-clause-value c = ap value_of c.fill.ensures.pairs
 pub returns-clause-asides : goal.returns-clause-asides
 returns-clause-asides c =
     let r = c.args.self.now in others-kept r.present r.others (pairs_of c.fill.new.self) c.args.ram.now c.fill.new.ram c.fill.ensures.pairs c.fill.ensures.others
+
+pub returns-clause-opened : goal.returns-clause-opened
+returns-clause-opened c = λ indices may h.
+    let r = c.args.self.now in
+    let page = c.requires.page in
+    filled-opened indices r.present r.others (pairs_of c.fill.new.self) c.args.ram.now c.fill.new.ram c.args.side (c.args.entry.page / 1024) (omega (arith, page)) c.fill.ensures.pairs c.fill.ensures.table c.fill.ensures.others may h

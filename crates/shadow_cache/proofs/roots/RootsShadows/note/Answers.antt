@@ -4,6 +4,7 @@ use Rattle.shadow_cache.specs.Roots.{pairs_of}
 use Rattle.shadow_cache.proofs.Asided.{others-lose}
 use Rattle.shadow_cache.specs.After.{mark_of, value_of}
 use Rattle.shadow_cache.proofs.Noted.{noted-exact}
+use Rattle.shadow_cache.proofs.Openings.{noted-opened}
 use Rattle.shadow_cache.proofs.roots.RootsShadows.note.Goals as goal
 
 pub returns-clause-noted : goal.returns-clause-noted
@@ -20,3 +21,8 @@ returns-clause-value c = ap value_of c.note.ensures.pairs
 pub returns-clause-asides : goal.returns-clause-asides
 returns-clause-asides c =
     let r = c.args.self.now in others-lose r.present r.others (pairs_of c.note.new.self) c.args.ram.now c.note.new.ram c.args.frame c.note.ensures.pairs c.note.ensures.loses
+
+pub returns-clause-opened : goal.returns-clause-opened
+returns-clause-opened c = λ indices h.
+    let r = c.args.self.now in
+    noted-opened indices r.present r.others (pairs_of c.note.new.self) c.args.ram.now c.note.new.ram c.args.frame c.note.ensures.pairs c.note.ensures.loses h

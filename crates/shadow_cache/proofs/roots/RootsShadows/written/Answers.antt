@@ -1,6 +1,7 @@
 use Rattle.shadow_cache.specs.Roots.{pairs_of}
 use Rattle.shadow_cache.proofs.Asided.{others-spared}
 use Rattle.shadow_cache.proofs.Noted.{written-other, written-there, written-marked, written-value}
+use Rattle.shadow_cache.proofs.Openings.{written-opened}
 use Rattle.shadow_cache.proofs.roots.RootsShadows.written.Goals as goal
 
 pub returns-clause-noted : goal.returns-clause-noted
@@ -18,3 +19,8 @@ returns-clause-value c = let r = c.args.self.now in written-value r.present r.ot
 pub returns-clause-asides : goal.returns-clause-asides
 returns-clause-asides c =
     let r = c.args.self.now in others-spared r.present r.others (pairs_of c.written.new.self) c.args.ram.now c.written.new.ram c.args.frame c.written.ensures.pairs c.written.ensures.kept
+
+pub returns-clause-opened : goal.returns-clause-opened
+returns-clause-opened c = λ indices h.
+    let r = c.args.self.now in
+    written-opened indices r.present r.others (pairs_of c.written.new.self) c.args.ram.now c.written.new.ram c.args.frame c.written.ensures.pairs c.written.ensures.kept h

@@ -1,0 +1,11 @@
+pub mod Lists
+pub mod Counts
+pub mod Places
+pub mod Owed
+pub mod OwedStays
+pub mod Settling
+pub mod Holding
+pub mod FoundStays
+pub mod Refetching
+pub mod Clashing
+pub mod Nexts

@@ -1,0 +1,105 @@
+-- Lists of steps: their splits, what their walks read, and the values that they loaded.
+use Rattle.std.proofs.Common.{◌≡◌, ℕ, List, [], ◌∷◌, ◌++◌, Bool, true, false, ◌||◌, ◌==◌, eqb, append_assoc, refl, sym, ap, subst, ◌∙◌}
+use Rattle.std.specs.List.{list_any, Contains, All}
+use Rattle.std.specs.Set.{is_member}
+use Rattle.std.proofs.lemmas.List.Elements.{All-head, All-tail, All-cons, All-nil}
+use Rattle.machine_model.specs.Taken.{Taken}
+use Rattle.machine_model.specs.Keeping.{root_in, roots_in, tables_in}
+use Rattle.kept_laws.specs.Remembered.{was_read, Unwritten}
+
+-- ---- splits
+
+-- a split of a list with one more behind it is at that one, or is a split of the list
+pub data Split (l : List Taken) (x : Taken) (a : List Taken) (y : Taken) (b : List Taken) : Type 0 where
+  At_end : a ≡ l → y ≡ x → b ≡ [] → Split l x a y b
+  Within : (c : List Taken) → l ≡ a ++ y ∷ c → b ≡ c ++ x ∷ [] → Split l x a y b
+
+heads : (x y : Taken) (xs ys : List Taken) → x ∷ xs ≡ y ∷ ys → x ≡ y
+heads x y xs ys e = cc
+
+tails : (x y : Taken) (xs ys : List Taken) → x ∷ xs ≡ y ∷ ys → xs ≡ ys
+tails x y xs ys e = cc
+
+none_some : (a : List Taken) (y : Taken) (b : List Taken) → [] ≡ a ++ y ∷ b → ⊥
+none_some [] y b e = cc
+none_some (z ∷ a) y b e = cc
+
+more : (w z : Taken) (l : List Taken) (x : Taken) (a : List Taken) (y : Taken) (b : List Taken) → w ≡ z → Split l x a y b → Split (w ∷ l) x (z ∷ a) y b
+more w z l x a y b e (At_end same is none) = At_end (ap (λ (t : Taken). t ∷ a) (sym e) ∙ ap (λ (k : List Taken). w ∷ k) same) is none
+more w z l x a y b e (Within c same rest) = Within c (ap (λ (k : List Taken). w ∷ k) same ∙ ap (λ (t : Taken). t ∷ (a ++ y ∷ c)) e) rest
+
+pub split_of : (l : List Taken) (x : Taken) (a : List Taken) (y : Taken) (b : List Taken) → l ++ x ∷ [] ≡ a ++ y ∷ b → Split l x a y b
+split_of [] x [] y b e = At_end refl (sym (heads x y [] b e)) (sym (tails x y [] b e))
+split_of [] x (z ∷ a) y b e = absurd (none_some a y b (tails x z [] (a ++ y ∷ b) e))
+split_of (w ∷ l) x [] y b e =
+    Within l (ap (λ (t : Taken). t ∷ l) (heads w y (l ++ x ∷ []) b e)) (sym (tails w y (l ++ x ∷ []) b e))
+split_of (w ∷ l) x (z ∷ a) y b e = more w z l x a y b (heads w z (l ++ x ∷ []) (a ++ y ∷ b) e) (split_of l x a y b (tails w z (l ++ x ∷ []) (a ++ y ∷ b) e))
+
+-- one more behind a split
+pub split_more : (l : List Taken) (x : Taken) (a : List Taken) (y : Taken) (b : List Taken) → l ≡ a ++ y ∷ b → l ++ x ∷ [] ≡ a ++ y ∷ (b ++ x ∷ [])
+split_more l x a y b e = ap (λ (k : List Taken). k ++ x ∷ []) e ∙ append_assoc a (y ∷ b) (x ∷ [])
+
+-- ---- all of a list
+
+pub all_front : {X : Type 0} (P : X → Type 0) (xs ys : List X) → All P (xs ++ ys) → All P xs
+all_front P [] ys h = All-nil P
+all_front P (x ∷ xs) ys h = All-cons P x xs (All-head P x (xs ++ ys) h) (all_front P xs ys (All-tail P x (xs ++ ys) h))
+
+pub all_end : {X : Type 0} (P : X → Type 0) (xs : List X) (y : X) → All P (xs ++ y ∷ []) → P y
+all_end P [] y h = All-head P y [] h
+all_end P (x ∷ xs) y h = all_end P xs y (All-tail P x (xs ++ y ∷ []) h)
+
+pub all_at : {X : Type 0} (P : X → Type 0) (xs : List X) (x : X) → All P xs → Contains xs x → P x
+all_at P xs x h c = subst P c.2 (h c.0 x c.1)
+
+-- ---- one of a list
+
+pub any_left : {X : Type 0} (test : X → Bool) (xs ys : List X) → list_any test xs ≡ true → list_any test (xs ++ ys) ≡ true
+any_left test [] ys h = absurd (let e : false ≡ true = h in cc)
+any_left test (x ∷ xs) ys h = by (test x) h (any_left test xs ys)
+  where
+    by : (b : Bool) → (b || list_any test xs) ≡ true → (list_any test xs ≡ true → list_any test (xs ++ ys) ≡ true) → (b || list_any test (xs ++ ys)) ≡ true
+    by true h k = refl
+    by false h k = k h
+
+pub any_right : {X : Type 0} (test : X → Bool) (xs ys : List X) → list_any test ys ≡ true → list_any test (xs ++ ys) ≡ true
+any_right test [] ys h = h
+any_right test (x ∷ xs) ys h = by (test x) (any_right test xs ys h)
+  where
+    by : (b : Bool) → list_any test (xs ++ ys) ≡ true → (b || list_any test (xs ++ ys)) ≡ true
+    by true h = refl
+    by false h = h
+
+any_over : {X : Type 0} (test : X → Bool) (xs ys zs : List X) → (list_any test ys ≡ true → list_any test zs ≡ true) → list_any test (xs ++ ys) ≡ true → list_any test (xs ++ zs) ≡ true
+any_over test [] ys zs f h = f h
+any_over test (x ∷ xs) ys zs f h = by (test x) (any_over test xs ys zs f) h
+  where
+    by : (b : Bool) → (list_any test (xs ++ ys) ≡ true → list_any test (xs ++ zs) ≡ true) → (b || list_any test (xs ++ ys)) ≡ true → (b || list_any test (xs ++ zs)) ≡ true
+    by true k h = refl
+    by false k h = k h
+
+-- ---- frames that were read
+
+pub read_more : (xs : List Taken) (t : Taken) (f : ℕ) → was_read xs f ≡ true → was_read (xs ++ t ∷ []) f ≡ true
+read_more [] t f h = absurd (let e : false ≡ true = h in cc)
+read_more (x ∷ xs) t f h = any_over (λ table. table == f) x.report.tables (tables_in xs) (tables_in (xs ++ t ∷ [])) (read_more xs t f) h
+
+pub read_last : (xs : List Taken) (t : Taken) (f : ℕ) → list_any (λ table. table == f) t.report.tables ≡ true → was_read (xs ++ t ∷ []) f ≡ true
+read_last [] t f h = any_left (λ table. table == f) t.report.tables [] h
+read_last (x ∷ xs) t f h = any_right (λ table. table == f) x.report.tables (tables_in (xs ++ t ∷ [])) (read_last xs t f h)
+
+pub unwritten_front : (xs : List Taken) (t : Taken) → Unwritten (xs ++ t ∷ []) → Unwritten xs
+unwritten_front xs t h = λ front u back e. h front u (back ++ t ∷ []) (split_more xs t front u back e)
+
+-- ---- values that were loaded
+
+append_nil : (xs : List ℕ) → xs ++ [] ≡ xs
+append_nil [] = refl
+append_nil (x ∷ xs) = ap (λ (l : List ℕ). x ∷ l) (append_nil xs)
+
+pub roots_more : (xs : List Taken) (t : Taken) → roots_in (xs ++ t ∷ []) ≡ roots_in xs ++ root_in t
+roots_more [] t = append_nil (root_in t)
+roots_more (x ∷ xs) t = ap (λ (l : List ℕ). root_in x ++ l) (roots_more xs t) ∙ sym (append_assoc (root_in x) (roots_in xs) (root_in t))
+
+pub loaded_more : (xs : List Taken) (t : Taken) (v : ℕ) → is_member eqb (roots_in xs) v ≡ true → is_member eqb (roots_in (xs ++ t ∷ [])) v ≡ true
+loaded_more xs t v h = subst (λ (l : List ℕ). is_member eqb l v ≡ true) (sym (roots_more xs t)) (any_left (eqb v) (roots_in xs) (root_in t) h)

@@ -1,0 +1,287 @@
+-- What is owed stays kept over the steps of a run.
+use Rattle.std.proofs.Common.{◌≡◌, ℕ, List, [], ◌∷◌, ◌++◌, Bool, true, false, cond, ◌&&◌, ◌==◌, eqb, Option, Some, refl, sym, subst, ◌∙◌, ◌⊎◌, inl, inr}
+use Rattle.std.specs.List.{Contains}
+use Rattle.std.specs.Set.{is_member}
+use Rattle.shadow_tables.specs.Aside.{Aside, all_spared}
+use Rattle.shadow_tables.specs.Entries.{entries_of}
+use Rattle.shadow_tables.specs.Slots.{Slot}
+use Rattle.shadow_tables.specs.Laws.Entries.{entries_of-same}
+use Rattle.shadow_cache.specs.Reloaded.{put_by, coming, staying}
+use Rattle.machine_model.specs.State.{Setting, State}
+use Rattle.machine_model.specs.Taken.{Taken, loads_root}
+use Rattle.machine_model.specs.Keeping.{leaves, root_in, roots_in, HasEntriesOf, Returns}
+use Rattle.kept_laws.specs.Remembered.{ComesFrom, was_read, Unwritten, IsOwed, IsAbsent, AreOfOne, AllRead, IsThere, IsRemembered}
+use Rattle.kept_laws.specs.OverSteps.{IsNotedBy, IsTold, StartRemembers, StillRemembers, StepsRemember, SameRemembers, DroppedRemembers, LoadsRemember, LoadsBringBack}
+use Rattle.kept_laws.proofs.Lists.{Split, At_end, Within, split_of, split_more, all_front, all_end, all_at, any_right, read_more, read_last, unwritten_front, roots_more, loaded_more}
+use Rattle.kept_laws.proofs.Counts.{eq_told, ne_told, clash, member_first}
+use Rattle.kept_laws.proofs.Places.{same_alike, lose_alike, alike_absent, alike_of_one, alike_read, alike_there, filter_absent, filter_of_one, filter_read, more_read, all_stay, there_wider, staying_absent, staying_of_one, staying_read, staying_there, coming_there, coming_read}
+use Rattle.kept_laws.proofs.Owed.{through_leaves, owed_front, last_leaves}
+
+-- ---- the start
+
+never_owed : (m : Setting) (now : State) (c : ℕ) (old : List Taken) (left : Taken) (since : List Taken) → [] ≡ old ++ left ∷ since → ⊥
+never_owed m now c [] left since e = cc
+never_owed m now c (u ∷ old) left since e = cc
+
+pub start_remembers : StartRemembers
+start_remembers m now noted marked none unmarked = record {
+  other = tt;
+  of_one = tt;
+  noted_read = λ frame e. clash (noted frame) e (none frame);
+  all_read = tt;
+  unmarked = λ u. unmarked;
+  each = λ c old left since ne o. absurd (never_owed m now c old left since o.split);
+}
+
+-- ---- the same is kept
+
+not_true : (b : Bool) → (b ≡ true → ⊥) → b ≡ false
+not_true true h = absurd (h refl)
+not_true false h = refl
+
+pub still_remembers : StillRemembers
+still_remembers m steps now noted noted2 marked marked2 asides asides2 notes marks same r =
+    let alike = same_alike asides asides2 same in
+    record {
+      other = alike_absent now.cpu.cr3 asides asides2 alike r.other;
+      of_one = alike_of_one asides asides2 alike r.of_one;
+      noted_read = λ frame e. r.noted_read frame (notes frame e);
+      all_read = alike_read steps asides asides2 alike r.all_read;
+      unmarked = λ u. not_true marked2 (λ e. clash marked (marks e) (r.unmarked u));
+      each = λ c old left since ne o.
+          let h = r.each c old left since ne o in
+          (alike_there c left (roots_in (left ∷ since)) asides asides2 alike h.0, h.1);
+    }
+
+-- ---- nothing is owed
+
+pub dropped_remembers : DroppedRemembers
+dropped_remembers m steps now noted marked read unmarked none = record {
+  other = tt;
+  of_one = tt;
+  noted_read = read;
+  all_read = tt;
+  unmarked = unmarked;
+  each = λ c old left since ne o. absurd (none c old left since o);
+}
+
+-- ---- a step's own translations are settled
+
+-- what is kept then, beside what was owed before the step
+record IsSettled (m : Setting) (steps : List Taken) (t : Taken) (noted : ℕ → Bool) (marked : Bool) (asides : List Aside) : Type 0 where
+  other : IsAbsent t.before.cpu.cr3 asides
+  of_one : AreOfOne asides
+  noted_read : (frame : ℕ) → noted frame ≡ true → was_read (steps ++ t ∷ []) frame ≡ true
+  all_read : AllRead (steps ++ t ∷ []) asides
+  unmarked : Unwritten (steps ++ t ∷ []) → marked ≡ false
+  each : (c : ℕ) (old : List Taken) (left : Taken) (since : List Taken) → (c ≡ t.before.cpu.cr3 → ⊥) → Unwritten (steps ++ t ∷ []) → IsOwed m steps t.before c old left since
+      → IsThere c left (roots_in (left ∷ since)) asides × (is_member eqb (roots_in (left ∷ since)) t.before.cpu.cr3 ≡ true)
+
+noted_by : (m : Setting) (steps : List Taken) (t : Taken) (noted : ℕ → Bool) (marked : Bool) (asides : List Aside) → IsRemembered m steps t.before noted marked asides
+    → (frame : ℕ) → IsNotedBy noted t frame → was_read (steps ++ t ∷ []) frame ≡ true
+noted_by m steps t noted marked asides r frame (inl e) = read_more steps t frame (r.noted_read frame e)
+noted_by m steps t noted marked asides r frame (inr e) = read_last steps t frame e
+
+settled : (m : Setting) (steps : List Taken) (t : Taken) (noted noted2 : ℕ → Bool) (marked marked2 : Bool) (asides asides2 : List Aside)
+    → IsTold t noted noted2 marked marked2 asides asides2 → IsRemembered m steps t.before noted marked asides → IsSettled m steps t noted2 marked2 asides2
+settled m steps t noted noted2 marked marked2 asides asides2 told r =
+    let spared : List Aside = all_spared t.report.wrote asides in
+    let alike = lose_alike told.frames spared asides2 told.others in
+    let more = more_read steps t asides r.all_read in
+    record {
+      other = alike_absent t.before.cpu.cr3 spared asides2 alike (filter_absent _ t.before.cpu.cr3 asides r.other);
+      of_one = alike_of_one spared asides2 alike (filter_of_one _ asides r.of_one);
+      noted_read = λ frame e. noted_by m steps t noted marked asides r frame (told.notes frame e);
+      all_read = alike_read (steps ++ t ∷ []) spared asides2 alike (filter_read _ (steps ++ t ∷ []) asides more);
+      unmarked = λ u. not_true marked2 (λ e. never_marked u (told.marks e));
+      each = λ c old left since ne u o.
+          let h = r.each c old left since ne o in
+          (alike_there c left (roots_in (left ∷ since)) spared asides2 alike (subst (IsThere c left (roots_in (left ∷ since))) (sym (all_stay (steps ++ t ∷ []) t.report.wrote asides more (u steps t [] refl))) h.0), h.1);
+    }
+  where
+    never_marked : Unwritten (steps ++ t ∷ []) → (marked ≡ true) ⊎ ((frame : ℕ) × Contains t.report.wrote frame × IsNotedBy noted t frame) → ⊥
+    never_marked u (inl e) = clash marked e (r.unmarked (unwritten_front steps t u))
+    never_marked u (inr k) =
+        clash (was_read (steps ++ t ∷ []) k.0) (noted_by m steps t noted marked asides r k.0 k.2)
+        (all_at (λ frame. was_read (steps ++ t ∷ []) frame ≡ false) t.report.wrote k.0 (u steps t [] refl) k.1)
+
+-- ---- a step that doesn't load CR3
+
+-- what was loaded from a step on is loaded with one step more
+wider : (left t : Taken) (before since : List Taken) → since ≡ before ++ t ∷ [] → (v : ℕ) → is_member eqb (roots_in (left ∷ before)) v ≡ true → is_member eqb (roots_in (left ∷ since)) v ≡ true
+wider left t before since is v h = subst (λ (l : List Taken). is_member eqb (roots_in (left ∷ l)) v ≡ true) (sym is) (loaded_more (left ∷ before) t v h)
+
+through : (m : Setting) (steps : List Taken) (t : Taken) (noted : ℕ → Bool) (marked : Bool) (asides : List Aside) → loads_root t ≡ false → t.after.cpu.cr3 ≡ t.before.cpu.cr3
+    → IsSettled m steps t noted marked asides → (c : ℕ) (old : List Taken) (left : Taken) (since : List Taken) → (c ≡ t.after.cpu.cr3 → ⊥)
+    → IsOwed m (steps ++ t ∷ []) t.after c old left since → Split steps t old left since
+    → IsThere c left (roots_in (left ∷ since)) asides × (is_member eqb (roots_in (left ∷ since)) t.after.cpu.cr3 ≡ true)
+through m steps t noted marked asides plain same s c old left since ne o (At_end at is none) =
+    clash (leaves c left) o.is_left (subst (λ (u : Taken). leaves c u ≡ false) (sym is) (through_leaves c t plain))
+through m steps t noted marked asides plain same s c old left since ne o (Within before split is) =
+    let h = s.each c old left before (λ e. ne (e ∙ sym same)) o.unwritten (owed_front m steps t t.after c old left since before o split is) in (
+      there_wider c left (roots_in (left ∷ before)) (roots_in (left ∷ since)) asides (wider left t before since is) h.0,
+      subst (λ (v : ℕ). is_member eqb (roots_in (left ∷ since)) v ≡ true) (sym same) (wider left t before since is t.before.cpu.cr3 h.1),
+    )
+
+pub steps_remember : StepsRemember
+steps_remember m steps t noted noted2 marked marked2 asides asides2 plain same told r =
+    let s = settled m steps t noted noted2 marked marked2 asides asides2 told r in
+    record {
+      other = subst (λ (v : ℕ). IsAbsent v asides2) (sym same) s.other;
+      of_one = s.of_one;
+      noted_read = s.noted_read;
+      all_read = s.all_read;
+      unmarked = s.unmarked;
+      each = λ c old left since ne o. through m steps t noted2 marked2 asides2 plain same s c old left since ne o (split_of steps t old left since o.split);
+    }
+
+-- the same is kept
+pub same_remembers : SameRemembers
+same_remembers m steps t noted marked asides plain same r =
+    let s : IsSettled m steps t noted marked asides = record {
+      other = r.other;
+      of_one = r.of_one;
+      noted_read = λ frame e. read_more steps t frame (r.noted_read frame e);
+      all_read = more_read steps t asides r.all_read;
+      unmarked = λ u. r.unmarked (unwritten_front steps t u);
+      each = λ c old left since ne u o. r.each c old left since ne o;
+    } in
+    record {
+      other = subst (λ (v : ℕ). IsAbsent v asides) (sym same) s.other;
+      of_one = s.of_one;
+      noted_read = s.noted_read;
+      all_read = s.all_read;
+      unmarked = s.unmarked;
+      each = λ c old left since ne o. through m steps t noted marked asides plain same s c old left since ne o (split_of steps t old left since o.split);
+    }
+
+-- ---- a load
+
+-- what is put by of the present tables, where they aren't marked
+putting : (v : ℕ) (noted : ℕ → Bool) (slots : ℕ → Option Slot) → Aside
+putting v noted slots = record { cr3 = v; tables = noted; slots = slots }
+
+put : (v : ℕ) (marked : Bool) (noted : ℕ → Bool) (slots : ℕ → Option Slot) (asides : List Aside) → marked ≡ false → put_by (Some v) marked noted slots asides ≡ record { cr3 = v; tables = noted; slots = slots } ∷ asides
+put v true noted slots asides e = clash true refl e
+put v false noted slots asides e = refl
+
+put_of_one : (v : ℕ) (marked : Bool) (noted : ℕ → Bool) (slots : ℕ → Option Slot) (asides : List Aside) → IsAbsent v asides → AreOfOne asides → AreOfOne (put_by (Some v) marked noted slots asides)
+put_of_one v true noted slots asides h k = k
+put_of_one v false noted slots asides h k = (h, k)
+
+put_read : (steps : List Taken) (v : ℕ) (marked : Bool) (noted : ℕ → Bool) (slots : ℕ → Option Slot) (asides : List Aside) → ((frame : ℕ) → noted frame ≡ true → was_read steps frame ≡ true) → AllRead steps asides
+    → AllRead steps (put_by (Some v) marked noted slots asides)
+put_read steps v true noted slots asides h k = k
+put_read steps v false noted slots asides h k = (h, k)
+
+-- a step that loads CR3 loads the value that it has behind it
+loaded_last : (left t : Taken) (before : List Taken) → loads_root t ≡ true → is_member eqb (roots_in (left ∷ before ++ t ∷ [])) t.after.cpu.cr3 ≡ true
+loaded_last left t before loads =
+    subst (λ (l : List ℕ). is_member eqb l t.after.cpu.cr3 ≡ true) (sym (roots_more (left ∷ before) t))
+    (any_right (eqb t.after.cpu.cr3) (roots_in (left ∷ before)) (root_in t) (own t loads))
+  where
+    own : (t : Taken) → loads_root t ≡ true → is_member eqb (root_in t) t.after.cpu.cr3 ≡ true
+    own t loads = by (loads_root t) loads
+      where
+        by : (b : Bool) → b ≡ true → is_member eqb (cond b (t.after.cpu.cr3 ∷ []) []) t.after.cpu.cr3 ≡ true
+        by true e = member_first t.after.cpu.cr3 []
+        by false e = clash true refl (sym e)
+
+loaded_own : (t : Taken) → loads_root t ≡ true → is_member eqb (roots_in (t ∷ [])) t.after.cpu.cr3 ≡ true
+loaded_own t loads = by (loads_root t) loads
+  where
+    by : (b : Bool) → b ≡ true → is_member eqb (cond b (t.after.cpu.cr3 ∷ []) [] ++ []) t.after.cpu.cr3 ≡ true
+    by true e = member_first t.after.cpu.cr3 []
+    by false e = clash true refl (sym e)
+
+and_right : (a b : Bool) → (a && b) ≡ true → b ≡ true
+and_right true b e = e
+and_right false b e = clash true refl (sym e)
+
+and_false : (a b : Bool) → a ≡ true → (a && b) ≡ false → b ≡ false
+and_false true b e f = f
+and_false false b e f = clash true refl (sym e)
+
+-- a value that a step leaves is the one that CR3 had
+left_is : (c : ℕ) (t : Taken) → leaves c t ≡ true → t.before.cpu.cr3 ≡ c
+left_is c t e = eq_told t.before.cpu.cr3 c (and_right (loads_root t) (t.before.cpu.cr3 == c) e)
+
+not_left : (c : ℕ) (t : Taken) → loads_root t ≡ true → leaves c t ≡ false → t.before.cpu.cr3 ≡ c → ⊥
+not_left c t loads e = ne_told t.before.cpu.cr3 c (and_false (loads_root t) (t.before.cpu.cr3 == c) loads e)
+
+-- what is kept for all values but the present one, before the loaded one comes
+abbrev put_all : Taken → (ℕ → Bool) → Bool → (ℕ → Option Slot) → List Aside → List Aside
+put_all t noted marked slots asides = put_by (Some t.before.cpu.cr3) marked noted slots asides
+
+-- what was owed for another value before the load is among all
+put_there : (m : Setting) (steps : List Taken) (t : Taken) (noted : ℕ → Bool) (marked : Bool) (slots : ℕ → Option Slot) (asides : List Aside) → loads_root t ≡ true → IsSettled m steps t noted marked asides
+    → (c : ℕ) (old : List Taken) (left : Taken) (since before : List Taken) → IsOwed m (steps ++ t ∷ []) t.after c old left since → steps ≡ old ++ left ∷ before → since ≡ before ++ t ∷ []
+    → IsThere c left (roots_in (left ∷ since)) (put_all t noted marked slots asides)
+put_there m steps t noted marked slots asides loads s c old left since before o split is =
+    let ne : (t.before.cpu.cr3 ≡ c → ⊥) = not_left c t loads (last_leaves m steps t t.after c old left since before o is) in
+    let h = s.each c old left before (λ e. ne (sym e)) o.unwritten (owed_front m steps t t.after c old left since before o split is) in
+    let there = there_wider c left (roots_in (left ∷ before)) (roots_in (left ∷ since)) asides (wider left t before since is) h.0 in
+    subst (IsThere c left (roots_in (left ∷ since))) (sym (put t.before.cpu.cr3 marked noted slots asides (s.unmarked o.unwritten)))
+    (inr (ne, wider left t before since is t.before.cpu.cr3 h.1, there))
+
+-- what the load itself leaves
+own_there : (m : Setting) (steps : List Taken) (t : Taken) (noted : ℕ → Bool) (marked : Bool) (slots : ℕ → Option Slot) (asides : List Aside) → IsSettled m steps t noted marked asides → ComesFrom t (entries_of slots)
+    → (c : ℕ) (loaded : List ℕ) → leaves c t ≡ true → Unwritten (steps ++ t ∷ []) → IsThere c t loaded (put_all t noted marked slots asides)
+own_there m steps t noted marked slots asides s has c loaded is u =
+    subst (IsThere c t loaded) (sym (put t.before.cpu.cr3 marked noted slots asides (s.unmarked u))) (inl (left_is c t is, has))
+
+-- either way it is among all, and the loaded value was loaded
+all_there : (m : Setting) (steps : List Taken) (t : Taken) (noted : ℕ → Bool) (marked : Bool) (slots : ℕ → Option Slot) (asides : List Aside) → loads_root t ≡ true → IsSettled m steps t noted marked asides → ComesFrom t (entries_of slots)
+    → (c : ℕ) (old : List Taken) (left : Taken) (since : List Taken) → IsOwed m (steps ++ t ∷ []) t.after c old left since → Split steps t old left since
+    → IsThere c left (roots_in (left ∷ since)) (put_all t noted marked slots asides) × (is_member eqb (roots_in (left ∷ since)) t.after.cpu.cr3 ≡ true)
+all_there m steps t noted marked slots asides loads s has c old left since o (At_end at is none) = (
+  subst (λ (u : Taken). IsThere c u (roots_in (left ∷ since)) (put_all t noted marked slots asides)) (sym is)
+      (own_there m steps t noted marked slots asides s has c (roots_in (left ∷ since)) (subst (λ (u : Taken). leaves c u ≡ true) is o.is_left) o.unwritten),
+  subst (λ (l : List Taken). is_member eqb (roots_in (left ∷ l)) t.after.cpu.cr3 ≡ true) (sym none) (subst (λ (u : Taken). is_member eqb (roots_in (u ∷ [])) t.after.cpu.cr3 ≡ true) (sym is) (loaded_own t loads)),
+)
+all_there m steps t noted marked slots asides loads s has c old left since o (Within before split is) = (
+  put_there m steps t noted marked slots asides loads s c old left since before o split is,
+  subst (λ (l : List Taken). is_member eqb (roots_in (left ∷ l)) t.after.cpu.cr3 ≡ true) (sym is) (loaded_last left t before loads),
+)
+
+pub loads_remember : LoadsRemember
+loads_remember m steps t noted noted1 noted2 marked marked1 marked2 slots1 slots2 asides asides1 asides2 loads r told has loaded =
+    let s = settled m steps t noted noted1 marked marked1 asides asides1 told r in
+    let w : ℕ = t.after.cpu.cr3 in
+    let all : List Aside = put_all t noted1 marked1 slots1 asides1 in
+    let ones = put_of_one t.before.cpu.cr3 marked1 noted1 slots1 asides1 s.other s.of_one in
+    let read = put_read (steps ++ t ∷ []) t.before.cpu.cr3 marked1 noted1 slots1 asides1 s.noted_read s.all_read in
+    let alike = same_alike (staying w all) asides2 loaded.others in
+    let slots : entries_of slots2 ≡ entries_of (coming w all).slots = entries_of-same (coming w all).slots slots2 loaded.present.slots in (
+      record {
+        other = alike_absent w (staying w all) asides2 alike (staying_absent w all ones);
+        of_one = alike_of_one (staying w all) asides2 alike (staying_of_one w all ones);
+        noted_read = λ frame e. coming_read (steps ++ t ∷ []) w all read frame (sym (loaded.present.tables frame) ∙ e);
+        all_read = alike_read (steps ++ t ∷ []) (staying w all) asides2 alike (staying_read (steps ++ t ∷ []) w all read);
+        unmarked = λ u. loaded.unmarked;
+        each = λ c old left since ne o.
+            let h = all_there m steps t noted1 marked1 slots1 asides1 loads s has c old left since o (split_of steps t old left since o.split) in
+            (alike_there c left (roots_in (left ∷ since)) (staying w all) asides2 alike (staying_there w c left (roots_in (left ∷ since)) all (λ e. ne (sym e)) h.1 o.few ones h.0), h.1);
+      },
+      λ old left since o.
+          let h = all_there m steps t noted1 marked1 slots1 asides1 loads s has w old left since o (split_of steps t old left since o.split) in
+          subst (ComesFrom left) (sym slots) (coming_there w left (roots_in (left ∷ since)) all h.0),
+    )
+
+-- what the rule asks behind a load is owed before the next step
+pub returned : (m : Setting) (earlier : List Taken) (now : Taken) (b : State) (c : ℕ) (old : List Taken) (left : Taken) (since : List Taken) → now.before ≡ b → Returns m earlier now c old left since → IsOwed m earlier b c old left since
+returned m earlier now b c old left since is h = record {
+  split = h.split;
+  is_left = h.is_left;
+  is_last = h.is_last;
+  few = h.few;
+  apart = λ front u back e. h.apart front u (back ++ now ∷ []) (split_more since now front u back e);
+  same = all_front (λ (u : Taken). (u.before.cpu.cr0 ≡ left.before.cpu.cr0) × (u.before.cpu.cr4 ≡ left.before.cpu.cr4)) since (now ∷ []) h.same;
+  same_now = subst (λ (x : State). (x.cpu.cr0 ≡ left.before.cpu.cr0) × (x.cpu.cr4 ≡ left.before.cpu.cr4)) is
+      (all_end (λ (u : Taken). (u.before.cpu.cr0 ≡ left.before.cpu.cr0) × (u.before.cpu.cr4 ≡ left.before.cpu.cr4)) since now h.same);
+  unwritten = h.unwritten;
+}
+
+pub loads_bring_back : LoadsBringBack
+loads_bring_back m steps t now slots before set owed old left since h =
+    subst (HasEntriesOf left) (sym set) (owed old left since (returned m (steps ++ t ∷ []) now t.after t.after.cpu.cr3 old left since before h)).has

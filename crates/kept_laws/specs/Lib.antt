@@ -1,0 +1,4 @@
+pub mod Remembered
+pub mod OverSteps
+pub mod Judged
+pub mod Carried

@@ -1,0 +1,23 @@
+//! Laws of the pages that a step uses: where their translations lead, and that no other translation changes. So a view may
+//! show each of them.
+
+ghost use Rattle.machine_model.specs.UsedPages.{FetchedUses, RangesUse, InstructedUses, DeliveredUses, StepsUse, UsedPagesLeadWell};
+
+/// Pages lead well over each part of a step that is done, or refused without a stop.
+pub fn works_use()
+    ensures fetched { FetchedUses }
+    ensures ranges { RangesUse }
+    ensures instructed { InstructedUses }
+    ensures delivered { DeliveredUses }
+{}
+
+/// And over each step that goes, up to what its instruction drops at its end.
+pub fn steps_use()
+    ensures { StepsUse }
+{}
+
+/// Each page that a step used, and that has a translation behind it, leads at level 3 to no text; at level 0 it is of the
+/// text window, with the frame that the loader gave it, or lies behind the window and leads to no text.
+pub fn used_pages_are_open()
+    ensures { UsedPagesLeadWell }
+{}

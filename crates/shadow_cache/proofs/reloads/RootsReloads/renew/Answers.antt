@@ -1,0 +1,25 @@
+use Rattle.std.proofs.Common.{ℕ, List, Bool, ap, ◌∙◌}
+use Rattle.shadow_cache.specs.Roots.{pairs_of}
+use Rattle.shadow_cache.specs.After.{mark_of, noted_of}
+use Rattle.shadow_cache.specs.declared.pair.Pair.{Pair}
+use Rattle.shadow_cache.proofs.Asided.{none-beside}
+use Rattle.shadow_cache.proofs.Beside.{no-reads}
+use Rattle.shadow_cache.proofs.Noted.{emptied-value}
+use Rattle.shadow_cache.proofs.Openings.{renewed-opened}
+use Rattle.shadow_cache.proofs.reloads.RootsReloads.renew.Goals as goal
+
+pub returns-clause-noted : goal.returns-clause-noted
+returns-clause-noted c = λ frame. ap (λ (ps : List Pair). noted_of ps frame) c.drop_all.ensures.pairs ∙ no-reads frame
+
+pub returns-clause-marked : goal.returns-clause-marked
+returns-clause-marked c = ap mark_of c.drop_all.ensures.pairs
+
+pub returns-clause-value : goal.returns-clause-value
+returns-clause-value c = let r = c.args.self.now in emptied-value r.present r.others (pairs_of c.drop_all.new.self) c.drop_all.ensures.pairs
+
+pub returns-clause-asides : goal.returns-clause-asides
+returns-clause-asides c = let r = c.args.self.now in none-beside r.present r.others (pairs_of c.drop_all.new.self) c.drop_all.new.ram c.drop_all.ensures.pairs
+
+pub returns-clause-opened : goal.returns-clause-opened
+returns-clause-opened c = λ indices.
+    let r = c.args.self.now in renewed-opened indices r.present r.others (pairs_of c.drop_all.new.self) c.drop_all.new.ram c.drop_all.ensures.pairs c.drop_all.ensures.two
