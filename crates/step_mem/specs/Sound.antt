@@ -5,7 +5,7 @@ use Rattle.std.specs.Ordering.{nat_cmp}
 use Rattle.paging.specs.declared.entry.Entry.{Entry}
 use Rattle.paging.specs.Space.{Space}
 use Rattle.step_mem.specs.declared.state.State.{State}
-use Rattle.step_mem.specs.Changes.{changed, AreWithin}
+use Rattle.step_mem.specs.Changes.{changed, AreWithin, AreToldIn}
 use Rattle.step_mem.specs.Guard.{mode_of, IsLaid, IsApart}
 use Rattle.step_mem.specs.Space.{space_of}
 
@@ -27,6 +27,7 @@ pub record IsSound (kept : List ℕ → FinMap nat_cmp Entry) (floor : ℕ) (sta
   pub counted : length state.changes ≤ state.pages
   pub few : state.pages ≤ 64
   pub noted : length state.went ≡ state.pages
+  pub told : AreToldIn state.went state.changes
   pub read : length state.tables ≤ 2 * state.pages
   pub written : length state.wrote ≤ 2 * state.pages
   pub fits : state.ready.start + state.ready.len ≤ 2 ^ 32

@@ -47,6 +47,7 @@ going_first kept floor stands ram control first count room low among s w guard h
       counted = omega arith;
       few = omega arith;
       noted = refl;
+      told = λ q h. h;
       read = omega arith;
       written = omega arith;
       fits = omega arith;
