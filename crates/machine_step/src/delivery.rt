@@ -4,6 +4,7 @@ ghost use Rattle.std.specs.Prelude.{◌≡◌, ◌+◌, ◌*◌, ◌≤◌, Some
 ghost use Rattle.step_mem.specs.Shown.{hidden};
 ghost use Rattle.step_mem.specs.Sound.{IsSound, space_at};
 ghost use Rattle.board.specs.Boards.{vector as vector_of};
+ghost use Rattle.machine_model.specs.Reloading.{Follows};
 ghost use Rattle.machine_model.specs.State.{Setting, State as Whole};
 ghost use Rattle.machine_model.specs.Instruction.{passed};
 ghost use Rattle.machine_model.specs.Step.{interrupted, interrupts_by, after_refusal, raised, code_of, stop_of};
@@ -17,6 +18,7 @@ use descriptors::Cpu;
 use event_entry::{Kind, NotDelivered};
 use guest_ram::Ram;
 use ia32_types::Stop;
+use machine_model::{following_goes_on, works_follow};
 use run_trace::What;
 use step_exec::deliver_in;
 use step_mem::{Kept, State};
@@ -37,12 +39,14 @@ pub fn deliver<B: Kept>(
     requires sound { IsSound (B.entries kept.now) (B.floor kept.now) (B.stands kept.now) ram.old state.old }
     requires pages { state.old.pages ≤ 48 }
     ensures sound { IsSound (B.entries kept.now) (B.floor kept.now) (B.stands kept.now) ram.new state.new }
+    ensures follows { Follows (space_at (B.entries kept.now) ram.old state.old) (space_at (B.entries kept.now) ram.new state.new) }
     ensures step { (m : Setting) (b : Whole) → IsRuled m rules.now → ComesTo (interrupted m (record b { cpu = cpu.now; board = board.old }) vector (space_at (B.entries kept.now) ram.old state.old)) b result board.new (space_at (B.entries kept.now) ram.new state.new) }
     ensures dropped { IfOk result (λ w. IsDropped w.dropped) }
     ensures control { state.new.control ≡ state.old.control }
     ensures guard { state.new.guard ≡ state.old.guard }
     ensures hidden { hidden state.old.guard state.old.control.frames ram.new ≡ hidden state.old.guard state.old.control.frames ram.old }
 {
+    works_follow();
     let _vector = board.acknowledge();
     let mut after = *cpu;
     match deliver_in(&mut after, ram, kept, state, vector, Kind::External, None) {
@@ -65,12 +69,15 @@ pub fn enter<B: Kept>(
     requires sound { IsSound (B.entries kept.now) (B.floor kept.now) (B.stands kept.now) ram.old state.old }
     requires pages { state.old.pages ≤ 32 }
     ensures sound { IsSound (B.entries kept.now) (B.floor kept.now) (B.stands kept.now) ram.new state.new }
+    ensures follows { Follows (space_at (B.entries kept.now) ram.old state.old) (space_at (B.entries kept.now) ram.new state.new) }
     ensures step { (m : Setting) (b : Whole) → IsRuled m rules.now → ComesTo (interrupts_by m (record b { cpu = cpu.now }) (completed_of completed) len vector (space_at (B.entries kept.now) ram.old state.old)) b result b.board (space_at (B.entries kept.now) ram.new state.new) }
     ensures dropped { IfOk result (λ w. IsDropped w.dropped) }
     ensures control { state.new.control ≡ state.old.control }
     ensures guard { state.new.guard ≡ state.old.guard }
     ensures hidden { hidden state.old.guard state.old.control.frames ram.new ≡ hidden state.old.guard state.old.control.frames ram.old }
 {
+    works_follow();
+    following_goes_on();
     let mut after = passed(len, cpu);
     match deliver_in(&mut after, ram, kept, state, vector, Kind::Soft, None) {
         Ok(()) => entered(rules, Seen::Nothing, Some(completed), after),
@@ -101,12 +108,14 @@ pub fn refuse<B: Kept>(
     requires sound { IsSound (B.entries kept.now) (B.floor kept.now) (B.stands kept.now) ram.old state.old }
     requires pages { state.old.pages ≤ 48 }
     ensures sound { IsSound (B.entries kept.now) (B.floor kept.now) (B.stands kept.now) ram.new state.new }
+    ensures follows { Follows (space_at (B.entries kept.now) ram.old state.old) (space_at (B.entries kept.now) ram.new state.new) }
     ensures step { (m : Setting) (b : Whole) → IsRuled m rules.now → ComesTo (after_refusal m (record b { cpu = cpu.now }) refusal (space_at (B.entries kept.now) ram.old state.old)) b result b.board (space_at (B.entries kept.now) ram.new state.new) }
     ensures dropped { IfOk result (λ w. IsDropped w.dropped) }
     ensures control { state.new.control ≡ state.old.control }
     ensures guard { state.new.guard ≡ state.old.guard }
     ensures hidden { hidden state.old.guard state.old.control.frames ram.new ≡ hidden state.old.guard state.old.control.frames ram.old }
 {
+    following_goes_on();
     match refusal {
         Refusal::Stop(stop) => Err(stop),
         Refusal::Raise { vector, code } => raise(rules, *cpu, ram, kept, state, vector, code),
@@ -131,12 +140,14 @@ pub fn raise<B: Kept>(
     requires sound { IsSound (B.entries kept.now) (B.floor kept.now) (B.stands kept.now) ram.old state.old }
     requires pages { state.old.pages ≤ 48 }
     ensures sound { IsSound (B.entries kept.now) (B.floor kept.now) (B.stands kept.now) ram.new state.new }
+    ensures follows { Follows (space_at (B.entries kept.now) ram.old state.old) (space_at (B.entries kept.now) ram.new state.new) }
     ensures step { (m : Setting) (b : Whole) → IsRuled m rules.now → ComesTo (raised m b cpu vector code (space_at (B.entries kept.now) ram.old state.old)) b result b.board (space_at (B.entries kept.now) ram.new state.new) }
     ensures dropped { IfOk result (λ w. IsDropped w.dropped) }
     ensures control { state.new.control ≡ state.old.control }
     ensures guard { state.new.guard ≡ state.old.guard }
     ensures hidden { hidden state.old.guard state.old.control.frames ram.new ≡ hidden state.old.guard state.old.control.frames ram.old }
 {
+    works_follow();
     let mut after = cpu;
     match deliver_in(
         &mut after,

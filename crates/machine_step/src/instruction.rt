@@ -5,6 +5,7 @@ ghost use Rattle.step_mem.specs.Shown.{hidden};
 ghost use Rattle.step_mem.specs.Sound.{IsSound, space_at};
 ghost use Rattle.ia32_rows.specs.Spells.{Spells};
 ghost use Rattle.sys_exec.specs.Asked.{IsAsked};
+ghost use Rattle.machine_model.specs.Reloading.{Follows};
 ghost use Rattle.machine_model.specs.State.{Setting, State as Whole};
 ghost use Rattle.machine_model.specs.Instruction.{instructed};
 ghost use Rattle.machine_model.specs.Step.{by_decoded, after_instruction, after_effect};
@@ -21,6 +22,7 @@ use descriptors::Cpu;
 use guest_ram::Ram;
 use ia32_decode::Decoded;
 use ia32_types::{Insn, Op, Stop};
+use machine_model::{following_goes_on, works_follow};
 use step_mem::{Kept, State};
 use sys_exec::SysEffect;
 
@@ -39,6 +41,7 @@ pub fn carry_out<B: Kept>(
     requires sound { IsSound (B.entries kept.now) (B.floor kept.now) (B.stands kept.now) ram.old state.old }
     requires pages { state.old.pages ≤ 8 }
     ensures sound { IsSound (B.entries kept.now) (B.floor kept.now) (B.stands kept.now) ram.new state.new }
+    ensures follows { Follows (space_at (B.entries kept.now) ram.old state.old) (space_at (B.entries kept.now) ram.new state.new) }
     ensures step { (m : Setting) (b : Whole) → IsRuled m rules.now → ComesTo (by_decoded m (record b { cpu = cpu.now; board = board.old }) (Decoded.Insn insn.now len) (space_at (B.entries kept.now) ram.old state.old)) b result board.new (space_at (B.entries kept.now) ram.new state.new) }
     ensures dropped { IfOk result (λ w. IsDropped w.dropped) }
     ensures control { state.new.control ≡ state.old.control }
@@ -82,12 +85,15 @@ fn perform<B: Kept>(
     requires sound { IsSound (B.entries kept.now) (B.floor kept.now) (B.stands kept.now) ram.old state.old }
     requires pages { state.old.pages ≤ 8 }
     ensures sound { IsSound (B.entries kept.now) (B.floor kept.now) (B.stands kept.now) ram.new state.new }
+    ensures follows { Follows (space_at (B.entries kept.now) ram.old state.old) (space_at (B.entries kept.now) ram.new state.new) }
     ensures step { (m : Setting) (b : Whole) → IsRuled m rules.now → ComesTo (after_instruction m (record b { cpu = cpu.now; board = board.old }) (completed_of completed) (instructed insn.now len cpu.now (space_at (B.entries kept.now) ram.old state.old))) b result board.new (space_at (B.entries kept.now) ram.new state.new) }
     ensures dropped { IfOk result (λ w. IsDropped w.dropped) }
     ensures control { state.new.control ≡ state.old.control }
     ensures guard { state.new.guard ≡ state.old.guard }
     ensures hidden { hidden state.old.guard state.old.control.frames ram.new ≡ hidden state.old.guard state.old.control.frames ram.old }
 {
+    works_follow();
+    following_goes_on();
     let (effect, after) = execute(insn, len, cpu, ram, kept, state);
     follow(
         rules, cpu, effect, after, board, ram, kept, state, completed,
@@ -110,12 +116,14 @@ fn follow<B: Kept>(
     requires pages { state.old.pages ≤ 48 }
     requires asked { IsAsked effect }
     ensures sound { IsSound (B.entries kept.now) (B.floor kept.now) (B.stands kept.now) ram.new state.new }
+    ensures follows { Follows (space_at (B.entries kept.now) ram.old state.old) (space_at (B.entries kept.now) ram.new state.new) }
     ensures step { (m : Setting) (b : Whole) → IsRuled m rules.now → ComesTo (after_effect m (record b { cpu = before.now; board = board.old }) (completed_of completed) effect cpu (space_at (B.entries kept.now) ram.old state.old)) b result board.new (space_at (B.entries kept.now) ram.new state.new) }
     ensures dropped { IfOk result (λ w. IsDropped w.dropped) }
     ensures control { state.new.control ≡ state.old.control }
     ensures guard { state.new.guard ≡ state.old.guard }
     ensures hidden { hidden state.old.guard state.old.control.frames ram.new ≡ hidden state.old.guard state.old.control.frames ram.old }
 {
+    following_goes_on();
     match effect {
         SysEffect::Next => ended(rules, completed, before, cpu),
         SysEffect::Halted => done(completed, cpu, Dropped::Nothing),

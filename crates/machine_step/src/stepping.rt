@@ -6,6 +6,7 @@ ghost use Rattle.step_mem.specs.Changes.{AreWithin};
 ghost use Rattle.step_mem.specs.Guard.{mode_of, IsLaid};
 ghost use Rattle.step_mem.specs.Shown.{shown, hidden};
 ghost use Rattle.step_mem.specs.Sound.{IsSound, space_at};
+ghost use Rattle.machine_model.specs.Reloading.{Follows};
 ghost use Rattle.machine_model.specs.State.{Setting, State as Whole, space_at_start};
 ghost use Rattle.machine_model.specs.Step.{stepped, worked, begins_next, fetches_next, interrupt_of, by_interrupt, unheld};
 ghost use Rattle.machine_step.specs.Begun.{BeginsAs, IsBegun};
@@ -22,6 +23,7 @@ use descriptors::Cpu;
 use guest_ram::Ram;
 use ia32_decode::Decoded;
 use ia32_types::Stop;
+use machine_model::{following_goes_on, works_follow};
 use step_mem::{Control, Guard, Kept, State};
 
 /// One step, or the stop that it meets; and the step's state, with what it changed of the translations.
@@ -40,6 +42,7 @@ pub fn step<'g, B: Kept>(
     requires within { AreWithin frames (B.entries kept.now ram.old) }
     requires laid { IsLaid guard.text.now frames }
     ensures sound { IsSound (B.entries kept.now) (B.floor kept.now) (B.stands kept.now) ram.new result.1 }
+    ensures follows { Follows (space_at_start (mode_of guard.entry) frames cpu.now (shown guard.entry frames ram.old) (B.entries kept.now ram.old)) (space_at (B.entries kept.now) ram.new result.1) }
     ensures step { (s : Setting) (b : Whole) → IsRuled (record s { mode = mode_of guard.entry; frames = frames }) rules.now → ComesTo
         (stepped (record s { mode = mode_of guard.entry; frames = frames }) (record b { cpu = cpu.now; ram = shown guard.entry frames ram.old; set = B.entries kept.now ram.old; board = board.old }))
         b result.0 board.new (space_at (B.entries kept.now) ram.new result.1) }
@@ -70,6 +73,7 @@ pub fn step_again<'g, B: Kept>(
     requires within { AreWithin frames (B.entries kept.now ram.old) }
     requires laid { IsLaid guard.text.now frames }
     ensures sound { IsSound (B.entries kept.now) (B.floor kept.now) (B.stands kept.now) ram.new state.new }
+    ensures follows { Follows (space_at_start (mode_of guard.entry) frames cpu.now (shown guard.entry frames ram.old) (B.entries kept.now ram.old)) (space_at (B.entries kept.now) ram.new state.new) }
     ensures step { (s : Setting) (b : Whole) → IsRuled (record s { mode = mode_of guard.entry; frames = frames }) rules.now → ComesTo
         (stepped (record s { mode = mode_of guard.entry; frames = frames }) (record b { cpu = cpu.now; ram = shown guard.entry frames ram.old; set = B.entries kept.now ram.old; board = board.old }))
         b result board.new (space_at (B.entries kept.now) ram.new state.new) }
@@ -152,12 +156,14 @@ pub fn step_in<B: Kept>(
     requires sound { IsSound (B.entries kept.now) (B.floor kept.now) (B.stands kept.now) ram.old state.old }
     requires pages { state.old.pages ≡ 0 }
     ensures sound { IsSound (B.entries kept.now) (B.floor kept.now) (B.stands kept.now) ram.new state.new }
+    ensures follows { Follows (space_at (B.entries kept.now) ram.old state.old) (space_at (B.entries kept.now) ram.new state.new) }
     ensures step { (m : Setting) (b : Whole) → IsRuled m rules.now → ComesTo (by_interrupt m (interrupt_of cpu.now board.old) (unheld (record b { cpu = cpu.now; board = board.old })) (space_at (B.entries kept.now) ram.old state.old)) b result board.new (space_at (B.entries kept.now) ram.new state.new) }
     ensures dropped { IfOk result (λ w. IsDropped w.dropped) }
     ensures control { state.new.control ≡ state.old.control }
     ensures text { state.new.guard.text ≡ state.old.guard.text }
     ensures hidden { hidden state.old.guard state.old.control.frames ram.new ≡ hidden state.old.guard state.old.control.frames ram.old }
 {
+    following_goes_on();
     match start(rules, cpu, board, ram, kept, state)? {
         Begun::Worked(worked) => Ok(worked),
         Begun::Fetched { insn, len, cpu } => {
@@ -178,6 +184,7 @@ pub fn start<B: Kept>(
     requires sound { IsSound (B.entries kept.now) (B.floor kept.now) (B.stands kept.now) ram.old state.old }
     requires pages { state.old.pages ≡ 0 }
     ensures sound { IsSound (B.entries kept.now) (B.floor kept.now) (B.stands kept.now) ram.new state.new }
+    ensures follows { Follows (space_at (B.entries kept.now) ram.old state.old) (space_at (B.entries kept.now) ram.new state.new) }
     ensures begins { (m : Setting) (b : Whole) → IsRuled m rules.now → BeginsAs m (by_interrupt m (interrupt_of cpu.now board.old) (unheld (record b { cpu = cpu.now; board = board.old })) (space_at (B.entries kept.now) ram.old state.old)) b result board.new (space_at (B.entries kept.now) ram.new state.new) }
     ensures begun { IfOk result (λ x. IsBegun x state.new.pages) }
     ensures control { state.new.control ≡ state.old.control }
@@ -218,12 +225,14 @@ fn work<B: Kept>(
     requires sound { IsSound (B.entries kept.now) (B.floor kept.now) (B.stands kept.now) ram.old state.old }
     requires pages { state.old.pages ≡ 0 }
     ensures sound { IsSound (B.entries kept.now) (B.floor kept.now) (B.stands kept.now) ram.new state.new }
+    ensures follows { Follows (space_at (B.entries kept.now) ram.old state.old) (space_at (B.entries kept.now) ram.new state.new) }
     ensures begins { (m : Setting) (b : Whole) → IsRuled m rules.now → BeginsAs m (worked m (record b { cpu = cpu.now }) (space_at (B.entries kept.now) ram.old state.old)) b result b.board (space_at (B.entries kept.now) ram.new state.new) }
     ensures begun { IfOk result (λ x. IsBegun x state.new.pages) }
     ensures control { state.new.control ≡ state.old.control }
     ensures text { state.new.guard.text ≡ state.old.guard.text }
     ensures hidden { hidden state.old.guard state.old.control.frames ram.new ≡ hidden state.old.guard state.old.control.frames ram.old }
 {
+    following_goes_on();
     if cpu.halted {
         return Ok(Begun::Worked(Worked {
             seen: Seen::Nothing,
@@ -251,12 +260,15 @@ fn fetch_next<B: Kept>(
     requires sound { IsSound (B.entries kept.now) (B.floor kept.now) (B.stands kept.now) ram.old state.old }
     requires pages { state.old.pages ≡ 0 }
     ensures sound { IsSound (B.entries kept.now) (B.floor kept.now) (B.stands kept.now) ram.new state.new }
+    ensures follows { Follows (space_at (B.entries kept.now) ram.old state.old) (space_at (B.entries kept.now) ram.new state.new) }
     ensures begins { (m : Setting) (b : Whole) → IsRuled m rules.now → BeginsAs m (fetches_next m (record b { cpu = cpu.now }) (space_at (B.entries kept.now) ram.old state.old)) b result b.board (space_at (B.entries kept.now) ram.new state.new) }
     ensures begun { IfOk result (λ x. IsBegun x state.new.pages) }
     ensures control { state.new.control ≡ state.old.control }
     ensures text { state.new.guard.text ≡ state.old.guard.text }
     ensures hidden { hidden state.old.guard state.old.control.frames ram.new ≡ hidden state.old.guard state.old.control.frames ram.old }
 {
+    works_follow();
+    following_goes_on();
     match fetch(ram, kept, state, cpu.cpl == 3, cpu.regs.eip) {
         Ok(Decoded::Insn(insn, len)) => Ok(Begun::Fetched {
             insn,

@@ -3,6 +3,7 @@ use Rattle.descriptors.specs.declared.cpu.Cpu.{Cpu}
 use Rattle.event_entry.specs.declared.refusal.NotDelivered.{NotDelivered}
 use Rattle.paging.specs.Work.{Outcome}
 use Rattle.step_mem.specs.Sound.{space_at}
+use Rattle.machine_model.specs.Reloading.{Leaves}
 use Rattle.machine_model.specs.Step.{after_software}
 use Rattle.machine_step.specs.Worked.{ComesTo, completed_of}
 use Rattle.machine_step.proofs.delivery.enter.Goals as goal
@@ -19,3 +20,12 @@ returns-in-Ok-clause-step g c = λ m b k.
     let s = space_at (g.B.Kept.entries c.args.kept.now) c.deliver_in.new.ram c.deliver_in.new.state in
     subst (λ (o : Outcome NotDelivered Cpu). ComesTo (after_software m here (completed_of c.args.completed) c.args.vector o) b c.entered.result b.board s)
     (sym (rw (c.in-Ok.is, c.passed-after.ensures) at c.deliver_in.ensures.delivers)) (c.entered.ensures.step m here b.board s k)
+
+pub returns-in-Err-Privilege-clause-follows : goal.returns-in-Err-Privilege-clause-follows
+returns-in-Err-Privilege-clause-follows g c =
+    let s = space_at (g.B.Kept.entries c.args.kept.now) c.args.ram.now c.args.state.now in
+    let t = space_at (g.B.Kept.entries c.args.kept.now) c.deliver_in.new.ram c.deliver_in.new.state in
+    let u = space_at (g.B.Kept.entries c.args.kept.now) c.raise.new.ram c.raise.new.state in
+    c.following_goes_on.ensures.on s t u
+    (subst (λ (o : Outcome NotDelivered Cpu). Leaves s o) c.in-Err-Privilege.ensures.delivers (c.works_follow.ensures.delivered _ _ _ _ s))
+    c.raise.ensures.follows

@@ -3,6 +3,7 @@ use Rattle.ia32_rows.proofs.ShapeLaws.{shaped}
 use Rattle.paging.specs.Work.{Outcome}
 use Rattle.sys_exec.specs.declared.effect.Refusal.{Refusal}
 use Rattle.step_mem.specs.Sound.{space_at}
+use Rattle.machine_model.specs.Reloading.{Leaves}
 use Rattle.machine_step.specs.declared.worked.Reached.TheVariants as reached
 use Rattle.machine_step.specs.Begun.{after_reach, ReachesTo}
 use Rattle.machine_step.proofs.Refused.{refused_same}
@@ -24,3 +25,21 @@ returns-in-Ok-refuse-clause-reaches g c = λ m b completed go k.
     let s = space_at (g.B.Kept.entries c.args.kept.now) c.refuse.new.ram c.refuse.new.state in
     subst (λ (o : Outcome Refusal (Unit {0})). ReachesTo (after_reach m here completed o go) b go (Ok (reached.Worked c.in-Ok-refuse.worked)) b.board s)
     (sym c.in-Err.ensures.gives) (refused_same m here completed c.in-Err.refusal _ ∙ c.in-Ok-refuse.ensures.step m here k)
+
+pub returns-in-Err-refuse-clause-follows : goal.returns-in-Err-refuse-clause-follows
+returns-in-Err-refuse-clause-follows g c =
+    let s = space_at (g.B.Kept.entries c.args.kept.now) c.args.ram.now c.args.state.now in
+    let t = space_at (g.B.Kept.entries c.args.kept.now) c.reach_both.new.ram c.reach_both.new.state in
+    let u = space_at (g.B.Kept.entries c.args.kept.now) c.refuse.new.ram c.refuse.new.state in
+    c.following_goes_on.ensures.on s t u
+    (subst (λ (o : Outcome Refusal (Unit {0})). Leaves s o) c.in-Err.ensures.gives (c.works_follow.ensures.ranges c.args.cpu.now c.args.insn.now s))
+    c.refuse.ensures.follows
+
+pub returns-in-Ok-refuse-clause-follows : goal.returns-in-Ok-refuse-clause-follows
+returns-in-Ok-refuse-clause-follows g c =
+    let s = space_at (g.B.Kept.entries c.args.kept.now) c.args.ram.now c.args.state.now in
+    let t = space_at (g.B.Kept.entries c.args.kept.now) c.reach_both.new.ram c.reach_both.new.state in
+    let u = space_at (g.B.Kept.entries c.args.kept.now) c.refuse.new.ram c.refuse.new.state in
+    c.following_goes_on.ensures.on s t u
+    (subst (λ (o : Outcome Refusal (Unit {0})). Leaves s o) c.in-Err.ensures.gives (c.works_follow.ensures.ranges c.args.cpu.now c.args.insn.now s))
+    c.refuse.ensures.follows

@@ -3,6 +3,7 @@ use Rattle.paging.specs.Space.{Space}
 use Rattle.step_mem.specs.Guard.{mode_of}
 use Rattle.step_mem.specs.Shown.{shown}
 use Rattle.step_mem.specs.Sound.{space_at}
+use Rattle.machine_model.specs.Reloading.{Follows}
 use Rattle.machine_model.specs.Step.{by_interrupt, interrupt_of, unheld}
 use Rattle.machine_step.specs.Worked.{ComesTo}
 use Rattle.machine_step.proofs.stepping.step_again.Goals as goal
@@ -14,3 +15,7 @@ returns-clause-step g c = λ s b k.
     let here = record b { cpu = a.cpu.now; ram = shown a.guard a.frames a.ram.now; set = g.B.Kept.entries a.kept.now a.ram.now; board = a.board.now } in
     subst (λ (x : Space). ComesTo (by_interrupt m (interrupt_of a.cpu.now a.board.now) (unheld here) x) b c.step_in.result c.step_in.new.board (space_at (g.B.Kept.entries a.kept.now) c.step_in.new.ram c.step_in.new.state))
     c.begin_again.ensures.space (c.step_in.ensures.step m here k)
+
+pub returns-clause-follows : goal.returns-clause-follows
+returns-clause-follows g c =
+    subst (λ (x : Space). Follows x (space_at (g.B.Kept.entries c.args.kept.now) c.step_in.new.ram c.step_in.new.state)) c.begin_again.ensures.space c.step_in.ensures.follows
