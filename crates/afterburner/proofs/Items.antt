@@ -9,11 +9,11 @@ use Rattle.asm_source.specs.declared.tree.SourceItem.{SourceItem}
 use Rattle.asm_source.specs.Size.{body_count, items_count}
 use Rattle.asm_source.specs.Readable.{IsReadable, argument_names, body_names, names_in}
 use Rattle.afterburner.specs.declared.fault.BurnFault.{BurnFault}
-use Rattle.afterburner.specs.declared.fault.Stop.TheVariants as stop
+use Rattle.afterburner.specs.declared.fault.ItemFault.TheVariants as stop
 use Rattle.afterburner.specs.declared.fault.BurnCause.{BurnCause}
-use Rattle.afterburner.specs.declared.fault.Stop.{Stop}
+use Rattle.afterburner.specs.declared.fault.ItemFault.{ItemFault}
 use Rattle.asm_source.specs.declared.directive_table.DirectiveName.{DirectiveName}
-use Rattle.afterburner.specs.State.{State, fresh}
+use Rattle.afterburner.specs.ObjectSoFar.{ObjectSoFar, fresh}
 use Rattle.afterburner.specs.Sections.{labelled}
 use Rattle.afterburner.specs.Directives.{directed}
 use Rattle.afterburner.specs.Burnt.{Fault, parted, Makes, Fails, FaultOf, item_made, next_made, all_made}
@@ -21,17 +21,17 @@ use Rattle.afterburner.specs.Sound.{IsSound, AreHeld}
 use Rattle.afterburner.proofs.Named.{item_held}
 use Rattle.afterburner.proofs.Sound.{sound_parted, sound_labelled, sound_directed}
 
-pub labelled_sound : (names : List (List ℕ)) (n : ℕ) (st new1 new2 : State) (name : List ℕ) → new2 ≡ labelled names new1 name → new1 ≡ parted st → IsSound n st → IsSound n new2
+pub labelled_sound : (names : List (List ℕ)) (n : ℕ) (st new1 new2 : ObjectSoFar) (name : List ℕ) → new2 ≡ labelled names new1 name → new1 ≡ parted st → IsSound n st → IsSound n new2
 labelled_sound names n st new1 new2 name e p s = rw (e, p) (sound_labelled names n st name s)
 
-ok_sound : (n : ℕ) (new : State) (r : Result State BurnCause) → r ≡ Ok new → IfOk r (IsSound n) → IsSound n new
-ok_sound n new r e h = subst (λ (x : Result State BurnCause). IfOk x (IsSound n)) e h
+ok_sound : (n : ℕ) (new : ObjectSoFar) (r : Result ObjectSoFar BurnCause) → r ≡ Ok new → IfOk r (IsSound n) → IsSound n new
+ok_sound n new r e h = subst (λ (x : Result ObjectSoFar BurnCause). IfOk x (IsSound n)) e h
 
-pub directed_sound : (names : List (List ℕ)) (st new1 new2 : State) (d : DirectiveName) (args : List Argument) (r : Result (Unit {0}) Stop) → Makes new2 r (directed names new1 d args) → new1 ≡ parted st → AreHeld names (argument_names args) → IsSound (length names) st → OnOk r (IsSound (length names) new2)
+pub directed_sound : (names : List (List ℕ)) (st new1 new2 : ObjectSoFar) (d : DirectiveName) (args : List Argument) (r : Result (Unit {0}) ItemFault) → Makes new2 r (directed names new1 d args) → new1 ≡ parted st → AreHeld names (argument_names args) → IsSound (length names) st → OnOk r (IsSound (length names) new2)
 directed_sound names st new1 new2 d args (Err e) m p h s = tt
 directed_sound names st new1 new2 d args (Ok u) m p h s =
     let after : IsSound (length names) new1 = rw p (sound_parted (length names) st s) in
-    let none : new1.after_sti ≡ false = ap (λ (x : State). x.after_sti) p in
+    let none : new1.after_sti ≡ false = ap (λ (x : ObjectSoFar). x.after_sti) p in
     ok_sound (length names) new2 (directed names new1 d args) m (sound_directed names new1 d args none h after)
 
 -- ---- all items
@@ -52,7 +52,7 @@ stays names f [] = refl
 stays names f (i ∷ items) = stays names f items
 
 -- Nothing is made behind the first item that is refused.
-stopped : (names : List (List ℕ)) (start : Result State Fault) (items : List SourceItem) (k : ℕ) (d : SourceItem) (st : State) (c : BurnCause) → k < length items → fold (next_made names) start (take k items) ≡ Ok st → item_made names st (get_or items k d).body ≡ Err c
+stopped : (names : List (List ℕ)) (start : Result ObjectSoFar Fault) (items : List SourceItem) (k : ℕ) (d : SourceItem) (st : ObjectSoFar) (c : BurnCause) → k < length items → fold (next_made names) start (take k items) ≡ Ok st → item_made names st (get_or items k d).body ≡ Err c
     → fold (next_made names) start items ≡ Err (record { line = (get_or items k d).line; cause = c })
 stopped names start items k d st c lt so e =
     let f : Fault = record { line = (get_or items k d).line; cause = c } in
@@ -60,7 +60,7 @@ stopped names start items k d st c lt so e =
     let split : items ≡ take (k + 1) items ++ drop (k + 1) items = sym (take-append-drop (k + 1) items) in
     ap (fold (next_made names) start) split ∙ rw (fold-append (next_made names) start (take (k + 1) items) (drop (k + 1) items), here) (stays names f (drop (k + 1) items))
 
-pub fault_told : (names : List (List ℕ)) (items : List SourceItem) (k : ℕ) (d i : SourceItem) (st new : State) (s : Stop) (f : BurnFault) → names ≡ names_in items → k < length items → i ≡ get_or items k d
+pub fault_told : (names : List (List ℕ)) (items : List SourceItem) (k : ℕ) (d i : SourceItem) (st new : ObjectSoFar) (s : ItemFault) (f : BurnFault) → names ≡ names_in items → k < length items → i ≡ get_or items k d
     → fold (next_made names) (Ok (fresh names)) (take k items) ≡ Ok st → Makes new (Err s) (item_made names st i.body) → FaultOf i.line s f → Fails f (all_made items)
 unfolding all_made
 fault_told names items k d i st new stop.Memory f n lt e so m told = rw told tt
@@ -69,6 +69,6 @@ fault_told names items k d i st new (stop.Cause c) f n lt e so m told =
     let all = stopped names (Ok (fresh names)) items k d st c lt so here in
     rw (told, e, ← n) all
 
-pub all_told : (names : List (List ℕ)) (items : List SourceItem) (k : ℕ) (st : State) → names ≡ names_in items → length items ≤ k → fold (next_made names) (Ok (fresh names)) (take k items) ≡ Ok st → all_made items ≡ Ok st
+pub all_told : (names : List (List ℕ)) (items : List SourceItem) (k : ℕ) (st : ObjectSoFar) → names ≡ names_in items → length items ≤ k → fold (next_made names) (Ok (fresh names)) (take k items) ≡ Ok st → all_made items ≡ Ok st
 unfolding all_made
 all_told names items k st n le so = rw (← n, ← take_all k items le) so

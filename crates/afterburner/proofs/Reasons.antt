@@ -20,30 +20,30 @@ use Rattle.afterburner.specs.declared.value.Width.{Width}
 use Rattle.afterburner.specs.declared.value.Width.TheVariants as width
 use Rattle.afterburner.specs.Arguments.{count_at}
 use Rattle.afterburner.specs.Causes.{cause_of}
-use Rattle.afterburner.specs.State.{State}
+use Rattle.afterburner.specs.ObjectSoFar.{ObjectSoFar}
 use Rattle.afterburner.specs.Sections.{is_text, is_init}
 use Rattle.afterburner.specs.Directives.{directive_of, all_fit, values, in_init, numbers, with_long, longs, string_bytes, strings, zeros_in, directed}
 use Rattle.afterburner.specs.Instructions.{placed, in_text, instruction}
 use Rattle.afterburner.specs.Burnt.{parted, made, limited, then_limited, item_made}
 use Rattle.afterburner.specs.Reasons.{width_of, gives_data, IsReason}
 
-in_init_refused : (st new : State) (c : BurnCause) → in_init st new ≡ Err c → (is_init st.section ≡ false) × (cause.DataInText ≡ c)
+in_init_refused : (st new : ObjectSoFar) (c : BurnCause) → in_init st new ≡ Err c → (is_init st.section ≡ false) × (cause.DataInText ≡ c)
 in_init_refused st new c e = by_test (is_init st.section) refl e
   where
     by_test : (t : Bool) → is_init st.section ≡ t → cond t (Ok new) (Err cause.DataInText) ≡ Err c → (is_init st.section ≡ false) × (cause.DataInText ≡ c)
     by_test true q e = absurd cc
     by_test false q e = (q, cc)
 
-module _ (names : List (List ℕ)) (st : State) (name : List ℕ) (args : List Argument) where
+module _ (names : List (List ℕ)) (st : ObjectSoFar) (name : List ℕ) (args : List Argument) where
   abbrev Reason : BurnCause → Type 0
   Reason c = IsReason names st (body.Directive name args) c
 
-  outside : (k : DirectiveName) (new : State) (c : BurnCause) → directive_of name ≡ k → gives_data k ≡ true → in_init (parted st) new ≡ Err c → Reason c
+  outside : (k : DirectiveName) (new : ObjectSoFar) (c : BurnCause) → directive_of name ≡ k → gives_data k ≡ true → in_init (parted st) new ≡ Err c → Reason c
   outside k new c q g e =
       let p = in_init_refused (parted st) new c e in
       subst Reason p.1 (IsReason.data_outside (ap gives_data q ∙ g) p.0)
 
-  out_of_range : (k : DirectiveName) (w : Width) (new : State) (c : BurnCause) → directive_of name ≡ k → width_of k ≡ Some w → gives_data k ≡ true
+  out_of_range : (k : DirectiveName) (w : Width) (new : ObjectSoFar) (c : BurnCause) → directive_of name ≡ k → width_of k ≡ Some w → gives_data k ≡ true
       → cond (not (all_fit w args)) (Err cause.ValueRange) (in_init (parted st) new) ≡ Err c → Reason c
   out_of_range k w new c q f g e = by_fit (all_fit w args) refl e
     where
@@ -95,7 +95,7 @@ module _ (names : List (List ℕ)) (st : State) (name : List ℕ) (args : List A
   directed_reason directive.LocalCommon c q e = absurd cc
   directed_reason directive.Skipped c q e = absurd cc
 
-instruction_reason : (names : List (List ℕ)) (st : State) (rep : Bool) (name : List ℕ) (args : List Argument) (c : BurnCause) → instruction names st rep name args ≡ Err c → IsReason names st (body.Instruction rep name args) c
+instruction_reason : (names : List (List ℕ)) (st : ObjectSoFar) (rep : Bool) (name : List ℕ) (args : List Argument) (c : BurnCause) → instruction names st rep name args ≡ Err c → IsReason names st (body.Instruction rep name args) c
 unfolding instruction
 instruction_reason names st rep name args c e = by_assembled (assembled rep name args) refl e
   where
@@ -107,13 +107,13 @@ instruction_reason names st rep name args c e = by_assembled (assembled rep name
     by_assembled (Err r) q e = let same : cause_of r ≡ c = cc in subst (IsReason names st (body.Instruction rep name args)) same (IsReason.statement r q)
     by_assembled (Ok a) q e = by_section a (is_text st.section) refl e
 
-made_reason : (names : List (List ℕ)) (st : State) (b : Body) (c : BurnCause) → made names st b ≡ Err c → IsReason names st b c
+made_reason : (names : List (List ℕ)) (st : ObjectSoFar) (b : Body) (c : BurnCause) → made names st b ≡ Err c → IsReason names st b c
 unfolding made
 made_reason names st (body.Label name) c e = absurd cc
 made_reason names st (body.Directive name args) c e = directed_reason names st name args (directive_of name) c refl e
 made_reason names st (body.Instruction rep name args) c e = instruction_reason names st rep name args c e
 
-limited_reason : (names : List (List ℕ)) (st new : State) (b : Body) (c : BurnCause) → made names st b ≡ Ok new → limited new ≡ Err c → IsReason names st b c
+limited_reason : (names : List (List ℕ)) (st new : ObjectSoFar) (b : Body) (c : BurnCause) → made names st b ≡ Ok new → limited new ≡ Err c → IsReason names st b c
 unfolding limited
 limited_reason names st new b c m e = by_text (nat_lt TEXT_LIMIT (length new.text)) refl e
   where
@@ -132,10 +132,10 @@ limited_reason names st new b c m e = by_text (nat_lt TEXT_LIMIT (length new.tex
     by_text true t e = let same : cause.TextTooLarge ≡ c = cc in subst (IsReason names st b) same (IsReason.long_text new m (exceeds TEXT_LIMIT (length new.text) t))
     by_text false t e = by_data (nat_lt 33554432 (length new.init + new.bss)) refl e
 
-pub reason : (names : List (List ℕ)) (st : State) (b : Body) (c : BurnCause) → item_made names st b ≡ Err c → IsReason names st b c
+pub reason : (names : List (List ℕ)) (st : ObjectSoFar) (b : Body) (c : BurnCause) → item_made names st b ≡ Err c → IsReason names st b c
 unfolding item_made
 reason names st b c e = by_made (made names st b) refl e
   where
-    by_made : (r : Result State BurnCause) → made names st b ≡ r → then_limited r ≡ Err c → IsReason names st b c
+    by_made : (r : Result ObjectSoFar BurnCause) → made names st b ≡ r → then_limited r ≡ Err c → IsReason names st b c
     by_made (Err d) m e = let same : d ≡ c = cc in subst (IsReason names st b) same (made_reason names st b d m)
     by_made (Ok new) m e = limited_reason names st new b c m e

@@ -7,16 +7,16 @@ use Rattle.elf_form.specs.ObjectParts.{ObjectParts}
 use Rattle.afterburner.specs.declared.fault.BurnCause.{BurnCause}
 use Rattle.afterburner.specs.declared.fault.BurnFault.{BurnFault}
 use Rattle.afterburner.specs.declared.fault.BurnFault.TheVariants as faults
-use Rattle.afterburner.specs.State.{State, fresh}
+use Rattle.afterburner.specs.ObjectSoFar.{ObjectSoFar, fresh}
 use Rattle.afterburner.specs.Burnt.{Fault, Gives, at_line, item_made, next_made, all_made, finished, burnt}
 use Rattle.afterburner.specs.Refused.{IsFirstRefused, Refuses}
 use Rattle.afterburner.proofs.Items.{stays}
 use Rattle.afterburner.proofs.Reasons.{reason}
 
-first_refused : (names : List (List ℕ)) (st : State) (items : List SourceItem) (line : ℕ) (c : BurnCause) → fold (next_made names) (Ok st) items ≡ Err (record { line = line; cause = c }) → IsFirstRefused names st items line c
+first_refused : (names : List (List ℕ)) (st : ObjectSoFar) (items : List SourceItem) (line : ℕ) (c : BurnCause) → fold (next_made names) (Ok st) items ≡ Err (record { line = line; cause = c }) → IsFirstRefused names st items line c
 first_refused names st [] line c e = absurd (cc)
 first_refused names st (i ∷ items) line c e =
-    let at : (r : Result State BurnCause) → item_made names st i.body ≡ r → fold (next_made names) (at_line i.line r) items ≡ Err (record { line = line; cause = c }) → IsFirstRefused names st (i ∷ items) line c = λ r. elim r as (λ v. item_made names st i.body ≡ v → fold (next_made names) (at_line i.line v) items ≡ Err (record { line = line; cause = c }) → IsFirstRefused names st (i ∷ items) line c) [
+    let at : (r : Result ObjectSoFar BurnCause) → item_made names st i.body ≡ r → fold (next_made names) (at_line i.line r) items ≡ Err (record { line = line; cause = c }) → IsFirstRefused names st (i ∷ items) line c = λ r. elim r as (λ v. item_made names st i.body ≡ v → fold (next_made names) (at_line i.line v) items ≡ Err (record { line = line; cause = c }) → IsFirstRefused names st (i ∷ items) line c) [
       | Ok st2 ↦ λ m f.
           let rest = first_refused names st2 items line c f in
           record {
@@ -25,13 +25,13 @@ first_refused names st (i ∷ items) line c e =
             after = rest.after;
             so_far = rest.so_far;
             place = ap (λ (xs : List SourceItem). i ∷ xs) rest.place;
-            earlier = ap (λ (r : Result State BurnCause). fold (next_made names) (at_line i.line r) rest.before) m ∙ rest.earlier;
+            earlier = ap (λ (r : Result ObjectSoFar BurnCause). fold (next_made names) (at_line i.line r) rest.before) m ∙ rest.earlier;
             refused = rest.refused;
             reason = rest.reason;
             on_line = rest.on_line;
           }
       | Err d ↦ λ m f.
-          let told : Result State Fault = Err (record { line = i.line; cause = d }) in
+          let told : Result ObjectSoFar Fault = Err (record { line = i.line; cause = d }) in
           let same : told ≡ Err (record { line = line; cause = c }) = sym (stays names (record { line = i.line; cause = d }) items) ∙ f in
           let one : Fault = record { line = i.line; cause = d } in
           let two : Fault = record { line = line; cause = c } in
@@ -58,7 +58,7 @@ refused_first items (Ok o) g = tt
 refused_first items (Err faults.Memory) g = tt
 refused_first items (Err (faults.At line c)) g =
     let names : List (List ℕ) = names_in items in
-    let at : (m : Result State Fault) → finished names m ≡ Err (record { line = line; cause = c }) → m ≡ Err (record { line = line; cause = c }) = λ m. elim m as (λ v. finished names v ≡ Err (record { line = line; cause = c }) → v ≡ Err (record { line = line; cause = c })) [
+    let at : (m : Result ObjectSoFar Fault) → finished names m ≡ Err (record { line = line; cause = c }) → m ≡ Err (record { line = line; cause = c }) = λ m. elim m as (λ v. finished names v ≡ Err (record { line = line; cause = c }) → v ≡ Err (record { line = line; cause = c })) [
       | Ok st ↦ λ e. cc
       | Err f ↦ λ e. let same : f ≡ record { line = line; cause = c } = cc in ap (λ (x : Fault). Err x) same
     ] in

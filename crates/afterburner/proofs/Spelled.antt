@@ -13,7 +13,7 @@ use Rattle.asm_source.specs.Readable.{argument_names}
 use Rattle.asm_instruction.specs.declared.assembled.Assembled.{Assembled}
 use Rattle.asm_instruction.specs.declared.assembled.Named.{Named}
 use Rattle.asm_instruction.specs.Assembled.{IsShort, IsField, HasFields}
-use Rattle.afterburner.specs.State.{State}
+use Rattle.afterburner.specs.ObjectSoFar.{ObjectSoFar}
 use Rattle.afterburner.specs.Arguments.{symbol_of, symbol_at}
 use Rattle.afterburner.specs.Instructions.{nops, padding, site_at, reloc_of, field_reloc, is_sti, added, paired, pair_site, no_site}
 use Rattle.afterburner.specs.Sound.{IsSound, IsRelocIn, AreApart, AreHeld}
@@ -63,7 +63,7 @@ sti_padded (Some kind) len e = omega arith
 
 -- ---- an instruction at the end of the text
 
-pub sound_added : (names : List (List ℕ)) (st : State) (args : List Argument) (a : Assembled) → IsShort a → HasFields args a → length (take a.spelling.len a.spelling.bytes) ≡ a.spelling.len → AreHeld names (argument_names args) → IsSound (length names) st
+pub sound_added : (names : List (List ℕ)) (st : ObjectSoFar) (args : List Argument) (a : Assembled) → IsShort a → HasFields args a → length (take a.spelling.len a.spelling.bytes) ≡ a.spelling.len → AreHeld names (argument_names args) → IsSound (length names) st
     → IsSound (length names) (added names st args a)
 unfolding added
 sound_added names st args a short fields spelled held s =
@@ -103,7 +103,7 @@ apart_last from zero to (s ∷ []) e h = (h.0, omega arith, omega arith, refl, o
 apart_last from zero to (s ∷ t ∷ sites) e h = absurd (omega arith)
 apart_last from (suc k) to (s ∷ sites) e h = (h.0, h.1, h.2, h.3, apart_last (s.at + s.total) k to sites (omega arith) h.4)
 
-pub sound_paired : (n : ℕ) (st : State) → st.after_sti ≡ true → IsSound n st → IsSound n (paired st)
+pub sound_paired : (n : ℕ) (st : ObjectSoFar) → st.after_sti ≡ true → IsSound n st → IsSound n (paired st)
 unfolding paired
 sound_paired n st a s =
     let text : List ℕ = set st.text (length st.text - 4) 244 in
@@ -122,9 +122,9 @@ sound_paired n st a s =
       sti_text = λ e. cc;
     }
 
-pub added_sound : (names : List (List ℕ)) (st made : State) (args : List Argument) (a : Assembled) → made ≡ added names st args a → IsShort a → HasFields args a → length (take a.spelling.len a.spelling.bytes) ≡ a.spelling.len → AreHeld names (argument_names args) → IsSound (length names) st
+pub added_sound : (names : List (List ℕ)) (st made : ObjectSoFar) (args : List Argument) (a : Assembled) → made ≡ added names st args a → IsShort a → HasFields args a → length (take a.spelling.len a.spelling.bytes) ≡ a.spelling.len → AreHeld names (argument_names args) → IsSound (length names) st
     → IsSound (length names) made
 added_sound names st made args a e short fields spelled held s = rw e (sound_added names st args a short fields spelled held s)
 
-pub paired_sound : (n : ℕ) (st made : State) → made ≡ paired st → st.after_sti ≡ true → IsSound n st → IsSound n made
+pub paired_sound : (n : ℕ) (st made : ObjectSoFar) → made ≡ paired st → st.after_sti ≡ true → IsSound n st → IsSound n made
 paired_sound n st made e a s = rw e (sound_paired n st a s)

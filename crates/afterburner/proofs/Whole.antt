@@ -7,7 +7,7 @@ use Rattle.std.proofs.lemmas.List.Sums.{length-filter, sum_by-append, sum_by-con
 use Rattle.std.proofs.lemmas.List.Filters.{length-filter_both, sum_by-filter_both}
 use Rattle.std.proofs.lemmas.List.Elements.{All-append, All-nil, All-cons, All-head, All-tail, All-map, All-filter, filter-append}
 use Rattle.asm_lex.specs.declared.lexing.TheConstants.{LIMIT}
-use Rattle.elf_form.specs.declared.object.Place.TheVariants as place
+use Rattle.elf_form.specs.declared.object.DefinedIn.TheVariants as place
 use Rattle.elf_form.specs.declared.object.Symbol.{Symbol}
 use Rattle.elf_form.specs.declared.object.Reloc.{Reloc}
 use Rattle.elf_form.specs.ObjectParts.{ObjectParts}
@@ -26,7 +26,7 @@ use Rattle.asm_source.specs.Names.{symbol_in, name_of, holds, added}
 use Rattle.asm_source.specs.Size.{name_size, value_size, form_size, arguments_size, body_size, items_size}
 use Rattle.asm_source.specs.Readable.{IsReadable, name_list, argument_names, body_names, names_in}
 use Rattle.afterburner.specs.declared.symbol.Definition.{Definition}
-use Rattle.afterburner.specs.State.{State, undefined}
+use Rattle.afterburner.specs.ObjectSoFar.{ObjectSoFar, undefined}
 use Rattle.afterburner.specs.Objects.{symbol, symbols_seen, are, defines, is_global, ordered, ordered_number, renumbered, object, reaches, value_at}
 use Rattle.afterburner.specs.Sound.{IsSound, IsWithin, IsAnnotated, IsSmall}
 use Rattle.afterburner.proofs.Sited.{apart_gaps, apart_inside}
@@ -217,7 +217,7 @@ parted_relocs texts datas t d =
 
 -- ---- the object
 
-pub whole : (items : List SourceItem) (st : State)
+pub whole : (items : List SourceItem) (st : ObjectSoFar)
     → ((o : ObjectParts) → (layout o).sections ≤ 52 + length o.text + length o.init + length o.sites + 8 * length o.relocs + 16 * (length o.symbols + 1) + (sum_by (λ s. length s.name) o.symbols + length o.symbols + 1) + 74 + 40)
     → IsReadable items → IsSound (length (names_in items)) st → IsWithin st → IsWholeObject (object (names_in items) st)
 unfolding object
@@ -259,7 +259,7 @@ whole items st bound readable sound within =
 
 -- ---- the annotations and the limits
 
-pub annotated : (names : List (List ℕ)) (st : State) (n : ℕ) → IsSound n st → IsWithin st → IsAnnotated (object names st)
+pub annotated : (names : List (List ℕ)) (st : ObjectSoFar) (n : ℕ) → IsSound n st → IsWithin st → IsAnnotated (object names st)
 unfolding object
 annotated names st n sound within =
     let gaps = apart_gaps 0 (length st.text) st.sites (omega (arith, within.text)) sound.sites in
@@ -272,6 +272,6 @@ annotated names st n sound within =
       few = within.sites;
     }
 
-pub small : (names : List (List ℕ)) (st : State) → IsWithin st → IsSmall (object names st)
+pub small : (names : List (List ℕ)) (st : ObjectSoFar) → IsWithin st → IsSmall (object names st)
 unfolding object
 small names st within = record { text = within.text; init = within.init }

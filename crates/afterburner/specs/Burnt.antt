@@ -10,37 +10,37 @@ use Rattle.afterburner.specs.declared.fault.BurnCause.{BurnCause}
 use Rattle.afterburner.specs.declared.fault.BurnCause.TheVariants as cause
 use Rattle.afterburner.specs.declared.fault.BurnFault.{BurnFault}
 use Rattle.afterburner.specs.declared.fault.BurnFault.TheVariants as faults
-use Rattle.afterburner.specs.declared.fault.Stop.{Stop}
-use Rattle.afterburner.specs.declared.fault.Stop.TheVariants as stop
-use Rattle.afterburner.specs.State.{State, fresh}
+use Rattle.afterburner.specs.declared.fault.ItemFault.{ItemFault}
+use Rattle.afterburner.specs.declared.fault.ItemFault.TheVariants as stop
+use Rattle.afterburner.specs.ObjectSoFar.{ObjectSoFar, fresh}
 use Rattle.afterburner.specs.Sections.{labelled}
 use Rattle.afterburner.specs.Instructions.{instruction}
 use Rattle.afterburner.specs.Directives.{directive_of, directed}
 use Rattle.afterburner.specs.Objects.{object}
 
 -- A label and a directive part an STI before them from an HLT behind them.
-abbrev pub parted : State → State
+abbrev pub parted : ObjectSoFar → ObjectSoFar
 parted st = record st { after_sti = false }
 
 -- what an item makes
-unfoldable pub made : List (List ℕ) → State → Body → Result State BurnCause
+unfoldable pub made : List (List ℕ) → ObjectSoFar → Body → Result ObjectSoFar BurnCause
 made names st (body.Label name) = Ok (labelled names (parted st) name)
 made names st (body.Directive name args) = directed names (parted st) (directive_of name) args
 made names st (body.Instruction rep name args) = instruction names st rep name args
 
 -- the limits of text, of data with zeroed bytes, and of sites
-unfoldable pub limited : State → Result State BurnCause
+unfoldable pub limited : ObjectSoFar → Result ObjectSoFar BurnCause
 limited st =
     if nat_lt TEXT_LIMIT (length st.text) then Err cause.TextTooLarge
     else if nat_lt 33554432 (length st.init + st.bss) then Err cause.InitTooLarge
     else if nat_lt SITE_LIMIT (length st.sites) then Err cause.TooManySites
     else Ok st
 
-abbrev pub then_limited : Result State BurnCause → Result State BurnCause
+abbrev pub then_limited : Result ObjectSoFar BurnCause → Result ObjectSoFar BurnCause
 then_limited (Err c) = Err c
 then_limited (Ok st) = limited st
 
-unfoldable pub item_made : List (List ℕ) → State → Body → Result State BurnCause
+unfoldable pub item_made : List (List ℕ) → ObjectSoFar → Body → Result ObjectSoFar BurnCause
 item_made names st b = then_limited (made names st b)
 
 -- the line of a refused item, and the cause
@@ -48,20 +48,20 @@ pub record Fault : Type 0 where
   pub line : ℕ
   pub cause : BurnCause
 
-abbrev pub at_line : ℕ → Result State BurnCause → Result State Fault
+abbrev pub at_line : ℕ → Result ObjectSoFar BurnCause → Result ObjectSoFar Fault
 at_line line (Err c) = Err (record { line = line; cause = c })
 at_line line (Ok st) = Ok st
 
 -- Nothing is made behind an item that is refused.
-abbrev pub next_made : List (List ℕ) → Result State Fault → SourceItem → Result State Fault
+abbrev pub next_made : List (List ℕ) → Result ObjectSoFar Fault → SourceItem → Result ObjectSoFar Fault
 next_made names (Err f) i = Err f
 next_made names (Ok st) i = at_line i.line (item_made names st i.body)
 
 -- what all items make in their order
-unfoldable pub all_made : List SourceItem → Result State Fault
+unfoldable pub all_made : List SourceItem → Result ObjectSoFar Fault
 all_made items = fold (next_made (names_in items)) (Ok (fresh (names_in items))) items
 
-abbrev pub finished : List (List ℕ) → Result State Fault → Result ObjectParts Fault
+abbrev pub finished : List (List ℕ) → Result ObjectSoFar Fault → Result ObjectParts Fault
 finished names (Err f) = Err f
 finished names (Ok st) = Ok (object names st)
 
@@ -79,12 +79,12 @@ Gives (Ok x) r = r ≡ Ok x
 Gives (Err f) r = Fails f r
 
 -- the fault of a stop at an item
-abbrev pub FaultOf : ℕ → Stop → BurnFault → Type 0
+abbrev pub FaultOf : ℕ → ItemFault → BurnFault → Type 0
 FaultOf line (stop.Cause c) f = f ≡ faults.At line c
 FaultOf line stop.Memory f = f ≡ faults.Memory
 
 -- What a step of the work returned is what it makes, unless memory ran out.
-abbrev pub Makes : State → Result (Unit {0}) Stop → Result State BurnCause → Type 0
+abbrev pub Makes : ObjectSoFar → Result (Unit {0}) ItemFault → Result ObjectSoFar BurnCause → Type 0
 Makes new (Ok u) r = r ≡ Ok new
 Makes new (Err (stop.Cause c)) r = r ≡ Err c
 Makes new (Err stop.Memory) r = Unit {0}

@@ -14,7 +14,7 @@ use Rattle.asm_source.specs.declared.directive_table.DirectiveName.TheVariants a
 use Rattle.asm_source.specs.DirectiveTable.{directive_name}
 use Rattle.afterburner.specs.declared.value.Width.{Width}
 use Rattle.afterburner.specs.declared.value.Width.TheVariants as width
-use Rattle.afterburner.specs.State.{State}
+use Rattle.afterburner.specs.ObjectSoFar.{ObjectSoFar}
 use Rattle.afterburner.specs.Names.{name_number}
 use Rattle.afterburner.specs.Symbols.{bound}
 use Rattle.afterburner.specs.Arguments.{number_in, text_in, count_at, text_at, symbol_at, limit_at, alignment, power}
@@ -40,11 +40,11 @@ all_fit w args = list_all (λ (a : Argument). fits (8 * bytes_in w) (number_in a
 abbrev pub values : Width → List Argument → List ℕ
 values w args = flat_map (λ (a : Argument). value_bytes (bytes_in w) (number_in a.form)) args
 
-abbrev pub in_init : State → State → Result State BurnCause
+abbrev pub in_init : ObjectSoFar → ObjectSoFar → Result ObjectSoFar BurnCause
 in_init st made = if is_init st.section then Ok made else Err cause.DataInText
 
 -- numbers
-unfoldable pub numbers : State → Width → List Argument → Result State BurnCause
+unfoldable pub numbers : ObjectSoFar → Width → List Argument → Result ObjectSoFar BurnCause
 numbers st w args = if not (all_fit w args) then Err cause.ValueRange else in_init st (record st { init = st.init ++ values w args })
 
 abbrev pub data_reloc : List (List ℕ) → ℕ → Option (List ℕ) → List Reloc
@@ -52,29 +52,29 @@ data_reloc names at None = []
 data_reloc names at (Some name) = record { in_text = false; at = at; symbol = name_number names name; relative = false } ∷ []
 
 -- a value of four bytes; a named one holds its constant and gives a relocation
-abbrev pub with_long : List (List ℕ) → State → Argument → State
+abbrev pub with_long : List (List ℕ) → ObjectSoFar → Argument → ObjectSoFar
 with_long names st a = record st {
   init = st.init ++ value_bytes 4 (number_in a.form);
   data_relocs = st.data_relocs ++ data_reloc names (length st.init) (symbol_in a.form);
 }
 
-unfoldable pub longs : List (List ℕ) → State → List Argument → Result State BurnCause
+unfoldable pub longs : List (List ℕ) → ObjectSoFar → List Argument → Result ObjectSoFar BurnCause
 longs names st args = if not (all_fit width.Long args) then Err cause.ValueRange else in_init st (fold (with_long names) st args)
 
 -- a string, and a zero byte where it has one at its end
 abbrev pub string_bytes : Bool → Argument → List ℕ
 string_bytes ended a = text_in a.form ++ (if ended then 0 ∷ [] else [])
 
-unfoldable pub strings : State → Bool → List Argument → Result State BurnCause
+unfoldable pub strings : ObjectSoFar → Bool → List Argument → Result ObjectSoFar BurnCause
 strings st ended args = in_init st (record st { init = st.init ++ flat_map (string_bytes ended) args })
 
 -- zero bytes; too many are not made first
-abbrev pub zeros_in : State → Section → ℕ → Result State BurnCause
+abbrev pub zeros_in : ObjectSoFar → Section → ℕ → Result ObjectSoFar BurnCause
 zeros_in st section.Text n = Err cause.DataInText
 zeros_in st section.Init n = if nat_lt 33554432 (length st.init + st.bss + n) then Err cause.InitTooLarge else Ok (record st { init = st.init ++ replicate n 0 })
 zeros_in st section.Bss n = Ok (record st { bss = st.bss + n })
 
-abbrev pub zeros : State → ℕ → Result State BurnCause
+abbrev pub zeros : ObjectSoFar → ℕ → Result ObjectSoFar BurnCause
 zeros st n = zeros_in st st.section n
 
 abbrev pub common_alignment : Option ℕ → ℕ
@@ -82,10 +82,10 @@ common_alignment None = 1
 common_alignment (Some n) = alignment n
 
 -- `.comm NAME,SIZE[,ALIGN]`: global, unless a `.local` or a `.globl` speaks of the name
-unfoldable pub common : List (List ℕ) → State → List Argument → State
+unfoldable pub common : List (List ℕ) → ObjectSoFar → List Argument → ObjectSoFar
 common names st args = bound names (reserved names st (symbol_at args 0) (count_at args 1) (common_alignment (limit_at args 2))) (symbol_at args 0) binding.Common
 
-unfoldable pub directed : List (List ℕ) → State → DirectiveName → List Argument → Result State BurnCause
+unfoldable pub directed : List (List ℕ) → ObjectSoFar → DirectiveName → List Argument → Result ObjectSoFar BurnCause
 directed names st directive.Text args = Ok (entered st section.Text)
 directed names st directive.Data args = Ok (entered st section.Init)
 directed names st directive.Bss args = Ok (entered st section.Bss)

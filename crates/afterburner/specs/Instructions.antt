@@ -13,7 +13,7 @@ use Rattle.asm_instruction.specs.Assembled.{assembled}
 use Rattle.afterburner.specs.declared.fault.BurnCause.{BurnCause}
 use Rattle.afterburner.specs.declared.fault.BurnCause.TheVariants as cause
 use Rattle.afterburner.specs.Causes.{cause_of}
-use Rattle.afterburner.specs.State.{State}
+use Rattle.afterburner.specs.ObjectSoFar.{ObjectSoFar}
 use Rattle.afterburner.specs.Names.{name_number}
 use Rattle.afterburner.specs.Arguments.{symbol_at}
 use Rattle.afterburner.specs.Sections.{is_text}
@@ -48,7 +48,7 @@ is_hlt (Some site.Hlt) = true
 is_hlt _ = false
 
 -- an instruction at the end of the text
-unfoldable pub added : List (List ℕ) → State → List Argument → Assembled → State
+unfoldable pub added : List (List ℕ) → ObjectSoFar → List Argument → Assembled → ObjectSoFar
 added names st args a =
     let at = length st.text in
     let kind = sensitive_kind a.insn in
@@ -66,7 +66,7 @@ pair_site s = record s { kind = site.StiHlt; len = 2; total = 5 }
 abbrev pub no_site : Site
 no_site = record { at = 0; kind = site.Sti; len = 1; total = 5 }
 
-unfoldable pub paired : State → State
+unfoldable pub paired : ObjectSoFar → ObjectSoFar
 paired st =
     let last = length st.sites - 1 in
     record st {
@@ -75,13 +75,13 @@ paired st =
       after_sti = false;
     }
 
-abbrev pub placed : List (List ℕ) → State → List Argument → Assembled → State
+abbrev pub placed : List (List ℕ) → ObjectSoFar → List Argument → Assembled → ObjectSoFar
 placed names st args a = if st.after_sti && is_hlt (sensitive_kind a.insn) then paired st else added names st args a
 
-abbrev pub in_text : List (List ℕ) → State → List Argument → Result Assembled Refusal → Result State BurnCause
+abbrev pub in_text : List (List ℕ) → ObjectSoFar → List Argument → Result Assembled Refusal → Result ObjectSoFar BurnCause
 in_text names st args (Err r) = Err (cause_of r)
 in_text names st args (Ok a) = if is_text st.section then Ok (placed names st args a) else Err cause.DataInText
 
 -- an instruction; none stands outside text
-unfoldable pub instruction : List (List ℕ) → State → Bool → List ℕ → List Argument → Result State BurnCause
+unfoldable pub instruction : List (List ℕ) → ObjectSoFar → Bool → List ℕ → List Argument → Result ObjectSoFar BurnCause
 instruction names st rep name args = in_text names st args (assembled rep name args)

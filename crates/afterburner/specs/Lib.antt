@@ -1,5 +1,5 @@
 pub mod Causes
-pub mod State
+pub mod ObjectSoFar
 pub mod Names
 pub mod Symbols
 pub mod Arguments

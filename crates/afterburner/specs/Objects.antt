@@ -1,7 +1,7 @@
 -- The object of what all items made.
 use Rattle.std.specs.Prelude.{ℕ, ◌+◌, Bool, true, false, not, List, [], ◌∷◌, ◌++◌, length, take, map, filter, count_by, slice_index, if◌then◌else◌}
-use Rattle.elf_form.specs.declared.object.Place.{Place}
-use Rattle.elf_form.specs.declared.object.Place.TheVariants as place
+use Rattle.elf_form.specs.declared.object.DefinedIn.{DefinedIn}
+use Rattle.elf_form.specs.declared.object.DefinedIn.TheVariants as place
 use Rattle.elf_form.specs.declared.object.Symbol.{Symbol}
 use Rattle.elf_form.specs.declared.object.Reloc.{Reloc}
 use Rattle.elf_form.specs.ObjectParts.{ObjectParts}
@@ -10,7 +10,7 @@ use Rattle.sites.specs.Limits.{in_text}
 use Rattle.afterburner.specs.declared.symbol.Definition.{Definition}
 use Rattle.afterburner.specs.declared.symbol.Binding.{Binding}
 use Rattle.afterburner.specs.declared.symbol.Binding.TheVariants as binding
-use Rattle.afterburner.specs.State.{State}
+use Rattle.afterburner.specs.ObjectSoFar.{ObjectSoFar}
 use Rattle.afterburner.specs.Symbols.{definition_of}
 
 abbrev pub is_wide : Binding → Bool
@@ -19,14 +19,14 @@ is_wide binding.Global = true
 is_wide _ = false
 
 -- An undefined name is global, and has the value 0.
-abbrev pub reaches : Place → Binding → Bool
+abbrev pub reaches : DefinedIn → Binding → Bool
 reaches place.Undefined b = true
 reaches p b = is_wide b
 
 abbrev pub is_global : Definition → Bool
 is_global d = reaches d.place d.binding
 
-abbrev pub value_at : Place → ℕ → ℕ
+abbrev pub value_at : DefinedIn → ℕ → ℕ
 value_at place.Undefined value = 0
 value_at p value = value
 
@@ -65,7 +65,7 @@ with_number numbers r = record r { symbol = slice_index numbers r.symbol }
 
 -- The relocations of text come before those of data, each in the order of their places. The annotations are in the
 -- format for so long a text.
-unfoldable pub object : List (List ℕ) → State → ObjectParts
+unfoldable pub object : List (List ℕ) → ObjectSoFar → ObjectParts
 object names st =
     record {
       text = st.text;

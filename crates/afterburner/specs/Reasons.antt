@@ -14,7 +14,7 @@ use Rattle.afterburner.specs.declared.value.Width.{Width}
 use Rattle.afterburner.specs.declared.value.Width.TheVariants as width
 use Rattle.afterburner.specs.Arguments.{count_at}
 use Rattle.afterburner.specs.Causes.{cause_of}
-use Rattle.afterburner.specs.State.{State}
+use Rattle.afterburner.specs.ObjectSoFar.{ObjectSoFar}
 use Rattle.afterburner.specs.Sections.{is_text, is_init}
 use Rattle.afterburner.specs.Directives.{directive_of, all_fit}
 use Rattle.afterburner.specs.Burnt.{made}
@@ -37,13 +37,13 @@ gives_data _ = false
 
 -- An item is refused for a statement that is no instruction, a value out of range, or what may not stand in its section;
 -- or what it makes is too large.
-pub data IsReason (names : List (List ℕ)) (st : State) : Body → BurnCause → Type 0 where
+pub data IsReason (names : List (List ℕ)) (st : ObjectSoFar) : Body → BurnCause → Type 0 where
   statement : {rep : Bool} {name : List ℕ} {args : List Argument} (r : Refusal) → assembled rep name args ≡ Err r → IsReason names st (body.Instruction rep name args) (cause_of r)
   instruction_outside : {rep : Bool} {name : List ℕ} {args : List Argument} → is_text st.section ≡ false → IsReason names st (body.Instruction rep name args) cause.DataInText
   range : {name : List ℕ} {args : List Argument} (w : Width) → width_of (directive_of name) ≡ Some w → all_fit w args ≡ false → IsReason names st (body.Directive name args) cause.ValueRange
   data_outside : {name : List ℕ} {args : List Argument} → gives_data (directive_of name) ≡ true → is_init st.section ≡ false → IsReason names st (body.Directive name args) cause.DataInText
   zeros_in_text : {name : List ℕ} {args : List Argument} → directive_of name ≡ directive.Zeros → is_text st.section ≡ true → IsReason names st (body.Directive name args) cause.DataInText
   many_zeros : {name : List ℕ} {args : List Argument} → directive_of name ≡ directive.Zeros → 33554432 < length st.init + st.bss + count_at args 0 → IsReason names st (body.Directive name args) cause.InitTooLarge
-  long_text : {b : Body} (new : State) → made names st b ≡ Ok new → TEXT_LIMIT < length new.text → IsReason names st b cause.TextTooLarge
-  large_data : {b : Body} (new : State) → made names st b ≡ Ok new → 33554432 < length new.init + new.bss → IsReason names st b cause.InitTooLarge
-  many_sites : {b : Body} (new : State) → made names st b ≡ Ok new → SITE_LIMIT < length new.sites → IsReason names st b cause.TooManySites
+  long_text : {b : Body} (new : ObjectSoFar) → made names st b ≡ Ok new → TEXT_LIMIT < length new.text → IsReason names st b cause.TextTooLarge
+  large_data : {b : Body} (new : ObjectSoFar) → made names st b ≡ Ok new → 33554432 < length new.init + new.bss → IsReason names st b cause.InitTooLarge
+  many_sites : {b : Body} (new : ObjectSoFar) → made names st b ≡ Ok new → SITE_LIMIT < length new.sites → IsReason names st b cause.TooManySites

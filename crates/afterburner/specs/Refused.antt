@@ -5,16 +5,16 @@ use Rattle.asm_source.specs.Readable.{names_in}
 use Rattle.afterburner.specs.declared.fault.BurnCause.{BurnCause}
 use Rattle.afterburner.specs.declared.fault.BurnFault.{BurnFault}
 use Rattle.afterburner.specs.declared.fault.BurnFault.TheVariants as faults
-use Rattle.afterburner.specs.State.{State, fresh}
+use Rattle.afterburner.specs.ObjectSoFar.{ObjectSoFar, fresh}
 use Rattle.afterburner.specs.Burnt.{next_made, item_made}
 use Rattle.afterburner.specs.Reasons.{IsReason}
 
 -- The items before it are made without a refusal, and behind them the item of this line is refused for this cause.
-pub record IsFirstRefused (names : List (List ℕ)) (start : State) (items : List SourceItem) (line : ℕ) (cause : BurnCause) : Type 0 where
+pub record IsFirstRefused (names : List (List ℕ)) (start : ObjectSoFar) (items : List SourceItem) (line : ℕ) (cause : BurnCause) : Type 0 where
   pub before : List SourceItem
   pub item : SourceItem
   pub after : List SourceItem
-  pub so_far : State
+  pub so_far : ObjectSoFar
   pub place : items ≡ before ++ item ∷ after
   pub earlier : fold (next_made names) (Ok start) before ≡ Ok so_far
   pub refused : item_made names so_far item.body ≡ Err cause

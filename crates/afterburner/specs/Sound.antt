@@ -7,7 +7,7 @@ use Rattle.sites.specs.declared.limits.TheConstants.{TEXT_LIMIT, SITE_LIMIT}
 use Rattle.sites.specs.Spelling.{spelling, AreInGaps, IsInForm}
 use Rattle.sites.specs.Limits.{in_text}
 use Rattle.asm_source.specs.Names.{holds}
-use Rattle.afterburner.specs.State.{State}
+use Rattle.afterburner.specs.ObjectSoFar.{ObjectSoFar}
 
 -- The field of a relocation lies in its section, and its name is one of so many.
 pub record IsRelocIn (in_text : Bool) (size count : ℕ) (r : Reloc) : Type 0 where
@@ -23,7 +23,7 @@ AreApart from (s ∷ sites) to = (from ≤ s.at) × (1 ≤ s.len) × (s.len ≤ 
 
 -- Each name has a definition, relocations and sites lie in their sections, and there are no more relocations than
 -- bytes. Behind an STI of its own the text ends with its site.
-pub record IsSound (count : ℕ) (st : State) : Type 0 where
+pub record IsSound (count : ℕ) (st : ObjectSoFar) : Type 0 where
   pub definitions : length st.definitions ≡ count
   pub text_relocs : All (IsRelocIn true (length st.text) count) st.text_relocs
   pub data_relocs : All (IsRelocIn false (length st.init) count) st.data_relocs
@@ -34,7 +34,7 @@ pub record IsSound (count : ℕ) (st : State) : Type 0 where
   pub sti_text : st.after_sti ≡ true → 4 ≤ length st.text
 
 -- The limits hold.
-pub record IsWithin (st : State) : Type 0 where
+pub record IsWithin (st : ObjectSoFar) : Type 0 where
   pub text : length st.text ≤ TEXT_LIMIT
   pub init : length st.init + st.bss ≤ 33554432
   pub sites : length st.sites ≤ SITE_LIMIT

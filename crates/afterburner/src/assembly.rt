@@ -1,12 +1,12 @@
 //! What the items so far make.
 
 ghost use Rattle.std.specs.Prelude.{◌≡◌, ◌<◌, ◌+◌, ◌^◌, length, replicate, OnOk, IfOk};
-ghost use Rattle.afterburner.specs.State.{fresh, undefined};
+ghost use Rattle.afterburner.specs.ObjectSoFar.{fresh, undefined};
 
 use crate::names::Names;
 use crate::section::Section;
 use crate::symbol::{Binding, Definition};
-use elf_form::{Place, Reloc};
+use elf_form::{DefinedIn, Reloc};
 use sites::Site;
 use std::alloc::{AllocError, Global};
 use std::marker::Model;
@@ -28,9 +28,9 @@ pub struct Assembly {
 }
 
 impl Model for Assembly {
-    ghost use Rattle.afterburner.specs.State.{State};
+    ghost use Rattle.afterburner.specs.ObjectSoFar.{ObjectSoFar};
 
-    ghost Value = { State };
+    ghost Value = { ObjectSoFar };
 
     ghost view = { λ s. record { section = s.section; after_sti = s.after_sti; text = s.text.items; init = s.init.items; bss = s.bss; sites = s.sites.items; text_relocs = s.text_relocs.items; data_relocs = s.data_relocs.items; definitions = s.definitions.items } };
 }
@@ -39,7 +39,7 @@ fn undefined() -> Definition
     ensures { result ≡ undefined }
 {
     Definition {
-        place: Place::Undefined,
+        place: DefinedIn::Undefined,
         value: 0,
         binding: Binding::Unsaid,
     }

@@ -11,7 +11,7 @@ ghost use Rattle.afterburner.specs.Sound.{IsSound, IsWithin, IsAnnotated, IsSmal
 
 use crate::assembly::Assembly;
 use crate::directive::directive_of;
-use crate::fault::{BurnFault, Stop};
+use crate::fault::{BurnFault, ItemFault};
 use crate::limits::limited;
 use crate::names::{Names, names_of};
 use crate::object::object;
@@ -28,7 +28,7 @@ impl Assembly {
 
     /// What an item makes.
     #[tactic(auto, unfolding(crate::specs::Burnt::made), using(crate::proofs::Items::labelled_sound, crate::proofs::Items::directed_sound))]
-    fn make(&mut self, names: &Names, body: &Body) -> Result<(), Stop>
+    fn make(&mut self, names: &Names, body: &Body) -> Result<(), ItemFault>
         requires few { length names.now ≤ 65536 }
         requires size { body_count body.now ≤ LIMIT }
         requires held { AreHeld names.now (body_names body.now) }
@@ -57,7 +57,7 @@ impl Assembly {
 
     /// What an item makes, within the limits.
     #[tactic(auto, unfolding(crate::specs::Burnt::item_made))]
-    fn make_item(&mut self, names: &Names, body: &Body) -> Result<(), Stop>
+    fn make_item(&mut self, names: &Names, body: &Body) -> Result<(), ItemFault>
         requires few { length names.now ≤ 65536 }
         requires size { body_count body.now ≤ LIMIT }
         requires held { AreHeld names.now (body_names body.now) }
@@ -93,12 +93,12 @@ fn make_all(alloc: Global, names: &Names, items: &[SourceItem]) -> Result<Assemb
     Ok(made)
 }
 
-fn fault(line: u32, stop: Stop) -> BurnFault
+fn fault(line: u32, stop: ItemFault) -> BurnFault
     ensures { FaultOf line stop result }
 {
     match stop {
-        Stop::Cause(cause) => BurnFault::At { line, cause },
-        Stop::Memory => BurnFault::Memory,
+        ItemFault::Cause(cause) => BurnFault::At { line, cause },
+        ItemFault::Memory => BurnFault::Memory,
     }
 }
 

@@ -10,7 +10,7 @@ ghost use Rattle.afterburner.specs.Arguments as arguments;
 
 use crate::argument::{number, symbol, text};
 use crate::assembly::Assembly;
-use crate::fault::{BurnCause, Stop};
+use crate::fault::{BurnCause, ItemFault};
 use crate::limits::INIT_LIMIT;
 use crate::names::Names;
 use crate::section::{Section, is_init, put};
@@ -59,14 +59,14 @@ fn put_strings(out: &mut Vec<u8>, ended: bool, arguments: &[Argument]) -> Result
 impl Assembly {
     /// Numbers of one or of two bytes.
     #[tactic(auto, unfolding(crate::specs::Directives::numbers))]
-    pub fn numbers(&mut self, width: Width, arguments: &[Argument]) -> Result<(), Stop>
+    pub fn numbers(&mut self, width: Width, arguments: &[Argument]) -> Result<(), ItemFault>
         ensures { Makes self.new result (spec.numbers self.old width arguments.now) }
     {
         if !all_fit(width, arguments) {
-            return Err(Stop::Cause(BurnCause::ValueRange));
+            return Err(ItemFault::Cause(BurnCause::ValueRange));
         }
         if !is_init(self.section) {
-            return Err(Stop::Cause(BurnCause::DataInText));
+            return Err(ItemFault::Cause(BurnCause::DataInText));
         }
         put_values(&mut self.init, width, arguments)?;
         Ok(())
@@ -104,16 +104,16 @@ impl Assembly {
 
     /// Values of four bytes.
     #[tactic(auto, unfolding(crate::specs::Directives::longs))]
-    pub fn longs(&mut self, names: &Names, arguments: &[Argument]) -> Result<(), Stop>
+    pub fn longs(&mut self, names: &Names, arguments: &[Argument]) -> Result<(), ItemFault>
         requires few { length names.now ≤ 65536 }
         requires room { length self.old.init + 4 * length arguments.now < 2 ^ 32 }
         ensures { Makes self.new result (spec.longs names.now self.old arguments.now) }
     {
         if !all_fit(Width::Long, arguments) {
-            return Err(Stop::Cause(BurnCause::ValueRange));
+            return Err(ItemFault::Cause(BurnCause::ValueRange));
         }
         if !is_init(self.section) {
-            return Err(Stop::Cause(BurnCause::DataInText));
+            return Err(ItemFault::Cause(BurnCause::DataInText));
         }
         self.put_longs(names, arguments)?;
         Ok(())
@@ -121,27 +121,27 @@ impl Assembly {
 
     /// Strings, each with a zero byte at its end where `ended` is set.
     #[tactic(auto, unfolding(crate::specs::Directives::strings))]
-    pub fn strings(&mut self, ended: bool, arguments: &[Argument]) -> Result<(), Stop>
+    pub fn strings(&mut self, ended: bool, arguments: &[Argument]) -> Result<(), ItemFault>
         ensures { Makes self.new result (spec.strings self.old ended arguments.now) }
     {
         if !is_init(self.section) {
-            return Err(Stop::Cause(BurnCause::DataInText));
+            return Err(ItemFault::Cause(BurnCause::DataInText));
         }
         put_strings(&mut self.init, ended, arguments)?;
         Ok(())
     }
 
     /// Zero bytes.
-    pub fn zeros(&mut self, count: u64) -> Result<(), Stop>
+    pub fn zeros(&mut self, count: u64) -> Result<(), ItemFault>
         requires size { count < 2 ^ 63 }
         requires room { length self.old.init + self.old.bss < 2 ^ 62 }
         ensures { Makes self.new result (spec.zeros self.old count) }
     {
         match self.section {
-            Section::Text => return Err(Stop::Cause(BurnCause::DataInText)),
+            Section::Text => return Err(ItemFault::Cause(BurnCause::DataInText)),
             Section::Init => {
                 if self.init.len() + self.bss + count as usize > INIT_LIMIT {
-                    return Err(Stop::Cause(BurnCause::InitTooLarge));
+                    return Err(ItemFault::Cause(BurnCause::InitTooLarge));
                 }
                 put(&mut self.init, count as usize, 0)?;
             }

@@ -6,7 +6,7 @@ ghost use Rattle.afterburner.specs.Directives as spec;
 
 use crate::argument::{alignment, count_at, limit_at, power, symbol_at, text_at};
 use crate::assembly::Assembly;
-use crate::fault::Stop;
+use crate::fault::ItemFault;
 use crate::names::Names;
 use crate::section::{Section, section_named};
 use crate::symbol::Binding;
@@ -55,7 +55,7 @@ impl Assembly {
         names: &Names,
         directive: DirectiveName,
         arguments: &[Argument],
-    ) -> Result<(), Stop>
+    ) -> Result<(), ItemFault>
         requires few { length names.now ≤ 65536 }
         requires data { length self.old.init + 4 * length arguments.now < 2 ^ 32 }
         requires bss { self.old.bss + 4096 < 2 ^ 32 }

@@ -1,7 +1,7 @@
 //! Why a source is not burnt.
 
 ghost use Rattle.std.specs.Prelude.{◌≡◌};
-ghost use Rattle.afterburner.specs.declared.fault.Stop.TheVariants.{Memory};
+ghost use Rattle.afterburner.specs.declared.fault.ItemFault.TheVariants.{Memory};
 ghost use Rattle.afterburner.specs.Causes.{cause_number};
 
 use std::alloc::{AllocError, AllocFailed};
@@ -57,23 +57,23 @@ pub enum BurnFault {
 
 /// Why the work at an item stops.
 #[derive(Debug, Drop)]
-pub enum Stop {
+pub enum ItemFault {
     Cause(BurnCause),
     Memory,
 }
 
-impl From<AllocError> for Stop {
+impl From<AllocError> for ItemFault {
     ghost from_gives = { λ _ e. e ≡ Memory };
 
-    fn from(_e: AllocError) -> Stop {
-        Stop::Memory
+    fn from(_e: AllocError) -> ItemFault {
+        ItemFault::Memory
     }
 }
 
-impl<T: Drop> From<AllocFailed<T>> for Stop {
+impl<T: Drop> From<AllocFailed<T>> for ItemFault {
     ghost from_gives = { λ _ e. e ≡ Memory };
 
-    fn from(_e: AllocFailed<T>) -> Stop {
-        Stop::Memory
+    fn from(_e: AllocFailed<T>) -> ItemFault {
+        ItemFault::Memory
     }
 }

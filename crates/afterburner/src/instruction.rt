@@ -11,7 +11,7 @@ ghost use Rattle.afterburner.specs.Instructions as spec;
 
 use crate::argument::symbol_at;
 use crate::assembly::Assembly;
-use crate::fault::{BurnCause, Stop};
+use crate::fault::{BurnCause, ItemFault};
 use crate::names::Names;
 use crate::section::{is_text, put};
 use asm_instruction::{Assembled, Named, Refusal, assemble};
@@ -198,7 +198,7 @@ impl Assembly {
         rep: bool,
         name: &[u8],
         arguments: &[Argument],
-    ) -> Result<(), Stop>
+    ) -> Result<(), ItemFault>
         requires few { length names.now ≤ 65536 }
         requires room { length self.old.text ≤ TEXT_LIMIT }
         requires held { AreHeld names.now (argument_names arguments.now) }
@@ -207,10 +207,10 @@ impl Assembly {
         ensures sound { OnOk result (IsSound (length names.now) self.new) }
     {
         match assemble(rep, name, arguments) {
-            Err(refusal) => Err(Stop::Cause(cause_of(refusal))),
+            Err(refusal) => Err(ItemFault::Cause(cause_of(refusal))),
             Ok(assembled) => {
                 if !is_text(self.section) {
-                    return Err(Stop::Cause(BurnCause::DataInText));
+                    return Err(ItemFault::Cause(BurnCause::DataInText));
                 }
                 self.place(names, arguments, &assembled)?;
                 Ok(())

@@ -5,7 +5,7 @@ ghost use Rattle.afterburner.specs.Burnt.{Makes, limited};
 ghost use Rattle.afterburner.specs.Sound.{IsWithin};
 
 use crate::assembly::Assembly;
-use crate::fault::{BurnCause, Stop};
+use crate::fault::{BurnCause, ItemFault};
 use sites::{SITE_LIMIT, TEXT_LIMIT};
 
 /// Bytes of data and zeroed bytes together.
@@ -13,19 +13,19 @@ pub const INIT_LIMIT: usize = 33554432;
 
 /// Tests the limits behind an item.
 #[tactic(auto, unfolding(crate::specs::Burnt::limited))]
-pub fn limited(made: &Assembly) -> Result<(), Stop>
+pub fn limited(made: &Assembly) -> Result<(), ItemFault>
     ensures makes { Makes made.now result (limited made.now) }
     ensures within { OnOk result (IsWithin made.now) }
 {
     if made.text.len() > TEXT_LIMIT {
-        return Err(Stop::Cause(BurnCause::TextTooLarge));
+        return Err(ItemFault::Cause(BurnCause::TextTooLarge));
     }
     let init = made.init.len();
     if init > INIT_LIMIT || made.bss > INIT_LIMIT - init {
-        return Err(Stop::Cause(BurnCause::InitTooLarge));
+        return Err(ItemFault::Cause(BurnCause::InitTooLarge));
     }
     if made.sites.len() > SITE_LIMIT {
-        return Err(Stop::Cause(BurnCause::TooManySites));
+        return Err(ItemFault::Cause(BurnCause::TooManySites));
     }
     Ok(())
 }

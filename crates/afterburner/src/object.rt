@@ -9,7 +9,7 @@ ghost use Rattle.elf_form.specs.declared.object.Reloc.{Reloc};
 use crate::assembly::Assembly;
 use crate::names::Names;
 use crate::symbol::{Binding, Definition};
-use elf_form::{Bytes, Object, Place, Reloc, Symbol};
+use elf_form::{Bytes, Object, DefinedIn, Reloc, Symbol};
 use sites::{of_text, write_sites};
 use std::alloc::{AllocError, Global};
 
@@ -27,7 +27,7 @@ fn is_global(definition: Definition) -> bool
     ensures { result ≡ spec.is_global definition }
 {
     match definition.place {
-        Place::Undefined => true,
+        DefinedIn::Undefined => true,
         _ => is_wide(definition.binding),
     }
 }
@@ -36,7 +36,7 @@ fn value(definition: Definition) -> u32
     ensures { result ≡ spec.value_at definition.place definition.value }
 {
     match definition.place {
-        Place::Undefined => 0,
+        DefinedIn::Undefined => 0,
         _ => definition.value,
     }
 }

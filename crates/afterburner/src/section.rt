@@ -5,7 +5,7 @@ ghost use Rattle.afterburner.specs.Sections as spec;
 
 use crate::assembly::Assembly;
 use asm_source::begins;
-use elf_form::Place;
+use elf_form::DefinedIn;
 use std::alloc::AllocError;
 
 /// The section that a piece of a source stands in: text, data or zeroed bytes.
@@ -34,13 +34,13 @@ pub fn is_init(section: Section) -> bool
     }
 }
 
-pub fn place_of(section: Section) -> Place
+pub fn place_of(section: Section) -> DefinedIn
     ensures { result ≡ spec.place_of section }
 {
     match section {
-        Section::Text => Place::Text,
-        Section::Init => Place::Init,
-        Section::Bss => Place::Bss,
+        Section::Text => DefinedIn::Text,
+        Section::Init => DefinedIn::Init,
+        Section::Bss => DefinedIn::Bss,
     }
 }
 

@@ -4,12 +4,12 @@ use Rattle.std.proofs.lemmas.List.{append-nil}
 use Rattle.std.specs.Prelude.{ℤ, pos}
 use Rattle.asm_lex.specs.declared.fault.SourceCause.{SourceCause}
 use Rattle.asm_lex.specs.declared.fault.SourceCause.TheVariants as cause
-use Rattle.asm_argument.specs.declared.symbol.Symbol.{Symbol}
-use Rattle.asm_argument.specs.declared.symbol.Symbol.TheVariants as symbol
+use Rattle.asm_argument.specs.declared.symbol.Terminal.{Terminal}
+use Rattle.asm_argument.specs.declared.symbol.Terminal.TheVariants as symbol
 use Rattle.asm_argument.specs.declared.operand.Shape.{Shape}
 use Rattle.asm_argument.specs.declared.operand.Shape.TheVariants as shape
-use Rattle.asm_argument.specs.declared.operand.Place.{Place}
-use Rattle.asm_argument.specs.declared.operand.Place.TheVariants as place
+use Rattle.asm_argument.specs.declared.operand.ValuePlace.{ValuePlace}
+use Rattle.asm_argument.specs.declared.operand.ValuePlace.TheVariants as place
 use Rattle.asm_argument.specs.declared.operand.Partial.{Partial}
 use Rattle.asm_argument.specs.declared.operand.Partial.TheVariants as partial
 use Rattle.asm_source.specs.declared.tree.Value.{Value}
@@ -21,16 +21,16 @@ use Rattle.asm_argument.specs.Operand.{takes_names, takes_sums, takes_minus, tak
 abbrev pub ok : Partial → Result Partial SourceCause
 ok p = Ok p
 
-pub not_big : (sh : Shape) (p : Partial) (s : Symbol) → (s ≡ symbol.Big → ⊥) → operand_step sh p s ≡ next_symbol sh p s
+pub not_big : (sh : Shape) (p : Partial) (s : Terminal) → (s ≡ symbol.Big → ⊥) → operand_step sh p s ≡ next_symbol sh p s
 not_big sh p symbol.Big h = absurd (h refl)
 not_big sh p _ h = refl
 
 -- what is left to the parentheses
-pub next_default : (sh : Shape) (p : Partial) (s : Symbol)
+pub next_default : (sh : Shape) (p : Partial) (s : Terminal)
     → (p ≡ partial.Nothing → ⊥) → (p ≡ partial.Absent → ⊥) → (p ≡ partial.Percent → ⊥) → (p ≡ partial.Dollar → ⊥)
-    → ((a : Place) → p ≡ partial.Minus a → ⊥) → ((a : Place) (n : List ℕ) → p ≡ partial.Name a n → ⊥)
-    → ((a : Place) (n : List ℕ) (b : Bool) → p ≡ partial.Sign a n b → ⊥) → ((a : Place) (n : List ℕ) (b : Bool) → p ≡ partial.SignMinus a n b → ⊥)
-    → ((a : Place) (v : Value) → p ≡ partial.Number a v → ⊥)
+    → ((a : ValuePlace) → p ≡ partial.Minus a → ⊥) → ((a : ValuePlace) (n : List ℕ) → p ≡ partial.Name a n → ⊥)
+    → ((a : ValuePlace) (n : List ℕ) (b : Bool) → p ≡ partial.Sign a n b → ⊥) → ((a : ValuePlace) (n : List ℕ) (b : Bool) → p ≡ partial.SignMinus a n b → ⊥)
+    → ((a : ValuePlace) (v : Value) → p ≡ partial.Number a v → ⊥)
     → next_symbol sh p s ≡ address_step p s
 next_default sh partial.Nothing s h1 h0 h2 h3 h4 h5 h6 h7 h8 = absurd (h1 refl)
 next_default sh partial.Absent s h1 h0 h2 h3 h4 h5 h6 h7 h8 = absurd (h0 refl)
@@ -44,11 +44,11 @@ next_default sh (partial.Number a v) s h1 h0 h2 h3 h4 h5 h6 h7 h8 = absurd (h8 a
 next_default sh _ s h1 h0 h2 h3 h4 h5 h6 h7 h8 = refl
 
 -- symbol by symbol
-abbrev pub operand_run : Shape → Partial → List Symbol → Result Partial SourceCause
+abbrev pub operand_run : Shape → Partial → List Terminal → Result Partial SourceCause
 operand_run sh p [] = Ok p
 operand_run sh p (s ∷ ss) = elim (next_symbol sh p s) [ Ok q ↦ operand_run sh q ss | Err c ↦ Err c ]
 
-pub run_append : (sh : Shape) (p q : Partial) (ss ts : List Symbol) → operand_run sh p ss ≡ Ok q → operand_run sh p (ss ++ ts) ≡ operand_run sh q ts
+pub run_append : (sh : Shape) (p q : Partial) (ss ts : List Terminal) → operand_run sh p ss ≡ Ok q → operand_run sh p (ss ++ ts) ≡ operand_run sh q ts
 run_append sh p q [] ts h = let e : p ≡ q = cc in rw e refl
 run_append sh p q (s ∷ ss) ts h = by_step (next_symbol sh p s) h (λ n e. run_append sh n q ss ts e)
   where
@@ -58,7 +58,7 @@ run_append sh p q (s ∷ ss) ts h = by_step (next_symbol sh p s) h (λ n e. run_
     by_step (Err c) h ih = absurd cc
 
 -- a whole argument
-pub record Reads (sh : Shape) (ss : List Symbol) (f : Form) : Type 0 where
+pub record Reads (sh : Shape) (ss : List Terminal) (f : Form) : Type 0 where
   pub last : Partial
   pub runs : operand_run sh (begun sh) ss ≡ Ok last
   pub ends : finished last ≡ Some f
@@ -75,7 +75,7 @@ operand_takes shape.Power h = absurd cc
 operand_takes shape.Fill h = absurd cc
 
 -- what has been read from nothing and may end is read where an argument begins
-from_nothing : (sh : Shape) (ss : List Symbol) (q : Partial) (f : Form) → operand_run sh partial.Nothing ss ≡ Ok q → finished q ≡ Some f → operand_run sh (begun sh) ss ≡ Ok q
+from_nothing : (sh : Shape) (ss : List Terminal) (q : Partial) (f : Form) → operand_run sh partial.Nothing ss ≡ Ok q → finished q ≡ Some f → operand_run sh (begun sh) ss ≡ Ok q
 from_nothing shape.Fill [] q f h e = let g : partial.Nothing ≡ q = cc in let k : finished partial.Nothing ≡ Some f = ap finished g ∙ e in absurd cc
 from_nothing shape.Fill (s ∷ ss) q f h e = h
 from_nothing _ ss q f h e = h
@@ -98,20 +98,20 @@ operand_fits shape.Power negative n h = absurd cc
 operand_fits _ negative n h = refl
 
 -- where a value stands, and how its place is reached
-abbrev start_of_value : Place → Partial
+abbrev start_of_value : ValuePlace → Partial
 start_of_value place.Immediate = partial.Dollar
 start_of_value place.Memory = partial.Nothing
 
 -- what a whole value leaves
-abbrev IsDone : Place → Value → Partial → Type 0
+abbrev IsDone : ValuePlace → Value → Partial → Type 0
 IsDone p v q = (q ≡ partial.Number p v) ⊎ ((n : List ℕ) × (q ≡ partial.Name p n) × (v ≡ named n (pos 0)))
 
-constant_runs : (sh : Shape) (p : Place) (n : List ℕ) (neg : Bool) (ss : List Symbol) (z : ℤ) → IsConstant neg ss z → operand_run sh (partial.Sign p n neg) ss ≡ Ok (partial.Number p (named n z))
+constant_runs : (sh : Shape) (p : ValuePlace) (n : List ℕ) (neg : Bool) (ss : List Terminal) (z : ℤ) → IsConstant neg ss z → operand_run sh (partial.Sign p n neg) ss ≡ Ok (partial.Number p (named n z))
 constant_runs sh p n neg ss z IsConstant.bare = refl
 constant_runs sh p n true ss z (IsConstant.minus low) = rw (low, operand_run) refl
 constant_runs sh p n false ss z (IsConstant.minus low) = rw (low, operand_run) refl
 
-value_runs : (sh : Shape) (p : Place) (ss : List Symbol) (v : Value) → IsValue sh ss v → (q : Partial) × (operand_run sh (start_of_value p) ss ≡ Ok q) × IsDone p v q
+value_runs : (sh : Shape) (p : ValuePlace) (ss : List Terminal) (v : Value) → IsValue sh ss v → (q : Partial) × (operand_run sh (start_of_value p) ss ≡ Ok q) × IsDone p v q
 value_runs sh place.Memory ss v (IsValue.number {n} t u) = (partial.Number place.Memory (plain (pos n)), rw (t, u, operand_run) refl, inl refl)
 value_runs sh place.Memory ss v (IsValue.negative {n} t low u) = (partial.Number place.Memory (plain (signed true n)), rw (t, low, u, operand_run) refl, inl refl)
 value_runs sh place.Memory ss v (IsValue.name {n} t) = (partial.Name place.Memory n, rw (t, operand_run) refl, inr (n, refl, refl))
@@ -124,21 +124,21 @@ value_runs sh place.Immediate ss v (IsValue.sum {n} {ss = rest} {z} t u c) = (pa
 value_runs sh place.Immediate ss v (IsValue.difference {n} {ss = rest} {z} t u c) = (partial.Number place.Immediate (named n z), rw (u, operand_run) (constant_runs sh place.Immediate n true rest z c), inl refl)
 
 -- the parentheses behind a value or nothing
-address_runs : (sh : Shape) (v : Option Value) (ss : List Symbol) (b i : Option (List ℕ)) (s : ℕ) → IsAddress (symbol.Open ∷ ss) b i s → operand_run sh (partial.Open v) ss ≡ Ok (partial.Whole (of_memory v b i s))
+address_runs : (sh : Shape) (v : Option Value) (ss : List Terminal) (b i : Option (List ℕ)) (s : ℕ) → IsAddress (symbol.Open ∷ ss) b i s → operand_run sh (partial.Open v) ss ≡ Ok (partial.Whole (of_memory v b i s))
 address_runs sh v ss b i s (IsAddress.base r) = rw (r, operand_run) refl
 address_runs sh v ss b i s (IsAddress.index r) = rw (r, operand_run) refl
 address_runs sh v ss b i s (IsAddress.scaled r t) = rw (r, t, operand_run) refl
 address_runs sh v ss b i s (IsAddress.base_index r t) = rw (r, t, operand_run) refl
 address_runs sh v ss b i s (IsAddress.base_scaled r t u) = rw (r, t, u, operand_run) refl
 
-address_opens : (ss : List Symbol) {b i : Option (List ℕ)} {s : ℕ} → IsAddress ss b i s → (ts : List Symbol) × (ss ≡ symbol.Open ∷ ts)
+address_opens : (ss : List Terminal) {b i : Option (List ℕ)} {s : ℕ} → IsAddress ss b i s → (ts : List Terminal) × (ss ≡ symbol.Open ∷ ts)
 address_opens ss (IsAddress.base r) = (_, refl)
 address_opens ss (IsAddress.index r) = (_, refl)
 address_opens ss (IsAddress.scaled r t) = (_, refl)
 address_opens ss (IsAddress.base_index r t) = (_, refl)
 address_opens ss (IsAddress.base_scaled r t u) = (_, refl)
 
-finished_value : (p : Place) (v : Value) (q : Partial) → IsDone p v q → finished q ≡ finished (partial.Number p v)
+finished_value : (p : ValuePlace) (v : Value) (q : Partial) → IsDone p v q → finished q ≡ finished (partial.Number p v)
 finished_value p v q (inl e) = rw e refl
 finished_value place.Memory v q (inr (n, e, f)) = rw (e, f) refl
 finished_value place.Immediate v q (inr (n, e, f)) = rw (e, f) refl
@@ -147,7 +147,7 @@ opens_value : (sh : Shape) (v : Value) (q : Partial) → is_operand sh ≡ true 
 opens_value sh v q t (inl e) = rw (e, t) refl
 opens_value sh v q t (inr (n, e, f)) = rw (e, f, t) refl
 
-pub form_reads : (sh : Shape) (ss : List Symbol) (f : Form) → IsForm sh ss f → Reads sh ss f
+pub form_reads : (sh : Shape) (ss : List Terminal) (f : Form) → IsForm sh ss f → Reads sh ss f
 form_reads sh ss f (IsForm.absent h) = record { last = partial.Absent; runs = ap (λ (p : Partial). ok p) (absent_begun sh h); ends = refl }
 form_reads sh ss f (IsForm.text {t} h) = record { last = partial.Whole (form.Text t); runs = from_nothing sh ss (partial.Whole (form.Text t)) f (rw (h, operand_run) refl) refl; ends = refl }
 form_reads sh ss f (IsForm.register {r} h g) = record { last = partial.Whole (form.Register r); runs = from_nothing sh ss (partial.Whole (form.Register r)) f (rw (h, g, operand_run) refl) refl; ends = refl }
@@ -159,12 +159,12 @@ form_reads sh ss f (IsForm.value {v} val) =
     record { last = r.0; runs = from_nothing sh ss r.0 f r.1 (finished_value place.Memory v r.0 r.2); ends = finished_value place.Memory v r.0 r.2 }
 form_reads sh ss f (IsForm.address {b} {i} {s} h a) = from_open ss (address_opens ss a) a
   where
-    from_open : (ss : List Symbol) → (ts : List Symbol) × (ss ≡ symbol.Open ∷ ts) → IsAddress ss b i s → Reads sh ss (of_memory None b i s)
-    from_open ss (ts, e) a = record { last = partial.Whole (of_memory None b i s); runs = from_nothing sh ss (partial.Whole (of_memory None b i s)) (of_memory None b i s) (rw (e, h, operand_run) (address_runs sh None ts b i s (subst (λ (x : List Symbol). IsAddress x b i s) e a))) refl; ends = refl }
+    from_open : (ss : List Terminal) → (ts : List Terminal) × (ss ≡ symbol.Open ∷ ts) → IsAddress ss b i s → Reads sh ss (of_memory None b i s)
+    from_open ss (ts, e) a = record { last = partial.Whole (of_memory None b i s); runs = from_nothing sh ss (partial.Whole (of_memory None b i s)) (of_memory None b i s) (rw (e, h, operand_run) (address_runs sh None ts b i s (subst (λ (x : List Terminal). IsAddress x b i s) e a))) refl; ends = refl }
 form_reads sh ss f (IsForm.value_address {v} {b} {i} {s} vs ps h e val a) =
     let r = value_runs sh place.Memory vs v val in
     let o = address_opens ps a in
-    let tail : operand_run sh r.0 ps ≡ Ok (partial.Whole (of_memory (Some v) b i s)) = ap (operand_run sh r.0) o.1 ∙ (rw (opens_value sh v r.0 h r.2, operand_run) (address_runs sh (Some v) o.0 b i s (subst (λ (x : List Symbol). IsAddress x b i s) o.1 a))) in
+    let tail : operand_run sh r.0 ps ≡ Ok (partial.Whole (of_memory (Some v) b i s)) = ap (operand_run sh r.0) o.1 ∙ (rw (opens_value sh v r.0 h r.2, operand_run) (address_runs sh (Some v) o.0 b i s (subst (λ (x : List Terminal). IsAddress x b i s) o.1 a))) in
     record { last = partial.Whole (of_memory (Some v) b i s); runs = from_nothing sh ss (partial.Whole (of_memory (Some v) b i s)) f (rw e (run_append sh partial.Nothing r.0 vs ps r.1 ∙ tail)) refl; ends = refl }
 
 -- ---- what has been read so far
@@ -199,9 +199,9 @@ scale_ok n p q h = by_test (is_scale n) refl h
 pub ok_is : (p q : Partial) → ok p ≡ ok q → p ≡ q
 ok_is p q h = cc
 
-pub data OptValue : Shape → List Symbol → Option Value → Type 0 where
+pub data OptValue : Shape → List Terminal → Option Value → Type 0 where
   none : {sh : Shape} → OptValue sh [] None
-  some : {sh : Shape} {vs : List Symbol} {v : Value} → IsValue sh vs v → OptValue sh vs (Some v)
+  some : {sh : Shape} {vs : List Terminal} {v : Value} → IsValue sh vs v → OptValue sh vs (Some v)
 
 -- the value in front of the parentheses
 abbrev value_of : Partial → Option Value
@@ -216,7 +216,7 @@ value_of (partial.Scaled v b i s) = v
 value_of _ = None
 
 -- the symbols of a base with its comma
-abbrev pub base_part : Option (List ℕ) → List Symbol
+abbrev pub base_part : Option (List ℕ) → List Terminal
 base_part None = symbol.Open ∷ symbol.Comma ∷ []
 base_part (Some b) = symbol.Open ∷ symbol.Percent ∷ symbol.Name b ∷ symbol.Comma ∷ []
 
@@ -225,7 +225,7 @@ IsBase None = Unit {0}
 IsBase (Some b) = is_register b ≡ true
 
 -- what has been read since the parenthesis opened
-abbrev pub Inside : Option Value → Partial → List Symbol → Type 0
+abbrev pub Inside : Option Value → Partial → List Terminal → Type 0
 Inside ov (partial.Open v) ps = (v ≡ ov) × (ps ≡ symbol.Open ∷ [])
 Inside ov (partial.BasePercent v) ps = (v ≡ ov) × (ps ≡ symbol.Open ∷ symbol.Percent ∷ [])
 Inside ov (partial.Base v b) ps = (v ≡ ov) × (ps ≡ symbol.Open ∷ symbol.Percent ∷ symbol.Name b ∷ []) × (is_register b ≡ true)
@@ -238,10 +238,10 @@ Inside ov (partial.Whole f) ps = (b : Option (List ℕ)) × (i : Option (List �
 Inside ov _ ps = ⊥
 
 -- one symbol more at the end
-ending : (ps qs : List Symbol) (s : Symbol) → ps ≡ qs → ps ++ s ∷ [] ≡ qs ++ s ∷ []
-ending ps qs s e = ap (λ (x : List Symbol). x ++ s ∷ []) e
+ending : (ps qs : List Terminal) (s : Terminal) → ps ≡ qs → ps ++ s ∷ [] ≡ qs ++ s ∷ []
+ending ps qs s e = ap (λ (x : List Terminal). x ++ s ∷ []) e
 
-inside_step : (ov : Option Value) (p : Partial) (s : Symbol) (q : Partial) (ps : List Symbol) → Inside ov p ps → address_step p s ≡ ok q → Inside ov q (ps ++ s ∷ [])
+inside_step : (ov : Option Value) (p : Partial) (s : Terminal) (q : Partial) (ps : List Terminal) → Inside ov p ps → address_step p s ≡ ok q → Inside ov q (ps ++ s ∷ [])
 inside_step ov (partial.Open v) symbol.Percent q ps h e = subst (λ (x : Partial). Inside ov x (ps ++ symbol.Percent ∷ [])) (ok_is (partial.BasePercent v) q e) (h.0, ending _ _ _ h.1)
 inside_step ov (partial.Open v) symbol.Comma q ps h e = subst (λ (x : Partial). Inside ov x (ps ++ symbol.Comma ∷ [])) (ok_is (partial.IndexComma v None) q e) (h.0, ending _ _ _ h.1, tt)
 inside_step ov (partial.Open v) _ q ps h e = absurd cc
@@ -251,7 +251,7 @@ inside_step ov (partial.BasePercent v) (symbol.Name r) q ps h e =
 inside_step ov (partial.BasePercent v) _ q ps h e = absurd cc
 inside_step ov (partial.Base v b) symbol.Close q ps h e =
     subst (λ (x : Partial). Inside ov x (ps ++ symbol.Close ∷ [])) (ok_is (partial.Whole (of_memory v (Some b) None 1)) q e)
-    (Some b, None, 1, ap (λ (y : Option Value). of_memory y (Some b) None 1) h.0, subst (λ (y : List Symbol). IsAddress y (Some b) None 1) (sym (ending _ _ symbol.Close h.1)) (IsAddress.base h.2))
+    (Some b, None, 1, ap (λ (y : Option Value). of_memory y (Some b) None 1) h.0, subst (λ (y : List Terminal). IsAddress y (Some b) None 1) (sym (ending _ _ symbol.Close h.1)) (IsAddress.base h.2))
 inside_step ov (partial.Base v b) symbol.Comma q ps h e = subst (λ (x : Partial). Inside ov x (ps ++ symbol.Comma ∷ [])) (ok_is (partial.IndexComma v (Some b)) q e) (h.0, ending _ _ _ h.1, h.2)
 inside_step ov (partial.Base v b) _ q ps h e = absurd cc
 inside_step ov (partial.IndexComma v b) symbol.Percent q ps h e = subst (λ (x : Partial). Inside ov x (ps ++ symbol.Percent ∷ [])) (ok_is (partial.IndexPercent v b) q e) (h.0, ending _ _ _ h.1, h.2)
@@ -262,10 +262,10 @@ inside_step ov (partial.IndexPercent v b) (symbol.Name r) q ps h e =
 inside_step ov (partial.IndexPercent v b) _ q ps h e = absurd cc
 inside_step ov (partial.Index v None i) symbol.Close q ps h e =
     subst (λ (x : Partial). Inside ov x (ps ++ symbol.Close ∷ [])) (ok_is (partial.Whole (of_memory v None (Some i) 1)) q e)
-    (None, Some i, 1, ap (λ (y : Option Value). of_memory y None (Some i) 1) h.0, subst (λ (y : List Symbol). IsAddress y None (Some i) 1) (sym (ending _ _ symbol.Close h.1)) (IsAddress.index h.3))
+    (None, Some i, 1, ap (λ (y : Option Value). of_memory y None (Some i) 1) h.0, subst (λ (y : List Terminal). IsAddress y None (Some i) 1) (sym (ending _ _ symbol.Close h.1)) (IsAddress.index h.3))
 inside_step ov (partial.Index v (Some b) i) symbol.Close q ps h e =
     subst (λ (x : Partial). Inside ov x (ps ++ symbol.Close ∷ [])) (ok_is (partial.Whole (of_memory v (Some b) (Some i) 1)) q e)
-    (Some b, Some i, 1, ap (λ (y : Option Value). of_memory y (Some b) (Some i) 1) h.0, subst (λ (y : List Symbol). IsAddress y (Some b) (Some i) 1) (sym (ending _ _ symbol.Close h.1)) (IsAddress.base_index h.2 h.3))
+    (Some b, Some i, 1, ap (λ (y : Option Value). of_memory y (Some b) (Some i) 1) h.0, subst (λ (y : List Terminal). IsAddress y (Some b) (Some i) 1) (sym (ending _ _ symbol.Close h.1)) (IsAddress.base_index h.2 h.3))
 inside_step ov (partial.Index v b i) symbol.Comma q ps h e = subst (λ (x : Partial). Inside ov x (ps ++ symbol.Comma ∷ [])) (ok_is (partial.Scale v b i) q e) (h.0, ending _ _ _ h.1 ∙ append_assoc (base_part b) (symbol.Percent ∷ symbol.Name i ∷ []) (symbol.Comma ∷ []), h.2, h.3)
 inside_step ov (partial.Index v b i) _ q ps h e = absurd cc
 inside_step ov (partial.Scale v b i) (symbol.Number n) q ps h e =
@@ -274,10 +274,10 @@ inside_step ov (partial.Scale v b i) (symbol.Number n) q ps h e =
 inside_step ov (partial.Scale v b i) _ q ps h e = absurd cc
 inside_step ov (partial.Scaled v None i n) symbol.Close q ps h e =
     subst (λ (x : Partial). Inside ov x (ps ++ symbol.Close ∷ [])) (ok_is (partial.Whole (of_memory v None (Some i) n)) q e)
-    (None, Some i, n, ap (λ (y : Option Value). of_memory y None (Some i) n) h.0, subst (λ (y : List Symbol). IsAddress y None (Some i) n) (sym (ending _ _ symbol.Close h.1)) (IsAddress.scaled h.3 h.4))
+    (None, Some i, n, ap (λ (y : Option Value). of_memory y None (Some i) n) h.0, subst (λ (y : List Terminal). IsAddress y None (Some i) n) (sym (ending _ _ symbol.Close h.1)) (IsAddress.scaled h.3 h.4))
 inside_step ov (partial.Scaled v (Some b) i n) symbol.Close q ps h e =
     subst (λ (x : Partial). Inside ov x (ps ++ symbol.Close ∷ [])) (ok_is (partial.Whole (of_memory v (Some b) (Some i) n)) q e)
-    (Some b, Some i, n, ap (λ (y : Option Value). of_memory y (Some b) (Some i) n) h.0, subst (λ (y : List Symbol). IsAddress y (Some b) (Some i) n) (sym (ending _ _ symbol.Close h.1)) (IsAddress.base_scaled h.2 h.3 h.4))
+    (Some b, Some i, n, ap (λ (y : Option Value). of_memory y (Some b) (Some i) n) h.0, subst (λ (y : List Terminal). IsAddress y (Some b) (Some i) n) (sym (ending _ _ symbol.Close h.1)) (IsAddress.base_scaled h.2 h.3 h.4))
 inside_step ov (partial.Scaled v b i n) _ q ps h e = absurd cc
 inside_step ov (partial.Whole f) _ q ps h e = absurd cc
 inside_step ov partial.Absent _ q ps h e = absurd h
@@ -290,29 +290,29 @@ inside_step ov (partial.Sign a n b) _ q ps h e = absurd h
 inside_step ov (partial.SignMinus a n b) _ q ps h e = absurd h
 inside_step ov (partial.Number a v) _ q ps h e = absurd h
 
-abbrev pub lead : Place → List Symbol
+abbrev pub lead : ValuePlace → List Terminal
 lead place.Immediate = symbol.Dollar ∷ []
 lead place.Memory = []
 
-abbrev pub InPlace : Shape → Place → Type 0
+abbrev pub InPlace : Shape → ValuePlace → Type 0
 InPlace sh place.Immediate = is_operand sh ≡ true
 InPlace sh place.Memory = Unit {0}
 
-abbrev pub sign : Bool → Symbol
+abbrev pub sign : Bool → Terminal
 sign true = symbol.Minus
 sign false = symbol.Plus
 
-pub record WithAddress (sh : Shape) (p : Partial) (ss : List Symbol) : Type 0 where
+pub record WithAddress (sh : Shape) (p : Partial) (ss : List Terminal) : Type 0 where
   pub operand : is_operand sh ≡ true
   pub front : Option Value
-  pub values : List Symbol
-  pub parts : List Symbol
+  pub values : List Terminal
+  pub parts : List Terminal
   pub is_value : OptValue sh values front
   pub inside : Inside front p parts
   pub whole : ss ≡ values ++ parts
 
 -- these symbols lead to this state
-abbrev pub Spelled : Shape → Partial → List Symbol → Type 0
+abbrev pub Spelled : Shape → Partial → List Terminal → Type 0
 Spelled sh partial.Nothing ss = ss ≡ []
 Spelled sh partial.Absent ss = (ss ≡ []) × (takes_absent sh ≡ true)
 Spelled sh partial.Percent ss = (is_operand sh ≡ true) × (ss ≡ symbol.Percent ∷ [])
@@ -321,7 +321,7 @@ Spelled sh (partial.Minus p) ss = InPlace sh p × (takes_minus sh ≡ true) × (
 Spelled sh (partial.Name p n) ss = InPlace sh p × (takes_names sh ≡ true) × (ss ≡ lead p ++ symbol.Name n ∷ [])
 Spelled sh (partial.Sign p n neg) ss = InPlace sh p × (takes_names sh ≡ true) × (ss ≡ lead p ++ symbol.Name n ∷ sign neg ∷ []) × (takes_sums sh ≡ true)
 Spelled sh (partial.SignMinus p n neg) ss = InPlace sh p × (takes_names sh ≡ true) × (ss ≡ lead p ++ symbol.Name n ∷ sign neg ∷ symbol.Minus ∷ []) × (takes_sums sh ≡ true)
-Spelled sh (partial.Number p v) ss = InPlace sh p × (vs : List Symbol) × IsValue sh vs v × (ss ≡ lead p ++ vs)
+Spelled sh (partial.Number p v) ss = InPlace sh p × (vs : List Terminal) × IsValue sh vs v × (ss ≡ lead p ++ vs)
 Spelled sh (partial.Whole f) ss = IsForm sh ss f
 Spelled sh (partial.Open v) ss = WithAddress sh (partial.Open v) ss
 Spelled sh (partial.BasePercent v) ss = WithAddress sh (partial.BasePercent v) ss
@@ -333,10 +333,10 @@ Spelled sh (partial.Scale v b i) ss = WithAddress sh (partial.Scale v b i) ss
 Spelled sh (partial.Scaled v b i s) ss = WithAddress sh (partial.Scaled v b i s) ss
 
 -- what has been read inside or behind the parentheses
-from_inside : (sh : Shape) (q : Partial) (ss : List Symbol) → WithAddress sh q ss → Spelled sh q ss
+from_inside : (sh : Shape) (q : Partial) (ss : List Terminal) → WithAddress sh q ss → Spelled sh q ss
 from_inside sh (partial.Whole f) ss w = from_value w.values w.parts w.front w.is_value w.whole w.inside
   where
-    from_value : (vs ps : List Symbol) (ov : Option Value) → OptValue sh vs ov → ss ≡ vs ++ ps → Inside ov (partial.Whole f) ps → IsForm sh ss f
+    from_value : (vs ps : List Terminal) (ov : Option Value) → OptValue sh vs ov → ss ≡ vs ++ ps → Inside ov (partial.Whole f) ps → IsForm sh ss f
     from_value vs ps ov OptValue.none e (b, i, s, g, a) = rw (g, e) (IsForm.address w.operand a)
     from_value vs ps ov (OptValue.some v) e (b, i, s, g, a) = rw g (IsForm.value_address vs ps w.operand e v a)
 from_inside sh (partial.Open v) ss w = w
@@ -357,7 +357,7 @@ from_inside sh (partial.Sign a n b) ss w = absurd w.inside
 from_inside sh (partial.SignMinus a n b) ss w = absurd w.inside
 from_inside sh (partial.Number a v) ss w = absurd w.inside
 
-address_more : (sh : Shape) (p : Partial) (s : Symbol) (q : Partial) (ss : List Symbol) → WithAddress sh p ss → address_step p s ≡ ok q → Spelled sh q (ss ++ s ∷ [])
+address_more : (sh : Shape) (p : Partial) (s : Terminal) (q : Partial) (ss : List Terminal) → WithAddress sh p ss → address_step p s ≡ ok q → Spelled sh q (ss ++ s ∷ [])
 address_more sh p s q ss w e = from_inside sh q (ss ++ s ∷ []) (record {
   operand = w.operand;
   front = w.front;
@@ -369,13 +369,13 @@ address_more sh p s q ss w e = from_inside sh q (ss ++ s ∷ []) (record {
 })
 
 -- a parenthesis behind a value
-opens : (sh : Shape) (p : Place) (v : Value) (vs ss : List Symbol) (q : Partial) → IsValue sh vs v → ss ≡ lead p ++ vs → open_paren sh p v ≡ ok q → Spelled sh q (ss ++ symbol.Open ∷ [])
+opens : (sh : Shape) (p : ValuePlace) (v : Value) (vs ss : List Terminal) (q : Partial) → IsValue sh vs v → ss ≡ lead p ++ vs → open_paren sh p v ≡ ok q → Spelled sh q (ss ++ symbol.Open ∷ [])
 opens sh place.Memory v vs ss q val e h =
     let g = allowed_ok (is_operand sh) (partial.Open (Some v)) q h in
     subst (λ (x : Partial). Spelled sh x (ss ++ symbol.Open ∷ [])) g.1 (record { operand = g.0; front = Some v; values = vs; parts = symbol.Open ∷ []; is_value = OptValue.some val; inside = (refl, refl); whole = ending _ _ symbol.Open e })
 opens sh place.Immediate v vs ss q val e h = absurd cc
 
-first_symbol : (sh : Shape) (s : Symbol) (q : Partial) → first sh s ≡ ok q → Spelled sh q (s ∷ [])
+first_symbol : (sh : Shape) (s : Terminal) (q : Partial) → first sh s ≡ ok q → Spelled sh q (s ∷ [])
 first_symbol sh symbol.Percent q h = let g = allowed_ok (is_operand sh) partial.Percent q h in subst (λ (x : Partial). Spelled sh x (symbol.Percent ∷ [])) g.1 (g.0, refl)
 first_symbol sh symbol.Dollar q h = let g = allowed_ok (is_operand sh) partial.Dollar q h in subst (λ (x : Partial). Spelled sh x (symbol.Dollar ∷ [])) g.1 (g.0, refl)
 first_symbol sh symbol.Open q h =
@@ -389,8 +389,8 @@ first_symbol sh (symbol.Name n) q h = let g = allowed_ok (takes_names sh) (parti
 first_symbol sh (symbol.Text t) q h = let g = allowed_ok (takes_text sh) (partial.Whole (form.Text t)) q h in subst (λ (x : Partial). Spelled sh x (symbol.Text t ∷ [])) g.1 (IsForm.text g.0)
 first_symbol sh _ q h = absurd cc
 
-offset_value : (sh : Shape) (p : Place) (n : List ℕ) (neg : Bool) (cs ss : List Symbol) (z : ℤ) → takes_names sh ≡ true → takes_sums sh ≡ true → IsConstant neg cs z → ss ≡ lead p ++ symbol.Name n ∷ sign neg ∷ cs
-    → (vs : List Symbol) × IsValue sh vs (named n z) × (ss ≡ lead p ++ vs)
+offset_value : (sh : Shape) (p : ValuePlace) (n : List ℕ) (neg : Bool) (cs ss : List Terminal) (z : ℤ) → takes_names sh ≡ true → takes_sums sh ≡ true → IsConstant neg cs z → ss ≡ lead p ++ symbol.Name n ∷ sign neg ∷ cs
+    → (vs : List Terminal) × IsValue sh vs (named n z) × (ss ≡ lead p ++ vs)
 offset_value sh p n true cs ss z a b c e = (symbol.Name n ∷ symbol.Minus ∷ cs, IsValue.difference a b c, e)
 offset_value sh p n false cs ss z a b c e = (symbol.Name n ∷ symbol.Plus ∷ cs, IsValue.sum a b c, e)
 
@@ -398,7 +398,7 @@ minus_constant : (neg : Bool) (k : ℕ) → is_low k ≡ true → IsConstant neg
 minus_constant true k low = IsConstant.minus low
 minus_constant false k low = IsConstant.minus low
 
-pub more : (sh : Shape) (p : Partial) (s : Symbol) (q : Partial) (ss : List Symbol) → Spelled sh p ss → next_symbol sh p s ≡ ok q → Spelled sh q (ss ++ s ∷ [])
+pub more : (sh : Shape) (p : Partial) (s : Terminal) (q : Partial) (ss : List Terminal) → Spelled sh p ss → next_symbol sh p s ≡ ok q → Spelled sh q (ss ++ s ∷ [])
 more sh partial.Nothing s q ss h e = rw h (first_symbol sh s q e)
 more sh partial.Absent s q ss h e = rw h.0 (first_symbol sh s q e)
 more sh partial.Percent (symbol.Name r) q ss h e =
@@ -446,7 +446,7 @@ more sh (partial.Scale v b i) s q ss h e = address_more sh (partial.Scale v b i)
 more sh (partial.Scaled v b i n) s q ss h e = address_more sh (partial.Scaled v b i n) s q ss h e
 
 -- what may end is a form
-pub spelled_form : (sh : Shape) (p : Partial) (f : Form) (ss : List Symbol) → Spelled sh p ss → finished p ≡ Some f → IsForm sh ss f
+pub spelled_form : (sh : Shape) (p : Partial) (f : Form) (ss : List Terminal) → Spelled sh p ss → finished p ≡ Some f → IsForm sh ss f
 spelled_form sh (partial.Name place.Immediate n) f ss h e = let g : form.Immediate (named n (pos 0)) ≡ f = cc in subst (IsForm sh ss) g (rw h.2 (IsForm.immediate h.0 (IsValue.name h.1)))
 spelled_form sh (partial.Name place.Memory n) f ss h e = let g : of_memory (Some (named n (pos 0))) None None 1 ≡ f = cc in subst (IsForm sh ss) g (rw h.2 (IsForm.value (IsValue.name h.1)))
 spelled_form sh (partial.Number place.Immediate v) f ss h e = let g : form.Immediate v ≡ f = cc in subst (IsForm sh ss) g (rw h.3 (IsForm.immediate h.0 h.2))
@@ -455,7 +455,7 @@ spelled_form sh (partial.Whole x) f ss h e = let g : x ≡ f = cc in subst (IsFo
 spelled_form sh partial.Absent f ss h e = let g : form.Absent ≡ f = cc in subst (IsForm sh ss) g (rw h.0 (IsForm.absent h.1))
 spelled_form sh _ f ss h e = absurd cc
 
-pub run_spelled : (sh : Shape) (ss rs : List Symbol) (p q : Partial) → Spelled sh p rs → operand_run sh p ss ≡ ok q → Spelled sh q (rs ++ ss)
+pub run_spelled : (sh : Shape) (ss rs : List Terminal) (p q : Partial) → Spelled sh p rs → operand_run sh p ss ≡ ok q → Spelled sh q (rs ++ ss)
 run_spelled sh [] rs p q h e = let g : p ≡ q = cc in subst (λ (x : Partial). Spelled sh x (rs ++ [])) g (rw (append-nil rs) h)
 run_spelled sh (s ∷ ss) rs p q h e = by_step (next_symbol sh p s) refl e (λ n g k. run_spelled sh ss (rs ++ s ∷ []) n q g k)
   where
@@ -470,5 +470,5 @@ begun_spelled shape.Fill = (refl, refl)
 begun_spelled _ = refl
 
 -- What is read is an argument of the shape.
-pub reads_form : (sh : Shape) (ss : List Symbol) (f : Form) → Reads sh ss f → IsForm sh ss f
+pub reads_form : (sh : Shape) (ss : List Terminal) (f : Form) → Reads sh ss f → IsForm sh ss f
 reads_form sh ss f r = spelled_form sh r.last f ss (run_spelled sh ss [] (begun sh) r.last (begun_spelled sh) r.runs) r.ends

@@ -3,12 +3,12 @@ use Rattle.std.specs.Str.{bytes_eq}
 use Rattle.std.specs.Prelude.{codes, nat_le, ◌==◌, ◌||◌, ℕ, ℤ, pos, ◌-ℤ◌, Bool, true, false, List, Option, Some, None, Result, Ok, Err, if◌then◌else◌}
 use Rattle.asm_lex.specs.declared.fault.SourceCause.{SourceCause}
 use Rattle.asm_lex.specs.declared.fault.SourceCause.TheVariants as cause
-use Rattle.asm_argument.specs.declared.symbol.Symbol.{Symbol}
-use Rattle.asm_argument.specs.declared.symbol.Symbol.TheVariants as symbol
+use Rattle.asm_argument.specs.declared.symbol.Terminal.{Terminal}
+use Rattle.asm_argument.specs.declared.symbol.Terminal.TheVariants as symbol
 use Rattle.asm_argument.specs.declared.operand.Shape.{Shape}
 use Rattle.asm_argument.specs.declared.operand.Shape.TheVariants as shape
-use Rattle.asm_argument.specs.declared.operand.Place.{Place}
-use Rattle.asm_argument.specs.declared.operand.Place.TheVariants as place
+use Rattle.asm_argument.specs.declared.operand.ValuePlace.{ValuePlace}
+use Rattle.asm_argument.specs.declared.operand.ValuePlace.TheVariants as place
 use Rattle.asm_argument.specs.declared.operand.Partial.{Partial}
 use Rattle.asm_argument.specs.declared.operand.Partial.TheVariants as partial
 use Rattle.asm_source.specs.declared.tree.Value.{Value}
@@ -105,7 +105,7 @@ counted true true p = Ok p
 counted true false p = Err cause.BadArgument
 
 -- the first symbol of an argument
-abbrev pub first : Shape → Symbol → Result Partial SourceCause
+abbrev pub first : Shape → Terminal → Result Partial SourceCause
 first sh symbol.Percent = allowed (is_operand sh) partial.Percent
 first sh symbol.Dollar = allowed (is_operand sh) partial.Dollar
 first sh symbol.Open = allowed (is_operand sh) (partial.Open None)
@@ -163,12 +163,12 @@ is_register name =
 abbrev pub is_scale : ℕ → Bool
 is_scale n = (n == 1) || (n == 2) || (n == 4) || (n == 8)
 
-abbrev pub open_paren : Shape → Place → Value → Result Partial SourceCause
+abbrev pub open_paren : Shape → ValuePlace → Value → Result Partial SourceCause
 open_paren sh place.Memory v = allowed (is_operand sh) (partial.Open (Some v))
 open_paren sh place.Immediate v = Err cause.BadOperand
 
 -- within parentheses
-abbrev pub address_step : Partial → Symbol → Result Partial SourceCause
+abbrev pub address_step : Partial → Terminal → Result Partial SourceCause
 address_step (partial.Open v) symbol.Percent = Ok (partial.BasePercent v)
 address_step (partial.Open v) symbol.Comma = Ok (partial.IndexComma v None)
 address_step (partial.BasePercent v) (symbol.Name r) = registered (is_register r) (partial.Base v r)
@@ -184,7 +184,7 @@ address_step (partial.Scale v b i) (symbol.Number n) = if is_scale n then Ok (pa
 address_step (partial.Scaled v b i s) symbol.Close = Ok (partial.Whole (of_memory v b (Some i) s))
 address_step _ _ = Err cause.BadOperand
 
-abbrev pub next_symbol : Shape → Partial → Symbol → Result Partial SourceCause
+abbrev pub next_symbol : Shape → Partial → Terminal → Result Partial SourceCause
 next_symbol sh partial.Nothing s = first sh s
 next_symbol sh partial.Absent s = first sh s
 next_symbol sh partial.Percent (symbol.Name r) = registered (is_register r) (partial.Whole (form.Register r))
@@ -208,7 +208,7 @@ next_symbol sh (partial.Number p v) symbol.Open = open_paren sh p v
 next_symbol sh (partial.Number p v) _ = Err cause.BadOperand
 next_symbol sh rest s = address_step rest s
 
-abbrev pub operand_step : Shape → Partial → Symbol → Result Partial SourceCause
+abbrev pub operand_step : Shape → Partial → Terminal → Result Partial SourceCause
 operand_step sh p symbol.Big = Err cause.BadNumber
 operand_step sh p s = next_symbol sh p s
 

@@ -2,8 +2,8 @@
 use Rattle.std.specs.Prelude.{ℕ, ◌+◌, ◌-◌, ◌*◌, ◌^◌, ◌==◌, nat_lt, nat_le, List, [], ◌∷◌, if◌then◌else◌}
 use Rattle.asm_lex.specs.declared.token.TokenKind.{TokenKind}
 use Rattle.asm_lex.specs.declared.token.TokenKind.TheVariants as kind
-use Rattle.asm_argument.specs.declared.symbol.Symbol.{Symbol}
-use Rattle.asm_argument.specs.declared.symbol.Symbol.TheVariants as symbol
+use Rattle.asm_argument.specs.declared.symbol.Terminal.{Terminal}
+use Rattle.asm_argument.specs.declared.symbol.Terminal.TheVariants as symbol
 use Rattle.asm_argument.specs.Escapes.{string_text, opening}
 
 abbrev pub digit_of : ℕ → ℕ
@@ -25,7 +25,7 @@ abbrev pub number_value : List ℕ → ℕ
 number_value [] = 0
 number_value (b ∷ bs) = tail_value b bs
 
-abbrev pub mark_symbol : ℕ → Symbol
+abbrev pub mark_symbol : ℕ → Terminal
 mark_symbol m =
     if m == 36 then symbol.Dollar
     else if m == 37 then symbol.Percent
@@ -38,11 +38,11 @@ mark_symbol m =
     else if m == 58 then symbol.Colon
     else symbol.At
 
-abbrev pub number_symbol : ℕ → Symbol
+abbrev pub number_symbol : ℕ → Terminal
 number_symbol n = if nat_lt n (2 ^ 32) then symbol.Number n else symbol.Big
 
 -- a token as the grammar sees it
-abbrev pub symbol_of : TokenKind → List ℕ → Symbol
+abbrev pub symbol_of : TokenKind → List ℕ → Terminal
 symbol_of kind.Name bytes = symbol.Name bytes
 symbol_of kind.Number bytes = number_symbol (number_value bytes)
 symbol_of kind.Text bytes = symbol.Text (string_text opening bytes)

@@ -6,7 +6,7 @@ ghost use Rattle.asm_argument.specs.Operand as spec;
 
 use crate::operand::{Partial, discard, of_memory, registered};
 use crate::register::is_register;
-use crate::symbol::Symbol;
+use crate::symbol::Terminal;
 use asm_lex::SourceCause;
 use asm_source::{Name, Value};
 
@@ -17,22 +17,22 @@ fn is_scale(n: u32) -> bool
 }
 
 /// A symbol behind an opening parenthesis.
-fn open_step(value: Option<Value>, symbol: Symbol) -> Result<Partial, SourceCause>
+fn open_step(value: Option<Value>, symbol: Terminal) -> Result<Partial, SourceCause>
     ensures { result ≡ spec.address_step (partial.Open value) symbol }
 {
     match symbol {
-        Symbol::Percent => Ok(Partial::BasePercent(value)),
-        Symbol::Comma => Ok(Partial::IndexComma(value, None)),
+        Terminal::Percent => Ok(Partial::BasePercent(value)),
+        Terminal::Comma => Ok(Partial::IndexComma(value, None)),
         _ => Err(SourceCause::BadOperand),
     }
 }
 
 /// A symbol behind the `%` of a base.
-fn base_percent_step(value: Option<Value>, symbol: Symbol) -> Result<Partial, SourceCause>
+fn base_percent_step(value: Option<Value>, symbol: Terminal) -> Result<Partial, SourceCause>
     ensures { result ≡ spec.address_step (partial.BasePercent value) symbol }
 {
     match symbol {
-        Symbol::Name(name) => {
+        Terminal::Name(name) => {
             let is = is_register(&name);
             registered(is, Partial::Base(value, name))
         }
@@ -41,12 +41,12 @@ fn base_percent_step(value: Option<Value>, symbol: Symbol) -> Result<Partial, So
 }
 
 /// A symbol behind a base.
-fn base_step(value: Option<Value>, base: Name, symbol: Symbol) -> Result<Partial, SourceCause>
+fn base_step(value: Option<Value>, base: Name, symbol: Terminal) -> Result<Partial, SourceCause>
     ensures { result ≡ spec.address_step (partial.Base value base) symbol }
 {
     match symbol {
-        Symbol::Close => Ok(Partial::Whole(of_memory(value, Some(base), None, 1))),
-        Symbol::Comma => Ok(Partial::IndexComma(value, Some(base))),
+        Terminal::Close => Ok(Partial::Whole(of_memory(value, Some(base), None, 1))),
+        Terminal::Comma => Ok(Partial::IndexComma(value, Some(base))),
         _ => Err(SourceCause::BadOperand),
     }
 }
@@ -55,12 +55,12 @@ fn base_step(value: Option<Value>, base: Name, symbol: Symbol) -> Result<Partial
 fn index_comma_step(
     value: Option<Value>,
     base: Option<Name>,
-    symbol: Symbol,
+    symbol: Terminal,
 ) -> Result<Partial, SourceCause>
     ensures { result ≡ spec.address_step (partial.IndexComma value base) symbol }
 {
     match symbol {
-        Symbol::Percent => Ok(Partial::IndexPercent(value, base)),
+        Terminal::Percent => Ok(Partial::IndexPercent(value, base)),
         _ => Err(SourceCause::BadOperand),
     }
 }
@@ -69,12 +69,12 @@ fn index_comma_step(
 fn index_percent_step(
     value: Option<Value>,
     base: Option<Name>,
-    symbol: Symbol,
+    symbol: Terminal,
 ) -> Result<Partial, SourceCause>
     ensures { result ≡ spec.address_step (partial.IndexPercent value base) symbol }
 {
     match symbol {
-        Symbol::Name(name) => {
+        Terminal::Name(name) => {
             let is = is_register(&name);
             registered(is, Partial::Index(value, base, name))
         }
@@ -87,13 +87,13 @@ fn index_step(
     value: Option<Value>,
     base: Option<Name>,
     index: Name,
-    symbol: Symbol,
+    symbol: Terminal,
 ) -> Result<Partial, SourceCause>
     ensures { result ≡ spec.address_step (partial.Index value base index) symbol }
 {
     match symbol {
-        Symbol::Close => Ok(Partial::Whole(of_memory(value, base, Some(index), 1))),
-        Symbol::Comma => Ok(Partial::Scale(value, base, index)),
+        Terminal::Close => Ok(Partial::Whole(of_memory(value, base, Some(index), 1))),
+        Terminal::Comma => Ok(Partial::Scale(value, base, index)),
         _ => Err(SourceCause::BadOperand),
     }
 }
@@ -103,12 +103,12 @@ fn scale_step(
     value: Option<Value>,
     base: Option<Name>,
     index: Name,
-    symbol: Symbol,
+    symbol: Terminal,
 ) -> Result<Partial, SourceCause>
     ensures { result ≡ spec.address_step (partial.Scale value base index) symbol }
 {
     match symbol {
-        Symbol::Number(n) => {
+        Terminal::Number(n) => {
             if is_scale(n) {
                 Ok(Partial::Scaled(value, base, index, n as u8))
             } else {
@@ -125,18 +125,18 @@ fn scaled_step(
     base: Option<Name>,
     index: Name,
     scale: u8,
-    symbol: Symbol,
+    symbol: Terminal,
 ) -> Result<Partial, SourceCause>
     ensures { result ≡ spec.address_step (partial.Scaled value base index scale) symbol }
 {
     match symbol {
-        Symbol::Close => Ok(Partial::Whole(of_memory(value, base, Some(index), scale))),
+        Terminal::Close => Ok(Partial::Whole(of_memory(value, base, Some(index), scale))),
         _ => Err(SourceCause::BadOperand),
     }
 }
 
 /// The next symbol within parentheses.
-pub fn address_step(so_far: Partial, symbol: Symbol) -> Result<Partial, SourceCause>
+pub fn address_step(so_far: Partial, symbol: Terminal) -> Result<Partial, SourceCause>
     ensures { result ≡ spec.address_step so_far symbol }
 {
     match so_far {

@@ -10,8 +10,8 @@ mod symbol;
 
 pub use escapes::{Escape, Unescaped};
 pub use operand::{
-    Partial, Place, Shape, awaits_register, begun, finished, is_finished, is_nothing, is_unbegun,
+    Partial, ValuePlace, Shape, awaits_register, begun, finished, is_finished, is_nothing, is_unbegun,
     name_in, operand_step,
 };
 pub use register::is_register;
-pub use symbol::{Symbol, symbol_of};
+pub use symbol::{Terminal, symbol_of};

@@ -6,7 +6,7 @@ ghost use Rattle.asm_argument.specs.Operand as spec;
 
 use crate::address::address_step;
 use crate::register::is_register;
-use crate::symbol::Symbol;
+use crate::symbol::Terminal;
 use asm_lex::SourceCause;
 use asm_source::{Form, Name, Value};
 
@@ -32,7 +32,7 @@ pub enum Shape {
 
 /// Where a value stands.
 #[derive(Clone, Copy, Debug, PartialEq, Eq)]
-pub enum Place {
+pub enum ValuePlace {
     Immediate,
     Memory,
 }
@@ -45,12 +45,12 @@ pub enum Partial {
     Absent,
     Percent,
     Dollar,
-    Minus(Place),
-    Name(Place, Name),
+    Minus(ValuePlace),
+    Name(ValuePlace, Name),
     /// Behind a sign: true for a minus.
-    Sign(Place, Name, bool),
-    SignMinus(Place, Name, bool),
-    Number(Place, Value),
+    Sign(ValuePlace, Name, bool),
+    SignMinus(ValuePlace, Name, bool),
+    Number(ValuePlace, Value),
     Open(Option<Value>),
     BasePercent(Option<Value>),
     Base(Option<Value>, Name),
@@ -236,21 +236,21 @@ fn counted(may: bool, fits: bool, then: Partial) -> Result<Partial, SourceCause>
 }
 
 /// The first symbol of an argument.
-fn first(shape: Shape, symbol: Symbol) -> Result<Partial, SourceCause>
+fn first(shape: Shape, symbol: Terminal) -> Result<Partial, SourceCause>
     ensures { result ≡ spec.first shape symbol }
 {
     match symbol {
-        Symbol::Percent => allowed(shape.is_operand(), Partial::Percent),
-        Symbol::Dollar => allowed(shape.is_operand(), Partial::Dollar),
-        Symbol::Open => allowed(shape.is_operand(), Partial::Open(None)),
-        Symbol::Minus => allowed(shape.takes_minus(), Partial::Minus(Place::Memory)),
-        Symbol::Number(n) => counted(
+        Terminal::Percent => allowed(shape.is_operand(), Partial::Percent),
+        Terminal::Dollar => allowed(shape.is_operand(), Partial::Dollar),
+        Terminal::Open => allowed(shape.is_operand(), Partial::Open(None)),
+        Terminal::Minus => allowed(shape.takes_minus(), Partial::Minus(ValuePlace::Memory)),
+        Terminal::Number(n) => counted(
             shape.takes_numbers(),
             shape.fits(false, n),
-            Partial::Number(Place::Memory, plain(i64::from(n))),
+            Partial::Number(ValuePlace::Memory, plain(i64::from(n))),
         ),
-        Symbol::Name(name) => allowed(shape.takes_names(), Partial::Name(Place::Memory, name)),
-        Symbol::Text(bytes) => allowed(shape.takes_text(), Partial::Whole(Form::Text(bytes))),
+        Terminal::Name(name) => allowed(shape.takes_names(), Partial::Name(ValuePlace::Memory, name)),
+        Terminal::Text(bytes) => allowed(shape.takes_text(), Partial::Whole(Form::Text(bytes))),
         _ => Err(SourceCause::BadOperand),
     }
 }
@@ -287,29 +287,29 @@ pub fn registered(is: bool, then: Partial) -> Result<Partial, SourceCause>
 }
 
 /// The next symbol of an argument.
-pub fn operand_step(shape: Shape, so_far: Partial, symbol: Symbol) -> Result<Partial, SourceCause>
+pub fn operand_step(shape: Shape, so_far: Partial, symbol: Terminal) -> Result<Partial, SourceCause>
     ensures { result ≡ spec.operand_step shape so_far symbol }
 {
-    if let Symbol::Big = symbol {
+    if let Terminal::Big = symbol {
         return Err(SourceCause::BadNumber);
     }
     match so_far {
         Partial::Nothing | Partial::Absent => first(shape, symbol),
         Partial::Percent => match symbol {
-            Symbol::Name(name) => {
+            Terminal::Name(name) => {
                 let is = is_register(&name);
                 registered(is, Partial::Whole(Form::Register(name)))
             }
             _ => Err(SourceCause::BadRegister),
         },
         Partial::Dollar => match symbol {
-            Symbol::Minus => Ok(Partial::Minus(Place::Immediate)),
-            Symbol::Number(n) => Ok(Partial::Number(Place::Immediate, plain(i64::from(n)))),
-            Symbol::Name(name) => Ok(Partial::Name(Place::Immediate, name)),
+            Terminal::Minus => Ok(Partial::Minus(ValuePlace::Immediate)),
+            Terminal::Number(n) => Ok(Partial::Number(ValuePlace::Immediate, plain(i64::from(n)))),
+            Terminal::Name(name) => Ok(Partial::Name(ValuePlace::Immediate, name)),
             _ => Err(SourceCause::BadOperand),
         },
         Partial::Minus(place) => match symbol {
-            Symbol::Number(n) => lowered(
+            Terminal::Number(n) => lowered(
                 n,
                 shape.fits(true, n),
                 Partial::Number(place, plain(signed(true, n))),
@@ -317,18 +317,18 @@ pub fn operand_step(shape: Shape, so_far: Partial, symbol: Symbol) -> Result<Par
             _ => Err(SourceCause::BadOperand),
         },
         Partial::Name(place, name) => match symbol {
-            Symbol::Plus => allowed(shape.takes_sums(), Partial::Sign(place, name, false)),
-            Symbol::Minus => allowed(shape.takes_sums(), Partial::Sign(place, name, true)),
-            Symbol::Open => open(shape, place, named(name, 0)),
+            Terminal::Plus => allowed(shape.takes_sums(), Partial::Sign(place, name, false)),
+            Terminal::Minus => allowed(shape.takes_sums(), Partial::Sign(place, name, true)),
+            Terminal::Open => open(shape, place, named(name, 0)),
             _ => Err(SourceCause::BadOperand),
         },
         Partial::Sign(place, name, negative) => match symbol {
-            Symbol::Minus => Ok(Partial::SignMinus(place, name, negative)),
-            Symbol::Number(n) => Ok(Partial::Number(place, named(name, signed(negative, n)))),
+            Terminal::Minus => Ok(Partial::SignMinus(place, name, negative)),
+            Terminal::Number(n) => Ok(Partial::Number(place, named(name, signed(negative, n)))),
             _ => Err(SourceCause::BadOperand),
         },
         Partial::SignMinus(place, name, negative) => match symbol {
-            Symbol::Number(n) => lowered(
+            Terminal::Number(n) => lowered(
                 n,
                 true,
                 Partial::Number(place, named(name, turned(negative, n))),
@@ -336,19 +336,19 @@ pub fn operand_step(shape: Shape, so_far: Partial, symbol: Symbol) -> Result<Par
             _ => Err(SourceCause::BadOperand),
         },
         Partial::Number(place, value) => match symbol {
-            Symbol::Open => open(shape, place, value),
+            Terminal::Open => open(shape, place, value),
             _ => Err(SourceCause::BadOperand),
         },
         rest => address_step(rest, symbol),
     }
 }
 
-fn open(shape: Shape, place: Place, value: Value) -> Result<Partial, SourceCause>
+fn open(shape: Shape, place: ValuePlace, value: Value) -> Result<Partial, SourceCause>
     ensures { result ≡ spec.open_paren shape place value }
 {
     match place {
-        Place::Memory => allowed(shape.is_operand(), Partial::Open(Some(value))),
-        Place::Immediate => Err(SourceCause::BadOperand),
+        ValuePlace::Memory => allowed(shape.is_operand(), Partial::Open(Some(value))),
+        ValuePlace::Immediate => Err(SourceCause::BadOperand),
     }
 }
 
@@ -357,10 +357,10 @@ pub fn finished(so_far: Partial) -> Option<Form>
     ensures { result ≡ spec.finished so_far }
 {
     match so_far {
-        Partial::Name(Place::Immediate, name) => Some(Form::Immediate(named(name, 0))),
-        Partial::Name(Place::Memory, name) => Some(of_memory(Some(named(name, 0)), None, None, 1)),
-        Partial::Number(Place::Immediate, value) => Some(Form::Immediate(value)),
-        Partial::Number(Place::Memory, value) => Some(of_memory(Some(value), None, None, 1)),
+        Partial::Name(ValuePlace::Immediate, name) => Some(Form::Immediate(named(name, 0))),
+        Partial::Name(ValuePlace::Memory, name) => Some(of_memory(Some(named(name, 0)), None, None, 1)),
+        Partial::Number(ValuePlace::Immediate, value) => Some(Form::Immediate(value)),
+        Partial::Number(ValuePlace::Memory, value) => Some(of_memory(Some(value), None, None, 1)),
         Partial::Whole(form) => Some(form),
         Partial::Absent => Some(Form::Absent),
         other => {

@@ -10,7 +10,7 @@ use asm_source::Name;
 use std::alloc::{AllocError, Global};
 
 #[derive(Debug, Drop)]
-pub enum Symbol {
+pub enum Terminal {
     Percent,
     Dollar,
     Star,
@@ -29,54 +29,54 @@ pub enum Symbol {
     End,
 }
 
-fn mark_symbol(m: u8) -> Symbol
+fn mark_symbol(m: u8) -> Terminal
     ensures { result ≡ spec.mark_symbol m }
 {
     if m == b'$' {
-        Symbol::Dollar
+        Terminal::Dollar
     } else if m == b'%' {
-        Symbol::Percent
+        Terminal::Percent
     } else if m == b'(' {
-        Symbol::Open
+        Terminal::Open
     } else if m == b')' {
-        Symbol::Close
+        Terminal::Close
     } else if m == b'*' {
-        Symbol::Star
+        Terminal::Star
     } else if m == b'+' {
-        Symbol::Plus
+        Terminal::Plus
     } else if m == b',' {
-        Symbol::Comma
+        Terminal::Comma
     } else if m == b'-' {
-        Symbol::Minus
+        Terminal::Minus
     } else if m == b':' {
-        Symbol::Colon
+        Terminal::Colon
     } else {
-        Symbol::At
+        Terminal::At
     }
 }
 
-fn number_symbol(bytes: &[u8]) -> Symbol
+fn number_symbol(bytes: &[u8]) -> Terminal
     ensures { result ≡ spec.number_symbol (spec.number_value bytes.now) }
 {
     match number_value(bytes) {
-        Some(n) => Symbol::Number(n),
-        None => Symbol::Big,
+        Some(n) => Terminal::Number(n),
+        None => Terminal::Big,
     }
 }
 
 /// A token as the grammar sees it.
-pub fn symbol_of(alloc: Global, kind: TokenKind, bytes: &[u8]) -> Result<Symbol, AllocError>
+pub fn symbol_of(alloc: Global, kind: TokenKind, bytes: &[u8]) -> Result<Terminal, AllocError>
     ensures { IfOk result (λ s. s ≡ spec.symbol_of kind bytes.now) }
 {
     match kind {
-        TokenKind::Name => Ok(Symbol::Name(Name {
+        TokenKind::Name => Ok(Terminal::Name(Name {
             bytes: Vec::from_slice(alloc, bytes)?,
         })),
         TokenKind::Number => Ok(number_symbol(bytes)),
-        TokenKind::Text => Ok(Symbol::Text(Name {
+        TokenKind::Text => Ok(Terminal::Text(Name {
             bytes: string_bytes(alloc, bytes)?,
         })),
         TokenKind::Mark(m) => Ok(mark_symbol(m)),
-        TokenKind::End => Ok(Symbol::End),
+        TokenKind::End => Ok(Terminal::End),
     }
 }

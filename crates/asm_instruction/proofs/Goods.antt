@@ -20,7 +20,7 @@ use Rattle.asm_instruction.specs.declared.moves.Moves.TheVariants as moves
 use Rattle.asm_instruction.specs.declared.control.Control.TheVariants as control
 use Rattle.asm_instruction.specs.declared.system.System.TheVariants as system
 use Rattle.asm_instruction.specs.declared.draft.Draft.{Draft}
-use Rattle.asm_instruction.specs.declared.draft.Place.{Place}
+use Rattle.asm_instruction.specs.declared.draft.NumberedOperand.{NumberedOperand}
 use Rattle.asm_instruction.specs.declared.draft.Pair.{Pair}
 use Rattle.asm_instruction.specs.declared.draft.Pair.TheVariants as pair
 use Rattle.asm_instruction.specs.declared.mnemonic.Family.{Family}
@@ -70,7 +70,7 @@ distance_below n = omega arith
 
 -- ---- what is known of operands
 
-abbrev pub PlaceGood : Place → Type 0
+abbrev pub PlaceGood : NumberedOperand → Type 0
 PlaceGood p = IsOperandBounded p.operand
 
 abbrev pub PairGood : Pair → Type 0
@@ -145,7 +145,7 @@ module _ (args : List Argument) where
   abbrev pub Good : Option Draft → Type 0
   Good o = When (DraftGood args) o
 
-  pub instruction_good : (o : Op) (s : Size) (a b : Place) → is_direct o ≡ false → PlaceGood a → PlaceGood b → DraftGood args (instruction o s a b)
+  pub instruction_good : (o : Op) (s : Size) (a b : NumberedOperand) → is_direct o ≡ false → PlaceGood a → PlaceGood b → DraftGood args (instruction o s a b)
   unfolding instruction
   instruction_good o s a b e p q = record {
     bounded = record { a = p; b = q; imm = omega arith; sel = omega arith };
@@ -153,7 +153,7 @@ module _ (args : List Argument) where
     relative = λ t. absurd cc;
   }
 
-  pub instruction_op : (o : Op) (s : Size) (a b : Place) → (instruction o s a b).insn.op ≡ o
+  pub instruction_op : (o : Op) (s : Size) (a b : NumberedOperand) → (instruction o s a b).insn.op ≡ o
   unfolding instruction
   instruction_op o s a b = refl
 
@@ -166,7 +166,7 @@ module _ (args : List Argument) where
   }
 
   -- an instruction with a number
-  pub instruction_numbered : (o : Op) (s t : Size) (a b : Place) (n : Number) → is_direct o ≡ false → PlaceGood a → PlaceGood b → DraftGood args (with_number (instruction o s a b) t n)
+  pub instruction_numbered : (o : Op) (s t : Size) (a b : NumberedOperand) (n : Number) → is_direct o ≡ false → PlaceGood a → PlaceGood b → DraftGood args (with_number (instruction o s a b) t n)
   instruction_numbered o s t a b n e p q = numbered_good (instruction o s a b) t n (ap is_direct (instruction_op o s a b) ∙ e) (instruction_good o s a b e p q)
 
   pub rom_good : (g : Given) → GivenGood args g → When PlaceGood (register_or_memory g)
@@ -213,7 +213,7 @@ module _ (args : List Argument) where
   unfolding one
   one_good o f g e p = bind_from PlaceGood (DraftGood args) (register_or_memory g) _ (rom_good g p) (λ x h. bind_any (DraftGood args) (agreed f (said g) None) _ (λ z. instruction_good o z x nothing e h tt))
 
-  pub into_register_good : (o : Op) (s : Size) (d : Given) (x : Place) → is_direct o ≡ false → PlaceGood x → Good (into_register o s d x)
+  pub into_register_good : (o : Op) (s : Size) (d : Given) (x : NumberedOperand) → is_direct o ≡ false → PlaceGood x → Good (into_register o s d x)
   into_register_good o s (given.Register t n) x e h = instruction_good o s (register n) x e tt h
   into_register_good o s (given.Memory m) x e h = tt
   into_register_good o s (given.Segment n) x e h = tt
@@ -229,7 +229,7 @@ module _ (args : List Argument) where
   abbrev pub Plain : Draft → Type 0
   Plain d = DraftGood args d × (is_direct d.insn.op ≡ false)
 
-  pub into_register_plain : (o : Op) (s : Size) (d : Given) (x : Place) → is_direct o ≡ false → PlaceGood x → When Plain (into_register o s d x)
+  pub into_register_plain : (o : Op) (s : Size) (d : Given) (x : NumberedOperand) → is_direct o ≡ false → PlaceGood x → When Plain (into_register o s d x)
   into_register_plain o s (given.Register t n) x e h = (instruction_good o s (register n) x e tt h, ap is_direct (instruction_op o s (register n) x) ∙ e)
   into_register_plain o s (given.Memory m) x e h = tt
   into_register_plain o s (given.Segment n) x e h = tt

@@ -18,7 +18,7 @@ use Rattle.asm_instruction.specs.declared.moves.Moves.{Moves}
 use Rattle.asm_instruction.specs.declared.moves.Moves.TheVariants as moves
 use Rattle.asm_instruction.specs.declared.stack.Stack.{Stack}
 use Rattle.asm_instruction.specs.declared.stack.Stack.TheVariants as stack
-use Rattle.asm_instruction.specs.declared.draft.Place.{Place}
+use Rattle.asm_instruction.specs.declared.draft.NumberedOperand.{NumberedOperand}
 use Rattle.asm_instruction.specs.declared.draft.Pair.{Pair}
 use Rattle.asm_instruction.specs.declared.draft.Pair.TheVariants as pair
 use Rattle.asm_instruction.specs.declared.mnemonic.Family.TheVariants as family
@@ -31,7 +31,7 @@ use Rattle.asm_instruction.proofs.Goods.{bind_from, bind_any, PlaceGood, PairGoo
 use Rattle.asm_instruction.proofs.Goods.{Good, instruction_good, instruction_numbered, rom_good, paired_good, of_pair_good, to_register_good}
 
 module _ (args : List Argument) where
-  pub special_good : (o : Op) (f : Option Size) (g : Given) (a b : Place) → is_direct o ≡ false → PlaceGood a → PlaceGood b → Good args (special o f g a b)
+  pub special_good : (o : Op) (f : Option Size) (g : Given) (a b : NumberedOperand) → is_direct o ≡ false → PlaceGood a → PlaceGood b → Good args (special o f g a b)
   unfolding special
   special_good o f g a b e p q = bind_any (DraftGood args) (agreed f (said g) (Some size.Long)) _ (λ z. instruction_good args o z a b e p q)
 
@@ -84,7 +84,7 @@ module _ (args : List Argument) where
   moved_good f given.Port (given.Immediate n2) p q = general_good f given.Port (given.Immediate n2) p q
   moved_good f given.Port given.Port p q = general_good f given.Port given.Port p q
 
-  pub into_long_good : (o : Op) (s : Size) (d : Given) (x : Place) → is_direct o ≡ false → PlaceGood x → Good args (into_long o s d x)
+  pub into_long_good : (o : Op) (s : Size) (d : Given) (x : NumberedOperand) → is_direct o ≡ false → PlaceGood x → Good args (into_long o s d x)
   into_long_good o s (given.Register size.Long n) x e h = instruction_good args o s (register n) x e tt h
   into_long_good o s (given.Register size.Word n) x e h = tt
   into_long_good o s (given.Register size.Byte n) x e h = tt
@@ -107,7 +107,7 @@ module _ (args : List Argument) where
   effective_good f (given.Immediate n) d p = tt
   effective_good f given.Port d p = tt
 
-  pub with_register_good : (s : Size) (n : ℕ) (x : Place) (o : Operand) → PlaceGood x → DraftGood args (with_register s n x o)
+  pub with_register_good : (s : Size) (n : ℕ) (x : NumberedOperand) (o : Operand) → PlaceGood x → DraftGood args (with_register s n x o)
   with_register_good s n x (operand.Register m) h = instruction_good args op.Xchg s (register (min n m)) (register (max n m)) refl tt tt
   with_register_good s n x (operand.Memory m) h = instruction_good args op.Xchg s x (register n) refl h tt
   with_register_good s n x operand.Absent h = instruction_good args op.Xchg s x (register n) refl h tt
@@ -134,7 +134,7 @@ module _ (args : List Argument) where
   move_good k f (operands.Starred g) e h = tt
   move_good k f (operands.Three s d g) e h = tt
 
-  pub of_long_good : (o : Op) (f : Option Size) (g : Given) (a : Place) → is_direct o ≡ false → PlaceGood a → Good args (of_long o f g a)
+  pub of_long_good : (o : Op) (f : Option Size) (g : Given) (a : NumberedOperand) → is_direct o ≡ false → PlaceGood a → Good args (of_long o f g a)
   unfolding of_long
   of_long_good o f g a e p = bind_any (DraftGood args) (agreed f (said g) (Some size.Long)) _ (λ z. instruction_good args o z a nothing e p tt)
 

@@ -12,7 +12,7 @@ use Rattle.asm_instruction.specs.declared.argument.Operands.TheVariants as opera
 use Rattle.asm_instruction.specs.declared.arithmetic.Arithmetic.{Arithmetic}
 use Rattle.asm_instruction.specs.declared.arithmetic.Arithmetic.TheVariants as arithmetic
 use Rattle.asm_instruction.specs.declared.draft.Draft.{Draft}
-use Rattle.asm_instruction.specs.declared.draft.Place.{Place}
+use Rattle.asm_instruction.specs.declared.draft.NumberedOperand.{NumberedOperand}
 use Rattle.asm_instruction.specs.declared.draft.Pair.{Pair}
 use Rattle.asm_instruction.specs.declared.draft.Pair.TheVariants as pair
 use Rattle.asm_instruction.specs.declared.mnemonic.Family.{Family}
@@ -72,7 +72,7 @@ one o suffix g = do
   s ← agreed suffix (said g) None
   Some (unary o s place)
 
-abbrev pub into_register : Op → Size → Given → Place → Option Draft
+abbrev pub into_register : Op → Size → Given → NumberedOperand → Option Draft
 into_register o s (given.Register t n) place = Some (instruction o s (register n) place)
 into_register o s _ place = None
 

@@ -9,7 +9,7 @@ use Rattle.asm_instruction.specs.declared.argument.Number.{Number}
 use Rattle.asm_instruction.specs.declared.argument.Memory.{Memory}
 use Rattle.asm_instruction.specs.declared.argument.Given.{Given}
 use Rattle.asm_instruction.specs.declared.argument.Given.TheVariants as given
-use Rattle.asm_instruction.specs.declared.draft.Place.{Place}
+use Rattle.asm_instruction.specs.declared.draft.NumberedOperand.{NumberedOperand}
 use Rattle.asm_instruction.specs.declared.draft.Pair.{Pair}
 use Rattle.asm_instruction.specs.declared.draft.Pair.TheVariants as pair
 use Rattle.asm_instruction.specs.declared.draft.Draft.{Draft}
@@ -18,19 +18,19 @@ use Rattle.asm_instruction.specs.Field.{field, fits_field}
 
 -- ---- operands
 
-abbrev pub of_operand : Operand → Place
+abbrev pub of_operand : Operand → NumberedOperand
 of_operand o = record { operand = o; displacement = None }
 
-abbrev pub nothing : Place
+abbrev pub nothing : NumberedOperand
 nothing = of_operand operand.Absent
 
-abbrev pub register : ℕ → Place
+abbrev pub register : ℕ → NumberedOperand
 register n = of_operand (operand.Register n)
 
-abbrev pub memory : Memory → Place
+abbrev pub memory : Memory → NumberedOperand
 memory m = record { operand = operand.Memory m.address; displacement = Some m.displacement }
 
-abbrev pub register_or_memory : Given → Option Place
+abbrev pub register_or_memory : Given → Option NumberedOperand
 register_or_memory (given.Register s n) = Some (register n)
 register_or_memory (given.Memory m) = Some (memory m)
 register_or_memory _ = None
@@ -60,7 +60,7 @@ paired _ destination = None
 
 -- ---- instructions
 
-abbrev pub displaced : Place → Place → Option Number
+abbrev pub displaced : NumberedOperand → NumberedOperand → Option Number
 displaced a b = or_else a.displacement b.displacement
 
 abbrev pub argument : Option Number → Option ℕ
@@ -71,7 +71,7 @@ abbrev pub fits_displacement : Option Number → Bool
 fits_displacement (Some n) = fits_field size.Long n.value
 fits_displacement None = true
 
-unfoldable pub instruction : Op → Size → Place → Place → Draft
+unfoldable pub instruction : Op → Size → NumberedOperand → NumberedOperand → Draft
 instruction o s a b = record {
   insn = record { op = o; size = s; a = a.operand; b = b.operand; imm = 0; sel = 0; rep = false };
   disp = argument (displaced a b);
@@ -88,7 +88,7 @@ with_number d s n = record d {
   fits = d.fits && fits_field s n.value;
 }
 
-abbrev pub unary : Op → Size → Place → Draft
+abbrev pub unary : Op → Size → NumberedOperand → Draft
 unary o s a = instruction o s a nothing
 
 abbrev pub alone : Op → Draft

@@ -14,7 +14,7 @@ use Rattle.asm_instruction.specs.declared.argument.Operands.TheVariants as opera
 use Rattle.asm_instruction.specs.declared.moves.Moves.{Moves}
 use Rattle.asm_instruction.specs.declared.moves.Moves.TheVariants as kind
 use Rattle.asm_instruction.specs.declared.draft.Draft.{Draft}
-use Rattle.asm_instruction.specs.declared.draft.Place.{Place}
+use Rattle.asm_instruction.specs.declared.draft.NumberedOperand.{NumberedOperand}
 use Rattle.asm_instruction.specs.declared.draft.Pair.{Pair}
 use Rattle.asm_instruction.specs.declared.draft.Pair.TheVariants as pair
 use Rattle.asm_instruction.specs.declared.mnemonic.Family.{Family}
@@ -37,7 +37,7 @@ extend_names =
 -- ---- MOV
 
 -- with a segment or control register the other operand has 32 bits
-unfoldable pub special : Op → Option Size → Given → Place → Place → Option Draft
+unfoldable pub special : Op → Option Size → Given → NumberedOperand → NumberedOperand → Option Draft
 special o suffix g a b = agreed suffix (said g) (Some size.Long) >>= λ s. Some (instruction o s a b)
 
 unfoldable pub from_segment : Option Size → Seg → Given → Option Draft
@@ -67,7 +67,7 @@ moved suffix from to = general suffix from to
 
 -- ---- MOVZX and MOVSX, whose size is that of the source
 
-abbrev pub into_long : Op → Size → Given → Place → Option Draft
+abbrev pub into_long : Op → Size → Given → NumberedOperand → Option Draft
 into_long o s (given.Register size.Long n) from = Some (instruction o s (register n) from)
 into_long o s _ from = None
 
@@ -85,11 +85,11 @@ effective suffix _ destination = None
 
 -- ---- XCHG: of two registers the one of the lower number stands first, else memory
 
-abbrev pub with_register : Size → ℕ → Place → Operand → Draft
+abbrev pub with_register : Size → ℕ → NumberedOperand → Operand → Draft
 with_register s n other (operand.Register m) = instruction op.Xchg s (register (min n m)) (register (max n m))
 with_register s n other _ = instruction op.Xchg s other (register n)
 
-abbrev pub two_registers : Size → ℕ → Place → Draft
+abbrev pub two_registers : Size → ℕ → NumberedOperand → Draft
 two_registers s n other = with_register s n other other.operand
 
 abbrev pub exchange : Size → Pair → Option Draft

@@ -14,7 +14,7 @@ use Rattle.asm_instruction.specs.declared.argument.Operands.TheVariants as opera
 use Rattle.asm_instruction.specs.declared.stack.Stack.{Stack}
 use Rattle.asm_instruction.specs.declared.stack.Stack.TheVariants as kind
 use Rattle.asm_instruction.specs.declared.draft.Draft.{Draft}
-use Rattle.asm_instruction.specs.declared.draft.Place.{Place}
+use Rattle.asm_instruction.specs.declared.draft.NumberedOperand.{NumberedOperand}
 use Rattle.asm_instruction.specs.declared.mnemonic.Family.{Family}
 use Rattle.asm_instruction.specs.declared.mnemonic.Family.TheVariants as family
 use Rattle.asm_instruction.specs.Names.{Table, ◌>>=◌}
@@ -34,7 +34,7 @@ frame_names =
     (codes "popf", family.Plain op.PopFlags) ∷ (codes "popfl", family.Plain op.PopFlags) ∷ []
 
 -- the stack holds 32 bits an operand
-unfoldable pub of_long : Op → Option Size → Given → Place → Option Draft
+unfoldable pub of_long : Op → Option Size → Given → NumberedOperand → Option Draft
 of_long o suffix g a = agreed suffix (said g) (Some size.Long) >>= λ s. Some (unary o s a)
 
 abbrev pub of_segment : Op → Option Size → Given → Seg → Option Draft

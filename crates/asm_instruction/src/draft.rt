@@ -9,7 +9,7 @@ use ia32_types::{Insn, Op, Operand, Size};
 
 /// An operand of an instruction, and the number that it takes.
 #[derive(Clone, Copy, Debug, PartialEq, Eq)]
-pub struct Place {
+pub struct NumberedOperand {
     pub operand: Operand,
     pub displacement: Option<Number>,
 }
@@ -31,45 +31,45 @@ pub struct Draft {
 /// A source and a destination.
 #[derive(Clone, Copy, Debug, PartialEq, Eq)]
 pub enum Pair {
-    Immediate(Number, Place),
+    Immediate(Number, NumberedOperand),
     /// From a register to a register or memory.
-    FromRegister(u8, Place),
+    FromRegister(u8, NumberedOperand),
     /// From memory to a register.
-    FromMemory(Place, u8),
+    FromMemory(NumberedOperand, u8),
 }
 
-pub const NOTHING: Place = Place {
+pub const NOTHING: NumberedOperand = NumberedOperand {
     operand: Operand::Absent,
     displacement: None,
 };
 
 /// A register, segment or control register.
-pub fn of_operand(operand: Operand) -> Place
+pub fn of_operand(operand: Operand) -> NumberedOperand
     ensures { result ≡ spec.of_operand operand }
 {
-    Place {
+    NumberedOperand {
         operand,
         displacement: None,
     }
 }
 
-pub fn register(number: u8) -> Place
+pub fn register(number: u8) -> NumberedOperand
     ensures { result ≡ spec.register number }
 {
     of_operand(Operand::Register(number))
 }
 
-pub fn memory(memory: Memory) -> Place
+pub fn memory(memory: Memory) -> NumberedOperand
     ensures { result ≡ spec.memory memory }
 {
-    Place {
+    NumberedOperand {
         operand: Operand::Memory(memory.address),
         displacement: Some(memory.displacement),
     }
 }
 
 /// A register or memory.
-pub fn register_or_memory(given: Given) -> Option<Place>
+pub fn register_or_memory(given: Given) -> Option<NumberedOperand>
     ensures { result ≡ spec.register_or_memory given }
 {
     match given {
@@ -125,7 +125,7 @@ pub fn paired(source: Given, destination: Given) -> Option<Pair>
     }
 }
 
-fn displaced(a: Place, b: Place) -> Option<Number>
+fn displaced(a: NumberedOperand, b: NumberedOperand) -> Option<Number>
     ensures { result ≡ spec.displaced a b }
 {
     match a.displacement {
@@ -154,7 +154,7 @@ fn fits_displacement(number: Option<Number>) -> bool
 
 /// An instruction without an immediate.
 #[tactic(auto, unfolding(crate::specs::Draft::instruction))]
-pub fn instruction(op: Op, size: Size, a: Place, b: Place) -> Draft
+pub fn instruction(op: Op, size: Size, a: NumberedOperand, b: NumberedOperand) -> Draft
     ensures { result ≡ spec.instruction op size a b }
 {
     let displacement = displaced(a, b);
@@ -192,7 +192,7 @@ pub fn with_number(draft: Draft, size: Size, number: Number) -> Draft
 }
 
 /// An instruction with one operand.
-pub fn unary(op: Op, size: Size, a: Place) -> Draft
+pub fn unary(op: Op, size: Size, a: NumberedOperand) -> Draft
     ensures { result ≡ spec.unary op size a }
 {
     instruction(op, size, a, NOTHING)

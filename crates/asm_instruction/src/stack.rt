@@ -6,7 +6,7 @@ ghost use Rattle.asm_instruction.specs.Stack as spec;
 
 use crate::argument::{Given, Number, Operands};
 use crate::bytes::{found, is_text};
-use crate::draft::{Draft, Place, alone, of_operand, register_or_memory, said, unary, with_number};
+use crate::draft::{Draft, NumberedOperand, alone, of_operand, register_or_memory, said, unary, with_number};
 use crate::mnemonic::Family;
 use crate::sizes::agreed;
 use ia32_types::{Op, Operand, Seg, Size};
@@ -49,7 +49,7 @@ pub fn frame_name(name: &[u8]) -> Option<Family>
 
 // The stack holds 32 bits an operand.
 #[tactic(auto, unfolding(crate::specs::Stack::of_long))]
-fn of_long(op: Op, suffix: Option<Size>, given: Given, a: Place) -> Option<Draft>
+fn of_long(op: Op, suffix: Option<Size>, given: Given, a: NumberedOperand) -> Option<Draft>
     ensures { result ≡ spec.of_long op suffix given a }
 {
     let size = agreed(suffix, said(given), Some(Size::Long))?;

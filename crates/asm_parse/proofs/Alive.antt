@@ -3,8 +3,8 @@ use Rattle.std.proofs.Common.{◌≡◌, ℕ, ◌<◌, Bool, true, false, cond, 
 use Rattle.std.specs.Prelude.{nat_lt}
 use Rattle.asm_lex.specs.declared.fault.SourceCause.{SourceCause}
 use Rattle.asm_lex.specs.declared.fault.SourceCause.TheVariants as cause
-use Rattle.asm_argument.specs.declared.symbol.Symbol.{Symbol}
-use Rattle.asm_argument.specs.declared.symbol.Symbol.TheVariants as symbol
+use Rattle.asm_argument.specs.declared.symbol.Terminal.{Terminal}
+use Rattle.asm_argument.specs.declared.symbol.Terminal.TheVariants as symbol
 use Rattle.asm_argument.specs.declared.operand.Shape.{Shape}
 use Rattle.asm_argument.specs.declared.operand.Partial.{Partial}
 use Rattle.asm_argument.specs.declared.operand.Partial.TheVariants as partial
@@ -14,8 +14,8 @@ use Rattle.asm_parse.specs.declared.directive.Directive.TheVariants as directive
 use Rattle.asm_parse.specs.declared.directive.Head.{Head}
 use Rattle.asm_parse.specs.declared.directive.Head.TheVariants as head
 use Rattle.asm_parse.specs.declared.state.Open.{Open}
-use Rattle.asm_parse.specs.declared.state.State.{State}
-use Rattle.asm_parse.specs.declared.state.State.TheVariants as state
+use Rattle.asm_parse.specs.declared.state.StatementState.{StatementState}
+use Rattle.asm_parse.specs.declared.state.StatementState.TheVariants as state
 use Rattle.asm_parse.specs.ScopeView.{ScopeView}
 use Rattle.asm_lex.specs.Bytes.{class_of, is_source, is_digit, is_letter, is_word}
 use Rattle.asm_lex.specs.declared.token.Token.{Token}
@@ -42,7 +42,7 @@ use Rattle.asm_parse.specs.Statement.{at_shape, complete, end_behind, ended, is_
 use Rattle.asm_parse.specs.Directives.{shape_at, least, directive_of, is_dotted}
 
 abbrev Answer : Type 0
-Answer = Result (ScopeView × State) SourceCause
+Answer = Result (ScopeView × StatementState) SourceCause
 
 -- where it goes on, nothing is open
 abbrev Ends : Answer → Type 0
@@ -104,7 +104,7 @@ directive_ends sc line n (Some directive.LocalCommon) = argument_ends sc (nothin
 directive_ends sc line n (Some directive.Common) = argument_ends sc (nothing_yet line (head.Directive directive.Common n))
 
 -- The end of a statement leaves nothing open.
-pub end_ends : (sc : ScopeView) (st : State) (line : ℕ) → Ends (step sc st line symbol.End)
+pub end_ends : (sc : ScopeView) (st : StatementState) (line : ℕ) → Ends (step sc st line symbol.End)
 end_ends sc state.Start line = refl
 end_ends sc (state.Named b n) line = either (is_passed sc n) _ _ refl (either (is_dotted n) _ _ (directive_ends sc b n (directive_of n)) (either (is_rep n) _ _ tt (argument_ends sc (nothing_yet b (head.Instruction false n)))))
 end_ends sc state.Skip line = refl
@@ -139,11 +139,11 @@ last_end (mode.Quote s) at line = tt
 last_end (mode.Text s) at line = tt
 last_end (mode.Escape s) at line = tt
 
-placed_ends : (line : ℕ) (r : Answer) (z : ScopeView × State) → Ends r → placed line r ≡ Ok z → z.1 ≡ state.Start
-placed_ends line (Ok x) z h e = let g : x ≡ z = cc in subst (λ (y : ScopeView × State). y.1 ≡ state.Start) g h
+placed_ends : (line : ℕ) (r : Answer) (z : ScopeView × StatementState) → Ends r → placed line r ≡ Ok z → z.1 ≡ state.Start
+placed_ends line (Ok x) z h e = let g : x ≡ z = cc in subst (λ (y : ScopeView × StatementState). y.1 ≡ state.Start) g h
 placed_ends line (Err c) z h e = absurd cc
 
-not_longer : (st : State) (at : ℕ) (bytes : List ℕ) → is_longer st at kind.End bytes ≡ false
+not_longer : (st : StatementState) (at : ℕ) (bytes : List ℕ) → is_longer st at kind.End bytes ≡ false
 not_longer (state.Sectioned b n m e) at bytes = none (e == at)
   where
     none : (t : Bool) → (t && false) ≡ false
@@ -155,26 +155,26 @@ with_ends : (e : ℕ) (r : Answer) → Ends r → Ends (with_end e r)
 with_ends e (Ok x) h = ap (ending_at e) h
 with_ends e (Err c) h = tt
 
-end_word : (sc : ScopeView) (st : State) (w : Word) → w.kind ≡ kind.End → Ends (next_word sc st w)
+end_word : (sc : ScopeView) (st : StatementState) (w : Word) → w.kind ≡ kind.End → Ends (next_word sc st w)
 end_word sc st w h =
     let symbol : symbol_of w.kind w.bytes ≡ symbol.End = ap (λ (k : TokenKind). symbol_of k w.bytes) h in
     let none : is_longer st w.at w.kind w.bytes ≡ false = ap (λ (k : TokenKind). is_longer st w.at k w.bytes) h ∙ not_longer st w.at w.bytes in
-    let ends : Ends (next_step sc st w.line (symbol_of w.kind w.bytes)) = subst (λ (s : Symbol). Ends (next_step sc st w.line s)) (sym symbol) (end_ends sc st w.line) in
+    let ends : Ends (next_step sc st w.line (symbol_of w.kind w.bytes)) = subst (λ (s : Terminal). Ends (next_step sc st w.line s)) (sym symbol) (end_ends sc st w.line) in
     rw none (with_ends (w.at + length w.bytes) (next_step sc st w.line (symbol_of w.kind w.bytes)) ends)
 
-fed_end : (sc : ScopeView) (st : State) (seen : List ℕ) (line : ℕ) (t : Option Token) (z : ScopeView × State) → LastEnd (Goes mode.Between) t → fed sc st seen line t ≡ Ok z → z.1 ≡ state.Start
+fed_end : (sc : ScopeView) (st : StatementState) (seen : List ℕ) (line : ℕ) (t : Option Token) (z : ScopeView × StatementState) → LastEnd (Goes mode.Between) t → fed sc st seen line t ≡ Ok z → z.1 ≡ state.Start
 fed_end sc st seen line None z h e = absurd h
 fed_end sc st seen line (Some t) z h e =
     placed_ends (fault_line sc st line) (next_word sc st (word_of seen line t)) z (end_word sc st (word_of seen line t) h) e
 
-does_end : (sc : ScopeView) (st : State) (seen : List ℕ) (line : ℕ) (s : Stepped) (x : ScopeView × State × Mode) → LastEnd s.next s.second → byte_does sc st seen line s ≡ Ok x → x.2 ≡ mode.Between → x.1 ≡ state.Start
+does_end : (sc : ScopeView) (st : StatementState) (seen : List ℕ) (line : ℕ) (s : Stepped) (x : ScopeView × StatementState × Mode) → LastEnd s.next s.second → byte_does sc st seen line s ≡ Ok x → x.2 ≡ mode.Between → x.1 ≡ state.Start
 does_end sc st seen line s x last h m =
     let y = bind_ok (fed sc st seen line s.first) (λ y. second_does y.0 y.1 seen line s.second s.next) x h in
     let z = bind_ok (fed y.0.0 y.0.1 seen line s.second) (λ z. goes_on line z s.next) x y.2 in
     let g = goes_is line z.0 s.next x z.2 in
     let next : s.next ≡ Goes mode.Between = g.0 ∙ ap Goes m in
     let last2 : LastEnd (Goes mode.Between) s.second = subst (λ (n : Next). LastEnd n s.second) next last in
-    ap (λ (q : ScopeView × State). q.1) (sym g.1) ∙ fed_end y.0.0 y.0.1 seen line s.second z.0 last2 z.1
+    ap (λ (q : ScopeView × StatementState). q.1) (sym g.1) ∙ fed_end y.0.0 y.0.1 seen line s.second z.0 last2 z.1
 
 pub newline_state : (r t : Running) → run r (10 ∷ []) ≡ Ok t → t.mode ≡ mode.Between → t.state ≡ state.Start
 unfolding one_byte one_byte_over
@@ -183,7 +183,7 @@ newline_state r t h m =
     let x = bind_ok (byte_does r.scope r.state (r.seen ++ 10 ∷ []) r.line (stepped r.mode r.at r.line 10)) (λ x. Ok (moved r 10 x)) s.0 s.1 in
     at_last x.0 (λ k. does_end r.scope r.state (r.seen ++ 10 ∷ []) r.line (stepped r.mode r.at r.line 10) x.0 (last_end r.mode r.at r.line) x.1 k) (x.2 ∙ s.2)
   where
-    at_last : (x : ScopeView × State × Mode) → (x.2 ≡ mode.Between → x.1 ≡ state.Start) → ◌≡◌ {A = Result Running Fault} (Ok (moved r 10 x)) (Ok t) → t.state ≡ state.Start
+    at_last : (x : ScopeView × StatementState × Mode) → (x.2 ≡ mode.Between → x.1 ≡ state.Start) → ◌≡◌ {A = Result Running Fault} (Ok (moved r 10 x)) (Ok t) → t.state ≡ state.Start
     at_last x k e = let g : moved r 10 x ≡ t = cc in ap (λ (y : Running). y.state) (sym g) ∙ k (ap (λ (y : Running). y.mode) g ∙ m)
 
 -- nothing is open, so one newline more is read

@@ -12,10 +12,10 @@ use Rattle.asm_lex.specs.Words.{Word, Scan, scan}
 use Rattle.asm_lex.specs.Source.{IsGap, IsToken, Lexed}
 use Rattle.asm_lex.proofs.Again.{again}
 use Rattle.asm_lex.proofs.Found.{found}
-use Rattle.asm_argument.specs.declared.symbol.Symbol.{Symbol}
-use Rattle.asm_argument.specs.declared.symbol.Symbol.TheVariants as symbol
-use Rattle.asm_parse.specs.declared.state.State.{State}
-use Rattle.asm_parse.specs.declared.state.State.TheVariants as state
+use Rattle.asm_argument.specs.declared.symbol.Terminal.{Terminal}
+use Rattle.asm_argument.specs.declared.symbol.Terminal.TheVariants as symbol
+use Rattle.asm_parse.specs.declared.state.StatementState.{StatementState}
+use Rattle.asm_parse.specs.declared.state.StatementState.TheVariants as state
 use Rattle.asm_parse.specs.ScopeView.{ScopeView}
 use Rattle.asm_parse.specs.Scope.{fresh}
 use Rattle.asm_parse.specs.Statement.{doom, fault_line}
@@ -33,7 +33,7 @@ use Rattle.asm_parse.proofs.Completing.{completed}
 
 -- ---- the names of words
 
-symbol_either : (t : Bool) (a b : Symbol) → SymbolIs IsName a → SymbolIs IsName b → SymbolIs IsName (cond t a b)
+symbol_either : (t : Bool) (a b : Terminal) → SymbolIs IsName a → SymbolIs IsName b → SymbolIs IsName (cond t a b)
 symbol_either true a b p q = p
 symbol_either false a b p q = q
 
@@ -62,7 +62,7 @@ lexed_named Lexed.none = tt
 lexed_named (Lexed.gap piece rest e gap l) = lexed_named l
 lexed_named (Lexed.token k piece rest e is l) = (token_is k piece rest is, lexed_named l)
 
-named_of : (st : State) → StateIs IsName st → NamedIs IsName st
+named_of : (st : StatementState) → StateIs IsName st → NamedIs IsName st
 named_of (state.Named b n) h = h
 named_of state.Start h = tt
 named_of state.Skip h = tt
@@ -71,11 +71,11 @@ named_of (state.Flags b n m) h = tt
 named_of (state.Arguments o) h = tt
 named_of (state.Stray l c) h = tt
 
-pub record Fine (y : ScopeView × State) : Type 0 where
+pub record Fine (y : ScopeView × StatementState) : Type 0 where
   pub scope : GoodIn IsName y.0
   pub state : StateIs IsName y.1
 
-pub words_fine : (ws : List Word) (sc : ScopeView) (st : State) (y : ScopeView × State) → AreNamed ws → GoodIn IsName sc → StateIs IsName st → read_words sc st ws ≡ Ok y → Fine y
+pub words_fine : (ws : List Word) (sc : ScopeView) (st : StatementState) (y : ScopeView × StatementState) → AreNamed ws → GoodIn IsName sc → StateIs IsName st → read_words sc st ws ≡ Ok y → Fine y
 words_fine [] sc st y are g is h = let e : (sc, st) ≡ y = cc in subst Fine e (record { scope = g; state = is })
 words_fine (w ∷ ws) sc st y are g is h =
     let z = bind_ok (placed (fault_line sc st w.line) (next_word sc st w)) (λ z. read_words z.0 z.1 ws) y h in
@@ -90,7 +90,7 @@ seen_byte r s b h e =
     let x = bind_ok (one_byte_over r.scope r.state r.mode (r.seen ++ b ∷ []) r.at r.line b) (λ x. Ok (moved r b x)) s h in
     at_last x.0 x.2
   where
-    at_last : (x : ScopeView × State × Mode) → ◌≡◌ {A = Result Running Fault} (Ok (moved r b x)) (Ok s) → length s.seen ≡ s.at
+    at_last : (x : ScopeView × StatementState × Mode) → ◌≡◌ {A = Result Running Fault} (Ok (moved r b x)) (Ok s) → length s.seen ≡ s.at
     at_last x k = let g : moved r b x ≡ s = cc in subst (λ (y : Running). length y.seen ≡ y.at) g (length-append r.seen (b ∷ []) ∙ ap (λ (n : ℕ). n + 1) e)
 
 seen_run : (bs : List ℕ) (r t : Running) → run r bs ≡ Ok t → length r.seen ≡ r.at → length t.seen ≡ t.at
@@ -112,11 +112,11 @@ record Closes (s : Running) : Type 0 where
   scope : last.scope ≡ s.scope
   state : last.state ≡ s.state
 
-block_closes : (sc : ScopeView) (st : State) (seen : List ℕ) (at line l : ℕ) → Closes (record { scope = sc; state = st; mode = mode.Block l; seen = seen; at = at; line = line })
+block_closes : (sc : ScopeView) (st : StatementState) (seen : List ℕ) (at line l : ℕ) → Closes (record { scope = sc; state = st; mode = mode.Block l; seen = seen; at = at; line = line })
 unfolding one_byte one_byte_over class_of is_source
 block_closes sc st seen at line l = record { last = _; runs = refl; between = refl; scope = refl; state = refl }
 
-closes : (sc : ScopeView) (st : State) (m : Mode) (seen : List ℕ) (at line : ℕ) → IsClosed (Goes m) → Closes (record { scope = sc; state = st; mode = m; seen = seen; at = at; line = line })
+closes : (sc : ScopeView) (st : StatementState) (m : Mode) (seen : List ℕ) (at line : ℕ) → IsClosed (Goes m) → Closes (record { scope = sc; state = st; mode = m; seen = seen; at = at; line = line })
 closes sc st mode.Between seen at line k = record { last = _; runs = refl; between = refl; scope = refl; state = refl }
 closes sc st (mode.Block l) seen at line k = block_closes sc st seen at line l
 closes sc st mode.Slash seen at line k = absurd k
@@ -140,7 +140,7 @@ between_goes_on p t h between alive =
     ap (λ (m : Mode). scan m t.seen t.at t.line (written d.pieces)) between ∙ again (written_lexed d.pieces d.are t.at t.line) t.seen (seen_run p start t h refl) in
     let u = unlink (written d.pieces) t mode.Between (d.last, state.Start) (ap (λ (x : Scan). x.ending) s) (ap (λ (x : Scan). read_words t.scope t.state x.words) s ∙ d.runs t.at t.line) in (
       written d.pieces,
-      has_reading (p ++ written d.pieces) u.last (run_two start t p (written d.pieces) h ∙ u.runs) u.same_mode (ap (λ (x : ScopeView × State). x.1) u.same),
+      has_reading (p ++ written d.pieces) u.last (run_two start t p (written d.pieces) h ∙ u.runs) u.same_mode (ap (λ (x : ScopeView × StatementState). x.1) u.same),
     )
 
 -- Where nothing is dead some text goes on.

@@ -6,10 +6,10 @@ use Rattle.std.proofs.lemmas.List.{append-nil}
 use Rattle.std.proofs.lemmas.Bool.{eqb-true}
 use Rattle.asm_lex.specs.declared.fault.SourceCause.TheVariants as cause
 use Rattle.asm_lex.specs.Words.{Word}
-use Rattle.asm_argument.specs.declared.symbol.Symbol.{Symbol}
-use Rattle.asm_argument.specs.declared.symbol.Symbol.TheVariants as symbol
-use Rattle.asm_parse.specs.declared.state.State.{State}
-use Rattle.asm_parse.specs.declared.state.State.TheVariants as state
+use Rattle.asm_argument.specs.declared.symbol.Terminal.{Terminal}
+use Rattle.asm_argument.specs.declared.symbol.Terminal.TheVariants as symbol
+use Rattle.asm_parse.specs.declared.state.StatementState.{StatementState}
+use Rattle.asm_parse.specs.declared.state.StatementState.TheVariants as state
 use Rattle.asm_parse.specs.ScopeView.{ScopeView}
 use Rattle.asm_parse.specs.Scope.{fresh}
 use Rattle.asm_argument.specs.Operand.{begun}
@@ -58,9 +58,9 @@ pub record InName (sc0 : ScopeView) (ws : List Word) (b : ℕ) (n m : List ℕ) 
 
 -- a statement once these words have ended
 abbrev pub InFlags : ScopeView → List Word → ℕ → List ℕ → List ℕ → Type 0
-InFlags sc0 ws b n m = (rest : List Word) (ss : List Symbol) → symbols rest ≡ ss ++ symbol.End ∷ [] → list_all is_inner ss ≡ true → IsStatement sc0 (ws ++ rest) (sectioned sc0 b n m)
+InFlags sc0 ws b n m = (rest : List Word) (ss : List Terminal) → symbols rest ≡ ss ++ symbol.End ∷ [] → list_all is_inner ss ≡ true → IsStatement sc0 (ws ++ rest) (sectioned sc0 b n m)
 
-name_ends : (sc0 : ScopeView) (ws rest : List Word) (b : ℕ) (n m : List ℕ) (e : ℕ) (ss : List Symbol) → InName sc0 ws b n m e → symbols rest ≡ ss ++ symbol.End ∷ [] → are_flags ss ≡ true → IsStatement sc0 (ws ++ rest) (sectioned sc0 b n m)
+name_ends : (sc0 : ScopeView) (ws rest : List Word) (b : ℕ) (n m : List ℕ) (e : ℕ) (ss : List Terminal) → InName sc0 ws b n m e → symbols rest ≡ ss ++ symbol.End ∷ [] → are_flags ss ≡ true → IsStatement sc0 (ws ++ rest) (sectioned sc0 b n m)
 name_ends sc0 ws rest b n m e ss w end flags =
     let st = IsStatement.section {sc = sc0} {n = n} {m = w.front} w.first w.second w.parts rest ss w.named w.naming.passed w.naming.dotted w.naming.section w.behind w.naming.is w.touch end flags in
     let st2 : IsStatement sc0 (w.first ∷ w.second ∷ (w.parts ++ rest)) (sectioned sc0 b n m) = subst (IsStatement sc0 (w.first ∷ w.second ∷ (w.parts ++ rest))) (rw (w.line, w.name) refl) st in
@@ -83,24 +83,24 @@ name_longer sc0 ws w b n m e g at part = record {
 }
 
 -- the words of the statement that has begun
-abbrev pub HeldBy : ScopeView → State → Word → List Word → ScopeView → Type 0
+abbrev pub HeldBy : ScopeView → StatementState → Word → List Word → ScopeView → Type 0
 HeldBy sc0 state.Start w ps sc = IsStatement sc0 (w ∷ ps) sc
 HeldBy sc0 (state.Sectioned b n m e) w ps sc = (sc0 ≡ sc) × InName sc0 (w ∷ ps) b n m e
 HeldBy sc0 (state.Flags b n m) w ps sc = (sc0 ≡ sc) × InFlags sc0 (w ∷ ps) b n m
 HeldBy sc0 st w ps sc = Begun sc0 w.line st (symbols (w ∷ ps)) sc
 
-abbrev pub Held : ScopeView → State → List Word → ScopeView → Type 0
+abbrev pub Held : ScopeView → StatementState → List Word → ScopeView → Type 0
 Held sc0 st [] sc = (st ≡ state.Start) × (sc0 ≡ sc)
 Held sc0 st (w ∷ ps) sc = (st ≡ state.Start → ⊥) × HeldBy sc0 st w ps sc
 
 symbols_end : (ps : List Word) (w : Word) → symbols (ps ++ w ∷ []) ≡ symbols ps ++ symbol_of w.kind w.bytes ∷ []
 symbols_end [] w = refl
-symbols_end (p ∷ ps) w = ap (λ (x : List Symbol). symbol_of p.kind p.bytes ∷ x) (symbols_end ps w)
+symbols_end (p ∷ ps) w = ap (λ (x : List Terminal). symbol_of p.kind p.bytes ∷ x) (symbols_end ps w)
 
-held_is : (sc0 : ScopeView) (w : Word) (ps : List Word) (x y : ScopeView × State) → x ≡ y → HeldBy sc0 y.1 w ps y.0 → HeldBy sc0 x.1 w ps x.0
-held_is sc0 w ps x y e h = subst (λ (z : ScopeView × State). HeldBy sc0 z.1 w ps z.0) (sym e) h
+held_is : (sc0 : ScopeView) (w : Word) (ps : List Word) (x y : ScopeView × StatementState) → x ≡ y → HeldBy sc0 y.1 w ps y.0 → HeldBy sc0 x.1 w ps x.0
+held_is sc0 w ps x y e h = subst (λ (z : ScopeView × StatementState). HeldBy sc0 z.1 w ps z.0) (sym e) h
 
-ok_state : (x y : ScopeView × State) → ◌≡◌ {A = Answer} (Ok x) (Ok y) → x ≡ y
+ok_state : (x y : ScopeView × StatementState) → ◌≡◌ {A = Answer} (Ok x) (Ok y) → x ≡ y
 ok_state x y e = cc
 
 -- the first two words of a section's name
@@ -123,7 +123,7 @@ first_name sc0 sc p (v ∷ []) b e n m last line is naming = record {
 first_name sc0 sc p (v ∷ u ∷ ps) b e n m last line is naming = absurd cc
 
 -- What the symbols have begun, the words have.
-begun_held : (sc0 sc : ScopeView) (st : State) (p : Word) (ps : List Word) (e : ℕ) → ((v : Word) → ps ≡ v ∷ [] → e ≡ v.at + length v.bytes) → Begun sc0 p.line st (symbols (p ∷ ps)) sc → HeldBy sc0 (ending_at e st) p ps sc
+begun_held : (sc0 sc : ScopeView) (st : StatementState) (p : Word) (ps : List Word) (e : ℕ) → ((v : Word) → ps ≡ v ∷ [] → e ≡ v.at + length v.bytes) → Begun sc0 p.line st (symbols (p ∷ ps)) sc → HeldBy sc0 (ending_at e st) p ps sc
 begun_held sc0 sc state.Start p ps e last b = IsStatement.plain p ps b
 begun_held sc0 sc (state.Named l n) p ps e last b = b
 begun_held sc0 sc state.Skip p ps e last b = b
@@ -138,13 +138,13 @@ last_word (p ∷ []) w v e = absurd cc
 last_word (p ∷ q ∷ ps) w v e = absurd cc
 
 -- a word more, where no section's name is open
-plain_more : (sc0 sc : ScopeView) (st : State) (p : Word) (ps : List Word) (w : Word) (z : ScopeView × State) → (st ≡ state.Start → ⊥) → is_naming st ≡ false → Begun sc0 p.line st (symbols (p ∷ ps)) sc → next_word sc st w ≡ Ok z → HeldBy sc0 z.1 p (ps ++ w ∷ []) z.0
+plain_more : (sc0 sc : ScopeView) (st : StatementState) (p : Word) (ps : List Word) (w : Word) (z : ScopeView × StatementState) → (st ≡ state.Start → ⊥) → is_naming st ≡ false → Begun sc0 p.line st (symbols (p ∷ ps)) sc → next_word sc st w ≡ Ok z → HeldBy sc0 z.1 p (ps ++ w ∷ []) z.0
 plain_more sc0 sc st p ps w z inside no_name b h = elim (word_goes sc st w z h) [
   | WordGoes.on t g ↦ absurd (both t (not_longer st w.at w.kind w.bytes no_name))
   | WordGoes.as_symbol y t f g ↦
       let s = symbol_of w.kind w.bytes in
       let c : Begun sc0 p.line y.1 (symbols (p ∷ ps) ++ symbol_of w.kind w.bytes ∷ []) y.0 = next_begun sc0 sc p.line w.line st (symbols (p ∷ ps) ++ symbol_of w.kind w.bytes ∷ []) (symbol_of w.kind w.bytes) y (begun_more sc0 sc p.line w.line st (symbols (p ∷ ps)) (symbol_of w.kind w.bytes) y inside no_name b) f in
-      let d : Begun sc0 p.line y.1 (symbols (p ∷ (ps ++ w ∷ []))) y.0 = subst (λ (x : List Symbol). Begun sc0 p.line y.1 x y.0) (sym (symbols_end (p ∷ ps) w)) c in
+      let d : Begun sc0 p.line y.1 (symbols (p ∷ (ps ++ w ∷ []))) y.0 = subst (λ (x : List Terminal). Begun sc0 p.line y.1 x y.0) (sym (symbols_end (p ∷ ps) w)) c in
       held_is sc0 p (ps ++ w ∷ []) z (y.0, ending_at (w.at + length w.bytes) y.1) g (begun_held sc0 y.0 y.1 p (ps ++ w ∷ []) (w.at + length w.bytes) (last_word ps w) d)
 ]
   where
@@ -152,23 +152,23 @@ plain_more sc0 sc st p ps w z inside no_name b h = elim (word_goes sc st w z h) 
     both e f = absurd cc
 
 -- a symbol behind a section's name
-name_symbol : (sc0 sc : ScopeView) (b : ℕ) (n m : List ℕ) (e : ℕ) (p : Word) (ps : List Word) (w : Word) (y : ScopeView × State) → sc0 ≡ sc → InName sc0 (p ∷ ps) b n m e → (s : Symbol) → symbol_of w.kind w.bytes ≡ s
+name_symbol : (sc0 sc : ScopeView) (b : ℕ) (n m : List ℕ) (e : ℕ) (p : Word) (ps : List Word) (w : Word) (y : ScopeView × StatementState) → sc0 ≡ sc → InName sc0 (p ∷ ps) b n m e → (s : Terminal) → symbol_of w.kind w.bytes ≡ s
     → next_step sc (state.Sectioned b n m e) w.line s ≡ Ok y → HeldBy sc0 (ending_at (w.at + length w.bytes) y.1) p (ps ++ w ∷ []) y.0
 name_symbol sc0 sc b n m e p ps w y same g symbol.End is h =
     let k : (sectioned sc b n m, state.Start) ≡ y = cc in
-    let st : IsStatement sc0 (p ∷ (ps ++ w ∷ [])) (sectioned sc b n m) = subst (λ (x : ScopeView). IsStatement sc0 (p ∷ (ps ++ w ∷ [])) (sectioned x b n m)) same (name_ends sc0 (p ∷ ps) (w ∷ []) b n m e [] g (ap (λ (x : Symbol). x ∷ []) is) refl) in
-    subst (λ (z : ScopeView × State). HeldBy sc0 (ending_at (w.at + length w.bytes) z.1) p (ps ++ w ∷ []) z.0) k st
+    let st : IsStatement sc0 (p ∷ (ps ++ w ∷ [])) (sectioned sc b n m) = subst (λ (x : ScopeView). IsStatement sc0 (p ∷ (ps ++ w ∷ [])) (sectioned x b n m)) same (name_ends sc0 (p ∷ ps) (w ∷ []) b n m e [] g (ap (λ (x : Terminal). x ∷ []) is) refl) in
+    subst (λ (z : ScopeView × StatementState). HeldBy sc0 (ending_at (w.at + length w.bytes) z.1) p (ps ++ w ∷ []) z.0) k st
 name_symbol sc0 sc b n m e p ps w y same g symbol.Comma is h =
     let k : (sc, state.Flags b n m) ≡ y = cc in
     let st : InFlags sc0 (p ∷ (ps ++ w ∷ [])) b n m =
     λ rest ss end inner. subst (λ (x : List Word). IsStatement sc0 (p ∷ x) (sectioned sc0 b n m)) (sym (append_assoc ps (w ∷ []) rest)) (name_ends sc0 (p ∷ ps) (w ∷ rest) b n m e (symbol.Comma ∷ ss) g (rw (is, end) refl) inner) in
-    subst (λ (z : ScopeView × State). HeldBy sc0 (ending_at (w.at + length w.bytes) z.1) p (ps ++ w ∷ []) z.0) k (same, st)
+    subst (λ (z : ScopeView × StatementState). HeldBy sc0 (ending_at (w.at + length w.bytes) z.1) p (ps ++ w ∷ []) z.0) k (same, st)
 name_symbol sc0 sc b n m e p ps w y same g symbol.Percent is h =
     let k : (fresh, state.Stray w.line cause.BadOperand) ≡ y = cc in
-    subst (λ (z : ScopeView × State). HeldBy sc0 (ending_at (w.at + length w.bytes) z.1) p (ps ++ w ∷ []) z.0) k tt
+    subst (λ (z : ScopeView × StatementState). HeldBy sc0 (ending_at (w.at + length w.bytes) z.1) p (ps ++ w ∷ []) z.0) k tt
 name_symbol sc0 sc b n m e p ps w y same g _ is h = absurd cc
 
-name_more : (sc0 sc : ScopeView) (b : ℕ) (n m : List ℕ) (e : ℕ) (p : Word) (ps : List Word) (w : Word) (z : ScopeView × State) → HeldBy sc0 (state.Sectioned b n m e) p ps sc → next_word sc (state.Sectioned b n m e) w ≡ Ok z → HeldBy sc0 z.1 p (ps ++ w ∷ []) z.0
+name_more : (sc0 sc : ScopeView) (b : ℕ) (n m : List ℕ) (e : ℕ) (p : Word) (ps : List Word) (w : Word) (z : ScopeView × StatementState) → HeldBy sc0 (state.Sectioned b n m e) p ps sc → next_word sc (state.Sectioned b n m e) w ≡ Ok z → HeldBy sc0 z.1 p (ps ++ w ∷ []) z.0
 name_more sc0 sc b n m e p ps w z g h = elim (word_goes sc (state.Sectioned b n m e) w z h) [
   | WordGoes.on t k ↦
       let both = and_two (e == w.at) (is_part w.kind w.bytes) t in
@@ -181,24 +181,24 @@ name_more sc0 sc b n m e p ps w z g h = elim (word_goes sc (state.Sectioned b n 
     and_two true false h = absurd cc
     and_two false b h = absurd cc
 
-flags_stay : (sc0 sc : ScopeView) (b : ℕ) (n m : List ℕ) (p : Word) (ps : List Word) (w : Word) (y : ScopeView × State) → sc0 ≡ sc → InFlags sc0 (p ∷ ps) b n m → (s : Symbol) → symbol_of w.kind w.bytes ≡ s → is_inner s ≡ true
+flags_stay : (sc0 sc : ScopeView) (b : ℕ) (n m : List ℕ) (p : Word) (ps : List Word) (w : Word) (y : ScopeView × StatementState) → sc0 ≡ sc → InFlags sc0 (p ∷ ps) b n m → (s : Terminal) → symbol_of w.kind w.bytes ≡ s → is_inner s ≡ true
     → (sc, state.Flags b n m) ≡ y → HeldBy sc0 (ending_at (w.at + length w.bytes) y.1) p (ps ++ w ∷ []) y.0
 flags_stay sc0 sc b n m p ps w y same g s is inside k =
     let st : InFlags sc0 (p ∷ (ps ++ w ∷ [])) b n m =
     λ rest ss end inner. subst (λ (x : List Word). IsStatement sc0 (p ∷ x) (sectioned sc0 b n m)) (sym (append_assoc ps (w ∷ []) rest)) (g (w ∷ rest) (s ∷ ss) (rw (is, end) refl) (rw inside inner)) in
-    subst (λ (z : ScopeView × State). HeldBy sc0 (ending_at (w.at + length w.bytes) z.1) p (ps ++ w ∷ []) z.0) k (same, st)
+    subst (λ (z : ScopeView × StatementState). HeldBy sc0 (ending_at (w.at + length w.bytes) z.1) p (ps ++ w ∷ []) z.0) k (same, st)
 
 -- a symbol behind a section's name and a comma
-flags_symbol : (sc0 sc : ScopeView) (b : ℕ) (n m : List ℕ) (p : Word) (ps : List Word) (w : Word) (y : ScopeView × State) → sc0 ≡ sc → InFlags sc0 (p ∷ ps) b n m → (s : Symbol) → symbol_of w.kind w.bytes ≡ s
+flags_symbol : (sc0 sc : ScopeView) (b : ℕ) (n m : List ℕ) (p : Word) (ps : List Word) (w : Word) (y : ScopeView × StatementState) → sc0 ≡ sc → InFlags sc0 (p ∷ ps) b n m → (s : Terminal) → symbol_of w.kind w.bytes ≡ s
     → next_step sc (state.Flags b n m) w.line s ≡ Ok y → HeldBy sc0 (ending_at (w.at + length w.bytes) y.1) p (ps ++ w ∷ []) y.0
 flags_symbol sc0 sc b n m p ps w y same g symbol.End is h =
     let k : (sectioned sc b n m, state.Start) ≡ y = cc in
-    let st : IsStatement sc0 (p ∷ (ps ++ w ∷ [])) (sectioned sc b n m) = subst (λ (x : ScopeView). IsStatement sc0 (p ∷ (ps ++ w ∷ [])) (sectioned x b n m)) same (g (w ∷ []) [] (ap (λ (x : Symbol). x ∷ []) is) refl) in
-    subst (λ (z : ScopeView × State). HeldBy sc0 (ending_at (w.at + length w.bytes) z.1) p (ps ++ w ∷ []) z.0) k st
+    let st : IsStatement sc0 (p ∷ (ps ++ w ∷ [])) (sectioned sc b n m) = subst (λ (x : ScopeView). IsStatement sc0 (p ∷ (ps ++ w ∷ [])) (sectioned x b n m)) same (g (w ∷ []) [] (ap (λ (x : Terminal). x ∷ []) is) refl) in
+    subst (λ (z : ScopeView × StatementState). HeldBy sc0 (ending_at (w.at + length w.bytes) z.1) p (ps ++ w ∷ []) z.0) k st
 flags_symbol sc0 sc b n m p ps w y same g symbol.Percent is h = flags_stay sc0 sc b n m p ps w y same g symbol.Percent is refl (ok_state (sc, state.Flags b n m) y h)
 flags_symbol sc0 sc b n m p ps w y same g s is h = flags_stay sc0 sc b n m p ps w y same g s is refl (ok_state (sc, state.Flags b n m) y h)
 
-pub held_more : (sc0 sc : ScopeView) (st : State) (p : Word) (ps : List Word) (w : Word) (z : ScopeView × State) → (st ≡ state.Start → ⊥) → HeldBy sc0 st p ps sc → next_word sc st w ≡ Ok z → HeldBy sc0 z.1 p (ps ++ w ∷ []) z.0
+pub held_more : (sc0 sc : ScopeView) (st : StatementState) (p : Word) (ps : List Word) (w : Word) (z : ScopeView × StatementState) → (st ≡ state.Start → ⊥) → HeldBy sc0 st p ps sc → next_word sc st w ≡ Ok z → HeldBy sc0 z.1 p (ps ++ w ∷ []) z.0
 held_more sc0 sc state.Start p ps w z inside g h = absurd (inside refl)
 held_more sc0 sc (state.Named b n) p ps w z inside g h = plain_more sc0 sc (state.Named b n) p ps w z inside refl g h
 held_more sc0 sc state.Skip p ps w z inside g h = plain_more sc0 sc state.Skip p ps w z inside refl g h
@@ -211,7 +211,7 @@ held_more sc0 sc (state.Arguments o) p ps w z inside g h = plain_more sc0 sc (st
 held_more sc0 sc (state.Stray l c) p ps w z inside g h = plain_more sc0 sc (state.Stray l c) p ps w z inside refl g h
 
 -- the first word of a statement
-pub first_held : (sc : ScopeView) (w : Word) (z : ScopeView × State) → next_word sc state.Start w ≡ Ok z → HeldBy sc z.1 w [] z.0
+pub first_held : (sc : ScopeView) (w : Word) (z : ScopeView × StatementState) → next_word sc state.Start w ≡ Ok z → HeldBy sc z.1 w [] z.0
 first_held sc w z h = elim (word_goes sc state.Start w z h) [
   | WordGoes.on t k ↦ absurd cc
   | WordGoes.as_symbol y t f k ↦
@@ -219,24 +219,24 @@ first_held sc w z h = elim (word_goes sc state.Start w z h) [
       held_is sc w [] z (y.0, ending_at (w.at + length w.bytes) y.1) k (begun_held sc y.0 y.1 w [] (w.at + length w.bytes) (λ v e. absurd cc) b)
 ]
 
-pub placed_ok : (line : ℕ) (r : Answer) (z : ScopeView × State) → placed line r ≡ Ok z → r ≡ Ok z
-placed_ok line (Ok x) z h = let e : x ≡ z = cc in ap (λ (q : ScopeView × State). Ok q) e
+pub placed_ok : (line : ℕ) (r : Answer) (z : ScopeView × StatementState) → placed line r ≡ Ok z → r ≡ Ok z
+placed_ok line (Ok x) z h = let e : x ≡ z = cc in ap (λ (q : ScopeView × StatementState). Ok q) e
 placed_ok line (Err c) z h = absurd cc
 
 abbrev Collects : List Word → ScopeView → Type 0
-Collects ws scz = (sc0 sc : ScopeView) (st : State) (piece : List Word) → Held sc0 st piece sc → read_words sc st ws ≡ Ok (scz, state.Start) → Statements sc0 (piece ++ ws) scz
+Collects ws scz = (sc0 sc : ScopeView) (st : StatementState) (piece : List Word) → Held sc0 st piece sc → read_words sc st ws ≡ Ok (scz, state.Start) → Statements sc0 (piece ++ ws) scz
 
-next_piece : (w : Word) (ps ws : List Word) (sc0 scz sc : ScopeView) (st : State) → HeldBy sc0 st w ps sc → read_words sc st ws ≡ Ok (scz, state.Start) → Collects ws scz → Statements sc0 (w ∷ (ps ++ ws)) scz
+next_piece : (w : Word) (ps ws : List Word) (sc0 scz sc : ScopeView) (st : StatementState) → HeldBy sc0 st w ps sc → read_words sc st ws ≡ Ok (scz, state.Start) → Collects ws scz → Statements sc0 (w ∷ (ps ++ ws)) scz
 next_piece w ps ws sc0 scz sc state.Start b h ih = Statements.more (w ∷ ps) ws refl b (ih sc sc state.Start [] (refl, refl) h)
 next_piece w ps ws sc0 scz sc st b h ih = ih sc0 sc st (w ∷ ps) ((λ e. absurd cc), b) h
 
 collect : (ws : List Word) (scz : ScopeView) → Collects ws scz
-collect [] scz sc0 sc st [] held h = let e : (sc, st) ≡ (scz, state.Start) = cc in subst (Statements sc0 []) (held.1 ∙ ap (λ (x : ScopeView × State). x.0) e) Statements.none
-collect [] scz sc0 sc st (w ∷ ps) held h = let e : (sc, st) ≡ (scz, state.Start) = cc in absurd (held.0 (ap (λ (x : ScopeView × State). x.1) e))
+collect [] scz sc0 sc st [] held h = let e : (sc, st) ≡ (scz, state.Start) = cc in subst (Statements sc0 []) (held.1 ∙ ap (λ (x : ScopeView × StatementState). x.0) e) Statements.none
+collect [] scz sc0 sc st (w ∷ ps) held h = let e : (sc, st) ≡ (scz, state.Start) = cc in absurd (held.0 (ap (λ (x : ScopeView × StatementState). x.1) e))
 collect (w ∷ ws) scz sc0 sc st [] held h =
     let z = bind_ok (placed (fault_line sc st w.line) (next_word sc st w)) (λ z. read_words z.0 z.1 ws) (scz, state.Start) h in
     let e = placed_ok (fault_line sc st w.line) (next_word sc st w) z.0 z.1 in
-    let e2 : next_word sc state.Start w ≡ Ok z.0 = subst (λ (x : State). next_word sc x w ≡ Ok z.0) held.0 e in
+    let e2 : next_word sc state.Start w ≡ Ok z.0 = subst (λ (x : StatementState). next_word sc x w ≡ Ok z.0) held.0 e in
     let b : HeldBy sc0 z.0.1 w [] z.0.0 = subst (λ (x : ScopeView). HeldBy x z.0.1 w [] z.0.0) (sym held.1) (first_held sc w z.0 e2) in
     next_piece w [] ws sc0 scz z.0.0 z.0.1 b z.2 (collect ws scz)
 collect (w ∷ ws) scz sc0 sc st (p ∷ ps) held h =

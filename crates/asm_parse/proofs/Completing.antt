@@ -12,11 +12,11 @@ use Rattle.asm_lex.specs.Bytes.{class_of, is_digit, is_letter, is_word}
 use Rattle.asm_lex.specs.declared.token.TokenKind.TheVariants as kind
 use Rattle.asm_lex.specs.Words.{Word}
 use Rattle.asm_lex.specs.Source.{lines_after}
-use Rattle.asm_argument.specs.declared.symbol.Symbol.{Symbol}
-use Rattle.asm_argument.specs.declared.symbol.Symbol.TheVariants as symbol
+use Rattle.asm_argument.specs.declared.symbol.Terminal.{Terminal}
+use Rattle.asm_argument.specs.declared.symbol.Terminal.TheVariants as symbol
 use Rattle.asm_argument.specs.declared.operand.Shape.{Shape}
 use Rattle.asm_argument.specs.declared.operand.Shape.TheVariants as shape
-use Rattle.asm_argument.specs.declared.operand.Place.TheVariants as place
+use Rattle.asm_argument.specs.declared.operand.ValuePlace.TheVariants as place
 use Rattle.asm_argument.specs.declared.operand.Partial.{Partial}
 use Rattle.asm_argument.specs.declared.operand.Partial.TheVariants as partial
 use Rattle.asm_source.specs.declared.tree.Form.{Form}
@@ -27,8 +27,8 @@ use Rattle.asm_parse.specs.declared.directive.Directive.TheVariants as directive
 use Rattle.asm_parse.specs.declared.directive.Head.{Head}
 use Rattle.asm_parse.specs.declared.directive.Head.TheVariants as head
 use Rattle.asm_parse.specs.declared.state.Open.{Open}
-use Rattle.asm_parse.specs.declared.state.State.{State}
-use Rattle.asm_parse.specs.declared.state.State.TheVariants as state
+use Rattle.asm_parse.specs.declared.state.StatementState.{StatementState}
+use Rattle.asm_parse.specs.declared.state.StatementState.TheVariants as state
 use Rattle.asm_parse.specs.ScopeView.{ScopeView}
 use Rattle.asm_source.specs.Names.{holds}
 use Rattle.asm_parse.specs.Scope.{has_room, is_spent, pushed, noted, defined_too}
@@ -131,13 +131,13 @@ finish sh (partial.Whole f) never = done sh (partial.Whole f) f refl
 
 -- ---- a statement
 
-pub record Completed (sc : ScopeView) (st : State) : Type 0 where
+pub record Completed (sc : ScopeView) (st : StatementState) : Type 0 where
   pub pieces : List Piece
   pub are : ArePieces pieces
   pub last : ScopeView
   pub runs : (at line : ℕ) → read_words sc st (words_at at line pieces) ≡ Ok (last, state.Start)
 
-by_symbols : (sc last : ScopeView) (st : State) (ps : List Piece) → ArePieces ps → inners sc st (symbols_of ps) ≡ Ok (last, state.Start) → Completed sc st
+by_symbols : (sc last : ScopeView) (st : StatementState) (ps : List Piece) → ArePieces ps → inners sc st (symbols_of ps) ≡ Ok (last, state.Start) → Completed sc st
 by_symbols sc last st ps are h = record {
   pieces = ps;
   are = are;
@@ -224,7 +224,7 @@ arguments_completed sc o w =
     form_runs o.line o.head o.done o.star w.shape w.may (symbols_of f.pieces) o.so_far f.last sc sc f.runs (gains_none (defines o.head (length o.done)) sc (named_in o.so_far) (named_in f.last) f.names) in
     by_count f first (nat_lt (length (o.done ++ record { star = o.star; form = f.form } ∷ [])) (least o.head)) refl
   where
-    joined : (ps qs : List Piece) (st : State) (last : ScopeView) → inners sc (state.Arguments o) (symbols_of ps) ≡ Ok (sc, st) → inners sc st (symbols_of qs) ≡ Ok (last, state.Start) → inners sc (state.Arguments o) (symbols_of (ps ++ qs)) ≡ Ok (last, state.Start)
+    joined : (ps qs : List Piece) (st : StatementState) (last : ScopeView) → inners sc (state.Arguments o) (symbols_of ps) ≡ Ok (sc, st) → inners sc st (symbols_of qs) ≡ Ok (last, state.Start) → inners sc (state.Arguments o) (symbols_of (ps ++ qs)) ≡ Ok (last, state.Start)
     joined ps qs st last h k = ap (inners sc (state.Arguments o)) (symbols_of-append ps qs) ∙ (inners_append (symbols_of ps) (symbols_of qs) sc (state.Arguments o) (sc, st) h ∙ k)
 
     by_count : (f : Finish w.shape o.so_far) → inners sc (state.Arguments o) (symbols_of f.pieces) ≡ Ok (sc, state.Arguments (open_at o.line o.head o.done o.star f.last))
@@ -441,7 +441,7 @@ named_completed sc b n g alive = by_tests (is_passed sc n) (is_dotted n) (is_rep
     by_tests false false false e f k = by_symbols sc _ (state.Named b n) (the_end ∷ []) (end_piece, tt) (statement_runs (Statement.instruction {sc = sc} {line = b} {n = n} e f k HasArguments.none))
 
 -- Where nothing is dead the statement can end.
-pub completed : (sc : ScopeView) (st : State) → GoodIn IsName sc → StateIs IsName st → doom sc st ≡ None → Completed sc st
+pub completed : (sc : ScopeView) (st : StatementState) → GoodIn IsName sc → StateIs IsName st → doom sc st ≡ None → Completed sc st
 completed sc state.Start g is alive = record { pieces = []; are = tt; last = sc; runs = λ at line. refl }
 completed sc (state.Named b n) g is alive = named_completed sc b n g alive
 completed sc state.Skip g is alive = by_symbols sc sc state.Skip (the_end ∷ []) (end_piece, tt) refl

@@ -6,8 +6,8 @@ use Rattle.asm_lex.specs.declared.token.TokenKind.{TokenKind}
 use Rattle.asm_lex.specs.declared.token.TokenKind.TheVariants as kind
 use Rattle.asm_lex.specs.Words.{Word}
 use Rattle.asm_lex.specs.Source.{IsGap, IsToken, Lexed}
-use Rattle.asm_argument.specs.declared.symbol.Symbol.{Symbol}
-use Rattle.asm_argument.specs.declared.symbol.Symbol.TheVariants as symbol
+use Rattle.asm_argument.specs.declared.symbol.Terminal.{Terminal}
+use Rattle.asm_argument.specs.declared.symbol.Terminal.TheVariants as symbol
 use Rattle.asm_argument.specs.declared.escapes.Escape.{Escape}
 use Rattle.asm_argument.specs.declared.escapes.Escape.TheVariants as escape
 use Rattle.asm_argument.specs.declared.escapes.Unescaped.{Unescaped}
@@ -17,16 +17,16 @@ use Rattle.asm_argument.specs.Symbols.{number_value, mark_symbol, number_symbol,
 use Rattle.asm_parse.specs.Statements.{symbols}
 
 -- the bytes that a symbol stands for, or one
-abbrev pub cost : Symbol → ℕ
+abbrev pub cost : Terminal → ℕ
 cost (symbol.Name n) = length n
 cost (symbol.Text t) = length t
 cost _ = 1
 
-abbrev pub costs : List Symbol → ℕ
+abbrev pub costs : List Terminal → ℕ
 costs [] = 0
 costs (s ∷ ss) = cost s + costs ss
 
-pub costs-append : (ss ts : List Symbol) → costs (ss ++ ts) ≡ costs ss + costs ts
+pub costs-append : (ss ts : List Terminal) → costs (ss ++ ts) ≡ costs ss + costs ts
 costs-append [] ts = omega arith
 costs-append (s ∷ ss) ts = omega (arith, costs-append ss ts)
 
@@ -67,7 +67,7 @@ string_shorter e (b ∷ bs) =
 
 -- ---- tokens
 
-one_either : (t : Bool) (a b : Symbol) → cost a ≡ 1 → cost b ≡ 1 → cost (cond t a b) ≡ 1
+one_either : (t : Bool) (a b : Terminal) → cost a ≡ 1 → cost b ≡ 1 → cost (cond t a b) ≡ 1
 one_either true a b p q = p
 one_either false a b p q = q
 

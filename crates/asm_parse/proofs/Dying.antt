@@ -6,8 +6,8 @@ use Rattle.asm_lex.specs.declared.fault.SourceCause.TheVariants.{OpenComment}
 use Rattle.asm_lex.specs.declared.machine.Mode.TheVariants as mode
 use Rattle.asm_lex.specs.declared.machine.Mode.{Mode}
 use Rattle.asm_lex.specs.Words.{Word, scan, line_after}
-use Rattle.asm_parse.specs.declared.state.State.{State}
-use Rattle.asm_parse.specs.declared.state.State.TheVariants as state
+use Rattle.asm_parse.specs.declared.state.StatementState.{StatementState}
+use Rattle.asm_parse.specs.declared.state.StatementState.TheVariants as state
 use Rattle.asm_parse.specs.ScopeView.{ScopeView}
 use Rattle.asm_parse.specs.Statement.{doom, pending, or_line, fault_line, left_open, open_at_end}
 use Rattle.asm_parse.specs.Reading.{Fault, placed, next_word}
@@ -27,10 +27,10 @@ finish r text = run r text >>= λ s. closed s s.mode
 
 -- ---- what is dead stays dead
 
-pub words_doomed : (ws : List Word) (sc : ScopeView) (st : State) (l : ℕ) (y : ScopeView × State) → GoodIn Any sc → doom sc st ≡ Some l → read_words sc st ws ≡ Ok y → y.1 ≡ state.Start → ⊥
+pub words_doomed : (ws : List Word) (sc : ScopeView) (st : StatementState) (l : ℕ) (y : ScopeView × StatementState) → GoodIn Any sc → doom sc st ≡ Some l → read_words sc st ws ≡ Ok y → y.1 ≡ state.Start → ⊥
 words_doomed [] sc st l y good d h e =
     let g : (sc, st) ≡ y = cc in
-    let start : st ≡ state.Start = ap (λ (x : ScopeView × State). x.1) g ∙ e in
+    let start : st ≡ state.Start = ap (λ (x : ScopeView × StatementState). x.1) g ∙ e in
     let none : None ≡ Some l = sym (ap (doom sc) start) ∙ d in
     absurd cc
 words_doomed (w ∷ ws) sc st l y good d h e =

@@ -11,8 +11,8 @@ use Rattle.asm_lex.specs.declared.machine.Next.TheVariants.{Goes, Stops}
 use Rattle.asm_lex.specs.Machine.{stepped}
 use Rattle.asm_lex.specs.Words.{Word, Scan, scan, with_token, word_of, line_after}
 use Rattle.asm_lex.proofs.FaultLines.{StopsIn, step_in}
-use Rattle.asm_parse.specs.declared.state.State.{State}
-use Rattle.asm_parse.specs.declared.state.State.TheVariants as state
+use Rattle.asm_parse.specs.declared.state.StatementState.{StatementState}
+use Rattle.asm_parse.specs.declared.state.StatementState.TheVariants as state
 use Rattle.asm_source.specs.declared.tree.SourceItem.{SourceItem}
 use Rattle.asm_parse.specs.ScopeView.{ScopeView}
 use Rattle.asm_parse.specs.Scope.{fresh}
@@ -28,16 +28,16 @@ use Rattle.asm_parse.proofs.Refused.{found_fault}
 use Rattle.asm_parse.proofs.Worded.{EndsSo, text_worded}
 
 -- the fault of words and of what a scan ends with
-abbrev fault_next : ScopeView → State → List Word → Next → Option Fault
+abbrev fault_next : ScopeView → StatementState → List Word → Next → Option Fault
 fault_next sc st [] (Stops l c) = Some (stopped sc st l c)
 fault_next sc st [] (Goes (mode.Block l)) = Some (left_open sc st l)
 fault_next sc st [] (Goes m) = None
 fault_next sc st (w ∷ ws) n = elim (placed (fault_line sc st w.line) (next_word sc st w)) [ Ok y ↦ fault_next y.0 y.1 ws n | Err f ↦ Some f ]
 
-abbrev of_scan : ScopeView → State → Scan → Option Fault
+abbrev of_scan : ScopeView → StatementState → Scan → Option Fault
 of_scan sc st s = fault_next sc st s.words s.ending
 
-token_fault : (sc : ScopeView) (st : State) (seen : List ℕ) (line : ℕ) (t : Option Token) (s : Scan) → of_scan sc st (with_token seen line t s) ≡ elim (fed sc st seen line t) [ Ok y ↦ of_scan y.0 y.1 s | Err f ↦ Some f ]
+token_fault : (sc : ScopeView) (st : StatementState) (seen : List ℕ) (line : ℕ) (t : Option Token) (s : Scan) → of_scan sc st (with_token seen line t s) ≡ elim (fed sc st seen line t) [ Ok y ↦ of_scan y.0 y.1 s | Err f ↦ Some f ]
 token_fault sc st seen line None s = refl
 token_fault sc st seen line (Some t) s = refl
 
@@ -67,19 +67,19 @@ run_fault (b ∷ bs) r f h =
     token_fault r.scope r.state (r.seen ++ b ∷ []) r.line (stepped r.mode r.at r.line b).first (with_token (r.seen ++ b ∷ []) r.line (stepped r.mode r.at r.line b).second (rest_scan (r.seen ++ b ∷ []) r.at r.line b bs (stepped r.mode r.at r.line b).next))
     ∙ by_first (fed r.scope r.state (r.seen ++ b ∷ []) r.line (stepped r.mode r.at r.line b).first) h (λ q g. run_fault bs q f g)
   where
-    by_next : (z : ScopeView × State) (n : Next) → StopsIn r.line n → ◌≡◌ {A = Result Running Fault} (((goes_on r.line z n >>= λ x. Ok (moved r b x)) >>= λ s. run s bs) >>= λ s. closed s s.mode) (Err f)
+    by_next : (z : ScopeView × StatementState) (n : Next) → StopsIn r.line n → ◌≡◌ {A = Result Running Fault} (((goes_on r.line z n >>= λ x. Ok (moved r b x)) >>= λ s. run s bs) >>= λ s. closed s s.mode) (Err f)
         → ((q : Running) → finish q bs ≡ Err f → of_scan q.scope q.state (scan q.mode q.seen q.at q.line bs) ≡ Some f) → of_scan z.0 z.1 (rest_scan (r.seen ++ b ∷ []) r.at r.line b bs n) ≡ Some f
     by_next z (Goes m) here g ih = ih (moved r b (z.0, z.1, m)) g
     by_next z (Stops l c) here g ih = ap (λ (x : ℕ). Some (stopped z.0 z.1 x c)) here ∙ some_is (stopped z.0 z.1 r.line c) f (err_same (stopped z.0 z.1 r.line c) f g)
 
-    by_second : (y : ScopeView × State) (v : Result (ScopeView × State) Fault)
+    by_second : (y : ScopeView × StatementState) (v : Result (ScopeView × StatementState) Fault)
         → ◌≡◌ {A = Result Running Fault} ((((v >>= λ z. goes_on r.line z (stepped r.mode r.at r.line b).next) >>= λ x. Ok (moved r b x)) >>= λ s. run s bs) >>= λ s. closed s s.mode) (Err f)
         → ((q : Running) → finish q bs ≡ Err f → of_scan q.scope q.state (scan q.mode q.seen q.at q.line bs) ≡ Some f)
         → (elim v [ Ok z ↦ of_scan z.0 z.1 (rest_scan (r.seen ++ b ∷ []) r.at r.line b bs (stepped r.mode r.at r.line b).next) | Err g ↦ Some g ]) ≡ Some f
     by_second y (Ok z) g ih = by_next z (stepped r.mode r.at r.line b).next (step_in r.mode r.at r.line b) g ih
     by_second y (Err e) g ih = some_is e f (err_same e f g)
 
-    by_first : (v : Result (ScopeView × State) Fault)
+    by_first : (v : Result (ScopeView × StatementState) Fault)
         → ◌≡◌ {A = Result Running Fault} ((((v >>= λ y. second_does y.0 y.1 (r.seen ++ b ∷ []) r.line (stepped r.mode r.at r.line b).second (stepped r.mode r.at r.line b).next) >>= λ x. Ok (moved r b x)) >>= λ s. run s bs) >>= λ s. closed s s.mode) (Err f)
         → ((q : Running) → finish q bs ≡ Err f → of_scan q.scope q.state (scan q.mode q.seen q.at q.line bs) ≡ Some f)
         → (elim v [ Ok y ↦ of_scan y.0 y.1 (with_token (r.seen ++ b ∷ []) r.line (stepped r.mode r.at r.line b).second (rest_scan (r.seen ++ b ∷ []) r.at r.line b bs (stepped r.mode r.at r.line b).next)) | Err g ↦ Some g ]) ≡ Some f
@@ -98,13 +98,13 @@ worded_named (Worded.broken piece rest e h) = tt
 worded_named (Worded.comment h e u) = tt
 
 -- the same fault
-same_fault : (ws : List Word) (sc : ScopeView) (st : State) (e : Ending) (n : Next) → EndsSo e n → fault_in sc st ws e ≡ fault_next sc st ws n
+same_fault : (ws : List Word) (sc : ScopeView) (st : StatementState) (e : Ending) (n : Next) → EndsSo e n → fault_in sc st ws e ≡ fault_next sc st ws n
 same_fault [] sc st e n EndsSo.whole = refl
 same_fault [] sc st e n EndsSo.broken = refl
 same_fault [] sc st e n EndsSo.comment = refl
 same_fault (w ∷ ws) sc st e n is = by_result (placed (fault_line sc st w.line) (next_word sc st w)) (λ y. same_fault ws y.0 y.1 e n is)
   where
-    by_result : (r : Result (ScopeView × State) Fault) → ((y : ScopeView × State) → fault_in y.0 y.1 ws e ≡ fault_next y.0 y.1 ws n)
+    by_result : (r : Result (ScopeView × StatementState) Fault) → ((y : ScopeView × StatementState) → fault_in y.0 y.1 ws e ≡ fault_next y.0 y.1 ws n)
         → ◌≡◌ {A = Option Fault} (elim r [ Ok y ↦ fault_in y.0 y.1 ws e | Err f ↦ Some f ]) (elim r [ Ok y ↦ fault_next y.0 y.1 ws n | Err f ↦ Some f ])
     by_result (Ok y) ih = ih y
     by_result (Err f) ih = refl

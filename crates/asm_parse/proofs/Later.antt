@@ -3,8 +3,8 @@ use Rattle.std.proofs.Common.{◌≡◌, ℕ, Bool, true, false, cond, List, [],
 use Rattle.std.specs.Prelude.{nat_lt}
 use Rattle.asm_lex.specs.declared.fault.SourceCause.{SourceCause}
 use Rattle.asm_lex.specs.declared.fault.SourceCause.TheVariants as cause
-use Rattle.asm_argument.specs.declared.symbol.Symbol.{Symbol}
-use Rattle.asm_argument.specs.declared.symbol.Symbol.TheVariants as symbol
+use Rattle.asm_argument.specs.declared.symbol.Terminal.{Terminal}
+use Rattle.asm_argument.specs.declared.symbol.Terminal.TheVariants as symbol
 use Rattle.asm_argument.specs.declared.operand.Shape.{Shape}
 use Rattle.asm_argument.specs.declared.operand.Partial.{Partial}
 use Rattle.asm_source.specs.declared.tree.Argument.{Argument}
@@ -13,8 +13,8 @@ use Rattle.asm_parse.specs.declared.directive.Directive.TheVariants as directive
 use Rattle.asm_parse.specs.declared.directive.Head.{Head}
 use Rattle.asm_parse.specs.declared.directive.Head.TheVariants as head
 use Rattle.asm_parse.specs.declared.state.Open.{Open}
-use Rattle.asm_parse.specs.declared.state.State.{State}
-use Rattle.asm_parse.specs.declared.state.State.TheVariants as state
+use Rattle.asm_parse.specs.declared.state.StatementState.{StatementState}
+use Rattle.asm_parse.specs.declared.state.StatementState.TheVariants as state
 use Rattle.asm_parse.specs.ScopeView.{ScopeView}
 use Rattle.asm_parse.specs.Scope.{fresh, pushed}
 use Rattle.asm_argument.specs.Operand.{operand_step, is_finished, name_in}
@@ -22,9 +22,9 @@ use Rattle.asm_parse.specs.Directives.{shape_at, least, directive_of, is_dotted,
 use Rattle.asm_parse.specs.Statement.{noting, after_noting, with_name, after_step, at_shape, argument_of, comma_behind, end_behind, ended, complete, is_bare, takes_star, within, argument_step, nothing_yet, labelled, label, is_rep, rep_step, is_passed, section_name, of_directive, with_scope, sectioned_step, skip, named_step, step, start_step, unless_skipping, is_place, fault_line, strayed, next_step}
 
 abbrev Answer : Type 0
-Answer = Result (ScopeView × State) SourceCause
+Answer = Result (ScopeView × StatementState) SourceCause
 
-abbrev pub is_later : State → Bool
+abbrev pub is_later : StatementState → Bool
 is_later (state.Named b n) = false
 is_later (state.Stray l c) = false
 is_later _ = true
@@ -45,15 +45,15 @@ name_later : (sc : ScopeView) (o : Open) (n : Option (List ℕ)) → IsLater (wi
 name_later sc o None = refl
 name_later sc o (Some n) = noting_later o (noting sc (defines o.head (length o.done)) n)
 
-step_later : (sc : ScopeView) (o : Open) (s : Symbol) (r : Result Partial SourceCause) → IsLater (after_step sc o s r)
+step_later : (sc : ScopeView) (o : Open) (s : Terminal) (r : Result Partial SourceCause) → IsLater (after_step sc o s r)
 step_later sc o s (Err c) = tt
 step_later sc o s (Ok q) = name_later sc (record o { so_far = q }) (name_in q)
 
-shape_later : (sc : ScopeView) (o : Open) (s : Symbol) (r : Option Shape) → IsLater (at_shape sc o s r)
+shape_later : (sc : ScopeView) (o : Open) (s : Terminal) (r : Option Shape) → IsLater (at_shape sc o s r)
 shape_later sc o s None = tt
 shape_later sc o s (Some sh) = step_later sc o s (operand_step sh o.so_far s)
 
-within_later : (sc : ScopeView) (o : Open) (s : Symbol) → IsLater (within sc o s)
+within_later : (sc : ScopeView) (o : Open) (s : Terminal) → IsLater (within sc o s)
 within_later sc o s = shape_later sc o s (shape_at o.head (length o.done))
 
 next_later : (sc : ScopeView) (line : ℕ) (h : Head) (done : List Argument) (r : Option Shape) → IsLater (with_scope sc (argument_of line h done r))
@@ -71,17 +71,17 @@ end_later : (sc : ScopeView) (e : Option (ℕ × Head × List Argument × Argume
 end_later sc None = tt
 end_later sc (Some e) = complete_later sc e.0 e.1 (e.2 ++ e.3 ∷ [])
 
-argument_later : (sc : ScopeView) (o : Open) (s : Symbol) → IsLater (argument_step sc o s)
+argument_later : (sc : ScopeView) (o : Open) (s : Terminal) → IsLater (argument_step sc o s)
 argument_later sc o symbol.Comma = either (is_finished o.so_far) _ _ (comma_later sc (ended o)) (within_later sc o symbol.Comma)
 argument_later sc o symbol.End = either (is_bare o) _ _ (complete_later sc o.line o.head o.done) (either (is_finished o.so_far) _ _ (end_later sc (ended o)) (within_later sc o symbol.End))
 argument_later sc o symbol.Star = either (takes_star o) _ _ refl (within_later sc o symbol.Star)
 argument_later sc o s = within_later sc o s
 
-skip_later : (s : Symbol) → is_later (skip s) ≡ true
+skip_later : (s : Terminal) → is_later (skip s) ≡ true
 skip_later symbol.End = refl
 skip_later _ = refl
 
-section_later : (sc : ScopeView) (line : ℕ) (n : List ℕ) (s : Symbol) → IsLater (with_scope sc (section_name line n s))
+section_later : (sc : ScopeView) (line : ℕ) (n : List ℕ) (s : Terminal) → IsLater (with_scope sc (section_name line n s))
 section_later sc line n (symbol.Name m) = by_test (is_section m)
   where
     by_test : (t : Bool) → IsLater (with_scope sc (cond t (Ok (state.Sectioned line n m 0)) (Err cause.BadArgument)))
@@ -89,13 +89,13 @@ section_later sc line n (symbol.Name m) = by_test (is_section m)
     by_test false = tt
 section_later sc line n _ = tt
 
-directive_later : (sc : ScopeView) (line : ℕ) (n : List ℕ) (s : Symbol) (d : Option Directive) → IsLater (of_directive d sc line n s)
+directive_later : (sc : ScopeView) (line : ℕ) (n : List ℕ) (s : Terminal) (d : Option Directive) → IsLater (of_directive d sc line n s)
 directive_later sc line n s None = tt
 directive_later sc line n s (Some directive.Skipped) = skip_later s
 directive_later sc line n s (Some directive.Section) = section_later sc line n s
 directive_later sc line n s (Some k) = argument_later sc (nothing_yet line (head.Directive k n)) s
 
-rep_later : (sc : ScopeView) (line : ℕ) (s : Symbol) → IsLater (rep_step sc line s)
+rep_later : (sc : ScopeView) (line : ℕ) (s : Terminal) → IsLater (rep_step sc line s)
 rep_later sc line (symbol.Name m) = refl
 rep_later sc line _ = tt
 
@@ -103,20 +103,20 @@ labelled_later : (line : ℕ) (n : List ℕ) (r : Result ScopeView SourceCause) 
 labelled_later line n (Ok sc) = refl
 labelled_later line n (Err c) = tt
 
-named_later : (sc : ScopeView) (b : ℕ) (n : List ℕ) (s : Symbol) → IsLater (named_step sc b n s)
+named_later : (sc : ScopeView) (b : ℕ) (n : List ℕ) (s : Terminal) → IsLater (named_step sc b n s)
 named_later sc b n symbol.Colon = either sc.skipping _ _ refl (labelled_later b n (noting sc true n))
 named_later sc b n s = either (is_passed sc n) _ _ (skip_later s) (either (is_dotted n) _ _ (directive_later sc b n s (directive_of n)) (either (is_rep n) _ _ (rep_later sc b s) (argument_later sc (nothing_yet b (head.Instruction false n)) s)))
 
-sectioned_later : (sc : ScopeView) (b : ℕ) (n m : List ℕ) (s : Symbol) → IsLater (sectioned_step sc b n m s)
+sectioned_later : (sc : ScopeView) (b : ℕ) (n m : List ℕ) (s : Terminal) → IsLater (sectioned_step sc b n m s)
 sectioned_later sc b n m symbol.End = refl
 sectioned_later sc b n m symbol.Comma = refl
 sectioned_later sc b n m _ = tt
 
-flags_later : (sc : ScopeView) (b : ℕ) (n m : List ℕ) (line : ℕ) (s : Symbol) → IsLater (step sc (state.Flags b n m) line s)
+flags_later : (sc : ScopeView) (b : ℕ) (n m : List ℕ) (line : ℕ) (s : Terminal) → IsLater (step sc (state.Flags b n m) line s)
 flags_later sc b n m line symbol.End = refl
 flags_later sc b n m line _ = refl
 
-inside_later : (sc : ScopeView) (st : State) (line : ℕ) (s : Symbol) → (st ≡ state.Start → ⊥) → IsLater (step sc st line s)
+inside_later : (sc : ScopeView) (st : StatementState) (line : ℕ) (s : Terminal) → (st ≡ state.Start → ⊥) → IsLater (step sc st line s)
 inside_later sc state.Start line s inside = absurd (inside refl)
 inside_later sc (state.Named b n) line s inside = named_later sc b n s
 inside_later sc state.Skip line s inside = skip_later s
@@ -128,29 +128,29 @@ inside_later sc (state.Stray l c) line s inside = tt
 -- ---- the next symbol
 
 -- A symbol leads on within the statement; it is the first name of one; or it is a `%` that may not stand there.
-pub data Leads-on (sc : ScopeView) (st : State) (line : ℕ) (s : Symbol) (y : ScopeView × State) : Type 0 where
+pub data Leads-on (sc : ScopeView) (st : StatementState) (line : ℕ) (s : Terminal) (y : ScopeView × StatementState) : Type 0 where
   later : is_later y.1 ≡ true → Leads-on sc st line s y
   name : (n : List ℕ) → st ≡ state.Start → s ≡ symbol.Name n → y ≡ (sc, state.Named line n) → Leads-on sc st line s y
   astray : (c : SourceCause) → s ≡ symbol.Percent → step sc st line symbol.Percent ≡ Err c → is_place c ≡ true → y ≡ (fresh, state.Stray (fault_line sc st line) c) → Leads-on sc st line s y
 
-ok_same : (x y : ScopeView × State) → ◌≡◌ {A = Answer} (Ok x) (Ok y) → x ≡ y
+ok_same : (x y : ScopeView × StatementState) → ◌≡◌ {A = Answer} (Ok x) (Ok y) → x ≡ y
 ok_same x y h = cc
 
-start_name : (sc : ScopeView) (line : ℕ) (s : Symbol) (y : ScopeView × State) → step sc state.Start line s ≡ Ok y → Leads-on sc state.Start line s y
-start_name sc line symbol.End y h = Leads-on.later (ap (λ (z : ScopeView × State). is_later z.1) (sym (ok_same (sc, state.Start) y h)))
+start_name : (sc : ScopeView) (line : ℕ) (s : Terminal) (y : ScopeView × StatementState) → step sc state.Start line s ≡ Ok y → Leads-on sc state.Start line s y
+start_name sc line symbol.End y h = Leads-on.later (ap (λ (z : ScopeView × StatementState). is_later z.1) (sym (ok_same (sc, state.Start) y h)))
 start_name sc line (symbol.Name n) y h = Leads-on.name n refl refl (sym (ok_same (sc, state.Named line n) y h))
 start_name sc line symbol.Big y h = by_test sc.skipping h
   where
     by_test : (t : Bool) → ◌≡◌ {A = Answer} (with_scope sc (unless_skipping t cause.BadNumber)) (Ok y) → Leads-on sc state.Start line symbol.Big y
-    by_test true h = Leads-on.later (ap (λ (z : ScopeView × State). is_later z.1) (sym (ok_same (sc, state.Skip) y h)))
+    by_test true h = Leads-on.later (ap (λ (z : ScopeView × StatementState). is_later z.1) (sym (ok_same (sc, state.Skip) y h)))
     by_test false h = absurd cc
 start_name sc line s y h = by_test sc.skipping h
   where
     by_test : (t : Bool) → ◌≡◌ {A = Answer} (with_scope sc (unless_skipping t cause.BadOperand)) (Ok y) → Leads-on sc state.Start line s y
-    by_test true h = Leads-on.later (ap (λ (z : ScopeView × State). is_later z.1) (sym (ok_same (sc, state.Skip) y h)))
+    by_test true h = Leads-on.later (ap (λ (z : ScopeView × StatementState). is_later z.1) (sym (ok_same (sc, state.Skip) y h)))
     by_test false h = absurd cc
 
-is_start : (st : State) → (st ≡ state.Start) ⊎ (st ≡ state.Start → ⊥)
+is_start : (st : StatementState) → (st ≡ state.Start) ⊎ (st ≡ state.Start → ⊥)
 is_start state.Start = inl refl
 is_start (state.Named b n) = inr (λ e. absurd cc)
 is_start state.Skip = inr (λ e. absurd cc)
@@ -159,13 +159,13 @@ is_start (state.Flags b n m) = inr (λ e. absurd cc)
 is_start (state.Arguments o) = inr (λ e. absurd cc)
 is_start (state.Stray l c) = inr (λ e. absurd cc)
 
-step_leads : (sc : ScopeView) (st : State) (line : ℕ) (s : Symbol) (y : ScopeView × State) → step sc st line s ≡ Ok y → Leads-on sc st line s y
+step_leads : (sc : ScopeView) (st : StatementState) (line : ℕ) (s : Terminal) (y : ScopeView × StatementState) → step sc st line s ≡ Ok y → Leads-on sc st line s y
 step_leads sc st line s y h = elim (is_start st) [
-  | inl e ↦ subst (λ (x : State). Leads-on sc x line s y) (sym e) (start_name sc line s y (subst (λ (x : State). step sc x line s ≡ Ok y) e h))
+  | inl e ↦ subst (λ (x : StatementState). Leads-on sc x line s y) (sym e) (start_name sc line s y (subst (λ (x : StatementState). step sc x line s ≡ Ok y) e h))
   | inr inside ↦ let g : IsLater (Ok y) = subst IsLater h (inside_later sc st line s inside) in Leads-on.later g
 ]
 
-pub leads_on : (sc : ScopeView) (st : State) (line : ℕ) (s : Symbol) (y : ScopeView × State) → next_step sc st line s ≡ Ok y → Leads-on sc st line s y
+pub leads_on : (sc : ScopeView) (st : StatementState) (line : ℕ) (s : Terminal) (y : ScopeView × StatementState) → next_step sc st line s ≡ Ok y → Leads-on sc st line s y
 leads_on sc st line symbol.Percent y h = by_result (step sc st line symbol.Percent) refl h
   where
     by_place : (c : SourceCause) (t : Bool) → is_place c ≡ t → step sc st line symbol.Percent ≡ Err c → ◌≡◌ {A = Answer} (cond t (Ok (fresh, state.Stray (fault_line sc st line) c)) (Err c)) (Ok y) → Leads-on sc st line symbol.Percent y

@@ -13,7 +13,7 @@ use Rattle.asm_lex.specs.declared.fault.SourceCause.TheVariants.{BadNumber}
 use Rattle.asm_lex.specs.declared.token.TokenKind.TheVariants as kind
 use Rattle.asm_lex.specs.Machine.{stepped, after, stops}
 use Rattle.asm_lex.specs.Words.{Scan, scan, with_token, word_of, line_after}
-use Rattle.asm_parse.specs.declared.state.State.{State}
+use Rattle.asm_parse.specs.declared.state.StatementState.{StatementState}
 use Rattle.asm_parse.specs.ScopeView.{ScopeView}
 use Rattle.asm_parse.specs.Statement.{fault_line}
 use Rattle.asm_parse.specs.Reading.{Fault, fed, placed, next_word}
@@ -22,17 +22,17 @@ use Rattle.asm_parse.proofs.Words.{read_words}
 use Rattle.asm_parse.proofs.Lines.{bind_ok, run_ok}
 
 -- a token that may be there, and the words behind it
-token_read : (sc : ScopeView) (st : State) (seen : List ℕ) (line : ℕ) (t : Option Token) (s : Scan) (y : ScopeView × State) → fed sc st seen line t ≡ Ok y
+token_read : (sc : ScopeView) (st : StatementState) (seen : List ℕ) (line : ℕ) (t : Option Token) (s : Scan) (y : ScopeView × StatementState) → fed sc st seen line t ≡ Ok y
     → read_words sc st (with_token seen line t s).words ≡ read_words y.0 y.1 s.words
-token_read sc st seen line None s y h = let e : (sc, st) ≡ y = cc in ap (λ (z : ScopeView × State). read_words z.0 z.1 s.words) e
+token_read sc st seen line None s y h = let e : (sc, st) ≡ y = cc in ap (λ (z : ScopeView × StatementState). read_words z.0 z.1 s.words) e
 token_read sc st seen line (Some t) s y h = rw h refl
 
 ending_same : (seen : List ℕ) (line : ℕ) (t : Option Token) (s : Scan) → (with_token seen line t s).ending ≡ s.ending
 ending_same seen line None s = refl
 ending_same seen line (Some t) s = refl
 
-pub goes_is : (line : ℕ) (y : ScopeView × State) (n : Next) (x : ScopeView × State × Mode) → goes_on line y n ≡ Ok x → (n ≡ Goes x.2) × (y ≡ (x.0, x.1))
-goes_is line y (Goes m) x h = let e : (y.0, y.1, m) ≡ x = cc in (ap (λ (z : ScopeView × State × Mode). Goes z.2) e, ap (λ (z : ScopeView × State × Mode). (z.0, z.1)) e)
+pub goes_is : (line : ℕ) (y : ScopeView × StatementState) (n : Next) (x : ScopeView × StatementState × Mode) → goes_on line y n ≡ Ok x → (n ≡ Goes x.2) × (y ≡ (x.0, x.1))
+goes_is line y (Goes m) x h = let e : (y.0, y.1, m) ≡ x = cc in (ap (λ (z : ScopeView × StatementState × Mode). Goes z.2) e, ap (λ (z : ScopeView × StatementState × Mode). (z.0, z.1)) e)
 goes_is line y (Stops l c) x h = absurd cc
 
 abbrev rest_scan : List ℕ → ℕ → ℕ → ℕ → List ℕ → Next → Scan
@@ -42,13 +42,13 @@ rest_scan behind at line b bs next = elim next [
 ]
 
 -- what one byte has done
-over_words : (sc : ScopeView) (st : State) (seen : List ℕ) (line : ℕ) (s : Stepped) (x : ScopeView × State × Mode) (rest : Scan) → byte_does sc st seen line s ≡ Ok x
+over_words : (sc : ScopeView) (st : StatementState) (seen : List ℕ) (line : ℕ) (s : Stepped) (x : ScopeView × StatementState × Mode) (rest : Scan) → byte_does sc st seen line s ≡ Ok x
     → (s.next ≡ Goes x.2) × (read_words sc st (with_token seen line s.first (with_token seen line s.second rest)).words ≡ read_words x.0 x.1 rest.words)
 over_words sc st seen line s x rest h =
     let y = bind_ok (fed sc st seen line s.first) (λ y. second_does y.0 y.1 seen line s.second s.next) x h in
     let z = bind_ok (fed y.0.0 y.0.1 seen line s.second) (λ z. goes_on line z s.next) x y.2 in
     let g = goes_is line z.0 s.next x z.2 in
-    (g.0, token_read sc st seen line s.first _ y.0 y.1 ∙ (token_read y.0.0 y.0.1 seen line s.second rest z.0 z.1 ∙ ap (λ (q : ScopeView × State). read_words q.0 q.1 rest.words) g.1))
+    (g.0, token_read sc st seen line s.first _ y.0 y.1 ∙ (token_read y.0.0 y.0.1 seen line s.second rest z.0 z.1 ∙ ap (λ (q : ScopeView × StatementState). read_words q.0 q.1 rest.words) g.1))
 
 pub ok_same : (a c : Running) → ◌≡◌ {A = Result Running Fault} (Ok a) (Ok c) → a ≡ c
 ok_same a c e = cc
@@ -56,7 +56,7 @@ ok_same a c e = cc
 pub not_both : {f : Fault} {r : Running} → ◌≡◌ {A = Result Running Fault} (Err f) (Ok r) → ⊥
 not_both e = absurd cc
 
-pub record Linked (sc : ScopeView) (st : State) (s : Scan) (t : Running) : Type 0 where
+pub record Linked (sc : ScopeView) (st : StatementState) (s : Scan) (t : Running) : Type 0 where
   pub ending : s.ending ≡ Goes t.mode
   pub words : read_words sc st s.words ≡ Ok (t.scope, t.state)
 
@@ -68,7 +68,7 @@ link (b ∷ bs) r t h =
     let x = bind_ok (byte_does r.scope r.state (r.seen ++ b ∷ []) r.line (stepped r.mode r.at r.line b)) (λ x. Ok (moved r b x)) s.0 s.1 in
     from_byte x.0 x.1 (subst (λ (q : Running). Linked q.scope q.state (scan q.mode q.seen q.at q.line bs) t) (sym (ok_same (moved r b x.0) s.0 x.2)) (link bs s.0 t s.2))
   where
-    from_byte : (x : ScopeView × State × Mode) → byte_does r.scope r.state (r.seen ++ b ∷ []) r.line (stepped r.mode r.at r.line b) ≡ Ok x
+    from_byte : (x : ScopeView × StatementState × Mode) → byte_does r.scope r.state (r.seen ++ b ∷ []) r.line (stepped r.mode r.at r.line b) ≡ Ok x
         → Linked x.0 x.1 (scan x.2 (r.seen ++ b ∷ []) (r.at + 1) (line_after r.line b) bs) t → Linked r.scope r.state (scan r.mode r.seen r.at r.line (b ∷ bs)) t
     from_byte x e l =
         let rest = rest_scan (r.seen ++ b ∷ []) r.at r.line b bs (stepped r.mode r.at r.line b).next in
@@ -120,7 +120,7 @@ last_mode r t h =
     let closed : IsClosed (Goes x.0.2) = subst IsClosed o.0 (at_newline r.mode r.at r.line) in
     at_last x.0 closed (x.2 ∙ s.2)
   where
-    at_last : (x : ScopeView × State × Mode) → IsClosed (Goes x.2) → ◌≡◌ {A = Result Running Fault} (Ok (moved r 10 x)) (Ok t) → IsClosed (Goes t.mode)
+    at_last : (x : ScopeView × StatementState × Mode) → IsClosed (Goes x.2) → ◌≡◌ {A = Result Running Fault} (Ok (moved r 10 x)) (Ok t) → IsClosed (Goes t.mode)
     at_last x k e = let g : moved r 10 x ≡ t = cc in subst (λ (y : Running). IsClosed (Goes y.mode)) g k
 
 pub closed_between : (r s : Running) (m : Mode) → IsClosed (Goes m) → closed r m ≡ Ok s → (m ≡ mode.Between) × (r ≡ s)
@@ -138,24 +138,24 @@ closed_between r s (mode.Escape a) k h = absurd k
 -- ---- the other way
 
 -- a token that has been read among the words
-token_unread : (sc : ScopeView) (st : State) (seen : List ℕ) (line : ℕ) (t : Option Token) (s : Scan) (y : ScopeView × State) → read_words sc st (with_token seen line t s).words ≡ Ok y
-    → (z : ScopeView × State) × (fed sc st seen line t ≡ Ok z) × (read_words z.0 z.1 s.words ≡ Ok y)
+token_unread : (sc : ScopeView) (st : StatementState) (seen : List ℕ) (line : ℕ) (t : Option Token) (s : Scan) (y : ScopeView × StatementState) → read_words sc st (with_token seen line t s).words ≡ Ok y
+    → (z : ScopeView × StatementState) × (fed sc st seen line t ≡ Ok z) × (read_words z.0 z.1 s.words ≡ Ok y)
 token_unread sc st seen line None s y h = ((sc, st), refl, h)
 token_unread sc st seen line (Some t) s y h = bind_ok (placed (fault_line sc st line) (next_word sc st (word_of seen line t))) (λ z. read_words z.0 z.1 s.words) y h
 
-pub record Unlinked (r : Running) (bs : List ℕ) (m : Mode) (y : ScopeView × State) : Type 0 where
+pub record Unlinked (r : Running) (bs : List ℕ) (m : Mode) (y : ScopeView × StatementState) : Type 0 where
   pub last : Running
   pub runs : run r bs ≡ Ok last
   pub same_mode : last.mode ≡ m
   pub same : (last.scope, last.state) ≡ y
 
-one_ok : (r : Running) (b : ℕ) (z w : ScopeView × State) (n : Mode) → fed r.scope r.state (r.seen ++ b ∷ []) r.line (stepped r.mode r.at r.line b).first ≡ Ok z
+one_ok : (r : Running) (b : ℕ) (z w : ScopeView × StatementState) (n : Mode) → fed r.scope r.state (r.seen ++ b ∷ []) r.line (stepped r.mode r.at r.line b).first ≡ Ok z
     → fed z.0 z.1 (r.seen ++ b ∷ []) r.line (stepped r.mode r.at r.line b).second ≡ Ok w → (stepped r.mode r.at r.line b).next ≡ Goes n
     → one_byte r b ≡ Ok (moved r b (w.0, w.1, n))
 unfolding one_byte one_byte_over
 one_ok r b z w n e f g = rw (e, f, g) refl
 
-pub unlink : (bs : List ℕ) (r : Running) (m : Mode) (y : ScopeView × State) → (scan r.mode r.seen r.at r.line bs).ending ≡ Goes m
+pub unlink : (bs : List ℕ) (r : Running) (m : Mode) (y : ScopeView × StatementState) → (scan r.mode r.seen r.at r.line bs).ending ≡ Goes m
     → read_words r.scope r.state (scan r.mode r.seen r.at r.line bs).words ≡ Ok y → Unlinked r bs m y
 unlink [] r m y e h =
     let same : (r.scope, r.state) ≡ y = cc in

@@ -3,10 +3,10 @@ use Rattle.std.proofs.Common.{◌≡◌, ℕ, Bool, true, false, cond, List, [],
 use Rattle.std.specs.Prelude.{pos, not}
 use Rattle.asm_lex.specs.declared.fault.SourceCause.{SourceCause}
 use Rattle.asm_lex.specs.declared.fault.SourceCause.TheVariants as cause
-use Rattle.asm_argument.specs.declared.symbol.Symbol.{Symbol}
-use Rattle.asm_argument.specs.declared.symbol.Symbol.TheVariants as symbol
+use Rattle.asm_argument.specs.declared.symbol.Terminal.{Terminal}
+use Rattle.asm_argument.specs.declared.symbol.Terminal.TheVariants as symbol
 use Rattle.asm_argument.specs.declared.operand.Shape.{Shape}
-use Rattle.asm_argument.specs.declared.operand.Place.TheVariants as place
+use Rattle.asm_argument.specs.declared.operand.ValuePlace.TheVariants as place
 use Rattle.asm_argument.specs.declared.operand.Partial.{Partial}
 use Rattle.asm_argument.specs.declared.operand.Partial.TheVariants as partial
 use Rattle.asm_source.specs.declared.tree.Form.{Form}
@@ -55,10 +55,10 @@ named_in (partial.Whole f) = symbol_in f
 named_in _ = None
 
 -- one symbol more: no name is read, or the first one
-abbrev pub Keeps : Partial → Symbol → Partial → Type 0
+abbrev pub Keeps : Partial → Terminal → Partial → Type 0
 Keeps p s q = ((name_in q ≡ None) × (named_in q ≡ named_in p)) ⊎ ((n : List ℕ) × (name_in q ≡ Some n) × (named_in q ≡ Some n) × (named_in p ≡ None) × (s ≡ symbol.Name n))
 
-pub name_step : (sh : Shape) (p : Partial) (s : Symbol) (q : Partial) → next_symbol sh p s ≡ ok q → Keeps p s q
+pub name_step : (sh : Shape) (p : Partial) (s : Terminal) (q : Partial) → next_symbol sh p s ≡ ok q → Keeps p s q
 name_step sh partial.Nothing symbol.Percent q h = subst (Keeps partial.Nothing symbol.Percent) (allowed_ok (is_operand sh) partial.Percent q h).1 (inl (refl, refl))
 name_step sh partial.Nothing symbol.Dollar q h = subst (Keeps partial.Nothing symbol.Dollar) (allowed_ok (is_operand sh) partial.Dollar q h).1 (inl (refl, refl))
 name_step sh partial.Nothing symbol.Open q h = subst (Keeps partial.Nothing symbol.Open) (allowed_ok (is_operand sh) (partial.Open None) q h).1 (inl (refl, refl))
@@ -121,7 +121,7 @@ none_some : {A : Type 0} {a : A} (o : Option A) → o ≡ None → o ≡ Some a 
 none_some o e f = absurd cc
 
 -- a name stays
-pub name_stays : (sh : Shape) (ss : List Symbol) (p q : Partial) (n : List ℕ) → operand_run sh p ss ≡ ok q → named_in p ≡ Some n → named_in q ≡ Some n
+pub name_stays : (sh : Shape) (ss : List Terminal) (p q : Partial) (n : List ℕ) → operand_run sh p ss ≡ ok q → named_in p ≡ Some n → named_in q ≡ Some n
 name_stays sh [] p q n h e = let g : p ≡ q = cc in subst (λ (x : Partial). named_in x ≡ Some n) g e
 name_stays sh (s ∷ ss) p q n h e = by_step (next_symbol sh p s) refl h (λ x f g. name_stays sh ss x q n f g)
   where
@@ -190,7 +190,7 @@ no_comma sh (partial.Whole f) q h = absurd cc
 no_comma sh partial.Absent q h = absurd cc
 no_comma sh _ q h = refl
 
-pub operand_next : (sh : Shape) (p : Partial) (s : Symbol) (q : Partial) → operand_step sh p s ≡ ok q → next_symbol sh p s ≡ ok q
+pub operand_next : (sh : Shape) (p : Partial) (s : Terminal) (q : Partial) → operand_step sh p s ≡ ok q → next_symbol sh p s ≡ ok q
 operand_next sh p symbol.Big q h = absurd cc
 operand_next sh p _ q h = h
 
@@ -216,7 +216,7 @@ some_either : (t : Bool) (a b : Result Partial SourceCause) → IsSome a → IsS
 some_either true a b p q = p
 some_either false a b p q = q
 
-first_some : (sh : Shape) (s : Symbol) → IsSome (first sh s)
+first_some : (sh : Shape) (s : Terminal) → IsSome (first sh s)
 first_some sh symbol.Percent = allowed_some (is_operand sh) partial.Percent refl
 first_some sh symbol.Dollar = allowed_some (is_operand sh) partial.Dollar refl
 first_some sh symbol.Open = allowed_some (is_operand sh) (partial.Open None) refl
@@ -229,7 +229,7 @@ first_some sh _ = tt
 lowered_some : (n : ℕ) (t : Bool) (q : Partial) → is_nothing q ≡ false → IsSome (lowered n t q)
 lowered_some n t q h = some_either (is_low n) (counted true t q) (Err cause.BadNumber) (counted_some true t q h) tt
 
-pub symbol_some : (sh : Shape) (p : Partial) (s : Symbol) → IsSome (next_symbol sh p s)
+pub symbol_some : (sh : Shape) (p : Partial) (s : Terminal) → IsSome (next_symbol sh p s)
 symbol_some sh partial.Nothing s = first_some sh s
 symbol_some sh partial.Absent s = first_some sh s
 symbol_some sh partial.Percent (symbol.Name r) = registered_some (is_register r) (partial.Whole (form.Register r)) refl

@@ -5,10 +5,10 @@ use Rattle.asm_lex.specs.declared.fault.SourceCause.{SourceCause}
 use Rattle.asm_lex.specs.declared.fault.SourceFault.{SourceFault}
 use Rattle.asm_lex.specs.declared.fault.SourceFault.TheVariants as fault
 use Rattle.asm_lex.specs.Words.{Word}
-use Rattle.asm_argument.specs.declared.symbol.Symbol.{Symbol}
+use Rattle.asm_argument.specs.declared.symbol.Terminal.{Terminal}
 use Rattle.asm_source.specs.declared.tree.SourceItem.{SourceItem}
-use Rattle.asm_parse.specs.declared.state.State.{State}
-use Rattle.asm_parse.specs.declared.state.State.TheVariants as state
+use Rattle.asm_parse.specs.declared.state.StatementState.{StatementState}
+use Rattle.asm_parse.specs.declared.state.StatementState.TheVariants as state
 use Rattle.asm_parse.specs.ScopeView.{ScopeView}
 use Rattle.asm_parse.specs.Scope.{fresh}
 use Rattle.asm_argument.specs.Symbols.{symbol_of}
@@ -16,7 +16,7 @@ use Rattle.asm_parse.specs.Statement.{doom, fault_line}
 use Rattle.asm_parse.specs.Reading.{placed, next_word}
 use Rattle.asm_parse.specs.Running.{◌>>=◌, read, Parses, HasReading}
 use Rattle.asm_parse.specs.Statements.{symbols, Statements}
-use Rattle.asm_parse.specs.Refusals.{Ending, Worded, IsBeginning, IsNoBeginning, Place, Reaches, refused_cause, byte_cause, Refused, RefusesAs}
+use Rattle.asm_parse.specs.Refusals.{Ending, Worded, IsBeginning, IsNoBeginning, StatementPlace, Reaches, refused_cause, byte_cause, Refused, RefusesAs}
 use Rattle.asm_parse.proofs.Words.{read_words}
 use Rattle.asm_parse.proofs.Scopes.{GoodIn, fresh_good}
 use Rattle.asm_parse.proofs.Quiet.{Any, any_next}
@@ -37,7 +37,7 @@ use Rattle.asm_parse.proofs.Suited.{reaches_suits}
 
 -- ---- the reader where some source begins so
 
-good_words : (ws : List Word) (sc : ScopeView) (st : State) (y : Pair) → GoodIn Any sc → read_words sc st ws ≡ Ok y → GoodIn Any y.0
+good_words : (ws : List Word) (sc : ScopeView) (st : StatementState) (y : Pair) → GoodIn Any sc → read_words sc st ws ≡ Ok y → GoodIn Any y.0
 good_words [] sc st y good h = let e : (sc, st) ≡ y = cc in subst (λ (x : Pair). GoodIn Any x.0) e good
 good_words (w ∷ ws) sc st y good h =
     let z = bind_ok (placed (fault_line sc st w.line) (next_word sc st w)) (λ z. read_words z.0 z.1 ws) y h in
@@ -78,18 +78,18 @@ stopped_word ws w x named runs never = by_result (next_word x.0 x.1 w) refl
     by_result (Ok z) next = by_doom z next (doom z.0 z.1) refl
 
 -- two places that the reader's state suits give one cause
-module _ (x : Pair) (w : Word) (rest : List Symbol) (sc sc2 : ScopeView) (p p2 : Place) (one : Suits sc p x.0 x.1) (two : Suits sc2 p2 x.0 x.1) where
+module _ (x : Pair) (w : Word) (rest : List Terminal) (sc sc2 : ScopeView) (p p2 : StatementPlace) (one : Suits sc p x.0 x.1) (two : Suits sc2 p2 x.0 x.1) where
   by_doomed : (z : Pair) → Doomed x.0 x.1 w z → refused_cause sc p (symbol_of w.kind w.bytes) rest ≡ refused_cause sc2 p2 (symbol_of w.kind w.bytes) rest
   by_doomed z (Doomed.name n start name k) =
       let a = one.first start in
       let b = two.first start in
-      ap (λ (q : Place). refused_cause sc q (symbol_of w.kind w.bytes) rest) a.1
-      ∙ (ap (λ (s : ScopeView). refused_cause s Place.first (symbol_of w.kind w.bytes) rest) (a.0 ∙ sym b.0)
-      ∙ ap (λ (q : Place). refused_cause sc2 q (symbol_of w.kind w.bytes) rest) (sym b.1))
+      ap (λ (q : StatementPlace). refused_cause sc q (symbol_of w.kind w.bytes) rest) a.1
+      ∙ (ap (λ (s : ScopeView). refused_cause s StatementPlace.first (symbol_of w.kind w.bytes) rest) (a.0 ∙ sym b.0)
+      ∙ ap (λ (q : StatementPlace). refused_cause sc2 q (symbol_of w.kind w.bytes) rest) (sym b.1))
   by_doomed z (Doomed.astray c percent fails is k) =
-      ap (λ (s : Symbol). refused_cause sc p s rest) percent
+      ap (λ (s : Terminal). refused_cause sc p s rest) percent
       ∙ (one.percent w.line rest c fails ∙ sym (two.percent w.line rest c fails)
-      ∙ ap (λ (s : Symbol). refused_cause sc2 p2 s rest) (sym percent))
+      ∙ ap (λ (s : Terminal). refused_cause sc2 p2 s rest) (sym percent))
 
   one_word_cause : Stopped x w → refused_cause sc p (symbol_of w.kind w.bytes) rest ≡ refused_cause sc2 p2 (symbol_of w.kind w.bytes) rest
   one_word_cause (inl (c, next)) =
@@ -156,7 +156,7 @@ module _ (text : List ℕ) where
   named_split : (ws : List Word) (w : Word) (rest : List Word) (e : Ending) → Words (ws ++ w ∷ rest) e → AreNamed (ws ++ w ∷ [])
   named_split ws w rest e p = named_front (ws ++ w ∷ []) rest (subst AreNamed (sym (append_assoc ws (w ∷ []) rest)) (worded_named p))
 
-  two_words : {sc sc2 : ScopeView} {p p2 : Place} {e f : Ending} (ws rest : List Word) (w : Word) (vs more : List Word) (v : Word) → Words (ws ++ w ∷ rest) e → IsBeginning ws → IsNoBeginning (ws ++ w ∷ []) → Reaches ws sc p
+  two_words : {sc sc2 : ScopeView} {p p2 : StatementPlace} {e f : Ending} (ws rest : List Word) (w : Word) (vs more : List Word) (v : Word) → Words (ws ++ w ∷ rest) e → IsBeginning ws → IsNoBeginning (ws ++ w ∷ []) → Reaches ws sc p
       → Words (vs ++ v ∷ more) f → IsBeginning vs → IsNoBeginning (vs ++ v ∷ []) → Reaches vs sc2 p2
       → OneFault w.line (refused_cause sc p (symbol_of w.kind w.bytes) (symbols rest)) v.line (refused_cause sc2 p2 (symbol_of v.kind v.bytes) (symbols more))
   two_words {sc} {sc2} {p} {p2} {e} {f} ws rest w vs more v words b never r words2 b2 never2 r2 =
@@ -174,7 +174,7 @@ module _ (text : List ℕ) where
   word_whole {e} {f} ws rest w vs words never words2 b =
       longer_never ws w rest never (subst IsBeginning (sym (one_text (ws ++ w ∷ rest) vs e f words words2).0) b)
 
-  two_bytes : {sc sc2 : ScopeView} {p p2 : Place} {l k : ℕ} {c d : SourceCause} (ws vs : List Word) → Words ws (Ending.broken l c) → IsBeginning ws → Reaches ws sc p → Words vs (Ending.broken k d) → Reaches vs sc2 p2 → OneFault l (byte_cause sc p c) k (byte_cause sc2 p2 d)
+  two_bytes : {sc sc2 : ScopeView} {p p2 : StatementPlace} {l k : ℕ} {c d : SourceCause} (ws vs : List Word) → Words ws (Ending.broken l c) → IsBeginning ws → Reaches ws sc p → Words vs (Ending.broken k d) → Reaches vs sc2 p2 → OneFault l (byte_cause sc p c) k (byte_cause sc2 p2 d)
   two_bytes {sc} {sc2} {p} {p2} {l} {k} {c} {d} ws vs words b r words2 r2 =
       let all = one_text ws vs (Ending.broken l c) (Ending.broken k d) words words2 in
       let same = broken_same l k c d all.1 in

@@ -6,8 +6,8 @@ use Rattle.std.specs.List.{list_all}
 use Rattle.asm_lex.specs.declared.fault.SourceCause.{SourceCause}
 use Rattle.asm_lex.specs.declared.fault.SourceCause.TheVariants as cause
 use Rattle.asm_lex.specs.Words.{Word}
-use Rattle.asm_argument.specs.declared.symbol.Symbol.{Symbol}
-use Rattle.asm_argument.specs.declared.symbol.Symbol.TheVariants as symbol
+use Rattle.asm_argument.specs.declared.symbol.Terminal.{Terminal}
+use Rattle.asm_argument.specs.declared.symbol.Terminal.TheVariants as symbol
 use Rattle.asm_argument.specs.declared.operand.Shape.{Shape}
 use Rattle.asm_argument.specs.declared.operand.Shape.TheVariants as shape
 use Rattle.asm_argument.specs.declared.operand.Partial.{Partial}
@@ -19,8 +19,8 @@ use Rattle.asm_parse.specs.declared.directive.Directive.TheVariants as kind
 use Rattle.asm_parse.specs.declared.directive.Head.{Head}
 use Rattle.asm_parse.specs.declared.directive.Head.TheVariants as head
 use Rattle.asm_parse.specs.declared.state.Open.{Open}
-use Rattle.asm_parse.specs.declared.state.State.{State}
-use Rattle.asm_parse.specs.declared.state.State.TheVariants as state
+use Rattle.asm_parse.specs.declared.state.StatementState.{StatementState}
+use Rattle.asm_parse.specs.declared.state.StatementState.TheVariants as state
 use Rattle.asm_parse.specs.ScopeView.{ScopeView}
 use Rattle.asm_parse.specs.Scope.{fresh}
 use Rattle.asm_argument.specs.Grammar.{IsForm}
@@ -32,7 +32,7 @@ use Rattle.asm_argument.specs.Operand.{is_operand, is_unbegun, is_nothing, await
 use Rattle.asm_parse.specs.Directives.{shape_at, is_instruction, directive_of, is_dotted, is_section}
 use Rattle.asm_parse.specs.Statement.{misplaced, begins_nothing, noting, with_scope, nothing_yet, argument_step, labelled, label, is_rep, rep_step, is_passed, section_name, of_directive, directive_step, instruction_step, section, unless_skipping, start_step, colon_behind, other_behind, named_step, sectioned_step, flags_step, stray_cause, step, skip, is_unknown, is_taken, lacks_names, if_doomed, doom, or_line, fault_line, is_place, stray, strayed, next_step, if_pending, pending, or_cause}
 use Rattle.asm_parse.specs.Statements.{IsArgument, has_list, is_inner, Statement, symbols, Touch}
-use Rattle.asm_parse.specs.Refusals.{Place, Leads, Opens, Stands, last_of, is_percent, begins_none, other_cause, argument_missing, name_cause, operand_cause, value_cause, in_argument, directive_cause, named_cause, cause_at, percent_cause, behind_cause, first_name_cause, refused_cause, byte_cause}
+use Rattle.asm_parse.specs.Refusals.{StatementPlace, Leads, Opens, Stands, last_of, is_percent, begins_none, other_cause, argument_missing, name_cause, operand_cause, value_cause, in_argument, directive_cause, named_cause, cause_at, percent_cause, behind_cause, first_name_cause, refused_cause, byte_cause}
 use Rattle.asm_argument.proofs.Operands.{ok, operand_run, run_spelled, spelled_form, Spelled}
 use Rattle.asm_parse.proofs.Said.{stars, InArguments, IsNaming, Begun, fresh_arguments}
 use Rattle.asm_parse.proofs.Collected.{InName, Held, HeldBy}
@@ -43,7 +43,7 @@ use Rattle.asm_parse.proofs.Completing.{Finish, finish}
 use Rattle.asm_parse.proofs.Written.{symbols_of}
 
 abbrev Answer : Type 0
-Answer = Result (ScopeView × State) SourceCause
+Answer = Result (ScopeView × StatementState) SourceCause
 
 same_fault : (a c : SourceCause) → ◌≡◌ {A = Answer} (Err a) (Err c) → a ≡ c
 same_fault a c h = cc
@@ -53,11 +53,11 @@ not_both e f = absurd cc
 
 -- ---- behind a name
 
-scope_fails : (sc : ScopeView) (r : Result State SourceCause) (c : SourceCause) → ◌≡◌ {A = Answer} (with_scope sc r) (Err c) → r ≡ Err c
+scope_fails : (sc : ScopeView) (r : Result StatementState SourceCause) (c : SourceCause) → ◌≡◌ {A = Answer} (with_scope sc r) (Err c) → r ≡ Err c
 scope_fails sc (Ok st) c h = absurd cc
 scope_fails sc (Err d) c h = ap (λ (x : SourceCause). Err x) (same_fault d c h)
 
-same_cause : (a c : SourceCause) → ◌≡◌ {A = Result State SourceCause} (Err a) (Err c) → a ≡ c
+same_cause : (a c : SourceCause) → ◌≡◌ {A = Result StatementState SourceCause} (Err a) (Err c) → a ≡ c
 same_cause a c h = cc
 
 label_fails : (line : ℕ) (n : List ℕ) (r : Result ScopeView SourceCause) (c : SourceCause) → labelled line n r ≡ Err c → r ≡ Err c
@@ -68,38 +68,38 @@ colon_fails : (sc : ScopeView) (b : ℕ) (n : List ℕ) (c : SourceCause) (t : B
 colon_fails sc b n c true h = absurd cc
 colon_fails sc b n c false h = noting_cause sc true n c (label_fails b n (noting sc true n) c h)
 
-section_fails : (b : ℕ) (n : List ℕ) (s : Symbol) (c : SourceCause) → section_name b n s ≡ Err c → argument_missing s ≡ c
+section_fails : (b : ℕ) (n : List ℕ) (s : Terminal) (c : SourceCause) → section_name b n s ≡ Err c → argument_missing s ≡ c
 section_fails b n (symbol.Name m) c h = by_test (is_section m) h
   where
-    by_test : (t : Bool) → ◌≡◌ {A = Result State SourceCause} (cond t (Ok (state.Sectioned b n m 0)) (Err cause.BadArgument)) (Err c) → cause.BadArgument ≡ c
+    by_test : (t : Bool) → ◌≡◌ {A = Result StatementState SourceCause} (cond t (Ok (state.Sectioned b n m 0)) (Err cause.BadArgument)) (Err c) → cause.BadArgument ≡ c
     by_test true h = absurd cc
     by_test false h = same_cause _ c h
 section_fails b n _ c h = same_cause _ c h
 
-rep_fails : (sc : ScopeView) (b : ℕ) (s : Symbol) (c : SourceCause) → rep_step sc b s ≡ Err c → other_cause s ≡ c
+rep_fails : (sc : ScopeView) (b : ℕ) (s : Terminal) (c : SourceCause) → rep_step sc b s ≡ Err c → other_cause s ≡ c
 rep_fails sc b (symbol.Name m) c h = absurd cc
 rep_fails sc b _ c h = same_fault _ c h
 
-list_fails : (sc : ScopeView) (b : ℕ) (n : List ℕ) (k : Directive) (s : Symbol) (c : SourceCause) → is_passed sc n ≡ false → is_dotted n ≡ true → directive_of n ≡ Some k → has_list k ≡ true → argument_step sc (nothing_yet b (head.Directive k n)) s ≡ Err c
+list_fails : (sc : ScopeView) (b : ℕ) (n : List ℕ) (k : Directive) (s : Terminal) (c : SourceCause) → is_passed sc n ≡ false → is_dotted n ≡ true → directive_of n ≡ Some k → has_list k ≡ true → argument_step sc (nothing_yet b (head.Directive k n)) s ≡ Err c
     → value_cause (head.Directive k n) [] sc [] s ≡ c
 unfolding fresh_arguments
 list_fails sc b n k s c passed dotted dir list h =
     argument_refused sc b (nothing_yet b (head.Directive k n)) (symbol.Name n ∷ []) sc
     (fresh_arguments sc b (symbol.Name n ∷ []) (head.Directive k n) (Leads.directive passed dotted dir list) (λ ss args sc2 has count. Statement.directive passed dotted dir list has count)) s c h
 
-directive_fails : (sc : ScopeView) (b : ℕ) (n : List ℕ) (s : Symbol) (c : SourceCause) → is_passed sc n ≡ false → is_dotted n ≡ true → (d : Option Directive) → directive_of n ≡ d → of_directive d sc b n s ≡ Err c → directive_cause d sc n s ≡ c
+directive_fails : (sc : ScopeView) (b : ℕ) (n : List ℕ) (s : Terminal) (c : SourceCause) → is_passed sc n ≡ false → is_dotted n ≡ true → (d : Option Directive) → directive_of n ≡ d → of_directive d sc b n s ≡ Err c → directive_cause d sc n s ≡ c
 directive_fails sc b n s c passed dotted None e h = same_fault _ c h
 directive_fails sc b n s c passed dotted (Some kind.Skipped) e h = absurd cc
 directive_fails sc b n s c passed dotted (Some kind.Section) e h = section_fails b n s c (scope_fails sc (section_name b n s) c h)
 directive_fails sc b n s c passed dotted (Some k) e h = list_fails sc b n k s c passed dotted e refl h
 
-instruction_fails : (sc : ScopeView) (b : ℕ) (n : List ℕ) (s : Symbol) (c : SourceCause) → is_passed sc n ≡ false → is_dotted n ≡ false → is_rep n ≡ false → argument_step sc (nothing_yet b (head.Instruction false n)) s ≡ Err c → operand_cause [] s ≡ c
+instruction_fails : (sc : ScopeView) (b : ℕ) (n : List ℕ) (s : Terminal) (c : SourceCause) → is_passed sc n ≡ false → is_dotted n ≡ false → is_rep n ≡ false → argument_step sc (nothing_yet b (head.Instruction false n)) s ≡ Err c → operand_cause [] s ≡ c
 unfolding fresh_arguments
 instruction_fails sc b n s c passed dotted rep h =
     argument_refused sc b (nothing_yet b (head.Instruction false n)) (symbol.Name n ∷ []) sc
     (fresh_arguments sc b (symbol.Name n ∷ []) (head.Instruction false n) (Leads.instruction passed dotted rep) (λ ss args sc2 has count. Statement.instruction passed dotted rep has)) s c h
 
-other_fails : (sc : ScopeView) (b : ℕ) (n : List ℕ) (s : Symbol) (c : SourceCause) (t u v : Bool) → is_passed sc n ≡ t → is_dotted n ≡ u → is_rep n ≡ v
+other_fails : (sc : ScopeView) (b : ℕ) (n : List ℕ) (s : Terminal) (c : SourceCause) (t u v : Bool) → is_passed sc n ≡ t → is_dotted n ≡ u → is_rep n ≡ v
     → ◌≡◌ {A = Answer} (cond t (Ok (sc, skip s)) (cond u (directive_step sc b n s) (cond v (rep_step sc b s) (argument_step sc (nothing_yet b (head.Instruction false n)) s)))) (Err c)
     → cond u (directive_cause (directive_of n) sc n s) (cond v (other_cause s) (operand_cause [] s)) ≡ c
 other_fails sc b n s c true u v e f g h = absurd cc
@@ -107,13 +107,13 @@ other_fails sc b n s c false true v e f g h = directive_fails sc b n s c e f (di
 other_fails sc b n s c false false true e f g h = rep_fails sc b s c h
 other_fails sc b n s c false false false e f g h = instruction_fails sc b n s c e f g h
 
-pub named_fails : (sc : ScopeView) (b : ℕ) (n : List ℕ) (s : Symbol) (c : SourceCause) → named_step sc b n s ≡ Err c → named_cause sc n s ≡ c
+pub named_fails : (sc : ScopeView) (b : ℕ) (n : List ℕ) (s : Terminal) (c : SourceCause) → named_step sc b n s ≡ Err c → named_cause sc n s ≡ c
 named_fails sc b n symbol.Colon c h = colon_fails sc b n c sc.skipping h
 named_fails sc b n s c h = other_fails sc b n s c (is_passed sc n) (is_dotted n) (is_rep n) refl refl refl h
 
 -- ---- a `%`
 
-pub behind_is : (sc0 : ScopeView) (p : Place) (sc : ScopeView) (st : State) (line : ℕ) (s : Symbol) (rest : List Symbol) (c : SourceCause) → ((c : SourceCause) → step sc st line s ≡ Err c → cause_at sc0 p s ≡ c) → next_step sc st line s ≡ Err c → behind_cause sc0 p s rest ≡ c
+pub behind_is : (sc0 : ScopeView) (p : StatementPlace) (sc : ScopeView) (st : StatementState) (line : ℕ) (s : Terminal) (rest : List Terminal) (c : SourceCause) → ((c : SourceCause) → step sc st line s ≡ Err c → cause_at sc0 p s ≡ c) → next_step sc st line s ≡ Err c → behind_cause sc0 p s rest ≡ c
 behind_is sc0 p sc st line symbol.Percent rest c f h = by_result (step sc st line symbol.Percent) refl h
   where
     not_place : (d : SourceCause) → is_place d ≡ false → percent_cause d rest ≡ d
@@ -133,33 +133,33 @@ behind_is sc0 p sc st line s rest c f h = f c h
 -- ---- the place of a state
 
 -- these symbols begin with the change to a named section
-pub record InSection (sc0 : ScopeView) (ss : List Symbol) : Type 0 where
+pub record InSection (sc0 : ScopeView) (ss : List Terminal) : Type 0 where
   pub directive : List ℕ
   pub name : List ℕ
-  pub more : List Symbol
+  pub more : List Terminal
   pub whole : ss ≡ symbol.Name directive ∷ symbol.Name name ∷ more
   pub naming : IsNaming sc0 directive name
   pub inner : list_all is_inner more ≡ true
 
 -- what is known besides of a statement's words
-abbrev pub Extra : ScopeView → State → List Word → Type 0
+abbrev pub Extra : ScopeView → StatementState → List Word → Type 0
 Extra sc0 (state.Flags b n m) ps = InSection sc0 (symbols ps)
 Extra sc0 (state.Arguments o) ps = (p : Word) × (q : Word) × (rest : List Word) × (ps ≡ p ∷ q ∷ rest)
 Extra sc0 st ps = Unit {0}
 
 -- In this state what is refused has the cause of the place.
-pub record Suits (sc0 : ScopeView) (place : Place) (sc : ScopeView) (st : State) : Type 0 where
-  pub cause : (line : ℕ) (s : Symbol) (rest : List Symbol) (c : SourceCause) → next_step sc st line s ≡ Err c → refused_cause sc0 place s rest ≡ c
-  pub percent : (line : ℕ) (rest : List Symbol) (c : SourceCause) → step sc st line symbol.Percent ≡ Err c → refused_cause sc0 place symbol.Percent rest ≡ percent_cause c rest
-  pub first : st ≡ state.Start → (sc0 ≡ sc) × (place ≡ Place.first)
+pub record Suits (sc0 : ScopeView) (place : StatementPlace) (sc : ScopeView) (st : StatementState) : Type 0 where
+  pub cause : (line : ℕ) (s : Terminal) (rest : List Terminal) (c : SourceCause) → next_step sc st line s ≡ Err c → refused_cause sc0 place s rest ≡ c
+  pub percent : (line : ℕ) (rest : List Terminal) (c : SourceCause) → step sc st line symbol.Percent ≡ Err c → refused_cause sc0 place symbol.Percent rest ≡ percent_cause c rest
+  pub first : st ≡ state.Start → (sc0 ≡ sc) × (place ≡ StatementPlace.first)
   pub byte : (c : SourceCause) → or_cause (pending sc st) c ≡ byte_cause sc0 place c
 
-pub record Standing (sc0 : ScopeView) (st : State) (ps : List Word) (sc : ScopeView) : Type 0 where
-  pub place : Place
+pub record Standing (sc0 : ScopeView) (st : StatementState) (ps : List Word) (sc : ScopeView) : Type 0 where
+  pub place : StatementPlace
   pub stands : Stands sc0 (symbols ps) place
   pub suits : Suits sc0 place sc st
 
-start_fails : (sc : ScopeView) (line : ℕ) (s : Symbol) (c : SourceCause) → step sc state.Start line s ≡ Err c → other_cause s ≡ c
+start_fails : (sc : ScopeView) (line : ℕ) (s : Terminal) (c : SourceCause) → step sc state.Start line s ≡ Err c → other_cause s ≡ c
 start_fails sc line symbol.End c h = absurd cc
 start_fails sc line (symbol.Name n) c h = absurd cc
 start_fails sc line symbol.Big c h = by_test sc.skipping h
@@ -173,11 +173,11 @@ start_fails sc line _ c h = by_test sc.skipping h
     by_test true h = absurd cc
     by_test false h = same_fault _ c h
 
-first_cause : (sc : ScopeView) (line : ℕ) (s : Symbol) (rest : List Symbol) (c : SourceCause) → next_step sc state.Start line s ≡ Err c → refused_cause sc Place.first s rest ≡ c
+first_cause : (sc : ScopeView) (line : ℕ) (s : Terminal) (rest : List Terminal) (c : SourceCause) → next_step sc state.Start line s ≡ Err c → refused_cause sc StatementPlace.first s rest ≡ c
 first_cause sc line (symbol.Name n) rest c h = absurd cc
-first_cause sc line s rest c h = behind_is sc Place.first sc state.Start line s rest c (λ d k. start_fails sc line s d k) h
+first_cause sc line s rest c h = behind_is sc StatementPlace.first sc state.Start line s rest c (λ d k. start_fails sc line s d k) h
 
-pub start_suits : (sc : ScopeView) → Suits sc Place.first sc state.Start
+pub start_suits : (sc : ScopeView) → Suits sc StatementPlace.first sc state.Start
 start_suits sc = record {
   cause = λ line s rest c h. first_cause sc line s rest c h;
   percent = λ line rest c h. ap (λ (x : SourceCause). percent_cause x rest) (start_fails sc line symbol.Percent c h);
@@ -186,7 +186,7 @@ start_suits sc = record {
 }
 
 at_start : (sc : ScopeView) → Standing sc state.Start [] sc
-at_start sc = record { place = Place.first; stands = Stands.first; suits = start_suits sc }
+at_start sc = record { place = StatementPlace.first; stands = Stands.first; suits = start_suits sc }
 
 or_false : (a b : Bool) → (a || b) ≡ false → b ≡ false
 or_false true b h = absurd cc
@@ -197,37 +197,37 @@ not_doomed true b h = absurd cc
 not_doomed false b h = refl
 
 -- of a name that may still begin something, only that it is an unknown directive is known
-named_byte : (sc : ScopeView) (b : ℕ) (n : List ℕ) (c : SourceCause) → doom sc (state.Named b n) ≡ None → or_cause (pending sc (state.Named b n)) c ≡ byte_cause sc (Place.named n) c
+named_byte : (sc : ScopeView) (b : ℕ) (n : List ℕ) (c : SourceCause) → doom sc (state.Named b n) ≡ None → or_cause (pending sc (state.Named b n)) c ≡ byte_cause sc (StatementPlace.named n) c
 named_byte sc b n c alive = by_test (is_unknown sc n) refl
   where
-    by_test : (t : Bool) → is_unknown sc n ≡ t → or_cause (pending sc (state.Named b n)) c ≡ byte_cause sc (Place.named n) c
+    by_test : (t : Bool) → is_unknown sc n ≡ t → or_cause (pending sc (state.Named b n)) c ≡ byte_cause sc (StatementPlace.named n) c
     by_test true e = rw e refl
     by_test false e =
         let lacks : lacks_names sc n ≡ false = or_false (is_unknown sc n && is_taken sc n) (lacks_names sc n) (not_doomed _ b alive) in
         rw (e, lacks) refl
 
-pub named_suits : (sc : ScopeView) (b : ℕ) (n : List ℕ) → doom sc (state.Named b n) ≡ None → Suits sc (Place.named n) sc (state.Named b n)
+pub named_suits : (sc : ScopeView) (b : ℕ) (n : List ℕ) → doom sc (state.Named b n) ≡ None → Suits sc (StatementPlace.named n) sc (state.Named b n)
 named_suits sc b n alive = record {
-  cause = λ line s rest c h. behind_is sc (Place.named n) sc (state.Named b n) line s rest c (λ d k. named_fails sc b n s d k) h;
+  cause = λ line s rest c h. behind_is sc (StatementPlace.named n) sc (state.Named b n) line s rest c (λ d k. named_fails sc b n s d k) h;
   percent = λ line rest c h. ap (λ (x : SourceCause). percent_cause x rest) (named_fails sc b n symbol.Percent c h);
   first = λ e. absurd cc;
   byte = λ c. named_byte sc b n c alive;
 }
 
 at_named : (sc : ScopeView) (b : ℕ) (n : List ℕ) (ps : List Word) → symbols ps ≡ symbol.Name n ∷ [] → doom sc (state.Named b n) ≡ None → Standing sc (state.Named b n) ps sc
-at_named sc b n ps e alive = record { place = Place.named n; stands = subst (λ (x : List Symbol). Stands sc x (Place.named n)) (sym e) Stands.named; suits = named_suits sc b n alive }
+at_named sc b n ps e alive = record { place = StatementPlace.named n; stands = subst (λ (x : List Terminal). Stands sc x (StatementPlace.named n)) (sym e) Stands.named; suits = named_suits sc b n alive }
 
-passes : (sc : ScopeView) (line : ℕ) (s : Symbol) (c : SourceCause) → next_step sc state.Skip line s ≡ Err c → ⊥
+passes : (sc : ScopeView) (line : ℕ) (s : Terminal) (c : SourceCause) → next_step sc state.Skip line s ≡ Err c → ⊥
 passes sc line symbol.Percent c h = absurd cc
 passes sc line symbol.End c h = absurd cc
 passes sc line _ c h = absurd cc
 
-flags_pass : (sc : ScopeView) (b : ℕ) (n m : List ℕ) (line : ℕ) (s : Symbol) (c : SourceCause) → next_step sc (state.Flags b n m) line s ≡ Err c → ⊥
+flags_pass : (sc : ScopeView) (b : ℕ) (n m : List ℕ) (line : ℕ) (s : Terminal) (c : SourceCause) → next_step sc (state.Flags b n m) line s ≡ Err c → ⊥
 flags_pass sc b n m line symbol.Percent c h = absurd cc
 flags_pass sc b n m line symbol.End c h = absurd cc
 flags_pass sc b n m line _ c h = absurd cc
 
-pub skip_suits : (sc0 sc : ScopeView) → Suits sc0 Place.skipped sc state.Skip
+pub skip_suits : (sc0 sc : ScopeView) → Suits sc0 StatementPlace.skipped sc state.Skip
 skip_suits sc0 sc = record {
   cause = λ line s rest c h. absurd (passes sc line s c h);
   percent = λ line rest c h. absurd cc;
@@ -235,13 +235,13 @@ skip_suits sc0 sc = record {
   byte = λ c. refl;
 }
 
-at_skip : (sc0 sc : ScopeView) (line : ℕ) (ps : List Word) → ((rest : List Symbol) → list_all is_inner rest ≡ true → Statement sc0 line (symbols ps ++ (rest ++ symbol.End ∷ [])) sc0) → Standing sc0 state.Skip ps sc
-at_skip sc0 sc line ps f = record { place = Place.skipped; stands = Stands.skipped {line = line} f; suits = skip_suits sc0 sc }
+at_skip : (sc0 sc : ScopeView) (line : ℕ) (ps : List Word) → ((rest : List Terminal) → list_all is_inner rest ≡ true → Statement sc0 line (symbols ps ++ (rest ++ symbol.End ∷ [])) sc0) → Standing sc0 state.Skip ps sc
+at_skip sc0 sc line ps f = record { place = StatementPlace.skipped; stands = Stands.skipped {line = line} f; suits = skip_suits sc0 sc }
 
-in_section : (sc0 : ScopeView) (ss : List Symbol) → InSection sc0 ss → Stands sc0 ss Place.section
-in_section sc0 ss g = subst (λ (x : List Symbol). Stands sc0 x Place.section) (sym g.whole) (Stands.section g.more g.naming.passed g.naming.dotted g.naming.section g.naming.is g.inner)
+in_section : (sc0 : ScopeView) (ss : List Terminal) → InSection sc0 ss → Stands sc0 ss StatementPlace.section
+in_section sc0 ss g = subst (λ (x : List Terminal). Stands sc0 x StatementPlace.section) (sym g.whole) (Stands.section g.more g.naming.passed g.naming.dotted g.naming.section g.naming.is g.inner)
 
-pub flags_suits : (sc0 sc : ScopeView) (b : ℕ) (n m : List ℕ) → Suits sc0 Place.section sc (state.Flags b n m)
+pub flags_suits : (sc0 sc : ScopeView) (b : ℕ) (n m : List ℕ) → Suits sc0 StatementPlace.section sc (state.Flags b n m)
 flags_suits sc0 sc b n m = record {
   cause = λ line s rest c h. absurd (flags_pass sc b n m line s c h);
   percent = λ line rest c h. absurd cc;
@@ -250,11 +250,11 @@ flags_suits sc0 sc b n m = record {
 }
 
 at_flags : (sc0 sc : ScopeView) (b : ℕ) (n m : List ℕ) (ps : List Word) → InSection sc0 (symbols ps) → Standing sc0 (state.Flags b n m) ps sc
-at_flags sc0 sc b n m ps st = record { place = Place.section; stands = in_section sc0 (symbols ps) st; suits = flags_suits sc0 sc b n m }
+at_flags sc0 sc b n m ps st = record { place = StatementPlace.section; stands = in_section sc0 (symbols ps) st; suits = flags_suits sc0 sc b n m }
 
 -- ---- symbols in front of a statement's end
 
-inner_either : (t : Bool) (a b : Symbol) → is_inner a ≡ true → is_inner b ≡ true → is_inner (cond t a b) ≡ true
+inner_either : (t : Bool) (a b : Terminal) → is_inner a ≡ true → is_inner b ≡ true → is_inner (cond t a b) ≡ true
 inner_either true a b p q = p
 inner_either false a b p q = q
 
@@ -270,16 +270,16 @@ part_inner token.Number bytes h = inner_either (nat_lt (number_value bytes) (2 ^
 part_inner token.Text bytes h = refl
 part_inner (token.Mark m) bytes h = mark_inner m
 
-pub all_more : (xs ys : List Symbol) → list_all is_inner xs ≡ true → list_all is_inner ys ≡ true → list_all is_inner (xs ++ ys) ≡ true
+pub all_more : (xs ys : List Terminal) → list_all is_inner xs ≡ true → list_all is_inner ys ≡ true → list_all is_inner (xs ++ ys) ≡ true
 all_more [] ys p q = q
 all_more (symbol.End ∷ xs) ys p q = absurd cc
 all_more (x ∷ xs) ys p q = all_more xs ys p q
 
 pub symbols_append : (ps qs : List Word) → symbols (ps ++ qs) ≡ symbols ps ++ symbols qs
 symbols_append [] qs = refl
-symbols_append (p ∷ ps) qs = ap (λ (x : List Symbol). symbol_of p.kind p.bytes ∷ x) (symbols_append ps qs)
+symbols_append (p ∷ ps) qs = ap (λ (x : List Terminal). symbol_of p.kind p.bytes ∷ x) (symbols_append ps qs)
 
-pub all_and : (s : Symbol) (ss : List Symbol) → is_inner s ≡ true → list_all is_inner ss ≡ true → list_all is_inner (s ∷ ss) ≡ true
+pub all_and : (s : Terminal) (ss : List Terminal) → is_inner s ≡ true → list_all is_inner ss ≡ true → list_all is_inner (s ∷ ss) ≡ true
 all_and symbol.End ss p q = absurd cc
 all_and s ss p q = q
 
@@ -297,14 +297,14 @@ section_words sc0 ps b n m e g more inner = record {
   inner = ap (list_all is_inner) (symbols_append g.parts more) ∙ all_more (symbols g.parts) (symbols more) (touch_inner (g.second.at + length g.second.bytes) g.parts g.touch) inner;
 }
 
-sectioned_fails : (sc : ScopeView) (b : ℕ) (n m : List ℕ) (s : Symbol) (c : SourceCause) → sectioned_step sc b n m s ≡ Err c → other_cause s ≡ c
+sectioned_fails : (sc : ScopeView) (b : ℕ) (n m : List ℕ) (s : Terminal) (c : SourceCause) → sectioned_step sc b n m s ≡ Err c → other_cause s ≡ c
 sectioned_fails sc b n m symbol.End c h = absurd cc
 sectioned_fails sc b n m symbol.Comma c h = absurd cc
 sectioned_fails sc b n m _ c h = same_fault _ c h
 
-pub section_suits : (sc0 sc : ScopeView) (b : ℕ) (n m : List ℕ) (e : ℕ) → Suits sc0 Place.section sc (state.Sectioned b n m e)
+pub section_suits : (sc0 sc : ScopeView) (b : ℕ) (n m : List ℕ) (e : ℕ) → Suits sc0 StatementPlace.section sc (state.Sectioned b n m e)
 section_suits sc0 sc b n m e = record {
-  cause = λ line s rest c h. behind_is sc0 Place.section sc (state.Sectioned b n m e) line s rest c (λ d k. sectioned_fails sc b n m s d k) h;
+  cause = λ line s rest c h. behind_is sc0 StatementPlace.section sc (state.Sectioned b n m e) line s rest c (λ d k. sectioned_fails sc b n m s d k) h;
   percent = λ line rest c h. ap (λ (x : SourceCause). percent_cause x rest) (sectioned_fails sc b n m symbol.Percent c h);
   first = λ e. absurd cc;
   byte = λ c. refl;
@@ -312,8 +312,8 @@ section_suits sc0 sc b n m e = record {
 
 at_section : (sc0 sc : ScopeView) (b : ℕ) (n m : List ℕ) (e : ℕ) (ps : List Word) → InName sc0 ps b n m e → Standing sc0 (state.Sectioned b n m e) ps sc
 at_section sc0 sc b n m e ps g = record {
-  place = Place.section;
-  stands = subst (λ (x : List Word). Stands sc0 (symbols x) Place.section) (append-nil ps) (in_section sc0 (symbols (ps ++ [])) (section_words sc0 ps b n m e g [] refl));
+  place = StatementPlace.section;
+  stands = subst (λ (x : List Word). Stands sc0 (symbols x) StatementPlace.section) (append-nil ps) (in_section sc0 (symbols (ps ++ [])) (section_words sc0 ps b n m e g [] refl));
   suits = section_suits sc0 sc b n m e;
 }
 
@@ -333,14 +333,14 @@ star_only : (b : Bool) → is_percent (last_of (stars b ++ [])) ≡ false
 star_only true = refl
 star_only false = refl
 
-module _ (sc0 : ScopeView) (line : ℕ) (o : Open) (ss : List Symbol) (sc : ScopeView) (w : InArguments sc0 line o ss sc) where
+module _ (sc0 : ScopeView) (line : ℕ) (o : Open) (ss : List Terminal) (sc : ScopeView) (w : InArguments sc0 line o ss sc) where
   ends_percent : is_percent (last_of (stars o.star ++ w.arg)) ≡ awaits_register o.so_far
   ends_percent = elim w.spelled [
     | inl (e, f) ↦ rw (e, f) (star_only o.star)
     | inr (sh, may, sp) ↦ by_begun sh sp (is_unbegun o.so_far) refl
   ]
     where
-      unbegun_quiet : (p : Partial) (xs : List Symbol) (sh : Shape) → Spelled sh p xs → is_unbegun p ≡ true → (xs ≡ []) × (awaits_register p ≡ false)
+      unbegun_quiet : (p : Partial) (xs : List Terminal) (sh : Shape) → Spelled sh p xs → is_unbegun p ≡ true → (xs ≡ []) × (awaits_register p ≡ false)
       unbegun_quiet partial.Nothing xs sh sp u = (sp, refl)
       unbegun_quiet partial.Absent xs sh sp u = (sp.0, refl)
       unbegun_quiet _ xs sh sp u = absurd cc
@@ -349,10 +349,10 @@ module _ (sc0 : ScopeView) (line : ℕ) (o : Open) (ss : List Symbol) (sc : Scop
       by_begun sh sp true u = let q = unbegun_quiet o.so_far w.arg sh sp u in rw (q.0, q.1) (star_only o.star)
       by_begun sh sp false u = let t = spelled_tail sh o.so_far o.star w.arg (w.solid u) sp in t.percent_is ∙ sym (awaits_is o.so_far)
 
-  byte_is : (c : SourceCause) → or_cause (pending sc (state.Arguments o)) c ≡ byte_cause sc0 (Place.argument o.head o.done w.behind (stars o.star ++ w.arg)) c
+  byte_is : (c : SourceCause) → or_cause (pending sc (state.Arguments o)) c ≡ byte_cause sc0 (StatementPlace.argument o.head o.done w.behind (stars o.star ++ w.arg)) c
   byte_is c = by_test (awaits_register o.so_far) refl
     where
-      by_test : (t : Bool) → awaits_register o.so_far ≡ t → or_cause (pending sc (state.Arguments o)) c ≡ byte_cause sc0 (Place.argument o.head o.done w.behind (stars o.star ++ w.arg)) c
+      by_test : (t : Bool) → awaits_register o.so_far ≡ t → or_cause (pending sc (state.Arguments o)) c ≡ byte_cause sc0 (StatementPlace.argument o.head o.done w.behind (stars o.star ++ w.arg)) c
       by_test true e = let f : is_percent (last_of (stars o.star ++ w.arg)) ≡ true = ends_percent ∙ e in rw (e, f) refl
       by_test false e = let f : is_percent (last_of (stars o.star ++ w.arg)) ≡ false = ends_percent ∙ e in rw (e, f) refl
 
@@ -363,7 +363,7 @@ module _ (sc0 : ScopeView) (line : ℕ) (o : Open) (ss : List Symbol) (sc : Scop
       let form = spelled_form sh f.last f.form (w.arg ++ symbols_of f.pieces) (run_spelled sh (symbols_of f.pieces) w.arg o.so_far f.last sp f.runs) f.ends in
       by_star o.star refl (symbols_of f.pieces) f.form form
     where
-      by_star : (t : Bool) → o.star ≡ t → (more : List Symbol) (x : Form) → IsForm sh (w.arg ++ more) x → Opens (Some sh) (stars t ++ w.arg)
+      by_star : (t : Bool) → o.star ≡ t → (more : List Terminal) (x : Form) → IsForm sh (w.arg ++ more) x → Opens (Some sh) (stars t ++ w.arg)
       by_star false e more x form = Opens.some more (record { star = false; form = x }) (IsArgument.plain form)
       by_star true e more x form =
           let operand : is_operand sh ≡ true = ap is_operand (instruction_shape o.head (length o.done) sh (w.starred e) may) in
@@ -396,7 +396,7 @@ module _ (sc0 : ScopeView) (line : ℕ) (o : Open) (ss : List Symbol) (sc : Scop
           no_name : (t : Bool) → o.star ≡ t → is_nothing o.so_far ≡ true → Opens (Some sh) (stars t ++ w.arg)
           no_name false f n = rw (nothing_nil o.so_far w.arg sp n) Opens.nothing
             where
-              nothing_nil : (p : Partial) (xs : List Symbol) → Spelled sh p xs → is_nothing p ≡ true → xs ≡ []
+              nothing_nil : (p : Partial) (xs : List Terminal) → Spelled sh p xs → is_nothing p ≡ true → xs ≡ []
               nothing_nil partial.Nothing xs q n = q
               nothing_nil _ xs q n = absurd cc
           no_name true f n = subst (λ (x : Bool). Opens (Some sh) (stars x ++ w.arg)) f (opened sh may sp (λ n2 is. operand_not_name (sym (instruction_shape o.head (length o.done) sh (w.starred f) may) ∙ is)))
@@ -411,9 +411,9 @@ module _ (sc0 : ScopeView) (line : ℕ) (o : Open) (ss : List Symbol) (sc : Scop
       by_star : (t : Bool) → o.star ≡ t → Opens (shape_at o.head (length o.done)) (stars o.star ++ w.arg)
       by_star t e = rw e (whole t e (shape_at o.head (length o.done)) refl)
 
-  pub arguments_suit : Suits sc0 (Place.argument o.head o.done w.behind (stars o.star ++ w.arg)) sc (state.Arguments o)
+  pub arguments_suit : Suits sc0 (StatementPlace.argument o.head o.done w.behind (stars o.star ++ w.arg)) sc (state.Arguments o)
   arguments_suit = record {
-    cause = λ at s more c h. behind_is sc0 (Place.argument o.head o.done w.behind (stars o.star ++ w.arg)) sc (state.Arguments o) at s more c (λ d k. argument_refused sc0 line o ss sc w s d k) h;
+    cause = λ at s more c h. behind_is sc0 (StatementPlace.argument o.head o.done w.behind (stars o.star ++ w.arg)) sc (state.Arguments o) at s more c (λ d k. argument_refused sc0 line o ss sc w s d k) h;
     percent = λ at more c h. ap (λ (x : SourceCause). percent_cause x more) (argument_refused sc0 line o ss sc w symbol.Percent c h);
     first = λ e. absurd cc;
     byte = byte_is;
@@ -421,16 +421,16 @@ module _ (sc0 : ScopeView) (line : ℕ) (o : Open) (ss : List Symbol) (sc : Scop
 
   at_arguments : (ps : List Word) → ss ≡ symbols ps → (p : Word) (q : Word) (rest : List Word) → ps ≡ p ∷ q ∷ rest → Standing sc0 (state.Arguments o) ps sc
   at_arguments ps same p q rest e = record {
-    place = Place.argument o.head o.done w.behind (stars o.star ++ w.arg);
-    stands = subst (λ (x : List Symbol). Stands sc0 x (Place.argument o.head o.done w.behind (stars o.star ++ w.arg))) (ap symbols (sym e))
+    place = StatementPlace.argument o.head o.done w.behind (stars o.star ++ w.arg);
+    stands = subst (λ (x : List Terminal). Stands sc0 x (StatementPlace.argument o.head o.done w.behind (stars o.star ++ w.arg))) (ap symbols (sym e))
         (Stands.argument (symbol_of p.kind p.bytes) (symbol_of q.kind q.bytes) (symbols rest) w.lead w.front (stars o.star ++ w.arg) (ap symbols (sym e) ∙ (sym same ∙ w.whole)) w.leads w.separated opens);
     suits = arguments_suit;
   }
 
 -- What is held of a statement stands in a place.
-pub standing : (sc0 : ScopeView) (st : State) (ps : List Word) (sc : ScopeView) → Held sc0 st ps sc → Extra sc0 st ps → doom sc st ≡ None → Standing sc0 st ps sc
+pub standing : (sc0 : ScopeView) (st : StatementState) (ps : List Word) (sc : ScopeView) → Held sc0 st ps sc → Extra sc0 st ps → doom sc st ≡ None → Standing sc0 st ps sc
 standing sc0 st [] sc held extra alive =
-    let one : Standing sc st [] sc = subst (λ (x : State). Standing sc x [] sc) (sym held.0) (at_start sc) in
+    let one : Standing sc st [] sc = subst (λ (x : StatementState). Standing sc x [] sc) (sym held.0) (at_start sc) in
     subst (λ (x : ScopeView). Standing x st [] sc) (sym held.1) one
 standing sc0 state.Start (p ∷ ps) sc held extra alive = absurd (held.0 refl)
 standing sc0 (state.Named b n) (p ∷ ps) sc held extra alive = subst (λ (x : ScopeView). Standing x (state.Named b n) (p ∷ ps) sc) (sym held.1.2) (at_named sc b n (p ∷ ps) held.1.1 alive)

@@ -4,8 +4,8 @@ use Rattle.std.proofs.lemmas.List.{length-append}
 use Rattle.std.specs.Prelude.{not, ◌&&◌, ◌||◌, is_none, nat_lt, ◌+◌}
 use Rattle.asm_lex.specs.declared.fault.SourceCause.{SourceCause}
 use Rattle.asm_lex.specs.declared.fault.SourceCause.TheVariants as cause
-use Rattle.asm_argument.specs.declared.symbol.Symbol.{Symbol}
-use Rattle.asm_argument.specs.declared.symbol.Symbol.TheVariants as symbol
+use Rattle.asm_argument.specs.declared.symbol.Terminal.{Terminal}
+use Rattle.asm_argument.specs.declared.symbol.Terminal.TheVariants as symbol
 use Rattle.asm_argument.specs.declared.operand.Shape.{Shape}
 use Rattle.asm_argument.specs.declared.operand.Partial.{Partial}
 use Rattle.asm_source.specs.declared.tree.Argument.{Argument}
@@ -14,8 +14,8 @@ use Rattle.asm_parse.specs.declared.directive.Directive.TheVariants as directive
 use Rattle.asm_parse.specs.declared.directive.Head.{Head}
 use Rattle.asm_parse.specs.declared.directive.Head.TheVariants as head
 use Rattle.asm_parse.specs.declared.state.Open.{Open}
-use Rattle.asm_parse.specs.declared.state.State.{State}
-use Rattle.asm_parse.specs.declared.state.State.TheVariants as state
+use Rattle.asm_parse.specs.declared.state.StatementState.{StatementState}
+use Rattle.asm_parse.specs.declared.state.StatementState.TheVariants as state
 use Rattle.asm_lex.specs.Words.{Word}
 use Rattle.asm_lex.specs.declared.token.TokenKind.{TokenKind}
 use Rattle.asm_parse.specs.ScopeView.{ScopeView}
@@ -24,7 +24,7 @@ use Rattle.asm_parse.specs.Reading.{is_longer, longer, ending_at, with_end, next
 use Rattle.asm_source.specs.Names.{holds}
 use Rattle.asm_parse.specs.Scope.{has_room, is_spent, fresh, pushed}
 use Rattle.asm_argument.specs.declared.operand.Shape.TheVariants as shape
-use Rattle.asm_argument.specs.declared.operand.Place.TheVariants as place
+use Rattle.asm_argument.specs.declared.operand.ValuePlace.TheVariants as place
 use Rattle.asm_argument.specs.declared.operand.Partial.TheVariants as partial
 use Rattle.asm_parse.proofs.Scopes.{GoodIn, fresh_good, seen_good, spent_noting}
 use Rattle.asm_parse.proofs.Names.{noting_seen, Keeps, name_step, IsSome, symbol_some, operand_next}
@@ -33,7 +33,7 @@ use Rattle.asm_parse.specs.Statement.{item_of, resumed, noting, after_noting, wi
 use Rattle.asm_parse.specs.Directives.{shape_at, least, defines, is_instruction, directive_of, is_dotted, is_section, is_defining}
 
 abbrev pub Answer : Type 0
-Answer = Result (ScopeView × State) SourceCause
+Answer = Result (ScopeView × StatementState) SourceCause
 
 -- ---- what is dead
 
@@ -62,20 +62,20 @@ taken_noting sc n h = by_tests (holds sc.defined n) (has_room sc n) refl refl h
     by_tests false false e f h = (cause.TooManySymbols, rw (e, f) refl)
     by_tests false true e f h = absurd cc
 
-taken_label : (sc : ScopeView) (b : ℕ) (n : List ℕ) (x : ScopeView × State) → sc.skipping ≡ false → is_taken sc n ≡ true → colon_behind sc b n ≡ Ok x → ⊥
+taken_label : (sc : ScopeView) (b : ℕ) (n : List ℕ) (x : ScopeView × StatementState) → sc.skipping ≡ false → is_taken sc n ≡ true → colon_behind sc b n ≡ Ok x → ⊥
 taken_label sc b n x sk taken h =
     let c = taken_noting sc n taken in
     let e : colon_behind sc b n ≡ Err c.0 = ap (λ (t : Bool). cond {A = Answer} t (Ok (sc, state.Start)) (label sc b n)) sk ∙ ap (labelled b n) c.1 in
     let f : ◌≡◌ {A = Answer} (Err c.0) (Ok x) = sym e ∙ h in
     absurd cc
 
-unknown_behind : (sc : ScopeView) (b : ℕ) (n : List ℕ) (s : Symbol) → sc.skipping ≡ false → is_dotted n ≡ true → directive_of n ≡ None → other_behind sc b n s ≡ Err cause.UnknownDirective
+unknown_behind : (sc : ScopeView) (b : ℕ) (n : List ℕ) (s : Terminal) → sc.skipping ≡ false → is_dotted n ≡ true → directive_of n ≡ None → other_behind sc b n s ≡ Err cause.UnknownDirective
 unknown_behind sc b n s sk dotted dir = rw (sk, dotted, dir) refl
 
-err_ok : {c : SourceCause} {x : ScopeView × State} (r : Answer) → r ≡ Err c → r ≡ Ok x → ⊥
+err_ok : {c : SourceCause} {x : ScopeView × StatementState} (r : Answer) → r ≡ Err c → r ≡ Ok x → ⊥
 err_ok r e h = absurd cc
 
-named_stops : (sc : ScopeView) (b line : ℕ) (n : List ℕ) (s : Symbol) (x : ScopeView × State) → sc.skipping ≡ false → is_dotted n ≡ true → directive_of n ≡ None → is_taken sc n ≡ true
+named_stops : (sc : ScopeView) (b line : ℕ) (n : List ℕ) (s : Terminal) (x : ScopeView × StatementState) → sc.skipping ≡ false → is_dotted n ≡ true → directive_of n ≡ None → is_taken sc n ≡ true
     → next_step sc (state.Named b n) line s ≡ Ok x → ⊥
 named_stops sc b line n symbol.Colon x sk dotted dir taken h = taken_label sc b n x sk taken h
 named_stops sc b line n symbol.Percent x sk dotted dir taken h =
@@ -83,15 +83,15 @@ named_stops sc b line n symbol.Percent x sk dotted dir taken h =
 named_stops sc b line n s x sk dotted dir taken h = err_ok (other_behind sc b n s) (unknown_behind sc b n s sk dotted dir) h
 
 -- What is dead stays so: behind a `%` what was said is of no more use.
-abbrev pub Dead : ℕ → ScopeView × State → Type 0
+abbrev pub Dead : ℕ → ScopeView × StatementState → Type 0
 Dead l x = (c : SourceCause) × (x ≡ (fresh, state.Stray l c))
 
-stray_stops : (sc : ScopeView) (l line : ℕ) (c : SourceCause) (s : Symbol) (x : ScopeView × State) → next_step sc (state.Stray l c) line s ≡ Ok x → ⊥
+stray_stops : (sc : ScopeView) (l line : ℕ) (c : SourceCause) (s : Terminal) (x : ScopeView × StatementState) → next_step sc (state.Stray l c) line s ≡ Ok x → ⊥
 stray_stops sc l line c symbol.Percent x h = absurd cc
 stray_stops sc l line c _ x h = absurd cc
 
 -- no name is left for the argument of a directive
-defines_none : (P : List ℕ → Type 0) (sc : ScopeView) (b : ℕ) (n : List ℕ) (k : Directive) (s : Symbol) → is_defining (Some k) ≡ true → GoodIn P sc → is_spent sc ≡ true → (c : SourceCause) × (of_directive (Some k) sc b n s ≡ Err c)
+defines_none : (P : List ℕ → Type 0) (sc : ScopeView) (b : ℕ) (n : List ℕ) (k : Directive) (s : Terminal) → is_defining (Some k) ≡ true → GoodIn P sc → is_spent sc ≡ true → (c : SourceCause) × (of_directive (Some k) sc b n s ≡ Err c)
 defines_none P sc b n directive.Common (symbol.Name m) d g spent = let c = spent_noting P sc m g spent in (c.0, ap (after_noting (record (nothing_yet b (head.Directive directive.Common n)) { so_far = partial.Name place.Memory m })) c.1)
 defines_none P sc b n directive.Common _ d g spent = (_, refl)
 defines_none P sc b n directive.LocalCommon (symbol.Name m) d g spent = let c = spent_noting P sc m g spent in (c.0, ap (after_noting (record (nothing_yet b (head.Directive directive.LocalCommon n)) { so_far = partial.Name place.Memory m })) c.1)
@@ -102,30 +102,30 @@ defining_is : (o : Option Directive) → is_defining o ≡ true → (k : Directi
 defining_is None h = absurd cc
 defining_is (Some k) h = (k, refl, h)
 
-is_behind : (sc : ScopeView) (b : ℕ) (n : List ℕ) (s : Symbol) (d : Option Directive) → sc.skipping ≡ false → is_dotted n ≡ true → directive_of n ≡ d → other_behind sc b n s ≡ of_directive d sc b n s
+is_behind : (sc : ScopeView) (b : ℕ) (n : List ℕ) (s : Terminal) (d : Option Directive) → sc.skipping ≡ false → is_dotted n ≡ true → directive_of n ≡ d → other_behind sc b n s ≡ of_directive d sc b n s
 is_behind sc b n s d sk dotted dir = rw (sk, dotted, dir) refl
 
-lacks_behind : (P : List ℕ → Type 0) (sc : ScopeView) (b : ℕ) (n : List ℕ) (s : Symbol) → sc.skipping ≡ false → is_dotted n ≡ true → is_defining (directive_of n) ≡ true → GoodIn P sc → is_spent sc ≡ true → (c : SourceCause) × (other_behind sc b n s ≡ Err c)
+lacks_behind : (P : List ℕ → Type 0) (sc : ScopeView) (b : ℕ) (n : List ℕ) (s : Terminal) → sc.skipping ≡ false → is_dotted n ≡ true → is_defining (directive_of n) ≡ true → GoodIn P sc → is_spent sc ≡ true → (c : SourceCause) × (other_behind sc b n s ≡ Err c)
 lacks_behind P sc b n s sk dotted def g spent =
     let k = defining_is (directive_of n) def in
     let c = defines_none P sc b n k.0 s k.2 g spent in
     (c.0, is_behind sc b n s (Some k.0) sk dotted k.1 ∙ c.1)
 
-lacks_label : (P : List ℕ → Type 0) (sc : ScopeView) (b : ℕ) (n : List ℕ) (x : ScopeView × State) → sc.skipping ≡ false → GoodIn P sc → is_spent sc ≡ true → colon_behind sc b n ≡ Ok x → ⊥
+lacks_label : (P : List ℕ → Type 0) (sc : ScopeView) (b : ℕ) (n : List ℕ) (x : ScopeView × StatementState) → sc.skipping ≡ false → GoodIn P sc → is_spent sc ≡ true → colon_behind sc b n ≡ Ok x → ⊥
 lacks_label P sc b n x sk g spent h =
     let c = spent_noting P sc n g spent in
     let e : colon_behind sc b n ≡ Err c.0 = ap (λ (t : Bool). cond {A = Answer} t (Ok (sc, state.Start)) (label sc b n)) sk ∙ ap (labelled b n) c.1 in
     let f : ◌≡◌ {A = Answer} (Err c.0) (Ok x) = sym e ∙ h in
     absurd cc
 
-strayed_dead : (l : ℕ) (r : Answer) (c : SourceCause) (x : ScopeView × State) → r ≡ Err c → strayed l r ≡ Ok x → Dead l x
+strayed_dead : (l : ℕ) (r : Answer) (c : SourceCause) (x : ScopeView × StatementState) → r ≡ Err c → strayed l r ≡ Ok x → Dead l x
 strayed_dead l r c x e h = by_test (is_place c) (sym (ap (strayed l) e) ∙ h)
   where
     by_test : (t : Bool) → ◌≡◌ {A = Answer} (cond t (Ok (fresh, state.Stray l c)) (Err c)) (Ok x) → Dead l x
     by_test true k = let g : (fresh, state.Stray l c) ≡ x = cc in (c, sym g)
     by_test false k = absurd cc
 
-named_lacks : (P : List ℕ → Type 0) (sc : ScopeView) (b l line : ℕ) (n : List ℕ) (s : Symbol) (x : ScopeView × State) → doom sc (state.Named b n) ≡ Some l → sc.skipping ≡ false → is_dotted n ≡ true → is_defining (directive_of n) ≡ true → GoodIn P sc → is_spent sc ≡ true
+named_lacks : (P : List ℕ → Type 0) (sc : ScopeView) (b l line : ℕ) (n : List ℕ) (s : Terminal) (x : ScopeView × StatementState) → doom sc (state.Named b n) ≡ Some l → sc.skipping ≡ false → is_dotted n ≡ true → is_defining (directive_of n) ≡ true → GoodIn P sc → is_spent sc ≡ true
     → next_step sc (state.Named b n) line s ≡ Ok x → Dead l x
 named_lacks P sc b l line n symbol.Colon x d sk dotted def g spent h = absurd (lacks_label P sc b n x sk g spent h)
 named_lacks P sc b l line n symbol.Percent x d sk dotted def g spent h =
@@ -137,7 +137,7 @@ or_two : (a b : Bool) → (a || b) ≡ true → (a ≡ true) ⊎ (b ≡ true)
 or_two true b h = inl refl
 or_two false b h = inr h
 
-pub doomed_stays : (P : List ℕ → Type 0) (sc : ScopeView) (st : State) (l line : ℕ) (s : Symbol) (x : ScopeView × State) → GoodIn P sc → doom sc st ≡ Some l → next_step sc st line s ≡ Ok x → Dead l x
+pub doomed_stays : (P : List ℕ → Type 0) (sc : ScopeView) (st : StatementState) (l line : ℕ) (s : Terminal) (x : ScopeView × StatementState) → GoodIn P sc → doom sc st ≡ Some l → next_step sc st line s ≡ Ok x → Dead l x
 doomed_stays P sc (state.Stray a c) l line s x g e h = absurd (stray_stops sc a line c s x h)
 doomed_stays P sc (state.Named b n) l line s x g e h = elim (or_two (is_unknown sc n && is_taken sc n) (lacks_names sc n) (doomed_is ((is_unknown sc n && is_taken sc n) || lacks_names sc n) b l e)) [
   | inl t ↦
@@ -166,15 +166,15 @@ pub record IsOpen (o : Open) : Type 0 where
   pub first : is_nothing o.so_far ≡ true → (is_instruction o.head ≡ true) ⊎ (1 ≤ length o.done)
 
 module _ (P : List ℕ → Type 0) where
-  abbrev pub SymbolIs : Symbol → Type 0
+  abbrev pub SymbolIs : Terminal → Type 0
   SymbolIs (symbol.Name n) = P n
   SymbolIs _ = Unit {0}
 
-  abbrev pub NamedIs : State → Type 0
+  abbrev pub NamedIs : StatementState → Type 0
   NamedIs (state.Named b n) = P n
   NamedIs _ = Unit {0}
 
-  abbrev IsQuiet : ℕ → State → Type 0
+  abbrev IsQuiet : ℕ → StatementState → Type 0
   IsQuiet line (state.Named b n) = (b ≡ line) × P n
   IsQuiet line (state.Stray l c) = l ≡ line
   IsQuiet line (state.Arguments o) = IsOpen o
@@ -203,14 +203,14 @@ module _ (P : List ℕ → Type 0) where
   none_is_name : (q : Option (List ℕ)) → q ≡ None → NameIs q
   none_is_name q e = subst NameIs (sym e) tt
 
-  some_is_name : (q : Option (List ℕ)) (n : List ℕ) (s : Symbol) → q ≡ Some n → s ≡ symbol.Name n → SymbolIs s → NameIs q
+  some_is_name : (q : Option (List ℕ)) (n : List ℕ) (s : Terminal) → q ≡ Some n → s ≡ symbol.Name n → SymbolIs s → NameIs q
   some_is_name q n s e f p = let p2 : P n = subst SymbolIs f p in subst NameIs (sym e) p2
 
-  keeps_name : (p q : Partial) (s : Symbol) → SymbolIs s → Keeps p s q → NameIs (name_in q)
+  keeps_name : (p q : Partial) (s : Terminal) → SymbolIs s → Keeps p s q → NameIs (name_in q)
   keeps_name p q s is (inl k) = none_is_name (name_in q) k.0
   keeps_name p q s is (inr (n, a, b, c, d)) = some_is_name (name_in q) n s a d is
 
-  stepped_quiet : (line : ℕ) (sc : ScopeView) (o : Open) (s : Symbol) (sh : Shape) → GoodIn P sc → SymbolIs s → shape_at o.head (length o.done) ≡ Some sh → (r : Result Partial SourceCause) → operand_step sh o.so_far s ≡ r → Quiet line (after_step sc o s r)
+  stepped_quiet : (line : ℕ) (sc : ScopeView) (o : Open) (s : Terminal) (sh : Shape) → GoodIn P sc → SymbolIs s → shape_at o.head (length o.done) ≡ Some sh → (r : Result Partial SourceCause) → operand_step sh o.so_far s ≡ r → Quiet line (after_step sc o s r)
   stepped_quiet line sc o s sh g is may (Err c) e = tt
   stepped_quiet line sc o s sh g is may (Ok q) e =
       let next = operand_next sh o.so_far s q e in
@@ -220,11 +220,11 @@ module _ (P : List ℕ → Type 0) where
       both : {t : Bool} → t ≡ false → t ≡ true → ⊥
       both e f = absurd cc
 
-  shape_quiet : (line : ℕ) (sc : ScopeView) (o : Open) (s : Symbol) (r : Option Shape) → GoodIn P sc → SymbolIs s → shape_at o.head (length o.done) ≡ r → Quiet line (at_shape sc o s r)
+  shape_quiet : (line : ℕ) (sc : ScopeView) (o : Open) (s : Terminal) (r : Option Shape) → GoodIn P sc → SymbolIs s → shape_at o.head (length o.done) ≡ r → Quiet line (at_shape sc o s r)
   shape_quiet line sc o s None g is e = tt
   shape_quiet line sc o s (Some sh) g is e = stepped_quiet line sc o s sh g is e (operand_step sh o.so_far s) refl
 
-  within_quiet : (line : ℕ) (sc : ScopeView) (o : Open) (s : Symbol) → GoodIn P sc → SymbolIs s → Quiet line (within sc o s)
+  within_quiet : (line : ℕ) (sc : ScopeView) (o : Open) (s : Terminal) → GoodIn P sc → SymbolIs s → Quiet line (within sc o s)
   within_quiet line sc o s g is = shape_quiet line sc o s (shape_at o.head (length o.done)) g is refl
 
   argument_quiet : (line : ℕ) (sc : ScopeView) (b : ℕ) (h : Head) (done : List Argument) (r : Option Shape) → GoodIn P sc → shape_at h (length done) ≡ r → 1 ≤ length done → Quiet line (with_scope sc (argument_of b h done r))
@@ -260,7 +260,7 @@ module _ (P : List ℕ → Type 0) where
   star_quiet line sc o g true e = (star_open o e, g)
   star_quiet line sc o g false e = within_quiet line sc o symbol.Star g tt
 
-  arguments_quiet : (line : ℕ) (sc : ScopeView) (o : Open) (s : Symbol) → GoodIn P sc → SymbolIs s → Quiet line (argument_step sc o s)
+  arguments_quiet : (line : ℕ) (sc : ScopeView) (o : Open) (s : Terminal) → GoodIn P sc → SymbolIs s → Quiet line (argument_step sc o s)
   arguments_quiet line sc o symbol.Comma g is = either line (is_finished o.so_far) _ _ (comma_quiet line sc (ended o) g) (within_quiet line sc o symbol.Comma g tt)
   arguments_quiet line sc o symbol.End g is = either line (is_bare o) _ _ (complete_quiet line sc o.line o.head o.done g) (either line (is_finished o.so_far) _ _ (end_quiet line sc (ended o) g) (within_quiet line sc o symbol.End g tt))
   arguments_quiet line sc o symbol.Star g is = star_quiet line sc o g (takes_star o) refl
@@ -270,44 +270,44 @@ module _ (P : List ℕ → Type 0) where
   labelled_quiet line b n (Ok sc) g = (tt, g sc refl)
   labelled_quiet line b n (Err c) g = tt
 
-  skip_quiet : (line : ℕ) (sc : ScopeView) (s : Symbol) → GoodIn P sc → Quiet line (Ok (sc, skip s))
+  skip_quiet : (line : ℕ) (sc : ScopeView) (s : Terminal) → GoodIn P sc → Quiet line (Ok (sc, skip s))
   skip_quiet line sc symbol.End g = (tt, g)
   skip_quiet line sc _ g = (tt, g)
 
-  rep_quiet : (line : ℕ) (sc : ScopeView) (b : ℕ) (s : Symbol) → GoodIn P sc → Quiet line (rep_step sc b s)
+  rep_quiet : (line : ℕ) (sc : ScopeView) (b : ℕ) (s : Terminal) → GoodIn P sc → Quiet line (rep_step sc b s)
   rep_quiet line sc b (symbol.Name m) g = (record { shape = shape.Operand; may = refl; first = λ k. inl refl }, g)
   rep_quiet line sc b _ g = tt
 
-  cond_quiet : (line : ℕ) (sc : ScopeView) (t : Bool) (st : State) (c : SourceCause) → GoodIn P sc → IsQuiet line st → Quiet line (with_scope sc (cond t (Ok st) (Err c)))
+  cond_quiet : (line : ℕ) (sc : ScopeView) (t : Bool) (st : StatementState) (c : SourceCause) → GoodIn P sc → IsQuiet line st → Quiet line (with_scope sc (cond t (Ok st) (Err c)))
   cond_quiet line sc true st c g h = (h, g)
   cond_quiet line sc false st c g h = tt
 
-  section_quiet : (line : ℕ) (sc : ScopeView) (b : ℕ) (n : List ℕ) (s : Symbol) → GoodIn P sc → Quiet line (with_scope sc (section_name b n s))
+  section_quiet : (line : ℕ) (sc : ScopeView) (b : ℕ) (n : List ℕ) (s : Terminal) → GoodIn P sc → Quiet line (with_scope sc (section_name b n s))
   section_quiet line sc b n (symbol.Name m) g = cond_quiet line sc (is_section m) (state.Sectioned b n m 0) cause.BadArgument g tt
   section_quiet line sc b n _ g = tt
 
-  directive_quiet : (line : ℕ) (sc : ScopeView) (b : ℕ) (n : List ℕ) (s : Symbol) (d : Option Directive) → GoodIn P sc → SymbolIs s → Quiet line (of_directive d sc b n s)
+  directive_quiet : (line : ℕ) (sc : ScopeView) (b : ℕ) (n : List ℕ) (s : Terminal) (d : Option Directive) → GoodIn P sc → SymbolIs s → Quiet line (of_directive d sc b n s)
   directive_quiet line sc b n s None g is = tt
   directive_quiet line sc b n s (Some directive.Skipped) g is = skip_quiet line sc s g
   directive_quiet line sc b n s (Some directive.Section) g is = section_quiet line sc b n s g
   directive_quiet line sc b n s (Some k) g is = arguments_quiet line sc (nothing_yet b (head.Directive k n)) s g is
 
-  behind_quiet : (line : ℕ) (sc : ScopeView) (b : ℕ) (n : List ℕ) (s : Symbol) → GoodIn P sc → SymbolIs s → Quiet line (other_behind sc b n s)
+  behind_quiet : (line : ℕ) (sc : ScopeView) (b : ℕ) (n : List ℕ) (s : Terminal) → GoodIn P sc → SymbolIs s → Quiet line (other_behind sc b n s)
   behind_quiet line sc b n s g is =
       either line (is_passed sc n) _ _ (skip_quiet line sc s g)
       (either line (is_dotted n) _ _ (directive_quiet line sc b n s (directive_of n) g is) (either line (is_rep n) _ _ (rep_quiet line sc b s g) (arguments_quiet line sc (nothing_yet b (head.Instruction false n)) s g is)))
 
-  named_quiet : (line : ℕ) (sc : ScopeView) (b : ℕ) (n : List ℕ) (s : Symbol) → GoodIn P sc → P n → SymbolIs s → Quiet line (named_step sc b n s)
+  named_quiet : (line : ℕ) (sc : ScopeView) (b : ℕ) (n : List ℕ) (s : Terminal) → GoodIn P sc → P n → SymbolIs s → Quiet line (named_step sc b n s)
   named_quiet line sc b n symbol.Colon g p is = either line sc.skipping _ _ (tt, g) (labelled_quiet line b n (noting sc true n) (λ sc2 e. seen_good P (noting_seen sc sc2 true n e) p g))
   named_quiet line sc b n s g p is = behind_quiet line sc b n s g is
 
-  sectioned_quiet : (line : ℕ) (sc : ScopeView) (b : ℕ) (n m : List ℕ) (s : Symbol) → GoodIn P sc → Quiet line (sectioned_step sc b n m s)
+  sectioned_quiet : (line : ℕ) (sc : ScopeView) (b : ℕ) (n m : List ℕ) (s : Terminal) → GoodIn P sc → Quiet line (sectioned_step sc b n m s)
   sectioned_quiet line sc b n m symbol.End g = (tt, g)
   sectioned_quiet line sc b n m symbol.Comma g = (tt, g)
   sectioned_quiet line sc b n m symbol.Big g = tt
   sectioned_quiet line sc b n m _ g = tt
 
-  flags_quiet : (line : ℕ) (sc : ScopeView) (b : ℕ) (n m : List ℕ) (s : Symbol) → GoodIn P sc → Quiet line (flags_step sc b n m s)
+  flags_quiet : (line : ℕ) (sc : ScopeView) (b : ℕ) (n m : List ℕ) (s : Terminal) → GoodIn P sc → Quiet line (flags_step sc b n m s)
   flags_quiet line sc b n m symbol.End g = (tt, g)
   flags_quiet line sc b n m _ g = (tt, g)
 
@@ -315,13 +315,13 @@ module _ (P : List ℕ → Type 0) where
   unless_quiet line sc true c g = (tt, g)
   unless_quiet line sc false c g = tt
 
-  start_quiet : (line : ℕ) (sc : ScopeView) (s : Symbol) → GoodIn P sc → SymbolIs s → Quiet line (with_scope sc (start_step sc line s))
+  start_quiet : (line : ℕ) (sc : ScopeView) (s : Terminal) → GoodIn P sc → SymbolIs s → Quiet line (with_scope sc (start_step sc line s))
   start_quiet line sc symbol.End g is = (tt, g)
   start_quiet line sc (symbol.Name n) g is = ((refl, is), g)
   start_quiet line sc symbol.Big g is = unless_quiet line sc sc.skipping cause.BadNumber g
   start_quiet line sc _ g is = unless_quiet line sc sc.skipping cause.BadOperand g
 
-  step_quiet : (line : ℕ) (sc : ScopeView) (st : State) (s : Symbol) → GoodIn P sc → NamedIs st → SymbolIs s → Quiet line (step sc st line s)
+  step_quiet : (line : ℕ) (sc : ScopeView) (st : StatementState) (s : Terminal) → GoodIn P sc → NamedIs st → SymbolIs s → Quiet line (step sc st line s)
   step_quiet line sc state.Start s g p is = start_quiet line sc s g is
   step_quiet line sc (state.Named b n) s g p is = named_quiet line sc b n s g p is
   step_quiet line sc state.Skip s g p is = skip_quiet line sc s g
@@ -334,7 +334,7 @@ module _ (P : List ℕ → Type 0) where
   strayed_quiet line (Ok x) h = h
   strayed_quiet line (Err c) h = either line (is_place c) _ _ (refl, fresh_good P) tt
 
-  next_quiet : (line : ℕ) (sc : ScopeView) (st : State) (s : Symbol) → doom sc st ≡ None → GoodIn P sc → NamedIs st → SymbolIs s → Quiet line (next_step sc st line s)
+  next_quiet : (line : ℕ) (sc : ScopeView) (st : StatementState) (s : Terminal) → doom sc st ≡ None → GoodIn P sc → NamedIs st → SymbolIs s → Quiet line (next_step sc st line s)
   next_quiet line sc st symbol.Percent e g p is =
       subst (λ (o : Option ℕ). Quiet line (strayed (or_line o line) (step sc st line symbol.Percent))) (sym e) (strayed_quiet line (step sc st line symbol.Percent) (step_quiet line sc st symbol.Percent g p is))
   next_quiet line sc st s e g p is = step_quiet line sc st s g p is
@@ -346,18 +346,18 @@ if_quiet : (t : Bool) (b line : ℕ) → b ≡ line → NoneOr line (if_doomed t
 if_quiet true b line e = inr (ap (λ (x : ℕ). Some x) e)
 if_quiet false b line e = inl refl
 
-quiet_doom : (P : List ℕ → Type 0) (line : ℕ) (sc : ScopeView) (st : State) → IsQuiet P line st → NoneOr line (doom sc st)
+quiet_doom : (P : List ℕ → Type 0) (line : ℕ) (sc : ScopeView) (st : StatementState) → IsQuiet P line st → NoneOr line (doom sc st)
 quiet_doom P line sc (state.Named b n) h = if_quiet ((is_unknown sc n && is_taken sc n) || lacks_names sc n) b line h.0
 quiet_doom P line sc (state.Stray l c) h = inr (ap (λ (x : ℕ). Some x) h)
 quiet_doom P line sc _ h = inl refl
 
 -- what is known of a state of which no name but such ones has been read
-abbrev pub StateIs : (List ℕ → Type 0) → State → Type 0
+abbrev pub StateIs : (List ℕ → Type 0) → StatementState → Type 0
 StateIs P (state.Named b n) = P n
 StateIs P (state.Arguments o) = IsOpen o
 StateIs P _ = Unit {0}
 
-quiet_state : (P : List ℕ → Type 0) (line : ℕ) (st : State) → IsQuiet P line st → StateIs P st
+quiet_state : (P : List ℕ → Type 0) (line : ℕ) (st : StatementState) → IsQuiet P line st → StateIs P st
 quiet_state P line (state.Named b n) h = h.1
 quiet_state P line (state.Arguments o) h = h
 quiet_state P line _ h = tt
@@ -365,11 +365,11 @@ quiet_state P line _ h = tt
 -- ---- the same of words
 
 -- a word goes on with a section's name, or is a symbol
-pub data WordGoes (sc : ScopeView) (st : State) (w : Word) (x : ScopeView × State) : Type 0 where
+pub data WordGoes (sc : ScopeView) (st : StatementState) (w : Word) (x : ScopeView × StatementState) : Type 0 where
   on : is_longer st w.at w.kind w.bytes ≡ true → x ≡ (sc, longer st (w.at + length w.bytes) w.bytes) → WordGoes sc st w x
-  as_symbol : (y : ScopeView × State) → is_longer st w.at w.kind w.bytes ≡ false → next_step sc st w.line (symbol_of w.kind w.bytes) ≡ Ok y → x ≡ (y.0, ending_at (w.at + length w.bytes) y.1) → WordGoes sc st w x
+  as_symbol : (y : ScopeView × StatementState) → is_longer st w.at w.kind w.bytes ≡ false → next_step sc st w.line (symbol_of w.kind w.bytes) ≡ Ok y → x ≡ (y.0, ending_at (w.at + length w.bytes) y.1) → WordGoes sc st w x
 
-pub word_goes : (sc : ScopeView) (st : State) (w : Word) (x : ScopeView × State) → next_word sc st w ≡ Ok x → WordGoes sc st w x
+pub word_goes : (sc : ScopeView) (st : StatementState) (w : Word) (x : ScopeView × StatementState) → next_word sc st w ≡ Ok x → WordGoes sc st w x
 word_goes sc st w x h = by_test (is_longer st w.at w.kind w.bytes) refl h
   where
     by_result : (r : Answer) → is_longer st w.at w.kind w.bytes ≡ false → next_step sc st w.line (symbol_of w.kind w.bytes) ≡ r → with_end (w.at + length w.bytes) r ≡ Ok x → WordGoes sc st w x
@@ -381,11 +381,11 @@ word_goes sc st w x h = by_test (is_longer st w.at w.kind w.bytes) refl h
     by_test true e h = let g : (sc, longer st (w.at + length w.bytes) w.bytes) ≡ x = cc in WordGoes.on e (sym g)
     by_test false e h = by_result (next_step sc st w.line (symbol_of w.kind w.bytes)) e refl h
 
-ending_doom : (sc : ScopeView) (st : State) (e : ℕ) → doom sc (ending_at e st) ≡ doom sc st
+ending_doom : (sc : ScopeView) (st : StatementState) (e : ℕ) → doom sc (ending_at e st) ≡ doom sc st
 ending_doom sc (state.Sectioned b n m a) e = refl
 ending_doom sc _ e = refl
 
-longer_quiet : (sc : ScopeView) (st : State) (at e : ℕ) (k : TokenKind) (bytes : List ℕ) → is_longer st at k bytes ≡ true → (doom sc st ≡ None) × (doom sc (longer st e bytes) ≡ None)
+longer_quiet : (sc : ScopeView) (st : StatementState) (at e : ℕ) (k : TokenKind) (bytes : List ℕ) → is_longer st at k bytes ≡ true → (doom sc st ≡ None) × (doom sc (longer st e bytes) ≡ None)
 longer_quiet sc (state.Sectioned b n m a) at e k bytes h = (refl, refl)
 longer_quiet sc state.Start at e k bytes h = absurd cc
 longer_quiet sc (state.Named b n) at e k bytes h = absurd cc
@@ -397,12 +397,12 @@ longer_quiet sc (state.Stray l c) at e k bytes h = absurd cc
 none_not : {l : ℕ} (o : Option ℕ) → o ≡ None → o ≡ Some l → ⊥
 none_not o e f = absurd cc
 
-pub record Next (P : List ℕ → Type 0) (sc : ScopeView) (st : State) (line : ℕ) (x : ScopeView × State) : Type 0 where
+pub record Next (P : List ℕ → Type 0) (sc : ScopeView) (st : StatementState) (line : ℕ) (x : ScopeView × StatementState) : Type 0 where
   pub doom : (doom x.0 x.1 ≡ doom sc st) ⊎ ((doom sc st ≡ None) × (doom x.0 x.1 ≡ Some line))
   pub scope : GoodIn P x.0
   pub state : StateIs P x.1
 
-longer_state : (P : List ℕ → Type 0) (st : State) (at e : ℕ) (k : TokenKind) (bytes : List ℕ) → is_longer st at k bytes ≡ true → StateIs P (longer st e bytes)
+longer_state : (P : List ℕ → Type 0) (st : StatementState) (at e : ℕ) (k : TokenKind) (bytes : List ℕ) → is_longer st at k bytes ≡ true → StateIs P (longer st e bytes)
 longer_state P (state.Sectioned b n m a) at e k bytes h = tt
 longer_state P state.Start at e k bytes h = absurd cc
 longer_state P (state.Named b n) at e k bytes h = absurd cc
@@ -411,7 +411,7 @@ longer_state P (state.Flags b n m) at e k bytes h = absurd cc
 longer_state P (state.Arguments o) at e k bytes h = absurd cc
 longer_state P (state.Stray l c) at e k bytes h = absurd cc
 
-ending_state : (P : List ℕ → Type 0) (st : State) (e : ℕ) → StateIs P st → StateIs P (ending_at e st)
+ending_state : (P : List ℕ → Type 0) (st : StatementState) (e : ℕ) → StateIs P st → StateIs P (ending_at e st)
 ending_state P (state.Sectioned b n m a) e h = tt
 ending_state P state.Start e h = h
 ending_state P (state.Named b n) e h = h
@@ -421,26 +421,26 @@ ending_state P (state.Arguments o) e h = h
 ending_state P (state.Stray l c) e h = h
 
 -- One word makes nothing dead but in its own line, and what is dead stays so.
-pub word_next : (P : List ℕ → Type 0) (sc : ScopeView) (st : State) (w : Word) (x : ScopeView × State) → GoodIn P sc → NamedIs P st → SymbolIs P (symbol_of w.kind w.bytes) → next_word sc st w ≡ Ok x → Next P sc st w.line x
+pub word_next : (P : List ℕ → Type 0) (sc : ScopeView) (st : StatementState) (w : Word) (x : ScopeView × StatementState) → GoodIn P sc → NamedIs P st → SymbolIs P (symbol_of w.kind w.bytes) → next_word sc st w ≡ Ok x → Next P sc st w.line x
 word_next P sc st w x g named is h = elim (word_goes sc st w x h) [
   | WordGoes.on t e ↦
       let q = longer_quiet sc st w.at (w.at + length w.bytes) w.kind w.bytes t in
       record {
-        doom = inl (ap (λ (z : ScopeView × State). doom z.0 z.1) e ∙ (q.1 ∙ sym q.0));
-        scope = subst (λ (z : ScopeView × State). GoodIn P z.0) (sym e) g;
-        state = subst (λ (z : ScopeView × State). StateIs P z.1) (sym e) (longer_state P st w.at (w.at + length w.bytes) w.kind w.bytes t);
+        doom = inl (ap (λ (z : ScopeView × StatementState). doom z.0 z.1) e ∙ (q.1 ∙ sym q.0));
+        scope = subst (λ (z : ScopeView × StatementState). GoodIn P z.0) (sym e) g;
+        state = subst (λ (z : ScopeView × StatementState). StateIs P z.1) (sym e) (longer_state P st w.at (w.at + length w.bytes) w.kind w.bytes t);
       }
-  | WordGoes.as_symbol y t f e ↦ by_doom y f (ap (λ (z : ScopeView × State). doom z.0 z.1) e ∙ ending_doom y.0 y.1 (w.at + length w.bytes)) (ap (λ (z : ScopeView × State). z.0) e) (ap (λ (z : ScopeView × State). z.1) e) (doom sc st) refl
+  | WordGoes.as_symbol y t f e ↦ by_doom y f (ap (λ (z : ScopeView × StatementState). doom z.0 z.1) e ∙ ending_doom y.0 y.1 (w.at + length w.bytes)) (ap (λ (z : ScopeView × StatementState). z.0) e) (ap (λ (z : ScopeView × StatementState). z.1) e) (doom sc st) refl
 ]
   where
-    by_doom : (y : ScopeView × State) → next_step sc st w.line (symbol_of w.kind w.bytes) ≡ Ok y → doom x.0 x.1 ≡ doom y.0 y.1 → x.0 ≡ y.0 → x.1 ≡ ending_at (w.at + length w.bytes) y.1 → (d : Option ℕ) → doom sc st ≡ d → Next P sc st w.line x
+    by_doom : (y : ScopeView × StatementState) → next_step sc st w.line (symbol_of w.kind w.bytes) ≡ Ok y → doom x.0 x.1 ≡ doom y.0 y.1 → x.0 ≡ y.0 → x.1 ≡ ending_at (w.at + length w.bytes) y.1 → (d : Option ℕ) → doom sc st ≡ d → Next P sc st w.line x
     by_doom y f e scope state (Some l) k =
         let dead = doomed_stays P sc st l w.line (symbol_of w.kind w.bytes) y g k f in
-        let same : doom y.0 y.1 ≡ Some l = ap (λ (z : ScopeView × State). doom z.0 z.1) dead.1 in
+        let same : doom y.0 y.1 ≡ Some l = ap (λ (z : ScopeView × StatementState). doom z.0 z.1) dead.1 in
         record {
           doom = inl (e ∙ (same ∙ sym k));
-          scope = subst (GoodIn P) (sym (scope ∙ ap (λ (z : ScopeView × State). z.0) dead.1)) (fresh_good P);
-          state = subst (StateIs P) (sym (state ∙ ap (λ (z : ScopeView × State). ending_at (w.at + length w.bytes) z.1) dead.1)) tt;
+          scope = subst (GoodIn P) (sym (scope ∙ ap (λ (z : ScopeView × StatementState). z.0) dead.1)) (fresh_good P);
+          state = subst (StateIs P) (sym (state ∙ ap (λ (z : ScopeView × StatementState). ending_at (w.at + length w.bytes) z.1) dead.1)) tt;
         }
     by_doom y f e scope state None k =
         let q : Quiet P w.line (Ok y) = subst (Quiet P w.line) f (next_quiet P w.line sc st (symbol_of w.kind w.bytes) k g named is) in
@@ -455,13 +455,13 @@ word_next P sc st w x g named is h = elim (word_goes sc st w x h) [
 abbrev pub Any : List ℕ → Type 0
 Any n = Unit {0}
 
-pub any_symbol : (s : Symbol) → SymbolIs Any s
+pub any_symbol : (s : Terminal) → SymbolIs Any s
 any_symbol (symbol.Name n) = tt
 any_symbol _ = tt
 
-pub any_state : (st : State) → NamedIs Any st
+pub any_state : (st : StatementState) → NamedIs Any st
 any_state (state.Named b n) = tt
 any_state _ = tt
 
-pub any_next : (sc : ScopeView) (st : State) (w : Word) (x : ScopeView × State) → GoodIn Any sc → next_word sc st w ≡ Ok x → Next Any sc st w.line x
+pub any_next : (sc : ScopeView) (st : StatementState) (w : Word) (x : ScopeView × StatementState) → GoodIn Any sc → next_word sc st w ≡ Ok x → Next Any sc st w.line x
 any_next sc st w x g h = word_next Any sc st w x g (any_state st) (any_symbol (symbol_of w.kind w.bytes)) h

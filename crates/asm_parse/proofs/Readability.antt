@@ -16,8 +16,8 @@ use Rattle.asm_lex.specs.declared.token.TokenKind.TheVariants as kind
 use Rattle.asm_lex.specs.Bytes.{class_of, is_source, is_digit, is_letter, is_word}
 use Rattle.asm_lex.specs.Words.{Word}
 use Rattle.asm_lex.specs.Source.{IsToken, Lexed}
-use Rattle.asm_argument.specs.declared.symbol.Symbol.{Symbol}
-use Rattle.asm_argument.specs.declared.symbol.Symbol.TheVariants as symbol
+use Rattle.asm_argument.specs.declared.symbol.Terminal.{Terminal}
+use Rattle.asm_argument.specs.declared.symbol.Terminal.TheVariants as symbol
 use Rattle.asm_argument.specs.declared.operand.Shape.{Shape}
 use Rattle.asm_source.specs.declared.tree.Value.{Value}
 use Rattle.asm_source.specs.declared.tree.Form.{Form}
@@ -52,19 +52,19 @@ abbrev PlainName : Option (List ℕ) → Type 0
 PlainName None = Unit {0}
 PlainName (Some n) = Plain n
 
-abbrev PlainSymbol : Symbol → Type 0
+abbrev PlainSymbol : Terminal → Type 0
 PlainSymbol (symbol.Name n) = Plain n
 PlainSymbol _ = Unit {0}
 
-abbrev PlainSymbols : List Symbol → Type 0
+abbrev PlainSymbols : List Terminal → Type 0
 PlainSymbols [] = Unit {0}
 PlainSymbols (s ∷ ss) = PlainSymbol s × PlainSymbols ss
 
-front_plain : (ss ts : List Symbol) → PlainSymbols (ss ++ ts) → PlainSymbols ss
+front_plain : (ss ts : List Terminal) → PlainSymbols (ss ++ ts) → PlainSymbols ss
 front_plain [] ts h = tt
 front_plain (s ∷ ss) ts h = (h.0, front_plain ss ts h.1)
 
-back_plain : (ss ts : List Symbol) → PlainSymbols (ss ++ ts) → PlainSymbols ts
+back_plain : (ss ts : List Terminal) → PlainSymbols (ss ++ ts) → PlainSymbols ts
 back_plain [] ts h = h
 back_plain (s ∷ ss) ts h = back_plain ss ts h.1
 
@@ -87,7 +87,7 @@ words_plain : (bs : List ℕ) → list_all is_word bs ≡ true → Plain bs
 words_plain [] h = All-nil (λ (x : ℕ). 1 ≤ x)
 words_plain (b ∷ bs) h = let p = and_both (is_word b) (list_all is_word bs) h in All-cons (λ (x : ℕ). 1 ≤ x) b bs (word_some b p.0) (words_plain bs p.1)
 
-plain_either : (t : Bool) (a b : Symbol) → PlainSymbol a → PlainSymbol b → PlainSymbol (cond t a b)
+plain_either : (t : Bool) (a b : Terminal) → PlainSymbol a → PlainSymbol b → PlainSymbol (cond t a b)
 plain_either true a b p q = p
 plain_either false a b p q = q
 
@@ -114,14 +114,14 @@ lexed_plain (Lexed.token k piece rest e is l) = (token_plain k piece rest is, le
 
 -- ---- one argument
 
-value_plain : {sh : Shape} {ss : List Symbol} {v : Value} → IsValue sh ss v → PlainSymbols ss → PlainName v.name
+value_plain : {sh : Shape} {ss : List Terminal} {v : Value} → IsValue sh ss v → PlainSymbols ss → PlainName v.name
 value_plain (IsValue.number t f) h = tt
 value_plain (IsValue.negative t l f) h = tt
 value_plain (IsValue.name t) h = h.0
 value_plain (IsValue.sum t u c) h = h.0
 value_plain (IsValue.difference t u c) h = h.0
 
-form_plain : {sh : Shape} {ss : List Symbol} {f : Form} → IsForm sh ss f → PlainSymbols ss → PlainName (symbol_in f)
+form_plain : {sh : Shape} {ss : List Terminal} {f : Form} → IsForm sh ss f → PlainSymbols ss → PlainName (symbol_in f)
 form_plain (IsForm.absent h) p = tt
 form_plain (IsForm.text h) p = tt
 form_plain (IsForm.register h g) p = tt
@@ -130,7 +130,7 @@ form_plain (IsForm.value v) p = value_plain v p
 form_plain (IsForm.address h a) p = tt
 form_plain (IsForm.value_address vs ps h e v a) p = value_plain v (front_plain vs ps (subst PlainSymbols e p))
 
-argument_plain : {sh : Shape} {ss : List Symbol} {a : Argument} → IsArgument sh ss a → PlainSymbols ss → PlainName (symbol_in a.form)
+argument_plain : {sh : Shape} {ss : List Terminal} {a : Argument} → IsArgument sh ss a → PlainSymbols ss → PlainName (symbol_in a.form)
 argument_plain (IsArgument.plain f) p = form_plain f p
 argument_plain (IsArgument.starred h f) p = form_plain f p.1
 
@@ -198,16 +198,16 @@ names-end before a =
 end_grown : (sc sc1 sc2 : ScopeView) (before : List Argument) (a : Argument) → Grown sc sc1 (argument_names before) → Grown sc1 sc2 (name_list (symbol_in a.form)) → Grown sc sc2 (argument_names (before ++ a ∷ []))
 end_grown sc sc1 sc2 before a g h = subst (Grown sc sc2) (sym (names-end before a)) (both_grown sc sc1 sc2 (argument_names before) (name_list (symbol_in a.form)) g h)
 
-next_grown : {h : Head} {sc sc2 : ScopeView} {before : List Argument} {ts : List Symbol} {a : Argument} → IsNext h sc before ts a sc2 → PlainSymbols ts → Fit sc → Grown sc sc2 (name_list (symbol_in a.form))
+next_grown : {h : Head} {sc sc2 : ScopeView} {before : List Argument} {ts : List Terminal} {a : Argument} → IsNext h sc before ts a sc2 → PlainSymbols ts → Fit sc → Grown sc sc2 (name_list (symbol_in a.form))
 next_grown {h} {sc} {sc2} {before} {a} next plain fit = sees_grown sc sc2 (defines h (length before)) (symbol_in a.form) next.sees (argument_plain next.is plain) fit
 
-separated_grown : {h : Head} {sc sc2 : ScopeView} {ss : List Symbol} {args : List Argument} → Separated h sc ss args sc2 → PlainSymbols ss → Fit sc → Grown sc sc2 (argument_names args)
+separated_grown : {h : Head} {sc sc2 : ScopeView} {ss : List Terminal} {args : List Argument} → Separated h sc ss args sc2 → PlainSymbols ss → Fit sc → Grown sc sc2 (argument_names args)
 separated_grown {sc} Separated.none plain fit = none_grown sc sc refl fit
 separated_grown {h} {sc} {sc2} (Separated.more {ss} {ts} {before} {a} {sc1} sep next) plain fit =
     let g = separated_grown sep (front_plain ss (ts ++ symbol.Comma ∷ []) plain) fit in
     end_grown sc sc1 sc2 before a g (next_grown next (front_plain ts (symbol.Comma ∷ []) (back_plain ss (ts ++ symbol.Comma ∷ []) plain)) g.fit)
 
-arguments_grown : {h : Head} {sc sc2 : ScopeView} {ss : List Symbol} {args : List Argument} → HasArguments h sc ss args sc2 → PlainSymbols ss → Fit sc → Grown sc sc2 (argument_names args)
+arguments_grown : {h : Head} {sc sc2 : ScopeView} {ss : List Terminal} {args : List Argument} → HasArguments h sc ss args sc2 → PlainSymbols ss → Fit sc → Grown sc sc2 (argument_names args)
 arguments_grown {sc} HasArguments.none plain fit = none_grown sc sc refl fit
 arguments_grown {h} {sc} {sc2} (HasArguments.some {ss} {ts} {before} {a} {sc1} sep next) plain fit =
     let g = separated_grown sep (front_plain ss ts plain) fit in
@@ -245,7 +245,7 @@ resumed_names sc (head.Instruction r n) = refl
 resumed_names sc (head.Directive directive.Plain n) = refl
 resumed_names sc (head.Directive _ n) = refl
 
-statement_tracks : {sc sc2 : ScopeView} {line : ℕ} {ss : List Symbol} → Statement sc line ss sc2 → PlainSymbols ss → Tracks sc → Tracks sc2
+statement_tracks : {sc sc2 : ScopeView} {line : ℕ} {ss : List Terminal} → Statement sc line ss sc2 → PlainSymbols ss → Tracks sc → Tracks sc2
 statement_tracks Statement.empty plain t = t
 statement_tracks {sc} {line} (Statement.label {sc2} {n} sk seen) plain t =
     tracks_on sc sc2 _ (record { line = line; body = body.Label n }) t (seen_grown seen plain.0 t.fit) refl refl

@@ -3,11 +3,11 @@ use Rattle.std.proofs.Common.{◌≡◌, ℕ, Bool, true, false, cond, List, [],
 use Rattle.std.specs.Prelude.{◌==◌, ◌&&◌, not, nat_lt}
 use Rattle.asm_lex.specs.declared.fault.SourceCause.{SourceCause}
 use Rattle.asm_lex.specs.declared.fault.SourceCause.TheVariants as cause
-use Rattle.asm_argument.specs.declared.symbol.Symbol.{Symbol}
-use Rattle.asm_argument.specs.declared.symbol.Symbol.TheVariants as symbol
+use Rattle.asm_argument.specs.declared.symbol.Terminal.{Terminal}
+use Rattle.asm_argument.specs.declared.symbol.Terminal.TheVariants as symbol
 use Rattle.asm_argument.specs.declared.operand.Shape.{Shape}
 use Rattle.asm_argument.specs.declared.operand.Shape.TheVariants as shape
-use Rattle.asm_argument.specs.declared.operand.Place.TheVariants as place
+use Rattle.asm_argument.specs.declared.operand.ValuePlace.TheVariants as place
 use Rattle.asm_argument.specs.declared.operand.Partial.{Partial}
 use Rattle.asm_argument.specs.declared.operand.Partial.TheVariants as partial
 use Rattle.asm_source.specs.declared.tree.Argument.{Argument}
@@ -34,13 +34,13 @@ err c = Err c
 -- ---- an operand of an instruction
 
 -- the cause, by how the operand's symbols end
-abbrev pub operand_by : Bool → Bool → Bool → Bool → Symbol → SourceCause
+abbrev pub operand_by : Bool → Bool → Bool → Bool → Terminal → SourceCause
 operand_by percent index minus free symbol.Big = cause.BadNumber
 operand_by percent index minus free (symbol.Number n) = cond percent cause.BadRegister (cond index cause.BadScale (cond minus cause.BadNumber cause.BadOperand))
 operand_by percent index minus free (symbol.Name n) = cond percent cause.BadRegister (cond free cause.TooManySymbols cause.BadOperand)
 operand_by percent index minus free s = cond percent cause.BadRegister cause.BadOperand
 
-pub operand_ends : (ss : List Symbol) (a b c d e : Bool) → Tail ss a b c d e → (s : Symbol) → operand_cause ss s ≡ operand_by a b c e s
+pub operand_ends : (ss : List Terminal) (a b c d e : Bool) → Tail ss a b c d e → (s : Terminal) → operand_cause ss s ≡ operand_by a b c e s
 operand_ends ss a b c d e t symbol.Big = refl
 operand_ends ss a b c d e t (symbol.Number n) = rw (t.percent_is, t.index_is, t.minus_is) refl
 operand_ends ss a b c d e t (symbol.Name n) = rw (t.percent_is, t.free_is) refl
@@ -57,7 +57,7 @@ operand_ends ss a b c d e t symbol.At = rw t.percent_is refl
 operand_ends ss a b c d e t (symbol.Text x) = rw t.percent_is refl
 operand_ends ss a b c d e t symbol.End = rw t.percent_is refl
 
-abbrev pub operand_at : Partial → Symbol → SourceCause
+abbrev pub operand_at : Partial → Terminal → SourceCause
 operand_at p s = operand_by (percents p) (indexed p) (minuses p) (frees p) s
 
 unnamed : (a q : Partial) (n : List ℕ) → name_in a ≡ None → a ≡ q → name_in q ≡ Some n → ⊥
@@ -78,7 +78,7 @@ low_err false q c h = cc
 same_err : (a c : SourceCause) → err a ≡ err c → a ≡ c
 same_err a c h = cc
 
-pub operand_err : (p : Partial) (s : Symbol) (c : SourceCause) → operand_step shape.Operand p s ≡ err c → operand_at p s ≡ c
+pub operand_err : (p : Partial) (s : Terminal) (c : SourceCause) → operand_step shape.Operand p s ≡ err c → operand_at p s ≡ c
 operand_err partial.Nothing symbol.Percent c h = absurd cc
 operand_err partial.Nothing symbol.Dollar c h = absurd cc
 operand_err partial.Nothing symbol.Open c h = absurd cc
@@ -153,24 +153,24 @@ operand_name _ m n q never h e = absurd cc
 -- ---- an argument of a directive
 
 -- the cause behind what has been read of it, by how that ends
-abbrev pub value_by : Bool → Bool → Symbol → SourceCause
+abbrev pub value_by : Bool → Bool → Terminal → SourceCause
 value_by minus sign symbol.Big = cause.BadNumber
 value_by minus sign (symbol.Number n) = cond minus (cond (is_low n) cause.BadArgument cause.BadNumber) cause.BadOperand
 value_by minus sign symbol.Comma = cond sign cause.BadOperand cause.BadArgument
 value_by minus sign symbol.End = cond sign cause.BadOperand cause.BadArgument
 value_by minus sign s = cause.BadOperand
 
-pub value_ends : (h : Head) (done : List Argument) (sc : ScopeView) (ss : List Symbol) (a b c d e : Bool) → (ss ≡ [] → ⊥) → Tail ss a b c d e → (s : Symbol) → value_cause h done sc ss s ≡ value_by c d s
+pub value_ends : (h : Head) (done : List Argument) (sc : ScopeView) (ss : List Terminal) (a b c d e : Bool) → (ss ≡ [] → ⊥) → Tail ss a b c d e → (s : Terminal) → value_cause h done sc ss s ≡ value_by c d s
 value_ends h done sc [] a b c d e never t s = absurd (never refl)
 value_ends h done sc (x ∷ xs) a b c d e never t (symbol.Number n) = rw t.minus_is refl
 value_ends h done sc (x ∷ xs) a b c d e never t symbol.Comma = rw t.sign_is refl
 value_ends h done sc (x ∷ xs) a b c d e never t symbol.End = rw t.sign_is refl
 value_ends h done sc (x ∷ xs) a b c d e never t _ = refl
 
-abbrev pub value_at : Partial → Symbol → SourceCause
+abbrev pub value_at : Partial → Terminal → SourceCause
 value_at p s = value_by (minuses p) (signs p) s
 
-abbrev pub is_cut : Symbol → Bool
+abbrev pub is_cut : Terminal → Bool
 is_cut symbol.Comma = true
 is_cut symbol.End = true
 is_cut _ = false
@@ -194,7 +194,7 @@ lowered_err true true q other c h = absurd cc
 lowered_err true false q other c h = cause_is other cause.BadArgument c cause.BadArgument h refl
 lowered_err false fit q other c h = cause_is other cause.BadNumber c cause.BadNumber h refl
 
-pub value_err : (sh : Shape) (p : Partial) (ss : List Symbol) (s : Symbol) (other c : SourceCause) → is_operand sh ≡ false → is_unbegun p ≡ false → Spelled sh p ss → (is_cut s ≡ true → is_finished p ≡ false) → operand_step sh p s ≡ err c
+pub value_err : (sh : Shape) (p : Partial) (ss : List Terminal) (s : Terminal) (other c : SourceCause) → is_operand sh ≡ false → is_unbegun p ≡ false → Spelled sh p ss → (is_cut s ≡ true → is_finished p ≡ false) → operand_step sh p s ≡ err c
     → argument_cause false other c ≡ value_at p s
 value_err sh partial.Nothing ss s other c n u sp cut h = absurd cc
 value_err sh partial.Absent ss s other c n u sp cut h = absurd cc
@@ -235,11 +235,11 @@ value_err sh (partial.Scale v b i) ss s other c n u sp cut h = absurd (not_both 
 value_err sh (partial.Scaled v b i k) ss s other c n u sp cut h = absurd (not_both sp.operand n)
 
 -- where nothing of the argument has been read
-abbrev pub value_first : Bool → ScopeView → Bool → Symbol → SourceCause
+abbrev pub value_first : Bool → ScopeView → Bool → Terminal → SourceCause
 value_first takes sc def (symbol.Name n) = cond takes (name_cause sc def n) cause.BadArgument
 value_first takes sc def s = argument_missing s
 
-pub value_none : (h : Head) (done : List Argument) (sc : ScopeView) (s : Symbol) → value_cause h done sc [] s ≡ value_first (takes_name (shape_at h (length done))) sc (defines h (length done)) s
+pub value_none : (h : Head) (done : List Argument) (sc : ScopeView) (s : Terminal) → value_cause h done sc [] s ≡ value_first (takes_name (shape_at h (length done))) sc (defines h (length done)) s
 value_none h done sc (symbol.Name n) = refl
 value_none h done sc _ = refl
 
@@ -259,7 +259,7 @@ first_named : (t : Bool) (q : Partial) (sc : ScopeView) (def : Bool) (n : List �
 first_named true q sc def n c h = absurd cc
 first_named false q sc def n c h = first_cause cause.BadArgument cause.BadOperand c cause.BadArgument h refl
 
-first_err : (sh : Shape) (sc : ScopeView) (def : Bool) (s : Symbol) (c : SourceCause) → first sh s ≡ err c → argument_cause true (misplaced s) c ≡ value_first (takes_names sh) sc def s
+first_err : (sh : Shape) (sc : ScopeView) (def : Bool) (s : Terminal) (c : SourceCause) → first sh s ≡ err c → argument_cause true (misplaced s) c ≡ value_first (takes_names sh) sc def s
 first_err sh sc def symbol.Percent c h = first_allowed (is_operand sh) _ _ c _ h refl
 first_err sh sc def symbol.Dollar c h = first_allowed (is_operand sh) _ _ c _ h refl
 first_err sh sc def symbol.Open c h = first_allowed (is_operand sh) _ _ c _ h refl
@@ -270,14 +270,14 @@ first_err sh sc def (symbol.Text t) c h = first_allowed (takes_text sh) _ _ c _ 
 first_err sh sc def symbol.Big c h = first_cause _ _ c _ h refl
 first_err sh sc def _ c h = first_cause _ _ c _ h refl
 
-pub unbegun_err : (sh : Shape) (p : Partial) (sc : ScopeView) (def : Bool) (s : Symbol) (c : SourceCause) → is_unbegun p ≡ true → operand_step sh p s ≡ err c → argument_cause true (misplaced s) c ≡ value_first (takes_names sh) sc def s
+pub unbegun_err : (sh : Shape) (p : Partial) (sc : ScopeView) (def : Bool) (s : Terminal) (c : SourceCause) → is_unbegun p ≡ true → operand_step sh p s ≡ err c → argument_cause true (misplaced s) c ≡ value_first (takes_names sh) sc def s
 unbegun_err sh partial.Nothing sc def symbol.Big c u h = first_cause _ cause.BadNumber c _ h refl
 unbegun_err sh partial.Nothing sc def s c u h = first_err sh sc def s c h
 unbegun_err sh partial.Absent sc def symbol.Big c u h = first_cause _ cause.BadNumber c _ h refl
 unbegun_err sh partial.Absent sc def s c u h = first_err sh sc def s c h
 unbegun_err sh _ sc def s c u h = absurd cc
 
-pub missing_is : (s : Symbol) (takes : Bool) (sc : ScopeView) (def : Bool) → takes ≡ false → misplaced s ≡ value_first takes sc def s
+pub missing_is : (s : Terminal) (takes : Bool) (sc : ScopeView) (def : Bool) → takes ≡ false → misplaced s ≡ value_first takes sc def s
 missing_is (symbol.Name n) takes sc def e = rw e refl
 missing_is _ takes sc def e = refl
 

@@ -4,8 +4,8 @@ use Rattle.std.proofs.lemmas.List.{length-append}
 use Rattle.std.specs.Prelude.{ℤ, pos}
 use Rattle.asm_lex.specs.declared.lexing.TheConstants.{LIMIT}
 use Rattle.asm_lex.specs.Words.{Word}
-use Rattle.asm_argument.specs.declared.symbol.Symbol.{Symbol}
-use Rattle.asm_argument.specs.declared.symbol.Symbol.TheVariants as symbol
+use Rattle.asm_argument.specs.declared.symbol.Terminal.{Terminal}
+use Rattle.asm_argument.specs.declared.symbol.Terminal.TheVariants as symbol
 use Rattle.asm_argument.specs.declared.operand.Shape.{Shape}
 use Rattle.asm_argument.specs.declared.operand.Partial.TheVariants as partial
 use Rattle.asm_argument.specs.declared.operand.Partial.{Partial}
@@ -38,25 +38,25 @@ use Rattle.asm_parse.proofs.Costs.{cost, costs, costs-append, weight, ArePaid, p
 
 -- ---- one argument
 
-value_pays : {sh : Shape} {ss : List Symbol} {v : Value} → IsValue sh ss v → (name_size v.name ≤ costs ss) × (1 ≤ length ss)
+value_pays : {sh : Shape} {ss : List Terminal} {v : Value} → IsValue sh ss v → (name_size v.name ≤ costs ss) × (1 ≤ length ss)
 value_pays (IsValue.number t f) = (omega arith, omega arith)
 value_pays (IsValue.negative t l f) = (omega arith, omega arith)
 value_pays (IsValue.name t) = (omega arith, omega arith)
 value_pays (IsValue.sum t u c) = (omega arith, omega arith)
 value_pays (IsValue.difference t u c) = (omega arith, omega arith)
 
-address_pays : {ss : List Symbol} {b i : Option (List ℕ)} {s : ℕ} → IsAddress ss b i s → (name_size b + name_size i ≤ costs ss) × (1 ≤ length ss)
+address_pays : {ss : List Terminal} {b i : Option (List ℕ)} {s : ℕ} → IsAddress ss b i s → (name_size b + name_size i ≤ costs ss) × (1 ≤ length ss)
 address_pays (IsAddress.base r) = (omega arith, omega arith)
 address_pays (IsAddress.index r) = (omega arith, omega arith)
 address_pays (IsAddress.scaled r t) = (omega arith, omega arith)
 address_pays (IsAddress.base_index r t) = (omega arith, omega arith)
 address_pays (IsAddress.base_scaled r t u) = (omega arith, omega arith)
 
-record FormPays (sh : Shape) (ss : List Symbol) (f : Form) : Type 0 where
+record FormPays (sh : Shape) (ss : List Terminal) (f : Form) : Type 0 where
   size : form_size f ≤ costs ss
   some : (takes_absent sh ≡ true) ⊎ (1 ≤ length ss)
 
-form_pays : {sh : Shape} {ss : List Symbol} {f : Form} → IsForm sh ss f → FormPays sh ss f
+form_pays : {sh : Shape} {ss : List Terminal} {f : Form} → IsForm sh ss f → FormPays sh ss f
 form_pays (IsForm.absent h) = record { size = omega arith; some = inl h }
 form_pays (IsForm.text h) = record { size = omega arith; some = inr (omega arith) }
 form_pays (IsForm.register h g) = record { size = omega arith; some = inr (omega arith) }
@@ -68,7 +68,7 @@ form_pays (IsForm.value_address vs ps h e v a) =
     let q = address_pays a in
     record { size = omega (arith, ap costs e, costs-append vs ps, p.0, q.0); some = inr (omega (arith, ap length e, length-append vs ps, p.1)) }
 
-argument_pays : {sh : Shape} {ss : List Symbol} {a : Argument} → IsArgument sh ss a → FormPays sh ss a.form
+argument_pays : {sh : Shape} {ss : List Terminal} {a : Argument} → IsArgument sh ss a → FormPays sh ss a.form
 argument_pays (IsArgument.plain f) = form_pays f
 argument_pays (IsArgument.starred h f) = let p = form_pays f in record { size = omega (arith, p.size); some = inr (omega arith) }
 
@@ -91,17 +91,17 @@ first_some : (h : Head) (sh : Shape) (n : ℕ) → shape_at h 0 ≡ Some sh → 
 first_some h sh n may (inr le) = le
 first_some h sh n may (inl absent) = nothing_absent (begun sh) (first_shape h sh may) (absent_begun sh absent)
 
-record ListPays (h : Head) (sc sc2 : ScopeView) (ss : List Symbol) (args : List Argument) : Type 0 where
+record ListPays (h : Head) (sc sc2 : ScopeView) (ss : List Terminal) (args : List Argument) : Type 0 where
   size : arguments_size args ≤ costs ss
   count : length args ≤ length ss
   same : sc2.items ≡ sc.items
 
-record SeparatedPays (h : Head) (sc sc2 : ScopeView) (ss : List Symbol) (args : List Argument) : Type 0 where
+record SeparatedPays (h : Head) (sc sc2 : ScopeView) (ss : List Terminal) (args : List Argument) : Type 0 where
   size : arguments_size args ≤ costs ss
   count : (args ≡ []) ⊎ (length args + 1 ≤ length ss)
   same : sc2.items ≡ sc.items
 
-separated_pays : {h : Head} {sc sc2 : ScopeView} {ss : List Symbol} {args : List Argument} → Separated h sc ss args sc2 → SeparatedPays h sc sc2 ss args
+separated_pays : {h : Head} {sc sc2 : ScopeView} {ss : List Terminal} {args : List Argument} → Separated h sc ss args sc2 → SeparatedPays h sc sc2 ss args
 separated_pays Separated.none = record { size = omega arith; count = inl refl; same = refl }
 separated_pays {h} (Separated.more {ss} {ts} {before} {a} {sc1} {sc2} sep next) =
     let p = separated_pays sep in
@@ -118,7 +118,7 @@ separated_pays {h} (Separated.more {ss} {ts} {before} {a} {sc1} {sc2} sep next) 
       same = sees_same sc1 sc2 _ _ next.sees ∙ p.same;
     }
 
-arguments_pay : {h : Head} {sc sc2 : ScopeView} {ss : List Symbol} {args : List Argument} → HasArguments h sc ss args sc2 → ListPays h sc sc2 ss args
+arguments_pay : {h : Head} {sc sc2 : ScopeView} {ss : List Terminal} {args : List Argument} → HasArguments h sc ss args sc2 → ListPays h sc sc2 ss args
 arguments_pay HasArguments.none = record { size = omega arith; count = omega arith; same = refl }
 arguments_pay {h} (HasArguments.some {ss} {ts} {before} {a} {sc1} {sc2} sep next) =
     let p = separated_pays sep in
@@ -146,21 +146,21 @@ resumed_same sc (head.Instruction r n) = refl
 resumed_same sc (head.Directive kind.Plain n) = refl
 resumed_same sc (head.Directive _ n) = refl
 
-pub record StatementPays (sc sc2 : ScopeView) (ss : List Symbol) : Type 0 where
+pub record StatementPays (sc sc2 : ScopeView) (ss : List Terminal) : Type 0 where
   pub size : items_size sc2.items + 1 ≤ items_size sc.items + costs ss
   pub count : items_count sc2.items + 1 ≤ items_count sc.items + length ss
 
 -- an item behind those of a scope that has the same
-pushed_pays : (sc sc1 sc2 : ScopeView) (x : SourceItem) (ss : List Symbol) → sc1.items ≡ sc.items → sc2.items ≡ sc1.items ++ x ∷ [] → body_size x.body + 1 ≤ costs ss → body_count x.body + 1 ≤ length ss → StatementPays sc sc2 ss
+pushed_pays : (sc sc1 sc2 : ScopeView) (x : SourceItem) (ss : List Terminal) → sc1.items ≡ sc.items → sc2.items ≡ sc1.items ++ x ∷ [] → body_size x.body + 1 ≤ costs ss → body_count x.body + 1 ≤ length ss → StatementPays sc sc2 ss
 pushed_pays sc sc1 sc2 x ss same new size count =
     let e : sc2.items ≡ sc.items ++ x ∷ [] = new ∙ ap (λ (xs : List SourceItem). xs ++ x ∷ []) same in
     let p = items_end sc.items x in
     record { size = omega (arith, ap items_size e, p.0, size); count = omega (arith, ap items_count e, p.1, count) }
 
-same_pays : (sc : ScopeView) (s : Symbol) (ss : List Symbol) → StatementPays sc sc (s ∷ (ss ++ symbol.End ∷ []))
+same_pays : (sc : ScopeView) (s : Terminal) (ss : List Terminal) → StatementPays sc sc (s ∷ (ss ++ symbol.End ∷ []))
 same_pays sc s ss = record { size = omega (arith, costs-append ss (symbol.End ∷ [])); count = omega (arith, length-append ss (symbol.End ∷ [])) }
 
-statement_pays : {sc sc2 : ScopeView} {line : ℕ} {ss : List Symbol} → Statement sc line ss sc2 → StatementPays sc sc2 ss
+statement_pays : {sc sc2 : ScopeView} {line : ℕ} {ss : List Terminal} → Statement sc line ss sc2 → StatementPays sc sc2 ss
 statement_pays Statement.empty = record { size = omega arith; count = omega arith }
 statement_pays {sc} {line} (Statement.label {sc2} {n} sk seen) =
     pushed_pays sc sc2 _ (record { line = line; body = body.Label n }) (symbol.Name n ∷ symbol.Colon ∷ []) (sees_same sc sc2 true (Some n) seen) refl (omega arith) (omega arith)
@@ -183,7 +183,7 @@ statement_pays {sc} (Statement.nameless {s} ss sk k h) = same_pays sc s ss
 
 pub symbols-append : (ws vs : List Word) → symbols (ws ++ vs) ≡ symbols ws ++ symbols vs
 symbols-append [] vs = refl
-symbols-append (w ∷ ws) vs = ap (λ (x : List Symbol). symbol_of w.kind w.bytes ∷ x) (symbols-append ws vs)
+symbols-append (w ∷ ws) vs = ap (λ (x : List Terminal). symbol_of w.kind w.bytes ∷ x) (symbols-append ws vs)
 
 symbols-length : (ws : List Word) → length (symbols ws) ≡ length ws
 symbols-length [] = refl
@@ -209,7 +209,7 @@ record PiecePays (sc sc2 : ScopeView) (ws : List Word) : Type 0 where
   size : items_size sc2.items + 1 ≤ items_size sc.items + weight ws
   count : items_count sc2.items + 1 ≤ items_count sc.items + length ws
 
-section_pays : (sc : ScopeView) (w v : Word) (parts rest : List Word) (n m : List ℕ) (ss : List Symbol) → symbol_of w.kind w.bytes ≡ symbol.Name n → symbol_of v.kind v.bytes ≡ symbol.Name m → symbols rest ≡ ss ++ symbol.End ∷ []
+section_pays : (sc : ScopeView) (w v : Word) (parts rest : List Word) (n m : List ℕ) (ss : List Terminal) → symbol_of w.kind w.bytes ≡ symbol.Name n → symbol_of v.kind v.bytes ≡ symbol.Name m → symbols rest ≡ ss ++ symbol.End ∷ []
     → ArePaid (w ∷ v ∷ (parts ++ rest)) → PiecePays sc (sectioned sc w.line n (m ++ text_of parts)) (w ∷ v ∷ (parts ++ rest))
 section_pays sc w v parts rest n m ss wn vm end paid =
     let p = items_end sc.items (record { line = w.line; body = body.Directive n (record { star = false; form = form.Text (m ++ text_of parts) } ∷ []) }) in

@@ -11,8 +11,8 @@ use Rattle.asm_lex.specs.Words.{Scan, scan}
 use Rattle.asm_lex.proofs.Again.{again}
 use Rattle.asm_lex.proofs.Found.{found}
 use Rattle.asm_source.specs.declared.tree.SourceItem.{SourceItem}
-use Rattle.asm_parse.specs.declared.state.State.{State}
-use Rattle.asm_parse.specs.declared.state.State.TheVariants as state
+use Rattle.asm_parse.specs.declared.state.StatementState.{StatementState}
+use Rattle.asm_parse.specs.declared.state.StatementState.TheVariants as state
 use Rattle.asm_parse.specs.ScopeView.{ScopeView}
 use Rattle.asm_parse.specs.Scope.{fresh}
 use Rattle.asm_lex.specs.Lines.{first_lines}
@@ -36,7 +36,7 @@ read_is text r h =
     let m = closed_between s.0 r s.0.mode (last_mode a.0 s.0 a.2) s.2 in
     let st : r.state ≡ state.Start = ap (λ (x : Running). x.state) (sym m.1) ∙ newline_state a.0 s.0 a.2 m.0 in
     let l = link (text ++ 10 ∷ []) start s.0 s.1 in
-    with_scan (scan mode.Between [] 0 1 (text ++ 10 ∷ [])) refl (l.ending ∙ ap Goes m.0) (l.words ∙ (ap (λ (x : Running). Ok (x.scope, x.state)) m.1 ∙ ap (λ (x : State). Ok (r.scope, x)) st))
+    with_scan (scan mode.Between [] 0 1 (text ++ 10 ∷ [])) refl (l.ending ∙ ap Goes m.0) (l.words ∙ (ap (λ (x : Running). Ok (x.scope, x.state)) m.1 ∙ ap (λ (x : StatementState). Ok (r.scope, x)) st))
   where
     with_scan : (s : Scan) → scan mode.Between [] 0 1 (text ++ 10 ∷ []) ≡ s → s.ending ≡ Goes mode.Between → read_words fresh state.Start s.words ≡ Ok (r.scope, state.Start) → Says text r.scope.items
     with_scan s e ends words =
@@ -49,7 +49,7 @@ unfolding read
 is_read text items (ws, sc, lexed, statements, is) =
     let whole = again lexed [] refl in
     let u = unlink (text ++ 10 ∷ []) start mode.Between (sc, state.Start) (ap (λ (x : Scan). x.ending) whole) (ap (λ (x : Scan). read_words fresh state.Start x.words) whole ∙ statements_run statements) in
-    (u.last, rw u.runs (closed_ok u.last u.last.mode u.same_mode), ap (λ (x : ScopeView × State). x.0.items) u.same ∙ is)
+    (u.last, rw u.runs (closed_ok u.last u.last.mode u.same_mode), ap (λ (x : ScopeView × StatementState). x.0.items) u.same ∙ is)
 
 pub parsed_is : (text : List ℕ) (x : Result (List SourceItem) SourceFault) → length text ≤ LIMIT → Parses x (read text) → IfOk x (λ s. SourceAs text s)
 parsed_is text (Ok x) small (r, e, is) = (small, subst (Says text) is (read_is text r e))

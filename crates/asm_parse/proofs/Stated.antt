@@ -7,8 +7,8 @@ use Rattle.std.specs.List.{list_all}
 use Rattle.asm_lex.specs.declared.fault.SourceCause.{SourceCause}
 use Rattle.asm_lex.specs.declared.fault.SourceCause.TheVariants as cause
 use Rattle.asm_lex.specs.Words.{Word}
-use Rattle.asm_argument.specs.declared.symbol.Symbol.{Symbol}
-use Rattle.asm_argument.specs.declared.symbol.Symbol.TheVariants as symbol
+use Rattle.asm_argument.specs.declared.symbol.Terminal.{Terminal}
+use Rattle.asm_argument.specs.declared.symbol.Terminal.TheVariants as symbol
 use Rattle.asm_argument.specs.declared.operand.Shape.{Shape}
 use Rattle.asm_argument.specs.declared.operand.Shape.TheVariants as shape
 use Rattle.asm_argument.specs.declared.operand.Partial.{Partial}
@@ -21,8 +21,8 @@ use Rattle.asm_parse.specs.declared.directive.Directive.TheVariants as kind
 use Rattle.asm_parse.specs.declared.directive.Head.{Head}
 use Rattle.asm_parse.specs.declared.directive.Head.TheVariants as head
 use Rattle.asm_parse.specs.declared.state.Open.{Open}
-use Rattle.asm_parse.specs.declared.state.State.{State}
-use Rattle.asm_parse.specs.declared.state.State.TheVariants as state
+use Rattle.asm_parse.specs.declared.state.StatementState.{StatementState}
+use Rattle.asm_parse.specs.declared.state.StatementState.TheVariants as state
 use Rattle.asm_parse.specs.ScopeView.{ScopeView}
 use Rattle.asm_parse.specs.Scope.{pushed}
 use Rattle.asm_argument.specs.Operand.{is_operand, begun, next_symbol, operand_step, finished, is_nothing, name_in}
@@ -40,11 +40,11 @@ use Rattle.asm_argument.proofs.Operands.{ok, operand_run, form_reads}
 use Rattle.asm_parse.proofs.Names.{seen_noting, named_in, name_step, name_stays, finished_named, finished_is, no_star, no_end_symbol, no_big, no_comma}
 
 abbrev pub Answer : Type 0
-Answer = Result (ScopeView × State) SourceCause
+Answer = Result (ScopeView × StatementState) SourceCause
 
 -- ---- within a statement
 
-abbrev pub inner : ScopeView → State → Symbol → Answer
+abbrev pub inner : ScopeView → StatementState → Terminal → Answer
 inner sc state.Start s = Err cause.BadOperand
 inner sc (state.Named b n) s = named_step sc b n s
 inner sc state.Skip s = Ok (sc, skip s)
@@ -53,7 +53,7 @@ inner sc (state.Flags b n m) s = flags_step sc b n m s
 inner sc (state.Arguments o) s = argument_step sc o s
 inner sc (state.Stray l c) s = Err cause.BadOperand
 
-pub inner_step : (sc : ScopeView) (st : State) (line : ℕ) (s : Symbol) (y : ScopeView × State) → inner sc st s ≡ Ok y → step sc st line s ≡ Ok y
+pub inner_step : (sc : ScopeView) (st : StatementState) (line : ℕ) (s : Terminal) (y : ScopeView × StatementState) → inner sc st s ≡ Ok y → step sc st line s ≡ Ok y
 inner_step sc state.Start line s y h = absurd cc
 inner_step sc (state.Named b n) line s y h = h
 inner_step sc state.Skip line s y h = h
@@ -63,89 +63,89 @@ inner_step sc (state.Arguments o) line s y h = h
 inner_step sc (state.Stray l c) line s y h = absurd cc
 
 -- what goes on goes on behind a `%` too
-pub step_next : (sc : ScopeView) (st : State) (line : ℕ) (s : Symbol) (y : ScopeView × State) → step sc st line s ≡ Ok y → next_step sc st line s ≡ Ok y
+pub step_next : (sc : ScopeView) (st : StatementState) (line : ℕ) (s : Terminal) (y : ScopeView × StatementState) → step sc st line s ≡ Ok y → next_step sc st line s ≡ Ok y
 step_next sc st line symbol.Percent y h = ap (strayed (fault_line sc st line)) h
 step_next sc st line _ y h = h
 
-abbrev pub inners : ScopeView → State → List Symbol → Answer
+abbrev pub inners : ScopeView → StatementState → List Terminal → Answer
 inners sc st [] = Ok (sc, st)
 inners sc st (s ∷ ss) = elim (inner sc st s) [ Ok y ↦ inners y.0 y.1 ss | Err c ↦ Err c ]
 
-pub inners_append : (ss ts : List Symbol) (sc : ScopeView) (st : State) (y : ScopeView × State) → inners sc st ss ≡ Ok y → inners sc st (ss ++ ts) ≡ inners y.0 y.1 ts
-inners_append [] ts sc st y h = let e : (sc, st) ≡ y = cc in ap (λ (x : ScopeView × State). inners x.0 x.1 ts) e
+pub inners_append : (ss ts : List Terminal) (sc : ScopeView) (st : StatementState) (y : ScopeView × StatementState) → inners sc st ss ≡ Ok y → inners sc st (ss ++ ts) ≡ inners y.0 y.1 ts
+inners_append [] ts sc st y h = let e : (sc, st) ≡ y = cc in ap (λ (x : ScopeView × StatementState). inners x.0 x.1 ts) e
 inners_append (s ∷ ss) ts sc st y h = by_step (inner sc st s) h (λ z e. inners_append ss ts z.0 z.1 y e)
   where
-    by_step : (r : Answer) → ◌≡◌ {A = Answer} (elim r [ Ok z ↦ inners z.0 z.1 ss | Err c ↦ Err c ]) (Ok y) → ((z : ScopeView × State) → inners z.0 z.1 ss ≡ Ok y → inners z.0 z.1 (ss ++ ts) ≡ inners y.0 y.1 ts)
+    by_step : (r : Answer) → ◌≡◌ {A = Answer} (elim r [ Ok z ↦ inners z.0 z.1 ss | Err c ↦ Err c ]) (Ok y) → ((z : ScopeView × StatementState) → inners z.0 z.1 ss ≡ Ok y → inners z.0 z.1 (ss ++ ts) ≡ inners y.0 y.1 ts)
         → ◌≡◌ {A = Answer} (elim r [ Ok z ↦ inners z.0 z.1 (ss ++ ts) | Err c ↦ Err c ]) (inners y.0 y.1 ts)
     by_step (Ok z) h ih = ih z h
     by_step (Err c) h ih = absurd cc
 
 -- whether a section's name has been read so far
-abbrev pub is_naming : State → Bool
+abbrev pub is_naming : StatementState → Bool
 is_naming (state.Sectioned b n m e) = true
 is_naming _ = false
 
-pub not_longer : (st : State) (at : ℕ) (k : TokenKind) (bytes : List ℕ) → is_naming st ≡ false → is_longer st at k bytes ≡ false
+pub not_longer : (st : StatementState) (at : ℕ) (k : TokenKind) (bytes : List ℕ) → is_naming st ≡ false → is_longer st at k bytes ≡ false
 not_longer (state.Sectioned b n m e) at k bytes h = absurd cc
 not_longer _ at k bytes h = refl
 
-pub same_ending : (st : State) (e : ℕ) → is_naming st ≡ false → ending_at e st ≡ st
+pub same_ending : (st : StatementState) (e : ℕ) → is_naming st ≡ false → ending_at e st ≡ st
 same_ending (state.Sectioned b n m a) e h = absurd cc
 same_ending _ e h = refl
 
 -- a word that is a symbol
-pub word_is : (sc : ScopeView) (st : State) (w : Word) (x : ScopeView × State) → is_longer st w.at w.kind w.bytes ≡ false → step sc st w.line (symbol_of w.kind w.bytes) ≡ Ok x
+pub word_is : (sc : ScopeView) (st : StatementState) (w : Word) (x : ScopeView × StatementState) → is_longer st w.at w.kind w.bytes ≡ false → step sc st w.line (symbol_of w.kind w.bytes) ≡ Ok x
     → next_word sc st w ≡ Ok (x.0, ending_at (w.at + length w.bytes) x.1)
 word_is sc st w x none h = rw (none, step_next sc st w.line (symbol_of w.kind w.bytes) x h) refl
 
 -- the state in which a name's reading goes on isn't that of a section's
-inside_naming : (sc : ScopeView) (st : State) (s : Symbol) (z : ScopeView × State) → inner sc st s ≡ Ok z → is_naming st ≡ false
+inside_naming : (sc : ScopeView) (st : StatementState) (s : Terminal) (z : ScopeView × StatementState) → inner sc st s ≡ Ok z → is_naming st ≡ false
 inside_naming sc (state.Sectioned b n m e) s z h = absurd cc
 inside_naming sc _ s z h = refl
 
-start_naming : (ws : List Word) (sc : ScopeView) (st : State) (y : ScopeView × State) → y.1 ≡ state.Start → inners sc st (symbols ws) ≡ Ok y → is_naming st ≡ false
-start_naming [] sc st y start h = let e : (sc, st) ≡ y = cc in ap is_naming (ap (λ (x : ScopeView × State). x.1) e ∙ start)
+start_naming : (ws : List Word) (sc : ScopeView) (st : StatementState) (y : ScopeView × StatementState) → y.1 ≡ state.Start → inners sc st (symbols ws) ≡ Ok y → is_naming st ≡ false
+start_naming [] sc st y start h = let e : (sc, st) ≡ y = cc in ap is_naming (ap (λ (x : ScopeView × StatementState). x.1) e ∙ start)
 start_naming (w ∷ ws) sc st y start h = by_step (inner sc st (symbol_of w.kind w.bytes)) refl h
   where
     by_step : (r : Answer) → inner sc st (symbol_of w.kind w.bytes) ≡ r → ◌≡◌ {A = Answer} (elim r [ Ok z ↦ inners z.0 z.1 (symbols ws) | Err c ↦ Err c ]) (Ok y) → is_naming st ≡ false
     by_step (Ok z) e h = inside_naming sc st (symbol_of w.kind w.bytes) z e
     by_step (Err c) e h = absurd cc
 
-pub inners_words : (ws : List Word) (sc : ScopeView) (st : State) (y : ScopeView × State) → y.1 ≡ state.Start → inners sc st (symbols ws) ≡ Ok y → read_words sc st ws ≡ Ok y
-inners_words [] sc st y start h = let e : (sc, st) ≡ y = cc in ap (λ (x : ScopeView × State). Ok x) e
+pub inners_words : (ws : List Word) (sc : ScopeView) (st : StatementState) (y : ScopeView × StatementState) → y.1 ≡ state.Start → inners sc st (symbols ws) ≡ Ok y → read_words sc st ws ≡ Ok y
+inners_words [] sc st y start h = let e : (sc, st) ≡ y = cc in ap (λ (x : ScopeView × StatementState). Ok x) e
 inners_words (w ∷ ws) sc st y start h = by_step (inner sc st (symbol_of w.kind w.bytes)) refl h (λ z e. inners_words ws z.0 z.1 y start e)
   where
     by_step : (r : Answer) → inner sc st (symbol_of w.kind w.bytes) ≡ r → ◌≡◌ {A = Answer} (elim r [ Ok z ↦ inners z.0 z.1 (symbols ws) | Err c ↦ Err c ]) (Ok y)
-        → ((z : ScopeView × State) → inners z.0 z.1 (symbols ws) ≡ Ok y → read_words z.0 z.1 ws ≡ Ok y) → read_words sc st (w ∷ ws) ≡ Ok y
+        → ((z : ScopeView × StatementState) → inners z.0 z.1 (symbols ws) ≡ Ok y → read_words z.0 z.1 ws ≡ Ok y) → read_words sc st (w ∷ ws) ≡ Ok y
     by_step (Ok z) e h ih =
         let none = not_longer st w.at w.kind w.bytes (inside_naming sc st (symbol_of w.kind w.bytes) z e) in
         let same = same_ending z.1 (w.at + length w.bytes) (start_naming ws z.0 z.1 y start h) in
         rw (word_is sc st w z none (inner_step sc st w.line (symbol_of w.kind w.bytes) z e), same) (ih z h)
     by_step (Err c) e h ih = absurd cc
 
-pub words_append : (ws vs : List Word) (sc : ScopeView) (st : State) (y : ScopeView × State) → read_words sc st ws ≡ Ok y → read_words sc st (ws ++ vs) ≡ read_words y.0 y.1 vs
-words_append [] vs sc st y h = let e : (sc, st) ≡ y = cc in ap (λ (x : ScopeView × State). read_words x.0 x.1 vs) e
+pub words_append : (ws vs : List Word) (sc : ScopeView) (st : StatementState) (y : ScopeView × StatementState) → read_words sc st ws ≡ Ok y → read_words sc st (ws ++ vs) ≡ read_words y.0 y.1 vs
+words_append [] vs sc st y h = let e : (sc, st) ≡ y = cc in ap (λ (x : ScopeView × StatementState). read_words x.0 x.1 vs) e
 words_append (w ∷ ws) vs sc st y h = by_step (placed (fault_line sc st w.line) (next_word sc st w)) h (λ z e. words_append ws vs z.0 z.1 y e)
   where
-    by_step : (r : Result (ScopeView × State) Fault) → ◌≡◌ {A = Result (ScopeView × State) Fault} (r >>= λ z. read_words z.0 z.1 ws) (Ok y) → ((z : ScopeView × State) → read_words z.0 z.1 ws ≡ Ok y → read_words z.0 z.1 (ws ++ vs) ≡ read_words y.0 y.1 vs)
-        → ◌≡◌ {A = Result (ScopeView × State) Fault} (r >>= λ z. read_words z.0 z.1 (ws ++ vs)) (read_words y.0 y.1 vs)
+    by_step : (r : Result (ScopeView × StatementState) Fault) → ◌≡◌ {A = Result (ScopeView × StatementState) Fault} (r >>= λ z. read_words z.0 z.1 ws) (Ok y) → ((z : ScopeView × StatementState) → read_words z.0 z.1 ws ≡ Ok y → read_words z.0 z.1 (ws ++ vs) ≡ read_words y.0 y.1 vs)
+        → ◌≡◌ {A = Result (ScopeView × StatementState) Fault} (r >>= λ z. read_words z.0 z.1 (ws ++ vs)) (read_words y.0 y.1 vs)
     by_step (Ok z) h ih = ih z h
     by_step (Err c) h ih = absurd cc
 
 -- ---- one argument
 
 -- a symbol with which an argument goes on
-pub goes_within : (sc : ScopeView) (o : Open) (sh : Shape) (s : Symbol) (q : Partial) → next_symbol sh o.so_far s ≡ ok q → argument_step sc o s ≡ within sc o s
+pub goes_within : (sc : ScopeView) (o : Open) (sh : Shape) (s : Terminal) (q : Partial) → next_symbol sh o.so_far s ≡ ok q → argument_step sc o s ≡ within sc o s
 goes_within sc o sh symbol.Comma q h = rw (no_comma sh o.so_far q h) refl
 goes_within sc o sh symbol.End q h = absurd (no_end_symbol sh o.so_far q h)
 goes_within sc o sh symbol.Star q h = absurd (no_star sh o.so_far q h)
 goes_within sc o sh _ q h = refl
 
-next_operand : (sh : Shape) (p : Partial) (s : Symbol) (q : Partial) → next_symbol sh p s ≡ ok q → operand_step sh p s ≡ ok q
+next_operand : (sh : Shape) (p : Partial) (s : Terminal) (q : Partial) → next_symbol sh p s ≡ ok q → operand_step sh p s ≡ ok q
 next_operand sh p symbol.Big q h = absurd (no_big sh p q h)
 next_operand sh p _ q h = h
 
-pub within_next : (sc : ScopeView) (o : Open) (sh : Shape) (s : Symbol) (q : Partial) → shape_at o.head (length o.done) ≡ Some sh → next_symbol sh o.so_far s ≡ ok q → argument_step sc o s ≡ with_name sc (record o { so_far = q }) (name_in q)
+pub within_next : (sc : ScopeView) (o : Open) (sh : Shape) (s : Terminal) (q : Partial) → shape_at o.head (length o.done) ≡ Some sh → next_symbol sh o.so_far s ≡ ok q → argument_step sc o s ≡ with_name sc (record o { so_far = q }) (name_in q)
 within_next sc o sh s q may h =
     let a : at_shape sc o s (shape_at o.head (length o.done)) ≡ at_shape sc o s (Some sh) = ap (at_shape sc o s) may in
     let b : after_step sc o s (operand_step sh o.so_far s) ≡ after_step sc o s (Ok q) = ap (after_step sc o s) (next_operand sh o.so_far s q h) in
@@ -163,7 +163,7 @@ gains_same d sc sc2 (Some n) h = h
 abbrev pub open_at : ℕ → Head → List Argument → Bool → Partial → Open
 open_at line h done star p = record { line = line; head = h; done = done; star = star; so_far = p }
 
-pub form_runs : (line : ℕ) (h : Head) (done : List Argument) (star : Bool) (sh : Shape) → shape_at h (length done) ≡ Some sh → (ss : List Symbol) (p q : Partial) (sc sc2 : ScopeView)
+pub form_runs : (line : ℕ) (h : Head) (done : List Argument) (star : Bool) (sh : Shape) → shape_at h (length done) ≡ Some sh → (ss : List Terminal) (p q : Partial) (sc sc2 : ScopeView)
     → operand_run sh p ss ≡ ok q → Gains (defines h (length done)) sc (named_in p) (named_in q) sc2
     → inners sc (state.Arguments (open_at line h done star p)) ss ≡ Ok (sc2, state.Arguments (open_at line h done star q))
 form_runs line h done star sh may [] p q sc sc2 e g =
@@ -247,7 +247,7 @@ first_shape (head.Directive _ n) sh e = absurd cc
 begun_gains : (d : Bool) (sh : Shape) (sc sc2 : ScopeView) (b : Option (List ℕ)) → Sees sc d b sc2 → Gains d sc (named_in (begun sh)) b sc2
 begun_gains d sh sc sc2 b h = subst (λ (z : Option (List ℕ)). Gains d sc z b sc2) (sym (begun_unnamed sh)) h
 
-pub argument_runs : (line : ℕ) (h : Head) (done : List Argument) (sh : Shape) → shape_at h (length done) ≡ Some sh → (ss : List Symbol) (a : Argument) (sc sc2 : ScopeView) → IsArgument sh ss a
+pub argument_runs : (line : ℕ) (h : Head) (done : List Argument) (sh : Shape) → shape_at h (length done) ≡ Some sh → (ss : List Terminal) (a : Argument) (sc sc2 : ScopeView) → IsArgument sh ss a
     → Sees sc (defines h (length done)) (symbol_in a.form) sc2
     → (q : Partial) × (inners sc (state.Arguments (open_at line h done false (begun sh))) ss ≡ Ok (sc2, state.Arguments (open_at line h done a.star q))) × (finished q ≡ Some a.form)
 argument_runs line h done sh may ss a sc sc2 (IsArgument.plain {f} form) sees =
@@ -265,7 +265,7 @@ pub comma_runs : (sc : ScopeView) (line : ℕ) (h : Head) (done : List Argument)
     → argument_step sc (open_at line h done a.star q) symbol.Comma ≡ Ok (sc, state.Arguments (open_at line h (done ++ a ∷ []) false (begun sh)))
 comma_runs sc line h done a q sh fin may = rw (finished_is q a.form fin, fin, may) refl
 
-pub separated_runs : (line : ℕ) {h : Head} {sc sc2 : ScopeView} {ss : List Symbol} {args : List Argument} → Separated h sc ss args sc2 → (sh : Shape) → shape_at h (length args) ≡ Some sh
+pub separated_runs : (line : ℕ) {h : Head} {sc sc2 : ScopeView} {ss : List Terminal} {args : List Argument} → Separated h sc ss args sc2 → (sh : Shape) → shape_at h (length args) ≡ Some sh
     → inners sc (state.Arguments (nothing_yet line h)) ss ≡ Ok (sc2, state.Arguments (open_at line h args false (begun sh)))
 separated_runs line {h} Separated.none sh may = rw (first_shape h sh may) refl
 separated_runs line {h} {sc} {sc2} (Separated.more {ss} {ts} {before} {a} {sc1} sep next) sh may =
@@ -282,7 +282,7 @@ pub end_runs : (sc : ScopeView) (line : ℕ) (h : Head) (done : List Argument) (
     → argument_step sc (open_at line h done a.star q) symbol.End ≡ Ok (resumed (pushed sc (item_of line h (done ++ a ∷ []))) h, state.Start)
 end_runs sc line h done a q fin count = rw (finished_something q a.form fin, finished_is q a.form fin, fin, count) refl
 
-pub arguments_run : (line : ℕ) {h : Head} {sc sc2 : ScopeView} {ss : List Symbol} {args : List Argument} → HasArguments h sc ss args sc2 → nat_lt (length args) (least h) ≡ false
+pub arguments_run : (line : ℕ) {h : Head} {sc sc2 : ScopeView} {ss : List Terminal} {args : List Argument} → HasArguments h sc ss args sc2 → nat_lt (length args) (least h) ≡ false
     → inners sc (state.Arguments (nothing_yet line h)) (ss ++ symbol.End ∷ []) ≡ Ok (resumed (pushed sc2 (item_of line h args)) h, state.Start)
 arguments_run line HasArguments.none count = rw (count, inners) refl
 arguments_run line {h} {sc} {sc2} (HasArguments.some {ss} {ts} {before} {a} {sc1} sep next) count =
@@ -300,42 +300,42 @@ no_colon_shape sc o (Some sh) e =
     let g : operand_step sh o.so_far symbol.Colon ≡ Err cause.BadOperand = ap (λ (p : Partial). operand_step sh p symbol.Colon) e in
     (_, ap (after_step sc o symbol.Colon) g)
 
-named_goes : (sc : ScopeView) (line : ℕ) (n : List ℕ) (o : Open) (ss : List Symbol) (y : ScopeView × State) → ((s : Symbol) → other_behind sc line n s ≡ argument_step sc o s) → o.so_far ≡ partial.Nothing → y.1 ≡ state.Start
+named_goes : (sc : ScopeView) (line : ℕ) (n : List ℕ) (o : Open) (ss : List Terminal) (y : ScopeView × StatementState) → ((s : Terminal) → other_behind sc line n s ≡ argument_step sc o s) → o.so_far ≡ partial.Nothing → y.1 ≡ state.Start
     → inners sc (state.Arguments o) ss ≡ Ok y → inners sc (state.Named line n) ss ≡ Ok y
-named_goes sc line n o [] y eq e start h = let g : (sc, state.Arguments o) ≡ y = cc in let f : state.Arguments o ≡ state.Start = ap (λ (x : ScopeView × State). x.1) g ∙ start in absurd cc
+named_goes sc line n o [] y eq e start h = let g : (sc, state.Arguments o) ≡ y = cc in let f : state.Arguments o ≡ state.Start = ap (λ (x : ScopeView × StatementState). x.1) g ∙ start in absurd cc
 named_goes sc line n o (symbol.Colon ∷ ss) y eq e start h =
     let c = no_colon_shape sc o (shape_at o.head (length o.done)) e in
     let g : inners sc (state.Arguments o) (symbol.Colon ∷ ss) ≡ Err c.0 = rw (c.1, inners) refl in
     let f : ◌≡◌ {A = Answer} (Err c.0) (Ok y) = sym g ∙ h in absurd cc
 named_goes sc line n o (s ∷ ss) y eq e start h = rw (eq s, inners) h
 
-skip_runs : (sc : ScopeView) (ss : List Symbol) → list_all is_inner ss ≡ true → inners sc state.Skip (ss ++ symbol.End ∷ []) ≡ Ok (sc, state.Start)
+skip_runs : (sc : ScopeView) (ss : List Terminal) → list_all is_inner ss ≡ true → inners sc state.Skip (ss ++ symbol.End ∷ []) ≡ Ok (sc, state.Start)
 skip_runs sc [] h = refl
 skip_runs sc (symbol.End ∷ ss) h = absurd cc
 skip_runs sc (s ∷ ss) h = skip_runs sc ss h
 
-flags_run : (sc : ScopeView) (line : ℕ) (n m : List ℕ) (ss : List Symbol) → list_all is_inner ss ≡ true → inners sc (state.Flags line n m) (ss ++ symbol.End ∷ []) ≡ Ok (sectioned sc line n m, state.Start)
+flags_run : (sc : ScopeView) (line : ℕ) (n m : List ℕ) (ss : List Terminal) → list_all is_inner ss ≡ true → inners sc (state.Flags line n m) (ss ++ symbol.End ∷ []) ≡ Ok (sectioned sc line n m, state.Start)
 flags_run sc line n m [] h = refl
 flags_run sc line n m (symbol.End ∷ ss) h = absurd cc
 flags_run sc line n m (s ∷ ss) h = flags_run sc line n m ss h
 
-passes : (sc : ScopeView) (line : ℕ) (n : List ℕ) (ss : List Symbol) → ((s : Symbol) → other_behind sc line n s ≡ Ok (sc, skip s)) → is_unlabelled ss ≡ true → list_all is_inner ss ≡ true
+passes : (sc : ScopeView) (line : ℕ) (n : List ℕ) (ss : List Terminal) → ((s : Terminal) → other_behind sc line n s ≡ Ok (sc, skip s)) → is_unlabelled ss ≡ true → list_all is_inner ss ≡ true
     → inners sc (state.Named line n) (ss ++ symbol.End ∷ []) ≡ Ok (sc, state.Start)
 passes sc line n [] eq u h = rw (eq symbol.End, inners) refl
 passes sc line n (symbol.Colon ∷ ss) eq u h = absurd cc
 passes sc line n (symbol.End ∷ ss) eq u h = absurd cc
 passes sc line n (s ∷ ss) eq u h = rw (eq s, inners) (skip_runs sc ss h)
 
-of_list : (k : Directive) (sc : ScopeView) (line : ℕ) (n : List ℕ) (s : Symbol) → has_list k ≡ true → of_directive (Some k) sc line n s ≡ argument_step sc (nothing_yet line (head.Directive k n)) s
+of_list : (k : Directive) (sc : ScopeView) (line : ℕ) (n : List ℕ) (s : Terminal) → has_list k ≡ true → of_directive (Some k) sc line n s ≡ argument_step sc (nothing_yet line (head.Directive k n)) s
 of_list kind.Section sc line n s h = absurd cc
 of_list kind.Skipped sc line n s h = absurd cc
 of_list k sc line n s h = refl
 
-abbrev pub opening : ScopeView → ℕ → List Symbol → Answer
+abbrev pub opening : ScopeView → ℕ → List Terminal → Answer
 opening sc line [] = Ok (sc, state.Start)
 opening sc line (s ∷ ss) = elim (with_scope sc (start_step sc line s)) [ Ok y ↦ inners y.0 y.1 ss | Err c ↦ Err c ]
 
-nameless_runs : (sc : ScopeView) (line : ℕ) (s : Symbol) (ss : List Symbol) → sc.skipping ≡ true → is_nameless s ≡ true → list_all is_inner ss ≡ true → opening sc line (s ∷ (ss ++ symbol.End ∷ [])) ≡ Ok (sc, state.Start)
+nameless_runs : (sc : ScopeView) (line : ℕ) (s : Terminal) (ss : List Terminal) → sc.skipping ≡ true → is_nameless s ≡ true → list_all is_inner ss ≡ true → opening sc line (s ∷ (ss ++ symbol.End ∷ [])) ≡ Ok (sc, state.Start)
 nameless_runs sc line (symbol.Name n) ss sk k h = absurd cc
 nameless_runs sc line symbol.End ss sk k h = absurd cc
 nameless_runs sc line symbol.Big ss sk k h = rw (ap (λ (t : Bool). unless_skipping t cause.BadNumber) sk, opening, inners) (skip_runs sc ss h)
@@ -350,7 +350,7 @@ passed_label sc line n sk = ap (λ (t : Bool). cond {A = Answer} t (Ok (sc, stat
 never_below : (args : List Argument) → nat_lt (length args) 0 ≡ false
 never_below args = le-ltb (length args) 0 (omega arith)
 
-pub statement_runs : {sc sc2 : ScopeView} {line : ℕ} {ss : List Symbol} → Statement sc line ss sc2 → opening sc line ss ≡ Ok (sc2, state.Start)
+pub statement_runs : {sc sc2 : ScopeView} {line : ℕ} {ss : List Terminal} → Statement sc line ss sc2 → opening sc line ss ≡ Ok (sc2, state.Start)
 statement_runs Statement.empty = refl
 statement_runs {sc} {line} (Statement.label {sc2} {n} sk seen) = rw (label_runs sc sc2 line n sk seen, inners) refl
 statement_runs {sc} {line} (Statement.instruction {n} {ss} passed dotted rep args) =
@@ -363,7 +363,7 @@ statement_runs {sc} {line} (Statement.skipped_label {n} sk) = rw (passed_label s
 statement_runs {sc} {line} (Statement.skipped {n} ss passed u h) = passes sc line n ss (λ s. rw passed refl) u h
 statement_runs {sc} {line} (Statement.nameless {s} ss sk k h) = nameless_runs sc line s ss sk k h
 
-opening_words : (w : Word) (ws : List Word) (sc : ScopeView) (y : ScopeView × State) → y.1 ≡ state.Start → opening sc w.line (symbols (w ∷ ws)) ≡ Ok y → read_words sc state.Start (w ∷ ws) ≡ Ok y
+opening_words : (w : Word) (ws : List Word) (sc : ScopeView) (y : ScopeView × StatementState) → y.1 ≡ state.Start → opening sc w.line (symbols (w ∷ ws)) ≡ Ok y → read_words sc state.Start (w ∷ ws) ≡ Ok y
 opening_words w ws sc y start h = by_step (with_scope sc (start_step sc w.line (symbol_of w.kind w.bytes))) refl h
   where
     by_step : (r : Answer) → with_scope sc (start_step sc w.line (symbol_of w.kind w.bytes)) ≡ r → ◌≡◌ {A = Answer} (elim r [ Ok z ↦ inners z.0 z.1 (symbols ws) | Err c ↦ Err c ]) (Ok y) → read_words sc state.Start (w ∷ ws) ≡ Ok y
@@ -380,7 +380,7 @@ parts_run (w ∷ ws) sc line n m e (at, part, touch) =
     (g.0, rw on (g.1 ∙ ap (λ (x : List ℕ). Ok (sc, state.Sectioned line n x g.0)) (append_assoc m w.bytes (text_of ws))))
 
 -- a comma and an end don't go on with a name
-cond_not : (t : Bool) (a b c : Symbol) → (a ≡ c → ⊥) → (b ≡ c → ⊥) → cond t a b ≡ c → ⊥
+cond_not : (t : Bool) (a b c : Terminal) → (a ≡ c → ⊥) → (b ≡ c → ⊥) → cond t a b ≡ c → ⊥
 cond_not true a b c p q = p
 cond_not false a b c p q = q
 
@@ -399,7 +399,7 @@ no_end_mark m =
     (cond_not (m == 42) _ _ symbol.End (λ f. absurd cc) (cond_not (m == 43) _ _ symbol.End (λ f. absurd cc) (cond_not (m == 44) _ _ symbol.End (λ f. absurd cc) (cond_not (m == 45) _ _ symbol.End (λ f. absurd cc)
     (cond_not (m == 58) symbol.Colon symbol.At symbol.End (λ f. absurd cc) (λ f. absurd cc)))))))))
 
-not_number : (n : ℕ) (s : Symbol) → (s ≡ symbol.Comma) ⊎ (s ≡ symbol.End) → number_symbol n ≡ s → ⊥
+not_number : (n : ℕ) (s : Terminal) → (s ≡ symbol.Comma) ⊎ (s ≡ symbol.End) → number_symbol n ≡ s → ⊥
 not_number n s (inl g) e = cond_not (nat_lt n (2 ^ 32)) (symbol.Number n) symbol.Big symbol.Comma (λ f. absurd cc) (λ f. absurd cc) (e ∙ g)
 not_number n s (inr g) e = cond_not (nat_lt n (2 ^ 32)) (symbol.Number n) symbol.Big symbol.End (λ f. absurd cc) (λ f. absurd cc) (e ∙ g)
 
@@ -407,7 +407,7 @@ comma_part : (m : ℕ) (t : Bool) → (m == 44) ≡ t → mark_symbol m ≡ symb
 comma_part m true f e = rw f refl
 comma_part m false f e = absurd (no_comma_mark m f e)
 
-ends_part : (k : TokenKind) (bytes : List ℕ) (s : Symbol) → (s ≡ symbol.Comma) ⊎ (s ≡ symbol.End) → symbol_of k bytes ≡ s → is_part k bytes ≡ false
+ends_part : (k : TokenKind) (bytes : List ℕ) (s : Terminal) → (s ≡ symbol.Comma) ⊎ (s ≡ symbol.End) → symbol_of k bytes ≡ s → is_part k bytes ≡ false
 ends_part token.End bytes s c e = refl
 ends_part token.Name bytes s (inl g) e = let f : symbol.Name bytes ≡ symbol.Comma = e ∙ g in absurd cc
 ends_part token.Name bytes s (inr g) e = let f : symbol.Name bytes ≡ symbol.End = e ∙ g in absurd cc
@@ -417,7 +417,7 @@ ends_part token.Text bytes s (inr g) e = let f : symbol_of token.Text bytes ≡ 
 ends_part (token.Mark m) bytes s (inr g) e = absurd (no_end_mark m (e ∙ g))
 ends_part (token.Mark m) bytes s (inl g) e = comma_part m (m == 44) refl (e ∙ g)
 
-not_part : (st : State) (w : Word) → is_part w.kind w.bytes ≡ false → is_longer st w.at w.kind w.bytes ≡ false
+not_part : (st : StatementState) (w : Word) → is_part w.kind w.bytes ≡ false → is_longer st w.at w.kind w.bytes ≡ false
 not_part (state.Sectioned b n m e) w h = rw h (none (e == w.at))
   where
     none : (t : Bool) → (t && false) ≡ false
@@ -425,7 +425,7 @@ not_part (state.Sectioned b n m e) w h = rw h (none (e == w.at))
     none false = refl
 not_part _ w h = refl
 
-pub rest_runs : (rest : List Word) (ss : List Symbol) (sc : ScopeView) (line : ℕ) (n m : List ℕ) (e : ℕ) → symbols rest ≡ ss ++ symbol.End ∷ [] → are_flags ss ≡ true
+pub rest_runs : (rest : List Word) (ss : List Terminal) (sc : ScopeView) (line : ℕ) (n m : List ℕ) (e : ℕ) → symbols rest ≡ ss ++ symbol.End ∷ [] → are_flags ss ≡ true
     → read_words sc (state.Sectioned line n m e) rest ≡ Ok (sectioned sc line n m, state.Start)
 rest_runs [] [] sc line n m e h flags = absurd cc
 rest_runs [] (s ∷ ss) sc line n m e h flags = absurd cc
@@ -444,11 +444,11 @@ rest_runs (w ∷ ws) (s ∷ ss) sc line n m e h flags = absurd cc
 pub named_section : (sc : ScopeView) (line : ℕ) (n m : List ℕ) → is_passed sc n ≡ false → is_dotted n ≡ true → directive_of n ≡ Some kind.Section → is_section m ≡ true → named_step sc line n (symbol.Name m) ≡ Ok (sc, state.Sectioned line n m 0)
 named_section sc line n m passed dotted dir is = rw (passed, dotted, dir, is) refl
 
-section_runs : (sc : ScopeView) (w v : Word) (parts rest : List Word) (n m : List ℕ) (ss : List Symbol) → symbol_of w.kind w.bytes ≡ symbol.Name n → is_passed sc n ≡ false → is_dotted n ≡ true → directive_of n ≡ Some kind.Section
+section_runs : (sc : ScopeView) (w v : Word) (parts rest : List Word) (n m : List ℕ) (ss : List Terminal) → symbol_of w.kind w.bytes ≡ symbol.Name n → is_passed sc n ≡ false → is_dotted n ≡ true → directive_of n ≡ Some kind.Section
     → symbol_of v.kind v.bytes ≡ symbol.Name m → is_section m ≡ true → Touch (v.at + length v.bytes) parts → symbols rest ≡ ss ++ symbol.End ∷ [] → are_flags ss ≡ true
     → read_words sc state.Start (w ∷ v ∷ (parts ++ rest)) ≡ Ok (sectioned sc w.line n (m ++ text_of parts), state.Start)
 section_runs sc w v parts rest n m ss wn passed dotted dir vm is touch end flags =
-    let one = word_is sc state.Start w (sc, state.Named w.line n) refl (ap (λ (s : Symbol). with_scope sc (start_step sc w.line s)) wn) in
+    let one = word_is sc state.Start w (sc, state.Named w.line n) refl (ap (λ (s : Terminal). with_scope sc (start_step sc w.line s)) wn) in
     let two = word_is sc (state.Named w.line n) v (sc, state.Sectioned w.line n m 0) refl (ap (named_step sc w.line n) vm ∙ named_section sc w.line n m passed dotted dir is) in
     let p = parts_run parts sc w.line n m (v.at + length v.bytes) touch in
     rw (one, two) (words_append parts rest sc (state.Sectioned w.line n m (v.at + length v.bytes)) _ p.1 ∙ rest_runs rest ss sc w.line n (m ++ text_of parts) p.0 end flags)

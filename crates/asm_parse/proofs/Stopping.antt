@@ -4,11 +4,11 @@ use Rattle.std.proofs.lemmas.Bool.{ltb-true}
 use Rattle.std.specs.Prelude.{◌==◌, ◌&&◌, not, nat_lt}
 use Rattle.asm_lex.specs.declared.fault.SourceCause.{SourceCause}
 use Rattle.asm_lex.specs.declared.fault.SourceCause.TheVariants as cause
-use Rattle.asm_argument.specs.declared.symbol.Symbol.{Symbol}
-use Rattle.asm_argument.specs.declared.symbol.Symbol.TheVariants as symbol
+use Rattle.asm_argument.specs.declared.symbol.Terminal.{Terminal}
+use Rattle.asm_argument.specs.declared.symbol.Terminal.TheVariants as symbol
 use Rattle.asm_argument.specs.declared.operand.Shape.{Shape}
 use Rattle.asm_argument.specs.declared.operand.Shape.TheVariants as shape
-use Rattle.asm_argument.specs.declared.operand.Place.TheVariants as place
+use Rattle.asm_argument.specs.declared.operand.ValuePlace.TheVariants as place
 use Rattle.asm_argument.specs.declared.operand.Partial.{Partial}
 use Rattle.asm_argument.specs.declared.operand.Partial.TheVariants as partial
 use Rattle.asm_source.specs.declared.tree.Argument.{Argument}
@@ -18,8 +18,8 @@ use Rattle.asm_parse.specs.declared.directive.Directive.TheVariants as kind
 use Rattle.asm_parse.specs.declared.directive.Head.{Head}
 use Rattle.asm_parse.specs.declared.directive.Head.TheVariants as head
 use Rattle.asm_parse.specs.declared.state.Open.{Open}
-use Rattle.asm_parse.specs.declared.state.State.{State}
-use Rattle.asm_parse.specs.declared.state.State.TheVariants as state
+use Rattle.asm_parse.specs.declared.state.StatementState.{StatementState}
+use Rattle.asm_parse.specs.declared.state.StatementState.TheVariants as state
 use Rattle.asm_parse.specs.ScopeView.{ScopeView}
 use Rattle.asm_parse.specs.Scope.{pushed}
 use Rattle.asm_argument.specs.Operand.{is_operand, takes_names, takes_absent, first, next_symbol, operand_step, finished, is_finished, is_unbegun, is_nothing, name_in}
@@ -34,7 +34,7 @@ use Rattle.asm_parse.proofs.Tails.{percents, indexed, minuses, signs, frees, Tai
 use Rattle.asm_parse.proofs.Refusing.{operand_at, operand_ends, operand_err, operand_name, value_by, value_at, value_ends, is_cut, value_err, value_first, value_none, unbegun_err, missing_is, noting_cause}
 
 abbrev Answer : Type 0
-Answer = Result (ScopeView × State) SourceCause
+Answer = Result (ScopeView × StatementState) SourceCause
 
 not_both : {t : Bool} → t ≡ true → t ≡ false → ⊥
 not_both e f = absurd cc
@@ -44,7 +44,7 @@ same_fault a c h = cc
 
 -- ---- how a symbol is refused
 
-data Fails (sc : ScopeView) (o : Open) (s : Symbol) (c : SourceCause) : Type 0 where
+data Fails (sc : ScopeView) (o : Open) (s : Terminal) (c : SourceCause) : Type 0 where
   inside : within sc o s ≡ Err c → (is_cut s ≡ true → is_finished o.so_far ≡ false) → Fails sc o s c
   many : (n : ℕ) → s ≡ symbol.Comma → is_finished o.so_far ≡ true → shape_at o.head n ≡ None → cause.BadArgument ≡ c → Fails sc o s c
   few : (n : ℕ) → s ≡ symbol.End → (is_nothing o.so_far ≡ true) ⊎ (is_finished o.so_far ≡ true) → nat_lt n (least o.head) ≡ true → cause.BadArgument ≡ c → Fails sc o s c
@@ -53,7 +53,7 @@ shape_fails : (sc : ScopeView) (line : ℕ) (h : Head) (done : List Argument) (r
 shape_fails sc line h done None c e = (refl, same_fault cause.BadArgument c e)
 shape_fails sc line h done (Some sh) c e = absurd cc
 
-count_fails : (t : Bool) (x : ScopeView × State) (c : SourceCause) → ◌≡◌ {A = Answer} (cond t (Err cause.BadArgument) (Ok x)) (Err c) → (t ≡ true) × (cause.BadArgument ≡ c)
+count_fails : (t : Bool) (x : ScopeView × StatementState) (c : SourceCause) → ◌≡◌ {A = Answer} (cond t (Err cause.BadArgument) (Ok x)) (Err c) → (t ≡ true) × (cause.BadArgument ≡ c)
 count_fails true x c e = (refl, same_fault cause.BadArgument c e)
 count_fails false x c e = absurd cc
 
@@ -83,7 +83,7 @@ star_fails : (sc : ScopeView) (o : Open) (c : SourceCause) (t : Bool) → ◌≡
 star_fails sc o c true h = absurd cc
 star_fails sc o c false h = Fails.inside h (λ k. absurd cc)
 
-fails : (sc : ScopeView) (o : Open) (s : Symbol) (c : SourceCause) → argument_step sc o s ≡ Err c → Fails sc o s c
+fails : (sc : ScopeView) (o : Open) (s : Terminal) (c : SourceCause) → argument_step sc o s ≡ Err c → Fails sc o s c
 fails sc o symbol.Comma c h = comma_fails sc o c (is_finished o.so_far) refl h
 fails sc o symbol.End c h = end_fails sc o c (is_bare o) refl (is_finished o.so_far) refl h
 fails sc o symbol.Star c h = star_fails sc o c (takes_star o) h
@@ -127,15 +127,15 @@ star_tail : (b : Bool) → Tail (stars b ++ []) false false false false true
 star_tail true = record { percent_is = refl; index_is = refl; minus_is = refl; sign_is = refl; free_is = refl }
 star_tail false = record { percent_is = refl; index_is = refl; minus_is = refl; sign_is = refl; free_is = refl }
 
-operand_tail : (p : Partial) (star : Bool) (ss : List Symbol) → Spelled shape.Operand p ss → (is_unbegun p ≡ false → ss ≡ [] → ⊥) → Tail (stars star ++ ss) (percents p) (indexed p) (minuses p) (signs p) (frees p)
+operand_tail : (p : Partial) (star : Bool) (ss : List Terminal) → Spelled shape.Operand p ss → (is_unbegun p ≡ false → ss ≡ [] → ⊥) → Tail (stars star ++ ss) (percents p) (indexed p) (minuses p) (signs p) (frees p)
 operand_tail partial.Nothing star ss sp solid = rw sp (star_tail star)
 operand_tail partial.Absent star ss sp solid = absurd (not_both sp.1 refl)
 operand_tail p star ss sp solid = spelled_tail shape.Operand p star ss (solid refl) sp
 
-no_absent : (p : Partial) (ss : List Symbol) → Spelled shape.Operand p ss → p ≡ partial.Absent → ⊥
+no_absent : (p : Partial) (ss : List Terminal) → Spelled shape.Operand p ss → p ≡ partial.Absent → ⊥
 no_absent p ss sp e = let g : Spelled shape.Operand partial.Absent ss = subst (λ (x : Partial). Spelled shape.Operand x ss) e sp in not_both g.1 refl
 
-unbegun_nil : (sh : Shape) (p : Partial) (ss : List Symbol) → Spelled sh p ss → is_unbegun p ≡ true → ss ≡ []
+unbegun_nil : (sh : Shape) (p : Partial) (ss : List Terminal) → Spelled sh p ss → is_unbegun p ≡ true → ss ≡ []
 unbegun_nil sh partial.Nothing ss sp u = sp
 unbegun_nil sh partial.Absent ss sp u = sp.0
 unbegun_nil sh _ ss sp u = absurd cc
@@ -148,7 +148,7 @@ finished_unsigned partial.Absent h = refl
 finished_unsigned _ h = absurd cc
 
 -- only the first symbol of a directive's argument is a name
-value_name : (sh : Shape) (p : Partial) (ss m n : List ℕ) (q : Partial) (ts : List Symbol) → is_operand sh ≡ false → is_unbegun p ≡ false → Spelled sh p ts → next_symbol sh p (symbol.Name m) ≡ ok q → name_in q ≡ Some n → ⊥
+value_name : (sh : Shape) (p : Partial) (ss m n : List ℕ) (q : Partial) (ts : List Terminal) → is_operand sh ≡ false → is_unbegun p ≡ false → Spelled sh p ts → next_symbol sh p (symbol.Name m) ≡ ok q → name_in q ≡ Some n → ⊥
 value_name sh partial.Dollar ss m n q ts other u sp h e = not_both sp.0 other
 value_name sh partial.Percent ss m n q ts other u sp h e = not_both sp.0 other
 value_name sh (partial.BasePercent v) ss m n q ts other u sp h e = not_both sp.operand other
@@ -170,7 +170,7 @@ instruction_cause h nothing other c e = rw e refl
 sees_same : (sc sc2 : ScopeView) (d : Bool) (o : Option (List ℕ)) → o ≡ None → Sees sc d o sc2 → sc ≡ sc2
 sees_same sc sc2 d o e h = subst (λ (x : Option (List ℕ)). Sees sc d x sc2) e h
 
-module _ (sc0 : ScopeView) (line : ℕ) (o : Open) (ss : List Symbol) (sc : ScopeView) (w : InArguments sc0 line o ss sc) where
+module _ (sc0 : ScopeView) (line : ℕ) (o : Open) (ss : List Terminal) (sc : ScopeView) (w : InArguments sc0 line o ss sc) where
   spelled_as : (sh : Shape) → shape_at o.head (length o.done) ≡ Some sh → Spelled sh o.so_far w.arg
   spelled_as sh may = elim w.spelled [
     | inl (e, f) ↦ subst (λ (p : Partial). Spelled sh p w.arg) (sym e) f
@@ -182,7 +182,7 @@ module _ (sc0 : ScopeView) (line : ℕ) (o : Open) (ss : List Symbol) (sc : Scop
 
   -- ---- an instruction
 
-  operand_within : (s : Symbol) (c : SourceCause) → is_instruction o.head ≡ true → within sc o s ≡ Err c → operand_at o.so_far s ≡ c
+  operand_within : (s : Terminal) (c : SourceCause) → is_instruction o.head ≡ true → within sc o s ≡ Err c → operand_at o.so_far s ≡ c
   operand_within s c i h = by_step (operand_step shape.Operand o.so_far s) refl (sym (ap (at_shape sc o s) (instruction_is o.head (length o.done) i).0) ∙ h)
     where
       sp : Spelled shape.Operand o.so_far w.arg
@@ -202,7 +202,7 @@ module _ (sc0 : ScopeView) (line : ℕ) (o : Open) (ss : List Symbol) (sc : Scop
       by_step (Err d) e k = operand_err o.so_far s d e ∙ (sym (instruction_cause o.head (is_unbegun o.so_far) (misplaced s) d i) ∙ same_fault _ c k)
       by_step (Ok q) e k = by_name q e k
 
-  operand_fails : (s : Symbol) (c : SourceCause) → is_instruction o.head ≡ true → Fails sc o s c → operand_at o.so_far s ≡ c
+  operand_fails : (s : Terminal) (c : SourceCause) → is_instruction o.head ≡ true → Fails sc o s c → operand_at o.so_far s ≡ c
   operand_fails s c i (Fails.inside h cut) = operand_within s c i h
   operand_fails s c i (Fails.many n is f none e) = let g : ◌≡◌ {A = Option Shape} None (Some shape.Operand) = sym none ∙ (instruction_is o.head n i).0 in absurd cc
   operand_fails s c i (Fails.few n is f count e) = let g : nat_lt n 0 ≡ true = sym (ap (nat_lt n) (instruction_is o.head n i).1) ∙ count in absurd (never n g)
@@ -210,7 +210,7 @@ module _ (sc0 : ScopeView) (line : ℕ) (o : Open) (ss : List Symbol) (sc : Scop
       never : (n : ℕ) → nat_lt n 0 ≡ true → ⊥
       never n g = absurd (omega (arith, ltb-true n 0 g))
 
-  operand_refused : (s : Symbol) (c : SourceCause) → is_instruction o.head ≡ true → Fails sc o s c → in_argument o.head o.done w.behind (stars o.star ++ w.arg) s ≡ c
+  operand_refused : (s : Terminal) (c : SourceCause) → is_instruction o.head ≡ true → Fails sc o s c → in_argument o.head o.done w.behind (stars o.star ++ w.arg) s ≡ c
   operand_refused s c i f =
       let t = operand_tail o.so_far o.star w.arg (spelled_as shape.Operand (instruction_is o.head (length o.done) i).0) w.solid in
       rw i (operand_ends (stars o.star ++ w.arg) _ _ _ _ _ t s ∙ operand_fails s c i f)
@@ -225,27 +225,27 @@ module _ (sc0 : ScopeView) (line : ℕ) (o : Open) (ss : List Symbol) (sc : Scop
       by_star false e = e
 
   -- the cause where nothing of an argument has been read, and where something has
-  nothing_read : (s : Symbol) (d : SourceCause) → w.arg ≡ [] → value_first (takes_name (shape_at o.head (length o.done))) w.behind (defines o.head (length o.done)) s ≡ d → value_cause o.head o.done w.behind w.arg s ≡ d
-  nothing_read s d e h = ap (λ (x : List Symbol). value_cause o.head o.done w.behind x s) e ∙ (value_none o.head o.done w.behind s ∙ h)
+  nothing_read : (s : Terminal) (d : SourceCause) → w.arg ≡ [] → value_first (takes_name (shape_at o.head (length o.done))) w.behind (defines o.head (length o.done)) s ≡ d → value_cause o.head o.done w.behind w.arg s ≡ d
+  nothing_read s d e h = ap (λ (x : List Terminal). value_cause o.head o.done w.behind x s) e ∙ (value_none o.head o.done w.behind s ∙ h)
 
-  something_read : (sh : Shape) (s : Symbol) (d : SourceCause) → Spelled sh o.so_far w.arg → is_unbegun o.so_far ≡ false → value_at o.so_far s ≡ d → value_cause o.head o.done w.behind w.arg s ≡ d
+  something_read : (sh : Shape) (s : Terminal) (d : SourceCause) → Spelled sh o.so_far w.arg → is_unbegun o.so_far ≡ false → value_at o.so_far s ≡ d → value_cause o.head o.done w.behind w.arg s ≡ d
   something_read sh s d sp u h = value_ends o.head o.done w.behind w.arg _ _ _ _ _ (w.solid u) (spelled_tail sh o.so_far false w.arg (w.solid u) sp) s ∙ h
 
   -- nothing may stand there
-  unshaped : (s : Symbol) (c : SourceCause) → shape_at o.head (length o.done) ≡ None → ◌≡◌ {A = Answer} (Err (misplaced s)) (Err c) → value_cause o.head o.done w.behind w.arg s ≡ c
+  unshaped : (s : Terminal) (c : SourceCause) → shape_at o.head (length o.done) ≡ None → ◌≡◌ {A = Answer} (Err (misplaced s)) (Err c) → value_cause o.head o.done w.behind w.arg s ≡ c
   unshaped s c none h = elim w.spelled [
     | inl (e, f) ↦ nothing_read s c f (sym (missing_is s (takes_name (shape_at o.head (length o.done))) w.behind (defines o.head (length o.done)) (ap takes_name none)) ∙ same_fault _ c h)
     | inr (sh, may, sp) ↦ let g : ◌≡◌ {A = Option Shape} None (Some sh) = sym none ∙ may in absurd cc
   ]
 
-  directive_cause : (nothing : Bool) (s : Symbol) (d c : SourceCause) → is_instruction o.head ≡ false → is_unbegun o.so_far ≡ nothing → ◌≡◌ {A = Answer} (Err (cause_in o.head (is_unbegun o.so_far) (misplaced s) d)) (Err c) → argument_cause nothing (misplaced s) d ≡ c
+  directive_cause : (nothing : Bool) (s : Terminal) (d c : SourceCause) → is_instruction o.head ≡ false → is_unbegun o.so_far ≡ nothing → ◌≡◌ {A = Answer} (Err (cause_in o.head (is_unbegun o.so_far) (misplaced s) d)) (Err c) → argument_cause nothing (misplaced s) d ≡ c
   directive_cause nothing s d c i u h = same_fault (argument_cause nothing (misplaced s) d) c (sym fault ∙ h)
     where
       fault : ◌≡◌ {A = Answer} (Err (cause_in o.head (is_unbegun o.so_far) (misplaced s) d)) (Err (argument_cause nothing (misplaced s) d))
       fault = rw (i, u) refl
 
   -- it doesn't go on with the argument
-  value_step : (sh : Shape) (s : Symbol) (d c : SourceCause) → is_instruction o.head ≡ false → shape_at o.head (length o.done) ≡ Some sh → (is_cut s ≡ true → is_finished o.so_far ≡ false) → operand_step sh o.so_far s ≡ Err d
+  value_step : (sh : Shape) (s : Terminal) (d c : SourceCause) → is_instruction o.head ≡ false → shape_at o.head (length o.done) ≡ Some sh → (is_cut s ≡ true → is_finished o.so_far ≡ false) → operand_step sh o.so_far s ≡ Err d
       → ◌≡◌ {A = Answer} (Err (cause_in o.head (is_unbegun o.so_far) (misplaced s) d)) (Err c) → (t : Bool) → is_unbegun o.so_far ≡ t → value_cause o.head o.done w.behind w.arg s ≡ c
   value_step sh s d c i may cut e h true u =
       let first : value_first (takes_names sh) w.behind (defines o.head (length o.done)) s ≡ c = sym (unbegun_err sh o.so_far w.behind (defines o.head (length o.done)) s d u e) ∙ directive_cause true s d c i u h in
@@ -254,7 +254,7 @@ module _ (sc0 : ScopeView) (line : ℕ) (o : Open) (ss : List Symbol) (sc : Scop
       something_read sh s c (spelled_as sh may) u (sym (value_err sh o.so_far w.arg s (misplaced s) d (no_operand o.head (length o.done) sh i may) u (spelled_as sh may) cut e) ∙ directive_cause false s d c i u h)
 
   -- it may not say this name
-  value_said : (sh : Shape) (s : Symbol) (q : Partial) (c : SourceCause) → is_instruction o.head ≡ false → shape_at o.head (length o.done) ≡ Some sh → next_symbol sh o.so_far s ≡ ok q → with_name sc (record o { so_far = q }) (name_in q) ≡ Err c
+  value_said : (sh : Shape) (s : Terminal) (q : Partial) (c : SourceCause) → is_instruction o.head ≡ false → shape_at o.head (length o.done) ≡ Some sh → next_symbol sh o.so_far s ≡ ok q → with_name sc (record o { so_far = q }) (name_in q) ≡ Err c
       → (t : Bool) → is_unbegun o.so_far ≡ t → value_cause o.head o.done w.behind w.arg s ≡ c
   value_said sh s q c i may e k t u = elim (name_step sh o.so_far s q e) [
     | inl x ↦ let g : ◌≡◌ {A = Answer} (with_name sc (record o { so_far = q }) None) (Err c) = sym (ap (with_name sc (record o { so_far = q })) x.0) ∙ k in absurd cc
@@ -273,7 +273,7 @@ module _ (sc0 : ScopeView) (line : ℕ) (o : Open) (ss : List Symbol) (sc : Scop
           nothing_read s c (unbegun_nil sh o.so_far w.arg (spelled_as sh may) u) (ap (value_first (takes_name (shape_at o.head (length o.done))) w.behind (defines o.head (length o.done))) is ∙ (first ∙ cause))
       by_begun n a step is cause false u = absurd (value_name sh o.so_far n n n q w.arg (no_operand o.head (length o.done) sh i may) u (spelled_as sh may) step a)
 
-  value_within : (s : Symbol) (c : SourceCause) → is_instruction o.head ≡ false → (is_cut s ≡ true → is_finished o.so_far ≡ false) → (r : Option Shape) → shape_at o.head (length o.done) ≡ r → at_shape sc o s r ≡ Err c → value_cause o.head o.done w.behind w.arg s ≡ c
+  value_within : (s : Terminal) (c : SourceCause) → is_instruction o.head ≡ false → (is_cut s ≡ true → is_finished o.so_far ≡ false) → (r : Option Shape) → shape_at o.head (length o.done) ≡ r → at_shape sc o s r ≡ Err c → value_cause o.head o.done w.behind w.arg s ≡ c
   value_within s c i cut None may h = unshaped s c may h
   value_within s c i cut (Some sh) may h = by_step (operand_step sh o.so_far s) refl h
     where
@@ -282,18 +282,18 @@ module _ (sc0 : ScopeView) (line : ℕ) (o : Open) (ss : List Symbol) (sc : Scop
       by_step (Ok q) e k = value_said sh s q c i may (operand_next sh o.so_far s q e) k (is_unbegun o.so_far) refl
 
   -- a comma or an end behind a whole argument, or where none has been read
-  whole_read : (s : Symbol) → is_cut s ≡ true → is_finished o.so_far ≡ true → value_cause o.head o.done w.behind w.arg s ≡ cause.BadArgument
+  whole_read : (s : Terminal) → is_cut s ≡ true → is_finished o.so_far ≡ true → value_cause o.head o.done w.behind w.arg s ≡ cause.BadArgument
   whole_read s cut fin = elim w.spelled [
     | inl (e, f) ↦ let g : is_finished partial.Nothing ≡ true = sym (ap is_finished e) ∙ fin in absurd cc
     | inr (sh, may, sp) ↦ by_begun sh sp (is_unbegun o.so_far) refl
   ]
     where
-      first_cut : (s : Symbol) (t : Bool) → is_cut s ≡ true → value_first t w.behind (defines o.head (length o.done)) s ≡ cause.BadArgument
+      first_cut : (s : Terminal) (t : Bool) → is_cut s ≡ true → value_first t w.behind (defines o.head (length o.done)) s ≡ cause.BadArgument
       first_cut symbol.Comma t e = refl
       first_cut symbol.End t e = refl
       first_cut _ t e = absurd cc
 
-      cut_unsigned : (s : Symbol) (t : Bool) → is_cut s ≡ true → value_by t false s ≡ cause.BadArgument
+      cut_unsigned : (s : Terminal) (t : Bool) → is_cut s ≡ true → value_by t false s ≡ cause.BadArgument
       cut_unsigned symbol.Comma t e = refl
       cut_unsigned symbol.End t e = refl
       cut_unsigned _ t e = absurd cc
@@ -315,17 +315,17 @@ module _ (sc0 : ScopeView) (line : ℕ) (o : Open) (ss : List Symbol) (sc : Scop
         | inr (sh, may, sp) ↦ subst (λ (x : Partial). Spelled sh x w.arg) (is_the_nothing o.so_far h) sp
       ]
 
-  value_fails : (s : Symbol) (c : SourceCause) → is_instruction o.head ≡ false → Fails sc o s c → value_cause o.head o.done w.behind w.arg s ≡ c
+  value_fails : (s : Terminal) (c : SourceCause) → is_instruction o.head ≡ false → Fails sc o s c → value_cause o.head o.done w.behind w.arg s ≡ c
   value_fails s c i (Fails.inside h cut) = value_within s c i cut (shape_at o.head (length o.done)) refl h
   value_fails s c i (Fails.many n is fin none e) = rw is (whole_read symbol.Comma refl fin ∙ e)
   value_fails s c i (Fails.few n is (inl f) count e) = rw is (nothing_ends f ∙ e)
   value_fails s c i (Fails.few n is (inr fin) count e) = rw is (whole_read symbol.End refl fin ∙ e)
 
-  value_refused : (s : Symbol) (c : SourceCause) → is_instruction o.head ≡ false → Fails sc o s c → in_argument o.head o.done w.behind (stars o.star ++ w.arg) s ≡ c
+  value_refused : (s : Terminal) (c : SourceCause) → is_instruction o.head ≡ false → Fails sc o s c → in_argument o.head o.done w.behind (stars o.star ++ w.arg) s ≡ c
   value_refused s c i f = rw (i, unstarred i) (value_fails s c i f)
 
   -- The cause is that of the place.
-  pub argument_refused : (s : Symbol) (c : SourceCause) → argument_step sc o s ≡ Err c → in_argument o.head o.done w.behind (stars o.star ++ w.arg) s ≡ c
+  pub argument_refused : (s : Terminal) (c : SourceCause) → argument_step sc o s ≡ Err c → in_argument o.head o.done w.behind (stars o.star ++ w.arg) s ≡ c
   argument_refused s c h = by_head (is_instruction o.head) refl
     where
       by_head : (t : Bool) → is_instruction o.head ≡ t → in_argument o.head o.done w.behind (stars o.star ++ w.arg) s ≡ c

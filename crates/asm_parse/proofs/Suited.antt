@@ -2,16 +2,16 @@
 use Rattle.std.proofs.Common.{◌≡◌, ℕ, ◌+◌, true, false, List, [], ◌∷◌, ◌++◌, length, Some, None, Ok, Err, refl, sym, ap, subst, ◌∙◌}
 use Rattle.std.specs.List.{list_all}
 use Rattle.asm_lex.specs.Words.{Word}
-use Rattle.asm_argument.specs.declared.symbol.Symbol.{Symbol}
-use Rattle.asm_argument.specs.declared.symbol.Symbol.TheVariants as symbol
+use Rattle.asm_argument.specs.declared.symbol.Terminal.{Terminal}
+use Rattle.asm_argument.specs.declared.symbol.Terminal.TheVariants as symbol
 use Rattle.asm_source.specs.declared.tree.Argument.{Argument}
 use Rattle.asm_parse.specs.declared.directive.Directive.{Directive}
 use Rattle.asm_parse.specs.declared.directive.Directive.TheVariants as kind
 use Rattle.asm_parse.specs.declared.directive.Head.{Head}
 use Rattle.asm_parse.specs.declared.directive.Head.TheVariants as head
 use Rattle.asm_parse.specs.declared.state.Open.{Open}
-use Rattle.asm_parse.specs.declared.state.State.{State}
-use Rattle.asm_parse.specs.declared.state.State.TheVariants as state
+use Rattle.asm_parse.specs.declared.state.StatementState.{StatementState}
+use Rattle.asm_parse.specs.declared.state.StatementState.TheVariants as state
 use Rattle.asm_parse.specs.ScopeView.{ScopeView}
 use Rattle.asm_parse.specs.Scope.{fresh}
 use Rattle.asm_argument.specs.Symbols.{symbol_of}
@@ -19,7 +19,7 @@ use Rattle.asm_parse.specs.Directives.{shape_at, is_dotted, directive_of, is_sec
 use Rattle.asm_parse.specs.Statement.{argument_step, nothing_yet, is_passed, of_directive, other_behind, step, doom}
 use Rattle.asm_parse.specs.Reading.{ending_at}
 use Rattle.asm_parse.specs.Statements.{has_list, is_inner, Separated, Statement, symbols}
-use Rattle.asm_parse.specs.Refusals.{Place, Leads, Opens, Stands, Reaches}
+use Rattle.asm_parse.specs.Refusals.{StatementPlace, Leads, Opens, Stands, Reaches}
 use Rattle.asm_parse.proofs.Words.{read_words}
 use Rattle.asm_parse.proofs.Stated.{Answer, inners, words_append, named_section, statements_run}
 use Rattle.asm_parse.proofs.Places.{Suits, start_suits, named_suits, skip_suits}
@@ -30,7 +30,7 @@ use Rattle.asm_parse.proofs.Reopened.{body_inner, IsColon, body_colon, arguments
 same_pair : (x y : Pair) → ◌≡◌ {A = Answer} (Ok x) (Ok y) → x ≡ y
 same_pair x y e = cc
 
-suits_at : (sc0 : ScopeView) (p : Place) (x y : Pair) → x ≡ y → Suits sc0 p x.0 x.1 → Suits sc0 p y.0 y.1
+suits_at : (sc0 : ScopeView) (p : StatementPlace) (x y : Pair) → x ≡ y → Suits sc0 p x.0 x.1 → Suits sc0 p y.0 y.1
 suits_at sc0 p x y e h = subst (λ (z : Pair). Suits sc0 p z.0 z.1) e h
 
 -- the first name of a statement
@@ -43,20 +43,20 @@ first_word w ws sc n fin name h alive =
 read_same : (x y : Pair) → read_words x.0 x.1 [] ≡ Ok y → x ≡ y
 read_same x y e = cc
 
-at_first : (ps : List Word) (sc : ScopeView) (fin : Pair) → symbols ps ≡ [] → read_words sc state.Start ps ≡ Ok fin → Suits sc Place.first fin.0 fin.1
-at_first [] sc fin e h = suits_at sc Place.first (sc, state.Start) fin (read_same (sc, state.Start) fin h) (start_suits sc)
+at_first : (ps : List Word) (sc : ScopeView) (fin : Pair) → symbols ps ≡ [] → read_words sc state.Start ps ≡ Ok fin → Suits sc StatementPlace.first fin.0 fin.1
+at_first [] sc fin e h = suits_at sc StatementPlace.first (sc, state.Start) fin (read_same (sc, state.Start) fin h) (start_suits sc)
 at_first (w ∷ ws) sc fin e h = absurd cc
 
-at_named : (ps : List Word) (sc : ScopeView) (n : List ℕ) (fin : Pair) → symbols ps ≡ symbol.Name n ∷ [] → read_words sc state.Start ps ≡ Ok fin → doom fin.0 fin.1 ≡ None → Suits sc (Place.named n) fin.0 fin.1
+at_named : (ps : List Word) (sc : ScopeView) (n : List ℕ) (fin : Pair) → symbols ps ≡ symbol.Name n ∷ [] → read_words sc state.Start ps ≡ Ok fin → doom fin.0 fin.1 ≡ None → Suits sc (StatementPlace.named n) fin.0 fin.1
 at_named [] sc n fin e h alive = absurd cc
 at_named (w ∷ []) sc n fin e h alive =
     let name : symbol_of w.kind w.bytes ≡ symbol.Name n = cc in
     let last : (sc, state.Named w.line n) ≡ fin = read_same (sc, state.Named w.line n) fin (first_word w [] sc n fin name h alive) in
-    suits_at sc (Place.named n) (sc, state.Named w.line n) fin last (named_suits sc w.line n (ap (λ (x : Pair). doom x.0 x.1) last ∙ alive))
+    suits_at sc (StatementPlace.named n) (sc, state.Named w.line n) fin last (named_suits sc w.line n (ap (λ (x : Pair). doom x.0 x.1) last ∙ alive))
 at_named (w ∷ v ∷ ws) sc n fin e h alive = absurd cc
 
-at_section : (ps : List Word) (sc : ScopeView) (n m : List ℕ) (ss : List Symbol) (fin : Pair) → symbols ps ≡ symbol.Name n ∷ symbol.Name m ∷ ss → is_passed sc n ≡ false → is_dotted n ≡ true → directive_of n ≡ Some kind.Section → is_section m ≡ true → list_all is_inner ss ≡ true
-    → read_words sc state.Start ps ≡ Ok fin → doom fin.0 fin.1 ≡ None → Suits sc Place.section fin.0 fin.1
+at_section : (ps : List Word) (sc : ScopeView) (n m : List ℕ) (ss : List Terminal) (fin : Pair) → symbols ps ≡ symbol.Name n ∷ symbol.Name m ∷ ss → is_passed sc n ≡ false → is_dotted n ≡ true → directive_of n ≡ Some kind.Section → is_section m ≡ true → list_all is_inner ss ≡ true
+    → read_words sc state.Start ps ≡ Ok fin → doom fin.0 fin.1 ≡ None → Suits sc StatementPlace.section fin.0 fin.1
 at_section [] sc n m ss fin e go dotted dir is inside h alive = absurd cc
 at_section (w ∷ []) sc n m ss fin e go dotted dir is inside h alive = absurd cc
 at_section (w ∷ v ∷ ws) sc n m ss fin e go dotted dir is inside h alive =
@@ -70,42 +70,42 @@ at_section (w ∷ v ∷ ws) sc n m ss fin e go dotted dir is inside h alive =
 
 -- ---- arguments
 
-not_colon : (sc : ScopeView) (b line : ℕ) (n : List ℕ) (s : Symbol) (ss : List Symbol) → (IsColon (s ∷ ss) → ⊥) → step sc (state.Named b n) line s ≡ other_behind sc b n s
+not_colon : (sc : ScopeView) (b line : ℕ) (n : List ℕ) (s : Terminal) (ss : List Terminal) → (IsColon (s ∷ ss) → ⊥) → step sc (state.Named b n) line s ≡ other_behind sc b n s
 not_colon sc b line n symbol.Colon ss never = absurd (never tt)
 not_colon sc b line n s ss never = refl
 
-ending_argument : (st : State) (e : ℕ) (o : Open) → st ≡ state.Arguments o → ending_at e st ≡ st
+ending_argument : (st : StatementState) (e : ℕ) (o : Open) → st ≡ state.Arguments o → ending_at e st ≡ st
 ending_argument st e o h = ap (ending_at e) h ∙ sym h
 
 -- behind a name that leads to arguments
-behind_name : (w : Word) (ws : List Word) (sc : ScopeView) (n : List ℕ) (h : Head) (body : List Symbol) (fin : Pair) → symbol_of w.kind w.bytes ≡ symbol.Name n → symbols ws ≡ body → (body ≡ [] → ⊥) → list_all is_inner body ≡ true → (IsColon body → ⊥)
-    → ((s : Symbol) → other_behind sc w.line n s ≡ argument_step sc (nothing_yet w.line h) s) → read_words sc state.Start (w ∷ ws) ≡ Ok fin → doom fin.0 fin.1 ≡ None → inners sc (state.Arguments (nothing_yet w.line h)) body ≡ Ok fin
+behind_name : (w : Word) (ws : List Word) (sc : ScopeView) (n : List ℕ) (h : Head) (body : List Terminal) (fin : Pair) → symbol_of w.kind w.bytes ≡ symbol.Name n → symbols ws ≡ body → (body ≡ [] → ⊥) → list_all is_inner body ≡ true → (IsColon body → ⊥)
+    → ((s : Terminal) → other_behind sc w.line n s ≡ argument_step sc (nothing_yet w.line h) s) → read_words sc state.Start (w ∷ ws) ≡ Ok fin → doom fin.0 fin.1 ≡ None → inners sc (state.Arguments (nothing_yet w.line h)) body ≡ Ok fin
 behind_name w [] sc n h body fin name rest some inside never goes k alive = absurd (some (sym rest))
 behind_name w (v ∷ ws) sc n h body fin name rest some inside never goes k alive =
     let two = on_word sc (state.Named w.line n) v ws fin refl (first_word w (v ∷ ws) sc n fin name k alive) alive in
-    let never2 : IsColon (symbol_of v.kind v.bytes ∷ symbols ws) → ⊥ = subst (λ (x : List Symbol). IsColon x → ⊥) (sym rest) never in
+    let never2 : IsColon (symbol_of v.kind v.bytes ∷ symbols ws) → ⊥ = subst (λ (x : List Terminal). IsColon x → ⊥) (sym rest) never in
     let inside2 : list_all is_inner (symbol_of v.kind v.bytes ∷ symbols ws) ≡ true = ap (list_all is_inner) rest ∙ inside in
     let p = inner_parts (symbol_of v.kind v.bytes) (symbols ws) inside2 in
     let argument_goes : argument_step sc (nothing_yet w.line h) (symbol_of v.kind v.bytes) ≡ Ok two.next = sym (not_colon sc w.line v.line n (symbol_of v.kind v.bytes) (symbols ws) never2 ∙ goes (symbol_of v.kind v.bytes)) ∙ two.goes in
     let opens_on = first_argument sc (nothing_yet w.line h) (symbol_of v.kind v.bytes) two.next p.0 argument_goes in
-    let rest2 : read_words two.next.0 two.next.1 ws ≡ Ok fin = ap (λ (x : State). read_words two.next.0 x ws) (sym (ending_argument two.next.1 (v.at + length v.bytes) opens_on.0 opens_on.1)) ∙ two.rest in
+    let rest2 : read_words two.next.0 two.next.1 ws ≡ Ok fin = ap (λ (x : StatementState). read_words two.next.0 x ws) (sym (ending_argument two.next.1 (v.at + length v.bytes) opens_on.0 opens_on.1)) ∙ two.rest in
     let all : inners sc (state.Arguments (nothing_yet w.line h)) (symbol_of v.kind v.bytes ∷ symbols ws) ≡ Ok fin =
     ap (λ (r : Answer). elim r [ Ok y ↦ inners y.0 y.1 (symbols ws) | Err c ↦ Err c ]) argument_goes ∙ arguments_read ws two.next.0 two.next.1 opens_on.0 fin opens_on.1 p.1 rest2 alive in
     ap (inners sc (state.Arguments (nothing_yet w.line h))) (sym rest) ∙ all
 
-of_list : (k : Directive) (sc : ScopeView) (line : ℕ) (n : List ℕ) (s : Symbol) → has_list k ≡ true → of_directive (Some k) sc line n s ≡ argument_step sc (nothing_yet line (head.Directive k n)) s
+of_list : (k : Directive) (sc : ScopeView) (line : ℕ) (n : List ℕ) (s : Terminal) → has_list k ≡ true → of_directive (Some k) sc line n s ≡ argument_step sc (nothing_yet line (head.Directive k n)) s
 of_list kind.Section sc line n s h = absurd cc
 of_list kind.Skipped sc line n s h = absurd cc
 of_list k sc line n s h = refl
 
-head_tail : (s t : Symbol) (xs ys : List Symbol) → s ∷ xs ≡ t ∷ ys → (s ≡ t) × (xs ≡ ys)
+head_tail : (s t : Terminal) (xs ys : List Terminal) → s ∷ xs ≡ t ∷ ys → (s ≡ t) × (xs ≡ ys)
 head_tail s t xs ys e = (cc, cc)
 
-module _ (w v : Word) (ws : List Word) (sc : ScopeView) (body : List Symbol) (fin : Pair) (inside : list_all is_inner body ≡ true) (never : IsColon body → ⊥) (k : read_words sc state.Start (w ∷ v ∷ ws) ≡ Ok fin) (alive : doom fin.0 fin.1 ≡ None) where
+module _ (w v : Word) (ws : List Word) (sc : ScopeView) (body : List Terminal) (fin : Pair) (inside : list_all is_inner body ≡ true) (never : IsColon body → ⊥) (k : read_words sc state.Start (w ∷ v ∷ ws) ≡ Ok fin) (alive : doom fin.0 fin.1 ≡ None) where
   some_body : symbols (v ∷ ws) ≡ body → body ≡ [] → ⊥
   some_body e f = let g : symbols (v ∷ ws) ≡ [] = e ∙ f in absurd cc
 
-  lead_read : {h : Head} {lead : List Symbol} → Leads sc h lead → symbols (w ∷ v ∷ ws) ≡ lead ++ body → inners sc (state.Arguments (nothing_yet w.line h)) body ≡ Ok fin
+  lead_read : {h : Head} {lead : List Terminal} → Leads sc h lead → symbols (w ∷ v ∷ ws) ≡ lead ++ body → inners sc (state.Arguments (nothing_yet w.line h)) body ≡ Ok fin
   lead_read (Leads.instruction {n} go dotted rep) e =
       let p = head_tail (symbol_of w.kind w.bytes) (symbol.Name n) (symbols (v ∷ ws)) body e in
       behind_name w (v ∷ ws) sc n (head.Instruction false n) body fin p.0 p.1 (some_body p.1) inside never (λ s. rw (go, dotted, rep) refl) k alive
@@ -122,8 +122,8 @@ module _ (w v : Word) (ws : List Word) (sc : ScopeView) (body : List Symbol) (fi
       ap (inners sc (state.Arguments (nothing_yet w.line (head.Instruction true n)))) (sym q.1)
       ∙ arguments_read ws sc (state.Arguments (nothing_yet w.line (head.Instruction true n))) (nothing_yet w.line (head.Instruction true n)) fin refl (ap (list_all is_inner) q.1 ∙ inside) rest alive
 
-at_argument : (ps : List Word) (sc : ScopeView) {h : Head} {sc2 : ScopeView} {done : List Argument} (s t : Symbol) (ss lead front arg : List Symbol) (fin : Pair) → symbols ps ≡ s ∷ t ∷ ss → s ∷ t ∷ ss ≡ lead ++ (front ++ arg) → Leads sc h lead → Separated h sc front done sc2 → Opens (shape_at h (length done)) arg
-    → read_words sc state.Start ps ≡ Ok fin → doom fin.0 fin.1 ≡ None → Suits sc (Place.argument h done sc2 arg) fin.0 fin.1
+at_argument : (ps : List Word) (sc : ScopeView) {h : Head} {sc2 : ScopeView} {done : List Argument} (s t : Terminal) (ss lead front arg : List Terminal) (fin : Pair) → symbols ps ≡ s ∷ t ∷ ss → s ∷ t ∷ ss ≡ lead ++ (front ++ arg) → Leads sc h lead → Separated h sc front done sc2 → Opens (shape_at h (length done)) arg
+    → read_words sc state.Start ps ≡ Ok fin → doom fin.0 fin.1 ≡ None → Suits sc (StatementPlace.argument h done sc2 arg) fin.0 fin.1
 at_argument [] sc s t ss lead front arg fin e whole leads sep opens k alive = absurd cc
 at_argument (w ∷ []) sc s t ss lead front arg fin e whole leads sep opens k alive = absurd cc
 at_argument (w ∷ v ∷ ws) sc {h} {sc2} {done} s t ss lead front arg fin e whole leads sep opens k alive =
@@ -132,17 +132,17 @@ at_argument (w ∷ v ∷ ws) sc {h} {sc2} {done} s t ss lead front arg fin e who
 
 -- ---- all places
 
-stands_suits : {sc : ScopeView} {xs : List Symbol} {p : Place} → Stands sc xs p → (ps : List Word) (fin : Pair) → symbols ps ≡ xs → read_words sc state.Start ps ≡ Ok fin → doom fin.0 fin.1 ≡ None → Suits sc p fin.0 fin.1
+stands_suits : {sc : ScopeView} {xs : List Terminal} {p : StatementPlace} → Stands sc xs p → (ps : List Word) (fin : Pair) → symbols ps ≡ xs → read_words sc state.Start ps ≡ Ok fin → doom fin.0 fin.1 ≡ None → Suits sc p fin.0 fin.1
 stands_suits {sc} Stands.first ps fin e k alive = at_first ps sc fin e k
 stands_suits {sc} (Stands.named {n}) ps fin e k alive = at_named ps sc n fin e k alive
 stands_suits {sc} (Stands.section {n} {m} ss go dotted dir is inside) ps fin e k alive = at_section ps sc n m ss fin e go dotted dir is inside k alive
 stands_suits {sc} (Stands.skipped {line} {ss} may) ps fin e k alive =
-    let last = skipped_state ps sc line fin (λ rest inside. subst (λ (x : List Symbol). Statement sc line (x ++ (rest ++ symbol.End ∷ [])) sc) (sym e) (may rest inside)) k alive in
-    suits_at sc Place.skipped (sc, state.Skip) fin (sym last) (skip_suits sc sc)
+    let last = skipped_state ps sc line fin (λ rest inside. subst (λ (x : List Terminal). Statement sc line (x ++ (rest ++ symbol.End ∷ [])) sc) (sym e) (may rest inside)) k alive in
+    suits_at sc StatementPlace.skipped (sc, state.Skip) fin (sym last) (skip_suits sc sc)
 stands_suits {sc} (Stands.argument {h} {sc2} {done} s t ss lead front arg whole leads sep opens) ps fin e k alive = at_argument ps sc s t ss lead front arg fin e whole leads sep opens k alive
 
 -- What the reader refuses behind these words has the cause of each place to which they lead.
-pub reaches_suits : (ws : List Word) (sc0 : ScopeView) (p : Place) (fin : Pair) → Reaches ws sc0 p → read_words fresh state.Start ws ≡ Ok fin → doom fin.0 fin.1 ≡ None → Suits sc0 p fin.0 fin.1
+pub reaches_suits : (ws : List Word) (sc0 : ScopeView) (p : StatementPlace) (fin : Pair) → Reaches ws sc0 p → read_words fresh state.Start ws ≡ Ok fin → doom fin.0 fin.1 ≡ None → Suits sc0 p fin.0 fin.1
 reaches_suits ws sc0 p fin r k alive =
     stands_suits r.stands r.begun fin refl
     (sym (words_append r.before r.begun fresh state.Start (sc0, state.Start) (statements_run r.statements)) ∙ (ap (read_words fresh state.Start) (sym r.whole) ∙ k)) alive

@@ -1,12 +1,12 @@
 -- How the symbols of an argument end, by what has been read of it.
 use Rattle.std.proofs.Common.{◌≡◌, ℕ, Bool, true, false, cond, List, [], ◌∷◌, ◌++◌, Option, Some, None, refl, sym, ap, subst, ◌∙◌, append_assoc}
 use Rattle.std.specs.Prelude.{ℤ}
-use Rattle.asm_argument.specs.declared.symbol.Symbol.{Symbol}
-use Rattle.asm_argument.specs.declared.symbol.Symbol.TheVariants as symbol
+use Rattle.asm_argument.specs.declared.symbol.Terminal.{Terminal}
+use Rattle.asm_argument.specs.declared.symbol.Terminal.TheVariants as symbol
 use Rattle.asm_argument.specs.declared.operand.Shape.{Shape}
 use Rattle.asm_argument.specs.declared.operand.Shape.TheVariants as shape
-use Rattle.asm_argument.specs.declared.operand.Place.{Place}
-use Rattle.asm_argument.specs.declared.operand.Place.TheVariants as place
+use Rattle.asm_argument.specs.declared.operand.ValuePlace.{ValuePlace}
+use Rattle.asm_argument.specs.declared.operand.ValuePlace.TheVariants as place
 use Rattle.asm_argument.specs.declared.operand.Partial.{Partial}
 use Rattle.asm_argument.specs.declared.operand.Partial.TheVariants as partial
 use Rattle.asm_source.specs.declared.tree.Value.{Value}
@@ -48,9 +48,9 @@ frees _ = false
 
 -- ---- what stands in front changes nothing
 
-pub record Clear (f : List Symbol) : Type 0 where
-  pub last : (p : Symbol) (ps : List Symbol) → last_of (f ++ (p ∷ ps)) ≡ last_of (p ∷ ps)
-  pub index : (p : Symbol) (ps : List Symbol) → ends_index (f ++ (p ∷ ps)) ≡ ends_index (p ∷ ps)
+pub record Clear (f : List Terminal) : Type 0 where
+  pub last : (p : Terminal) (ps : List Terminal) → last_of (f ++ (p ∷ ps)) ≡ last_of (p ∷ ps)
+  pub index : (p : Terminal) (ps : List Terminal) → ends_index (f ++ (p ∷ ps)) ≡ ends_index (p ∷ ps)
 
 clear_nil : Clear []
 clear_nil = record { last = λ p ps. refl; index = λ p ps. refl }
@@ -59,11 +59,11 @@ clear_stars : (b : Bool) → Clear (stars b)
 clear_stars true = record { last = λ p ps. refl; index = λ p ps. refl }
 clear_stars false = clear_nil
 
-clear_lead : (p : Place) → Clear (lead p)
+clear_lead : (p : ValuePlace) → Clear (lead p)
 clear_lead place.Immediate = record { last = λ p ps. refl; index = λ p ps. refl }
 clear_lead place.Memory = clear_nil
 
-clear_value : {sh : Shape} {vs : List Symbol} {v : Value} → IsValue sh vs v → Clear vs
+clear_value : {sh : Shape} {vs : List Terminal} {v : Value} → IsValue sh vs v → Clear vs
 clear_value (IsValue.number t u) = record { last = λ p ps. refl; index = λ p ps. refl }
 clear_value (IsValue.negative t u x) = record { last = λ p ps. refl; index = λ p ps. refl }
 clear_value (IsValue.name t) = record { last = λ p ps. refl; index = λ p ps. refl }
@@ -72,20 +72,20 @@ clear_value (IsValue.sum t u (IsConstant.minus x)) = record { last = λ p ps. re
 clear_value (IsValue.difference t u IsConstant.bare) = record { last = λ p ps. refl; index = λ p ps. refl }
 clear_value (IsValue.difference t u (IsConstant.minus x)) = record { last = λ p ps. refl; index = λ p ps. refl }
 
-clear_option : {sh : Shape} {vs : List Symbol} {v : Option Value} → OptValue sh vs v → Clear vs
+clear_option : {sh : Shape} {vs : List Terminal} {v : Option Value} → OptValue sh vs v → Clear vs
 clear_option OptValue.none = clear_nil
 clear_option (OptValue.some v) = clear_value v
 
 -- ---- the ends
 
-pub record Tail (ss : List Symbol) (percent index minus sign free : Bool) : Type 0 where
+pub record Tail (ss : List Terminal) (percent index minus sign free : Bool) : Type 0 where
   pub percent_is : is_percent (last_of ss) ≡ percent
   pub index_is : ends_index ss ≡ index
   pub minus_is : is_minus (last_of ss) ≡ minus
   pub sign_is : is_sign (last_of ss) ≡ sign
   pub free_is : is_for_symbol (last_of ss) ≡ free
 
-behind : (f : List Symbol) (p : Symbol) (ps : List Symbol) (a b c d e : Bool) → Clear f → Tail (p ∷ ps) a b c d e → Tail (f ++ (p ∷ ps)) a b c d e
+behind : (f : List Terminal) (p : Terminal) (ps : List Terminal) (a b c d e : Bool) → Clear f → Tail (p ∷ ps) a b c d e → Tail (f ++ (p ∷ ps)) a b c d e
 behind f p ps a b c d e k t = record {
   percent_is = ap is_percent (k.last p ps) ∙ t.percent_is;
   index_is = k.index p ps ∙ t.index_is;
@@ -95,16 +95,16 @@ behind f p ps a b c d e k t = record {
 }
 
 -- a list that isn't empty, and how it ends
-record Ends (ss : List Symbol) (a b c d e : Bool) : Type 0 where
-  first : Symbol
-  rest : List Symbol
+record Ends (ss : List Terminal) (a b c d e : Bool) : Type 0 where
+  first : Terminal
+  rest : List Terminal
   whole : ss ≡ first ∷ rest
   tail : Tail (first ∷ rest) a b c d e
 
-after : (f ss : List Symbol) (a b c d e : Bool) → Clear f → Ends ss a b c d e → Tail (f ++ ss) a b c d e
-after f ss a b c d e k n = subst (λ (x : List Symbol). Tail (f ++ x) a b c d e) (sym n.whole) (behind f n.first n.rest a b c d e k n.tail)
+after : (f ss : List Terminal) (a b c d e : Bool) → Clear f → Ends ss a b c d e → Tail (f ++ ss) a b c d e
+after f ss a b c d e k n = subst (λ (x : List Terminal). Tail (f ++ x) a b c d e) (sym n.whole) (behind f n.first n.rest a b c d e k n.tail)
 
-value_ends : {sh : Shape} {vs : List Symbol} {v : Value} → IsValue sh vs v → Ends vs false false false false false
+value_ends : {sh : Shape} {vs : List Terminal} {v : Value} → IsValue sh vs v → Ends vs false false false false false
 value_ends (IsValue.number t u) = record { first = _; rest = _; whole = refl; tail = record { percent_is = refl; index_is = refl; minus_is = refl; sign_is = refl; free_is = refl } }
 value_ends (IsValue.negative t u x) = record { first = _; rest = _; whole = refl; tail = record { percent_is = refl; index_is = refl; minus_is = refl; sign_is = refl; free_is = refl } }
 value_ends (IsValue.name t) = record { first = _; rest = _; whole = refl; tail = record { percent_is = refl; index_is = refl; minus_is = refl; sign_is = refl; free_is = refl } }
@@ -113,7 +113,7 @@ value_ends (IsValue.sum t u (IsConstant.minus x)) = record { first = _; rest = _
 value_ends (IsValue.difference t u IsConstant.bare) = record { first = _; rest = _; whole = refl; tail = record { percent_is = refl; index_is = refl; minus_is = refl; sign_is = refl; free_is = refl } }
 value_ends (IsValue.difference t u (IsConstant.minus x)) = record { first = _; rest = _; whole = refl; tail = record { percent_is = refl; index_is = refl; minus_is = refl; sign_is = refl; free_is = refl } }
 
-address_ends : {ss : List Symbol} {b i : Option (List ℕ)} {s : ℕ} → IsAddress ss b i s → Ends ss false false false false false
+address_ends : {ss : List Terminal} {b i : Option (List ℕ)} {s : ℕ} → IsAddress ss b i s → Ends ss false false false false false
 address_ends (IsAddress.base r) = record { first = _; rest = _; whole = refl; tail = record { percent_is = refl; index_is = refl; minus_is = refl; sign_is = refl; free_is = refl } }
 address_ends (IsAddress.index r) = record { first = _; rest = _; whole = refl; tail = record { percent_is = refl; index_is = refl; minus_is = refl; sign_is = refl; free_is = refl } }
 address_ends (IsAddress.scaled r t) = record { first = _; rest = _; whole = refl; tail = record { percent_is = refl; index_is = refl; minus_is = refl; sign_is = refl; free_is = refl } }
@@ -121,14 +121,14 @@ address_ends (IsAddress.base_index r t) = record { first = _; rest = _; whole = 
 address_ends (IsAddress.base_scaled r t u) = record { first = _; rest = _; whole = refl; tail = record { percent_is = refl; index_is = refl; minus_is = refl; sign_is = refl; free_is = refl } }
 
 -- the same behind what is clear
-longer : (f ss : List Symbol) (a b c d e : Bool) → Clear f → Ends ss a b c d e → Ends (f ++ ss) a b c d e
+longer : (f ss : List Terminal) (a b c d e : Bool) → Clear f → Ends ss a b c d e → Ends (f ++ ss) a b c d e
 longer [] ss a b c d e k n = n
 longer (x ∷ f) ss a b c d e k n = record { first = x; rest = f ++ ss; whole = refl; tail = after (x ∷ f) ss a b c d e k n }
 
-same_ends : (ss ts : List Symbol) (a b c d e : Bool) → ss ≡ ts → Ends ts a b c d e → Ends ss a b c d e
-same_ends ss ts a b c d e h n = subst (λ (x : List Symbol). Ends x a b c d e) (sym h) n
+same_ends : (ss ts : List Terminal) (a b c d e : Bool) → ss ≡ ts → Ends ts a b c d e → Ends ss a b c d e
+same_ends ss ts a b c d e h n = subst (λ (x : List Terminal). Ends x a b c d e) (sym h) n
 
-form_ends : (sh : Shape) (ss : List Symbol) (f : Form) → (ss ≡ [] → ⊥) → IsForm sh ss f → Ends ss false false false false false
+form_ends : (sh : Shape) (ss : List Terminal) (f : Form) → (ss ≡ [] → ⊥) → IsForm sh ss f → Ends ss false false false false false
 form_ends sh ss f never (IsForm.absent h) = absurd (never refl)
 form_ends sh ss f never (IsForm.text h) = record { first = _; rest = _; whole = refl; tail = record { percent_is = refl; index_is = refl; minus_is = refl; sign_is = refl; free_is = refl } }
 form_ends sh ss f never (IsForm.register h r) = record { first = _; rest = _; whole = refl; tail = record { percent_is = refl; index_is = refl; minus_is = refl; sign_is = refl; free_is = refl } }
@@ -139,7 +139,7 @@ form_ends sh ss f never (IsForm.value_address vs ps h e v a) = same_ends ss (vs 
 
 -- ---- what has been read of an argument
 
-lead_ends : (p : Place) (ss : List Symbol) (a b c d e : Bool) → Ends ss a b c d e → Ends (lead p ++ ss) a b c d e
+lead_ends : (p : ValuePlace) (ss : List Terminal) (a b c d e : Bool) → Ends ss a b c d e → Ends (lead p ++ ss) a b c d e
 lead_ends p ss a b c d e n = longer (lead p) ss a b c d e (clear_lead p) n
 
 sign_ends : (n : List ℕ) (neg : Bool) → Ends (symbol.Name n ∷ sign neg ∷ []) false false neg true false
@@ -170,13 +170,13 @@ scaled_part : (b : Option (List ℕ)) (i : List ℕ) (s : ℕ) → Ends (base_pa
 scaled_part None i s = record { first = _; rest = _; whole = refl; tail = record { percent_is = refl; index_is = refl; minus_is = refl; sign_is = refl; free_is = refl } }
 scaled_part (Some b) i s = record { first = _; rest = _; whole = refl; tail = record { percent_is = refl; index_is = refl; minus_is = refl; sign_is = refl; free_is = refl } }
 
-abbrev EndsAs : Partial → List Symbol → Type 0
+abbrev EndsAs : Partial → List Terminal → Type 0
 EndsAs p ss = Ends ss (percents p) (indexed p) (minuses p) (signs p) (frees p)
 
-in_address : (sh : Shape) (p : Partial) (ss ps : List Symbol) (w : WithAddress sh p ss) → w.parts ≡ ps → EndsAs p ps → EndsAs p ss
-in_address sh p ss ps w e n = same_ends ss (w.values ++ ps) _ _ _ _ _ (w.whole ∙ ap (λ (x : List Symbol). w.values ++ x) e) (longer w.values ps _ _ _ _ _ (clear_option w.is_value) n)
+in_address : (sh : Shape) (p : Partial) (ss ps : List Terminal) (w : WithAddress sh p ss) → w.parts ≡ ps → EndsAs p ps → EndsAs p ss
+in_address sh p ss ps w e n = same_ends ss (w.values ++ ps) _ _ _ _ _ (w.whole ∙ ap (λ (x : List Terminal). w.values ++ x) e) (longer w.values ps _ _ _ _ _ (clear_option w.is_value) n)
 
-spelled_ends : (sh : Shape) (p : Partial) (ss : List Symbol) → (ss ≡ [] → ⊥) → Spelled sh p ss → EndsAs p ss
+spelled_ends : (sh : Shape) (p : Partial) (ss : List Terminal) → (ss ≡ [] → ⊥) → Spelled sh p ss → EndsAs p ss
 spelled_ends sh partial.Nothing ss never h = absurd (never h)
 spelled_ends sh partial.Absent ss never h = absurd (never h.0)
 spelled_ends sh partial.Percent ss never h = same_ends ss _ _ _ _ _ _ h.1 (record { first = _; rest = _; whole = refl; tail = record { percent_is = refl; index_is = refl; minus_is = refl; sign_is = refl; free_is = refl } })
@@ -198,5 +198,5 @@ spelled_ends sh (partial.Scale v b i) ss never h = in_address sh (partial.Scale 
 spelled_ends sh (partial.Scaled v b i n) ss never h = in_address sh (partial.Scaled v b i n) ss _ h h.inside.1 (scaled_part b i n)
 
 -- What has been read says how the symbols end, with or without a star.
-pub spelled_tail : (sh : Shape) (p : Partial) (star : Bool) (ss : List Symbol) → (ss ≡ [] → ⊥) → Spelled sh p ss → Tail (stars star ++ ss) (percents p) (indexed p) (minuses p) (signs p) (frees p)
+pub spelled_tail : (sh : Shape) (p : Partial) (star : Bool) (ss : List Terminal) → (ss ≡ [] → ⊥) → Spelled sh p ss → Tail (stars star ++ ss) (percents p) (indexed p) (minuses p) (signs p) (frees p)
 spelled_tail sh p star ss never h = after (stars star) ss _ _ _ _ _ (clear_stars star) (spelled_ends sh p ss never h)

@@ -4,16 +4,16 @@ use Rattle.std.specs.List.{list_all}
 use Rattle.std.proofs.lemmas.List.{length-append}
 use Rattle.asm_lex.specs.declared.fault.SourceCause.TheVariants as cause
 use Rattle.asm_lex.specs.Words.{Word}
-use Rattle.asm_argument.specs.declared.symbol.Symbol.{Symbol}
-use Rattle.asm_argument.specs.declared.symbol.Symbol.TheVariants as symbol
+use Rattle.asm_argument.specs.declared.symbol.Terminal.{Terminal}
+use Rattle.asm_argument.specs.declared.symbol.Terminal.TheVariants as symbol
 use Rattle.asm_source.specs.declared.tree.Argument.{Argument}
 use Rattle.asm_source.specs.declared.tree.SourceItem.{SourceItem}
 use Rattle.asm_source.specs.declared.tree.Body.TheVariants as body
 use Rattle.asm_parse.specs.declared.directive.Directive.TheVariants as kind
 use Rattle.asm_parse.specs.declared.directive.Head.{Head}
 use Rattle.asm_parse.specs.declared.directive.Head.TheVariants as head
-use Rattle.asm_parse.specs.declared.state.State.{State}
-use Rattle.asm_parse.specs.declared.state.State.TheVariants as state
+use Rattle.asm_parse.specs.declared.state.StatementState.{StatementState}
+use Rattle.asm_parse.specs.declared.state.StatementState.TheVariants as state
 use Rattle.asm_parse.specs.ScopeView.{ScopeView}
 use Rattle.asm_parse.specs.Scope.{pushed}
 use Rattle.asm_argument.specs.Symbols.{symbol_of}
@@ -36,11 +36,11 @@ sees_items : (sc sc2 : ScopeView) (d : Bool) (o : Option (List ℕ)) → Sees sc
 sees_items sc sc2 d None e = ap (λ (x : ScopeView). x.items) (sym e)
 sees_items sc sc2 d (Some n) seen = seen_items seen
 
-separated_items : {h : Head} {sc sc2 : ScopeView} {ss : List Symbol} {args : List Argument} → Separated h sc ss args sc2 → sc2.items ≡ sc.items
+separated_items : {h : Head} {sc sc2 : ScopeView} {ss : List Terminal} {args : List Argument} → Separated h sc ss args sc2 → sc2.items ≡ sc.items
 separated_items Separated.none = refl
 separated_items {h} {sc} {sc2} (Separated.more {ss} {ts} {before} {a} {sc1} sep next) = sees_items sc1 sc2 (defines h (length before)) (symbol_in a.form) next.sees ∙ separated_items sep
 
-has_items : {h : Head} {sc sc2 : ScopeView} {ss : List Symbol} {args : List Argument} → HasArguments h sc ss args sc2 → sc2.items ≡ sc.items
+has_items : {h : Head} {sc sc2 : ScopeView} {ss : List Terminal} {args : List Argument} → HasArguments h sc ss args sc2 → sc2.items ≡ sc.items
 has_items HasArguments.none = refl
 has_items {h} {sc} {sc2} (HasArguments.some {ss} {ts} {before} {a} {sc1} sep next) = sees_items sc1 sc2 (defines h (length before)) (symbol_in a.form) next.sees ∙ separated_items sep
 
@@ -63,13 +63,13 @@ said_not sc sc2 x e same = one_more_item sc2.items x (ap (λ (s : ScopeView). s.
 
 -- ---- the statements that say nothing
 
-pub data Passed (sc : ScopeView) : List Symbol → Type 0 where
+pub data Passed (sc : ScopeView) : List Terminal → Type 0 where
   empty : Passed sc (symbol.End ∷ [])
   label : {n : List ℕ} → Passed sc (symbol.Name n ∷ symbol.Colon ∷ [])
-  named : {n : List ℕ} (ss : List Symbol) → ((line : ℕ) (s : Symbol) → other_behind sc line n s ≡ Ok (sc, skip s)) → is_unlabelled ss ≡ true → list_all is_inner ss ≡ true → Passed sc (symbol.Name n ∷ (ss ++ symbol.End ∷ []))
-  nameless : {s : Symbol} (ss : List Symbol) → sc.skipping ≡ true → is_nameless s ≡ true → list_all is_inner ss ≡ true → Passed sc (s ∷ (ss ++ symbol.End ∷ []))
+  named : {n : List ℕ} (ss : List Terminal) → ((line : ℕ) (s : Terminal) → other_behind sc line n s ≡ Ok (sc, skip s)) → is_unlabelled ss ≡ true → list_all is_inner ss ≡ true → Passed sc (symbol.Name n ∷ (ss ++ symbol.End ∷ []))
+  nameless : {s : Terminal} (ss : List Terminal) → sc.skipping ≡ true → is_nameless s ≡ true → list_all is_inner ss ≡ true → Passed sc (s ∷ (ss ++ symbol.End ∷ []))
 
-pub passed : {sc sc2 : ScopeView} {line : ℕ} {xs : List Symbol} → Statement sc line xs sc2 → sc2 ≡ sc → Passed sc xs
+pub passed : {sc sc2 : ScopeView} {line : ℕ} {xs : List Terminal} → Statement sc line xs sc2 → sc2 ≡ sc → Passed sc xs
 passed Statement.empty e = Passed.empty
 passed {sc} {sc2} {line} (Statement.label {sc2 = mid} {n} sk seen) e = absurd (said_not sc mid (record { line = line; body = body.Label n }) (seen_items seen) e)
 passed {sc} {sc2} {line} (Statement.instruction {sc2 = mid} {n} {ss} {args} go dotted rep has) e = absurd (said_not sc mid (item_of line (head.Instruction false n) args) (has_items has) e)
@@ -82,69 +82,69 @@ passed (Statement.nameless ss sk k h) e = Passed.nameless ss sk k h
 
 -- ---- what they look like
 
-never_nil : (zs : List Symbol) → [] ≡ zs ++ symbol.End ∷ [] → ⊥
+never_nil : (zs : List Terminal) → [] ≡ zs ++ symbol.End ∷ [] → ⊥
 never_nil [] e = absurd cc
 never_nil (z ∷ zs) e = absurd cc
 
-ends_same : (xs ys : List Symbol) → xs ++ symbol.End ∷ [] ≡ ys ++ symbol.End ∷ [] → xs ≡ ys
+ends_same : (xs ys : List Terminal) → xs ++ symbol.End ∷ [] ≡ ys ++ symbol.End ∷ [] → xs ≡ ys
 ends_same [] [] e = refl
 ends_same [] (y ∷ ys) e = let rest : [] ≡ ys ++ symbol.End ∷ [] = cc in absurd (never_nil ys rest)
 ends_same (x ∷ xs) [] e = let rest : xs ++ symbol.End ∷ [] ≡ [] = cc in absurd (never_nil xs (sym rest))
 ends_same (x ∷ xs) (y ∷ ys) e =
     let first : x ≡ y = cc in
     let rest : xs ++ symbol.End ∷ [] ≡ ys ++ symbol.End ∷ [] = cc in
-    ap (λ (z : Symbol). z ∷ xs) first ∙ ap (λ (zs : List Symbol). y ∷ zs) (ends_same xs ys rest)
+    ap (λ (z : Terminal). z ∷ xs) first ∙ ap (λ (zs : List Terminal). y ∷ zs) (ends_same xs ys rest)
 
-colon_first : (ss rest : List Symbol) → is_unlabelled ss ≡ true → ss ++ symbol.End ∷ [] ≡ symbol.Colon ∷ rest → ⊥
+colon_first : (ss rest : List Terminal) → is_unlabelled ss ≡ true → ss ++ symbol.End ∷ [] ≡ symbol.Colon ∷ rest → ⊥
 colon_first [] rest u e = absurd cc
 colon_first (symbol.Colon ∷ ss) rest u e = absurd cc
 colon_first (s ∷ ss) rest u e = absurd cc
 
-name_not : (s : Symbol) (n : List ℕ) → is_nameless s ≡ true → s ≡ symbol.Name n → ⊥
+name_not : (s : Terminal) (n : List ℕ) → is_nameless s ≡ true → s ≡ symbol.Name n → ⊥
 name_not s n k e = let f : is_nameless (symbol.Name n) ≡ true = ap is_nameless (sym e) ∙ k in absurd cc
 
 -- no statement that says nothing is a name with two colons
-two_colons : {sc : ScopeView} {xs : List Symbol} (n : List ℕ) → Passed sc xs → xs ≡ symbol.Name n ∷ symbol.Colon ∷ symbol.Colon ∷ symbol.End ∷ [] → ⊥
+two_colons : {sc : ScopeView} {xs : List Terminal} (n : List ℕ) → Passed sc xs → xs ≡ symbol.Name n ∷ symbol.Colon ∷ symbol.Colon ∷ symbol.End ∷ [] → ⊥
 two_colons n Passed.empty e = absurd cc
 two_colons n Passed.label e = absurd cc
 two_colons n (Passed.named ss go u h) e = let f : ss ++ symbol.End ∷ [] ≡ symbol.Colon ∷ symbol.Colon ∷ symbol.End ∷ [] = cc in colon_first ss (symbol.Colon ∷ symbol.End ∷ []) u f
 two_colons n (Passed.nameless {s} ss sk k h) e = let f : s ≡ symbol.Name n = cc in name_not s n k f
 
 -- behind a name: what may follow, none of it a colon first
-record Behind (sc : ScopeView) (n : List ℕ) (ss : List Symbol) : Type 0 where
-  goes : (line : ℕ) (s : Symbol) → other_behind sc line n s ≡ Ok (sc, skip s)
+record Behind (sc : ScopeView) (n : List ℕ) (ss : List Terminal) : Type 0 where
+  goes : (line : ℕ) (s : Terminal) → other_behind sc line n s ≡ Ok (sc, skip s)
   unlabelled : is_unlabelled ss ≡ true
   inside : list_all is_inner ss ≡ true
 
-two_long : (n m : List ℕ) (t : Symbol) (ss : List Symbol) → symbol.Name m ∷ symbol.Colon ∷ [] ≡ symbol.Name n ∷ t ∷ (ss ++ symbol.End ∷ []) → ⊥
+two_long : (n m : List ℕ) (t : Terminal) (ss : List Terminal) → symbol.Name m ∷ symbol.Colon ∷ [] ≡ symbol.Name n ∷ t ∷ (ss ++ symbol.End ∷ []) → ⊥
 two_long n m t [] e = absurd cc
 two_long n m t (s ∷ ss) e = absurd cc
 
-name_same : (n m : List ℕ) (xs ys : List Symbol) → symbol.Name m ∷ xs ≡ symbol.Name n ∷ ys → (m ≡ n) × (xs ≡ ys)
+name_same : (n m : List ℕ) (xs ys : List Terminal) → symbol.Name m ∷ xs ≡ symbol.Name n ∷ ys → (m ≡ n) × (xs ≡ ys)
 name_same n m xs ys e = (cc, cc)
 
-named_passed : {sc : ScopeView} {xs : List Symbol} (n : List ℕ) (t : Symbol) (ss : List Symbol) → Passed sc xs → xs ≡ symbol.Name n ∷ t ∷ (ss ++ symbol.End ∷ []) → Behind sc n (t ∷ ss)
+named_passed : {sc : ScopeView} {xs : List Terminal} (n : List ℕ) (t : Terminal) (ss : List Terminal) → Passed sc xs → xs ≡ symbol.Name n ∷ t ∷ (ss ++ symbol.End ∷ []) → Behind sc n (t ∷ ss)
 named_passed n t ss Passed.empty e = absurd cc
 named_passed n t ss (Passed.label {n = m}) e = absurd (two_long n m t ss e)
 named_passed {sc} n t ss (Passed.named {n = m} rest go u h) e =
     let same = name_same n m (rest ++ symbol.End ∷ []) (t ∷ (ss ++ symbol.End ∷ [])) e in
     let all : rest ≡ t ∷ ss = ends_same rest (t ∷ ss) same.1 in
     record {
-      goes = subst (λ (k : List ℕ). (line : ℕ) (s : Symbol) → other_behind sc line k s ≡ Ok (sc, skip s)) same.0 go;
+      goes = subst (λ (k : List ℕ). (line : ℕ) (s : Terminal) → other_behind sc line k s ≡ Ok (sc, skip s)) same.0 go;
       unlabelled = ap is_unlabelled (sym all) ∙ u;
       inside = ap (list_all is_inner) (sym all) ∙ h;
     }
 named_passed n t ss (Passed.nameless {s} rest sk k h) e = let f : s ≡ symbol.Name n = cc in absurd (name_not s n k f)
 
-record Front (sc : ScopeView) (s : Symbol) (ss : List Symbol) : Type 0 where
+record Front (sc : ScopeView) (s : Terminal) (ss : List Terminal) : Type 0 where
   skips : sc.skipping ≡ true
   is : is_nameless s ≡ true
   inside : list_all is_inner ss ≡ true
 
-head_same : (s t : Symbol) (xs ys : List Symbol) → s ∷ xs ≡ t ∷ ys → (s ≡ t) × (xs ≡ ys)
+head_same : (s t : Terminal) (xs ys : List Terminal) → s ∷ xs ≡ t ∷ ys → (s ≡ t) × (xs ≡ ys)
 head_same s t xs ys e = (cc, cc)
 
-front_passed : {sc : ScopeView} {xs : List Symbol} (s : Symbol) (ss : List Symbol) → ((n : List ℕ) → s ≡ symbol.Name n → ⊥) → Passed sc xs → xs ≡ s ∷ (ss ++ symbol.End ∷ []) → Front sc s ss
+front_passed : {sc : ScopeView} {xs : List Terminal} (s : Terminal) (ss : List Terminal) → ((n : List ℕ) → s ≡ symbol.Name n → ⊥) → Passed sc xs → xs ≡ s ∷ (ss ++ symbol.End ∷ []) → Front sc s ss
 front_passed s ss other Passed.empty e = absurd (never_nil ss (head_same symbol.End s [] (ss ++ symbol.End ∷ []) e).1)
 front_passed s ss other (Passed.label {n}) e = absurd (other n (sym (head_same (symbol.Name n) s (symbol.Colon ∷ []) (ss ++ symbol.End ∷ []) e).0))
 front_passed s ss other (Passed.named {n} rest go u h) e = absurd (other n (sym (head_same (symbol.Name n) s (rest ++ symbol.End ∷ []) (ss ++ symbol.End ∷ []) e).0))
@@ -158,15 +158,15 @@ front_passed s ss other (Passed.nameless {s = t} rest sk k h) e =
 same_pair : (x y : Pair) → ◌≡◌ {A = Answer} (Ok x) (Ok y) → x ≡ y
 same_pair x y e = cc
 
-skip_inner : (s : Symbol) → is_inner s ≡ true → skip s ≡ state.Skip
+skip_inner : (s : Terminal) → is_inner s ≡ true → skip s ≡ state.Skip
 skip_inner symbol.End h = absurd cc
 skip_inner s h = refl
 
-not_colon : (sc : ScopeView) (line : ℕ) (n : List ℕ) (s : Symbol) (ss : List Symbol) → is_unlabelled (s ∷ ss) ≡ true → step sc (state.Named line n) line s ≡ other_behind sc line n s
+not_colon : (sc : ScopeView) (line : ℕ) (n : List ℕ) (s : Terminal) (ss : List Terminal) → is_unlabelled (s ∷ ss) ≡ true → step sc (state.Named line n) line s ≡ other_behind sc line n s
 not_colon sc line n symbol.Colon ss u = absurd cc
 not_colon sc line n s ss u = refl
 
-start_skips : (sc : ScopeView) (line : ℕ) (s : Symbol) → sc.skipping ≡ true → is_nameless s ≡ true → step sc state.Start line s ≡ Ok (sc, state.Skip)
+start_skips : (sc : ScopeView) (line : ℕ) (s : Terminal) → sc.skipping ≡ true → is_nameless s ≡ true → step sc state.Start line s ≡ Ok (sc, state.Skip)
 start_skips sc line (symbol.Name n) sk k = absurd cc
 start_skips sc line symbol.End sk k = absurd cc
 start_skips sc line symbol.Big sk k = ap (λ (t : Bool). with_scope sc (unless_skipping t cause.BadNumber)) sk
@@ -179,7 +179,7 @@ after_name w v ws sc n fin name b h alive =
     let h2 : read_words sc (state.Named w.line n) (v ∷ ws) ≡ Ok fin = ap (λ (x : Pair). read_words x.0 (ending_at (w.at + length w.bytes) x.1) (v ∷ ws)) (sym first) ∙ one.rest in
     let two = on_word sc (state.Named w.line n) v ws fin refl h2 alive in
     let p = inner_parts (symbol_of v.kind v.bytes) (symbols ws) b.inside in
-    let goes : Ok (sc, state.Skip) ≡ Ok two.next = ap (λ (x : State). Ok (sc, x)) (sym (skip_inner (symbol_of v.kind v.bytes) p.0)) ∙ (sym (b.goes w.line (symbol_of v.kind v.bytes)) ∙ (sym (not_colon sc w.line n (symbol_of v.kind v.bytes) (symbols ws) b.unlabelled) ∙ two.goes)) in
+    let goes : Ok (sc, state.Skip) ≡ Ok two.next = ap (λ (x : StatementState). Ok (sc, x)) (sym (skip_inner (symbol_of v.kind v.bytes) p.0)) ∙ (sym (b.goes w.line (symbol_of v.kind v.bytes)) ∙ (sym (not_colon sc w.line n (symbol_of v.kind v.bytes) (symbols ws) b.unlabelled) ∙ two.goes)) in
     let second : two.next ≡ (sc, state.Skip) = sym (same_pair (sc, state.Skip) two.next goes) in
     skip_stays ws sc fin p.1 (ap (λ (x : Pair). read_words x.0 (ending_at (v.at + length v.bytes) x.1) ws) (sym second) ∙ two.rest) alive
 
@@ -189,22 +189,22 @@ after_front w ws sc fin b h alive =
     let first : one.next ≡ (sc, state.Skip) = sym (same_pair (sc, state.Skip) one.next (sym (start_skips sc w.line (symbol_of w.kind w.bytes) b.skips b.is) ∙ one.goes)) in
     skip_stays ws sc fin b.inside (ap (λ (x : Pair). read_words x.0 (ending_at (w.at + length w.bytes) x.1) ws) (sym first) ∙ one.rest) alive
 
-abbrev pub MaySkip : ScopeView → ℕ → List Symbol → Type 0
-MaySkip sc line ss = (rest : List Symbol) → list_all is_inner rest ≡ true → Statement sc line (ss ++ (rest ++ symbol.End ∷ [])) sc
+abbrev pub MaySkip : ScopeView → ℕ → List Terminal → Type 0
+MaySkip sc line ss = (rest : List Terminal) → list_all is_inner rest ≡ true → Statement sc line (ss ++ (rest ++ symbol.End ∷ [])) sc
 
-is_a_name : (s : Symbol) → ((n : List ℕ) × (s ≡ symbol.Name n)) ⊎ ((n : List ℕ) → s ≡ symbol.Name n → ⊥)
+is_a_name : (s : Terminal) → ((n : List ℕ) × (s ≡ symbol.Name n)) ⊎ ((n : List ℕ) → s ≡ symbol.Name n → ⊥)
 is_a_name (symbol.Name n) = inl (n, refl)
 is_a_name _ = inr (λ n e. absurd cc)
 
 pub skipped_state : (ps : List Word) (sc : ScopeView) (line : ℕ) (fin : Pair) → MaySkip sc line (symbols ps) → read_words sc state.Start ps ≡ Ok fin → doom fin.0 fin.1 ≡ None → fin ≡ (sc, state.Skip)
 skipped_state [] sc line fin may h alive = absurd (two_colons [] (passed (may (symbol.Name [] ∷ symbol.Colon ∷ symbol.Colon ∷ []) refl) refl) refl)
 skipped_state (w ∷ []) sc line fin may h alive = elim (is_a_name (symbol_of w.kind w.bytes)) [
-  | inl (n, e) ↦ absurd (two_colons n (passed (may (symbol.Colon ∷ symbol.Colon ∷ []) refl) refl) (ap (λ (s : Symbol). s ∷ symbol.Colon ∷ symbol.Colon ∷ symbol.End ∷ []) e))
+  | inl (n, e) ↦ absurd (two_colons n (passed (may (symbol.Colon ∷ symbol.Colon ∷ []) refl) refl) (ap (λ (s : Terminal). s ∷ symbol.Colon ∷ symbol.Colon ∷ symbol.End ∷ []) e))
   | inr other ↦ after_front w [] sc fin (front_passed (symbol_of w.kind w.bytes) [] other (passed (may [] refl) refl) refl) h alive
 ]
 skipped_state (w ∷ v ∷ ws) sc line fin may h alive = elim (is_a_name (symbol_of w.kind w.bytes)) [
   | inl (n, e) ↦
       after_name w v ws sc n fin e
-      (named_passed n (symbol_of v.kind v.bytes) (symbols ws) (passed (may [] refl) refl) (ap (λ (s : Symbol). s ∷ symbol_of v.kind v.bytes ∷ (symbols ws ++ symbol.End ∷ [])) e)) h alive
+      (named_passed n (symbol_of v.kind v.bytes) (symbols ws) (passed (may [] refl) refl) (ap (λ (s : Terminal). s ∷ symbol_of v.kind v.bytes ∷ (symbols ws ++ symbol.End ∷ [])) e)) h alive
   | inr other ↦ after_front w (v ∷ ws) sc fin (front_passed (symbol_of w.kind w.bytes) (symbols (v ∷ ws)) other (passed (may [] refl) refl) refl) h alive
 ]

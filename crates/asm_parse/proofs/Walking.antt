@@ -5,11 +5,11 @@ use Rattle.std.specs.Prelude.{◌==◌, ◌&&◌, ◌||◌, ◌+◌, not, is_non
 use Rattle.asm_lex.specs.declared.fault.SourceCause.{SourceCause}
 use Rattle.asm_lex.specs.declared.fault.SourceCause.TheVariants as cause
 use Rattle.asm_lex.specs.Words.{Word}
-use Rattle.asm_argument.specs.declared.symbol.Symbol.{Symbol}
-use Rattle.asm_argument.specs.declared.symbol.Symbol.TheVariants as symbol
+use Rattle.asm_argument.specs.declared.symbol.Terminal.{Terminal}
+use Rattle.asm_argument.specs.declared.symbol.Terminal.TheVariants as symbol
 use Rattle.asm_parse.specs.declared.directive.Directive.{Directive}
-use Rattle.asm_parse.specs.declared.state.State.{State}
-use Rattle.asm_parse.specs.declared.state.State.TheVariants as state
+use Rattle.asm_parse.specs.declared.state.StatementState.{StatementState}
+use Rattle.asm_parse.specs.declared.state.StatementState.TheVariants as state
 use Rattle.asm_parse.specs.ScopeView.{ScopeView}
 use Rattle.asm_parse.specs.Scope.{fresh}
 use Rattle.asm_parse.specs.Directives.{directive_of, is_dotted, is_defining}
@@ -18,7 +18,7 @@ use Rattle.asm_parse.specs.Reading.{Fault, placed, is_longer, ending_at, with_en
 use Rattle.asm_argument.specs.Symbols.{symbol_of}
 use Rattle.asm_parse.specs.Running.{◌>>=◌}
 use Rattle.asm_parse.specs.Statements.{symbols, IsStatement, Statements}
-use Rattle.asm_parse.specs.Refusals.{Ending, IsBeginning, IsNoBeginning, Place, Stands, Reaches, percent_cause, behind_cause, first_name_cause, refused_cause, byte_cause}
+use Rattle.asm_parse.specs.Refusals.{Ending, IsBeginning, IsNoBeginning, StatementPlace, Stands, Reaches, percent_cause, behind_cause, first_name_cause, refused_cause, byte_cause}
 use Rattle.asm_parse.proofs.Words.{read_words}
 use Rattle.asm_parse.proofs.Scopes.{GoodIn, fresh_good}
 use Rattle.asm_parse.proofs.Quiet.{Any, any_next, WordGoes, word_goes, StateIs}
@@ -34,11 +34,11 @@ use Rattle.asm_parse.proofs.Later.{is_later, Leads-on, leads_on}
 use Rattle.asm_parse.proofs.Places.{Extra, Standing, standing, named_fails, behind_is, InSection, section_words}
 
 abbrev Answer : Type 0
-Answer = Result (ScopeView × State) SourceCause
+Answer = Result (ScopeView × StatementState) SourceCause
 
 -- ---- the fault of words and what ends them
 
-abbrev pub fault_in : ScopeView → State → List Word → Ending → Option Fault
+abbrev pub fault_in : ScopeView → StatementState → List Word → Ending → Option Fault
 fault_in sc st [] Ending.whole = None
 fault_in sc st [] (Ending.broken l c) = Some (stopped sc st l c)
 fault_in sc st [] (Ending.comment l) = Some (left_open sc st l)
@@ -49,7 +49,7 @@ some_same a b h = cc
 
 -- ---- where some source begins so, and where none does
 
-pub beginning : (ws : List Word) (sc : ScopeView) (st : State) → AreNamed ws → read_words fresh state.Start ws ≡ Ok (sc, st) → doom sc st ≡ None → IsBeginning ws
+pub beginning : (ws : List Word) (sc : ScopeView) (st : StatementState) → AreNamed ws → read_words fresh state.Start ws ≡ Ok (sc, st) → doom sc st ≡ None → IsBeginning ws
 beginning ws sc st named runs alive =
     let fine = words_fine ws fresh state.Start (sc, st) named (fresh_good IsName) tt runs in
     let d = completed sc st fine.scope fine.state alive in
@@ -58,14 +58,14 @@ beginning ws sc st named runs alive =
 err_not_ok : {A : Type 0} {f : Fault} {y : A} (r : Result A Fault) → r ≡ Err f → r ≡ Ok y → ⊥
 err_not_ok r e h = absurd cc
 
-pub refused_never : (ws : List Word) (w : Word) (sc : ScopeView) (st : State) (f : Fault) → read_words fresh state.Start ws ≡ Ok (sc, st) → placed (fault_line sc st w.line) (next_word sc st w) ≡ Err f → IsNoBeginning (ws ++ w ∷ [])
+pub refused_never : (ws : List Word) (w : Word) (sc : ScopeView) (st : StatementState) (f : Fault) → read_words fresh state.Start ws ≡ Ok (sc, st) → placed (fault_line sc st w.line) (next_word sc st w) ≡ Err f → IsNoBeginning (ws ++ w ∷ [])
 refused_never ws w sc st f runs h = λ more sc2 statements.
     let g : read_words fresh state.Start (ws ++ (w ∷ more)) ≡ Ok (sc2, state.Start) = ap (read_words fresh state.Start) (sym (append_assoc ws (w ∷ []) more)) ∙ statements_run statements in
     let k : read_words sc st (w ∷ more) ≡ Ok (sc2, state.Start) = sym (words_append ws (w ∷ more) fresh state.Start (sc, st) runs) ∙ g in
-    let e : read_words sc st (w ∷ more) ≡ Err f = ap (λ (r : Result (ScopeView × State) Fault). r >>= λ y. read_words y.0 y.1 more) h in
+    let e : read_words sc st (w ∷ more) ≡ Err f = ap (λ (r : Result (ScopeView × StatementState) Fault). r >>= λ y. read_words y.0 y.1 more) h in
     err_not_ok (read_words sc st (w ∷ more)) e k
 
-pub doomed_never : (ws : List Word) (w : Word) (sc : ScopeView) (st : State) (z : ScopeView × State) (l : ℕ) → read_words fresh state.Start ws ≡ Ok (sc, st) → next_word sc st w ≡ Ok z → GoodIn Any z.0 → doom z.0 z.1 ≡ Some l → IsNoBeginning (ws ++ w ∷ [])
+pub doomed_never : (ws : List Word) (w : Word) (sc : ScopeView) (st : StatementState) (z : ScopeView × StatementState) (l : ℕ) → read_words fresh state.Start ws ≡ Ok (sc, st) → next_word sc st w ≡ Ok z → GoodIn Any z.0 → doom z.0 z.1 ≡ Some l → IsNoBeginning (ws ++ w ∷ [])
 doomed_never ws w sc st z l runs h good d = λ more sc2 statements.
     let g : read_words fresh state.Start (ws ++ (w ∷ more)) ≡ Ok (sc2, state.Start) = ap (read_words fresh state.Start) (sym (append_assoc ws (w ∷ []) more)) ∙ statements_run statements in
     let k : read_words sc st (w ∷ more) ≡ Ok (sc2, state.Start) = sym (words_append ws (w ∷ more) fresh state.Start (sc, st) runs) ∙ g in
@@ -75,14 +75,14 @@ doomed_never ws w sc st z l runs h good d = λ more sc2 statements.
 -- ---- what is found
 
 pub data Found (all : List Word) (e : Ending) (f : Fault) : Type 0 where
-  word : {sc : ScopeView} {p : Place} (front rest : List Word) (w : Word) → all ≡ front ++ w ∷ rest → IsBeginning front → IsNoBeginning (front ++ w ∷ []) → Reaches front sc p
+  word : {sc : ScopeView} {p : StatementPlace} (front rest : List Word) (w : Word) → all ≡ front ++ w ∷ rest → IsBeginning front → IsNoBeginning (front ++ w ∷ []) → Reaches front sc p
       → f ≡ (w.line, refused_cause sc p (symbol_of w.kind w.bytes) (symbols rest)) → Found all e f
-  byte : {sc : ScopeView} {p : Place} {line : ℕ} {c : SourceCause} → e ≡ Ending.broken line c → IsBeginning all → Reaches all sc p → f ≡ (line, byte_cause sc p c) → Found all e f
+  byte : {sc : ScopeView} {p : StatementPlace} {line : ℕ} {c : SourceCause} → e ≡ Ending.broken line c → IsBeginning all → Reaches all sc p → f ≡ (line, byte_cause sc p c) → Found all e f
   comment : {line : ℕ} → e ≡ Ending.comment line → IsBeginning all → f ≡ (line, cause.OpenComment) → Found all e f
 
 -- ---- a word that doesn't go on
 
-pub word_fails : (sc : ScopeView) (st : State) (w : Word) (c : SourceCause) → next_word sc st w ≡ Err c → next_step sc st w.line (symbol_of w.kind w.bytes) ≡ Err c
+pub word_fails : (sc : ScopeView) (st : StatementState) (w : Word) (c : SourceCause) → next_word sc st w ≡ Err c → next_step sc st w.line (symbol_of w.kind w.bytes) ≡ Err c
 word_fails sc st w c h = by_test (is_longer st w.at w.kind w.bytes) h
   where
     by_result : (r : Answer) → with_end (w.at + length w.bytes) r ≡ Err c → r ≡ Err c
@@ -108,7 +108,7 @@ stray_fault sc l c [] e f is h = by_end e h
     by_end (Ending.comment k) h = sym (some_same _ f h) ∙ ap (λ (x : SourceCause). (l, x)) (sym (nothing c is))
 stray_fault sc l c (w ∷ ws) e f is h = by_symbol (symbol_of w.kind w.bytes) h
   where
-    behind : (c : SourceCause) (s : Symbol) → is_place c ≡ true → percent_cause c (s ∷ symbols ws) ≡ stray_cause c s
+    behind : (c : SourceCause) (s : Terminal) → is_place c ≡ true → percent_cause c (s ∷ symbols ws) ≡ stray_cause c s
     behind cause.BadOperand (symbol.Name n) is = refl
     behind cause.BadArgument (symbol.Name n) is = refl
     behind cause.BadOperand _ is = refl
@@ -118,7 +118,7 @@ stray_fault sc l c (w ∷ ws) e f is h = by_symbol (symbol_of w.kind w.bytes) h
     percent : (c : SourceCause) → is_place c ≡ true → stray_cause c symbol.Percent ≡ cause.BadRegister
     percent c is = refl
 
-    by_symbol : (s : Symbol) → ◌≡◌ {A = Option Fault} (elim (placed l (with_end (w.at + length w.bytes) (next_step sc (state.Stray l c) w.line s))) [ Ok y ↦ fault_in y.0 y.1 ws e | Err g ↦ Some g ]) (Some f) → f ≡ (l, percent_cause c (s ∷ symbols ws))
+    by_symbol : (s : Terminal) → ◌≡◌ {A = Option Fault} (elim (placed l (with_end (w.at + length w.bytes) (next_step sc (state.Stray l c) w.line s))) [ Ok y ↦ fault_in y.0 y.1 ws e | Err g ↦ Some g ]) (Some f) → f ≡ (l, percent_cause c (s ∷ symbols ws))
     by_symbol symbol.Percent h = sym (some_same _ f h) ∙ ap (λ (x : SourceCause). (l, x)) (sym (behind c symbol.Percent is))
     by_symbol s h = sym (some_same _ f h) ∙ ap (λ (x : SourceCause). (l, x)) (sym (behind c s is))
 
@@ -158,30 +158,30 @@ name_pending sc b l n c d = by_test (is_unknown sc n) refl
         let some : is_none (directive_of n) ≡ false = defining_some (directive_of n) (and_third (is_dotted n) (not sc.skipping) (is_defining (directive_of n)) _ lacks) in
         rw (e, lacks, some) refl
 
-longer_alive : (sc : ScopeView) (st : State) (w : Word) (l : ℕ) → is_longer st w.at w.kind w.bytes ≡ true → doom sc (longer st (w.at + length w.bytes) w.bytes) ≡ Some l → ⊥
+longer_alive : (sc : ScopeView) (st : StatementState) (w : Word) (l : ℕ) → is_longer st w.at w.kind w.bytes ≡ true → doom sc (longer st (w.at + length w.bytes) w.bytes) ≡ Some l → ⊥
 longer_alive sc (state.Sectioned b n m e) w l h d = absurd cc
 longer_alive sc _ w l h d = absurd cc
 
-later_alive : (sc : ScopeView) (st : State) (e l : ℕ) → is_later st ≡ true → doom sc (ending_at e st) ≡ Some l → ⊥
+later_alive : (sc : ScopeView) (st : StatementState) (e l : ℕ) → is_later st ≡ true → doom sc (ending_at e st) ≡ Some l → ⊥
 later_alive sc (state.Named b n) e l h d = absurd cc
 later_alive sc (state.Stray k c) e l h d = absurd cc
 later_alive sc state.Start e l h d = absurd cc
 later_alive sc _ e l h d = absurd cc
 
-pub data Doomed (sc : ScopeView) (st : State) (w : Word) (z : ScopeView × State) : Type 0 where
+pub data Doomed (sc : ScopeView) (st : StatementState) (w : Word) (z : ScopeView × StatementState) : Type 0 where
   name : (n : List ℕ) → st ≡ state.Start → symbol_of w.kind w.bytes ≡ symbol.Name n → z ≡ (sc, state.Named w.line n) → Doomed sc st w z
   astray : (c : SourceCause) → symbol_of w.kind w.bytes ≡ symbol.Percent → step sc st w.line symbol.Percent ≡ Err c → is_place c ≡ true → z ≡ (fresh, state.Stray (fault_line sc st w.line) c) → Doomed sc st w z
 
-pub doomed_word : (sc : ScopeView) (st : State) (w : Word) (z : ScopeView × State) (l : ℕ) → next_word sc st w ≡ Ok z → doom z.0 z.1 ≡ Some l → Doomed sc st w z
+pub doomed_word : (sc : ScopeView) (st : StatementState) (w : Word) (z : ScopeView × StatementState) (l : ℕ) → next_word sc st w ≡ Ok z → doom z.0 z.1 ≡ Some l → Doomed sc st w z
 doomed_word sc st w z l h d = elim (word_goes sc st w z h) [
-  | WordGoes.on t k ↦ absurd (longer_alive sc st w l t (sym (ap (λ (x : ScopeView × State). doom x.0 x.1) k) ∙ d))
+  | WordGoes.on t k ↦ absurd (longer_alive sc st w l t (sym (ap (λ (x : ScopeView × StatementState). doom x.0 x.1) k) ∙ d))
   | WordGoes.as_symbol y t f k ↦ by_lead y k (leads_on sc st w.line (symbol_of w.kind w.bytes) y f)
 ]
   where
-    by_lead : (y : ScopeView × State) → z ≡ (y.0, ending_at (w.at + length w.bytes) y.1) → Leads-on sc st w.line (symbol_of w.kind w.bytes) y → Doomed sc st w z
-    by_lead y k (Leads-on.later e) = absurd (later_alive y.0 y.1 (w.at + length w.bytes) l e (sym (ap (λ (x : ScopeView × State). doom x.0 x.1) k) ∙ d))
-    by_lead y k (Leads-on.name n s e x) = Doomed.name n s e (k ∙ ap (λ (q : ScopeView × State). (q.0, ending_at (w.at + length w.bytes) q.1)) x)
-    by_lead y k (Leads-on.astray c s e p x) = Doomed.astray c s e p (k ∙ ap (λ (q : ScopeView × State). (q.0, ending_at (w.at + length w.bytes) q.1)) x)
+    by_lead : (y : ScopeView × StatementState) → z ≡ (y.0, ending_at (w.at + length w.bytes) y.1) → Leads-on sc st w.line (symbol_of w.kind w.bytes) y → Doomed sc st w z
+    by_lead y k (Leads-on.later e) = absurd (later_alive y.0 y.1 (w.at + length w.bytes) l e (sym (ap (λ (x : ScopeView × StatementState). doom x.0 x.1) k) ∙ d))
+    by_lead y k (Leads-on.name n s e x) = Doomed.name n s e (k ∙ ap (λ (q : ScopeView × StatementState). (q.0, ending_at (w.at + length w.bytes) q.1)) x)
+    by_lead y k (Leads-on.astray c s e p x) = Doomed.astray c s e p (k ∙ ap (λ (q : ScopeView × StatementState). (q.0, ending_at (w.at + length w.bytes) q.1)) x)
 
 abbrev placed_in : ℕ → List Word → Ending → Answer → Option Fault
 placed_in line ws e r = elim (placed line r) [ Ok y ↦ fault_in y.0 y.1 ws e | Err f ↦ Some f ]
@@ -198,18 +198,18 @@ name_fault sc b n [] (Ending.comment l) f good d h =
     sym (some_same (left_open sc (state.Named b n) l) f h) ∙ (ap (λ (x : Option ℕ). open_at_end x (pending sc (state.Named b n)) l) d ∙ ap (λ (x : SourceCause). (b, x)) (name_pending sc b b n cause.OpenComment d))
 name_fault sc b n (w ∷ ws) e f good d h = by_result (next_word sc (state.Named b n) w) refl (sym (ap (λ (x : Option ℕ). placed_in (or_line x w.line) ws e (next_word sc (state.Named b n) w)) d) ∙ h)
   where
-    by_doomed : (z : ScopeView × State) → Doomed sc (state.Named b n) w z → fault_in z.0 z.1 ws e ≡ Some f → f ≡ (b, behind_cause sc (Place.named n) (symbol_of w.kind w.bytes) (symbols ws))
+    by_doomed : (z : ScopeView × StatementState) → Doomed sc (state.Named b n) w z → fault_in z.0 z.1 ws e ≡ Some f → f ≡ (b, behind_cause sc (StatementPlace.named n) (symbol_of w.kind w.bytes) (symbols ws))
     by_doomed z (Doomed.name m s k x) g = absurd (named_start b n s)
     by_doomed z (Doomed.astray c s k p x) g =
         let at_b : z ≡ (fresh, state.Stray b c) = x ∙ ap (λ (o : Option ℕ). (fresh, state.Stray (or_line o w.line) c)) d in
-        let fault : f ≡ (b, percent_cause c (symbols ws)) = stray_fault fresh b c ws e f p (sym (ap (λ (q : ScopeView × State). fault_in q.0 q.1 ws e) at_b) ∙ g) in
-        let same : behind_cause sc (Place.named n) (symbol_of w.kind w.bytes) (symbols ws) ≡ percent_cause c (symbols ws) =
-        ap (λ (y : Symbol). behind_cause sc (Place.named n) y (symbols ws)) s ∙ ap (λ (y : SourceCause). percent_cause y (symbols ws)) (named_fails sc b n symbol.Percent c k) in
+        let fault : f ≡ (b, percent_cause c (symbols ws)) = stray_fault fresh b c ws e f p (sym (ap (λ (q : ScopeView × StatementState). fault_in q.0 q.1 ws e) at_b) ∙ g) in
+        let same : behind_cause sc (StatementPlace.named n) (symbol_of w.kind w.bytes) (symbols ws) ≡ percent_cause c (symbols ws) =
+        ap (λ (y : Terminal). behind_cause sc (StatementPlace.named n) y (symbols ws)) s ∙ ap (λ (y : SourceCause). percent_cause y (symbols ws)) (named_fails sc b n symbol.Percent c k) in
         fault ∙ ap (λ (y : SourceCause). (b, y)) (sym same)
 
     by_result : (r : Answer) → next_word sc (state.Named b n) w ≡ r → placed_in b ws e r ≡ Some f → f ≡ (b, first_name_cause sc n (symbol_of w.kind w.bytes ∷ symbols ws))
     by_result (Err c) k g =
-        let same = behind_is sc (Place.named n) sc (state.Named b n) w.line (symbol_of w.kind w.bytes) (symbols ws) c (λ x y. named_fails sc b n (symbol_of w.kind w.bytes) x y) (word_fails sc (state.Named b n) w c k) in
+        let same = behind_is sc (StatementPlace.named n) sc (state.Named b n) w.line (symbol_of w.kind w.bytes) (symbols ws) c (λ x y. named_fails sc b n (symbol_of w.kind w.bytes) x y) (word_fails sc (state.Named b n) w c k) in
         sym (some_same (b, c) f g) ∙ ap (λ (x : SourceCause). (b, x)) (sym same)
     by_result (Ok z) k g =
         let next = any_next sc (state.Named b n) w z good k in

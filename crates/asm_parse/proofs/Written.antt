@@ -9,7 +9,7 @@ use Rattle.asm_lex.specs.declared.token.TokenKind.TheVariants as kind
 use Rattle.asm_lex.specs.Bytes.{class_of, is_source, is_digit, is_letter, is_word}
 use Rattle.asm_lex.specs.Words.{Word}
 use Rattle.asm_lex.specs.Source.{IsGap, IsToken, lines_after, Lexed}
-use Rattle.asm_argument.specs.declared.symbol.Symbol.{Symbol}
+use Rattle.asm_argument.specs.declared.symbol.Terminal.{Terminal}
 use Rattle.asm_argument.specs.Symbols.{symbol_of}
 use Rattle.asm_parse.specs.Statements.{symbols}
 
@@ -25,7 +25,7 @@ abbrev pub words_at : ℕ → ℕ → List Piece → List Word
 words_at at line [] = []
 words_at at line (p ∷ ps) = record { kind = p.kind; at = at; line = line; bytes = p.bytes } ∷ words_at (at + length p.bytes + length {A = ℕ} (32 ∷ [])) (lines_after (lines_after line p.bytes) (32 ∷ [])) ps
 
-abbrev pub symbols_of : List Piece → List Symbol
+abbrev pub symbols_of : List Piece → List Terminal
 symbols_of [] = []
 symbols_of (p ∷ ps) = symbol_of p.kind p.bytes ∷ symbols_of ps
 
@@ -39,11 +39,11 @@ pieces-append (p ∷ ps) qs h k = (h.0, pieces-append ps qs h.1 k)
 
 pub symbols_of-append : (ps qs : List Piece) → symbols_of (ps ++ qs) ≡ symbols_of ps ++ symbols_of qs
 symbols_of-append [] qs = refl
-symbols_of-append (p ∷ ps) qs = ap (λ (x : List Symbol). symbol_of p.kind p.bytes ∷ x) (symbols_of-append ps qs)
+symbols_of-append (p ∷ ps) qs = ap (λ (x : List Terminal). symbol_of p.kind p.bytes ∷ x) (symbols_of-append ps qs)
 
 pub symbols-words_at : (ps : List Piece) (at line : ℕ) → symbols (words_at at line ps) ≡ symbols_of ps
 symbols-words_at [] at line = refl
-symbols-words_at (p ∷ ps) at line = ap (λ (x : List Symbol). symbol_of p.kind p.bytes ∷ x) (symbols-words_at ps _ _)
+symbols-words_at (p ∷ ps) at line = ap (λ (x : List Terminal). symbol_of p.kind p.bytes ∷ x) (symbols-words_at ps _ _)
 
 blank_is : class_of 32 ≡ class.Blank
 unfolding class_of

@@ -8,10 +8,10 @@ use Rattle.asm_lex.specs.declared.token.Token.{Token}
 use Rattle.asm_lex.specs.declared.token.TokenKind.{TokenKind}
 use Rattle.asm_lex.specs.declared.token.TokenKind.TheVariants as kind
 use Rattle.asm_argument.specs.Symbols.{symbol_of}
-use Rattle.asm_parse.specs.declared.state.State.{State}
-use Rattle.asm_parse.specs.declared.state.State.TheVariants as state
-use Rattle.asm_parse.specs.declared.stop.Stop.{Stop}
-use Rattle.asm_parse.specs.declared.stop.Stop.TheVariants as stop
+use Rattle.asm_parse.specs.declared.state.StatementState.{StatementState}
+use Rattle.asm_parse.specs.declared.state.StatementState.TheVariants as state
+use Rattle.asm_parse.specs.declared.stop.StepFault.{StepFault}
+use Rattle.asm_parse.specs.declared.stop.StepFault.TheVariants as stop
 use Rattle.asm_parse.specs.ScopeView.{ScopeView}
 use Rattle.asm_parse.specs.Statement.{next_step, fault_line}
 use Rattle.asm_lex.specs.Words.{Word, word_of}
@@ -27,26 +27,26 @@ is_part kind.End bytes = false
 is_part (kind.Mark m) bytes = not (m == 44)
 is_part k bytes = list_all is_inside bytes
 
-abbrev pub is_longer : State → ℕ → TokenKind → List ℕ → Bool
+abbrev pub is_longer : StatementState → ℕ → TokenKind → List ℕ → Bool
 is_longer (state.Sectioned b n m e) at k bytes = (e == at) && is_part k bytes
 is_longer st at k bytes = false
 
 -- the name with these bytes behind it, which end at this place
-abbrev pub longer : State → ℕ → List ℕ → State
+abbrev pub longer : StatementState → ℕ → List ℕ → StatementState
 longer (state.Sectioned b n m e) end bytes = state.Sectioned b n (m ++ bytes) end
 longer st end bytes = st
 
 -- where the name's first token ends
-abbrev pub ending_at : ℕ → State → State
+abbrev pub ending_at : ℕ → StatementState → StatementState
 ending_at end (state.Sectioned b n m e) = state.Sectioned b n m end
 ending_at end st = st
 
-abbrev pub with_end : ℕ → Result (ScopeView × State) SourceCause → Result (ScopeView × State) SourceCause
+abbrev pub with_end : ℕ → Result (ScopeView × StatementState) SourceCause → Result (ScopeView × StatementState) SourceCause
 with_end end (Ok x) = Ok (x.0, ending_at end x.1)
 with_end end (Err c) = Err c
 
 -- the next word of a source
-abbrev pub next_word : ScopeView → State → Word → Result (ScopeView × State) SourceCause
+abbrev pub next_word : ScopeView → StatementState → Word → Result (ScopeView × StatementState) SourceCause
 next_word sc st w =
     if is_longer st w.at w.kind w.bytes then Ok (sc, longer st (w.at + length w.bytes) w.bytes)
     else with_end (w.at + length w.bytes) (next_step sc st w.line (symbol_of w.kind w.bytes))
@@ -54,20 +54,20 @@ next_word sc st w =
 abbrev pub Fault : Type 0
 Fault = ℕ × SourceCause
 
-abbrev pub placed : ℕ → Result (ScopeView × State) SourceCause → Result (ScopeView × State) Fault
+abbrev pub placed : ℕ → Result (ScopeView × StatementState) SourceCause → Result (ScopeView × StatementState) Fault
 placed line (Ok r) = Ok r
 placed line (Err c) = Err (line, c)
 
-abbrev pub fed : ScopeView → State → List ℕ → ℕ → Option Token → Result (ScopeView × State) Fault
+abbrev pub fed : ScopeView → StatementState → List ℕ → ℕ → Option Token → Result (ScopeView × StatementState) Fault
 fed sc st seen line None = Ok (sc, st)
 fed sc st seen line (Some t) = placed (fault_line sc st line) (next_word sc st (word_of seen line t))
 
-abbrev pub at_line : ℕ → Result State Stop → Result State SourceFault
+abbrev pub at_line : ℕ → Result StatementState StepFault → Result StatementState SourceFault
 at_line line (Ok st) = Ok st
 at_line line (Err (stop.Cause c)) = Err (fault.At line c)
 at_line line (Err stop.Memory) = Err fault.Memory
 
-abbrev pub Feeds : ScopeView → Result State SourceFault → Result (ScopeView × State) Fault → Type 0
+abbrev pub Feeds : ScopeView → Result StatementState SourceFault → Result (ScopeView × StatementState) Fault → Type 0
 Feeds new (Ok st) r = r ≡ Ok (new, st)
 Feeds new (Err (fault.At l c)) r = r ≡ Err (l, c)
 Feeds new (Err fault.Memory) r = Unit {0}

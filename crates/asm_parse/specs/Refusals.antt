@@ -11,8 +11,8 @@ use Rattle.asm_lex.specs.Bytes.{class_of}
 use Rattle.asm_lex.specs.Words.{Word}
 use Rattle.asm_lex.specs.Source.{IsGap, IsToken, lines_after}
 use Rattle.asm_lex.specs.Refusals.{is_unclosed, IsWrong}
-use Rattle.asm_argument.specs.declared.symbol.Symbol.{Symbol}
-use Rattle.asm_argument.specs.declared.symbol.Symbol.TheVariants as symbol
+use Rattle.asm_argument.specs.declared.symbol.Terminal.{Terminal}
+use Rattle.asm_argument.specs.declared.symbol.Terminal.TheVariants as symbol
 use Rattle.asm_argument.specs.declared.operand.Shape.{Shape}
 use Rattle.asm_source.specs.declared.tree.Argument.{Argument}
 use Rattle.asm_source.specs.declared.tree.SourceItem.{SourceItem}
@@ -60,36 +60,36 @@ IsNoBeginning ws = (more : List Word) (sc : ScopeView) → Statements fresh (ws 
 -- ---- where a word stands in its statement
 
 -- What stands in front of the arguments of a directive or an instruction.
-pub data Leads (sc : ScopeView) : Head → List Symbol → Type 0 where
+pub data Leads (sc : ScopeView) : Head → List Terminal → Type 0 where
   instruction : {n : List ℕ} → is_passed sc n ≡ false → is_dotted n ≡ false → is_rep n ≡ false → Leads sc (head.Instruction false n) (symbol.Name n ∷ [])
   repeated : {r n : List ℕ} → is_passed sc r ≡ false → is_dotted r ≡ false → is_rep r ≡ true → Leads sc (head.Instruction true n) (symbol.Name r ∷ symbol.Name n ∷ [])
   directive : {n : List ℕ} {k : Directive} → is_passed sc n ≡ false → is_dotted n ≡ true → directive_of n ≡ Some k → has_list k ≡ true → Leads sc (head.Directive k n) (symbol.Name n ∷ [])
 
 -- Nothing, or what an argument of this shape begins with.
-pub data Opens : Option Shape → List Symbol → Type 0 where
+pub data Opens : Option Shape → List Terminal → Type 0 where
   nothing : {o : Option Shape} → Opens o []
-  some : {sh : Shape} {ss : List Symbol} (more : List Symbol) (a : Argument) → IsArgument sh (ss ++ more) a → Opens (Some sh) ss
+  some : {sh : Shape} {ss : List Terminal} (more : List Terminal) (a : Argument) → IsArgument sh (ss ++ more) a → Opens (Some sh) ss
 
 -- At the statement's beginning; behind its first name; behind the name of a section; where any token may stand up to the statement's end;
 -- or behind these symbols of an argument, these whole arguments in front of it, and what is said then.
-pub data Place : Type 0 where
-  first : Place
-  named : List ℕ → Place
-  section : Place
-  skipped : Place
-  argument : Head → List Argument → ScopeView → List Symbol → Place
+pub data StatementPlace : Type 0 where
+  first : StatementPlace
+  named : List ℕ → StatementPlace
+  section : StatementPlace
+  skipped : StatementPlace
+  argument : Head → List Argument → ScopeView → List Terminal → StatementPlace
 
 -- The symbols of a statement so far, more than one where arguments are read, lead to this place.
-pub data Stands (sc : ScopeView) : List Symbol → Place → Type 0 where
-  first : Stands sc [] Place.first
-  named : {n : List ℕ} → Stands sc (symbol.Name n ∷ []) (Place.named n)
-  section : {n m : List ℕ} (ss : List Symbol) → is_passed sc n ≡ false → is_dotted n ≡ true → directive_of n ≡ Some kind.Section → is_section m ≡ true → list_all is_inner ss ≡ true → Stands sc (symbol.Name n ∷ symbol.Name m ∷ ss) Place.section
-  skipped : {line : ℕ} {ss : List Symbol} → ((rest : List Symbol) → list_all is_inner rest ≡ true → Statement sc line (ss ++ (rest ++ symbol.End ∷ [])) sc) → Stands sc ss Place.skipped
-  argument : {h : Head} {sc2 : ScopeView} {done : List Argument} (s t : Symbol) (ss lead front arg : List Symbol) → s ∷ t ∷ ss ≡ lead ++ (front ++ arg) → Leads sc h lead → Separated h sc front done sc2 → Opens (shape_at h (length done)) arg
-      → Stands sc (s ∷ t ∷ ss) (Place.argument h done sc2 arg)
+pub data Stands (sc : ScopeView) : List Terminal → StatementPlace → Type 0 where
+  first : Stands sc [] StatementPlace.first
+  named : {n : List ℕ} → Stands sc (symbol.Name n ∷ []) (StatementPlace.named n)
+  section : {n m : List ℕ} (ss : List Terminal) → is_passed sc n ≡ false → is_dotted n ≡ true → directive_of n ≡ Some kind.Section → is_section m ≡ true → list_all is_inner ss ≡ true → Stands sc (symbol.Name n ∷ symbol.Name m ∷ ss) StatementPlace.section
+  skipped : {line : ℕ} {ss : List Terminal} → ((rest : List Terminal) → list_all is_inner rest ≡ true → Statement sc line (ss ++ (rest ++ symbol.End ∷ [])) sc) → Stands sc ss StatementPlace.skipped
+  argument : {h : Head} {sc2 : ScopeView} {done : List Argument} (s t : Terminal) (ss lead front arg : List Terminal) → s ∷ t ∷ ss ≡ lead ++ (front ++ arg) → Leads sc h lead → Separated h sc front done sc2 → Opens (shape_at h (length done)) arg
+      → Stands sc (s ∷ t ∷ ss) (StatementPlace.argument h done sc2 arg)
 
 -- These words are whole statements, which say this, and others of a statement that lead to this place.
-pub record Reaches (ws : List Word) (sc : ScopeView) (p : Place) : Type 0 where
+pub record Reaches (ws : List Word) (sc : ScopeView) (p : StatementPlace) : Type 0 where
   pub before : List Word
   pub begun : List Word
   pub whole : ws ≡ before ++ begun
@@ -98,48 +98,48 @@ pub record Reaches (ws : List Word) (sc : ScopeView) (p : Place) : Type 0 where
 
 -- ---- the causes
 
-abbrev pub last_of : List Symbol → Option Symbol
+abbrev pub last_of : List Terminal → Option Terminal
 last_of [] = None
 last_of (s ∷ []) = Some s
 last_of (s ∷ t ∷ ss) = last_of (t ∷ ss)
 
-abbrev pub is_empty : List Symbol → Bool
+abbrev pub is_empty : List Terminal → Bool
 is_empty [] = true
 is_empty (s ∷ ss) = false
 
 -- `%`: a register has to follow
-abbrev pub is_percent : Option Symbol → Bool
+abbrev pub is_percent : Option Terminal → Bool
 is_percent (Some symbol.Percent) = true
 is_percent _ = false
 
 -- `-`: a number has to follow that isn't above 2^31
-abbrev pub is_minus : Option Symbol → Bool
+abbrev pub is_minus : Option Terminal → Bool
 is_minus (Some symbol.Minus) = true
 is_minus _ = false
 
-abbrev pub is_sign : Option Symbol → Bool
+abbrev pub is_sign : Option Terminal → Bool
 is_sign (Some symbol.Minus) = true
 is_sign (Some symbol.Plus) = true
 is_sign _ = false
 
 -- where an operand's symbol may stand: first, or behind `$` or `*`
-abbrev pub is_for_symbol : Option Symbol → Bool
+abbrev pub is_for_symbol : Option Terminal → Bool
 is_for_symbol None = true
 is_for_symbol (Some symbol.Dollar) = true
 is_for_symbol (Some symbol.Star) = true
 is_for_symbol _ = false
 
 -- `,%index,`: a scale has to follow
-abbrev pub is_index : List Symbol → Bool
+abbrev pub is_index : List Terminal → Bool
 is_index (symbol.Comma ∷ symbol.Percent ∷ symbol.Name i ∷ symbol.Comma ∷ []) = true
 is_index _ = false
 
-abbrev pub ends_index : List Symbol → Bool
+abbrev pub ends_index : List Terminal → Bool
 ends_index [] = false
 ends_index (s ∷ ss) = is_index (s ∷ ss) || ends_index ss
 
 -- a token with which no argument begins
-abbrev pub begins_none : Symbol → Bool
+abbrev pub begins_none : Terminal → Bool
 begins_none symbol.Plus = true
 begins_none symbol.Close = true
 begins_none symbol.Colon = true
@@ -147,12 +147,12 @@ begins_none symbol.At = true
 begins_none _ = false
 
 -- a token that may not stand there, where no other cause is
-abbrev pub other_cause : Symbol → SourceCause
+abbrev pub other_cause : Terminal → SourceCause
 other_cause symbol.Big = cause.BadNumber
 other_cause s = cause.BadOperand
 
 -- a token in the place of a directive's argument
-abbrev pub argument_missing : Symbol → SourceCause
+abbrev pub argument_missing : Terminal → SourceCause
 argument_missing symbol.Big = cause.BadNumber
 argument_missing s = if begins_none s then cause.BadOperand else cause.BadArgument
 
@@ -161,7 +161,7 @@ abbrev pub name_cause : ScopeView → Bool → List ℕ → SourceCause
 name_cause sc def n = if def && holds sc.defined n then cause.DoubledLabel else cause.TooManySymbols
 
 -- in an operand of an instruction
-abbrev pub operand_cause : List Symbol → Symbol → SourceCause
+abbrev pub operand_cause : List Terminal → Terminal → SourceCause
 operand_cause arg symbol.Big = cause.BadNumber
 operand_cause arg (symbol.Number n) =
     if is_percent (last_of arg) then cause.BadRegister
@@ -179,7 +179,7 @@ takes_name None = false
 takes_name (Some sh) = takes_names sh
 
 -- in an argument of a directive
-abbrev pub value_cause : Head → List Argument → ScopeView → List Symbol → Symbol → SourceCause
+abbrev pub value_cause : Head → List Argument → ScopeView → List Terminal → Terminal → SourceCause
 value_cause h done sc [] (symbol.Name n) = if takes_name (shape_at h (length done)) then name_cause sc (defines h (length done)) n else cause.BadArgument
 value_cause h done sc [] s = argument_missing s
 value_cause h done sc (t ∷ ts) symbol.Big = cause.BadNumber
@@ -188,17 +188,17 @@ value_cause h done sc (t ∷ ts) symbol.Comma = if is_sign (last_of (t ∷ ts)) 
 value_cause h done sc (t ∷ ts) symbol.End = if is_sign (last_of (t ∷ ts)) then cause.BadOperand else cause.BadArgument
 value_cause h done sc (t ∷ ts) s = cause.BadOperand
 
-abbrev pub in_argument : Head → List Argument → ScopeView → List Symbol → Symbol → SourceCause
+abbrev pub in_argument : Head → List Argument → ScopeView → List Terminal → Terminal → SourceCause
 in_argument h done sc arg s = if is_instruction h then operand_cause arg s else value_cause h done sc arg s
 
 -- behind the name of a directive
-abbrev pub directive_cause : Option Directive → ScopeView → List ℕ → Symbol → SourceCause
+abbrev pub directive_cause : Option Directive → ScopeView → List ℕ → Terminal → SourceCause
 directive_cause None sc n s = cause.UnknownDirective
 directive_cause (Some kind.Section) sc n s = argument_missing s
 directive_cause (Some k) sc n s = value_cause (head.Directive k n) [] sc [] s
 
 -- behind the first name of a statement
-abbrev pub named_cause : ScopeView → List ℕ → Symbol → SourceCause
+abbrev pub named_cause : ScopeView → List ℕ → Terminal → SourceCause
 named_cause sc n symbol.Colon = name_cause sc true n
 named_cause sc n s =
     if is_dotted n then directive_cause (directive_of n) sc n s
@@ -206,39 +206,39 @@ named_cause sc n s =
     else operand_cause [] s
 
 -- the cause of a word that is refused in this place
-abbrev pub cause_at : ScopeView → Place → Symbol → SourceCause
-cause_at sc Place.first s = other_cause s
-cause_at sc (Place.named n) s = named_cause sc n s
-cause_at sc Place.section s = other_cause s
-cause_at sc Place.skipped s = other_cause s
-cause_at sc (Place.argument h done sc2 arg) s = in_argument h done sc2 arg s
+abbrev pub cause_at : ScopeView → StatementPlace → Terminal → SourceCause
+cause_at sc StatementPlace.first s = other_cause s
+cause_at sc (StatementPlace.named n) s = named_cause sc n s
+cause_at sc StatementPlace.section s = other_cause s
+cause_at sc StatementPlace.skipped s = other_cause s
+cause_at sc (StatementPlace.argument h done sc2 arg) s = in_argument h done sc2 arg s
 
 -- Where a `%` may not stand its own cause comes first: no register stands behind it.
-abbrev pub percent_cause : SourceCause → List Symbol → SourceCause
+abbrev pub percent_cause : SourceCause → List Terminal → SourceCause
 percent_cause cause.BadOperand (symbol.Name n ∷ rest) = if is_register n then cause.BadOperand else cause.BadRegister
 percent_cause cause.BadArgument (symbol.Name n ∷ rest) = if is_register n then cause.BadArgument else cause.BadRegister
 percent_cause cause.BadOperand rest = cause.BadRegister
 percent_cause cause.BadArgument rest = cause.BadRegister
 percent_cause c rest = c
 
-abbrev pub behind_cause : ScopeView → Place → Symbol → List Symbol → SourceCause
+abbrev pub behind_cause : ScopeView → StatementPlace → Terminal → List Terminal → SourceCause
 behind_cause sc p symbol.Percent rest = percent_cause (cause_at sc p symbol.Percent) rest
 behind_cause sc p s rest = cause_at sc p s
 
 -- a name with which no statement begins: by the symbol behind it, it is no label or no directive
-abbrev pub first_name_cause : ScopeView → List ℕ → List Symbol → SourceCause
+abbrev pub first_name_cause : ScopeView → List ℕ → List Terminal → SourceCause
 first_name_cause sc n [] = if is_none (directive_of n) then cause.UnknownDirective else cause.TooManySymbols
-first_name_cause sc n (s ∷ rest) = behind_cause sc (Place.named n) s rest
+first_name_cause sc n (s ∷ rest) = behind_cause sc (StatementPlace.named n) s rest
 
 -- The cause of a word in this place that is refused, with these symbols behind it.
-abbrev pub refused_cause : ScopeView → Place → Symbol → List Symbol → SourceCause
-refused_cause sc Place.first (symbol.Name n) rest = first_name_cause sc n rest
+abbrev pub refused_cause : ScopeView → StatementPlace → Terminal → List Terminal → SourceCause
+refused_cause sc StatementPlace.first (symbol.Name n) rest = first_name_cause sc n rest
 refused_cause sc p s rest = behind_cause sc p s rest
 
 -- Where a byte can't go on with any token, what stands before may have an earlier cause: no register behind a `%`, or an unknown directive.
-abbrev pub byte_cause : ScopeView → Place → SourceCause → SourceCause
-byte_cause sc (Place.named n) c = if is_dotted n && not sc.skipping && is_none (directive_of n) then cause.UnknownDirective else c
-byte_cause sc (Place.argument h done sc2 arg) c = if is_percent (last_of arg) then cause.BadRegister else c
+abbrev pub byte_cause : ScopeView → StatementPlace → SourceCause → SourceCause
+byte_cause sc (StatementPlace.named n) c = if is_dotted n && not sc.skipping && is_none (directive_of n) then cause.UnknownDirective else c
+byte_cause sc (StatementPlace.argument h done sc2 arg) c = if is_percent (last_of arg) then cause.BadRegister else c
 byte_cause sc p c = c
 
 -- ---- a refusal
@@ -246,9 +246,9 @@ byte_cause sc p c = c
 -- The text is refused in this line for this cause: at the first word with which no source goes on,
 -- or where all words can go on, at the byte or comment that ends them.
 pub data Refused (text : List ℕ) : ℕ → SourceCause → Type 0 where
-  word : {sc : ScopeView} {p : Place} {e : Ending} (ws rest : List Word) (w : Word) → Worded 0 1 (text ++ 10 ∷ []) (ws ++ w ∷ rest) e → IsBeginning ws → IsNoBeginning (ws ++ w ∷ []) → Reaches ws sc p
+  word : {sc : ScopeView} {p : StatementPlace} {e : Ending} (ws rest : List Word) (w : Word) → Worded 0 1 (text ++ 10 ∷ []) (ws ++ w ∷ rest) e → IsBeginning ws → IsNoBeginning (ws ++ w ∷ []) → Reaches ws sc p
       → Refused text w.line (refused_cause sc p (symbol_of w.kind w.bytes) (symbols rest))
-  byte : {sc : ScopeView} {p : Place} {line : ℕ} {c : SourceCause} (ws : List Word) → Worded 0 1 (text ++ 10 ∷ []) ws (Ending.broken line c) → IsBeginning ws → Reaches ws sc p
+  byte : {sc : ScopeView} {p : StatementPlace} {line : ℕ} {c : SourceCause} (ws : List Word) → Worded 0 1 (text ++ 10 ∷ []) ws (Ending.broken line c) → IsBeginning ws → Reaches ws sc p
       → Refused text line (byte_cause sc p c)
   comment : {line : ℕ} (ws : List Word) → Worded 0 1 (text ++ 10 ∷ []) ws (Ending.comment line) → IsBeginning ws → Refused text line cause.OpenComment
 

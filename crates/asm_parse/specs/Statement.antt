@@ -3,8 +3,8 @@ use Rattle.std.specs.Str.{bytes_eq}
 use Rattle.std.specs.Prelude.{codes, nat_eq, is_none, nat_lt, ◌≡◌, ℕ, ◌==◌, Bool, true, false, not, ◌&&◌, ◌||◌, List, [], ◌∷◌, ◌++◌, length, Option, Some, None, Result, Ok, Err, if◌then◌else◌}
 use Rattle.asm_lex.specs.declared.fault.SourceCause.{SourceCause}
 use Rattle.asm_lex.specs.declared.fault.SourceCause.TheVariants as cause
-use Rattle.asm_argument.specs.declared.symbol.Symbol.{Symbol}
-use Rattle.asm_argument.specs.declared.symbol.Symbol.TheVariants as symbol
+use Rattle.asm_argument.specs.declared.symbol.Terminal.{Terminal}
+use Rattle.asm_argument.specs.declared.symbol.Terminal.TheVariants as symbol
 use Rattle.asm_argument.specs.declared.operand.Shape.{Shape}
 use Rattle.asm_argument.specs.declared.operand.Shape.TheVariants as shape
 use Rattle.asm_argument.specs.declared.operand.Partial.{Partial}
@@ -19,10 +19,10 @@ use Rattle.asm_parse.specs.declared.directive.Directive.TheVariants as directive
 use Rattle.asm_parse.specs.declared.directive.Head.{Head}
 use Rattle.asm_parse.specs.declared.directive.Head.TheVariants as head
 use Rattle.asm_parse.specs.declared.state.Open.{Open}
-use Rattle.asm_parse.specs.declared.state.State.{State}
-use Rattle.asm_parse.specs.declared.state.State.TheVariants as state
-use Rattle.asm_parse.specs.declared.stop.Stop.{Stop}
-use Rattle.asm_parse.specs.declared.stop.Stop.TheVariants as stop
+use Rattle.asm_parse.specs.declared.state.StatementState.{StatementState}
+use Rattle.asm_parse.specs.declared.state.StatementState.TheVariants as state
+use Rattle.asm_parse.specs.declared.stop.StepFault.{StepFault}
+use Rattle.asm_parse.specs.declared.stop.StepFault.TheVariants as stop
 use Rattle.asm_parse.specs.Directives.{shape_at, least, is_instruction, defines, directive_of, is_dotted, changes_section, is_section, is_unread, is_defining}
 use Rattle.asm_parse.specs.ScopeView.{ScopeView}
 use Rattle.asm_source.specs.Names.{holds}
@@ -30,7 +30,7 @@ use Rattle.asm_parse.specs.Scope.{has_room, is_spent, fresh, pushed, noted, defi
 use Rattle.asm_argument.specs.Operand.{operand_step, begun, finished, is_finished, is_nothing, is_unbegun, awaits_register, is_register, name_in}
 
 -- a token with which no argument begins
-abbrev pub begins_nothing : Symbol → Bool
+abbrev pub begins_nothing : Terminal → Bool
 begins_nothing symbol.Plus = true
 begins_nothing symbol.Close = true
 begins_nothing symbol.Colon = true
@@ -38,7 +38,7 @@ begins_nothing symbol.At = true
 begins_nothing _ = false
 
 -- where an argument of another kind, or none, stands in an argument's place
-abbrev pub misplaced : Symbol → SourceCause
+abbrev pub misplaced : Terminal → SourceCause
 misplaced symbol.Big = cause.BadNumber
 misplaced s = if begins_nothing s then cause.BadOperand else cause.BadArgument
 
@@ -59,37 +59,37 @@ noting sc def n =
     else if def then Ok (defined_too (noted sc n) n)
     else Ok (noted sc n)
 
-abbrev pub Notes : ScopeView → Result (Unit {0}) Stop → Result ScopeView SourceCause → Type 0
+abbrev pub Notes : ScopeView → Result (Unit {0}) StepFault → Result ScopeView SourceCause → Type 0
 Notes new (Ok u) r = r ≡ Ok new
 Notes new (Err (stop.Cause c)) r = r ≡ Err c
 Notes new (Err stop.Memory) r = Unit {0}
 
-abbrev pub Does : ScopeView → Result State Stop → Result (ScopeView × State) SourceCause → Type 0
+abbrev pub Does : ScopeView → Result StatementState StepFault → Result (ScopeView × StatementState) SourceCause → Type 0
 Does new (Ok st) r = r ≡ Ok (new, st)
 Does new (Err (stop.Cause c)) r = r ≡ Err c
 Does new (Err stop.Memory) r = Unit {0}
 
-abbrev pub arguments_of : ScopeView → Open → ScopeView × State
+abbrev pub arguments_of : ScopeView → Open → ScopeView × StatementState
 arguments_of sc o = (sc, state.Arguments o)
 
-abbrev pub after_noting : Open → Result ScopeView SourceCause → Result (ScopeView × State) SourceCause
+abbrev pub after_noting : Open → Result ScopeView SourceCause → Result (ScopeView × StatementState) SourceCause
 after_noting o (Ok sc) = Ok (arguments_of sc o)
 after_noting o (Err c) = Err c
 
-abbrev pub with_name : ScopeView → Open → Option (List ℕ) → Result (ScopeView × State) SourceCause
+abbrev pub with_name : ScopeView → Open → Option (List ℕ) → Result (ScopeView × StatementState) SourceCause
 with_name sc o None = Ok (arguments_of sc o)
 with_name sc o (Some n) = after_noting o (noting sc (defines o.head (length o.done)) n)
 
-abbrev pub after_step : ScopeView → Open → Symbol → Result Partial SourceCause → Result (ScopeView × State) SourceCause
+abbrev pub after_step : ScopeView → Open → Terminal → Result Partial SourceCause → Result (ScopeView × StatementState) SourceCause
 after_step sc o s (Err c) = Err (cause_in o.head (is_unbegun o.so_far) (misplaced s) c)
 after_step sc o s (Ok q) = with_name sc (record o { so_far = q }) (name_in q)
 
-abbrev pub at_shape : ScopeView → Open → Symbol → Option Shape → Result (ScopeView × State) SourceCause
+abbrev pub at_shape : ScopeView → Open → Terminal → Option Shape → Result (ScopeView × StatementState) SourceCause
 at_shape sc o s None = Err (misplaced s)
 at_shape sc o s (Some sh) = after_step sc o s (operand_step sh o.so_far s)
 
 -- the next symbol of an argument
-abbrev pub within : ScopeView → Open → Symbol → Result (ScopeView × State) SourceCause
+abbrev pub within : ScopeView → Open → Terminal → Result (ScopeView × StatementState) SourceCause
 within sc o s = at_shape sc o s (shape_at o.head (length o.done))
 
 -- the argument that has been read, where it may end here
@@ -100,7 +100,7 @@ ended_as o (Some f) = Some (o.line, o.head, o.done, record { star = o.star; form
 abbrev pub ended : Open → Option (ℕ × Head × List Argument × Argument)
 ended o = ended_as o (finished o.so_far)
 
-abbrev pub Makes : Result State Stop → Result State SourceCause → Type 0
+abbrev pub Makes : Result StatementState StepFault → Result StatementState SourceCause → Type 0
 Makes (Ok st) r = r ≡ Ok st
 Makes (Err (stop.Cause c)) r = r ≡ Err c
 Makes (Err stop.Memory) r = Unit {0}
@@ -109,12 +109,12 @@ abbrev pub nothing_yet : ℕ → Head → Open
 nothing_yet line h = record { line = line; head = h; done = []; star = false; so_far = partial.Nothing }
 
 -- an argument of this shape behind these
-abbrev pub argument_of : ℕ → Head → List Argument → Option Shape → Result State SourceCause
+abbrev pub argument_of : ℕ → Head → List Argument → Option Shape → Result StatementState SourceCause
 argument_of line h done None = Err cause.BadArgument
 argument_of line h done (Some sh) = Ok (state.Arguments (record { line = line; head = h; done = done; star = false; so_far = begun sh }))
 
 -- a comma behind a whole argument
-abbrev pub next_argument : ℕ → Head → List Argument → Argument → Result State SourceCause
+abbrev pub next_argument : ℕ → Head → List Argument → Argument → Result StatementState SourceCause
 next_argument line h done last = argument_of line h (done ++ last ∷ []) (shape_at h (length (done ++ last ∷ [])))
 
 abbrev pub item_of : ℕ → Head → List Argument → SourceItem
@@ -126,10 +126,10 @@ abbrev pub resumed : ScopeView → Head → ScopeView
 resumed sc (head.Directive directive.Plain n) = record sc { skipping = false }
 resumed sc _ = sc
 
-abbrev pub complete : ScopeView → ℕ → Head → List Argument → Result (ScopeView × State) SourceCause
+abbrev pub complete : ScopeView → ℕ → Head → List Argument → Result (ScopeView × StatementState) SourceCause
 complete sc line h args = if nat_lt (length args) (least h) then Err cause.BadArgument else Ok (resumed (pushed sc (item_of line h args)) h, state.Start)
 
-abbrev pub complete_with : ScopeView → ℕ → Head → List Argument → Argument → Result (ScopeView × State) SourceCause
+abbrev pub complete_with : ScopeView → ℕ → Head → List Argument → Argument → Result (ScopeView × StatementState) SourceCause
 complete_with sc line h done last = complete sc line h (done ++ last ∷ [])
 
 abbrev pub is_bare : Open → Bool
@@ -138,20 +138,20 @@ is_bare o = is_nothing o.so_far && not o.star && (length o.done == 0)
 abbrev pub takes_star : Open → Bool
 takes_star o = is_nothing o.so_far && not o.star && is_instruction o.head
 
-abbrev pub with_scope : ScopeView → Result State SourceCause → Result (ScopeView × State) SourceCause
+abbrev pub with_scope : ScopeView → Result StatementState SourceCause → Result (ScopeView × StatementState) SourceCause
 with_scope sc (Ok st) = Ok (sc, st)
 with_scope sc (Err c) = Err c
 
-abbrev pub comma_behind : ScopeView → Option (ℕ × Head × List Argument × Argument) → Result (ScopeView × State) SourceCause
+abbrev pub comma_behind : ScopeView → Option (ℕ × Head × List Argument × Argument) → Result (ScopeView × StatementState) SourceCause
 comma_behind sc None = Err cause.BadOperand
 comma_behind sc (Some e) = with_scope sc (next_argument e.0 e.1 e.2 e.3)
 
-abbrev pub end_behind : ScopeView → Option (ℕ × Head × List Argument × Argument) → Result (ScopeView × State) SourceCause
+abbrev pub end_behind : ScopeView → Option (ℕ × Head × List Argument × Argument) → Result (ScopeView × StatementState) SourceCause
 end_behind sc None = Err cause.BadOperand
 end_behind sc (Some e) = complete_with sc e.0 e.1 e.2 e.3
 
 -- a symbol of a directive or an instruction
-abbrev pub argument_step : ScopeView → Open → Symbol → Result (ScopeView × State) SourceCause
+abbrev pub argument_step : ScopeView → Open → Terminal → Result (ScopeView × StatementState) SourceCause
 argument_step sc o symbol.Comma = if is_finished o.so_far then comma_behind sc (ended o) else within sc o symbol.Comma
 argument_step sc o symbol.End =
     if is_bare o then complete sc o.line o.head o.done
@@ -161,98 +161,98 @@ argument_step sc o symbol.Star = if takes_star o then Ok (sc, state.Arguments (r
 argument_step sc o s = within sc o s
 
 -- the rest of a statement that isn't read
-abbrev pub skip : Symbol → State
+abbrev pub skip : Terminal → StatementState
 skip symbol.End = state.Start
 skip _ = state.Skip
 
-abbrev pub labelled : ℕ → List ℕ → Result ScopeView SourceCause → Result (ScopeView × State) SourceCause
+abbrev pub labelled : ℕ → List ℕ → Result ScopeView SourceCause → Result (ScopeView × StatementState) SourceCause
 labelled line n (Ok sc) = Ok (pushed sc (record { line = line; body = body.Label n }), state.Start)
 labelled line n (Err c) = Err c
 
-abbrev pub label : ScopeView → ℕ → List ℕ → Result (ScopeView × State) SourceCause
+abbrev pub label : ScopeView → ℕ → List ℕ → Result (ScopeView × StatementState) SourceCause
 label sc line n = labelled line n (noting sc true n)
 
 unfoldable pub is_rep : List ℕ → Bool
 is_rep n = bytes_eq n (codes "rep")
 
 -- a symbol behind `rep`
-abbrev pub rep_step : ScopeView → ℕ → Symbol → Result (ScopeView × State) SourceCause
+abbrev pub rep_step : ScopeView → ℕ → Terminal → Result (ScopeView × StatementState) SourceCause
 rep_step sc line (symbol.Name m) = Ok (sc, state.Arguments (nothing_yet line (head.Instruction true m)))
 rep_step sc line symbol.Big = Err cause.BadNumber
 rep_step sc line _ = Err cause.BadOperand
 
 -- a symbol behind an instruction's name
-abbrev pub instruction_step : ScopeView → ℕ → List ℕ → Symbol → Result (ScopeView × State) SourceCause
+abbrev pub instruction_step : ScopeView → ℕ → List ℕ → Terminal → Result (ScopeView × StatementState) SourceCause
 instruction_step sc line n s = if is_rep n then rep_step sc line s else argument_step sc (nothing_yet line (head.Instruction false n)) s
 
 -- the statement of this name is skipped
 abbrev pub is_passed : ScopeView → List ℕ → Bool
 is_passed sc n = sc.skipping && not (changes_section n)
 
-abbrev pub section_name : ℕ → List ℕ → Symbol → Result State SourceCause
+abbrev pub section_name : ℕ → List ℕ → Terminal → Result StatementState SourceCause
 section_name line n (symbol.Name m) = if is_section m then Ok (state.Sectioned line n m 0) else Err cause.BadArgument
 section_name line n s = Err (misplaced s)
 
-abbrev pub of_directive : Option Directive → ScopeView → ℕ → List ℕ → Symbol → Result (ScopeView × State) SourceCause
+abbrev pub of_directive : Option Directive → ScopeView → ℕ → List ℕ → Terminal → Result (ScopeView × StatementState) SourceCause
 of_directive None sc line n s = Err cause.UnknownDirective
 of_directive (Some directive.Skipped) sc line n s = Ok (sc, skip s)
 of_directive (Some directive.Section) sc line n s = with_scope sc (section_name line n s)
 of_directive (Some k) sc line n s = argument_step sc (nothing_yet line (head.Directive k n)) s
 
 -- a symbol behind a directive's name
-abbrev pub directive_step : ScopeView → ℕ → List ℕ → Symbol → Result (ScopeView × State) SourceCause
+abbrev pub directive_step : ScopeView → ℕ → List ℕ → Terminal → Result (ScopeView × StatementState) SourceCause
 directive_step sc line n s = of_directive (directive_of n) sc line n s
 
 abbrev pub sectioned : ScopeView → ℕ → List ℕ → List ℕ → ScopeView
 sectioned sc line n m = record (pushed sc (record { line = line; body = body.Directive n (record { star = false; form = form.Text m } ∷ []) })) { skipping = is_unread m }
 
-abbrev pub section : ScopeView → ℕ → List ℕ → List ℕ → Result (ScopeView × State) SourceCause
+abbrev pub section : ScopeView → ℕ → List ℕ → List ℕ → Result (ScopeView × StatementState) SourceCause
 section sc line n m = Ok (sectioned sc line n m, state.Start)
 
-abbrev pub unless_skipping : Bool → SourceCause → Result State SourceCause
+abbrev pub unless_skipping : Bool → SourceCause → Result StatementState SourceCause
 unless_skipping true c = Ok state.Skip
 unless_skipping false c = Err c
 
-abbrev pub start_step : ScopeView → ℕ → Symbol → Result State SourceCause
+abbrev pub start_step : ScopeView → ℕ → Terminal → Result StatementState SourceCause
 start_step sc line symbol.End = Ok state.Start
 start_step sc line (symbol.Name n) = Ok (state.Named line n)
 start_step sc line symbol.Big = unless_skipping sc.skipping cause.BadNumber
 start_step sc line _ = unless_skipping sc.skipping cause.BadOperand
 
 -- a colon behind a name
-abbrev pub colon_behind : ScopeView → ℕ → List ℕ → Result (ScopeView × State) SourceCause
+abbrev pub colon_behind : ScopeView → ℕ → List ℕ → Result (ScopeView × StatementState) SourceCause
 colon_behind sc begun n = if sc.skipping then Ok (sc, state.Start) else label sc begun n
 
 -- another symbol behind a name
-abbrev pub other_behind : ScopeView → ℕ → List ℕ → Symbol → Result (ScopeView × State) SourceCause
+abbrev pub other_behind : ScopeView → ℕ → List ℕ → Terminal → Result (ScopeView × StatementState) SourceCause
 other_behind sc begun n s =
     if is_passed sc n then Ok (sc, skip s)
     else if is_dotted n then directive_step sc begun n s
     else instruction_step sc begun n s
 
-abbrev pub named_step : ScopeView → ℕ → List ℕ → Symbol → Result (ScopeView × State) SourceCause
+abbrev pub named_step : ScopeView → ℕ → List ℕ → Terminal → Result (ScopeView × StatementState) SourceCause
 named_step sc begun n symbol.Colon = colon_behind sc begun n
 named_step sc begun n s = other_behind sc begun n s
 
 -- a symbol behind a section's name
-abbrev pub sectioned_step : ScopeView → ℕ → List ℕ → List ℕ → Symbol → Result (ScopeView × State) SourceCause
+abbrev pub sectioned_step : ScopeView → ℕ → List ℕ → List ℕ → Terminal → Result (ScopeView × StatementState) SourceCause
 sectioned_step sc begun n m symbol.End = section sc begun n m
 sectioned_step sc begun n m symbol.Comma = Ok (sc, state.Flags begun n m)
 sectioned_step sc begun n m symbol.Big = Err cause.BadNumber
 sectioned_step sc begun n m _ = Err cause.BadOperand
 
 -- a symbol behind a section's name and a comma
-abbrev pub flags_step : ScopeView → ℕ → List ℕ → List ℕ → Symbol → Result (ScopeView × State) SourceCause
+abbrev pub flags_step : ScopeView → ℕ → List ℕ → List ℕ → Terminal → Result (ScopeView × StatementState) SourceCause
 flags_step sc begun n m symbol.End = section sc begun n m
 flags_step sc begun n m _ = Ok (sc, state.Flags begun n m)
 
 -- what stands behind a `%` that may not stand there: a register, or the `%` has that cause of its own
-abbrev pub stray_cause : SourceCause → Symbol → SourceCause
+abbrev pub stray_cause : SourceCause → Terminal → SourceCause
 stray_cause c (symbol.Name n) = if is_register n then c else cause.BadRegister
 stray_cause c _ = cause.BadRegister
 
 -- the next symbol of a source
-abbrev pub step : ScopeView → State → ℕ → Symbol → Result (ScopeView × State) SourceCause
+abbrev pub step : ScopeView → StatementState → ℕ → Terminal → Result (ScopeView × StatementState) SourceCause
 step sc state.Start line s = with_scope sc (start_step sc line s)
 step sc (state.Named begun n) line s = named_step sc begun n s
 step sc state.Skip line s = Ok (sc, skip s)
@@ -280,7 +280,7 @@ if_doomed true line = Some line
 if_doomed false line = None
 
 -- the line of a token with which no text goes on, where one has been read
-abbrev pub doom : ScopeView → State → Option ℕ
+abbrev pub doom : ScopeView → StatementState → Option ℕ
 doom sc (state.Stray l c) = Some l
 doom sc (state.Named b n) = if_doomed ((is_unknown sc n && is_taken sc n) || lacks_names sc n) b
 doom sc _ = None
@@ -290,7 +290,7 @@ or_line None line = line
 or_line (Some l) line = l
 
 -- the line of a fault in this line
-abbrev pub fault_line : ScopeView → State → ℕ → ℕ
+abbrev pub fault_line : ScopeView → StatementState → ℕ → ℕ
 fault_line sc st line = or_line (doom sc st) line
 
 -- whether a fault at a `%` is that it stands there
@@ -300,15 +300,15 @@ is_place cause.BadArgument = true
 is_place _ = false
 
 -- a fault at a `%`: its cause rests on what follows, and what was said is of no more use
-abbrev pub stray : ℕ → SourceCause → Result (ScopeView × State) SourceCause
+abbrev pub stray : ℕ → SourceCause → Result (ScopeView × StatementState) SourceCause
 stray line c = if is_place c then Ok (fresh, state.Stray line c) else Err c
 
-abbrev pub strayed : ℕ → Result (ScopeView × State) SourceCause → Result (ScopeView × State) SourceCause
+abbrev pub strayed : ℕ → Result (ScopeView × StatementState) SourceCause → Result (ScopeView × StatementState) SourceCause
 strayed line (Ok x) = Ok x
 strayed line (Err c) = stray line c
 
 -- the next symbol, where a `%` may be one that may not stand there
-abbrev pub next_step : ScopeView → State → ℕ → Symbol → Result (ScopeView × State) SourceCause
+abbrev pub next_step : ScopeView → StatementState → ℕ → Terminal → Result (ScopeView × StatementState) SourceCause
 next_step sc st line symbol.Percent = strayed (fault_line sc st line) (step sc st line symbol.Percent)
 next_step sc st line s = step sc st line s
 
@@ -317,7 +317,7 @@ if_pending true c = Some c
 if_pending false c = None
 
 -- the cause at a token that has been read, where nothing that is a token follows
-abbrev pub pending : ScopeView → State → Option SourceCause
+abbrev pub pending : ScopeView → StatementState → Option SourceCause
 pending sc (state.Stray l c) = Some cause.BadRegister
 pending sc (state.Named b n) = if is_unknown sc n then Some cause.UnknownDirective else if_pending (lacks_names sc n) cause.TooManySymbols
 pending sc (state.Arguments o) = if_pending (awaits_register o.so_far) cause.BadRegister
@@ -328,7 +328,7 @@ or_cause None c = c
 or_cause (Some p) c = p
 
 -- a character that is no token in this line, or none of its kind
-abbrev pub stopped : ScopeView → State → ℕ → SourceCause → ℕ × SourceCause
+abbrev pub stopped : ScopeView → StatementState → ℕ → SourceCause → ℕ × SourceCause
 stopped sc st line c = (fault_line sc st line, or_cause (pending sc st) c)
 
 abbrev pub open_at_end : Option ℕ → Option SourceCause → ℕ → ℕ × SourceCause
@@ -336,5 +336,5 @@ open_at_end None p began = (began, cause.OpenComment)
 open_at_end (Some l) p began = (l, or_cause p cause.OpenComment)
 
 -- a comment that began in this line and doesn't end
-abbrev pub left_open : ScopeView → State → ℕ → ℕ × SourceCause
+abbrev pub left_open : ScopeView → StatementState → ℕ → ℕ × SourceCause
 left_open sc st began = open_at_end (doom sc st) (pending sc st) began

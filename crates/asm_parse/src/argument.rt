@@ -5,30 +5,30 @@ ghost use Rattle.asm_parse.specs.Statement as spec;
 
 use crate::directive::{Directive, Head, defines, is_instruction, least, shape_at};
 use crate::scope::Scope;
-use crate::state::{Open, State};
-use crate::stop::Stop;
+use crate::state::{Open, StatementState};
+use crate::stop::StepFault;
 use asm_argument::{
-    Partial, Symbol, begun, finished, is_finished, is_nothing, is_unbegun, name_in, operand_step,
+    Partial, Terminal, begun, finished, is_finished, is_nothing, is_unbegun, name_in, operand_step,
 };
 use asm_lex::SourceCause;
 use asm_source::{Argument, Arguments, Body, Name, SourceItem};
 use std::alloc::Global;
 
 /// Whether no argument begins with the symbol.
-fn begins_nothing(symbol: &Symbol) -> bool
+fn begins_nothing(symbol: &Terminal) -> bool
     ensures { result ≡ spec.begins_nothing symbol.now }
 {
     match symbol {
-        Symbol::Plus | Symbol::Close | Symbol::Colon | Symbol::At => true,
+        Terminal::Plus | Terminal::Close | Terminal::Colon | Terminal::At => true,
         _ => false,
     }
 }
 
 /// Where an argument of another kind, or none, stands in an argument's place.
-pub fn misplaced(symbol: &Symbol) -> SourceCause
+pub fn misplaced(symbol: &Terminal) -> SourceCause
     ensures { result ≡ spec.misplaced symbol.now }
 {
-    if let Symbol::Big = symbol {
+    if let Terminal::Big = symbol {
         return SourceCause::BadNumber;
     }
     if begins_nothing(symbol) {
@@ -66,14 +66,14 @@ fn cause_in(head: &Head, nothing: bool, misplaced: SourceCause, cause: SourceCau
 }
 
 /// Notes a name, and that it is defined.
-pub fn noting(alloc: Global, scope: &mut Scope, defined: bool, name: &Name) -> Result<(), Stop>
+pub fn noting(alloc: Global, scope: &mut Scope, defined: bool, name: &Name) -> Result<(), StepFault>
     ensures { spec.Notes scope.new result (spec.noting scope.old defined name.now) }
 {
     if defined && scope.is_defined(name) {
-        return Err(Stop::Cause(SourceCause::DoubledLabel));
+        return Err(StepFault::Cause(SourceCause::DoubledLabel));
     }
     if !scope.has_room(name) {
-        return Err(Stop::Cause(SourceCause::TooManySymbols));
+        return Err(StepFault::Cause(SourceCause::TooManySymbols));
     }
     scope.note(alloc, name)?;
     if defined {
@@ -83,7 +83,7 @@ pub fn noting(alloc: Global, scope: &mut Scope, defined: bool, name: &Name) -> R
 }
 
 /// The next symbol of an argument.
-fn within(alloc: Global, scope: &mut Scope, begun: Open, symbol: Symbol) -> Result<State, Stop>
+fn within(alloc: Global, scope: &mut Scope, begun: Open, symbol: Terminal) -> Result<StatementState, StepFault>
     ensures { spec.Does scope.new result (spec.within scope.old begun symbol) }
 {
     let Open {
@@ -97,15 +97,15 @@ fn within(alloc: Global, scope: &mut Scope, begun: Open, symbol: Symbol) -> Resu
     let nothing = is_unbegun(&so_far);
     let other = misplaced(&symbol);
     let Some(shape) = shape_at(&head, index) else {
-        return Err(Stop::Cause(other));
+        return Err(StepFault::Cause(other));
     };
     match operand_step(shape, so_far, symbol) {
-        Err(cause) => Err(Stop::Cause(cause_in(&head, nothing, other, cause))),
+        Err(cause) => Err(StepFault::Cause(cause_in(&head, nothing, other, cause))),
         Ok(so_far) => {
             if let Some(name) = name_in(&so_far) {
                 noting(alloc, scope, defines(&head, index), name)?;
             }
-            Ok(State::Arguments(Open {
+            Ok(StatementState::Arguments(Open {
                 line,
                 head,
                 done,
@@ -134,16 +134,16 @@ fn ended(begun: Open) -> Option<(u32, Head, Arguments, Argument)>
 }
 
 /// A comma behind a whole argument.
-fn next_argument(line: u32, head: Head, done: Arguments, last: Argument) -> Result<State, Stop>
+fn next_argument(line: u32, head: Head, done: Arguments, last: Argument) -> Result<StatementState, StepFault>
     ensures { spec.Makes result (spec.next_argument line head done last) }
 {
     let Arguments { list } = done;
     let mut list = list;
     list.push(last)?;
     let Some(shape) = shape_at(&head, list.len()) else {
-        return Err(Stop::Cause(SourceCause::BadArgument));
+        return Err(StepFault::Cause(SourceCause::BadArgument));
     };
-    Ok(State::Arguments(Open {
+    Ok(StatementState::Arguments(Open {
         line,
         head,
         done: Arguments { list },
@@ -153,11 +153,11 @@ fn next_argument(line: u32, head: Head, done: Arguments, last: Argument) -> Resu
 }
 
 /// The end of a directive or an instruction.
-fn complete(scope: &mut Scope, line: u32, head: Head, done: Arguments) -> Result<State, Stop>
+fn complete(scope: &mut Scope, line: u32, head: Head, done: Arguments) -> Result<StatementState, StepFault>
     ensures { spec.Does scope.new result (spec.complete scope.old line head done) }
 {
     if done.list.len() < least(&head) {
-        return Err(Stop::Cause(SourceCause::BadArgument));
+        return Err(StepFault::Cause(SourceCause::BadArgument));
     }
     match head {
         Head::Instruction { rep, name } => {
@@ -167,7 +167,7 @@ fn complete(scope: &mut Scope, line: u32, head: Head, done: Arguments) -> Result
                 arguments: done,
             };
             scope.push(SourceItem { line, body })?;
-            Ok(State::Start)
+            Ok(StatementState::Start)
         }
         Head::Directive { kind, name } => {
             let body = Body::Directive {
@@ -178,7 +178,7 @@ fn complete(scope: &mut Scope, line: u32, head: Head, done: Arguments) -> Result
             if let Directive::Plain = kind {
                 scope.set_skipping(false);
             }
-            Ok(State::Start)
+            Ok(StatementState::Start)
         }
     }
 }
@@ -190,7 +190,7 @@ fn complete_with(
     head: Head,
     done: Arguments,
     last: Argument,
-) -> Result<State, Stop>
+) -> Result<StatementState, StepFault>
     ensures { spec.Does scope.new result (spec.complete_with scope.old line head done last) }
 {
     let Arguments { list } = done;
@@ -217,21 +217,21 @@ pub fn argument_step(
     alloc: Global,
     scope: &mut Scope,
     begun: Open,
-    symbol: Symbol,
-) -> Result<State, Stop>
+    symbol: Terminal,
+) -> Result<StatementState, StepFault>
     ensures { spec.Does scope.new result (spec.argument_step scope.old begun symbol) }
 {
     match symbol {
-        Symbol::Comma => {
+        Terminal::Comma => {
             if !is_finished(&begun.so_far) {
-                return within(alloc, scope, begun, Symbol::Comma);
+                return within(alloc, scope, begun, Terminal::Comma);
             }
             match ended(begun) {
                 Some((line, head, done, last)) => next_argument(line, head, done, last),
-                None => Err(Stop::Cause(SourceCause::BadOperand)),
+                None => Err(StepFault::Cause(SourceCause::BadOperand)),
             }
         }
-        Symbol::End => {
+        Terminal::End => {
             if is_bare(&begun) {
                 let Open {
                     line,
@@ -243,14 +243,14 @@ pub fn argument_step(
                 return complete(scope, line, head, done);
             }
             if !is_finished(&begun.so_far) {
-                return within(alloc, scope, begun, Symbol::End);
+                return within(alloc, scope, begun, Terminal::End);
             }
             match ended(begun) {
                 Some((line, head, done, last)) => complete_with(scope, line, head, done, last),
-                None => Err(Stop::Cause(SourceCause::BadOperand)),
+                None => Err(StepFault::Cause(SourceCause::BadOperand)),
             }
         }
-        Symbol::Star => {
+        Terminal::Star => {
             if takes_star(&begun) {
                 let Open {
                     line,
@@ -259,7 +259,7 @@ pub fn argument_step(
                     star: _,
                     so_far,
                 } = begun;
-                return Ok(State::Arguments(Open {
+                return Ok(StatementState::Arguments(Open {
                     line,
                     head,
                     done,
@@ -267,7 +267,7 @@ pub fn argument_step(
                     so_far,
                 }));
             }
-            within(alloc, scope, begun, Symbol::Star)
+            within(alloc, scope, begun, Terminal::Star)
         }
         other => within(alloc, scope, begun, other),
     }

@@ -6,10 +6,10 @@ ghost use Rattle.asm_parse.specs.Statement as spec;
 
 use crate::directive::{directive_named, is_defining, is_dotted};
 use crate::scope::Scope;
-use crate::state::State;
+use crate::state::StatementState;
 use crate::statement::step;
-use crate::stop::Stop;
-use asm_argument::{Symbol, awaits_register};
+use crate::stop::StepFault;
+use asm_argument::{Terminal, awaits_register};
 use asm_lex::SourceCause;
 use asm_source::Name;
 use std::alloc::Global;
@@ -25,14 +25,14 @@ fn is_place(cause: SourceCause) -> bool
 }
 
 /// A fault at a `%`. Its cause rests on what follows, and what was said is of no more use.
-fn stray(alloc: Global, scope: &mut Scope, line: u32, cause: SourceCause) -> Result<State, Stop>
+fn stray(alloc: Global, scope: &mut Scope, line: u32, cause: SourceCause) -> Result<StatementState, StepFault>
     ensures { spec.Does scope.new result (spec.stray line cause) }
 {
     if is_place(cause) {
         *scope = Scope::new(alloc);
-        Ok(State::Stray(line, cause))
+        Ok(StatementState::Stray(line, cause))
     } else {
-        Err(Stop::Cause(cause))
+        Err(StepFault::Cause(cause))
     }
 }
 
@@ -40,18 +40,18 @@ fn stray(alloc: Global, scope: &mut Scope, line: u32, cause: SourceCause) -> Res
 pub fn next_step(
     alloc: Global,
     scope: &mut Scope,
-    state: State,
+    state: StatementState,
     line: u32,
-    symbol: Symbol,
-) -> Result<State, Stop>
+    symbol: Terminal,
+) -> Result<StatementState, StepFault>
     ensures { spec.Does scope.new result (spec.next_step scope.old state line symbol) }
 {
     match symbol {
-        Symbol::Percent => {
+        Terminal::Percent => {
             let at = fault_line(scope, &state, line);
-            match step(alloc, scope, state, line, Symbol::Percent) {
-                Err(Stop::Cause(cause)) => stray(alloc, scope, at, cause),
-                Err(Stop::Memory) => Err(Stop::Memory),
+            match step(alloc, scope, state, line, Terminal::Percent) {
+                Err(StepFault::Cause(cause)) => stray(alloc, scope, at, cause),
+                Err(StepFault::Memory) => Err(StepFault::Memory),
                 Ok(state) => Ok(state),
             }
         }
@@ -84,12 +84,12 @@ fn lacks_names(scope: &Scope, name: &Name) -> bool
 }
 
 /// The line of a token with which no text goes on, where one has been read.
-fn doom(scope: &Scope, state: &State) -> Option<u32>
+fn doom(scope: &Scope, state: &StatementState) -> Option<u32>
     ensures { result ≡ spec.doom scope.now state.now }
 {
     match state {
-        State::Stray(line, _) => Some(*line),
-        State::Named(begun, name) => {
+        StatementState::Stray(line, _) => Some(*line),
+        StatementState::Named(begun, name) => {
             if (is_unknown(scope, name) && is_taken(scope, name)) || lacks_names(scope, name) {
                 Some(*begun)
             } else {
@@ -101,7 +101,7 @@ fn doom(scope: &Scope, state: &State) -> Option<u32>
 }
 
 /// The line of a fault in this line.
-pub fn fault_line(scope: &Scope, state: &State, line: u32) -> u32
+pub fn fault_line(scope: &Scope, state: &StatementState, line: u32) -> u32
     ensures { result ≡ spec.fault_line scope.now state.now line }
 {
     match doom(scope, state) {
@@ -111,12 +111,12 @@ pub fn fault_line(scope: &Scope, state: &State, line: u32) -> u32
 }
 
 /// The cause at a token that has been read, where nothing that is a token follows.
-fn pending(scope: &Scope, state: &State) -> Option<SourceCause>
+fn pending(scope: &Scope, state: &StatementState) -> Option<SourceCause>
     ensures { result ≡ spec.pending scope.now state.now }
 {
     match state {
-        State::Stray(_, _) => Some(SourceCause::BadRegister),
-        State::Named(_, name) => {
+        StatementState::Stray(_, _) => Some(SourceCause::BadRegister),
+        StatementState::Named(_, name) => {
             if is_unknown(scope, name) {
                 Some(SourceCause::UnknownDirective)
             } else if lacks_names(scope, name) {
@@ -125,7 +125,7 @@ fn pending(scope: &Scope, state: &State) -> Option<SourceCause>
                 None
             }
         }
-        State::Arguments(begun) => {
+        StatementState::Arguments(begun) => {
             if awaits_register(&begun.so_far) {
                 Some(SourceCause::BadRegister)
             } else {
@@ -137,7 +137,7 @@ fn pending(scope: &Scope, state: &State) -> Option<SourceCause>
 }
 
 /// The line and the cause where a character is no token, or none of its kind.
-pub fn stopped(scope: &Scope, state: &State, line: u32, cause: SourceCause) -> (u32, SourceCause)
+pub fn stopped(scope: &Scope, state: &StatementState, line: u32, cause: SourceCause) -> (u32, SourceCause)
     ensures { result ≡ spec.stopped scope.now state.now line cause }
 {
     let line = fault_line(scope, state, line);
@@ -148,7 +148,7 @@ pub fn stopped(scope: &Scope, state: &State, line: u32, cause: SourceCause) -> (
 }
 
 /// The line and the cause where a comment that began in this line doesn't end.
-pub fn left_open(scope: &Scope, state: &State, began: u32) -> (u32, SourceCause)
+pub fn left_open(scope: &Scope, state: &StatementState, began: u32) -> (u32, SourceCause)
     ensures { result ≡ spec.left_open scope.now state.now began }
 {
     match doom(scope, state) {

@@ -13,7 +13,7 @@ mod statement;
 mod stop;
 mod symbol_set;
 
-pub use asm_argument::{Escape, Partial, Place, Shape, Symbol, Unescaped};
+pub use asm_argument::{Escape, Partial, ValuePlace, Shape, Terminal, Unescaped};
 pub use asm_lex::LIMIT;
 pub use asm_source::{
     Argument, Arguments, Body, DirectiveName, Form, Name, Source, SourceItem, Value, begins,
@@ -23,5 +23,5 @@ pub use directive::{Directive, Head};
 pub use laws::sources_are_readable;
 pub use parsing::parse;
 pub use scope::Scope;
-pub use state::{Open, State};
-pub use stop::Stop;
+pub use state::{Open, StatementState};
+pub use stop::StepFault;

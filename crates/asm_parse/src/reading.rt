@@ -11,21 +11,21 @@ ghost use Rattle.asm_parse.specs.Running as run;
 
 use crate::dead::{fault_line, next_step, stopped};
 use crate::scope::Scope;
-use crate::state::{State, discard};
-use crate::stop::Stop;
-use asm_argument::{Symbol, symbol_of};
+use crate::state::{StatementState, discard};
+use crate::stop::StepFault;
+use asm_argument::{Terminal, symbol_of};
 use asm_lex::{Mode, Next, SourceFault, Stepped, Token, TokenKind};
 use asm_source::Name;
 use std::alloc::{AllocError, Global};
 
 /// The answer of a step, with its line.
-fn at_line(line: u32, stepped: Result<State, Stop>) -> Result<State, SourceFault>
+fn at_line(line: u32, stepped: Result<StatementState, StepFault>) -> Result<StatementState, SourceFault>
     ensures { result ≡ spec.at_line line stepped }
 {
     match stepped {
         Ok(state) => Ok(state),
-        Err(Stop::Cause(cause)) => Err(SourceFault::At { line, cause }),
-        Err(Stop::Memory) => Err(SourceFault::Memory),
+        Err(StepFault::Cause(cause)) => Err(SourceFault::At { line, cause }),
+        Err(StepFault::Memory) => Err(SourceFault::Memory),
     }
 }
 
@@ -33,10 +33,10 @@ fn at_line(line: u32, stepped: Result<State, Stop>) -> Result<State, SourceFault
 fn feed_symbol(
     alloc: Global,
     scope: &mut Scope,
-    state: State,
+    state: StatementState,
     line: u32,
-    symbol: Symbol,
-) -> Result<State, SourceFault>
+    symbol: Terminal,
+) -> Result<StatementState, SourceFault>
     ensures { spec.Feeds scope.new result (spec.placed (fault_line scope.old state line) (next_step scope.old state line symbol)) }
 {
     let at = fault_line(scope, &state, line);
@@ -63,35 +63,35 @@ fn are_inside(bytes: &[u8]) -> bool
 }
 
 /// Whether the token at this place goes on with a section's name.
-fn is_longer(state: &State, at: usize, kind: TokenKind, bytes: &[u8]) -> bool
+fn is_longer(state: &StatementState, at: usize, kind: TokenKind, bytes: &[u8]) -> bool
     ensures { result ≡ spec.is_longer state.now at kind bytes.now }
 {
     match state {
-        State::Sectioned(_, _, _, end) => *end == at && is_part(kind, bytes),
+        StatementState::Sectioned(_, _, _, end) => *end == at && is_part(kind, bytes),
         _ => false,
     }
 }
 
 /// A section's name with the token's bytes, which end at this place.
-fn longer(state: State, end: usize, bytes: &[u8]) -> Result<State, AllocError>
+fn longer(state: StatementState, end: usize, bytes: &[u8]) -> Result<StatementState, AllocError>
     ensures { IfOk result (λ st. st ≡ spec.longer state end bytes.now) }
 {
     match state {
-        State::Sectioned(line, name, section, _) => {
+        StatementState::Sectioned(line, name, section, _) => {
             let mut section = section.bytes;
             section.extend_from_slice(bytes)?;
-            Ok(State::Sectioned(line, name, Name { bytes: section }, end))
+            Ok(StatementState::Sectioned(line, name, Name { bytes: section }, end))
         }
         other => Ok(other),
     }
 }
 
 /// The place behind the first token of a section's name.
-fn ending_at(end: usize, state: State) -> State
+fn ending_at(end: usize, state: StatementState) -> StatementState
     ensures { result ≡ spec.ending_at end state }
 {
     match state {
-        State::Sectioned(line, name, section, _) => State::Sectioned(line, name, section, end),
+        StatementState::Sectioned(line, name, section, _) => StatementState::Sectioned(line, name, section, end),
         other => other,
     }
 }
@@ -100,12 +100,12 @@ fn ending_at(end: usize, state: State) -> State
 fn feed_word(
     alloc: Global,
     scope: &mut Scope,
-    state: State,
+    state: StatementState,
     at: usize,
     line: u32,
     kind: TokenKind,
     bytes: &[u8],
-) -> Result<State, SourceFault>
+) -> Result<StatementState, SourceFault>
     requires { at + length bytes.now < 2 ^ 63 }
     ensures { spec.Feeds scope.new result (spec.placed (fault_line scope.old state line) (spec.next_word scope.old state (record { kind = kind; at = at; line = line; bytes = bytes.now }))) }
 {
@@ -127,11 +127,11 @@ fn feed_word(
 fn feed_token(
     alloc: Global,
     scope: &mut Scope,
-    state: State,
+    state: StatementState,
     seen: &[u8],
     line: u32,
     token: Token,
-) -> Result<State, SourceFault>
+) -> Result<StatementState, SourceFault>
     requires { token.at + token.len ≤ length seen.now }
     ensures { spec.Feeds scope.new result (spec.fed scope.old state seen.now line (Some token)) }
 {
@@ -145,11 +145,11 @@ fn feed_token(
 fn feed(
     alloc: Global,
     scope: &mut Scope,
-    state: State,
+    state: StatementState,
     seen: &[u8],
     line: u32,
     token: Option<Token>,
-) -> Result<State, SourceFault>
+) -> Result<StatementState, SourceFault>
     requires { spec.Fits seen.now token }
     ensures { spec.Feeds scope.new result (spec.fed scope.old state seen.now line token) }
 {
@@ -163,12 +163,12 @@ fn feed(
 fn second_token(
     alloc: Global,
     scope: &mut Scope,
-    state: State,
+    state: StatementState,
     seen: &[u8],
     line: u32,
     second: Option<Token>,
     next: Next,
-) -> Result<(State, Mode), SourceFault>
+) -> Result<(StatementState, Mode), SourceFault>
     requires { spec.Fits seen.now second }
     ensures does { run.DoesByte scope.new result (run.second_does scope.old state seen.now line second next) }
     ensures next { IfOk result (λ x. next ≡ Goes x.1) }
@@ -190,11 +190,11 @@ fn second_token(
 fn tokens(
     alloc: Global,
     scope: &mut Scope,
-    state: State,
+    state: StatementState,
     seen: &[u8],
     line: u32,
     stepped: Stepped,
-) -> Result<(State, Mode), SourceFault>
+) -> Result<(StatementState, Mode), SourceFault>
     requires first { spec.Fits seen.now stepped.first }
     requires second { spec.Fits seen.now stepped.second }
     ensures does { run.DoesByte scope.new result (run.byte_does scope.old state seen.now line stepped) }
@@ -219,13 +219,13 @@ fn tokens(
 fn one_byte(
     alloc: Global,
     scope: &mut Scope,
-    state: State,
+    state: StatementState,
     mode: Mode,
     seen: &[u8],
     at: u32,
     line: u32,
     b: u8,
-) -> Result<(State, Mode), SourceFault>
+) -> Result<(StatementState, Mode), SourceFault>
     requires begun { start_of mode at ≤ at }
     requires within { length seen.now ≡ at + 1 }
     requires room { at < 4294967295 }
@@ -246,12 +246,12 @@ fn line_after(line: u32, b: u8) -> u32
 }
 
 /// Reads a source that ends with a newline.
-pub fn read(alloc: Global, source: &[u8]) -> Result<(Scope, State, Mode), SourceFault>
+pub fn read(alloc: Global, source: &[u8]) -> Result<(Scope, StatementState, Mode), SourceFault>
     requires { length source.now < 4294967295 }
     ensures { run.Runs result (run.run run.start source.now) }
 {
     let mut scope = Scope::new(alloc);
-    let mut state = State::Start;
+    let mut state = StatementState::Start;
     let mut mode = Mode::Between;
     let mut line = 1u32;
     for (i, b) in source.iter().enumerate() {

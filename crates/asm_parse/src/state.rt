@@ -17,7 +17,7 @@ pub struct Open {
 
 /// What a statement has left open.
 #[derive(Debug, Drop)]
-pub enum State {
+pub enum StatementState {
     Start,
     /// A name, which may be a label or begin a directive or an instruction, and its line.
     Named(u32, Name),
@@ -33,4 +33,4 @@ pub enum State {
 }
 
 /// Lets go of what a statement has left open.
-pub fn discard(_state: State) {}
+pub fn discard(_state: StatementState) {}

@@ -9,45 +9,45 @@ use crate::directive::{
     is_skipped_section,
 };
 use crate::scope::Scope;
-use crate::state::State;
-use crate::stop::Stop;
-use asm_argument::{Symbol, is_register};
+use crate::state::StatementState;
+use crate::stop::StepFault;
+use asm_argument::{Terminal, is_register};
 use asm_lex::SourceCause;
 use asm_source::{Argument, Arguments, Body, Form, Name, SourceItem};
 use std::alloc::Global;
 
 /// The rest of a statement that isn't read.
-fn skip(symbol: Symbol) -> State
+fn skip(symbol: Terminal) -> StatementState
     ensures { result ≡ spec.skip symbol }
 {
     match symbol {
-        Symbol::End => State::Start,
-        _ => State::Skip,
+        Terminal::End => StatementState::Start,
+        _ => StatementState::Skip,
     }
 }
 
 /// A label, and the items that follow it.
-fn label(alloc: Global, scope: &mut Scope, line: u32, name: Name) -> Result<State, Stop>
+fn label(alloc: Global, scope: &mut Scope, line: u32, name: Name) -> Result<StatementState, StepFault>
     ensures { spec.Does scope.new result (spec.label scope.old line name) }
 {
     noting(alloc, scope, true, &name)?;
     let body = Body::Label(name);
     scope.push(SourceItem { line, body })?;
-    Ok(State::Start)
+    Ok(StatementState::Start)
 }
 
 /// A symbol behind `rep`.
-fn rep_step(alloc: Global, scope: &mut Scope, line: u32, symbol: Symbol) -> Result<State, Stop>
+fn rep_step(alloc: Global, scope: &mut Scope, line: u32, symbol: Terminal) -> Result<StatementState, StepFault>
     ensures { spec.Does scope.new result (spec.rep_step scope.old line symbol) }
 {
     match symbol {
-        Symbol::Name(name) => Ok(State::Arguments(nothing_yet(
+        Terminal::Name(name) => Ok(StatementState::Arguments(nothing_yet(
             alloc,
             line,
             Head::Instruction { rep: true, name },
         ))),
-        Symbol::Big => Err(Stop::Cause(SourceCause::BadNumber)),
-        _ => Err(Stop::Cause(SourceCause::BadOperand)),
+        Terminal::Big => Err(StepFault::Cause(SourceCause::BadNumber)),
+        _ => Err(StepFault::Cause(SourceCause::BadOperand)),
     }
 }
 
@@ -57,8 +57,8 @@ fn instruction_step(
     scope: &mut Scope,
     line: u32,
     name: Name,
-    symbol: Symbol,
-) -> Result<State, Stop>
+    symbol: Terminal,
+) -> Result<StatementState, StepFault>
     ensures { spec.Does scope.new result (spec.instruction_step scope.old line name symbol) }
 {
     if is_rep(&name) {
@@ -76,18 +76,18 @@ fn is_passed(scope: &Scope, name: &Name) -> bool
     scope.is_skipping() && !changes_section(name)
 }
 
-fn section_name(line: u32, name: Name, symbol: Symbol) -> Result<State, Stop>
+fn section_name(line: u32, name: Name, symbol: Terminal) -> Result<StatementState, StepFault>
     ensures { spec.Makes result (spec.section_name line name symbol) }
 {
     match symbol {
-        Symbol::Name(section) => {
+        Terminal::Name(section) => {
             if is_section(&section) {
-                Ok(State::Sectioned(line, name, section, 0))
+                Ok(StatementState::Sectioned(line, name, section, 0))
             } else {
-                Err(Stop::Cause(SourceCause::BadArgument))
+                Err(StepFault::Cause(SourceCause::BadArgument))
             }
         }
-        other => Err(Stop::Cause(misplaced(&other))),
+        other => Err(StepFault::Cause(misplaced(&other))),
     }
 }
 
@@ -97,12 +97,12 @@ fn directive_step(
     scope: &mut Scope,
     line: u32,
     name: Name,
-    symbol: Symbol,
-) -> Result<State, Stop>
+    symbol: Terminal,
+) -> Result<StatementState, StepFault>
     ensures { spec.Does scope.new result (spec.directive_step scope.old line name symbol) }
 {
     match directive_named(&name) {
-        None => Err(Stop::Cause(SourceCause::UnknownDirective)),
+        None => Err(StepFault::Cause(SourceCause::UnknownDirective)),
         Some(kind) => match kind {
             Directive::Skipped => Ok(skip(symbol)),
             Directive::Section => section_name(line, name, symbol),
@@ -121,7 +121,7 @@ fn section(
     line: u32,
     name: Name,
     section: Name,
-) -> Result<State, Stop>
+) -> Result<StatementState, StepFault>
     ensures { spec.Does scope.new result (spec.section scope.old line name section) }
 {
     let skipping = is_skipped_section(&section);
@@ -136,36 +136,36 @@ fn section(
     };
     scope.push(SourceItem { line, body })?;
     scope.set_skipping(skipping);
-    Ok(State::Start)
+    Ok(StatementState::Start)
 }
 
-fn unless_skipping(skipping: bool, cause: SourceCause) -> Result<State, Stop>
+fn unless_skipping(skipping: bool, cause: SourceCause) -> Result<StatementState, StepFault>
     ensures { spec.Makes result (spec.unless_skipping skipping cause) }
 {
     if skipping {
-        Ok(State::Skip)
+        Ok(StatementState::Skip)
     } else {
-        Err(Stop::Cause(cause))
+        Err(StepFault::Cause(cause))
     }
 }
 
-fn start_step(scope: &Scope, line: u32, symbol: Symbol) -> Result<State, Stop>
+fn start_step(scope: &Scope, line: u32, symbol: Terminal) -> Result<StatementState, StepFault>
     ensures { spec.Makes result (spec.start_step scope.now line symbol) }
 {
     match symbol {
-        Symbol::End => Ok(State::Start),
-        Symbol::Name(name) => Ok(State::Named(line, name)),
-        Symbol::Big => unless_skipping(scope.is_skipping(), SourceCause::BadNumber),
+        Terminal::End => Ok(StatementState::Start),
+        Terminal::Name(name) => Ok(StatementState::Named(line, name)),
+        Terminal::Big => unless_skipping(scope.is_skipping(), SourceCause::BadNumber),
         _ => unless_skipping(scope.is_skipping(), SourceCause::BadOperand),
     }
 }
 
 /// A colon behind a name.
-fn colon_behind(alloc: Global, scope: &mut Scope, begun: u32, name: Name) -> Result<State, Stop>
+fn colon_behind(alloc: Global, scope: &mut Scope, begun: u32, name: Name) -> Result<StatementState, StepFault>
     ensures { spec.Does scope.new result (spec.colon_behind scope.old begun name) }
 {
     if scope.is_skipping() {
-        Ok(State::Start)
+        Ok(StatementState::Start)
     } else {
         label(alloc, scope, begun, name)
     }
@@ -177,8 +177,8 @@ fn other_behind(
     scope: &mut Scope,
     begun: u32,
     name: Name,
-    symbol: Symbol,
-) -> Result<State, Stop>
+    symbol: Terminal,
+) -> Result<StatementState, StepFault>
     ensures { spec.Does scope.new result (spec.other_behind scope.old begun name symbol) }
 {
     if is_passed(scope, &name) {
@@ -195,12 +195,12 @@ fn named_step(
     scope: &mut Scope,
     begun: u32,
     name: Name,
-    symbol: Symbol,
-) -> Result<State, Stop>
+    symbol: Terminal,
+) -> Result<StatementState, StepFault>
     ensures { spec.Does scope.new result (spec.named_step scope.old begun name symbol) }
 {
     match symbol {
-        Symbol::Colon => colon_behind(alloc, scope, begun, name),
+        Terminal::Colon => colon_behind(alloc, scope, begun, name),
         other => other_behind(alloc, scope, begun, name, other),
     }
 }
@@ -212,15 +212,15 @@ fn sectioned_step(
     begun: u32,
     name: Name,
     named: Name,
-    symbol: Symbol,
-) -> Result<State, Stop>
+    symbol: Terminal,
+) -> Result<StatementState, StepFault>
     ensures { spec.Does scope.new result (spec.sectioned_step scope.old begun name named symbol) }
 {
     match symbol {
-        Symbol::End => section(alloc, scope, begun, name, named),
-        Symbol::Comma => Ok(State::Flags(begun, name, named)),
-        Symbol::Big => Err(Stop::Cause(SourceCause::BadNumber)),
-        _ => Err(Stop::Cause(SourceCause::BadOperand)),
+        Terminal::End => section(alloc, scope, begun, name, named),
+        Terminal::Comma => Ok(StatementState::Flags(begun, name, named)),
+        Terminal::Big => Err(StepFault::Cause(SourceCause::BadNumber)),
+        _ => Err(StepFault::Cause(SourceCause::BadOperand)),
     }
 }
 
@@ -231,22 +231,22 @@ fn flags_step(
     begun: u32,
     name: Name,
     named: Name,
-    symbol: Symbol,
-) -> Result<State, Stop>
+    symbol: Terminal,
+) -> Result<StatementState, StepFault>
     ensures { spec.Does scope.new result (spec.flags_step scope.old begun name named symbol) }
 {
     match symbol {
-        Symbol::End => section(alloc, scope, begun, name, named),
-        _ => Ok(State::Flags(begun, name, named)),
+        Terminal::End => section(alloc, scope, begun, name, named),
+        _ => Ok(StatementState::Flags(begun, name, named)),
     }
 }
 
 /// The cause at a `%` that may not stand in its place, with what follows it.
-fn stray_cause(cause: SourceCause, symbol: &Symbol) -> SourceCause
+fn stray_cause(cause: SourceCause, symbol: &Terminal) -> SourceCause
     ensures { result ≡ spec.stray_cause cause symbol.now }
 {
     match symbol {
-        Symbol::Name(name) => {
+        Terminal::Name(name) => {
             if is_register(name) {
                 cause
             } else {
@@ -261,21 +261,21 @@ fn stray_cause(cause: SourceCause, symbol: &Symbol) -> SourceCause
 pub fn step(
     alloc: Global,
     scope: &mut Scope,
-    state: State,
+    state: StatementState,
     line: u32,
-    symbol: Symbol,
-) -> Result<State, Stop>
+    symbol: Terminal,
+) -> Result<StatementState, StepFault>
     ensures { spec.Does scope.new result (spec.step scope.old state line symbol) }
 {
     match state {
-        State::Start => start_step(scope, line, symbol),
-        State::Named(begun, name) => named_step(alloc, scope, begun, name, symbol),
-        State::Skip => Ok(skip(symbol)),
-        State::Sectioned(begun, name, named, _) => {
+        StatementState::Start => start_step(scope, line, symbol),
+        StatementState::Named(begun, name) => named_step(alloc, scope, begun, name, symbol),
+        StatementState::Skip => Ok(skip(symbol)),
+        StatementState::Sectioned(begun, name, named, _) => {
             sectioned_step(alloc, scope, begun, name, named, symbol)
         }
-        State::Flags(begun, name, named) => flags_step(alloc, scope, begun, name, named, symbol),
-        State::Stray(_, cause) => Err(Stop::Cause(stray_cause(cause, &symbol))),
-        State::Arguments(begun) => argument_step(alloc, scope, begun, symbol),
+        StatementState::Flags(begun, name, named) => flags_step(alloc, scope, begun, name, named, symbol),
+        StatementState::Stray(_, cause) => Err(StepFault::Cause(stray_cause(cause, &symbol))),
+        StatementState::Arguments(begun) => argument_step(alloc, scope, begun, symbol),
     }
 }

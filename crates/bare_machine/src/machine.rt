@@ -13,7 +13,7 @@ use descriptors::Cpu;
 use guest_ram::Ram;
 use ia32_types::Stop;
 use machine_step::{Rules, Seen};
-use step_mem::{Control, Guard, Own, State, Text};
+use step_mem::{Control, Guard, Own, StepState, Text};
 use xlate_buffer::Cache;
 
 /// The bare machine: processor, memory, cached translations, board, the count of steps, and how many frames the memory
@@ -40,14 +40,14 @@ const NO_BYTES: Own = Own {
 };
 
 /// A state whose place the first step's takes.
-pub fn first_state() -> State<'static> {
+pub fn first_state() -> StepState<'static> {
     let control = Control {
         frames: 0,
         cr3: 0,
         pse: false,
         wp: false,
     };
-    State::new(
+    StepState::new(
         control,
         Guard {
             text: &NO_TEXT,
@@ -62,7 +62,7 @@ pub fn first_state() -> State<'static> {
 pub fn step<C: Cache>(
     machine: &mut Bare<C>,
     script: &Script,
-    state: &mut State<'static>,
+    state: &mut StepState<'static>,
 ) -> Result<Seen, Stop>
     requires script { is_script script.now.list ≡ true }
     requires kept { IsKept machine.old.frames (state_of C.entries machine.old) }

@@ -8,7 +8,7 @@ use Rattle.board.specs.declared.fault.ScriptCause.{ScriptCause}
 use Rattle.board.specs.declared.fault.ScriptFault.{ScriptFault}
 use Rattle.board.specs.declared.fault.ScriptFault.TheVariants.{At, Memory}
 use Rattle.board.specs.Scripts.{Events, event_fits, max_step, max_events, is_script_from}
-use Rattle.board.specs.Texts.{Reading, IsReading, line_of, line_read, lines_read, events_of}
+use Rattle.board.specs.Texts.{Reading, IsReading, event_of_line, line_read, lines_read, events_of}
 use Rattle.board.specs.Reads.{FaultAs, RefusedAs}
 use Rattle.board.proofs.Searches.{first_facts}
 
@@ -48,19 +48,19 @@ stays fault [] = refl
 stays fault (line ∷ lines) = stays fault lines
 
 -- the next line
-pub next_line : (r s : Reading) (line : List ℕ) (lines : List (List ℕ)) → line_read r (line_of line) ≡ Ok s →
+pub next_line : (r s : Reading) (line : List ℕ) (lines : List (List ℕ)) → line_read r (event_of_line line) ≡ Ok s →
     lines_read (Ok r) (line ∷ lines) ≡ lines_read (Ok s) lines
 unfolding lines_read
 next_line r s line lines is = ap (λ (x : Result Reading (ℕ × ScriptCause)). lines_read x lines) is
 
-pub refused_line : (r : Reading) (line : List ℕ) (lines : List (List ℕ)) (fault : ScriptFault) → RefusedAs fault (line_read r (line_of line)) →
+pub refused_line : (r : Reading) (line : List ℕ) (lines : List (List ℕ)) (fault : ScriptFault) → RefusedAs fault (line_read r (event_of_line line)) →
     FaultAs fault (events_of (lines_read (Ok r) (line ∷ lines)))
 unfolding lines_read
 refused_line r line lines (At n cause) is =
     ap events_of (ap (λ (x : Result Reading (ℕ × ScriptCause)). lines_read x lines) is ∙ stays (n, cause) lines)
 refused_line r line lines Memory is = tt
 
-pub last_line : (r s : Reading) (line : List ℕ) → line_read r (line_of line) ≡ Ok s →
+pub last_line : (r s : Reading) (line : List ℕ) → line_read r (event_of_line line) ≡ Ok s →
     events_of (lines_read (Ok r) (line ∷ [])) ≡ Ok s.events
 unfolding lines_read
 last_line r s line is = ap events_of is

@@ -10,7 +10,7 @@ use Rattle.board.specs.declared.fault.ScriptCause.TheVariants.{StepFalls, TooMan
 use Rattle.board.specs.declared.fault.ScriptFault.{ScriptFault}
 use Rattle.board.specs.declared.fault.ScriptFault.TheVariants.{At, Memory}
 use Rattle.board.specs.Scripts.{Events, max_events}
-use Rattle.board.specs.Texts.{Reading, line_of, line_read, lines_read, events_of, cut_at, script_of, at_start}
+use Rattle.board.specs.Texts.{Reading, event_of_line, line_read, lines_read, events_of, cut_at, script_of, at_start}
 use Rattle.board.specs.Reads.{ReadAs}
 use Rattle.board.specs.Lines.{said, events_on, last_step, badness, badness_of, AreGood, LinesSay, AnswerSays}
 use Rattle.board.proofs.Readings.{stays}
@@ -28,9 +28,9 @@ last_more low (x ∷ xs) e = last_more x.0 xs e
 
 -- the events of one line more
 events_more : (lines : List (List ℕ)) (i : ℕ) (x : Result (Option (ℕ × Event)) ScriptCause) → i < length lines →
-    line_of (get_or lines i []) ≡ x → events_on (take (i + 1) lines) ≡ events_on (take i lines) ++ said x
+    event_of_line (get_or lines i []) ≡ x → events_on (take (i + 1) lines) ≡ events_on (take i lines) ++ said x
 events_more lines i x within is =
-    let on : List ℕ → Events = λ line. said (line_of line) in
+    let on : List ℕ → Events = λ line. said (event_of_line line) in
     ap events_on (take_more lines i [] within)
     ∙ flat_map-append on (take i lines) (get_or lines i [] ∷ [])
     ∙ ap (λ (z : Events). events_on (take i lines) ++ z) (append-nil (on (get_or lines i [])))
@@ -48,7 +48,7 @@ verdict falls full = if falls then Some StepFalls else if full then Some TooMany
 
 -- an event more, by the two tests
 event_on : (lines : List (List ℕ)) (i : ℕ) (r : Reading) (rest : List (List ℕ)) (e : ℕ × Event) →
-    line_of (get_or lines i []) ≡ Ok (Some e) → i < length lines → Stands lines i r →
+    event_of_line (get_or lines i []) ≡ Ok (Some e) → i < length lines → Stands lines i r →
     ((s : Reading) → Stands lines (i + 1) s → LinesSay lines (events_of (lines_read (Ok s) rest))) →
     (falls full : Bool) → badness_of lines i ≡ verdict falls full →
     LinesSay lines
@@ -71,7 +71,7 @@ event_on lines i r rest e is within st on false false bad =
 
 -- one line more, by what it says
 goes_on : (lines : List (List ℕ)) (i : ℕ) (r : Reading) (rest : List (List ℕ)) (x : Result (Option (ℕ × Event)) ScriptCause) →
-    line_of (get_or lines i []) ≡ x → i < length lines → Stands lines i r →
+    event_of_line (get_or lines i []) ≡ x → i < length lines → Stands lines i r →
     ((s : Reading) → Stands lines (i + 1) s → LinesSay lines (events_of (lines_read (Ok s) rest))) →
     LinesSay lines (events_of (lines_read (line_read r x) rest))
 goes_on lines i r rest (Err cause) is within st on =
@@ -106,7 +106,7 @@ says lines (line ∷ rest) i r is within st =
     let both : line ∷ rest ≡ get_or lines i [] ∷ drop (i + 1) lines = is ∙ split in
     let here : line ≡ get_or lines i [] = cc in
     let after : rest ≡ drop (i + 1) lines = cc in
-    goes_on lines i r rest (line_of line) (sym (ap line_of here)) before st
+    goes_on lines i r rest (event_of_line line) (sym (ap event_of_line here)) before st
     (λ s stands. says lines rest (i + 1) s after (omega arith) stands)
 
 text_says : (text : List ℕ) → LinesSay (cut_at 10 text) (script_of text)

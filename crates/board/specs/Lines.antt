@@ -8,7 +8,7 @@ use Rattle.board.specs.declared.fault.ScriptCause.TheVariants.{StepFalls, TooMan
 use Rattle.board.specs.declared.fault.ScriptFault.{ScriptFault}
 use Rattle.board.specs.declared.fault.ScriptFault.TheVariants.{At, Memory}
 use Rattle.board.specs.Scripts.{Events, max_events}
-use Rattle.board.specs.Texts.{line_of}
+use Rattle.board.specs.Texts.{event_of_line}
 
 -- the event that a line says, if any
 abbrev pub said : Result (Option (ℕ × Event)) ScriptCause → Events
@@ -18,7 +18,7 @@ said (Ok (Some event)) = event ∷ []
 
 -- the events of lines, in their order
 abbrev pub events_on : List (List ℕ) → Events
-events_on lines = flat_map (λ line. said (line_of line)) lines
+events_on lines = flat_map (λ line. said (event_of_line line)) lines
 
 -- the step of the last event, or 0
 abbrev pub last_step : Events → ℕ
@@ -35,7 +35,7 @@ badness before (Ok (Some event)) =
 
 -- the same of line i, counted from 0, behind the lines before it
 abbrev pub badness_of : List (List ℕ) → ℕ → Option ScriptCause
-badness_of lines i = badness (events_on (take i lines)) (line_of (slice_index_or lines i []))
+badness_of lines i = badness (events_on (take i lines)) (event_of_line (slice_index_or lines i []))
 
 -- the first n lines are good
 abbrev pub AreGood : List (List ℕ) → ℕ → Type 0

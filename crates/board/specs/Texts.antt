@@ -28,8 +28,8 @@ abbrev pub number_upto : ℕ → List ℕ → Option ℕ
 number_upto limit word = number_after limit 0 word
 
 -- a hexadecimal digit of either case
-abbrev pub hex_digit : ℕ → Option ℕ
-hex_digit b =
+abbrev pub hex_value : ℕ → Option ℕ
+hex_value b =
     if nat_le 48 b && nat_le b 57 then Some (b - 48)
     else if nat_le 65 b && nat_le b 70 then Some (b - 55)
     else if nat_le 97 b && nat_le b 102 then Some (b - 87)
@@ -43,7 +43,7 @@ both_digits (Some high) (Some low) = Some (16 * high + low)
 -- two hexadecimal digits
 unfoldable pub hex_byte : List ℕ → Option ℕ
 hex_byte word =
-    if length word == 2 then both_digits (hex_digit (slice_index word 0)) (hex_digit (slice_index word 1)) else None
+    if length word == 2 then both_digits (hex_value (slice_index word 0)) (hex_value (slice_index word 1)) else None
 
 abbrev pub free_line_of : Option ℕ → Option ℕ
 free_line_of None = None
@@ -80,8 +80,8 @@ event_in (a ∷ b ∷ c ∷ d ∷ rest) = Err NoForm
 abbrev pub cut_at : ℕ → List ℕ → List (List ℕ)
 cut_at c text = slice_split (λ b. b == c) text
 
-abbrev pub is_plain : ℕ → Bool
-is_plain b = nat_le 0x20 b && nat_le b 0x7E
+abbrev pub is_printable : ℕ → Bool
+is_printable b = nat_le 0x20 b && nat_le b 0x7E
 
 -- an empty line, or one that begins with '#'
 abbrev pub is_skipped : List ℕ → Bool
@@ -93,9 +93,9 @@ some_event (Ok event) = Ok (Some event)
 some_event (Err cause) = Err cause
 
 -- what a line says: its bytes are tested first, also those of a skipped one
-unfoldable pub line_of : List ℕ → Result (Option (ℕ × Event)) ScriptCause
-line_of line =
-    if not (list_all is_plain line) then Err NotAscii
+unfoldable pub event_of_line : List ℕ → Result (Option (ℕ × Event)) ScriptCause
+event_of_line line =
+    if not (list_all is_printable line) then Err NotAscii
     else if is_skipped line then Ok None
     else some_event (event_in (cut_at 32 line))
 
@@ -125,7 +125,7 @@ line_read r (Ok (Some event)) =
 -- the next line: after the first bad one nothing is read
 abbrev pub next_read : Result Reading (ℕ × ScriptCause) → List ℕ → Result Reading (ℕ × ScriptCause)
 next_read (Err fault) line = Err fault
-next_read (Ok r) line = line_read r (line_of line)
+next_read (Ok r) line = line_read r (event_of_line line)
 
 unfoldable pub lines_read : Result Reading (ℕ × ScriptCause) → List (List ℕ) → Result Reading (ℕ × ScriptCause)
 lines_read so_far lines = fold next_read so_far lines

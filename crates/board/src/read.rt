@@ -5,7 +5,7 @@ ghost use Rattle.std.specs.Option.{option_map};
 ghost use Rattle.std.specs.List.{list_all};
 ghost use Rattle.board.specs.declared.script.Event.TheVariants.{Line};
 ghost use Rattle.board.specs.Scripts.{max_step, event_fits};
-ghost use Rattle.board.specs.Texts.{number_upto, is_digit, hex_digit, both_digits, hex_byte, free_line_of, event_of, event_in, cut_at, is_plain, is_skipped, is_empty, line_of};
+ghost use Rattle.board.specs.Texts.{number_upto, is_digit, hex_value, both_digits, hex_byte, free_line_of, event_of, event_in, cut_at, is_printable, is_skipped, is_empty, event_of_line};
 ghost use Rattle.board.specs.Cuts.{IsCut};
 
 use crate::fault::ScriptCause;
@@ -38,8 +38,8 @@ fn number(word: &[u8], limit: u64) -> Option<u64>
     Some(value)
 }
 
-fn hex_digit(b: u8) -> Option<u8>
-    ensures value { result ≡ hex_digit b }
+fn hex_value(b: u8) -> Option<u8>
+    ensures value { result ≡ hex_value b }
     ensures bound { IfSome result (λ n. n < 16) }
 {
     match b {
@@ -69,7 +69,7 @@ fn hex_byte(word: &[u8]) -> Option<u8>
     if word.len() != 2 {
         return None;
     }
-    both_digits(hex_digit(word[0]), hex_digit(word[1]))
+    both_digits(hex_value(word[0]), hex_value(word[1]))
 }
 
 /// The place of the first byte c.
@@ -146,7 +146,7 @@ fn read_event(line: &[u8]) -> Result<(u64, Event), ScriptCause>
 
 /// Whether no byte is a control or above 0x7E.
 fn is_plain_text(line: &[u8]) -> bool
-    ensures { result ≡ list_all is_plain line.now }
+    ensures { result ≡ list_all is_printable line.now }
 {
     line.iter().all(|b| 0x20 <= *b && *b <= 0x7E)
 }
@@ -161,9 +161,9 @@ fn is_skipped(line: &[u8]) -> bool
 }
 
 /// What a line says.
-#[tactic(auto, unfolding(crate::specs::Texts::line_of))]
+#[tactic(auto, unfolding(crate::specs::Texts::event_of_line))]
 pub fn read_line(line: &[u8]) -> Result<Option<(u64, Event)>, ScriptCause>
-    ensures event { result ≡ line_of line.now }
+    ensures event { result ≡ event_of_line line.now }
     ensures fits { IfOk result (λ o. IfSome o (λ e. (e.0 ≤ max_step) × (event_fits e.1 ≡ true))) }
 {
     if !is_plain_text(line) {

@@ -2,7 +2,7 @@
 
 ghost use Rattle.std.specs.Prelude.{◌≡◌, ◌+◌, ◌<◌, ◌≤◌, ◌^◌, ◌++◌, ◌∷◌, [], true, length, IfOk, OnOk};
 ghost use Rattle.board.specs.Scripts.{max_step, max_events, event_fits, is_script};
-ghost use Rattle.board.specs.Texts.{at_start, line_of, line_read, cut_at, script_of};
+ghost use Rattle.board.specs.Texts.{at_start, event_of_line, line_read, cut_at, script_of};
 ghost use Rattle.board.specs.Lines.{AnswerSays};
 ghost use Rattle.board.specs.declared.fault.ScriptFault.TheVariants.{At};
 ghost use Rattle.board.specs.Reads.{ReadAs, TakenAs};
@@ -49,7 +49,7 @@ impl Reading {
     /// Reads the next line.
     fn take_line(&mut self, text: &[u8]) -> Result<(), ScriptFault>
         requires { self.old.line + 1 < 2 ^ 64 }
-        ensures taken { TakenAs (line_read self.old (line_of text.now)) result self.new }
+        ensures taken { TakenAs (line_read self.old (event_of_line text.now)) result self.new }
         ensures line { OnOk result (self.new.line ≡ self.old.line + 1) }
     {
         match read_line(text) {

@@ -13,8 +13,8 @@ use Rattle.asm_source.specs.declared.tree.SourceItem.{SourceItem}
 use Rattle.asm_source.specs.declared.tree.Argument.{Argument}
 use Rattle.asm_source.specs.Readable.{names_in}
 use Rattle.asm_source.specs.Names.{symbol_in}
-use Rattle.elf_form.specs.declared.object.Place.{Place}
-use Rattle.elf_form.specs.declared.object.Place.TheVariants as place
+use Rattle.elf_form.specs.declared.object.DefinedIn.{DefinedIn}
+use Rattle.elf_form.specs.declared.object.DefinedIn.TheVariants as place
 use Rattle.elf_form.specs.declared.object.Symbol.{Symbol}
 use Rattle.elf_form.specs.declared.object.Reloc.{Reloc}
 use Rattle.elf_form.specs.ObjectParts.{ObjectParts}
@@ -34,7 +34,7 @@ use Rattle.afterburner.specs.declared.value.Width.{Width}
 use Rattle.afterburner.specs.declared.value.Width.TheVariants as width
 use Rattle.afterburner.specs.declared.fault.BurnCause.{BurnCause}
 use Rattle.afterburner.specs.declared.fault.BurnCause.TheVariants as cause
-use Rattle.afterburner.specs.State.{State, undefined, fresh}
+use Rattle.afterburner.specs.ObjectSoFar.{ObjectSoFar, undefined, fresh}
 use Rattle.afterburner.specs.Names.{name_number}
 use Rattle.afterburner.specs.Symbols.{definition_of, defined_at, stronger, with_binding, bound}
 use Rattle.afterburner.specs.Arguments.{count_at, text_at, symbol_at, limit_at, alignment, power}
@@ -59,7 +59,7 @@ module _ (Plain : Type 0) where
   label_of cs (d ∷ ds) zero h = All-head (IsLabel cs) d ds h
   label_of cs (d ∷ ds) (suc k) h = label_of cs ds k (All-tail (IsLabel cs) d ds h)
 
-  defined_labels : (cs : List Chunk) (names : List (List ℕ)) (ds : List Definition) (name : List ℕ) (p : Place) (value : ℕ) → (p ≡ place.Text → IsEdge cs value) → All (IsLabel cs) ds → All (IsLabel cs) (defined_at names ds name p value)
+  defined_labels : (cs : List Chunk) (names : List (List ℕ)) (ds : List Definition) (name : List ℕ) (p : DefinedIn) (value : ℕ) → (p ≡ place.Text → IsEdge cs value) → All (IsLabel cs) ds → All (IsLabel cs) (defined_at names ds name p value)
   defined_labels cs names ds name p value edge h = All-set (IsLabel cs) ds (name_number names name) (record (definition_of ds (name_number names name)) { place = p; value = value }) edge h
 
   bound_labels : (cs : List Chunk) (ds : List Definition) (k : ℕ) (b : Binding) → All (IsLabel cs) ds → All (IsLabel cs) (with_binding ds k b)
@@ -67,30 +67,30 @@ module _ (Plain : Type 0) where
 
   -- ---- states that are behind no STI
 
-  with_names : (st new : State) (cs : List Chunk) → IsMade Plain st cs → IsSameText st new → new.data_relocs ≡ st.data_relocs → All (IsLabel cs) new.definitions → IsMade Plain new cs
+  with_names : (st new : ObjectSoFar) (cs : List Chunk) → IsMade Plain st cs → IsSameText st new → new.data_relocs ≡ st.data_relocs → All (IsLabel cs) new.definitions → IsMade Plain new cs
   with_names st new cs h s d labels = same_made Plain st new cs h s (subst (λ (rs : List Reloc). All (λ (r : Reloc). r.in_text ≡ false) rs) (sym d) h.in_data) labels
 
-  section_made : (st : State) (cs : List Chunk) (s : Section) → st.after_sti ≡ false → IsMade Plain st cs → IsMade Plain (entered st s) cs
+  section_made : (st : ObjectSoFar) (cs : List Chunk) (s : Section) → st.after_sti ≡ false → IsMade Plain st cs → IsMade Plain (entered st s) cs
   section_made st cs s e h = with_names st (entered st s) cs h (record { text = refl; sites = refl; relocs = refl; no_sti = e }) refl h.labels
 
-  init_made : (st : State) (cs : List Chunk) (bytes : List ℕ) → st.after_sti ≡ false → IsMade Plain st cs → IsMade Plain (record st { init = bytes }) cs
+  init_made : (st : ObjectSoFar) (cs : List Chunk) (bytes : List ℕ) → st.after_sti ≡ false → IsMade Plain st cs → IsMade Plain (record st { init = bytes }) cs
   init_made st cs bytes e h = with_names st (record st { init = bytes }) cs h (record { text = refl; sites = refl; relocs = refl; no_sti = e }) refl h.labels
 
-  bss_made : (st : State) (cs : List Chunk) (n : ℕ) → st.after_sti ≡ false → IsMade Plain st cs → IsMade Plain (record st { bss = n }) cs
+  bss_made : (st : ObjectSoFar) (cs : List Chunk) (n : ℕ) → st.after_sti ≡ false → IsMade Plain st cs → IsMade Plain (record st { bss = n }) cs
   bss_made st cs n e h = with_names st (record st { bss = n }) cs h (record { text = refl; sites = refl; relocs = refl; no_sti = e }) refl h.labels
 
-  bound_made : (names : List (List ℕ)) (st : State) (cs : List Chunk) (name : Option (List ℕ)) (b : Binding) → st.after_sti ≡ false → IsMade Plain st cs → IsMade Plain (bound names st name b) cs
+  bound_made : (names : List (List ℕ)) (st : ObjectSoFar) (cs : List Chunk) (name : Option (List ℕ)) (b : Binding) → st.after_sti ≡ false → IsMade Plain st cs → IsMade Plain (bound names st name b) cs
   bound_made names st cs None b e h = h
   bound_made names st cs (Some name) b e h = with_names st (record st { definitions = with_binding st.definitions (name_number names name) b }) cs h (record { text = refl; sites = refl; relocs = refl; no_sti = e }) refl (bound_labels cs st.definitions (name_number names name) b h.labels)
 
   not_bss : (cs : List Chunk) (value : ℕ) → place.Bss ≡ place.Text → IsEdge cs value
   not_bss cs value e = absurd cc
 
-  defined_made : (names : List (List ℕ)) (st : State) (cs : List Chunk) (name : Option (List ℕ)) → st.after_sti ≡ false → IsMade Plain st cs → IsMade Plain (defined_in_bss names st name) cs × ((defined_in_bss names st name).after_sti ≡ false)
+  defined_made : (names : List (List ℕ)) (st : ObjectSoFar) (cs : List Chunk) (name : Option (List ℕ)) → st.after_sti ≡ false → IsMade Plain st cs → IsMade Plain (defined_in_bss names st name) cs × ((defined_in_bss names st name).after_sti ≡ false)
   defined_made names st cs None e h = (h, e)
   defined_made names st cs (Some name) e h = (with_names st (defined_in_bss names st (Some name)) cs h (record { text = refl; sites = refl; relocs = refl; no_sti = e }) refl (defined_labels cs names st.definitions name place.Bss st.bss (not_bss cs st.bss) h.labels), e)
 
-  reserved_made : (names : List (List ℕ)) (st : State) (cs : List Chunk) (name : Option (List ℕ)) (size n : ℕ) → st.after_sti ≡ false → IsMade Plain st cs → IsMade Plain (reserved names st name size n) cs × ((reserved names st name size n).after_sti ≡ false)
+  reserved_made : (names : List (List ℕ)) (st : ObjectSoFar) (cs : List Chunk) (name : Option (List ℕ)) (size n : ℕ) → st.after_sti ≡ false → IsMade Plain st cs → IsMade Plain (reserved names st name size n) cs × ((reserved names st name size n).after_sti ≡ false)
   unfolding reserved
   reserved_made names st cs name size n e h =
       let here = record st { bss = st.bss + gap n st.bss } in
@@ -98,21 +98,21 @@ module _ (Plain : Type 0) where
       let p = defined_in_bss names here name in
       (bss_made p cs (p.bss + size) d.1 d.0, d.1)
 
-  filled_made : (st : State) (cs : List Chunk) (s : Section) (n : ℕ) → st.after_sti ≡ false → IsMade Plain st cs → Made Plain (filled_in st s n)
+  filled_made : (st : ObjectSoFar) (cs : List Chunk) (s : Section) (n : ℕ) → st.after_sti ≡ false → IsMade Plain st cs → Made Plain (filled_in st s n)
   filled_made st cs section.Text n e h = (cs ++ nop_chunks n, subst (λ (b : Bool). IsMade Plain (record st { text = st.text ++ replicate n 144; after_sti = b }) (cs ++ nop_chunks n)) (sym e) (nops_made Plain st cs n h))
   filled_made st cs section.Init n e h = (cs, init_made st cs (st.init ++ replicate n 0) e h)
   filled_made st cs section.Bss n e h = (cs, bss_made st cs (st.bss + n) e h)
 
-  aligned_made : (st : State) (cs : List Chunk) (n : ℕ) (most : Option ℕ) → st.after_sti ≡ false → IsMade Plain st cs → Made Plain (aligned st n most)
+  aligned_made : (st : ObjectSoFar) (cs : List Chunk) (n : ℕ) (most : Option ℕ) → st.after_sti ≡ false → IsMade Plain st cs → Made Plain (aligned st n most)
   unfolding aligned
   aligned_made st cs n most e h = filled_made st cs st.section (unless_more most (gap n (here st))) e h
 
-  place_edge : (st : State) (cs : List Chunk) (s : Section) → IsMade Plain st cs → place_of s ≡ place.Text → IsEdge cs (size_of st s)
+  place_edge : (st : ObjectSoFar) (cs : List Chunk) (s : Section) → IsMade Plain st cs → place_of s ≡ place.Text → IsEdge cs (size_of st s)
   place_edge st cs section.Text h e = subst (IsEdge cs) (ap length (sym h.text)) (whole_edge cs)
   place_edge st cs section.Init h e = absurd cc
   place_edge st cs section.Bss h e = absurd cc
 
-  labelled_made : (names : List (List ℕ)) (st : State) (cs : List Chunk) (name : List ℕ) → st.after_sti ≡ false → IsMade Plain st cs → IsMade Plain (labelled names st name) cs
+  labelled_made : (names : List (List ℕ)) (st : ObjectSoFar) (cs : List Chunk) (name : List ℕ) → st.after_sti ≡ false → IsMade Plain st cs → IsMade Plain (labelled names st name) cs
   unfolding labelled
   labelled_made names st cs name e h =
       with_names st (record st { definitions = defined_at names st.definitions name (place_of st.section) (here st) }) cs h (record { text = refl; sites = refl; relocs = refl; no_sti = e }) refl
@@ -124,51 +124,51 @@ module _ (Plain : Type 0) where
   data_reloc_is names at None = All-nil (λ (r : Reloc). r.in_text ≡ false)
   data_reloc_is names at (Some name) = All-cons (λ (r : Reloc). r.in_text ≡ false) (record { in_text = false; at = at; symbol = name_number names name; relative = false }) [] refl (All-nil (λ (r : Reloc). r.in_text ≡ false))
 
-  longs_made : (names : List (List ℕ)) (st : State) (cs : List Chunk) (args : List Argument) → st.after_sti ≡ false → IsMade Plain st cs → IsMade Plain (fold (with_long names) st args) cs
+  longs_made : (names : List (List ℕ)) (st : ObjectSoFar) (cs : List Chunk) (args : List Argument) → st.after_sti ≡ false → IsMade Plain st cs → IsMade Plain (fold (with_long names) st args) cs
   longs_made names st cs [] e h = h
   longs_made names st cs (a ∷ args) e h =
       longs_made names (with_long names st a) cs args e
       (same_made Plain st (with_long names st a) cs h (record { text = refl; sites = refl; relocs = refl; no_sti = e })
       (All-append (λ (r : Reloc). r.in_text ≡ false) st.data_relocs (data_reloc names (length st.init) (symbol_in a.form)) h.in_data (data_reloc_is names (length st.init) (symbol_in a.form))) h.labels)
 
-  in_init_made : (st next new : State) (cs : List Chunk) → IsMade Plain next cs → in_init st next ≡ Ok new → Made Plain new
-  in_init_made st next new cs h e = (cs, subst (λ (x : State). IsMade Plain x cs) (or_ok (is_init st.section) cause.DataInText next new e) h)
+  in_init_made : (st next new : ObjectSoFar) (cs : List Chunk) → IsMade Plain next cs → in_init st next ≡ Ok new → Made Plain new
+  in_init_made st next new cs h e = (cs, subst (λ (x : ObjectSoFar). IsMade Plain x cs) (or_ok (is_init st.section) cause.DataInText next new e) h)
 
-  numbers_made : (st new : State) (cs : List Chunk) (w : Width) (args : List Argument) → st.after_sti ≡ false → IsMade Plain st cs → numbers st w args ≡ Ok new → Made Plain new
+  numbers_made : (st new : ObjectSoFar) (cs : List Chunk) (w : Width) (args : List Argument) → st.after_sti ≡ false → IsMade Plain st cs → numbers st w args ≡ Ok new → Made Plain new
   unfolding numbers
   numbers_made st new cs w args e h is = in_init_made st (record st { init = st.init ++ values w args }) new cs (init_made st cs (st.init ++ values w args) e h) (if_ok (not (all_fit w args)) cause.ValueRange (in_init st (record st { init = st.init ++ values w args })) new is)
 
-  longs_is : (names : List (List ℕ)) (st new : State) (cs : List Chunk) (args : List Argument) → st.after_sti ≡ false → IsMade Plain st cs → longs names st args ≡ Ok new → Made Plain new
+  longs_is : (names : List (List ℕ)) (st new : ObjectSoFar) (cs : List Chunk) (args : List Argument) → st.after_sti ≡ false → IsMade Plain st cs → longs names st args ≡ Ok new → Made Plain new
   unfolding longs
   longs_is names st new cs args e h is = in_init_made st (fold (with_long names) st args) new cs (longs_made names st cs args e h) (if_ok (not (all_fit width.Long args)) cause.ValueRange (in_init st (fold (with_long names) st args)) new is)
 
-  strings_made : (st new : State) (cs : List Chunk) (ended : Bool) (args : List Argument) → st.after_sti ≡ false → IsMade Plain st cs → strings st ended args ≡ Ok new → Made Plain new
+  strings_made : (st new : ObjectSoFar) (cs : List Chunk) (ended : Bool) (args : List Argument) → st.after_sti ≡ false → IsMade Plain st cs → strings st ended args ≡ Ok new → Made Plain new
   unfolding strings
   strings_made st new cs ended args e h is = in_init_made st (record st { init = st.init ++ flat_map (string_bytes ended) args }) new cs (init_made st cs (st.init ++ flat_map (string_bytes ended) args) e h) is
 
-  zeros_made : (st new : State) (cs : List Chunk) (s : Section) (n : ℕ) → st.after_sti ≡ false → IsMade Plain st cs → zeros_in st s n ≡ Ok new → Made Plain new
+  zeros_made : (st new : ObjectSoFar) (cs : List Chunk) (s : Section) (n : ℕ) → st.after_sti ≡ false → IsMade Plain st cs → zeros_in st s n ≡ Ok new → Made Plain new
   zeros_made st new cs section.Text n e h is = absurd cc
   zeros_made st new cs section.Init n e h is =
       let same = ok_same (record st { init = st.init ++ replicate n 0 }) new (if_ok (nat_lt 33554432 (length st.init + st.bss + n)) cause.InitTooLarge (ok_state (record st { init = st.init ++ replicate n 0 })) new is) in
-      (cs, subst (λ (x : State). IsMade Plain x cs) same (init_made st cs (st.init ++ replicate n 0) e h))
+      (cs, subst (λ (x : ObjectSoFar). IsMade Plain x cs) same (init_made st cs (st.init ++ replicate n 0) e h))
   zeros_made st new cs section.Bss n e h is =
-      (cs, subst (λ (x : State). IsMade Plain x cs) (ok_same (record st { bss = st.bss + n }) new is) (bss_made st cs (st.bss + n) e h))
+      (cs, subst (λ (x : ObjectSoFar). IsMade Plain x cs) (ok_same (record st { bss = st.bss + n }) new is) (bss_made st cs (st.bss + n) e h))
 
   -- ---- directives
 
-  made_as : (x new : State) (cs : List Chunk) → IsMade Plain x cs → ok_state x ≡ Ok new → Made Plain new
-  made_as x new cs h e = (cs, subst (λ (y : State). IsMade Plain y cs) (ok_same x new e) h)
+  made_as : (x new : ObjectSoFar) (cs : List Chunk) → IsMade Plain x cs → ok_state x ≡ Ok new → Made Plain new
+  made_as x new cs h e = (cs, subst (λ (y : ObjectSoFar). IsMade Plain y cs) (ok_same x new e) h)
 
-  some_made : (x new : State) → Made Plain x → ok_state x ≡ Ok new → Made Plain new
+  some_made : (x new : ObjectSoFar) → Made Plain x → ok_state x ≡ Ok new → Made Plain new
   some_made x new h e = subst (Made Plain) (ok_same x new e) h
 
-  common_made : (names : List (List ℕ)) (st : State) (cs : List Chunk) (args : List Argument) → st.after_sti ≡ false → IsMade Plain st cs → IsMade Plain (common names st args) cs
+  common_made : (names : List (List ℕ)) (st : ObjectSoFar) (cs : List Chunk) (args : List Argument) → st.after_sti ≡ false → IsMade Plain st cs → IsMade Plain (common names st args) cs
   unfolding common
   common_made names st cs args e h =
       let r = reserved_made names st cs (symbol_at args 0) (count_at args 1) (common_alignment (limit_at args 2)) e h in
       bound_made names (reserved names st (symbol_at args 0) (count_at args 1) (common_alignment (limit_at args 2))) cs (symbol_at args 0) binding.Common r.1 r.0
 
-  directed_made : (names : List (List ℕ)) (st new : State) (cs : List Chunk) (d : DirectiveName) (args : List Argument) → st.after_sti ≡ false → IsMade Plain st cs → directed names st d args ≡ Ok new → Made Plain new
+  directed_made : (names : List (List ℕ)) (st new : ObjectSoFar) (cs : List Chunk) (d : DirectiveName) (args : List Argument) → st.after_sti ≡ false → IsMade Plain st cs → directed names st d args ≡ Ok new → Made Plain new
   unfolding directed
   directed_made names st new cs directive.Text args e h is = made_as (entered st section.Text) new cs (section_made st cs section.Text e h) is
   directed_made names st new cs directive.Data args e h is = made_as (entered st section.Init) new cs (section_made st cs section.Init e h) is
@@ -188,10 +188,10 @@ module _ (Plain : Type 0) where
   directed_made names st new cs directive.LocalCommon args e h is = made_as (reserved names st (symbol_at args 0) (count_at args 1) 1) new cs (reserved_made names st cs (symbol_at args 0) (count_at args 1) 1 e h).0 is
   directed_made names st new cs directive.Skipped args e h is = made_as st new cs h is
 
-  parted_made : (st : State) (cs : List Chunk) → IsMade Plain st cs → IsMade Plain (parted st) cs
+  parted_made : (st : ObjectSoFar) (cs : List Chunk) → IsMade Plain st cs → IsMade Plain (parted st) cs
   parted_made st cs h = with_names st (parted st) cs h (record { text = refl; sites = refl; relocs = refl; no_sti = refl }) refl h.labels
 
-  body_made : (names : List (List ℕ)) (st new : State) (cs : List Chunk) (b : Body) → (Plain → NamesNoNumber b) → IsMade Plain st cs → made names st b ≡ Ok new → Made Plain new
+  body_made : (names : List (List ℕ)) (st new : ObjectSoFar) (cs : List Chunk) (b : Body) → (Plain → NamesNoNumber b) → IsMade Plain st cs → made names st b ≡ Ok new → Made Plain new
   unfolding made
   body_made names st new cs (body.Label name) plain h is = made_as (labelled names (parted st) name) new cs (labelled_made names (parted st) cs name refl (parted_made st cs h)) is
   body_made names st new cs (body.Directive name args) plain h is = directed_made names (parted st) new cs (directive_of name) args refl (parted_made st cs h) is
@@ -199,43 +199,43 @@ module _ (Plain : Type 0) where
 
   -- ---- all items
 
-  abbrev IsGood : State → Type 0
+  abbrev IsGood : ObjectSoFar → Type 0
   IsGood st = Made Plain st × (length st.text ≤ TEXT_LIMIT)
 
   not_more : (limit n : ℕ) → nat_lt limit n ≡ false → n ≤ limit
   not_more limit n e = grind (arith, nat_tests)
 
-  text_test : (b : Bool) (c : BurnCause) (r : Result State BurnCause) (new : State) → cond b (Err c) r ≡ Ok new → b ≡ false
+  text_test : (b : Bool) (c : BurnCause) (r : Result ObjectSoFar BurnCause) (new : ObjectSoFar) → cond b (Err c) r ≡ Ok new → b ≡ false
   text_test true c r new e = absurd cc
   text_test false c r new e = refl
 
-  limited_good : (st new : State) → Made Plain st → limited st ≡ Ok new → IsGood new
+  limited_good : (st new : ObjectSoFar) → Made Plain st → limited st ≡ Ok new → IsGood new
   unfolding limited
   limited_good st new h e =
-      let rest : Result State BurnCause = cond (nat_lt 33554432 (length st.init + st.bss)) (Err cause.InitTooLarge) (cond (nat_lt 262144 (length st.sites)) (Err cause.TooManySites) (ok_state st)) in
+      let rest : Result ObjectSoFar BurnCause = cond (nat_lt 33554432 (length st.init + st.bss)) (Err cause.InitTooLarge) (cond (nat_lt 262144 (length st.sites)) (Err cause.TooManySites) (ok_state st)) in
       let a = if_ok (nat_lt TEXT_LIMIT (length st.text)) cause.TextTooLarge rest new e in
       let few = not_more TEXT_LIMIT (length st.text) (text_test (nat_lt TEXT_LIMIT (length st.text)) cause.TextTooLarge rest new e) in
       let b = if_ok (nat_lt 33554432 (length st.init + st.bss)) cause.InitTooLarge (cond (nat_lt 262144 (length st.sites)) (Err cause.TooManySites) (ok_state st)) new a in
       let same = ok_same st new (if_ok (nat_lt 262144 (length st.sites)) cause.TooManySites (ok_state st) new b) in
-      (subst (Made Plain) same h, subst (λ (x : State). length x.text ≤ TEXT_LIMIT) same few)
+      (subst (Made Plain) same h, subst (λ (x : ObjectSoFar). length x.text ≤ TEXT_LIMIT) same few)
 
-  then_good : (names : List (List ℕ)) (st new : State) (b : Body) (r : Result State BurnCause) → ((x : State) → r ≡ Ok x → Made Plain x) → then_limited r ≡ Ok new → IsGood new
+  then_good : (names : List (List ℕ)) (st new : ObjectSoFar) (b : Body) (r : Result ObjectSoFar BurnCause) → ((x : ObjectSoFar) → r ≡ Ok x → Made Plain x) → then_limited r ≡ Ok new → IsGood new
   then_good names st new b (Err c) h e = absurd cc
   then_good names st new b (Ok x) h e = limited_good x new (h x refl) e
 
-  item_good : (names : List (List ℕ)) (st new : State) (b : Body) → (Plain → NamesNoNumber b) → IsGood st → item_made names st b ≡ Ok new → IsGood new
+  item_good : (names : List (List ℕ)) (st new : ObjectSoFar) (b : Body) → (Plain → NamesNoNumber b) → IsGood st → item_made names st b ≡ Ok new → IsGood new
   unfolding item_made
   item_good names st new b plain g e = then_good names st new b (made names st b) (λ x is. body_made names st x g.0.0 b plain g.0.1 is) e
 
-  line_ok : (line : ℕ) (r : Result State BurnCause) (new : State) → at_line line r ≡ Ok new → r ≡ Ok new
+  line_ok : (line : ℕ) (r : Result ObjectSoFar BurnCause) (new : ObjectSoFar) → at_line line r ≡ Ok new → r ≡ Ok new
   line_ok line (Err c) new e = absurd cc
-  line_ok line (Ok st) new e = let same : st ≡ new = cc in ap (λ (x : State). Ok x) same
+  line_ok line (Ok st) new e = let same : st ≡ new = cc in ap (λ (x : ObjectSoFar). Ok x) same
 
-  next_good : (names : List (List ℕ)) (r : Result State Fault) (i : SourceItem) (new : State) → (Plain → NamesNoNumber i.body) → ((st : State) → r ≡ Ok st → IsGood st) → next_made names r i ≡ Ok new → IsGood new
+  next_good : (names : List (List ℕ)) (r : Result ObjectSoFar Fault) (i : SourceItem) (new : ObjectSoFar) → (Plain → NamesNoNumber i.body) → ((st : ObjectSoFar) → r ≡ Ok st → IsGood st) → next_made names r i ≡ Ok new → IsGood new
   next_good names (Err f) i new plain h e = absurd cc
   next_good names (Ok st) i new plain h e = item_good names st new i.body plain (h st refl) (line_ok i.line (item_made names st i.body) new e)
 
-  items_good : (names : List (List ℕ)) (items : List SourceItem) (r : Result State Fault) (new : State) → (Plain → NameNoNumbers items) → ((st : State) → r ≡ Ok st → IsGood st) → fold (next_made names) r items ≡ Ok new → IsGood new
+  items_good : (names : List (List ℕ)) (items : List SourceItem) (r : Result ObjectSoFar Fault) (new : ObjectSoFar) → (Plain → NameNoNumbers items) → ((st : ObjectSoFar) → r ≡ Ok st → IsGood st) → fold (next_made names) r items ≡ Ok new → IsGood new
   items_good names [] r new plain h e = h new e
   items_good names (i ∷ items) r new plain h e = items_good names items (next_made names r i) new (λ p. (plain p).1) (λ st is. next_good names r i st (λ p. (plain p).0) h is) e
 
@@ -255,19 +255,19 @@ module _ (Plain : Type 0) where
     alone = λ p. tt;
   }
 
-  abbrev ok_fresh : State → Result State Fault
+  abbrev ok_fresh : ObjectSoFar → Result ObjectSoFar Fault
   ok_fresh st = Ok st
 
-  fresh_good : (names : List (List ℕ)) (st : State) → ok_fresh (fresh names) ≡ Ok st → IsGood st
+  fresh_good : (names : List (List ℕ)) (st : ObjectSoFar) → ok_fresh (fresh names) ≡ Ok st → IsGood st
   fresh_good names st e = let same : fresh names ≡ st = cc in subst IsGood same (([], fresh_made names), omega arith)
 
   pub record IsFinished (o : ObjectParts) : Type 0 where
     pub names : List (List ℕ)
-    pub state : State
+    pub state : ObjectSoFar
     pub good : Made Plain state × (length state.text ≤ TEXT_LIMIT)
     pub is : object names state ≡ o
 
-  finished_is : (names : List (List ℕ)) (r : Result State Fault) (o : ObjectParts) → ((st : State) → r ≡ Ok st → IsGood st) → finished names r ≡ Ok o → IsFinished o
+  finished_is : (names : List (List ℕ)) (r : Result ObjectSoFar Fault) (o : ObjectParts) → ((st : ObjectSoFar) → r ≡ Ok st → IsGood st) → finished names r ≡ Ok o → IsFinished o
   finished_is names (Err f) o h e = absurd cc
   finished_is names (Ok st) o h e = record { names = names; state = st; good = h st refl; is = cc }
 
@@ -392,7 +392,7 @@ text_relocs ds xs ys h k =
 abbrev AtEdge : List Chunk → Symbol → Type 0
 AtEdge cs s = s.place ≡ place.Text → IsEdge cs s.value
 
-text_value : (p : Place) (v : ℕ) → p ≡ place.Text → value_at p v ≡ v
+text_value : (p : DefinedIn) (v : ℕ) → p ≡ place.Text → value_at p v ≡ v
 text_value place.Undefined v e = absurd cc
 text_value place.Text v e = refl
 text_value place.Init v e = refl
@@ -415,7 +415,7 @@ renamed_alone f [] h = tt
 renamed_alone f (Alone c ∷ cs) h = (h.0, renamed_alone f cs h.1)
 renamed_alone f (Pair ∷ cs) h = (tt, renamed_alone f cs h.1)
 
-object_padded : (Plain : Type 0) (names : List (List ℕ)) (st : State) (cs : List Chunk) → IsMade Plain st cs → length st.text ≤ TEXT_LIMIT → AreBytes st.text → IsLinkable (object names st) → IsPadded (object names st) (map (renamed (renumbered st.definitions)) cs)
+object_padded : (Plain : Type 0) (names : List (List ℕ)) (st : ObjectSoFar) (cs : List Chunk) → IsMade Plain st cs → length st.text ≤ TEXT_LIMIT → AreBytes st.text → IsLinkable (object names st) → IsPadded (object names st) (map (renamed (renumbered st.definitions)) cs)
 unfolding object
 object_padded Plain names st cs h few fit linkable =
     let f = renumbered st.definitions in
@@ -438,7 +438,7 @@ object_padded Plain names st cs h few fit linkable =
       named = linkable.named;
     }
 
-object_text : (names : List (List ℕ)) (st : State) → (object names st).text ≡ st.text
+object_text : (names : List (List ℕ)) (st : ObjectSoFar) → (object names st).text ≡ st.text
 unfolding object
 object_text names st = refl
 

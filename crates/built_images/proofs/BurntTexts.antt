@@ -12,7 +12,7 @@ use Rattle.ia32_rows.specs.Rows.{rows}
 use Rattle.asm_source.specs.declared.tree.Body.TheVariants as body
 use Rattle.asm_source.specs.declared.tree.Argument.{Argument}
 use Rattle.asm_source.specs.Names.{symbol_in}
-use Rattle.elf_form.specs.declared.object.Place.TheVariants as place
+use Rattle.elf_form.specs.declared.object.DefinedIn.TheVariants as place
 use Rattle.elf_form.specs.declared.object.Reloc.{Reloc}
 use Rattle.sites.specs.declared.site.Site.{Site}
 use Rattle.asm_instruction.specs.declared.assembled.Assembled.{Assembled}
@@ -22,7 +22,7 @@ use Rattle.asm_instruction.specs.Assembled.{assembled, spelling_bytes}
 use Rattle.afterburner.specs.declared.symbol.Definition.{Definition}
 use Rattle.afterburner.specs.declared.fault.BurnCause.{BurnCause}
 use Rattle.afterburner.specs.declared.fault.BurnCause.TheVariants as cause
-use Rattle.afterburner.specs.State.{State}
+use Rattle.afterburner.specs.ObjectSoFar.{ObjectSoFar}
 use Rattle.afterburner.specs.Arguments.{number_in, symbol_at}
 use Rattle.ia32_types.specs.declared.size.Size.TheVariants as size
 use Rattle.asm_instruction.specs.Field.{field}
@@ -64,29 +64,29 @@ pub record EndsInSti (cs : List Chunk) : Type 0 where
   pub kind : sensitive_kind (insn_in last) ≡ Some site.Sti
 
 -- a state with another section, other data or other names, behind no STI
-pub record IsSameText (st new : State) : Type 0 where
+pub record IsSameText (st new : ObjectSoFar) : Type 0 where
   pub text : new.text ≡ st.text
   pub sites : new.sites ≡ st.sites
   pub relocs : new.text_relocs ≡ st.text_relocs
   pub no_sti : new.after_sti ≡ false
 
-abbrev pub ok_state : State → Result State BurnCause
+abbrev pub ok_state : ObjectSoFar → Result ObjectSoFar BurnCause
 ok_state st = Ok st
 
-pub ok_same : (x y : State) → ok_state x ≡ Ok y → x ≡ y
+pub ok_same : (x y : ObjectSoFar) → ok_state x ≡ Ok y → x ≡ y
 ok_same x y e = cc
 
-pub if_ok : (b : Bool) (c : BurnCause) (r : Result State BurnCause) (new : State) → cond b (Err c) r ≡ Ok new → r ≡ Ok new
+pub if_ok : (b : Bool) (c : BurnCause) (r : Result ObjectSoFar BurnCause) (new : ObjectSoFar) → cond b (Err c) r ≡ Ok new → r ≡ Ok new
 if_ok true c r new e = absurd cc
 if_ok false c r new e = e
 
-pub or_ok : (b : Bool) (c : BurnCause) (st new : State) → cond b (ok_state st) (Err c) ≡ Ok new → st ≡ new
+pub or_ok : (b : Bool) (c : BurnCause) (st new : ObjectSoFar) → cond b (ok_state st) (Err c) ≡ Ok new → st ≡ new
 or_ok true c st new e = ok_same st new e
 or_ok false c st new e = absurd cc
 
 -- `Plain` is what is asked of the source where no branch of it names a symbol with a number.
 module _ (Plain : Type 0) where
-  pub record IsMade (st : State) (cs : List Chunk) : Type 0 where
+  pub record IsMade (st : ObjectSoFar) (cs : List Chunk) : Type 0 where
     pub read : AreRead cs
     pub fields : HaveFields cs
     pub branches : AllByRecursion IsLinkedBranch cs
@@ -99,7 +99,7 @@ module _ (Plain : Type 0) where
     pub sti : st.after_sti ≡ true → EndsInSti cs
     pub alone : Plain → AreAlone cs
 
-  abbrev pub Made : State → Type 0
+  abbrev pub Made : ObjectSoFar → Type 0
   Made st = (cs : List Chunk) × IsMade st cs
 
   -- ---- lists of chunks one behind the other
@@ -138,7 +138,7 @@ module _ (Plain : Type 0) where
   not_sti : (b : Bool) → b ≡ false → b ≡ true → ⊥
   not_sti b e f = cc
 
-  pub same_made : (st new : State) (cs : List Chunk) → IsMade st cs → IsSameText st new → All (λ (r : Reloc). r.in_text ≡ false) new.data_relocs → All (IsLabel cs) new.definitions → IsMade new cs
+  pub same_made : (st new : ObjectSoFar) (cs : List Chunk) → IsMade st cs → IsSameText st new → All (λ (r : Reloc). r.in_text ≡ false) new.data_relocs → All (IsLabel cs) new.definitions → IsMade new cs
   same_made st new cs h s data_is labels = record {
     read = h.read;
     fields = h.fields;
@@ -154,7 +154,7 @@ module _ (Plain : Type 0) where
   }
 
   -- NOPs at the end of the text
-  pub nops_made : (st : State) (cs : List Chunk) (n : ℕ) → IsMade st cs → IsMade (record st { text = st.text ++ replicate n 144; after_sti = false }) (cs ++ nop_chunks n)
+  pub nops_made : (st : ObjectSoFar) (cs : List Chunk) (n : ℕ) → IsMade st cs → IsMade (record st { text = st.text ++ replicate n 144; after_sti = false }) (cs ++ nop_chunks n)
   nops_made st cs n h = record {
     read = by_chunk_join IsReadChunk cs (nop_chunks n) h.read (chunks_read (nop_chunks n) (nop_chunks_are n));
     fields = by_chunk_join HasFields cs (nop_chunks n) h.fields (nop_chunks_fields n);
@@ -257,7 +257,7 @@ module _ (Plain : Type 0) where
   kind_same : (names : List (List ℕ)) (args : List Argument) (a : Assembled) (f : IsFielded args a) → sensitive_kind (insn_in (made_coded names args a f)) ≡ sensitive_kind a.insn
   kind_same names args a f = ap kind_of (row_op (made_coded names args a f) ∙ f.op)
 
-  pub added_made : (names : List (List ℕ)) (st : State) (args : List Argument) (a : Assembled) (f : IsFielded args a) (cs : List Chunk) → (Plain → IsAlone (Alone (made_coded names args a f))) → IsMade st cs → IsMade (added names st args a) (cs ++ (Alone (made_coded names args a f) ∷ []))
+  pub added_made : (names : List (List ℕ)) (st : ObjectSoFar) (args : List Argument) (a : Assembled) (f : IsFielded args a) (cs : List Chunk) → (Plain → IsAlone (Alone (made_coded names args a f))) → IsMade st cs → IsMade (added names st args a) (cs ++ (Alone (made_coded names args a f) ∷ []))
   unfolding added chunk_sites chunks_relocs
   added_made names st args a f cs alone h =
       let c = made_coded names args a f in
@@ -379,7 +379,7 @@ module _ (Plain : Type 0) where
       ∙ ap (λ (xs : List Site). slice_set xs (length front) (pair_site s)) e
       ∙ set_at front s [] (pair_site s) (length front) refl
 
-  paired_by : (st : State) (before : List Chunk) (last : Coded) → sensitive_kind (insn_in last) ≡ Some site.Sti → IsMade st (before ++ (Alone last ∷ [])) → IsMade (paired st) (before ++ (Pair ∷ []))
+  paired_by : (st : ObjectSoFar) (before : List Chunk) (last : Coded) → sensitive_kind (insn_in last) ≡ Some site.Sti → IsMade st (before ++ (Alone last ∷ [])) → IsMade (paired st) (before ++ (Pair ∷ []))
   unfolding paired chunk_sites chunks_relocs
   paired_by st before last kind h =
       let read = by_chunk_split IsReadChunk before (Alone last ∷ []) h.read in
@@ -412,12 +412,12 @@ module _ (Plain : Type 0) where
         alone = λ p. by_chunk_join IsAlone before (Pair ∷ []) (by_chunk_split IsAlone before (Alone last ∷ []) (h.alone p)).0 (tt, tt);
       }
 
-  paired_made : (st : State) (cs : List Chunk) → st.after_sti ≡ true → IsMade st cs → Made (paired st)
+  paired_made : (st : ObjectSoFar) (cs : List Chunk) → st.after_sti ≡ true → IsMade st cs → Made (paired st)
   paired_made st cs sti h =
       let e = h.sti sti in
       (e.before ++ (Pair ∷ []), paired_by st e.before e.last e.kind (subst (IsMade st) e.parts h))
 
-  placed_made : (names : List (List ℕ)) (st : State) (args : List Argument) (a : Assembled) (cs : List Chunk) (f : IsFielded args a) → (Plain → IsAlone (Alone (made_coded names args a f))) → IsMade st cs → Made (placed names st args a)
+  placed_made : (names : List (List ℕ)) (st : ObjectSoFar) (args : List Argument) (a : Assembled) (cs : List Chunk) (f : IsFielded args a) → (Plain → IsAlone (Alone (made_coded names args a f))) → IsMade st cs → Made (placed names st args a)
   placed_made names st args a cs f alone h = by_sti st.after_sti (is_hlt (sensitive_kind a.insn)) refl where
     by_sti : (b c : Bool) → st.after_sti ≡ b → Made (cond (b && c) (paired st) (added names st args a))
     by_sti true true e = paired_made st cs e h
@@ -435,12 +435,12 @@ module _ (Plain : Type 0) where
         number_there (x ∷ args) zero a e h = let same : x ≡ a = cc in subst (λ (y : Argument). number_in y.form ≡ pos 0) same h.0
         number_there (x ∷ args) (suc k) a e h = number_there args k a e h.1
 
-  in_text_made : (names : List (List ℕ)) (rep : Bool) (name : List ℕ) (st new : State) (args : List Argument) (cs : List Chunk) → (Plain → NamesNoNumber (body.Instruction rep name args)) → IsMade st cs → (r : Result Assembled Refusal) → assembled rep name args ≡ r → in_text names st args r ≡ Ok new → Made new
+  in_text_made : (names : List (List ℕ)) (rep : Bool) (name : List ℕ) (st new : ObjectSoFar) (args : List Argument) (cs : List Chunk) → (Plain → NamesNoNumber (body.Instruction rep name args)) → IsMade st cs → (r : Result Assembled Refusal) → assembled rep name args ≡ r → in_text names st args r ≡ Ok new → Made new
   in_text_made names rep name st new args cs plain h (Err r) is e = absurd cc
   in_text_made names rep name st new args cs plain h (Ok a) is e =
       let same = or_ok (is_text st.section) cause.DataInText (placed names st args a) new e in
       subst Made same (placed_made names st args a cs (assembled_fielded rep name args a is) (λ p. coded_alone names args a (assembled_fielded rep name args a is) (plain p a is)) h)
 
-  pub instruction_made : (names : List (List ℕ)) (rep : Bool) (name : List ℕ) (st new : State) (args : List Argument) (cs : List Chunk) → (Plain → NamesNoNumber (body.Instruction rep name args)) → IsMade st cs → instruction names st rep name args ≡ Ok new → Made new
+  pub instruction_made : (names : List (List ℕ)) (rep : Bool) (name : List ℕ) (st new : ObjectSoFar) (args : List Argument) (cs : List Chunk) → (Plain → NamesNoNumber (body.Instruction rep name args)) → IsMade st cs → instruction names st rep name args ≡ Ok new → Made new
   unfolding instruction
   instruction_made names rep name st new args cs plain h e = in_text_made names rep name st new args cs plain h (assembled rep name args) refl e

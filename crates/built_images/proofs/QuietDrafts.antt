@@ -14,7 +14,7 @@ use Rattle.asm_instruction.specs.declared.argument.Given.TheVariants as given
 use Rattle.asm_instruction.specs.declared.argument.Operands.{Operands}
 use Rattle.asm_instruction.specs.declared.argument.Operands.TheVariants as operands
 use Rattle.asm_instruction.specs.declared.draft.Draft.{Draft}
-use Rattle.asm_instruction.specs.declared.draft.Place.{Place}
+use Rattle.asm_instruction.specs.declared.draft.NumberedOperand.{NumberedOperand}
 use Rattle.asm_instruction.specs.declared.draft.Pair.{Pair}
 use Rattle.asm_instruction.specs.declared.draft.Pair.TheVariants as pair
 use Rattle.asm_instruction.specs.declared.arithmetic.Arithmetic.{Arithmetic}
@@ -46,11 +46,11 @@ pub bound : {A : Type 0} (o : Option A) (f : A → Option Draft) → ((a : A) �
 bound (Some a) f h = h a
 bound None f h = tt
 
-pub quiet_instruction : (o : Op) (s : Size) (a b : Place) → is_branch o ≡ false → IsQuiet (Some (instruction o s a b))
+pub quiet_instruction : (o : Op) (s : Size) (a b : NumberedOperand) → is_branch o ≡ false → IsQuiet (Some (instruction o s a b))
 unfolding instruction
 quiet_instruction o s a b e = e
 
-pub quiet_number : (o : Op) (s : Size) (a b : Place) (t : Size) (n : Number) → is_branch o ≡ false → IsQuiet (Some (with_number (instruction o s a b) t n))
+pub quiet_number : (o : Op) (s : Size) (a b : NumberedOperand) (t : Size) (n : Number) → is_branch o ≡ false → IsQuiet (Some (with_number (instruction o s a b) t n))
 unfolding instruction with_number
 quiet_number o s a b t n e = e
 
@@ -70,7 +70,7 @@ pub quiet_one : (o : Op) (t : Option Size) (g : Given) → is_branch o ≡ false
 unfolding one
 quiet_one o t g e = bound (register_or_memory g) _ (λ place. bound (agreed t (said g) None) _ (λ s. quiet_instruction o s place nothing e))
 
-quiet_into : (o : Op) (s : Size) (g : Given) (place : Place) → is_branch o ≡ false → IsQuiet (into_register o s g place)
+quiet_into : (o : Op) (s : Size) (g : Given) (place : NumberedOperand) → is_branch o ≡ false → IsQuiet (into_register o s g place)
 quiet_into o s (given.Register t n) place e = quiet_instruction o s (register n) place e
 quiet_into o s (given.Segment t) place e = tt
 quiet_into o s (given.Control t) place e = tt
@@ -126,7 +126,7 @@ quiet_shift o t (operands.Three a b c) e = tt
 
 -- ---- moves
 
-quiet_special : (o : Op) (t : Option Size) (g : Given) (a b : Place) → is_branch o ≡ false → IsQuiet (special o t g a b)
+quiet_special : (o : Op) (t : Option Size) (g : Given) (a b : NumberedOperand) → is_branch o ≡ false → IsQuiet (special o t g a b)
 unfolding special
 quiet_special o t g a b e = bound (agreed t (said g) (Some size.Long)) _ (λ s. quiet_instruction o s a b e)
 
@@ -142,7 +142,7 @@ quiet_to_special t a (given.Segment x) = bound (register_or_memory a) _ (λ from
 quiet_to_special t a (given.Control x) = bound (register_or_memory a) _ (λ from. quiet_special op.WriteControl t a (of_operand (operand.Control x)) from refl)
 quiet_to_special t a b = quiet_general t a b
 
-quiet_long : (o : Op) (s : Size) (g : Given) (from : Place) → is_branch o ≡ false → IsQuiet (into_long o s g from)
+quiet_long : (o : Op) (s : Size) (g : Given) (from : NumberedOperand) → is_branch o ≡ false → IsQuiet (into_long o s g from)
 quiet_long o s (given.Register size.Long n) from e = quiet_instruction o s (register n) from e
 quiet_long o s (given.Register size.Byte n) from e = tt
 quiet_long o s (given.Register size.Word n) from e = tt
@@ -165,7 +165,7 @@ quiet_effective t (given.Control x) b = tt
 quiet_effective t (given.Immediate x) b = tt
 quiet_effective t given.Port b = tt
 
-quiet_with_register : (s : Size) (n : ℕ) (other : Place) (x : Operand) → IsQuiet (Some (with_register s n other x))
+quiet_with_register : (s : Size) (n : ℕ) (other : NumberedOperand) (x : Operand) → IsQuiet (Some (with_register s n other x))
 quiet_with_register s n other (operand.Register m) = quiet_instruction op.Xchg s _ _ refl
 quiet_with_register s n other operand.Absent = quiet_instruction op.Xchg s other (register n) refl
 quiet_with_register s n other (operand.Memory m) = quiet_instruction op.Xchg s other (register n) refl
@@ -197,7 +197,7 @@ quiet_moves k t (operands.Three a b c) h = tt
 
 -- ---- the stack
 
-quiet_of_long : (o : Op) (t : Option Size) (g : Given) (a : Place) → is_branch o ≡ false → IsQuiet (of_long o t g a)
+quiet_of_long : (o : Op) (t : Option Size) (g : Given) (a : NumberedOperand) → is_branch o ≡ false → IsQuiet (of_long o t g a)
 unfolding of_long
 quiet_of_long o t g a e = bound (agreed t (said g) (Some size.Long)) _ (λ s. quiet_instruction o s a nothing e)
 

@@ -1,8 +1,8 @@
 -- The one layout of an object file (System V ABI, chapter 4). The order of the parts is the profile's.
 use Rattle.std.specs.Prelude.{◌≡◌, ◌≢◌, ℕ, ◌+◌, ◌*◌, true, false, ◌<◌, ◌≤◌, ◌^◌, Bool, not, List, [], ◌∷◌, ◌++◌, length, fold, filter, count_by, All, replicate, codes, if◌then◌else◌}
 use Rattle.std.specs.List.{flat_map, position_or_len}
-use Rattle.elf_form.specs.declared.object.Place.{Place}
-use Rattle.elf_form.specs.declared.object.Place.TheVariants.{Undefined, Text, Init, Bss}
+use Rattle.elf_form.specs.declared.object.DefinedIn.{DefinedIn}
+use Rattle.elf_form.specs.declared.object.DefinedIn.TheVariants.{Undefined, Text, Init, Bss}
 use Rattle.elf_form.specs.declared.object.Symbol.{Symbol}
 use Rattle.elf_form.specs.declared.object.Reloc.{Reloc}
 use Rattle.elf_form.specs.declared.object_writing.Layout.{Layout}
@@ -39,7 +39,7 @@ layout o =
     record { init = init; sites = sites; text_relocs = text_relocs; data_relocs = data_relocs; symbols = symbols; strings = strings; names = names; sections = next (names + 74) }
 
 -- Section headers 1 to 3 are those of the text, the data and the zeroed bytes.
-abbrev pub place_number : Place → ℕ
+abbrev pub place_number : DefinedIn → ℕ
 place_number Undefined = 0
 place_number Text = 1
 place_number Init = 2

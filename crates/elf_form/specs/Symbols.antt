@@ -4,8 +4,8 @@ use Rattle.std.specs.List.{list_any, before_first, flat_map}
 use Rattle.guest_ram.specs.Bytes.{byte, word16, word32}
 use Rattle.elf_form.specs.declared.roles.Role.{Role}
 use Rattle.elf_form.specs.declared.roles.Role.TheVariants as role
-use Rattle.elf_form.specs.declared.object.Place.{Place}
-use Rattle.elf_form.specs.declared.object.Place.TheVariants as place
+use Rattle.elf_form.specs.declared.object.DefinedIn.{DefinedIn}
+use Rattle.elf_form.specs.declared.object.DefinedIn.TheVariants as place
 use Rattle.elf_form.specs.declared.object.Symbol.{Symbol}
 use Rattle.elf_form.specs.declared.object.Reloc.{Reloc}
 use Rattle.elf_form.specs.declared.segments.Found.{Found}
@@ -54,7 +54,7 @@ is_file bytes y = byte bytes (y + 12) % 16 == 4
 abbrev pub section_of : List ℕ → ℕ → ℕ
 section_of bytes index = section_table bytes + 40 * index
 
-abbrev pub place_by : Role → Place
+abbrev pub place_by : Role → DefinedIn
 place_by role.Ignored = place.Undefined
 place_by role.Sites = place.Undefined
 place_by role.Text = place.Text

@@ -6,7 +6,7 @@ use std::marker::Model;
 
 /// Where a symbol is defined: nowhere, or in an object's text, data or zeroed bytes.
 #[derive(Clone, Copy, Debug, PartialEq, Eq)]
-pub enum Place {
+pub enum DefinedIn {
     Undefined,
     Text,
     Init,
@@ -38,7 +38,7 @@ pub fn bytes_of(name: &Bytes) -> &[u8]
 #[derive(Debug, Drop)]
 pub struct Symbol {
     pub name: Bytes,
-    pub place: Place,
+    pub place: DefinedIn,
     pub value: u32,
     pub global: bool,
 }

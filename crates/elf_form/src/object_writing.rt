@@ -7,7 +7,7 @@ ghost use Rattle.elf_form.specs.StringTable.{name_place, IsTable, HasPlaces};
 ghost use Rattle.elf_form.specs.ObjectLayout.{next, layout as layout_of, names_of, strings_of, is_of, place_number, symbol_bytes, symbol_table, first_global, reloc_bytes, reloc_table, object_header, object_parts, object_tables, part_sections, table_sections, object_names, object_bytes, IsWritableObject, IsWholeObject, HasValues, AreLengths};
 ghost use Rattle.elf_form.specs.ObjectReading.{object_in};
 
-use crate::object::{Object, Place, Reloc, Symbol, bytes_of};
+use crate::object::{Object, DefinedIn, Reloc, Symbol, bytes_of};
 use crate::output::{put_halves, put_longs, put_zeros, word_pad};
 use crate::strings::{Places, strings};
 use std::alloc::{AllocError, Global};
@@ -54,14 +54,14 @@ fn count_of(relocs: &[Reloc], in_text: bool) -> usize
     relocs.iter().filter(|r| is_of(in_text, r)).count()
 }
 
-fn place_number(place: Place) -> u16
+fn place_number(place: DefinedIn) -> u16
     ensures { result ≡ place_number place }
 {
     match place {
-        Place::Undefined => 0,
-        Place::Text => 1,
-        Place::Init => 2,
-        Place::Bss => 3,
+        DefinedIn::Undefined => 0,
+        DefinedIn::Text => 1,
+        DefinedIn::Init => 2,
+        DefinedIn::Bss => 3,
     }
 }
 

@@ -8,7 +8,7 @@ ghost use Rattle.elf_form.specs.Faults.{◌or_else◌};
 ghost use Rattle.elf_form.specs.Symbols.{target_role, table_at, is_file, has_binding, has_place, is_listed, place_by, role_at, symbol_fault, global_fault, is_reloc_section, is_reloc_section_of, entries_fault, is_linked, section_test, is_unnamed, symbol_test, has_symbol, size_at, number_of, IsEntry, is_outside, has_kind, names_none, named_fault, form_fault, reloc_test};
 
 use crate::header::bad;
-use crate::object::Place;
+use crate::object::DefinedIn;
 use crate::roles::{Role, has_role, is_kept, role_number, section_role};
 use crate::sections::{contents, from, is_index};
 use crate::segments::Found;
@@ -97,15 +97,15 @@ fn has_binding(bytes: &[u8], y: usize) -> bool
     byte(bytes, y + 12) / 16 < 2
 }
 
-pub fn place_by(role: Role) -> Place
+pub fn place_by(role: Role) -> DefinedIn
     ensures { result ≡ place_by role }
 {
     match role {
-        Role::Text => Place::Text,
-        Role::Init => Place::Init,
-        Role::Bss => Place::Bss,
+        Role::Text => DefinedIn::Text,
+        Role::Init => DefinedIn::Init,
+        Role::Bss => DefinedIn::Bss,
         Role::Ignored | Role::Sites | Role::Foreign | Role::Symbols | Role::Relocs => {
-            Place::Undefined
+            DefinedIn::Undefined
         }
     }
 }

@@ -5,7 +5,7 @@ ghost use Rattle.elf_link.specs.Symbols.{is_defined, is_exported, target, lookup
 ghost use Rattle.elf_link.specs.Refusals.{is_among, first_doubled};
 
 use crate::target::Target;
-use elf_form::{Bytes, Place, Symbol};
+use elf_form::{Bytes, DefinedIn, Symbol};
 use indexmap::IndexMap;
 use std::alloc::{AllocError, Global};
 use std::marker::Model;
@@ -69,12 +69,12 @@ pub fn name_of(symbol: &Symbol) -> &[u8]
 }
 
 /// Whether a place is in a part of an object.
-pub fn is_defined(place: Place) -> bool
+pub fn is_defined(place: DefinedIn) -> bool
     ensures { result ≡ is_defined place }
 {
     match place {
-        Place::Undefined => false,
-        Place::Text | Place::Init | Place::Bss => true,
+        DefinedIn::Undefined => false,
+        DefinedIn::Text | DefinedIn::Init | DefinedIn::Bss => true,
     }
 }
 

@@ -13,7 +13,7 @@ use crate::base::Base;
 use crate::fault::LinkCause;
 use crate::globals::{Globals, copy_of, name_of, target_of};
 use crate::target::Target;
-use elf_form::{Object, Place, Reloc, Symbol};
+use elf_form::{Object, DefinedIn, Reloc, Symbol};
 use std::alloc::{AllocError, Global};
 
 /// What the objects' names and parts stand for.
@@ -23,12 +23,12 @@ pub struct Plan {
     pub globals: Globals,
 }
 
-pub fn is_text(place: Place) -> bool
+pub fn is_text(place: DefinedIn) -> bool
     ensures { result ≡ is_text place }
 {
     match place {
-        Place::Text => true,
-        Place::Undefined | Place::Init | Place::Bss => false,
+        DefinedIn::Text => true,
+        DefinedIn::Undefined | DefinedIn::Init | DefinedIn::Bss => false,
     }
 }
 
@@ -53,10 +53,10 @@ pub fn address(bases: &[Base], target: Target) -> u32
 {
     let base = base_of(bases, target.object);
     let part = match target.place {
-        Place::Undefined => 0,
-        Place::Text => base.text,
-        Place::Init => base.init,
-        Place::Bss => base.bss,
+        DefinedIn::Undefined => 0,
+        DefinedIn::Text => base.text,
+        DefinedIn::Init => base.init,
+        DefinedIn::Bss => base.bss,
     };
     part.wrapping_add(target.value)
 }

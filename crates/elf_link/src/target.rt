@@ -1,11 +1,11 @@
 //! What a symbol stands for.
 
-use elf_form::Place;
+use elf_form::DefinedIn;
 
 /// A place that a symbol stands for: `value` is an offset in a part of an object.
 #[derive(Clone, Copy, Debug, PartialEq, Eq)]
 pub struct Target {
     pub object: u32,
-    pub place: Place,
+    pub place: DefinedIn,
     pub value: u32,
 }

@@ -1,7 +1,7 @@
 //! Images made by hand, and how they are checked.
 
 use ia32_types::SiteKind;
-use image_check::{CheckFault, Checked, Place, check};
+use image_check::{CheckFault, Checked, AtOffset, check};
 use sites::Site;
 use std::alloc::{AllocError, Global};
 use std::process::Abort;
@@ -145,14 +145,14 @@ fn an_image_is_accepted(rt: HostRuntime) -> Result<(), Fail> {
     Ok(())
 }
 
-const OUT: Place = Place::Inside(Site {
+const OUT: AtOffset = AtOffset::Inside(Site {
     at: 7,
     kind: SiteKind::PortOut,
     len: 1,
     total: 5,
 });
 
-const HLT: Place = Place::Inside(Site {
+const HLT: AtOffset = AtOffset::Inside(Site {
     at: 12,
     kind: SiteKind::Hlt,
     len: 1,
@@ -160,18 +160,18 @@ const HLT: Place = Place::Inside(Site {
 });
 
 /// An offset of that text, and what stands there.
-const PLACES: [(u32, Place); 11] = [
-    (0, Place::Outside),
-    (1, Place::NotAStart),
-    (5, Place::Outside),
-    (6, Place::NotAStart),
+const PLACES: [(u32, AtOffset); 11] = [
+    (0, AtOffset::Outside),
+    (1, AtOffset::NotAStart),
+    (5, AtOffset::Outside),
+    (6, AtOffset::NotAStart),
     (7, OUT),
     (11, OUT),
     (12, HLT),
     (16, HLT),
-    (17, Place::Outside),
-    (18, Place::NotAStart),
-    (19, Place::NotAStart),
+    (17, AtOffset::Outside),
+    (18, AtOffset::NotAStart),
+    (19, AtOffset::NotAStart),
 ];
 
 #[test]
@@ -183,7 +183,7 @@ fn an_offset_is_no_start_or_outside_sites_or_in_one(rt: HostRuntime) -> Result<(
         assert_eq!(rt; image.place(at), wanted, "at {at}");
     }
     assert_eq!(rt; image.place_at(0x1000_0007), OUT);
-    assert_eq!(rt; image.place_at(7), Place::NotAStart);
+    assert_eq!(rt; image.place_at(7), AtOffset::NotAStart);
     Ok(())
 }
 

@@ -1,6 +1,6 @@
 //! Objects made by hand, and the images that they make.
 
-use elf_form::{Bytes, Image, Object, Place, Reloc, Symbol};
+use elf_form::{Bytes, Image, Object, DefinedIn, Reloc, Symbol};
 use elf_link::{LinkCause, LinkFault, are_linkable, link, linked};
 use std::alloc::{AllocError, Global};
 use std::test::Fail;
@@ -11,7 +11,7 @@ const NO_SITES: [u8; 8] = *b"PVS1\0\0\0\0";
 fn symbol(
     alloc: Global,
     name: &[u8],
-    place: Place,
+    place: DefinedIn,
     value: u32,
     global: bool,
 ) -> Result<Symbol, AllocError> {
@@ -42,7 +42,7 @@ fn defining(alloc: Global, name: &[u8], text: &[u8]) -> Result<Object, AllocErro
     let mut object = plain(alloc, text, &[], 0)?;
     object
         .symbols
-        .push(symbol(alloc, name, Place::Text, 0, true)?)?;
+        .push(symbol(alloc, name, DefinedIn::Text, 0, true)?)?;
     Ok(object)
 }
 
@@ -176,7 +176,7 @@ fn calling(alloc: Global, name: &[u8]) -> Result<Object, AllocError> {
     let mut object = plain(alloc, &[0xE8, 0xFC, 0xFF, 0xFF, 0xFF], &[], 0)?;
     object
         .symbols
-        .push(symbol(alloc, name, Place::Undefined, 0, true)?)?;
+        .push(symbol(alloc, name, DefinedIn::Undefined, 0, true)?)?;
     object.relocs.push(reloc(true, 1, 0, true))?;
     Ok(object)
 }
@@ -219,7 +219,7 @@ fn places_zeroed_bytes_behind_all_data(rt: HostRuntime) -> Result<(), Fail> {
     let mut object = plain(alloc, &[0xB8, 0, 0, 0, 0], &[1], 4096)?;
     object
         .symbols
-        .push(symbol(alloc, b"pg", Place::Bss, 0, false)?)?;
+        .push(symbol(alloc, b"pg", DefinedIn::Bss, 0, false)?)?;
     object.relocs.push(reloc(true, 1, 0, false))?;
     let objects = vec![in alloc; object]?;
     let image = made(alloc, &objects);
@@ -259,10 +259,10 @@ fn fills_the_table_of_a_gcc_switch(rt: HostRuntime) -> Result<(), Fail> {
     let mut object = plain(alloc, &[0x90; 31], &[0; 8], 0)?;
     object
         .symbols
-        .push(symbol(alloc, b".L3", Place::Text, 0x10, false)?)?;
+        .push(symbol(alloc, b".L3", DefinedIn::Text, 0x10, false)?)?;
     object
         .symbols
-        .push(symbol(alloc, b".L2", Place::Text, 0x1A, false)?)?;
+        .push(symbol(alloc, b".L2", DefinedIn::Text, 0x1A, false)?)?;
     object.relocs.push(reloc(false, 0, 1, false))?;
     object.relocs.push(reloc(false, 4, 0, false))?;
     let objects = vec![in alloc; object]?;
@@ -281,13 +281,13 @@ fn refuses_branches_and_a_start_outside_text(rt: HostRuntime) -> Result<(), Fail
     let alloc = rt.alloc();
     let mut data = plain(alloc, &[], &[0; 8], 0)?;
     data.symbols
-        .push(symbol(alloc, b"d", Place::Init, 4, true)?)?;
+        .push(symbol(alloc, b"d", DefinedIn::Init, 4, true)?)?;
     let branch = vec![in alloc; data, calling(alloc, b"d")?]?;
     assert_eq!(rt; placed(alloc, &branch), Some((1, 1)));
     let mut start = plain(alloc, &[], &[0; 8], 0)?;
     start
         .symbols
-        .push(symbol(alloc, b"_start", Place::Init, 4, true)?)?;
+        .push(symbol(alloc, b"_start", DefinedIn::Init, 4, true)?)?;
     let start = vec![in alloc; plain(alloc, &[], &[], 0)?, start]?;
     assert_eq!(rt; placed(alloc, &start), Some((1, 4)));
     Ok(())
@@ -327,7 +327,7 @@ fn keeps_the_limits_of_symbols_and_sites(rt: HostRuntime) -> Result<(), Fail> {
     let mut many = plain(alloc, &[], &[], 0)?;
     for _ in 0..65_537 {
         many.symbols
-            .push(symbol(alloc, b"", Place::Text, 0, false)?)?;
+            .push(symbol(alloc, b"", DefinedIn::Text, 0, false)?)?;
     }
     let many = vec![in alloc; many]?;
     assert_eq!(rt; numbered(alloc, &many), Some((0, 35)));

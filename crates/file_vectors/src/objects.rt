@@ -1,7 +1,7 @@
 //! Objects that other tools made, and worked examples.
 
 use crate::vectors::{GCC_OBJECT, WORKED_OBJECT};
-use elf_form::{ElfCause, ElfFault, Place, Reloc, read_object};
+use elf_form::{ElfCause, ElfFault, DefinedIn, Reloc, read_object};
 use std::alloc::{AllocError, Global};
 use std::test::Fail;
 
@@ -29,15 +29,15 @@ fn reads_the_parts_of_a_gcc_object(rt: HostRuntime) -> Result<(), Fail> {
 }
 
 /// A symbol's name, place and value, and whether it is global.
-type SymbolRow = (&'static [u8], Place, u32, bool);
+type SymbolRow = (&'static [u8], DefinedIn, u32, bool);
 
 // readelf -s, without the null symbol and that of the source file; a section has no name
 const GCC_SYMBOLS: [SymbolRow; 5] = [
-    (b"", Place::Bss, 0, false),
-    (b"zeroed", Place::Bss, 0, false),
-    (b"add", Place::Text, 0, true),
-    (b"far_away", Place::Undefined, 0, true),
-    (b"near", Place::Init, 0, true),
+    (b"", DefinedIn::Bss, 0, false),
+    (b"zeroed", DefinedIn::Bss, 0, false),
+    (b"add", DefinedIn::Text, 0, true),
+    (b"far_away", DefinedIn::Undefined, 0, true),
+    (b"near", DefinedIn::Init, 0, true),
 ];
 
 #[test]
@@ -80,7 +80,7 @@ fn reads_a_worked_object(rt: HostRuntime) -> Result<(), Fail> {
     assert_eq!(rt; object.symbols.len(), 1);
     for symbol in &object.symbols {
         assert_eq!(rt; symbol.name.list.as_slice(), b"_start".as_slice());
-        assert_eq!(rt; symbol.place, Place::Text);
+        assert_eq!(rt; symbol.place, DefinedIn::Text);
         assert!(rt; symbol.global);
     }
     Ok(())
@@ -160,7 +160,7 @@ fn index_zero_names_no_section(rt: HostRuntime) -> Result<(), Fail> {
     assert_eq!(rt; object.text.as_slice(), TEXT.as_slice());
     assert_eq!(rt; object.symbols.len(), 1);
     for symbol in &object.symbols {
-        assert_eq!(rt; symbol.place, Place::Undefined);
+        assert_eq!(rt; symbol.place, DefinedIn::Undefined);
         assert_eq!(rt; symbol.value, 0);
     }
     Ok(())

@@ -10,8 +10,8 @@ use Rattle.ia32_types.specs.declared.insn.Address.{Address}
 use Rattle.ia32_types.specs.declared.insn.Operand.{Operand}
 use Rattle.ia32_types.specs.declared.insn.Operand.TheVariants as operand
 use Rattle.ia32_types.specs.Register.{number_of}
-use Rattle.ia32_rows.specs.declared.row.Place.{Place}
-use Rattle.ia32_rows.specs.declared.row.Place.TheVariants as place
+use Rattle.ia32_rows.specs.declared.row.RmForm.{RmForm}
+use Rattle.ia32_rows.specs.declared.row.RmForm.TheVariants as place
 use Rattle.ia32_rows.specs.declared.row.Addressing.{Addressing}
 use Rattle.ia32_rows.specs.declared.row.Addressing.TheVariants as addressing
 use Rattle.ia32_rows.specs.declared.row.Immediate.{Immediate}
@@ -215,10 +215,10 @@ pub record ReadBack (reg : ℕ) (rm : Operand) (len : ℕ) (bytes : List ℕ) : 
   pub tail : List ℕ
   pub bytes_are : bytes ≡ m ∷ tail
   pub reg_is : reg_of m ≡ reg
-  pub mode_is : (place : Place) → rm_fits place rm ≡ true → has_place place (mod_of m) ≡ true
+  pub mode_is : (place : RmForm) → rm_fits place rm ≡ true → has_place place (mod_of m) ≡ true
   pub rm_is : (more : List ℕ) → rm_at m (tail ++ more) ≡ read (rm, len) more
 
-memory_place : (place : Place) (mode : ℕ) → mode < 3 → has_place place 0 ≡ true → has_place place mode ≡ true
+memory_place : (place : RmForm) (mode : ℕ) → mode < 3 → has_place place 0 ≡ true → has_place place mode ≡ true
 memory_place place.Either mode lt h = refl
 memory_place place.Memory mode lt h = grind (arith, nat_tests)
 memory_place place.Register mode lt h = absurd cc
@@ -259,7 +259,7 @@ memory_back wide reg a small fit false h =
           (memory_then m _ (disp_bytes len a.disp ++ more) more a len mode em (plain_base m mode a em (rm_back mode reg (base_number a.base) small low) p.base_is s.0 s.1 fit (disp_bytes len a.disp ++ more)) (p.disp_is more));
     }
 
-modrm_back : (wide : Bool) (reg : ℕ) (place : Place) (rm : Operand) → reg < 8 → rm_fits place rm ≡ true → ReadBack reg rm (disp_len_of wide rm) (modrm_bytes reg (disp_len_of wide rm) rm)
+modrm_back : (wide : Bool) (reg : ℕ) (place : RmForm) (rm : Operand) → reg < 8 → rm_fits place rm ≡ true → ReadBack reg rm (disp_len_of wide rm) (modrm_bytes reg (disp_len_of wide rm) rm)
 unfolding rm_at
 modrm_back wide reg place operand.Absent small fit = absurd cc
 modrm_back wide reg place (operand.Segment s) small fit = absurd cc

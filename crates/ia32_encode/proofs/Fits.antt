@@ -7,8 +7,8 @@ use Rattle.ia32_types.specs.declared.insn.Address.{Address}
 use Rattle.ia32_types.specs.declared.insn.Operand.{Operand}
 use Rattle.ia32_types.specs.declared.insn.Operand.TheVariants as operand
 use Rattle.ia32_types.specs.Register.{number_of}
-use Rattle.ia32_rows.specs.declared.row.Place.{Place}
-use Rattle.ia32_rows.specs.declared.row.Place.TheVariants as place
+use Rattle.ia32_rows.specs.declared.row.RmForm.{RmForm}
+use Rattle.ia32_rows.specs.declared.row.RmForm.TheVariants as place
 use Rattle.ia32_rows.specs.declared.row.Addressing.{Addressing}
 use Rattle.ia32_rows.specs.declared.row.Addressing.TheVariants as addressing
 use Rattle.ia32_rows.specs.declared.row.Immediate.{Immediate}
@@ -135,7 +135,7 @@ Wide rm len = len ≡ 4 → disp_len_of true rm ≡ 4
 same_pair : (m n : Operand) (k l : ℕ) → ◌≡◌ {A = Operand × ℕ} (m, k) (n, l) → (m ≡ n) × (k ≡ l)
 same_pair m n k l e = (ap (λ (p : Operand × ℕ). p.0) e, ap (λ (p : Operand × ℕ). p.1) e)
 
-memory_read : (p : Place) (m : ℕ) (bytes : List ℕ) (rm : Operand) (len : ℕ) (rest : List ℕ) → memory_at m bytes ≡ Ok ((rm, len), rest) → AreBytes bytes → has_place p 0 ≡ true → (rm_fits p rm ≡ true) × Wide rm len
+memory_read : (p : RmForm) (m : ℕ) (bytes : List ℕ) (rm : Operand) (len : ℕ) (rest : List ℕ) → memory_at m bytes ≡ Ok ((rm, len), rest) → AreBytes bytes → has_place p 0 ≡ true → (rm_fits p rm ≡ true) × Wide rm len
 unfolding memory_at
 memory_read p m bytes rm len rest e h ok =
     let r = and_then_ok (base_at m bytes) (λ b. disp_at (cond (is_none b.base) 2 (mod_of m)) >>= λ d. done (operand.Memory (record { base = b.base; index = b.index; scale = b.scale; disp = d.0 }), d.1)) (rm, len) rest e in
@@ -145,14 +145,14 @@ memory_read p m bytes rm len rest e h ok =
     let s = same_pair (operand.Memory a) rm q.0.1 len (same_read (operand.Memory a, q.0.1) (rm, len) q.1 rest q.3).0 in
     (subst (λ o. rm_fits p o ≡ true) s.0 (both_true (base_read m (rm_of m == 4) refl bytes b r.1 r.2 h) ok), λ l. subst (λ o. disp_len_of true o ≡ 4) s.0 refl)
 
-place_0 : (p : Place) (mode : ℕ) → (mode == 3) ≡ false → has_place p mode ≡ true → has_place p 0 ≡ true
+place_0 : (p : RmForm) (mode : ℕ) → (mode == 3) ≡ false → has_place p mode ≡ true → has_place p 0 ≡ true
 place_0 place.Either mode e h = refl
 place_0 place.Memory mode e h = refl
 place_0 place.Register mode e h = absurd (false_true (mode == 3) e h) where
   false_true : (b : Bool) → b ≡ false → b ≡ true → ⊥
   false_true b e f = cc
 
-rm_read : (p : Place) (m : ℕ) (t : Bool) → (mod_of m == 3) ≡ t → (bytes : List ℕ) (rm : Operand) (len : ℕ) (rest : List ℕ) → rm_at m bytes ≡ Ok ((rm, len), rest) → AreBytes bytes → has_place p (mod_of m) ≡ true → (rm_fits p rm ≡ true) × Wide rm len
+rm_read : (p : RmForm) (m : ℕ) (t : Bool) → (mod_of m == 3) ≡ t → (bytes : List ℕ) (rm : Operand) (len : ℕ) (rest : List ℕ) → rm_at m bytes ≡ Ok ((rm, len), rest) → AreBytes bytes → has_place p (mod_of m) ≡ true → (rm_fits p rm ≡ true) × Wide rm len
 unfolding rm_at
 rm_read p m true t bytes rm len rest e h ok =
     let s = same_read (operand.Register (rm_of m), 0) (rm, len) bytes rest (ap (λ c. cond c (done (operand.Register (rm_of m), 0)) (memory_at m) bytes) (sym t) ∙ e) in

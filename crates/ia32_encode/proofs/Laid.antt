@@ -9,7 +9,7 @@ use Rattle.ia32_types.specs.declared.insn.Operand.{Operand}
 use Rattle.ia32_types.specs.declared.insn.Operand.TheVariants as operand
 use Rattle.ia32_rows.specs.declared.row.Addressing.{Addressing}
 use Rattle.ia32_rows.specs.declared.row.Addressing.TheVariants as addressing
-use Rattle.ia32_rows.specs.declared.row.Place.{Place}
+use Rattle.ia32_rows.specs.declared.row.RmForm.{RmForm}
 use Rattle.ia32_rows.specs.declared.row.Form.{Form}
 use Rattle.ia32_rows.specs.declared.row.Row.{Row}
 use Rattle.ia32_rows.specs.declared.row.Parts.{Parts}
@@ -80,7 +80,7 @@ laid form p a b ea eb le =
 
 -- ---- what a row that suits gives
 
-rm_below : (place : Place) (rm : Operand) → rm_fits place rm ≡ true → RegisterFits rm
+rm_below : (place : RmForm) (rm : Operand) → rm_fits place rm ≡ true → RegisterFits rm
 rm_below place (operand.Register n) h = ltb-true n 8 (both (nat_lt n 8) (has_place place 3) h).0
 rm_below place (operand.Memory a) h = tt
 rm_below place operand.Absent h = tt

@@ -15,7 +15,7 @@ use Rattle.ia32_exec.specs.Operands.{stored, kept_in}
 use Rattle.ia32_exec.specs.Registers.{with_register, with_whole, passed}
 use Rattle.ia32_exec.specs.Arithmetic.{arithmetic, tested, shifted, upper, with_halves, multiplied, product_to, signed_by, signed_multiplied, multiplied_by, shared, divided}
 use Rattle.ia32_exec.specs.Moves.{moved, zero_extended, sign_extended, loaded_address, exchanged, widened, sign_spread}
-use Rattle.ia32_exec.specs.Stack.{pushed_number, pushed, popped, all_pushed, all_popped, left, called, flags_pushed, is_foreign, top_of_stack, flags_popped}
+use Rattle.ia32_exec.specs.Stack.{pushed_number, pushed, popped, all_pushed, all_popped, frame_left, called, flags_pushed, is_foreign, top_of_stack, flags_popped}
 use Rattle.ia32_exec.specs.Control.{condition, jumped, jump, branched, set_by, flag_made}
 use Rattle.ia32_exec.specs.Strings.{is_over, turn, counted, string}
 use Rattle.ia32_exec.specs.Effect.{row, effect}
@@ -117,8 +117,8 @@ module _ (o : Op) (i : Insn) (len : ℕ) (r : Regs) (b : ℕ → ℕ) where
   unfolding sign_spread
   sign_spread_leads = inl (with_register_eip Long 2 _ _)
 
-  left_leads : Leads o i len r (left len r b)
-  unfolding left
+  left_leads : Leads o i len r (frame_left len r b)
+  unfolding frame_left
   left_leads = inl refl
 
   set_by_leads : Leads o i len r (set_by i len r)

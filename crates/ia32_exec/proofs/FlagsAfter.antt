@@ -24,11 +24,11 @@ use Rattle.ia32_exec.specs.declared.outcome.Outcome.TheVariants.{Done, Stop}
 use Rattle.ia32_exec.specs.declared.outcome.Stores.{Stores}
 use Rattle.ia32_exec.specs.declared.outcome.Stores.TheVariants.{Nothing}
 use Rattle.ia32_exec.specs.declared.selectors.Selectors.{Selectors}
-use Rattle.ia32_exec.specs.Registers.{register, with_register, with_whole, passed}
+use Rattle.ia32_exec.specs.Registers.{register_value, with_register, with_whole, passed}
 use Rattle.ia32_exec.specs.Operands.{value_of, stored, kept_in, done}
 use Rattle.ia32_exec.specs.Arithmetic.{flagged, computed, count_of, arithmetic, tested, shifted, with_halves, upper, multiplied, signed_by, signed_multiplied, product_to, multiplied_by, shared, divided}
 use Rattle.ia32_exec.specs.Moves.{moved, zero_extended, sign_extended, loaded_address, exchanged, widened, sign_spread}
-use Rattle.ia32_exec.specs.Stack.{is_foreign, taken, top_of_stack, raised, pushed, pushed_number, popped, all_pushed, all_popped, left, called, flags_pushed, flags_popped}
+use Rattle.ia32_exec.specs.Stack.{is_foreign, taken, top_of_stack, esp_above, pushed, pushed_number, popped, all_pushed, all_popped, frame_left, called, flags_pushed, flags_popped}
 use Rattle.ia32_exec.specs.Control.{condition, jump, jumped, branched, set_by, flag_made}
 use Rattle.ia32_exec.specs.Strings.{is_over, string, turn, moved_on, counted}
 use Rattle.ia32_exec.specs.Effect.{row, effect}
@@ -181,7 +181,7 @@ module _ (i : Insn) (len : ℕ) (r : Regs) where
   of_multiplied : (sign : Bool) (b : ℕ → ℕ) → Leaves r (multiplied sign i len r b)
   unfolding multiplied
   of_multiplied sign b =
-      let p = multiply sign i.size (register i.size 0 r) (value_of i.a i.size r b) r.flags in
+      let p = multiply sign i.size (register_value i.size 0 r) (value_of i.a i.size r b) r.flags in
       next_with p.1 _ (multiply_kept sign i.size _ _ r.flags) (apart_halves i.size (p.0 % span i.size) (p.0 / span i.size) (flagged len p.1 r))
 
   of_product : (x y : ℕ) → Leaves r (product_to i x y len r)
@@ -219,7 +219,7 @@ module _ (i : Insn) (len : ℕ) (r : Regs) where
   of_branch true ws = kept_same r.flags
   of_branch false ws = kept_same r.flags
 
-  of_flags : (c : Bool) (v : ℕ) → Leaves r (cond c (Stop FlagBits) (Done (passed len (with_whole 4 (raised 4 r) (record r { flags = taken r.flags v }))) Nothing))
+  of_flags : (c : Bool) (v : ℕ) → Leaves r (cond c (Stop FlagBits) (Done (passed len (with_whole 4 (esp_above 4 r) (record r { flags = taken r.flags v }))) Nothing))
   of_flags true v = tt
   of_flags false v = taken_kept r.flags v
 
@@ -240,7 +240,7 @@ module _ (i : Insn) (len : ℕ) (r : Regs) where
   turned_lods v = apart_on r (with_register i.size 0 v r) _ (apart_register i.size 0 v r) (record { flags = refl })
 
   row_leaves : (o : Op) (b : ℕ → ℕ) → Leaves r (row o i len r b)
-  unfolding signed_multiplied multiplied_by moved zero_extended sign_extended loaded_address exchanged pushed pushed_number popped all_pushed all_popped widened sign_spread left set_by jump branched called flags_pushed flags_popped string
+  unfolding signed_multiplied multiplied_by moved zero_extended sign_extended loaded_address exchanged pushed pushed_number popped all_pushed all_popped widened sign_spread frame_left set_by jump branched called flags_pushed flags_popped string
   row_leaves Add b = of_arithmetic b
   row_leaves Or b = of_arithmetic b
   row_leaves Adc b = of_arithmetic b

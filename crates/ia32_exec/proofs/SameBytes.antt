@@ -22,12 +22,12 @@ use Rattle.ia32_exec.specs.declared.outcome.Outcome.TheVariants.{Done, Stop}
 use Rattle.ia32_exec.specs.declared.outcome.Stores.TheVariants.{Nothing, One}
 use Rattle.ia32_exec.specs.declared.selectors.Selectors.{Selectors}
 use Rattle.ia32_exec.specs.Memory.{number_at, store}
-use Rattle.ia32_exec.specs.Registers.{register, with_register, with_whole, address_of, passed}
+use Rattle.ia32_exec.specs.Registers.{register_value, with_register, with_whole, address_of, passed}
 use Rattle.ia32_exec.specs.Ranges.{operand_range, AreAll, Covers}
 use Rattle.ia32_exec.specs.Operands.{value_of, source_of, stored, kept_in, done}
 use Rattle.ia32_exec.specs.Arithmetic.{flagged, count_of, arithmetic, tested, shifted, with_halves, upper, multiplied, signed_by, signed_multiplied, product_to, multiplied_by, shared, divided}
 use Rattle.ia32_exec.specs.Moves.{sign_extension, loaded_address, moved, zero_extended, sign_extended, exchanged}
-use Rattle.ia32_exec.specs.Stack.{stack_of, lowered, raised, slot_of, is_foreign, taken, pushed, pushed_number, popped, all_popped, left, flags_popped}
+use Rattle.ia32_exec.specs.Stack.{stack_of, esp_below, esp_above, slot_of, is_foreign, taken, pushed, pushed_number, popped, all_popped, frame_left, flags_popped}
 use Rattle.ia32_exec.specs.Strings.{is_over, moved_on, string, turn, counted}
 use Rattle.ia32_exec.specs.Effect.{either, row, ranges_row, effect, ranges_of}
 use Rattle.ia32_types.specs.Places.{is_place}
@@ -100,7 +100,7 @@ module _ (b c : ℕ → ℕ) where
   unfolding multiplied
   multiplied_same sign i len r h =
       ap (λ x.
-      Done (with_halves i.size ((multiply sign i.size (register i.size 0 r) x r.flags).0 % span i.size) ((multiply sign i.size (register i.size 0 r) x r.flags).0 / span i.size) (flagged len (multiply sign i.size (register i.size 0 r) x r.flags).1 r)) Nothing) (value_same i.a i.size r h)
+      Done (with_halves i.size ((multiply sign i.size (register_value i.size 0 r) x r.flags).0 % span i.size) ((multiply sign i.size (register_value i.size 0 r) x r.flags).0 / span i.size) (flagged len (multiply sign i.size (register_value i.size 0 r) x r.flags).1 r)) Nothing) (value_same i.a i.size r h)
 
   product_same : (i : Insn) (len : ℕ) (r : Regs) (o : Operand) → Covers Same (operand_range i.a i.size r) → Covers Same (operand_range o i.size r)
       → product_to i (value_of i.a i.size r b) (value_of o i.size r b) len r ≡ product_to i (value_of i.a i.size r c) (value_of o i.size r c) len r
@@ -115,7 +115,7 @@ module _ (b c : ℕ → ℕ) where
 
   divided_same : (sign : Bool) (i : Insn) (len : ℕ) (r : Regs) → Covers Same (operand_range i.a i.size r) → divided sign i len r b ≡ divided sign i len r c
   unfolding divided
-  divided_same sign i len r h = ap (λ x. shared i.size (divide sign i.size (register i.size (upper i.size) r) (register i.size 0 r) x) (passed len r)) (value_same i.a i.size r h)
+  divided_same sign i len r h = ap (λ x. shared i.size (divide sign i.size (register_value i.size (upper i.size) r) (register_value i.size 0 r) x) (passed len r)) (value_same i.a i.size r h)
 
   -- a string instruction that reads
   turn_same : (over : Bool) (x : Outcome) (f : ℕ → Outcome) (s : Size) (at : ℕ) → Covers Same (cond over None (Some (record { at = at; len = width s / 8; seg = Ds })))
@@ -132,7 +132,7 @@ module _ (b c : ℕ → ℕ) where
   all_popped_same : (len : ℕ) (r : Regs) → AreAll Same (stack_of r) 32 → all_popped len r b ≡ all_popped len r c
   unfolding all_popped
   all_popped_same len r h =
-      let f : ℕ → ℕ → ℕ → ℕ → ℕ → ℕ → ℕ → Outcome = λ p q s t u v w. Done (passed len (record r { r = p ∷ q ∷ s ∷ t ∷ raised 32 r ∷ u ∷ v ∷ w ∷ [] })) Nothing in
+      let f : ℕ → ℕ → ℕ → ℕ → ℕ → ℕ → ℕ → Outcome = λ p q s t u v w. Done (passed len (record r { r = p ∷ q ∷ s ∷ t ∷ esp_above 32 r ∷ u ∷ v ∷ w ∷ [] })) Nothing in
       let g : (k : ℕ) → k < 8 → slot_of k r b ≡ slot_of k r c = λ k lt. slot_same r k lt h in
       ap (λ x. f x (slot_of 6 r b) (slot_of 5 r b) (slot_of 4 r b) (slot_of 2 r b) (slot_of 1 r b) (slot_of 0 r b)) (g 7 (omega arith))
       ∙ ap (λ x. f (slot_of 7 r c) x (slot_of 5 r b) (slot_of 4 r b) (slot_of 2 r b) (slot_of 1 r b) (slot_of 0 r b)) (g 6 (omega arith))
@@ -143,7 +143,7 @@ module _ (b c : ℕ → ℕ) where
       ∙ ap (λ x. f (slot_of 7 r c) (slot_of 6 r c) (slot_of 5 r c) (slot_of 4 r c) (slot_of 2 r c) (slot_of 1 r c) x) (g 0 (omega arith))
 
   row_same : (op : Op) (i : Insn) (len : ℕ) (r : Regs) → IsShaped i → Covers Same (ranges_row op i r).read → Covers Same (ranges_row op i r).write → row op i len r b ≡ row op i len r c
-  unfolding loaded_address signed_multiplied multiplied_by moved zero_extended sign_extended exchanged pushed popped left flags_popped string
+  unfolding loaded_address signed_multiplied multiplied_by moved zero_extended sign_extended exchanged pushed popped frame_left flags_popped string
   row_same Add i len r s h k = arithmetic_same i len r h k
   row_same Or i len r s h k = arithmetic_same i len r h k
   row_same Adc i len r s h k = arithmetic_same i len r h k
@@ -174,7 +174,7 @@ module _ (b c : ℕ → ℕ) where
   row_same Xchg i len r s h k =
       two (λ x y. Done (kept_in i.b i.size x (stored i.a i.size y (passed len r)).0) (stored i.a i.size y (passed len r)).1) _ _ _ _ (value_same i.a i.size r k) (value_same i.b i.size r h)
   row_same Push i len r s h k = ap (λ x. pushed_number x (passed len r)) (source_same i.a i.imm Long r h)
-  row_same Pop i len r s h k = ap (λ x. done (stored i.a Long x (passed len (with_whole 4 (raised 4 r) r)))) (number_same Long (stack_of r) h)
+  row_same Pop i len r s h k = ap (λ x. done (stored i.a Long x (passed len (with_whole 4 (esp_above 4 r) r)))) (number_same Long (stack_of r) h)
   row_same Pusha i len r s h k = refl
   row_same Popa i len r s h k = all_popped_same len r h
   row_same Cwde i len r s h k = refl
@@ -198,16 +198,16 @@ module _ (b c : ℕ → ℕ) where
   row_same Std i len r s h k = refl
   row_same PushFlags i len r s h k = refl
   row_same PopFlags i len r s h k =
-      ap (λ x. if is_foreign x then (Stop FlagBits) else (Done (passed len (with_whole 4 (raised 4 r) (record r { flags = taken r.flags x }))) Nothing)) (number_same Long (stack_of r) h)
+      ap (λ x. if is_foreign x then (Stop FlagBits) else (Done (passed len (with_whole 4 (esp_above 4 r) (record r { flags = taken r.flags x }))) Nothing)) (number_same Long (stack_of r) h)
   row_same op i len r s h k = refl
 
   user_row_same : (op : Op) (g : Selectors) (i : Insn) (len : ℕ) (r : Regs) → i.op ≡ op → IsShaped i → Covers Same (ranges_row op i r).read → Covers Same (ranges_row op i r).write
       → user_row op g i len r b ≡ user_row op g i len r c
   unfolding returned jumped_through called_through effect
-  user_row_same Return g i len r e s h k = ap (λ x. Done (gone_to x (with_whole 4 (raised (4 + i.imm) r) r)) Nothing) (number_same Long (stack_of r) h)
+  user_row_same Return g i len r e s h k = ap (λ x. Done (gone_to x (with_whole 4 (esp_above (4 + i.imm) r) r)) Nothing) (number_same Long (stack_of r) h)
   user_row_same JumpTo g i len r e s h k = ap (λ x. cond (is_place i.a) (Done (gone_to x r) Nothing) (Stop Unsupported)) (value_same i.a Long r h)
   user_row_same CallTo g i len r e s h k =
-      ap (λ x. cond (is_place i.a) (Done (gone_to x (with_whole 4 (lowered 4 r) r)) (One (store (lowered 4 r) Long (passed len r).eip))) (Stop Unsupported)) (value_same i.a Long r h)
+      ap (λ x. cond (is_place i.a) (Done (gone_to x (with_whole 4 (esp_below 4 r) r)) (One (store (esp_below 4 r) Long (passed len r).eip))) (Stop Unsupported)) (value_same i.a Long r h)
   user_row_same ReadSeg g i len r e s h k = refl
   user_row_same PushSeg g i len r e s h k = refl
   user_row_same op g i len r e s h k =

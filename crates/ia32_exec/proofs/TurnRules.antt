@@ -18,10 +18,10 @@ use Rattle.ia32_exec.specs.Memory.{number_at, store}
 use Rattle.ia32_exec.specs.Commit.{list_of, longs_to}
 use Rattle.ia32_exec.specs.Effect.{effect, row}
 use Rattle.ia32_exec.specs.Operands.{source_of, stored, done}
-use Rattle.ia32_exec.specs.Registers.{register, with_register, with_whole, passed}
-use Rattle.ia32_exec.specs.Stack.{pushed, pushed_number, popped, lowered, raised, all_pushed, all_popped}
+use Rattle.ia32_exec.specs.Registers.{register_value, with_register, with_whole, passed}
+use Rattle.ia32_exec.specs.Stack.{pushed, pushed_number, popped, esp_below, esp_above, all_pushed, all_popped}
 use Rattle.ia32_exec.specs.Strings.{IsString, turn, counted, string}
-use Rattle.ia32_exec.specs.Turns.{written, all_written, State, committed, after, turns, IsWhole, IsCountedOut}
+use Rattle.ia32_exec.specs.Turns.{written, all_written, RegsAndBytes, committed, after, turns, IsWhole, IsCountedOut}
 
 -- a byte of a number that was written, and one beside it
 inside : (at v j : ℕ) (b : ℕ → ℕ) → j < 4 → written (store at Long v) b (at + j) ≡ v / 2 ^ (8 * j) % 2 ^ 8
@@ -105,27 +105,27 @@ index_set [] i v l = absurd (omega arith)
 index_set (x ∷ g) zero v l = refl
 index_set (x ∷ g) (suc i) v l = index_set g i v (omega arith)
 
-after_row : (i : Insn) (o : Op) (len : ℕ) (m : State) → i.op ≡ o → after i len m ≡ committed (row o i len m.regs m.bytes) m
+after_row : (i : Insn) (o : Op) (len : ℕ) (m : RegsAndBytes) → i.op ≡ o → after i len m ≡ committed (row o i len m.regs m.bytes) m
 unfolding after effect
 after_row i o len m e = ap (λ p. committed (row p i len m.regs m.bytes) m) e
 
-landed : (pop : Insn) (n l v : ℕ) (p : State) → pop.a ≡ Register n → number_at p.bytes Long (slice_index p.regs.r 4) ≡ v →
-    (committed (popped pop l p.regs p.bytes) p).regs ≡ with_register Long n v (passed l (with_whole 4 (raised 4 p.regs) p.regs))
+landed : (pop : Insn) (n l v : ℕ) (p : RegsAndBytes) → pop.a ≡ Register n → number_at p.bytes Long (slice_index p.regs.r 4) ≡ v →
+    (committed (popped pop l p.regs p.bytes) p).regs ≡ with_register Long n v (passed l (with_whole 4 (esp_above 4 p.regs) p.regs))
 unfolding popped with_register
 landed pop n l v p g read =
-    let up : Regs = passed l (with_whole 4 (raised 4 p.regs) p.regs) in
+    let up : Regs = passed l (with_whole 4 (esp_above 4 p.regs) p.regs) in
     let x : ℕ = number_at p.bytes Long (slice_index p.regs.r 4) in
     ap (λ a. (committed (done (stored a Long x up)) p).regs) g ∙ ap (λ y. with_register Long n y up) read
 
 ended : (l n v k : ℕ) (r : Regs) (at : ℕ) →
     slice_set (slice_set r.r 4 at) 4 ((slice_index (slice_set r.r 4 at) 4 + 4) % 2 ^ 32) ≡ r.r →
-    with_register Long n v (passed l (with_whole 4 (raised 4 (with_whole 4 at (passed k r))) (with_whole 4 at (passed k r))))
+    with_register Long n v (passed l (with_whole 4 (esp_above 4 (with_whole 4 at (passed k r))) (with_whole 4 at (passed k r))))
     ≡ passed l (with_register Long n v (passed k r))
 unfolding with_register
 ended l n v k r at same =
     ap (λ h. record { r = slice_set h n v; eip = ((r.eip + k) % 2 ^ 32 + l) % 2 ^ 32; flags = r.flags }) same
 
-pub push_pop : (push pop : Insn) (n push_len pop_len : ℕ) (m : State) →
+pub push_pop : (push pop : Insn) (n push_len pop_len : ℕ) (m : RegsAndBytes) →
     push.op ≡ Push → pop.op ≡ Pop → pop.a ≡ Register n → IsWhole m.regs →
     source_of push.a push.imm Long m.regs m.bytes < 2 ^ 32 →
     (after pop pop_len (after push push_len m)).regs
@@ -134,7 +134,7 @@ unfolding pushed pushed_number popped with_register
 push_pop push pop n k l m e f g w s =
     let v : ℕ = source_of push.a push.imm Long m.regs m.bytes in
     let r : Regs = m.regs in
-    let at : ℕ = lowered 4 r in
+    let at : ℕ = esp_below 4 r in
     let five : 4 < length r.r = omega (arith, w.eight) in
     let small : slice_index r.r 4 < 2 ^ 32 = w.small 4 in
     let there : slice_index (slice_set r.r 4 at) 4 ≡ at = index_set r.r 4 at five in
@@ -144,7 +144,7 @@ push_pop push pop n k l m e f g w s =
     ap (λ x. (x + 4) % 2 ^ 32) there ∙ back_up 4 (slice_index r.r 4) (omega arith) small in
     let same : slice_set (slice_set r.r 4 at) 4 ((slice_index (slice_set r.r 4 at) 4 + 4) % 2 ^ 32) ≡ r.r =
     set_set 4 at _ r.r ∙ ap (slice_set r.r 4) up ∙ set_same 4 r.r in
-    let pushed_state : State = record { regs = with_whole 4 at (passed k r); bytes = b } in
+    let pushed_state : RegsAndBytes = record { regs = with_whole 4 at (passed k r); bytes = b } in
     let first : after push k m ≡ pushed_state = after_row push Push k m e in
     let second : after pop l pushed_state ≡ committed (popped pop l pushed_state.regs b) pushed_state = after_row pop Pop l pushed_state f in
     ap (λ x. (after pop l x).regs) first ∙ ap (λ x. x.regs) second ∙ landed pop n l v pushed_state g read ∙ ended l n v k r at same
@@ -161,7 +161,7 @@ listed p q r s t u v w = cc
 abbrev file : List ℕ → ℕ → Flags → Regs
 file g e f = record { r = g; eip = e; flags = f }
 
-abbrev state : List ℕ → ℕ → Flags → (ℕ → ℕ) → State
+abbrev state : List ℕ → ℕ → Flags → (ℕ → ℕ) → RegsAndBytes
 state g e f b = record { regs = file g e f; bytes = b }
 
 -- all registers pushed and popped
@@ -182,15 +182,15 @@ all_back k l e f b g0 g1 g2 g3 g4 g5 g6 g7 small =
     (back_up 32 g4 (omega arith) (small 4))
     (longs_back 8 at vs b 2 (omega arith) (small 5)) (longs_back 8 at vs b 1 (omega arith) (small 6)) (longs_back 8 at vs b 0 (omega arith) (small 7)))
 
-as_committed : (l : ℕ) (q m : State) → (committed (all_popped l q.regs q.bytes) q).regs ≡ (committed (all_popped l q.regs q.bytes) m).regs
+as_committed : (l : ℕ) (q m : RegsAndBytes) → (committed (all_popped l q.regs q.bytes) q).regs ≡ (committed (all_popped l q.regs q.bytes) m).regs
 unfolding all_popped
 as_committed l q m = refl
 
-pub push_pop_all : (push pop : Insn) (push_len pop_len : ℕ) (m : State) →
+pub push_pop_all : (push pop : Insn) (push_len pop_len : ℕ) (m : RegsAndBytes) →
     push.op ≡ Pusha → pop.op ≡ Popa → IsWhole m.regs →
     (after pop pop_len (after push push_len m)).regs ≡ passed pop_len (passed push_len m.regs)
 push_pop_all push pop k l m e f w =
-    let q : State = committed (all_pushed k m.regs) m in
+    let q : RegsAndBytes = committed (all_pushed k m.regs) m in
     ap (λ x. (after pop l x).regs) (after_row push Pusha k m e)
     ∙ ap (λ x. x.regs) (after_row pop Popa l q f)
     ∙ as_committed l q m
@@ -225,7 +225,7 @@ turn_eip _ s r b h = absurd h
 turn_without : (o : Op) (s : Size) (n e e' : ℕ) (f : Flags) (b : ℕ → ℕ) (g0 g1 g2 g3 g4 g5 g6 g7 : ℕ) → IsString o →
     turn o s (file (g0 ∷ n ∷ g2 ∷ g3 ∷ g4 ∷ g5 ∷ g6 ∷ g7 ∷ []) e f) b
     ≡ (let t = turn o s (file (g0 ∷ g1 ∷ g2 ∷ g3 ∷ g4 ∷ g5 ∷ g6 ∷ g7 ∷ []) e' f) b in let p : Regs × Stores = (file (slice_set t.0.r 1 n) e f, t.1) in p)
-unfolding register with_register
+unfolding register_value with_register
 turn_without Movs s n e e' f b g0 g1 g2 g3 g4 g5 g6 g7 h = refl
 turn_without Stos Byte n e e' f b g0 g1 g2 g3 g4 g5 g6 g7 h = refl
 turn_without Stos Word n e e' f b g0 g1 g2 g3 g4 g5 g6 g7 h = refl
@@ -237,7 +237,7 @@ turn_without _ s n e e' f b g0 g1 g2 g3 g4 g5 g6 g7 h = absurd h
 
 turn_eight : (o : Op) (s : Size) (e : ℕ) (f : Flags) (b : ℕ → ℕ) (g0 g1 g2 g3 g4 g5 g6 g7 : ℕ) → IsString o →
     length (turn o s (file (g0 ∷ g1 ∷ g2 ∷ g3 ∷ g4 ∷ g5 ∷ g6 ∷ g7 ∷ []) e f) b).0.r ≡ 8
-unfolding register with_register
+unfolding register_value with_register
 turn_eight Movs s e f b g0 g1 g2 g3 g4 g5 g6 g7 h = refl
 turn_eight Stos s e f b g0 g1 g2 g3 g4 g5 g6 g7 h = refl
 turn_eight Lods Byte e f b g0 g1 g2 g3 g4 g5 g6 g7 h = refl
@@ -257,7 +257,7 @@ single_step : (i : Insn) (o : Op) (len : ℕ) (g : List ℕ) (e : ℕ) (f : Flag
 unfolding string
 single_step i o len g e f b is h =
     let r : Regs = file g e f in
-    let m : State = state g e f b in
+    let m : RegsAndBytes = state g e f b in
     let j : Insn = record i { rep = false } in
     let t : Regs × Stores = turned o i.size g e f b in
     after_row j o len m is ∙ ap (λ x. committed x m) (string_row o j len r b h)
@@ -287,7 +287,7 @@ repeated_step : (i : Insn) (o : Op) (n len e e' : ℕ) (f : Flags) (b : ℕ → 
 unfolding string
 repeated_step i o n len e e' f b is h g0 g1 g2 g3 g4 g5 g6 g7 =
     let r : Regs = file (g0 ∷ suc n ∷ g2 ∷ g3 ∷ g4 ∷ g5 ∷ g6 ∷ g7 ∷ []) e f in
-    let m : State = record { regs = r; bytes = b } in
+    let m : RegsAndBytes = record { regs = r; bytes = b } in
     let j : Insn = record i { rep = true } in
     let t : Regs × Stores = turn o i.size r b in
     after_row j o len m is ∙ ap (λ x. committed x m) (string_row o j len r b h)
@@ -301,7 +301,7 @@ turned_length : (o : Op) (s : Size) (e : ℕ) (f : Flags) (b : ℕ → ℕ) (g :
 turned_length o s e f b g h eight =
     as_eight (λ x. length (turned o s x e f b).0.r ≡ 8) (λ g0 g1 g2 g3 g4 g5 g6 g7. turn_eight o s e f b g0 g1 g2 g3 g4 g5 g6 g7 h) g eight
 
-record IsRepeated (len e : ℕ) (single many : State) : Type 0 where
+record IsRepeated (len e : ℕ) (single many : RegsAndBytes) : Type 0 where
   out : IsCountedOut single many
   passes : many.regs.eip ≡ (e + len) % 2 ^ 32
 
@@ -310,19 +310,19 @@ many_turns : (n : ℕ) (i : Insn) (o : Op) (len single : ℕ) (g : List ℕ) (e 
 many_turns zero i o len single g e e' f b is h eight =
     let T : List ℕ = (turned o i.size g e' f b).0.r in
     let c : ℕ → ℕ = turned_bytes o i.size g e' f b in
-    let one : State = state T ((e' + single) % 2 ^ 32) f c in
-    let last : State = state (slice_set T 1 0) ((e + len) % 2 ^ 32) f c in
+    let one : RegsAndBytes = state T ((e' + single) % 2 ^ 32) f c in
+    let last : RegsAndBytes = state (slice_set T 1 0) ((e + len) % 2 ^ 32) f c in
     let left : after (record i { rep = false }) single (state g e' f b) ≡ one = single_step i o single g e' f b is h in
     let right : after (record i { rep = true }) len (state (slice_set g 1 1) e f b) ≡ last =
     repeated_of i o 0 len e e' f b g is h eight ∙ ap (λ x. state x ((e + len) % 2 ^ 32) f c) (set_set 1 1 0 T) in
-    let P : State → Type 0 = λ x. IsRepeated len e x (after (record i { rep = true }) len (state (slice_set g 1 1) e f b)) in
-    let Q : State → Type 0 = λ x. IsRepeated len e one x in
+    let P : RegsAndBytes → Type 0 = λ x. IsRepeated len e x (after (record i { rep = true }) len (state (slice_set g 1 1) e f b)) in
+    let Q : RegsAndBytes → Type 0 = λ x. IsRepeated len e one x in
     subst P (sym left) (subst Q (sym right) (record { out = record { bytes = refl; flags = refl; registers = refl }; passes = refl }))
 many_turns (suc n) i o len single g e e' f b is h eight =
     let T : List ℕ = (turned o i.size g e' f b).0.r in
     let c : ℕ → ℕ = turned_bytes o i.size g e' f b in
-    let one : State = state T ((e' + single) % 2 ^ 32) f c in
-    let next : State = state (slice_set T 1 (suc n)) e f c in
+    let one : RegsAndBytes = state T ((e' + single) % 2 ^ 32) f c in
+    let next : RegsAndBytes = state (slice_set T 1 (suc n)) e f c in
     let left : after (record i { rep = false }) single (state g e' f b) ≡ one = single_step i o single g e' f b is h in
     let x : Regs = file (slice_set T 1 (suc (suc n))) e f in
     let right : after (record i { rep = true }) len (state (slice_set g 1 (suc (suc n))) e f b) ≡ next =
@@ -330,12 +330,12 @@ many_turns (suc n) i o len single g e e' f b is h eight =
     ∙ ap (λ t. record { regs = cond t (passed len (with_whole 1 (suc (suc n) - 1) x)) (with_whole 1 (suc (suc n) - 1) x); bytes = c }) (isnt_one n)
     ∙ ap (λ k. state (slice_set (slice_set T 1 (suc (suc n))) 1 k) e f c) (one_less (suc n))
     ∙ ap (λ y. state y e f c) (set_set 1 (suc (suc n)) (suc n) T) in
-    let P : State → Type 0 = λ x. IsRepeated len e (turns (suc n) (record i { rep = false }) single x) (turns (suc n) (record i { rep = true }) len (after (record i { rep = true }) len (state (slice_set g 1 (suc (suc n))) e f b))) in
-    let Q : State → Type 0 = λ x. IsRepeated len e (turns (suc n) (record i { rep = false }) single one) (turns (suc n) (record i { rep = true }) len x) in
+    let P : RegsAndBytes → Type 0 = λ x. IsRepeated len e (turns (suc n) (record i { rep = false }) single x) (turns (suc n) (record i { rep = true }) len (after (record i { rep = true }) len (state (slice_set g 1 (suc (suc n))) e f b))) in
+    let Q : RegsAndBytes → Type 0 = λ x. IsRepeated len e (turns (suc n) (record i { rep = false }) single one) (turns (suc n) (record i { rep = true }) len x) in
     subst P (sym left) (subst Q (sym right)
     (many_turns n i o len single T e ((e' + single) % 2 ^ 32) f c is h (turned_length o i.size e' f b g h eight)))
 
-all_turns : (i : Insn) (n len single : ℕ) (m : State) → IsString i.op → i.rep ≡ true → IsWhole m.regs → slice_index m.regs.r 1 ≡ suc n →
+all_turns : (i : Insn) (n len single : ℕ) (m : RegsAndBytes) → IsString i.op → i.rep ≡ true → IsWhole m.regs → slice_index m.regs.r 1 ≡ suc n →
     IsRepeated len m.regs.eip (turns (suc n) (record i { rep = false }) single m) (turns (suc n) i len m)
 all_turns i n len single m h rep w ecx =
     let g : List ℕ = m.regs.r in
@@ -345,10 +345,10 @@ all_turns i n len single m h rep w ecx =
     let Q : Bool → Type 0 = λ x. IsRepeated len m.regs.eip (turns (suc n) (record i { rep = false }) single m) (turns (suc n) (record i { rep = x }) len m) in
     subst Q (sym rep) (subst P same (many_turns n i i.op len single g m.regs.eip m.regs.eip m.regs.flags m.bytes refl h w.eight))
 
-pub counted_out : (i : Insn) (n len single : ℕ) (m : State) → IsString i.op → i.rep ≡ true → IsWhole m.regs → slice_index m.regs.r 1 ≡ suc n →
+pub counted_out : (i : Insn) (n len single : ℕ) (m : RegsAndBytes) → IsString i.op → i.rep ≡ true → IsWhole m.regs → slice_index m.regs.r 1 ≡ suc n →
     IsCountedOut (turns (suc n) (record i { rep = false }) single m) (turns (suc n) i len m)
 counted_out i n len single m h rep w ecx = (all_turns i n len single m h rep w ecx).out
 
-pub passed_by : (i : Insn) (n len : ℕ) (m : State) → IsString i.op → i.rep ≡ true → IsWhole m.regs → slice_index m.regs.r 1 ≡ suc n →
+pub passed_by : (i : Insn) (n len : ℕ) (m : RegsAndBytes) → IsString i.op → i.rep ≡ true → IsWhole m.regs → slice_index m.regs.r 1 ≡ suc n →
     (turns (suc n) i len m).regs.eip ≡ (m.regs.eip + len) % 2 ^ 32
 passed_by i n len m h rep w ecx = (all_turns i n len 0 m h rep w ecx).passes

@@ -19,7 +19,7 @@ use Rattle.ia32_exec.specs.Ranges.{operand_range, Covers}
 use Rattle.ia32_exec.specs.Registers.{passed, with_whole}
 use Rattle.ia32_exec.specs.Arithmetic.{arithmetic, tested, shifted, multiplied, signed_multiplied, multiplied_by, divided}
 use Rattle.ia32_exec.specs.Moves.{moved, zero_extended, sign_extended, loaded_address, exchanged, widened, sign_spread}
-use Rattle.ia32_exec.specs.Stack.{stack_of, lowered, raised, pushed, popped, all_pushed, all_popped, left, called, flags_pushed, flags_popped}
+use Rattle.ia32_exec.specs.Stack.{stack_of, esp_below, esp_above, pushed, popped, all_pushed, all_popped, frame_left, called, flags_pushed, flags_popped}
 use Rattle.ia32_exec.specs.Control.{jump, branched, set_by, flag_made}
 use Rattle.ia32_exec.specs.Strings.{is_over, string}
 
@@ -59,7 +59,7 @@ row Pusha i len r b = all_pushed len r
 row Popa i len r b = all_popped len r b
 row Cwde i len r b = widened len r
 row Cdq i len r b = sign_spread len r
-row Leave i len r b = left len r b
+row Leave i len r b = frame_left len r b
 row Nop i len r b = Done (passed len r) Nothing
 row Jcc i len r b = branched i len r
 row Setcc i len r b = set_by i len r
@@ -138,23 +138,23 @@ ranges_row Mov i r = source_and_target i r
 ranges_row Movzx i r = reads (operand_range i.b i.size r)
 ranges_row Movsx i r = reads (operand_range i.b i.size r)
 ranges_row Xchg i r = source_and_target i r
-ranges_row Push i r = record { read = operand_range i.a Long r; write = on_stack (lowered 4 r) 4 }
-ranges_row Pop i r = record { read = on_stack (stack_of r) 4; write = operand_range i.a Long (with_whole 4 (raised 4 r) r) }
-ranges_row Pusha i r = writes (on_stack (lowered 32 r) 32)
+ranges_row Push i r = record { read = operand_range i.a Long r; write = on_stack (esp_below 4 r) 4 }
+ranges_row Pop i r = record { read = on_stack (stack_of r) 4; write = operand_range i.a Long (with_whole 4 (esp_above 4 r) r) }
+ranges_row Pusha i r = writes (on_stack (esp_below 32 r) 32)
 ranges_row Popa i r = reads (on_stack (stack_of r) 32)
 ranges_row Leave i r = reads (on_stack (slice_index r.r 5) 4)
 ranges_row Setcc i r = writes (operand_range i.a Byte r)
-ranges_row Call i r = writes (on_stack (lowered 4 r) 4)
+ranges_row Call i r = writes (on_stack (esp_below 4 r) 4)
 ranges_row Movs i r = record { read = unless_over i r (element Ds 6 i r); write = unless_over i r (element Es 7 i r) }
 ranges_row Stos i r = writes (unless_over i r (element Es 7 i r))
 ranges_row Lods i r = reads (unless_over i r (element Ds 6 i r))
-ranges_row PushFlags i r = writes (on_stack (lowered 4 r) 4)
+ranges_row PushFlags i r = writes (on_stack (esp_below 4 r) 4)
 ranges_row PopFlags i r = reads (on_stack (stack_of r) 4)
 ranges_row ReadSeg i r = writes (operand_range i.a Word r)
-ranges_row PushSeg i r = writes (on_stack (lowered 4 r) 4)
+ranges_row PushSeg i r = writes (on_stack (esp_below 4 r) 4)
 ranges_row Return i r = reads (on_stack (stack_of r) 4)
 ranges_row JumpTo i r = reads (operand_range i.a Long r)
-ranges_row CallTo i r = record { read = operand_range i.a Long r; write = on_stack (lowered 4 r) 4 }
+ranges_row CallTo i r = record { read = operand_range i.a Long r; write = on_stack (esp_below 4 r) 4 }
 ranges_row _ i r = record { read = None; write = None }
 
 unfoldable pub ranges_of : Insn → Regs → Ranges

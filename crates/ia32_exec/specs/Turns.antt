@@ -17,21 +17,21 @@ abbrev pub all_written : List Store → (ℕ → ℕ) → ℕ → ℕ
 all_written [] b = b
 all_written (w ∷ ws) b = all_written ws (written w b)
 
-pub record State : Type 0 where
+pub record RegsAndBytes : Type 0 where
   pub regs : Regs
   pub bytes : ℕ → ℕ
 
 -- an instruction that raises or stops changes nothing
-abbrev pub committed : Outcome → State → State
+abbrev pub committed : Outcome → RegsAndBytes → RegsAndBytes
 committed (Done r ws) m = record { regs = r; bytes = all_written (list_of ws) m.bytes }
 committed _ m = m
 
 -- one instruction of a length
-unfoldable pub after : Insn → ℕ → State → State
+unfoldable pub after : Insn → ℕ → RegsAndBytes → RegsAndBytes
 after i len m = committed (effect i len m.regs m.bytes) m
 
 -- the same instruction n times
-abbrev pub turns : ℕ → Insn → ℕ → State → State
+abbrev pub turns : ℕ → Insn → ℕ → RegsAndBytes → RegsAndBytes
 turns zero i len m = m
 turns (suc n) i len m = turns n i len (after i len m)
 
@@ -41,7 +41,7 @@ pub record IsWhole (r : Regs) : Type 0 where
   pub small : (k : ℕ) → slice_index r.r k < 2 ^ 32
 
 -- the memory and the flags are the same, and the registers but ECX, which is 0
-pub record IsCountedOut (single repeated : State) : Type 0 where
+pub record IsCountedOut (single repeated : RegsAndBytes) : Type 0 where
   pub bytes : repeated.bytes ≡ single.bytes
   pub flags : repeated.regs.flags ≡ single.regs.flags
   pub registers : repeated.regs.r ≡ slice_set single.regs.r 1 0

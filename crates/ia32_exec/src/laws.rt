@@ -11,12 +11,12 @@ ghost use Rattle.ia32_exec.specs.Memory.{stored, all_stored};
 ghost use Rattle.ia32_exec.specs.Operands.{source_of};
 ghost use Rattle.ia32_exec.specs.Registers.{with_register, passed};
 ghost use Rattle.ia32_exec.specs.Strings.{IsString};
-ghost use Rattle.ia32_exec.specs.Turns.{State, after, all_written, turns, IsWhole, IsCountedOut};
+ghost use Rattle.ia32_exec.specs.Turns.{RegsAndBytes, after, all_written, turns, IsWhole, IsCountedOut};
 
 /// PUSH, and then POP into a register, puts what was pushed into that register, and leaves ESP and
 /// every other register as they were.
 pub fn push_then_pop()
-    ensures { (push pop : Insn) (n push_len pop_len : ℕ) (m : State) →
+    ensures { (push pop : Insn) (n push_len pop_len : ℕ) (m : RegsAndBytes) →
         push.op ≡ Push → pop.op ≡ Pop → pop.a ≡ Register n → IsWhole m.regs →
         source_of push.a push.imm Long m.regs m.bytes < 2 ^ 32 →
         (after pop pop_len (after push push_len m)).regs
@@ -25,7 +25,7 @@ pub fn push_then_pop()
 
 /// PUSHA, and then POPA, leaves every register as it was, but EIP.
 pub fn push_all_then_pop_all()
-    ensures { (push pop : Insn) (push_len pop_len : ℕ) (m : State) →
+    ensures { (push pop : Insn) (push_len pop_len : ℕ) (m : RegsAndBytes) →
         push.op ≡ Pusha → pop.op ≡ Popa → IsWhole m.regs →
         (after pop pop_len (after push push_len m)).regs ≡ passed pop_len (passed push_len m.regs) }
 {}
@@ -33,10 +33,10 @@ pub fn push_all_then_pop_all()
 /// A string instruction with REP and ECX n, which is not 0, does in n steps what the instruction without
 /// REP does when it is done n times. It leaves ECX 0 and then passes.
 pub fn repeated_turns()
-    ensures same { (i : Insn) (n len single_len : ℕ) (m : State) →
+    ensures same { (i : Insn) (n len single_len : ℕ) (m : RegsAndBytes) →
         IsString i.op → i.rep ≡ true → IsWhole m.regs → slice_index m.regs.r 1 ≡ suc n →
         IsCountedOut (turns (suc n) (record i { rep = false }) single_len m) (turns (suc n) i len m) }
-    ensures passes { (i : Insn) (n len : ℕ) (m : State) →
+    ensures passes { (i : Insn) (n len : ℕ) (m : RegsAndBytes) →
         IsString i.op → i.rep ≡ true → IsWhole m.regs → slice_index m.regs.r 1 ≡ suc n →
         (turns (suc n) i len m).regs.eip ≡ (m.regs.eip + len) % 2 ^ 32 }
 {}

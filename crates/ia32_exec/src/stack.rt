@@ -4,7 +4,7 @@ ghost use Rattle.ia32_exec.specs.Memory.{IsAllAt};
 ghost use Rattle.ia32_exec.specs.Ranges.{AreAll};
 ghost use Rattle.ia32_exec.specs.Operands.{IsReadable};
 ghost use Rattle.ia32_types.specs.Shape.{IsNamed};
-ghost use Rattle.ia32_exec.specs.Stack.{stack_of, lowered, raised, pushed_number, pushed, top_of_stack, slot_of, popped, all_pushed, all_popped, left, called, flags_pushed, is_foreign, taken, flags_popped};
+ghost use Rattle.ia32_exec.specs.Stack.{stack_of, esp_below, esp_above, pushed_number, pushed, top_of_stack, slot_of, popped, all_pushed, all_popped, frame_left, called, flags_pushed, is_foreign, taken, flags_popped};
 
 use crate::memory::LinearBytes;
 use crate::operands::{source_of, stored};
@@ -12,15 +12,15 @@ use crate::outcome::{Outcome, Store, Stores};
 use crate::registers::{passed, with_whole};
 use ia32_types::{Flags, Insn, Regs, Size, Stop};
 
-fn lowered(by: u32, regs: &Regs) -> u32
+fn esp_below(by: u32, regs: &Regs) -> u32
     requires { 0 < by }
-    ensures { result ≡ lowered by regs.now }
+    ensures { result ≡ esp_below by regs.now }
 {
     regs.r[4].wrapping_sub(by)
 }
 
-fn raised(by: u32, regs: &Regs) -> u32
-    ensures { result ≡ raised by regs.now }
+fn esp_above(by: u32, regs: &Regs) -> u32
+    ensures { result ≡ esp_above by regs.now }
 {
     regs.r[4].wrapping_add(by)
 }
@@ -30,7 +30,7 @@ fn raised(by: u32, regs: &Regs) -> u32
 pub fn pushed_number(value: u32, regs: Regs) -> Outcome
     ensures { result ≡ pushed_number value regs }
 {
-    let at = lowered(4, &regs);
+    let at = esp_below(4, &regs);
     let size = Size::Long;
     Outcome::Done(
         with_whole(4, at, regs),
@@ -63,7 +63,7 @@ pub fn popped<M: LinearBytes>(insn: &Insn, len: u8, regs: &Regs, mem: &M) -> Out
     ensures { result ≡ popped insn.now len regs.now (M.byte mem.now) }
 {
     let value = top_of_stack(regs, mem);
-    let risen = with_whole(4, raised(4, regs), *regs);
+    let risen = with_whole(4, esp_above(4, regs), *regs);
     let (after, stores) = stored(insn.a, Size::Long, value, passed(u32::from(len), risen));
     Outcome::Done(after, stores)
 }
@@ -73,7 +73,7 @@ pub fn popped<M: LinearBytes>(insn: &Insn, len: u8, regs: &Regs, mem: &M) -> Out
 pub fn all_pushed(len: u8, regs: &Regs) -> Outcome
     ensures { result ≡ all_pushed len regs.now }
 {
-    let at = lowered(32, regs);
+    let at = esp_below(32, regs);
     let r = regs.r;
     let values = [r[7], r[6], r[5], r[4], r[3], r[2], r[1], r[0]];
     let after = passed(u32::from(len), with_whole(4, at, *regs));
@@ -99,7 +99,7 @@ pub fn all_popped<M: LinearBytes>(len: u8, regs: &Regs, mem: &M) -> Outcome
         slot(6, regs, mem),
         slot(5, regs, mem),
         slot(4, regs, mem),
-        raised(32, regs),
+        esp_above(32, regs),
         slot(2, regs, mem),
         slot(1, regs, mem),
         slot(0, regs, mem),
@@ -108,10 +108,10 @@ pub fn all_popped<M: LinearBytes>(len: u8, regs: &Regs, mem: &M) -> Outcome
 }
 
 /// LEAVE.
-#[tactic(auto, unfolding(crate::specs::Stack::left))]
-pub fn left<M: LinearBytes>(len: u8, regs: &Regs, mem: &M) -> Outcome
+#[tactic(auto, unfolding(crate::specs::Stack::frame_left))]
+pub fn frame_left<M: LinearBytes>(len: u8, regs: &Regs, mem: &M) -> Outcome
     requires { IsAllAt (M.readable mem.now) (slice_index regs.now.r 5) Long }
-    ensures { result ≡ left len regs.now (M.byte mem.now) }
+    ensures { result ≡ frame_left len regs.now (M.byte mem.now) }
 {
     let frame = regs.r[5];
     let value = mem.read(frame, Size::Long);
@@ -128,7 +128,7 @@ pub fn called(insn: &Insn, len: u8, regs: &Regs) -> Outcome
     ensures { result ≡ called insn.now len regs.now }
 {
     let next = passed(u32::from(len), *regs);
-    let at = lowered(4, &next);
+    let at = esp_below(4, &next);
     let size = Size::Long;
     let value = next.eip;
     let after = passed(insn.imm, with_whole(4, at, next));
@@ -182,6 +182,6 @@ pub fn flags_popped<M: LinearBytes>(len: u8, regs: &Regs, mem: &M) -> Outcome
         return Outcome::Stop(Stop::FlagBits);
     }
     let flags = taken(regs.flags, image);
-    let risen = with_whole(4, raised(4, regs), Regs { flags, ..*regs });
+    let risen = with_whole(4, esp_above(4, regs), Regs { flags, ..*regs });
     Outcome::Done(passed(u32::from(len), risen), Stores::Nothing)
 }

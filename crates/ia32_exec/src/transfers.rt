@@ -3,7 +3,7 @@ ghost use Rattle.ia32_types.specs.declared.size.Size.TheVariants.{Long};
 ghost use Rattle.ia32_types.specs.Shape.{IsNamed};
 ghost use Rattle.ia32_exec.specs.Memory.{IsAllAt};
 ghost use Rattle.ia32_exec.specs.Operands.{IsReadable};
-ghost use Rattle.ia32_exec.specs.Stack.{stack_of, raised};
+ghost use Rattle.ia32_exec.specs.Stack.{stack_of, esp_above};
 ghost use Rattle.ia32_types.specs.Places.{is_place};
 ghost use Rattle.ia32_exec.specs.Transfers.{returned, jumped_through, called_through};
 
@@ -21,7 +21,7 @@ fn is_place(operand: Operand) -> bool
 
 /// ESP after a pop of four bytes that drops more.
 fn raised_over(more: u32, regs: &Regs) -> u32
-    ensures { result ≡ raised (4 + more) regs.now }
+    ensures { result ≡ esp_above (4 + more) regs.now }
 {
     let sum = u64::from(regs.r[4]) + (4 + u64::from(more));
     (sum % 0x1_0000_0000) as u32
@@ -64,9 +64,9 @@ pub fn called_through<M: LinearBytes>(insn: &Insn, len: u8, regs: &Regs, mem: &M
     let at = regs.r[4].wrapping_sub(4);
     let size = Size::Long;
     let value = passed(u32::from(len), *regs).eip;
-    let lowered = with_whole(4, at, *regs);
+    let esp_below = with_whole(4, at, *regs);
     Outcome::Done(
-        Regs { eip, ..lowered },
+        Regs { eip, ..esp_below },
         Stores::One(Store { at, size, value }),
     )
 }

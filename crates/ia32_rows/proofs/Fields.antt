@@ -4,8 +4,8 @@ use Rattle.std.specs.Prelude.{◌&&◌, nat_lt, is_none}
 use Rattle.std.proofs.lemmas.Bool.{ltb-true}
 use Rattle.ia32_rows.specs.declared.row.Slash.{Slash}
 use Rattle.ia32_rows.specs.declared.row.Slash.TheVariants as slash
-use Rattle.ia32_rows.specs.declared.row.Place.{Place}
-use Rattle.ia32_rows.specs.declared.row.Place.TheVariants as place
+use Rattle.ia32_rows.specs.declared.row.RmForm.{RmForm}
+use Rattle.ia32_rows.specs.declared.row.RmForm.TheVariants as place
 use Rattle.ia32_rows.specs.declared.row.Modrm.{Modrm}
 use Rattle.ia32_rows.specs.declared.row.Addressing.{Addressing}
 use Rattle.ia32_rows.specs.declared.row.Addressing.TheVariants as addressing
@@ -43,7 +43,7 @@ abbrev pub slash_witness : Slash → ℕ
 slash_witness (slash.Digit d) = d * 8
 slash_witness _ = 0
 
-abbrev pub place_witness : Place → ℕ
+abbrev pub place_witness : RmForm → ℕ
 place_witness place.Register = 192
 place_witness _ = 0
 

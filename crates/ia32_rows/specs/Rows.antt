@@ -14,7 +14,7 @@ use Rattle.ia32_rows.specs.declared.row.Lead.TheVariants as lead
 use Rattle.ia32_rows.specs.declared.row.Plus.{Plus}
 use Rattle.ia32_rows.specs.declared.row.Plus.TheVariants as plus
 use Rattle.ia32_rows.specs.declared.row.Slash.TheVariants as slash
-use Rattle.ia32_rows.specs.declared.row.Place.TheVariants as place
+use Rattle.ia32_rows.specs.declared.row.RmForm.TheVariants as place
 use Rattle.ia32_rows.specs.declared.row.Addressing.{Addressing}
 use Rattle.ia32_rows.specs.declared.row.Addressing.TheVariants as addressing
 use Rattle.ia32_rows.specs.declared.row.Immediate.{Immediate}

@@ -15,7 +15,7 @@ pub use laws::{
 };
 pub use meaning::instruction;
 pub use row::{
-    Addressing, Base, Form, Immediate, Lead, Located, Miss, Modrm, Operands, Parts, Place, Plus,
+    Addressing, Base, Form, Immediate, Lead, Located, Miss, Modrm, Operands, Parts, RmForm, Plus,
     RefusedRow, Row, Slash,
 };
 pub use table::{REFUSED_ROWS, ROWS};

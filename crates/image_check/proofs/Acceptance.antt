@@ -15,7 +15,7 @@ use Rattle.elf_form.specs.Reading.{image_in}
 use Rattle.elf_form.specs.Accepted.{ImageAs}
 use Rattle.elf_form.proofs.Acceptance.{read_as, as_read}
 use Rattle.sites.specs.declared.site.Site.{Site}
-use Rattle.sites.specs.Kinds.{number, kind_of}
+use Rattle.sites.specs.Kinds.{number, kind_numbered}
 use Rattle.sites.specs.declared.limits.TheConstants.{TEXT_LIMIT}
 use Rattle.sites.specs.SitesParts.{SitesParts}
 use Rattle.sites.specs.Formats.{list_of, listed}
@@ -39,7 +39,7 @@ use Rattle.image_check.proofs.SweepLaws.{sweep_exact}
 
 -- ---- two lists of sites
 
-number_known : (k : SiteKind) → kind_of (number k) ≡ Some k
+number_known : (k : SiteKind) → kind_numbered (number k) ≡ Some k
 number_known Cli = refl
 number_known Sti = refl
 number_known StiHlt = refl
@@ -68,7 +68,7 @@ abbrev some_kind : SiteKind → Option SiteKind
 some_kind k = Some k
 
 same_kind : (j k : SiteKind) → number j ≡ number k → j ≡ k
-same_kind j k e = let h : some_kind j ≡ some_kind k = sym (number_known j) ∙ ap kind_of e ∙ number_known k in cc
+same_kind j k e = let h : some_kind j ≡ some_kind k = sym (number_known j) ∙ ap kind_numbered e ∙ number_known k in cc
 
 both : (a b : Bool) → (a && b) ≡ true → (a ≡ true) × (b ≡ true)
 both true b e = (refl, e)

@@ -6,7 +6,7 @@ use Rattle.std.proofs.lemmas.Bool.{cases_lt}
 use Rattle.std.proofs.lemmas.List.{get_or_default}
 use Rattle.std.proofs.lemmas.List.Elements.{Contains-get_or}
 use Rattle.sites.specs.declared.site.Site.{Site}
-use Rattle.image_check.specs.declared.place.Place.TheVariants.{NotAStart, Outside, Inside}
+use Rattle.image_check.specs.declared.place.AtOffset.TheVariants.{NotAStart, Outside, Inside}
 use Rattle.image_check.specs.Image.{Image}
 use Rattle.image_check.specs.Sweep.{starts_of}
 use Rattle.image_check.specs.Layout.{AreApart}

@@ -2,8 +2,8 @@
 use Rattle.std.specs.Prelude.{◌≡◌, ℕ, ◌+◌, ◌-◌, Bool, ◌&&◌, List, Option, Some, None, is_some, nat_le, nat_lt, ◌==◌, if◌then◌else◌}
 use Rattle.std.specs.List.{list_any, find, Contains}
 use Rattle.sites.specs.declared.site.Site.{Site}
-use Rattle.image_check.specs.declared.place.Place.{Place}
-use Rattle.image_check.specs.declared.place.Place.TheVariants.{NotAStart, Outside, Inside}
+use Rattle.image_check.specs.declared.place.AtOffset.{AtOffset}
+use Rattle.image_check.specs.declared.place.AtOffset.TheVariants.{NotAStart, Outside, Inside}
 use Rattle.image_check.specs.Image.{Image}
 use Rattle.image_check.specs.Sweep.{Swept, sweep, swept_or_none, starts_of}
 
@@ -28,11 +28,11 @@ abbrev pub is_in_site : List Site → ℕ → Bool
 is_in_site sites at = is_some (site_at sites at)
 
 -- an offset at which an instruction begins lies outside the sites, or inside one
-abbrev pub by_site : Option Site → Place
+abbrev pub by_site : Option Site → AtOffset
 by_site None = Outside
 by_site (Some s) = Inside s
 
-abbrev pub place_of : Image → ℕ → Place
+abbrev pub place_of : Image → ℕ → AtOffset
 place_of image at = if is_start image.text at then by_site (site_at image.sites at) else NotAStart
 
 -- the linear address of an offset of the text
@@ -48,7 +48,7 @@ abbrev pub is_site_at : List Site → ℕ → Bool
 is_site_at sites eip = list_any (λ (s : Site). nat_le (linear s.at) eip && nat_lt eip (linear s.at + s.total)) sites
 
 -- what stands at a linear address; below the text no instruction begins
-abbrev pub place_at : Image → ℕ → Place
+abbrev pub place_at : Image → ℕ → AtOffset
 place_at image eip = if nat_lt eip 0x10000000 then NotAStart else place_of image (eip - 0x10000000)
 
 -- An instruction of the text stands there, and no site is around it.

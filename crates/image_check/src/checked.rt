@@ -3,7 +3,7 @@
 ghost use Rattle.std.specs.Prelude.{◌≡◌, ◌↔◌, Ok, IsTrue, length};
 ghost use Rattle.std.specs.List.{Contains};
 
-use crate::place::{Place, site_at};
+use crate::place::{AtOffset, site_at};
 use crate::placing::TEXT_AT;
 use elf_form::Image;
 use sites::Sites;
@@ -112,24 +112,24 @@ impl Checked {
     }
 
     /// What stands at an offset of the text. The sites are not gone through: the search halves them.
-    pub fn place(&self, at: u32) -> Place
+    pub fn place(&self, at: u32) -> AtOffset
         ensures { result ≡ place_of self.now at }
     {
         if !self.is_start(at) {
-            return Place::NotAStart;
+            return AtOffset::NotAStart;
         }
         match site_at(self.sites(), at) {
-            None => Place::Outside,
-            Some(site) => Place::Inside(site),
+            None => AtOffset::Outside,
+            Some(site) => AtOffset::Inside(site),
         }
     }
 
     /// What stands at a linear address.
-    pub fn place_at(&self, eip: u32) -> Place
+    pub fn place_at(&self, eip: u32) -> AtOffset
         ensures { result ≡ place_at self.now eip }
     {
         if eip < TEXT_AT {
-            return Place::NotAStart;
+            return AtOffset::NotAStart;
         }
         self.place(eip - TEXT_AT)
     }

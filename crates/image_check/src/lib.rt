@@ -18,4 +18,4 @@ pub use fault::{CheckCause, CheckFault};
 pub use laws::{
     causes_are_conditions, first_cause, one_sweep, refused_in_order, sites_from_the_front,
 };
-pub use place::Place;
+pub use place::AtOffset;

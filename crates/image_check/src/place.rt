@@ -9,7 +9,7 @@ use sites::{Site, Sites};
 /// What stands at an offset of a text: no instruction begins there; one begins there that is in no
 /// site; or one that is in a site, the site's first included.
 #[derive(Clone, Copy, Debug, PartialEq, Eq)]
-pub enum Place {
+pub enum AtOffset {
     NotAStart,
     Outside,
     Inside(Site),

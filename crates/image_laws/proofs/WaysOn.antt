@@ -17,7 +17,7 @@ use Rattle.ia32_decode.specs.declared.answer.Decoded.TheVariants as answer
 use Rattle.ia32_decode.specs.Decoding.{answer_from, decoded}
 use Rattle.ia32_decode.proofs.Exact.{decoded_back}
 use Rattle.sites.specs.declared.site.Site.{Site}
-use Rattle.image_check.specs.declared.place.Place.TheVariants.{NotAStart, Outside, Inside}
+use Rattle.image_check.specs.declared.place.AtOffset.TheVariants.{NotAStart, Outside, Inside}
 use Rattle.image_check.specs.Image.{Image}
 use Rattle.image_check.specs.Sweep.{Swept}
 use Rattle.image_check.specs.Pieces.{is_branch, target_of, piece_of}

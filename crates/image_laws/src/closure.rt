@@ -7,7 +7,7 @@ ghost use Rattle.ia32_exec.specs.declared.outcome.Outcome.TheVariants.{Done};
 ghost use Rattle.ia32_exec.specs.declared.outcome.Stores.{Stores};
 ghost use Rattle.ia32_exec.specs.Effect.{effect};
 ghost use Rattle.sites.specs.declared.site.Site.{Site};
-ghost use Rattle.image_check.specs.declared.place.Place.TheVariants.{NotAStart, Outside, Inside};
+ghost use Rattle.image_check.specs.declared.place.AtOffset.TheVariants.{NotAStart, Outside, Inside};
 ghost use Rattle.image_check.specs.Image.{Image};
 ghost use Rattle.image_check.specs.Accepts.{IsAccepted};
 ghost use Rattle.image_check.specs.Sweep.{Swept};

@@ -6,7 +6,7 @@ ghost use Rattle.ia32_types.specs.Site.{sensitive_kind};
 ghost use Rattle.ia32_types.specs.declared.site.SiteKind.TheVariants.{StiHlt};
 ghost use Rattle.ia32_rows.specs.Spells.{AreBytes};
 ghost use Rattle.sites.specs.declared.site.Site.{Site};
-ghost use Rattle.image_check.specs.declared.place.Place.TheVariants.{Outside, Inside};
+ghost use Rattle.image_check.specs.declared.place.AtOffset.TheVariants.{Outside, Inside};
 ghost use Rattle.image_check.specs.Image.{Image};
 ghost use Rattle.image_check.specs.Accepts.{IsAccepted};
 ghost use Rattle.image_check.specs.Sweep.{Swept, Sweep, starts_of};

@@ -106,13 +106,13 @@ page_bytes : (s : Space) (fetch : Bool) (page at : ℕ) (access : Access) → Ar
 unfolding page_uses
 page_bytes s fetch page at access h = by (usable (get s.set page) access s.wp)
   where
-    by : (o : Option Entry) → AreBytes (by_entry (record s { pages = s.pages + 1; went = s.went ++ page ∷ [] }) fetch page at access o).1.ram
+    by : (o : Option Entry) → AreBytes (by_entry (record s { pages = s.pages + 1; visited = s.visited ++ page ∷ [] }) fetch page at access o).1.ram
     by None = decided_bytes (tables_of s) fetch page at access h
-    by (Some entry) = both_bytes (is_barred s.mode fetch access.user page entry.frame) (Stop stops.TextMapped) Ready (record s { pages = s.pages + 1; went = s.went ++ page ∷ [] }) h
+    by (Some entry) = both_bytes (is_barred s.mode fetch access.user page entry.frame) (Stop stops.TextMapped) Ready (record s { pages = s.pages + 1; visited = s.visited ++ page ∷ [] }) h
 
 -- ---- what else a fetch leaves
 
-either_went : (test : Bool) (a b : Touch) (u : Space) (l : List ℕ) → u.went ≡ l → (cond {A = Touch × Space} test (a, u) (b, u)).1.went ≡ l
+either_went : (test : Bool) (a b : Touch) (u : Space) (l : List ℕ) → u.visited ≡ l → (cond {A = Touch × Space} test (a, u) (b, u)).1.visited ≡ l
 either_went true a b u l e = e
 either_went false a b u l e = e
 
@@ -120,25 +120,25 @@ either_wrote : (test : Bool) (a b : Touch) (u : Space) (l : List ℕ) → u.wrot
 either_wrote true a b u l e = e
 either_wrote false a b u l e = e
 
-page_went : (s : Space) (fetch : Bool) (page at : ℕ) (access : Access) → ((page_uses s fetch page at access).1.went ≡ s.went ++ page ∷ []) × ((page_uses s fetch page at access).1.wrote ≡ s.wrote)
+page_went : (s : Space) (fetch : Bool) (page at : ℕ) (access : Access) → ((page_uses s fetch page at access).1.visited ≡ s.visited ++ page ∷ []) × ((page_uses s fetch page at access).1.wrote ≡ s.wrote)
 unfolding page_uses
 page_went s fetch page at access = by (usable (get s.set page) access s.wp)
   where
-    by : (o : Option Entry) → ((by_entry (record s { pages = s.pages + 1; went = s.went ++ page ∷ [] }) fetch page at access o).1.went ≡ s.went ++ page ∷ []) × ((by_entry (record s { pages = s.pages + 1; went = s.went ++ page ∷ [] }) fetch page at access o).1.wrote ≡ s.wrote)
+    by : (o : Option Entry) → ((by_entry (record s { pages = s.pages + 1; visited = s.visited ++ page ∷ [] }) fetch page at access o).1.visited ≡ s.visited ++ page ∷ []) × ((by_entry (record s { pages = s.pages + 1; visited = s.visited ++ page ∷ [] }) fetch page at access o).1.wrote ≡ s.wrote)
     by None = (refl, refl)
     by (Some entry) = (
-      either_went (is_barred s.mode fetch access.user page entry.frame) (Stop stops.TextMapped) Ready (record s { pages = s.pages + 1; went = s.went ++ page ∷ [] }) (s.went ++ page ∷ []) refl,
-      either_wrote (is_barred s.mode fetch access.user page entry.frame) (Stop stops.TextMapped) Ready (record s { pages = s.pages + 1; went = s.went ++ page ∷ [] }) s.wrote refl,
+      either_went (is_barred s.mode fetch access.user page entry.frame) (Stop stops.TextMapped) Ready (record s { pages = s.pages + 1; visited = s.visited ++ page ∷ [] }) (s.visited ++ page ∷ []) refl,
+      either_wrote (is_barred s.mode fetch access.user page entry.frame) (Stop stops.TextMapped) Ready (record s { pages = s.pages + 1; visited = s.visited ++ page ∷ [] }) s.wrote refl,
     )
 
 -- memory behind a fetch
 record AfterFetch (s t : Space) (page : ℕ) : Type 0 where
   bytes : AreBytes s.ram → AreBytes t.ram
-  went : t.went ≡ s.went ++ page ∷ []
+  visited : t.visited ≡ s.visited ++ page ∷ []
   wrote : t.wrote ≡ s.wrote
 
 going : (s : Space) (page at len : ℕ) (met : Touch) (u : Space) → AfterFetch s u page → AfterFetch s (go_on met u (made_ready at len false)).1 page
-going s page at len Ready u h = record { bytes = h.bytes; went = h.went; wrote = h.wrote }
+going s page at len Ready u h = record { bytes = h.bytes; visited = h.visited; wrote = h.wrote }
 going s page at len (Fault code cr2) u h = h
 going s page at len (Stop stop) u h = h
 
@@ -148,7 +148,7 @@ fetches_after s at len user =
     let access : Access = record { write = false; user = user } in
     let p : Touch × Space = page_uses (unready s) true (at / 4096) at access in
     let w = page_went (unready s) true (at / 4096) at access in
-    going s (at / 4096) at len p.0 p.1 (record { bytes = page_bytes (unready s) true (at / 4096) at access; went = w.0; wrote = w.1 })
+    going s (at / 4096) at len p.0 p.1 (record { bytes = page_bytes (unready s) true (at / 4096) at access; visited = w.0; wrote = w.1 })
 
 -- what was fetched
 record IsBehind (s t : Space) (page : ℕ) : Type 0 where
@@ -228,10 +228,10 @@ taken_err at len (Stop stop) s r t e = err_space _ r s t e
     err_space : (a c : Refusal) (x y : Space) → ◌≡◌ {A = Outcome Refusal (List ℕ)} (Err (a, x)) (Err (c, y)) → x ≡ y
     err_space a c x y e = let p : ◌≡◌ {A = Refusal × Space} (a, x) (c, y) = cc in ap (λ (q : Refusal × Space). q.1) p
 
-fetching_err : (user : Bool) (at len : ℕ) (s : Space) (r : Refusal) (t : Space) → fetching user at len s ≡ Err (r, t) → t.went ≡ s.went ++ at / 4096 ∷ []
+fetching_err : (user : Bool) (at len : ℕ) (s : Space) (r : Refusal) (t : Space) → fetching user at len s ≡ Err (r, t) → t.visited ≡ s.visited ++ at / 4096 ∷ []
 unfolding fetching
 fetching_err user at len s r t e =
-    ap (λ (u : Space). u.went) (sym (taken_err at len (fetches s at len user).0 (fetches s at len user).1 r t e)) ∙ (fetches_after s at len user).went
+    ap (λ (u : Space). u.visited) (sym (taken_err at len (fetches s at len user).0 (fetches s at len user).1 r t e)) ∙ (fetches_after s at len user).visited
 
 -- a refusal comes from the first part or from what follows
 refused_by : {A B : Type 0} (o : Outcome Refusal A) (f : A → Work Refusal B) (r : Refusal) (t : Space) → on_value o f ≡ Err (r, t) → (o ≡ Err (r, t)) ⊎ ((x : A) × (u : Space) × (o ≡ Ok (x, u)) × (f x u ≡ Err (r, t)))
@@ -251,7 +251,7 @@ owned_never eip (begins.Insn insn len) s r t e =
 owned_never eip begins.Outside s r t e = no_refusal begins.Outside s r t e
 owned_never eip begins.Short s r t e = no_refusal begins.Short s r t e
 
-on_err : (user : Bool) (eip : ℕ) (front : List ℕ) (s : Space) (r : Refusal) (t : Space) → s.went ≡ eip / 4096 ∷ [] → fetched_on user eip front s ≡ Err (r, t) → FewPages eip t.went
+on_err : (user : Bool) (eip : ℕ) (front : List ℕ) (s : Space) (r : Refusal) (t : Space) → s.visited ≡ eip / 4096 ∷ [] → fetched_on user eip front s ≡ Err (r, t) → FewPages eip t.visited
 unfolding fetched_on
 on_err user eip front s r t w e =
     let n : ℕ = front_len eip in
@@ -262,7 +262,7 @@ on_err user eip front s r t w e =
       | inr k ↦ absurd (owned_never eip (decoded (front ++ k.0)) k.1 r t k.3)
     ]
 
-by_err : (user : Bool) (eip : ℕ) (front : List ℕ) (d : Decoded) (s : Space) (r : Refusal) (t : Space) → s.went ≡ eip / 4096 ∷ [] → fetched_by user eip front d s ≡ Err (r, t) → FewPages eip t.went
+by_err : (user : Bool) (eip : ℕ) (front : List ℕ) (d : Decoded) (s : Space) (r : Refusal) (t : Space) → s.visited ≡ eip / 4096 ∷ [] → fetched_by user eip front d s ≡ Err (r, t) → FewPages eip t.visited
 by_err user eip front (begins.Insn insn len) s r t w e =
     absurd (no_refusal (begins.Insn insn len) _ r t (sym (then_is (owning_front eip len s) (λ x. gives (begins.Insn insn len)) tt _ (front_is s eip len)) ∙ e))
 by_err user eip front begins.Outside s r t w e = absurd (no_refusal begins.Outside s r t e)
@@ -271,16 +271,16 @@ by_err user eip front begins.Short s r t w e = by (eip / 4096 == 1048575) e
     same : (a c : Refusal × Space) → ◌≡◌ {A = Outcome Refusal Decoded} (Err a) (Err c) → a ≡ c
     same a c e = cc
 
-    by : (last : Bool) → cond last (refuses (refusal.Stop stops.WrapAccess)) (fetched_on user eip front) s ≡ Err (r, t) → FewPages eip t.went
-    by true e = inl (ap (λ (q : Refusal × Space). q.1.went) (sym (same (refusal.Stop stops.WrapAccess, s) (r, t) e)) ∙ w)
+    by : (last : Bool) → cond last (refuses (refusal.Stop stops.WrapAccess)) (fetched_on user eip front) s ≡ Err (r, t) → FewPages eip t.visited
+    by true e = inl (ap (λ (q : Refusal × Space). q.1.visited) (sym (same (refusal.Stop stops.WrapAccess, s) (r, t) e)) ∙ w)
     by false e = on_err user eip front s r t w e
 
-fetched_err : FetchesFollow → (user : Bool) (eip : ℕ) (s : Space) (r : Refusal) (t : Space) → s.went ≡ [] → fetched user eip s ≡ Err (r, t) → FewPages eip t.went
+fetched_err : FetchesFollow → (user : Bool) (eip : ℕ) (s : Space) (r : Refusal) (t : Space) → s.visited ≡ [] → fetched user eip s ≡ Err (r, t) → FewPages eip t.visited
 unfolding fetched
 fetched_err follow user eip s r t w e =
     elim (refused_by (fetching user eip (front_len eip) s) (λ front. fetched_by user eip front (decoded front)) r t e) [
       | inl h ↦ inl (fetching_err user eip (front_len eip) s r t h ∙ ap (λ (l : List ℕ). l ++ eip / 4096 ∷ []) w)
-      | inr k ↦ by_err user eip k.0 (decoded k.0) k.1 r t ((fetching_after follow user eip (front_len eip) s k.0 k.1 k.2).after.went ∙ ap (λ (l : List ℕ). l ++ eip / 4096 ∷ []) w) k.3
+      | inr k ↦ by_err user eip k.0 (decoded k.0) k.1 r t ((fetching_after follow user eip (front_len eip) s k.0 k.1 k.2).after.visited ∙ ap (λ (l : List ℕ). l ++ eip / 4096 ∷ []) w) k.3
     ]
 
 none_twice : (b : State) (entries : ℕ → Option Entry) (wp : Bool) (eip : ℕ) (l : List ℕ) → FewPages eip l → clash_in entries wp (fetch_uses b l) ≡ false
@@ -321,11 +321,11 @@ by_outcome : FetchesFollow → FoundOver → (m : Setting) (b : State) (tables :
     → clash_in (get others) (protects b) (uses_by b (fetched (b.cpu.cpl == 3) b.cpu.regs.eip (begun m b others))) ≡ true
 by_outcome follow over m b tables kept others room fit sub none found (Ok read) is h =
     let f = refetched follow over m b tables kept others room fit sub none found (b.cpu.cpl == 3) b.cpu.regs.eip read.0 read.1 is in
-    let same : uses_by b (fetched (b.cpu.cpl == 3) b.cpu.regs.eip (begun m b others)) ≡ uses_by b (Ok read) = ap (uses_by b) f.is ∙ ap (λ (l : List ℕ). fetch_uses b l ++ range_uses b read.0) f.went in
+    let same : uses_by b (fetched (b.cpu.cpl == 3) b.cpu.regs.eip (begun m b others)) ≡ uses_by b (Ok read) = ap (uses_by b) f.is ∙ ap (λ (l : List ℕ). fetch_uses b l ++ range_uses b read.0) f.visited in
     subst (λ (us : List Use). clash_in (get others) (protects b) us ≡ true) (sym same) (clash_more kept others (protects b) [] (uses_by b (Ok read)) sub h)
 by_outcome follow over m b tables kept others room fit sub none found (Err refused) is h =
-    clash (clash_in (get kept) (protects b) (fetch_uses b refused.1.went)) h
-    (none_twice b (get kept) (protects b) b.cpu.regs.eip refused.1.went (fetched_err follow (b.cpu.cpl == 3) b.cpu.regs.eip (begun m b kept) refused.0 refused.1 refl is))
+    clash (clash_in (get kept) (protects b) (fetch_uses b refused.1.visited)) h
+    (none_twice b (get kept) (protects b) b.cpu.regs.eip refused.1.visited (fetched_err follow (b.cpu.cpl == 3) b.cpu.regs.eip (begun m b kept) refused.0 refused.1 refl is))
 
 instructions_agree : FetchesFollow → FoundOver → (m : Setting) (b : State) (tables : ℕ → Bool) (kept others : Set) → 4096 * m.frames ≤ length b.ram → AreBytes b.ram → ((q : ℕ) → ForSome (get kept q) (λ e. get others q ≡ Some e))
     → ((q : ℕ) → 2 ^ 20 ≤ q → get others q ≡ None) → ((q : ℕ) → q < 2 ^ 20 → ForSome (get others q) (λ e. IsFoundBy b.ram m.frames b.cpu.cr3 (pse_of b.cpu) tables q e))

@@ -83,10 +83,10 @@ pub record PageReady (s t : Space) (T : Set) (E : Earlier) (page : ℕ) (met : T
   pub place_is : (at : ℕ) → place_by (get set page) at ≡ place_by (get t.set page) at
   pub others : (q : ℕ) → (q ≡ page → ⊥) → get set q ≡ get T q
   pub ours : (q : ℕ) → (q ≡ page → ⊥) → get t.set q ≡ get s.set q
-  pub went : t.went ≡ s.went ++ page ∷ []
+  pub visited : t.visited ≡ s.visited ++ page ∷ []
 
 abbrev seen : Space → ℕ → Space
-seen s page = record s { pages = s.pages + 1; went = s.went ++ page ∷ [] }
+seen s page = record s { pages = s.pages + 1; visited = s.visited ++ page ∷ [] }
 
 -- by a walk in both
 both_walk : (s : Space) (T : Set) (Y : List ℕ) (E : Earlier) (page : ℕ) (d : Decision) → d.met ≡ Ready → PageReady s (settled (seen s page) page d).1 T E page (settled (other (seen s page) T Y E) page d)
@@ -97,7 +97,7 @@ both_walk s T Y E page d e = record {
   place_is = λ at. ap (λ o. place_by o at) (there T page d.entry ∙ sym (there s.set page d.entry));
   others = λ q ne. elsewhere T page q d.entry ne;
   ours = λ q ne. elsewhere s.set page q d.entry ne;
-  went = refl;
+  visited = refl;
 }
 
 -- by the same entry in both
@@ -105,7 +105,7 @@ both_entry : (s : Space) (T : Set) (Y : List ℕ) (E : Earlier) (page : ℕ) (ba
     → PageReady s (cond {A = Touch × Space} barred (Stop stops.TextMapped, seen s page) (Ready, seen s page)).1 T E page (cond {A = Touch × Space} barred (Stop stops.TextMapped, other (seen s page) T Y E) (Ready, other (seen s page) T Y E))
 both_entry s T Y E page true same e = absurd cc
 both_entry s T Y E page false same e =
-    record { set = T; tables = Y; is = refl; place_is = λ at. ap (λ o. place_by o at) (sym same); others = λ q ne. refl; ours = λ q ne. refl; went = refl }
+    record { set = T; tables = Y; is = refl; place_is = λ at. ap (λ o. place_by o at) (sym same); others = λ q ne. refl; ours = λ q ne. refl; visited = refl }
 
 same_page : (s : Space) (T : Set) (Y : List ℕ) (E : Earlier) (page at : ℕ) (access : Access) (o : Option Entry) → get s.set page ≡ get T page → (by_entry (seen s page) true page at access o).0 ≡ Ready
     → PageReady s (by_entry (seen s page) true page at access o).1 T E page (by_entry (other (seen s page) T Y E) true page at access o)
@@ -145,7 +145,7 @@ walk_entry tables s T Y E page at access e read fit there_is h d r met =
       place_is = λ at. ap (λ o. place_by o at) there_is ∙ sym (ap (λ o. place_by o at) (there s.set page d.entry ∙ ap (λ (x : Decision). x.entry) r.is) ∙ ap (λ (x : Entry). x.frame * 4096 + at % 4096) entry_is);
       others = λ q ne. refl;
       ours = λ q ne. elsewhere s.set page q d.entry ne;
-      went = refl;
+      visited = refl;
     }
   where
     both : (g w d : Bool) → g ≡ true → w ≡ true → (g && (w || d)) ≡ true
@@ -193,7 +193,7 @@ pub record Again {A : Type 0} (s : Space) (T : Set) (page : ℕ) (x : A) (t : Sp
   pub place_is : (at : ℕ) → at / 4096 ≡ page → place (other t set tables earlier) at ≡ place t at
   pub others : (q : ℕ) → (q ≡ page → ⊥) → get set q ≡ get T q
   pub ours : (q : ℕ) → (q ≡ page → ⊥) → get t.set q ≡ get s.set q
-  pub went : t.went ≡ s.went ++ page ∷ []
+  pub visited : t.visited ≡ s.visited ++ page ∷ []
 
 -- a touch that was ready
 was_ready : (met : Touch) (s : Space) (f : Space → Touch × Space) → (go_on met s f).0 ≡ Ready → met ≡ Ready
@@ -213,7 +213,7 @@ record RangeReady (s t : Space) (T : Set) (page : ℕ) (met : Touch × Space) : 
   place_is : (at : ℕ) → place_by (get set page) at ≡ place_by (get t.set page) at
   others : (q : ℕ) → (q ≡ page → ⊥) → get set q ≡ get T q
   ours : (q : ℕ) → (q ≡ page → ⊥) → get t.set q ≡ get s.set q
-  went : t.went ≡ s.went ++ page ∷ []
+  visited : t.visited ≡ s.visited ++ page ∷ []
 
 page_range : (s : Space) (T : Set) (E : Earlier) (page at len : ℕ) (met met2 : Touch × Space) → met.0 ≡ Ready → PageReady (unready s) met.1 T E page met2
     → RangeReady s (and_then met (made_ready at len false)).1 T page (and_then met2 (made_ready at len false))
@@ -227,7 +227,7 @@ page_range s T E page at len met met2 e h =
       place_is = h.place_is;
       others = h.others;
       ours = h.ours;
-      went = h.went;
+      visited = h.visited;
     })
 
 fetches_again : (tables : ℕ → Bool) (s : Space) (T : Set) (Y : List ℕ) (E : Earlier) (at len : ℕ) (user : Bool) → AreBytes s.ram → AtPage tables s T (at / 4096) → (fetches s at len user).0 ≡ Ready
@@ -258,7 +258,7 @@ from_range s t T at len met x e h = record {
   place_is = place_same t h.set h.tables h.earlier (at / 4096) h.place_is;
   others = h.others;
   ours = h.ours;
-  went = h.went;
+  visited = h.visited;
 }
 
 fetching_again : (tables : ℕ → Bool) (s : Space) (T : Set) (Y : List ℕ) (E : Earlier) (user : Bool) (at len : ℕ) (x : List ℕ) (t : Space) → AreBytes s.ram → AtPage tables s T (at / 4096) → fetching user at len s ≡ Ok (x, t)
@@ -295,7 +295,7 @@ back_is s at len = refl
 pub record Fetched (d : Decoded) (t : Space) (o : Outcome Refusal Decoded) : Type 0 where
   pub space : Space
   pub is : o ≡ Ok (d, space)
-  pub went : space.went ≡ t.went
+  pub visited : space.visited ≡ t.visited
 
 pub then_is : {A B : Type 0} (o : Outcome Refusal A) (f : A → Work Refusal B) (x : A) (u : Space) → o ≡ Ok (x, u) → on_value o f ≡ f x u
 then_is o f x u e = ap (λ p. on_value p f) e
@@ -310,12 +310,12 @@ owned_again eip (begins.Insn insn len) e s t T Y E p h =
       space = other u T Y E;
       is = then_is (owning_back (next_page eip) n (other s T Y E)) (λ x. gives (begins.Insn insn len)) tt (other u T Y E) (back_again s T Y E (next_page eip) n p)
           ∙ ap (λ (x : Decoded). Ok (x, other u T Y E)) (same_value (begins.Insn insn len) e u t g);
-      went = ap (λ (x : Space). x.went) (same_space (begins.Insn insn len) e u t g);
+      visited = ap (λ (x : Space). x.visited) (same_space (begins.Insn insn len) e u t g);
     }
 owned_again eip begins.Outside e s t T Y E p h =
-    record { space = other s T Y E; is = ap (λ (x : Decoded). Ok (x, other s T Y E)) (same_value begins.Outside e s t h); went = ap (λ (x : Space). x.went) (same_space begins.Outside e s t h) }
+    record { space = other s T Y E; is = ap (λ (x : Decoded). Ok (x, other s T Y E)) (same_value begins.Outside e s t h); visited = ap (λ (x : Space). x.visited) (same_space begins.Outside e s t h) }
 owned_again eip begins.Short e s t T Y E p h =
-    record { space = other s T Y E; is = ap (λ (x : Decoded). Ok (x, other s T Y E)) (same_value begins.Short e s t h); went = ap (λ (x : Space). x.went) (same_space begins.Short e s t h) }
+    record { space = other s T Y E; is = ap (λ (x : Decoded). Ok (x, other s T Y E)) (same_value begins.Short e s t h); visited = ap (λ (x : Space). x.visited) (same_space begins.Short e s t h) }
 
 on_again : (tables : ℕ → Bool) (s : Space) (T : Set) (Y : List ℕ) (E : Earlier) (user : Bool) (eip : ℕ) (front : List ℕ) (e : Decoded) (t : Space) → AreBytes s.ram → place (other s T Y E) eip ≡ place s eip → AtPage tables s T (next_page eip / 4096)
     → fetched_on user eip front s ≡ Ok (e, t) → Fetched e t (fetched_on user eip front (other s T Y E))
@@ -331,7 +331,7 @@ on_again tables s T Y E user eip front e t fit p k h =
       space = done.space;
       is = then_is (owning_front eip n (other s T Y E)) (λ x. fetching user (next_page eip) longest >>= (λ more. owned eip (decoded (front ++ more)))) tt (other u T Y E) (front_again s T Y E eip n p)
           ∙ (then_is (fetching user (next_page eip) longest (other u T Y E)) (λ more. owned eip (decoded (front ++ more))) parts.0 (other parts.1 again.set again.tables again.earlier) again.is ∙ done.is);
-      went = done.went;
+      visited = done.visited;
     }
 
 by_again : (tables : ℕ → Bool) (s : Space) (T : Set) (Y : List ℕ) (E : Earlier) (user : Bool) (eip : ℕ) (front : List ℕ) (d e : Decoded) (t : Space) → AreBytes s.ram → place (other s T Y E) eip ≡ place s eip
@@ -343,10 +343,10 @@ by_again tables s T Y E user eip front (begins.Insn insn len) e t fit p k h =
     record {
       space = other u T Y E;
       is = then_is (owning_front eip len (other s T Y E)) (λ x. gives (begins.Insn insn len)) tt (other u T Y E) (front_again s T Y E eip len p) ∙ ap (λ (x : Decoded). Ok (x, other u T Y E)) (same_value (begins.Insn insn len) e u t g);
-      went = ap (λ (x : Space). x.went) (same_space (begins.Insn insn len) e u t g);
+      visited = ap (λ (x : Space). x.visited) (same_space (begins.Insn insn len) e u t g);
     }
 by_again tables s T Y E user eip front begins.Outside e t fit p k h =
-    record { space = other s T Y E; is = ap (λ (x : Decoded). Ok (x, other s T Y E)) (same_value begins.Outside e s t h); went = ap (λ (x : Space). x.went) (same_space begins.Outside e s t h) }
+    record { space = other s T Y E; is = ap (λ (x : Decoded). Ok (x, other s T Y E)) (same_value begins.Outside e s t h); visited = ap (λ (x : Space). x.visited) (same_space begins.Outside e s t h) }
 by_again tables s T Y E user eip front begins.Short e t fit p k h = by (eip / 4096 == 1048575) k h
   where
     by : (b : Bool) → (b ≡ false → AtPage tables s T (next_page eip / 4096)) → cond b (refuses (refusal.Stop stops.WrapAccess)) (fetched_on user eip front) s ≡ Ok (e, t)
@@ -368,5 +368,5 @@ fetched_again tables s T Y E user eip e t fit k next bytes h =
     record {
       space = done.space;
       is = then_is (fetching user eip (front_len eip) (other s T Y E)) (λ front. fetched_by user eip front (decoded front)) parts.0 (other parts.1 again.set again.tables again.earlier) again.is ∙ done.is;
-      went = done.went;
+      visited = done.visited;
     }

@@ -36,11 +36,12 @@ use Rattle.run_trace.specs.declared.items.What.TheVariants.{Irq}
 use Rattle.image_load.specs.Boot.{text_pages}
 use Rattle.machine_model.specs.State.{Setting, State, space_at_start}
 use Rattle.machine_model.specs.Rules.{stands_well, is_open, may_leave}
-use Rattle.machine_model.specs.Instruction.{fetched, instructed, passed, with_accumulator}
+use Rattle.machine_model.specs.Instruction.{fetched, instructed, with_accumulator}
 use Rattle.machine_model.specs.Step as step
 use Rattle.machine_model.specs.Step.{Completed, Report, Result, Went, Stands, begun, begins_next, went, after_read, after_write, out_item, code_of, after_delivery, after_effect, after_software, after_instruction, by_op, by_decoded, after_refusal, after_fetch, fetches_next, worked, interrupt_of, interrupted, by_interrupt, unheld, stepped}
 use Rattle.machine_model.specs.Able.{IsAble, StepsKeepAble}
 use Rattle.machine_model.proofs.Yielding.{Ends, Yields, any_yields, gives_yields}
+use Rattle.sys_exec.specs.Operand.{past}
 use Rattle.machine_model.proofs.AbleRows.{Suits, Stays, IsLeft, null_1, null_2, other, same, left}
 
 -- a step that goes leaves an able processor
@@ -156,8 +157,8 @@ module _ (m : Setting) (b : State) (text count : ℕ) (own : Own) (mode : m.mode
 
   of_op : (o : Op) (insn : Insn) (len : ℕ) (s : Space) → LeavesAble (by_op m o b insn len s)
   of_op op.Int insn len s =
-      of_software m b (begun b insn) (insn.imm % 256) (delivered (passed len b.cpu) (insn.imm % 256) Soft None s) ((delivered_able (passed len b.cpu) (insn.imm % 256) Soft None).each s)
-  of_op op.Int3 insn len s = of_software m b (begun b insn) 3 (delivered (passed len b.cpu) 3 Soft None s) ((delivered_able (passed len b.cpu) 3 Soft None).each s)
+      of_software m b (begun b insn) (insn.imm % 256) (delivered (past b.cpu len) (insn.imm % 256) Soft None s) ((delivered_able (past b.cpu len) (insn.imm % 256) Soft None).each s)
+  of_op op.Int3 insn len s = of_software m b (begun b insn) 3 (delivered (past b.cpu len) 3 Soft None s) ((delivered_able (past b.cpu len) 3 Soft None).each s)
   of_op o insn len s = of_instruction (begun b insn) (instructed insn len b.cpu s) (left stay b.cpu able insn len s)
 
   of_decoded : (d : Decoded) (s : Space) → LeavesAble (by_decoded m b d s)

@@ -41,8 +41,9 @@ use Rattle.run_trace.specs.declared.items.What.{What}
 use Rattle.run_trace.specs.declared.items.What.TheVariants.{Irq}
 use Rattle.machine_model.specs.State.{Setting, State, space_at_start}
 use Rattle.machine_model.specs.Rules.{stands_well, is_open, may_leave}
-use Rattle.machine_model.specs.Instruction.{fetched, instructed, is_plain, done_plainly, passed}
+use Rattle.machine_model.specs.Instruction.{fetched, instructed, is_plain, done_plainly}
 use Rattle.machine_model.specs.Step.{Completed, Result, Went, Stands, entered, begun, begins_next, went, after_read, after_write, out_item, code_of, after_delivery, raised, after_effect, after_software, after_instruction, by_op, by_decoded, after_refusal, after_fetch, fetches_next, worked, interrupt_of, interrupted, by_interrupt, unheld}
+use Rattle.sys_exec.specs.Operand.{past}
 use Rattle.machine_model.specs.Alone.{IsDone, is_user, IsUser, is_barred, StepsAreDone}
 
 -- a step that goes completed what has P, or nothing
@@ -195,8 +196,8 @@ module _ (m : Setting) (b : State) (P : Completed → Type 0) where
   by_bar X o insn len s e h false free = done_anyhow X (instructed insn len b.cpu s) (h (λ u. free))
 
   of_op : (o : Op) (insn : Insn) (len : ℕ) (s : Space) → insn.op ≡ o → ((IsUser b.cpu → is_barred o ≡ false) → P (begun b insn)) → Completes P (by_op m o b insn len s)
-  of_op op.Int insn len s e h = of_software (begun b insn) (insn.imm % 256) (delivered (passed len b.cpu) (insn.imm % 256) Soft None s) (h (λ u. refl))
-  of_op op.Int3 insn len s e h = of_software (begun b insn) 3 (delivered (passed len b.cpu) 3 Soft None s) (h (λ u. refl))
+  of_op op.Int insn len s e h = of_software (begun b insn) (insn.imm % 256) (delivered (past b.cpu len) (insn.imm % 256) Soft None s) (h (λ u. refl))
+  of_op op.Int3 insn len s e h = of_software (begun b insn) 3 (delivered (past b.cpu len) 3 Soft None s) (h (λ u. refl))
   of_op o insn len s e h = of_instruction (begun b insn) (instructed insn len b.cpu s) (by_bar (P (begun b insn)) o insn len s e h (is_barred o) refl)
 
   of_decoded : (d : Decoded) (s : Space) → ((insn : Insn) (len : ℕ) → d ≡ begins.Insn insn len → (IsUser b.cpu → is_barred insn.op ≡ false) → P (begun b insn)) → Completes P (by_decoded m b d s)

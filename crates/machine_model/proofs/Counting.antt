@@ -28,9 +28,10 @@ use Rattle.board.specs.Ports.{port_read, port_written}
 use Rattle.run_trace.specs.declared.items.What.{What}
 use Rattle.run_trace.specs.declared.items.What.TheVariants.{Irq}
 use Rattle.machine_model.specs.State.{Setting, State, space_at_start}
-use Rattle.machine_model.specs.Instruction.{fetched, instructed, passed}
+use Rattle.machine_model.specs.Instruction.{fetched, instructed}
 use Rattle.machine_model.specs.Rules.{stands_well, may_leave}
 use Rattle.machine_model.specs.Step.{Completed, Result, Stands, entered, begun, begins_next, went, after_read, after_write, out_item, code_of, after_delivery, after_effect, after_software, by_op, by_decoded, after_refusal, after_fetch, fetches_next, worked, interrupt_of, interrupted, by_interrupt, unheld, step_of}
+use Rattle.sys_exec.specs.Operand.{past}
 use Rattle.machine_model.specs.Ends.{StepsTo, EachStepCounts}
 
 read_counts : (b : State) (c : Completed) (cpu : Cpu) (port : ℕ) (wide : Bool) (s : Space) (x : PortRead × Board) → StepsTo (b.step + 1) (after_read b c cpu port wide s x)
@@ -70,8 +71,8 @@ software_counts m b c vector (Err (not_delivered.Privilege, s)) = delivery_count
 software_counts m b c vector (Err (not_delivered.Stop stop, s)) = tt
 
 op_counts : (m : Setting) (o : Op) (b : State) (insn : Insn) (len : ℕ) (s : Space) → StepsTo (b.step + 1) (by_op m o b insn len s)
-op_counts m op.Int b insn len s = software_counts m b (begun b insn) (insn.imm % 256) (delivered (passed len b.cpu) (insn.imm % 256) Soft None s)
-op_counts m op.Int3 b insn len s = software_counts m b (begun b insn) 3 (delivered (passed len b.cpu) 3 Soft None s)
+op_counts m op.Int b insn len s = software_counts m b (begun b insn) (insn.imm % 256) (delivered (past b.cpu len) (insn.imm % 256) Soft None s)
+op_counts m op.Int3 b insn len s = software_counts m b (begun b insn) 3 (delivered (past b.cpu len) 3 Soft None s)
 op_counts m o b insn len s =
     let t = told b.cpu (instructed insn len b.cpu s) in
     effect_counts m b (begun b insn) t.0 t.1 t.2

@@ -50,7 +50,7 @@ entry_leaves s fetch page at access (Some entry) q n = either_leaves (is_barred 
 page_leaves : (s : Space) (fetch : Bool) (page at : ℕ) (access : Access) (q : ℕ) → q ≢ page → Leaves s (page_uses s fetch page at access).1 q
 unfolding page_uses
 page_leaves s fetch page at access q n =
-    let left = entry_leaves (record s { pages = s.pages + 1; went = s.went ++ page ∷ [] }) fetch page at access (usable (get s.set page) access s.wp) q n in
+    let left = entry_leaves (record s { pages = s.pages + 1; visited = s.visited ++ page ∷ [] }) fetch page at access (usable (get s.set page) access s.wp) q n in
     record { mode = left.mode; entry = left.entry }
 
 ready_leaves : (met : Touch) (s : Space) (at len q : ℕ) → Leaves s (go_on met s (made_ready at len false)).1 q

@@ -42,13 +42,14 @@ use Rattle.run_trace.specs.declared.items.What.TheVariants.{Irq}
 use Rattle.machine_model.specs.Fit.{IsSegment, AreFlags, Fit}
 use Rattle.machine_model.specs.State.{Setting, State, space_at_start}
 use Rattle.machine_model.specs.Rules.{stands_well, may_leave}
-use Rattle.machine_model.specs.Instruction.{fetched, instructed, passed, with_accumulator}
+use Rattle.machine_model.specs.Instruction.{fetched, instructed, with_accumulator}
 use Rattle.machine_model.specs.Step as step
 use Rattle.machine_model.specs.Step.{Completed, Result, Went, Stands, begun, begins_next, went, after_read, after_write, out_item, code_of, after_delivery, after_effect, after_software, after_instruction, by_op, by_decoded, after_refusal, after_fetch, fetches_next, worked, interrupt_of, interrupted, by_interrupt, unheld}
 use Rattle.machine_model.specs.StaysFit.{StepsKeepFit}
 use Rattle.machine_model.proofs.Yielding.{Ends, Yields, OfValue, then_yields, any_yields, gives_yields, unless_yields, keeps_yields, by_yields}
 use Rattle.machine_model.proofs.AbleRows.{none, both}
 use Rattle.machine_model.proofs.FitParts.{IsWhole, of_level, put_there, kept_code, not_below, same}
+use Rattle.sys_exec.specs.Operand.{past}
 use Rattle.machine_model.proofs.FitRows.{left}
 
 -- a step that goes leaves a whole processor
@@ -186,8 +187,8 @@ module _ (m : Setting) (b : State) where
 
     by_int : (c : Completed) (len vector : ℕ) (s : Space) → LeavesWhole (step.interrupts_by m b c len vector s)
     by_int c len vector s =
-        of_software c vector (delivered (passed len b.cpu) vector Soft None s)
-        ((delivered_whole (passed len b.cpu) (same b.cpu whole (passed len b.cpu) refl refl refl refl refl refl refl) vector Soft None).each s)
+        of_software c vector (delivered (past b.cpu len) vector Soft None s)
+        ((delivered_whole (past b.cpu len) (same b.cpu whole (past b.cpu len) refl refl refl refl refl refl refl) vector Soft None).each s)
 
     of_op : b.cpu.halted ≡ false → (o : Op) (insn : Insn) (len : ℕ) (s : Space) → LeavesWhole (by_op m o b insn len s)
     of_op awake op.Int insn len s = by_int (begun b insn) len (insn.imm % 256) s

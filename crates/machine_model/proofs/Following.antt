@@ -151,9 +151,9 @@ all_found_over s t tables k room none holds all page small e is =
     ]
 
 -- what isn't memory changes nothing of it
-pub aside : (s : Space) (mode : Mode) (pages : ℕ) (went : List ℕ) (ready : Span) (earlier : Earlier) → ((page : ℕ) → Contains s.went page → Contains went page)
-    → Follows s (record s { mode = mode; pages = pages; went = went; ready = ready; earlier = earlier })
-aside s mode pages went ready earlier more = record {
+pub aside : (s : Space) (mode : Mode) (pages : ℕ) (visited : List ℕ) (ready : Span) (earlier : Earlier) → ((page : ℕ) → Contains s.visited page → Contains visited page)
+    → Follows s (record s { mode = mode; pages = pages; visited = visited; ready = ready; earlier = earlier })
+aside s mode pages visited ready earlier more = record {
   frames = refl;
   cr3 = refl;
   pse = refl;
@@ -228,7 +228,7 @@ one_or_other q page new o e = by_test (q == page) refl
     by_test false is h = inr h
 
 -- the entry of a fresh walk joins it
-walk_follows : (s : Space) (page : ℕ) (e : Entry) (d t : ℕ) (write : Bool) → Contains s.went page → fresh s.ram s.frames s.cr3 s.pse page ≡ Found e d t
+walk_follows : (s : Space) (page : ℕ) (e : Entry) (d t : ℕ) (write : Bool) → Contains s.visited page → fresh s.ram s.frames s.cr3 s.pse page ≡ Found e d t
     → Follows s (record s { ram = flagged s.ram d t write; set = insert s.set page (dirtied e write); tables = s.tables ++ tables_read s.ram s.frames s.cr3 s.pse page })
 walk_follows s page e d t write gone is =
     let even = fresh_even s.ram s.frames s.cr3 s.pse page e d t is in
@@ -269,7 +269,7 @@ either : (P : Decision → Type 0) (test : Bool) (a b : Decision) → P a → P 
 either P true a b h k = h
 either P false a b h k = k
 
-walk_decides : (s : Space) (fetch : Bool) (page at : ℕ) (access : Access) (w : Walk) → Contains s.went page → fresh s.ram s.frames s.cr3 s.pse page ≡ w → Decides s page (by_walk (tables_of s) fetch at access w)
+walk_decides : (s : Space) (fetch : Bool) (page at : ℕ) (access : Access) (w : Walk) → Contains s.visited page → fresh s.ram s.frames s.cr3 s.pse page ≡ w → Decides s page (by_walk (tables_of s) fetch at access w)
 walk_decides s fetch page at access Absent gone is = none_follows s page (tables_read s.ram s.frames s.cr3 s.pse page) (λ f h. read_low s.ram s.frames s.cr3 s.pse page f h)
 walk_decides s fetch page at access Beyond gone is = none_follows s page (tables_read s.ram s.frames s.cr3 s.pse page) (λ f h. read_low s.ram s.frames s.cr3 s.pse page f h)
 walk_decides s fetch page at access Reserved gone is = none_follows s page (tables_read s.ram s.frames s.cr3 s.pse page) (λ f h. read_low s.ram s.frames s.cr3 s.pse page f h)
@@ -279,7 +279,7 @@ walk_decides s fetch page at access (Found entry d t) gone is =
     (either (Decides s page) (is_barred s.mode fetch access.user entry.page entry.frame) _ _ none
     (either (Decides s page) (marks_own (tables_of s) d t access.write) _ _ none (walk_follows s page entry d t access.write gone is)))
 
-decided_follows : (s : Space) (fetch : Bool) (page at : ℕ) (access : Access) → Contains s.went page → Decides s page (decided (tables_of s) fetch page at access)
+decided_follows : (s : Space) (fetch : Bool) (page at : ℕ) (access : Access) → Contains s.visited page → Decides s page (decided (tables_of s) fetch page at access)
 unfolding decided
 decided_follows s fetch page at access gone =
     either (Decides s page) (walks_text (tables_of s) page) _ _ (none_follows s page (tables_read s.ram s.frames s.cr3 s.pse page) (λ f h. read_low s.ram s.frames s.cr3 s.pse page f h))
@@ -290,16 +290,16 @@ both_ways : (s u : Space) (test : Bool) (a b : Touch) → Follows s u → Follow
 both_ways s u true a b h = h
 both_ways s u false a b h = h
 
-entry_follows : (s : Space) (fetch : Bool) (page at : ℕ) (access : Access) (o : Option Entry) → Contains s.went page → Follows s (by_entry s fetch page at access o).1
+entry_follows : (s : Space) (fetch : Bool) (page at : ℕ) (access : Access) (o : Option Entry) → Contains s.visited page → Follows s (by_entry s fetch page at access o).1
 entry_follows s fetch page at access None gone = decided_follows s fetch page at access gone
 entry_follows s fetch page at access (Some entry) gone = both_ways s s (is_barred s.mode fetch access.user page entry.frame) (Stop stops.TextMapped) Ready (same_follows s)
 
 page_follows : (s : Space) (fetch : Bool) (page at : ℕ) (access : Access) → Follows s (page_uses s fetch page at access).1
 unfolding page_uses
 page_follows s fetch page at access =
-    let seen : Space = record s { pages = s.pages + 1; went = s.went ++ page ∷ [] } in
-    follows_on s seen _ (aside s s.mode (s.pages + 1) (s.went ++ page ∷ []) s.ready s.earlier (λ p c. Contains-append_left s.went (page ∷ []) p c))
-    (entry_follows seen fetch page at access (usable (get s.set page) access s.wp) (Contains-push s.went page))
+    let seen : Space = record s { pages = s.pages + 1; visited = s.visited ++ page ∷ [] } in
+    follows_on s seen _ (aside s s.mode (s.pages + 1) (s.visited ++ page ∷ []) s.ready s.earlier (λ p c. Contains-append_left s.visited (page ∷ []) p c))
+    (entry_follows seen fetch page at access (usable (get s.set page) access s.wp) (Contains-push s.visited page))
 
 -- ---- one range
 
@@ -312,7 +312,7 @@ then_follows : (s : Space) (p : Touch × Space) (f : Space → Touch × Space) �
 then_follows s p f h k = going s p.0 p.1 f h k
 
 unready_follows : (s : Space) → Follows s (unready s)
-unready_follows s = aside s s.mode s.pages s.went (record { start = 0; len = 0; write = false }) (record { start = s.ready.start; len = s.ready.len; set = s.set }) (λ page c. c)
+unready_follows s = aside s s.mode s.pages s.visited (record { start = 0; len = 0; write = false }) (record { start = s.ready.start; len = s.ready.len; set = s.set }) (λ page c. c)
 
 noted_more : (write : Bool) (wrote more : List ℕ) (frame : ℕ) → Contains wrote frame → Contains (cond write (wrote ++ more) wrote) frame
 noted_more true wrote more frame h = Contains-append_left wrote more frame h

@@ -5,7 +5,7 @@ use Rattle.ia32_types.specs.declared.insn.Operand.{Operand}
 use Rattle.ia32_types.specs.declared.insn.Operand.TheVariants as operands
 use Rattle.ia32_types.specs.declared.size.Size.TheVariants.{Long}
 use Rattle.ia32_exec.specs.Registers.{address_of}
-use Rattle.ia32_exec.specs.Stack.{lowered}
+use Rattle.ia32_exec.specs.Stack.{esp_below}
 use Rattle.paging.specs.declared.entry.Access.{Access}
 use Rattle.descriptors.specs.Access.{pair_at, byte_set}
 use Rattle.descriptors.specs.declared.cpu.Cpu.{Cpu}
@@ -61,8 +61,8 @@ pull cpu = search (tracks, reach) depth 8
 pub push : (cpu : Cpu) (v : ℕ) → Tracks (pushed cpu v)
 unfolding pushed
 push cpu v =
-    opened_then (lowered 4 cpu.regs) 4 (reaching_opens denials (lowered 4 cpu.regs) 4 (by_level cpu true) refl (omega arith))
-    (λ done. writes_within (lowered 4 cpu.regs) Long v (omega arith) (omega arith))
+    opened_then (esp_below 4 cpu.regs) 4 (reaching_opens denials (esp_below 4 cpu.regs) 4 (by_level cpu true) refl (omega arith))
+    (λ done. writes_within (esp_below 4 cpu.regs) Long v (omega arith) (omega arith))
 
 select : (cpu : Cpu) (local : Refusal) (sel : ℕ) → Tracks (selected cpu local sel)
 unfolding selected

@@ -10,7 +10,7 @@ use Rattle.ia32_types.specs.declared.register.Seg.{Seg}
 use Rattle.ia32_types.specs.declared.register.Seg.TheVariants.{Es, Cs, Ss, Ds}
 use Rattle.ia32_types.specs.declared.size.Size.TheVariants.{Word, Long}
 use Rattle.ia32_exec.specs.Registers.{address_of}
-use Rattle.ia32_exec.specs.Stack.{lowered}
+use Rattle.ia32_exec.specs.Stack.{esp_below}
 use Rattle.descriptors.specs.declared.cpu.Cpu.{Cpu}
 use Rattle.sys_exec.specs.declared.effect.SysEffect.TheVariants as effects
 use Rattle.sys_exec.specs.Access.{denials}
@@ -156,9 +156,9 @@ through : (a : Address) (len : ℕ) (cpu : Cpu) → Tracks (called_through a len
 unfolding called_through
 through a len cpu =
     then_tracks (operand cpu a 4 false)
-    (λ done. opened_then (lowered 4 cpu.regs) 4 (reaching_opens denials (lowered 4 cpu.regs) 4 (by_level cpu true) refl (omega arith))
+    (λ done. opened_then (esp_below 4 cpu.regs) 4 (reaching_opens denials (esp_below 4 cpu.regs) 4 (by_level cpu true) refl (omega arith))
     (λ done. then_within (reads_earlier_within (address_of a cpu.regs) Long)
-    (λ target. then_within (writes_within (lowered 4 cpu.regs) Long (past cpu len).regs.eip (omega arith) (omega arith)) (λ done. gives_within target))))
+    (λ target. then_within (writes_within (esp_below 4 cpu.regs) Long (past cpu len).regs.eip (omega arith) (omega arith)) (λ done. gives_within target))))
 
 call : (a : Operand) (len : ℕ) (cpu : Cpu) → Tracks (call_to a len cpu)
 unfolding call_to

@@ -43,7 +43,7 @@ use Rattle.run_trace.specs.declared.items.What.{What}
 use Rattle.run_trace.specs.declared.items.What.TheVariants.{Sent, Irq}
 use Rattle.machine_model.specs.State.{Setting, State, space_at_start}
 use Rattle.machine_model.specs.Rules.{stands_well, may_leave}
-use Rattle.machine_model.specs.Instruction.{taken, fetching, owning_front, owning_back, owned, fetched_on, fetched_by, fetched, passed, is_plain, done_plainly, instructed, with_accumulator}
+use Rattle.machine_model.specs.Instruction.{taken, fetching, owning_front, owning_back, owned, fetched_on, fetched_by, fetched, is_plain, done_plainly, instructed, with_accumulator}
 use Rattle.machine_model.specs.Step.{Report, Completed, Result, Went, Stands, went, in_item, after_read, after_write, out_item, entered, after_delivery, raised, code_of, after_effect, effect_on, after_software, interrupts_by, begun, by_op, by_decoded, after_refusal, after_fetch, begins_next, worked, interrupted, interrupt_of, by_interrupt, unheld, step_of}
 use Rattle.machine_model.specs.Run.{Set}
 use Rattle.machine_model.specs.Reloading.{MemoryFollows, IsFoundBy, Follows, Leaves}
@@ -53,6 +53,7 @@ use Rattle.machine_model.proofs.Following.{same_follows, fetches_follow, aside}
 use Rattle.machine_model.proofs.Tracking.{Tracks, tracks, leaves_on}
 use Rattle.machine_model.proofs.TrackedRows.{sys_tracks}
 use Rattle.machine_model.proofs.TrackedPlain.{both_tracks, plain_tracks}
+use Rattle.sys_exec.specs.Operand.{past}
 use Rattle.machine_model.proofs.TrackedDeliveries.{delivered_tracks}
 
 -- ---- the fetch
@@ -68,11 +69,11 @@ fetching_tracks user at len = record { each = λ s. taken_leaves at len s (fetch
 
 front_tracks : (at len : ℕ) → Tracks (owning_front at len)
 unfolding owning_front
-front_tracks at len = record { each = λ s. aside s (with_front s.mode (place s at) len) s.pages s.went s.ready s.earlier (λ page c. c) }
+front_tracks at len = record { each = λ s. aside s (with_front s.mode (place s at) len) s.pages s.visited s.ready s.earlier (λ page c. c) }
 
 back_tracks : (at len : ℕ) → Tracks (owning_back at len)
 unfolding owning_back
-back_tracks at len = record { each = λ s. aside s (with_back s.mode (place s at) len) s.pages s.went s.ready s.earlier (λ page c. c) }
+back_tracks at len = record { each = λ s. aside s (with_back s.mode (place s at) len) s.pages s.visited s.ready s.earlier (λ page c. c) }
 
 owned_tracks : (eip : ℕ) (d : Decoded) → Tracks (owned eip d)
 owned_tracks eip (begins.Insn insn len) = search (tracks, back_tracks) depth 8
@@ -196,8 +197,8 @@ software_left m b completed vector s (Err (not_delivered.Stop stop, t)) h = tt
 
 interrupt_left : (m : Setting) (b : State) (completed : Completed) (len vector : ℕ) (s t : Space) → Follows s t → IsLeft s (interrupts_by m b completed len vector t)
 interrupt_left m b completed len vector s t h =
-    let o = delivered (passed len b.cpu) vector Soft None t in
-    software_left m b completed vector s o (leaves_on s t o h (delivered_follows (passed len b.cpu) vector Soft None t))
+    let o = delivered (past b.cpu len) vector Soft None t in
+    software_left m b completed vector s o (leaves_on s t o h (delivered_follows (past b.cpu len) vector Soft None t))
 
 row_left : (m : Setting) (b : State) (insn : Insn) (len : ℕ) (s t : Space) → Follows s t → IsLeft s (effect_on m b (begun b insn) (told b.cpu (instructed insn len b.cpu t)))
 row_left m b insn len s t h = told_left m b (begun b insn) s (instructed insn len b.cpu t) (leaves_on s t (instructed insn len b.cpu t) h (instructed_follows insn len b.cpu t))

@@ -26,25 +26,25 @@ use Rattle.machine_model.specs.UsedPages.{may_use, LeadWell, Uses}
 -- ---- memory that goes on
 
 pub same_uses : (user : Bool) (s : Space) → Uses user s s
-same_uses user s = record { rules = λ page frame. refl; went = λ page c. c; others = λ page c. refl; lead = λ h. h }
+same_uses user s = record { rules = λ page frame. refl; visited = λ page c. c; others = λ page c. refl; lead = λ h. h }
 
 pub uses_on : (user : Bool) (s t u : Space) → Uses user s t → Uses user t u → Uses user s u
 uses_on user s t u h k = record {
   rules = λ page frame. k.rules page frame ∙ h.rules page frame;
-  went = λ page c. k.went page (h.went page c);
-  others = λ page c. k.others page c ∙ h.others page (λ d. c (k.went page d));
+  visited = λ page c. k.visited page (h.visited page c);
+  others = λ page c. k.others page c ∙ h.others page (λ d. c (k.visited page d));
   lead = λ l. k.lead (h.lead l);
 }
 
 -- what isn't a translation changes none
 pub beside : (user : Bool) (s : Space) (ram : List ℕ) (tables wrote : List ℕ) (ready : Span) (earlier : Earlier) → Uses user s (record s { ram = ram; tables = tables; wrote = wrote; ready = ready; earlier = earlier })
-beside user s ram tables wrote ready earlier = record { rules = λ page frame. refl; went = λ page c. c; others = λ page c. refl; lead = λ h. record { each = h.each } }
+beside user s ram tables wrote ready earlier = record { rules = λ page frame. refl; visited = λ page c. c; others = λ page c. refl; lead = λ h. record { each = h.each } }
 
 -- the instruction's own bytes are no rule of these
 pub owning : (user : Bool) (s : Space) (mode : Mode) → ((page frame : ℕ) → may_use mode user page frame ≡ may_use s.mode user page frame) → Uses user s (record s { mode = mode })
 owning user s mode same = record {
   rules = same;
-  went = λ page c. c;
+  visited = λ page c. c;
   others = λ page c. refl;
   lead = λ h. record { each = λ page c e is. same page e.frame ∙ h.each page c e is };
 }
@@ -61,35 +61,35 @@ absent_fits mode user page e is = absurd (let f : ◌≡◌ {A = Option Entry} N
 -- memory behind the use of one page, whose translation is now this
 record AfterPage (user : Bool) (s t : Space) (page : ℕ) : Type 0 where
   mode : t.mode ≡ s.mode
-  went : t.went ≡ s.went ++ page ∷ []
+  visited : t.visited ≡ s.visited ++ page ∷ []
   others : (q : ℕ) → (q ≡ page → ⊥) → get t.set q ≡ get s.set q
   fits : Fits s.mode user page (get t.set page)
 
-one_or : (went : List ℕ) (page q : ℕ) → Contains (went ++ page ∷ []) q → Contains went q ⊎ (q ≡ page)
-one_or went page q h = elim (Contains-append_cases went (page ∷ []) q h) [ inl a ↦ inl a | inr b ↦ inr (only b) ]
+one_or : (visited : List ℕ) (page q : ℕ) → Contains (visited ++ page ∷ []) q → Contains visited q ⊎ (q ≡ page)
+one_or visited page q h = elim (Contains-append_cases visited (page ∷ []) q h) [ inl a ↦ inl a | inr b ↦ inr (only b) ]
   where
     only : Contains (page ∷ []) q → q ≡ page
     only (zero, lt, e) = sym e
     only (suc k, lt, e) = absurd (omega (arith, lt))
 
-page_is_one : (went : List ℕ) (page : ℕ) → Contains (went ++ page ∷ []) page
-page_is_one went page = Contains-append_right went (page ∷ []) page (0, omega arith, refl)
+page_is_one : (visited : List ℕ) (page : ℕ) → Contains (visited ++ page ∷ []) page
+page_is_one visited page = Contains-append_right visited (page ∷ []) page (0, omega arith, refl)
 
 page_uses_on : (user : Bool) (s t : Space) (page : ℕ) → AfterPage user s t page → Uses user s t
 page_uses_on user s t page h = record {
   rules = λ q frame. ap (λ (m : Mode). may_use m user q frame) h.mode;
-  went = λ q c. subst (λ (l : List ℕ). Contains l q) (sym h.went) (Contains-append_left s.went (page ∷ []) q c);
-  others = λ q c. h.others q (λ e. c (subst (λ (l : List ℕ). Contains l q) (sym h.went) (subst (Contains (s.went ++ page ∷ [])) (sym e) (page_is_one s.went page))));
-  lead = λ l. record { each = λ q c. each l q (eqb_tells q page) (subst (λ (w : List ℕ). Contains w q) h.went c) };
+  visited = λ q c. subst (λ (l : List ℕ). Contains l q) (sym h.visited) (Contains-append_left s.visited (page ∷ []) q c);
+  others = λ q c. h.others q (λ e. c (subst (λ (l : List ℕ). Contains l q) (sym h.visited) (subst (Contains (s.visited ++ page ∷ [])) (sym e) (page_is_one s.visited page))));
+  lead = λ l. record { each = λ q c. each l q (eqb_tells q page) (subst (λ (w : List ℕ). Contains w q) h.visited c) };
 }
   where
     at_mode : (q : ℕ) (o : Option Entry) → Fits s.mode user q o → Fits t.mode user q o
     at_mode q o k = subst (λ (m : Mode). Fits m user q o) (sym h.mode) k
 
-    each : LeadWell user s → (q : ℕ) → (((q == page) ≡ true) × (q ≡ page)) ⊎ (((q == page) ≡ false) × (q ≡ page → ⊥)) → Contains (s.went ++ page ∷ []) q → Fits t.mode user q (get t.set q)
+    each : LeadWell user s → (q : ℕ) → (((q == page) ≡ true) × (q ≡ page)) ⊎ (((q == page) ≡ false) × (q ≡ page → ⊥)) → Contains (s.visited ++ page ∷ []) q → Fits t.mode user q (get t.set q)
     each l q (inl here) c = subst (λ (p : ℕ). Fits t.mode user p (get t.set p)) (sym here.1) (at_mode page (get t.set page) h.fits)
     each l q (inr other) c =
-        elim (one_or s.went page q c) [
+        elim (one_or s.visited page q c) [
           | inl old ↦ subst (λ (o : Option Entry). Fits t.mode user q o) (sym (h.others q other.1)) (at_mode q (get s.set q) (l.each q old))
           | inr is ↦ absurd (other.1 is)
         ]
@@ -194,20 +194,20 @@ any_met user s t (Fault code at) h = h
 any_met user s t (Stop stop) h = tt
 
 settled_after : (user : Bool) (s : Space) (page : ℕ) (d : Decision) → Fits s.mode user page d.entry
-    → AfterPage user s (settled (record s { pages = s.pages + 1; went = s.went ++ page ∷ [] }) page d).1 page
+    → AfterPage user s (settled (record s { pages = s.pages + 1; visited = s.visited ++ page ∷ [] }) page d).1 page
 settled_after user s page d h = record {
   mode = refl;
-  went = refl;
+  visited = refl;
   others = λ q ne. elsewhere s.set page q d.entry ne;
   fits = subst (Fits s.mode user page) (sym (there s.set page d.entry)) h;
 }
 
 -- the entry that was found is used
 found_after : (user : Bool) (s : Space) (page : ℕ) (entry : Entry) → get s.set page ≡ Some entry → may_use s.mode user page entry.frame ≡ true
-    → AfterPage user s (record s { pages = s.pages + 1; went = s.went ++ page ∷ [] }) page
+    → AfterPage user s (record s { pages = s.pages + 1; visited = s.visited ++ page ∷ [] }) page
 found_after user s page entry is may = record {
   mode = refl;
-  went = refl;
+  visited = refl;
   others = λ q ne. refl;
   fits = λ e there. let g : entry ≡ e = same entry e (sym is ∙ there) in subst (λ (x : Entry). may_use s.mode user page x.frame ≡ true) g may;
 }
@@ -229,14 +229,14 @@ usable_is (Some e) access wp entry is = by (allows e access wp) is
     by false h = absurd (let f : ◌≡◌ {A = Option Entry} None (Some entry) = h in cc)
 
 entry_met : (user : Bool) (s : Space) (fetch : Bool) (page at : ℕ) (access : Access) (o : Option Entry) → Lets s.mode user fetch access page → usable (get s.set page) access s.wp ≡ o
-    → Met user s (by_entry (record s { pages = s.pages + 1; went = s.went ++ page ∷ [] }) fetch page at access o).0 (by_entry (record s { pages = s.pages + 1; went = s.went ++ page ∷ [] }) fetch page at access o).1
+    → Met user s (by_entry (record s { pages = s.pages + 1; visited = s.visited ++ page ∷ [] }) fetch page at access o).0 (by_entry (record s { pages = s.pages + 1; visited = s.visited ++ page ∷ [] }) fetch page at access o).1
 entry_met user s fetch page at access None lets is =
-    let seen : Space = record s { pages = s.pages + 1; went = s.went ++ page ∷ [] } in
+    let seen : Space = record s { pages = s.pages + 1; visited = s.visited ++ page ∷ [] } in
     let d : Decision = decided (tables_of seen) fetch page at access in
     any_met user s (settled seen page d).1 d.met
     (page_uses_on user s (settled seen page d).1 page (settled_after user s page d (decided_fits (tables_of seen) user fetch page at access lets)))
 entry_met user s fetch page at access (Some entry) lets is =
-    let seen : Space = record s { pages = s.pages + 1; went = s.went ++ page ∷ [] } in
+    let seen : Space = record s { pages = s.pages + 1; visited = s.visited ++ page ∷ [] } in
     by_test user s seen (is_barred s.mode fetch access.user page entry.frame)
     (λ free. page_uses_on user s seen page (found_after user s page entry (usable_is (get s.set page) access s.wp entry is) (lets entry.frame free)))
 
@@ -311,11 +311,11 @@ page_mode : (s : Space) (fetch : Bool) (page at : ℕ) (access : Access) → (pa
 unfolding page_uses
 page_mode s fetch page at access = by (usable (get s.set page) access s.wp)
   where
-    by : (o : Option Entry) → (by_entry (record s { pages = s.pages + 1; went = s.went ++ page ∷ [] }) fetch page at access o).1.mode ≡ s.mode
+    by : (o : Option Entry) → (by_entry (record s { pages = s.pages + 1; visited = s.visited ++ page ∷ [] }) fetch page at access o).1.mode ≡ s.mode
     by None = refl
     by (Some entry) = at_test (is_barred s.mode fetch access.user page entry.frame)
       where
-        at_test : (t : Bool) → (cond {A = Touch × Space} t (Stop stops.TextMapped, record s { pages = s.pages + 1; went = s.went ++ page ∷ [] }) (Ready, record s { pages = s.pages + 1; went = s.went ++ page ∷ [] })).1.mode ≡ s.mode
+        at_test : (t : Bool) → (cond {A = Touch × Space} t (Stop stops.TextMapped, record s { pages = s.pages + 1; visited = s.visited ++ page ∷ [] }) (Ready, record s { pages = s.pages + 1; visited = s.visited ++ page ∷ [] })).1.mode ≡ s.mode
         at_test true = refl
         at_test false = refl
 

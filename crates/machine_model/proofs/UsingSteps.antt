@@ -41,7 +41,7 @@ use Rattle.run_trace.specs.declared.items.What.{What}
 use Rattle.run_trace.specs.declared.items.What.TheVariants.{Sent, Irq}
 use Rattle.machine_model.specs.State.{Setting, State, space_at_start}
 use Rattle.machine_model.specs.Rules.{stands_well, may_leave}
-use Rattle.machine_model.specs.Instruction.{taken, fetching, owning_front, owning_back, owned, fetched_on, fetched_by, fetched, passed, is_plain, done_plainly, instructed, with_accumulator}
+use Rattle.machine_model.specs.Instruction.{taken, fetching, owning_front, owning_back, owned, fetched_on, fetched_by, fetched, is_plain, done_plainly, instructed, with_accumulator}
 use Rattle.machine_model.specs.Step.{Completed, Result, Went, Stands, went, in_item, after_read, after_write, out_item, entered, after_delivery, raised, code_of, after_effect, effect_on, after_software, interrupts_by, begun, by_op, by_decoded, after_refusal, after_fetch, begins_next, worked, interrupted, interrupt_of, by_interrupt, unheld, step_of}
 use Rattle.machine_model.specs.Run.{Set}
 use Rattle.machine_model.specs.UsedPages.{may_use, LeadWell, Uses, Uses_on, Delivers, FetchedUses, RangesUse, InstructedUses, DeliveredUses, IsUsedBy, StepsUse, UsedPagesLeadWell}
@@ -49,6 +49,7 @@ use Rattle.machine_model.proofs.Using.{Met, same_uses, owning, fetches_met}
 use Rattle.machine_model.proofs.UsingWorks.{is_stop, is_end, Leaves, Keeps, keeping, leaves_on}
 use Rattle.machine_model.proofs.UsingRows.{sys_keeps}
 use Rattle.machine_model.proofs.UsingPlain.{both_keep, plain_keeps}
+use Rattle.sys_exec.specs.Operand.{past}
 use Rattle.machine_model.proofs.UsingDeliveries.{delivered_keeps}
 
 -- ---- the fetch
@@ -219,8 +220,8 @@ software_left user m b completed vector s (Err (not_delivered.Stop stop, t)) h =
 
 interrupt_left : (user : Bool) (m : Setting) (b : State) (completed : Completed) (len vector : ℕ) (s t : Space) → Uses user s t → IsLeft user s (interrupts_by m b completed len vector t)
 interrupt_left user m b completed len vector s t h =
-    let o = delivered (passed len b.cpu) vector Soft None t in
-    software_left user m b completed vector s o (leaves_on is_end user s t o h ((delivered_keeps user (passed len b.cpu) vector Soft None).each t))
+    let o = delivered (past b.cpu len) vector Soft None t in
+    software_left user m b completed vector s o (leaves_on is_end user s t o h ((delivered_keeps user (past b.cpu len) vector Soft None).each t))
 
 row_left : (m : Setting) (b : State) (insn : Insn) (len : ℕ) (s t : Space) → Uses (b.cpu.cpl == 3) s t → IsLeft (b.cpu.cpl == 3) s (effect_on m b (begun b insn) (told b.cpu (instructed insn len b.cpu t)))
 row_left m b insn len s t h = told_left (b.cpu.cpl == 3) m b (begun b insn) s (instructed insn len b.cpu t) (leaves_on is_stop (b.cpu.cpl == 3) s t (instructed insn len b.cpu t) h (instructed_leaves insn len b.cpu t))
@@ -278,7 +279,7 @@ steps_use m b set report after is = subst (IsLeft (b.cpu.cpl == 3) (space_at_sta
 
 -- ---- the pages lead well
 
-none_went : (user : Bool) (s : Space) → s.went ≡ [] → LeadWell user s
+none_went : (user : Bool) (s : Space) → s.visited ≡ [] → LeadWell user s
 none_went user s none = record { each = λ page c e is. absurd (let h = subst (λ (l : List ℕ). Contains l page) none c in let lt = h.1 in omega (arith, lt)) }
 
 pub used_pages_lead_well : UsedPagesLeadWell

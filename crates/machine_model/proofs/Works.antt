@@ -37,9 +37,10 @@ use Rattle.run_trace.specs.declared.items.What.TheVariants.{Irq}
 use Rattle.run_trace.specs.declared.items.End.TheVariants.{Bound, Stopped}
 use Rattle.machine_model.specs.State.{Setting, State, Loosened, on_bare, space_at_start}
 use Rattle.machine_model.specs.Rules.{stands_well, may_leave}
-use Rattle.machine_model.specs.Instruction.{taken, fetching, owning_front, owning_back, owned, fetched_on, fetched_by, fetched, passed, is_plain, done_plainly, instructed}
+use Rattle.machine_model.specs.Instruction.{taken, fetching, owning_front, owning_back, owned, fetched_on, fetched_by, fetched, is_plain, done_plainly, instructed}
 use Rattle.machine_model.specs.Step.{Report, Completed, Result, Went, Stands, went, entered, after_delivery, raised, code_of, after_effect, effect_on, after_software, interrupts_by, begun, by_op, by_decoded, after_refusal, after_fetch, fetches_next, begins_next, worked, interrupted, interrupt_of, by_interrupt, unheld, stepped, step_of}
 use Rattle.machine_model.specs.Run.{Set, Steps, EndsIn}
+use Rattle.sys_exec.specs.Operand.{past}
 use Rattle.machine_model.specs.Agreement.{is_extra, StepsAgree, RunsAgree}
 
 -- what the crates below promise
@@ -187,8 +188,8 @@ software_agrees law m b completed vector (Err (not_delivered.Stop stop, s)) p (i
 
 interrupt_agrees : Laws → (m : Setting) (b : State) (completed : Completed) (len vector : ℕ) (s : Space) → Agree (interrupts_by m b completed len vector s) (interrupts_by (on_bare m) b completed len vector (bare s))
 interrupt_agrees laws m b completed len vector s =
-    software_agrees laws.deliveries m b completed vector (delivered (passed len b.cpu) vector Soft None s) (delivered (passed len b.cpu) vector Soft None (bare s))
-    ((laws.deliveries (passed len b.cpu) vector Soft None).at_each s)
+    software_agrees laws.deliveries m b completed vector (delivered (past b.cpu len) vector Soft None s) (delivered (past b.cpu len) vector Soft None (bare s))
+    ((laws.deliveries (past b.cpu len) vector Soft None).at_each s)
 
 row_agrees : Laws → (m : Setting) (b : State) (insn : Insn) (len : ℕ) (s : Space)
     → Agree (effect_on m b (begun b insn) (told b.cpu (instructed insn len b.cpu s))) (effect_on (on_bare m) b (begun b insn) (told b.cpu (instructed insn len b.cpu (bare s))))

@@ -49,8 +49,8 @@ fetch_uses b pages = map (λ (page : ℕ). record { page = page; access = access
 
 -- a fetch that is refused has no instruction
 abbrev pub uses_by : State → Outcome Refusal Decoded → List Use
-uses_by b (Ok read) = fetch_uses b read.1.went ++ range_uses b read.0
-uses_by b (Err refused) = fetch_uses b refused.1.went
+uses_by b (Ok read) = fetch_uses b read.1.visited ++ range_uses b read.0
+uses_by b (Err refused) = fetch_uses b refused.1.visited
 
 -- the pages that the instruction at EIP uses, by its fetch and its ranges, in their order
 abbrev pub uses_at : Setting → State → List Use

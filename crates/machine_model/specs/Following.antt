@@ -41,7 +41,7 @@ pub record IsLeftBy (s : Space) (report : Report) (b : State) : Type 0 where
   pub set : (page : ℕ) → ForSome (get b.set page) (λ e. get last.set page ≡ Some e)
   pub tables : report.tables ≡ last.tables
   pub wrote : report.wrote ≡ last.wrote
-  pub pages : report.pages ≡ last.went
+  pub pages : report.pages ≡ last.visited
 
 abbrev pub StepsFollow : Type 0
 StepsFollow =

@@ -77,10 +77,6 @@ fetched user eip = do
   front ← fetching user eip (front_len eip)
   fetched_by user eip front (decoded front)
 
--- the processor past the instruction
-abbrev pub passed : ℕ → Cpu → Cpu
-passed len cpu = record cpu { regs = record cpu.regs { eip = (cpu.regs.eip + len) % 2 ^ 32 } }
-
 -- neither sensitive, nor INT or INT3
 abbrev pub is_plain : Op → Bool
 is_plain op.Int = false

@@ -73,8 +73,8 @@ pub record Follows (s t : Space) : Type 0 where
   pub memory : MemoryFollows t.wrote s.ram t.ram
   pub wrote : (frame : ℕ) → Contains s.wrote frame → Contains t.wrote frame
   pub tables : (frame : ℕ) → Contains s.tables frame → Contains t.tables frame
-  pub pages : (page : ℕ) → Contains s.went page → Contains t.went page
-  pub others : ArePages t.went → (at : ℕ) → at < length s.ram → (Contains t.wrote (at / 4096) → ⊥) → (Contains t.tables (at / 4096) → ⊥) → byte t.ram at ≡ byte s.ram at
+  pub pages : (page : ℕ) → Contains s.visited page → Contains t.visited page
+  pub others : ArePages t.visited → (at : ℕ) → at < length s.ram → (Contains t.wrote (at / 4096) → ⊥) → (Contains t.tables (at / 4096) → ⊥) → byte t.ram at ≡ byte s.ram at
   -- those that were read since are frames that there are
   pub low : (frame : ℕ) → Contains t.tables frame → Contains s.tables frame ⊎ (frame < s.frames)
   pub each : 4096 * s.frames ≤ length s.ram → AreApart t.tables t.wrote → (tables : ℕ → Bool) → HoldsOf tables t.tables → (page : ℕ) → page < 2 ^ 20

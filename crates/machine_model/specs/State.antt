@@ -59,7 +59,7 @@ space_at_start mode frames cpu ram set =
       wp = has cpu.cr0 65536;
       mode = mode;
       pages = 0;
-      went = [];
+      visited = [];
       tables = [];
       wrote = [];
       ready = record { start = 0; len = 0; write = false };

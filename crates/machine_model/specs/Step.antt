@@ -37,7 +37,8 @@ use Rattle.run_trace.specs.declared.items.What.TheVariants.{In8, In32, Out8, Out
 use Rattle.run_trace.specs.declared.items.Item.{Item}
 use Rattle.machine_model.specs.State.{Setting, State, space_at_start}
 use Rattle.machine_model.specs.Rules.{stands_well, may_leave}
-use Rattle.machine_model.specs.Instruction.{fetched, instructed, passed, with_accumulator}
+use Rattle.sys_exec.specs.Operand.{past}
+use Rattle.machine_model.specs.Instruction.{fetched, instructed, with_accumulator}
 
 -- an instruction that completed, with the EIP at which it began, and whether it began at level 3
 pub record Completed : Type 0 where
@@ -68,7 +69,7 @@ items_at step (what ∷ whats) = record { step = step; what = what } ∷ items_a
 -- the count rises, and the board advances
 abbrev pub went : List What → Option Completed → State → Cpu → Board → Space → Result
 went whats completed b cpu board s =
-    Went (record { items = items_at b.step whats; completed = completed; pages = s.went; tables = s.tables; wrote = s.wrote })
+    Went (record { items = items_at b.step whats; completed = completed; pages = s.visited; tables = s.tables; wrote = s.wrote })
     (record { cpu = cpu; ram = s.ram; set = s.set; board = board_step board; step = b.step + 1 })
 
 -- the item of a read of a port
@@ -145,7 +146,7 @@ after_software m b completed vector (Err (not_delivered.Privilege, s)) = raised 
 after_software m b completed vector (Err (not_delivered.Stop stop, s)) = Stands stop
 
 abbrev pub interrupts_by : Setting → State → Completed → ℕ → ℕ → Space → Result
-interrupts_by m b completed len vector s = after_software m b completed vector (delivered (passed len b.cpu) vector Soft None s)
+interrupts_by m b completed len vector s = after_software m b completed vector (delivered (past b.cpu len) vector Soft None s)
 
 -- the instruction that this processor begins
 abbrev pub begun : State → Insn → Completed

@@ -29,14 +29,14 @@ may_use mode false page frame = is_given mode page frame || (nat_le 0x11000 page
 
 -- each page that was used so far leads where it may, if it has a translation
 pub record LeadWell (user : Bool) (s : Space) : Type 0 where
-  pub each : (page : ℕ) → Contains s.went page → ForSome (get s.set page) (λ e. may_use s.mode user page e.frame ≡ true)
+  pub each : (page : ℕ) → Contains s.visited page → ForSome (get s.set page) (λ e. may_use s.mode user page e.frame ≡ true)
 
 -- Memory within a step at level 3, or at another, and the same after further accesses, none of which stopped: pages that
 -- lead well still do, and a page that no access went through has the translation that it had.
 pub record Uses (user : Bool) (s t : Space) : Type 0 where
   pub rules : (page frame : ℕ) → may_use t.mode user page frame ≡ may_use s.mode user page frame
-  pub went : (page : ℕ) → Contains s.went page → Contains t.went page
-  pub others : (page : ℕ) → (Contains t.went page → ⊥) → get t.set page ≡ get s.set page
+  pub visited : (page : ℕ) → Contains s.visited page → Contains t.visited page
+  pub others : (page : ℕ) → (Contains t.visited page → ⊥) → get t.set page ≡ get s.set page
   pub lead : LeadWell user s → LeadWell user t
 
 -- work that is done, or refused without a stop, leaves memory that goes on so
@@ -77,7 +77,7 @@ pub record IsUsedBy (user : Bool) (s : Space) (report : Report) (b : State) : Ty
   pub uses : Uses user s last
   pub ram : b.ram ≡ last.ram
   pub set : (page : ℕ) → ForSome (get b.set page) (λ e. get last.set page ≡ Some e)
-  pub pages : report.pages ≡ last.went
+  pub pages : report.pages ≡ last.visited
 
 abbrev pub StepsUse : Type 0
 StepsUse =

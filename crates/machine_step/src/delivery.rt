@@ -5,7 +5,6 @@ ghost use Rattle.step_mem.specs.Shown.{hidden};
 ghost use Rattle.step_mem.specs.Sound.{IsSound, space_at};
 ghost use Rattle.board.specs.Boards.{vector as vector_of};
 ghost use Rattle.machine_model.specs.State.{Setting, State as Whole};
-ghost use Rattle.machine_model.specs.Instruction.{passed};
 ghost use Rattle.machine_model.specs.Step.{interrupted, interrupts_by, after_refusal, raised, code_of, stop_of};
 ghost use Rattle.machine_step.specs.Ruled.{IsRuled};
 ghost use Rattle.machine_step.specs.Worked.{ComesTo, IsDropped, completed_of};
@@ -19,8 +18,8 @@ use guest_ram::Ram;
 use ia32_types::Stop;
 use run_trace::What;
 use step_exec::deliver_in;
-use step_mem::{Kept, State};
-use sys_exec::Refusal;
+use step_mem::{Kept, StepState};
+use sys_exec::{Refusal, past};
 
 /// Acknowledges an external interrupt and delivers it.
 #[tactic(auto, unfolding(machine_model::specs::Step::interrupted))]
@@ -30,7 +29,7 @@ pub fn deliver<B: Kept>(
     board: &mut Board,
     ram: &mut Ram,
     kept: &B,
-    state: &mut State,
+    state: &mut StepState,
     vector: u8,
 ) -> Result<Worked, Stop>
     requires pending { vector_of board.old ≡ Some vector }
@@ -57,7 +56,7 @@ pub fn enter<B: Kept>(
     cpu: &Cpu,
     ram: &mut Ram,
     kept: &B,
-    state: &mut State,
+    state: &mut StepState,
     completed: Completed,
     len: u8,
     vector: u8,
@@ -71,7 +70,7 @@ pub fn enter<B: Kept>(
     ensures guard { state.new.guard ≡ state.old.guard }
     ensures hidden { hidden state.old.guard state.old.control.frames ram.new ≡ hidden state.old.guard state.old.control.frames ram.old }
 {
-    let mut after = passed(len, cpu);
+    let mut after = past(cpu, len);
     match deliver_in(&mut after, ram, kept, state, vector, Kind::Soft, None) {
         Ok(()) => entered(rules, Seen::Nothing, Some(completed), after),
         Err(NotDelivered::Privilege) => {
@@ -81,21 +80,13 @@ pub fn enter<B: Kept>(
     }
 }
 
-fn passed(len: u8, cpu: &Cpu) -> Cpu
-    ensures { result ≡ passed len cpu.now }
-{
-    let mut after = *cpu;
-    after.regs.eip = cpu.regs.eip.wrapping_add(u32::from(len));
-    after
-}
-
 /// A fetch is denied or stops.
 pub fn refuse<B: Kept>(
     rules: &Rules,
     cpu: &Cpu,
     ram: &mut Ram,
     kept: &B,
-    state: &mut State,
+    state: &mut StepState,
     refusal: Refusal,
 ) -> Result<Worked, Stop>
     requires sound { IsSound (B.entries kept.now) (B.floor kept.now) (B.stands kept.now) ram.old state.old }
@@ -124,7 +115,7 @@ pub fn raise<B: Kept>(
     cpu: Cpu,
     ram: &mut Ram,
     kept: &B,
-    state: &mut State,
+    state: &mut StepState,
     vector: u8,
     code: u32,
 ) -> Result<Worked, Stop>

@@ -14,7 +14,7 @@ use descriptors::Cpu;
 use guest_ram::Ram;
 use ia32_types::{Insn, Op, sensitive};
 use step_exec::{plain, sys_in};
-use step_mem::{Kept, State};
+use step_mem::{Kept, StepState};
 use sys_exec::{Refusal, SysEffect};
 
 /// Does an instruction that some bytes spell, and answers with its effect and the processor afterwards.
@@ -25,7 +25,7 @@ pub fn execute<B: Kept>(
     cpu: &Cpu,
     ram: &mut Ram,
     kept: &B,
-    state: &mut State,
+    state: &mut StepState,
 ) -> (SysEffect, Cpu)
     requires spelled { (bytes : List ℕ) × Spells bytes insn.now }
     requires sound { IsSound (B.entries kept.now) (B.floor kept.now) (B.stands kept.now) ram.old state.old }
@@ -53,7 +53,7 @@ fn execute_plain<B: Kept>(
     cpu: &Cpu,
     ram: &mut Ram,
     kept: &B,
-    state: &mut State,
+    state: &mut StepState,
 ) -> (SysEffect, Cpu)
     requires spelled { (bytes : List ℕ) × Spells bytes insn.now }
     requires plain { is_plain insn.now.op ≡ true }

@@ -15,7 +15,7 @@ use guest_ram::Ram;
 use ia32_decode::{Decoded, decode};
 use ia32_types::Stop;
 use paging::Touch;
-use step_mem::{Kept, State, own_back, own_front};
+use step_mem::{Kept, StepState, own_back, own_front};
 use sys_exec::Refusal;
 
 /// No instruction is longer.
@@ -29,7 +29,7 @@ type Bytes = ArrayVec<u8, 32>;
 pub fn fetch<B: Kept>(
     ram: &mut Ram,
     kept: &B,
-    state: &mut State,
+    state: &mut StepState,
     user: bool,
     at: u32,
 ) -> Result<Decoded, Refusal>
@@ -73,7 +73,7 @@ fn front_len(at: u32) -> u32
 fn fetch_on<B: Kept>(
     ram: &mut Ram,
     kept: &B,
-    state: &mut State,
+    state: &mut StepState,
     user: bool,
     at: u32,
     front: &mut Bytes,
@@ -116,7 +116,7 @@ fn fetch_on<B: Kept>(
 fn fetching<B: Kept>(
     ram: &mut Ram,
     kept: &B,
-    state: &mut State,
+    state: &mut StepState,
     user: bool,
     at: u32,
     len: u32,

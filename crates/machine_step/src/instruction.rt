@@ -21,7 +21,7 @@ use descriptors::Cpu;
 use guest_ram::Ram;
 use ia32_decode::Decoded;
 use ia32_types::{Insn, Op, Stop};
-use step_mem::{Kept, State};
+use step_mem::{Kept, StepState};
 use sys_exec::SysEffect;
 
 /// Does the instruction that was fetched. INT and INT3 are deliveries.
@@ -33,7 +33,7 @@ pub fn carry_out<B: Kept>(
     board: &mut Board,
     ram: &mut Ram,
     kept: &B,
-    state: &mut State,
+    state: &mut StepState,
 ) -> Result<Worked, Stop>
     requires spelled { (bytes : List ℕ) × Spells bytes insn.now }
     requires sound { IsSound (B.entries kept.now) (B.floor kept.now) (B.stands kept.now) ram.old state.old }
@@ -75,7 +75,7 @@ fn perform<B: Kept>(
     board: &mut Board,
     ram: &mut Ram,
     kept: &B,
-    state: &mut State,
+    state: &mut StepState,
     completed: Completed,
 ) -> Result<Worked, Stop>
     requires spelled { (bytes : List ℕ) × Spells bytes insn.now }
@@ -103,7 +103,7 @@ fn follow<B: Kept>(
     board: &mut Board,
     ram: &mut Ram,
     kept: &B,
-    state: &mut State,
+    state: &mut StepState,
     completed: Completed,
 ) -> Result<Worked, Stop>
     requires sound { IsSound (B.entries kept.now) (B.floor kept.now) (B.stands kept.now) ram.old state.old }

@@ -21,7 +21,7 @@ use descriptors::Cpu;
 use guest_ram::Ram;
 use ia32_types::{Insn, Stop};
 use step_exec::reach_both;
-use step_mem::{Kept, State};
+use step_mem::{Kept, StepState};
 
 /// Translates both ranges of an instruction that some bytes spell. Where one is refused it is delivered, which is all
 /// that the step does.
@@ -31,7 +31,7 @@ pub fn reach<B: Kept>(
     cpu: &Cpu,
     ram: &mut Ram,
     kept: &B,
-    state: &mut State,
+    state: &mut StepState,
 ) -> Result<Reached, Stop>
     requires spelled { (bytes : List ℕ) × Spells bytes insn.now }
     requires sound { IsSound (B.entries kept.now) (B.floor kept.now) (B.stands kept.now) ram.old state.old }

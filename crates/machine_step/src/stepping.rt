@@ -23,7 +23,7 @@ use descriptors::Cpu;
 use guest_ram::Ram;
 use ia32_decode::Decoded;
 use ia32_types::Stop;
-use step_mem::{Control, Guard, Kept, State};
+use step_mem::{Control, Guard, Kept, StepState};
 
 /// One step, or the stop that it meets; and the step's state, with what it changed of the translations.
 pub fn step<'g, B: Kept>(
@@ -34,7 +34,7 @@ pub fn step<'g, B: Kept>(
     kept: &B,
     frames: u32,
     guard: Guard<'g>,
-) -> (Result<Worked, Stop>, State<'g>)
+) -> (Result<Worked, Stop>, StepState<'g>)
     requires frames { 4096 * frames ≤ length ram.old }
     requires below { 4096 * frames ≤ B.floor kept.now }
     requires stands { ∥ B.stands kept.now ram.old ∥₁ }
@@ -63,7 +63,7 @@ pub fn step_again<'g, B: Kept>(
     kept: &B,
     frames: u32,
     guard: Guard<'g>,
-    state: &mut State<'g>,
+    state: &mut StepState<'g>,
 ) -> Result<Worked, Stop>
     requires frames { 4096 * frames ≤ length ram.old }
     requires below { 4096 * frames ≤ B.floor kept.now }
@@ -102,7 +102,7 @@ pub fn begin<'g, B: Kept>(
     kept: &B,
     frames: u32,
     guard: Guard<'g>,
-) -> State<'g>
+) -> StepState<'g>
     requires frames { 4096 * frames ≤ length ram.now }
     requires below { 4096 * frames ≤ B.floor kept.now }
     requires stands { ∥ B.stands kept.now ram.now ∥₁ }
@@ -115,7 +115,7 @@ pub fn begin<'g, B: Kept>(
     ensures guard { result.guard ≡ guard.entry }
 {
     let _len = ram.len();
-    State::new(control(cpu, frames), guard)
+    StepState::new(control(cpu, frames), guard)
 }
 
 /// The same in the place of an earlier step's.
@@ -125,7 +125,7 @@ fn begin_again<'g, B: Kept>(
     kept: &B,
     frames: u32,
     guard: Guard<'g>,
-    state: &mut State<'g>,
+    state: &mut StepState<'g>,
 )
     requires frames { 4096 * frames ≤ length ram.now }
     requires below { 4096 * frames ≤ B.floor kept.now }
@@ -149,7 +149,7 @@ pub fn step_in<B: Kept>(
     board: &mut Board,
     ram: &mut Ram,
     kept: &B,
-    state: &mut State,
+    state: &mut StepState,
 ) -> Result<Worked, Stop>
     requires sound { IsSound (B.entries kept.now) (B.floor kept.now) (B.stands kept.now) ram.old state.old }
     requires pages { state.old.pages ≡ 0 }
@@ -175,7 +175,7 @@ pub fn start<B: Kept>(
     board: &mut Board,
     ram: &mut Ram,
     kept: &B,
-    state: &mut State,
+    state: &mut StepState,
 ) -> Result<Begun, Stop>
     requires sound { IsSound (B.entries kept.now) (B.floor kept.now) (B.stands kept.now) ram.old state.old }
     requires pages { state.old.pages ≡ 0 }
@@ -215,7 +215,7 @@ fn work<B: Kept>(
     cpu: &Cpu,
     ram: &mut Ram,
     kept: &B,
-    state: &mut State,
+    state: &mut StepState,
 ) -> Result<Begun, Stop>
     requires sound { IsSound (B.entries kept.now) (B.floor kept.now) (B.stands kept.now) ram.old state.old }
     requires pages { state.old.pages ≡ 0 }
@@ -248,7 +248,7 @@ fn fetch_next<B: Kept>(
     cpu: &Cpu,
     ram: &mut Ram,
     kept: &B,
-    state: &mut State,
+    state: &mut StepState,
 ) -> Result<Begun, Stop>
     requires sound { IsSound (B.entries kept.now) (B.floor kept.now) (B.stands kept.now) ram.old state.old }
     requires pages { state.old.pages ≡ 0 }

@@ -126,8 +126,8 @@ module _ (b : State) where
 -- an instruction that was fetched and doesn't clash
 pub clear_from : (m : Setting) (b : State) (insn : Insn) (len : ℕ) (fetch : Space)
     → fetched (b.cpu.cpl == 3) b.cpu.regs.eip (space_at_start m.mode m.frames b.cpu b.ram b.set) ≡ Ok (begins.Insn insn len, fetch) → instruction_clashes m b ≡ false
-    → AreClear b.set (b.cpu.cpl == 3) (wp_of b) [] (uses_of fetch.went (ranges_of insn b.cpu.regs))
+    → AreClear b.set (b.cpu.cpl == 3) (wp_of b) [] (uses_of fetch.visited (ranges_of insn b.cpu.regs))
 unfolding instruction_clashes
 clear_from m b insn len fetch e h =
-    clear_told b [] (uses_of fetch.went (ranges_of insn b.cpu.regs))
-    (ap (clash_behind (get b.set) (wp_of b) []) (all_same b fetch.went (ranges_of insn b.cpu.regs) (ranges_short insn b.cpu.regs) ∙ sym (ap (clashing.uses_by b) e)) ∙ h)
+    clear_told b [] (uses_of fetch.visited (ranges_of insn b.cpu.regs))
+    (ap (clash_behind (get b.set) (wp_of b) []) (all_same b fetch.visited (ranges_of insn b.cpu.regs) (ranges_short insn b.cpu.regs) ∙ sym (ap (clashing.uses_by b) e)) ∙ h)

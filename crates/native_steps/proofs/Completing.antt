@@ -188,9 +188,9 @@ module _ (flags : EffectLaws) (m : Setting) (w : IsWedge m) (laws : TextLaws m.i
           ∙ shown_same m w memory stands.host (all_stored (place memory v.root) memory (list_of stores)) keeps.long at (untouched at none)
           ∙ sym (ap (λ (x : List ℕ). frame x at) stands.ram)
 
-      end_pages : Rattle.native_steps.specs.Lends.AreKept b.set end.went
+      end_pages : Rattle.native_steps.specs.Lends.AreKept b.set end.visited
       unfolding end
-      end_pages = subst (Rattle.native_steps.specs.Lends.AreKept b.set) (ap (λ (s : Space). s.went) (sym (stored_is n.space (list_of stores)))) n.went
+      end_pages = subst (Rattle.native_steps.specs.Lends.AreKept b.set) (ap (λ (s : Space). s.visited) (sym (stored_is n.space (list_of stores)))) n.visited
 
       end_tables : end.tables ≡ []
       unfolding end
@@ -209,7 +209,7 @@ module _ (flags : EffectLaws) (m : Setting) (w : IsWedge m) (laws : TextLaws m.i
       after = record { cpu = new_cpu; ram = end.ram; set = end.set; board = board_step b.board; step = b.step + 1 }
 
       report : step.Report
-      report = record { items = []; completed = Some (step.begun b insn); pages = end.went; tables = end.tables; wrote = end.wrote }
+      report = record { items = []; completed = Some (step.begun b insn); pages = end.visited; tables = end.tables; wrote = end.wrote }
 
       stays_there : (mode : Mode) (cpl : ℕ) (k : Bool) → IsLevel k cpl → (x : Bool) → cond {A = Bool} true (not (cpl == 0 && cpl == 3) || x) true ≡ true
       stays_there mode cpl true l x = ap (λ y. not (y == 0 && y == 3) || x) l

@@ -271,7 +271,7 @@ module _ (m : Setting) (w : IsWedge m) (memory : List ℕ) (v : View) (b : State
     -- ---- from the guest
 
     pub full_from_guest : (insn : Insn) (len : ℕ) (after_fetch after_read after_write : Space) → IsTranslated m b insn len after_fetch after_read after_write
-        → AreReached memory v.root after_fetch.went (ranges_of insn b.cpu.regs) → IsFull insn len
+        → AreReached memory v.root after_fetch.visited (ranges_of insn b.cpu.regs) → IsFull insn len
     unfolding eip
     full_from_guest insn len after_fetch after_read after_write t pages =
         let start = space_at_start m.mode m.frames b.cpu b.ram b.set in

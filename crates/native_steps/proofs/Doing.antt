@@ -23,14 +23,14 @@ use Rattle.ia32_exec.specs.declared.selectors.Selectors.{Selectors}
 use Rattle.ia32_exec.specs.declared.access.Range.{Range}
 use Rattle.ia32_exec.specs.declared.access.Ranges.{Ranges}
 use Rattle.ia32_exec.specs.Memory.{number_at, store}
-use Rattle.ia32_exec.specs.Registers.{register, address_of, with_whole}
+use Rattle.ia32_exec.specs.Registers.{register_value, address_of, with_whole}
 use Rattle.ia32_exec.specs.Registers as registers
 use Rattle.ia32_exec.specs.Ranges.{segment_of, operand_range}
 use Rattle.ia32_exec.specs.Operands.{value_of}
 use Rattle.ia32_exec.specs.Transfers as transfers
 use Rattle.ia32_exec.specs.Selectors as selectors
 use Rattle.ia32_exec.specs.Effect as effects_of
-use Rattle.ia32_exec.specs.Stack.{stack_of, lowered, raised, is_foreign, pushed_number, flags_pushed, flags_popped}
+use Rattle.ia32_exec.specs.Stack.{stack_of, esp_below, esp_above, is_foreign, pushed_number, flags_pushed, flags_popped}
 use Rattle.ia32_exec.specs.Stack as stack
 use Rattle.ia32_exec.specs.Effect.{ranges_row, ranges_of, effect}
 use Rattle.ia32_types.specs.Places.{is_place}
@@ -93,9 +93,9 @@ executed_is i len cpu s t u free e g =
 
 -- ---- accesses of the others
 
-pushed_is : (cpu : Cpu) (v : ℕ) (s t : Space) → reaching (lowered 4 cpu.regs) 4 (by_level cpu true) s ≡ Ok (tt, t) → pushed cpu v s ≡ Ok (tt, saved t (lowered 4 cpu.regs) Long v)
+pushed_is : (cpu : Cpu) (v : ℕ) (s t : Space) → reaching (esp_below 4 cpu.regs) 4 (by_level cpu true) s ≡ Ok (tt, t) → pushed cpu v s ≡ Ok (tt, saved t (esp_below 4 cpu.regs) Long v)
 unfolding pushed
-pushed_is cpu v s t e = ap (λ (o : Outcome Refusal (Unit {0})). on_value o (λ (x : Unit {0}). writes (lowered 4 cpu.regs) Long v)) e
+pushed_is cpu v s t e = ap (λ (o : Outcome Refusal (Unit {0})). on_value o (λ (x : Unit {0}). writes (esp_below 4 cpu.regs) Long v)) e
 
 pulled_is : (cpu : Cpu) (s t : Space) → reaching (stack_of cpu.regs) 4 (by_level cpu false) s ≡ Ok (tt, t) → pulled cpu s ≡ Ok (loaded t (stack_of cpu.regs) Long, t)
 unfolding pulled
@@ -189,14 +189,14 @@ module _ (m : Setting) (b : State) (c : Completed) where
         → Comes (push_flags len cpu s) (done_by cpu u (flags_pushed len cpu.regs))
     unfolding push_flags flags_pushed pushed_number
     flags_push i len h =
-        let e = subst (λ (x : Space). reaching (lowered 4 cpu.regs) 4 (by_level cpu true) x ≡ Ok (tt, u)) (sym (nothing_reached s t h.read)) h.write in
+        let e = subst (λ (x : Space). reaching (esp_below 4 cpu.regs) 4 (by_level cpu true) x ≡ Ok (tt, u)) (sym (nothing_reached s t h.read)) h.write in
         same _ _ (ap (λ (o : Outcome Refusal (Unit {0})). on_value o (λ (x : Unit {0}). next (past_push cpu len))) (pushed_is cpu cpu.regs.flags.bits s u e))
 
     abbrev taking : ℕ → ℕ → Work Refusal Done
     taking len v = unless (refusal.Stop stops.FlagBits) (is_plain v) >>= (λ (x : Unit {0}). next (with_flags (past_pop cpu len) (new_flags cpu v)))
 
     abbrev popped_to : ℕ → Flags → exec.Outcome
-    popped_to len f = outcomes.Done (registers.passed len (with_whole 4 (raised 4 cpu.regs) (record cpu.regs { flags = f }))) Nothing
+    popped_to len f = outcomes.Done (registers.passed len (with_whole 4 (esp_above 4 cpu.regs) (record cpu.regs { flags = f }))) Nothing
 
     popping : (len : ℕ) (foreign : Bool) (f k : Flags) → f ≡ k
         → on_value (cond (not foreign) (Ok (tt, t)) (Err (refusal.Stop stops.FlagBits, t))) (λ (x : Unit {0}). next (with_flags (past_pop cpu len) f))
@@ -225,7 +225,7 @@ module _ (m : Setting) (b : State) (c : Completed) where
     return i len h =
         let last : t ≡ u = nothing_reached t u h.write in
         let number : loaded t (stack_of cpu.regs) Long ≡ number_at (byte_by (ranges_row op.Return i cpu.regs).read t t) Long (stack_of cpu.regs) = read_number t (stack_of cpu.regs) Ss in
-        let end : ℕ → Cpu = λ v. with_regs cpu (record (with_whole 4 (raised (4 + i.imm) cpu.regs) cpu.regs) { eip = v }) in
+        let end : ℕ → Cpu = λ v. with_regs cpu (record (with_whole 4 (esp_above (4 + i.imm) cpu.regs) cpu.regs) { eip = v }) in
         same _ _
         (ap (λ (o : Outcome Refusal ℕ). on_value o (λ (v : ℕ). next (end v))) (pulled_is cpu s t h.read)
         ∙ ap (λ (v : ℕ). Ok (record { cpu = end v; effect = effects.Next }, t)) number
@@ -238,7 +238,7 @@ module _ (m : Setting) (b : State) (c : Completed) where
     jump : (a : Operand) → IsNamed a → Are (record { read = operand_range a Long cpu.regs; write = None })
         → Comes (branch.jump_to a cpu s)
         (done_by cpu u (cond (is_place a) (outcomes.Done (transfers.gone_to (value_of a Long cpu.regs (Bytes (operand_range a Long cpu.regs))) cpu.regs) Nothing) (outcomes.Stop stops.Unsupported)))
-    unfolding branch.jump_to long_of register
+    unfolding branch.jump_to long_of register_value
     jump Absent k h = refl
     jump (Segment x) k h = refl
     jump (Control x) k h = refl
@@ -257,37 +257,37 @@ module _ (m : Setting) (b : State) (c : Completed) where
         ∙ ap (λ (x : Space). Ok (record { cpu = gone_to cpu (number_at (byte_by range t x) Long (address_of a cpu.regs)); effect = effects.Next }, x)) last)
 
     abbrev stack_write : Option Range
-    stack_write = Some (record { at = lowered 4 cpu.regs; len = 4; seg = Ss })
+    stack_write = Some (record { at = esp_below 4 cpu.regs; len = 4; seg = Ss })
 
     abbrev call_to : ℕ → ℕ → exec.Outcome
-    call_to len v = outcomes.Done (transfers.gone_to v (with_whole 4 (lowered 4 cpu.regs) cpu.regs)) (One (store (lowered 4 cpu.regs) Long (registers.passed len cpu.regs).eip))
+    call_to len v = outcomes.Done (transfers.gone_to v (with_whole 4 (esp_below 4 cpu.regs) cpu.regs)) (One (store (esp_below 4 cpu.regs) Long (registers.passed len cpu.regs).eip))
 
     through : (a : Address) (len : ℕ) → Are (record { read = operand_range (Memory a) Long cpu.regs; write = stack_write })
         → branch.called_through a len cpu s
-        ≡ Ok (number_at (Bytes (operand_range (Memory a) Long cpu.regs)) Long (address_of a cpu.regs), saved u (lowered 4 cpu.regs) Long (past cpu len).regs.eip)
+        ≡ Ok (number_at (Bytes (operand_range (Memory a) Long cpu.regs)) Long (address_of a cpu.regs), saved u (esp_below 4 cpu.regs) Long (past cpu len).regs.eip)
     unfolding branch.called_through
     through a len h =
         let free = (either_false (is_null cpu (segment_of a.base)) _ h.free).0 in
-        let earlier = reaching_earlier t u (lowered 4 cpu.regs) 4 (by_level cpu true) h.write in
+        let earlier = reaching_earlier t u (esp_below 4 cpu.regs) 4 (by_level cpu true) h.write in
         let rest : Unit {0} → Work Refusal ℕ = λ (y : Unit {0}).
-        reads_earlier (address_of a cpu.regs) Long >>= (λ (v : ℕ). writes (lowered 4 cpu.regs) Long (past cpu len).regs.eip >>= (λ (z : Unit {0}). gives v))
+        reads_earlier (address_of a cpu.regs) Long >>= (λ (v : ℕ). writes (esp_below 4 cpu.regs) Long (past cpu len).regs.eip >>= (λ (z : Unit {0}). gives v))
         in
-        ap (λ (o : Outcome Refusal (Unit {0})). on_value o (λ (x : Unit {0}). reaching (lowered 4 cpu.regs) 4 (by_level cpu true) >>= rest)) (operand_is cpu a 4 false s t free h.read)
+        ap (λ (o : Outcome Refusal (Unit {0})). on_value o (λ (x : Unit {0}). reaching (esp_below 4 cpu.regs) 4 (by_level cpu true) >>= rest)) (operand_is cpu a 4 false s t free h.read)
         ∙ ap (λ (o : Outcome Refusal (Unit {0})). on_value o rest) h.write
-        ∙ ap (λ (v : ℕ). Ok (v, saved u (lowered 4 cpu.regs) Long (past cpu len).regs.eip)) (earlier_number t u (address_of a cpu.regs) (segment_of a.base) earlier)
+        ∙ ap (λ (v : ℕ). Ok (v, saved u (esp_below 4 cpu.regs) Long (past cpu len).regs.eip)) (earlier_number t u (address_of a cpu.regs) (segment_of a.base) earlier)
 
     call : (a : Operand) (len : ℕ) → IsNamed a → Are (record { read = operand_range a Long cpu.regs; write = stack_write })
         → Comes (branch.call_to a len cpu s)
         (done_by cpu u (cond (is_place a) (call_to len (value_of a Long cpu.regs (Bytes (operand_range a Long cpu.regs)))) (outcomes.Stop stops.Unsupported)))
-    unfolding branch.call_to register
+    unfolding branch.call_to register_value
     call Absent len k h = refl
     call (Segment x) len k h = refl
     call (Control x) len k h = refl
     call (Register x) len k h =
-        let e = subst (λ (w : Space). reaching (lowered 4 cpu.regs) 4 (by_level cpu true) w ≡ Ok (tt, u)) (sym (nothing_reached s t h.read)) h.write in
+        let e = subst (λ (w : Space). reaching (esp_below 4 cpu.regs) 4 (by_level cpu true) w ≡ Ok (tt, u)) (sym (nothing_reached s t h.read)) h.write in
         same _ _
         (ap (λ (o : Outcome Refusal (Unit {0})). on_value o (λ (z : Unit {0}). next (gone_to (past_push cpu len) (reg_at cpu x)))) (pushed_is cpu (past cpu len).regs.eip s u e)
-        ∙ ap (λ (v : ℕ). Ok (record { cpu = gone_to (past_push cpu len) (slice_index cpu.regs.r v); effect = effects.Next }, saved u (lowered 4 cpu.regs) Long (past cpu len).regs.eip)) (named x k))
+        ∙ ap (λ (v : ℕ). Ok (record { cpu = gone_to (past_push cpu len) (slice_index cpu.regs.r v); effect = effects.Next }, saved u (esp_below 4 cpu.regs) Long (past cpu len).regs.eip)) (named x k))
     call (Memory a) len k h = same _ _ (ap (λ (o : Outcome Refusal ℕ). on_value o (λ (v : ℕ). next (gone_to (past_push cpu len) v))) (through a len h))
 
     abbrev selector_to : Operand → ℕ → ℕ → exec.Outcome
@@ -329,7 +329,7 @@ module _ (m : Setting) (b : State) (c : Completed) where
     selector_push (Memory x) len h = refl
     selector_push (Control x) len h = refl
     selector_push (Segment x) len h =
-        let e = subst (λ (w : Space). reaching (lowered 4 cpu.regs) 4 (by_level cpu true) w ≡ Ok (tt, u)) (sym (nothing_reached s t h.read)) h.write in
+        let e = subst (λ (w : Space). reaching (esp_below 4 cpu.regs) 4 (by_level cpu true) w ≡ Ok (tt, u)) (sym (nothing_reached s t h.read)) h.write in
         same _ _
         (ap (λ (o : Outcome Refusal (Unit {0})). on_value o (λ (z : Unit {0}). next (past_push cpu len))) (pushed_is cpu (selector_in cpu x) s u e)
         ∙ ap (λ (v : ℕ). done_by cpu u (selectors.pushed_from (record { es = v; cs = v; ss = v; ds = v }) (Segment Es) (registers.passed len cpu.regs))) (sym (sel x)))

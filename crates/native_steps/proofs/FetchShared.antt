@@ -111,26 +111,26 @@ module _ (m : Setting) (w : IsWedge m) (memory : List ℕ) (v : View) (b : State
   -- what the guest fetched, through pages that the host's tables have too
   pub from_guest : (s t : Space) (eip : ℕ) (insn : Insn) (len : ℕ) → At m b s → eip < 2 ^ 32 → IsCode v.kernel (eip / 4096)
       → ((frame : ℕ) → FetchShares (eip / 4096) frame → decoded (front_at b.ram frame eip) ≡ begins.Short → IsCode v.kernel (eip / 4096 + 1))
-      → ((page : ℕ) → Contains t.went page → IsReached memory v.root false page) → fetched (not v.kernel) eip s ≡ Ok (begins.Insn insn len, t) → Way FetchShares b.ram eip insn len
+      → ((page : ℕ) → Contains t.visited page → IsReached memory v.root false page) → fetched (not v.kernel) eip s ≡ Ok (begins.Insn insn len, t) → Way FetchShares b.ram eip insn len
   from_guest s t eip insn len h lt one two pages e =
       let p = fetch_parts (not v.kernel) eip insn len s t e in
       by_end p (by_parts (not v.kernel) eip insn len p.front p.first t (decoded p.front) refl p.goes_on)
     where
       by_end : (p : IsFetch (not v.kernel) eip insn len s t) → IsIn eip insn len p.front p.first t ⊎ IsPast (not v.kernel) eip insn len p.front p.first t → Way FetchShares b.ram eip insn len
       by_end p (inl x) =
-          let went : t.went ≡ s.went ++ (eip / 4096) ∷ [] = x.went ∙ fetching_went (not v.kernel) eip (front_len eip) s p.front p.first p.reads in
-          let r = pages (eip / 4096) (subst (λ (l : List ℕ). Contains l (eip / 4096)) (sym went) (Contains-append_right s.went ((eip / 4096) ∷ []) (eip / 4096) (here (eip / 4096)))) in
+          let visited : t.visited ≡ s.visited ++ (eip / 4096) ∷ [] = x.visited ∙ fetching_went (not v.kernel) eip (front_len eip) s p.front p.first p.reads in
+          let r = pages (eip / 4096) (subst (λ (l : List ℕ). Contains l (eip / 4096)) (sym visited) (Contains-append_right s.visited ((eip / 4096) ∷ []) (eip / 4096) (here (eip / 4096)))) in
           let f = fetch_shares (eip / 4096) r.0 (omega (arith, lt)) one (leads_from memory v.root (eip / 4096) (omega (arith, lt)) false r.0 r.1) in
           let c = fetching_comes m b v.kernel s eip (front_len eip) r.0 h f.fetches.entry f.fetches.free in
           let bytes : front_at b.ram r.0 eip ≡ p.front = same_value (front_at b.ram r.0 eip) p.front c.space p.first (sym c.is ∙ p.reads) in
           inl (record { frame = r.0; page = f; is = ap decoded bytes ∙ x.is })
       by_end p (inr x) =
           let first_went = fetching_went (not v.kernel) eip (front_len eip) s p.front p.first p.reads in
-          let went : t.went ≡ (s.went ++ (eip / 4096) ∷ []) ++ (next_page eip / 4096) ∷ [] = x.on.went ∙ ap (λ (l : List ℕ). l ++ (next_page eip / 4096) ∷ []) first_went in
-          let r = pages (eip / 4096) (subst (λ (l : List ℕ). Contains l (eip / 4096)) (sym went)
-          (Contains-append_left (s.went ++ (eip / 4096) ∷ []) ((next_page eip / 4096) ∷ []) (eip / 4096) (Contains-append_right s.went ((eip / 4096) ∷ []) (eip / 4096) (here (eip / 4096))))) in
-          let q = pages (next_page eip / 4096) (subst (λ (l : List ℕ). Contains l (next_page eip / 4096)) (sym went)
-          (Contains-append_right (s.went ++ (eip / 4096) ∷ []) ((next_page eip / 4096) ∷ []) (next_page eip / 4096) (here (next_page eip / 4096)))) in
+          let visited : t.visited ≡ (s.visited ++ (eip / 4096) ∷ []) ++ (next_page eip / 4096) ∷ [] = x.on.visited ∙ ap (λ (l : List ℕ). l ++ (next_page eip / 4096) ∷ []) first_went in
+          let r = pages (eip / 4096) (subst (λ (l : List ℕ). Contains l (eip / 4096)) (sym visited)
+          (Contains-append_left (s.visited ++ (eip / 4096) ∷ []) ((next_page eip / 4096) ∷ []) (eip / 4096) (Contains-append_right s.visited ((eip / 4096) ∷ []) (eip / 4096) (here (eip / 4096))))) in
+          let q = pages (next_page eip / 4096) (subst (λ (l : List ℕ). Contains l (next_page eip / 4096)) (sym visited)
+          (Contains-append_right (s.visited ++ (eip / 4096) ∷ []) ((next_page eip / 4096) ∷ []) (next_page eip / 4096) (here (next_page eip / 4096)))) in
           let f = fetch_shares (eip / 4096) r.0 (omega (arith, lt)) one (leads_from memory v.root (eip / 4096) (omega (arith, lt)) false r.0 r.1) in
           let c = fetching_comes m b v.kernel s eip (front_len eip) r.0 h f.fetches.entry f.fetches.free in
           let bytes : front_at b.ram r.0 eip ≡ p.front = same_value (front_at b.ram r.0 eip) p.front c.space p.first (sym c.is ∙ p.reads) in

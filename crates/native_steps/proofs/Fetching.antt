@@ -38,7 +38,7 @@ module _ (m : Setting) (b : State) (kernel : Bool) where
       ram = h.ram;
       set = h.set;
       wp = h.wp;
-      went = h.went;
+      visited = h.visited;
       tables = h.tables;
       own = record { front = place s at; front_len = len; back = 0; back_len = 0 };
       mode = ap (λ (x : Mode). with_front x (place s at) len) h.mode;
@@ -54,7 +54,7 @@ module _ (m : Setting) (b : State) (kernel : Bool) where
       ram = h.ram;
       set = h.set;
       wp = h.wp;
-      went = h.went;
+      visited = h.visited;
       tables = h.tables;
       own = record h.own { back = place s at; back_len = len };
       mode = ap (λ (x : Mode). with_back x (place s at) len) h.mode;
@@ -105,23 +105,23 @@ module _ (m : Setting) (b : State) (kernel : Bool) where
 
 -- ---- through which pages a fetch goes
 
-made_went : (o : Touch) (s : Space) (at len : ℕ) → (go_on o s (made_ready at len false)).1.went ≡ s.went
+made_went : (o : Touch) (s : Space) (at len : ℕ) → (go_on o s (made_ready at len false)).1.visited ≡ s.visited
 made_went Ready s at len = refl
 made_went (Fault code cr2) s at len = refl
 made_went (Stop stop) s at len = refl
 
-fetches_went : (s : Space) (at len : ℕ) (user : Bool) → (fetches s at len user).1.went ≡ s.went ++ (at / 4096) ∷ []
+fetches_went : (s : Space) (at len : ℕ) (user : Bool) → (fetches s at len user).1.visited ≡ s.visited ++ (at / 4096) ∷ []
 unfolding fetches
 fetches_went s at len user =
     made_went (page_uses (unready s) true (at / 4096) at (record { write = false; user = user })).0 (page_uses (unready s) true (at / 4096) at (record { write = false; user = user })).1 at len
     ∙ page_went (unready s) true (at / 4096) at (record { write = false; user = user })
 
-taken_went : (at len : ℕ) (o : Touch) (s : Space) (bytes : List ℕ) (t : Space) → taken at len o s ≡ Ok (bytes, t) → t.went ≡ s.went
-taken_went at len Ready s bytes t e = let p : ◌≡◌ {A = List ℕ × Space} (part s.ram (place s at) len, s) (bytes, t) = cc in sym (ap (λ (q : List ℕ × Space). q.1.went) p)
+taken_went : (at len : ℕ) (o : Touch) (s : Space) (bytes : List ℕ) (t : Space) → taken at len o s ≡ Ok (bytes, t) → t.visited ≡ s.visited
+taken_went at len Ready s bytes t e = let p : ◌≡◌ {A = List ℕ × Space} (part s.ram (place s at) len, s) (bytes, t) = cc in sym (ap (λ (q : List ℕ × Space). q.1.visited) p)
 taken_went at len (Fault code cr2) s bytes t e = absurd cc
 taken_went at len (Stop stop) s bytes t e = absurd cc
 
-pub fetching_went : (user : Bool) (at len : ℕ) (s : Space) (bytes : List ℕ) (t : Space) → fetching user at len s ≡ Ok (bytes, t) → t.went ≡ s.went ++ (at / 4096) ∷ []
+pub fetching_went : (user : Bool) (at len : ℕ) (s : Space) (bytes : List ℕ) (t : Space) → fetching user at len s ≡ Ok (bytes, t) → t.visited ≡ s.visited ++ (at / 4096) ∷ []
 unfolding fetching
 fetching_went user at len s bytes t e = taken_went at len (fetches s at len user).0 (fetches s at len user).1 bytes t e ∙ fetches_went s at len user
 
@@ -131,13 +131,13 @@ pub bound : {E A B : Type 0} (o : Outcome E A) (f : A → Work E B) (y : B) (t :
 bound (Ok x) f y t e = (x.0, x.1, (refl, e))
 bound (Err x) f y t e = absurd cc
 
-front_went : (at len : ℕ) (s t : Space) (x : Unit {0}) → owning_front at len s ≡ Ok (x, t) → t.went ≡ s.went
+front_went : (at len : ℕ) (s t : Space) (x : Unit {0}) → owning_front at len s ≡ Ok (x, t) → t.visited ≡ s.visited
 unfolding owning_front
-front_went at len s t x e = let p : ◌≡◌ {A = Unit {0} × Space} (tt, record s { mode = with_front s.mode (place s at) len }) (x, t) = cc in sym (ap (λ (q : Unit {0} × Space). q.1.went) p)
+front_went at len s t x e = let p : ◌≡◌ {A = Unit {0} × Space} (tt, record s { mode = with_front s.mode (place s at) len }) (x, t) = cc in sym (ap (λ (q : Unit {0} × Space). q.1.visited) p)
 
-back_went : (at len : ℕ) (s t : Space) (x : Unit {0}) → owning_back at len s ≡ Ok (x, t) → t.went ≡ s.went
+back_went : (at len : ℕ) (s t : Space) (x : Unit {0}) → owning_back at len s ≡ Ok (x, t) → t.visited ≡ s.visited
 unfolding owning_back
-back_went at len s t x e = let p : ◌≡◌ {A = Unit {0} × Space} (tt, record s { mode = with_back s.mode (place s at) len }) (x, t) = cc in sym (ap (λ (q : Unit {0} × Space). q.1.went) p)
+back_went at len s t x e = let p : ◌≡◌ {A = Unit {0} × Space} (tt, record s { mode = with_back s.mode (place s at) len }) (x, t) = cc in sym (ap (λ (q : Unit {0} × Space). q.1.visited) p)
 
 pub same_space : {A : Type 0} (x y : A) (s t : Space) → ◌≡◌ {A = Outcome Refusal A} (Ok (x, s)) (Ok (y, t)) → s ≡ t
 same_space {A} x y s t e = let p : ◌≡◌ {A = A × Space} (x, s) (y, t) = cc in ap (λ (q : A × Space). q.1) p
@@ -158,12 +158,12 @@ fetch_parts user eip insn len s t e =
     let p = bound (fetching user eip (front_len eip) s) (λ front. fetched_by user eip front (decoded front)) (begins.Insn insn len) t e in
     record { front = p.0; first = p.1; reads = p.2.0; goes_on = p.2.1 }
 
-owned_parts : (eip : ℕ) (d : Decoded) (s t : Space) (x : Decoded) → owned eip d s ≡ Ok (x, t) → (d ≡ x) × (t.went ≡ s.went)
+owned_parts : (eip : ℕ) (d : Decoded) (s t : Space) (x : Decoded) → owned eip d s ≡ Ok (x, t) → (d ≡ x) × (t.visited ≡ s.visited)
 owned_parts eip (begins.Insn i l) s t x e =
     let p = bound (owning_back (next_page eip) (l - front_len eip) s) (λ y. gives (begins.Insn i l)) x t e in
-    (same_value (begins.Insn i l) x p.1 t p.2.1, ap (λ (q : Space). q.went) (sym (same_space (begins.Insn i l) x p.1 t p.2.1)) ∙ back_went (next_page eip) (l - front_len eip) s p.1 p.0 p.2.0)
-owned_parts eip begins.Outside s t x e = (same_value begins.Outside x s t e, ap (λ (q : Space). q.went) (sym (same_space begins.Outside x s t e)))
-owned_parts eip begins.Short s t x e = (same_value begins.Short x s t e, ap (λ (q : Space). q.went) (sym (same_space begins.Short x s t e)))
+    (same_value (begins.Insn i l) x p.1 t p.2.1, ap (λ (q : Space). q.visited) (sym (same_space (begins.Insn i l) x p.1 t p.2.1)) ∙ back_went (next_page eip) (l - front_len eip) s p.1 p.0 p.2.0)
+owned_parts eip begins.Outside s t x e = (same_value begins.Outside x s t e, ap (λ (q : Space). q.visited) (sym (same_space begins.Outside x s t e)))
+owned_parts eip begins.Short s t x e = (same_value begins.Short x s t e, ap (λ (q : Space). q.visited) (sym (same_space begins.Short x s t e)))
 
 -- the second page
 pub record IsOn (user : Bool) (eip : ℕ) (insn : Insn) (len : ℕ) (front : List ℕ) (s t : Space) : Type 0 where
@@ -174,7 +174,7 @@ pub record IsOn (user : Bool) (eip : ℕ) (insn : Insn) (len : ℕ) (front : Lis
   pub reads : fetching user (next_page eip) longest before ≡ Ok (more, after)
   pub is : decoded (front ++ more) ≡ begins.Insn insn len
   pub ends : owned eip (decoded (front ++ more)) after ≡ Ok (begins.Insn insn len, t)
-  pub went : t.went ≡ s.went ++ (next_page eip / 4096) ∷ []
+  pub visited : t.visited ≡ s.visited ++ (next_page eip / 4096) ∷ []
 
 on_parts : (user : Bool) (eip : ℕ) (insn : Insn) (len : ℕ) (front : List ℕ) (s t : Space) → fetched_on user eip front s ≡ Ok (begins.Insn insn len, t) → IsOn user eip insn len front s t
 unfolding fetched_on
@@ -190,14 +190,14 @@ on_parts user eip insn len front s t e =
       reads = q.2.0;
       is = o.0;
       ends = q.2.1;
-      went = o.1 ∙ fetching_went user (next_page eip) longest p.1 q.0 q.1 q.2.0 ∙ ap (λ (x : List ℕ). x ++ (next_page eip / 4096) ∷ []) (front_went eip (front_len eip) s p.1 p.0 p.2.0);
+      visited = o.1 ∙ fetching_went user (next_page eip) longest p.1 q.0 q.1 q.2.0 ∙ ap (λ (x : List ℕ). x ++ (next_page eip / 4096) ∷ []) (front_went eip (front_len eip) s p.1 p.0 p.2.0);
     }
 
 -- the fetch ended in the first page
 pub record IsIn (eip : ℕ) (insn : Insn) (len : ℕ) (front : List ℕ) (s t : Space) : Type 0 where
   pub is : decoded front ≡ begins.Insn insn len
   pub owns : owning_front eip len s ≡ Ok (tt, t)
-  pub went : t.went ≡ s.went
+  pub visited : t.visited ≡ s.visited
 
 -- or went on in the second
 pub record IsPast (user : Bool) (eip : ℕ) (insn : Insn) (len : ℕ) (front : List ℕ) (s t : Space) : Type 0 where
@@ -215,7 +215,7 @@ by_parts user eip insn len front s t (begins.Insn i l) is e =
     inl (record {
       is = is ∙ same;
       owns = ap (λ n. owning_front eip n s) (sym long) ∙ p.2.0 ∙ ap (λ (x : Space). Ok (tt, x)) left;
-      went = ap (λ (x : Space). x.went) (sym left) ∙ front_went eip l s p.1 p.0 p.2.0;
+      visited = ap (λ (x : Space). x.visited) (sym left) ∙ front_went eip l s p.1 p.0 p.2.0;
     })
 by_parts user eip insn len front s t begins.Outside is e = absurd (let f : begins.Outside ≡ begins.Insn insn len = same_value begins.Outside (begins.Insn insn len) s t e in cc)
 by_parts user eip insn len front s t begins.Short is e = inr (short (eip / 4096 == 1048575) refl e)

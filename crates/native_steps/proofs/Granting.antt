@@ -56,7 +56,7 @@ open_of image false true page frame e above = inr (above refl refl, e)
 open_of image true true page frame e above = inl (not_false (is_given (wedge_mode image) page frame) e)
 
 granted : (image : Image) (kernel wp : Bool) (s : Space) (write fetch : Bool) (page frame : ℕ) → HasEntry kernel wp s.set write page frame → is_barred (wedge_mode image) fetch (not kernel) page frame ≡ false
-    → (kernel ≡ true → fetch ≡ false → 0x11000 ≤ page) → (write ≡ true → Contains s.wrote frame) → Contains s.went page → IsGranted image kernel wp s write page
+    → (kernel ≡ true → fetch ≡ false → 0x11000 ≤ page) → (write ≡ true → Contains s.wrote frame) → Contains s.visited page → IsGranted image kernel wp s write page
 granted image kernel wp s write fetch page frame h free above told through = record {
   entry = h.entry;
   kept = h.kept;
@@ -98,32 +98,32 @@ noted s at len frame w c = subst (λ (l : List ℕ). Contains l frame) (sym w.is
 
 -- ---- the pages of a range
 
-by_one : (one : Bool) (went : List ℕ) (first last q : ℕ) → Contains (went ++ first ∷ []) q → Contains (cond one (went ++ first ∷ []) ((went ++ first ∷ []) ++ last ∷ [])) q
-by_one true went first last q c = c
-by_one false went first last q c = Contains-append_left (went ++ first ∷ []) (last ∷ []) q c
+by_one : (one : Bool) (visited : List ℕ) (first last q : ℕ) → Contains (visited ++ first ∷ []) q → Contains (cond one (visited ++ first ∷ []) ((visited ++ first ∷ []) ++ last ∷ [])) q
+by_one true visited first last q c = c
+by_one false visited first last q c = Contains-append_left (visited ++ first ∷ []) (last ∷ []) q c
 
-goes_on : (went : List ℕ) (at len q : ℕ) → Contains went q → Contains (went_by went at len) q
+goes_on : (visited : List ℕ) (at len q : ℕ) → Contains visited q → Contains (went_by visited at len) q
 unfolding went_by
-goes_on went at len q c = by_one ((at + len - 1) / 4096 == at / 4096) went (at / 4096) ((at + len - 1) / 4096) q (Contains-append_left went ((at / 4096) ∷ []) q c)
+goes_on visited at len q c = by_one ((at + len - 1) / 4096 == at / 4096) visited (at / 4096) ((at + len - 1) / 4096) q (Contains-append_left visited ((at / 4096) ∷ []) q c)
 
-first_in : (went : List ℕ) (at len : ℕ) → Contains (went_by went at len) (at / 4096)
+first_in : (visited : List ℕ) (at len : ℕ) → Contains (went_by visited at len) (at / 4096)
 unfolding went_by
-first_in went at len = by_one ((at + len - 1) / 4096 == at / 4096) went (at / 4096) ((at + len - 1) / 4096) (at / 4096) (Contains-push went (at / 4096))
+first_in visited at len = by_one ((at + len - 1) / 4096 == at / 4096) visited (at / 4096) ((at + len - 1) / 4096) (at / 4096) (Contains-push visited (at / 4096))
 
-last_in : (went : List ℕ) (at len : ℕ) → Contains (went_by went at len) ((at + len - 1) / 4096)
+last_in : (visited : List ℕ) (at len : ℕ) → Contains (went_by visited at len) ((at + len - 1) / 4096)
 unfolding went_by
-last_in went at len = choice ((at + len - 1) / 4096 == at / 4096) refl
+last_in visited at len = choice ((at + len - 1) / 4096 == at / 4096) refl
   where
-    choice : (one : Bool) → ((at + len - 1) / 4096 == at / 4096) ≡ one → Contains (cond one (went ++ (at / 4096) ∷ []) ((went ++ (at / 4096) ∷ []) ++ ((at + len - 1) / 4096) ∷ [])) ((at + len - 1) / 4096)
-    choice true is = subst (Contains (went ++ (at / 4096) ∷ [])) (sym (eq_told ((at + len - 1) / 4096) (at / 4096) is)) (Contains-push went (at / 4096))
-    choice false is = Contains-push (went ++ (at / 4096) ∷ []) ((at + len - 1) / 4096)
+    choice : (one : Bool) → ((at + len - 1) / 4096 == at / 4096) ≡ one → Contains (cond one (visited ++ (at / 4096) ∷ []) ((visited ++ (at / 4096) ∷ []) ++ ((at + len - 1) / 4096) ∷ [])) ((at + len - 1) / 4096)
+    choice true is = subst (Contains (visited ++ (at / 4096) ∷ [])) (sym (eq_told ((at + len - 1) / 4096) (at / 4096) is)) (Contains-push visited (at / 4096))
+    choice false is = Contains-push (visited ++ (at / 4096) ∷ []) ((at + len - 1) / 4096)
 
-still_in : (cpu : Cpu) (s t : Space) (write : Bool) (o : Option Range) (q : ℕ) → reached cpu write o s ≡ Ok (tt, t) → Contains s.went q → Contains t.went q
-still_in cpu s t write None q e c = let p : ◌≡◌ {A = Unit {0} × Space} (tt, s) (tt, t) = cc in subst (λ (x : Space). Contains x.went q) (ap (λ (y : Unit {0} × Space). y.1) p) c
-still_in cpu s t write (Some r) q e c = subst (λ (l : List ℕ). Contains l q) (sym (range_went s t r.at r.len (record { write = write; user = cpu.cpl == 3 }) e)) (goes_on s.went r.at r.len q c)
+still_in : (cpu : Cpu) (s t : Space) (write : Bool) (o : Option Range) (q : ℕ) → reached cpu write o s ≡ Ok (tt, t) → Contains s.visited q → Contains t.visited q
+still_in cpu s t write None q e c = let p : ◌≡◌ {A = Unit {0} × Space} (tt, s) (tt, t) = cc in subst (λ (x : Space). Contains x.visited q) (ap (λ (y : Unit {0} × Space). y.1) p) c
+still_in cpu s t write (Some r) q e c = subst (λ (l : List ℕ). Contains l q) (sym (range_went s t r.at r.len (record { write = write; user = cpu.cpl == 3 }) e)) (goes_on s.visited r.at r.len q c)
 
 module _ (flags : EffectLaws) (m : Setting) (v : View) (b : State) (mode : m.mode ≡ wedge_mode m.image) (room : 4096 * m.frames ≤ length b.ram) (fit : AreBytes b.ram) (sound : AreWithin m b.set) (sees : Sees v b.cpu) (next : IsNext m v.kernel b) (small : b.cpu.regs.eip < 2 ^ 32) where
-  module _ (insn : Insn) (len : ℕ) (fetch read write : Space) (t : IsTranslated m b insn len fetch read write) (clear : AreClear b.set (b.cpu.cpl == 3) (wp_of b) [] (uses_of fetch.went (ranges_of insn b.cpu.regs))) where
+  module _ (insn : Insn) (len : ℕ) (fetch read write : Space) (t : IsTranslated m b insn len fetch read write) (clear : AreClear b.set (b.cpu.cpl == 3) (wp_of b) [] (uses_of fetch.visited (ranges_of insn b.cpu.regs))) where
     abbrev reads : Option Range
     reads = (ranges_of insn b.cpu.regs).read
 
@@ -138,24 +138,24 @@ module _ (flags : EffectLaws) (m : Setting) (v : View) (b : State) (mode : m.mod
 
     -- ---- the fetch
 
-    fetched_page : (page frame : ℕ) → Fetches m (settled b write) v.kernel page frame → Contains write.went page → Granted false page
+    fetched_page : (page frame : ℕ) → Fetches m (settled b write) v.kernel page frame → Contains write.visited page → Granted false page
     fetched_page page frame f there = granted m.image v.kernel (wp_of b) write false true page frame f.entry f.free (λ k e. absurd (let g : true ≡ false = e in cc)) (λ e. absurd (let g : false ≡ true = e in cc)) there
 
     next_is : next_page b.cpu.regs.eip / 4096 ≡ b.cpu.regs.eip / 4096 + 1
     next_is = omega arith
 
-    by_way : (y : Way (Fetches m (settled b write) v.kernel) write.ram b.cpu.regs.eip insn len) (page : ℕ) → Contains (went_of b.cpu.regs.eip y) page → Contains write.went page → Granted false page
+    by_way : (y : Way (Fetches m (settled b write) v.kernel) write.ram b.cpu.regs.eip insn len) (page : ℕ) → Contains (went_of b.cpu.regs.eip y) page → Contains write.visited page → Granted false page
     by_way (inl w) page c there =
         elim (head_cases (b.cpu.regs.eip / 4096) [] page c) [
-          | inl e ↦ subst (Granted false) e (fetched_page (b.cpu.regs.eip / 4096) w.frame w.page (subst (Contains write.went) (sym e) there))
+          | inl e ↦ subst (Granted false) e (fetched_page (b.cpu.regs.eip / 4096) w.frame w.page (subst (Contains write.visited) (sym e) there))
           | inr none ↦ absurd (no_more page none)
         ]
     by_way (inr w) page c there =
         elim (head_cases (b.cpu.regs.eip / 4096) ((next_page b.cpu.regs.eip / 4096) ∷ []) page c) [
-          | inl e ↦ subst (Granted false) e (fetched_page (b.cpu.regs.eip / 4096) w.frame w.page (subst (Contains write.went) (sym e) there))
+          | inl e ↦ subst (Granted false) e (fetched_page (b.cpu.regs.eip / 4096) w.frame w.page (subst (Contains write.visited) (sym e) there))
           | inr d ↦
               elim (head_cases (next_page b.cpu.regs.eip / 4096) [] page d) [
-                | inl e ↦ subst (Granted false) (sym next_is ∙ e) (fetched_page (b.cpu.regs.eip / 4096 + 1) w.next w.next_page (subst (Contains write.went) (sym (sym next_is ∙ e)) there))
+                | inl e ↦ subst (Granted false) (sym next_is ∙ e) (fetched_page (b.cpu.regs.eip / 4096 + 1) w.next w.next_page (subst (Contains write.visited) (sym (sym next_is ∙ e)) there))
                 | inr none ↦ absurd (no_more page none)
               ]
         ]
@@ -163,15 +163,15 @@ module _ (flags : EffectLaws) (m : Setting) (v : View) (b : State) (mode : m.mod
     abbrev first : again.Began flags m v b mode room fit sound sees next small insn len fetch
     first = again.first flags m v b mode room fit sound sees next small insn len fetch read write t clear
 
-    fetch_granted : (page : ℕ) → Contains fetch.went page → Granted false page
+    fetch_granted : (page : ℕ) → Contains fetch.visited page → Granted false page
     fetch_granted page c =
         let way = first.way write (again.whole flags m v b mode room fit sound sees next small insn len fetch read write t clear) in
         let pages = first.way_pages write (again.whole flags m v b mode room fit sound sees next small insn len fetch read write t clear) in
-        by_way way page (subst (λ (l : List ℕ). Contains l page) (first.went ∙ sym pages) c) (still_in b.cpu read write true writes page t.write (still_in b.cpu fetch read false reads page t.read c))
+        by_way way page (subst (λ (l : List ℕ). Contains l page) (first.visited ∙ sym pages) c) (still_in b.cpu read write true writes page t.write (still_in b.cpu fetch read false reads page t.read c))
 
     -- ---- ranges
 
-    range_granted : (w : Bool) (r : Range) → 1 ≤ r.len → again.HasRange flags m v b mode room fit sound sees next small write w r → (w ≡ true → Wrote r.at r.len write) → Contains write.went (r.at / 4096) → Contains write.went ((r.at + r.len - 1) / 4096) → IsRangeGranted m.image v.kernel (wp_of b) write w (Some r)
+    range_granted : (w : Bool) (r : Range) → 1 ≤ r.len → again.HasRange flags m v b mode room fit sound sees next small write w r → (w ≡ true → Wrote r.at r.len write) → Contains write.visited (r.at / 4096) → Contains write.visited ((r.at + r.len - 1) / 4096) → IsRangeGranted m.image v.kernel (wp_of b) write w (Some r)
     range_granted w r some h wrote there last_there = (
       granted m.image v.kernel (wp_of b) write w false (r.at / 4096) h.first h.has_first h.free_first (λ k e. let a = h.above k in omega (arith, a))
           (λ e. noted write r.at r.len h.first (wrote e) (first_noted write r.at r.len h.first (frame_is v.kernel (wp_of b) write.set w (r.at / 4096) h.first h.has_first))) there,
@@ -184,24 +184,24 @@ module _ (flags : EffectLaws) (m : Setting) (v : View) (b : State) (mode : m.mod
     unfolding again.HasRanges
     read_granted None short h e = tt
     read_granted (Some r) short h e =
-        let went = range_went fetch read r.at r.len (record { write = false; user = b.cpu.cpl == 3 }) e in
+        let visited = range_went fetch read r.at r.len (record { write = false; user = b.cpu.cpl == 3 }) e in
         range_granted false r short.0 h (λ x. absurd (let g : false ≡ true = x in cc))
-        (still_in b.cpu read write true writes (r.at / 4096) t.write (subst (λ (l : List ℕ). Contains l (r.at / 4096)) (sym went) (first_in fetch.went r.at r.len)))
-        (still_in b.cpu read write true writes ((r.at + r.len - 1) / 4096) t.write (subst (λ (l : List ℕ). Contains l ((r.at + r.len - 1) / 4096)) (sym went) (last_in fetch.went r.at r.len)))
+        (still_in b.cpu read write true writes (r.at / 4096) t.write (subst (λ (l : List ℕ). Contains l (r.at / 4096)) (sym visited) (first_in fetch.visited r.at r.len)))
+        (still_in b.cpu read write true writes ((r.at + r.len - 1) / 4096) t.write (subst (λ (l : List ℕ). Contains l ((r.at + r.len - 1) / 4096)) (sym visited) (last_in fetch.visited r.at r.len)))
 
     write_granted : (o : Option Range) → IsShort o → again.HasRanges flags m v b mode room fit sound sees next small write true o → reached b.cpu true o read ≡ Ok (tt, write) → IsRangeGranted m.image v.kernel (wp_of b) write true o
     unfolding again.HasRanges
     write_granted None short h e = tt
     write_granted (Some r) short h e =
-        let went = range_went read write r.at r.len (record { write = true; user = b.cpu.cpl == 3 }) e in
+        let visited = range_went read write r.at r.len (record { write = true; user = b.cpu.cpl == 3 }) e in
         range_granted true r short.0 h (λ x. range_wrote read write r.at r.len (b.cpu.cpl == 3) e)
-        (subst (λ (l : List ℕ). Contains l (r.at / 4096)) (sym went) (first_in read.went r.at r.len))
-        (subst (λ (l : List ℕ). Contains l ((r.at + r.len - 1) / 4096)) (sym went) (last_in read.went r.at r.len))
+        (subst (λ (l : List ℕ). Contains l (r.at / 4096)) (sym visited) (first_in read.visited r.at r.len))
+        (subst (λ (l : List ℕ). Contains l ((r.at + r.len - 1) / 4096)) (sym visited) (last_in read.visited r.at r.len))
 
     short : IsShort reads × IsShort writes
     short = again.short flags m v b mode room fit sound sees next small insn len fetch read write t clear
 
-    all_granted : AreGranted m.image v.kernel (wp_of b) write fetch.went (ranges_of insn b.cpu.regs)
+    all_granted : AreGranted m.image v.kernel (wp_of b) write fetch.visited (ranges_of insn b.cpu.regs)
     all_granted = record {
       fetch = fetch_granted;
       read = read_granted reads short.0 (again.read_end flags m v b mode room fit sound sees next small insn len fetch read write t clear) t.read;

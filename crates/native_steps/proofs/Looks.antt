@@ -153,7 +153,7 @@ module _ (user : Bool) (s t : Space) (page at : ℕ) where
   reading = record { write = false; user = user }
 
   abbrev seen_now : Space
-  seen_now = record s { pages = s.pages + 1; went = s.went ++ page ∷ [] }
+  seen_now = record s { pages = s.pages + 1; visited = s.visited ++ page ∷ [] }
 
   by_kept : (e : Entry) → usable (get s.set page) reading s.wp ≡ Some e → by_entry seen_now true page at reading (Some e) ≡ (Ready, t) → PageSeen reading (look s) (look t) page
   by_kept e found h = choice (is_barred s.mode true user page e.frame) h
@@ -279,11 +279,11 @@ module _ (m : Setting) (b : State) (kernel : Bool) (mode : m.mode ≡ wedge_mode
         ∙ ap (λ (l : List ℕ). uses_behind m b (marked b.ram x.marks) l (decoded l)) (sym first.bytes_are)
         ∙ ap (λ (l : List ℕ). uses_behind m b l p.front (decoded p.front)) (sym first.page.ram)
 
-    first_went : p.first.went ≡ eip / 4096 ∷ []
+    first_went : p.first.visited ≡ eip / 4096 ∷ []
     first_went = fetching_went (not kernel) eip (front_len eip) start p.front p.first p.reads
 
-    in_one : IsIn eip insn len p.front p.first t → fetch_uses b t.went ++ range_uses b (begins.Insn insn len) ≡ uses_seen m b
-    in_one h = ap (λ (l : List ℕ). fetch_uses b l ++ range_uses b (begins.Insn insn len)) (h.went ∙ first_went) ∙ sym (from_first ∙ ap (uses_behind m b p.first.ram p.front) h.is)
+    in_one : IsIn eip insn len p.front p.first t → fetch_uses b t.visited ++ range_uses b (begins.Insn insn len) ≡ uses_seen m b
+    in_one h = ap (λ (l : List ℕ). fetch_uses b l ++ range_uses b (begins.Insn insn len)) (h.visited ∙ first_went) ∙ sym (from_first ∙ ap (uses_behind m b p.first.ram p.front) h.is)
 
     module _ (h : IsPast (not kernel) eip insn len p.front p.first t) where
       abbrev next : ℕ
@@ -333,10 +333,10 @@ module _ (m : Setting) (b : State) (kernel : Bool) (mode : m.mode ≡ wedge_mode
       more_is : h.on.more ≡ bytes_seen (marked p.first.ram y.marks) y (next_page eip) longest
       more_is = second.bytes_are ∙ ap (λ (l : List ℕ). bytes_seen (marked l y.marks) y (next_page eip) longest) ram_is
 
-      went_is : t.went ≡ eip / 4096 ∷ next ∷ []
-      went_is = h.on.went ∙ ap (λ (l : List ℕ). l ++ next ∷ []) first_went
+      went_is : t.visited ≡ eip / 4096 ∷ next ∷ []
+      went_is = h.on.visited ∙ ap (λ (l : List ℕ). l ++ next ∷ []) first_went
 
-      in_two : fetch_uses b t.went ++ range_uses b (begins.Insn insn len) ≡ uses_seen m b
+      in_two : fetch_uses b t.visited ++ range_uses b (begins.Insn insn len) ≡ uses_seen m b
       in_two =
           ap (λ (l : List ℕ). fetch_uses b l ++ range_uses b (begins.Insn insn len)) went_is
           ∙ sym (
@@ -347,11 +347,11 @@ module _ (m : Setting) (b : State) (kernel : Bool) (mode : m.mode ≡ wedge_mode
           ∙ ap (λ (d : Decoded). fetch_uses b (eip / 4096 ∷ next ∷ []) ++ range_uses b d) (ap (λ (l : List ℕ). decoded (p.front ++ l)) (sym more_is) ∙ h.on.is)
           )
 
-    both_seen : IsIn eip insn len p.front p.first t ⊎ IsPast (not kernel) eip insn len p.front p.first t → fetch_uses b t.went ++ range_uses b (begins.Insn insn len) ≡ uses_seen m b
+    both_seen : IsIn eip insn len p.front p.first t ⊎ IsPast (not kernel) eip insn len p.front p.first t → fetch_uses b t.visited ++ range_uses b (begins.Insn insn len) ≡ uses_seen m b
     both_seen (inl h) = in_one h
     both_seen (inr h) = in_two h
 
-  found : (insn : Insn) (len : ℕ) (t : Space) → fetched (not kernel) eip start ≡ Ok (begins.Insn insn len, t) → fetch_uses b t.went ++ range_uses b (begins.Insn insn len) ≡ uses_seen m b
+  found : (insn : Insn) (len : ℕ) (t : Space) → fetched (not kernel) eip start ≡ Ok (begins.Insn insn len, t) → fetch_uses b t.visited ++ range_uses b (begins.Insn insn len) ≡ uses_seen m b
   found insn len t e =
       let p = fetch_parts (not kernel) eip insn len start t e in
       both_seen insn len t p (by_parts (not kernel) eip insn len p.front p.first t (decoded p.front) refl p.goes_on)

@@ -32,7 +32,7 @@ pub record At (m : Setting) (b : State) (s : Space) : Type 0 where
   pub ram : s.ram ≡ b.ram
   pub set : s.set ≡ b.set
   pub wp : s.wp ≡ wp_of b
-  pub went : AreKept b.set s.went
+  pub visited : AreKept b.set s.visited
   -- no walk was done
   pub tables : s.tables ≡ []
   pub own : Own
@@ -68,9 +68,9 @@ module _ (m : Setting) (b : State) (kernel : Bool) where
   abbrev pub IsFree : Bool → ℕ → ℕ → Type 0
   IsFree fetch page frame = is_barred (wedge_mode m.image) fetch (not kernel) page frame ≡ false
 
-  went_more : (went : List ℕ) (page : ℕ) (e : Entry) → AreKept b.set went → get b.set page ≡ Some e → AreKept b.set (went ++ page ∷ [])
-  went_more went page e h kept q c =
-      elim (Contains-append_cases went (page ∷ []) q c) [
+  went_more : (visited : List ℕ) (page : ℕ) (e : Entry) → AreKept b.set visited → get b.set page ≡ Some e → AreKept b.set (visited ++ page ∷ [])
+  went_more visited page e h kept q c =
+      elim (Contains-append_cases visited (page ∷ []) q c) [
         | inl before ↦ h q before
         | inr last ↦ (e, ap (get b.set) (one_there page q last) ∙ kept)
       ]
@@ -87,7 +87,7 @@ module _ (m : Setting) (b : State) (kernel : Bool) where
   unfolding page_uses
   page_passes s fetch page at write frame h lent free =
       let access : Access = by_side write in
-      let t : Space = record s { pages = s.pages + 1; went = s.went ++ page ∷ [] } in
+      let t : Space = record s { pages = s.pages + 1; visited = s.visited ++ page ∷ [] } in
       let e : Entry = lent.entry in
       let kept : get s.set page ≡ Some e = ap (λ (set : FinMap nat_cmp Entry). get set page) h.set ∙ lent.kept in
       let allowed : allows e access s.wp ≡ true = ap (allows e access) h.wp ∙ lent.allowed in
@@ -97,7 +97,7 @@ module _ (m : Setting) (b : State) (kernel : Bool) where
       record {
         space = t;
         is = ap (by_entry t fetch page at access) used ∙ passed_by (is_barred s.mode fetch (not kernel) page e.frame) (Stop stops.TextMapped, t) (Ready, t) barred;
-        at = record { ram = h.ram; set = h.set; wp = h.wp; went = went_more s.went page e h.went lent.kept; tables = h.tables; own = h.own; mode = h.mode };
+        at = record { ram = h.ram; set = h.set; wp = h.wp; visited = went_more s.visited page e h.visited lent.kept; tables = h.tables; own = h.own; mode = h.mode };
       }
 
   passes_then : (o : Touch × Space) (f : Space → Touch × Space) → Passes m b o → ((t : Space) → At m b t → Passes m b (f t)) → Passes m b (and_then o f)
@@ -105,10 +105,10 @@ module _ (m : Setting) (b : State) (kernel : Bool) where
 
   made : (at len : ℕ) (write : Bool) (s : Space) → At m b s → Passes m b (made_ready at len write s)
   made at len write s h =
-      record { space = (made_ready at len write s).1; is = refl; at = record { ram = h.ram; set = h.set; wp = h.wp; went = h.went; tables = h.tables; own = h.own; mode = h.mode } }
+      record { space = (made_ready at len write s).1; is = refl; at = record { ram = h.ram; set = h.set; wp = h.wp; visited = h.visited; tables = h.tables; own = h.own; mode = h.mode } }
 
   unready_at : (s : Space) → At m b s → At m b (unready s)
-  unready_at s h = record { ram = h.ram; set = h.set; wp = h.wp; went = h.went; tables = h.tables; own = h.own; mode = h.mode }
+  unready_at s h = record { ram = h.ram; set = h.set; wp = h.wp; visited = h.visited; tables = h.tables; own = h.own; mode = h.mode }
 
   second_choice : (test : Bool) (o : Touch × Space) (s : Space) → At m b s → (test ≡ false → Passes m b o) → Passes m b (cond test (Ready, s) o)
   second_choice true o s h p = record { space = s; is = refl; at = h }

@@ -88,7 +88,7 @@ module _ (flags : EffectLaws) (m : Setting) (v : View) (b : State) (mode : m.mod
   pub record Began (insn : Insn) (len : ℕ) (t : Space) : Type 0 where
     pub within : IsWithin m b v.kernel t
     pub pages : List ℕ
-    pub went : t.went ≡ pages
+    pub visited : t.visited ≡ pages
     pub shape : IsShaped insn
     pub way : (last : Space) → Through m b v.kernel (after [] (map (used false) pages)) t last → Way (Fetches m (settled b last) v.kernel) last.ram b.cpu.regs.eip insn len
     pub way_pages : (last : Space) (th : Through m b v.kernel (after [] (map (used false) pages)) t last) → went_of b.cpu.regs.eip (way last th) ≡ pages
@@ -96,12 +96,12 @@ module _ (flags : EffectLaws) (m : Setting) (v : View) (b : State) (mode : m.mod
   moved : (ps : List ℕ) (s t last : Space) → s ≡ t → Through m b v.kernel ps t last → Through m b v.kernel ps s last
   moved ps s t last e th = subst (λ (x : Space). Through m b v.kernel ps x last) (sym e) th
 
-  began : (insn : Insn) (len : ℕ) (t : Space) (rest : List Use) → fetched (not v.kernel) b.cpu.regs.eip start ≡ Ok (begins.Insn insn len, t) → Clear [] (map (used false) t.went ++ rest) → Began insn len t
+  began : (insn : Insn) (len : ℕ) (t : Space) (rest : List Use) → fetched (not v.kernel) b.cpu.regs.eip start ≡ Ok (begins.Insn insn len, t) → Clear [] (map (used false) t.visited ++ rest) → Began insn len t
   began insn len t rest e clear =
       let p = fetch_parts (not v.kernel) b.cpu.regs.eip insn len start t e in
       by_end p (by_parts (not v.kernel) b.cpu.regs.eip insn len p.front p.first t (decoded p.front) refl p.goes_on)
     where
-      first_went : (p : IsFetch (not v.kernel) b.cpu.regs.eip insn len start t) → p.first.went ≡ (b.cpu.regs.eip / 4096) ∷ []
+      first_went : (p : IsFetch (not v.kernel) b.cpu.regs.eip insn len start t) → p.first.visited ≡ (b.cpu.regs.eip / 4096) ∷ []
       first_went p = fetching_went (not v.kernel) b.cpu.regs.eip (front_len b.cpu.regs.eip) start p.front p.first p.reads
 
       by_end : (p : IsFetch (not v.kernel) b.cpu.regs.eip insn len start t) → IsIn b.cpu.regs.eip insn len p.front p.first t ⊎ IsPast (not v.kernel) b.cpu.regs.eip insn len p.front p.first t → Began insn len t
@@ -113,20 +113,20 @@ module _ (flags : EffectLaws) (m : Setting) (v : View) (b : State) (mode : m.mod
             within = subst (IsWithin m b v.kernel) is (within_as m b v.kernel p.first (record p.first { mode = Rattle.paging.specs.Uses.with_front p.first.mode (place p.first b.cpu.regs.eip) len }) w refl refl refl refl refl refl
                 (record { front = place p.first b.cpu.regs.eip; front_len = len; back = 0; back_len = 0 }) (ap (λ (y : Mode). Rattle.paging.specs.Uses.with_front y (place p.first b.cpu.regs.eip) len) w.mode));
             pages = (b.cpu.regs.eip / 4096) ∷ [];
-            went = x.went ∙ first_went p;
+            visited = x.visited ∙ first_went p;
             shape = decoded_shaped p.front insn len x.is;
             way = λ last th. inl (in_way m b v.kernel mode room fit sound small insn len t p x last (moved ((b.cpu.regs.eip / 4096) ∷ []) _ t last is th));
             way_pages = λ last th. refl;
           }
       by_end p (inr x) =
-          let went : t.went ≡ (b.cpu.regs.eip / 4096) ∷ (next_page b.cpu.regs.eip / 4096) ∷ [] = x.on.went ∙ ap (λ (l : List ℕ). l ++ (next_page b.cpu.regs.eip / 4096) ∷ []) (first_went p) in
-          let c = subst (λ (l : List ℕ). Clear [] (map (used false) l ++ rest)) went clear in
+          let visited : t.visited ≡ (b.cpu.regs.eip / 4096) ∷ (next_page b.cpu.regs.eip / 4096) ∷ [] = x.on.visited ∙ ap (λ (l : List ℕ). l ++ (next_page b.cpu.regs.eip / 4096) ∷ []) (first_went p) in
+          let c = subst (λ (l : List ℕ). Clear [] (map (used false) l ++ rest)) visited clear in
           let served = c.1.0 in
           let is = left_is m b v.kernel mode room fit sound small insn len t p x served in
           record {
             within = subst (IsWithin m b v.kernel) is (left_in m b v.kernel mode room fit sound small insn len t p x served);
             pages = (b.cpu.regs.eip / 4096) ∷ (next_page b.cpu.regs.eip / 4096) ∷ [];
-            went = went;
+            visited = visited;
             shape = decoded_shaped (p.front ++ x.on.more) insn len x.on.is;
             way = λ last th. inr (across_way m b v.kernel mode room fit sound small insn len t p x served last (moved ((next_page b.cpu.regs.eip / 4096) ∷ (b.cpu.regs.eip / 4096) ∷ []) _ t last is th));
             way_pages = λ last th. refl;
@@ -241,7 +241,7 @@ module _ (flags : EffectLaws) (m : Setting) (v : View) (b : State) (mode : m.mod
     reached_again s write (Some r) h g = range_again s write r h g
 
     at_start : At m (settled b last) (space_at_start m.mode m.frames b.cpu last.ram last.set)
-    at_start = record { ram = refl; set = refl; wp = refl; went = λ q c. absurd (let lt = c.1 in omega (arith, lt)); tables = refl; own = record { front = 0; front_len = 0; back = 0; back_len = 0 }; mode = mode }
+    at_start = record { ram = refl; set = refl; wp = refl; visited = λ q c. absurd (let lt = c.1 in omega (arith, lt)); tables = refl; own = record { front = 0; front_len = 0; back = 0; back_len = 0 }; mode = mode }
 
   -- an address of a range has the same place then
   place_of : (s : Space) (write : Bool) (page frame x : ℕ) → x / 4096 ≡ page → HasEntry v.kernel (wp_of b) s.set write page frame → place s x ≡ 4096 * frame + x % 4096
@@ -264,7 +264,7 @@ module _ (flags : EffectLaws) (m : Setting) (v : View) (b : State) (mode : m.mod
 
   -- ---- the step
 
-  module _ (insn : Insn) (len : ℕ) (fetch read write : Space) (t : IsTranslated m b insn len fetch read write) (clear : AreClear b.set (b.cpu.cpl == 3) (wp_of b) [] (uses_of fetch.went (ranges_of insn b.cpu.regs))) where
+  module _ (insn : Insn) (len : ℕ) (fetch read write : Space) (t : IsTranslated m b insn len fetch read write) (clear : AreClear b.set (b.cpu.cpl == 3) (wp_of b) [] (uses_of fetch.visited (ranges_of insn b.cpu.regs))) where
     abbrev reads : Option Range
     reads = (ranges_of insn b.cpu.regs).read
 
@@ -277,8 +277,8 @@ module _ (flags : EffectLaws) (m : Setting) (v : View) (b : State) (mode : m.mod
     fetch_is : fetched (not v.kernel) b.cpu.regs.eip start ≡ Ok (begins.Insn insn len, fetch)
     fetch_is = ap (λ (u : Bool). fetched u b.cpu.regs.eip start) (sym user) ∙ t.fetched
 
-    all_clear : Clear [] (map (used false) fetch.went ++ (range_uses false reads ++ range_uses true writes))
-    all_clear = subst (λ (u : Bool). AreClear b.set u (wp_of b) [] (uses_of fetch.went (ranges_of insn b.cpu.regs))) user clear
+    all_clear : Clear [] (map (used false) fetch.visited ++ (range_uses false reads ++ range_uses true writes))
+    all_clear = subst (λ (u : Bool). AreClear b.set u (wp_of b) [] (uses_of fetch.visited (ranges_of insn b.cpu.regs))) user clear
 
     pub first : Began insn len fetch
     first = began insn len fetch (range_uses false reads ++ range_uses true writes) fetch_is all_clear
@@ -288,7 +288,7 @@ module _ (flags : EffectLaws) (m : Setting) (v : View) (b : State) (mode : m.mod
 
     rest : Clear fetch_pages (range_uses false reads) × Clear (after fetch_pages (range_uses false reads)) (range_uses true writes)
     rest =
-        let c = subst (λ (l : List ℕ). Clear [] (map (used false) l ++ (range_uses false reads ++ range_uses true writes))) first.went all_clear in
+        let c = subst (λ (l : List ℕ). Clear [] (map (used false) l ++ (range_uses false reads ++ range_uses true writes))) first.visited all_clear in
         clear_split b.set (not v.kernel) (wp_of b) (range_uses false reads) (range_uses true writes) fetch_pages
         (clear_split b.set (not v.kernel) (wp_of b) (map (used false) first.pages) (range_uses false reads ++ range_uses true writes) [] c).1
 
@@ -335,7 +335,7 @@ module _ (flags : EffectLaws) (m : Setting) (v : View) (b : State) (mode : m.mod
       write = again_write.is;
     }
 
-    same_went : again_write.space.went ≡ write.went
+    same_went : again_write.space.visited ≡ write.visited
     same_went =
         range_goes b.cpu again_read.space again_write.space true writes again_write.is
         ∙ ap (λ (l : List ℕ). went_after l writes)
@@ -343,7 +343,7 @@ module _ (flags : EffectLaws) (m : Setting) (v : View) (b : State) (mode : m.mod
         ∙ ap (λ (l : List ℕ). went_after l reads)
         (way_went m (settled b write) v.kernel (space_at_start m.mode m.frames b.cpu write.ram write.set) again_fetch.space b.cpu.regs.eip insn len (at_start write) refl (first.way write whole) again_fetch.is
         ∙ first.way_pages write whole
-        ∙ sym first.went)
+        ∙ sym first.visited)
         ∙ sym (range_goes b.cpu fetch read false reads t.read))
         ∙ sym (range_goes b.cpu read write true writes t.write)
 
@@ -383,7 +383,7 @@ module _ (flags : EffectLaws) (m : Setting) (v : View) (b : State) (mode : m.mod
     again_bytes x = choice (is_in reads x)
       where
         mixed : At m (settled b write) (with_ram again_read.space again_write.space.ram)
-        mixed = record { ram = again_write.at.ram; set = again_read.at.set; wp = again_read.at.wp; went = again_read.at.went; tables = again_read.at.tables; own = again_read.at.own; mode = again_read.at.mode }
+        mixed = record { ram = again_write.at.ram; set = again_read.at.set; wp = again_read.at.wp; visited = again_read.at.visited; tables = again_read.at.tables; own = again_read.at.own; mode = again_read.at.mode }
 
         choice : (i : Bool) → cond i (byte_at (with_ram again_read.space again_write.space.ram) x) (byte_at again_write.space x) ≡ byte_of (settled b write) x
         choice true = again_byte (with_ram again_read.space again_write.space.ram) mixed x
@@ -405,25 +405,25 @@ module _ (flags : EffectLaws) (m : Setting) (v : View) (b : State) (mode : m.mod
 
     -- what is left of a step that is done
     abbrev finish : List ℕ → FinMap nat_cmp Entry → List ℕ → List ℕ → List ℕ → Regs → Stores → Result
-    finish ram set went tables wrote regs stores =
+    finish ram set visited tables wrote regs stores =
         after_instruction m (unheld b) (begun b insn)
-        (done_by (unheld b).cpu (record write { ram = all_stored (λ x. place_by (get set (x / 4096)) x) ram (list_of stores); set = set; went = went; tables = tables; wrote = wrote }) (outcomes.Done regs Nothing))
+        (done_by (unheld b).cpu (record write { ram = all_stored (λ x. place_by (get set (x / 4096)) x) ram (list_of stores); set = set; visited = visited; tables = tables; wrote = wrote }) (outcomes.Done regs Nothing))
 
-    finished_is : (s : Space) (regs : Regs) (stores : Stores) → after_instruction m (unheld b) (begun b insn) (done_by (unheld b).cpu s (outcomes.Done regs stores)) ≡ finish s.ram s.set s.went s.tables s.wrote regs stores
+    finished_is : (s : Space) (regs : Regs) (stores : Stores) → after_instruction m (unheld b) (begun b insn) (done_by (unheld b).cpu s (outcomes.Done regs stores)) ≡ finish s.ram s.set s.visited s.tables s.wrote regs stores
     unfolding place
     finished_is s regs stores =
         ap (λ (x : Space). after_instruction m (unheld b) (begun b insn) (Ok (record { cpu = record (unheld b).cpu { regs = regs }; effect = effects.Next }, x))) (stored_is s (list_of stores))
 
     -- with other notes
-    noted : (ram : List ℕ) (set : FinMap nat_cmp Entry) (went tables wrote others news : List ℕ) (regs : Regs) (stores : Stores) (report : Report) (after_state : State)
-        → finish ram set went tables wrote regs stores ≡ Went report after_state → finish ram set went others news regs stores ≡ Went (record report { tables = others; wrote = news }) after_state
-    noted ram set went tables wrote others news regs stores report after_state e = by_test (Rattle.machine_model.specs.Rules.may_leave m.mode (unheld b).cpu (record (unheld b).cpu { regs = regs })) e
+    noted : (ram : List ℕ) (set : FinMap nat_cmp Entry) (visited tables wrote others news : List ℕ) (regs : Regs) (stores : Stores) (report : Report) (after_state : State)
+        → finish ram set visited tables wrote regs stores ≡ Went report after_state → finish ram set visited others news regs stores ≡ Went (record report { tables = others; wrote = news }) after_state
+    noted ram set visited tables wrote others news regs stores report after_state e = by_test (Rattle.machine_model.specs.Rules.may_leave m.mode (unheld b).cpu (record (unheld b).cpu { regs = regs })) e
       where
         by_test : (c : Bool) → cond {A = Result} c
-            (Went (record { items = []; completed = Some (begun b insn); pages = went; tables = tables; wrote = wrote })
+            (Went (record { items = []; completed = Some (begun b insn); pages = visited; tables = tables; wrote = wrote })
             (record { cpu = record (unheld b).cpu { regs = regs }; ram = all_stored (λ x. place_by (get set (x / 4096)) x) ram (list_of stores); set = set; board = Rattle.board.specs.Boards.board_step b.board; step = b.step + 1 })) (Stands stops.UserFlags) ≡ Went report after_state
             → cond {A = Result} c
-            (Went (record { items = []; completed = Some (begun b insn); pages = went; tables = others; wrote = news })
+            (Went (record { items = []; completed = Some (begun b insn); pages = visited; tables = others; wrote = news })
             (record { cpu = record (unheld b).cpu { regs = regs }; ram = all_stored (λ x. place_by (get set (x / 4096)) x) ram (list_of stores); set = set; board = Rattle.board.specs.Boards.board_step b.board; step = b.step + 1 })) (Stands stops.UserFlags)
             ≡ Went (record report { tables = others; wrote = news }) after_state
         by_test true g = ap (λ (o : Result). renoted others news o) g
@@ -443,7 +443,7 @@ module _ (flags : EffectLaws) (m : Setting) (v : View) (b : State) (mode : m.mod
         ∙ instructed_is m (unheld b) (begun b insn) flags.agree (selectors_of v) (unheld b).cpu (selects_by v b.cpu sees) fetch read write insn len user_held first.shape t.permitted (record { free = t.segments; read = t.read; write = t.write })
         ∙ ap (λ (o : exec.Outcome). after_instruction m (unheld b) (begun b insn) (done_by (unheld b).cpu write o)) same_effect
 
-    original : (regs : Regs) (stores : Stores) → effect_of v (settled b write) insn len ≡ outcomes.Done regs stores → stepped m b ≡ finish write.ram write.set write.went write.tables write.wrote regs stores
+    original : (regs : Regs) (stores : Stores) → effect_of v (settled b write) insn len ≡ outcomes.Done regs stores → stepped m b ≡ finish write.ram write.set write.visited write.tables write.wrote regs stores
     original regs stores e =
         outcome
         ∙ ap (λ (o : exec.Outcome). after_instruction m (unheld b) (begun b insn) (done_by (unheld b).cpu write o)) e
@@ -452,7 +452,7 @@ module _ (flags : EffectLaws) (m : Setting) (v : View) (b : State) (mode : m.mod
     next_again : IsNext m v.kernel (settled b write)
     next_again = record { awake = next.awake; quiet = next.quiet; small = next.small; start = next.start; outside = next.outside }
 
-    repeated : (regs : Regs) (stores : Stores) → effect_of v (settled b write) insn len ≡ outcomes.Done regs stores → stepped m (settled b write) ≡ finish again_write.space.ram again_write.space.set again_write.space.went again_write.space.tables again_write.space.wrote regs stores
+    repeated : (regs : Regs) (stores : Stores) → effect_of v (settled b write) insn len ≡ outcomes.Done regs stores → stepped m (settled b write) ≡ finish again_write.space.ram again_write.space.set again_write.space.visited again_write.space.tables again_write.space.wrote regs stores
     repeated regs stores e =
         stepped_by m v.kernel (settled b write) sees.level next_again
         ∙ ap (after_fetch m (unheld (settled b write))) again_translated.fetched
@@ -472,14 +472,14 @@ module _ (flags : EffectLaws) (m : Setting) (v : View) (b : State) (mode : m.mod
       translated = again_translated;
       ram = again_write.at.ram;
       set = again_write.at.set;
-      went = same_went;
+      visited = same_went;
       same = λ regs stores e report after_state g.
-          let there : finish write.ram write.set write.went again_write.space.tables again_write.space.wrote regs stores ≡ Went report after_state =
-          ap (λ (l : List ℕ). finish l write.set write.went again_write.space.tables again_write.space.wrote regs stores) (sym again_write.at.ram)
-          ∙ ap (λ (x : FinMap nat_cmp Entry). finish again_write.space.ram x write.went again_write.space.tables again_write.space.wrote regs stores) (sym again_write.at.set)
+          let there : finish write.ram write.set write.visited again_write.space.tables again_write.space.wrote regs stores ≡ Went report after_state =
+          ap (λ (l : List ℕ). finish l write.set write.visited again_write.space.tables again_write.space.wrote regs stores) (sym again_write.at.ram)
+          ∙ ap (λ (x : FinMap nat_cmp Entry). finish again_write.space.ram x write.visited again_write.space.tables again_write.space.wrote regs stores) (sym again_write.at.set)
           ∙ ap (λ (l : List ℕ). finish again_write.space.ram again_write.space.set l again_write.space.tables again_write.space.wrote regs stores) (sym same_went)
           ∙ sym (repeated regs stores e)
           ∙ g in
           original regs stores e
-          ∙ noted write.ram write.set write.went again_write.space.tables again_write.space.wrote write.tables write.wrote regs stores report after_state there;
+          ∙ noted write.ram write.set write.visited again_write.space.tables again_write.space.wrote write.tables write.wrote regs stores report after_state there;
     }

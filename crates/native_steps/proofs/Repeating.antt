@@ -130,7 +130,7 @@ module _ (m : Setting) (b : State) (kernel : Bool) (mode : m.mode ≡ wedge_mode
   pub record Fetched (insn : Insn) (len : ℕ) (t : Space) : Type 0 where
     pub within : IsWithin m b kernel t
     pub pages : List ℕ
-    pub went : t.went ≡ pages
+    pub visited : t.visited ≡ pages
     pub shape : IsShaped insn
     pub way : (last : Space) → Through m b kernel (after [] (map (used false) pages)) t last → Way (Fetches m (settled b last) kernel) last.ram b.cpu.regs.eip insn len
 

@@ -163,7 +163,7 @@ module _ (flags : EffectLaws) (m : Setting) (w : IsWedge m) (memory : List ℕ) 
   -- ---- the start of the step
 
   pub at_start : At m b (space_at_start m.mode m.frames b.cpu b.ram b.set)
-  at_start = record { ram = refl; set = refl; wp = refl; went = λ q c. absurd (let lt = c.1 in omega (arith, lt)); tables = refl; own = record { front = 0; front_len = 0; back = 0; back_len = 0 }; mode = w.mode }
+  at_start = record { ram = refl; set = refl; wp = refl; visited = λ q c. absurd (let lt = c.1 in omega (arith, lt)); tables = refl; own = record { front = 0; front_len = 0; back = 0; back_len = 0 }; mode = w.mode }
 
   pub stepped_is : stepped m b ≡ after_fetch m (unheld b) (fetched (b.cpu.cpl == 3) b.cpu.regs.eip (space_at_start m.mode m.frames b.cpu b.ram b.set))
   stepped_is = stepped_by m v.kernel b stands.sees.level next
@@ -235,7 +235,7 @@ module _ (flags : EffectLaws) (m : Setting) (w : IsWedge m) (memory : List ℕ) 
     by_bytes o s t h k a = choice (is_in o a)
       where
         mixed : At m b (with_ram s t.ram)
-        mixed = record { ram = k.ram; set = h.set; wp = h.wp; went = h.went; tables = h.tables; own = h.own; mode = h.mode }
+        mixed = record { ram = k.ram; set = h.set; wp = h.wp; visited = h.visited; tables = h.tables; own = h.own; mode = h.mode }
 
         choice : (i : Bool) → cond i (byte_at (with_ram s t.ram) a) (byte_at t a) ≡ byte_of b a
         choice true = bytes_at (with_ram s t.ram) mixed a
@@ -261,7 +261,7 @@ module _ (flags : EffectLaws) (m : Setting) (w : IsWedge m) (memory : List ℕ) 
           space = x.space;
           ram = x.at.ram;
           set = x.at.set;
-          went = x.at.went;
+          visited = x.at.visited;
           tables = x.at.tables;
           guest =
               stepped_is

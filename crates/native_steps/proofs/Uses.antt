@@ -26,7 +26,7 @@ by_entry_earlier s fetch page at access (Some e) = either (is_barred s.mode fetc
 
 page_earlier : (s : Space) (fetch : Bool) (page at : ℕ) (access : Access) → (page_uses s fetch page at access).1.earlier ≡ s.earlier
 unfolding page_uses
-page_earlier s fetch page at access = by_entry_earlier (record s { pages = s.pages + 1; went = s.went ++ page ∷ [] }) fetch page at access (usable (get s.set page) access s.wp)
+page_earlier s fetch page at access = by_entry_earlier (record s { pages = s.pages + 1; visited = s.visited ++ page ∷ [] }) fetch page at access (usable (get s.set page) access s.wp)
 
 on_earlier : (o : Touch) (s : Space) (f : Space → Touch × Space) → ((t : Space) → (f t).1.earlier ≡ t.earlier) → (go_on o s f).1.earlier ≡ s.earlier
 on_earlier Ready s f h = h s
@@ -99,45 +99,45 @@ window_above true at e k = le_told 285212672 at (told (nat_le 285212672 at) (nat
 -- ---- through which pages a range goes
 
 unfoldable pub went_by : List ℕ → ℕ → ℕ → List ℕ
-went_by went at len = cond ((at + len - 1) / 4096 == at / 4096) (went ++ (at / 4096) ∷ []) ((went ++ (at / 4096) ∷ []) ++ ((at + len - 1) / 4096) ∷ [])
+went_by visited at len = cond ((at + len - 1) / 4096 == at / 4096) (visited ++ (at / 4096) ∷ []) ((visited ++ (at / 4096) ∷ []) ++ ((at + len - 1) / 4096) ∷ [])
 
-made_went : (o : Touch) (s : Space) (at len : ℕ) (write : Bool) → (go_on o s (made_ready at len write)).1.went ≡ s.went
+made_went : (o : Touch) (s : Space) (at len : ℕ) (write : Bool) → (go_on o s (made_ready at len write)).1.visited ≡ s.visited
 made_went Ready s at len write = refl
 made_went (Fault code cr2) s at len write = refl
 made_went (Stop stop) s at len write = refl
 
-second_went : (s t : Space) (at len : ℕ) (access : Access) → t.went ≡ s.went ++ (at / 4096) ∷ [] → (second_page at len access t).1.went ≡ went_by s.went at len
+second_went : (s t : Space) (at len : ℕ) (access : Access) → t.visited ≡ s.visited ++ (at / 4096) ∷ [] → (second_page at len access t).1.visited ≡ went_by s.visited at len
 unfolding went_by
 second_went s t at len access e = choice ((at + len - 1) / 4096 == at / 4096)
   where
-    choice : (one : Bool) → (cond {A = Touch × Space} one (Ready, t) (page_uses t false ((at + len - 1) / 4096) ((at + len - 1) / 4096 * 4096) access)).1.went
-        ≡ cond one (s.went ++ (at / 4096) ∷ []) ((s.went ++ (at / 4096) ∷ []) ++ ((at + len - 1) / 4096) ∷ [])
+    choice : (one : Bool) → (cond {A = Touch × Space} one (Ready, t) (page_uses t false ((at + len - 1) / 4096) ((at + len - 1) / 4096 * 4096) access)).1.visited
+        ≡ cond one (s.visited ++ (at / 4096) ∷ []) ((s.visited ++ (at / 4096) ∷ []) ++ ((at + len - 1) / 4096) ∷ [])
     choice true = e
     choice false = page_went t false ((at + len - 1) / 4096) ((at + len - 1) / 4096 * 4096) access ∙ ap (λ (x : List ℕ). x ++ ((at + len - 1) / 4096) ∷ []) e
 
-pages_went : (s : Space) (at len : ℕ) (access : Access) → (by_pages at len access s).0 ≡ Ready → (by_pages at len access s).1.went ≡ went_by s.went at len
+pages_went : (s : Space) (at len : ℕ) (access : Access) → (by_pages at len access s).0 ≡ Ready → (by_pages at len access s).1.visited ≡ went_by s.visited at len
 pages_went s at len access e = first (page_uses s false (at / 4096) at access).0 (page_uses s false (at / 4096) at access).1 (page_went s false (at / 4096) at access) e
   where
-    first : (o : Touch) (t : Space) → t.went ≡ s.went ++ (at / 4096) ∷ [] → (go_on o t (λ u. and_then (second_page at len access u) (made_ready at len access.write))).0 ≡ Ready
-        → (go_on o t (λ u. and_then (second_page at len access u) (made_ready at len access.write))).1.went ≡ went_by s.went at len
+    first : (o : Touch) (t : Space) → t.visited ≡ s.visited ++ (at / 4096) ∷ [] → (go_on o t (λ u. and_then (second_page at len access u) (made_ready at len access.write))).0 ≡ Ready
+        → (go_on o t (λ u. and_then (second_page at len access u) (made_ready at len access.write))).1.visited ≡ went_by s.visited at len
     first Ready t w f = made_went (second_page at len access t).0 (second_page at len access t).1 at len access.write ∙ second_went s t at len access w
     first (Fault code cr2) t w f = absurd cc
     first (Stop stop) t w f = absurd cc
 
-uses_went : (s : Space) (at len : ℕ) (access : Access) → (uses s at len access).0 ≡ Ready → (uses s at len access).1.went ≡ went_by s.went at len
+uses_went : (s : Space) (at len : ℕ) (access : Access) → (uses s at len access).0 ≡ Ready → (uses s at len access).1.visited ≡ went_by s.visited at len
 unfolding uses
 uses_went s at len access e = either (nat_lt (2 ^ 32) (at + len)) e
   where
-    window : (w : Option reason.Stop) → (by_window w at len access (unready s)).0 ≡ Ready → (by_window w at len access (unready s)).1.went ≡ went_by s.went at len
+    window : (w : Option reason.Stop) → (by_window w at len access (unready s)).0 ≡ Ready → (by_window w at len access (unready s)).1.visited ≡ went_by s.visited at len
     window None f = pages_went (unready s) at len access f
     window (Some stop) f = absurd cc
 
     either : (wraps : Bool) → (cond {A = Touch × Space} wraps (Stop stops.WrapAccess, unready s) (by_window (window_stop s.mode access at) at len access (unready s))).0 ≡ Ready
-        → (cond {A = Touch × Space} wraps (Stop stops.WrapAccess, unready s) (by_window (window_stop s.mode access at) at len access (unready s))).1.went ≡ went_by s.went at len
+        → (cond {A = Touch × Space} wraps (Stop stops.WrapAccess, unready s) (by_window (window_stop s.mode access at) at len access (unready s))).1.visited ≡ went_by s.visited at len
     either true f = absurd cc
     either false f = window (window_stop s.mode access at) f
 
-pub range_went : (s t : Space) (at len : ℕ) (access : Access) → reaching at len access s ≡ Ok (tt, t) → t.went ≡ went_by s.went at len
+pub range_went : (s t : Space) (at len : ℕ) (access : Access) → reaching at len access s ≡ Ok (tt, t) → t.visited ≡ went_by s.visited at len
 range_went s t at len access e =
     let p = reaching_uses s t at len access e in
-    ap (λ (x : Space). x.went) (sym p.1) ∙ uses_went s at len access p.0
+    ap (λ (x : Space). x.visited) (sym p.1) ∙ uses_went s at len access p.0

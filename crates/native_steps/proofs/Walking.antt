@@ -144,7 +144,7 @@ module _ (m : Setting) (b : State) (kernel : Bool) where
 
   module _ (s t : Space) (fetch : Bool) (page at : ℕ) (write : Bool) (h : IsWithin s) where
     abbrev seen : Space
-    seen = record s { pages = s.pages + 1; went = s.went ++ page ∷ [] }
+    seen = record s { pages = s.pages + 1; visited = s.visited ++ page ∷ [] }
 
     by_entry_leaves : (e : Entry) → usable (get s.set page) (side write) s.wp ≡ Some e → by_entry seen fetch page at (side write) (Some e) ≡ (Ready, t) → Leaves s t page write fetch
     by_entry_leaves e found x =
@@ -170,7 +170,7 @@ module _ (m : Setting) (b : State) (kernel : Bool) where
     -- ---- by a walk
 
     module _ (small : page < 2 ^ 20) (none : usable (get s.set page) (side write) s.wp ≡ None) (r : IsReadied (tables_of s) fetch page (side write) (decided (tables_of s) fetch page at (side write)))
-        (t_is : record s { pages = s.pages + 1; went = s.went ++ page ∷ []; ram = flagged s.ram r.dir_at r.word_at write; set = insert s.set page (dirtied r.entry write); tables = s.tables ++ tables_read s.ram s.frames s.cr3 s.pse page } ≡ t)
+        (t_is : record s { pages = s.pages + 1; visited = s.visited ++ page ∷ []; ram = flagged s.ram r.dir_at r.word_at write; set = insert s.set page (dirtied r.entry write); tables = s.tables ++ tables_read s.ram s.frames s.cr3 s.pse page } ≡ t)
       where
         ram_is : flagged s.ram r.dir_at r.word_at write ≡ t.ram
         ram_is = ap (λ (x : Space). x.ram) t_is

@@ -31,7 +31,7 @@ pub record StepsAgain (m : Setting) (v : View) (b : State) (insn : Insn) (len : 
   pub translated : IsTranslated m (settled b write) insn len fetched reads writes
   pub ram : writes.ram ≡ write.ram
   pub set : writes.set ≡ write.set
-  pub went : writes.went ≡ write.went
+  pub visited : writes.visited ≡ write.visited
   -- and what both do is the same, but for what the step itself notes of its walks and writes
   pub same : (regs : Regs) (stores : Stores) → effect_of v (settled b write) insn len ≡ outcomes.Done regs stores
       → (report : Report) (after : State) → stepped m (settled b write) ≡ Went report after → stepped m b ≡ Went (record report { tables = write.tables; wrote = write.wrote }) after

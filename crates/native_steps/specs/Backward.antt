@@ -53,7 +53,7 @@ Backward =
     (m : Setting) (memory : List ℕ) (v : View) (b : State)
     → IsWedge m → Stands m memory v b → Lends m memory v.root v.kernel (wp_of b) b.set → IsNext m v.kernel b
     → (insn : Insn) (len : ℕ) (fetch read write : Space) → IsTranslated m b insn len fetch read write
-    → AreReached memory v.root fetch.went (ranges_of insn b.cpu.regs) → IsNative m memory v b insn len
+    → AreReached memory v.root fetch.visited (ranges_of insn b.cpu.regs) → IsNative m memory v b insn len
 
 -- what both do, they complete alike
 pub record Completes (m : Setting) (memory : List ℕ) (v : View) (b : State) (regs : Regs) : Type 0 where
@@ -66,5 +66,5 @@ NativeCompletes =
     (m : Setting) (memory : List ℕ) (v : View) (b : State)
     → IsWedge m → Stands m memory v b → Lends m memory v.root v.kernel (wp_of b) b.set → IsNext m v.kernel b
     → (insn : Insn) (len : ℕ) (fetch read write : Space) → IsTranslated m b insn len fetch read write
-    → AreReached memory v.root fetch.went (ranges_of insn b.cpu.regs)
+    → AreReached memory v.root fetch.visited (ranges_of insn b.cpu.regs)
     → (regs : Regs) (stores : Stores) → effect_of v b insn len ≡ outcomes.Done regs stores → Completes m memory v b regs

@@ -34,7 +34,7 @@ pub record IsGranted (image : Image) (kernel wp : Bool) (s : Space) (write : Boo
   pub kept : get s.set page ≡ Some entry
   pub allowed : allows entry (record { write = write; user = not kernel }) wp ≡ true
   pub is_open : IsOpen kernel image page entry.frame
-  pub through : Contains s.went page
+  pub through : Contains s.visited page
   pub told : write ≡ true → Contains s.wrote entry.frame
 
 abbrev pub IsRangeGranted : Image → Bool → Bool → Space → Bool → Option Range → Type 0
@@ -48,7 +48,7 @@ pub record AreGranted (image : Image) (kernel wp : Bool) (s : Space) (pages : Li
   pub write : IsRangeGranted image kernel wp s true ranges.write
 
 pub record Leaves (m : Setting) (v : View) (b : State) (insn : Insn) (len : ℕ) (fetch write : Space) : Type 0 where
-  pub granted : AreGranted m.image v.kernel (wp_of b) write fetch.went (ranges_of insn b.cpu.regs)
+  pub granted : AreGranted m.image v.kernel (wp_of b) write fetch.visited (ranges_of insn b.cpu.regs)
   -- what the instruction comes to over the step's memory is its effect over the state that is left
   pub effect : user_effect (selectors_of b.cpu) insn len b.cpu.regs (byte_of (ranges_of insn b.cpu.regs) write) ≡ effect_of v (settled b write) insn len
   -- and the step goes on by it, whether it is done, raises or stops

@@ -44,6 +44,6 @@ pub record IsNative (m : Setting) (memory : List ℕ) (v : View) (b : State) (in
   pub space : Space
   pub ram : space.ram ≡ b.ram
   pub set : space.set ≡ b.set
-  pub went : AreKept b.set space.went
+  pub visited : AreKept b.set space.visited
   pub tables : space.tables ≡ []
   pub guest : stepped m b ≡ after_instruction m (unheld b) (begun b insn) (done_by (unheld b).cpu space (effect_of v b insn len))

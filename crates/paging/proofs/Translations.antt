@@ -87,7 +87,7 @@ entry_agrees s fetch page at access (Some entry) =
 
 page_agrees : (s : Space) (fetch : Bool) (page at : ℕ) (access : Access) → TouchAgrees (page_uses s fetch page at access) (page_uses (bare s) fetch page at access)
 unfolding page_uses
-page_agrees s fetch page at access = entry_agrees (record s { pages = s.pages + 1; went = s.went ++ page ∷ [] }) fetch page at access (usable (get s.set page) access s.wp)
+page_agrees s fetch page at access = entry_agrees (record s { pages = s.pages + 1; visited = s.visited ++ page ∷ [] }) fetch page at access (usable (get s.set page) access s.wp)
 
 then_agrees : (met : Touch) (s : Space) (p : Touch × Space) (f : Space → Touch × Space) → ((t : Space) → TouchAgrees (f t) (f (bare t))) → TouchAgrees (met, s) p → TouchAgrees (go_on met s f) (and_then p f)
 then_agrees Ready s p f h (inl e) = absurd (clash e)

@@ -48,7 +48,7 @@ pub record Space : Type 0 where
   pub mode : Mode
   -- through how many pages this step went, and through which, in their order
   pub pages : ℕ
-  pub went : List ℕ
+  pub visited : List ℕ
   -- the frames that this step's walks read as a directory or table, and those of the ranges that it made ready for a
   -- write, in their order
   pub tables : List ℕ

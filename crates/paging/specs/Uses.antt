@@ -129,7 +129,7 @@ by_entry s fetch page at access (Some entry) = if is_barred s.mode fetch access.
 
 -- one page of a range
 unfoldable pub page_uses : Space → (fetch : Bool) → ℕ → ℕ → Access → Touch × Space
-page_uses s fetch page at access = by_entry (record s { pages = s.pages + 1; went = s.went ++ page ∷ [] }) fetch page at access (usable (get s.set page) access s.wp)
+page_uses s fetch page at access = by_entry (record s { pages = s.pages + 1; visited = s.visited ++ page ∷ [] }) fetch page at access (usable (get s.set page) access s.wp)
 
 abbrev pub go_on : Touch → Space → (Space → Touch × Space) → Touch × Space
 go_on Ready s f = f s

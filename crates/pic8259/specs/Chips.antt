@@ -56,8 +56,8 @@ unfoldable pub with_request : Chip → ℕ → Bool → Chip
 with_request chip level on = record chip { interrupt_request = with_bit chip.interrupt_request level on }
 
 -- the level that the chip raises: its highest request that isn't masked, unless it is blocked
-unfoldable pub raised : Chip → Option ℕ
-raised chip =
+unfoldable pub highest_request : Chip → Option ℕ
+highest_request chip =
     if chip.once_ready then unblocked (highest (bit_and chip.interrupt_request (bit_not w8 chip.interrupt_mask))) (highest chip.in_service)
     else None
 

@@ -5,11 +5,11 @@ use Rattle.ia32_types.specs.declared.stop.Did.{Did}
 use Rattle.ia32_types.specs.declared.stop.Did.TheVariants.{Done, Stop}
 use Rattle.pic8259.specs.declared.chip.Chip.{Chip}
 use Rattle.pic8259.specs.declared.pair.Pair.{Pair}
-use Rattle.pic8259.specs.Chips.{even_written, odd_written, even_read_of, with_request, raised, after_raised}
+use Rattle.pic8259.specs.Chips.{even_written, odd_written, even_read_of, with_request, highest_request, after_raised}
 
 -- profile: the master's request 2 is set exactly while the slave has something to raise
 unfoldable pub joined : Chip → Chip → Pair
-joined master slave = record { master = with_request master 2 (is_some (raised slave)); slave = slave }
+joined master slave = record { master = with_request master 2 (is_some (highest_request slave)); slave = slave }
 
 abbrev pub is_port : ℕ → Bool
 is_port port = port == 0x20 || port == 0x21 || port == 0xA0 || port == 0xA1
@@ -58,11 +58,11 @@ with_edge pair line =
 abbrev pub vector_at : Pair → Option ℕ → Option ℕ
 vector_at pair None = None
 vector_at pair (Some level) =
-    if level == 2 then option_map (λ l. pair.slave.base + l) (raised pair.slave) else Some (pair.master.base + level)
+    if level == 2 then option_map (λ l. pair.slave.base + l) (highest_request pair.slave) else Some (pair.master.base + level)
 
 -- the vector that would be delivered
 unfoldable pub vector : Pair → Option ℕ
-vector pair = vector_at pair (raised pair.master)
+vector pair = vector_at pair (highest_request pair.master)
 
 -- the master's level stands for the slave's
 abbrev pub is_cascade : Option ℕ → Bool
@@ -72,5 +72,5 @@ is_cascade (Some level) = level == 2
 -- after an acknowledgement: the request has moved into service, in both chips for a slave's line
 unfoldable pub acknowledged : Pair → Pair
 acknowledged pair =
-    joined (after_raised pair.master (raised pair.master))
-    (if is_cascade (raised pair.master) then after_raised pair.slave (raised pair.slave) else pair.slave)
+    joined (after_raised pair.master (highest_request pair.master))
+    (if is_cascade (highest_request pair.master) then after_raised pair.slave (highest_request pair.slave) else pair.slave)

@@ -1,5 +1,5 @@
 ghost use Rattle.std.specs.Prelude.{◌≡◌, ◌<◌, IfSome};
-ghost use Rattle.pic8259.specs.Chips.{unstarted, started, ended_at, even_written, odd_written, even_read_of, with_request, raised, served, after_raised};
+ghost use Rattle.pic8259.specs.Chips.{unstarted, started, ended_at, even_written, odd_written, even_read_of, with_request, highest_request, served, after_raised};
 ghost use Rattle.pic8259.specs.Writes.{ChipWritten};
 ghost use Rattle.pic8259.specs.Requests.{IsChip, chip_fits};
 
@@ -160,9 +160,9 @@ impl Chip {
     }
 
     /// The level that the controller raises.
-    #[tactic(auto, unfolding(crate::specs::Chips::raised))]
-    pub(crate) fn raised(&self) -> Option<u8>
-        ensures value { result ≡ raised self.now }
+    #[tactic(auto, unfolding(crate::specs::Chips::highest_request))]
+    pub(crate) fn highest_request(&self) -> Option<u8>
+        ensures value { result ≡ highest_request self.now }
         ensures level { IfSome result (λ l. l < 8) }
     {
         if !self.once_ready {
@@ -178,10 +178,10 @@ impl Chip {
     #[tactic(auto, unfolding(crate::specs::Chips::served))]
     pub(crate) fn acknowledge(&mut self)
         requires { IsChip self.old }
-        ensures served { self.new ≡ after_raised self.old (raised self.old) }
+        ensures served { self.new ≡ after_raised self.old (highest_request self.old) }
         ensures chip { IsChip self.new }
     {
-        if let Some(level) = self.raised() {
+        if let Some(level) = self.highest_request() {
             self.interrupt_request = with_bit(self.interrupt_request, level, false);
             self.in_service = with_bit(self.in_service, level, true);
         }

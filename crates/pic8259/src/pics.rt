@@ -28,7 +28,7 @@ impl Model for Pics {
 
 impl Pics {
     /// Both before their first start.
-    #[tactic(auto, unfolding(crate::specs::Chips::raised))]
+    #[tactic(auto, unfolding(crate::specs::Chips::highest_request))]
     pub fn new() -> Pics
         ensures { result ≡ record { master = unstarted; slave = unstarted } }
     {
@@ -118,9 +118,9 @@ impl Pics {
     pub fn pending(&self) -> Option<u8>
         ensures { result ≡ vector self.now }
     {
-        let level = self.pair.master.raised()?;
+        let level = self.pair.master.highest_request()?;
         if level == 2 {
-            let behind = self.pair.slave.raised()?;
+            let behind = self.pair.slave.highest_request()?;
             return Some(self.pair.slave.base + behind);
         }
         Some(self.pair.master.base + level)
@@ -136,7 +136,7 @@ impl Pics {
         let vector = self.pending().unwrap();
         let mut master = self.pair.master;
         let mut slave = self.pair.slave;
-        if is_cascade(master.raised()) {
+        if is_cascade(master.highest_request()) {
             slave.acknowledge();
         }
         master.acknowledge();
@@ -163,6 +163,6 @@ fn join(mut master: Chip, slave: Chip) -> Pair
     ensures joined { result ≡ joined master slave }
     ensures pair { IsPair result }
 {
-    master.set_request(2, slave.raised().is_some());
+    master.set_request(2, slave.highest_request().is_some());
     Pair { master, slave }
 }

@@ -8,7 +8,7 @@ use Rattle.shadow_tables.specs.declared.words.Side.TheVariants.{Kernel, User}
 use Rattle.shadow_cache.specs.Pairs.{reads, any_reads}
 use Rattle.shadow_cache.specs.Others.{AreKept, AllLoseWrites, one_later, place_of}
 use Rattle.shadow_cache.specs.Switched.{staying, IsFresh}
-use Rattle.shadow_cache.specs.Past.{Place, Past, begun, is_place, with_place, is_table, all_but, unmarked, of_value, but_value}
+use Rattle.shadow_cache.specs.Past.{DirSlot, Past, begun, is_place, with_place, is_table, all_but, unmarked, of_value, but_value}
 use Rattle.shadow_cache.specs.Agreeing.{last_of, Agrees, AllAgree}
 use Rattle.shadow_cache.specs.declared.pair.Pair.{Pair}
 use Rattle.shadow_cache.specs.declared.call_lists.RootsCall.{RootsCall}
@@ -256,16 +256,16 @@ index-is i j e = elim (eqb_tells i j) [ inl t ↦ t.1 | inr t ↦ absurd (let q 
 
 -- the places under which pages were filled have tables, and one more
 module _ (v : ℕ) (cs : List RootsCall) (q : Past) (p : Pair) (m m' : List ℕ) (a : Agrees v cs q p m) (side : Side) (index : ℕ) (low : index < 1024) (o : HasOpened p.shadow m m' side index) where
-  here : Place
+  here : DirSlot
   here = record { side = side; index = index }
 
-  abbrev Opened : List Place → Type 0
-  Opened places = (place : Place) → is_place place places ≡ true → (place.index < 1024) × HasTable p.shadow m' place.side place.index
+  abbrev Opened : List DirSlot → Type 0
+  Opened places = (place : DirSlot) → is_place place places ≡ true → (place.index < 1024) × HasTable p.shadow m' place.side place.index
 
   before : Opened q.places
   before place t = (let x = a.opened place t in (x.0, o.others place.side place.index x.0 x.1))
 
-  at : (place : Place) → (is_side place.side side && eqb place.index index) ≡ true → (place.index < 1024) × HasTable p.shadow m' place.side place.index
+  at : (place : DirSlot) → (is_side place.side side && eqb place.index index) ≡ true → (place.index < 1024) × HasTable p.shadow m' place.side place.index
   at place t =
       let s : place.side ≡ side = side-is place.side side (and-first (is_side place.side side) (eqb place.index index) t) in
       let i : place.index ≡ index = index-is place.index index (and-second (is_side place.side side) (eqb place.index index) t) in

@@ -6,7 +6,7 @@ use Rattle.shadow_tables.specs.Slots.{is_among, is_side}
 use Rattle.shadow_tables.specs.declared.words.Side.{Side}
 use Rattle.shadow_tables.specs.declared.calls.Call.{Call}
 use Rattle.shadow_tables.specs.declared.calls.Call.TheVariants.{Fill, DropPage, DropDir, DropAll, Note, Written}
-use Rattle.shadow_cache.specs.Past.{Done, Place, Past, begun, is_place, with_place, all_but, unmarked, of_value, but_value, with_front, after_shared, after_call, pairs_after}
+use Rattle.shadow_cache.specs.Past.{Done, DirSlot, Past, begun, is_place, with_place, all_but, unmarked, of_value, but_value, with_front, after_shared, after_call, pairs_after}
 use Rattle.shadow_cache.specs.Replayed.{IsFilledUnder, IsEachOnce, IsPlaced, ArePlaced}
 use Rattle.shadow_cache.specs.declared.call_lists.RootsCall.{RootsCall}
 use Rattle.shadow_cache.specs.declared.call_lists.RootsCall.TheVariants.{Shared, Switch}
@@ -16,7 +16,7 @@ use Rattle.shadow_cache.proofs.Whole.{calls-keep}
 
 -- ---- one pair
 
-filled-later : (done : List Done) (d : Done) (place : Place) → IsFilledUnder done place → IsFilledUnder (done ++ d ∷ []) place
+filled-later : (done : List Done) (d : Done) (place : DirSlot) → IsFilledUnder done place → IsFilledUnder (done ++ d ∷ []) place
 filled-later done d place f =
     record {
       before = f.before;
@@ -28,7 +28,7 @@ filled-later done d place f =
       under = f.under;
     }
 
-filled-now : (done : List Done) (moment : ℕ) (side : Side) (entry : Entry) (wp : Bool) (place : Place) → (is_side place.side side && eqb place.index (entry.page / 1024)) ≡ true
+filled-now : (done : List Done) (moment : ℕ) (side : Side) (entry : Entry) (wp : Bool) (place : DirSlot) → (is_side place.side side && eqb place.index (entry.page / 1024)) ≡ true
     → IsFilledUnder (done ++ record { moment = moment; call = Fill side entry wp } ∷ []) place
 filled-now done moment side entry wp place t =
     let s : place.side ≡ side = side-is place.side side (and-first (is_side place.side side) (eqb place.index (entry.page / 1024)) t) in
@@ -43,10 +43,10 @@ filled-now done moment side entry wp place t =
     }
 
 -- a place more, where it isn't there
-abbrev Filled : List Done → List Place → Type 0
-Filled done places = (place : Place) → is_place place places ≡ true → IsFilledUnder done place
+abbrev Filled : List Done → List DirSlot → Type 0
+Filled done places = (place : DirSlot) → is_place place places ≡ true → IsFilledUnder done place
 
-with-filled : (b : Bool) (done : List Done) (moment : ℕ) (side : Side) (entry : Entry) (wp : Bool) (places : List Place) → Filled done places
+with-filled : (b : Bool) (done : List Done) (moment : ℕ) (side : Side) (entry : Entry) (wp : Bool) (places : List DirSlot) → Filled done places
     → Filled (done ++ record { moment = moment; call = Fill side entry wp } ∷ []) (cond b places (record { side = side; index = entry.page / 1024 } ∷ places))
 with-filled true done moment side entry wp places f = λ place t. filled-later done (record { moment = moment; call = Fill side entry wp }) place (f place t)
 with-filled false done moment side entry wp places f = λ place t.
@@ -55,14 +55,14 @@ with-filled false done moment side entry wp places f = λ place t.
       | inr x ↦ filled-later done (record { moment = moment; call = Fill side entry wp }) place (f place x)
     ]
 
-with-once : (b : Bool) (place : Place) (places : List Place) → is_place place places ≡ b → IsEachOnce places → IsEachOnce (cond b places (place ∷ places))
+with-once : (b : Bool) (place : DirSlot) (places : List DirSlot) → is_place place places ≡ b → IsEachOnce places → IsEachOnce (cond b places (place ∷ places))
 with-once true place places e o = o
 with-once false place places e o = (e, o)
 
 placed-filled : (p : Past) (moment : ℕ) (side : Side) (entry : Entry) (wp : Bool) → IsPlaced p
     → IsPlaced (record p { done = p.done ++ record { moment = moment; call = Fill side entry wp } ∷ []; places = with_place (record { side = side; index = entry.page / 1024 }) p.places })
 placed-filled p moment side entry wp a =
-    let place : Place = record { side = side; index = entry.page / 1024 } in
+    let place : DirSlot = record { side = side; index = entry.page / 1024 } in
     record {
       filled = with-filled (is_place place p.places) p.done moment side entry wp p.places a.filled;
       once = with-once (is_place place p.places) place p.places refl a.once;

@@ -8,7 +8,7 @@ use Rattle.shadow_tables.specs.declared.words.Side.{Side}
 use Rattle.shadow_tables.specs.declared.calls.Call.{Call}
 use Rattle.shadow_tables.specs.declared.calls.Call.TheVariants.{Fill, DropPage, DropDir, DropAll, Note, Written}
 use Rattle.shadow_cache.specs.Pairs.{reads}
-use Rattle.shadow_cache.specs.Past.{Done, Place, Past, is_place, pairs_after}
+use Rattle.shadow_cache.specs.Past.{Done, DirSlot, Past, is_place, pairs_after}
 use Rattle.shadow_cache.specs.Replayed.{NoTableSince}
 use Rattle.shadow_cache.specs.declared.pair.Pair.{Pair}
 use Rattle.shadow_cache.specs.declared.call_lists.RootsCall.{RootsCall}
@@ -53,7 +53,7 @@ pub record Agrees (value : ℕ) (calls : List RootsCall) (q : Past) (p : Pair) (
   pub tables : (frame : ℕ) → reads p frame ≡ is_among frame q.tables
   pub mark : p.marked ≡ q.marked
   pub slots : (page : ℕ) → page < 2 ^ 20 → IsSlot value calls (last_of q.done page) (slot_at p.shadow m page)
-  pub opened : (place : Place) → is_place place q.places ≡ true → (place.index < 1024) × HasTable p.shadow m place.side place.index
+  pub opened : (place : DirSlot) → is_place place q.places ≡ true → (place.index < 1024) × HasTable p.shadow m place.side place.index
   pub few : length (held p.shadow m) ≤ 2 + length q.places
 
 abbrev pub AllAgree : ℕ → List RootsCall → List Past → List Pair → List ℕ → Type 0

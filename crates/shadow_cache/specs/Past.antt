@@ -13,7 +13,7 @@ pub record Done : Type 0 where
   pub call : Call
 
 -- a directory index of a view
-pub record Place : Type 0 where
+pub record DirSlot : Type 0 where
   pub side : Side
   pub index : ℕ
 
@@ -23,7 +23,7 @@ pub record Place : Type 0 where
 pub record Past : Type 0 where
   pub value : ℕ
   pub done : List Done
-  pub places : List Place
+  pub places : List DirSlot
   pub tables : List ℕ
   pub marked : Bool
 
@@ -31,11 +31,11 @@ pub record Past : Type 0 where
 abbrev pub begun : ℕ → Past
 begun value = record { value = value; done = []; places = []; tables = []; marked = false }
 
-abbrev pub is_place : Place → List Place → Bool
+abbrev pub is_place : DirSlot → List DirSlot → Bool
 is_place p [] = false
 is_place p (q ∷ qs) = (is_side p.side q.side && (p.index == q.index)) || is_place p qs
 
-abbrev pub with_place : Place → List Place → List Place
+abbrev pub with_place : DirSlot → List DirSlot → List DirSlot
 with_place p ps = if is_place p ps then ps else p ∷ ps
 
 -- the frame is among the tables of any pair
@@ -55,7 +55,7 @@ marked_at frame p = if is_among frame p.tables then record p { tables = all_but 
 abbrev pub and_then : Past → ℕ → Call → Past
 and_then p moment call = record p { done = p.done ++ record { moment = moment; call = call } ∷ [] }
 
-abbrev pub filled_under : Past → Place → Past
+abbrev pub filled_under : Past → DirSlot → Past
 filled_under p place = record p { places = with_place place p.places }
 
 -- What a call makes of the pairs, where so many came before it. The first of them is the present one.

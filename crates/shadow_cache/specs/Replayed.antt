@@ -6,7 +6,7 @@ use Rattle.shadow_tables.specs.Calls.{IsFit, LeaveAlone, fill_count}
 use Rattle.shadow_tables.specs.declared.words.Side.{Side}
 use Rattle.shadow_tables.specs.declared.calls.Call.TheVariants.{Fill}
 use Rattle.shadow_cache.specs.Pairs.{reads}
-use Rattle.shadow_cache.specs.Past.{Done, Place, Past, is_place, is_table, pairs_after}
+use Rattle.shadow_cache.specs.Past.{Done, DirSlot, Past, is_place, is_table, pairs_after}
 use Rattle.shadow_cache.specs.declared.pair.Pair.{Pair}
 use Rattle.shadow_cache.specs.declared.call_lists.RootsCall.{RootsCall}
 use Rattle.shadow_cache.specs.declared.call_lists.RootsCall.TheVariants.{Shared, Switch}
@@ -85,7 +85,7 @@ most_frames [] = 0
 most_frames (p ∷ ps) = 2 + length p.places + most_frames ps
 
 -- a page was filled under this directory index of the view
-pub record IsFilledUnder (done : List Done) (place : Place) : Type 0 where
+pub record IsFilledUnder (done : List Done) (place : DirSlot) : Type 0 where
   pub before : List Done
   pub later : List Done
   pub moment : ℕ
@@ -94,13 +94,13 @@ pub record IsFilledUnder (done : List Done) (place : Place) : Type 0 where
   pub fill : done ≡ before ++ record { moment = moment; call = Fill place.side entry wp } ∷ later
   pub under : entry.page / 1024 ≡ place.index
 
-abbrev pub IsEachOnce : List Place → Type 0
+abbrev pub IsEachOnce : List DirSlot → Type 0
 IsEachOnce [] = Unit {0}
 IsEachOnce (p ∷ ps) = (is_place p ps ≡ false) × IsEachOnce ps
 
 -- the places of a pair are each there once, and a page was filled under each
 pub record IsPlaced (p : Past) : Type 0 where
-  pub filled : (place : Place) → is_place place p.places ≡ true → IsFilledUnder p.done place
+  pub filled : (place : DirSlot) → is_place place p.places ≡ true → IsFilledUnder p.done place
   pub once : IsEachOnce p.places
 
 abbrev pub ArePlaced : List Past → Type 0

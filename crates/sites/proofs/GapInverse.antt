@@ -10,13 +10,13 @@ use Rattle.guest_ram.proofs.Bytes.{byte_lt, length-part, get_or-part, part-appen
 use Rattle.sites.specs.declared.site.Site.{Site}
 use Rattle.ia32_types.specs.declared.site.SiteKind.{SiteKind}
 use Rattle.ia32_types.specs.declared.site.SiteKind.TheVariants.{Cli}
-use Rattle.sites.specs.Kinds.{number, kind_of}
+use Rattle.sites.specs.Kinds.{number, kind_numbered}
 use Rattle.sites.specs.Spelling.{gap, gaps, gapped, AreInGaps}
 use Rattle.sites.specs.SitesParts.{SitesParts}
 use Rattle.sites.specs.Reading.{bad, ◌or_else◌, cut_before, has_no_kind, head_fault}
 use Rattle.sites.specs.Gapped.{gap_at, end_at, passes, has_wrong_length, gap_fault, gaps_fault, gap_site, gap_sites, gapped_in}
 use Rattle.sites.proofs.GapWalk.{in_second}
-use Rattle.sites.proofs.Inverse.{kind_of-number, number-kind, byte-behind, head_good, head_was, unless_none, unless_ok, neither, not_bad, second_false, part-word, drop-eight}
+use Rattle.sites.proofs.Inverse.{kind_numbered-number, number-kind, byte-behind, head_good, head_was, unless_none, unless_ok, neither, not_bad, second_false, part-word, drop-eight}
 
 -- ---- what is spelled is read so
 
@@ -53,7 +53,7 @@ in_range n some most = rw (lt-ltb 0 n (omega arith), lt-ltb n 12 (omega arith)) 
 
 no_kind_there : (bytes : List ℕ) (at : ℕ) (k : SiteKind) → byte bytes at ≡ number k → has_no_kind bytes at ≡ false
 no_kind_there bytes at k is =
-    let kind : is_none (kind_of (byte bytes at)) ≡ false = ap (λ (n : ℕ). is_none (kind_of n)) is ∙ ap is_none (kind_of-number k) in
+    let kind : is_none (kind_numbered (byte bytes at)) ≡ false = ap (λ (n : ℕ). is_none (kind_numbered n)) is ∙ ap is_none (kind_numbered-number k) in
     ap (λ (b : Bool). ltb at (length bytes) && b) kind ∙ and_false (ltb at (length bytes))
   where
     and_false : (b : Bool) → (b && false) ≡ false
@@ -76,7 +76,7 @@ not_bad_there bytes from a s is some most total end =
 read_there : (bytes : List ℕ) (from a : ℕ) (s : Site) → Follows bytes from a s → s.total ≡ max 5 s.len → gap_site bytes from a ≡ s
 unfolding gap_site
 read_there bytes from a s is total =
-    let k : unwrap_or (kind_of (byte bytes (a + 3))) Cli ≡ s.kind = ap (λ (n : ℕ). unwrap_or (kind_of n) Cli) is.kind ∙ ap (λ (o : Option SiteKind). unwrap_or o Cli) (kind_of-number s.kind) in
+    let k : unwrap_or (kind_numbered (byte bytes (a + 3))) Cli ≡ s.kind = ap (λ (n : ℕ). unwrap_or (kind_numbered n) Cli) is.kind ∙ ap (λ (o : Option SiteKind). unwrap_or o Cli) (kind_numbered-number s.kind) in
     rw (is.at, k, is.len, ← total) refl
 
 gaps_read : (sites : List Site) (front : List ℕ) (from a : ℕ) → length front ≡ a → AreInGaps from sites
@@ -110,7 +110,7 @@ gapped_read sites are lt =
 record WasGap (bytes : List ℕ) (from a : ℕ) : Type 0 where
   room : a + 5 ≤ length bytes
   end : end_at bytes from a < 2 ^ 32
-  kind : is_none (kind_of (byte bytes (a + 3))) ≡ false
+  kind : is_none (kind_numbered (byte bytes (a + 3))) ≡ false
   some : 1 ≤ byte bytes (a + 4)
   most : byte bytes (a + 4) ≤ 11
 
@@ -143,7 +143,7 @@ was_gap bytes from a e =
     record {
       room = room;
       end = omega (arith, ltb-false _ _ (second_false (not (ltb (length bytes) (a + 3))) (ltb 4294967295 (end_at bytes from a)) here (not_bad (passes bytes from a) a n0.0)));
-      kind = second_false (ltb (a + 3) (length bytes)) (is_none (kind_of (byte bytes (a + 3)))) (lt-ltb _ _ (omega arith)) (not_bad (has_no_kind bytes (a + 3)) (a + 3) n1.0);
+      kind = second_false (ltb (a + 3) (length bytes)) (is_none (kind_numbered (byte bytes (a + 3)))) (lt-ltb _ _ (omega arith)) (not_bad (has_no_kind bytes (a + 3)) (a + 3) n1.0);
       some = size.0;
       most = size.1;
     }

@@ -11,37 +11,37 @@ use Rattle.guest_ram.proofs.Bytes.{word32_lt, bytes-part, length-part, get_or-pa
 use Rattle.sites.specs.declared.site.Site.{Site}
 use Rattle.ia32_types.specs.declared.site.SiteKind.{SiteKind}
 use Rattle.ia32_types.specs.declared.site.SiteKind.TheVariants.{Cli, Sti, StiHlt, Hlt, PushFlags, PopFlags, Iret, ReadControl, WriteControl, LoadGdt, LoadIdt, LoadTask, DropPage, ReadSeg, LoadSeg, PushSeg, PopSeg, FarJump, PortIn, PortOut, Return, JumpTo, CallTo}
-use Rattle.sites.specs.Kinds.{kinds, number, kind_of}
+use Rattle.sites.specs.Kinds.{kinds, number, kind_numbered}
 use Rattle.sites.specs.Spelling.{site, placed, AreInForm}
 use Rattle.sites.specs.SitesParts.{SitesParts}
 use Rattle.sites.specs.Reading.{bad, ◌or_else◌, differs, cut_before, falls, has_no_kind, has_wrong_total, unless, head_fault, site_fault, sites_fault, site_at, sites_at, placed_in}
 
 -- ---- kinds
 
-pub kind_of-number : (k : SiteKind) → kind_of (number k) ≡ Some k
-kind_of-number Cli = refl
-kind_of-number Sti = refl
-kind_of-number StiHlt = refl
-kind_of-number Hlt = refl
-kind_of-number PushFlags = refl
-kind_of-number PopFlags = refl
-kind_of-number Iret = refl
-kind_of-number ReadControl = refl
-kind_of-number WriteControl = refl
-kind_of-number LoadGdt = refl
-kind_of-number LoadIdt = refl
-kind_of-number LoadTask = refl
-kind_of-number DropPage = refl
-kind_of-number ReadSeg = refl
-kind_of-number LoadSeg = refl
-kind_of-number PushSeg = refl
-kind_of-number PopSeg = refl
-kind_of-number FarJump = refl
-kind_of-number PortIn = refl
-kind_of-number PortOut = refl
-kind_of-number Return = refl
-kind_of-number JumpTo = refl
-kind_of-number CallTo = refl
+pub kind_numbered-number : (k : SiteKind) → kind_numbered (number k) ≡ Some k
+kind_numbered-number Cli = refl
+kind_numbered-number Sti = refl
+kind_numbered-number StiHlt = refl
+kind_numbered-number Hlt = refl
+kind_numbered-number PushFlags = refl
+kind_numbered-number PopFlags = refl
+kind_numbered-number Iret = refl
+kind_numbered-number ReadControl = refl
+kind_numbered-number WriteControl = refl
+kind_numbered-number LoadGdt = refl
+kind_numbered-number LoadIdt = refl
+kind_numbered-number LoadTask = refl
+kind_numbered-number DropPage = refl
+kind_numbered-number ReadSeg = refl
+kind_numbered-number LoadSeg = refl
+kind_numbered-number PushSeg = refl
+kind_numbered-number PopSeg = refl
+kind_numbered-number FarJump = refl
+kind_numbered-number PortIn = refl
+kind_numbered-number PortOut = refl
+kind_numbered-number Return = refl
+kind_numbered-number JumpTo = refl
+kind_numbered-number CallTo = refl
 
 numbered : (n : ℕ) → eqb n 0 ≡ false → n < 24 → number (get_or kinds (n - 1) Cli) ≡ n
 numbered n positive lt = split (or_cases (eqb n 0) (eqb (number (get_or kinds (n - 1) Cli)) n) (agree_below_at (λ (k : ℕ). eqb k 0 || eqb (number (get_or kinds (k - 1) Cli)) k) (λ (k : ℕ). true) 24 n refl lt)) where
@@ -49,10 +49,10 @@ numbered n positive lt = split (or_cases (eqb n 0) (eqb (number (get_or kinds (n
   split (inl e) = absurd (both_ways _ positive e)
   split (inr e) = eqb-true _ _ e
 
-pub number-kind : (n : ℕ) → is_none (kind_of n) ≡ false → number (unwrap_or (kind_of n) Cli) ≡ n
+pub number-kind : (n : ℕ) → is_none (kind_numbered n) ≡ false → number (unwrap_or (kind_numbered n) Cli) ≡ n
 number-kind n some = split (cases_Bool (eqb n 0 || ltb 23 n)) where
-  split : ((eqb n 0 || ltb 23 n) ≡ true) ⊎ ((eqb n 0 || ltb 23 n) ≡ false) → number (unwrap_or (kind_of n) Cli) ≡ n
-  split (inl e) = absurd (both_ways (is_none (kind_of n)) some (ap is_none (cond-true (eqb n 0 || ltb 23 n) None (Some (get_or kinds (n - 1) Cli)) e)))
+  split : ((eqb n 0 || ltb 23 n) ≡ true) ⊎ ((eqb n 0 || ltb 23 n) ≡ false) → number (unwrap_or (kind_numbered n) Cli) ≡ n
+  split (inl e) = absurd (both_ways (is_none (kind_numbered n)) some (ap is_none (cond-true (eqb n 0 || ltb 23 n) None (Some (get_or kinds (n - 1) Cli)) e)))
   split (inr e) =
       let parts = or_parts (eqb n 0) (ltb 23 n) e in
       ap (λ (o : Option SiteKind). number (unwrap_or o Cli)) (cond-false (eqb n 0 || ltb 23 n) None (Some (get_or kinds (n - 1) Cli)) e) ∙ numbered n parts.0 (omega (arith, ltb-false 23 n parts.1))
@@ -98,13 +98,13 @@ not_bad_there bytes least a s is le total =
     let r7 : ltb (a + 7) (length bytes) ≡ true = lt-ltb _ _ (omega arith) in
     let l8 : ltb (length bytes) (a + 8) ≡ false = le-ltb _ _ room in
     let same : eqb s.total (max 5 s.len) ≡ true = eq-eqb _ _ total in
-    let is_kind : is_none (kind_of (byte bytes (a + 4))) ≡ false = ap (λ (n : ℕ). is_none (kind_of n)) is.kind ∙ ap is_none (kind_of-number s.kind) in
+    let is_kind : is_none (kind_numbered (byte bytes (a + 4))) ≡ false = ap (λ (n : ℕ). is_none (kind_numbered n)) is.kind ∙ ap is_none (kind_numbered-number s.kind) in
     rw (is.at, l4, rises, r4, is_kind, r6, is.total, is.len, same, r7, is.last, l8) refl
 
 read_there : (bytes : List ℕ) (a : ℕ) (s : Site) → Stands bytes a s → site_at bytes a ≡ s
 unfolding site_at
 read_there bytes a s is =
-    let k : unwrap_or (kind_of (byte bytes (a + 4))) Cli ≡ s.kind = ap (λ (n : ℕ). unwrap_or (kind_of n) Cli) is.kind ∙ ap (λ (o : Option SiteKind). unwrap_or o Cli) (kind_of-number s.kind) in
+    let k : unwrap_or (kind_numbered (byte bytes (a + 4))) Cli ≡ s.kind = ap (λ (n : ℕ). unwrap_or (kind_numbered n) Cli) is.kind ∙ ap (λ (o : Option SiteKind). unwrap_or o Cli) (kind_numbered-number s.kind) in
     rw (is.at, k, is.len, is.total) refl
 
 sites_read : (sites : List Site) (front : List ℕ) (least a : ℕ) → length front ≡ a → AreInForm least sites
@@ -167,7 +167,7 @@ same_byte bytes at v lt e = eqb-true _ _ (not-false _ (second_false (ltb at (len
 record WasSite (bytes : List ℕ) (least a : ℕ) : Type 0 where
   room : a + 8 ≤ length bytes
   rises : least ≤ word32 bytes a
-  kind : is_none (kind_of (byte bytes (a + 4))) ≡ false
+  kind : is_none (kind_numbered (byte bytes (a + 4))) ≡ false
   total : byte bytes (a + 6) ≡ max 5 (byte bytes (a + 5))
   last : byte bytes (a + 7) ≡ 0
 
@@ -188,7 +188,7 @@ was_site bytes least a e =
     record {
       room = room;
       rises = ltb-false _ _ (second_false (not (ltb (length bytes) (a + 4))) (ltb (word32 bytes a) least) here (not_bad (falls bytes least a) a n0.0));
-      kind = second_false (ltb (a + 4) (length bytes)) (is_none (kind_of (byte bytes (a + 4)))) (lt-ltb _ _ (omega arith)) (not_bad (has_no_kind bytes (a + 4)) (a + 4) n1.0);
+      kind = second_false (ltb (a + 4) (length bytes)) (is_none (kind_numbered (byte bytes (a + 4)))) (lt-ltb _ _ (omega arith)) (not_bad (has_no_kind bytes (a + 4)) (a + 4) n1.0);
       total = same_byte bytes (a + 6) (max 5 (byte bytes (a + 5))) (omega arith) (not_bad (has_wrong_total bytes a) (a + 6) n2.0);
       last = same_byte bytes (a + 7) 0 (omega arith) (not_bad (differs bytes (a + 7) 0) (a + 7) n3.0);
     }
@@ -219,7 +219,7 @@ site-part bytes least a fits was =
     let e5 : a + 4 + 1 ≡ a + 5 = omega arith in
     let e6 : a + 4 + 2 ≡ a + 6 = omega arith in
     let e7 : a + 4 + 3 ≡ a + 7 = omega arith in
-    let tail : part bytes (a + 4) 4 ≡ number (unwrap_or (kind_of (byte bytes (a + 4))) Cli) ∷ byte bytes (a + 5) ∷ byte bytes (a + 6) ∷ 0 ∷ [] =
+    let tail : part bytes (a + 4) 4 ≡ number (unwrap_or (kind_numbered (byte bytes (a + 4))) Cli) ∷ byte bytes (a + 5) ∷ byte bytes (a + 6) ∷ 0 ∷ [] =
     part-four bytes (a + 4) (omega arith) ∙ rw (e5, e6, e7, was.last) (ap (λ (n : ℕ). n ∷ byte bytes (a + 5) ∷ byte bytes (a + 6) ∷ 0 ∷ []) (sym (number-kind (byte bytes (a + 4)) was.kind))) in
     sym (part-append bytes a 4 4) ∙ ap (λ (x : List ℕ). x ++ part bytes (a + 4) 4) (part-word bytes a fits (omega arith)) ∙ ap (λ (x : List ℕ). to_le_bytes w32 (word32 bytes a) ++ x) tail
 

@@ -4,7 +4,7 @@ use Rattle.guest_ram.specs.Bytes.{byte, word32}
 use Rattle.sites.specs.declared.site.Site.{Site}
 use Rattle.ia32_types.specs.declared.site.SiteKind.TheVariants.{Cli}
 use Rattle.sites.specs.SitesParts.{SitesParts}
-use Rattle.sites.specs.Kinds.{kind_of}
+use Rattle.sites.specs.Kinds.{kind_numbered}
 use Rattle.sites.specs.Reading.{bad, ◌or_else◌, cut_before, has_no_kind, head_fault, unless}
 
 -- three bytes, the lowest first
@@ -37,7 +37,7 @@ gaps_fault bytes from zero a = bad (nat_lt a (length bytes)) a
 gaps_fault bytes from (suc n) a = gap_fault bytes from a or_else gaps_fault bytes (end_at bytes from a) n (a + 5)
 
 unfoldable pub gap_site : List ℕ → ℕ → ℕ → Site
-gap_site bytes from a = record { at = from + gap_at bytes a; kind = unwrap_or (kind_of (byte bytes (a + 3))) Cli; len = byte bytes (a + 4); total = max 5 (byte bytes (a + 4)) }
+gap_site bytes from a = record { at = from + gap_at bytes a; kind = unwrap_or (kind_numbered (byte bytes (a + 3))) Cli; len = byte bytes (a + 4); total = max 5 (byte bytes (a + 4)) }
 
 unfoldable pub gap_sites : List ℕ → ℕ → ℕ → ℕ → List Site
 gap_sites bytes from zero a = []

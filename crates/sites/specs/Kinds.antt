@@ -33,5 +33,5 @@ number JumpTo = 22
 number CallTo = 23
 
 -- the kind of a number, if it is one of 1 to 23
-abbrev pub kind_of : ℕ → Option SiteKind
-kind_of n = if n == 0 || nat_lt 23 n then None else Some (slice_index_or kinds (n - 1) Cli)
+abbrev pub kind_numbered : ℕ → Option SiteKind
+kind_numbered n = if n == 0 || nat_lt 23 n then None else Some (slice_index_or kinds (n - 1) Cli)

@@ -6,7 +6,7 @@ use Rattle.sites.specs.declared.site.SitesFault.{SitesFault}
 use Rattle.sites.specs.declared.site.SitesFault.TheVariants as faults
 use Rattle.ia32_types.specs.declared.site.SiteKind.TheVariants.{Cli}
 use Rattle.sites.specs.SitesParts.{SitesParts}
-use Rattle.sites.specs.Kinds.{kind_of}
+use Rattle.sites.specs.Kinds.{kind_numbered}
 
 abbrev pub bad : Bool → ℕ → Option ℕ
 bad is_bad at = if is_bad then Some at else None
@@ -38,7 +38,7 @@ abbrev pub falls : List ℕ → ℕ → ℕ → Bool
 falls bytes least a = not (nat_lt (length bytes) (a + 4)) && nat_lt (word32 bytes a) least
 
 abbrev pub has_no_kind : List ℕ → ℕ → Bool
-has_no_kind bytes at = nat_lt at (length bytes) && is_none (kind_of (byte bytes at))
+has_no_kind bytes at = nat_lt at (length bytes) && is_none (kind_numbered (byte bytes at))
 
 abbrev pub has_wrong_total : List ℕ → ℕ → Bool
 has_wrong_total bytes a = differs bytes (a + 6) (max 5 (byte bytes (a + 5)))
@@ -58,7 +58,7 @@ sites_fault bytes least zero a = bad (nat_lt a (length bytes)) a
 sites_fault bytes least (suc n) a = site_fault bytes least a or_else sites_fault bytes (word32 bytes a + 1) n (a + 8)
 
 unfoldable pub site_at : List ℕ → ℕ → Site
-site_at bytes a = record { at = word32 bytes a; kind = unwrap_or (kind_of (byte bytes (a + 4))) Cli; len = byte bytes (a + 5); total = byte bytes (a + 6) }
+site_at bytes a = record { at = word32 bytes a; kind = unwrap_or (kind_numbered (byte bytes (a + 4))) Cli; len = byte bytes (a + 5); total = byte bytes (a + 6) }
 
 unfoldable pub sites_at : List ℕ → ℕ → ℕ → List Site
 sites_at bytes zero a = []

@@ -5,7 +5,7 @@ ghost use Rattle.sites.specs.Spelling.{gap, gapped, AreGapped};
 ghost use Rattle.sites.specs.Reading.{bad, ◌or_else◌, cut_before, Gives};
 ghost use Rattle.sites.specs.Gapped as spec;
 
-use crate::kind::{kind_of, number};
+use crate::kind::{kind_numbered, number};
 use crate::reading::{has_no_kind, head_fault};
 use crate::site::{Site, Sites, SitesFault};
 use crate::words::{byte, byte_or_zero, word};
@@ -79,7 +79,7 @@ fn gap_site(bytes: &[u8], from: u64, a: usize) -> Site
     let len = byte(bytes, a + 4);
     Site {
         at: (from + gap_at(bytes, a)) as u32,
-        kind: kind_of(byte(bytes, a + 3)).unwrap_or(SiteKind::Cli),
+        kind: kind_numbered(byte(bytes, a + 3)).unwrap_or(SiteKind::Cli),
         len,
         total: len.max(5),
     }

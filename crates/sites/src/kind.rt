@@ -1,7 +1,7 @@
 //! The kinds of sites and their numbers.
 
 ghost use Rattle.std.specs.Prelude.{◌≡◌};
-ghost use Rattle.sites.specs.Kinds.{number, kind_of};
+ghost use Rattle.sites.specs.Kinds.{number, kind_numbered};
 
 use ia32_types::SiteKind;
 
@@ -40,8 +40,8 @@ pub fn number(kind: SiteKind) -> u8
 }
 
 /// The kind of a number, if it is one of 1 to 23.
-pub fn kind_of(n: u8) -> Option<SiteKind>
-    ensures { result ≡ kind_of n }
+pub fn kind_numbered(n: u8) -> Option<SiteKind>
+    ensures { result ≡ kind_numbered n }
 {
     if n == 0 || n > 23 {
         return None;

@@ -7,7 +7,7 @@ ghost use Rattle.sites.specs.Reading.{bad, ◌or_else◌, differs, cut_before, h
 ghost use Rattle.sites.specs.Formats.{told_format, told_count, sites_in};
 
 use crate::gapped::gapped_in;
-use crate::kind::kind_of;
+use crate::kind::kind_numbered;
 use crate::site::{Site, Sites, SitesFault};
 use crate::words::{byte, byte_or_zero, word};
 use ia32_types::SiteKind;
@@ -54,7 +54,7 @@ fn falls(bytes: &[u8], least: u64, a: usize) -> bool
 pub fn has_no_kind(bytes: &[u8], at: usize) -> bool
     ensures { result ≡ has_no_kind bytes.now at }
 {
-    at < bytes.len() && kind_of(byte(bytes, at)).is_none()
+    at < bytes.len() && kind_numbered(byte(bytes, at)).is_none()
 }
 
 fn has_wrong_total(bytes: &[u8], a: usize) -> bool
@@ -97,7 +97,7 @@ fn site_at(bytes: &[u8], a: usize) -> Site
 {
     Site {
         at: word(bytes, a),
-        kind: kind_of(byte(bytes, a + 4)).unwrap_or(SiteKind::Cli),
+        kind: kind_numbered(byte(bytes, a + 4)).unwrap_or(SiteKind::Cli),
         len: byte(bytes, a + 5),
         total: byte(bytes, a + 6),
     }

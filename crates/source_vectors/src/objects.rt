@@ -1,6 +1,6 @@
 use afterburner::{BurnFault, burn};
 use asm_parse::parse;
-use elf_form::{Object, Place, Reloc, Symbol};
+use elf_form::{Object, DefinedIn, Reloc, Symbol};
 use std::alloc::AllocError;
 use std::test::*;
 
@@ -223,7 +223,7 @@ fn long_text_has_gaps(rt: HostRuntime) -> Result<(), Fail> {
 }
 
 /// A symbol's name, place and value, and whether it is global.
-type Named = (&'static str, Place, u32, bool);
+type Named = (&'static str, DefinedIn, u32, bool);
 
 fn is_symbol(symbol: &Symbol, row: &Named) -> bool {
     symbol.name.list.as_slice() == row.0.as_bytes()
@@ -297,11 +297,11 @@ const TEXT_OF_GCC: &[u8] =
     b"\xB8\x01\x00\x00\x00\xFF\x24\x85\x00\x00\x00\x00\x90\x90\x90\x90\xB8\x21\x00\x00\x00\xE6\x80\x90\x90\x90\xF4\x90\x90\x90\x90";
 
 const SYMBOLS_OF_GCC: [Named; 5] = [
-    (".LFB0", Place::Text, 0, false),
-    (".L4", Place::Init, 0, false),
-    (".L2", Place::Text, 26, false),
-    (".L3", Place::Text, 16, false),
-    ("_start", Place::Text, 0, true),
+    (".LFB0", DefinedIn::Text, 0, false),
+    (".L4", DefinedIn::Init, 0, false),
+    (".L2", DefinedIn::Text, 26, false),
+    (".L3", DefinedIn::Text, 16, false),
+    ("_start", DefinedIn::Text, 0, true),
 ];
 
 const RELOCS_OF_GCC: [Reloc; 3] = [in_text!(8, 1, false), in_data!(0, 2), in_data!(4, 3)];
@@ -317,21 +317,21 @@ const REACHES: &str =
     ".comm a,4; .local b; .comm b,4; .lcomm c,4; .globl c; .global d; .local d; e: call f-1; .data; d: .long e, f; g:";
 
 const REACHING: [Named; 7] = [
-    ("b", Place::Bss, 4, false),
-    ("e", Place::Text, 0, false),
-    ("g", Place::Init, 8, false),
-    ("a", Place::Bss, 0, true),
-    ("c", Place::Bss, 8, true),
-    ("d", Place::Init, 0, true),
-    ("f", Place::Undefined, 0, true),
+    ("b", DefinedIn::Bss, 4, false),
+    ("e", DefinedIn::Text, 0, false),
+    ("g", DefinedIn::Init, 8, false),
+    ("a", DefinedIn::Bss, 0, true),
+    ("c", DefinedIn::Bss, 8, true),
+    ("d", DefinedIn::Init, 0, true),
+    ("f", DefinedIn::Undefined, 0, true),
 ];
 
 const REACHED: [Reloc; 3] = [in_text!(1, 6, true), in_data!(0, 1), in_data!(4, 6)];
 
 // In the order in which they are seen.
 const SEEN: [Named; 2] = [
-    ("a", Place::Undefined, 0, true),
-    ("b", Place::Undefined, 0, true),
+    ("a", DefinedIn::Undefined, 0, true),
+    ("b", DefinedIn::Undefined, 0, true),
 ];
 
 const OF_BOTH: [Reloc; 2] = [in_text!(2, 1, false), in_text!(6, 0, false)];

@@ -6,7 +6,7 @@ use Rattle.ia32_exec.specs.declared.access.Range.{Range}
 use Rattle.ia32_exec.specs.declared.access.Ranges.{Ranges}
 use Rattle.ia32_exec.specs.Ranges.{Covers}
 use Rattle.ia32_exec.specs.Effect.{IsReadReady}
-use Rattle.step_mem.specs.declared.state.State.{State}
+use Rattle.step_mem.specs.declared.state.StepState.{StepState}
 use Rattle.sys_exec.specs.declared.effect.Refusal.{Refusal}
 use Rattle.step_exec.specs.Plain.{is_in}
 use Rattle.step_exec.specs.Ready.{IsAt, IsReadAt, IsOpen, IsOpenTo, IsMade, IsReady, IsReadMade, IsLast, AreMade}
@@ -21,7 +21,7 @@ made_at r start len at m e =
     let high : at < r.at + r.len = grind (arith, nat_tests) in
     record { above = omega (arith, m.start_is, low); below = omega (arith, m.start_is, m.len_is, high) }
 
-read_at : (read write : Option Range) (state : State) (at : ℕ) → IsReadMade read write state → is_in read at ≡ true → IsReadAt write state at
+read_at : (read write : Option Range) (state : StepState) (at : ℕ) → IsReadMade read write state → is_in read at ≡ true → IsReadAt write state at
 read_at None write state at m e = absurd cc
 read_at (Some r) None state at m e = made_at r state.ready.start state.ready.len at m e
 read_at (Some r) (Some w) state at m e = made_at r state.earlier.start state.earlier.len at m e
@@ -32,11 +32,11 @@ first_in r k lt = grind (arith, nat_tests)
 both_ways : (b : Bool) → b ≡ true → b ≡ false → ⊥
 both_ways b e f = cc
 
-fits_read : (r : Range) (write : Option Range) (state : State) → IsReadMade (Some r) write state → r.at + r.len ≤ 2 ^ 32
+fits_read : (r : Range) (write : Option Range) (state : StepState) → IsReadMade (Some r) write state → r.at + r.len ≤ 2 ^ 32
 fits_read r None state m = m.fits
 fits_read r (Some w) state m = m.fits
 
-read_open : (read write : Option Range) (state : State) → IsReadMade read write state → Covers (IsOpen (record { read = read; write = write }) state) read
+read_open : (read write : Option Range) (state : StepState) → IsReadMade read write state → Covers (IsOpen (record { read = read; write = write }) state) read
 read_open None write state m = tt
 read_open (Some r) write state m = λ k lt. record {
   space = omega (arith, fits_read r write state m);
@@ -44,7 +44,7 @@ read_open (Some r) write state m = λ k lt. record {
   in_write = λ e. absurd (both_ways (is_in (Some r) (r.at + k)) (first_in r k lt) e);
 }
 
-write_open : (read write : Option Range) (state : State) → IsReadMade read write state → IsLast write true state → Covers (IsOpen (record { read = read; write = write }) state) write
+write_open : (read write : Option Range) (state : StepState) → IsReadMade read write state → IsLast write true state → Covers (IsOpen (record { read = read; write = write }) state) write
 write_open read None state m n = tt
 write_open read (Some w) state m n = λ k lt. record {
   space = omega (arith, n.0.fits);
@@ -52,10 +52,10 @@ write_open read (Some w) state m n = λ k lt. record {
   in_write = λ e. record { above = omega (arith, n.0.start_is); below = omega (arith, n.0.start_is, n.0.len_is) };
 }
 
-pub made_open : (ranges : Ranges) (state : State) → AreMade ranges state → IsReadReady (IsOpen ranges state) ranges
+pub made_open : (ranges : Ranges) (state : StepState) → AreMade ranges state → IsReadReady (IsOpen ranges state) ranges
 made_open ranges state m = record { read = read_open ranges.read ranges.write state m.read; modified = write_open ranges.read ranges.write state m.read m.write }
 
-open_to : (write : Option Range) (state : State) → IsLast write true state → Covers (IsOpenTo state.ready.start state.ready.len state.ready.write) write
+open_to : (write : Option Range) (state : StepState) → IsLast write true state → Covers (IsOpenTo state.ready.start state.ready.len state.ready.write) write
 open_to None state n = tt
 open_to (Some w) state n = λ k lt. record {
   above = omega (arith, n.0.start_is);
@@ -63,14 +63,14 @@ open_to (Some w) state n = λ k lt. record {
   write_is = n.1;
 }
 
-pub made_open_to : (ranges : Ranges) (state : State) → AreMade ranges state → Covers (IsOpenTo state.ready.start state.ready.len state.ready.write) ranges.write
+pub made_open_to : (ranges : Ranges) (state : StepState) → AreMade ranges state → Covers (IsOpenTo state.ready.start state.ready.len state.ready.write) ranges.write
 made_open_to ranges state m = open_to ranges.write state m.write
 
-pub last_ready : (range : Option Range) (write : Bool) (state : State) → IsLast range write state → IsReady range state
+pub last_ready : (range : Option Range) (write : Bool) (state : StepState) → IsLast range write state → IsReady range state
 last_ready None write state h = tt
 last_ready (Some r) write state h = h.0
 
-pub both_made : (result : Result (Unit {0}) Refusal) (found ranges : Ranges) (state : State) → found ≡ ranges
+pub both_made : (result : Result (Unit {0}) Refusal) (found ranges : Ranges) (state : StepState) → found ≡ ranges
     → OnOk result (IsReadMade found.read found.write state) → OnOk result (IsLast found.write true state) → OnOk result (AreMade ranges state)
 both_made (Err refusal) found ranges state is read write = tt
 both_made (Ok done) found ranges state is read write = subst (λ (x : Ranges). AreMade x state) is (record { read = read; write = write })

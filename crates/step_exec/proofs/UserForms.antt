@@ -19,9 +19,9 @@ use Rattle.ia32_exec.specs.declared.outcome.Stores.TheVariants.{Nothing, One}
 use Rattle.ia32_exec.specs.declared.access.Range.{Range}
 use Rattle.ia32_exec.specs.Memory.{store, number_at}
 use Rattle.ia32_exec.specs.Ranges.{segment_of, operand_range}
-use Rattle.ia32_exec.specs.Registers.{register, with_whole, passed, address_of}
+use Rattle.ia32_exec.specs.Registers.{register_value, with_whole, passed, address_of}
 use Rattle.ia32_exec.specs.Operands.{value_of}
-use Rattle.ia32_exec.specs.Stack.{stack_of, lowered, raised, top_of_stack, is_foreign, taken, pushed_number, flags_pushed, flags_popped}
+use Rattle.ia32_exec.specs.Stack.{stack_of, esp_below, esp_above, top_of_stack, is_foreign, taken, pushed_number, flags_pushed, flags_popped}
 use Rattle.ia32_types.specs.Places.{is_place, IsPlace, IsSegment, OperandsFit}
 use Rattle.ia32_exec.specs.Transfers.{gone_to, returned, jumped_through, called_through}
 use Rattle.ia32_exec.specs.Selectors.{selector_of, selector_to, read_from, pushed_from, selector_read, selector_pushed}
@@ -105,13 +105,13 @@ unfolding return_to pulled returned
 ret_form insn cpu s null =
     let r = cpu.regs in
     let h : Space → Outcome Refusal Done = λ t. user_finished cpu (returned insn r (byte_by (on_stack (stack_of r) 4) t t)) t in
-    after_read (reaching (stack_of r) 4 (by_level cpu false) s) (stack_of r) h (λ v. next (with_regs cpu (record (with_whole 4 (raised (4 + insn.imm) r) r) { eip = v })))
-    (λ t. ap (λ v. next (with_regs cpu (record (with_whole 4 (raised (4 + insn.imm) r) r) { eip = v })) t) (sym (top_read cpu t)))
+    after_read (reaching (stack_of r) 4 (by_level cpu false) s) (stack_of r) h (λ v. next (with_regs cpu (record (with_whole 4 (esp_above (4 + insn.imm) r) r) { eip = v })))
+    (λ t. ap (λ v. next (with_regs cpu (record (with_whole 4 (esp_above (4 + insn.imm) r) r) { eip = v })) t) (sym (top_read cpu t)))
     ∙ sym (nonnull (is_null cpu Ss) s (λ t. on_value (reaching (stack_of r) 4 (by_level cpu false) t) (λ _. h)) null)
 
 jump_form : (o : Operand) (cpu : Cpu) (s : Space) → IsNamed o → jump_to o cpu s
     ≡ user_form cpu (plain.reads (operand_range o Long cpu.regs)) (λ b. cond (is_place o) (outcomes.Done (gone_to (value_of o Long cpu.regs b) cpu.regs) Nothing) (outcomes.Stop stops.Unsupported)) s
-unfolding jump_to long_of operand_reached register
+unfolding jump_to long_of operand_reached register_value
 jump_form Absent cpu s n = refl
 jump_form (Segment g) cpu s n = refl
 jump_form (Control k) cpu s n = refl
@@ -127,24 +127,24 @@ jump_form (Memory a) cpu s n =
 -- a number of 4 bytes is pushed
 push_done : (cpu : Cpu) (s : Space) (v : ℕ) (after : Regs) → is_null cpu Ss ≡ false
     → (pushed cpu v >>= (λ _. next (with_regs cpu after))) s
-    ≡ user_form cpu (plain.writes (on_stack (lowered 4 cpu.regs) 4)) (λ b. outcomes.Done after (One (store (lowered 4 cpu.regs) Long v))) s
+    ≡ user_form cpu (plain.writes (on_stack (esp_below 4 cpu.regs) 4)) (λ b. outcomes.Done after (One (store (esp_below 4 cpu.regs) Long v))) s
 unfolding pushed
 push_done cpu s v after null =
-    let at : ℕ = lowered 4 cpu.regs in
+    let at : ℕ = esp_below 4 cpu.regs in
     let h : Space → Outcome Refusal Done = λ t. user_finished cpu (outcomes.Done after (One (store at Long v))) t in
     after_write (reaching at 4 (by_level cpu true) s) at Long v h (next (with_regs cpu after)) (λ t. refl)
     ∙ sym (nonnull (is_null cpu Ss) s (λ t. on_value (reaching at 4 (by_level cpu true) t) (λ _. h)) null)
 
-pushf_form : (len : ℕ) (cpu : Cpu) (s : Space) → is_null cpu Ss ≡ false → push_flags len cpu s ≡ user_form cpu (plain.writes (on_stack (lowered 4 cpu.regs) 4)) (λ b. flags_pushed len cpu.regs) s
+pushf_form : (len : ℕ) (cpu : Cpu) (s : Space) → is_null cpu Ss ≡ false → push_flags len cpu s ≡ user_form cpu (plain.writes (on_stack (esp_below 4 cpu.regs) 4)) (λ b. flags_pushed len cpu.regs) s
 unfolding push_flags flags_pushed pushed_number
-pushf_form len cpu s null = push_done cpu s cpu.regs.flags.bits (passed len (with_whole 4 (lowered 4 cpu.regs) cpu.regs)) null
+pushf_form len cpu s null = push_done cpu s cpu.regs.flags.bits (passed len (with_whole 4 (esp_below 4 cpu.regs) cpu.regs)) null
 
 pushs_form : (from : Operand) (len : ℕ) (cpu : Cpu) (s : Space) → IsSegment from → is_null cpu Ss ≡ false
-    → push_seg from len cpu s ≡ user_form cpu (plain.writes (on_stack (lowered 4 cpu.regs) 4)) (λ b. pushed_from (selectors_of cpu) from (passed len cpu.regs)) s
+    → push_seg from len cpu s ≡ user_form cpu (plain.writes (on_stack (esp_below 4 cpu.regs) 4)) (λ b. pushed_from (selectors_of cpu) from (passed len cpu.regs)) s
 unfolding push_seg pushed_number
 pushs_form (Segment g) len cpu s n null =
-    push_done cpu s (selector_in cpu g) (passed len (with_whole 4 (lowered 4 cpu.regs) cpu.regs)) null
-    ∙ ap (λ v. user_form cpu (plain.writes (on_stack (lowered 4 cpu.regs) 4)) (λ b. outcomes.Done (passed len (with_whole 4 (lowered 4 cpu.regs) cpu.regs)) (One (store (lowered 4 cpu.regs) Long v))) s) (sym (same_selector cpu g))
+    push_done cpu s (selector_in cpu g) (passed len (with_whole 4 (esp_below 4 cpu.regs) cpu.regs)) null
+    ∙ ap (λ v. user_form cpu (plain.writes (on_stack (esp_below 4 cpu.regs) 4)) (λ b. outcomes.Done (passed len (with_whole 4 (esp_below 4 cpu.regs) cpu.regs)) (One (store (esp_below 4 cpu.regs) Long v))) s) (sym (same_selector cpu g))
 pushs_form Absent len cpu s n null = absurd n
 pushs_form (Register k) len cpu s n null = absurd n
 pushs_form (Memory a) len cpu s n null = absurd n
@@ -153,7 +153,7 @@ pushs_form (Control k) len cpu s n null = absurd n
 -- what POPF comes to
 popped_case : (foreign : Bool) (cpu : Cpu) (s : Space) (len : ℕ) (f g : Flags) → f ≡ g
     → on_value (unless (refusal.Stop stops.FlagBits) (not foreign) s) (λ _. next (with_flags (past_pop cpu len) f))
-    ≡ user_finished cpu (cond foreign (outcomes.Stop stops.FlagBits) (outcomes.Done (passed len (with_whole 4 (raised 4 cpu.regs) (record cpu.regs { flags = g }))) Nothing)) s
+    ≡ user_finished cpu (cond foreign (outcomes.Stop stops.FlagBits) (outcomes.Done (passed len (with_whole 4 (esp_above 4 cpu.regs) (record cpu.regs { flags = g }))) Nothing)) s
 popped_case true cpu s len f g e = refl
 popped_case false cpu s len f g e = ap (λ (x : Flags). next (with_flags (past_pop cpu len) x) s) e
 
@@ -165,7 +165,7 @@ popf_form len cpu s u =
     let h : Space → Outcome Refusal Done = λ t. user_finished cpu (flags_popped len r (byte_by (on_stack at 4) t t)) t in
     let left : ℕ → Work Refusal Done = λ v t. on_value (unless (refusal.Stop stops.FlagBits) (not (is_foreign v)) t) (λ _. next (with_flags (past_pop cpu len) (new_flags cpu v))) in
     let right : ℕ → Work Refusal Done =
-    λ v t. user_finished cpu (cond (is_foreign v) (outcomes.Stop stops.FlagBits) (outcomes.Done (passed len (with_whole 4 (raised 4 r) (record r { flags = taken r.flags v }))) Nothing)) t
+    λ v t. user_finished cpu (cond (is_foreign v) (outcomes.Stop stops.FlagBits) (outcomes.Done (passed len (with_whole 4 (esp_above 4 r) (record r { flags = taken r.flags v }))) Nothing)) t
     in
     after_read (reaching at 4 (by_level cpu false) s) at h left
     (λ t. popped_case (is_foreign (loaded t at Long)) cpu t len (new_flags cpu (loaded t at Long)) (taken r.flags (loaded t at Long)) (user_flags_agree cpu (loaded t at Long) u.rights u.level)
@@ -201,21 +201,21 @@ plain_number range before after = number_at (byte_by (Some range) before after) 
 
 -- the push of a CALL through memory, after its target's range
 call_second : (touch : Touch) (s t : Space) (cpu : Cpu) (range : Range) (eip : ℕ) → t.earlier ≡ earlier_of s → range.len ≡ 4
-    → on_value (on_value (met denials touch t) (λ _. (reads_earlier {E = Refusal} range.at Long >>= (λ target. (writes {E = Refusal} (lowered 4 cpu.regs) Long eip >>= (λ _. gives target)))))) (λ v. next (with_regs cpu (gone_to v (with_whole 4 (lowered 4 cpu.regs) cpu.regs))))
+    → on_value (on_value (met denials touch t) (λ _. (reads_earlier {E = Refusal} range.at Long >>= (λ target. (writes {E = Refusal} (esp_below 4 cpu.regs) Long eip >>= (λ _. gives target)))))) (λ v. next (with_regs cpu (gone_to v (with_whole 4 (esp_below 4 cpu.regs) cpu.regs))))
     ≡ on_value (met denials touch t)
-    (λ _ u. user_finished cpu (outcomes.Done (gone_to (plain_number range s u) (with_whole 4 (lowered 4 cpu.regs) cpu.regs)) (One (store (lowered 4 cpu.regs) Long eip))) u)
+    (λ _ u. user_finished cpu (outcomes.Done (gone_to (plain_number range s u) (with_whole 4 (esp_below 4 cpu.regs) cpu.regs)) (One (store (esp_below 4 cpu.regs) Long eip))) u)
 call_second Ready s t cpu range eip e four =
-    ap (λ v. next (with_regs cpu (gone_to v (with_whole 4 (lowered 4 cpu.regs) cpu.regs))) (saved t (lowered 4 cpu.regs) Long eip)) (earlier_read s t range.at e ∙ sym (number_read range s t four))
+    ap (λ v. next (with_regs cpu (gone_to v (with_whole 4 (esp_below 4 cpu.regs) cpu.regs))) (saved t (esp_below 4 cpu.regs) Long eip)) (earlier_read s t range.at e ∙ sym (number_read range s t four))
 call_second (Fault code at) s t cpu range eip e four = refl
 call_second (Stop stop) s t cpu range eip e four = refl
 
 call_first : (n : Bool) (s : Space) (cpu : Cpu) (range : Range) (eip : ℕ) → is_null cpu Ss ≡ false → range.len ≡ 4
     → on_value (on_value (on_value (unless (refusal.Raise 13 0) (not n) s) (λ _. reaching range.at range.len (by_level cpu false)))
-    (λ _. (reaching (lowered 4 cpu.regs) 4 (by_level cpu true) >>= (λ _. (reads_earlier range.at Long >>= (λ target. (writes (lowered 4 cpu.regs) Long eip >>= (λ _. gives target))))))))
-    (λ v. next (with_regs cpu (gone_to v (with_whole 4 (lowered 4 cpu.regs) cpu.regs))))
+    (λ _. (reaching (esp_below 4 cpu.regs) 4 (by_level cpu true) >>= (λ _. (reads_earlier range.at Long >>= (λ target. (writes (esp_below 4 cpu.regs) Long eip >>= (λ _. gives target))))))))
+    (λ v. next (with_regs cpu (gone_to v (with_whole 4 (esp_below 4 cpu.regs) cpu.regs))))
     ≡ on_value (unless (refusal.Raise 13 0) (not n) s) (λ _ t. on_value (unless (refusal.Raise 13 0) (not (is_null cpu Ss)) t) (λ _ u. on_value (reaching range.at range.len (by_level cpu false) u)
-    (λ _ v. on_value (reaching (lowered 4 cpu.regs) 4 (by_level cpu true) v)
-    (λ _ w. user_finished cpu (outcomes.Done (gone_to (plain_number range v w) (with_whole 4 (lowered 4 cpu.regs) cpu.regs)) (One (store (lowered 4 cpu.regs) Long eip))) w))))
+    (λ _ v. on_value (reaching (esp_below 4 cpu.regs) 4 (by_level cpu true) v)
+    (λ _ w. user_finished cpu (outcomes.Done (gone_to (plain_number range v w) (with_whole 4 (esp_below 4 cpu.regs) cpu.regs)) (One (store (esp_below 4 cpu.regs) Long eip))) w))))
 unfolding accesses.reaching
 call_first true s cpu range eip null four = refl
 call_first false s cpu range eip null four =
@@ -223,24 +223,24 @@ call_first false s cpu range eip null four =
     ∙ sym (nonnull (is_null cpu Ss) s (λ u. on_value (reaching range.at range.len (by_level cpu false) u) (λ _. second)) null)
   where
     second : Space → Outcome Refusal Done
-    second v = on_value (reaching (lowered 4 cpu.regs) 4 (by_level cpu true) v)
-        (λ _ w. user_finished cpu (outcomes.Done (gone_to (plain_number range v w) (with_whole 4 (lowered 4 cpu.regs) cpu.regs)) (One (store (lowered 4 cpu.regs) Long eip))) w)
+    second v = on_value (reaching (esp_below 4 cpu.regs) 4 (by_level cpu true) v)
+        (λ _ w. user_finished cpu (outcomes.Done (gone_to (plain_number range v w) (with_whole 4 (esp_below 4 cpu.regs) cpu.regs)) (One (store (esp_below 4 cpu.regs) Long eip))) w)
 
     by_outcome : (o : Outcome Refusal (Unit {0})) → on_value (on_value o
-        (λ _. (reaching (lowered 4 cpu.regs) 4 (by_level cpu true) >>= (λ _. (reads_earlier range.at Long >>= (λ target. (writes (lowered 4 cpu.regs) Long eip >>= (λ _. gives target))))))))
-        (λ v. next (with_regs cpu (gone_to v (with_whole 4 (lowered 4 cpu.regs) cpu.regs)))) ≡ on_value o (λ _. second)
+        (λ _. (reaching (esp_below 4 cpu.regs) 4 (by_level cpu true) >>= (λ _. (reads_earlier range.at Long >>= (λ target. (writes (esp_below 4 cpu.regs) Long eip >>= (λ _. gives target))))))))
+        (λ v. next (with_regs cpu (gone_to v (with_whole 4 (esp_below 4 cpu.regs) cpu.regs)))) ≡ on_value o (λ _. second)
     by_outcome (Ok p) =
-        call_second (uses p.1 (lowered 4 cpu.regs) 4 (by_level cpu true)).0 p.1 (uses p.1 (lowered 4 cpu.regs) 4 (by_level cpu true)).1 cpu range eip
-        (uses_earlier p.1 (lowered 4 cpu.regs) 4 (by_level cpu true)) four
+        call_second (uses p.1 (esp_below 4 cpu.regs) 4 (by_level cpu true)).0 p.1 (uses p.1 (esp_below 4 cpu.regs) 4 (by_level cpu true)).1 cpu range eip
+        (uses_earlier p.1 (esp_below 4 cpu.regs) 4 (by_level cpu true)) four
     by_outcome (Err x) = refl
 
 call_form : (o : Operand) (len : ℕ) (cpu : Cpu) (s : Space) → IsPlace o → IsNamed o → is_null cpu Ss ≡ false → call_to o len cpu s
-    ≡ user_form cpu (record { read = operand_range o Long cpu.regs; write = on_stack (lowered 4 cpu.regs) 4 })
-    (λ b. cond (is_place o) (outcomes.Done (gone_to (value_of o Long cpu.regs b) (with_whole 4 (lowered 4 cpu.regs) cpu.regs)) (One (store (lowered 4 cpu.regs) Long (passed len cpu.regs).eip))) (outcomes.Stop stops.Unsupported)) s
-unfolding call_to branch.called_through operand_reached register
+    ≡ user_form cpu (record { read = operand_range o Long cpu.regs; write = on_stack (esp_below 4 cpu.regs) 4 })
+    (λ b. cond (is_place o) (outcomes.Done (gone_to (value_of o Long cpu.regs b) (with_whole 4 (esp_below 4 cpu.regs) cpu.regs)) (One (store (esp_below 4 cpu.regs) Long (passed len cpu.regs).eip))) (outcomes.Stop stops.Unsupported)) s
+unfolding call_to branch.called_through operand_reached register_value
 call_form (Register k) len cpu s p n null =
-    ap (λ j. (pushed cpu (passed len cpu.regs).eip >>= (λ _. next (with_regs cpu (gone_to (slice_index cpu.regs.r j) (with_whole 4 (lowered 4 cpu.regs) cpu.regs))))) s) (let e : k % 8 ≡ k = omega arith in e)
-    ∙ push_done cpu s (passed len cpu.regs).eip (gone_to (slice_index cpu.regs.r k) (with_whole 4 (lowered 4 cpu.regs) cpu.regs)) null
+    ap (λ j. (pushed cpu (passed len cpu.regs).eip >>= (λ _. next (with_regs cpu (gone_to (slice_index cpu.regs.r j) (with_whole 4 (esp_below 4 cpu.regs) cpu.regs))))) s) (let e : k % 8 ≡ k = omega arith in e)
+    ∙ push_done cpu s (passed len cpu.regs).eip (gone_to (slice_index cpu.regs.r k) (with_whole 4 (esp_below 4 cpu.regs) cpu.regs)) null
 call_form (Memory a) len cpu s p n null =
     let range : Range = record { at = address_of a cpu.regs; len = 4; seg = segment_of a.base } in
     call_first (is_null cpu (segment_of a.base)) s cpu range (passed len cpu.regs).eip null refl
@@ -257,7 +257,7 @@ by_op op.CallTo insn len cpu s e site fit shape u = call_form insn.a len cpu s f
 by_op op.ReadSeg insn len cpu s e site fit shape u = reads_form insn.b insn len cpu s fit.0 fit.1 shape.named_a
 by_op op.PushSeg insn len cpu s e site fit shape u = pushs_form insn.a len cpu s fit u.stack
 by_op op.PushFlags insn len cpu s e site fit shape u =
-    pushf_form len cpu s u.stack ∙ ap (λ (o : Op). user_form cpu (plain.writes (on_stack (lowered 4 cpu.regs) 4)) (λ b. plain.row o insn len cpu.regs b) s) (sym e)
+    pushf_form len cpu s u.stack ∙ ap (λ (o : Op). user_form cpu (plain.writes (on_stack (esp_below 4 cpu.regs) 4)) (λ b. plain.row o insn len cpu.regs b) s) (sym e)
 by_op op.PopFlags insn len cpu s e site fit shape u =
     popf_form len cpu s u ∙ ap (λ (o : Op). user_form cpu (plain.reads (on_stack (stack_of cpu.regs) 4)) (λ b. plain.row o insn len cpu.regs b) s) (sym e)
 by_op _ insn len cpu s e site fit shape u = absurd site

@@ -18,7 +18,7 @@ use descriptors::Cpu;
 use guest_ram::Ram;
 use ia32_exec::{Outcome, Ranges, effect, ranges};
 use ia32_types::Insn;
-use step_mem::{Kept, State};
+use step_mem::{Kept, StepState};
 use sys_exec::Refusal;
 
 /// Does an insensitive instruction. Both its ranges are tested for null segments before one is translated, and both
@@ -29,7 +29,7 @@ pub fn plain<B: Kept>(
     cpu: &Cpu,
     ram: &mut Ram,
     kept: &B,
-    state: &mut State,
+    state: &mut StepState,
 ) -> Result<Cpu, Refusal>
     requires kind { IsDone insn.now.op }
     requires shape { IsShaped insn.now }
@@ -52,7 +52,7 @@ fn in_parts<B: Kept>(
     cpu: &Cpu,
     ram: &mut Ram,
     kept: &B,
-    state: &mut State,
+    state: &mut StepState,
 ) -> Result<Cpu, Refusal>
     requires kind { IsDone insn.now.op }
     requires shape { IsShaped insn.now }
@@ -76,7 +76,7 @@ pub fn reach_both<B: Kept>(
     cpu: &Cpu,
     ram: &mut Ram,
     kept: &B,
-    state: &mut State,
+    state: &mut StepState,
 ) -> Result<(), Refusal>
     requires shape { IsShaped insn.now }
     requires sound { IsSound (B.entries kept.now) (B.floor kept.now) (B.stands kept.now) ram.old state.old }
@@ -100,7 +100,7 @@ fn reach_in<B: Kept>(
     cpu: &Cpu,
     ram: &mut Ram,
     kept: &B,
-    state: &mut State,
+    state: &mut StepState,
 ) -> Result<(), Refusal>
     requires short { IsShort ranges.now.read × IsShort ranges.now.write }
     requires sound { IsSound (B.entries kept.now) (B.floor kept.now) (B.stands kept.now) ram.old state.old }
@@ -130,7 +130,7 @@ pub fn complete<B: Kept>(
     cpu: &Cpu,
     ram: &mut Ram,
     kept: &B,
-    state: &State,
+    state: &StepState,
 ) -> Result<Cpu, Refusal>
     requires kind { IsDone insn.now.op }
     requires shape { IsShaped insn.now }
@@ -152,7 +152,7 @@ fn complete_in<B: Kept>(
     cpu: &Cpu,
     ram: &mut Ram,
     kept: &B,
-    state: &State,
+    state: &StepState,
 ) -> Result<Cpu, Refusal>
     requires ranges { ranges.now ≡ ranges_of insn.now cpu.now.regs }
     requires kind { IsDone insn.now.op }
@@ -180,7 +180,7 @@ fn outcome<B: Kept>(
     cpu: &Cpu,
     ram: &Ram,
     kept: &B,
-    state: &State,
+    state: &StepState,
 ) -> Outcome
     requires ranges { ranges.now ≡ ranges_of insn.now cpu.now.regs }
     requires kind { IsDone insn.now.op }

@@ -8,20 +8,20 @@ ghost use Rattle.step_mem.specs.Sound.{IsSound, space_at};
 use guest_ram::Ram;
 use ia32_types::Size;
 use paging::{Access, GuestMem, Touch};
-use step_mem::{Control, Guard, Kept, State};
+use step_mem::{Control, Guard, Kept, StepState};
 
 /// Memory in the middle of a step, whose state is the step's so far.
 #[derive(Drop)]
 pub struct StepMem<'a, 'g, B: Kept> {
     ram: &'a mut Ram,
     kept: &'a B,
-    state: State<'g>,
+    state: StepState<'g>,
     ghost sound: { IsSound (B.entries kept.now) (B.floor kept.now) (B.stands kept.now) ram.now state } by { Prim.hlevel props },
 }
 
 impl<'a, 'g, B: Kept> StepMem<'a, 'g, B> {
     /// This state is the step's so far.
-    pub fn over(ram: &'a mut Ram, kept: &'a B, state: &State<'g>) -> StepMem<'a, 'g, B>
+    pub fn over(ram: &'a mut Ram, kept: &'a B, state: &StepState<'g>) -> StepMem<'a, 'g, B>
         requires { IsSound (B.entries kept.now) (B.floor kept.now) (B.stands kept.now) ram.old state.now }
         ensures space { ⟦<StepMem<'a, 'g, B> as GuestMem>⟧.space result ≡ space_at (B.entries kept.now) ram.old state.now }
         ensures same_memory { result.ram.ghost_name ≡ ram.entry.ghost_name }
@@ -37,7 +37,7 @@ impl<'a, 'g, B: Kept> StepMem<'a, 'g, B> {
     }
 
     /// The state of the step so far.
-    pub fn state(&self) -> State<'g>
+    pub fn state(&self) -> StepState<'g>
         ensures state { result ≡ self.now.state }
         ensures sound { IsSound (B.entries self.now.kept.now) (B.floor self.now.kept.now) (B.stands self.now.kept.now) self.now.ram.now result }
     {

@@ -14,7 +14,7 @@ use guest_ram::Ram;
 use ia32_exec::{Range, Ranges};
 use ia32_types::Seg;
 use paging::{Access, Touch};
-use step_mem::{Kept, State};
+use step_mem::{Kept, StepState};
 use sys_exec::Refusal;
 
 fn is_null(cpu: &Cpu, seg: Seg) -> bool
@@ -45,7 +45,7 @@ pub fn is_refused(cpu: &Cpu, ranges: &Ranges) -> bool
 pub fn reach<B: Kept>(
     ram: &mut Ram,
     kept: &B,
-    state: &mut State,
+    state: &mut StepState,
     cpu: &Cpu,
     write: bool,
     range: Option<Range>,

@@ -11,9 +11,9 @@ ghost use Rattle.step_exec.specs.Ready.{IsOpenTo};
 use guest_ram::Ram;
 use ia32_exec::{Store, Stores};
 use ia32_types::Size;
-use step_mem::{Kept, State};
+use step_mem::{Kept, StepState};
 
-fn store_one<B: Kept>(ram: &mut Ram, kept: &B, state: &State, store: Store)
+fn store_one<B: Kept>(ram: &mut Ram, kept: &B, state: &StepState, store: Store)
     requires sound { IsSound (B.entries kept.now) (B.floor kept.now) (B.stands kept.now) ram.old state.now }
     requires open_to { AreStored (IsOpenTo state.now.ready.start state.now.ready.len state.now.ready.write) (Stores.One store) }
     ensures sound { IsSound (B.entries kept.now) (B.floor kept.now) (B.stands kept.now) ram.new state.now }
@@ -23,7 +23,7 @@ fn store_one<B: Kept>(ram: &mut Ram, kept: &B, state: &State, store: Store)
     step_mem::save(ram, kept, state, store.at, store.size, store.value);
 }
 
-fn store_eight<B: Kept>(ram: &mut Ram, kept: &B, state: &State, at: u32, values: [u32; 8])
+fn store_eight<B: Kept>(ram: &mut Ram, kept: &B, state: &StepState, at: u32, values: [u32; 8])
     requires sound { IsSound (B.entries kept.now) (B.floor kept.now) (B.stands kept.now) ram.old state.now }
     requires open_to { AreAll (IsOpenTo state.now.ready.start state.now.ready.len state.now.ready.write) at 32 }
     ensures sound { IsSound (B.entries kept.now) (B.floor kept.now) (B.stands kept.now) ram.new state.now }
@@ -36,7 +36,7 @@ fn store_eight<B: Kept>(ram: &mut Ram, kept: &B, state: &State, at: u32, values:
 }
 
 /// Writes numbers that lie in the write range.
-pub fn store_all<B: Kept>(ram: &mut Ram, kept: &B, state: &State, stores: &Stores)
+pub fn store_all<B: Kept>(ram: &mut Ram, kept: &B, state: &StepState, stores: &Stores)
     requires sound { IsSound (B.entries kept.now) (B.floor kept.now) (B.stands kept.now) ram.old state.now }
     requires open_to { AreStored (IsOpenTo state.now.ready.start state.now.ready.len state.now.ready.write) stores.now }
     ensures sound { IsSound (B.entries kept.now) (B.floor kept.now) (B.stands kept.now) ram.new state.now }

@@ -14,7 +14,7 @@ use descriptors::Cpu;
 use guest_ram::Ram;
 use ia32_exec::{Outcome, Selectors, ranges, user_effect};
 use ia32_types::{Insn, Seg};
-use step_mem::{Kept, State};
+use step_mem::{Kept, StepState};
 
 fn selectors_of(cpu: &Cpu) -> Selectors
     ensures { result ≡ selectors_of cpu.now }
@@ -34,7 +34,7 @@ pub fn user_outcome<B: Kept>(
     cpu: &Cpu,
     ram: &Ram,
     kept: &B,
-    state: &State,
+    state: &StepState,
 ) -> Outcome
     requires kind { IsUserDone insn.now.op }
     requires shape { IsShaped insn.now }

@@ -6,14 +6,14 @@ ghost use Rattle.step_exec.specs.Plain.{is_in};
 use guest_ram::Ram;
 use ia32_exec::{LinearBytes, Range, Ranges};
 use ia32_types::Size;
-use step_mem::{Kept, State};
+use step_mem::{Kept, StepState};
 
 /// Memory with two translated ranges: what is read alone, as it was translated, and what is written.
 #[derive(Drop)]
 pub struct View<'a, B: Kept> {
     pub ram: &'a Ram,
     pub kept: &'a B,
-    pub state: &'a State<'a>,
+    pub state: &'a StepState<'a>,
     pub ranges: Ranges,
 }
 

@@ -12,7 +12,7 @@ use descriptors::Cpu;
 use event_entry::{Kind, NotDelivered, deliver};
 use guest_ram::Ram;
 use ia32_types::Insn;
-use step_mem::{Kept, State};
+use step_mem::{Kept, StepState};
 use sys_exec::{SysEffect, sys};
 
 /// Does a sensitive instruction. Where it raises or stops, only CR2 may have changed.
@@ -23,7 +23,7 @@ pub fn sys_in<'g, B: Kept>(
     cpu: &mut Cpu,
     ram: &mut Ram,
     kept: &B,
-    state: &mut State<'g>,
+    state: &mut StepState<'g>,
 ) -> SysEffect
     requires sound { IsSound (B.entries kept.now) (B.floor kept.now) (B.stands kept.now) ram.old state.old }
     requires pages { state.old.pages ≤ 48 }
@@ -48,7 +48,7 @@ pub fn deliver_in<'g, B: Kept>(
     cpu: &mut Cpu,
     ram: &mut Ram,
     kept: &B,
-    state: &mut State<'g>,
+    state: &mut StepState<'g>,
     vector: u8,
     kind: Kind,
     code: Option<u32>,

@@ -14,7 +14,7 @@ use Rattle.step_mem.specs.Shown.{shown}
 -- what isn't used to translate a page
 pub record Rest : Type 0 where
   pub pages : ℕ
-  pub went : List ℕ
+  pub visited : List ℕ
   pub tables : List ℕ
   pub wrote : List ℕ
   pub ready : Span
@@ -31,7 +31,7 @@ space_of kept ram control guard changes rest =
       wp = control.wp;
       mode = mode_of guard;
       pages = rest.pages;
-      went = rest.went;
+      visited = rest.visited;
       tables = rest.tables;
       wrote = rest.wrote;
       ready = rest.ready;
@@ -39,7 +39,7 @@ space_of kept ram control guard changes rest =
     }
 
 abbrev pub one_more : Rest → ℕ → Rest
-one_more rest page = record rest { pages = rest.pages + 1; went = rest.went ++ page ∷ [] }
+one_more rest page = record rest { pages = rest.pages + 1; visited = rest.visited ++ page ∷ [] }
 
 -- with other tables read
 abbrev pub with_tables : Rest → List ℕ → Rest

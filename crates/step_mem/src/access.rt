@@ -16,13 +16,13 @@ use crate::guard::Guard;
 use crate::kept::Kept;
 use crate::page::look;
 use crate::shown::{Bytes, part, read, write};
-use crate::state::State;
+use crate::state::StepState;
 use crate::walking::Control;
 use guest_ram::Ram;
 use ia32_types::Size;
 
 /// The bytes that lie in one page, where the last touch or fetch was ready.
-pub fn bytes<'a, B: Kept>(ram: &'a Ram, base: &B, state: &State<'a>, at: u32, len: u32) -> Bytes<'a>
+pub fn bytes<'a, B: Kept>(ram: &'a Ram, base: &B, state: &StepState<'a>, at: u32, len: u32) -> Bytes<'a>
     requires sound { IsSound (B.entries base.now) (B.floor base.now) (B.stands base.now) ram.now state.now }
     requires found { IsSome (get (space_at (B.entries base.now) ram.now state.now).set (at / 4096)) }
     requires one { at % 4096 + len ≤ 4096 }
@@ -65,7 +65,7 @@ fn place_in<B: Kept>(
 
 /// The physical place of an address.
 #[tactic(auto, unfolding(paging::specs::Space::place))]
-pub fn place<B: Kept>(ram: &Ram, base: &B, state: &State, at: u32) -> u32
+pub fn place<B: Kept>(ram: &Ram, base: &B, state: &StepState, at: u32) -> u32
     requires sound { IsSound (B.entries base.now) (B.floor base.now) (B.stands base.now) ram.now state.now }
     requires found { IsSome (get (space_at (B.entries base.now) ram.now state.now).set (at / 4096)) }
     ensures place { result ≡ place (space_at (B.entries base.now) ram.now state.now) at }
@@ -132,7 +132,7 @@ fn number<B: Kept>(
 }
 
 /// Reads where the last touch was ready.
-pub fn load<B: Kept>(ram: &Ram, base: &B, state: &State, at: u32, size: Size) -> u32
+pub fn load<B: Kept>(ram: &Ram, base: &B, state: &StepState, at: u32, size: Size) -> u32
     requires sound { IsSound (B.entries base.now) (B.floor base.now) (B.stands base.now) ram.now state.now }
     requires ready { IsReady (space_at (B.entries base.now) ram.now state.now) at size }
     ensures value { result ≡ loaded (space_at (B.entries base.now) ram.now state.now) at size }
@@ -150,7 +150,7 @@ pub fn load<B: Kept>(ram: &Ram, base: &B, state: &State, at: u32, size: Size) ->
 }
 
 /// Reads where the touch before the last was ready, at the places that its range had then.
-pub fn load_earlier<B: Kept>(ram: &Ram, base: &B, state: &State, at: u32, size: Size) -> u32
+pub fn load_earlier<B: Kept>(ram: &Ram, base: &B, state: &StepState, at: u32, size: Size) -> u32
     requires sound { IsSound (B.entries base.now) (B.floor base.now) (B.stands base.now) ram.now state.now }
     requires ready { IsReadyEarlier (space_at (B.entries base.now) ram.now state.now) at size }
     ensures value { result ≡ loaded_earlier (space_at (B.entries base.now) ram.now state.now) at size }
@@ -170,7 +170,7 @@ pub fn load_earlier<B: Kept>(ram: &Ram, base: &B, state: &State, at: u32, size: 
 
 /// Writes a byte of the guest's.
 #[tactic(auto, unfolding(paging::specs::Space::with_byte, paging::specs::Space::place))]
-fn put_byte<B: Kept>(ram: &mut Ram, base: &B, state: &State, at: u32, v: u8)
+fn put_byte<B: Kept>(ram: &mut Ram, base: &B, state: &StepState, at: u32, v: u8)
     requires sound { IsSound (B.entries base.now) (B.floor base.now) (B.stands base.now) ram.old state.now }
     requires found { IsSome (get (space_at (B.entries base.now) ram.old state.now).set (at / 4096)) }
     requires apart { IsApart (mode_of state.now.guard) (get (space_at (B.entries base.now) ram.old state.now).set (at / 4096)) }
@@ -202,7 +202,7 @@ fn store<B: Kept>(ram: &mut Ram, base: &B, guard: &Guard, frames: u32, place: u3
 
 /// Writes where the last touch was ready for a write.
 #[tactic(auto, unfolding(paging::specs::Space::written, paging::specs::Space::with_byte, paging::specs::Space::place))]
-pub fn save<B: Kept>(ram: &mut Ram, base: &B, state: &State, at: u32, size: Size, value: u32)
+pub fn save<B: Kept>(ram: &mut Ram, base: &B, state: &StepState, at: u32, size: Size, value: u32)
     requires sound { IsSound (B.entries base.now) (B.floor base.now) (B.stands base.now) ram.old state.now }
     requires ready { IsWritable (space_at (B.entries base.now) ram.old state.now) at size }
     ensures sound { IsSound (B.entries base.now) (B.floor base.now) (B.stands base.now) ram.new state.now }

@@ -11,7 +11,7 @@ mod shown;
 mod state;
 mod touching;
 mod walking;
-mod went;
+mod visited;
 
 pub use access::{bytes, load, load_earlier, save};
 pub use changes::{Change, Changes, last_change};
@@ -19,7 +19,7 @@ pub use guard::{Guard, Own, Text};
 pub use kept::Kept;
 pub use own::{own_back, own_front};
 pub use shown::Bytes;
-pub use state::{Earlier, Reach, State};
+pub use state::{Earlier, Reach, StepState};
 pub use touching::{fetch, touch};
 pub use walking::Control;
-pub use went::Went;
+pub use visited::Visited;

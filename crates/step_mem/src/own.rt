@@ -10,11 +10,11 @@ ghost use Rattle.step_mem.specs.Sound.{IsSound, space_at};
 use crate::access::place;
 use crate::guard::Own;
 use crate::kept::Kept;
-use crate::state::State;
+use crate::state::StepState;
 use guest_ram::Ram;
 
 /// The bytes at an address are those of this step's instruction in its first page, and so far its only ones.
-pub fn own_front<B: Kept>(ram: &Ram, base: &B, state: &mut State, at: u32, len: u32)
+pub fn own_front<B: Kept>(ram: &Ram, base: &B, state: &mut StepState, at: u32, len: u32)
     requires sound { IsSound (B.entries base.now) (B.floor base.now) (B.stands base.now) ram.now state.old }
     requires found { IsSome (get (space_at (B.entries base.now) ram.now state.old).set (at / 4096)) }
     ensures sound { IsSound (B.entries base.now) (B.floor base.now) (B.stands base.now) ram.now state.new }
@@ -38,7 +38,7 @@ pub fn own_front<B: Kept>(ram: &Ram, base: &B, state: &mut State, at: u32, len: 
 }
 
 /// The bytes at an address are those of this step's instruction in its second page.
-pub fn own_back<B: Kept>(ram: &Ram, base: &B, state: &mut State, at: u32, len: u32)
+pub fn own_back<B: Kept>(ram: &Ram, base: &B, state: &mut StepState, at: u32, len: u32)
     requires sound { IsSound (B.entries base.now) (B.floor base.now) (B.stands base.now) ram.now state.old }
     requires found { IsSome (get (space_at (B.entries base.now) ram.now state.old).set (at / 4096)) }
     ensures sound { IsSound (B.entries base.now) (B.floor base.now) (B.stands base.now) ram.now state.new }

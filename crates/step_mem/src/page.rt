@@ -4,7 +4,7 @@ ghost use Rattle.std.specs.Prelude.{◌≡◌, ◌≢◌, ℕ, ◌+◌, ◌*◌,
 ghost use Rattle.std.specs.Option.{ForSome};
 ghost use Rattle.std.specs.FinMap.{get};
 ghost use Rattle.paging.specs.Uses.{page_uses, settled, decided, usable, is_barred};
-ghost use Rattle.step_mem.specs.Changes.{changed, AreWithin};
+ghost use Rattle.step_mem.specs.Changes.{changed, AreWithin, MoreOf};
 ghost use Rattle.step_mem.specs.Guard.{mode_of, IsLaid};
 ghost use Rattle.step_mem.specs.Shown.{hidden};
 ghost use Rattle.step_mem.specs.Space.{Rest, space_of, one_more, with_tables};
@@ -14,7 +14,7 @@ use crate::changes::{Change, Changes, change_of, last_change};
 use crate::guard::{Guard, is_barred};
 use crate::kept::Kept;
 use crate::walking::{Control, decide, note_tables};
-use crate::went::Went;
+use crate::visited::Visited;
 use guest_ram::Ram;
 use ia32_types::Stop;
 use paging::{Access, Entry, Touch, allows};
@@ -38,7 +38,7 @@ fn settle<B: Kept>(
     control: Control,
     guard: &Guard,
     changes: &mut Changes,
-    tables: &mut Went,
+    tables: &mut Visited,
     fetch: bool,
     page: u32,
     at: u32,
@@ -62,6 +62,7 @@ fn settle<B: Kept>(
     ensures hidden { hidden guard.now control.frames ram.new ≡ hidden guard.now control.frames ram.old }
     ensures within { AreWithin control.frames (changed (B.entries base.now ram.new) changes.new) }
     ensures counted { length changes.new ≡ length changes.old + 1 }
+    ensures more { MoreOf page changes.old changes.new }
     ensures front { (count : ℕ) → count ≤ length changes.old → take count changes.new ≡ take count changes.old }
     ensures found { result ≡ Touch.Ready → IsSome (get (changed (B.entries base.now ram.new) changes.new) page) }
     ensures clear { result ≡ Touch.Ready → ForSome (get (changed (B.entries base.now ram.new) changes.new) page) (λ entry. is_barred (mode_of guard.now) fetch access.user page entry.frame ≡ false) }
@@ -82,7 +83,7 @@ pub fn page_use<B: Kept>(
     control: Control,
     guard: &Guard,
     changes: &mut Changes,
-    tables: &mut Went,
+    tables: &mut Visited,
     fetch: bool,
     page: u32,
     at: u32,
@@ -105,6 +106,7 @@ pub fn page_use<B: Kept>(
     ensures hidden { hidden guard.now control.frames ram.new ≡ hidden guard.now control.frames ram.old }
     ensures within { AreWithin control.frames (changed (B.entries base.now ram.new) changes.new) }
     ensures counted { length changes.new ≤ length changes.old + 1 }
+    ensures more { MoreOf page changes.old changes.new }
     ensures grown { length changes.old ≤ length changes.new }
     ensures front { (count : ℕ) → count ≤ length changes.old → take count changes.new ≡ take count changes.old }
     ensures found { result ≡ Touch.Ready → IsSome (get (changed (B.entries base.now ram.new) changes.new) page) }

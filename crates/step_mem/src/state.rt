@@ -6,7 +6,7 @@ ghost use Rattle.step_mem.specs.Sound.{begun};
 use crate::changes::Changes;
 use crate::guard::Guard;
 use crate::walking::Control;
-use crate::went::Went;
+use crate::visited::Visited;
 
 /// What was made ready.
 #[derive(Clone, Copy)]
@@ -26,31 +26,31 @@ pub struct Earlier {
 
 /// What a step keeps beside memory.
 #[derive(Drop)]
-pub struct State<'a> {
+pub struct StepState<'a> {
     pub control: Control,
     pub guard: Guard<'a>,
     pub changes: Changes,
     pub pages: u32,
-    pub went: Went,
-    pub tables: Went,
-    pub wrote: Went,
+    pub visited: Visited,
+    pub tables: Visited,
+    pub wrote: Visited,
     pub ready: Reach,
     pub earlier: Earlier,
 }
 
-impl<'a> State<'a> {
+impl<'a> StepState<'a> {
     /// At the beginning of a step nothing is used or ready.
-    pub fn new(control: Control, guard: Guard<'a>) -> State<'a>
+    pub fn new(control: Control, guard: Guard<'a>) -> StepState<'a>
         ensures { result ≡ begun control guard.entry }
     {
-        State {
+        StepState {
             control,
             guard,
             changes: Changes::new(),
             pages: 0,
-            went: Went::new(),
-            tables: Went::new(),
-            wrote: Went::new(),
+            visited: Visited::new(),
+            tables: Visited::new(),
+            wrote: Visited::new(),
             ready: Reach {
                 start: 0,
                 len: 0,
@@ -72,7 +72,7 @@ impl<'a> State<'a> {
         self.guard = guard;
         self.changes.clear();
         self.pages = 0;
-        self.went.clear();
+        self.visited.clear();
         self.tables.clear();
         self.wrote.clear();
         self.ready = Reach {
@@ -88,15 +88,15 @@ impl<'a> State<'a> {
     }
 
     /// The same state again.
-    pub fn copied(&self) -> State<'a>
+    pub fn copied(&self) -> StepState<'a>
         ensures { result ≡ self.now }
     {
-        State {
+        StepState {
             control: self.control,
             guard: self.guard,
             changes: self.changes.copied(),
             pages: self.pages,
-            went: self.went.copied(),
+            visited: self.visited.copied(),
             tables: self.tables.copied(),
             wrote: self.wrote.copied(),
             ready: self.ready,

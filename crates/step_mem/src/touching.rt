@@ -13,13 +13,13 @@ use crate::changes::Changes;
 use crate::guard::window_stop;
 use crate::kept::Kept;
 use crate::page::{look, page_use};
-use crate::state::{Earlier, Reach, State};
+use crate::state::{Earlier, Reach, StepState};
 use guest_ram::Ram;
 use ia32_types::Stop;
 use paging::{Access, Touch};
 
 /// A touch begins: nothing is ready, and what was ready is so no more than before it.
-fn begin<B: Kept>(ram: &Ram, base: &B, state: &mut State)
+fn begin<B: Kept>(ram: &Ram, base: &B, state: &mut StepState)
     requires { IsSound (B.entries base.now) (B.floor base.now) (B.stands base.now) ram.now state.old }
     ensures sound { IsSound (B.entries base.now) (B.floor base.now) (B.stands base.now) ram.now state.new }
     ensures space { space_at (B.entries base.now) ram.now state.new ≡ unready (space_at (B.entries base.now) ram.now state.old) }
@@ -45,7 +45,7 @@ fn begin<B: Kept>(ram: &Ram, base: &B, state: &mut State)
 fn one_page<B: Kept>(
     ram: &mut Ram,
     base: &B,
-    state: &mut State,
+    state: &mut StepState,
     fetch: bool,
     page: u32,
     at: u32,
@@ -70,7 +70,7 @@ fn one_page<B: Kept>(
         ≡ get (space_at (B.entries base.now) ram.old state.old).set other }
 {
     state.pages += 1;
-    state.went.push(page);
+    state.visited.push(page);
     page_use(
         ram,
         base,
@@ -89,7 +89,7 @@ fn one_page<B: Kept>(
 fn second_page<B: Kept>(
     ram: &mut Ram,
     base: &B,
-    state: &mut State,
+    state: &mut StepState,
     at: u32,
     len: u32,
     access: Access,
@@ -126,7 +126,7 @@ fn second_page<B: Kept>(
 pub fn touch<B: Kept>(
     ram: &mut Ram,
     base: &B,
-    state: &mut State,
+    state: &mut StepState,
     at: u32,
     len: u32,
     access: Access,
@@ -171,7 +171,7 @@ pub fn touch<B: Kept>(
 }
 
 /// Notes the frames of a range that is ready for a write.
-fn note_written<B: Kept>(ram: &Ram, base: &B, state: &mut State, at: u32, len: u32)
+fn note_written<B: Kept>(ram: &Ram, base: &B, state: &mut StepState, at: u32, len: u32)
     requires sound { IsSound (B.entries base.now) (B.floor base.now) (B.stands base.now) ram.now state.old }
     requires room { length state.old.wrote ≤ 126 }
     requires some { 1 ≤ len }
@@ -205,7 +205,7 @@ fn frame<B: Kept>(ram: &Ram, base: &B, changes: &Changes, page: u32) -> u32
 fn fetch_page<B: Kept>(
     ram: &mut Ram,
     base: &B,
-    state: &mut State,
+    state: &mut StepState,
     at: u32,
     len: u32,
     access: Access,
@@ -233,7 +233,7 @@ fn fetch_page<B: Kept>(
 pub fn fetch<B: Kept>(
     ram: &mut Ram,
     base: &B,
-    state: &mut State,
+    state: &mut StepState,
     at: u32,
     len: u32,
     user: bool,

@@ -9,7 +9,7 @@ ghost use Rattle.step_mem.specs.Tables.{tables};
 
 use crate::guard::{Guard, is_barred, is_own, is_text};
 use crate::shown::{mark, read, read_shown_word, read_word};
-use crate::went::Went;
+use crate::visited::Visited;
 use guest_ram::Ram;
 use ia32_types::Stop;
 use paging::{Access, Entry, Touch, Walk, grants, walk};
@@ -93,7 +93,7 @@ fn marks_own(
 
 /// Notes the frames that a walk of a page reads as tables.
 #[tactic(auto, unfolding(paging::specs::Fresh::tables_read))]
-pub fn note_tables(ram: &Ram, control: Control, guard: &Guard, page: u32, tables: &mut Went)
+pub fn note_tables(ram: &Ram, control: Control, guard: &Guard, page: u32, tables: &mut Visited)
     requires frames { 4096 * control.frames ≤ length ram.now }
     requires laid { IsLaid guard.now.text.now control.frames }
     requires page { page < 2 ^ 20 }

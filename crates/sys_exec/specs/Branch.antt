@@ -5,7 +5,7 @@ use Rattle.ia32_types.specs.declared.insn.Operand.{Operand}
 use Rattle.ia32_types.specs.declared.insn.Operand.TheVariants.{Absent, Register, Memory, Segment, Control}
 use Rattle.ia32_types.specs.declared.size.Size.TheVariants.{Long}
 use Rattle.ia32_exec.specs.Registers.{address_of, with_whole}
-use Rattle.ia32_exec.specs.Stack.{lowered, raised}
+use Rattle.ia32_exec.specs.Stack.{esp_below, esp_above}
 use Rattle.paging.specs.Work.{Work, ◌>>=◌, refuses, gives, reads_earlier, writes}
 use Rattle.descriptors.specs.declared.cpu.Cpu.{Cpu}
 use Rattle.sys_exec.specs.declared.effect.Refusal.{Refusal}
@@ -17,7 +17,7 @@ use Rattle.sys_exec.specs.Operand.{unsupported, by_level, reg_at, operand_reache
 unfoldable pub return_to : ℕ → Cpu → Work Refusal Done
 return_to more cpu = do
   target ← pulled cpu
-  next (with_regs cpu (record (with_whole 4 (raised (4 + more) cpu.regs) cpu.regs) { eip = target }))
+  next (with_regs cpu (record (with_whole 4 (esp_above (4 + more) cpu.regs) cpu.regs) { eip = target }))
 
 -- JMP through an operand
 unfoldable pub jump_to : Operand → Cpu → Work Refusal Done
@@ -30,9 +30,9 @@ jump_to a cpu = do
 unfoldable pub called_through : Address → ℕ → Cpu → Work Refusal ℕ
 called_through a len cpu = do
   _ ← operand_reached cpu a 4 false
-  _ ← reaching (lowered 4 cpu.regs) 4 (by_level cpu true)
+  _ ← reaching (esp_below 4 cpu.regs) 4 (by_level cpu true)
   target ← reads_earlier (address_of a cpu.regs) Long
-  _ ← writes (lowered 4 cpu.regs) Long (past cpu len).regs.eip
+  _ ← writes (esp_below 4 cpu.regs) Long (past cpu len).regs.eip
   gives target
 
 -- CALL through an operand

@@ -11,7 +11,7 @@ use Rattle.sys_exec.specs.declared.effect.Refusal.TheVariants.{Stop}
 use Rattle.sys_exec.specs.declared.effect.SysEffect.TheVariants as effects
 use Rattle.sys_exec.specs.declared.effect.Done.{Done}
 use Rattle.sys_exec.specs.Operand.{protection_0, kernel_alone, pulled, pushed, with_regs, past, past_push, past_pop, next}
-use Rattle.sys_exec.specs.Iret.{is_plain, is_within, new_flags}
+use Rattle.sys_exec.specs.Iret.{keeps_flags, is_within, new_flags}
 
 abbrev pub with_flags : Cpu → Flags → Cpu
 with_flags cpu flags = with_regs cpu (record cpu.regs { flags = flags })
@@ -44,5 +44,5 @@ push_flags len cpu = do
 unfoldable pub pop_flags : ℕ → Cpu → Work Refusal Done
 pop_flags len cpu = do
   image ← pulled cpu
-  _ ← unless (Stop stops.FlagBits) (is_plain image)
+  _ ← unless (Stop stops.FlagBits) (keeps_flags image)
   next (with_flags (past_pop cpu len) (new_flags cpu image))

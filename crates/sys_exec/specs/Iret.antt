@@ -38,8 +38,8 @@ popped_outer cpu = do
   gives (record { top = top; sel = sel % 65536 })
 
 -- an image that sets none of the flags that aren't kept
-abbrev pub is_plain : ℕ → Bool
-is_plain image = not (is_foreign image)
+abbrev pub keeps_flags : ℕ → Bool
+keeps_flags image = not (is_foreign image)
 
 -- the level is within IOPL
 abbrev pub is_within : Cpu → Bool
@@ -79,7 +79,7 @@ outer_segments cpu cpl code stack =
 
 unfoldable pub return_same : Cpu → Popped → Loading → Work Refusal Cpu
 return_same cpu p code = do
-  _ ← unless (Stop stops.FlagBits) (is_plain p.flags)
+  _ ← unless (Stop stops.FlagBits) (keeps_flags p.flags)
   _ ← marked cpu code
   gives (returned cpu p ((top_of cpu + 12) % 2 ^ 32) cpu.cpl (slice_set cpu.seg 1 code.hidden))
 
@@ -87,7 +87,7 @@ unfoldable pub return_outer : Cpu → Popped → Loading → Work Refusal Cpu
 return_outer cpu p code = do
   outer ← popped_outer cpu
   stack ← find_stack cpu (p.sel % 4) outer.sel
-  _ ← unless (Stop stops.FlagBits) (is_plain p.flags)
+  _ ← unless (Stop stops.FlagBits) (keeps_flags p.flags)
   _ ← marked cpu code
   _ ← marked cpu stack
   gives (returned cpu p outer.top (p.sel % 4) (outer_segments cpu (p.sel % 4) code.hidden stack.hidden))

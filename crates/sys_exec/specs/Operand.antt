@@ -9,7 +9,7 @@ use Rattle.ia32_types.specs.declared.size.Size.TheVariants as sizes
 use Rattle.ia32_types.specs.declared.stop.Stop.TheVariants as stops
 use Rattle.ia32_exec.specs.Registers.{address_of, with_whole, passed}
 use Rattle.ia32_exec.specs.Ranges.{segment_of}
-use Rattle.ia32_exec.specs.Stack.{stack_of, lowered, raised}
+use Rattle.ia32_exec.specs.Stack.{stack_of, esp_below, esp_above}
 use Rattle.paging.specs.declared.entry.Access.{Access}
 use Rattle.paging.specs.Work.{Work, ◌>>=◌, refuses, gives, unless, reads, writes}
 use Rattle.descriptors.specs.Segments.{segment_in}
@@ -76,8 +76,8 @@ pulled cpu = do
 -- a number of four bytes goes below the stack
 unfoldable pub pushed : Cpu → ℕ → Work Refusal (Unit {0})
 pushed cpu v = do
-  _ ← reaching (lowered 4 cpu.regs) 4 (by_level cpu true)
-  writes (lowered 4 cpu.regs) sizes.Long v
+  _ ← reaching (esp_below 4 cpu.regs) 4 (by_level cpu true)
+  writes (esp_below 4 cpu.regs) sizes.Long v
 
 abbrev pub with_regs : Cpu → Regs → Cpu
 with_regs cpu regs = record cpu { regs = regs }
@@ -92,10 +92,10 @@ past_with cpu len k v = with_regs cpu (passed len (with_whole k v cpu.regs))
 
 -- past the instruction, with ESP after a push and after a pop of four bytes
 abbrev pub past_push : Cpu → ℕ → Cpu
-past_push cpu len = past_with cpu len 4 (lowered 4 cpu.regs)
+past_push cpu len = past_with cpu len 4 (esp_below 4 cpu.regs)
 
 abbrev pub past_pop : Cpu → ℕ → Cpu
-past_pop cpu len = past_with cpu len 4 (raised 4 cpu.regs)
+past_pop cpu len = past_with cpu len 4 (esp_above 4 cpu.regs)
 
 -- at a target
 abbrev pub gone_to : Cpu → ℕ → Cpu

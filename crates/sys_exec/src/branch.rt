@@ -2,13 +2,13 @@
 
 ghost use Rattle.std.specs.Prelude.{◌≡◌, ◌+◌, ◌*◌, ◌≤◌, ◌<◌, ◌^◌};
 ghost use Rattle.paging.specs.Work.{Gives};
-ghost use Rattle.ia32_exec.specs.Stack.{raised};
+ghost use Rattle.ia32_exec.specs.Stack.{esp_above};
 ghost use Rattle.sys_exec.specs.Branch.{return_to, jump_to, called_through, call_to};
 ghost use Rattle.sys_exec.specs.Asked.{GivesAsked};
 
 use crate::effect::{Done, Refusal};
 use crate::operand::{
-    UNSUPPORTED, by_level, gone_to, long_of, lowered, next, past, past_push, pull, push,
+    UNSUPPORTED, by_level, gone_to, long_of, esp_below, next, past, past_push, pull, push,
     reach_operand, reg_at,
 };
 use descriptors::{Cpu, reach};
@@ -18,7 +18,7 @@ use paging::GuestMem;
 
 /// ESP after a pop that drops further bytes.
 fn raised_over(cpu: &Cpu, more: u32) -> u32
-    ensures { result ≡ raised (4 + more) cpu.now.regs }
+    ensures { result ≡ esp_above (4 + more) cpu.now.regs }
 {
     let sum = u64::from(cpu.regs.r[4]) + (4 + u64::from(more));
     (sum % (1 << 32)) as u32
@@ -61,7 +61,7 @@ fn call_through<M: GuestMem>(a: &Address, len: u8, cpu: &Cpu, mem: &mut M) -> Re
     ensures frame { M.frame mem.new ≡ M.frame mem.old }
 {
     reach_operand(cpu, mem, a, 4, false)?;
-    let top = lowered(cpu);
+    let top = esp_below(cpu);
     reach::<M, Refusal>(mem, top, 4, by_level(cpu, true))?;
     let target = mem.load_earlier(address_of(*a, &cpu.regs), Size::Long);
     mem.save(top, Size::Long, past(cpu, len).regs.eip);

@@ -7,7 +7,7 @@ ghost use Rattle.sys_exec.specs.Flags.{with_flags, clear_interrupts, set_interru
 ghost use Rattle.sys_exec.specs.Asked.{GivesAsked};
 
 use crate::effect::{Done, Refusal, SysEffect};
-use crate::iret::{is_plain, is_within, new_flags};
+use crate::iret::{keeps_flags, is_within, new_flags};
 use crate::operand::{PROTECTION_0, next, past, past_pop, past_push, pull, push};
 use descriptors::Cpu;
 use ia32_types::{Flags, Stop};
@@ -92,7 +92,7 @@ pub fn pop_flags<M: GuestMem>(len: u8, cpu: &Cpu, mem: &mut M) -> Result<Done, R
     ensures asked { GivesAsked result }
 {
     let image = pull(cpu, mem)?;
-    if !is_plain(image) {
+    if !keeps_flags(image) {
         return Err(Refusal::Stop(Stop::FlagBits));
     }
     let flags = new_flags(cpu, image);

@@ -2,7 +2,7 @@
 
 ghost use Rattle.std.specs.Prelude.{◌≡◌, ◌+◌, ◌*◌, ◌/◌, ◌%◌, ◌≤◌, ◌<◌, ◌^◌};
 ghost use Rattle.paging.specs.Work.{Gives};
-ghost use Rattle.sys_exec.specs.Iret.{popped, popped_outer, is_plain, is_within, with_interrupt, with_level, new_flags, returned, kept_segment, outer_segments, return_same, return_outer, interrupt_return};
+ghost use Rattle.sys_exec.specs.Iret.{popped, popped_outer, keeps_flags, is_within, with_interrupt, with_level, new_flags, returned, kept_segment, outer_segments, return_same, return_outer, interrupt_return};
 
 use crate::effect::{Loading, Refusal};
 use crate::operand::by_level;
@@ -64,8 +64,8 @@ fn pop_outer<M: GuestMem>(cpu: &Cpu, mem: &mut M) -> Result<Outer, Refusal>
 }
 
 /// An image that sets none of the flags that aren't kept.
-pub fn is_plain(image: u32) -> bool
-    ensures { result ≡ is_plain image }
+pub fn keeps_flags(image: u32) -> bool
+    ensures { result ≡ keeps_flags image }
 {
     !is_foreign(Flags { bits: image })
 }
@@ -161,7 +161,7 @@ fn return_same<M: GuestMem>(
     ensures pages { (M.space mem.new).pages ≤ (M.space mem.old).pages + 2 }
     ensures frame { M.frame mem.new ≡ M.frame mem.old }
 {
-    if !is_plain(p.flags) {
+    if !keeps_flags(p.flags) {
         return Err(Refusal::Stop(Stop::FlagBits));
     }
     mark_loaded(cpu, mem, code)?;
@@ -185,7 +185,7 @@ fn return_outer<M: GuestMem>(
     let outer = pop_outer(cpu, mem)?;
     let cpl = (p.sel % 4) as u8;
     let stack = find_stack(cpu, mem, cpl, outer.sel)?;
-    if !is_plain(p.flags) {
+    if !keeps_flags(p.flags) {
         return Err(Refusal::Stop(Stop::FlagBits));
     }
     mark_loaded(cpu, mem, code)?;

@@ -17,3 +17,4 @@ mod table;
 pub use agreement::{rows_agree, user_flags_agree};
 pub use effect::{Refusal, SysEffect};
 pub use execute::sys;
+pub use operand::past;

@@ -5,7 +5,7 @@ ghost use Rattle.paging.specs.Work.{Gives};
 ghost use Rattle.paging.specs.Space.{IsReach};
 ghost use Rattle.ia32_exec.specs.Registers.{address_of, with_whole, passed};
 ghost use Rattle.ia32_exec.specs.Ranges.{segment_of};
-ghost use Rattle.ia32_exec.specs.Stack.{lowered, raised};
+ghost use Rattle.ia32_exec.specs.Stack.{esp_below, esp_above};
 ghost use Rattle.sys_exec.specs.Operand.{selector_in, reg_at, operand_reached, selector, long_of, pulled, pushed, by_level, past, past_with, past_push, past_pop, gone_to};
 
 use crate::effect::{Done, Refusal, SysEffect};
@@ -128,22 +128,22 @@ pub fn push<M: GuestMem>(cpu: &Cpu, mem: &mut M, value: u32) -> Result<(), Refus
     ensures pages { (M.space mem.new).pages ≤ (M.space mem.old).pages + 2 }
     ensures frame { M.frame mem.new ≡ M.frame mem.old }
 {
-    let at = lowered(cpu);
+    let at = esp_below(cpu);
     reach::<M, Refusal>(mem, at, 4, by_level(cpu, true))?;
     mem.save(at, Size::Long, value);
     Ok(())
 }
 
 /// ESP after a push.
-pub fn lowered(cpu: &Cpu) -> u32
-    ensures { result ≡ lowered 4 cpu.now.regs }
+pub fn esp_below(cpu: &Cpu) -> u32
+    ensures { result ≡ esp_below 4 cpu.now.regs }
 {
     cpu.regs.r[4].wrapping_sub(4)
 }
 
 /// ESP after a pop of so many bytes.
-pub fn raised(cpu: &Cpu, by: u32) -> u32
-    ensures { result ≡ raised by cpu.now.regs }
+pub fn esp_above(cpu: &Cpu, by: u32) -> u32
+    ensures { result ≡ esp_above by cpu.now.regs }
 {
     cpu.regs.r[4].wrapping_add(by)
 }
@@ -171,14 +171,14 @@ pub fn past_with(cpu: &Cpu, len: u8, k: u8, value: u32) -> Cpu
 pub fn past_push(cpu: &Cpu, len: u8) -> Cpu
     ensures { result ≡ past_push cpu.now len }
 {
-    past_with(cpu, len, 4, lowered(cpu))
+    past_with(cpu, len, 4, esp_below(cpu))
 }
 
 /// Past the instruction, with ESP after a pop.
 pub fn past_pop(cpu: &Cpu, len: u8) -> Cpu
     ensures { result ≡ past_pop cpu.now len }
 {
-    past_with(cpu, len, 4, raised(cpu, 4))
+    past_with(cpu, len, 4, esp_above(cpu, 4))
 }
 
 /// At a target.

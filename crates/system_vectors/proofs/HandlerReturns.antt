@@ -19,7 +19,7 @@ use Rattle.sys_exec.specs.declared.effect.Loading.{Loading}
 use Rattle.sys_exec.specs.declared.effect.Done.{Done}
 use Rattle.sys_exec.specs.Operand.{next}
 use Rattle.sys_exec.specs.Sys.{row, returned_by, sys_work}
-use Rattle.sys_exec.specs.Iret.{is_plain, popped, popped_outer, top_of, returned, kept_segment, outer_segments, return_same, return_outer, interrupt_return}
+use Rattle.sys_exec.specs.Iret.{keeps_flags, popped, popped_outer, top_of, returned, kept_segment, outer_segments, return_same, return_outer, interrupt_return}
 use Rattle.ia32_exec.specs.Stack.{is_foreign}
 use Rattle.sys_exec.specs.Segment.{protection, loading, marked, find_return, find_stack, return_tests, stack_tests}
 use Rattle.system_vectors.proofs.Results.{Through, through, value_is, Ends, ends_then, Any, any_work, skip, given, tested, known}
@@ -140,7 +140,7 @@ stack_load_ends cpu cpl sel = search (with_stack_tests, skip, any_work, given, l
 -- ---- back
 
 -- the image of the flags is one that IRET takes
-plain_is : (image : ℕ) → is_plain image ≡ true → is_foreign image ≡ false
+plain_is : (image : ℕ) → keeps_flags image ≡ true → is_foreign image ≡ false
 plain_is image e = flip (is_foreign image) e
   where
     flip : (b : Bool) → not b ≡ true → b ≡ false
@@ -149,14 +149,14 @@ plain_is image e = flip (is_foreign image) e
 
 -- what IRET gives at the same level
 pub record IsSameBack (h : Cpu) (p : Popped) (l : Loading) (b : Cpu) : Type 0 where
-  pub plain : is_plain p.flags ≡ true
+  pub plain : keeps_flags p.flags ≡ true
   pub is : b ≡ returned h p ((top_of h + 12) % 2 ^ 32) h.cpl (slice_set h.seg 1 l.hidden)
 
-same_is : (h : Cpu) (p : Popped) (l : Loading) → is_plain p.flags ≡ true → IsSameBack h p l (returned h p ((top_of h + 12) % 2 ^ 32) h.cpl (slice_set h.seg 1 l.hidden))
+same_is : (h : Cpu) (p : Popped) (l : Loading) → keeps_flags p.flags ≡ true → IsSameBack h p l (returned h p ((top_of h + 12) % 2 ^ 32) h.cpl (slice_set h.seg 1 l.hidden))
 same_is h p l plain = record { plain = plain; is = refl }
 
-with_plain : (image : ℕ) {Q : Cpu → Type 0} {f : Unit {0} → Work Refusal Cpu} → ((x : Unit {0}) → is_plain image ≡ true → Ends Q (f x)) →
-    Ends Q (unless (refusals.Stop stops.FlagBits) (is_plain image) >>= f)
+with_plain : (image : ℕ) {Q : Cpu → Type 0} {f : Unit {0} → Work Refusal Cpu} → ((x : Unit {0}) → keeps_flags image ≡ true → Ends Q (f x)) →
+    Ends Q (unless (refusals.Stop stops.FlagBits) (keeps_flags image) >>= f)
 with_plain image {Q = Q} {f = f} h = tested Q _ _ f h
 
 same_ends : (h : Cpu) (p : Popped) (l : Loading) → Ends (IsSameBack h p l) (return_same h p l)
@@ -188,19 +188,19 @@ same_back cpu code entry stack l b int from zero at back =
 
 -- what IRET gives at the outer level
 pub record IsOuterBack (h : Cpu) (p : Popped) (l : Loading) (o : Outer) (b : Cpu) : Type 0 where
-  pub plain : is_plain p.flags ≡ true
+  pub plain : keeps_flags p.flags ≡ true
   pub stack : Loading
   pub loaded : IsAtLevel o.sel (p.sel % 4) stack
   pub is : b ≡ returned h p o.top (p.sel % 4) (outer_segments h (p.sel % 4) l.hidden stack.hidden)
 
-outer_is : (h : Cpu) (p : Popped) (l : Loading) (o : Outer) (stack : Loading) → IsAtLevel o.sel (p.sel % 4) stack → is_plain p.flags ≡ true →
+outer_is : (h : Cpu) (p : Popped) (l : Loading) (o : Outer) (stack : Loading) → IsAtLevel o.sel (p.sel % 4) stack → keeps_flags p.flags ≡ true →
     IsOuterBack h p l o (returned h p o.top (p.sel % 4) (outer_segments h (p.sel % 4) l.hidden stack.hidden))
 outer_is h p l o stack at plain = record { plain = plain; stack = stack; loaded = at; is = refl }
 
 abbrev outer_rest : Cpu → Popped → Loading → Outer → Work Refusal Cpu
 outer_rest h p l o = do
   stack ← find_stack h (p.sel % 4) o.sel
-  _ ← unless (refusals.Stop stops.FlagBits) (is_plain p.flags)
+  _ ← unless (refusals.Stop stops.FlagBits) (keeps_flags p.flags)
   _ ← marked h l
   _ ← marked h stack
   gives (returned h p o.top (p.sel % 4) (outer_segments h (p.sel % 4) l.hidden stack.hidden))

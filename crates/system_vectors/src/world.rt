@@ -13,7 +13,7 @@ use ia32_decode::{Decoded, decode};
 use ia32_types::{Flags, Insn, Op, Operand, Regs, Size};
 use std::alloc::{AllocError, Global};
 use step_exec::{deliver_in, sys_in};
-use step_mem::{Control, Guard, Kept, Own, State, Text};
+use step_mem::{Control, Guard, Kept, Own, StepState, Text};
 use sys_exec::SysEffect;
 use xlate_buffer::Buffer;
 
@@ -229,7 +229,7 @@ fn memory(alloc: Global, words: &Words) -> Result<Ram, AllocError> {
 }
 
 // What a step keeps, before its first access.
-fn begin<'g, B: Kept>(cpu: &Cpu, ram: &Ram, kept: &B, frames: u32, guard: Guard<'g>) -> State<'g>
+fn begin<'g, B: Kept>(cpu: &Cpu, ram: &Ram, kept: &B, frames: u32, guard: Guard<'g>) -> StepState<'g>
     requires frames { 4096 * frames ≤ length ram.now }
     requires below { 4096 * frames ≤ B.floor kept.now }
     requires stands { ∥ B.stands kept.now ram.now ∥₁ }
@@ -245,7 +245,7 @@ fn begin<'g, B: Kept>(cpu: &Cpu, ram: &Ram, kept: &B, frames: u32, guard: Guard<
         pse: cpu.pse(),
         wp: cpu.cr0 / 65536 % 2 == 1,
     };
-    State::new(control, guard)
+    StepState::new(control, guard)
 }
 
 const UNREAD: Own = Own {

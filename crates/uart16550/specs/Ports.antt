@@ -27,8 +27,8 @@ abbrev pub waits : Registers → Bool
 waits r = nat_lt 0 (length r.kept)
 
 -- the port asks for an interrupt
-abbrev pub line_of : Registers → Bool
-line_of r = r.interrupt_enable && waits r
+abbrev pub interrupt_line : Registers → Bool
+interrupt_line r = r.interrupt_enable && waits r
 
 abbrev pub is_port : ℕ → Bool
 is_port port = nat_le 0x3F8 port && nat_le port 0x3FF
@@ -82,7 +82,7 @@ unfoldable pub read_at : Registers → ℕ → ℕ
 read_at r port =
     if port == 0x3F8 then data_read r
     else if port == 0x3F9 then interrupt_enable_read r
-    else if port == 0x3FA then (if line_of r then 4 else 1)
+    else if port == 0x3FA then (if interrupt_line r then 4 else 1)
     else if port == 0x3FB then r.line_control
     else if port == 0x3FC then r.modem_control
     else if port == 0x3FD then (if waits r then 0x61 else 0x60)

@@ -1,6 +1,6 @@
 ghost use Rattle.std.specs.Prelude.{◌≡◌, ◌≤◌, true, Some, None, if◌then◌else◌};
 ghost use Rattle.ia32_types.specs.declared.stop.Did.TheVariants.{Stop};
-ghost use Rattle.uart16550.specs.Ports.{at_reset, divisor_latch_access, waits, line_of, written, read_at, after_read, received};
+ghost use Rattle.uart16550.specs.Ports.{at_reset, divisor_latch_access, waits, interrupt_line, written, read_at, after_read, received};
 ghost use Rattle.uart16550.specs.States.{settings_of, registers_of, port_fits};
 
 use crate::settings::Settings;
@@ -191,7 +191,7 @@ impl Uart {
 
     /// Whether the port asks for an interrupt.
     pub fn line(&self) -> bool
-        ensures { result ≡ line_of self.now }
+        ensures { result ≡ interrupt_line self.now }
     {
         self.interrupt_enable && self.waits()
     }

@@ -16,7 +16,7 @@ use Rattle.shadow_tables.specs.declared.words.Side.{Side}
 use Rattle.step_mem.specs.Changes.{AreWithin, changed}
 use Rattle.step_mem.specs.Shown.{beyond}
 use Rattle.step_mem.specs.Sound.{IsSound}
-use Rattle.step_mem.specs.declared.state.State as kept_state
+use Rattle.step_mem.specs.declared.state.StepState as kept_state
 use Rattle.machine_model.specs.State.{wedge}
 use Rattle.native_steps.specs.Stands.{shown}
 use Rattle.wedge_mem.specs.Settled.{pages_of}
@@ -35,17 +35,17 @@ unfolding shown
 any_script image script n ram = refl
 
 -- the memory of a step whose changes are those of its pages, where nothing is ready any more
-abbrev pub as_told : kept_state.State → kept_state.State
+abbrev pub as_told : kept_state.StepState → kept_state.StepState
 as_told s = record s {
-  changes = told s.went s.changes;
+  changes = told s.visited s.changes;
   ready = record { start = 0; len = 0; write = false };
   earlier = record { start = 0; len = 0; count = 0 };
 }
 
-pub told_sound : (kept : List ℕ → FinMap nat_cmp Entry) (floor : ℕ) (stands : List ℕ → Type 0) (ram : List ℕ) (s : kept_state.State) → IsSound kept floor stands ram s
-    → changed (kept ram) (told s.went s.changes) ≡ changed (kept ram) s.changes → AreWithin s.control.frames (kept ram) → IsSound kept floor stands ram (as_told s)
+pub told_sound : (kept : List ℕ → FinMap nat_cmp Entry) (floor : ℕ) (stands : List ℕ → Type 0) (ram : List ℕ) (s : kept_state.StepState) → IsSound kept floor stands ram s
+    → changed (kept ram) (told s.visited s.changes) ≡ changed (kept ram) s.changes → AreWithin s.control.frames (kept ram) → IsSound kept floor stands ram (as_told s)
 told_sound kept floor stands ram s h same within =
-    let few = told_few s.went s.changes in
+    let few = told_few s.visited s.changes in
     let all = h.counted in
     record {
       frames_in = h.frames_in;
@@ -68,15 +68,15 @@ told_sound kept floor stands ram s h same within =
     }
 
 -- what is kept of such a step
-pub closes_told : (dropped : Bool) (old new : ℕ → Option Slot) (base set : FinMap nat_cmp Entry) (count : ℕ) (side : Side) (free : ℕ) (wp : Bool) (tracked : List ℕ) (s t : kept_state.State) → t ≡ as_told s → changed base (told s.went s.changes) ≡ set → s.control.wp ≡ wp
-    → (MayClose count side (changed base t.changes) (pages_of t.went t.changes) free → (dropped ≡ false) × Closes old new (changed base t.changes) (pages_of t.went t.changes) side t.control.wp tracked t.wrote)
-    → MayClose count side set (pages_of s.went (told s.went s.changes)) free → (dropped ≡ false) × Closes old new set (pages_of s.went (told s.went s.changes)) side wp tracked s.wrote
+pub closes_told : (dropped : Bool) (old new : ℕ → Option Slot) (base set : FinMap nat_cmp Entry) (count : ℕ) (side : Side) (free : ℕ) (wp : Bool) (tracked : List ℕ) (s t : kept_state.StepState) → t ≡ as_told s → changed base (told s.visited s.changes) ≡ set → s.control.wp ≡ wp
+    → (MayClose count side (changed base t.changes) (pages_of t.visited t.changes) free → (dropped ≡ false) × Closes old new (changed base t.changes) (pages_of t.visited t.changes) side t.control.wp tracked t.wrote)
+    → MayClose count side set (pages_of s.visited (told s.visited s.changes)) free → (dropped ≡ false) × Closes old new set (pages_of s.visited (told s.visited s.changes)) side wp tracked s.wrote
 closes_told dropped old new base set count side free wp tracked s t e same wp_is whole may =
-    let pages = pages_of s.went (told s.went s.changes) in
+    let pages = pages_of s.visited (told s.visited s.changes) in
     let here = subst (λ (x : FinMap nat_cmp Entry). MayClose count side x pages free) (sym same) may in
-    let there = subst (λ (x : kept_state.State). MayClose count side (changed base x.changes) (pages_of x.went x.changes) free) (sym e) here in
+    let there = subst (λ (x : kept_state.StepState). MayClose count side (changed base x.changes) (pages_of x.visited x.changes) free) (sym e) here in
     let closes = whole there in
-    let back = subst (λ (x : kept_state.State). Closes old new (changed base x.changes) (pages_of x.went x.changes) side x.control.wp tracked x.wrote) e closes.1 in
+    let back = subst (λ (x : kept_state.StepState). Closes old new (changed base x.changes) (pages_of x.visited x.changes) side x.control.wp tracked x.wrote) e closes.1 in
     (closes.0, subst (λ (b : Bool). Closes old new set pages side b tracked s.wrote) wp_is (subst (λ (x : FinMap nat_cmp Entry). Closes old new x pages side s.control.wp tracked s.wrote) same back))
 
 module _ {S : Type 0} (stands : S → List ℕ → Type 0) (frames : S → List ℕ → List ℕ) (slots : S → List ℕ → ℕ → Option Slot) where

@@ -74,32 +74,32 @@ one_there x y c = by c.0 c.1 c.2
 last_is : (r : Range) → 1 ≤ r.len → (r.at + r.len - 1) / 4096 ≡ last_page r
 last_is r some = omega (arith, some)
 
-in_after : (went : List ℕ) (o : Option Range) (q : ℕ) → IsShort o → Contains (went_after went o) q → Contains went q ⊎ InRange o q
+in_after : (visited : List ℕ) (o : Option Range) (q : ℕ) → IsShort o → Contains (went_after visited o) q → Contains visited q ⊎ InRange o q
 unfolding went_after InRange
 in_after went None q short c = inl c
-in_after went (Some r) q short c = choice ((r.at + r.len - 1) / 4096 == r.at / 4096) (unfold went_by in c)
+in_after visited (Some r) q short c = choice ((r.at + r.len - 1) / 4096 == r.at / 4096) (unfold went_by in c)
   where
-    first : Contains (went ++ (r.at / 4096) ∷ []) q → Contains went q ⊎ ((q ≡ r.at / 4096) ⊎ (q ≡ last_page r))
-    first d = elim (Contains-append_cases went ((r.at / 4096) ∷ []) q d) [ inl x ↦ inl x | inr y ↦ inr (inl (one_there (r.at / 4096) q y)) ]
+    first : Contains (visited ++ (r.at / 4096) ∷ []) q → Contains visited q ⊎ ((q ≡ r.at / 4096) ⊎ (q ≡ last_page r))
+    first d = elim (Contains-append_cases visited ((r.at / 4096) ∷ []) q d) [ inl x ↦ inl x | inr y ↦ inr (inl (one_there (r.at / 4096) q y)) ]
 
-    choice : (one : Bool) → Contains (cond one (went ++ (r.at / 4096) ∷ []) ((went ++ (r.at / 4096) ∷ []) ++ ((r.at + r.len - 1) / 4096) ∷ [])) q → Contains went q ⊎ ((q ≡ r.at / 4096) ⊎ (q ≡ last_page r))
+    choice : (one : Bool) → Contains (cond one (visited ++ (r.at / 4096) ∷ []) ((visited ++ (r.at / 4096) ∷ []) ++ ((r.at + r.len - 1) / 4096) ∷ [])) q → Contains visited q ⊎ ((q ≡ r.at / 4096) ⊎ (q ≡ last_page r))
     choice true d = first d
     choice false d =
-        elim (Contains-append_cases (went ++ (r.at / 4096) ∷ []) (((r.at + r.len - 1) / 4096) ∷ []) q d) [
+        elim (Contains-append_cases (visited ++ (r.at / 4096) ∷ []) (((r.at + r.len - 1) / 4096) ∷ []) q d) [
           | inl x ↦ first x
           | inr y ↦ inr (inr (one_there ((r.at + r.len - 1) / 4096) q y ∙ last_is r short.0))
         ]
 
-after_few : (went : List ℕ) (o : Option Range) → length (went_after went o) ≤ length went + 2
+after_few : (visited : List ℕ) (o : Option Range) → length (went_after visited o) ≤ length visited + 2
 unfolding went_after went_by
 after_few went None = omega arith
-after_few went (Some r) = choice ((r.at + r.len - 1) / 4096 == r.at / 4096)
+after_few visited (Some r) = choice ((r.at + r.len - 1) / 4096 == r.at / 4096)
   where
-    choice : (one : Bool) → length (cond one (went ++ (r.at / 4096) ∷ []) ((went ++ (r.at / 4096) ∷ []) ++ ((r.at + r.len - 1) / 4096) ∷ [])) ≤ length went + 2
-    choice true = let x = length-append went ((r.at / 4096) ∷ []) in omega (arith, x)
+    choice : (one : Bool) → length (cond one (visited ++ (r.at / 4096) ∷ []) ((visited ++ (r.at / 4096) ∷ []) ++ ((r.at + r.len - 1) / 4096) ∷ [])) ≤ length visited + 2
+    choice true = let x = length-append visited ((r.at / 4096) ∷ []) in omega (arith, x)
     choice false =
-        let x = length-append went ((r.at / 4096) ∷ []) in
-        let y = length-append (went ++ (r.at / 4096) ∷ []) (((r.at + r.len - 1) / 4096) ∷ []) in
+        let x = length-append visited ((r.at / 4096) ∷ []) in
+        let y = length-append (visited ++ (r.at / 4096) ∷ []) (((r.at + r.len - 1) / 4096) ∷ []) in
         omega (arith, x, y)
 
 -- what came before a range is told by what came with it
@@ -114,20 +114,20 @@ after_cancel xs ys (Some r) e = choice ((r.at + r.len - 1) / 4096 == r.at / 4096
     choice false f =
         append_cancel_right xs ys ((r.at / 4096) ∷ []) (append_cancel_right (xs ++ (r.at / 4096) ∷ []) (ys ++ (r.at / 4096) ∷ []) (((r.at + r.len - 1) / 4096) ∷ []) f)
 
-fetch_few : (user : Bool) (eip : ℕ) (insn : Insn) (len : ℕ) (s t : Space) → s.went ≡ [] → fetched user eip s ≡ Ok (begins.Insn insn len, t) → length t.went ≤ 2
+fetch_few : (user : Bool) (eip : ℕ) (insn : Insn) (len : ℕ) (s t : Space) → s.visited ≡ [] → fetched user eip s ≡ Ok (begins.Insn insn len, t) → length t.visited ≤ 2
 fetch_few user eip insn len s t none e =
     let p = fetch_parts user eip insn len s t e in
     by_end p (by_parts user eip insn len p.front p.first t (decoded p.front) refl p.goes_on)
   where
-    first_long : (p : IsFetch user eip insn len s t) → length p.first.went ≡ 1
+    first_long : (p : IsFetch user eip insn len s t) → length p.first.visited ≡ 1
     first_long p =
         ap length (fetching_went user eip (front_len eip) s p.front p.first p.reads ∙ ap (λ (l : List ℕ). l ++ (eip / 4096) ∷ []) none)
 
-    by_end : (p : IsFetch user eip insn len s t) → IsIn eip insn len p.front p.first t ⊎ IsPast user eip insn len p.front p.first t → length t.went ≤ 2
-    by_end p (inl x) = let a = ap length x.went in let f = first_long p in omega (arith, a, f)
+    by_end : (p : IsFetch user eip insn len s t) → IsIn eip insn len p.front p.first t ⊎ IsPast user eip insn len p.front p.first t → length t.visited ≤ 2
+    by_end p (inl x) = let a = ap length x.visited in let f = first_long p in omega (arith, a, f)
     by_end p (inr x) =
-        let a = ap length x.on.went in
-        let c = length-append p.first.went ((next_page eip / 4096) ∷ []) in
+        let a = ap length x.on.visited in
+        let c = length-append p.first.visited ((next_page eip / 4096) ∷ []) in
         let f = first_long p in
         omega (arith, a, c, f)
 
@@ -174,33 +174,33 @@ module _ (grants : Grants) (repeats : Again) (completes : NativeCompletes) (m : 
     same_again : StepsAgain m (view_by directory b.cpu) b p.insn p.len t
     same_again = repeats m v b w.mode room fit sound sees next small p.insn p.len p.after_fetch p.after_read t translated clear
 
-    granted : AreGranted m.image (is_kernel (side_of (b.cpu.cpl == 3))) (wp_of b) t p.after_fetch.went (ranges_of p.insn b.cpu.regs)
-    granted = subst (λ (k : Bool). AreGranted m.image k (wp_of b) t p.after_fetch.went (ranges_of p.insn b.cpu.regs)) (sym (side_is b.cpu)) left.granted
+    granted : AreGranted m.image (is_kernel (side_of (b.cpu.cpl == 3))) (wp_of b) t p.after_fetch.visited (ranges_of p.insn b.cpu.regs)
+    granted = subst (λ (k : Bool). AreGranted m.image k (wp_of b) t p.after_fetch.visited (ranges_of p.insn b.cpu.regs)) (sym (side_is b.cpu)) left.granted
 
-    goes : t.went ≡ went_after (went_after p.after_fetch.went ranges.read) ranges.write
+    goes : t.visited ≡ went_after (went_after p.after_fetch.visited ranges.read) ranges.write
     goes = range_goes b.cpu p.after_read t true ranges.write p.writes ∙ ap (λ (l : List ℕ). went_after l ranges.write) (range_goes b.cpu p.after_fetch p.after_read false ranges.read p.reads)
 
-    few : length t.went ≤ 6
+    few : length t.visited ≤ 6
     few =
         let a = ap length goes in
         let f = fetch_few (b.cpu.cpl == 3) b.cpu.regs.eip p.insn p.len (space_at_start m.mode m.frames b.cpu b.ram b.set) p.after_fetch refl p.fetches in
-        let r = after_few p.after_fetch.went ranges.read in
-        let x = after_few (went_after p.after_fetch.went ranges.read) ranges.write in
+        let r = after_few p.after_fetch.visited ranges.read in
+        let x = after_few (went_after p.after_fetch.visited ranges.read) ranges.write in
         omega (arith, a, f, r, x)
 
     -- pages that it didn't go through have the entries that they had
-    pub others : (q : ℕ) → is_among q t.went ≡ false → get t.set q ≡ get b.set q
+    pub others : (q : ℕ) → is_among q t.visited ≡ false → get t.set q ≡ get b.set q
     others q n =
         let e = elsewhere_on (space_at_start m.mode m.frames b.cpu b.ram b.set) p.after_fetch t (fetched_elsewhere (b.cpu.cpl == 3) b.cpu.regs.eip p.insn p.len (space_at_start m.mode m.frames b.cpu b.ram b.set) p.after_fetch p.fetches)
         (elsewhere_on p.after_fetch p.after_read t (reached_elsewhere b.cpu false ranges.read p.after_fetch p.after_read p.reads) (reached_elsewhere b.cpu true ranges.write p.after_read t p.writes)) in
-        e.same q (λ c. let x = among t.went q c in let f : true ≡ false = sym x ∙ n in cc)
+        e.same q (λ c. let x = among t.visited q c in let f : true ≡ false = sym x ∙ n in cc)
 
-    page_open : (frames q : ℕ) → changes.AreWithin frames t.set → Contains t.went q → is_entry_open (text_pages m.image) (side_of (b.cpu.cpl == 3)) (get t.set q) ≡ true
+    page_open : (frames q : ℕ) → changes.AreWithin frames t.set → Contains t.visited q → is_entry_open (text_pages m.image) (side_of (b.cpu.cpl == 3)) (get t.set q) ≡ true
     unfolding InRange
     page_open frames q within c =
         let short = ranges_short p.insn b.cpu.regs in
-        elim (in_after (went_after p.after_fetch.went ranges.read) ranges.write q short.1 (subst (λ (l : List ℕ). Contains l q) goes c)) [
-          | inl d ↦ elim (in_after p.after_fetch.went ranges.read q short.0 d) [
+        elim (in_after (went_after p.after_fetch.visited ranges.read) ranges.write q short.1 (subst (λ (l : List ℕ). Contains l q) goes c)) [
+          | inl d ↦ elim (in_after p.after_fetch.visited ranges.read q short.0 d) [
             | inl f ↦ entry_open m.image side frames t (wp_of b) false q within (granted.fetch q f)
             | inr r ↦ by_range false ranges.read granted.read r
           ]
@@ -212,33 +212,33 @@ module _ (grants : Grants) (repeats : Again) (completes : NativeCompletes) (m : 
         by_range write (Some r) g (inl e) = entry_open m.image side frames t (wp_of b) write q within (subst (IsGranted m.image (is_kernel side) (wp_of b) t write) (sym e) g.0)
         by_range write (Some r) g (inr e) = entry_open m.image side frames t (wp_of b) write q within (subst (IsGranted m.image (is_kernel side) (wp_of b) t write) (sym e) g.1)
 
-    pub may_close : (frames count free : ℕ) (cs : List Change) → count ≡ text_pages m.image → changes.AreWithin frames t.set → 8 ≤ free → MayClose count (side_of (b.cpu.cpl == 3)) t.set (pages_of t.went (told t.went cs)) free
+    pub may_close : (frames count free : ℕ) (cs : List Change) → count ≡ text_pages m.image → changes.AreWithin frames t.set → 8 ≤ free → MayClose count (side_of (b.cpu.cpl == 3)) t.set (pages_of t.visited (told t.visited cs)) free
     may_close frames count free cs count_is within enough = record {
-      open_to = λ q h. subst (λ (n : ℕ). is_entry_open n (side_of (b.cpu.cpl == 3)) (get t.set q) ≡ true) (sym count_is) (page_open frames q within (among_contains t.went q (went_all t.went cs q h)));
-      room = (let u = used_within t.set (pages_of t.went (told t.went cs)) t.went (went_all t.went cs) in let f = few in omega (arith, u, f, enough));
+      open_to = λ q h. subst (λ (n : ℕ). is_entry_open n (side_of (b.cpu.cpl == 3)) (get t.set q) ≡ true) (sym count_is) (page_open frames q within (among_contains t.visited q (went_all t.visited cs q h)));
+      room = (let u = used_within t.set (pages_of t.visited (told t.visited cs)) t.visited (went_all t.visited cs) in let f = few in omega (arith, u, f, enough));
     }
 
     -- ---- the pages are filled
 
-    module _ (old new : ℕ → Option Slot) (cs : List Change) (tracked : List ℕ) (memory : List ℕ) (closes : Closes old new t.set (pages_of t.went (told t.went cs)) (side_of (b.cpu.cpl == 3)) (wp_of b) tracked t.wrote)
+    module _ (old new : ℕ → Option Slot) (cs : List Change) (tracked : List ℕ) (memory : List ℕ) (closes : Closes old new t.set (pages_of t.visited (told t.visited cs)) (side_of (b.cpu.cpl == 3)) (wp_of b) tracked t.wrote)
         (beyond : (page : ℕ) → 2 ^ 20 ≤ page → get t.set page ≡ None)
         (host : (page : ℕ) (write : Bool) → page < 2 ^ 20 → reached memory (length memory / 4096) (directory (side_of (b.cpu.cpl == 3))) page write ≡ lent (length memory / 4096) (new page) (side_of (b.cpu.cpl == 3)) write)
         (within : (page : ℕ) (entry : Entry) → get t.set page ≡ Some entry → entry.frame < length memory / 4096)
         (stands : Stands m memory (view_by directory b.cpu) (settled b t)) (lends : Lends m memory (directory (side_of (b.cpu.cpl == 3))) (not (b.cpu.cpl == 3)) (wp_of b) t.set)
       where
-        reached_all : AreReached memory (directory (side_of (b.cpu.cpl == 3))) p.after_fetch.went (ranges_of p.insn b.cpu.regs)
+        reached_all : AreReached memory (directory (side_of (b.cpu.cpl == 3))) p.after_fetch.visited (ranges_of p.insn b.cpu.regs)
         reached_all =
-            all_reached m.image side (wp_of b) t old new (pages_of t.went (told t.went cs)) tracked memory (directory side) closes
-            (λ q c. among_first q t.went _ (among t.went q c)) beyond host within p.after_fetch.went ranges granted
+            all_reached m.image side (wp_of b) t old new (pages_of t.visited (told t.visited cs)) tracked memory (directory side) closes
+            (λ q c. among_first q t.visited _ (among t.visited q c)) beyond host within p.after_fetch.visited ranges granted
 
-        fetched_same : p.after_fetch.went ≡ same_again.fetched.went
+        fetched_same : p.after_fetch.visited ≡ same_again.fetched.visited
         fetched_same =
             let a = same_again in
-            let both : went_after (went_after p.after_fetch.went ranges.read) ranges.write ≡ went_after (went_after a.fetched.went ranges.read) ranges.write =
+            let both : went_after (went_after p.after_fetch.visited ranges.read) ranges.write ≡ went_after (went_after a.fetched.visited ranges.read) ranges.write =
             sym goes
-            ∙ (sym a.went
+            ∙ (sym a.visited
             ∙ (range_goes b.cpu a.reads a.writes true ranges.write a.translated.write ∙ ap (λ (l : List ℕ). went_after l ranges.write) (range_goes b.cpu a.fetched a.reads false ranges.read a.translated.read))) in
-            after_cancel p.after_fetch.went a.fetched.went ranges.read (after_cancel (went_after p.after_fetch.went ranges.read) (went_after a.fetched.went ranges.read) ranges.write both)
+            after_cancel p.after_fetch.visited a.fetched.visited ranges.read (after_cancel (went_after p.after_fetch.visited ranges.read) (went_after a.fetched.visited ranges.read) ranges.write both)
 
         effect_is : effect_of (view_by directory b.cpu) (settled b t) p.insn p.len ≡ outcomes.Done p.regs p.stores
         effect_is = sym left.effect ∙ p.effect

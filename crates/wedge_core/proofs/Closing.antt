@@ -38,21 +38,21 @@ module _ (old new : ℕ → Option Slot) (set : Set) (pages : List ℕ) (side : 
   settled_whole count free wrote (Some n) few is kept untracked may = (refl, record { settles = kept; untracked = untracked refl; entries = is })
 
 -- how many pages that is
-pub settled_few : (set : Set) (went : List ℕ) (changes : List Change) (free : ℕ) (result : Option ℕ) → MatchOption result (free < length (used set (pages_of went changes))) (λ n. (n ≡ length (used set (pages_of went changes))) × (length (used set (pages_of went changes)) ≤ free))
-    → length went + length changes ≤ 128 → IfSome result (λ n. n ≤ 128)
-settled_few set went changes free None count enough = tt
-settled_few set went changes free (Some n) count enough =
+pub settled_few : (set : Set) (visited : List ℕ) (changes : List Change) (free : ℕ) (result : Option ℕ) → MatchOption result (free < length (used set (pages_of visited changes))) (λ n. (n ≡ length (used set (pages_of visited changes))) × (length (used set (pages_of visited changes)) ≤ free))
+    → length visited + length changes ≤ 128 → IfSome result (λ n. n ≤ 128)
+settled_few set visited changes free None count enough = tt
+settled_few set visited changes free (Some n) count enough =
     let is = count.0 in
-    let few = used_few set (pages_of went changes) in
-    let long = pages_long went changes in
+    let few = used_few set (pages_of visited changes) in
+    let long = pages_long visited changes in
     omega (arith, is, few, long, enough)
 
-pub settled_filled : (old new : Set) (went : List ℕ) (changes : List Change) (free : ℕ) (result : Option ℕ)
-    → MatchOption result (free < length (used (changed old changes) (pages_of went changes))) (λ n. (n ≡ length (used (changed old changes) (pages_of went changes))) × (length (used (changed old changes) (pages_of went changes)) ≤ free))
+pub settled_filled : (old new : Set) (visited : List ℕ) (changes : List Change) (free : ℕ) (result : Option ℕ)
+    → MatchOption result (free < length (used (changed old changes) (pages_of visited changes))) (λ n. (n ≡ length (used (changed old changes) (pages_of visited changes))) × (length (used (changed old changes) (pages_of visited changes)) ≤ free))
     → MatchOption result (new ≡ empty) (λ n. new ≡ changed old changes) → IfSome result (λ n. len new ≤ len old + n)
-settled_filled old new went changes free None count is = tt
-settled_filled old new went changes free (Some n) count is =
-    let few = changed_few old went changes in
+settled_filled old new visited changes free None count is = tt
+settled_filled old new visited changes free (Some n) count is =
+    let few = changed_few old visited changes in
     let same = ap (λ (set : Set). len set) is in
     let all = count.0 in
     omega (arith, few, same, all)

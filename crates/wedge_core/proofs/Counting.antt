@@ -6,7 +6,7 @@ use Rattle.std.specs.Option.{ForSome}
 use Rattle.sites.specs.declared.site.Site.{Site}
 use Rattle.image_check.specs.Places.{lies_in, site_at, by_site, place_at}
 use Rattle.image_check.specs.Places as places
-use Rattle.image_check.specs.declared.place.Place.TheVariants.{NotAStart}
+use Rattle.image_check.specs.declared.place.AtOffset.TheVariants.{NotAStart}
 use Rattle.paging.specs.Space.{Mode}
 use Rattle.machine_model.specs.State.{Setting, State, wedge_mode}
 use Rattle.machine_model.specs.Fit.{IsLevel}

@@ -31,12 +31,12 @@ use Rattle.native_steps.proofs.Fetching.{IsFetch, IsIn, IsPast, bound, same_spac
 use Rattle.native_steps.proofs.Repeating.{front_is}
 
 pub record Elsewhere (s t : Space) : Type 0 where
-  pub more : (q : ℕ) → Contains s.went q → Contains t.went q
-  pub same : (q : ℕ) → (Contains t.went q → ⊥) → get t.set q ≡ get s.set q
+  pub more : (q : ℕ) → Contains s.visited q → Contains t.visited q
+  pub same : (q : ℕ) → (Contains t.visited q → ⊥) → get t.set q ≡ get s.set q
 
-still : (s t : Space) → t.went ≡ s.went → t.set ≡ s.set → Elsewhere s t
-still s t went set = record {
-  more = λ q c. subst (λ (l : List ℕ). Contains l q) (sym went) c;
+still : (s t : Space) → t.visited ≡ s.visited → t.set ≡ s.set → Elsewhere s t
+still s t visited set = record {
+  more = λ q c. subst (λ (l : List ℕ). Contains l q) (sym visited) c;
   same = λ q no. ap (λ (x : FinMap nat_cmp Entry). get x q) set;
 }
 
@@ -61,15 +61,15 @@ by_entry_other s fetch page at access (Some e) q n = either (is_barred s.mode fe
 
 page_other : (s : Space) (fetch : Bool) (page at : ℕ) (access : Access) (q : ℕ) → q ≢ page → get (page_uses s fetch page at access).1.set q ≡ get s.set q
 unfolding page_uses
-page_other s fetch page at access q n = by_entry_other (record s { pages = s.pages + 1; went = s.went ++ page ∷ [] }) fetch page at access (usable (get s.set page) access s.wp) q n
+page_other s fetch page at access q n = by_entry_other (record s { pages = s.pages + 1; visited = s.visited ++ page ∷ [] }) fetch page at access (usable (get s.set page) access s.wp) q n
 
 one_there : (page q : ℕ) → q ≡ page → Contains (page ∷ []) q
 one_there page q e = (0, omega arith, sym e)
 
 page_elsewhere : (s : Space) (fetch : Bool) (page at : ℕ) (access : Access) → Elsewhere s (page_uses s fetch page at access).1
 page_elsewhere s fetch page at access = record {
-  more = λ q c. subst (λ (l : List ℕ). Contains l q) (sym (page_went s fetch page at access)) (Contains-append_left s.went (page ∷ []) q c);
-  same = λ q no. page_other s fetch page at access q (λ e. no (subst (λ (l : List ℕ). Contains l q) (sym (page_went s fetch page at access)) (Contains-append_right s.went (page ∷ []) q (one_there page q e))));
+  more = λ q c. subst (λ (l : List ℕ). Contains l q) (sym (page_went s fetch page at access)) (Contains-append_left s.visited (page ∷ []) q c);
+  same = λ q no. page_other s fetch page at access q (λ e. no (subst (λ (l : List ℕ). Contains l q) (sym (page_went s fetch page at access)) (Contains-append_right s.visited (page ∷ []) q (one_there page q e))));
 }
 
 -- ---- a range

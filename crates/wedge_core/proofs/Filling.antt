@@ -137,9 +137,9 @@ among_later : (q : ℕ) (xs ys : List ℕ) → is_among q ys ≡ true → is_amo
 among_later q [] ys h = h
 among_later q (x ∷ xs) ys h = ap (λ b. (q == x) || b) (among_later q xs ys h) ∙ or_right (q == x)
 
-pub changed_few : (set : Set) (went : List ℕ) (changes : List Change) → len (changed set changes) ≤ len set + length (used (changed set changes) (pages_of went changes))
-changed_few set went changes =
-    grown set (changed set changes) (pages_of went changes) (λ q h. elim (by_changes set changes q h) [ inl t ↦ inl t | inr t ↦ inr (among_later q went (map page_of changes) t) ])
+pub changed_few : (set : Set) (visited : List ℕ) (changes : List Change) → len (changed set changes) ≤ len set + length (used (changed set changes) (pages_of visited changes))
+changed_few set visited changes =
+    grown set (changed set changes) (pages_of visited changes) (λ q h. elim (by_changes set changes q h) [ inl t ↦ inl t | inr t ↦ inr (among_later q visited (map page_of changes) t) ])
 
 -- ---- one call, and two
 

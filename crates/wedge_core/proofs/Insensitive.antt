@@ -111,11 +111,11 @@ module _ (m : Setting) (b : State) where
   unfolding page_uses
   page_text s t fetch page at write h small e k text = by_usable (usable (get s.set page) (record { write = write; user = false }) s.wp) e
     where
-      choice : (barred : Bool) → cond {A = Touch × Space} barred (Stop stops.TextMapped, record s { pages = s.pages + 1; went = s.went ++ page ∷ [] }) (Ready, record s { pages = s.pages + 1; went = s.went ++ page ∷ [] }) ≡ (Ready, t) → byte t.ram k ≡ byte s.ram k
+      choice : (barred : Bool) → cond {A = Touch × Space} barred (Stop stops.TextMapped, record s { pages = s.pages + 1; visited = s.visited ++ page ∷ [] }) (Ready, record s { pages = s.pages + 1; visited = s.visited ++ page ∷ [] }) ≡ (Ready, t) → byte t.ram k ≡ byte s.ram k
       choice true x = absurd (let f : Stop stops.TextMapped ≡ Ready = ap (λ (o : Touch × Space). o.0) x in cc)
       choice false x = ap (λ (o : Touch × Space). byte o.1.ram k) (sym x)
 
-      by_usable : (o : Option Entry) → by_entry (record s { pages = s.pages + 1; went = s.went ++ page ∷ [] }) fetch page at (record { write = write; user = false }) o ≡ (Ready, t) → byte t.ram k ≡ byte s.ram k
+      by_usable : (o : Option Entry) → by_entry (record s { pages = s.pages + 1; visited = s.visited ++ page ∷ [] }) fetch page at (record { write = write; user = false }) o ≡ (Ready, t) → byte t.ram k ≡ byte s.ram k
       by_usable (Some entry) x = choice (is_barred s.mode fetch false page entry.frame) x
       by_usable None x =
           let met : (decided (tables_of s) fetch page at (record { write = write; user = false })).met ≡ Ready = ap (λ (o : Touch × Space). o.0) x in

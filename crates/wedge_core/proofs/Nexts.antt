@@ -12,7 +12,7 @@ use Rattle.paging.specs.Space.{Mode, Space}
 use Rattle.sites.specs.declared.site.Site.{Site}
 use Rattle.image_check.specs.Places.{site_at, by_site, place_at}
 use Rattle.image_check.specs.Places as places
-use Rattle.image_check.specs.declared.place.Place.TheVariants.{NotAStart}
+use Rattle.image_check.specs.declared.place.AtOffset.TheVariants.{NotAStart}
 use Rattle.machine_step.specs.declared.worked.Worked.{Worked}
 use Rattle.machine_step.specs.Worked.{whats, completed_by, dropping, went_as}
 use Rattle.machine_model.specs.State.{Setting, State, space_at_start}
@@ -113,9 +113,9 @@ idle m b lost worked board t new e cpu ram boards step left none =
     let whole : Set = dropping worked.dropped t.set in
     record {
       alone = record {
-        report = record { items = items_at b.step (whats worked.seen); completed = completed_by worked.completed; pages = t.went; tables = t.tables; wrote = t.wrote };
+        report = record { items = items_at b.step (whats worked.seen); completed = completed_by worked.completed; pages = t.visited; tables = t.tables; wrote = t.wrote };
         whole = whole;
-        went = e ∙ (λ i. Went (record { items = items_at b.step (whats worked.seen); completed = completed_by worked.completed; pages = t.went; tables = t.tables; wrote = t.wrote }) (record { cpu = sym cpu i; ram = sym ram i; set = whole; board = sym boards i; step = sym step i }));
+        went = e ∙ (λ i. Went (record { items = items_at b.step (whats worked.seen); completed = completed_by worked.completed; pages = t.visited; tables = t.tables; wrote = t.wrote }) (record { cpu = sym cpu i; ram = sym ram i; set = whole; board = sym boards i; step = sym step i }));
         left = left;
         items = refl;
       };

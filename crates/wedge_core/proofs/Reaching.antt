@@ -78,7 +78,7 @@ reached_now image side wp s old new pages tracked memory root page write closes 
 
 -- all pages that the instruction uses
 module _ (image : Image) (side : Side) (wp : Bool) (s : Space) (old new : ℕ → Option Slot) (pages tracked : List ℕ) (memory : List ℕ) (root : ℕ) (closes : Closes old new s.set pages side wp tracked s.wrote)
-    (through : (page : ℕ) → Contains s.went page → is_among page pages ≡ true) (beyond : (page : ℕ) → 2 ^ 20 ≤ page → get s.set page ≡ None)
+    (through : (page : ℕ) → Contains s.visited page → is_among page pages ≡ true) (beyond : (page : ℕ) → 2 ^ 20 ≤ page → get s.set page ≡ None)
     (host : (page : ℕ) (write : Bool) → page < 2 ^ 20 → reached memory (length memory / 4096) root page write ≡ lent (length memory / 4096) (new page) side write)
     (within : (page : ℕ) (entry : Entry) → get s.set page ≡ Some entry → entry.frame < length memory / 4096)
   where

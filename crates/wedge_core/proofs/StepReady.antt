@@ -68,12 +68,12 @@ stays (dropped.Dir index) set pages q a h = dir_get set index q ∙ ap (λ (b : 
 stays dropped.All set pages q a h = absurd (clash true refl a)
 
 -- an entry that it left, but for those that leave, was there or was left by its accesses
-kept_or_left : (d : Dropped) (base : Set) (went : List ℕ) (cs : List Change) (first last : Set) → ((q : ℕ) → get base q ≡ get first q) → ((q : ℕ) → ForSome (get (dropping d (changed base cs)) q) (λ e. get last q ≡ Some e))
-    → (page : ℕ) → leaving d (pages_of went cs) page ≡ false → (e : Entry) → get (changed base cs) page ≡ Some e → (get first page ≡ Some e) ⊎ (get last page ≡ Some e)
-kept_or_left dropped.All base went cs first last same left page out e is = inl (sym (changed_other base cs page (among_later page went (map page_of cs) out) ∙ same page) ∙ is)
-kept_or_left dropped.Nothing base went cs first last same left page out e is = inr (left page e is)
-kept_or_left (dropped.Page gone) base went cs first last same left page out e is = inr (left page e (stays (dropped.Page gone) (changed base cs) (pages_of went cs) page refl out ∙ is))
-kept_or_left (dropped.Dir index) base went cs first last same left page out e is = inr (left page e (stays (dropped.Dir index) (changed base cs) (pages_of went cs) page refl out ∙ is))
+kept_or_left : (d : Dropped) (base : Set) (visited : List ℕ) (cs : List Change) (first last : Set) → ((q : ℕ) → get base q ≡ get first q) → ((q : ℕ) → ForSome (get (dropping d (changed base cs)) q) (λ e. get last q ≡ Some e))
+    → (page : ℕ) → leaving d (pages_of visited cs) page ≡ false → (e : Entry) → get (changed base cs) page ≡ Some e → (get first page ≡ Some e) ⊎ (get last page ≡ Some e)
+kept_or_left dropped.All base visited cs first last same left page out e is = inl (sym (changed_other base cs page (among_later page visited (map page_of cs) out) ∙ same page) ∙ is)
+kept_or_left dropped.Nothing base visited cs first last same left page out e is = inr (left page e is)
+kept_or_left (dropped.Page gone) base visited cs first last same left page out e is = inr (left page e (stays (dropped.Page gone) (changed base cs) (pages_of visited cs) page refl out ∙ is))
+kept_or_left (dropped.Dir index) base visited cs first last same left page out e is = inr (left page e (stays (dropped.Dir index) (changed base cs) (pages_of visited cs) page refl out ∙ is))
 
 -- ---- a step
 
@@ -131,14 +131,14 @@ module _ {S : Type 0} (slots : S → List ℕ → ℕ → Option Slot) (noted : 
 
     -- that went
     pub went_ready : StepsFollow → (worked : Worked) (board : Board) (t : Space) (changes : List Change) → stepped m b ≡ went_as b worked board t → t.ram ≡ shown m then → t.set ≡ changed (entries_of (slots s then)) changes
-        → IsReadyBehind slots noted marked value asides (leaving worked.dropped (pages_of t.went changes)) m b.cpu s then (changed (entries_of (slots s then)) changes) t.tables t.wrote
+        → IsReadyBehind slots noted marked value asides (leaving worked.dropped (pages_of t.visited changes)) m b.cpu s then (changed (entries_of (slots s then)) changes) t.tables t.wrote
     went_ready steps worked board t changes e ram set_is =
-        let report : Report = record { items = Rattle.machine_model.specs.Step.items_at b.step (whats worked.seen); completed = completed_by worked.completed; pages = t.went; tables = t.tables; wrote = t.wrote } in
+        let report : Report = record { items = Rattle.machine_model.specs.Step.items_at b.step (whats worked.seen); completed = completed_by worked.completed; pages = t.visited; tables = t.tables; wrote = t.wrote } in
         let after : State = record { cpu = worked.cpu; ram = t.ram; set = dropping worked.dropped t.set; board = Rattle.board.specs.Boards.board_step board; step = b.step + 1 } in
         let left = steps m b b.set report after (same_step image n b ∙ e) in
         behind_ready slots noted marked value asides m b.cpu s memory then first left.last (step_from left.last left.follows (sym left.ram ∙ ram)) t.tables t.wrote (sym left.tables) (sym left.wrote) h
-        (leaving worked.dropped (pages_of t.went changes)) (changed (entries_of (slots s then)) changes)
-        (λ page lt out x is. kept_or_left worked.dropped (entries_of (slots s then)) t.went changes b.set left.last.set
+        (leaving worked.dropped (pages_of t.visited changes)) (changed (entries_of (slots s then)) changes)
+        (λ page lt out x is. kept_or_left worked.dropped (entries_of (slots s then)) t.visited changes b.set left.last.set
         (λ q. ap (λ (set : Set). get set q) (k.entries ∙ sym k.set))
         (λ q y there. left.set q y (ap (λ (set : Set). get (dropping worked.dropped set) q) set_is ∙ there)) page out x is)
 

@@ -113,8 +113,8 @@ told_pages pages (c ∷ cs) q h =
     ]
 
 -- all are pages that it went through
-pub went_all : (went : List ℕ) (cs : List Change) (q : ℕ) → is_among q (pages_of went (told went cs)) ≡ true → is_among q went ≡ true
-went_all went cs q h = elim (among_split q went (map page_of (told went cs)) h) [ inl a ↦ a | inr c ↦ told_pages went cs q c ]
+pub went_all : (visited : List ℕ) (cs : List Change) (q : ℕ) → is_among q (pages_of visited (told visited cs)) ≡ true → is_among q visited ≡ true
+went_all visited cs q h = elim (among_split q visited (map page_of (told visited cs)) h) [ inl a ↦ a | inr c ↦ told_pages visited cs q c ]
 
 pub among_contains : (xs : List ℕ) (q : ℕ) → is_among q xs ≡ true → Contains xs q
 among_contains [] q h = absurd (let f : false ≡ true = h in cc)

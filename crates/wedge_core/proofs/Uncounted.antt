@@ -37,9 +37,10 @@ use Rattle.run_trace.specs.declared.items.What.{What}
 use Rattle.sites.specs.declared.site.Site.{Site}
 use Rattle.machine_model.specs.State.{Setting, State}
 use Rattle.machine_model.specs.Rules.{stands_well, is_open, may_leave}
-use Rattle.machine_model.specs.Instruction.{instructed, is_plain, done_plainly, passed}
+use Rattle.machine_model.specs.Instruction.{instructed, is_plain, done_plainly}
 use Rattle.machine_model.specs.Step.{Completed, Result, Went, Stands, entered, begun, went, after_read, after_write, out_item, code_of, after_delivery, raised, after_effect, after_software, after_instruction, by_op, by_decoded, after_refusal}
 use Rattle.machine_model.specs.Alone.{IsUser, is_barred, is_native}
+use Rattle.sys_exec.specs.Operand.{past}
 use Rattle.machine_model.specs.Counts.{is_software, needs_descriptor, is_direct, direct_in}
 use Rattle.image_check.specs.Places.{is_site_at}
 use Rattle.machine_step.specs.declared.worked.Worked.{Worked}
@@ -218,8 +219,8 @@ module _ (m : Setting) (b : State) (sites : List Site) where
       done_anyhow (None_of (Some (begun b insn))) (instructed insn len b.cpu s) (by_user insn (both (b.cpu.cpl == 3) (is_open b.cpu) user).0 native free)
 
   of_op : (o : Op) (insn : Insn) (len : ℕ) (s : Space) → insn.op ≡ o → is_native (b.cpu.cpl == 3) insn.op ≡ false → IsUser b.cpu ⊎ (is_software insn.op ≡ true) → Leaves None_of (by_op m o b insn len s)
-  of_op op.Int insn len s e native h = of_software m b None_of refl (begun b insn) (insn.imm % 256) (delivered (passed len b.cpu) (insn.imm % 256) Soft None s) (by_soft insn (ap is_software e))
-  of_op op.Int3 insn len s e native h = of_software m b None_of refl (begun b insn) 3 (delivered (passed len b.cpu) 3 Soft None s) (by_soft insn (ap is_software e))
+  of_op op.Int insn len s e native h = of_software m b None_of refl (begun b insn) (insn.imm % 256) (delivered (past b.cpu len) (insn.imm % 256) Soft None s) (by_soft insn (ap is_software e))
+  of_op op.Int3 insn len s e native h = of_software m b None_of refl (begun b insn) 3 (delivered (past b.cpu len) 3 Soft None s) (by_soft insn (ap is_software e))
   of_op o insn len s e native h =
       of_instruction m b None_of refl (begun b insn) (instructed insn len b.cpu s)
       (elim h [

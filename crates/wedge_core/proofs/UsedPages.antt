@@ -17,8 +17,8 @@ pub used_few : (set : FinMap nat_cmp Entry) (pages : List ℕ) → length (used 
 used_few set [] = omega arith
 used_few set (page ∷ pages) = used_by (has_entry (get set page) && not (is_among page pages)) page (used set pages) pages (used_few set pages)
 
-pub pages_long : (went : List ℕ) (changes : List Change) → length (pages_of went changes) ≡ length went + length changes
-pages_long went changes = rw (length-append, length-map) refl
+pub pages_long : (visited : List ℕ) (changes : List Change) → length (pages_of visited changes) ≡ length visited + length changes
+pages_long visited changes = rw (length-append, length-map) refl
 
 among-append : (x : ℕ) (xs : List ℕ) (y : ℕ) → is_among x (xs ++ y ∷ []) ≡ true → is_among x xs ≡ false → x ≡ y
 among-append x [] y h e = elim (eqb_tells x y) [ inl t ↦ t.1 | inr n ↦ (let q = n.0 in absurd (let z : false ≡ true = sym (ap (λ b. b || false) q) ∙ h in cc)) ]

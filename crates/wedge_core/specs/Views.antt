@@ -3,8 +3,8 @@ use Rattle.std.specs.Prelude.{ℕ, Bool, true, false, ◌==◌, ◌&&◌, ◌||�
 use Rattle.descriptors.specs.declared.cpu.Cpu.{Cpu}
 use Rattle.board.specs.declared.devices.Board.{Board}
 use Rattle.image_check.specs.Image.{Image}
-use Rattle.image_check.specs.declared.place.Place.{Place}
-use Rattle.image_check.specs.declared.place.Place.TheVariants.{NotAStart, Outside, Inside}
+use Rattle.image_check.specs.declared.place.AtOffset.{AtOffset}
+use Rattle.image_check.specs.declared.place.AtOffset.TheVariants.{NotAStart, Outside, Inside}
 use Rattle.image_check.specs.Places.{place_at}
 use Rattle.descriptors.specs.Segments.{seg_of}
 use Rattle.shadow_tables.specs.declared.words.Side.{Side}
@@ -12,7 +12,7 @@ use Rattle.host_cpl3.specs.declared.view.View.{View}
 use Rattle.machine_model.specs.Step.{interrupt_of}
 use Rattle.wedge_core.specs.Standing.{side_of}
 
-abbrev pub is_outside : Place → Bool
+abbrev pub is_outside : AtOffset → Bool
 is_outside NotAStart = false
 is_outside Outside = true
 is_outside (Inside site) = false

@@ -32,7 +32,7 @@ use guest_ram::Ram;
 use machine_step::{Dropped, Worked};
 use shadow_cache::Reloads;
 use shadow_tables::{Shadows, Side};
-use step_mem::State;
+use step_mem::StepState;
 use wedge_mem::settle;
 
 /// Settles the shadows to what a step left. Answers how many pages were filled. None where a view of this side may not
@@ -41,7 +41,7 @@ pub fn close<S: Shadows>(
     shadows: &mut S,
     pool: &mut Pool,
     ram: &mut Ram,
-    state: &State,
+    state: &StepState,
     side: Side,
     count: u32,
 ) -> Option<u32>
@@ -51,8 +51,8 @@ pub fn close<S: Shadows>(
     ensures moves { Moves pool.old pool.new ram.old ram.new (S.frames shadows.old ram.old) (S.frames shadows.new ram.new) }
     ensures left { entries_of (S.slots shadows.new ram.new) ≡ left_of (is_none result) (changed (entries_of (S.slots shadows.old ram.old)) state.now.changes) }
     ensures shows { (image : Image) → count ≡ text_pages image → AreOpen image state.now.control.wp (S.slots shadows.old ram.old) → AreOpen image state.now.control.wp (S.slots shadows.new ram.new) }
-    ensures whole { MayClose count side (changed (entries_of (S.slots shadows.old ram.old)) state.now.changes) (pages_of state.now.went state.now.changes) (length (free_list pool.old ram.old))
-        → (is_none result ≡ false) × Closes (S.slots shadows.old ram.old) (S.slots shadows.new ram.new) (changed (entries_of (S.slots shadows.old ram.old)) state.now.changes) (pages_of state.now.went state.now.changes) side state.now.control.wp (S.tracked shadows.new) state.now.wrote }
+    ensures whole { MayClose count side (changed (entries_of (S.slots shadows.old ram.old)) state.now.changes) (pages_of state.now.visited state.now.changes) (length (free_list pool.old ram.old))
+        → (is_none result ≡ false) × Closes (S.slots shadows.old ram.old) (S.slots shadows.new ram.new) (changed (entries_of (S.slots shadows.old ram.old)) state.now.changes) (pages_of state.now.visited state.now.changes) side state.now.control.wp (S.tracked shadows.new) state.now.wrote }
     ensures opens { (image : Image) (wp : Bool) → AllOpen image wp (S.asides shadows.old ram.old) → AllOpen image wp (S.asides shadows.new ram.new) }
     ensures few { IfSome result (λ n. n ≤ 128) }
     ensures fewer { is_none result ≡ true → pages_kept S.slots S.asides shadows.new ram.new ≡ 0 }

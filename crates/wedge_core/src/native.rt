@@ -45,7 +45,7 @@ use machine_step::{Rules, Seen, Worked, begin, carry_out, fetch_at, refuse};
 use shadow_cache::Reloads;
 use shadow_tables::Shadows;
 use step_exec::{reach_both, user_outcome};
-use step_mem::{Guard, Kept, State};
+use step_mem::{Guard, Kept, StepState};
 use sys_exec::Refusal;
 use wedge_mem::Lent;
 
@@ -236,7 +236,7 @@ fn try_native<B: Kept>(
     board: &mut Board,
     ram: &mut Ram,
     kept: &B,
-    state: &mut State,
+    state: &mut StepState,
 ) -> Result<Option<Worked>, Stop>
     requires able { IsAble cpu.now }
     requires sound { IsSound (B.entries kept.now) (B.floor kept.now) (B.stands kept.now) ram.old state.old }
@@ -269,7 +269,7 @@ fn prepare<B: Kept>(
     cpu: &Cpu,
     ram: &mut Ram,
     kept: &B,
-    state: &mut State,
+    state: &mut StepState,
 ) -> Result<Option<Worked>, Stop>
     requires spelled { (bytes : List ℕ) × Spells bytes insn.now }
     requires native { is_native (cpu.now.cpl == 3) insn.now.op ≡ true }
@@ -298,7 +298,7 @@ fn weigh<B: Kept>(
     cpu: &Cpu,
     ram: &mut Ram,
     kept: &B,
-    state: &mut State,
+    state: &mut StepState,
 ) -> Result<(), Refusal>
     requires spelled { (bytes : List ℕ) × Spells bytes insn.now }
     requires native { is_native (cpu.now.cpl == 3) insn.now.op ≡ true }

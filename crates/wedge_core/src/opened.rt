@@ -17,7 +17,7 @@ ghost use Rattle.wedge_core.specs.Standing.{is_kernel};
 use guest_ram::Ram;
 use paging::Entry;
 use shadow_tables::{Shadows, Side};
-use step_mem::State;
+use step_mem::StepState;
 use wedge_mem::{entry_of, pages_of};
 
 /// The frame of the text's first byte.
@@ -65,12 +65,12 @@ fn is_entry_open(count: u32, side: Side, entry: Option<Entry>) -> bool
 }
 
 /// The view of this side may show every page that the step went through or changed.
-pub fn are_open<S: Shadows>(shadows: &S, ram: &Ram, state: &State, side: Side, count: u32) -> bool
+pub fn are_open<S: Shadows>(shadows: &S, ram: &Ram, state: &StepState, side: Side, count: u32) -> bool
     requires stands { ∥ S.stands shadows.now ram.now ∥₁ }
-    requires few { length state.now.went + length state.now.changes ≤ 128 }
-    ensures opened { result ≡ true → (page : ℕ) → is_among page (pages_of state.now.went state.now.changes) ≡ true
+    requires few { length state.now.visited + length state.now.changes ≤ 128 }
+    ensures opened { result ≡ true → (page : ℕ) → is_among page (pages_of state.now.visited state.now.changes) ≡ true
         → is_entry_open count side (get (changed (entries_of (S.slots shadows.now ram.now)) state.now.changes) page) ≡ true }
-    ensures barred { result ≡ false → (page : ℕ) × (is_among page (pages_of state.now.went state.now.changes) ≡ true)
+    ensures barred { result ≡ false → (page : ℕ) × (is_among page (pages_of state.now.visited state.now.changes) ≡ true)
         × (is_entry_open count side (get (changed (entries_of (S.slots shadows.now ram.now)) state.now.changes) page) ≡ false) }
 {
     let pages = pages_of(state);

@@ -35,7 +35,7 @@ use machine_model::steps_follow;
 use machine_step::{Rules, Seen, Worked, begin, step_in};
 use shadow_cache::Reloads;
 use shadow_tables::{Shadows, Side};
-use step_mem::{Guard, Own, State, Text};
+use step_mem::{Guard, Own, StepState, Text};
 use wedge_mem::{Lent, pages_of};
 
 /// How many frames hold the text.
@@ -134,7 +134,7 @@ pub fn keep<S: Shadows + Drop>(
     running: &mut Running<S>,
     pool: &mut Pool,
     ram: &mut Ram,
-    state: &State,
+    state: &StepState,
     count: u32,
 )
     requires sound { IsSound (λ m. entries_of (S.slots running.old.shadows m)) (4096 * base_of pool.old) (λ m. (∥ S.stands running.old.shadows m ∥₁) × Owns pool.old m (S.frames running.old.shadows m)) ram.old state.now }
@@ -147,8 +147,8 @@ pub fn keep<S: Shadows + Drop>(
     ensures left { entries_of (S.slots running.new.shadows ram.new) ≡ left_of running.new.lost.after (changed (entries_of (S.slots running.old.shadows ram.old)) state.now.changes) }
     ensures before { running.new.lost.before ≡ running.old.lost.before }
     ensures shows { (image : Image) → count ≡ text_pages image → AreOpen image state.now.control.wp (S.slots running.old.shadows ram.old) → AreOpen image state.now.control.wp (S.slots running.new.shadows ram.new) }
-    ensures whole { MayClose count (side_of (running.old.cpu.cpl == 3)) (changed (entries_of (S.slots running.old.shadows ram.old)) state.now.changes) (pages_of state.now.went state.now.changes) (length (free_list pool.old ram.old))
-        → (running.new.lost.after ≡ false) × Closes (S.slots running.old.shadows ram.old) (S.slots running.new.shadows ram.new) (changed (entries_of (S.slots running.old.shadows ram.old)) state.now.changes) (pages_of state.now.went state.now.changes)
+    ensures whole { MayClose count (side_of (running.old.cpu.cpl == 3)) (changed (entries_of (S.slots running.old.shadows ram.old)) state.now.changes) (pages_of state.now.visited state.now.changes) (length (free_list pool.old ram.old))
+        → (running.new.lost.after ≡ false) × Closes (S.slots running.old.shadows ram.old) (S.slots running.new.shadows ram.new) (changed (entries_of (S.slots running.old.shadows ram.old)) state.now.changes) (pages_of state.now.visited state.now.changes)
         (side_of (running.old.cpu.cpl == 3)) state.now.control.wp (S.tracked running.new.shadows) state.now.wrote }
     ensures ready { (out : ℕ → Bool) (m : Setting) (cpu : Cpu) → m.frames ≡ state.now.control.frames
         → IsReadyBehind S.slots S.noted S.marked S.value S.asides out m cpu running.old.shadows ram.old (changed (entries_of (S.slots running.old.shadows ram.old)) state.now.changes) state.now.tables state.now.wrote
@@ -179,7 +179,7 @@ pub fn go<S: Reloads + Drop>(
     running: &mut Running<S>,
     pool: &mut Pool,
     ram: &mut Ram,
-    state: &State,
+    state: &StepState,
     worked: &Worked,
     count: u32,
     wanted: bool,
@@ -198,7 +198,7 @@ pub fn go<S: Reloads + Drop>(
     ensures left { running.new.lost.back ≡ false → entries_of (S.slots running.new.shadows ram.new) ≡ left_of running.new.lost.after (dropping worked.now.dropped (changed (entries_of (S.slots running.old.shadows ram.old)) state.now.changes)) }
     ensures wanted { wanted ≡ true → running.new.lost.back ≡ false }
     ensures ready { (m : Setting) → m.frames ≡ state.now.control.frames → count ≡ text_pages m.image → AreOpen m.image state.now.control.wp (S.slots running.old.shadows ram.old)
-        → IsReadyBehind S.slots S.noted S.marked S.value S.asides (leaving worked.now.dropped (pages_of state.now.went state.now.changes)) m running.old.cpu running.old.shadows ram.old (changed (entries_of (S.slots running.old.shadows ram.old)) state.now.changes) state.now.tables state.now.wrote
+        → IsReadyBehind S.slots S.noted S.marked S.value S.asides (leaving worked.now.dropped (pages_of state.now.visited state.now.changes)) m running.old.cpu running.old.shadows ram.old (changed (entries_of (S.slots running.old.shadows ram.old)) state.now.changes) state.now.tables state.now.wrote
         → IsReady S.slots S.noted S.marked S.value S.asides m running.new.cpu running.new.shadows ram.new
         × (running.new.lost.back ≡ true → AreFound m running.new.cpu (shown m ram.new) running.new.cpu.cr3 (S.noted running.new.shadows) (S.slots running.new.shadows ram.new)) }
     ensures before { running.new.lost.before ≡ running.old.lost.before }

@@ -23,7 +23,7 @@ use board::{Board, Script};
 use descriptors::Cpu;
 use host_cpl3::{Exit, Host, View, borders, each_is_run};
 use ia32_types::Regs;
-use image_check::{Checked, Place};
+use image_check::{Checked, AtOffset};
 use machine_step::interrupt;
 use native_steps::advances;
 use shadow_tables::{Shadows, Side};
@@ -41,7 +41,7 @@ pub fn may_run(cpu: &Cpu, board: &Board, image: &Checked) -> bool
     if cpu.cpl == 3 {
         return true;
     }
-    matches!(image.place_at(cpu.regs.eip), Place::Outside)
+    matches!(image.place_at(cpu.regs.eip), AtOffset::Outside)
 }
 
 /// The view of this processor.

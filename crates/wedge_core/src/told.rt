@@ -5,7 +5,7 @@ ghost use Rattle.shadow_tables.specs.Slots.{is_among};
 ghost use Rattle.step_mem.specs.Changes.{page_of};
 ghost use Rattle.wedge_core.specs.Told.{told};
 
-use step_mem::{Change, Changes, Earlier, Reach, State, Went};
+use step_mem::{Change, Changes, Earlier, Reach, StepState, Went};
 
 fn page_of(change: &Change) -> u32
     ensures { result ≡ page_of change.now }
@@ -43,15 +43,15 @@ fn told(pages: &Went, changes: &Changes) -> Changes
 }
 
 /// Keeps of a step's changes those that are of its pages, which are all; nothing is ready any more.
-pub fn keep_told(state: &mut State)
+pub fn keep_told(state: &mut StepState)
     requires { length state.old.changes ≤ 64 }
     ensures { state.new ≡ record state.old {
-      changes = told state.old.went state.old.changes;
+      changes = told state.old.visited state.old.changes;
       ready = record { start = 0; len = 0; write = false };
       earlier = record { start = 0; len = 0; count = 0 };
     } }
 {
-    state.changes = told(&state.went, &state.changes);
+    state.changes = told(&state.visited, &state.changes);
     state.ready = Reach {
         start: 0,
         len: 0,

@@ -125,15 +125,15 @@ entry-filled : (side : Side) (wp : Bool) (tracked : List ℕ) (o : Option Entry)
 entry-filled side wp tracked None = refl
 entry-filled side wp tracked (Some e) = refl
 
-module _ (old new : ℕ → Option Slot) (went : List ℕ) (cs : List Change) (side : Side) (wp : Bool) (tracked : List ℕ) (a : AreOfPages cs) (fills : Fills old new (changed (entries_of old) cs) (pages_of went cs) side wp tracked) where
+module _ (old new : ℕ → Option Slot) (visited : List ℕ) (cs : List Change) (side : Side) (wp : Bool) (tracked : List ℕ) (a : AreOfPages cs) (fills : Fills old new (changed (entries_of old) cs) (pages_of visited cs) side wp tracked) where
   entry-after : (q : ℕ) → get (entries_of new) q ≡ get (changed (entries_of old) cs) q
   entry-after q =
       elim (cases_lt q (2 ^ 20)) [
-        | inl l ↦ elim (bool_cases (is_among q (pages_of went cs))) [
+        | inl l ↦ elim (bool_cases (is_among q (pages_of visited cs))) [
           | inl t ↦ get-entries_of new q l ∙ ap entry_in (fills.through q l t) ∙ entry-filled side wp tracked (get (changed (entries_of old) cs) q)
           | inr f ↦
               get-entries_of new q l ∙ ap entry_in (fills.others q l f) ∙ sym (get-entries_of old q l)
-              ∙ sym (get_changed (entries_of old) cs q ∙ ap (λ (o : Option (Option Entry)). settle o (get (entries_of old) q)) (last-none None cs q (not-second q went (map page_of cs) f)))
+              ∙ sym (get_changed (entries_of old) cs q ∙ ap (λ (o : Option (Option Entry)). settle o (get (entries_of old) q)) (last-none None cs q (not-second q visited (map page_of cs) f)))
         ]
         | inr g ↦
             none-entries_of new q g ∙ sym (none-entries_of old q g)

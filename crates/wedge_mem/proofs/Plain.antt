@@ -33,7 +33,7 @@ pub going_first : (kept : List ℕ → FinMap nat_cmp Entry) (floor : ℕ) (stan
       own = record { front = 0; front_len = 0; back = 0; back_len = 0 };
       changes = [];
       pages = 0;
-      went = [];
+      visited = [];
       tables = [];
       wrote = [];
       ready = record { start = 0; len = 0; write = false };
@@ -47,6 +47,7 @@ going_first kept floor stands ram control first count room low among s w guard h
       counted = omega arith;
       few = omega arith;
       noted = refl;
+      told = λ q h. h;
       read = omega arith;
       written = omega arith;
       fits = omega arith;

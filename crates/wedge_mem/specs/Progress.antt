@@ -12,7 +12,7 @@ use Rattle.step_mem.specs.Shown.{laid}
 use Rattle.step_mem.specs.Sound.{IsSound}
 use Rattle.step_mem.specs.declared.guard.Guard.{Guard}
 use Rattle.step_mem.specs.declared.guard.Text.{Text}
-use Rattle.step_mem.specs.declared.state.State.{State}
+use Rattle.step_mem.specs.declared.state.StepState.{StepState}
 use Rattle.wedge_mem.specs.declared.progress.Progress.{Progress}
 
 -- the frames of a text, of which no original bytes are laid over memory
@@ -25,14 +25,14 @@ abbrev pub Guards : Guard → Progress → Type 0
 Guards guard p = IsPlain guard.text.now p.first p.count × (guard.own ≡ p.own)
 
 -- the same under a guard
-abbrev pub state_by : Guard → Progress → State
+abbrev pub state_by : Guard → Progress → StepState
 state_by guard p =
     record {
       control = p.control;
       guard = guard;
       changes = p.changes;
       pages = p.pages;
-      went = p.went;
+      visited = p.visited;
       tables = p.tables;
       wrote = p.wrote;
       ready = p.ready;
@@ -55,7 +55,7 @@ space_in kept ram p =
       wp = p.control.wp;
       mode = Wedge p.first p.count (own_of p.own);
       pages = p.pages;
-      went = p.went;
+      visited = p.visited;
       tables = p.tables;
       wrote = p.wrote;
       ready = record { start = p.ready.start; len = p.ready.len; write = p.ready.write };
@@ -74,7 +74,7 @@ space_at_first ram set frames cr3 pse wp first count =
       wp = wp;
       mode = Wedge first count (record { front = 0; front_len = 0; back = 0; back_len = 0 });
       pages = 0;
-      went = [];
+      visited = [];
       tables = [];
       wrote = [];
       ready = record { start = 0; len = 0; write = false };

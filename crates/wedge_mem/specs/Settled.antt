@@ -11,7 +11,7 @@ use Rattle.step_mem.specs.declared.changes.Change.{Change}
 
 -- the pages that a step went through, and then those whose entries it changed, of which each is one of the first
 abbrev pub pages_of : List ℕ → List Change → List ℕ
-pages_of went changes = went ++ map page_of changes
+pages_of visited changes = visited ++ map page_of changes
 
 abbrev pub has_entry : Option Entry → Bool
 has_entry None = false

@@ -120,12 +120,12 @@ impl<'a, S: Shadows> WedgeMem<'a, S> {
         ensures owns { Owns self.new.pool.now self.new.ram.now (S.frames self.new.shadows.now self.new.ram.now) }
         ensures moves { Moves self.old.pool.now self.new.pool.now self.old.ram.now self.new.ram.now (S.frames self.old.shadows.now self.old.ram.now) (S.frames self.new.shadows.now self.new.ram.now) }
         ensures count { let set = (⟦<WedgeMem<'a, S> as GuestMem>⟧.space self.old).set in
-            let count = length (used set (pages_of self.old.step.went self.old.step.changes)) in
+            let count = length (used set (pages_of self.old.step.visited self.old.step.changes)) in
             MatchOption result (length (free_list self.old.pool.now self.old.ram.now) < count) (λ n. (n ≡ count) × (count ≤ length (free_list self.old.pool.now self.old.ram.now))) }
         ensures entries { MatchOption result (entries_of (S.slots self.new.shadows.now self.new.ram.now) ≡ empty)
             (λ n. entries_of (S.slots self.new.shadows.now self.new.ram.now) ≡ (⟦<WedgeMem<'a, S> as GuestMem>⟧.space self.old).set) }
         ensures filled { IfSome result (λ n. Settles (S.slots self.old.shadows.now self.old.ram.now) (S.slots self.new.shadows.now self.new.ram.now) (⟦<WedgeMem<'a, S> as GuestMem>⟧.space self.old).set
-            (pages_of self.old.step.went self.old.step.changes) side (⟦<WedgeMem<'a, S> as GuestMem>⟧.space self.old).wp (S.tracked self.new.shadows.now)) }
+            (pages_of self.old.step.visited self.old.step.changes) side (⟦<WedgeMem<'a, S> as GuestMem>⟧.space self.old).wp (S.tracked self.new.shadows.now)) }
         ensures noted { IsSome result → (frame : ℕ) → is_among frame self.old.step.wrote ≡ false → S.noted self.new.shadows.now frame ≡ read_by (S.noted self.old.shadows.now) self.old.step.tables frame }
         ensures noted_only { (frame : ℕ) → S.noted self.new.shadows.now frame ≡ true → read_by (S.noted self.old.shadows.now) self.old.step.tables frame ≡ true }
         ensures marked { MatchOption result (S.marked self.new.shadows.now ≡ true → S.marked self.old.shadows.now ≡ true)

@@ -10,7 +10,7 @@ ghost use Rattle.wedge_mem.specs.Settled.{has_entry, pages_of, used};
 use guest_ram::Ram;
 use paging::Entry;
 use shadow_tables::Shadows;
-use step_mem::{Change, Changes, State, Went};
+use step_mem::{Change, Changes, StepState, Visited};
 
 fn page_of(change: &Change) -> u32
     ensures { result ≡ page_in change.now }
@@ -22,12 +22,12 @@ fn page_of(change: &Change) -> u32
 }
 
 /// The pages that a step went through, and those that it changed.
-pub fn pages_of(state: &State) -> Went
-    requires { length state.now.went + length state.now.changes ≤ 128 }
-    ensures all { result ≡ pages_of state.now.went state.now.changes }
+pub fn pages_of(state: &StepState) -> Visited
+    requires { length state.now.visited + length state.now.changes ≤ 128 }
+    ensures all { result ≡ pages_of state.now.visited state.now.changes }
     ensures pages { AreOfPages state.now.changes }
 {
-    let mut pages = state.went.copied();
+    let mut pages = state.visited.copied();
     for change in state.changes.as_slice() {
         pages.push(page_of(change));
     }

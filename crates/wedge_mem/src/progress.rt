@@ -3,7 +3,7 @@
 ghost use Rattle.std.specs.Prelude.{◌≡◌, [], false};
 ghost use Rattle.wedge_mem.specs.Progress.{Guards, IsPlain, state_by};
 
-use step_mem::{Changes, Control, Earlier, Guard, Own, Reach, State, Text, Went};
+use step_mem::{Changes, Control, Earlier, Guard, Own, Reach, StepState, Text, Visited};
 
 /// A step so far, and the frames of the text, `count` of them from `first` on.
 #[derive(Drop)]
@@ -14,9 +14,9 @@ pub struct Progress {
     pub own: Own,
     pub changes: Changes,
     pub pages: u32,
-    pub went: Went,
-    pub tables: Went,
-    pub wrote: Went,
+    pub visited: Visited,
+    pub tables: Visited,
+    pub wrote: Visited,
     pub ready: Reach,
     pub earlier: Earlier,
 }
@@ -31,7 +31,7 @@ impl Progress {
           own = record { front = 0; front_len = 0; back = 0; back_len = 0 };
           changes = [];
           pages = 0;
-          went = [];
+          visited = [];
           tables = [];
           wrote = [];
           ready = record { start = 0; len = 0; write = false };
@@ -50,9 +50,9 @@ impl Progress {
             },
             changes: Changes::new(),
             pages: 0,
-            went: Went::new(),
-            tables: Went::new(),
-            wrote: Went::new(),
+            visited: Visited::new(),
+            tables: Visited::new(),
+            wrote: Visited::new(),
             ready: Reach {
                 start: 0,
                 len: 0,
@@ -78,12 +78,12 @@ impl Progress {
     }
 
     /// The same as a step's state, under a guard of these frames.
-    pub fn state<'t>(&self, text: &'t Option<Text<'t>>) -> State<'t>
+    pub fn state<'t>(&self, text: &'t Option<Text<'t>>) -> StepState<'t>
         requires { IsPlain text.now self.now.first self.now.count }
         ensures state { result ≡ state_by result.guard self.now }
         ensures guards { Guards result.guard self.now }
     {
-        State {
+        StepState {
             control: self.control,
             guard: Guard {
                 text,
@@ -91,7 +91,7 @@ impl Progress {
             },
             changes: self.changes.copied(),
             pages: self.pages,
-            went: self.went.copied(),
+            visited: self.visited.copied(),
             tables: self.tables.copied(),
             wrote: self.wrote.copied(),
             ready: self.ready,
@@ -100,7 +100,7 @@ impl Progress {
     }
 
     /// Takes over what a step did further, under a guard of the same frames.
-    pub fn follow(&mut self, state: &State)
+    pub fn follow(&mut self, state: &StepState)
         requires { IsPlain state.now.guard.text.now self.old.first self.old.count }
         ensures state { state.now ≡ state_by state.now.guard self.new }
         ensures guards { Guards state.now.guard self.new }
@@ -110,7 +110,7 @@ impl Progress {
         self.own = state.guard.own;
         self.changes = state.changes.copied();
         self.pages = state.pages;
-        self.went = state.went.copied();
+        self.visited = state.visited.copied();
         self.tables = state.tables.copied();
         self.wrote = state.wrote.copied();
         self.ready = state.ready;

@@ -12,7 +12,7 @@ use crate::progress::Progress;
 use guest_ram::Ram;
 use ia32_types::Size;
 use paging::{Access, Touch};
-use step_mem::{Kept, State, own_back, own_front};
+use step_mem::{Kept, StepState, own_back, own_front};
 
 /// Translates a range.
 pub fn touch<B: Kept>(
@@ -106,7 +106,7 @@ pub fn save<B: Kept>(ram: &mut Ram, base: &B, step: &Progress, at: u32, size: Si
 }
 
 /// The bytes at an address are those of this step's instruction, in one page or two.
-fn own_in<B: Kept>(ram: &Ram, base: &B, state: &mut State, at: u32, len: u32)
+fn own_in<B: Kept>(ram: &Ram, base: &B, state: &mut StepState, at: u32, len: u32)
     requires sound { IsSound (B.entries base.now) (B.floor base.now) (B.stands base.now) ram.now state.old }
     requires some { 1 ≤ len }
     requires short { len ≤ 4096 }

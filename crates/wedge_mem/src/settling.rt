@@ -19,7 +19,7 @@ use crate::telling::{note_tables, tell_written};
 use frame_pool::Pool;
 use guest_ram::Ram;
 use shadow_tables::{Shadows, Side};
-use step_mem::State;
+use step_mem::StepState;
 
 /// Settles the shadows to the set that a step left: every page that the step went through is filled from its entry on
 /// that side, or dropped where it has none. The frames that its walks read are noted before, and only then those that it
@@ -30,7 +30,7 @@ pub fn settle<S: Shadows>(
     shadows: &mut S,
     ram: &mut Ram,
     pool: &mut Pool,
-    state: &State,
+    state: &StepState,
     side: Side,
 ) -> Option<u32>
     requires sound { IsSound (λ m. entries_of (S.slots shadows.old m)) (4096 * base_of pool.old) (λ m. (∥ S.stands shadows.old m ∥₁) × Owns pool.old m (S.frames shadows.old m)) ram.old state.now }
@@ -39,12 +39,12 @@ pub fn settle<S: Shadows>(
     ensures moves { Moves pool.old pool.new ram.old ram.new (S.frames shadows.old ram.old) (S.frames shadows.new ram.new) }
     ensures roots { (view : View) → S.directory shadows.new view ≡ S.directory shadows.old view }
     ensures count { let set = changed (entries_of (S.slots shadows.old ram.old)) state.now.changes in
-        let count = length (used set (pages_of state.now.went state.now.changes)) in
+        let count = length (used set (pages_of state.now.visited state.now.changes)) in
         MatchOption result (length (free_list pool.old ram.old) < count) (λ n. (n ≡ count) × (count ≤ length (free_list pool.old ram.old))) }
     ensures entries { MatchOption result (entries_of (S.slots shadows.new ram.new) ≡ empty)
         (λ n. entries_of (S.slots shadows.new ram.new) ≡ changed (entries_of (S.slots shadows.old ram.old)) state.now.changes) }
     ensures kept { IfSome result (λ n. Settles (S.slots shadows.old ram.old) (S.slots shadows.new ram.new) (changed (entries_of (S.slots shadows.old ram.old)) state.now.changes)
-        (pages_of state.now.went state.now.changes) side state.now.control.wp (S.tracked shadows.new)) }
+        (pages_of state.now.visited state.now.changes) side state.now.control.wp (S.tracked shadows.new)) }
     ensures noted { IsSome result → (frame : ℕ) → is_among frame state.now.wrote ≡ false → S.noted shadows.new frame ≡ read_by (S.noted shadows.old) state.now.tables frame }
     ensures noted_only { (frame : ℕ) → S.noted shadows.new frame ≡ true → read_by (S.noted shadows.old) state.now.tables frame ≡ true }
     ensures marked { MatchOption result (S.marked shadows.new ≡ true → S.marked shadows.old ≡ true)
@@ -53,7 +53,7 @@ pub fn settle<S: Shadows>(
     ensures asides { MatchOption result (S.asides shadows.new ram.new ≡ [])
         (λ n. LoseWrites (guest_frames state.now.tables) (all_spared state.now.wrote (S.asides shadows.old ram.old)) (S.asides shadows.new ram.new)) }
     ensures untracked { IsSome result → (frame : ℕ) → is_among frame state.now.wrote ≡ true → is_among frame (S.tracked shadows.new) ≡ false }
-    ensures opened { (indices : ℕ → Bool) → ((page : ℕ) → is_among page (pages_of state.now.went state.now.changes) ≡ true → indices (page / 1024) ≡ true) → S.opened shadows.old ram.old indices → S.opened shadows.new ram.new indices }
+    ensures opened { (indices : ℕ → Bool) → ((page : ℕ) → is_among page (pages_of state.now.visited state.now.changes) ≡ true → indices (page / 1024) ≡ true) → S.opened shadows.old ram.old indices → S.opened shadows.new ram.new indices }
     ensures guest { take (4096 * base_of pool.old) ram.new ≡ take (4096 * base_of pool.old) ram.old }
 {
     let _len = ram.len();

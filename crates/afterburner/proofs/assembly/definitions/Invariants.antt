@@ -1,5 +1,5 @@
 use Rattle.std.proofs.Common.{◌≡◌, replicate}
-use Rattle.afterburner.specs.State.{undefined}
+use Rattle.afterburner.specs.ObjectSoFar.{undefined}
 use Rattle.afterburner.proofs.assembly.definitions.Given as goal
 
 abbrev pub invariant-loop : goal.invariant-loop

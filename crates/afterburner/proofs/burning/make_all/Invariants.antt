@@ -1,6 +1,6 @@
 use Rattle.std.proofs.Common.{◌≡◌, length, fold, take}
 use Rattle.std.specs.Prelude.{Ok}
-use Rattle.afterburner.specs.State.{fresh}
+use Rattle.afterburner.specs.ObjectSoFar.{fresh}
 use Rattle.afterburner.specs.Burnt.{next_made}
 use Rattle.afterburner.specs.Sound.{IsSound, IsWithin}
 use Rattle.afterburner.proofs.burning.make_all.Given as goal

@@ -1,6 +1,6 @@
 use Rattle.std.proofs.Common.{◌≡◌, true, false, arith, refl, length-append}
 use Rattle.std.proofs.lemmas.List.FromFn.{map-range_with_len_more}
-use Rattle.afterburner.specs.State.{undefined}
+use Rattle.afterburner.specs.ObjectSoFar.{undefined}
 use Rattle.afterburner.specs.Objects.{ordered_number, defines}
 use Rattle.afterburner.proofs.Ordering.{counted_more}
 use Rattle.afterburner.proofs.object.ordered_numbers.Goals as goal

@@ -1,6 +1,6 @@
 use Rattle.std.proofs.Common.{append_assoc}
 use Rattle.std.proofs.lemmas.List.Elements.{filter-append}
-use Rattle.afterburner.specs.State.{undefined}
+use Rattle.afterburner.specs.ObjectSoFar.{undefined}
 use Rattle.afterburner.proofs.Ordering.{seen_more}
 use Rattle.afterburner.proofs.object.put_symbols.Goals as goal
 

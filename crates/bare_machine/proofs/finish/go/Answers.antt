@@ -8,7 +8,7 @@ use Rattle.bare_machine.proofs.finish.go.Goals as goal
 
 pub returns-clause-goes : goal.returns-clause-goes
 returns-clause-goes g c = λ whats completed s ram set. record {
-  report = record { items = items_at c.args.machine.now.step whats; completed = completed; pages = s.went; tables = s.tables; wrote = s.wrote };
+  report = record { items = items_at c.args.machine.now.step whats; completed = completed; pages = s.visited; tables = s.tables; wrote = s.wrote };
   whole = s.set;
   went = rw (ram, c.advance.ensures ∙ one_step c.args.machine.now.board) refl;
   part = subst (IsPartOf (g.C.Cache.entries c.drop_from.new.kept.cache)) (sym set) (c.drop_from.ensures.part (changed (g.C.Cache.entries c.args.machine.now.kept.cache) c.args.changes.now) c.settle.ensures.part);

@@ -9,7 +9,7 @@ use Rattle.machine_step.proofs.delivery.enter.Goals as goal
 
 pub returns-in-Err-Privilege-clause-step : goal.returns-in-Err-Privilege-clause-step
 returns-in-Err-Privilege-clause-step g c = λ m b k.
-    let h = rw (c.in-Err-Privilege.field-0-is, c.passed-after.ensures) at c.in-Err-Privilege.ensures.delivers in
+    let h = rw (c.in-Err-Privilege.field-0-is, c.past-after.ensures) at c.in-Err-Privilege.ensures.delivers in
     subst (λ (o : Outcome NotDelivered Cpu). ComesTo (after_software m (record b { cpu = c.args.cpu.now }) (completed_of c.args.completed) c.args.vector o) b c.raise.result b.board (space_at (g.B.Kept.entries c.args.kept.now) c.raise.new.ram c.raise.new.state))
     (sym h) (rw c.from.ensures at (c.raise.ensures.step m (record b { cpu = c.args.cpu.now }) k))
 
@@ -18,4 +18,4 @@ returns-in-Ok-clause-step g c = λ m b k.
     let here = record b { cpu = c.args.cpu.now } in
     let s = space_at (g.B.Kept.entries c.args.kept.now) c.deliver_in.new.ram c.deliver_in.new.state in
     subst (λ (o : Outcome NotDelivered Cpu). ComesTo (after_software m here (completed_of c.args.completed) c.args.vector o) b c.entered.result b.board s)
-    (sym (rw (c.in-Ok.is, c.passed-after.ensures) at c.deliver_in.ensures.delivers)) (c.entered.ensures.step m here b.board s k)
+    (sym (rw (c.in-Ok.is, c.past-after.ensures) at c.deliver_in.ensures.delivers)) (c.entered.ensures.step m here b.board s k)

@@ -8,7 +8,7 @@ returns-clause-value g c =
     let m = c.args.state.now in
     rw c.as_slice.ensures.changes at (c.number.ensures.value m.control (record {
       pages = m.pages;
-      went = m.went;
+      visited = m.visited;
       tables = m.tables;
       wrote = m.wrote;
       ready = record { start = m.ready.start; len = m.ready.len; write = m.ready.write };

@@ -4,10 +4,13 @@ use Rattle.paging.specs.declared.entry.Entry.{Entry}
 use Rattle.paging.specs.Fresh.{tables_read}
 use Rattle.paging.specs.Uses.{with_entry, settled, is_barred}
 use Rattle.step_mem.specs.Guard.{mode_of}
-use Rattle.step_mem.specs.Changes.{changed, AreWithin, page_of, entry_of}
+use Rattle.std.specs.Prelude.{map}
+use Rattle.std.proofs.Common.{List, true}
+use Rattle.step_mem.specs.declared.changes.Change.{Change}
+use Rattle.step_mem.specs.Changes.{changed, AreWithin, page_of, entry_of, is_one_of}
 use Rattle.step_mem.specs.Space.{space_of, with_tables}
 use Rattle.step_mem.specs.Shown.{shown}
-use Rattle.step_mem.proofs.Changed.{changed_push, get_with_same, get_with_other, Within_with}
+use Rattle.step_mem.proofs.Changed.{one_change_more, changed_push, get_with_same, get_with_other, Within_with}
 use Rattle.step_mem.proofs.page.settle.Goals as goal
 use Rattle.step_mem.proofs.page.settle.Given.{Over}
 
@@ -59,3 +62,7 @@ returns-clause-clear g c = λ ready x is.
     let P : Option Entry → Type 0 = λ o. IfSome o (λ e. is_barred (mode_of c.args.guard.now) c.args.fetch c.args.access.user c.args.page e.frame ≡ false) in
     let found : c.decide-met.result.1 ≡ Some x = sym (ap (λ set. get set c.args.page) (after g c) ∙ get_with_same _ c.args.page c.decide-met.result.1) ∙ is in
     subst P found c.decide-met.ensures.clear
+
+pub returns-clause-more : goal.returns-clause-more
+returns-clause-more g c = λ q h.
+    one_change_more c.args.changes.now c.change_of.result c.args.page q c.change_of.ensures.page (subst (λ (cs : List Change). is_one_of (map page_of cs) q ≡ true) c.push.ensures h)

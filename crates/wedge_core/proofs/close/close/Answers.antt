@@ -50,7 +50,7 @@ module _ (g : Over) (c : goal.After-settle g) where
   set = changed (entries_of (g.S.Shadows.slots c.args.shadows.now c.args.ram.now)) c.args.state.now.changes
 
   abbrev pages : List ℕ
-  pages = pages_of c.args.state.now.went c.args.state.now.changes
+  pages = pages_of c.args.state.now.visited c.args.state.now.changes
 
   abbrev free : ℕ
   free = length (free_list c.args.pool.now c.args.ram.now)
@@ -69,7 +69,7 @@ returns-clause-whole g c = λ may.
     c.settle.ensures.untracked may
 
 pub returns-clause-few : goal.returns-clause-few
-returns-clause-few g c = settled_few (set g c) c.args.state.now.went c.args.state.now.changes (free g c) c.settle.result c.settle.ensures.count (omega (arith, c.requires.sound.noted, c.requires.sound.counted, c.requires.sound.few))
+returns-clause-few g c = settled_few (set g c) c.args.state.now.visited c.args.state.now.changes (free g c) c.settle.result c.settle.ensures.count (omega (arith, c.requires.sound.noted, c.requires.sound.counted, c.requires.sound.few))
 
 -- what the end of the step makes of what is kept
 module _ (g : Over) (c : goal.After-settle g) where
@@ -94,7 +94,7 @@ returns-clause-fewer g c = λ e.
 pub returns-clause-filled : goal.returns-clause-filled
 returns-clause-filled g c =
     closed_filled c.settle.result c.args.state.now.tables c.args.state.now.wrote (entries_of (old g c)) (entries_of (new g c)) (g.S.Shadows.asides c.args.shadows.now c.args.ram.now) (g.S.Shadows.asides c.settle.new.shadows c.settle.new.ram) c.settle.ensures.asides
-    (settled_filled (entries_of (old g c)) (entries_of (new g c)) c.args.state.now.went c.args.state.now.changes (free g c) c.settle.result c.settle.ensures.count c.settle.ensures.entries)
+    (settled_filled (entries_of (old g c)) (entries_of (new g c)) c.args.state.now.visited c.args.state.now.changes (free g c) c.settle.result c.settle.ensures.count c.settle.ensures.entries)
 
 pub returns-clause-ready : goal.returns-clause-ready
 returns-clause-ready g c = λ out m cpu frames h.

@@ -14,7 +14,7 @@ use Rattle.step_mem.specs.Changes.{AreWithin, changed}
 use Rattle.step_mem.specs.Shown as laying
 use Rattle.step_mem.specs.Sound.{IsSound, space_at}
 use Rattle.step_mem.specs.declared.guard.Guard.{Guard}
-use Rattle.step_mem.specs.declared.state.State as kept_state
+use Rattle.step_mem.specs.declared.state.StepState as kept_state
 use Rattle.step_mem.specs.declared.walking.Control.{Control}
 use Rattle.wedge_mem.specs.Owned.{first, owns}
 use Rattle.machine_model.specs.State.{wedge, wedge_mode}
@@ -165,13 +165,13 @@ keep-requires-clause-sound g c =
     let clear = c.requires.clear [] p.insn p.len p.after_fetch p.fetches in
     let other = others c.native_laws.ensures.grants c.native_laws.ensures.again c.native_laws.ensures.completes m w (g.S.Shadows.directory running.shadows) b room fit sound (c.native_laws.ensures.sees (g.S.Shadows.directory running.shadows) running.cpu c.requires.able) next small t p clear in
     let kept1 = entries_of (g.S.Shadows.slots running.shadows ram1) in
-    let told_is : changed kept1 (told state1.went state1.changes) ≡ changed kept1 state1.changes = told_same kept1 state1.changes state1.went (λ q no. other q no ∙ ap (λ (set : FinMap nat_cmp Entry). get set q) (sym a.entries_same)) in
+    let told_is : changed kept1 (told state1.visited state1.changes) ≡ changed kept1 state1.changes = told_same kept1 state1.changes state1.visited (λ q no. other q no ∙ ap (λ (set : FinMap nat_cmp Entry). get set q) (sym a.entries_same)) in
     let kept = λ (r : List ℕ). entries_of (g.S.Shadows.slots running.shadows r) in
     let floor = 4096 * base_of pool0 in
     let stand = λ (r : List ℕ). (∥ g.S.Shadows.stands running.shadows r ∥₁) × Owns pool0 r (g.S.Shadows.frames running.shadows r) in
     let within1 : AreWithin state1.control.frames (entries_of (g.S.Shadows.slots running.shadows ram1)) =
     subst (λ (set : FinMap nat_cmp Entry). AreWithin state1.control.frames set) (sym a.entries_same) (subst (λ (k : ℕ). AreWithin k (entries_of (g.S.Shadows.slots running.shadows ram0))) (sym frames1) held.within) in
-    subst (λ (x : kept_state.State). IsSound kept floor stand ram1 x) (sym c.keep_told.ensures) (told_sound kept floor stand ram1 state1 c.try_native.ensures.sound told_is within1)
+    subst (λ (x : kept_state.StepState). IsSound kept floor stand ram1 x) (sym c.keep_told.ensures) (told_sound kept floor stand ram1 state1 c.try_native.ensures.sound told_is within1)
 
 pub returns-in_err-worked-clause-stands : goal.returns-in_err-worked-clause-stands
 returns-in_err-worked-clause-stands g c =
@@ -332,12 +332,12 @@ returns-in-None-clause-held g c =
     let state2 = c.keep_told.new.state in
     let whole2 = changed (entries_of (g.S.Shadows.slots running.shadows ram1)) state2.changes in
     let told_state = c.keep_told.ensures in
-    let wp2 : state2.control.wp ≡ wp_of running.cpu = ap (λ (x : kept_state.State). x.control.wp) told_state ∙ wp1 in
+    let wp2 : state2.control.wp ≡ wp_of running.cpu = ap (λ (x : kept_state.StepState). x.control.wp) told_state ∙ wp1 in
     let open3 = subst (λ (x : Bool). AreOpen image x (g.S.Shadows.slots new.shadows ram3)) wp2 (c.keep.ensures.shows image c.text_frames.ensures (subst (λ (x : Bool). AreOpen image x (g.S.Shadows.slots running.shadows ram1)) (sym wp2) slots1)) in
     let kept1 = entries_of (g.S.Shadows.slots running.shadows ram1) in
     let within1 : AreWithin n (changed kept1 state1.changes) = subst (λ (k : ℕ). AreWithin k (changed kept1 state1.changes)) frames1 c.try_native.ensures.sound.within in
     let base1 : AreWithin n kept1 = subst (λ (set : FinMap nat_cmp Entry). AreWithin n set) (sym a.entries_same) held.within in
-    let within2 : AreWithin n whole2 = subst (λ (x : kept_state.State). AreWithin n (changed kept1 x.changes)) (sym told_state) (told_within n kept1 state1.changes state1.went base1 within1) in
+    let within2 : AreWithin n whole2 = subst (λ (x : kept_state.StepState). AreWithin n (changed kept1 x.changes)) (sym told_state) (told_within n kept1 state1.changes state1.visited base1 within1) in
     let fills = c.keep.ensures.fills in
     let before = held.fills in
     held_then g.S.Shadows.stands g.S.Shadows.frames g.S.Shadows.slots image running (record new { step = running.step + 1 }) pool0 c.keep.new.pool ram0 ram1 ram3 held a (owns c.try_native.ensures.sound.stands_now) c.keep.ensures.moves
@@ -385,7 +385,7 @@ returns-in-None-clause-step g c = λ script.
     let clear = c.requires.clear script p.insn p.len p.after_fetch p.fetches in
     let other = others c.native_laws.ensures.grants c.native_laws.ensures.again c.native_laws.ensures.completes m w directory b room fit sound (c.native_laws.ensures.sees directory running.cpu c.requires.able) next small t p clear in
     let kept1 = entries_of (g.S.Shadows.slots running.shadows ram1) in
-    let told_is : changed kept1 (told state1.went state1.changes) ≡ changed kept1 state1.changes = told_same kept1 state1.changes state1.went (λ q no. other q no ∙ ap (λ (set : FinMap nat_cmp Entry). get set q) (sym a.entries_same)) in
+    let told_is : changed kept1 (told state1.visited state1.changes) ≡ changed kept1 state1.changes = told_same kept1 state1.changes state1.visited (λ q no. other q no ∙ ap (λ (set : FinMap nat_cmp Entry). get set q) (sym a.entries_same)) in
     let wp1 : state1.control.wp ≡ wp_of running.cpu = ap (λ (k : Control). k.wp) c.try_native.ensures.control ∙ ap (λ (x : Space). x.wp) c.begin-state.ensures.space in
     let slots1 = same_open image (wp_of running.cpu) (g.S.Shadows.slots running.shadows ram0) (g.S.Shadows.slots running.shadows ram1) a.slots_same held.open_to in
     let new = c.keep.new.running in
@@ -413,7 +413,7 @@ returns-in-None-clause-step g c = λ script.
     let host3 : IsHost m ram3 =
     (let text = text_within image in let r = held.wedge.room in host_same m ram1 ram3 (omega (arith, r, text)) c.keep.ensures.moves.size front (host_left m (text_pages image) ram0 ram1 text a.left (record { room = held.host.room; text = held.host.text }))) in
     let sees = c.native_laws.ensures.sees directory running.cpu c.requires.able in
-    let wp2 : c.keep_told.new.state.control.wp ≡ wp_of running.cpu = ap (λ (x : kept_state.State). x.control.wp) c.keep_told.ensures ∙ wp1 in
+    let wp2 : c.keep_told.new.state.control.wp ≡ wp_of running.cpu = ap (λ (x : kept_state.StepState). x.control.wp) c.keep_told.ensures ∙ wp1 in
     let open3 = subst (λ (x : Bool). AreOpen image x slots3) wp2 (c.keep.ensures.shows image c.text_frames.ensures (subst (λ (x : Bool). AreOpen image x (g.S.Shadows.slots running.shadows ram1)) (sym wp2) slots1)) in
     let lends = subst (λ (k : Bool). Lends m ram3 (directory side) k (wp_of running.cpu) t.set) (side_is running.cpu)
     (c.native_laws.ensures.lends m ram3 (directory side) side (wp_of running.cpu) slots3 t.set host (λ page lt. g.met.S.Shadows.entry_at new.shadows ram3 page lt) (subst (λ (set : FinMap nat_cmp Entry). AreWithin n set) (sym closes.entries) within1) open3
@@ -704,7 +704,7 @@ returns-in-None-clause-ready g c =
     let clear = c.requires.clear [] p.insn p.len p.after_fetch p.fetches in
     let other = others c.native_laws.ensures.grants c.native_laws.ensures.again c.native_laws.ensures.completes m w directory b room fit sound (c.native_laws.ensures.sees directory running.cpu c.requires.able) next small t p clear in
     let kept1 = entries_of (g.S.Shadows.slots running.shadows ram1) in
-    let told_is : changed kept1 (told state1.went state1.changes) ≡ changed kept1 state1.changes = told_same kept1 state1.changes state1.went (λ q no. other q no ∙ ap (λ (set : FinMap nat_cmp Entry). get set q) (sym a.entries_same)) in
+    let told_is : changed kept1 (told state1.visited state1.changes) ≡ changed kept1 state1.changes = told_same kept1 state1.changes state1.visited (λ q no. other q no ∙ ap (λ (set : FinMap nat_cmp Entry). get set q) (sym a.entries_same)) in
     let text1 = c.try_native.ensures.text ∙ ap (λ (x : Guard). x.text) c.begin-state.ensures.guard in
     let here : laying.laid o.result.bytes.now o.result.first n ram1 ≡ t.ram = λ i. laying.shown_by (sym text1 i).now (sym frames1 i) ram1 in
     let k : Steps g.S.Shadows.slots g.S.Shadows.noted g.S.Shadows.marked g.S.Shadows.value g.S.Shadows.asides image n b running.shadows ram0 ram1 = record {
@@ -720,8 +720,8 @@ returns-in-None-clause-ready g c =
     let t_ram : t.ram ≡ shown m ram1 = sym here ∙ shown_is m o.result.bytes.now o.result.first ram1 o.ensures.bytes o.ensures.first in
     let behind1 = prepared_ready g.S.Shadows.slots g.S.Shadows.noted g.S.Shadows.marked g.S.Shadows.value g.S.Shadows.asides image n b running.shadows ram0 ram1 k c.requires.ready c.native_laws.ensures.on c.native_laws.ensures.fetched c.native_laws.ensures.ranges (λ page. false) (unheld b) t t.set p t_ram refl in
     let state2 = c.keep_told.new.state in
-    let behind2 = subst (λ (x : kept_state.State). IsReadyBehind g.S.Shadows.slots g.S.Shadows.noted g.S.Shadows.marked g.S.Shadows.value g.S.Shadows.asides (λ page. false) m running.cpu running.shadows ram1 (changed kept1 x.changes) x.tables x.wrote) (sym c.keep_told.ensures)
+    let behind2 = subst (λ (x : kept_state.StepState). IsReadyBehind g.S.Shadows.slots g.S.Shadows.noted g.S.Shadows.marked g.S.Shadows.value g.S.Shadows.asides (λ page. false) m running.cpu running.shadows ram1 (changed kept1 x.changes) x.tables x.wrote) (sym c.keep_told.ensures)
     (subst (λ (set : FinMap nat_cmp Entry). IsReadyBehind g.S.Shadows.slots g.S.Shadows.noted g.S.Shadows.marked g.S.Shadows.value g.S.Shadows.asides (λ page. false) m running.cpu running.shadows ram1 set state1.tables state1.wrote) (sym told_is) behind1) in
-    let frames2 : n ≡ state2.control.frames = sym (ap (λ (x : kept_state.State). x.control.frames) c.keep_told.ensures ∙ frames1) in
+    let frames2 : n ≡ state2.control.frames = sym (ap (λ (x : kept_state.StepState). x.control.frames) c.keep_told.ensures ∙ frames1) in
     let ready2 = c.keep.ensures.ready (λ page. false) m running.cpu frames2 behind2 in
     subst (λ (x : Cpu). IsReady g.S.Shadows.slots g.S.Shadows.noted g.S.Shadows.marked g.S.Shadows.value g.S.Shadows.asides m x c.keep.new.running.shadows c.keep.new.ram) (sym (ap (λ (r : Running g.row.S.Denot). r.cpu) c.keep.ensures.same)) ready2

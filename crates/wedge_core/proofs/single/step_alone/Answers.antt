@@ -20,7 +20,7 @@ use Rattle.wedge_core.proofs.Filling.{fills_same, fills_join}
 use Rattle.board.specs.Scripts.{Events}
 use Rattle.image_check.specs.Image.{Image}
 use Rattle.shadow_tables.specs.Aside.{AreSame}
-use Rattle.step_mem.specs.declared.state.State as kept_state
+use Rattle.step_mem.specs.declared.state.StepState as kept_state
 use Rattle.machine_model.specs.State.{Setting, State}
 use Rattle.machine_model.specs.Step.{stepped}
 use Rattle.machine_step.specs.Worked.{dropping, went_as}
@@ -117,7 +117,7 @@ module _ (g : Over) (c : goal.After-worked-1 g) where
   abbrev ram1 : List ℕ
   ram1 = c.step_in-outcome.new.ram
 
-  abbrev state1 : kept_state.State
+  abbrev state1 : kept_state.StepState
   state1 = c.step_in-outcome.new.state
 
   frames1 : state1.control.frames ≡ n
@@ -180,7 +180,7 @@ module _ (g : Over) (c : goal.After-worked-1 g) where
         let here : laying.laid o.result.bytes.now o.result.first n ram1 ≡ s1.ram = λ i. laying.shown_by (sym text1 i).now (sym frames1 i) ram1 in
         sym here ∙ shown_is m o.result.bytes.now o.result.first ram1 o.ensures.bytes o.ensures.first
 
-  behind1 : IsReadyBehind g.S.Shadows.slots g.S.Shadows.noted g.S.Shadows.marked g.S.Shadows.value g.S.Shadows.asides (leaving c.in-Ok.worked.dropped (pages_of state1.went state1.changes)) (ground image n) running.cpu running.shadows ram1
+  behind1 : IsReadyBehind g.S.Shadows.slots g.S.Shadows.noted g.S.Shadows.marked g.S.Shadows.value g.S.Shadows.asides (leaving c.in-Ok.worked.dropped (pages_of state1.visited state1.changes)) (ground image n) running.cpu running.shadows ram1
       (changed (entries_of (g.S.Shadows.slots running.shadows ram1)) state1.changes) state1.tables state1.wrote
   behind1 =
       let held = c.requires.held in

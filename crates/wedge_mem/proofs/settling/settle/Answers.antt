@@ -62,9 +62,9 @@ returns-clause-guest g c =
 pub returns-clause-entries : goal.returns-clause-entries
 returns-clause-entries g c =
     let s = g.S.Shadows.slots in let t = c.tell_written.new in let u = c.fill_pages.new in
-    let cs = c.args.state.now.changes in let went = c.args.state.now.went in
+    let cs = c.args.state.now.changes in let visited = c.args.state.now.visited in
     let same = c.tell_written.ensures.entries ∙ c.note_tables.ensures.entries in
-    entries-filled (s t.shadows t.ram) (s u.shadows u.ram) went cs c.args.side c.args.state.now.control.wp (g.S.Shadows.tracked t.shadows) c.pages_of-pages.ensures.pages
+    entries-filled (s t.shadows t.ram) (s u.shadows u.ram) visited cs c.args.side c.args.state.now.control.wp (g.S.Shadows.tracked t.shadows) c.pages_of-pages.ensures.pages
     (subst (λ xs. Fills (s t.shadows t.ram) (s u.shadows u.ram) (changed (entries_of (s t.shadows t.ram)) cs) xs c.args.side c.args.state.now.control.wp (g.S.Shadows.tracked t.shadows)) (c.as_slice-4.ensures ∙ c.pages_of-pages.ensures.all) c.fill_pages.ensures.fills)
     ∙ ap (λ e. changed e cs) same
 

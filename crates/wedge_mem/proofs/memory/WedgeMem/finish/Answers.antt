@@ -6,7 +6,7 @@ use Rattle.frame_pool.specs.Pool.{base_of}
 use Rattle.shadow_tables.specs.Entries.{entries_of}
 use Rattle.step_mem.specs.Changes.{changed}
 use Rattle.step_mem.specs.declared.changes.Change.{Change}
-use Rattle.step_mem.specs.declared.state.State.{State}
+use Rattle.step_mem.specs.declared.state.StepState.{StepState}
 use Rattle.wedge_mem.specs.Owned.{both}
 use Rattle.wedge_mem.specs.Progress.{IsGoing}
 use Rattle.wedge_mem.specs.declared.progress.Progress.{Progress}
@@ -20,7 +20,7 @@ invariant_of-self g c =
     let before = entries_of (s old.shadows.now old.ram.now) in let after = entries_of (s u.shadows u.ram) in
     let frames = old.step.control.frames in
     let sound = old.going c.state-state.result.guard c.state-state.ensures.guards in
-    let same = ap (λ (t : State). t.changes) c.state-state.ensures.state in
+    let same = ap (λ (t : StepState). t.changes) c.state-state.ensures.state in
     let kept = subst (λ (cs : List Change). MatchOption c.settle-count.result (after ≡ empty) (λ n. after ≡ changed before cs)) same c.settle-count.ensures.entries in
     let room = room_left old.pool.now u.pool old.ram.now u.ram (f old.shadows.now old.ram.now) (f u.shadows u.ram) frames c.settle-count.ensures.moves sound.frames_in sound.below in
     record {

@@ -1,0 +1,13 @@
+//! What a run knows between two of its steps.
+
+ghost use Rattle.kept_laws.specs.Known.{KnownAtStart, KnownStill, KnownPast, KnownOn};
+
+/// At the start of a run nothing is kept and nothing is owed, and what is known stays so while the same is kept. A step that
+/// the run has no part in goes on with it, and one that the run settles and ends.
+pub fn known_goes_on()
+    ensures start { KnownAtStart }
+    ensures still { KnownStill }
+    ensures past { KnownPast }
+    ensures on { KnownOn }
+{
+}
