@@ -1,5 +1,5 @@
 -- What a run knows between two of its steps, and how a step that was settled and ended goes on with it.
-use Rattle.std.specs.Prelude.{◌≡◌, ◌⊎◌, ⊥, ℕ, ◌*◌, ◌^◌, ◌≤◌, Bool, true, false, Option, List, [], ◌∷◌, ◌++◌, length, None}
+use Rattle.std.specs.Prelude.{◌≡◌, ◌⊎◌, ℕ, ◌*◌, ◌^◌, ◌≤◌, Bool, true, false, Option, List, [], ◌∷◌, ◌++◌, length, None}
 use Rattle.std.specs.List.{All}
 use Rattle.std.specs.FinMap.{get, empty}
 use Rattle.guest_ram.specs.Bytes.{AreBytes}
