@@ -1,13 +1,12 @@
 -- What a run knows between two of its steps goes on over its steps.
-use Rattle.std.proofs.Common.{◌≡◌, ℕ, ◌^◌, ◌≤◌, List, [], ◌∷◌, ◌++◌, Bool, true, false, cond, not, Option, refl, sym, ap, subst, ◌∙◌, ◌⊎◌, inl, inr}
+use Rattle.std.proofs.Common.{◌≡◌, ℕ, List, [], ◌∷◌, ◌++◌, Bool, true, false, cond, not, refl, sym, ap, subst, ◌∙◌, ◌⊎◌, inl, inr}
 use Rattle.std.specs.List.{All}
-use Rattle.std.specs.FinMap.{get, empty}
+use Rattle.std.specs.FinMap.{empty}
 use Rattle.std.proofs.lemmas.List.Elements.{All-head, All-tail, All-cons, All-nil, All-append}
 use Rattle.paging.specs.Fresh.{has}
 use Rattle.descriptors.specs.Controls.{pse_of}
 use Rattle.shadow_tables.specs.Aside.{Aside, AreSame, LoseWrites, all_spared}
 use Rattle.shadow_tables.specs.Entries.{entries_of}
-use Rattle.shadow_tables.specs.Slots.{Slot}
 use Rattle.machine_model.specs.State.{Setting, State}
 use Rattle.machine_model.specs.Run.{Set}
 use Rattle.machine_model.specs.Taken.{Taken, loads_root, changes_protection}
@@ -16,7 +15,7 @@ use Rattle.kept_laws.specs.Remembered.{ComesFrom, Unwritten, IsOwed, IsRemembere
 use Rattle.kept_laws.specs.OverSteps.{IsTold, IsCause}
 use Rattle.kept_laws.specs.Judged.{AllFound, IsFoundStill, FoundGoesOn}
 use Rattle.kept_laws.specs.Carried.{IsReadyFor, NextIsKept}
-use Rattle.kept_laws.specs.Known.{IsOfPages, IsNextKept, IsKnown, RulesStay, StayAside, EmptyAside, ReloadAside, IsOver, IsStep, KnownAtStart, KnownStill, KnownPast, KnownOn}
+use Rattle.kept_laws.specs.Known.{IsOfPages, IsNextKept, IsKnown, RulesStay, StayAside, EmptyAside, IsStep, KnownAtStart, KnownStill, KnownPast, KnownOn}
 use Rattle.kept_laws.proofs.Counts.{clash}
 use Rattle.kept_laws.proofs.Owed.{causes_owe_nothing}
 use Rattle.kept_laws.proofs.OwedStays.{start_remembers, still_remembers, dropped_remembers, steps_remember, same_remembers, loads_remember}
