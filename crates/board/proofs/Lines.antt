@@ -2,7 +2,7 @@
 use Rattle.std.proofs.Common.{◌≡◌, Bool, true, false, refl, ap}
 use Rattle.std.specs.Prelude.{◌&&◌, not}
 use Rattle.pic8259.specs.declared.pics.Pics.{Pics}
-use Rattle.uart16550.specs.Ports.{event_of_line}
+use Rattle.uart16550.specs.Ports.{interrupt_line}
 use Rattle.uart16550.specs.declared.uart.Uart.{Uart}
 use Rattle.board.specs.declared.devices.Board.{Board}
 use Rattle.board.specs.Boards.{serial_line, edged}
@@ -13,7 +13,7 @@ unfolding edged
 no_rise pics true = refl
 no_rise pics false = refl
 
-pub port_stays : (board : Board) (uart : Uart) (asked : Bool) → uart ≡ board.uart → asked ≡ event_of_line board.uart →
-    record { pics = edged board.pics serial_line (event_of_line uart && not asked); pit = board.pit; uart = uart } ≡ board
+pub port_stays : (board : Board) (uart : Uart) (asked : Bool) → uart ≡ board.uart → asked ≡ interrupt_line board.uart →
+    record { pics = edged board.pics serial_line (interrupt_line uart && not asked); pit = board.pit; uart = uart } ≡ board
 port_stays board uart asked same before =
-    rw (same, before) (ap (λ (pics : Pics). record { pics = pics; pit = board.pit; uart = board.uart }) (no_rise board.pics (event_of_line board.uart)))
+    rw (same, before) (ap (λ (pics : Pics). record { pics = pics; pit = board.pit; uart = board.uart }) (no_rise board.pics (interrupt_line board.uart)))

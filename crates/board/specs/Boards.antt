@@ -4,7 +4,7 @@ use Rattle.pic8259.specs.Chips.{unstarted}
 use Rattle.pic8259.specs.Pairs.{with_edge, vector as pics_vector, acknowledged as pics_acknowledged}
 use Rattle.pic8259.specs.declared.pics.Pics.{Pics}
 use Rattle.pit8254.specs.Timers.{at_reset as timer_at_reset, timer_step, edge_comes, edge_within}
-use Rattle.uart16550.specs.Ports.{at_reset as port_at_reset, received, event_of_line}
+use Rattle.uart16550.specs.Ports.{at_reset as port_at_reset, received, interrupt_line}
 use Rattle.uart16550.specs.declared.uart.Uart.{Uart}
 use Rattle.board.specs.declared.script.Event.{Event}
 use Rattle.board.specs.declared.script.Event.TheVariants.{Rx, Line}
@@ -41,7 +41,7 @@ board_steps (suc k) board = board_steps k (board_step board)
 -- a new state of the serial port: line 4 has an edge where the port begins to ask for an interrupt
 unfoldable pub with_uart : Board → Uart → Board
 with_uart board uart = record board {
-  pics = edged board.pics serial_line (event_of_line uart && not (event_of_line board.uart));
+  pics = edged board.pics serial_line (interrupt_line uart && not (interrupt_line board.uart));
   uart = uart;
 }
 

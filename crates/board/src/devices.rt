@@ -2,7 +2,7 @@ ghost use Rattle.std.specs.Prelude.{◌≡◌, ◌<◌, false, true, not, ◌&&�
 ghost use Rattle.board.specs.Scripts.{event_fits, is_script};
 ghost use Rattle.board.specs.Boards.{at_reset, serial_line, edged, board_steps, with_uart, happened, given, comes_within, vector, acknowledged};
 ghost use Rattle.ia32_types.specs.Firsts.{IsFirst};
-ghost use Rattle.uart16550.specs.Ports.{written as serial_written, event_of_line};
+ghost use Rattle.uart16550.specs.Ports.{written as serial_written, interrupt_line};
 ghost use Rattle.board.specs.Ports.{IsByte, port_read, port_written};
 
 use crate::ports::{is_pic_port, is_pit_port, is_uart_port, reaches_listed};
@@ -169,7 +169,7 @@ impl Board {
     /// Line 4 has an edge where the serial port begins to ask for an interrupt.
     #[tactic(auto, unfolding(crate::specs::Boards::edged))]
     fn follow_serial_line(&mut self, asked_before: bool)
-        ensures { self.new ≡ record self.old { pics = edged self.old.pics serial_line (event_of_line self.old.uart && not asked_before) } }
+        ensures { self.new ≡ record self.old { pics = edged self.old.pics serial_line (interrupt_line self.old.uart && not asked_before) } }
     {
         if self.uart.line() && !asked_before {
             self.pics.edge(SERIAL_LINE);

@@ -19,3 +19,5 @@ pub mod Prepared
 pub mod Told
 pub mod Filled
 pub mod Ready
+pub mod Leaving
+pub mod Carried

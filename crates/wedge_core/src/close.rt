@@ -23,6 +23,9 @@ ghost use Rattle.wedge_core.specs.Parts.{left_of};
 ghost use Rattle.wedge_core.specs.Filled.{pages_kept};
 ghost use Rattle.wedge_core.specs.Ready.{IsReady, IsReadyBut, IsReadyBehind, AreFound, AllOpen, is_all, leaving, left_out};
 ghost use Rattle.wedge_core.specs.Standing.{AreOpen, wp_of};
+ghost use Rattle.std.specs.Prelude.{⊥, ◌/◌};
+ghost use Rattle.kept_laws.specs.Known.{StayAside, EmptyAside};
+ghost use Rattle.wedge_core.specs.Leaving.{Tells, Loads, RulesSame};
 
 use crate::looking::protects;
 use crate::opened::are_open;
@@ -57,6 +60,9 @@ pub fn close<S: Shadows>(
     ensures few { IfSome result (λ n. n ≤ 128) }
     ensures fewer { is_none result ≡ true → pages_kept S.slots S.asides shadows.new ram.new ≡ 0 }
     ensures filled { IfSome result (λ n. pages_kept S.slots S.asides shadows.new ram.new ≤ pages_kept S.slots S.asides shadows.old ram.old + n) }
+    ensures told { is_none result ≡ false → Tells state.now.tables state.now.wrote (S.noted shadows.old) (S.noted shadows.new) (S.marked shadows.old) (S.marked shadows.new) (S.asides shadows.old ram.old) (S.asides shadows.new ram.new) }
+    ensures value { S.value shadows.new ≡ S.value shadows.old }
+    ensures opened { (indices : ℕ → Bool) → ((page : ℕ) → is_among page (pages_of state.now.visited state.now.changes) ≡ true → indices (page / 1024) ≡ true) → S.opened shadows.old ram.old indices → S.opened shadows.new ram.new indices }
     ensures ready { (out : ℕ → Bool) (m : Setting) (cpu : Cpu) → m.frames ≡ state.now.control.frames
         → IsReadyBehind S.slots S.noted S.marked S.value S.asides out m cpu shadows.old ram.old (changed (entries_of (S.slots shadows.old ram.old)) state.now.changes) state.now.tables state.now.wrote
         → IsReadyBut S.slots S.noted S.marked S.value S.asides out m cpu shadows.new ram.new }
@@ -80,6 +86,8 @@ pub fn drop_from<S: Shadows>(shadows: &mut S, pool: &mut Pool, ram: &mut Ram, dr
     ensures shows { (image : Image) (wp : Bool) → AreOpen image wp (S.slots shadows.old ram.old) → AreOpen image wp (S.slots shadows.new ram.new) }
     ensures opens { (image : Image) (wp : Bool) → AllOpen image wp (S.asides shadows.old ram.old) → AllOpen image wp (S.asides shadows.new ram.new) }
     ensures fewer { pages_kept S.slots S.asides shadows.new ram.new ≤ pages_kept S.slots S.asides shadows.old ram.old }
+    ensures stay { is_all dropped ≡ false → StayAside (S.noted shadows.old) (S.noted shadows.new) (S.marked shadows.old) (S.marked shadows.new) (S.asides shadows.old ram.old) (S.asides shadows.new ram.new) }
+    ensures opened { (indices : ℕ → Bool) → S.opened shadows.old ram.old indices → S.opened shadows.new ram.new indices }
     ensures ready { (m : Setting) (cpu : Cpu) (pages : List ℕ) → m.frames ≤ base_of pool.old → is_all dropped ≡ false → IsReadyBut S.slots S.noted S.marked S.value S.asides (leaving dropped pages) m cpu shadows.old ram.old
         → IsReady S.slots S.noted S.marked S.value S.asides m cpu shadows.new ram.new }
 {
@@ -125,6 +133,7 @@ fn drop_one<S: Shadows>(shadows: &mut S, ram: &mut Ram, page: u32)
     ensures marked { S.marked shadows.new ≡ S.marked shadows.old }
     ensures value { S.value shadows.new ≡ S.value shadows.old }
     ensures asides { AreSame (S.asides shadows.old ram.old) (S.asides shadows.new ram.new) }
+    ensures opened { (indices : ℕ → Bool) → S.opened shadows.old ram.old indices → S.opened shadows.new ram.new indices }
     ensures moves { (p : Pool) → Owns p ram.old (S.frames shadows.old ram.old) → Moves p p ram.old ram.new (S.frames shadows.old ram.old) (S.frames shadows.new ram.new) }
 {
     if page < 0x10_0000 {
@@ -137,11 +146,13 @@ fn drop_pages<S: Shadows>(shadows: &mut S, ram: &mut Ram, pages: &[u32])
     requires stands { ∥ S.stands shadows.old ram.old ∥₁ }
     ensures stands { ∥ S.stands shadows.new ram.new ∥₁ }
     ensures gone { (page : ℕ) → page < 2 ^ 20 → is_among page pages.now ≡ true → S.slots shadows.new ram.new page ≡ None }
+    ensures stays { (page : ℕ) → page < 2 ^ 20 → is_among page pages.now ≡ false → S.slots shadows.new ram.new page ≡ S.slots shadows.old ram.old page }
     ensures others { (page : ℕ) → page < 2 ^ 20 → (S.slots shadows.new ram.new page ≡ None) ⊎ (S.slots shadows.new ram.new page ≡ S.slots shadows.old ram.old page) }
     ensures noted { (f : ℕ) → S.noted shadows.new f ≡ S.noted shadows.old f }
     ensures marked { S.marked shadows.new ≡ S.marked shadows.old }
     ensures value { S.value shadows.new ≡ S.value shadows.old }
     ensures asides { AreSame (S.asides shadows.old ram.old) (S.asides shadows.new ram.new) }
+    ensures opened { (indices : ℕ → Bool) → S.opened shadows.old ram.old indices → S.opened shadows.new ram.new indices }
     ensures moves { (p : Pool) → Owns p ram.old (S.frames shadows.old ram.old) → Moves p p ram.old ram.new (S.frames shadows.old ram.old) (S.frames shadows.new ram.new) }
 {
     for page in pages {
@@ -166,6 +177,11 @@ fn make_way<S: Shadows>(
     ensures room { 2 ≤ length (free_list pool.new ram.new) }
     ensures none { wanted ≡ true → (page : ℕ) → page < 2 ^ 20 → S.slots shadows.new ram.new page ≡ None }
     ensures alone { wanted ≡ true → S.asides shadows.new ram.new ≡ [] }
+    ensures stay { wanted ≡ false → 2 ≤ length (free_list pool.old ram.old) → StayAside (S.noted shadows.old) (S.noted shadows.new) (S.marked shadows.old) (S.marked shadows.new) (S.asides shadows.old ram.old) (S.asides shadows.new ram.new) }
+    ensures gone { wanted ≡ false → 2 ≤ length (free_list pool.old ram.old) → (page : ℕ) → page < 2 ^ 20 → is_among page pages.now ≡ true → S.slots shadows.new ram.new page ≡ None }
+    ensures stays { wanted ≡ false → 2 ≤ length (free_list pool.old ram.old) → (page : ℕ) → page < 2 ^ 20 → is_among page pages.now ≡ false → S.slots shadows.new ram.new page ≡ S.slots shadows.old ram.old page }
+    ensures value { S.value shadows.new ≡ S.value shadows.old }
+    ensures opened { (indices : ℕ → Bool) → S.opened shadows.old ram.old indices → S.opened shadows.new ram.new indices }
     ensures fewer { pages_kept S.slots S.asides shadows.new ram.new ≤ pages_kept S.slots S.asides shadows.old ram.old }
     ensures shows { (image : Image) (wp : Bool) → AreOpen image wp (S.slots shadows.old ram.old) → AreOpen image wp (S.slots shadows.new ram.new) }
     ensures opens { (image : Image) (wp : Bool) → AllOpen image wp (S.asides shadows.old ram.old) → AllOpen image wp (S.asides shadows.new ram.new) }
@@ -196,6 +212,8 @@ fn load<S: Reloads>(
     ensures owns { Owns pool.new ram.new (S.frames shadows.new ram.new) }
     ensures moves { Moves pool.old pool.new ram.old ram.new (S.frames shadows.old ram.old) (S.frames shadows.new ram.new) }
     ensures emptied { wanted ≡ true → entries_of (S.slots shadows.new ram.new) ≡ empty }
+    ensures loads { wanted ≡ false → 2 ≤ length (free_list pool.old ram.old) → Loads cr3 pages.now (S.value shadows.old) (S.noted shadows.old) (S.noted shadows.new) (S.marked shadows.old) (S.marked shadows.new) (S.slots shadows.old ram.old) (S.slots shadows.new ram.new) (S.asides shadows.old ram.old) (S.asides shadows.new ram.new) }
+    ensures opened { (indices : ℕ → Bool) → S.opened shadows.old ram.old indices → S.opened shadows.new ram.new indices }
     ensures fewer { pages_kept S.slots S.asides shadows.new ram.new ≤ pages_kept S.slots S.asides shadows.old ram.old }
     ensures shows { (image : Image) (wp : Bool) → AreOpen image wp (S.slots shadows.old ram.old) → AllOpen image wp (S.asides shadows.old ram.old) → AreOpen image wp (S.slots shadows.new ram.new) }
     ensures ready { (m : Setting) (before after : Cpu) → m.frames ≤ base_of pool.old → after.cr3 ≡ cr3 → pse_of after ≡ pse_of before → wp_of after ≡ wp_of before
@@ -223,6 +241,12 @@ fn drop_by<S: Shadows>(
     ensures moves { Moves pool.old pool.new ram.old ram.new (S.frames shadows.old ram.old) (S.frames shadows.new ram.new) }
     ensures left { is_all worked.now.dropped ≡ false → entries_of (S.slots shadows.new ram.new) ≡ left_of result (dropping worked.now.dropped (entries_of (S.slots shadows.old ram.old))) }
     ensures none { result ≡ true → (page : ℕ) → page < 2 ^ 20 → S.slots shadows.new ram.new page ≡ None }
+    ensures stay { result ≡ false → StayAside (S.noted shadows.old) (S.noted shadows.new) (S.marked shadows.old) (S.marked shadows.new) (S.asides shadows.old ram.old) (S.asides shadows.new ram.new) }
+    ensures same { result ≡ false → is_all worked.now.dropped ≡ true → (shadows.new ≡ shadows.old) × (ram.new ≡ ram.old) × (pool.new ≡ pool.old) }
+    ensures lost { result ≡ true → EmptyAside (S.noted shadows.old) (S.noted shadows.new) (S.marked shadows.old) (S.marked shadows.new) (S.asides shadows.new ram.new) }
+    ensures rules { result ≡ true → RulesSame before.now worked.now.cpu → ⊥ }
+    ensures rules_same { result ≡ false → RulesSame before.now worked.now.cpu }
+    ensures opened { (indices : ℕ → Bool) → S.opened shadows.old ram.old indices → S.opened shadows.new ram.new indices }
     ensures fewer { pages_kept S.slots S.asides shadows.new ram.new ≤ pages_kept S.slots S.asides shadows.old ram.old }
     ensures shows { (image : Image) → AreOpen image (wp_of before.now) (S.slots shadows.old ram.old) → AreOpen image (wp_of worked.now.cpu) (S.slots shadows.new ram.new) }
     ensures opens { (image : Image) → AllOpen image (wp_of before.now) (S.asides shadows.old ram.old) → AllOpen image (wp_of worked.now.cpu) (S.asides shadows.new ram.new) }
@@ -277,6 +301,10 @@ pub fn leave<S: Reloads>(
     ensures moves { Moves pool.old pool.new ram.old ram.new (S.frames shadows.old ram.old) (S.frames shadows.new ram.new) }
     ensures left { result.back ≡ false → entries_of (S.slots shadows.new ram.new) ≡ left_of result.none (dropping worked.now.dropped (entries_of (S.slots shadows.old ram.old))) }
     ensures wanted { wanted ≡ true → result.back ≡ false }
+    ensures stay { RulesSame before.now worked.now.cpu → worked.now.cpu.cr3 ≡ before.now.cr3 → is_all worked.now.dropped ≡ false → StayAside (S.noted shadows.old) (S.noted shadows.new) (S.marked shadows.old) (S.marked shadows.new) (S.asides shadows.old ram.old) (S.asides shadows.new ram.new) × (entries_of (S.slots shadows.new ram.new) ≡ dropping worked.now.dropped (entries_of (S.slots shadows.old ram.old))) }
+    ensures lost { (RulesSame before.now worked.now.cpu → ⊥) → worked.now.cpu.cr3 ≡ before.now.cr3 → EmptyAside (S.noted shadows.old) (S.noted shadows.new) (S.marked shadows.old) (S.marked shadows.new) (S.asides shadows.new ram.new) × (entries_of (S.slots shadows.new ram.new) ≡ empty) }
+    ensures loads { RulesSame before.now worked.now.cpu → is_all worked.now.dropped ≡ true → wanted ≡ false → 2 ≤ length (free_list pool.old ram.old) → Loads worked.now.cpu.cr3 pages.now (S.value shadows.old) (S.noted shadows.old) (S.noted shadows.new) (S.marked shadows.old) (S.marked shadows.new) (S.slots shadows.old ram.old) (S.slots shadows.new ram.new) (S.asides shadows.old ram.old) (S.asides shadows.new ram.new) }
+    ensures opened { (indices : ℕ → Bool) → S.opened shadows.old ram.old indices → S.opened shadows.new ram.new indices }
     ensures fewer { pages_kept S.slots S.asides shadows.new ram.new ≤ pages_kept S.slots S.asides shadows.old ram.old }
     ensures shows { (image : Image) → AreOpen image (wp_of before.now) (S.slots shadows.old ram.old) → AllOpen image (wp_of before.now) (S.asides shadows.old ram.old) → AreOpen image (wp_of worked.now.cpu) (S.slots shadows.new ram.new) }
     ensures ready { (m : Setting) → m.frames ≤ base_of pool.old → AreOpen m.image (wp_of before.now) (S.slots shadows.old ram.old) → IsReadyBut S.slots S.noted S.marked S.value S.asides (leaving worked.now.dropped pages.now) m before.now shadows.old ram.old

@@ -26,6 +26,15 @@ ghost use Rattle.step_mem.specs.Sound.{IsSound, space_at};
 ghost use Rattle.machine_model.specs.State.{Setting, State as Whole};
 ghost use Rattle.machine_step.specs.Ruled.{IsRuled};
 ghost use Rattle.machine_step.specs.Worked.{IsDropped};
+ghost use Rattle.std.specs.Prelude.{◌++◌, ◌∷◌, []};
+ghost use Rattle.guest_ram.specs.Bytes.{AreBytes};
+ghost use Rattle.native_steps.specs.Stands.{shown};
+ghost use Rattle.machine_model.specs.Taken.{is_load};
+ghost use Rattle.machine_model.specs.Clash.{instruction_clashes};
+ghost use Rattle.kept_laws.specs.Known.{StayAside};
+ghost use Rattle.machine_model.specs.Taken.{Taken};
+ghost use Rattle.machine_model.specs.Keeping.{Roomy};
+ghost use Rattle.wedge_core.specs.Carried.{IsCarried, IsTakenFrom};
 
 use crate::clash::clashes;
 use crate::laws::native_laws;
@@ -98,6 +107,14 @@ pub fn begin_native<S: Reloads + Drop>(
     ensures held { OnOk result (IsHeld S.stands S.frames S.slots (ground image.now running.old.frames) (record running.new { step = running.old.step + 1 }) pool.new ram.new) }
     ensures ready { OnOk result (IsReady S.slots S.noted S.marked S.value S.asides (ground image.now running.old.frames) running.new.cpu running.new.shadows ram.new) }
     ensures wanted { OnOk result (wanted ≡ true → running.new.lost.back ≡ false) }
+    ensures carried { WhereWent result ((script : Events) (steps : List Taken) (t : Taken) → wanted ≡ false → length (free_list pool.old ram.old) + running.old.held ≡ 512 → Roomy (steps ++ t ∷ [])
+        → IsTakenFrom (wedge image.now script running.old.frames) (state_of S.stands S.frames S.slots (wedge image.now script running.old.frames) running.old ram.old) t → t.set ≡ left_of running.new.lost.before (set_of S.stands S.frames S.slots running.old ram.old)
+        → IsCarried S.slots S.noted S.marked S.asides S.opened (wedge image.now script running.old.frames) steps t.before running.old.shadows ram.old → IsCarried S.slots S.noted S.marked S.asides S.opened (wedge image.now script running.old.frames) (steps ++ t ∷ []) t.after running.new.shadows ram.new) }
+    ensures carried_asked { WhereAsked result ((script : Events) (steps : List Taken) (t : Taken) → wanted ≡ false → length (free_list pool.old ram.old) + running.old.held ≡ 512 → Roomy (steps ++ t ∷ [])
+        → IsTakenFrom (wedge image.now script running.old.frames) (state_of S.stands S.frames S.slots (wedge image.now script running.old.frames) running.old ram.old) t → t.set ≡ left_of running.new.lost.before (set_of S.stands S.frames S.slots running.old ram.old)
+        → is_load t.report.completed ≡ false → (t.after.cpu.cr0 ≡ running.old.cpu.cr0) × (t.after.cpu.cr3 ≡ running.old.cpu.cr3) × (t.after.cpu.cr4 ≡ running.old.cpu.cr4) → t.after.set ≡ set_of S.stands S.frames S.slots running.new ram.new → 4096 * running.old.frames ≤ length t.after.ram → AreBytes t.after.ram
+        → IsCarried S.slots S.noted S.marked S.asides S.opened (wedge image.now script running.old.frames) steps t.before running.old.shadows ram.old → IsCarried S.slots S.noted S.marked S.asides S.opened (wedge image.now script running.old.frames) (steps ++ t ∷ []) t.after running.new.shadows ram.new) }
+    ensures clashed { running.new.lost.before ≡ true → 8 ≤ length (free_list pool.old ram.old) → (script : Events) (b : Whole) → b.cpu ≡ running.old.cpu → b.ram ≡ shown (ground image.now running.old.frames) ram.old → b.set ≡ set_of S.stands S.frames S.slots running.old ram.old → instruction_clashes (wedge image.now script running.old.frames) b ≡ true }
     ensures count { WhereWent result (running.new.step ≡ running.old.step + 1) }
     ensures stays { OnErr result (running.new.step ≡ running.old.step) }
     ensures unfilled { OnErr result (running.new.fills ≡ running.old.fills) }
@@ -134,6 +151,13 @@ fn try_once<S: Reloads + Drop>(
     ensures held { OnOk result (IsHeld S.stands S.frames S.slots (ground image.now running.old.frames) (record running.new { step = running.old.step + 1 }) pool.new ram.new) }
     ensures ready { OnOk result (IsReady S.slots S.noted S.marked S.value S.asides (ground image.now running.old.frames) running.new.cpu running.new.shadows ram.new) }
     ensures wanted { OnOk result (wanted ≡ true → running.new.lost.back ≡ false) }
+    ensures carried { WhereWent result ((script : Events) (steps : List Taken) (t : Taken) → wanted ≡ false → length (free_list pool.old ram.old) + running.old.held ≡ 512 → Roomy (steps ++ t ∷ [])
+        → IsTakenFrom (wedge image.now script running.old.frames) (state_of S.stands S.frames S.slots (wedge image.now script running.old.frames) running.old ram.old) t → t.set ≡ set_of S.stands S.frames S.slots running.old ram.old
+        → IsCarried S.slots S.noted S.marked S.asides S.opened (wedge image.now script running.old.frames) steps t.before running.old.shadows ram.old → IsCarried S.slots S.noted S.marked S.asides S.opened (wedge image.now script running.old.frames) (steps ++ t ∷ []) t.after running.new.shadows ram.new) }
+    ensures carried_asked { WhereAsked result ((script : Events) (steps : List Taken) (t : Taken) → wanted ≡ false → length (free_list pool.old ram.old) + running.old.held ≡ 512 → Roomy (steps ++ t ∷ [])
+        → IsTakenFrom (wedge image.now script running.old.frames) (state_of S.stands S.frames S.slots (wedge image.now script running.old.frames) running.old ram.old) t → t.set ≡ set_of S.stands S.frames S.slots running.old ram.old
+        → is_load t.report.completed ≡ false → (t.after.cpu.cr0 ≡ running.old.cpu.cr0) × (t.after.cpu.cr3 ≡ running.old.cpu.cr3) × (t.after.cpu.cr4 ≡ running.old.cpu.cr4) → t.after.set ≡ set_of S.stands S.frames S.slots running.new ram.new → 4096 * running.old.frames ≤ length t.after.ram → AreBytes t.after.ram
+        → IsCarried S.slots S.noted S.marked S.asides S.opened (wedge image.now script running.old.frames) steps t.before running.old.shadows ram.old → IsCarried S.slots S.noted S.marked S.asides S.opened (wedge image.now script running.old.frames) (steps ++ t ∷ []) t.after running.new.shadows ram.new) }
     ensures count { WhereWent result (running.new.step ≡ running.old.step + 1) }
     ensures stays { OnErr result (running.new.step ≡ running.old.step) }
     ensures unfilled { OnErr result (running.new.fills ≡ running.old.fills) }
@@ -199,6 +223,9 @@ fn make_room<S: Shadows + Drop>(
     ensures same { running.new ≡ record running.old { shadows = running.new.shadows; held = running.new.held; lost = running.new.lost } }
     ensures ready { (m : Setting) → m.frames ≡ running.old.frames → IsReady S.slots S.noted S.marked S.value S.asides m running.old.cpu running.old.shadows ram.old → IsReady S.slots S.noted S.marked S.value S.asides m running.new.cpu running.new.shadows ram.new }
     ensures back { running.new.lost.back ≡ running.old.lost.back }
+    ensures clashed { running.new.lost.before ≡ true → 8 ≤ length (free_list pool.old ram.old) → (script : Events) (b : Whole) → b.cpu ≡ running.old.cpu → b.ram ≡ shown (ground image.now running.old.frames) ram.old → b.set ≡ set_of S.stands S.frames S.slots running.old ram.old → instruction_clashes (wedge image.now script running.old.frames) b ≡ true }
+    ensures stay { 8 ≤ length (free_list pool.old ram.old) → StayAside (S.noted running.old.shadows) (S.noted running.new.shadows) (S.marked running.old.shadows) (S.marked running.new.shadows) (S.asides running.old.shadows ram.old) (S.asides running.new.shadows ram.new) }
+    ensures opened { (indices : ℕ → Bool) → S.opened running.old.shadows ram.old indices → S.opened running.new.shadows ram.new indices }
     ensures fewer { pages_kept S.slots S.asides running.new.shadows ram.new ≤ pages_kept S.slots S.asides running.old.shadows ram.old }
     ensures guest { take (4096 * running.old.frames) ram.new ≡ take (4096 * running.old.frames) ram.old }
     ensures moves { Moves pool.old pool.new ram.old ram.new (S.frames running.old.shadows ram.old) (S.frames running.new.shadows ram.new) }

@@ -23,6 +23,12 @@ ghost use Rattle.wedge_core.specs.Pools.{Keeps};
 ghost use Rattle.wedge_core.specs.Ready.{IsReady, IsReadyBut, IsReadyBehind, AreFound, AllOpen, leaving};
 ghost use Rattle.wedge_core.specs.Standing.{AreOpen, IsHeld, ground, set_of, side_of, state_of, wp_of};
 ghost use Rattle.wedge_core.specs.Stepping.{AloneAs};
+ghost use Rattle.std.specs.Prelude.{◌++◌, ◌∷◌, []};
+ghost use Rattle.shadow_tables.specs.Slots.{is_among};
+ghost use Rattle.machine_model.specs.Taken.{Taken};
+ghost use Rattle.machine_model.specs.Keeping.{Roomy};
+ghost use Rattle.wedge_core.specs.Carried.{IsCarried, IsTakenFrom};
+ghost use Rattle.wedge_core.specs.Leaving.{Tells, Ends};
 
 use crate::close::{close, leave};
 use crate::opened::TEXT_FRAME;
@@ -87,6 +93,9 @@ pub fn step_alone<S: Reloads + Drop>(
     requires enough { 16 ≤ length (free_list pool.old ram.old) + running.old.held }
     ensures ready { OnOk result (IsReady S.slots S.noted S.marked S.value S.asides (ground image.now running.old.frames) running.new.cpu running.new.shadows ram.new) }
     ensures wanted { OnOk result (wanted ≡ true → running.new.lost.back ≡ false) }
+    ensures carried { OnOk result ((script : Events) (steps : List Taken) (t : Taken) → wanted ≡ false → length (free_list pool.old ram.old) + running.old.held ≡ 512 → Roomy (steps ++ t ∷ [])
+        → IsTakenFrom (wedge image.now script running.old.frames) (state_of S.stands S.frames S.slots (wedge image.now script running.old.frames) running.old ram.old) t → t.set ≡ set_of S.stands S.frames S.slots running.old ram.old
+        → IsCarried S.slots S.noted S.marked S.asides S.opened (wedge image.now script running.old.frames) steps t.before running.old.shadows ram.old → IsCarried S.slots S.noted S.marked S.asides S.opened (wedge image.now script running.old.frames) (steps ++ t ∷ []) t.after running.new.shadows ram.new) }
     ensures step { (script : Events) → AloneAs (wedge image.now script running.old.frames) (state_of S.stands S.frames S.slots (wedge image.now script running.old.frames) running.old ram.old) running.new.lost result (state_of S.stands S.frames S.slots (wedge image.now script running.old.frames) running.new ram.new) }
     ensures before { running.new.lost.before ≡ running.old.lost.before }
     ensures held { OnOk result (IsHeld S.stands S.frames S.slots (ground image.now running.old.frames) running.new pool.new ram.new) }
@@ -155,6 +164,9 @@ pub fn keep<S: Shadows + Drop>(
         → IsReadyBut S.slots S.noted S.marked S.value S.asides out m cpu running.new.shadows ram.new }
     ensures opens { (image : Image) (wp : Bool) → AllOpen image wp (S.asides running.old.shadows ram.old) → AllOpen image wp (S.asides running.new.shadows ram.new) }
     ensures back { running.new.lost.back ≡ running.old.lost.back }
+    ensures told { running.new.lost.after ≡ false → Tells state.now.tables state.now.wrote (S.noted running.old.shadows) (S.noted running.new.shadows) (S.marked running.old.shadows) (S.marked running.new.shadows) (S.asides running.old.shadows ram.old) (S.asides running.new.shadows ram.new) }
+    ensures value { S.value running.new.shadows ≡ S.value running.old.shadows }
+    ensures opened { (indices : ℕ → Bool) → ((page : ℕ) → is_among page (pages_of state.now.visited state.now.changes) ≡ true → indices (page / 1024) ≡ true) → S.opened running.old.shadows ram.old indices → S.opened running.new.shadows ram.new indices }
     ensures counted { running.new.held ≡ length (S.frames running.new.shadows ram.new) }
     ensures fills { running.new.fills ≤ running.old.fills + 128 }
     ensures filled { FillsOn (pages_kept S.slots S.asides running.old.shadows ram.old) (pages_kept S.slots S.asides running.new.shadows ram.new) running.old.fills running.new.fills }
@@ -197,6 +209,12 @@ pub fn go<S: Reloads + Drop>(
     ensures moves { Moves pool.old pool.new ram.old ram.new (S.frames running.old.shadows ram.old) (S.frames running.new.shadows ram.new) }
     ensures left { running.new.lost.back ≡ false → entries_of (S.slots running.new.shadows ram.new) ≡ left_of running.new.lost.after (dropping worked.now.dropped (changed (entries_of (S.slots running.old.shadows ram.old)) state.now.changes)) }
     ensures wanted { wanted ≡ true → running.new.lost.back ≡ false }
+    ensures opened { (indices : ℕ → Bool) → ((page : ℕ) → is_among page (pages_of state.now.visited state.now.changes) ≡ true → indices (page / 1024) ≡ true) → S.opened running.old.shadows ram.old indices → S.opened running.new.shadows ram.new indices }
+    ensures ends { wanted ≡ false → MayClose count (side_of (running.old.cpu.cpl == 3)) (changed (entries_of (S.slots running.old.shadows ram.old)) state.now.changes) (pages_of state.now.visited state.now.changes) (length (free_list pool.old ram.old))
+        → (indices : ℕ → Bool) → ((page : ℕ) → is_among page (pages_of state.now.visited state.now.changes) ≡ true → indices (page / 1024) ≡ true) → S.opened running.old.shadows ram.old indices
+        → ((s : S) (memory : List ℕ) → ∥ S.stands s memory ∥₁ → S.opened s memory indices → length (S.frames s memory) + 2 ≤ length (free_list pool.old ram.old) + length (S.frames running.old.shadows ram.old))
+        → Ends worked.now.dropped running.old.cpu worked.now.cpu (S.value running.old.shadows) (pages_of state.now.visited state.now.changes) state.now.tables state.now.wrote (changed (entries_of (S.slots running.old.shadows ram.old)) state.now.changes)
+        (S.noted running.old.shadows) (S.noted running.new.shadows) (S.marked running.old.shadows) (S.marked running.new.shadows) (S.slots running.new.shadows ram.new) (S.asides running.old.shadows ram.old) (S.asides running.new.shadows ram.new) }
     ensures ready { (m : Setting) → m.frames ≡ state.now.control.frames → count ≡ text_pages m.image → AreOpen m.image state.now.control.wp (S.slots running.old.shadows ram.old)
         → IsReadyBehind S.slots S.noted S.marked S.value S.asides (leaving worked.now.dropped (pages_of state.now.visited state.now.changes)) m running.old.cpu running.old.shadows ram.old (changed (entries_of (S.slots running.old.shadows ram.old)) state.now.changes) state.now.tables state.now.wrote
         → IsReady S.slots S.noted S.marked S.value S.asides m running.new.cpu running.new.shadows ram.new

@@ -20,6 +20,14 @@ ghost use Rattle.machine_step.specs.Worked.{whats};
 ghost use Rattle.run_trace.specs.Steps.{items_of};
 ghost use Rattle.wedge_core.specs.Slices.{SliceAs, GoesOn, Pauses};
 ghost use Rattle.wedge_core.specs.Stepping.{AloneAs, StepAs};
+ghost use Rattle.std.specs.Prelude.{List, ◌++◌, ◌∷◌, []};
+ghost use Rattle.native_steps.specs.Stands.{shown};
+ghost use Rattle.machine_model.specs.State.{State};
+ghost use Rattle.machine_model.specs.Clash.{clashes_from};
+ghost use Rattle.wedge_core.specs.Parts.{left_of};
+ghost use Rattle.machine_model.specs.Taken.{Taken};
+ghost use Rattle.machine_model.specs.Keeping.{Roomy};
+ghost use Rattle.wedge_core.specs.Carried.{IsCarried, IsTakenFrom};
 
 use crate::laws::alones_go;
 use crate::native::{Attempt, begin_native};
@@ -126,6 +134,10 @@ fn one_step<S: Reloads + Drop, H: Host>(
         (record { retired = H.retired host.old; passed = H.passed host.old }) (record { retired = H.retired host.new; passed = H.passed host.new }) }
     ensures ready { OnOk result (IsReady S.slots S.noted S.marked S.value S.asides (ground image.now running.old.frames) running.new.cpu running.new.shadows (H.bytes host.new)) }
     ensures wanted { OnOk result (wanted ≡ true → running.new.lost.back ≡ false) }
+    ensures carried { OnOk result ((script : Events) (steps : List Taken) (t : Taken) → wanted ≡ false → length (free_list pool.old (H.bytes host.old)) + running.old.held ≡ 512 → Roomy (steps ++ t ∷ [])
+        → IsTakenFrom (wedge image.now script running.old.frames) (state_of S.stands S.frames S.slots (wedge image.now script running.old.frames) running.old (H.bytes host.old)) t → t.set ≡ left_of running.new.lost.before (set_of S.stands S.frames S.slots running.old (H.bytes host.old))
+        → IsCarried S.slots S.noted S.marked S.asides S.opened (wedge image.now script running.old.frames) steps t.before running.old.shadows (H.bytes host.old) → IsCarried S.slots S.noted S.marked S.asides S.opened (wedge image.now script running.old.frames) (steps ++ t ∷ []) t.after running.new.shadows (H.bytes host.new)) }
+    ensures clashed { OnOk result (running.new.lost.before ≡ true → 8 ≤ length (free_list pool.old (H.bytes host.old)) → (script : Events) (b : State) → b.cpu ≡ running.old.cpu → b.ram ≡ shown (ground image.now running.old.frames) (H.bytes host.old) → b.set ≡ set_of S.stands S.frames S.slots running.old (H.bytes host.old) → given b.board script b.step ≡ running.old.board → clashes_from (wedge image.now script running.old.frames) b ≡ true) }
     ensures held { OnOk result (IsHeld S.stands S.frames S.slots (ground image.now running.old.frames) running.new pool.new (H.bytes host.new)) }
     ensures able { OnOk result (IsAble running.new.cpu) }
     ensures count { OnOk result (running.new.step ≡ running.old.step + 1) }
@@ -177,6 +189,9 @@ fn by_rules<S: Reloads + Drop, H: Host>(
     ensures before { running.new.lost.before ≡ running.old.lost.before }
     ensures ready { OnOk result (IsReady S.slots S.noted S.marked S.value S.asides (ground image.now running.old.frames) running.new.cpu running.new.shadows (H.bytes host.new)) }
     ensures wanted { OnOk result (wanted ≡ true → running.new.lost.back ≡ false) }
+    ensures carried { OnOk result ((script : Events) (steps : List Taken) (t : Taken) → wanted ≡ false → length (free_list pool.old (H.bytes host.old)) + running.old.held ≡ 512 → Roomy (steps ++ t ∷ [])
+        → IsTakenFrom (wedge image.now script running.old.frames) (state_of S.stands S.frames S.slots (wedge image.now script running.old.frames) running.old (H.bytes host.old)) t → t.set ≡ set_of S.stands S.frames S.slots running.old (H.bytes host.old)
+        → IsCarried S.slots S.noted S.marked S.asides S.opened (wedge image.now script running.old.frames) steps t.before running.old.shadows (H.bytes host.old) → IsCarried S.slots S.noted S.marked S.asides S.opened (wedge image.now script running.old.frames) (steps ++ t ∷ []) t.after running.new.shadows (H.bytes host.new)) }
     ensures held { OnOk result (IsHeld S.stands S.frames S.slots (ground image.now running.old.frames) running.new pool.new (H.bytes host.new)) }
     ensures count { OnOk result (running.new.step ≡ running.old.step + 1) }
     ensures stays { OnErr result (running.new.step ≡ running.old.step) }

@@ -1,0 +1,26 @@
+-- What a patched run knows of its steps, by what its shadows keep.
+use Rattle.std.specs.Prelude.{◌≡◌, ℕ, Bool, eqb, Option, List}
+use Rattle.std.specs.Set.{is_member}
+use Rattle.shadow_tables.specs.Aside.{Aside}
+use Rattle.shadow_tables.specs.Entries.{entries_of}
+use Rattle.shadow_tables.specs.Slots.{Slot}
+use Rattle.machine_model.specs.State.{Setting, State}
+use Rattle.machine_model.specs.Step.{Went, step_of, stepped}
+use Rattle.machine_model.specs.Taken.{Taken}
+use Rattle.kept_laws.specs.Carried.{indices_in}
+use Rattle.kept_laws.specs.Known.{IsKnown}
+use Rattle.wedge_core.specs.Parts.{with_set}
+
+-- The step was made from this state, to which the events of its step were given.
+pub record IsTakenFrom (m : Setting) (b : State) (t : Taken) : Type 0 where
+  pub cpu : t.before.cpu ≡ b.cpu
+  pub ram : t.before.ram ≡ b.ram
+  pub went : step_of m t.before t.set ≡ Went t.report t.after
+  pub stepped : stepped m (with_set b t.set) ≡ Went t.report t.after
+
+module _ {S : Type 0} (slots : S → List ℕ → ℕ → Option Slot) (noted : S → ℕ → Bool) (marked : S → Bool) (asides : S → List ℕ → List Aside) (opened : S → List ℕ → (ℕ → Bool) → Type 0) where
+  -- Behind these steps, with what the shadows keep, all is known; and they have tables only under directory indices of pages
+  -- that these steps used.
+  pub record IsCarried (m : Setting) (steps : List Taken) (b : State) (s : S) (memory : List ℕ) : Type 0 where
+    pub known : IsKnown m steps b (noted s) (marked s) (asides s memory) (entries_of (slots s memory))
+    pub opened_to : opened s memory (λ index. is_member eqb (indices_in steps) index)
