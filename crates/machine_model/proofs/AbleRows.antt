@@ -134,7 +134,7 @@ level_of low high = grind (arith, level_choice, level_other)
 
 -- what is asked of an image of the flags
 abbrev pub flags_tested : ℕ → Work Refusal (Unit {0})
-flags_tested image = unless (refusals.Stop stops.FlagBits) (iret.is_plain image)
+flags_tested image = unless (refusals.Stop stops.FlagBits) (iret.keeps_flags image)
 
 -- ---- the same but for registers
 

@@ -48,7 +48,7 @@ use Rattle.sys_exec.specs.Access.{reaching}
 use Rattle.sys_exec.specs.Operand.{protection_0, by_level, selector_in, reg_at, operand_reached, long_of, pulled, pushed, with_regs, past, past_with, past_push, past_pop, gone_to, next}
 use Rattle.sys_exec.specs.Branch as branch
 use Rattle.sys_exec.specs.Flags.{with_flags, push_flags, pop_flags}
-use Rattle.sys_exec.specs.Iret.{is_plain, is_within, new_flags}
+use Rattle.sys_exec.specs.Iret.{keeps_flags, is_within, new_flags}
 use Rattle.sys_exec.specs.Move.{selector_kept, read_seg, push_seg}
 use Rattle.sys_exec.specs.Sys.{row, sys_work}
 use Rattle.sys_exec.specs.Agreement.{UserFlagsAgree}
@@ -193,7 +193,7 @@ module _ (m : Setting) (b : State) (c : Completed) where
         same _ _ (ap (λ (o : Outcome Refusal (Unit {0})). on_value o (λ (x : Unit {0}). next (past_push cpu len))) (pushed_is cpu cpu.regs.flags.bits s u e))
 
     abbrev taking : ℕ → ℕ → Work Refusal Done
-    taking len v = unless (refusal.Stop stops.FlagBits) (is_plain v) >>= (λ (x : Unit {0}). next (with_flags (past_pop cpu len) (new_flags cpu v)))
+    taking len v = unless (refusal.Stop stops.FlagBits) (keeps_flags v) >>= (λ (x : Unit {0}). next (with_flags (past_pop cpu len) (new_flags cpu v)))
 
     abbrev popped_to : ℕ → Flags → exec.Outcome
     popped_to len f = outcomes.Done (registers.passed len (with_whole 4 (esp_above 4 cpu.regs) (record cpu.regs { flags = f }))) Nothing

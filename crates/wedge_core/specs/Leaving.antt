@@ -1,5 +1,5 @@
 -- What the end of a step makes of what the shadows keep, for the present value of CR3 and for others.
-use Rattle.std.specs.Prelude.{◌≡◌, ⊥, ◌×◌, ℕ, ◌^◌, ◌<◌, Bool, true, false, ◌||◌, Option, None, List}
+use Rattle.std.specs.Prelude.{◌≡◌, ℕ, ◌^◌, ◌<◌, Bool, true, false, ◌||◌, Option, None, List}
 use Rattle.std.specs.FinMap.{empty}
 use Rattle.descriptors.specs.Controls.{pse_of}
 use Rattle.descriptors.specs.declared.cpu.Cpu.{Cpu}

@@ -23,7 +23,7 @@ ghost use Rattle.wedge_core.specs.Parts.{left_of};
 ghost use Rattle.wedge_core.specs.Filled.{pages_kept};
 ghost use Rattle.wedge_core.specs.Ready.{IsReady, IsReadyBut, IsReadyBehind, AreFound, AllOpen, is_all, leaving, left_out};
 ghost use Rattle.wedge_core.specs.Standing.{AreOpen, wp_of};
-ghost use Rattle.std.specs.Prelude.{⊥, ◌/◌};
+ghost use Rattle.std.specs.Prelude.{◌/◌};
 ghost use Rattle.kept_laws.specs.Known.{StayAside, EmptyAside};
 ghost use Rattle.wedge_core.specs.Leaving.{Tells, Loads, RulesSame};
 
