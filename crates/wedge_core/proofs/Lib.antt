@@ -54,3 +54,5 @@ pub mod Stays
 mod StepReady
 pub mod Returning
 pub mod Dropping
+pub mod Carrying
+pub mod Ended
