@@ -17,6 +17,7 @@ use Rattle.machine_model.specs.Step.{Report, interrupt_of}
 use Rattle.machine_model.specs.Run.{Steps, trace_of}
 use Rattle.machine_model.specs.Notes.{AreLeft}
 use Rattle.machine_model.specs.Counts.{direct_count, passed_digest}
+use Rattle.machine_model.specs.Taken.{is_load}
 use Rattle.native_steps.specs.Lends.{Lends, IsUnlent, AreKept}
 use Rattle.native_steps.specs.Stands.{IsWedge, Stands}
 use Rattle.native_steps.specs.Forward.{wp_of, IsEntrance}
@@ -70,8 +71,8 @@ EndsAs m v exits.Wrap last t = t ≡ last
 EndsAs m v exits.Budget last t = t ≡ last
 
 -- The host completes n instructions, and stands at last. The guest has done n steps by then, with the translations that
--- it had, which none of them changes: all of them count, nothing is seen in them, no walk is done, and both stand beside
--- one another again. Of the host's memory nothing behind the guest's frames has changed, and of the guest's no frame to
+-- it had, which none of them changes: all of them count, none loads CR3, nothing is seen in them, no walk is done, and both
+-- stand beside one another again. Of the host's memory nothing behind the guest's frames has changed, and of the guest's no frame to
 -- which the tables let no write pass.
 pub record Advanced (m : Setting) (v : View) (b : State) (k : ℕ) (s : Standing) (exit : Exit) (t : Standing) : Type 0 where
   pub n : ℕ
@@ -89,6 +90,7 @@ pub record Advanced (m : Setting) (v : View) (b : State) (k : ℕ) (s : Standing
   pub unseen : trace_of reports ≡ []
   pub pages : All (λ (r : Report). AreKept b.set r.pages) reports
   pub unwalked : All (λ (r : Report). r.tables ≡ []) reports
+  pub through : All (λ (r : Report). is_load r.completed ≡ false) reports
   pub direct : direct_count m.image.sites reports ≡ n
   pub passed : last.passed ≡ passed_digest m.image.sites s.passed reports
   pub retired : last.retired ≡ s.retired + n
