@@ -1,5 +1,5 @@
 -- A run of the host, one instruction behind the other, beside the guest.
-use Rattle.std.proofs.Common.{◌≡◌, ℕ, zero, suc, ◌-◌, ◌≤◌, List, [], ◌∷◌, ◌++◌, length, replicate, Bool, true, Option, Some, None, Ok, Err, refl, sym, ap, subst, ◌∙◌, inl, arith}
+use Rattle.std.proofs.Common.{◌≡◌, ℕ, zero, suc, ◌-◌, ◌≤◌, List, [], ◌∷◌, ◌++◌, length, replicate, Bool, true, false, Option, Some, None, Ok, Err, refl, sym, ap, subst, ◌∙◌, inl, arith}
 use Rattle.std.specs.List.{All}
 use Rattle.guest_ram.specs.Bytes.{frame}
 use Rattle.ia32_types.specs.declared.flags.Regs.{Regs}
@@ -23,7 +23,7 @@ use Rattle.host_cpl3.specs.Borders.{BeginsBelow, EntersTheWindow, ExitsInTheWind
 use Rattle.machine_model.specs.State.{Setting, State, Loosened}
 use Rattle.machine_model.specs.Step.{Report, Result, Went, step_of}
 use Rattle.machine_model.specs.Run.{Set, Steps, trace_of}
-use Rattle.machine_model.specs.Taken.{Taken, behind, steps_by}
+use Rattle.machine_model.specs.Taken.{Taken, behind, is_load, steps_by}
 use Rattle.machine_model.specs.Notes.{AreLeft}
 use Rattle.machine_model.specs.Counts.{is_direct, direct_in, direct_addresses, passed_on}
 use Rattle.native_steps.specs.Lends.{Lends, IsUnlent, AreKept}
@@ -238,6 +238,7 @@ module _ (laws : Laws) (m : Setting) (v : View) (w : IsWedge m) where
             unseen = ap (λ (x : List Rattle.run_trace.specs.declared.items.Item.Item). x ++ trace_of r.reports) follows.unseen ∙ r.unseen;
             pages = all_more (λ (x : Report). AreKept b.set x.pages) follows.report r.reports pages_kept (subst (λ (x : Set). All (λ (y : Report). AreKept x y.pages) r.reports) set_is r.pages);
             unwalked = all_more (λ (x : Report). x.tables ≡ []) follows.report r.reports follows.unwalked r.unwalked;
+            through = all_more (λ (x : Report). is_load x.completed ≡ false) follows.report r.reports follows.through r.through;
             direct = ap (λ (x : List ℕ). length x) addresses ∙ ap suc r.direct;
             passed = r.passed ∙ ap (λ (x : ℕ). passed_on (digest s.passed x) (direct_addresses m.image.sites r.reports)) (sym begun_at) ∙ sym (ap (passed_on s.passed) addresses);
             retired = omega (arith, r.retired);
@@ -268,6 +269,7 @@ module _ (laws : Laws) (m : Setting) (v : View) (w : IsWedge m) where
       unseen = refl;
       pages = all_none (λ (x : Report). AreKept b.set x.pages);
       unwalked = all_none (λ (x : Report). x.tables ≡ []);
+      through = all_none (λ (x : Report). is_load x.completed ≡ false);
       direct = refl;
       passed = refl;
       retired = omega arith;
@@ -348,6 +350,7 @@ module _ (laws : Laws) (m : Setting) (v : View) (w : IsWedge m) where
     unseen = refl;
     pages = all_none (λ (x : Report). AreKept b.set x.pages);
     unwalked = all_none (λ (x : Report). x.tables ≡ []);
+    through = all_none (λ (x : Report). is_load x.completed ≡ false);
     direct = refl;
     passed = refl;
     retired = omega arith;

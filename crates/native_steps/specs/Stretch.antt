@@ -79,9 +79,9 @@ pub record IsQuiet (t : Taken) : Type 0 where
   pub size : length t.after.ram ≡ length t.before.ram
 
 -- The host completes n instructions, and stands at last. The guest has done n steps by then, with the translations that
--- it had, which none of them changes: all of them count, nothing is seen in them, no walk is done, no control register
--- changes, and both stand beside one another again. Of the host's memory nothing behind the guest's frames has changed, and of the guest's no frame to
--- which the tables let no write pass.
+-- it had, which none of them changes: all of them count, none loads CR3 or changes a control register, nothing is seen in
+-- them, no walk is done, and both stand beside one another again. Of the host's memory nothing behind the guest's frames has
+-- changed, and of the guest's no frame to which the tables let no write pass.
 pub record Advanced (m : Setting) (v : View) (b : State) (k : ℕ) (s : Standing) (exit : Exit) (t : Standing) : Type 0 where
   pub n : ℕ
   pub few : n ≤ k
@@ -99,6 +99,7 @@ pub record Advanced (m : Setting) (v : View) (b : State) (k : ℕ) (s : Standing
   pub unseen : trace_of reports ≡ []
   pub pages : All (λ (r : Report). AreKept b.set r.pages) reports
   pub unwalked : All (λ (r : Report). r.tables ≡ []) reports
+  pub through : All (λ (r : Report). is_load r.completed ≡ false) reports
   pub direct : direct_count m.image.sites reports ≡ n
   pub passed : last.passed ≡ passed_digest m.image.sites s.passed reports
   pub retired : last.retired ≡ s.retired + n
