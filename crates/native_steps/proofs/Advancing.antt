@@ -23,7 +23,7 @@ use Rattle.host_cpl3.specs.Borders.{BeginsBelow, EntersTheWindow, ExitsInTheWind
 use Rattle.machine_model.specs.State.{Setting, State, Loosened}
 use Rattle.machine_model.specs.Step.{Report, Result, Went, step_of}
 use Rattle.machine_model.specs.Run.{Set, Steps, trace_of}
-use Rattle.machine_model.specs.Taken.{Taken, behind, is_load, steps_by}
+use Rattle.machine_model.specs.Taken.{Taken, behind as steps_behind, is_load, steps_by}
 use Rattle.machine_model.specs.Notes.{AreLeft}
 use Rattle.machine_model.specs.Counts.{is_direct, direct_in, direct_addresses, passed_on}
 use Rattle.native_steps.specs.Lends.{Lends, IsUnlent, AreKept}
@@ -202,7 +202,7 @@ module _ (laws : Laws) (m : Setting) (v : View) (w : IsWedge m) where
       unfolding taken
       quiet_more n rest =
           let later : All IsQuiet (steps_by m after (replicate n b.set)) = subst (λ (x : Set). All IsQuiet (steps_by m after (replicate n x))) set_is rest in
-          subst (All IsQuiet) (sym (ap (λ (r : Result). behind b b.set r (λ a. steps_by m a (replicate n b.set))) went))
+          subst (All IsQuiet) (sym (ap (λ (r : Result). steps_behind b b.set r (λ a. steps_by m a (replicate n b.set))) went))
           (all_more IsQuiet taken (steps_by m after (replicate n b.set)) quiet_one later)
 
       pages_kept : AreKept b.set follows.report.pages
