@@ -42,7 +42,7 @@ among_front x (z ∷ xs) y h =
     elim (eqb_tells x z) [
       | inl t ↦ absurd (let f : true ≡ false = sym (ap (λ (b : Bool). b || is_among x (xs ++ y ∷ [])) t.0) ∙ h in cc)
       | inr n ↦ let k = among_front x xs y (sym (ap (λ (b : Bool). b || is_among x (xs ++ y ∷ [])) n.0) ∙ h) in
-        (ap (λ (b : Bool). b || is_among x xs) n.0 ∙ k.0, k.1)
+          (ap (λ (b : Bool). b || is_among x xs) n.0 ∙ k.0, k.1)
     ]
 
 -- none of the first i + 1 is none of the first i, and not the next

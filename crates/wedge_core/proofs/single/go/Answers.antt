@@ -2,7 +2,7 @@ use Rattle.std.proofs.Common.{◌≡◌, ℕ, ◌≤◌, Bool, List, length, ap,
 use Rattle.frame_pool.specs.Pool.{base_of, free_list}
 use Rattle.frame_pool.proofs.Held.{Moves-trans}
 use Rattle.wedge_mem.specs.Settled.{pages_of}
-use Rattle.wedge_core.specs.Ready.{IsReadyBut, IsReadyBehind, leaving}
+use Rattle.wedge_core.specs.Ready.{IsReadyBut, leaving}
 use Rattle.wedge_core.specs.Standing.{AreOpen, wp_of}
 use Rattle.wedge_core.specs.declared.running.Running.{Running}
 use Rattle.wedge_core.proofs.Parts.{left_twice}
