@@ -55,3 +55,4 @@ pub mod Stays
 mod StepReady
 pub mod Returning
 pub mod Dropping
+pub mod Leaving
