@@ -54,3 +54,4 @@ pub mod Stays
 mod StepReady
 pub mod Returning
 pub mod Dropping
+pub mod Sweeping
