@@ -40,7 +40,7 @@ way_went m a kernel u w eip insn len h empty y e =
 
 -- what a range adds
 unfoldable pub went_after : List ℕ → Option Range → List ℕ
-went_after went None = visited
+went_after visited None = visited
 went_after visited (Some r) = went_by visited r.at r.len
 
 pub range_goes : (cpu : Cpu) (s t : Space) (write : Bool) (o : Option Range) → reached cpu write o s ≡ Ok (tt, t) → t.visited ≡ went_after s.visited o

@@ -76,7 +76,7 @@ last_is r some = omega (arith, some)
 
 in_after : (visited : List ℕ) (o : Option Range) (q : ℕ) → IsShort o → Contains (went_after visited o) q → Contains visited q ⊎ InRange o q
 unfolding went_after InRange
-in_after went None q short c = inl c
+in_after visited None q short c = inl c
 in_after visited (Some r) q short c = choice ((r.at + r.len - 1) / 4096 == r.at / 4096) (unfold went_by in c)
   where
     first : Contains (visited ++ (r.at / 4096) ∷ []) q → Contains visited q ⊎ ((q ≡ r.at / 4096) ⊎ (q ≡ last_page r))
@@ -92,7 +92,7 @@ in_after visited (Some r) q short c = choice ((r.at + r.len - 1) / 4096 == r.at 
 
 after_few : (visited : List ℕ) (o : Option Range) → length (went_after visited o) ≤ length visited + 2
 unfolding went_after went_by
-after_few went None = omega arith
+after_few visited None = omega arith
 after_few visited (Some r) = choice ((r.at + r.len - 1) / 4096 == r.at / 4096)
   where
     choice : (one : Bool) → length (cond one (visited ++ (r.at / 4096) ∷ []) ((visited ++ (r.at / 4096) ∷ []) ++ ((r.at + r.len - 1) / 4096) ∷ [])) ≤ length visited + 2
