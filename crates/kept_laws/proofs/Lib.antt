@@ -9,3 +9,4 @@ pub mod FoundStays
 pub mod Refetching
 pub mod Clashing
 pub mod Nexts
+pub mod KnownSteps

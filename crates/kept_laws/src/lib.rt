@@ -4,10 +4,12 @@
 
 mod carrying;
 mod judging;
+mod knowing;
 mod remembering;
 
 pub use carrying::{next_is_kept, roomy_is_few};
 pub use judging::{clashes_agree, found_goes_on, held_is, taken_on};
+pub use knowing::known_goes_on;
 pub use remembering::{
     causes_owe_nothing, dropped_remembers, loads_remember, settling_tells, start_remembers,
     steps_remember, still_remembers,

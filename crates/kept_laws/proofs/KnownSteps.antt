@@ -1,0 +1,203 @@
+-- What a run knows between two of its steps goes on over its steps.
+use Rattle.std.proofs.Common.{◌≡◌, ℕ, List, [], ◌∷◌, ◌++◌, Bool, true, false, cond, not, refl, sym, ap, subst, ◌∙◌, ◌⊎◌, inl, inr}
+use Rattle.std.specs.List.{All}
+use Rattle.std.specs.FinMap.{empty}
+use Rattle.std.proofs.lemmas.List.Elements.{All-head, All-tail, All-cons, All-nil, All-append}
+use Rattle.paging.specs.Fresh.{has}
+use Rattle.descriptors.specs.Controls.{pse_of}
+use Rattle.shadow_tables.specs.Aside.{Aside, AreSame, LoseWrites, all_spared}
+use Rattle.shadow_tables.specs.Entries.{entries_of}
+use Rattle.machine_model.specs.State.{Setting, State}
+use Rattle.machine_model.specs.Run.{Set}
+use Rattle.machine_model.specs.Taken.{Taken, loads_root, changes_protection}
+use Rattle.machine_model.specs.Clash.{clashes_from}
+use Rattle.kept_laws.specs.Remembered.{ComesFrom, Unwritten, IsOwed, IsRemembered}
+use Rattle.kept_laws.specs.OverSteps.{IsTold, IsCause}
+use Rattle.kept_laws.specs.Judged.{AllFound, IsFoundStill, FoundGoesOn}
+use Rattle.kept_laws.specs.Carried.{IsReadyFor, NextIsKept}
+use Rattle.kept_laws.specs.Known.{IsOfPages, IsNextKept, IsKnown, RulesStay, StayAside, EmptyAside, IsStep, KnownAtStart, KnownStill, KnownPast, KnownOn}
+use Rattle.kept_laws.proofs.Counts.{clash}
+use Rattle.kept_laws.proofs.Owed.{causes_owe_nothing}
+use Rattle.kept_laws.proofs.OwedStays.{start_remembers, still_remembers, dropped_remembers, steps_remember, same_remembers, loads_remember}
+use Rattle.kept_laws.proofs.FoundStays.{found_at_start}
+
+-- ---- the start, and the same is kept
+
+pub known_at_start : KnownAtStart
+known_at_start m b noted marked none unmarked = record {
+  remembered = start_remembers m b noted marked none unmarked;
+  found = found_at_start m b;
+  of_pages = All-nil (λ (t : Taken). IsOfPages t.set);
+  next = λ now is h. elim h [ inl same ↦ same | inr k ↦ k.0 ];
+}
+
+still : (m : Setting) (steps : List Taken) (b : State) (noted noted2 : ℕ → Bool) (marked marked2 : Bool) (asides asides2 : List Aside)
+    → StayAside noted noted2 marked marked2 asides asides2 → IsRemembered m steps b noted marked asides → IsRemembered m steps b noted2 marked2 asides2
+still m steps b noted noted2 marked marked2 asides asides2 stay r =
+    still_remembers m steps b noted noted2 marked marked2 asides asides2 stay.notes stay.marks stay.others r
+
+pub known_still : KnownStill
+known_still m steps b noted noted2 marked marked2 asides asides2 kept stay k = record {
+  remembered = still m steps b noted noted2 marked marked2 asides asides2 stay k.remembered;
+  found = k.found;
+  of_pages = k.of_pages;
+  next = k.next;
+}
+
+-- ---- behind a step
+
+next_over : NextIsKept → (m : Setting) (steps : List Taken) (t : Taken) (kept : Set) → IsReadyFor m steps t t.after kept → IsNextKept m (steps ++ t ∷ []) t.after kept
+next_over law m steps t kept r now is h =
+    law m steps t now kept (subst (λ (b : State). IsReadyFor m steps t b kept) (sym is) r)
+    (subst (λ (b : State). (now.set ≡ kept) ⊎ ((now.set ≡ empty) × (clashes_from m (record b { set = kept }) ≡ true))) (sym is) h)
+
+at_split : {X : Type 0} (P : X → Type 0) (xs : List X) (y : X) (ys : List X) → All P (xs ++ y ∷ ys) → P y
+at_split P [] y ys h = All-head P y ys h
+at_split P (x ∷ xs) y ys h = at_split P xs y ys (All-tail P x (xs ++ y ∷ ys) h)
+
+pages_more : (m : Setting) (steps : List Taken) (t : Taken) → IsStep m t → All (λ (u : Taken). IsOfPages u.set) steps → All (λ (u : Taken). IsOfPages u.set) (steps ++ t ∷ [])
+pages_more m steps t step h =
+    All-append (λ (u : Taken). IsOfPages u.set) steps (t ∷ []) h (All-cons (λ (u : Taken). IsOfPages u.set) t [] step.of_pages (All-nil (λ (u : Taken). IsOfPages u.set)))
+
+-- what a step without a load left is kept, or nothing where the step changed CR0.WP
+abbrev IsLeft : Taken → Set → Type 0
+IsLeft t kept = loads_root t ≡ false → (kept ≡ t.after.set) ⊎ ((kept ≡ empty) × (changes_protection t ≡ true))
+
+-- and behind a load what is owed with the loaded value
+abbrev IsBack : Setting → List Taken → Taken → Set → Type 0
+IsBack m steps t kept = loads_root t ≡ true → (old : List Taken) (left : Taken) (since : List Taken) → IsOwed m (steps ++ t ∷ []) t.after t.after.cpu.cr3 old left since → ComesFrom left kept
+
+over : FoundGoesOn → NextIsKept → (m : Setting) (steps : List Taken) (t : Taken) (noted : ℕ → Bool) (marked : Bool) (asides : List Aside) (kept : Set) → IsStep m t
+    → (loads_root t ≡ true → Unwritten (steps ++ t ∷ []) → AllFound m t.before t.before.cpu.cr3 steps t.set)
+    → IsFoundStill m steps t.before → All (λ (u : Taken). IsOfPages u.set) steps → IsRemembered m (steps ++ t ∷ []) t.after noted marked asides → IsLeft t kept → IsBack m steps t kept
+    → IsKnown m (steps ++ t ∷ []) t.after noted marked asides kept
+over goes_on law m steps t noted marked asides kept step finds found pages remembered left back =
+    let still_found : IsFoundStill m (steps ++ t ∷ []) t.after = goes_on m steps t step.went step.room finds found in
+    let of_pages : All (λ (u : Taken). IsOfPages u.set) (steps ++ t ∷ []) = pages_more m steps t step pages in
+    record {
+      remembered = remembered;
+      found = still_found;
+      of_pages = of_pages;
+      next = next_over law m steps t kept (record {
+        stays = left;
+        back = back;
+        found = still_found;
+        value = refl;
+        room = step.room_after;
+        bytes = step.bytes;
+        of_pages = λ old u since o. at_split (λ (v : Taken). IsOfPages v.set) old u since (subst (All (λ (v : Taken). IsOfPages v.set)) o.split of_pages);
+      });
+    }
+
+pub known_past : FoundGoesOn → NextIsKept → KnownPast
+known_past goes_on law m steps t noted marked asides kept step plain k =
+    over goes_on law m steps t noted marked asides t.after.set step (λ e u. clash (loads_root t) e plain) k.found k.of_pages
+    (same_remembers m steps t noted marked asides plain (step.through plain) k.remembered) (λ e. inl refl) (λ e old u since o. clash (loads_root t) e plain)
+
+-- ---- the rules
+
+same_or : (a b : Bool) → (a ≡ b) ⊎ (a ≡ b → ⊥)
+same_or true true = inl refl
+same_or true false = inr (λ e. cc)
+same_or false true = inr (λ e. cc)
+same_or false false = inl refl
+
+rules_or : (t : Taken) → RulesStay t ⊎ (RulesStay t → ⊥)
+rules_or t = elim (same_or (has t.after.cpu.cr0 65536) (has t.before.cpu.cr0 65536)) [
+  | inl wp ↦ elim (same_or (pse_of t.after.cpu) (pse_of t.before.cpu)) [
+    | inl pse ↦ inl (record { wp = wp; pse = pse })
+    | inr other ↦ inr (λ stay. other stay.pse)
+  ]
+  | inr other ↦ inr (λ stay. other stay.wp)
+]
+
+-- with CR0 and CR4 they stay
+rules_same : (t : Taken) → (t.after.cpu.cr0 ≡ t.before.cpu.cr0) × (t.after.cpu.cr4 ≡ t.before.cpu.cr4) → RulesStay t
+rules_same t same = record { wp = ap (λ (w : ℕ). has w 65536) same.0; pse = ap (λ (w : ℕ). has w 16) same.1 }
+
+changed : (before after : Bool) → (after ≡ before → ⊥) → cond before (not after) after ≡ true
+changed true true h = absurd (h refl)
+changed true false h = refl
+changed false true h = refl
+changed false false h = absurd (h refl)
+
+-- where they change, all may go
+left_empty : (m : Setting) (t : Taken) (kept : Set) → IsStep m t → (RulesStay t → ⊥) → kept ≡ empty → IsLeft t kept
+left_empty m t kept step lost is plain = elim (same_or (has t.after.cpu.cr0 65536) (has t.before.cpu.cr0 65536)) [
+  | inl wp ↦ elim (same_or (pse_of t.after.cpu) (pse_of t.before.cpu)) [
+    | inl pse ↦ absurd (lost (record { wp = wp; pse = pse }))
+    | inr other ↦ inl (is ∙ sym (step.emptied other))
+  ]
+  | inr other ↦ inr (is, changed (has t.before.cpu.cr0 65536) (has t.after.cpu.cr0 65536) other)
+]
+
+-- ---- what a step was told
+
+lose_same : (frames : List ℕ) (xs ys zs : List Aside) → LoseWrites frames xs ys → AreSame ys zs → LoseWrites frames xs zs
+lose_same frames [] [] [] h k = tt
+lose_same frames [] [] (c ∷ zs) h k = absurd k
+lose_same frames [] (b ∷ ys) zs h k = absurd h
+lose_same frames (a ∷ xs) [] zs h k = absurd h
+lose_same frames (a ∷ xs) (b ∷ ys) [] h k = absurd k
+lose_same frames (a ∷ xs) (b ∷ ys) (c ∷ zs) h k = (
+  record {
+    cr3 = k.0.cr3 ∙ h.0.cr3;
+    tables = λ frame. k.0.tables frame ∙ h.0.tables frame;
+    slots = λ page small. k.0.slots page small ∙ h.0.slots page small;
+  },
+  lose_same frames xs ys zs h.1 k.1,
+)
+
+told_over : (t : Taken) (noted noted1 noted2 : ℕ → Bool) (marked marked1 marked2 : Bool) (asides asides1 asides2 : List Aside)
+    → IsTold t noted noted1 marked marked1 asides asides1 → StayAside noted1 noted2 marked1 marked2 asides1 asides2 → IsTold t noted noted2 marked marked2 asides asides2
+told_over t noted noted1 noted2 marked marked1 marked2 asides asides1 asides2 told stay = record {
+  frames = told.frames;
+  notes = λ frame e. told.notes frame (stay.notes frame e);
+  marks = λ e. told.marks (stay.marks e);
+  others = lose_same told.frames (all_spared t.report.wrote asides) asides1 asides2 told.others stay.others;
+}
+
+-- ---- a step that was settled
+
+not_true : (b : Bool) → (b ≡ true → ⊥) → b ≡ false
+not_true true h = absurd (h refl)
+not_true false h = refl
+
+-- nothing is owed behind a change of the rules
+emptied : (m : Setting) (steps : List Taken) (t : Taken) (noted1 noted2 : ℕ → Bool) (marked1 marked2 : Bool) (asides1 asides2 : List Aside) → loads_root t ≡ false → (RulesStay t → ⊥)
+    → EmptyAside noted1 noted2 marked1 marked2 asides2 → IsRemembered m (steps ++ t ∷ []) t.after noted1 marked1 asides1 → IsRemembered m (steps ++ t ∷ []) t.after noted2 marked2 asides2
+emptied m steps t noted1 noted2 marked1 marked2 asides1 asides2 plain lost none r =
+    let cause : IsCause m steps t = record { through = plain; by = inr (λ same. lost (rules_same t same)) } in
+    subst (IsRemembered m (steps ++ t ∷ []) t.after noted2 marked2) (sym none.others)
+    (dropped_remembers m (steps ++ t ∷ []) t.after noted2 marked2 (λ frame e. r.noted_read frame (none.notes frame e))
+    (λ u. not_true marked2 (λ e. clash marked1 (none.marks e) (r.unmarked u))) (causes_owe_nothing m steps t cause))
+
+pub known_on : FoundGoesOn → NextIsKept → KnownOn
+known_on goes_on law m steps t noted noted2 marked marked2 slots2 asides asides2 kept step finds o k = by (loads_root t) refl
+  where
+    known : IsRemembered m (steps ++ t ∷ []) t.after noted2 marked2 asides2 → IsLeft t (entries_of slots2) → IsBack m steps t (entries_of slots2)
+        → IsKnown m (steps ++ t ∷ []) t.after noted2 marked2 asides2 (entries_of slots2)
+    known remembered left back = over goes_on law m steps t noted2 marked2 asides2 (entries_of slots2) step finds k.found k.of_pages remembered left back
+
+    told : loads_root t ≡ false → IsRemembered m (steps ++ t ∷ []) t.after o.noted1 o.marked1 o.asides1
+    told plain = steps_remember m steps t noted o.noted1 marked o.marked1 asides o.asides1 plain (step.through plain) o.told k.remembered
+
+    through : loads_root t ≡ false → RulesStay t ⊎ (RulesStay t → ⊥) → IsKnown m (steps ++ t ∷ []) t.after noted2 marked2 asides2 (entries_of slots2)
+    through plain (inl stay) =
+        let h = o.through plain stay in
+        known (still m (steps ++ t ∷ []) t.after o.noted1 noted2 o.marked1 marked2 o.asides1 asides2 h.0 (told plain)) (λ e. inl h.1) (λ e old u since w. clash (loads_root t) e plain)
+    through plain (inr lost) =
+        let h = o.lost plain lost in
+        known (emptied m steps t o.noted1 noted2 o.marked1 marked2 o.asides1 asides2 plain lost h.0 (told plain)) (left_empty m t (entries_of slots2) step lost h.1)
+        (λ e old u since w. clash (loads_root t) e plain)
+
+    reloaded : loads_root t ≡ true → IsKnown m (steps ++ t ∷ []) t.after noted2 marked2 asides2 (entries_of slots2)
+    reloaded loads =
+        let r = o.loaded loads in
+        let h = loads_remember m steps t noted r.noted1 noted2 marked r.marked1 marked2 r.slots1 slots2 asides r.asides1 asides2 loads k.remembered
+        (told_over t noted o.noted1 r.noted1 marked o.marked1 r.marked1 asides o.asides1 r.asides1 o.told r.stay) r.comes r.loaded in
+        known h.0 (λ plain. clash (loads_root t) loads plain) (λ e. h.1)
+
+    by : (b : Bool) → loads_root t ≡ b → IsKnown m (steps ++ t ∷ []) t.after noted2 marked2 asides2 (entries_of slots2)
+    by true is = reloaded is
+    by false is = through is (rules_or t)
