@@ -11,19 +11,19 @@ use Rattle.wedge_core.proofs.Shedding.{same_shed}
 use Rattle.wedge_core.proofs.native.drop_present.Goals as goal
 
 pub drop_dirs-requires : goal.drop_dirs-requires
-drop_dirs-requires g c = c.requires.1.1.stand
+drop_dirs-requires g c = record { stands = c.requires.held.2.stand }
 
 pub returns-clause-guest : goal.returns-clause-guest
 returns-clause-guest g c =
-    let pool = c.requires.1.0 in
-    let held = c.requires.1.1 in
+    let pool = c.requires.held.1 in
+    let held = c.requires.held.2 in
     front_same c.args.running.now.frames pool pool c.args.ram.now c.drop_dirs.new.ram _ _ held.behind held.owns (c.drop_dirs.ensures.moves pool held.owns)
 
 pub returns-clause-ready : goal.returns-clause-ready
 returns-clause-ready g c = λ m frames h.
     let running = c.args.running.now in
-    let pool = c.requires.1.0 in
-    let held = c.requires.1.1 in
+    let pool = c.requires.held.1 in
+    let held = c.requires.held.2 in
     let d = c.drop_dirs in
     let low = held.behind in
     let front = front_same m.frames pool pool c.args.ram.now d.new.ram _ _ (omega (arith, frames, low)) held.owns (d.ensures.moves pool held.owns) in

@@ -8,8 +8,8 @@ use Rattle.wedge_core.proofs.Clashless.{empty_clear}
 use Rattle.wedge_core.proofs.AfterTry.{any_script}
 use Rattle.wedge_core.proofs.native.make_room.Goals as goal
 
-pub returns-then-free-lt8-clause-left : goal.returns-then-free-lt8-clause-left
-returns-then-free-lt8-clause-left g c =
+pub returns-then-free-lt-ROOM-clause-left : goal.returns-then-free-lt-ROOM-clause-left
+returns-then-free-lt-ROOM-clause-left g c =
     let old = entries_of (g.S.Shadows.slots c.args.running.now.shadows c.args.ram.now) in
     c.drop_kept.ensures.none ∙ ap (λ (x : Bool). left_of x old) (sym c.drop_kept.ensures.lost)
 
@@ -23,8 +23,8 @@ returns-else-clashes-clause-left g c =
     let old = entries_of (g.S.Shadows.slots c.args.running.now.shadows c.args.ram.now) in
     ap (λ (x : Bool). left_of x old) (sym c.requires.kept)
 
-pub returns-then-free-lt8-clause-clear : goal.returns-then-free-lt8-clause-clear
-returns-then-free-lt8-clause-clear g c = λ script insn len after e.
+pub returns-then-free-lt-ROOM-clause-clear : goal.returns-then-free-lt-ROOM-clause-clear
+returns-then-free-lt-ROOM-clause-clear g c = λ script insn len after e.
     let m = wedge c.args.image.now script c.args.running.now.frames in
     empty_clear m (state_of g.S.Shadows.stands g.S.Shadows.frames g.S.Shadows.slots m c.drop_kept.new.running c.drop_kept.new.ram) c.drop_kept.ensures.none
 
