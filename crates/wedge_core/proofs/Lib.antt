@@ -56,3 +56,4 @@ mod StepReady
 pub mod Returning
 pub mod Dropping
 pub mod Leaving
+pub mod Sweeping
