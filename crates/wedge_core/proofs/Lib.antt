@@ -18,6 +18,7 @@ pub mod Released
 pub mod Sights
 pub mod Texts
 pub mod Joined
+pub mod Passed
 pub mod Going
 pub mod Keeping
 pub mod Asked
@@ -56,3 +57,5 @@ pub mod Returning
 pub mod Dropping
 pub mod Carrying
 pub mod Ended
+pub mod Leaving
+pub mod Sweeping

@@ -22,3 +22,4 @@ pub mod Ready
 pub mod Leaving
 pub mod Carried
 pub mod RootsTmp
+pub mod CarryLaws
