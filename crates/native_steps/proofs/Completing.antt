@@ -7,6 +7,8 @@ use Rattle.std.specs.Ordering.{nat_cmp}
 use Rattle.guest_ram.specs.Bytes.{frame}
 use Rattle.ia32_types.specs.declared.flags.Regs.{Regs}
 use Rattle.ia32_types.specs.declared.insn.Insn.{Insn}
+use Rattle.ia32_types.specs.declared.insn.Op.{Op}
+use Rattle.ia32_types.specs.declared.insn.Op.TheVariants as op
 use Rattle.ia32_types.specs.declared.stop.Stop.TheVariants as stops
 use Rattle.ia32_exec.specs.declared.outcome.Outcome as exec
 use Rattle.ia32_exec.specs.declared.outcome.Outcome.TheVariants as outcomes
@@ -25,6 +27,7 @@ use Rattle.step_exec.specs.Plain.{stored_all}
 use Rattle.host_cpl3.specs.declared.view.View.{View}
 use Rattle.host_cpl3.specs.declared.exit.Done.{Done}
 use Rattle.host_cpl3.specs.declared.exit.Done.TheVariants.{Completed, Entered}
+use Rattle.host_cpl3.specs.Permit.{permitted_row, permitted}
 use Rattle.host_cpl3.specs.Views.{selectors_of, is_window, is_entry}
 use Rattle.host_cpl3.specs.Pages.{place}
 use Rattle.host_cpl3.specs.Store.{all_stored}
@@ -39,6 +42,7 @@ use Rattle.image_check.specs.Places.{linear}
 use Rattle.machine_model.specs.State.{Setting, State}
 use Rattle.machine_model.specs.Rules as rules
 use Rattle.machine_model.specs.Step as step
+use Rattle.machine_model.specs.Taken.{is_load, is_control_3, is_write}
 use Rattle.native_steps.specs.Lends.{IsUnlent}
 use Rattle.native_steps.specs.Stands.{IsWedge, IsLevel, Sees, Stands, shown}
 use Rattle.native_steps.specs.Native.{byte_of, effect_of, done_by, IsNative}
@@ -60,6 +64,11 @@ pub record IsSwept (image : Image) (eip : ℕ) (insn : Insn) (len : ℕ) : Type 
   pub place : eip ≡ linear swept.at
   pub insn_is : insn ≡ swept.insn
   pub len_is : len ≡ swept.len
+
+-- the host permits no load of a control register
+not_control : (o : Op) (imm : ℕ) → permitted_row o imm ≡ Ok tt → is_write o ≡ false
+not_control op.WriteControl imm e = absurd cc
+not_control o imm e = refl
 
 split : (P Q : ℕ → Type 0) (ws : Stores) → AreStored (λ a. P a × Q a) ws → AreStored P ws × AreStored Q ws
 split P Q Nothing h = (tt, tt)
@@ -250,6 +259,10 @@ module _ (flags : EffectLaws) (m : Setting) (w : IsWedge m) (laws : TextLaws m.i
             user_flags = λ k. still_open (s.user_flags k);
           }
 
+      through : is_load (Some (step.begun b insn)) ≡ false
+      unfolding permitted
+      through = ap (λ x. x && is_control_3 insn.a) (not_control insn.op insn.imm c.allowed)
+
       follows : Follows m v b memory regs after_memory
       unfolding after report after_memory new_cpu
       follows = record {
@@ -261,6 +274,7 @@ module _ (flags : EffectLaws) (m : Setting) (w : IsWedge m) (laws : TextLaws m.i
         pages = end_pages;
         completed = step.begun b insn;
         completes = refl;
+        through = through;
         direct = n.direct;
         eip = refl;
         cpu = refl;

@@ -23,6 +23,7 @@ pub mod SiteJumps
 pub mod Clear
 pub mod Marks
 pub mod Walks
+pub mod TextWalks
 pub mod Walking
 pub mod Through
 pub mod Repeating

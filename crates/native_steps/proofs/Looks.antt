@@ -1,11 +1,12 @@
 -- A program that sets nothing finds the pages that a fetch goes through, and the bytes that it reads.
-use Rattle.std.proofs.Common.{◌≡◌, ℕ, ◌+◌, ◌*◌, ◌/◌, ◌%◌, ◌^◌, ◌<◌, ◌≤◌, List, [], ◌∷◌, ◌++◌, length, Bool, true, false, cond, ◌&&◌, not, ◌==◌, Option, Some, None, Ok, refl, sym, ap, subst, ◌∙◌, inl, inr, ◌⊎◌, arith}
-use Rattle.std.specs.List.{Contains}
+use Rattle.std.proofs.Common.{◌≡◌, ℕ, ◌+◌, ◌-◌, ◌*◌, ◌/◌, ◌%◌, ◌^◌, ◌<◌, ◌≤◌, List, [], ◌∷◌, ◌++◌, length, Bool, true, false, cond, ◌&&◌, ◌||◌, not, ◌==◌, Option, Some, None, Ok, refl, sym, ap, subst, ◌∙◌, inl, inr, ◌⊎◌, arith}
+use Rattle.std.specs.Prelude.{nat_le, nat_lt}
+use Rattle.std.specs.List.{Contains, list_any}
 use Rattle.std.specs.FinMap.{FinMap, get, insert, get-insert}
 use Rattle.std.specs.Ordering.{nat_cmp}
 use Rattle.std.specs.Cmp.{unsigned_tied}
 use Rattle.std.proofs.lemmas.Cmp.{nat_cmp_total}
-use Rattle.guest_ram.specs.Bytes.{AreBytes, part, word32}
+use Rattle.guest_ram.specs.Bytes.{AreBytes, byte, part, word32}
 use Rattle.ia32_types.specs.declared.stop.Stop.TheVariants as stops
 use Rattle.ia32_types.specs.declared.insn.Insn.{Insn}
 use Rattle.ia32_decode.specs.declared.answer.Decoded.{Decoded}
@@ -20,18 +21,23 @@ use Rattle.paging.specs.declared.entry.Touch.TheVariants.{Ready, Stop}
 use Rattle.paging.specs.declared.entry.Walk.{Walk}
 use Rattle.paging.specs.declared.entry.Walk.TheVariants.{Absent, Beyond, Reserved, Found}
 use Rattle.paging.specs.Fresh.{has, dir_place, word_place, large_frame, fresh, tables_read, grants, flagged}
-use Rattle.paging.specs.Space.{Space, place, place_by}
-use Rattle.paging.specs.Uses.{tables_of, Decision, is_barred, dirtied, decided, settled, usable, by_entry, page_uses, and_then, unready, made_ready, fetches}
+use Rattle.paging.specs.Space.{Mode, Bare, Wedge, Space, place, place_by}
+use Rattle.paging.specs.Uses.{tables_of, Decision, is_text, is_own, is_barred, marks_own, dirtied, decided, settled, usable, by_entry, page_uses, go_on, and_then, unready, made_ready, fetches, with_front, with_back}
+use Rattle.paging.specs.Work.{Outcome, on_value, refuses}
+use Rattle.sys_exec.specs.declared.effect.Refusal.{Refusal}
+use Rattle.sys_exec.specs.declared.effect.Refusal.TheVariants as refusal
+use Rattle.image_check.specs.Image.{Image}
 use Rattle.machine_model.specs.State.{Setting, State, space_at_start, wedge_mode}
-use Rattle.machine_model.specs.Instruction.{fetching, next_page, fetched}
-use Rattle.machine_model.specs.Clash.{access_of, fetch_uses, range_uses, uses_by}
+use Rattle.machine_model.specs.Instruction.{taken, fetching, owning_front, owning_back, next_page, owned, fetched_on, fetched_by, fetched}
+use Rattle.machine_model.specs.Clash.{Use, protects, access_of, fetch_uses, range_uses, uses_by, uses_at, is_refused_by, clash_in, instruction_clashes}
 use Rattle.native_steps.specs.Forward.{wp_of}
-use Rattle.native_steps.specs.Looking.{marked, Seen, found_by, seen_by, seen, bytes_seen, uses_on, uses_behind, uses_from, uses_seen, UsesAreSeen}
-use Rattle.native_steps.proofs.Choices.{chosen, passed_by, eq_true, is_false, eq_told}
+use Rattle.native_steps.specs.Looking.{marked, Seen, is_stopped, found_by, seen_by, seen, is_front, marks_front, seen_behind, next_seen, bytes_seen, uses_on, uses_behind, uses_from, uses_seen, UsesAreSeen, LooksAgree}
+use Rattle.native_steps.proofs.Choices.{chosen, passed_by, eq_true, is_false, eq_told, lt_false, clash}
 use Rattle.native_steps.proofs.Marks.{AreMarked}
-use Rattle.native_steps.proofs.Walks.{IsByTable, IsLarge, IsWalk, ByTable, Large, walk_parts, walk_is, dir_in, word_in, has_1, has_2, has_4, same_size, same_large, same_reserved}
+use Rattle.native_steps.proofs.Walks.{IsByTable, IsLarge, IsWalk, ByTable, Large, walk_parts, walk_is, walk_kept, page_is as page_of_walk, dir_in, word_in, has_1, has_2, has_4, same_size, same_large, same_reserved}
 use Rattle.native_steps.proofs.Walking.{IsWithin, decided_readied, usable_parts}
-use Rattle.native_steps.proofs.Through.{on_ready, pair, taken_parts, fetch_through}
+use Rattle.native_steps.proofs.TextWalks.{either_false, both_false, reads_text, decided_clear, decided_ready}
+use Rattle.native_steps.proofs.Through.{on_ready, pair, taken_parts, FetchThrough, fetch_through}
 use Rattle.native_steps.proofs.Fetching.{IsFetch, fetch_parts, by_parts, IsIn, IsPast, fetching_went}
 use Rattle.native_steps.proofs.Repeating.{front_is}
 
@@ -106,17 +112,29 @@ walk_before : (x y : List ℕ) (frames cr3 : ℕ) (pse : Bool) (page : ℕ) (e :
 walk_before x y frames cr3 pse page e d t m small room (ByTable h) = let p = table_before x y frames cr3 pse page e d t m small room h in (p.0, ByTable p.1)
 walk_before x y frames cr3 pse page e d t m small room (Large h) = let p = large_before x y frames cr3 pse page e d t m small room h in (p.0, Large p.1)
 
-found_before : (x y : List ℕ) (frames cr3 : ℕ) (pse : Bool) (page : ℕ) (access : Access) (wp : Bool) (s : Seen) → AreMarked x y → page < 2 ^ 20 → 4096 * frames ≤ length x
-    → found_by access wp (fresh y frames cr3 pse page) ≡ Some s → found_by access wp (fresh x frames cr3 pse page) ≡ Some s
-found_before x y frames cr3 pse page access wp s m small room h = by_walk (fresh y frames cr3 pse page) refl h
+found_before : (x y : List ℕ) (frames cr3 : ℕ) (pse : Bool) (mode : Mode) (page : ℕ) (access : Access) (wp : Bool) (s : Seen) → AreMarked x y → page < 2 ^ 20 → 4096 * frames ≤ length x
+    → found_by mode page access wp (fresh y frames cr3 pse page) ≡ Some s → found_by mode page access wp (fresh x frames cr3 pse page) ≡ Some s
+found_before x y frames cr3 pse mode page access wp s m small room h = by_walk (fresh y frames cr3 pse page) refl h
   where
-    by_walk : (w : Walk) → fresh y frames cr3 pse page ≡ w → found_by access wp w ≡ Some s → found_by access wp (fresh x frames cr3 pse page) ≡ Some s
+    by_walk : (w : Walk) → fresh y frames cr3 pse page ≡ w → found_by mode page access wp w ≡ Some s → found_by mode page access wp (fresh x frames cr3 pse page) ≡ Some s
     by_walk Absent is g = absurd cc
     by_walk Beyond is g = absurd cc
     by_walk Reserved is g = absurd cc
     by_walk (Found e d t) is g =
         let p = walk_before x y frames cr3 pse page e d t m small room (walk_parts y frames cr3 pse page e d t is) in
-        ap (found_by access wp) (walk_is x frames cr3 pse page (record e { dirty = p.0 }) d t p.1) ∙ g
+        ap (found_by mode page access wp) (walk_is x frames cr3 pse page (record e { dirty = p.0 }) d t p.1) ∙ g
+
+found_after : (x y : List ℕ) (frames cr3 : ℕ) (pse : Bool) (mode : Mode) (page : ℕ) (access : Access) (wp : Bool) (s : Seen) → AreMarked x y → page < 2 ^ 20 → 4096 * frames ≤ length x
+    → found_by mode page access wp (fresh x frames cr3 pse page) ≡ Some s → found_by mode page access wp (fresh y frames cr3 pse page) ≡ Some s
+found_after x y frames cr3 pse mode page access wp s m small room h = by_walk (fresh x frames cr3 pse page) refl h
+  where
+    by_walk : (w : Walk) → fresh x frames cr3 pse page ≡ w → found_by mode page access wp w ≡ Some s → found_by mode page access wp (fresh y frames cr3 pse page) ≡ Some s
+    by_walk Absent is g = absurd cc
+    by_walk Beyond is g = absurd cc
+    by_walk Reserved is g = absurd cc
+    by_walk (Found e d t) is g =
+        let p = walk_kept x y frames cr3 pse page e d t m small room (walk_parts x frames cr3 pse page e d t is) in
+        ap (found_by mode page access wp) (walk_is y frames cr3 pse page (record e { dirty = p.dirty }) d t p.walk) ∙ g
 
 -- ---- one page of a fetch
 
@@ -132,12 +150,17 @@ record Look : Type 0 where
 abbrev look : Space → Look
 look s = record { ram = s.ram; set = s.set; frames = s.frames; cr3 = s.cr3; pse = s.pse; wp = s.wp }
 
-abbrev seen_in : Look → Access → ℕ → Option Seen
-seen_in s access page = seen_by (usable (get s.set page) access s.wp) access s.wp (fresh s.ram s.frames s.cr3 s.pse page)
+abbrev seen_in : Mode → Look → Access → ℕ → Option Seen
+seen_in mode s access page = seen_by mode page (usable (get s.set page) access s.wp) access s.wp (fresh s.ram s.frames s.cr3 s.pse page)
 
-record PageSeen (access : Access) (s t : Look) (page : ℕ) : Type 0 where
+-- one of the instruction's own bytes is among these, and its accessed flag is clear
+abbrev marks_any : Mode → List ℕ → List ℕ → Bool
+marks_any mode ram marks = list_any (λ at. is_own mode at && not (has (byte ram at) 32)) marks
+
+record PageSeen (mode : Mode) (access : Access) (s t : Look) (page : ℕ) : Type 0 where
   x : Seen
-  is : seen_in s access page ≡ Some x
+  is : seen_in mode s access page ≡ Some x
+  own : marks_any mode s.ram x.marks ≡ false
   ram : t.ram ≡ marked s.ram x.marks
   entry : Entry
   kept : get t.set page ≡ Some entry
@@ -148,85 +171,166 @@ record PageSeen (access : Access) (s t : Look) (page : ℕ) : Type 0 where
   pse : t.pse ≡ s.pse
   wp : t.wp ≡ s.wp
 
-module _ (user : Bool) (s t : Space) (page at : ℕ) where
+two_marks : (p c d : Bool) → (p || (c && (d || false))) ≡ (p || ((c && d) || false))
+two_marks true c d = refl
+two_marks false true d = refl
+two_marks false false d = refl
+
+own_marks : (s : Space) (d t : ℕ) → marks_own (tables_of s) d t false ≡ marks_any s.mode s.ram (d ∷ t ∷ [])
+unfolding marks_own
+own_marks s d t = two_marks (is_own s.mode d && not (has (byte s.ram d) 32)) (is_own s.mode t) (not (has (byte s.ram t) 32))
+
+module _ (user : Bool) (s : Space) (page at : ℕ) (small : page < 2 ^ 20) where
   abbrev reading : Access
   reading = record { write = false; user = user }
 
   abbrev seen_now : Space
   seen_now = record s { pages = s.pages + 1; visited = s.visited ++ page ∷ [] }
 
-  by_kept : (e : Entry) → usable (get s.set page) reading s.wp ≡ Some e → by_entry seen_now true page at reading (Some e) ≡ (Ready, t) → PageSeen reading (look s) (look t) page
-  by_kept e found h = choice (is_barred s.mode true user page e.frame) h
+  abbrev barred : ℕ → Bool
+  barred frame = is_barred s.mode true user page frame
+
+  -- a walk lets the fetch pass where it finds, grants, and nothing stops it
+  record IsPassed (e : Entry) (d t : ℕ) : Type 0 where
+    granted : grants e reading s.wp ≡ true
+    free : is_stopped s.mode reading page e.frame d t ≡ false
+
+  passed : (e : Entry) (d t : ℕ) → IsPassed e d t → found_by s.mode page reading s.wp (Found e d t) ≡ Some (record { frame = e.frame; marks = d ∷ t ∷ [] })
+  passed e d t h =
+      let x : Option Seen = Some (record { frame = e.frame; marks = d ∷ t ∷ [] }) in
+      passed_by (not (grants e reading s.wp)) None (cond (is_stopped s.mode reading page e.frame d t) None x) (ap not h.granted)
+      ∙ passed_by (is_stopped s.mode reading page e.frame d t) None x h.free
+
+  module _ (t : Space) where
+    by_kept : (e : Entry) → usable (get s.set page) reading s.wp ≡ Some e → by_entry seen_now true page at reading (Some e) ≡ (Ready, t) → PageSeen s.mode reading (look s) (look t) page
+    by_kept e found h = choice (barred e.frame) refl h
+      where
+        choice : (text : Bool) → barred e.frame ≡ text → cond {A = Touch × Space} text (Stop stops.TextMapped, seen_now) (Ready, seen_now) ≡ (Ready, t) → PageSeen s.mode reading (look s) (look t) page
+        choice true bar y = absurd (let g : Stop stops.TextMapped ≡ Ready = ap (λ (o : Touch × Space). o.0) y in cc)
+        choice false bar y =
+            subst (λ (z : Space). PageSeen s.mode reading (look s) (look z) page) (ap (λ (o : Touch × Space). o.1) y) (record {
+              x = record { frame = e.frame; marks = [] };
+              is =
+                  ap (λ (o : Option Entry). seen_by s.mode page o reading s.wp (fresh s.ram s.frames s.cr3 s.pse page)) found
+                  ∙ passed_by (barred e.frame) None (Some (record { frame = e.frame; marks = [] })) bar;
+              own = refl;
+              ram = refl;
+              entry = e;
+              kept = (usable_parts (get s.set page) reading s.wp e found).0;
+              frame_is = refl;
+              others = λ q other. refl;
+              frames = refl;
+              cr3 = refl;
+              pse = refl;
+              wp = refl;
+            })
+
+    by_fresh : usable (get s.set page) reading s.wp ≡ None → settled seen_now page (decided (tables_of s) true page at reading) ≡ (Ready, t) → PageSeen s.mode reading (look s) (look t) page
+    unfolding flagged
+    by_fresh none h =
+        let met : (decided (tables_of s) true page at reading).met ≡ Ready = ap (λ (o : Touch × Space). o.0) h in
+        let r = decided_readied (tables_of s) true page at reading met in
+        let entry : Entry = dirtied r.entry false in
+        let got : (q : ℕ) → get (insert s.set page entry) q ≡ cond (q == page) (Some entry) (get s.set q) = λ q.
+        get-insert nat_cmp_total s.set page entry q ∙ ap (λ c. cond c (Some entry) (get s.set q)) (unsigned_tied q page) in
+        let built : Space = record seen_now { ram = flagged s.ram r.dir_at r.word_at false; set = insert s.set page entry; tables = s.tables ++ tables_read s.ram s.frames s.cr3 s.pse page } in
+        let end : built ≡ t = sym (ap (λ (d : Decision). (settled seen_now page d).1) r.is) ∙ ap (λ (o : Touch × Space). o.1) h in
+        let page_is : r.entry.page ≡ page = page_of_walk s.ram s.frames s.cr3 s.pse page r.entry r.dir_at r.word_at (walk_parts s.ram s.frames s.cr3 s.pse page r.entry r.dir_at r.word_at r.found) in
+        let free : barred r.entry.frame ≡ false = ap (λ n. is_barred s.mode true user n r.entry.frame) (sym page_is) ∙ r.free in
+        let clear : (is_text s.mode (r.dir_at / 4096) || is_text s.mode (r.word_at / 4096)) ≡ false =
+        sym (reads_text (tables_of s) page r.entry r.dir_at r.word_at small r.found) ∙ decided_clear (tables_of s) true page at reading met in
+        subst (λ (z : Space). PageSeen s.mode reading (look s) (look z) page) end (record {
+          x = record { frame = r.entry.frame; marks = r.dir_at ∷ r.word_at ∷ [] };
+          is =
+              ap (λ (o : Option Entry). seen_by s.mode page o reading s.wp (fresh s.ram s.frames s.cr3 s.pse page)) none
+              ∙ ap (found_by s.mode page reading s.wp) r.found
+              ∙ passed r.entry r.dir_at r.word_at (record { granted = r.granted; free = both_false (barred r.entry.frame) _ free clear });
+          own = sym (own_marks s r.dir_at r.word_at) ∙ r.own;
+          ram = refl;
+          entry = entry;
+          kept = got page ∙ chosen (page == page) (Some entry) (get s.set page) (eq_true page page refl);
+          frame_is = refl;
+          others = λ q other. got q ∙ passed_by (q == page) (Some entry) (get s.set q) other;
+          frames = refl;
+          cr3 = refl;
+          pse = refl;
+          wp = refl;
+        })
+
+    page_seen : page_uses s true page at reading ≡ (Ready, t) → PageSeen s.mode reading (look s) (look t) page
+    unfolding page_uses
+    page_seen h = by_usable (usable (get s.set page) reading s.wp) refl h
+      where
+        by_usable : (o : Option Entry) → usable (get s.set page) reading s.wp ≡ o → by_entry seen_now true page at reading o ≡ (Ready, t) → PageSeen s.mode reading (look s) (look t) page
+        by_usable (Some e) is g = by_kept e is g
+        by_usable None is g = by_fresh is g
+
+  -- ---- and what is seen, the fetch finds
+
+  record IsFound (x : Seen) (e : Entry) (d t : ℕ) : Type 0 where
+    passes : IsPassed e d t
+    marks : d ∷ t ∷ [] ≡ x.marks
+
+  found_parts : (x : Seen) (e : Entry) (d t : ℕ) → found_by s.mode page reading s.wp (Found e d t) ≡ Some x → IsFound x e d t
+  found_parts x e d t h = by_grant (grants e reading s.wp) refl h
     where
-      choice : (text : Bool) → cond {A = Touch × Space} text (Stop stops.TextMapped, seen_now) (Ready, seen_now) ≡ (Ready, t) → PageSeen reading (look s) (look t) page
-      choice true y = absurd (let g : Stop stops.TextMapped ≡ Ready = ap (λ (o : Touch × Space). o.0) y in cc)
-      choice false y =
-          subst (λ (z : Space). PageSeen reading (look s) (look z) page) (ap (λ (o : Touch × Space). o.1) y) (record {
-            x = record { frame = e.frame; marks = [] };
-            is = ap (λ (o : Option Entry). seen_by o reading s.wp (fresh s.ram s.frames s.cr3 s.pse page)) found;
-            ram = refl;
-            entry = e;
-            kept = (usable_parts (get s.set page) reading s.wp e found).0;
-            frame_is = refl;
-            others = λ q other. refl;
-            frames = refl;
-            cr3 = refl;
-            pse = refl;
-            wp = refl;
-          })
+      by_stop : grants e reading s.wp ≡ true → (c : Bool) → is_stopped s.mode reading page e.frame d t ≡ c → cond {A = Option Seen} c None (Some (record { frame = e.frame; marks = d ∷ t ∷ [] })) ≡ Some x → IsFound x e d t
+      by_stop g true is f = absurd cc
+      by_stop g false is f = let same : record { frame = e.frame; marks = d ∷ t ∷ [] } ≡ x = cc in record { passes = record { granted = g; free = is }; marks = ap (λ (y : Seen). y.marks) same }
 
-  by_fresh : usable (get s.set page) reading s.wp ≡ None → settled seen_now page (decided (tables_of s) true page at reading) ≡ (Ready, t) → PageSeen reading (look s) (look t) page
-  unfolding flagged
-  by_fresh none h =
-      let met : (decided (tables_of s) true page at reading).met ≡ Ready = ap (λ (o : Touch × Space). o.0) h in
-      let r = decided_readied (tables_of s) true page at reading met in
-      let entry : Entry = dirtied r.entry false in
-      let got : (q : ℕ) → get (insert s.set page entry) q ≡ cond (q == page) (Some entry) (get s.set q) = λ q.
-      get-insert nat_cmp_total s.set page entry q ∙ ap (λ c. cond c (Some entry) (get s.set q)) (unsigned_tied q page) in
-      let built : Space = record seen_now { ram = flagged s.ram r.dir_at r.word_at false; set = insert s.set page entry; tables = s.tables ++ tables_read s.ram s.frames s.cr3 s.pse page } in
-      let end : built ≡ t = sym (ap (λ (d : Decision). (settled seen_now page d).1) r.is) ∙ ap (λ (o : Touch × Space). o.1) h in
-      subst (λ (z : Space). PageSeen reading (look s) (look z) page) end (record {
-        x = record { frame = r.entry.frame; marks = r.dir_at ∷ r.word_at ∷ [] };
-        is =
-            ap (λ (o : Option Entry). seen_by o reading s.wp (fresh s.ram s.frames s.cr3 s.pse page)) none
-            ∙ ap (found_by reading s.wp) r.found
-            ∙ chosen (grants r.entry reading s.wp) (Some (record { frame = r.entry.frame; marks = r.dir_at ∷ r.word_at ∷ [] })) None r.granted;
-        ram = refl;
-        entry = entry;
-        kept = got page ∙ chosen (page == page) (Some entry) (get s.set page) (eq_true page page refl);
-        frame_is = refl;
-        others = λ q other. got q ∙ passed_by (q == page) (Some entry) (get s.set q) other;
-        frames = refl;
-        cr3 = refl;
-        pse = refl;
-        wp = refl;
-      })
+      by_grant : (g : Bool) → grants e reading s.wp ≡ g → cond {A = Option Seen} (not g) None (cond (is_stopped s.mode reading page e.frame d t) None (Some (record { frame = e.frame; marks = d ∷ t ∷ [] }))) ≡ Some x → IsFound x e d t
+      by_grant false g f = absurd cc
+      by_grant true g f = by_stop g (is_stopped s.mode reading page e.frame d t) refl f
 
-  page_seen : page_uses s true page at reading ≡ (Ready, t) → PageSeen reading (look s) (look t) page
+  fresh_found : (x : Seen) → found_by s.mode page reading s.wp (fresh s.ram s.frames s.cr3 s.pse page) ≡ Some x → marks_any s.mode s.ram x.marks ≡ false → (decided (tables_of s) true page at reading).met ≡ Ready
+  fresh_found x h own = by_walk (fresh s.ram s.frames s.cr3 s.pse page) refl h
+    where
+      by_walk : (w : Walk) → fresh s.ram s.frames s.cr3 s.pse page ≡ w → found_by s.mode page reading s.wp w ≡ Some x → (decided (tables_of s) true page at reading).met ≡ Ready
+      by_walk Absent is g = absurd cc
+      by_walk Beyond is g = absurd cc
+      by_walk Reserved is g = absurd cc
+      by_walk (Found e d t) is g =
+          let p = found_parts x e d t g in
+          let two = either_false (barred e.frame) (is_text s.mode (d / 4096) || is_text s.mode (t / 4096)) p.passes.free in
+          let page_is : e.page ≡ page = page_of_walk s.ram s.frames s.cr3 s.pse page e d t (walk_parts s.ram s.frames s.cr3 s.pse page e d t is) in
+          decided_ready (tables_of s) true page at reading e d t (reads_text (tables_of s) page e d t small is ∙ two.1) is p.passes.granted
+          (ap (λ n. is_barred s.mode true user n e.frame) page_is ∙ two.0) (own_marks s d t ∙ ap (marks_any s.mode s.ram) p.marks ∙ own)
+
+  page_found : (x : Seen) → seen_in s.mode (look s) reading page ≡ Some x → marks_any s.mode s.ram x.marks ≡ false → (page_uses s true page at reading).0 ≡ Ready
   unfolding page_uses
-  page_seen h = by_usable (usable (get s.set page) reading s.wp) refl h
+  page_found x h own = by_usable (usable (get s.set page) reading s.wp) h
     where
-      by_usable : (o : Option Entry) → usable (get s.set page) reading s.wp ≡ o → by_entry seen_now true page at reading o ≡ (Ready, t) → PageSeen reading (look s) (look t) page
-      by_usable (Some e) is g = by_kept e is g
-      by_usable None is g = by_fresh is g
+      by_bar : (e : Entry) (c : Bool) → cond {A = Option Seen} c None (Some (record { frame = e.frame; marks = [] })) ≡ Some x → (cond {A = Touch × Space} c (Stop stops.TextMapped, seen_now) (Ready, seen_now)).0 ≡ Ready
+      by_bar e true f = absurd cc
+      by_bar e false f = refl
+
+      by_usable : (o : Option Entry) → seen_by s.mode page o reading s.wp (fresh s.ram s.frames s.cr3 s.pse page) ≡ Some x → (by_entry seen_now true page at reading o).0 ≡ Ready
+      by_usable (Some e) g = by_bar e (barred e.frame) g
+      by_usable None g = fresh_found x g own
 
 record FetchSeen (user : Bool) (s t : Space) (at len : ℕ) (bytes : List ℕ) : Type 0 where
-  page : PageSeen (record { write = false; user = user }) (look s) (look t) (at / 4096)
+  page : PageSeen s.mode (record { write = false; user = user }) (look s) (look t) (at / 4096)
   bytes_are : bytes ≡ bytes_seen (marked s.ram page.x.marks) page.x at len
 
+-- a fetch of bytes of one page that passes
+record FetchFound (user : Bool) (s : Space) (at len : ℕ) : Type 0 where
+  bytes : List ℕ
+  after : Space
+  reads : fetching user at len s ≡ Ok (bytes, after)
+
 module _ (m : Setting) (b : State) (kernel : Bool) where
-  fetch_seen : (s t : Space) (at len : ℕ) (bytes : List ℕ) → fetching (not kernel) at len s ≡ Ok (bytes, t) → FetchSeen (not kernel) s t at len bytes
+  fetch_seen : (s t : Space) (at len : ℕ) (bytes : List ℕ) → at / 4096 < 2 ^ 20 → fetching (not kernel) at len s ≡ Ok (bytes, t) → FetchSeen (not kernel) s t at len bytes
   unfolding fetching fetches place
-  fetch_seen s t at len bytes e =
+  fetch_seen s t at len bytes small e =
       let access : Access = record { write = false; user = not kernel } in
       let p = taken_parts m b kernel at len (fetches s at len (not kernel)).0 (fetches s at len (not kernel)).1 bytes t e in
       let o : Touch × Space = page_uses (unready s) true (at / 4096) at access in
       let whole : and_then o (made_ready at len false) ≡ (Ready, t) = pair m b kernel (fetches s at len (not kernel)) p.0 ∙ ap (λ (x : Space). (Ready, x)) p.1.1 in
       let q = on_ready m b kernel o (made_ready at len false) t whole in
-      let h : PageSeen access (look s) (look o.1) (at / 4096) = page_seen (not kernel) (unready s) o.1 (at / 4096) at (pair m b kernel o q.0) in
+      let h : PageSeen s.mode access (look s) (look o.1) (at / 4096) = page_seen (not kernel) (unready s) (at / 4096) at small o.1 (pair m b kernel o q.0) in
       let left : record o.1 { ready = record { start = at; len = len; write = false } } ≡ t = ap (λ (x : Touch × Space). x.1) q.1 in
       let same : look o.1 ≡ look t = ap look left in
-      let page : PageSeen access (look s) (look t) (at / 4096) = subst (λ (z : Look). PageSeen access (look s) z (at / 4096)) same h in
+      let page : PageSeen s.mode access (look s) (look t) (at / 4096) = subst (λ (z : Look). PageSeen s.mode access (look s) z (at / 4096)) same h in
       let frame = page.frame_is in
       let sum : page.entry.frame * 4096 + at % 4096 ≡ 4096 * page.x.frame + at % 4096 = omega (arith, frame) in
       record {
@@ -238,6 +342,61 @@ module _ (m : Setting) (b : State) (kernel : Bool) where
             ∙ ap (λ (n : Option Entry). part (marked s.ram page.x.marks) (place_by n at) len) page.kept
             ∙ ap (λ (n : ℕ). part (marked s.ram page.x.marks) n len) sum;
       }
+
+  fetch_found : (s : Space) (at len : ℕ) (x : Seen) → at / 4096 < 2 ^ 20 → seen_in s.mode (look s) (record { write = false; user = not kernel }) (at / 4096) ≡ Some x → marks_any s.mode s.ram x.marks ≡ false → FetchFound (not kernel) s at len
+  unfolding fetching fetches
+  fetch_found s at len x small h own =
+      let o : Touch × Space = page_uses (unready s) true (at / 4096) at (record { write = false; user = not kernel }) in
+      let there : o.0 ≡ Ready = page_found (not kernel) (unready s) (at / 4096) at small x h own in
+      let t : Space = (made_ready at len false o.1).1 in
+      let ready : and_then o (made_ready at len false) ≡ (Ready, t) = ap (λ (z : Touch). go_on z o.1 (made_ready at len false)) there in
+      record { bytes = part t.ram (place t at) len; after = t; reads = ap (λ (z : Touch × Space). taken at len z.0 z.1) ready }
+
+-- ---- modes
+
+-- what bars a fetch doesn't depend on the instruction's own bytes
+owned_alike : (mode : Mode) (at len page : ℕ) (o : Option Entry) (access : Access) (wp : Bool) (walk : Walk) → seen_by (with_front mode at len) page o access wp walk ≡ seen_by mode page o access wp walk
+owned_alike Bare at len page o access wp walk = refl
+owned_alike (Wedge text count own) at len page (Some e) access wp walk = refl
+owned_alike (Wedge text count own) at len page None access wp Absent = refl
+owned_alike (Wedge text count own) at len page None access wp Beyond = refl
+owned_alike (Wedge text count own) at len page None access wp Reserved = refl
+owned_alike (Wedge text count own) at len page None access wp (Found e d t) = refl
+
+and_false : (x : Bool) → (x && false) ≡ false
+and_false true = refl
+and_false false = refl
+
+or_false : (x : Bool) → (x || false) ≡ x
+or_false true = refl
+or_false false = refl
+
+none_there : (k : ℕ) → (nat_le 0 k && nat_lt k (0 + 0)) ≡ false
+none_there k = ap (λ x. nat_le 0 k && x) (lt_false k 0 (omega arith)) ∙ and_false (nat_le 0 k)
+
+-- at first no byte is the instruction's own
+none_own : (image : Image) (k : ℕ) → is_own (wedge_mode image) k ≡ false
+none_own image k = both_false _ _ (none_there k) (none_there k)
+
+-- and then those of the first page are
+front_own : (image : Image) (at len k : ℕ) → is_own (with_front (wedge_mode image) at len) k ≡ (nat_le at k && nat_lt k (at + len))
+front_own image at len k = ap (λ x. (nat_le at k && nat_lt k (at + len)) || x) (none_there k) ∙ or_false (nat_le at k && nat_lt k (at + len))
+
+any_same : (f g : ℕ → Bool) → ((k : ℕ) → f k ≡ g k) → (ks : List ℕ) → list_any f ks ≡ list_any g ks
+any_same f g h [] = refl
+any_same f g h (k ∷ ks) = ap (λ x. x || list_any f ks) (h k) ∙ ap (λ x. g k || x) (any_same f g h ks)
+
+any_none : (f : ℕ → Bool) → ((k : ℕ) → f k ≡ false) → (ks : List ℕ) → list_any f ks ≡ false
+any_none f h [] = refl
+any_none f h (k ∷ ks) = both_false (f k) (list_any f ks) (h k) (any_none f h ks)
+
+-- ---- uses that can't clash
+
+one_clear : (b : State) (page : ℕ) → clash_in (get b.set) (protects b) (fetch_uses b (page ∷ [])) ≡ false
+one_clear b page = refl
+
+two_clear : (b : State) (page next : ℕ) → (page == next) ≡ false → clash_in (get b.set) (protects b) (fetch_uses b (page ∷ next ∷ [])) ≡ false
+two_clear b page next other = ap (λ x. ((x || false) && is_refused_by (get b.set next) (access_of b false) (protects b)) || false) other
 
 -- ---- both pages
 
@@ -260,108 +419,246 @@ module _ (m : Setting) (b : State) (kernel : Bool) (mode : m.mode ≡ wedge_mode
   none_before : (q : ℕ) → Contains {X = ℕ} [] q → ⊥
   none_before q c = let lt = c.1 in omega (arith, lt)
 
-  seen_is : (page : ℕ) (o : Option Seen) → seen_in (look start) access page ≡ o → seen m b page ≡ o
-  seen_is page o e = ap (λ (a : Access). seen_by (usable (get b.set page) a (wp_of b)) a (wp_of b) (fresh b.ram m.frames b.cpu.cr3 (pse_of b.cpu) page)) access_is ∙ e
+  seen_same : (page : ℕ) → seen m b page ≡ seen_in m.mode (look start) access page
+  seen_same page = ap (λ (a : Access). seen_by m.mode page (usable (get b.set page) a (wp_of b)) a (wp_of b) (fresh b.ram m.frames b.cpu.cr3 (pse_of b.cpu) page)) access_is
 
-  module _ (insn : Insn) (len : ℕ) (t : Space) (p : IsFetch (not kernel) eip insn len start t) where
-    first : FetchSeen (not kernel) start p.first eip (front_len eip) p.front
-    first = fetch_seen m b kernel start p.first eip (front_len eip) p.front p.reads
+  page_small : eip / 4096 < 2 ^ 20
+  page_small = omega (arith, small)
 
-    marks : AreMarked b.ram p.first.ram
-    marks = (fetch_through m b kernel [] start p.first eip (front_len eip) p.front start_in (omega (arith, small)) (λ c. absurd (none_before (eip / 4096) c)) p.reads).through.marks
+  abbrev next : ℕ
+  next = next_page eip / 4096
+
+  next_other : (next == eip / 4096) ≡ false
+  next_other = is_false (next == eip / 4096) (λ e. let is = eq_told next (eip / 4096) e in omega (arith, is))
+
+  other_next : (eip / 4096 == next) ≡ false
+  other_next = is_false (eip / 4096 == next) (λ e. let is = eq_told (eip / 4096) next e in omega (arith, is))
+
+  next_small : (eip / 4096 == 1048575) ≡ false → next < 2 ^ 20
+  next_small not_last =
+      let other : eip / 4096 ≡ 1048575 → ⊥ = λ e. clash (eip / 4096 == 1048575) (eq_true (eip / 4096) 1048575 e) not_last in
+      omega (arith, small, other)
+
+  -- ---- behind a fetch of the first page
+
+  module _ (front : List ℕ) (first : Space) (reads : fetching (not kernel) eip (front_len eip) start ≡ Ok (front, first)) where
+    one : FetchSeen (not kernel) start first eip (front_len eip) front
+    one = fetch_seen m b kernel start first eip (front_len eip) front page_small reads
+
+    through : FetchThrough m b kernel [] start first eip (front_len eip) front
+    through = fetch_through m b kernel [] start first eip (front_len eip) front start_in page_small (λ c. absurd (none_before (eip / 4096) c)) reads
 
     abbrev x : Seen
-    x = first.page.x
+    x = one.page.x
 
-    from_first : uses_seen m b ≡ uses_behind m b p.first.ram p.front (decoded p.front)
+    from_first : uses_seen m b ≡ uses_behind m b x front (decoded front)
     from_first =
-        ap (uses_from m b) (seen_is (eip / 4096) (Some x) first.page.is)
-        ∙ ap (λ (l : List ℕ). uses_behind m b (marked b.ram x.marks) l (decoded l)) (sym first.bytes_are)
-        ∙ ap (λ (l : List ℕ). uses_behind m b l p.front (decoded p.front)) (sym first.page.ram)
+        ap (uses_from m b) (seen_same (eip / 4096) ∙ one.page.is)
+        ∙ ap (λ (l : List ℕ). uses_behind m b x l (decoded l)) (sym one.bytes_are)
 
-    first_went : p.first.visited ≡ eip / 4096 ∷ []
-    first_went = fetching_went (not kernel) eip (front_len eip) start p.front p.first p.reads
+    first_went : first.visited ≡ eip / 4096 ∷ []
+    first_went = fetching_went (not kernel) eip (front_len eip) start front first reads
 
+    -- while the second page is translated
+    abbrev before : Space
+    before = record first { mode = with_front first.mode (place first eip) (front_len eip) }
+
+    place_is : place first eip ≡ 4096 * x.frame + eip % 4096
+    unfolding place
+    place_is =
+        let sum : one.page.entry.frame * 4096 + eip % 4096 ≡ 4096 * x.frame + eip % 4096 = let frame = one.page.frame_is in omega (arith, frame) in
+        ap (λ (o : Option Entry). place_by o eip) one.page.kept ∙ sum
+
+    own_is : (k : ℕ) → is_own before.mode k ≡ is_front b x k
+    own_is k =
+        ap (λ (z : Mode). is_own (with_front z (place first eip) (front_len eip)) k) (through.through.mode ∙ mode)
+        ∙ front_own m.image (place first eip) (front_len eip) k
+        ∙ ap (λ n. nat_le n k && nat_lt k (n + front_len eip)) place_is
+
+    marks_are : (marks : List ℕ) → marks_any before.mode before.ram marks ≡ marks_front b x marks
+    marks_are marks =
+        any_same (λ at. is_own before.mode at && not (has (byte before.ram at) 32)) (λ at. is_front b x at && not (has (byte (marked b.ram x.marks) at) 32)) (λ k.
+        ap (λ c. c && not (has (byte first.ram k) 32)) (own_is k) ∙ ap (λ (r : List ℕ). is_front b x k && not (has (byte r k) 32)) one.page.ram) marks
+
+    same_entry : seen_in before.mode (look before) access next ≡ seen_by m.mode next (usable (get b.set next) access (wp_of b)) access (wp_of b) (fresh first.ram m.frames b.cpu.cr3 (pse_of b.cpu) next)
+    same_entry =
+        let f = one.page in
+        owned_alike first.mode (place first eip) (front_len eip) next (usable (get first.set next) access first.wp) access first.wp (fresh first.ram first.frames first.cr3 first.pse next)
+        ∙ ap (λ (z : Mode). seen_by z next (usable (get first.set next) access first.wp) access first.wp (fresh first.ram first.frames first.cr3 first.pse next)) through.through.mode
+        ∙ ap (λ (e : Option Entry). seen_by m.mode next (usable e access first.wp) access first.wp (fresh first.ram first.frames first.cr3 first.pse next)) (f.others next next_other)
+        ∙ ap (λ (w : Bool). seen_by m.mode next (usable (get b.set next) access w) access w (fresh first.ram first.frames first.cr3 first.pse next)) f.wp
+        ∙ ap (λ (n : ℕ). seen_by m.mode next (usable (get b.set next) access (wp_of b)) access (wp_of b) (fresh first.ram n first.cr3 first.pse next)) f.frames
+        ∙ ap (λ (n : ℕ). seen_by m.mode next (usable (get b.set next) access (wp_of b)) access (wp_of b) (fresh first.ram m.frames n first.pse next)) f.cr3
+        ∙ ap (λ (w : Bool). seen_by m.mode next (usable (get b.set next) access (wp_of b)) access (wp_of b) (fresh first.ram m.frames b.cpu.cr3 w next)) f.pse
+
+    module _ (not_last : (eip / 4096 == 1048575) ≡ false) where
+      to_before : (y : Seen) (o : Option Entry) → seen_by m.mode next o access (wp_of b) (fresh first.ram m.frames b.cpu.cr3 (pse_of b.cpu) next) ≡ Some y → seen_by m.mode next o access (wp_of b) (fresh b.ram m.frames b.cpu.cr3 (pse_of b.cpu) next) ≡ Some y
+      to_before y (Some e) g = g
+      to_before y None g = found_before b.ram first.ram m.frames b.cpu.cr3 (pse_of b.cpu) m.mode next access (wp_of b) y through.through.marks (next_small not_last) room g
+
+      to_after : (y : Seen) (o : Option Entry) → seen_by m.mode next o access (wp_of b) (fresh b.ram m.frames b.cpu.cr3 (pse_of b.cpu) next) ≡ Some y → seen_by m.mode next o access (wp_of b) (fresh first.ram m.frames b.cpu.cr3 (pse_of b.cpu) next) ≡ Some y
+      to_after y (Some e) g = g
+      to_after y None g = found_after b.ram first.ram m.frames b.cpu.cr3 (pse_of b.cpu) m.mode next access (wp_of b) y through.through.marks (next_small not_last) room g
+
+      -- ---- behind a fetch of both
+
+      module _ (more : List ℕ) (after : Space) (reads_more : fetching (not kernel) (next_page eip) longest before ≡ Ok (more, after)) where
+        second : FetchSeen (not kernel) before after (next_page eip) longest more
+        second = fetch_seen m b kernel before after (next_page eip) longest more (next_small not_last) reads_more
+
+        abbrev y : Seen
+        y = second.page.x
+
+        next_is : next_seen m b x ≡ Some y
+        next_is =
+            ap (seen_behind b x) (seen_same next ∙ to_before y (usable (get b.set next) access (wp_of b)) (sym same_entry ∙ second.page.is))
+            ∙ passed_by (marks_front b x y.marks) None (Some y) (sym (marks_are y.marks) ∙ second.page.own)
+
+        more_is : more ≡ bytes_seen (marked (marked b.ram x.marks) y.marks) y (next_page eip) longest
+        more_is = second.bytes_are ∙ ap (λ (l : List ℕ). bytes_seen (marked l y.marks) y (next_page eip) longest) one.page.ram
+
+        on_is : uses_on b (marked b.ram x.marks) front (next_seen m b x) ≡ fetch_uses b (eip / 4096 ∷ next ∷ []) ++ range_uses b (decoded (front ++ more))
+        on_is =
+            ap (uses_on b (marked b.ram x.marks) front) next_is
+            ∙ ap (λ (l : List ℕ). fetch_uses b (eip / 4096 ∷ next ∷ []) ++ range_uses b (decoded (front ++ l))) (sym more_is)
+
+        uses_two : decoded front ≡ begins.Short → uses_seen m b ≡ fetch_uses b (eip / 4096 ∷ next ∷ []) ++ range_uses b (decoded (front ++ more))
+        uses_two cut =
+            from_first
+            ∙ ap (uses_behind m b x front) cut
+            ∙ passed_by (eip / 4096 == 1048575) (fetch_uses b (eip / 4096 ∷ [])) (uses_on b (marked b.ram x.marks) front (next_seen m b x)) not_last
+            ∙ on_is
+
+  -- ---- where the fetch gives an instruction
+
+  module _ (insn : Insn) (len : ℕ) (t : Space) (p : IsFetch (not kernel) eip insn len start t) where
     in_one : IsIn eip insn len p.front p.first t → fetch_uses b t.visited ++ range_uses b (begins.Insn insn len) ≡ uses_seen m b
-    in_one h = ap (λ (l : List ℕ). fetch_uses b l ++ range_uses b (begins.Insn insn len)) (h.visited ∙ first_went) ∙ sym (from_first ∙ ap (uses_behind m b p.first.ram p.front) h.is)
+    in_one h =
+        ap (λ (l : List ℕ). fetch_uses b l ++ range_uses b (begins.Insn insn len)) (h.visited ∙ first_went p.front p.first p.reads)
+        ∙ sym (from_first p.front p.first p.reads ∙ ap (uses_behind m b (x p.front p.first p.reads) p.front) h.is)
 
-    module _ (h : IsPast (not kernel) eip insn len p.front p.first t) where
-      abbrev next : ℕ
-      next = next_page eip / 4096
-
-      before_is : look p.first ≡ look h.on.before
-      before_is = ap look (front_is eip (front_len eip) p.first h.on.before tt h.on.owns)
-
-      second : FetchSeen (not kernel) h.on.before h.on.after (next_page eip) longest h.on.more
-      second = fetch_seen m b kernel h.on.before h.on.after (next_page eip) longest h.on.more h.on.reads
-
-      abbrev y : Seen
-      y = second.page.x
-
-      next_other : (next == eip / 4096) ≡ false
-      next_other = is_false (next == eip / 4096) (λ e. let is = eq_told next (eip / 4096) e in omega (arith, is))
-
-      next_small : next < 2 ^ 20
-      next_small =
-          let other : eip / 4096 ≡ 1048575 → ⊥ = λ e. Rattle.native_steps.proofs.Choices.clash (eip / 4096 == 1048575) (eq_true (eip / 4096) 1048575 e) h.not_last in
-          omega (arith, small, other)
-
-      -- as the first page's fetch left it
-      there : seen_in (look p.first) access next ≡ Some y
-      there = ap (λ (z : Look). seen_in z access next) before_is ∙ second.page.is
-
-      -- and as it was before
-      by_use : (o : Option Entry) → usable (get b.set next) access (wp_of b) ≡ o → seen_by o access (wp_of b) (fresh p.first.ram m.frames b.cpu.cr3 (pse_of b.cpu) next) ≡ Some y → seen_by o access (wp_of b) (fresh b.ram m.frames b.cpu.cr3 (pse_of b.cpu) next) ≡ Some y
-      by_use (Some e) is g = g
-      by_use None is g = found_before b.ram p.first.ram m.frames b.cpu.cr3 (pse_of b.cpu) next access (wp_of b) y marks next_small room g
-
-      same_entry : seen_in (look p.first) access next ≡ seen_by (usable (get b.set next) access (wp_of b)) access (wp_of b) (fresh p.first.ram m.frames b.cpu.cr3 (pse_of b.cpu) next)
-      same_entry =
-          let f = first.page in
-          ap (λ (e : Option Entry). seen_by (usable e access p.first.wp) access p.first.wp (fresh p.first.ram p.first.frames p.first.cr3 p.first.pse next)) (f.others next next_other)
-          ∙ ap (λ (w : Bool). seen_by (usable (get b.set next) access w) access w (fresh p.first.ram p.first.frames p.first.cr3 p.first.pse next)) f.wp
-          ∙ ap (λ (n : ℕ). seen_by (usable (get b.set next) access (wp_of b)) access (wp_of b) (fresh p.first.ram n p.first.cr3 p.first.pse next)) f.frames
-          ∙ ap (λ (n : ℕ). seen_by (usable (get b.set next) access (wp_of b)) access (wp_of b) (fresh p.first.ram m.frames n p.first.pse next)) f.cr3
-          ∙ ap (λ (w : Bool). seen_by (usable (get b.set next) access (wp_of b)) access (wp_of b) (fresh p.first.ram m.frames b.cpu.cr3 w next)) f.pse
-
-      next_seen : seen m b next ≡ Some y
-      next_seen = seen_is next (Some y) (by_use (usable (get b.set next) access (wp_of b)) refl (sym same_entry ∙ there))
-
-      ram_is : h.on.before.ram ≡ p.first.ram
-      ram_is = ap (λ (z : Look). z.ram) (sym before_is)
-
-      more_is : h.on.more ≡ bytes_seen (marked p.first.ram y.marks) y (next_page eip) longest
-      more_is = second.bytes_are ∙ ap (λ (l : List ℕ). bytes_seen (marked l y.marks) y (next_page eip) longest) ram_is
-
-      went_is : t.visited ≡ eip / 4096 ∷ next ∷ []
-      went_is = h.on.visited ∙ ap (λ (l : List ℕ). l ++ next ∷ []) first_went
-
-      in_two : fetch_uses b t.visited ++ range_uses b (begins.Insn insn len) ≡ uses_seen m b
-      in_two =
-          ap (λ (l : List ℕ). fetch_uses b l ++ range_uses b (begins.Insn insn len)) went_is
-          ∙ sym (
-          from_first
-          ∙ ap (uses_behind m b p.first.ram p.front) h.cut
-          ∙ passed_by (eip / 4096 == 1048575) (fetch_uses b (eip / 4096 ∷ [])) (uses_on b p.first.ram p.front (seen m b next)) h.not_last
-          ∙ ap (uses_on b p.first.ram p.front) next_seen
-          ∙ ap (λ (d : Decoded). fetch_uses b (eip / 4096 ∷ next ∷ []) ++ range_uses b d) (ap (λ (l : List ℕ). decoded (p.front ++ l)) (sym more_is) ∙ h.on.is)
-          )
+    in_two : IsPast (not kernel) eip insn len p.front p.first t → fetch_uses b t.visited ++ range_uses b (begins.Insn insn len) ≡ uses_seen m b
+    in_two h =
+        let before_is : before p.front p.first p.reads ≡ h.on.before = front_is eip (front_len eip) p.first h.on.before tt h.on.owns in
+        let more : fetching (not kernel) (next_page eip) longest (before p.front p.first p.reads) ≡ Ok (h.on.more, h.on.after) = ap (fetching (not kernel) (next_page eip) longest) before_is ∙ h.on.reads in
+        let went : t.visited ≡ eip / 4096 ∷ next ∷ [] = h.on.visited ∙ ap (λ (l : List ℕ). l ++ next ∷ []) (first_went p.front p.first p.reads) in
+        ap (λ (l : List ℕ). fetch_uses b l ++ range_uses b (begins.Insn insn len)) went
+        ∙ ap (λ (d : Decoded). fetch_uses b (eip / 4096 ∷ next ∷ []) ++ range_uses b d) (sym h.on.is)
+        ∙ sym (uses_two p.front p.first p.reads h.not_last h.on.more h.on.after more h.cut)
 
     both_seen : IsIn eip insn len p.front p.first t ⊎ IsPast (not kernel) eip insn len p.front p.first t → fetch_uses b t.visited ++ range_uses b (begins.Insn insn len) ≡ uses_seen m b
     both_seen (inl h) = in_one h
     both_seen (inr h) = in_two h
 
-  found : (insn : Insn) (len : ℕ) (t : Space) → fetched (not kernel) eip start ≡ Ok (begins.Insn insn len, t) → fetch_uses b t.visited ++ range_uses b (begins.Insn insn len) ≡ uses_seen m b
+  found : (insn : Insn) (len : ℕ) (t : Space) → fetched (b.cpu.cpl == 3) eip start ≡ Ok (begins.Insn insn len, t) → uses_at m b ≡ uses_seen m b
   found insn len t e =
-      let p = fetch_parts (not kernel) eip insn len start t e in
-      both_seen insn len t p (by_parts (not kernel) eip insn len p.front p.first t (decoded p.front) refl p.goes_on)
+      let p = fetch_parts (not kernel) eip insn len start t (ap (λ (u : Bool). fetched u eip start) (sym user) ∙ e) in
+      ap (uses_by b) e ∙ both_seen insn len t p (by_parts (not kernel) eip insn len p.front p.first t (decoded p.front) refl p.goes_on)
+
+  -- ---- where a look finds a clash
+
+  abbrev Clashes : List Use → Type 0
+  Clashes uses = clash_in (get b.set) (protects b) uses ≡ true
+
+  module _ (h : Clashes (uses_seen m b)) where
+    none_clear : {A : Type 0} (uses : List Use) → uses_seen m b ≡ uses → clash_in (get b.set) (protects b) uses ≡ false → A
+    none_clear uses is none = absurd (let f : true ≡ false = sym h ∙ ap (clash_in (get b.set) (protects b)) is ∙ none in cc)
+
+    -- the fetch gives an instruction
+    at_instruction : (insn : Insn) (len : ℕ) (t : Space) → fetched (not kernel) eip start ≡ Ok (begins.Insn insn len, t) → instruction_clashes m b ≡ true
+    unfolding instruction_clashes
+    at_instruction insn len t e = ap (clash_in (get b.set) (protects b)) (found insn len t (ap (λ (u : Bool). fetched u eip start) user ∙ e)) ∙ h
+
+    module _ (front : List ℕ) (first : Space) (reads : fetching (not kernel) eip (front_len eip) start ≡ Ok (front, first)) where
+      fetched_is : (d : Decoded) → decoded front ≡ d → fetched (not kernel) eip start ≡ fetched_by (not kernel) eip front d first
+      unfolding fetched
+      fetched_is d is =
+          ap (λ (o : Outcome Refusal (List ℕ)). on_value o (λ (l : List ℕ). fetched_by (not kernel) eip l (decoded l))) reads
+          ∙ ap (λ (z : Decoded). fetched_by (not kernel) eip front z first) is
+
+      ended_in : (insn : Insn) (len : ℕ) → decoded front ≡ begins.Insn insn len → instruction_clashes m b ≡ true
+      unfolding owning_front
+      ended_in insn len is = at_instruction insn len (record first { mode = with_front first.mode (place first eip) len }) (fetched_is (begins.Insn insn len) is)
+
+      module _ (not_last : (eip / 4096 == 1048575) ≡ false) (cut : decoded front ≡ begins.Short) where
+        fetched_more : fetched (not kernel) eip start ≡ fetched_on (not kernel) eip front first
+        fetched_more =
+            fetched_is begins.Short cut
+            ∙ ap (λ (last : Bool). cond last (refuses (refusal.Stop stops.WrapAccess)) (fetched_on (not kernel) eip front) first) not_last
+
+        module _ (more : List ℕ) (after : Space) (reads_more : fetching (not kernel) (next_page eip) longest (before front first reads) ≡ Ok (more, after)) where
+          on_more : (d : Decoded) → decoded (front ++ more) ≡ d → fetched_on (not kernel) eip front first ≡ owned eip d after
+          unfolding fetched_on owning_front
+          on_more d is =
+              ap (λ (o : Outcome Refusal (List ℕ)). on_value o (λ (l : List ℕ). owned eip (decoded (front ++ l)))) reads_more
+              ∙ ap (λ (z : Decoded). owned eip z after) is
+
+          two_are : (d : Decoded) → decoded (front ++ more) ≡ d → uses_seen m b ≡ fetch_uses b (eip / 4096 ∷ next ∷ []) ++ range_uses b d
+          two_are d is = uses_two front first reads not_last more after reads_more cut ∙ ap (λ (z : Decoded). fetch_uses b (eip / 4096 ∷ next ∷ []) ++ range_uses b z) is
+
+          ended_past : (d : Decoded) → decoded (front ++ more) ≡ d → instruction_clashes m b ≡ true
+          unfolding owning_back
+          ended_past (begins.Insn insn len) is =
+              at_instruction insn len (record after { mode = with_back after.mode (place after (next_page eip)) (len - front_len eip) }) (fetched_more ∙ on_more (begins.Insn insn len) is)
+          ended_past begins.Short is = none_clear (fetch_uses b (eip / 4096 ∷ next ∷ [])) (two_are begins.Short is) (two_clear b (eip / 4096) next other_next)
+          ended_past begins.Outside is = none_clear (fetch_uses b (eip / 4096 ∷ next ∷ [])) (two_are begins.Outside is) (two_clear b (eip / 4096) next other_next)
+
+        seen_on : (o : Option Seen) → seen m b next ≡ o → instruction_clashes m b ≡ true
+        seen_on None is = none_clear (fetch_uses b (eip / 4096 ∷ next ∷ [])) (cut_is (ap (seen_behind b (x front first reads)) is)) (two_clear b (eip / 4096) next other_next)
+          where
+            cut_is : next_seen m b (x front first reads) ≡ None → uses_seen m b ≡ fetch_uses b (eip / 4096 ∷ next ∷ [])
+            cut_is none =
+                from_first front first reads
+                ∙ ap (uses_behind m b (x front first reads) front) cut
+                ∙ passed_by (eip / 4096 == 1048575) (fetch_uses b (eip / 4096 ∷ [])) (uses_on b (marked b.ram (x front first reads).marks) front (next_seen m b (x front first reads))) not_last
+                ∙ ap (uses_on b (marked b.ram (x front first reads).marks) front) none
+        seen_on (Some y) is = by_marks (marks_front b (x front first reads) y.marks) refl
+          where
+            cut_is : next_seen m b (x front first reads) ≡ None → uses_seen m b ≡ fetch_uses b (eip / 4096 ∷ next ∷ [])
+            cut_is none =
+                from_first front first reads
+                ∙ ap (uses_behind m b (x front first reads) front) cut
+                ∙ passed_by (eip / 4096 == 1048575) (fetch_uses b (eip / 4096 ∷ [])) (uses_on b (marked b.ram (x front first reads).marks) front (next_seen m b (x front first reads))) not_last
+                ∙ ap (uses_on b (marked b.ram (x front first reads).marks) front) none
+
+            by_marks : (c : Bool) → marks_front b (x front first reads) y.marks ≡ c → instruction_clashes m b ≡ true
+            by_marks true e =
+                none_clear (fetch_uses b (eip / 4096 ∷ next ∷ [])) (cut_is (ap (seen_behind b (x front first reads)) is ∙ ap (λ (c : Bool). cond {A = Option Seen} c None (Some y)) e)) (two_clear b (eip / 4096) next other_next)
+            by_marks false e =
+                let there = same_entry front first reads ∙ to_after front first reads not_last y (usable (get b.set next) access (wp_of b)) (sym (seen_same next) ∙ is) in
+                let f = fetch_found m b kernel (before front first reads) (next_page eip) longest y (next_small not_last) there (marks_are front first reads y.marks ∙ e) in
+                ended_past f.bytes f.after f.reads (decoded (front ++ f.bytes)) refl
+
+      by_last : decoded front ≡ begins.Short → (last : Bool) → (eip / 4096 == 1048575) ≡ last → instruction_clashes m b ≡ true
+      by_last cut true is =
+          none_clear (fetch_uses b (eip / 4096 ∷ []))
+          (from_first front first reads ∙ ap (uses_behind m b (x front first reads) front) cut
+          ∙ chosen (eip / 4096 == 1048575) (fetch_uses b (eip / 4096 ∷ [])) (uses_on b (marked b.ram (x front first reads).marks) front (next_seen m b (x front first reads))) is)
+          (one_clear b (eip / 4096))
+      by_last cut false is = seen_on is cut (seen m b next) refl
+
+      by_decoded : (d : Decoded) → decoded front ≡ d → instruction_clashes m b ≡ true
+      by_decoded (begins.Insn insn len) is = ended_in insn len is
+      by_decoded begins.Short is = by_last is (eip / 4096 == 1048575) refl
+      by_decoded begins.Outside is = none_clear (fetch_uses b (eip / 4096 ∷ [])) (from_first front first reads ∙ ap (uses_behind m b (x front first reads) front) is) (one_clear b (eip / 4096))
+
+    by_first : (o : Option Seen) → seen m b (eip / 4096) ≡ o → instruction_clashes m b ≡ true
+    by_first None is = none_clear (fetch_uses b (eip / 4096 ∷ [])) (ap (uses_from m b) is) (one_clear b (eip / 4096))
+    by_first (Some z) is =
+        let none : marks_any m.mode b.ram z.marks ≡ false =
+        any_none (λ at. is_own m.mode at && not (has (byte b.ram at) 32)) (λ k. ap (λ (w : Mode). is_own w k && not (has (byte b.ram k) 32)) mode ∙ ap (λ c. c && not (has (byte b.ram k) 32)) (none_own m.image k)) z.marks in
+        let f = fetch_found m b kernel start eip (front_len eip) z page_small (sym (seen_same (eip / 4096)) ∙ is) none in
+        by_decoded f.bytes f.after f.reads (decoded f.bytes) refl
+
+    clashes : instruction_clashes m b ≡ true
+    clashes = by_first (seen m b (eip / 4096)) refl
 
 not_not : (u : Bool) → u ≡ not (not u)
 not_not true = refl
 not_not false = refl
 
 pub uses_are_seen : UsesAreSeen
-uses_are_seen m b mode room fit small insn len t e =
-    let u : Bool = b.cpu.cpl == 3 in
-    let user : (b.cpu.cpl == 3) ≡ not (not u) = not_not u in
-    ap (uses_by b) e ∙ found m b (not u) mode room fit small user insn len t (ap (λ (x : Bool). fetched x b.cpu.regs.eip (space_at_start m.mode m.frames b.cpu b.ram b.set)) (sym user) ∙ e)
+uses_are_seen m b mode room fit small insn len t e = found m b (not (b.cpu.cpl == 3)) mode room fit small (not_not (b.cpu.cpl == 3)) insn len t e
+
+pub looks_agree : LooksAgree
+looks_agree m b mode room fit small h = clashes m b (not (b.cpu.cpl == 3)) mode room fit small (not_not (b.cpu.cpl == 3)) h

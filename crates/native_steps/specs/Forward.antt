@@ -16,6 +16,7 @@ use Rattle.host_cpl3.specs.HostStep.{host_step}
 use Rattle.machine_model.specs.State.{Setting, State}
 use Rattle.machine_model.specs.Rules.{is_start}
 use Rattle.machine_model.specs.Step as step
+use Rattle.machine_model.specs.Taken.{is_load}
 use Rattle.native_steps.specs.Lends.{Lends, IsUnlent, AreKept}
 use Rattle.native_steps.specs.Stands.{IsWedge, Stands}
 use Rattle.machine_model.specs.Counts.{is_direct}
@@ -35,8 +36,8 @@ pub record IsNext (m : Setting) (kernel : Bool) (b : State) : Type 0 where
   pub start : kernel ≡ true → is_start m.image b.cpu.regs.eip ≡ true
   pub outside : kernel ≡ true → site_at m.image.sites (b.cpu.regs.eip - 0x10000000) ≡ None
 
--- The guest's step goes, with nothing seen and no walk. Its instruction counts, and leaves these registers and, over this memory,
--- the guest's. Nothing else changes but the board, and that a hold ends; IF stays. Of the host's memory nothing behind the
+-- The guest's step goes, with nothing seen and no walk. Its instruction counts, loads no CR3, and leaves these registers and, over
+-- this memory, the guest's. Nothing else changes but the board, and that a hold ends; IF stays. Of the host's memory nothing behind the
 -- guest's frames has changed, and of the guest's no frame to which the tables let no write pass.
 pub record Follows (m : Setting) (v : View) (b : State) (memory : List ℕ) (regs : Regs) (after_memory : List ℕ) : Type 0 where
   pub report : step.Report
@@ -47,6 +48,7 @@ pub record Follows (m : Setting) (v : View) (b : State) (memory : List ℕ) (reg
   pub pages : AreKept b.set report.pages
   pub completed : step.Completed
   pub completes : report.completed ≡ Some completed
+  pub through : is_load report.completed ≡ false
   pub direct : is_direct m.image.sites completed ≡ true
   pub eip : completed.eip ≡ b.cpu.regs.eip
   pub cpu : after.cpu ≡ record b.cpu { regs = regs; held = false }

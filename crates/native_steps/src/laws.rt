@@ -2,7 +2,7 @@ ghost use Rattle.native_steps.specs.Forward.{Forward, NotEntered, AtSites};
 ghost use Rattle.native_steps.specs.Backward.{Backward, NativeCompletes};
 ghost use Rattle.native_steps.specs.Again.{Again};
 ghost use Rattle.native_steps.specs.Stretch.{Advances};
-ghost use Rattle.native_steps.specs.Looking.{MarksAreRead, UsesAreSeen};
+ghost use Rattle.native_steps.specs.Looking.{LooksAgree, MarksAreRead, UsesAreSeen};
 
 use crate::effects::effects;
 use crate::texts::texts;
@@ -70,8 +70,10 @@ pub fn advances()
     steps_are_quiet();
 }
 
-/// By what is kept, and by walks that set nothing, a program finds the pages that the next instruction uses.
+/// By what is kept, and by walks that set nothing, a program finds the pages that the next instruction uses, and no clash
+/// that this instruction doesn't have.
 pub fn uses_are_seen()
     ensures uses { UsesAreSeen }
+    ensures clashes { LooksAgree }
     ensures bytes { MarksAreRead }
 {}

@@ -18,6 +18,7 @@ pub mod Released
 pub mod Sights
 pub mod Texts
 pub mod Joined
+pub mod Passed
 pub mod Going
 pub mod Keeping
 pub mod Asked
