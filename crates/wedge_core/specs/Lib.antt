@@ -21,5 +21,4 @@ pub mod Filled
 pub mod Ready
 pub mod Leaving
 pub mod Carried
-pub mod RootsTmp
 pub mod CarryLaws

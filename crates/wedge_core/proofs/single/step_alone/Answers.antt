@@ -9,7 +9,7 @@ use Rattle.native_steps.proofs.Shown.{shown_length}
 use Rattle.kept_laws.specs.Carried.{indices_in}
 use Rattle.wedge_core.specs.Carried.{IsCarried, IsTakenFrom}
 use Rattle.wedge_core.specs.Closed.{MayClose}
-use Rattle.wedge_core.specs.RootsTmp.{RootsAs}
+use Rattle.machine_step.specs.Roots.{RootsAs}
 use Rattle.wedge_core.proofs.Carrying.{IsAnswer, answer_from}
 use Rattle.wedge_core.proofs.Ended.{IsDone, known_went, may_close_used, index_used}
 use Rattle.descriptors.specs.declared.cpu.Cpu.{Cpu}
@@ -335,10 +335,10 @@ module _ (g : Over) (c : goal.After-go g) (script : Events) (steps : List Taken)
         omega (arith, same, frames, counted, free)
 
     uses : Uses ((running g e).cpu.cpl == 3) (space_at (λ r. entries_of (g.S.Shadows.slots (running g e).shadows r)) (ram0 g e) c.begin-state.result) (s1 g e script)
-    uses = ?
+    uses = rw c.in-Ok.is at c.step_in-outcome.ensures.uses
 
     roots : RootsAs (running g e).cpu c.in-Ok.worked
-    roots = ?
+    roots = rw c.in-Ok.is at c.step_in-outcome.ensures.roots
 
     may : MayClose c.text_frames-count.result (side_of ((running g e).cpu.cpl == 3)) (changed (entries_of (g.S.Shadows.slots (running g e).shadows (ram1 g e))) state.changes) (pages_of state.visited state.changes) (length (free_list c.args.pool.now (ram1 g e)))
     may =
