@@ -1,13 +1,15 @@
 -- What a run knows between two of its steps goes on over its steps.
-use Rattle.std.proofs.Common.{◌≡◌, ℕ, List, [], ◌∷◌, ◌++◌, Bool, true, false, cond, not, refl, sym, ap, subst, ◌∙◌, ◌⊎◌, inl, inr}
+use Rattle.std.proofs.Common.{◌≡◌, ℕ, ◌*◌, ◌≤◌, length, List, [], ◌∷◌, ◌++◌, Bool, true, false, cond, not, refl, sym, ap, subst, ◌∙◌, ◌⊎◌, inl, inr}
 use Rattle.std.specs.List.{All}
 use Rattle.std.specs.FinMap.{empty}
 use Rattle.std.proofs.lemmas.List.Elements.{All-head, All-tail, All-cons, All-nil, All-append}
+use Rattle.guest_ram.specs.Bytes.{AreBytes}
 use Rattle.paging.specs.Fresh.{has}
 use Rattle.descriptors.specs.Controls.{pse_of}
 use Rattle.shadow_tables.specs.Aside.{Aside, AreSame, LoseWrites, all_spared}
 use Rattle.shadow_tables.specs.Entries.{entries_of}
 use Rattle.machine_model.specs.State.{Setting, State}
+use Rattle.machine_model.specs.Step.{Went, step_of}
 use Rattle.machine_model.specs.Run.{Set}
 use Rattle.machine_model.specs.Taken.{Taken, loads_root, changes_protection}
 use Rattle.machine_model.specs.Clash.{clashes_from}
@@ -15,7 +17,7 @@ use Rattle.kept_laws.specs.Remembered.{ComesFrom, Unwritten, IsOwed, IsRemembere
 use Rattle.kept_laws.specs.OverSteps.{IsTold, IsCause}
 use Rattle.kept_laws.specs.Judged.{AllFound, IsFoundStill, FoundGoesOn}
 use Rattle.kept_laws.specs.Carried.{IsReadyFor, NextIsKept}
-use Rattle.kept_laws.specs.Known.{IsOfPages, IsNextKept, IsKnown, RulesStay, StayAside, EmptyAside, IsStep, KnownAtStart, KnownStill, KnownPast, KnownOn}
+use Rattle.kept_laws.specs.Known.{IsOfPages, IsNextKept, IsKnown, RulesStay, StayAside, EmptyAside, IsStep, IsPast, KnownAtStart, KnownStill, KnownPast, KnownQuiet, KnownOn}
 use Rattle.kept_laws.proofs.Counts.{clash}
 use Rattle.kept_laws.proofs.Owed.{causes_owe_nothing}
 use Rattle.kept_laws.proofs.OwedStays.{start_remembers, still_remembers, dropped_remembers, steps_remember, same_remembers, loads_remember}
@@ -55,9 +57,9 @@ at_split : {X : Type 0} (P : X → Type 0) (xs : List X) (y : X) (ys : List X) �
 at_split P [] y ys h = All-head P y ys h
 at_split P (x ∷ xs) y ys h = at_split P xs y ys (All-tail P x (xs ++ y ∷ ys) h)
 
-pages_more : (m : Setting) (steps : List Taken) (t : Taken) → IsStep m t → All (λ (u : Taken). IsOfPages u.set) steps → All (λ (u : Taken). IsOfPages u.set) (steps ++ t ∷ [])
-pages_more m steps t step h =
-    All-append (λ (u : Taken). IsOfPages u.set) steps (t ∷ []) h (All-cons (λ (u : Taken). IsOfPages u.set) t [] step.of_pages (All-nil (λ (u : Taken). IsOfPages u.set)))
+pages_more : (m : Setting) (steps : List Taken) (t : Taken) → IsOfPages t.set → All (λ (u : Taken). IsOfPages u.set) steps → All (λ (u : Taken). IsOfPages u.set) (steps ++ t ∷ [])
+pages_more m steps t here h =
+    All-append (λ (u : Taken). IsOfPages u.set) steps (t ∷ []) h (All-cons (λ (u : Taken). IsOfPages u.set) t [] here (All-nil (λ (u : Taken). IsOfPages u.set)))
 
 -- what a step without a load left is kept, or nothing where the step changed CR0.WP
 abbrev IsLeft : Taken → Set → Type 0
@@ -67,13 +69,24 @@ IsLeft t kept = loads_root t ≡ false → (kept ≡ t.after.set) ⊎ ((kept ≡
 abbrev IsBack : Setting → List Taken → Taken → Set → Type 0
 IsBack m steps t kept = loads_root t ≡ true → (old : List Taken) (left : Taken) (since : List Taken) → IsOwed m (steps ++ t ∷ []) t.after t.after.cpu.cr3 old left since → ComesFrom left kept
 
-over : FoundGoesOn → NextIsKept → (m : Setting) (steps : List Taken) (t : Taken) (noted : ℕ → Bool) (marked : Bool) (asides : List Aside) (kept : Set) → IsStep m t
+-- what the law of the next step asks of the memory that a load left
+record IsLaidOut (m : Setting) (t : Taken) : Type 0 where
+  went : step_of m t.before t.set ≡ Went t.report t.after
+  of_pages : IsOfPages t.set
+  room : 4096 * m.frames ≤ length t.before.ram
+  room_after : loads_root t ≡ true → 4096 * m.frames ≤ length t.after.ram
+  bytes : loads_root t ≡ true → AreBytes t.after.ram
+
+laid_out : (m : Setting) (t : Taken) → IsStep m t → IsLaidOut m t
+laid_out m t step = record { went = step.went; of_pages = step.of_pages; room = step.room; room_after = λ e. step.room_after; bytes = λ e. step.bytes }
+
+over : FoundGoesOn → NextIsKept → (m : Setting) (steps : List Taken) (t : Taken) (noted : ℕ → Bool) (marked : Bool) (asides : List Aside) (kept : Set) → IsLaidOut m t
     → (loads_root t ≡ true → Unwritten (steps ++ t ∷ []) → AllFound m t.before t.before.cpu.cr3 steps t.set)
     → IsFoundStill m steps t.before → All (λ (u : Taken). IsOfPages u.set) steps → IsRemembered m (steps ++ t ∷ []) t.after noted marked asides → IsLeft t kept → IsBack m steps t kept
     → IsKnown m (steps ++ t ∷ []) t.after noted marked asides kept
 over goes_on law m steps t noted marked asides kept step finds found pages remembered left back =
     let still_found : IsFoundStill m (steps ++ t ∷ []) t.after = goes_on m steps t step.went step.room finds found in
-    let of_pages : All (λ (u : Taken). IsOfPages u.set) (steps ++ t ∷ []) = pages_more m steps t step pages in
+    let of_pages : All (λ (u : Taken). IsOfPages u.set) (steps ++ t ∷ []) = pages_more m steps t step.of_pages pages in
     record {
       remembered = remembered;
       found = still_found;
@@ -89,10 +102,21 @@ over goes_on law m steps t noted marked asides kept step finds found pages remem
       });
     }
 
+past_by : FoundGoesOn → NextIsKept → (m : Setting) (steps : List Taken) (t : Taken) (noted : ℕ → Bool) (marked : Bool) (asides : List Aside) (kept : Set) → IsLaidOut m t → loads_root t ≡ false
+    → t.after.cpu.cr3 ≡ t.before.cpu.cr3 → IsKnown m steps t.before noted marked asides kept → IsKnown m (steps ++ t ∷ []) t.after noted marked asides t.after.set
+past_by goes_on law m steps t noted marked asides kept laid plain value k =
+    over goes_on law m steps t noted marked asides t.after.set laid (λ e u. clash (loads_root t) e plain) k.found k.of_pages
+    (same_remembers m steps t noted marked asides plain value k.remembered) (λ e. inl refl) (λ e old u since o. clash (loads_root t) e plain)
+
 pub known_past : FoundGoesOn → NextIsKept → KnownPast
 known_past goes_on law m steps t noted marked asides kept step plain k =
-    over goes_on law m steps t noted marked asides t.after.set step (λ e u. clash (loads_root t) e plain) k.found k.of_pages
-    (same_remembers m steps t noted marked asides plain (step.through plain) k.remembered) (λ e. inl refl) (λ e old u since o. clash (loads_root t) e plain)
+    past_by goes_on law m steps t noted marked asides kept (laid_out m t step) plain (step.through plain) k
+
+pub known_quiet : FoundGoesOn → NextIsKept → KnownQuiet
+known_quiet goes_on law m steps t noted marked asides kept past k =
+    past_by goes_on law m steps t noted marked asides kept
+    (record { went = past.went; of_pages = past.of_pages; room = past.room; room_after = λ e. clash (loads_root t) e past.plain; bytes = λ e. clash (loads_root t) e past.plain })
+    past.plain past.value k
 
 -- ---- the rules
 
@@ -177,7 +201,7 @@ known_on goes_on law m steps t noted noted2 marked marked2 slots2 asides asides2
   where
     known : IsRemembered m (steps ++ t ∷ []) t.after noted2 marked2 asides2 → IsLeft t (entries_of slots2) → IsBack m steps t (entries_of slots2)
         → IsKnown m (steps ++ t ∷ []) t.after noted2 marked2 asides2 (entries_of slots2)
-    known remembered left back = over goes_on law m steps t noted2 marked2 asides2 (entries_of slots2) step finds k.found k.of_pages remembered left back
+    known remembered left back = over goes_on law m steps t noted2 marked2 asides2 (entries_of slots2) (laid_out m t step) finds k.found k.of_pages remembered left back
 
     told : loads_root t ≡ false → IsRemembered m (steps ++ t ∷ []) t.after o.noted1 o.marked1 o.asides1
     told plain = steps_remember m steps t noted o.noted1 marked o.marked1 asides o.asides1 plain (step.through plain) o.told k.remembered

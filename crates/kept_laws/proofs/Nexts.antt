@@ -41,7 +41,7 @@ reloads follow over m steps t now kept loads r (inl is) old left since h =
 reloads follow over m steps t now kept loads r (inr k) old left since h =
     let o = returned m (steps ++ t ∷ []) now now.before t.after.cpu.cr3 old left since refl h in
     let by_rule : clashes m (steps ++ t ∷ []) now.before ≡ true =
-    clashes_are_judged follow over m steps t now.before kept old left since loads r.room r.bytes r.value r.found o (r.back loads old left since o).only (r.of_pages old left since o) k.1 in
+    clashes_are_judged follow over m steps t now.before kept old left since loads (r.room loads) (r.bytes loads) r.value r.found o (r.back loads old left since o).only (r.of_pages old left since o) k.1 in
     let apart : clashes m (steps ++ t ∷ []) now.before ≡ false = subst (λ (l : List Taken). clashes m l now.before ≡ false) (sym h.split) (h.apart since now [] refl) in
     clash (clashes m (steps ++ t ∷ []) now.before) by_rule apart
 

@@ -18,8 +18,8 @@ pub record IsReadyFor (m : Setting) (steps : List Taken) (t : Taken) (b : State)
   pub back : loads_root t ≡ true → (old : List Taken) (left : Taken) (since : List Taken) → IsOwed m (steps ++ t ∷ []) b t.after.cpu.cr3 old left since → ComesFrom left kept
   pub found : IsFoundStill m (steps ++ t ∷ []) b
   pub value : b.cpu.cr3 ≡ t.after.cpu.cr3
-  pub room : 4096 * m.frames ≤ length b.ram
-  pub bytes : AreBytes b.ram
+  pub room : loads_root t ≡ true → 4096 * m.frames ≤ length b.ram
+  pub bytes : loads_root t ≡ true → AreBytes b.ram
   pub of_pages : (old : List Taken) (left : Taken) (since : List Taken) → IsOwed m (steps ++ t ∷ []) b t.after.cpu.cr3 old left since → (page : ℕ) → 2 ^ 20 ≤ page → get left.set page ≡ None
 
 -- The next step goes by what is kept, or by nothing where it clashes by that.

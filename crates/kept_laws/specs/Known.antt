@@ -83,6 +83,14 @@ pub record IsStep (m : Setting) (t : Taken) : Type 0 where
   pub through : loads_root t ≡ false → t.after.cpu.cr3 ≡ t.before.cpu.cr3
   pub emptied : (pse_of t.after.cpu ≡ pse_of t.before.cpu → ⊥) → t.after.set ≡ empty
 
+-- what is said of a step in which the run has no part, and that loads no CR3
+pub record IsPast (m : Setting) (t : Taken) : Type 0 where
+  pub went : step_of m t.before t.set ≡ Went t.report t.after
+  pub of_pages : IsOfPages t.set
+  pub room : 4096 * m.frames ≤ length t.before.ram
+  pub plain : loads_root t ≡ false
+  pub value : t.after.cpu.cr3 ≡ t.before.cpu.cr3
+
 -- At the start nothing is kept, and so is all known.
 abbrev pub KnownAtStart : Type 0
 KnownAtStart = (m : Setting) (b : State) (noted : ℕ → Bool) (marked : Bool) → ((frame : ℕ) → noted frame ≡ false) → marked ≡ false → IsKnown m [] b noted marked [] empty
@@ -98,6 +106,12 @@ KnownStill =
 abbrev pub KnownPast : Type 0
 KnownPast =
     (m : Setting) (steps : List Taken) (t : Taken) (noted : ℕ → Bool) (marked : Bool) (asides : List Aside) (kept : Set) → IsStep m t → loads_root t ≡ false
+    → IsKnown m steps t.before noted marked asides kept → IsKnown m (steps ++ t ∷ []) t.after noted marked asides t.after.set
+
+-- so each step that is done without a look at what is kept
+abbrev pub KnownQuiet : Type 0
+KnownQuiet =
+    (m : Setting) (steps : List Taken) (t : Taken) (noted : ℕ → Bool) (marked : Bool) (asides : List Aside) (kept : Set) → IsPast m t
     → IsKnown m steps t.before noted marked asides kept → IsKnown m (steps ++ t ∷ []) t.after noted marked asides t.after.set
 
 -- A step that the run has settled. What it went by was found from the directory in use, if it loads CR3.

@@ -1,6 +1,6 @@
 //! What a run knows between two of its steps.
 
-ghost use Rattle.kept_laws.specs.Known.{KnownAtStart, KnownStill, KnownPast, KnownOn};
+ghost use Rattle.kept_laws.specs.Known.{KnownAtStart, KnownStill, KnownPast, KnownQuiet, KnownOn};
 
 use crate::carrying::next_is_kept;
 use crate::judging::found_goes_on;
@@ -11,6 +11,7 @@ pub fn known_goes_on()
     ensures start { KnownAtStart }
     ensures still { KnownStill }
     ensures past { KnownPast }
+    ensures quiet { KnownQuiet }
     ensures on { KnownOn }
 {
     found_goes_on();

@@ -1,6 +1,6 @@
 //! Reading the instruction at a linear address.
 
-ghost use Rattle.std.specs.Prelude.{◌≡◌, ◌+◌, ◌*◌, ◌-◌, ◌/◌, ◌%◌, ◌<◌, ◌≤◌, ◌^◌, ◌++◌, [], length, List, ℕ, IfOk, IsSome, false};
+ghost use Rattle.std.specs.Prelude.{◌≡◌, ◌+◌, ◌*◌, ◌-◌, ◌/◌, ◌%◌, ◌<◌, ◌≤◌, ◌^◌, ◌++◌, [], length, List, ℕ, IfOk, IfErr, IsSome, false};
 ghost use Rattle.std.specs.FinMap.{get};
 ghost use Rattle.paging.specs.Space.{place};
 ghost use Rattle.paging.specs.Work.{Gives};
@@ -8,12 +8,14 @@ ghost use Rattle.step_mem.specs.Shown.{hidden};
 ghost use Rattle.step_mem.specs.Sound.{IsSound, space_at};
 ghost use Rattle.ia32_decode.specs.Front.{front_len};
 ghost use Rattle.machine_model.specs.Instruction.{fetching, fetched_on, fetched};
+ghost use Rattle.machine_model.specs.UsedPages.{Uses, AtRefusal};
 ghost use Rattle.machine_step.specs.Fetches.{GivesAs, IsSpelled};
 
 use arrayvec::ArrayVec;
 use guest_ram::Ram;
 use ia32_decode::{Decoded, decode};
 use ia32_types::Stop;
+use machine_model::works_use;
 use paging::Touch;
 use step_mem::{Kept, StepState, own_back, own_front};
 use sys_exec::Refusal;
@@ -25,8 +27,32 @@ type Bytes = ArrayVec<u8, 32>;
 
 /// The instruction at a linear address. Where the bytes of the first page are a proper prefix of a spelling, the
 /// second page is reached too.
-#[tactic(auto, unfolding(machine_model::specs::Instruction::fetched, machine_model::specs::Instruction::owning_front))]
 pub fn fetch<B: Kept>(
+    ram: &mut Ram,
+    kept: &B,
+    state: &mut StepState,
+    user: bool,
+    at: u32,
+) -> Result<Decoded, Refusal>
+    requires sound { IsSound (B.entries kept.now) (B.floor kept.now) (B.stands kept.now) ram.old state.old }
+    requires room { state.old.pages ≤ 62 }
+    ensures sound { IsSound (B.entries kept.now) (B.floor kept.now) (B.stands kept.now) ram.new state.new }
+    ensures uses { IfOk result (λ _. Uses user (space_at (B.entries kept.now) ram.old state.old) (space_at (B.entries kept.now) ram.new state.new)) }
+    ensures refused { IfErr result (λ refusal. AtRefusal user (space_at (B.entries kept.now) ram.old state.old) refusal (space_at (B.entries kept.now) ram.new state.new)) }
+    ensures fetched { Gives result (space_at (B.entries kept.now) ram.new state.new) (fetched user at (space_at (B.entries kept.now) ram.old state.old)) }
+    ensures spelled { IfOk result IsSpelled }
+    ensures pages { state.new.pages ≤ state.old.pages + 2 }
+    ensures control { state.new.control ≡ state.old.control }
+    ensures text { state.new.guard.text ≡ state.old.guard.text }
+    ensures hidden { hidden state.old.guard state.old.control.frames ram.new ≡ hidden state.old.guard state.old.control.frames ram.old }
+{
+    works_use();
+    fetch_pages(ram, kept, state, user, at)
+}
+
+// From the first page, or both.
+#[tactic(auto, unfolding(machine_model::specs::Instruction::fetched, machine_model::specs::Instruction::owning_front))]
+fn fetch_pages<B: Kept>(
     ram: &mut Ram,
     kept: &B,
     state: &mut StepState,

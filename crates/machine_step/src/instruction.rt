@@ -1,6 +1,7 @@
 //! What an instruction that was fetched comes to.
 
-ghost use Rattle.std.specs.Prelude.{◌≡◌, ◌+◌, ◌≤◌, List, ℕ, IfOk, Ok, Some};
+ghost use Rattle.std.specs.Prelude.{◌≡◌, ◌+◌, ◌==◌, ◌≤◌, List, ℕ, IfOk, Ok, Some};
+ghost use Rattle.paging.specs.Space.{Space};
 ghost use Rattle.step_mem.specs.Shown.{hidden};
 ghost use Rattle.step_mem.specs.Sound.{IsSound, space_at};
 ghost use Rattle.ia32_rows.specs.Spells.{Spells};
@@ -8,6 +9,8 @@ ghost use Rattle.sys_exec.specs.Asked.{IsAsked};
 ghost use Rattle.machine_model.specs.State.{Setting, State as Whole};
 ghost use Rattle.machine_model.specs.Instruction.{instructed};
 ghost use Rattle.machine_model.specs.Step.{by_decoded, after_instruction, after_effect};
+ghost use Rattle.machine_model.specs.UsedPages.{Uses};
+ghost use Rattle.machine_step.specs.Begun.{AtEffect};
 ghost use Rattle.machine_step.specs.Ruled.{IsRuled};
 ghost use Rattle.machine_step.specs.Worked.{ComesTo, IsDropped, completed_of};
 
@@ -21,6 +24,7 @@ use descriptors::Cpu;
 use guest_ram::Ram;
 use ia32_decode::Decoded;
 use ia32_types::{Insn, Op, Stop};
+use machine_model::works_use;
 use step_mem::{Kept, StepState};
 use sys_exec::SysEffect;
 
@@ -39,6 +43,7 @@ pub fn carry_out<B: Kept>(
     requires sound { IsSound (B.entries kept.now) (B.floor kept.now) (B.stands kept.now) ram.old state.old }
     requires pages { state.old.pages ≤ 8 }
     ensures sound { IsSound (B.entries kept.now) (B.floor kept.now) (B.stands kept.now) ram.new state.new }
+    ensures uses { IfOk result (λ _. Uses (cpu.now.cpl == 3) (space_at (B.entries kept.now) ram.old state.old) (space_at (B.entries kept.now) ram.new state.new)) }
     ensures step { (m : Setting) (b : Whole) → IsRuled m rules.now → ComesTo (by_decoded m (record b { cpu = cpu.now; board = board.old }) (Decoded.Insn insn.now len) (space_at (B.entries kept.now) ram.old state.old)) b result board.new (space_at (B.entries kept.now) ram.new state.new) }
     ensures dropped { IfOk result (λ w. IsDropped w.dropped) }
     ensures control { state.new.control ≡ state.old.control }
@@ -82,12 +87,14 @@ fn perform<B: Kept>(
     requires sound { IsSound (B.entries kept.now) (B.floor kept.now) (B.stands kept.now) ram.old state.old }
     requires pages { state.old.pages ≤ 8 }
     ensures sound { IsSound (B.entries kept.now) (B.floor kept.now) (B.stands kept.now) ram.new state.new }
+    ensures uses { IfOk result (λ _. Uses (cpu.now.cpl == 3) (space_at (B.entries kept.now) ram.old state.old) (space_at (B.entries kept.now) ram.new state.new)) }
     ensures step { (m : Setting) (b : Whole) → IsRuled m rules.now → ComesTo (after_instruction m (record b { cpu = cpu.now; board = board.old }) (completed_of completed) (instructed insn.now len cpu.now (space_at (B.entries kept.now) ram.old state.old))) b result board.new (space_at (B.entries kept.now) ram.new state.new) }
     ensures dropped { IfOk result (λ w. IsDropped w.dropped) }
     ensures control { state.new.control ≡ state.old.control }
     ensures guard { state.new.guard ≡ state.old.guard }
     ensures hidden { hidden state.old.guard state.old.control.frames ram.new ≡ hidden state.old.guard state.old.control.frames ram.old }
 {
+    works_use();
     let (effect, after) = execute(insn, len, cpu, ram, kept, state);
     follow(
         rules, cpu, effect, after, board, ram, kept, state, completed,
@@ -110,6 +117,7 @@ fn follow<B: Kept>(
     requires pages { state.old.pages ≤ 48 }
     requires asked { IsAsked effect }
     ensures sound { IsSound (B.entries kept.now) (B.floor kept.now) (B.stands kept.now) ram.new state.new }
+    ensures uses { (s : Space) → AtEffect (before.now.cpl == 3) s effect (space_at (B.entries kept.now) ram.old state.old) → IfOk result (λ _. Uses (before.now.cpl == 3) s (space_at (B.entries kept.now) ram.new state.new)) }
     ensures step { (m : Setting) (b : Whole) → IsRuled m rules.now → ComesTo (after_effect m (record b { cpu = before.now; board = board.old }) (completed_of completed) effect cpu (space_at (B.entries kept.now) ram.old state.old)) b result board.new (space_at (B.entries kept.now) ram.new state.new) }
     ensures dropped { IfOk result (λ w. IsDropped w.dropped) }
     ensures control { state.new.control ≡ state.old.control }

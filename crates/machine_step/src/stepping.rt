@@ -1,6 +1,6 @@
 //! One step.
 
-ghost use Rattle.std.specs.Prelude.{◌≡◌, ◌+◌, ◌*◌, ◌≤◌, length, IfOk};
+ghost use Rattle.std.specs.Prelude.{◌≡◌, ◌+◌, ◌*◌, ◌==◌, ◌≤◌, length, false, IfOk};
 ghost use Rattle.descriptors.specs.Controls.{pse_of};
 ghost use Rattle.paging.specs.Fresh.{has};
 ghost use Rattle.step_mem.specs.Changes.{AreWithin};
@@ -9,7 +9,8 @@ ghost use Rattle.step_mem.specs.Shown.{shown, hidden};
 ghost use Rattle.step_mem.specs.Sound.{IsSound, space_at};
 ghost use Rattle.machine_model.specs.State.{Setting, State as Whole, space_at_start};
 ghost use Rattle.machine_model.specs.Step.{stepped, worked, begins_next, fetches_next, interrupt_of, by_interrupt, unheld};
-ghost use Rattle.machine_step.specs.Begun.{BeginsAs, IsBegun};
+ghost use Rattle.machine_model.specs.UsedPages.{Uses};
+ghost use Rattle.machine_step.specs.Begun.{BeginsAs, IsBegun, IsFetchedBy};
 ghost use Rattle.machine_step.specs.Ruled.{IsRuled};
 ghost use Rattle.machine_step.specs.Worked.{ComesTo, IsDropped};
 
@@ -41,6 +42,7 @@ pub fn step<'g, B: Kept>(
     requires within { AreWithin frames (B.entries kept.now ram.old) }
     requires laid { IsLaid guard.text.now frames }
     ensures sound { IsSound (B.entries kept.now) (B.floor kept.now) (B.stands kept.now) ram.new result.1 }
+    ensures uses { IfOk result.0 (λ _. Uses (cpu.now.cpl == 3) (space_at_start (mode_of guard.entry) frames cpu.now (shown guard.entry frames ram.old) (B.entries kept.now ram.old)) (space_at (B.entries kept.now) ram.new result.1)) }
     ensures step { (s : Setting) (b : Whole) → IsRuled (record s { mode = mode_of guard.entry; frames = frames }) rules.now → ComesTo
         (stepped (record s { mode = mode_of guard.entry; frames = frames }) (record b { cpu = cpu.now; ram = shown guard.entry frames ram.old; set = B.entries kept.now ram.old; board = board.old }))
         b result.0 board.new (space_at (B.entries kept.now) ram.new result.1) }
@@ -71,6 +73,7 @@ pub fn step_again<'g, B: Kept>(
     requires within { AreWithin frames (B.entries kept.now ram.old) }
     requires laid { IsLaid guard.text.now frames }
     ensures sound { IsSound (B.entries kept.now) (B.floor kept.now) (B.stands kept.now) ram.new state.new }
+    ensures uses { IfOk result (λ _. Uses (cpu.now.cpl == 3) (space_at_start (mode_of guard.entry) frames cpu.now (shown guard.entry frames ram.old) (B.entries kept.now ram.old)) (space_at (B.entries kept.now) ram.new state.new)) }
     ensures step { (s : Setting) (b : Whole) → IsRuled (record s { mode = mode_of guard.entry; frames = frames }) rules.now → ComesTo
         (stepped (record s { mode = mode_of guard.entry; frames = frames }) (record b { cpu = cpu.now; ram = shown guard.entry frames ram.old; set = B.entries kept.now ram.old; board = board.old }))
         b result board.new (space_at (B.entries kept.now) ram.new state.new) }
@@ -154,6 +157,7 @@ pub fn step_in<B: Kept>(
     requires sound { IsSound (B.entries kept.now) (B.floor kept.now) (B.stands kept.now) ram.old state.old }
     requires pages { state.old.pages ≡ 0 }
     ensures sound { IsSound (B.entries kept.now) (B.floor kept.now) (B.stands kept.now) ram.new state.new }
+    ensures uses { IfOk result (λ _. Uses (cpu.now.cpl == 3) (space_at (B.entries kept.now) ram.old state.old) (space_at (B.entries kept.now) ram.new state.new)) }
     ensures step { (m : Setting) (b : Whole) → IsRuled m rules.now → ComesTo (by_interrupt m (interrupt_of cpu.now board.old) (unheld (record b { cpu = cpu.now; board = board.old })) (space_at (B.entries kept.now) ram.old state.old)) b result board.new (space_at (B.entries kept.now) ram.new state.new) }
     ensures dropped { IfOk result (λ w. IsDropped w.dropped) }
     ensures control { state.new.control ≡ state.old.control }
@@ -180,6 +184,8 @@ pub fn start<B: Kept>(
     requires sound { IsSound (B.entries kept.now) (B.floor kept.now) (B.stands kept.now) ram.old state.old }
     requires pages { state.old.pages ≡ 0 }
     ensures sound { IsSound (B.entries kept.now) (B.floor kept.now) (B.stands kept.now) ram.new state.new }
+    ensures uses { IfOk result (λ _. Uses (cpu.now.cpl == 3) (space_at (B.entries kept.now) ram.old state.old) (space_at (B.entries kept.now) ram.new state.new)) }
+    ensures fetched { IfOk result (IsFetchedBy (record cpu.now { held = false })) }
     ensures begins { (m : Setting) (b : Whole) → IsRuled m rules.now → BeginsAs m (by_interrupt m (interrupt_of cpu.now board.old) (unheld (record b { cpu = cpu.now; board = board.old })) (space_at (B.entries kept.now) ram.old state.old)) b result board.new (space_at (B.entries kept.now) ram.new state.new) }
     ensures begun { IfOk result (λ x. IsBegun x state.new.pages) }
     ensures control { state.new.control ≡ state.old.control }
@@ -220,6 +226,8 @@ fn work<B: Kept>(
     requires sound { IsSound (B.entries kept.now) (B.floor kept.now) (B.stands kept.now) ram.old state.old }
     requires pages { state.old.pages ≡ 0 }
     ensures sound { IsSound (B.entries kept.now) (B.floor kept.now) (B.stands kept.now) ram.new state.new }
+    ensures uses { IfOk result (λ _. Uses (cpu.now.cpl == 3) (space_at (B.entries kept.now) ram.old state.old) (space_at (B.entries kept.now) ram.new state.new)) }
+    ensures fetched { IfOk result (IsFetchedBy cpu.now) }
     ensures begins { (m : Setting) (b : Whole) → IsRuled m rules.now → BeginsAs m (worked m (record b { cpu = cpu.now }) (space_at (B.entries kept.now) ram.old state.old)) b result b.board (space_at (B.entries kept.now) ram.new state.new) }
     ensures begun { IfOk result (λ x. IsBegun x state.new.pages) }
     ensures control { state.new.control ≡ state.old.control }
@@ -253,6 +261,8 @@ fn fetch_next<B: Kept>(
     requires sound { IsSound (B.entries kept.now) (B.floor kept.now) (B.stands kept.now) ram.old state.old }
     requires pages { state.old.pages ≡ 0 }
     ensures sound { IsSound (B.entries kept.now) (B.floor kept.now) (B.stands kept.now) ram.new state.new }
+    ensures uses { IfOk result (λ _. Uses (cpu.now.cpl == 3) (space_at (B.entries kept.now) ram.old state.old) (space_at (B.entries kept.now) ram.new state.new)) }
+    ensures fetched { IfOk result (IsFetchedBy cpu.now) }
     ensures begins { (m : Setting) (b : Whole) → IsRuled m rules.now → BeginsAs m (fetches_next m (record b { cpu = cpu.now }) (space_at (B.entries kept.now) ram.old state.old)) b result b.board (space_at (B.entries kept.now) ram.new state.new) }
     ensures begun { IfOk result (λ x. IsBegun x state.new.pages) }
     ensures control { state.new.control ≡ state.old.control }

@@ -21,18 +21,19 @@ use Rattle.host_cpl3.specs.HostStep.{host_step}
 use Rattle.host_cpl3.specs.HostRun.{Standing, counted, after_step, host_run}
 use Rattle.host_cpl3.specs.Borders.{BeginsBelow, EntersTheWindow, ExitsInTheWindow}
 use Rattle.machine_model.specs.State.{Setting, State, Loosened}
-use Rattle.machine_model.specs.Step.{Report, Went, step_of}
+use Rattle.machine_model.specs.Step.{Report, Result, Went, step_of}
 use Rattle.machine_model.specs.Run.{Set, Steps, trace_of}
+use Rattle.machine_model.specs.Taken.{Taken, behind as steps_behind, is_load, steps_by}
 use Rattle.machine_model.specs.Notes.{AreLeft}
 use Rattle.machine_model.specs.Counts.{is_direct, direct_in, direct_addresses, passed_on}
-use Rattle.machine_model.specs.Taken.{is_load}
 use Rattle.native_steps.specs.Lends.{Lends, IsUnlent, AreKept}
 use Rattle.native_steps.specs.Stands.{IsWedge, Stands}
 use Rattle.native_steps.specs.Forward.{wp_of, IsEntrance, IsNext, Follows, Forward, NotEntered, AtSites}
-use Rattle.native_steps.specs.Stretch.{SameBehind, StaysUnlent, Beside, board_now, AreQuiet, EndsAs, Advanced}
+use Rattle.native_steps.specs.Stretch.{SameBehind, StaysUnlent, Beside, board_now, AreQuiet, EndsAs, IsQuiet, Advanced}
 use Rattle.native_steps.proofs.Choices.{chosen, both, clash}
 use Rattle.native_steps.proofs.Completing.{no_window}
 use Rattle.native_steps.proofs.Quiet.{IsLater, quiet_on, board_on}
+use Rattle.native_steps.proofs.Shown.{shown_length}
 
 -- the laws of one instruction, and of one step of the board
 pub record Laws : Type 0 where
@@ -181,6 +182,29 @@ module _ (laws : Laws) (m : Setting) (v : View) (w : IsWedge m) where
           ∙ chosen (is_direct m.image.sites follows.completed) (follows.completed.eip ∷ []) [] follows.direct
           ∙ ap (λ (x : ℕ). x ∷ []) follows.eip
 
+      -- the step as it was taken
+      taken : Taken
+      taken = record { before = b; set = b.set; report = follows.report; after = after }
+
+      quiet_one : IsQuiet taken
+      unfolding taken after now
+      quiet_one = record {
+        through = follows.through;
+        cr0 = ap (λ (c : Cpu). c.cr0) cpu_is;
+        cr3 = ap (λ (c : Cpu). c.cr3) cpu_is;
+        cr4 = ap (λ (c : Cpu). c.cr4) cpu_is;
+        size = ap (λ (l : List ℕ). length l) follows.stands.ram
+            ∙ (shown_length m w ram follows.stands.host ∙ (sym (shown_length m w s.ram h.stands.host) ∙ sym (ap (λ (l : List ℕ). length l) h.stands.ram)));
+      }
+
+      -- with the steps behind it
+      quiet_more : (n : ℕ) → All IsQuiet (steps_by m after (replicate n after.set)) → All IsQuiet (steps_by m b (replicate (suc n) b.set))
+      unfolding taken
+      quiet_more n rest =
+          let later : All IsQuiet (steps_by m after (replicate n b.set)) = subst (λ (x : Set). All IsQuiet (steps_by m after (replicate n x))) set_is rest in
+          subst (All IsQuiet) (sym (ap (λ (r : Result). steps_behind b b.set r (λ a. steps_by m a (replicate n b.set))) went))
+          (all_more IsQuiet taken (steps_by m after (replicate n b.set)) quiet_one later)
+
       pages_kept : AreKept b.set follows.report.pages
       unfolding now
       pages_kept = follows.pages
@@ -205,6 +229,7 @@ module _ (laws : Laws) (m : Setting) (v : View) (w : IsWedge m) where
                   subst (λ (x : State). AreLeft m x (replicate r.n b.set)) (went_there follows.report report after mid (sym went ∙ is))
                   (subst (λ (x : Set). AreLeft m after (replicate r.n x)) set_is r.left),
             );
+            quiet = quiet_more r.n r.quiet;
             beside = r.beside;
             cpu = r.cpu ∙ ap (λ (c : Cpu). record c { regs = r.last.regs }) cpu_is;
             set = r.set ∙ set_is;
@@ -235,6 +260,7 @@ module _ (laws : Laws) (m : Setting) (v : View) (w : IsWedge m) where
       reports = [];
       steps = (refl, refl);
       left = tt;
+      quiet = all_none IsQuiet;
       beside = h;
       cpu = ap (λ (r : Regs). record b.cpu { regs = r }) h.regs;
       set = refl;
@@ -315,6 +341,7 @@ module _ (laws : Laws) (m : Setting) (v : View) (w : IsWedge m) where
     reports = [];
     steps = (refl, refl);
     left = tt;
+    quiet = all_none IsQuiet;
     beside = h;
     cpu = ap (λ (r : Regs). record b.cpu { regs = r }) h.regs;
     set = refl;

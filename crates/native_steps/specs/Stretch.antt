@@ -15,9 +15,9 @@ use Rattle.host_cpl3.specs.HostRun.{Standing, host_run}
 use Rattle.machine_model.specs.State.{Setting, State}
 use Rattle.machine_model.specs.Step.{Report, interrupt_of}
 use Rattle.machine_model.specs.Run.{Steps, trace_of}
+use Rattle.machine_model.specs.Taken.{Taken, is_load, steps_by}
 use Rattle.machine_model.specs.Notes.{AreLeft}
 use Rattle.machine_model.specs.Counts.{direct_count, passed_digest}
-use Rattle.machine_model.specs.Taken.{is_load}
 use Rattle.native_steps.specs.Lends.{Lends, IsUnlent, AreKept}
 use Rattle.native_steps.specs.Stands.{IsWedge, Stands}
 use Rattle.native_steps.specs.Forward.{wp_of, IsEntrance}
@@ -70,10 +70,18 @@ EndsAs m v exits.FlagBits last t = t ≡ last
 EndsAs m v exits.Wrap last t = t ≡ last
 EndsAs m v exits.Budget last t = t ≡ last
 
+-- The step loaded no CR3. It left the control registers, and as much memory as there was.
+pub record IsQuiet (t : Taken) : Type 0 where
+  pub through : is_load t.report.completed ≡ false
+  pub cr0 : t.after.cpu.cr0 ≡ t.before.cpu.cr0
+  pub cr3 : t.after.cpu.cr3 ≡ t.before.cpu.cr3
+  pub cr4 : t.after.cpu.cr4 ≡ t.before.cpu.cr4
+  pub size : length t.after.ram ≡ length t.before.ram
+
 -- The host completes n instructions, and stands at last. The guest has done n steps by then, with the translations that
--- it had, which none of them changes: all of them count, none loads CR3, nothing is seen in them, no walk is done, and both
--- stand beside one another again. Of the host's memory nothing behind the guest's frames has changed, and of the guest's no frame to
--- which the tables let no write pass.
+-- it had, which none of them changes: all of them count, none loads CR3 or changes a control register, nothing is seen in
+-- them, no walk is done, and both stand beside one another again. Of the host's memory nothing behind the guest's frames has
+-- changed, and of the guest's no frame to which the tables let no write pass.
 pub record Advanced (m : Setting) (v : View) (b : State) (k : ℕ) (s : Standing) (exit : Exit) (t : Standing) : Type 0 where
   pub n : ℕ
   pub few : n ≤ k
@@ -82,6 +90,7 @@ pub record Advanced (m : Setting) (v : View) (b : State) (k : ℕ) (s : Standing
   pub reports : List Report
   pub steps : Steps m b (replicate n b.set) reports after
   pub left : AreLeft m b (replicate n b.set)
+  pub quiet : All IsQuiet (steps_by m b (replicate n b.set))
   pub beside : Beside m v after last
   pub cpu : after.cpu ≡ record b.cpu { regs = last.regs }
   pub set : after.set ≡ b.set

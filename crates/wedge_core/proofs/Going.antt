@@ -1,9 +1,9 @@
 -- A slice on its way.
-use Rattle.std.proofs.Common.{◌≡◌, ℕ, ◌+◌, ◌≤◌, ◌<◌, zero, suc, replicate, length, Bool, true, false, List, [], ◌∷◌, ◌++◌, Option, Result, Ok, Err, refl, sym, ap, subst, ◌∙◌, append_assoc, arith}
+use Rattle.std.proofs.Common.{◌≡◌, ℕ, ◌+◌, ◌*◌, ◌≤◌, ◌<◌, zero, suc, replicate, length, Bool, true, false, List, [], ◌∷◌, ◌++◌, Option, Result, Ok, Err, refl, sym, ap, subst, ◌∙◌, append_assoc, ◌⊎◌, inl, inr, arith}
 use Rattle.std.specs.List.{All}
-use Rattle.std.specs.FinMap.{len}
+use Rattle.std.specs.FinMap.{len, empty}
 use Rattle.std.proofs.lemmas.List.{append-nil}
-use Rattle.std.proofs.lemmas.List.Elements.{All-nil, All-cons, All-append, All-replicate, All-weaker}
+use Rattle.std.proofs.lemmas.List.Elements.{All-nil, All-cons, All-head, All-tail, All-append, All-replicate, All-weaker}
 use Rattle.pv_io.specs.declared.answer.Failed.{Failed}
 use Rattle.pv_io.specs.Sink.{Appends, AppendsFront}
 use Rattle.image_load.specs.declared.fault.Pause.TheVariants.{Reached, Stopped}
@@ -18,7 +18,14 @@ use Rattle.run_trace.specs.Text.{lines_of}
 use Rattle.machine_model.specs.State.{Setting, State, Loosened}
 use Rattle.machine_model.specs.Step.{Report, Stands, stepped, step_of, items_at}
 use Rattle.machine_model.specs.Run.{Set, Steps, trace_of}
+use Rattle.machine_model.specs.Taken.{Taken, steps_by}
+use Rattle.machine_model.specs.Clash.{clashes_from}
+use Rattle.machine_model.specs.Keeping.{Roomy, Kept}
 use Rattle.machine_model.specs.Notes.{AreLeft, AreNotes, set_told}
+use Rattle.native_steps.specs.Stretch.{IsQuiet}
+use Rattle.kept_laws.specs.Known.{IsOfPages}
+use Rattle.wedge_core.specs.Carried.{IsTakenFrom}
+use Rattle.wedge_core.specs.CarryLaws.{CarryLaws}
 use Rattle.wedge_core.specs.Filled.{FillsOn}
 use Rattle.wedge_core.specs.Noted.{NotesOn, emptied_if, notes_then}
 use Rattle.wedge_core.specs.Parts.{IsPartOf, left_of, with_set}
@@ -30,15 +37,17 @@ use Rattle.wedge_core.proofs.Joined.{steps_join, no_steps, steps_one, trace_join
 use Rattle.wedge_core.proofs.Filling.{part_few}
 use Rattle.wedge_core.proofs.Texts.{appends_both, appends_none, front_of, lines_join}
 use Rattle.wedge_core.proofs.EmptiedNotes.{SoFar, Tried, none_yet, try_next, go_next, so_far_later, told_more, told_none, told_before, up_to_later, tried_none, none_dropped, dropped_once, are_pages, steps_until}
+use Rattle.wedge_core.proofs.Passed.{CarriesPast, SoFarKept, some_more, step_taken, taken_first}
 use Rattle.wedge_core.proofs.ToldSteps.{ToldBy, told_nothing, told_one, told_join, told_on, left_behind, steps_counted, are_told}
 
 -- each of these sets has no more pages than were kept at first and were filled since
 abbrev pub EachFilled : ℕ → ℕ → ℕ → List Set → Type 0
 EachFilled pages before after sets = All (λ (set : Set). FillsOn pages (len set) before after) sets
 
--- Some steps were done. What is kept a run may go on with; where notes are wanted, it is what they left, but for what the
+-- Some steps were done. Where the run begins so, they went by the rule for kept translations, and all is known behind them
+-- while it is roomy. What is kept a run may go on with; where notes are wanted, it is what they left, but for what the
 -- notes tell, by which they went too. Their lines were put, and the counts follow.
-pub record Going (m : Setting) (old now : State) (before after : Counts) (told tells : Option (List ℕ)) (pages fills filled : ℕ) (wanted : Bool) (notes_on : List Note → Type 0) : Type 0 where
+pub record Going (m : Setting) (old now : State) (before after : Counts) (told tells : Option (List ℕ)) (pages fills filled : ℕ) (wanted : Bool) (notes_on : List Note → Type 0) (begins : Type 0) (carried : Set → List Taken → State → Type 0) : Type 0 where
   pub sets : List Set
   pub reports : List Report
   pub whole : Set
@@ -50,12 +59,22 @@ pub record Going (m : Setting) (old now : State) (before after : Counts) (told t
   pub so_far : SoFar old.step now.step notes
   pub tells_notes : notes_on notes
   pub each_filled : EachFilled pages fills filled sets
+  pub rule : begins → Kept m old sets
+  pub carries : begins → Roomy (steps_by m old sets) → carried now.set (steps_by m old sets) (with_set now whole)
   pub enough : FillsOn pages (len now.set) fills filled
   pub text : Appends told tells (lines_of (trace_of reports))
   pub counts : CountsOn m reports before after
 
-pub going_none : (m : Setting) (b : State) (counts : Counts) (told : Option (List ℕ)) (pages fills : ℕ) (wanted : Bool) (notes_on : List Note → Type 0) → notes_on [] → len b.set ≤ pages → Going m b b counts counts told told pages fills fills wanted notes_on
-going_none m b counts told pages fills wanted notes_on none few = record {
+none_split : (a : List Taken) (y : Taken) (b : List Taken) → [] ≡ a ++ y ∷ b → ⊥
+none_split [] y b e = cc
+none_split (z ∷ a) y b e = cc
+
+-- no step is kept or not
+none_kept : (m : Setting) (b : State) → Kept m b []
+none_kept m b = record { each = λ earlier now later is roomy. absurd (none_split earlier now later is) }
+
+pub going_none : (m : Setting) (b : State) (counts : Counts) (told : Option (List ℕ)) (pages fills : ℕ) (wanted : Bool) (notes_on : List Note → Type 0) (begins : Type 0) (carried : Set → List Taken → State → Type 0) → notes_on [] → len b.set ≤ pages → (begins → carried b.set [] b) → Going m b b counts counts told told pages fills fills wanted notes_on begins carried
+going_none m b counts told pages fills wanted notes_on begins carried none few start = record {
   sets = [];
   reports = [];
   whole = b.set;
@@ -67,14 +86,16 @@ going_none m b counts told pages fills wanted notes_on none few = record {
   so_far = none_yet b.step;
   tells_notes = none;
   each_filled = All-nil (λ (set : Set). FillsOn pages (len set) fills fills);
+  rule = λ s. none_kept m b;
+  carries = λ s roomy. start s;
   enough = record { rises = omega arith; enough = omega (arith, few) };
   text = appends_none told;
   counts = counts_none m counts;
 }
 
 -- none of them is behind the first
-pub begun : (m : Setting) (old now : State) (a b : Counts) (told tells : Option (List ℕ)) (pages fills filled : ℕ) (wanted : Bool) (notes_on : List Note → Type 0) → (g : Going m old now a b told tells pages fills filled wanted notes_on) → old.step + length g.sets ≡ now.step
-begun m old now a b told tells pages fills filled wanted notes_on g = sym (steps_counted m old g.sets g.reports (with_set now g.whole) g.steps)
+pub begun : (m : Setting) (old now : State) (a b : Counts) (told tells : Option (List ℕ)) (pages fills filled : ℕ) (wanted : Bool) (notes_on : List Note → Type 0) (begins : Type 0) (carried : Set → List Taken → State → Type 0) → (g : Going m old now a b told tells pages fills filled wanted notes_on begins carried) → old.step + length g.sets ≡ now.step
+begun m old now a b told tells pages fills filled wanted notes_on begins carried g = sym (steps_counted m old g.sets g.reports (with_set now g.whole) g.steps)
 
 -- what is left of a set is part of it
 told_part : (b : Bool) (set : Set) → IsPartOf (left_of b set) set
@@ -103,10 +124,10 @@ chosen_there m now whole chosen = refl
 
 -- steps in which nothing is seen
 
-pub going_past : (m : Setting) (old now new : State) (a b c : Counts) (told tells : Option (List ℕ)) (pages fills mid filled : ℕ) (wanted : Bool) (notes_on : List Note → Type 0) → (g : Going m old now a b told tells pages fills mid wanted notes_on) → mid ≤ filled → FillsOn pages (len new.set) fills filled
-    → Passes m now new b c → Going m old new a c told tells pages fills filled wanted notes_on
+pub going_past : (m : Setting) (old now new : State) (a b c : Counts) (told tells : Option (List ℕ)) (pages fills mid filled : ℕ) (wanted : Bool) (notes_on : List Note → Type 0) (begins : Type 0) (carried : Set → List Taken → State → Type 0) → (g : Going m old now a b told tells pages fills mid wanted notes_on begins carried) → mid ≤ filled → FillsOn pages (len new.set) fills filled
+    → CarryLaws → CarriesPast m carried → IsOfPages now.set → 4096 * m.frames ≤ length now.ram → Passes m now new b c → Going m old new a c told tells pages fills filled wanted notes_on begins carried
 unfolding Steps
-going_past m old now new a b c told tells pages fills mid filled wanted notes_on g rises enough p = by p.n p.steps p.left
+going_past m old now new a b c told tells pages fills mid filled wanted notes_on begins carried g rises enough laws goes pages_of room p = by p.n p.steps p.left p.quiet
   where
     silent : trace_of (g.reports ++ p.reports) ≡ trace_of g.reports
     silent = trace_join g.reports p.reports ∙ (ap (λ (l : List Item). trace_of g.reports ++ l) p.silent ∙ append-nil (trace_of g.reports))
@@ -114,8 +135,8 @@ going_past m old now new a b c told tells pages fills mid filled wanted notes_on
     put : Appends told tells (lines_of (trace_of (g.reports ++ p.reports)))
     put = subst (λ (l : List Item). Appends told tells (lines_of l)) (sym silent) g.text
 
-    by : (n : ℕ) → Steps m now (replicate n now.set) p.reports new → AreLeft m now (replicate n now.set) → Going m old new a c told tells pages fills filled wanted notes_on
-    by zero steps left =
+    by : (n : ℕ) → Steps m now (replicate n now.set) p.reports new → AreLeft m now (replicate n now.set) → All IsQuiet (steps_by m now (replicate n now.set)) → Going m old new a c told tells pages fills filled wanted notes_on begins carried
+    by zero steps left quiet =
         let same : g.reports ++ p.reports ≡ g.reports = ap (λ (l : List Report). g.reports ++ l) steps.0 ∙ append-nil g.reports in
         record {
           sets = g.sets;
@@ -129,11 +150,19 @@ going_past m old now new a b c told tells pages fills mid filled wanted notes_on
           so_far = subst (λ (x : State). SoFar old.step x.step g.notes) (sym steps.1) g.so_far;
           tells_notes = g.tells_notes;
           each_filled = filled_later pages fills mid filled g.sets rises g.each_filled;
+          rule = g.rule;
+          carries = λ s roomy. subst (λ (x : State). carried x.set (steps_by m old g.sets) (with_set x g.whole)) (sym steps.1) (g.carries s roomy);
           enough = enough;
           text = put;
           counts = counts_join m g.reports p.reports a b c g.counts p.counts;
         }
-    by (suc n) steps left =
+    by (suc n) steps left quiet =
+        let both : All IsQuiet (step_taken now now.set steps.1 steps.0 ∷ steps_by m steps.0 (replicate n now.set)) = subst (All IsQuiet) (taken_first m now steps.0 now.set (replicate n now.set) steps.1 steps.4) quiet in
+        let q = All-head IsQuiet (step_taken now now.set steps.1 steps.0) (steps_by m steps.0 (replicate n now.set)) both in
+        let one : IsQuiet (step_taken (with_set now g.whole) now.set steps.1 steps.0) = record { through = q.through; cr0 = q.cr0; cr3 = q.cr3; cr4 = q.cr4; size = q.size } in
+        let so_far = λ (s : begins). some_more laws m carried goes old n g.sets g.reports (with_set now g.whole) steps.0 new now.set steps.1 steps.2
+        g.steps g.allowed (chosen_there m now g.whole now.set ∙ steps.4) steps.5 (left.1 steps.1 steps.0 steps.4) one
+        (All-tail IsQuiet (step_taken now now.set steps.1 steps.0) (steps_by m steps.0 (replicate n now.set)) both) pages_of room (record { rule = g.rule s; carries = g.carries s }) in
         let count = steps_counted m now (replicate (suc n) now.set) p.reports new steps in
         let later : now.step < new.step = omega (arith, count) in
         let first : EachFilled pages fills filled (replicate (suc n) now.set) = All-replicate (λ (set : Set). FillsOn pages (len set) fills filled) (suc n) now.set (enough_later pages (len now.set) fills mid filled rises g.enough) in
@@ -150,17 +179,41 @@ going_past m old now new a b c told tells pages fills mid filled wanted notes_on
           so_far = so_far_later old.step now.step new.step g.notes later g.so_far;
           tells_notes = g.tells_notes;
           each_filled = All-append (λ (set : Set). FillsOn pages (len set) fills filled) g.sets (replicate (suc n) now.set) (filled_later pages fills mid filled g.sets rises g.each_filled) first;
+          rule = λ s. (so_far s).rule;
+          carries = λ s. (so_far s).carries;
           enough = enough;
           text = put;
           counts = counts_join m g.reports p.reports a b c g.counts p.counts;
         }
+
+-- the same, in other words of what is known
+pub going_turned : (m : Setting) (old now : State) (a b : Counts) (told tells : Option (List ℕ)) (pages fills filled : ℕ) (wanted : Bool) (notes_on : List Note → Type 0) (begins : Type 0) (carried carried_then : Set → List Taken → State → Type 0)
+    → ((steps : List Taken) (x : State) → carried now.set steps x → carried_then now.set steps x) → Going m old now a b told tells pages fills filled wanted notes_on begins carried → Going m old now a b told tells pages fills filled wanted notes_on begins carried_then
+going_turned m old now a b told tells pages fills filled wanted notes_on begins carried carried_then turn g = record {
+  sets = g.sets;
+  reports = g.reports;
+  whole = g.whole;
+  notes = g.notes;
+  steps = g.steps;
+  allowed = g.allowed;
+  kept = g.kept;
+  by = g.by;
+  so_far = g.so_far;
+  tells_notes = g.tells_notes;
+  each_filled = g.each_filled;
+  rule = g.rule;
+  carries = λ s roomy. turn (steps_by m old g.sets) (with_set now g.whole) (g.carries s roomy);
+  enough = g.enough;
+  text = g.text;
+  counts = g.counts;
+}
 
 -- the state to which the events of its step were given
 abbrev pub eventful : Setting → State → State
 eventful m b = record b { board = given b.board m.script b.step }
 
 -- Some steps were done, and one more. Of its lines something was put.
-pub record Stepped (m : Setting) (old now new : State) (seen : Seen) (before after : Counts) (told tells : Option (List ℕ)) (pages fills filled : ℕ) (wanted : Bool) (notes_on : List Note → Type 0) : Type 0 where
+pub record Stepped (m : Setting) (old now new : State) (seen : Seen) (before after : Counts) (told tells : Option (List ℕ)) (pages fills filled : ℕ) (wanted : Bool) (notes_on : List Note → Type 0) (begins : Type 0) (carried : Set → List Taken → State → Type 0) : Type 0 where
   pub sets : List Set
   pub reports : List Report
   pub whole : Set
@@ -172,6 +225,8 @@ pub record Stepped (m : Setting) (old now new : State) (seen : Seen) (before aft
   pub so_far : SoFar old.step new.step notes
   pub tells_notes : notes_on notes
   pub each_filled : EachFilled pages fills filled sets
+  pub rule : begins → Kept m old sets
+  pub carries : begins → Roomy (steps_by m old sets) → carried new.set (steps_by m old sets) (with_set new whole)
   pub enough : FillsOn pages (len new.set) fills filled
   pub front : List Item
   pub trace : trace_of reports ≡ front ++ items_at now.step (whats seen)
@@ -184,7 +239,7 @@ unfolding step_of
 chosen_first m now whole chosen = refl
 
 -- the next step is tried, before which all translations may have been dropped
-module _ (m : Setting) (old now : State) (a b : Counts) (told tells : Option (List ℕ)) (pages fills mid : ℕ) (wanted : Bool) (notes_on : List Note → Type 0) (g : Going m old now a b told tells pages fills mid wanted notes_on) (dropped : Bool) where
+module _ (m : Setting) (old now : State) (a b : Counts) (told tells : Option (List ℕ)) (pages fills mid : ℕ) (wanted : Bool) (notes_on : List Note → Type 0) (begins : Type 0) (carried : Set → List Taken → State → Type 0) (g : Going m old now a b told tells pages fills mid wanted notes_on begins carried) (dropped : Bool) where
   abbrev pub notes_tried : List Note
   notes_tried = g.notes ++ emptied_if dropped now.step
 
@@ -192,7 +247,7 @@ module _ (m : Setting) (old now : State) (a b : Counts) (told tells : Option (Li
   chosen = left_of dropped now.set
 
   pub here : old.step + length g.sets ≡ now.step
-  here = begun m old now a b told tells pages fills mid wanted notes_on g
+  here = begun m old now a b told tells pages fills mid wanted notes_on begins carried g
 
   pub first : old.step ≤ now.step
   first = let n = here in omega (arith, n)
@@ -216,25 +271,42 @@ module _ (m : Setting) (old now : State) (a b : Counts) (told tells : Option (Li
       let e = g.enough.enough in
       record { rises = r; enough = omega (arith, few, e) }
 
+-- What is known goes on over the next step. Where all was dropped before it, it clashes by what was kept.
+pub record StepCarries (m : Setting) (now new : State) (lost : Lost) (begins : Type 0) (carried carried_then : Set → List Taken → State → Type 0) : Type 0 where
+  pub clash : begins → lost.before ≡ true → (steps : List Taken) (whole : Set) → Roomy steps → carried now.set steps (with_set now whole) → clashes_from m now ≡ true
+  pub over : begins → (steps : List Taken) (t : Taken) → Roomy (steps ++ t ∷ []) → IsTakenFrom m (eventful m now) t → t.set ≡ left_of lost.before now.set → carried now.set steps t.before
+      → carried_then new.set (steps ++ t ∷ []) t.after
+
+chosen_kept : (m : Setting) (b : State) (dropped : Bool) → (dropped ≡ true → clashes_from m b ≡ true)
+    → (left_of dropped b.set ≡ b.set) ⊎ ((left_of dropped b.set ≡ empty) × (clashes_from m b ≡ true))
+chosen_kept m b true h = inr (refl, h refl)
+chosen_kept m b false h = inl refl
+
 -- and goes
-pub going_on : (m : Setting) (old now new : State) (lost : Lost) (seen : Seen) (a b c : Counts) (told tells : Option (List ℕ)) (pages fills mid filled : ℕ) (wanted : Bool) (notes_on notes_after : List Note → Type 0)
-    → (g : Going m old now a b told tells pages fills mid wanted notes_on) → Goes m (eventful m now) lost seen new b c → new.step ≡ now.step + 1 → mid ≤ filled → FillsOn pages (len new.set) fills filled → (wanted ≡ true → lost.back ≡ false)
-    → ((notes : List Note) → notes_on notes → notes_after (notes ++ notes_then lost now.step)) → Stepped m old now new seen a c told tells pages fills filled wanted notes_after
-going_on m old now new lost seen a b c told tells pages fills mid filled wanted notes_on notes_after g r count rises enough exact on =
+pub going_on : (m : Setting) (old now new : State) (lost : Lost) (seen : Seen) (a b c : Counts) (told tells : Option (List ℕ)) (pages fills mid filled : ℕ) (wanted : Bool) (notes_on notes_after : List Note → Type 0) (begins : Type 0) (carried carried_then : Set → List Taken → State → Type 0)
+    → (g : Going m old now a b told tells pages fills mid wanted notes_on begins carried) → Goes m (eventful m now) lost seen new b c → new.step ≡ now.step + 1 → mid ≤ filled → FillsOn pages (len new.set) fills filled → (wanted ≡ true → lost.back ≡ false)
+    → CarryLaws → CarriesPast m carried → StepCarries m now new lost begins carried carried_then
+    → ((notes : List Note) → notes_on notes → notes_after (notes ++ notes_then lost now.step)) → Stepped m old now new seen a c told tells pages fills filled wanted notes_after begins carried_then
+going_on m old now new lost seen a b c told tells pages fills mid filled wanted notes_on notes_after begins carried carried_then g r count rises enough exact laws goes over on =
     let set = left_of lost.before now.set in
     let before = g.notes ++ emptied_if lost.before now.step in
     let notes = before ++ emptied_if lost.after (now.step + 1) in
-    let allowed = chosen_allowed m old now a b told tells pages fills mid wanted notes_on g lost.before in
-    let tried_now = tried m old now a b told tells pages fills mid wanted notes_on g lost.before in
-    let low = first m old now a b told tells pages fills mid wanted notes_on g lost.before in
-    let n = here m old now a b told tells pages fills mid wanted notes_on g lost.before in
+    let allowed = chosen_allowed m old now a b told tells pages fills mid wanted notes_on begins carried g lost.before in
+    let tried_now = tried m old now a b told tells pages fills mid wanted notes_on begins carried g lost.before in
+    let low = first m old now a b told tells pages fills mid wanted notes_on begins carried g lost.before in
+    let n = here m old now a b told tells pages fills mid wanted notes_on begins carried g lost.before in
     let up = up_to_later now.step (now.step + 1) before (omega arith) tried_now.until in
     let one = steps_one m (with_set now g.whole) (with_set new r.whole) set r.report allowed (chosen_first m now g.whole set ∙ r.went) in
+    let goes_here = chosen_first m now g.whole set ∙ r.went in
+    let taken_so_far = steps_by m old g.sets in
+    let t = step_taken (with_set now g.whole) set r.report (with_set new r.whole) in
+    let joined : steps_by m old (g.sets ++ set ∷ []) ≡ taken_so_far ++ t ∷ [] = laws.taken m old (with_set now g.whole) (with_set new r.whole) g.sets set g.reports r.report g.steps goes_here in
+    let from : IsTakenFrom m (eventful m now) t = record { cpu = refl; ram = refl; went = goes_here; stepped = r.went } in
     let is : set_told notes (now.step + 1) r.whole ≡ left_of lost.after r.whole =
     told_more lost.after (now.step + 1) r.whole before up ∙ ap (left_of lost.after) (told_none now.step (now.step + 1) r.whole before (omega arith) tried_now.until) in
-    let by_before = λ (w : wanted ≡ true). told_on lost.after m old g.sets before (now.step + 1) (omega (arith, n)) up (by_then m old now a b told tells pages fills mid wanted notes_on g lost.before w) in
+    let by_before = λ (w : wanted ≡ true). told_on lost.after m old g.sets before (now.step + 1) (omega (arith, n)) up (by_then m old now a b told tells pages fills mid wanted notes_on begins carried g lost.before w) in
     let by_now = λ (w : wanted ≡ true). told_one m (with_set now g.whole) set notes
-    (chosen_told m old now a b told tells pages fills mid wanted notes_on g lost.before w ∙ sym (told_before lost.after (now.step + 1) now.step g.whole before (omega arith) up)) in
+    (chosen_told m old now a b told tells pages fills mid wanted notes_on begins carried g lost.before w ∙ sym (told_before lost.after (now.step + 1) now.step g.whole before (omega arith) up)) in
     record {
       sets = g.sets ++ set ∷ [];
       reports = g.reports ++ r.report ∷ [];
@@ -247,7 +319,12 @@ going_on m old now new lost seen a b c told tells pages fills mid filled wanted 
       so_far = subst (λ (s : ℕ). SoFar old.step s notes) (sym count) (go_next lost.after old.step now.step before low tried_now);
       tells_notes = subst notes_after (sym (append_assoc g.notes (emptied_if lost.before now.step) (emptied_if lost.after (now.step + 1)))) (on g.notes g.tells_notes);
       each_filled = filled_push pages fills filled g.sets set (filled_later pages fills mid filled g.sets rises g.each_filled)
-          (enough_later pages (len set) fills mid filled rises (enough_chosen m old now a b told tells pages fills mid wanted notes_on g lost.before));
+          (enough_later pages (len set) fills mid filled rises (enough_chosen m old now a b told tells pages fills mid wanted notes_on begins carried g lost.before));
+      rule = λ s. laws.rule m old (with_set now g.whole) (with_set new r.whole) g.sets set g.reports r.report g.steps goes_here (g.rule s)
+          (λ roomy. goes.next now.set taken_so_far (with_set now g.whole) (g.carries s roomy) t refl (chosen_kept m now lost.before (λ drop. over.clash s drop taken_so_far g.whole roomy (g.carries s roomy))));
+      carries = λ s roomy.
+          let then : Roomy (taken_so_far ++ t ∷ []) = subst Roomy joined roomy in
+          subst (λ (l : List Taken). carried_then new.set l (with_set new r.whole)) (sym joined) (over.over s taken_so_far t then from refl (g.carries s (laws.roomy taken_so_far t then)));
       enough = enough;
       front = trace_of g.reports;
       trace = trace_join g.reports (r.report ∷ []) ∙ ap (λ (l : List Item). trace_of g.reports ++ l) (append-nil r.report.items ∙ r.items);
@@ -256,9 +333,9 @@ going_on m old now new lost seen a b c told tells pages fills mid filled wanted 
     }
 
 -- its lines were put
-pub stepped_put : (m : Setting) (old now new : State) (seen : Seen) (a b : Counts) (told tells last : Option (List ℕ)) (pages fills filled : ℕ) (wanted : Bool) (notes_on : List Note → Type 0) → Stepped m old now new seen a b told tells pages fills filled wanted notes_on
-    → Appends tells last (lines_of (items_at now.step (whats seen))) → Going m old new a b told last pages fills filled wanted notes_on
-stepped_put m old now new seen a b told tells last pages fills filled wanted notes_on s put =
+pub stepped_put : (m : Setting) (old now new : State) (seen : Seen) (a b : Counts) (told tells last : Option (List ℕ)) (pages fills filled : ℕ) (wanted : Bool) (notes_on : List Note → Type 0) (begins : Type 0) (carried : Set → List Taken → State → Type 0) → Stepped m old now new seen a b told tells pages fills filled wanted notes_on begins carried
+    → Appends tells last (lines_of (items_at now.step (whats seen))) → Going m old new a b told last pages fills filled wanted notes_on begins carried
+stepped_put m old now new seen a b told tells last pages fills filled wanted notes_on begins carried s put =
     let is : lines_of (trace_of s.reports) ≡ lines_of s.front ++ lines_of (items_at now.step (whats seen)) = ap lines_of s.trace ∙ lines_join s.front (items_at now.step (whats seen)) in
     record {
       sets = s.sets;
@@ -272,15 +349,17 @@ stepped_put m old now new seen a b told tells last pages fills filled wanted not
       so_far = s.so_far;
       tells_notes = s.tells_notes;
       each_filled = s.each_filled;
+      rule = s.rule;
+      carries = s.carries;
       enough = s.enough;
       text = subst (λ (l : List ℕ). Appends told last l) (sym is) (appends_both told tells last (lines_of s.front) (lines_of (items_at now.step (whats seen))) s.text put);
       counts = s.counts;
     }
 
 -- or a front of them
-pub stepped_front : (m : Setting) (old now new : State) (seen : Seen) (a b : Counts) (told tells last : Option (List ℕ)) (pages fills filled : ℕ) (wanted : Bool) (notes_on : List Note → Type 0) → (s : Stepped m old now new seen a b told tells pages fills filled wanted notes_on)
+pub stepped_front : (m : Setting) (old now new : State) (seen : Seen) (a b : Counts) (told tells last : Option (List ℕ)) (pages fills filled : ℕ) (wanted : Bool) (notes_on : List Note → Type 0) (begins : Type 0) (carried : Set → List Taken → State → Type 0) → (s : Stepped m old now new seen a b told tells pages fills filled wanted notes_on begins carried)
     → AppendsFront tells last (lines_of (items_at now.step (whats seen))) → AppendsFront told last (lines_of (trace_of s.reports))
-stepped_front m old now new seen a b told tells last pages fills filled wanted notes_on s put =
+stepped_front m old now new seen a b told tells last pages fills filled wanted notes_on begins carried s put =
     let is : lines_of (trace_of s.reports) ≡ lines_of s.front ++ lines_of (items_at now.step (whats seen)) = ap lines_of s.trace ∙ lines_join s.front (items_at now.step (whats seen)) in
     subst (λ (l : List ℕ). AppendsFront told last l) (sym is) (front_of told tells last (lines_of s.front) (lines_of (items_at now.step (whats seen))) s.text put)
 
@@ -297,9 +376,9 @@ are_notes m old sets last notes h = record {
 }
 
 -- all steps were done
-pub reached : (m : Setting) (bound : ℕ) (old now : State) (a b : Counts) (told tells : Option (List ℕ)) (pages fills filled : ℕ) (wanted : Bool) (notes_on : List Note → Type 0) → Going m old now a b told tells pages fills filled wanted notes_on → now.step ≡ bound
-    → SliceAs m bound old now a b told tells pages fills filled wanted notes_on (Ok Reached)
-reached m bound old now a b told tells pages fills filled wanted notes_on g n = record {
+pub reached : (m : Setting) (bound : ℕ) (old now : State) (a b : Counts) (told tells : Option (List ℕ)) (pages fills filled : ℕ) (wanted : Bool) (notes_on : List Note → Type 0) (begins : Type 0) (carried : Set → List Taken → State → Type 0) → Going m old now a b told tells pages fills filled wanted notes_on begins carried → now.step ≡ bound
+    → SliceAs m bound old now a b told tells pages fills filled wanted notes_on begins (Ok Reached)
+reached m bound old now a b told tells pages fills filled wanted notes_on begins carried g n = record {
   sets = g.sets;
   reports = g.reports;
   last = with_set now g.whole;
@@ -316,16 +395,17 @@ reached m bound old now a b told tells pages fills filled wanted notes_on g n = 
   };
   tells_notes = g.tells_notes;
   each_filled = filled_push pages fills filled g.sets now.set g.each_filled g.enough;
+  kept = g.rule;
 }
 
 -- the next step stops
-pub stopped : (m : Setting) (bound : ℕ) (old now new : State) (lost : Lost) (stop : Stop) (a b : Counts) (told tells : Option (List ℕ)) (pages fills mid filled : ℕ) (wanted : Bool) (notes_on notes_after : List Note → Type 0)
-    → Going m old now a b told tells pages fills mid wanted notes_on → Halts m (eventful m now) lost stop → now.step < bound → new.step ≡ now.step → mid ≤ filled
-    → ((notes : List Note) → notes_on notes → notes_after (notes ++ emptied_if lost.before now.step)) → SliceAs m bound old new a b told tells pages fills filled wanted notes_after (Ok (Stopped stop))
-stopped m bound old now new lost stop a b told tells pages fills mid filled wanted notes_on notes_after g h lt still rises on =
+pub stopped : (m : Setting) (bound : ℕ) (old now new : State) (lost : Lost) (stop : Stop) (a b : Counts) (told tells : Option (List ℕ)) (pages fills mid filled : ℕ) (wanted : Bool) (notes_on notes_after : List Note → Type 0) (begins : Type 0) (carried : Set → List Taken → State → Type 0)
+    → Going m old now a b told tells pages fills mid wanted notes_on begins carried → Halts m (eventful m now) lost stop → now.step < bound → new.step ≡ now.step → mid ≤ filled
+    → ((notes : List Note) → notes_on notes → notes_after (notes ++ emptied_if lost.before now.step)) → SliceAs m bound old new a b told tells pages fills filled wanted notes_after begins (Ok (Stopped stop))
+stopped m bound old now new lost stop a b told tells pages fills mid filled wanted notes_on notes_after begins carried g h lt still rises on =
     let set = left_of lost.before now.set in
     let notes = g.notes ++ emptied_if lost.before now.step in
-    let told_set = chosen_told m old now a b told tells pages fills mid wanted notes_on g lost.before in
+    let told_set = chosen_told m old now a b told tells pages fills mid wanted notes_on begins carried g lost.before in
     let stands = chosen_first m now g.whole set ∙ h.stands in
     record {
       sets = g.sets;
@@ -334,24 +414,25 @@ stopped m bound old now new lost stop a b told tells pages fills mid filled want
       notes = notes;
       steps = g.steps;
       end = set;
-      ends = (lt, still, chosen_allowed m old now a b told tells pages fills mid wanted notes_on g lost.before, stands);
+      ends = (lt, still, chosen_allowed m old now a b told tells pages fills mid wanted notes_on begins carried g lost.before, stands);
       text = g.text;
       counts = g.counts;
       noted = λ w. record {
-        told = are_told m old g.sets notes (by_then m old now a b told tells pages fills mid wanted notes_on g lost.before w);
-        are = are_notes m old g.sets now.step notes (tried m old now a b told tells pages fills mid wanted notes_on g lost.before);
+        told = are_told m old g.sets notes (by_then m old now a b told tells pages fills mid wanted notes_on begins carried g lost.before w);
+        are = are_notes m old g.sets now.step notes (tried m old now a b told tells pages fills mid wanted notes_on begins carried g lost.before);
         ends = subst (λ (x : Set). step_of m (with_set now g.whole) x ≡ Stands stop) (told_set w) stands;
       };
       tells_notes = on g.notes g.tells_notes;
       each_filled = filled_push pages fills filled g.sets set (filled_later pages fills mid filled g.sets rises g.each_filled)
-          (enough_later pages (len set) fills mid filled rises (enough_chosen m old now a b told tells pages fills mid wanted notes_on g lost.before));
+          (enough_later pages (len set) fills mid filled rises (enough_chosen m old now a b told tells pages fills mid wanted notes_on begins carried g lost.before));
+      kept = g.rule;
     }
 
 -- the lines of a step were not put
-pub failed : (m : Setting) (bound : ℕ) (old now new : State) (seen : Seen) (fault : Failed) (a b : Counts) (told tells last : Option (List ℕ)) (pages fills filled : ℕ) (wanted : Bool) (notes_on : List Note → Type 0)
-    → Stepped m old now new seen a b told tells pages fills filled wanted notes_on → AppendsFront tells last (lines_of (items_at now.step (whats seen))) → new.step ≤ bound
-    → SliceAs m bound old new a b told last pages fills filled wanted notes_on (Err fault)
-failed m bound old now new seen fault a b told tells last pages fills filled wanted notes_on s put le = record {
+pub failed : (m : Setting) (bound : ℕ) (old now new : State) (seen : Seen) (fault : Failed) (a b : Counts) (told tells last : Option (List ℕ)) (pages fills filled : ℕ) (wanted : Bool) (notes_on : List Note → Type 0) (begins : Type 0) (carried : Set → List Taken → State → Type 0)
+    → Stepped m old now new seen a b told tells pages fills filled wanted notes_on begins carried → AppendsFront tells last (lines_of (items_at now.step (whats seen))) → new.step ≤ bound
+    → SliceAs m bound old new a b told last pages fills filled wanted notes_on begins (Err fault)
+failed m bound old now new seen fault a b told tells last pages fills filled wanted notes_on begins carried s put le = record {
   sets = s.sets;
   reports = s.reports;
   last = with_set new s.whole;
@@ -359,7 +440,7 @@ failed m bound old now new seen fault a b told tells last pages fills filled wan
   end = new.set;
   steps = s.steps;
   ends = le;
-  text = stepped_front m old now new seen a b told tells last pages fills filled wanted notes_on s put;
+  text = stepped_front m old now new seen a b told tells last pages fills filled wanted notes_on begins carried s put;
   counts = s.counts;
   noted = λ w. record {
     told = are_told m old s.sets s.notes (s.by w);
@@ -368,6 +449,7 @@ failed m bound old now new seen fault a b told tells last pages fills filled wan
   };
   tells_notes = s.tells_notes;
   each_filled = filled_push pages fills filled s.sets new.set s.each_filled s.enough;
+  kept = s.rule;
 }
 
 abbrev pub counted : ℕ → ℕ → Counts

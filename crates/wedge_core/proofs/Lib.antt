@@ -18,6 +18,7 @@ pub mod Released
 pub mod Sights
 pub mod Texts
 pub mod Joined
+pub mod Passed
 pub mod Going
 pub mod Keeping
 pub mod Asked
@@ -55,3 +56,5 @@ pub mod Stays
 mod StepReady
 pub mod Returning
 pub mod Dropping
+pub mod Leaving
+pub mod Sweeping

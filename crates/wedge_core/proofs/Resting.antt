@@ -1,7 +1,9 @@
 -- Steps in which a halted processor has nothing to do.
 use Rattle.std.proofs.Common.{◌≡◌, ℕ, zero, suc, ◌+◌, ◌-◌, ◌<◌, Bool, true, false, List, [], ◌∷◌, replicate, length, cond, Option, None, refl, sym, ap, subst, ◌∙◌, inl, arith}
 use Rattle.std.specs.Prelude.{◌&&◌, ◌||◌, ◌==◌, nat_lt, nat_le, not, if◌then◌else◌}
+use Rattle.std.specs.List.{All}
 use Rattle.std.proofs.lemmas.Bool.Decides.{nat_tests}
+use Rattle.std.proofs.lemmas.List.Elements.{All-nil, All-cons}
 use Rattle.pit8254.specs.Timers.{edge_comes, edge_within, timer_step}
 use Rattle.board.specs.declared.devices.Board.{Board}
 use Rattle.board.specs.Scripts.{Events}
@@ -9,13 +11,15 @@ use Rattle.board.specs.Boards.{edged, given, board_step, board_steps, event_with
 use Rattle.descriptors.specs.declared.cpu.Cpu.{Cpu}
 use Rattle.paging.specs.Fresh.{has}
 use Rattle.machine_model.specs.State.{Setting, State, Loosened, space_at_start}
-use Rattle.machine_model.specs.Step.{Report, Went, step_of, stepped, by_interrupt, interrupt_of, unheld}
+use Rattle.machine_model.specs.Step.{Report, Result, Went, step_of, stepped, by_interrupt, interrupt_of, unheld}
 use Rattle.machine_model.specs.Run.{Set, Steps, trace_of}
+use Rattle.machine_model.specs.Taken.{Taken, behind, steps_by}
 use Rattle.machine_model.specs.Notes.{AreLeft}
 use Rattle.paging.specs.Space.{Space}
 use Rattle.sites.specs.declared.site.Site.{Site}
 use Rattle.machine_model.specs.Step.{went, worked, begins_next}
 use Rattle.machine_model.specs.Counts.{direct_addresses, passed_on}
+use Rattle.native_steps.specs.Stretch.{IsQuiet}
 use Rattle.wedge_core.specs.Slices.{Counts, CountsOn}
 use Rattle.wedge_core.specs.Stepping.{Passes}
 
@@ -131,6 +135,30 @@ idle_left (suc k) s cpu ram set board t halted none quiet =
           (idle_left k s cpu ram set (board_step board) (t + 1) halted (interrupt_same (record cpu { held = false }) board q.no_edge ∙ none) q.later),
     )
 
+-- and none of them loads CR3
+quiet_first : (k : ℕ) (s : Setting) (cpu : Cpu) (ram : List ℕ) (set : Set) (board : Board) (t : ℕ)
+    → cpu.halted ≡ true → given board s.script (t + 1) ≡ board → interrupt_of (record cpu { held = false }) board ≡ None
+    → All IsQuiet (steps_by s (resting cpu ram set (board_step board) (t + 1 + 1)) (replicate k set))
+    → All IsQuiet (steps_by s (resting cpu ram set board (t + 1)) (set ∷ replicate k set))
+quiet_first k s cpu ram set board t halted no_event none rest =
+    let b = resting cpu ram set board (t + 1) in
+    let next = resting cpu ram set (board_step board) (t + 1 + 1) in
+    let taken : Taken = record { before = b; set = set; report = nothing; after = next } in
+    let one : IsQuiet taken = record { through = refl; cr0 = refl; cr3 = refl; cr4 = refl; size = refl } in
+    subst (All IsQuiet) (sym (ap (λ (r : Result). behind b set r (λ a. steps_by s a (replicate k set))) (idle_step s cpu ram set set board (t + 1) halted no_event none)))
+    (All-cons IsQuiet taken (steps_by s next (replicate k set)) one rest)
+
+idle_quiet : (k : ℕ) (s : Setting) (cpu : Cpu) (ram : List ℕ) (set : Set) (board : Board) (t : ℕ)
+    → cpu.halted ≡ true → interrupt_of (record cpu { held = false }) board ≡ None → comes_within board s.script t (suc k) ≡ false
+    → All IsQuiet (steps_by s (resting cpu ram set board (t + 1)) (set ∷ replicate k set))
+idle_quiet zero s cpu ram set board t halted none quiet =
+    let q = quiet_from board s.script t 0 quiet in
+    quiet_first 0 s cpu ram set board t halted q.no_event none (All-nil IsQuiet)
+idle_quiet (suc k) s cpu ram set board t halted none quiet =
+    let q = quiet_from board s.script t (suc k) quiet in
+    quiet_first (suc k) s cpu ram set board t halted q.no_event none
+    (idle_quiet k s cpu ram set (board_step board) (t + 1) halted (interrupt_same (record cpu { held = false }) board q.no_edge ∙ none) q.later)
+
 -- nothing is seen in them
 pub nothing_seen : (k : ℕ) → trace_of (replicate k nothing) ≡ []
 nothing_seen zero = refl
@@ -153,7 +181,7 @@ steps_none m b = (refl, refl)
 
 -- no step passes
 pub rests_none : (m : Setting) (b : State) (counts : Counts) → Passes m b b counts counts
-rests_none m b counts = record { n = 0; reports = []; steps = steps_none m b; left = tt; silent = refl; counts = counts_stay m 0 counts }
+rests_none m b counts = record { n = 0; reports = []; steps = steps_none m b; left = tt; quiet = All-nil IsQuiet; silent = refl; counts = counts_stay m 0 counts }
 
 rests_at : (j : ℕ) (s : Setting) (cpu : Cpu) (ram : List ℕ) (set : Set) (board : Board) (t : ℕ) (counts : Counts)
     → cpu.halted ≡ true → interrupt_of (record cpu { held = false }) board ≡ None → comes_within board s.script t (suc j) ≡ false
@@ -163,6 +191,7 @@ rests_at j s cpu ram set board t counts halted none quiet = record {
   reports = nothing ∷ replicate j nothing;
   steps = idle_steps j s cpu ram set set board t halted none quiet (record { each = λ page e is. inl is });
   left = idle_left j s cpu ram set board t halted none quiet;
+  quiet = idle_quiet j s cpu ram set board t halted none quiet;
   silent = nothing_seen (suc j);
   counts = counts_stay s (suc j) counts;
 }

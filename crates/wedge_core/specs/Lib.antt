@@ -21,3 +21,4 @@ pub mod Filled
 pub mod Ready
 pub mod Leaving
 pub mod Carried
+pub mod CarryLaws

@@ -1,7 +1,7 @@
 -- What a slice of a patched run says.
-use Rattle.std.specs.Prelude.{◌≡◌, ℕ, ◌+◌, ◌≤◌, ◌<◌, Bool, true, List, [], ◌∷◌, ◌++◌, Option, Result, Ok, Err}
+use Rattle.std.specs.Prelude.{◌≡◌, ℕ, ◌+◌, ◌≤◌, ◌<◌, Bool, true, false, List, [], ◌∷◌, ◌++◌, Option, Result, Ok, Err}
 use Rattle.std.specs.List.{All}
-use Rattle.std.specs.FinMap.{len}
+use Rattle.std.specs.FinMap.{len, empty}
 use Rattle.pv_io.specs.declared.answer.Failed.{Failed}
 use Rattle.pv_io.specs.Sink.{Appends, AppendsFront}
 use Rattle.image_load.specs.declared.fault.Pause.{Pause}
@@ -12,6 +12,7 @@ use Rattle.machine_model.specs.State.{Setting, State, Loosened}
 use Rattle.machine_model.specs.Step.{Report, Stands, step_of}
 use Rattle.machine_model.specs.Run.{Set, Steps, trace_of}
 use Rattle.machine_model.specs.Counts.{direct_count, passed_digest}
+use Rattle.machine_model.specs.Keeping.{Kept}
 use Rattle.wedge_core.specs.Filled.{FillsOn}
 use Rattle.wedge_core.specs.Noted.{IsNoted}
 use Rattle.wedge_core.specs.Parts.{with_set}
@@ -41,8 +42,9 @@ PutsAs text old new (Err failed) = AppendsFront old new text
 -- Steps under the monitor's rules, up to the bound or to a stop, led from the old state to the last. The lines of what
 -- was seen in them were put, and the host completed their direct instructions. Where notes are wanted, they go by what is
 -- left of translations, but for those that these notes tell to be dropped. Each of their sets, and the one behind them, has
--- no more pages than were kept at first and were filled since.
-pub record SliceAs (m : Setting) (bound : ℕ) (old new : State) (before after : Counts) (told tells : Option (List ℕ)) (pages fills filled : ℕ) (wanted : Bool) (notes_on : List Note → Type 0) (result : Result Pause Failed) : Type 0 where
+-- no more pages than were kept at first and were filled since. Where the slice begins so, the sets keep the rule for kept
+-- translations.
+pub record SliceAs (m : Setting) (bound : ℕ) (old new : State) (before after : Counts) (told tells : Option (List ℕ)) (pages fills filled : ℕ) (wanted : Bool) (notes_on : List Note → Type 0) (begins : Type 0) (result : Result Pause Failed) : Type 0 where
   pub sets : List Set
   pub reports : List Report
   pub last : State
@@ -55,6 +57,14 @@ pub record SliceAs (m : Setting) (bound : ℕ) (old new : State) (before after :
   pub noted : wanted ≡ true → IsNoted m old new sets last notes result
   pub tells_notes : notes_on notes
   pub each_filled : All (λ (set : Set). FillsOn pages (len set) fills filled) (sets ++ end ∷ [])
+  pub kept : begins → Kept m old sets
+
+-- A slice begins with nothing kept, two frames held and all others of 512 free, and no notes are wanted.
+pub record BeginsEmpty (set : Set) (free held : ℕ) (wanted : Bool) : Type 0 where
+  pub empty_set : set ≡ empty
+  pub two : held ≡ 2
+  pub others : free + held ≡ 512
+  pub silent : wanted ≡ false
 
 -- what holds where the run can go on
 abbrev pub GoesOn : Result Pause Failed → Type 0 → Type 0

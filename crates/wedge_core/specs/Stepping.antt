@@ -1,12 +1,15 @@
 -- What one step of a patched run comes to, and some of them.
 use Rattle.std.specs.Prelude.{◌≡◌, ℕ, List, [], ◌∷◌, replicate, Result, Ok, Err}
+use Rattle.std.specs.List.{All}
 use Rattle.ia32_types.specs.declared.stop.Stop.{Stop}
 use Rattle.machine_step.specs.declared.worked.Seen.{Seen}
 use Rattle.machine_step.specs.Worked.{whats}
 use Rattle.machine_model.specs.State.{Setting, State}
 use Rattle.machine_model.specs.Step.{Report, Went, Stands, stepped, items_at}
 use Rattle.machine_model.specs.Run.{Set, Steps, trace_of}
+use Rattle.machine_model.specs.Taken.{steps_by}
 use Rattle.machine_model.specs.Notes.{AreLeft}
+use Rattle.native_steps.specs.Stretch.{IsQuiet}
 use Rattle.wedge_core.specs.Parts.{left_of, with_set, IsLeft}
 use Rattle.wedge_core.specs.Slices.{Counts, CountsOn}
 use Rattle.wedge_core.specs.declared.running.Lost.{Lost}
@@ -45,12 +48,13 @@ AloneAs m b lost (Ok seen) new = Alone m b lost seen new
 AloneAs m b lost (Err stop) new = stepped m b ≡ Stands stop
 
 -- Some steps in which nothing is seen lead from one state to another. Each goes by the same translations, which the one
--- before left.
+-- before left. None loads CR3, or changes another control register.
 pub record Passes (m : Setting) (b new : State) (before after : Counts) : Type 0 where
   pub n : ℕ
   pub reports : List Report
   pub steps : Steps m b (replicate n b.set) reports new
   pub left : AreLeft m b (replicate n b.set)
+  pub quiet : All IsQuiet (steps_by m b (replicate n b.set))
   pub silent : trace_of reports ≡ []
   pub counts : CountsOn m reports before after
 

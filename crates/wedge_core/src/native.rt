@@ -1,9 +1,12 @@
 //! One step whose instruction the host does, where it is done.
 
-ghost use Rattle.std.specs.Prelude.{◌≡◌, ℕ, ◌+◌, ◌*◌, ◌/◌, ◌%◌, ◌==◌, ◌≤◌, ◌<◌, ◌^◌, List, length, true, false, take, Ok, OnOk, OnErr};
+ghost use Rattle.std.specs.Prelude.{◌≡◌, ℕ, Bool, ◌+◌, ◌*◌, ◌/◌, ◌%◌, ◌==◌, ◌≤◌, ◌<◌, ◌^◌, List, length, true, false, take, None, Ok, OnOk, OnErr};
 ghost use Rattle.std.specs.FinMap.{empty};
 ghost use Rattle.frame_pool.specs.Pool.{free_list};
-ghost use Rattle.frame_pool.specs.Held.{Moves};
+ghost use Rattle.frame_pool.specs.Held.{Moves, Owns};
+ghost use Rattle.frame_pool.specs.declared.Pool.{Pool};
+ghost use Rattle.shadow_tables.specs.Aside.{AreSame};
+ghost use Rattle.shadow_tables.specs.Entries.{entries_of};
 ghost use Rattle.image_check.specs.Image.{Image};
 ghost use Rattle.board.specs.Scripts.{Events};
 ghost use Rattle.machine_model.specs.State.{wedge};
@@ -206,7 +209,8 @@ fn eip_fits(cpu: &Cpu)
     let _eip = cpu.regs.eip;
 }
 
-/// All translations leave before a step for whose pages frames may lack, or which clashes. Before another they stay.
+/// All translations leave before a step for whose pages frames may lack, and those that are present before one that clashes.
+/// Before another they stay.
 fn make_room<S: Shadows + Drop>(
     running: &mut Running<S>,
     pool: &mut Pool,
@@ -230,9 +234,10 @@ fn make_room<S: Shadows + Drop>(
     ensures guest { take (4096 * running.old.frames) ram.new ≡ take (4096 * running.old.frames) ram.old }
     ensures moves { Moves pool.old pool.new ram.old ram.new (S.frames running.old.shadows ram.old) (S.frames running.new.shadows ram.new) }
 {
-    let few = pool.free() < ROOM;
-    if few || clashes(&running.cpu, running.frames, &running.shadows, ram, image) {
+    if pool.free() < ROOM {
         drop_kept(running, pool, ram);
+    } else if clashes(&running.cpu, running.frames, &running.shadows, ram, image) {
+        drop_present(running, ram);
     }
 }
 
@@ -246,6 +251,7 @@ fn drop_kept<S: Shadows + Drop>(running: &mut Running<S>, pool: &mut Pool, ram: 
     ensures same { running.new ≡ record running.old { shadows = running.new.shadows; held = running.new.held; lost = running.new.lost } }
     ensures ready { (m : Setting) → m.frames ≡ running.old.frames → IsReady S.slots S.noted S.marked S.value S.asides m running.old.cpu running.old.shadows ram.old → IsReady S.slots S.noted S.marked S.value S.asides m running.new.cpu running.new.shadows ram.new }
     ensures back { running.new.lost.back ≡ running.old.lost.back }
+    ensures opened { (indices : ℕ → Bool) → S.opened running.old.shadows ram.old indices → S.opened running.new.shadows ram.new indices }
     ensures fewer { pages_kept S.slots S.asides running.new.shadows ram.new ≤ pages_kept S.slots S.asides running.old.shadows ram.old }
     ensures guest { take (4096 * running.old.frames) ram.new ≡ take (4096 * running.old.frames) ram.old }
     ensures moves { Moves pool.old pool.new ram.old ram.new (S.frames running.old.shadows ram.old) (S.frames running.new.shadows ram.new) }
@@ -254,6 +260,45 @@ fn drop_kept<S: Shadows + Drop>(running: &mut Running<S>, pool: &mut Pool, ram: 
     running.shadows.drop_all(ram, pool);
     running.held = free - pool.free();
     running.lost.before = true;
+}
+
+/// What is present leaves before a step that clashes; what is kept for other values of CR3 stays. It is noted.
+fn drop_present<S: Shadows + Drop>(running: &mut Running<S>, ram: &mut Ram)
+    requires held { (image : Image) × (pool : Pool) × IsHeld S.stands S.frames S.slots (ground image running.old.frames) running.old pool ram.old }
+    ensures held { (image : Image) (pool : Pool) → IsHeld S.stands S.frames S.slots (ground image running.old.frames) running.old pool ram.old → IsHeld S.stands S.frames S.slots (ground image running.old.frames) running.new pool ram.new }
+    ensures none { set_of S.stands S.frames S.slots running.new ram.new ≡ empty }
+    ensures lost { running.new.lost.before ≡ true }
+    ensures same { running.new ≡ record running.old { shadows = running.new.shadows; lost = running.new.lost } }
+    ensures ready { (m : Setting) → m.frames ≡ running.old.frames → IsReady S.slots S.noted S.marked S.value S.asides m running.old.cpu running.old.shadows ram.old → IsReady S.slots S.noted S.marked S.value S.asides m running.new.cpu running.new.shadows ram.new }
+    ensures back { running.new.lost.back ≡ running.old.lost.back }
+    ensures stay { StayAside (S.noted running.old.shadows) (S.noted running.new.shadows) (S.marked running.old.shadows) (S.marked running.new.shadows) (S.asides running.old.shadows ram.old) (S.asides running.new.shadows ram.new) }
+    ensures opened { (indices : ℕ → Bool) → S.opened running.old.shadows ram.old indices → S.opened running.new.shadows ram.new indices }
+    ensures fewer { pages_kept S.slots S.asides running.new.shadows ram.new ≤ pages_kept S.slots S.asides running.old.shadows ram.old }
+    ensures guest { take (4096 * running.old.frames) ram.new ≡ take (4096 * running.old.frames) ram.old }
+    ensures frames { S.frames running.new.shadows ram.new ≡ S.frames running.old.shadows ram.old }
+    ensures moves { (pool : Pool) → Owns pool ram.old (S.frames running.old.shadows ram.old) → Moves pool pool ram.old ram.new (S.frames running.old.shadows ram.old) (S.frames running.new.shadows ram.new) }
+{
+    drop_dirs(&mut running.shadows, ram);
+    running.lost.before = true;
+}
+
+/// Drops every page of each directory index. What is kept for other values of CR3, and what was noted, stays.
+fn drop_dirs<S: Shadows>(shadows: &mut S, ram: &mut Ram)
+    requires stands { ∥ S.stands shadows.old ram.old ∥₁ }
+    ensures stands { ∥ S.stands shadows.new ram.new ∥₁ }
+    ensures none { (page : ℕ) → page < 2 ^ 20 → S.slots shadows.new ram.new page ≡ None }
+    ensures entries { entries_of (S.slots shadows.new ram.new) ≡ empty }
+    ensures noted { (f : ℕ) → S.noted shadows.new f ≡ S.noted shadows.old f }
+    ensures marked { S.marked shadows.new ≡ S.marked shadows.old }
+    ensures value { S.value shadows.new ≡ S.value shadows.old }
+    ensures asides { AreSame (S.asides shadows.old ram.old) (S.asides shadows.new ram.new) }
+    ensures opened { (indices : ℕ → Bool) → S.opened shadows.old ram.old indices → S.opened shadows.new ram.new indices }
+    ensures frames { S.frames shadows.new ram.new ≡ S.frames shadows.old ram.old }
+    ensures moves { (p : Pool) → Owns p ram.old (S.frames shadows.old ram.old) → Moves p p ram.old ram.new (S.frames shadows.old ram.old) (S.frames shadows.new ram.new) }
+{
+    for index in 0..1024 {
+        shadows.drop_dir(ram, index);
+    }
 }
 
 /// Fetches the instruction. None where the host is to do it: its ranges are translated, and its effect is done.

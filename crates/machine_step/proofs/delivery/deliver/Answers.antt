@@ -8,6 +8,8 @@ use Rattle.run_trace.specs.declared.items.What.TheVariants.{Irq}
 use Rattle.step_mem.specs.Sound.{space_at}
 use Rattle.machine_model.specs.Step.{interrupted, entered, after_delivery}
 use Rattle.machine_step.specs.Worked.{ComesTo}
+use Rattle.machine_step.proofs.Used.{if_ok, entered_uses}
+use Rattle.std.specs.Prelude.{Bool, ◌==◌}
 use Rattle.machine_step.proofs.delivery.deliver.Goals as goal
 
 pub returns-in-Ok-clause-step : goal.returns-in-Ok-clause-step
@@ -21,3 +23,9 @@ returns-in-Ok-clause-step g c = λ m b k.
     (c.entered.ensures.step m here board s k) in
     subst (λ (o : Outcome NotDelivered Cpu). ComesTo (after_delivery m (Irq a.vector ∷ []) here (acknowledged a.board.now) o) b c.entered.result board s)
     (sym (rw c.in-Ok.is at c.deliver_in.ensures.delivers)) stood
+
+pub returns-in-Ok-clause-uses : goal.returns-in-Ok-clause-uses
+returns-in-Ok-clause-uses g c =
+    let s = space_at (g.B.Kept.entries c.args.kept.now) c.args.ram.now c.args.state.now in
+    let t = space_at (g.B.Kept.entries c.args.kept.now) c.deliver_in.new.ram c.deliver_in.new.state in
+    if_ok c.entered.result (entered_uses c.works_use.ensures.delivered (c.args.cpu.now.cpl == 3) _ _ _ _ _ s t (rw c.in-Ok.is at c.deliver_in.ensures.delivers))

@@ -1,3 +1,6 @@
+use Rattle.step_mem.specs.Sound.{space_at}
+use Rattle.machine_step.proofs.Used.{if_ok_on}
+use Rattle.std.specs.Prelude.{Bool, ◌==◌}
 use Rattle.machine_step.proofs.delivery.refuse.Goals as goal
 
 pub returns-in-Raise-clause-step : goal.returns-in-Raise-clause-step
@@ -5,3 +8,23 @@ returns-in-Raise-clause-step g c = λ m b k. rw c.in-Raise.is (c.raise.ensures.s
 
 pub returns-in-Fault-clause-step : goal.returns-in-Fault-clause-step
 returns-in-Fault-clause-step g c = λ m b k. rw c.in-Fault.is (c.raise-in-Fault.ensures.step m (record b { cpu = c.args.cpu.now }) k)
+
+pub returns-in-Raise-clause-uses : goal.returns-in-Raise-clause-uses
+returns-in-Raise-clause-uses g c = c.raise.ensures.uses (c.args.cpu.now.cpl == 3)
+
+pub returns-in-Fault-clause-uses : goal.returns-in-Fault-clause-uses
+returns-in-Fault-clause-uses g c = c.raise-in-Fault.ensures.uses (c.args.cpu.now.cpl == 3)
+
+pub returns-in-Raise-clause-goes_on : goal.returns-in-Raise-clause-goes_on
+returns-in-Raise-clause-goes_on g c = λ s h.
+    let user : Bool = c.args.cpu.now.cpl == 3 in
+    let t = space_at (g.B.Kept.entries c.args.kept.now) c.args.ram.now c.args.state.now in
+    let u = space_at (g.B.Kept.entries c.args.kept.now) c.raise.new.ram c.raise.new.state in
+    if_ok_on user s t u c.raise.result (rw c.in-Raise.is at h) (c.raise.ensures.uses user)
+
+pub returns-in-Fault-clause-goes_on : goal.returns-in-Fault-clause-goes_on
+returns-in-Fault-clause-goes_on g c = λ s h.
+    let user : Bool = c.args.cpu.now.cpl == 3 in
+    let t = space_at (g.B.Kept.entries c.args.kept.now) c.args.ram.now c.args.state.now in
+    let u = space_at (g.B.Kept.entries c.args.kept.now) c.raise-in-Fault.new.ram c.raise-in-Fault.new.state in
+    if_ok_on user s t u c.raise-in-Fault.result (rw c.in-Fault.is at h) (c.raise-in-Fault.ensures.uses user)

@@ -1,6 +1,15 @@
-use Rattle.ia32_decode.specs.declared.answer.Decoded.TheVariants as begins
-use Rattle.machine_step.proofs.Spelled.{spelled_by}
+use Rattle.step_mem.specs.Sound.{space_at}
+use Rattle.machine_step.proofs.Used.{gives_uses, refuses_uses}
 use Rattle.machine_step.proofs.fetch.fetch.Goals as goal
 
-pub returns-in-Insn-clause-spelled : goal.returns-in-Insn-clause-spelled
-returns-in-Insn-clause-spelled g c = spelled_by _ (begins.Insn c.in-Insn.insn c.in-Insn.len) c.in-Insn.ensures.insn
+pub returns-clause-uses : goal.returns-clause-uses
+returns-clause-uses g c =
+    let s = space_at (g.B.Kept.entries c.args.kept.now) c.args.ram.now c.args.state.now in
+    let t = space_at (g.B.Kept.entries c.args.kept.now) c.fetch_pages.new.ram c.fetch_pages.new.state in
+    gives_uses c.args.user s t c.fetch_pages.result _ c.fetch_pages.ensures.fetched (c.works_use.ensures.fetched c.args.user c.args.at s)
+
+pub returns-clause-refused : goal.returns-clause-refused
+returns-clause-refused g c =
+    let s = space_at (g.B.Kept.entries c.args.kept.now) c.args.ram.now c.args.state.now in
+    let t = space_at (g.B.Kept.entries c.args.kept.now) c.fetch_pages.new.ram c.fetch_pages.new.state in
+    refuses_uses c.args.user s t c.fetch_pages.result _ c.fetch_pages.ensures.fetched (c.works_use.ensures.fetched c.args.user c.args.at s)

@@ -5,6 +5,8 @@ use Rattle.sys_exec.specs.declared.effect.SysEffect.{SysEffect}
 use Rattle.step_mem.specs.Sound.{space_at}
 use Rattle.machine_model.specs.Step.{effect_on}
 use Rattle.machine_step.specs.Worked.{ComesTo, completed_of}
+use Rattle.machine_step.proofs.Used.{told_uses}
+use Rattle.std.specs.Prelude.{Bool, ◌==◌}
 use Rattle.machine_step.proofs.instruction.perform.Goals as goal
 
 pub returns-clause-step : goal.returns-clause-step
@@ -13,3 +15,10 @@ returns-clause-step g c = λ m b k.
     subst (λ (told : SysEffect × Cpu × Space). ComesTo (effect_on m here (completed_of c.args.completed) told) b c.follow.result c.follow.new.board (space_at (g.B.Kept.entries c.args.kept.now) c.follow.new.ram c.follow.new.state))
     (sym c.execute-effect.ensures.told)
     (c.follow.ensures.step m here k)
+
+pub returns-clause-uses : goal.returns-clause-uses
+returns-clause-uses g c =
+    let cpu = c.args.cpu.now in
+    let s = space_at (g.B.Kept.entries c.args.kept.now) c.args.ram.now c.args.state.now in
+    let t = space_at (g.B.Kept.entries c.args.kept.now) c.execute-effect.new.ram c.execute-effect.new.state in
+    c.follow.ensures.uses s (told_uses (cpu.cpl == 3) cpu s t _ _ _ c.execute-effect.ensures.told (c.works_use.ensures.instructed c.args.insn.now c.args.len cpu s))

@@ -6,6 +6,8 @@ use Rattle.step_mem.specs.Sound.{space_at}
 use Rattle.machine_step.specs.declared.worked.Reached.TheVariants as reached
 use Rattle.machine_step.specs.Begun.{after_reach, ReachesTo}
 use Rattle.machine_step.proofs.Refused.{refused_same}
+use Rattle.machine_step.proofs.Used.{given_uses, refused_uses}
+use Rattle.std.specs.Prelude.{Bool, ◌==◌}
 use Rattle.machine_step.proofs.native.reach.Goals as goal
 
 pub reach_both-requires-clause-shape : goal.reach_both-requires-clause-shape
@@ -24,3 +26,15 @@ returns-in-Ok-refuse-clause-reaches g c = λ m b completed go k.
     let s = space_at (g.B.Kept.entries c.args.kept.now) c.refuse.new.ram c.refuse.new.state in
     subst (λ (o : Outcome Refusal (Unit {0})). ReachesTo (after_reach m here completed o go) b go (Ok (reached.Worked c.in-Ok-refuse.worked)) b.board s)
     (sym c.in-Err.ensures.gives) (refused_same m here completed c.in-Err.refusal _ ∙ c.in-Ok-refuse.ensures.step m here k)
+
+pub returns-in-Ok-clause-uses : goal.returns-in-Ok-clause-uses
+returns-in-Ok-clause-uses g c =
+    let s = space_at (g.B.Kept.entries c.args.kept.now) c.args.ram.now c.args.state.now in
+    let t = space_at (g.B.Kept.entries c.args.kept.now) c.reach_both.new.ram c.reach_both.new.state in
+    given_uses (c.args.cpu.now.cpl == 3) s t _ _ c.in-Ok.ensures.gives (c.works_use.ensures.ranges c.args.cpu.now c.args.insn.now s)
+
+pub returns-in-Ok-refuse-clause-uses : goal.returns-in-Ok-refuse-clause-uses
+returns-in-Ok-refuse-clause-uses g c =
+    let s = space_at (g.B.Kept.entries c.args.kept.now) c.args.ram.now c.args.state.now in
+    let t = space_at (g.B.Kept.entries c.args.kept.now) c.reach_both.new.ram c.reach_both.new.state in
+    c.in-Ok-refuse.ensures.goes_on s (refused_uses (c.args.cpu.now.cpl == 3) s t _ _ c.in-Err.ensures.gives (c.works_use.ensures.ranges c.args.cpu.now c.args.insn.now s))

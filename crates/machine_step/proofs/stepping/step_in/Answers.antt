@@ -2,6 +2,10 @@ use Rattle.std.proofs.Common.{sym, subst}
 use Rattle.step_mem.specs.Sound.{space_at}
 use Rattle.machine_model.specs.Step as steps
 use Rattle.machine_step.specs.Worked.{ComesTo}
+use Rattle.machine_step.proofs.Used.{if_ok_on}
+use Rattle.std.specs.Prelude.{IfOk, ◌==◌}
+use Rattle.descriptors.specs.declared.cpu.Cpu.{Cpu}
+use Rattle.machine_model.specs.UsedPages.{Uses}
 use Rattle.machine_step.proofs.stepping.step_in.Goals as goal
 
 pub returns-in-Worked-clause-step : goal.returns-in-Worked-clause-step
@@ -12,3 +16,11 @@ returns-in-Fetched-clause-step g c = λ m b k.
     let h = rw c.in-Fetched.is at (c.in_ok-worked.ensures.begins m b k) in
     subst (λ (r : steps.Result). ComesTo r b c.carry_out.result c.carry_out.new.board (space_at (g.B.Kept.entries c.args.kept.now) c.carry_out.new.ram c.carry_out.new.state)) (sym h)
     (c.carry_out.ensures.step m b k)
+
+pub returns-in-Fetched-clause-uses : goal.returns-in-Fetched-clause-uses
+returns-in-Fetched-clause-uses g c =
+    let s = space_at (g.B.Kept.entries c.args.kept.now) c.args.ram.now c.args.state.now in
+    let t = space_at (g.B.Kept.entries c.args.kept.now) c.start.new.ram c.start.new.state in
+    let u = space_at (g.B.Kept.entries c.args.kept.now) c.carry_out.new.ram c.carry_out.new.state in
+    if_ok_on (c.args.cpu.now.cpl == 3) s t u c.carry_out.result c.in_ok-worked.ensures.uses
+    (subst (λ (x : Cpu). IfOk c.carry_out.result (λ _. Uses (x.cpl == 3) t u)) (rw c.in-Fetched.is at c.in_ok-worked.ensures.fetched) c.carry_out.ensures.uses)

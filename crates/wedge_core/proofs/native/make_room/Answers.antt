@@ -1,26 +1,37 @@
-use Rattle.std.proofs.Common.{Bool, refl, sym, ap, ◌∙◌}
+use Rattle.std.proofs.Common.{Bool, refl, sym, ap, ◌∙◌, arith}
 use Rattle.machine_model.specs.State.{wedge}
 use Rattle.shadow_tables.specs.Entries.{entries_of}
+use Rattle.shadow_tables.proofs.Asides.{same-refl}
 use Rattle.wedge_core.specs.Parts.{left_of}
 use Rattle.wedge_core.specs.Standing.{state_of}
 use Rattle.wedge_core.proofs.Clashless.{empty_clear}
 use Rattle.wedge_core.proofs.AfterTry.{any_script}
 use Rattle.wedge_core.proofs.native.make_room.Goals as goal
 
-pub returns-then-few-clause-left : goal.returns-then-few-clause-left
-returns-then-few-clause-left g c =
+pub returns-then-free-lt-ROOM-clause-left : goal.returns-then-free-lt-ROOM-clause-left
+returns-then-free-lt-ROOM-clause-left g c =
     let old = entries_of (g.S.Shadows.slots c.args.running.now.shadows c.args.ram.now) in
     c.drop_kept.ensures.none ∙ ap (λ (x : Bool). left_of x old) (sym c.drop_kept.ensures.lost)
+
+pub returns-then-clashes-clause-left : goal.returns-then-clashes-clause-left
+returns-then-clashes-clause-left g c =
+    let old = entries_of (g.S.Shadows.slots c.args.running.now.shadows c.args.ram.now) in
+    c.drop_present.ensures.none ∙ ap (λ (x : Bool). left_of x old) (sym c.drop_present.ensures.lost)
 
 pub returns-else-clashes-clause-left : goal.returns-else-clashes-clause-left
 returns-else-clashes-clause-left g c =
     let old = entries_of (g.S.Shadows.slots c.args.running.now.shadows c.args.ram.now) in
     ap (λ (x : Bool). left_of x old) (sym c.requires.kept)
 
-pub returns-then-few-clause-clear : goal.returns-then-few-clause-clear
-returns-then-few-clause-clear g c = λ script insn len after e.
+pub returns-then-free-lt-ROOM-clause-clear : goal.returns-then-free-lt-ROOM-clause-clear
+returns-then-free-lt-ROOM-clause-clear g c = λ script insn len after e.
     let m = wedge c.args.image.now script c.args.running.now.frames in
     empty_clear m (state_of g.S.Shadows.stands g.S.Shadows.frames g.S.Shadows.slots m c.drop_kept.new.running c.drop_kept.new.ram) c.drop_kept.ensures.none
+
+pub returns-then-clashes-clause-clear : goal.returns-then-clashes-clause-clear
+returns-then-clashes-clause-clear g c = λ script insn len after e.
+    let m = wedge c.args.image.now script c.args.running.now.frames in
+    empty_clear m (state_of g.S.Shadows.stands g.S.Shadows.frames g.S.Shadows.slots m c.drop_present.new.running c.drop_present.new.ram) c.drop_present.ensures.none
 
 pub returns-else-clashes-clause-clear : goal.returns-else-clashes-clause-clear
 returns-else-clashes-clause-clear g c = λ script insn len after e.
