@@ -31,6 +31,7 @@ pub mod Uncounted
 pub mod ToldSteps
 pub mod Trying
 pub mod LookedUses
+pub mod LookedMarks
 pub mod OnceRan
 pub mod Clashless
 pub mod Elsewhere
