@@ -58,3 +58,5 @@ pub mod Returning
 pub mod Dropping
 pub mod Leaving
 pub mod Sweeping
+pub mod Carrying
+pub mod Ended
