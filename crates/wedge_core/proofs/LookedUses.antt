@@ -15,7 +15,7 @@ use Rattle.ia32_decode.specs.Front.{longest}
 use Rattle.paging.specs.declared.entry.Access.{Access}
 use Rattle.paging.specs.declared.entry.Entry.{Entry}
 use Rattle.paging.specs.Fresh.{has}
-use Rattle.machine_model.specs.State.{Setting, State, wedge}
+use Rattle.machine_model.specs.State.{State, wedge}
 use Rattle.machine_model.specs.Run.{Set}
 use Rattle.machine_model.specs.Instruction.{next_page}
 use Rattle.machine_model.specs.Clash.{Use, access_of, clash_behind, clash_in, fetch_uses, instruction_clashes, is_refused_by, protects, range_uses, uses_at}

@@ -230,8 +230,7 @@ pub fn clashes<S: Shadows>(cpu: &Cpu, frames: u32, shadows: &S, ram: &Ram, image
     ensures step { (script : Events) (b : State) (insn : Insn) (len : ℕ) (fetch : Space) → b.cpu ≡ cpu.now → b.ram ≡ shown (ground image.now frames) ram.now → b.set ≡ entries_of (S.slots shadows.now ram.now)
         → fetched (b.cpu.cpl == 3) b.cpu.regs.eip (space_at_start (wedge image.now script frames).mode frames b.cpu b.ram b.set) ≡ Ok (begins.Insn insn len, fetch)
         → result ≡ instruction_clashes (wedge image.now script frames) b }
-    ensures clashes { result ≡ true → (script : Events) (b : State) → b.cpu ≡ cpu.now → b.ram ≡ shown (ground image.now frames) ram.now → b.set ≡ entries_of (S.slots shadows.now ram.now)
-        → instruction_clashes (wedge image.now script frames) b ≡ true }
+    ensures clashes { result ≡ true → (script : Events) (b : State) → b.cpu ≡ cpu.now → b.ram ≡ shown (ground image.now frames) ram.now → b.set ≡ entries_of (S.slots shadows.now ram.now) → instruction_clashes (wedge image.now script frames) b ≡ true }
 {
     uses_are_seen();
     are_bytes(ram, image, frames);

@@ -6,7 +6,6 @@ ghost use Rattle.std.specs.List.{list_any};
 ghost use Rattle.guest_ram.specs.Bytes.{byte, part};
 ghost use Rattle.shadow_tables.specs.Entries.{entries_of};
 ghost use Rattle.ia32_decode.specs.Front.{front_len};
-ghost use Rattle.machine_model.specs.Instruction.{next_page};
 ghost use Rattle.machine_model.specs.Run.{Set};
 ghost use Rattle.machine_model.specs.State.{wedge_mode};
 ghost use Rattle.paging.specs.Fresh.{has};
@@ -234,14 +233,7 @@ pub fn front_len(at: u32) -> u32
 }
 
 /// The byte is one of those that the fetch reads in its first page, and its accessed flag is clear.
-fn marks_byte(
-    cpu: &Cpu,
-    ram: &Ram,
-    image: &Checked,
-    frames: u32,
-    first: Seen,
-    place: u32,
-) -> bool
+fn marks_byte(cpu: &Cpu, ram: &Ram, image: &Checked, frames: u32, first: Seen, place: u32) -> bool
     requires frames { 4096 * frames ≤ length ram.now }
     requires laid { 0x100000 + length image.now.text ≤ 4096 * frames }
     requires marks { AreIn frames (marks_of first.marks) }

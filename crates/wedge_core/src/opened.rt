@@ -67,7 +67,13 @@ fn is_entry_open(count: u32, side: Side, entry: Option<Entry>) -> bool
 }
 
 /// The view of this side may show every page that the step went through or changed.
-pub fn are_open<S: Shadows>(shadows: &S, ram: &Ram, state: &StepState, side: Side, count: u32) -> bool
+pub fn are_open<S: Shadows>(
+    shadows: &S,
+    ram: &Ram,
+    state: &StepState,
+    side: Side,
+    count: u32,
+) -> bool
     requires stands { ∥ S.stands shadows.now ram.now ∥₁ }
     requires few { length state.now.visited + length state.now.changes ≤ 128 }
     ensures opened { result ≡ true → (page : ℕ) → is_among page (pages_of state.now.visited state.now.changes) ≡ true

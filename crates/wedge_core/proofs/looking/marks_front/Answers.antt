@@ -1,7 +1,6 @@
-use Rattle.std.proofs.Common.{ℕ, ◌&&◌, not}
+use Rattle.std.proofs.Common.{◌&&◌, not}
 use Rattle.guest_ram.specs.Bytes.{byte}
 use Rattle.paging.specs.Fresh.{has}
-use Rattle.machine_model.specs.Run.{Set}
 use Rattle.native_steps.specs.Looking.{is_front, marked}
 use Rattle.native_steps.specs.Stands.{shown}
 use Rattle.wedge_core.specs.Clashing.{looked, marks_of, seen_of}
