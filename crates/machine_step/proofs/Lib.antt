@@ -3,3 +3,4 @@ pub mod Spelled
 pub mod Refused
 pub mod Divided
 pub mod Used
+pub mod Rooted

@@ -3,3 +3,4 @@ pub mod Fetches
 pub mod Worked
 pub mod Begun
 pub mod Laws
+pub mod Roots

@@ -1,5 +1,5 @@
 -- What one step comes to, as a value, in the words of the definitions.
-use Rattle.std.specs.Prelude.{◌≡◌, ◌<◌, ◌^◌, List, [], ◌∷◌, Option, Some, None, Result, Ok, Err}
+use Rattle.std.specs.Prelude.{◌≡◌, ◌<◌, ◌^◌, Bool, true, false, List, [], ◌∷◌, Option, Some, None, Result, Ok, Err}
 use Rattle.std.specs.FinMap.{FinMap, remove, empty}
 use Rattle.std.specs.Ordering.{nat_cmp}
 use Rattle.ia32_types.specs.declared.stop.Stop.{Stop}
@@ -35,6 +35,12 @@ dropping dropped.Nothing set = set
 dropping (dropped.Page page) set = remove set page
 dropping (dropped.Dir index) set = without_dir set index
 dropping dropped.All set = empty
+
+abbrev pub is_all : Dropped → Bool
+is_all dropped.Nothing = false
+is_all (dropped.Page gone) = false
+is_all (dropped.Dir index) = false
+is_all dropped.All = true
 
 abbrev pub IsDropped : Dropped → Type 0
 IsDropped (dropped.Page page) = page < 2 ^ 20

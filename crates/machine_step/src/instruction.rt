@@ -11,6 +11,7 @@ ghost use Rattle.machine_model.specs.Instruction.{instructed};
 ghost use Rattle.machine_model.specs.Step.{by_decoded, after_instruction, after_effect};
 ghost use Rattle.machine_model.specs.UsedPages.{Uses};
 ghost use Rattle.machine_step.specs.Begun.{AtEffect};
+ghost use Rattle.machine_step.specs.Roots.{RootsAs, EffectRoots};
 ghost use Rattle.machine_step.specs.Ruled.{IsRuled};
 ghost use Rattle.machine_step.specs.Worked.{ComesTo, IsDropped, completed_of};
 
@@ -46,6 +47,7 @@ pub fn carry_out<B: Kept>(
     ensures uses { IfOk result (λ _. Uses (cpu.now.cpl == 3) (space_at (B.entries kept.now) ram.old state.old) (space_at (B.entries kept.now) ram.new state.new)) }
     ensures step { (m : Setting) (b : Whole) → IsRuled m rules.now → ComesTo (by_decoded m (record b { cpu = cpu.now; board = board.old }) (Decoded.Insn insn.now len) (space_at (B.entries kept.now) ram.old state.old)) b result board.new (space_at (B.entries kept.now) ram.new state.new) }
     ensures dropped { IfOk result (λ w. IsDropped w.dropped) }
+    ensures roots { IfOk result (RootsAs cpu.now) }
     ensures control { state.new.control ≡ state.old.control }
     ensures guard { state.new.guard ≡ state.old.guard }
     ensures hidden { hidden state.old.guard state.old.control.frames ram.new ≡ hidden state.old.guard state.old.control.frames ram.old }
@@ -86,10 +88,12 @@ fn perform<B: Kept>(
     requires spelled { (bytes : List ℕ) × Spells bytes insn.now }
     requires sound { IsSound (B.entries kept.now) (B.floor kept.now) (B.stands kept.now) ram.old state.old }
     requires pages { state.old.pages ≤ 8 }
+    requires insn { completed.insn ≡ insn.now }
     ensures sound { IsSound (B.entries kept.now) (B.floor kept.now) (B.stands kept.now) ram.new state.new }
     ensures uses { IfOk result (λ _. Uses (cpu.now.cpl == 3) (space_at (B.entries kept.now) ram.old state.old) (space_at (B.entries kept.now) ram.new state.new)) }
     ensures step { (m : Setting) (b : Whole) → IsRuled m rules.now → ComesTo (after_instruction m (record b { cpu = cpu.now; board = board.old }) (completed_of completed) (instructed insn.now len cpu.now (space_at (B.entries kept.now) ram.old state.old))) b result board.new (space_at (B.entries kept.now) ram.new state.new) }
     ensures dropped { IfOk result (λ w. IsDropped w.dropped) }
+    ensures roots { IfOk result (RootsAs cpu.now) }
     ensures control { state.new.control ≡ state.old.control }
     ensures guard { state.new.guard ≡ state.old.guard }
     ensures hidden { hidden state.old.guard state.old.control.frames ram.new ≡ hidden state.old.guard state.old.control.frames ram.old }
@@ -116,10 +120,12 @@ fn follow<B: Kept>(
     requires sound { IsSound (B.entries kept.now) (B.floor kept.now) (B.stands kept.now) ram.old state.old }
     requires pages { state.old.pages ≤ 48 }
     requires asked { IsAsked effect }
+    requires roots { EffectRoots completed before.now effect cpu }
     ensures sound { IsSound (B.entries kept.now) (B.floor kept.now) (B.stands kept.now) ram.new state.new }
     ensures uses { (s : Space) → AtEffect (before.now.cpl == 3) s effect (space_at (B.entries kept.now) ram.old state.old) → IfOk result (λ _. Uses (before.now.cpl == 3) s (space_at (B.entries kept.now) ram.new state.new)) }
     ensures step { (m : Setting) (b : Whole) → IsRuled m rules.now → ComesTo (after_effect m (record b { cpu = before.now; board = board.old }) (completed_of completed) effect cpu (space_at (B.entries kept.now) ram.old state.old)) b result board.new (space_at (B.entries kept.now) ram.new state.new) }
     ensures dropped { IfOk result (λ w. IsDropped w.dropped) }
+    ensures roots { IfOk result (RootsAs before.now) }
     ensures control { state.new.control ≡ state.old.control }
     ensures guard { state.new.guard ≡ state.old.guard }
     ensures hidden { hidden state.old.guard state.old.control.frames ram.new ≡ hidden state.old.guard state.old.control.frames ram.old }

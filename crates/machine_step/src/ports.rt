@@ -1,11 +1,12 @@
 //! IN and OUT at the board.
 
-ghost use Rattle.std.specs.Prelude.{◌≡◌, ◌<◌, false, IfOk};
+ghost use Rattle.std.specs.Prelude.{◌≡◌, ◌<◌, false, Some, IfOk};
 ghost use Rattle.paging.specs.Space.{Space};
 ghost use Rattle.board.specs.Ports.{port_read, port_written};
 ghost use Rattle.machine_model.specs.State.{State as Whole};
 ghost use Rattle.machine_model.specs.Instruction.{with_accumulator};
 ghost use Rattle.machine_model.specs.Step.{after_read, after_write, in_item, out_item};
+ghost use Rattle.machine_step.specs.Roots.{EndsWith};
 ghost use Rattle.machine_step.specs.Worked.{ComesTo, IsDropped, completed_of};
 
 use crate::worked::{Completed, Dropped, Seen, Worked};
@@ -25,6 +26,7 @@ pub fn read(
 ) -> Result<Worked, Stop>
     ensures step { (b : Whole) (s : Space) → ComesTo (after_read b (completed_of completed) cpu port wide s (port_read board.old port wide)) b result board.new s }
     ensures dropped { IfOk result (λ w. IsDropped w.dropped) }
+    ensures ends { IfOk result (EndsWith (Some completed) cpu) }
 {
     match board.port_in(port, wide) {
         PortRead::Stop => Err(Stop::DeviceUse),
@@ -71,6 +73,7 @@ pub fn write(
     requires fits { wide ≡ false → value < 256 }
     ensures step { (b : Whole) (s : Space) → ComesTo (after_write b (completed_of completed) cpu (out_item port wide value) s (port_written board.old port wide value)) b result board.new s }
     ensures dropped { IfOk result (λ w. IsDropped w.dropped) }
+    ensures ends { IfOk result (EndsWith (Some completed) cpu) }
 {
     let item = out_item(port, wide, value);
     let seen = match board.port_out(port, wide, value) {

@@ -1,11 +1,12 @@
 //! What a monitor's rules ask of a step beside its translations.
 
-ghost use Rattle.std.specs.Prelude.{◌≡◌, ◌&&◌, ◌||◌, not, IfOk};
+ghost use Rattle.std.specs.Prelude.{◌≡◌, ◌&&◌, ◌||◌, not, Some, IfOk};
 ghost use Rattle.paging.specs.Space.{Space};
 ghost use Rattle.board.specs.declared.devices.Board.{Board};
 ghost use Rattle.machine_model.specs.State.{Setting, State as Whole};
 ghost use Rattle.machine_model.specs.Rules.{is_start, is_open, stands_well, may_leave};
 ghost use Rattle.machine_model.specs.Step as steps;
+ghost use Rattle.machine_step.specs.Roots.{EndsWith};
 ghost use Rattle.machine_step.specs.Ruled.{IsRuled};
 ghost use Rattle.machine_step.specs.Worked.{ComesTo, IsDropped, completed_of, completed_by, whats};
 
@@ -77,6 +78,7 @@ pub fn entered(
 ) -> Result<Worked, Stop>
     ensures step { (m : Setting) (b : Whole) (board : Board) (s : Space) → IsRuled m rules.now → ComesTo (steps.entered m (whats seen) (completed_by completed) b cpu board s) b result board s }
     ensures dropped { IfOk result (λ w. IsDropped w.dropped) }
+    ensures ends { IfOk result (EndsWith completed cpu) }
 {
     let well = stands_well(rules, &cpu);
     if well {
@@ -95,6 +97,7 @@ pub fn entered(
 pub fn ended(rules: &Rules, completed: Completed, before: &Cpu, cpu: Cpu) -> Result<Worked, Stop>
     ensures step { (m : Setting) (b : Whole) (s : Space) → IsRuled m rules.now → ComesTo (steps.ended m (completed_of completed) (record b { cpu = before.now }) cpu s) b result b.board s }
     ensures dropped { IfOk result (λ w. IsDropped w.dropped) }
+    ensures ends { IfOk result (EndsWith (Some completed) cpu) }
 {
     let may = may_leave(rules, before, &cpu);
     if may {

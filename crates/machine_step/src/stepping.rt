@@ -11,6 +11,7 @@ ghost use Rattle.machine_model.specs.State.{Setting, State as Whole, space_at_st
 ghost use Rattle.machine_model.specs.Step.{stepped, worked, begins_next, fetches_next, interrupt_of, by_interrupt, unheld};
 ghost use Rattle.machine_model.specs.UsedPages.{Uses};
 ghost use Rattle.machine_step.specs.Begun.{BeginsAs, IsBegun, IsFetchedBy};
+ghost use Rattle.machine_step.specs.Roots.{RootsAs, RootsBegun};
 ghost use Rattle.machine_step.specs.Ruled.{IsRuled};
 ghost use Rattle.machine_step.specs.Worked.{ComesTo, IsDropped};
 
@@ -47,6 +48,7 @@ pub fn step<'g, B: Kept>(
         (stepped (record s { mode = mode_of guard.entry; frames = frames }) (record b { cpu = cpu.now; ram = shown guard.entry frames ram.old; set = B.entries kept.now ram.old; board = board.old }))
         b result.0 board.new (space_at (B.entries kept.now) ram.new result.1) }
     ensures dropped { IfOk result.0 (λ w. IsDropped w.dropped) }
+    ensures roots { IfOk result.0 (RootsAs cpu.now) }
     ensures frames { result.1.control.frames ≡ frames }
     ensures text { result.1.guard.text ≡ guard.entry.text }
     ensures hidden { hidden guard.entry frames ram.new ≡ hidden guard.entry frames ram.old }
@@ -78,6 +80,7 @@ pub fn step_again<'g, B: Kept>(
         (stepped (record s { mode = mode_of guard.entry; frames = frames }) (record b { cpu = cpu.now; ram = shown guard.entry frames ram.old; set = B.entries kept.now ram.old; board = board.old }))
         b result board.new (space_at (B.entries kept.now) ram.new state.new) }
     ensures dropped { IfOk result (λ w. IsDropped w.dropped) }
+    ensures roots { IfOk result (RootsAs cpu.now) }
     ensures frames { state.new.control.frames ≡ frames }
     ensures text { state.new.guard.text ≡ guard.entry.text }
     ensures hidden { hidden guard.entry frames ram.new ≡ hidden guard.entry frames ram.old }
@@ -160,6 +163,7 @@ pub fn step_in<B: Kept>(
     ensures uses { IfOk result (λ _. Uses (cpu.now.cpl == 3) (space_at (B.entries kept.now) ram.old state.old) (space_at (B.entries kept.now) ram.new state.new)) }
     ensures step { (m : Setting) (b : Whole) → IsRuled m rules.now → ComesTo (by_interrupt m (interrupt_of cpu.now board.old) (unheld (record b { cpu = cpu.now; board = board.old })) (space_at (B.entries kept.now) ram.old state.old)) b result board.new (space_at (B.entries kept.now) ram.new state.new) }
     ensures dropped { IfOk result (λ w. IsDropped w.dropped) }
+    ensures roots { IfOk result (RootsAs cpu.now) }
     ensures control { state.new.control ≡ state.old.control }
     ensures text { state.new.guard.text ≡ state.old.guard.text }
     ensures hidden { hidden state.old.guard state.old.control.frames ram.new ≡ hidden state.old.guard state.old.control.frames ram.old }
@@ -188,6 +192,7 @@ pub fn start<B: Kept>(
     ensures fetched { IfOk result (IsFetchedBy (record cpu.now { held = false })) }
     ensures begins { (m : Setting) (b : Whole) → IsRuled m rules.now → BeginsAs m (by_interrupt m (interrupt_of cpu.now board.old) (unheld (record b { cpu = cpu.now; board = board.old })) (space_at (B.entries kept.now) ram.old state.old)) b result board.new (space_at (B.entries kept.now) ram.new state.new) }
     ensures begun { IfOk result (λ x. IsBegun x state.new.pages) }
+    ensures roots { IfOk result (RootsBegun cpu.now) }
     ensures control { state.new.control ≡ state.old.control }
     ensures text { state.new.guard.text ≡ state.old.guard.text }
     ensures hidden { hidden state.old.guard state.old.control.frames ram.new ≡ hidden state.old.guard state.old.control.frames ram.old }
@@ -230,6 +235,7 @@ fn work<B: Kept>(
     ensures fetched { IfOk result (IsFetchedBy cpu.now) }
     ensures begins { (m : Setting) (b : Whole) → IsRuled m rules.now → BeginsAs m (worked m (record b { cpu = cpu.now }) (space_at (B.entries kept.now) ram.old state.old)) b result b.board (space_at (B.entries kept.now) ram.new state.new) }
     ensures begun { IfOk result (λ x. IsBegun x state.new.pages) }
+    ensures roots { IfOk result (RootsBegun cpu.now) }
     ensures control { state.new.control ≡ state.old.control }
     ensures text { state.new.guard.text ≡ state.old.guard.text }
     ensures hidden { hidden state.old.guard state.old.control.frames ram.new ≡ hidden state.old.guard state.old.control.frames ram.old }
@@ -265,6 +271,7 @@ fn fetch_next<B: Kept>(
     ensures fetched { IfOk result (IsFetchedBy cpu.now) }
     ensures begins { (m : Setting) (b : Whole) → IsRuled m rules.now → BeginsAs m (fetches_next m (record b { cpu = cpu.now }) (space_at (B.entries kept.now) ram.old state.old)) b result b.board (space_at (B.entries kept.now) ram.new state.new) }
     ensures begun { IfOk result (λ x. IsBegun x state.new.pages) }
+    ensures roots { IfOk result (RootsBegun cpu.now) }
     ensures control { state.new.control ≡ state.old.control }
     ensures text { state.new.guard.text ≡ state.old.guard.text }
     ensures hidden { hidden state.old.guard state.old.control.frames ram.new ≡ hidden state.old.guard state.old.control.frames ram.old }

@@ -33,5 +33,7 @@ pub mod Wrote
 pub mod Granting
 pub mod Quiet
 pub mod Advancing
+pub mod LookedWalks
+pub mod LookedPages
 pub mod Looks
 pub mod Marked

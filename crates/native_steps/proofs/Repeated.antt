@@ -64,6 +64,11 @@ abbrev renoted : List ℕ → List ℕ → Result → Result
 renoted tables wrote (Went report b) = Went (record report { tables = tables; wrote = wrote }) b
 renoted tables wrote (Stands stop) = Stands stop
 
+-- what a result reports, or this
+abbrev report_in : Report → Result → Report
+report_in other (Went report b) = report
+report_in other (Stands stop) = other
+
 module _ (flags : EffectLaws) (m : Setting) (v : View) (b : State) (mode : m.mode ≡ wedge_mode m.image) (room : 4096 * m.frames ≤ length b.ram) (fit : AreBytes b.ram) (sound : AreWithin m b.set) (sees : Sees v b.cpu) (next : IsNext m v.kernel b) (small : b.cpu.regs.eip < 2 ^ 32) where
   abbrev k : Bool
   k = v.kernel
@@ -429,6 +434,18 @@ module _ (flags : EffectLaws) (m : Setting) (v : View) (b : State) (mode : m.mod
         by_test true g = ap (λ (o : Result). renoted others news o) g
         by_test false g = absurd cc
 
+    -- what is reported
+    told : (ram : List ℕ) (set : FinMap nat_cmp Entry) (visited tables wrote : List ℕ) (regs : Regs) (stores : Stores) (report : Report) (after_state : State)
+        → finish ram set visited tables wrote regs stores ≡ Went report after_state → (report.pages ≡ visited) × (report.tables ≡ tables) × (report.wrote ≡ wrote)
+    told ram set visited tables wrote regs stores report after_state e = by_test (Rattle.machine_model.specs.Rules.may_leave m.mode (unheld b).cpu (record (unheld b).cpu { regs = regs })) e
+      where
+        by_test : (c : Bool) → cond {A = Result} c
+            (Went (record { items = []; completed = Some (begun b insn); pages = visited; tables = tables; wrote = wrote })
+            (record { cpu = record (unheld b).cpu { regs = regs }; ram = all_stored (λ x. place_by (get set (x / 4096)) x) ram (list_of stores); set = set; board = Rattle.board.specs.Boards.board_step b.board; step = b.step + 1 })) (Stands stops.UserFlags) ≡ Went report after_state
+            → (report.pages ≡ visited) × (report.tables ≡ tables) × (report.wrote ≡ wrote)
+        by_test true g = let f = sym (ap (λ (o : Result). report_in report o) g) in (ap (λ (r : Report). r.pages) f, ap (λ (r : Report). r.tables) f, ap (λ (r : Report). r.wrote) f)
+        by_test false g = absurd cc
+
     -- the effect over the step's bytes is that over the bytes of the state that is left
     same_effect : user_effect (selectors_of v) insn len b.cpu.regs (byte_by reads read write) ≡ effect_of v (settled b write) insn len
     same_effect =
@@ -482,4 +499,5 @@ module _ (flags : EffectLaws) (m : Setting) (v : View) (b : State) (mode : m.mod
           ∙ g in
           original regs stores e
           ∙ noted write.ram write.set write.visited again_write.space.tables again_write.space.wrote write.tables write.wrote regs stores report after_state there;
+      reported = λ regs stores e report after_state g. told write.ram write.set write.visited write.tables write.wrote regs stores report after_state (sym (original regs stores e) ∙ g);
     }

@@ -35,6 +35,9 @@ pub record StepsAgain (m : Setting) (v : View) (b : State) (insn : Insn) (len : 
   -- and what both do is the same, but for what the step itself notes of its walks and writes
   pub same : (regs : Regs) (stores : Stores) → effect_of v (settled b write) insn len ≡ outcomes.Done regs stores
       → (report : Report) (after : State) → stepped m (settled b write) ≡ Went report after → stepped m b ≡ Went (record report { tables = write.tables; wrote = write.wrote }) after
+  -- what the step reports is what its translations went through, read and wrote
+  pub reported : (regs : Regs) (stores : Stores) → effect_of v (settled b write) insn len ≡ outcomes.Done regs stores
+      → (report : Report) (after : State) → stepped m b ≡ Went report after → (report.pages ≡ write.visited) × (report.tables ≡ write.tables) × (report.wrote ≡ write.wrote)
 
 -- entries lead to the guest's frames
 abbrev pub AreWithin : Setting → FinMap nat_cmp Entry → Type 0

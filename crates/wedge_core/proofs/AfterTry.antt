@@ -27,7 +27,7 @@ use Rattle.wedge_core.specs.Told.{told}
 use Rattle.wedge_core.specs.declared.running.Running.{Running}
 use Rattle.wedge_core.proofs.Keeping.{keeps_join, keeps_above, keeps_moves}
 use Rattle.wedge_core.proofs.Memories.{Leaves, step_leaves, text_within, front_same, host_same, host_left}
-use Rattle.wedge_core.proofs.Telling.{told_few}
+use Rattle.wedge_core.proofs.Telling.{told_few, told_told}
 
 -- events are no part of memory
 pub any_script : (image : Image) (script : Events) (n : ℕ) (ram : List ℕ) → shown (wedge image script n) ram ≡ shown (ground image n) ram
@@ -54,6 +54,7 @@ told_sound kept floor stands ram s h same within =
       counted = omega (arith, few, all);
       few = h.few;
       noted = h.noted;
+      told = told_told s.visited s.changes;
       read = h.read;
       written = h.written;
       fits = omega arith;

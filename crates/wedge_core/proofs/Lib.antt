@@ -31,6 +31,7 @@ pub mod Uncounted
 pub mod ToldSteps
 pub mod Trying
 pub mod LookedUses
+pub mod LookedMarks
 pub mod OnceRan
 pub mod Clashless
 pub mod Elsewhere
@@ -55,4 +56,7 @@ pub mod Stays
 mod StepReady
 pub mod Returning
 pub mod Dropping
+pub mod Leaving
 pub mod Sweeping
+pub mod Carrying
+pub mod Ended

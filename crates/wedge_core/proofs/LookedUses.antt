@@ -15,11 +15,11 @@ use Rattle.ia32_decode.specs.Front.{longest}
 use Rattle.paging.specs.declared.entry.Access.{Access}
 use Rattle.paging.specs.declared.entry.Entry.{Entry}
 use Rattle.paging.specs.Fresh.{has}
-use Rattle.machine_model.specs.State.{Setting, State, wedge}
+use Rattle.machine_model.specs.State.{State, wedge}
 use Rattle.machine_model.specs.Run.{Set}
 use Rattle.machine_model.specs.Instruction.{next_page}
 use Rattle.machine_model.specs.Clash.{Use, access_of, clash_behind, clash_in, fetch_uses, instruction_clashes, is_refused_by, protects, range_uses, uses_at}
-use Rattle.native_steps.specs.Looking.{Seen, bytes_seen, marked, seen, uses_on, uses_seen}
+use Rattle.native_steps.specs.Looking.{Seen, bytes_seen, marked, uses_on, uses_seen}
 use Rattle.wedge_core.specs.declared.clash.PageUse.{PageUse}
 use Rattle.wedge_core.specs.Clashing.{before, looked, model_use, model_uses}
 use Rattle.wedge_core.specs.Standing.{ground}
@@ -124,20 +124,19 @@ pub no_ranges_more : (b : State) (d : Decoded) (uses : List Use) → ((insn : In
 no_ranges_more b d uses h = sym (append-nil uses) ∙ ap (λ l. uses ++ l) (sym (no_ranges b d h))
 
 -- what is collected where the next page was reached
-pub on_next : (m : Setting) (b : State) (ram front bytes : List ℕ) (x : Seen) (old new : List PageUse) (page : ℕ) (d : Decoded) (all : List Use) → page ≡ b.cpu.regs.eip / 4096 + 1
+pub on_next : (o : Option Seen) (b : State) (ram front bytes : List ℕ) (x : Seen) (old new : List PageUse) (page : ℕ) (d : Decoded) (all : List Use) → page ≡ b.cpu.regs.eip / 4096 + 1
     → model_uses (b.cpu.cpl == 3) old ≡ record { page = b.cpu.regs.eip / 4096; access = access_of b false } ∷ [] → new ≡ old ++ record { page = page; write = false } ∷ []
-    → Some x ≡ seen m b page → bytes ≡ front ++ part (marked ram x.marks) (4096 * x.frame + page * 4096 % 4096) 11
+    → Some x ≡ o → bytes ≡ front ++ part (marked ram x.marks) (4096 * x.frame + page * 4096 % 4096) 11
     → d ≡ decoded bytes → all ≡ model_uses (b.cpu.cpl == 3) new ++ range_uses b d
-    → all ≡ uses_on b ram front (seen m b (next_page b.cpu.regs.eip / 4096))
-on_next m b ram front bytes x old new page d all is one push found read decodes more =
+    → all ≡ uses_on b ram front o
+on_next o b ram front bytes x old new page d all is one push found read decodes more =
     let user : Bool = b.cpu.cpl == 3 in
     let pages : List Use = fetch_uses b (b.cpu.regs.eip / 4096 ∷ next_page b.cpu.regs.eip / 4096 ∷ []) in
-    let at : page ≡ next_page b.cpu.regs.eip / 4096 = omega (arith, is) in
     more
     ∙ (ap (λ l. l ++ range_uses b d) (two_pages b old new page is one push)
     ∙ (ap (λ e. pages ++ range_uses b e) decodes
     ∙ (ap (λ l. pages ++ range_uses b (decoded l)) (next_bytes ram front bytes x b.cpu.regs.eip page is read)
-    ∙ ap (uses_on b ram front) (found ∙ ap (seen m b) at))))
+    ∙ ap (uses_on b ram front) found)))
 
 -- A state is looked at by its processor, memory and set alone.
 looked_alike : (image : Image) (script : Events) (frames : ℕ) (b : State) (cpu : Cpu) (ram : List ℕ) (set : Set) → b.cpu ≡ cpu → b.ram ≡ ram → b.set ≡ set
@@ -159,3 +158,14 @@ as_the_step image script frames b cpu ram set result uses list is same looks c r
     ∙ (ap (λ l. clash_in (get set) (has cpu.cr0 65536) (model_uses (cpu.cpl == 3) l)) same
     ∙ (ap (clash_in (get set) (has cpu.cr0 65536)) looks
     ∙ (looked_alike image script frames b cpu ram set c r s ∙ ap (clash_in (get b.set) (protects b)) (sym all))))
+
+-- And where a look finds a clash, so does the law of looks.
+pub as_it_looks : (image : Image) (script : Events) (frames : ℕ) (b : State) (cpu : Cpu) (ram : List ℕ) (set : Set) (result : Bool) (uses list : List PageUse)
+    → result ≡ clash_in (get set) (has cpu.cr0 65536) (model_uses (cpu.cpl == 3) uses) → uses ≡ list
+    → model_uses (cpu.cpl == 3) list ≡ uses_seen (ground image frames) (looked cpu ram set)
+    → b.cpu ≡ cpu → b.ram ≡ ram → b.set ≡ set → result ≡ true → clash_in (get b.set) (protects b) (uses_seen (wedge image script frames) b) ≡ true
+as_it_looks image script frames b cpu ram set result uses list is same looks c r s found =
+    sym (looked_alike image script frames b cpu ram set c r s)
+    ∙ (ap (clash_in (get set) (has cpu.cr0 65536)) (sym looks)
+    ∙ (ap (λ l. clash_in (get set) (has cpu.cr0 65536) (model_uses (cpu.cpl == 3) l)) (sym same)
+    ∙ (sym is ∙ found)))

@@ -1,6 +1,6 @@
 -- The changes of a step that are of its pages say all that it changed.
 use Rattle.std.proofs.Common.{◌≡◌, ℕ, suc, ◌+◌, ◌≤◌, List, [], ◌∷◌, ◌++◌, length, map, Bool, true, false, cond, ◌||◌, ◌&&◌, not, ◌==◌, ◌⊎◌, inl, inr, Option, Some, None, refl, sym, ap, ◌∙◌, arith}
-use Rattle.std.specs.List.{Contains}
+use Rattle.std.specs.List.{Contains, list_any}
 use Rattle.std.specs.FinMap.{FinMap, get, same_map, nat_cmp-IsAntisymmetric}
 use Rattle.std.specs.Ordering.{nat_cmp}
 use Rattle.std.proofs.lemmas.Bool.Decides.{eqb_tells}
@@ -8,7 +8,7 @@ use Rattle.std.proofs.lemmas.Cmp.{nat_cmp_total}
 use Rattle.paging.specs.declared.entry.Entry.{Entry}
 use Rattle.shadow_tables.specs.Slots.{is_among}
 use Rattle.step_mem.specs.declared.changes.Change.{Change}
-use Rattle.step_mem.specs.Changes.{page_of, entry_of, changed, last_change, AreWithin}
+use Rattle.step_mem.specs.Changes.{page_of, entry_of, changed, last_change, AreWithin, AreToldIn}
 use Rattle.step_mem.proofs.Changed.{settle, get_changed}
 use Rattle.wedge_mem.specs.Settled.{has_entry, pages_of, used}
 use Rattle.wedge_core.specs.Told.{told}
@@ -84,6 +84,19 @@ told_few pages (c ∷ cs) = by (is_among (page_of c) pages) (told_few pages cs)
 
 -- ---- the pages of a step
 
+eq_turned : (q x : ℕ) → (q == x) ≡ (x == q)
+eq_turned q x = elim (eqb_tells q x) [
+  | inl e ↦ e.0 ∙ sym (ap (λ (k : ℕ). k == q) (sym e.1) ∙ same q)
+  | inr n ↦ n.0 ∙ elim (eqb_tells x q) [ inl e ↦ absurd (n.1 (sym e.1)) | inr o ↦ sym o.0 ]
+]
+  where
+    same : (k : ℕ) → (k == k) ≡ true
+    same k = elim (eqb_tells k k) [ inl e ↦ e.0 | inr n ↦ absurd (n.1 refl) ]
+
+pub any_among : (xs : List ℕ) (q : ℕ) → list_any (λ x. x == q) xs ≡ is_among q xs
+any_among [] q = refl
+any_among (x ∷ xs) q = ap (λ (b : Bool). b || list_any (λ y. y == q) xs) (eq_turned x q) ∙ ap (λ (b : Bool). (q == x) || b) (any_among xs q)
+
 or_true : (b : Bool) → (b || true) ≡ true
 or_true true = refl
 or_true false = refl
@@ -99,7 +112,7 @@ among_split q (x ∷ xs) ys h =
       ]
     ]
 
-told_pages : (pages : List ℕ) (cs : List Change) (q : ℕ) → is_among q (map page_of (told pages cs)) ≡ true → is_among q pages ≡ true
+pub told_pages : (pages : List ℕ) (cs : List Change) (q : ℕ) → is_among q (map page_of (told pages cs)) ≡ true → is_among q pages ≡ true
 told_pages pages [] q h = absurd (let f : false ≡ true = h in cc)
 told_pages pages (c ∷ cs) q h =
     elim (bool_cases (is_among (page_of c) pages)) [
@@ -111,6 +124,9 @@ told_pages pages (c ∷ cs) q h =
           ]
       | inr n ↦ told_pages pages cs q (sym (ap (λ (l : List Change). is_among q (map page_of l)) (passed c pages cs n)) ∙ h)
     ]
+
+pub told_told : (visited : List ℕ) (cs : List Change) → AreToldIn visited (told visited cs)
+told_told visited cs q h = any_among visited q ∙ told_pages visited cs q (sym (any_among (map page_of (told visited cs)) q) ∙ h)
 
 -- all are pages that it went through
 pub went_all : (visited : List ℕ) (cs : List Change) (q : ℕ) → is_among q (pages_of visited (told visited cs)) ≡ true → is_among q visited ≡ true

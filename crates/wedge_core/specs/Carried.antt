@@ -4,6 +4,7 @@ use Rattle.std.specs.Set.{is_member}
 use Rattle.shadow_tables.specs.Aside.{Aside}
 use Rattle.shadow_tables.specs.Entries.{entries_of}
 use Rattle.shadow_tables.specs.Slots.{Slot}
+use Rattle.machine_model.specs.Run.{Set}
 use Rattle.machine_model.specs.State.{Setting, State}
 use Rattle.machine_model.specs.Step.{Went, step_of, stepped}
 use Rattle.machine_model.specs.Taken.{Taken}
@@ -23,4 +24,9 @@ module _ {S : Type 0} (slots : S → List ℕ → ℕ → Option Slot) (noted : 
   -- that these steps used.
   pub record IsCarried (m : Setting) (steps : List Taken) (b : State) (s : S) (memory : List ℕ) : Type 0 where
     pub known : IsKnown m steps b (noted s) (marked s) (asides s memory) (entries_of (slots s memory))
+    pub opened_to : opened s memory (λ index. is_member eqb (indices_in steps) index)
+
+  -- The same of steps behind which a step goes by other translations than what is present.
+  pub record IsCarriedBy (m : Setting) (steps : List Taken) (b : State) (kept : Set) (s : S) (memory : List ℕ) : Type 0 where
+    pub known : IsKnown m steps b (noted s) (marked s) (asides s memory) kept
     pub opened_to : opened s memory (λ index. is_member eqb (indices_in steps) index)

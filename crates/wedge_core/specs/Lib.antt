@@ -22,3 +22,4 @@ pub mod Ready
 pub mod Leaving
 pub mod Carried
 pub mod CarryLaws
+pub mod RootsTmp

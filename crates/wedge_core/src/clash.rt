@@ -9,22 +9,23 @@ ghost use Rattle.board.specs.Scripts.{Events};
 ghost use Rattle.ia32_types.specs.declared.insn.Insn.{Insn};
 ghost use Rattle.ia32_decode.specs.declared.answer.Decoded.TheVariants as begins;
 ghost use Rattle.ia32_decode.specs.Decoding.{decoded};
-ghost use Rattle.ia32_decode.specs.Front.{front_len, longest};
 ghost use Rattle.ia32_exec.specs.Effect.{ranges_of};
 ghost use Rattle.ia32_exec.specs.Short.{IsShort};
 ghost use Rattle.paging.specs.Space.{Space};
 ghost use Rattle.machine_model.specs.Clash.{clash_in, instruction_clashes, is_refused_by, uses_of};
-ghost use Rattle.machine_model.specs.Instruction.{fetched, next_page};
+ghost use Rattle.machine_model.specs.Instruction.{fetched};
 ghost use Rattle.paging.specs.Fresh.{has};
 ghost use Rattle.machine_model.specs.State.{State, space_at_start, wedge};
-ghost use Rattle.native_steps.specs.Looking.{marked, seen, uses_on, uses_seen};
+ghost use Rattle.native_steps.specs.Looking.{marked, next_seen, uses_on, uses_seen};
 ghost use Rattle.native_steps.specs.Stands.{shown};
 ghost use Rattle.shadow_tables.specs.Entries.{entries_of};
 ghost use Rattle.step_mem.specs.Changes.{AreWithin};
-ghost use Rattle.wedge_core.specs.Clashing.{looked, AreIn, marks_of, before, model_uses};
+ghost use Rattle.wedge_core.specs.Clashing.{looked, AreIn, marks_of, seen_of, before, model_uses};
 ghost use Rattle.wedge_core.specs.Standing.{ground};
 
-use crate::looking::{Bytes, Seen, access_of, fetched, protects, read};
+use crate::looking::{
+    Bytes, LONGEST, Seen, access_of, fetched, fetched_next, front_len, protects, read,
+};
 use crate::sight::are_bytes;
 use arrayvec::ArrayVec;
 use descriptors::Cpu;
@@ -36,9 +37,6 @@ use image_check::Checked;
 use native_steps::uses_are_seen;
 use paging::{Access, allows};
 use shadow_tables::Shadows;
-
-/// No instruction is longer.
-const LONGEST: u32 = 11;
 
 /// One use of a page.
 #[derive(Clone, Copy)]
@@ -85,15 +83,6 @@ fn add_ranges(uses: &mut Uses, insn: &Insn, cpu: &Cpu)
     let ranges = ranges(insn, &cpu.regs);
     add_range(uses, ranges.read, false);
     add_range(uses, ranges.write, true);
-}
-
-/// How many bytes at an address lie in its page, of those that an instruction may have.
-fn front_len(at: u32) -> u32
-    ensures len { result ≡ front_len at }
-    ensures few { result ≤ 11 }
-    ensures one { at % 4096 + result ≤ 4096 }
-{
-    LONGEST.min(4096 - at % 4096)
 }
 
 /// The pages that the instruction at EIP uses.
@@ -159,16 +148,17 @@ fn add_next<S: Shadows>(
     requires stands { ∥ S.stands shadows.now ram.now ∥₁ }
     requires kept { AreWithin frames (entries_of (S.slots shadows.now ram.now)) }
     requires marks { AreIn frames (marks_of first.marks) }
+    requires frame { first.frame < frames }
     requires page { cpu.now.regs.eip / 4096 < 1048575 }
     requires few { length bytes.old.items ≤ 11 }
     requires one { model_uses (cpu.now.cpl == 3) uses.old.items ≡ record { page = cpu.now.regs.eip / 4096; access = record { write = false; user = cpu.now.cpl == 3 } } ∷ [] }
     requires single { length uses.old.items ≡ 1 }
     ensures { model_uses (cpu.now.cpl == 3) uses.new.items ≡ uses_on (looked cpu.now (shown (ground image.now frames) ram.now) (entries_of (S.slots shadows.now ram.now))) (marked (shown (ground image.now frames) ram.now) (marks_of first.marks)) bytes.old.items
-        (seen (ground image.now frames) (looked cpu.now (shown (ground image.now frames) ram.now) (entries_of (S.slots shadows.now ram.now))) (next_page cpu.now.regs.eip / 4096)) }
+        (next_seen (ground image.now frames) (looked cpu.now (shown (ground image.now frames) ram.now) (entries_of (S.slots shadows.now ram.now))) (seen_of first)) }
 {
     let page = cpu.regs.eip / 4096 + 1;
     uses.push(PageUse { page, write: false });
-    if let Some(second) = fetched(cpu, shadows, ram, image, frames, page) {
+    if let Some(second) = fetched_next(cpu, shadows, ram, image, frames, first) {
         read(
             ram,
             image,
@@ -230,7 +220,7 @@ fn is_clash<S: Shadows>(cpu: &Cpu, shadows: &S, ram: &Ram, uses: &[PageUse]) -> 
 }
 
 /// The next instruction of this processor clashes with what the shadows keep, by the pages that a look at it finds. These
-/// are those that the step itself uses, where its fetch gives an instruction.
+/// are those that the step itself uses, where its fetch gives an instruction; where it gives none, no clash is found.
 pub fn clashes<S: Shadows>(cpu: &Cpu, frames: u32, shadows: &S, ram: &Ram, image: &Checked) -> bool
     requires frames { 4096 * frames ≤ length ram.now }
     requires laid { 0x100000 + length image.now.text ≤ 4096 * frames }

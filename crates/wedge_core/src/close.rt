@@ -110,6 +110,7 @@ pub struct Left {
 /// The rules by which rights are given and tables are read aren't the same: CR0.WP and CR4.PSE.
 fn are_rules_changed(before: &Cpu, after: &Cpu) -> bool
     ensures same { result ≡ false → (wp_of after.now ≡ wp_of before.now) × (pse_of after.now ≡ pse_of before.now) }
+    ensures other { result ≡ true → RulesSame before.now after.now → ⊥ }
 {
     protects(before) != protects(after) || before.pse() != after.pse()
 }
@@ -267,6 +268,7 @@ fn drop_by<S: Shadows>(
 fn is_through(before: &Cpu, worked: &Worked, changed: bool) -> bool
     ensures same { result ≡ true → worked.now.cpu.cr3 ≡ before.now.cr3 }
     ensures other { result ≡ true → (changed || not (is_all worked.now.dropped)) ≡ true }
+    ensures loaded { result ≡ false → worked.now.cpu.cr3 ≡ before.now.cr3 → (changed ≡ false) × (is_all worked.now.dropped ≡ true) }
 {
     if worked.cpu.cr3 != before.cr3 {
         return false;

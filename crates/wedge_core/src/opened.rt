@@ -28,13 +28,15 @@ const TEXT_PAGE: u32 = 0x1_0000;
 
 const DATA_PAGE: u32 = 0x1_1000;
 
-fn is_text(count: u32, frame: u32) -> bool
+/// The frame is one of so many that hold text.
+pub(crate) fn is_text(count: u32, frame: u32) -> bool
     ensures { result ≡ is_text_frame count frame }
 {
     frame >= TEXT_FRAME && frame - TEXT_FRAME < count
 }
 
-fn is_given(count: u32, page: u32, frame: u32) -> bool
+/// The frame is the one that the loader gave this page of the text window, of so many.
+pub(crate) fn is_given(count: u32, page: u32, frame: u32) -> bool
     ensures { result ≡ is_given_frame count page frame }
 {
     page >= TEXT_PAGE
@@ -65,7 +67,13 @@ fn is_entry_open(count: u32, side: Side, entry: Option<Entry>) -> bool
 }
 
 /// The view of this side may show every page that the step went through or changed.
-pub fn are_open<S: Shadows>(shadows: &S, ram: &Ram, state: &StepState, side: Side, count: u32) -> bool
+pub fn are_open<S: Shadows>(
+    shadows: &S,
+    ram: &Ram,
+    state: &StepState,
+    side: Side,
+    count: u32,
+) -> bool
     requires stands { ∥ S.stands shadows.now ram.now ∥₁ }
     requires few { length state.now.visited + length state.now.changes ≤ 128 }
     ensures opened { result ≡ true → (page : ℕ) → is_among page (pages_of state.now.visited state.now.changes) ≡ true

@@ -31,8 +31,10 @@ ghost use Rattle.wedge_core.specs.Carried.{IsCarried, IsTakenFrom};
 ghost use Rattle.wedge_core.specs.Leaving.{Tells, Ends};
 
 use crate::close::{close, leave};
+use crate::laws::known_laws;
 use crate::opened::TEXT_FRAME;
 use crate::running::Running;
+use crate::sight::are_bytes;
 use frame_pool::Pool;
 use guest_ram::Ram;
 use ia32_types::Stop;
@@ -130,6 +132,8 @@ pub fn step_alone<S: Reloads + Drop>(
     match outcome {
         Ok(worked) => {
             steps_follow();
+            known_laws();
+            are_bytes(ram, image, running.frames);
             let count = text_frames(image);
             go(running, pool, ram, &state, &worked, count, wanted);
             Ok(worked.seen)

@@ -1,4 +1,4 @@
-use Rattle.std.proofs.Common.{[], ◌∷◌, None, sym, subst}
+use Rattle.std.proofs.Common.{[], ◌∷◌, None, refl, sym, subst}
 use Rattle.board.specs.declared.devices.Board.{Board}
 use Rattle.board.specs.Boards.{acknowledged}
 use Rattle.descriptors.specs.declared.cpu.Cpu.{Cpu}
@@ -9,7 +9,9 @@ use Rattle.step_mem.specs.Sound.{space_at}
 use Rattle.machine_model.specs.Step.{interrupted, entered, after_delivery}
 use Rattle.machine_step.specs.Worked.{ComesTo}
 use Rattle.machine_step.proofs.Used.{if_ok, entered_uses}
-use Rattle.std.specs.Prelude.{Bool, ◌==◌}
+use Rattle.std.specs.Prelude.{◌==◌}
+use Rattle.machine_step.specs.Roots.{RootsAs, EndsWith}
+use Rattle.machine_step.proofs.Rooted.{if_ok_as, ends_on, kept_roots, entered_keeps}
 use Rattle.machine_step.proofs.delivery.deliver.Goals as goal
 
 pub returns-in-Ok-clause-step : goal.returns-in-Ok-clause-step
@@ -29,3 +31,10 @@ returns-in-Ok-clause-uses g c =
     let s = space_at (g.B.Kept.entries c.args.kept.now) c.args.ram.now c.args.state.now in
     let t = space_at (g.B.Kept.entries c.args.kept.now) c.deliver_in.new.ram c.deliver_in.new.state in
     if_ok c.entered.result (entered_uses c.works_use.ensures.delivered (c.args.cpu.now.cpl == 3) _ _ _ _ _ s t (rw c.in-Ok.is at c.deliver_in.ensures.delivers))
+
+pub returns-in-Ok-clause-roots : goal.returns-in-Ok-clause-roots
+returns-in-Ok-clause-roots g c =
+    let cpu = c.args.cpu.now in
+    let after = c.deliver_in.new.cpu in
+    if_ok_as (EndsWith None after) (RootsAs cpu) c.entered.result
+    (λ w k. kept_roots None cpu w refl (ends_on None cpu after w (entered_keeps cpu after _ _ _ _ _ (rw c.in-Ok.is at c.deliver_in.ensures.delivers)) k)) c.entered.ensures.ends

@@ -1,4 +1,4 @@
-use Rattle.std.proofs.Common.{sym, subst}
+use Rattle.std.proofs.Common.{Some, None, refl, sym, subst}
 use Rattle.descriptors.specs.declared.cpu.Cpu.{Cpu}
 use Rattle.event_entry.specs.declared.refusal.NotDelivered.{NotDelivered}
 use Rattle.paging.specs.Work.{Outcome}
@@ -7,6 +7,10 @@ use Rattle.machine_model.specs.Step.{after_software}
 use Rattle.machine_step.specs.Worked.{ComesTo, completed_of}
 use Rattle.machine_step.proofs.Used.{if_ok, if_ok_on, entered_uses, denied_uses}
 use Rattle.std.specs.Prelude.{Bool, ◌==◌}
+use Rattle.machine_step.specs.Roots.{RootsAs, EndsWith}
+use Rattle.sys_exec.specs.Operand.{past}
+use Rattle.machine_step.specs.Roots.{KeepsRoots}
+use Rattle.machine_step.proofs.Rooted.{if_ok_as, ends_on, kept_roots, entered_keeps}
 use Rattle.machine_step.proofs.delivery.enter.Goals as goal
 
 pub returns-in-Err-Privilege-clause-step : goal.returns-in-Err-Privilege-clause-step
@@ -37,3 +41,17 @@ returns-in-Err-Privilege-clause-uses g c =
     if_ok_on user s t u c.raise.result
     (denied_uses c.works_use.ensures.delivered user _ _ _ _ s t (rw c.in-Err-Privilege.field-0-is at c.in-Err-Privilege.ensures.delivers))
     (c.raise.ensures.uses user)
+
+pub returns-in-Ok-clause-roots : goal.returns-in-Ok-clause-roots
+returns-in-Ok-clause-roots g c =
+    let cpu = c.args.cpu.now in
+    let after = c.deliver_in.new.cpu in
+    let done = Some c.args.completed in
+    let k : KeepsRoots (past cpu c.args.len) after = entered_keeps (past cpu c.args.len) after _ _ _ _ _ (rw (c.in-Ok.is, c.past-after.ensures) at c.deliver_in.ensures.delivers) in
+    if_ok_as (EndsWith done after) (RootsAs cpu) c.entered.result
+    (λ w h. kept_roots done cpu w c.requires.no_load (ends_on done cpu after w (record { cr0 = k.cr0; cr3 = k.cr3; cr4 = k.cr4 }) h)) c.entered.ensures.ends
+
+pub returns-in-Err-Privilege-clause-roots : goal.returns-in-Err-Privilege-clause-roots
+returns-in-Err-Privilege-clause-roots g c =
+    let cpu = c.args.cpu.now in
+    if_ok_as (EndsWith None cpu) (RootsAs cpu) c.raise.result (λ w k. kept_roots None cpu w refl k) c.raise.ensures.ends

@@ -1,4 +1,4 @@
-use Rattle.std.proofs.Common.{[], sym, subst}
+use Rattle.std.proofs.Common.{[], None, sym, subst}
 use Rattle.descriptors.specs.declared.cpu.Cpu.{Cpu}
 use Rattle.event_entry.specs.declared.refusal.NotDelivered.{NotDelivered}
 use Rattle.paging.specs.Work.{Outcome}
@@ -6,6 +6,8 @@ use Rattle.step_mem.specs.Sound.{space_at}
 use Rattle.machine_model.specs.Step.{after_delivery}
 use Rattle.machine_step.specs.Worked.{ComesTo}
 use Rattle.machine_step.proofs.Used.{if_ok, entered_uses}
+use Rattle.machine_step.specs.Roots.{EndsWith}
+use Rattle.machine_step.proofs.Rooted.{if_ok_as, ends_on, entered_keeps}
 use Rattle.machine_step.proofs.delivery.raise.Goals as goal
 
 pub returns-in-Ok-clause-step : goal.returns-in-Ok-clause-step
@@ -19,3 +21,10 @@ returns-in-Ok-clause-uses g c = λ user.
     let s = space_at (g.B.Kept.entries c.args.kept.now) c.args.ram.now c.args.state.now in
     let t = space_at (g.B.Kept.entries c.args.kept.now) c.deliver_in.new.ram c.deliver_in.new.state in
     if_ok c.entered.result (entered_uses c.works_use.ensures.delivered user _ _ _ _ _ s t (rw c.in-Ok.is at c.deliver_in.ensures.delivers))
+
+pub returns-in-Ok-clause-ends : goal.returns-in-Ok-clause-ends
+returns-in-Ok-clause-ends g c =
+    let cpu = c.args.cpu in
+    let after = c.deliver_in.new.cpu in
+    if_ok_as (EndsWith None after) (EndsWith None cpu) c.entered.result
+    (λ w k. ends_on None cpu after w (entered_keeps cpu after _ _ _ _ _ (rw c.in-Ok.is at c.deliver_in.ensures.delivers)) k) c.entered.ensures.ends

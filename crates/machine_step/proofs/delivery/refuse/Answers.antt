@@ -1,6 +1,9 @@
+use Rattle.std.proofs.Common.{None, refl}
 use Rattle.step_mem.specs.Sound.{space_at}
 use Rattle.machine_step.proofs.Used.{if_ok_on}
 use Rattle.std.specs.Prelude.{Bool, ◌==◌}
+use Rattle.machine_step.specs.Roots.{RootsAs, EndsWith}
+use Rattle.machine_step.proofs.Rooted.{if_ok_as, ends_on, kept_roots}
 use Rattle.machine_step.proofs.delivery.refuse.Goals as goal
 
 pub returns-in-Raise-clause-step : goal.returns-in-Raise-clause-step
@@ -28,3 +31,15 @@ returns-in-Fault-clause-goes_on g c = λ s h.
     let t = space_at (g.B.Kept.entries c.args.kept.now) c.args.ram.now c.args.state.now in
     let u = space_at (g.B.Kept.entries c.args.kept.now) c.raise-in-Fault.new.ram c.raise-in-Fault.new.state in
     if_ok_on user s t u c.raise-in-Fault.result (rw c.in-Fault.is at h) (c.raise-in-Fault.ensures.uses user)
+
+pub returns-in-Raise-clause-roots : goal.returns-in-Raise-clause-roots
+returns-in-Raise-clause-roots g c =
+    let cpu = c.args.cpu.now in
+    if_ok_as (EndsWith None cpu) (RootsAs cpu) c.raise.result (λ w k. kept_roots None cpu w refl k) c.raise.ensures.ends
+
+pub returns-in-Fault-clause-roots : goal.returns-in-Fault-clause-roots
+returns-in-Fault-clause-roots g c =
+    let cpu = c.args.cpu.now in
+    let faulted = record cpu { cr2 = c.in-Fault.at } in
+    if_ok_as (EndsWith None faulted) (RootsAs cpu) c.raise-in-Fault.result
+    (λ w k. kept_roots None cpu w refl (ends_on None cpu faulted w (record { cr0 = refl; cr3 = refl; cr4 = refl }) k)) c.raise-in-Fault.ensures.ends

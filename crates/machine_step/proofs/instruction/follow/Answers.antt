@@ -1,6 +1,12 @@
 use Rattle.step_mem.specs.Sound.{space_at}
 use Rattle.machine_step.proofs.Used.{if_ok, if_ok_on}
 use Rattle.std.specs.Prelude.{Bool, ◌==◌}
+use Rattle.std.proofs.Common.{Result, Some, None, refl, sym, subst}
+use Rattle.std.specs.Prelude.{IfOk}
+use Rattle.ia32_types.specs.declared.stop.Stop.{Stop}
+use Rattle.machine_step.specs.declared.worked.Worked.{Worked}
+use Rattle.machine_step.specs.Roots.{RootsAs, EndsWith}
+use Rattle.machine_step.proofs.Rooted.{if_ok_as, ends_on, kept_roots, ended_roots}
 use Rattle.machine_step.proofs.instruction.follow.Goals as goal
 
 pub returns-in-PortIn-clause-step : goal.returns-in-PortIn-clause-step
@@ -45,3 +51,39 @@ returns-in-Raise-clause-uses g c = λ s h.
     let t = space_at (g.B.Kept.entries c.args.kept.now) c.args.ram.now c.args.state.now in
     let u = space_at (g.B.Kept.entries c.args.kept.now) c.raise.new.ram c.raise.new.state in
     if_ok_on user s t u c.raise.result (rw c.in-Raise.is at h) (c.raise.ensures.uses user)
+
+pub returns-in-Next-clause-roots : goal.returns-in-Next-clause-roots
+returns-in-Next-clause-roots g c =
+    let before = c.args.before.now in
+    if_ok_as (EndsWith (Some c.args.completed) c.args.cpu) (RootsAs before) c.ended.result
+    (λ w k. ended_roots c.args.completed before c.args.cpu w (rw c.in-Next.is at c.requires.roots) k) c.ended.ensures.ends
+
+pub returns-in-PortIn-clause-roots : goal.returns-in-PortIn-clause-roots
+returns-in-PortIn-clause-roots g c =
+    let before = c.args.before.now in
+    if_ok_as (EndsWith (Some c.args.completed) c.args.cpu) (RootsAs before) c.read.result
+    (λ w k. ended_roots c.args.completed before c.args.cpu w (rw c.in-PortIn.is at c.requires.roots) k) c.read.ensures.ends
+
+pub returns-in-PortOut-clause-roots : goal.returns-in-PortOut-clause-roots
+returns-in-PortOut-clause-roots g c =
+    let before = c.args.before.now in
+    if_ok_as (EndsWith (Some c.args.completed) c.args.cpu) (RootsAs before) c.write.result
+    (λ w k. ended_roots c.args.completed before c.args.cpu w (rw c.in-PortOut.is at c.requires.roots) k) c.write.ensures.ends
+
+pub returns-in-Halted-clause-roots : goal.returns-in-Halted-clause-roots
+returns-in-Halted-clause-roots g c = subst (λ (r : Result Worked Stop). IfOk r (RootsAs c.args.before.now)) (sym c.done.ensures) (rw c.in-Halted.is at c.requires.roots)
+
+pub returns-in-DropPage-clause-roots : goal.returns-in-DropPage-clause-roots
+returns-in-DropPage-clause-roots g c = subst (λ (r : Result Worked Stop). IfOk r (RootsAs c.args.before.now)) (sym c.done-in-DropPage.ensures) (rw c.in-DropPage.is at c.requires.roots)
+
+pub returns-in-DropDir-clause-roots : goal.returns-in-DropDir-clause-roots
+returns-in-DropDir-clause-roots g c = subst (λ (r : Result Worked Stop). IfOk r (RootsAs c.args.before.now)) (sym c.done-in-DropDir.ensures) (rw c.in-DropDir.is at c.requires.roots)
+
+pub returns-in-DropAll-clause-roots : goal.returns-in-DropAll-clause-roots
+returns-in-DropAll-clause-roots g c = subst (λ (r : Result Worked Stop). IfOk r (RootsAs c.args.before.now)) (sym c.done-in-DropAll.ensures) (rw c.in-DropAll.is at c.requires.roots)
+
+pub returns-in-Raise-clause-roots : goal.returns-in-Raise-clause-roots
+returns-in-Raise-clause-roots g c =
+    let before = c.args.before.now in
+    if_ok_as (EndsWith None c.args.cpu) (RootsAs before) c.raise.result
+    (λ w k. kept_roots None before w refl (ends_on None before c.args.cpu w (rw c.in-Raise.is at c.requires.roots) k)) c.raise.ensures.ends

@@ -6,7 +6,8 @@ use Rattle.step_mem.specs.Sound.{space_at}
 use Rattle.machine_model.specs.Step.{effect_on}
 use Rattle.machine_step.specs.Worked.{ComesTo, completed_of}
 use Rattle.machine_step.proofs.Used.{told_uses}
-use Rattle.std.specs.Prelude.{Bool, ◌==◌}
+use Rattle.std.specs.Prelude.{◌==◌}
+use Rattle.machine_step.proofs.Rooted.{left, told_roots}
 use Rattle.machine_step.proofs.instruction.perform.Goals as goal
 
 pub returns-clause-step : goal.returns-clause-step
@@ -22,3 +23,8 @@ returns-clause-uses g c =
     let s = space_at (g.B.Kept.entries c.args.kept.now) c.args.ram.now c.args.state.now in
     let t = space_at (g.B.Kept.entries c.args.kept.now) c.execute-effect.new.ram c.execute-effect.new.state in
     c.follow.ensures.uses s (told_uses (cpu.cpl == 3) cpu s t _ _ _ c.execute-effect.ensures.told (c.works_use.ensures.instructed c.args.insn.now c.args.len cpu s))
+
+pub follow-requires-clause-roots : goal.follow-requires-clause-roots
+follow-requires-clause-roots g c =
+    let a = c.args in
+    told_roots a.completed a.cpu.now _ _ _ _ c.execute-effect.ensures.told (left a.completed a.cpu.now a.insn.now a.len _ c.requires.insn)

@@ -7,7 +7,7 @@ use Rattle.machine_step.specs.declared.worked.Reached.TheVariants as reached
 use Rattle.machine_step.specs.Begun.{after_reach, ReachesTo}
 use Rattle.machine_step.proofs.Refused.{refused_same}
 use Rattle.machine_step.proofs.Used.{given_uses, refused_uses}
-use Rattle.std.specs.Prelude.{Bool, ◌==◌}
+use Rattle.std.specs.Prelude.{◌==◌}
 use Rattle.machine_step.proofs.native.reach.Goals as goal
 
 pub reach_both-requires-clause-shape : goal.reach_both-requires-clause-shape

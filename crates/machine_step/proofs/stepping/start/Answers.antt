@@ -1,7 +1,9 @@
-use Rattle.std.proofs.Common.{ℕ, Option, subst}
+use Rattle.std.proofs.Common.{ℕ, Option, false, subst}
 use Rattle.step_mem.specs.Sound.{space_at}
 use Rattle.machine_model.specs.Step.{by_interrupt, unheld}
 use Rattle.machine_step.specs.Begun.{BeginsAs}
+use Rattle.machine_step.specs.Roots.{RootsBegun}
+use Rattle.machine_step.proofs.Rooted.{if_ok_as, unheld_begun}
 use Rattle.machine_step.proofs.stepping.start.Goals as goal
 
 pub returns-in-None-clause-begins : goal.returns-in-None-clause-begins
@@ -10,3 +12,8 @@ returns-in-None-clause-begins g c = λ m b k.
     let here = record b { cpu = a.cpu.now; board = a.board.now } in
     subst (λ (o : Option ℕ). BeginsAs m (by_interrupt m o (unheld here) (space_at (g.B.Kept.entries a.kept.now) a.ram.now a.state.now)) b c.work.result a.board.now (space_at (g.B.Kept.entries a.kept.now) c.work.new.ram c.work.new.state))
     c.in-None.ensures (c.work.ensures.begins m here k)
+
+pub returns-in-None-clause-roots : goal.returns-in-None-clause-roots
+returns-in-None-clause-roots g c =
+    let cpu = c.args.cpu.now in
+    if_ok_as (RootsBegun (record cpu { held = false })) (RootsBegun cpu) c.work.result (unheld_begun cpu) c.work.ensures.roots

@@ -1,4 +1,4 @@
-use Rattle.std.proofs.Common.{sym, subst}
+use Rattle.std.proofs.Common.{false, sym, subst}
 use Rattle.step_mem.specs.Sound.{space_at}
 use Rattle.machine_model.specs.Step as steps
 use Rattle.machine_step.specs.Worked.{ComesTo}
@@ -6,6 +6,8 @@ use Rattle.machine_step.proofs.Used.{if_ok_on}
 use Rattle.std.specs.Prelude.{IfOk, ◌==◌}
 use Rattle.descriptors.specs.declared.cpu.Cpu.{Cpu}
 use Rattle.machine_model.specs.UsedPages.{Uses}
+use Rattle.machine_step.specs.Roots.{RootsAs}
+use Rattle.machine_step.proofs.Rooted.{if_ok_as, unheld_roots}
 use Rattle.machine_step.proofs.stepping.step_in.Goals as goal
 
 pub returns-in-Worked-clause-step : goal.returns-in-Worked-clause-step
@@ -24,3 +26,12 @@ returns-in-Fetched-clause-uses g c =
     let u = space_at (g.B.Kept.entries c.args.kept.now) c.carry_out.new.ram c.carry_out.new.state in
     if_ok_on (c.args.cpu.now.cpl == 3) s t u c.carry_out.result c.in_ok-worked.ensures.uses
     (subst (λ (x : Cpu). IfOk c.carry_out.result (λ _. Uses (x.cpl == 3) t u)) (rw c.in-Fetched.is at c.in_ok-worked.ensures.fetched) c.carry_out.ensures.uses)
+
+pub returns-in-Worked-clause-roots : goal.returns-in-Worked-clause-roots
+returns-in-Worked-clause-roots g c = rw c.in-Worked.is at c.in_ok-worked.ensures.roots
+
+pub returns-in-Fetched-clause-roots : goal.returns-in-Fetched-clause-roots
+returns-in-Fetched-clause-roots g c =
+    let cpu = c.args.cpu.now in
+    if_ok_as (RootsAs (record cpu { held = false })) (RootsAs cpu) c.carry_out.result (unheld_roots cpu)
+    (subst (λ (x : Cpu). IfOk c.carry_out.result (RootsAs x)) (rw c.in-Fetched.is at c.in_ok-worked.ensures.fetched) c.carry_out.ensures.roots)

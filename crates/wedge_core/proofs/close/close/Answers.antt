@@ -13,6 +13,7 @@ use Rattle.wedge_core.proofs.Readying.{none_ready, none_pages}
 use Rattle.wedge_core.proofs.Resettling.{Settled, closed_opens, closed_none, closed_filled, closed_ready}
 use Rattle.wedge_core.specs.Ready.{AllOpen}
 use Rattle.wedge_core.proofs.close.close.Given.{Over}
+use Rattle.wedge_core.proofs.Leaving.{tells_by}
 use Rattle.wedge_core.proofs.close.close.Goals as goal
 
 pub are_open-requires-clause-few : goal.are_open-requires-clause-few
@@ -114,3 +115,18 @@ returns-then-not-are_open-clause-fewer g c = λ e.
 pub returns-then-not-are_open-clause-ready : goal.returns-then-not-are_open-clause-ready
 returns-then-not-are_open-clause-ready g c = λ out m cpu frames h.
     none_ready g.S.Shadows.slots g.S.Shadows.noted g.S.Shadows.marked g.S.Shadows.value g.S.Shadows.asides out m cpu c.drop_all.new.self c.drop_all.new.ram (c.drop_all.ensures.value ∙ h.value_is) c.drop_all.ensures.none c.drop_all.ensures.asides
+
+pub returns-clause-told : goal.returns-clause-told
+returns-clause-told g c = λ e.
+    let s = c.settle.ensures in
+    tells_by (g.S.Shadows.noted c.args.shadows.now) (g.S.Shadows.noted c.settle.new.shadows) (g.S.Shadows.marked c.args.shadows.now) (g.S.Shadows.marked c.settle.new.shadows) (g.S.Shadows.asides c.args.shadows.now c.args.ram.now)
+    (g.S.Shadows.asides c.settle.new.shadows c.settle.new.ram) c.args.state.now.tables c.args.state.now.wrote c.settle.result s.noted_only s.marked s.asides e
+
+pub returns-clause-opened : goal.returns-clause-opened
+returns-clause-opened g c = λ indices all o. c.settle.ensures.opened indices all o
+
+pub returns-then-not-are_open-clause-told : goal.returns-then-not-are_open-clause-told
+returns-then-not-are_open-clause-told g c = λ e. absurd (let f : true ≡ false = e in cc)
+
+pub returns-then-not-are_open-clause-opened : goal.returns-then-not-are_open-clause-opened
+returns-then-not-are_open-clause-opened g c = λ indices all o. c.drop_all.ensures.opened indices o

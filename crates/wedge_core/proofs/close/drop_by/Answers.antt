@@ -2,6 +2,7 @@ use Rattle.std.proofs.Common.{Bool, false, refl, sym, subst, ◌∙◌, arith}
 use Rattle.wedge_core.specs.Ready.{AllOpen, leaving, left_out}
 use Rattle.wedge_core.proofs.Readying.{none_pages}
 use Rattle.wedge_core.proofs.Returning.{rules_but, left_leaving}
+use Rattle.wedge_core.proofs.Leaving.{stays_same}
 use Rattle.wedge_core.proofs.close.drop_by.Goals as goal
 
 pub returns-then-are_rules_changed-clause-fewer : goal.returns-then-are_rules_changed-clause-fewer
@@ -26,3 +27,12 @@ returns-else-not-is_all-clause-ready g c = λ m pages low h.
     let d = c.args.worked.now.dropped in
     rules_but g.S.Shadows.slots g.S.Shadows.noted g.S.Shadows.marked g.S.Shadows.value g.S.Shadows.asides (leaving d pages) (left_out d pages) m c.args.before.now (record c.args.worked.now.cpu { cr3 = c.args.before.now.cr3 }) c.args.shadows.now c.args.ram.now refl same.1 same.0
     (λ page o. left_leaving d pages page (sym c.is_all.ensures ∙ c.if-not-is_all.false) o) h
+
+pub returns-else-not-is_all-clause-stay : goal.returns-else-not-is_all-clause-stay
+returns-else-not-is_all-clause-stay g c = λ no. stays_same _ _ _
+
+pub returns-then-not-is_all-clause-stay : goal.returns-then-not-is_all-clause-stay
+returns-then-not-is_all-clause-stay g c = λ no. c.drop_from.ensures.stay (sym c.is_all.ensures ∙ c.if-not-is_all.true)
+
+pub returns-then-are_rules_changed-clause-lost : goal.returns-then-are_rules_changed-clause-lost
+returns-then-are_rules_changed-clause-lost g c = λ yes. let e = c.drop_all.ensures in record { notes = e.noted; marks = e.marked; others = e.asides }

@@ -12,6 +12,7 @@ use Rattle.wedge_core.proofs.Readying.{fewer_ready, none_pages}
 use Rattle.wedge_core.proofs.Returning.{fewer_pages}
 use Rattle.wedge_core.proofs.Shedding.{same_shed, open_shed}
 use Rattle.std.proofs.Common.{arith}
+use Rattle.wedge_core.proofs.Leaving.{stays_by, stays_same}
 use Rattle.wedge_core.proofs.close.drop_from.Goals as goal
 
 pub returns-in-Page-clause-owns : goal.returns-in-Page-clause-owns
@@ -82,3 +83,12 @@ returns-in-All-clause-opens g c = λ image wp h. subst (AllOpen image wp) (sym c
 pub returns-in-All-clause-fewer : goal.returns-in-All-clause-fewer
 returns-in-All-clause-fewer g c =
     let none = none_pages g.S.Shadows.slots g.S.Shadows.noted g.S.Shadows.marked g.S.Shadows.value g.S.Shadows.asides c.drop_all.new.self c.drop_all.new.ram c.drop_all.ensures.entries c.drop_all.ensures.asides in omega (arith, none)
+
+pub returns-in-Nothing-clause-stay : goal.returns-in-Nothing-clause-stay
+returns-in-Nothing-clause-stay g c = λ all. stays_same _ _ _
+
+pub returns-in-Page-clause-stay : goal.returns-in-Page-clause-stay
+returns-in-Page-clause-stay g c = λ all. let e = c.drop_page.ensures in stays_by _ _ _ _ _ _ e.noted e.marked e.asides
+
+pub returns-in-Dir-clause-stay : goal.returns-in-Dir-clause-stay
+returns-in-Dir-clause-stay g c = λ all. let e = c.drop_dir.ensures in stays_by _ _ _ _ _ _ e.noted e.marked e.asides

@@ -8,6 +8,7 @@ use Rattle.wedge_core.specs.Parts.{left_of}
 use Rattle.wedge_core.specs.Ready.{left_out}
 use Rattle.wedge_core.proofs.Returning.{rules_but, through_ready, loaded_left, through_left, nothing_out, out_among}
 use Rattle.machine_step.specs.Worked.{dropping}
+use Rattle.wedge_core.proofs.Leaving.{not_true, not_false, no_way, loads_from, same_free}
 use Rattle.wedge_core.proofs.close.leave.Goals as goal
 
 pub returns-clause-moves : goal.returns-clause-moves
@@ -52,3 +53,42 @@ returns-then-is_through-clause-ready g c = λ m low opened h.
     (λ page lt. elim (nothing_out d c.drop_by-changed.result c.args.pages.now page (c.is_through.ensures.other c.if-is_through.true)) [ inl gone ↦ inl (c.drop_by-changed.ensures.none gone page lt) | inr free ↦ inr free ])
     (c.drop_by-changed.ensures.ready m c.args.pages.now low h) in
     (ready, λ back. absurd (let f : false ≡ true = back in cc))
+
+pub returns-clause-opened : goal.returns-clause-opened
+returns-clause-opened g c = λ indices o. c.load.ensures.opened indices (c.drop_by-changed.ensures.opened indices o)
+
+pub returns-clause-stay : goal.returns-clause-stay
+returns-clause-stay g c = λ rules cr3 all. absurd (let t = (c.is_through.ensures.loaded c.if-is_through.false cr3).1 in let f : false ≡ true = sym all ∙ t in cc)
+
+pub returns-clause-lost : goal.returns-clause-lost
+returns-clause-lost g c = λ rules cr3. absurd (rules (c.drop_by-changed.ensures.rules_same (c.is_through.ensures.loaded c.if-is_through.false cr3).0))
+
+pub returns-clause-loads : goal.returns-clause-loads
+returns-clause-loads g c = λ rules all w enough.
+    let e = c.drop_by-changed.ensures in
+    let mid = c.drop_by-changed.new in
+    let no = not_true c.drop_by-changed.result (λ t. e.rules t rules) in
+    let same = e.same no all in
+    loads_from g.S.Shadows.slots g.S.Shadows.noted g.S.Shadows.marked g.S.Shadows.value g.S.Shadows.asides c.args.worked.now.cpu.cr3 c.args.pages.now c.load.new.shadows c.load.new.ram c.args.shadows.now mid.shadows c.args.ram.now mid.ram same.0 same.1
+    (c.load.ensures.loads w (same_free c.args.pool.now mid.pool c.args.ram.now mid.ram same.2 same.1 enough))
+
+pub returns-then-is_through-clause-stay : goal.returns-then-is_through-clause-stay
+returns-then-is_through-clause-stay g c = λ rules cr3 all.
+    let e = c.drop_by-changed.ensures in
+    let d = c.args.worked.now.dropped in
+    let old = entries_of (g.S.Shadows.slots c.args.shadows.now c.args.ram.now) in
+    let no = not_true c.drop_by-changed.result (λ t. e.rules t rules) in
+    (e.stay no, e.left all ∙ ap (λ (x : Bool). left_of x (dropping d old)) no)
+
+pub returns-then-is_through-clause-lost : goal.returns-then-is_through-clause-lost
+returns-then-is_through-clause-lost g c = λ rules cr3.
+    let e = c.drop_by-changed.ensures in
+    let mid = c.drop_by-changed.new in
+    let yes = not_false c.drop_by-changed.result (λ f. rules (e.rules_same f)) in
+    (e.lost yes, entries_of-none (g.S.Shadows.slots mid.shadows mid.ram) (e.none yes))
+
+pub returns-then-is_through-clause-loads : goal.returns-then-is_through-clause-loads
+returns-then-is_through-clause-loads g c = λ rules all w enough.
+    let e = c.drop_by-changed.ensures in
+    let no = not_true c.drop_by-changed.result (λ t. e.rules t rules) in
+    absurd (no_way c.drop_by-changed.result _ no all (c.is_through.ensures.other c.if-is_through.true))

@@ -6,6 +6,7 @@ use Rattle.wedge_core.proofs.Opening.{some_open}
 use Rattle.wedge_core.proofs.Readying.{fewer_ready, none_ready, none_pages}
 use Rattle.wedge_core.proofs.Returning.{fewer_pages, some_part, chosen_out}
 use Rattle.wedge_core.proofs.Shedding.{same_shed, open_shed}
+use Rattle.wedge_core.proofs.Leaving.{stays_by}
 use Rattle.wedge_core.proofs.close.make_way.Goals as goal
 
 pub returns-else-free-lt2-clause-ready : goal.returns-else-free-lt2-clause-ready
@@ -37,3 +38,6 @@ returns-else-free-lt2-clause-opens g c = λ image wp h. open_shed image wp _ _ (
 
 pub returns-else-free-lt2-clause-shows : goal.returns-else-free-lt2-clause-shows
 returns-else-free-lt2-clause-shows g c = λ image wp h. some_open image wp _ _ c.drop_pages.ensures.others h
+
+pub returns-else-free-lt2-clause-stay : goal.returns-else-free-lt2-clause-stay
+returns-else-free-lt2-clause-stay g c = λ w enough. let e = c.drop_pages.ensures in stays_by _ _ _ _ _ _ e.noted e.marked e.asides

@@ -1,13 +1,17 @@
-use Rattle.std.proofs.Common.{◌≡◌, ℕ, ◌≤◌, Bool, List, ap, sym, subst, ◌∙◌, arith}
-use Rattle.frame_pool.specs.Pool.{base_of}
+use Rattle.std.proofs.Common.{◌≡◌, ℕ, ◌≤◌, Bool, List, length, ap, sym, subst, ◌∙◌, arith}
+use Rattle.frame_pool.specs.Pool.{base_of, free_list}
 use Rattle.frame_pool.proofs.Held.{Moves-trans}
 use Rattle.wedge_mem.specs.Settled.{pages_of}
-use Rattle.wedge_core.specs.Ready.{IsReadyBut, IsReadyBehind, leaving}
+use Rattle.wedge_core.specs.Ready.{IsReadyBut, leaving}
 use Rattle.wedge_core.specs.Standing.{AreOpen, wp_of}
 use Rattle.wedge_core.specs.declared.running.Running.{Running}
 use Rattle.wedge_core.proofs.Parts.{left_twice}
 use Rattle.wedge_core.proofs.Boards.{one_step}
 use Rattle.wedge_core.proofs.Filling.{fills_join, fills_fewer}
+use Rattle.shadow_tables.specs.Entries.{entries_of}
+use Rattle.step_mem.specs.Changes.{changed}
+use Rattle.wedge_core.specs.Parts.{left_of}
+use Rattle.wedge_core.proofs.Leaving.{ended}
 use Rattle.wedge_core.proofs.single.go.Goals as goal
 
 pub leave-left-requires-clause-enough : goal.leave-left-requires-clause-enough
@@ -50,3 +54,26 @@ returns-clause-ready g c = λ m frames is opened h.
     let ready_mid = subst (λ (l : List ℕ). IsReadyBut g.S.Shadows.slots g.S.Shadows.noted g.S.Shadows.marked g.S.Shadows.value g.S.Shadows.asides (leaving d l) m mid.cpu mid.shadows c.keep.new.ram) pages_are
     (subst (λ (x : Rattle.descriptors.specs.declared.cpu.Cpu.Cpu). IsReadyBut g.S.Shadows.slots g.S.Shadows.noted g.S.Shadows.marked g.S.Shadows.value g.S.Shadows.asides (leaving d pages) m x mid.shadows c.keep.new.ram) (sym cpu_is) ready) in
     c.leave-left.ensures.ready m low opened_mid ready_mid
+
+pub returns-clause-opened : goal.returns-clause-opened
+returns-clause-opened g c = λ indices all o. c.leave-left.ensures.opened indices (c.keep.ensures.opened indices all o)
+
+pub returns-clause-ends : goal.returns-clause-ends
+returns-clause-ends g c = λ w may indices all o room.
+    let k = c.keep.ensures in
+    let mid = c.keep.new.running in
+    let new = c.leave-left.new in
+    let old = c.args.running.now in
+    let state = c.args.state.now in
+    let pages = pages_of state.visited state.changes in
+    let slots = g.S.Shadows.slots in
+    let asides = g.S.Shadows.asides in
+    let set = changed (entries_of (slots old.shadows c.args.ram.now)) state.changes in
+    let unlost = (k.whole may).0 in
+    let pages_are : _ ≡ pages = c.as_slice.ensures ∙ c.pages_of-pages.ensures.all in
+    let enough : 2 ≤ length (free_list c.keep.new.pool c.keep.new.ram) = (let l = k.moves.lengths in let r = room mid.shadows c.keep.new.ram k.stands (k.opened indices all o) in omega (arith, l, r)) in
+    ended c.args.worked.now.dropped old.cpu mid.cpu c.args.worked.now.cpu (g.S.Shadows.value old.shadows) (g.S.Shadows.value mid.shadows) pages _ state.tables state.wrote set
+    (g.S.Shadows.noted old.shadows) (g.S.Shadows.noted mid.shadows) (g.S.Shadows.noted new.shadows) (g.S.Shadows.marked old.shadows) (g.S.Shadows.marked mid.shadows) (g.S.Shadows.marked new.shadows)
+    (slots mid.shadows c.keep.new.ram) (slots new.shadows new.ram) (asides old.shadows c.args.ram.now) (asides mid.shadows c.keep.new.ram) (asides new.shadows new.ram)
+    (ap (λ (r : Running g.row.S.Denot). r.cpu) k.same) k.value pages_are (k.left ∙ ap (λ (b : Bool). left_of b set) unlost) (k.told unlost)
+    c.leave-left.ensures.stay c.leave-left.ensures.lost (λ rules out. c.leave-left.ensures.loads rules out w enough)
