@@ -31,7 +31,7 @@ use Rattle.step_mem.specs.declared.changes.Change.{Change}
 use Rattle.machine_model.specs.State.{Setting, State, space_at_start}
 use Rattle.machine_model.specs.Clash.{instruction_clashes}
 use Rattle.machine_model.specs.Instruction.{next_page, fetched}
-use Rattle.machine_model.specs.Step.{unheld}
+use Rattle.machine_model.specs.Step.{Report, Went, stepped, unheld}
 use Rattle.native_steps.specs.Again as again
 use Rattle.native_steps.specs.Again.{Again, StepsAgain, settled}
 use Rattle.native_steps.specs.Backward.{NativeCompletes, Completes, IsTranslated, AreReached}
@@ -218,6 +218,13 @@ module _ (grants : Grants) (repeats : Again) (completes : NativeCompletes) (m : 
       room = (let u = used_within t.set (pages_of t.visited (told t.visited cs)) t.visited (went_all t.visited cs) in let f = few in omega (arith, u, f, enough));
     }
 
+    effect_is : effect_of (view_by directory b.cpu) (settled b t) p.insn p.len ≡ outcomes.Done p.regs p.stores
+    effect_is = sym left.effect ∙ p.effect
+
+    -- what the step reports is what was done for it here
+    pub reports : (report : Report) (after : State) → stepped m b ≡ Went report after → (report.pages ≡ t.visited) × (report.tables ≡ t.tables) × (report.wrote ≡ t.wrote)
+    reports report after e = same_again.reported p.regs p.stores effect_is report after e
+
     -- ---- the pages are filled
 
     module _ (old new : ℕ → Option Slot) (cs : List Change) (tracked : List ℕ) (memory : List ℕ) (closes : Closes old new t.set (pages_of t.visited (told t.visited cs)) (side_of (b.cpu.cpl == 3)) (wp_of b) tracked t.wrote)
@@ -239,9 +246,6 @@ module _ (grants : Grants) (repeats : Again) (completes : NativeCompletes) (m : 
             ∙ (sym a.visited
             ∙ (range_goes b.cpu a.reads a.writes true ranges.write a.translated.write ∙ ap (λ (l : List ℕ). went_after l ranges.write) (range_goes b.cpu a.fetched a.reads false ranges.read a.translated.read))) in
             after_cancel p.after_fetch.visited a.fetched.visited ranges.read (after_cancel (went_after p.after_fetch.visited ranges.read) (went_after a.fetched.visited ranges.read) ranges.write both)
-
-        effect_is : effect_of (view_by directory b.cpu) (settled b t) p.insn p.len ≡ outcomes.Done p.regs p.stores
-        effect_is = sym left.effect ∙ p.effect
 
         next_there : IsNext m (not (b.cpu.cpl == 3)) (settled b t)
         next_there = record { awake = next.awake; quiet = next.quiet; small = next.small; start = next.start; outside = next.outside }

@@ -60,7 +60,3 @@ pub mod Carrying
 pub mod Ended
 pub mod Leaving
 pub mod Sweeping
-pub mod Leaving
-pub mod Sweeping
-pub mod Carrying
-pub mod Ended

@@ -22,4 +22,3 @@ pub mod Ready
 pub mod Leaving
 pub mod Carried
 pub mod CarryLaws
-pub mod RootsTmp

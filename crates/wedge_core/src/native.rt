@@ -29,6 +29,7 @@ ghost use Rattle.step_mem.specs.Shown.{hidden};
 ghost use Rattle.step_mem.specs.Sound.{IsSound, space_at};
 ghost use Rattle.machine_model.specs.State.{Setting, State as Whole};
 ghost use Rattle.machine_step.specs.Ruled.{IsRuled};
+ghost use Rattle.machine_step.specs.Roots.{RootsAs};
 ghost use Rattle.machine_step.specs.Worked.{IsDropped};
 ghost use Rattle.std.specs.Prelude.{◌++◌, ◌∷◌, []};
 ghost use Rattle.guest_ram.specs.Bytes.{AreBytes};
@@ -38,10 +39,11 @@ ghost use Rattle.machine_model.specs.Clash.{instruction_clashes};
 ghost use Rattle.kept_laws.specs.Known.{StayAside};
 ghost use Rattle.machine_model.specs.Taken.{Taken};
 ghost use Rattle.machine_model.specs.Keeping.{Roomy};
-ghost use Rattle.wedge_core.specs.Carried.{IsCarried, IsTakenFrom};
+ghost use Rattle.machine_model.specs.Run.{Set};
+ghost use Rattle.wedge_core.specs.Carried.{IsCarried, IsCarriedBy, IsTakenFrom};
 
 use crate::clash::clashes;
-use crate::laws::native_laws;
+use crate::laws::{known_laws, native_laws};
 use crate::running::Running;
 use crate::sight::are_bytes;
 use crate::single::{NOT_YET, go, keep, original, text_frames};
@@ -158,11 +160,11 @@ fn try_once<S: Reloads + Drop>(
     ensures wanted { OnOk result (wanted ≡ true → running.new.lost.back ≡ false) }
     ensures carried { WhereWent result ((script : Events) (steps : List Taken) (t : Taken) → wanted ≡ false → length (free_list pool.old ram.old) + running.old.held ≡ 512 → Roomy (steps ++ t ∷ [])
         → IsTakenFrom (wedge image.now script running.old.frames) (state_of S.stands S.frames S.slots (wedge image.now script running.old.frames) running.old ram.old) t → t.set ≡ set_of S.stands S.frames S.slots running.old ram.old
-        → IsCarried S.slots S.noted S.marked S.asides S.opened (wedge image.now script running.old.frames) steps t.before running.old.shadows ram.old → IsCarried S.slots S.noted S.marked S.asides S.opened (wedge image.now script running.old.frames) (steps ++ t ∷ []) t.after running.new.shadows ram.new) }
+        → (set : Set) → IsCarriedBy S.slots S.noted S.marked S.asides S.opened (wedge image.now script running.old.frames) steps t.before set running.old.shadows ram.old → IsCarried S.slots S.noted S.marked S.asides S.opened (wedge image.now script running.old.frames) (steps ++ t ∷ []) t.after running.new.shadows ram.new) }
     ensures carried_asked { WhereAsked result ((script : Events) (steps : List Taken) (t : Taken) → wanted ≡ false → length (free_list pool.old ram.old) + running.old.held ≡ 512 → Roomy (steps ++ t ∷ [])
         → IsTakenFrom (wedge image.now script running.old.frames) (state_of S.stands S.frames S.slots (wedge image.now script running.old.frames) running.old ram.old) t → t.set ≡ set_of S.stands S.frames S.slots running.old ram.old
         → is_load t.report.completed ≡ false → (t.after.cpu.cr0 ≡ running.old.cpu.cr0) × (t.after.cpu.cr3 ≡ running.old.cpu.cr3) × (t.after.cpu.cr4 ≡ running.old.cpu.cr4) → t.after.set ≡ set_of S.stands S.frames S.slots running.new ram.new → 4096 * running.old.frames ≤ length t.after.ram → AreBytes t.after.ram
-        → IsCarried S.slots S.noted S.marked S.asides S.opened (wedge image.now script running.old.frames) steps t.before running.old.shadows ram.old → IsCarried S.slots S.noted S.marked S.asides S.opened (wedge image.now script running.old.frames) (steps ++ t ∷ []) t.after running.new.shadows ram.new) }
+        → (set : Set) → IsCarriedBy S.slots S.noted S.marked S.asides S.opened (wedge image.now script running.old.frames) steps t.before set running.old.shadows ram.old → IsCarried S.slots S.noted S.marked S.asides S.opened (wedge image.now script running.old.frames) (steps ++ t ∷ []) t.after running.new.shadows ram.new) }
     ensures count { WhereWent result (running.new.step ≡ running.old.step + 1) }
     ensures stays { OnErr result (running.new.step ≡ running.old.step) }
     ensures unfilled { OnErr result (running.new.fills ≡ running.old.fills) }
@@ -175,6 +177,7 @@ fn try_once<S: Reloads + Drop>(
     ensures frames { running.new.frames ≡ running.old.frames }
 {
     native_laws();
+    known_laws();
     are_bytes(ram, image, running.frames);
     eip_fits(&running.cpu);
     let text = Some(original(image));
@@ -192,6 +195,7 @@ fn try_once<S: Reloads + Drop>(
     let mut state = begin(&cpu, ram, &kept, running.frames, guard);
     match try_native(&rules, &cpu, &mut running.board, ram, &kept, &mut state)? {
         Some(worked) => {
+            are_bytes(ram, image, running.frames);
             let count = text_frames(image);
             go(running, pool, ram, &state, &worked, count, wanted);
             Ok(Attempt::Went(worked.seen))
@@ -319,6 +323,7 @@ fn try_native<B: Kept>(
     ensures uses { IfOk result (λ _. Uses (cpu.now.cpl == 3) (space_at (B.entries kept.now) ram.old state.old) (space_at (B.entries kept.now) ram.new state.new)) }
     ensures tries { (m : Setting) (b : Whole) → IsRuled m rules.now → TriesAs m (record b { cpu = cpu.now; board = board.old }) (space_at (B.entries kept.now) ram.old state.old) result board.new (space_at (B.entries kept.now) ram.new state.new) }
     ensures dropped { IfOk result (λ o. IfSome o (λ w. IsDropped w.dropped)) }
+    ensures roots { IfOk result (λ o. IfSome o (λ w. RootsAs cpu.now w)) }
     ensures control { state.new.control ≡ state.old.control }
     ensures text { state.new.guard.text ≡ state.old.guard.text }
     ensures hidden { hidden state.old.guard state.old.control.frames ram.new ≡ hidden state.old.guard state.old.control.frames ram.old }
@@ -355,6 +360,7 @@ fn prepare<B: Kept>(
     ensures uses { IfOk result (λ _. Uses (cpu.now.cpl == 3) (space_at (B.entries kept.now) ram.old state.old) (space_at (B.entries kept.now) ram.new state.new)) }
     ensures prepares { (m : Setting) (b : Whole) → IsRuled m rules.now → PreparesAs m (record b { cpu = cpu.now }) insn.now len (space_at (B.entries kept.now) ram.old state.old) result (space_at (B.entries kept.now) ram.new state.new) }
     ensures dropped { IfOk result (λ o. IfSome o (λ w. IsDropped w.dropped)) }
+    ensures roots { IfOk result (λ o. IfSome o (λ w. RootsAs cpu.now w)) }
     ensures control { state.new.control ≡ state.old.control }
     ensures guard { state.new.guard ≡ state.old.guard }
     ensures hidden { hidden state.old.guard state.old.control.frames ram.new ≡ hidden state.old.guard state.old.control.frames ram.old }
