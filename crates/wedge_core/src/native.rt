@@ -132,6 +132,7 @@ pub fn begin_native<S: Reloads + Drop>(
     ensures pool { Keeps pool.old pool.new ram.old ram.new (S.frames running.old.shadows ram.old) (S.frames running.new.shadows ram.new) }
     ensures frames { running.new.frames ≡ running.old.frames }
 {
+    known_laws();
     make_room(running, pool, ram, image);
     try_once(running, pool, ram, image, wanted)
 }

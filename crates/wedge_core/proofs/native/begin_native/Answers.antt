@@ -1,8 +1,24 @@
-use Rattle.std.proofs.Common.{◌≡◌, ℕ, Bool, false, refl, ap, sym, ◌∙◌, subst, OnErr}
-use Rattle.machine_model.specs.State.{wedge}
-use Rattle.wedge_core.specs.Attempts.{AttemptAs}
+use Rattle.std.proofs.Common.{◌≡◌, ℕ, ◌+◌, ◌*◌, ◌≤◌, eqb, Bool, false, List, [], ◌∷◌, ◌++◌, length, Result, Ok, Err, refl, ap, sym, ◌∙◌, subst, OnErr, arith}
+use Rattle.std.specs.Set.{is_member}
+use Rattle.guest_ram.specs.Bytes.{AreBytes}
+use Rattle.frame_pool.specs.Pool.{free_list}
+use Rattle.ia32_types.specs.declared.stop.Stop.{Stop}
+use Rattle.board.specs.Scripts.{Events}
+use Rattle.image_check.specs.Image.{Image}
+use Rattle.shadow_tables.specs.Entries.{entries_of}
+use Rattle.machine_model.specs.Keeping.{Roomy}
+use Rattle.machine_model.specs.Run.{Set}
+use Rattle.machine_model.specs.Step.{stepped}
+use Rattle.machine_model.specs.Taken.{Taken, is_load}
+use Rattle.kept_laws.specs.Carried.{indices_in}
+use Rattle.wedge_core.specs.Carried.{IsCarried, IsCarriedBy, IsTakenFrom}
+use Rattle.wedge_core.specs.declared.native.Attempt.{Attempt}
+use Rattle.wedge_core.specs.declared.native.Attempt.TheVariants as attempt
+use Rattle.wedge_core.proofs.native.begin_native.Given.{Over}
+use Rattle.machine_model.specs.State.{Setting, State, wedge}
+use Rattle.wedge_core.specs.Attempts.{AttemptAs, WhereAsked, WhereWent}
 use Rattle.wedge_core.specs.Parts.{left_of, with_set}
-use Rattle.wedge_core.specs.Standing.{ground, state_of}
+use Rattle.wedge_core.specs.Standing.{ground, set_of, state_of}
 use Rattle.wedge_core.specs.Views.{view_by}
 use Rattle.wedge_core.specs.declared.running.Running.{Running}
 use Rattle.std.specs.Prelude.{OnOk}
@@ -74,3 +90,117 @@ returns-clause-ready g c =
     let new = c.try_once.new.running in
     subst (λ (r : Running g.row.S.Denot). OnOk c.try_once.result (IsReady g.S.Shadows.slots g.S.Shadows.noted g.S.Shadows.marked g.S.Shadows.value g.S.Shadows.asides (ground c.args.image.now r.frames) new.cpu new.shadows c.try_once.new.ram)) c.make_room.ensures.same
     c.try_once.ensures.ready
+
+-- ---- what the run knows goes on
+where_went : {P Q : Type 0} (r : Result Attempt Stop) → (P → Q) → WhereWent r P → WhereWent r Q
+where_went (Ok (attempt.Went seen)) f h = f h
+where_went (Ok attempt.Asked) f h = tt
+where_went (Err stop) f h = tt
+
+where_asked : {P Q : Type 0} (r : Result Attempt Stop) → (P → Q) → WhereAsked r P → WhereAsked r Q
+where_asked (Ok attempt.Asked) f h = f h
+where_asked (Ok (attempt.Went seen)) f h = tt
+where_asked (Err stop) f h = tt
+
+module _ (g : Over) (c : goal.After-try_once g) where
+  abbrev running : Running g.row.S.Denot
+  running = c.args.running.now
+
+  abbrev image : Image
+  image = c.args.image.now
+
+  abbrev ram0 : List ℕ
+  ram0 = c.args.ram.now
+
+  abbrev ram1 : List ℕ
+  ram1 = c.make_room.new.ram
+
+  abbrev mid : Running g.row.S.Denot
+  mid = record running { shadows = c.make_room.new.running.shadows; held = c.make_room.new.running.held; lost = c.make_room.new.running.lost }
+
+  module _ (script : Events) where
+    abbrev m : Setting
+    m = wedge image script running.frames
+
+    abbrev b : State
+    b = state_of g.S.Shadows.stands g.S.Shadows.frames g.S.Shadows.slots m running ram0
+
+    abbrev d : State
+    d = state_of g.S.Shadows.stands g.S.Shadows.frames g.S.Shadows.slots m mid ram1
+
+    taken_there : (t : Taken) → IsTakenFrom m b t → IsTakenFrom m d t
+    taken_there t taken =
+        let same = shown_same m ram0 ram1 c.make_room.ensures.guest in
+        record {
+          cpu = taken.cpu;
+          ram = taken.ram ∙ sym same;
+          went = taken.went;
+          stepped = (λ i. stepped m (record b { ram = same i; set = t.set })) ∙ taken.stepped;
+        }
+
+    by_there : (t : Taken) → t.set ≡ left_of c.try_once.new.running.lost.before b.set → t.set ≡ d.set
+    by_there t by = by ∙ (ap (λ (x : Bool). left_of x b.set) c.try_once.ensures.before ∙ sym c.make_room.ensures.left)
+
+    module _ (steps : List Taken) (t : Taken) (free : length (free_list c.args.pool.now ram0) + running.held ≡ 512) (roomy : Roomy (steps ++ t ∷ []))
+        (carried : IsCarried g.S.Shadows.slots g.S.Shadows.noted g.S.Shadows.marked g.S.Shadows.asides g.S.Shadows.opened m steps t.before running.shadows ram0)
+      where
+        room : 8 ≤ length (free_list c.args.pool.now ram0)
+        room =
+            let size = g.met.S.Reloads.sized running.shadows ram0 (λ index. is_member eqb (indices_in steps) index) (indices_in steps) c.requires.held.stand carried.opened_to (λ index lt is. is) in
+            let few = c.known_laws.ensures.few steps (c.known_laws.ensures.before steps t roomy) in
+            let counted = c.requires.held.counted in
+            omega (arith, size, few, counted, free)
+
+        free_there : length (free_list c.make_room.new.pool ram1) + mid.held ≡ 512
+        free_there =
+            let lengths = c.make_room.ensures.moves.lengths in
+            let before = c.requires.held.counted in
+            let after = c.make_room.ensures.held.counted in
+            omega (arith, lengths, before, after, free)
+
+        carried_there : IsCarriedBy g.S.Shadows.slots g.S.Shadows.noted g.S.Shadows.marked g.S.Shadows.asides g.S.Shadows.opened m steps t.before (entries_of (g.S.Shadows.slots running.shadows ram0)) mid.shadows ram1
+        carried_there = record {
+          known = c.known_laws.ensures.still m steps t.before (g.S.Shadows.noted running.shadows) (g.S.Shadows.noted mid.shadows) (g.S.Shadows.marked running.shadows) (g.S.Shadows.marked mid.shadows) (g.S.Shadows.asides running.shadows ram0)
+              (g.S.Shadows.asides mid.shadows ram1) (entries_of (g.S.Shadows.slots running.shadows ram0)) (c.make_room.ensures.stay room) carried.known;
+          opened_to = c.make_room.ensures.opened (λ index. is_member eqb (indices_in steps) index) carried.opened_to;
+        }
+
+  -- what a try says, from there
+  abbrev Carries : Running g.row.S.Denot → Events → List Taken → Taken → Type 0
+  Carries r script steps t =
+      (set : Set) → IsCarriedBy g.S.Shadows.slots g.S.Shadows.noted g.S.Shadows.marked g.S.Shadows.asides g.S.Shadows.opened (wedge image script r.frames) steps t.before set r.shadows ram1
+      → IsCarried g.S.Shadows.slots g.S.Shadows.noted g.S.Shadows.marked g.S.Shadows.asides g.S.Shadows.opened (wedge image script r.frames) (steps ++ t ∷ []) t.after c.try_once.new.running.shadows c.try_once.new.ram
+
+  abbrev IsTaken : Running g.row.S.Denot → Events → List Taken → Taken → Type 0 → Type 0
+  IsTaken r script steps t fact =
+      c.args.wanted ≡ false → length (free_list c.make_room.new.pool ram1) + r.held ≡ 512 → Roomy (steps ++ t ∷ [])
+      → IsTakenFrom (wedge image script r.frames) (state_of g.S.Shadows.stands g.S.Shadows.frames g.S.Shadows.slots (wedge image script r.frames) r ram1) t → t.set ≡ set_of g.S.Shadows.stands g.S.Shadows.frames g.S.Shadows.slots r ram1 → fact
+
+  tried : WhereWent c.try_once.result ((script : Events) (steps : List Taken) (t : Taken) → IsTaken mid script steps t (Carries mid script steps t))
+  tried = subst (λ (r : Running g.row.S.Denot). WhereWent c.try_once.result ((script : Events) (steps : List Taken) (t : Taken) → IsTaken r script steps t (Carries r script steps t))) c.make_room.ensures.same c.try_once.ensures.carried
+
+  abbrev Does : Running g.row.S.Denot → Taken → Type 0 → Type 0
+  Does r t fact =
+      is_load t.report.completed ≡ false → (t.after.cpu.cr0 ≡ r.cpu.cr0) × (t.after.cpu.cr3 ≡ r.cpu.cr3) × (t.after.cpu.cr4 ≡ r.cpu.cr4)
+      → t.after.set ≡ set_of g.S.Shadows.stands g.S.Shadows.frames g.S.Shadows.slots c.try_once.new.running c.try_once.new.ram → 4096 * r.frames ≤ length t.after.ram → AreBytes t.after.ram → fact
+
+  asked : WhereAsked c.try_once.result ((script : Events) (steps : List Taken) (t : Taken) → IsTaken mid script steps t (Does mid t (Carries mid script steps t)))
+  asked = subst (λ (r : Running g.row.S.Denot). WhereAsked c.try_once.result ((script : Events) (steps : List Taken) (t : Taken) → IsTaken r script steps t (Does r t (Carries r script steps t)))) c.make_room.ensures.same c.try_once.ensures.carried_asked
+
+pub returns-clause-carried : goal.returns-clause-carried
+returns-clause-carried g c =
+    where_went c.try_once.result
+    (λ f script steps t unwanted free roomy taken by carried.
+        f script steps t unwanted (free_there g c script steps t free roomy carried) roomy (taken_there g c script t taken) (by_there g c script t by) (entries_of (g.S.Shadows.slots c.args.running.now.shadows c.args.ram.now)) (carried_there g c script steps t free roomy carried))
+    (tried g c)
+
+pub returns-clause-carried_asked : goal.returns-clause-carried_asked
+returns-clause-carried_asked g c =
+    where_asked c.try_once.result
+    (λ f script steps t unwanted free roomy taken by load rules set long bytes carried.
+        f script steps t unwanted (free_there g c script steps t free roomy carried) roomy (taken_there g c script t taken) (by_there g c script t by) load rules set long bytes (entries_of (g.S.Shadows.slots c.args.running.now.shadows c.args.ram.now))
+        (carried_there g c script steps t free roomy carried))
+    (asked g c)
+
+pub returns-clause-clashed : goal.returns-clause-clashed
+returns-clause-clashed g c = λ lost room. c.make_room.ensures.clashed (sym c.try_once.ensures.before ∙ lost) room
