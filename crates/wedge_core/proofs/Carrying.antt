@@ -58,11 +58,11 @@ right_false false b e = e
 
 -- ---- what a step reported
 
-abbrev report_in : Report → steps.Result → Report
+abbrev pub report_in : Report → steps.Result → Report
 report_in other (Went report b) = report
 report_in other (Stands stop) = other
 
-abbrev state_in : State → steps.Result → State
+abbrev pub state_in : State → steps.Result → State
 state_in other (Went report b) = b
 state_in other (Stands stop) = other
 
@@ -191,8 +191,8 @@ module _ (tells : SettlingTells) (comes : DroppedComesFrom) (t : Taken) (before 
               stay = r.stay;
               comes = comes t s.set r.slots1 left (λ q lt e1. r.gone q lt (among_first q s.visited (map page_of changes) (is_used q e1)))
                   (λ q lt e1.
-                      ap entry_in (r.others q lt (not_true (is_among q (pages_of s.visited changes)) (λ c. clash (is_among q s.visited) (told_among s.visited changes told q c) (unused q e1))))
-                      ∙ (sym (get-entries_of e.slots1 q lt) ∙ ap (λ (x : Set). get x q) e.entries))
+                  ap entry_in (r.others q lt (not_true (is_among q (pages_of s.visited changes)) (λ c. clash (is_among q s.visited) (told_among s.visited changes told q c) (unused q e1))))
+                  ∙ (sym (get-entries_of e.slots1 q lt) ∙ ap (λ (x : Set). get x q) e.entries))
                   none;
               loaded = record {
                 present =

@@ -60,3 +60,4 @@ pub mod Carrying
 pub mod Ended
 pub mod Leaving
 pub mod Sweeping
+pub mod Instructed

@@ -26,7 +26,8 @@ use Rattle.machine_step.specs.declared.worked.Seen.{Seen}
 use Rattle.machine_step.specs.declared.worked.Seen.TheVariants.{Nothing}
 use Rattle.machine_model.specs.State.{Setting, State, wedge, wedge_mode}
 use Rattle.machine_model.specs.Able.{StepsKeepAble}
-use Rattle.machine_model.specs.Step.{Went}
+use Rattle.machine_model.specs.Step.{Report, Went, stepped}
+use Rattle.machine_model.specs.Taken.{Taken, is_load}
 use Rattle.machine_model.specs.Run.{Set}
 use Rattle.machine_model.specs.Counts.{direct_in}
 use Rattle.native_steps.specs.Backward.{Completes}
@@ -34,6 +35,7 @@ use Rattle.native_steps.specs.Forward.{Follows}
 use Rattle.native_steps.specs.Lends.{IsUnlent}
 use Rattle.native_steps.specs.Stands.{IsHost, shown}
 use Rattle.wedge_core.specs.Attempts.{Asks, Idle}
+use Rattle.wedge_core.specs.Carried.{IsTakenFrom}
 use Rattle.wedge_core.specs.Filled.{FillsOn}
 use Rattle.wedge_core.specs.Parts.{left_of, with_set}
 use Rattle.wedge_core.specs.Pools.{Keeps}
@@ -44,8 +46,10 @@ use Rattle.wedge_core.specs.Standing.{IsHeld, IsAble, AreOpen, ground, side_of, 
 use Rattle.wedge_core.specs.Stepping.{AloneAs, Goes}
 use Rattle.wedge_core.specs.declared.running.Lost.{Lost}
 use Rattle.wedge_core.specs.declared.running.Running.{Running}
+use Rattle.wedge_core.proofs.AfterTry.{any_script}
 use Rattle.wedge_core.proofs.Asked.{once_goes}
 use Rattle.wedge_core.proofs.Boards.{one_step}
+use Rattle.wedge_core.proofs.Carrying.{report_in, state_in}
 use Rattle.wedge_core.proofs.Counting.{none_counts, one_counts}
 use Rattle.wedge_core.proofs.Keeping.{keeps_join, keeps_above}
 use Rattle.wedge_core.proofs.Opening.{same_open}
@@ -198,7 +202,7 @@ module _ {S : Type 0} (stands : S → List ℕ → Type 0) (frames : S → List 
     pub shadows_are : g2.shadows ≡ g1.shadows
     shadows_are = let a = asks_now [] in ap (λ (g : Running S). g.shadows) (ran a).new_is
 
-    lost_is : g2.lost ≡ g1.lost
+    pub lost_is : g2.lost ≡ g1.lost
     lost_is = let a = asks_now [] in ap (λ (g : Running S). g.lost) (ran a).new_is
 
     pub once_goes_on : (script : Events) → Goes (wedge image script g0.frames) (state_of stands frames slots (wedge image script g0.frames) g0 m0) g2.lost Nothing (state_of stands frames slots (wedge image script g0.frames) g2 m2) before after
@@ -261,6 +265,28 @@ module _ {S : Type 0} (stands : S → List ℕ → Type 0) (frames : S → List 
         let e = (ran (asks_now [])).new_is in
         let c = cpu_is in
         (ap (λ (g : Running S). g.cpu.cr3) e ∙ ap (λ (x : Cpu). x.cr3) c, ap (λ (g : Running S). pse_of g.cpu) e ∙ ap pse_of c, ap (λ (g : Running S). wp_of g.cpu) e ∙ ap wp_of c)
+
+    -- It is the step of a run that goes by what was left: it loads no CR3, leaves the control registers, and leaves what is
+    -- kept, and this memory.
+    pub once_taken : (script : Events) (t : Taken) → IsTakenFrom (wedge image script g0.frames) (state_of stands frames slots (wedge image script g0.frames) g0 m0) t → t.set ≡ left_of g1.lost.before (entries_of (slots g0.shadows m0))
+        → (is_load t.report.completed ≡ false) × ((t.after.cpu.cr0 ≡ g0.cpu.cr0) × (t.after.cpu.cr3 ≡ g0.cpu.cr3) × (t.after.cpu.cr4 ≡ g0.cpu.cr4)) × (t.after.set ≡ entries_of (slots g1.shadows m1)) × (t.after.ram ≡ shown (ground image g0.frames) m2)
+    once_taken script t taken by =
+        let m = wedge image script g0.frames in
+        let b = state_of stands frames slots m g0 m0 in
+        let a = asks_now script in
+        let f = a.completes.follows in
+        let s = a.same f.report f.after f.went in
+        let r = ran_once m (view_by (directory g1.shadows) g1.cpu) (state_of stands frames slots m g1 m1) g1 m1 a.regs before after done g2 m2 refl a.completes o.ran in
+        let is : Went t.report t.after ≡ Went (record f.report { tables = s.0; wrote = s.1 }) f.after = sym taken.stepped ∙ (ap (λ (x : Set). stepped m (with_set b x)) by ∙ s.2) in
+        let report = ap (report_in t.report) is in
+        let state = ap (state_in t.after) is in
+        let cpu = ap (λ (x : State). x.cpu) state ∙ f.cpu in
+        let c = cpu_is in (
+          ap (λ (x : Report). is_load x.completed) report ∙ f.through,
+          (ap (λ (x : Cpu). x.cr0) cpu ∙ ap (λ (x : Cpu). x.cr0) c, ap (λ (x : Cpu). x.cr3) cpu ∙ ap (λ (x : Cpu). x.cr3) c, ap (λ (x : Cpu). x.cr4) cpu ∙ ap (λ (x : Cpu). x.cr4) c),
+          ap (λ (x : State). x.set) state ∙ f.set,
+          ap (λ (x : State). x.ram) state ∙ (f.stands.ram ∙ (ap (shown m) (sym r.memory_is) ∙ any_script image script g0.frames m2)),
+        )
 
     pub once_back : g1.lost.back ≡ false → g2.lost.back ≡ false
     once_back back = ap (λ (l : Lost). l.back) lost_is ∙ back

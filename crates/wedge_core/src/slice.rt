@@ -29,11 +29,12 @@ ghost use Rattle.machine_model.specs.Taken.{Taken};
 ghost use Rattle.machine_model.specs.Keeping.{Roomy};
 ghost use Rattle.wedge_core.specs.Carried.{IsCarried, IsTakenFrom};
 
-use crate::laws::alones_go;
+use crate::laws::{alones_go, known_laws};
 use crate::native::{Attempt, begin_native};
 use crate::noting::{tell, tell_both};
 use crate::rest::rest;
 use crate::running::{Lost, Running};
+use crate::sight::are_bytes;
 use crate::single::step_alone;
 use crate::stretch::{may_run, run_on, stretch};
 use board::Script;
@@ -154,7 +155,9 @@ fn one_step<S: Reloads + Drop, H: Host>(
     ensures frames { running.new.frames ≡ running.old.frames }
 {
     alones_go();
+    known_laws();
     steps_keep_able();
+    let frames = running.frames;
     running.lost = Lost {
         before: false,
         after: false,
@@ -167,6 +170,7 @@ fn one_step<S: Reloads + Drop, H: Host>(
         Attempt::Went(seen) => Ok(seen),
         Attempt::Asked => {
             let _one = run_on(running, host, 1);
+            are_bytes(host.ram(), image, frames);
             Ok(Seen::Nothing)
         }
     }

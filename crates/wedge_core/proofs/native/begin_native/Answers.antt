@@ -191,15 +191,15 @@ pub returns-clause-carried : goal.returns-clause-carried
 returns-clause-carried g c =
     where_went c.try_once.result
     (λ f script steps t unwanted free roomy taken by carried.
-        f script steps t unwanted (free_there g c script steps t free roomy carried) roomy (taken_there g c script t taken) (by_there g c script t by) (entries_of (g.S.Shadows.slots c.args.running.now.shadows c.args.ram.now)) (carried_there g c script steps t free roomy carried))
+    f script steps t unwanted (free_there g c script steps t free roomy carried) roomy (taken_there g c script t taken) (by_there g c script t by) (entries_of (g.S.Shadows.slots c.args.running.now.shadows c.args.ram.now)) (carried_there g c script steps t free roomy carried))
     (tried g c)
 
 pub returns-clause-carried_asked : goal.returns-clause-carried_asked
 returns-clause-carried_asked g c =
     where_asked c.try_once.result
     (λ f script steps t unwanted free roomy taken by load rules set long bytes carried.
-        f script steps t unwanted (free_there g c script steps t free roomy carried) roomy (taken_there g c script t taken) (by_there g c script t by) load rules set long bytes (entries_of (g.S.Shadows.slots c.args.running.now.shadows c.args.ram.now))
-        (carried_there g c script steps t free roomy carried))
+    f script steps t unwanted (free_there g c script steps t free roomy carried) roomy (taken_there g c script t taken) (by_there g c script t by) load rules set long bytes (entries_of (g.S.Shadows.slots c.args.running.now.shadows c.args.ram.now))
+    (carried_there g c script steps t free roomy carried))
     (asked g c)
 
 pub returns-clause-clashed : goal.returns-clause-clashed

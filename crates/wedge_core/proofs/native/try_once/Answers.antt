@@ -948,7 +948,7 @@ returns-in-None-clause-carried_asked g c = λ script steps t unwanted free roomy
     let enough : 8 ≤ free1 = (let e = ap length a.free_same in let r = c.requires.room in omega (arith, e, r)) in
     let may = may_close c.native_laws.ensures.grants c.native_laws.ensures.again c.native_laws.ensures.completes m w directory b room fit sound (c.native_laws.ensures.sees directory running.cpu c.requires.able) next small last p clear n c.text_frames.result free1 state1.changes c.text_frames.ensures within1 enough in
     let kept_all = closes_told new.lost.after (g.S.Shadows.slots running.shadows ram1) slots3 kept1 last.set c.text_frames.result side free1 (wp_of running.cpu) (g.S.Shadows.tracked new.shadows) state1 c.keep_told.new.state c.keep_told.ensures told_is wp1 c.keep.ensures.whole may in
-        let noted = reports c.native_laws.ensures.grants c.native_laws.ensures.again c.native_laws.ensures.completes m w directory b room fit sound (c.native_laws.ensures.sees directory running.cpu c.requires.able) next small last p clear t.report t.after
+    let noted = reports c.native_laws.ensures.grants c.native_laws.ensures.again c.native_laws.ensures.completes m w directory b room fit sound (c.native_laws.ensures.sees directory running.cpu c.requires.able) next small last p clear t.report t.after
     (sym (ap (λ (x : Set). stepped m (with_set b x)) by) ∙ taken.stepped) in
     let law = c.known_laws.ensures in
     let indices : ℕ → Bool = λ index. is_member eqb (indices_in (steps ++ t ∷ [])) index in
