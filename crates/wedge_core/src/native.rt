@@ -29,6 +29,7 @@ ghost use Rattle.step_mem.specs.Shown.{hidden};
 ghost use Rattle.step_mem.specs.Sound.{IsSound, space_at};
 ghost use Rattle.machine_model.specs.State.{Setting, State as Whole};
 ghost use Rattle.machine_step.specs.Ruled.{IsRuled};
+ghost use Rattle.machine_step.specs.Roots.{RootsAs};
 ghost use Rattle.machine_step.specs.Worked.{IsDropped};
 ghost use Rattle.std.specs.Prelude.{◌++◌, ◌∷◌, []};
 ghost use Rattle.guest_ram.specs.Bytes.{AreBytes};
@@ -319,6 +320,7 @@ fn try_native<B: Kept>(
     ensures uses { IfOk result (λ _. Uses (cpu.now.cpl == 3) (space_at (B.entries kept.now) ram.old state.old) (space_at (B.entries kept.now) ram.new state.new)) }
     ensures tries { (m : Setting) (b : Whole) → IsRuled m rules.now → TriesAs m (record b { cpu = cpu.now; board = board.old }) (space_at (B.entries kept.now) ram.old state.old) result board.new (space_at (B.entries kept.now) ram.new state.new) }
     ensures dropped { IfOk result (λ o. IfSome o (λ w. IsDropped w.dropped)) }
+    ensures roots { IfOk result (λ o. IfSome o (λ w. RootsAs cpu.now w)) }
     ensures control { state.new.control ≡ state.old.control }
     ensures text { state.new.guard.text ≡ state.old.guard.text }
     ensures hidden { hidden state.old.guard state.old.control.frames ram.new ≡ hidden state.old.guard state.old.control.frames ram.old }
@@ -355,6 +357,7 @@ fn prepare<B: Kept>(
     ensures uses { IfOk result (λ _. Uses (cpu.now.cpl == 3) (space_at (B.entries kept.now) ram.old state.old) (space_at (B.entries kept.now) ram.new state.new)) }
     ensures prepares { (m : Setting) (b : Whole) → IsRuled m rules.now → PreparesAs m (record b { cpu = cpu.now }) insn.now len (space_at (B.entries kept.now) ram.old state.old) result (space_at (B.entries kept.now) ram.new state.new) }
     ensures dropped { IfOk result (λ o. IfSome o (λ w. IsDropped w.dropped)) }
+    ensures roots { IfOk result (λ o. IfSome o (λ w. RootsAs cpu.now w)) }
     ensures control { state.new.control ≡ state.old.control }
     ensures guard { state.new.guard ≡ state.old.guard }
     ensures hidden { hidden state.old.guard state.old.control.frames ram.new ≡ hidden state.old.guard state.old.control.frames ram.old }
