@@ -23,11 +23,13 @@ ghost use Rattle.wedge_core.specs.Tries.{TriesAs};
 ghost use Rattle.wedge_core.specs.Prepared.{PreparesAs, prepared};
 ghost use Rattle.ia32_rows.specs.Spells.{Spells};
 ghost use Rattle.paging.specs.Work.{Gives};
-ghost use Rattle.std.specs.Prelude.{IfOk, IfSome};
+ghost use Rattle.std.specs.Prelude.{IfErr, IfOk, IfSome};
+ghost use Rattle.machine_model.specs.UsedPages.{AtRefusal, Uses};
 ghost use Rattle.step_mem.specs.Shown.{hidden};
 ghost use Rattle.step_mem.specs.Sound.{IsSound, space_at};
 ghost use Rattle.machine_model.specs.State.{Setting, State as Whole};
 ghost use Rattle.machine_step.specs.Ruled.{IsRuled};
+ghost use Rattle.machine_step.specs.Roots.{RootsAs};
 ghost use Rattle.machine_step.specs.Worked.{IsDropped};
 ghost use Rattle.std.specs.Prelude.{◌++◌, ◌∷◌, []};
 ghost use Rattle.guest_ram.specs.Bytes.{AreBytes};
@@ -53,6 +55,7 @@ use ia32_decode::Decoded;
 use ia32_exec::Outcome;
 use ia32_types::{Insn, Op, Stop, sensitive};
 use image_check::Checked;
+use machine_model::works_use;
 use machine_step::{Rules, Seen, Worked, begin, carry_out, fetch_at, refuse};
 use shadow_cache::Reloads;
 use shadow_tables::Shadows;
@@ -314,8 +317,10 @@ fn try_native<B: Kept>(
     requires sound { IsSound (B.entries kept.now) (B.floor kept.now) (B.stands kept.now) ram.old state.old }
     requires pages { state.old.pages ≡ 0 }
     ensures sound { IsSound (B.entries kept.now) (B.floor kept.now) (B.stands kept.now) ram.new state.new }
+    ensures uses { IfOk result (λ _. Uses (cpu.now.cpl == 3) (space_at (B.entries kept.now) ram.old state.old) (space_at (B.entries kept.now) ram.new state.new)) }
     ensures tries { (m : Setting) (b : Whole) → IsRuled m rules.now → TriesAs m (record b { cpu = cpu.now; board = board.old }) (space_at (B.entries kept.now) ram.old state.old) result board.new (space_at (B.entries kept.now) ram.new state.new) }
     ensures dropped { IfOk result (λ o. IfSome o (λ w. IsDropped w.dropped)) }
+    ensures roots { IfOk result (λ o. IfSome o (λ w. RootsAs cpu.now w)) }
     ensures control { state.new.control ≡ state.old.control }
     ensures text { state.new.guard.text ≡ state.old.guard.text }
     ensures hidden { hidden state.old.guard state.old.control.frames ram.new ≡ hidden state.old.guard state.old.control.frames ram.old }
@@ -349,8 +354,10 @@ fn prepare<B: Kept>(
     requires sound { IsSound (B.entries kept.now) (B.floor kept.now) (B.stands kept.now) ram.old state.old }
     requires pages { state.old.pages ≤ 8 }
     ensures sound { IsSound (B.entries kept.now) (B.floor kept.now) (B.stands kept.now) ram.new state.new }
+    ensures uses { IfOk result (λ _. Uses (cpu.now.cpl == 3) (space_at (B.entries kept.now) ram.old state.old) (space_at (B.entries kept.now) ram.new state.new)) }
     ensures prepares { (m : Setting) (b : Whole) → IsRuled m rules.now → PreparesAs m (record b { cpu = cpu.now }) insn.now len (space_at (B.entries kept.now) ram.old state.old) result (space_at (B.entries kept.now) ram.new state.new) }
     ensures dropped { IfOk result (λ o. IfSome o (λ w. IsDropped w.dropped)) }
+    ensures roots { IfOk result (λ o. IfSome o (λ w. RootsAs cpu.now w)) }
     ensures control { state.new.control ≡ state.old.control }
     ensures guard { state.new.guard ≡ state.old.guard }
     ensures hidden { hidden state.old.guard state.old.control.frames ram.new ≡ hidden state.old.guard state.old.control.frames ram.old }
@@ -377,12 +384,15 @@ fn weigh<B: Kept>(
     requires sound { IsSound (B.entries kept.now) (B.floor kept.now) (B.stands kept.now) ram.old state.old }
     requires pages { state.old.pages ≤ 8 }
     ensures sound { IsSound (B.entries kept.now) (B.floor kept.now) (B.stands kept.now) ram.new state.new }
+    ensures uses { IfOk result (λ _. Uses (cpu.now.cpl == 3) (space_at (B.entries kept.now) ram.old state.old) (space_at (B.entries kept.now) ram.new state.new)) }
+    ensures refused { IfErr result (λ refusal. AtRefusal (cpu.now.cpl == 3) (space_at (B.entries kept.now) ram.old state.old) refusal (space_at (B.entries kept.now) ram.new state.new)) }
     ensures prepared { Gives result (space_at (B.entries kept.now) ram.new state.new) (prepared insn.now len cpu.now (space_at (B.entries kept.now) ram.old state.old)) }
     ensures pages { state.new.pages ≤ state.old.pages + 4 }
     ensures control { state.new.control ≡ state.old.control }
     ensures guard { state.new.guard ≡ state.old.guard }
     ensures hidden { hidden state.old.guard state.old.control.frames ram.new ≡ hidden state.old.guard state.old.control.frames ram.old }
 {
+    works_use();
     reach_both(insn, cpu, ram, kept, state)?;
     match user_outcome(insn, len, cpu, ram, kept, state) {
         Outcome::Done(_, _) => Ok(()),
