@@ -5,8 +5,8 @@ ghost use Rattle.step_mem.specs.Sound.{begun};
 
 use crate::changes::Changes;
 use crate::guard::Guard;
-use crate::walking::Control;
 use crate::visited::Visited;
+use crate::walking::Control;
 
 /// What was made ready.
 #[derive(Clone, Copy)]
