@@ -91,9 +91,16 @@ impl<'a> StepState<'a> {
     pub fn copied(&self) -> StepState<'a>
         ensures { result ≡ self.now }
     {
+        self.under(self.guard)
+    }
+
+    /// The same state under another guard.
+    pub fn under<'b>(&self, guard: Guard<'b>) -> StepState<'b>
+        ensures { result ≡ record self.now { guard = guard.entry } }
+    {
         StepState {
             control: self.control,
-            guard: self.guard,
+            guard,
             changes: self.changes.copied(),
             pages: self.pages,
             visited: self.visited.copied(),
