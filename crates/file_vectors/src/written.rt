@@ -5,7 +5,7 @@ ghost use Rattle.elf_form.specs.ObjectLayout.{IsWritableObject};
 
 use crate::vectors::{SMALL_IMAGE_HEAD, SMALL_IMAGE_TAIL, SMALL_OBJECT};
 use elf_form::{
-    Bytes, Image, Object, Place, Reloc, Symbol, read_image, read_object, write_image, write_object,
+    Bytes, Image, Object, DefinedIn, Reloc, Symbol, read_image, read_object, write_image, write_object,
 };
 use std::alloc::{AllocError, Global};
 use std::test::Fail;
@@ -40,7 +40,7 @@ const RELOCS: [Reloc; 3] = [
     },
 ];
 
-fn symbol(alloc: Global, name: &[u8], place: Place, global: bool) -> Result<Symbol, AllocError>
+fn symbol(alloc: Global, name: &[u8], place: DefinedIn, global: bool) -> Result<Symbol, AllocError>
     ensures { IfOk result (λ s. length s.name ≡ length name.now) }
 {
     Ok(Symbol {
@@ -57,10 +57,10 @@ fn small_object(alloc: Global) -> Result<Object, AllocError>
     ensures { IfOk result (λ o. IsWritableObject o) }
 {
     let mut symbols = Vec::new(alloc);
-    symbols.push(symbol(alloc, b"count", Place::Bss, false)?)?;
-    symbols.push(symbol(alloc, b"_start", Place::Text, true)?)?;
-    symbols.push(symbol(alloc, b"far", Place::Undefined, true)?)?;
-    symbols.push(symbol(alloc, b"table", Place::Init, true)?)?;
+    symbols.push(symbol(alloc, b"count", DefinedIn::Bss, false)?)?;
+    symbols.push(symbol(alloc, b"_start", DefinedIn::Text, true)?)?;
+    symbols.push(symbol(alloc, b"far", DefinedIn::Undefined, true)?)?;
+    symbols.push(symbol(alloc, b"table", DefinedIn::Init, true)?)?;
     Ok(Object {
         text: Vec::from_slice(alloc, &TEXT)?,
         init: Vec::from_slice(alloc, &DATA)?,

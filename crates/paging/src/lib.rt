@@ -5,8 +5,10 @@ mod entry;
 mod memory;
 mod modes;
 mod walking;
+mod words;
 
 pub use entry::{Access, Entry, Touch, Walk};
 pub use memory::GuestMem;
 pub use modes::{fetches_agree, uses_agree};
 pub use walking::{allows, grants, set_flags, walk};
+pub use words::Words;

@@ -22,7 +22,13 @@ use guest_ram::Ram;
 use ia32_types::Size;
 
 /// The bytes that lie in one page, where the last touch or fetch was ready.
-pub fn bytes<'a, B: Kept>(ram: &'a Ram, base: &B, state: &StepState<'a>, at: u32, len: u32) -> Bytes<'a>
+pub fn bytes<'a, B: Kept>(
+    ram: &'a Ram,
+    base: &B,
+    state: &StepState<'a>,
+    at: u32,
+    len: u32,
+) -> Bytes<'a>
     requires sound { IsSound (B.entries base.now) (B.floor base.now) (B.stands base.now) ram.now state.now }
     requires found { IsSome (get (space_at (B.entries base.now) ram.now state.now).set (at / 4096)) }
     requires one { at % 4096 + len ≤ 4096 }

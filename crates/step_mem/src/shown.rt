@@ -82,7 +82,8 @@ pub fn read(ram: &Ram, guard: &Guard, frames: u32, at: u32) -> u8
     }
 }
 
-fn read_laid(ram: &Ram, bytes: &[u8], first: u32, frames: u32, at: u32) -> u8
+/// The byte at a place, where these bytes lie over memory from a frame on.
+pub fn read_laid(ram: &Ram, bytes: &[u8], first: u32, frames: u32, at: u32) -> u8
     requires frames { 4096 * frames ≤ length ram.now }
     requires laid { 4096 * first + length bytes.now ≤ 4096 * frames }
     requires within { at < 4096 * frames }

@@ -5,8 +5,8 @@ ghost use Rattle.step_mem.specs.Sound.{begun};
 
 use crate::changes::Changes;
 use crate::guard::Guard;
-use crate::walking::Control;
 use crate::visited::Visited;
+use crate::walking::Control;
 
 /// What was made ready.
 #[derive(Clone, Copy)]
@@ -91,9 +91,16 @@ impl<'a> StepState<'a> {
     pub fn copied(&self) -> StepState<'a>
         ensures { result ≡ self.now }
     {
+        self.under(self.guard)
+    }
+
+    /// The same state under another guard.
+    pub fn under<'b>(&self, guard: Guard<'b>) -> StepState<'b>
+        ensures { result ≡ record self.now { guard = guard.entry } }
+    {
         StepState {
             control: self.control,
-            guard: self.guard,
+            guard,
             changes: self.changes.copied(),
             pages: self.pages,
             visited: self.visited.copied(),

@@ -1,32 +1,10 @@
 //! The changes of a step, as its pages tell them.
 
 ghost use Rattle.std.specs.Prelude.{◌≡◌, ◌≤◌, false, length};
-ghost use Rattle.shadow_tables.specs.Slots.{is_among};
-ghost use Rattle.step_mem.specs.Changes.{page_of};
 ghost use Rattle.wedge_core.specs.Told.{told};
 
-use step_mem::{Change, Changes, Earlier, Reach, StepState, Visited};
-
-fn page_of(change: &Change) -> u32
-    ensures { result ≡ page_of change.now }
-{
-    match change {
-        Change::Gone(page) => *page,
-        Change::Now(entry) => entry.page,
-    }
-}
-
-/// The page is one of these.
-fn is_among(page: u32, pages: &[u32]) -> bool
-    ensures { result ≡ is_among page pages.now }
-{
-    for other in pages {
-        if page == *other {
-            return true;
-        }
-    }
-    false
-}
+use step_mem::{Changes, Earlier, Reach, StepState, Visited};
+use wedge_mem::is_among;
 
 /// The changes of these pages, in their order.
 fn told(pages: &Visited, changes: &Changes) -> Changes
@@ -35,7 +13,7 @@ fn told(pages: &Visited, changes: &Changes) -> Changes
 {
     let mut left = Changes::new();
     for change in changes.as_slice() {
-        if is_among(page_of(change), pages.as_slice()) {
+        if is_among(change.page(), pages.as_slice()) {
             left.push(*change);
         }
     }

@@ -12,8 +12,11 @@ use Rattle.paging.specs.Space.{Space, place}
 use Rattle.paging.specs.Uses.{with_front, with_back}
 use Rattle.step_mem.specs.Changes.{AreWithin}
 use Rattle.step_mem.specs.Guard.{IsLaid}
+use Rattle.step_mem.specs.Sound.{IsSound, begun}
 use Rattle.step_mem.specs.declared.guard.Text.{Text}
+use Rattle.step_mem.specs.declared.state.StepState.{StepState}
 use Rattle.step_mem.specs.declared.walking.Control.{Control}
+use Rattle.wedge_mem.specs.declared.progress.Progress.{Progress}
 use Rattle.wedge_mem.specs.Progress.{IsGoing, IsPlain, left_in_page, owning}
 
 short : (bytes : List ℕ) (n : ℕ) → bytes ≡ [] → length bytes ≤ n
@@ -24,26 +27,14 @@ laid None first count frames h l = absurd h
 laid (Some text) first count frames h l = ((let a = h.0 in let b = h.1 in omega (arith, a, b, l)), short text.bytes.now (4096 * text.count) h.2)
 
 -- nothing is used yet
-pub going_first : (kept : List ℕ → FinMap nat_cmp Entry) (floor : ℕ) (stands : List ℕ → Type 0) (ram : List ℕ) (control : Control) (first count : ℕ)
-    → 4096 * control.frames ≤ length ram → 4096 * control.frames ≤ floor → first + count ≤ control.frames → ∥ stands ram ∥₁ → AreWithin control.frames (kept ram)
-    → IsGoing kept floor stands ram (record {
-      control = control;
-      first = first;
-      count = count;
-      own = record { front = 0; front_len = 0; back = 0; back_len = 0 };
-      changes = [];
-      pages = 0;
-      visited = [];
-      tables = [];
-      wrote = [];
-      ready = record { start = 0; len = 0; write = false };
-      earlier = record { start = 0; len = 0; count = 0 };
-    })
-going_first kept floor stands ram control first count room low among s w guard h =
-    record {
+pub going_first : (kept : List ℕ → FinMap nat_cmp Entry) (floor : ℕ) (stands : List ℕ → Type 0) (ram : List ℕ) (p : Progress) (control : Control) (begins : p.state ≡ begun control p.state.guard)
+    → 4096 * control.frames ≤ length ram → 4096 * control.frames ≤ floor → p.first + p.count ≤ control.frames → ∥ stands ram ∥₁ → AreWithin control.frames (kept ram)
+    → IsGoing kept floor stands ram p
+going_first kept floor stands ram p control begins room low among s w guard h =
+    subst (λ (state : StepState). IsSound kept floor stands ram (record state { guard = guard })) (sym begins) (record {
       frames_in = room;
       below = low;
-      laid_in = laid guard.text.now first count control.frames h.0 among;
+      laid_in = laid guard.text.now p.first p.count control.frames h.0 among;
       counted = omega arith;
       few = omega arith;
       noted = refl;
@@ -59,7 +50,7 @@ going_first kept floor stands ram control first count room low among s w guard h
       earlier_fits = omega arith;
       earlier_within = w;
       earlier_reached = λ at l k. absurd (omega (arith, l, k));
-    }
+    })
 
 none_some : (entry : Entry) → None ≡ Some entry → ⊥
 none_some entry e = cc

@@ -22,22 +22,11 @@ IsPlain (Some text) first count = (text.first ≡ first) × (text.count ≡ coun
 
 -- a guard of these frames, with the instruction's own bytes
 abbrev pub Guards : Guard → Progress → Type 0
-Guards guard p = IsPlain guard.text.now p.first p.count × (guard.own ≡ p.own)
+Guards guard p = IsPlain guard.text.now p.first p.count × (guard.own ≡ p.state.guard.own)
 
 -- the same under a guard
 abbrev pub state_by : Guard → Progress → StepState
-state_by guard p =
-    record {
-      control = p.control;
-      guard = guard;
-      changes = p.changes;
-      pages = p.pages;
-      visited = p.visited;
-      tables = p.tables;
-      wrote = p.wrote;
-      ready = p.ready;
-      earlier = p.earlier;
-    }
+state_by guard p = record p.state { guard = guard }
 
 -- it is sound under each guard of these frames
 abbrev pub IsGoing : (List ℕ → FinMap nat_cmp Entry) → ℕ → (List ℕ → Type 0) → List ℕ → Progress → Type 0
@@ -47,19 +36,19 @@ IsGoing kept floor stands ram p = (guard : Guard) → Guards guard p → IsSound
 abbrev pub space_in : (List ℕ → FinMap nat_cmp Entry) → List ℕ → Progress → Space
 space_in kept ram p =
     record {
-      ram = laid [] p.first p.control.frames ram;
-      frames = p.control.frames;
-      set = changed (kept ram) p.changes;
-      cr3 = p.control.cr3;
-      pse = p.control.pse;
-      wp = p.control.wp;
-      mode = Wedge p.first p.count (own_of p.own);
-      pages = p.pages;
-      visited = p.visited;
-      tables = p.tables;
-      wrote = p.wrote;
-      ready = record { start = p.ready.start; len = p.ready.len; write = p.ready.write };
-      earlier = record { start = p.earlier.start; len = p.earlier.len; set = changed (kept ram) (take p.earlier.count p.changes) };
+      ram = laid [] p.first p.state.control.frames ram;
+      frames = p.state.control.frames;
+      set = changed (kept ram) p.state.changes;
+      cr3 = p.state.control.cr3;
+      pse = p.state.control.pse;
+      wp = p.state.control.wp;
+      mode = Wedge p.first p.count (own_of p.state.guard.own);
+      pages = p.state.pages;
+      visited = p.state.visited;
+      tables = p.state.tables;
+      wrote = p.state.wrote;
+      ready = record { start = p.state.ready.start; len = p.state.ready.len; write = p.state.ready.write };
+      earlier = record { start = p.state.earlier.start; len = p.state.earlier.len; set = changed (kept ram) (take p.state.earlier.count p.state.changes) };
     }
 
 -- at the beginning of a step nothing is used or ready
@@ -93,4 +82,4 @@ owning s at len =
 
 -- the same frames, registers and own bytes
 abbrev pub IsTheSame : (before after : Progress) → Type 0
-IsTheSame before after = (after.control ≡ before.control) × (after.first ≡ before.first) × (after.count ≡ before.count) × (after.own ≡ before.own)
+IsTheSame before after = (after.state.control ≡ before.state.control) × (after.first ≡ before.first) × (after.count ≡ before.count) × (after.state.guard.own ≡ before.state.guard.own)

@@ -12,5 +12,5 @@ mod telling;
 
 pub use lent::Lent;
 pub use memory::WedgeMem;
-pub use pages::{entry_of, pages_of};
+pub use pages::{entry_of, is_among, pages_of};
 pub use settling::settle;

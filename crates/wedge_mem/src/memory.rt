@@ -37,7 +37,7 @@ pub struct WedgeMem<'a, S: Shadows> {
     pool: &'a mut Pool,
     shadows: &'a mut S,
     step: Progress,
-    ghost laid: { step.first + step.count ≤ step.control.frames } by { Prim.hlevel props },
+    ghost laid: { step.first + step.count ≤ step.state.control.frames } by { Prim.hlevel props },
     ghost going: { IsGoing (λ m. entries_of (S.slots shadows.now m)) (4096 * base_of pool.now) (λ m. (∥ S.stands shadows.now m ∥₁) × Owns pool.now m (S.frames shadows.now m)) ram.now step } by { Prim.hlevel props },
 }
 
@@ -120,19 +120,19 @@ impl<'a, S: Shadows> WedgeMem<'a, S> {
         ensures owns { Owns self.new.pool.now self.new.ram.now (S.frames self.new.shadows.now self.new.ram.now) }
         ensures moves { Moves self.old.pool.now self.new.pool.now self.old.ram.now self.new.ram.now (S.frames self.old.shadows.now self.old.ram.now) (S.frames self.new.shadows.now self.new.ram.now) }
         ensures count { let set = (⟦<WedgeMem<'a, S> as GuestMem>⟧.space self.old).set in
-            let count = length (used set (pages_of self.old.step.visited self.old.step.changes)) in
+            let count = length (used set (pages_of self.old.step.state.visited self.old.step.state.changes)) in
             MatchOption result (length (free_list self.old.pool.now self.old.ram.now) < count) (λ n. (n ≡ count) × (count ≤ length (free_list self.old.pool.now self.old.ram.now))) }
         ensures entries { MatchOption result (entries_of (S.slots self.new.shadows.now self.new.ram.now) ≡ empty)
             (λ n. entries_of (S.slots self.new.shadows.now self.new.ram.now) ≡ (⟦<WedgeMem<'a, S> as GuestMem>⟧.space self.old).set) }
         ensures filled { IfSome result (λ n. Settles (S.slots self.old.shadows.now self.old.ram.now) (S.slots self.new.shadows.now self.new.ram.now) (⟦<WedgeMem<'a, S> as GuestMem>⟧.space self.old).set
-            (pages_of self.old.step.visited self.old.step.changes) side (⟦<WedgeMem<'a, S> as GuestMem>⟧.space self.old).wp (S.tracked self.new.shadows.now)) }
-        ensures noted { IsSome result → (frame : ℕ) → is_among frame self.old.step.wrote ≡ false → S.noted self.new.shadows.now frame ≡ read_by (S.noted self.old.shadows.now) self.old.step.tables frame }
-        ensures noted_only { (frame : ℕ) → S.noted self.new.shadows.now frame ≡ true → read_by (S.noted self.old.shadows.now) self.old.step.tables frame ≡ true }
+            (pages_of self.old.step.state.visited self.old.step.state.changes) side (⟦<WedgeMem<'a, S> as GuestMem>⟧.space self.old).wp (S.tracked self.new.shadows.now)) }
+        ensures noted { IsSome result → (frame : ℕ) → is_among frame self.old.step.state.wrote ≡ false → S.noted self.new.shadows.now frame ≡ read_by (S.noted self.old.shadows.now) self.old.step.state.tables frame }
+        ensures noted_only { (frame : ℕ) → S.noted self.new.shadows.now frame ≡ true → read_by (S.noted self.old.shadows.now) self.old.step.state.tables frame ≡ true }
         ensures marked { MatchOption result (S.marked self.new.shadows.now ≡ true → S.marked self.old.shadows.now ≡ true)
-            (λ n. S.marked self.new.shadows.now ≡ (S.marked self.old.shadows.now || any_of (read_by (S.noted self.old.shadows.now) self.old.step.tables) self.old.step.wrote)) }
+            (λ n. S.marked self.new.shadows.now ≡ (S.marked self.old.shadows.now || any_of (read_by (S.noted self.old.shadows.now) self.old.step.state.tables) self.old.step.state.wrote)) }
         ensures value { S.value self.new.shadows.now ≡ S.value self.old.shadows.now }
         ensures asides { MatchOption result (S.asides self.new.shadows.now self.new.ram.now ≡ [])
-            (λ n. LoseWrites (guest_frames self.old.step.tables) (all_spared self.old.step.wrote (S.asides self.old.shadows.now self.old.ram.now)) (S.asides self.new.shadows.now self.new.ram.now)) }
+            (λ n. LoseWrites (guest_frames self.old.step.state.tables) (all_spared self.old.step.state.wrote (S.asides self.old.shadows.now self.old.ram.now)) (S.asides self.new.shadows.now self.new.ram.now)) }
         ensures guest { take (4096 * base_of self.old.pool.now) self.new.ram.now ≡ take (4096 * base_of self.old.pool.now) self.old.ram.now }
         ensures begins { ((⟦<WedgeMem<'a, S> as GuestMem>⟧.space self.new).pages ≡ 0) × ((⟦<WedgeMem<'a, S> as GuestMem>⟧.space self.new).set ≡ entries_of (S.slots self.new.shadows.now self.new.ram.now)) }
         ensures same_memory { self.new.ram.ghost_name ≡ self.old.ram.ghost_name }
@@ -142,7 +142,7 @@ impl<'a, S: Shadows> WedgeMem<'a, S> {
         let text = self.step.text();
         let state = self.step.state(&text);
         let count = settling::settle(self.shadows, self.ram, self.pool, &state, side);
-        self.step = Progress::new(self.step.control, self.step.first, self.step.count);
+        self.step = Progress::new(self.step.state.control, self.step.first, self.step.count);
         count
     }
 }
@@ -154,7 +154,7 @@ impl<'a, S: Shadows> GuestMem for WedgeMem<'a, S> {
     /// of the text, and what the step doesn't reach.
     type Frame = (u64, u64, u64, S, Pool, Control, u32, u32, Ram);
 
-    ghost frame = { λ w. (w.ram.ghost_name, w.pool.ghost_name, w.shadows.ghost_name, w.shadows.now, w.pool.now, w.step.control, w.step.first, w.step.count, beyond w.step.first w.step.count w.step.control.frames w.ram.now) };
+    ghost frame = { λ w. (w.ram.ghost_name, w.pool.ghost_name, w.shadows.ghost_name, w.shadows.now, w.pool.now, w.step.state.control, w.step.first, w.step.count, beyond w.step.first w.step.count w.step.state.control.frames w.ram.now) };
 
     fn touch(&mut self, at: u32, len: u32, access: Access) -> Touch {
         let lent = Lent {

@@ -4,22 +4,13 @@ ghost use Rattle.std.specs.Prelude.{◌≡◌, ◌+◌, ◌<◌, ◌≤◌, ◌^
 ghost use Rattle.std.specs.FinMap.{get};
 ghost use Rattle.shadow_tables.specs.Entries.{entries_of};
 ghost use Rattle.shadow_tables.specs.Slots.{is_among};
-ghost use Rattle.step_mem.specs.Changes.{changed, last_change, entry_of as left_by, page_of as page_in, AreOfPages};
+ghost use Rattle.step_mem.specs.Changes.{changed, AreOfPages};
 ghost use Rattle.wedge_mem.specs.Settled.{has_entry, pages_of, used};
 
 use guest_ram::Ram;
 use paging::Entry;
 use shadow_tables::Shadows;
-use step_mem::{Change, Changes, StepState, Visited};
-
-fn page_of(change: &Change) -> u32
-    ensures { result ≡ page_in change.now }
-{
-    match change {
-        Change::Gone(page) => *page,
-        Change::Now(entry) => entry.page,
-    }
-}
+use step_mem::{Changes, StepState, Visited, last_change};
 
 /// The pages that a step went through, and those that it changed.
 pub fn pages_of(state: &StepState) -> Visited
@@ -29,11 +20,12 @@ pub fn pages_of(state: &StepState) -> Visited
 {
     let mut pages = state.visited.copied();
     for change in state.changes.as_slice() {
-        pages.push(page_of(change));
+        pages.push(change.page());
     }
     pages
 }
 
+/// The page is one of these.
 pub fn is_among(page: u32, pages: &[u32]) -> bool
     ensures { result ≡ is_among page pages.now }
 {
@@ -53,28 +45,6 @@ pub fn entry_of<S: Shadows>(shadows: &S, ram: &Ram, changes: &Changes, page: u32
     match last_change(changes.as_slice(), page) {
         Some(entry) => entry,
         None => kept(shadows, ram, page),
-    }
-}
-
-/// The last change of the page, if there is one.
-fn last_change(changes: &[Change], page: u32) -> Option<Option<Entry>>
-    ensures { result ≡ last_change None changes.now page }
-{
-    let mut found = None;
-    for change in changes {
-        if page_of(change) == page {
-            found = Some(left_by(change));
-        }
-    }
-    found
-}
-
-fn left_by(change: &Change) -> Option<Entry>
-    ensures { result ≡ left_by change.now }
-{
-    match change {
-        Change::Gone(_) => None,
-        Change::Now(entry) => Some(*entry),
     }
 }
 

@@ -1,68 +1,40 @@
 //! What one step did so far in a guest's memory whose text is kept from data.
 
-ghost use Rattle.std.specs.Prelude.{◌≡◌, [], false};
+ghost use Rattle.std.specs.Prelude.{◌≡◌};
+ghost use Rattle.step_mem.specs.Sound.{begun};
 ghost use Rattle.wedge_mem.specs.Progress.{Guards, IsPlain, state_by};
 
-use step_mem::{Changes, Control, Earlier, Guard, Own, Reach, StepState, Text, Visited};
+use step_mem::{Control, Guard, Own, StepState, Text};
 
-/// A step so far, and the frames of the text, `count` of them from `first` on.
+/// The text of a state that is kept from step to step: none.
+static NO_TEXT: Option<Text<'static>> = None;
+
+/// A step so far, whose state names no text, and the frames of the text, `count` of them from `first` on.
 #[derive(Drop)]
 pub struct Progress {
-    pub control: Control,
+    pub state: StepState<'static>,
     pub first: u32,
     pub count: u32,
-    pub own: Own,
-    pub changes: Changes,
-    pub pages: u32,
-    pub visited: Visited,
-    pub tables: Visited,
-    pub wrote: Visited,
-    pub ready: Reach,
-    pub earlier: Earlier,
 }
 
 impl Progress {
     /// Nothing is used or ready.
     pub fn new(control: Control, first: u32, count: u32) -> Progress
-        ensures { result ≡ record {
-          control = control;
-          first = first;
-          count = count;
-          own = record { front = 0; front_len = 0; back = 0; back_len = 0 };
-          changes = [];
-          pages = 0;
-          visited = [];
-          tables = [];
-          wrote = [];
-          ready = record { start = 0; len = 0; write = false };
-          earlier = record { start = 0; len = 0; count = 0 };
-        } }
+        ensures state { result.state ≡ begun control result.state.guard }
+        ensures own { result.state.guard.own ≡ record { front = 0; front_len = 0; back = 0; back_len = 0 } }
+        ensures text { (result.first ≡ first) × (result.count ≡ count) }
     {
+        let own = Own {
+            front: 0,
+            front_len: 0,
+            back: 0,
+            back_len: 0,
+        };
+        let text = &NO_TEXT;
         Progress {
-            control,
+            state: StepState::new(control, Guard { text, own }),
             first,
             count,
-            own: Own {
-                front: 0,
-                front_len: 0,
-                back: 0,
-                back_len: 0,
-            },
-            changes: Changes::new(),
-            pages: 0,
-            visited: Visited::new(),
-            tables: Visited::new(),
-            wrote: Visited::new(),
-            ready: Reach {
-                start: 0,
-                len: 0,
-                write: false,
-            },
-            earlier: Earlier {
-                start: 0,
-                len: 0,
-                count: 0,
-            },
         }
     }
 
@@ -83,20 +55,8 @@ impl Progress {
         ensures state { result ≡ state_by result.guard self.now }
         ensures guards { Guards result.guard self.now }
     {
-        StepState {
-            control: self.control,
-            guard: Guard {
-                text,
-                own: self.own,
-            },
-            changes: self.changes.copied(),
-            pages: self.pages,
-            visited: self.visited.copied(),
-            tables: self.tables.copied(),
-            wrote: self.wrote.copied(),
-            ready: self.ready,
-            earlier: self.earlier,
-        }
+        let own = self.state.guard.own;
+        self.state.under(Guard { text, own })
     }
 
     /// Takes over what a step did further, under a guard of the same frames.
@@ -106,14 +66,8 @@ impl Progress {
         ensures guards { Guards state.now.guard self.new }
         ensures text { (self.new.first ≡ self.old.first) × (self.new.count ≡ self.old.count) }
     {
-        self.control = state.control;
-        self.own = state.guard.own;
-        self.changes = state.changes.copied();
-        self.pages = state.pages;
-        self.visited = state.visited.copied();
-        self.tables = state.tables.copied();
-        self.wrote = state.wrote.copied();
-        self.ready = state.ready;
-        self.earlier = state.earlier;
+        let own = state.guard.own;
+        let text = &NO_TEXT;
+        self.state = state.under(Guard { text, own });
     }
 }

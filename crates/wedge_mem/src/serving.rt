@@ -24,16 +24,16 @@ pub fn touch<B: Kept>(
     access: Access,
 ) -> Touch
     requires going { IsGoing (B.entries base.now) (B.floor base.now) (B.stands base.now) ram.old step.old }
-    requires room { step.old.pages ≤ 62 }
+    requires room { step.old.state.pages ≤ 62 }
     requires some { 1 ≤ len }
     requires short { len ≤ 32 }
     ensures going { IsGoing (B.entries base.now) (B.floor base.now) (B.stands base.now) ram.new step.new }
     ensures uses { uses (space_in (B.entries base.now) ram.old step.old) at len access ≡ (result, space_in (B.entries base.now) ram.new step.new) }
-    ensures pages { step.new.pages ≤ step.old.pages + 2 }
+    ensures pages { step.new.state.pages ≤ step.old.state.pages + 2 }
     ensures ready { Readied (space_in (B.entries base.now) ram.new step.new) at len access.write result }
     ensures earlier { (space_in (B.entries base.now) ram.new step.new).earlier ≡ earlier_of (space_in (B.entries base.now) ram.old step.old) }
     ensures same { IsTheSame step.old step.new }
-    ensures beyond { beyond step.old.first step.old.count step.old.control.frames ram.new ≡ beyond step.old.first step.old.count step.old.control.frames ram.old }
+    ensures beyond { beyond step.old.first step.old.count step.old.state.control.frames ram.new ≡ beyond step.old.first step.old.count step.old.state.control.frames ram.old }
 {
     let text = step.text();
     let mut state = step.state(&text);
@@ -52,14 +52,14 @@ pub fn fetch<B: Kept>(
     user: bool,
 ) -> Touch
     requires going { IsGoing (B.entries base.now) (B.floor base.now) (B.stands base.now) ram.old step.old }
-    requires room { step.old.pages ≤ 63 }
+    requires room { step.old.state.pages ≤ 63 }
     requires one { at % 4096 + len ≤ 4096 }
     ensures going { IsGoing (B.entries base.now) (B.floor base.now) (B.stands base.now) ram.new step.new }
     ensures fetches { fetches (space_in (B.entries base.now) ram.old step.old) at len user ≡ (result, space_in (B.entries base.now) ram.new step.new) }
-    ensures pages { step.new.pages ≤ step.old.pages + 1 }
+    ensures pages { step.new.state.pages ≤ step.old.state.pages + 1 }
     ensures ready { Readied (space_in (B.entries base.now) ram.new step.new) at len false result }
     ensures same { IsTheSame step.old step.new }
-    ensures beyond { beyond step.old.first step.old.count step.old.control.frames ram.new ≡ beyond step.old.first step.old.count step.old.control.frames ram.old }
+    ensures beyond { beyond step.old.first step.old.count step.old.state.control.frames ram.new ≡ beyond step.old.first step.old.count step.old.state.control.frames ram.old }
 {
     let text = step.text();
     let mut state = step.state(&text);
@@ -98,7 +98,7 @@ pub fn save<B: Kept>(ram: &mut Ram, base: &B, step: &Progress, at: u32, size: Si
     requires ready { IsWritable (space_in (B.entries base.now) ram.old step.now) at size }
     ensures going { IsGoing (B.entries base.now) (B.floor base.now) (B.stands base.now) ram.new step.now }
     ensures saved { space_in (B.entries base.now) ram.new step.now ≡ saved (space_in (B.entries base.now) ram.old step.now) at size value }
-    ensures beyond { beyond step.now.first step.now.count step.now.control.frames ram.new ≡ beyond step.now.first step.now.count step.now.control.frames ram.old }
+    ensures beyond { beyond step.now.first step.now.count step.now.state.control.frames ram.new ≡ beyond step.now.first step.now.count step.now.state.control.frames ram.old }
 {
     let text = step.text();
     let state = step.state(&text);
@@ -135,7 +135,7 @@ pub fn own<B: Kept>(ram: &Ram, base: &B, step: &mut Progress, at: u32, len: u32)
     requires found { (byte : ℕ) → at ≤ byte → byte < at + len → IsSome (get (space_in (B.entries base.now) ram.now step.old).set (byte / 4096)) }
     ensures going { IsGoing (B.entries base.now) (B.floor base.now) (B.stands base.now) ram.now step.new }
     ensures owns { space_in (B.entries base.now) ram.now step.new ≡ owning (space_in (B.entries base.now) ram.now step.old) at len }
-    ensures control { step.new.control ≡ step.old.control }
+    ensures control { step.new.state.control ≡ step.old.state.control }
     ensures text { (step.new.first ≡ step.old.first) × (step.new.count ≡ step.old.count) }
 {
     let text = step.text();

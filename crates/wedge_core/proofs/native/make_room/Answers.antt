@@ -1,7 +1,6 @@
-use Rattle.std.proofs.Common.{Bool, refl, sym, ap, ◌∙◌, arith}
+use Rattle.std.proofs.Common.{Bool, refl, sym, ap, ◌∙◌}
 use Rattle.machine_model.specs.State.{wedge}
 use Rattle.shadow_tables.specs.Entries.{entries_of}
-use Rattle.shadow_tables.proofs.Asides.{same-refl}
 use Rattle.wedge_core.specs.Parts.{left_of}
 use Rattle.wedge_core.specs.Standing.{state_of}
 use Rattle.wedge_core.proofs.Clashless.{empty_clear}

@@ -7,5 +7,5 @@ use Rattle.wedge_core.proofs.sight.byte.Goals as goal
 pub returns : goal.returns
 returns c =
     let a = c.args in
-    c.byte_laid.ensures
+    c.read_laid.ensures
     ∙ ap (λ l. byte l a.at) (shown_is (ground a.image.now a.frames) c.text.result.now 256 a.ram.now c.text.ensures.text refl)
