@@ -5,7 +5,7 @@ ghost use Rattle.shadow_tables.specs.Slots.{is_among};
 ghost use Rattle.step_mem.specs.Changes.{page_of};
 ghost use Rattle.wedge_core.specs.Told.{told};
 
-use step_mem::{Change, Changes, Earlier, Reach, StepState, Went};
+use step_mem::{Change, Changes, Earlier, Reach, StepState, Visited};
 
 fn page_of(change: &Change) -> u32
     ensures { result ≡ page_of change.now }
@@ -29,7 +29,7 @@ fn is_among(page: u32, pages: &[u32]) -> bool
 }
 
 /// The changes of these pages, in their order.
-fn told(pages: &Went, changes: &Changes) -> Changes
+fn told(pages: &Visited, changes: &Changes) -> Changes
     requires { length changes.now ≤ 64 }
     ensures { result ≡ told pages.now changes.now }
 {
