@@ -20,6 +20,7 @@ pub mod Texts
 pub mod Joined
 pub mod Passed
 pub mod Going
+pub mod CarriedOver
 pub mod Keeping
 pub mod Asked
 pub mod Reaching
