@@ -54,5 +54,7 @@ pub mod Untouched
 pub mod Resettling
 pub mod Stays
 mod StepReady
+pub mod Renewed
+pub mod SliceStarts
 pub mod Returning
 pub mod Dropping
