@@ -8,4 +8,5 @@ pub mod Items
 pub mod Sited
 pub mod Whole
 pub mod Reasons
+pub mod Lowest
 pub mod Refusal

@@ -71,7 +71,7 @@ module _ (names : List (List ℕ)) (st : ObjectSoFar) (name : List ℕ) (args : 
   zeros_reason section.Init n c f m q e = by_test (nat_lt 33554432 (length st.init + st.bss + n)) refl e
     where
       by_test : (t : Bool) → nat_lt 33554432 (length st.init + st.bss + n) ≡ t → cond t (Err cause.InitTooLarge) (Ok (record (parted st) { init = st.init ++ replicate n 0 })) ≡ Err c → Reason c
-      by_test true t e = let same : cause.InitTooLarge ≡ c = cc in subst Reason same (IsReason.many_zeros q (rw m (over 33554432 (length st.init + st.bss + n) t)))
+      by_test true t e = let same : cause.InitTooLarge ≡ c = cc in subst Reason same (IsReason.many_zeros q (ap is_init f) (rw m (over 33554432 (length st.init + st.bss + n) t)))
       by_test false t e = absurd cc
   zeros_reason section.Bss n c f m q e = absurd cc
 

@@ -1,5 +1,5 @@
 -- Why an item can't be made, in its own words.
-use Rattle.std.specs.Prelude.{◌≡◌, ℕ, ◌+◌, ◌<◌, Bool, true, false, List, length, Option, Some, None, Ok, Err}
+use Rattle.std.specs.Prelude.{◌≡◌, ℕ, ◌+◌, ◌<◌, ◌≤◌, Bool, true, false, List, length, Option, Some, None, Ok, Err}
 use Rattle.asm_source.specs.declared.tree.Argument.{Argument}
 use Rattle.asm_source.specs.declared.tree.Body.{Body}
 use Rattle.asm_source.specs.declared.tree.Body.TheVariants as body
@@ -13,7 +13,7 @@ use Rattle.afterburner.specs.declared.fault.BurnCause.TheVariants as cause
 use Rattle.afterburner.specs.declared.value.Width.{Width}
 use Rattle.afterburner.specs.declared.value.Width.TheVariants as width
 use Rattle.afterburner.specs.Arguments.{count_at}
-use Rattle.afterburner.specs.Causes.{cause_of}
+use Rattle.afterburner.specs.Causes.{cause_number, cause_of}
 use Rattle.afterburner.specs.ObjectSoFar.{ObjectSoFar}
 use Rattle.afterburner.specs.Sections.{is_text, is_init}
 use Rattle.afterburner.specs.Directives.{directive_of, all_fit}
@@ -43,7 +43,12 @@ pub data IsReason (names : List (List ℕ)) (st : ObjectSoFar) : Body → BurnCa
   range : {name : List ℕ} {args : List Argument} (w : Width) → width_of (directive_of name) ≡ Some w → all_fit w args ≡ false → IsReason names st (body.Directive name args) cause.ValueRange
   data_outside : {name : List ℕ} {args : List Argument} → gives_data (directive_of name) ≡ true → is_init st.section ≡ false → IsReason names st (body.Directive name args) cause.DataInText
   zeros_in_text : {name : List ℕ} {args : List Argument} → directive_of name ≡ directive.Zeros → is_text st.section ≡ true → IsReason names st (body.Directive name args) cause.DataInText
-  many_zeros : {name : List ℕ} {args : List Argument} → directive_of name ≡ directive.Zeros → 33554432 < length st.init + st.bss + count_at args 0 → IsReason names st (body.Directive name args) cause.InitTooLarge
+  many_zeros : {name : List ℕ} {args : List Argument} → directive_of name ≡ directive.Zeros → is_init st.section ≡ true → 33554432 < length st.init + st.bss + count_at args 0 → IsReason names st (body.Directive name args) cause.InitTooLarge
   long_text : {b : Body} (new : ObjectSoFar) → made names st b ≡ Ok new → TEXT_LIMIT < length new.text → IsReason names st b cause.TextTooLarge
   large_data : {b : Body} (new : ObjectSoFar) → made names st b ≡ Ok new → 33554432 < length new.init + new.bss → IsReason names st b cause.InitTooLarge
   many_sites : {b : Body} (new : ObjectSoFar) → made names st b ≡ Ok new → SITE_LIMIT < length new.sites → IsReason names st b cause.TooManySites
+
+-- The condition of this cause holds of the item, and that of no cause with a lower number.
+pub record IsLowestReason (names : List (List ℕ)) (st : ObjectSoFar) (b : Body) (c : BurnCause) : Type 0 where
+  pub reason : IsReason names st b c
+  pub lowest : (d : BurnCause) → IsReason names st b d → cause_number c ≤ cause_number d
