@@ -1,7 +1,6 @@
 -- Of the causes whose conditions hold of an item the lowest is told.
-use Rattle.std.proofs.Common.{◌≡◌, ℕ, ◌+◌, ◌<◌, ◌≤◌, ◌++◌, Bool, true, false, not, cond, List, length, Option, Some, None, Result, Ok, Err, refl, sym, ap, subst, ◌∙◌, arith}
-use Rattle.std.specs.Prelude.{nat_lt, fold, replicate}
-use Rattle.std.specs.List.{flat_map}
+use Rattle.std.proofs.Common.{◌≡◌, ℕ, ◌+◌, ◌<◌, ◌≤◌, Bool, true, false, List, length, Some, Result, Ok, Err, refl, sym, ap, subst, ◌∙◌, arith}
+use Rattle.std.specs.Prelude.{nat_lt}
 use Rattle.std.proofs.lemmas.Bool.Decides.{nat_tests}
 use Rattle.asm_source.specs.declared.tree.Argument.{Argument}
 use Rattle.asm_source.specs.declared.tree.Body.{Body}
@@ -23,8 +22,8 @@ use Rattle.afterburner.specs.Arguments.{count_at}
 use Rattle.afterburner.specs.Causes.{cause_number, cause_of}
 use Rattle.afterburner.specs.ObjectSoFar.{ObjectSoFar}
 use Rattle.afterburner.specs.Sections.{is_text, is_init}
-use Rattle.afterburner.specs.Directives.{directive_of, all_fit, in_init, numbers, longs, strings, zeros_in, directed}
-use Rattle.afterburner.specs.Instructions.{in_text, instruction}
+use Rattle.afterburner.specs.Directives.{directive_of, all_fit, numbers, longs, strings, zeros_in, directed}
+use Rattle.afterburner.specs.Instructions.{instruction}
 use Rattle.afterburner.specs.Burnt.{parted, made, limited, item_made}
 use Rattle.afterburner.specs.Reasons.{width_of, gives_data, IsReason, IsLowestReason}
 use Rattle.afterburner.proofs.Reasons.{reason}
@@ -100,9 +99,9 @@ module _ (names : List (List ℕ)) (st : ObjectSoFar) (args : List Argument) whe
 
   range_told : (k : DirectiveName) (w : Width) → width_of k ≡ Some w → all_fit w args ≡ false → Told (directed names (parted st) k args) cause.ValueRange
   unfolding directed
-  range_told directive.Bytes w f t = let same : width.Byte ≡ w = cc in numbers_range width.Byte (rw same t)
-  range_told directive.Shorts w f t = let same : width.Short ≡ w = cc in numbers_range width.Short (rw same t)
-  range_told directive.Longs w f t = let same : width.Long ≡ w = cc in longs_range (rw same t)
+  range_told directive.Bytes w f t = let same : width.Byte ≡ w = cc in numbers_range width.Byte (subst (λ (x : Width). all_fit x args ≡ false) (sym same) t)
+  range_told directive.Shorts w f t = let same : width.Short ≡ w = cc in numbers_range width.Short (subst (λ (x : Width). all_fit x args ≡ false) (sym same) t)
+  range_told directive.Longs w f t = let same : width.Long ≡ w = cc in longs_range (subst (λ (x : Width). all_fit x args ≡ false) (sym same) t)
   range_told _ w f t = absurd cc
 
   numbers_outside : (w : Width) → is_init st.section ≡ false → (t : Bool) → all_fit w args ≡ t → Told (numbers (parted st) w args) cause.DataInText

@@ -1,6 +1,6 @@
 -- What is refused is the first item that can't be made.
-use Rattle.std.proofs.Common.{◌≡◌, ◌∙◌, sym, ap, subst, ℕ, List, [], ◌∷◌, fold, refl}
-use Rattle.std.specs.Prelude.{◌++◌, Result, Ok, Err}
+use Rattle.std.proofs.Common.{◌≡◌, ◌∙◌, sym, ap, ℕ, List, [], ◌∷◌, fold, refl}
+use Rattle.std.specs.Prelude.{Result, Ok, Err}
 use Rattle.std.proofs.lemmas.List.Sums.{fold-append}
 use Rattle.asm_source.specs.declared.tree.SourceItem.{SourceItem}
 use Rattle.asm_source.specs.Readable.{names_in}
@@ -9,7 +9,7 @@ use Rattle.afterburner.specs.declared.fault.BurnCause.{BurnCause}
 use Rattle.afterburner.specs.declared.fault.BurnFault.{BurnFault}
 use Rattle.afterburner.specs.declared.fault.BurnFault.TheVariants as faults
 use Rattle.afterburner.specs.ObjectSoFar.{ObjectSoFar, fresh}
-use Rattle.afterburner.specs.Burnt.{Fault, Gives, at_line, item_made, next_made, all_made, finished, burnt}
+use Rattle.afterburner.specs.Burnt.{Fault, Fails, Gives, at_line, item_made, next_made, all_made, finished, burnt}
 use Rattle.afterburner.specs.Refused.{IsFirstRefused, Refuses, RefusesAs}
 use Rattle.afterburner.proofs.Items.{stays}
 use Rattle.afterburner.proofs.Lowest.{lowest_reason, lowest_told}
@@ -73,15 +73,20 @@ refused_told names st items line c w =
     ∙ (ap (λ (r : Result ObjectSoFar Fault). fold (next_made names) r (w.item ∷ w.after)) w.earlier
     ∙ (ap (λ (r : Result ObjectSoFar Fault). fold (next_made names) r w.after) refused ∙ stays names told w.after)))
 
-pub refused_only : (items : List SourceItem) (r : Result ObjectParts BurnFault) → Gives r (burnt items) → (line : ℕ) (c : BurnCause) → IsFirstRefused (names_in items) (fresh (names_in items)) items line c → RefusesAs line c r
-unfolding burnt all_made
-refused_only items r g line c w = by_result r (subst (Gives r) (ap (finished (names_in items)) (refused_told (names_in items) (fresh (names_in items)) items line c w)) g)
-  where
-    by_result : (r : Result ObjectParts BurnFault) → Gives r (Err (record { line = line; cause = c })) → RefusesAs line c r
-    by_result (Ok o) e = absurd cc
-    by_result (Err faults.Memory) e = tt
-    by_result (Err (faults.At l d)) e =
-        let one : Fault = record { line = line; cause = c } in
-        let two : Fault = record { line = l; cause = d } in
-        let alike : one ≡ two = cc in
-        (sym (ap (λ (x : Fault). x.line) alike), sym (ap (λ (x : Fault). x.cause) alike))
+made_refused : (items : List SourceItem) (line : ℕ) (c : BurnCause) → IsFirstRefused (names_in items) (fresh (names_in items)) items line c → all_made items ≡ Err (record { line = line; cause = c })
+unfolding all_made
+made_refused items line c w = refused_told (names_in items) (fresh (names_in items)) items line c w
+
+pub refused_only : (items : List SourceItem) (f : BurnFault) → Fails f (all_made items) → (line : ℕ) (c : BurnCause) → IsFirstRefused (names_in items) (fresh (names_in items)) items line c → RefusesAs {A = ObjectParts} line c (Err f)
+refused_only items faults.Memory g line c w = tt
+refused_only items (faults.At l d) g line c w =
+    let both : ◌≡◌ {A = Result ObjectSoFar Fault} (Err (record { line = line; cause = c })) (Err (record { line = l; cause = d })) = sym (made_refused items line c w) ∙ g in
+    let one : Fault = record { line = line; cause = c } in
+    let two : Fault = record { line = l; cause = d } in
+    let alike : one ≡ two = cc in
+    (sym (ap (λ (x : Fault). x.line) alike), sym (ap (λ (x : Fault). x.cause) alike))
+
+pub made_only : (items : List SourceItem) (made : ObjectSoFar) → all_made items ≡ Ok made → (line : ℕ) (c : BurnCause) → IsFirstRefused (names_in items) (fresh (names_in items)) items line c → ⊥
+made_only items made g line c w =
+    let both : ◌≡◌ {A = Result ObjectSoFar Fault} (Err (record { line = line; cause = c })) (Ok made) = sym (made_refused items line c w) ∙ g in
+    cc

@@ -106,7 +106,7 @@ fn fault(line: u32, stop: ItemFault) -> BurnFault
 
 /// The object of a source's items: each instruction in its chosen spelling, a sensitive one padded with
 /// NOPs to five bytes and annotated. The line of a fault is that of the first item that is refused.
-#[tactic(auto, unfolding(crate::specs::Burnt::burnt), using(crate::proofs::Refusal::refused_first, crate::proofs::Refusal::refused_only))]
+#[tactic(auto, unfolding(crate::specs::Burnt::burnt), using(crate::proofs::Refusal::refused_first))]
 pub fn burn(alloc: Global, source: &Source) -> Result<Object, BurnFault>
     requires { IsReadable source.now }
     // The object, or the first refusal, is this function of the items.
