@@ -90,3 +90,11 @@ pub made_only : (items : List SourceItem) (made : ObjectSoFar) → all_made item
 made_only items made g line c w =
     let both : ◌≡◌ {A = Result ObjectSoFar Fault} (Err (record { line = line; cause = c })) (Ok made) = sym (made_refused items line c w) ∙ g in
     cc
+
+pub one_first : (items : List SourceItem) (line other : ℕ) (c d : BurnCause) → IsFirstRefused (names_in items) (fresh (names_in items)) items line c → IsFirstRefused (names_in items) (fresh (names_in items)) items other d → (line ≡ other) × (c ≡ d)
+one_first items line other c d v w =
+    let both : ◌≡◌ {A = Result ObjectSoFar Fault} (Err (record { line = line; cause = c })) (Err (record { line = other; cause = d })) = sym (made_refused items line c v) ∙ made_refused items other d w in
+    let one : Fault = record { line = line; cause = c } in
+    let two : Fault = record { line = other; cause = d } in
+    let alike : one ≡ two = cc in
+    (ap (λ (x : Fault). x.line) alike, ap (λ (x : Fault). x.cause) alike)
