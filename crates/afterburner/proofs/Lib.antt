@@ -7,5 +7,7 @@ pub mod Spelled
 pub mod Items
 pub mod Sited
 pub mod Whole
+pub mod Statements
 pub mod Reasons
+pub mod Lowest
 pub mod Refusal

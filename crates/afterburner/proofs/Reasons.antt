@@ -1,5 +1,5 @@
 -- Each refusal of an item has its reason.
-use Rattle.std.proofs.Common.{◌≡◌, ℕ, ◌+◌, ◌<◌, ◌++◌, Bool, true, false, not, cond, List, length, Some, Result, Ok, Err, refl, sym, ap, subst, ◌∙◌, arith}
+use Rattle.std.proofs.Common.{◌≡◌, ℕ, ◌+◌, ◌<◌, ◌++◌, Bool, true, false, not, cond, List, length, Some, Result, Ok, Err, refl, ap, subst, ◌∙◌, arith}
 use Rattle.std.specs.Prelude.{nat_lt, fold, replicate}
 use Rattle.std.specs.List.{flat_map}
 use Rattle.std.proofs.lemmas.Bool.Decides.{nat_tests}
@@ -26,6 +26,7 @@ use Rattle.afterburner.specs.Directives.{directive_of, all_fit, values, in_init,
 use Rattle.afterburner.specs.Instructions.{placed, in_text, instruction}
 use Rattle.afterburner.specs.Burnt.{parted, made, limited, then_limited, item_made}
 use Rattle.afterburner.specs.Reasons.{width_of, gives_data, IsReason}
+use Rattle.afterburner.proofs.Statements.{statement_reason}
 
 in_init_refused : (st new : ObjectSoFar) (c : BurnCause) → in_init st new ≡ Err c → (is_init st.section ≡ false) × (cause.DataInText ≡ c)
 in_init_refused st new c e = by_test (is_init st.section) refl e
@@ -71,7 +72,7 @@ module _ (names : List (List ℕ)) (st : ObjectSoFar) (name : List ℕ) (args : 
   zeros_reason section.Init n c f m q e = by_test (nat_lt 33554432 (length st.init + st.bss + n)) refl e
     where
       by_test : (t : Bool) → nat_lt 33554432 (length st.init + st.bss + n) ≡ t → cond t (Err cause.InitTooLarge) (Ok (record (parted st) { init = st.init ++ replicate n 0 })) ≡ Err c → Reason c
-      by_test true t e = let same : cause.InitTooLarge ≡ c = cc in subst Reason same (IsReason.many_zeros q (rw m (over 33554432 (length st.init + st.bss + n) t)))
+      by_test true t e = let same : cause.InitTooLarge ≡ c = cc in subst Reason same (IsReason.many_zeros q (ap is_init f) (rw m (over 33554432 (length st.init + st.bss + n) t)))
       by_test false t e = absurd cc
   zeros_reason section.Bss n c f m q e = absurd cc
 
@@ -104,7 +105,7 @@ instruction_reason names st rep name args c e = by_assembled (assembled rep name
     by_section a false q e = let same : cause.DataInText ≡ c = cc in subst (IsReason names st (body.Instruction rep name args)) same (IsReason.instruction_outside q)
 
     by_assembled : (r : Result Assembled Refusal) → assembled rep name args ≡ r → in_text names st args r ≡ Err c → IsReason names st (body.Instruction rep name args) c
-    by_assembled (Err r) q e = let same : cause_of r ≡ c = cc in subst (IsReason names st (body.Instruction rep name args)) same (IsReason.statement r q)
+    by_assembled (Err r) q e = let same : cause_of r ≡ c = cc in subst (IsReason names st (body.Instruction rep name args)) same (statement_reason names st rep name args r q)
     by_assembled (Ok a) q e = by_section a (is_text st.section) refl e
 
 made_reason : (names : List (List ℕ)) (st : ObjectSoFar) (b : Body) (c : BurnCause) → made names st b ≡ Err c → IsReason names st b c

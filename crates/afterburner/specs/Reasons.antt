@@ -1,19 +1,22 @@
 -- Why an item can't be made, in its own words.
-use Rattle.std.specs.Prelude.{◌≡◌, ℕ, ◌+◌, ◌<◌, Bool, true, false, List, length, Option, Some, None, Ok, Err}
+use Rattle.std.specs.Prelude.{◌≡◌, ℕ, ◌+◌, ◌<◌, ◌≤◌, Bool, true, false, List, length, Option, Some, None, Ok}
 use Rattle.asm_source.specs.declared.tree.Argument.{Argument}
 use Rattle.asm_source.specs.declared.tree.Body.{Body}
 use Rattle.asm_source.specs.declared.tree.Body.TheVariants as body
 use Rattle.asm_source.specs.declared.directive_table.DirectiveName.{DirectiveName}
 use Rattle.asm_source.specs.declared.directive_table.DirectiveName.TheVariants as directive
-use Rattle.asm_instruction.specs.declared.assembled.Refusal.{Refusal}
-use Rattle.asm_instruction.specs.Assembled.{assembled}
+use Rattle.asm_instruction.specs.declared.draft.Draft.{Draft}
+use Rattle.asm_instruction.specs.declared.mnemonic.Mnemonic.{Mnemonic}
+use Rattle.asm_instruction.specs.Mnemonic.{known_name}
+use Rattle.asm_instruction.specs.Assembled.{IsRefused, IsUnknown, widths, drafted_of}
+use Rattle.ia32_encode.specs.Chosen.{chosen}
 use Rattle.sites.specs.declared.limits.TheConstants.{TEXT_LIMIT, SITE_LIMIT}
 use Rattle.afterburner.specs.declared.fault.BurnCause.{BurnCause}
 use Rattle.afterburner.specs.declared.fault.BurnCause.TheVariants as cause
 use Rattle.afterburner.specs.declared.value.Width.{Width}
 use Rattle.afterburner.specs.declared.value.Width.TheVariants as width
 use Rattle.afterburner.specs.Arguments.{count_at}
-use Rattle.afterburner.specs.Causes.{cause_of}
+use Rattle.afterburner.specs.Causes.{cause_number}
 use Rattle.afterburner.specs.ObjectSoFar.{ObjectSoFar}
 use Rattle.afterburner.specs.Sections.{is_text, is_init}
 use Rattle.afterburner.specs.Directives.{directive_of, all_fit}
@@ -35,15 +38,26 @@ gives_data directive.Ascii = true
 gives_data directive.Asciz = true
 gives_data _ = false
 
--- An item is refused for a statement that is no instruction, a value out of range, or what may not stand in its section;
--- or what it makes is too large.
+-- An item is refused for a name that is no instruction's, or is one that is refused; for operands that the instruction doesn't
+-- take, or with which no row spells it, with four bytes for what names a symbol; for a number that doesn't fit its field; or for
+-- what may not stand in its section. Or what it makes is too large.
 pub data IsReason (names : List (List ℕ)) (st : ObjectSoFar) : Body → BurnCause → Type 0 where
-  statement : {rep : Bool} {name : List ℕ} {args : List Argument} (r : Refusal) → assembled rep name args ≡ Err r → IsReason names st (body.Instruction rep name args) (cause_of r)
+  unknown_name : {rep : Bool} {name : List ℕ} {args : List Argument} → IsUnknown name → IsReason names st (body.Instruction rep name args) cause.UnknownInstruction
+  refused_name : {rep : Bool} {name : List ℕ} {args : List Argument} → IsRefused name → IsReason names st (body.Instruction rep name args) cause.RefusedInstruction
+  other_operands : {rep : Bool} {name : List ℕ} {args : List Argument} (m : Mnemonic) → known_name name ≡ Some m → drafted_of rep m args ≡ None → IsReason names st (body.Instruction rep name args) cause.Operands
+  no_row : {rep : Bool} {name : List ℕ} {args : List Argument} (m : Mnemonic) (d : Draft) → known_name name ≡ Some m → drafted_of rep m args ≡ Some d → chosen (widths d args) d.insn ≡ None
+      → IsReason names st (body.Instruction rep name args) cause.Operands
+  number : {rep : Bool} {name : List ℕ} {args : List Argument} (m : Mnemonic) (d : Draft) → known_name name ≡ Some m → drafted_of rep m args ≡ Some d → d.fits ≡ false → IsReason names st (body.Instruction rep name args) cause.ValueRange
   instruction_outside : {rep : Bool} {name : List ℕ} {args : List Argument} → is_text st.section ≡ false → IsReason names st (body.Instruction rep name args) cause.DataInText
   range : {name : List ℕ} {args : List Argument} (w : Width) → width_of (directive_of name) ≡ Some w → all_fit w args ≡ false → IsReason names st (body.Directive name args) cause.ValueRange
   data_outside : {name : List ℕ} {args : List Argument} → gives_data (directive_of name) ≡ true → is_init st.section ≡ false → IsReason names st (body.Directive name args) cause.DataInText
   zeros_in_text : {name : List ℕ} {args : List Argument} → directive_of name ≡ directive.Zeros → is_text st.section ≡ true → IsReason names st (body.Directive name args) cause.DataInText
-  many_zeros : {name : List ℕ} {args : List Argument} → directive_of name ≡ directive.Zeros → 33554432 < length st.init + st.bss + count_at args 0 → IsReason names st (body.Directive name args) cause.InitTooLarge
+  many_zeros : {name : List ℕ} {args : List Argument} → directive_of name ≡ directive.Zeros → is_init st.section ≡ true → 33554432 < length st.init + st.bss + count_at args 0 → IsReason names st (body.Directive name args) cause.InitTooLarge
   long_text : {b : Body} (new : ObjectSoFar) → made names st b ≡ Ok new → TEXT_LIMIT < length new.text → IsReason names st b cause.TextTooLarge
   large_data : {b : Body} (new : ObjectSoFar) → made names st b ≡ Ok new → 33554432 < length new.init + new.bss → IsReason names st b cause.InitTooLarge
   many_sites : {b : Body} (new : ObjectSoFar) → made names st b ≡ Ok new → SITE_LIMIT < length new.sites → IsReason names st b cause.TooManySites
+
+-- The condition of this cause holds of the item, and that of no cause with a lower number.
+pub record IsLowestReason (names : List (List ℕ)) (st : ObjectSoFar) (b : Body) (c : BurnCause) : Type 0 where
+  pub reason : IsReason names st b c
+  pub lowest : (d : BurnCause) → IsReason names st b d → cause_number c ≤ cause_number d

@@ -1,12 +1,14 @@
 //! From the items of a source to its object.
 
-ghost use Rattle.std.specs.Prelude.{◌≡◌, ◌≤◌, ◌<◌, ◌+◌, length, OnOk, IfOk};
+ghost use Rattle.std.specs.Prelude.{◌≡◌, ◌≤◌, ◌<◌, ◌+◌, ℕ, length, OnOk, IfOk};
 ghost use Rattle.asm_source.specs.Readable.{IsReadable, body_names, names_in};
 ghost use Rattle.asm_source.specs.Size.{body_count};
 ghost use Rattle.asm_lex.specs.declared.lexing.TheConstants.{LIMIT};
 ghost use Rattle.elf_form.specs.ObjectLayout.{IsWholeObject};
 ghost use Rattle.afterburner.specs.Burnt.{Makes, Gives, FaultOf, parted, made, item_made, all_made, burnt};
-ghost use Rattle.afterburner.specs.Refused.{Refuses};
+ghost use Rattle.afterburner.specs.declared.fault.BurnCause.{BurnCause as CauseView};
+ghost use Rattle.afterburner.specs.ObjectSoFar.{fresh};
+ghost use Rattle.afterburner.specs.Refused.{IsFirstRefused, Refuses, RefusesAs};
 ghost use Rattle.afterburner.specs.Sound.{IsSound, IsWithin, IsAnnotated, IsSmall, AreHeld};
 
 use crate::assembly::Assembly;
@@ -109,8 +111,10 @@ pub fn burn(alloc: Global, source: &Source) -> Result<Object, BurnFault>
     requires { IsReadable source.now }
     // The object, or the first refusal, is this function of the items.
     ensures exact { Gives result (burnt source.now) }
-    // What is refused is the first item that can't be made.
+    // What is refused is the first item of which a cause's condition holds, for the lowest such cause.
     ensures first { Refuses source.now result }
+    // Where an item is refused first in these words, the source is refused so, unless memory runs out.
+    ensures first_only { (line : ℕ) (cause : CauseView) → IsFirstRefused (names_in source.now) (fresh (names_in source.now)) source.now line cause → RefusesAs line cause result }
     // A file can be written of the object.
     ensures writable { IfOk result (λ o. IsWholeObject o) }
     // Its annotations are those of sites in its text, in the format for so long a text.

@@ -176,7 +176,7 @@ has_ends text (ws, lexed) =
     let q = same (text ++ 10 ∷ []) mode.Between [] 0 1 refl (omega arith) in
     sym q.ending ∙ ap (λ (s : Scan). s.ending) (again lexed [] refl)
 
-ends_has : (text : List ℕ) → ends mode.Between 0 1 (text ++ 10 ∷ []) ≡ Goes mode.Between → HasTokens text
+pub ends_has : (text : List ℕ) → ends mode.Between 0 1 (text ++ 10 ∷ []) ≡ Goes mode.Between → HasTokens text
 ends_has text h =
     let q = same (text ++ 10 ∷ []) mode.Between [] 0 1 refl (omega arith) in
     let whole : (scan mode.Between [] 0 1 (text ++ 10 ∷ [])).ending ≡ Goes mode.Between = q.ending ∙ h in

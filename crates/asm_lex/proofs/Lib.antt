@@ -6,3 +6,5 @@ pub mod TextTokens
 pub mod FaultLines
 pub mod Refusals
 pub mod Spans
+pub mod Breaking
+pub mod OneRefusal

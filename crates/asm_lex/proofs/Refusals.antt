@@ -1,9 +1,8 @@
 -- What a scan stops at is what is wrong with the text.
 use Rattle.std.proofs.Common.{◌≡◌, ◌⊎◌, ℕ, ◌+◌, Bool, true, false, List, [], ◌∷◌, ◌++◌, Result, Ok, Err, refl, sym, ap, subst, ◌∙◌, inl, inr}
-use Rattle.std.specs.Prelude.{◌&&◌, not, ◌==◌}
+use Rattle.std.specs.Prelude.{◌&&◌, ◌==◌}
 use Rattle.std.specs.List.{list_all}
 use Rattle.std.specs.Global.{Vec}
-use Rattle.std.proofs.lemmas.Bool.{eqb-true}
 use Rattle.asm_lex.specs.declared.bytes.Class.{Class}
 use Rattle.asm_lex.specs.declared.bytes.Class.TheVariants as class
 use Rattle.asm_lex.specs.declared.token.Token.{Token}
@@ -20,8 +19,8 @@ use Rattle.asm_lex.specs.declared.fault.SourceFault.TheVariants as fault
 use Rattle.asm_lex.specs.Bytes.{class_of, is_source, is_word, is_escape}
 use Rattle.asm_lex.specs.Machine.{stepped, first_digit, next_digit, is_whole}
 use Rattle.asm_lex.specs.Words.{line_after}
-use Rattle.asm_lex.specs.Tokens.{Tokens, token_scan, LexesTo}
-use Rattle.asm_lex.specs.Source.{is_inside_line, IsGap, is_numeral, IsToken, lines_after}
+use Rattle.asm_lex.specs.Tokens.{token_scan, LexesTo}
+use Rattle.asm_lex.specs.Source.{is_inside_line, IsGap, IsToken, lines_after}
 use Rattle.asm_lex.specs.Refusals.{is_unclosed, IsInString, IsWrong, Wrong, RefusedFor}
 use Rattle.asm_lex.proofs.Again.{class_newline, class_line, more_digits, no_digits, fewer_digits, not_digits, class_digit, digits_after, numeral_is}
 use Rattle.asm_lex.proofs.FaultLines.{ends, leaves, byte_leaves}

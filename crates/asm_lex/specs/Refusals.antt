@@ -43,8 +43,18 @@ pub data Wrong : ℕ → List ℕ → ℕ → SourceCause → Type 0 where
   here : {line l : ℕ} {text : List ℕ} {c : SourceCause} (piece rest : List ℕ) (next : ℕ) → text ≡ piece ++ next ∷ rest → IsWrong piece next c → l ≡ lines_after line piece → Wrong line text l c
   open_comment : {line : ℕ} {b d : ℕ} {bs : List ℕ} → class_of b ≡ class.Slash → (d == 42) ≡ true → is_unclosed false bs ≡ true → Wrong line (b ∷ d ∷ bs) line cause.OpenComment
 
+-- the line and the cause of what is wrong first
+abbrev pub IsRefused : List ℕ → ℕ → SourceCause → Type 0
+IsRefused text l c = Wrong 1 (text ++ 10 ∷ []) l c
+
 -- a refusal has the line and the cause of what is wrong first
 abbrev pub RefusedFor : List ℕ → Result (Vec Token) SourceFault → Type 0
 RefusedFor text (Ok v) = Unit {0}
 RefusedFor text (Err fault.Memory) = Unit {0}
-RefusedFor text (Err (fault.At l c)) = Wrong 1 (text ++ 10 ∷ []) l c
+RefusedFor text (Err (fault.At l c)) = IsRefused text l c
+
+-- the refusal in this line for this cause, unless memory ran out
+abbrev pub RefusesAs : ℕ → SourceCause → Result (Vec Token) SourceFault → Type 0
+RefusesAs l c (Ok v) = ⊥
+RefusesAs l c (Err fault.Memory) = Unit {0}
+RefusesAs l c (Err (fault.At k d)) = (k ≡ l) × (d ≡ c)

@@ -2,11 +2,13 @@
 
 ghost use Rattle.std.specs.Prelude.{◌≡◌, ◌<◌, ◌≤◌, ◌++◌, ◌∷◌, [], length, List, IfOk, OnOk};
 ghost use Rattle.asm_lex.specs.declared.token.Token.{Token};
+ghost use Rattle.std.specs.Prelude.{ℕ};
+ghost use Rattle.asm_lex.specs.declared.fault.SourceCause.{SourceCause as CauseView};
 ghost use Rattle.asm_lex.specs.declared.fault.SourceCause.TheVariants.{TooLong};
 ghost use Rattle.asm_lex.specs.declared.fault.SourceFault.TheVariants.{At};
 ghost use Rattle.asm_lex.specs.Tokens as spec;
 ghost use Rattle.asm_lex.specs.Lines.{RefusedAt};
-ghost use Rattle.asm_lex.specs.Refusals.{RefusedFor};
+ghost use Rattle.asm_lex.specs.Refusals.{RefusedFor, IsRefused, RefusesAs};
 ghost use Rattle.asm_lex.specs.Spans.{AreSpans};
 ghost use Rattle.asm_lex.specs.Words as words;
 
@@ -105,7 +107,7 @@ fn lexed(alloc: Global, text: &[u8]) -> Result<Vec<Token>, SourceFault>
 }
 
 /// The tokens of the text. A last line that lacks its newline is read as if it had one.
-#[tactic(auto, using(crate::proofs::TextTokens::are_tokens, crate::proofs::TextTokens::are_found, crate::proofs::FaultLines::refused_at, crate::proofs::Refusals::refused_for, crate::proofs::Spans::are_spans))]
+#[tactic(auto, using(crate::proofs::TextTokens::are_tokens, crate::proofs::TextTokens::are_found, crate::proofs::FaultLines::refused_at, crate::proofs::Refusals::refused_for, crate::proofs::OneRefusal::refused_only, crate::proofs::Spans::are_spans))]
 pub fn lex(alloc: Global, text: &[u8]) -> Result<Vec<Token>, SourceFault>
     ensures long { LIMIT < length text.now → result ≡ Err (At 1 TooLong) }
 
@@ -123,6 +125,9 @@ pub fn lex(alloc: Global, text: &[u8]) -> Result<Vec<Token>, SourceFault>
 
     // The cause is that of the first thing that is wrong: by cases, one for each way in which a text can't go on.
     ensures cause { length text.now ≤ LIMIT → RefusedFor text.now result }
+
+    // Where these words say a line and a cause of the text, it is refused so, unless memory runs out.
+    ensures cause_only { length text.now ≤ LIMIT → (line : ℕ) (cause : CauseView) → IsRefused text.now line cause → RefusesAs line cause result }
 
     // The scan from left to right, with the first fault and its line.
     ensures exact { length text.now ≤ LIMIT → spec.LexesTo result (spec.token_scan spec.between 0 1 (text.now ++ 10 ∷ [])) }

@@ -12,7 +12,7 @@ use Rattle.asm_lex.specs.Source.{lines_after}
 use Rattle.asm_lex.specs.Refusals.{is_unclosed}
 use Rattle.asm_lex.proofs.Again.{skip_gap, over_token, comment_mode, in_body, class_line, with_word}
 use Rattle.asm_parse.specs.Refusals.{Ending, Worded}
-use Rattle.asm_parse.proofs.Worded.{unclosed_parts, comment_empty, wrong_breaks, seen_more}
+use Rattle.asm_lex.proofs.Breaking.{comment_empty, comment_leaves, wrong_breaks, seen_more}
 
 -- ---- how a scan ends, by what ends the words
 
@@ -54,14 +54,6 @@ one_ending (Ending.broken l c) (Ending.comment k) n p q = absurd (stops_comment 
 one_ending (Ending.comment l) Ending.whole n p q = absurd (between_comment p.0 l (sym q ∙ p.1))
 one_ending (Ending.comment l) (Ending.broken k d) n p q = absurd (stops_comment p.0 l k d (sym q ∙ p.1))
 one_ending (Ending.comment l) (Ending.comment k) n p q = ap (λ (x : ℕ). Ending.comment x) (comment_mode_line p.0 q.0 l k (sym p.1 ∙ q.1))
-
-comment_leaves : (bs : List ℕ) (star : Bool) (seen : List ℕ) (at line l : ℕ) → is_unclosed star bs ≡ true → (t : Bool) × ((scan (comment_mode star l) seen at line bs).ending ≡ Goes (comment_mode t l))
-comment_leaves [] true seen at line l u = (true, refl)
-comment_leaves [] false seen at line l u = (false, refl)
-comment_leaves (b ∷ bs) star seen at line l u =
-    let p = unclosed_parts star b bs u in
-    let g = comment_leaves bs (b == 42) (seen ++ b ∷ []) (at + 1) (line_after line b) l p.2 in
-    (g.0, ap (λ (x : Scan). x.ending) (in_body star b bs seen at line l p.0 p.1) ∙ g.1)
 
 -- ---- the words are those of the scan
 

@@ -1,8 +1,9 @@
-use Rattle.std.proofs.Common.{length, arith}
+use Rattle.std.proofs.Common.{length, arith, rules}
 use Rattle.asm_source.specs.Readable.{names_in}
 use Rattle.afterburner.specs.Sound.{IsSound}
 use Rattle.afterburner.proofs.Sited.{apart_sites, apart_gapped}
 use Rattle.afterburner.proofs.Whole.{whole, annotated, small}
+use Rattle.afterburner.proofs.Refusal.{refused_only, made_only}
 use Rattle.afterburner.proofs.burning.burn.Goals as goal
 
 pub object-requires-clause-sites : goal.object-requires-clause-sites
@@ -21,3 +22,9 @@ returns-clause-limits c = rw c.in-Ok-object.ensures (small c.in-Ok.names c.in-Ok
 
 pub object-requires-clause-gaps : goal.object-requires-clause-gaps
 object-requires-clause-gaps c = apart_gapped 0 (length c.in-Ok-make_all.made.text) c.in-Ok-make_all.made.sites (omega (arith, c.in-Ok-make_all.ensures.within.text)) c.in-Ok-make_all.ensures.sound.sites
+
+pub returns-in-Err-make_all-clause-first_only : goal.returns-in-Err-make_all-clause-first_only
+returns-in-Err-make_all-clause-first_only c = λ line cause w. refused_only c.args.source.now c.in-Err-make_all.fault (search rules) line cause w
+
+pub returns-clause-first_only : goal.returns-clause-first_only
+returns-clause-first_only c = λ line cause w. made_only c.args.source.now c.in-Ok-make_all.made (search rules) line cause w
