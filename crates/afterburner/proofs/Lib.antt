@@ -1,4 +1,3 @@
-pub mod Keyed
 pub mod Ordering
 pub mod SymbolNumbers
 pub mod Named

@@ -5,9 +5,8 @@ use Rattle.std.specs.List.{flat_map, list_any, position_or_len}
 use Rattle.std.specs.Str.{bytes_eq}
 use Rattle.asm_source.specs.declared.tree.Argument.{Argument}
 use Rattle.asm_source.specs.declared.tree.SourceItem.{SourceItem}
-use Rattle.asm_source.specs.Names.{symbol_in, holds, added}
+use Rattle.asm_source.specs.Names.{symbol_in, holds, added, name_number}
 use Rattle.asm_source.specs.Readable.{argument_names, body_names, name_list, names_in}
-use Rattle.afterburner.specs.Names.{name_number}
 use Rattle.afterburner.specs.Sound.{AreHeld}
 
 pub found_within : {X : Type 0} (p : X → Bool) (xs : List X) → list_any p xs ≡ true → position_or_len p xs < length xs

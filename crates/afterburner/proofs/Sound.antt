@@ -7,7 +7,7 @@ use Rattle.std.proofs.lemmas.List.Elements.{All-append, All-nil, All-cons}
 use Rattle.elf_form.specs.declared.object.Reloc.{Reloc}
 use Rattle.sites.specs.declared.site.Site.{Site}
 use Rattle.asm_source.specs.declared.tree.Argument.{Argument}
-use Rattle.asm_source.specs.Names.{symbol_in}
+use Rattle.asm_source.specs.Names.{symbol_in, name_number}
 use Rattle.asm_source.specs.Readable.{name_list, argument_names}
 use Rattle.afterburner.specs.declared.fault.BurnCause.TheVariants as cause
 use Rattle.afterburner.specs.declared.section.Section.{Section}
@@ -18,7 +18,6 @@ use Rattle.afterburner.specs.declared.value.Width.TheVariants as width
 use Rattle.asm_source.specs.declared.directive_table.DirectiveName.{DirectiveName}
 use Rattle.asm_source.specs.declared.directive_table.DirectiveName.TheVariants as directive
 use Rattle.afterburner.specs.ObjectSoFar.{ObjectSoFar, undefined, fresh}
-use Rattle.afterburner.specs.Names.{name_number}
 use Rattle.afterburner.specs.Symbols.{bound}
 use Rattle.afterburner.specs.Arguments.{number_in, count_at, text_at, symbol_at}
 use Rattle.afterburner.specs.Values.{value_bytes}

@@ -2,7 +2,7 @@
 use Rattle.std.specs.Prelude.{ℕ, ◌+◌, ◌*◌, Bool, true, false, not, nat_lt, List, [], ◌∷◌, ◌++◌, length, replicate, fold, Option, Some, None, Result, Ok, Err, if◌then◌else◌}
 use Rattle.std.specs.List.{flat_map, list_all}
 use Rattle.asm_source.specs.declared.tree.Argument.{Argument}
-use Rattle.asm_source.specs.Names.{symbol_in}
+use Rattle.asm_source.specs.Names.{symbol_in, name_number}
 use Rattle.elf_form.specs.declared.object.Reloc.{Reloc}
 use Rattle.afterburner.specs.declared.fault.BurnCause.{BurnCause}
 use Rattle.afterburner.specs.declared.fault.BurnCause.TheVariants as cause
@@ -15,7 +15,6 @@ use Rattle.asm_source.specs.DirectiveTable.{directive_name}
 use Rattle.afterburner.specs.declared.value.Width.{Width}
 use Rattle.afterburner.specs.declared.value.Width.TheVariants as width
 use Rattle.afterburner.specs.ObjectSoFar.{ObjectSoFar}
-use Rattle.afterburner.specs.Names.{name_number}
 use Rattle.afterburner.specs.Symbols.{bound}
 use Rattle.afterburner.specs.Arguments.{number_in, text_in, count_at, text_at, symbol_at, limit_at, alignment, power}
 use Rattle.afterburner.specs.Values.{fits, value_bytes}

@@ -14,7 +14,7 @@ use Rattle.afterburner.specs.declared.fault.BurnCause.{BurnCause}
 use Rattle.afterburner.specs.declared.fault.BurnCause.TheVariants as cause
 use Rattle.afterburner.specs.Causes.{cause_of}
 use Rattle.afterburner.specs.ObjectSoFar.{ObjectSoFar}
-use Rattle.afterburner.specs.Names.{name_number}
+use Rattle.asm_source.specs.Names.{name_number}
 use Rattle.afterburner.specs.Arguments.{symbol_at}
 use Rattle.afterburner.specs.Sections.{is_text}
 

@@ -1,6 +1,5 @@
 pub mod Causes
 pub mod ObjectSoFar
-pub mod Names
 pub mod Symbols
 pub mod Arguments
 pub mod Values

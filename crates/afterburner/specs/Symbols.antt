@@ -5,7 +5,7 @@ use Rattle.afterburner.specs.declared.symbol.Definition.{Definition}
 use Rattle.afterburner.specs.declared.symbol.Binding.{Binding}
 use Rattle.afterburner.specs.declared.symbol.Binding.TheVariants as binding
 use Rattle.afterburner.specs.ObjectSoFar.{ObjectSoFar, undefined}
-use Rattle.afterburner.specs.Names.{name_number}
+use Rattle.asm_source.specs.Names.{name_number}
 
 abbrev pub strength : Binding → ℕ
 strength binding.Unsaid = 0

@@ -3,9 +3,9 @@
 ghost use Rattle.std.specs.Prelude.{◌≡◌, ◌<◌, ◌+◌, ◌^◌, length, replicate, OnOk, IfOk};
 ghost use Rattle.afterburner.specs.ObjectSoFar.{fresh, undefined};
 
-use crate::names::Names;
 use crate::section::Section;
 use crate::symbol::{Binding, Definition};
+use asm_source::Names;
 use elf_form::{DefinedIn, Reloc};
 use sites::Site;
 use std::alloc::{AllocError, Global};

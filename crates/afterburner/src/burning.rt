@@ -15,9 +15,9 @@ use crate::assembly::Assembly;
 use crate::directive::directive_of;
 use crate::fault::{BurnFault, ItemFault};
 use crate::limits::limited;
-use crate::names::{Names, names_of};
+use crate::names::names_of;
 use crate::object::object;
-use asm_source::{Body, Source, SourceItem};
+use asm_source::{Body, Names, Source, SourceItem};
 use elf_form::{Object, object_length};
 use std::alloc::{AllocError, Global};
 

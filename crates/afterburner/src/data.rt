@@ -12,10 +12,9 @@ use crate::argument::{number, symbol, text};
 use crate::assembly::Assembly;
 use crate::fault::{BurnCause, ItemFault};
 use crate::limits::INIT_LIMIT;
-use crate::names::Names;
 use crate::section::{Section, is_init, put};
 use crate::value::{Width, fits, put_value};
-use asm_source::Argument;
+use asm_source::{Argument, Names};
 use elf_form::Reloc;
 use std::alloc::AllocError;
 

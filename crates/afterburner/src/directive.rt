@@ -7,11 +7,10 @@ ghost use Rattle.afterburner.specs.Directives as spec;
 use crate::argument::{alignment, count_at, limit_at, power, symbol_at, text_at};
 use crate::assembly::Assembly;
 use crate::fault::ItemFault;
-use crate::names::Names;
 use crate::section::{Section, section_named};
 use crate::symbol::Binding;
 use crate::value::Width;
-use asm_source::{Argument, DirectiveName, directive_name};
+use asm_source::{Argument, DirectiveName, Names, directive_name};
 
 /// The directive of this name. One that is none says nothing, as one that is skipped.
 pub fn directive_of(name: &[u8]) -> DirectiveName

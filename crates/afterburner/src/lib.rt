@@ -21,7 +21,6 @@ pub use assembly::Assembly;
 pub use burning::burn;
 pub use fault::{BurnCause, BurnFault};
 pub use laws::{lowest_cause_is_told, one_refusal_comes_first, relocations_name_their_symbols};
-pub use names::Names;
 pub use section::Section;
 pub use symbol::{Binding, Definition};
 pub use value::Width;

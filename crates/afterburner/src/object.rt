@@ -7,8 +7,8 @@ ghost use Rattle.afterburner.specs.Objects as spec;
 ghost use Rattle.elf_form.specs.declared.object.Reloc.{Reloc};
 
 use crate::assembly::Assembly;
-use crate::names::Names;
 use crate::symbol::{Binding, Definition};
+use asm_source::Names;
 use elf_form::{Bytes, DefinedIn, Object, Reloc, Symbol};
 use sites::{of_text, write_sites};
 use std::alloc::{AllocError, Global};

@@ -6,9 +6,8 @@ ghost use Rattle.afterburner.specs.Symbols as spec;
 ghost use Rattle.afterburner.specs.Sections as sections;
 
 use crate::assembly::Assembly;
-use crate::names::Names;
 use crate::section::{gap, place_of};
-use asm_source::Name;
+use asm_source::{Name, Names};
 use elf_form::DefinedIn;
 
 /// How far a name reaches, by the strongest directive that spoke of it. A name of which none spoke

@@ -26,7 +26,8 @@ use Rattle.asm_parse.proofs.Words.{read_words}
 use Rattle.asm_parse.proofs.Scopes.{GoodIn, fresh_good}
 use Rattle.asm_parse.proofs.Quiet.{SymbolIs, NamedIs, StateIs, word_next}
 use Rattle.asm_parse.proofs.Lines.{IsRead, bind_ok, placed_goes}
-use Rattle.asm_parse.proofs.Linking.{IsClosed, link, unlink}
+use Rattle.asm_lex.proofs.TextTokens.{IsClosed}
+use Rattle.asm_parse.proofs.Linking.{link, unlink}
 use Rattle.asm_parse.proofs.Alive.{run_two, has_reading}
 use Rattle.asm_parse.proofs.Written.{IsName, words_at, written, written_lexed}
 use Rattle.asm_parse.proofs.Completing.{completed}

@@ -18,7 +18,8 @@ use Rattle.asm_parse.proofs.Quiet.{Any, any_next}
 use Rattle.asm_parse.proofs.Lines.{OneByte, placed_goes, bind_ok, err_line, ok_byte, line_newline, line_same, run_ok, IsRead}
 use Rattle.asm_parse.proofs.Words.{read_words}
 use Rattle.asm_lex.specs.declared.machine.Next.TheVariants.{Goes}
-use Rattle.asm_parse.proofs.Linking.{IsClosed, run_append, link, last_mode, closed_between}
+use Rattle.asm_lex.proofs.TextTokens.{IsClosed}
+use Rattle.asm_parse.proofs.Linking.{run_append, link, last_mode, closed_between}
 use Rattle.asm_parse.proofs.Alive.{newline_state, lines_end}
 
 -- a whole reading from here on

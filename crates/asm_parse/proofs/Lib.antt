@@ -16,7 +16,6 @@ pub mod Written
 pub mod Completing
 pub mod Closing
 pub mod Sources
-pub mod Keyed
 pub mod Costs
 pub mod Sizes
 pub mod Readability

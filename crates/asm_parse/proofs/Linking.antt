@@ -3,16 +3,12 @@ use Rattle.std.proofs.Common.{◌≡◌, ℕ, ◌+◌, List, [], ◌∷◌, ◌+
 use Rattle.asm_lex.specs.declared.token.Token.{Token}
 use Rattle.asm_lex.specs.declared.machine.Mode.{Mode}
 use Rattle.asm_lex.specs.declared.machine.Mode.TheVariants as mode
-use Rattle.asm_lex.specs.Bytes.{class_of, is_source, is_digit, is_letter, is_word}
-use Rattle.asm_lex.specs.Machine.{is_whole}
 use Rattle.asm_lex.specs.declared.machine.Next.{Next}
 use Rattle.asm_lex.specs.declared.machine.Next.TheVariants.{Goes, Stops}
 use Rattle.asm_lex.specs.declared.machine.Stepped.{Stepped}
-use Rattle.std.proofs.Common.{cond}
-use Rattle.asm_lex.specs.declared.fault.SourceCause.TheVariants.{BadNumber}
-use Rattle.asm_lex.specs.declared.token.TokenKind.TheVariants as kind
-use Rattle.asm_lex.specs.Machine.{stepped, after, stops}
+use Rattle.asm_lex.specs.Machine.{stepped}
 use Rattle.asm_lex.specs.Words.{Scan, scan, with_token, word_of, line_after}
+use Rattle.asm_lex.proofs.TextTokens.{IsClosed, at_newline}
 use Rattle.asm_parse.specs.declared.state.StatementState.{StatementState}
 use Rattle.asm_parse.specs.ScopeView.{ScopeView}
 use Rattle.asm_parse.specs.Statement.{fault_line}
@@ -78,31 +74,6 @@ link (b ∷ bs) r t h =
           ending = ending_same (r.seen ++ b ∷ []) r.line (stepped r.mode r.at r.line b).first (with_token (r.seen ++ b ∷ []) r.line (stepped r.mode r.at r.line b).second rest) ∙ (ending_same (r.seen ++ b ∷ []) r.line (stepped r.mode r.at r.line b).second rest ∙ (ap (λ (z : Scan). z.ending) is ∙ l.ending));
           words = o.1 ∙ (ap (λ (z : Scan). read_words x.0 x.1 z.words) is ∙ l.words);
         }
-
--- behind a newline nothing is open but a comment
-abbrev pub IsClosed : Next → Type 0
-IsClosed (Goes mode.Between) = Unit {0}
-IsClosed (Goes (mode.Block l)) = Unit {0}
-IsClosed (Goes _) = ⊥
-IsClosed (Stops l c) = Unit {0}
-
-number_closed : (s : ℕ) (at line : ℕ) (t : Bool) → IsClosed (cond t (after kind.Number s at line 10) (stops line BadNumber)).next
-unfolding class_of is_digit is_letter is_word
-number_closed s at line true = tt
-number_closed s at line false = tt
-
-at_newline : (m : Mode) (at line : ℕ) → IsClosed (stepped m at line 10).next
-unfolding class_of is_source is_digit is_letter is_word
-at_newline mode.Between at line = tt
-at_newline mode.Slash at line = tt
-at_newline mode.Line at line = tt
-at_newline (mode.Block l) at line = tt
-at_newline (mode.Star l) at line = tt
-at_newline (mode.Word s) at line = tt
-at_newline (mode.Number s d) at line = number_closed s at line (is_whole d)
-at_newline (mode.Quote s) at line = tt
-at_newline (mode.Text s) at line = tt
-at_newline (mode.Escape s) at line = tt
 
 pub run_append : (r t : Running) (bs cs : List ℕ) → run r (bs ++ cs) ≡ Ok t → (s : Running) × (run r bs ≡ Ok s) × (run s cs ≡ Ok t)
 run_append r t [] cs h = (r, refl, h)

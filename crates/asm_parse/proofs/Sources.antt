@@ -22,7 +22,8 @@ use Rattle.asm_parse.proofs.Lines.{IsRead, bind_ok}
 use Rattle.asm_parse.proofs.Dying.{dead_line, alive_line}
 use Rattle.asm_parse.specs.Statement.{doom}
 use Rattle.asm_parse.proofs.Closing.{goes_on}
-use Rattle.asm_parse.proofs.Linking.{IsClosed, run_append, link, unlink, last_mode, closed_between, closed_ok, ok_same, not_both}
+use Rattle.asm_lex.proofs.TextTokens.{IsClosed}
+use Rattle.asm_parse.proofs.Linking.{run_append, link, unlink, last_mode, closed_between, closed_ok, ok_same, not_both}
 use Rattle.asm_parse.proofs.Stated.{statements_run}
 use Rattle.asm_parse.proofs.Collected.{are_statements}
 use Rattle.asm_parse.proofs.Alive.{newline_state}

@@ -83,7 +83,12 @@ pub fn noting(alloc: Global, scope: &mut Scope, defined: bool, name: &Name) -> R
 }
 
 /// The next symbol of an argument.
-fn within(alloc: Global, scope: &mut Scope, begun: Open, symbol: Terminal) -> Result<StatementState, StepFault>
+fn within(
+    alloc: Global,
+    scope: &mut Scope,
+    begun: Open,
+    symbol: Terminal,
+) -> Result<StatementState, StepFault>
     ensures { spec.Does scope.new result (spec.within scope.old begun symbol) }
 {
     let Open {
@@ -134,7 +139,12 @@ fn ended(begun: Open) -> Option<(u32, Head, Arguments, Argument)>
 }
 
 /// A comma behind a whole argument.
-fn next_argument(line: u32, head: Head, done: Arguments, last: Argument) -> Result<StatementState, StepFault>
+fn next_argument(
+    line: u32,
+    head: Head,
+    done: Arguments,
+    last: Argument,
+) -> Result<StatementState, StepFault>
     ensures { spec.Makes result (spec.next_argument line head done last) }
 {
     let Arguments { list } = done;
@@ -153,7 +163,12 @@ fn next_argument(line: u32, head: Head, done: Arguments, last: Argument) -> Resu
 }
 
 /// The end of a directive or an instruction.
-fn complete(scope: &mut Scope, line: u32, head: Head, done: Arguments) -> Result<StatementState, StepFault>
+fn complete(
+    scope: &mut Scope,
+    line: u32,
+    head: Head,
+    done: Arguments,
+) -> Result<StatementState, StepFault>
     ensures { spec.Does scope.new result (spec.complete scope.old line head done) }
 {
     if done.list.len() < least(&head) {

@@ -25,7 +25,12 @@ fn is_place(cause: SourceCause) -> bool
 }
 
 /// A fault at a `%`. Its cause rests on what follows, and what was said is of no more use.
-fn stray(alloc: Global, scope: &mut Scope, line: u32, cause: SourceCause) -> Result<StatementState, StepFault>
+fn stray(
+    alloc: Global,
+    scope: &mut Scope,
+    line: u32,
+    cause: SourceCause,
+) -> Result<StatementState, StepFault>
     ensures { spec.Does scope.new result (spec.stray line cause) }
 {
     if is_place(cause) {
@@ -137,7 +142,12 @@ fn pending(scope: &Scope, state: &StatementState) -> Option<SourceCause>
 }
 
 /// The line and the cause where a character is no token, or none of its kind.
-pub fn stopped(scope: &Scope, state: &StatementState, line: u32, cause: SourceCause) -> (u32, SourceCause)
+pub fn stopped(
+    scope: &Scope,
+    state: &StatementState,
+    line: u32,
+    cause: SourceCause,
+) -> (u32, SourceCause)
     ensures { result ≡ spec.stopped scope.now state.now line cause }
 {
     let line = fault_line(scope, state, line);

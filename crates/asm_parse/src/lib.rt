@@ -11,9 +11,8 @@ mod scope;
 mod state;
 mod statement;
 mod stop;
-mod symbol_set;
 
-pub use asm_argument::{Escape, Partial, ValuePlace, Shape, Terminal, Unescaped};
+pub use asm_argument::{Escape, Partial, Shape, Terminal, Unescaped, ValuePlace};
 pub use asm_lex::LIMIT;
 pub use asm_source::{
     Argument, Arguments, Body, DirectiveName, Form, Name, Source, SourceItem, Value, begins,

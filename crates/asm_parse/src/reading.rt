@@ -19,7 +19,10 @@ use asm_source::Name;
 use std::alloc::{AllocError, Global};
 
 /// The answer of a step, with its line.
-fn at_line(line: u32, stepped: Result<StatementState, StepFault>) -> Result<StatementState, SourceFault>
+fn at_line(
+    line: u32,
+    stepped: Result<StatementState, StepFault>,
+) -> Result<StatementState, SourceFault>
     ensures { result ≡ spec.at_line line stepped }
 {
     match stepped {
@@ -91,7 +94,9 @@ fn ending_at(end: usize, state: StatementState) -> StatementState
     ensures { result ≡ spec.ending_at end state }
 {
     match state {
-        StatementState::Sectioned(line, name, section, _) => StatementState::Sectioned(line, name, section, end),
+        StatementState::Sectioned(line, name, section, _) => StatementState::Sectioned(
+            line, name, section, end,
+        ),
         other => other,
     }
 }

@@ -4,8 +4,7 @@ ghost use Rattle.std.specs.Prelude.{◌≡◌, OnOk};
 ghost use Rattle.asm_source.specs.Names.{holds};
 ghost use Rattle.asm_parse.specs.Scope as spec;
 
-use crate::symbol_set::SymbolSet;
-use asm_source::{Name, SourceItem};
+use asm_source::{Name, Names, SourceItem};
 use std::alloc::{AllocError, Global};
 use std::marker::Model;
 
@@ -14,8 +13,8 @@ use std::marker::Model;
 #[derive(Debug, Drop)]
 pub struct Scope {
     items: Vec<SourceItem>,
-    names: SymbolSet,
-    defined: SymbolSet,
+    names: Names,
+    defined: Names,
     skipping: bool,
 }
 
@@ -33,8 +32,8 @@ impl Scope {
     {
         Scope {
             items: Vec::new(alloc),
-            names: SymbolSet::new(alloc),
-            defined: SymbolSet::new(alloc),
+            names: Names::new(alloc),
+            defined: Names::new(alloc),
             skipping: false,
         }
     }

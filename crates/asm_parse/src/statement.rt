@@ -27,7 +27,12 @@ fn skip(symbol: Terminal) -> StatementState
 }
 
 /// A label, and the items that follow it.
-fn label(alloc: Global, scope: &mut Scope, line: u32, name: Name) -> Result<StatementState, StepFault>
+fn label(
+    alloc: Global,
+    scope: &mut Scope,
+    line: u32,
+    name: Name,
+) -> Result<StatementState, StepFault>
     ensures { spec.Does scope.new result (spec.label scope.old line name) }
 {
     noting(alloc, scope, true, &name)?;
@@ -37,7 +42,12 @@ fn label(alloc: Global, scope: &mut Scope, line: u32, name: Name) -> Result<Stat
 }
 
 /// A symbol behind `rep`.
-fn rep_step(alloc: Global, scope: &mut Scope, line: u32, symbol: Terminal) -> Result<StatementState, StepFault>
+fn rep_step(
+    alloc: Global,
+    scope: &mut Scope,
+    line: u32,
+    symbol: Terminal,
+) -> Result<StatementState, StepFault>
     ensures { spec.Does scope.new result (spec.rep_step scope.old line symbol) }
 {
     match symbol {
@@ -161,7 +171,12 @@ fn start_step(scope: &Scope, line: u32, symbol: Terminal) -> Result<StatementSta
 }
 
 /// A colon behind a name.
-fn colon_behind(alloc: Global, scope: &mut Scope, begun: u32, name: Name) -> Result<StatementState, StepFault>
+fn colon_behind(
+    alloc: Global,
+    scope: &mut Scope,
+    begun: u32,
+    name: Name,
+) -> Result<StatementState, StepFault>
     ensures { spec.Does scope.new result (spec.colon_behind scope.old begun name) }
 {
     if scope.is_skipping() {
@@ -274,7 +289,9 @@ pub fn step(
         StatementState::Sectioned(begun, name, named, _) => {
             sectioned_step(alloc, scope, begun, name, named, symbol)
         }
-        StatementState::Flags(begun, name, named) => flags_step(alloc, scope, begun, name, named, symbol),
+        StatementState::Flags(begun, name, named) => flags_step(
+            alloc, scope, begun, name, named, symbol,
+        ),
         StatementState::Stray(_, cause) => Err(StepFault::Cause(stray_cause(cause, &symbol))),
         StatementState::Arguments(begun) => argument_step(alloc, scope, begun, symbol),
     }

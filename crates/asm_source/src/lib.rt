@@ -3,8 +3,10 @@
 
 mod bytes;
 mod directive_table;
+mod names;
 mod tree;
 
 pub use bytes::{begins, is_text};
 pub use directive_table::{DirectiveName, directive_name};
+pub use names::Names;
 pub use tree::{Argument, Arguments, Body, Form, Name, Source, SourceItem, Value};

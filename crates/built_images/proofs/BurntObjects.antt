@@ -12,7 +12,7 @@ use Rattle.asm_source.specs.declared.tree.Body.TheVariants as body
 use Rattle.asm_source.specs.declared.tree.SourceItem.{SourceItem}
 use Rattle.asm_source.specs.declared.tree.Argument.{Argument}
 use Rattle.asm_source.specs.Readable.{names_in}
-use Rattle.asm_source.specs.Names.{symbol_in}
+use Rattle.asm_source.specs.Names.{symbol_in, name_number}
 use Rattle.elf_form.specs.declared.object.DefinedIn.{DefinedIn}
 use Rattle.elf_form.specs.declared.object.DefinedIn.TheVariants as place
 use Rattle.elf_form.specs.declared.object.Symbol.{Symbol}
@@ -35,7 +35,6 @@ use Rattle.afterburner.specs.declared.value.Width.TheVariants as width
 use Rattle.afterburner.specs.declared.fault.BurnCause.{BurnCause}
 use Rattle.afterburner.specs.declared.fault.BurnCause.TheVariants as cause
 use Rattle.afterburner.specs.ObjectSoFar.{ObjectSoFar, undefined, fresh}
-use Rattle.afterburner.specs.Names.{name_number}
 use Rattle.afterburner.specs.Symbols.{definition_of, defined_at, stronger, with_binding, bound}
 use Rattle.afterburner.specs.Arguments.{count_at, text_at, symbol_at, limit_at, alignment, power}
 use Rattle.afterburner.specs.Sections.{is_init, place_of, size_of, here, section_named, entered, gap, filled_in, unless_more, aligned, labelled, defined_in_bss, reserved}

@@ -11,7 +11,7 @@ use Rattle.ia32_rows.specs.Spelling.{parts_at, insn_of}
 use Rattle.ia32_rows.specs.Rows.{rows}
 use Rattle.asm_source.specs.declared.tree.Body.TheVariants as body
 use Rattle.asm_source.specs.declared.tree.Argument.{Argument}
-use Rattle.asm_source.specs.Names.{symbol_in}
+use Rattle.asm_source.specs.Names.{symbol_in, name_number}
 use Rattle.elf_form.specs.declared.object.DefinedIn.TheVariants as place
 use Rattle.elf_form.specs.declared.object.Reloc.{Reloc}
 use Rattle.sites.specs.declared.site.Site.{Site}
@@ -27,7 +27,6 @@ use Rattle.afterburner.specs.Arguments.{number_in, symbol_at}
 use Rattle.ia32_types.specs.declared.size.Size.TheVariants as size
 use Rattle.asm_instruction.specs.Field.{field}
 use Rattle.asm_instruction.specs.Control.{distance}
-use Rattle.afterburner.specs.Names.{name_number}
 use Rattle.afterburner.specs.Sections.{is_text}
 use Rattle.afterburner.specs.Instructions.{nops, padding as burnt_padding, site_at, reloc_of, field_reloc, is_sti, is_hlt, added, pair_site, no_site, paired, placed, in_text, instruction}
 use Rattle.image_check.specs.Pieces.{is_branch}

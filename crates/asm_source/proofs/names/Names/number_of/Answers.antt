@@ -1,6 +1,6 @@
 use Rattle.std.proofs.Common.{◌∙◌, sym}
-use Rattle.afterburner.proofs.Keyed.{found_number, missing_number}
-use Rattle.afterburner.proofs.names.Names.number_of.Goals as goal
+use Rattle.asm_source.proofs.Keyed.{found_number, missing_number}
+use Rattle.asm_source.proofs.names.Names.number_of.Goals as goal
 
 pub returns-in-Some-clause-number : goal.returns-in-Some-clause-number
 returns-in-Some-clause-number c = rw (← c.self.view_is) (found_number c.args.name.now c.self.inside.set.keys c.in-Some.number c.in-Some.ensures.index)

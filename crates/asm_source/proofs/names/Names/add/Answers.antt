@@ -1,7 +1,7 @@
 use Rattle.std.proofs.Common.{List, ℕ, ap, sym, ◌∙◌}
 use Rattle.asm_source.specs.Names.{holds}
-use Rattle.asm_parse.proofs.Keyed.{key_added}
-use Rattle.asm_parse.proofs.symbol_set.SymbolSet.add.Goals as goal
+use Rattle.asm_source.proofs.Keyed.{key_added}
+use Rattle.asm_source.proofs.names.Names.add.Goals as goal
 
 pub returns : goal.returns
 returns c =

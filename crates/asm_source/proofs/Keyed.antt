@@ -6,8 +6,7 @@ use Rattle.std.specs.Str.{bytes_eq}
 use Rattle.std.specs.Global.{Vec}
 use Rattle.indexmap.specs.IndexSet.{insert_key}
 use Rattle.asm_source.specs.Keys.{key_bytes}
-use Rattle.asm_source.specs.Names.{holds, added}
-use Rattle.afterburner.specs.Names.{name_number}
+use Rattle.asm_source.specs.Names.{holds, added, name_number}
 
 pub any_key : (name : List ℕ) (ks : List (Vec ℕ)) → list_any (λ k. bytes_eq name k.items) ks ≡ holds (key_bytes ks) name
 any_key name [] = refl

@@ -1,6 +1,0 @@
-use Rattle.std.proofs.Common.{◌∙◌}
-use Rattle.asm_parse.proofs.Keyed.{any_key}
-use Rattle.asm_parse.proofs.symbol_set.SymbolSet.holds.Goals as goal
-
-pub returns : goal.returns
-returns c = rw (← c.self.view_is) (c.contains.ensures ∙ any_key c.args.name.now c.self.inside.set.keys)
