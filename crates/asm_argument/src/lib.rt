@@ -10,8 +10,8 @@ mod symbol;
 
 pub use escapes::{Escape, Unescaped};
 pub use operand::{
-    Partial, ValuePlace, Shape, awaits_register, begun, finished, is_finished, is_nothing, is_unbegun,
-    name_in, operand_step,
+    Partial, Shape, ValuePlace, awaits_register, begun, finished, is_finished, is_nothing,
+    is_unbegun, name_in, operand_step,
 };
 pub use register::is_register;
 pub use symbol::{Terminal, symbol_of};

@@ -249,7 +249,10 @@ fn first(shape: Shape, symbol: Terminal) -> Result<Partial, SourceCause>
             shape.fits(false, n),
             Partial::Number(ValuePlace::Memory, plain(i64::from(n))),
         ),
-        Terminal::Name(name) => allowed(shape.takes_names(), Partial::Name(ValuePlace::Memory, name)),
+        Terminal::Name(name) => allowed(
+            shape.takes_names(),
+            Partial::Name(ValuePlace::Memory, name),
+        ),
         Terminal::Text(bytes) => allowed(shape.takes_text(), Partial::Whole(Form::Text(bytes))),
         _ => Err(SourceCause::BadOperand),
     }
@@ -358,7 +361,12 @@ pub fn finished(so_far: Partial) -> Option<Form>
 {
     match so_far {
         Partial::Name(ValuePlace::Immediate, name) => Some(Form::Immediate(named(name, 0))),
-        Partial::Name(ValuePlace::Memory, name) => Some(of_memory(Some(named(name, 0)), None, None, 1)),
+        Partial::Name(ValuePlace::Memory, name) => Some(of_memory(
+            Some(named(name, 0)),
+            None,
+            None,
+            1,
+        )),
         Partial::Number(ValuePlace::Immediate, value) => Some(Form::Immediate(value)),
         Partial::Number(ValuePlace::Memory, value) => Some(of_memory(Some(value), None, None, 1)),
         Partial::Whole(form) => Some(form),

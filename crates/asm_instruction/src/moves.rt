@@ -8,7 +8,8 @@ use crate::argument::{Given, Operands};
 use crate::arithmetic::{memory_first, of_pair, to_register};
 use crate::bytes::{found, is_text};
 use crate::draft::{
-    Draft, Pair, NumberedOperand, instruction, of_operand, paired, register, register_or_memory, said,
+    Draft, NumberedOperand, Pair, instruction, of_operand, paired, register, register_or_memory,
+    said,
 };
 use crate::mnemonic::Family;
 use crate::sizes::agreed;
@@ -51,7 +52,13 @@ pub fn extend_name(name: &[u8]) -> Option<Family>
 
 // A move of 32 bits between a special register and a register or memory.
 #[tactic(auto, unfolding(crate::specs::Moves::special))]
-fn special(op: Op, suffix: Option<Size>, given: Given, a: NumberedOperand, b: NumberedOperand) -> Option<Draft>
+fn special(
+    op: Op,
+    suffix: Option<Size>,
+    given: Given,
+    a: NumberedOperand,
+    b: NumberedOperand,
+) -> Option<Draft>
     ensures { result ≡ spec.special op suffix given a b }
 {
     let size = agreed(suffix, said(given), Some(Size::Long))?;

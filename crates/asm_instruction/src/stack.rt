@@ -6,7 +6,9 @@ ghost use Rattle.asm_instruction.specs.Stack as spec;
 
 use crate::argument::{Given, Number, Operands};
 use crate::bytes::{found, is_text};
-use crate::draft::{Draft, NumberedOperand, alone, of_operand, register_or_memory, said, unary, with_number};
+use crate::draft::{
+    Draft, NumberedOperand, alone, of_operand, register_or_memory, said, unary, with_number,
+};
 use crate::mnemonic::Family;
 use crate::sizes::agreed;
 use ia32_types::{Op, Operand, Seg, Size};

@@ -27,7 +27,7 @@ pub use cause::{ElfCause, ElfFault};
 pub use image::Image;
 pub use image_writing::write_image;
 pub use laws::object_length;
-pub use object::{Bytes, Object, DefinedIn, Reloc, Symbol};
+pub use object::{Bytes, DefinedIn, Object, Reloc, Symbol};
 pub use object_reading::read_object;
 pub use object_writing::write_object;
 pub use reading::read_image;

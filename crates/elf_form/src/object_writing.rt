@@ -7,7 +7,7 @@ ghost use Rattle.elf_form.specs.StringTable.{name_place, IsTable, HasPlaces};
 ghost use Rattle.elf_form.specs.ObjectLayout.{next, layout as layout_of, names_of, strings_of, is_of, place_number, symbol_bytes, symbol_table, first_global, reloc_bytes, reloc_table, object_header, object_parts, object_tables, part_sections, table_sections, object_names, object_bytes, IsWritableObject, IsWholeObject, HasValues, AreLengths};
 ghost use Rattle.elf_form.specs.ObjectReading.{object_in};
 
-use crate::object::{Object, DefinedIn, Reloc, Symbol, bytes_of};
+use crate::object::{DefinedIn, Object, Reloc, Symbol, bytes_of};
 use crate::output::{put_halves, put_longs, put_zeros, word_pad};
 use crate::strings::{Places, strings};
 use std::alloc::{AllocError, Global};

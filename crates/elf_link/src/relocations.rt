@@ -13,7 +13,7 @@ use crate::base::Base;
 use crate::fault::LinkCause;
 use crate::globals::{Globals, copy_of, name_of, target_of};
 use crate::target::Target;
-use elf_form::{Object, DefinedIn, Reloc, Symbol};
+use elf_form::{DefinedIn, Object, Reloc, Symbol};
 use std::alloc::{AllocError, Global};
 
 /// What the objects' names and parts stand for.

@@ -1,7 +1,7 @@
 //! Images made by hand, and how they are checked.
 
 use ia32_types::SiteKind;
-use image_check::{CheckFault, Checked, AtOffset, check};
+use image_check::{AtOffset, CheckFault, Checked, check};
 use sites::Site;
 use std::alloc::{AllocError, Global};
 use std::process::Abort;

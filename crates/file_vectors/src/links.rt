@@ -1,6 +1,6 @@
 //! Objects made by hand, and the images that they make.
 
-use elf_form::{Bytes, Image, Object, DefinedIn, Reloc, Symbol};
+use elf_form::{Bytes, DefinedIn, Image, Object, Reloc, Symbol};
 use elf_link::{LinkCause, LinkFault, are_linkable, link, linked};
 use std::alloc::{AllocError, Global};
 use std::test::Fail;

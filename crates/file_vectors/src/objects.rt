@@ -1,7 +1,7 @@
 //! Objects that other tools made, and worked examples.
 
 use crate::vectors::{GCC_OBJECT, WORKED_OBJECT};
-use elf_form::{ElfCause, ElfFault, DefinedIn, Reloc, read_object};
+use elf_form::{DefinedIn, ElfCause, ElfFault, Reloc, read_object};
 use std::alloc::{AllocError, Global};
 use std::test::Fail;
 

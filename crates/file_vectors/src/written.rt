@@ -5,7 +5,8 @@ ghost use Rattle.elf_form.specs.ObjectLayout.{IsWritableObject};
 
 use crate::vectors::{SMALL_IMAGE_HEAD, SMALL_IMAGE_TAIL, SMALL_OBJECT};
 use elf_form::{
-    Bytes, Image, Object, DefinedIn, Reloc, Symbol, read_image, read_object, write_image, write_object,
+    Bytes, DefinedIn, Image, Object, Reloc, Symbol, read_image, read_object, write_image,
+    write_object,
 };
 use std::alloc::{AllocError, Global};
 use std::test::Fail;

@@ -5,7 +5,7 @@ ghost use Rattle.ia32_encode.specs.Text.{is_signed_byte, base_number, index_numb
 ghost use Rattle.ia32_encode.specs.Parts.{segment_number, number_in, rm_from, digit_of, reg_from, low_from, code_from, sel_from, parts_for, address_fits, rm_fits, is_absent, is_offset, addressing_fits, immediate_fits, form_fits};
 
 use ia32_rows::{
-    Addressing, Form, Immediate, Operands, Parts, RmForm, Plus, Row, Slash, fits_code, fits_slash,
+    Addressing, Form, Immediate, Operands, Parts, Plus, RmForm, Row, Slash, fits_code, fits_slash,
 };
 use ia32_types::{Address, Insn, Operand, Reg, Seg};
 

@@ -15,7 +15,7 @@ pub use laws::{
 };
 pub use meaning::instruction;
 pub use row::{
-    Addressing, Base, Form, Immediate, Lead, Located, Miss, Modrm, Operands, Parts, RmForm, Plus,
-    RefusedRow, Row, Slash,
+    Addressing, Base, Form, Immediate, Lead, Located, Miss, Modrm, Operands, Parts, Plus,
+    RefusedRow, RmForm, Row, Slash,
 };
 pub use table::{REFUSED_ROWS, ROWS};

@@ -1,6 +1,6 @@
 use afterburner::{BurnFault, burn};
 use asm_parse::parse;
-use elf_form::{Object, DefinedIn, Reloc, Symbol};
+use elf_form::{DefinedIn, Object, Reloc, Symbol};
 use std::alloc::AllocError;
 use std::test::*;
 

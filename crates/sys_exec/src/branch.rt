@@ -8,7 +8,7 @@ ghost use Rattle.sys_exec.specs.Asked.{GivesAsked};
 
 use crate::effect::{Done, Refusal};
 use crate::operand::{
-    UNSUPPORTED, by_level, gone_to, long_of, esp_below, next, past, past_push, pull, push,
+    UNSUPPORTED, by_level, esp_below, gone_to, long_of, next, past, past_push, pull, push,
     reach_operand, reg_at,
 };
 use descriptors::{Cpu, reach};

@@ -7,7 +7,7 @@ ghost use Rattle.sys_exec.specs.Flags.{with_flags, clear_interrupts, set_interru
 ghost use Rattle.sys_exec.specs.Asked.{GivesAsked};
 
 use crate::effect::{Done, Refusal, SysEffect};
-use crate::iret::{keeps_flags, is_within, new_flags};
+use crate::iret::{is_within, keeps_flags, new_flags};
 use crate::operand::{PROTECTION_0, next, past, past_pop, past_push, pull, push};
 use descriptors::Cpu;
 use ia32_types::{Flags, Stop};

@@ -229,7 +229,13 @@ fn memory(alloc: Global, words: &Words) -> Result<Ram, AllocError> {
 }
 
 // What a step keeps, before its first access.
-fn begin<'g, B: Kept>(cpu: &Cpu, ram: &Ram, kept: &B, frames: u32, guard: Guard<'g>) -> StepState<'g>
+fn begin<'g, B: Kept>(
+    cpu: &Cpu,
+    ram: &Ram,
+    kept: &B,
+    frames: u32,
+    guard: Guard<'g>,
+) -> StepState<'g>
     requires frames { 4096 * frames ≤ length ram.now }
     requires below { 4096 * frames ≤ B.floor kept.now }
     requires stands { ∥ B.stands kept.now ram.now ∥₁ }
