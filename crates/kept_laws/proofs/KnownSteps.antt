@@ -17,7 +17,7 @@ use Rattle.kept_laws.specs.Remembered.{ComesFrom, Unwritten, IsOwed, IsRemembere
 use Rattle.kept_laws.specs.OverSteps.{IsTold, IsCause}
 use Rattle.kept_laws.specs.Judged.{AllFound, IsFoundStill, FoundGoesOn}
 use Rattle.kept_laws.specs.Carried.{IsReadyFor, NextIsKept}
-use Rattle.kept_laws.specs.Known.{IsOfPages, IsNextKept, IsKnown, RulesStay, StayAside, EmptyAside, IsStep, IsPast, KnownAtStart, KnownStill, KnownPast, KnownQuiet, KnownOn}
+use Rattle.kept_laws.specs.Known.{IsOfPages, IsNextKept, IsKnown, RulesStay, StayAside, EmptyAside, IsStep, IsPast, KnownAtStart, KnownStill, KnownQuiet, KnownOn}
 use Rattle.kept_laws.proofs.Counts.{clash}
 use Rattle.kept_laws.proofs.Owed.{causes_owe_nothing}
 use Rattle.kept_laws.proofs.OwedStays.{start_remembers, still_remembers, dropped_remembers, steps_remember, same_remembers, loads_remember}
@@ -107,10 +107,6 @@ past_by : FoundGoesOn → NextIsKept → (m : Setting) (steps : List Taken) (t :
 past_by goes_on law m steps t noted marked asides kept laid plain value k =
     over goes_on law m steps t noted marked asides t.after.set laid (λ e u. clash (loads_root t) e plain) k.found k.of_pages
     (same_remembers m steps t noted marked asides plain value k.remembered) (λ e. inl refl) (λ e old u since o. clash (loads_root t) e plain)
-
-pub known_past : FoundGoesOn → NextIsKept → KnownPast
-known_past goes_on law m steps t noted marked asides kept step plain k =
-    past_by goes_on law m steps t noted marked asides kept (laid_out m t step) plain (step.through plain) k
 
 pub known_quiet : FoundGoesOn → NextIsKept → KnownQuiet
 known_quiet goes_on law m steps t noted marked asides kept past k =

@@ -101,14 +101,7 @@ KnownStill =
     (m : Setting) (steps : List Taken) (b : State) (noted noted2 : ℕ → Bool) (marked marked2 : Bool) (asides asides2 : List Aside) (kept : Set)
     → StayAside noted noted2 marked marked2 asides asides2 → IsKnown m steps b noted marked asides kept → IsKnown m steps b noted2 marked2 asides2 kept
 
--- A step behind which the same is kept, but for the translations that it left, and that loads no CR3: so each step of which
--- the run has no part.
-abbrev pub KnownPast : Type 0
-KnownPast =
-    (m : Setting) (steps : List Taken) (t : Taken) (noted : ℕ → Bool) (marked : Bool) (asides : List Aside) (kept : Set) → IsStep m t → loads_root t ≡ false
-    → IsKnown m steps t.before noted marked asides kept → IsKnown m (steps ++ t ∷ []) t.after noted marked asides t.after.set
-
--- so each step that is done without a look at what is kept
+-- A step in which the run has no part: the same is kept behind it, and of translations what it left.
 abbrev pub KnownQuiet : Type 0
 KnownQuiet =
     (m : Setting) (steps : List Taken) (t : Taken) (noted : ℕ → Bool) (marked : Bool) (asides : List Aside) (kept : Set) → IsPast m t

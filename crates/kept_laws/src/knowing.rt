@@ -1,6 +1,6 @@
 //! What a run knows between two of its steps.
 
-ghost use Rattle.kept_laws.specs.Known.{KnownAtStart, KnownStill, KnownPast, KnownQuiet, KnownOn};
+ghost use Rattle.kept_laws.specs.Known.{KnownAtStart, KnownStill, KnownQuiet, KnownOn};
 
 use crate::carrying::next_is_kept;
 use crate::judging::found_goes_on;
@@ -10,7 +10,6 @@ use crate::judging::found_goes_on;
 pub fn known_goes_on()
     ensures start { KnownAtStart }
     ensures still { KnownStill }
-    ensures past { KnownPast }
     ensures quiet { KnownQuiet }
     ensures on { KnownOn }
 {

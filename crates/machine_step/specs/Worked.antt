@@ -36,6 +36,7 @@ dropping (dropped.Page page) set = remove set page
 dropping (dropped.Dir index) set = without_dir set index
 dropping dropped.All set = empty
 
+-- all leave
 abbrev pub is_all : Dropped → Bool
 is_all dropped.Nothing = false
 is_all (dropped.Page gone) = false

@@ -12,6 +12,7 @@ use Rattle.machine_model.specs.Run.{Set}
 use Rattle.machine_model.specs.State.{Setting}
 use Rattle.machine_step.specs.declared.worked.Dropped.{Dropped}
 use Rattle.machine_step.specs.declared.worked.Dropped.TheVariants as dropped
+pub use Rattle.machine_step.specs.Worked.{is_all}
 use Rattle.native_steps.specs.Stands.{shown}
 use Rattle.wedge_mem.specs.Told.{read_by}
 use Rattle.wedge_core.specs.Standing.{AreOpen, wp_of}
@@ -42,12 +43,6 @@ AllOpen image wp (a ∷ asides) = AreOpen image wp a.slots × AllOpen image wp a
 abbrev pub AreReadyBehind : List ℕ → Setting → Cpu → List ℕ → List Aside → Type 0
 AreReadyBehind wrote m cpu ram [] = Unit {0}
 AreReadyBehind wrote m cpu ram (a ∷ asides) = (any_of a.tables wrote ≡ false → IsReadyAside m cpu ram a) × AreReadyBehind wrote m cpu ram asides
-
-abbrev pub is_all : Dropped → Bool
-is_all dropped.Nothing = false
-is_all (dropped.Page gone) = false
-is_all (dropped.Dir index) = false
-is_all dropped.All = true
 
 -- the pages that leave at the end of a step; where all leave, those that the step went through
 abbrev pub leaving : Dropped → List ℕ → ℕ → Bool
