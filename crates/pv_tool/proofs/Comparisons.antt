@@ -41,7 +41,9 @@ is_comparison agree number program o st w run came =
         text_is = run.second_is;
         counts = here.3.0;
         memory_is = here.3.1;
+        kept = λ all. here.3.2;
       };
+      kept = here.3.2;
       filled = run.filled;
       bare_run = agree (second_setting program) 100000 (boot (second_setting program)) run.sets run.reports run.last run.end run.run;
     }

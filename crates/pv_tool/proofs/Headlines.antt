@@ -43,7 +43,9 @@ is_headline agree frames n program events o st w run came =
         text_is = refl;
         counts = here.3.0;
         memory_is = here.3.1;
+        kept = λ all. here.3.2;
       };
+      kept = here.3.2;
       bare_run = agree (wedge program events frames) n (boot (wedge program events frames)) run.sets run.reports run.last run.end run.run;
     }
 

@@ -97,20 +97,20 @@ text_at reports text count last end is same = is ∙ ap (λ (n : ℕ). text_of (
 
 -- what was answered of a patched run was told
 pub ran_patched : (image : Image) (events : Events) (frames n : ℕ) (old mid new : Option (List ℕ)) (before middle now : ℕ) (r : Result Ended RunFault) (c c2 : Counts) (memory : List ℕ) (st : Status)
-    → WedgeAnswers image events frames n old mid before middle c c2 memory r → ToldAs r mid new middle now st
+    → WedgeAnswers image events frames n 512 old mid before middle c c2 memory r → ToldAs r mid new middle now st
     → RanAs (RunsOn (RunsPatched frames n image events) image frames) old new before now c c2 memory st
 ran_patched image events frames n old mid new before middle now (Ok e) c c2 memory st h told =
     let p = h.1 in
-    let run : HostedRun = record { setting = wedge image events frames; reports = p.reports; last = p.last; end = e.end } in
+    let run : HostedRun = record { setting = wedge image events frames; sets = p.sets; reports = p.reports; last = p.last; end = e.end } in
     inl (
       ended_on_host run,
       Ran h.2 (record { sets = p.sets; reports = p.reports; last = p.last; end = e.end; run = p.run; comes = refl }),
       Whole told.0 (appends_on old mid new (ended_on_host run).text told.1 (subst (λ (t : List ℕ). Appends old mid t) (text_at p.reports h.0 e.steps p.last.step e.end p.text_is p.count_is) h.4)),
-      λ end. (p.counts, p.memory_is),
+      λ end. (p.counts, p.memory_is, p.kept refl),
     )
 ran_patched image events frames n old mid new before middle now (Err fault.Write) c c2 memory st h told =
     let g = h.4 in
-    let run : HostedRun = record { setting = wedge image events frames; reports = g.reports; last = g.last; end = h.2 } in
+    let run : HostedRun = record { setting = wedge image events frames; sets = g.sets; reports = g.reports; last = g.last; end = h.2 } in
     inl (
       ended_on_host run,
       Ran h.3 (record { sets = g.sets; reports = g.reports; last = g.last; end = h.2; run = g.run; comes = refl }),

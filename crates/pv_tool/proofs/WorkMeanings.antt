@@ -88,13 +88,13 @@ some_same a b is = cc
 
 -- of a sink that had taken nothing
 pub second_ran : (image : Image) (events : Events) (old text : List ℕ) (before now : ℕ) (c c2 : Counts) (memory : List ℕ) (ended : Ended) → events ≡ [] → old ≡ []
-    → WedgeAnswers image events 4096 100000 (Some old) (Some text) before now c c2 memory (Ok ended)
-    → (count : ℕ) × (end : End) × (run : Promise (second_setting image) 100000 text count end c c2 memory) × HasFills (second_setting image) run.sets run.last ended.fills
+    → WedgeAnswers image events 4096 100000 512 (Some old) (Some text) before now c c2 memory (Ok ended)
+    → (count : ℕ) × (end : End) × (run : Promise (second_setting image) 100000 512 text count end c c2 memory) × HasFills (second_setting image) run.sets run.last ended.fills
 second_ran image events old text before now c c2 memory ended none first answers =
-    let h = subst (λ (e : Events). WedgeAnswers image e 4096 100000 (Some old) (Some text) before now c c2 memory (Ok ended)) none answers in
+    let h = subst (λ (e : Events). WedgeAnswers image e 4096 100000 512 (Some old) (Some text) before now c c2 memory (Ok ended)) none answers in
     let is : h.0 ≡ text = sym (some_same text (old ++ h.0) h.4 ∙ ap (λ (l : List ℕ). l ++ h.0) first) in
     let m = second_setting image in
-    let moved = subst (λ (t : List ℕ). (run : Promise m 100000 t ended.steps ended.end c c2 memory) × HasFills m run.sets run.last ended.fills) is (h.1, h.3) in
+    let moved = subst (λ (t : List ℕ). (run : Promise m 100000 512 t ended.steps ended.end c c2 memory) × HasFills m run.sets run.last ended.fills) is (h.1, h.3) in
     (ended.steps, ended.end, moved.0, moved.1)
 
 -- ---- what is told
@@ -120,7 +120,7 @@ pub work_tells : (number : ℕ) (image : Image) (first second : List ℕ) (fills
     → WorkedAs number old new before now c c2 memory st
 work_tells number image first second fills old new before now c c2 memory st h t (inl (told, compares, said)) =
     let p = t.promise in
-    let run : HostedRun = record { setting = second_setting image; reports = p.reports; last = p.last; end = t.end } in
+    let run : HostedRun = record { setting = second_setting image; sets = p.sets; reports = p.reports; last = p.last; end = t.end } in
     let twice : RunsTwice number image (compared run (told_line number image second fills ++ told)) = record {
       sets = p.sets;
       reports = p.reports;
@@ -135,7 +135,7 @@ work_tells number image first second fills old new before now c c2 memory st h t
       compares = subst (λ (f : List ℕ). Compares f second told) t.first_is compares;
       comes = refl;
     } in
-    inl (compared run (told_line number image second fills ++ told), record { made = Ok image; builds = h; comes = Ran t.fits twice }, said, λ end. (p.counts, p.memory_is))
+    inl (compared run (told_line number image second fills ++ told), record { made = Ok image; builds = h; comes = Ran t.fits twice }, said, λ end. (p.counts, p.memory_is, p.kept refl))
 work_tells number image first second fills old new before now c c2 memory st h t (inr none) = inr none
 
 -- ---- what the outcomes are

@@ -6,6 +6,7 @@ use Rattle.image_check.specs.Image.{Image}
 use Rattle.run_trace.specs.declared.items.End.{End}
 use Rattle.machine_model.specs.State.{boot}
 use Rattle.machine_model.specs.Run.{Run}
+use Rattle.machine_model.specs.Keeping.{Kept}
 use Rattle.machine_model.specs.Agreement.{bound_on_bare, end_on_bare}
 use Rattle.bare_machine.specs.Machine.{bare}
 use Rattle.wedge_core.specs.Promises.{Promise, HasFills}
@@ -30,7 +31,9 @@ pub record IsComparison (number : ℕ) (program : Image) (o : Outside) : Type 0 
   pub printed : Appends o.taken o.taken_after (told_line number program second fills ++ told)
   -- The second text is that of one run from boot under the monitor's rules. The host completed its direct instructions, no
   -- more and no fewer, and after all steps its first frames are this run's memory with the text patched.
-  pub promise : Promise (second_setting program) 100000 second count end o.completed o.completed_after o.memory_after
+  pub promise : Promise (second_setting program) 100000 512 second count end o.completed o.completed_after o.memory_after
+  -- its sets keep the rule for kept translations
+  pub kept : Kept (second_setting program) (boot (second_setting program)) promise.sets
   -- what was printed as filled is what this run has filled
   pub filled : HasFills (second_setting program) promise.sets promise.last fills
   -- it is a run of the bare machine, up to a stop of the monitor's own

@@ -8,6 +8,7 @@ use Rattle.image_check.specs.Image.{Image}
 use Rattle.run_trace.specs.declared.items.End.{End}
 use Rattle.machine_model.specs.State.{boot, wedge}
 use Rattle.machine_model.specs.Run.{Run}
+use Rattle.machine_model.specs.Keeping.{Kept}
 use Rattle.machine_model.specs.Agreement.{bound_on_bare, end_on_bare}
 use Rattle.bare_machine.specs.Machine.{bare}
 use Rattle.wedge_core.specs.Promises.{Promise}
@@ -28,7 +29,10 @@ pub record IsHeadline (program : Image) (events : Events) (frames n : ℕ) (o : 
   -- It is the text of one run from boot, step by step under the monitor's rules, which ends so. The host completed this
   -- run's direct instructions, no more and no fewer, at their addresses in their order. After n steps the host's first
   -- frames are this run's memory with the text patched.
-  pub promise : Promise (wedge program events frames) n text count end o.completed o.completed_after o.memory_after
+  pub promise : Promise (wedge program events frames) n 512 text count end o.completed o.completed_after o.memory_after
+  -- Its sets keep the rule for kept translations: which of them a run keeps from step to step, while its pages lie under few
+  -- directory indices.
+  pub kept : Kept (wedge program events frames) (boot (wedge program events frames)) promise.sets
   -- It is a run of the bare machine, on the unpatched image, with the same translations before each step, the same items
   -- and the same states. Where it ends at a stop of the monitor's own the bare machine's run is that up to there.
   pub bare_run : Run (bare program events frames) (bound_on_bare n promise.last end) (boot (bare program events frames)) promise.sets promise.reports promise.last (end_on_bare end)

@@ -5,13 +5,15 @@ use Rattle.run_trace.specs.declared.items.End.TheVariants.{Bound, Stopped}
 use Rattle.run_trace.specs.Text.{text_of}
 use Rattle.machine_model.specs.State.{Setting, State}
 use Rattle.machine_model.specs.Step.{Report}
-use Rattle.machine_model.specs.Run.{trace_of}
+use Rattle.machine_model.specs.Run.{Set, trace_of}
 use Rattle.pv_tool.specs.declared.status.Status.{Status}
 use Rattle.pv_tool.specs.declared.status.Status.TheVariants as status
 
--- A run whose direct instructions are the host's: what it runs with, what its steps report, its last state, and its end.
+-- A run whose direct instructions are the host's: what it runs with, the translations that its steps went by, what they report,
+-- its last state, and its end.
 pub record HostedRun : Type 0 where
   pub setting : Setting
+  pub sets : List Set
   pub reports : List Report
   pub last : State
   pub end : End

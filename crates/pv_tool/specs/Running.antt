@@ -15,6 +15,7 @@ use Rattle.run_trace.specs.declared.items.Ended.{Ended}
 use Rattle.machine_model.specs.State.{State, boot, wedge}
 use Rattle.machine_model.specs.Step.{Report}
 use Rattle.machine_model.specs.Run.{Set, Run}
+use Rattle.machine_model.specs.Keeping.{Kept}
 use Rattle.bare_machine.specs.Answers.{HasRun}
 use Rattle.wedge_core.specs.Slices.{Counts, CountsOn}
 use Rattle.wedge_core.specs.Promises.{HasMemory}
@@ -56,7 +57,7 @@ pub record RunsPatched (frames n : ℕ) (image : Image) (events : Events) (w : O
   pub last : State
   pub end : End
   pub run : Run (wedge image events frames) n (boot (wedge image events frames)) sets reports last end
-  pub comes : w ≡ ended_on_host (record { setting = wedge image events frames; reports = reports; last = last; end = end })
+  pub comes : w ≡ ended_on_host (record { setting = wedge image events frames; sets = sets; reports = reports; last = last; end = end })
 
 -- what a run comes to, or a refusal where the image needs more frames than there are
 pub data RunsOn (ran : Outcome → Type 0) (image : Image) (frames : ℕ) (w : Outcome) : Type 0 where
@@ -77,10 +78,11 @@ RunsImage runs frames files script (Err refusal) w = w ≡ refused (image_line r
 abbrev pub Runs : (Image → Events → Outcome → Type 0) → ℕ → Option FileMap → List ℕ → List ℕ → Outcome → Type 0
 Runs runs frames files image script w = (file : List ℕ) × Holds files image file × RunsImage runs frames files script (image_of file) w
 
--- what the host has done of a run, and its memory; of no run it has done nothing
+-- what the host has done of a run, and its memory, and that the run's sets keep the rule for kept translations; of no run it
+-- has done nothing
 abbrev pub HostDid : Option HostedRun → Counts → Counts → List ℕ → Type 0
 HostDid None completed completed2 memory2 = completed2 ≡ completed
-HostDid (Some r) completed completed2 memory2 = CountsOn r.setting r.reports completed completed2 × HasMemory r.setting r.last r.end memory2
+HostDid (Some r) completed completed2 memory2 = CountsOn r.setting r.reports completed completed2 × HasMemory r.setting r.last r.end memory2 × Kept r.setting (boot r.setting) r.sets
 
 -- How a run's answer is told: its text was put before, or a refusal's line is, unless no memory is found for it.
 abbrev pub ToldAs : Result Ended RunFault → Option (List ℕ) → Option (List ℕ) → ℕ → ℕ → Status → Type 0

@@ -113,7 +113,7 @@ pub record RunsTwice (number : ℕ) (image : Image) (w : Outcome) : Type 0 where
   pub filled : HasFills (second_setting image) sets last fills
   pub told : List ℕ
   pub compares : Compares (first_text image) second told
-  pub comes : w ≡ compared (record { setting = second_setting image; reports = reports; last = last; end = end }) (told_line number image second fills ++ told)
+  pub comes : w ≡ compared (record { setting = second_setting image; sets = sets; reports = reports; last = last; end = end }) (told_line number image second fills ++ told)
 
 -- over what the kernel is built into
 abbrev pub WorksOn : ℕ → Result Image (List ℕ) → Outcome → Type 0
@@ -132,7 +132,7 @@ pub record HasTexts (image : Image) (first second : List ℕ) (fills : ℕ) (bef
   pub first_is : first ≡ first_text image
   pub count : ℕ
   pub end : End
-  pub promise : Promise (second_setting image) 100000 second count end before after memory
+  pub promise : Promise (second_setting image) 100000 512 second count end before after memory
   pub filled : HasFills (second_setting image) promise.sets promise.last fills
 
 -- the image needs more frames than there are, and the host has done nothing

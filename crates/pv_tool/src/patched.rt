@@ -84,7 +84,7 @@ pub fn patched_run<H: Host, S: Sink>(
     requires script { is_script events.now.list ≡ true }
     requires limits { (2048 ≤ frames) × (frames ≤ 16384) × (n ≤ 2 ^ 40) }
     requires room { H.retired host.old ≤ 2 ^ 63 }
-    ensures { WedgeAnswers image.now events.now.list frames n (S.taken out.old) (S.taken out.new) (S.faults out.old) (S.faults out.new) (completed_by H.Host host.old) (completed_by H.Host host.new) (H.bytes host.new) result }
+    ensures { WedgeAnswers image.now events.now.list frames n 512 (S.taken out.old) (S.taken out.new) (S.faults out.old) (S.faults out.new) (completed_by H.Host host.old) (completed_by H.Host host.new) (H.bytes host.new) result }
 {
     run_wedge(alloc, image, events, frames, n, POOL, host, out)
 }

@@ -96,7 +96,7 @@ fn patched<H: Host>(
 ) -> Result<(Vec<u8>, u64), Halt>
     requires events { events.now.list ≡ [] }
     requires room { H.retired host.old ≤ 2 ^ 63 }
-    ensures text { IfOk result (λ ran. (count : ℕ) × (end : End) × (run : Promise (second_setting image.now) 100000 ran.0.items count end (completed_by H.Host host.old) (completed_by H.Host host.new) (H.bytes host.new)) × HasFills (second_setting image.now) run.sets run.last ran.1) }
+    ensures text { IfOk result (λ ran. (count : ℕ) × (end : End) × (run : Promise (second_setting image.now) 100000 512 ran.0.items count end (completed_by H.Host host.old) (completed_by H.Host host.new) (H.bytes host.new)) × HasFills (second_setting image.now) run.sets run.last ran.1) }
     ensures refused { IfErr result (RefusesAs (IsTooLarge image.now (completed_by H.Host host.old) (completed_by H.Host host.new))) }
 {
     let mut kept = Kept::new(alloc);

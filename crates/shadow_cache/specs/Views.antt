@@ -3,6 +3,7 @@ use Rattle.std.specs.Prelude.{ℕ, List, Bool, Option, Some}
 use Rattle.shadow_tables.specs.Aside.{Aside}
 use Rattle.shadow_tables.specs.Slots.{Slot, slot_at}
 use Rattle.shadow_cache.specs.Asides.{asides_of}
+use Rattle.shadow_cache.specs.Opening.{AllOpenedOnly}
 use Rattle.shadow_cache.specs.Pairs.{reads, frames_of, IsRoots}
 use Rattle.shadow_cache.specs.Roots.{pairs_of}
 use Rattle.shadow_cache.specs.declared.roots.Roots.{Roots}
@@ -24,6 +25,9 @@ marked r = r.present.marked
 
 abbrev pub value : Roots → Option ℕ
 value r = Some r.present.cr3
+
+abbrev pub opened : Roots → List ℕ → (ℕ → Bool) → Type 0
+opened r m indices = AllOpenedOnly indices (pairs_of r) m
 
 abbrev pub asides : Roots → List ℕ → List Aside
 asides r m = asides_of r.others m

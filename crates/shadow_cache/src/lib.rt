@@ -3,6 +3,7 @@
 
 mod call_lists;
 mod coming_back;
+mod holding;
 mod others;
 mod pair;
 mod pairs;
@@ -14,5 +15,6 @@ pub use call_lists::{Replayed, RootsCall, replay};
 pub use coming_back::{
     pairs_are_apart, pairs_are_as_told, pairs_come_back, pairs_leave, pairs_leave_or_stay,
 };
+pub use holding::roots_alone_keep_nothing;
 pub use reloads::Reloads;
 pub use roots::Roots;

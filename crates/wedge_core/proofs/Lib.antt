@@ -20,6 +20,7 @@ pub mod Texts
 pub mod Joined
 pub mod Passed
 pub mod Going
+pub mod CarriedOver
 pub mod Keeping
 pub mod Asked
 pub mod Reaching
@@ -54,6 +55,8 @@ pub mod Untouched
 pub mod Resettling
 pub mod Stays
 mod StepReady
+pub mod Renewed
+pub mod SliceStarts
 pub mod Returning
 pub mod Dropping
 pub mod Carrying

@@ -24,6 +24,7 @@ use Rattle.shadow_cache.specs.declared.roots.Roots.{Roots}
 use Rattle.machine_model.specs.State.{Setting, State, Loosened, boot, wedge}
 use Rattle.machine_model.specs.Step.{Report}
 use Rattle.machine_model.specs.Run.{Set, Steps, EndsIn, CanGive, trace_of}
+use Rattle.machine_model.specs.Keeping.{Kept}
 use Rattle.machine_model.proofs.Ending.{each_ends}
 use Rattle.native_steps.specs.Stands.{IsHost, shown}
 use Rattle.wedge_core.specs.Promises.{HasMemory, Promise, HasFills, WedgeAnswers, end_of, with_patches}
@@ -80,10 +81,10 @@ memory_by m n last new end Reached memory has h = has ∙ ap (λ (b : State). wi
 memory_by m n last new end (Stopped stop) memory has h = tt
 
 -- the slice that ended is a run
-abbrev pub promised : (m : Setting) (n : ℕ) (old new : State) (before after : Counts) (told tells : Option (List ℕ)) (pages fills filled : ℕ) (wanted : Bool) (notes_on : List Note → Type 0) (pause : Pause) (memory : List ℕ)
-    → old ≡ boot m → GoesOn (Ok pause) (take (4096 * m.frames) memory ≡ with_patches m.image new.ram) → (h : SliceAs m n old new before after told tells pages fills filled wanted notes_on (Ok pause))
-    → Promise m n (lines_of (trace_of h.reports) ++ end_line new.step (end_of pause)) new.step (end_of pause) before after memory
-promised m n old new before after told tells pages fills filled wanted notes_on pause memory is has h = record {
+abbrev pub promised : (m : Setting) (n pool : ℕ) (old new : State) (before after : Counts) (told tells : Option (List ℕ)) (pages fills filled : ℕ) (wanted : Bool) (notes_on : List Note → Type 0) (begins : Type 0) (pause : Pause) (memory : List ℕ)
+    → old ≡ boot m → (pool ≡ 512 → begins) → GoesOn (Ok pause) (take (4096 * m.frames) memory ≡ with_patches m.image new.ram) → (h : SliceAs m n old new before after told tells pages fills filled wanted notes_on begins (Ok pause))
+    → Promise m n pool (lines_of (trace_of h.reports) ++ end_line new.step (end_of pause)) new.step (end_of pause) before after memory
+promised m n pool old new before after told tells pages fills filled wanted notes_on begins pause memory is from has h = record {
   sets = h.sets;
   reports = h.reports;
   last = h.last;
@@ -92,6 +93,7 @@ promised m n old new before after told tells pages fills filled wanted notes_on 
   text_is = text_is h.reports new.step (end_of pause);
   counts = h.counts;
   memory_is = memory_by m n h.last new h.end pause memory has h.ends;
+  kept = λ all. subst (λ (b : State). Kept m b h.sets) is (h.kept (from all));
 }
 
 -- a slice that pauses could go on
@@ -100,9 +102,9 @@ allowed_by m n last new end Reached h = h.2
 allowed_by m n last new end (Stopped stop) h = h.2
 
 -- and what was filled in it
-has_fills : (m : Setting) (n : ℕ) (old new : State) (before after : Counts) (told tells : Option (List ℕ)) (pages fills filled : ℕ) (wanted : Bool) (notes_on : List Note → Type 0) (pause : Pause)
-    → pages ≡ 0 → fills ≡ 0 → filled ≤ 128 * new.step → (h : SliceAs m n old new before after told tells pages fills filled wanted notes_on (Ok pause)) → HasFills m h.sets h.last filled
-has_fills m n old new before after told tells pages fills filled wanted notes_on pause first none few h = record {
+has_fills : (m : Setting) (n : ℕ) (old new : State) (before after : Counts) (told tells : Option (List ℕ)) (pages fills filled : ℕ) (wanted : Bool) (notes_on : List Note → Type 0) (begins : Type 0) (pause : Pause)
+    → pages ≡ 0 → fills ≡ 0 → filled ≤ 128 * new.step → (h : SliceAs m n old new before after told tells pages fills filled wanted notes_on begins (Ok pause)) → HasFills m h.sets h.last filled
+has_fills m n old new before after told tells pages fills filled wanted notes_on begins pause first none few h = record {
   end = h.end;
   allowed = allowed_by m n h.last new h.end pause h.ends;
   enough = All-weaker (λ (set : Set). FillsOn pages (len set) fills filled) (λ (set : Set). len set ≤ filled) (λ set f. let e = f.enough in omega (arith, e, none, first))
@@ -110,35 +112,35 @@ has_fills m n old new before after told tells pages fills filled wanted notes_on
   few = (let same = count_by m n h.last new h.end pause h.ends in omega (arith, few, same));
 }
 
-pub given_by : (m : Setting) (n : ℕ) (text : List ℕ) (count : ℕ) (end : End) (before after : Counts) (memory : List ℕ) → Promise m n text count end before after memory → CanGive m n text count end
-given_by m n text count end before after memory p = record { sets = p.sets; reports = p.reports; last = p.last; run = p.run; count_is = p.count_is; text_is = p.text_is }
+pub given_by : (m : Setting) (n pool : ℕ) (text : List ℕ) (count : ℕ) (end : End) (before after : Counts) (memory : List ℕ) → Promise m n pool text count end before after memory → CanGive m n text count end
+given_by m n pool text count end before after memory p = record { sets = p.sets; reports = p.reports; last = p.last; run = p.run; count_is = p.count_is; text_is = p.text_is }
 
 -- all lines and the last one were put
-pub whole_put : (image : Image) (script : Events) (frames n : ℕ) (old new : State) (counts counts_after : Counts) (a b c : Option (List ℕ)) (pages fills filled : ℕ) (wanted : Bool) (notes_on : List Note → Type 0) (pause : Pause) (before mid now : ℕ) (memory : List ℕ)
-    → need image ≤ frames → old ≡ boot (wedge image script frames) → pages ≡ 0 → fills ≡ 0 → filled ≤ 128 * new.step → GoesOn (Ok pause) (take (4096 * frames) memory ≡ with_patches image new.ram)
-    → (h : SliceAs (wedge image script frames) n old new counts counts_after a b pages fills filled wanted notes_on (Ok pause)) → Appends b c (end_line new.step (end_of pause)) → before ≤ mid → mid ≤ now
-    → WedgeAnswers image script frames n a c before now counts counts_after memory (Ok (record { steps = new.step; end = end_of pause; fills = filled }))
-whole_put image script frames n old new counts counts_after a b c pages fills filled wanted notes_on pause before mid now memory fits is first none few has h put le more = (
+pub whole_put : (image : Image) (script : Events) (frames n pool : ℕ) (old new : State) (counts counts_after : Counts) (a b c : Option (List ℕ)) (pages fills filled : ℕ) (wanted : Bool) (notes_on : List Note → Type 0) (begins : Type 0) (pause : Pause) (before mid now : ℕ) (memory : List ℕ)
+    → need image ≤ frames → old ≡ boot (wedge image script frames) → (pool ≡ 512 → begins) → pages ≡ 0 → fills ≡ 0 → filled ≤ 128 * new.step → GoesOn (Ok pause) (take (4096 * frames) memory ≡ with_patches image new.ram)
+    → (h : SliceAs (wedge image script frames) n old new counts counts_after a b pages fills filled wanted notes_on begins (Ok pause)) → Appends b c (end_line new.step (end_of pause)) → before ≤ mid → mid ≤ now
+    → WedgeAnswers image script frames n pool a c before now counts counts_after memory (Ok (record { steps = new.step; end = end_of pause; fills = filled }))
+whole_put image script frames n pool old new counts counts_after a b c pages fills filled wanted notes_on begins pause before mid now memory fits is from first none few has h put le more = (
   lines_of (trace_of h.reports) ++ end_line new.step (end_of pause),
-  promised (wedge image script frames) n old new counts counts_after a b pages fills filled wanted notes_on pause memory is has h,
+  promised (wedge image script frames) n pool old new counts counts_after a b pages fills filled wanted notes_on begins pause memory is from has h,
   fits,
-  has_fills (wedge image script frames) n old new counts counts_after a b pages fills filled wanted notes_on pause first none few h,
+  has_fills (wedge image script frames) n old new counts counts_after a b pages fills filled wanted notes_on begins pause first none few h,
   put_both a b c _ _ h.text put,
   omega (arith, le, more),
 )
 
 -- all lines and a front of the last one
-pub whole_unput : (image : Image) (script : Events) (frames n : ℕ) (old new : State) (counts counts_after : Counts) (a b c : Option (List ℕ)) (pages fills filled : ℕ) (wanted : Bool) (notes_on : List Note → Type 0) (pause : Pause) (before mid now : ℕ) (memory : List ℕ)
+pub whole_unput : (image : Image) (script : Events) (frames n pool : ℕ) (old new : State) (counts counts_after : Counts) (a b c : Option (List ℕ)) (pages fills filled : ℕ) (wanted : Bool) (notes_on : List Note → Type 0) (begins : Type 0) (pause : Pause) (before mid now : ℕ) (memory : List ℕ)
     → need image ≤ frames → old ≡ boot (wedge image script frames) → GoesOn (Ok pause) (take (4096 * frames) memory ≡ with_patches image new.ram)
-    → (h : SliceAs (wedge image script frames) n old new counts counts_after a b pages fills filled wanted notes_on (Ok pause)) → AppendsFront b c (end_line new.step (end_of pause)) → before ≤ mid → Rose mid now
-    → WedgeAnswers image script frames n a c before now counts counts_after memory (Err fault.Write)
-whole_unput image script frames n old new counts counts_after a b c pages fills filled wanted notes_on pause before mid now memory fits is has h put le rose =
+    → (h : SliceAs (wedge image script frames) n old new counts counts_after a b pages fills filled wanted notes_on begins (Ok pause)) → AppendsFront b c (end_line new.step (end_of pause)) → before ≤ mid → Rose mid now
+    → WedgeAnswers image script frames n pool a c before now counts counts_after memory (Err fault.Write)
+whole_unput image script frames n pool old new counts counts_after a b c pages fills filled wanted notes_on begins pause before mid now memory fits is has h put le rose =
     let text = lines_of (trace_of h.reports) ++ end_line new.step (end_of pause) in (
       text,
       new.step,
       end_of pause,
       fits,
-      given_by (wedge image script frames) n text new.step (end_of pause) counts counts_after memory (promised (wedge image script frames) n old new counts counts_after a b pages fills filled wanted notes_on pause memory is has h),
+      given_by (wedge image script frames) n 0 text new.step (end_of pause) counts counts_after memory (promised (wedge image script frames) n 0 old new counts counts_after a b pages fills filled wanted notes_on begins pause memory is (λ none. absurd (omega (arith, none))) has h),
       put_front a b c (lines_of (trace_of h.reports)) (end_line new.step (end_of pause)) [] _ h.text put (ap (λ (l : List ℕ). lines_of (trace_of h.reports) ++ l) (sym (append-nil (end_line new.step (end_of pause))))),
       omega (arith, le, rose),
     )
@@ -151,10 +153,10 @@ text_join reports later count end =
     ∙ append_assoc (lines_of (trace_of reports)) (lines_of (trace_of later)) (end_line count end))
 
 -- a front of the lines
-pub whole_front : (image : Image) (script : Events) (frames n : ℕ) (old new : State) (counts counts_after : Counts) (a b : Option (List ℕ)) (pages fills filled : ℕ) (wanted : Bool) (notes_on : List Note → Type 0) (failed : Failed) (before now : ℕ) (memory : List ℕ)
-    → need image ≤ frames → old ≡ boot (wedge image script frames) → SliceAs (wedge image script frames) n old new counts counts_after a b pages fills filled wanted notes_on (Err failed) → Rose before now
-    → WedgeAnswers image script frames n a b before now counts counts_after memory (Err fault.Write)
-whole_front image script frames n old new counts counts_after a b pages fills filled wanted notes_on failed before now memory fits is h rose =
+pub whole_front : (image : Image) (script : Events) (frames n pool : ℕ) (old new : State) (counts counts_after : Counts) (a b : Option (List ℕ)) (pages fills filled : ℕ) (wanted : Bool) (notes_on : List Note → Type 0) (begins : Type 0) (failed : Failed) (before now : ℕ) (memory : List ℕ)
+    → need image ≤ frames → old ≡ boot (wedge image script frames) → SliceAs (wedge image script frames) n old new counts counts_after a b pages fills filled wanted notes_on begins (Err failed) → Rose before now
+    → WedgeAnswers image script frames n pool a b before now counts counts_after memory (Err fault.Write)
+whole_front image script frames n pool old new counts counts_after a b pages fills filled wanted notes_on begins failed before now memory fits is h rose =
     let m = wedge image script frames in
     let e = each_ends m n h.last h.ends in (
       text_of (trace_of (h.reports ++ e.reports)) e.last.step e.end,

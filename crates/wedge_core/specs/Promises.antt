@@ -20,6 +20,7 @@ use Rattle.run_trace.specs.Text.{text_of}
 use Rattle.machine_model.specs.State.{Setting, State, Loosened, boot, wedge}
 use Rattle.machine_model.specs.Step.{Report}
 use Rattle.machine_model.specs.Run.{Set, Run, CanGive, trace_of}
+use Rattle.machine_model.specs.Keeping.{Kept}
 use Rattle.wedge_core.specs.Slices.{Counts, CountsOn}
 
 -- the guest's memory as the host has it: with the patched text in the text's place
@@ -31,8 +32,9 @@ HasMemory m last Bound memory = take (4096 * m.frames) memory ≡ with_patches m
 HasMemory m last (Stopped stop) memory = Unit {0}
 
 -- One run from the start has this text, count of steps and end. The host completed exactly its direct instructions, and
--- where it has done all its steps, its memory is the host's first frames with the text patched.
-pub record Promise (m : Setting) (n : ℕ) (text : List ℕ) (count : ℕ) (end : End) (before after : Counts) (memory : List ℕ) : Type 0 where
+-- where it has done all its steps, its memory is the host's first frames with the text patched. With a pool of 512 frames its
+-- sets keep the rule for kept translations.
+pub record Promise (m : Setting) (n pool : ℕ) (text : List ℕ) (count : ℕ) (end : End) (before after : Counts) (memory : List ℕ) : Type 0 where
   pub sets : List Set
   pub reports : List Report
   pub last : State
@@ -41,6 +43,7 @@ pub record Promise (m : Setting) (n : ℕ) (text : List ℕ) (count : ℕ) (end 
   pub text_is : text ≡ text_of (trace_of reports) count end
   pub counts : CountsOn m reports before after
   pub memory_is : HasMemory m last end memory
+  pub kept : pool ≡ 512 → Kept m (boot m) sets
 
 -- How many pages were filled in a run from the start. Each of its sets, and the one with which it could go on, has no more
 -- pages than were filled. A step fills at most 128, so that none were filled where no step was done.
@@ -62,10 +65,10 @@ RefusedWedge image script frames n old new before now counts_before counts_after
 RefusedWedge image script frames n old new before now counts_before counts_after fault.Memory = (new ≡ old) × (now ≡ before) × (counts_after ≡ counts_before)
 
 -- what stands after a run: the sink's bytes and faults, and the host's counts and memory
-abbrev pub WedgeAnswers : Image → Events → ℕ → ℕ → Option (List ℕ) → Option (List ℕ) → ℕ → ℕ → Counts → Counts → List ℕ → Result Ended RunFault → Type 0
-WedgeAnswers image script frames n old new before now counts_before counts_after memory (Ok ended) =
-    (text : List ℕ) × (run : Promise (wedge image script frames) n text ended.steps ended.end counts_before counts_after memory) × (need image ≤ frames) × HasFills (wedge image script frames) run.sets run.last ended.fills × Appends old new text × (before ≤ now)
-WedgeAnswers image script frames n old new before now counts_before counts_after memory (Err fault) = RefusedWedge image script frames n old new before now counts_before counts_after fault
+abbrev pub WedgeAnswers : Image → Events → ℕ → ℕ → ℕ → Option (List ℕ) → Option (List ℕ) → ℕ → ℕ → Counts → Counts → List ℕ → Result Ended RunFault → Type 0
+WedgeAnswers image script frames n pool old new before now counts_before counts_after memory (Ok ended) =
+    (text : List ℕ) × (run : Promise (wedge image script frames) n pool text ended.steps ended.end counts_before counts_after memory) × (need image ≤ frames) × HasFills (wedge image script frames) run.sets run.last ended.fills × Appends old new text × (before ≤ now)
+WedgeAnswers image script frames n pool old new before now counts_before counts_after memory (Err fault) = RefusedWedge image script frames n old new before now counts_before counts_after fault
 
 -- the end of a run whose last slice paused so
 abbrev pub end_of : Pause → End

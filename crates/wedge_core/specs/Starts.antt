@@ -1,5 +1,5 @@
 -- How a guest starts.
-use Rattle.std.specs.Prelude.{◌≡◌, ℕ, ◌+◌, ◌*◌, ◌≤◌, ◌<◌, List, length, replicate, Option, Result, Ok, Err}
+use Rattle.std.specs.Prelude.{◌≡◌, ℕ, ◌+◌, ◌*◌, ◌≤◌, ◌<◌, Bool, false, List, [], length, replicate, Option, Result, Ok, Err}
 use Rattle.frame_pool.specs.Pool.{base_of, count_of, free_list}
 use Rattle.frame_pool.specs.declared.Pool.{Pool}
 use Rattle.board.specs.Scripts.{Events}
@@ -7,6 +7,7 @@ use Rattle.image_check.specs.Image.{Image}
 use Rattle.image_load.specs.Boot.{need}
 use Rattle.image_load.specs.declared.fault.StartFault.{StartFault}
 use Rattle.image_load.specs.declared.fault.StartFault.TheVariants as start
+use Rattle.shadow_tables.specs.Aside.{Aside}
 use Rattle.shadow_tables.specs.Slots.{Slot}
 use Rattle.machine_model.specs.State.{Setting, boot, wedge}
 use Rattle.wedge_core.specs.Standing.{IsHeld, IsAble, state_of}
@@ -24,6 +25,15 @@ module _ {S : Type 0} (stands : S → List ℕ → Type 0) (frames : S → List 
     pub fills : g.fills ≡ 0
     pub two : g.held ≡ 2
     pub all : length (free_list pool memory) + g.held ≡ count_of pool
+
+module _ {S : Type 0} (noted : S → ℕ → Bool) (marked : S → Bool) (asides : S → List ℕ → List Aside) (opened : S → List ℕ → (ℕ → Bool) → Type 0) where
+  -- No frame is noted of the present tables, and they aren't marked. Nothing is kept for another value of CR3, and there are
+  -- no tables.
+  pub record IsAsNew (s : S) (memory : List ℕ) : Type 0 where
+    pub unnoted : (frame : ℕ) → noted s frame ≡ false
+    pub unmarked : marked s ≡ false
+    pub alone : asides s memory ≡ []
+    pub unopened : (indices : ℕ → Bool) → opened s memory indices
 
 -- the host's memory has the guest's frames and the pool's
 abbrev pub StartedAs : (Roots → List ℕ → Type 0) → (Roots → List ℕ → List ℕ) → (Roots → List ℕ → ℕ → Option Slot) → Image → ℕ → ℕ → List ℕ → Result (Guest × Pool) StartFault → Type 0

@@ -10,16 +10,18 @@ ghost use Rattle.image_check.specs.Image.{Image};
 ghost use Rattle.image_load.specs.Boot.{text_pages};
 ghost use Rattle.pv_io.specs.Causes.{Rose};
 ghost use Rattle.shadow_cache.specs.Views as roots;
-ghost use Rattle.machine_model.specs.State.{wedge};
+ghost use Rattle.shadow_tables.specs.Entries.{entries_of};
+ghost use Rattle.machine_model.specs.State.{Setting, wedge};
 ghost use Rattle.wedge_core.specs.Filled.{FillsOn, IsFilled, pages_kept};
 ghost use Rattle.wedge_core.specs.Noted.{NotesOn};
 ghost use Rattle.wedge_core.specs.Pools.{Keeps};
 ghost use Rattle.wedge_core.specs.Promises.{with_patches};
 ghost use Rattle.wedge_core.specs.Ready.{IsReady};
-ghost use Rattle.wedge_core.specs.Slices.{SliceAs, GoesOn, Pauses};
+ghost use Rattle.wedge_core.specs.Slices.{BeginsEmpty, SliceAs, GoesOn, Pauses};
 ghost use Rattle.wedge_core.specs.Standing.{IsHeld, IsAble, ground, state_of};
-ghost use Rattle.wedge_core.specs.Starts.{StartedAs};
+ghost use Rattle.wedge_core.specs.Starts.{IsAsNew, StartedAs};
 
+use crate::carrying::carry_laws;
 use crate::running::{Lost, Running};
 use crate::slice::steps_to;
 use board::{Board, Script};
@@ -33,7 +35,7 @@ use image_load::{Pause, StartFault, load};
 use machine_model::each_run_begins_able;
 use pv_io::{Failed, Sink};
 use run_trace::Notes;
-use shadow_cache::Roots;
+use shadow_cache::{Reloads, Roots, roots_alone_keep_nothing};
 use shadow_tables::Shadows;
 use sites::patch;
 use std::alloc::{AllocError, Global};
@@ -136,7 +138,8 @@ impl Guest {
             (state_of roots.stands roots.frames roots.slots (wedge image.now script.now.list self.old.running.frames) self.old.running (H.bytes host.old))
             (state_of roots.stands roots.frames roots.slots (wedge image.now script.now.list self.old.running.frames) self.new.running (H.bytes host.new))
             (record { retired = H.retired host.old; passed = H.passed host.old }) (record { retired = H.retired host.new; passed = H.passed host.new })
-            (O.taken out.old) (O.taken out.new) (pages_kept roots.slots roots.asides self.old.running.shadows (H.bytes host.old)) self.old.running.fills self.new.running.fills (L.wants notes.old) (NotesOn (L.wants notes.old) (L.tells notes.old) (L.tells notes.new)) result }
+            (O.taken out.old) (O.taken out.new) (pages_kept roots.slots roots.asides self.old.running.shadows (H.bytes host.old)) self.old.running.fills self.new.running.fills (L.wants notes.old) (NotesOn (L.wants notes.old) (L.tells notes.old) (L.tells notes.new))
+            (BeginsEmpty (entries_of (roots.slots self.old.running.shadows (H.bytes host.old))) (length (free_list pool.old (H.bytes host.old))) self.old.running.held (L.wants notes.old)) result }
         ensures wants { L.wants notes.new ≡ L.wants notes.old }
         ensures silent { L.wants notes.old ≡ false → notes.new ≡ notes.old }
         ensures reached { GoesOn result (self.new.running.step ≡ self.old.running.step + k) }
@@ -157,6 +160,8 @@ impl Guest {
         ensures cause { OnErr result (Rose (O.faults out.old) (O.faults out.new)) }
     {
         let bound = self.running.step + k;
+        carry_laws();
+        self.begin(pool, host);
         steps_to(
             &mut self.running,
             image,
@@ -167,6 +172,29 @@ impl Guest {
             out,
             notes,
         )
+    }
+
+    /// Before a slice. Where only roots are held nothing is present, and the present tables begin anew: no frame counts that
+    /// was noted of them before.
+    fn begin<H: Host>(&mut self, pool: &mut Pool, host: &mut H)
+        requires started { H.is_started host.old ≡ true }
+        requires held { (image : Image) × IsHeld roots.stands roots.frames roots.slots (ground image self.old.running.frames) self.old.running pool.old (H.bytes host.old) }
+        ensures running { self.new.running ≡ record self.old.running { shadows = self.new.running.shadows } }
+        ensures held { (image : Image) → IsHeld roots.stands roots.frames roots.slots (ground image self.old.running.frames) self.old.running pool.old (H.bytes host.old) → IsHeld roots.stands roots.frames roots.slots (ground image self.old.running.frames) self.new.running pool.new (H.bytes host.new) }
+        ensures ready { (image : Image) → IsReady roots.slots roots.noted roots.marked roots.value roots.asides (ground image self.old.running.frames) self.old.running.cpu self.old.running.shadows (H.bytes host.old) → IsReady roots.slots roots.noted roots.marked roots.value roots.asides (ground image self.old.running.frames) self.new.running.cpu self.new.running.shadows (H.bytes host.new) }
+        ensures state { (m : Setting) → m.frames ≡ self.old.running.frames → state_of roots.stands roots.frames roots.slots m self.new.running (H.bytes host.new) ≡ state_of roots.stands roots.frames roots.slots m self.old.running (H.bytes host.old) }
+        ensures keeps { Keeps pool.old pool.new (H.bytes host.old) (H.bytes host.new) (roots.frames self.old.running.shadows (H.bytes host.old)) (roots.frames self.new.running.shadows (H.bytes host.new)) }
+        ensures fewer { pages_kept roots.slots roots.asides self.new.running.shadows (H.bytes host.new) ≤ pages_kept roots.slots roots.asides self.old.running.shadows (H.bytes host.old) }
+        ensures anew { self.old.running.held ≡ 2 → IsAsNew roots.noted roots.marked roots.asides roots.opened self.new.running.shadows (H.bytes host.new) }
+        ensures started { H.is_started host.new ≡ true }
+        ensures retired { H.retired host.new ≡ H.retired host.old }
+        ensures passed { H.passed host.new ≡ H.passed host.old }
+    {
+        if self.running.held != 2 {
+            return;
+        }
+        roots_alone_keep_nothing();
+        Reloads::renew(&mut self.running.shadows, host.ram_mut(), pool);
     }
 
     /// Drops all shadows. The guest holds two frames then.

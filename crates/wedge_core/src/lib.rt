@@ -1,6 +1,7 @@
 //! The patched run: a guest's patched text on an unprivileged host.
 #![tactic(auto)]
 
+mod carrying;
 mod clash;
 mod close;
 mod guest;

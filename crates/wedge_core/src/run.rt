@@ -37,7 +37,7 @@ pub fn run_wedge<H: Host, O: Sink>(
     requires bound { n ≤ 2 ^ 40 }
     requires pool { (16 ≤ pool) × (pool ≤ 512) }
     requires room { H.retired host.old ≤ 2 ^ 63 }
-    ensures run { WedgeAnswers image.now script.now.list frames n (O.taken out.old) (O.taken out.new) (O.faults out.old) (O.faults out.new)
+    ensures run { WedgeAnswers image.now script.now.list frames n pool (O.taken out.old) (O.taken out.new) (O.faults out.old) (O.faults out.new)
         (record { retired = H.retired host.old; passed = H.passed host.old }) (record { retired = H.retired host.new; passed = H.passed host.new }) (H.bytes host.new) result }
 {
     match Guest::start(alloc, image, frames, pool, host) {
@@ -68,12 +68,13 @@ fn whole<H: Host, O: Sink>(
     requires fits { need image.now ≤ guest.old.running.frames }
     requires script { is_script script.now.list ≡ true }
     requires first { state_of roots.stands roots.frames roots.slots (wedge image.now script.now.list guest.old.running.frames) guest.old.running (H.bytes host.old) ≡ boot (wedge image.now script.now.list guest.old.running.frames) }
+    requires two { guest.old.running.held ≡ 2 }
     requires unfilled { guest.old.running.fills ≡ 0 }
     requires none { pages_kept roots.slots roots.asides guest.old.running.shadows (H.bytes host.old) ≡ 0 }
     requires bound { n ≤ 2 ^ 40 }
     requires room { H.retired host.old ≤ 2 ^ 63 }
     requires enough { 16 ≤ length (free_list pool.old (H.bytes host.old)) + guest.old.running.held }
-    ensures whole { WedgeAnswers image.now script.now.list guest.old.running.frames n (O.taken out.old) (O.taken out.new) (O.faults out.old) (O.faults out.new)
+    ensures whole { WedgeAnswers image.now script.now.list guest.old.running.frames n (length (free_list pool.old (H.bytes host.old)) + guest.old.running.held) (O.taken out.old) (O.taken out.new) (O.faults out.old) (O.faults out.new)
         (record { retired = H.retired host.old; passed = H.passed host.old }) (record { retired = H.retired host.new; passed = H.passed host.new }) (H.bytes host.new) result }
 {
     let pause = match guest.slice(image, script, n, pool, host, out, &mut NoNotes) {

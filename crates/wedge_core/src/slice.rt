@@ -29,6 +29,7 @@ ghost use Rattle.machine_model.specs.Taken.{Taken};
 ghost use Rattle.machine_model.specs.Keeping.{Roomy};
 ghost use Rattle.wedge_core.specs.Carried.{IsCarried, IsTakenFrom};
 
+use crate::carrying::carry_laws;
 use crate::laws::{alones_go, known_laws};
 use crate::native::{Attempt, begin_native};
 use crate::noting::{tell, tell_both};
@@ -73,7 +74,9 @@ pub fn steps_to<S: Reloads + Drop, H: Host, O: Sink, L: Notes>(
     ensures slice { SliceAs (wedge image.now script.now.list running.old.frames) bound
         (state_of S.stands S.frames S.slots (wedge image.now script.now.list running.old.frames) running.old (H.bytes host.old)) (state_of S.stands S.frames S.slots (wedge image.now script.now.list running.old.frames) running.new (H.bytes host.new))
         (record { retired = H.retired host.old; passed = H.passed host.old }) (record { retired = H.retired host.new; passed = H.passed host.new })
-        (O.taken out.old) (O.taken out.new) (pages_kept S.slots S.asides running.old.shadows (H.bytes host.old)) running.old.fills running.new.fills (L.wants notes.old) (NotesOn (L.wants notes.old) (L.tells notes.old) (L.tells notes.new)) result }
+        (O.taken out.old) (O.taken out.new) (pages_kept S.slots S.asides running.old.shadows (H.bytes host.old)) running.old.fills running.new.fills (L.wants notes.old) (NotesOn (L.wants notes.old) (L.tells notes.old) (L.tells notes.new))
+        (IsCarried S.slots S.noted S.marked S.asides S.opened (wedge image.now script.now.list running.old.frames) [] (state_of S.stands S.frames S.slots (wedge image.now script.now.list running.old.frames) running.old (H.bytes host.old)) running.old.shadows (H.bytes host.old)
+        × (length (free_list pool.old (H.bytes host.old)) + running.old.held ≡ 512) × (L.wants notes.old ≡ false)) result }
     ensures wants { L.wants notes.new ≡ L.wants notes.old }
     ensures silent { L.wants notes.old ≡ false → notes.new ≡ notes.old }
     ensures reached { GoesOn result (running.new.step ≡ bound) }
@@ -92,6 +95,7 @@ pub fn steps_to<S: Reloads + Drop, H: Host, O: Sink, L: Notes>(
 {
     let wanted = notes.wanted();
     while running.step < bound {
+        carry_laws();
         running.board.begin(script, running.step);
         if stretch(running, host, image, script, bound) > 0 {
             continue;

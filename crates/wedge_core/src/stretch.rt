@@ -3,6 +3,7 @@
 ghost use Rattle.std.specs.Prelude.{◌≡◌, ℕ, ◌+◌, ◌-◌, ◌*◌, ◌/◌, ◌%◌, ◌==◌, ◌≤◌, ◌<◌, ◌^◌, length, true, false, OnOk};
 ghost use Rattle.frame_pool.specs.declared.Pool.{Pool as Frames};
 ghost use Rattle.frame_pool.specs.Pool.{free_list};
+ghost use Rattle.frame_pool.specs.Held.{SameIn};
 ghost use Rattle.board.specs.declared.devices.Board.{Board as Devices};
 ghost use Rattle.board.specs.Boards.{given, comes_within};
 ghost use Rattle.board.specs.Scripts.{Events, is_script};
@@ -126,6 +127,8 @@ pub fn stretch<S: Shadows + Drop, H: Host>(
     ensures pool { (pool : Frames) → IsHeld S.stands S.frames S.slots (ground image.now running.old.frames) running.old pool (H.bytes host.old) → Keeps pool pool (H.bytes host.old) (H.bytes host.new) (S.frames running.old.shadows (H.bytes host.old)) (S.frames running.new.shadows (H.bytes host.new)) }
     ensures filled { FillsOn (pages_kept S.slots S.asides running.old.shadows (H.bytes host.old)) (pages_kept S.slots S.asides running.new.shadows (H.bytes host.new)) running.old.fills running.new.fills }
     ensures ready { IsReady S.slots S.noted S.marked S.value S.asides (ground image.now running.old.frames) running.old.cpu running.old.shadows (H.bytes host.old) → IsReady S.slots S.noted S.marked S.value S.asides (ground image.now running.old.frames) running.new.cpu running.new.shadows (H.bytes host.new) }
+    ensures shadows { running.new.shadows ≡ running.old.shadows }
+    ensures apart { SameIn (S.frames running.old.shadows (H.bytes host.old)) (H.bytes host.old) (H.bytes host.new) }
     ensures able { IsAble running.new.cpu }
     ensures started { H.is_started host.new ≡ true }
     ensures frames { running.new.frames ≡ running.old.frames }

@@ -1,4 +1,5 @@
-use Rattle.std.proofs.Common.{◌≡◌, ℕ, [], sym, subst, arith}
+use Rattle.std.proofs.Common.{◌≡◌, ℕ, ◌+◌, [], length, sym, subst, ◌∙◌, arith}
+use Rattle.frame_pool.specs.Pool.{free_list}
 use Rattle.shadow_cache.specs.Views as roots
 use Rattle.machine_model.specs.State.{boot, wedge}
 use Rattle.wedge_core.specs.Promises.{WedgeAnswers}
@@ -42,10 +43,13 @@ returns-in-Ok g c =
     let script = c.args.script.now.list in
     let after : Counts = record { retired = g.H.Host.retired c.whole.new.host; passed = g.H.Host.passed c.whole.new.host } in
     let begun : Counts = record { retired = g.H.Host.retired c.start.new.host; passed = g.H.Host.passed c.start.new.host } in
-    let here = subst (λ (f : ℕ). WedgeAnswers image script f c.args.n (g.O.Sink.taken c.args.out.now) (g.O.Sink.taken c.whole.new.out) (g.O.Sink.faults c.args.out.now) (g.O.Sink.faults c.whole.new.out) begun after (g.H.Host.bytes c.whole.new.host) c.whole.result) b.held.frames_are c.whole.ensures.whole in
+    let frames_are = b.held.frames_are in
+    let count = c.in-Ok.ensures.started.3 in
+    let here = subst (λ (f : ℕ). WedgeAnswers image script f c.args.n (length (free_list c.in-Ok.pool (g.H.Host.bytes c.start.new.host)) + c.in-Ok.guest.running.held) (g.O.Sink.taken c.args.out.now) (g.O.Sink.taken c.whole.new.out) (g.O.Sink.faults c.args.out.now) (g.O.Sink.faults c.whole.new.out) begun after (g.H.Host.bytes c.whole.new.host) c.whole.result) frames_are c.whole.ensures.whole in
+    let of_pool = subst (λ (p : ℕ). WedgeAnswers image script c.args.frames c.args.n p (g.O.Sink.taken c.args.out.now) (g.O.Sink.taken c.whole.new.out) (g.O.Sink.faults c.args.out.now) (g.O.Sink.faults c.whole.new.out) begun after (g.H.Host.bytes c.whole.new.host) c.whole.result) (b.all ∙ count) here in
     record {
-      run = subst (λ (x : Counts). WedgeAnswers image script c.args.frames c.args.n (g.O.Sink.taken c.args.out.now) (g.O.Sink.taken c.whole.new.out) (g.O.Sink.faults c.args.out.now) (g.O.Sink.faults c.whole.new.out) x after (g.H.Host.bytes c.whole.new.host) c.whole.result)
-          (λ i. record { retired = c.start.ensures.retired i; passed = c.start.ensures.passed i }) here;
+      run = subst (λ (x : Counts). WedgeAnswers image script c.args.frames c.args.n c.args.pool (g.O.Sink.taken c.args.out.now) (g.O.Sink.taken c.whole.new.out) (g.O.Sink.faults c.args.out.now) (g.O.Sink.faults c.whole.new.out) x after (g.H.Host.bytes c.whole.new.host) c.whole.result)
+          (λ i. record { retired = c.start.ensures.retired i; passed = c.start.ensures.passed i }) of_pool;
     }
 
 pub whole-requires-clause-unfilled : goal.whole-requires-clause-unfilled
@@ -62,3 +66,6 @@ whole-requires-clause-none g c =
     let none = b.fills in
     let filled = c.in-Ok.ensures.filled in
     omega (arith, none, filled)
+
+pub whole-requires-clause-two : goal.whole-requires-clause-two
+whole-requires-clause-two g c = let b = c.in-Ok.ensures.started.4 [] in b.two

@@ -1,21 +1,38 @@
-use Rattle.std.proofs.Common.{◌≡◌, ℕ, ◌+◌, false, List, Ok, Err, sym, subst, ap, arith}
+use Rattle.std.proofs.Common.{◌≡◌, ℕ, ◌+◌, false, List, length, Ok, Err, refl, sym, subst, ap, arith}
+use Rattle.frame_pool.specs.Pool.{free_list}
+use Rattle.frame_pool.specs.declared.Pool.{Pool}
 use Rattle.pv_io.specs.Sink.{Appends, AppendsFront}
 use Rattle.run_trace.specs.declared.items.End.{End}
 use Rattle.run_trace.specs.Notes.{Note}
 use Rattle.run_trace.specs.Text.{end_line}
+use Rattle.shadow_tables.specs.Entries.{entries_of}
 use Rattle.shadow_cache.specs.Views as roots
-use Rattle.machine_model.specs.State.{State, wedge}
+use Rattle.shadow_cache.specs.declared.roots.Roots.{Roots}
+use Rattle.machine_model.specs.State.{Setting, State, boot, wedge}
 use Rattle.wedge_core.specs.Filled.{pages_kept}
 use Rattle.wedge_core.specs.Noted.{NotesOn}
 use Rattle.wedge_core.specs.Promises.{WedgeAnswers, end_of}
-use Rattle.wedge_core.specs.Slices.{Counts, SliceAs}
+use Rattle.wedge_core.specs.Slices.{BeginsEmpty, Counts, SliceAs}
 use Rattle.wedge_core.specs.Standing.{state_of}
+use Rattle.wedge_core.specs.declared.running.Running.{Running}
 use Rattle.wedge_core.proofs.WholeRuns.{whole_put, whole_unput, whole_front, front_held}
+use Rattle.wedge_core.proofs.run.whole.Given.{Over}
 use Rattle.wedge_core.proofs.run.whole.Goals as goal
 
 -- what is told of notes that are not wanted
 abbrev no_notes : List Note → Type 0
 no_notes notes = NotesOn false (λ so_far. ⊥) (λ so_far. ⊥) notes
+
+-- how the slice begins
+module _ (g : Over) where
+  abbrev pool_in : Pool → Running Roots → List ℕ → ℕ
+  pool_in pool r memory = length (free_list pool memory) + r.held
+
+  abbrev empty_in : Pool → Running Roots → List ℕ → Type 0
+  empty_in pool r memory = BeginsEmpty (entries_of (roots.slots r.shadows memory)) (length (free_list pool memory)) r.held false
+
+  begins_in : (m : Setting) (pool : Pool) (r : Running Roots) (memory : List ℕ) → state_of roots.stands roots.frames roots.slots m r memory ≡ boot m → r.held ≡ 2 → pool_in pool r memory ≡ 512 → empty_in pool r memory
+  begins_in m pool r memory first two all = record { empty_set = ap (λ (b : State). b.set) first; two = two; others = all; silent = refl }
 
 pub slice-requires-clause-bound : goal.slice-requires-clause-bound
 slice-requires-clause-bound g c =
@@ -36,8 +53,8 @@ returns-in-Err g c =
     let after : Counts = record { retired = g.H.Host.retired c.slice.new.host; passed = g.H.Host.passed c.slice.new.host } in
     let old = state_of roots.stands roots.frames roots.slots m c.args.guest.now.running (g.H.Host.bytes c.args.host.now) in
     let new = state_of roots.stands roots.frames roots.slots m c.slice.new.self.running (g.H.Host.bytes c.slice.new.host) in
-    let h = subst (λ (n : ℕ). SliceAs m n old new before after (g.O.Sink.taken c.args.out.now) (g.O.Sink.taken c.slice.new.out) pages fills filled false no_notes (Err c.in-Err.field-0)) is c.in-Err.ensures.slice in
-    record { whole = whole_front c.args.image.now c.args.script.now.list f c.args.n old new before after _ _ pages fills filled false no_notes c.in-Err.field-0 _ _ (g.H.Host.bytes c.slice.new.host) c.requires.fits c.requires.first h c.in-Err.ensures.cause }
+    let h = subst (λ (n : ℕ). SliceAs m n old new before after (g.O.Sink.taken c.args.out.now) (g.O.Sink.taken c.slice.new.out) pages fills filled false no_notes (empty_in g c.args.pool.now c.args.guest.now.running (g.H.Host.bytes c.args.host.now)) (Err c.in-Err.field-0)) is c.in-Err.ensures.slice in
+    record { whole = whole_front c.args.image.now c.args.script.now.list f c.args.n (pool_in g c.args.pool.now c.args.guest.now.running (g.H.Host.bytes c.args.host.now)) old new before after _ _ pages fills filled false no_notes (empty_in g c.args.pool.now c.args.guest.now.running (g.H.Host.bytes c.args.host.now)) c.in-Err.field-0 _ _ (g.H.Host.bytes c.slice.new.host) c.requires.fits c.requires.first h c.in-Err.ensures.cause }
 
 pub returns-in-Err-put_end : goal.returns-in-Err-put_end
 returns-in-Err-put_end g c =
@@ -56,11 +73,11 @@ returns-in-Err-put_end g c =
     let after : Counts = record { retired = g.H.Host.retired c.slice.new.host; passed = g.H.Host.passed c.slice.new.host } in
     let old = state_of roots.stands roots.frames roots.slots m c.args.guest.now.running (g.H.Host.bytes c.args.host.now) in
     let new = state_of roots.stands roots.frames roots.slots m c.slice.new.self.running memory in
-    let h = subst (λ (n : ℕ). SliceAs m n old new before after (g.O.Sink.taken c.args.out.now) (g.O.Sink.taken c.slice.new.out) pages fills filled false no_notes (Ok pause)) is c.in-Ok.ensures.slice in
+    let h = subst (λ (n : ℕ). SliceAs m n old new before after (g.O.Sink.taken c.args.out.now) (g.O.Sink.taken c.slice.new.out) pages fills filled false no_notes (empty_in g c.args.pool.now c.args.guest.now.running (g.H.Host.bytes c.args.host.now)) (Ok pause)) is c.in-Ok.ensures.slice in
     let has = front_held pause image script f c.slice.new.self.running c.slice.new.pool memory c.in-Ok.ensures.held in
     let put = subst (λ (k : ℕ). AppendsFront (g.O.Sink.taken c.slice.new.out) (g.O.Sink.taken c.put_end.new.out) (end_line k (end_of pause))) c.step.ensures
     (subst (λ (x : End). AppendsFront (g.O.Sink.taken c.slice.new.out) (g.O.Sink.taken c.put_end.new.out) (end_line c.step.result x)) c.end_of.ensures c.in-Err-put_end.ensures.failed) in
-    record { whole = whole_unput image script f c.args.n old new before after _ _ _ pages fills filled false no_notes pause _ (g.O.Sink.faults c.slice.new.out) _ memory c.requires.fits c.requires.first has h put c.in-Ok.ensures.later c.in-Err-put_end.ensures.cause }
+    record { whole = whole_unput image script f c.args.n (pool_in g c.args.pool.now c.args.guest.now.running (g.H.Host.bytes c.args.host.now)) old new before after _ _ _ pages fills filled false no_notes (empty_in g c.args.pool.now c.args.guest.now.running (g.H.Host.bytes c.args.host.now)) pause _ (g.O.Sink.faults c.slice.new.out) _ memory c.requires.fits c.requires.first has h put c.in-Ok.ensures.later c.in-Err-put_end.ensures.cause }
 
 pub returns-in-Ok-put_end : goal.returns-in-Ok-put_end
 returns-in-Ok-put_end g c =
@@ -79,13 +96,13 @@ returns-in-Ok-put_end g c =
     let after : Counts = record { retired = g.H.Host.retired c.slice.new.host; passed = g.H.Host.passed c.slice.new.host } in
     let old = state_of roots.stands roots.frames roots.slots m c.args.guest.now.running (g.H.Host.bytes c.args.host.now) in
     let new = state_of roots.stands roots.frames roots.slots m c.slice.new.self.running memory in
-    let h = subst (λ (n : ℕ). SliceAs m n old new before after (g.O.Sink.taken c.args.out.now) (g.O.Sink.taken c.slice.new.out) pages fills filled false no_notes (Ok pause)) is c.in-Ok.ensures.slice in
+    let h = subst (λ (n : ℕ). SliceAs m n old new before after (g.O.Sink.taken c.args.out.now) (g.O.Sink.taken c.slice.new.out) pages fills filled false no_notes (empty_in g c.args.pool.now c.args.guest.now.running (g.H.Host.bytes c.args.host.now)) (Ok pause)) is c.in-Ok.ensures.slice in
     let has = front_held pause image script f c.slice.new.self.running c.slice.new.pool memory c.in-Ok.ensures.held in
     let put = subst (λ (k : ℕ). Appends (g.O.Sink.taken c.slice.new.out) (g.O.Sink.taken c.put_end.new.out) (end_line k (end_of pause))) c.step.ensures
     (subst (λ (x : End). Appends (g.O.Sink.taken c.slice.new.out) (g.O.Sink.taken c.put_end.new.out) (end_line c.step.result x)) c.end_of.ensures c.in-Ok-put_end.ensures.ok) in
-    let done = whole_put image script f c.args.n old new before after _ _ _ pages fills filled false no_notes pause _ (g.O.Sink.faults c.slice.new.out) _ memory c.requires.fits c.requires.first c.requires.none c.requires.unfilled c.in-Ok.ensures.few has h put c.in-Ok.ensures.later c.in-Ok-put_end.ensures.later in
+    let done = whole_put image script f c.args.n (pool_in g c.args.pool.now c.args.guest.now.running (g.H.Host.bytes c.args.host.now)) old new before after _ _ _ pages fills filled false no_notes (empty_in g c.args.pool.now c.args.guest.now.running (g.H.Host.bytes c.args.host.now)) pause _ (g.O.Sink.faults c.slice.new.out) _ memory c.requires.fits c.requires.first (begins_in g m c.args.pool.now c.args.guest.now.running (g.H.Host.bytes c.args.host.now) c.requires.first c.requires.two) c.requires.none c.requires.unfilled c.in-Ok.ensures.few has h put c.in-Ok.ensures.later c.in-Ok-put_end.ensures.later in
     record {
-      whole = subst (λ (k : ℕ). WedgeAnswers image script f c.args.n (g.O.Sink.taken c.args.out.now) (g.O.Sink.taken c.put_end.new.out) (g.O.Sink.faults c.args.out.now) (g.O.Sink.faults c.put_end.new.out) before after memory (Ok (record { steps = k; end = c.end_of.result; fills = c.fills.result }))) (sym c.step.ensures)
-          (subst (λ (x : End). WedgeAnswers image script f c.args.n (g.O.Sink.taken c.args.out.now) (g.O.Sink.taken c.put_end.new.out) (g.O.Sink.faults c.args.out.now) (g.O.Sink.faults c.put_end.new.out) before after memory (Ok (record { steps = c.slice.new.self.running.step; end = x; fills = c.fills.result }))) (sym c.end_of.ensures)
-          (subst (λ (k : ℕ). WedgeAnswers image script f c.args.n (g.O.Sink.taken c.args.out.now) (g.O.Sink.taken c.put_end.new.out) (g.O.Sink.faults c.args.out.now) (g.O.Sink.faults c.put_end.new.out) before after memory (Ok (record { steps = c.slice.new.self.running.step; end = end_of pause; fills = k }))) (sym c.fills.ensures) done));
+      whole = subst (λ (k : ℕ). WedgeAnswers image script f c.args.n (pool_in g c.args.pool.now c.args.guest.now.running (g.H.Host.bytes c.args.host.now)) (g.O.Sink.taken c.args.out.now) (g.O.Sink.taken c.put_end.new.out) (g.O.Sink.faults c.args.out.now) (g.O.Sink.faults c.put_end.new.out) before after memory (Ok (record { steps = k; end = c.end_of.result; fills = c.fills.result }))) (sym c.step.ensures)
+          (subst (λ (x : End). WedgeAnswers image script f c.args.n (pool_in g c.args.pool.now c.args.guest.now.running (g.H.Host.bytes c.args.host.now)) (g.O.Sink.taken c.args.out.now) (g.O.Sink.taken c.put_end.new.out) (g.O.Sink.faults c.args.out.now) (g.O.Sink.faults c.put_end.new.out) before after memory (Ok (record { steps = c.slice.new.self.running.step; end = x; fills = c.fills.result }))) (sym c.end_of.ensures)
+          (subst (λ (k : ℕ). WedgeAnswers image script f c.args.n (pool_in g c.args.pool.now c.args.guest.now.running (g.H.Host.bytes c.args.host.now)) (g.O.Sink.taken c.args.out.now) (g.O.Sink.taken c.put_end.new.out) (g.O.Sink.faults c.args.out.now) (g.O.Sink.faults c.put_end.new.out) before after memory (Ok (record { steps = c.slice.new.self.running.step; end = end_of pause; fills = k }))) (sym c.fills.ensures) done));
     }

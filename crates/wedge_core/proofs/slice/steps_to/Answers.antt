@@ -1,14 +1,23 @@
-use Rattle.std.proofs.Common.{◌≡◌, ℕ, ◌+◌, ◌≤◌, Bool, true, List, Ok, Err, refl, sym, ap, subst, ◌∙◌, arith}
+use Rattle.std.proofs.Common.{◌≡◌, ℕ, ◌+◌, ◌≤◌, Bool, true, false, List, [], length, Ok, Err, refl, sym, ap, subst, ◌∙◌, arith}
 use Rattle.std.specs.FinMap.{len}
 use Rattle.descriptors.specs.declared.cpu.Cpu.{Cpu}
 use Rattle.image_check.specs.Image.{Image}
 use Rattle.shadow_tables.specs.Entries.{entries_of}
 use Rattle.pv_io.specs.Sink.{Appends, AppendsFront}
+use Rattle.frame_pool.specs.Held.{SameIn}
+use Rattle.frame_pool.specs.Pool.{free_list}
+use Rattle.frame_pool.specs.declared.Pool.{Pool}
 use Rattle.board.specs.Boards.{given}
+use Rattle.board.specs.Scripts.{Events}
 use Rattle.image_load.specs.declared.fault.Pause.TheVariants.{Stopped}
 use Rattle.run_trace.specs.declared.items.Item.{Item}
 use Rattle.run_trace.specs.Text.{lines_of}
-use Rattle.machine_model.specs.State.{wedge}
+use Rattle.machine_model.specs.State.{Setting, State, wedge}
+use Rattle.machine_model.specs.Run.{Set}
+use Rattle.machine_model.specs.Taken.{Taken}
+use Rattle.kept_laws.specs.Known.{IsOfPages}
+use Rattle.wedge_core.specs.Carried.{IsCarried}
+use Rattle.wedge_core.specs.CarryLaws.{CarryLaws}
 use Rattle.machine_model.specs.Step.{items_at}
 use Rattle.machine_step.specs.Worked.{whats}
 use Rattle.wedge_core.specs.declared.running.Running.{Running}
@@ -18,19 +27,55 @@ use Rattle.wedge_core.specs.Slices.{Counts, SliceAs}
 use Rattle.wedge_core.specs.Ready.{IsReady}
 use Rattle.wedge_core.specs.Standing.{IsHeld, IsAble, ground, state_of}
 use Rattle.wedge_core.specs.Stepping.{Passes, StepAs}
-use Rattle.wedge_core.proofs.Going.{going_none, going_past, going_on, stepped_put, reached, stopped, failed, counted, counts_same, turned, notes_on_more, notes_on_none}
+use Rattle.wedge_core.proofs.CarriedOver.{CarriedWith, Widens, with_kept, carries_past, carried_there, room_at, whole_then, step_carries}
+use Rattle.wedge_core.proofs.Passed.{CarriesPast}
+use Rattle.wedge_core.proofs.Going.{StepCarries, going_none, going_past, going_turned, going_on, stepped_put, reached, stopped, failed, counted, counts_same, turned, notes_on_more, notes_on_none}
 use Rattle.wedge_core.specs.Filled.{FillsOn, pages_kept}
 use Rattle.wedge_core.proofs.Filling.{fills_same, fills_join, fills_within}
 use Rattle.wedge_core.proofs.Keeping.{keeps_same, keeps_join, held_later, held_given, held_at, enough_then}
 use Rattle.wedge_core.proofs.slice.steps_to.Given.{Over}
 use Rattle.wedge_core.proofs.slice.steps_to.Goals as goal
 
+-- the pages of what is kept present are some of all
+module _ (g : Over) where
+  few : (r : Running g.row.S.Denot) (memory : List ℕ) (pages before after : ℕ) → FillsOn pages (pages_kept g.S.Shadows.slots g.S.Shadows.asides r.shadows memory) before after → FillsOn pages (len (entries_of (g.S.Shadows.slots r.shadows memory))) before after
+  few r memory pages before after f = fills_within pages (len (entries_of (g.S.Shadows.slots r.shadows memory))) (pages_kept g.S.Shadows.slots g.S.Shadows.asides r.shadows memory) before after (omega arith) f
+
+  -- how the slice begins, where its sets keep the rule
+  abbrev Begun : Image → Events → ℕ → Running g.row.S.Denot → List ℕ → Pool → Bool → Type 0
+  Begun image script f r memory pool wanted =
+      IsCarried g.S.Shadows.slots g.S.Shadows.noted g.S.Shadows.marked g.S.Shadows.asides g.S.Shadows.opened (wedge image script f) [] (state_of g.S.Shadows.stands g.S.Shadows.frames g.S.Shadows.slots (wedge image script f) r memory) r.shadows memory
+      × (length (free_list pool memory) + r.held ≡ 512) × (wanted ≡ false)
+
+  abbrev Knows : Setting → Running g.row.S.Denot → List ℕ → Set → List Taken → State → Type 0
+  Knows m r memory kept steps b = CarriedWith g.S.Shadows.stands g.S.Shadows.frames g.S.Shadows.slots g.S.Shadows.noted g.S.Shadows.marked g.S.Shadows.asides g.S.Shadows.opened m r.shadows memory kept steps b
+
+  widens : Widens g.S.Shadows.stands g.S.Shadows.frames g.S.Shadows.slots g.S.Shadows.noted g.S.Shadows.marked g.S.Shadows.asides g.S.Shadows.opened
+  widens = record { same_asides = g.met.S.Shadows.same_asides; same_opened = g.met.S.Shadows.same_opened; wider = g.met.S.Shadows.wider; sized = g.met.S.Reloads.sized }
+
+  known_past : CarryLaws → (m : Setting) (r : Running g.row.S.Denot) (memory : List ℕ) → CarriesPast m (Knows m r memory)
+  known_past laws m r memory = carries_past g.S.Shadows.stands g.S.Shadows.frames g.S.Shadows.slots g.S.Shadows.noted g.S.Shadows.marked g.S.Shadows.asides g.S.Shadows.opened widens laws m r.shadows memory
+
+  known_there : CarryLaws → (m : Setting) (r mid : Running g.row.S.Denot) (memory then : List ℕ) (kept : Set) → mid.shadows ≡ r.shadows → ∥ g.S.Shadows.stands r.shadows memory ∥₁
+      → SameIn (g.S.Shadows.frames r.shadows memory) memory then → (steps : List Taken) (b : State) → Knows m r memory kept steps b → Knows m mid then kept steps b
+  known_there laws m r mid memory then kept is stand same steps b =
+      carried_there g.S.Shadows.stands g.S.Shadows.frames g.S.Shadows.slots g.S.Shadows.noted g.S.Shadows.marked g.S.Shadows.asides g.S.Shadows.opened widens laws m r.shadows mid.shadows memory then kept steps b is stand same
+
+  of_pages : (r : Running g.row.S.Denot) (memory : List ℕ) → IsOfPages (entries_of (g.S.Shadows.slots r.shadows memory))
+  of_pages r memory = λ page beyond. g.met.S.Shadows.none_beyond r.shadows memory page beyond
+
+  ready_at : (image : Image) (f n : ℕ) (cpu : Cpu) (s : g.row.S.Denot) (memory : List ℕ) → f ≡ n → IsReady g.S.Shadows.slots g.S.Shadows.noted g.S.Shadows.marked g.S.Shadows.value g.S.Shadows.asides (ground image f) cpu s memory → IsReady g.S.Shadows.slots g.S.Shadows.noted g.S.Shadows.marked g.S.Shadows.value g.S.Shadows.asides (ground image n) cpu s memory
+  ready_at image f n cpu s memory is h = subst (λ (k : ℕ). IsReady g.S.Shadows.slots g.S.Shadows.noted g.S.Shadows.marked g.S.Shadows.value g.S.Shadows.asides (ground image k) cpu s memory) is h
+
 pub loop-running-init : goal.loop-running-init
 loop-running-init g c =
     let m = wedge c.args.image.now c.args.script.now.list c.args.running.now.frames in
     record {
       going = going_none m (state_of g.S.Shadows.stands g.S.Shadows.frames g.S.Shadows.slots m c.args.running.now (g.H.Host.bytes c.args.host.now)) (counted (g.H.Host.retired c.args.host.now) (g.H.Host.passed c.args.host.now)) (g.O.Sink.taken c.args.out.now) (pages_kept g.S.Shadows.slots g.S.Shadows.asides c.args.running.now.shadows (g.H.Host.bytes c.args.host.now)) c.args.running.now.fills (g.L.Notes.wants c.args.notes.now)
-          (NotesOn (g.L.Notes.wants c.args.notes.now) (g.L.Notes.tells c.args.notes.now) (g.L.Notes.tells c.args.notes.now)) (notes_on_none (g.L.Notes.wants c.args.notes.now) (g.L.Notes.tells c.args.notes.now)) (omega arith);
+          (NotesOn (g.L.Notes.wants c.args.notes.now) (g.L.Notes.tells c.args.notes.now) (g.L.Notes.tells c.args.notes.now)) (Begun g c.args.image.now c.args.script.now.list c.args.running.now.frames c.args.running.now (g.H.Host.bytes c.args.host.now) c.args.pool.now (g.L.Notes.wants c.args.notes.now)) (Knows g m c.args.running.now (g.H.Host.bytes c.args.host.now))
+          (notes_on_none (g.L.Notes.wants c.args.notes.now) (g.L.Notes.tells c.args.notes.now)) (omega arith)
+          (λ s. with_kept g.S.Shadows.stands g.S.Shadows.frames g.S.Shadows.slots g.S.Shadows.noted g.S.Shadows.marked g.S.Shadows.asides g.S.Shadows.opened m c.args.running.now.shadows (g.H.Host.bytes c.args.host.now) []
+          (state_of g.S.Shadows.stands g.S.Shadows.frames g.S.Shadows.slots m c.args.running.now (g.H.Host.bytes c.args.host.now)) s.0);
       held = c.requires.held;
       ready = c.requires.ready;
       able = c.requires.able;
@@ -48,14 +93,6 @@ loop-running-init g c =
 
 pub stretch-requires-clause-held : goal.stretch-requires-clause-held
 stretch-requires-clause-held g c = (c.loop-running.pool, held_given g.S.Shadows.stands g.S.Shadows.frames g.S.Shadows.slots c.args.image.now c.args.running.now.frames c.loop-running.running.frames c.loop-running.running c.begin.new.self c.loop-running.pool (g.H.Host.bytes c.loop-running.host) c.loop-running.invariant.frames c.loop-running.invariant.held)
-
--- the pages of what is kept present are some of all
-module _ (g : Over) where
-  few : (r : Running g.row.S.Denot) (memory : List ℕ) (pages before after : ℕ) → FillsOn pages (pages_kept g.S.Shadows.slots g.S.Shadows.asides r.shadows memory) before after → FillsOn pages (len (entries_of (g.S.Shadows.slots r.shadows memory))) before after
-  few r memory pages before after f = fills_within pages (len (entries_of (g.S.Shadows.slots r.shadows memory))) (pages_kept g.S.Shadows.slots g.S.Shadows.asides r.shadows memory) before after (omega arith) f
-
-  ready_at : (image : Image) (f n : ℕ) (cpu : Cpu) (s : g.row.S.Denot) (memory : List ℕ) → f ≡ n → IsReady g.S.Shadows.slots g.S.Shadows.noted g.S.Shadows.marked g.S.Shadows.value g.S.Shadows.asides (ground image f) cpu s memory → IsReady g.S.Shadows.slots g.S.Shadows.noted g.S.Shadows.marked g.S.Shadows.value g.S.Shadows.asides (ground image n) cpu s memory
-  ready_at image f n cpu s memory is h = subst (λ (k : ℕ). IsReady g.S.Shadows.slots g.S.Shadows.noted g.S.Shadows.marked g.S.Shadows.value g.S.Shadows.asides (ground image k) cpu s memory) is h
 
 pub loop-running-preserved-then-stretch-gt0 : goal.loop-running-preserved-then-stretch-gt0
 loop-running-preserved-then-stretch-gt0 g c =
@@ -76,9 +113,14 @@ loop-running-preserved-then-stretch-gt0 g c =
     let passes = subst (λ (n : ℕ). Passes (wedge c.args.image.now c.args.script.now.list n) (at n r memory) (at n mid then_memory) so_far mid_counts) inv.frames
     (c.stretch.ensures.passes c.if-stretch-gt0.true r.board (sym c.begin.ensures)) in
     let on = NotesOn (g.L.Notes.wants c.args.notes.now) (g.L.Notes.tells c.args.notes.now) (g.L.Notes.tells c.loop-running.notes) in
+    let laws = c.carry_laws.ensures in
+    let begins = Begun g c.args.image.now c.args.script.now.list c.args.running.now.frames c.args.running.now (g.H.Host.bytes c.args.host.now) c.args.pool.now (g.L.Notes.wants c.args.notes.now) in
     record {
-      going = going_past m old (at f r memory) (at f mid then_memory) counts so_far mid_counts told tells (pages_kept g.S.Shadows.slots g.S.Shadows.asides c.args.running.now.shadows (g.H.Host.bytes c.args.host.now)) c.args.running.now.fills r.fills mid.fills (g.L.Notes.wants c.args.notes.now) on inv.going c.stretch.ensures.filled.rises
-          (few g mid then_memory _ _ _ (fills_join _ _ _ _ _ _ inv.filled c.stretch.ensures.filled)) passes;
+      going = going_turned m old (at f mid then_memory) counts mid_counts told tells (pages_kept g.S.Shadows.slots g.S.Shadows.asides c.args.running.now.shadows (g.H.Host.bytes c.args.host.now)) c.args.running.now.fills mid.fills (g.L.Notes.wants c.args.notes.now) on begins (Knows g m r memory) (Knows g m mid then_memory)
+          (known_there g laws m r mid memory then_memory (entries_of (g.S.Shadows.slots mid.shadows then_memory)) c.stretch.ensures.shadows inv.held.stand c.stretch.ensures.apart)
+          (going_past m old (at f r memory) (at f mid then_memory) counts so_far mid_counts told tells (pages_kept g.S.Shadows.slots g.S.Shadows.asides c.args.running.now.shadows (g.H.Host.bytes c.args.host.now)) c.args.running.now.fills r.fills mid.fills (g.L.Notes.wants c.args.notes.now) on begins (Knows g m r memory) inv.going c.stretch.ensures.filled.rises
+          (few g mid then_memory _ _ _ (fills_join _ _ _ _ _ _ inv.filled c.stretch.ensures.filled)) laws (known_past g laws m r memory) (of_pages g r memory)
+          (room_at g.S.Shadows.stands g.S.Shadows.frames g.S.Shadows.slots g.S.Shadows.noted g.S.Shadows.marked g.S.Shadows.asides g.S.Shadows.opened c.args.image.now c.args.script.now.list f r c.loop-running.pool memory inv.held) passes);
       held = held_at g.S.Shadows.stands g.S.Shadows.frames g.S.Shadows.slots c.args.image.now r.frames f mid c.loop-running.pool then_memory inv.frames (c.stretch.ensures.held c.loop-running.pool (held_given g.S.Shadows.stands g.S.Shadows.frames g.S.Shadows.slots c.args.image.now c.args.running.now.frames c.loop-running.running.frames c.loop-running.running c.begin.new.self c.loop-running.pool (g.H.Host.bytes c.loop-running.host) c.loop-running.invariant.frames c.loop-running.invariant.held));
       ready = ready_at g c.args.image.now r.frames f mid.cpu mid.shadows then_memory inv.frames (c.stretch.ensures.ready (ready_at g c.args.image.now f r.frames r.cpu r.shadows memory (sym inv.frames) inv.ready));
       able = c.stretch.ensures.able;
@@ -156,9 +198,10 @@ returns-in-Err-clause-slice g c =
     let told_now = subst (λ (k : ℕ). NotesOn wanted before after (emptied_if new.lost.before k)) step_same
     (subst (λ (w : Bool). NotesOn w before after (emptied_if new.lost.before mid.step)) inv.wants c.tell.ensures.told) in
     let rises : r.fills ≤ new.fills = (let e0 = c.stretch.ensures.filled in let e1 = c.in-Err.ensures.filled in let r0 = e0.rises in let r1 = e1.rises in omega (arith, r0, r1)) in
+    let begins = Begun g c.args.image.now c.args.script.now.list c.args.running.now.frames c.args.running.now (g.H.Host.bytes c.args.host.now) c.args.pool.now (g.L.Notes.wants c.args.notes.now) in
     let ends = stopped m c.args.bound old (at f r memory) (at f new new_memory) new.lost c.in-Err.stop counts so_far told tells (pages_kept g.S.Shadows.slots g.S.Shadows.asides c.args.running.now.shadows (g.H.Host.bytes c.args.host.now)) c.args.running.now.fills r.fills new.fills wanted (NotesOn wanted first before) (NotesOn wanted first after)
-    inv.going step c.loop-running-test.true still rises (notes_on_more wanted first before after (emptied_if new.lost.before r.step) told_now) in
-    subst (λ (x : Counts). SliceAs m c.args.bound old (at f new new_memory) counts x told tells (pages_kept g.S.Shadows.slots g.S.Shadows.asides c.args.running.now.shadows (g.H.Host.bytes c.args.host.now)) c.args.running.now.fills new.fills wanted (NotesOn wanted first after) (Ok (Stopped c.in-Err.stop))) (sym unmoved) ends
+    begins (Knows g m r memory) inv.going step c.loop-running-test.true still rises (notes_on_more wanted first before after (emptied_if new.lost.before r.step) told_now) in
+    subst (λ (x : Counts). SliceAs m c.args.bound old (at f new new_memory) counts x told tells (pages_kept g.S.Shadows.slots g.S.Shadows.asides c.args.running.now.shadows (g.H.Host.bytes c.args.host.now)) c.args.running.now.fills new.fills wanted (NotesOn wanted first after) begins (Ok (Stopped c.in-Err.stop))) (sym unmoved) ends
 
 pub returns-in-Err-clause-wants : goal.returns-in-Err-clause-wants
 returns-in-Err-clause-wants g c = c.tell.ensures.wants ∙ c.loop-running.invariant.wants
@@ -221,9 +264,20 @@ returns-in-Err-put_step-clause-slice g c =
     let rises : r.fills ≤ new.fills = (let e0 = c.stretch.ensures.filled in let e1 = c.in-Ok.ensures.filled in let r0 = e0.rises in let r1 = e1.rises in omega (arith, r0, r1)) in
     let more = few g new new_memory _ _ _ (fills_join _ _ _ _ _ _ (fills_join _ _ _ _ _ _ inv.filled c.stretch.ensures.filled) c.in-Ok.ensures.filled) in
     let exact = λ (w : wanted ≡ true). c.in-Ok.ensures.wanted (inv.wanted ∙ w) in
+    let laws = c.carry_laws.ensures in
+    let begins = Begun g c.args.image.now c.args.script.now.list c.args.running.now.frames c.args.running.now (g.H.Host.bytes c.args.host.now) c.args.pool.now (g.L.Notes.wants c.args.notes.now) in
+    let held_mid = held_at g.S.Shadows.stands g.S.Shadows.frames g.S.Shadows.slots c.args.image.now r.frames f mid c.loop-running.pool then_memory inv.frames (c.stretch.ensures.held c.loop-running.pool (held_given g.S.Shadows.stands g.S.Shadows.frames g.S.Shadows.slots c.args.image.now c.args.running.now.frames c.loop-running.running.frames c.loop-running.running c.begin.new.self c.loop-running.pool (g.H.Host.bytes c.loop-running.host) c.loop-running.invariant.frames c.loop-running.invariant.held)) in
+    let keeps_mid = keeps_join c.args.pool.now c.loop-running.pool c.loop-running.pool (g.H.Host.bytes c.args.host.now) memory then_memory
+    (g.S.Shadows.frames c.args.running.now.shadows (g.H.Host.bytes c.args.host.now)) (g.S.Shadows.frames r.shadows memory) (g.S.Shadows.frames mid.shadows then_memory)
+    inv.pool (c.stretch.ensures.pool c.loop-running.pool (held_given g.S.Shadows.stands g.S.Shadows.frames g.S.Shadows.slots c.args.image.now c.args.running.now.frames c.loop-running.running.frames c.loop-running.running c.begin.new.self c.loop-running.pool (g.H.Host.bytes c.loop-running.host) c.loop-running.invariant.frames c.loop-running.invariant.held)) in
+    let over : StepCarries m (at f r memory) (at f new new_memory) new.lost begins (Knows g m r memory) (Knows g m new new_memory) =
+    step_carries g.S.Shadows.stands g.S.Shadows.frames g.S.Shadows.slots g.S.Shadows.noted g.S.Shadows.marked g.S.Shadows.asides g.S.Shadows.opened (widens g) laws c.args.image.now c.args.script.now.list f r mid new memory then_memory new_memory c.loop-running.pool c.begin.new.self begins c.wanted-wanted.result
+    (c.stretch.ensures.frames ∙ inv.frames) stays c.begin.ensures inv.held held_mid c.stretch.ensures.shadows c.stretch.ensures.apart (λ s. inv.wanted ∙ s.2)
+    (λ s. whole_then g.S.Shadows.stands g.S.Shadows.frames g.S.Shadows.slots g.S.Shadows.noted g.S.Shadows.marked g.S.Shadows.asides g.S.Shadows.opened (widens g) laws (ground c.args.image.now f) c.args.running.now mid c.args.pool.now c.loop-running.pool (g.H.Host.bytes c.args.host.now) then_memory c.requires.held held_mid keeps_mid s.1)
+    c.in-Ok.ensures.carried c.in-Ok.ensures.clashed in
     let s = going_on m old (at f r memory) (at f new new_memory) new.lost c.in-Ok.seen counts so_far new_counts told tells (pages_kept g.S.Shadows.slots g.S.Shadows.asides c.args.running.now.shadows (g.H.Host.bytes c.args.host.now)) c.args.running.now.fills r.fills new.fills wanted (NotesOn wanted first before) (NotesOn wanted first after)
-    inv.going step count rises more exact (notes_on_more wanted first before after (notes_then new.lost r.step) told_now) in
-    failed m c.args.bound old (at f r memory) (at f new new_memory) c.in-Ok.seen c.in-Err-put_step.failed counts new_counts told tells last (pages_kept g.S.Shadows.slots g.S.Shadows.asides c.args.running.now.shadows (g.H.Host.bytes c.args.host.now)) c.args.running.now.fills new.fills wanted (NotesOn wanted first after) s put
+    begins (Knows g m r memory) (Knows g m new new_memory) inv.going step count rises more exact laws (known_past g laws m r memory) over (notes_on_more wanted first before after (notes_then new.lost r.step) told_now) in
+    failed m c.args.bound old (at f r memory) (at f new new_memory) c.in-Ok.seen c.in-Err-put_step.failed counts new_counts told tells last (pages_kept g.S.Shadows.slots g.S.Shadows.asides c.args.running.now.shadows (g.H.Host.bytes c.args.host.now)) c.args.running.now.fills new.fills wanted (NotesOn wanted first after) begins (Knows g m new new_memory) s put
     (let t = c.loop-running-test.true in omega (arith, count, t))
 
 pub loop-running-preserved : goal.loop-running-preserved
@@ -265,20 +319,34 @@ loop-running-preserved g c =
     let rises : r.fills ≤ new.fills = (let e0 = c.stretch.ensures.filled in let e1 = c.in-Ok.ensures.filled in let r0 = e0.rises in let r1 = e1.rises in omega (arith, r0, r1)) in
     let more = few g new new_memory _ _ _ (fills_join _ _ _ _ _ _ (fills_join _ _ _ _ _ _ inv.filled c.stretch.ensures.filled) c.in-Ok.ensures.filled) in
     let exact = λ (w : wanted ≡ true). c.in-Ok.ensures.wanted (inv.wanted ∙ w) in
+    let laws = c.carry_laws.ensures in
+    let begins = Begun g c.args.image.now c.args.script.now.list c.args.running.now.frames c.args.running.now (g.H.Host.bytes c.args.host.now) c.args.pool.now (g.L.Notes.wants c.args.notes.now) in
+    let held_mid = held_at g.S.Shadows.stands g.S.Shadows.frames g.S.Shadows.slots c.args.image.now r.frames f mid c.loop-running.pool then_memory inv.frames (c.stretch.ensures.held c.loop-running.pool (held_given g.S.Shadows.stands g.S.Shadows.frames g.S.Shadows.slots c.args.image.now c.args.running.now.frames c.loop-running.running.frames c.loop-running.running c.begin.new.self c.loop-running.pool (g.H.Host.bytes c.loop-running.host) c.loop-running.invariant.frames c.loop-running.invariant.held)) in
+    let keeps_mid = keeps_join c.args.pool.now c.loop-running.pool c.loop-running.pool (g.H.Host.bytes c.args.host.now) memory then_memory
+    (g.S.Shadows.frames c.args.running.now.shadows (g.H.Host.bytes c.args.host.now)) (g.S.Shadows.frames r.shadows memory) (g.S.Shadows.frames mid.shadows then_memory)
+    inv.pool (c.stretch.ensures.pool c.loop-running.pool (held_given g.S.Shadows.stands g.S.Shadows.frames g.S.Shadows.slots c.args.image.now c.args.running.now.frames c.loop-running.running.frames c.loop-running.running c.begin.new.self c.loop-running.pool (g.H.Host.bytes c.loop-running.host) c.loop-running.invariant.frames c.loop-running.invariant.held)) in
+    let over : StepCarries m (at f r memory) (at f new new_memory) new.lost begins (Knows g m r memory) (Knows g m new new_memory) =
+    step_carries g.S.Shadows.stands g.S.Shadows.frames g.S.Shadows.slots g.S.Shadows.noted g.S.Shadows.marked g.S.Shadows.asides g.S.Shadows.opened (widens g) laws c.args.image.now c.args.script.now.list f r mid new memory then_memory new_memory c.loop-running.pool c.begin.new.self begins c.wanted-wanted.result
+    (c.stretch.ensures.frames ∙ inv.frames) stays c.begin.ensures inv.held held_mid c.stretch.ensures.shadows c.stretch.ensures.apart (λ s. inv.wanted ∙ s.2)
+    (λ s. whole_then g.S.Shadows.stands g.S.Shadows.frames g.S.Shadows.slots g.S.Shadows.noted g.S.Shadows.marked g.S.Shadows.asides g.S.Shadows.opened (widens g) laws (ground c.args.image.now f) c.args.running.now mid c.args.pool.now c.loop-running.pool (g.H.Host.bytes c.args.host.now) then_memory c.requires.held held_mid keeps_mid s.1)
+    c.in-Ok.ensures.carried c.in-Ok.ensures.clashed in
     let s = going_on m old (at f r memory) (at f new new_memory) new.lost c.in-Ok.seen counts so_far new_counts told tells (pages_kept g.S.Shadows.slots g.S.Shadows.asides c.args.running.now.shadows (g.H.Host.bytes c.args.host.now)) c.args.running.now.fills r.fills new.fills wanted (NotesOn wanted first before) (NotesOn wanted first after)
-    inv.going step count rises more exact (notes_on_more wanted first before after (notes_then new.lost r.step) told_now) in
-    let stepped = stepped_put m old (at f r memory) (at f new new_memory) c.in-Ok.seen counts new_counts told tells last (pages_kept g.S.Shadows.slots g.S.Shadows.asides c.args.running.now.shadows (g.H.Host.bytes c.args.host.now)) c.args.running.now.fills new.fills wanted (NotesOn wanted first after) s put in
+    begins (Knows g m r memory) (Knows g m new new_memory) inv.going step count rises more exact laws (known_past g laws m r memory) over (notes_on_more wanted first before after (notes_then new.lost r.step) told_now) in
+    let stepped = stepped_put m old (at f r memory) (at f new new_memory) c.in-Ok.seen counts new_counts told tells last (pages_kept g.S.Shadows.slots g.S.Shadows.asides c.args.running.now.shadows (g.H.Host.bytes c.args.host.now)) c.args.running.now.fills new.fills wanted (NotesOn wanted first after) begins (Knows g m new new_memory) s put in
     let rested = c.rest.new.running in
     let frames_then : new.frames ≡ f = c.in-Ok.ensures.frames ∙ (c.stretch.ensures.frames ∙ inv.frames) in
     let passes = subst (λ (n : ℕ). Passes (wedge c.args.image.now c.args.script.now.list n) (at n new new_memory) (at n rested new_memory) new_counts new_counts) frames_then
     (c.rest.ensures.passes c.args.image.now new_memory new_counts) in
-    let held = held_later g.S.Shadows.stands g.S.Shadows.frames g.S.Shadows.slots (ground c.args.image.now f) new rested.board rested.step c.one_step.new.pool new_memory c.rest.ensures.later
-    (held_at g.S.Shadows.stands g.S.Shadows.frames g.S.Shadows.slots c.args.image.now mid.frames f new c.one_step.new.pool new_memory (c.stretch.ensures.frames ∙ inv.frames) c.in-Ok.ensures.held) in
+    let held_new = held_at g.S.Shadows.stands g.S.Shadows.frames g.S.Shadows.slots c.args.image.now mid.frames f new c.one_step.new.pool new_memory (c.stretch.ensures.frames ∙ inv.frames) c.in-Ok.ensures.held in
+    let held = held_later g.S.Shadows.stands g.S.Shadows.frames g.S.Shadows.slots (ground c.args.image.now f) new rested.board rested.step c.one_step.new.pool new_memory c.rest.ensures.later held_new in
     let as_were : rested ≡ record new { board = rested.board; step = rested.step } = c.rest.ensures.same in
     record {
-      going = going_past m old (at f new new_memory) (at f rested new_memory) counts new_counts new_counts told last (pages_kept g.S.Shadows.slots g.S.Shadows.asides c.args.running.now.shadows (g.H.Host.bytes c.args.host.now)) c.args.running.now.fills new.fills rested.fills wanted (NotesOn wanted first after) stepped
+      going = going_turned m old (at f rested new_memory) counts new_counts told last (pages_kept g.S.Shadows.slots g.S.Shadows.asides c.args.running.now.shadows (g.H.Host.bytes c.args.host.now)) c.args.running.now.fills rested.fills wanted (NotesOn wanted first after) begins (Knows g m new new_memory) (Knows g m rested new_memory)
+          (known_there g laws m new rested new_memory new_memory (entries_of (g.S.Shadows.slots rested.shadows new_memory)) (ap (λ (x : Running g.row.S.Denot). x.shadows) as_were) held_new.stand (record { size = refl; frames = λ frame e. refl }))
+          (going_past m old (at f new new_memory) (at f rested new_memory) counts new_counts new_counts told last (pages_kept g.S.Shadows.slots g.S.Shadows.asides c.args.running.now.shadows (g.H.Host.bytes c.args.host.now)) c.args.running.now.fills new.fills rested.fills wanted (NotesOn wanted first after) begins (Knows g m new new_memory) stepped
           (subst (λ (x : Running g.row.S.Denot). new.fills ≤ x.fills) (sym as_were) (omega arith))
-          (subst (λ (x : Running g.row.S.Denot). FillsOn (pages_kept g.S.Shadows.slots g.S.Shadows.asides c.args.running.now.shadows (g.H.Host.bytes c.args.host.now)) (len (entries_of (g.S.Shadows.slots x.shadows new_memory))) c.args.running.now.fills x.fills) (sym as_were) more) passes;
+          (subst (λ (x : Running g.row.S.Denot). FillsOn (pages_kept g.S.Shadows.slots g.S.Shadows.asides c.args.running.now.shadows (g.H.Host.bytes c.args.host.now)) (len (entries_of (g.S.Shadows.slots x.shadows new_memory))) c.args.running.now.fills x.fills) (sym as_were) more)
+          laws (known_past g laws m new new_memory) (of_pages g new new_memory) (room_at g.S.Shadows.stands g.S.Shadows.frames g.S.Shadows.slots g.S.Shadows.noted g.S.Shadows.marked g.S.Shadows.asides g.S.Shadows.opened c.args.image.now c.args.script.now.list f new c.one_step.new.pool new_memory held_new) passes);
       held = subst (λ (x : Running g.row.S.Denot). IsHeld g.S.Shadows.stands g.S.Shadows.frames g.S.Shadows.slots (ground c.args.image.now f) x c.one_step.new.pool new_memory) (sym as_were) held;
       ready = subst (λ (x : Running g.row.S.Denot). IsReady g.S.Shadows.slots g.S.Shadows.noted g.S.Shadows.marked g.S.Shadows.value g.S.Shadows.asides (ground c.args.image.now f) x.cpu x.shadows new_memory) (sym as_were)
           (ready_at g c.args.image.now mid.frames f new.cpu new.shadows new_memory (c.stretch.ensures.frames ∙ inv.frames) c.in-Ok.ensures.ready);
@@ -314,7 +382,8 @@ returns-clause-slice g c =
     let told = g.O.Sink.taken c.args.out.now in
     let tells = g.O.Sink.taken c.loop-running.out in
     let inv = c.loop-running.invariant in
-    reached m c.args.bound old (at f r memory) counts so_far told tells (pages_kept g.S.Shadows.slots g.S.Shadows.asides c.args.running.now.shadows (g.H.Host.bytes c.args.host.now)) c.args.running.now.fills r.fills (g.L.Notes.wants c.args.notes.now) (NotesOn (g.L.Notes.wants c.args.notes.now) (g.L.Notes.tells c.args.notes.now) (g.L.Notes.tells c.loop-running.notes)) inv.going
+    reached m c.args.bound old (at f r memory) counts so_far told tells (pages_kept g.S.Shadows.slots g.S.Shadows.asides c.args.running.now.shadows (g.H.Host.bytes c.args.host.now)) c.args.running.now.fills r.fills (g.L.Notes.wants c.args.notes.now) (NotesOn (g.L.Notes.wants c.args.notes.now) (g.L.Notes.tells c.args.notes.now) (g.L.Notes.tells c.loop-running.notes))
+    (Begun g c.args.image.now c.args.script.now.list c.args.running.now.frames c.args.running.now (g.H.Host.bytes c.args.host.now) c.args.pool.now (g.L.Notes.wants c.args.notes.now)) (Knows g m r memory) inv.going
     (let a = inv.bound in let b = c.loop-running-test.false in omega (arith, a, b))
 
 pub returns-clause-few : goal.returns-clause-few

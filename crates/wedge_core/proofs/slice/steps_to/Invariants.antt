@@ -1,10 +1,13 @@
-use Rattle.std.proofs.Common.{◌≡◌, ◌+◌, ◌-◌, ◌≤◌, ◌<◌, ◌^◌, true, false}
+use Rattle.std.proofs.Common.{◌≡◌, ◌+◌, ◌-◌, ◌≤◌, ◌<◌, ◌^◌, true, false, [], length}
 use Rattle.machine_model.specs.State.{wedge}
 use Rattle.wedge_core.specs.Filled.{FillsOn, pages_kept}
 use Rattle.wedge_core.specs.Noted.{NotesOn}
 use Rattle.wedge_core.specs.Pools.{Keeps}
 use Rattle.wedge_core.specs.Ready.{IsReady}
 use Rattle.wedge_core.specs.Standing.{IsHeld, IsAble, ground, state_of}
+use Rattle.frame_pool.specs.Pool.{free_list}
+use Rattle.wedge_core.specs.Carried.{IsCarried}
+use Rattle.wedge_core.proofs.CarriedOver.{CarriedWith}
 use Rattle.wedge_core.proofs.Going.{Going}
 use Rattle.wedge_core.proofs.slice.steps_to.Given as goal
 
@@ -15,7 +18,11 @@ invariant-loop-running g l = record {
       (state_of g.S.Shadows.stands g.S.Shadows.frames g.S.Shadows.slots (wedge l.image l.script.list l.fn.running.frames) l.running (g.H.Host.bytes l.host))
       (record { retired = g.H.Host.retired l.fn.host; passed = g.H.Host.passed l.fn.host }) (record { retired = g.H.Host.retired l.host; passed = g.H.Host.passed l.host })
       (g.O.Sink.taken l.fn.out) (g.O.Sink.taken l.out) (pages_kept g.S.Shadows.slots g.S.Shadows.asides l.fn.running.shadows (g.H.Host.bytes l.fn.host)) l.fn.running.fills l.running.fills (g.L.Notes.wants l.fn.notes)
-      (NotesOn (g.L.Notes.wants l.fn.notes) (g.L.Notes.tells l.fn.notes) (g.L.Notes.tells l.notes));
+      (NotesOn (g.L.Notes.wants l.fn.notes) (g.L.Notes.tells l.fn.notes) (g.L.Notes.tells l.notes))
+      (IsCarried g.S.Shadows.slots g.S.Shadows.noted g.S.Shadows.marked g.S.Shadows.asides g.S.Shadows.opened (wedge l.image l.script.list l.fn.running.frames) []
+      (state_of g.S.Shadows.stands g.S.Shadows.frames g.S.Shadows.slots (wedge l.image l.script.list l.fn.running.frames) l.fn.running (g.H.Host.bytes l.fn.host)) l.fn.running.shadows (g.H.Host.bytes l.fn.host)
+      × (length (free_list l.fn.pool (g.H.Host.bytes l.fn.host)) + l.fn.running.held ≡ 512) × (g.L.Notes.wants l.fn.notes ≡ false))
+      (CarriedWith g.S.Shadows.stands g.S.Shadows.frames g.S.Shadows.slots g.S.Shadows.noted g.S.Shadows.marked g.S.Shadows.asides g.S.Shadows.opened (wedge l.image l.script.list l.fn.running.frames) l.running.shadows (g.H.Host.bytes l.host));
   held : IsHeld g.S.Shadows.stands g.S.Shadows.frames g.S.Shadows.slots (ground l.image l.fn.running.frames) l.running l.pool (g.H.Host.bytes l.host);
   ready : IsReady g.S.Shadows.slots g.S.Shadows.noted g.S.Shadows.marked g.S.Shadows.value g.S.Shadows.asides (ground l.image l.fn.running.frames) l.running.cpu l.running.shadows (g.H.Host.bytes l.host);
   able : IsAble l.running.cpu;

@@ -94,6 +94,8 @@ returns g c =
           let slots_then = met.same_slots old.shadows memory memory_then h.stand inside in
           subst (λ (s : g.row.S.Denot). IsReady slots noted marked value asides (ground image old.frames) now.cpu s memory_then) (sym shadows)
           (ready_on stands slots noted marked value asides tracked directory tracks (ground image old.frames) h.wedge old.cpu now.cpu old.shadows memory memory_then h.host host_then rules.0 rules.1 rules.2 untouched slots_then asides_then ready);
+      shadows = shadows;
+      apart = inside;
       able = able_then stands frames slots directory laws image old.frames old c.requires.held.0 memory c.requires.held.1 views.lends views.sees c.advances.ensures c.requires.able may c.if-running.false retired passed k done now memory_then retired_then passed_then ran
           script quiet;
       started = c.run_on.ensures.started;

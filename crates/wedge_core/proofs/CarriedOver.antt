@@ -1,0 +1,147 @@
+-- What a run knows, over steps in which it has no part and over one step of its own.
+use Rattle.std.proofs.Common.{◌≡◌, ℕ, ◌+◌, ◌*◌, ◌<◌, ◌≤◌, Bool, true, false, eqb, Option, List, [], ◌∷◌, ◌++◌, length, refl, sym, ap, subst, ◌∙◌, arith}
+use Rattle.std.specs.Set.{is_member, distinct_count}
+use Rattle.frame_pool.specs.Held.{SameIn}
+use Rattle.frame_pool.specs.Pool.{free_list}
+use Rattle.frame_pool.specs.declared.Pool.{Pool}
+use Rattle.board.specs.declared.devices.Board.{Board}
+use Rattle.board.specs.Boards.{given}
+use Rattle.board.specs.Scripts.{Events}
+use Rattle.image_check.specs.Image.{Image}
+use Rattle.shadow_tables.specs.Aside.{Aside, AreSame}
+use Rattle.shadow_tables.specs.Entries.{entries_of}
+use Rattle.shadow_tables.specs.Slots.{Slot}
+use Rattle.machine_model.specs.State.{Setting, State, wedge}
+use Rattle.machine_model.specs.Run.{Set}
+use Rattle.machine_model.specs.Taken.{Taken}
+use Rattle.machine_model.specs.Clash.{clashes_from}
+use Rattle.machine_model.specs.Keeping.{Roomy}
+use Rattle.native_steps.specs.Stands.{shown}
+use Rattle.native_steps.proofs.Shown.{shown_length}
+use Rattle.kept_laws.specs.Carried.{indices_in}
+use Rattle.kept_laws.specs.Known.{IsKnown}
+use Rattle.wedge_core.specs.declared.running.Lost.{Lost}
+use Rattle.wedge_core.specs.declared.running.Running.{Running}
+use Rattle.wedge_core.specs.Carried.{IsCarried, IsTakenFrom}
+use Rattle.wedge_core.specs.CarryLaws.{CarryLaws}
+use Rattle.wedge_core.specs.Parts.{left_of, with_set}
+use Rattle.wedge_core.specs.Pools.{Keeps}
+use Rattle.wedge_core.specs.Standing.{IsHeld, ground, set_of, state_of}
+use Rattle.wedge_core.proofs.Going.{StepCarries, eventful}
+use Rattle.wedge_core.proofs.Landing.{shown_any}
+use Rattle.wedge_core.proofs.Passed.{CarriesPast}
+
+module _ {S : Type 0} (stands : S → List ℕ → Type 0) (frames : S → List ℕ → List ℕ) (slots : S → List ℕ → ℕ → Option Slot) (noted : S → ℕ → Bool) (marked : S → Bool) (asides : S → List ℕ → List Aside) (opened : S → List ℕ → (ℕ → Bool) → Type 0) where
+  -- all is known, where the next step goes by this set
+  pub record CarriedWith (m : Setting) (s : S) (memory : List ℕ) (kept : Set) (steps : List Taken) (b : State) : Type 0 where
+    pub known : IsKnown m steps b (noted s) (marked s) (asides s memory) kept
+    pub opened_to : opened s memory (λ index. is_member eqb (indices_in steps) index)
+
+  pub with_kept : (m : Setting) (s : S) (memory : List ℕ) (steps : List Taken) (b : State) → IsCarried slots noted marked asides opened m steps b s memory → CarriedWith m s memory (entries_of (slots s memory)) steps b
+  with_kept m s memory steps b c = record { known = c.known; opened_to = c.opened_to }
+
+  as_kept : (m : Setting) (s : S) (memory : List ℕ) (kept : Set) (steps : List Taken) (b : State) → entries_of (slots s memory) ≡ kept → CarriedWith m s memory kept steps b → IsCarried slots noted marked asides opened m steps b s memory
+  as_kept m s memory kept steps b is c =
+      record { known = subst (IsKnown m steps b (noted s) (marked s) (asides s memory)) (sym is) c.known; opened_to = c.opened_to }
+
+  -- the laws of shadows
+  pub record Widens : Type 0 where
+    pub same_asides : (s : S) (m m' : List ℕ) → ∥ stands s m ∥₁ → SameIn (frames s m) m m' → AreSame (asides s m) (asides s m')
+    pub same_opened : (s : S) (m m' : List ℕ) (indices : ℕ → Bool) → ∥ stands s m ∥₁ → SameIn (frames s m) m m' → opened s m indices → opened s m' indices
+    pub wider : (s : S) (m : List ℕ) (indices more : ℕ → Bool) → ((index : ℕ) → indices index ≡ true → more index ≡ true) → opened s m indices → opened s m more
+    pub sized : (s : S) (m : List ℕ) (indices : ℕ → Bool) (among : List ℕ) → ∥ stands s m ∥₁ → opened s m indices
+        → ((index : ℕ) → index < 1024 → indices index ≡ true → is_member eqb among index ≡ true) → length (frames s m) ≤ 8 * (2 + 2 * distinct_count eqb among)
+
+  -- the guest's memory has all its frames
+  pub room_at : (image : Image) (script : Events) (f : ℕ) (g : Running S) (pool : Pool) (memory : List ℕ) → IsHeld stands frames slots (ground image f) g pool memory → 4096 * f ≤ length (shown (wedge image script f) memory)
+  room_at image script f g pool memory h =
+      let long = shown_length (ground image f) h.wedge memory h.host in
+      let same = ap (λ (l : List ℕ). length l) (shown_any image script f memory) in
+      omega (arith, long, same)
+
+  module _ (widens : Widens) (laws : CarryLaws) where
+    pub carries_past : (m : Setting) (s : S) (memory : List ℕ) → CarriesPast m (CarriedWith m s memory)
+    carries_past m s memory = record {
+      next = λ kept steps b c. c.known.next;
+      past = λ kept steps t p c. record {
+        known = laws.quiet m steps t (noted s) (marked s) (asides s memory) kept p c.known;
+        opened_to = widens.wider s memory (λ index. is_member eqb (indices_in steps) index) (λ index. is_member eqb (indices_in (steps ++ t ∷ [])) index) (laws.grow steps t).0 c.opened_to;
+      };
+    }
+
+    -- over a change of memory elsewhere
+    pub carried_there : (m : Setting) (s s' : S) (memory then : List ℕ) (kept : Set) (steps : List Taken) (b : State) → s' ≡ s → ∥ stands s memory ∥₁ → SameIn (frames s memory) memory then
+        → CarriedWith m s memory kept steps b → CarriedWith m s' then kept steps b
+    carried_there m s s' memory then kept steps b is stand same c =
+        subst (λ (x : S). CarriedWith m x then kept steps b) (sym is) (record {
+          known = laws.still m steps b (noted s) (noted s) (marked s) (marked s) (asides s memory) (asides s then) kept
+              (record { notes = λ frame e. e; marks = λ e. e; others = widens.same_asides s memory then stand same }) c.known;
+          opened_to = widens.same_opened s memory then (λ index. is_member eqb (indices_in steps) index) stand same c.opened_to;
+        })
+
+    -- while the run is roomy few frames are held
+    few_held : (m : Setting) (s : S) (memory : List ℕ) (kept : Set) (steps : List Taken) (b : State) → ∥ stands s memory ∥₁ → Roomy steps → CarriedWith m s memory kept steps b → length (frames s memory) ≤ 400
+    few_held m s memory kept steps b stand roomy c =
+        let many = widens.sized s memory (λ index. is_member eqb (indices_in steps) index) (indices_in steps) stand c.opened_to (λ index lt h. h) in
+        let few = laws.few steps roomy in
+        omega (arith, many, few)
+
+    -- what one step of the run's own says of what is carried
+    abbrev pub Carries : Image → ℕ → Running S → Running S → List ℕ → List ℕ → Pool → Bool → Type 0
+    Carries image n old new memory then pool wanted =
+        (script : Events) (steps : List Taken) (t : Taken) → wanted ≡ false → length (free_list pool memory) + old.held ≡ 512 → Roomy (steps ++ t ∷ [])
+        → IsTakenFrom (wedge image script n) (state_of stands frames slots (wedge image script n) old memory) t → t.set ≡ left_of new.lost.before (set_of stands frames slots old memory)
+        → IsCarried slots noted marked asides opened (wedge image script n) steps t.before old.shadows memory → IsCarried slots noted marked asides opened (wedge image script n) (steps ++ t ∷ []) t.after new.shadows then
+
+    abbrev pub Clashed : Image → ℕ → Running S → Running S → List ℕ → Pool → Type 0
+    Clashed image n old new memory pool =
+        new.lost.before ≡ true → 8 ≤ length (free_list pool memory) → (script : Events) (b : State) → b.cpu ≡ old.cpu → b.ram ≡ shown (ground image n) memory → b.set ≡ set_of stands frames slots old memory
+        → given b.board script b.step ≡ old.board → clashes_from (wedge image script n) b ≡ true
+
+    -- the frames that are free and those that are held are as many as at first
+    pub whole_then : (m : Setting) (g now : Running S) (p q : Pool) (memory then : List ℕ) → IsHeld stands frames slots m g p memory → IsHeld stands frames slots m now q then
+        → Keeps p q memory then (frames g.shadows memory) (frames now.shadows then) → length (free_list p memory) + g.held ≡ 512 → length (free_list q then) + now.held ≡ 512
+    whole_then m g now p q memory then a b k whole =
+        let x = a.counted in
+        let y = b.counted in
+        let z = k.lengths in
+        omega (arith, x, y, z, whole)
+
+    -- a stretch in which nothing was done, and then one step of the run's own
+    module _ (image : Image) (script : Events) (f : ℕ) (r mid new : Running S) (memory then after : List ℕ) (pool : Pool) (board : Board) (begins : Type 0) (wanted : Bool) where
+      abbrev m : Setting
+      m = wedge image script f
+
+      abbrev now : State
+      now = state_of stands frames slots m r memory
+
+      pub step_carries : mid.frames ≡ f → state_of stands frames slots m mid then ≡ record now { board = board } → board ≡ given r.board script r.step
+          → IsHeld stands frames slots (ground image f) r pool memory → IsHeld stands frames slots (ground image f) mid pool then → mid.shadows ≡ r.shadows → SameIn (frames r.shadows memory) memory then
+          → (begins → wanted ≡ false) → (begins → length (free_list pool then) + mid.held ≡ 512)
+          → Carries image mid.frames mid new then after pool wanted → Clashed image mid.frames mid new then pool
+          → StepCarries m now (state_of stands frames slots m new after) new.lost begins (CarriedWith m r.shadows memory) (CarriedWith m new.shadows after)
+      step_carries same stays events held held_mid shadows apart unwanted whole carries clashed = record {
+        clash = λ s dropped steps left roomy c.
+            let there = carried_there m r.shadows mid.shadows memory then now.set steps (with_set now left) shadows held.stand apart c in
+            let few = few_held m mid.shadows then now.set steps (with_set now left) held_mid.stand roomy there in
+            let all = whole s in
+            let count = held_mid.counted in
+            clashed_at dropped (omega (arith, few, all, count)) script now
+            (sym (ap (λ (x : State). x.cpu) stays))
+            (sym (ap (λ (x : State). x.ram) stays) ∙ shown_any image script f then)
+            (sym (ap (λ (x : State). x.set) stays))
+            (sym events ∙ sym (ap (λ (x : State). x.board) stays));
+        over = λ s steps t roomy from set_is c.
+            let there = carried_there m r.shadows mid.shadows memory then now.set steps t.before shadows held.stand apart c in
+            let set_same : set_of stands frames slots mid then ≡ now.set = ap (λ (x : State). x.set) stays in
+            let is : eventful m now ≡ state_of stands frames slots m mid then = ap (λ (d : Board). record now { board = d }) (sym events) ∙ sym stays in
+            with_kept m new.shadows after (steps ++ t ∷ []) t.after
+            (carries_at script steps t (unwanted s) (whole s) roomy (subst (λ (x : State). IsTakenFrom m x t) is from) (set_is ∙ ap (left_of new.lost.before) (sym set_same))
+            (as_kept m mid.shadows then now.set steps t.before set_same there));
+      }
+        where
+          carries_at : Carries image f mid new then after pool wanted
+          carries_at = subst (λ (n : ℕ). Carries image n mid new then after pool wanted) same carries
+
+          clashed_at : Clashed image f mid new then pool
+          clashed_at = subst (λ (n : ℕ). Clashed image n mid new then pool) same clashed

@@ -1,0 +1,57 @@
+-- A slice of a guest, from what the guest makes of its shadows before it.
+use Rattle.std.proofs.Common.{◌≡◌, ℕ, ◌+◌, ◌≤◌, Bool, true, false, List, [], ◌∷◌, ◌++◌, Option, Result, Ok, Err, refl, sym, ap, subst, ◌∙◌, arith}
+use Rattle.std.specs.FinMap.{len, empty}
+use Rattle.std.proofs.lemmas.List.Elements.{All-weaker}
+use Rattle.pv_io.specs.declared.answer.Failed.{Failed}
+use Rattle.image_load.specs.declared.fault.Pause.{Pause}
+use Rattle.run_trace.specs.Notes.{Note}
+use Rattle.shadow_tables.specs.Aside.{Aside}
+use Rattle.shadow_tables.specs.Entries.{entries_of}
+use Rattle.shadow_tables.specs.Slots.{Slot}
+use Rattle.machine_model.specs.State.{Setting, State}
+use Rattle.machine_model.specs.Run.{Set}
+use Rattle.kept_laws.specs.Known.{IsKnown}
+use Rattle.wedge_core.specs.Carried.{IsCarried}
+use Rattle.wedge_core.specs.CarryLaws.{CarryLaws}
+use Rattle.wedge_core.specs.Filled.{FillsOn}
+use Rattle.wedge_core.specs.Slices.{Counts, SliceAs, Pauses}
+use Rattle.wedge_core.specs.Starts.{IsAsNew}
+
+-- at first no fewer pages were kept
+pub more_first : (a b new before after : ℕ) → a ≤ b → FillsOn a new before after → FillsOn b new before after
+more_first a b new before after le f =
+    let r = f.rises in
+    let e = f.enough in
+    record { rises = r; enough = omega (arith, e, le) }
+
+-- the same slice, begun so
+pub slice_begun : (m : Setting) (bound : ℕ) (old new : State) (before after : Counts) (told tells : Option (List ℕ)) (first pages fills filled : ℕ) (wanted : Bool) (notes_on : List Note → Type 0) (begins starts : Type 0) (result : Result Pause Failed) → first ≤ pages → (starts → begins)
+    → SliceAs m bound old new before after told tells first fills filled wanted notes_on begins result → SliceAs m bound old new before after told tells pages fills filled wanted notes_on starts result
+slice_begun m bound old new before after told tells first pages fills filled wanted notes_on begins starts result le from h = record {
+  sets = h.sets;
+  reports = h.reports;
+  last = h.last;
+  end = h.end;
+  notes = h.notes;
+  steps = h.steps;
+  ends = h.ends;
+  text = h.text;
+  counts = h.counts;
+  noted = h.noted;
+  tells_notes = h.tells_notes;
+  each_filled = All-weaker (λ (set : Set). FillsOn first (len set) fills filled) (λ (set : Set). FillsOn pages (len set) fills filled) (λ set f. more_first first pages (len set) fills filled le f) (h.sets ++ h.end ∷ []) h.each_filled;
+  kept = λ s. h.kept (from s);
+}
+
+pub pauses_more : (result : Result Pause Failed) (A B : Type 0) → (A → B) → Pauses result A → Pauses result B
+pauses_more (Ok pause) A B f a = f a
+pauses_more (Err failed) A B f a = tt
+
+-- where the present tables are as new and nothing is present, all is known
+pub anew_carries : {S : Type 0} (slots : S → List ℕ → ℕ → Option Slot) (noted : S → ℕ → Bool) (marked : S → Bool) (asides : S → List ℕ → List Aside) (opened : S → List ℕ → (ℕ → Bool) → Type 0) → CarryLaws → (m : Setting) (b : State) (s : S) (memory : List ℕ)
+    → entries_of (slots s memory) ≡ empty → IsAsNew noted marked asides opened s memory → IsCarried slots noted marked asides opened m [] b s memory
+anew_carries slots noted marked asides opened laws m b s memory none anew = record {
+  known = subst (IsKnown m [] b (noted s) (marked s) (asides s memory)) (sym none)
+      (subst (λ (l : List Aside). IsKnown m [] b (noted s) (marked s) l empty) (sym anew.alone) (laws.start m b (noted s) (marked s) anew.unnoted anew.unmarked));
+  opened_to = anew.unopened _;
+}

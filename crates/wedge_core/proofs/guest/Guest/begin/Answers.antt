@@ -1,0 +1,64 @@
+use Rattle.std.proofs.Common.{◌≡◌, ℕ, ◌≤◌, false, List, length, sym, ap, subst, ◌∙◌, arith}
+use Rattle.std.specs.FinMap.{empty}
+use Rattle.frame_pool.specs.Held.{Moves}
+use Rattle.image_check.specs.Image.{Image}
+use Rattle.shadow_tables.specs.Entries.{entries_of}
+use Rattle.shadow_cache.specs.Views as roots
+use Rattle.machine_model.specs.State.{Setting}
+use Rattle.wedge_core.specs.Filled.{pages_kept}
+use Rattle.wedge_core.specs.Pools.{Keeps}
+use Rattle.wedge_core.specs.Ready.{IsReady}
+use Rattle.wedge_core.specs.Standing.{IsHeld, ground, state_of}
+use Rattle.wedge_core.specs.Starts.{IsAsNew}
+use Rattle.wedge_core.proofs.Keeping.{keeps_moves}
+use Rattle.wedge_core.proofs.Readying.{none_ready, none_pages}
+use Rattle.wedge_core.proofs.Renewed.{held_anew, state_anew}
+use Rattle.wedge_core.proofs.guest.Guest.begin.Goals as goal
+
+pub returns-clause-held : goal.returns-clause-held
+returns-clause-held g c = λ image h.
+    let old = c.args.self.now.running in
+    let d = c.renew in
+    let here = subst (λ (l : List ℕ). IsHeld roots.stands roots.frames roots.slots (ground image old.frames) old c.args.pool.now l) (sym c.ram_mut.ensures.ram) h in
+    subst (λ (l : List ℕ). IsHeld roots.stands roots.frames roots.slots (ground image old.frames) (record old { shadows = d.new.self }) d.new.pool l) (sym (g.met.H.Host.bytes_changed c.args.host.now d.new.ram))
+    (held_anew image old.frames old d.new.self c.args.pool.now d.new.pool c.ram_mut.result.now d.new.ram c.if-self-ne2.false d.ensures.stands d.ensures.none d.ensures.entries d.ensures.two d.ensures.owns d.ensures.moves here)
+
+pub returns-clause-ready : goal.returns-clause-ready
+returns-clause-ready g c = λ image h.
+    let old = c.args.self.now.running in
+    let d = c.renew in
+    subst (λ (l : List ℕ). IsReady roots.slots roots.noted roots.marked roots.value roots.asides (ground image old.frames) old.cpu d.new.self l) (sym (g.met.H.Host.bytes_changed c.args.host.now d.new.ram))
+    (none_ready roots.slots roots.noted roots.marked roots.value roots.asides (λ page. false) (ground image old.frames) old.cpu d.new.self d.new.ram (d.ensures.value ∙ h.value_is) d.ensures.none d.ensures.asides)
+
+pub returns-clause-state : goal.returns-clause-state
+returns-clause-state g c = λ m is.
+    let old = c.args.self.now.running in
+    let d = c.renew in
+    let h = c.requires.held.1 in
+    let count = h.counted in
+    let two = c.if-self-ne2.false in
+    let before : entries_of (roots.slots old.shadows (g.H.Host.bytes c.args.host.now)) ≡ empty = c.roots_alone_keep_nothing.ensures old.shadows (g.H.Host.bytes c.args.host.now) (omega (arith, count, two)) in
+    let moves = subst (λ (l : List ℕ). Moves c.args.pool.now d.new.pool l d.new.ram (roots.frames old.shadows l) (roots.frames d.new.self d.new.ram)) c.ram_mut.ensures.ram d.ensures.moves in
+    subst (λ (l : List ℕ). state_of roots.stands roots.frames roots.slots m (record old { shadows = d.new.self }) l ≡ state_of roots.stands roots.frames roots.slots m old (g.H.Host.bytes c.args.host.now)) (sym (g.met.H.Host.bytes_changed c.args.host.now d.new.ram))
+    (state_anew c.requires.held.0 old.frames old d.new.self c.args.pool.now d.new.pool (g.H.Host.bytes c.args.host.now) d.new.ram h moves before d.ensures.entries m is)
+
+pub returns-clause-keeps : goal.returns-clause-keeps
+returns-clause-keeps g c =
+    let old = c.args.self.now.running in
+    let d = c.renew in
+    let moves = subst (λ (l : List ℕ). Moves c.args.pool.now d.new.pool l d.new.ram (roots.frames old.shadows l) (roots.frames d.new.self d.new.ram)) c.ram_mut.ensures.ram d.ensures.moves in
+    subst (λ (l : List ℕ). Keeps c.args.pool.now d.new.pool (g.H.Host.bytes c.args.host.now) l (roots.frames old.shadows (g.H.Host.bytes c.args.host.now)) (roots.frames d.new.self l)) (sym (g.met.H.Host.bytes_changed c.args.host.now d.new.ram))
+    (keeps_moves c.args.pool.now d.new.pool (g.H.Host.bytes c.args.host.now) d.new.ram (roots.frames old.shadows (g.H.Host.bytes c.args.host.now)) (roots.frames d.new.self d.new.ram) moves)
+
+pub returns-clause-fewer : goal.returns-clause-fewer
+returns-clause-fewer g c =
+    let d = c.renew in
+    let none = none_pages roots.slots roots.noted roots.marked roots.value roots.asides d.new.self d.new.ram d.ensures.entries d.ensures.asides in
+    let kept = pages_kept roots.slots roots.asides c.args.self.now.running.shadows (g.H.Host.bytes c.args.host.now) in
+    subst (λ (l : List ℕ). pages_kept roots.slots roots.asides d.new.self l ≤ kept) (sym (g.met.H.Host.bytes_changed c.args.host.now d.new.ram)) (omega (arith, none))
+
+pub returns-clause-anew : goal.returns-clause-anew
+returns-clause-anew g c = λ two.
+    let d = c.renew in
+    subst (λ (l : List ℕ). IsAsNew roots.noted roots.marked roots.asides roots.opened d.new.self l) (sym (g.met.H.Host.bytes_changed c.args.host.now d.new.ram))
+    (record { unnoted = d.ensures.noted; unmarked = d.ensures.marked; alone = d.ensures.asides; unopened = d.ensures.opened })
