@@ -24,7 +24,7 @@ use board::{Board, Script};
 use descriptors::Cpu;
 use host_cpl3::{Exit, Host, View, borders, each_is_run};
 use ia32_types::Regs;
-use image_check::{Checked, AtOffset};
+use image_check::{AtOffset, Checked};
 use machine_step::interrupt;
 use native_steps::advances;
 use shadow_tables::{Shadows, Side};
