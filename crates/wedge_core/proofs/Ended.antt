@@ -1,5 +1,5 @@
 -- What a run knows behind a step that was settled and ended, and behind one that the host is to do.
-use Rattle.std.proofs.Common.{◌≡◌, ℕ, ◌+◌, ◌*◌, ◌/◌, ◌^◌, ◌<◌, ◌≤◌, Bool, true, false, ◌==◌, eqb, ◌||◌, List, [], ◌∷◌, ◌++◌, length, Option, Some, None, refl, sym, ap, subst, ◌∙◌, arith}
+use Rattle.std.proofs.Common.{◌≡◌, ℕ, ◌*◌, ◌/◌, ◌≤◌, Bool, true, false, ◌==◌, eqb, ◌||◌, List, [], ◌∷◌, ◌++◌, length, Option, Some, None, refl, sym, ap, subst, ◌∙◌, arith}
 use Rattle.std.specs.List.{Contains}
 use Rattle.std.specs.Set.{is_member}
 use Rattle.std.specs.FinMap.{get}
@@ -9,7 +9,6 @@ use Rattle.paging.specs.Fresh.{has}
 use Rattle.paging.specs.Space.{Mode, Wedge, Own, Space}
 use Rattle.board.specs.declared.devices.Board.{Board}
 use Rattle.board.specs.Scripts.{Events}
-use Rattle.descriptors.specs.Controls.{pse_of}
 use Rattle.descriptors.specs.declared.cpu.Cpu.{Cpu}
 use Rattle.image_check.specs.Image.{Image}
 use Rattle.image_load.specs.Boot.{text_pages}
@@ -24,13 +23,13 @@ use Rattle.wedge_mem.specs.Settled.{pages_of}
 use Rattle.machine_model.specs.Run.{Set}
 use Rattle.machine_model.specs.State.{Setting, State, wedge, wedge_mode}
 use Rattle.machine_model.specs.Step.{stepped}
-use Rattle.machine_model.specs.Taken.{Taken, is_load, loads_root}
+use Rattle.machine_model.specs.Taken.{Taken, is_load}
 use Rattle.machine_model.specs.UsedPages.{Uses, LeadWell, may_use}
 use Rattle.machine_step.specs.declared.worked.Worked.{Worked}
 use Rattle.machine_step.specs.Worked.{went_as}
 use Rattle.native_steps.specs.Stands.{shown}
 use Rattle.kept_laws.specs.Carried.{IndicesGrow, indices_in}
-use Rattle.kept_laws.specs.Known.{IsKnown, IsOver, IsStep, IsOfPages, RulesStay, KnownOn, KnownStill}
+use Rattle.kept_laws.specs.Known.{IsKnown, IsOfPages, KnownOn, KnownStill}
 use Rattle.kept_laws.specs.OverSteps.{SettlingTells, DroppedComesFrom}
 use Rattle.wedge_core.specs.Carried.{IsTakenFrom}
 use Rattle.wedge_core.specs.Closed.{MayClose}
@@ -39,7 +38,7 @@ use Rattle.wedge_core.specs.Opened.{is_open_to, is_entry_open}
 use Rattle.wedge_core.specs.Ready.{IsReady}
 use Rattle.machine_step.specs.Roots.{RootsAs}
 use Rattle.wedge_core.specs.Standing.{ground, side_of}
-use Rattle.wedge_core.proofs.Carrying.{IsAnswer, answer_from, told_among, told_by, over, a_step, all_found}
+use Rattle.wedge_core.proofs.Knowing.{answer_from, told_among, told_by, over, a_step, all_found}
 use Rattle.wedge_core.proofs.Telling.{among_contains, used_within}
 
 -- ---- the pages that a step used may be shown

@@ -59,7 +59,7 @@ pub mod Renewed
 pub mod SliceStarts
 pub mod Returning
 pub mod Dropping
-pub mod Carrying
+pub mod Knowing
 pub mod Ended
 pub mod Leaving
 pub mod Sweeping

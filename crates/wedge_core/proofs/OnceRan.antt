@@ -49,7 +49,7 @@ use Rattle.wedge_core.specs.declared.running.Running.{Running}
 use Rattle.wedge_core.proofs.AfterTry.{any_script}
 use Rattle.wedge_core.proofs.Asked.{once_goes}
 use Rattle.wedge_core.proofs.Boards.{one_step}
-use Rattle.wedge_core.proofs.Carrying.{report_in, state_in}
+use Rattle.wedge_core.proofs.Knowing.{report_in, state_in}
 use Rattle.wedge_core.proofs.Counting.{none_counts, one_counts}
 use Rattle.wedge_core.proofs.Keeping.{keeps_join, keeps_above}
 use Rattle.wedge_core.proofs.Opening.{same_open}

@@ -17,7 +17,7 @@ use Rattle.kept_laws.specs.Carried.{indices_in}
 use Rattle.wedge_core.specs.Carried.{IsCarried, IsCarriedBy, IsTakenFrom}
 use Rattle.wedge_core.specs.Closed.{MayClose}
 use Rattle.wedge_core.specs.Leaving.{Tells}
-use Rattle.wedge_core.proofs.Carrying.{IsAnswer, answer_from}
+use Rattle.wedge_core.proofs.Knowing.{IsAnswer, answer_from}
 use Rattle.wedge_core.proofs.Ended.{IsDone, known_went, known_asked, may_close_used, index_used}
 use Rattle.descriptors.specs.declared.cpu.Cpu.{Cpu}
 use Rattle.frame_pool.specs.Held.{Owns}

@@ -1,5 +1,5 @@
 -- A step that was settled and ended goes on with what a run knows.
-use Rattle.std.proofs.Common.{◌≡◌, ◌⊎◌, ℕ, ◌*◌, ◌^◌, ◌<◌, ◌≤◌, Bool, true, false, ◌==◌, ◌||◌, List, [], ◌∷◌, ◌++◌, map, length, append_assoc, Option, Some, None, refl, sym, ap, subst, ◌∙◌, inl, inr, arith}
+use Rattle.std.proofs.Common.{◌≡◌, ℕ, ◌*◌, ◌^◌, ◌<◌, ◌≤◌, Bool, true, false, ◌==◌, ◌||◌, List, [], ◌∷◌, ◌++◌, map, length, append_assoc, Option, Some, None, refl, sym, ap, subst, ◌∙◌, inl, inr}
 use Rattle.std.proofs.lemmas.Bool.Decides.{eqb_tells}
 use Rattle.std.specs.List.{list_any}
 use Rattle.std.specs.Option.{ForSome}
@@ -15,9 +15,8 @@ use Rattle.shadow_tables.specs.Aside.{Aside, IsSame, AreSame}
 use Rattle.shadow_tables.specs.Entries.{entries_of}
 use Rattle.shadow_tables.specs.Laws.Entries.{get-entries_of}
 use Rattle.shadow_tables.specs.Slots.{Slot, is_among, entry_in}
-use Rattle.shadow_tables.proofs.Asides.{same-refl}
 use Rattle.shadow_cache.specs.Reloaded.{put_by, coming, staying}
-use Rattle.step_mem.specs.Changes.{changed, page_of, entry_of, is_one_of, AreToldIn}
+use Rattle.step_mem.specs.Changes.{changed, page_of, entry_of, AreToldIn}
 use Rattle.step_mem.specs.declared.changes.Change.{Change}
 use Rattle.step_mem.proofs.Changed.{get_with_other}
 use Rattle.wedge_mem.specs.Settled.{pages_of}
@@ -33,11 +32,11 @@ use Rattle.machine_step.specs.declared.worked.Worked.{Worked}
 use Rattle.machine_step.specs.Worked as worked
 use Rattle.machine_step.specs.Worked.{completed_by, dropping, went_as}
 use Rattle.kept_laws.specs.Judged.{AllFound}
-use Rattle.kept_laws.specs.Known.{IsKnown, IsOver, IsStep, IsOfPages, RulesStay, StayAside, EmptyAside, ReloadAside, KnownOn, KnownStill}
-use Rattle.kept_laws.specs.OverSteps.{IsTold, IsLoaded, SettlingTells, DroppedComesFrom}
-use Rattle.kept_laws.specs.Remembered.{ComesFrom, IsRemembered, Unwritten, was_read}
+use Rattle.kept_laws.specs.Known.{IsOver, IsStep, IsOfPages, RulesStay, ReloadAside}
+use Rattle.kept_laws.specs.OverSteps.{IsTold, SettlingTells, DroppedComesFrom}
+use Rattle.kept_laws.specs.Remembered.{Unwritten, was_read}
 use Rattle.wedge_core.specs.Carried.{IsTakenFrom}
-use Rattle.wedge_core.specs.Leaving.{Tells, RulesSame, Loads, Ends}
+use Rattle.wedge_core.specs.Leaving.{Tells, RulesSame, Ends}
 use Rattle.wedge_core.specs.Parts.{with_set}
 use Rattle.wedge_core.specs.Ready.{is_all}
 use Rattle.machine_step.specs.Roots.{RootsAs}
