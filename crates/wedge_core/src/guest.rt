@@ -190,7 +190,8 @@ impl Guest {
         ensures retired { H.retired host.new ≡ H.retired host.old }
         ensures passed { H.passed host.new ≡ H.passed host.old }
     {
-        if self.running.held != 2 {
+        let bare = self.running.held == 2;
+        if !bare {
             return;
         }
         roots_alone_keep_nothing();

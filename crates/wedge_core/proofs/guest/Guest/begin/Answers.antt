@@ -21,7 +21,7 @@ returns-clause-held g c = λ image h.
     let d = c.renew in
     let here = subst (λ (l : List ℕ). IsHeld roots.stands roots.frames roots.slots (ground image old.frames) old c.args.pool.now l) (sym c.ram_mut.ensures.ram) h in
     subst (λ (l : List ℕ). IsHeld roots.stands roots.frames roots.slots (ground image old.frames) (record old { shadows = d.new.self }) d.new.pool l) (sym (g.met.H.Host.bytes_changed c.args.host.now d.new.ram))
-    (held_anew image old.frames old d.new.self c.args.pool.now d.new.pool c.ram_mut.result.now d.new.ram c.if-self-ne2.false d.ensures.stands d.ensures.none d.ensures.entries d.ensures.two d.ensures.owns d.ensures.moves here)
+    (held_anew image old.frames old d.new.self c.args.pool.now d.new.pool c.ram_mut.result.now d.new.ram (omega (arith, c.if-not-bare.false)) d.ensures.stands d.ensures.none d.ensures.entries d.ensures.two d.ensures.owns d.ensures.moves here)
 
 pub returns-clause-ready : goal.returns-clause-ready
 returns-clause-ready g c = λ image h.
@@ -36,7 +36,7 @@ returns-clause-state g c = λ m is.
     let d = c.renew in
     let h = c.requires.held.1 in
     let count = h.counted in
-    let two = c.if-self-ne2.false in
+    let two : old.held ≡ 2 = omega (arith, c.if-not-bare.false) in
     let before : entries_of (roots.slots old.shadows (g.H.Host.bytes c.args.host.now)) ≡ empty = c.roots_alone_keep_nothing.ensures old.shadows (g.H.Host.bytes c.args.host.now) (omega (arith, count, two)) in
     let moves = subst (λ (l : List ℕ). Moves c.args.pool.now d.new.pool l d.new.ram (roots.frames old.shadows l) (roots.frames d.new.self d.new.ram)) c.ram_mut.ensures.ram d.ensures.moves in
     subst (λ (l : List ℕ). state_of roots.stands roots.frames roots.slots m (record old { shadows = d.new.self }) l ≡ state_of roots.stands roots.frames roots.slots m old (g.H.Host.bytes c.args.host.now)) (sym (g.met.H.Host.bytes_changed c.args.host.now d.new.ram))
