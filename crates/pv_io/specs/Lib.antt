@@ -4,3 +4,4 @@ pub mod Sink
 pub mod Held
 pub mod MemSink
 pub mod MemFiles
+pub mod Writer

@@ -29,7 +29,6 @@ use Rattle.machine_model.specs.Taken.{Taken, is_load, loads_root}
 use Rattle.machine_step.specs.declared.worked.Dropped.{Dropped}
 use Rattle.machine_step.specs.declared.worked.Dropped.TheVariants as dropped
 use Rattle.machine_step.specs.declared.worked.Worked.{Worked}
-use Rattle.machine_step.specs.Worked as worked
 use Rattle.machine_step.specs.Worked.{completed_by, dropping, went_as}
 use Rattle.kept_laws.specs.Judged.{AllFound}
 use Rattle.kept_laws.specs.Known.{IsOver, IsStep, IsOfPages, RulesStay, ReloadAside}
@@ -114,12 +113,6 @@ unchanged base visited changes told q out =
 
 -- ---- what a step makes of what is kept
 
-all_is : (d : Dropped) → worked.is_all d ≡ is_all d
-all_is dropped.Nothing = refl
-all_is (dropped.Page page) = refl
-all_is (dropped.Dir index) = refl
-all_is dropped.All = refl
-
 all_dropped : (d : Dropped) (set : Set) → is_all d ≡ true → dropping d set ≡ empty
 all_dropped dropped.Nothing set e = absurd (let f : false ≡ true = e in cc)
 all_dropped (dropped.Page page) set e = absurd (let f : false ≡ true = e in cc)
@@ -165,7 +158,7 @@ module _ (tells : SettlingTells) (comes : DroppedComesFrom) (t : Taken) (before 
       asides1 = e.asides1;
       told = told_by tells t noted e.noted1 marked e.marked1 asides e.asides1 s.tables s.wrote a.tables a.wrote e.told;
       through = λ go stay.
-          let some : is_all w.dropped ≡ false = not_true (is_all w.dropped) (λ all. roots.all (all_is w.dropped ∙ all) (sym load_is ∙ go) (rules stay).1) in
+          let some : is_all w.dropped ≡ false = not_true (is_all w.dropped) (λ all. roots.all all (sym load_is ∙ go) (rules stay).1) in
           let r = e.through (rules stay) (roots.through (sym load_is ∙ go)) some in
           (r.0, r.1 ∙ sym a.set);
       lost = λ go no. e.lost (λ r. no (rules_back r)) (roots.through (sym load_is ∙ go));
@@ -181,7 +174,7 @@ module _ (tells : SettlingTells) (comes : DroppedComesFrom) (t : Taken) (before 
         loaded : loads_root t ≡ true → ReloadAside t e.noted1 noted2 e.marked1 marked2 slots2 e.asides1 asides2
         loaded go =
             let l = roots.load (sym load_is ∙ go) in
-            let r = e.loaded (ap (λ (x : ℕ). has x 65536) l.1, ap (λ (x : ℕ). has x 16) l.2) (sym (all_is w.dropped) ∙ l.0) in
+            let r = e.loaded (ap (λ (x : ℕ). has x 65536) l.1, ap (λ (x : ℕ). has x 16) l.2) l.0 in
             record {
               noted1 = r.noted1;
               marked1 = r.marked1;
@@ -212,7 +205,7 @@ module _ (tells : SettlingTells) (comes : DroppedComesFrom) (t : Taken) (before 
       room_after = subst (λ (l : List ℕ). 4096 * m.frames ≤ length l) (sym a.ram) room_after;
       bytes = subst AreBytes (sym a.ram) bytes;
       through = λ go. ap (λ (c : Cpu). c.cr3) a.cpu ∙ (roots.through (sym load_is ∙ go) ∙ sym (ap (λ (c : Cpu). c.cr3) cpu));
-      emptied = λ no. a.set ∙ all_dropped w.dropped s.set (sym (all_is w.dropped) ∙ roots.page_size (λ same. no (ap pse_of a.cpu ∙ (same ∙ sym (ap pse_of cpu)))));
+      emptied = λ no. a.set ∙ all_dropped w.dropped s.set (roots.page_size (λ same. no (ap pse_of a.cpu ∙ (same ∙ sym (ap pse_of cpu)))));
     }
 
 -- ---- what is present was found
