@@ -1,6 +1,5 @@
 -- A text has one list of words, and one thing that ends them.
 use Rattle.std.proofs.Common.{◌≡◌, ℕ, ◌+◌, Bool, true, false, List, [], ◌∷◌, ◌++◌, length, refl, sym, ap, ◌∙◌}
-use Rattle.std.specs.Prelude.{◌==◌}
 use Rattle.asm_lex.specs.declared.bytes.Class.TheVariants as class
 use Rattle.asm_lex.specs.declared.fault.SourceCause.{SourceCause}
 use Rattle.asm_lex.specs.declared.machine.Mode.{Mode}
@@ -9,8 +8,7 @@ use Rattle.asm_lex.specs.declared.machine.Next.{Next}
 use Rattle.asm_lex.specs.declared.machine.Next.TheVariants.{Goes, Stops}
 use Rattle.asm_lex.specs.Words.{Word, Scan, scan, line_after}
 use Rattle.asm_lex.specs.Source.{lines_after}
-use Rattle.asm_lex.specs.Refusals.{is_unclosed}
-use Rattle.asm_lex.proofs.Again.{skip_gap, over_token, comment_mode, in_body, class_line, with_word}
+use Rattle.asm_lex.proofs.Again.{skip_gap, over_token, comment_mode, class_line, with_word}
 use Rattle.asm_parse.specs.Refusals.{Ending, Worded}
 use Rattle.asm_lex.proofs.Breaking.{comment_empty, comment_leaves, wrong_breaks, seen_more}
 

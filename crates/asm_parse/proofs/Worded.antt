@@ -1,33 +1,20 @@
 -- The words of a text are those of its scan, up to what ends them.
-use Rattle.std.proofs.Common.{◌≡◌, ℕ, ◌+◌, ◌-◌, ◌≤◌, Bool, true, false, cond, List, [], ◌∷◌, ◌++◌, length, Option, Some, None, Result, Ok, Err, refl, sym, ap, subst, ◌∙◌, ◌⊎◌, inl, inr, append_assoc, arith}
-use Rattle.std.specs.Prelude.{◌&&◌, ◌||◌, not, ◌==◌}
-use Rattle.std.specs.List.{list_all}
-use Rattle.std.specs.Global.{Vec}
-use Rattle.std.proofs.lemmas.List.{length-append}
-use Rattle.std.proofs.lemmas.Bool.{eqb-true}
-use Rattle.asm_lex.specs.declared.bytes.Class.{Class}
-use Rattle.asm_lex.specs.declared.bytes.Class.TheVariants as class
-use Rattle.asm_lex.specs.declared.token.Token.{Token}
-use Rattle.asm_lex.specs.declared.token.TokenKind.{TokenKind}
-use Rattle.asm_lex.specs.declared.token.TokenKind.TheVariants as kind
-use Rattle.asm_lex.specs.declared.machine.Digits.{Digits}
+use Rattle.std.proofs.Common.{◌≡◌, ℕ, ◌+◌, Bool, true, false, List, [], ◌∷◌, ◌++◌, length, Err, refl, sym, ap, subst, ◌∙◌, ◌⊎◌, inl, inr, arith}
+use Rattle.std.specs.Prelude.{◌==◌}
 use Rattle.asm_lex.specs.declared.machine.Mode.{Mode}
 use Rattle.asm_lex.specs.declared.machine.Mode.TheVariants as mode
 use Rattle.asm_lex.specs.declared.machine.Next.{Next}
 use Rattle.asm_lex.specs.declared.machine.Next.TheVariants.{Goes, Stops}
 use Rattle.asm_lex.specs.declared.fault.SourceCause.{SourceCause}
 use Rattle.asm_lex.specs.declared.fault.SourceCause.TheVariants as cause
-use Rattle.asm_lex.specs.declared.fault.SourceFault.{SourceFault}
 use Rattle.asm_lex.specs.declared.fault.SourceFault.TheVariants as fault
-use Rattle.asm_lex.specs.Bytes.{class_of, is_source, is_word, is_escape}
-use Rattle.asm_lex.specs.Machine.{first_digit, next_digit, is_whole}
-use Rattle.asm_lex.specs.Words.{Word, Scan, scan, with_token, line_after}
-use Rattle.asm_lex.specs.Tokens.{Tokens, token_scan}
-use Rattle.asm_lex.specs.Source.{is_inside_line, IsGap, is_numeral, IsToken, lines_after, Lexed}
-use Rattle.asm_lex.specs.Refusals.{is_unclosed, IsInString, IsWrong, Wrong}
-use Rattle.asm_lex.proofs.Again.{and_both, not_true, skip_gap, over_token, comment_mode, in_body, in_string_byte, inside_parts, line_stays, inside_stays, class_line, class_digit, numeral_is, digits_after, no_digits, more_digits, string_mode, with_word, escape_line}
-use Rattle.asm_lex.proofs.Found.{found, star_source}
-use Rattle.asm_lex.proofs.TextTokens.{Same, same, IsClosed, last_closed}
+use Rattle.asm_lex.specs.Words.{Word, Scan, scan, line_after}
+use Rattle.asm_lex.specs.Tokens.{token_scan}
+use Rattle.asm_lex.specs.Source.{lines_after, Lexed}
+use Rattle.asm_lex.specs.Refusals.{is_unclosed, Wrong}
+use Rattle.asm_lex.proofs.Again.{skip_gap, over_token, comment_mode, in_body}
+use Rattle.asm_lex.proofs.Found.{found}
+use Rattle.asm_lex.proofs.TextTokens.{same, IsClosed, last_closed}
 use Rattle.asm_lex.proofs.Refusals.{refused_for}
 use Rattle.asm_lex.proofs.Breaking.{unclosed_parts, comment_empty, wrong_breaks, wrong_cause, seen_more}
 use Rattle.asm_parse.specs.Refusals.{Ending, Worded}
