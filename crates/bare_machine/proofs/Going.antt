@@ -10,7 +10,7 @@ use Rattle.machine_model.specs.State.{Setting, State}
 use Rattle.machine_model.specs.Step.{Report, Went, step_of, items_at}
 use Rattle.machine_model.specs.Run.{Set, Steps, trace_of}
 use Rattle.bare_machine.specs.Machine.{with_set, left, Goes, Rests, Passes, StepsBy, FirstIs}
-use Rattle.bare_machine.proofs.Runs.{part_allowed, part_same, same_step, steps_none, steps_on, steps_join, by_none, by_on, by_join, trace_on, trace_join}
+use Rattle.bare_machine.proofs.Runs.{part_allowed, part_same, same_step, no_steps, steps_on, steps_join, by_none, by_on, by_join, trace_on, trace_join}
 use Rattle.bare_machine.proofs.Texts.{appends_both, front_of, appends_none}
 
 -- some steps were done, the next one goes by what is cached, and the lines were put
@@ -29,7 +29,7 @@ going_none s exact b told = record {
   sets = [];
   reports = [];
   whole = b.set;
-  steps = steps_none s b;
+  steps = no_steps s b;
   part = part_same b.set;
   first = refl;
   exactly = λ _. by_none s left b;

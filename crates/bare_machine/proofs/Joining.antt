@@ -14,10 +14,10 @@ use Rattle.bare_machine.specs.Machine.{with_set, Passes, FirstIs}
 use Rattle.bare_machine.specs.Slices.{PausesAs}
 use Rattle.bare_machine.specs.Answers.{end_of}
 use Rattle.bare_machine.specs.Parts.{Leads, BeginsHere, SliceGoesOn, ChangeGoesOn, LossGoesOn, PartsAreARun}
-use Rattle.bare_machine.proofs.Runs.{part_allowed, same_step, steps_join, steps_none}
+use Rattle.bare_machine.proofs.Runs.{part_allowed, same_step, steps_join, no_steps}
 
 pub begins_here : BeginsHere
-begins_here s b = record { sets = []; whole = b.set; steps = steps_none s b; loosened = record { each = λ page e is. inl is } }
+begins_here s b = record { sets = []; whole = b.set; steps = no_steps s b; loosened = record { each = λ page e is. inl is } }
 
 pub change_goes_on : ChangeGoesOn
 change_goes_on s old now reports set l h = record { sets = l.sets; whole = l.whole; steps = l.steps; loosened = h }

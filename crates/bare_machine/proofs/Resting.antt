@@ -9,7 +9,7 @@ use Rattle.machine_model.specs.Run.{Set}
 use Rattle.machine_model.specs.Resting.{IsResting, resting, nothing, HaltedSteps}
 use Rattle.bare_mem.specs.Part.{IsPartOf}
 use Rattle.bare_machine.specs.Machine.{Rests, StepsBy, left, with_set}
-use Rattle.bare_machine.proofs.Runs.{part_same, steps_none, by_none}
+use Rattle.bare_machine.proofs.Runs.{part_same, no_steps, by_none}
 
 no_step : (board : Board) → board_steps 0 board ≡ board
 unfolding board_steps
@@ -17,7 +17,7 @@ no_step board = refl
 
 -- no step passes
 pub rests_none : (s : Setting) (b : State) (whole : Set) → IsPartOf b.set whole → Rests s b whole b
-rests_none s b whole h = record { sets = []; reports = []; left_then = whole; steps = steps_none s (with_set b whole); part = h; exactly = by_none s left b; silent = refl }
+rests_none s b whole h = record { sets = []; reports = []; left_then = whole; steps = no_steps s (with_set b whole); part = h; exactly = by_none s left b; silent = refl }
 
 module _ (halted : HaltedSteps) where
   -- some steps, each by the translations that are left

@@ -12,7 +12,8 @@ use Rattle.machine_model.specs.Reloading.{IsFoundBy}
 use Rattle.machine_model.specs.Following.{WordsStayFound}
 use Rattle.kept_laws.specs.Remembered.{was_read, Unwritten, IsOwed}
 use Rattle.kept_laws.specs.Judged.{AllFound, IsFoundStill, FoundAtStart, FoundGoesOn}
-use Rattle.kept_laws.proofs.Lists.{Split, At_end, Within, split_of, all_at, read_more}
+use Rattle.machine_model.proofs.Splits.{Split, At_end, Within, split_of}
+use Rattle.kept_laws.proofs.Lists.{all_at, read_more}
 use Rattle.kept_laws.proofs.Counts.{eq_told, clash}
 use Rattle.kept_laws.proofs.Owed.{owed_front}
 

@@ -3,27 +3,19 @@ use Rattle.std.proofs.Common.{◌≡◌, ℕ, List, [], ◌∷◌, ◌++◌, Boo
 use Rattle.std.proofs.lemmas.List.{reverse-append}
 use Rattle.std.specs.List.{All}
 use Rattle.std.proofs.lemmas.List.Elements.{All-head, All-tail}
-use Rattle.machine_model.specs.State.{Setting, State}
-use Rattle.machine_model.specs.Step.{Report, Result, Went, step_of}
-use Rattle.machine_model.specs.Run.{Set, Steps}
+use Rattle.machine_model.specs.State.{State}
+use Rattle.machine_model.specs.Step.{Result}
+use Rattle.machine_model.specs.Run.{Set}
 use Rattle.machine_model.specs.Taken.{Taken, behind, steps_by, loads_root}
 use Rattle.machine_model.specs.Keeping.{leaves, set_left, held_by}
+use Rattle.machine_model.specs.Joined.{TakenJoin}
 use Rattle.kept_laws.specs.Judged.{TakenOn, HeldStays, HeldBack}
 
 -- ---- the steps that a run takes
 
-taken_first : (m : Setting) (b mid : State) (set : Set) (sets : List Set) (now : Report) → step_of m b set ≡ Went now mid → steps_by m b (set ∷ sets) ≡ record { before = b; set = set; report = now; after = mid } ∷ steps_by m mid sets
-taken_first m b mid set sets now is = ap (λ (r : Result). behind b set r (λ after. steps_by m after sets)) is
-
-pub taken_on : TakenOn
-unfolding Steps
-taken_on m old mid new [] set reports report steps is =
-    subst (λ (b : State). steps_by m b (set ∷ []) ≡ record { before = mid; set = set; report = report; after = new } ∷ []) steps.1 (taken_first m mid new set [] report is)
-taken_on m old mid new (first ∷ sets) set reports report steps is =
-    let now : Taken = record { before = old; set = first; report = steps.1; after = steps.0 } in
-    taken_first m old steps.0 first (sets ++ set ∷ []) steps.1 steps.4
-    ∙ (ap (λ (l : List Taken). now ∷ l) (taken_on m steps.0 mid new sets set steps.2 report steps.5 is)
-    ∙ ap (λ (l : List Taken). l ++ record { before = mid; set = set; report = report; after = new } ∷ []) (sym (taken_first m old steps.0 first sets steps.1 steps.4)))
+pub taken_on : TakenJoin → TakenOn
+taken_on join m old mid new sets set reports report steps is =
+    join m old mid sets (set ∷ []) reports steps ∙ ap (λ (r : Result). steps_by m old sets ++ behind mid set r (λ after. [])) is
 
 -- ---- the translations
 

@@ -9,32 +9,6 @@ use Rattle.kept_laws.specs.Remembered.{was_read, Unwritten}
 
 -- ---- splits
 
--- a split of a list with one more behind it is at that one, or is a split of the list
-pub data Split (l : List Taken) (x : Taken) (a : List Taken) (y : Taken) (b : List Taken) : Type 0 where
-  At_end : a ≡ l → y ≡ x → b ≡ [] → Split l x a y b
-  Within : (c : List Taken) → l ≡ a ++ y ∷ c → b ≡ c ++ x ∷ [] → Split l x a y b
-
-heads : (x y : Taken) (xs ys : List Taken) → x ∷ xs ≡ y ∷ ys → x ≡ y
-heads x y xs ys e = cc
-
-tails : (x y : Taken) (xs ys : List Taken) → x ∷ xs ≡ y ∷ ys → xs ≡ ys
-tails x y xs ys e = cc
-
-none_some : (a : List Taken) (y : Taken) (b : List Taken) → [] ≡ a ++ y ∷ b → ⊥
-none_some [] y b e = cc
-none_some (z ∷ a) y b e = cc
-
-more : (w z : Taken) (l : List Taken) (x : Taken) (a : List Taken) (y : Taken) (b : List Taken) → w ≡ z → Split l x a y b → Split (w ∷ l) x (z ∷ a) y b
-more w z l x a y b e (At_end same is none) = At_end (ap (λ (t : Taken). t ∷ a) (sym e) ∙ ap (λ (k : List Taken). w ∷ k) same) is none
-more w z l x a y b e (Within c same rest) = Within c (ap (λ (k : List Taken). w ∷ k) same ∙ ap (λ (t : Taken). t ∷ (a ++ y ∷ c)) e) rest
-
-pub split_of : (l : List Taken) (x : Taken) (a : List Taken) (y : Taken) (b : List Taken) → l ++ x ∷ [] ≡ a ++ y ∷ b → Split l x a y b
-split_of [] x [] y b e = At_end refl (sym (heads x y [] b e)) (sym (tails x y [] b e))
-split_of [] x (z ∷ a) y b e = absurd (none_some a y b (tails x z [] (a ++ y ∷ b) e))
-split_of (w ∷ l) x [] y b e =
-    Within l (ap (λ (t : Taken). t ∷ l) (heads w y (l ++ x ∷ []) b e)) (sym (tails w y (l ++ x ∷ []) b e))
-split_of (w ∷ l) x (z ∷ a) y b e = more w z l x a y b (heads w z (l ++ x ∷ []) (a ++ y ∷ b) e) (split_of l x a y b (tails w z (l ++ x ∷ []) (a ++ y ∷ b) e))
-
 -- one more behind a split
 pub split_more : (l : List Taken) (x : Taken) (a : List Taken) (y : Taken) (b : List Taken) → l ≡ a ++ y ∷ b → l ++ x ∷ [] ≡ a ++ y ∷ (b ++ x ∷ [])
 split_more l x a y b e = ap (λ (k : List Taken). k ++ x ∷ []) e ∙ append_assoc a (y ∷ b) (x ∷ [])

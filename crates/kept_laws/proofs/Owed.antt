@@ -7,7 +7,8 @@ use Rattle.machine_model.specs.Taken.{Taken, loads_root}
 use Rattle.machine_model.specs.Keeping.{leaves, root_in, roots_in, clashes}
 use Rattle.kept_laws.specs.Remembered.{IsOwed}
 use Rattle.kept_laws.specs.OverSteps.{IsCause, CausesOweNothing}
-use Rattle.kept_laws.proofs.Lists.{Split, At_end, Within, split_of, split_more, all_front, all_end, unwritten_front, roots_more}
+use Rattle.machine_model.proofs.Splits.{Split, At_end, Within, split_of}
+use Rattle.kept_laws.proofs.Lists.{split_more, all_front, all_end, unwritten_front, roots_more}
 use Rattle.kept_laws.proofs.Counts.{clash, but, few_front}
 
 -- a step that loads no CR3 leaves no value

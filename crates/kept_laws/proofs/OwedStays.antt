@@ -12,7 +12,8 @@ use Rattle.machine_model.specs.Taken.{Taken, loads_root}
 use Rattle.machine_model.specs.Keeping.{leaves, root_in, roots_in, HasEntriesOf, Returns}
 use Rattle.kept_laws.specs.Remembered.{ComesFrom, was_read, Unwritten, IsOwed, IsAbsent, AreOfOne, AllRead, IsThere, IsRemembered}
 use Rattle.kept_laws.specs.OverSteps.{IsNotedBy, IsTold, StartRemembers, StillRemembers, StepsRemember, SameRemembers, DroppedRemembers, LoadsRemember, LoadsBringBack}
-use Rattle.kept_laws.proofs.Lists.{Split, At_end, Within, split_of, split_more, all_front, all_end, all_at, any_right, read_more, read_last, unwritten_front, roots_more, loaded_more}
+use Rattle.machine_model.proofs.Splits.{Split, At_end, Within, split_of}
+use Rattle.kept_laws.proofs.Lists.{split_more, all_front, all_end, all_at, any_right, read_more, read_last, unwritten_front, roots_more, loaded_more}
 use Rattle.kept_laws.proofs.Counts.{eq_told, ne_told, clash, member_first}
 use Rattle.kept_laws.proofs.Places.{same_alike, lose_alike, alike_absent, alike_of_one, alike_read, alike_there, filter_absent, filter_of_one, filter_read, more_read, all_stay, there_wider, staying_absent, staying_of_one, staying_read, staying_there, coming_there, coming_read}
 use Rattle.kept_laws.proofs.Owed.{through_leaves, owed_front, last_leaves}

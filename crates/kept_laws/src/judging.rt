@@ -2,12 +2,14 @@
 
 ghost use Rattle.kept_laws.specs.Judged.{TakenOn, HeldStays, HeldBack, FoundAtStart, FoundGoesOn, ClashesAgree, ClashesAreJudged};
 
-use machine_model::{accesses_follow, found_follows, words_stay_found};
+use machine_model::{accesses_follow, found_follows, steps_join, words_stay_found};
 
 /// The steps that a run takes, with one more behind them.
 pub fn taken_on()
     ensures { TakenOn }
-{}
+{
+    steps_join();
+}
 
 /// Behind a step that loads no CR3 a step is judged by what was left, and behind a load by what was left with the value.
 pub fn held_is()

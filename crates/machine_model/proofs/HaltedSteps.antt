@@ -1,16 +1,16 @@
 -- Steps of a halted processor, one behind the other.
-use Rattle.std.proofs.Common.{◌≡◌, ℕ, zero, suc, ◌+◌, Bool, true, false, cond, List, [], ◌∷◌, replicate, Option, None, refl, ap, subst, ◌∙◌, inl, arith}
+use Rattle.std.proofs.Common.{◌≡◌, ℕ, zero, suc, ◌+◌, Bool, true, false, cond, [], ◌∷◌, replicate, Option, None, refl, ap, subst, ◌∙◌, inl, arith}
 use Rattle.std.specs.Prelude.{◌&&◌, not, if◌then◌else◌}
 use Rattle.board.specs.declared.devices.Board.{Board}
 use Rattle.board.specs.Boards.{board_step, board_steps, vector}
-use Rattle.board.specs.Quiet.{IsQuiet, StepsAreQuiet}
+use Rattle.board.specs.Quiet.{StepsAreQuiet}
 use Rattle.descriptors.specs.declared.cpu.Cpu.{Cpu}
 use Rattle.paging.specs.Fresh.{has}
 use Rattle.paging.specs.Space.{Space}
 use Rattle.machine_model.specs.State.{Setting, State, space_at_start}
-use Rattle.machine_model.specs.Step.{Went, went, worked, begins_next, step_of, stepped, by_interrupt, interrupt_of, unheld}
-use Rattle.machine_model.specs.Run.{Set, Steps}
-use Rattle.machine_model.specs.Resting.{IsResting, resting, nothing, RestsOn, EachRests, AllRest, NothingIsSeen, HaltedSteps}
+use Rattle.machine_model.specs.Step.{went, worked, begins_next, step_of, stepped, by_interrupt, unheld}
+use Rattle.machine_model.specs.Run.{Steps}
+use Rattle.machine_model.specs.Resting.{IsResting, resting, nothing, EachRests, AllRest, NothingIsSeen, HaltedSteps}
 
 halted_works : (m : Setting) (b : State) (s : Space) → b.cpu.halted ≡ true → worked m b s ≡ went [] None b b.cpu b.board s
 unfolding worked

@@ -1,5 +1,6 @@
 pub mod Owned
 pub mod Works
+pub mod Splits
 pub mod Runs
 pub mod Fetches
 pub mod Written

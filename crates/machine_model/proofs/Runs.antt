@@ -1,14 +1,16 @@
 -- Runs, one behind the other, and the steps that they take.
-use Rattle.std.proofs.Common.{◌≡◌, ℕ, ◌+◌, ◌*◌, ◌%◌, ◌^◌, List, [], ◌∷◌, ◌++◌, length, map, refl, sym, ap, subst, ◌∙◌, length-append}
+use Rattle.std.proofs.Common.{◌≡◌, ℕ, ◌+◌, ◌*◌, ◌%◌, ◌^◌, List, [], ◌∷◌, ◌++◌, length, map, refl, sym, ap, subst, ◌∙◌, append_assoc, length-append}
 use Rattle.std.proofs.lemmas.Grind.{flat_map-append}
 use Rattle.sites.specs.declared.site.Site.{Site}
-use Rattle.machine_model.specs.State.{Setting, State}
+use Rattle.run_trace.specs.declared.items.Item.{Item}
+use Rattle.machine_model.specs.State.{Setting, State, Loosened}
 use Rattle.machine_model.specs.Step.{Report, Result, Went, step_of}
-use Rattle.machine_model.specs.Run.{Set, Steps}
+use Rattle.machine_model.specs.Run.{Set, Steps, trace_of}
 use Rattle.machine_model.specs.Counts.{direct_in, direct_addresses, passed_on}
 use Rattle.machine_model.specs.Taken.{Taken, behind, steps_by}
 use Rattle.machine_model.specs.Keeping.{Roomy, IsKept}
-use Rattle.machine_model.specs.Joined.{StepsJoin, CountsJoin, DigestsJoin, StepsAreTaken, KeptOn}
+use Rattle.machine_model.specs.Joined.{StepsJoin, TakenJoin, CountsJoin, DigestsJoin, StepsAreTaken, KeptOn}
+use Rattle.machine_model.proofs.Splits.{Split, At_end, Within, split_of}
 
 pub steps_join : StepsJoin
 unfolding Steps
@@ -17,14 +19,29 @@ steps_join m old mid new [] more reports later first rest =
 steps_join m old mid new (set ∷ sets) more reports later first rest =
     (first.0, first.1, first.2 ++ later, first.3, first.4, steps_join m first.0 mid new sets more first.2 later first.5 rest, ap (λ (l : List Report). l ++ later) first.6)
 
-addresses_join : (sites : List Site) (reports later : List Report) → direct_addresses sites (reports ++ later) ≡ direct_addresses sites reports ++ direct_addresses sites later
+-- no step yet
+pub no_steps : (m : Setting) (b : State) → Steps m b [] [] b
+unfolding Steps
+no_steps m b = (refl, refl)
+
+-- one step
+pub steps_one : (m : Setting) (old new : State) (set : Set) (now : Report) → Loosened m old set → step_of m old set ≡ Went now new → Steps m old (set ∷ []) (now ∷ []) new
+unfolding Steps
+steps_one m old new set now allowed is = (new, now, [], allowed, is, (refl, refl), refl)
+
+-- what was seen in two runs
+pub trace_join : (reports later : List Report) → trace_of (reports ++ later) ≡ trace_of reports ++ trace_of later
+trace_join [] later = refl
+trace_join (r ∷ reports) later = ap (λ (l : List Item). r.items ++ l) (trace_join reports later) ∙ sym (append_assoc r.items (trace_of reports) (trace_of later))
+
+pub addresses_join : (sites : List Site) (reports later : List Report) → direct_addresses sites (reports ++ later) ≡ direct_addresses sites reports ++ direct_addresses sites later
 addresses_join sites reports later = flat_map-append (λ (r : Report). direct_in sites r.completed) reports later
 
 pub counts_join : CountsJoin
 counts_join sites reports later =
     ap (λ (l : List ℕ). length l) (addresses_join sites reports later) ∙ length-append (direct_addresses sites reports) (direct_addresses sites later)
 
-passed_join : (p : ℕ) (front back : List ℕ) → passed_on p (front ++ back) ≡ passed_on (passed_on p front) back
+pub passed_join : (p : ℕ) (front back : List ℕ) → passed_on p (front ++ back) ≡ passed_on (passed_on p front) back
 passed_join p [] back = refl
 passed_join p (eip ∷ front) back = passed_join ((31 * p + eip) % 2 ^ 64) front back
 
@@ -48,9 +65,7 @@ steps_are_taken m old new (set ∷ sets) reports steps =
       reports_are = ap (map (λ (t : Taken). t.report)) first ∙ (ap (λ (l : List Report). steps.1 ∷ l) rest.reports_are ∙ sym steps.6);
     }
 
--- the steps of two runs
-taken_join : (m : Setting) (old mid : State) (sets more : List Set) (reports : List Report) → Steps m old sets reports mid
-    → steps_by m old (sets ++ more) ≡ steps_by m old sets ++ steps_by m mid more
+pub taken_join : TakenJoin
 unfolding Steps
 taken_join m old mid [] more reports steps = ap (λ (b : State). steps_by m b more) (sym steps.1)
 taken_join m old mid (set ∷ sets) more reports steps =
@@ -59,37 +74,12 @@ taken_join m old mid (set ∷ sets) more reports steps =
     ∙ (ap (λ (l : List Taken). now ∷ l) (taken_join m steps.0 mid sets more steps.2 steps.5)
     ∙ ap (λ (l : List Taken). l ++ steps_by m mid more) (sym (taken_first m old steps.0 set sets steps.1 steps.4)))
 
--- a split of a list with one more behind it is at that one, or is a split of the list
-pub data Split (l : List Taken) (x : Taken) (a : List Taken) (y : Taken) (b : List Taken) : Type 0 where
-  At_end : a ≡ l → y ≡ x → Split l x a y b
-  Within : (c : List Taken) → l ≡ a ++ y ∷ c → Split l x a y b
-
-heads : (x y : Taken) (xs ys : List Taken) → x ∷ xs ≡ y ∷ ys → x ≡ y
-heads x y xs ys e = cc
-
-tails : (x y : Taken) (xs ys : List Taken) → x ∷ xs ≡ y ∷ ys → xs ≡ ys
-tails x y xs ys e = cc
-
-none_some : (a : List Taken) (y : Taken) (b : List Taken) → [] ≡ a ++ y ∷ b → ⊥
-none_some [] y b e = cc
-none_some (z ∷ a) y b e = cc
-
-more : (w z : Taken) (l : List Taken) (x : Taken) (a : List Taken) (y : Taken) (b : List Taken) → w ≡ z → Split l x a y b → Split (w ∷ l) x (z ∷ a) y b
-more w z l x a y b e (At_end same is) = At_end (ap (λ (t : Taken). t ∷ a) (sym e) ∙ ap (λ (k : List Taken). w ∷ k) same) is
-more w z l x a y b e (Within c same) = Within c (ap (λ (k : List Taken). w ∷ k) same ∙ ap (λ (t : Taken). t ∷ (a ++ y ∷ c)) e)
-
-split_of : (l : List Taken) (x : Taken) (a : List Taken) (y : Taken) (b : List Taken) → l ++ x ∷ [] ≡ a ++ y ∷ b → Split l x a y b
-split_of [] x [] y b e = At_end refl (sym (heads x y [] b e))
-split_of [] x (z ∷ a) y b e = absurd (none_some a y b (tails x z [] (a ++ y ∷ b) e))
-split_of (w ∷ l) x [] y b e = Within l (ap (λ (t : Taken). t ∷ l) (heads w y (l ++ x ∷ []) b e))
-split_of (w ∷ l) x (z ∷ a) y b e = more w z l x a y b (heads w z (l ++ x ∷ []) (a ++ y ∷ b) e) (split_of l x a y b (tails w z (l ++ x ∷ []) (a ++ y ∷ b) e))
-
 kept_by : (m : Setting) (l : List Taken) (x : Taken) (a : List Taken) (y : Taken) (b : List Taken) → Split l x a y b
     → ((front : List Taken) (now : Taken) (back : List Taken) → l ≡ front ++ now ∷ back → Roomy front → IsKept m front now)
     → (Roomy l → IsKept m l x) → Roomy a → IsKept m a y
-kept_by m l x a y b (At_end same is) each last roomy =
+kept_by m l x a y b (At_end same is none) each last roomy =
     subst (λ (t : Taken). IsKept m a t) (sym is) (subst (λ (k : List Taken). IsKept m k x) (sym same) (last (subst (λ (k : List Taken). Roomy k) same roomy)))
-kept_by m l x a y b (Within c same) each last roomy = each a y c same roomy
+kept_by m l x a y b (Within c same rest) each last roomy = each a y c same roomy
 
 pub kept_on : KeptOn
 kept_on m old mid new sets set reports report steps is kept last =

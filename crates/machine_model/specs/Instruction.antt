@@ -1,5 +1,5 @@
 -- The instruction at EIP: how it is fetched, and what it does to the processor and asks of the board.
-use Rattle.std.specs.Prelude.{ℕ, ◌+◌, ◌-◌, ◌*◌, ◌/◌, ◌%◌, ◌^◌, Bool, false, List, ◌++◌, ◌==◌, Ok, Err, is_none, if◌then◌else◌}
+use Rattle.std.specs.Prelude.{ℕ, ◌+◌, ◌-◌, ◌*◌, ◌/◌, Bool, false, List, ◌++◌, ◌==◌, Ok, Err, is_none, if◌then◌else◌}
 use Rattle.guest_ram.specs.Bytes.{part}
 use Rattle.ia32_types.specs.Site.{kind_of}
 use Rattle.ia32_types.specs.declared.stop.Stop.TheVariants as stops

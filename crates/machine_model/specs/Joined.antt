@@ -14,6 +14,12 @@ StepsJoin =
     (m : Setting) (old mid new : State) (sets more : List Set) (reports later : List Report)
     → Steps m old sets reports mid → Steps m mid more later new → Steps m old (sets ++ more) (reports ++ later) new
 
+-- and the steps that are taken by the sets of both are those of the first and then those of the others
+abbrev pub TakenJoin : Type 0
+TakenJoin =
+    (m : Setting) (old mid : State) (sets more : List Set) (reports : List Report)
+    → Steps m old sets reports mid → steps_by m old (sets ++ more) ≡ steps_by m old sets ++ steps_by m mid more
+
 -- what is counted of them is a sum, and the digest of the first goes on with the others
 abbrev pub CountsJoin : Type 0
 CountsJoin = (sites : List Site) (reports later : List Report) → direct_count sites (reports ++ later) ≡ direct_count sites reports + direct_count sites later

@@ -1,8 +1,10 @@
-ghost use Rattle.machine_model.specs.Joined.{StepsJoin, CountsJoin, DigestsJoin, StepsAreTaken, KeptOn};
+ghost use Rattle.machine_model.specs.Joined.{StepsJoin, TakenJoin, CountsJoin, DigestsJoin, StepsAreTaken, KeptOn};
 
-/// Steps of a run, and others behind them, are steps of a run; what is counted of them is a sum, and the digest goes on.
+/// Steps of a run, and others behind them, are steps of a run: those that are taken stand one
+/// behind the other, what is counted of them is a sum, and the digest goes on.
 pub fn steps_join()
     ensures steps { StepsJoin }
+    ensures taken { TakenJoin }
     ensures counts { CountsJoin }
     ensures digests { DigestsJoin }
 {}

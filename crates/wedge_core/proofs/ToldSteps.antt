@@ -3,6 +3,7 @@ use Rattle.std.proofs.Common.{◌≡◌, ℕ, ◌+◌, ◌≤◌, ◌<◌, List,
 use Rattle.std.specs.List.{All}
 use Rattle.run_trace.specs.Notes.{Note}
 use Rattle.machine_model.specs.State.{Setting, State}
+use Rattle.machine_model.proofs.Splits.{heads, tails, none_some}
 use Rattle.machine_model.specs.Step.{Report, Result, Went, Stands, step_of}
 use Rattle.machine_model.specs.Run.{Set, Steps}
 use Rattle.machine_model.specs.Ends.{StepsTo}
@@ -92,16 +93,6 @@ left_behind m b whole (set ∷ sets) notes same up h = (
 )
 
 -- ---- so each step that was taken
-
-heads : (x y : Taken) (xs ys : List Taken) → x ∷ xs ≡ y ∷ ys → x ≡ y
-heads x y xs ys e = cc
-
-tails : (x y : Taken) (xs ys : List Taken) → x ∷ xs ≡ y ∷ ys → xs ≡ ys
-tails x y xs ys e = cc
-
-none_some : (a : List Taken) (y : Taken) (b : List Taken) → [] ≡ a ++ y ∷ b → ⊥
-none_some [] y b e = cc
-none_some (z ∷ a) y b e = cc
 
 abbrev IsToldOf : List Note → Taken → Type 0
 IsToldOf notes now = now.set ≡ set_told notes now.before.step now.before.set
