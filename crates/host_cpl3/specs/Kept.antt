@@ -1,5 +1,5 @@
 -- Walks that are kept: what a walk would find now, with the frame of the table that it was read from.
-use Rattle.std.specs.Prelude.{◌≡◌, ℕ, ◌*◌, ◌/◌, ◌%◌, ◌<◌, ◌^◌, List, length, slice_index, Some, IfSome}
+use Rattle.std.specs.Prelude.{◌≡◌, ℕ, ◌+◌, ◌*◌, ◌/◌, ◌%◌, ◌<◌, ◌^◌, List, length, slice_index, Some, IfSome, is_some, if◌then◌else◌}
 use Rattle.std.specs.FinMap.{get}
 use Rattle.guest_ram.specs.Bytes.{word32, frame}
 use Rattle.paging.specs.declared.entry.Entry.{Entry}
@@ -20,6 +20,14 @@ pub record IsKept (m : List ℕ) (root page : ℕ) (entry : Entry) (table : ℕ)
 -- of every page, each in the place of its number modulo 64
 abbrev pub AreKept : Walks → List ℕ → ℕ → Type 0
 AreKept w m root = (page : ℕ) → IfSome (get w.buffer page) (λ entry. IsKept m root page entry (slice_index w.tables (page % 64)))
+
+-- how many walks there were
+abbrev pub count_of : Walks → ℕ
+count_of w = w.count
+
+-- a page that is kept is walked no more
+abbrev pub count_after : Walks → ℕ → ℕ
+count_after w page = if is_some (get w.buffer page) then w.count else (w.count + 1) % 2 ^ 64
 
 -- memory is as long, and the same in all frames but two
 pub record SameBut (m m' : List ℕ) (first last : ℕ) : Type 0 where

@@ -13,3 +13,4 @@ pub mod Hosts
 pub mod Kept
 pub mod RunsTo
 pub mod Borders
+pub mod Walked

@@ -2,6 +2,7 @@ ghost use Rattle.std.specs.Prelude.{◌≡◌, ◌+◌, ◌*◌, ◌<◌, ◌^�
 ghost use Rattle.ia32_exec.specs.Digest.{digest};
 ghost use Rattle.host_cpl3.specs.HostRun.{host_run};
 ghost use Rattle.host_cpl3.specs.Hosts.{standing, held};
+ghost use Rattle.host_cpl3.specs.Walked.{walks_of};
 
 use crate::exit::{Done, Exit};
 use crate::host::Host;
@@ -27,6 +28,7 @@ impl Machine {
         ensures memory { ⟦<Machine as Host>⟧.is_started result ≡ false }
         ensures retired { ⟦<Machine as Host>⟧.retired result ≡ 0 }
         ensures passed { ⟦<Machine as Host>⟧.passed result ≡ 0 }
+        ensures walks { walks_of result ≡ 0 }
     {
         Machine {
             ram: None,
@@ -37,7 +39,9 @@ impl Machine {
     }
 
     /// How many walks of tables there were.
-    pub fn walks(&self) -> u64 {
+    pub fn walks(&self) -> u64
+        ensures { result ≡ walks_of self.now }
+    {
         self.walks.count()
     }
 }

@@ -20,10 +20,13 @@ pub struct Walks {
 
 impl Walks {
     ghost use Rattle.host_cpl3.specs.Pages.{walked, entry_in};
-    ghost use Rattle.host_cpl3.specs.Kept.{AreKept, SameBut};
+    ghost use Rattle.host_cpl3.specs.Kept.{AreKept, SameBut, count_of, count_after};
 
     /// Nothing is kept.
-    pub fn new() -> Walks {
+    pub fn new() -> Walks
+        ensures kept { (m : List ℕ) (root : ℕ) → AreKept result m root }
+        ensures count { count_of result ≡ 0 }
+    {
         Walks {
             buffer: Buffer::new(),
             tables: [NONE; 64],
@@ -32,13 +35,16 @@ impl Walks {
     }
 
     /// How many walks there were.
-    pub fn count(&self) -> u64 {
+    pub fn count(&self) -> u64
+        ensures { result ≡ count_of self.now }
+    {
         self.count
     }
 
     /// Nothing is kept any longer.
     pub fn forget(&mut self)
-        ensures { (m : List ℕ) (root : ℕ) → AreKept self.new m root }
+        ensures kept { (m : List ℕ) (root : ℕ) → AreKept self.new m root }
+        ensures count { count_of self.new ≡ count_of self.old }
     {
         self.buffer.drop_all();
         self.tables = [NONE; 64];
@@ -52,6 +58,7 @@ impl Walks {
         ensures entry { result ≡ entry_in (walked ram.now root page) }
         ensures frame { IfSome result (λ entry. entry.frame < length ram.now / 4096) }
         ensures kept { AreKept self.new ram.now root }
+        ensures count { count_of self.new ≡ count_after self.old page }
     {
         if let Some(entry) = self.buffer.find(page) {
             return Some(entry);
@@ -77,7 +84,8 @@ impl Walks {
 
     /// Two frames were written. Nothing is kept any longer, if a kept walk was read from one of them.
     pub fn written(&mut self, root: u32, first: u32, last: u32)
-        ensures { (m m' : List ℕ) → AreKept self.old m root → SameBut m m' first last → AreKept self.new m' root }
+        ensures kept { (m m' : List ℕ) → AreKept self.old m root → SameBut m m' first last → AreKept self.new m' root }
+        ensures count { count_of self.new ≡ count_of self.old }
     {
         if self.reads(root, first) || self.reads(root, last) {
             self.forget();

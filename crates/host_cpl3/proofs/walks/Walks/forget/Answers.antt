@@ -5,5 +5,5 @@ use Rattle.paging.specs.declared.entry.Entry.{Entry}
 use Rattle.host_cpl3.proofs.Keeping.{none_kept}
 use Rattle.host_cpl3.proofs.walks.Walks.forget.Goals as goal
 
-pub returns : goal.returns
-returns c = λ m root page. none_kept _ _ (ap (λ (b : FinMap nat_cmp Entry). get b page) c.drop_all.ensures ∙ get-empty nat_cmp page)
+pub returns-clause-kept : goal.returns-clause-kept
+returns-clause-kept c = λ m root page. none_kept _ _ (ap (λ (b : FinMap nat_cmp Entry). get b page) c.drop_all.ensures ∙ get-empty nat_cmp page)

@@ -3,8 +3,8 @@ use Rattle.std.specs.Prelude.{slice_index}
 use Rattle.host_cpl3.proofs.Keeping.{some_kept, kept_still}
 use Rattle.host_cpl3.proofs.walks.Walks.written.Goals as goal
 
-pub returns-else-reads-2 : goal.returns-else-reads-2
-returns-else-reads-2 c = λ m m' old same page.
+pub returns-else-reads-2-clause-kept : goal.returns-else-reads-2-clause-kept
+returns-else-reads-2-clause-kept c = λ m m' old same page.
     let a = c.args in
     let lt : page % 64 < 64 = omega arith in
     some_kept _ _ _ (λ entry k. kept_still m m' a.root page a.first a.last (slice_index a.self.now.tables (page % 64)) entry same
