@@ -34,6 +34,8 @@ mod refused;
 #[cfg(test)]
 mod slices;
 #[cfg(test)]
+mod spaces;
+#[cfg(test)]
 mod user;
 #[cfg(test)]
 mod watched;

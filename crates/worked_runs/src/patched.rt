@@ -189,8 +189,8 @@ fn a_page_stays_stale_until_invlpg(rt: HostRuntime) -> Result<(), Fail> {
     Ok(())
 }
 
-// What a patched run of 2,000 steps with so many frames of a pool prints, and how many pages it fills.
-fn with_pool(alloc: Global, source: &[u8], pool: u32) -> Result<(MemSink, u64), Fail>
+/// What a patched run of 2,000 steps with so many frames of a pool prints, and how many pages it fills.
+pub fn with_pool(alloc: Global, source: &[u8], pool: u32) -> Result<(MemSink, u64), Fail>
     requires { (16 ≤ pool) × (pool ≤ 512) }
 {
     let image = image_of(alloc, source)?;
