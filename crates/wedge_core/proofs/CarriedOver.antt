@@ -1,5 +1,5 @@
 -- What a run knows, over steps in which it has no part and over one step of its own.
-use Rattle.std.proofs.Common.{◌≡◌, ℕ, ◌+◌, ◌*◌, ◌<◌, ◌≤◌, Bool, true, false, eqb, Option, List, [], ◌∷◌, ◌++◌, length, refl, sym, ap, subst, ◌∙◌, arith}
+use Rattle.std.proofs.Common.{◌≡◌, ℕ, ◌+◌, ◌*◌, ◌<◌, ◌≤◌, Bool, true, false, eqb, Option, List, [], ◌∷◌, ◌++◌, length, sym, ap, subst, ◌∙◌, arith}
 use Rattle.std.specs.Set.{is_member, distinct_count}
 use Rattle.frame_pool.specs.Held.{SameIn}
 use Rattle.frame_pool.specs.Pool.{free_list}
@@ -20,7 +20,6 @@ use Rattle.native_steps.specs.Stands.{shown}
 use Rattle.native_steps.proofs.Shown.{shown_length}
 use Rattle.kept_laws.specs.Carried.{indices_in}
 use Rattle.kept_laws.specs.Known.{IsKnown}
-use Rattle.wedge_core.specs.declared.running.Lost.{Lost}
 use Rattle.wedge_core.specs.declared.running.Running.{Running}
 use Rattle.wedge_core.specs.Carried.{IsCarried, IsTakenFrom}
 use Rattle.wedge_core.specs.CarryLaws.{CarryLaws}

@@ -37,7 +37,7 @@ use Rattle.wedge_core.proofs.Joined.{steps_join, no_steps, steps_one, trace_join
 use Rattle.wedge_core.proofs.Filling.{part_few}
 use Rattle.wedge_core.proofs.Texts.{appends_both, appends_none, front_of, lines_join}
 use Rattle.wedge_core.proofs.EmptiedNotes.{SoFar, Tried, none_yet, try_next, go_next, so_far_later, told_more, told_none, told_before, up_to_later, tried_none, none_dropped, dropped_once, are_pages, steps_until}
-use Rattle.wedge_core.proofs.Passed.{CarriesPast, SoFarKept, some_more, step_taken, taken_first}
+use Rattle.wedge_core.proofs.Passed.{CarriesPast, some_more, step_taken, taken_first}
 use Rattle.wedge_core.proofs.ToldSteps.{ToldBy, told_nothing, told_one, told_join, told_on, left_behind, steps_counted, are_told}
 
 -- each of these sets has no more pages than were kept at first and were filled since

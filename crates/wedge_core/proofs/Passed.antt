@@ -1,5 +1,5 @@
 -- Steps in which a run has no part, and what it knows behind them.
-use Rattle.std.proofs.Common.{◌≡◌, ℕ, ◌*◌, ◌≤◌, zero, suc, replicate, length, List, [], ◌∷◌, ◌++◌, refl, sym, ap, subst, ◌∙◌, append_assoc, inl, arith}
+use Rattle.std.proofs.Common.{◌≡◌, ℕ, ◌*◌, ◌≤◌, zero, suc, replicate, length, List, [], ◌∷◌, ◌++◌, refl, sym, ap, subst, append_assoc, inl, arith}
 use Rattle.std.specs.List.{All}
 use Rattle.std.proofs.lemmas.List.Elements.{All-head, All-tail}
 use Rattle.machine_model.specs.State.{Setting, State, Loosened}
@@ -7,7 +7,7 @@ use Rattle.machine_model.specs.Step.{Report, Result, Went, step_of}
 use Rattle.machine_model.specs.Run.{Set, Steps}
 use Rattle.machine_model.specs.Taken.{Taken, behind, steps_by}
 use Rattle.machine_model.specs.Notes.{AreLeft}
-use Rattle.machine_model.specs.Keeping.{Roomy, IsKept, Kept}
+use Rattle.machine_model.specs.Keeping.{Roomy, Kept}
 use Rattle.native_steps.specs.Stretch.{IsQuiet}
 use Rattle.kept_laws.specs.Known.{IsOfPages, IsNextKept, IsPast}
 use Rattle.wedge_core.specs.CarryLaws.{CarryLaws}

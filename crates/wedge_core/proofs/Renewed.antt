@@ -1,15 +1,13 @@
 -- A guest whose present tables begin anew.
-use Rattle.std.proofs.Common.{◌≡◌, ℕ, ◌+◌, ◌*◌, ◌%◌, ◌≤◌, ◌<◌, ◌^◌, List, [], length, true, false, None, refl, sym, ap, subst, ◌∙◌, arith}
-use Rattle.std.specs.FinMap.{len, empty}
+use Rattle.std.proofs.Common.{◌≡◌, ℕ, ◌<◌, ◌^◌, List, length, None, sym, subst, ◌∙◌, arith}
+use Rattle.std.specs.FinMap.{empty}
 use Rattle.frame_pool.specs.declared.Pool.{Pool}
 use Rattle.frame_pool.specs.Held.{Owns, Moves}
 use Rattle.image_check.specs.Image.{Image}
 use Rattle.shadow_tables.specs.Entries.{entries_of}
 use Rattle.shadow_cache.specs.Views as roots
 use Rattle.shadow_cache.specs.declared.roots.Roots.{Roots}
-use Rattle.machine_model.specs.State.{Setting, State}
-use Rattle.machine_model.specs.Run.{Set}
-use Rattle.native_steps.specs.Stands.{shown}
+use Rattle.machine_model.specs.State.{Setting}
 use Rattle.wedge_core.specs.Standing.{IsHeld, ground, state_of}
 use Rattle.wedge_core.specs.declared.running.Running.{Running}
 use Rattle.wedge_core.proofs.Memories.{front_same, shown_same}

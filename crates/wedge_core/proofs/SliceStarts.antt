@@ -1,5 +1,5 @@
 -- A slice of a guest, from what the guest makes of its shadows before it.
-use Rattle.std.proofs.Common.{◌≡◌, ℕ, ◌+◌, ◌≤◌, Bool, true, false, List, [], ◌∷◌, ◌++◌, Option, Result, Ok, Err, refl, sym, ap, subst, ◌∙◌, arith}
+use Rattle.std.proofs.Common.{◌≡◌, ℕ, ◌≤◌, Bool, List, [], ◌∷◌, ◌++◌, Option, Result, Ok, Err, sym, subst, arith}
 use Rattle.std.specs.FinMap.{len, empty}
 use Rattle.std.proofs.lemmas.List.Elements.{All-weaker}
 use Rattle.pv_io.specs.declared.answer.Failed.{Failed}

@@ -1,5 +1,5 @@
 -- What the shadows keep under a value of CR3 may be used again when the value is loaded: fresh walks find it.
-use Rattle.std.specs.Prelude.{◌≡◌, ℕ, ◌^◌, ◌<◌, List, [], ◌∷◌, Bool, true, false, ◌==◌, ◌/◌, ◌&&◌, Option, Some}
+use Rattle.std.specs.Prelude.{◌≡◌, ℕ, ◌^◌, ◌<◌, List, [], ◌∷◌, Bool, false, ◌==◌, ◌/◌, ◌&&◌, Option, Some}
 use Rattle.std.specs.Option.{ForSome}
 use Rattle.std.specs.FinMap.{get}
 use Rattle.descriptors.specs.Controls.{pse_of}

@@ -1,10 +1,8 @@
-use Rattle.std.proofs.Common.{◌≡◌, ℕ, ◌≤◌, false, List, length, sym, ap, subst, ◌∙◌, arith}
+use Rattle.std.proofs.Common.{◌≡◌, ℕ, ◌≤◌, false, List, sym, subst, ◌∙◌, arith}
 use Rattle.std.specs.FinMap.{empty}
 use Rattle.frame_pool.specs.Held.{Moves}
-use Rattle.image_check.specs.Image.{Image}
 use Rattle.shadow_tables.specs.Entries.{entries_of}
 use Rattle.shadow_cache.specs.Views as roots
-use Rattle.machine_model.specs.State.{Setting}
 use Rattle.wedge_core.specs.Filled.{pages_kept}
 use Rattle.wedge_core.specs.Pools.{Keeps}
 use Rattle.wedge_core.specs.Ready.{IsReady}

@@ -1,4 +1,4 @@
-use Rattle.std.proofs.Common.{◌≡◌, ℕ, ◌+◌, ◌*◌, ◌≤◌, false, List, [], length, take, refl, sym, ap, subst, ◌∙◌, arith}
+use Rattle.std.proofs.Common.{◌≡◌, ℕ, ◌+◌, ◌*◌, false, [], length, take, refl, sym, ap, subst, ◌∙◌, arith}
 use Rattle.std.specs.FinMap.{empty}
 use Rattle.frame_pool.specs.Pool.{free_list}
 use Rattle.shadow_tables.specs.Entries.{entries_of}
@@ -19,7 +19,6 @@ use Rattle.wedge_core.proofs.Keeping.{keeps_join}
 use Rattle.wedge_core.proofs.Owning.{owns_after}
 use Rattle.wedge_core.proofs.Guests.{still_filled, front_after}
 use Rattle.wedge_core.proofs.SliceStarts.{more_first, slice_begun, pauses_more, anew_carries}
-use Rattle.wedge_core.proofs.guest.Guest.slice.Given.{Over}
 use Rattle.wedge_core.proofs.guest.Guest.slice.Goals as goal
 
 pub begin-requires-clause-held : goal.begin-requires-clause-held
