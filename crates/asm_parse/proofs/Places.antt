@@ -32,7 +32,7 @@ use Rattle.asm_argument.specs.Operand.{is_operand, is_unbegun, is_nothing, await
 use Rattle.asm_parse.specs.Directives.{shape_at, is_instruction, directive_of, is_dotted, is_section}
 use Rattle.asm_parse.specs.Statement.{misplaced, begins_nothing, noting, with_scope, nothing_yet, argument_step, labelled, label, is_rep, rep_step, is_passed, section_name, of_directive, directive_step, instruction_step, section, unless_skipping, start_step, colon_behind, other_behind, named_step, sectioned_step, flags_step, stray_cause, step, skip, is_unknown, is_taken, lacks_names, if_doomed, doom, or_line, fault_line, is_place, stray, strayed, next_step, if_pending, pending, or_cause}
 use Rattle.asm_parse.specs.Statements.{IsArgument, has_list, is_inner, Statement, symbols, Touch}
-use Rattle.asm_parse.specs.Refusals.{StatementPlace, Leads, Opens, Stands, last_of, is_percent, begins_none, other_cause, argument_missing, name_cause, operand_cause, value_cause, in_argument, directive_cause, named_cause, cause_at, percent_cause, behind_cause, first_name_cause, refused_cause, byte_cause}
+use Rattle.asm_parse.specs.Refusals.{StatementPlace, Leads, Opens, LeadsTo, last_of, is_percent, begins_none, other_cause, argument_missing, name_cause, operand_cause, value_cause, in_argument, directive_cause, named_cause, cause_at, percent_cause, behind_cause, first_name_cause, refused_cause, byte_cause}
 use Rattle.asm_argument.proofs.Operands.{ok, operand_run, run_spelled, spelled_form, Spelled}
 use Rattle.asm_parse.proofs.Said.{stars, InArguments, IsNaming, Begun, fresh_arguments}
 use Rattle.asm_parse.proofs.Collected.{InName, Held, HeldBy}
@@ -156,7 +156,7 @@ pub record Suits (sc0 : ScopeView) (place : StatementPlace) (sc : ScopeView) (st
 
 pub record Standing (sc0 : ScopeView) (st : StatementState) (ps : List Word) (sc : ScopeView) : Type 0 where
   pub place : StatementPlace
-  pub stands : Stands sc0 (symbols ps) place
+  pub stands : LeadsTo sc0 (symbols ps) place
   pub suits : Suits sc0 place sc st
 
 start_fails : (sc : ScopeView) (line : ℕ) (s : Terminal) (c : SourceCause) → step sc state.Start line s ≡ Err c → other_cause s ≡ c
@@ -186,7 +186,7 @@ start_suits sc = record {
 }
 
 at_start : (sc : ScopeView) → Standing sc state.Start [] sc
-at_start sc = record { place = StatementPlace.first; stands = Stands.first; suits = start_suits sc }
+at_start sc = record { place = StatementPlace.first; stands = LeadsTo.first; suits = start_suits sc }
 
 or_false : (a b : Bool) → (a || b) ≡ false → b ≡ false
 or_false true b h = absurd cc
@@ -215,7 +215,7 @@ named_suits sc b n alive = record {
 }
 
 at_named : (sc : ScopeView) (b : ℕ) (n : List ℕ) (ps : List Word) → symbols ps ≡ symbol.Name n ∷ [] → doom sc (state.Named b n) ≡ None → Standing sc (state.Named b n) ps sc
-at_named sc b n ps e alive = record { place = StatementPlace.named n; stands = subst (λ (x : List Terminal). Stands sc x (StatementPlace.named n)) (sym e) Stands.named; suits = named_suits sc b n alive }
+at_named sc b n ps e alive = record { place = StatementPlace.named n; stands = subst (λ (x : List Terminal). LeadsTo sc x (StatementPlace.named n)) (sym e) LeadsTo.named; suits = named_suits sc b n alive }
 
 passes : (sc : ScopeView) (line : ℕ) (s : Terminal) (c : SourceCause) → next_step sc state.Skip line s ≡ Err c → ⊥
 passes sc line symbol.Percent c h = absurd cc
@@ -236,10 +236,10 @@ skip_suits sc0 sc = record {
 }
 
 at_skip : (sc0 sc : ScopeView) (line : ℕ) (ps : List Word) → ((rest : List Terminal) → list_all is_inner rest ≡ true → Statement sc0 line (symbols ps ++ (rest ++ symbol.End ∷ [])) sc0) → Standing sc0 state.Skip ps sc
-at_skip sc0 sc line ps f = record { place = StatementPlace.skipped; stands = Stands.skipped {line = line} f; suits = skip_suits sc0 sc }
+at_skip sc0 sc line ps f = record { place = StatementPlace.skipped; stands = LeadsTo.skipped {line = line} f; suits = skip_suits sc0 sc }
 
-in_section : (sc0 : ScopeView) (ss : List Terminal) → InSection sc0 ss → Stands sc0 ss StatementPlace.section
-in_section sc0 ss g = subst (λ (x : List Terminal). Stands sc0 x StatementPlace.section) (sym g.whole) (Stands.section g.more g.naming.passed g.naming.dotted g.naming.section g.naming.is g.inner)
+in_section : (sc0 : ScopeView) (ss : List Terminal) → InSection sc0 ss → LeadsTo sc0 ss StatementPlace.section
+in_section sc0 ss g = subst (λ (x : List Terminal). LeadsTo sc0 x StatementPlace.section) (sym g.whole) (LeadsTo.section g.more g.naming.passed g.naming.dotted g.naming.section g.naming.is g.inner)
 
 pub flags_suits : (sc0 sc : ScopeView) (b : ℕ) (n m : List ℕ) → Suits sc0 StatementPlace.section sc (state.Flags b n m)
 flags_suits sc0 sc b n m = record {
@@ -313,7 +313,7 @@ section_suits sc0 sc b n m e = record {
 at_section : (sc0 sc : ScopeView) (b : ℕ) (n m : List ℕ) (e : ℕ) (ps : List Word) → InName sc0 ps b n m e → Standing sc0 (state.Sectioned b n m e) ps sc
 at_section sc0 sc b n m e ps g = record {
   place = StatementPlace.section;
-  stands = subst (λ (x : List Word). Stands sc0 (symbols x) StatementPlace.section) (append-nil ps) (in_section sc0 (symbols (ps ++ [])) (section_words sc0 ps b n m e g [] refl));
+  stands = subst (λ (x : List Word). LeadsTo sc0 (symbols x) StatementPlace.section) (append-nil ps) (in_section sc0 (symbols (ps ++ [])) (section_words sc0 ps b n m e g [] refl));
   suits = section_suits sc0 sc b n m e;
 }
 
@@ -422,8 +422,8 @@ module _ (sc0 : ScopeView) (line : ℕ) (o : Open) (ss : List Terminal) (sc : Sc
   at_arguments : (ps : List Word) → ss ≡ symbols ps → (p : Word) (q : Word) (rest : List Word) → ps ≡ p ∷ q ∷ rest → Standing sc0 (state.Arguments o) ps sc
   at_arguments ps same p q rest e = record {
     place = StatementPlace.argument o.head o.done w.behind (stars o.star ++ w.arg);
-    stands = subst (λ (x : List Terminal). Stands sc0 x (StatementPlace.argument o.head o.done w.behind (stars o.star ++ w.arg))) (ap symbols (sym e))
-        (Stands.argument (symbol_of p.kind p.bytes) (symbol_of q.kind q.bytes) (symbols rest) w.lead w.front (stars o.star ++ w.arg) (ap symbols (sym e) ∙ (sym same ∙ w.whole)) w.leads w.separated opens);
+    stands = subst (λ (x : List Terminal). LeadsTo sc0 x (StatementPlace.argument o.head o.done w.behind (stars o.star ++ w.arg))) (ap symbols (sym e))
+        (LeadsTo.argument (symbol_of p.kind p.bytes) (symbol_of q.kind q.bytes) (symbols rest) w.lead w.front (stars o.star ++ w.arg) (ap symbols (sym e) ∙ (sym same ∙ w.whole)) w.leads w.separated opens);
     suits = arguments_suit;
   }
 

@@ -17,7 +17,7 @@ use Rattle.asm_parse.specs.Reading.{Fault, placed, is_longer, longer, ending_at,
 use Rattle.asm_argument.specs.Symbols.{symbol_of}
 use Rattle.asm_parse.specs.Running.{◌>>=◌}
 use Rattle.asm_parse.specs.Statements.{is_inner, symbols, IsStatement, Statements}
-use Rattle.asm_parse.specs.Refusals.{Ending, IsBeginning, IsNoBeginning, StatementPlace, Stands, Reaches, percent_cause, first_name_cause, refused_cause, byte_cause}
+use Rattle.asm_parse.specs.Refusals.{Ending, IsBeginning, IsNoBeginning, StatementPlace, LeadsTo, Reaches, percent_cause, first_name_cause, refused_cause, byte_cause}
 use Rattle.asm_parse.proofs.Words.{read_words}
 use Rattle.asm_parse.proofs.Scopes.{GoodIn, fresh_good}
 use Rattle.asm_parse.proofs.Quiet.{Any, any_next, WordGoes, word_goes}

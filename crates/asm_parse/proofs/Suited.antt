@@ -19,7 +19,7 @@ use Rattle.asm_parse.specs.Directives.{shape_at, is_dotted, directive_of, is_sec
 use Rattle.asm_parse.specs.Statement.{argument_step, nothing_yet, is_passed, of_directive, other_behind, step, doom}
 use Rattle.asm_parse.specs.Reading.{ending_at}
 use Rattle.asm_parse.specs.Statements.{has_list, is_inner, Separated, Statement, symbols}
-use Rattle.asm_parse.specs.Refusals.{StatementPlace, Leads, Opens, Stands, Reaches}
+use Rattle.asm_parse.specs.Refusals.{StatementPlace, Leads, Opens, LeadsTo, Reaches}
 use Rattle.asm_parse.proofs.Words.{read_words}
 use Rattle.asm_parse.proofs.Stated.{Answer, inners, words_append, named_section, statements_run}
 use Rattle.asm_parse.proofs.Places.{Suits, start_suits, named_suits, skip_suits}
@@ -132,14 +132,14 @@ at_argument (w ∷ v ∷ ws) sc {h} {sc2} {done} s t ss lead front arg fin e who
 
 -- ---- all places
 
-stands_suits : {sc : ScopeView} {xs : List Terminal} {p : StatementPlace} → Stands sc xs p → (ps : List Word) (fin : Pair) → symbols ps ≡ xs → read_words sc state.Start ps ≡ Ok fin → doom fin.0 fin.1 ≡ None → Suits sc p fin.0 fin.1
-stands_suits {sc} Stands.first ps fin e k alive = at_first ps sc fin e k
-stands_suits {sc} (Stands.named {n}) ps fin e k alive = at_named ps sc n fin e k alive
-stands_suits {sc} (Stands.section {n} {m} ss go dotted dir is inside) ps fin e k alive = at_section ps sc n m ss fin e go dotted dir is inside k alive
-stands_suits {sc} (Stands.skipped {line} {ss} may) ps fin e k alive =
+stands_suits : {sc : ScopeView} {xs : List Terminal} {p : StatementPlace} → LeadsTo sc xs p → (ps : List Word) (fin : Pair) → symbols ps ≡ xs → read_words sc state.Start ps ≡ Ok fin → doom fin.0 fin.1 ≡ None → Suits sc p fin.0 fin.1
+stands_suits {sc} LeadsTo.first ps fin e k alive = at_first ps sc fin e k
+stands_suits {sc} (LeadsTo.named {n}) ps fin e k alive = at_named ps sc n fin e k alive
+stands_suits {sc} (LeadsTo.section {n} {m} ss go dotted dir is inside) ps fin e k alive = at_section ps sc n m ss fin e go dotted dir is inside k alive
+stands_suits {sc} (LeadsTo.skipped {line} {ss} may) ps fin e k alive =
     let last = skipped_state ps sc line fin (λ rest inside. subst (λ (x : List Terminal). Statement sc line (x ++ (rest ++ symbol.End ∷ [])) sc) (sym e) (may rest inside)) k alive in
     suits_at sc StatementPlace.skipped (sc, state.Skip) fin (sym last) (skip_suits sc sc)
-stands_suits {sc} (Stands.argument {h} {sc2} {done} s t ss lead front arg whole leads sep opens) ps fin e k alive = at_argument ps sc s t ss lead front arg fin e whole leads sep opens k alive
+stands_suits {sc} (LeadsTo.argument {h} {sc2} {done} s t ss lead front arg whole leads sep opens) ps fin e k alive = at_argument ps sc s t ss lead front arg fin e whole leads sep opens k alive
 
 -- What the reader refuses behind these words has the cause of each place to which they lead.
 pub reaches_suits : (ws : List Word) (sc0 : ScopeView) (p : StatementPlace) (fin : Pair) → Reaches ws sc0 p → read_words fresh state.Start ws ≡ Ok fin → doom fin.0 fin.1 ≡ None → Suits sc0 p fin.0 fin.1

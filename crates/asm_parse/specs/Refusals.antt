@@ -80,13 +80,13 @@ pub data StatementPlace : Type 0 where
   argument : Head → List Argument → ScopeView → List Terminal → StatementPlace
 
 -- The symbols of a statement so far, more than one where arguments are read, lead to this place.
-pub data Stands (sc : ScopeView) : List Terminal → StatementPlace → Type 0 where
-  first : Stands sc [] StatementPlace.first
-  named : {n : List ℕ} → Stands sc (symbol.Name n ∷ []) (StatementPlace.named n)
-  section : {n m : List ℕ} (ss : List Terminal) → is_passed sc n ≡ false → is_dotted n ≡ true → directive_of n ≡ Some kind.Section → is_section m ≡ true → list_all is_inner ss ≡ true → Stands sc (symbol.Name n ∷ symbol.Name m ∷ ss) StatementPlace.section
-  skipped : {line : ℕ} {ss : List Terminal} → ((rest : List Terminal) → list_all is_inner rest ≡ true → Statement sc line (ss ++ (rest ++ symbol.End ∷ [])) sc) → Stands sc ss StatementPlace.skipped
+pub data LeadsTo (sc : ScopeView) : List Terminal → StatementPlace → Type 0 where
+  first : LeadsTo sc [] StatementPlace.first
+  named : {n : List ℕ} → LeadsTo sc (symbol.Name n ∷ []) (StatementPlace.named n)
+  section : {n m : List ℕ} (ss : List Terminal) → is_passed sc n ≡ false → is_dotted n ≡ true → directive_of n ≡ Some kind.Section → is_section m ≡ true → list_all is_inner ss ≡ true → LeadsTo sc (symbol.Name n ∷ symbol.Name m ∷ ss) StatementPlace.section
+  skipped : {line : ℕ} {ss : List Terminal} → ((rest : List Terminal) → list_all is_inner rest ≡ true → Statement sc line (ss ++ (rest ++ symbol.End ∷ [])) sc) → LeadsTo sc ss StatementPlace.skipped
   argument : {h : Head} {sc2 : ScopeView} {done : List Argument} (s t : Terminal) (ss lead front arg : List Terminal) → s ∷ t ∷ ss ≡ lead ++ (front ++ arg) → Leads sc h lead → Separated h sc front done sc2 → Opens (shape_at h (length done)) arg
-      → Stands sc (s ∷ t ∷ ss) (StatementPlace.argument h done sc2 arg)
+      → LeadsTo sc (s ∷ t ∷ ss) (StatementPlace.argument h done sc2 arg)
 
 -- These words are whole statements, which say this, and others of a statement that lead to this place.
 pub record Reaches (ws : List Word) (sc : ScopeView) (p : StatementPlace) : Type 0 where
@@ -94,7 +94,7 @@ pub record Reaches (ws : List Word) (sc : ScopeView) (p : StatementPlace) : Type
   pub begun : List Word
   pub whole : ws ≡ before ++ begun
   pub statements : Statements fresh before sc
-  pub stands : Stands sc (symbols begun) p
+  pub stands : LeadsTo sc (symbols begun) p
 
 -- ---- the causes
 

@@ -8,8 +8,8 @@ use Rattle.pv_io.specs.declared.answer.Failed.{Failed}
 use Rattle.pv_io.specs.Causes.{Rose}
 use Rattle.pv_io.specs.Sink.{Appends, AppendsFront}
 use Rattle.ia32_types.specs.declared.stop.Stop.{Stop}
-use Rattle.image_load.specs.declared.fault.Pause.{Pause}
-use Rattle.image_load.specs.declared.fault.Pause.TheVariants.{Reached, Stopped}
+use Rattle.run_trace.specs.declared.pause.Pause.{Pause}
+use Rattle.run_trace.specs.declared.pause.Pause.TheVariants.{Reached, Stopped}
 use Rattle.image_load.specs.declared.fault.RunFault.{RunFault}
 use Rattle.image_load.specs.declared.fault.RunFault.TheVariants as fault
 use Rattle.run_trace.specs.declared.items.End.{End}
@@ -18,14 +18,14 @@ use Rattle.run_trace.specs.declared.items.Ended.{Ended}
 use Rattle.run_trace.specs.Text.{lines_of, end_line, text_of}
 use Rattle.machine_model.specs.State.{Setting, State, Loosened, boot}
 use Rattle.machine_model.specs.Step as steps
-use Rattle.machine_model.specs.Step.{Report, Went, Stands, step_of}
-use Rattle.machine_model.specs.Run.{Set, Steps, Run, trace_of}
+use Rattle.machine_model.specs.Step.{Report, Went, Halts, step_of}
+use Rattle.machine_model.specs.Run.{Set, Steps, Run, trace_of, with_set}
 use Rattle.machine_model.specs.Ends.{StepsTo}
 use Rattle.machine_model.proofs.Counting.{each_counts}
 use Rattle.board.specs.Scripts.{Events}
 use Rattle.image_check.specs.Image.{Image}
 use Rattle.image_load.specs.Boot.{need}
-use Rattle.bare_machine.specs.Machine.{bare, with_set, Passes, FirstIs}
+use Rattle.bare_machine.specs.Machine.{bare, Passes, FirstIs}
 use Rattle.bare_machine.specs.Slices.{SliceAs}
 use Rattle.bare_machine.specs.Answers.{RunsTo, WholeAs, RunAnswers}
 use Rattle.bare_machine.specs.FreshRuns.{Course, after_step, fresh_course, course_text, IsFreshRun, EachCourseIsARun, CourseAs, Comes, FreshAnswers}
@@ -52,7 +52,7 @@ went_on : (s : Setting) (k : ℕ) (b mid : State) (now : Report) → step_of s b
 unfolding fresh_course
 went_on s k b mid now is = ap (λ (r : steps.Result). after_step b r (λ mid. fresh_course s k mid)) is
 
-stood : (s : Setting) (k : ℕ) (b : State) (stop : Stop) → step_of s b empty ≡ Stands stop → fresh_course s (suc k) b ≡ record { reports = []; count = b.step; end = ends.Stopped stop }
+stood : (s : Setting) (k : ℕ) (b : State) (stop : Stop) → step_of s b empty ≡ Halts stop → fresh_course s (suc k) b ≡ record { reports = []; count = b.step; end = ends.Stopped stop }
 unfolding fresh_course
 stood s k b stop is = ap (λ (r : steps.Result). after_step b r (λ mid. fresh_course s k mid)) is
 
@@ -167,7 +167,7 @@ comes_bound s n old now told tells le h = record {
   text = h.text;
 }
 
-stops_here : (s : Setting) (n : ℕ) (b : State) (stop : Stop) → b.step < n → step_of s b empty ≡ Stands stop → up_to s n b ≡ record { reports = []; count = b.step; end = ends.Stopped stop }
+stops_here : (s : Setting) (n : ℕ) (b : State) (stop : Stop) → b.step < n → step_of s b empty ≡ Halts stop → up_to s n b ≡ record { reports = []; count = b.step; end = ends.Stopped stop }
 stops_here s n b stop less is =
     let left : n - b.step ≡ suc (n - b.step - 1) = omega (arith, less) in
     ap (λ (k : ℕ). fresh_course s k b) left ∙ stood s (n - b.step - 1) b stop is
@@ -178,7 +178,7 @@ comes_stopped s exact n old now new told tells last stop clear less h slice =
     let p = slice.passes in
     let at : slice.last.step < now.step + 1 = slice.ends.0 in
     let same : slice.last.set ≡ empty = none_done s now slice.last p.sets slice.reports p.whole at p.steps p.first ∙ clear in
-    let is : step_of s slice.last empty ≡ Stands stop = subst (λ (x : Set). step_of s slice.last x ≡ Stands stop) same slice.ends.2 in
+    let is : step_of s slice.last empty ≡ Halts stop = subst (λ (x : Set). step_of s slice.last x ≡ Halts stop) same slice.ends.2 in
     let below : slice.last.step < n = omega (arith, at, less) in
     let end = stops_here s n slice.last stop below is in
     record {
@@ -228,7 +228,7 @@ run_from k s n b (Went now mid) is counts left later =
       run = record { steps = (mid, now, (fresh_course s k mid).reports, empty_allowed s b, is, l.run.steps, refl); ends = l.run.ends };
       count_is = l.count_is;
     }
-run_from k s n b (Stands stop) is counts left later = record {
+run_from k s n b (Halts stop) is counts left later = record {
   last = b;
   run = record { steps = (refl, refl); ends = (omega (arith, left), record { set = empty; allowed = empty_allowed s b; stands = is }) };
   count_is = refl;

@@ -8,8 +8,8 @@ use Rattle.run_trace.specs.Text.{item_line, lines_of}
 use Rattle.bare_mem.specs.Part.{IsPartOf}
 use Rattle.machine_model.specs.State.{Setting, State}
 use Rattle.machine_model.specs.Step.{Report, Went, step_of, items_at}
-use Rattle.machine_model.specs.Run.{Set, Steps, trace_of}
-use Rattle.bare_machine.specs.Machine.{with_set, left, Goes, Rests, Passes, StepsBy, FirstIs}
+use Rattle.machine_model.specs.Run.{Set, Steps, trace_of, with_set}
+use Rattle.bare_machine.specs.Machine.{left, Goes, Rests, Passes, StepsBy, FirstIs}
 use Rattle.bare_machine.proofs.Runs.{part_allowed, part_same, same_step, no_steps, steps_on, steps_join, by_none, by_on, by_join, trace_on, trace_join}
 use Rattle.bare_machine.proofs.Texts.{appends_both, front_of, appends_none}
 

@@ -2,14 +2,14 @@
 use Rattle.std.proofs.Common.{◌≡◌, ℕ, ◌+◌, ◌<◌, Bool, List, [], ◌∷◌, ◌++◌, length, Option, Result, Ok, Err, sym, ap, subst, ◌∙◌, arith}
 use Rattle.pv_io.specs.declared.answer.Failed.{Failed}
 use Rattle.ia32_types.specs.declared.stop.Stop.{Stop}
-use Rattle.image_load.specs.declared.fault.Pause.{Pause}
-use Rattle.image_load.specs.declared.fault.Pause.TheVariants.{Reached, Stopped}
+use Rattle.run_trace.specs.declared.pause.Pause.{Pause}
+use Rattle.run_trace.specs.declared.pause.Pause.TheVariants.{Reached, Stopped}
 use Rattle.machine_model.specs.State.{Setting, State}
-use Rattle.machine_model.specs.Step.{Report, Went, Stands, step_of}
-use Rattle.machine_model.specs.Run.{Set, Steps}
+use Rattle.machine_model.specs.Step.{Report, Went, Halts, step_of}
+use Rattle.machine_model.specs.Run.{Set, Steps, with_set}
 use Rattle.machine_model.specs.Ends.{StepsTo}
 use Rattle.machine_model.proofs.Counting.{each_counts}
-use Rattle.bare_machine.specs.Machine.{with_set, left, StepsBy, FirstIs}
+use Rattle.bare_machine.specs.Machine.{left, StepsBy, FirstIs}
 use Rattle.bare_machine.specs.Slices.{SliceAs, OneStepAs}
 use Rattle.bare_machine.proofs.Runs.{same_step}
 
@@ -66,11 +66,11 @@ one_of s old (set ∷ next ∷ sets) reports last x whole h first n =
 
 -- no step was done
 none_of : (s : Setting) (old : State) (sets : List Set) (reports : List Report) (last : State) (whole : Set) (stop : Stop) → Steps s old sets reports (with_set last whole) → FirstIs old.set (sets ++ last.set ∷ []) → last.step < old.step + 1
-    → step_of s last last.set ≡ Stands stop → step_of s old old.set ≡ Stands stop
+    → step_of s last last.set ≡ Halts stop → step_of s old old.set ≡ Halts stop
 unfolding Steps
 none_of s old [] reports last whole stop h first n is =
-    subst (λ (y : Set). step_of s old y ≡ Stands stop) first
-    (subst (λ (b : State). step_of s b last.set ≡ Stands stop) h.1 (same_step s last whole last.set ∙ is))
+    subst (λ (y : Set). step_of s old y ≡ Halts stop) first
+    (subst (λ (b : State). step_of s b last.set ≡ Halts stop) h.1 (same_step s last whole last.set ∙ is))
 none_of s old (set ∷ sets) reports last whole stop h first n is =
     let all = steps_counted s old (set ∷ sets) reports (with_set last whole) h in
     absurd (omega (arith, all, n))

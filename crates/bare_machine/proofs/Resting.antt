@@ -5,10 +5,10 @@ use Rattle.board.specs.Boards.{board_step, board_steps, comes_within}
 use Rattle.descriptors.specs.declared.cpu.Cpu.{Cpu}
 use Rattle.machine_model.specs.State.{Setting, State}
 use Rattle.machine_model.specs.Step.{interrupt_of}
-use Rattle.machine_model.specs.Run.{Set}
+use Rattle.machine_model.specs.Run.{Set, with_set}
 use Rattle.machine_model.specs.Resting.{IsResting, resting, nothing, HaltedSteps}
 use Rattle.bare_mem.specs.Part.{IsPartOf}
-use Rattle.bare_machine.specs.Machine.{Rests, StepsBy, left, with_set}
+use Rattle.bare_machine.specs.Machine.{Rests, StepsBy, left}
 use Rattle.bare_machine.proofs.Runs.{part_same, no_steps, by_none}
 
 no_step : (board : Board) → board_steps 0 board ≡ board

@@ -5,9 +5,9 @@ use Rattle.run_trace.specs.declared.items.Item.{Item}
 use Rattle.bare_mem.specs.Part.{IsPartOf}
 use Rattle.machine_model.specs.State.{Setting, State, Loosened}
 use Rattle.machine_model.specs.Step.{Report, Went, step_of}
-use Rattle.machine_model.specs.Run.{Set, Steps, trace_of}
+use Rattle.machine_model.specs.Run.{Set, Steps, trace_of, with_set}
 pub use Rattle.machine_model.proofs.Runs.{steps_join, steps_one, no_steps, trace_join}
-use Rattle.bare_machine.specs.Machine.{with_set, StepsBy}
+use Rattle.bare_machine.specs.Machine.{StepsBy}
 
 -- a part of the set may be gone by
 pub part_allowed : (s : Setting) (b : State) (whole part : Set) → IsPartOf part whole → Loosened s (with_set b whole) part

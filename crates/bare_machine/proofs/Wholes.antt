@@ -7,8 +7,8 @@ use Rattle.pv_io.specs.Sink.{Appends, AppendsFront}
 use Rattle.board.specs.Scripts.{Events}
 use Rattle.image_check.specs.Image.{Image}
 use Rattle.image_load.specs.Boot.{need}
-use Rattle.image_load.specs.declared.fault.Pause.{Pause}
-use Rattle.image_load.specs.declared.fault.Pause.TheVariants.{Reached, Stopped}
+use Rattle.run_trace.specs.declared.pause.Pause.{Pause}
+use Rattle.run_trace.specs.declared.pause.Pause.TheVariants.{Reached, Stopped}
 use Rattle.image_load.specs.declared.fault.RunFault.{RunFault}
 use Rattle.image_load.specs.declared.fault.RunFault.TheVariants as fault
 use Rattle.run_trace.specs.declared.items.End.{End}
@@ -16,11 +16,12 @@ use Rattle.run_trace.specs.declared.items.Ended.{Ended}
 use Rattle.run_trace.specs.Text.{lines_of, end_line, text_of}
 use Rattle.machine_model.specs.State.{Setting, State, boot}
 use Rattle.machine_model.specs.Step.{Report}
-use Rattle.machine_model.specs.Run.{Run, trace_of}
+use Rattle.machine_model.specs.Run.{Run, trace_of, with_set}
 use Rattle.machine_model.proofs.Ending.{each_ends}
-use Rattle.bare_machine.specs.Machine.{bare, with_set}
+use Rattle.bare_machine.specs.Machine.{bare}
 use Rattle.bare_machine.specs.Slices.{SliceAs}
-use Rattle.bare_machine.specs.Answers.{RunsTo, HasRun, WholeAs, RunAnswers, end_of}
+use Rattle.bare_machine.specs.Answers.{RunsTo, HasRun, WholeAs, RunAnswers}
+use Rattle.run_trace.specs.Pauses.{end_of}
 use Rattle.bare_machine.proofs.Runs.{part_allowed, same_step, steps_join, trace_join}
 use Rattle.bare_machine.proofs.Going.{lines_join}
 use Rattle.bare_machine.proofs.Texts.{appends_both, appends_none, front_of}

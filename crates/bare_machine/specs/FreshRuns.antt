@@ -15,7 +15,7 @@ use Rattle.run_trace.specs.declared.items.Ended.{Ended}
 use Rattle.run_trace.specs.Text.{lines_of, text_of}
 use Rattle.machine_model.specs.State.{Setting, State, boot}
 use Rattle.machine_model.specs.Step as steps
-use Rattle.machine_model.specs.Step.{Report, Went, Stands, step_of}
+use Rattle.machine_model.specs.Step.{Report, Went, Halts, step_of}
 use Rattle.machine_model.specs.Run.{Set, Run, trace_of}
 use Rattle.bare_machine.specs.Machine.{bare}
 
@@ -28,7 +28,7 @@ pub record Course : Type 0 where
 -- a step, and what comes after it
 abbrev pub after_step : State → steps.Result → (State → Course) → Course
 after_step b (Went report new) later = record { reports = report ∷ (later new).reports; count = (later new).count; end = (later new).end }
-after_step b (Stands stop) later = record { reports = []; count = b.step; end = Stopped stop }
+after_step b (Halts stop) later = record { reports = []; count = b.step; end = Stopped stop }
 
 -- at most so many steps, each with the empty set
 unfoldable pub fresh_course : Setting → ℕ → State → Course

@@ -9,8 +9,8 @@ use Rattle.step_mem.specs.Changes.{AreWithin}
 use Rattle.bare_mem.specs.Part.{IsPartOf}
 use Rattle.machine_model.specs.State.{Setting, State}
 use Rattle.machine_model.specs.Step as steps
-use Rattle.machine_model.specs.Run.{Set, Steps, trace_of}
-use Rattle.machine_model.specs.Step.{Report, Went, Stands, step_of, items_at}
+use Rattle.machine_model.specs.Run.{Set, Steps, trace_of, with_set}
+use Rattle.machine_model.specs.Step.{Report, Went, Halts, step_of, items_at}
 use Rattle.bare_machine.specs.declared.machine.Bare as machines
 use Rattle.machine_step.specs.declared.worked.Seen.{Seen}
 use Rattle.machine_step.specs.Worked.{whats}
@@ -22,10 +22,6 @@ bare image script frames = record { mode = Bare; image = image; script = script;
 -- the machine's state, whose set is what the cache holds
 abbrev pub state_of : {C : Type 0} → (C → Set) → machines.Bare C → State
 state_of entries m = record { cpu = m.cpu; ram = m.ram; set = entries m.kept.cache; board = m.board; step = m.step }
-
--- the state with other translations
-abbrev pub with_set : State → Set → State
-with_set b set = record b { set = set }
 
 -- The step went, let these things be seen, and led to this state, of whose translations some may have been dropped,
 -- but none by an exact cache.
@@ -40,7 +36,7 @@ pub record Goes (result : steps.Result) (step : ℕ) (whats : List What) (exact 
 -- what a step came to, from the count of steps before it and the state after it
 abbrev pub StepAs : steps.Result → Result Seen Stop → ℕ → Bool → State → Type 0
 StepAs result (Ok seen) step exact new = Goes result step (whats seen) exact new
-StepAs result (Err stop) step exact new = result ≡ Stands stop
+StepAs result (Err stop) step exact new = result ≡ Halts stop
 
 -- what holds of a machine between two steps
 pub record IsKept (frames : ℕ) (b : State) : Type 0 where

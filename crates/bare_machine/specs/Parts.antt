@@ -1,13 +1,13 @@
 -- Parts of a run, between which a cache may be changed.
 use Rattle.std.specs.Prelude.{◌≡◌, ℕ, Bool, List, [], ◌++◌, Ok}
 use Rattle.pv_io.specs.declared.answer.Failed.{Failed}
-use Rattle.image_load.specs.declared.fault.Pause.{Pause}
+use Rattle.run_trace.specs.declared.pause.Pause.{Pause}
 use Rattle.machine_model.specs.State.{Setting, State, Loosened}
 use Rattle.machine_model.specs.Step.{Report}
-use Rattle.machine_model.specs.Run.{Set, Steps, Run}
-use Rattle.bare_machine.specs.Machine.{with_set, Passes}
+use Rattle.machine_model.specs.Run.{Set, Steps, Run, with_set}
+use Rattle.bare_machine.specs.Machine.{Passes}
 use Rattle.bare_machine.specs.Slices.{PausesAs}
-use Rattle.bare_machine.specs.Answers.{end_of}
+use Rattle.run_trace.specs.Pauses.{end_of}
 
 -- Steps with these reports lead from one state to another. Its translations are loosened from those that the last step left.
 pub record Leads (s : Setting) (old : State) (reports : List Report) (now : State) : Type 0 where

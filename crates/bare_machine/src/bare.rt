@@ -9,7 +9,8 @@ ghost use Rattle.image_check.specs.Image.{Image};
 ghost use Rattle.pv_io.specs.Causes.{Rose};
 ghost use Rattle.machine_model.specs.Fit.{Fit};
 ghost use Rattle.bare_machine.specs.Machine.{bare, state_of, IsKept};
-ghost use Rattle.bare_machine.specs.Slices.{SliceAs, OneStepAs, GoesOn};
+ghost use Rattle.bare_machine.specs.Slices.{SliceAs, OneStepAs};
+ghost use Rattle.run_trace.specs.Pauses.{IfReached};
 ghost use Rattle.bare_machine.specs.Starts.{StartedAs, with_cache};
 
 use crate::machine::Bare;
@@ -19,11 +20,12 @@ use board::{Board, Script};
 use descriptors::{Cpu, Hidden};
 use guest_ram::Ram;
 use image_check::Checked;
-use image_load::{Pause, StartFault, load};
+use image_load::{StartFault, load};
 use machine_model::runs_keep_fit;
 use pv_io::{Failed, Sink};
 use std::alloc::Global;
 use xlate_buffer::Cache;
+use run_trace::Pause;
 
 impl<C: Cache> Bare<C> {
     /// The machine in the state in which every run begins.
@@ -75,11 +77,11 @@ impl<C: Cache> Bare<C> {
         requires bound { self.old.step + k ≤ 2 ^ 40 }
         ensures slice { (image : Image) → SliceAs (bare image script.now.list self.old.frames) (C.is_exact self.old.kept.cache) (self.old.step + k) (state_of C.entries self.old) (state_of C.entries self.new) (O.taken out.old) (O.taken out.new) result }
         ensures one { k ≡ 1 → (image : Image) → OneStepAs (bare image script.now.list self.old.frames) (C.is_exact self.old.kept.cache) (state_of C.entries self.old) (state_of C.entries self.new) result }
-        ensures reached { GoesOn result (self.new.step ≡ self.old.step + k) }
-        ensures kept { GoesOn result (IsKept self.new.frames (state_of C.entries self.new)) }
-        ensures frames { GoesOn result (self.new.frames ≡ self.old.frames) }
-        ensures exact { GoesOn result (C.is_exact self.new.kept.cache ≡ C.is_exact self.old.kept.cache) }
-        ensures fit { Fit self.old.cpu → GoesOn result (Fit self.new.cpu) }
+        ensures reached { IfReached result (self.new.step ≡ self.old.step + k) }
+        ensures kept { IfReached result (IsKept self.new.frames (state_of C.entries self.new)) }
+        ensures frames { IfReached result (self.new.frames ≡ self.old.frames) }
+        ensures exact { IfReached result (C.is_exact self.new.kept.cache ≡ C.is_exact self.old.kept.cache) }
+        ensures fit { Fit self.old.cpu → IfReached result (Fit self.new.cpu) }
         ensures later { O.faults out.old ≤ O.faults out.new }
         ensures cause { OnErr result (Rose (O.faults out.old) (O.faults out.new)) }
     {

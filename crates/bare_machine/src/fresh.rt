@@ -11,9 +11,9 @@ use crate::machine::Bare;
 use bare_mem::drop_all;
 use board::Script;
 use image_check::Checked;
-use image_load::{Pause, RunFault, StartFault};
+use image_load::{RunFault, StartFault};
 use pv_io::{Failed, Sink};
-use run_trace::{End, Ended, put_end};
+use run_trace::{End, Ended, Pause, put_end};
 use std::alloc::Global;
 use xlate_buffer::{Buffer, Cache};
 

@@ -4,14 +4,15 @@ ghost use Rattle.std.specs.Prelude.{◌≡◌, ◌≤◌, ◌^◌, true, IfOk};
 ghost use Rattle.board.specs.Scripts.{is_script};
 ghost use Rattle.image_check.specs.Image.{Image};
 ghost use Rattle.bare_machine.specs.Machine.{bare, state_of, IsKept};
-ghost use Rattle.bare_machine.specs.Answers.{RunAnswers, WholeAs, end_of};
+ghost use Rattle.bare_machine.specs.Answers.{RunAnswers, WholeAs};
+ghost use Rattle.run_trace.specs.Pauses.{end_of};
 
 use crate::machine::Bare;
 use board::Script;
 use image_check::Checked;
-use image_load::{Pause, RunFault, StartFault};
+use image_load::{RunFault, StartFault};
 use pv_io::Sink;
-use run_trace::{End, Ended, put_end};
+use run_trace::{End, Ended, Pause, end_of, put_end};
 use std::alloc::Global;
 use xlate_buffer::{Buffer, Cache};
 
@@ -66,15 +67,5 @@ fn whole<C: Cache, O: Sink>(
     match put_end(&ended, out) {
         Err(_) => Err(RunFault::Write),
         Ok(()) => Ok(ended),
-    }
-}
-
-/// The end of a run whose last slice paused so.
-fn end_of(pause: Pause) -> End
-    ensures { result ≡ end_of pause }
-{
-    match pause {
-        Pause::Reached => End::Bound,
-        Pause::Stopped(stop) => End::Stopped(stop),
     }
 }

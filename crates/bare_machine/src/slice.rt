@@ -8,15 +8,15 @@ ghost use Rattle.machine_model.specs.Step.{items_at};
 ghost use Rattle.machine_step.specs.Worked.{whats};
 ghost use Rattle.run_trace.specs.Steps.{items_of};
 ghost use Rattle.bare_machine.specs.Machine.{bare, state_of, IsKept};
-ghost use Rattle.bare_machine.specs.Slices.{SliceAs, GoesOn};
+ghost use Rattle.bare_machine.specs.Slices.{SliceAs};
+ghost use Rattle.run_trace.specs.Pauses.{IfReached};
 
 use crate::idle::rest;
 use crate::machine::{Bare, first_state, step};
 use board::Script;
-use image_load::Pause;
 use machine_step::Seen;
 use pv_io::{Failed, Sink};
-use run_trace::{Item, StepItems, put_step};
+use run_trace::{Item, Pause, StepItems, put_step};
 use xlate_buffer::Cache;
 
 /// Steps up to a count of steps, or to a stop. The lines of a step go to the sink at its end.
@@ -31,10 +31,10 @@ pub fn steps_to<C: Cache, O: Sink>(
     requires bound { bound ≤ 2 ^ 40 }
     requires begun { machine.old.step ≤ bound }
     ensures slice { (image : Image) → SliceAs (bare image script.now.list machine.old.frames) (C.is_exact machine.old.kept.cache) bound (state_of C.entries machine.old) (state_of C.entries machine.new) (O.taken out.old) (O.taken out.new) result }
-    ensures reached { GoesOn result (machine.new.step ≡ bound) }
-    ensures kept { GoesOn result (IsKept machine.new.frames (state_of C.entries machine.new)) }
-    ensures frames { GoesOn result (machine.new.frames ≡ machine.old.frames) }
-    ensures same { GoesOn result (C.is_exact machine.new.kept.cache ≡ C.is_exact machine.old.kept.cache) }
+    ensures reached { IfReached result (machine.new.step ≡ bound) }
+    ensures kept { IfReached result (IsKept machine.new.frames (state_of C.entries machine.new)) }
+    ensures frames { IfReached result (machine.new.frames ≡ machine.old.frames) }
+    ensures same { IfReached result (C.is_exact machine.new.kept.cache ≡ C.is_exact machine.old.kept.cache) }
     ensures later { O.faults out.old ≤ O.faults out.new }
     ensures cause { OnErr result (Rose (O.faults out.old) (O.faults out.new)) }
 {

@@ -8,19 +8,20 @@ use Rattle.std.proofs.lemmas.Bool.Decides.{leb_tells}
 use Rattle.std.proofs.lemmas.List.Splits.{slice_split_first, slice_split_none, length-slice_split}
 use Rattle.std.proofs.lemmas.List.Sums.{fails_before_first}
 use Rattle.std.proofs.lemmas.List.Elements.{All-from_all_within}
-use Rattle.board.specs.Texts.{is_digit, decimal_after, number_after, cut_at, event_in}
+use Rattle.core.specs.Char.{is_ascii_digit}
+use Rattle.board.specs.Texts.{decimal_after, number_after, cut_at, event_in}
 use Rattle.board.specs.declared.fault.ScriptCause.TheVariants.{NoForm}
 use Rattle.board.specs.Cuts.{IsCut}
 
 split : (ys : List ℕ) (i : ℕ) → i < length ys → drop i ys ≡ get_or ys i 0 ∷ drop (i + 1) ys
 split ys i h = rw (add-one, drop-cons ys i 0) refl
 
-digit_here : (limit n b : ℕ) (rest : List ℕ) → is_digit b ≡ true →
+digit_here : (limit n b : ℕ) (rest : List ℕ) → is_ascii_digit b ≡ true →
     number_after limit n (b ∷ rest) ≡ number_after limit (10 * n + (b - 48)) rest
 unfolding number_after
 digit_here limit n b rest h = rw h refl
 
-other_here : (limit n b : ℕ) (rest : List ℕ) → is_digit b ≡ false → number_after limit n (b ∷ rest) ≡ None
+other_here : (limit n b : ℕ) (rest : List ℕ) → is_ascii_digit b ≡ false → number_after limit n (b ∷ rest) ≡ None
 unfolding number_after
 other_here limit n b rest h = rw h refl
 
@@ -36,17 +37,17 @@ pub too_large : (limit n : ℕ) (rest : List ℕ) → limit < n → number_after
 unfolding number_after
 too_large limit n rest h = elim (leb_tells (decimal_after n rest) limit) [
   | inl (is, low) ↦ absurd (omega (arith, grows n rest))
-  | inr (isnt, high) ↦ none_of (list_all is_digit rest) (nat_le (decimal_after n rest) limit) (decimal_after n rest) isnt
+  | inr (isnt, high) ↦ none_of (list_all is_ascii_digit rest) (nat_le (decimal_after n rest) limit) (decimal_after n rest) isnt
 ]
 
 -- a loop's step at a digit
-pub digit_step : (limit n : ℕ) (word : List ℕ) (i : ℕ) → i < length word → is_digit (get_or word i 0) ≡ true →
+pub digit_step : (limit n : ℕ) (word : List ℕ) (i : ℕ) → i < length word → is_ascii_digit (get_or word i 0) ≡ true →
     number_after limit n (drop i word) ≡ number_after limit (10 * n + (get_or word i 0 - 48)) (drop (i + 1) word)
 digit_step limit n word i h is =
     ap (number_after limit n) (split word i h) ∙ digit_here limit n (get_or word i 0) (drop (i + 1) word) is
 
 -- and at another byte
-pub other_step : (limit n : ℕ) (word : List ℕ) (i : ℕ) → i < length word → is_digit (get_or word i 0) ≡ false →
+pub other_step : (limit n : ℕ) (word : List ℕ) (i : ℕ) → i < length word → is_ascii_digit (get_or word i 0) ≡ false →
     number_after limit n (drop i word) ≡ None
 other_step limit n word i h is =
     ap (number_after limit n) (split word i h) ∙ other_here limit n (get_or word i 0) (drop (i + 1) word) is

@@ -16,7 +16,7 @@ use Rattle.board.specs.Lines.{said, events_on, last_step, badness, badness_of, A
 use Rattle.board.proofs.Readings.{stays}
 
 -- what was read when line i comes
-record Stands (lines : List (List ℕ)) (i : ℕ) (r : Reading) : Type 0 where
+record ReadSoFar (lines : List (List ℕ)) (i : ℕ) (r : Reading) : Type 0 where
   line : r.line ≡ i + 1
   events : r.events ≡ events_on (take i lines)
   low : r.low ≡ last_step (events_on (take i lines))
@@ -37,7 +37,7 @@ events_more lines i x within is =
     ∙ ap (λ (y : Result (Option (ℕ × Event)) ScriptCause). events_on (take i lines) ++ said y) is
 
 refused : (lines : List (List ℕ)) (i : ℕ) (r : Reading) (rest : List (List ℕ)) (cause : ScriptCause) → i < length lines →
-    Stands lines i r → badness_of lines i ≡ Some cause →
+    ReadSoFar lines i r → badness_of lines i ≡ Some cause →
     LinesSay lines (events_of (lines_read (Err (r.line, cause)) rest))
 refused lines i r rest cause within st bad =
     let P : Result Reading (ℕ × ScriptCause) → Type 0 = λ x. LinesSay lines (events_of x) in
@@ -48,8 +48,8 @@ verdict falls full = if falls then Some StepFalls else if full then Some TooMany
 
 -- an event more, by the two tests
 event_on : (lines : List (List ℕ)) (i : ℕ) (r : Reading) (rest : List (List ℕ)) (e : ℕ × Event) →
-    event_of_line (get_or lines i []) ≡ Ok (Some e) → i < length lines → Stands lines i r →
-    ((s : Reading) → Stands lines (i + 1) s → LinesSay lines (events_of (lines_read (Ok s) rest))) →
+    event_of_line (get_or lines i []) ≡ Ok (Some e) → i < length lines → ReadSoFar lines i r →
+    ((s : Reading) → ReadSoFar lines (i + 1) s → LinesSay lines (events_of (lines_read (Ok s) rest))) →
     (falls full : Bool) → badness_of lines i ≡ verdict falls full →
     LinesSay lines
     (events_of
@@ -71,8 +71,8 @@ event_on lines i r rest e is within st on false false bad =
 
 -- one line more, by what it says
 goes_on : (lines : List (List ℕ)) (i : ℕ) (r : Reading) (rest : List (List ℕ)) (x : Result (Option (ℕ × Event)) ScriptCause) →
-    event_of_line (get_or lines i []) ≡ x → i < length lines → Stands lines i r →
-    ((s : Reading) → Stands lines (i + 1) s → LinesSay lines (events_of (lines_read (Ok s) rest))) →
+    event_of_line (get_or lines i []) ≡ x → i < length lines → ReadSoFar lines i r →
+    ((s : Reading) → ReadSoFar lines (i + 1) s → LinesSay lines (events_of (lines_read (Ok s) rest))) →
     LinesSay lines (events_of (lines_read (line_read r x) rest))
 goes_on lines i r rest (Err cause) is within st on =
     refused lines i r rest cause within st (ap (badness (events_on (take i lines))) is)
@@ -93,7 +93,7 @@ goes_on lines i r rest (Ok (Some e)) is within st on =
     ∙ ap (λ (low : ℕ). verdict (nat_lt e.0 low) (nat_le max_events (length before))) (sym st.low)
     ∙ ap (λ (events : Events). verdict (nat_lt e.0 r.low) (nat_le max_events (length events))) (sym st.events))
 
-says : (lines : List (List ℕ)) (rest : List (List ℕ)) (i : ℕ) (r : Reading) → rest ≡ drop i lines → i ≤ length lines → Stands lines i r →
+says : (lines : List (List ℕ)) (rest : List (List ℕ)) (i : ℕ) (r : Reading) → rest ≡ drop i lines → i ≤ length lines → ReadSoFar lines i r →
     LinesSay lines (events_of (lines_read (Ok r) rest))
 unfolding lines_read
 says lines [] i r is within st =

@@ -114,7 +114,7 @@ chip_demands bytes o =
     ∷ (o + 6, nat_le (slice_index bytes (o + 6)) 1)
     ∷ []
 
--- the master's request 2 is set exactly while the slave has something to raise, which its mask is the last to decide
+-- the master's IR2 is set exactly while the slave has something to raise, which its mask is the last to decide
 abbrev pub pair_demands : List ℕ → Demands
 pair_demands bytes = (11, stands_for_slave (pair_at bytes)) ∷ []
 

@@ -3,6 +3,7 @@ use Rattle.std.specs.Prelude.{◌≡◌, ℕ, ◌+◌, ◌-◌, ◌*◌, Bool, t
 use Rattle.std.specs.List.{slice_split, list_all}
 use Rattle.std.specs.Str.{bytes_eq}
 use Rattle.std.specs.Option.{option_map}
+use Rattle.core.specs.Char.{is_ascii_digit}
 use Rattle.board.specs.declared.script.Event.{Event}
 use Rattle.board.specs.declared.script.Event.TheVariants.{Rx, Line}
 use Rattle.board.specs.declared.fault.ScriptCause.{ScriptCause}
@@ -10,9 +11,6 @@ use Rattle.board.specs.declared.fault.ScriptCause.TheVariants.{NoForm, BadNumber
 use Rattle.board.specs.Scripts.{Events, max_step, max_events, is_free_line, is_script}
 
 -- numbers
-
-abbrev pub is_digit : ℕ → Bool
-is_digit b = nat_le 48 b && nat_le b 57
 
 -- the number that decimal digits say, after those that said n
 abbrev pub decimal_after : ℕ → List ℕ → ℕ
@@ -22,7 +20,7 @@ decimal_after n (b ∷ rest) = decimal_after (10 * n + (b - 48)) rest
 -- a decimal number up to a limit, leading zeros allowed
 unfoldable pub number_after : ℕ → ℕ → List ℕ → Option ℕ
 number_after limit n word =
-    if list_all is_digit word && nat_le (decimal_after n word) limit then Some (decimal_after n word) else None
+    if list_all is_ascii_digit word && nat_le (decimal_after n word) limit then Some (decimal_after n word) else None
 
 abbrev pub number_upto : ℕ → List ℕ → Option ℕ
 number_upto limit word = number_after limit 0 word

@@ -5,19 +5,13 @@ ghost use Rattle.std.specs.Option.{option_map};
 ghost use Rattle.std.specs.List.{list_all};
 ghost use Rattle.board.specs.declared.script.Event.TheVariants.{Line};
 ghost use Rattle.board.specs.Scripts.{max_step, event_fits};
-ghost use Rattle.board.specs.Texts.{number_upto, is_digit, hex_value, both_digits, hex_byte, free_line_of, event_of, event_in, cut_at, is_printable, is_skipped, is_empty, event_of_line};
+ghost use Rattle.board.specs.Texts.{number_upto, hex_value, both_digits, hex_byte, free_line_of, event_of, event_in, cut_at, is_printable, is_skipped, is_empty, event_of_line};
 ghost use Rattle.board.specs.Cuts.{IsCut};
 
 use crate::fault::ScriptCause;
 use crate::script::Event;
 
 const MAX_STEP: u64 = 1 << 40;
-
-fn is_digit(b: u8) -> bool
-    ensures { result ≡ is_digit b }
-{
-    b'0' <= b && b <= b'9'
-}
 
 /// A decimal number up to a limit.
 fn number(word: &[u8], limit: u64) -> Option<u64>
@@ -27,7 +21,7 @@ fn number(word: &[u8], limit: u64) -> Option<u64>
 {
     let mut value = 0;
     for b in word {
-        if !is_digit(*b) {
+        if !b.is_ascii_digit() {
             return None;
         }
         value = 10 * value + (*b - b'0') as u64;

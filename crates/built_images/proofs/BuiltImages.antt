@@ -14,7 +14,8 @@ use Rattle.sites.specs.declared.site.Site.{Site}
 use Rattle.sites.specs.Formats.{listed}
 use Rattle.image_check.specs.declared.fault.CheckCause.TheVariants.{Target}
 use Rattle.image_check.specs.declared.piece.Piece.{Piece}
-use Rattle.image_check.specs.Refusals.{Wrong, bad}
+use Rattle.image_check.specs.Refusals.{Wrong}
+use Rattle.guest_ram.specs.Places.{bad}
 use Rattle.image_check.specs.Sweep.{Swept, Sweep, sweep}
 use Rattle.image_check.specs.Pieces.{target_of, piece_of, pieces_of, pieces_in}
 use Rattle.image_check.specs.Targets.{is_entrance, wrong_target}

@@ -8,7 +8,8 @@ use Rattle.guest_ram.specs.Bytes.{word16, word32}
 use Rattle.elf_form.specs.declared.roles.Role.{Role}
 use Rattle.elf_form.specs.declared.roles.Role.TheVariants as role
 use Rattle.elf_form.specs.declared.symbols.SectionTest.TheVariants.{EntrySizes}
-use Rattle.elf_form.specs.Faults.{bad, ◌or_lower◌}
+use Rattle.elf_form.specs.Faults.{◌or_lower◌}
+use Rattle.guest_ram.specs.Places.{bad}
 use Rattle.elf_form.specs.Output.{pad}
 use Rattle.elf_form.specs.Tables.{entries, first, found}
 use Rattle.elf_form.specs.Header.{section_table, section_count, sections}

@@ -13,7 +13,7 @@ use Rattle.elf_form.specs.declared.symbols.SectionTest.TheVariants.{Links}
 use Rattle.elf_form.specs.declared.symbols.SymbolTest.TheVariants.{Names, Globals}
 use Rattle.elf_form.specs.declared.symbols.RelocTest.{RelocTest}
 use Rattle.elf_form.specs.declared.symbols.RelocTest.TheVariants.{Named, Form}
-use Rattle.elf_form.specs.Faults.{bad, ◌or_else◌}
+use Rattle.guest_ram.specs.Places.{◌or_else◌, bad}
 use Rattle.elf_form.specs.Tables.{entries, first, found}
 use Rattle.elf_form.specs.Header.{section_table, section_count, sections}
 use Rattle.elf_form.specs.Sections.{names, nameless}

@@ -3,7 +3,8 @@ use Rattle.std.proofs.Common.{◌≡◌, ℕ, zero, suc, ◌<◌, Bool, true, fa
 use Rattle.std.specs.Prelude.{fold}
 use Rattle.elf_form.specs.declared.object.Reloc.{Reloc}
 use Rattle.elf_form.specs.declared.symbols.Entry.{Entry}
-use Rattle.elf_form.specs.Faults.{bad, ◌or_else◌, ◌or_lower◌}
+use Rattle.elf_form.specs.Faults.{◌or_lower◌}
+use Rattle.guest_ram.specs.Places.{◌or_else◌, bad}
 
 -- ---- what stands in a list
 

@@ -6,7 +6,8 @@ use Rattle.guest_ram.specs.Bytes.{word32}
 use Rattle.elf_form.specs.declared.cause.ElfCause.{ElfCause}
 use Rattle.elf_form.specs.declared.segments.Found.{Found}
 use Rattle.elf_form.specs.declared.segments.Found.TheVariants.{Nothing, One, Two, More}
-use Rattle.elf_form.specs.Faults.{test, ◌or_lower◌, bad}
+use Rattle.elf_form.specs.Faults.{test, ◌or_lower◌}
+use Rattle.guest_ram.specs.Places.{bad}
 use Rattle.elf_form.specs.Tables.{AllFound, first_of, second_of}
 use Rattle.elf_form.specs.Segments.{order, memory_sizes, first_size, second_size, sizes, loads, header_size, program_size, section_size, too_long}
 use Rattle.elf_form.specs.Sections.{one_of}

@@ -18,7 +18,7 @@ use Rattle.elf_form.specs.declared.symbols.Entry.{Entry}
 use Rattle.elf_form.specs.declared.symbols.RelocTest.TheVariants.{Named, Form}
 use Rattle.elf_form.specs.declared.symbols.Table.{Table}
 use Rattle.elf_form.specs.ObjectParts.{ObjectParts}
-use Rattle.elf_form.specs.Faults.{bad, ◌or_else◌}
+use Rattle.guest_ram.specs.Places.{◌or_else◌, bad}
 use Rattle.elf_form.specs.Tables.{entries, found}
 use Rattle.elf_form.specs.Header.{header_table, section_table, section_count, sections, passes, has_contents, part_of, header_cut, header_table_cut, section_table_cut, header_part_cut, section_part_cut, cut, IsSection, IsWhole}
 use Rattle.elf_form.specs.Sections.{contents, is_index, names, is_null, is_sites}

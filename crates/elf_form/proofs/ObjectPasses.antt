@@ -8,7 +8,7 @@ use Rattle.elf_form.specs.declared.symbols.Table.{Table}
 use Rattle.elf_form.specs.declared.symbols.SectionTest.TheVariants.{EntrySizes, Links}
 use Rattle.elf_form.specs.ObjectParts.{ObjectParts}
 use Rattle.elf_form.specs.Output.{pad}
-use Rattle.elf_form.specs.Faults.{◌or_else◌}
+use Rattle.guest_ram.specs.Places.{◌or_else◌}
 use Rattle.elf_form.specs.Tables.{first, found}
 use Rattle.elf_form.specs.Header.{passes, header_passes, section_passes, header_table, section_table, header_count, section_count, part_of, header_cut, header_table_cut, section_table_cut, header_part_cut, section_part_cut, cut}
 use Rattle.elf_form.specs.Sections.{is_nameless, is_compressed, field_of, compressed, nameless}

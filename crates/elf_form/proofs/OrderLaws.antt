@@ -4,7 +4,7 @@ use Rattle.std.proofs.Common.{◌≡◌, ℕ, zero, suc, ◌+◌, ◌*◌, ◌<�
 use Rattle.std.specs.Prelude.{◌↔◌}
 use Rattle.std.proofs.lemmas.Bool.{cases_lt, le-ltb, lt-ltb}
 use Rattle.guest_ram.specs.Bytes.{word32}
-use Rattle.elf_form.specs.Faults.{bad, ◌or_else◌}
+use Rattle.guest_ram.specs.Places.{◌or_else◌, bad}
 use Rattle.elf_form.specs.Tables.{first}
 use Rattle.elf_form.specs.Header.{header_table, section_table, header_count, section_count, headers, sections, passes, has_contents, header_passes, section_passes, part_of, cut}
 use Rattle.elf_form.specs.Order.{named_by_header, named_by_section, named_parts, IsPast, IsFirstPast}

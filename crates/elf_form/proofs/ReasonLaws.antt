@@ -9,7 +9,8 @@ use Rattle.elf_form.specs.declared.cause.ElfFault.{ElfFault}
 use Rattle.elf_form.specs.declared.cause.ElfFault.TheVariants as faults
 use Rattle.elf_form.specs.ImageParts.{ImageParts}
 use Rattle.elf_form.specs.ObjectParts.{ObjectParts}
-use Rattle.elf_form.specs.Faults.{Fault, IsFirstOf, bad, Gives}
+use Rattle.elf_form.specs.Faults.{Fault, IsFirstOf, Gives}
+use Rattle.guest_ram.specs.Places.{bad}
 use Rattle.elf_form.specs.Tables.{found}
 use Rattle.elf_form.specs.Header.{cut, magic, class, encoding, version, file_type, machine}
 use Rattle.elf_form.specs.Segments.{loads, is_executable, order}

@@ -5,7 +5,8 @@ use Rattle.std.proofs.lemmas.Bool.{cond-true, cond-false, le-ltb}
 use Rattle.guest_ram.specs.Bytes.{part, word32}
 use Rattle.elf_form.specs.declared.segments.Found.TheVariants.{One, Two}
 use Rattle.elf_form.specs.ImageParts.{ImageParts}
-use Rattle.elf_form.specs.Faults.{bad, ◌or_else◌, ◌or_lower◌}
+use Rattle.elf_form.specs.Faults.{◌or_lower◌}
+use Rattle.guest_ram.specs.Places.{◌or_else◌, bad}
 use Rattle.elf_form.specs.Tables.{entries, first, found}
 use Rattle.elf_form.specs.Header.{headers, sections, passes, header_passes, section_passes, header_table, section_table, header_count, section_count, part_of, header_cut, header_table_cut, section_table_cut, header_part_cut, section_part_cut, cut}
 use Rattle.elf_form.specs.Segments.{is_load, loads, memory_sizes, sizes, order}

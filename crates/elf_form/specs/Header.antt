@@ -1,7 +1,8 @@
 -- The header of a file (System V ABI, chapter 4, ELF Header), by offsets, and where its tables and their contents pass the end.
 use Rattle.std.specs.Prelude.{◌≡◌, ◌≤◌, ℕ, ◌+◌, ◌*◌, Bool, false, not, ◌&&◌, List, length, Option, Some, None, nat_lt, ◌==◌}
 use Rattle.guest_ram.specs.Bytes.{byte, word16, word32}
-use Rattle.elf_form.specs.Faults.{bad, ◌or_else◌, ◌or_lower◌}
+use Rattle.elf_form.specs.Faults.{◌or_lower◌}
+use Rattle.guest_ram.specs.Places.{◌or_else◌, bad}
 use Rattle.elf_form.specs.Tables.{entries, first}
 
 -- where the tables begin, and their entries

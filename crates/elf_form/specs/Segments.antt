@@ -3,7 +3,8 @@ use Rattle.std.specs.Prelude.{ℕ, ◌+◌, ◌%◌, Bool, not, ◌&&◌, List, 
 use Rattle.guest_ram.specs.Bytes.{word16, word32}
 use Rattle.elf_form.specs.declared.segments.Found.{Found}
 use Rattle.elf_form.specs.declared.segments.Found.TheVariants.{Nothing, One, Two, More}
-use Rattle.elf_form.specs.Faults.{bad, ◌or_lower◌}
+use Rattle.elf_form.specs.Faults.{◌or_lower◌}
+use Rattle.guest_ram.specs.Places.{bad}
 use Rattle.elf_form.specs.Tables.{found}
 use Rattle.elf_form.specs.Header.{headers}
 

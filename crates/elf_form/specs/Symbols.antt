@@ -18,7 +18,8 @@ use Rattle.elf_form.specs.declared.symbols.SymbolTest.{SymbolTest}
 use Rattle.elf_form.specs.declared.symbols.SymbolTest.TheVariants.{Names, Globals}
 use Rattle.elf_form.specs.declared.symbols.RelocTest.{RelocTest}
 use Rattle.elf_form.specs.declared.symbols.RelocTest.TheVariants.{Named, Form}
-use Rattle.elf_form.specs.Faults.{bad, ◌or_else◌, ◌or_lower◌}
+use Rattle.elf_form.specs.Faults.{◌or_lower◌}
+use Rattle.guest_ram.specs.Places.{◌or_else◌, bad}
 use Rattle.elf_form.specs.Tables.{entries}
 use Rattle.elf_form.specs.Header.{section_table, section_count, sections}
 use Rattle.elf_form.specs.Sections.{contents, is_index}

@@ -2,7 +2,8 @@
 
 ghost use Rattle.std.specs.Prelude.{◌≡◌, ◌≤◌, ◌<◌, ◌+◌, ◌*◌, ◌^◌, Bool, length, not, ◌||◌, ◌==◌, IfNone, IfSome};
 ghost use Rattle.guest_ram.specs.Bytes.{byte, word16, word32};
-ghost use Rattle.elf_form.specs.Faults.{bad, ◌or_lower◌};
+ghost use Rattle.elf_form.specs.Faults.{◌or_lower◌};
+ghost use Rattle.guest_ram.specs.Places.{bad};
 ghost use Rattle.elf_form.specs.Tables.{entries, first};
 ghost use Rattle.elf_form.specs.Header.{cut, part_of, header_passes, section_passes, passes, IsWhole};
 ghost use Rattle.elf_form.specs.Header.{magic, class, encoding, version, file_type, machine};

@@ -4,7 +4,7 @@ ghost use Rattle.std.specs.Prelude.{◌≡◌, ◌≤◌, ◌<◌, ◌+◌, ◌*
 ghost use Rattle.guest_ram.specs.Bytes.{word16, word32};
 ghost use Rattle.elf_form.specs.Tables.{AllFound};
 ghost use Rattle.elf_form.specs.Header.{IsWhole, IsSection, section_table, section_count};
-ghost use Rattle.elf_form.specs.Faults.{◌or_else◌};
+ghost use Rattle.guest_ram.specs.Places.{◌or_else◌};
 ghost use Rattle.elf_form.specs.Symbols.{target_role, table_at, is_file, has_binding, has_place, is_listed, place_by, role_at, symbol_fault, global_fault, is_reloc_section, is_reloc_section_of, entries_fault, is_linked, section_test, is_unnamed, symbol_test, has_symbol, size_at, number_of, IsEntry, is_outside, has_kind, names_none, named_fault, form_fault, reloc_test};
 
 use crate::header::bad;

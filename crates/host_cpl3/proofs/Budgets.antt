@@ -23,7 +23,7 @@ use Rattle.paging.specs.Reached.{reached_by}
 use Rattle.host_cpl3.specs.declared.view.View.{View}
 use Rattle.host_cpl3.specs.declared.exit.Exit.{Exit}
 use Rattle.host_cpl3.specs.declared.exit.Exit.TheVariants as exits
-use Rattle.host_cpl3.specs.declared.exit.Done.{Done}
+use Rattle.host_cpl3.specs.declared.exit.Completion.{Completion}
 use Rattle.host_cpl3.specs.Met.{Met, ◌>>=◌, gives, unless}
 use Rattle.host_cpl3.specs.Views.{selectors_of, is_null, is_entry, is_past_limit, protection, limit_fault}
 use Rattle.host_cpl3.specs.Pages.{walked, is_there, or_fault, page_met, byte_at}
@@ -157,11 +157,11 @@ finished_not v o m (outcomes.Stop stop) = stop_not stop
 worked_not : (v : View) (m : List ℕ) (r : Regs) (insn : Insn) (len : ℕ) → NotBudget (worked v m r insn len)
 unfolding worked
 worked_not v m r insn len =
-    let last : Met (Done × List ℕ) = finished v insn.op m (user_effect (selectors_of v) insn len r (byte_at m v.root)) in
-    let write : Met (Done × List ℕ) = access_met m v true (ranges_of insn r).write >>= (λ _. last) in
-    let read : Met (Done × List ℕ) = access_met m v false (ranges_of insn r).read >>= (λ _. write) in
-    let target : Met (Done × List ℕ) = segment_met v (ranges_of insn r).write >>= (λ _. read) in
-    let source : Met (Done × List ℕ) = segment_met v (ranges_of insn r).read >>= (λ _. target) in
+    let last : Met (Completion × List ℕ) = finished v insn.op m (user_effect (selectors_of v) insn len r (byte_at m v.root)) in
+    let write : Met (Completion × List ℕ) = access_met m v true (ranges_of insn r).write >>= (λ _. last) in
+    let read : Met (Completion × List ℕ) = access_met m v false (ranges_of insn r).read >>= (λ _. write) in
+    let target : Met (Completion × List ℕ) = segment_met v (ranges_of insn r).write >>= (λ _. read) in
+    let source : Met (Completion × List ℕ) = segment_met v (ranges_of insn r).read >>= (λ _. target) in
     then_not (permitted insn) (λ _. source) (permitted_not insn)
     (λ _. then_not (segment_met v (ranges_of insn r).read) (λ _. target) (segment_not v (ranges_of insn r).read)
     (λ _. then_not (segment_met v (ranges_of insn r).write) (λ _. read) (segment_not v (ranges_of insn r).write)
@@ -172,16 +172,16 @@ worked_not v m r insn len =
 -- behind the test of the window
 inside_not : (v : View) (m : List ℕ) (r : Regs) → NotBudget (fetched m v.root r.eip >>= (λ begun. spelled begun >>= (λ read. worked v m r read.0 read.1)))
 inside_not v m r =
-    let rest : Decoded → Met (Done × List ℕ) = λ begun. spelled begun >>= (λ read. worked v m r read.0 read.1) in
+    let rest : Decoded → Met (Completion × List ℕ) = λ begun. spelled begun >>= (λ read. worked v m r read.0 read.1) in
     then_not (fetched m v.root r.eip) rest (fetched_not m v.root r.eip)
     (λ begun. then_not (spelled begun) (λ read. worked v m r read.0 read.1) (spelled_not begun) (λ read. worked_not v m r read.0 read.1))
 
 -- the exit of one instruction: to the window where EIP lies in it, or another
-abbrev pub Exits : View → Regs → Met (Done × List ℕ) → Type 0
+abbrev pub Exits : View → Regs → Met (Completion × List ℕ) → Type 0
 Exits v r (Ok x) = Unit {0}
 Exits v r (Err exit) = ((is_entry v r.eip ≡ true) × (exit ≡ exits.Entry r.eip)) ⊎ IsOther exit
 
-others_exit : (v : View) (r : Regs) (x : Met (Done × List ℕ)) → NotBudget x → Exits v r x
+others_exit : (v : View) (r : Regs) (x : Met (Completion × List ℕ)) → NotBudget x → Exits v r x
 others_exit v r (Ok x) h = tt
 others_exit v r (Err exit) h = inr h
 
@@ -193,29 +193,29 @@ step_exits v m r = by_window (is_entry v r.eip) refl
     by_window true e = inl (e, refl)
     by_window false e = others_exit v r _ (inside_not v m r)
 
-no_budget : (v : View) (r : Regs) (x : Met (Done × List ℕ)) → Exits v r x → (exit : Exit) → x ≡ Err exit → exit ≡ exits.Budget → ⊥
+no_budget : (v : View) (r : Regs) (x : Met (Completion × List ℕ)) → Exits v r x → (exit : Exit) → x ≡ Err exit → exit ≡ exits.Budget → ⊥
 no_budget v r (Ok x) h exit e b = absurd cc
 no_budget v r (Err other) (inl h) exit e b = let f : exits.Entry r.eip ≡ exits.Budget = sym h.1 ∙ same other exit e ∙ b in cc
   where
-    same : (a b : Exit) → ◌≡◌ {A = Met (Done × List ℕ)} (Err a) (Err b) → a ≡ b
+    same : (a b : Exit) → ◌≡◌ {A = Met (Completion × List ℕ)} (Err a) (Err b) → a ≡ b
     same a b g = cc
 no_budget v r (Err other) (inr h) exit e b = subst IsOther (same other exit e ∙ b) h
   where
-    same : (a b : Exit) → ◌≡◌ {A = Met (Done × List ℕ)} (Err a) (Err b) → a ≡ b
+    same : (a b : Exit) → ◌≡◌ {A = Met (Completion × List ℕ)} (Err a) (Err b) → a ≡ b
     same a b g = cc
 
 pub step_not : (v : View) (m : List ℕ) (r : Regs) (exit : Exit) → host_step v m r ≡ Err exit → exit ≡ exits.Budget → ⊥
 step_not v m r exit e = no_budget v r (host_step v m r) (step_exits v m r) exit e
 
-entry_is : (v : View) (r : Regs) (x : Met (Done × List ℕ)) → Exits v r x → (at : ℕ) → x ≡ Err (exits.Entry at) → (is_entry v r.eip ≡ true) × (at ≡ r.eip)
+entry_is : (v : View) (r : Regs) (x : Met (Completion × List ℕ)) → Exits v r x → (at : ℕ) → x ≡ Err (exits.Entry at) → (is_entry v r.eip ≡ true) × (at ≡ r.eip)
 entry_is v r (Ok x) h at e = absurd cc
 entry_is v r (Err other) (inl h) at e = (h.0, let f : exits.Entry at ≡ exits.Entry r.eip = sym (same other (exits.Entry at) e) ∙ h.1 in cc)
   where
-    same : (a b : Exit) → ◌≡◌ {A = Met (Done × List ℕ)} (Err a) (Err b) → a ≡ b
+    same : (a b : Exit) → ◌≡◌ {A = Met (Completion × List ℕ)} (Err a) (Err b) → a ≡ b
     same a b g = cc
 entry_is v r (Err other) (inr h) at e = absurd (subst IsOther (same other (exits.Entry at) e) h)
   where
-    same : (a b : Exit) → ◌≡◌ {A = Met (Done × List ℕ)} (Err a) (Err b) → a ≡ b
+    same : (a b : Exit) → ◌≡◌ {A = Met (Completion × List ℕ)} (Err a) (Err b) → a ≡ b
     same a b g = cc
 
 pub step_entry : (v : View) (m : List ℕ) (r : Regs) (at : ℕ) → host_step v m r ≡ Err (exits.Entry at) → (is_entry v r.eip ≡ true) × (at ≡ r.eip)

@@ -17,8 +17,8 @@ use Rattle.paging.specs.declared.entry.Walk.TheVariants.{Absent}
 use Rattle.paging.specs.Fresh.{fresh}
 use Rattle.host_cpl3.specs.declared.view.View.{View}
 use Rattle.host_cpl3.specs.declared.exit.Exit.TheVariants as exits
-use Rattle.host_cpl3.specs.declared.exit.Done.{Done}
-use Rattle.host_cpl3.specs.declared.exit.Done.TheVariants.{Completed, Entered}
+use Rattle.host_cpl3.specs.declared.exit.Completion.{Completion}
+use Rattle.host_cpl3.specs.declared.exit.Completion.TheVariants.{Completed, Entered}
 use Rattle.host_cpl3.specs.Met.{Met, gives, unless}
 use Rattle.host_cpl3.specs.Views.{selectors_of, is_entry}
 use Rattle.host_cpl3.specs.Pages.{by_walk, page_met, byte_at}
@@ -44,7 +44,7 @@ page_below m root write at frame e =
     let lt = there_below write at (at / 4096) frame (fresh m (length m / 4096) (4096 * root) false (at / 4096)) (nat_lt (at / 4096) 1048576) refl e in
     omega (arith, lt)
 
-pub begins_below : (v : View) (m : List ℕ) (r : Regs) (x : Done × List ℕ) → host_step v m r ≡ Ok x → r.eip < 2 ^ 32
+pub begins_below : (v : View) (m : List ℕ) (r : Regs) (x : Completion × List ℕ) → host_step v m r ≡ Ok x → r.eip < 2 ^ 32
 unfolding host_step fetched fetching
 begins_below v m r x e =
     let p = bound (unless (exits.Entry r.eip) (not (is_entry v r.eip))) _ x e in
@@ -73,15 +73,15 @@ finished_enters v o m (outcomes.Done r stores) regs after e =
     let same : ended v o r ≡ Entered regs = first (ended v o r) (Entered regs) _ after e in
     entered v o r regs (is_jump o && is_entry v r.eip) refl same
   where
-    first : (a b : Done) (c d : List ℕ) → ◌≡◌ {A = Met (Done × List ℕ)} (Ok (a, c)) (Ok (b, d)) → a ≡ b
-    first a b c d g = let p : ◌≡◌ {A = Done × List ℕ} (a, c) (b, d) = cc in ap (λ (q : Done × List ℕ). q.0) p
+    first : (a b : Completion) (c d : List ℕ) → ◌≡◌ {A = Met (Completion × List ℕ)} (Ok (a, c)) (Ok (b, d)) → a ≡ b
+    first a b c d g = let p : ◌≡◌ {A = Completion × List ℕ} (a, c) (b, d) = cc in ap (λ (q : Completion × List ℕ). q.0) p
 finished_enters v o m (outcomes.Raise vector code) regs after e = absurd cc
 finished_enters v o m (outcomes.Stop stop) regs after e = absurd cc
 
 worked_enters : (v : View) (m : List ℕ) (r : Regs) (insn : Insn) (len : ℕ) (regs : Regs) (after : List ℕ) → worked v m r insn len ≡ Ok (Entered regs, after) → is_entry v regs.eip ≡ true
 unfolding worked
 worked_enters v m r insn len regs after e =
-    let x : Done × List ℕ = (Entered regs, after) in
+    let x : Completion × List ℕ = (Entered regs, after) in
     let p = bound (permitted insn) _ x e in
     let q = bound (segment_met v (ranges_of insn r).read) _ x p.1.1 in
     let s = bound (segment_met v (ranges_of insn r).write) _ x q.1.1 in
@@ -92,7 +92,7 @@ worked_enters v m r insn len regs after e =
 pub enters : (v : View) (m : List ℕ) (r regs : Regs) (after : List ℕ) → host_step v m r ≡ Ok (Entered regs, after) → is_entry v regs.eip ≡ true
 unfolding host_step
 enters v m r regs after e =
-    let x : Done × List ℕ = (Entered regs, after) in
+    let x : Completion × List ℕ = (Entered regs, after) in
     let p = bound (unless (exits.Entry r.eip) (not (is_entry v r.eip))) _ x e in
     let q = bound (fetched m v.root r.eip) _ x p.1.1 in
     let s = bound (spelled q.0) _ x q.1.1 in

@@ -1,8 +1,7 @@
 -- The bytes of ranges that were met may be read.
 use Rattle.std.proofs.Common.{◌≡◌, ℕ, ◌+◌, ◌*◌, ◌^◌, ◌<◌, ◌≤◌, List, length, Bool, true, false, cond, Option, Some, None, refl, sym, subst, arith}
 use Rattle.std.proofs.lemmas.Bool.Decides.{nat_tests}
-use Rattle.ia32_types.specs.declared.size.Size.{Size}
-use Rattle.ia32_types.specs.declared.size.Size.TheVariants.{Byte, Word, Long}
+use Rattle.ia32_types.specs.declared.size.Size.TheVariants.{Long}
 use Rattle.ia32_exec.specs.Memory.{IsAllAt}
 use Rattle.ia32_exec.specs.Commit.{AreStored}
 use Rattle.ia32_exec.specs.declared.outcome.Stores.{Stores}
@@ -53,12 +52,6 @@ written m root y (Some r) hy of = λ k lt.
     let low : y.at ≤ r.at + k = omega (arith, of.0) in
     let high : r.at + k < y.at + y.len = omega (arith, of.0, of.1, lt) in
     (record { space = omega (arith, hy.fits); inside = hy.inside (r.at + k) low high }, hy.leads (r.at + k) low high)
-
--- the first byte of a number
-pub first_of : (P : ℕ → Type 0) (at : ℕ) (s : Size) → IsAllAt P at s → P at
-first_of P at Byte h = let z : at + 0 ≡ at = omega arith in subst P z (h 0 (omega arith))
-first_of P at Word h = let z : at + 0 ≡ at = omega arith in subst P z (h 0 (omega arith))
-first_of P at Long h = let z : at + 0 ≡ at = omega arith in subst P z (h 0 (omega arith))
 
 -- a number of eight
 pub long_of_eight : (m n : ℕ) (x : Reach) (at k : ℕ) → AreAll (IsWritten n x) at 32 → k < 8 → m ≡ n → IsAllAt (IsWritten m x) (at + 4 * k) Long

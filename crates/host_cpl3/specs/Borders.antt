@@ -3,8 +3,8 @@ use Rattle.std.specs.Prelude.{◌≡◌, ℕ, suc, ◌^◌, ◌<◌, List, true,
 use Rattle.ia32_types.specs.declared.flags.Regs.{Regs}
 use Rattle.host_cpl3.specs.declared.view.View.{View}
 use Rattle.host_cpl3.specs.declared.exit.Exit.TheVariants as exits
-use Rattle.host_cpl3.specs.declared.exit.Done.{Done}
-use Rattle.host_cpl3.specs.declared.exit.Done.TheVariants as done
+use Rattle.host_cpl3.specs.declared.exit.Completion.{Completion}
+use Rattle.host_cpl3.specs.declared.exit.Completion.TheVariants as done
 use Rattle.host_cpl3.specs.Views.{is_entry}
 use Rattle.host_cpl3.specs.HostStep.{host_step}
 use Rattle.host_cpl3.specs.HostRun.{Standing}
@@ -12,7 +12,7 @@ use Rattle.host_cpl3.specs.RunsTo.{RunsTo}
 
 -- the tables have no page behind the last of the address space, so what is done began below its end
 abbrev pub BeginsBelow : Type 0
-BeginsBelow = (v : View) (memory : List ℕ) (r : Regs) (x : Done × List ℕ) → host_step v memory r ≡ Ok x → r.eip < 2 ^ 32
+BeginsBelow = (v : View) (memory : List ℕ) (r : Regs) (x : Completion × List ℕ) → host_step v memory r ≡ Ok x → r.eip < 2 ^ 32
 
 -- and so each instruction of a run did
 abbrev pub EachBeginsBelow : Type 0

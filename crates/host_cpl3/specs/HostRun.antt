@@ -5,8 +5,8 @@ use Rattle.ia32_exec.specs.Digest.{digest}
 use Rattle.host_cpl3.specs.declared.view.View.{View}
 use Rattle.host_cpl3.specs.declared.exit.Exit.{Exit}
 use Rattle.host_cpl3.specs.declared.exit.Exit.TheVariants.{Entry, Budget}
-use Rattle.host_cpl3.specs.declared.exit.Done.{Done}
-use Rattle.host_cpl3.specs.declared.exit.Done.TheVariants.{Completed, Entered}
+use Rattle.host_cpl3.specs.declared.exit.Completion.{Completion}
+use Rattle.host_cpl3.specs.declared.exit.Completion.TheVariants.{Completed, Entered}
 use Rattle.host_cpl3.specs.Met.{Met}
 use Rattle.host_cpl3.specs.HostStep.{host_step}
 
@@ -24,7 +24,7 @@ counted s regs ram = record { regs = regs; ram = ram; retired = s.retired + 1; p
 
 -- A completed instruction counts, and the rest follows. A jump into the wedge window doesn't count, and the exit
 -- there follows. At an exit all is as before the instruction.
-abbrev pub after_step : Standing → Met (Done × List ℕ) → (Standing → Exit × Standing) → Exit × Standing
+abbrev pub after_step : Standing → Met (Completion × List ℕ) → (Standing → Exit × Standing) → Exit × Standing
 after_step s (Ok (Completed regs, ram)) rest = rest (counted s regs ram)
 after_step s (Ok (Entered regs, ram)) rest = (Entry regs.eip, record s { regs = regs; ram = ram })
 after_step s (Err exit) rest = (exit, s)

@@ -15,8 +15,8 @@ use Rattle.ia32_exec.specs.Commit.{list_of}
 use Rattle.host_cpl3.specs.declared.view.View.{View}
 use Rattle.host_cpl3.specs.declared.exit.Exit.{Exit}
 use Rattle.host_cpl3.specs.declared.exit.Exit.TheVariants as exits
-use Rattle.host_cpl3.specs.declared.exit.Done.{Done}
-use Rattle.host_cpl3.specs.declared.exit.Done.TheVariants.{Completed, Entered}
+use Rattle.host_cpl3.specs.declared.exit.Completion.{Completion}
+use Rattle.host_cpl3.specs.declared.exit.Completion.TheVariants.{Completed, Entered}
 use Rattle.host_cpl3.specs.Met.{Met, ◌>>=◌, unless}
 use Rattle.host_cpl3.specs.Views.{selectors_of, is_entry}
 use Rattle.host_cpl3.specs.Pages.{place, byte_at}
@@ -32,7 +32,7 @@ is_jump JumpTo = true
 is_jump _ = false
 
 -- an instruction completed, unless it is a jump into the wedge window, which isn't counted
-abbrev pub ended : View → Op → Regs → Done
+abbrev pub ended : View → Op → Regs → Completion
 ended v o r = if is_jump o && is_entry v r.eip then Entered r else Completed r
 
 -- the exit of an effect that stops
@@ -41,13 +41,13 @@ exit_of stops.FlagBits = exits.FlagBits
 exit_of _ = exits.Outside
 
 -- what an effect leaves
-abbrev pub finished : View → Op → List ℕ → Outcome → Met (Done × List ℕ)
+abbrev pub finished : View → Op → List ℕ → Outcome → Met (Completion × List ℕ)
 finished v o m (outcomes.Done r stores) = Ok (ended v o r, all_stored (place m v.root) m (list_of stores))
 finished v o m (outcomes.Raise vector code) = Err (exits.Fault vector code 0)
 finished v o m (outcomes.Stop stop) = Err (exit_of stop)
 
 -- an instruction that was spelled: its level, its segments, its ranges, and its effect over the bytes read
-unfoldable pub worked : View → List ℕ → Regs → Insn → ℕ → Met (Done × List ℕ)
+unfoldable pub worked : View → List ℕ → Regs → Insn → ℕ → Met (Completion × List ℕ)
 worked v m r insn len = do
   _ ← permitted insn
   _ ← segment_met v (ranges_of insn r).read
@@ -57,7 +57,7 @@ worked v m r insn len = do
   finished v insn.op m (user_effect (selectors_of v) insn len r (byte_at m v.root))
 
 -- how the instruction completed, with the memory after it
-unfoldable pub host_step : View → List ℕ → Regs → Met (Done × List ℕ)
+unfoldable pub host_step : View → List ℕ → Regs → Met (Completion × List ℕ)
 host_step v m r = do
   _ ← unless (exits.Entry r.eip) (not (is_entry v r.eip))
   begun ← fetched m v.root r.eip

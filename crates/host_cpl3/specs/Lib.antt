@@ -8,7 +8,6 @@ pub mod Store
 pub mod HostStep
 pub mod HostRun
 pub mod Reaches
-pub mod Fetches
 pub mod Hosts
 pub mod Kept
 pub mod RunsTo

@@ -2,7 +2,7 @@
 use Rattle.std.specs.Prelude.{◌≡◌, ℕ, ◌+◌, ◌*◌, ◌/◌, ◌%◌, ◌<◌, ◌≤◌, ◌^◌, List, length, Bool, ◌==◌, ◌&&◌, nat_le, nat_lt, Option, Some, None, Result, Ok, Err, if◌then◌else◌}
 use Rattle.ia32_exec.specs.declared.access.Range.{Range}
 use Rattle.host_cpl3.specs.declared.exit.Exit.{Exit}
-use Rattle.host_cpl3.specs.declared.exit.Done.{Done}
+use Rattle.host_cpl3.specs.declared.exit.Completion.{Completion}
 use Rattle.host_cpl3.specs.declared.reach.Reach.{Reach}
 use Rattle.host_cpl3.specs.Met.{Met}
 use Rattle.host_cpl3.specs.Pages.{place}
@@ -45,12 +45,7 @@ abbrev pub passes : {A : Type 0} → Result A Exit → Met (Unit {0})
 passes (Ok x) = Ok tt
 passes (Err exit) = Err exit
 
--- a range has 1 to 32 bytes
-abbrev pub IsShort : Option Range → Type 0
-IsShort None = Unit {0}
-IsShort (Some r) = (1 ≤ r.len) × (r.len ≤ 32)
-
 -- the function returned what the step gives, and left memory so; after an exit memory is as before
-abbrev pub Gives : Result Done Exit → (old new : List ℕ) → Met (Done × List ℕ) → Type 0
+abbrev pub Gives : Result Completion Exit → (old new : List ℕ) → Met (Completion × List ℕ) → Type 0
 Gives (Ok done) old new met = met ≡ Ok (done, new)
 Gives (Err exit) old new met = (met ≡ Err exit) × (new ≡ old)

@@ -4,8 +4,8 @@ use Rattle.ia32_types.specs.declared.flags.Regs.{Regs}
 use Rattle.host_cpl3.specs.declared.view.View.{View}
 use Rattle.host_cpl3.specs.declared.exit.Exit.{Exit}
 use Rattle.host_cpl3.specs.declared.exit.Exit.TheVariants.{Entry, Budget}
-use Rattle.host_cpl3.specs.declared.exit.Done.{Done}
-use Rattle.host_cpl3.specs.declared.exit.Done.TheVariants.{Completed, Entered}
+use Rattle.host_cpl3.specs.declared.exit.Completion.{Completion}
+use Rattle.host_cpl3.specs.declared.exit.Completion.TheVariants.{Completed, Entered}
 use Rattle.host_cpl3.specs.Met.{Met}
 use Rattle.host_cpl3.specs.HostStep.{host_step}
 use Rattle.host_cpl3.specs.HostRun.{Standing, counted, host_run}
@@ -16,7 +16,7 @@ RunsTo v zero s t = t ≡ s
 RunsTo v (suc n) s t = (regs : Regs) × ((ram : List ℕ) × ((host_step v s.ram s.regs ≡ Ok (Completed regs, ram)) × RunsTo v n (counted s regs ram) t))
 
 -- the next instruction doesn't count: it jumps into the wedge window, or it exits, and all is as before it
-abbrev pub Leaves : Met (Done × List ℕ) → Standing → Exit → Standing → Type 0
+abbrev pub Leaves : Met (Completion × List ℕ) → Standing → Exit → Standing → Type 0
 Leaves (Ok (Completed regs, ram)) s exit t = ⊥
 Leaves (Ok (Entered regs, ram)) s exit t = (exit ≡ Entry regs.eip) × (t ≡ record s { regs = regs; ram = ram })
 Leaves (Err e) s exit t = (exit ≡ e) × (t ≡ s)

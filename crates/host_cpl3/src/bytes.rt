@@ -3,7 +3,6 @@
 use crate::reach::Reach;
 use guest_ram::Ram;
 use ia32_exec::LinearBytes;
-use ia32_types::Size;
 
 /// Memory with the two ranges that were reached: what is read alone, and what is written.
 #[derive(Drop)]
@@ -24,31 +23,8 @@ impl LinearBytes for Bytes<'_> {
 
     ghost read_in_space = { λ b at h. h.space };
 
-    fn read(&self, at: u32, size: Size) -> u32 {
-        match size {
-            Size::Byte => self.byte(at),
-            Size::Word => self.byte(at) + self.byte(at + 1) * 0x100,
-            Size::Long => {
-                self.byte(at)
-                    + self.byte(at + 1) * 0x100
-                    + self.byte(at + 2) * 0x1_0000
-                    + self.byte(at + 3) * 0x100_0000
-            }
-        }
-    }
-}
-
-impl Bytes<'_> {
-    ghost use Rattle.std.specs.Prelude.{◌≡◌, ◌<◌};
-    ghost use Rattle.host_cpl3.specs.Pages.{byte_at};
-    ghost use Rattle.host_cpl3.specs.Reaches.{IsRead};
-
     #[tactic(auto, unfolding(crate::specs::Pages::byte_at))]
-    fn byte(&self, at: u32) -> u32
-        requires { IsRead self.now.ram.now self.now.root self.now.read self.now.write at }
-        ensures value { result ≡ byte_at self.now.ram.now self.now.root at }
-        ensures small { result < 256 }
-    {
+    fn byte(&self, at: u32) -> u32 {
         let place = if self.read.holds(at) {
             self.read.placed(at)
         } else {

@@ -21,7 +21,7 @@ pub enum Exit {
 
 /// How an instruction is completed.
 #[derive(Clone, Copy, Debug, PartialEq, Eq)]
-pub enum Done {
+pub enum Completion {
     /// It counts, and leaves these registers.
     Completed(Regs),
     /// It is a jump into the wedge window, in the kernel view.

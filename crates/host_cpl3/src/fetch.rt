@@ -4,7 +4,7 @@ ghost use Rattle.std.specs.Prelude.{◌≡◌, ◌+◌, ◌*◌, ◌-◌, ◌/�
 ghost use Rattle.ia32_decode.specs.Front.{front_len};
 ghost use Rattle.ia32_rows.specs.Spells.{Spells};
 ghost use Rattle.host_cpl3.specs.Fetch.{fetching, fetched_on, fetched, spelled};
-ghost use Rattle.host_cpl3.specs.Fetches.{IsSpelled};
+ghost use Rattle.ia32_decode.specs.Spelled.{IsSpelled};
 ghost use Rattle.host_cpl3.specs.Kept.{AreKept};
 
 use crate::exit::Exit;

@@ -4,7 +4,7 @@ ghost use Rattle.host_cpl3.specs.HostRun.{host_run};
 ghost use Rattle.host_cpl3.specs.Hosts.{standing, held};
 ghost use Rattle.host_cpl3.specs.Walked.{walks_of};
 
-use crate::exit::{Done, Exit};
+use crate::exit::{Completion, Exit};
 use crate::host::Host;
 use crate::step::host_step;
 use crate::view::View;
@@ -71,12 +71,12 @@ fn run(
     walks.forget();
     for _done in 0..k {
         match host_step(walks, ram, view, regs) {
-            Ok(Done::Completed(after)) => {
+            Ok(Completion::Completed(after)) => {
                 *retired += 1;
                 *passed = digest(*passed, regs.eip);
                 *regs = after;
             }
-            Ok(Done::Entered(after)) => {
+            Ok(Completion::Entered(after)) => {
                 *regs = after;
                 return Exit::Entry(after.eip);
             }

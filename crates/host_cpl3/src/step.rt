@@ -12,7 +12,7 @@ ghost use Rattle.host_cpl3.specs.HostStep.{is_jump, exit_of, ended, finished, wo
 ghost use Rattle.host_cpl3.specs.Reaches.{IsReach, IsOf, Gives};
 
 use crate::bytes::Bytes;
-use crate::exit::{Done, Exit};
+use crate::exit::{Completion, Exit};
 use crate::fetch::{fetch, spelled};
 use crate::permit::permitted;
 use crate::reach::Reach;
@@ -30,13 +30,13 @@ fn is_jump(op: Op) -> bool
     matches!(op, Op::Jmp | Op::Jcc | Op::JumpTo)
 }
 
-fn ended(view: &View, op: Op, regs: Regs) -> Done
+fn ended(view: &View, op: Op, regs: Regs) -> Completion
     ensures { result ≡ ended view.now op regs }
 {
     if is_jump(op) && is_entry(view, regs.eip) {
-        Done::Entered(regs)
+        Completion::Entered(regs)
     } else {
-        Done::Completed(regs)
+        Completion::Completed(regs)
     }
 }
 
@@ -85,7 +85,7 @@ fn finish(
     len: u8,
     read: Reach,
     write: Reach,
-) -> Result<Done, Exit>
+) -> Result<Completion, Exit>
     requires done { IsUserDone insn.now.op }
     requires shape { IsShaped insn.now }
     requires read { IsReach ram.old view.now.root read }
@@ -123,7 +123,7 @@ fn work(
     regs: &Regs,
     insn: &Insn,
     len: u8,
-) -> Result<Done, Exit>
+) -> Result<Completion, Exit>
     requires root { 4096 * view.now.root < length ram.old }
     requires kept { AreKept walks.old ram.old view.now.root }
     requires spelled { (bytes : List ℕ) × Spells bytes insn.now }
@@ -142,7 +142,7 @@ fn work(
 
 /// Does the instruction at EIP, or exits before it.
 #[tactic(auto, unfolding(crate::specs::HostStep::host_step))]
-pub fn host_step(walks: &mut Walks, ram: &mut Ram, view: &View, regs: &Regs) -> Result<Done, Exit>
+pub fn host_step(walks: &mut Walks, ram: &mut Ram, view: &View, regs: &Regs) -> Result<Completion, Exit>
     requires root { 4096 * view.now.root < length ram.old }
     requires kept { AreKept walks.old ram.old view.now.root }
     ensures gives { Gives result ram.old ram.new (host_step view.now ram.old regs.now) }

@@ -12,14 +12,14 @@ use Rattle.ia32_types.specs.declared.insn.Operand.TheVariants.{Absent, Register,
 use Rattle.ia32_types.specs.Flags.{carry_at, direction_at}
 use Rattle.ia32_exec.specs.declared.outcome.Outcome.{Outcome}
 use Rattle.ia32_exec.specs.Operands.{stored, kept_in}
-use Rattle.ia32_exec.specs.Registers.{with_register, with_whole, passed}
+use Rattle.ia32_exec.specs.Registers.{with_register, with_whole, eip_past}
 use Rattle.ia32_exec.specs.Arithmetic.{arithmetic, tested, shifted, upper, with_halves, multiplied, product_to, signed_by, signed_multiplied, multiplied_by, shared, divided}
 use Rattle.ia32_exec.specs.Moves.{moved, zero_extended, sign_extended, loaded_address, exchanged, widened, sign_spread}
 use Rattle.ia32_exec.specs.Stack.{pushed_number, pushed, popped, all_pushed, all_popped, frame_left, called, flags_pushed, is_foreign, top_of_stack, flags_popped}
 use Rattle.ia32_exec.specs.Control.{condition, jumped, jump, branched, set_by, flag_made}
 use Rattle.ia32_exec.specs.Strings.{is_over, turn, counted, string}
 use Rattle.ia32_exec.specs.Effect.{row, effect}
-use Rattle.ia32_exec.specs.EipAfter.{GoesOn, Leads, EipGoesOn}
+use Rattle.ia32_exec.specs.EipAfter.{IsEipAfter, Leads, EipGoesOn}
 
 -- ---- EIP stays as it is
 
@@ -91,7 +91,7 @@ module _ (o : Op) (i : Insn) (len : ℕ) (r : Regs) (b : ℕ → ℕ) where
 
   exchanged_leads : Leads o i len r (exchanged i len r b)
   unfolding exchanged
-  exchanged_leads = inl (kept_in_eip i.b i.size _ _ ∙ stored_eip i.a i.size _ (passed len r))
+  exchanged_leads = inl (kept_in_eip i.b i.size _ _ ∙ stored_eip i.a i.size _ (eip_past len r))
 
   pushed_leads : Leads o i len r (pushed i len r b)
   unfolding pushed pushed_number
@@ -137,8 +137,8 @@ module _ (o : Op) (i : Insn) (len : ℕ) (r : Regs) (b : ℕ → ℕ) where
   unfolding flag_made
   flag_leads at value = inl refl
 
-  shared_leads : (q : Option (ℕ × ℕ)) → Leads o i len r (shared i.size q (passed len r))
-  shared_leads (Some q) = inl (with_halves_eip i.size q.0 q.1 (passed len r))
+  shared_leads : (q : Option (ℕ × ℕ)) → Leads o i len r (shared i.size q (eip_past len r))
+  shared_leads (Some q) = inl (with_halves_eip i.size q.0 q.1 (eip_past len r))
   shared_leads None = tt
 
   divided_leads : (sign : Bool) → Leads o i len r (divided sign i len r b)
@@ -164,10 +164,10 @@ module _ (o : Op) (i : Insn) (len : ℕ) (r : Regs) (b : ℕ → ℕ) where
   unfolding signed_multiplied
   signed_multiplied_leads = signed_by_leads i.b
 
-  counted_leads : (rep : Bool) (count : ℕ) (after : Regs) → after.eip ≡ r.eip → GoesOn o i len r (counted rep count len after).eip
+  counted_leads : (rep : Bool) (count : ℕ) (after : Regs) → after.eip ≡ r.eip → IsEipAfter o i len r (counted rep count len after).eip
   counted_leads false count after e = inl (ap (λ k. (k + len) % 2 ^ 32) e)
   counted_leads true count after e = by_test (count == 1) where
-    by_test : (last : Bool) → GoesOn o i len r (cond last (passed len (with_whole 1 (count - 1) after)) (with_whole 1 (count - 1) after)).eip
+    by_test : (last : Bool) → IsEipAfter o i len r (cond last (eip_past len (with_whole 1 (count - 1) after)) (with_whole 1 (count - 1) after)).eip
     by_test true = inl (ap (λ k. (k + len) % 2 ^ 32) e)
     by_test false = inr (inr e)
 
@@ -179,7 +179,7 @@ module _ (i : Insn) (len : ℕ) (r : Regs) where
   branched_leads : Leads op.Jcc i len r (branched i len r)
   unfolding branched
   branched_leads = by_test (condition i.sel r.flags) where
-    by_test : (holds : Bool) → GoesOn op.Jcc i len r (cond holds (jumped i len r) (passed len r)).eip
+    by_test : (holds : Bool) → IsEipAfter op.Jcc i len r (cond holds (jumped i len r) (eip_past len r)).eip
     by_test true = inr (inl (tt, refl))
     by_test false = inl refl
 

@@ -24,7 +24,7 @@ use Rattle.ia32_exec.specs.declared.outcome.Outcome.TheVariants.{Done, Stop}
 use Rattle.ia32_exec.specs.declared.outcome.Stores.{Stores}
 use Rattle.ia32_exec.specs.declared.outcome.Stores.TheVariants.{Nothing}
 use Rattle.ia32_exec.specs.declared.selectors.Selectors.{Selectors}
-use Rattle.ia32_exec.specs.Registers.{register_value, with_register, with_whole, passed}
+use Rattle.ia32_exec.specs.Registers.{register_value, with_register, with_whole, eip_past}
 use Rattle.ia32_exec.specs.Operands.{value_of, stored, kept_in, done}
 use Rattle.ia32_exec.specs.Arithmetic.{flagged, computed, count_of, arithmetic, tested, shifted, with_halves, upper, multiplied, signed_by, signed_multiplied, product_to, multiplied_by, shared, divided}
 use Rattle.ia32_exec.specs.Moves.{moved, zero_extended, sign_extended, loaded_address, exchanged, widened, sign_spread}
@@ -158,10 +158,10 @@ apart_halves s below above r = apart_on r (with_register s 0 below r) _ (apart_r
 
 module _ (i : Insn) (len : ℕ) (r : Regs) where
   -- past it, with registers
-  next_with : (f : Flags) (n : Regs) → AreKept r.flags f → IsApart (passed len (record r { flags = f })) n → AreKept r.flags n.flags
+  next_with : (f : Flags) (n : Regs) → AreKept r.flags f → IsApart (eip_past len (record r { flags = f })) n → AreKept r.flags n.flags
   next_with f n k a = subst (AreKept r.flags) (sym a.flags) k
 
-  next : (n : Regs) → IsApart (passed len r) n → AreKept r.flags n.flags
+  next : (n : Regs) → IsApart (eip_past len r) n → AreKept r.flags n.flags
   next n a = next_with r.flags n (kept_same r.flags) a
 
   of_arithmetic : (b : ℕ → ℕ) → Leaves r (arithmetic i len r b)
@@ -197,29 +197,29 @@ module _ (i : Insn) (len : ℕ) (r : Regs) where
   of_signed (Segment g) b = of_product _ _
   of_signed (Control n) b = of_product _ _
 
-  of_shared : (s : Size) (q : Option (ℕ × ℕ)) → Leaves r (shared s q (passed len r))
+  of_shared : (s : Size) (q : Option (ℕ × ℕ)) → Leaves r (shared s q (eip_past len r))
   of_shared s None = tt
-  of_shared s (Some q) = next _ (apart_halves s q.0 q.1 (passed len r))
+  of_shared s (Some q) = next _ (apart_halves s q.0 q.1 (eip_past len r))
 
   of_divided : (sign : Bool) (b : ℕ → ℕ) → Leaves r (divided sign i len r b)
   unfolding divided
   of_divided sign b = of_shared i.size _
 
-  of_stored : (o : Operand) (s : Size) (v : ℕ) (n : Regs) → IsApart (passed len r) n → Leaves r (done (stored o s v n))
-  of_stored o s v n a = next _ (apart_on (passed len r) n _ a (apart_stored o s v n))
+  of_stored : (o : Operand) (s : Size) (v : ℕ) (n : Regs) → IsApart (eip_past len r) n → Leaves r (done (stored o s v n))
+  of_stored o s v n a = next _ (apart_on (eip_past len r) n _ a (apart_stored o s v n))
 
-  of_kept : (o : Operand) (s : Size) (v : ℕ) (n : Regs) (ws : Stores) → IsApart (passed len r) n → Leaves r (Done (kept_in o s v n) ws)
-  of_kept o s v n ws a = next _ (apart_on (passed len r) n _ a (apart_kept o s v n))
+  of_kept : (o : Operand) (s : Size) (v : ℕ) (n : Regs) (ws : Stores) → IsApart (eip_past len r) n → Leaves r (Done (kept_in o s v n) ws)
+  of_kept o s v n ws a = next _ (apart_on (eip_past len r) n _ a (apart_kept o s v n))
 
   of_flag : (at : ℕ) (b : Bool) → ((v : Bool) → AreKept r.flags (flag_put r.flags at v)) → Leaves r (flag_made at b len r)
   unfolding flag_made
   of_flag at b k = next_with (flag_put r.flags at b) _ (k b) (apart_same _)
 
-  of_branch : (c : Bool) (ws : Stores) → Leaves r (Done (cond c (jumped i len r) (passed len r)) ws)
+  of_branch : (c : Bool) (ws : Stores) → Leaves r (Done (cond c (jumped i len r) (eip_past len r)) ws)
   of_branch true ws = kept_same r.flags
   of_branch false ws = kept_same r.flags
 
-  of_flags : (c : Bool) (v : ℕ) → Leaves r (cond c (Stop FlagBits) (Done (passed len (with_whole 4 (esp_above 4 r) (record r { flags = taken r.flags v }))) Nothing))
+  of_flags : (c : Bool) (v : ℕ) → Leaves r (cond c (Stop FlagBits) (Done (eip_past len (with_whole 4 (esp_above 4 r) (record r { flags = taken r.flags v }))) Nothing))
   of_flags true v = tt
   of_flags false v = taken_kept r.flags v
 
@@ -228,11 +228,11 @@ module _ (i : Insn) (len : ℕ) (r : Regs) where
   of_counted false n ws a = subst (AreKept r.flags) (sym a.flags) (kept_same r.flags)
   of_counted true n ws a = choice (Rattle.std.proofs.Common.eqb (slice_index r.r 1) 1)
     where
-      choice : (c : Bool) → Leaves r (Done (cond c (passed len (with_whole 1 (slice_index r.r 1 - 1) n)) (with_whole 1 (slice_index r.r 1 - 1) n)) ws)
+      choice : (c : Bool) → Leaves r (Done (cond c (eip_past len (with_whole 1 (slice_index r.r 1 - 1) n)) (with_whole 1 (slice_index r.r 1 - 1) n)) ws)
       choice true = subst (AreKept r.flags) (sym a.flags) (kept_same r.flags)
       choice false = subst (AreKept r.flags) (sym a.flags) (kept_same r.flags)
 
-  of_over : (c : Bool) (n : Regs) (ws vs : Stores) → Leaves r (Done n ws) → Leaves r (cond c (Done (passed len r) vs) (Done n ws))
+  of_over : (c : Bool) (n : Regs) (ws vs : Stores) → Leaves r (Done n ws) → Leaves r (cond c (Done (eip_past len r) vs) (Done n ws))
   of_over true n ws vs h = next _ (apart_same _)
   of_over false n ws vs h = h
 
@@ -264,20 +264,20 @@ module _ (i : Insn) (len : ℕ) (r : Regs) where
   row_leaves ImulBy b = of_product _ _
   row_leaves Div b = of_divided false b
   row_leaves Idiv b = of_divided true b
-  row_leaves Mov b = of_stored i.a i.size _ (passed len r) (apart_same _)
-  row_leaves Movzx b = of_kept i.a Long _ (passed len r) Nothing (apart_same _)
-  row_leaves Movsx b = of_kept i.a Long _ (passed len r) Nothing (apart_same _)
-  row_leaves Lea b = of_kept i.a Long _ (passed len r) Nothing (apart_same _)
-  row_leaves Xchg b = of_kept i.b i.size _ _ Nothing (apart_stored i.a i.size _ (passed len r))
+  row_leaves Mov b = of_stored i.a i.size _ (eip_past len r) (apart_same _)
+  row_leaves Movzx b = of_kept i.a Long _ (eip_past len r) Nothing (apart_same _)
+  row_leaves Movsx b = of_kept i.a Long _ (eip_past len r) Nothing (apart_same _)
+  row_leaves Lea b = of_kept i.a Long _ (eip_past len r) Nothing (apart_same _)
+  row_leaves Xchg b = of_kept i.b i.size _ _ Nothing (apart_stored i.a i.size _ (eip_past len r))
   row_leaves Push b = kept_same r.flags
   row_leaves Pop b = of_stored i.a Long _ _ (record { flags = refl })
   row_leaves Pusha b = kept_same r.flags
   row_leaves Popa b = kept_same r.flags
-  row_leaves Cwde b = next _ (apart_register Long 0 _ (passed len r))
-  row_leaves Cdq b = next _ (apart_register Long 2 _ (passed len r))
+  row_leaves Cwde b = next _ (apart_register Long 0 _ (eip_past len r))
+  row_leaves Cdq b = next _ (apart_register Long 2 _ (eip_past len r))
   row_leaves Leave b = kept_same r.flags
   row_leaves Nop b = next _ (apart_same _)
-  row_leaves Setcc b = of_stored i.a Byte _ (passed len r) (apart_same _)
+  row_leaves Setcc b = of_stored i.a Byte _ (eip_past len r) (apart_same _)
   row_leaves Movs b = of_over (is_over i r) _ (turn Movs i.size r b).1 Nothing (of_counted i.rep _ (turn Movs i.size r b).1 (record { flags = refl }))
   row_leaves Stos b = of_over (is_over i r) _ (turn Stos i.size r b).1 Nothing (of_counted i.rep _ (turn Stos i.size r b).1 (record { flags = refl }))
   row_leaves Lods b = of_over (is_over i r) _ Nothing Nothing (of_counted i.rep _ Nothing (turned_lods _))
@@ -301,21 +301,21 @@ module _ (i : Insn) (len : ℕ) (r : Regs) where
   if_place true n ws h = h
   if_place false n ws h = tt
 
-  of_selector : (a : Operand) (v : ℕ) → Leaves r (selector_to a v (passed len r))
+  of_selector : (a : Operand) (v : ℕ) → Leaves r (selector_to a v (eip_past len r))
   of_selector Absent v = tt
   of_selector (Register n) v = kept_same r.flags
   of_selector (Memory x) v = kept_same r.flags
   of_selector (Segment g) v = tt
   of_selector (Control n) v = tt
 
-  of_read : (g : Selectors) (from a : Operand) → Leaves r (read_from g from a (passed len r))
+  of_read : (g : Selectors) (from a : Operand) → Leaves r (read_from g from a (eip_past len r))
   of_read g Absent a = tt
   of_read g (Register n) a = tt
   of_read g (Memory x) a = tt
   of_read g (Segment s) a = of_selector a _
   of_read g (Control n) a = tt
 
-  of_pushed : (g : Selectors) (from : Operand) → Leaves r (pushed_from g from (passed len r))
+  of_pushed : (g : Selectors) (from : Operand) → Leaves r (pushed_from g from (eip_past len r))
   unfolding pushed_number
   of_pushed g Absent = tt
   of_pushed g (Register n) = tt

@@ -22,7 +22,7 @@ use Rattle.ia32_exec.specs.declared.outcome.Outcome.TheVariants.{Done, Stop}
 use Rattle.ia32_exec.specs.declared.outcome.Stores.TheVariants.{Nothing, One}
 use Rattle.ia32_exec.specs.declared.selectors.Selectors.{Selectors}
 use Rattle.ia32_exec.specs.Memory.{number_at, store}
-use Rattle.ia32_exec.specs.Registers.{register_value, with_register, with_whole, address_of, passed}
+use Rattle.ia32_exec.specs.Registers.{register_value, with_register, with_whole, address_of, eip_past}
 use Rattle.ia32_exec.specs.Ranges.{operand_range, AreAll, Covers}
 use Rattle.ia32_exec.specs.Operands.{value_of, source_of, stored, kept_in, done}
 use Rattle.ia32_exec.specs.Arithmetic.{flagged, count_of, arithmetic, tested, shifted, with_halves, upper, multiplied, signed_by, signed_multiplied, product_to, multiplied_by, shared, divided}
@@ -115,7 +115,7 @@ module _ (b c : ℕ → ℕ) where
 
   divided_same : (sign : Bool) (i : Insn) (len : ℕ) (r : Regs) → Covers Same (operand_range i.a i.size r) → divided sign i len r b ≡ divided sign i len r c
   unfolding divided
-  divided_same sign i len r h = ap (λ x. shared i.size (divide sign i.size (register_value i.size (upper i.size) r) (register_value i.size 0 r) x) (passed len r)) (value_same i.a i.size r h)
+  divided_same sign i len r h = ap (λ x. shared i.size (divide sign i.size (register_value i.size (upper i.size) r) (register_value i.size 0 r) x) (eip_past len r)) (value_same i.a i.size r h)
 
   -- a string instruction that reads
   turn_same : (over : Bool) (x : Outcome) (f : ℕ → Outcome) (s : Size) (at : ℕ) → Covers Same (cond over None (Some (record { at = at; len = width s / 8; seg = Ds })))
@@ -132,7 +132,7 @@ module _ (b c : ℕ → ℕ) where
   all_popped_same : (len : ℕ) (r : Regs) → AreAll Same (stack_of r) 32 → all_popped len r b ≡ all_popped len r c
   unfolding all_popped
   all_popped_same len r h =
-      let f : ℕ → ℕ → ℕ → ℕ → ℕ → ℕ → ℕ → Outcome = λ p q s t u v w. Done (passed len (record r { r = p ∷ q ∷ s ∷ t ∷ esp_above 32 r ∷ u ∷ v ∷ w ∷ [] })) Nothing in
+      let f : ℕ → ℕ → ℕ → ℕ → ℕ → ℕ → ℕ → Outcome = λ p q s t u v w. Done (eip_past len (record r { r = p ∷ q ∷ s ∷ t ∷ esp_above 32 r ∷ u ∷ v ∷ w ∷ [] })) Nothing in
       let g : (k : ℕ) → k < 8 → slot_of k r b ≡ slot_of k r c = λ k lt. slot_same r k lt h in
       ap (λ x. f x (slot_of 6 r b) (slot_of 5 r b) (slot_of 4 r b) (slot_of 2 r b) (slot_of 1 r b) (slot_of 0 r b)) (g 7 (omega arith))
       ∙ ap (λ x. f (slot_of 7 r c) x (slot_of 5 r b) (slot_of 4 r b) (slot_of 2 r b) (slot_of 1 r b) (slot_of 0 r b)) (g 6 (omega arith))
@@ -167,20 +167,20 @@ module _ (b c : ℕ → ℕ) where
   row_same ImulBy i len r s h k = ap (λ x. product_to i x i.imm len r) (value_same i.b i.size r h)
   row_same Div i len r s h k = divided_same false i len r h
   row_same Idiv i len r s h k = divided_same true i len r h
-  row_same Mov i len r s h k = ap (λ x. done (stored i.a i.size x (passed len r))) (source_same i.b i.imm i.size r h)
-  row_same Movzx i len r s h k = ap (λ x. Done (kept_in i.a Long x (passed len r)) Nothing) (value_same i.b i.size r h)
-  row_same Movsx i len r s h k = ap (λ x. Done (kept_in i.a Long (sign_extension i.size x) (passed len r)) Nothing) (value_same i.b i.size r h)
+  row_same Mov i len r s h k = ap (λ x. done (stored i.a i.size x (eip_past len r))) (source_same i.b i.imm i.size r h)
+  row_same Movzx i len r s h k = ap (λ x. Done (kept_in i.a Long x (eip_past len r)) Nothing) (value_same i.b i.size r h)
+  row_same Movsx i len r s h k = ap (λ x. Done (kept_in i.a Long (sign_extension i.size x) (eip_past len r)) Nothing) (value_same i.b i.size r h)
   row_same Lea i len r s h k = refl
   row_same Xchg i len r s h k =
-      two (λ x y. Done (kept_in i.b i.size x (stored i.a i.size y (passed len r)).0) (stored i.a i.size y (passed len r)).1) _ _ _ _ (value_same i.a i.size r k) (value_same i.b i.size r h)
-  row_same Push i len r s h k = ap (λ x. pushed_number x (passed len r)) (source_same i.a i.imm Long r h)
-  row_same Pop i len r s h k = ap (λ x. done (stored i.a Long x (passed len (with_whole 4 (esp_above 4 r) r)))) (number_same Long (stack_of r) h)
+      two (λ x y. Done (kept_in i.b i.size x (stored i.a i.size y (eip_past len r)).0) (stored i.a i.size y (eip_past len r)).1) _ _ _ _ (value_same i.a i.size r k) (value_same i.b i.size r h)
+  row_same Push i len r s h k = ap (λ x. pushed_number x (eip_past len r)) (source_same i.a i.imm Long r h)
+  row_same Pop i len r s h k = ap (λ x. done (stored i.a Long x (eip_past len (with_whole 4 (esp_above 4 r) r)))) (number_same Long (stack_of r) h)
   row_same Pusha i len r s h k = refl
   row_same Popa i len r s h k = all_popped_same len r h
   row_same Cwde i len r s h k = refl
   row_same Cdq i len r s h k = refl
   row_same Leave i len r s h k =
-      ap (λ x. Done (passed len (with_whole 5 x (with_whole 4 ((slice_index r.r 5 + 4) % 2 ^ 32) r))) Nothing) (number_same Long (slice_index r.r 5) h)
+      ap (λ x. Done (eip_past len (with_whole 5 x (with_whole 4 ((slice_index r.r 5 + 4) % 2 ^ 32) r))) Nothing) (number_same Long (slice_index r.r 5) h)
   row_same Nop i len r s h k = refl
   row_same Jcc i len r s h k = refl
   row_same Setcc i len r s h k = refl
@@ -198,7 +198,7 @@ module _ (b c : ℕ → ℕ) where
   row_same Std i len r s h k = refl
   row_same PushFlags i len r s h k = refl
   row_same PopFlags i len r s h k =
-      ap (λ x. if is_foreign x then (Stop FlagBits) else (Done (passed len (with_whole 4 (esp_above 4 r) (record r { flags = taken r.flags x }))) Nothing)) (number_same Long (stack_of r) h)
+      ap (λ x. if is_foreign x then (Stop FlagBits) else (Done (eip_past len (with_whole 4 (esp_above 4 r) (record r { flags = taken r.flags x }))) Nothing)) (number_same Long (stack_of r) h)
   row_same op i len r s h k = refl
 
   user_row_same : (op : Op) (g : Selectors) (i : Insn) (len : ℕ) (r : Regs) → i.op ≡ op → IsShaped i → Covers Same (ranges_row op i r).read → Covers Same (ranges_row op i r).write
@@ -207,7 +207,7 @@ module _ (b c : ℕ → ℕ) where
   user_row_same Return g i len r e s h k = ap (λ x. Done (gone_to x (with_whole 4 (esp_above (4 + i.imm) r) r)) Nothing) (number_same Long (stack_of r) h)
   user_row_same JumpTo g i len r e s h k = ap (λ x. cond (is_place i.a) (Done (gone_to x r) Nothing) (Stop Unsupported)) (value_same i.a Long r h)
   user_row_same CallTo g i len r e s h k =
-      ap (λ x. cond (is_place i.a) (Done (gone_to x (with_whole 4 (esp_below 4 r) r)) (One (store (esp_below 4 r) Long (passed len r).eip))) (Stop Unsupported)) (value_same i.a Long r h)
+      ap (λ x. cond (is_place i.a) (Done (gone_to x (with_whole 4 (esp_below 4 r) r)) (One (store (esp_below 4 r) Long (eip_past len r).eip))) (Stop Unsupported)) (value_same i.a Long r h)
   user_row_same ReadSeg g i len r e s h k = refl
   user_row_same PushSeg g i len r e s h k = refl
   user_row_same op g i len r e s h k =

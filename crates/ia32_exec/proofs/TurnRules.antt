@@ -18,7 +18,7 @@ use Rattle.ia32_exec.specs.Memory.{number_at, store}
 use Rattle.ia32_exec.specs.Commit.{list_of, longs_to}
 use Rattle.ia32_exec.specs.Effect.{effect, row}
 use Rattle.ia32_exec.specs.Operands.{source_of, stored, done}
-use Rattle.ia32_exec.specs.Registers.{register_value, with_register, with_whole, passed}
+use Rattle.ia32_exec.specs.Registers.{register_value, with_register, with_whole, eip_past}
 use Rattle.ia32_exec.specs.Stack.{pushed, pushed_number, popped, esp_below, esp_above, all_pushed, all_popped}
 use Rattle.ia32_exec.specs.Strings.{IsString, turn, counted, string}
 use Rattle.ia32_exec.specs.Turns.{written, all_written, RegsAndBytes, committed, after, turns, IsWhole, IsCountedOut}
@@ -110,17 +110,17 @@ unfolding after effect
 after_row i o len m e = ap (λ p. committed (row p i len m.regs m.bytes) m) e
 
 landed : (pop : Insn) (n l v : ℕ) (p : RegsAndBytes) → pop.a ≡ Register n → number_at p.bytes Long (slice_index p.regs.r 4) ≡ v →
-    (committed (popped pop l p.regs p.bytes) p).regs ≡ with_register Long n v (passed l (with_whole 4 (esp_above 4 p.regs) p.regs))
+    (committed (popped pop l p.regs p.bytes) p).regs ≡ with_register Long n v (eip_past l (with_whole 4 (esp_above 4 p.regs) p.regs))
 unfolding popped with_register
 landed pop n l v p g read =
-    let up : Regs = passed l (with_whole 4 (esp_above 4 p.regs) p.regs) in
+    let up : Regs = eip_past l (with_whole 4 (esp_above 4 p.regs) p.regs) in
     let x : ℕ = number_at p.bytes Long (slice_index p.regs.r 4) in
     ap (λ a. (committed (done (stored a Long x up)) p).regs) g ∙ ap (λ y. with_register Long n y up) read
 
 ended : (l n v k : ℕ) (r : Regs) (at : ℕ) →
     slice_set (slice_set r.r 4 at) 4 ((slice_index (slice_set r.r 4 at) 4 + 4) % 2 ^ 32) ≡ r.r →
-    with_register Long n v (passed l (with_whole 4 (esp_above 4 (with_whole 4 at (passed k r))) (with_whole 4 at (passed k r))))
-    ≡ passed l (with_register Long n v (passed k r))
+    with_register Long n v (eip_past l (with_whole 4 (esp_above 4 (with_whole 4 at (eip_past k r))) (with_whole 4 at (eip_past k r))))
+    ≡ eip_past l (with_register Long n v (eip_past k r))
 unfolding with_register
 ended l n v k r at same =
     ap (λ h. record { r = slice_set h n v; eip = ((r.eip + k) % 2 ^ 32 + l) % 2 ^ 32; flags = r.flags }) same
@@ -129,7 +129,7 @@ pub push_pop : (push pop : Insn) (n push_len pop_len : ℕ) (m : RegsAndBytes) �
     push.op ≡ Push → pop.op ≡ Pop → pop.a ≡ Register n → IsWhole m.regs →
     source_of push.a push.imm Long m.regs m.bytes < 2 ^ 32 →
     (after pop pop_len (after push push_len m)).regs
-    ≡ passed pop_len (with_register Long n (source_of push.a push.imm Long m.regs m.bytes) (passed push_len m.regs))
+    ≡ eip_past pop_len (with_register Long n (source_of push.a push.imm Long m.regs m.bytes) (eip_past push_len m.regs))
 unfolding pushed pushed_number popped with_register
 push_pop push pop n k l m e f g w s =
     let v : ℕ = source_of push.a push.imm Long m.regs m.bytes in
@@ -144,7 +144,7 @@ push_pop push pop n k l m e f g w s =
     ap (λ x. (x + 4) % 2 ^ 32) there ∙ back_up 4 (slice_index r.r 4) (omega arith) small in
     let same : slice_set (slice_set r.r 4 at) 4 ((slice_index (slice_set r.r 4 at) 4 + 4) % 2 ^ 32) ≡ r.r =
     set_set 4 at _ r.r ∙ ap (slice_set r.r 4) up ∙ set_same 4 r.r in
-    let pushed_state : RegsAndBytes = record { regs = with_whole 4 at (passed k r); bytes = b } in
+    let pushed_state : RegsAndBytes = record { regs = with_whole 4 at (eip_past k r); bytes = b } in
     let first : after push k m ≡ pushed_state = after_row push Push k m e in
     let second : after pop l pushed_state ≡ committed (popped pop l pushed_state.regs b) pushed_state = after_row pop Pop l pushed_state f in
     ap (λ x. (after pop l x).regs) first ∙ ap (λ x. x.regs) second ∙ landed pop n l v pushed_state g read ∙ ended l n v k r at same
@@ -169,7 +169,7 @@ abbrev AllBack : ℕ → ℕ → ℕ → Flags → (ℕ → ℕ) → List ℕ �
 AllBack k l e f b g =
     ((j : ℕ) → slice_index g j < 2 ^ 32) →
     (committed (all_popped l (committed (all_pushed k (file g e f)) (state g e f b)).regs (committed (all_pushed k (file g e f)) (state g e f b)).bytes) (state g e f b)).regs
-    ≡ passed l (passed k (file g e f))
+    ≡ eip_past l (eip_past k (file g e f))
 
 all_back : (k l e : ℕ) (f : Flags) (b : ℕ → ℕ) (g0 g1 g2 g3 g4 g5 g6 g7 : ℕ) → AllBack k l e f b (g0 ∷ g1 ∷ g2 ∷ g3 ∷ g4 ∷ g5 ∷ g6 ∷ g7 ∷ [])
 unfolding all_pushed all_popped
@@ -188,7 +188,7 @@ as_committed l q m = refl
 
 pub push_pop_all : (push pop : Insn) (push_len pop_len : ℕ) (m : RegsAndBytes) →
     push.op ≡ Pusha → pop.op ≡ Popa → IsWhole m.regs →
-    (after pop pop_len (after push push_len m)).regs ≡ passed pop_len (passed push_len m.regs)
+    (after pop pop_len (after push push_len m)).regs ≡ eip_past pop_len (eip_past push_len m.regs)
 push_pop_all push pop k l m e f w =
     let q : RegsAndBytes = committed (all_pushed k m.regs) m in
     ap (λ x. (after pop l x).regs) (after_row push Pusha k m e)
@@ -291,7 +291,7 @@ repeated_step i o n len e e' f b is h g0 g1 g2 g3 g4 g5 g6 g7 =
     let j : Insn = record i { rep = true } in
     let t : Regs × Stores = turn o i.size r b in
     after_row j o len m is ∙ ap (λ x. committed x m) (string_row o j len r b h)
-    ∙ ap (λ c. committed (cond c (Done (passed len r) Nothing) (Done (counted true (suc n) len t.0) t.1)) m) (isnt_zero n)
+    ∙ ap (λ c. committed (cond c (Done (eip_past len r) Nothing) (Done (counted true (suc n) len t.0) t.1)) m) (isnt_zero n)
     ∙ ap (λ (x : Regs × Stores). committed (Done (counted true (suc n) len x.0) x.1) m) (turn_without o i.size (suc n) e e' f b g0 g1 g2 g3 g4 g5 g6 g7 h)
 
 repeated_of : (i : Insn) (o : Op) (n len e e' : ℕ) (f : Flags) (b : ℕ → ℕ) (g : List ℕ) → i.op ≡ o → IsString o → length g ≡ 8 → repeated i o n len e e' f b g
@@ -327,7 +327,7 @@ many_turns (suc n) i o len single g e e' f b is h eight =
     let x : Regs = file (slice_set T 1 (suc (suc n))) e f in
     let right : after (record i { rep = true }) len (state (slice_set g 1 (suc (suc n))) e f b) ≡ next =
     repeated_of i o (suc n) len e e' f b g is h eight
-    ∙ ap (λ t. record { regs = cond t (passed len (with_whole 1 (suc (suc n) - 1) x)) (with_whole 1 (suc (suc n) - 1) x); bytes = c }) (isnt_one n)
+    ∙ ap (λ t. record { regs = cond t (eip_past len (with_whole 1 (suc (suc n) - 1) x)) (with_whole 1 (suc (suc n) - 1) x); bytes = c }) (isnt_one n)
     ∙ ap (λ k. state (slice_set (slice_set T 1 (suc (suc n))) 1 k) e f c) (one_less (suc n))
     ∙ ap (λ y. state y e f c) (set_set 1 (suc (suc n)) (suc n) T) in
     let P : RegsAndBytes → Type 0 = λ x. IsRepeated len e (turns (suc n) (record i { rep = false }) single x) (turns (suc n) (record i { rep = true }) len (after (record i { rep = true }) len (state (slice_set g 1 (suc (suc n))) e f b))) in

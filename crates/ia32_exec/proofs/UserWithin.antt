@@ -14,7 +14,7 @@ use Rattle.ia32_exec.specs.declared.outcome.Outcome.TheVariants.{Done, Stop}
 use Rattle.ia32_exec.specs.declared.outcome.Stores.{Stores}
 use Rattle.ia32_exec.specs.declared.outcome.Stores.TheVariants.{Nothing}
 use Rattle.ia32_exec.specs.declared.selectors.Selectors.{Selectors}
-use Rattle.ia32_exec.specs.Registers.{address_of, passed}
+use Rattle.ia32_exec.specs.Registers.{address_of, eip_past}
 use Rattle.ia32_exec.specs.Ranges.{operand_range, Covers}
 use Rattle.ia32_exec.specs.Effect.{ranges_row, ranges_of, effect}
 use Rattle.ia32_exec.specs.Commit.{AreStored, stores_of}
@@ -30,7 +30,7 @@ module _ (P : ℕ → Type 0) where
   of_place true r ws h = h
   of_place false r ws h = tt
 
-  of_selector : (o : Operand) (v len : ℕ) (r : Regs) → Covers P (operand_range o Word r) → AreStored P (stores_of (selector_to o v (passed len r)))
+  of_selector : (o : Operand) (v len : ℕ) (r : Regs) → Covers P (operand_range o Word r) → AreStored P (stores_of (selector_to o v (eip_past len r)))
   unfolding address_of
   of_selector Absent v len r h = tt
   of_selector (Register n) v len r h = tt
@@ -38,14 +38,14 @@ module _ (P : ℕ → Type 0) where
   of_selector (Segment s) v len r h = tt
   of_selector (Control n) v len r h = tt
 
-  of_read : (g : Selectors) (from to : Operand) (len : ℕ) (r : Regs) → Covers P (operand_range to Word r) → AreStored P (stores_of (read_from g from to (passed len r)))
+  of_read : (g : Selectors) (from to : Operand) (len : ℕ) (r : Regs) → Covers P (operand_range to Word r) → AreStored P (stores_of (read_from g from to (eip_past len r)))
   of_read g (Segment s) to len r h = of_selector to _ len r h
   of_read g Absent to len r h = tt
   of_read g (Register n) to len r h = tt
   of_read g (Memory a) to len r h = tt
   of_read g (Control n) to len r h = tt
 
-  of_pushed : (g : Selectors) (from : Operand) (len : ℕ) (i : Insn) (r : Regs) → Covers P (ranges_row PushSeg i r).write → AreStored P (stores_of (pushed_from g from (passed len r)))
+  of_pushed : (g : Selectors) (from : Operand) (len : ℕ) (i : Insn) (r : Regs) → Covers P (ranges_row PushSeg i r).write → AreStored P (stores_of (pushed_from g from (eip_past len r)))
   unfolding pushed_number
   of_pushed g (Segment s) len i r h = h
   of_pushed g Absent len i r h = tt

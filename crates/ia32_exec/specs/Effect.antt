@@ -16,7 +16,7 @@ use Rattle.ia32_exec.specs.declared.outcome.Stores.TheVariants.{Nothing}
 use Rattle.ia32_exec.specs.declared.access.Range.{Range}
 use Rattle.ia32_exec.specs.declared.access.Ranges.{Ranges}
 use Rattle.ia32_exec.specs.Ranges.{operand_range, Covers}
-use Rattle.ia32_exec.specs.Registers.{passed, with_whole}
+use Rattle.ia32_exec.specs.Registers.{eip_past, with_whole}
 use Rattle.ia32_exec.specs.Arithmetic.{arithmetic, tested, shifted, multiplied, signed_multiplied, multiplied_by, divided}
 use Rattle.ia32_exec.specs.Moves.{moved, zero_extended, sign_extended, loaded_address, exchanged, widened, sign_spread}
 use Rattle.ia32_exec.specs.Stack.{stack_of, esp_below, esp_above, pushed, popped, all_pushed, all_popped, frame_left, called, flags_pushed, flags_popped}
@@ -60,7 +60,7 @@ row Popa i len r b = all_popped len r b
 row Cwde i len r b = widened len r
 row Cdq i len r b = sign_spread len r
 row Leave i len r b = frame_left len r b
-row Nop i len r b = Done (passed len r) Nothing
+row Nop i len r b = Done (eip_past len r) Nothing
 row Jcc i len r b = branched i len r
 row Setcc i len r b = set_by i len r
 row Jmp i len r b = jump i len r

@@ -16,11 +16,11 @@ IsBranch op.Jcc = Unit {0}
 IsBranch _ = ⊥
 
 -- past the instruction, at a direct branch further by its distance, or where it was
-abbrev pub GoesOn : Op → Insn → ℕ → Regs → ℕ → Type 0
-GoesOn o i len r eip = (eip ≡ (r.eip + len) % 2 ^ 32) ⊎ ((IsBranch o × (eip ≡ ((r.eip + len) % 2 ^ 32 + i.imm) % 2 ^ 32)) ⊎ (eip ≡ r.eip))
+abbrev pub IsEipAfter : Op → Insn → ℕ → Regs → ℕ → Type 0
+IsEipAfter o i len r eip = (eip ≡ (r.eip + len) % 2 ^ 32) ⊎ ((IsBranch o × (eip ≡ ((r.eip + len) % 2 ^ 32 + i.imm) % 2 ^ 32)) ⊎ (eip ≡ r.eip))
 
 abbrev pub Leads : Op → Insn → ℕ → Regs → Outcome → Type 0
-Leads o i len r (Done after stores) = GoesOn o i len r after.eip
+Leads o i len r (Done after stores) = IsEipAfter o i len r after.eip
 Leads o i len r (Raise vector code) = Unit {0}
 Leads o i len r (Stop stop) = Unit {0}
 

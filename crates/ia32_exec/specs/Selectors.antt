@@ -13,7 +13,7 @@ use Rattle.ia32_exec.specs.declared.outcome.Outcome.TheVariants.{Done, Stop}
 use Rattle.ia32_exec.specs.declared.outcome.Stores.TheVariants.{Nothing, One}
 use Rattle.ia32_exec.specs.declared.selectors.Selectors.{Selectors}
 use Rattle.ia32_exec.specs.Memory.{store}
-use Rattle.ia32_exec.specs.Registers.{address_of, with_whole, passed}
+use Rattle.ia32_exec.specs.Registers.{address_of, with_whole, eip_past}
 use Rattle.ia32_exec.specs.Stack.{pushed_number}
 
 abbrev pub selector_of : Selectors → Seg → ℕ
@@ -34,7 +34,7 @@ read_from g _ to r = Stop Unsupported
 
 -- MOV from a segment register
 unfoldable pub selector_read : Selectors → Insn → ℕ → Regs → Outcome
-selector_read g i len r = read_from g i.b i.a (passed len r)
+selector_read g i len r = read_from g i.b i.a (eip_past len r)
 
 abbrev pub pushed_from : Selectors → Operand → Regs → Outcome
 pushed_from g (Segment seg) r = pushed_number (selector_of g seg) r
@@ -42,4 +42,4 @@ pushed_from g _ r = Stop Unsupported
 
 -- PUSH of a segment register
 unfoldable pub selector_pushed : Selectors → Insn → ℕ → Regs → Outcome
-selector_pushed g i len r = pushed_from g i.a (passed len r)
+selector_pushed g i len r = pushed_from g i.a (eip_past len r)

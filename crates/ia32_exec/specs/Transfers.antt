@@ -10,7 +10,7 @@ use Rattle.ia32_exec.specs.declared.outcome.Outcome.TheVariants.{Done, Stop}
 use Rattle.ia32_exec.specs.declared.outcome.Stores.TheVariants.{Nothing, One}
 use Rattle.ia32_exec.specs.Memory.{store}
 use Rattle.ia32_exec.specs.Operands.{value_of}
-use Rattle.ia32_exec.specs.Registers.{with_whole, passed}
+use Rattle.ia32_exec.specs.Registers.{with_whole, eip_past}
 use Rattle.ia32_exec.specs.Stack.{esp_below, esp_above, top_of_stack}
 
 abbrev pub gone_to : ℕ → Regs → Regs
@@ -27,5 +27,5 @@ jumped_through i r b = if is_place i.a then (Done (gone_to (value_of i.a Long r 
 -- CALL through an operand
 unfoldable pub called_through : Insn → ℕ → Regs → (ℕ → ℕ) → Outcome
 called_through i len r b =
-    if is_place i.a then (Done (gone_to (value_of i.a Long r b) (with_whole 4 (esp_below 4 r) r)) (One (store (esp_below 4 r) Long (passed len r).eip)))
+    if is_place i.a then (Done (gone_to (value_of i.a Long r b) (with_whole 4 (esp_below 4 r) r)) (One (store (esp_below 4 r) Long (eip_past len r).eip)))
     else (Stop Unsupported)

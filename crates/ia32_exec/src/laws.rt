@@ -9,7 +9,7 @@ ghost use Rattle.ia32_types.specs.Size.{width};
 ghost use Rattle.ia32_exec.specs.declared.outcome.Store.{Store as StoreView};
 ghost use Rattle.ia32_exec.specs.Memory.{stored, all_stored};
 ghost use Rattle.ia32_exec.specs.Operands.{source_of};
-ghost use Rattle.ia32_exec.specs.Registers.{with_register, passed};
+ghost use Rattle.ia32_exec.specs.Registers.{with_register, eip_past};
 ghost use Rattle.ia32_exec.specs.Strings.{IsString};
 ghost use Rattle.ia32_exec.specs.Turns.{RegsAndBytes, after, all_written, turns, IsWhole, IsCountedOut};
 
@@ -20,14 +20,14 @@ pub fn push_then_pop()
         push.op ≡ Push → pop.op ≡ Pop → pop.a ≡ Register n → IsWhole m.regs →
         source_of push.a push.imm Long m.regs m.bytes < 2 ^ 32 →
         (after pop pop_len (after push push_len m)).regs
-        ≡ passed pop_len (with_register Long n (source_of push.a push.imm Long m.regs m.bytes) (passed push_len m.regs)) }
+        ≡ eip_past pop_len (with_register Long n (source_of push.a push.imm Long m.regs m.bytes) (eip_past push_len m.regs)) }
 {}
 
 /// PUSHA, and then POPA, leaves every register as it was, but EIP.
 pub fn push_all_then_pop_all()
     ensures { (push pop : Insn) (push_len pop_len : ℕ) (m : RegsAndBytes) →
         push.op ≡ Pusha → pop.op ≡ Popa → IsWhole m.regs →
-        (after pop pop_len (after push push_len m)).regs ≡ passed pop_len (passed push_len m.regs) }
+        (after pop pop_len (after push push_len m)).regs ≡ eip_past pop_len (eip_past push_len m.regs) }
 {}
 
 /// A string instruction with REP and ECX n, which is not 0, does in n steps what the instruction without

@@ -3,7 +3,7 @@ ghost use Rattle.ia32_types.specs.Shape.{IsNamed};
 ghost use Rattle.ia32_exec.specs.Selectors.{selector_of, selector_to, selector_read, selector_pushed};
 
 use crate::outcome::{Outcome, Store, Stores};
-use crate::registers::{address_of, passed, with_whole};
+use crate::registers::{address_of, eip_past, with_whole};
 use crate::stack::pushed_number;
 use ia32_types::{Insn, Operand, Regs, Seg, Size, Stop};
 
@@ -54,7 +54,7 @@ pub fn selector_read(selectors: &Selectors, insn: &Insn, len: u8, regs: &Regs) -
     match insn.b {
         Operand::Segment(seg) => {
             let value = selector_of(selectors, seg);
-            selector_to(insn.a, value, passed(u32::from(len), *regs))
+            selector_to(insn.a, value, eip_past(u32::from(len), *regs))
         }
         _ => Outcome::Stop(Stop::Unsupported),
     }
@@ -68,7 +68,7 @@ pub fn selector_pushed(selectors: &Selectors, insn: &Insn, len: u8, regs: &Regs)
     match insn.a {
         Operand::Segment(seg) => {
             let value = u32::from(selector_of(selectors, seg));
-            pushed_number(value, passed(u32::from(len), *regs))
+            pushed_number(value, eip_past(u32::from(len), *regs))
         }
         _ => Outcome::Stop(Stop::Unsupported),
     }

@@ -9,7 +9,7 @@ ghost use Rattle.ia32_exec.specs.Stack.{stack_of, esp_below, esp_above, pushed_n
 use crate::memory::LinearBytes;
 use crate::operands::{source_of, stored};
 use crate::outcome::{Outcome, Store, Stores};
-use crate::registers::{passed, with_whole};
+use crate::registers::{eip_past, with_whole};
 use ia32_types::{Flags, Insn, Regs, Size, Stop};
 
 fn esp_below(by: u32, regs: &Regs) -> u32
@@ -45,7 +45,7 @@ pub fn pushed<M: LinearBytes>(insn: &Insn, len: u8, regs: &Regs, mem: &M) -> Out
     ensures { result ≡ pushed insn.now len regs.now (M.byte mem.now) }
 {
     let value = source_of(insn.a, insn.imm, Size::Long, regs, mem);
-    pushed_number(value, passed(u32::from(len), *regs))
+    pushed_number(value, eip_past(u32::from(len), *regs))
 }
 
 fn top_of_stack<M: LinearBytes>(regs: &Regs, mem: &M) -> u32
@@ -64,7 +64,7 @@ pub fn popped<M: LinearBytes>(insn: &Insn, len: u8, regs: &Regs, mem: &M) -> Out
 {
     let value = top_of_stack(regs, mem);
     let risen = with_whole(4, esp_above(4, regs), *regs);
-    let (after, stores) = stored(insn.a, Size::Long, value, passed(u32::from(len), risen));
+    let (after, stores) = stored(insn.a, Size::Long, value, eip_past(u32::from(len), risen));
     Outcome::Done(after, stores)
 }
 
@@ -76,7 +76,7 @@ pub fn all_pushed(len: u8, regs: &Regs) -> Outcome
     let at = esp_below(32, regs);
     let r = regs.r;
     let values = [r[7], r[6], r[5], r[4], r[3], r[2], r[1], r[0]];
-    let after = passed(u32::from(len), with_whole(4, at, *regs));
+    let after = eip_past(u32::from(len), with_whole(4, at, *regs));
     Outcome::Done(after, Stores::Eight(at, values))
 }
 
@@ -104,7 +104,7 @@ pub fn all_popped<M: LinearBytes>(len: u8, regs: &Regs, mem: &M) -> Outcome
         slot(1, regs, mem),
         slot(0, regs, mem),
     ];
-    Outcome::Done(passed(u32::from(len), Regs { r, ..*regs }), Stores::Nothing)
+    Outcome::Done(eip_past(u32::from(len), Regs { r, ..*regs }), Stores::Nothing)
 }
 
 /// LEAVE.
@@ -117,7 +117,7 @@ pub fn frame_left<M: LinearBytes>(len: u8, regs: &Regs, mem: &M) -> Outcome
     let value = mem.read(frame, Size::Long);
     let risen = with_whole(4, frame.wrapping_add(4), *regs);
     Outcome::Done(
-        passed(u32::from(len), with_whole(5, value, risen)),
+        eip_past(u32::from(len), with_whole(5, value, risen)),
         Stores::Nothing,
     )
 }
@@ -127,11 +127,11 @@ pub fn frame_left<M: LinearBytes>(len: u8, regs: &Regs, mem: &M) -> Outcome
 pub fn called(insn: &Insn, len: u8, regs: &Regs) -> Outcome
     ensures { result ≡ called insn.now len regs.now }
 {
-    let next = passed(u32::from(len), *regs);
+    let next = eip_past(u32::from(len), *regs);
     let at = esp_below(4, &next);
     let size = Size::Long;
     let value = next.eip;
-    let after = passed(insn.imm, with_whole(4, at, next));
+    let after = eip_past(insn.imm, with_whole(4, at, next));
     Outcome::Done(after, Stores::One(Store { at, size, value }))
 }
 
@@ -140,7 +140,7 @@ pub fn called(insn: &Insn, len: u8, regs: &Regs) -> Outcome
 pub fn flags_pushed(len: u8, regs: &Regs) -> Outcome
     ensures { result ≡ flags_pushed len regs.now }
 {
-    pushed_number(regs.flags.bits, passed(u32::from(len), *regs))
+    pushed_number(regs.flags.bits, eip_past(u32::from(len), *regs))
 }
 
 /// Whether an image of the flags has one that isn't kept.
@@ -183,5 +183,5 @@ pub fn flags_popped<M: LinearBytes>(len: u8, regs: &Regs, mem: &M) -> Outcome
     }
     let flags = taken(regs.flags, image);
     let risen = with_whole(4, esp_above(4, regs), Regs { flags, ..*regs });
-    Outcome::Done(passed(u32::from(len), risen), Stores::Nothing)
+    Outcome::Done(eip_past(u32::from(len), risen), Stores::Nothing)
 }

@@ -10,7 +10,7 @@ ghost use Rattle.ia32_exec.specs.Transfers.{returned, jumped_through, called_thr
 use crate::memory::LinearBytes;
 use crate::operands::value_of;
 use crate::outcome::{Outcome, Store, Stores};
-use crate::registers::{passed, with_whole};
+use crate::registers::{eip_past, with_whole};
 use ia32_types::{Insn, Operand, Regs, Size, Stop};
 
 fn is_place(operand: Operand) -> bool
@@ -63,7 +63,7 @@ pub fn called_through<M: LinearBytes>(insn: &Insn, len: u8, regs: &Regs, mem: &M
     let eip = value_of(insn.a, Size::Long, regs, mem);
     let at = regs.r[4].wrapping_sub(4);
     let size = Size::Long;
-    let value = passed(u32::from(len), *regs).eip;
+    let value = eip_past(u32::from(len), *regs).eip;
     let esp_below = with_whole(4, at, *regs);
     Outcome::Done(
         Regs { eip, ..esp_below },

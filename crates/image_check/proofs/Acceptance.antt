@@ -27,7 +27,8 @@ use Rattle.image_check.specs.Sweep.{Swept, Sweep, sweep}
 use Rattle.image_check.specs.Pieces.{is_branch, is_nop, target_of, site_role, piece_of, pieces_of, pieces_in, is_start}
 use Rattle.image_check.specs.TextSites.{is_same, differ, Found, found_in, unless_lacking, sites_of}
 use Rattle.image_check.specs.Targets.{is_inside, is_entrance, leads_wrong, wrong_target}
-use Rattle.image_check.specs.Refusals.{Refusal, bad}
+use Rattle.image_check.specs.Refusals.{Refusal}
+use Rattle.guest_ram.specs.Places.{bad}
 use Rattle.image_check.specs.Conditions.{text_place, init_place, text_size, init_size, entry_place, last_at, ends_at, text_end, lower, site_wrong, entry_at, entry_start}
 use Rattle.image_check.specs.Checking.{as_form, placed, annotated, entered, image_with, image_from, image_of}
 use Rattle.image_check.specs.Accepts.{IsWithin, IsEntrance, IsAccepted, Accepts}

@@ -11,7 +11,7 @@ use Rattle.image_check.specs.declared.fault.CheckCause.TheVariants.{TextPlace, I
 use Rattle.image_check.specs.declared.piece.Piece.{Piece}
 use Rattle.image_check.specs.Sweep.{Swept, sweep}
 use Rattle.image_check.specs.Pieces.{is_refused, piece_of}
-use Rattle.image_check.specs.Refusals.{bad}
+use Rattle.guest_ram.specs.Places.{bad}
 use Rattle.image_check.specs.Conditions.{text_place, init_place, text_size, init_size, entry_place, last_at, ends_at, text_end}
 use Rattle.image_check.specs.Causes.{refused_stop, bad_stop, of_swept}
 use Rattle.image_check.specs.Reasons.{MeetsNamed, MeetsOther, EndsOtherwise, IsWrong}

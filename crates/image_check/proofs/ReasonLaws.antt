@@ -17,7 +17,8 @@ use Rattle.image_check.specs.Conditions.{site_wrong, entry_at, entry_start}
 use Rattle.image_check.specs.Checking.{image_from}
 use Rattle.image_check.specs.Accepts.{IsEntrance}
 use Rattle.image_check.specs.Causes.{form_stop, of_both, wrong, causes, IsFirst}
-use Rattle.image_check.specs.Reasons.{BothRead, IsWrongAt, IsLowest, LeadsAstray, IsWrong, IsRefused}
+use Rattle.image_check.specs.Reasons.{BothRead, IsWrongAt, LeadsAstray, IsWrong, IsRefused}
+use Rattle.elf_form.specs.Order.{IsLowest}
 use Rattle.image_check.proofs.CauseLaws.{first_exact}
 use Rattle.image_check.proofs.SweepLaws.{sweep_exact}
 use Rattle.image_check.proofs.PlaceReasons.{some, text_place_is, init_place_is, text_size_is, init_size_is, entry_place_is, refused_stop_is, bad_stop_is, text_end_so, so_text_end}

@@ -6,7 +6,8 @@ use Rattle.image_check.specs.Sweep.{Swept}
 use Rattle.image_check.specs.Pieces.{piece_of}
 use Rattle.image_check.specs.TextSites.{is_same, differ, found_in}
 use Rattle.image_check.specs.Conditions.{lower, site_wrong}
-use Rattle.image_check.specs.Reasons.{NextDiffer, FirstDiffer, IsWrongAt, IsLowest}
+use Rattle.image_check.specs.Reasons.{NextDiffer, FirstDiffer, IsWrongAt}
+use Rattle.elf_form.specs.Order.{IsLowest}
 use Rattle.image_check.proofs.Acceptance.{same_site, is_itself}
 use Rattle.image_check.proofs.PlaceReasons.{some, not_both, not_true}
 

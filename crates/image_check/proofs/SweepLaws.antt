@@ -10,7 +10,7 @@ use Rattle.ia32_decode.specs.Answer.{Begins, Answers}
 use Rattle.ia32_decode.specs.Decoding.{decoded}
 use Rattle.ia32_decode.proofs.Exact.{answered}
 use Rattle.ia32_decode.proofs.Whole.{exactly_insn, begins_not_cut}
-use Rattle.image_check.specs.Sweep.{Swept, SweepsTo, Sweep, StopsAt, met, sweep_from, sweep, ◌>>=◌}
+use Rattle.image_check.specs.Sweep.{Swept, SweepsTo, Sweep, SweepStops, met, sweep_from, sweep, ◌>>=◌}
 use Rattle.image_check.proofs.Begun.{begun_has_byte}
 
 pub AreBytes-drop : (n : ℕ) (bytes : List ℕ) → AreBytes bytes → AreBytes (drop n bytes)
@@ -194,7 +194,7 @@ sweep_exact text fit swept = (
   (λ h. let l = leads (length text) 0 text swept (length text) [] fit (omega arith) h in l.is ∙ ap (with_front swept) (ends l.fuel (length text)) ∙ front_ok swept),
 )
 
-pub stop_exact : (text : List ℕ) → AreBytes text → (at : ℕ) → (sweep text ≡ Err at) ↔ StopsAt text at
+pub stop_exact : (text : List ℕ) → AreBytes text → (at : ℕ) → (sweep text ≡ Err at) ↔ SweepStops text at
 unfolding sweep
 stop_exact text fit at = (
   (λ e. let s = from_err (length text) 0 at text fit (omega arith) e in record { swept = s.swept; left = s.left; reached = s.reached; some = s.some; none = s.none }),

@@ -4,7 +4,7 @@ use Rattle.elf_form.specs.ImageParts.{ImageParts}
 use Rattle.sites.specs.declared.limits.TheConstants.{TEXT_LIMIT}
 use Rattle.sites.specs.declared.site.Site.{Site}
 use Rattle.image_check.specs.declared.piece.Piece.{Piece}
-use Rattle.image_check.specs.Refusals.{bad}
+use Rattle.guest_ram.specs.Places.{bad}
 use Rattle.image_check.specs.Targets.{is_entrance}
 use Rattle.image_check.specs.TextSites.{found_in, differ}
 

@@ -9,19 +9,20 @@ use Rattle.sites.specs.declared.limits.TheConstants.{TEXT_LIMIT}
 use Rattle.sites.specs.Formats.{listed}
 use Rattle.image_check.specs.declared.fault.CheckCause.{CheckCause}
 use Rattle.image_check.specs.declared.fault.CheckCause.TheVariants.{TextPlace, InitPlace, TextSize, InitSize, EntryPlace, RefusedCode, BadCode, TextEnd, SiteWrong, SitesForm, Target, EntryStart}
-use Rattle.image_check.specs.Sweep.{Swept, Sweep, StopsAt}
+use Rattle.image_check.specs.Sweep.{Swept, Sweep, SweepStops}
 use Rattle.image_check.specs.Pieces.{is_branch, target_of, piece_of}
 use Rattle.image_check.specs.TextSites.{found_in}
 use Rattle.image_check.specs.Conditions.{last_at}
 use Rattle.image_check.specs.Accepts.{IsEntrance}
 use Rattle.image_check.specs.Causes.{causes}
+use Rattle.elf_form.specs.Order.{IsLowest}
 
 -- The sweep meets an instruction that is refused by its name, or other bytes that are no spelling, or are cut.
 abbrev pub MeetsNamed : List ℕ → ℕ → Type 0
-MeetsNamed text at = StopsAt text at × (name : Refused) × BeginsRefused (drop at text) name
+MeetsNamed text at = SweepStops text at × (name : Refused) × BeginsRefused (drop at text) name
 
 abbrev pub MeetsOther : List ℕ → ℕ → Type 0
-MeetsOther text at = StopsAt text at × ((name : Refused) → BeginsRefused (drop at text) name → ⊥)
+MeetsOther text at = SweepStops text at × ((name : Refused) → BeginsRefused (drop at text) name → ⊥)
 
 -- The text is instructions alone, and the last of them, at this offset, isn't EB FE.
 pub record EndsOtherwise (text : List ℕ) (at : ℕ) : Type 0 where
@@ -57,10 +58,6 @@ pub record FirstDiffer (a b : List Site) (at : ℕ) : Type 0 where
 -- A sensitive instruction, the first such, lacks its NOPs, or the annotations and the sites up to it differ first.
 abbrev pub IsWrongAt : List Swept → List Site → ℕ → Type 0
 IsWrongAt swept sites at = ((found_in (map piece_of swept)).lacking ≡ Some at) ⊎ FirstDiffer sites (found_in (map piece_of swept)).sites at
-
--- the lowest offset at which one of these holds
-abbrev pub IsLowest : (ℕ → Type 0) → ℕ → Type 0
-IsLowest P at = P at × ((k : ℕ) → P k → at ≤ k)
 
 -- The direct branch at an offset leads to no entrance, and each before it leads to one.
 pub record LeadsAstray (swept : List Swept) (sites : List Site) (at : ℕ) : Type 0 where

@@ -21,10 +21,6 @@ abbrev pub test : CheckCause → Option ℕ → Result (Unit {0}) Refusal
 test cause None = Ok tt
 test cause (Some at) = Err (Wrong at cause)
 
--- the place, where it is bad
-abbrev pub bad : Bool → ℕ → Option ℕ
-bad is_bad at = if is_bad then Some at else None
-
 -- What a function returned, seen by view, is what the definition gives, unless memory ran out.
 abbrev pub Refuses : CheckFault → Refusal → Type 0
 Refuses (faults.Elf (elf.At at cause)) refusal = refusal ≡ Form (record { at = at; cause = cause })

@@ -23,7 +23,7 @@ abbrev pub Sweep : List ℕ → List Swept → Type 0
 Sweep text swept = SweepsTo 0 text swept (length text) []
 
 -- Behind some instructions no spelling begins the bytes that are left, although some are.
-pub record StopsAt (text : List ℕ) (at : ℕ) : Type 0 where
+pub record SweepStops (text : List ℕ) (at : ℕ) : Type 0 where
   pub swept : List Swept
   pub left : List ℕ
   pub reached : SweepsTo 0 text swept at left

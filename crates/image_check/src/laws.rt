@@ -4,7 +4,7 @@ ghost use Rattle.std.specs.Prelude.{◌≡◌, ◌≢◌, ◌↔◌, ◌-◌, �
 ghost use Rattle.ia32_types.specs.declared.site.SiteKind.{SiteKind as KindView};
 ghost use Rattle.elf_form.specs.ImageParts.{ImageParts};
 ghost use Rattle.ia32_rows.specs.Spells.{AreBytes};
-ghost use Rattle.image_check.specs.Sweep.{Swept, Sweep, StopsAt, sweep};
+ghost use Rattle.image_check.specs.Sweep.{Swept, Sweep, SweepStops, sweep};
 ghost use Rattle.image_check.specs.Refusals.{Wrong};
 ghost use Rattle.image_check.specs.Checking.{image_from};
 ghost use Rattle.image_check.specs.TextSites.{is_sti, has_nops, has_hlt, pair, single, found_in, with_site};
@@ -18,7 +18,7 @@ ghost use Rattle.image_check.specs.declared.fault.CheckCause.{CheckCause};
 /// computes; else it stops at one offset.
 pub fn one_sweep()
     ensures sweep { (text : List ℕ) → AreBytes text → (swept : List Swept) → (sweep text ≡ Ok swept) ↔ Sweep text swept }
-    ensures stop { (text : List ℕ) → AreBytes text → (at : ℕ) → (sweep text ≡ Err at) ↔ StopsAt text at }
+    ensures stop { (text : List ℕ) → AreBytes text → (at : ℕ) → (sweep text ≡ Err at) ↔ SweepStops text at }
 {}
 
 /// What is said of an image that is not accepted is the first cause by which it is wrong, at its

@@ -9,7 +9,7 @@ use Rattle.ia32_exec.specs.declared.outcome.Outcome.TheVariants.{Done}
 use Rattle.ia32_exec.specs.declared.outcome.Stores.{Stores}
 use Rattle.ia32_exec.specs.Control.{jump}
 use Rattle.ia32_exec.specs.Effect.{row, effect}
-use Rattle.ia32_exec.specs.EipAfter.{IsBranch, GoesOn, Leads, EipGoesOn}
+use Rattle.ia32_exec.specs.EipAfter.{IsBranch, IsEipAfter, Leads, EipGoesOn}
 use Rattle.image_check.specs.Image.{Image}
 use Rattle.image_check.specs.Sweep.{Swept}
 use Rattle.image_check.specs.Pieces.{is_branch, target_of}
@@ -18,7 +18,7 @@ use Rattle.image_check.specs.Places.{linear, StandsOutside}
 use Rattle.image_laws.specs.WaysIn.{IsWayIn}
 use Rattle.image_laws.proofs.WaysOn.{next_outside, branch_way, here_way, next_address, branch_address}
 
-goes_by : EipGoesOn → (i : Insn) (len : ℕ) (r : Regs) (b : ℕ → ℕ) (after : Regs) (stores : Stores) → effect i len r b ≡ Done after stores → GoesOn i.op i len r after.eip
+goes_by : EipGoesOn → (i : Insn) (len : ℕ) (r : Regs) (b : ℕ → ℕ) (after : Regs) (stores : Stores) → effect i len r b ≡ Done after stores → IsEipAfter i.op i len r after.eip
 goes_by goes i len r b after stores e = subst (Leads i.op i len r) e (goes i len r b)
 
 branch_is : (o : Op) → IsBranch o → is_branch o ≡ true

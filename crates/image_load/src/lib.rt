@@ -11,7 +11,7 @@ ghost use Rattle.image_check.specs.Accepts.{IsWithin};
 
 pub use boot::{Boot, TooSmall};
 use descriptors::{Cpu, Hidden, Table, Task};
-pub use fault::{Pause, RunFault, StartFault};
+pub use fault::{RunFault, StartFault};
 use guest_ram::Ram;
 use ia32_types::{Flags, Regs};
 use image_check::Checked;

@@ -33,19 +33,8 @@ impl LinearBytes for Flat {
 
     ghost read_in_space = { λ m at h. Prim.omega arith };
 
-    fn read(&self, at: u32, size: Size) -> u32 {
-        let at = (at - BASE) as usize;
-        let b = &self.bytes;
-        match size {
-            Size::Byte => u32::from(b[at]),
-            Size::Word => u32::from(b[at]) + u32::from(b[at + 1]) * 0x100,
-            Size::Long => {
-                u32::from(b[at])
-                    + u32::from(b[at + 1]) * 0x100
-                    + u32::from(b[at + 2]) * 0x1_0000
-                    + u32::from(b[at + 3]) * 0x100_0000
-            }
-        }
+    fn byte(&self, at: u32) -> u32 {
+        u32::from(self.bytes[(at - BASE) as usize])
     }
 }
 

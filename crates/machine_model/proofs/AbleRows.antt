@@ -33,7 +33,7 @@ use Rattle.ia32_types.specs.declared.stop.Stop.TheVariants as stops
 use Rattle.sys_exec.specs.Iret as iret
 use Rattle.sys_exec.specs.declared.effect.SysEffect.{SysEffect}
 use Rattle.sys_exec.specs.declared.effect.SysEffect.TheVariants as effects
-use Rattle.sys_exec.specs.declared.effect.Done.{Done}
+use Rattle.sys_exec.specs.declared.effect.SysOutcome.{SysOutcome}
 use Rattle.sys_exec.specs.declared.effect.Loading.{Loading}
 use Rattle.sys_exec.specs.declared.iret.Popped.{Popped}
 use Rattle.sys_exec.specs.Operand.{protection_0, kernel_alone, selector, selector_in, operand_reached, long_of, pulled, pushed, past, past_pop, next}
@@ -65,7 +65,7 @@ abbrev pub Stays : Cpu → Cpu → SysEffect → Type 0
 Stays old new effects.Next = Unit {0}
 Stays old new e = new.cpl ≡ old.cpl
 
-pub record IsLeft (old : Cpu) (done : Done) : Type 0 where
+pub record IsLeft (old : Cpu) (done : SysOutcome) : Type 0 where
   pub suits : Suits old done.cpu
   pub stays : Stays old done.cpu done.effect
 
@@ -442,7 +442,7 @@ module _ (stay : InsensitiveStay) (cpu : Cpu) (able : IsAble cpu) where
   plainly_left (Ok x) h = record { suits = h; stays = tt }
   plainly_left (Err refused) h = tt
 
-  choice : (test : Bool) (x y : Outcome Refusal Done) → Ends (IsLeft cpu) x → Ends (IsLeft cpu) y → Ends (IsLeft cpu) (cond test x y)
+  choice : (test : Bool) (x y : Outcome Refusal SysOutcome) → Ends (IsLeft cpu) x → Ends (IsLeft cpu) y → Ends (IsLeft cpu) (cond test x y)
   choice true x y h k = h
   choice false x y h k = k
 

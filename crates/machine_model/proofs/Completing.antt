@@ -19,7 +19,7 @@ use Rattle.paging.specs.Work.{Outcome, Work, ◌>>=◌, unless}
 use Rattle.step_exec.specs.Plain.{executed}
 use Rattle.sys_exec.specs.declared.effect.Refusal.{Refusal}
 use Rattle.sys_exec.specs.declared.effect.Refusal.TheVariants as refusal
-use Rattle.sys_exec.specs.declared.effect.Done.{Done}
+use Rattle.sys_exec.specs.declared.effect.SysOutcome.{SysOutcome}
 use Rattle.sys_exec.specs.declared.effect.SysEffect.{SysEffect}
 use Rattle.sys_exec.specs.declared.effect.SysEffect.TheVariants as effects
 use Rattle.sys_exec.specs.Control.{write_control, read_control}
@@ -42,17 +42,17 @@ use Rattle.run_trace.specs.declared.items.What.TheVariants.{Irq}
 use Rattle.machine_model.specs.State.{Setting, State, space_at_start}
 use Rattle.machine_model.specs.Rules.{stands_well, is_open, may_leave}
 use Rattle.machine_model.specs.Instruction.{fetched, instructed, is_plain, done_plainly}
-use Rattle.machine_model.specs.Step.{Completed, Result, Went, Stands, entered, begun, begins_next, went, after_read, after_write, out_item, code_of, after_delivery, raised, after_effect, after_software, after_instruction, by_op, by_decoded, after_refusal, after_fetch, fetches_next, worked, interrupt_of, interrupted, by_interrupt, unheld}
+use Rattle.machine_model.specs.Step.{Completed, Result, Went, Halts, entered, begun, begins_next, went, after_read, after_write, out_item, code_of, after_delivery, raised, after_effect, after_software, after_instruction, by_op, by_decoded, after_refusal, after_fetch, fetches_next, worked, interrupt_of, interrupted, by_interrupt, unheld}
 use Rattle.sys_exec.specs.Operand.{past}
 use Rattle.machine_model.specs.Alone.{IsDone, is_user, IsUser, is_barred, StepsAreDone}
 
 -- a step that goes completed what has P, or nothing
 abbrev Completes : (Completed → Type 0) → Result → Type 0
 Completes P (Went report after) = ForSome report.completed P
-Completes P (Stands stop) = Unit {0}
+Completes P (Halts stop) = Unit {0}
 
 -- where the instruction is done, X
-abbrev DoneIf : Type 0 → Outcome Refusal Done → Type 0
+abbrev DoneIf : Type 0 → Outcome Refusal SysOutcome → Type 0
 DoneIf X (Ok x) = X
 DoneIf X (Err e) = Unit {0}
 
@@ -69,17 +69,17 @@ chosen : (P : Completed → Type 0) (h : Bool) (x y : Result) → (h ≡ true �
 chosen P true x y p q = p refl
 chosen P false x y p q = q refl
 
-done_anyhow : (X : Type 0) (o : Outcome Refusal Done) → X → DoneIf X o
+done_anyhow : (X : Type 0) (o : Outcome Refusal SysOutcome) → X → DoneIf X o
 done_anyhow X (Ok x) h = h
 done_anyhow X (Err e) h = tt
 
-never_done : (X : Type 0) (o : Outcome Refusal Done) → DoneIf ⊥ o → DoneIf X o
+never_done : (X : Type 0) (o : Outcome Refusal SysOutcome) → DoneIf ⊥ o → DoneIf X o
 never_done X (Ok x) h = absurd h
 never_done X (Err e) h = tt
 
 -- ---- what is barred to a user
 
-first_refused : (e : Refusal) (test : Bool) (f : Unit {0} → Work Refusal Done) (s : Space) → test ≡ false → DoneIf ⊥ ((unless e test >>= f) s)
+first_refused : (e : Refusal) (test : Bool) (f : Unit {0} → Work Refusal SysOutcome) (s : Space) → test ≡ false → DoneIf ⊥ ((unless e test >>= f) s)
 first_refused e true f s h = absurd (clash true refl h)
 first_refused e false f s h = tt
 
@@ -135,7 +135,7 @@ instructed_by o insn len cpu s e = ap (λ x. cond (is_plain x) (done_plainly (ex
 
 module _ (m : Setting) (b : State) (P : Completed → Type 0) where
   of_entered : (whats : List What) (c : Option Completed) (cpu : Cpu) (board : Board) (s : Space) → ForSome c P → Completes P (entered m whats c b cpu board s)
-  of_entered whats c cpu board s p = chosen P (stands_well m cpu) (went whats c b cpu board s) (Stands stops.NotAStart) (λ well. p) (λ not_well. tt)
+  of_entered whats c cpu board s p = chosen P (stands_well m cpu) (went whats c b cpu board s) (Halts stops.NotAStart) (λ well. p) (λ not_well. tt)
 
   of_delivery : (whats : List What) (board : Board) (o : Outcome NotDelivered Cpu) → Completes P (after_delivery m whats b board o)
   of_delivery whats board (Ok done) = of_entered whats None done.0 board done.1 (in_none P)
@@ -164,7 +164,7 @@ module _ (m : Setting) (b : State) (P : Completed → Type 0) where
   of_write c cpu item s (did.Sent value, board) p = in_some P c p
 
   of_effect : (c : Completed) (e : SysEffect) (cpu : Cpu) (s : Space) → P c → Completes P (after_effect m b c e cpu s)
-  of_effect c effects.Next cpu s p = chosen P (may_leave m.mode b.cpu cpu) (went [] (Some c) b cpu b.board s) (Stands stops.UserFlags) (λ may. in_some P c p) (λ may_not. tt)
+  of_effect c effects.Next cpu s p = chosen P (may_leave m.mode b.cpu cpu) (went [] (Some c) b cpu b.board s) (Halts stops.UserFlags) (λ may. in_some P c p) (λ may_not. tt)
   of_effect c effects.Halted cpu s p = in_some P c p
   of_effect c (effects.DropPage page) cpu s p = in_some P c p
   of_effect c (effects.DropDir index) cpu s p = in_some P c p
@@ -179,7 +179,7 @@ module _ (m : Setting) (b : State) (P : Completed → Type 0) where
   of_told c (refusal.Raise vector code) s = of_raised b.cpu vector code s
   of_told c (refusal.Stop stop) s = tt
 
-  of_instruction : (c : Completed) (o : Outcome Refusal Done) → DoneIf (P c) o → Completes P (after_instruction m b c o)
+  of_instruction : (c : Completed) (o : Outcome Refusal SysOutcome) → DoneIf (P c) o → Completes P (after_instruction m b c o)
   of_instruction c (Ok done) p = of_effect c done.0.effect done.0.cpu done.1 p
   of_instruction c (Err refused) p = of_told c refused.0 refused.1
 
@@ -213,7 +213,7 @@ module _ (m : Setting) (b : State) (P : Completed → Type 0) where
   unfolding worked
   of_work s h =
       chosen P b.cpu.halted (went [] None b b.cpu b.board s) (begins_next m b s) (λ halted. in_none P)
-      (λ awake. chosen P (stands_well m b.cpu) (fetches_next m b s) (Stands stops.NotAStart) (λ well. of_fetch (fetched (b.cpu.cpl == 3) b.cpu.regs.eip s) (h awake well)) (λ not_well. tt))
+      (λ awake. chosen P (stands_well m b.cpu) (fetches_next m b s) (Halts stops.NotAStart) (λ well. of_fetch (fetched (b.cpu.cpl == 3) b.cpu.regs.eip s) (h awake well)) (λ not_well. tt))
 
   of_interrupt : (o : Option ℕ) (s : Space)
       → (o ≡ None → b.cpu.halted ≡ false → stands_well m b.cpu ≡ true → (insn : Insn) (len : ℕ) (t : Space) → fetched (b.cpu.cpl == 3) b.cpu.regs.eip s ≡ Ok (begins.Insn insn len, t) → (IsUser b.cpu → is_barred insn.op ≡ false) → P (begun b insn))

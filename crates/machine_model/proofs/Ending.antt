@@ -5,7 +5,7 @@ use Rattle.std.specs.Ordering.{nat_cmp}
 use Rattle.paging.specs.declared.entry.Entry.{Entry}
 use Rattle.run_trace.specs.declared.items.End.TheVariants.{Bound, Stopped}
 use Rattle.machine_model.specs.State.{Setting, State, Loosened}
-use Rattle.machine_model.specs.Step.{Report, Result, Went, Stands, step_of}
+use Rattle.machine_model.specs.Step.{Report, Result, Went, Halts, step_of}
 use Rattle.machine_model.specs.Run.{Steps}
 use Rattle.machine_model.specs.Ends.{StepsTo, HasEnd, EachRunHasAnEnd}
 use Rattle.machine_model.proofs.Counting.{each_counts}
@@ -36,7 +36,7 @@ bound_reached s n b is = record { sets = []; reports = []; last = b; end = Bound
 
 from_step : (k : ℕ) (s : Setting) (n : ℕ) (b : State) (r : Result) → step_of s b empty ≡ r → StepsTo (b.step + 1) r → b.step + suc k ≡ n → ((mid : State) → mid.step + k ≡ n → HasEnd s n mid) → HasEnd s n b
 from_step k s n b (Went now mid) is counts left later = one_before s n b mid now is (later mid (omega (arith, counts, left)))
-from_step k s n b (Stands stop) is counts left later = record {
+from_step k s n b (Halts stop) is counts left later = record {
   sets = [];
   reports = [];
   last = b;

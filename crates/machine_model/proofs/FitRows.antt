@@ -27,7 +27,7 @@ use Rattle.step_exec.specs.Plain.{is_refused, finished, byte_by, reached, after_
 use Rattle.sys_exec.specs.declared.effect.Refusal.{Refusal}
 use Rattle.sys_exec.specs.declared.effect.Refusal.TheVariants as refusals
 use Rattle.sys_exec.specs.declared.effect.SysEffect.TheVariants as effects
-use Rattle.sys_exec.specs.declared.effect.Done.{Done}
+use Rattle.sys_exec.specs.declared.effect.SysOutcome.{SysOutcome}
 use Rattle.sys_exec.specs.declared.effect.Loading.{Loading}
 use Rattle.sys_exec.specs.declared.iret.Popped.{Popped}
 use Rattle.sys_exec.specs.Operand.{protection_0, kernel_alone, selector, selector_in, operand_reached, long_of, pulled, pushed, past, past_pop, reg_at, next}
@@ -50,26 +50,26 @@ module _ (stay : InsensitiveStay) (cpu : Cpu) (whole : IsWhole cpu) where
   fit : Fit cpu
   fit = whole.fit
 
-  goes : (new : Cpu) → IsWhole new → Yields (λ (d : Done). IsWhole d.cpu) (next new)
+  goes : (new : Cpu) → IsWhole new → Yields (λ (d : SysOutcome). IsWhole d.cpu) (next new)
   goes new h = gives_yields h
 
   goes_on : (new : Cpu) → new.cpl ≡ cpu.cpl → new.seg ≡ cpu.seg → new.regs.flags ≡ cpu.regs.flags → new.cr0 ≡ cpu.cr0 → new.cr3 ≡ cpu.cr3 → new.cr4 ≡ cpu.cr4 → new.halted ≡ cpu.halted
-      → Yields (λ (d : Done). IsWhole d.cpu) (next new)
+      → Yields (λ (d : SysOutcome). IsWhole d.cpu) (next new)
   goes_on new l s f c0 c3 c4 h = goes new (same cpu whole new l s f c0 c3 c4 h)
 
   -- ---- flags and HLT
 
-  of_cli : (len : ℕ) → Yields (λ (d : Done). IsWhole d.cpu) (clear_interrupts len cpu)
+  of_cli : (len : ℕ) → Yields (λ (d : SysOutcome). IsWhole d.cpu) (clear_interrupts len cpu)
   unfolding clear_interrupts
   of_cli len = any_yields (unless protection_0 (is_within cpu)) (λ done.
       let f = flag_put cpu.regs.flags interrupt_at false in
       goes (with_flags (past cpu len) f) (flagged cpu whole (with_flags (past cpu len) f) f refl (set_interrupt cpu.regs.flags false) refl refl refl refl refl refl))
 
-  of_sti : (len : ℕ) → Yields (λ (d : Done). IsWhole d.cpu) (set_interrupts len cpu)
+  of_sti : (len : ℕ) → Yields (λ (d : SysOutcome). IsWhole d.cpu) (set_interrupts len cpu)
   unfolding set_interrupts
   of_sti len = any_yields (unless protection_0 (is_within cpu)) (λ done. goes _ (flagged cpu whole _ (flag_put cpu.regs.flags interrupt_at true) refl (set_interrupt cpu.regs.flags true) refl refl refl refl refl refl))
 
-  of_hlt : (len : ℕ) → Yields (λ (d : Done). IsWhole d.cpu) (halt len cpu)
+  of_hlt : (len : ℕ) → Yields (λ (d : SysOutcome). IsWhole d.cpu) (halt len cpu)
   unfolding halt
   of_hlt len = then_yields (unless_yields protection_0 (cpu.cpl == 0)) (λ done t. gives_yields (record {
     fit = record {
@@ -84,11 +84,11 @@ module _ (stay : InsensitiveStay) (cpu : Cpu) (whole : IsWhole cpu) where
     four = whole.four;
   }))
 
-  of_pushf : (len : ℕ) → Yields (λ (d : Done). IsWhole d.cpu) (push_flags len cpu)
+  of_pushf : (len : ℕ) → Yields (λ (d : SysOutcome). IsWhole d.cpu) (push_flags len cpu)
   unfolding push_flags
   of_pushf len = any_yields (pushed cpu cpu.regs.flags.bits) (λ done. goes_on _ refl refl refl refl refl refl refl)
 
-  of_popf : (len : ℕ) → Yields (λ (d : Done). IsWhole d.cpu) (pop_flags len cpu)
+  of_popf : (len : ℕ) → Yields (λ (d : SysOutcome). IsWhole d.cpu) (pop_flags len cpu)
   unfolding pop_flags
   of_popf len = any_yields (pulled cpu) (λ image. any_yields (flags_tested image) (λ done.
       goes (with_flags (past_pop cpu len) (new_flags cpu image)) (flagged cpu whole (with_flags (past_pop cpu len) (new_flags cpu image)) (new_flags cpu image) refl (popped_set stay.images cpu image) refl refl refl refl refl refl)))
@@ -158,7 +158,7 @@ module _ (stay : InsensitiveStay) (cpu : Cpu) (whole : IsWhole cpu) where
     four = ap (λ (x : List Hidden). length x) s ∙ whole.four;
   }
 
-  of_read_control : (a b : Operand) (len : ℕ) → Yields (λ (d : Done). IsWhole d.cpu) (read_control a b len cpu)
+  of_read_control : (a b : Operand) (len : ℕ) → Yields (λ (d : SysOutcome). IsWhole d.cpu) (read_control a b len cpu)
   unfolding read_control
   of_read_control (operands.Register k) (operands.Control number) len = any_yields (kernel_alone cpu) (λ done. any_yields (control_of cpu number) (λ v. goes_on _ refl refl refl refl refl refl refl))
   of_read_control a b len = record { each = λ s. tt }
@@ -170,7 +170,7 @@ module _ (stay : InsensitiveStay) (cpu : Cpu) (whole : IsWhole cpu) where
       one_of true e u = inl (eq_told v 0 e)
       one_of false e u = inr (eq_told v 16 u)
 
-  of_load_control : (len number v : ℕ) → Yields (λ (d : Done). IsWhole d.cpu) (load_control (past cpu len) number v)
+  of_load_control : (len number v : ℕ) → Yields (λ (d : SysOutcome). IsWhole d.cpu) (load_control (past cpu len) number v)
   unfolding load_control
   of_load_control len number v =
       let after = past cpu len in
@@ -199,42 +199,42 @@ module _ (stay : InsensitiveStay) (cpu : Cpu) (whole : IsWhole cpu) where
       }) refl refl refl refl)))
       (record { each = λ s. tt }))))
 
-  of_write_control : (a b : Operand) (len : ℕ) → Yields (λ (d : Done). IsWhole d.cpu) (write_control a b len cpu)
+  of_write_control : (a b : Operand) (len : ℕ) → Yields (λ (d : SysOutcome). IsWhole d.cpu) (write_control a b len cpu)
   unfolding write_control
   of_write_control (operands.Control number) (operands.Register k) len = any_yields (kernel_alone cpu) (λ done. of_load_control len number (reg_at cpu k))
   of_write_control a b len = record { each = λ s. tt }
 
   -- ---- tables
 
-  of_gdt : (a : Operand) (len : ℕ) → Yields (λ (d : Done). IsWhole d.cpu) (load_gdt a len cpu)
+  of_gdt : (a : Operand) (len : ℕ) → Yields (λ (d : SysOutcome). IsWhole d.cpu) (load_gdt a len cpu)
   unfolding load_gdt
   of_gdt a len = any_yields (kernel_alone cpu) (λ done. any_yields (table_at cpu a) (λ table. goes_on _ refl refl refl refl refl refl refl))
 
-  of_idt : (a : Operand) (len : ℕ) → Yields (λ (d : Done). IsWhole d.cpu) (load_idt a len cpu)
+  of_idt : (a : Operand) (len : ℕ) → Yields (λ (d : SysOutcome). IsWhole d.cpu) (load_idt a len cpu)
   unfolding load_idt
   of_idt a len = any_yields (kernel_alone cpu) (λ done. any_yields (table_at cpu a) (λ table. goes_on _ refl refl refl refl refl refl refl))
 
-  of_tr : (a : Operand) (len : ℕ) → Yields (λ (d : Done). IsWhole d.cpu) (load_tr a len cpu)
+  of_tr : (a : Operand) (len : ℕ) → Yields (λ (d : SysOutcome). IsWhole d.cpu) (load_tr a len cpu)
   unfolding load_tr
   of_tr a len = any_yields (kernel_alone cpu) (λ done. any_yields (selector cpu a) (λ sel. any_yields (load_task cpu sel) (λ task. goes_on _ refl refl refl refl refl refl refl)))
 
-  of_dropped : (len : ℕ) (a : Operand) → Yields (λ (d : Done). IsWhole d.cpu) (dropped len cpu a)
+  of_dropped : (len : ℕ) (a : Operand) → Yields (λ (d : SysOutcome). IsWhole d.cpu) (dropped len cpu a)
   of_dropped len (operands.Memory a) = gives_yields (same cpu whole (past cpu len) refl refl refl refl refl refl refl)
   of_dropped len a = record { each = λ s. tt }
 
-  of_drop_page : (a : Operand) (len : ℕ) → Yields (λ (d : Done). IsWhole d.cpu) (drop_page a len cpu)
+  of_drop_page : (a : Operand) (len : ℕ) → Yields (λ (d : SysOutcome). IsWhole d.cpu) (drop_page a len cpu)
   unfolding drop_page
   of_drop_page a len = any_yields (kernel_alone cpu) (λ done. of_dropped len a)
 
   -- ---- segment registers
 
-  of_kept : (len sel : ℕ) (a : Operand) → Yields (λ (d : Done). IsWhole d.cpu) (selector_kept len cpu sel a)
+  of_kept : (len sel : ℕ) (a : Operand) → Yields (λ (d : SysOutcome). IsWhole d.cpu) (selector_kept len cpu sel a)
   unfolding selector_kept
   of_kept len sel (operands.Register k) = goes_on _ refl refl refl refl refl refl refl
   of_kept len sel (operands.Memory a) = any_yields (operand_reached cpu a 2 true) (λ one. any_yields (writes (address_of a cpu.regs) Word sel) (λ two. goes_on (past cpu len) refl refl refl refl refl refl refl))
   of_kept len sel a = record { each = λ s. tt }
 
-  of_read_seg : (insn : Insn) (b : Operand) (len : ℕ) → Yields (λ (d : Done). IsWhole d.cpu) (read_seg insn b len cpu)
+  of_read_seg : (insn : Insn) (b : Operand) (len : ℕ) → Yields (λ (d : SysOutcome). IsWhole d.cpu) (read_seg insn b len cpu)
   unfolding read_seg
   of_read_seg insn (operands.Segment seg) len = of_kept len _ insn.a
   of_read_seg insn b len = record { each = λ s. tt }
@@ -254,7 +254,7 @@ module _ (stay : InsensitiveStay) (cpu : Cpu) (whole : IsWhole cpu) where
     four = length-set after.seg i h ∙ w.four;
   }
 
-  of_load : (after : Cpu) (sel : ℕ) (seg : Seg) → IsWhole after → after.cpl ≡ cpu.cpl → Yields (λ (d : Done). IsWhole d.cpu) (load_by after cpu sel seg)
+  of_load : (after : Cpu) (sel : ℕ) (seg : Seg) → IsWhole after → after.cpl ≡ cpu.cpl → Yields (λ (d : SysOutcome). IsWhole d.cpu) (load_by after cpu sel seg)
   unfolding load_by
   of_load after sel Cs w l = record { each = λ s. tt }
   of_load after sel Ss w l = then_yields (found_stack cpu whole cpu.cpl sel) (λ load k. any_yields (marked cpu load) (λ done. goes (record after { seg = slice_set after.seg 2 load.hidden; held = true }) (record {
@@ -272,22 +272,22 @@ module _ (stay : InsensitiveStay) (cpu : Cpu) (whole : IsWhole cpu) where
   of_load after sel Ds w l = then_yields (data_loaded cpu whole sel) (λ hidden k. goes (record after { seg = slice_set after.seg 3 hidden }) (with_data after w 3 hidden k (λ d. omega (arith, d)) (λ d. omega (arith, d))))
   of_load after sel Es w l = then_yields (data_loaded cpu whole sel) (λ hidden k. goes (record after { seg = slice_set after.seg 0 hidden }) (with_data after w 0 hidden k (λ d. omega (arith, d)) (λ d. omega (arith, d))))
 
-  of_load_seg : (insn : Insn) (a : Operand) (len : ℕ) → Yields (λ (d : Done). IsWhole d.cpu) (load_seg insn a len cpu)
+  of_load_seg : (insn : Insn) (a : Operand) (len : ℕ) → Yields (λ (d : SysOutcome). IsWhole d.cpu) (load_seg insn a len cpu)
   unfolding load_seg
   of_load_seg insn (operands.Segment seg) len = any_yields (selector cpu insn.b) (λ sel. of_load (past cpu len) sel seg (same cpu whole (past cpu len) refl refl refl refl refl refl refl) refl)
   of_load_seg insn a len = record { each = λ s. tt }
 
-  of_push_seg : (a : Operand) (len : ℕ) → Yields (λ (d : Done). IsWhole d.cpu) (push_seg a len cpu)
+  of_push_seg : (a : Operand) (len : ℕ) → Yields (λ (d : SysOutcome). IsWhole d.cpu) (push_seg a len cpu)
   unfolding push_seg
   of_push_seg (operands.Segment seg) len = any_yields (pushed cpu (selector_in cpu seg)) (λ done. goes_on _ refl refl refl refl refl refl refl)
   of_push_seg a len = record { each = λ s. tt }
 
-  of_pop_seg : (a : Operand) (len : ℕ) → Yields (λ (d : Done). IsWhole d.cpu) (pop_seg a len cpu)
+  of_pop_seg : (a : Operand) (len : ℕ) → Yields (λ (d : SysOutcome). IsWhole d.cpu) (pop_seg a len cpu)
   unfolding pop_seg
   of_pop_seg (operands.Segment seg) len = any_yields (pulled cpu) (λ v. of_load (past_pop cpu len) (v % 65536) seg (same cpu whole (past_pop cpu len) refl refl refl refl refl refl refl) refl)
   of_pop_seg a len = record { each = λ s. tt }
 
-  of_far_jump : (insn : Insn) → Yields (λ (d : Done). IsWhole d.cpu) (far_jump insn cpu)
+  of_far_jump : (insn : Insn) → Yields (λ (d : SysOutcome). IsWhole d.cpu) (far_jump insn cpu)
   unfolding far_jump
   of_far_jump insn = then_yields (found_jump cpu whole insn.sel) (λ code k. any_yields (marked cpu code) (λ done. goes _ (record {
     fit = record {
@@ -304,23 +304,23 @@ module _ (stay : InsensitiveStay) (cpu : Cpu) (whole : IsWhole cpu) where
 
   -- ---- ports and branches
 
-  of_port_in : (insn : Insn) (len : ℕ) → Yields (λ (d : Done). IsWhole d.cpu) (port_in insn len cpu)
+  of_port_in : (insn : Insn) (len : ℕ) → Yields (λ (d : SysOutcome). IsWhole d.cpu) (port_in insn len cpu)
   unfolding port_in
   of_port_in insn len = any_yields (unless protection_0 (is_within cpu)) (λ done. gives_yields (same cpu whole (past cpu len) refl refl refl refl refl refl refl))
 
-  of_port_out : (insn : Insn) (len : ℕ) → Yields (λ (d : Done). IsWhole d.cpu) (port_out insn len cpu)
+  of_port_out : (insn : Insn) (len : ℕ) → Yields (λ (d : SysOutcome). IsWhole d.cpu) (port_out insn len cpu)
   unfolding port_out
   of_port_out insn len = any_yields (unless protection_0 (is_within cpu)) (λ done. gives_yields (same cpu whole (past cpu len) refl refl refl refl refl refl refl))
 
-  of_return : (more : ℕ) → Yields (λ (d : Done). IsWhole d.cpu) (return_to more cpu)
+  of_return : (more : ℕ) → Yields (λ (d : SysOutcome). IsWhole d.cpu) (return_to more cpu)
   unfolding return_to
   of_return more = any_yields (pulled cpu) (λ target. goes_on _ refl refl refl refl refl refl refl)
 
-  of_jump : (a : Operand) → Yields (λ (d : Done). IsWhole d.cpu) (jump_to a cpu)
+  of_jump : (a : Operand) → Yields (λ (d : SysOutcome). IsWhole d.cpu) (jump_to a cpu)
   unfolding jump_to
   of_jump a = any_yields (long_of cpu a) (λ target. goes_on _ refl refl refl refl refl refl refl)
 
-  of_call : (a : Operand) (len : ℕ) → Yields (λ (d : Done). IsWhole d.cpu) (call_to a len cpu)
+  of_call : (a : Operand) (len : ℕ) → Yields (λ (d : SysOutcome). IsWhole d.cpu) (call_to a len cpu)
   unfolding call_to
   of_call (operands.Register k) len = any_yields (pushed cpu (past cpu len).regs.eip) (λ done. goes_on _ refl refl refl refl refl refl refl)
   of_call (operands.Memory a) len = any_yields (called_through a len cpu) (λ target. goes_on _ refl refl refl refl refl refl refl)
@@ -328,7 +328,7 @@ module _ (stay : InsensitiveStay) (cpu : Cpu) (whole : IsWhole cpu) where
 
   -- ---- the rows
 
-  row_left : cpu.halted ≡ false → (o : Op) (insn : Insn) (len : ℕ) → Yields (λ (d : Done). IsWhole d.cpu) (row o insn len cpu)
+  row_left : cpu.halted ≡ false → (o : Op) (insn : Insn) (len : ℕ) → Yields (λ (d : SysOutcome). IsWhole d.cpu) (row o insn len cpu)
   row_left awake ops.Cli insn len = of_cli len
   row_left awake ops.Sti insn len = of_sti len
   row_left awake ops.Hlt insn len = of_hlt len
@@ -353,7 +353,7 @@ module _ (stay : InsensitiveStay) (cpu : Cpu) (whole : IsWhole cpu) where
   row_left awake ops.CallTo insn len = of_call insn.a len
   row_left awake o insn len = record { each = λ s. tt }
 
-  sys_left : cpu.halted ≡ false → (insn : Insn) (len : ℕ) → Yields (λ (d : Done). IsWhole d.cpu) (sys_work insn len cpu)
+  sys_left : cpu.halted ≡ false → (insn : Insn) (len : ℕ) → Yields (λ (d : SysOutcome). IsWhole d.cpu) (sys_work insn len cpu)
   unfolding sys_work
   sys_left awake insn len = row_left awake insn.op insn len
 
@@ -378,15 +378,15 @@ module _ (stay : InsensitiveStay) (cpu : Cpu) (whole : IsWhole cpu) where
   of_plain insn len =
       any_yields (unless (refusals.Raise 13 0) (not (is_refused cpu (ranges_of insn cpu.regs)))) (λ done. record { each = λ s. of_reads insn len (reached cpu false (ranges_of insn cpu.regs).read s) })
 
-  plainly_left : (o : Outcome Refusal Cpu) → Ends IsWhole o → Ends (λ (d : Done). IsWhole d.cpu) (done_plainly o)
+  plainly_left : (o : Outcome Refusal Cpu) → Ends IsWhole o → Ends (λ (d : SysOutcome). IsWhole d.cpu) (done_plainly o)
   plainly_left (Ok x) h = h
   plainly_left (Err refused) h = tt
 
-  choice : (test : Bool) (x y : Outcome Refusal Done) → Ends (λ (d : Done). IsWhole d.cpu) x → Ends (λ (d : Done). IsWhole d.cpu) y → Ends (λ (d : Done). IsWhole d.cpu) (cond test x y)
+  choice : (test : Bool) (x y : Outcome Refusal SysOutcome) → Ends (λ (d : SysOutcome). IsWhole d.cpu) x → Ends (λ (d : SysOutcome). IsWhole d.cpu) y → Ends (λ (d : SysOutcome). IsWhole d.cpu) (cond test x y)
   choice true x y h k = h
   choice false x y h k = k
 
-  pub left : cpu.halted ≡ false → (insn : Insn) (len : ℕ) (s : Space) → Ends (λ (d : Done). IsWhole d.cpu) (instructed insn len cpu s)
+  pub left : cpu.halted ≡ false → (insn : Insn) (len : ℕ) (s : Space) → Ends (λ (d : SysOutcome). IsWhole d.cpu) (instructed insn len cpu s)
   unfolding instructed
   left awake insn len s =
       choice (is_plain insn.op) (done_plainly (executed insn len cpu s)) (sys_work insn len cpu s)

@@ -21,7 +21,7 @@ use Rattle.paging.specs.Space.{Space}
 use Rattle.paging.specs.Work.{Outcome, unless, reads}
 use Rattle.sys_exec.specs.declared.effect.Refusal.{Refusal}
 use Rattle.sys_exec.specs.declared.effect.Refusal.TheVariants as refusal
-use Rattle.sys_exec.specs.declared.effect.Done.{Done}
+use Rattle.sys_exec.specs.declared.effect.SysOutcome.{SysOutcome}
 use Rattle.sys_exec.specs.declared.effect.SysEffect.{SysEffect}
 use Rattle.sys_exec.specs.declared.effect.SysEffect.TheVariants as effects
 use Rattle.event_entry.specs.declared.refusal.Kind.{Kind}
@@ -44,7 +44,7 @@ use Rattle.machine_model.specs.State.{Setting, State, space_at_start}
 use Rattle.machine_model.specs.Rules.{stands_well, may_leave}
 use Rattle.machine_model.specs.Instruction.{fetched, instructed, with_accumulator}
 use Rattle.machine_model.specs.Step as step
-use Rattle.machine_model.specs.Step.{Completed, Result, Went, Stands, begun, begins_next, went, after_read, after_write, out_item, code_of, after_delivery, after_effect, after_software, after_instruction, by_op, by_decoded, after_refusal, after_fetch, fetches_next, worked, interrupt_of, interrupted, by_interrupt, unheld}
+use Rattle.machine_model.specs.Step.{Completed, Result, Went, Halts, begun, begins_next, went, after_read, after_write, out_item, code_of, after_delivery, after_effect, after_software, after_instruction, by_op, by_decoded, after_refusal, after_fetch, fetches_next, worked, interrupt_of, interrupted, by_interrupt, unheld}
 use Rattle.machine_model.specs.StaysFit.{StepsKeepFit}
 use Rattle.machine_model.proofs.Yielding.{Ends, Yields, OfValue, then_yields, any_yields, gives_yields, unless_yields, keeps_yields, by_yields}
 use Rattle.machine_model.proofs.AbleRows.{none, both}
@@ -55,7 +55,7 @@ use Rattle.machine_model.proofs.FitRows.{left}
 -- a step that goes leaves a whole processor
 abbrev LeavesWhole : Result → Type 0
 LeavesWhole (Went report after) = IsWhole after.cpu
-LeavesWhole (Stands stop) = Unit {0}
+LeavesWhole (Halts stop) = Unit {0}
 
 chosen : (test : Bool) (x y : Result) → (test ≡ true → LeavesWhole x) → (test ≡ false → LeavesWhole y) → LeavesWhole (cond test x y)
 chosen true x y h k = h refl
@@ -134,7 +134,7 @@ at_fault cpu at h = same cpu h (record cpu { cr2 = at }) refl refl refl refl ref
 
 module _ (m : Setting) (b : State) where
   of_entered : (whats : List What) (c : Option Completed) (cpu : Cpu) (board : Board) (s : Space) → IsWhole cpu → LeavesWhole (step.entered m whats c b cpu board s)
-  of_entered whats c cpu board s h = chosen (stands_well m cpu) (step.went whats c b cpu board s) (Stands stops.NotAStart) (λ well. h) (λ bad. tt)
+  of_entered whats c cpu board s h = chosen (stands_well m cpu) (step.went whats c b cpu board s) (Halts stops.NotAStart) (λ well. h) (λ bad. tt)
 
   of_delivery : (whats : List What) (board : Board) (o : Outcome NotDelivered Cpu) → Ends IsWhole o → LeavesWhole (after_delivery m whats b board o)
   of_delivery whats board (Ok done) h = of_entered whats None done.0 board done.1 h
@@ -155,7 +155,7 @@ module _ (m : Setting) (b : State) where
   of_write c cpu item s (did.Sent value, board) h = h
 
   of_effect : (c : Completed) (e : SysEffect) (cpu : Cpu) (s : Space) → IsWhole cpu → LeavesWhole (after_effect m b c e cpu s)
-  of_effect c effects.Next cpu s h = chosen (may_leave m.mode b.cpu cpu) (step.went [] (Some c) b cpu b.board s) (Stands stops.UserFlags) (λ leave. h) (λ no. tt)
+  of_effect c effects.Next cpu s h = chosen (may_leave m.mode b.cpu cpu) (step.went [] (Some c) b cpu b.board s) (Halts stops.UserFlags) (λ leave. h) (λ no. tt)
   of_effect c effects.Halted cpu s h = h
   of_effect c (effects.DropPage page) cpu s h = h
   of_effect c (effects.DropDir index) cpu s h = h
@@ -181,7 +181,7 @@ module _ (m : Setting) (b : State) where
     of_told c (refusal.Raise vector code) s = of_raised b.cpu vector code s whole
     of_told c (refusal.Stop stop) s = tt
 
-    of_instruction : (c : Completed) (o : Outcome Refusal Done) → Ends (λ (d : Done). IsWhole d.cpu) o → LeavesWhole (after_instruction m b c o)
+    of_instruction : (c : Completed) (o : Outcome Refusal SysOutcome) → Ends (λ (d : SysOutcome). IsWhole d.cpu) o → LeavesWhole (after_instruction m b c o)
     of_instruction c (Ok done) h = of_effect c done.0.effect done.0.cpu done.1 h
     of_instruction c (Err refused) h = of_told c refused.0 refused.1
 
@@ -208,7 +208,7 @@ module _ (m : Setting) (b : State) where
     unfolding worked
     of_work s =
         chosen b.cpu.halted (step.went [] None b b.cpu b.board s) (begins_next m b s) (λ halted. whole) (λ awake.
-        chosen (stands_well m b.cpu) (fetches_next m b s) (Stands stops.NotAStart) (λ well. of_fetch awake (fetched (b.cpu.cpl == 3) b.cpu.regs.eip s)) (λ bad. tt))
+        chosen (stands_well m b.cpu) (fetches_next m b s) (Halts stops.NotAStart) (λ well. of_fetch awake (fetched (b.cpu.cpl == 3) b.cpu.regs.eip s)) (λ bad. tt))
 
     of_interrupt : (o : Option ℕ) (s : Space) → LeavesWhole (by_interrupt m o b s)
     unfolding interrupted

@@ -21,7 +21,7 @@ use Rattle.paging.specs.declared.entry.Walk.TheVariants.{Absent, Beyond, Reserve
 use Rattle.paging.specs.declared.entry.Touch.{Touch}
 use Rattle.paging.specs.declared.entry.Touch.TheVariants.{Ready, Fault, Stop}
 use Rattle.paging.specs.Fresh.{fresh, has, is_large, dir_place, table_in, tables_read, grants, flagged}
-use Rattle.paging.specs.Space.{Mode, Span, Earlier, Space, width, place, with_byte, written, saved, frames_of}
+use Rattle.paging.specs.Space.{Mode, Span, Earlier, Space, size_in_bytes, place, with_byte, written, saved, frames_of}
 use Rattle.paging.specs.Uses.{tables_of, Decision, is_barred, window_stop, walks_text, marks_own, dirtied, by_walk, decided, settled, usable, by_entry, page_uses, go_on, and_then, unready, made_ready, second_page, by_pages, by_window, uses, fetches}
 use Rattle.machine_model.specs.Reloading.{MemoryFollows, IsFoundBy, HoldsOf, AreApart, Follows, FollowsItself, FollowsOn, FoundOver, AllFoundOver, UsesFollow, FetchesFollow}
 use Rattle.machine_model.proofs.MoreFlags.{eq_told, not_eq, flags_by, long_with, byte_other, memory_same, memory_on, flagged_follows, flagged_other}
@@ -407,7 +407,7 @@ IsNoted s byte = Contains s.wrote (place s byte / 4096)
 first : (s : Space) (at n : ℕ) → 0 < n → ((k : ℕ) → k < n → IsNoted s (at + k)) → IsNoted s at
 first s at n lt h = let e : at + 0 ≡ at = omega arith in subst (IsNoted s) e (h 0 lt)
 
-saved_memory : (s : Space) (at : ℕ) (size : Size) (v : ℕ) → ((k : ℕ) → k < width size → IsNoted s (at + k)) → Keeps s.wrote s.ram (written s at size v)
+saved_memory : (s : Space) (at : ℕ) (size : Size) (v : ℕ) → ((k : ℕ) → k < size_in_bytes size → IsNoted s (at + k)) → Keeps s.wrote s.ram (written s at size v)
 unfolding written with_byte
 saved_memory s at Byte v h = kept_byte s.wrote s.ram s.ram (place s at) (v % 256) (first s at 1 (omega arith) h) (kept_same s.wrote s.ram)
 saved_memory s at Word v h =
@@ -420,7 +420,7 @@ saved_memory s at Long v h =
     (kept_byte s.wrote s.ram s.ram (place s at) (v % 256) (first s at 4 (omega arith) h) (kept_same s.wrote s.ram))))
 
 -- a write where the frames of all its bytes are noted
-pub saved_follows : (s : Space) (at : ℕ) (size : Size) (v : ℕ) → ((k : ℕ) → k < width size → IsNoted s (at + k)) → Follows s (saved s at size v)
+pub saved_follows : (s : Space) (at : ℕ) (size : Size) (v : ℕ) → ((k : ℕ) → k < size_in_bytes size → IsNoted s (at + k)) → Follows s (saved s at size v)
 saved_follows s at size v h = record {
   frames = refl;
   cr3 = refl;

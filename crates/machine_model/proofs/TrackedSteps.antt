@@ -25,7 +25,7 @@ use Rattle.paging.specs.Uses.{fetches, with_front, with_back, without_dir}
 use Rattle.paging.specs.Work.{Outcome}
 use Rattle.sys_exec.specs.declared.effect.Refusal.{Refusal}
 use Rattle.sys_exec.specs.declared.effect.Refusal.TheVariants as refusal
-use Rattle.sys_exec.specs.declared.effect.Done.{Done}
+use Rattle.sys_exec.specs.declared.effect.SysOutcome.{SysOutcome}
 use Rattle.sys_exec.specs.declared.effect.SysEffect.{SysEffect}
 use Rattle.sys_exec.specs.declared.effect.SysEffect.TheVariants as effects
 use Rattle.sys_exec.specs.Sys.{told, sys_work}
@@ -44,7 +44,7 @@ use Rattle.run_trace.specs.declared.items.What.TheVariants.{Sent, Irq}
 use Rattle.machine_model.specs.State.{Setting, State, space_at_start}
 use Rattle.machine_model.specs.Rules.{stands_well, may_leave}
 use Rattle.machine_model.specs.Instruction.{taken, fetching, owning_front, owning_back, owned, fetched_on, fetched_by, fetched, is_plain, done_plainly, instructed, with_accumulator}
-use Rattle.machine_model.specs.Step.{Report, Completed, Result, Went, Stands, went, in_item, after_read, after_write, out_item, entered, after_delivery, raised, code_of, after_effect, effect_on, after_software, interrupts_by, begun, by_op, by_decoded, after_refusal, after_fetch, begins_next, worked, interrupted, interrupt_of, by_interrupt, unheld, step_of}
+use Rattle.machine_model.specs.Step.{Report, Completed, Result, Went, Halts, went, in_item, after_read, after_write, out_item, entered, after_delivery, raised, code_of, after_effect, effect_on, after_software, interrupts_by, begun, by_op, by_decoded, after_refusal, after_fetch, begins_next, worked, interrupted, interrupt_of, by_interrupt, unheld, step_of}
 use Rattle.machine_model.specs.Run.{Set}
 use Rattle.machine_model.specs.Reloading.{MemoryFollows, IsFoundBy, Follows, Leaves}
 use Rattle.machine_model.specs.Following.{FetchedFollows, RangesFollow, InstructedFollows, DeliveredFollows, IsLeftBy, StepsFollow, StepsKeepMemory, OthersStay, WordsStayFound, SetsAreFound, FoundAreCacheable}
@@ -105,7 +105,7 @@ plainly_leaves : (s : Space) (o : Outcome Refusal Cpu) → Leaves s o → Leaves
 plainly_leaves s (Ok x) h = h
 plainly_leaves s (Err refused) h = h
 
-either_leaves : (s : Space) (test : Bool) (a b : Outcome Refusal Done) → Leaves s a → Leaves s b → Leaves s (cond test a b)
+either_leaves : (s : Space) (test : Bool) (a b : Outcome Refusal SysOutcome) → Leaves s a → Leaves s b → Leaves s (cond test a b)
 either_leaves s true a b h k = h
 either_leaves s false a b h k = k
 
@@ -122,7 +122,7 @@ delivered_follows cpu vector kind code s = (delivered_tracks cpu vector kind cod
 
 abbrev IsLeft : Space → Result → Type 0
 IsLeft s (Went report b) = IsLeftBy s report b
-IsLeft s (Stands stop) = Unit {0}
+IsLeft s (Halts stop) = Unit {0}
 
 went_left : (s t : Space) (whats : List What) (completed : Option Completed) (b : State) (cpu : Cpu) (board : Board) → Follows s t → IsLeft s (went whats completed b cpu board t)
 went_left s t whats completed b cpu board h = record { last = t; follows = h; ram = refl; set = λ page e is. is; tables = refl; wrote = refl; pages = refl }
@@ -131,7 +131,7 @@ dropped_left : (s t : Space) (set : Set) (completed : Option Completed) (b : Sta
     → IsLeft s (went [] completed b cpu board (record t { set = set }))
 dropped_left s t set completed b cpu board h fewer = record { last = t; follows = h; ram = refl; set = fewer; tables = refl; wrote = refl; pages = refl }
 
-guarded : (s : Space) (test : Bool) (r : Result) (stop : Stop) → IsLeft s r → IsLeft s (cond test r (Stands stop))
+guarded : (s : Space) (test : Bool) (r : Result) (stop : Stop) → IsLeft s r → IsLeft s (cond test r (Halts stop))
 guarded s true r stop h = h
 guarded s false r stop h = tt
 
@@ -184,7 +184,7 @@ effect_left m b completed (effects.PortOut port wide value) cpu s t h = write_le
 effect_left m b completed (effects.Raise vector code) cpu s t h = raised_left m b cpu vector code s t h
 effect_left m b completed (effects.Stop stop) cpu s t h = tt
 
-told_left : (m : Setting) (b : State) (completed : Completed) (s : Space) (o : Outcome Refusal Done) → Leaves s o → IsLeft s (effect_on m b completed (told b.cpu o))
+told_left : (m : Setting) (b : State) (completed : Completed) (s : Space) (o : Outcome Refusal SysOutcome) → Leaves s o → IsLeft s (effect_on m b completed (told b.cpu o))
 told_left m b completed s (Ok done) h = effect_left m b completed done.0.effect done.0.cpu s done.1 h
 told_left m b completed s (Err (refusal.Fault code at, t)) h = raised_left m b (record b.cpu { cr2 = at }) 14 code s t h
 told_left m b completed s (Err (refusal.Raise vector code, t)) h = raised_left m b b.cpu vector code s t h

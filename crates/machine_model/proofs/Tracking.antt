@@ -6,7 +6,7 @@ use Rattle.ia32_types.specs.declared.size.Size.TheVariants.{Byte}
 use Rattle.paging.specs.declared.entry.Access.{Access}
 use Rattle.paging.specs.declared.entry.Touch.{Touch}
 use Rattle.paging.specs.declared.entry.Touch.TheVariants as touch
-use Rattle.paging.specs.Space.{Space, width, place}
+use Rattle.paging.specs.Space.{Space, size_in_bytes, place}
 use Rattle.paging.specs.Uses.{uses}
 use Rattle.paging.specs.Work.{Outcome, Work, on_value, ◌>>=◌, gives, refuses, unless, reads, reads_earlier, writes}
 use Rattle.descriptors.specs.declared.cpu.Cpu.{Cpu}
@@ -103,7 +103,7 @@ pub reads_earlier_within : {E : Type 0} {at len : ℕ} (from : ℕ) (size : Size
 reads_earlier_within from size = record { each = λ s ready. (same_follows s, ready) }
 
 -- a write in a range that is open, which it stays
-pub writes_within : {E : Type 0} {start len : ℕ} (at : ℕ) (size : Size) (v : ℕ) → start ≤ at → at + width size ≤ start + len → Within start len (writes {E = E} at size v)
+pub writes_within : {E : Type 0} {start len : ℕ} (at : ℕ) (size : Size) (v : ℕ) → start ≤ at → at + size_in_bytes size ≤ start + len → Within start len (writes {E = E} at size v)
 unfolding place
 writes_within {start = start} {len = len} at size v low high = record {
   each = λ s ready. (saved_follows s at size v (λ k lt. ready.noted (at + k) (omega (arith, low)) (omega (arith, high, lt))), record { noted = λ byte above below. ready.noted byte above below });

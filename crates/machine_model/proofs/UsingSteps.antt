@@ -23,7 +23,7 @@ use Rattle.paging.specs.Uses.{fetches, with_front, with_back, without_dir}
 use Rattle.paging.specs.Work.{Outcome}
 use Rattle.sys_exec.specs.declared.effect.Refusal.{Refusal}
 use Rattle.sys_exec.specs.declared.effect.Refusal.TheVariants as refusal
-use Rattle.sys_exec.specs.declared.effect.Done.{Done}
+use Rattle.sys_exec.specs.declared.effect.SysOutcome.{SysOutcome}
 use Rattle.sys_exec.specs.declared.effect.SysEffect.{SysEffect}
 use Rattle.sys_exec.specs.declared.effect.SysEffect.TheVariants as effects
 use Rattle.sys_exec.specs.Sys.{told, sys_work}
@@ -42,7 +42,7 @@ use Rattle.run_trace.specs.declared.items.What.TheVariants.{Sent, Irq}
 use Rattle.machine_model.specs.State.{Setting, State, space_at_start}
 use Rattle.machine_model.specs.Rules.{stands_well, may_leave}
 use Rattle.machine_model.specs.Instruction.{taken, fetching, owning_front, owning_back, owned, fetched_on, fetched_by, fetched, is_plain, done_plainly, instructed, with_accumulator}
-use Rattle.machine_model.specs.Step.{Completed, Result, Went, Stands, went, in_item, after_read, after_write, out_item, entered, after_delivery, raised, code_of, after_effect, effect_on, after_software, interrupts_by, begun, by_op, by_decoded, after_refusal, after_fetch, begins_next, worked, interrupted, interrupt_of, by_interrupt, unheld, step_of}
+use Rattle.machine_model.specs.Step.{Completed, Result, Went, Halts, went, in_item, after_read, after_write, out_item, entered, after_delivery, raised, code_of, after_effect, effect_on, after_software, interrupts_by, begun, by_op, by_decoded, after_refusal, after_fetch, begins_next, worked, interrupted, interrupt_of, by_interrupt, unheld, step_of}
 use Rattle.machine_model.specs.Run.{Set}
 use Rattle.machine_model.specs.UsedPages.{may_use, LeadWell, Uses, Uses_on, Delivers, FetchedUses, RangesUse, InstructedUses, DeliveredUses, IsUsedBy, StepsUse, UsedPagesLeadWell}
 use Rattle.machine_model.proofs.Using.{Met, same_uses, owning, fetches_met}
@@ -125,7 +125,7 @@ plainly_leaves : (user : Bool) (s : Space) (o : Outcome Refusal Cpu) → Leaves 
 plainly_leaves user s (Ok x) h = h
 plainly_leaves user s (Err refused) h = h
 
-either_leaves : (user : Bool) (s : Space) (test : Bool) (a b : Outcome Refusal Done) → Leaves is_stop user s a → Leaves is_stop user s b → Leaves is_stop user s (cond test a b)
+either_leaves : (user : Bool) (s : Space) (test : Bool) (a b : Outcome Refusal SysOutcome) → Leaves is_stop user s a → Leaves is_stop user s b → Leaves is_stop user s (cond test a b)
 either_leaves user s true a b h k = h
 either_leaves user s false a b h k = k
 
@@ -145,7 +145,7 @@ delivered_uses user cpu vector kind code s = told_delivery user s (delivered cpu
 
 abbrev IsLeft : Bool → Space → Result → Type 0
 IsLeft user s (Went report b) = IsUsedBy user s report b
-IsLeft user s (Stands stop) = Unit {0}
+IsLeft user s (Halts stop) = Unit {0}
 
 went_left : (user : Bool) (s t : Space) (whats : List What) (completed : Option Completed) (b : State) (cpu : Cpu) (board : Board) → Uses user s t → IsLeft user s (went whats completed b cpu board t)
 went_left user s t whats completed b cpu board h = record { last = t; uses = h; ram = refl; set = λ page e is. is; pages = refl }
@@ -154,7 +154,7 @@ dropped_left : (user : Bool) (s t : Space) (set : Set) (completed : Option Compl
     → IsLeft user s (went [] completed b cpu board (record t { set = set }))
 dropped_left user s t set completed b cpu board h fewer = record { last = t; uses = h; ram = refl; set = fewer; pages = refl }
 
-guarded : (user : Bool) (s : Space) (test : Bool) (r : Result) (stop : Stop) → IsLeft user s r → IsLeft user s (cond test r (Stands stop))
+guarded : (user : Bool) (s : Space) (test : Bool) (r : Result) (stop : Stop) → IsLeft user s r → IsLeft user s (cond test r (Halts stop))
 guarded user s true r stop h = h
 guarded user s false r stop h = tt
 
@@ -207,7 +207,7 @@ effect_left user m b completed (effects.PortOut port wide value) cpu s t h = wri
 effect_left user m b completed (effects.Raise vector code) cpu s t h = raised_left user m b cpu vector code s t h
 effect_left user m b completed (effects.Stop stop) cpu s t h = tt
 
-told_left : (user : Bool) (m : Setting) (b : State) (completed : Completed) (s : Space) (o : Outcome Refusal Done) → Leaves is_stop user s o → IsLeft user s (effect_on m b completed (told b.cpu o))
+told_left : (user : Bool) (m : Setting) (b : State) (completed : Completed) (s : Space) (o : Outcome Refusal SysOutcome) → Leaves is_stop user s o → IsLeft user s (effect_on m b completed (told b.cpu o))
 told_left user m b completed s (Ok done) h = effect_left user m b completed done.0.effect done.0.cpu s done.1 h
 told_left user m b completed s (Err (refusal.Fault code at, t)) h = raised_left user m b (record b.cpu { cr2 = at }) 14 code s t (h refl)
 told_left user m b completed s (Err (refusal.Raise vector code, t)) h = raised_left user m b b.cpu vector code s t (h refl)

@@ -18,7 +18,7 @@ use Rattle.paging.proofs.Translations.{clash}
 use Rattle.paging.proofs.Works.{work_steps}
 use Rattle.sys_exec.specs.declared.effect.Refusal.{Refusal}
 use Rattle.sys_exec.specs.declared.effect.Refusal.TheVariants as refusal
-use Rattle.sys_exec.specs.declared.effect.Done.{Done}
+use Rattle.sys_exec.specs.declared.effect.SysOutcome.{SysOutcome}
 use Rattle.sys_exec.specs.declared.effect.SysEffect.{SysEffect}
 use Rattle.sys_exec.specs.declared.effect.SysEffect.TheVariants as effects
 use Rattle.sys_exec.specs.Sys.{told}
@@ -38,7 +38,7 @@ use Rattle.run_trace.specs.declared.items.End.TheVariants.{Bound, Stopped}
 use Rattle.machine_model.specs.State.{Setting, State, Loosened, on_bare, space_at_start}
 use Rattle.machine_model.specs.Rules.{stands_well, may_leave}
 use Rattle.machine_model.specs.Instruction.{taken, fetching, owning_front, owning_back, owned, fetched_on, fetched_by, fetched, is_plain, done_plainly, instructed}
-use Rattle.machine_model.specs.Step.{Report, Completed, Result, Went, Stands, went, entered, after_delivery, raised, code_of, after_effect, effect_on, after_software, interrupts_by, begun, by_op, by_decoded, after_refusal, after_fetch, fetches_next, begins_next, worked, interrupted, interrupt_of, by_interrupt, unheld, stepped, step_of}
+use Rattle.machine_model.specs.Step.{Report, Completed, Result, Went, Halts, went, entered, after_delivery, raised, code_of, after_effect, effect_on, after_software, interrupts_by, begun, by_op, by_decoded, after_refusal, after_fetch, fetches_next, begins_next, worked, interrupted, interrupt_of, by_interrupt, unheld, stepped, step_of}
 use Rattle.machine_model.specs.Run.{Set, Steps, EndsIn}
 use Rattle.sys_exec.specs.Operand.{past}
 use Rattle.machine_model.specs.Agreement.{is_extra, StepsAgree, RunsAgree}
@@ -104,7 +104,7 @@ plainly_told cpu (Err (refusal.Raise vector code, s)) p (inr e) = inr (ap (λ (q
 plainly_told cpu (Err (refusal.Stop stop, s)) p (inl e) = inl e
 plainly_told cpu (Err (refusal.Stop stop, s)) p (inr e) = inr (ap (λ (q : Outcome Refusal Cpu). told cpu (done_plainly q)) e)
 
-either_told : (plain : Bool) (cpu : Cpu) (a b c d : Outcome Refusal Done) → rows.ToldAgrees (told cpu a) (told cpu c) → rows.ToldAgrees (told cpu b) (told cpu d) → rows.ToldAgrees (told cpu (cond plain a b)) (told cpu (cond plain c d))
+either_told : (plain : Bool) (cpu : Cpu) (a b c d : Outcome Refusal SysOutcome) → rows.ToldAgrees (told cpu a) (told cpu c) → rows.ToldAgrees (told cpu b) (told cpu d) → rows.ToldAgrees (told cpu (cond plain a b)) (told cpu (cond plain c d))
 either_told true cpu a b c d h k = h
 either_told false cpu a b c d h k = k
 
@@ -125,7 +125,7 @@ onward r p q e (inl h) = inl h
 onward r p q e (inr h) = inr (e ∙ h)
 
 -- a test of the monitor's
-guarded : (test : Bool) (r : Result) (stop : Stop) → is_extra_stop stop ≡ true → Agree (cond test r (Stands stop)) r
+guarded : (test : Bool) (r : Result) (stop : Stop) → is_extra_stop stop ≡ true → Agree (cond test r (Halts stop)) r
 guarded true r stop h = inr refl
 guarded false r stop h = inl h
 
@@ -227,7 +227,7 @@ next_agrees laws m b s =
     let user = b.cpu.cpl == 3 in
     fetch_agrees laws m b (fetched user b.cpu.regs.eip s) (fetched user b.cpu.regs.eip (bare s)) ((fetched_agrees laws.fetches user b.cpu.regs.eip).at_each s)
 
-tested : (test : Bool) (r p : Result) (stop : Stop) → is_extra_stop stop ≡ true → Agree r p → Agree (cond test r (Stands stop)) p
+tested : (test : Bool) (r p : Result) (stop : Stop) → is_extra_stop stop ≡ true → Agree r p → Agree (cond test r (Halts stop)) p
 tested true r p stop h k = k
 tested false r p stop h k = inl h
 
@@ -288,7 +288,7 @@ all_steps law m old new (set ∷ sets) reports steps = (
   steps.6,
 )
 
-stands_agrees : StepsAgree → (m : Setting) (b : State) (set : Set) (stop : Stop) → is_extra_stop stop ≡ false → step_of m b set ≡ Stands stop → step_of (on_bare m) b set ≡ Stands stop
+stands_agrees : StepsAgree → (m : Setting) (b : State) (set : Set) (stop : Stop) → is_extra_stop stop ≡ false → step_of m b set ≡ Halts stop → step_of (on_bare m) b set ≡ Halts stop
 stands_agrees law m b set stop plain is = elim (law m b set) [
   | inl h ↦ absurd (clash (sym plain ∙ (ap is_extra (sym is) ∙ h)))
   | inr h ↦ h ∙ is

@@ -8,7 +8,7 @@ use Rattle.run_trace.specs.declared.items.End.TheVariants.{Bound, Stopped}
 use Rattle.machine_model.specs.State.{Setting, State, on_bare}
 use Rattle.machine_model.specs.Rules.{stands_well, may_leave}
 use Rattle.machine_model.specs.Instruction.{owning_front, owning_back}
-use Rattle.machine_model.specs.Step.{Report, Result, Went, Stands, step_of}
+use Rattle.machine_model.specs.Step.{Report, Result, Went, Halts, step_of}
 use Rattle.machine_model.specs.Run.{Set, Run}
 
 -- What the rules add to a step is nothing on the bare machine: code begins anywhere, IRET takes any flags, and no byte
@@ -22,7 +22,7 @@ pub record BareIsPlain : Type 0 where
 -- the step ends at a stop that the bare machine hasn't
 abbrev pub is_extra : Result → Bool
 is_extra (Went report b) = false
-is_extra (Stands stop) = is_extra_stop stop
+is_extra (Halts stop) = is_extra_stop stop
 
 -- a step ends at such a stop, or is the bare machine's from the same state with the same set
 abbrev pub StepsAgree : Type 0

@@ -5,14 +5,14 @@ use Rattle.std.specs.Ordering.{nat_cmp}
 use Rattle.paging.specs.declared.entry.Entry.{Entry}
 use Rattle.run_trace.specs.declared.items.End.{End}
 use Rattle.machine_model.specs.State.{Setting, State, boot}
-use Rattle.machine_model.specs.Step.{Report, Result, Went, Stands, step_of}
+use Rattle.machine_model.specs.Step.{Report, Result, Went, Halts, step_of}
 use Rattle.machine_model.specs.Run.{Set, Run}
 use Rattle.machine_model.specs.Fit.{Fit}
 
 -- where a step goes, so many steps were done then
 abbrev pub StepsTo : ℕ → Result → Type 0
 StepsTo n (Went report new) = new.step ≡ n
-StepsTo n (Stands stop) = Unit {0}
+StepsTo n (Halts stop) = Unit {0}
 
 abbrev pub EachStepCounts : Type 0
 EachStepCounts = (s : Setting) (b : State) (set : FinMap nat_cmp Entry) → StepsTo (b.step + 1) (step_of s b set)

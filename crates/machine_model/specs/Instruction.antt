@@ -18,7 +18,7 @@ use Rattle.paging.specs.declared.entry.Touch.TheVariants.{Ready, Fault, Stop}
 use Rattle.paging.specs.Space.{Space, place}
 use Rattle.paging.specs.Uses.{fetches, with_front, with_back}
 use Rattle.paging.specs.Work.{Outcome, Work, ◌>>=◌, gives, refuses}
-use Rattle.sys_exec.specs.declared.effect.Done.{Done}
+use Rattle.sys_exec.specs.declared.effect.SysOutcome.{SysOutcome}
 use Rattle.sys_exec.specs.declared.effect.SysEffect.TheVariants as effects
 use Rattle.sys_exec.specs.Sys.{sys_work}
 use Rattle.ia32_exec.specs.Registers.{with_register}
@@ -84,12 +84,12 @@ is_plain op.Int3 = false
 is_plain o = is_none (kind_of o)
 
 -- a plain instruction asks nothing of the machine
-abbrev pub done_plainly : Outcome Refusal Cpu → Outcome Refusal Done
+abbrev pub done_plainly : Outcome Refusal Cpu → Outcome Refusal SysOutcome
 done_plainly (Ok x) = Ok (record { cpu = x.0; effect = effects.Next }, x.1)
 done_plainly (Err refused) = Err refused
 
 -- What an instruction other than INT and INT3 does: by its row, with all its ranges translated before a byte is read.
-unfoldable pub instructed : Insn → ℕ → Cpu → Work Refusal Done
+unfoldable pub instructed : Insn → ℕ → Cpu → Work Refusal SysOutcome
 instructed insn len cpu s = if is_plain insn.op then done_plainly (plainly.executed insn len cpu s) else sys_work insn len cpu s
 
 -- AL or EAX takes what a port gave

@@ -19,7 +19,7 @@ use Rattle.paging.specs.Uses.{without_dir}
 use Rattle.paging.specs.Work.{Outcome}
 use Rattle.sys_exec.specs.declared.effect.Refusal.{Refusal}
 use Rattle.sys_exec.specs.declared.effect.Refusal.TheVariants as refusal
-use Rattle.sys_exec.specs.declared.effect.Done.{Done}
+use Rattle.sys_exec.specs.declared.effect.SysOutcome.{SysOutcome}
 use Rattle.sys_exec.specs.declared.effect.SysEffect.{SysEffect}
 use Rattle.sys_exec.specs.declared.effect.SysEffect.TheVariants as effects
 use Rattle.sys_exec.specs.Sys.{told}
@@ -59,7 +59,7 @@ pub record Report : Type 0 where
 -- what a step comes to: a report and the state after it, or a stop
 pub data Result : Type 0 where
   Went : Report → State → Result
-  Stands : Stop → Result
+  Halts : Stop → Result
 
 -- what was seen in one step
 abbrev pub items_at : ℕ → List What → List Item
@@ -84,13 +84,13 @@ out_item port false value = Out8 port value
 
 -- IN puts what the board gave into AL or EAX
 abbrev pub after_read : State → Completed → Cpu → ℕ → Bool → Space → PortRead × Board → Result
-after_read b completed cpu port wide s (read.Stop, board) = Stands stops.DeviceUse
+after_read b completed cpu port wide s (read.Stop, board) = Halts stops.DeviceUse
 after_read b completed cpu port wide s (read.Value value, board) =
     went (in_item port wide value ∷ []) (Some completed) b (with_accumulator wide value cpu) board s
 
 -- what the board did at a write to a port
 abbrev pub after_write : State → Completed → Cpu → What → Space → Did × Board → Result
-after_write b completed cpu item s (did.Stop, board) = Stands stops.DeviceUse
+after_write b completed cpu item s (did.Stop, board) = Halts stops.DeviceUse
 after_write b completed cpu item s (did.Done, board) = went (item ∷ []) (Some completed) b cpu board s
 after_write b completed cpu item s (did.Sent value, board) = went (item ∷ Sent value ∷ []) (Some completed) b cpu board s
 
@@ -104,12 +104,12 @@ stop_of (not_delivered.Stop stop) = stop
 
 -- a handler is entered, which must be where code may begin
 abbrev pub entered : Setting → List What → Option Completed → State → Cpu → Board → Space → Result
-entered m whats completed b cpu board s = if stands_well m cpu then went whats completed b cpu board s else Stands stops.NotAStart
+entered m whats completed b cpu board s = if stands_well m cpu then went whats completed b cpu board s else Halts stops.NotAStart
 
 -- The processor enters a handler, or the delivery stops. The board is the one that the delivery leaves.
 abbrev pub after_delivery : Setting → List What → State → Board → Outcome NotDelivered Cpu → Result
 after_delivery m whats b board (Ok done) = entered m whats None b done.0 board done.1
-after_delivery m whats b board (Err refused) = Stands (stop_of refused.0)
+after_delivery m whats b board (Err refused) = Halts (stop_of refused.0)
 
 -- a raised vector is delivered from this processor, whose EIP is that of the instruction
 abbrev pub raised : Setting → State → Cpu → ℕ → ℕ → Space → Result
@@ -117,7 +117,7 @@ raised m b cpu vector code s = after_delivery m [] b b.board (delivered cpu vect
 
 -- an instruction ends, and may lead to level 3 with a user's flags alone
 abbrev pub ended : Setting → Completed → State → Cpu → Space → Result
-ended m completed b cpu s = if may_leave m.mode b.cpu cpu then went [] (Some completed) b cpu b.board s else Stands stops.UserFlags
+ended m completed b cpu s = if may_leave m.mode b.cpu cpu then went [] (Some completed) b cpu b.board s else Halts stops.UserFlags
 
 -- what an instruction comes to: its effect, the processor and memory
 abbrev pub after_effect : Setting → State → Completed → SysEffect → Cpu → Space → Result
@@ -130,20 +130,20 @@ after_effect m b completed (effects.PortIn port wide) cpu s = after_read b compl
 after_effect m b completed (effects.PortOut port wide value) cpu s =
     after_write b completed cpu (out_item port wide value) s (port_written b.board port wide value)
 after_effect m b completed (effects.Raise vector code) cpu s = raised m b cpu vector code s
-after_effect m b completed (effects.Stop stop) cpu s = Stands stop
+after_effect m b completed (effects.Stop stop) cpu s = Halts stop
 
 abbrev pub effect_on : Setting → State → Completed → SysEffect × Cpu × Space → Result
 effect_on m b completed told = after_effect m b completed told.0 told.1 told.2
 
 -- an instruction that is not done raises a vector or stops; at a page fault CR2 is its address
-abbrev pub after_instruction : Setting → State → Completed → Outcome Refusal Done → Result
+abbrev pub after_instruction : Setting → State → Completed → Outcome Refusal SysOutcome → Result
 after_instruction m b completed outcome = effect_on m b completed (told b.cpu outcome)
 
 -- INT enters the handler with the EIP behind it. A gate that this level may not use raises #GP at the instruction.
 abbrev pub after_software : Setting → State → Completed → ℕ → Outcome NotDelivered Cpu → Result
 after_software m b completed vector (Ok done) = entered m [] (Some completed) b done.0 b.board done.1
 after_software m b completed vector (Err (not_delivered.Privilege, s)) = raised m b b.cpu 13 (8 * vector + 2) s
-after_software m b completed vector (Err (not_delivered.Stop stop, s)) = Stands stop
+after_software m b completed vector (Err (not_delivered.Stop stop, s)) = Halts stop
 
 abbrev pub interrupts_by : Setting → State → Completed → ℕ → ℕ → Space → Result
 interrupts_by m b completed len vector s = after_software m b completed vector (delivered (past b.cpu len) vector Soft None s)
@@ -160,14 +160,14 @@ by_op m o b insn len s = after_instruction m b (begun b insn) (instructed insn l
 
 abbrev pub by_decoded : Setting → State → Decoded → Space → Result
 by_decoded m b (begins.Insn insn len) s = by_op m insn.op b insn len s
-by_decoded m b begins.Short s = Stands stops.Unsupported
-by_decoded m b begins.Outside s = Stands stops.Unsupported
+by_decoded m b begins.Short s = Halts stops.Unsupported
+by_decoded m b begins.Outside s = Halts stops.Unsupported
 
 -- a fetch that is denied raises a page fault
 abbrev pub after_refusal : Setting → State → Refusal → Space → Result
 after_refusal m b (refusal.Fault code at) s = raised m b (record b.cpu { cr2 = at }) 14 code s
 after_refusal m b (refusal.Raise vector code) s = raised m b b.cpu vector code s
-after_refusal m b (refusal.Stop stop) s = Stands stop
+after_refusal m b (refusal.Stop stop) s = Halts stop
 
 abbrev pub after_fetch : Setting → State → Outcome Refusal Decoded → Result
 after_fetch m b (Ok read) = by_decoded m b read.0 read.1
@@ -179,7 +179,7 @@ fetches_next m b s = after_fetch m b (fetched (b.cpu.cpl == 3) b.cpu.regs.eip s)
 
 -- code must stand where it may begin
 abbrev pub begins_next : Setting → State → Space → Result
-begins_next m b s = if stands_well m b.cpu then fetches_next m b s else Stands stops.NotAStart
+begins_next m b s = if stands_well m b.cpu then fetches_next m b s else Halts stops.NotAStart
 
 -- a halted processor does nothing, and another does one instruction
 unfoldable pub worked : Setting → State → Space → Result

@@ -6,7 +6,7 @@ use Rattle.ia32_types.specs.declared.insn.Operand.{Operand}
 use Rattle.ia32_types.specs.declared.insn.Operand.TheVariants as operand
 use Rattle.paging.specs.Fresh.{has}
 use Rattle.machine_model.specs.State.{Setting, State}
-use Rattle.machine_model.specs.Step.{Completed, Report, Result, Went, Stands, step_of}
+use Rattle.machine_model.specs.Step.{Completed, Report, Result, Went, Halts, step_of}
 use Rattle.machine_model.specs.Run.{Set}
 
 -- a step: the state before it, the translations that it went by, its report, and the state after it
@@ -19,7 +19,7 @@ pub record Taken : Type 0 where
 -- the rest of a run after a step that went
 abbrev pub behind : State → Set → Result → (State → List Taken) → List Taken
 behind b set (Went report after) rest = record { before = b; set = set; report = report; after = after } ∷ rest after
-behind b set (Stands stop) rest = []
+behind b set (Halts stop) rest = []
 
 -- the steps that these sets give, up to one that stops
 abbrev pub steps_by : Setting → State → List Set → List Taken

@@ -28,7 +28,7 @@ use Rattle.sys_exec.specs.declared.effect.Refusal.{Refusal}
 use Rattle.sys_exec.specs.declared.effect.Refusal.TheVariants as refusals
 use Rattle.sys_exec.specs.declared.effect.SysEffect.{SysEffect}
 use Rattle.sys_exec.specs.declared.effect.SysEffect.TheVariants as effects
-use Rattle.sys_exec.specs.declared.effect.Done.{Done}
+use Rattle.sys_exec.specs.declared.effect.SysOutcome.{SysOutcome}
 use Rattle.sys_exec.specs.declared.effect.Loading.{Loading}
 use Rattle.sys_exec.specs.declared.iret.Popped.{Popped}
 use Rattle.sys_exec.specs.Operand.{protection_0, kernel_alone, selector, selector_in, operand_reached, long_of, pulled, pushed, past, past_pop, reg_at, next}
@@ -119,7 +119,7 @@ entered_keeps cpu after vector kind code s t e = subst (λ (o : Outcome NotDeliv
 
 -- ---- instructions other than MOV to a control register
 
-record Stays (before : Cpu) (d : Done) : Type 0 where
+record Stays (before : Cpu) (d : SysOutcome) : Type 0 where
   roots : KeepsRoots before d.cpu
   some : is_all (dropped_by d.effect) ≡ false
 
@@ -301,7 +301,7 @@ module _ (completed : Completed) (cpu : Cpu) where
   abbrev load : Bool
   load = is_load (Some (completed_of completed))
 
-  abbrev IsLeft : Done → Type 0
+  abbrev IsLeft : SysOutcome → Type 0
   IsLeft d = EffectRoots completed cpu d.effect d.cpu
 
   stays_left : (e : SysEffect) (new : Cpu) → load ≡ false → KeepsRoots cpu new → is_all (dropped_by e) ≡ false → EffectRoots completed cpu e new
@@ -309,11 +309,11 @@ module _ (completed : Completed) (cpu : Cpu) where
   stays_left (effects.Stop stop) new none k some = tt
   stays_left e new none k some = plain_roots cpu (record { seen = seen.Nothing; completed = Some completed; cpu = new; dropped = dropped_by e }) none k some
 
-  ends_left : (o : Outcome Refusal Done) → load ≡ false → Ends (Stays cpu) o → Ends IsLeft o
+  ends_left : (o : Outcome Refusal SysOutcome) → load ≡ false → Ends (Stays cpu) o → Ends IsLeft o
   ends_left (Ok x) none h = stays_left x.0.effect x.0.cpu none h.roots h.some
   ends_left (Err refused) none h = tt
 
-  quiet : (w : Work Refusal Done) → load ≡ false → Yields (Stays cpu) w → Yields IsLeft w
+  quiet : (w : Work Refusal SysOutcome) → load ≡ false → Yields (Stays cpu) w → Yields IsLeft w
   quiet w none h = record { each = λ s. ends_left (w s) none (h.each s) }
 
   -- ---- MOV to a control register
@@ -405,7 +405,7 @@ module _ (completed : Completed) (cpu : Cpu) where
   not_write ops.WriteControl e = absurd (let f : false ≡ true = e in cc)
   not_write o e = refl
 
-  choice : (test : Bool) (x y : Outcome Refusal Done) → (test ≡ true → Ends IsLeft x) → Ends IsLeft y → Ends IsLeft (cond test x y)
+  choice : (test : Bool) (x y : Outcome Refusal SysOutcome) → (test ≡ true → Ends IsLeft x) → Ends IsLeft y → Ends IsLeft (cond test x y)
   choice true x y h k = h refl
   choice false x y h k = k
 
@@ -425,6 +425,6 @@ module _ (completed : Completed) (cpu : Cpu) where
   refusal_roots (refusals.Raise vector code) s t e after g = subst (λ (p : SysEffect × Cpu × Space). EffectRoots completed cpu p.0 p.1) g (same_roots cpu)
   refusal_roots (refusals.Stop stop) s t e after g = subst (λ (p : SysEffect × Cpu × Space). EffectRoots completed cpu p.0 p.1) g tt
 
-  pub told_roots : (o : Outcome Refusal Done) (e : SysEffect) (after : Cpu) (t : Space) → told cpu o ≡ (e, after, t) → Ends IsLeft o → EffectRoots completed cpu e after
+  pub told_roots : (o : Outcome Refusal SysOutcome) (e : SysEffect) (after : Cpu) (t : Space) → told cpu o ≡ (e, after, t) → Ends IsLeft o → EffectRoots completed cpu e after
   told_roots (Ok done) e after t g h = subst (λ (p : SysEffect × Cpu × Space). EffectRoots completed cpu p.0 p.1) g h
   told_roots (Err refused) e after t g h = refusal_roots refused.0 refused.1 t e after g

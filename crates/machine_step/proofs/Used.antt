@@ -12,7 +12,7 @@ use Rattle.sys_exec.specs.declared.effect.Refusal.{Refusal}
 use Rattle.sys_exec.specs.declared.effect.Refusal.TheVariants as refusal
 use Rattle.sys_exec.specs.declared.effect.SysEffect.{SysEffect}
 use Rattle.sys_exec.specs.declared.effect.SysEffect.TheVariants as effects
-use Rattle.sys_exec.specs.declared.effect.Done.{Done}
+use Rattle.sys_exec.specs.declared.effect.SysOutcome.{SysOutcome}
 use Rattle.sys_exec.specs.Sys.{told}
 use Rattle.machine_model.specs.UsedPages.{Uses, AtRefusal, Uses_on, Delivers, DeliveredUses}
 use Rattle.machine_step.specs.Begun.{AtEffect}
@@ -73,6 +73,6 @@ refusal_told user cpu s t u (refusal.Fault code at) e after g h = effect_uses us
 refusal_told user cpu s t u (refusal.Raise vector code) e after g h = effect_uses user s t e (subst (Uses user s) (ap (λ (p : SysEffect × Cpu × Space). p.2) g) h)
 refusal_told user cpu s t u (refusal.Stop stop) e after g h = subst (λ (x : SysEffect). AtEffect user s x t) (ap (λ (p : SysEffect × Cpu × Space). p.0) g) tt
 
-pub told_uses : (user : Bool) (cpu : Cpu) (s t : Space) (o : Outcome Refusal Done) (e : SysEffect) (after : Cpu) → told cpu o ≡ (e, after, t) → Uses_on user s o → AtEffect user s e t
+pub told_uses : (user : Bool) (cpu : Cpu) (s t : Space) (o : Outcome Refusal SysOutcome) (e : SysEffect) (after : Cpu) → told cpu o ≡ (e, after, t) → Uses_on user s o → AtEffect user s e t
 told_uses user cpu s t (Ok done) e after g h = effect_uses user s t e (subst (Uses user s) (ap (λ (p : SysEffect × Cpu × Space). p.2) g) h)
 told_uses user cpu s t (Err refused) e after g h = refusal_told user cpu s t refused.1 refused.0 e after g h

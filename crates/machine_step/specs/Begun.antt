@@ -24,7 +24,7 @@ use Rattle.machine_step.specs.Worked.{went_as, IsDropped}
 abbrev pub BeginsAs : Setting → steps.Result → State → Result Begun Stop → Board → Space → Type 0
 BeginsAs m result b (Ok (begun.Worked worked)) board s = result ≡ went_as b worked board s
 BeginsAs m result b (Ok (begun.Fetched insn len cpu)) board s = result ≡ steps.by_decoded m (record b { cpu = cpu; board = board }) (begins.Insn insn len) s
-BeginsAs m result b (Err stop) board s = result ≡ steps.Stands stop
+BeginsAs m result b (Err stop) board s = result ≡ steps.Halts stop
 
 -- what holds of it, after so many pages
 abbrev pub IsBegun : Begun → ℕ → Type 0
@@ -50,7 +50,7 @@ after_reach m b completed (Err refused) go = steps.effect_on m b completed (told
 abbrev pub ReachesTo : steps.Result → State → (Space → steps.Result) → Result Reached Stop → Board → Space → Type 0
 ReachesTo result b go (Ok reached.Ready) board s = result ≡ go s
 ReachesTo result b go (Ok (reached.Worked worked)) board s = result ≡ went_as b worked board s
-ReachesTo result b go (Err stop) board s = result ≡ steps.Stands stop
+ReachesTo result b go (Err stop) board s = result ≡ steps.Halts stop
 
 abbrev pub IsReached : Reached → Type 0 → Type 0
 IsReached reached.Ready made = made

@@ -9,7 +9,8 @@ ghost use Rattle.step_mem.specs.Sound.{IsSound, space_at};
 ghost use Rattle.ia32_decode.specs.Front.{front_len};
 ghost use Rattle.machine_model.specs.Instruction.{fetching, fetched_on, fetched};
 ghost use Rattle.machine_model.specs.UsedPages.{Uses, AtRefusal};
-ghost use Rattle.machine_step.specs.Fetches.{GivesAs, IsSpelled};
+ghost use Rattle.machine_step.specs.Fetches.{GivesAs};
+ghost use Rattle.ia32_decode.specs.Spelled.{IsSpelled};
 
 use arrayvec::ArrayVec;
 use guest_ram::Ram;

@@ -13,8 +13,8 @@ use Rattle.image_laws.specs.Patches.{window_at}
 use Rattle.host_cpl3.specs.declared.view.View.{View}
 use Rattle.host_cpl3.specs.declared.exit.Exit.{Exit}
 use Rattle.host_cpl3.specs.declared.exit.Exit.TheVariants as exits
-use Rattle.host_cpl3.specs.declared.exit.Done.{Done}
-use Rattle.host_cpl3.specs.declared.exit.Done.TheVariants.{Completed, Entered}
+use Rattle.host_cpl3.specs.declared.exit.Completion.{Completion}
+use Rattle.host_cpl3.specs.declared.exit.Completion.TheVariants.{Completed, Entered}
 use Rattle.host_cpl3.specs.Met.{Met}
 use Rattle.host_cpl3.specs.Views.{is_window, is_entry}
 use Rattle.host_cpl3.specs.HostStep.{host_step}
@@ -27,7 +27,7 @@ use Rattle.machine_model.specs.Taken.{Taken, behind as steps_behind, is_load, st
 use Rattle.machine_model.specs.Notes.{AreLeft}
 use Rattle.machine_model.specs.Counts.{is_direct, direct_in, direct_addresses, passed_on}
 use Rattle.native_steps.specs.Lends.{Lends, IsUnlent, AreKept}
-use Rattle.native_steps.specs.Stands.{IsWedge, Stands}
+use Rattle.native_steps.specs.Mirrors.{IsWedge, Mirrors}
 use Rattle.native_steps.specs.Forward.{wp_of, IsEntrance, IsNext, Follows, Forward, NotEntered, AtSites}
 use Rattle.native_steps.specs.Stretch.{SameBehind, StaysUnlent, Beside, board_now, AreQuiet, EndsAs, IsQuiet, Advanced}
 use Rattle.native_steps.proofs.Choices.{chosen, both, clash}
@@ -45,8 +45,8 @@ pub record Laws : Type 0 where
   pub exits : ExitsInTheWindow
   pub quiet : StepsAreQuiet
 
-same_done : (a c : Done) (x y : List ℕ) → ◌≡◌ {A = Met (Done × List ℕ)} (Ok (a, x)) (Ok (c, y)) → a ≡ c
-same_done a c x y g = let q : ◌≡◌ {A = Done × List ℕ} (a, x) (c, y) = cc in ap (λ (o : Done × List ℕ). o.0) q
+same_done : (a c : Completion) (x y : List ℕ) → ◌≡◌ {A = Met (Completion × List ℕ)} (Ok (a, x)) (Ok (c, y)) → a ≡ c
+same_done a c x y g = let q : ◌≡◌ {A = Completion × List ℕ} (a, x) (c, y) = cc in ap (λ (o : Completion × List ℕ). o.0) q
 
 entered_same : (x y : Regs) → Entered x ≡ Entered y → x ≡ y
 entered_same x y e = cc
@@ -78,7 +78,7 @@ module _ (laws : Laws) (m : Setting) (v : View) (w : IsWedge m) where
     now : State
     now = record b { board = board_now m b }
 
-    stands_now : Stands m s.ram v now
+    stands_now : Mirrors m s.ram v now
     unfolding now
     stands_now = record { host = h.stands.host; ram = h.stands.ram; sees = h.stands.sees }
 
@@ -86,11 +86,11 @@ module _ (laws : Laws) (m : Setting) (v : View) (w : IsWedge m) where
     unfolding now
     lends_now = h.lends s.ram (behind_same m s.ram)
 
-    host_there : (x : Met (Done × List ℕ)) → host_step v s.ram s.regs ≡ x → host_step v s.ram now.cpu.regs ≡ x
+    host_there : (x : Met (Completion × List ℕ)) → host_step v s.ram s.regs ≡ x → host_step v s.ram now.cpu.regs ≡ x
     unfolding now
     host_there x e = ap (host_step v s.ram) h.regs ∙ e
 
-    next_from : (x : Done × List ℕ) → host_step v s.ram s.regs ≡ Ok x → (v.kernel ≡ true → site_at m.image.sites (b.cpu.regs.eip - 0x10000000) ≡ None) → IsNext m v.kernel now
+    next_from : (x : Completion × List ℕ) → host_step v s.ram s.regs ≡ Ok x → (v.kernel ≡ true → site_at m.image.sites (b.cpu.regs.eip - 0x10000000) ≡ None) → IsNext m v.kernel now
     unfolding now
     next_from x e outside = record {
       awake = h.awake;
@@ -101,7 +101,7 @@ module _ (laws : Laws) (m : Setting) (v : View) (w : IsWedge m) where
     }
 
     -- what is done at a site is the jump into the window
-    at_site : v.kernel ≡ true → (site : Site) → site_at m.image.sites (b.cpu.regs.eip - 0x10000000) ≡ Some site → (done : Done) (ram : List ℕ) → host_step v s.ram s.regs ≡ Ok (done, ram)
+    at_site : v.kernel ≡ true → (site : Site) → site_at m.image.sites (b.cpu.regs.eip - 0x10000000) ≡ Some site → (done : Completion) (ram : List ℕ) → host_step v s.ram s.regs ≡ Ok (done, ram)
         → (done ≡ Entered (record b.cpu.regs { eip = window_at site.at })) × (ram ≡ s.ram)
     unfolding now
     at_site t site there done ram e =
@@ -323,7 +323,7 @@ module _ (laws : Laws) (m : Setting) (v : View) (w : IsWedge m) where
               ap (λ (r : Regs). record s { regs = r; ram = ram }) (regs_are ∙ ap (λ (n : ℕ). record s.regs { eip = n }) (sym eip_is)) ∙ ap (λ (x : List ℕ). record s { regs = record s.regs { eip = regs.eip }; ram = x }) x.1,
             )
 
-    by_step : (met : Met (Done × List ℕ)) → host_step v s.ram s.regs ≡ met
+    by_step : (met : Met (Completion × List ℕ)) → host_step v s.ram s.regs ≡ met
         → ((c : State) (t : Standing) → Beside m v c t → AreQuiet m c k → Advanced m v c k t (host_run v k t).0 (host_run v k t).1)
         → Advanced m v b (suc k) s (after_step s met (host_run v k)).0 (after_step s met (host_run v k)).1
     by_step (Ok (Completed regs, ram)) e rest =

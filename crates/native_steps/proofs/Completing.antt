@@ -25,8 +25,8 @@ use Rattle.board.specs.Boards.{board_step}
 use Rattle.native_steps.specs.EffectLaws.{EffectLaws}
 use Rattle.step_exec.specs.Plain.{stored_all}
 use Rattle.host_cpl3.specs.declared.view.View.{View}
-use Rattle.host_cpl3.specs.declared.exit.Done.{Done}
-use Rattle.host_cpl3.specs.declared.exit.Done.TheVariants.{Completed, Entered}
+use Rattle.host_cpl3.specs.declared.exit.Completion.{Completion}
+use Rattle.host_cpl3.specs.declared.exit.Completion.TheVariants.{Completed, Entered}
 use Rattle.host_cpl3.specs.Permit.{permitted_row, permitted}
 use Rattle.host_cpl3.specs.Views.{selectors_of, is_window, is_entry}
 use Rattle.host_cpl3.specs.Pages.{place}
@@ -44,7 +44,7 @@ use Rattle.machine_model.specs.Rules as rules
 use Rattle.machine_model.specs.Step as step
 use Rattle.machine_model.specs.Taken.{is_load, is_control_3, is_write}
 use Rattle.native_steps.specs.Lends.{IsUnlent}
-use Rattle.native_steps.specs.Stands.{IsWedge, IsLevel, Sees, Stands, shown}
+use Rattle.native_steps.specs.Mirrors.{IsWedge, IsLevel, Sees, Mirrors, shown}
 use Rattle.native_steps.specs.Native.{byte_of, effect_of, done_by, IsNative}
 use Rattle.native_steps.specs.Forward.{IsEntrance, IsNext, Follows}
 use Rattle.native_steps.specs.Backward.{Completes}
@@ -110,7 +110,7 @@ no_window at le = either (nat_le 67108864 at) (lt_false at 100663296 (omega (ari
     either true e = e
     either false e = refl
 
-module _ (flags : EffectLaws) (m : Setting) (w : IsWedge m) (laws : TextLaws m.image) (memory : List ℕ) (v : View) (b : State) (stands : Stands m memory v b) (next : IsNext m v.kernel b)
+module _ (flags : EffectLaws) (m : Setting) (w : IsWedge m) (laws : TextLaws m.image) (memory : List ℕ) (v : View) (b : State) (stands : Mirrors m memory v b) (next : IsNext m v.kernel b)
     (insn : Insn) (len : ℕ) (c : IsCommon flags m w memory v b stands next insn len) (text : v.kernel ≡ true → IsSwept m.image b.cpu.regs.eip insn len)
   where
     done_flags : (o : exec.Outcome) (regs : Regs) (stores : Stores) → o ≡ outcomes.Done regs stores → Leaves b.cpu.regs o → AreKept b.cpu.regs.flags regs.flags
@@ -144,7 +144,7 @@ module _ (flags : EffectLaws) (m : Setting) (w : IsWedge m) (laws : TextLaws m.i
 
       host : host_step v memory b.cpu.regs ≡ Ok (Completed regs, after_memory)
       unfolding after_memory
-      host = n.host ∙ ap (finished v insn.op memory) e ∙ ap (λ (d : Done). Ok (d, all_stored (place memory v.root) memory (list_of stores))) completes
+      host = n.host ∙ ap (finished v insn.op memory) e ∙ ap (λ (d : Completion). Ok (d, all_stored (place memory v.root) memory (list_of stores))) completes
 
       -- ---- the stores
 
@@ -234,7 +234,7 @@ module _ (flags : EffectLaws) (m : Setting) (w : IsWedge m) (laws : TextLaws m.i
       went =
           n.guest
           ∙ ap (λ (o : exec.Outcome). step.after_instruction m (step.unheld b) (step.begun b insn) (done_by (step.unheld b).cpu n.space o)) e
-          ∙ chosen (rules.may_leave m.mode (step.unheld b).cpu (record b.cpu { regs = regs; held = false })) (step.Went report after) (step.Stands stops.UserFlags) (may_leave m.mode)
+          ∙ chosen (rules.may_leave m.mode (step.unheld b).cpu (record b.cpu { regs = regs; held = false })) (step.Went report after) (step.Halts stops.UserFlags) (may_leave m.mode)
 
       still_open : rules.is_open b.cpu ≡ true → rules.is_open new_cpu ≡ true
       unfolding new_cpu

@@ -17,8 +17,8 @@ use Rattle.native_steps.specs.EffectLaws.{EffectLaws}
 use Rattle.step_exec.specs.Plain.{is_denied}
 use Rattle.native_steps.proofs.Short.{ranges_short}
 use Rattle.host_cpl3.specs.declared.view.View.{View}
-use Rattle.host_cpl3.specs.declared.exit.Done.{Done}
-use Rattle.host_cpl3.specs.declared.exit.Done.TheVariants.{Completed, Entered}
+use Rattle.host_cpl3.specs.declared.exit.Completion.{Completion}
+use Rattle.host_cpl3.specs.declared.exit.Completion.TheVariants.{Completed, Entered}
 use Rattle.host_cpl3.specs.Permit.{permitted}
 use Rattle.host_cpl3.specs.Views.{is_window}
 use Rattle.host_cpl3.specs.HostStep.{finished, host_step}
@@ -29,7 +29,7 @@ use Rattle.image_check.specs.Places.{linear}
 use Rattle.machine_model.specs.State.{Setting, State, space_at_start}
 use Rattle.machine_model.specs.Instruction.{is_plain, fetched}
 use Rattle.native_steps.specs.Lends.{Lends}
-use Rattle.native_steps.specs.Stands.{IsWedge, Stands}
+use Rattle.native_steps.specs.Mirrors.{IsWedge, Mirrors}
 use Rattle.native_steps.specs.Native.{effect_of}
 use Rattle.native_steps.specs.Forward.{wp_of, IsNext, Follows}
 use Rattle.native_steps.specs.Backward.{IsTranslated, AreReached, Completes}
@@ -55,7 +55,7 @@ pub record IsPlaced (m : Setting) (eip at len : ℕ) : Type 0 where
   pub few : len ≤ 11
   pub fits : at + len ≤ length m.image.text
 
-module _ (m : Setting) (w : IsWedge m) (memory : List ℕ) (v : View) (b : State) (stands : Stands m memory v b) (lends : Lends m memory v.root v.kernel (wp_of b) b.set) where
+module _ (m : Setting) (w : IsWedge m) (memory : List ℕ) (v : View) (b : State) (stands : Mirrors m memory v b) (lends : Lends m memory v.root v.kernel (wp_of b) b.set) where
   abbrev pub Shares : ℕ → ℕ → Type 0
   Shares = FetchShares m w memory v b stands lends
 
@@ -311,8 +311,8 @@ module _ (m : Setting) (w : IsWedge m) (memory : List ℕ) (v : View) (b : State
       pub full_completes : (regs : Regs) (stores : Stores) → effect_of v b insn len ≡ outcomes.Done regs stores → Completes m memory v b regs
       full_completes regs stores e = both_complete flags m w laws memory v b stands next insn len full.common full.text regs stores e
 
-      same_pair : (d e : Done) (x y : List ℕ) → ◌≡◌ {A = Rattle.host_cpl3.specs.Met.Met (Done × List ℕ)} (Ok (d, x)) (Ok (e, y)) → (d ≡ e) × (x ≡ y)
-      same_pair d e x y g = let p : ◌≡◌ {A = Done × List ℕ} (d, x) (e, y) = cc in (ap (λ (q : Done × List ℕ). q.0) p, ap (λ (q : Done × List ℕ). q.1) p)
+      same_pair : (d e : Completion) (x y : List ℕ) → ◌≡◌ {A = Rattle.host_cpl3.specs.Met.Met (Completion × List ℕ)} (Ok (d, x)) (Ok (e, y)) → (d ≡ e) × (x ≡ y)
+      same_pair d e x y g = let p : ◌≡◌ {A = Completion × List ℕ} (d, x) (e, y) = cc in (ap (λ (q : Completion × List ℕ). q.0) p, ap (λ (q : Completion × List ℕ). q.1) p)
 
       by_outcome : (o : exec.Outcome) → effect_of v b insn len ≡ o → (regs : Regs) (after_memory : List ℕ) → finished v insn.op memory o ≡ Ok (Completed regs, after_memory) → Follows m v b memory regs after_memory
       by_outcome (outcomes.Done found stores) e regs after_memory g =
@@ -335,7 +335,7 @@ module _ (m : Setting) (w : IsWedge m) (memory : List ℕ) (v : View) (b : State
       never (outcomes.Raise vector code) e regs after_memory g = cc
       never (outcomes.Stop stop) e regs after_memory g = cc
 
-    seen : (x : Done × List ℕ) (d : Did memory v b.cpu.regs x) → (full : IsFull d.insn d.len) → finished v d.insn.op memory (effect_of v b d.insn d.len) ≡ Ok x
+    seen : (x : Completion × List ℕ) (d : Did memory v b.cpu.regs x) → (full : IsFull d.insn d.len) → finished v d.insn.op memory (effect_of v b d.insn d.len) ≡ Ok x
     seen x d full = ap (finished v d.insn.op memory) (sym (effects_same flags m w memory v b stands next d.insn d.len full.common)) ∙ d.is
 
     pub forward_law : (regs : Regs) (after_memory : List ℕ) → host_step v memory b.cpu.regs ≡ Ok (Completed regs, after_memory) → Follows m v b memory regs after_memory

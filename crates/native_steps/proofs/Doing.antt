@@ -42,7 +42,7 @@ use Rattle.paging.specs.Space.{Space, place, place_by, byte_at, loaded, as_earli
 use Rattle.paging.specs.Work.{Outcome, Work, on_value, ◌>>=◌, gives, unless, reads, reads_earlier, writes}
 use Rattle.sys_exec.specs.declared.effect.Refusal.{Refusal}
 use Rattle.sys_exec.specs.declared.effect.Refusal.TheVariants as refusal
-use Rattle.sys_exec.specs.declared.effect.Done.{Done}
+use Rattle.sys_exec.specs.declared.effect.SysOutcome.{SysOutcome}
 use Rattle.sys_exec.specs.declared.effect.SysEffect.TheVariants as effects
 use Rattle.sys_exec.specs.Access.{reaching}
 use Rattle.sys_exec.specs.Operand.{protection_0, by_level, selector_in, reg_at, operand_reached, long_of, pulled, pushed, with_regs, past, past_with, past_push, past_pop, gone_to, next}
@@ -165,10 +165,10 @@ pub record IsUser (cpu : Cpu) : Type 0 where
   pub above : (cpu.cpl == 0) ≡ false
 
 module _ (m : Setting) (b : State) (c : Completed) where
-  abbrev Comes : Outcome Refusal Done → Outcome Refusal Done → Type 0
+  abbrev Comes : Outcome Refusal SysOutcome → Outcome Refusal SysOutcome → Type 0
   Comes x y = after_instruction m b c x ≡ after_instruction m b c y
 
-  same : (x y : Outcome Refusal Done) → x ≡ y → Comes x y
+  same : (x y : Outcome Refusal SysOutcome) → x ≡ y → Comes x y
   same x y e = ap (after_instruction m b c) e
 
   -- a processor, selectors, and memory before, between and after the ranges
@@ -192,7 +192,7 @@ module _ (m : Setting) (b : State) (c : Completed) where
         let e = subst (λ (x : Space). reaching (esp_below 4 cpu.regs) 4 (by_level cpu true) x ≡ Ok (tt, u)) (sym (nothing_reached s t h.read)) h.write in
         same _ _ (ap (λ (o : Outcome Refusal (Unit {0})). on_value o (λ (x : Unit {0}). next (past_push cpu len))) (pushed_is cpu cpu.regs.flags.bits s u e))
 
-    abbrev taking : ℕ → ℕ → Work Refusal Done
+    abbrev taking : ℕ → ℕ → Work Refusal SysOutcome
     taking len v = unless (refusal.Stop stops.FlagBits) (keeps_flags v) >>= (λ (x : Unit {0}). next (with_flags (past_pop cpu len) (new_flags cpu v)))
 
     abbrev popped_to : ℕ → Flags → exec.Outcome

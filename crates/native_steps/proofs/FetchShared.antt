@@ -16,7 +16,7 @@ use Rattle.host_cpl3.specs.declared.view.View.{View}
 use Rattle.machine_model.specs.State.{Setting, State, wedge_mode}
 use Rattle.machine_model.specs.Instruction.{next_page, fetched}
 use Rattle.native_steps.specs.Lends.{IsOpen, IsLent, Lends}
-use Rattle.native_steps.specs.Stands.{IsWedge, Stands}
+use Rattle.native_steps.specs.Mirrors.{IsWedge, Mirrors}
 use Rattle.native_steps.specs.Forward.{wp_of}
 use Rattle.native_steps.specs.Backward.{IsReached}
 use Rattle.native_steps.proofs.Choices.{both, eq_told, eq_true, clash}
@@ -60,7 +60,7 @@ pub free_code : (m : Setting) (b : State) (kernel : Bool) (page frame : ℕ) →
 free_code m b false page frame code o = o
 free_code m b true page frame code o = ap not (given_there m page frame (code refl) o)
 
-module _ (m : Setting) (w : IsWedge m) (memory : List ℕ) (v : View) (b : State) (stands : Stands m memory v b) (lends : Lends m memory v.root v.kernel (wp_of b) b.set) where
+module _ (m : Setting) (w : IsWedge m) (memory : List ℕ) (v : View) (b : State) (stands : Mirrors m memory v b) (lends : Lends m memory v.root v.kernel (wp_of b) b.set) where
   -- both fetch from the page, at this frame
   pub record FetchShares (page frame : ℕ) : Type 0 where
     pub leads : Leads memory v.root false page frame

@@ -26,7 +26,7 @@ use Rattle.image_check.specs.Image.{Image}
 use Rattle.machine_model.specs.State.{Setting, State, wedge_mode}
 use Rattle.machine_model.specs.Instruction.{next_page}
 use Rattle.native_steps.specs.Lends.{IsOpen}
-use Rattle.native_steps.specs.Stands.{Sees}
+use Rattle.native_steps.specs.Mirrors.{Sees}
 use Rattle.native_steps.specs.Native.{byte_of, effect_of}
 use Rattle.native_steps.specs.Forward.{wp_of, IsNext}
 use Rattle.native_steps.specs.Backward.{IsTranslated}

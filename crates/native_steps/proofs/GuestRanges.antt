@@ -13,7 +13,7 @@ use Rattle.host_cpl3.specs.Access.{last_page}
 use Rattle.image_load.specs.Boot.{text_pages}
 use Rattle.machine_model.specs.State.{Setting, State}
 use Rattle.native_steps.specs.Lends.{Lends}
-use Rattle.native_steps.specs.Stands.{IsWedge, Stands}
+use Rattle.native_steps.specs.Mirrors.{IsWedge, Mirrors}
 use Rattle.native_steps.specs.Forward.{wp_of}
 use Rattle.native_steps.specs.Backward.{IsReached, IsRangeReached}
 use Rattle.native_steps.proofs.Pages.{At, Comes, HasEntry, lent_entry, range_passes, reaching_comes}
@@ -21,7 +21,7 @@ use Rattle.native_steps.proofs.Uses.{reaching_uses, ready_parts, window_above}
 use Rattle.native_steps.proofs.HostParts.{leads_from}
 use Rattle.native_steps.proofs.Sharing.{IsShared, AreShared, range_shared, free_data}
 
-module _ (m : Setting) (w : IsWedge m) (memory : List ℕ) (v : View) (b : State) (stands : Stands m memory v b) (cpu : Cpu) (user : (cpu.cpl == 3) ≡ not v.kernel) where
+module _ (m : Setting) (w : IsWedge m) (memory : List ℕ) (v : View) (b : State) (stands : Mirrors m memory v b) (cpu : Cpu) (user : (cpu.cpl == 3) ≡ not v.kernel) where
   same_last : (r : Range) → 1 ≤ r.len → last_page r ≡ (r.at + r.len - 1) / 4096
   same_last r some = omega (arith, some)
 

@@ -17,7 +17,7 @@ use Rattle.paging.specs.Reached.{reached_by, reached}
 use Rattle.host_cpl3.specs.declared.view.View.{View}
 use Rattle.host_cpl3.specs.declared.exit.Exit.{Exit}
 use Rattle.host_cpl3.specs.declared.exit.Exit.TheVariants as exits
-use Rattle.host_cpl3.specs.declared.exit.Done.{Done}
+use Rattle.host_cpl3.specs.declared.exit.Completion.{Completion}
 use Rattle.host_cpl3.specs.Met.{Met, ◌>>=◌, gives, unless}
 use Rattle.host_cpl3.specs.Views.{selectors_of, is_null, is_entry, is_past_limit, limit_fault, protection}
 use Rattle.host_cpl3.specs.Pages.{walked, is_there, or_fault, page_met, byte_at}
@@ -250,7 +250,7 @@ pub record IsMet (memory : List ℕ) (v : View) (r : Regs) (insn : Insn) (len : 
   pub write : AreRanges memory v true (ranges_of insn r).write
 
 module _ (memory : List ℕ) (v : View) (r : Regs) where
-  abbrev pub effect_there : Insn → ℕ → Met (Done × List ℕ)
+  abbrev pub effect_there : Insn → ℕ → Met (Completion × List ℕ)
   effect_there insn len = finished v insn.op memory (user_effect (selectors_of v) insn len r (byte_at memory v.root))
 
   spelled_parts : (d : Decoded) (x : Insn × ℕ) → spelled d ≡ Ok x → d ≡ begins.Insn x.0 x.1
@@ -277,13 +277,13 @@ module _ (memory : List ℕ) (v : View) (r : Regs) where
       (after (fetched memory v.root r.eip) _ (begins.Insn insn len) (effect_there insn len) (fetch_is memory v.root r.eip insn len h.way) (worked_is insn len h))
 
   -- what the host did
-  pub record Did (x : Done × List ℕ) : Type 0 where
+  pub record Did (x : Completion × List ℕ) : Type 0 where
     pub insn : Insn
     pub len : ℕ
     pub met : IsMet memory v r insn len
     pub is : effect_there insn len ≡ Ok x
 
-  worked_parts : (insn : Insn) (len : ℕ) (x : Done × List ℕ) → is_entry v r.eip ≡ false → Way (Leads memory v.root false) memory r.eip insn len → worked v memory r insn len ≡ Ok x → Did x
+  worked_parts : (insn : Insn) (len : ℕ) (x : Completion × List ℕ) → is_entry v r.eip ≡ false → Way (Leads memory v.root false) memory r.eip insn len → worked v memory r insn len ≡ Ok x → Did x
   unfolding worked
   worked_parts insn len x outside way e =
       let p = bound (permitted insn) _ x e in
@@ -306,7 +306,7 @@ module _ (memory : List ℕ) (v : View) (r : Regs) where
         is = u.1.1;
       }
 
-  pub host_parts : (x : Done × List ℕ) → host_step v memory r ≡ Ok x → Did x
+  pub host_parts : (x : Completion × List ℕ) → host_step v memory r ≡ Ok x → Did x
   unfolding host_step
   host_parts x e =
       let p = bound (unless (exits.Entry r.eip) (not (is_entry v r.eip))) _ x e in

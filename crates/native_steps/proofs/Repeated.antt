@@ -38,8 +38,8 @@ use Rattle.host_cpl3.specs.Store.{all_stored}
 use Rattle.machine_model.specs.State.{Setting, State, wedge_mode, space_at_start}
 use Rattle.ia32_decode.specs.Front.{front_len}
 use Rattle.machine_model.specs.Instruction.{next_page, fetched}
-use Rattle.machine_model.specs.Step.{Result, Report, Went, Stands, after_instruction, begun, after_fetch, unheld, stepped}
-use Rattle.native_steps.specs.Stands.{Sees}
+use Rattle.machine_model.specs.Step.{Result, Report, Went, Halts, after_instruction, begun, after_fetch, unheld, stepped}
+use Rattle.native_steps.specs.Mirrors.{Sees}
 use Rattle.native_steps.specs.Native.{byte_of, effect_of, done_by}
 use Rattle.native_steps.specs.Forward.{wp_of, IsNext}
 use Rattle.native_steps.specs.Backward.{IsTranslated}
@@ -62,12 +62,12 @@ use Rattle.native_steps.proofs.Together.{level_user, stepped_by, by_op_is, selec
 -- a result with other notes of walks and writes
 abbrev renoted : List ℕ → List ℕ → Result → Result
 renoted tables wrote (Went report b) = Went (record report { tables = tables; wrote = wrote }) b
-renoted tables wrote (Stands stop) = Stands stop
+renoted tables wrote (Halts stop) = Halts stop
 
 -- what a result reports, or this
 abbrev report_in : Report → Result → Report
 report_in other (Went report b) = report
-report_in other (Stands stop) = other
+report_in other (Halts stop) = other
 
 module _ (flags : EffectLaws) (m : Setting) (v : View) (b : State) (mode : m.mode ≡ wedge_mode m.image) (room : 4096 * m.frames ≤ length b.ram) (fit : AreBytes b.ram) (sound : AreWithin m b.set) (sees : Sees v b.cpu) (next : IsNext m v.kernel b) (small : b.cpu.regs.eip < 2 ^ 32) where
   abbrev k : Bool
@@ -426,10 +426,10 @@ module _ (flags : EffectLaws) (m : Setting) (v : View) (b : State) (mode : m.mod
       where
         by_test : (c : Bool) → cond {A = Result} c
             (Went (record { items = []; completed = Some (begun b insn); pages = visited; tables = tables; wrote = wrote })
-            (record { cpu = record (unheld b).cpu { regs = regs }; ram = all_stored (λ x. place_by (get set (x / 4096)) x) ram (list_of stores); set = set; board = Rattle.board.specs.Boards.board_step b.board; step = b.step + 1 })) (Stands stops.UserFlags) ≡ Went report after_state
+            (record { cpu = record (unheld b).cpu { regs = regs }; ram = all_stored (λ x. place_by (get set (x / 4096)) x) ram (list_of stores); set = set; board = Rattle.board.specs.Boards.board_step b.board; step = b.step + 1 })) (Halts stops.UserFlags) ≡ Went report after_state
             → cond {A = Result} c
             (Went (record { items = []; completed = Some (begun b insn); pages = visited; tables = others; wrote = news })
-            (record { cpu = record (unheld b).cpu { regs = regs }; ram = all_stored (λ x. place_by (get set (x / 4096)) x) ram (list_of stores); set = set; board = Rattle.board.specs.Boards.board_step b.board; step = b.step + 1 })) (Stands stops.UserFlags)
+            (record { cpu = record (unheld b).cpu { regs = regs }; ram = all_stored (λ x. place_by (get set (x / 4096)) x) ram (list_of stores); set = set; board = Rattle.board.specs.Boards.board_step b.board; step = b.step + 1 })) (Halts stops.UserFlags)
             ≡ Went (record report { tables = others; wrote = news }) after_state
         by_test true g = ap (λ (o : Result). renoted others news o) g
         by_test false g = absurd cc
@@ -441,7 +441,7 @@ module _ (flags : EffectLaws) (m : Setting) (v : View) (b : State) (mode : m.mod
       where
         by_test : (c : Bool) → cond {A = Result} c
             (Went (record { items = []; completed = Some (begun b insn); pages = visited; tables = tables; wrote = wrote })
-            (record { cpu = record (unheld b).cpu { regs = regs }; ram = all_stored (λ x. place_by (get set (x / 4096)) x) ram (list_of stores); set = set; board = Rattle.board.specs.Boards.board_step b.board; step = b.step + 1 })) (Stands stops.UserFlags) ≡ Went report after_state
+            (record { cpu = record (unheld b).cpu { regs = regs }; ram = all_stored (λ x. place_by (get set (x / 4096)) x) ram (list_of stores); set = set; board = Rattle.board.specs.Boards.board_step b.board; step = b.step + 1 })) (Halts stops.UserFlags) ≡ Went report after_state
             → (report.pages ≡ visited) × (report.tables ≡ tables) × (report.wrote ≡ wrote)
         by_test true g = let f = sym (ap (λ (o : Result). report_in report o) g) in (ap (λ (r : Report). r.pages) f, ap (λ (r : Report). r.tables) f, ap (λ (r : Report). r.wrote) f)
         by_test false g = absurd cc

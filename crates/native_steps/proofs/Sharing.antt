@@ -19,7 +19,7 @@ use Rattle.host_cpl3.specs.Pages.{walked, place_in, place, byte_at}
 use Rattle.host_cpl3.specs.Access.{last_page}
 use Rattle.machine_model.specs.State.{Setting, State, wedge_mode}
 use Rattle.native_steps.specs.Lends.{IsOpen, IsLent, IsUnlent, Lends}
-use Rattle.native_steps.specs.Stands.{IsWedge, Stands}
+use Rattle.native_steps.specs.Mirrors.{IsWedge, Mirrors}
 use Rattle.native_steps.specs.Native.{byte_of}
 use Rattle.native_steps.specs.Forward.{wp_of}
 use Rattle.native_steps.proofs.Choices.{both, lt_told, not_lt, is_false}
@@ -71,7 +71,7 @@ pub given_there : (m : Setting) (page frame : ℕ) → page < 0x11000 → IsOpen
 given_there m page frame lt (inl given) = given
 given_there m page frame lt (inr other) = absurd (let le = other.0 in omega (arith, lt, le))
 
-module _ (m : Setting) (w : IsWedge m) (memory : List ℕ) (v : View) (b : State) (stands : Stands m memory v b) where
+module _ (m : Setting) (w : IsWedge m) (memory : List ℕ) (v : View) (b : State) (stands : Mirrors m memory v b) where
   -- both reach the page, at this frame, and it has no text
   pub record Shares (write : Bool) (page frame : ℕ) : Type 0 where
     pub leads : Leads memory v.root write page frame

@@ -9,7 +9,7 @@ use Rattle.paging.specs.Uses.{is_text}
 use Rattle.sites.specs.Patched.{patched}
 use Rattle.image_load.specs.Boot.{text_pages}
 use Rattle.machine_model.specs.State.{Setting, wedge_mode}
-use Rattle.native_steps.specs.Stands.{IsWedge, IsHost, shown}
+use Rattle.native_steps.specs.Mirrors.{IsWedge, IsHost, shown}
 use Rattle.native_steps.proofs.Choices.{le_true, lt_true, clash}
 use Rattle.native_steps.proofs.Framed.{laid_same}
 

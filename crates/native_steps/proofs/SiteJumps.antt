@@ -13,8 +13,8 @@ use Rattle.ia32_exec.specs.Control.{jump, jumped}
 use Rattle.ia32_exec.specs.Effect.{effect}
 use Rattle.ia32_exec.specs.UserEffect.{user_effect}
 use Rattle.host_cpl3.specs.declared.view.View.{View}
-use Rattle.host_cpl3.specs.declared.exit.Done.{Done}
-use Rattle.host_cpl3.specs.declared.exit.Done.TheVariants.{Completed, Entered}
+use Rattle.host_cpl3.specs.declared.exit.Completion.{Completion}
+use Rattle.host_cpl3.specs.declared.exit.Completion.TheVariants.{Completed, Entered}
 use Rattle.host_cpl3.specs.Met.{Met}
 use Rattle.host_cpl3.specs.Views.{is_window}
 use Rattle.host_cpl3.specs.HostStep.{ended, host_step}
@@ -23,7 +23,7 @@ use Rattle.image_check.specs.Places.{linear}
 use Rattle.image_laws.specs.Patches.{jump_out, window_at}
 use Rattle.machine_model.specs.State.{Setting, State}
 use Rattle.native_steps.specs.Lends.{Lends}
-use Rattle.native_steps.specs.Stands.{IsWedge, Stands}
+use Rattle.native_steps.specs.Mirrors.{IsWedge, Mirrors}
 use Rattle.native_steps.specs.Forward.{wp_of}
 use Rattle.native_steps.proofs.Choices.{chosen, le_true, lt_true}
 use Rattle.native_steps.proofs.Ways.{front_at, Way}
@@ -46,7 +46,7 @@ pub record IsSite (m : Setting) (at : ℕ) : Type 0 where
 in_window : (at : ℕ) → 0x04000000 ≤ at → at ≤ 0x05FFFFFF → is_window at ≡ true
 in_window at low high = ap (λ b. b && nat_lt at 100663296) (le_true 67108864 at low) ∙ lt_true at 100663296 (omega (arith, high))
 
-module _ (m : Setting) (w : IsWedge m) (memory : List ℕ) (v : View) (b : State) (stands : Stands m memory v b) (lends : Lends m memory v.root v.kernel (wp_of b) b.set)
+module _ (m : Setting) (w : IsWedge m) (memory : List ℕ) (v : View) (b : State) (stands : Mirrors m memory v b) (lends : Lends m memory v.root v.kernel (wp_of b) b.set)
     (kernel : v.kernel ≡ true) (at : ℕ) (place : b.cpu.regs.eip ≡ 0x10000000 + at) (site : IsSite m at)
   where
     p : IsPlaced m b.cpu.regs.eip at 5
@@ -65,12 +65,12 @@ module _ (m : Setting) (w : IsWedge m) (memory : List ℕ) (v : View) (b : State
 
     effect_is : effect_there memory v b.cpu.regs jump_out 5 ≡ Ok (Entered there, memory)
     unfolding user_effect effect jump
-    effect_is = ap (λ (d : Done). Ok (d, memory)) entered
+    effect_is = ap (λ (d : Completion). Ok (d, memory)) entered
 
-    same_pair : (d e : Done) (x y : List ℕ) → ◌≡◌ {A = Met (Done × List ℕ)} (Ok (d, x)) (Ok (e, y)) → (d ≡ e) × (x ≡ y)
-    same_pair d e x y g = let q : ◌≡◌ {A = Done × List ℕ} (d, x) (e, y) = cc in (ap (λ (o : Done × List ℕ). o.0) q, ap (λ (o : Done × List ℕ). o.1) q)
+    same_pair : (d e : Completion) (x y : List ℕ) → ◌≡◌ {A = Met (Completion × List ℕ)} (Ok (d, x)) (Ok (e, y)) → (d ≡ e) × (x ≡ y)
+    same_pair d e x y g = let q : ◌≡◌ {A = Completion × List ℕ} (d, x) (e, y) = cc in (ap (λ (o : Completion × List ℕ). o.0) q, ap (λ (o : Completion × List ℕ). o.1) q)
 
-    pub jumps : (done : Done) (after_memory : List ℕ) → host_step v memory b.cpu.regs ≡ Ok (done, after_memory) → (done ≡ Entered (record b.cpu.regs { eip = window_at at })) × (after_memory ≡ memory)
+    pub jumps : (done : Completion) (after_memory : List ℕ) → host_step v memory b.cpu.regs ≡ Ok (done, after_memory) → (done ≡ Entered (record b.cpu.regs { eip = window_at at })) × (after_memory ≡ memory)
     jumps done after_memory e =
         let d = host_parts memory v b.cpu.regs (done, after_memory) e in
         let c = code m w memory v b stands lends at 5 b.cpu.regs.eip p in
@@ -87,7 +87,7 @@ module _ (m : Setting) (w : IsWedge m) (memory : List ℕ) (v : View) (b : State
         let x = way_to (patched m.image.text 0 m.image.sites) memory (length m.image.text) (text_patched m w memory stands.host) at 5 jump_out (omega arith) (omega arith) site.fits few site.jump site.cut
         (Shares m w memory v b stands lends) (placed m w memory v b stands lends at 5 b.cpu.regs.eip p kernel) (behind m w memory v b stands lends at 5 b.cpu.regs.eip p kernel) d.insn d.len
         (subst (λ (y : ℕ). Way (Shares m w memory v b stands lends) memory y d.insn d.len) place way) in
-        let is : ◌≡◌ {A = Met (Done × List ℕ)} (Ok (Entered there, memory)) (Ok (done, after_memory)) =
+        let is : ◌≡◌ {A = Met (Completion × List ℕ)} (Ok (Entered there, memory)) (Ok (done, after_memory)) =
         sym effect_is ∙ sym (ap (λ (i : Insn). effect_there memory v b.cpu.regs i 5) x.insn_is) ∙ sym (ap (effect_there memory v b.cpu.regs d.insn) x.len_is) ∙ d.is in
         let q = same_pair (Entered there) done memory after_memory is in
         (sym q.0 ∙ ap (λ (n : ℕ). Entered (record b.cpu.regs { eip = n })) leads_there, sym q.1)

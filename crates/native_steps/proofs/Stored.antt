@@ -16,7 +16,7 @@ use Rattle.paging.specs.Space.{Space, place, written, saved, with_ram}
 use Rattle.step_exec.specs.Plain.{stored_all}
 use Rattle.host_cpl3.specs.Store.{number_stored, all_stored}
 use Rattle.machine_model.specs.State.{Setting}
-use Rattle.native_steps.specs.Stands.{IsWedge, IsHost, shown}
+use Rattle.native_steps.specs.Mirrors.{IsWedge, IsHost, shown}
 use Rattle.native_steps.proofs.Shown.{IsApart, shown_with, still_host, still_long}
 
 -- ---- the guest's stores, as changes of its memory alone

@@ -33,7 +33,7 @@ use Rattle.machine_model.specs.Rules as rules
 use Rattle.machine_model.specs.State.{Setting, State, space_at_start}
 use Rattle.machine_model.specs.Instruction.{fetched, instructed, is_plain}
 use Rattle.machine_model.specs.Step.{after_instruction, begun, by_op, after_fetch, fetches_next, begins_next, worked, by_interrupt, unheld, stepped}
-use Rattle.native_steps.specs.Stands.{IsWedge, IsLevel, Sees, Stands}
+use Rattle.native_steps.specs.Mirrors.{IsWedge, IsLevel, Sees, Mirrors}
 use Rattle.image_check.specs.Places.{is_site_at}
 use Rattle.machine_model.specs.Counts.{is_software, needs_descriptor, is_direct}
 use Rattle.native_steps.proofs.Inside.{not_inside}
@@ -135,7 +135,7 @@ without_rights v cpu s k =
       above = level_kernel v.kernel cpu.cpl s.level ∙ k;
     }
 
-module _ (flags : EffectLaws) (m : Setting) (w : IsWedge m) (memory : List ℕ) (v : View) (b : State) (stands : Stands m memory v b) (next : IsNext m v.kernel b) where
+module _ (flags : EffectLaws) (m : Setting) (w : IsWedge m) (memory : List ℕ) (v : View) (b : State) (stands : Mirrors m memory v b) (next : IsNext m v.kernel b) where
   sees : Sees v b.cpu
   sees = stands.sees
 

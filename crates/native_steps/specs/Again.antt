@@ -14,7 +14,7 @@ use Rattle.host_cpl3.specs.declared.view.View.{View}
 use Rattle.machine_model.specs.State.{Setting, State, wedge_mode}
 use Rattle.machine_model.specs.Clash.{instruction_clashes}
 use Rattle.machine_model.specs.Step.{Report, Went, stepped}
-use Rattle.native_steps.specs.Stands.{Sees}
+use Rattle.native_steps.specs.Mirrors.{Sees}
 use Rattle.native_steps.specs.Native.{effect_of}
 use Rattle.native_steps.specs.Forward.{IsNext}
 use Rattle.native_steps.specs.Backward.{IsTranslated}

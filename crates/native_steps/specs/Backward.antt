@@ -20,7 +20,7 @@ use Rattle.host_cpl3.specs.HostStep.{host_step}
 use Rattle.machine_model.specs.State.{Setting, State, space_at_start}
 use Rattle.machine_model.specs.Instruction.{is_plain, fetched}
 use Rattle.native_steps.specs.Lends.{Lends}
-use Rattle.native_steps.specs.Stands.{IsWedge, Stands}
+use Rattle.native_steps.specs.Mirrors.{IsWedge, Mirrors}
 use Rattle.native_steps.specs.Native.{effect_of, IsNative}
 use Rattle.native_steps.specs.Forward.{wp_of, IsNext, Follows}
 
@@ -51,7 +51,7 @@ pub record AreReached (memory : List ℕ) (root : ℕ) (pages : List ℕ) (range
 abbrev pub Backward : Type 0
 Backward =
     (m : Setting) (memory : List ℕ) (v : View) (b : State)
-    → IsWedge m → Stands m memory v b → Lends m memory v.root v.kernel (wp_of b) b.set → IsNext m v.kernel b
+    → IsWedge m → Mirrors m memory v b → Lends m memory v.root v.kernel (wp_of b) b.set → IsNext m v.kernel b
     → (insn : Insn) (len : ℕ) (fetch read write : Space) → IsTranslated m b insn len fetch read write
     → AreReached memory v.root fetch.visited (ranges_of insn b.cpu.regs) → IsNative m memory v b insn len
 
@@ -64,7 +64,7 @@ pub record Completes (m : Setting) (memory : List ℕ) (v : View) (b : State) (r
 abbrev pub NativeCompletes : Type 0
 NativeCompletes =
     (m : Setting) (memory : List ℕ) (v : View) (b : State)
-    → IsWedge m → Stands m memory v b → Lends m memory v.root v.kernel (wp_of b) b.set → IsNext m v.kernel b
+    → IsWedge m → Mirrors m memory v b → Lends m memory v.root v.kernel (wp_of b) b.set → IsNext m v.kernel b
     → (insn : Insn) (len : ℕ) (fetch read write : Space) → IsTranslated m b insn len fetch read write
     → AreReached memory v.root fetch.visited (ranges_of insn b.cpu.regs)
     → (regs : Regs) (stores : Stores) → effect_of v b insn len ≡ outcomes.Done regs stores → Completes m memory v b regs

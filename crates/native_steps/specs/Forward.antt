@@ -10,15 +10,15 @@ use Rattle.image_check.specs.Image.{Image}
 use Rattle.image_laws.specs.WaysIn.{IsWayIn}
 use Rattle.image_laws.specs.Patches.{window_at}
 use Rattle.host_cpl3.specs.declared.view.View.{View}
-use Rattle.host_cpl3.specs.declared.exit.Done.{Done}
-use Rattle.host_cpl3.specs.declared.exit.Done.TheVariants.{Completed, Entered}
+use Rattle.host_cpl3.specs.declared.exit.Completion.{Completion}
+use Rattle.host_cpl3.specs.declared.exit.Completion.TheVariants.{Completed, Entered}
 use Rattle.host_cpl3.specs.HostStep.{host_step}
 use Rattle.machine_model.specs.State.{Setting, State}
 use Rattle.machine_model.specs.Rules.{is_start}
 use Rattle.machine_model.specs.Step as step
 use Rattle.machine_model.specs.Taken.{is_load}
 use Rattle.native_steps.specs.Lends.{Lends, IsUnlent, AreKept}
-use Rattle.native_steps.specs.Stands.{IsWedge, Stands}
+use Rattle.native_steps.specs.Mirrors.{IsWedge, Mirrors}
 use Rattle.machine_model.specs.Counts.{is_direct}
 
 -- the linear address is that of a way into the text
@@ -55,7 +55,7 @@ pub record Follows (m : Setting) (v : View) (b : State) (memory : List ℕ) (reg
   pub set : after.set ≡ b.set
   pub board : after.board ≡ board_step b.board
   pub count : after.step ≡ b.step + 1
-  pub stands : Stands m after_memory v after
+  pub stands : Mirrors m after_memory v after
   pub interrupts : has regs.flags.bits 512 ≡ has b.cpu.regs.flags.bits 512
   pub size : length after_memory ≡ length memory
   pub behind : drop (4096 * m.frames) after_memory ≡ drop (4096 * m.frames) memory
@@ -69,7 +69,7 @@ wp_of b = has b.cpu.cr0 65536
 abbrev pub Forward : Type 0
 Forward =
     (m : Setting) (memory : List ℕ) (v : View) (b : State)
-    → IsWedge m → Stands m memory v b → Lends m memory v.root v.kernel (wp_of b) b.set → IsNext m v.kernel b
+    → IsWedge m → Mirrors m memory v b → Lends m memory v.root v.kernel (wp_of b) b.set → IsNext m v.kernel b
     → (regs : Regs) (after_memory : List ℕ) → host_step v memory b.cpu.regs ≡ Ok (Completed regs, after_memory)
     → Follows m v b memory regs after_memory
 
@@ -77,14 +77,14 @@ Forward =
 abbrev pub NotEntered : Type 0
 NotEntered =
     (m : Setting) (memory : List ℕ) (v : View) (b : State)
-    → IsWedge m → Stands m memory v b → Lends m memory v.root v.kernel (wp_of b) b.set → IsNext m v.kernel b
+    → IsWedge m → Mirrors m memory v b → Lends m memory v.root v.kernel (wp_of b) b.set → IsNext m v.kernel b
     → (regs : Regs) (after_memory : List ℕ) → host_step v memory b.cpu.regs ≡ Ok (Entered regs, after_memory) → ⊥
 
 -- At the first byte of a site the host does nothing but jump into the window, to the address that names the site.
 abbrev pub AtSites : Type 0
 AtSites =
     (m : Setting) (memory : List ℕ) (v : View) (b : State)
-    → IsWedge m → Stands m memory v b → Lends m memory v.root v.kernel (wp_of b) b.set → v.kernel ≡ true
+    → IsWedge m → Mirrors m memory v b → Lends m memory v.root v.kernel (wp_of b) b.set → v.kernel ≡ true
     → (site : Site) → 0x10000000 ≤ b.cpu.regs.eip → site_at m.image.sites (b.cpu.regs.eip - 0x10000000) ≡ Some site → site.at ≡ b.cpu.regs.eip - 0x10000000
-    → (done : Done) (after_memory : List ℕ) → host_step v memory b.cpu.regs ≡ Ok (done, after_memory)
+    → (done : Completion) (after_memory : List ℕ) → host_step v memory b.cpu.regs ≡ Ok (done, after_memory)
     → (done ≡ Entered (record b.cpu.regs { eip = window_at site.at })) × (after_memory ≡ memory)

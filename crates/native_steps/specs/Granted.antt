@@ -21,7 +21,7 @@ use Rattle.machine_model.specs.State.{Setting, State, wedge_mode}
 use Rattle.machine_model.specs.Clash.{instruction_clashes}
 use Rattle.machine_model.specs.Step.{after_instruction, begun, unheld, stepped}
 use Rattle.native_steps.specs.Lends.{IsOpen}
-use Rattle.native_steps.specs.Stands.{Sees}
+use Rattle.native_steps.specs.Mirrors.{Sees}
 use Rattle.native_steps.specs.Native.{effect_of, done_by}
 use Rattle.native_steps.specs.Forward.{wp_of, IsNext}
 use Rattle.native_steps.specs.Backward.{IsTranslated}

@@ -1,5 +1,5 @@
 pub mod Lends
-pub mod Stands
+pub mod Mirrors
 pub mod Native
 pub mod Forward
 pub mod Backward

@@ -12,7 +12,7 @@ use Rattle.paging.specs.Space.{Space, place_by}
 use Rattle.paging.specs.Work.{Outcome}
 use Rattle.sys_exec.specs.declared.effect.Refusal.{Refusal}
 use Rattle.sys_exec.specs.declared.effect.Refusal.TheVariants as refusal
-use Rattle.sys_exec.specs.declared.effect.Done.{Done}
+use Rattle.sys_exec.specs.declared.effect.SysOutcome.{SysOutcome}
 use Rattle.sys_exec.specs.declared.effect.SysEffect.TheVariants as effects
 use Rattle.step_exec.specs.Plain.{stored_all}
 use Rattle.host_cpl3.specs.declared.view.View.{View}
@@ -32,7 +32,7 @@ abbrev pub effect_of : View → State → Insn → ℕ → exec.Outcome
 effect_of v b insn len = user_effect (selectors_of v) insn len b.cpu.regs (byte_of b)
 
 -- what the guest makes of it
-abbrev pub done_by : Cpu → Space → exec.Outcome → Outcome Refusal Done
+abbrev pub done_by : Cpu → Space → exec.Outcome → Outcome Refusal SysOutcome
 done_by cpu s (outcomes.Done regs stores) = Ok (record { cpu = record cpu { regs = regs }; effect = effects.Next }, stored_all s (list_of stores))
 done_by cpu s (outcomes.Raise vector code) = Err (refusal.Raise vector code, s)
 done_by cpu s (outcomes.Stop stop) = Err (refusal.Stop stop, s)

@@ -19,7 +19,7 @@ use Rattle.machine_model.specs.Taken.{Taken, is_load, steps_by}
 use Rattle.machine_model.specs.Notes.{AreLeft}
 use Rattle.machine_model.specs.Counts.{direct_count, passed_digest}
 use Rattle.native_steps.specs.Lends.{Lends, IsUnlent, AreKept}
-use Rattle.native_steps.specs.Stands.{IsWedge, Stands}
+use Rattle.native_steps.specs.Mirrors.{IsWedge, Mirrors}
 use Rattle.native_steps.specs.Forward.{wp_of, IsEntrance}
 
 -- the same memory behind the guest's frames
@@ -35,7 +35,7 @@ StaysUnlent m v old at = (memory : List ℕ) → SameBehind m old memory → IsU
 -- the processor is awake, and no delivery is held off. The tables lend no more than the guest's translations, whatever
 -- its frames hold.
 pub record Beside (m : Setting) (v : View) (b : State) (s : Standing) : Type 0 where
-  pub stands : Stands m s.ram v b
+  pub stands : Mirrors m s.ram v b
   pub lends : (memory : List ℕ) → SameBehind m s.ram memory → Lends m memory v.root v.kernel (wp_of b) b.set
   pub regs : b.cpu.regs ≡ s.regs
   pub awake : b.cpu.halted ≡ false

@@ -58,10 +58,10 @@ pub record Space : Type 0 where
   -- what the touch before it made ready
   pub earlier : Earlier
 
-abbrev pub width : Size → ℕ
-width Byte = 1
-width Word = 2
-width Long = 4
+abbrev pub size_in_bytes : Size → ℕ
+size_in_bytes Byte = 1
+size_in_bytes Word = 2
+size_in_bytes Long = 4
 
 -- a number of that size
 abbrev pub FitsSize : Size → ℕ → Type 0
@@ -72,11 +72,11 @@ FitsSize Long v = v < 2 ^ 32
 -- the range lies in what was made ready
 pub record IsReady (s : Space) (at : ℕ) (size : Size) : Type 0 where
   pub above : s.ready.start ≤ at
-  pub below : at + width size ≤ s.ready.start + s.ready.len
+  pub below : at + size_in_bytes size ≤ s.ready.start + s.ready.len
 
 pub record IsWritable (s : Space) (at : ℕ) (size : Size) : Type 0 where
   pub above : s.ready.start ≤ at
-  pub below : at + width size ≤ s.ready.start + s.ready.len
+  pub below : at + size_in_bytes size ≤ s.ready.start + s.ready.len
   pub write : s.ready.write ≡ true
 
 -- this range is what was made ready
@@ -87,7 +87,7 @@ pub record IsReach (s : Space) (at len : ℕ) (write : Bool) : Type 0 where
 -- the range lies in what the touch before the last made ready
 pub record IsReadyEarlier (s : Space) (at : ℕ) (size : Size) : Type 0 where
   pub above : s.earlier.start ≤ at
-  pub below : at + width size ≤ s.earlier.start + s.earlier.len
+  pub below : at + size_in_bytes size ≤ s.earlier.start + s.earlier.len
 
 -- what was ready is what was ready earlier, once the next touch begins
 abbrev pub earlier_of : Space → Earlier

@@ -7,7 +7,7 @@ use Rattle.pic8259.specs.declared.chip.Chip.{Chip}
 use Rattle.pic8259.specs.declared.pair.Pair.{Pair}
 use Rattle.pic8259.specs.Chips.{even_written, odd_written, even_read_of, with_request, highest_request, after_raised}
 
--- profile: the master's request 2 is set exactly while the slave has something to raise
+-- profile: the master's IR2 is set exactly while the slave has something to raise
 unfoldable pub joined : Chip → Chip → Pair
 joined master slave = record { master = with_request master 2 (is_some (highest_request slave)); slave = slave }
 

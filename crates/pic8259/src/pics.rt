@@ -49,7 +49,7 @@ impl Pics {
     }
 
     /// The two with these registers. None where they cannot stand so: a base that is not that of eight vectors, a
-    /// phase that does not go with having been ready, or a request 2 that does not stand for the slave.
+    /// phase that does not go with having been ready, or an IR2 that does not stand for the slave.
     pub fn from_pair(pair: Pair) -> Option<Pics>
         ensures { result ≡ (if pair_fits pair then Some pair else None) }
     {
@@ -155,7 +155,7 @@ fn is_cascade(level: Option<u8>) -> bool
     }
 }
 
-/// The two, with the master's request 2 as the slave has it.
+/// The two, with the master's IR2 as the slave has it.
 #[tactic(auto, unfolding(crate::specs::Pairs::joined, crate::specs::Chips::with_request), using(crate::proofs::LevelLemmas::request_is))]
 fn join(mut master: Chip, slave: Chip) -> Pair
     requires master { IsChip master }

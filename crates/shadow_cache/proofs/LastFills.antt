@@ -6,15 +6,15 @@ use Rattle.shadow_tables.specs.Calls.{Concerns, LeaveAlone}
 use Rattle.shadow_tables.specs.declared.words.Side.{Side}
 use Rattle.shadow_tables.specs.declared.calls.Call.{Call}
 use Rattle.shadow_tables.specs.declared.calls.Call.TheVariants.{Fill, DropPage, DropDir, DropAll, Note, Written}
-use Rattle.shadow_cache.specs.Past.{Done}
+use Rattle.shadow_cache.specs.Past.{MadeCall}
 use Rattle.shadow_cache.specs.Replayed.{LastFill}
 use Rattle.shadow_cache.specs.Agreeing.{Filling, filling_after, last_from, last_of}
 
-last-append : (ds es : List Done) (page : ℕ) (o : Option Filling) → last_from (ds ++ es) page o ≡ last_from es page (last_from ds page o)
+last-append : (ds es : List MadeCall) (page : ℕ) (o : Option Filling) → last_from (ds ++ es) page o ≡ last_from es page (last_from ds page o)
 last-append [] es page o = refl
 last-append (d ∷ ds) es page o = last-append ds es page (filling_after d.call d.moment page o)
 
-pub last-more : (ds : List Done) (moment : ℕ) (call : Call) (page : ℕ) → last_of (ds ++ record { moment = moment; call = call } ∷ []) page ≡ filling_after call moment page (last_of ds page)
+pub last-more : (ds : List MadeCall) (moment : ℕ) (call : Call) (page : ℕ) → last_of (ds ++ record { moment = moment; call = call } ∷ []) page ≡ filling_after call moment page (last_of ds page)
 last-more ds moment call page = last-append ds (record { moment = moment; call = call } ∷ []) page None
 
 -- ---- calls that leave a page alone
@@ -30,10 +30,10 @@ alone-one DropAll moment page o n = absurd (n tt)
 alone-one (Note frame) moment page o n = refl
 alone-one (Written frame) moment page o n = refl
 
-abbrev calls_of : List Done → List Call
-calls_of ds = map (λ (d : Done). d.call) ds
+abbrev calls_of : List MadeCall → List Call
+calls_of ds = map (λ (d : MadeCall). d.call) ds
 
-alone-all : (ds : List Done) (page : ℕ) (o : Option Filling) → LeaveAlone page (calls_of ds) → last_from ds page o ≡ o
+alone-all : (ds : List MadeCall) (page : ℕ) (o : Option Filling) → LeaveAlone page (calls_of ds) → last_from ds page o ≡ o
 alone-all [] page o h = refl
 alone-all (d ∷ ds) page o h = ap (last_from ds page) (alone-one d.call d.moment page o h.0) ∙ alone-all ds page o h.1
 
@@ -46,21 +46,21 @@ filling-there side entry wp moment page o e =
       | inr f ↦ absurd (f.1 e)
     ]
 
-pub last-to : (ds : List Done) (page : ℕ) (side : Side) (entry : Entry) (wp : Bool) (moment : ℕ) → LastFill ds page side entry wp moment → last_of ds page ≡ Some (record { moment = moment; side = side; entry = entry; wp = wp })
+pub last-to : (ds : List MadeCall) (page : ℕ) (side : Side) (entry : Entry) (wp : Bool) (moment : ℕ) → LastFill ds page side entry wp moment → last_of ds page ≡ Some (record { moment = moment; side = side; entry = entry; wp = wp })
 last-to ds page side entry wp moment l =
-    ap (λ (xs : List Done). last_from xs page None) l.place
+    ap (λ (xs : List MadeCall). last_from xs page None) l.place
     ∙ last-append l.before (record { moment = moment; call = Fill side entry wp } ∷ l.later) page None
     ∙ alone-all l.later page (filling_after (Fill side entry wp) moment page (last_of l.before page)) l.alone
     ∙ filling-there side entry wp moment page (last_of l.before page) l.here
 
-record Last (ds : List Done) (page : ℕ) : Type 0 where
+record Last (ds : List MadeCall) (page : ℕ) : Type 0 where
   fill : Filling
   last : LastFill ds page fill.side fill.entry fill.wp fill.moment
 
-abbrev Ends : List Done → ℕ → Option Filling → Type 0
+abbrev Ends : List MadeCall → ℕ → Option Filling → Type 0
 Ends ds page o = LeaveAlone page (calls_of ds) ⊎ (Last ds page ⊎ (last_from ds page o ≡ None))
 
-ends-first : (c : Call) (moment : ℕ) (ds : List Done) (page : ℕ) (o : Option Filling) → LeaveAlone page (calls_of ds) → Ends (record { moment = moment; call = c } ∷ ds) page o
+ends-first : (c : Call) (moment : ℕ) (ds : List MadeCall) (page : ℕ) (o : Option Filling) → LeaveAlone page (calls_of ds) → Ends (record { moment = moment; call = c } ∷ ds) page o
 ends-first (Fill side entry wp) moment ds page o a =
     elim (eqb_tells page entry.page) [
       | inl t ↦ inr (inl (record {
@@ -83,14 +83,14 @@ ends-first DropAll moment ds page o a = inr (inr (alone-all ds page None a))
 ends-first (Note frame) moment ds page o a = inl ((λ e. e), a)
 ends-first (Written frame) moment ds page o a = inl ((λ e. e), a)
 
-last-later : (d : Done) (ds : List Done) (page : ℕ) → Last ds page → Last (d ∷ ds) page
+last-later : (d : MadeCall) (ds : List MadeCall) (page : ℕ) → Last ds page → Last (d ∷ ds) page
 last-later d ds page f =
     record {
       fill = f.fill;
-      last = record { before = d ∷ f.last.before; later = f.last.later; place = ap (λ (xs : List Done). d ∷ xs) f.last.place; here = f.last.here; alone = f.last.alone };
+      last = record { before = d ∷ f.last.before; later = f.last.later; place = ap (λ (xs : List MadeCall). d ∷ xs) f.last.place; here = f.last.here; alone = f.last.alone };
     }
 
-ends : (ds : List Done) (page : ℕ) (o : Option Filling) → Ends ds page o
+ends : (ds : List MadeCall) (page : ℕ) (o : Option Filling) → Ends ds page o
 ends [] page o = inl tt
 ends (d ∷ ds) page o =
     elim (ends ds page (filling_after d.call d.moment page o)) [
@@ -104,7 +104,7 @@ same-filling a b e = cc
 none-filling : (f : Filling) → None ≡ Some f → ⊥
 none-filling f e = cc
 
-pub last-is : (ds : List Done) (page : ℕ) (f : Filling) → last_of ds page ≡ Some f → LastFill ds page f.side f.entry f.wp f.moment
+pub last-is : (ds : List MadeCall) (page : ℕ) (f : Filling) → last_of ds page ≡ Some f → LastFill ds page f.side f.entry f.wp f.moment
 last-is ds page f e =
     elim (ends ds page None) [
       | inl a ↦ absurd (none-filling f (sym (alone-all ds page None a) ∙ e))

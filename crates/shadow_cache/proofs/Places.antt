@@ -6,7 +6,7 @@ use Rattle.shadow_tables.specs.Slots.{is_among, is_side}
 use Rattle.shadow_tables.specs.declared.words.Side.{Side}
 use Rattle.shadow_tables.specs.declared.calls.Call.{Call}
 use Rattle.shadow_tables.specs.declared.calls.Call.TheVariants.{Fill, DropPage, DropDir, DropAll, Note, Written}
-use Rattle.shadow_cache.specs.Past.{Done, DirSlot, Past, begun, is_place, with_place, all_but, unmarked, of_value, but_value, with_front, after_shared, after_call, pairs_after}
+use Rattle.shadow_cache.specs.Past.{MadeCall, DirSlot, Past, begun, is_place, with_place, all_but, unmarked, of_value, but_value, with_front, after_shared, after_call, pairs_after}
 use Rattle.shadow_cache.specs.Replayed.{IsFilledUnder, IsEachOnce, IsPlaced, ArePlaced}
 use Rattle.shadow_cache.specs.declared.call_lists.RootsCall.{RootsCall}
 use Rattle.shadow_cache.specs.declared.call_lists.RootsCall.TheVariants.{Shared, Switch}
@@ -16,7 +16,7 @@ use Rattle.shadow_cache.proofs.Whole.{calls-keep}
 
 -- ---- one pair
 
-filled-later : (done : List Done) (d : Done) (place : DirSlot) → IsFilledUnder done place → IsFilledUnder (done ++ d ∷ []) place
+filled-later : (done : List MadeCall) (d : MadeCall) (place : DirSlot) → IsFilledUnder done place → IsFilledUnder (done ++ d ∷ []) place
 filled-later done d place f =
     record {
       before = f.before;
@@ -24,11 +24,11 @@ filled-later done d place f =
       moment = f.moment;
       entry = f.entry;
       wp = f.wp;
-      fill = ap (λ (ds : List Done). ds ++ d ∷ []) f.fill ∙ append_assoc f.before (record { moment = f.moment; call = Fill place.side f.entry f.wp } ∷ f.later) (d ∷ []);
+      fill = ap (λ (ds : List MadeCall). ds ++ d ∷ []) f.fill ∙ append_assoc f.before (record { moment = f.moment; call = Fill place.side f.entry f.wp } ∷ f.later) (d ∷ []);
       under = f.under;
     }
 
-filled-now : (done : List Done) (moment : ℕ) (side : Side) (entry : Entry) (wp : Bool) (place : DirSlot) → (is_side place.side side && eqb place.index (entry.page / 1024)) ≡ true
+filled-now : (done : List MadeCall) (moment : ℕ) (side : Side) (entry : Entry) (wp : Bool) (place : DirSlot) → (is_side place.side side && eqb place.index (entry.page / 1024)) ≡ true
     → IsFilledUnder (done ++ record { moment = moment; call = Fill side entry wp } ∷ []) place
 filled-now done moment side entry wp place t =
     let s : place.side ≡ side = side-is place.side side (and-first (is_side place.side side) (eqb place.index (entry.page / 1024)) t) in
@@ -43,10 +43,10 @@ filled-now done moment side entry wp place t =
     }
 
 -- a place more, where it isn't there
-abbrev Filled : List Done → List DirSlot → Type 0
+abbrev Filled : List MadeCall → List DirSlot → Type 0
 Filled done places = (place : DirSlot) → is_place place places ≡ true → IsFilledUnder done place
 
-with-filled : (b : Bool) (done : List Done) (moment : ℕ) (side : Side) (entry : Entry) (wp : Bool) (places : List DirSlot) → Filled done places
+with-filled : (b : Bool) (done : List MadeCall) (moment : ℕ) (side : Side) (entry : Entry) (wp : Bool) (places : List DirSlot) → Filled done places
     → Filled (done ++ record { moment = moment; call = Fill side entry wp } ∷ []) (cond b places (record { side = side; index = entry.page / 1024 } ∷ places))
 with-filled true done moment side entry wp places f = λ place t. filled-later done (record { moment = moment; call = Fill side entry wp }) place (f place t)
 with-filled false done moment side entry wp places f = λ place t.
@@ -68,7 +68,7 @@ placed-filled p moment side entry wp a =
       once = with-once (is_place place p.places) place p.places refl a.once;
     }
 
-placed-later : (p : Past) (d : Done) → IsPlaced p → IsPlaced (record p { done = p.done ++ d ∷ [] })
+placed-later : (p : Past) (d : MadeCall) → IsPlaced p → IsPlaced (record p { done = p.done ++ d ∷ [] })
 placed-later p d a = record { filled = λ place t. filled-later p.done d place (a.filled place t); once = a.once }
 
 placed-begun : (v : ℕ) → IsPlaced (begun v)

@@ -4,7 +4,7 @@ use Rattle.paging.specs.declared.entry.Entry.{Entry}
 use Rattle.shadow_tables.specs.Slots.{Slot, filled, entry_in, is_adequate, permits, slot_at}
 use Rattle.shadow_tables.specs.declared.words.Side.{Side}
 use Rattle.shadow_tables.specs.declared.words.Side.TheVariants.{Kernel, User}
-use Rattle.shadow_cache.specs.Past.{Done, Past}
+use Rattle.shadow_cache.specs.Past.{MadeCall, Past}
 use Rattle.shadow_cache.specs.Replayed.{LastFill, IsEntryOf, MayRead, MayWrite, IsKeptAs, IsPast, ArePasts, done_in}
 use Rattle.shadow_cache.specs.Agreeing.{Filling, last_of, IsHeld, IsSlot, Agrees, AllAgree}
 use Rattle.shadow_cache.specs.declared.pair.Pair.{Pair}
@@ -24,23 +24,23 @@ none-entry : (a : Entry) → None ≡ Some a → ⊥
 none-entry a e = cc
 
 -- the fill, with what is kept of it
-record Filled (v : ℕ) (cs : List RootsCall) (done : List Done) (page : ℕ) (o : Option Slot) : Type 0 where
+record Filled (v : ℕ) (cs : List RootsCall) (done : List MadeCall) (page : ℕ) (o : Option Slot) : Type 0 where
   fill : Filling
   last : LastFill done page fill.side fill.entry fill.wp fill.moment
   held : IsHeld v cs fill o
 
-some-kept : (v : ℕ) (cs : List RootsCall) (done : List Done) (page : ℕ) (x : Option Filling) (o : Option Slot) (entry : Entry) → last_of done page ≡ x → IsSlot v cs x o → entry_in o ≡ Some entry → Filled v cs done page o
+some-kept : (v : ℕ) (cs : List RootsCall) (done : List MadeCall) (page : ℕ) (x : Option Filling) (o : Option Slot) (entry : Entry) → last_of done page ≡ x → IsSlot v cs x o → entry_in o ≡ Some entry → Filled v cs done page o
 some-kept v cs done page None o entry l h e = absurd (none-entry entry (sym (ap entry_in h) ∙ e))
 some-kept v cs done page (Some f) o entry l h e = record { fill = f; last = last-is done page f l; held = h }
 
 false-true : false ≡ true → ⊥
 false-true e = cc
 
-some-adequate : (v : ℕ) (cs : List RootsCall) (done : List Done) (page : ℕ) (x : Option Filling) (o : Option Slot) (side : Side) (write : Bool) → last_of done page ≡ x → IsSlot v cs x o → is_adequate o side write ≡ true → Filled v cs done page o
+some-adequate : (v : ℕ) (cs : List RootsCall) (done : List MadeCall) (page : ℕ) (x : Option Filling) (o : Option Slot) (side : Side) (write : Bool) → last_of done page ≡ x → IsSlot v cs x o → is_adequate o side write ≡ true → Filled v cs done page o
 some-adequate v cs done page None o side write l h e = absurd (false-true (sym (ap (λ y. is_adequate y side write) h) ∙ e))
 some-adequate v cs done page (Some f) o side write l h e = record { fill = f; last = last-is done page f l; held = h }
 
-held-of : (v : ℕ) (cs : List RootsCall) (done : List Done) (page : ℕ) (side : Side) (entry : Entry) (wp : Bool) (moment : ℕ) (o : Option Slot) → IsSlot v cs (last_of done page) o → LastFill done page side entry wp moment → IsHeld v cs (record { moment = moment; side = side; entry = entry; wp = wp }) o
+held-of : (v : ℕ) (cs : List RootsCall) (done : List MadeCall) (page : ℕ) (side : Side) (entry : Entry) (wp : Bool) (moment : ℕ) (o : Option Slot) → IsSlot v cs (last_of done page) o → LastFill done page side entry wp moment → IsHeld v cs (record { moment = moment; side = side; entry = entry; wp = wp }) o
 held-of v cs done page side entry wp moment o h l = subst (λ x. IsSlot v cs x o) (last-to done page side entry wp moment l) h
 
 -- ---- rights
@@ -88,7 +88,7 @@ writes-to b User entry wp e h = not-both b (permits User entry true wp) e h
 
 -- ---- the law
 
-module _ (v : ℕ) (cs : List RootsCall) (done : List Done) (page : ℕ) (o : Option Slot) (h : IsSlot v cs (last_of done page) o) where
+module _ (v : ℕ) (cs : List RootsCall) (done : List MadeCall) (page : ℕ) (o : Option Slot) (h : IsSlot v cs (last_of done page) o) where
   kept-from : (entry : Entry) → entry_in o ≡ Some entry → IsEntryOf done page entry
   kept-from entry e =
       let f = some-kept v cs done page (last_of done page) o entry refl h e in

@@ -8,7 +8,7 @@ use Rattle.shadow_tables.specs.declared.words.Side.{Side}
 use Rattle.shadow_tables.specs.declared.calls.Call.{Call}
 use Rattle.shadow_tables.specs.declared.calls.Call.TheVariants.{Fill, DropPage, DropDir, DropAll, Note, Written}
 use Rattle.shadow_cache.specs.Pairs.{reads}
-use Rattle.shadow_cache.specs.Past.{Done, DirSlot, Past, is_place, pairs_after}
+use Rattle.shadow_cache.specs.Past.{MadeCall, DirSlot, Past, is_place, pairs_after}
 use Rattle.shadow_cache.specs.Replayed.{NoTableSince}
 use Rattle.shadow_cache.specs.declared.pair.Pair.{Pair}
 use Rattle.shadow_cache.specs.declared.call_lists.RootsCall.{RootsCall}
@@ -29,11 +29,11 @@ filling_after DropAll moment page o = None
 filling_after (Note frame) moment page o = o
 filling_after (Written frame) moment page o = o
 
-abbrev pub last_from : List Done → ℕ → Option Filling → Option Filling
+abbrev pub last_from : List MadeCall → ℕ → Option Filling → Option Filling
 last_from [] page o = o
 last_from (d ∷ ds) page o = last_from ds page (filling_after d.call d.moment page o)
 
-abbrev pub last_of : List Done → ℕ → Option Filling
+abbrev pub last_of : List MadeCall → ℕ → Option Filling
 last_of done page = last_from done page None
 
 -- what is kept of a fill, barred from writes exactly where a pair has had its frame among its tables since

@@ -8,7 +8,7 @@ use Rattle.shadow_cache.specs.declared.call_lists.RootsCall.{RootsCall}
 use Rattle.shadow_cache.specs.declared.call_lists.RootsCall.TheVariants.{Shared, Switch}
 
 -- a fill or a drop, and how many calls came before it
-pub record Done : Type 0 where
+pub record MadeCall : Type 0 where
   pub moment : ℕ
   pub call : Call
 
@@ -22,7 +22,7 @@ pub record DirSlot : Type 0 where
 -- read and that weren't written since, and whether one of those was written.
 pub record Past : Type 0 where
   pub value : ℕ
-  pub done : List Done
+  pub done : List MadeCall
   pub places : List DirSlot
   pub tables : List ℕ
   pub marked : Bool

@@ -6,7 +6,7 @@ use Rattle.shadow_tables.specs.Calls.{IsFit, LeaveAlone, fill_count}
 use Rattle.shadow_tables.specs.declared.words.Side.{Side}
 use Rattle.shadow_tables.specs.declared.calls.Call.TheVariants.{Fill}
 use Rattle.shadow_cache.specs.Pairs.{reads}
-use Rattle.shadow_cache.specs.Past.{Done, DirSlot, Past, is_place, is_table, pairs_after}
+use Rattle.shadow_cache.specs.Past.{MadeCall, DirSlot, Past, is_place, is_table, pairs_after}
 use Rattle.shadow_cache.specs.declared.pair.Pair.{Pair}
 use Rattle.shadow_cache.specs.declared.call_lists.RootsCall.{RootsCall}
 use Rattle.shadow_cache.specs.declared.call_lists.RootsCall.TheVariants.{Shared, Switch}
@@ -31,9 +31,9 @@ BeginsBeyond free [] = ⊥
 BeginsBeyond free (c ∷ cs) = free < need c
 
 -- the page's last fill in a pair, with no later drop of the page there
-pub record LastFill (done : List Done) (page : ℕ) (side : Side) (entry : Entry) (wp : Bool) (moment : ℕ) : Type 0 where
-  pub before : List Done
-  pub later : List Done
+pub record LastFill (done : List MadeCall) (page : ℕ) (side : Side) (entry : Entry) (wp : Bool) (moment : ℕ) : Type 0 where
+  pub before : List MadeCall
+  pub later : List MadeCall
   pub place : done ≡ before ++ record { moment = moment; call = Fill side entry wp } ∷ later
   pub here : page ≡ entry.page
   pub alone : LeaveAlone page (map (λ d. d.call) later)
@@ -44,22 +44,22 @@ NoTableSince value calls moment frame =
     (n : ℕ) → moment ≤ n → n ≤ length calls → is_table (pairs_after value (take n calls)) frame ≡ false
 
 -- the entry of the page's last fill in this pair, which no later drop took away
-abbrev pub IsEntryOf : List Done → ℕ → Entry → Type 0
+abbrev pub IsEntryOf : List MadeCall → ℕ → Entry → Type 0
 IsEntryOf done page entry = (side : Side) × (wp : Bool) × (moment : ℕ) × LastFill done page side entry wp moment
 
 -- this fill was on that side, and lets a read pass
-abbrev pub MayRead : List Done → ℕ → Side → Type 0
+abbrev pub MayRead : List MadeCall → ℕ → Side → Type 0
 MayRead done page side =
     (entry : Entry) × (wp : Bool) × (moment : ℕ) × LastFill done page side entry wp moment × (permits side entry false wp ≡ true)
 
 -- or a write, and from then on no pair has had its frame among its tables
-abbrev pub MayWrite : ℕ → List RootsCall → List Done → ℕ → Side → Type 0
+abbrev pub MayWrite : ℕ → List RootsCall → List MadeCall → ℕ → Side → Type 0
 MayWrite value calls done page side =
     (entry : Entry) × (wp : Bool) × (moment : ℕ) × LastFill done page side entry wp moment × (permits side entry true wp ≡ true)
     × NoTableSince value calls moment entry.frame
 
 -- what is kept in a pair for a page after `new` with the value and then the calls
-pub record IsKeptAs (value : ℕ) (calls : List RootsCall) (done : List Done) (page : ℕ) (now : Option Slot) : Type 0 where
+pub record IsKeptAs (value : ℕ) (calls : List RootsCall) (done : List MadeCall) (page : ℕ) (now : Option Slot) : Type 0 where
   pub kept : (entry : Entry) → (entry_in now ≡ Some entry) ↔ IsEntryOf done page entry
   pub reads : (side : Side) → (is_adequate now side false ≡ true) ↔ MayRead done page side
   pub writes : (side : Side) → (is_adequate now side true ≡ true) ↔ MayWrite value calls done page side
@@ -85,9 +85,9 @@ most_frames [] = 0
 most_frames (p ∷ ps) = 2 + length p.places + most_frames ps
 
 -- a page was filled under this directory index of the view
-pub record IsFilledUnder (done : List Done) (place : DirSlot) : Type 0 where
-  pub before : List Done
-  pub later : List Done
+pub record IsFilledUnder (done : List MadeCall) (place : DirSlot) : Type 0 where
+  pub before : List MadeCall
+  pub later : List MadeCall
   pub moment : ℕ
   pub entry : Entry
   pub wp : Bool
@@ -108,6 +108,6 @@ ArePlaced [] = Unit {0}
 ArePlaced (p ∷ ps) = IsPlaced p × ArePlaced ps
 
 -- what is done in the present pair
-abbrev pub done_in : List Past → List Done
+abbrev pub done_in : List Past → List MadeCall
 done_in [] = []
 done_in (p ∷ ps) = p.done

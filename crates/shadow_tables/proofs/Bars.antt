@@ -7,7 +7,8 @@ use Rattle.shadow_views.specs.Tables.{dir, at, owned, IsIn, Puts}
 use Rattle.shadow_views.proofs.Changes.{at-none}
 use Rattle.shadow_tables.specs.Opened.{KeepsTables}
 use Rattle.shadow_tables.proofs.Tabled.{keeps-trans, puts-keep}
-use Rattle.shadow_tables.specs.Slots.{Slot, barred, barred_word, has, slot_of, by_words, roots, held, slot_at, IsMarked, IsShadow, Becomes}
+use Rattle.shadow_tables.specs.Slots.{Slot, barred, barred_word, slot_of, by_words, roots, held, slot_at, IsMarked, IsShadow, Becomes}
+use Rattle.paging.specs.Fresh.{has}
 use Rattle.shadow_tables.specs.Sweeps.{Sweeps}
 use Rattle.shadow_tables.specs.declared.shadow.Shadow.{Shadow}
 use Rattle.shadow_tables.specs.declared.words.Side.{Side}

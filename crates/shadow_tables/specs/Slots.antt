@@ -1,7 +1,7 @@
 -- What the views of a kernel and of a user keep for a page.
 use Rattle.std.specs.Prelude.{◌≡◌, ◌≢◌, ℕ, zero, suc, ◌+◌, ◌-◌, ◌*◌, ◌/◌, ◌%◌, ◌^◌, ◌<◌, List, [], ◌∷◌, Bool, true, false, ◌==◌, ◌&&◌, ◌||◌, not, if◌then◌else◌, Option, Some, None}
 use Rattle.paging.specs.declared.entry.Entry.{Entry}
-use Rattle.paging.specs.Fresh.{allows}
+use Rattle.paging.specs.Fresh.{allows, has}
 use Rattle.frame_pool.specs.Held.{Holds}
 use Rattle.shadow_views.specs.Tables.{dir, at, owned, IsIn}
 use Rattle.shadow_tables.specs.declared.words.Side.{Side}
@@ -46,9 +46,6 @@ worth b = if b then 1 else 0
 unfoldable pub word_of : Slot → ℕ
 word_of s =
     4096 * s.entry.frame + 2048 * worth s.entry.dirty + 1024 * worth s.entry.write + 512 * worth s.entry.user + 4 + 2 * worth s.writes + worth s.reads
-
-abbrev pub has : ℕ → ℕ → Bool
-has word power = word / power % 2 == 1
 
 abbrev pub entry_of : ℕ → ℕ → Entry
 entry_of page word =

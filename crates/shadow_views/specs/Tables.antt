@@ -2,7 +2,7 @@
 -- volume 3, 32-bit paging: a frame has 1,024 words, and a word has the number of a frame in bits 12 to 31.
 use Rattle.std.specs.Prelude.{◌≡◌, ◌≢◌, ℕ, zero, suc, ◌+◌, ◌*◌, ◌/◌, ◌%◌, ◌^◌, ◌<◌, ◌≤◌, ◌⊎◌, List, [], ◌∷◌, ◌++◌, length}
 use Rattle.guest_ram.specs.Bytes.{word32, with_word32}
-use Rattle.frame_pool.specs.Pool.{free_list, Takes}
+use Rattle.frame_pool.specs.Pool.{free_list, Takes, SameFrames, SameBut}
 use Rattle.frame_pool.specs.declared.Pool.{Pool}
 use Rattle.frame_pool.specs.Held.{Owns, Writes, Moves}
 
@@ -69,6 +69,14 @@ pub record Grows (p p' : Pool) (m m' : List ℕ) (r d : ℕ) : Type 0 where
   pub zeroed : List ℕ
   pub takes : Takes p p' m zeroed frame
   pub memory : m' ≡ with_word32 zeroed (4096 * r + 4 * d) (4096 * frame + 7)
+
+-- directory word d names no table, and the frame of its table became the first free one; no other frame changed
+pub record Shrinks (p p' : Pool) (m m' : List ℕ) (r d : ℕ) : Type 0 where
+  pub cleared : List ℕ
+  pub memory : cleared ≡ with_word32 m (4096 * r + 4 * d) 0
+  pub list : free_list p' m' ≡ (dir m r d / 4096) ∷ free_list p cleared
+  pub but : SameBut (dir m r d / 4096) cleared m'
+  pub same : SameFrames p p'
 
 -- a root of some views whose frames are the pool's and out
 pub record IsOwned (p : Pool) (m : List ℕ) (r : ℕ) : Type 0 where

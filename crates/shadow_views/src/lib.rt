@@ -4,7 +4,7 @@
 ghost use Rattle.std.specs.Prelude.{◌≡◌, ◌≢◌, ℕ, ◌+◌, ◌*◌, ◌/◌, ◌^◌, ◌<◌, ◌≤◌, ◌↔◌, List, length, IsTrue};
 ghost use Rattle.frame_pool.specs.Pool.{free_list, Stands};
 ghost use Rattle.frame_pool.specs.Held.{Holds, Owns};
-ghost use Rattle.shadow_views.specs.Tables.{dir, at, owned, IsIn, IsView, IsOwned, Puts, Opens, Closes, Empties};
+ghost use Rattle.shadow_views.specs.Tables.{dir, at, owned, IsIn, IsView, IsOwned, Puts, Opens, Grows, Closes, Shrinks, Empties};
 
 use frame_pool::Pool;
 use guest_ram::{FRAME, Ram};
@@ -73,6 +73,8 @@ pub fn open(ram: &mut Ram, pool: &mut Pool, root: u32, d: u32)
     requires stands { Stands pool.old ram.old }
     requires free { 1 ≤ length (free_list pool.old ram.old) }
     ensures opens { (rs : List ℕ) → Owns pool.old ram.old (owned ram.old rs) → IsIn root rs → Opens pool.old pool.new ram.old ram.new rs root d }
+    ensures grows { dir ram.old root d ≡ 0 → Grows pool.old pool.new ram.old ram.new root d }
+    ensures there { dir ram.old root d ≢ 0 → (pool.new ≡ pool.old) × (ram.new ≡ ram.old) }
 {
     let _bytes = ram.len();
     if dir(ram, root, d) != 0 {
@@ -89,6 +91,8 @@ pub fn close(ram: &mut Ram, pool: &mut Pool, root: u32, d: u32)
     requires owned { IsOwned pool.old ram.old root }
     requires index { d < 1024 }
     ensures closes { (rs : List ℕ) → Owns pool.old ram.old (owned ram.old rs) → IsIn root rs → Closes pool.old pool.new ram.old ram.new rs root d }
+    ensures shrinks { dir ram.old root d ≢ 0 → Shrinks pool.old pool.new ram.old ram.new root d }
+    ensures none { dir ram.old root d ≡ 0 → (pool.new ≡ pool.old) × (ram.new ≡ ram.old) }
 {
     let _bytes = ram.len();
     let word = dir(ram, root, d);

@@ -9,7 +9,8 @@ use Rattle.sites.specs.declared.site.Site.{Site}
 use Rattle.sites.specs.declared.site.SitesFault.{SitesFault}
 use Rattle.sites.specs.SitesParts.{SitesParts}
 use Rattle.sites.specs.Spelling.{site, placed, gaps, gapped, spelling, IsInForm}
-use Rattle.sites.specs.Reading.{◌or_else◌, head_fault, sites_fault, sites_at, placed_in, Gives}
+use Rattle.sites.specs.Reading.{head_fault, sites_fault, sites_at, placed_in, Gives}
+use Rattle.guest_ram.specs.Places.{◌or_else◌}
 use Rattle.sites.specs.Gapped.{end_at, gaps_fault, gap_sites, gapped_in}
 use Rattle.sites.specs.Formats.{told_format, told_count, sites_in, list_of, listed}
 use Rattle.sites.proofs.Inverse.{unless_ok, neither, head_was, in_first, placed_read, placed_was, length-sites}

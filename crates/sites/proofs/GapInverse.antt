@@ -13,7 +13,8 @@ use Rattle.ia32_types.specs.declared.site.SiteKind.TheVariants.{Cli}
 use Rattle.sites.specs.Kinds.{number, kind_numbered}
 use Rattle.sites.specs.Spelling.{gap, gaps, gapped, AreInGaps}
 use Rattle.sites.specs.SitesParts.{SitesParts}
-use Rattle.sites.specs.Reading.{bad, ◌or_else◌, cut_before, has_no_kind, head_fault}
+use Rattle.sites.specs.Reading.{cut_before, has_no_kind, head_fault}
+use Rattle.guest_ram.specs.Places.{◌or_else◌, bad}
 use Rattle.sites.specs.Gapped.{gap_at, end_at, passes, has_wrong_length, gap_fault, gaps_fault, gap_site, gap_sites, gapped_in}
 use Rattle.sites.proofs.GapWalk.{in_second}
 use Rattle.sites.proofs.Inverse.{kind_numbered-number, number-kind, byte-behind, head_good, head_was, unless_none, unless_ok, neither, not_bad, second_false, part-word, drop-eight}

@@ -14,7 +14,8 @@ use Rattle.ia32_types.specs.declared.site.SiteKind.TheVariants.{Cli, Sti, StiHlt
 use Rattle.sites.specs.Kinds.{kinds, number, kind_numbered}
 use Rattle.sites.specs.Spelling.{site, placed, AreInForm}
 use Rattle.sites.specs.SitesParts.{SitesParts}
-use Rattle.sites.specs.Reading.{bad, ◌or_else◌, differs, cut_before, falls, has_no_kind, has_wrong_total, unless, head_fault, site_fault, sites_fault, site_at, sites_at, placed_in}
+use Rattle.sites.specs.Reading.{differs, cut_before, falls, has_no_kind, has_wrong_total, unless, head_fault, site_fault, sites_fault, site_at, sites_at, placed_in}
+use Rattle.guest_ram.specs.Places.{◌or_else◌, bad}
 
 -- ---- kinds
 
@@ -68,7 +69,7 @@ unfolding word32 part
 word32-behind front rest a e = ap (λ (x : List ℕ). from_le_bytes w32 (take 4 x)) (drop_at front rest a e)
 
 -- the fields of a site that stands behind other bytes
-record Stands (bytes : List ℕ) (a : ℕ) (s : Site) : Type 0 where
+record SiteAt (bytes : List ℕ) (a : ℕ) (s : Site) : Type 0 where
   room : a + 8 ≤ length bytes
   at : word32 bytes a ≡ s.at
   kind : byte bytes (a + 4) ≡ number s.kind
@@ -76,7 +77,7 @@ record Stands (bytes : List ℕ) (a : ℕ) (s : Site) : Type 0 where
   total : byte bytes (a + 6) ≡ s.total
   last : byte bytes (a + 7) ≡ 0
 
-stands : (front rest : List ℕ) (a : ℕ) (s : Site) → length front ≡ a → s.at < 2 ^ 32 → Stands (front ++ (site s ++ rest)) a s
+stands : (front rest : List ℕ) (a : ℕ) (s : Site) → length front ≡ a → s.at < 2 ^ 32 → SiteAt (front ++ (site s ++ rest)) a s
 unfolding byte word32 part
 stands front rest a s e lt = record {
   room = omega (arith, length-append front (site s ++ rest), length-append (site s) rest);
@@ -87,7 +88,7 @@ stands front rest a s e lt = record {
   last = byte-behind front (site s ++ rest) a 7 e;
 }
 
-not_bad_there : (bytes : List ℕ) (least a : ℕ) (s : Site) → Stands bytes a s → least ≤ s.at → s.total ≡ max 5 s.len → site_fault bytes least a ≡ None
+not_bad_there : (bytes : List ℕ) (least a : ℕ) (s : Site) → SiteAt bytes a s → least ≤ s.at → s.total ≡ max 5 s.len → site_fault bytes least a ≡ None
 unfolding site_fault
 not_bad_there bytes least a s is le total =
     let room = is.room in
@@ -101,7 +102,7 @@ not_bad_there bytes least a s is le total =
     let is_kind : is_none (kind_numbered (byte bytes (a + 4))) ≡ false = ap (λ (n : ℕ). is_none (kind_numbered n)) is.kind ∙ ap is_none (kind_numbered-number s.kind) in
     rw (is.at, l4, rises, r4, is_kind, r6, is.total, is.len, same, r7, is.last, l8) refl
 
-read_there : (bytes : List ℕ) (a : ℕ) (s : Site) → Stands bytes a s → site_at bytes a ≡ s
+read_there : (bytes : List ℕ) (a : ℕ) (s : Site) → SiteAt bytes a s → site_at bytes a ≡ s
 unfolding site_at
 read_there bytes a s is =
     let k : unwrap_or (kind_numbered (byte bytes (a + 4))) Cli ≡ s.kind = ap (λ (n : ℕ). unwrap_or (kind_numbered n) Cli) is.kind ∙ ap (λ (o : Option SiteKind). unwrap_or o Cli) (kind_numbered-number s.kind) in

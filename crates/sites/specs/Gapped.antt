@@ -5,7 +5,8 @@ use Rattle.sites.specs.declared.site.Site.{Site}
 use Rattle.ia32_types.specs.declared.site.SiteKind.TheVariants.{Cli}
 use Rattle.sites.specs.SitesParts.{SitesParts}
 use Rattle.sites.specs.Kinds.{kind_numbered}
-use Rattle.sites.specs.Reading.{bad, ◌or_else◌, cut_before, has_no_kind, head_fault, unless}
+use Rattle.sites.specs.Reading.{cut_before, has_no_kind, head_fault, unless}
+use Rattle.guest_ram.specs.Places.{◌or_else◌, bad}
 
 -- three bytes, the lowest first
 abbrev pub gap_at : List ℕ → ℕ → ℕ

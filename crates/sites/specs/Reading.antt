@@ -7,14 +7,7 @@ use Rattle.sites.specs.declared.site.SitesFault.TheVariants as faults
 use Rattle.ia32_types.specs.declared.site.SiteKind.TheVariants.{Cli}
 use Rattle.sites.specs.SitesParts.{SitesParts}
 use Rattle.sites.specs.Kinds.{kind_numbered}
-
-abbrev pub bad : Bool → ℕ → Option ℕ
-bad is_bad at = if is_bad then Some at else None
-
-infixr 12 ◌or_else◌
-abbrev pub ◌or_else◌ : Option ℕ → Option ℕ → Option ℕ
-(Some at) or_else later = Some at
-None or_else later = later
+use Rattle.guest_ram.specs.Places.{bad, ◌or_else◌}
 
 -- a byte that is there, and isn't v
 abbrev pub differs : List ℕ → ℕ → ℕ → Bool

@@ -21,7 +21,7 @@ use Rattle.paging.specs.Work.{Work, ◌>>=◌, gives, unless}
 use Rattle.sys_exec.specs.declared.effect.Refusal.{Refusal}
 use Rattle.sys_exec.specs.declared.effect.Refusal.TheVariants as refusal
 use Rattle.sys_exec.specs.declared.effect.SysEffect.TheVariants as effects
-use Rattle.sys_exec.specs.declared.effect.Done.{Done}
+use Rattle.sys_exec.specs.declared.effect.SysOutcome.{SysOutcome}
 use Rattle.sys_exec.specs.Access.{reaching}
 use Rattle.sys_exec.specs.Iret.{is_within}
 use Rattle.sys_exec.specs.Operand.{selector_in}
@@ -44,13 +44,13 @@ translated cpu write (Some r) = reaching r.at r.len (record { write = write; use
 abbrev pub seen : Work Refusal Space
 seen s = Ok (s, s)
 
-abbrev pub user_finished : Cpu → exec.Outcome → Work Refusal Done
+abbrev pub user_finished : Cpu → exec.Outcome → Work Refusal SysOutcome
 user_finished cpu (outcomes.Done regs stores) s = Ok (record { cpu = record cpu { regs = regs }; effect = effects.Next }, stored_all s (list_of stores))
 user_finished cpu (outcomes.Raise vector code) s = Err (refusal.Raise vector code, s)
 user_finished cpu (outcomes.Stop stop) s = Err (refusal.Stop stop, s)
 
 -- ranges, and then a function of the bytes read
-abbrev pub user_form : Cpu → Ranges → ((ℕ → ℕ) → exec.Outcome) → Work Refusal Done
+abbrev pub user_form : Cpu → Ranges → ((ℕ → ℕ) → exec.Outcome) → Work Refusal SysOutcome
 user_form cpu x f = do
   _ ← unnull cpu x.read
   _ ← unnull cpu x.write
@@ -60,7 +60,7 @@ user_form cpu x f = do
   after ← seen
   user_finished cpu (f (byte_by x.read before after))
 
-unfoldable pub user_executed : Insn → ℕ → Cpu → Work Refusal Done
+unfoldable pub user_executed : Insn → ℕ → Cpu → Work Refusal SysOutcome
 user_executed insn len cpu = user_form cpu (ranges_of insn cpu.regs) (user_effect (selectors_of cpu) insn len cpu.regs)
 
 -- the sensitive instructions that have this form

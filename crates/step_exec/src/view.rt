@@ -37,33 +37,8 @@ impl<B: Kept> LinearBytes for View<'_, B> {
 
     ghost read_in_space = { λ m at h. h.1.space };
 
-    fn read(&self, at: u32, size: Size) -> u32 {
-        match size {
-            Size::Byte => self.byte(at),
-            Size::Word => self.byte(at) + self.byte(at + 1) * 0x100,
-            Size::Long => {
-                self.byte(at)
-                    + self.byte(at + 1) * 0x100
-                    + self.byte(at + 2) * 0x1_0000
-                    + self.byte(at + 3) * 0x100_0000
-            }
-        }
-    }
-}
-
-impl<B: Kept> View<'_, B> {
-    ghost use Rattle.std.specs.Prelude.{◌≡◌, ◌<◌};
-    ghost use Rattle.step_mem.specs.Sound.{IsSound, space_at};
-    ghost use Rattle.step_exec.specs.Divided.{byte_of};
-    ghost use Rattle.step_exec.specs.Ready.{IsOpen};
-
     #[tactic(auto, unfolding(paging::specs::Space::loaded))]
-    fn byte(&self, at: u32) -> u32
-        requires sound { IsSound (B.entries self.now.kept.now) (B.floor self.now.kept.now) (B.stands self.now.kept.now) self.now.ram.now self.now.state.now }
-        requires open_to { IsOpen self.now.ranges self.now.state.now at }
-        ensures value { result ≡ byte_of self.now.ranges (space_at (B.entries self.now.kept.now) self.now.ram.now self.now.state.now) at }
-        ensures small { result < 256 }
-    {
+    fn byte(&self, at: u32) -> u32 {
         if is_in(self.ranges.read, at) && self.ranges.write.is_some() {
             return step_mem::load_earlier(self.ram, self.kept, self.state, at, Size::Byte);
         }

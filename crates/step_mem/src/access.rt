@@ -3,7 +3,7 @@
 ghost use Rattle.std.specs.Prelude.{◌≡◌, ℕ, ◌+◌, ◌*◌, ◌/◌, ◌%◌, ◌≤◌, ◌<◌, ◌^◌, length, ◌++◌, IsSome, false};
 ghost use Rattle.guest_ram.specs.Bytes as in_ram;
 ghost use Rattle.std.specs.FinMap.{get};
-ghost use Rattle.paging.specs.Space.{FitsSize, IsReady, IsReadyEarlier, IsWritable, loaded, loaded_earlier, place, place_by, saved, width, with_byte, with_ram};
+ghost use Rattle.paging.specs.Space.{FitsSize, IsReady, IsReadyEarlier, IsWritable, loaded, loaded_earlier, place, place_by, saved, size_in_bytes, with_byte, with_ram};
 ghost use Rattle.paging.specs.Uses.{is_text};
 ghost use Rattle.step_mem.specs.Changes.{changed, AreWithin};
 ghost use Rattle.step_mem.specs.Guard.{mode_of, IsApart, IsLaid};
@@ -116,8 +116,8 @@ fn number<B: Kept>(
     requires laid { IsLaid guard.now.text.now frames }
     requires stands { ∥ B.stands base.now ram.now ∥₁ }
     requires within { AreWithin frames (changed (B.entries base.now ram.now) changes.now) }
-    requires fits { at + width size ≤ 2 ^ 32 }
-    requires found { (byte : ℕ) → at ≤ byte → byte < at + width size → IsSome (get (changed (B.entries base.now ram.now) changes.now) (byte / 4096)) }
+    requires fits { at + size_in_bytes size ≤ 2 ^ 32 }
+    requires found { (byte : ℕ) → at ≤ byte → byte < at + size_in_bytes size → IsSome (get (changed (B.entries base.now ram.now) changes.now) (byte / 4096)) }
     ensures value { (control : Control) (rest : Rest) → control.frames ≡ frames → result ≡ loaded (space_of (B.entries base.now) ram.now control guard.now changes.now rest) at size }
     ensures fits { FitsSize size result }
 {

@@ -21,7 +21,7 @@ use Rattle.sys_exec.specs.Port.{port_in, port_out}
 use Rattle.sys_exec.specs.Branch.{return_to, jump_to, called_through, call_to}
 use Rattle.sys_exec.specs.declared.effect.Refusal.{Refusal}
 use Rattle.sys_exec.specs.declared.effect.Refusal.TheVariants.{Fault, Raise, Stop}
-use Rattle.sys_exec.specs.declared.effect.Done.{Done}
+use Rattle.sys_exec.specs.declared.effect.SysOutcome.{SysOutcome}
 use Rattle.sys_exec.specs.Iret.{new_flags}
 use Rattle.sys_exec.specs.Sys.{returned_by, row, sys_work, told_refusal, told}
 use Rattle.sys_exec.specs.Agreement.{is_extra, ToldAgrees, RowsAgree, UserFlagsAgree}
@@ -221,7 +221,7 @@ pub work_agrees : (insn : Insn) (len : ℕ) (cpu : Cpu) → Agrees is_extra (sys
 unfolding sys_work
 work_agrees insn len cpu = row_agrees insn.op insn len cpu
 
-refusal_agrees : (cpu : Cpu) (r : Refusal) (s : Space) (p : Outcome Refusal Done) → (is_extra r ≡ true) ⊎ (p ≡ Err (r, bare s)) → ToldAgrees (told_refusal cpu r s) (told cpu p)
+refusal_agrees : (cpu : Cpu) (r : Refusal) (s : Space) (p : Outcome Refusal SysOutcome) → (is_extra r ≡ true) ⊎ (p ≡ Err (r, bare s)) → ToldAgrees (told_refusal cpu r s) (told cpu p)
 refusal_agrees cpu (Fault code at) s p (inl e) = absurd (clash e)
 refusal_agrees cpu (Fault code at) s p (inr e) = inr (ap (told cpu) e)
 refusal_agrees cpu (Raise vector code) s p (inl e) = absurd (clash e)
@@ -229,7 +229,7 @@ refusal_agrees cpu (Raise vector code) s p (inr e) = inr (ap (told cpu) e)
 refusal_agrees cpu (Stop stop) s p (inl e) = inl e
 refusal_agrees cpu (Stop stop) s p (inr e) = inr (ap (told cpu) e)
 
-told_agrees : (cpu : Cpu) (o p : Outcome Refusal Done) → IsExtra is_extra o ⊎ (p ≡ bared o) → ToldAgrees (told cpu o) (told cpu p)
+told_agrees : (cpu : Cpu) (o p : Outcome Refusal SysOutcome) → IsExtra is_extra o ⊎ (p ≡ bared o) → ToldAgrees (told cpu o) (told cpu p)
 told_agrees cpu (Ok x) p (inl e) = absurd e
 told_agrees cpu (Ok x) p (inr e) = inr (ap (told cpu) e)
 told_agrees cpu (Err r) p h = refusal_agrees cpu r.0 r.1 p h

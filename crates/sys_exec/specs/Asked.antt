@@ -4,7 +4,7 @@ use Rattle.std.specs.Prelude.{◌≡◌, ◌^◌, ◌<◌, false, Result, Ok, Er
 use Rattle.sys_exec.specs.declared.effect.Refusal.{Refusal}
 use Rattle.sys_exec.specs.declared.effect.SysEffect.{SysEffect}
 use Rattle.sys_exec.specs.declared.effect.SysEffect.TheVariants.{DropPage, DropDir, PortOut}
-use Rattle.sys_exec.specs.declared.effect.Done.{Done}
+use Rattle.sys_exec.specs.declared.effect.SysOutcome.{SysOutcome}
 
 abbrev pub IsAsked : SysEffect → Type 0
 IsAsked (DropPage page) = page < 2 ^ 20
@@ -12,6 +12,6 @@ IsAsked (DropDir index) = index < 2 ^ 10
 IsAsked (PortOut port wide value) = wide ≡ false → value < 256
 IsAsked _ = Unit {0}
 
-abbrev pub GivesAsked : Result Done Refusal → Type 0
+abbrev pub GivesAsked : Result SysOutcome Refusal → Type 0
 GivesAsked (Ok done) = IsAsked done.effect
 GivesAsked (Err refusal) = Unit {0}

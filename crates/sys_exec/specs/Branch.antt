@@ -9,18 +9,18 @@ use Rattle.ia32_exec.specs.Stack.{esp_below, esp_above}
 use Rattle.paging.specs.Work.{Work, ◌>>=◌, refuses, gives, reads_earlier, writes}
 use Rattle.descriptors.specs.declared.cpu.Cpu.{Cpu}
 use Rattle.sys_exec.specs.declared.effect.Refusal.{Refusal}
-use Rattle.sys_exec.specs.declared.effect.Done.{Done}
+use Rattle.sys_exec.specs.declared.effect.SysOutcome.{SysOutcome}
 use Rattle.sys_exec.specs.Access.{reaching}
 use Rattle.sys_exec.specs.Operand.{unsupported, by_level, reg_at, operand_reached, long_of, pulled, pushed, with_regs, past, past_push, gone_to, next}
 
 -- RET; the number of bytes that it drops besides
-unfoldable pub return_to : ℕ → Cpu → Work Refusal Done
+unfoldable pub return_to : ℕ → Cpu → Work Refusal SysOutcome
 return_to more cpu = do
   target ← pulled cpu
   next (with_regs cpu (record (with_whole 4 (esp_above (4 + more) cpu.regs) cpu.regs) { eip = target }))
 
 -- JMP through an operand
-unfoldable pub jump_to : Operand → Cpu → Work Refusal Done
+unfoldable pub jump_to : Operand → Cpu → Work Refusal SysOutcome
 jump_to a cpu = do
   target ← long_of cpu a
   next (gone_to cpu target)
@@ -36,7 +36,7 @@ called_through a len cpu = do
   gives target
 
 -- CALL through an operand
-unfoldable pub call_to : Operand → ℕ → Cpu → Work Refusal Done
+unfoldable pub call_to : Operand → ℕ → Cpu → Work Refusal SysOutcome
 call_to (Register k) len cpu = do
   _ ← pushed cpu (past cpu len).regs.eip
   next (gone_to (past_push cpu len) (reg_at cpu k))

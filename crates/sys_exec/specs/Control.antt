@@ -8,7 +8,7 @@ use Rattle.descriptors.specs.declared.cpu.Cpu.{Cpu}
 use Rattle.sys_exec.specs.declared.effect.Refusal.{Refusal}
 use Rattle.sys_exec.specs.declared.effect.Refusal.TheVariants.{Stop}
 use Rattle.sys_exec.specs.declared.effect.SysEffect.TheVariants as effects
-use Rattle.sys_exec.specs.declared.effect.Done.{Done}
+use Rattle.sys_exec.specs.declared.effect.SysOutcome.{SysOutcome}
 use Rattle.sys_exec.specs.Operand.{unsupported, kernel_alone, reg_at, past, past_with, next}
 
 abbrev pub control_stop : Refusal
@@ -22,7 +22,7 @@ control_0_needed = 0x8000_0001
 abbrev pub control_0_refused : ℕ
 control_0_refused = 0x7FFA_FFC0
 
-abbrev pub load_control_0 : Cpu → ℕ → Work Refusal Done
+abbrev pub load_control_0 : Cpu → ℕ → Work Refusal SysOutcome
 load_control_0 cpu v = do
   _ ← unless control_stop (bit_and v control_0_needed == control_0_needed && bit_and v control_0_refused == 0)
   gives (record { cpu = record cpu { cr0 = bit_or v 0x10 }; effect = effects.Next })
@@ -31,7 +31,7 @@ load_control_0 cpu v = do
 abbrev pub control_3_refused : ℕ
 control_3_refused = 0xFE7
 
-abbrev pub load_control_3 : Cpu → ℕ → Work Refusal Done
+abbrev pub load_control_3 : Cpu → ℕ → Work Refusal SysOutcome
 load_control_3 cpu v = do
   _ ← unless control_stop (bit_and v control_3_refused == 0)
   gives (record { cpu = record cpu { cr3 = v }; effect = effects.DropAll })
@@ -41,12 +41,12 @@ abbrev pub changes_pse : Cpu → ℕ → Bool
 changes_pse cpu v = not (v / 0x10 % 2 == cpu.cr4 / 0x10 % 2)
 
 -- CR4: PSE may be given, and where it changes the set is emptied
-abbrev pub load_control_4 : Cpu → ℕ → Work Refusal Done
+abbrev pub load_control_4 : Cpu → ℕ → Work Refusal SysOutcome
 load_control_4 cpu v = do
   _ ← unless control_stop (v == 0 || v == 0x10)
   gives (record { cpu = record cpu { cr4 = v }; effect = if changes_pse cpu v then effects.DropAll else effects.Next })
 
-unfoldable pub load_control : Cpu → ℕ → ℕ → Work Refusal Done
+unfoldable pub load_control : Cpu → ℕ → ℕ → Work Refusal SysOutcome
 load_control cpu number v =
     if number == 0 then load_control_0 cpu v else
     (if number == 2 then gives (record { cpu = record cpu { cr2 = v }; effect = effects.Next }) else
@@ -55,7 +55,7 @@ load_control cpu number v =
     refuses unsupported)))
 
 -- MOV to a control register
-unfoldable pub write_control : Operand → Operand → ℕ → Cpu → Work Refusal Done
+unfoldable pub write_control : Operand → Operand → ℕ → Cpu → Work Refusal SysOutcome
 write_control (Control number) (Register k) len cpu = do
   _ ← kernel_alone cpu
   load_control (past cpu len) number (reg_at cpu k)
@@ -70,7 +70,7 @@ control_of cpu number =
     refuses unsupported)))
 
 -- MOV from a control register
-unfoldable pub read_control : Operand → Operand → ℕ → Cpu → Work Refusal Done
+unfoldable pub read_control : Operand → Operand → ℕ → Cpu → Work Refusal SysOutcome
 read_control (Register k) (Control number) len cpu = do
   _ ← kernel_alone cpu
   v ← control_of cpu number

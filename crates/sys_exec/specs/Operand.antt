@@ -7,7 +7,7 @@ use Rattle.ia32_types.specs.declared.insn.Operand.TheVariants as operands
 use Rattle.ia32_types.specs.declared.register.Seg.{Seg}
 use Rattle.ia32_types.specs.declared.size.Size.TheVariants as sizes
 use Rattle.ia32_types.specs.declared.stop.Stop.TheVariants as stops
-use Rattle.ia32_exec.specs.Registers.{address_of, with_whole, passed}
+use Rattle.ia32_exec.specs.Registers.{address_of, with_whole, eip_past}
 use Rattle.ia32_exec.specs.Ranges.{segment_of}
 use Rattle.ia32_exec.specs.Stack.{stack_of, esp_below, esp_above}
 use Rattle.paging.specs.declared.entry.Access.{Access}
@@ -17,7 +17,7 @@ use Rattle.descriptors.specs.declared.cpu.Cpu.{Cpu}
 use Rattle.sys_exec.specs.declared.effect.Refusal.{Refusal}
 use Rattle.sys_exec.specs.declared.effect.Refusal.TheVariants.{Raise, Stop}
 use Rattle.sys_exec.specs.declared.effect.SysEffect.TheVariants as effects
-use Rattle.sys_exec.specs.declared.effect.Done.{Done}
+use Rattle.sys_exec.specs.declared.effect.SysOutcome.{SysOutcome}
 use Rattle.sys_exec.specs.Access.{reaching}
 
 -- no row has such operands
@@ -84,11 +84,11 @@ with_regs cpu regs = record cpu { regs = regs }
 
 -- past the instruction
 abbrev pub past : Cpu → ℕ → Cpu
-past cpu len = with_regs cpu (passed len cpu.regs)
+past cpu len = with_regs cpu (eip_past len cpu.regs)
 
 -- past the instruction, with a register made new
 abbrev pub past_with : Cpu → ℕ → ℕ → ℕ → Cpu
-past_with cpu len k v = with_regs cpu (passed len (with_whole k v cpu.regs))
+past_with cpu len k v = with_regs cpu (eip_past len (with_whole k v cpu.regs))
 
 -- past the instruction, with ESP after a push and after a pop of four bytes
 abbrev pub past_push : Cpu → ℕ → Cpu
@@ -101,5 +101,5 @@ past_pop cpu len = past_with cpu len 4 (esp_above 4 cpu.regs)
 abbrev pub gone_to : Cpu → ℕ → Cpu
 gone_to cpu eip = with_regs cpu (record cpu.regs { eip = eip })
 
-abbrev pub next : Cpu → Work Refusal Done
+abbrev pub next : Cpu → Work Refusal SysOutcome
 next cpu = gives (record { cpu = cpu; effect = effects.Next })

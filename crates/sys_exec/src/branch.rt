@@ -6,7 +6,7 @@ ghost use Rattle.ia32_exec.specs.Stack.{esp_above};
 ghost use Rattle.sys_exec.specs.Branch.{return_to, jump_to, called_through, call_to};
 ghost use Rattle.sys_exec.specs.Asked.{GivesAsked};
 
-use crate::effect::{Done, Refusal};
+use crate::effect::{SysOutcome, Refusal};
 use crate::operand::{
     UNSUPPORTED, by_level, esp_below, gone_to, long_of, next, past, past_push, pull, push,
     reach_operand, reg_at,
@@ -26,7 +26,7 @@ fn raised_over(cpu: &Cpu, more: u32) -> u32
 
 /// RET, which drops further bytes of the stack.
 #[tactic(auto, unfolding(crate::specs::Branch::return_to))]
-pub fn return_to<M: GuestMem>(more: u32, cpu: &Cpu, mem: &mut M) -> Result<Done, Refusal>
+pub fn return_to<M: GuestMem>(more: u32, cpu: &Cpu, mem: &mut M) -> Result<SysOutcome, Refusal>
     requires { (M.space mem.old).pages ≤ 62 }
     ensures gives { Gives result (M.space mem.new) (return_to more cpu.now (M.space mem.old)) }
     ensures pages { (M.space mem.new).pages ≤ (M.space mem.old).pages + 2 }
@@ -41,7 +41,7 @@ pub fn return_to<M: GuestMem>(more: u32, cpu: &Cpu, mem: &mut M) -> Result<Done,
 
 /// JMP through an operand.
 #[tactic(auto, unfolding(crate::specs::Branch::jump_to))]
-pub fn jump_to<M: GuestMem>(a: &Operand, cpu: &Cpu, mem: &mut M) -> Result<Done, Refusal>
+pub fn jump_to<M: GuestMem>(a: &Operand, cpu: &Cpu, mem: &mut M) -> Result<SysOutcome, Refusal>
     requires { (M.space mem.old).pages ≤ 62 }
     ensures gives { Gives result (M.space mem.new) (jump_to a.now cpu.now (M.space mem.old)) }
     ensures pages { (M.space mem.new).pages ≤ (M.space mem.old).pages + 2 }
@@ -70,7 +70,7 @@ fn call_through<M: GuestMem>(a: &Address, len: u8, cpu: &Cpu, mem: &mut M) -> Re
 
 /// CALL through an operand.
 #[tactic(auto, unfolding(crate::specs::Branch::call_to))]
-pub fn call_to<M: GuestMem>(a: &Operand, len: u8, cpu: &Cpu, mem: &mut M) -> Result<Done, Refusal>
+pub fn call_to<M: GuestMem>(a: &Operand, len: u8, cpu: &Cpu, mem: &mut M) -> Result<SysOutcome, Refusal>
     requires { (M.space mem.old).pages ≤ 60 }
     ensures gives { Gives result (M.space mem.new) (call_to a.now len cpu.now (M.space mem.old)) }
     ensures pages { (M.space mem.new).pages ≤ (M.space mem.old).pages + 4 }

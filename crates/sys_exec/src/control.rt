@@ -6,14 +6,14 @@ ghost use Rattle.paging.specs.Space.{Space};
 ghost use Rattle.sys_exec.specs.Control.{load_control, write_control, control_of, read_control};
 ghost use Rattle.sys_exec.specs.Asked.{GivesAsked};
 
-use crate::effect::{Done, Refusal, SysEffect};
+use crate::effect::{SysOutcome, Refusal, SysEffect};
 use crate::operand::{PROTECTION_0, UNSUPPORTED, next, past, past_with, reg_at};
 use descriptors::Cpu;
 use ia32_types::{Operand, Stop};
 
 /// Loads a control register.
 #[tactic(auto, unfolding(crate::specs::Control::load_control))]
-fn load_control(cpu: &Cpu, number: u8, v: u32) -> Result<Done, Refusal>
+fn load_control(cpu: &Cpu, number: u8, v: u32) -> Result<SysOutcome, Refusal>
     ensures gives { (s : Space) → Gives result s (load_control cpu.now number v s) }
     ensures asked { GivesAsked result }
 {
@@ -50,12 +50,12 @@ fn load_control(cpu: &Cpu, number: u8, v: u32) -> Result<Done, Refusal>
         }
         _ => return Err(UNSUPPORTED),
     };
-    Ok(Done { cpu, effect })
+    Ok(SysOutcome { cpu, effect })
 }
 
 /// MOV to a control register.
 #[tactic(auto, unfolding(crate::specs::Control::write_control))]
-pub fn write_control(a: &Operand, b: &Operand, len: u8, cpu: &Cpu) -> Result<Done, Refusal>
+pub fn write_control(a: &Operand, b: &Operand, len: u8, cpu: &Cpu) -> Result<SysOutcome, Refusal>
     ensures gives { (s : Space) → Gives result s (write_control a.now b.now len cpu.now s) }
     ensures asked { GivesAsked result }
 {
@@ -85,7 +85,7 @@ fn control_of(cpu: &Cpu, number: u8) -> Result<u32, Refusal>
 
 /// MOV from a control register.
 #[tactic(auto, unfolding(crate::specs::Control::read_control))]
-pub fn read_control(a: &Operand, b: &Operand, len: u8, cpu: &Cpu) -> Result<Done, Refusal>
+pub fn read_control(a: &Operand, b: &Operand, len: u8, cpu: &Cpu) -> Result<SysOutcome, Refusal>
     ensures gives { (s : Space) → Gives result s (read_control a.now b.now len cpu.now s) }
     ensures asked { GivesAsked result }
 {

@@ -7,7 +7,7 @@ ghost use Rattle.sys_exec.specs.Asked.{IsAsked, GivesAsked};
 
 use crate::branch::{call_to, jump_to, return_to};
 use crate::control::{read_control, write_control};
-use crate::effect::{Done, Refusal, SysEffect};
+use crate::effect::{SysOutcome, Refusal, SysEffect};
 use crate::flags::{clear_interrupts, halt, pop_flags, push_flags, set_interrupts};
 use crate::iret::interrupt_return;
 use crate::moves::{far_jump, load_seg, pop_seg, push_seg, read_seg};
@@ -19,7 +19,7 @@ use ia32_types::{Insn, Op};
 use paging::GuestMem;
 
 #[tactic(auto, unfolding(crate::specs::Sys::sys_work))]
-fn done<M: GuestMem>(insn: &Insn, len: u8, cpu: &Cpu, mem: &mut M) -> Result<Done, Refusal>
+fn done<M: GuestMem>(insn: &Insn, len: u8, cpu: &Cpu, mem: &mut M) -> Result<SysOutcome, Refusal>
     requires { (M.space mem.old).pages ≤ 48 }
     ensures gives { Gives result (M.space mem.new) (sys_work insn.now len cpu.now (M.space mem.old)) }
     ensures pages { (M.space mem.new).pages ≤ (M.space mem.old).pages + 16 }

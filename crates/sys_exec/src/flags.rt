@@ -6,7 +6,7 @@ ghost use Rattle.paging.specs.Space.{Space};
 ghost use Rattle.sys_exec.specs.Flags.{with_flags, clear_interrupts, set_interrupts, halt, push_flags, pop_flags};
 ghost use Rattle.sys_exec.specs.Asked.{GivesAsked};
 
-use crate::effect::{Done, Refusal, SysEffect};
+use crate::effect::{SysOutcome, Refusal, SysEffect};
 use crate::iret::{is_within, keeps_flags, new_flags};
 use crate::operand::{PROTECTION_0, next, past, past_pop, past_push, pull, push};
 use descriptors::Cpu;
@@ -23,7 +23,7 @@ fn with_flags(cpu: Cpu, flags: Flags) -> Cpu
 
 /// CLI.
 #[tactic(auto, unfolding(crate::specs::Flags::clear_interrupts))]
-pub fn clear_interrupts(len: u8, cpu: &Cpu) -> Result<Done, Refusal>
+pub fn clear_interrupts(len: u8, cpu: &Cpu) -> Result<SysOutcome, Refusal>
     ensures gives { (s : Space) → Gives result s (clear_interrupts len cpu.now s) }
     ensures asked { GivesAsked result }
 {
@@ -36,7 +36,7 @@ pub fn clear_interrupts(len: u8, cpu: &Cpu) -> Result<Done, Refusal>
 
 /// STI.
 #[tactic(auto, unfolding(crate::specs::Flags::set_interrupts))]
-pub fn set_interrupts(len: u8, cpu: &Cpu) -> Result<Done, Refusal>
+pub fn set_interrupts(len: u8, cpu: &Cpu) -> Result<SysOutcome, Refusal>
     ensures gives { (s : Space) → Gives result s (set_interrupts len cpu.now s) }
     ensures asked { GivesAsked result }
 {
@@ -53,14 +53,14 @@ pub fn set_interrupts(len: u8, cpu: &Cpu) -> Result<Done, Refusal>
 
 /// HLT.
 #[tactic(auto, unfolding(crate::specs::Flags::halt))]
-pub fn halt(len: u8, cpu: &Cpu) -> Result<Done, Refusal>
+pub fn halt(len: u8, cpu: &Cpu) -> Result<SysOutcome, Refusal>
     ensures gives { (s : Space) → Gives result s (halt len cpu.now s) }
     ensures asked { GivesAsked result }
 {
     if cpu.cpl != 0 {
         return Err(PROTECTION_0);
     }
-    Ok(Done {
+    Ok(SysOutcome {
         cpu: Cpu {
             halted: true,
             ..past(cpu, len)
@@ -71,7 +71,7 @@ pub fn halt(len: u8, cpu: &Cpu) -> Result<Done, Refusal>
 
 /// PUSHF.
 #[tactic(auto, unfolding(crate::specs::Flags::push_flags))]
-pub fn push_flags<M: GuestMem>(len: u8, cpu: &Cpu, mem: &mut M) -> Result<Done, Refusal>
+pub fn push_flags<M: GuestMem>(len: u8, cpu: &Cpu, mem: &mut M) -> Result<SysOutcome, Refusal>
     requires { (M.space mem.old).pages ≤ 62 }
     ensures gives { Gives result (M.space mem.new) (push_flags len cpu.now (M.space mem.old)) }
     ensures pages { (M.space mem.new).pages ≤ (M.space mem.old).pages + 2 }
@@ -84,7 +84,7 @@ pub fn push_flags<M: GuestMem>(len: u8, cpu: &Cpu, mem: &mut M) -> Result<Done, 
 
 /// POPF.
 #[tactic(auto, unfolding(crate::specs::Flags::pop_flags))]
-pub fn pop_flags<M: GuestMem>(len: u8, cpu: &Cpu, mem: &mut M) -> Result<Done, Refusal>
+pub fn pop_flags<M: GuestMem>(len: u8, cpu: &Cpu, mem: &mut M) -> Result<SysOutcome, Refusal>
     requires { (M.space mem.old).pages ≤ 62 }
     ensures gives { Gives result (M.space mem.new) (pop_flags len cpu.now (M.space mem.old)) }
     ensures pages { (M.space mem.new).pages ≤ (M.space mem.old).pages + 2 }

@@ -5,7 +5,7 @@ ghost use Rattle.paging.specs.Work.{Gives};
 ghost use Rattle.sys_exec.specs.Move.{selector_kept, read_seg, load_by, load_seg, push_seg, pop_seg, far_jump};
 ghost use Rattle.sys_exec.specs.Asked.{GivesAsked};
 
-use crate::effect::{Done, Refusal};
+use crate::effect::{SysOutcome, Refusal};
 use crate::operand::{
     UNSUPPORTED, gone_to, next, past, past_pop, past_push, past_with, pull, push, reach_operand,
     selector, selector_in,
@@ -24,7 +24,7 @@ fn keep_selector<M: GuestMem>(
     mem: &mut M,
     sel: u16,
     into: &Operand,
-) -> Result<Done, Refusal>
+) -> Result<SysOutcome, Refusal>
     requires { (M.space mem.old).pages ≤ 62 }
     ensures gives { Gives result (M.space mem.new) (selector_kept len cpu.now sel into.now (M.space mem.old)) }
     ensures pages { (M.space mem.new).pages ≤ (M.space mem.old).pages + 2 }
@@ -46,7 +46,7 @@ fn keep_selector<M: GuestMem>(
 
 /// MOV from a segment register.
 #[tactic(auto, unfolding(crate::specs::Move::read_seg))]
-pub fn read_seg<M: GuestMem>(insn: &Insn, len: u8, cpu: &Cpu, mem: &mut M) -> Result<Done, Refusal>
+pub fn read_seg<M: GuestMem>(insn: &Insn, len: u8, cpu: &Cpu, mem: &mut M) -> Result<SysOutcome, Refusal>
     requires { (M.space mem.old).pages ≤ 62 }
     ensures gives { Gives result (M.space mem.new) (read_seg insn.now insn.now.b len cpu.now (M.space mem.old)) }
     ensures pages { (M.space mem.new).pages ≤ (M.space mem.old).pages + 2 }
@@ -70,7 +70,7 @@ fn load_by<M: GuestMem>(
     mem: &mut M,
     sel: u16,
     seg: Seg,
-) -> Result<Done, Refusal>
+) -> Result<SysOutcome, Refusal>
     requires { (M.space mem.old).pages ≤ 58 }
     ensures gives { Gives result (M.space mem.new) (load_by after cpu.now sel seg (M.space mem.old)) }
     ensures pages { (M.space mem.new).pages ≤ (M.space mem.old).pages + 4 }
@@ -94,7 +94,7 @@ fn load_by<M: GuestMem>(
 
 /// MOV to a segment register.
 #[tactic(auto, unfolding(crate::specs::Move::load_seg))]
-pub fn load_seg<M: GuestMem>(insn: &Insn, len: u8, cpu: &Cpu, mem: &mut M) -> Result<Done, Refusal>
+pub fn load_seg<M: GuestMem>(insn: &Insn, len: u8, cpu: &Cpu, mem: &mut M) -> Result<SysOutcome, Refusal>
     requires { (M.space mem.old).pages ≤ 56 }
     ensures gives { Gives result (M.space mem.new) (load_seg insn.now insn.now.a len cpu.now (M.space mem.old)) }
     ensures pages { (M.space mem.new).pages ≤ (M.space mem.old).pages + 6 }
@@ -115,7 +115,7 @@ pub fn load_seg<M: GuestMem>(insn: &Insn, len: u8, cpu: &Cpu, mem: &mut M) -> Re
 
 /// PUSH of a segment register.
 #[tactic(auto, unfolding(crate::specs::Move::push_seg))]
-pub fn push_seg<M: GuestMem>(a: &Operand, len: u8, cpu: &Cpu, mem: &mut M) -> Result<Done, Refusal>
+pub fn push_seg<M: GuestMem>(a: &Operand, len: u8, cpu: &Cpu, mem: &mut M) -> Result<SysOutcome, Refusal>
     requires { (M.space mem.old).pages ≤ 62 }
     ensures gives { Gives result (M.space mem.new) (push_seg a.now len cpu.now (M.space mem.old)) }
     ensures pages { (M.space mem.new).pages ≤ (M.space mem.old).pages + 2 }
@@ -136,7 +136,7 @@ pub fn push_seg<M: GuestMem>(a: &Operand, len: u8, cpu: &Cpu, mem: &mut M) -> Re
 
 /// POP of a segment register.
 #[tactic(auto, unfolding(crate::specs::Move::pop_seg))]
-pub fn pop_seg<M: GuestMem>(a: &Operand, len: u8, cpu: &Cpu, mem: &mut M) -> Result<Done, Refusal>
+pub fn pop_seg<M: GuestMem>(a: &Operand, len: u8, cpu: &Cpu, mem: &mut M) -> Result<SysOutcome, Refusal>
     requires { (M.space mem.old).pages ≤ 56 }
     ensures gives { Gives result (M.space mem.new) (pop_seg a.now len cpu.now (M.space mem.old)) }
     ensures pages { (M.space mem.new).pages ≤ (M.space mem.old).pages + 6 }
@@ -157,7 +157,7 @@ pub fn pop_seg<M: GuestMem>(a: &Operand, len: u8, cpu: &Cpu, mem: &mut M) -> Res
 
 /// JMP to another segment.
 #[tactic(auto, unfolding(crate::specs::Move::far_jump))]
-pub fn far_jump<M: GuestMem>(insn: &Insn, cpu: &Cpu, mem: &mut M) -> Result<Done, Refusal>
+pub fn far_jump<M: GuestMem>(insn: &Insn, cpu: &Cpu, mem: &mut M) -> Result<SysOutcome, Refusal>
     requires { (M.space mem.old).pages ≤ 60 }
     ensures gives { Gives result (M.space mem.new) (far_jump insn.now cpu.now (M.space mem.old)) }
     ensures pages { (M.space mem.new).pages ≤ (M.space mem.old).pages + 4 }

@@ -3,12 +3,12 @@
 ghost use Rattle.std.specs.Prelude.{◌≡◌, ◌+◌, ◌*◌, ◌%◌, ◌≤◌, ◌<◌, ◌^◌, OnOk};
 ghost use Rattle.paging.specs.Work.{Gives};
 ghost use Rattle.paging.specs.Space.{IsReach};
-ghost use Rattle.ia32_exec.specs.Registers.{address_of, with_whole, passed};
+ghost use Rattle.ia32_exec.specs.Registers.{address_of, with_whole, eip_past};
 ghost use Rattle.ia32_exec.specs.Ranges.{segment_of};
 ghost use Rattle.ia32_exec.specs.Stack.{esp_below, esp_above};
 ghost use Rattle.sys_exec.specs.Operand.{selector_in, reg_at, operand_reached, selector, long_of, pulled, pushed, by_level, past, past_with, past_push, past_pop, gone_to};
 
-use crate::effect::{Done, Refusal, SysEffect};
+use crate::effect::{SysOutcome, Refusal, SysEffect};
 use descriptors::{Cpu, reach};
 use ia32_exec::{address_of, segment_of};
 use ia32_types::{Address, Operand, Seg, Size, Stop};
@@ -190,10 +190,10 @@ pub fn gone_to(cpu: &Cpu, eip: u32) -> Cpu
     after
 }
 
-pub fn next(cpu: Cpu) -> Done
+pub fn next(cpu: Cpu) -> SysOutcome
     ensures { result ≡ record { cpu = cpu; effect = SysEffect.Next } }
 {
-    Done {
+    SysOutcome {
         cpu,
         effect: SysEffect::Next,
     }

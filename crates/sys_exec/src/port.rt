@@ -6,7 +6,7 @@ ghost use Rattle.paging.specs.Space.{Space};
 ghost use Rattle.sys_exec.specs.Port.{is_wide, port_of, port_in, port_out};
 ghost use Rattle.sys_exec.specs.Asked.{GivesAsked};
 
-use crate::effect::{Done, Refusal, SysEffect};
+use crate::effect::{SysOutcome, Refusal, SysEffect};
 use crate::iret::is_within;
 use crate::operand::{PROTECTION_0, past, reg_at};
 use descriptors::Cpu;
@@ -31,14 +31,14 @@ fn port_of(insn: &Insn, cpu: &Cpu) -> u16
 
 /// IN.
 #[tactic(auto, unfolding(crate::specs::Port::port_in))]
-pub fn port_in(insn: &Insn, len: u8, cpu: &Cpu) -> Result<Done, Refusal>
+pub fn port_in(insn: &Insn, len: u8, cpu: &Cpu) -> Result<SysOutcome, Refusal>
     ensures gives { (s : Space) → Gives result s (port_in insn.now len cpu.now s) }
     ensures asked { GivesAsked result }
 {
     if !is_within(cpu) {
         return Err(PROTECTION_0);
     }
-    Ok(Done {
+    Ok(SysOutcome {
         cpu: past(cpu, len),
         effect: SysEffect::PortIn {
             port: port_of(insn, cpu),
@@ -61,7 +61,7 @@ fn value_out(wide: bool, eax: u32) -> u32
 
 /// OUT.
 #[tactic(auto, unfolding(crate::specs::Port::port_out))]
-pub fn port_out(insn: &Insn, len: u8, cpu: &Cpu) -> Result<Done, Refusal>
+pub fn port_out(insn: &Insn, len: u8, cpu: &Cpu) -> Result<SysOutcome, Refusal>
     ensures gives { (s : Space) → Gives result s (port_out insn.now len cpu.now s) }
     ensures asked { GivesAsked result }
 {
@@ -69,7 +69,7 @@ pub fn port_out(insn: &Insn, len: u8, cpu: &Cpu) -> Result<Done, Refusal>
         return Err(PROTECTION_0);
     }
     let wide = is_wide(insn.size);
-    Ok(Done {
+    Ok(SysOutcome {
         cpu: past(cpu, len),
         effect: SysEffect::PortOut {
             port: port_of(insn, cpu),

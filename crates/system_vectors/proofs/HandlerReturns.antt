@@ -16,7 +16,7 @@ use Rattle.descriptors.specs.Segments.{seg_of}
 use Rattle.event_entry.specs.Deliver.{code_len, outer_len, stack_of, inner_stack, push_frame, entered, delivered}
 use Rattle.sys_exec.specs.declared.effect.Refusal.{Refusal}
 use Rattle.sys_exec.specs.declared.effect.Loading.{Loading}
-use Rattle.sys_exec.specs.declared.effect.Done.{Done}
+use Rattle.sys_exec.specs.declared.effect.SysOutcome.{SysOutcome}
 use Rattle.sys_exec.specs.Operand.{next}
 use Rattle.sys_exec.specs.Sys.{row, returned_by, sys_work}
 use Rattle.sys_exec.specs.Iret.{keeps_flags, popped, popped_outer, top_of, returned, kept_segment, outer_segments, return_same, return_outer, interrupt_return}
@@ -291,8 +291,8 @@ resumes cpu vector kind code handler iret len done s t u v int delivered_is find
     (sym is.is) (came_back cpu code is.entry is.stack a.value.0 u a.value.1 int is.from) finds a.is in
     sym last ∙ back
   where
-    inside : (x y : Done × Space) (o : Outcome Refusal Done) → o ≡ Ok x → o ≡ Ok y → x ≡ y
+    inside : (x y : SysOutcome × Space) (o : Outcome Refusal SysOutcome) → o ≡ Ok x → o ≡ Ok y → x ≡ y
     inside x y o d e = cc
 
-    cpu_of : (x : Cpu) (done : Done) (s v : Space) → next x s ≡ Ok (done, v) → x ≡ done.cpu
-    cpu_of x done s v e = ap (λ (z : Done × Space). z.0.cpu) (inside _ _ (next x s) refl e)
+    cpu_of : (x : Cpu) (done : SysOutcome) (s v : Space) → next x s ≡ Ok (done, v) → x ≡ done.cpu
+    cpu_of x done s v e = ap (λ (z : SysOutcome × Space). z.0.cpu) (inside _ _ (next x s) refl e)

@@ -9,7 +9,7 @@ use Rattle.descriptors.specs.declared.cpu.Hidden.{Hidden}
 use Rattle.event_entry.specs.declared.refusal.Kind.{Kind}
 use Rattle.descriptors.specs.Segments.{seg_of}
 use Rattle.event_entry.specs.Deliver.{code_len, delivered}
-use Rattle.sys_exec.specs.declared.effect.Done.{Done}
+use Rattle.sys_exec.specs.declared.effect.SysOutcome.{SysOutcome}
 use Rattle.sys_exec.specs.declared.effect.Loading.{Loading}
 use Rattle.sys_exec.specs.declared.iret.Popped.{Popped}
 use Rattle.sys_exec.specs.declared.iret.Outer.{Outer}
@@ -65,7 +65,7 @@ resumed cpu = record cpu { seg = segments_after cpu; halted = false }
 -- Whatever event is delivered, an IRET that pops what was pushed, and is done, leaves this processor.
 abbrev pub ResumesAs : Cpu → Cpu → Type 0
 ResumesAs cpu after =
-    (vector : ℕ) (kind : Kind) (code : Option ℕ) (handler : Cpu) (iret : Insn) (len : ℕ) (done : Done) (s t u v : Space) →
+    (vector : ℕ) (kind : Kind) (code : Option ℕ) (handler : Cpu) (iret : Insn) (len : ℕ) (done : SysOutcome) (s t u v : Space) →
     IsInterrupted cpu →
     delivered cpu vector kind code s ≡ Ok (handler, t) →
     FindsFrame cpu (at_return code handler) u →

@@ -18,7 +18,7 @@ use Rattle.step_mem.specs.Shown.{beyond}
 use Rattle.step_mem.specs.Sound.{IsSound}
 use Rattle.step_mem.specs.declared.state.StepState as kept_state
 use Rattle.machine_model.specs.State.{wedge}
-use Rattle.native_steps.specs.Stands.{shown}
+use Rattle.native_steps.specs.Mirrors.{shown}
 use Rattle.wedge_mem.specs.Settled.{pages_of}
 use Rattle.wedge_core.specs.Closed.{MayClose, Closes}
 use Rattle.wedge_core.specs.Pools.{Keeps}

@@ -3,7 +3,8 @@ use Rattle.std.proofs.Common.{◌≡◌, ℕ, List, Bool, false, refl, sym, ap}
 use Rattle.machine_step.specs.declared.worked.Seen.TheVariants.{Nothing}
 use Rattle.machine_model.specs.State.{Setting, State}
 use Rattle.machine_model.specs.Step.{Report, Went, stepped}
-use Rattle.wedge_core.specs.Parts.{left_of, with_set}
+use Rattle.wedge_core.specs.Parts.{left_of}
+use Rattle.machine_model.specs.Run.{with_set}
 use Rattle.wedge_core.specs.Slices.{Counts}
 use Rattle.wedge_core.specs.Stepping.{Goes, Once}
 use Rattle.wedge_core.specs.declared.running.Lost.{Lost}

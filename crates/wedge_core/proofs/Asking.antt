@@ -39,7 +39,7 @@ use Rattle.native_steps.specs.Forward.{wp_of, IsNext}
 use Rattle.native_steps.specs.Granted.{IsGranted, IsRangeGranted, AreGranted, Leaves, Grants}
 use Rattle.native_steps.specs.Lends.{Lends, IsOpen}
 use Rattle.native_steps.specs.Native.{effect_of}
-use Rattle.native_steps.specs.Stands.{IsWedge, Sees, Stands}
+use Rattle.native_steps.specs.Mirrors.{IsWedge, Sees, Mirrors}
 use Rattle.native_steps.proofs.Fetching.{IsFetch, IsIn, IsPast, fetch_parts, by_parts, fetching_went}
 use Rattle.native_steps.proofs.Short.{ranges_short}
 use Rattle.native_steps.proofs.Uses.{went_by}
@@ -231,7 +231,7 @@ module _ (grants : Grants) (repeats : Again) (completes : NativeCompletes) (m : 
         (beyond : (page : ℕ) → 2 ^ 20 ≤ page → get t.set page ≡ None)
         (host : (page : ℕ) (write : Bool) → page < 2 ^ 20 → reached memory (length memory / 4096) (directory (side_of (b.cpu.cpl == 3))) page write ≡ lent (length memory / 4096) (new page) (side_of (b.cpu.cpl == 3)) write)
         (within : (page : ℕ) (entry : Entry) → get t.set page ≡ Some entry → entry.frame < length memory / 4096)
-        (stands : Stands m memory (view_by directory b.cpu) (settled b t)) (lends : Lends m memory (directory (side_of (b.cpu.cpl == 3))) (not (b.cpu.cpl == 3)) (wp_of b) t.set)
+        (stands : Mirrors m memory (view_by directory b.cpu) (settled b t)) (lends : Lends m memory (directory (side_of (b.cpu.cpl == 3))) (not (b.cpu.cpl == 3)) (wp_of b) t.set)
       where
         reached_all : AreReached memory (directory (side_of (b.cpu.cpl == 3))) p.after_fetch.visited (ranges_of p.insn b.cpu.regs)
         reached_all =

@@ -3,9 +3,9 @@ use Rattle.std.proofs.Common.{◌≡◌, ℕ, List, Bool, false, Result, Ok, Err
 use Rattle.ia32_types.specs.declared.stop.Stop.{Stop}
 use Rattle.host_cpl3.specs.declared.view.View.{View}
 use Rattle.machine_model.specs.State.{Setting, State}
-use Rattle.machine_model.specs.Run.{Set}
+use Rattle.machine_model.specs.Run.{Set, with_set}
 use Rattle.wedge_core.specs.Attempts.{AttemptAs}
-use Rattle.wedge_core.specs.Parts.{left_of, with_set}
+use Rattle.wedge_core.specs.Parts.{left_of}
 use Rattle.wedge_core.specs.declared.running.Lost.{Lost}
 use Rattle.wedge_core.specs.declared.native.Attempt.{Attempt}
 use Rattle.wedge_core.specs.declared.native.Attempt.TheVariants as attempt

@@ -18,7 +18,7 @@ use Rattle.machine_model.specs.Run.{Set}
 use Rattle.machine_model.specs.State.{Setting}
 use Rattle.machine_model.proofs.FoundStill.{found_still}
 use Rattle.machine_model.proofs.MoreFlags.{flags_by}
-use Rattle.native_steps.specs.Stands.{shown}
+use Rattle.native_steps.specs.Mirrors.{shown}
 use Rattle.wedge_mem.specs.Told.{guest_frames, read_by}
 use Rattle.wedge_core.specs.Ready.{IsReadyAside, AreReady, AreReadyBehind, IsReady, IsReadyBehind}
 use Rattle.wedge_core.proofs.Bools.{none_some}

@@ -12,18 +12,18 @@ use Rattle.shadow_tables.specs.Aside.{Aside, AreSame}
 use Rattle.shadow_tables.specs.Entries.{entries_of}
 use Rattle.shadow_tables.specs.Slots.{Slot}
 use Rattle.machine_model.specs.State.{Setting, State, wedge}
-use Rattle.machine_model.specs.Run.{Set}
+use Rattle.machine_model.specs.Run.{Set, with_set}
 use Rattle.machine_model.specs.Taken.{Taken}
 use Rattle.machine_model.specs.Clash.{clashes_from}
 use Rattle.machine_model.specs.Keeping.{Roomy}
-use Rattle.native_steps.specs.Stands.{shown}
+use Rattle.native_steps.specs.Mirrors.{shown}
 use Rattle.native_steps.proofs.Shown.{shown_length}
 use Rattle.kept_laws.specs.Carried.{indices_in}
 use Rattle.kept_laws.specs.Known.{IsKnown}
 use Rattle.wedge_core.specs.declared.running.Running.{Running}
 use Rattle.wedge_core.specs.Carried.{IsCarried, IsTakenFrom}
 use Rattle.wedge_core.specs.CarryLaws.{CarryLaws}
-use Rattle.wedge_core.specs.Parts.{left_of, with_set}
+use Rattle.wedge_core.specs.Parts.{left_of}
 use Rattle.wedge_core.specs.Pools.{Keeps}
 use Rattle.wedge_core.specs.Standing.{IsHeld, ground, set_of, state_of}
 use Rattle.wedge_core.proofs.Going.{StepCarries, eventful}

@@ -16,7 +16,8 @@ use Rattle.machine_model.specs.Counts.{direct_in, direct_addresses, passed_on}
 use Rattle.machine_model.specs.Step.{Completed, Report, Went, interrupt_of, stepped}
 use Rattle.machine_model.specs.Alone.{StepsAreDone, WaitsCountNothing, SitesCountNothing}
 use Rattle.wedge_core.specs.AloneLaws.{AlonesGo}
-use Rattle.wedge_core.specs.Parts.{left_of, with_set}
+use Rattle.wedge_core.specs.Parts.{left_of}
+use Rattle.machine_model.specs.Run.{with_set}
 use Rattle.wedge_core.specs.Slices.{Counts, CountsOn}
 use Rattle.wedge_core.specs.Views.{is_outside, may_run}
 

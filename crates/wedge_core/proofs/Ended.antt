@@ -27,7 +27,7 @@ use Rattle.machine_model.specs.Taken.{Taken, is_load}
 use Rattle.machine_model.specs.UsedPages.{Uses, LeadWell, may_use}
 use Rattle.machine_step.specs.declared.worked.Worked.{Worked}
 use Rattle.machine_step.specs.Worked.{went_as}
-use Rattle.native_steps.specs.Stands.{shown}
+use Rattle.native_steps.specs.Mirrors.{shown}
 use Rattle.kept_laws.specs.Carried.{IndicesGrow, indices_in}
 use Rattle.kept_laws.specs.Known.{IsKnown, IsOfPages, KnownOn, KnownStill}
 use Rattle.kept_laws.specs.OverSteps.{SettlingTells, DroppedComesFrom}

@@ -6,7 +6,7 @@ use Rattle.std.proofs.lemmas.List.{append-nil}
 use Rattle.std.proofs.lemmas.List.Elements.{All-nil, All-cons, All-head, All-tail, All-append, All-replicate, All-weaker}
 use Rattle.pv_io.specs.declared.answer.Failed.{Failed}
 use Rattle.pv_io.specs.Sink.{Appends, AppendsFront}
-use Rattle.image_load.specs.declared.fault.Pause.TheVariants.{Reached, Stopped}
+use Rattle.run_trace.specs.declared.pause.Pause.TheVariants.{Reached, Stopped}
 use Rattle.board.specs.declared.devices.Board.{Board}
 use Rattle.board.specs.Boards.{given}
 use Rattle.ia32_types.specs.declared.stop.Stop.{Stop}
@@ -16,8 +16,8 @@ use Rattle.run_trace.specs.declared.items.Item.{Item}
 use Rattle.run_trace.specs.Notes.{Note}
 use Rattle.run_trace.specs.Text.{lines_of}
 use Rattle.machine_model.specs.State.{Setting, State, Loosened}
-use Rattle.machine_model.specs.Step.{Report, Stands, stepped, step_of, items_at}
-use Rattle.machine_model.specs.Run.{Set, Steps, trace_of}
+use Rattle.machine_model.specs.Step.{Report, Halts, stepped, step_of, items_at}
+use Rattle.machine_model.specs.Run.{Set, Steps, trace_of, with_set}
 use Rattle.machine_model.specs.Taken.{Taken, steps_by}
 use Rattle.machine_model.specs.Clash.{clashes_from}
 use Rattle.machine_model.specs.Keeping.{Roomy, Kept}
@@ -28,9 +28,9 @@ use Rattle.wedge_core.specs.Carried.{IsTakenFrom}
 use Rattle.wedge_core.specs.CarryLaws.{CarryLaws}
 use Rattle.wedge_core.specs.Filled.{FillsOn}
 use Rattle.wedge_core.specs.Noted.{NotesOn, emptied_if, notes_then}
-use Rattle.wedge_core.specs.Parts.{IsPartOf, left_of, with_set}
+use Rattle.wedge_core.specs.Parts.{IsPartOf, left_of}
 use Rattle.wedge_core.specs.Slices.{Counts, CountsOn, SliceAs}
-use Rattle.wedge_core.specs.Stepping.{Goes, Halts, Passes, StepAs}
+use Rattle.wedge_core.specs.Stepping.{Goes, StepHalts, Passes, StepAs}
 use Rattle.wedge_core.specs.declared.running.Lost.{Lost}
 use Rattle.wedge_core.proofs.Parts.{part_left, part_same, part_allowed, part_loosened}
 use Rattle.wedge_core.proofs.Joined.{steps_join, no_steps, steps_one, trace_join, counts_join, counts_none}
@@ -400,7 +400,7 @@ reached m bound old now a b told tells pages fills filled wanted notes_on begins
 
 -- the next step stops
 pub stopped : (m : Setting) (bound : ℕ) (old now new : State) (lost : Lost) (stop : Stop) (a b : Counts) (told tells : Option (List ℕ)) (pages fills mid filled : ℕ) (wanted : Bool) (notes_on notes_after : List Note → Type 0) (begins : Type 0) (carried : Set → List Taken → State → Type 0)
-    → Going m old now a b told tells pages fills mid wanted notes_on begins carried → Halts m (eventful m now) lost stop → now.step < bound → new.step ≡ now.step → mid ≤ filled
+    → Going m old now a b told tells pages fills mid wanted notes_on begins carried → StepHalts m (eventful m now) lost stop → now.step < bound → new.step ≡ now.step → mid ≤ filled
     → ((notes : List Note) → notes_on notes → notes_after (notes ++ emptied_if lost.before now.step)) → SliceAs m bound old new a b told tells pages fills filled wanted notes_after begins (Ok (Stopped stop))
 stopped m bound old now new lost stop a b told tells pages fills mid filled wanted notes_on notes_after begins carried g h lt still rises on =
     let set = left_of lost.before now.set in
@@ -420,7 +420,7 @@ stopped m bound old now new lost stop a b told tells pages fills mid filled want
       noted = λ w. record {
         told = are_told m old g.sets notes (by_then m old now a b told tells pages fills mid wanted notes_on begins carried g lost.before w);
         are = are_notes m old g.sets now.step notes (tried m old now a b told tells pages fills mid wanted notes_on begins carried g lost.before);
-        ends = subst (λ (x : Set). step_of m (with_set now g.whole) x ≡ Stands stop) (told_set w) stands;
+        ends = subst (λ (x : Set). step_of m (with_set now g.whole) x ≡ Halts stop) (told_set w) stands;
       };
       tells_notes = on g.notes g.tells_notes;
       each_filled = filled_push pages fills filled g.sets set (filled_later pages fills mid filled g.sets rises g.each_filled)

@@ -7,14 +7,14 @@ use Rattle.frame_pool.proofs.Lengths.{times-within}
 use Rattle.board.specs.Scripts.{Events}
 use Rattle.pv_io.specs.declared.answer.Failed.{Failed}
 use Rattle.image_check.specs.Image.{Image}
-use Rattle.image_load.specs.declared.fault.Pause.{Pause}
+use Rattle.run_trace.specs.declared.pause.Pause.{Pause}
 use Rattle.image_load.specs.declared.fault.StartFault.{StartFault}
 use Rattle.shadow_cache.specs.Views as roots
 use Rattle.machine_model.specs.State.{wedge}
-use Rattle.native_steps.specs.Stands.{shown}
+use Rattle.native_steps.specs.Mirrors.{shown}
 use Rattle.wedge_core.specs.Filled.{FillsOn, IsFilled, pages_kept}
 use Rattle.wedge_core.specs.Promises.{with_patches}
-use Rattle.wedge_core.specs.Slices.{GoesOn}
+use Rattle.run_trace.specs.Pauses.{IfReached}
 use Rattle.wedge_core.specs.Standing.{IsHeld, ground}
 use Rattle.wedge_core.specs.declared.guest.Guest.{Guest}
 use Rattle.wedge_core.specs.declared.running.Running.{Running}
@@ -50,7 +50,7 @@ still_filled old new before after f h = let e = f.enough in omega (arith, e, h)
 
 -- the host's first frames, where a slice has done its steps
 pub front_after : (result : Result Pause Failed) (image : Image) (script : Events) (frames : ℕ) (g : Running Rattle.shadow_cache.specs.declared.roots.Roots.Roots) (pool : Pool) (memory : List ℕ)
-    → GoesOn result (IsHeld roots.stands roots.frames roots.slots (ground image frames) g pool memory) → GoesOn result (take (4096 * frames) memory ≡ with_patches image (shown (wedge image script frames) memory))
+    → IfReached result (IsHeld roots.stands roots.frames roots.slots (ground image frames) g pool memory) → IfReached result (take (4096 * frames) memory ≡ with_patches image (shown (wedge image script frames) memory))
 front_after (Ok pause) image script frames g pool memory h = front_held pause image script frames g pool memory h
 front_after (Err failed) image script frames g pool memory h = tt
 

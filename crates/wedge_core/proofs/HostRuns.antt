@@ -11,8 +11,8 @@ use Rattle.ia32_types.specs.declared.flags.Regs.{Regs}
 use Rattle.host_cpl3.specs.declared.view.View.{View}
 use Rattle.host_cpl3.specs.declared.exit.Exit.{Exit}
 use Rattle.host_cpl3.specs.declared.exit.Exit.TheVariants as exits
-use Rattle.host_cpl3.specs.declared.exit.Done.{Done}
-use Rattle.host_cpl3.specs.declared.exit.Done.TheVariants.{Completed, Entered}
+use Rattle.host_cpl3.specs.declared.exit.Completion.{Completion}
+use Rattle.host_cpl3.specs.declared.exit.Completion.TheVariants.{Completed, Entered}
 use Rattle.host_cpl3.specs.Met.{Met}
 use Rattle.host_cpl3.specs.Views.{is_window, is_entry}
 use Rattle.host_cpl3.specs.HostStep.{host_step}
@@ -56,7 +56,7 @@ module _ (enters : EntersTheWindow) (leaves : ExitsInTheWindow) where
   by_exit v memory r exits.Wrap e = tt
   by_exit v memory r exits.Budget e = tt
 
-  by_met : (v : View) (last : Standing) (exit : Exit) (t : Standing) (met : Met (Done × List ℕ)) → host_step v last.ram last.regs ≡ met → Leaves met last exit t → LeadsLow exit
+  by_met : (v : View) (last : Standing) (exit : Exit) (t : Standing) (met : Met (Completion × List ℕ)) → host_step v last.ram last.regs ≡ met → Leaves met last exit t → LeadsLow exit
   by_met v last exit t (Ok (Completed regs, ram)) e l = absurd l
   by_met v last exit t (Ok (Entered regs, ram)) e l = subst LeadsLow (sym l.0) (below v regs.eip (enters v last.ram last.regs regs ram e))
   by_met v last exit t (Err x) e l = subst LeadsLow (sym l.0) (by_exit v last.ram last.regs x e)

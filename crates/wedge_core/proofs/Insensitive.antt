@@ -22,7 +22,7 @@ use Rattle.image_check.specs.Image.{Image}
 use Rattle.image_check.specs.Places.{site_at, StandsOutside}
 use Rattle.machine_model.specs.State.{Setting, State, wedge_mode, space_at_start}
 use Rattle.machine_model.specs.Instruction.{next_page, fetching, fetched}
-use Rattle.native_steps.specs.Stands.{IsWedge, IsHost, shown}
+use Rattle.native_steps.specs.Mirrors.{IsWedge, IsHost, shown}
 use Rattle.native_steps.specs.Forward.{IsNext}
 use Rattle.native_steps.specs.TextLaws.{TextLaws}
 use Rattle.native_steps.specs.Again as again

@@ -21,10 +21,10 @@ use Rattle.step_mem.specs.declared.changes.Change.{Change}
 use Rattle.step_mem.proofs.Changed.{get_with_other}
 use Rattle.wedge_mem.specs.Settled.{pages_of}
 use Rattle.machine_model.specs.Reloading.{IsFoundBy}
-use Rattle.machine_model.specs.Run.{Set}
+use Rattle.machine_model.specs.Run.{Set, with_set}
 use Rattle.machine_model.specs.State.{Setting, State}
 use Rattle.machine_model.specs.Step as steps
-use Rattle.machine_model.specs.Step.{Report, Went, Stands, stepped, step_of}
+use Rattle.machine_model.specs.Step.{Report, Went, Halts, stepped, step_of}
 use Rattle.machine_model.specs.Taken.{Taken, is_load, loads_root}
 use Rattle.machine_step.specs.declared.worked.Dropped.{Dropped}
 use Rattle.machine_step.specs.declared.worked.Dropped.TheVariants as dropped
@@ -36,7 +36,6 @@ use Rattle.kept_laws.specs.OverSteps.{IsTold, SettlingTells, DroppedComesFrom}
 use Rattle.kept_laws.specs.Remembered.{Unwritten, was_read}
 use Rattle.wedge_core.specs.Carried.{IsTakenFrom}
 use Rattle.wedge_core.specs.Leaving.{Tells, RulesSame, Ends}
-use Rattle.wedge_core.specs.Parts.{with_set}
 use Rattle.wedge_core.specs.Ready.{is_all}
 use Rattle.machine_step.specs.Roots.{RootsAs}
 use Rattle.wedge_core.specs.Standing.{wp_of}
@@ -58,11 +57,11 @@ right_false false b e = e
 
 abbrev pub report_in : Report → steps.Result → Report
 report_in other (Went report b) = report
-report_in other (Stands stop) = other
+report_in other (Halts stop) = other
 
 abbrev pub state_in : State → steps.Result → State
 state_in other (Went report b) = b
-state_in other (Stands stop) = other
+state_in other (Halts stop) = other
 
 -- the step of a run is the one that was answered, over this memory
 pub record IsAnswer (t : Taken) (w : Worked) (s : Space) : Type 0 where

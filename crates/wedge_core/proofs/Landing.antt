@@ -19,7 +19,7 @@ use Rattle.host_cpl3.specs.HostRun.{Standing}
 use Rattle.machine_model.specs.State.{Setting, State, wedge}
 use Rattle.machine_model.specs.Step.{Report, interrupt_of}
 use Rattle.machine_model.specs.Run.{Set, Steps}
-use Rattle.native_steps.specs.Stands.{shown}
+use Rattle.native_steps.specs.Mirrors.{shown}
 use Rattle.native_steps.specs.Forward.{IsEntrance}
 use Rattle.native_steps.specs.Stretch.{AreQuiet, board_now, board_after, EndsAs}
 use Rattle.wedge_core.specs.Ran.{landed}

@@ -11,7 +11,7 @@ use Rattle.image_check.specs.Image.{Image}
 use Rattle.image_load.specs.Boot.{text_pages}
 use Rattle.step_mem.specs.Shown.{laid, beyond}
 use Rattle.machine_model.specs.State.{Setting}
-use Rattle.native_steps.specs.Stands.{IsHost, shown}
+use Rattle.native_steps.specs.Mirrors.{IsHost, shown}
 
 append_both : (xs zs ys ws : List ℕ) → length xs ≡ length zs → xs ++ ys ≡ zs ++ ws → (xs ≡ zs) × (ys ≡ ws)
 append_both [] [] ys ws l e = (refl, e)

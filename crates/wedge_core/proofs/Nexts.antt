@@ -24,7 +24,7 @@ use Rattle.machine_model.specs.Run.{Set}
 use Rattle.machine_model.specs.Step.{Went, stepped, fetches_next, items_at, interrupt_of, unheld}
 use Rattle.native_steps.specs.Again as again
 use Rattle.native_steps.specs.Forward.{IsNext}
-use Rattle.native_steps.specs.Stands.{IsWedge, IsHost, IsLevel, shown}
+use Rattle.native_steps.specs.Mirrors.{IsWedge, IsHost, IsLevel, shown}
 use Rattle.native_steps.specs.TextLaws.{TextLaws}
 use Rattle.native_steps.proofs.Together.{stepped_by}
 use Rattle.wedge_core.specs.Attempts.{Idle}

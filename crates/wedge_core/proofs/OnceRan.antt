@@ -28,16 +28,16 @@ use Rattle.machine_model.specs.State.{Setting, State, wedge, wedge_mode}
 use Rattle.machine_model.specs.Able.{StepsKeepAble}
 use Rattle.machine_model.specs.Step.{Report, Went, stepped}
 use Rattle.machine_model.specs.Taken.{Taken, is_load}
-use Rattle.machine_model.specs.Run.{Set}
+use Rattle.machine_model.specs.Run.{Set, with_set}
 use Rattle.machine_model.specs.Counts.{direct_in}
 use Rattle.native_steps.specs.Backward.{Completes}
 use Rattle.native_steps.specs.Forward.{Follows}
 use Rattle.native_steps.specs.Lends.{IsUnlent}
-use Rattle.native_steps.specs.Stands.{IsHost, shown}
+use Rattle.native_steps.specs.Mirrors.{IsHost, shown}
 use Rattle.wedge_core.specs.Attempts.{Asks, Idle}
 use Rattle.wedge_core.specs.Carried.{IsTakenFrom}
 use Rattle.wedge_core.specs.Filled.{FillsOn}
-use Rattle.wedge_core.specs.Parts.{left_of, with_set}
+use Rattle.wedge_core.specs.Parts.{left_of}
 use Rattle.wedge_core.specs.Pools.{Keeps}
 use Rattle.wedge_core.specs.Views.{view_by}
 use Rattle.wedge_core.specs.Ran.{Ran, landed}

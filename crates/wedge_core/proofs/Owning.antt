@@ -7,9 +7,9 @@ use Rattle.frame_pool.specs.Held.{times, Owns}
 use Rattle.frame_pool.proofs.Held.{Owns-sum, Owns-within}
 use Rattle.frame_pool.proofs.Lengths.{hit-self, times-cons, IsNotIn-times}
 use Rattle.pv_io.specs.declared.answer.Failed.{Failed}
-use Rattle.image_load.specs.declared.fault.Pause.{Pause}
+use Rattle.run_trace.specs.declared.pause.Pause.{Pause}
 use Rattle.wedge_core.specs.Pools.{Keeps}
-use Rattle.wedge_core.specs.Slices.{Pauses}
+use Rattle.run_trace.specs.IfPaused.{IfPaused}
 
 distinct_from : (gs : List ℕ) → ((f : ℕ) → times f gs ≤ 1) → AreDistinct gs
 distinct_from [] h = tt
@@ -47,6 +47,6 @@ keeps_owns p p' m m' fs fs' o k =
     }
 
 -- wherever a slice has not failed
-pub owns_after : (result : Result Pause Failed) (p p' : Pool) (m m' fs fs' : List ℕ) → Owns p m fs → Pauses result (Keeps p p' m m' fs fs') → Pauses result (Owns p' m' fs')
+pub owns_after : (result : Result Pause Failed) (p p' : Pool) (m m' fs fs' : List ℕ) → Owns p m fs → IfPaused result (Keeps p p' m m' fs fs') → IfPaused result (Owns p' m' fs')
 owns_after (Ok pause) p p' m m' fs fs' o k = keeps_owns p p' m m' fs fs' o k
 owns_after (Err failed) p p' m m' fs fs' o k = tt

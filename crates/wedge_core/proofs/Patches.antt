@@ -6,7 +6,7 @@ use Rattle.guest_ram.proofs.Bytes.{with_part-with_part, with_part-part}
 use Rattle.sites.specs.declared.site.Site.{Site}
 use Rattle.sites.specs.Patched.{AreInside}
 use Rattle.machine_model.specs.State.{Setting}
-use Rattle.native_steps.specs.Stands.{shown}
+use Rattle.native_steps.specs.Mirrors.{shown}
 
 -- sites of a text that stands in a memory
 pub inside_moved : (len new at : ℕ) (sites : List Site) → at + len ≤ new → AreInside len 0 sites → AreInside new at sites

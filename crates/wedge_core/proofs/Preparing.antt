@@ -28,7 +28,7 @@ use Rattle.paging.specs.Space.{Space, byte_at, place, place_by}
 use Rattle.paging.specs.Work.{Outcome, Work, on_value, unless}
 use Rattle.sys_exec.specs.declared.effect.Refusal.{Refusal}
 use Rattle.sys_exec.specs.declared.effect.Refusal.TheVariants as refusal
-use Rattle.sys_exec.specs.declared.effect.Done.{Done}
+use Rattle.sys_exec.specs.declared.effect.SysOutcome.{SysOutcome}
 use Rattle.sys_exec.specs.Sys.{sys_work}
 use Rattle.step_exec.specs.Plain.{is_denied, is_refused, is_in, reached, byte_by, finished, executed}
 use Rattle.step_exec.specs.Divided.{both_reached, byte_of, completed, divided}
@@ -116,7 +116,7 @@ user_cpu cpu able three =
 
 -- ---- an insensitive instruction
 
-abbrev done_in : Insn → ℕ → Cpu → Work Refusal Done
+abbrev done_in : Insn → ℕ → Cpu → Work Refusal SysOutcome
 done_in insn len cpu s = done_by cpu s (effect_in insn len cpu s)
 
 plainly : (cpu : Cpu) (s : Space) (o : exec.Outcome) → done_plainly (finished cpu s o) ≡ done_by cpu s o
@@ -153,12 +153,12 @@ bytes_same cpu read (Some w) s t e =
     (sym (reaching_earlier s t w.at w.len (record { write = true; user = cpu.cpl == 3 }) e))
 
 module _ (cpu : Cpu) (f : (ℕ → ℕ) → exec.Outcome) where
-  nulls : (a b : Bool) (k : Space → Outcome Refusal Done) (s : Space)
+  nulls : (a b : Bool) (k : Space → Outcome Refusal SysOutcome) (s : Space)
       → on_value (unless (refusal.Raise 13 0) (not a) s) (λ _ t. on_value (unless (refusal.Raise 13 0) (not b) t) (λ _. k)) ≡ on_value (unless (refusal.Raise 13 0) (not (a || b)) s) (λ _. k)
   nulls true b k s = refl
   nulls false b k s = refl
 
-  both_null : (read write : Option Range) (k : Space → Outcome Refusal Done) (s : Space)
+  both_null : (read write : Option Range) (k : Space → Outcome Refusal SysOutcome) (s : Space)
       → on_value (unnull cpu read s) (λ _ t. on_value (unnull cpu write t) (λ _. k)) ≡ on_value (unless (refusal.Raise 13 0) (not (is_denied cpu read || is_denied cpu write)) s) (λ _. k)
   both_null None None k s = nulls false false k s
   both_null None (Some w) k s = nulls false (is_denied cpu (Some w)) k s
@@ -169,7 +169,7 @@ module _ (cpu : Cpu) (f : (ℕ → ℕ) → exec.Outcome) where
   reached_is write None s = refl
   reached_is write (Some r) s = refl
 
-  abbrev ended_by : Option Range → Option Range → Space → Outcome Refusal Done
+  abbrev ended_by : Option Range → Option Range → Space → Outcome Refusal SysOutcome
   ended_by read write t = user_finished cpu (f (byte_of (record { read = read; write = write }) t)) t
 
   by_writes : (read write : Option Range) (s : Space) (o : Outcome Refusal (Unit {0})) → reached cpu true write s ≡ o
@@ -312,6 +312,6 @@ prepared_is b s fetch t insn len fetches native e =
 -- ---- an error that is handed on
 
 pub prepares_err : (m : Setting) (b : State) (insn : Insn) (len : ℕ) (s t : Space) (stop : Stop) (r : Result (Option Worked) Stop) → IsErrAnd r (λ e. e ≡ stop)
-    → by_decoded m b (begins.Insn insn len) s ≡ steps.Stands stop → PreparesAs m b insn len s r t
+    → by_decoded m b (begins.Insn insn len) s ≡ steps.Halts stop → PreparesAs m b insn len s r t
 prepares_err m b insn len s t stop (Ok x) is e = absurd is
-prepares_err m b insn len s t stop (Err d) is e = e ∙ ap steps.Stands (sym is)
+prepares_err m b insn len s t stop (Err d) is e = e ∙ ap steps.Halts (sym is)

@@ -15,7 +15,7 @@ use Rattle.shadow_cache.specs.Reloaded.{put_by, begun, coming, staying}
 use Rattle.machine_model.specs.Reloading.{IsFoundBy}
 use Rattle.machine_model.specs.Run.{Set}
 use Rattle.machine_model.specs.State.{Setting}
-use Rattle.native_steps.specs.Stands.{shown}
+use Rattle.native_steps.specs.Mirrors.{shown}
 use Rattle.wedge_mem.specs.Told.{read_by}
 use Rattle.wedge_core.specs.Filled.{pages_aside, pages_kept}
 use Rattle.wedge_core.specs.Ready.{IsFoundIn, AreFound, IsReadyAside, AreReady, AllOpen, IsReadyBut, IsReady, IsReadyBehind}

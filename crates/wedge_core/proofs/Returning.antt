@@ -17,12 +17,12 @@ use Rattle.machine_step.specs.declared.worked.Dropped.{Dropped}
 use Rattle.machine_step.specs.declared.worked.Dropped.TheVariants as dropped
 use Rattle.machine_step.specs.Worked.{dropping}
 use Rattle.machine_model.specs.Reloading.{IsFoundBy}
-use Rattle.machine_model.specs.Run.{Set}
+use Rattle.machine_model.specs.Run.{Set, with_set}
 use Rattle.machine_model.specs.State.{Setting, State, Loosened}
-use Rattle.native_steps.specs.Stands.{shown}
+use Rattle.native_steps.specs.Mirrors.{shown}
 use Rattle.native_steps.proofs.Walks.{IsWalk, ByTable, Large, walk_parts}
 use Rattle.wedge_core.specs.Filled.{pages_aside}
-use Rattle.wedge_core.specs.Parts.{IsPartOf, IsLeft, left_of, with_set}
+use Rattle.wedge_core.specs.Parts.{IsPartOf, IsLeft, left_of}
 use Rattle.wedge_core.specs.Ready.{AreFound, IsReady, IsReadyBut, is_all, leaving, left_out}
 use Rattle.wedge_core.specs.Standing.{wp_of}
 use Rattle.wedge_core.specs.declared.running.Lost.{Lost}

@@ -6,7 +6,7 @@ use Rattle.guest_ram.specs.Bytes.{AreBytes, byte, part, with_byte}
 use Rattle.guest_ram.proofs.Bytes.{byte_lt, bytes-part, part-append, bytes-with_part, length-with_part, length-with_byte}
 use Rattle.machine_model.specs.State.{Setting}
 use Rattle.native_steps.specs.Looking.{marked}
-use Rattle.native_steps.specs.Stands.{shown}
+use Rattle.native_steps.specs.Mirrors.{shown}
 use Rattle.native_steps.proofs.Marks.{or_32, bytes_with}
 
 front_fit : (l : List ℕ) (n : ℕ) → AreBytes l → AreBytes (take n l)

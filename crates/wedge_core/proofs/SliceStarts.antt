@@ -3,7 +3,7 @@ use Rattle.std.proofs.Common.{◌≡◌, ℕ, ◌≤◌, Bool, List, [], ◌∷�
 use Rattle.std.specs.FinMap.{len, empty}
 use Rattle.std.proofs.lemmas.List.Elements.{All-weaker}
 use Rattle.pv_io.specs.declared.answer.Failed.{Failed}
-use Rattle.image_load.specs.declared.fault.Pause.{Pause}
+use Rattle.run_trace.specs.declared.pause.Pause.{Pause}
 use Rattle.run_trace.specs.Notes.{Note}
 use Rattle.shadow_tables.specs.Aside.{Aside}
 use Rattle.shadow_tables.specs.Entries.{entries_of}
@@ -14,7 +14,8 @@ use Rattle.kept_laws.specs.Known.{IsKnown}
 use Rattle.wedge_core.specs.Carried.{IsCarried}
 use Rattle.wedge_core.specs.CarryLaws.{CarryLaws}
 use Rattle.wedge_core.specs.Filled.{FillsOn}
-use Rattle.wedge_core.specs.Slices.{Counts, SliceAs, Pauses}
+use Rattle.wedge_core.specs.Slices.{Counts, SliceAs}
+use Rattle.run_trace.specs.IfPaused.{IfPaused}
 use Rattle.wedge_core.specs.Starts.{IsAsNew}
 
 -- at first no fewer pages were kept
@@ -43,7 +44,7 @@ slice_begun m bound old new before after told tells first pages fills filled wan
   kept = λ s. h.kept (from s);
 }
 
-pub pauses_more : (result : Result Pause Failed) (A B : Type 0) → (A → B) → Pauses result A → Pauses result B
+pub pauses_more : (result : Result Pause Failed) (A B : Type 0) → (A → B) → IfPaused result A → IfPaused result B
 pauses_more (Ok pause) A B f a = f a
 pauses_more (Err failed) A B f a = tt
 

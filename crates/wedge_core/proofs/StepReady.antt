@@ -31,7 +31,7 @@ use Rattle.machine_model.specs.Reloading.{Follows, FollowsOn, Leaves}
 use Rattle.machine_model.specs.Run.{Set}
 use Rattle.machine_model.specs.State.{Setting, State, space_at_start}
 use Rattle.machine_model.specs.Step.{Report, Went, stepped, step_of}
-use Rattle.native_steps.specs.Stands.{IsWedge, IsHost, shown}
+use Rattle.native_steps.specs.Mirrors.{IsWedge, IsHost, shown}
 use Rattle.native_steps.proofs.Shown.{shown_length}
 use Rattle.wedge_mem.specs.Settled.{pages_of}
 use Rattle.wedge_core.specs.Ready.{IsReady, IsReadyBehind, leaving, is_all}

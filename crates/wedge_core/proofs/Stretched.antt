@@ -24,14 +24,14 @@ use Rattle.host_cpl3.specs.declared.exit.Exit.{Exit}
 use Rattle.host_cpl3.specs.HostRun.{Standing}
 use Rattle.host_cpl3.specs.Hosts.{standing}
 use Rattle.machine_model.specs.State.{Setting, State, wedge}
-use Rattle.machine_model.specs.Run.{Set, Steps}
+use Rattle.machine_model.specs.Run.{Set, Steps, with_set}
 use Rattle.machine_model.specs.Rules.{is_open}
 use Rattle.machine_model.specs.Able.{IsAble}
 use Rattle.native_steps.specs.Lends.{Lends, IsUnlent}
-use Rattle.native_steps.specs.Stands.{IsHost, shown}
+use Rattle.native_steps.specs.Mirrors.{IsHost, shown}
 use Rattle.native_steps.specs.Stretch.{SameBehind, Beside, Advanced, Advances, board_after}
 use Rattle.wedge_core.specs.declared.running.Running.{Running}
-use Rattle.wedge_core.specs.Parts.{IsPartOf, with_set}
+use Rattle.wedge_core.specs.Parts.{IsPartOf}
 use Rattle.wedge_core.specs.Pools.{Keeps}
 use Rattle.wedge_core.specs.Ran.{Ran, landed}
 use Rattle.wedge_core.specs.Standing.{IsHeld, AreOpen, ground, wp_of, side_of, set_of, state_of}

@@ -4,14 +4,13 @@ use Rattle.std.specs.List.{All}
 use Rattle.run_trace.specs.Notes.{Note}
 use Rattle.machine_model.specs.State.{Setting, State}
 use Rattle.machine_model.proofs.Splits.{heads, tails, none_some}
-use Rattle.machine_model.specs.Step.{Report, Result, Went, Stands, step_of}
-use Rattle.machine_model.specs.Run.{Set, Steps}
+use Rattle.machine_model.specs.Step.{Report, Result, Went, Halts, step_of}
+use Rattle.machine_model.specs.Run.{Set, Steps, with_set}
 use Rattle.machine_model.specs.Ends.{StepsTo}
 use Rattle.machine_model.specs.Taken.{Taken, behind, steps_by}
 use Rattle.machine_model.specs.Notes.{AreTold, AreLeft, set_told}
 use Rattle.machine_model.proofs.Counting.{each_counts}
 use Rattle.wedge_core.specs.Noted.{emptied_if}
-use Rattle.wedge_core.specs.Parts.{with_set}
 use Rattle.wedge_core.proofs.EmptiedNotes.{IsUpTo, told_none, told_before}
 
 -- before each step the translations are those that the one before left, but for what the notes tell
@@ -100,7 +99,7 @@ IsToldOf notes now = now.set ≡ set_told notes now.before.step now.before.set
 by_result : (m : Setting) (b : State) (set : Set) (sets : List Set) (notes : List Note) (now : Taken) (later : List Taken) → set ≡ set_told notes b.step b.set
     → ((report : Report) (after : State) → step_of m b set ≡ Went report after → (front : List Taken) → steps_by m after sets ≡ front ++ now ∷ later → IsToldOf notes now)
     → (r : Result) → step_of m b set ≡ r → (front : List Taken) → behind b set r (λ after. steps_by m after sets) ≡ front ++ now ∷ later → IsToldOf notes now
-by_result m b set sets notes now later h rest (Stands stop) is front e = absurd (none_some front now later e)
+by_result m b set sets notes now later h rest (Halts stop) is front e = absurd (none_some front now later e)
 by_result m b set sets notes now later h rest (Went report after) is [] e =
     subst (IsToldOf notes) (heads (record { before = b; set = set; report = report; after = after }) now (steps_by m after sets) later e) h
 by_result m b set sets notes now later h rest (Went report after) is (first ∷ front) e =

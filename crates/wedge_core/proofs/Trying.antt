@@ -23,9 +23,9 @@ use Rattle.wedge_core.proofs.Uncounted.{refused_none, others_uncounted}
 
 -- an error that is handed on
 pub tried_err : (m : Setting) (b : State) (s t : Space) (board : Board) (stop : Stop) (r : Result (Option Worked) Stop) → IsErrAnd r (λ e. e ≡ stop)
-    → fetches_next m b s ≡ steps.Stands stop → TriesAs m b s r board t
+    → fetches_next m b s ≡ steps.Halts stop → TriesAs m b s r board t
 tried_err m b s t board stop (Ok x) is e = absurd is
-tried_err m b s t board stop (Err d) is e = e ∙ ap steps.Stands (sym is)
+tried_err m b s t board stop (Err d) is e = e ∙ ap steps.Halts (sym is)
 
 module _ (m : Setting) (b : State) (s : Space) where
   -- the fetch is refused

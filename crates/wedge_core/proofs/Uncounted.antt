@@ -16,7 +16,7 @@ use Rattle.paging.specs.Work.{Outcome, Work, ◌>>=◌, unless}
 use Rattle.step_exec.specs.Plain.{executed}
 use Rattle.sys_exec.specs.declared.effect.Refusal.{Refusal}
 use Rattle.sys_exec.specs.declared.effect.Refusal.TheVariants as refusal
-use Rattle.sys_exec.specs.declared.effect.Done.{Done}
+use Rattle.sys_exec.specs.declared.effect.SysOutcome.{SysOutcome}
 use Rattle.sys_exec.specs.declared.effect.SysEffect.{SysEffect}
 use Rattle.sys_exec.specs.declared.effect.SysEffect.TheVariants as effects
 use Rattle.sys_exec.specs.Control.{write_control, read_control}
@@ -38,7 +38,7 @@ use Rattle.sites.specs.declared.site.Site.{Site}
 use Rattle.machine_model.specs.State.{Setting, State}
 use Rattle.machine_model.specs.Rules.{stands_well, is_open, may_leave}
 use Rattle.machine_model.specs.Instruction.{instructed, is_plain, done_plainly}
-use Rattle.machine_model.specs.Step.{Completed, Result, Went, Stands, entered, begun, went, after_read, after_write, out_item, code_of, after_delivery, raised, after_effect, after_software, after_instruction, by_op, by_decoded, after_refusal}
+use Rattle.machine_model.specs.Step.{Completed, Result, Went, Halts, entered, begun, went, after_read, after_write, out_item, code_of, after_delivery, raised, after_effect, after_software, after_instruction, by_op, by_decoded, after_refusal}
 use Rattle.machine_model.specs.Alone.{IsUser, is_barred, is_native}
 use Rattle.sys_exec.specs.Operand.{past}
 use Rattle.machine_model.specs.Counts.{is_software, needs_descriptor, is_direct, direct_in}
@@ -50,10 +50,10 @@ use Rattle.native_steps.proofs.Choices.{both, clash, eq_told}
 -- of a step that goes, what it completed has P
 abbrev Leaves : (Option Completed → Type 0) → Result → Type 0
 Leaves P (Went report after) = P report.completed
-Leaves P (Stands stop) = Unit {0}
+Leaves P (Halts stop) = Unit {0}
 
 -- where the instruction is done, X
-abbrev DoneIf : Type 0 → Outcome Refusal Done → Type 0
+abbrev DoneIf : Type 0 → Outcome Refusal SysOutcome → Type 0
 DoneIf X (Ok x) = X
 DoneIf X (Err e) = Unit {0}
 
@@ -61,17 +61,17 @@ chosen : (P : Option Completed → Type 0) (h : Bool) (x y : Result) → Leaves 
 chosen P true x y p q = p
 chosen P false x y p q = q
 
-done_anyhow : (X : Type 0) (o : Outcome Refusal Done) → X → DoneIf X o
+done_anyhow : (X : Type 0) (o : Outcome Refusal SysOutcome) → X → DoneIf X o
 done_anyhow X (Ok x) h = h
 done_anyhow X (Err e) h = tt
 
-never_done : (X : Type 0) (o : Outcome Refusal Done) → DoneIf ⊥ o → DoneIf X o
+never_done : (X : Type 0) (o : Outcome Refusal SysOutcome) → DoneIf ⊥ o → DoneIf X o
 never_done X (Ok x) h = absurd h
 never_done X (Err e) h = tt
 
 -- ---- what is barred to a user
 
-first_refused : (e : Refusal) (test : Bool) (f : Unit {0} → Work Refusal Done) (s : Space) → test ≡ false → DoneIf ⊥ ((unless e test >>= f) s)
+first_refused : (e : Refusal) (test : Bool) (f : Unit {0} → Work Refusal SysOutcome) (s : Space) → test ≡ false → DoneIf ⊥ ((unless e test >>= f) s)
 first_refused e true f s h = absurd (clash true refl h)
 first_refused e false f s h = tt
 
@@ -119,7 +119,7 @@ instructed_by o insn len cpu s e = ap (λ x. cond (is_plain x) (done_plainly (ex
 
 module _ (m : Setting) (b : State) (P : Option Completed → Type 0) (none : P None) where
   of_entered : (whats : List What) (c : Option Completed) (cpu : Cpu) (board : Board) (s : Space) → P c → Leaves P (entered m whats c b cpu board s)
-  of_entered whats c cpu board s p = chosen P (stands_well m cpu) (went whats c b cpu board s) (Stands stops.NotAStart) p tt
+  of_entered whats c cpu board s p = chosen P (stands_well m cpu) (went whats c b cpu board s) (Halts stops.NotAStart) p tt
 
   of_delivery : (o : Outcome NotDelivered Cpu) → Leaves P (after_delivery m [] b b.board o)
   of_delivery (Ok done) = of_entered [] None done.0 b.board done.1 none
@@ -148,7 +148,7 @@ module _ (m : Setting) (b : State) (P : Option Completed → Type 0) (none : P N
   of_write c cpu item s (did.Sent value, board) p = p
 
   of_effect : (c : Completed) (e : SysEffect) (cpu : Cpu) (s : Space) → P (Some c) → Leaves P (after_effect m b c e cpu s)
-  of_effect c effects.Next cpu s p = chosen P (may_leave m.mode b.cpu cpu) (went [] (Some c) b cpu b.board s) (Stands stops.UserFlags) p tt
+  of_effect c effects.Next cpu s p = chosen P (may_leave m.mode b.cpu cpu) (went [] (Some c) b cpu b.board s) (Halts stops.UserFlags) p tt
   of_effect c effects.Halted cpu s p = p
   of_effect c (effects.DropPage page) cpu s p = p
   of_effect c (effects.DropDir index) cpu s p = p
@@ -163,7 +163,7 @@ module _ (m : Setting) (b : State) (P : Option Completed → Type 0) (none : P N
   of_told c (refusal.Raise vector code) s = of_raised b.cpu vector code s
   of_told c (refusal.Stop stop) s = tt
 
-  of_instruction : (c : Completed) (o : Outcome Refusal Done) → DoneIf (P (Some c)) o → Leaves P (after_instruction m b c o)
+  of_instruction : (c : Completed) (o : Outcome Refusal SysOutcome) → DoneIf (P (Some c)) o → Leaves P (after_instruction m b c o)
   of_instruction c (Ok done) p = of_effect c done.0.effect done.0.cpu done.1 p
   of_instruction c (Err refused) p = of_told c refused.0 refused.1
 

@@ -13,7 +13,7 @@ use Rattle.shadow_tables.specs.declared.words.Side.{Side}
 use Rattle.machine_model.specs.Reloading.{IsFoundBy}
 use Rattle.machine_model.specs.State.{Setting}
 use Rattle.native_steps.specs.Lends.{IsUnlent}
-use Rattle.native_steps.specs.Stands.{IsWedge, IsHost, shown}
+use Rattle.native_steps.specs.Mirrors.{IsWedge, IsHost, shown}
 use Rattle.native_steps.proofs.Shown.{shown_length}
 use Rattle.wedge_core.specs.Ready.{AreReady, IsReady}
 use Rattle.wedge_core.specs.Standing.{wp_of}

@@ -13,8 +13,8 @@ use Rattle.sites.specs.Patched.{patched}
 use Rattle.board.specs.Scripts.{Events}
 use Rattle.image_check.specs.Image.{Image}
 use Rattle.image_load.specs.Boot.{need}
-use Rattle.image_load.specs.declared.fault.Pause.{Pause}
-use Rattle.image_load.specs.declared.fault.Pause.TheVariants.{Reached, Stopped}
+use Rattle.run_trace.specs.declared.pause.Pause.{Pause}
+use Rattle.run_trace.specs.declared.pause.Pause.TheVariants.{Reached, Stopped}
 use Rattle.image_load.specs.declared.fault.RunFault.TheVariants as fault
 use Rattle.run_trace.specs.declared.items.End.{End}
 use Rattle.run_trace.specs.Notes.{Note}
@@ -26,9 +26,10 @@ use Rattle.machine_model.specs.Step.{Report}
 use Rattle.machine_model.specs.Run.{Set, Steps, EndsIn, CanGive, trace_of}
 use Rattle.machine_model.specs.Keeping.{Kept}
 use Rattle.machine_model.proofs.Ending.{each_ends}
-use Rattle.native_steps.specs.Stands.{IsHost, shown}
-use Rattle.wedge_core.specs.Promises.{HasMemory, Promise, HasFills, WedgeAnswers, end_of, with_patches}
-use Rattle.wedge_core.specs.Slices.{Counts, PausesAs, SliceAs, GoesOn}
+use Rattle.native_steps.specs.Mirrors.{IsHost, shown}
+use Rattle.wedge_core.specs.Promises.{HasMemory, Promise, HasFills, WedgeAnswers, with_patches}
+use Rattle.run_trace.specs.Pauses.{end_of, IfReached}
+use Rattle.wedge_core.specs.Slices.{Counts, PausesAs, SliceAs}
 use Rattle.wedge_core.specs.Standing.{IsHeld, ground}
 use Rattle.wedge_core.specs.Filled.{FillsOn}
 use Rattle.wedge_core.specs.declared.running.Running.{Running}
@@ -55,7 +56,7 @@ front_is m memory host room =
 
 -- and so it is where a slice has done its steps
 pub front_held : (pause : Pause) (image : Image) (script : Events) (frames : ℕ) (g : Running Roots) (pool : Pool) (memory : List ℕ)
-    → GoesOn (Ok pause) (IsHeld roots.stands roots.frames roots.slots (ground image frames) g pool memory) → GoesOn (Ok pause) (take (4096 * frames) memory ≡ with_patches image (shown (wedge image script frames) memory))
+    → IfReached (Ok pause) (IsHeld roots.stands roots.frames roots.slots (ground image frames) g pool memory) → IfReached (Ok pause) (take (4096 * frames) memory ≡ with_patches image (shown (wedge image script frames) memory))
 front_held Reached image script frames g pool memory h =
     let room = h.wedge.room in
     let within = text_within image in
@@ -75,14 +76,14 @@ pub count_by : (m : Setting) (n : ℕ) (last new : State) (end : Set) (pause : P
 count_by m n last new end Reached h = ap (λ (b : State). b.step) h.1
 count_by m n last new end (Stopped stop) h = h.1
 
-pub memory_by : (m : Setting) (n : ℕ) (last new : State) (end : Set) (pause : Pause) (memory : List ℕ) → GoesOn (Ok pause) (take (4096 * m.frames) memory ≡ with_patches m.image new.ram) → PausesAs m n last new end (Ok pause)
+pub memory_by : (m : Setting) (n : ℕ) (last new : State) (end : Set) (pause : Pause) (memory : List ℕ) → IfReached (Ok pause) (take (4096 * m.frames) memory ≡ with_patches m.image new.ram) → PausesAs m n last new end (Ok pause)
     → HasMemory m last (end_of pause) memory
 memory_by m n last new end Reached memory has h = has ∙ ap (λ (b : State). with_patches m.image b.ram) h.1
 memory_by m n last new end (Stopped stop) memory has h = tt
 
 -- the slice that ended is a run
 abbrev pub promised : (m : Setting) (n pool : ℕ) (old new : State) (before after : Counts) (told tells : Option (List ℕ)) (pages fills filled : ℕ) (wanted : Bool) (notes_on : List Note → Type 0) (begins : Type 0) (pause : Pause) (memory : List ℕ)
-    → old ≡ boot m → (pool ≡ 512 → begins) → GoesOn (Ok pause) (take (4096 * m.frames) memory ≡ with_patches m.image new.ram) → (h : SliceAs m n old new before after told tells pages fills filled wanted notes_on begins (Ok pause))
+    → old ≡ boot m → (pool ≡ 512 → begins) → IfReached (Ok pause) (take (4096 * m.frames) memory ≡ with_patches m.image new.ram) → (h : SliceAs m n old new before after told tells pages fills filled wanted notes_on begins (Ok pause))
     → Promise m n pool (lines_of (trace_of h.reports) ++ end_line new.step (end_of pause)) new.step (end_of pause) before after memory
 promised m n pool old new before after told tells pages fills filled wanted notes_on begins pause memory is from has h = record {
   sets = h.sets;
@@ -117,7 +118,7 @@ given_by m n pool text count end before after memory p = record { sets = p.sets;
 
 -- all lines and the last one were put
 pub whole_put : (image : Image) (script : Events) (frames n pool : ℕ) (old new : State) (counts counts_after : Counts) (a b c : Option (List ℕ)) (pages fills filled : ℕ) (wanted : Bool) (notes_on : List Note → Type 0) (begins : Type 0) (pause : Pause) (before mid now : ℕ) (memory : List ℕ)
-    → need image ≤ frames → old ≡ boot (wedge image script frames) → (pool ≡ 512 → begins) → pages ≡ 0 → fills ≡ 0 → filled ≤ 128 * new.step → GoesOn (Ok pause) (take (4096 * frames) memory ≡ with_patches image new.ram)
+    → need image ≤ frames → old ≡ boot (wedge image script frames) → (pool ≡ 512 → begins) → pages ≡ 0 → fills ≡ 0 → filled ≤ 128 * new.step → IfReached (Ok pause) (take (4096 * frames) memory ≡ with_patches image new.ram)
     → (h : SliceAs (wedge image script frames) n old new counts counts_after a b pages fills filled wanted notes_on begins (Ok pause)) → Appends b c (end_line new.step (end_of pause)) → before ≤ mid → mid ≤ now
     → WedgeAnswers image script frames n pool a c before now counts counts_after memory (Ok (record { steps = new.step; end = end_of pause; fills = filled }))
 whole_put image script frames n pool old new counts counts_after a b c pages fills filled wanted notes_on begins pause before mid now memory fits is from first none few has h put le more = (
@@ -131,7 +132,7 @@ whole_put image script frames n pool old new counts counts_after a b c pages fil
 
 -- all lines and a front of the last one
 pub whole_unput : (image : Image) (script : Events) (frames n pool : ℕ) (old new : State) (counts counts_after : Counts) (a b c : Option (List ℕ)) (pages fills filled : ℕ) (wanted : Bool) (notes_on : List Note → Type 0) (begins : Type 0) (pause : Pause) (before mid now : ℕ) (memory : List ℕ)
-    → need image ≤ frames → old ≡ boot (wedge image script frames) → GoesOn (Ok pause) (take (4096 * frames) memory ≡ with_patches image new.ram)
+    → need image ≤ frames → old ≡ boot (wedge image script frames) → IfReached (Ok pause) (take (4096 * frames) memory ≡ with_patches image new.ram)
     → (h : SliceAs (wedge image script frames) n old new counts counts_after a b pages fills filled wanted notes_on begins (Ok pause)) → AppendsFront b c (end_line new.step (end_of pause)) → before ≤ mid → Rose mid now
     → WedgeAnswers image script frames n pool a c before now counts counts_after memory (Err fault.Write)
 whole_unput image script frames n pool old new counts counts_after a b c pages fills filled wanted notes_on begins pause before mid now memory fits is has h put le rose =

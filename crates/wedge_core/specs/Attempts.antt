@@ -5,10 +5,11 @@ use Rattle.ia32_types.specs.declared.stop.Stop.{Stop}
 use Rattle.host_cpl3.specs.declared.view.View.{View}
 use Rattle.machine_step.specs.declared.worked.Seen.{Seen}
 use Rattle.machine_model.specs.State.{Setting, State}
-use Rattle.machine_model.specs.Step.{Report, Went, Stands, stepped}
+use Rattle.machine_model.specs.Step.{Report, Went, Halts, stepped}
 use Rattle.machine_model.specs.Counts.{direct_in}
 use Rattle.native_steps.specs.Backward.{Completes}
-use Rattle.wedge_core.specs.Parts.{left_of, with_set}
+use Rattle.wedge_core.specs.Parts.{left_of}
+use Rattle.machine_model.specs.Run.{with_set}
 use Rattle.wedge_core.specs.Stepping.{Alone}
 use Rattle.wedge_core.specs.declared.running.Lost.{Lost}
 use Rattle.wedge_core.specs.declared.native.Attempt.{Attempt}
@@ -35,7 +36,7 @@ pub record Asks (m : Setting) (view : View) (b : State) (before : Bool) (lost : 
 abbrev pub AttemptAs : Setting → View → State → Bool → Lost → Result Attempt Stop → State → List ℕ → Type 0
 AttemptAs m view b before lost (Ok (attempt.Went seen)) new memory = Idle m b before lost seen new
 AttemptAs m view b before lost (Ok attempt.Asked) new memory = Asks m view b before lost new memory
-AttemptAs m view b before lost (Err stop) new memory = stepped m (with_set b (left_of before b.set)) ≡ Stands stop
+AttemptAs m view b before lost (Err stop) new memory = stepped m (with_set b (left_of before b.set)) ≡ Halts stop
 
 -- what holds where the host is asked, and where the step went
 abbrev pub WhereAsked : Result Attempt Stop → Type 0 → Type 0

@@ -4,13 +4,12 @@ use Rattle.std.specs.Set.{is_member}
 use Rattle.shadow_tables.specs.Aside.{Aside}
 use Rattle.shadow_tables.specs.Entries.{entries_of}
 use Rattle.shadow_tables.specs.Slots.{Slot}
-use Rattle.machine_model.specs.Run.{Set}
+use Rattle.machine_model.specs.Run.{Set, with_set}
 use Rattle.machine_model.specs.State.{Setting, State}
 use Rattle.machine_model.specs.Step.{Went, step_of, stepped}
 use Rattle.machine_model.specs.Taken.{Taken}
 use Rattle.kept_laws.specs.Carried.{indices_in}
 use Rattle.kept_laws.specs.Known.{IsKnown}
-use Rattle.wedge_core.specs.Parts.{with_set}
 
 -- The step was made from this state, to which the events of its step were given.
 pub record IsTakenFrom (m : Setting) (b : State) (t : Taken) : Type 0 where

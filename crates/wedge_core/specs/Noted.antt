@@ -1,11 +1,11 @@
 -- Which translations the steps of a slice go by, and what is told of those that it loses.
 use Rattle.std.specs.Prelude.{◌≡◌, ℕ, ◌+◌, Bool, true, false, List, [], ◌∷◌, ◌++◌, Result, Ok, Err}
 use Rattle.pv_io.specs.declared.answer.Failed.{Failed}
-use Rattle.image_load.specs.declared.fault.Pause.{Pause}
-use Rattle.image_load.specs.declared.fault.Pause.TheVariants.{Reached, Stopped}
+use Rattle.run_trace.specs.declared.pause.Pause.{Pause}
+use Rattle.run_trace.specs.declared.pause.Pause.TheVariants.{Reached, Stopped}
 use Rattle.run_trace.specs.Notes.{Note, emptied_at}
 use Rattle.machine_model.specs.State.{Setting, State}
-use Rattle.machine_model.specs.Step.{Stands, step_of}
+use Rattle.machine_model.specs.Step.{Halts, step_of}
 use Rattle.machine_model.specs.Run.{Set}
 use Rattle.machine_model.specs.Notes.{AreTold, AreNotes, set_told}
 use Rattle.wedge_core.specs.declared.running.Lost.{Lost}
@@ -13,7 +13,7 @@ use Rattle.wedge_core.specs.declared.running.Lost.{Lost}
 -- What is kept at the end, or what the step that stops goes by: what the last step left, but for what the notes tell.
 abbrev pub EndsTold : Setting → State → State → List Note → Result Pause Failed → Type 0
 EndsTold m last new notes (Ok Reached) = new.set ≡ set_told notes last.step last.set
-EndsTold m last new notes (Ok (Stopped stop)) = step_of m last (set_told notes last.step last.set) ≡ Stands stop
+EndsTold m last new notes (Ok (Stopped stop)) = step_of m last (set_told notes last.step last.set) ≡ Halts stop
 EndsTold m last new notes (Err failed) = Unit {0}
 
 -- Before each step of a slice the translations are those that the step before left, without those that were dropped by

@@ -2,7 +2,7 @@
 use Rattle.std.specs.Prelude.{◌≡◌, ℕ, Bool, false, Some, if◌then◌else◌}
 use Rattle.std.specs.Option.{ForSome}
 use Rattle.std.specs.FinMap.{get, empty}
-use Rattle.machine_model.specs.Run.{Set}
+use Rattle.machine_model.specs.Run.{Set, with_set}
 use Rattle.machine_model.specs.State.{Setting, State, Loosened}
 use Rattle.wedge_core.specs.declared.running.Lost.{Lost}
 
@@ -13,10 +13,6 @@ pub record IsPartOf (part whole : Set) : Type 0 where
 -- what is left of some translations, where all of them may have been dropped
 abbrev pub left_of : Bool → Set → Set
 left_of dropped set = if dropped then empty else set
-
--- the state with other translations
-abbrev pub with_set : State → Set → State
-with_set b set = record b { set = set }
 
 -- What is kept in a state behind a step that left a set: all of it, or nothing where all were dropped. Where the step loaded
 -- CR3 and what was kept under the value came back, it is what a run may go on with.

@@ -9,8 +9,8 @@ use Rattle.sites.specs.Patched.{patched}
 use Rattle.board.specs.Scripts.{Events}
 use Rattle.image_check.specs.Image.{Image}
 use Rattle.image_load.specs.Boot.{need}
-use Rattle.image_load.specs.declared.fault.Pause.{Pause}
-use Rattle.image_load.specs.declared.fault.Pause.TheVariants as pause
+use Rattle.run_trace.specs.declared.pause.Pause.{Pause}
+use Rattle.run_trace.specs.declared.pause.Pause.TheVariants as pause
 use Rattle.image_load.specs.declared.fault.RunFault.{RunFault}
 use Rattle.image_load.specs.declared.fault.RunFault.TheVariants as fault
 use Rattle.run_trace.specs.declared.items.End.{End}
@@ -70,7 +70,3 @@ WedgeAnswers image script frames n pool old new before now counts_before counts_
     (text : List ℕ) × (run : Promise (wedge image script frames) n pool text ended.steps ended.end counts_before counts_after memory) × (need image ≤ frames) × HasFills (wedge image script frames) run.sets run.last ended.fills × Appends old new text × (before ≤ now)
 WedgeAnswers image script frames n pool old new before now counts_before counts_after memory (Err fault) = RefusedWedge image script frames n old new before now counts_before counts_after fault
 
--- the end of a run whose last slice paused so
-abbrev pub end_of : Pause → End
-end_of pause.Reached = Bound
-end_of (pause.Stopped stop) = Stopped stop

@@ -13,7 +13,7 @@ use Rattle.machine_model.specs.State.{Setting}
 use Rattle.machine_step.specs.declared.worked.Dropped.{Dropped}
 use Rattle.machine_step.specs.declared.worked.Dropped.TheVariants as dropped
 pub use Rattle.machine_step.specs.Worked.{is_all}
-use Rattle.native_steps.specs.Stands.{shown}
+use Rattle.native_steps.specs.Mirrors.{shown}
 use Rattle.wedge_mem.specs.Told.{read_by}
 use Rattle.wedge_core.specs.Standing.{AreOpen, wp_of}
 

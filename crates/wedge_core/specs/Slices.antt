@@ -4,18 +4,18 @@ use Rattle.std.specs.List.{All}
 use Rattle.std.specs.FinMap.{len, empty}
 use Rattle.pv_io.specs.declared.answer.Failed.{Failed}
 use Rattle.pv_io.specs.Sink.{Appends, AppendsFront}
-use Rattle.image_load.specs.declared.fault.Pause.{Pause}
-use Rattle.image_load.specs.declared.fault.Pause.TheVariants.{Reached, Stopped}
+use Rattle.run_trace.specs.declared.pause.Pause.{Pause}
+use Rattle.run_trace.specs.declared.pause.Pause.TheVariants.{Reached, Stopped}
 use Rattle.run_trace.specs.Notes.{Note}
 use Rattle.run_trace.specs.Text.{lines_of}
 use Rattle.machine_model.specs.State.{Setting, State, Loosened}
-use Rattle.machine_model.specs.Step.{Report, Stands, step_of}
-use Rattle.machine_model.specs.Run.{Set, Steps, trace_of}
+use Rattle.machine_model.specs.Step.{Report, Halts, step_of}
+use Rattle.machine_model.specs.Run.{Set, Steps, trace_of, with_set}
 use Rattle.machine_model.specs.Counts.{direct_count, passed_digest}
 use Rattle.machine_model.specs.Keeping.{Kept}
 use Rattle.wedge_core.specs.Filled.{FillsOn}
 use Rattle.wedge_core.specs.Noted.{IsNoted}
-use Rattle.wedge_core.specs.Parts.{with_set}
+use Rattle.run_trace.specs.Pauses.{PutsAs}
 
 -- The host's count of completed instructions, and its digest of their addresses.
 pub record Counts : Type 0 where
@@ -31,13 +31,8 @@ pub record CountsOn (m : Setting) (reports : List Report) (old new : Counts) : T
 -- translations, which it may go by. The sink may fail before.
 abbrev pub PausesAs : Setting → ℕ → State → State → Set → Result Pause Failed → Type 0
 PausesAs m bound last new end (Ok Reached) = (last.step ≡ bound) × (new ≡ with_set last end) × Loosened m last end
-PausesAs m bound last new end (Ok (Stopped stop)) = (last.step < bound) × (new.step ≡ last.step) × Loosened m last end × (step_of m last end ≡ Stands stop)
+PausesAs m bound last new end (Ok (Stopped stop)) = (last.step < bound) × (new.step ≡ last.step) × Loosened m last end × (step_of m last end ≡ Halts stop)
 PausesAs m bound last new end (Err failed) = last.step ≤ bound
-
--- the text was put, or a front of it where the sink failed
-abbrev pub PutsAs : List ℕ → Option (List ℕ) → Option (List ℕ) → Result Pause Failed → Type 0
-PutsAs text old new (Ok pause) = Appends old new text
-PutsAs text old new (Err failed) = AppendsFront old new text
 
 -- Steps under the monitor's rules, up to the bound or to a stop, led from the old state to the last. The lines of what
 -- was seen in them were put, and the host completed their direct instructions. Where notes are wanted, they go by what is
@@ -66,13 +61,3 @@ pub record BeginsEmpty (set : Set) (free held : ℕ) (wanted : Bool) : Type 0 wh
   pub others : free + held ≡ 512
   pub silent : wanted ≡ false
 
--- what holds where the run can go on
-abbrev pub GoesOn : Result Pause Failed → Type 0 → Type 0
-GoesOn (Ok Reached) fact = fact
-GoesOn (Ok (Stopped stop)) fact = Unit {0}
-GoesOn (Err failed) fact = Unit {0}
-
--- what holds where the sink has not failed
-abbrev pub Pauses : Result Pause Failed → Type 0 → Type 0
-Pauses (Ok pause) fact = fact
-Pauses (Err failed) fact = Unit {0}

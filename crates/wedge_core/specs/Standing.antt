@@ -15,7 +15,7 @@ use Rattle.image_check.specs.Image.{Image}
 use Rattle.machine_model.specs.State.{Setting, State, wedge}
 pub use Rattle.machine_model.specs.Able.{IsAble}
 use Rattle.native_steps.specs.Lends.{IsOpen}
-use Rattle.native_steps.specs.Stands.{IsWedge, IsHost, shown}
+use Rattle.native_steps.specs.Mirrors.{IsWedge, IsHost, shown}
 use Rattle.wedge_core.specs.declared.running.Running.{Running}
 
 abbrev pub is_kernel : Side → Bool

@@ -5,12 +5,12 @@ use Rattle.ia32_types.specs.declared.stop.Stop.{Stop}
 use Rattle.machine_step.specs.declared.worked.Seen.{Seen}
 use Rattle.machine_step.specs.Worked.{whats}
 use Rattle.machine_model.specs.State.{Setting, State}
-use Rattle.machine_model.specs.Step.{Report, Went, Stands, stepped, items_at}
-use Rattle.machine_model.specs.Run.{Set, Steps, trace_of}
+use Rattle.machine_model.specs.Step.{Report, Went, Halts, stepped, items_at}
+use Rattle.machine_model.specs.Run.{Set, Steps, trace_of, with_set}
 use Rattle.machine_model.specs.Taken.{steps_by}
 use Rattle.machine_model.specs.Notes.{AreLeft}
 use Rattle.native_steps.specs.Stretch.{IsQuiet}
-use Rattle.wedge_core.specs.Parts.{left_of, with_set, IsLeft}
+use Rattle.wedge_core.specs.Parts.{left_of, IsLeft}
 use Rattle.wedge_core.specs.Slices.{Counts, CountsOn}
 use Rattle.wedge_core.specs.declared.running.Lost.{Lost}
 
@@ -26,12 +26,12 @@ pub record Goes (m : Setting) (b : State) (lost : Lost) (seen : Seen) (new : Sta
   pub counts : CountsOn m (report ∷ []) before after
 
 -- or it stops
-pub record Halts (m : Setting) (b : State) (lost : Lost) (stop : Stop) : Type 0 where
-  pub stands : stepped m (with_set b (left_of lost.before b.set)) ≡ Stands stop
+pub record StepHalts (m : Setting) (b : State) (lost : Lost) (stop : Stop) : Type 0 where
+  pub stands : stepped m (with_set b (left_of lost.before b.set)) ≡ Halts stop
 
 abbrev pub StepAs : Setting → State → Lost → Result Seen Stop → State → Counts → Counts → Type 0
 StepAs m b lost (Ok seen) new before after = Goes m b lost seen new before after
-StepAs m b lost (Err stop) new before after = Halts m b lost stop
+StepAs m b lost (Err stop) new before after = StepHalts m b lost stop
 
 -- A step of which the host did nothing went, by all that was kept. What it left is kept, or nothing where all was dropped
 -- after it, or what came back.
@@ -45,7 +45,7 @@ pub record Alone (m : Setting) (b : State) (lost : Lost) (seen : Seen) (new : St
 -- or it stops
 abbrev pub AloneAs : Setting → State → Lost → Result Seen Stop → State → Type 0
 AloneAs m b lost (Ok seen) new = Alone m b lost seen new
-AloneAs m b lost (Err stop) new = stepped m b ≡ Stands stop
+AloneAs m b lost (Err stop) new = stepped m b ≡ Halts stop
 
 -- Some steps in which nothing is seen lead from one state to another. Each goes by the same translations, which the one
 -- before left. None loads CR3, or changes another control register.

@@ -51,4 +51,4 @@ OthersAreUsers b s = (insn : Insn) (len : ℕ) (after_fetch : Space) → fetched
 abbrev pub TriesAs : Setting → State → Space → Result (Option Worked) Stop → Board → Space → Type 0
 TriesAs m b s (Ok (Some worked)) board t = (steps.fetches_next m b s ≡ went_as b worked board t) × (OthersAreUsers b s → (sites : List Site) → direct_in sites (completed_by worked.completed) ≡ [])
 TriesAs m b s (Ok None) board t = (board ≡ b.board) × IsPrepared b s t
-TriesAs m b s (Err stop) board t = steps.fetches_next m b s ≡ steps.Stands stop
+TriesAs m b s (Err stop) board t = steps.fetches_next m b s ≡ steps.Halts stop

@@ -11,7 +11,7 @@ use Rattle.step_mem.specs.Changes.{AreWithin}
 use Rattle.machine_model.specs.State.{Setting}
 use Rattle.machine_model.specs.Run.{Set}
 use Rattle.native_steps.specs.Lends.{Lends}
-use Rattle.native_steps.specs.Stands.{Sees}
+use Rattle.native_steps.specs.Mirrors.{Sees}
 use Rattle.wedge_core.specs.Parts.{IsPartOf}
 use Rattle.wedge_core.specs.Standing.{is_kernel, AreOpen, IsAble}
 use Rattle.wedge_core.specs.Views.{view_by}

@@ -17,7 +17,7 @@ ghost use Rattle.machine_model.specs.Instruction.{fetched};
 ghost use Rattle.paging.specs.Fresh.{has};
 ghost use Rattle.machine_model.specs.State.{State, space_at_start, wedge};
 ghost use Rattle.native_steps.specs.Looking.{marked, next_seen, uses_on, uses_seen};
-ghost use Rattle.native_steps.specs.Stands.{shown};
+ghost use Rattle.native_steps.specs.Mirrors.{shown};
 ghost use Rattle.shadow_tables.specs.Entries.{entries_of};
 ghost use Rattle.step_mem.specs.Changes.{AreWithin};
 ghost use Rattle.wedge_core.specs.Clashing.{looked, AreIn, marks_of, seen_of, before, model_uses};

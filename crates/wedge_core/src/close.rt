@@ -16,7 +16,7 @@ ghost use Rattle.step_mem.specs.Changes.{changed};
 ghost use Rattle.step_mem.specs.Sound.{IsSound};
 ghost use Rattle.machine_step.specs.Worked.{dropping, IsDropped};
 ghost use Rattle.machine_model.specs.State.{Setting};
-ghost use Rattle.native_steps.specs.Stands.{shown};
+ghost use Rattle.native_steps.specs.Mirrors.{shown};
 ghost use Rattle.wedge_mem.specs.Settled.{pages_of};
 ghost use Rattle.wedge_core.specs.Closed.{MayClose, Closes};
 ghost use Rattle.wedge_core.specs.Parts.{left_of};

@@ -17,7 +17,9 @@ ghost use Rattle.wedge_core.specs.Noted.{NotesOn};
 ghost use Rattle.wedge_core.specs.Pools.{Keeps};
 ghost use Rattle.wedge_core.specs.Promises.{with_patches};
 ghost use Rattle.wedge_core.specs.Ready.{IsReady};
-ghost use Rattle.wedge_core.specs.Slices.{BeginsEmpty, SliceAs, GoesOn, Pauses};
+ghost use Rattle.wedge_core.specs.Slices.{BeginsEmpty, SliceAs};
+ghost use Rattle.run_trace.specs.IfPaused.{IfPaused};
+ghost use Rattle.run_trace.specs.IfPaused.{IfReached};
 ghost use Rattle.wedge_core.specs.Standing.{IsHeld, IsAble, ground, state_of};
 ghost use Rattle.wedge_core.specs.Starts.{IsAsNew, StartedAs};
 
@@ -31,10 +33,10 @@ use guest_ram::Ram;
 use host_cpl3::Host;
 use image_check::Checked;
 use image_laws::patching;
-use image_load::{Pause, StartFault, load};
+use image_load::{StartFault, load};
 use machine_model::each_run_begins_able;
 use pv_io::{Failed, Sink};
-use run_trace::Notes;
+use run_trace::{Notes, Pause};
 use shadow_cache::{Reloads, Roots, roots_alone_keep_nothing};
 use shadow_tables::Shadows;
 use sites::patch;
@@ -142,18 +144,18 @@ impl Guest {
             (BeginsEmpty (entries_of (roots.slots self.old.running.shadows (H.bytes host.old))) (length (free_list pool.old (H.bytes host.old))) self.old.running.held (L.wants notes.old)) result }
         ensures wants { L.wants notes.new ≡ L.wants notes.old }
         ensures silent { L.wants notes.old ≡ false → notes.new ≡ notes.old }
-        ensures reached { GoesOn result (self.new.running.step ≡ self.old.running.step + k) }
-        ensures held { GoesOn result (IsHeld roots.stands roots.frames roots.slots (ground image.now self.old.running.frames) self.new.running pool.new (H.bytes host.new)) }
-        ensures ready { GoesOn result (IsReady roots.slots roots.noted roots.marked roots.value roots.asides (ground image.now self.old.running.frames) self.new.running.cpu self.new.running.shadows (H.bytes host.new)) }
-        ensures able { GoesOn result (IsAble self.new.running.cpu) }
-        ensures memory { GoesOn result (take (4096 * self.old.running.frames) (H.bytes host.new) ≡ with_patches image.now (state_of roots.stands roots.frames roots.slots (wedge image.now script.now.list self.old.running.frames) self.new.running (H.bytes host.new)).ram) }
-        ensures counted { Pauses result (self.new.running.held ≡ length (roots.frames self.new.running.shadows (H.bytes host.new))) }
-        ensures stands { Pauses result (∥ roots.stands self.new.running.shadows (H.bytes host.new) ∥₁) }
-        ensures owns { Pauses result (Owns pool.new (H.bytes host.new) (roots.frames self.new.running.shadows (H.bytes host.new))) }
+        ensures reached { IfReached result (self.new.running.step ≡ self.old.running.step + k) }
+        ensures held { IfReached result (IsHeld roots.stands roots.frames roots.slots (ground image.now self.old.running.frames) self.new.running pool.new (H.bytes host.new)) }
+        ensures ready { IfReached result (IsReady roots.slots roots.noted roots.marked roots.value roots.asides (ground image.now self.old.running.frames) self.new.running.cpu self.new.running.shadows (H.bytes host.new)) }
+        ensures able { IfReached result (IsAble self.new.running.cpu) }
+        ensures memory { IfReached result (take (4096 * self.old.running.frames) (H.bytes host.new) ≡ with_patches image.now (state_of roots.stands roots.frames roots.slots (wedge image.now script.now.list self.old.running.frames) self.new.running (H.bytes host.new)).ram) }
+        ensures counted { IfPaused result (self.new.running.held ≡ length (roots.frames self.new.running.shadows (H.bytes host.new))) }
+        ensures stands { IfPaused result (∥ roots.stands self.new.running.shadows (H.bytes host.new) ∥₁) }
+        ensures owns { IfPaused result (Owns pool.new (H.bytes host.new) (roots.frames self.new.running.shadows (H.bytes host.new))) }
         ensures fills { FillsOn (pages_kept roots.slots roots.asides self.old.running.shadows (H.bytes host.old)) (pages_kept roots.slots roots.asides self.new.running.shadows (H.bytes host.new)) self.old.running.fills self.new.running.fills }
-        ensures few { Pauses result (self.new.running.fills ≤ 128 * self.new.running.step) }
+        ensures few { IfPaused result (self.new.running.fills ≤ 128 * self.new.running.step) }
         ensures filled { IsFilled (pages_kept roots.slots roots.asides self.old.running.shadows (H.bytes host.old)) self.old.running.fills → IsFilled (pages_kept roots.slots roots.asides self.new.running.shadows (H.bytes host.new)) self.new.running.fills }
-        ensures pool { Pauses result (Keeps pool.old pool.new (H.bytes host.old) (H.bytes host.new) (roots.frames self.old.running.shadows (H.bytes host.old)) (roots.frames self.new.running.shadows (H.bytes host.new))) }
+        ensures pool { IfPaused result (Keeps pool.old pool.new (H.bytes host.old) (H.bytes host.new) (roots.frames self.old.running.shadows (H.bytes host.old)) (roots.frames self.new.running.shadows (H.bytes host.new))) }
         ensures started { H.is_started host.new ≡ true }
         ensures frames { self.new.running.frames ≡ self.old.running.frames }
         ensures later { O.faults out.old ≤ O.faults out.new }

@@ -12,7 +12,7 @@ ghost use Rattle.paging.specs.Fresh.{has};
 ghost use Rattle.paging.specs.Uses.{is_barred, is_text as holds_text};
 ghost use Rattle.native_steps.specs.Looking.{is_front, is_stopped, marked, marks_front, next_seen, seen};
 ghost use Rattle.step_mem.specs.Changes.{AreWithin};
-ghost use Rattle.native_steps.specs.Stands.{shown};
+ghost use Rattle.native_steps.specs.Mirrors.{shown};
 ghost use Rattle.wedge_core.specs.Standing.{ground};
 ghost use Rattle.wedge_core.specs.Clashing.{AreIn, looked, marks_of, map_seen, seen_of};
 

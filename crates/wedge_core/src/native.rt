@@ -33,7 +33,7 @@ ghost use Rattle.machine_step.specs.Roots.{RootsAs};
 ghost use Rattle.machine_step.specs.Worked.{IsDropped};
 ghost use Rattle.std.specs.Prelude.{◌++◌, ◌∷◌, []};
 ghost use Rattle.guest_ram.specs.Bytes.{AreBytes};
-ghost use Rattle.native_steps.specs.Stands.{shown};
+ghost use Rattle.native_steps.specs.Mirrors.{shown};
 ghost use Rattle.machine_model.specs.Taken.{is_load};
 ghost use Rattle.machine_model.specs.Clash.{instruction_clashes};
 ghost use Rattle.kept_laws.specs.Known.{StayAside};

@@ -7,7 +7,8 @@ ghost use Rattle.image_load.specs.Boot.{need};
 ghost use Rattle.shadow_cache.specs.Views as roots;
 ghost use Rattle.machine_model.specs.State.{boot, wedge};
 ghost use Rattle.wedge_core.specs.Filled.{pages_kept};
-ghost use Rattle.wedge_core.specs.Promises.{WedgeAnswers, end_of};
+ghost use Rattle.wedge_core.specs.Promises.{WedgeAnswers};
+ghost use Rattle.run_trace.specs.Pauses.{end_of};
 ghost use Rattle.wedge_core.specs.Ready.{IsReady};
 ghost use Rattle.wedge_core.specs.Standing.{IsHeld, IsAble, ground, state_of};
 
@@ -16,9 +17,9 @@ use board::Script;
 use frame_pool::Pool;
 use host_cpl3::Host;
 use image_check::Checked;
-use image_load::{Pause, RunFault, StartFault};
+use image_load::{RunFault, StartFault};
 use pv_io::Sink;
-use run_trace::{End, Ended, NoNotes, put_end};
+use run_trace::{End, Ended, NoNotes, Pause, end_of, put_end};
 use std::alloc::Global;
 
 /// Runs an image's patched text for at most so many steps, and puts the text of its trace.
@@ -89,15 +90,5 @@ fn whole<H: Host, O: Sink>(
     match put_end(&ended, out) {
         Err(_) => Err(RunFault::Write),
         Ok(()) => Ok(ended),
-    }
-}
-
-/// The end of a run whose last slice paused so.
-fn end_of(pause: Pause) -> End
-    ensures { result ≡ end_of pause }
-{
-    match pause {
-        Pause::Reached => End::Bound,
-        Pause::Stopped(stop) => End::Stopped(stop),
     }
 }

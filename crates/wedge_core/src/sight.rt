@@ -3,7 +3,7 @@
 ghost use Rattle.std.specs.Prelude.{◌≡◌, ◌+◌, ◌*◌, ◌/◌, ◌≤◌, ◌<◌, ◌^◌, length};
 ghost use Rattle.guest_ram.specs.Bytes.{AreBytes, byte, word32};
 ghost use Rattle.paging.specs.Fresh.{fresh, FoundIn};
-ghost use Rattle.native_steps.specs.Stands.{shown};
+ghost use Rattle.native_steps.specs.Mirrors.{shown};
 ghost use Rattle.wedge_core.specs.Standing.{ground};
 
 use crate::opened::TEXT_FRAME;

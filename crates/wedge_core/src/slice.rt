@@ -18,10 +18,12 @@ ghost use Rattle.wedge_core.specs.Pools.{Keeps};
 ghost use Rattle.machine_model.specs.Step.{items_at};
 ghost use Rattle.machine_step.specs.Worked.{whats};
 ghost use Rattle.run_trace.specs.Steps.{items_of};
-ghost use Rattle.wedge_core.specs.Slices.{SliceAs, GoesOn, Pauses};
+ghost use Rattle.wedge_core.specs.Slices.{SliceAs};
+ghost use Rattle.run_trace.specs.IfPaused.{IfPaused};
+ghost use Rattle.run_trace.specs.IfPaused.{IfReached};
 ghost use Rattle.wedge_core.specs.Stepping.{AloneAs, StepAs};
 ghost use Rattle.std.specs.Prelude.{List, ◌++◌, ◌∷◌, []};
-ghost use Rattle.native_steps.specs.Stands.{shown};
+ghost use Rattle.native_steps.specs.Mirrors.{shown};
 ghost use Rattle.machine_model.specs.State.{State};
 ghost use Rattle.machine_model.specs.Clash.{clashes_from};
 ghost use Rattle.wedge_core.specs.Parts.{left_of};
@@ -43,11 +45,10 @@ use frame_pool::Pool;
 use host_cpl3::Host;
 use ia32_types::Stop;
 use image_check::Checked;
-use image_load::Pause;
 use machine_model::steps_keep_able;
 use machine_step::Seen;
 use pv_io::{Failed, Sink};
-use run_trace::{Item, Notes, StepItems, put_step};
+use run_trace::{Item, Notes, Pause, StepItems, put_step};
 use shadow_cache::Reloads;
 
 /// Steps up to a count of steps, or to a stop. The lines of a step go to the sink at its end. Before which steps all
@@ -79,15 +80,15 @@ pub fn steps_to<S: Reloads + Drop, H: Host, O: Sink, L: Notes>(
         × (length (free_list pool.old (H.bytes host.old)) + running.old.held ≡ 512) × (L.wants notes.old ≡ false)) result }
     ensures wants { L.wants notes.new ≡ L.wants notes.old }
     ensures silent { L.wants notes.old ≡ false → notes.new ≡ notes.old }
-    ensures reached { GoesOn result (running.new.step ≡ bound) }
-    ensures ready { GoesOn result (IsReady S.slots S.noted S.marked S.value S.asides (ground image.now running.old.frames) running.new.cpu running.new.shadows (H.bytes host.new)) }
-    ensures held { GoesOn result (IsHeld S.stands S.frames S.slots (ground image.now running.old.frames) running.new pool.new (H.bytes host.new)) }
-    ensures able { GoesOn result (IsAble running.new.cpu) }
-    ensures counted { Pauses result (running.new.held ≡ length (S.frames running.new.shadows (H.bytes host.new))) }
-    ensures stands { Pauses result (∥ S.stands running.new.shadows (H.bytes host.new) ∥₁) }
+    ensures reached { IfReached result (running.new.step ≡ bound) }
+    ensures ready { IfReached result (IsReady S.slots S.noted S.marked S.value S.asides (ground image.now running.old.frames) running.new.cpu running.new.shadows (H.bytes host.new)) }
+    ensures held { IfReached result (IsHeld S.stands S.frames S.slots (ground image.now running.old.frames) running.new pool.new (H.bytes host.new)) }
+    ensures able { IfReached result (IsAble running.new.cpu) }
+    ensures counted { IfPaused result (running.new.held ≡ length (S.frames running.new.shadows (H.bytes host.new))) }
+    ensures stands { IfPaused result (∥ S.stands running.new.shadows (H.bytes host.new) ∥₁) }
     ensures filled { FillsOn (pages_kept S.slots S.asides running.old.shadows (H.bytes host.old)) (pages_kept S.slots S.asides running.new.shadows (H.bytes host.new)) running.old.fills running.new.fills }
-    ensures few { Pauses result (running.new.fills ≤ 128 * running.new.step) }
-    ensures pool { Pauses result (Keeps pool.old pool.new (H.bytes host.old) (H.bytes host.new) (S.frames running.old.shadows (H.bytes host.old)) (S.frames running.new.shadows (H.bytes host.new))) }
+    ensures few { IfPaused result (running.new.fills ≤ 128 * running.new.step) }
+    ensures pool { IfPaused result (Keeps pool.old pool.new (H.bytes host.old) (H.bytes host.new) (S.frames running.old.shadows (H.bytes host.old)) (S.frames running.new.shadows (H.bytes host.new))) }
     ensures started { H.is_started host.new ≡ true }
     ensures frames { running.new.frames ≡ running.old.frames }
     ensures later { O.faults out.old ≤ O.faults out.new }

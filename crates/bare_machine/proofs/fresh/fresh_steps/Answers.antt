@@ -2,10 +2,11 @@ use Rattle.std.proofs.Common.{◌≡◌, ℕ, ◌+◌, ◌-◌, Bool, List, Opti
 use Rattle.board.specs.Scripts.{Events}
 use Rattle.image_check.specs.Image.{Image}
 use Rattle.pv_io.specs.declared.answer.Failed.{Failed}
-use Rattle.image_load.specs.declared.fault.Pause.{Pause}
-use Rattle.image_load.specs.declared.fault.Pause.TheVariants.{Reached, Stopped}
+use Rattle.run_trace.specs.declared.pause.Pause.{Pause}
+use Rattle.run_trace.specs.declared.pause.Pause.TheVariants.{Reached, Stopped}
 use Rattle.machine_model.specs.State.{State}
-use Rattle.bare_machine.specs.Machine.{bare, state_of, with_set}
+use Rattle.bare_machine.specs.Machine.{bare, state_of}
+use Rattle.machine_model.specs.Run.{with_set}
 use Rattle.bare_machine.specs.Slices.{SliceAs}
 use Rattle.bare_machine.proofs.Begun.{none_within}
 use Rattle.bare_machine.proofs.Freshly.{nears_none, nears_cleared, nears_on, failed_from_start, stopped_from_start, bound_from_start}

@@ -2,7 +2,7 @@ use Rattle.std.proofs.Common.{◌≡◌, refl, sym, subst}
 use Rattle.board.specs.declared.devices.Board.{Board}
 use Rattle.step_mem.specs.Sound.{space_at}
 use Rattle.machine_model.specs.Step as steps
-use Rattle.machine_model.specs.Step.{step_of, stepped, Stands}
+use Rattle.machine_model.specs.Step.{step_of, stepped, Halts}
 use Rattle.machine_step.specs.Worked.{whats, completed_by, dropping, went_as}
 use Rattle.bare_machine.specs.Machine.{bare, state_of, Goes}
 use Rattle.bare_machine.proofs.machine.step.Goals as goal
@@ -13,7 +13,7 @@ returns-in-Err-clause-step g c = λ image.
     let m = c.args.machine.now in
     let s = bare image c.args.script.now.list m.frames in
     let b = state_of g.C.Cache.entries m in
-    subst (λ (d : Board). stepped s (record b { board = d }) ≡ Stands c.in-Err.stop) c.begin.ensures
+    subst (λ (d : Board). stepped s (record b { board = d }) ≡ Halts c.in-Err.stop) c.begin.ensures
     (rw c.in-Err.is at (c.step_again-result.ensures.step s b (record { has = refl; over = tt })))
 
 pub returns-in-Ok-clause-step : goal.returns-in-Ok-clause-step

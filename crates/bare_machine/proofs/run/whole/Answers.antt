@@ -2,7 +2,8 @@ use Rattle.std.proofs.Common.{◌≡◌, ℕ, ◌+◌, Ok, Err, sym, subst, arit
 use Rattle.pv_io.specs.Sink.{Appends, AppendsFront}
 use Rattle.run_trace.specs.declared.items.End.{End}
 use Rattle.run_trace.specs.Text.{end_line}
-use Rattle.bare_machine.specs.Answers.{WholeAs, end_of}
+use Rattle.bare_machine.specs.Answers.{WholeAs}
+use Rattle.run_trace.specs.Pauses.{end_of}
 use Rattle.bare_machine.specs.Machine.{bare, state_of}
 use Rattle.bare_machine.specs.Slices.{SliceAs}
 use Rattle.bare_machine.proofs.Wholes.{whole_put, whole_unput, whole_front}

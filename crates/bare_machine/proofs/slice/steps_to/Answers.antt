@@ -2,7 +2,7 @@ use Rattle.std.proofs.Common.{◌≡◌, ℕ, Bool, List, [], ◌∷◌, ◌++�
 use Rattle.pv_io.specs.Sink.{Appends, AppendsFront}
 use Rattle.run_trace.specs.declared.items.Item.{Item}
 use Rattle.run_trace.specs.Text.{lines_of}
-use Rattle.machine_model.specs.Step.{Stands, step_of}
+use Rattle.machine_model.specs.Step.{Halts, step_of}
 use Rattle.machine_step.specs.Worked.{whats}
 use Rattle.bare_machine.specs.Machine.{bare, state_of, Goes, Rests}
 use Rattle.bare_machine.proofs.Going.{going_none, going_on, passes_here, passes_on, front_on}
@@ -46,7 +46,7 @@ returns-in-Err-clause-slice g c = λ image.
       reports = going.reports;
       last = state_of e m;
       passes = passes_here _ _ _ _ _ _ going;
-      ends = (c.loop-machine-test.true, c.in-Err.ensures.count, subst (λ (f : ℕ). step_of (bare image c.args.script.now.list f) (state_of e m) (e m.kept.cache) ≡ Stands c.in-Err.stop) c.loop-machine.invariant.frames (c.in-Err.ensures.step image));
+      ends = (c.loop-machine-test.true, c.in-Err.ensures.count, subst (λ (f : ℕ). step_of (bare image c.args.script.now.list f) (state_of e m) (e m.kept.cache) ≡ Halts c.in-Err.stop) c.loop-machine.invariant.frames (c.in-Err.ensures.step image));
       text = going.text;
     }
 

@@ -1,5 +1,5 @@
 use Rattle.std.proofs.Common.{ℕ, List, Ok, sym, ap, ◌∙◌}
-use Rattle.host_cpl3.specs.declared.exit.Done.{Done}
+use Rattle.host_cpl3.specs.declared.exit.Completion.{Completion}
 use Rattle.host_cpl3.specs.Views.{selectors_of}
 use Rattle.host_cpl3.specs.Pages.{place, byte_at}
 use Rattle.host_cpl3.specs.HostStep.{ended, finished}
@@ -21,4 +21,4 @@ returns-after-ne-clause-gives c =
     c.in-Done.ensures c.requires.write c.requires.write_of).1 in
     ap (finished a.view.now a.insn.now.op a.ram.now) (sym c.in-Done.ensures)
     ∙ ap (λ (m : List ℕ). Ok (ended a.view.now a.insn.now.op c.in-Done.regs, m)) (sym (stores_same (placed a.write) (place a.ram.now a.view.now.root) a.ram.now c.in-Done.stores same) ∙ sym c.store_all.ensures.memory)
-    ∙ ap (λ (done : Done). Ok (done, c.store_all.new.ram)) (sym c.ended.ensures)
+    ∙ ap (λ (done : Completion). Ok (done, c.store_all.new.ram)) (sym c.ended.ensures)

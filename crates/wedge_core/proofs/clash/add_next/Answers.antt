@@ -1,6 +1,6 @@
 use Rattle.std.proofs.Common.{◌==◌, refl, ◌∙◌}
 use Rattle.native_steps.specs.Looking.{marked, next_seen}
-use Rattle.native_steps.specs.Stands.{shown}
+use Rattle.native_steps.specs.Mirrors.{shown}
 use Rattle.shadow_tables.specs.Entries.{entries_of}
 use Rattle.wedge_core.specs.Clashing.{looked, marks_of, seen_of, model_uses}
 use Rattle.wedge_core.specs.Standing.{ground}

@@ -14,7 +14,7 @@ use Rattle.shadow_cache.specs.Views as roots
 use Rattle.shadow_cache.specs.declared.roots.Roots.{Roots}
 use Rattle.machine_model.specs.Run.{Set}
 use Rattle.machine_model.specs.State.{wedge}
-use Rattle.native_steps.specs.Stands.{shown}
+use Rattle.native_steps.specs.Mirrors.{shown}
 use Rattle.wedge_core.specs.Standing.{ground, wp_of}
 use Rattle.wedge_core.proofs.Adopted.{IsNew, started, new_behind, new_frames, new_empty, new_ready, new_pages}
 use Rattle.wedge_core.proofs.Booted.{part_front}

@@ -1,6 +1,6 @@
 use Rattle.std.proofs.Common.{◌≡◌, ℕ, ◌*◌, Bool, cond, sym, ap, ◌∙◌, bit_or}
 use Rattle.native_steps.specs.Looking.{marked}
-use Rattle.native_steps.specs.Stands.{shown}
+use Rattle.native_steps.specs.Mirrors.{shown}
 use Rattle.wedge_core.specs.Standing.{ground}
 use Rattle.wedge_core.specs.Clashing.{marks_of}
 use Rattle.wedge_core.proofs.Sights.{marked_fit, marked_long, are_in}

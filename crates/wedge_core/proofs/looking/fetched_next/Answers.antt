@@ -1,5 +1,5 @@
 use Rattle.std.proofs.Common.{refl, sym, ◌∙◌}
-use Rattle.native_steps.specs.Stands.{shown}
+use Rattle.native_steps.specs.Mirrors.{shown}
 use Rattle.shadow_tables.specs.Entries.{entries_of}
 use Rattle.wedge_core.specs.Clashing.{looked, seen_of}
 use Rattle.wedge_core.specs.Standing.{ground}

@@ -2,7 +2,7 @@ use Rattle.std.proofs.Common.{◌&&◌, not}
 use Rattle.guest_ram.specs.Bytes.{byte}
 use Rattle.paging.specs.Fresh.{has}
 use Rattle.native_steps.specs.Looking.{is_front, marked}
-use Rattle.native_steps.specs.Stands.{shown}
+use Rattle.native_steps.specs.Mirrors.{shown}
 use Rattle.wedge_core.specs.Clashing.{looked, marks_of, seen_of}
 use Rattle.wedge_core.specs.Standing.{ground}
 use Rattle.wedge_core.proofs.LookedMarks.{any_first, any_second}

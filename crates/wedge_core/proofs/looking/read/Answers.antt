@@ -1,7 +1,7 @@
 use Rattle.std.proofs.Common.{ℕ, ◌+◌, ◌*◌, ◌%◌, ◌<◌, length, ap, ◌∙◌, arith}
 use Rattle.guest_ram.specs.Bytes.{byte}
 use Rattle.native_steps.specs.Looking.{marked}
-use Rattle.native_steps.specs.Stands.{shown}
+use Rattle.native_steps.specs.Mirrors.{shown}
 use Rattle.wedge_core.specs.Standing.{ground}
 use Rattle.wedge_core.specs.Clashing.{marks_of}
 use Rattle.wedge_core.proofs.Sights.{marked_long, shown_long, part_none, part_next}

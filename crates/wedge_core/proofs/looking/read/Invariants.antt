@@ -1,7 +1,7 @@
 use Rattle.std.proofs.Common.{◌≡◌, ◌+◌, ◌*◌, ◌%◌, ◌++◌}
 use Rattle.guest_ram.specs.Bytes.{part}
 use Rattle.native_steps.specs.Looking.{marked}
-use Rattle.native_steps.specs.Stands.{shown}
+use Rattle.native_steps.specs.Mirrors.{shown}
 use Rattle.wedge_core.specs.Standing.{ground}
 use Rattle.wedge_core.specs.Clashing.{marks_of}
 use Rattle.std.specs.Prelude.{length}

@@ -7,7 +7,7 @@ use Rattle.board.specs.Scripts.{Events}
 use Rattle.image_check.specs.Image.{Image}
 use Rattle.shadow_tables.specs.Entries.{entries_of}
 use Rattle.machine_model.specs.Keeping.{Roomy}
-use Rattle.machine_model.specs.Run.{Set}
+use Rattle.machine_model.specs.Run.{Set, with_set}
 use Rattle.machine_model.specs.Step.{stepped}
 use Rattle.machine_model.specs.Taken.{Taken, is_load}
 use Rattle.kept_laws.specs.Carried.{indices_in}
@@ -17,7 +17,7 @@ use Rattle.wedge_core.specs.declared.native.Attempt.TheVariants as attempt
 use Rattle.wedge_core.proofs.native.begin_native.Given.{Over}
 use Rattle.machine_model.specs.State.{Setting, State, wedge}
 use Rattle.wedge_core.specs.Attempts.{AttemptAs, WhereAsked, WhereWent}
-use Rattle.wedge_core.specs.Parts.{left_of, with_set}
+use Rattle.wedge_core.specs.Parts.{left_of}
 use Rattle.wedge_core.specs.Standing.{ground, set_of, state_of}
 use Rattle.wedge_core.specs.Views.{view_by}
 use Rattle.wedge_core.specs.declared.running.Running.{Running}

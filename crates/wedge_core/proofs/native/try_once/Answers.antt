@@ -9,7 +9,7 @@ use Rattle.image_check.specs.Image.{Image}
 use Rattle.shadow_tables.specs.Slots.{is_among}
 use Rattle.wedge_mem.specs.Settled.{pages_of}
 use Rattle.machine_model.specs.Keeping.{Roomy}
-use Rattle.machine_model.specs.Run.{Set}
+use Rattle.machine_model.specs.Run.{Set, with_set}
 use Rattle.machine_model.specs.Taken.{Taken}
 use Rattle.machine_model.specs.UsedPages.{Uses}
 use Rattle.machine_step.specs.Roots.{RootsAs}
@@ -37,7 +37,7 @@ use Rattle.machine_model.specs.State.{Setting, State, wedge, wedge_mode}
 use Rattle.machine_model.specs.Step.{fetches_next, stepped, unheld}
 use Rattle.native_steps.specs.Again as again
 use Rattle.native_steps.specs.Lends.{Lends}
-use Rattle.native_steps.specs.Stands.{IsWedge, IsHost, shown}
+use Rattle.native_steps.specs.Mirrors.{IsWedge, IsHost, shown}
 use Rattle.wedge_core.specs.Standing.{AreOpen, state_of, side_of, wp_of}
 use Rattle.wedge_core.specs.Told.{told}
 use Rattle.wedge_core.specs.Tries.{IsPrepared, OthersAreUsers}
@@ -52,7 +52,6 @@ use Rattle.wedge_core.proofs.Seeing.{side_is}
 use Rattle.wedge_core.proofs.Telling.{told_same, told_told, told_within}
 use Rattle.wedge_core.proofs.AfterTry.{After, any_script, told_sound, closes_told, after, few_after, held_then, keeps_then, keeps_still}
 use Rattle.machine_step.specs.Worked.{dropping, went_as}
-use Rattle.wedge_core.specs.Parts.{with_set}
 use Rattle.wedge_core.specs.Ready.{AllOpen, AreFound, IsReady, IsReadyBehind}
 use Rattle.wedge_core.specs.Standing.{ground}
 use Rattle.wedge_core.proofs.Returning.{is_left, all_loosened, all_within, within_left}

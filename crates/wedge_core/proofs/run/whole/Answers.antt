@@ -11,7 +11,8 @@ use Rattle.shadow_cache.specs.declared.roots.Roots.{Roots}
 use Rattle.machine_model.specs.State.{Setting, State, boot, wedge}
 use Rattle.wedge_core.specs.Filled.{pages_kept}
 use Rattle.wedge_core.specs.Noted.{NotesOn}
-use Rattle.wedge_core.specs.Promises.{WedgeAnswers, end_of}
+use Rattle.wedge_core.specs.Promises.{WedgeAnswers}
+use Rattle.run_trace.specs.Pauses.{end_of}
 use Rattle.wedge_core.specs.Slices.{BeginsEmpty, Counts, SliceAs}
 use Rattle.wedge_core.specs.Standing.{state_of}
 use Rattle.wedge_core.specs.declared.running.Running.{Running}

@@ -1,6 +1,6 @@
 use Rattle.std.proofs.Common.{arith}
 use Rattle.guest_ram.proofs.Bytes.{word32-is}
-use Rattle.native_steps.specs.Stands.{shown}
+use Rattle.native_steps.specs.Mirrors.{shown}
 use Rattle.wedge_core.specs.Standing.{ground}
 use Rattle.wedge_core.proofs.sight.word.Goals as goal
 

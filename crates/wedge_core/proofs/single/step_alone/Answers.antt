@@ -23,7 +23,7 @@ use Rattle.step_mem.specs.declared.walking.Control.{Control}
 use Rattle.wedge_mem.specs.Owned.{first, owns}
 use Rattle.step_mem.specs.Sound.{space_at}
 use Rattle.machine_model.specs.State.{wedge, wedge_mode}
-use Rattle.native_steps.specs.Stands.{shown}
+use Rattle.native_steps.specs.Mirrors.{shown}
 use Rattle.wedge_core.specs.Standing.{AreOpen, state_of, ground, side_of, wp_of}
 use Rattle.wedge_core.proofs.Alones.{alone_from, began}
 use Rattle.wedge_core.proofs.Opening.{same_open}
@@ -38,7 +38,7 @@ use Rattle.machine_model.specs.State.{Setting, State}
 use Rattle.machine_model.specs.Step.{stepped}
 use Rattle.machine_step.specs.Worked.{dropping, went_as}
 use Rattle.wedge_mem.specs.Settled.{pages_of}
-use Rattle.wedge_core.specs.Parts.{with_set}
+use Rattle.machine_model.specs.Run.{with_set}
 use Rattle.wedge_core.specs.Ready.{AllOpen, AreFound, IsReady, IsReadyBehind, leaving}
 use Rattle.wedge_core.specs.declared.running.Running.{Running}
 use Rattle.wedge_core.proofs.AfterTry.{After, after, few_after, held_then, keeps_then, any_script}

@@ -9,7 +9,7 @@ use Rattle.machine_step.specs.declared.worked.Seen.{Seen}
 use Rattle.machine_model.specs.Keeping.{Roomy}
 use Rattle.machine_model.specs.Run.{Set}
 use Rattle.machine_model.specs.Taken.{Taken, is_load}
-use Rattle.native_steps.specs.Stands.{shown}
+use Rattle.native_steps.specs.Mirrors.{shown}
 use Rattle.native_steps.proofs.Shown.{shown_length}
 use Rattle.kept_laws.specs.Carried.{indices_in}
 use Rattle.kept_laws.specs.Known.{IsKnown}

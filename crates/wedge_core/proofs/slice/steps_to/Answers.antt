@@ -9,7 +9,7 @@ use Rattle.frame_pool.specs.Pool.{free_list}
 use Rattle.frame_pool.specs.declared.Pool.{Pool}
 use Rattle.board.specs.Boards.{given}
 use Rattle.board.specs.Scripts.{Events}
-use Rattle.image_load.specs.declared.fault.Pause.TheVariants.{Stopped}
+use Rattle.run_trace.specs.declared.pause.Pause.TheVariants.{Stopped}
 use Rattle.run_trace.specs.declared.items.Item.{Item}
 use Rattle.run_trace.specs.Text.{lines_of}
 use Rattle.machine_model.specs.State.{Setting, State, wedge}

@@ -5,14 +5,15 @@ use Rattle.shadow_tables.specs.Entries.{entries_of}
 use Rattle.shadow_cache.specs.Views as roots
 use Rattle.shadow_cache.specs.declared.roots.Roots.{Roots}
 use Rattle.machine_model.specs.State.{State, wedge}
-use Rattle.native_steps.specs.Stands.{shown}
+use Rattle.native_steps.specs.Mirrors.{shown}
 use Rattle.wedge_core.specs.Carried.{IsCarried}
 use Rattle.wedge_core.specs.Filled.{FillsOn, pages_kept}
 use Rattle.wedge_core.specs.Noted.{NotesOn}
 use Rattle.wedge_core.specs.Pools.{Keeps}
 use Rattle.wedge_core.specs.Promises.{with_patches}
 use Rattle.wedge_core.specs.Ready.{IsReady}
-use Rattle.wedge_core.specs.Slices.{BeginsEmpty, Counts, SliceAs, GoesOn}
+use Rattle.wedge_core.specs.Slices.{BeginsEmpty, Counts, SliceAs}
+use Rattle.run_trace.specs.Pauses.{IfReached}
 use Rattle.wedge_core.specs.Standing.{IsHeld, ground, state_of}
 use Rattle.wedge_core.specs.declared.running.Running.{Running}
 use Rattle.wedge_core.proofs.Keeping.{keeps_join}
@@ -52,7 +53,7 @@ pub returns-clause-memory : goal.returns-clause-memory
 returns-clause-memory g c =
     let old = c.args.self.now.running in
     let begun = c.begin.new.self.running in
-    subst (λ (n : ℕ). GoesOn c.steps_to.result (take (4096 * n) (g.H.Host.bytes c.steps_to.new.host) ≡ with_patches c.args.image.now (shown (wedge c.args.image.now c.args.script.now.list n) (g.H.Host.bytes c.steps_to.new.host))))
+    subst (λ (n : ℕ). IfReached c.steps_to.result (take (4096 * n) (g.H.Host.bytes c.steps_to.new.host) ≡ with_patches c.args.image.now (shown (wedge c.args.image.now c.args.script.now.list n) (g.H.Host.bytes c.steps_to.new.host))))
     (same_frames old begun c.begin.ensures.running)
     (front_after c.steps_to.result c.args.image.now c.args.script.now.list begun.frames c.steps_to.new.running c.steps_to.new.pool (g.H.Host.bytes c.steps_to.new.host) c.steps_to.ensures.held)
 

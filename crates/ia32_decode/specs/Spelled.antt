@@ -1,4 +1,4 @@
--- What the code's answers say of bytes that were fetched.
+-- What a decoder's answer says of the bytes that it was given.
 use Rattle.std.specs.Prelude.{ℕ, List}
 use Rattle.ia32_decode.specs.declared.answer.Decoded.{Decoded}
 use Rattle.ia32_decode.specs.declared.answer.Decoded.TheVariants as begins

@@ -44,7 +44,7 @@ pub record Sees (v : View) (cpu : Cpu) : Type 0 where
   pub user_flags : v.kernel ≡ false → is_open cpu ≡ true
 
 -- The guest's state over the host's memory; the host's registers are those of the state's processor.
-pub record Stands (m : Setting) (memory : List ℕ) (v : View) (b : State) : Type 0 where
+pub record Mirrors (m : Setting) (memory : List ℕ) (v : View) (b : State) : Type 0 where
   pub host : IsHost m memory
   pub ram : b.ram ≡ shown m memory
   pub sees : Sees v b.cpu
