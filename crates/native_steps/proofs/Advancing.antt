@@ -71,6 +71,36 @@ any_allowed : (m : Setting) (b : State) → Loosened m b b.set
 any_allowed m b = record { each = λ page e is. inl is }
 
 module _ (laws : Laws) (m : Setting) (v : View) (w : IsWedge m) where
+  -- no instruction completes
+  none_done : (b : State) (s : Standing) → Beside m v b s → (k : ℕ) (exit : Exit) (t : Standing) → EndsAs m v exit s t → Advanced m v b k s exit t
+  unfolding Steps
+  none_done b s h k exit t ends = record {
+    n = 0;
+    few = omega arith;
+    last = s;
+    after = b;
+    reports = [];
+    steps = (refl, refl);
+    left = tt;
+    quiet = all_none IsQuiet;
+    beside = h;
+    cpu = ap (λ (r : Regs). record b.cpu { regs = r }) h.regs;
+    set = refl;
+    board = refl;
+    count = omega arith;
+    unseen = refl;
+    pages = all_none (λ (x : Report). AreKept b.set x.pages);
+    unwalked = all_none (λ (x : Report). x.tables ≡ []);
+    through = all_none (λ (x : Report). is_load x.completed ≡ false);
+    direct = refl;
+    passed = refl;
+    retired = omega arith;
+    behind = behind_same m s.ram;
+    untouched = λ at none. refl;
+    guest_untouched = λ at none. refl;
+    ends = ends;
+  }
+
   -- ---- one instruction
 
   module _ (b : State) (s : Standing) (k : ℕ) (h : Beside m v b s) (q : AreQuiet m b (suc k)) where
@@ -250,35 +280,6 @@ module _ (laws : Laws) (m : Setting) (v : View) (w : IsWedge m) where
 
     -- ---- it doesn't
 
-    none_done : (exit : Exit) (t : Standing) → EndsAs m v exit s t → Advanced m v b (suc k) s exit t
-    unfolding Steps
-    none_done exit t ends = record {
-      n = 0;
-      few = omega arith;
-      last = s;
-      after = b;
-      reports = [];
-      steps = (refl, refl);
-      left = tt;
-      quiet = all_none IsQuiet;
-      beside = h;
-      cpu = ap (λ (r : Regs). record b.cpu { regs = r }) h.regs;
-      set = refl;
-      board = refl;
-      count = omega arith;
-      unseen = refl;
-      pages = all_none (λ (x : Report). AreKept b.set x.pages);
-      unwalked = all_none (λ (x : Report). x.tables ≡ []);
-      through = all_none (λ (x : Report). is_load x.completed ≡ false);
-      direct = refl;
-      passed = refl;
-      retired = omega arith;
-      behind = behind_same m s.ram;
-      untouched = λ at none. refl;
-      guest_untouched = λ at none. refl;
-      ends = ends;
-    }
-
     kernel_of : (at : ℕ) → is_entry v at ≡ true → v.kernel ≡ true
     kernel_of at e = (both v.kernel (is_window at) e).0
 
@@ -328,35 +329,10 @@ module _ (laws : Laws) (m : Setting) (v : View) (w : IsWedge m) where
         → Advanced m v b (suc k) s (after_step s met (host_run v k)).0 (after_step s met (host_run v k)).1
     by_step (Ok (Completed regs, ram)) e rest =
         one_more regs ram e _ _ (rest (after regs ram e) (counted s regs ram) (beside regs ram e) (quiet_on laws.quiet m b (after regs ram e) (later regs ram e) k q))
-    by_step (Ok (Entered regs, ram)) e rest = none_done (exits.Entry regs.eip) (record s { regs = regs; ram = ram }) (entry_ends regs ram e)
-    by_step (Err exit) e rest = none_done exit s (exit_ends exit e)
+    by_step (Ok (Entered regs, ram)) e rest = none_done b s h (suc k) (exits.Entry regs.eip) (record s { regs = regs; ram = ram }) (entry_ends regs ram e)
+    by_step (Err exit) e rest = none_done b s h (suc k) exit s (exit_ends exit e)
 
   pub advanced : (k : ℕ) (b : State) (s : Standing) → Beside m v b s → AreQuiet m b k → Advanced m v b k s (host_run v k s).0 (host_run v k s).1
   unfolding host_run Steps
-  advanced zero b s h q = record {
-    n = 0;
-    few = omega arith;
-    last = s;
-    after = b;
-    reports = [];
-    steps = (refl, refl);
-    left = tt;
-    quiet = all_none IsQuiet;
-    beside = h;
-    cpu = ap (λ (r : Regs). record b.cpu { regs = r }) h.regs;
-    set = refl;
-    board = refl;
-    count = omega arith;
-    unseen = refl;
-    pages = all_none (λ (x : Report). AreKept b.set x.pages);
-    unwalked = all_none (λ (x : Report). x.tables ≡ []);
-    through = all_none (λ (x : Report). is_load x.completed ≡ false);
-    direct = refl;
-    passed = refl;
-    retired = omega arith;
-    behind = behind_same m s.ram;
-    untouched = λ at none. refl;
-    guest_untouched = λ at none. refl;
-    ends = refl;
-  }
+  advanced zero b s h q = none_done b s h zero exits.Budget s refl
   advanced (suc k) b s h q = by_step b s k h q (host_step v s.ram s.regs) refl (advanced k)

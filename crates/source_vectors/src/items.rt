@@ -2,6 +2,7 @@
 //! parentheses stand base, index and scale.
 
 use asm_parse::{Arguments, Body, Form, Name, Source, Value, parse};
+use crate::gcc::FROM_GCC;
 use std::alloc::{AllocError, Global};
 use std::test::*;
 
@@ -225,35 +226,6 @@ fn each_operand_has_its_form(rt: HostRuntime) {
         assert!(rt; reads_as(&rt, text, items), "{text}");
     }
 }
-
-const FROM_GCC: &str = "\t.file \"k.c\"
-\t.text
-\t.p2align 4
-\t.globl _start
-\t.type _start, @function
-_start:
-.LFB0:
-\t.cfi_startproc
-\tmovl $1, %eax
-\tjmp *.L4(,%eax,4)
-\t.section .rodata
-\t.align 4
-.L4:
-\t.long .L2
-\t.long .L3
-\t.text
-\t.p2align 4,,10
-\t.p2align 3
-.L3:
-\tmovl $33, %eax
-\toutb %al, $128
-.L2:
-\thlt
-\t.cfi_endproc
-\t.size _start, .-_start
-\t.ident \"GCC: (GNU) 12.2.0\"
-\t.section .note.GNU-stack,\"\",@progbits
-";
 
 const ITEMS_OF_GCC: &str = "2 .text;3 .p2align 4(,,1);4 .globl _start+0(,,1);6 _start:;7 .LFB0:;\
 9 movl $1 %eax;10 jmp *.L4+0(,eax,4);11 .section \".rodata\";12 .align 4(,,1);13 .L4:;\

@@ -3,6 +3,8 @@
 #![tactic(auto)]
 
 #[cfg(test)]
+mod gcc;
+#[cfg(test)]
 mod instructions;
 #[cfg(test)]
 mod items;

@@ -1,6 +1,7 @@
 use afterburner::{BurnFault, burn};
 use asm_parse::parse;
 use elf_form::{DefinedIn, Object, Reloc, Symbol};
+use crate::gcc::FROM_GCC;
 use std::alloc::AllocError;
 use std::test::*;
 
@@ -263,35 +264,6 @@ macro_rules! in_data {
         Reloc { in_text: false, at: $at, symbol: $symbol, relative: false }
     };
 }
-
-const FROM_GCC: &str = "\t.file \"k.c\"
-\t.text
-\t.p2align 4
-\t.globl _start
-\t.type _start, @function
-_start:
-.LFB0:
-\t.cfi_startproc
-\tmovl $1, %eax
-\tjmp *.L4(,%eax,4)
-\t.section .rodata
-\t.align 4
-.L4:
-\t.long .L2
-\t.long .L3
-\t.text
-\t.p2align 4,,10
-\t.p2align 3
-.L3:
-\tmovl $33, %eax
-\toutb %al, $128
-.L2:
-\thlt
-\t.cfi_endproc
-\t.size _start, .-_start
-\t.ident \"GCC: (GNU) 12.2.0\"
-\t.section .note.GNU-stack,\"\",@progbits
-";
 
 const TEXT_OF_GCC: &[u8] =
     b"\xB8\x01\x00\x00\x00\xFF\x24\x85\x00\x00\x00\x00\x90\x90\x90\x90\xB8\x21\x00\x00\x00\xE6\x80\x90\x90\x90\xF4\x90\x90\x90\x90";
