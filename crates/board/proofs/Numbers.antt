@@ -8,7 +8,7 @@ use Rattle.std.proofs.lemmas.Bool.Decides.{leb_tells}
 use Rattle.std.proofs.lemmas.List.Splits.{slice_split_first, slice_split_none, length-slice_split}
 use Rattle.std.proofs.lemmas.List.Sums.{fails_before_first}
 use Rattle.std.proofs.lemmas.List.Elements.{All-from_all_within}
-use Rattle.core.specs.Char.{is_ascii_digit}
+use Rattle.std.specs.Char.{is_ascii_digit}
 use Rattle.board.specs.Texts.{decimal_after, number_after, cut_at, event_in}
 use Rattle.board.specs.declared.fault.ScriptCause.TheVariants.{NoForm}
 use Rattle.board.specs.Cuts.{IsCut}

@@ -130,7 +130,7 @@ impl Pit {
         match self.timer.count {
             None => false,
             Some(count) => {
-                self.timer.count = Some(passed(count, k));
+                self.timer.count = Some(counted_down(count, k));
                 count.left <= k
             }
         }
@@ -154,8 +154,8 @@ fn is_count(count: &Count) -> bool
     is_period(count.period) && next_fits && 0 < count.left && count.left <= 8 * count.period as u64
 }
 
-/// A counter k steps later.
-fn passed(count: Count, k: u64) -> Count
+/// A counter that has counted down for k steps, and started anew at each 0.
+fn counted_down(count: Count, k: u64) -> Count
     requires { is_count (Some count) ≡ true }
     ensures value { IsAfter k count result }
     ensures runs { is_count (Some result) ≡ true }
