@@ -16,8 +16,6 @@ use Rattle.machine_model.specs.Step as steps
 use Rattle.machine_model.specs.UsedPages.{Uses}
 use Rattle.machine_step.specs.declared.worked.Begun.{Begun}
 use Rattle.machine_step.specs.declared.worked.Begun.TheVariants as begun
-use Rattle.machine_step.specs.declared.worked.Reached.{Reached}
-use Rattle.machine_step.specs.declared.worked.Reached.TheVariants as reached
 use Rattle.machine_step.specs.Worked.{went_as, IsDropped}
 
 -- a step went, or has fetched an instruction, from which it goes on
@@ -45,13 +43,3 @@ AtEffect user s _ t = Uses user s t
 abbrev pub after_reach : Setting → State → steps.Completed → Outcome Refusal (Unit {0}) → (Space → steps.Result) → steps.Result
 after_reach m b completed (Ok done) go = go done.1
 after_reach m b completed (Err refused) go = steps.effect_on m b completed (told_refusal b.cpu refused.0 refused.1)
-
--- both ranges are translated and nothing is done yet, or the step went
-abbrev pub ReachesTo : steps.Result → State → (Space → steps.Result) → Result Reached Stop → Board → Space → Type 0
-ReachesTo result b go (Ok reached.Ready) board s = result ≡ go s
-ReachesTo result b go (Ok (reached.Worked worked)) board s = result ≡ went_as b worked board s
-ReachesTo result b go (Err stop) board s = result ≡ steps.Halts stop
-
-abbrev pub IsReached : Reached → Type 0 → Type 0
-IsReached reached.Ready made = made
-IsReached (reached.Worked worked) made = IsDropped worked.dropped

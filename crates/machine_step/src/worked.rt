@@ -47,10 +47,3 @@ pub enum Begun {
     Worked(Worked),
     Fetched { insn: Insn, len: u8, cpu: Cpu },
 }
-
-/// Both ranges of an instruction are translated and nothing is done yet, or the instruction raised.
-#[derive(Clone, Copy, Debug)]
-pub enum Reached {
-    Ready,
-    Worked(Worked),
-}

@@ -1,5 +1,5 @@
 use Rattle.machine_step.proofs.Divided.{divides}
-use Rattle.machine_step.proofs.native.plain_divides.Goals as goal
+use Rattle.machine_step.proofs.laws.plain_divides.Goals as goal
 
 pub returns : goal.returns
 returns c = divides
