@@ -28,6 +28,8 @@ use Rattle.image_load.specs.Boot.{need}
 use Rattle.bare_machine.specs.Machine.{bare, Passes, FirstIs}
 use Rattle.bare_machine.specs.Slices.{SliceAs}
 use Rattle.bare_machine.specs.Answers.{RunsTo, WholeAs, RunAnswers}
+use Rattle.bare_machine.specs.Ending.{EndsAs}
+use Rattle.bare_machine.specs.Starts.{NotBegun}
 use Rattle.bare_machine.specs.FreshRuns.{Course, after_step, fresh_course, course_text, IsFreshRun, EachCourseIsARun, CourseAs, Comes, FreshAnswers}
 use Rattle.bare_machine.proofs.Runs.{same_step, trace_join}
 use Rattle.bare_machine.proofs.Going.{lines_join}
@@ -195,7 +197,7 @@ unfolding text_of
 text_here x count end told tells c = ap course_text c.course
 
 -- the last line was put
-pub course_put : (x : Course) (count : ℕ) (end : End) (a b c : Option (List ℕ)) (before mid now : ℕ) → Comes x count end a b → Appends b c (end_line count end) → before ≤ mid → mid ≤ now
+course_put : (x : Course) (count : ℕ) (end : End) (a b c : Option (List ℕ)) (before mid now : ℕ) → Comes x count end a b → Appends b c (end_line count end) → before ≤ mid → mid ≤ now
     → CourseAs x a c before now (Ok (record { steps = count; end = end; fills = 0 }))
 course_put x count end a b c before mid now h put le more = (
   ap (λ (y : Course). record { steps = y.count; end = y.end; fills = 0 }) (sym h.course),
@@ -204,12 +206,21 @@ course_put x count end a b c before mid now h put le more = (
 )
 
 -- or a front of it
-pub course_unput : (x : Course) (count : ℕ) (end : End) (a b c : Option (List ℕ)) (before mid now : ℕ) → Comes x count end a b → AppendsFront b c (end_line count end) → before ≤ mid → Rose mid now
+course_unput : (x : Course) (count : ℕ) (end : End) (a b c : Option (List ℕ)) (before mid now : ℕ) → Comes x count end a b → AppendsFront b c (end_line count end) → before ≤ mid → Rose mid now
     → CourseAs x a c before now (Err fault.Write)
 course_unput x count end a b c before mid now h put le rose = (
   front_of a b c _ (end_line count end) [] _ h.text put (text_here x count end a b h ∙ ap (λ (l : List ℕ). lines_of (trace_of h.reports) ++ l) (sym (append-nil (end_line count end)))),
   rose_later before mid now le rose,
 )
+
+-- the steps are done, and the last line answers
+pub course_ended : (x : Course) (count : ℕ) (end : End) (a b c : Option (List ℕ)) (before mid now : ℕ) (result : Result Ended RunFault) → Comes x count end a b → before ≤ mid → EndsAs count end b c mid now result
+    → CourseAs x a c before now result
+course_ended x count end a b c before mid now (Ok ended) h le e =
+    subst (λ (y : Ended). CourseAs x a c before now (Ok y)) (sym e.0) (course_put x count end a b c before mid now h e.1 le e.2)
+course_ended x count end a b c before mid now (Err fault.Write) h le e = course_unput x count end a b c before mid now h e.0 le e.1
+course_ended x count end a b c before mid now (Err (fault.TooSmall small)) h le e = absurd e
+course_ended x count end a b c before mid now (Err fault.Memory) h le e = absurd e
 
 none_some : (e : Entry) → None ≡ Some e → ⊥
 none_some e h = cc
@@ -293,3 +304,9 @@ stopped_from_start s exact n old now new told tells last stop start clear less h
 pub bound_from_start : (s : Setting) (n : ℕ) (old now : State) (told tells : Option (List ℕ)) → old.step ≡ 0 → n ≤ now.step → Nears s n old now told tells → Comes (fresh_course s n old) now.step ends.Bound told tells
 bound_from_start s n old now told tells start le h =
     subst (λ (c : Course). Comes c now.step ends.Bound told tells) (all_left s n old start) (comes_bound s n old now told tells le h)
+
+-- a run that does not begin writes nothing
+pub fresh_unbegun : (image : Image) (script : Events) (frames n : ℕ) (old : Option (List ℕ)) (before : ℕ) (why : RunFault) → NotBegun image frames why → FreshAnswers image script frames n old old before before (Err why)
+fresh_unbegun image script frames n old before fault.Write h = absurd h
+fresh_unbegun image script frames n old before (fault.TooSmall small) h = (h.0, h.1, refl, refl)
+fresh_unbegun image script frames n old before fault.Memory h = (refl, refl)

@@ -20,7 +20,9 @@ use Rattle.machine_model.specs.Run.{Run, trace_of, with_set}
 use Rattle.machine_model.proofs.Ending.{each_ends}
 use Rattle.bare_machine.specs.Machine.{bare}
 use Rattle.bare_machine.specs.Slices.{SliceAs}
-use Rattle.bare_machine.specs.Answers.{RunsTo, HasRun, WholeAs, RunAnswers}
+use Rattle.bare_machine.specs.Answers.{RunsTo, HasRun, WholeAs, RunAnswers, RefusedRun}
+use Rattle.bare_machine.specs.Ending.{EndsAs}
+use Rattle.bare_machine.specs.Starts.{NotBegun}
 use Rattle.run_trace.specs.Pauses.{end_of}
 use Rattle.bare_machine.proofs.Runs.{part_allowed, same_step, steps_join, trace_join}
 use Rattle.bare_machine.proofs.Going.{lines_join}
@@ -54,7 +56,7 @@ ran s exact n old new told tells (Stopped stop) h = record {
 }
 
 -- all lines and the last one were put
-pub whole_put : (s : Setting) (exact : Bool) (n : ℕ) (old new : State) (a b c : Option (List ℕ)) (pause : Pause) (before mid now : ℕ) → (h : SliceAs s exact n old new a b (Ok pause))
+whole_put : (s : Setting) (exact : Bool) (n : ℕ) (old new : State) (a b c : Option (List ℕ)) (pause : Pause) (before mid now : ℕ) → (h : SliceAs s exact n old new a b (Ok pause))
     → Appends b c (end_line new.step (end_of pause)) → before ≤ mid → mid ≤ now → WholeAs s n old a c before now (Ok (record { steps = new.step; end = end_of pause; fills = 0 }))
 whole_put s exact n old new a b c pause before mid now h put le more = (
   lines_of (trace_of h.reports) ++ end_line new.step (end_of pause),
@@ -64,7 +66,7 @@ whole_put s exact n old new a b c pause before mid now h put le more = (
 )
 
 -- all lines and a front of the last one
-pub whole_unput : (s : Setting) (exact : Bool) (n : ℕ) (old new : State) (a b c : Option (List ℕ)) (pause : Pause) (before mid now : ℕ) → (h : SliceAs s exact n old new a b (Ok pause))
+whole_unput : (s : Setting) (exact : Bool) (n : ℕ) (old new : State) (a b c : Option (List ℕ)) (pause : Pause) (before mid now : ℕ) → (h : SliceAs s exact n old new a b (Ok pause))
     → AppendsFront b c (end_line new.step (end_of pause)) → before ≤ mid → Rose mid now → WholeAs s n old a c before now (Err fault.Write)
 whole_unput s exact n old new a b c pause before mid now h put le rose = (
   lines_of (trace_of h.reports) ++ end_line new.step (end_of pause),
@@ -74,6 +76,15 @@ whole_unput s exact n old new a b c pause before mid now h put le rose = (
   front_of a b c (lines_of (trace_of h.reports)) (end_line new.step (end_of pause)) [] _ h.text put (ap (λ (l : List ℕ). lines_of (trace_of h.reports) ++ l) (sym (append-nil (end_line new.step (end_of pause))))),
   omega (arith, le, rose),
 )
+
+-- the slice ended, and the last line answers
+pub whole_ended : (s : Setting) (exact : Bool) (n : ℕ) (old new : State) (a b c : Option (List ℕ)) (pause : Pause) (before mid now : ℕ) (result : Result Ended RunFault) → SliceAs s exact n old new a b (Ok pause)
+    → before ≤ mid → EndsAs new.step (end_of pause) b c mid now result → WholeAs s n old a c before now result
+whole_ended s exact n old new a b c pause before mid now (Ok ended) h le e =
+    subst (λ (x : Ended). WholeAs s n old a c before now (Ok x)) (sym e.0) (whole_put s exact n old new a b c pause before mid now h e.1 le e.2)
+whole_ended s exact n old new a b c pause before mid now (Err fault.Write) h le e = whole_unput s exact n old new a b c pause before mid now h e.0 le e.1
+whole_ended s exact n old new a b c pause before mid now (Err (fault.TooSmall small)) h le e = absurd e
+whole_ended s exact n old new a b c pause before mid now (Err fault.Memory) h le e = absurd e
 
 -- the text of a run that goes on
 text_join : (reports later : List Report) (count : ℕ) (end : End) → text_of (trace_of (reports ++ later)) count end ≡ lines_of (trace_of reports) ++ (lines_of (trace_of later) ++ end_line count end)
@@ -122,3 +133,9 @@ answered image script frames n first old new before now (Ok ended) fits is h = (
 answered image script frames n first old new before now (Err fault.Write) fits is h = (h.0, h.1, h.2, has_run image script frames n first h.0 h.1 h.2 fits is h.3, h.4, h.5)
 answered image script frames n first old new before now (Err (fault.TooSmall small)) fits is h = absurd h
 answered image script frames n first old new before now (Err fault.Memory) fits is h = absurd h
+
+-- a run that does not begin writes nothing
+pub unbegun : (image : Image) (script : Events) (frames n : ℕ) (old : Option (List ℕ)) (before : ℕ) (why : RunFault) → NotBegun image frames why → RefusedRun image script frames n old old before before why
+unbegun image script frames n old before fault.Write h = absurd h
+unbegun image script frames n old before (fault.TooSmall small) h = (h.0, h.1, refl, refl)
+unbegun image script frames n old before fault.Memory h = (refl, refl)

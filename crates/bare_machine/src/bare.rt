@@ -23,9 +23,9 @@ use image_check::Checked;
 use image_load::{StartFault, load};
 use machine_model::runs_keep_fit;
 use pv_io::{Failed, Sink};
+use run_trace::Pause;
 use std::alloc::Global;
 use xlate_buffer::Cache;
-use run_trace::Pause;
 
 impl<C: Cache> Bare<C> {
     /// The machine in the state in which every run begins.

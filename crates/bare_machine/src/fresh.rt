@@ -7,13 +7,14 @@ ghost use Rattle.bare_machine.specs.Machine.{bare, state_of, IsKept};
 ghost use Rattle.bare_machine.specs.Answers.{RunAnswers};
 ghost use Rattle.bare_machine.specs.FreshRuns.{FreshAnswers, CourseAs, StepsAs, fresh_course};
 
+use crate::ending::{begun, end_run};
 use crate::machine::Bare;
 use bare_mem::drop_all;
 use board::Script;
 use image_check::Checked;
-use image_load::{RunFault, StartFault};
+use image_load::RunFault;
 use pv_io::{Failed, Sink};
-use run_trace::{End, Ended, Pause, put_end};
+use run_trace::{End, Ended, Pause};
 use std::alloc::Global;
 use xlate_buffer::{Buffer, Cache};
 
@@ -33,9 +34,8 @@ pub fn run_fresh<O: Sink>(
     ensures run { RunAnswers image.now script.now.list frames n (O.taken out.old) (O.taken out.new) (O.faults out.old) (O.faults out.new) result }
     ensures fresh { FreshAnswers image.now script.now.list frames n (O.taken out.old) (O.taken out.new) (O.faults out.old) (O.faults out.new) result }
 {
-    match Bare::start(alloc, image, frames, Buffer::new()) {
-        Err(StartFault::TooSmall(small)) => Err(RunFault::TooSmall(small)),
-        Err(StartFault::Memory) => Err(RunFault::Memory),
+    match begun(alloc, image, frames, Buffer::new()) {
+        Err(fault) => Err(fault),
         Ok(machine) => {
             let mut machine = machine;
             course(&mut machine, script, n, out)
@@ -56,18 +56,9 @@ fn course<C: Cache, O: Sink>(
     requires bound { n ≤ 2 ^ 40 }
     ensures course { (image : Image) → CourseAs (fresh_course (bare image script.now.list machine.old.frames) n (state_of C.entries machine.old)) (O.taken out.old) (O.taken out.new) (O.faults out.old) (O.faults out.new) result }
 {
-    let end = match fresh_steps(machine, script, n, out) {
-        Err(_) => return Err(RunFault::Write),
-        Ok(end) => end,
-    };
-    let ended = Ended {
-        steps: machine.step(),
-        end,
-        fills: 0,
-    };
-    match put_end(&ended, out) {
+    match fresh_steps(machine, script, n, out) {
         Err(_) => Err(RunFault::Write),
-        Ok(()) => Ok(ended),
+        Ok(end) => end_run(machine.step, end, out),
     }
 }
 

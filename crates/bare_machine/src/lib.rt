@@ -2,6 +2,7 @@
 #![tactic(auto)]
 
 mod bare;
+mod ending;
 mod finish;
 mod fresh;
 mod idle;

@@ -7,12 +7,13 @@ ghost use Rattle.bare_machine.specs.Machine.{bare, state_of, IsKept};
 ghost use Rattle.bare_machine.specs.Answers.{RunAnswers, WholeAs};
 ghost use Rattle.run_trace.specs.Pauses.{end_of};
 
+use crate::ending::{begun, end_run};
 use crate::machine::Bare;
 use board::Script;
 use image_check::Checked;
-use image_load::{RunFault, StartFault};
+use image_load::RunFault;
 use pv_io::Sink;
-use run_trace::{End, Ended, Pause, end_of, put_end};
+use run_trace::{Ended, end_of};
 use std::alloc::Global;
 use xlate_buffer::{Buffer, Cache};
 
@@ -31,9 +32,8 @@ pub fn run_bare<O: Sink>(
     ensures run { RunAnswers image.now script.now.list frames n (O.taken out.old) (O.taken out.new) (O.faults out.old) (O.faults out.new) result }
     ensures fills { IfOk result (λ ended. ended.fills ≡ 0) }
 {
-    match Bare::start(alloc, image, frames, Buffer::new()) {
-        Err(StartFault::TooSmall(small)) => Err(RunFault::TooSmall(small)),
-        Err(StartFault::Memory) => Err(RunFault::Memory),
+    match begun(alloc, image, frames, Buffer::new()) {
+        Err(fault) => Err(fault),
         Ok(machine) => {
             let mut machine = machine;
             whole(&mut machine, script, n, out)
@@ -55,17 +55,8 @@ fn whole<C: Cache, O: Sink>(
     ensures whole { (image : Image) → WholeAs (bare image script.now.list machine.old.frames) n (state_of C.entries machine.old) (O.taken out.old) (O.taken out.new) (O.faults out.old) (O.faults out.new) result }
     ensures fills { IfOk result (λ ended. ended.fills ≡ 0) }
 {
-    let pause = match machine.slice(script, n, out) {
-        Err(_) => return Err(RunFault::Write),
-        Ok(pause) => pause,
-    };
-    let ended = Ended {
-        steps: machine.step(),
-        end: end_of(pause),
-        fills: 0,
-    };
-    match put_end(&ended, out) {
+    match machine.slice(script, n, out) {
         Err(_) => Err(RunFault::Write),
-        Ok(()) => Ok(ended),
+        Ok(pause) => end_run(machine.step, end_of(pause), out),
     }
 }

@@ -2,12 +2,15 @@ use Rattle.std.proofs.Common.{ℕ, subst}
 use Rattle.xlate_buffer.specs.declared.Buffer.{Buffer}
 use Rattle.bare_machine.specs.Answers.{WholeAs}
 use Rattle.bare_machine.specs.Machine.{bare, state_of}
-use Rattle.bare_machine.proofs.Wholes.{answered}
+use Rattle.bare_machine.proofs.Wholes.{answered, unbegun}
 use Rattle.bare_machine.proofs.run.run_bare.Goals as goal
 
 pub returns-in-Ok-clause-run : goal.returns-in-Ok-clause-run
 returns-in-Ok-clause-run g c =
-    let started = c.in-Ok.ensures.started in
+    let started = c.in-Ok.ensures.begun in
     let ran = subst (λ (f : ℕ). WholeAs (bare c.args.image.now c.args.script.now.list f) c.args.n (state_of (λ (b : Buffer). b) c.in-Ok.machine) (g.O.Sink.taken c.args.out.now) (g.O.Sink.taken c.whole.new.out) (g.O.Sink.faults c.args.out.now) (g.O.Sink.faults c.whole.new.out) c.whole.result) started.1 (c.whole.ensures.whole c.args.image.now) in
     answered c.args.image.now c.args.script.now.list c.args.frames c.args.n (state_of (λ (b : Buffer). b) c.in-Ok.machine) _ _ _ _ c.whole.result
     started.0 (started.4 c.args.script.now.list) ran
+
+pub returns-in-Err-clause-run : goal.returns-in-Err-clause-run
+returns-in-Err-clause-run g c = unbegun c.args.image.now c.args.script.now.list c.args.frames c.args.n _ _ c.in-Err.fault c.in-Err.ensures.refused
