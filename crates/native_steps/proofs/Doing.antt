@@ -196,7 +196,7 @@ module _ (m : Setting) (b : State) (c : Completed) where
     taking len v = unless (refusal.Stop stops.FlagBits) (keeps_flags v) >>= (λ (x : Unit {0}). next (with_flags (past_pop cpu len) (new_flags cpu v)))
 
     abbrev popped_to : ℕ → Flags → exec.Outcome
-    popped_to len f = outcomes.Done (registers.passed len (with_whole 4 (esp_above 4 cpu.regs) (record cpu.regs { flags = f }))) Nothing
+    popped_to len f = outcomes.Done (registers.eip_past len (with_whole 4 (esp_above 4 cpu.regs) (record cpu.regs { flags = f }))) Nothing
 
     popping : (len : ℕ) (foreign : Bool) (f k : Flags) → f ≡ k
         → on_value (cond (not foreign) (Ok (tt, t)) (Err (refusal.Stop stops.FlagBits, t))) (λ (x : Unit {0}). next (with_flags (past_pop cpu len) f))
@@ -260,7 +260,7 @@ module _ (m : Setting) (b : State) (c : Completed) where
     stack_write = Some (record { at = esp_below 4 cpu.regs; len = 4; seg = Ss })
 
     abbrev call_to : ℕ → ℕ → exec.Outcome
-    call_to len v = outcomes.Done (transfers.gone_to v (with_whole 4 (esp_below 4 cpu.regs) cpu.regs)) (One (store (esp_below 4 cpu.regs) Long (registers.passed len cpu.regs).eip))
+    call_to len v = outcomes.Done (transfers.gone_to v (with_whole 4 (esp_below 4 cpu.regs) cpu.regs)) (One (store (esp_below 4 cpu.regs) Long (registers.eip_past len cpu.regs).eip))
 
     through : (a : Address) (len : ℕ) → Are (record { read = operand_range (Memory a) Long cpu.regs; write = stack_write })
         → branch.called_through a len cpu s
@@ -291,7 +291,7 @@ module _ (m : Setting) (b : State) (c : Completed) where
     call (Memory a) len k h = same _ _ (ap (λ (o : Outcome Refusal ℕ). on_value o (λ (v : ℕ). next (gone_to (past_push cpu len) v))) (through a len h))
 
     abbrev selector_to : Operand → ℕ → ℕ → exec.Outcome
-    selector_to a len v = selectors.selector_to a v (registers.passed len cpu.regs)
+    selector_to a len v = selectors.selector_to a v (registers.eip_past len cpu.regs)
 
     kept : (a : Operand) (len v : ℕ) → IsNamed a → Are (record { read = None; write = operand_range a Word cpu.regs })
         → Comes (selector_kept len cpu v a s) (done_by cpu u (selector_to a len v))
@@ -310,7 +310,7 @@ module _ (m : Setting) (b : State) (c : Completed) where
         (ap (λ (o : Outcome Refusal (Unit {0})). on_value o (λ (z : Unit {0}). writes (address_of a cpu.regs) Word v >>= (λ (y : Unit {0}). next (past cpu len)))) (operand_is cpu a 2 true s u free e))
 
     selector_read : (from a : Operand) (i : Insn) (len : ℕ) → IsNamed a → i.a ≡ a → Are (record { read = None; write = operand_range a Word cpu.regs })
-        → Comes (read_seg i from len cpu s) (done_by cpu u (selectors.read_from g from a (registers.passed len cpu.regs)))
+        → Comes (read_seg i from len cpu s) (done_by cpu u (selectors.read_from g from a (registers.eip_past len cpu.regs)))
     unfolding read_seg
     selector_read Absent a i len k e h = refl
     selector_read (Register x) a i len k e h = refl
@@ -322,7 +322,7 @@ module _ (m : Setting) (b : State) (c : Completed) where
         ∙ ap (λ (v : ℕ). after_instruction m b c (done_by cpu u (selector_to a len v))) (sym (sel x))
 
     selector_push : (a : Operand) (len : ℕ) → Are (record { read = None; write = stack_write })
-        → Comes (push_seg a len cpu s) (done_by cpu u (selectors.pushed_from g a (registers.passed len cpu.regs)))
+        → Comes (push_seg a len cpu s) (done_by cpu u (selectors.pushed_from g a (registers.eip_past len cpu.regs)))
     unfolding push_seg pushed_number
     selector_push Absent len h = refl
     selector_push (Register x) len h = refl
@@ -332,7 +332,7 @@ module _ (m : Setting) (b : State) (c : Completed) where
         let e = subst (λ (w : Space). reaching (esp_below 4 cpu.regs) 4 (by_level cpu true) w ≡ Ok (tt, u)) (sym (nothing_reached s t h.read)) h.write in
         same _ _
         (ap (λ (o : Outcome Refusal (Unit {0})). on_value o (λ (z : Unit {0}). next (past_push cpu len))) (pushed_is cpu (selector_in cpu x) s u e)
-        ∙ ap (λ (v : ℕ). done_by cpu u (selectors.pushed_from (record { es = v; cs = v; ss = v; ds = v }) (Segment Es) (registers.passed len cpu.regs))) (sym (sel x)))
+        ∙ ap (λ (v : ℕ). done_by cpu u (selectors.pushed_from (record { es = v; cs = v; ss = v; ds = v }) (Segment Es) (registers.eip_past len cpu.regs))) (sym (sel x)))
 
     -- the rows that are no plain instructions
     pub row_is : (o : Op) (i : Insn) (len : ℕ) → i.op ≡ o → (IsPopFlags o → IsUser cpu) → IsShaped i → permitted_row o i.imm ≡ Ok tt → instruction.is_plain o ≡ false → Are (ranges_row o i cpu.regs)

@@ -13,7 +13,7 @@ use Rattle.paging.specs.Reached as walks
 use Rattle.paging.specs.Space.{Space}
 use Rattle.step_exec.specs.Plain.{reached, is_refused}
 use Rattle.host_cpl3.specs.declared.view.View.{View}
-use Rattle.host_cpl3.specs.declared.exit.Done.TheVariants.{Completed}
+use Rattle.host_cpl3.specs.declared.exit.Completion.TheVariants.{Completed}
 use Rattle.host_cpl3.specs.Access.{last_page}
 use Rattle.host_cpl3.specs.Permit.{permitted}
 use Rattle.host_cpl3.specs.HostStep.{host_step}

@@ -57,7 +57,7 @@ use Rattle.wedge_core.proofs.Opening.{same_open}
 -- ---- what the host's call comes to
 
 -- a host that completes an instruction, and was let do one, stops behind it
-one_run : (v : View) (s : Standing) (regs : Regs) (after : List ℕ) → Rattle.host_cpl3.specs.HostStep.host_step v s.ram s.regs ≡ Ok (Rattle.host_cpl3.specs.declared.exit.Done.TheVariants.Completed regs, after)
+one_run : (v : View) (s : Standing) (regs : Regs) (after : List ℕ) → Rattle.host_cpl3.specs.HostStep.host_step v s.ram s.regs ≡ Ok (Rattle.host_cpl3.specs.declared.exit.Completion.TheVariants.Completed regs, after)
     → host_run v 1 s ≡ (Budget, counted s regs after)
 unfolding host_run
 one_run v s regs after e = ap (λ x. after_step s x (host_run v 0)) e

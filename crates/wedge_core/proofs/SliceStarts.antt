@@ -15,7 +15,7 @@ use Rattle.wedge_core.specs.Carried.{IsCarried}
 use Rattle.wedge_core.specs.CarryLaws.{CarryLaws}
 use Rattle.wedge_core.specs.Filled.{FillsOn}
 use Rattle.wedge_core.specs.Slices.{Counts, SliceAs}
-use Rattle.run_trace.specs.IfPaused.{IfPaused}
+use Rattle.run_trace.specs.Pauses.{IfPaused}
 use Rattle.wedge_core.specs.Starts.{IsAsNew}
 
 -- at first no fewer pages were kept
