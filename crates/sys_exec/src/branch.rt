@@ -6,7 +6,7 @@ ghost use Rattle.ia32_exec.specs.Stack.{esp_above};
 ghost use Rattle.sys_exec.specs.Branch.{return_to, jump_to, called_through, call_to};
 ghost use Rattle.sys_exec.specs.Asked.{GivesAsked};
 
-use crate::effect::{SysOutcome, Refusal};
+use crate::effect::{Refusal, SysOutcome};
 use crate::operand::{
     UNSUPPORTED, by_level, esp_below, gone_to, long_of, next, past, past_push, pull, push,
     reach_operand, reg_at,
@@ -70,7 +70,12 @@ fn call_through<M: GuestMem>(a: &Address, len: u8, cpu: &Cpu, mem: &mut M) -> Re
 
 /// CALL through an operand.
 #[tactic(auto, unfolding(crate::specs::Branch::call_to))]
-pub fn call_to<M: GuestMem>(a: &Operand, len: u8, cpu: &Cpu, mem: &mut M) -> Result<SysOutcome, Refusal>
+pub fn call_to<M: GuestMem>(
+    a: &Operand,
+    len: u8,
+    cpu: &Cpu,
+    mem: &mut M,
+) -> Result<SysOutcome, Refusal>
     requires { (M.space mem.old).pages ≤ 60 }
     ensures gives { Gives result (M.space mem.new) (call_to a.now len cpu.now (M.space mem.old)) }
     ensures pages { (M.space mem.new).pages ≤ (M.space mem.old).pages + 4 }

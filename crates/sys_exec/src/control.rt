@@ -6,7 +6,7 @@ ghost use Rattle.paging.specs.Space.{Space};
 ghost use Rattle.sys_exec.specs.Control.{load_control, write_control, control_of, read_control};
 ghost use Rattle.sys_exec.specs.Asked.{GivesAsked};
 
-use crate::effect::{SysOutcome, Refusal, SysEffect};
+use crate::effect::{Refusal, SysEffect, SysOutcome};
 use crate::operand::{PROTECTION_0, UNSUPPORTED, next, past, past_with, reg_at};
 use descriptors::Cpu;
 use ia32_types::{Operand, Stop};

@@ -7,7 +7,7 @@ ghost use Rattle.sys_exec.specs.Asked.{IsAsked, GivesAsked};
 
 use crate::branch::{call_to, jump_to, return_to};
 use crate::control::{read_control, write_control};
-use crate::effect::{SysOutcome, Refusal, SysEffect};
+use crate::effect::{Refusal, SysEffect, SysOutcome};
 use crate::flags::{clear_interrupts, halt, pop_flags, push_flags, set_interrupts};
 use crate::iret::interrupt_return;
 use crate::moves::{far_jump, load_seg, pop_seg, push_seg, read_seg};

@@ -6,7 +6,7 @@ ghost use Rattle.paging.specs.Space.{Space};
 ghost use Rattle.sys_exec.specs.Flags.{with_flags, clear_interrupts, set_interrupts, halt, push_flags, pop_flags};
 ghost use Rattle.sys_exec.specs.Asked.{GivesAsked};
 
-use crate::effect::{SysOutcome, Refusal, SysEffect};
+use crate::effect::{Refusal, SysEffect, SysOutcome};
 use crate::iret::{is_within, keeps_flags, new_flags};
 use crate::operand::{PROTECTION_0, next, past, past_pop, past_push, pull, push};
 use descriptors::Cpu;

@@ -5,7 +5,7 @@ ghost use Rattle.paging.specs.Work.{Gives};
 ghost use Rattle.sys_exec.specs.Move.{selector_kept, read_seg, load_by, load_seg, push_seg, pop_seg, far_jump};
 ghost use Rattle.sys_exec.specs.Asked.{GivesAsked};
 
-use crate::effect::{SysOutcome, Refusal};
+use crate::effect::{Refusal, SysOutcome};
 use crate::operand::{
     UNSUPPORTED, gone_to, next, past, past_pop, past_push, past_with, pull, push, reach_operand,
     selector, selector_in,
@@ -46,7 +46,12 @@ fn keep_selector<M: GuestMem>(
 
 /// MOV from a segment register.
 #[tactic(auto, unfolding(crate::specs::Move::read_seg))]
-pub fn read_seg<M: GuestMem>(insn: &Insn, len: u8, cpu: &Cpu, mem: &mut M) -> Result<SysOutcome, Refusal>
+pub fn read_seg<M: GuestMem>(
+    insn: &Insn,
+    len: u8,
+    cpu: &Cpu,
+    mem: &mut M,
+) -> Result<SysOutcome, Refusal>
     requires { (M.space mem.old).pages ≤ 62 }
     ensures gives { Gives result (M.space mem.new) (read_seg insn.now insn.now.b len cpu.now (M.space mem.old)) }
     ensures pages { (M.space mem.new).pages ≤ (M.space mem.old).pages + 2 }
@@ -94,7 +99,12 @@ fn load_by<M: GuestMem>(
 
 /// MOV to a segment register.
 #[tactic(auto, unfolding(crate::specs::Move::load_seg))]
-pub fn load_seg<M: GuestMem>(insn: &Insn, len: u8, cpu: &Cpu, mem: &mut M) -> Result<SysOutcome, Refusal>
+pub fn load_seg<M: GuestMem>(
+    insn: &Insn,
+    len: u8,
+    cpu: &Cpu,
+    mem: &mut M,
+) -> Result<SysOutcome, Refusal>
     requires { (M.space mem.old).pages ≤ 56 }
     ensures gives { Gives result (M.space mem.new) (load_seg insn.now insn.now.a len cpu.now (M.space mem.old)) }
     ensures pages { (M.space mem.new).pages ≤ (M.space mem.old).pages + 6 }
@@ -115,7 +125,12 @@ pub fn load_seg<M: GuestMem>(insn: &Insn, len: u8, cpu: &Cpu, mem: &mut M) -> Re
 
 /// PUSH of a segment register.
 #[tactic(auto, unfolding(crate::specs::Move::push_seg))]
-pub fn push_seg<M: GuestMem>(a: &Operand, len: u8, cpu: &Cpu, mem: &mut M) -> Result<SysOutcome, Refusal>
+pub fn push_seg<M: GuestMem>(
+    a: &Operand,
+    len: u8,
+    cpu: &Cpu,
+    mem: &mut M,
+) -> Result<SysOutcome, Refusal>
     requires { (M.space mem.old).pages ≤ 62 }
     ensures gives { Gives result (M.space mem.new) (push_seg a.now len cpu.now (M.space mem.old)) }
     ensures pages { (M.space mem.new).pages ≤ (M.space mem.old).pages + 2 }
@@ -136,7 +151,12 @@ pub fn push_seg<M: GuestMem>(a: &Operand, len: u8, cpu: &Cpu, mem: &mut M) -> Re
 
 /// POP of a segment register.
 #[tactic(auto, unfolding(crate::specs::Move::pop_seg))]
-pub fn pop_seg<M: GuestMem>(a: &Operand, len: u8, cpu: &Cpu, mem: &mut M) -> Result<SysOutcome, Refusal>
+pub fn pop_seg<M: GuestMem>(
+    a: &Operand,
+    len: u8,
+    cpu: &Cpu,
+    mem: &mut M,
+) -> Result<SysOutcome, Refusal>
     requires { (M.space mem.old).pages ≤ 56 }
     ensures gives { Gives result (M.space mem.new) (pop_seg a.now len cpu.now (M.space mem.old)) }
     ensures pages { (M.space mem.new).pages ≤ (M.space mem.old).pages + 6 }

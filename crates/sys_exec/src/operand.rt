@@ -8,7 +8,7 @@ ghost use Rattle.ia32_exec.specs.Ranges.{segment_of};
 ghost use Rattle.ia32_exec.specs.Stack.{esp_below, esp_above};
 ghost use Rattle.sys_exec.specs.Operand.{selector_in, reg_at, operand_reached, selector, long_of, pulled, pushed, by_level, past, past_with, past_push, past_pop, gone_to};
 
-use crate::effect::{SysOutcome, Refusal, SysEffect};
+use crate::effect::{Refusal, SysEffect, SysOutcome};
 use descriptors::{Cpu, reach};
 use ia32_exec::{address_of, segment_of};
 use ia32_types::{Address, Operand, Seg, Size, Stop};

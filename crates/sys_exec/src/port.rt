@@ -6,7 +6,7 @@ ghost use Rattle.paging.specs.Space.{Space};
 ghost use Rattle.sys_exec.specs.Port.{is_wide, port_of, port_in, port_out};
 ghost use Rattle.sys_exec.specs.Asked.{GivesAsked};
 
-use crate::effect::{SysOutcome, Refusal, SysEffect};
+use crate::effect::{Refusal, SysEffect, SysOutcome};
 use crate::iret::is_within;
 use crate::operand::{PROTECTION_0, past, reg_at};
 use descriptors::Cpu;

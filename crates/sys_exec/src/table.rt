@@ -6,7 +6,7 @@ ghost use Rattle.paging.specs.Space.{Space};
 ghost use Rattle.sys_exec.specs.Table.{table_at, load_gdt, load_idt, load_tr, drop_at, drop_page};
 ghost use Rattle.sys_exec.specs.Asked.{IsAsked, GivesAsked};
 
-use crate::effect::{SysOutcome, Refusal, SysEffect};
+use crate::effect::{Refusal, SysEffect, SysOutcome};
 use crate::operand::{PROTECTION_0, UNSUPPORTED, next, past, reach_operand, selector};
 use crate::segment::load_task;
 use descriptors::{Cpu, Table};
@@ -42,7 +42,12 @@ fn read_table<M: GuestMem>(cpu: &Cpu, mem: &mut M, operand: &Operand) -> Result<
 
 /// LGDT.
 #[tactic(auto, unfolding(crate::specs::Table::load_gdt))]
-pub fn load_gdt<M: GuestMem>(a: &Operand, len: u8, cpu: &Cpu, mem: &mut M) -> Result<SysOutcome, Refusal>
+pub fn load_gdt<M: GuestMem>(
+    a: &Operand,
+    len: u8,
+    cpu: &Cpu,
+    mem: &mut M,
+) -> Result<SysOutcome, Refusal>
     requires { (M.space mem.old).pages ≤ 62 }
     ensures gives { Gives result (M.space mem.new) (load_gdt a.now len cpu.now (M.space mem.old)) }
     ensures pages { (M.space mem.new).pages ≤ (M.space mem.old).pages + 2 }
@@ -61,7 +66,12 @@ pub fn load_gdt<M: GuestMem>(a: &Operand, len: u8, cpu: &Cpu, mem: &mut M) -> Re
 
 /// LIDT.
 #[tactic(auto, unfolding(crate::specs::Table::load_idt))]
-pub fn load_idt<M: GuestMem>(a: &Operand, len: u8, cpu: &Cpu, mem: &mut M) -> Result<SysOutcome, Refusal>
+pub fn load_idt<M: GuestMem>(
+    a: &Operand,
+    len: u8,
+    cpu: &Cpu,
+    mem: &mut M,
+) -> Result<SysOutcome, Refusal>
     requires { (M.space mem.old).pages ≤ 62 }
     ensures gives { Gives result (M.space mem.new) (load_idt a.now len cpu.now (M.space mem.old)) }
     ensures pages { (M.space mem.new).pages ≤ (M.space mem.old).pages + 2 }
@@ -80,7 +90,12 @@ pub fn load_idt<M: GuestMem>(a: &Operand, len: u8, cpu: &Cpu, mem: &mut M) -> Re
 
 /// LTR.
 #[tactic(auto, unfolding(crate::specs::Table::load_tr))]
-pub fn load_tr<M: GuestMem>(a: &Operand, len: u8, cpu: &Cpu, mem: &mut M) -> Result<SysOutcome, Refusal>
+pub fn load_tr<M: GuestMem>(
+    a: &Operand,
+    len: u8,
+    cpu: &Cpu,
+    mem: &mut M,
+) -> Result<SysOutcome, Refusal>
     requires { (M.space mem.old).pages ≤ 56 }
     ensures gives { Gives result (M.space mem.new) (load_tr a.now len cpu.now (M.space mem.old)) }
     ensures pages { (M.space mem.new).pages ≤ (M.space mem.old).pages + 6 }
