@@ -17,7 +17,7 @@ use Rattle.ia32_exec.specs.Arithmetic.{arithmetic, tested, shifted, upper, with_
 use Rattle.ia32_exec.specs.Moves.{moved, zero_extended, sign_extended, loaded_address, exchanged, widened, sign_spread}
 use Rattle.ia32_exec.specs.Stack.{pushed_number, pushed, popped, all_pushed, all_popped, frame_left, called, flags_pushed, is_foreign, top_of_stack, flags_popped}
 use Rattle.ia32_exec.specs.Control.{condition, jumped, jump, branched, set_by, flag_made}
-use Rattle.ia32_exec.specs.Strings.{is_over, turn, counted, string}
+use Rattle.ia32_exec.specs.Strings.{IsString, is_over, turn, counted, string}
 use Rattle.ia32_exec.specs.Effect.{row, effect}
 use Rattle.ia32_exec.specs.EipAfter.{IsEipAfter, Leads, EipGoesOn}
 
@@ -164,16 +164,16 @@ module _ (o : Op) (i : Insn) (len : ℕ) (r : Regs) (b : ℕ → ℕ) where
   unfolding signed_multiplied
   signed_multiplied_leads = signed_by_leads i.b
 
-  counted_leads : (rep : Bool) (count : ℕ) (after : Regs) → after.eip ≡ r.eip → IsEipAfter o i len r (counted rep count len after).eip
-  counted_leads false count after e = inl (ap (λ k. (k + len) % 2 ^ 32) e)
-  counted_leads true count after e = by_test (count == 1) where
+  counted_leads : IsString o → (rep : Bool) → i.rep ≡ rep → (count : ℕ) (after : Regs) → after.eip ≡ r.eip → IsEipAfter o i len r (counted rep count len after).eip
+  counted_leads kind false is count after e = inl (ap (λ k. (k + len) % 2 ^ 32) e)
+  counted_leads kind true is count after e = by_test (count == 1) where
     by_test : (last : Bool) → IsEipAfter o i len r (cond last (eip_past len (with_whole 1 (count - 1) after)) (with_whole 1 (count - 1) after)).eip
     by_test true = inl (ap (λ k. (k + len) % 2 ^ 32) e)
-    by_test false = inr (inr e)
+    by_test false = inr (inr ((kind, is), e))
 
-  string_leads : (turn o i.size r b).0.eip ≡ r.eip → Leads o i len r (string o i len r b)
+  string_leads : IsString o → (turn o i.size r b).0.eip ≡ r.eip → Leads o i len r (string o i len r b)
   unfolding string
-  string_leads e = either_leads (is_over i r) _ _ (inl refl) (counted_leads i.rep (slice_index r.r 1) (turn o i.size r b).0 e)
+  string_leads is e = either_leads (is_over i r) _ _ (inl refl) (counted_leads is i.rep refl (slice_index r.r 1) (turn o i.size r b).0 e)
 
 module _ (i : Insn) (len : ℕ) (r : Regs) where
   branched_leads : Leads op.Jcc i len r (branched i len r)
@@ -233,9 +233,9 @@ row_leads op.Setcc i len r b = set_by_leads op.Setcc i len r b
 row_leads op.Jmp i len r b = jump_leads i len r
 row_leads op.Call i len r b = called_leads i len r
 row_leads op.Ud2 i len r b = tt
-row_leads op.Movs i len r b = string_leads op.Movs i len r b refl
-row_leads op.Stos i len r b = string_leads op.Stos i len r b refl
-row_leads op.Lods i len r b = string_leads op.Lods i len r b (with_register_eip i.size 0 _ r)
+row_leads op.Movs i len r b = string_leads op.Movs i len r b tt refl
+row_leads op.Stos i len r b = string_leads op.Stos i len r b tt refl
+row_leads op.Lods i len r b = string_leads op.Lods i len r b tt (with_register_eip i.size 0 _ r)
 row_leads op.Clc i len r b = flag_leads op.Clc i len r b carry_at false
 row_leads op.Stc i len r b = flag_leads op.Stc i len r b carry_at true
 row_leads op.Cld i len r b = flag_leads op.Cld i len r b direction_at false

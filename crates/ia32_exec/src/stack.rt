@@ -104,7 +104,10 @@ pub fn all_popped<M: LinearBytes>(len: u8, regs: &Regs, mem: &M) -> Outcome
         slot(1, regs, mem),
         slot(0, regs, mem),
     ];
-    Outcome::Done(eip_past(u32::from(len), Regs { r, ..*regs }), Stores::Nothing)
+    Outcome::Done(
+        eip_past(u32::from(len), Regs { r, ..*regs }),
+        Stores::Nothing,
+    )
 }
 
 /// LEAVE.

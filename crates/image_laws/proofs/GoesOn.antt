@@ -57,7 +57,7 @@ module _ (goes : EipGoesOn) (image : Image) (h : IsAccepted image) (s : Swept) (
           | inl passed ↦ (s.at + s.len, passed ∙ next_is, way)
           | inr other ↦ elim other [
             | inl taken ↦ by_branch (branch_is s.insn.op taken.0) after.eip taken.1
-            | inr stays ↦ (s.at, stays ∙ here, here_way image h s out)
+            | inr stays ↦ (s.at, stays.1 ∙ here, here_way image h s out)
           ]
         ]
         | inr last ↦ by_branch (ap is_branch last.jump) after.eip (sym (jumps_by s.insn s.len r b after stores last.jump e))

@@ -40,7 +40,8 @@ impl LinearBytes for Flat {
 
 impl LinearMem for Flat {
     ghost use Rattle.std.specs.Prelude.{◌≡◌, ◌<◌, ◌≤◌, ◌-◌, ◌^◌};
-    ghost use Rattle.std.proofs.Common.{arith};
+    ghost use Rattle.std.proofs.Common.{arith, refl};
+    ghost use Rattle.std.proofs.lemmas.Bool.{eq-eqb};
     ghost use Rattle.instruction_vectors.specs.Flat.{is_same};
 
     ghost same = { λ m. is_same };
@@ -48,6 +49,8 @@ impl LinearMem for Flat {
     ghost writable = { λ m at. (65536 ≤ at) × (at < 65792) };
 
     ghost write_in_space = { λ m at h. Prim.omega arith };
+
+    ghost own_byte = { λ m at h. eq-eqb (at - 65536) (at - 65536) refl };
 
     fn write(&mut self, at: u32, size: Size, value: u32) {
         self.put((at - BASE) as usize, size, value);
