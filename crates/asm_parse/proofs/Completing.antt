@@ -8,7 +8,7 @@ use Rattle.std.proofs.lemmas.Map.Made.{length-le_from_is_member}
 use Rattle.std.specs.Prelude.{pos, ◌==◌, ◌&&◌, ◌||◌, not, nat_lt, is_none, replicate}
 use Rattle.std.specs.List.{list_all}
 use Rattle.std.specs.Str.{bytes_eq}
-use Rattle.asm_lex.specs.Bytes.{class_of, is_digit, is_letter, is_word}
+use Rattle.asm_lex.specs.Bytes.{class_of, is_letter, is_word}
 use Rattle.asm_lex.specs.declared.token.TokenKind.TheVariants as kind
 use Rattle.asm_lex.specs.Words.{Word}
 use Rattle.asm_lex.specs.Source.{lines_after}
@@ -43,8 +43,8 @@ use Rattle.asm_parse.proofs.Words.{read_words}
 use Rattle.asm_argument.proofs.Operands.{ok, operand_run}
 use Rattle.asm_parse.proofs.Names.{named_in}
 use Rattle.asm_parse.proofs.Scopes.{Each, GoodIn, or_right, same_name, same_holds}
-use Rattle.asm_parse.proofs.Quiet.{IsOpen, StateIs}
-use Rattle.asm_parse.proofs.Stated.{Answer, inners, inners_append, inners_words, word_is, open_at, instruction_operand, Gains, form_runs, comma_runs, end_runs, statement_runs, named_section, rest_runs}
+use Rattle.asm_parse.proofs.Quiet.{IsOpen, StateIs, Answer}
+use Rattle.asm_parse.proofs.Stated.{inners, inners_append, inners_words, word_is, open_at, instruction_operand, Gains, form_runs, comma_runs, end_runs, statement_runs, named_section, rest_runs}
 use Rattle.asm_parse.proofs.Written.{Piece, words_at, symbols_of, ArePieces, pieces-append, symbols_of-append, symbols-words_at, IsName, name_piece, one_piece, zero_piece, text_piece, end_piece, percent_piece, close_piece, comma_piece, colon_piece, letter, letter_name, low, low_name, text_section, section_name_is, the_name, the_one, the_zero, the_text, the_end, the_mark}
 
 -- ---- one argument
@@ -273,12 +273,12 @@ long : List (List ℕ) → List ℕ
 long ns = 97 ∷ replicate (total ns) 97
 
 letters : (k : ℕ) → list_all is_word (replicate k 97) ≡ true
-unfolding is_word is_digit is_letter
+unfolding is_word is_letter
 letters zero = refl
 letters (suc k) = letters k
 
 long_name : (ns : List (List ℕ)) → IsName (long ns)
-unfolding long class_of is_digit is_letter
+unfolding long class_of is_letter
 long_name ns = (refl, letters (total ns))
 
 longer_new : (ns : List (List ℕ)) (x : List ℕ) → total ns + 1 ≤ length x → holds ns x ≡ false

@@ -26,6 +26,8 @@ use Rattle.asm_parse.proofs.Closing.{AreNamed, token_is}
 use Rattle.asm_parse.proofs.Walking.{fault_in, Found}
 use Rattle.asm_parse.proofs.Refused.{found_fault}
 use Rattle.asm_parse.proofs.Worded.{EndsSo, text_worded}
+use Rattle.asm_parse.proofs.Linking.{rest_scan}
+use Rattle.asm_parse.proofs.Dying.{finish}
 
 -- the fault of words and of what a scan ends with
 abbrev fault_next : ScopeView → StatementState → List Word → Next → Option Fault
@@ -50,15 +52,6 @@ some_is f g h = ap (λ (x : Fault). Some x) h
 closed_fault : (r : Running) (m : Mode) (f : Fault) → closed r m ≡ Err f → fault_next r.scope r.state [] (Goes m) ≡ Some f
 closed_fault r (mode.Block l) f h = some_is _ f (err_same _ f h)
 closed_fault r _ f h = absurd cc
-
-abbrev rest_scan : List ℕ → ℕ → ℕ → ℕ → List ℕ → Next → Scan
-rest_scan behind at line b bs next = elim next [
-  | Goes n ↦ scan n behind (at + 1) (line_after line b) bs
-  | Stops l c ↦ record { words = []; ending = Stops l c }
-]
-
-abbrev finish : Running → List ℕ → Result Running Fault
-finish r text = run r text >>= λ s. closed s s.mode
 
 run_fault : (bs : List ℕ) (r : Running) (f : Fault) → finish r bs ≡ Err f → of_scan r.scope r.state (scan r.mode r.seen r.at r.line bs) ≡ Some f
 unfolding one_byte one_byte_over

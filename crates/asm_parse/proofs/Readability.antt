@@ -13,7 +13,7 @@ use Rattle.asm_lex.specs.declared.bytes.Class.{Class}
 use Rattle.asm_lex.specs.declared.bytes.Class.TheVariants as class
 use Rattle.asm_lex.specs.declared.token.TokenKind.{TokenKind}
 use Rattle.asm_lex.specs.declared.token.TokenKind.TheVariants as kind
-use Rattle.asm_lex.specs.Bytes.{class_of, is_source, is_digit, is_letter, is_word}
+use Rattle.asm_lex.specs.Bytes.{class_of, is_source, is_letter, is_word}
 use Rattle.asm_lex.specs.Words.{Word}
 use Rattle.asm_lex.specs.Source.{IsToken, Lexed}
 use Rattle.asm_argument.specs.declared.symbol.Terminal.{Terminal}
@@ -69,12 +69,12 @@ back_plain [] ts h = h
 back_plain (s ∷ ss) ts h = back_plain ss ts h.1
 
 word_some : (b : ℕ) → is_word b ≡ true → 1 ≤ b
-unfolding is_word is_letter is_digit
+unfolding is_word is_letter
 word_some zero h = absurd cc
 word_some (suc b) h = omega arith
 
 letter_some : (b : ℕ) → class_of b ≡ class.Letter → 1 ≤ b
-unfolding class_of is_source is_digit is_letter
+unfolding class_of is_source is_letter
 letter_some zero h = absurd cc
 letter_some (suc b) h = omega arith
 

@@ -35,8 +35,8 @@ use Rattle.asm_parse.specs.Refusals.{Leads}
 use Rattle.asm_parse.specs.Statements.{IsSeen, Sees, IsArgument, IsNext, Separated, HasArguments, is_inner, is_unlabelled, are_flags, has_list, Statement, symbols, text_of, Touch, IsStatement, Statements}
 use Rattle.asm_argument.proofs.Operands.{Spelled, begun_spelled, more, spelled_form}
 use Rattle.asm_parse.proofs.Names.{noting_seen, named_in, name_step, finished_named, is_finished_some, operand_next}
-use Rattle.asm_parse.proofs.Stated.{Answer, open_at, begun_unnamed, instruction_operand, is_naming, not_longer}
-use Rattle.asm_parse.proofs.Quiet.{WordGoes, word_goes}
+use Rattle.asm_parse.proofs.Stated.{open_at, begun_unnamed, instruction_operand, is_naming, not_longer}
+use Rattle.asm_parse.proofs.Quiet.{WordGoes, word_goes, Answer}
 use Rattle.asm_parse.proofs.Lines.{bind_ok}
 
 -- ---- what has been read of a statement

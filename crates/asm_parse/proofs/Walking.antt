@@ -21,7 +21,7 @@ use Rattle.asm_parse.specs.Statements.{symbols, IsStatement, Statements}
 use Rattle.asm_parse.specs.Refusals.{Ending, IsBeginning, IsNoBeginning, StatementPlace, LeadsTo, Reaches, percent_cause, behind_cause, first_name_cause, refused_cause, byte_cause}
 use Rattle.asm_parse.proofs.Words.{read_words}
 use Rattle.asm_parse.proofs.Scopes.{GoodIn, fresh_good}
-use Rattle.asm_parse.proofs.Quiet.{Any, any_next, WordGoes, word_goes, StateIs}
+use Rattle.asm_parse.proofs.Quiet.{Any, any_next, WordGoes, word_goes, StateIs, Answer}
 use Rattle.asm_parse.proofs.Lines.{bind_ok}
 use Rattle.asm_parse.proofs.Dying.{words_doomed}
 use Rattle.asm_parse.proofs.Stated.{words_append, statements_run}
@@ -33,9 +33,6 @@ use Rattle.asm_parse.proofs.Closing.{AreNamed, words_fine}
 use Rattle.asm_parse.proofs.Later.{is_later, Leads-on, leads_on}
 use Rattle.asm_parse.proofs.Places.{Extra, Standing, standing, named_fails, behind_is, InSection, section_words}
 
-abbrev Answer : Type 0
-Answer = Result (ScopeView × StatementState) SourceCause
-
 -- ---- the fault of words and what ends them
 
 abbrev pub fault_in : ScopeView → StatementState → List Word → Ending → Option Fault
@@ -44,7 +41,7 @@ fault_in sc st [] (Ending.broken l c) = Some (stopped sc st l c)
 fault_in sc st [] (Ending.comment l) = Some (left_open sc st l)
 fault_in sc st (w ∷ ws) e = elim (placed (fault_line sc st w.line) (next_word sc st w)) [ Ok y ↦ fault_in y.0 y.1 ws e | Err f ↦ Some f ]
 
-some_same : (a b : Fault) → ◌≡◌ {A = Option Fault} (Some a) (Some b) → a ≡ b
+pub some_same : (a b : Fault) → ◌≡◌ {A = Option Fault} (Some a) (Some b) → a ≡ b
 some_same a b h = cc
 
 -- ---- where some source begins so, and where none does
@@ -183,7 +180,7 @@ doomed_word sc st w z l h d = elim (word_goes sc st w z h) [
     by_lead y k (Leads-on.name n s e x) = Doomed.name n s e (k ∙ ap (λ (q : ScopeView × StatementState). (q.0, ending_at (w.at + length w.bytes) q.1)) x)
     by_lead y k (Leads-on.astray c s e p x) = Doomed.astray c s e p (k ∙ ap (λ (q : ScopeView × StatementState). (q.0, ending_at (w.at + length w.bytes) q.1)) x)
 
-abbrev placed_in : ℕ → List Word → Ending → Answer → Option Fault
+abbrev pub placed_in : ℕ → List Word → Ending → Answer → Option Fault
 placed_in line ws e r = elim (placed line r) [ Ok y ↦ fault_in y.0 y.1 ws e | Err f ↦ Some f ]
 
 named_start : (b : ℕ) (n : List ℕ) → state.Named b n ≡ state.Start → ⊥

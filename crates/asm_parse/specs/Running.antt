@@ -100,11 +100,6 @@ HasReading text = (items : List SourceItem) × Says text items
 abbrev pub IsDeadLine : List ℕ → ℕ → Type 0
 IsDeadLine text line = (more : List ℕ) → HasReading (first_lines line text ++ more) → ⊥
 
-abbrev pub OkOrMemory : {X : Type 0} → Result X SourceFault → (X → Type 0) → Type 0
-OkOrMemory (Ok x) p = p x
-OkOrMemory (Err fault.Memory) p = Unit {0}
-OkOrMemory (Err (fault.At l c)) p = ⊥
-
 abbrev pub Parses : Result (List SourceItem) SourceFault → Result Running Fault → Type 0
 Parses (Ok x) r = (s : Running) × (r ≡ Ok s) × (s.scope.items ≡ x)
 Parses (Err (fault.At l c)) r = r ≡ Err (l, c)
