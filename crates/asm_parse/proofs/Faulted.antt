@@ -1,5 +1,5 @@
 -- A refusal is that of the first word with which no source goes on, or of what ends the words.
-use Rattle.std.proofs.Common.{◌≡◌, ℕ, ◌+◌, List, [], ◌∷◌, ◌++◌, Option, Some, None, Result, Ok, Err, refl, sym, ap, subst, ◌∙◌}
+use Rattle.std.proofs.Common.{◌≡◌, ℕ, List, [], ◌∷◌, ◌++◌, Option, Some, None, Result, Ok, Err, refl, sym, ap, subst, ◌∙◌}
 use Rattle.asm_lex.specs.declared.fault.SourceCause.{SourceCause}
 use Rattle.asm_lex.specs.declared.fault.SourceFault.{SourceFault}
 use Rattle.asm_lex.specs.declared.fault.SourceFault.TheVariants as fault
@@ -9,7 +9,7 @@ use Rattle.asm_lex.specs.declared.machine.Mode.TheVariants as mode
 use Rattle.asm_lex.specs.declared.machine.Next.{Next}
 use Rattle.asm_lex.specs.declared.machine.Next.TheVariants.{Goes, Stops}
 use Rattle.asm_lex.specs.Machine.{stepped}
-use Rattle.asm_lex.specs.Words.{Word, Scan, scan, with_token, word_of, line_after}
+use Rattle.asm_lex.specs.Words.{Word, Scan, scan, with_token}
 use Rattle.asm_lex.proofs.FaultLines.{StopsIn, step_in}
 use Rattle.asm_parse.specs.declared.state.StatementState.{StatementState}
 use Rattle.asm_parse.specs.declared.state.StatementState.TheVariants as state
@@ -20,7 +20,7 @@ use Rattle.asm_parse.specs.Statement.{fault_line, stopped, left_open}
 use Rattle.asm_parse.specs.Statements.{symbols}
 use Rattle.asm_parse.specs.Reading.{Fault, fed, placed, next_word}
 use Rattle.asm_argument.specs.Symbols.{symbol_of}
-use Rattle.asm_parse.specs.Running.{Running, ◌>>=◌, goes_on, second_does, byte_does, one_byte_over, moved, one_byte, run, start, closed, read, Parses}
+use Rattle.asm_parse.specs.Running.{Running, ◌>>=◌, goes_on, second_does, one_byte_over, moved, one_byte, run, start, closed, read, Parses}
 use Rattle.asm_parse.specs.Refusals.{Ending, Worded, refused_cause, byte_cause, Refused, RefusedFor}
 use Rattle.asm_parse.proofs.Closing.{AreNamed, token_is}
 use Rattle.asm_parse.proofs.Walking.{fault_in, Found}

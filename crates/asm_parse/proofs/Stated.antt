@@ -29,7 +29,7 @@ use Rattle.asm_argument.specs.Operand.{is_operand, begun, next_symbol, operand_s
 use Rattle.asm_lex.specs.declared.token.TokenKind.{TokenKind}
 use Rattle.asm_lex.specs.declared.token.TokenKind.TheVariants as token
 use Rattle.asm_argument.specs.Symbols.{mark_symbol, number_symbol, number_value, symbol_of}
-use Rattle.asm_parse.specs.Reading.{Fault, placed, is_part, is_longer, longer, ending_at, next_word}
+use Rattle.asm_parse.specs.Reading.{Fault, placed, is_part, is_longer, ending_at, next_word}
 use Rattle.asm_parse.specs.Running.{◌>>=◌}
 use Rattle.asm_parse.proofs.Words.{read_words}
 use Rattle.asm_parse.specs.Statement.{item_of, resumed, sectioned, with_name, after_step, at_shape, within, argument_step, nothing_yet, named_step, colon_behind, label, labelled, unless_skipping, other_behind, of_directive, skip, sectioned_step, flags_step, start_step, step, strayed, next_step, fault_line, is_passed, with_scope}

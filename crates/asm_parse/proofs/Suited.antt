@@ -5,20 +5,18 @@ use Rattle.asm_lex.specs.Words.{Word}
 use Rattle.asm_argument.specs.declared.symbol.Terminal.{Terminal}
 use Rattle.asm_argument.specs.declared.symbol.Terminal.TheVariants as symbol
 use Rattle.asm_source.specs.declared.tree.Argument.{Argument}
-use Rattle.asm_parse.specs.declared.directive.Directive.{Directive}
 use Rattle.asm_parse.specs.declared.directive.Directive.TheVariants as kind
 use Rattle.asm_parse.specs.declared.directive.Head.{Head}
 use Rattle.asm_parse.specs.declared.directive.Head.TheVariants as head
-use Rattle.asm_parse.specs.declared.state.Open.{Open}
 use Rattle.asm_parse.specs.declared.state.StatementState.{StatementState}
 use Rattle.asm_parse.specs.declared.state.StatementState.TheVariants as state
 use Rattle.asm_parse.specs.ScopeView.{ScopeView}
 use Rattle.asm_parse.specs.Scope.{fresh}
 use Rattle.asm_argument.specs.Symbols.{symbol_of}
 use Rattle.asm_parse.specs.Directives.{shape_at, is_dotted, directive_of, is_section}
-use Rattle.asm_parse.specs.Statement.{argument_step, nothing_yet, is_passed, of_directive, other_behind, step, doom}
+use Rattle.asm_parse.specs.Statement.{argument_step, nothing_yet, is_passed, other_behind, step, doom}
 use Rattle.asm_parse.specs.Reading.{ending_at}
-use Rattle.asm_parse.specs.Statements.{has_list, is_inner, Separated, Statement, symbols}
+use Rattle.asm_parse.specs.Statements.{is_inner, Separated, Statement, symbols}
 use Rattle.asm_parse.specs.Refusals.{StatementPlace, Leads, Opens, LeadsTo, Reaches}
 use Rattle.asm_parse.proofs.Words.{read_words}
 use Rattle.asm_parse.proofs.Stated.{inners, words_append, named_section, statements_run, of_list}

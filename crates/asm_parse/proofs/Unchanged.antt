@@ -24,7 +24,6 @@ use Rattle.asm_source.specs.Names.{symbol_in}
 use Rattle.asm_parse.specs.Directives.{defines}
 use Rattle.asm_parse.proofs.Words.{read_words}
 use Rattle.asm_parse.proofs.Reread.{Pair, on_word, inner_parts, skip_stays, same_pair, skip_inner}
-use Rattle.asm_parse.proofs.Quiet.{Answer}
 
 -- ---- what a statement says is one item more
 
