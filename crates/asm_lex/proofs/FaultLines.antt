@@ -23,7 +23,7 @@ use Rattle.asm_lex.specs.Tokens.{Tokens, token_scan, LexesTo}
 use Rattle.asm_lex.specs.Lines.{first_lines, HasTokens, RefusedAt}
 use Rattle.asm_lex.proofs.TextTokens.{IsClosed, at_newline, same}
 use Rattle.asm_lex.proofs.Found.{found}
-use Rattle.asm_lex.proofs.Again.{again}
+use Rattle.asm_lex.proofs.Again.{again, line_stays}
 
 -- ---- a fault is in its line
 
@@ -94,13 +94,9 @@ stops_same e = cc
 goes_stops : {m : Mode} {l : ℕ} {c : SourceCause} → Goes m ≡ Stops l c → ⊥
 goes_stops e = absurd cc
 
-line_newline : (line b : ℕ) → (b == 10) ≡ true → line_after line b ≡ line + 1
+pub line_newline : (line b : ℕ) → (b == 10) ≡ true → line_after line b ≡ line + 1
 unfolding line_after
 line_newline line b h = rw h refl
-
-line_same : (line b : ℕ) → (b == 10) ≡ false → line_after line b ≡ line
-unfolding line_after
-line_same line b h = rw h refl
 
 record Dies (m : Mode) (at line : ℕ) (text : List ℕ) (l : ℕ) (c : SourceCause) : Type 0 where
   not_before : line ≤ l
@@ -124,12 +120,12 @@ dies (b ∷ bs) m at line l c h = elim (byte m at line b) [
         at_count (suc k) q more =
             let rest : first_lines (suc (suc k)) (b ∷ bs) ≡ b ∷ first_lines (suc k) bs = rw t refl in
             ap (λ (x : List ℕ). ends m at line (x ++ more)) rest ∙ (all (first_lines (suc k) bs ++ more) ∙ w.dead k (omega (arith, line_newline line b t)) more)
-    deeper n all w false t = record { not_before = omega (arith, w.not_before, line_same line b t); dead = at_count }
+    deeper n all w false t = record { not_before = omega (arith, w.not_before, line_stays line b t); dead = at_count }
       where
         at_count : (k : ℕ) → k + line ≡ l → (more : List ℕ) → ends m at line (first_lines (suc k) (b ∷ bs) ++ more) ≡ Stops l c
         at_count k q more =
             let rest : first_lines (suc k) (b ∷ bs) ≡ b ∷ first_lines (suc k) bs = rw t refl in
-            ap (λ (x : List ℕ). ends m at line (x ++ more)) rest ∙ (all (first_lines (suc k) bs ++ more) ∙ w.dead k (omega (arith, line_same line b t)) more)
+            ap (λ (x : List ℕ). ends m at line (x ++ more)) rest ∙ (all (first_lines (suc k) bs ++ more) ∙ w.dead k (omega (arith, line_stays line b t)) more)
 
 -- The lines before it leave nothing open but a comment.
 record Lives (m : Mode) (at line : ℕ) (text : List ℕ) (n : ℕ) : Type 0 where
@@ -167,7 +163,7 @@ lives (b ∷ bs) m at line l c h (suc n) closed le = elim (byte m at line b) [
     deeper : (k : Mode) → (stepped m at line b).next ≡ Goes k → ((bs : List ℕ) → ends m at line (b ∷ bs) ≡ ends k (at + 1) (line_after line b) bs)
         → ((i : ℕ) → (i ≡ 0 → IsClosed (Goes k)) → i + line_after line b ≤ l → Lives k (at + 1) (line_after line b) bs i) → (t : Bool) → (b == 10) ≡ t → Lives m at line (b ∷ bs) (suc n)
     deeper k e all ih true t = behind k n (rw t refl) all (ih n (λ z. newline_closed k e t) (omega (arith, line_newline line b t)))
-    deeper k e all ih false t = behind k (suc n) (rw t refl) all (ih (suc n) (λ z. absurd (omega (arith, z))) (omega (arith, line_same line b t)))
+    deeper k e all ih false t = behind k (suc n) (rw t refl) all (ih (suc n) (λ z. absurd (omega (arith, z))) (omega (arith, line_stays line b t)))
 
 -- ---- whole texts
 

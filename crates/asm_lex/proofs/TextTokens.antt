@@ -3,7 +3,7 @@ use Rattle.std.proofs.Common.{◌≡◌, ℕ, ◌+◌, ◌-◌, ◌≤◌, List,
 use Rattle.std.specs.Prelude.{IfOk}
 use Rattle.std.specs.Global.{Vec}
 use Rattle.std.proofs.lemmas.List.{length-append, length-take, length-drop}
-use Rattle.asm_lex.specs.Bytes.{class_of, is_source, is_digit, is_letter, is_word}
+use Rattle.asm_lex.specs.Bytes.{class_of, is_source, is_letter, is_word}
 use Rattle.asm_lex.specs.declared.fault.SourceCause.TheVariants as cause
 use Rattle.asm_lex.specs.declared.fault.SourceFault.{SourceFault}
 use Rattle.asm_lex.specs.declared.token.Token.{Token}
@@ -27,7 +27,7 @@ token_words seen line n (Some t) s e h =
     let len : length (take t.len (drop t.at seen)) ≡ t.len = omega (arith, length-take t.len (drop t.at seen), length-drop t.at seen) in
     rw len refl
 
-ending_same : (seen : List ℕ) (line : ℕ) (t : Option Token) (s : Scan) → (with_token seen line t s).ending ≡ s.ending
+pub ending_same : (seen : List ℕ) (line : ℕ) (t : Option Token) (s : Scan) → (with_token seen line t s).ending ≡ s.ending
 ending_same seen line None s = refl
 ending_same seen line (Some t) s = refl
 
@@ -79,12 +79,12 @@ IsClosed (Goes _) = ⊥
 IsClosed (Stops l c) = Unit {0}
 
 number_closed : (s : ℕ) (at line : ℕ) (t : Bool) → IsClosed (cond t (after kind.Number s at line 10) (stops line cause.BadNumber)).next
-unfolding class_of is_digit is_letter is_word
+unfolding class_of is_letter is_word
 number_closed s at line true = tt
 number_closed s at line false = tt
 
 pub at_newline : (m : Mode) (at line : ℕ) → IsClosed (stepped m at line 10).next
-unfolding class_of is_source is_digit is_letter is_word
+unfolding class_of is_source is_letter is_word
 at_newline mode.Between at line = tt
 at_newline mode.Slash at line = tt
 at_newline mode.Line at line = tt

@@ -40,7 +40,7 @@ fn push_both(
 
 /// The line behind a byte.
 #[tactic(auto, unfolding(crate::specs::Words::line_after))]
-fn line_after(line: u32, b: u8) -> u32
+pub fn line_after(line: u32, b: u8) -> u32
     requires { line < 4294967295 }
     ensures { result ≡ words.line_after line b }
 {

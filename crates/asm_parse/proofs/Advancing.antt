@@ -1,6 +1,5 @@
 -- One byte more of the source.
-use Rattle.std.proofs.Common.{◌≡◌, ℕ, ◌+◌, ◌<◌, ◌≤◌, Bool, true, false, cond, List, [], ◌∷◌, ◌++◌, length, get_or, take, drop, Result, Ok, Err, refl, sym, ap, subst, ◌∙◌, arith, add-one, drop-cons}
-use Rattle.std.specs.Prelude.{◌==◌}
+use Rattle.std.proofs.Common.{◌≡◌, ℕ, ◌+◌, ◌<◌, List, [], ◌∷◌, ◌++◌, length, get_or, take, drop, Result, Ok, Err, refl, sym, ap, subst, ◌∙◌}
 use Rattle.std.proofs.lemmas.List.{take_more}
 use Rattle.asm_lex.specs.declared.fault.SourceFault.{SourceFault}
 use Rattle.asm_lex.specs.declared.fault.SourceFault.TheVariants as fault
@@ -10,6 +9,7 @@ use Rattle.asm_parse.specs.declared.state.StatementState.{StatementState}
 use Rattle.asm_parse.specs.ScopeView.{ScopeView}
 use Rattle.asm_parse.specs.Reading.{Fault}
 use Rattle.asm_parse.specs.Running.{Running, one_byte_over, one_byte, run, DoesByte, Runs}
+use Rattle.asm_lex.proofs.Scanning.{drop_one}
 
 abbrev pub here : ScopeView → StatementState → Mode → List ℕ → ℕ → ℕ → Running
 here sc st m source i line = record { scope = sc; state = st; mode = m; seen = take i source; at = i; line = line }
@@ -31,9 +31,6 @@ step_err sc st m seen seen2 at line b bs text g e f h =
     let h2 : one_byte_over sc st m (seen ++ b ∷ []) at line b ≡ Err g = subst (λ (y : List ℕ). one_byte_over sc st m y at line b ≡ Err g) e h in
     rw (f, h2) refl
 
-drop_one : (source : List ℕ) (i : ℕ) → i < length source → drop i source ≡ get_or source i 0 ∷ drop (i + 1) source
-drop_one source i lt = rw add-one (drop-cons source i 0 lt)
-
 pub advanced : (sc new : ScopeView) (st st2 : StatementState) (m m2 : Mode) (source : List ℕ) (i line b : ℕ) (total : Result Running Fault) → i < length source → b ≡ get_or source i 0
     → one_byte_over sc st m (take (i + 1) source) i line b ≡ Ok (new, st2, m2) → run (here sc st m source i line) (drop i source) ≡ total
     → run (here new st2 m2 source (i + 1) (line_after line b)) (drop (i + 1) source) ≡ total
@@ -53,11 +50,3 @@ pub failed_runs : (x : SourceFault) (sc new : ScopeView) (st : StatementState) (
     → DoesByte new (Err x) (one_byte_over sc st m (take (i + 1) source) i line b) → run (here sc st m source i line) (drop i source) ≡ total → Runs (Err x) total
 failed_runs fault.Memory sc new st m source i line b total lt is h so_far = tt
 failed_runs (fault.At l c) sc new st m source i line b total lt is h so_far = failed sc st m source i line b (l, c) total lt is h so_far
-
-pub line_bound : (line b : ℕ) → line_after line b ≤ line + 1
-unfolding line_after
-line_bound line b = by_test (b == 10)
-  where
-    by_test : (t : Bool) → cond t (line + 1) line ≤ line + 1
-    by_test true = omega arith
-    by_test false = omega arith

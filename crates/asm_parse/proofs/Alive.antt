@@ -1,5 +1,5 @@
 -- A line that ends outside a comment leaves nothing open, so the text up to it has a reading.
-use Rattle.std.proofs.Common.{◌≡◌, ℕ, ◌<◌, Bool, true, false, cond, List, [], ◌∷◌, ◌++◌, length, Option, Some, None, Result, Ok, Err, refl, sym, ap, subst, ◌∙◌, arith}
+use Rattle.std.proofs.Common.{◌≡◌, ℕ, Bool, true, false, cond, List, [], ◌∷◌, ◌++◌, length, Option, Some, None, Result, Ok, Err, refl, sym, ap, subst, ◌∙◌}
 use Rattle.std.specs.Prelude.{nat_lt}
 use Rattle.asm_lex.specs.declared.fault.SourceCause.{SourceCause}
 use Rattle.asm_lex.specs.declared.fault.SourceCause.TheVariants as cause
@@ -17,7 +17,7 @@ use Rattle.asm_parse.specs.declared.state.Open.{Open}
 use Rattle.asm_parse.specs.declared.state.StatementState.{StatementState}
 use Rattle.asm_parse.specs.declared.state.StatementState.TheVariants as state
 use Rattle.asm_parse.specs.ScopeView.{ScopeView}
-use Rattle.asm_lex.specs.Bytes.{class_of, is_source, is_digit, is_letter, is_word}
+use Rattle.asm_lex.specs.Bytes.{class_of, is_source, is_letter, is_word}
 use Rattle.asm_lex.specs.declared.token.Token.{Token}
 use Rattle.asm_lex.specs.declared.token.TokenKind.{TokenKind}
 use Rattle.asm_lex.specs.declared.token.TokenKind.TheVariants as kind
@@ -33,16 +33,14 @@ use Rattle.asm_lex.specs.Words.{Word, word_of}
 use Rattle.asm_lex.specs.Lines.{first_lines}
 use Rattle.asm_parse.specs.Running.{Running, goes_on, second_does, byte_does, one_byte_over, moved, one_byte, run, start, closed, read}
 use Rattle.asm_parse.proofs.Lines.{bind_ok, IsRead, run_ok}
-use Rattle.asm_parse.proofs.Linking.{run_append, goes_is}
+use Rattle.asm_parse.proofs.Linking.{goes_is}
 use Rattle.std.proofs.Common.{zero, suc}
 use Rattle.std.specs.Prelude.{◌==◌, ◌&&◌, ◌+◌}
 use Rattle.std.proofs.lemmas.Bool.{eqb-true}
 use Rattle.asm_argument.specs.Operand.{operand_step, is_finished}
 use Rattle.asm_parse.specs.Statement.{at_shape, complete, end_behind, ended, is_bare, argument_step, nothing_yet, of_directive, is_passed, is_rep, step, next_step, fault_line}
 use Rattle.asm_parse.specs.Directives.{shape_at, least, directive_of, is_dotted}
-
-abbrev Answer : Type 0
-Answer = Result (ScopeView × StatementState) SourceCause
+use Rattle.asm_parse.proofs.Quiet.{Answer}
 
 -- where it goes on, nothing is open
 abbrev Ends : Answer → Type 0
@@ -122,12 +120,12 @@ LastEnd (Goes _) t = Unit {0}
 LastEnd (Stops l c) t = Unit {0}
 
 number_end : (s : ℕ) (at line : ℕ) (t : Bool) → LastEnd (cond t (after kind.Number s at line 10) (stops line cause.BadNumber)).next (cond t (after kind.Number s at line 10) (stops line cause.BadNumber)).second
-unfolding class_of is_digit is_letter is_word
+unfolding class_of is_letter is_word
 number_end s at line true = refl
 number_end s at line false = tt
 
 last_end : (m : Mode) (at line : ℕ) → LastEnd (stepped m at line 10).next (stepped m at line 10).second
-unfolding class_of is_source is_digit is_letter is_word
+unfolding class_of is_source is_letter is_word
 last_end mode.Between at line = refl
 last_end mode.Slash at line = tt
 last_end mode.Line at line = refl

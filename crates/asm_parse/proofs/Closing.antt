@@ -1,6 +1,6 @@
 -- A line behind which nothing is dead goes on: an open comment ends, and then the statement.
-use Rattle.std.proofs.Common.{◌≡◌, ℕ, ◌+◌, Bool, true, false, cond, List, [], ◌∷◌, ◌++◌, length, Option, Some, None, Result, Ok, Err, refl, sym, ap, subst, ◌∙◌, append_assoc, arith}
-use Rattle.std.proofs.lemmas.List.{append-nil, length-append}
+use Rattle.std.proofs.Common.{◌≡◌, ℕ, ◌+◌, Bool, true, false, cond, List, [], ◌∷◌, ◌++◌, length, None, Result, Ok, refl, ap, subst, ◌∙◌, append_assoc}
+use Rattle.std.proofs.lemmas.List.{length-append}
 use Rattle.std.specs.Prelude.{◌==◌, nat_lt, ◌^◌}
 use Rattle.asm_lex.specs.Bytes.{class_of, is_source}
 use Rattle.asm_lex.specs.declared.token.TokenKind.{TokenKind}
@@ -9,11 +9,10 @@ use Rattle.asm_lex.specs.declared.machine.Mode.TheVariants as mode
 use Rattle.asm_lex.specs.declared.machine.Next.{Next}
 use Rattle.asm_lex.specs.declared.machine.Next.TheVariants.{Goes}
 use Rattle.asm_lex.specs.Words.{Word, Scan, scan}
-use Rattle.asm_lex.specs.Source.{IsGap, IsToken, Lexed}
+use Rattle.asm_lex.specs.Source.{IsToken, Lexed}
 use Rattle.asm_lex.proofs.Again.{again}
 use Rattle.asm_lex.proofs.Found.{found}
 use Rattle.asm_argument.specs.declared.symbol.Terminal.{Terminal}
-use Rattle.asm_argument.specs.declared.symbol.Terminal.TheVariants as symbol
 use Rattle.asm_parse.specs.declared.state.StatementState.{StatementState}
 use Rattle.asm_parse.specs.declared.state.StatementState.TheVariants as state
 use Rattle.asm_parse.specs.ScopeView.{ScopeView}
@@ -21,7 +20,7 @@ use Rattle.asm_parse.specs.Scope.{fresh}
 use Rattle.asm_parse.specs.Statement.{doom, fault_line}
 use Rattle.asm_argument.specs.Symbols.{number_value, mark_symbol, number_symbol, symbol_of}
 use Rattle.asm_parse.specs.Reading.{Fault, placed, next_word}
-use Rattle.asm_parse.specs.Running.{Running, ◌>>=◌, one_byte_over, moved, one_byte, run, start}
+use Rattle.asm_parse.specs.Running.{Running, one_byte_over, moved, one_byte, run, start}
 use Rattle.asm_parse.proofs.Words.{read_words}
 use Rattle.asm_parse.proofs.Scopes.{GoodIn, fresh_good}
 use Rattle.asm_parse.proofs.Quiet.{SymbolIs, NamedIs, StateIs, word_next}

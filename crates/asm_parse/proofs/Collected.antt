@@ -12,15 +12,13 @@ use Rattle.asm_parse.specs.declared.state.StatementState.{StatementState}
 use Rattle.asm_parse.specs.declared.state.StatementState.TheVariants as state
 use Rattle.asm_parse.specs.ScopeView.{ScopeView}
 use Rattle.asm_parse.specs.Scope.{fresh}
-use Rattle.asm_argument.specs.Operand.{begun}
 use Rattle.asm_argument.specs.Symbols.{symbol_of}
 use Rattle.asm_parse.specs.Reading.{placed, is_part, ending_at, next_word}
 use Rattle.asm_parse.proofs.Words.{read_words}
-use Rattle.asm_parse.specs.Statement.{sectioned, ended, section, next_step, fault_line}
+use Rattle.asm_parse.specs.Statement.{sectioned, next_step, fault_line}
 use Rattle.asm_parse.specs.Statements.{is_inner, are_flags, symbols, text_of, Touch, IsStatement, Statements}
-use Rattle.asm_argument.proofs.Operands.{more}
-use Rattle.asm_parse.proofs.Stated.{Answer, is_naming, not_longer}
-use Rattle.asm_parse.proofs.Quiet.{WordGoes, word_goes}
+use Rattle.asm_parse.proofs.Stated.{is_naming, not_longer}
+use Rattle.asm_parse.proofs.Quiet.{WordGoes, word_goes, Answer}
 use Rattle.asm_parse.proofs.Lines.{bind_ok}
 use Rattle.asm_parse.proofs.Said.{IsNaming, Begun, start_begun, begun_more, next_begun}
 

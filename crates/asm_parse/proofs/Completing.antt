@@ -1,18 +1,17 @@
 -- What has been read of a statement can go on to its end.
-use Rattle.std.proofs.Common.{◌≡◌, ℕ, zero, suc, ◌+◌, ◌≤◌, ◌<◌, Bool, true, false, cond, List, [], ◌∷◌, ◌++◌, length, Option, Some, None, Result, Ok, Err, refl, sym, ap, subst, ◌∙◌, ◌⊎◌, inl, inr, arith}
-use Rattle.std.proofs.lemmas.List.{length-append, length-replicate, nil_from_length}
+use Rattle.std.proofs.Common.{◌≡◌, ℕ, zero, suc, ◌+◌, ◌≤◌, ◌<◌, Bool, true, false, cond, List, [], ◌∷◌, ◌++◌, length, Option, Some, None, Ok, refl, sym, ap, subst, ◌∙◌, ◌⊎◌, inl, inr, arith}
+use Rattle.std.proofs.lemmas.List.{length-append, length-replicate}
 use Rattle.std.proofs.lemmas.Bool.{ltb-true, ltb-false, le-ltb, ne_eqb, not-false}
 use Rattle.std.proofs.lemmas.Cmp.{nat_list_eq_equiv}
 use Rattle.std.proofs.lemmas.Slice.Eq.{bytes_eq-Decides}
 use Rattle.std.proofs.lemmas.Map.Made.{length-le_from_is_member}
-use Rattle.std.specs.Prelude.{pos, ◌==◌, ◌&&◌, ◌||◌, not, nat_lt, is_none, replicate}
+use Rattle.std.specs.Prelude.{pos, ◌==◌, ◌||◌, not, nat_lt, replicate}
 use Rattle.std.specs.List.{list_all}
 use Rattle.std.specs.Str.{bytes_eq}
-use Rattle.asm_lex.specs.Bytes.{class_of, is_digit, is_letter, is_word}
+use Rattle.asm_lex.specs.Bytes.{class_of, is_letter, is_word}
 use Rattle.asm_lex.specs.declared.token.TokenKind.TheVariants as kind
 use Rattle.asm_lex.specs.Words.{Word}
 use Rattle.asm_lex.specs.Source.{lines_after}
-use Rattle.asm_argument.specs.declared.symbol.Terminal.{Terminal}
 use Rattle.asm_argument.specs.declared.symbol.Terminal.TheVariants as symbol
 use Rattle.asm_argument.specs.declared.operand.Shape.{Shape}
 use Rattle.asm_argument.specs.declared.operand.Shape.TheVariants as shape
@@ -36,15 +35,15 @@ use Rattle.asm_argument.specs.Operand.{is_operand, takes_numbers, fits, is_regis
 use Rattle.asm_argument.specs.Grammar.{IsValue, IsForm}
 use Rattle.asm_argument.specs.Escapes.{opening, string_text}
 use Rattle.asm_argument.specs.Symbols.{symbol_of}
-use Rattle.asm_parse.specs.Statement.{item_of, resumed, sectioned, is_passed, is_rep, is_unknown, is_taken, lacks_names, if_doomed, doom}
-use Rattle.asm_parse.specs.Directives.{shape_at, least, defines, is_instruction, is_section, is_dotted, changes_section, directive_of, is_known, is_change, is_defining}
-use Rattle.asm_parse.specs.Statements.{IsSeen, Sees, IsArgument, IsNext, Separated, HasArguments, has_list, Statement, symbols}
+use Rattle.asm_parse.specs.Statement.{item_of, resumed, sectioned, is_passed, is_rep, is_taken, doom}
+use Rattle.asm_parse.specs.Directives.{shape_at, least, defines, is_section, is_dotted, directive_of, is_known, is_change, is_defining}
+use Rattle.asm_parse.specs.Statements.{IsSeen, IsArgument, IsNext, Separated, HasArguments, has_list, Statement}
 use Rattle.asm_parse.proofs.Words.{read_words}
 use Rattle.asm_argument.proofs.Operands.{ok, operand_run}
 use Rattle.asm_parse.proofs.Names.{named_in}
 use Rattle.asm_parse.proofs.Scopes.{Each, GoodIn, or_right, same_name, same_holds}
 use Rattle.asm_parse.proofs.Quiet.{IsOpen, StateIs}
-use Rattle.asm_parse.proofs.Stated.{Answer, inners, inners_append, inners_words, word_is, open_at, instruction_operand, Gains, form_runs, comma_runs, end_runs, statement_runs, named_section, rest_runs}
+use Rattle.asm_parse.proofs.Stated.{inners, inners_append, inners_words, word_is, open_at, instruction_operand, Gains, form_runs, comma_runs, end_runs, statement_runs, named_section, rest_runs}
 use Rattle.asm_parse.proofs.Written.{Piece, words_at, symbols_of, ArePieces, pieces-append, symbols_of-append, symbols-words_at, IsName, name_piece, one_piece, zero_piece, text_piece, end_piece, percent_piece, close_piece, comma_piece, colon_piece, letter, letter_name, low, low_name, text_section, section_name_is, the_name, the_one, the_zero, the_text, the_end, the_mark}
 
 -- ---- one argument
@@ -273,12 +272,12 @@ long : List (List ℕ) → List ℕ
 long ns = 97 ∷ replicate (total ns) 97
 
 letters : (k : ℕ) → list_all is_word (replicate k 97) ≡ true
-unfolding is_word is_digit is_letter
+unfolding is_word is_letter
 letters zero = refl
 letters (suc k) = letters k
 
 long_name : (ns : List (List ℕ)) → IsName (long ns)
-unfolding long class_of is_digit is_letter
+unfolding long class_of is_letter
 long_name ns = (refl, letters (total ns))
 
 longer_new : (ns : List (List ℕ)) (x : List ℕ) → total ns + 1 ≤ length x → holds ns x ≡ false

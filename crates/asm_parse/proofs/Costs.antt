@@ -1,18 +1,17 @@
 -- What a symbol says has no more bytes than its token.
-use Rattle.std.proofs.Common.{◌≡◌, ℕ, zero, suc, ◌+◌, ◌≤◌, Bool, true, false, cond, List, [], ◌∷◌, ◌++◌, length, Option, Some, None, refl, sym, ap, subst, ◌∙◌, arith}
+use Rattle.std.proofs.Common.{◌≡◌, ℕ, ◌+◌, ◌≤◌, Bool, true, false, cond, List, [], ◌∷◌, ◌++◌, length, Some, None, refl, ap, arith}
 use Rattle.std.proofs.lemmas.List.{length-append}
 use Rattle.std.specs.Prelude.{◌==◌, nat_lt, ◌^◌}
 use Rattle.asm_lex.specs.declared.token.TokenKind.{TokenKind}
-use Rattle.asm_lex.specs.declared.token.TokenKind.TheVariants as kind
 use Rattle.asm_lex.specs.Words.{Word}
-use Rattle.asm_lex.specs.Source.{IsGap, IsToken, Lexed}
+use Rattle.asm_lex.specs.Source.{IsToken, Lexed}
 use Rattle.asm_argument.specs.declared.symbol.Terminal.{Terminal}
 use Rattle.asm_argument.specs.declared.symbol.Terminal.TheVariants as symbol
 use Rattle.asm_argument.specs.declared.escapes.Escape.{Escape}
 use Rattle.asm_argument.specs.declared.escapes.Escape.TheVariants as escape
 use Rattle.asm_argument.specs.declared.escapes.Unescaped.{Unescaped}
 use Rattle.asm_lex.specs.Bytes.{is_octal}
-use Rattle.asm_argument.specs.Escapes.{gives, joined, escaped, plain, escape_step, listed, opening, string_text}
+use Rattle.asm_argument.specs.Escapes.{plain, escape_step, listed, opening, string_text}
 use Rattle.asm_argument.specs.Symbols.{number_value, mark_symbol, number_symbol, symbol_of}
 use Rattle.asm_parse.specs.Statements.{symbols}
 

@@ -1,5 +1,5 @@
 -- The line of a fault is the first after which no text goes on.
-use Rattle.std.proofs.Common.{◌≡◌, ℕ, zero, suc, ◌+◌, ◌≤◌, ◌<◌, Bool, true, false, List, [], ◌∷◌, ◌++◌, Option, Some, None, Result, Ok, Err, refl, sym, ap, subst, ◌∙◌, append_assoc, arith, ◌⊎◌, inl, inr}
+use Rattle.std.proofs.Common.{◌≡◌, ℕ, zero, suc, ◌+◌, ◌≤◌, ◌<◌, Bool, true, false, List, [], ◌∷◌, ◌++◌, Option, Some, None, Result, Ok, Err, refl, sym, ap, ◌∙◌, arith, inl, inr}
 use Rattle.std.specs.Prelude.{◌==◌}
 use Rattle.asm_lex.specs.declared.fault.SourceCause.{SourceCause}
 use Rattle.asm_lex.specs.declared.fault.SourceCause.TheVariants.{OpenComment}
@@ -15,15 +15,18 @@ use Rattle.asm_lex.specs.Lines.{first_lines}
 use Rattle.asm_parse.specs.Running.{Running, ◌>>=◌, one_byte, run, start, closed, read}
 use Rattle.asm_parse.proofs.Scopes.{GoodIn, fresh_good}
 use Rattle.asm_parse.proofs.Quiet.{Any, any_next}
-use Rattle.asm_parse.proofs.Lines.{OneByte, placed_goes, bind_ok, err_line, ok_byte, line_newline, line_same, run_ok, IsRead}
+use Rattle.asm_parse.proofs.Lines.{OneByte, placed_goes, bind_ok, err_line, ok_byte, run_ok, IsRead}
 use Rattle.asm_parse.proofs.Words.{read_words}
 use Rattle.asm_lex.specs.declared.machine.Next.TheVariants.{Goes}
 use Rattle.asm_lex.proofs.TextTokens.{IsClosed}
 use Rattle.asm_parse.proofs.Linking.{run_append, link, last_mode, closed_between}
 use Rattle.asm_parse.proofs.Alive.{newline_state, lines_end}
+use Rattle.asm_parse.proofs.Names.{none_some}
+use Rattle.asm_lex.proofs.FaultLines.{line_newline}
+use Rattle.asm_lex.proofs.Again.{line_stays}
 
 -- a whole reading from here on
-abbrev finish : Running → List ℕ → Result Running Fault
+abbrev pub finish : Running → List ℕ → Result Running Fault
 finish r text = run r text >>= λ s. closed s s.mode
 
 -- ---- what is dead stays dead
@@ -57,9 +60,6 @@ some_line o l line e = rw e refl
 
 none_line : (o : Option ℕ) (line : ℕ) → o ≡ None → or_line o line ≡ line
 none_line o line e = rw e refl
-
-none_some : {A : Type 0} {a : A} (o : Option A) → o ≡ None → o ≡ Some a → ⊥
-none_some o e f = absurd cc
 
 err_same : {f g : Fault} → ◌≡◌ {A = Result Running Fault} (Err f) (Err g) → f ≡ g
 err_same e = cc
@@ -149,12 +149,12 @@ dies (b ∷ bs) r f other good d h = elim (behind r b (bs ++ 10 ∷ []) f good d
             let rest : first_lines (suc (suc n)) (b ∷ bs) ≡ b ∷ first_lines (suc n) bs = rw t refl in
             w.dead n (omega (arith, line ∙ line_newline r.line b t)) more z
             (sym (finish_ok r s b ((first_lines (suc n) bs ++ more) ++ 10 ∷ []) e) ∙ (sym (ap (λ (x : List ℕ). finish r ((x ++ more) ++ 10 ∷ [])) rest) ∙ g))
-    goes_deeper s e line w false t = record { not_before = omega (arith, w.not_before, line ∙ line_same r.line b t); dead = at_count }
+    goes_deeper s e line w false t = record { not_before = omega (arith, w.not_before, line ∙ line_stays r.line b t); dead = at_count }
       where
         at_count : (n : ℕ) → n + r.line ≡ f.0 → (more : List ℕ) (z : Running) → finish r ((first_lines (suc n) (b ∷ bs) ++ more) ++ 10 ∷ []) ≡ Ok z → ⊥
         at_count n k more z g =
             let rest : first_lines (suc n) (b ∷ bs) ≡ b ∷ first_lines (suc n) bs = rw t refl in
-            w.dead n (omega (arith, line ∙ line_same r.line b t)) more z
+            w.dead n (omega (arith, line ∙ line_stays r.line b t)) more z
             (sym (finish_ok r s b ((first_lines (suc n) bs ++ more) ++ 10 ∷ []) e) ∙ (sym (ap (λ (x : List ℕ). finish r ((x ++ more) ++ 10 ∷ [])) rest) ∙ g))
 
 -- The lines before the fault's go on, and nothing in them is dead.
@@ -178,7 +178,7 @@ lives (b ∷ bs) r f other good d h (suc n) le = elim (behind r b (bs ++ 10 ∷ 
         let g = ih n (omega (arith, line ∙ line_newline r.line b u)) in
         (g.0, rw u (run_ok r s b _ e ∙ g.1), g.2)
     at_byte s e line ih false u =
-        let g = ih (suc n) (omega (arith, line ∙ line_same r.line b u)) in
+        let g = ih (suc n) (omega (arith, line ∙ line_stays r.line b u)) in
         (g.0, rw u (run_ok r s b _ e ∙ g.1), g.2)
 
 -- After the line of a fault no text goes on, but for an open comment.

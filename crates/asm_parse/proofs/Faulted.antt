@@ -1,5 +1,5 @@
 -- A refusal is that of the first word with which no source goes on, or of what ends the words.
-use Rattle.std.proofs.Common.{◌≡◌, ℕ, ◌+◌, List, [], ◌∷◌, ◌++◌, Option, Some, None, Result, Ok, Err, refl, sym, ap, subst, ◌∙◌}
+use Rattle.std.proofs.Common.{◌≡◌, ℕ, List, [], ◌∷◌, ◌++◌, Option, Some, None, Result, Ok, Err, refl, sym, ap, subst, ◌∙◌}
 use Rattle.asm_lex.specs.declared.fault.SourceCause.{SourceCause}
 use Rattle.asm_lex.specs.declared.fault.SourceFault.{SourceFault}
 use Rattle.asm_lex.specs.declared.fault.SourceFault.TheVariants as fault
@@ -9,7 +9,7 @@ use Rattle.asm_lex.specs.declared.machine.Mode.TheVariants as mode
 use Rattle.asm_lex.specs.declared.machine.Next.{Next}
 use Rattle.asm_lex.specs.declared.machine.Next.TheVariants.{Goes, Stops}
 use Rattle.asm_lex.specs.Machine.{stepped}
-use Rattle.asm_lex.specs.Words.{Word, Scan, scan, with_token, word_of, line_after}
+use Rattle.asm_lex.specs.Words.{Word, Scan, scan, with_token}
 use Rattle.asm_lex.proofs.FaultLines.{StopsIn, step_in}
 use Rattle.asm_parse.specs.declared.state.StatementState.{StatementState}
 use Rattle.asm_parse.specs.declared.state.StatementState.TheVariants as state
@@ -20,12 +20,14 @@ use Rattle.asm_parse.specs.Statement.{fault_line, stopped, left_open}
 use Rattle.asm_parse.specs.Statements.{symbols}
 use Rattle.asm_parse.specs.Reading.{Fault, fed, placed, next_word}
 use Rattle.asm_argument.specs.Symbols.{symbol_of}
-use Rattle.asm_parse.specs.Running.{Running, ◌>>=◌, goes_on, second_does, byte_does, one_byte_over, moved, one_byte, run, start, closed, read, Parses}
+use Rattle.asm_parse.specs.Running.{Running, ◌>>=◌, goes_on, second_does, one_byte_over, moved, one_byte, run, start, closed, read, Parses}
 use Rattle.asm_parse.specs.Refusals.{Ending, Worded, refused_cause, byte_cause, Refused, RefusedFor}
 use Rattle.asm_parse.proofs.Closing.{AreNamed, token_is}
 use Rattle.asm_parse.proofs.Walking.{fault_in, Found}
 use Rattle.asm_parse.proofs.Refused.{found_fault}
 use Rattle.asm_parse.proofs.Worded.{EndsSo, text_worded}
+use Rattle.asm_parse.proofs.Linking.{rest_scan}
+use Rattle.asm_parse.proofs.Dying.{finish}
 
 -- the fault of words and of what a scan ends with
 abbrev fault_next : ScopeView → StatementState → List Word → Next → Option Fault
@@ -50,15 +52,6 @@ some_is f g h = ap (λ (x : Fault). Some x) h
 closed_fault : (r : Running) (m : Mode) (f : Fault) → closed r m ≡ Err f → fault_next r.scope r.state [] (Goes m) ≡ Some f
 closed_fault r (mode.Block l) f h = some_is _ f (err_same _ f h)
 closed_fault r _ f h = absurd cc
-
-abbrev rest_scan : List ℕ → ℕ → ℕ → ℕ → List ℕ → Next → Scan
-rest_scan behind at line b bs next = elim next [
-  | Goes n ↦ scan n behind (at + 1) (line_after line b) bs
-  | Stops l c ↦ record { words = []; ending = Stops l c }
-]
-
-abbrev finish : Running → List ℕ → Result Running Fault
-finish r text = run r text >>= λ s. closed s s.mode
 
 run_fault : (bs : List ℕ) (r : Running) (f : Fault) → finish r bs ≡ Err f → of_scan r.scope r.state (scan r.mode r.seen r.at r.line bs) ≡ Some f
 unfolding one_byte one_byte_over

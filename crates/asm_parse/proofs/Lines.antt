@@ -1,7 +1,5 @@
 -- A fault of one byte is in its line, or in that of a token with which no text goes on.
-use Rattle.std.proofs.Common.{◌≡◌, ℕ, ◌+◌, Bool, true, false, List, [], ◌∷◌, ◌++◌, Option, Some, None, Result, Ok, Err, refl, sym, ap, subst, ◌∙◌, ◌⊎◌, inl, inr, arith}
-use Rattle.std.specs.Prelude.{◌==◌}
-use Rattle.asm_lex.specs.declared.fault.SourceCause.{SourceCause}
+use Rattle.std.proofs.Common.{◌≡◌, ℕ, List, [], ◌∷◌, ◌++◌, Option, Some, None, Result, Ok, Err, refl, sym, ap, subst, ◌∙◌, ◌⊎◌, inl, inr}
 use Rattle.asm_lex.specs.declared.machine.Mode.{Mode}
 use Rattle.asm_lex.specs.declared.machine.Next.{Next}
 use Rattle.asm_lex.specs.declared.machine.Next.TheVariants.{Goes, Stops}
@@ -16,6 +14,7 @@ use Rattle.asm_parse.specs.Reading.{Fault, fed, placed, next_word}
 use Rattle.asm_parse.specs.Running.{Running, ◌>>=◌, goes_on, byte_does, second_does, one_byte_over, moved, one_byte, run, read}
 use Rattle.asm_parse.proofs.Scopes.{GoodIn}
 use Rattle.asm_parse.proofs.Quiet.{Answer, Any, any_next}
+use Rattle.asm_parse.proofs.Names.{none_some}
 
 pub bind_err : {A B : Type 0} (r : Result A Fault) (k : A → Result B Fault) (f : Fault) → (r >>= k) ≡ Err f → (r ≡ Err f) ⊎ ((x : A) × (r ≡ Ok x) × (k x ≡ Err f))
 bind_err (Ok x) k f h = inr (x, refl, h)
@@ -33,9 +32,6 @@ Doom sc st line sc2 st2 = (doom sc2 st2 ≡ doom sc st) ⊎ ((doom sc st ≡ Non
 -- from a scope such as every one is
 abbrev pub Keeps : ScopeView → StatementState → ℕ → ScopeView → StatementState → Type 0
 Keeps sc st line sc2 st2 = GoodIn Any sc → Doom sc st line sc2 st2 × GoodIn Any sc2
-
-none_some : {A : Type 0} {a : A} (o : Option A) → o ≡ None → o ≡ Some a → ⊥
-none_some o e f = absurd cc
 
 doom_on : (sc sc2 sc3 : ScopeView) (st st2 st3 : StatementState) (line : ℕ) → Doom sc st line sc2 st2 → Doom sc2 st2 line sc3 st3 → Doom sc st line sc3 st3
 doom_on sc sc2 sc3 st st2 st3 line (inl e) (inl f) = inl (f ∙ e)
@@ -132,14 +128,6 @@ ok_byte r b t h =
           line = sym (ap (λ (y : Running). y.line) g);
           keeps = subst (λ (y : Running). Keeps r.scope r.state r.line y.scope y.state) g k;
         }
-
-pub line_newline : (line b : ℕ) → (b == 10) ≡ true → line_after line b ≡ line + 1
-unfolding line_after
-line_newline line b h = rw h refl
-
-pub line_same : (line b : ℕ) → (b == 10) ≡ false → line_after line b ≡ line
-unfolding line_after
-line_same line b h = rw h refl
 
 pub run_ok : (r s : Running) (b : ℕ) (bs : List ℕ) → one_byte r b ≡ Ok s → run r (b ∷ bs) ≡ run s bs
 run_ok r s b bs e = rw e refl

@@ -1,5 +1,5 @@
 -- The bytes one by one, and the words of a source.
-use Rattle.std.proofs.Common.{◌≡◌, ℕ, ◌+◌, List, [], ◌∷◌, ◌++◌, Option, Some, None, Result, Ok, Err, refl, sym, ap, subst, ◌∙◌, Bool, true, false}
+use Rattle.std.proofs.Common.{◌≡◌, ℕ, ◌+◌, List, [], ◌∷◌, ◌++◌, Option, Some, None, Result, Ok, Err, refl, sym, ap, subst, ◌∙◌}
 use Rattle.asm_lex.specs.declared.token.Token.{Token}
 use Rattle.asm_lex.specs.declared.machine.Mode.{Mode}
 use Rattle.asm_lex.specs.declared.machine.Mode.TheVariants as mode
@@ -8,7 +8,7 @@ use Rattle.asm_lex.specs.declared.machine.Next.TheVariants.{Goes, Stops}
 use Rattle.asm_lex.specs.declared.machine.Stepped.{Stepped}
 use Rattle.asm_lex.specs.Machine.{stepped}
 use Rattle.asm_lex.specs.Words.{Scan, scan, with_token, word_of, line_after}
-use Rattle.asm_lex.proofs.TextTokens.{IsClosed, at_newline}
+use Rattle.asm_lex.proofs.TextTokens.{IsClosed, at_newline, ending_same}
 use Rattle.asm_parse.specs.declared.state.StatementState.{StatementState}
 use Rattle.asm_parse.specs.ScopeView.{ScopeView}
 use Rattle.asm_parse.specs.Statement.{fault_line}
@@ -23,15 +23,11 @@ token_read : (sc : ScopeView) (st : StatementState) (seen : List ℕ) (line : �
 token_read sc st seen line None s y h = let e : (sc, st) ≡ y = cc in ap (λ (z : ScopeView × StatementState). read_words z.0 z.1 s.words) e
 token_read sc st seen line (Some t) s y h = rw h refl
 
-ending_same : (seen : List ℕ) (line : ℕ) (t : Option Token) (s : Scan) → (with_token seen line t s).ending ≡ s.ending
-ending_same seen line None s = refl
-ending_same seen line (Some t) s = refl
-
 pub goes_is : (line : ℕ) (y : ScopeView × StatementState) (n : Next) (x : ScopeView × StatementState × Mode) → goes_on line y n ≡ Ok x → (n ≡ Goes x.2) × (y ≡ (x.0, x.1))
 goes_is line y (Goes m) x h = let e : (y.0, y.1, m) ≡ x = cc in (ap (λ (z : ScopeView × StatementState × Mode). Goes z.2) e, ap (λ (z : ScopeView × StatementState × Mode). (z.0, z.1)) e)
 goes_is line y (Stops l c) x h = absurd cc
 
-abbrev rest_scan : List ℕ → ℕ → ℕ → ℕ → List ℕ → Next → Scan
+abbrev pub rest_scan : List ℕ → ℕ → ℕ → ℕ → List ℕ → Next → Scan
 rest_scan behind at line b bs next = elim next [
   | Goes n ↦ scan n behind (at + 1) (line_after line b) bs
   | Stops l c ↦ record { words = []; ending = Stops l c }

@@ -117,7 +117,7 @@ name_step sh (partial.Scaled v b i n) symbol.Close q h = subst (Keeps (partial.S
 name_step sh (partial.Scaled v b i n) _ q h = absurd cc
 name_step sh (partial.Whole f) _ q h = absurd cc
 
-none_some : {A : Type 0} {a : A} (o : Option A) → o ≡ None → o ≡ Some a → ⊥
+pub none_some : {A : Type 0} {a : A} (o : Option A) → o ≡ None → o ≡ Some a → ⊥
 none_some o e f = absurd cc
 
 -- a name stays

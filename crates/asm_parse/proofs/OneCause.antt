@@ -1,5 +1,5 @@
 -- A text is refused in one line for one cause, and one that is refused has no reading.
-use Rattle.std.proofs.Common.{◌≡◌, ℕ, ◌+◌, List, [], ◌∷◌, ◌++◌, Option, Some, None, Result, Ok, Err, refl, sym, ap, subst, ◌∙◌, ◌⊎◌, inl, inr, append_assoc}
+use Rattle.std.proofs.Common.{◌≡◌, ℕ, List, [], ◌∷◌, ◌++◌, Option, Some, None, Result, Ok, Err, refl, sym, ap, subst, ◌∙◌, ◌⊎◌, inl, inr, append_assoc}
 use Rattle.std.proofs.lemmas.List.{append-nil}
 use Rattle.asm_lex.specs.declared.fault.SourceCause.{SourceCause}
 use Rattle.asm_lex.specs.declared.fault.SourceFault.{SourceFault}
@@ -19,11 +19,11 @@ use Rattle.asm_parse.specs.Statements.{symbols, Statements}
 use Rattle.asm_parse.specs.Refusals.{Ending, Worded, IsBeginning, IsNoBeginning, StatementPlace, Reaches, refused_cause, byte_cause, Refused, RefusesAs}
 use Rattle.asm_parse.proofs.Words.{read_words}
 use Rattle.asm_parse.proofs.Scopes.{GoodIn, fresh_good}
-use Rattle.asm_parse.proofs.Quiet.{Any, any_next}
+use Rattle.asm_parse.proofs.Quiet.{Any, any_next, Answer}
 use Rattle.asm_parse.proofs.Lines.{bind_ok}
 use Rattle.asm_parse.proofs.Collected.{placed_ok}
 use Rattle.asm_parse.proofs.Dying.{words_doomed}
-use Rattle.asm_parse.proofs.Stated.{Answer, words_append, statements_run}
+use Rattle.asm_parse.proofs.Stated.{words_append, statements_run}
 use Rattle.asm_parse.proofs.Closing.{AreNamed}
 use Rattle.asm_parse.proofs.Places.{Suits}
 use Rattle.asm_parse.proofs.Walking.{beginning, word_fails, Doomed, doomed_word}

@@ -1,7 +1,7 @@
 -- What has been read of a statement leads to a place, and what is refused there has its cause.
-use Rattle.std.proofs.Common.{◌≡◌, ℕ, Bool, true, false, cond, List, [], ◌∷◌, ◌++◌, length, Option, Some, None, Result, Ok, Err, refl, sym, ap, subst, ◌∙◌, ◌⊎◌, inl, inr, append_assoc}
+use Rattle.std.proofs.Common.{◌≡◌, ℕ, Bool, true, false, cond, List, [], ◌∷◌, ◌++◌, length, Option, Some, None, Result, Ok, Err, refl, sym, ap, subst, ◌∙◌, inl, inr}
 use Rattle.std.proofs.lemmas.List.{append-nil}
-use Rattle.std.specs.Prelude.{◌==◌, ◌&&◌, ◌||◌, ◌+◌, ◌^◌, not, nat_lt, is_none}
+use Rattle.std.specs.Prelude.{◌==◌, ◌&&◌, ◌||◌, ◌+◌, ◌^◌, nat_lt}
 use Rattle.std.specs.List.{list_all}
 use Rattle.asm_lex.specs.declared.fault.SourceCause.{SourceCause}
 use Rattle.asm_lex.specs.declared.fault.SourceCause.TheVariants as cause
@@ -12,7 +12,6 @@ use Rattle.asm_argument.specs.declared.operand.Shape.{Shape}
 use Rattle.asm_argument.specs.declared.operand.Shape.TheVariants as shape
 use Rattle.asm_argument.specs.declared.operand.Partial.{Partial}
 use Rattle.asm_argument.specs.declared.operand.Partial.TheVariants as partial
-use Rattle.asm_source.specs.declared.tree.Argument.{Argument}
 use Rattle.asm_source.specs.declared.tree.Form.{Form}
 use Rattle.asm_parse.specs.declared.directive.Directive.{Directive}
 use Rattle.asm_parse.specs.declared.directive.Directive.TheVariants as kind
@@ -28,28 +27,20 @@ use Rattle.asm_lex.specs.declared.token.TokenKind.{TokenKind}
 use Rattle.asm_lex.specs.declared.token.TokenKind.TheVariants as token
 use Rattle.asm_argument.specs.Symbols.{mark_symbol, number_value, symbol_of}
 use Rattle.asm_parse.specs.Reading.{is_part}
-use Rattle.asm_argument.specs.Operand.{is_operand, is_unbegun, is_nothing, awaits_register, is_register}
+use Rattle.asm_argument.specs.Operand.{is_operand, is_unbegun, is_nothing, awaits_register}
 use Rattle.asm_parse.specs.Directives.{shape_at, is_instruction, directive_of, is_dotted, is_section}
-use Rattle.asm_parse.specs.Statement.{misplaced, begins_nothing, noting, with_scope, nothing_yet, argument_step, labelled, label, is_rep, rep_step, is_passed, section_name, of_directive, directive_step, instruction_step, section, unless_skipping, start_step, colon_behind, other_behind, named_step, sectioned_step, flags_step, stray_cause, step, skip, is_unknown, is_taken, lacks_names, if_doomed, doom, or_line, fault_line, is_place, stray, strayed, next_step, if_pending, pending, or_cause}
+use Rattle.asm_parse.specs.Statement.{misplaced, noting, with_scope, nothing_yet, argument_step, labelled, label, is_rep, rep_step, is_passed, section_name, of_directive, directive_step, unless_skipping, named_step, sectioned_step, step, skip, is_unknown, is_taken, lacks_names, if_doomed, doom, fault_line, is_place, strayed, next_step, pending, or_cause}
 use Rattle.asm_parse.specs.Statements.{IsArgument, has_list, is_inner, Statement, symbols, Touch}
-use Rattle.asm_parse.specs.Refusals.{StatementPlace, Leads, Opens, LeadsTo, last_of, is_percent, begins_none, other_cause, argument_missing, name_cause, operand_cause, value_cause, in_argument, directive_cause, named_cause, cause_at, percent_cause, behind_cause, first_name_cause, refused_cause, byte_cause}
-use Rattle.asm_argument.proofs.Operands.{ok, operand_run, run_spelled, spelled_form, Spelled}
-use Rattle.asm_parse.proofs.Said.{stars, InArguments, IsNaming, Begun, fresh_arguments}
-use Rattle.asm_parse.proofs.Collected.{InName, Held, HeldBy}
-use Rattle.asm_parse.proofs.Tails.{percents, Tail, spelled_tail}
-use Rattle.asm_parse.proofs.Refusing.{noting_cause}
-use Rattle.asm_parse.proofs.Stopping.{argument_refused}
-use Rattle.asm_parse.proofs.Completing.{Finish, finish}
+use Rattle.asm_parse.specs.Refusals.{StatementPlace, Leads, Opens, LeadsTo, last_of, is_percent, other_cause, name_cause, operand_cause, value_cause, directive_cause, named_cause, cause_at, percent_cause, behind_cause, refused_cause, byte_cause}
+use Rattle.asm_argument.proofs.Operands.{run_spelled, spelled_form, Spelled}
+use Rattle.asm_parse.proofs.Said.{stars, InArguments, IsNaming, fresh_arguments}
+use Rattle.asm_parse.proofs.Collected.{InName, Held}
+use Rattle.asm_parse.proofs.Tails.{percents, spelled_tail}
+use Rattle.asm_parse.proofs.Refusing.{noting_cause, not_both}
+use Rattle.asm_parse.proofs.Stopping.{argument_refused, same_fault}
+use Rattle.asm_parse.proofs.Completing.{finish}
 use Rattle.asm_parse.proofs.Written.{symbols_of}
-
-abbrev Answer : Type 0
-Answer = Result (ScopeView × StatementState) SourceCause
-
-same_fault : (a c : SourceCause) → ◌≡◌ {A = Answer} (Err a) (Err c) → a ≡ c
-same_fault a c h = cc
-
-not_both : {t : Bool} → t ≡ true → t ≡ false → ⊥
-not_both e f = absurd cc
+use Rattle.asm_parse.proofs.Quiet.{Answer}
 
 -- ---- behind a name
 
@@ -68,7 +59,7 @@ colon_fails : (sc : ScopeView) (b : ℕ) (n : List ℕ) (c : SourceCause) (t : B
 colon_fails sc b n c true h = absurd cc
 colon_fails sc b n c false h = noting_cause sc true n c (label_fails b n (noting sc true n) c h)
 
-section_fails : (b : ℕ) (n : List ℕ) (s : Terminal) (c : SourceCause) → section_name b n s ≡ Err c → argument_missing s ≡ c
+section_fails : (b : ℕ) (n : List ℕ) (s : Terminal) (c : SourceCause) → section_name b n s ≡ Err c → misplaced s ≡ c
 section_fails b n (symbol.Name m) c h = by_test (is_section m) h
   where
     by_test : (t : Bool) → ◌≡◌ {A = Result StatementState SourceCause} (cond t (Ok (state.Sectioned b n m 0)) (Err cause.BadArgument)) (Err c) → cause.BadArgument ≡ c

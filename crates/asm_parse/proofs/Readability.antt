@@ -1,5 +1,5 @@
 -- The items of a source name at most 65,536 symbols, none with a zero byte.
-use Rattle.std.proofs.Common.{◌≡◌, ℕ, zero, suc, ◌+◌, ◌≤◌, Bool, true, false, cond, List, [], ◌∷◌, ◌++◌, length, Option, Some, None, refl, sym, ap, subst, ◌∙◌, arith}
+use Rattle.std.proofs.Common.{◌≡◌, ℕ, zero, suc, ◌≤◌, Bool, true, false, cond, List, [], ◌∷◌, ◌++◌, length, Option, Some, None, refl, sym, ap, subst, ◌∙◌, arith}
 use Rattle.std.proofs.lemmas.List.{length-append, append-nil}
 use Rattle.std.proofs.lemmas.List.Sums.{fold-append}
 use Rattle.std.proofs.lemmas.List.Elements.{All-nil, All-cons, All-push}
@@ -9,11 +9,9 @@ use Rattle.std.specs.Prelude.{◌&&◌, ◌||◌, ◌==◌, ◌^◌, nat_lt, fol
 use Rattle.std.specs.List.{flat_map, list_all}
 use Rattle.asm_lex.specs.declared.lexing.TheConstants.{LIMIT}
 use Rattle.asm_lex.specs.declared.fault.SourceFault.{SourceFault}
-use Rattle.asm_lex.specs.declared.bytes.Class.{Class}
 use Rattle.asm_lex.specs.declared.bytes.Class.TheVariants as class
 use Rattle.asm_lex.specs.declared.token.TokenKind.{TokenKind}
-use Rattle.asm_lex.specs.declared.token.TokenKind.TheVariants as kind
-use Rattle.asm_lex.specs.Bytes.{class_of, is_source, is_digit, is_letter, is_word}
+use Rattle.asm_lex.specs.Bytes.{class_of, is_source, is_letter, is_word}
 use Rattle.asm_lex.specs.Words.{Word}
 use Rattle.asm_lex.specs.Source.{IsToken, Lexed}
 use Rattle.asm_argument.specs.declared.symbol.Terminal.{Terminal}
@@ -27,14 +25,13 @@ use Rattle.asm_source.specs.declared.tree.Body.TheVariants as body
 use Rattle.asm_source.specs.declared.tree.SourceItem.{SourceItem}
 use Rattle.asm_parse.specs.declared.directive.Head.{Head}
 use Rattle.asm_parse.specs.declared.directive.Head.TheVariants as head
-use Rattle.asm_parse.specs.declared.directive.Directive.{Directive}
 use Rattle.asm_parse.specs.declared.directive.Directive.TheVariants as directive
 use Rattle.asm_parse.specs.ScopeView.{ScopeView}
 use Rattle.asm_source.specs.Names.{holds, added, symbol_in}
-use Rattle.asm_parse.specs.Scope.{fresh, pushed, noted, has_room}
+use Rattle.asm_parse.specs.Scope.{fresh, pushed}
 use Rattle.asm_argument.specs.Grammar.{IsValue, IsForm}
 use Rattle.asm_argument.specs.Symbols.{number_value, mark_symbol, number_symbol, symbol_of}
-use Rattle.asm_parse.specs.Statement.{item_of, resumed, sectioned}
+use Rattle.asm_parse.specs.Statement.{item_of, resumed}
 use Rattle.asm_parse.specs.Directives.{defines}
 use Rattle.asm_parse.specs.Statements.{IsSeen, Sees, IsArgument, IsNext, Separated, HasArguments, Statement, symbols, text_of, IsStatement, Statements}
 use Rattle.asm_source.specs.Readable.{name_list, argument_names, body_names, names_in, IsReadable}
@@ -69,12 +66,12 @@ back_plain [] ts h = h
 back_plain (s ∷ ss) ts h = back_plain ss ts h.1
 
 word_some : (b : ℕ) → is_word b ≡ true → 1 ≤ b
-unfolding is_word is_letter is_digit
+unfolding is_word is_letter
 word_some zero h = absurd cc
 word_some (suc b) h = omega arith
 
 letter_some : (b : ℕ) → class_of b ≡ class.Letter → 1 ≤ b
-unfolding class_of is_source is_digit is_letter
+unfolding class_of is_source is_letter
 letter_some zero h = absurd cc
 letter_some (suc b) h = omega arith
 

@@ -1,5 +1,5 @@
 -- A text that is refused is refused for the first word with which no source goes on, or for what ends its words.
-use Rattle.std.proofs.Common.{◌≡◌, ℕ, Bool, true, false, cond, List, [], ◌∷◌, ◌++◌, length, Option, Some, None, Result, Ok, Err, refl, sym, ap, subst, ◌∙◌, ◌⊎◌, inl, inr, append_assoc}
+use Rattle.std.proofs.Common.{◌≡◌, ℕ, Bool, true, false, cond, List, [], ◌∷◌, ◌++◌, length, Option, Some, None, Ok, Err, refl, sym, ap, subst, ◌∙◌, ◌⊎◌, inl, inr, append_assoc}
 use Rattle.std.proofs.lemmas.List.{append-nil}
 use Rattle.std.specs.Prelude.{◌+◌, ◌&&◌, ◌||◌}
 use Rattle.asm_lex.specs.declared.fault.SourceCause.{SourceCause}
@@ -12,27 +12,21 @@ use Rattle.asm_parse.specs.declared.state.StatementState.{StatementState}
 use Rattle.asm_parse.specs.declared.state.StatementState.TheVariants as state
 use Rattle.asm_parse.specs.ScopeView.{ScopeView}
 use Rattle.asm_parse.specs.Scope.{fresh}
-use Rattle.asm_parse.specs.Statement.{sectioned, step, next_step, fault_line, doom, or_line, pending, or_cause, stopped, left_open, open_at_end, is_unknown, is_taken, lacks_names, if_doomed, is_place, strayed, with_scope, start_step, unless_skipping}
+use Rattle.asm_parse.specs.Statement.{sectioned, step, next_step, fault_line, doom, or_line, pending, or_cause, stopped, left_open, open_at_end, is_unknown, is_taken, lacks_names, if_doomed, is_place, strayed, with_scope, unless_skipping}
 use Rattle.asm_parse.specs.Reading.{Fault, placed, is_longer, longer, ending_at, next_word}
 use Rattle.asm_argument.specs.Symbols.{symbol_of}
 use Rattle.asm_parse.specs.Running.{◌>>=◌}
 use Rattle.asm_parse.specs.Statements.{is_inner, symbols, IsStatement, Statements}
-use Rattle.asm_parse.specs.Refusals.{Ending, IsBeginning, IsNoBeginning, StatementPlace, LeadsTo, Reaches, percent_cause, first_name_cause, refused_cause, byte_cause}
+use Rattle.asm_parse.specs.Refusals.{Ending, IsBeginning, StatementPlace, Reaches, percent_cause, first_name_cause, refused_cause, byte_cause}
 use Rattle.asm_parse.proofs.Words.{read_words}
 use Rattle.asm_parse.proofs.Scopes.{GoodIn, fresh_good}
-use Rattle.asm_parse.proofs.Quiet.{Any, any_next, WordGoes, word_goes}
+use Rattle.asm_parse.proofs.Quiet.{Any, any_next, WordGoes, word_goes, Answer}
 use Rattle.asm_parse.proofs.Stated.{words_append, is_naming, not_longer}
 use Rattle.asm_parse.proofs.Said.{Begun, begun_more, next_begun, start_begun}
 use Rattle.asm_parse.proofs.Collected.{Held, HeldBy, held_more, first_held}
 use Rattle.asm_parse.proofs.Closing.{AreNamed}
 use Rattle.asm_parse.proofs.Places.{Extra, InSection, Standing, standing, all_more, all_and, section_words}
-use Rattle.asm_parse.proofs.Walking.{fault_in, beginning, refused_never, doomed_never, Found, word_fails, stray_fault, name_fault, Doomed, doomed_word}
-
-abbrev Answer : Type 0
-Answer = Result (ScopeView × StatementState) SourceCause
-
-some_same : (a b : Fault) → ◌≡◌ {A = Option Fault} (Some a) (Some b) → a ≡ b
-some_same a b h = cc
+use Rattle.asm_parse.proofs.Walking.{fault_in, beginning, refused_never, doomed_never, Found, word_fails, stray_fault, name_fault, Doomed, doomed_word, placed_in, some_same}
 
 -- ---- what is known besides, one word later
 
@@ -246,9 +240,6 @@ module _ (all ws : List Word) (w : Word) (sc : ScopeView) (st : StatementState) 
           let b : HeldBy k.scope z.1 w [] z.0 = subst (λ (x : ScopeView). HeldBy x z.1 w [] z.0) (sym held.1) (first_held sc w z e) in
           onward all ws k.before k.scope w [] z.0 z.1 whole runs k.statements b extra good_next alive
       by_begun (p ∷ ps) held whole runs extra = onward all ws k.before k.scope p (ps ++ w ∷ []) z.0 z.1 whole runs k.statements (held_more k.scope sc st p ps w z held.0 held.1 h) extra good_next alive
-
-abbrev placed_in : ℕ → List Word → Ending → Answer → Option Fault
-placed_in line ws e r = elim (placed line r) [ Ok y ↦ fault_in y.0 y.1 ws e | Err f ↦ Some f ]
 
 abbrev Later : List Word → Ending → Fault → List Word → Type 0
 Later all e f ws = (sc2 : ScopeView) (st2 : StatementState) → Walk all ws sc2 st2 → fault_in sc2 st2 ws e ≡ Some f → Found all e f

@@ -1,6 +1,6 @@
 -- A symbol that is refused has the cause of its place.
-use Rattle.std.proofs.Common.{◌≡◌, ℕ, Bool, true, false, cond, List, [], ◌∷◌, ◌++◌, length, Option, Some, None, Result, Ok, Err, refl, sym, ap, subst, ◌∙◌, ◌⊎◌, inl, inr, append_assoc}
-use Rattle.std.specs.Prelude.{◌==◌, ◌&&◌, not, nat_lt}
+use Rattle.std.proofs.Common.{◌≡◌, ℕ, Bool, true, false, cond, List, [], ◌∷◌, length, Some, None, Result, Ok, Err, refl, sym, ap, ◌∙◌}
+use Rattle.std.specs.Prelude.{◌&&◌, not}
 use Rattle.asm_lex.specs.declared.fault.SourceCause.{SourceCause}
 use Rattle.asm_lex.specs.declared.fault.SourceCause.TheVariants as cause
 use Rattle.asm_argument.specs.declared.symbol.Terminal.{Terminal}
@@ -11,20 +11,15 @@ use Rattle.asm_argument.specs.declared.operand.ValuePlace.TheVariants as place
 use Rattle.asm_argument.specs.declared.operand.Partial.{Partial}
 use Rattle.asm_argument.specs.declared.operand.Partial.TheVariants as partial
 use Rattle.asm_source.specs.declared.tree.Argument.{Argument}
-use Rattle.asm_source.specs.declared.tree.Form.{Form}
 use Rattle.asm_source.specs.declared.tree.Form.TheVariants as form
-use Rattle.asm_parse.specs.declared.directive.Directive.{Directive}
-use Rattle.asm_parse.specs.declared.directive.Directive.TheVariants as kind
 use Rattle.asm_parse.specs.declared.directive.Head.{Head}
-use Rattle.asm_parse.specs.declared.directive.Head.TheVariants as head
-use Rattle.asm_parse.specs.declared.state.Open.{Open}
 use Rattle.asm_parse.specs.ScopeView.{ScopeView}
 use Rattle.asm_source.specs.Names.{holds}
 use Rattle.asm_parse.specs.Scope.{has_room, noted, defined_too}
-use Rattle.asm_argument.specs.Operand.{is_operand, takes_names, takes_sums, takes_minus, takes_numbers, takes_text, begun, fits, is_low, is_register, is_scale, lowered, counted, allowed, registered, first, next_symbol, operand_step, finished, is_finished, is_unbegun, name_in}
-use Rattle.asm_parse.specs.Directives.{shape_at, least, defines, is_instruction}
-use Rattle.asm_parse.specs.Statement.{noting, misplaced, begins_nothing, argument_cause, cause_in}
-use Rattle.asm_parse.specs.Refusals.{last_of, is_percent, is_minus, is_sign, is_for_symbol, ends_index, begins_none, argument_missing, name_cause, operand_cause, takes_name, value_cause, in_argument}
+use Rattle.asm_argument.specs.Operand.{is_operand, takes_names, takes_sums, takes_minus, takes_numbers, takes_text, fits, is_low, is_register, is_scale, counted, allowed, registered, first, next_symbol, operand_step, is_finished, is_unbegun, name_in}
+use Rattle.asm_parse.specs.Directives.{shape_at, defines}
+use Rattle.asm_parse.specs.Statement.{noting, misplaced, argument_cause}
+use Rattle.asm_parse.specs.Refusals.{name_cause, operand_cause, takes_name, value_cause}
 use Rattle.asm_argument.proofs.Operands.{ok, registered_ok, Spelled}
 use Rattle.asm_parse.proofs.Tails.{percents, indexed, minuses, signs, frees, Tail}
 
@@ -175,7 +170,7 @@ is_cut symbol.Comma = true
 is_cut symbol.End = true
 is_cut _ = false
 
-not_both : {t : Bool} → t ≡ true → t ≡ false → ⊥
+pub not_both : {t : Bool} → t ≡ true → t ≡ false → ⊥
 not_both e f = absurd cc
 
 of_err : (nothing : Bool) (other a c : SourceCause) → err a ≡ err c → argument_cause nothing other a ≡ argument_cause nothing other c
@@ -237,7 +232,7 @@ value_err sh (partial.Scaled v b i k) ss s other c n u sp cut h = absurd (not_bo
 -- where nothing of the argument has been read
 abbrev pub value_first : Bool → ScopeView → Bool → Terminal → SourceCause
 value_first takes sc def (symbol.Name n) = cond takes (name_cause sc def n) cause.BadArgument
-value_first takes sc def s = argument_missing s
+value_first takes sc def s = misplaced s
 
 pub value_none : (h : Head) (done : List Argument) (sc : ScopeView) (s : Terminal) → value_cause h done sc [] s ≡ value_first (takes_name (shape_at h (length done))) sc (defines h (length done)) s
 value_none h done sc (symbol.Name n) = refl

@@ -1,5 +1,5 @@
 -- Where symbols stand in arguments the reader is in the arguments, with what has been read of them so.
-use Rattle.std.proofs.Common.{◌≡◌, ℕ, ◌+◌, Bool, true, false, List, [], ◌∷◌, ◌++◌, length, Option, Some, None, Result, Ok, Err, refl, sym, ap, subst, ◌∙◌, ◌⊎◌, inl, inr, append_assoc}
+use Rattle.std.proofs.Common.{◌≡◌, ℕ, Bool, true, false, List, [], ◌∷◌, ◌++◌, length, Option, Some, None, Result, Ok, Err, refl, sym, ap, subst, ◌∙◌, ◌⊎◌, inl, inr, append_assoc}
 use Rattle.std.specs.List.{list_all}
 use Rattle.std.proofs.lemmas.List.{append-nil}
 use Rattle.asm_lex.specs.declared.fault.SourceCause.{SourceCause}
@@ -23,10 +23,11 @@ use Rattle.asm_parse.specs.Statements.{IsSeen, Sees, IsArgument, Separated, is_i
 use Rattle.asm_parse.specs.Refusals.{StatementPlace, Leads, Opens}
 use Rattle.asm_argument.proofs.Operands.{ok, operand_run, form_reads, Spelled, begun_spelled, more}
 use Rattle.asm_parse.proofs.Names.{noting_seen, named_in, name_step, finished_is, no_end_symbol}
-use Rattle.asm_parse.proofs.Stated.{Answer, inner, inners, inners_append, within_next, open_at, begun_unnamed, first_shape, argument_runs, comma_runs, separated_runs, operand_begun, operand_head}
+use Rattle.asm_parse.proofs.Stated.{inner, inners, inners_append, within_next, open_at, begun_unnamed, first_shape, argument_runs, comma_runs, separated_runs, operand_begun, operand_head}
 use Rattle.asm_parse.proofs.Said.{stars, Ending, InArguments, begun_solid, sees_none, advance}
 use Rattle.asm_parse.proofs.Places.{Suits, arguments_suit, all_more}
-use Rattle.asm_parse.proofs.Reread.{Pair}
+use Rattle.asm_parse.proofs.Reread.{Pair, same_pair}
+use Rattle.asm_parse.proofs.Quiet.{Answer}
 
 -- ---- the symbols of arguments
 
@@ -124,9 +125,6 @@ inners_prefix (s ∷ ss) ys sc st y h = by_step (inner sc st s) h (λ z k. inner
         → (x : Pair) × ◌≡◌ {A = Answer} (elim r [ Ok z ↦ inners z.0 z.1 ss | Err c ↦ Err c ]) (Ok x) × (inners x.0 x.1 ys ≡ Ok y)
     by_step (Ok z) k ih = ih z k
     by_step (Err c) k ih = absurd cc
-
-same_pair : (x y : Pair) → ◌≡◌ {A = Answer} (Ok x) (Ok y) → x ≡ y
-same_pair x y e = cc
 
 -- behind whole arguments: nothing has been read of the next one
 record Fresh (line : ℕ) (h : Head) (done : List Argument) (sc : ScopeView) (x : Pair) : Type 0 where

@@ -25,8 +25,8 @@ use Rattle.asm_parse.specs.Refusals.{StatementPlace}
 use Rattle.asm_parse.proofs.Words.{read_words}
 use Rattle.asm_parse.proofs.Lines.{bind_ok}
 use Rattle.asm_parse.proofs.Collected.{placed_ok}
-use Rattle.asm_parse.proofs.Quiet.{WordGoes, word_goes}
-use Rattle.asm_parse.proofs.Stated.{Answer, inner, inners, is_naming, not_longer}
+use Rattle.asm_parse.proofs.Quiet.{WordGoes, word_goes, Answer}
+use Rattle.asm_parse.proofs.Stated.{inner, inners, is_naming, not_longer}
 use Rattle.asm_parse.proofs.Places.{Suits, flags_suits, section_suits}
 
 abbrev pub Pair : Type 0
@@ -101,11 +101,11 @@ pub inner_parts : (s : Terminal) (ss : List Terminal) → list_all is_inner (s �
 inner_parts symbol.End ss h = absurd cc
 inner_parts s ss h = (refl, h)
 
-skip_inner : (s : Terminal) → is_inner s ≡ true → skip s ≡ state.Skip
+pub skip_inner : (s : Terminal) → is_inner s ≡ true → skip s ≡ state.Skip
 skip_inner symbol.End h = absurd cc
 skip_inner s h = refl
 
-same_pair : (x y : Pair) → ◌≡◌ {A = Answer} (Ok x) (Ok y) → x ≡ y
+pub same_pair : (x y : Pair) → ◌≡◌ {A = Answer} (Ok x) (Ok y) → x ≡ y
 same_pair x y e = cc
 
 same_read : (x y : Pair) → ◌≡◌ {A = Result Pair Fault} (Ok x) (Ok y) → x ≡ y
@@ -138,7 +138,7 @@ name_goes sc b n m e line symbol.End y inside h = absurd cc
 name_goes sc b n m e line symbol.Comma y inside h = sym (same_pair (sc, state.Flags b n m) y h)
 name_goes sc b n m e line s y inside h = absurd cc
 
-suits_at : (sc0 : ScopeView) (p : StatementPlace) (x y : Pair) → x ≡ y → Suits sc0 p x.0 x.1 → Suits sc0 p y.0 y.1
+pub suits_at : (sc0 : ScopeView) (p : StatementPlace) (x y : Pair) → x ≡ y → Suits sc0 p x.0 x.1 → Suits sc0 p y.0 y.1
 suits_at sc0 p x y e h = subst (λ (z : Pair). Suits sc0 p z.0 z.1) e h
 
 pub section_stays : (ws : List Word) (sc0 sc : ScopeView) (b : ℕ) (n m : List ℕ) (e : ℕ) (fin : Pair) → list_all is_inner (symbols ws) ≡ true → read_words sc (state.Sectioned b n m e) ws ≡ Ok fin → doom fin.0 fin.1 ≡ None → Suits sc0 StatementPlace.section fin.0 fin.1
@@ -211,7 +211,7 @@ stays_in sc o s i = within_in sc o s
 pub first_argument : (sc : ScopeView) (o : Open) (s : Terminal) (y : Pair) → is_inner s ≡ true → argument_step sc o s ≡ Ok y → (o2 : Open) × (y.1 ≡ state.Arguments o2)
 first_argument sc o s y i goes = subst InArgument goes (stays_in sc o s i)
 
-ending_arguments : (st : StatementState) (e : ℕ) (o : Open) → st ≡ state.Arguments o → ending_at e st ≡ st
+pub ending_arguments : (st : StatementState) (e : ℕ) (o : Open) → st ≡ state.Arguments o → ending_at e st ≡ st
 ending_arguments st e o h = ap (ending_at e) h ∙ sym h
 
 -- the words of arguments are read as their symbols

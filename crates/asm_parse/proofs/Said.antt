@@ -1,12 +1,11 @@
 -- What is read symbol by symbol is what the cases of the grammar say.
 use Rattle.std.proofs.Common.{◌≡◌, ℕ, Bool, true, false, cond, List, [], ◌∷◌, ◌++◌, length, Option, Some, None, Result, Ok, Err, refl, sym, ap, subst, ◌∙◌, ◌⊎◌, inl, inr, append_assoc, arith}
-use Rattle.std.specs.Prelude.{◌==◌, ◌&&◌, ◌+◌, not, nat_lt, is_none}
+use Rattle.std.specs.Prelude.{◌==◌, ◌&&◌, not, nat_lt}
 use Rattle.std.specs.List.{list_all}
 use Rattle.std.proofs.lemmas.List.{append-nil, nil_from_length}
 use Rattle.std.proofs.lemmas.Bool.{eqb-true}
 use Rattle.asm_lex.specs.declared.fault.SourceCause.{SourceCause}
 use Rattle.asm_lex.specs.declared.fault.SourceCause.TheVariants as cause
-use Rattle.asm_lex.specs.Words.{Word}
 use Rattle.asm_argument.specs.declared.symbol.Terminal.{Terminal}
 use Rattle.asm_argument.specs.declared.symbol.Terminal.TheVariants as symbol
 use Rattle.asm_argument.specs.declared.operand.Shape.{Shape}
@@ -26,18 +25,14 @@ use Rattle.asm_parse.specs.ScopeView.{ScopeView}
 use Rattle.asm_parse.specs.Scope.{pushed, fresh}
 use Rattle.asm_argument.specs.Operand.{is_operand, begun, operand_step, finished, is_finished, is_nothing, is_unbegun}
 use Rattle.asm_argument.specs.Grammar.{IsForm}
-use Rattle.asm_parse.specs.Reading.{placed, is_part, ending_at, next_word}
-use Rattle.asm_argument.specs.Symbols.{symbol_of}
-use Rattle.asm_parse.proofs.Words.{read_words}
-use Rattle.asm_parse.specs.Statement.{item_of, resumed, sectioned, noting, with_name, after_noting, after_step, at_shape, within, argument_step, is_bare, takes_star, ended, ended_as, comma_behind, end_behind, complete, nothing_yet, named_step, labelled, label, directive_step, of_directive, rep_step, section_name, unless_skipping, skip, section, sectioned_step, flags_step, start_step, step, argument_of, is_place, strayed, next_step, fault_line, with_scope, is_passed, is_rep}
+use Rattle.asm_parse.specs.Statement.{item_of, resumed, noting, with_name, after_noting, after_step, at_shape, within, argument_step, is_bare, takes_star, ended, ended_as, comma_behind, end_behind, complete, nothing_yet, named_step, labelled, label, directive_step, of_directive, rep_step, section_name, unless_skipping, skip, start_step, step, argument_of, is_place, strayed, next_step, fault_line, with_scope, is_passed, is_rep}
 use Rattle.asm_parse.specs.Directives.{shape_at, least, defines, is_instruction, directive_of, is_dotted, is_section}
 use Rattle.asm_parse.specs.Refusals.{Leads}
-use Rattle.asm_parse.specs.Statements.{IsSeen, Sees, IsArgument, IsNext, Separated, HasArguments, is_inner, is_unlabelled, are_flags, has_list, Statement, symbols, text_of, Touch, IsStatement, Statements}
+use Rattle.asm_parse.specs.Statements.{IsSeen, Sees, IsArgument, IsNext, Separated, HasArguments, is_inner, is_unlabelled, has_list, Statement}
 use Rattle.asm_argument.proofs.Operands.{Spelled, begun_spelled, more, spelled_form}
 use Rattle.asm_parse.proofs.Names.{noting_seen, named_in, name_step, finished_named, is_finished_some, operand_next}
-use Rattle.asm_parse.proofs.Stated.{Answer, open_at, begun_unnamed, instruction_operand, is_naming, not_longer}
-use Rattle.asm_parse.proofs.Quiet.{WordGoes, word_goes}
-use Rattle.asm_parse.proofs.Lines.{bind_ok}
+use Rattle.asm_parse.proofs.Stated.{open_at, begun_unnamed, instruction_operand, is_naming}
+use Rattle.asm_parse.proofs.Quiet.{Answer}
 
 -- ---- what has been read of a statement
 

@@ -1,7 +1,6 @@
 -- What is read is no more than the text.
-use Rattle.std.proofs.Common.{◌≡◌, ℕ, zero, suc, ◌+◌, ◌≤◌, Bool, true, false, List, [], ◌∷◌, ◌++◌, length, Option, Some, None, refl, sym, ap, subst, ◌∙◌, ◌⊎◌, inl, inr, arith}
+use Rattle.std.proofs.Common.{◌≡◌, ℕ, ◌+◌, ◌≤◌, Bool, true, false, List, [], ◌∷◌, ◌++◌, length, Option, Some, None, refl, sym, ap, subst, ◌∙◌, ◌⊎◌, inl, inr, arith}
 use Rattle.std.proofs.lemmas.List.{length-append}
-use Rattle.std.specs.Prelude.{ℤ, pos}
 use Rattle.asm_lex.specs.declared.lexing.TheConstants.{LIMIT}
 use Rattle.asm_lex.specs.Words.{Word}
 use Rattle.asm_argument.specs.declared.symbol.Terminal.{Terminal}
@@ -15,26 +14,25 @@ use Rattle.asm_source.specs.declared.tree.Form.TheVariants as form
 use Rattle.asm_source.specs.declared.tree.Argument.{Argument}
 use Rattle.asm_source.specs.declared.tree.Body.TheVariants as body
 use Rattle.asm_source.specs.declared.tree.SourceItem.{SourceItem}
-use Rattle.asm_parse.specs.declared.directive.Directive.{Directive}
 use Rattle.asm_parse.specs.declared.directive.Directive.TheVariants as kind
 use Rattle.asm_parse.specs.declared.directive.Head.{Head}
 use Rattle.asm_parse.specs.declared.directive.Head.TheVariants as head
 use Rattle.asm_parse.specs.ScopeView.{ScopeView}
-use Rattle.asm_parse.specs.Scope.{fresh, pushed}
+use Rattle.asm_parse.specs.Scope.{pushed}
 use Rattle.asm_argument.specs.Operand.{begun, takes_absent}
-use Rattle.asm_argument.specs.Grammar.{IsConstant, IsValue, IsAddress, IsForm}
+use Rattle.asm_argument.specs.Grammar.{IsValue, IsAddress, IsForm}
 use Rattle.asm_parse.specs.Statement.{item_of, resumed, sectioned}
 use Rattle.asm_parse.specs.Directives.{shape_at}
-use Rattle.asm_parse.specs.Statements.{IsSeen, Sees, IsArgument, IsNext, Separated, HasArguments, Statement, symbols, text_of, IsStatement, Statements}
+use Rattle.asm_parse.specs.Statements.{IsSeen, Sees, IsArgument, Separated, HasArguments, Statement, symbols, text_of, IsStatement, Statements}
 use Rattle.std.specs.Prelude.{IfOk, Result, Ok, Err}
 use Rattle.asm_lex.specs.declared.fault.SourceFault.{SourceFault}
 use Rattle.asm_argument.specs.Symbols.{symbol_of}
 use Rattle.asm_parse.specs.Running.{Says, Parses, read}
 use Rattle.asm_parse.proofs.Sources.{parsed_is}
-use Rattle.asm_source.specs.Size.{name_size, value_size, form_size, arguments_size, body_size, body_count, items_size, items_count}
+use Rattle.asm_source.specs.Size.{name_size, form_size, arguments_size, body_size, body_count, items_size, items_count}
 use Rattle.asm_argument.proofs.Operands.{absent_begun}
 use Rattle.asm_parse.proofs.Stated.{first_shape}
-use Rattle.asm_parse.proofs.Costs.{cost, costs, costs-append, weight, ArePaid, paid_costs, Paid, lexed_pays}
+use Rattle.asm_parse.proofs.Costs.{cost, costs, costs-append, weight, ArePaid, paid_costs, lexed_pays}
 
 -- ---- one argument
 

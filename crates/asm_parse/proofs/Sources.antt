@@ -16,9 +16,9 @@ use Rattle.asm_parse.specs.declared.state.StatementState.TheVariants as state
 use Rattle.asm_parse.specs.ScopeView.{ScopeView}
 use Rattle.asm_parse.specs.Scope.{fresh}
 use Rattle.asm_lex.specs.Lines.{first_lines}
-use Rattle.asm_parse.specs.Running.{Running, closed, run, start, read, Says, SourceAs, HasReading, Parses, ReadsAs, DeadAt, GoesOn, AliveBefore}
+use Rattle.asm_parse.specs.Running.{Running, closed, run, start, read, Says, SourceAs, Parses, ReadsAs, DeadAt, GoesOn, AliveBefore}
 use Rattle.asm_parse.proofs.Words.{read_words}
-use Rattle.asm_parse.proofs.Lines.{IsRead, bind_ok}
+use Rattle.asm_parse.proofs.Lines.{bind_ok}
 use Rattle.asm_parse.proofs.Dying.{dead_line, alive_line}
 use Rattle.asm_parse.specs.Statement.{doom}
 use Rattle.asm_parse.proofs.Closing.{goes_on}

@@ -29,7 +29,7 @@ use Rattle.asm_argument.specs.Operand.{is_operand, begun, next_symbol, operand_s
 use Rattle.asm_lex.specs.declared.token.TokenKind.{TokenKind}
 use Rattle.asm_lex.specs.declared.token.TokenKind.TheVariants as token
 use Rattle.asm_argument.specs.Symbols.{mark_symbol, number_symbol, number_value, symbol_of}
-use Rattle.asm_parse.specs.Reading.{Fault, placed, is_part, is_longer, longer, ending_at, next_word}
+use Rattle.asm_parse.specs.Reading.{Fault, placed, is_part, is_longer, ending_at, next_word}
 use Rattle.asm_parse.specs.Running.{◌>>=◌}
 use Rattle.asm_parse.proofs.Words.{read_words}
 use Rattle.asm_parse.specs.Statement.{item_of, resumed, sectioned, with_name, after_step, at_shape, within, argument_step, nothing_yet, named_step, colon_behind, label, labelled, unless_skipping, other_behind, of_directive, skip, sectioned_step, flags_step, start_step, step, strayed, next_step, fault_line, is_passed, with_scope}
@@ -38,9 +38,7 @@ use Rattle.asm_source.specs.Names.{symbol_in}
 use Rattle.asm_parse.specs.Statements.{IsSeen, Sees, IsArgument, Separated, HasArguments, is_inner, is_unlabelled, is_nameless, are_flags, has_list, Statement, symbols, text_of, Touch, IsStatement, Statements}
 use Rattle.asm_argument.proofs.Operands.{ok, operand_run, form_reads}
 use Rattle.asm_parse.proofs.Names.{seen_noting, named_in, name_step, name_stays, finished_named, finished_is, no_star, no_end_symbol, no_big, no_comma}
-
-abbrev pub Answer : Type 0
-Answer = Result (ScopeView × StatementState) SourceCause
+use Rattle.asm_parse.proofs.Quiet.{Answer}
 
 -- ---- within a statement
 
@@ -326,7 +324,7 @@ passes sc line n (symbol.Colon ∷ ss) eq u h = absurd cc
 passes sc line n (symbol.End ∷ ss) eq u h = absurd cc
 passes sc line n (s ∷ ss) eq u h = rw (eq s, inners) (skip_runs sc ss h)
 
-of_list : (k : Directive) (sc : ScopeView) (line : ℕ) (n : List ℕ) (s : Terminal) → has_list k ≡ true → of_directive (Some k) sc line n s ≡ argument_step sc (nothing_yet line (head.Directive k n)) s
+pub of_list : (k : Directive) (sc : ScopeView) (line : ℕ) (n : List ℕ) (s : Terminal) → has_list k ≡ true → of_directive (Some k) sc line n s ≡ argument_step sc (nothing_yet line (head.Directive k n)) s
 of_list kind.Section sc line n s h = absurd cc
 of_list kind.Skipped sc line n s h = absurd cc
 of_list k sc line n s h = refl

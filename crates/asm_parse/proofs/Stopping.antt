@@ -8,7 +8,6 @@ use Rattle.asm_argument.specs.declared.symbol.Terminal.{Terminal}
 use Rattle.asm_argument.specs.declared.symbol.Terminal.TheVariants as symbol
 use Rattle.asm_argument.specs.declared.operand.Shape.{Shape}
 use Rattle.asm_argument.specs.declared.operand.Shape.TheVariants as shape
-use Rattle.asm_argument.specs.declared.operand.ValuePlace.TheVariants as place
 use Rattle.asm_argument.specs.declared.operand.Partial.{Partial}
 use Rattle.asm_argument.specs.declared.operand.Partial.TheVariants as partial
 use Rattle.asm_source.specs.declared.tree.Argument.{Argument}
@@ -21,25 +20,19 @@ use Rattle.asm_parse.specs.declared.state.Open.{Open}
 use Rattle.asm_parse.specs.declared.state.StatementState.{StatementState}
 use Rattle.asm_parse.specs.declared.state.StatementState.TheVariants as state
 use Rattle.asm_parse.specs.ScopeView.{ScopeView}
-use Rattle.asm_parse.specs.Scope.{pushed}
-use Rattle.asm_argument.specs.Operand.{is_operand, takes_names, takes_absent, first, next_symbol, operand_step, finished, is_finished, is_unbegun, is_nothing, name_in}
+use Rattle.asm_argument.specs.Operand.{is_operand, takes_names, next_symbol, operand_step, is_finished, is_unbegun, is_nothing, name_in}
 use Rattle.asm_parse.specs.Directives.{shape_at, directive_shape, least, defines, is_instruction}
-use Rattle.asm_parse.specs.Statement.{noting, misplaced, argument_cause, cause_in, after_noting, with_name, after_step, at_shape, within, argument_of, next_argument, ended, ended_as, comma_behind, end_behind, complete, resumed, item_of, is_bare, takes_star, with_scope, argument_step}
+use Rattle.asm_parse.specs.Statement.{noting, misplaced, argument_cause, cause_in, after_noting, with_name, after_step, at_shape, within, argument_of, ended, ended_as, comma_behind, end_behind, complete, is_bare, takes_star, with_scope, argument_step}
 use Rattle.asm_parse.specs.Statements.{Sees}
-use Rattle.asm_parse.specs.Refusals.{is_percent, is_for_symbol, last_of, ends_index, argument_missing, name_cause, operand_cause, takes_name, value_cause, in_argument}
+use Rattle.asm_parse.specs.Refusals.{name_cause, takes_name, value_cause, in_argument}
 use Rattle.asm_argument.proofs.Operands.{ok, allowed_ok, Spelled}
 use Rattle.asm_parse.proofs.Names.{named_in, name_step, is_finished_some, operand_next}
 use Rattle.asm_parse.proofs.Said.{stars, InArguments}
 use Rattle.asm_parse.proofs.Tails.{percents, indexed, minuses, signs, frees, Tail, spelled_tail}
-use Rattle.asm_parse.proofs.Refusing.{operand_at, operand_ends, operand_err, operand_name, value_by, value_at, value_ends, is_cut, value_err, value_first, value_none, unbegun_err, missing_is, noting_cause}
+use Rattle.asm_parse.proofs.Refusing.{operand_at, operand_ends, operand_err, operand_name, value_by, value_at, value_ends, is_cut, value_err, value_first, value_none, unbegun_err, missing_is, noting_cause, not_both}
+use Rattle.asm_parse.proofs.Quiet.{Answer}
 
-abbrev Answer : Type 0
-Answer = Result (ScopeView × StatementState) SourceCause
-
-not_both : {t : Bool} → t ≡ true → t ≡ false → ⊥
-not_both e f = absurd cc
-
-same_fault : (a c : SourceCause) → ◌≡◌ {A = Answer} (Err a) (Err c) → a ≡ c
+pub same_fault : (a c : SourceCause) → ◌≡◌ {A = Answer} (Err a) (Err c) → a ≡ c
 same_fault a c h = cc
 
 -- ---- how a symbol is refused

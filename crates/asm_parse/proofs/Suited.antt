@@ -5,33 +5,26 @@ use Rattle.asm_lex.specs.Words.{Word}
 use Rattle.asm_argument.specs.declared.symbol.Terminal.{Terminal}
 use Rattle.asm_argument.specs.declared.symbol.Terminal.TheVariants as symbol
 use Rattle.asm_source.specs.declared.tree.Argument.{Argument}
-use Rattle.asm_parse.specs.declared.directive.Directive.{Directive}
 use Rattle.asm_parse.specs.declared.directive.Directive.TheVariants as kind
 use Rattle.asm_parse.specs.declared.directive.Head.{Head}
 use Rattle.asm_parse.specs.declared.directive.Head.TheVariants as head
-use Rattle.asm_parse.specs.declared.state.Open.{Open}
 use Rattle.asm_parse.specs.declared.state.StatementState.{StatementState}
 use Rattle.asm_parse.specs.declared.state.StatementState.TheVariants as state
 use Rattle.asm_parse.specs.ScopeView.{ScopeView}
 use Rattle.asm_parse.specs.Scope.{fresh}
 use Rattle.asm_argument.specs.Symbols.{symbol_of}
 use Rattle.asm_parse.specs.Directives.{shape_at, is_dotted, directive_of, is_section}
-use Rattle.asm_parse.specs.Statement.{argument_step, nothing_yet, is_passed, of_directive, other_behind, step, doom}
+use Rattle.asm_parse.specs.Statement.{argument_step, nothing_yet, is_passed, other_behind, step, doom}
 use Rattle.asm_parse.specs.Reading.{ending_at}
-use Rattle.asm_parse.specs.Statements.{has_list, is_inner, Separated, Statement, symbols}
+use Rattle.asm_parse.specs.Statements.{is_inner, Separated, Statement, symbols}
 use Rattle.asm_parse.specs.Refusals.{StatementPlace, Leads, Opens, LeadsTo, Reaches}
 use Rattle.asm_parse.proofs.Words.{read_words}
-use Rattle.asm_parse.proofs.Stated.{Answer, inners, words_append, named_section, statements_run}
+use Rattle.asm_parse.proofs.Stated.{inners, words_append, named_section, statements_run, of_list}
 use Rattle.asm_parse.proofs.Places.{Suits, start_suits, named_suits, skip_suits}
-use Rattle.asm_parse.proofs.Reread.{Pair, on_word, inner_parts, section_stays, first_argument, arguments_read}
+use Rattle.asm_parse.proofs.Reread.{Pair, on_word, inner_parts, section_stays, first_argument, arguments_read, suits_at, same_pair, ending_arguments}
 use Rattle.asm_parse.proofs.Unchanged.{skipped_state}
 use Rattle.asm_parse.proofs.Reopened.{body_inner, IsColon, body_colon, arguments_reached}
-
-same_pair : (x y : Pair) → ◌≡◌ {A = Answer} (Ok x) (Ok y) → x ≡ y
-same_pair x y e = cc
-
-suits_at : (sc0 : ScopeView) (p : StatementPlace) (x y : Pair) → x ≡ y → Suits sc0 p x.0 x.1 → Suits sc0 p y.0 y.1
-suits_at sc0 p x y e h = subst (λ (z : Pair). Suits sc0 p z.0 z.1) e h
+use Rattle.asm_parse.proofs.Quiet.{Answer}
 
 -- the first name of a statement
 first_word : (w : Word) (ws : List Word) (sc : ScopeView) (n : List ℕ) (fin : Pair) → symbol_of w.kind w.bytes ≡ symbol.Name n → read_words sc state.Start (w ∷ ws) ≡ Ok fin → doom fin.0 fin.1 ≡ None → read_words sc (state.Named w.line n) ws ≡ Ok fin
@@ -74,9 +67,6 @@ not_colon : (sc : ScopeView) (b line : ℕ) (n : List ℕ) (s : Terminal) (ss : 
 not_colon sc b line n symbol.Colon ss never = absurd (never tt)
 not_colon sc b line n s ss never = refl
 
-ending_argument : (st : StatementState) (e : ℕ) (o : Open) → st ≡ state.Arguments o → ending_at e st ≡ st
-ending_argument st e o h = ap (ending_at e) h ∙ sym h
-
 -- behind a name that leads to arguments
 behind_name : (w : Word) (ws : List Word) (sc : ScopeView) (n : List ℕ) (h : Head) (body : List Terminal) (fin : Pair) → symbol_of w.kind w.bytes ≡ symbol.Name n → symbols ws ≡ body → (body ≡ [] → ⊥) → list_all is_inner body ≡ true → (IsColon body → ⊥)
     → ((s : Terminal) → other_behind sc w.line n s ≡ argument_step sc (nothing_yet w.line h) s) → read_words sc state.Start (w ∷ ws) ≡ Ok fin → doom fin.0 fin.1 ≡ None → inners sc (state.Arguments (nothing_yet w.line h)) body ≡ Ok fin
@@ -88,15 +78,10 @@ behind_name w (v ∷ ws) sc n h body fin name rest some inside never goes k aliv
     let p = inner_parts (symbol_of v.kind v.bytes) (symbols ws) inside2 in
     let argument_goes : argument_step sc (nothing_yet w.line h) (symbol_of v.kind v.bytes) ≡ Ok two.next = sym (not_colon sc w.line v.line n (symbol_of v.kind v.bytes) (symbols ws) never2 ∙ goes (symbol_of v.kind v.bytes)) ∙ two.goes in
     let opens_on = first_argument sc (nothing_yet w.line h) (symbol_of v.kind v.bytes) two.next p.0 argument_goes in
-    let rest2 : read_words two.next.0 two.next.1 ws ≡ Ok fin = ap (λ (x : StatementState). read_words two.next.0 x ws) (sym (ending_argument two.next.1 (v.at + length v.bytes) opens_on.0 opens_on.1)) ∙ two.rest in
+    let rest2 : read_words two.next.0 two.next.1 ws ≡ Ok fin = ap (λ (x : StatementState). read_words two.next.0 x ws) (sym (ending_arguments two.next.1 (v.at + length v.bytes) opens_on.0 opens_on.1)) ∙ two.rest in
     let all : inners sc (state.Arguments (nothing_yet w.line h)) (symbol_of v.kind v.bytes ∷ symbols ws) ≡ Ok fin =
     ap (λ (r : Answer). elim r [ Ok y ↦ inners y.0 y.1 (symbols ws) | Err c ↦ Err c ]) argument_goes ∙ arguments_read ws two.next.0 two.next.1 opens_on.0 fin opens_on.1 p.1 rest2 alive in
     ap (inners sc (state.Arguments (nothing_yet w.line h))) (sym rest) ∙ all
-
-of_list : (k : Directive) (sc : ScopeView) (line : ℕ) (n : List ℕ) (s : Terminal) → has_list k ≡ true → of_directive (Some k) sc line n s ≡ argument_step sc (nothing_yet line (head.Directive k n)) s
-of_list kind.Section sc line n s h = absurd cc
-of_list kind.Skipped sc line n s h = absurd cc
-of_list k sc line n s h = refl
 
 head_tail : (s t : Terminal) (xs ys : List Terminal) → s ∷ xs ≡ t ∷ ys → (s ≡ t) × (xs ≡ ys)
 head_tail s t xs ys e = (cc, cc)

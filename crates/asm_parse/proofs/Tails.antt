@@ -1,20 +1,17 @@
 -- How the symbols of an argument end, by what has been read of it.
-use Rattle.std.proofs.Common.{◌≡◌, ℕ, Bool, true, false, cond, List, [], ◌∷◌, ◌++◌, Option, Some, None, refl, sym, ap, subst, ◌∙◌, append_assoc}
-use Rattle.std.specs.Prelude.{ℤ}
+use Rattle.std.proofs.Common.{◌≡◌, ℕ, Bool, true, false, List, [], ◌∷◌, ◌++◌, Option, Some, None, refl, sym, ap, subst, ◌∙◌}
 use Rattle.asm_argument.specs.declared.symbol.Terminal.{Terminal}
 use Rattle.asm_argument.specs.declared.symbol.Terminal.TheVariants as symbol
 use Rattle.asm_argument.specs.declared.operand.Shape.{Shape}
-use Rattle.asm_argument.specs.declared.operand.Shape.TheVariants as shape
 use Rattle.asm_argument.specs.declared.operand.ValuePlace.{ValuePlace}
 use Rattle.asm_argument.specs.declared.operand.ValuePlace.TheVariants as place
 use Rattle.asm_argument.specs.declared.operand.Partial.{Partial}
 use Rattle.asm_argument.specs.declared.operand.Partial.TheVariants as partial
 use Rattle.asm_source.specs.declared.tree.Value.{Value}
 use Rattle.asm_source.specs.declared.tree.Form.{Form}
-use Rattle.asm_argument.specs.Operand.{is_operand, takes_absent}
 use Rattle.asm_argument.specs.Grammar.{IsConstant, IsValue, IsAddress, IsForm}
-use Rattle.asm_parse.specs.Refusals.{last_of, is_percent, is_minus, is_sign, is_for_symbol, is_index, ends_index}
-use Rattle.asm_argument.proofs.Operands.{OptValue, base_part, IsBase, Inside, lead, InPlace, sign, WithAddress, Spelled}
+use Rattle.asm_parse.specs.Refusals.{last_of, is_percent, is_minus, is_sign, is_for_symbol, ends_index}
+use Rattle.asm_argument.proofs.Operands.{OptValue, base_part, lead, sign, WithAddress, Spelled}
 use Rattle.asm_parse.proofs.Said.{stars}
 
 -- ---- what has been read

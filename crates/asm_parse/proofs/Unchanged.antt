@@ -23,8 +23,7 @@ use Rattle.asm_parse.specs.Statements.{IsSeen, Sees, Separated, HasArguments, is
 use Rattle.asm_source.specs.Names.{symbol_in}
 use Rattle.asm_parse.specs.Directives.{defines}
 use Rattle.asm_parse.proofs.Words.{read_words}
-use Rattle.asm_parse.proofs.Stated.{Answer}
-use Rattle.asm_parse.proofs.Reread.{Pair, on_word, inner_parts, skip_stays}
+use Rattle.asm_parse.proofs.Reread.{Pair, on_word, inner_parts, skip_stays, same_pair, skip_inner}
 
 -- ---- what a statement says is one item more
 
@@ -154,13 +153,6 @@ front_passed s ss other (Passed.nameless {s = t} rest sk k h) e =
     record { skips = sk; is = ap is_nameless (sym same.0) ∙ k; inside = ap (list_all is_inner) (sym all) ∙ h }
 
 -- ---- what is read of them
-
-same_pair : (x y : Pair) → ◌≡◌ {A = Answer} (Ok x) (Ok y) → x ≡ y
-same_pair x y e = cc
-
-skip_inner : (s : Terminal) → is_inner s ≡ true → skip s ≡ state.Skip
-skip_inner symbol.End h = absurd cc
-skip_inner s h = refl
 
 not_colon : (sc : ScopeView) (line : ℕ) (n : List ℕ) (s : Terminal) (ss : List Terminal) → is_unlabelled (s ∷ ss) ≡ true → step sc (state.Named line n) line s ≡ other_behind sc line n s
 not_colon sc line n symbol.Colon ss u = absurd cc

@@ -1,7 +1,6 @@
 -- The first word that is refused, and where all words go on, what ends them.
-use Rattle.std.proofs.Common.{◌≡◌, ℕ, Bool, true, false, cond, List, [], ◌∷◌, ◌++◌, length, Option, Some, None, Result, Ok, Err, refl, sym, ap, subst, ◌∙◌, ◌⊎◌, inl, inr, append_assoc}
-use Rattle.std.proofs.lemmas.List.{append-nil}
-use Rattle.std.specs.Prelude.{◌==◌, ◌&&◌, ◌||◌, ◌+◌, not, is_none}
+use Rattle.std.proofs.Common.{◌≡◌, ℕ, Bool, true, false, cond, List, [], ◌∷◌, ◌++◌, length, Option, Some, None, Result, Ok, Err, refl, sym, ap, ◌∙◌, inl, inr, append_assoc}
+use Rattle.std.specs.Prelude.{◌&&◌, ◌||◌, ◌+◌, not, is_none}
 use Rattle.asm_lex.specs.declared.fault.SourceCause.{SourceCause}
 use Rattle.asm_lex.specs.declared.fault.SourceCause.TheVariants as cause
 use Rattle.asm_lex.specs.Words.{Word}
@@ -13,28 +12,23 @@ use Rattle.asm_parse.specs.declared.state.StatementState.TheVariants as state
 use Rattle.asm_parse.specs.ScopeView.{ScopeView}
 use Rattle.asm_parse.specs.Scope.{fresh}
 use Rattle.asm_parse.specs.Directives.{directive_of, is_dotted, is_defining}
-use Rattle.asm_parse.specs.Statement.{step, next_step, fault_line, doom, or_line, pending, or_cause, stopped, left_open, open_at_end, is_unknown, is_taken, lacks_names, if_doomed, is_place, stray_cause, with_scope, start_step}
+use Rattle.asm_parse.specs.Statement.{step, next_step, fault_line, doom, or_line, pending, or_cause, stopped, left_open, open_at_end, is_unknown, is_taken, lacks_names, if_doomed, is_place, stray_cause}
 use Rattle.asm_parse.specs.Reading.{Fault, placed, is_longer, ending_at, with_end, longer, next_word}
 use Rattle.asm_argument.specs.Symbols.{symbol_of}
 use Rattle.asm_parse.specs.Running.{◌>>=◌}
-use Rattle.asm_parse.specs.Statements.{symbols, IsStatement, Statements}
-use Rattle.asm_parse.specs.Refusals.{Ending, IsBeginning, IsNoBeginning, StatementPlace, LeadsTo, Reaches, percent_cause, behind_cause, first_name_cause, refused_cause, byte_cause}
+use Rattle.asm_parse.specs.Statements.{symbols}
+use Rattle.asm_parse.specs.Refusals.{Ending, IsBeginning, IsNoBeginning, StatementPlace, Reaches, percent_cause, behind_cause, first_name_cause, refused_cause, byte_cause}
 use Rattle.asm_parse.proofs.Words.{read_words}
 use Rattle.asm_parse.proofs.Scopes.{GoodIn, fresh_good}
-use Rattle.asm_parse.proofs.Quiet.{Any, any_next, WordGoes, word_goes, StateIs}
-use Rattle.asm_parse.proofs.Lines.{bind_ok}
+use Rattle.asm_parse.proofs.Quiet.{Any, any_next, WordGoes, word_goes, Answer}
 use Rattle.asm_parse.proofs.Dying.{words_doomed}
 use Rattle.asm_parse.proofs.Stated.{words_append, statements_run}
-use Rattle.asm_parse.proofs.Said.{Begun, begun_more, next_begun, start_begun}
-use Rattle.asm_parse.proofs.Collected.{InName, Held, HeldBy, held_more, first_held, placed_ok, are_statements}
+use Rattle.asm_parse.proofs.Collected.{are_statements}
 use Rattle.asm_parse.proofs.Written.{IsName, words_at}
 use Rattle.asm_parse.proofs.Completing.{completed}
 use Rattle.asm_parse.proofs.Closing.{AreNamed, words_fine}
 use Rattle.asm_parse.proofs.Later.{is_later, Leads-on, leads_on}
-use Rattle.asm_parse.proofs.Places.{Extra, Standing, standing, named_fails, behind_is, InSection, section_words}
-
-abbrev Answer : Type 0
-Answer = Result (ScopeView × StatementState) SourceCause
+use Rattle.asm_parse.proofs.Places.{named_fails, behind_is}
 
 -- ---- the fault of words and what ends them
 
@@ -44,7 +38,7 @@ fault_in sc st [] (Ending.broken l c) = Some (stopped sc st l c)
 fault_in sc st [] (Ending.comment l) = Some (left_open sc st l)
 fault_in sc st (w ∷ ws) e = elim (placed (fault_line sc st w.line) (next_word sc st w)) [ Ok y ↦ fault_in y.0 y.1 ws e | Err f ↦ Some f ]
 
-some_same : (a b : Fault) → ◌≡◌ {A = Option Fault} (Some a) (Some b) → a ≡ b
+pub some_same : (a b : Fault) → ◌≡◌ {A = Option Fault} (Some a) (Some b) → a ≡ b
 some_same a b h = cc
 
 -- ---- where some source begins so, and where none does
@@ -183,7 +177,7 @@ doomed_word sc st w z l h d = elim (word_goes sc st w z h) [
     by_lead y k (Leads-on.name n s e x) = Doomed.name n s e (k ∙ ap (λ (q : ScopeView × StatementState). (q.0, ending_at (w.at + length w.bytes) q.1)) x)
     by_lead y k (Leads-on.astray c s e p x) = Doomed.astray c s e p (k ∙ ap (λ (q : ScopeView × StatementState). (q.0, ending_at (w.at + length w.bytes) q.1)) x)
 
-abbrev placed_in : ℕ → List Word → Ending → Answer → Option Fault
+abbrev pub placed_in : ℕ → List Word → Ending → Answer → Option Fault
 placed_in line ws e r = elim (placed line r) [ Ok y ↦ fault_in y.0 y.1 ws e | Err f ↦ Some f ]
 
 named_start : (b : ℕ) (n : List ℕ) → state.Named b n ≡ state.Start → ⊥

@@ -1,12 +1,10 @@
 -- Tokens with a blank behind each, and the words that they are.
-use Rattle.std.proofs.Common.{◌≡◌, ℕ, ◌+◌, Bool, true, false, List, [], ◌∷◌, ◌++◌, length, refl, sym, ap, ◌∙◌}
-use Rattle.std.specs.Prelude.{not, ◌==◌}
+use Rattle.std.proofs.Common.{◌≡◌, ℕ, ◌+◌, true, List, [], ◌∷◌, ◌++◌, length, refl, ap}
 use Rattle.std.specs.List.{list_all}
-use Rattle.asm_lex.specs.declared.bytes.Class.{Class}
 use Rattle.asm_lex.specs.declared.bytes.Class.TheVariants as class
 use Rattle.asm_lex.specs.declared.token.TokenKind.{TokenKind}
 use Rattle.asm_lex.specs.declared.token.TokenKind.TheVariants as kind
-use Rattle.asm_lex.specs.Bytes.{class_of, is_source, is_digit, is_letter, is_word}
+use Rattle.asm_lex.specs.Bytes.{class_of, is_letter, is_word}
 use Rattle.asm_lex.specs.Words.{Word}
 use Rattle.asm_lex.specs.Source.{IsGap, IsToken, lines_after, Lexed}
 use Rattle.asm_argument.specs.declared.symbol.Terminal.{Terminal}
@@ -61,16 +59,16 @@ IsName [] = ⊥
 IsName (b ∷ bs) = (class_of b ≡ class.Letter) × (list_all is_word bs ≡ true)
 
 pub name_piece : (n : List ℕ) → IsName n → (rest : List ℕ) → IsToken kind.Name n (32 ∷ rest)
-unfolding is_word is_letter is_digit
+unfolding is_word is_letter
 name_piece [] h rest = absurd h
 name_piece (b ∷ bs) h rest = IsToken.name h.0 h.1 refl
 
 pub one_piece : (rest : List ℕ) → IsToken kind.Number (49 ∷ []) (32 ∷ rest)
-unfolding class_of is_word is_letter is_digit
+unfolding class_of is_word is_letter
 one_piece rest = IsToken.number refl refl refl refl
 
 pub zero_piece : (rest : List ℕ) → IsToken kind.Number (48 ∷ []) (32 ∷ rest)
-unfolding class_of is_word is_letter is_digit
+unfolding class_of is_word is_letter
 zero_piece rest = IsToken.number refl refl refl refl
 
 pub text_piece : (rest : List ℕ) → IsToken kind.Text (34 ∷ 34 ∷ []) (32 ∷ rest)
@@ -82,19 +80,19 @@ unfolding class_of
 end_piece rest = IsToken.end refl
 
 pub percent_piece : (rest : List ℕ) → IsToken (kind.Mark 37) (37 ∷ []) (32 ∷ rest)
-unfolding class_of is_digit is_letter
+unfolding class_of is_letter
 percent_piece rest = IsToken.mark refl
 
 pub close_piece : (rest : List ℕ) → IsToken (kind.Mark 41) (41 ∷ []) (32 ∷ rest)
-unfolding class_of is_digit is_letter
+unfolding class_of is_letter
 close_piece rest = IsToken.mark refl
 
 pub comma_piece : (rest : List ℕ) → IsToken (kind.Mark 44) (44 ∷ []) (32 ∷ rest)
-unfolding class_of is_digit is_letter
+unfolding class_of is_letter
 comma_piece rest = IsToken.mark refl
 
 pub colon_piece : (rest : List ℕ) → IsToken (kind.Mark 58) (58 ∷ []) (32 ∷ rest)
-unfolding class_of is_digit is_letter
+unfolding class_of is_letter
 colon_piece rest = IsToken.mark refl
 
 -- a name as short as can be, and that of a register
@@ -102,21 +100,21 @@ abbrev pub letter : List ℕ
 letter = 97 ∷ []
 
 pub letter_name : IsName letter
-unfolding class_of is_digit is_letter
+unfolding class_of is_letter
 letter_name = (refl, refl)
 
 abbrev pub low : List ℕ
 low = 97 ∷ 108 ∷ []
 
 pub low_name : IsName low
-unfolding class_of is_digit is_letter is_word
+unfolding class_of is_letter is_word
 low_name = (refl, refl)
 
 abbrev pub text_section : List ℕ
 text_section = 46 ∷ 116 ∷ 101 ∷ 120 ∷ 116 ∷ []
 
 pub section_name_is : IsName text_section
-unfolding class_of is_digit is_letter is_word
+unfolding class_of is_letter is_word
 section_name_is = (refl, refl)
 
 abbrev pub the_name : List ℕ → Piece

@@ -25,7 +25,7 @@ use Rattle.asm_source.specs.Names.{holds}
 use Rattle.asm_parse.specs.Scope.{fresh}
 use Rattle.asm_argument.specs.Operand.{takes_names, is_low, is_register}
 use Rattle.asm_parse.specs.Directives.{shape_at, defines, is_instruction, is_dotted, directive_of, is_section}
-use Rattle.asm_parse.specs.Statement.{is_passed, is_rep}
+use Rattle.asm_parse.specs.Statement.{is_passed, is_rep, misplaced}
 use Rattle.asm_parse.specs.Statements.{IsArgument, Separated, has_list, is_inner, Statement, symbols, Statements}
 use Rattle.asm_argument.specs.Symbols.{symbol_of}
 
@@ -138,23 +138,10 @@ abbrev pub ends_index : List Terminal → Bool
 ends_index [] = false
 ends_index (s ∷ ss) = is_index (s ∷ ss) || ends_index ss
 
--- a token with which no argument begins
-abbrev pub begins_none : Terminal → Bool
-begins_none symbol.Plus = true
-begins_none symbol.Close = true
-begins_none symbol.Colon = true
-begins_none symbol.At = true
-begins_none _ = false
-
 -- a token that may not stand there, where no other cause is
 abbrev pub other_cause : Terminal → SourceCause
 other_cause symbol.Big = cause.BadNumber
 other_cause s = cause.BadOperand
-
--- a token in the place of a directive's argument
-abbrev pub argument_missing : Terminal → SourceCause
-argument_missing symbol.Big = cause.BadNumber
-argument_missing s = if begins_none s then cause.BadOperand else cause.BadArgument
 
 -- a name that may not be said: it is defined already, or one too many
 abbrev pub name_cause : ScopeView → Bool → List ℕ → SourceCause
@@ -181,7 +168,7 @@ takes_name (Some sh) = takes_names sh
 -- in an argument of a directive
 abbrev pub value_cause : Head → List Argument → ScopeView → List Terminal → Terminal → SourceCause
 value_cause h done sc [] (symbol.Name n) = if takes_name (shape_at h (length done)) then name_cause sc (defines h (length done)) n else cause.BadArgument
-value_cause h done sc [] s = argument_missing s
+value_cause h done sc [] s = misplaced s
 value_cause h done sc (t ∷ ts) symbol.Big = cause.BadNumber
 value_cause h done sc (t ∷ ts) (symbol.Number n) = if is_minus (last_of (t ∷ ts)) then (if is_low n then cause.BadArgument else cause.BadNumber) else cause.BadOperand
 value_cause h done sc (t ∷ ts) symbol.Comma = if is_sign (last_of (t ∷ ts)) then cause.BadOperand else cause.BadArgument
@@ -194,7 +181,7 @@ in_argument h done sc arg s = if is_instruction h then operand_cause arg s else 
 -- behind the name of a directive
 abbrev pub directive_cause : Option Directive → ScopeView → List ℕ → Terminal → SourceCause
 directive_cause None sc n s = cause.UnknownDirective
-directive_cause (Some kind.Section) sc n s = argument_missing s
+directive_cause (Some kind.Section) sc n s = misplaced s
 directive_cause (Some k) sc n s = value_cause (head.Directive k n) [] sc [] s
 
 -- behind the first name of a statement

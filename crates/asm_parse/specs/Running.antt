@@ -1,5 +1,5 @@
 -- The state of reading, and what one byte does to it.
-use Rattle.std.specs.Prelude.{◌≡◌, ℕ, zero, suc, ◌+◌, ◌≤◌, ◌<◌, List, [], ◌∷◌, ◌++◌, length, Option, None, Result, Ok, Err, ◌==◌, if◌then◌else◌}
+use Rattle.std.specs.Prelude.{◌≡◌, ℕ, ◌+◌, ◌≤◌, ◌<◌, List, [], ◌∷◌, ◌++◌, length, Option, Result, Ok, Err}
 use Rattle.asm_lex.specs.declared.lexing.TheConstants.{LIMIT}
 use Rattle.asm_lex.specs.declared.fault.SourceCause.TheVariants as cause
 use Rattle.asm_lex.specs.declared.fault.SourceFault.{SourceFault}
@@ -99,11 +99,6 @@ HasReading text = (items : List SourceItem) × Says text items
 -- no text that begins with the lines up to this one has a reading
 abbrev pub IsDeadLine : List ℕ → ℕ → Type 0
 IsDeadLine text line = (more : List ℕ) → HasReading (first_lines line text ++ more) → ⊥
-
-abbrev pub OkOrMemory : {X : Type 0} → Result X SourceFault → (X → Type 0) → Type 0
-OkOrMemory (Ok x) p = p x
-OkOrMemory (Err fault.Memory) p = Unit {0}
-OkOrMemory (Err (fault.At l c)) p = ⊥
 
 abbrev pub Parses : Result (List SourceItem) SourceFault → Result Running Fault → Type 0
 Parses (Ok x) r = (s : Running) × (r ≡ Ok s) × (s.scope.items ≡ x)

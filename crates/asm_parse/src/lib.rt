@@ -19,7 +19,7 @@ pub use asm_source::{
     directive_name,
 };
 pub use directive::{Directive, Head};
-pub use laws::sources_are_readable;
+pub use laws::{one_cause_fits, refused_has_no_reading, sources_are_readable};
 pub use parsing::parse;
 pub use scope::Scope;
 pub use state::{Open, StatementState};

@@ -4,7 +4,6 @@ ghost use Rattle.std.specs.Prelude.{◌≡◌, ◌≤◌, ◌<◌, ◌+◌, ◌^
 ghost use Rattle.std.specs.List.{list_all};
 ghost use Rattle.asm_lex.specs.Machine.{start_of};
 ghost use Rattle.asm_lex.specs.declared.machine.Next.TheVariants.{Goes};
-ghost use Rattle.asm_lex.specs.Words as words;
 ghost use Rattle.asm_parse.specs.Statement.{fault_line, next_step};
 ghost use Rattle.asm_parse.specs.Reading as spec;
 ghost use Rattle.asm_parse.specs.Running as run;
@@ -14,7 +13,7 @@ use crate::scope::Scope;
 use crate::state::{StatementState, discard};
 use crate::stop::StepFault;
 use asm_argument::{Terminal, symbol_of};
-use asm_lex::{Mode, Next, SourceFault, Stepped, Token, TokenKind};
+use asm_lex::{Mode, Next, SourceFault, Stepped, Token, TokenKind, line_after};
 use asm_source::Name;
 use std::alloc::{AllocError, Global};
 
@@ -239,15 +238,6 @@ fn one_byte(
 {
     let stepped = asm_lex::step(mode, at, line, b);
     tokens(alloc, scope, state, seen, line, stepped)
-}
-
-/// The line behind a byte.
-#[tactic(auto, unfolding(asm_lex::specs::Words::line_after))]
-fn line_after(line: u32, b: u8) -> u32
-    requires { line < 4294967295 }
-    ensures { result ≡ words.line_after line b }
-{
-    if b == b'\n' { line + 1 } else { line }
 }
 
 /// Reads a source that ends with a newline.

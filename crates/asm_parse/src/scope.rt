@@ -1,6 +1,6 @@
 //! What the statements before say.
 
-ghost use Rattle.std.specs.Prelude.{◌≡◌, OnOk};
+ghost use Rattle.std.specs.Prelude.{◌≡◌, OnOk, OnErr};
 ghost use Rattle.asm_source.specs.Names.{holds};
 ghost use Rattle.asm_parse.specs.Scope as spec;
 
@@ -69,22 +69,28 @@ impl Scope {
         self.skipping = skipping;
     }
 
+    /// Says an item more.
     pub fn push(&mut self, item: SourceItem) -> Result<(), AllocError>
-        ensures { OnOk result (self.new ≡ spec.pushed self.old item) }
+        ensures pushed { OnOk result (self.new ≡ spec.pushed self.old item) }
+        ensures unchanged { OnErr result (self.new ≡ self.old) }
     {
         self.items.push(item)?;
         Ok(())
     }
 
+    /// A name is seen.
     pub fn note(&mut self, alloc: Global, name: &Name) -> Result<(), AllocError>
-        ensures { OnOk result (self.new ≡ spec.noted self.old name.now) }
+        ensures noted { OnOk result (self.new ≡ spec.noted self.old name.now) }
+        ensures unchanged { OnErr result (self.new ≡ self.old) }
     {
         self.names.add(alloc, &name.bytes)?;
         Ok(())
     }
 
+    /// A name is defined.
     pub fn define(&mut self, alloc: Global, name: &Name) -> Result<(), AllocError>
-        ensures { OnOk result (self.new ≡ spec.defined_too self.old name.now) }
+        ensures defined { OnOk result (self.new ≡ spec.defined_too self.old name.now) }
+        ensures unchanged { OnErr result (self.new ≡ self.old) }
     {
         self.defined.add(alloc, &name.bytes)?;
         Ok(())

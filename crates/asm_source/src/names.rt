@@ -1,6 +1,6 @@
 //! The names of a source and their numbers.
 
-ghost use Rattle.std.specs.Prelude.{◌≡◌, ◌<◌, ◌≤◌, [], length, slice_get, Some, OnOk};
+ghost use Rattle.std.specs.Prelude.{◌≡◌, ◌<◌, ◌≤◌, [], length, slice_get, Some, OnOk, OnErr};
 ghost use Rattle.asm_source.specs.Names.{holds, added, name_number};
 
 use indexmap::IndexSet;
@@ -69,9 +69,11 @@ impl Names {
         }
     }
 
-    /// Adds the name at the end, if it is not there.
+    /// Adds the name at the end, if it is not there. The names stay as they were where memory runs
+    /// out.
     pub fn add(&mut self, alloc: Global, name: &[u8]) -> Result<(), AllocError>
-        ensures { OnOk result (self.new ≡ added self.old name.now) }
+        ensures added { OnOk result (self.new ≡ added self.old name.now) }
+        ensures unchanged { OnErr result (self.new ≡ self.old) }
     {
         if self.holds(name) {
             return Ok(());
