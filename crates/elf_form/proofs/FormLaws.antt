@@ -1,6 +1,7 @@
 -- What is known once a test has passed.
 use Rattle.std.proofs.Common.{◌≡◌, ◌≤◌, ◌+◌, ℕ, List, Bool, true, false, cond, ltb, Option, Some, None, Ok, refl}
 use Rattle.std.specs.Prelude.{IfNone}
+use Rattle.std.specs.Bool.{then_some}
 use Rattle.std.proofs.lemmas.Bool.{ltb-false}
 use Rattle.guest_ram.specs.Bytes.{word32}
 use Rattle.elf_form.specs.declared.cause.ElfCause.{ElfCause}
@@ -26,6 +27,11 @@ pub neither : (a b : Option ℕ) → (a or_lower b) ≡ None → (a ≡ None) ×
 neither None b e = (refl, e)
 neither (Some a) None e = absurd cc
 neither (Some a) (Some b) e = absurd (some_stays (ltb b a) b a e)
+
+-- the place of a field that is bad, as std's word gives it
+pub then_bad : (is_bad : Bool) (at : ℕ) → then_some is_bad at ≡ bad is_bad at
+then_bad true at = refl
+then_bad false at = refl
 
 -- a field that is not bad
 pub not_bad : (is_bad : Bool) (at : ℕ) → bad is_bad at ≡ None → is_bad ≡ false

@@ -3,19 +3,11 @@
 ghost use Rattle.std.specs.Prelude.{◌≡◌, ◌≤◌, ◌<◌, ◌+◌, ◌*◌, ◌^◌, Bool, length, not, ◌||◌, ◌==◌, IfNone, IfSome};
 ghost use Rattle.guest_ram.specs.Bytes.{byte, word16, word32};
 ghost use Rattle.elf_form.specs.Faults.{◌or_lower◌};
-ghost use Rattle.guest_ram.specs.Places.{bad};
 ghost use Rattle.elf_form.specs.Tables.{entries, first};
 ghost use Rattle.elf_form.specs.Header.{cut, part_of, header_passes, section_passes, passes, IsWhole};
 ghost use Rattle.elf_form.specs.Header.{magic, class, encoding, version, file_type, machine};
 
 use crate::words::{byte, half, word};
-
-/// The place, where it is bad.
-pub fn bad(is_bad: bool, at: usize) -> Option<usize>
-    ensures { result ≡ bad is_bad at }
-{
-    if is_bad { Some(at) } else { None }
-}
 
 /// The lower place.
 pub fn lower(a: Option<usize>, b: Option<usize>) -> Option<usize>
@@ -108,40 +100,43 @@ pub fn magic(bytes: &[u8]) -> Option<usize>
     requires { 52 ≤ length bytes.now }
     ensures { result ≡ magic bytes.now }
 {
-    bad(word(bytes, 0) != 0x464C_457F, 0)
+    (word(bytes, 0) != 0x464C_457F).then_some(0)
 }
 
 pub fn class(bytes: &[u8]) -> Option<usize>
     requires { 52 ≤ length bytes.now }
     ensures { result ≡ class bytes.now }
 {
-    bad(byte(bytes, 4) != 1, 4)
+    (byte(bytes, 4) != 1).then_some(4)
 }
 
 pub fn encoding(bytes: &[u8]) -> Option<usize>
     requires { 52 ≤ length bytes.now }
     ensures { result ≡ encoding bytes.now }
 {
-    bad(byte(bytes, 5) != 1, 5)
+    (byte(bytes, 5) != 1).then_some(5)
 }
 
 pub fn version(bytes: &[u8]) -> Option<usize>
     requires { 52 ≤ length bytes.now }
     ensures { result ≡ version bytes.now }
 {
-    lower(bad(byte(bytes, 6) != 1, 6), bad(word(bytes, 20) != 1, 20))
+    lower(
+        (byte(bytes, 6) != 1).then_some(6),
+        (word(bytes, 20) != 1).then_some(20),
+    )
 }
 
 pub fn file_type(bytes: &[u8], wanted: u16) -> Option<usize>
     requires { 52 ≤ length bytes.now }
     ensures { result ≡ file_type wanted bytes.now }
 {
-    bad(half(bytes, 16) != wanted, 16)
+    (half(bytes, 16) != wanted).then_some(16)
 }
 
 pub fn machine(bytes: &[u8]) -> Option<usize>
     requires { 52 ≤ length bytes.now }
     ensures { result ≡ machine bytes.now }
 {
-    bad(half(bytes, 18) != 3, 18)
+    (half(bytes, 18) != 3).then_some(18)
 }

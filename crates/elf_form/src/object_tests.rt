@@ -10,7 +10,7 @@ ghost use Rattle.elf_form.specs.Roles.{with_role};
 ghost use Rattle.elf_form.specs.Symbols.{entries_fault};
 ghost use Rattle.elf_form.specs.ObjectReading.{has_strings, strings_in, table_of, strings_of, link_of, table_fault, inner_sizes, object_sizes, first_field, second_field, object_form, section_names_fault, symbol_names_fault, string_places};
 
-use crate::header::{bad, lower};
+use crate::header::lower;
 use crate::joining::{joined_fault, misaligned};
 use crate::roles::{Role, with_role};
 use crate::sections::{contents, is_index, nameless, names};
@@ -89,8 +89,8 @@ fn inner_sizes(bytes: &[u8]) -> Option<usize>
     let bss = joined_fault(Role::Bss, names, bytes);
     let joined = lower(init, lower(bss, lower(table, relocs)));
     lower(
-        bad(half(bytes, 40) != 52, 40),
-        lower(bad(half(bytes, 46) != 40, 46), joined),
+        (half(bytes, 40) != 52).then_some(40),
+        lower((half(bytes, 46) != 40).then_some(46), joined),
     )
 }
 
@@ -102,7 +102,7 @@ pub fn object_sizes(bytes: &[u8]) -> Option<usize>
     ensures small { IfSome result (λ at. at < 2 ^ 32) }
     ensures limit { IfNone result (length bytes.now ≤ LIMIT) }
 {
-    lower(inner_sizes(bytes), bad(LIMIT < bytes.len(), LIMIT))
+    lower(inner_sizes(bytes), (LIMIT < bytes.len()).then_some(LIMIT))
 }
 
 fn first_field(bytes: &[u8], field: usize, found: Found) -> Option<usize>

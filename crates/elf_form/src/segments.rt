@@ -6,7 +6,7 @@ ghost use Rattle.elf_form.specs.Tables.{entries, found, with_one, first_of, seco
 ghost use Rattle.elf_form.specs.Header.{IsWhole, IsHeader};
 ghost use Rattle.elf_form.specs.Segments.{loads, memory_sizes, first_size, second_size, sizes, order, is_executable};
 
-use crate::header::{bad, lower};
+use crate::header::lower;
 use crate::words::{half, word};
 
 /// The longest file that is read.
@@ -74,14 +74,14 @@ fn first_size(bytes: &[u8], h: usize) -> Option<usize>
     requires { h + 32 ≤ length bytes.now }
     ensures { result ≡ first_size bytes.now h }
 {
-    bad(word(bytes, h + 20) != word(bytes, h + 16), h + 20)
+    (word(bytes, h + 20) != word(bytes, h + 16)).then_some(h + 20)
 }
 
 fn second_size(bytes: &[u8], h: usize) -> Option<usize>
     requires { h + 32 ≤ length bytes.now }
     ensures { result ≡ second_size bytes.now h }
 {
-    bad(word(bytes, h + 20) < word(bytes, h + 16), h + 20)
+    (word(bytes, h + 20) < word(bytes, h + 16)).then_some(h + 20)
 }
 
 #[tactic(auto, unfolding(crate::specs::Segments::memory_sizes))]
@@ -107,12 +107,12 @@ pub fn sizes(bytes: &[u8]) -> Option<usize>
     ensures memory { IfNone result (memory_sizes bytes.now (loads bytes.now) ≡ None) }
 {
     let memory = memory_sizes(bytes, loads(bytes));
-    let long = bad(LIMIT < bytes.len(), LIMIT);
+    let long = (LIMIT < bytes.len()).then_some(LIMIT);
     lower(
-        bad(half(bytes, 40) != 52, 40),
+        (half(bytes, 40) != 52).then_some(40),
         lower(
-            bad(half(bytes, 42) != 32, 42),
-            lower(bad(half(bytes, 46) != 40, 46), lower(memory, long)),
+            (half(bytes, 42) != 32).then_some(42),
+            lower((half(bytes, 46) != 40).then_some(46), lower(memory, long)),
         ),
     )
 }
@@ -132,7 +132,7 @@ pub fn order(bytes: &[u8], headers: Found) -> Option<usize>
     ensures small { IfSome result (λ at. at ≡ 44) }
 {
     match headers {
-        Found::Two(a, b) => bad(!(is_executable(bytes, a) && !is_executable(bytes, b)), 44),
+        Found::Two(a, b) => (!(is_executable(bytes, a) && !is_executable(bytes, b))).then_some(44),
         Found::Nothing | Found::One(_) | Found::More(_, _) => Some(44),
     }
 }

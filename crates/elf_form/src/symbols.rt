@@ -7,7 +7,6 @@ ghost use Rattle.elf_form.specs.Header.{IsWhole, IsSection, section_table, secti
 ghost use Rattle.guest_ram.specs.Places.{◌or_else◌};
 ghost use Rattle.elf_form.specs.Symbols.{target_role, table_at, is_file, has_binding, has_place, is_listed, place_by, role_at, symbol_fault, global_fault, is_reloc_section, is_reloc_section_of, entries_fault, is_linked, section_test, is_unnamed, symbol_test, has_symbol, size_at, number_of, IsEntry, is_outside, has_kind, names_none, named_fault, form_fault, reloc_test};
 
-use crate::header::bad;
 use crate::object::DefinedIn;
 use crate::roles::{Role, has_role, is_kept, role_number, section_role};
 use crate::sections::{contents, from, is_index};
@@ -153,7 +152,7 @@ fn symbol_fault(names: &[u8], bytes: &[u8], y: usize) -> Option<usize>
     if !has_binding(bytes, y) {
         return Some(y + 12);
     }
-    bad(!has_place(names, bytes, y), y + 14)
+    (!has_place(names, bytes, y)).then_some(y + 14)
 }
 
 fn global_fault(names: &[u8], bytes: &[u8], y: usize) -> Option<usize>
@@ -202,7 +201,7 @@ pub fn entries_fault(entry: u32, bytes: &[u8], s: usize) -> Option<usize>
     if word(bytes, s + 20) % entry != 0 {
         return Some(s + 20);
     }
-    bad(word(bytes, s + 36) != entry, s + 36)
+    (word(bytes, s + 36) != entry).then_some(s + 36)
 }
 
 fn is_linked(table: Table, names: &[u8], bytes: &[u8], s: usize) -> bool
@@ -232,7 +231,7 @@ pub fn section_test(
     }
     match test {
         SectionTest::EntrySizes => entries_fault(8, bytes, s),
-        SectionTest::Links => bad(!is_linked(table, names, bytes, s), s + 24),
+        SectionTest::Links => (!is_linked(table, names, bytes, s)).then_some(s + 24),
     }
 }
 
@@ -256,7 +255,7 @@ pub fn symbol_test(
     ensures small { IfSome result (λ at. at < length bytes.now) }
 {
     match test {
-        SymbolTest::Names => bad(is_unnamed(strings, bytes, y), y),
+        SymbolTest::Names => is_unnamed(strings, bytes, y).then_some(y),
         SymbolTest::Globals => global_fault(names, bytes, y),
     }
 }
@@ -341,10 +340,7 @@ fn form_fault(table: Table, names: &[u8], bytes: &[u8], e: Entry) -> Option<usiz
     if is_outside(names, bytes, e) {
         return Some(e.at);
     }
-    bad(
-        !has_kind(bytes, e.at) || names_none(table, bytes, e.at),
-        e.at + 4,
-    )
+    (!has_kind(bytes, e.at) || names_none(table, bytes, e.at)).then_some(e.at + 4)
 }
 
 pub fn reloc_test(

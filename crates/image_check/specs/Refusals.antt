@@ -1,5 +1,5 @@
 -- Tests in an order: the first that refuses decides.
-use Rattle.std.specs.Prelude.{◌≡◌, ℕ, Bool, Option, Some, None, Result, Ok, Err, if◌then◌else◌}
+use Rattle.std.specs.Prelude.{◌≡◌, ℕ, Option, Some, None, Result, Ok, Err}
 use Rattle.elf_form.specs.Faults.{Fault}
 use Rattle.elf_form.specs.declared.cause.ElfFault.TheVariants as elf
 use Rattle.image_check.specs.declared.fault.CheckCause.{CheckCause}

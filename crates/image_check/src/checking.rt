@@ -22,7 +22,7 @@ ghost use Rattle.image_check.specs.declared.fault.CheckCause.{CheckCause};
 use crate::checked::Checked;
 use crate::fault::{CheckCause, CheckFault};
 use crate::piece::Piece;
-use crate::placing::{TEXT_AT, bad, placed, test};
+use crate::placing::{TEXT_AT, placed, test};
 use crate::site::{differ, find_sites};
 use crate::sweeping::{Swept, sweep};
 use crate::target::{entrances, wrong_target};
@@ -50,7 +50,7 @@ fn text_end(text: &[u8], pieces: &[Piece]) -> Option<u32>
     ensures { result ≡ text_end text.now pieces.now }
 {
     let at = last_at(pieces);
-    bad(!ends_at(text, at as usize), at)
+    (!ends_at(text, at as usize)).then_some(at)
 }
 
 fn annotations(alloc: Global, bytes: &[u8]) -> Result<Sites, CheckFault>
@@ -93,7 +93,7 @@ fn entry_start(image: &Image, entrances: &[bool]) -> Option<u32>
 {
     let at = image.entry - TEXT_AT;
     let index = at as usize;
-    bad(index >= entrances.len() || !entrances[index], at)
+    (index >= entrances.len() || !entrances[index]).then_some(at)
 }
 
 /// The tests of the end of the text and of the annotations.

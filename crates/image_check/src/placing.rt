@@ -2,7 +2,6 @@
 
 ghost use Rattle.std.specs.Prelude.{◌≡◌, ◌≤◌, ◌<◌, ◌+◌, length, OnOk, IfOk};
 ghost use Rattle.image_check.specs.Refusals.{test, Gives};
-ghost use Rattle.guest_ram.specs.Places.{bad};
 ghost use Rattle.image_check.specs.Conditions.{text_place, init_place, text_size, init_size, entry_place};
 ghost use Rattle.image_check.specs.Checking.{placed};
 
@@ -17,13 +16,6 @@ const INIT_AT: u32 = 0x1100_0000;
 /// The most bytes of data, the zeroed ones among them.
 const INIT_LIMIT: u64 = 33_554_432;
 
-/// The place, where it is bad.
-pub fn bad(is_bad: bool, at: u32) -> Option<u32>
-    ensures { result ≡ bad is_bad at }
-{
-    if is_bad { Some(at) } else { None }
-}
-
 /// Passes where there is no place.
 pub fn test(cause: CheckCause, place: Option<u32>) -> Result<(), CheckFault>
     ensures { Gives (λ _. tt) result (test cause place) }
@@ -37,28 +29,25 @@ pub fn test(cause: CheckCause, place: Option<u32>) -> Result<(), CheckFault>
 fn text_place(image: &Image) -> Option<u32>
     ensures { result ≡ text_place image.now }
 {
-    bad(image.text_at != TEXT_AT, 0)
+    (image.text_at != TEXT_AT).then_some(0)
 }
 
 fn init_place(image: &Image) -> Option<u32>
     ensures { result ≡ init_place image.now }
 {
-    bad(image.init_at != INIT_AT, 0)
+    (image.init_at != INIT_AT).then_some(0)
 }
 
 fn text_size(image: &Image) -> Option<u32>
     ensures { result ≡ text_size image.now }
 {
-    bad(image.text.len() == 0 || image.text.len() > TEXT_LIMIT, 0)
+    (image.text.len() == 0 || image.text.len() > TEXT_LIMIT).then_some(0)
 }
 
 fn init_size(image: &Image) -> Option<u32>
     ensures { result ≡ init_size image.now }
 {
-    bad(
-        image.init.len() as u64 + u64::from(image.bss) > INIT_LIMIT,
-        0,
-    )
+    (image.init.len() as u64 + u64::from(image.bss) > INIT_LIMIT).then_some(0)
 }
 
 fn entry_place(image: &Image) -> Option<u32>
@@ -66,7 +55,7 @@ fn entry_place(image: &Image) -> Option<u32>
 {
     let entry = u64::from(image.entry);
     let start = u64::from(TEXT_AT);
-    bad(entry < start || entry >= start + image.text.len() as u64, 0)
+    (entry < start || entry >= start + image.text.len() as u64).then_some(0)
 }
 
 /// The tests of places and sizes.
