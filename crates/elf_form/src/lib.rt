@@ -9,8 +9,8 @@ mod image_writing;
 mod joining;
 mod laws;
 mod object;
+mod object_conditions;
 mod object_reading;
-mod object_tests;
 mod object_writing;
 mod output;
 mod reading;
@@ -26,7 +26,10 @@ mod words;
 pub use cause::{ElfCause, ElfFault};
 pub use image::Image;
 pub use image_writing::write_image;
-pub use laws::object_length;
+pub use laws::{
+    image_causes_are_conditions, images_refused_in_order, object_causes_are_conditions,
+    object_length, objects_refused_in_order,
+};
 pub use object::{Bytes, DefinedIn, Object, Reloc, Symbol};
 pub use object_reading::read_object;
 pub use object_writing::write_object;

@@ -20,7 +20,7 @@ use crate::entries::{entries_of, relocs_fault};
 use crate::header::{class, cut, encoding, file_type, lower, machine, magic, version};
 use crate::joining::{joined, starts};
 use crate::object::Object;
-use crate::object_tests::{object_form, object_sizes, string_places, strings_of, table_of};
+use crate::object_conditions::{object_form, object_sizes, string_places, strings_of, table_of};
 use crate::reading::test;
 use crate::records::{Starts, numbers, put_relocs, symbols_in};
 use crate::roles::{Role, with_role};
