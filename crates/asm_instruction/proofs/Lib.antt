@@ -5,3 +5,5 @@ pub mod ControlGood
 pub mod Drafts
 pub mod Naming
 pub mod Answered
+pub mod KnownNames
+pub mod Refusing
