@@ -1,5 +1,5 @@
 -- The causes of a statement that is no instruction, and the conditions of each.
-use Rattle.std.proofs.Common.{◌≡◌, ℕ, ◌≤◌, Bool, List, Result, Err, ◌⊎◌, inl, inr, refl, arith}
+use Rattle.std.proofs.Common.{◌≡◌, ℕ, ◌≤◌, Bool, List, Result, Err, ◌⊎◌, inl, inr, arith}
 use Rattle.asm_source.specs.declared.tree.Argument.{Argument}
 use Rattle.asm_source.specs.declared.tree.Body.TheVariants as body
 use Rattle.asm_instruction.specs.declared.assembled.Assembled.{Assembled}

@@ -6,4 +6,5 @@ pub mod Drafts
 pub mod Naming
 pub mod Answered
 pub mod KnownNames
+pub mod Ranges
 pub mod Refusing

@@ -12,14 +12,17 @@ use Rattle.asm_instruction.specs.declared.mnemonic.Mnemonic.{Mnemonic}
 use Rattle.asm_instruction.specs.declared.assembled.Assembled.{Assembled}
 use Rattle.asm_instruction.specs.declared.assembled.Refusal.{Refusal}
 use Rattle.asm_instruction.specs.declared.assembled.Refusal.TheVariants as refusal
-use Rattle.asm_instruction.specs.Names.{found}
+use Rattle.asm_instruction.specs.declared.argument.Operands.{Operands}
+use Rattle.asm_instruction.specs.Names.{found, ◌>>=◌}
+use Rattle.asm_instruction.specs.Argument.{operands_of}
 use Rattle.asm_instruction.specs.Refused.{refused_names}
-use Rattle.asm_instruction.specs.Mnemonic.{known_name}
+use Rattle.asm_instruction.specs.Mnemonic.{known_name, drafted}
 use Rattle.asm_instruction.specs.Assembled.{widths, whole, with_spelling, spelled, drafted_of, by_mnemonic, assembled}
-use Rattle.asm_instruction.specs.Refusals.{IsName, IsRefused, IsUnknown, Means, IsWithoutRow, HasUnfitNumber}
+use Rattle.asm_instruction.specs.Refusals.{IsName, IsRefused, IsUnknown, Means, IsWithoutRow, HasUnfitNumber, numbers}
 use Rattle.asm_instruction.proofs.Goods.{When, DraftGood}
 use Rattle.asm_instruction.proofs.Naming.{known_good}
 use Rattle.asm_instruction.proofs.Answered.{drafted_of_good}
+use Rattle.asm_instruction.proofs.Ranges.{all_fit, drafted_fit, one_unfit, unfit_all}
 use Rattle.asm_instruction.proofs.KnownNames.{known_named, named_known, refused_found, found_refused, not_both}
 
 module _ (rep : Bool) (name : List ℕ) (args : List Argument) where
@@ -107,13 +110,39 @@ module _ (rep : Bool) (name : List ℕ) (args : List Argument) where
       by_drafted None e = undrafted_gives w.mnemonic e
       by_drafted (Some d) e = by_chosen d e (chosen (widths d args) d.insn) refl
 
+  -- ---- the numbers
+
+  given_there : (m : Mnemonic) (d : Draft) → drafted_of rep m args ≡ Some d → (os : Operands) × (operands_of args ≡ Some os) × (drafted rep m os ≡ Some d)
+  unfolding drafted_of
+  given_there m d e = by_given (operands_of args) refl e
+    where
+      by_given : (o : Option Operands) → operands_of args ≡ o → (o >>= λ os. drafted rep m os) ≡ Some d → (os : Operands) × (operands_of args ≡ Some os) × (drafted rep m os ≡ Some d)
+      by_given None q e = absurd cc
+      by_given (Some os) q e = (os, q, e)
+
+  draft_fits : (m : Mnemonic) (d : Draft) (os : Operands) → drafted_of rep m args ≡ Some d → operands_of args ≡ Some os → d.fits ≡ all_fit (numbers m.family d.insn.size os)
+  draft_fits m d os e q =
+      let there = given_there m d e in
+      let both : Some there.0 ≡ Some os = sym there.1 ∙ q in
+      let same : there.0 ≡ os = cc in
+      drafted_fit rep m os d (subst (λ (x : Operands). drafted rep m x ≡ Some d) same there.2)
+
+  unfit_draft : (u : HasUnfitNumber rep name args) → u.draft.fits ≡ false
+  unfit_draft u = draft_fits u.means.mnemonic u.draft u.given u.means.drafted u.written ∙ unfit_all (numbers u.means.mnemonic.family u.draft.insn.size u.given) (u.field, u.number) u.stands u.unfit
+
+  draft_unfit : (d : Draft) → Means rep name args d → d.fits ≡ false → HasUnfitNumber rep name args
+  draft_unfit d h f =
+      let there = given_there h.mnemonic d h.drafted in
+      let one = one_unfit (numbers h.mnemonic.family d.insn.size there.0) (sym (draft_fits h.mnemonic d there.0 h.drafted there.1) ∙ f) in
+      record { draft = d; means = h; given = there.0; written = there.1; field = one.0.0; number = one.0.1; stands = one.1; unfit = one.2 }
+
   -- an unfit number's refusal, or that of a row which isn't there
   pub unfit_gives : HasUnfitNumber rep name args → IsWithoutRow rep name args ⊎ (assembled rep name args ≡ Err refusal.ValueRange)
   unfit_gives u = by_chosen (chosen (widths u.draft args) u.draft.insn) refl
     where
       by_chosen : (o : Option ArrayBytes) → chosen (widths u.draft args) u.draft.insn ≡ o → IsWithoutRow rep name args ⊎ (assembled rep name args ≡ Err refusal.ValueRange)
       by_chosen None c = inl (unspelled_rowless u.draft u.means c)
-      by_chosen (Some a) c = inr (means_gives u.draft u.means ∙ rw (c, u.unfit) refl)
+      by_chosen (Some a) c = inr (means_gives u.draft u.means ∙ rw (c, unfit_draft u) refl)
 
   -- ---- why a statement is refused
 
@@ -124,7 +153,7 @@ module _ (rep : Bool) (name : List ℕ) (args : List Argument) where
   Reason refusal.ValueRange = (IsWithoutRow rep name args → ⊥) × HasUnfitNumber rep name args
 
   range_reason : (d : Draft) (a : ArrayBytes) → Means rep name args d → chosen (widths d args) d.insn ≡ Some a → d.fits ≡ false → Reason refusal.ValueRange
-  range_reason d a h c f = (λ w. w.none d (chosen_bytes a) h (spelled_by_row h.mnemonic d a h.named h.drafted c), record { draft = d; means = h; unfit = f })
+  range_reason d a h c f = (λ w. w.none d (chosen_bytes a) h (spelled_by_row h.mnemonic d a h.named h.drafted c), draft_unfit d h f)
 
   draft_reason : (d : Draft) (r : Refusal) → Means rep name args d → with_spelling d (widths d args) (chosen (widths d args) d.insn) ≡ Err r → Reason r
   draft_reason d r h e = by_chosen (chosen (widths d args) d.insn) refl e

@@ -1,17 +1,24 @@
 -- When a statement is no instruction: the condition of each refusal.
-use Rattle.std.specs.Prelude.{codes, ◌≡◌, ℕ, false, Bool, List, [], ◌∷◌, ◌++◌, Some, None}
+use Rattle.std.specs.Prelude.{codes, ◌≡◌, ℕ, ℤ, false, Bool, List, [], ◌∷◌, ◌++◌, Some, None}
 use Rattle.std.specs.List.{Contains}
 use Rattle.ia32_types.specs.declared.site.Refused.{Refused}
 use Rattle.ia32_types.specs.declared.size.Size.{Size}
 use Rattle.ia32_types.specs.declared.size.Size.TheVariants as size
 use Rattle.ia32_encode.specs.Chosen.{SpellsWide}
 use Rattle.asm_source.specs.declared.tree.Argument.{Argument}
+use Rattle.asm_instruction.specs.declared.argument.Given.{Given}
+use Rattle.asm_instruction.specs.declared.argument.Given.TheVariants as given
+use Rattle.asm_instruction.specs.declared.argument.Operands.{Operands}
+use Rattle.asm_instruction.specs.declared.argument.Operands.TheVariants as operands
+use Rattle.asm_instruction.specs.declared.arithmetic.Arithmetic.TheVariants as arithmetic
 use Rattle.asm_instruction.specs.declared.control.Control.TheVariants as control
 use Rattle.asm_instruction.specs.declared.draft.Draft.{Draft}
 use Rattle.asm_instruction.specs.declared.mnemonic.Family.{Family}
 use Rattle.asm_instruction.specs.declared.mnemonic.Family.TheVariants as family
 use Rattle.asm_instruction.specs.declared.mnemonic.Mnemonic.{Mnemonic}
 use Rattle.asm_instruction.specs.Names.{Table}
+use Rattle.asm_instruction.specs.Field.{fits_field}
+use Rattle.asm_instruction.specs.Argument.{operands_of}
 use Rattle.asm_instruction.specs.Arithmetic.{two_operand_names, one_operand_names}
 use Rattle.asm_instruction.specs.Shift.{shift_names}
 use Rattle.asm_instruction.specs.Moves.{move_names, extend_names}
@@ -72,8 +79,46 @@ pub record IsWithoutRow (rep : Bool) (name : List ℕ) (args : List Argument) : 
   pub named : IsName name mnemonic
   pub none : (d : Draft) (bytes : List ℕ) → Means rep name args d → SpellsWide (widths d args) bytes d.insn → ⊥
 
--- The statement means an instruction, of which a number doesn't fit its field.
+-- ---- the numbers
+
+-- The size of an immediate's field: that of the operands, but a byte for a count, a port and the number of an interrupt, 16 bits for
+-- what RET drops, and 32 for what IMUL multiplies by, what PUSH pushes and where a far jump goes.
+unfoldable pub field_of : Family → Size → Size
+field_of (family.Shift o) s = size.Byte
+field_of (family.System k) s = size.Byte
+field_of (family.Control control.Interrupt) s = size.Byte
+field_of (family.Control control.Return) s = size.Word
+field_of (family.Control control.FarJump) s = size.Long
+field_of (family.Arithmetic arithmetic.Multiply) s = size.Long
+field_of (family.Stack k) s = size.Long
+field_of _ s = s
+
+-- A far jump's selector, which stands first, has 16 bits.
+unfoldable pub first_field_of : Family → Size → Size
+first_field_of (family.Control control.FarJump) s = size.Word
+first_field_of f s = field_of f s
+
+-- The number of an operand and the size of its field, which is this one for an immediate, and 32 bits for a displacement.
+abbrev pub numbers_in : Size → Given → List (Size × ℤ)
+numbers_in s (given.Immediate n) = (s, n.value) ∷ []
+numbers_in s (given.Memory m) = (size.Long, m.displacement.value) ∷ []
+numbers_in s _ = []
+
+-- the numbers of an instruction of this family with operands of this size, from its last operand to its first
+unfoldable pub numbers : Family → Size → Operands → List (Size × ℤ)
+numbers f s operands.Nothing = []
+numbers f s (operands.One g) = numbers_in (field_of f s) g
+numbers f s (operands.Starred g) = numbers_in (field_of f s) g
+numbers f s (operands.Two a b) = numbers_in (field_of f s) b ++ numbers_in (first_field_of f s) a
+numbers f s (operands.Three a b c) = numbers_in (field_of f s) c ++ numbers_in (field_of f s) b ++ numbers_in (field_of f s) a
+
+-- The statement means an instruction, and one of the numbers in its operands doesn't fit its field.
 pub record HasUnfitNumber (rep : Bool) (name : List ℕ) (args : List Argument) : Type 0 where
   pub draft : Draft
   pub means : Means rep name args draft
-  pub unfit : draft.fits ≡ false
+  pub given : Operands
+  pub written : operands_of args ≡ Some given
+  pub field : Size
+  pub number : ℤ
+  pub stands : Contains (numbers means.mnemonic.family draft.insn.size given) (field, number)
+  pub unfit : fits_field field number ≡ false
