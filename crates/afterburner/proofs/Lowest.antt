@@ -26,7 +26,7 @@ use Rattle.afterburner.specs.Directives.{directive_of, all_fit, numbers, longs, 
 use Rattle.afterburner.specs.Instructions.{instruction}
 use Rattle.afterburner.specs.Burnt.{parted, made, limited, item_made}
 use Rattle.afterburner.specs.Reasons.{width_of, gives_data, IsReason, IsLowestReason}
-use Rattle.afterburner.proofs.Statements.{ToldOf, unknown_told, refused_told as name_told, other_told, row_told, number_told}
+use Rattle.afterburner.proofs.Statements.{ToldOf, unknown_told, refused_told as name_told, row_told, number_told}
 use Rattle.afterburner.proofs.Reasons.{reason}
 
 -- the item is refused for this cause or one that is lower
@@ -152,9 +152,8 @@ directive_told names st name args k d e (c, f, le) = (c, ap (λ (x : DirectiveNa
 pub told : (names : List (List ℕ)) (st : ObjectSoFar) (b : Body) (d : BurnCause) → IsReason names st b d → Told (item_made names st b) d
 told names st b d (IsReason.unknown_name {rep} {name} {args} u) = refused_told names st b d (statement_told names st rep name args cause.UnknownInstruction (unknown_told rep name args u))
 told names st b d (IsReason.refused_name {rep} {name} {args} h) = refused_told names st b d (statement_told names st rep name args cause.RefusedInstruction (name_told rep name args h))
-told names st b d (IsReason.other_operands {rep} {name} {args} m k f) = refused_told names st b d (statement_told names st rep name args cause.Operands (other_told rep name args m k f))
-told names st b d (IsReason.no_row {rep} {name} {args} m x k f c) = refused_told names st b d (statement_told names st rep name args cause.Operands (row_told rep name args m x k f c))
-told names st b d (IsReason.number {rep} {name} {args} m x k f t) = refused_told names st b d (statement_told names st rep name args cause.ValueRange (number_told rep name args m x k f t))
+told names st b d (IsReason.no_row {rep} {name} {args} h) = refused_told names st b d (statement_told names st rep name args cause.Operands (row_told rep name args h))
+told names st b d (IsReason.number {rep} {name} {args} h) = refused_told names st b d (statement_told names st rep name args cause.ValueRange (number_told rep name args h))
 told names st b d (IsReason.instruction_outside {rep} {name} {args} q) = refused_told names st b d (outside_told names st rep name args q)
 told names st b d (IsReason.range {name} {args} w f t) = refused_told names st b d (directive_told names st name args (directive_of name) cause.ValueRange refl (range_told names st args (directive_of name) w f t))
 told names st b d (IsReason.data_outside {name} {args} g q) = refused_told names st b d (directive_told names st name args (directive_of name) cause.DataInText refl (data_outside_told names st args (directive_of name) g q))

@@ -12,7 +12,7 @@ use Rattle.asm_source.specs.Names.{symbol_in}
 use Rattle.asm_source.specs.Readable.{argument_names}
 use Rattle.asm_instruction.specs.declared.assembled.Assembled.{Assembled}
 use Rattle.asm_instruction.specs.declared.assembled.Named.{Named}
-use Rattle.asm_instruction.specs.Assembled.{IsShort, IsField, HasFields}
+use Rattle.asm_instruction.specs.Assembled.{HasBoundedLength, IsField, HasFields}
 use Rattle.afterburner.specs.ObjectSoFar.{ObjectSoFar}
 use Rattle.afterburner.specs.Arguments.{symbol_of, symbol_at}
 use Rattle.afterburner.specs.Instructions.{nops, padding, site_at, reloc_of, field_reloc, is_sti, added, paired, pair_site, no_site}
@@ -63,7 +63,7 @@ sti_padded (Some kind) len e = omega arith
 
 -- ---- an instruction at the end of the text
 
-pub sound_added : (names : List (List ℕ)) (st : ObjectSoFar) (args : List Argument) (a : Assembled) → IsShort a → HasFields args a → length (take a.spelling.len a.spelling.bytes) ≡ a.spelling.len → AreHeld names (argument_names args) → IsSound (length names) st
+pub sound_added : (names : List (List ℕ)) (st : ObjectSoFar) (args : List Argument) (a : Assembled) → HasBoundedLength a → HasFields args a → length (take a.spelling.len a.spelling.bytes) ≡ a.spelling.len → AreHeld names (argument_names args) → IsSound (length names) st
     → IsSound (length names) (added names st args a)
 unfolding added
 sound_added names st args a short fields spelled held s =
@@ -122,7 +122,7 @@ sound_paired n st a s =
       sti_text = λ e. cc;
     }
 
-pub added_sound : (names : List (List ℕ)) (st made : ObjectSoFar) (args : List Argument) (a : Assembled) → made ≡ added names st args a → IsShort a → HasFields args a → length (take a.spelling.len a.spelling.bytes) ≡ a.spelling.len → AreHeld names (argument_names args) → IsSound (length names) st
+pub added_sound : (names : List (List ℕ)) (st made : ObjectSoFar) (args : List Argument) (a : Assembled) → made ≡ added names st args a → HasBoundedLength a → HasFields args a → length (take a.spelling.len a.spelling.bytes) ≡ a.spelling.len → AreHeld names (argument_names args) → IsSound (length names) st
     → IsSound (length names) made
 added_sound names st made args a e short fields spelled held s = rw e (sound_added names st args a short fields spelled held s)
 

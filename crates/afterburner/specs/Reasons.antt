@@ -5,11 +5,7 @@ use Rattle.asm_source.specs.declared.tree.Body.{Body}
 use Rattle.asm_source.specs.declared.tree.Body.TheVariants as body
 use Rattle.asm_source.specs.declared.directive_table.DirectiveName.{DirectiveName}
 use Rattle.asm_source.specs.declared.directive_table.DirectiveName.TheVariants as directive
-use Rattle.asm_instruction.specs.declared.draft.Draft.{Draft}
-use Rattle.asm_instruction.specs.declared.mnemonic.Mnemonic.{Mnemonic}
-use Rattle.asm_instruction.specs.Mnemonic.{known_name}
-use Rattle.asm_instruction.specs.Assembled.{IsRefused, IsUnknown, widths, drafted_of}
-use Rattle.ia32_encode.specs.Chosen.{chosen}
+use Rattle.asm_instruction.specs.Refusals.{IsRefused, IsUnknown, IsWithoutRow, HasUnfitNumber}
 use Rattle.sites.specs.declared.limits.TheConstants.{TEXT_LIMIT, SITE_LIMIT}
 use Rattle.afterburner.specs.declared.fault.BurnCause.{BurnCause}
 use Rattle.afterburner.specs.declared.fault.BurnCause.TheVariants as cause
@@ -38,16 +34,14 @@ gives_data directive.Ascii = true
 gives_data directive.Asciz = true
 gives_data _ = false
 
--- An item is refused for a name that is no instruction's, or is one that is refused; for operands that the instruction doesn't
--- take, or with which no row spells it, with four bytes for what names a symbol; for a number that doesn't fit its field; or for
--- what may not stand in its section. Or what it makes is too large.
+-- An item is refused for a name that is no instruction's, or is one that is refused; for operands that no row has, with four bytes
+-- for what names a symbol; for a number that doesn't fit its field; or for what may not stand in its section. Or what it makes is
+-- too large.
 pub data IsReason (names : List (List ℕ)) (st : ObjectSoFar) : Body → BurnCause → Type 0 where
   unknown_name : {rep : Bool} {name : List ℕ} {args : List Argument} → IsUnknown name → IsReason names st (body.Instruction rep name args) cause.UnknownInstruction
   refused_name : {rep : Bool} {name : List ℕ} {args : List Argument} → IsRefused name → IsReason names st (body.Instruction rep name args) cause.RefusedInstruction
-  other_operands : {rep : Bool} {name : List ℕ} {args : List Argument} (m : Mnemonic) → known_name name ≡ Some m → drafted_of rep m args ≡ None → IsReason names st (body.Instruction rep name args) cause.Operands
-  no_row : {rep : Bool} {name : List ℕ} {args : List Argument} (m : Mnemonic) (d : Draft) → known_name name ≡ Some m → drafted_of rep m args ≡ Some d → chosen (widths d args) d.insn ≡ None
-      → IsReason names st (body.Instruction rep name args) cause.Operands
-  number : {rep : Bool} {name : List ℕ} {args : List Argument} (m : Mnemonic) (d : Draft) → known_name name ≡ Some m → drafted_of rep m args ≡ Some d → d.fits ≡ false → IsReason names st (body.Instruction rep name args) cause.ValueRange
+  no_row : {rep : Bool} {name : List ℕ} {args : List Argument} → IsWithoutRow rep name args → IsReason names st (body.Instruction rep name args) cause.Operands
+  number : {rep : Bool} {name : List ℕ} {args : List Argument} → HasUnfitNumber rep name args → IsReason names st (body.Instruction rep name args) cause.ValueRange
   instruction_outside : {rep : Bool} {name : List ℕ} {args : List Argument} → is_text st.section ≡ false → IsReason names st (body.Instruction rep name args) cause.DataInText
   range : {name : List ℕ} {args : List Argument} (w : Width) → width_of (directive_of name) ≡ Some w → all_fit w args ≡ false → IsReason names st (body.Directive name args) cause.ValueRange
   data_outside : {name : List ℕ} {args : List Argument} → gives_data (directive_of name) ≡ true → is_init st.section ≡ false → IsReason names st (body.Directive name args) cause.DataInText

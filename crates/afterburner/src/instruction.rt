@@ -3,7 +3,7 @@
 ghost use Rattle.std.specs.Prelude.{◌≡◌, ◌≤◌, ◌<◌, ◌+◌, ◌++◌, ◌^◌, length, take, OnOk};
 ghost use Rattle.ia32_types.specs.Site.{sensitive_kind};
 ghost use Rattle.asm_source.specs.Readable.{argument_names};
-ghost use Rattle.asm_instruction.specs.Assembled.{IsShort, HasFields};
+ghost use Rattle.asm_instruction.specs.Assembled.{HasBoundedLength, HasFields};
 ghost use Rattle.afterburner.specs.Burnt.{Makes};
 ghost use Rattle.afterburner.specs.Sound.{IsSound, AreHeld};
 ghost use Rattle.afterburner.specs.Causes.{cause_of};
@@ -174,7 +174,7 @@ impl Assembly {
     ) -> Result<(), AllocError>
         requires few { length names.now ≤ 65536 }
         requires room { length self.old.text ≤ TEXT_LIMIT }
-        requires short { IsShort assembled.now }
+        requires short { HasBoundedLength assembled.now }
         requires fields { HasFields arguments.now assembled.now }
         requires held { AreHeld names.now (argument_names arguments.now) }
         requires sound { IsSound (length names.now) self.old }

@@ -44,7 +44,7 @@ draft_is args (Some d) a h e =
     let s = spelling_is d (widths d args) (chosen (widths d args) d.insn) a e in
     record { draft = d; good = h; spelling = s.0; is_chosen = s.1; is = s.2 }
 
-drafted_of_good : (args : List Argument) (rep : Bool) (m : Mnemonic) → MnemonicGood m → When (DraftGood args) (drafted_of rep m args)
+pub drafted_of_good : (args : List Argument) (rep : Bool) (m : Mnemonic) → MnemonicGood m → When (DraftGood args) (drafted_of rep m args)
 unfolding drafted_of
 drafted_of_good args rep m e = bind_from (OperandsGood args) (DraftGood args) (operands_of args) (λ os. drafted rep m os) (operands_good args) (λ os h. drafted_good args rep m os e h)
 

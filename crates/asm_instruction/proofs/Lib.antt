@@ -5,3 +5,6 @@ pub mod ControlGood
 pub mod Drafts
 pub mod Naming
 pub mod Answered
+pub mod KnownNames
+pub mod Ranges
+pub mod Refusing

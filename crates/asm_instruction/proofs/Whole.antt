@@ -12,7 +12,7 @@ use Rattle.asm_instruction.specs.declared.assembled.Assembled.{Assembled}
 use Rattle.asm_instruction.specs.declared.assembled.Refusal.{Refusal}
 use Rattle.asm_instruction.specs.declared.assembled.Refusal.TheVariants as refusal
 use Rattle.asm_instruction.specs.Argument.{argument_named, names_symbol}
-use Rattle.asm_instruction.specs.Assembled.{named_field, widths, whole, with_spelling, spelled, drafted_of, by_draft, by_mnemonic, IsShort, IsSpelled, IsField, HasFields, Before, AreInOrder, IsRight, named_in}
+use Rattle.asm_instruction.specs.Assembled.{named_field, widths, whole, with_spelling, spelled, drafted_of, by_draft, by_mnemonic, HasBoundedLength, SpellsItsInstruction, IsField, HasFields, Before, AreInOrder, IsRight, named_in}
 
 symbol_there : (o : Option (List ℕ)) → is_some o ≡ true → (n : List ℕ) × (o ≡ Some n)
 symbol_there (Some n) h = (n, refl)
@@ -83,11 +83,11 @@ whole_right d args wide s a e f spells back placed =
 
 -- ---- the parts of what is known
 
-pub right_spelled : (args : List Argument) (r : Result Assembled Refusal) → IfOk r (IsRight args) → IfOk r IsSpelled
+pub right_spelled : (args : List Argument) (r : Result Assembled Refusal) → IfOk r (IsRight args) → IfOk r SpellsItsInstruction
 right_spelled args (Ok a) h = h.spelled
 right_spelled args (Err e) h = tt
 
-pub right_short : (args : List Argument) (r : Result Assembled Refusal) → IfOk r (IsRight args) → IfOk r IsShort
+pub right_short : (args : List Argument) (r : Result Assembled Refusal) → IfOk r (IsRight args) → IfOk r HasBoundedLength
 right_short args (Ok a) h = h.short
 right_short args (Err e) h = tt
 

@@ -1,5 +1,5 @@
 -- The instruction that a statement is, in its chosen spelling.
-use Rattle.std.specs.Prelude.{◌≡◌, ℕ, ℤ, pos, ◌+◌, ◌≤◌, Bool, true, false, List, take, Option, Some, None, IsSome, is_some, Result, Ok, Err, slice_get, if◌then◌else◌}
+use Rattle.std.specs.Prelude.{◌≡◌, ℕ, ℤ, pos, ◌+◌, ◌≤◌, Bool, true, false, List, take, Option, Some, None, is_some, Result, Ok, Err, slice_get, if◌then◌else◌}
 use Rattle.ia32_types.specs.declared.insn.Op.{Op}
 use Rattle.ia32_types.specs.declared.insn.Op.TheVariants as op
 use Rattle.ia32_types.specs.declared.size.Size.TheVariants as size
@@ -70,15 +70,8 @@ assembled rep name arguments =
 
 -- ---- what is said of an answer
 
--- the name is refused, or is none that is known
-abbrev pub IsRefused : List ℕ → Type 0
-IsRefused name = IsSome (found refused_names name)
-
-pub record IsUnknown (name : List ℕ) : Type 0 where
-  pub not_refused : found refused_names name ≡ None
-  pub not_known : known_name name ≡ None
-
-pub record IsShort (a : Assembled) : Type 0 where
+-- from one to eleven bytes
+pub record HasBoundedLength (a : Assembled) : Type 0 where
   pub some : 1 ≤ a.spelling.len
   pub most : a.spelling.len ≤ 11
 
@@ -90,7 +83,7 @@ abbrev pub named_in : Assembled → Wide
 named_in a = record { disp = is_some a.disp; imm = is_some a.imm }
 
 -- the bytes spell the instruction, with four bytes for what names a symbol, and are read back whatever follows
-pub record IsSpelled (a : Assembled) : Type 0 where
+pub record SpellsItsInstruction (a : Assembled) : Type 0 where
   pub spells : SpellsWide (named_in a) (spelling_bytes a) a.insn
   pub read_back : IsReadBack (spelling_bytes a) a.insn a.spelling.len
 
@@ -120,8 +113,8 @@ pub record IsFromChosen (a : Assembled) : Type 0 where
 
 -- all of these
 pub record IsRight (args : List Argument) (a : Assembled) : Type 0 where
-  pub spelled : IsSpelled a
-  pub short : IsShort a
+  pub spelled : SpellsItsInstruction a
+  pub short : HasBoundedLength a
   pub fields : HasFields args a
   pub order : AreInOrder a
 

@@ -16,3 +16,4 @@ pub mod System
 pub mod Mnemonic
 pub mod Refused
 pub mod Assembled
+pub mod Refusals

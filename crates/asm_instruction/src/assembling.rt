@@ -2,7 +2,8 @@
 
 ghost use Rattle.std.specs.Prelude.{◌≡◌, ◌≤◌, ◌↔◌, ◌+◌, IfOk, IsSome, take, Err};
 ghost use Rattle.asm_instruction.specs.Assembled as spec;
-ghost use Rattle.asm_instruction.specs.Assembled.{assembled, IsShort, HasFields, AreInOrder, IsSpelled, IsRight, IsUnknown, IsRefused};
+ghost use Rattle.asm_instruction.specs.Assembled.{assembled, HasBoundedLength, HasFields, AreInOrder, SpellsItsInstruction, IsRight};
+ghost use Rattle.asm_instruction.specs.Refusals.{IsRefused, IsUnknown, IsWithoutRow, HasUnfitNumber};
 
 use crate::argument::{names_symbol, operands_of};
 use crate::assembled::{Assembled, Named, Refusal};
@@ -99,23 +100,10 @@ fn by_mnemonic(rep: bool, mnemonic: Mnemonic, arguments: &[Argument]) -> Result<
     }
 }
 
-/// The instruction that a statement is, in its chosen spelling.
 #[tactic(auto, unfolding(crate::specs::Assembled::assembled))]
-pub fn assemble(rep: bool, name: &[u8], arguments: &[Argument]) -> Result<Assembled, Refusal>
-    // The answer is this function of the statement.
+fn by_name(rep: bool, name: &[u8], arguments: &[Argument]) -> Result<Assembled, Refusal>
     ensures exact { result ≡ assembled rep name.now arguments.now }
-    // The bytes spell the instruction, and are read back whatever follows them.
-    ensures spelled { IfOk result IsSpelled }
-    // There are one to eleven.
-    ensures short { IfOk result IsShort }
-    // Each field that names a symbol has its four bytes, and its argument names one.
-    ensures fields { IfOk result (HasFields arguments.now) }
-    // The displacement stands before the immediate.
-    ensures order { IfOk result AreInOrder }
-    // The name is refused.
-    ensures refused { (result ≡ Err Refusal.RefusedInstruction) ↔ IsRefused name.now }
-    // The name is none that is known.
-    ensures unknown { (result ≡ Err Refusal.UnknownInstruction) ↔ IsUnknown name.now }
+    ensures right { IfOk result (IsRight arguments.now) }
 {
     if refused_name(name).is_some() {
         return Err(Refusal::RefusedInstruction);
@@ -124,4 +112,28 @@ pub fn assemble(rep: bool, name: &[u8], arguments: &[Argument]) -> Result<Assemb
         None => Err(Refusal::UnknownInstruction),
         Some(mnemonic) => by_mnemonic(rep, mnemonic, arguments),
     }
+}
+
+/// The instruction that a statement is, in its chosen spelling.
+pub fn assemble(rep: bool, name: &[u8], arguments: &[Argument]) -> Result<Assembled, Refusal>
+    // The answer is this function of the statement.
+    ensures exact { result ≡ assembled rep name.now arguments.now }
+    // The bytes spell the instruction, and are read back whatever follows them.
+    ensures spelled { IfOk result SpellsItsInstruction }
+    // There are one to eleven.
+    ensures short { IfOk result HasBoundedLength }
+    // Each field that names a symbol has its four bytes, and its argument names one.
+    ensures fields { IfOk result (HasFields arguments.now) }
+    // The displacement stands before the immediate.
+    ensures order { IfOk result AreInOrder }
+    // The name is refused.
+    ensures refused { (result ≡ Err Refusal.RefusedInstruction) ↔ IsRefused name.now }
+    // The name is none that is known.
+    ensures unknown { (result ≡ Err Refusal.UnknownInstruction) ↔ IsUnknown name.now }
+    // No row has such operands.
+    ensures operands { (result ≡ Err Refusal.Operands) ↔ IsWithoutRow rep name.now arguments.now }
+    // A row has them, and a number doesn't fit its field.
+    ensures range { (result ≡ Err Refusal.ValueRange) ↔ ((IsWithoutRow rep name.now arguments.now → ⊥) × HasUnfitNumber rep name.now arguments.now) }
+{
+    by_name(rep, name, arguments)
 }

@@ -24,4 +24,4 @@ mod system;
 
 pub use assembled::{Assembled, Named, Refusal};
 pub use assembling::assemble;
-pub use laws::answers;
+pub use laws::{answers, refusals_have_their_conditions};

@@ -1,0 +1,265 @@
+-- The names of instructions: what is found for a name is what the tables say that it means.
+use Rattle.std.proofs.Common.{◌≡◌, ℕ, ◌+◌, ◌-◌, ◌++◌, Bool, true, false, List, [], ◌∷◌, Option, Some, None, length, refl, sym, ap, subst, ◌∙◌, arith}
+use Rattle.std.specs.Prelude.{codes, ◌==◌, ◌&&◌, All, take, slice_index, if◌then◌else◌}
+use Rattle.std.specs.List.{Contains}
+use Rattle.std.specs.Str.{bytes_eq}
+use Rattle.std.proofs.lemmas.Bool.{eqb-true}
+use Rattle.std.proofs.lemmas.List.{take_more, take_all}
+use Rattle.std.proofs.lemmas.List.Elements.{All-nil, All-cons, All-contains, Contains-append_left, Contains-append_right}
+use Rattle.std.proofs.lemmas.Slice.Eq.{bytes_eq-Decides}
+use Rattle.ia32_types.specs.declared.site.Refused.{Refused}
+use Rattle.ia32_types.specs.declared.size.Size.{Size}
+use Rattle.ia32_types.specs.declared.size.Size.TheVariants as size
+use Rattle.ia32_rows.proofs.Fields.{both}
+use Rattle.asm_instruction.specs.declared.control.Control.TheVariants as control
+use Rattle.asm_instruction.specs.declared.mnemonic.Family.{Family}
+use Rattle.asm_instruction.specs.declared.mnemonic.Family.TheVariants as family
+use Rattle.asm_instruction.specs.declared.mnemonic.Mnemonic.{Mnemonic}
+use Rattle.asm_instruction.specs.Names.{Table, found, or_else}
+use Rattle.asm_instruction.specs.Arithmetic.{two_operand_names, one_operand_names}
+use Rattle.asm_instruction.specs.Shift.{shift_names}
+use Rattle.asm_instruction.specs.Moves.{move_names, extend_names}
+use Rattle.asm_instruction.specs.Stack.{stack_names, frame_names}
+use Rattle.asm_instruction.specs.Condition.{lower_conditions, upper_conditions, condition}
+use Rattle.asm_instruction.specs.Control.{branch_names, control_names, jump_name, set_name, behind_set, conditional_name}
+use Rattle.asm_instruction.specs.Strings.{string_names}
+use Rattle.asm_instruction.specs.Flags.{plain_names}
+use Rattle.asm_instruction.specs.System.{system_names, page_names}
+use Rattle.asm_instruction.specs.Mnemonic.{exact_instruction, exact_name, sized_name, suffix, suffixed, with_suffix, without_suffix, known_name}
+use Rattle.asm_instruction.specs.Refused.{refused_names}
+use Rattle.asm_instruction.specs.Refusals.{exact_names, sized_names, conditions, suffixes, IsName, IsRefused}
+use Rattle.asm_instruction.proofs.Goods.{When, bind_from, either, choice}
+
+-- ---- tables
+
+pub weaken : {A : Type 0} (P Q : A → Type 0) (o : Option A) → ((a : A) → P a → Q a) → When P o → When Q o
+weaken P Q None h p = tt
+weaken P Q (Some a) h p = h a p
+
+chosen_by : {A : Type 0} (R : A → Type 0) (b : Bool) (x y : Option A) → (b ≡ true → When R x) → When R y → When R (if b then x else y)
+chosen_by R true x y p q = p refl
+chosen_by R false x y p q = q
+
+abbrev pub Lists : {A : Type 0} → Table A → List ℕ → A → Type 0
+Lists table name a = Contains table (name, a)
+
+first_found : {A : Type 0} (e : List ℕ × A) (table : Table A) (name : List ℕ) → name ≡ e.0 → Lists (e ∷ table) name e.1
+first_found e table name same = (0, omega arith, ap (λ (n : List ℕ). (n, e.1)) (sym same))
+
+-- what is found stands in the table
+pub found_listed : {A : Type 0} (table : Table A) (name : List ℕ) → When (Lists table name) (found table name)
+found_listed [] name = tt
+found_listed (e ∷ table) name =
+    chosen_by (Lists (e ∷ table) name) (bytes_eq name e.0) (Some e.1) (found table name)
+    (λ q. first_found e table name ((bytes_eq-Decides name e.0).0 q))
+    (weaken (Lists table name) (Lists (e ∷ table) name) (found table name) (λ a c. Contains-append_right (e ∷ []) table (name, a) c) (found_listed table name))
+
+found_in : {A : Type 0} (table all : Table A) (name : List ℕ) → ((a : A) → Lists table name a → Lists all name a) → When (Lists all name) (found table name)
+found_in table all name h = weaken (Lists table name) (Lists all name) (found table name) h (found_listed table name)
+
+abbrev Each : {A : Type 0} → (A → Type 0) → List A → Type 0
+Each P [] = Unit {0}
+Each P (x ∷ xs) = P x × Each P xs
+
+each_is : {A : Type 0} (P : A → Type 0) (xs : List A) → Each P xs → All P xs
+each_is P [] h = All-nil P
+each_is P (x ∷ xs) h = All-cons P x xs h.0 (each_is P xs h.1)
+
+each_at : {A : Type 0} (P : A → Type 0) (xs : List A) (x : A) → Each P xs → Contains xs x → P x
+each_at P xs x h c = All-contains P xs x (each_is P xs h) c
+
+-- ---- what is found has the name
+
+exact_listed : (name : List ℕ) → When (Lists exact_names name) (or_else (exact_instruction name) (or_else (found page_names name) (found control_names name)))
+unfolding exact_names exact_instruction
+exact_listed name =
+    either (Lists exact_names name) _ _
+    (either (Lists exact_names name) _ _
+    (either (Lists exact_names name) _ _
+    (found_in plain_names exact_names name (λ a c. Contains-append_left (plain_names ++ frame_names ++ extend_names ++ string_names ++ page_names) control_names _ (Contains-append_left (plain_names ++ frame_names ++ extend_names ++ string_names) page_names _ (Contains-append_left (plain_names ++ frame_names ++ extend_names) string_names _ (Contains-append_left (plain_names ++ frame_names) extend_names _ (Contains-append_left plain_names frame_names _ c))))))
+    (found_in frame_names exact_names name (λ a c. Contains-append_left (plain_names ++ frame_names ++ extend_names ++ string_names ++ page_names) control_names _ (Contains-append_left (plain_names ++ frame_names ++ extend_names ++ string_names) page_names _ (Contains-append_left (plain_names ++ frame_names ++ extend_names) string_names _ (Contains-append_left (plain_names ++ frame_names) extend_names _ (Contains-append_right plain_names frame_names _ c)))))))
+    (either (Lists exact_names name) _ _
+    (found_in extend_names exact_names name (λ a c. Contains-append_left (plain_names ++ frame_names ++ extend_names ++ string_names ++ page_names) control_names _ (Contains-append_left (plain_names ++ frame_names ++ extend_names ++ string_names) page_names _ (Contains-append_left (plain_names ++ frame_names ++ extend_names) string_names _ (Contains-append_right (plain_names ++ frame_names) extend_names _ c)))))
+    (found_in string_names exact_names name (λ a c. Contains-append_left (plain_names ++ frame_names ++ extend_names ++ string_names ++ page_names) control_names _ (Contains-append_left (plain_names ++ frame_names ++ extend_names ++ string_names) page_names _ (Contains-append_right (plain_names ++ frame_names ++ extend_names) string_names _ c))))))
+    (either (Lists exact_names name) _ _
+    (found_in page_names exact_names name (λ a c. Contains-append_left (plain_names ++ frame_names ++ extend_names ++ string_names ++ page_names) control_names _ (Contains-append_right (plain_names ++ frame_names ++ extend_names ++ string_names) page_names _ c)))
+    (found_in control_names exact_names name (λ a c. Contains-append_right (plain_names ++ frame_names ++ extend_names ++ string_names ++ page_names) control_names _ c)))
+
+sized_listed : (name : List ℕ) → When (Lists sized_names name) (sized_name name)
+unfolding sized_names sized_name
+sized_listed name =
+    either (Lists sized_names name) _ _
+    (either (Lists sized_names name) _ _
+    (either (Lists sized_names name) _ _
+    (found_in two_operand_names sized_names name (λ a c. Contains-append_left (two_operand_names ++ one_operand_names ++ shift_names ++ move_names ++ stack_names ++ branch_names) system_names _ (Contains-append_left (two_operand_names ++ one_operand_names ++ shift_names ++ move_names ++ stack_names) branch_names _ (Contains-append_left (two_operand_names ++ one_operand_names ++ shift_names ++ move_names) stack_names _ (Contains-append_left (two_operand_names ++ one_operand_names ++ shift_names) move_names _ (Contains-append_left (two_operand_names ++ one_operand_names) shift_names _ (Contains-append_left two_operand_names one_operand_names _ c)))))))
+    (found_in one_operand_names sized_names name (λ a c. Contains-append_left (two_operand_names ++ one_operand_names ++ shift_names ++ move_names ++ stack_names ++ branch_names) system_names _ (Contains-append_left (two_operand_names ++ one_operand_names ++ shift_names ++ move_names ++ stack_names) branch_names _ (Contains-append_left (two_operand_names ++ one_operand_names ++ shift_names ++ move_names) stack_names _ (Contains-append_left (two_operand_names ++ one_operand_names ++ shift_names) move_names _ (Contains-append_left (two_operand_names ++ one_operand_names) shift_names _ (Contains-append_right two_operand_names one_operand_names _ c))))))))
+    (either (Lists sized_names name) _ _
+    (found_in shift_names sized_names name (λ a c. Contains-append_left (two_operand_names ++ one_operand_names ++ shift_names ++ move_names ++ stack_names ++ branch_names) system_names _ (Contains-append_left (two_operand_names ++ one_operand_names ++ shift_names ++ move_names ++ stack_names) branch_names _ (Contains-append_left (two_operand_names ++ one_operand_names ++ shift_names ++ move_names) stack_names _ (Contains-append_left (two_operand_names ++ one_operand_names ++ shift_names) move_names _ (Contains-append_right (two_operand_names ++ one_operand_names) shift_names _ c))))))
+    (found_in move_names sized_names name (λ a c. Contains-append_left (two_operand_names ++ one_operand_names ++ shift_names ++ move_names ++ stack_names ++ branch_names) system_names _ (Contains-append_left (two_operand_names ++ one_operand_names ++ shift_names ++ move_names ++ stack_names) branch_names _ (Contains-append_left (two_operand_names ++ one_operand_names ++ shift_names ++ move_names) stack_names _ (Contains-append_right (two_operand_names ++ one_operand_names ++ shift_names) move_names _ c)))))))
+    (either (Lists sized_names name) _ _
+    (either (Lists sized_names name) _ _
+    (found_in stack_names sized_names name (λ a c. Contains-append_left (two_operand_names ++ one_operand_names ++ shift_names ++ move_names ++ stack_names ++ branch_names) system_names _ (Contains-append_left (two_operand_names ++ one_operand_names ++ shift_names ++ move_names ++ stack_names) branch_names _ (Contains-append_right (two_operand_names ++ one_operand_names ++ shift_names ++ move_names) stack_names _ c))))
+    (found_in branch_names sized_names name (λ a c. Contains-append_left (two_operand_names ++ one_operand_names ++ shift_names ++ move_names ++ stack_names ++ branch_names) system_names _ (Contains-append_right (two_operand_names ++ one_operand_names ++ shift_names ++ move_names ++ stack_names) branch_names _ c))))
+    (found_in system_names sized_names name (λ a c. Contains-append_right (two_operand_names ++ one_operand_names ++ shift_names ++ move_names ++ stack_names ++ branch_names) system_names _ c)))
+
+condition_listed : (name : List ℕ) → When (Lists conditions name) (condition name)
+unfolding conditions condition
+condition_listed name =
+    either (Lists conditions name) _ _
+    (found_in lower_conditions conditions name (λ a c. Contains-append_left lower_conditions upper_conditions _ c))
+    (found_in upper_conditions conditions name (λ a c. Contains-append_right lower_conditions upper_conditions _ c))
+
+-- the name means an instruction of this family, without a suffix
+abbrev IsBare : List ℕ → Family → Type 0
+IsBare name f = IsName name (record { family = f; suffix = None })
+
+jump_named : (name rest : List ℕ) → name ≡ 106 ∷ rest → When (IsBare name) (jump_name rest)
+jump_named name rest e = bind_from (Lists conditions rest) (IsBare name) (condition rest) _ (condition_listed rest) (λ c h. IsName.jump rest e h)
+
+set_named : (name rest : List ℕ) → name ≡ 115 ∷ 101 ∷ 116 ∷ rest → When (IsBare name) (set_name rest)
+set_named name rest e = bind_from (Lists conditions rest) (IsBare name) (condition rest) _ (condition_listed rest) (λ c h. IsName.set rest e h)
+
+begins_with_set : (s e t : ℕ) (rest : List ℕ) → ((s == 115) && (e == 101) && (t == 116)) ≡ true → s ∷ e ∷ t ∷ rest ≡ 115 ∷ 101 ∷ 116 ∷ rest
+begins_with_set s e t rest h =
+    let p = both ((s == 115) && (e == 101)) (t == 116) h in
+    let q = both (s == 115) (e == 101) p.0 in
+    let first = eqb-true s 115 q.0 in
+    let second = eqb-true e 101 q.1 in
+    let third = eqb-true t 116 p.1 in
+    rw (first, second, third) refl
+
+behind_named : (name : List ℕ) → When (IsBare name) (behind_set name)
+behind_named [] = tt
+behind_named (s ∷ []) = tt
+behind_named (s ∷ e ∷ []) = tt
+behind_named (s ∷ e ∷ t ∷ rest) =
+    chosen_by (IsBare (s ∷ e ∷ t ∷ rest)) ((s == 115) && (e == 101) && (t == 116)) (set_name rest) None
+    (λ h. set_named (s ∷ e ∷ t ∷ rest) rest (begins_with_set s e t rest h)) tt
+
+conditional_named : (name : List ℕ) → When (IsBare name) (conditional_name name)
+unfolding conditional_name
+conditional_named [] = tt
+conditional_named (c ∷ rest) =
+    chosen_by (IsBare (c ∷ rest)) (c == 106) (jump_name rest) (behind_set (c ∷ rest))
+    (λ h. jump_named (c ∷ rest) rest (ap (λ (n : ℕ). n ∷ rest) (eqb-true c 106 h))) (behind_named (c ∷ rest))
+
+-- in either order of the bindings
+regroup : {A : Type 0} (R : A → Type 0) (x y z : Option A) → When R (or_else x y) → When R z → When R (or_else x (or_else y z))
+regroup R (Some a) y z p q = p
+regroup R None (Some b) z p q = p
+regroup R None None z p q = q
+
+exact_named : (name : List ℕ) → When (IsBare name) (exact_name name)
+unfolding exact_name
+exact_named name =
+    regroup (IsBare name) (exact_instruction name) (or_else (found page_names name) (found control_names name)) (conditional_name name)
+    (weaken (Lists exact_names name) (IsBare name) _ (λ f c. IsName.exact c) (exact_listed name))
+    (conditional_named name)
+
+sized_named : (name : List ℕ) → When (IsBare name) (sized_name name)
+sized_named name = weaken (Lists sized_names name) (IsBare name) (sized_name name) (λ f c. IsName.sized c) (sized_listed name)
+
+suffix_listed : (letter : ℕ) → When (Lists suffixes (letter ∷ [])) (suffix letter)
+unfolding suffixes
+suffix_listed letter =
+    chosen_by (Lists suffixes (letter ∷ [])) (letter == 98) _ _ (λ h. (0, omega arith, ap (λ (n : ℕ). (n ∷ [], size.Byte)) (sym (eqb-true letter 98 h))))
+    (chosen_by (Lists suffixes (letter ∷ [])) (letter == 119) _ _ (λ h. (1, omega arith, ap (λ (n : ℕ). (n ∷ [], size.Word)) (sym (eqb-true letter 119 h))))
+    (chosen_by (Lists suffixes (letter ∷ [])) (letter == 108) _ _ (λ h. (2, omega arith, ap (λ (n : ℕ). (n ∷ [], size.Long)) (sym (eqb-true letter 108 h)))) tt))
+
+suffixed_named : (name front : List ℕ) (letter : ℕ) → name ≡ front ++ letter ∷ [] → When (IsName name) (suffixed front letter)
+unfolding suffixed
+suffixed_named name front letter e =
+    bind_from (Lists sized_names front) (IsName name) (sized_name front) _ (sized_listed front)
+    (λ f c. bind_from (Lists suffixes (letter ∷ [])) (IsName name) (suffix letter) _ (suffix_listed letter) (λ s d. IsName.suffixed front (letter ∷ []) e c d))
+
+last_apart : (name : List ℕ) (n : ℕ) → length name ≡ n + 1 → name ≡ take n name ++ slice_index name n ∷ []
+last_apart name n e = sym (take_all (n + 1) name (omega (arith, e))) ∙ take_more name n 0 (omega (arith, e))
+
+with_suffix_named : (name : List ℕ) → When (IsName name) (with_suffix name)
+unfolding with_suffix
+with_suffix_named [] = tt
+with_suffix_named (x ∷ rest) =
+    let name : List ℕ = x ∷ rest in
+    choice (IsName name) (length name == 0) None (suffixed (take (length name - 1) name) (slice_index name (length name - 1))) tt
+    (suffixed_named name (take (length name - 1) name) (slice_index name (length name - 1)) (last_apart name (length name - 1) (omega arith)))
+
+without_named : (name : List ℕ) (o : Option Family) (p : Option Mnemonic) → When (IsBare name) o → When (IsName name) p → When (IsName name) (without_suffix o p)
+without_named name (Some f) p h q = h
+without_named name None p h q = q
+
+known_when : (name : List ℕ) → When (IsName name) (known_name name)
+unfolding known_name
+known_when name = without_named name (or_else (exact_name name) (sized_name name)) (with_suffix name) (either (IsBare name) (exact_name name) (sized_name name) (exact_named name) (sized_named name)) (with_suffix_named name)
+
+pub known_named : (name : List ℕ) (m : Mnemonic) → known_name name ≡ Some m → IsName name m
+known_named name m e = subst (When (IsName name)) e (known_when name)
+
+-- ---- each name is found
+
+abbrev Known : List ℕ → Option Size → Family → Type 0
+Known name s f = known_name name ≡ Some (record { family = f; suffix = s })
+
+exact_known : Each (λ (e : List ℕ × Family). Known e.0 None e.1) exact_names
+unfolding exact_names known_name exact_name exact_instruction sized_name conditional_name condition with_suffix suffixed lower_conditions upper_conditions plain_names frame_names extend_names string_names page_names control_names two_operand_names one_operand_names shift_names move_names stack_names branch_names system_names
+exact_known = (refl, (refl, (refl, (refl, (refl, (refl, (refl, (refl, (refl, (refl, (refl, (refl, (refl, (refl, (refl, (refl, (refl, (refl, (refl, (refl, (refl, (refl, (refl, (refl, (refl, (refl, (refl, (refl, (refl, (refl, (refl, (refl, (refl, (refl, tt))))))))))))))))))))))))))))))))))
+
+jumps_known : Each (λ (e : List ℕ × ℕ). Known (codes "j" ++ e.0) None (family.Control (control.Conditional e.1))) conditions
+unfolding conditions known_name exact_name exact_instruction sized_name conditional_name condition with_suffix suffixed lower_conditions upper_conditions plain_names frame_names extend_names string_names page_names control_names two_operand_names one_operand_names shift_names move_names stack_names branch_names system_names
+jumps_known = (refl, (refl, (refl, (refl, (refl, (refl, (refl, (refl, (refl, (refl, (refl, (refl, (refl, (refl, (refl, (refl, (refl, (refl, (refl, (refl, (refl, (refl, (refl, (refl, (refl, (refl, (refl, (refl, (refl, (refl, tt))))))))))))))))))))))))))))))
+
+sets_known : Each (λ (e : List ℕ × ℕ). Known (codes "set" ++ e.0) None (family.Control (control.Set e.1))) conditions
+unfolding conditions known_name exact_name exact_instruction sized_name conditional_name condition with_suffix suffixed lower_conditions upper_conditions plain_names frame_names extend_names string_names page_names control_names two_operand_names one_operand_names shift_names move_names stack_names branch_names system_names
+sets_known = (refl, (refl, (refl, (refl, (refl, (refl, (refl, (refl, (refl, (refl, (refl, (refl, (refl, (refl, (refl, (refl, (refl, (refl, (refl, (refl, (refl, (refl, (refl, (refl, (refl, (refl, (refl, (refl, (refl, (refl, tt))))))))))))))))))))))))))))))
+
+sized_known : Each (λ (e : List ℕ × Family). Known e.0 None e.1) sized_names
+unfolding sized_names known_name exact_name exact_instruction sized_name conditional_name condition with_suffix suffixed lower_conditions upper_conditions plain_names frame_names extend_names string_names page_names control_names two_operand_names one_operand_names shift_names move_names stack_names branch_names system_names
+sized_known = (refl, (refl, (refl, (refl, (refl, (refl, (refl, (refl, (refl, (refl, (refl, (refl, (refl, (refl, (refl, (refl, (refl, (refl, (refl, (refl, (refl, (refl, (refl, (refl, (refl, (refl, (refl, (refl, (refl, (refl, (refl, (refl, (refl, (refl, (refl, (refl, (refl, tt)))))))))))))))))))))))))))))))))))))
+
+bytes_known : Each (λ (e : List ℕ × Family). Known (e.0 ++ codes "b") (Some size.Byte) e.1) sized_names
+unfolding sized_names known_name exact_name exact_instruction sized_name conditional_name condition with_suffix suffixed lower_conditions upper_conditions plain_names frame_names extend_names string_names page_names control_names two_operand_names one_operand_names shift_names move_names stack_names branch_names system_names
+bytes_known = (refl, (refl, (refl, (refl, (refl, (refl, (refl, (refl, (refl, (refl, (refl, (refl, (refl, (refl, (refl, (refl, (refl, (refl, (refl, (refl, (refl, (refl, (refl, (refl, (refl, (refl, (refl, (refl, (refl, (refl, (refl, (refl, (refl, (refl, (refl, (refl, (refl, tt)))))))))))))))))))))))))))))))))))))
+
+words_known : Each (λ (e : List ℕ × Family). Known (e.0 ++ codes "w") (Some size.Word) e.1) sized_names
+unfolding sized_names known_name exact_name exact_instruction sized_name conditional_name condition with_suffix suffixed lower_conditions upper_conditions plain_names frame_names extend_names string_names page_names control_names two_operand_names one_operand_names shift_names move_names stack_names branch_names system_names
+words_known = (refl, (refl, (refl, (refl, (refl, (refl, (refl, (refl, (refl, (refl, (refl, (refl, (refl, (refl, (refl, (refl, (refl, (refl, (refl, (refl, (refl, (refl, (refl, (refl, (refl, (refl, (refl, (refl, (refl, (refl, (refl, (refl, (refl, (refl, (refl, (refl, (refl, tt)))))))))))))))))))))))))))))))))))))
+
+longs_known : Each (λ (e : List ℕ × Family). Known (e.0 ++ codes "l") (Some size.Long) e.1) sized_names
+unfolding sized_names known_name exact_name exact_instruction sized_name conditional_name condition with_suffix suffixed lower_conditions upper_conditions plain_names frame_names extend_names string_names page_names control_names two_operand_names one_operand_names shift_names move_names stack_names branch_names system_names
+longs_known = (refl, (refl, (refl, (refl, (refl, (refl, (refl, (refl, (refl, (refl, (refl, (refl, (refl, (refl, (refl, (refl, (refl, (refl, (refl, (refl, (refl, (refl, (refl, (refl, (refl, (refl, (refl, (refl, (refl, (refl, (refl, (refl, (refl, (refl, (refl, (refl, (refl, tt)))))))))))))))))))))))))))))))))))))
+
+abbrev AllKnown : List ℕ × Size → Type 0
+AllKnown s = All (λ (e : List ℕ × Family). Known (e.0 ++ s.0) (Some s.1) e.1) sized_names
+
+suffixed_known : Each AllKnown suffixes
+unfolding suffixes
+suffixed_known = (each_is _ sized_names bytes_known, (each_is _ sized_names words_known, (each_is _ sized_names longs_known, tt)))
+
+pub named_known : (name : List ℕ) (m : Mnemonic) → IsName name m → known_name name ≡ Some m
+named_known name m (IsName.exact {f} c) = each_at (λ (e : List ℕ × Family). Known e.0 None e.1) exact_names (name, f) exact_known c
+named_known name m (IsName.jump {c} test e h) = ap known_name e ∙ each_at (λ (x : List ℕ × ℕ). Known (codes "j" ++ x.0) None (family.Control (control.Conditional x.1))) conditions (test, c) jumps_known h
+named_known name m (IsName.set {c} test e h) = ap known_name e ∙ each_at (λ (x : List ℕ × ℕ). Known (codes "set" ++ x.0) None (family.Control (control.Set x.1))) conditions (test, c) sets_known h
+named_known name m (IsName.sized {f} c) = each_at (λ (e : List ℕ × Family). Known e.0 None e.1) sized_names (name, f) sized_known c
+named_known name m (IsName.suffixed {f} {s} front letter e c d) =
+    ap known_name e ∙ All-contains (λ (x : List ℕ × Family). Known (x.0 ++ letter) (Some s) x.1) sized_names (front, f) (each_at AllKnown suffixes (letter, s) suffixed_known d) c
+
+-- ---- the names that are refused
+
+refused_are_found : Each (λ (e : List ℕ × Refused). found refused_names e.0 ≡ Some e.1) refused_names
+unfolding refused_names
+refused_are_found = (refl, (refl, (refl, (refl, (refl, (refl, (refl, (refl, (refl, (refl, (refl, (refl, (refl, (refl, (refl, (refl, tt))))))))))))))))
+
+refused_are_unknown : Each (λ (e : List ℕ × Refused). known_name e.0 ≡ None) refused_names
+unfolding refused_names known_name exact_name exact_instruction sized_name conditional_name condition with_suffix suffixed lower_conditions upper_conditions plain_names frame_names extend_names string_names page_names control_names two_operand_names one_operand_names shift_names move_names stack_names branch_names system_names
+refused_are_unknown = (refl, (refl, (refl, (refl, (refl, (refl, (refl, (refl, (refl, (refl, (refl, (refl, (refl, (refl, (refl, (refl, tt))))))))))))))))
+
+pub refused_found : (name : List ℕ) (h : IsRefused name) → found refused_names name ≡ Some h.0
+refused_found name h = each_at (λ (e : List ℕ × Refused). found refused_names e.0 ≡ Some e.1) refused_names (name, h.0) refused_are_found h.1
+
+pub refused_unknown : (name : List ℕ) → IsRefused name → known_name name ≡ None
+refused_unknown name h = each_at (λ (e : List ℕ × Refused). known_name e.0 ≡ None) refused_names (name, h.0) refused_are_unknown h.1
+
+pub found_refused : (name : List ℕ) (r : Refused) → found refused_names name ≡ Some r → IsRefused name
+found_refused name r e = (r, subst (When (Lists refused_names name)) e (found_listed refused_names name))
+
+pub not_both : (name : List ℕ) (m : Mnemonic) → IsRefused name → IsName name m → ⊥
+not_both name m h n = let none : None ≡ Some m = sym (refused_unknown name h) ∙ named_known name m n in cc
