@@ -142,7 +142,12 @@ fn work(
 
 /// Does the instruction at EIP, or exits before it.
 #[tactic(auto, unfolding(crate::specs::HostStep::host_step))]
-pub fn host_step(walks: &mut Walks, ram: &mut Ram, view: &View, regs: &Regs) -> Result<Completion, Exit>
+pub fn host_step(
+    walks: &mut Walks,
+    ram: &mut Ram,
+    view: &View,
+    regs: &Regs,
+) -> Result<Completion, Exit>
     requires root { 4096 * view.now.root < length ram.old }
     requires kept { AreKept walks.old ram.old view.now.root }
     ensures gives { Gives result ram.old ram.new (host_step view.now ram.old regs.now) }

@@ -27,8 +27,12 @@ use Rattle.pv_tool.specs.Outside.{Outside}
 use Rattle.pv_tool.specs.Outcome.{Outcome, HostedRun, refused, ended, ended_on_host, status_of}
 use Rattle.pv_tool.specs.Delivery.{Says, Whole, Cut}
 use Rattle.pv_tool.specs.Checking.{HasImage}
-use Rattle.pv_tool.specs.Running.{HasScript, NoRun, NoImage, NoScript, RunsBare, RunsPatched, RunsOn, Ran, Small, RunsScript, RunsImage, Runs, ToldAs, RanAs}
-use Rattle.pv_tool.specs.Meaning.{Means, Gives, IsStored}
+use Rattle.pv_tool.specs.Running.{HasScript, NoRun, NoImage, NoScript, RunsBare, RunsPatched, RunsOn, Ran, Small, RunsScript, RunsImage, Runs, FindsRun, AnswersOn, ToldAs, RanAs}
+use Rattle.pv_tool.specs.Meaning.{Means, Gives, Finds, IsStored}
+use Rattle.pv_tool.specs.View.{run_command}
+use Rattle.pv_tool.specs.declared.words.RunWords.{RunWords}
+use Rattle.pv_tool.specs.declared.run.RunMode.{RunMode}
+use Rattle.pv_tool.specs.declared.run.RunMode.TheVariants as mode
 use Rattle.pv_tool.specs.declared.status.Status.{Status}
 use Rattle.pv_tool.specs.declared.status.Status.TheVariants as status
 use Rattle.pv_tool.proofs.Deliveries.{IsEnd, says, idle}
@@ -63,7 +67,7 @@ too_small ran image frames old new before now c c2 memory small st lt is none sa
     )
 
 -- what the bare machine answered was told
-pub ran_bare : (image : Image) (events : Events) (frames n : ℕ) (old mid new : Option (List ℕ)) (before middle now : ℕ) (r : Result Ended RunFault) (c : Counts) (memory : List ℕ) (st : Status)
+ran_bare : (image : Image) (events : Events) (frames n : ℕ) (old mid new : Option (List ℕ)) (before middle now : ℕ) (r : Result Ended RunFault) (c : Counts) (memory : List ℕ) (st : Status)
     → RunAnswers image events frames n old mid before middle r → ToldAs r mid new middle now st
     → RanAs (RunsOn (RunsBare frames n image events) image frames) old new before now c c memory st
 ran_bare image events frames n old mid new before middle now (Ok e) c memory st h told =
@@ -96,7 +100,7 @@ pub text_at : (reports : List Report) (text : List ℕ) (count last : ℕ) (end 
 text_at reports text count last end is same = is ∙ ap (λ (n : ℕ). text_of (trace_of reports) n end) same
 
 -- what was answered of a patched run was told
-pub ran_patched : (image : Image) (events : Events) (frames n : ℕ) (old mid new : Option (List ℕ)) (before middle now : ℕ) (r : Result Ended RunFault) (c c2 : Counts) (memory : List ℕ) (st : Status)
+ran_patched : (image : Image) (events : Events) (frames n : ℕ) (old mid new : Option (List ℕ)) (before middle now : ℕ) (r : Result Ended RunFault) (c c2 : Counts) (memory : List ℕ) (st : Status)
     → WedgeAnswers image events frames n 512 old mid before middle c c2 memory r → ToldAs r mid new middle now st
     → RanAs (RunsOn (RunsPatched frames n image events) image frames) old new before now c c2 memory st
 ran_patched image events frames n old mid new before middle now (Ok e) c c2 memory st h told =
@@ -122,6 +126,21 @@ ran_patched image events frames n old mid new before middle now (Err (fault.TooS
     (says_from (small_line small.need small.have) old mid new before middle now st h.2 h.3 said)
 ran_patched image events frames n old mid new before middle now (Err (fault.TooSmall small)) c c2 memory st h (inr none) = inr (none.0, none.1 ∙ h.2, h.4)
 ran_patched image events frames n old mid new before middle now (Err fault.Memory) c c2 memory st h told = inr (told.0, told.1 ∙ h.0, h.2)
+
+-- what runs come to on a machine
+abbrev pub runs_of : RunMode → ℕ → ℕ → Image → Events → Outcome → Type 0
+runs_of mode.Bare frames n image events w = RunsBare frames n image events w
+runs_of mode.Wedge frames n image events w = RunsPatched frames n image events w
+
+-- what was answered on a machine was told
+pub ran_on : (on : RunMode) (image : Image) (events : Events) (frames n : ℕ) (old mid new : Option (List ℕ)) (before middle now : ℕ) (r : Result Ended RunFault) (c c2 : Counts) (memory : List ℕ) (st : Status)
+    → AnswersOn on frames n image events old mid before middle c c2 memory r → ToldAs r mid new middle now st
+    → RanAs (RunsOn (runs_of on frames n image events) image frames) old new before now c c2 memory st
+ran_on mode.Bare image events frames n old mid new before middle now r c c2 memory st h told =
+    subst (λ (x : Counts). RanAs (RunsOn (RunsBare frames n image events) image frames) old new before now c x memory st) (sym h.1)
+    (ran_bare image events frames n old mid new before middle now r c memory st h.0 told)
+ran_on mode.Wedge image events frames n old mid new before middle now r c c2 memory st h told =
+    ran_patched image events frames n old mid new before middle now r c c2 memory st h told
 
 -- ---- what runs come to
 
@@ -188,3 +207,18 @@ run_means command runs image script frames o st i s are gives has has_script sam
     (subst (λ (x : Option (List ℕ × List ℕ)). IsStored x o.files o.files_after) (sym (runs_none runs i s frames w are h)) same) does said
 run_means command runs image script frames o st i s are gives has has_script same (inr (is, none, still)) =
     subst (λ (x : Status). Means command o x) (sym is) (same, none, idle command o still)
+
+-- ---- the command of a run
+
+pub ends_of : (on : RunMode) (frames n : ℕ) → AreEnds (runs_of on frames n)
+ends_of mode.Bare frames n = bare_ends frames n
+ends_of mode.Wedge frames n = patched_ends frames n
+
+pub gives_run : (on : RunMode) (words : RunWords) (files : Option FileMap) (w : Outcome) → Runs (runs_of on words.frames words.n) words.frames files words.image.now words.script.now w
+    → Gives (run_command on words) files w
+gives_run mode.Bare words files w h = h
+gives_run mode.Wedge words files w h = h
+
+pub finds_run : (on : RunMode) (words : RunWords) (files : Option FileMap) → Finds (run_command on words) files → FindsRun files words.image.now words.script.now
+finds_run mode.Bare words files h = h
+finds_run mode.Wedge words files h = h

@@ -16,13 +16,15 @@ use Rattle.machine_model.specs.State.{State, boot, wedge}
 use Rattle.machine_model.specs.Step.{Report}
 use Rattle.machine_model.specs.Run.{Set, Run}
 use Rattle.machine_model.specs.Keeping.{Kept}
-use Rattle.bare_machine.specs.Answers.{HasRun}
+use Rattle.bare_machine.specs.Answers.{HasRun, RunAnswers}
 use Rattle.wedge_core.specs.Slices.{Counts, CountsOn}
-use Rattle.wedge_core.specs.Promises.{HasMemory}
+use Rattle.wedge_core.specs.Promises.{HasMemory, WedgeAnswers}
 use Rattle.pv_tool.specs.Lines.{image_line, script_line, small_line}
 use Rattle.pv_tool.specs.Outcome.{Outcome, HostedRun, refused, ended, ended_on_host, status_of}
 use Rattle.pv_tool.specs.Delivery.{Says}
 use Rattle.pv_tool.specs.Checking.{HasImage, HasNoImage}
+use Rattle.pv_tool.specs.declared.run.RunMode.{RunMode}
+use Rattle.pv_tool.specs.declared.run.RunMode.TheVariants as mode
 use Rattle.pv_tool.specs.declared.status.Status.{Status}
 use Rattle.pv_tool.specs.declared.status.Status.TheVariants as status
 
@@ -83,6 +85,13 @@ Runs runs frames files image script w = (file : List ℕ) × Holds files image f
 abbrev pub HostDid : Option HostedRun → Counts → Counts → List ℕ → Type 0
 HostDid None completed completed2 memory2 = completed2 ≡ completed
 HostDid (Some r) completed completed2 memory2 = CountsOn r.setting r.reports completed completed2 × HasMemory r.setting r.last r.end memory2 × Kept r.setting (boot r.setting) r.sets
+
+-- what the run of an image answers: on the bare machine the host does nothing
+abbrev pub AnswersOn : RunMode → ℕ → ℕ → Image → Events → Option (List ℕ) → Option (List ℕ) → ℕ → ℕ → Counts → Counts → List ℕ → Result Ended RunFault → Type 0
+AnswersOn mode.Bare frames n image events old new before now completed completed2 memory2 result =
+    RunAnswers image events frames n old new before now result × (completed2 ≡ completed)
+AnswersOn mode.Wedge frames n image events old new before now completed completed2 memory2 result =
+    WedgeAnswers image events frames n 512 old new before now completed completed2 memory2 result
 
 -- How a run's answer is told: its text was put before, or a refusal's line is, unless no memory is found for it.
 abbrev pub ToldAs : Result Ended RunFault → Option (List ℕ) → Option (List ℕ) → ℕ → ℕ → Status → Type 0

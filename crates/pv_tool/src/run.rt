@@ -1,54 +1,61 @@
-//! The command `run` on the bare machine.
+//! The command `run`, on the bare machine or of a patched image on a host.
 
 ghost use Rattle.std.specs.Prelude.{◌≡◌, ◌≤◌, ◌^◌, true, ℕ, List, IfOk, IfErr};
 ghost use Rattle.pv_io.specs.Files.{IsHeld};
 ghost use Rattle.board.specs.Scripts.{is_script};
 ghost use Rattle.board.specs.declared.fault.ScriptCause.{ScriptCause};
-ghost use Rattle.wedge_core.specs.Slices.{Counts as HostCounts};
-ghost use Rattle.pv_tool.specs.Words.{RunBare};
-ghost use Rattle.pv_tool.specs.View.{AreWithin};
+ghost use Rattle.pv_tool.specs.View.{AreWithin, run_command};
 ghost use Rattle.pv_tool.specs.Lines.{script_line};
-ghost use Rattle.pv_tool.specs.Outside.{beside, OnlyRead};
+ghost use Rattle.pv_tool.specs.Outside.{outside, completed_by, OnlyRead};
 ghost use Rattle.pv_tool.specs.Delivery.{HaltsSo};
 ghost use Rattle.pv_tool.specs.Checking.{HasImage};
-ghost use Rattle.pv_tool.specs.Running.{HasScript, HasNoScript, NoRun, FindsRun, RunsOn, RunsBare, RanAs, ToldAs};
+ghost use Rattle.pv_tool.specs.Running.{HasScript, HasNoScript, NoRun, FindsRun, AnswersOn, ToldAs};
 ghost use Rattle.pv_tool.specs.Meaning.{Means, Counts};
 
 use crate::check::accepted;
 use crate::delivery::{end, load, print, refused};
 use crate::halt::Halt;
 use crate::lines::{line_line, number_of_script, small_line};
+use crate::patched::patched_run;
 use crate::status::Status;
 use crate::words::RunWords;
 use bare_machine::run_bare;
 use board::{Script, ScriptFault, read_script};
+use host_cpl3::Host;
 use image_check::Checked;
 use image_load::RunFault;
 use pv_io::{Files, Sink};
 use run_trace::{End, Ended};
 use std::alloc::Global;
 
-/// Runs an image under a script on the bare machine, and prints its trace.
-pub fn run<F: Files, S: Sink>(
+/// On which machine an image is run: the bare one, or a host, which runs its patched text.
+#[derive(Clone, Copy)]
+pub enum RunMode {
+    Bare,
+    Wedge,
+}
+
+/// Runs an image under a script, and prints its trace.
+pub fn run<F: Files, S: Sink, H: Host>(
     alloc: Global,
+    mode: RunMode,
     words: RunWords<'_>,
     files: &mut F,
     out: &mut S,
+    host: &mut H,
 ) -> Status
-    requires { AreWithin words }
-    ensures meaning { (completed : HostCounts) (memory : List ℕ) → Means (RunBare words.entry.image.now words.entry.script.now words.entry.frames words.entry.n) (beside F.Files S.Sink files.old files.new out.old out.new completed memory) result }
-    ensures counts { (completed : HostCounts) (memory : List ℕ) → Counts (RunBare words.entry.image.now words.entry.script.now words.entry.frames words.entry.n) (beside F.Files S.Sink files.old files.new out.old out.new completed memory) }
+    requires within { AreWithin words }
+    requires room { H.retired host.old ≤ 2 ^ 63 }
+    ensures meaning { Means (run_command mode words.entry) (outside F.Files S.Sink H.Host files.old files.new out.old out.new host.old host.new) result }
+    ensures counts { Counts (run_command mode words.entry) (outside F.Files S.Sink H.Host files.old files.new out.old out.new host.old host.new) }
+    ensures host { mode ≡ RunMode.Bare → host.new ≡ host.old }
 {
     match found(alloc, words.image, words.script, files) {
         Err(halt) => end(&halt, out),
-        Ok(found) => run_it(
-            alloc,
-            &found.image,
-            &found.script,
-            words.frames,
-            words.n,
-            out,
-        ),
+        Ok(found) => {
+            let ran = run_found(alloc, mode, &found, words.frames, words.n, host, out);
+            told(alloc, ran, out)
+        }
     }
 }
 
@@ -94,21 +101,26 @@ fn scripted<F: Files>(alloc: Global, name: &str, files: &mut F) -> Result<Script
     }
 }
 
-// Runs the image on the bare machine, and answers how the run ended.
-fn run_it<S: Sink>(
+// Runs what was found, and answers how the run ended.
+fn run_found<S: Sink, H: Host>(
     alloc: Global,
-    image: &Checked,
-    events: &Script,
+    mode: RunMode,
+    found: &Runnable,
     frames: u32,
     n: u64,
+    host: &mut H,
     out: &mut S,
-) -> Status
-    requires script { is_script events.now.list ≡ true }
+) -> Result<Ended, RunFault>
+    requires script { is_script found.now.script.list ≡ true }
     requires limits { (2048 ≤ frames) × (frames ≤ 16384) × (n ≤ 2 ^ 40) }
-    ensures { (completed : HostCounts) (memory : List ℕ) → RanAs (RunsOn (RunsBare frames n image.now events.now.list) image.now frames) (S.taken out.old) (S.taken out.new) (S.faults out.old) (S.faults out.new) completed completed memory result }
+    requires room { H.retired host.old ≤ 2 ^ 63 }
+    ensures answers { AnswersOn mode frames n found.now.image found.now.script.list (S.taken out.old) (S.taken out.new) (S.faults out.old) (S.faults out.new) (completed_by H.Host host.old) (completed_by H.Host host.new) (H.bytes host.new) result }
+    ensures host { mode ≡ RunMode.Bare → host.new ≡ host.old }
 {
-    let ran = run_bare(alloc, image, events, frames, n, out);
-    told(alloc, ran, out)
+    match mode {
+        RunMode::Bare => run_bare(alloc, &found.image, &found.script, frames, n, out),
+        RunMode::Wedge => patched_run(alloc, &found.image, &found.script, frames, n, host, out),
+    }
 }
 
 /// The status of a run that has put its text. The line of a refusal is printed.

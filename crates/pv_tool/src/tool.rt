@@ -29,8 +29,7 @@ ghost use Rattle.kernel_gen.specs.Kernels.{kernel_text};
 use crate::burn::burn;
 use crate::check::check;
 use crate::link::link;
-use crate::patched::run_patched;
-use crate::run::run;
+use crate::run::{RunMode, run};
 use crate::status::Status;
 use crate::words::{CommandWords, form};
 use crate::work::work;
@@ -161,8 +160,8 @@ fn do_command<F: Files, S: Sink, H: Host>(
         CommandWords::Burn { source, object } => burn(alloc, source, object, files, out),
         CommandWords::Link { image, objects } => link(alloc, image, objects, files, out),
         CommandWords::Check(image) => check(alloc, image, files, out),
-        CommandWords::RunBare(words) => run(alloc, words, files, out),
-        CommandWords::RunWedge(words) => run_patched(alloc, words, files, out, host),
+        CommandWords::RunBare(words) => run(alloc, RunMode::Bare, words, files, out, host),
+        CommandWords::RunWedge(words) => run(alloc, RunMode::Wedge, words, files, out, host),
         CommandWords::Work(number) => work(alloc, number, out, host),
     }
 }

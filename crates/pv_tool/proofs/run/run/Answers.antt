@@ -1,29 +1,39 @@
 use Rattle.std.proofs.Common.{refl}
-use Rattle.pv_tool.specs.Words.{RunBare}
-use Rattle.pv_tool.specs.Running.{RunsBare}
-use Rattle.pv_tool.proofs.Deliveries.{halts, counts_read}
-use Rattle.pv_tool.proofs.RunMeanings.{bare_ends, no_run, run_means}
+use Rattle.pv_tool.specs.Meaning.{Finds}
+use Rattle.pv_tool.specs.Outcome.{refused}
+use Rattle.pv_tool.specs.Running.{FindsRun}
+use Rattle.pv_tool.specs.View.{run_command}
+use Rattle.pv_tool.proofs.Deliveries.{halts, counts_host, read_for}
+use Rattle.pv_tool.proofs.RunMeanings.{runs_of, ran_on, ends_of, gives_run, finds_run, no_run, run_means}
 use Rattle.pv_tool.proofs.run.run.Goals as goal
 
 pub returns-in-Err-clause-meaning : goal.returns-in-Err-clause-meaning
-returns-in-Err-clause-meaning g c = λ completed memory.
+returns-in-Err-clause-meaning g c =
     let words = c.args.words in
-    halts _ _ (RunBare words.image.now words.script.now words.frames words.n) _ c.end.result c.in-Err.halt
-    (λ line none. no_run (RunsBare words.frames words.n) _ words.image.now words.script.now words.frames line none) (λ held. held) c.in-Err.ensures.read.held
+    let held = g.F.Files.held c.args.files.now in
+    halts _ _ (run_command c.args.mode words) _ c.end.result c.in-Err.halt
+    (λ line none. gives_run c.args.mode words held (refused line) (no_run (runs_of c.args.mode words.frames words.n) held words.image.now words.script.now words.frames line none))
+    (finds_run c.args.mode words held) c.in-Err.ensures.read.held
     refl c.in-Err.ensures.halted c.end.ensures
 
 pub returns-in-Ok-clause-meaning : goal.returns-in-Ok-clause-meaning
-returns-in-Ok-clause-meaning g c = λ completed memory.
+returns-in-Ok-clause-meaning g c =
     let words = c.args.words in
-    run_means (RunBare words.image.now words.script.now words.frames words.n) (RunsBare words.frames words.n) words.image.now words.script.now words.frames _ c.run_it.result
-    c.in-Ok.found.image c.in-Ok.found.script.list (bare_ends words.frames words.n) (λ w runs. runs) c.in-Ok.ensures.image c.in-Ok.ensures.script c.in-Ok.ensures.read.held (c.run_it.ensures completed memory)
+    let found = c.in-Ok.found in
+    run_means (run_command c.args.mode words) (runs_of c.args.mode words.frames words.n) words.image.now words.script.now words.frames _ c.told.result
+    found.image found.script.list (ends_of c.args.mode words.frames words.n) (gives_run c.args.mode words (g.F.Files.held c.args.files.now)) c.in-Ok.ensures.image c.in-Ok.ensures.script c.in-Ok.ensures.read.held
+    (ran_on c.args.mode found.image found.script.list words.frames words.n _ _ _ _ _ _ c.run_found-ran.result _ _ _ c.told.result c.run_found-ran.ensures.answers c.told.ensures)
 
 pub returns-in-Err-clause-counts : goal.returns-in-Err-clause-counts
-returns-in-Err-clause-counts g c = λ completed memory.
-    counts_read g.F.Files g.S.Sink (RunBare c.args.words.image.now c.args.words.script.now c.args.words.frames c.args.words.n) c.args.files.now c.found.new.files c.args.out.now c.end.new.out completed memory
-    c.in-Err.ensures.read
+returns-in-Err-clause-counts g c =
+    let words = c.args.words in
+    let held = g.F.Files.held c.args.files.now in
+    counts_host g.F.Files g.S.Sink g.H.Host (run_command c.args.mode words) c.args.files.now c.found.new.files c.args.out.now c.end.new.out c.args.host.now c.args.host.now
+    (read_for g.F.Files (Finds (run_command c.args.mode words) held) (FindsRun held words.image.now words.script.now) c.args.files.now c.found.new.files c.in-Err.ensures.read (finds_run c.args.mode words held))
 
 pub returns-in-Ok-clause-counts : goal.returns-in-Ok-clause-counts
-returns-in-Ok-clause-counts g c = λ completed memory.
-    counts_read g.F.Files g.S.Sink (RunBare c.args.words.image.now c.args.words.script.now c.args.words.frames c.args.words.n) c.args.files.now c.found.new.files c.args.out.now c.run_it.new.out completed memory
-    c.in-Ok.ensures.read
+returns-in-Ok-clause-counts g c =
+    let words = c.args.words in
+    let held = g.F.Files.held c.args.files.now in
+    counts_host g.F.Files g.S.Sink g.H.Host (run_command c.args.mode words) c.args.files.now c.found.new.files c.args.out.now c.told.new.out c.args.host.now c.run_found-ran.new.host
+    (read_for g.F.Files (Finds (run_command c.args.mode words) held) (FindsRun held words.image.now words.script.now) c.args.files.now c.found.new.files c.in-Ok.ensures.read (finds_run c.args.mode words held))

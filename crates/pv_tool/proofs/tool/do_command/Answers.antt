@@ -23,12 +23,6 @@ returns-in-Check-clause-meaning g c = rw c.in-Check.is (c.check.ensures.meaning 
 pub returns-in-Check-clause-counts : goal.returns-in-Check-clause-counts
 returns-in-Check-clause-counts g c = rw c.in-Check.is (c.check.ensures.counts (completed_by g.H.Host c.args.host.now) (g.H.Host.bytes c.args.host.now))
 
-pub returns-in-RunBare-clause-meaning : goal.returns-in-RunBare-clause-meaning
-returns-in-RunBare-clause-meaning g c = rw c.in-RunBare.is (c.run.ensures.meaning (completed_by g.H.Host c.args.host.now) (g.H.Host.bytes c.args.host.now))
-
-pub returns-in-RunBare-clause-counts : goal.returns-in-RunBare-clause-counts
-returns-in-RunBare-clause-counts g c = rw c.in-RunBare.is (c.run.ensures.counts (completed_by g.H.Host c.args.host.now) (g.H.Host.bytes c.args.host.now))
-
 pub returns-in-Work-clause-meaning : goal.returns-in-Work-clause-meaning
 returns-in-Work-clause-meaning g c = rw c.in-Work.is (work_means c.in-Work.number _ c.work.result refl c.work.ensures)
 
