@@ -1,8 +1,8 @@
 //! The items of sources, written out: a number is a value without a name, `a+4` one with it, and in
 //! parentheses stand base, index and scale.
 
-use asm_parse::{Arguments, Body, Form, Name, Source, Value, parse};
 use crate::gcc::FROM_GCC;
+use asm_parse::{Arguments, Body, Form, Name, Source, Value, parse};
 use std::alloc::{AllocError, Global};
 use std::test::*;
 

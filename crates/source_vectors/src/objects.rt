@@ -1,7 +1,7 @@
+use crate::gcc::FROM_GCC;
 use afterburner::{BurnFault, burn};
 use asm_parse::parse;
 use elf_form::{DefinedIn, Object, Reloc, Symbol};
-use crate::gcc::FROM_GCC;
 use std::alloc::AllocError;
 use std::test::*;
 
