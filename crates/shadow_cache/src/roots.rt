@@ -70,6 +70,9 @@ impl Roots {
         ensures moves { Moves pool.old pool.new ram.old ram.new (frames_of (pairs_of self.old) ram.old) (frames_of (pairs_of self.new) ram.new) }
         ensures told { (value : ℕ) (calls : List RootsCall) → Agree value calls (pairs_of self.old) ram.old → Agree value (calls ++ Switch cr3 ∷ []) (pairs_of self.new) ram.new }
     {
+        if self.present.cr3 == cr3 && !self.present.marked {
+            return;
+        }
         put_by(&mut self.others, ram, pool, self.present);
         self.present = come(&mut self.others, ram, pool, cr3);
     }
