@@ -1,5 +1,5 @@
 -- Views that hold their roots alone.
-use Rattle.std.proofs.Common.{◌≡◌, ◌≢◌, ℕ, zero, suc, ◌+◌, ◌/◌, ◌^◌, ◌<◌, ◌≤◌, List, [], ◌∷◌, ◌++◌, length, length-append, true, false, None, refl, ap, ◌∙◌, arith}
+use Rattle.std.proofs.Common.{◌≡◌, ◌≢◌, ℕ, zero, suc, ◌/◌, ◌^◌, ◌<◌, ◌≤◌, List, length, length-append, true, false, None, refl, ap, ◌∙◌, arith}
 use Rattle.std.specs.FinMap.{empty}
 use Rattle.shadow_views.specs.Tables.{dir, at}
 use Rattle.shadow_views.proofs.Changes.{at-none}
@@ -10,7 +10,6 @@ use Rattle.shadow_tables.specs.Slots.{by_words, held, slot_at}
 use Rattle.shadow_tables.specs.declared.shadow.Shadow.{Shadow}
 use Rattle.shadow_tables.specs.declared.words.Side.TheVariants.{Kernel, User}
 use Rattle.shadow_cache.specs.Laws.{frames-cons}
-use Rattle.shadow_cache.specs.Roots.{pairs_of}
 use Rattle.shadow_cache.specs.Views as roots
 use Rattle.shadow_cache.specs.declared.roots.Roots.{Roots}
 

@@ -1,15 +1,16 @@
 -- A load of CR3.
-use Rattle.std.proofs.Common.{◌≡◌, ℕ, zero, suc, ◌≤◌, List, [], ◌∷◌, ◌++◌, length, take, drop, slice_get, remove, get_or, Bool, true, false, ◌||◌, MatchOption, Option, Some, None, refl, sym, ap, ◌∙◌, subst, arith}
+use Rattle.std.proofs.Common.{◌≡◌, ℕ, zero, suc, ◌≤◌, List, [], ◌∷◌, ◌++◌, length, take, drop, slice_get, remove, get_or, Bool, true, false, ◌||◌, cond, MatchOption, Option, Some, None, refl, sym, ap, ◌∙◌, subst, inl, inr, arith}
+use Rattle.std.proofs.lemmas.Bool.Decides.{eqb_tells}
 use Rattle.frame_pool.specs.declared.Pool.{Pool}
 use Rattle.frame_pool.specs.Held.{times, Holds, Owns, Moves, SameIn}
 use Rattle.frame_pool.proofs.Held.{Owns-moves, Holds-from_Owns, Moves-counts, Moves-refl, Moves-beside, SameIn-beside}
 use Rattle.shadow_tables.specs.Slots.{held, slot_at, IsEmpty}
 use Rattle.shadow_cache.specs.Pairs.{no_tables, reads, any_reads, frames_of, AreShadows, AreSized, BarsWrites, AllBarWrites, AreUnmarked, OthersUnmarked, IsRoots}
-use Rattle.shadow_cache.specs.Others.{AreKept, place_of}
-use Rattle.shadow_cache.specs.Switched.{Opens, ComesBack, Comes}
+use Rattle.shadow_cache.specs.Others.{AreKept, one_later, place_of}
+use Rattle.shadow_cache.specs.Switched.{Opens, ComesBack, Comes, IsSwitched}
 use Rattle.shadow_cache.specs.declared.pair.Pair.{Pair}
 use Rattle.shadow_cache.specs.Laws.{frames-cons, times-frames, kept-same, kept-shadows, kept-frames, kept-barred}
-use Rattle.shadow_cache.proofs.Leaving.{kept-trans, same-some, times-remove, shadows-at, shadows-remove, any-at}
+use Rattle.shadow_cache.proofs.Leaving.{kept-refl, kept-trans, same-some, times-remove, shadows-at, shadows-remove, any-at}
 use Rattle.shadow_cache.proofs.Present.{none-some}
 use Rattle.shadow_cache.proofs.Beside.{all-fewer, or-less, or-right, no-reads, no-length}
 
@@ -178,3 +179,16 @@ comes-by (Some i) ps ps' m m1 m2 cr3 k x =
 
 pub comes-after : (ps ps' : List Pair) (m m1 m2 : List ℕ) (cr3 : ℕ) → AreKept ps m m1 → Comes ps ps' m1 m2 cr3 → Comes ps ps' m m2 cr3
 comes-after ps ps' m m1 m2 cr3 k x = comes-by (place_of cr3 ps) ps ps' m m1 m2 cr3 k x
+
+-- ---- the present value is loaded again
+
+first-place : (p : Pair) (ps : List Pair) (cr3 : ℕ) → p.cr3 ≡ cr3 → place_of cr3 (p ∷ ps) ≡ Some 0
+first-place p ps cr3 e = elim (eqb_tells p.cr3 cr3) [ inl t ↦ ap (λ b. cond b (Some 0) (one_later (place_of cr3 ps))) t.0 | inr t ↦ absurd (t.1 e) ]
+
+pub stays-here : (p : Pair) (ps : List Pair) (m : List ℕ) (cr3 : ℕ) → AreShadows (p ∷ ps) m → p.cr3 ≡ cr3 → p.marked ≡ false → IsSwitched (p ∷ ps) (p ∷ ps) m m cr3
+stays-here p ps m cr3 h e u =
+    let back : ComesBack (p ∷ ps) (p ∷ ps) m m 0 = record { pair = p; here = refl; front = refl; kept = kept-refl (p ∷ ps) m h } in
+    let comes : Comes (p ∷ ps) (p ∷ ps) m m cr3 =
+    subst (λ o. MatchOption o (Opens (p ∷ ps) (p ∷ ps) m m cr3) (λ i. ComesBack (p ∷ ps) (p ∷ ps) m m i)) (sym (first-place p ps cr3 e)) back
+    in
+    subst (λ b. Comes (cond b ps (p ∷ ps)) (p ∷ ps) m m cr3) (sym u) comes

@@ -1,6 +1,5 @@
 -- Pairs under keys, and what one change of the slab does to them.
-use Rattle.std.proofs.Common.{◌≡◌, ◌≢◌, ℕ, zero, suc, ◌+◌, ◌<◌, List, [], ◌∷◌, length, get_or, slice_get, slice_set, remove, Option, Some, None, IsSome, refl, sym, ap, ◌∙◌, subst, inl, inr, rules, arith}
-use Rattle.std.proofs.lemmas.Bool.Decides.{eqb_tells}
+use Rattle.std.proofs.Common.{◌≡◌, ◌≢◌, ℕ, zero, suc, ◌+◌, ◌<◌, List, [], ◌∷◌, length, get_or, slice_get, remove, Option, Some, None, IsSome, refl, sym, ap, ◌∙◌, subst, rules, arith}
 use Rattle.frame_pool.specs.Frames.{IsNotIn, AreDistinct}
 use Rattle.slab.specs.Slab.{Slab, get, slab_len, Updates}
 use Rattle.shadow_cache.specs.declared.pair.Pair.{Pair}
@@ -55,35 +54,6 @@ not-at : (keys : List ℕ) (k i : ℕ) → IsNotIn k keys → i < length keys �
 not-at [] k i n l = absurd (omega (arith, l))
 not-at (j ∷ js) k zero n l = λ e. n.0 (sym e)
 not-at (j ∷ js) k (suc i) n l = not-at js k i n.1 (omega (arith, l))
-
--- ---- another pair under a key
-
-set-first : (o : Option Pair) (p : Pair) (ps qs : List Pair) → IsSome o → qs ≡ ps → p ∷ qs ≡ slice_set (with_some o ps) 0 p
-set-first None p ps qs h e = absurd cc
-set-first (Some q) p ps qs h e = ap (λ (xs : List Pair). p ∷ xs) e
-
-set-later : (o : Option Pair) (p : Pair) (ps qs : List Pair) (i : ℕ) → IsSome o → qs ≡ slice_set ps i p → with_some o qs ≡ slice_set (with_some o ps) (suc i) p
-set-later None p ps qs i h e = absurd cc
-set-later (Some q) p ps qs i h e = ap (λ (xs : List Pair). q ∷ xs) e
-
-pub listed-set : (old new : Slab Pair) (keys : List ℕ) (i : ℕ) (p : Pair) → AreThere old keys → AreDistinct keys → i < length keys → Updates old new (get_or keys i 0) (Some p) → listed new keys ≡ slice_set (listed old keys) i p
-listed-set old new [] i p h d l u = absurd (omega (arith, l))
-listed-set old new (k ∷ ks) zero p h d l u =
-    ap (λ o. with_some o (listed new ks)) u.changed ∙ set-first (get old k) p (listed old ks) (listed new ks) h.0 (listed-same old new k (Some p) u ks d.0)
-listed-set old new (k ∷ ks) (suc i) p h d l u =
-    ap (λ o. with_some o (listed new ks)) (u.others k (λ e. not-at ks k i d.0 (omega (arith, l)) (sym e)))
-    ∙ set-later (get old k) p (listed old ks) (listed new ks) i h.0 (listed-set old new ks i p h.1 d.1 (omega (arith, l)) u)
-
-some-after : (old new : Slab Pair) (k key : ℕ) (p : Pair) → IsSome (get old k) → Updates old new key (Some p) → IsSome (get new k)
-some-after old new k key p h u =
-    elim (eqb_tells k key) [
-      | inl t ↦ subst (λ x. IsSome (get new x)) (sym t.1) (subst IsSome (sym u.changed) (some-is p))
-      | inr t ↦ subst IsSome (sym (u.others k t.1)) h
-    ]
-
-pub there-set : (old new : Slab Pair) (keys : List ℕ) (key : ℕ) (p : Pair) → AreThere old keys → Updates old new key (Some p) → AreThere new keys
-there-set old new [] key p h u = tt
-there-set old new (k ∷ ks) key p h u = (some-after old new k key p h.0 u, there-set old new ks key p h.1 u)
 
 -- ---- a key that goes
 
@@ -155,24 +125,4 @@ removed old new keys keys' i key k l q v n room e m =
         room = omega (arith, room, r);
       },
       ap (listed new) e ∙ listed-remove old new keys i k.there k.distinct l u,
-    )
-
-pub replaced : (old mid new : Slab Pair) (keys : List ℕ) (i key key' : ℕ) (p : Pair) → IsKeyed old keys → i < length keys → key ≡ get_or keys i 0 → Updates old mid key None → slab_len mid + 1 ≡ slab_len old → mid.vacant_key ≡ key → mid.capacity ≡ old.capacity → key' ≡ mid.vacant_key → Updates mid new key' (Some p) → slab_len new ≡ slab_len mid + 1 → new.capacity ≡ mid.capacity → IsKeyed new keys × (listed new keys ≡ slice_set (listed old keys) i p)
-replaced old mid new keys i key key' p k l q v n next room q' w n' room' =
-    let same : key' ≡ key = q' ∙ next in
-    let both : Updates old new key (Some p) =
-    record {
-      changed = subst (λ x. get new x ≡ Some p) same w.changed;
-      others = λ other ne. w.others other (λ z. ne (z ∙ same)) ∙ v.others other ne;
-    }
-    in
-    let u : Updates old new (get_or keys i 0) (Some p) = subst (λ x. Updates old new x (Some p)) q both in
-    let count = k.count in let r = k.room in (
-      record {
-        there = there-set old new keys (get_or keys i 0) p k.there u;
-        distinct = k.distinct;
-        count = omega (arith, n, n', count);
-        room = omega (arith, room, room', r);
-      },
-      listed-set old new keys i p k.there k.distinct l u,
     )

@@ -105,12 +105,9 @@ flip : (a : Bool) → (a ≡ true → ⊥) → a ≡ false
 flip true h = absurd (h refl)
 flip false h = refl
 
--- ---- a frame that is noted
+-- ---- pair after pair
 
-abbrev pub noted : Pair → ℕ → Pair
-noted p frame = record p { tables = slice_set p.tables frame true }
-
-module _ (p : Pair) (ps : List Pair) (m m1 m2 : List ℕ) (frame : ℕ) (h : IsRoots (p ∷ ps) m) (low : frame < 16384)
+module _ (p : Pair) (ps : List Pair) (m m1 m2 : List ℕ) (frame : ℕ) (h : IsRoots (p ∷ ps) m)
     (s1 : IsShadow p.shadow m1) (l1 : LosesWrites (slot_at p.shadow m) (slot_at p.shadow m1) (frame ∷ [])) (e1 : held p.shadow m1 ≡ held p.shadow m) (w1 : Writes (held p.shadow m) m m1) where
   kept1 : AreKept ps m m1
   kept1 = kept-same ps m m1 h.shadows.1 (apart p ps m m1 h s1 e1 w1)
@@ -121,36 +118,30 @@ module _ (p : Pair) (ps : List Pair) (m m1 m2 : List ℕ) (frame : ℕ) (h : IsR
   holds1 : Holds m1 (frames_of (p ∷ ps) m1)
   holds1 = subst (Holds m1) (sym frames1) (Holds-writes (frames_of (p ∷ ps) m) m m1 h.holds w1.size)
 
-  pub note-shadows : AreShadows ps m1
-  note-shadows = kept-shadows ps m m1 kept1
+  pub bar-rest : AreShadows ps m1
+  bar-rest = kept-shadows ps m m1 kept1
 
-  pub note-holds : Holds m1 (frames_of ps m1)
-  note-holds = rest-holds p ps m1 holds1
-
-  size : length (slice_set p.tables frame true) ≡ 16384
-  size = length-set p.tables frame true ∙ h.sized.0
-
-  any-noted : (x : ℕ) → any_reads (noted p frame ∷ ps) x ≡ true → (x ≡ frame) ⊎ (any_reads (p ∷ ps) x ≡ true)
-  any-noted x e = elim (reads-set p.tables frame x true) [ inl s ↦ inr (sym (ap (λ b. b || any_reads ps x) s) ∙ e) | inr t ↦ inl t.0 ]
+  pub bar-holds : Holds m1 (frames_of ps m1)
+  bar-holds = rest-holds p ps m1 holds1
 
   module _ (shadows2 : AreShadows ps m2) (frames2 : frames_of ps m2 ≡ frames_of ps m1) (l2 : AllLoseWrites ps m1 m2 frame) (w2 : Writes (frames_of ps m1) m1 m2) where
     apart2 : SameIn (held p.shadow m1) m1 m2
     apart2 = record { size = w2.size; frames = λ f k. w2.others f (let t = times-frames f p ps m1 in let o = holds1.once f in omega (arith, t, o, k)) }
 
-    pub note-loses : LosesWrites (slot_at p.shadow m) (slot_at p.shadow m2) (frame ∷ [])
-    note-loses page l = slot_at-stays p.shadow m1 m2 s1 apart2 page l ∙ l1 page l
+    pub bar-both : AreShadows (p ∷ ps) m2
+    bar-both = (IsShadow-stays p.shadow m1 m2 s1 apart2, shadows2)
 
-    pub note-all : KeepsTables p.shadow m m1 → AllLoseWrites (p ∷ ps) m m2 frame
-    note-all k = (
-      note-loses,
+    pub bar-loses : KeepsTables p.shadow m m1 → AllLoseWrites (p ∷ ps) m m2 frame
+    bar-loses k = (
+      (λ page l. slot_at-stays p.shadow m1 m2 s1 apart2 page l ∙ l1 page l),
       all-lose ps m m1 m2 frame kept1 l2,
       held-stays p.shadow m1 m2 s1 apart2 ∙ e1,
       λ side index h ne. keeps-same p.shadow m1 m2 apart2 side index h (k side index h ne),
     )
 
-    pub note-frames : frames_of (noted p frame ∷ ps) m2 ≡ frames_of (p ∷ ps) m
-    note-frames =
-        frames-cons (noted p frame) ps m2
+    pub bar-frames : frames_of (p ∷ ps) m2 ≡ frames_of (p ∷ ps) m
+    bar-frames =
+        frames-cons p ps m2
         ∙ ap (λ (fs : List ℕ). fs ++ frames_of ps m2) (held-stays p.shadow m1 m2 s1 apart2)
         ∙ ap (λ (fs : List ℕ). held p.shadow m1 ++ fs) frames2
         ∙ sym (frames-cons p ps m1) ∙ frames1
@@ -158,49 +149,97 @@ module _ (p : Pair) (ps : List Pair) (m m1 m2 : List ℕ) (frame : ℕ) (h : IsR
     more : Writes (frames_of (p ∷ ps) m1) m1 m2
     more = record { size = w2.size; others = λ g z. w2.others g (let t = times-frames g p ps m1 in omega (arith, t, z)) }
 
-    pub note-memory : Writes (frames_of (p ∷ ps) m) m m2
-    note-memory =
+    pub bar-memory : Writes (frames_of (p ∷ ps) m) m m2
+    bar-memory =
         Writes-trans (frames_of (p ∷ ps) m) m m1 m2 (write-memory p ps m m1 h s1 e1 w1) (subst (λ (fs : List ℕ). Writes fs m1 m2) frames1 more)
 
-    pub note-moves : (pool : Pool) → Owns pool m (frames_of (p ∷ ps) m) → Moves pool pool m m2 (frames_of (p ∷ ps) m) (frames_of (noted p frame ∷ ps) m2)
-    note-moves pool o = Moves-kept pool m m2 (frames_of (p ∷ ps) m) (frames_of (noted p frame ∷ ps) m2) o note-frames note-memory
+-- ---- a frame that is tracked already
 
-    pub note-roots : IsRoots (noted p frame ∷ ps) m2
-    note-roots =
-        record {
-          few = h.few;
-          holds = subst (Holds m2) (sym note-frames) (Holds-writes (frames_of (p ∷ ps) m) m m2 h.holds note-memory.size);
-          shadows = (IsShadow-stays p.shadow m1 m2 s1 apart2, shadows2);
-          sized = (size, h.sized.1);
-          barred = (
-            bars-noted (any_reads (p ∷ ps)) (any_reads (noted p frame ∷ ps)) frame (slot_at p.shadow m) (slot_at p.shadow m2) any-noted note-loses h.barred.0,
-            all-noted (any_reads (p ∷ ps)) (any_reads (noted p frame ∷ ps)) frame ps m m2 any-noted (all-lose ps m m1 m2 frame kept1 l2) h.barred.1,
-          );
-          unmarked = h.unmarked;
-        }
+no-write : (a b : Bool) → a ≡ false → a ≡ (a && b)
+no-write true b e = cc
+no-write false b e = refl
 
-    any-is : (x : ℕ) → any_reads (p ∷ ps) x ≡ false → eqb x frame ≡ any_reads (noted p frame ∷ ps) x
-    any-is x e =
-        elim (eqb_tells x frame) [
-          | inl t ↦
-              let z = h.sized.0 in
-              t.0 ∙ sym (ap (λ y. get_or (slice_set p.tables frame true) y false || any_reads ps y) t.1 ∙ ap (λ b. b || any_reads ps frame) (reads-there p.tables frame true (omega (arith, z, low))))
-          | inr t ↦ t.0 ∙ sym (flip (any_reads (noted p frame ∷ ps) x) (λ y. elim (any-noted x y) [ inl s ↦ t.1 s | inr s ↦ (let q : false ≡ true = sym e ∙ s in cc) ]))
-        ]
+a-write : (a b : Bool) → b ≡ false → a ≡ (a && not (b || false))
+a-write true true e = cc
+a-write false b e = refl
+a-write true false e = refl
 
-    same-rights : (o : Option Slot) → Bars (any_reads (p ∷ ps)) o → barred (frame ∷ []) o ≡ barred (tables_of (noted p frame ∷ ps)) o
-    same-rights None b = refl
-    same-rights (Some s) b =
-        ap (λ w. Some (record s { writes = w })) (flags s.writes (eqb s.entry.frame frame) (is_among s.entry.frame (tables_of (noted p frame ∷ ps))) (λ y.
-        any-is s.entry.frame (flip (any_reads (p ∷ ps) s.entry.frame) (λ z. (let q : true ≡ false = sym y ∙ b s refl z in cc)))
-        ∙ sym (tables-any (noted p frame ∷ ps) s.entry.frame)))
+barred-before : (t : ℕ → Bool) (frame : ℕ) (o : Option Slot) → t frame ≡ true → Bars t o → o ≡ barred (one frame) o
+barred-before t frame None e b = refl
+barred-before t frame (Some s) e b =
+    ap (λ w. Some (record s { writes = w }))
+    (elim (eqb_tells s.entry.frame frame) [
+      | inl k ↦ no-write s.writes (not (eqb s.entry.frame frame || false)) (b s refl (ap t k.1 ∙ e))
+      | inr k ↦ a-write s.writes (eqb s.entry.frame frame) k.0
+    ])
 
-    pub note-slots : LosesWrites (slot_at p.shadow m) (slot_at p.shadow m2) (tables_of (noted p frame ∷ ps))
-    note-slots page l = note-loses page l ∙ same-rights (slot_at p.shadow m page) (λ s e y. h.barred.0 page s l e y)
+all-barred : (t : ℕ → Bool) (frame : ℕ) (ps : List Pair) (m : List ℕ) → t frame ≡ true → AllBarWrites t ps m → AllLoseWrites ps m m frame
+all-barred t frame [] m e b = tt
+all-barred t frame (p ∷ ps) m e b = (
+  (λ page l. barred-before t frame (slot_at p.shadow m page) e (λ s q y. b.0 page s l q y)),
+  all-barred t frame ps m e b.1,
+  refl,
+  λ side index h ne. ne,
+)
 
-    pub note-tracked : ArePart (tables_of (noted p frame ∷ ps)) (frame ∷ tables_of (p ∷ ps))
-    note-tracked f e =
-        elim (any-noted f (sym (tables-any (noted p frame ∷ ps) f) ∙ e)) [
-          | inl s ↦ elim (eqb_tells f frame) [ inl t ↦ ap (λ b. b || is_among f (tables_of (p ∷ ps))) t.0 | inr t ↦ absurd (t.1 s) ]
-          | inr s ↦ ap (λ b. eqb f frame || b) (tables-any (p ∷ ps) f ∙ s) ∙ or-true (eqb f frame)
-        ]
+pub tracked-loses : (ps : List Pair) (m : List ℕ) (frame : ℕ) → IsRoots ps m → any_reads ps frame ≡ true → AllLoseWrites ps m m frame
+tracked-loses ps m frame h e = all-barred (any_reads ps) frame ps m e h.barred
+
+-- ---- a frame that is noted
+
+abbrev pub noted : Pair → ℕ → Pair
+noted p frame = record p { tables = slice_set p.tables frame true }
+
+module _ (p : Pair) (ps : List Pair) (m m2 : List ℕ) (frame : ℕ) (h : IsRoots (p ∷ ps) m) (low : frame < 16384)
+    (shadows : AreShadows (p ∷ ps) m2) (loses : AllLoseWrites (p ∷ ps) m m2 frame) (frames : frames_of (p ∷ ps) m2 ≡ frames_of (p ∷ ps) m) (memory : Writes (frames_of (p ∷ ps) m) m m2) where
+  size : length (slice_set p.tables frame true) ≡ 16384
+  size = length-set p.tables frame true ∙ h.sized.0
+
+  any-noted : (x : ℕ) → any_reads (noted p frame ∷ ps) x ≡ true → (x ≡ frame) ⊎ (any_reads (p ∷ ps) x ≡ true)
+  any-noted x e = elim (reads-set p.tables frame x true) [ inl s ↦ inr (sym (ap (λ b. b || any_reads ps x) s) ∙ e) | inr t ↦ inl t.0 ]
+
+  pub note-frames : frames_of (noted p frame ∷ ps) m2 ≡ frames_of (p ∷ ps) m
+  note-frames = frames-cons (noted p frame) ps m2 ∙ sym (frames-cons p ps m2) ∙ frames
+
+  pub note-moves : (pool : Pool) → Owns pool m (frames_of (p ∷ ps) m) → Moves pool pool m m2 (frames_of (p ∷ ps) m) (frames_of (noted p frame ∷ ps) m2)
+  note-moves pool o = Moves-kept pool m m2 (frames_of (p ∷ ps) m) (frames_of (noted p frame ∷ ps) m2) o note-frames memory
+
+  pub note-roots : IsRoots (noted p frame ∷ ps) m2
+  note-roots =
+      record {
+        few = h.few;
+        holds = subst (Holds m2) (sym note-frames) (Holds-writes (frames_of (p ∷ ps) m) m m2 h.holds memory.size);
+        shadows = shadows;
+        sized = (size, h.sized.1);
+        barred = (
+          bars-noted (any_reads (p ∷ ps)) (any_reads (noted p frame ∷ ps)) frame (slot_at p.shadow m) (slot_at p.shadow m2) any-noted loses.0 h.barred.0,
+          all-noted (any_reads (p ∷ ps)) (any_reads (noted p frame ∷ ps)) frame ps m m2 any-noted loses.1 h.barred.1,
+        );
+        unmarked = h.unmarked;
+      }
+
+  any-is : (x : ℕ) → any_reads (p ∷ ps) x ≡ false → eqb x frame ≡ any_reads (noted p frame ∷ ps) x
+  any-is x e =
+      elim (eqb_tells x frame) [
+        | inl t ↦
+            let z = h.sized.0 in
+            t.0 ∙ sym (ap (λ y. get_or (slice_set p.tables frame true) y false || any_reads ps y) t.1 ∙ ap (λ b. b || any_reads ps frame) (reads-there p.tables frame true (omega (arith, z, low))))
+        | inr t ↦ t.0 ∙ sym (flip (any_reads (noted p frame ∷ ps) x) (λ y. elim (any-noted x y) [ inl s ↦ t.1 s | inr s ↦ (let q : false ≡ true = sym e ∙ s in cc) ]))
+      ]
+
+  same-rights : (o : Option Slot) → Bars (any_reads (p ∷ ps)) o → barred (frame ∷ []) o ≡ barred (tables_of (noted p frame ∷ ps)) o
+  same-rights None b = refl
+  same-rights (Some s) b =
+      ap (λ w. Some (record s { writes = w })) (flags s.writes (eqb s.entry.frame frame) (is_among s.entry.frame (tables_of (noted p frame ∷ ps))) (λ y.
+      any-is s.entry.frame (flip (any_reads (p ∷ ps) s.entry.frame) (λ z. (let q : true ≡ false = sym y ∙ b s refl z in cc)))
+      ∙ sym (tables-any (noted p frame ∷ ps) s.entry.frame)))
+
+  pub note-slots : LosesWrites (slot_at p.shadow m) (slot_at p.shadow m2) (tables_of (noted p frame ∷ ps))
+  note-slots page l = loses.0 page l ∙ same-rights (slot_at p.shadow m page) (λ s e y. h.barred.0 page s l e y)
+
+  pub note-tracked : ArePart (tables_of (noted p frame ∷ ps)) (frame ∷ tables_of (p ∷ ps))
+  note-tracked f e =
+      elim (any-noted f (sym (tables-any (noted p frame ∷ ps) f) ∙ e)) [
+        | inl s ↦ elim (eqb_tells f frame) [ inl t ↦ ap (λ b. b || is_among f (tables_of (p ∷ ps))) t.0 | inr t ↦ absurd (t.1 s) ]
+        | inr s ↦ ap (λ b. eqb f frame || b) (tables-any (p ∷ ps) f ∙ s) ∙ or-true (eqb f frame)
+      ]

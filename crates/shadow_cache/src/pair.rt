@@ -56,36 +56,30 @@ impl Pair {
         }
     }
 
-    /// The pair as new, with the same views.
+    /// Makes the pair as new, with the same views.
     #[tactic(auto, unfolding(crate::specs::Pairs::no_tables))]
-    pub fn emptied(self) -> Pair
-        ensures { result ≡ record self { tables = no_tables; marked = false } }
+    pub fn renew(&mut self)
+        ensures { self.new ≡ record self.old { tables = no_tables; marked = false } }
     {
-        Pair {
-            cr3: self.cr3,
-            shadow: self.shadow,
-            tables: [false; FRAMES],
-            marked: false,
-        }
+        self.tables = [false; FRAMES];
+        self.marked = false;
     }
 
     /// The guest's tables were read from this frame too.
-    pub fn noted(mut self, frame: u32) -> Pair
+    pub fn note(&mut self, frame: u32)
         requires { frame < 16384 }
-        ensures { result ≡ record self { tables = slice_set self.tables frame true } }
+        ensures { self.new ≡ record self.old { tables = slice_set self.old.tables frame true } }
     {
         self.tables[frame as usize] = true;
-        self
     }
 
     /// A byte of this frame was written, which matters where the tables were read from it.
-    pub fn written(mut self, frame: u32) -> Pair
-        ensures { result ≡ (if reads self frame then record self { tables = slice_set self.tables frame false; marked = true } else self) }
+    pub fn write(&mut self, frame: u32)
+        ensures { self.new ≡ (if reads self.old frame then record self.old { tables = slice_set self.old.tables frame false; marked = true } else self.old) }
     {
         if self.reads(frame) {
             self.tables[frame as usize] = false;
             self.marked = true;
         }
-        self
     }
 }

@@ -1,4 +1,4 @@
-ghost use Rattle.std.specs.Prelude.{◌≡◌, ◌<◌, List, [], ◌∷◌, length, slice_get, slice_set, remove, Some, IfOk};
+ghost use Rattle.std.specs.Prelude.{◌≡◌, ◌<◌, List, [], ◌∷◌, length, slice_get, remove, Some, IfOk};
 
 use crate::pair::Pair;
 use arrayvec::ArrayVec;
@@ -50,16 +50,6 @@ impl Pairs {
         ensures { slice_get self.now i ≡ Some result.now }
     {
         &self.slab[self.order[i]]
-    }
-
-    /// Puts another pair in a place.
-    pub fn replace(&mut self, i: usize, pair: Pair)
-        requires { i < length self.old }
-        ensures { self.new ≡ slice_set self.old i pair }
-    {
-        let key = self.order[i];
-        let _old = self.slab.remove(key);
-        self.slab.insert_reserved(pair);
     }
 
     /// Puts a pair first.

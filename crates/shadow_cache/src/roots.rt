@@ -7,7 +7,7 @@ ghost use Rattle.paging.specs.Uses.{without_dir};
 ghost use Rattle.shadow_tables.specs.Entries.{entries_of};
 ghost use Rattle.shadow_tables.specs.Slots.{filled, is_among, slot_at, root_of, ArePart, LosesDir, LosesWrites, SameSlots, Turns};
 ghost use Rattle.shadow_tables.specs.declared.words.Side.{Side};
-ghost use Rattle.shadow_cache.specs.Pairs.{frames_of, tables_of, any_reads, IsRoots};
+ghost use Rattle.shadow_cache.specs.Pairs.{frames_of, tables_of, any_reads, AreShadows, IsRoots};
 ghost use Rattle.shadow_cache.specs.Others.{AreKept, AllLoseWrites};
 
 use crate::others::{any_reads, bar_all, leave_all, leave_readers};
@@ -70,6 +70,9 @@ impl Roots {
         ensures moves { Moves pool.old pool.new ram.old ram.new (frames_of (pairs_of self.old) ram.old) (frames_of (pairs_of self.new) ram.new) }
         ensures told { (value : ℕ) (calls : List RootsCall) → Agree value calls (pairs_of self.old) ram.old → Agree value (calls ++ Switch cr3 ∷ []) (pairs_of self.new) ram.new }
     {
+        if self.present.cr3 == cr3 && !self.present.marked {
+            return;
+        }
         put_by(&mut self.others, ram, pool, self.present);
         self.present = come(&mut self.others, ram, pool, cr3);
     }
@@ -86,6 +89,21 @@ impl Roots {
             return true;
         }
         any_reads(&self.others, frame)
+    }
+
+    /// Takes the right to write to this frame from what all pairs keep. None has it where the frame is tracked already.
+    fn bar_frame(&self, ram: &mut Ram, frame: u32)
+        requires stands { ∥ IsRoots (pairs_of self.now) ram.old ∥₁ }
+        ensures shadows { AreShadows (pairs_of self.now) ram.new }
+        ensures loses { AllLoseWrites (pairs_of self.now) ram.old ram.new frame }
+        ensures frames { frames_of (pairs_of self.now) ram.new ≡ frames_of (pairs_of self.now) ram.old }
+        ensures memory { Writes (frames_of (pairs_of self.now) ram.old) ram.old ram.new }
+    {
+        if self.tracks(frame) {
+            return;
+        }
+        self.present.shadow.bar(ram, frame);
+        bar_all(&self.others, ram, frame);
     }
 }
 
@@ -174,11 +192,10 @@ impl Roots {
         ensures moves { Moves pool.old pool.new ram.old ram.new (frames_of (pairs_of self.old) ram.old) (frames_of (pairs_of self.new) ram.new) }
         ensures told { (value : ℕ) (calls : List RootsCall) → Agree value calls (pairs_of self.old) ram.old → Agree value (calls ++ Shared DropAll ∷ []) (pairs_of self.new) ram.new }
     {
-        let before = self.present;
         leave_all(&mut self.others, ram, pool);
-        let mut shadow = before.shadow;
+        let mut shadow = self.present.shadow;
         shadow.drop_all(ram, pool);
-        self.present = before.emptied();
+        self.present.renew();
     }
 
     /// The tables of the present pair were read from this frame. No pair lets a write pass to it any more.
@@ -197,10 +214,8 @@ impl Roots {
         ensures moves { (p : Pool) → Owns p ram.old (frames_of (pairs_of self.old) ram.old) → Moves p p ram.old ram.new (frames_of (pairs_of self.old) ram.old) (frames_of (pairs_of self.new) ram.new) }
         ensures told { (value : ℕ) (calls : List RootsCall) → Agree value calls (pairs_of self.old) ram.old → Agree value (calls ++ Shared (Note frame) ∷ []) (pairs_of self.new) ram.new }
     {
-        let before = self.present;
-        before.shadow.bar(ram, frame);
-        bar_all(&self.others, ram, frame);
-        self.present = before.noted(frame);
+        self.bar_frame(ram, frame);
+        self.present.note(frame);
     }
 
     /// A byte of this frame was written, or is about to be. Each other pair whose tables were read from it leaves, and the
@@ -221,9 +236,8 @@ impl Roots {
         ensures moves { Moves pool.old pool.new ram.old ram.new (frames_of (pairs_of self.old) ram.old) (frames_of (pairs_of self.new) ram.new) }
         ensures told { (value : ℕ) (calls : List RootsCall) → Agree value calls (pairs_of self.old) ram.old → Agree value (calls ++ Shared (Written frame) ∷ []) (pairs_of self.new) ram.new }
     {
-        let before = self.present;
         leave_readers(&mut self.others, ram, pool, frame);
-        self.present = before.written(frame);
+        self.present.write(frame);
     }
 }
 

@@ -31,32 +31,32 @@ drop_all-requires-clause-owns c =
 pub returns-clause-stands : goal.returns-clause-stands
 returns-clause-stands c =
     let r = c.args.self.now in let m = c.args.ram.now in let h = had (pairs_of r) m c.requires.stands in
-    merely (dropped-roots c.args.pool.now c.leave_all.new.pool c.drop_all.new.pool r.present r.others c.leave_all.new.pairs m c.leave_all.new.ram c.drop_all.new.ram h c.requires.owns c.leave_all.ensures.none c.leave_all.ensures.moves c.drop_all.ensures.empty c.drop_all.ensures.moves c.emptied-self.result c.emptied-self.ensures)
+    merely (dropped-roots c.args.pool.now c.leave_all.new.pool c.drop_all.new.pool r.present r.others c.leave_all.new.pairs m c.leave_all.new.ram c.drop_all.new.ram h c.requires.owns c.leave_all.ensures.none c.leave_all.ensures.moves c.drop_all.ensures.empty c.drop_all.ensures.moves c.renew.new.self c.renew.ensures)
 
 pub returns-clause-tracked : goal.returns-clause-tracked
 returns-clause-tracked c =
     let r = c.args.self.now in let m = c.args.ram.now in let h = had (pairs_of r) m c.requires.stands in
-    dropped-tracked c.args.pool.now c.leave_all.new.pool c.drop_all.new.pool r.present r.others c.leave_all.new.pairs m c.leave_all.new.ram c.drop_all.new.ram h c.requires.owns c.leave_all.ensures.none c.leave_all.ensures.moves c.drop_all.ensures.empty c.drop_all.ensures.moves c.emptied-self.result c.emptied-self.ensures
+    dropped-tracked c.args.pool.now c.leave_all.new.pool c.drop_all.new.pool r.present r.others c.leave_all.new.pairs m c.leave_all.new.ram c.drop_all.new.ram h c.requires.owns c.leave_all.ensures.none c.leave_all.ensures.moves c.drop_all.ensures.empty c.drop_all.ensures.moves c.renew.new.self c.renew.ensures
 
 pub returns-clause-two : goal.returns-clause-two
 returns-clause-two c =
     let r = c.args.self.now in let m = c.args.ram.now in let h = had (pairs_of r) m c.requires.stands in
-    dropped-two c.args.pool.now c.leave_all.new.pool c.drop_all.new.pool r.present r.others c.leave_all.new.pairs m c.leave_all.new.ram c.drop_all.new.ram h c.requires.owns c.leave_all.ensures.none c.leave_all.ensures.moves c.drop_all.ensures.empty c.drop_all.ensures.moves c.emptied-self.result c.emptied-self.ensures
+    dropped-two c.args.pool.now c.leave_all.new.pool c.drop_all.new.pool r.present r.others c.leave_all.new.pairs m c.leave_all.new.ram c.drop_all.new.ram h c.requires.owns c.leave_all.ensures.none c.leave_all.ensures.moves c.drop_all.ensures.empty c.drop_all.ensures.moves c.renew.new.self c.renew.ensures
 
 pub returns-clause-owns : goal.returns-clause-owns
 returns-clause-owns c =
     let r = c.args.self.now in let m = c.args.ram.now in let h = had (pairs_of r) m c.requires.stands in
-    dropped-owns c.args.pool.now c.leave_all.new.pool c.drop_all.new.pool r.present r.others c.leave_all.new.pairs m c.leave_all.new.ram c.drop_all.new.ram h c.requires.owns c.leave_all.ensures.none c.leave_all.ensures.moves c.drop_all.ensures.empty c.drop_all.ensures.moves c.emptied-self.result c.emptied-self.ensures
+    dropped-owns c.args.pool.now c.leave_all.new.pool c.drop_all.new.pool r.present r.others c.leave_all.new.pairs m c.leave_all.new.ram c.drop_all.new.ram h c.requires.owns c.leave_all.ensures.none c.leave_all.ensures.moves c.drop_all.ensures.empty c.drop_all.ensures.moves c.renew.new.self c.renew.ensures
 
 pub returns-clause-moves : goal.returns-clause-moves
 returns-clause-moves c =
     let r = c.args.self.now in let m = c.args.ram.now in let h = had (pairs_of r) m c.requires.stands in
-    dropped-moves c.args.pool.now c.leave_all.new.pool c.drop_all.new.pool r.present r.others c.leave_all.new.pairs m c.leave_all.new.ram c.drop_all.new.ram h c.requires.owns c.leave_all.ensures.none c.leave_all.ensures.moves c.drop_all.ensures.empty c.drop_all.ensures.moves c.emptied-self.result c.emptied-self.ensures
+    dropped-moves c.args.pool.now c.leave_all.new.pool c.drop_all.new.pool r.present r.others c.leave_all.new.pairs m c.leave_all.new.ram c.drop_all.new.ram h c.requires.owns c.leave_all.ensures.none c.leave_all.ensures.moves c.drop_all.ensures.empty c.drop_all.ensures.moves c.renew.new.self c.renew.ensures
 
 pub returns-clause-pairs : goal.returns-clause-pairs
-returns-clause-pairs c = ap (λ (x : Pair). x ∷ c.leave_all.new.pairs) c.emptied-self.ensures ∙ ap (λ (xs : List Pair). record c.args.self.now.present { tables = no_tables; marked = false } ∷ xs) c.leave_all.ensures.none
+returns-clause-pairs c = ap (λ (x : Pair). x ∷ c.leave_all.new.pairs) c.renew.ensures ∙ ap (λ (xs : List Pair). record c.args.self.now.present { tables = no_tables; marked = false } ∷ xs) c.leave_all.ensures.none
 
 pub returns-clause-told : goal.returns-clause-told
 returns-clause-told c = λ value calls a.
     let r = c.args.self.now in
-    step-drop_all value calls r.present r.others (c.emptied-self.result ∷ c.leave_all.new.pairs) c.args.ram.now c.drop_all.new.ram (returns-clause-pairs c) c.drop_all.ensures.empty.none (returns-clause-two c) a
+    step-drop_all value calls r.present r.others (c.renew.new.self ∷ c.leave_all.new.pairs) c.args.ram.now c.drop_all.new.ram (returns-clause-pairs c) c.drop_all.ensures.empty.none (returns-clause-two c) a

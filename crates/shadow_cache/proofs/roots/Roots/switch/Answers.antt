@@ -5,7 +5,7 @@ use Rattle.shadow_cache.specs.Switched.{Comes}
 use Rattle.shadow_cache.specs.Roots.{pairs_of}
 use Rattle.shadow_cache.specs.Laws.{had}
 use Rattle.shadow_cache.specs.declared.pair.Pair.{Pair}
-use Rattle.shadow_cache.proofs.Coming.{comes-after}
+use Rattle.shadow_cache.proofs.Coming.{comes-after, stays-here}
 use Rattle.shadow_cache.proofs.CallSteps.{step-switch}
 use Rattle.shadow_cache.proofs.roots.Roots.switch.Goals as goal
 
@@ -36,3 +36,12 @@ returns-clause-owns c =
 pub returns-clause-told : goal.returns-clause-told
 returns-clause-told c = λ value calls a.
     step-switch value calls c.args.cr3 c.args.ram.now c.come-self.new.ram (pairs_of c.args.self.now) (c.come-self.result ∷ c.come-self.new.others) (returns-clause-switched c) a
+
+pub returns-then-not-self-clause-switched : goal.returns-then-not-self-clause-switched
+returns-then-not-self-clause-switched c =
+    let r = c.args.self.now in let m = c.args.ram.now in
+    stays-here r.present r.others m c.args.cr3 (had (pairs_of r) m c.requires.stands).shadows c.if-self-cr3.true c.if-not-self.true
+
+pub returns-then-not-self-clause-told : goal.returns-then-not-self-clause-told
+returns-then-not-self-clause-told c = λ value calls a.
+    step-switch value calls c.args.cr3 c.args.ram.now c.args.ram.now (pairs_of c.args.self.now) (pairs_of c.args.self.now) (returns-then-not-self-clause-switched c) a

@@ -22,52 +22,52 @@ leave_readers-requires-clause-owns c =
 pub returns-clause-stands : goal.returns-clause-stands
 returns-clause-stands c =
     let r = c.args.self.now in let m = c.args.ram.now in let h = had (pairs_of r) m c.requires.stands in
-    merely (spoilt-roots c.args.pool.now c.leave_readers.new.pool r.present c.written-self.result r.others c.leave_readers.new.pairs m c.leave_readers.new.ram c.args.frame h c.requires.owns c.leave_readers.ensures.rest c.leave_readers.ensures.kept c.leave_readers.ensures.moves c.written-self.ensures)
+    merely (spoilt-roots c.args.pool.now c.leave_readers.new.pool r.present c.write.new.self r.others c.leave_readers.new.pairs m c.leave_readers.new.ram c.args.frame h c.requires.owns c.leave_readers.ensures.rest c.leave_readers.ensures.kept c.leave_readers.ensures.moves c.write.ensures)
 
 pub returns-clause-slots : goal.returns-clause-slots
 returns-clause-slots c =
     let r = c.args.self.now in let m = c.args.ram.now in let h = had (pairs_of r) m c.requires.stands in
-    spoilt-slots c.args.pool.now c.leave_readers.new.pool r.present c.written-self.result r.others c.leave_readers.new.pairs m c.leave_readers.new.ram c.args.frame h c.requires.owns c.leave_readers.ensures.rest c.leave_readers.ensures.kept c.leave_readers.ensures.moves c.written-self.ensures
+    spoilt-slots c.args.pool.now c.leave_readers.new.pool r.present c.write.new.self r.others c.leave_readers.new.pairs m c.leave_readers.new.ram c.args.frame h c.requires.owns c.leave_readers.ensures.rest c.leave_readers.ensures.kept c.leave_readers.ensures.moves c.write.ensures
 
 pub returns-clause-entries : goal.returns-clause-entries
 returns-clause-entries c =
     let r = c.args.self.now in let m = c.args.ram.now in let h = had (pairs_of r) m c.requires.stands in
-    below.same-entries (slot_at r.present.shadow m) (slot_at c.written-self.result.shadow c.leave_readers.new.ram) (spoilt-slots c.args.pool.now c.leave_readers.new.pool r.present c.written-self.result r.others c.leave_readers.new.pairs m c.leave_readers.new.ram c.args.frame h c.requires.owns c.leave_readers.ensures.rest c.leave_readers.ensures.kept c.leave_readers.ensures.moves c.written-self.ensures)
+    below.same-entries (slot_at r.present.shadow m) (slot_at c.write.new.self.shadow c.leave_readers.new.ram) (spoilt-slots c.args.pool.now c.leave_readers.new.pool r.present c.write.new.self r.others c.leave_readers.new.pairs m c.leave_readers.new.ram c.args.frame h c.requires.owns c.leave_readers.ensures.rest c.leave_readers.ensures.kept c.leave_readers.ensures.moves c.write.ensures)
 
 pub returns-clause-tracked : goal.returns-clause-tracked
 returns-clause-tracked c =
     let r = c.args.self.now in let m = c.args.ram.now in let h = had (pairs_of r) m c.requires.stands in
-    tables-part (pairs_of r) (c.written-self.result ∷ c.leave_readers.new.pairs) (spoilt-fewer c.args.pool.now c.leave_readers.new.pool r.present c.written-self.result r.others c.leave_readers.new.pairs m c.leave_readers.new.ram c.args.frame h c.requires.owns c.leave_readers.ensures.rest c.leave_readers.ensures.kept c.leave_readers.ensures.moves c.written-self.ensures)
+    tables-part (pairs_of r) (c.write.new.self ∷ c.leave_readers.new.pairs) (spoilt-fewer c.args.pool.now c.leave_readers.new.pool r.present c.write.new.self r.others c.leave_readers.new.pairs m c.leave_readers.new.ram c.args.frame h c.requires.owns c.leave_readers.ensures.rest c.leave_readers.ensures.kept c.leave_readers.ensures.moves c.write.ensures)
 
 pub returns-clause-untracked : goal.returns-clause-untracked
 returns-clause-untracked c =
     let r = c.args.self.now in let m = c.args.ram.now in let h = had (pairs_of r) m c.requires.stands in
-    spoilt-untracked c.args.pool.now c.leave_readers.new.pool r.present c.written-self.result r.others c.leave_readers.new.pairs m c.leave_readers.new.ram c.args.frame h c.requires.owns c.leave_readers.ensures.rest c.leave_readers.ensures.kept c.leave_readers.ensures.moves c.written-self.ensures
+    spoilt-untracked c.args.pool.now c.leave_readers.new.pool r.present c.write.new.self r.others c.leave_readers.new.pairs m c.leave_readers.new.ram c.args.frame h c.requires.owns c.leave_readers.ensures.rest c.leave_readers.ensures.kept c.leave_readers.ensures.moves c.write.ensures
 
 pub returns-clause-roots : goal.returns-clause-roots
 returns-clause-roots c =
     let r = c.args.self.now in let m = c.args.ram.now in let h = had (pairs_of r) m c.requires.stands in
-    λ side. ap (λ s. root_of s side) (spoilt-same c.args.pool.now c.leave_readers.new.pool r.present c.written-self.result r.others c.leave_readers.new.pairs m c.leave_readers.new.ram c.args.frame h c.requires.owns c.leave_readers.ensures.rest c.leave_readers.ensures.kept c.leave_readers.ensures.moves c.written-self.ensures)
+    λ side. ap (λ s. root_of s side) (spoilt-same c.args.pool.now c.leave_readers.new.pool r.present c.write.new.self r.others c.leave_readers.new.pairs m c.leave_readers.new.ram c.args.frame h c.requires.owns c.leave_readers.ensures.rest c.leave_readers.ensures.kept c.leave_readers.ensures.moves c.write.ensures)
 
 pub returns-clause-owns : goal.returns-clause-owns
 returns-clause-owns c =
     let r = c.args.self.now in let m = c.args.ram.now in let h = had (pairs_of r) m c.requires.stands in
-    spoilt-owns c.args.pool.now c.leave_readers.new.pool r.present c.written-self.result r.others c.leave_readers.new.pairs m c.leave_readers.new.ram c.args.frame h c.requires.owns c.leave_readers.ensures.rest c.leave_readers.ensures.kept c.leave_readers.ensures.moves c.written-self.ensures
+    spoilt-owns c.args.pool.now c.leave_readers.new.pool r.present c.write.new.self r.others c.leave_readers.new.pairs m c.leave_readers.new.ram c.args.frame h c.requires.owns c.leave_readers.ensures.rest c.leave_readers.ensures.kept c.leave_readers.ensures.moves c.write.ensures
 
 pub returns-clause-moves : goal.returns-clause-moves
 returns-clause-moves c =
     let r = c.args.self.now in let m = c.args.ram.now in let h = had (pairs_of r) m c.requires.stands in
-    spoilt-moves c.args.pool.now c.leave_readers.new.pool r.present c.written-self.result r.others c.leave_readers.new.pairs m c.leave_readers.new.ram c.args.frame h c.requires.owns c.leave_readers.ensures.rest c.leave_readers.ensures.kept c.leave_readers.ensures.moves c.written-self.ensures
+    spoilt-moves c.args.pool.now c.leave_readers.new.pool r.present c.write.new.self r.others c.leave_readers.new.pairs m c.leave_readers.new.ram c.args.frame h c.requires.owns c.leave_readers.ensures.rest c.leave_readers.ensures.kept c.leave_readers.ensures.moves c.write.ensures
 
 pub returns-clause-pairs : goal.returns-clause-pairs
-returns-clause-pairs c = ap (λ (x : Pair). x ∷ c.leave_readers.new.pairs) c.written-self.ensures ∙ ap (λ (xs : List Pair). marked_by c.args.self.now.present c.args.frame ∷ xs) c.leave_readers.ensures.rest
+returns-clause-pairs c = ap (λ (x : Pair). x ∷ c.leave_readers.new.pairs) c.write.ensures ∙ ap (λ (xs : List Pair). marked_by c.args.self.now.present c.args.frame ∷ xs) c.leave_readers.ensures.rest
 
 pub returns-clause-kept : goal.returns-clause-kept
 returns-clause-kept c =
     let r = c.args.self.now in let m = c.args.ram.now in let h = had (pairs_of r) m c.requires.stands in
-    spoilt-kept c.args.pool.now c.leave_readers.new.pool r.present c.written-self.result r.others c.leave_readers.new.pairs m c.leave_readers.new.ram c.args.frame h c.requires.owns c.leave_readers.ensures.rest c.leave_readers.ensures.kept c.leave_readers.ensures.moves c.written-self.ensures
+    spoilt-kept c.args.pool.now c.leave_readers.new.pool r.present c.write.new.self r.others c.leave_readers.new.pairs m c.leave_readers.new.ram c.args.frame h c.requires.owns c.leave_readers.ensures.rest c.leave_readers.ensures.kept c.leave_readers.ensures.moves c.write.ensures
 
 pub returns-clause-told : goal.returns-clause-told
 returns-clause-told c = λ value calls a.
     let r = c.args.self.now in
-    step-written value calls c.args.frame r.present r.others (c.written-self.result ∷ c.leave_readers.new.pairs) c.args.ram.now c.leave_readers.new.ram (returns-clause-pairs c) (returns-clause-kept c) a
+    step-written value calls c.args.frame r.present r.others (c.write.new.self ∷ c.leave_readers.new.pairs) c.args.ram.now c.leave_readers.new.ram (returns-clause-pairs c) (returns-clause-kept c) a
