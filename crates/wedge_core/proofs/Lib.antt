@@ -35,8 +35,7 @@ pub mod LookedUses
 pub mod LookedMarks
 pub mod OnceRan
 pub mod Clashless
-pub mod Elsewhere
-pub mod Telling
+pub mod AmongPages
 pub mod Insensitive
 pub mod Asking
 pub mod Nexts

@@ -69,4 +69,3 @@ abbrev pub WedgeAnswers : Image → Events → ℕ → ℕ → ℕ → Option (L
 WedgeAnswers image script frames n pool old new before now counts_before counts_after memory (Ok ended) =
     (text : List ℕ) × (run : Promise (wedge image script frames) n pool text ended.steps ended.end counts_before counts_after memory) × (need image ≤ frames) × HasFills (wedge image script frames) run.sets run.last ended.fills × Appends old new text × (before ≤ now)
 WedgeAnswers image script frames n pool old new before now counts_before counts_after memory (Err fault) = RefusedWedge image script frames n old new before now counts_before counts_after fault
-

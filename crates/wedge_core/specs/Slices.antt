@@ -60,4 +60,3 @@ pub record BeginsEmpty (set : Set) (free held : ℕ) (wanted : Bool) : Type 0 wh
   pub two : held ≡ 2
   pub others : free + held ≡ 512
   pub silent : wanted ≡ false
-

@@ -15,8 +15,7 @@ use Rattle.machine_model.specs.UsedPages.{Uses}
 use Rattle.machine_step.specs.Roots.{RootsAs}
 use Rattle.kept_laws.specs.Carried.{indices_in}
 use Rattle.wedge_core.specs.Carried.{IsCarried, IsCarriedBy, IsTakenFrom}
-use Rattle.wedge_core.specs.Closed.{MayClose}
-use Rattle.wedge_core.specs.Leaving.{Tells}
+use Rattle.wedge_core.specs.Closed.{MayClose, Closes}
 use Rattle.wedge_core.proofs.Knowing.{IsAnswer, answer_from}
 use Rattle.wedge_core.proofs.Ended.{IsDone, known_went, known_asked, may_close_used, index_used}
 use Rattle.descriptors.specs.declared.cpu.Cpu.{Cpu}
@@ -39,18 +38,16 @@ use Rattle.native_steps.specs.Again as again
 use Rattle.native_steps.specs.Lends.{Lends}
 use Rattle.native_steps.specs.Mirrors.{IsWedge, IsHost, shown}
 use Rattle.wedge_core.specs.Standing.{AreOpen, state_of, side_of, wp_of}
-use Rattle.wedge_core.specs.Told.{told}
 use Rattle.wedge_core.specs.Tries.{IsPrepared, OthersAreUsers}
 use Rattle.wedge_core.specs.declared.running.Running.{Running}
 use Rattle.wedge_core.proofs.Filling.{fills_same, fills_join}
-use Rattle.wedge_core.proofs.Asking.{may_close, others, asks, reports}
+use Rattle.wedge_core.proofs.Asking.{may_close, asks, reports}
 use Rattle.wedge_core.proofs.Memories.{shown_is, shown_same, front_same, host_same, host_left, text_within}
 use Rattle.wedge_core.proofs.Nexts.{next_from, others_users, starts, step_is, idle}
 use Rattle.wedge_core.proofs.Opening.{same_open}
 use Rattle.wedge_core.proofs.Parts.{part_same, part_left, part_within}
 use Rattle.wedge_core.proofs.Seeing.{side_is}
-use Rattle.wedge_core.proofs.Telling.{told_same, told_told, told_within}
-use Rattle.wedge_core.proofs.AfterTry.{After, any_script, told_sound, closes_told, after, few_after, held_then, keeps_then, keeps_still}
+use Rattle.wedge_core.proofs.AfterTry.{After, any_script, after, few_after, held_then, keeps_then, keeps_still}
 use Rattle.machine_step.specs.Worked.{dropping, went_as}
 use Rattle.wedge_core.specs.Ready.{AllOpen, AreFound, IsReady, IsReadyBehind}
 use Rattle.wedge_core.specs.Standing.{ground}
@@ -140,53 +137,6 @@ keep-requires-clause-few g c =
     let a = after g.S.Shadows.stands g.S.Shadows.frames g.S.Shadows.slots g.met.S.Shadows.above g.met.S.Shadows.same_frames g.met.S.Shadows.same_slots g.met.S.Shadows.same_entries image running pool0 ram0 ram1 o.result.first o.result.count held fits1
     o.ensures.first o.ensures.count hid in
     few_after g.S.Shadows.stands g.S.Shadows.frames g.S.Shadows.slots image running pool0 ram0 ram1 held a
-
-pub keep-requires-clause-sound : goal.keep-requires-clause-sound
-keep-requires-clause-sound g c =
-    let running = c.args.running.now in
-    let image = c.args.image.now in
-    let n = running.frames in
-    let ram0 = c.args.ram.now in
-    let pool0 = c.args.pool.now in
-    let ram1 = c.try_native.new.ram in
-    let state0 = c.begin-state.result in
-    let state1 = c.try_native.new.state in
-    let o = c.original in
-    let held = c.requires.held in
-    let frames1 : state1.control.frames ≡ n = ap (λ (k : Control). k.frames) c.try_native.ensures.control ∙ c.begin-state.ensures.frames in
-    let hid = subst (λ (x : Guard). laying.hidden x n ram1 ≡ laying.hidden x n ram0) c.begin-state.ensures.guard
-    (subst (λ (k : ℕ). laying.hidden c.begin-state.result.guard k ram1 ≡ laying.hidden c.begin-state.result.guard k ram0) c.begin-state.ensures.frames c.try_native.ensures.hidden) in
-    let fits1 : 4096 * n ≤ length ram1 = (let q = c.try_native.ensures.sound.frames_in in omega (arith, q, frames1)) in
-    let a = after g.S.Shadows.stands g.S.Shadows.frames g.S.Shadows.slots g.met.S.Shadows.above g.met.S.Shadows.same_frames g.met.S.Shadows.same_slots g.met.S.Shadows.same_entries image running pool0 ram0 ram1 o.result.first o.result.count held fits1
-    o.ensures.first o.ensures.count hid in
-    let m = wedge image [] n in
-    let b = state_of g.S.Shadows.stands g.S.Shadows.frames g.S.Shadows.slots m running ram0 in
-    let mode : Mode = Wedge o.result.first o.result.count (record { front = 0; front_len = 0; back = 0; back_len = 0 }) in
-    let mode_is : wedge_mode image ≡ mode = λ i. Wedge (sym o.ensures.first i) (sym o.ensures.count i) (record { front = 0; front_len = 0; back = 0; back_len = 0 }) in
-    let laid = shown_is m o.result.bytes.now o.result.first ram0 o.ensures.bytes o.ensures.first in
-    let s0 = space_at (λ r. entries_of (g.S.Shadows.slots running.shadows r)) ram0 state0 in
-    let t = space_at (λ r. entries_of (g.S.Shadows.slots running.shadows r)) ram1 state1 in
-    let start = starts m b mode s0 mode_is (laying.laid o.result.bytes.now o.result.first n ram0) laid c.begin-state.ensures.space in
-    let w : IsWedge m = record { mode = held.wedge.mode; accepted = held.wedge.accepted; room = held.wedge.room } in
-    let any = any_script image [] n ram0 in
-    let fit : AreBytes b.ram = subst AreBytes (sym any) c.are_bytes.ensures.bytes in
-    let long : length b.ram ≡ 4096 * n = ap length any ∙ c.are_bytes.ensures.length in
-    let room : 4096 * n ≤ length b.ram = omega (arith, long) in
-    let sound : again.AreWithin m b.set = λ page entry is. (held.within page entry is).1 in
-    let small = c.eip_fits.ensures in
-    let next = next_from m b c.requires.runs small in
-    let tries = rw c.in-None.is at (c.in_ok-worked.ensures.tries m (unheld b) (record { has = refl; over = refl })) in
-    let p = subst (λ (s : Space). IsPrepared (unheld b) s t) start tries.1 in
-    let clear = c.requires.clear [] p.insn p.len p.after_fetch p.fetches in
-    let other = others c.native_laws.ensures.grants c.native_laws.ensures.again c.native_laws.ensures.completes m w (g.S.Shadows.directory running.shadows) b room fit sound (c.native_laws.ensures.sees (g.S.Shadows.directory running.shadows) running.cpu c.requires.able) next small t p clear in
-    let kept1 = entries_of (g.S.Shadows.slots running.shadows ram1) in
-    let told_is : changed kept1 (told state1.visited state1.changes) ≡ changed kept1 state1.changes = told_same kept1 state1.changes state1.visited (λ q no. other q no ∙ ap (λ (set : FinMap nat_cmp Entry). get set q) (sym a.entries_same)) in
-    let kept = λ (r : List ℕ). entries_of (g.S.Shadows.slots running.shadows r) in
-    let floor = 4096 * base_of pool0 in
-    let stand = λ (r : List ℕ). (∥ g.S.Shadows.stands running.shadows r ∥₁) × Owns pool0 r (g.S.Shadows.frames running.shadows r) in
-    let within1 : AreWithin state1.control.frames (entries_of (g.S.Shadows.slots running.shadows ram1)) =
-    subst (λ (set : FinMap nat_cmp Entry). AreWithin state1.control.frames set) (sym a.entries_same) (subst (λ (k : ℕ). AreWithin k (entries_of (g.S.Shadows.slots running.shadows ram0))) (sym frames1) held.within) in
-    subst (λ (x : kept_state.StepState). IsSound kept floor stand ram1 x) (sym c.keep_told.ensures) (told_sound kept floor stand ram1 state1 c.try_native.ensures.sound told_is within1)
 
 pub returns-in_err-worked-clause-stands : goal.returns-in_err-worked-clause-stands
 returns-in_err-worked-clause-stands g c =
@@ -344,20 +294,14 @@ returns-in-None-clause-held g c =
     let ram3 = c.keep.new.ram in
     let same = c.keep.ensures.same in
     let cpu_is : new.cpu ≡ running.cpu = ap (λ (r : Running g.row.S.Denot). r.cpu) same in
-    let state2 = c.keep_told.new.state in
-    let whole2 = changed (entries_of (g.S.Shadows.slots running.shadows ram1)) state2.changes in
-    let told_state = c.keep_told.ensures in
-    let wp2 : state2.control.wp ≡ wp_of running.cpu = ap (λ (x : kept_state.StepState). x.control.wp) told_state ∙ wp1 in
-    let open3 = subst (λ (x : Bool). AreOpen image x (g.S.Shadows.slots new.shadows ram3)) wp2 (c.keep.ensures.shows image c.text_frames.ensures (subst (λ (x : Bool). AreOpen image x (g.S.Shadows.slots running.shadows ram1)) (sym wp2) slots1)) in
-    let kept1 = entries_of (g.S.Shadows.slots running.shadows ram1) in
-    let within1 : AreWithin n (changed kept1 state1.changes) = subst (λ (k : ℕ). AreWithin k (changed kept1 state1.changes)) frames1 c.try_native.ensures.sound.within in
-    let base1 : AreWithin n kept1 = subst (λ (set : FinMap nat_cmp Entry). AreWithin n set) (sym a.entries_same) held.within in
-    let within2 : AreWithin n whole2 = subst (λ (x : kept_state.StepState). AreWithin n (changed kept1 x.changes)) (sym told_state) (told_within n kept1 state1.changes state1.visited base1 within1) in
+    let whole1 = changed (entries_of (g.S.Shadows.slots running.shadows ram1)) state1.changes in
+    let open3 = subst (λ (x : Bool). AreOpen image x (g.S.Shadows.slots new.shadows ram3)) wp1 (c.keep.ensures.shows image c.text_frames.ensures (subst (λ (x : Bool). AreOpen image x (g.S.Shadows.slots running.shadows ram1)) (sym wp1) slots1)) in
+    let within1 : AreWithin n whole1 = subst (λ (k : ℕ). AreWithin k whole1) frames1 c.try_native.ensures.sound.within in
     let fills = c.keep.ensures.fills in
     let before = held.fills in
     held_then g.S.Shadows.stands g.S.Shadows.frames g.S.Shadows.slots image running (record new { step = running.step + 1 }) pool0 c.keep.new.pool ram0 ram1 ram3 held a (owns c.try_native.ensures.sound.stands_now) c.keep.ensures.moves
     c.keep.ensures.stands c.keep.ensures.owns c.keep.ensures.counted (omega (arith, fills, before)) (ap (λ (r : Running g.row.S.Denot). r.frames) same)
-    (part_within n _ whole2 (part_left _ _ _ c.keep.ensures.left) within2)
+    (part_within n _ whole1 (part_left _ _ _ c.keep.ensures.left) within1)
     (subst (λ (x : Cpu). AreOpen image (wp_of x) (g.S.Shadows.slots new.shadows ram3)) (sym cpu_is) open3)
 
 pub returns-in-None-clause-step : goal.returns-in-None-clause-step
@@ -398,9 +342,7 @@ returns-in-None-clause-step g c = λ script.
     let tries = rw c.in-None.is at (c.in_ok-worked.ensures.tries m (unheld b) (record { has = refl; over = refl })) in
     let p = subst (λ (s : Space). IsPrepared (unheld b) s t) start tries.1 in
     let clear = c.requires.clear script p.insn p.len p.after_fetch p.fetches in
-    let other = others c.native_laws.ensures.grants c.native_laws.ensures.again c.native_laws.ensures.completes m w directory b room fit sound (c.native_laws.ensures.sees directory running.cpu c.requires.able) next small t p clear in
     let kept1 = entries_of (g.S.Shadows.slots running.shadows ram1) in
-    let told_is : changed kept1 (told state1.visited state1.changes) ≡ changed kept1 state1.changes = told_same kept1 state1.changes state1.visited (λ q no. other q no ∙ ap (λ (set : FinMap nat_cmp Entry). get set q) (sym a.entries_same)) in
     let wp1 : state1.control.wp ≡ wp_of running.cpu = ap (λ (k : Control). k.wp) c.try_native.ensures.control ∙ ap (λ (x : Space). x.wp) c.begin-state.ensures.space in
     let slots1 = same_open image (wp_of running.cpu) (g.S.Shadows.slots running.shadows ram0) (g.S.Shadows.slots running.shadows ram1) a.slots_same held.open_to in
     let new = c.keep.new.running in
@@ -412,9 +354,9 @@ returns-in-None-clause-step g c = λ script.
     let within1 : AreWithin n (changed kept1 state1.changes) = subst (λ (k : ℕ). AreWithin k (changed kept1 state1.changes)) frames1 c.try_native.ensures.sound.within in
     let free1 = length (free_list pool0 ram1) in
     let enough : 8 ≤ free1 = (let e = ap length a.free_same in let r = c.requires.room in omega (arith, e, r)) in
-    let may = may_close c.native_laws.ensures.grants c.native_laws.ensures.again c.native_laws.ensures.completes m w directory b room fit sound (c.native_laws.ensures.sees directory running.cpu c.requires.able) next small t p clear n c.text_frames.result free1 state1.changes c.text_frames.ensures within1 enough in
-    let kept_all = closes_told new.lost.after (g.S.Shadows.slots running.shadows ram1) slots3 kept1 t.set c.text_frames.result side free1 (wp_of running.cpu) (g.S.Shadows.tracked new.shadows) state1 c.keep_told.new.state c.keep_told.ensures told_is wp1 c.keep.ensures.whole may in
-    let closes = kept_all.1 in
+    let may = may_close c.native_laws.ensures.grants c.native_laws.ensures.again c.native_laws.ensures.completes m w directory b room fit sound (c.native_laws.ensures.sees directory running.cpu c.requires.able) next small t p clear n c.text_frames.result free1 state1.changes c.try_native.ensures.sound.told c.text_frames.ensures within1 enough in
+    let kept_all = c.keep.ensures.whole may in
+    let closes = subst (λ (x : Bool). Closes (g.S.Shadows.slots running.shadows ram1) slots3 t.set (pages_of t.visited state1.changes) side x (g.S.Shadows.tracked new.shadows) t.wrote) wp1 kept_all.1 in
     let text1 = c.try_native.ensures.text ∙ ap (λ (x : Guard). x.text) c.begin-state.ensures.guard in
     let here : laying.laid o.result.bytes.now o.result.first n ram1 ≡ t.ram = λ i. laying.shown_by (sym text1 i).now (sym frames1 i) ram1 in
     let front = front_same n pool0 c.keep.new.pool ram1 ram3 (g.S.Shadows.frames running.shadows ram1) (g.S.Shadows.frames new.shadows ram3) held.behind (owns c.try_native.ensures.sound.stands_now) c.keep.ensures.moves in
@@ -428,8 +370,7 @@ returns-in-None-clause-step g c = λ script.
     let host3 : IsHost m ram3 =
     (let text = text_within image in let r = held.wedge.room in host_same m ram1 ram3 (omega (arith, r, text)) c.keep.ensures.moves.size front (host_left m (text_pages image) ram0 ram1 text a.left (record { room = held.host.room; text = held.host.text }))) in
     let sees = c.native_laws.ensures.sees directory running.cpu c.requires.able in
-    let wp2 : c.keep_told.new.state.control.wp ≡ wp_of running.cpu = ap (λ (x : kept_state.StepState). x.control.wp) c.keep_told.ensures ∙ wp1 in
-    let open3 = subst (λ (x : Bool). AreOpen image x slots3) wp2 (c.keep.ensures.shows image c.text_frames.ensures (subst (λ (x : Bool). AreOpen image x (g.S.Shadows.slots running.shadows ram1)) (sym wp2) slots1)) in
+    let open3 = subst (λ (x : Bool). AreOpen image x slots3) wp1 (c.keep.ensures.shows image c.text_frames.ensures (subst (λ (x : Bool). AreOpen image x (g.S.Shadows.slots running.shadows ram1)) (sym wp1) slots1)) in
     let lends = subst (λ (k : Bool). Lends m ram3 (directory side) k (wp_of running.cpu) t.set) (side_is running.cpu)
     (c.native_laws.ensures.lends m ram3 (directory side) side (wp_of running.cpu) slots3 t.set host (λ page lt. g.met.S.Shadows.entry_at new.shadows ram3 page lt) (subst (λ (set : FinMap nat_cmp Entry). AreWithin n set) (sym closes.entries) within1) open3
     (part_same (entries_of slots3) t.set closes.entries)) in
@@ -717,9 +658,7 @@ returns-in-None-clause-ready g c =
     let tries = rw c.in-None.is at (c.in_ok-worked.ensures.tries m (unheld b) (record { has = refl; over = refl })) in
     let p = subst (λ (s : Space). IsPrepared (unheld b) s t) start tries.1 in
     let clear = c.requires.clear [] p.insn p.len p.after_fetch p.fetches in
-    let other = others c.native_laws.ensures.grants c.native_laws.ensures.again c.native_laws.ensures.completes m w directory b room fit sound (c.native_laws.ensures.sees directory running.cpu c.requires.able) next small t p clear in
     let kept1 = entries_of (g.S.Shadows.slots running.shadows ram1) in
-    let told_is : changed kept1 (told state1.visited state1.changes) ≡ changed kept1 state1.changes = told_same kept1 state1.changes state1.visited (λ q no. other q no ∙ ap (λ (set : FinMap nat_cmp Entry). get set q) (sym a.entries_same)) in
     let text1 = c.try_native.ensures.text ∙ ap (λ (x : Guard). x.text) c.begin-state.ensures.guard in
     let here : laying.laid o.result.bytes.now o.result.first n ram1 ≡ t.ram = λ i. laying.shown_by (sym text1 i).now (sym frames1 i) ram1 in
     let k : Steps g.S.Shadows.slots g.S.Shadows.noted g.S.Shadows.marked g.S.Shadows.value g.S.Shadows.asides image n b running.shadows ram0 ram1 = record {
@@ -734,11 +673,7 @@ returns-in-None-clause-ready g c =
     } in
     let t_ram : t.ram ≡ shown m ram1 = sym here ∙ shown_is m o.result.bytes.now o.result.first ram1 o.ensures.bytes o.ensures.first in
     let behind1 = prepared_ready g.S.Shadows.slots g.S.Shadows.noted g.S.Shadows.marked g.S.Shadows.value g.S.Shadows.asides image n b running.shadows ram0 ram1 k c.requires.ready c.native_laws.ensures.on c.native_laws.ensures.fetched c.native_laws.ensures.ranges (λ page. false) (unheld b) t t.set p t_ram refl in
-    let state2 = c.keep_told.new.state in
-    let behind2 = subst (λ (x : kept_state.StepState). IsReadyBehind g.S.Shadows.slots g.S.Shadows.noted g.S.Shadows.marked g.S.Shadows.value g.S.Shadows.asides (λ page. false) m running.cpu running.shadows ram1 (changed kept1 x.changes) x.tables x.wrote) (sym c.keep_told.ensures)
-    (subst (λ (set : FinMap nat_cmp Entry). IsReadyBehind g.S.Shadows.slots g.S.Shadows.noted g.S.Shadows.marked g.S.Shadows.value g.S.Shadows.asides (λ page. false) m running.cpu running.shadows ram1 set state1.tables state1.wrote) (sym told_is) behind1) in
-    let frames2 : n ≡ state2.control.frames = sym (ap (λ (x : kept_state.StepState). x.control.frames) c.keep_told.ensures ∙ frames1) in
-    let ready2 = c.keep.ensures.ready (λ page. false) m running.cpu frames2 behind2 in
+    let ready2 = c.keep.ensures.ready (λ page. false) m running.cpu (sym frames1) behind1 in
     subst (λ (x : Cpu). IsReady g.S.Shadows.slots g.S.Shadows.noted g.S.Shadows.marked g.S.Shadows.value g.S.Shadows.asides m x c.keep.new.running.shadows c.keep.new.ram) (sym (ap (λ (r : Running g.row.S.Denot). r.cpu) c.keep.ensures.same)) ready2
 
 -- ---- what the run knows goes on, where the step went
@@ -931,9 +866,7 @@ returns-in-None-clause-carried_asked g c = λ script steps t unwanted free roomy
     let tries = rw c.in-None.is at (c.in_ok-worked.ensures.tries m (unheld b) (record { has = refl; over = refl })) in
     let p = subst (λ (s : Space). IsPrepared (unheld b) s last) start tries.1 in
     let clear = c.requires.clear script p.insn p.len p.after_fetch p.fetches in
-    let other = others c.native_laws.ensures.grants c.native_laws.ensures.again c.native_laws.ensures.completes m w directory b room fit sound (c.native_laws.ensures.sees directory running.cpu c.requires.able) next small last p clear in
     let kept1 = entries_of (g.S.Shadows.slots running.shadows ram1) in
-    let told_is : changed kept1 (told state1.visited state1.changes) ≡ changed kept1 state1.changes = told_same kept1 state1.changes state1.visited (λ q no. other q no ∙ ap (λ (set : FinMap nat_cmp Entry). get set q) (sym a.entries_same)) in
     let wp1 : state1.control.wp ≡ wp_of running.cpu = ap (λ (k : Control). k.wp) c.try_native.ensures.control ∙ ap (λ (x : Space). x.wp) c.begin-state.ensures.space in
     let slots1 = same_open image (wp_of running.cpu) (g.S.Shadows.slots running.shadows ram0) (g.S.Shadows.slots running.shadows ram1) a.slots_same held.open_to in
     let new = c.keep.new.running in
@@ -945,14 +878,12 @@ returns-in-None-clause-carried_asked g c = λ script steps t unwanted free roomy
     let within1 : AreWithin n (changed kept1 state1.changes) = subst (λ (k : ℕ). AreWithin k (changed kept1 state1.changes)) frames1 c.try_native.ensures.sound.within in
     let free1 = length (free_list pool0 ram1) in
     let enough : 8 ≤ free1 = (let e = ap length a.free_same in let r = c.requires.room in omega (arith, e, r)) in
-    let may = may_close c.native_laws.ensures.grants c.native_laws.ensures.again c.native_laws.ensures.completes m w directory b room fit sound (c.native_laws.ensures.sees directory running.cpu c.requires.able) next small last p clear n c.text_frames.result free1 state1.changes c.text_frames.ensures within1 enough in
-    let kept_all = closes_told new.lost.after (g.S.Shadows.slots running.shadows ram1) slots3 kept1 last.set c.text_frames.result side free1 (wp_of running.cpu) (g.S.Shadows.tracked new.shadows) state1 c.keep_told.new.state c.keep_told.ensures told_is wp1 c.keep.ensures.whole may in
+    let may = may_close c.native_laws.ensures.grants c.native_laws.ensures.again c.native_laws.ensures.completes m w directory b room fit sound (c.native_laws.ensures.sees directory running.cpu c.requires.able) next small last p clear n c.text_frames.result free1 state1.changes c.try_native.ensures.sound.told c.text_frames.ensures within1 enough in
     let noted = reports c.native_laws.ensures.grants c.native_laws.ensures.again c.native_laws.ensures.completes m w directory b room fit sound (c.native_laws.ensures.sees directory running.cpu c.requires.able) next small last p clear t.report t.after
     (sym (ap (λ (x : Set). stepped m (with_set b x)) by) ∙ taken.stepped) in
     let law = c.known_laws.ensures in
     let indices : ℕ → Bool = λ index. is_member eqb (indices_in (steps ++ t ∷ [])) index in
-    let used = subst (λ (x : kept_state.StepState). (page : ℕ) → is_among page (pages_of x.visited x.changes) ≡ true → is_member eqb (indices_in (steps ++ t ∷ [])) (page / 1024) ≡ true) (sym c.keep_told.ensures)
-    (index_used law.grow steps t state1.visited (told state1.visited state1.changes) noted.0 (told_told state1.visited state1.changes)) in
+    let used = index_used law.grow steps t state1.visited state1.changes noted.0 c.try_native.ensures.sound.told in
     let opened1 = g.met.S.Shadows.wider running.shadows ram1 (λ index. is_member eqb (indices_in steps) index) indices (law.grow steps t).0
     (g.met.S.Shadows.same_opened running.shadows ram0 ram1 (λ index. is_member eqb (indices_in steps) index) held.stand a.same carried.opened_to) in
     let done : IsDone g.S.Shadows.slots g.S.Shadows.noted g.S.Shadows.marked g.S.Shadows.value g.S.Shadows.asides image script n t b running.shadows ram0 ram1 = record {
@@ -964,8 +895,7 @@ returns-in-None-clause-carried_asked g c = λ script steps t unwanted free roomy
       entries = a.entries_same;
       same = g.met.S.Shadows.same_asides running.shadows ram0 ram1 held.stand a.same;
     } in
-    let tells = subst (λ (x : kept_state.StepState). Tells x.tables x.wrote (g.S.Shadows.noted running.shadows) (g.S.Shadows.noted new.shadows) (g.S.Shadows.marked running.shadows) (g.S.Shadows.marked new.shadows) (g.S.Shadows.asides running.shadows ram1) (g.S.Shadows.asides new.shadows ram3)) c.keep_told.ensures
-    (c.keep.ensures.told kept_all.0) in
+    let tells = c.keep.ensures.told (c.keep.ensures.whole may).0 in
     record {
       known = known_asked g.S.Shadows.slots g.S.Shadows.noted g.S.Shadows.marked g.S.Shadows.value g.S.Shadows.asides law.tells law.comes law.still law.on image script n steps t b kept running.shadows ram0 ram1 done carried.known
           (g.S.Shadows.noted new.shadows) (g.S.Shadows.marked new.shadows) slots3 (g.S.Shadows.asides new.shadows ram3) state1.tables state1.wrote noted.1 noted.2 load rules set long_after bytes tells;
