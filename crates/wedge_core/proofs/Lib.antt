@@ -21,6 +21,8 @@ pub mod Joined
 pub mod Passed
 pub mod Going
 pub mod CarriedOver
+pub mod CarriedStep
+pub mod Tried
 pub mod Keeping
 pub mod Asked
 pub mod Reaching
