@@ -23,7 +23,7 @@ use Rattle.image_load.specs.Boot.{text_pages}
 use Rattle.host_cpl3.specs.declared.view.View.{View}
 use Rattle.host_cpl3.specs.Access.{last_page}
 use Rattle.shadow_tables.specs.Host.{lent}
-use Rattle.shadow_tables.specs.Slots.{Slot, is_among}
+use Rattle.shadow_tables.specs.Slots.{Slot}
 use Rattle.shadow_tables.specs.declared.words.Side.{Side}
 use Rattle.shadow_tables.specs.declared.words.Side.TheVariants.{Kernel, User}
 use Rattle.step_mem.specs.Changes as changes

@@ -1,5 +1,5 @@
 -- What a run carries goes on over a step of its own: one that went and was ended, and one that the host is to do.
-use Rattle.std.proofs.Common.{◌≡◌, ℕ, ◌+◌, ◌*◌, ◌/◌, ◌==◌, ◌≤◌, eqb, Bool, true, false, List, [], ◌∷◌, ◌++◌, length, Option, refl, sym, ap, arith}
+use Rattle.std.proofs.Common.{◌≡◌, ℕ, ◌+◌, ◌*◌, ◌/◌, ◌==◌, ◌≤◌, eqb, Bool, true, false, List, [], ◌∷◌, ◌++◌, length, Option, refl, ap, arith}
 use Rattle.std.specs.Set.{is_member}
 use Rattle.guest_ram.specs.Bytes.{AreBytes}
 use Rattle.board.specs.Scripts.{Events}

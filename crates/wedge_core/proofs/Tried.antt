@@ -1,27 +1,23 @@
 -- What a try at the instruction at EIP left, before anything is kept of it.
-use Rattle.std.proofs.Common.{◌≡◌, ℕ, ◌+◌, ◌*◌, ◌==◌, ◌≤◌, ◌<◌, ◌^◌, Bool, true, not, List, [], length, drop, Option, Some, refl, sym, ap, subst, ◌∙◌, arith}
-use Rattle.std.specs.FinMap.{FinMap}
-use Rattle.std.specs.Ordering.{nat_cmp}
+use Rattle.std.proofs.Common.{◌≡◌, ℕ, ◌+◌, ◌*◌, ◌==◌, ◌≤◌, ◌<◌, ◌^◌, Bool, true, not, List, length, drop, Option, sym, ap, subst, ◌∙◌, arith}
 use Rattle.guest_ram.specs.Bytes.{AreBytes}
 use Rattle.board.specs.Scripts.{Events}
-use Rattle.descriptors.specs.declared.cpu.Cpu.{Cpu}
 use Rattle.frame_pool.specs.Held.{Owns, SameIn}
 use Rattle.frame_pool.specs.Pool.{base_of, free_list}
 use Rattle.frame_pool.specs.declared.Pool.{Pool}
 use Rattle.image_check.specs.Image.{Image}
 use Rattle.image_load.specs.Boot.{text_pages}
-use Rattle.paging.specs.declared.entry.Entry.{Entry}
 use Rattle.paging.specs.Space.{Wedge, Space}
 use Rattle.shadow_tables.specs.Aside.{Aside, AreSame}
 use Rattle.shadow_tables.specs.Entries.{entries_of}
 use Rattle.shadow_tables.specs.Slots.{Slot, SameSlots}
 use Rattle.step_mem.specs.Changes.{AreWithin, changed}
 use Rattle.step_mem.specs.Shown as laying
-use Rattle.step_mem.specs.Sound.{IsSound, space_at}
+use Rattle.step_mem.specs.Sound.{space_at}
 use Rattle.step_mem.specs.declared.guard.Guard.{Guard}
 use Rattle.step_mem.specs.declared.state.StepState.{StepState}
 use Rattle.step_mem.specs.declared.walking.Control.{Control}
-use Rattle.machine_model.specs.State.{State, wedge, wedge_mode, space_at_start}
+use Rattle.machine_model.specs.State.{wedge, wedge_mode, space_at_start}
 use Rattle.native_steps.specs.Again as again
 use Rattle.native_steps.specs.Forward.{IsNext}
 use Rattle.native_steps.specs.Mirrors.{IsWedge, shown}
