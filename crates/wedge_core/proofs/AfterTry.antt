@@ -1,7 +1,5 @@
 -- What a try at an instruction leaves of what a guest holds, and what is held behind it.
-use Rattle.std.proofs.Common.{◌≡◌, ℕ, ◌+◌, ◌*◌, ◌%◌, ◌≤◌, ◌<◌, ◌^◌, Bool, false, List, length, drop, Option, refl, sym, ap, subst, ◌∙◌, arith}
-use Rattle.std.specs.FinMap.{FinMap}
-use Rattle.std.specs.Ordering.{nat_cmp}
+use Rattle.std.proofs.Common.{◌≡◌, ℕ, ◌+◌, ◌*◌, ◌%◌, ◌≤◌, ◌<◌, ◌^◌, List, length, drop, Option, refl, ap, ◌∙◌, arith}
 use Rattle.board.specs.Scripts.{Events}
 use Rattle.frame_pool.specs.Held.{Owns, Moves, SameIn}
 use Rattle.frame_pool.specs.Pool.{base_of, free_list}
@@ -9,76 +7,22 @@ use Rattle.frame_pool.specs.declared.Pool.{Pool}
 use Rattle.frame_pool.proofs.Above.{free_list-above}
 use Rattle.image_check.specs.Image.{Image}
 use Rattle.image_load.specs.Boot.{text_pages}
-use Rattle.paging.specs.declared.entry.Entry.{Entry}
 use Rattle.shadow_tables.specs.Entries.{entries_of}
 use Rattle.shadow_tables.specs.Slots.{Slot, SameSlots}
-use Rattle.shadow_tables.specs.declared.words.Side.{Side}
-use Rattle.step_mem.specs.Changes.{AreWithin, changed}
+use Rattle.step_mem.specs.Changes.{AreWithin}
 use Rattle.step_mem.specs.Shown.{beyond}
-use Rattle.step_mem.specs.Sound.{IsSound}
-use Rattle.step_mem.specs.declared.state.StepState as kept_state
 use Rattle.machine_model.specs.State.{wedge}
 use Rattle.native_steps.specs.Mirrors.{shown}
-use Rattle.wedge_mem.specs.Settled.{pages_of}
-use Rattle.wedge_core.specs.Closed.{MayClose, Closes}
 use Rattle.wedge_core.specs.Pools.{Keeps}
 use Rattle.wedge_core.specs.Standing.{IsHeld, AreOpen, ground, wp_of}
-use Rattle.wedge_core.specs.Told.{told}
 use Rattle.wedge_core.specs.declared.running.Running.{Running}
 use Rattle.wedge_core.proofs.Keeping.{keeps_join, keeps_above, keeps_moves}
 use Rattle.wedge_core.proofs.Memories.{Leaves, step_leaves, text_within, front_same, host_same, host_left}
-use Rattle.wedge_core.proofs.Telling.{told_few, told_told}
 
 -- events are no part of memory
 pub any_script : (image : Image) (script : Events) (n : ℕ) (ram : List ℕ) → shown (wedge image script n) ram ≡ shown (ground image n) ram
 unfolding shown
 any_script image script n ram = refl
-
--- the memory of a step whose changes are those of its pages, where nothing is ready any more
-abbrev pub as_told : kept_state.StepState → kept_state.StepState
-as_told s = record s {
-  changes = told s.visited s.changes;
-  ready = record { start = 0; len = 0; write = false };
-  earlier = record { start = 0; len = 0; count = 0 };
-}
-
-pub told_sound : (kept : List ℕ → FinMap nat_cmp Entry) (floor : ℕ) (stands : List ℕ → Type 0) (ram : List ℕ) (s : kept_state.StepState) → IsSound kept floor stands ram s
-    → changed (kept ram) (told s.visited s.changes) ≡ changed (kept ram) s.changes → AreWithin s.control.frames (kept ram) → IsSound kept floor stands ram (as_told s)
-told_sound kept floor stands ram s h same within =
-    let few = told_few s.visited s.changes in
-    let all = h.counted in
-    record {
-      frames_in = h.frames_in;
-      below = h.below;
-      laid_in = h.laid_in;
-      counted = omega (arith, few, all);
-      few = h.few;
-      noted = h.noted;
-      told = told_told s.visited s.changes;
-      read = h.read;
-      written = h.written;
-      fits = omega arith;
-      stands_now = h.stands_now;
-      within = subst (AreWithin s.control.frames) (sym same) h.within;
-      reached = λ at low high. absurd (omega (arith, low, high));
-      apart = λ w at low high. absurd (omega (arith, low, high));
-      earlier_counted = omega arith;
-      earlier_fits = omega arith;
-      earlier_within = within;
-      earlier_reached = λ at low high. absurd (omega (arith, low, high));
-    }
-
--- what is kept of such a step
-pub closes_told : (dropped : Bool) (old new : ℕ → Option Slot) (base set : FinMap nat_cmp Entry) (count : ℕ) (side : Side) (free : ℕ) (wp : Bool) (tracked : List ℕ) (s t : kept_state.StepState) → t ≡ as_told s → changed base (told s.visited s.changes) ≡ set → s.control.wp ≡ wp
-    → (MayClose count side (changed base t.changes) (pages_of t.visited t.changes) free → (dropped ≡ false) × Closes old new (changed base t.changes) (pages_of t.visited t.changes) side t.control.wp tracked t.wrote)
-    → MayClose count side set (pages_of s.visited (told s.visited s.changes)) free → (dropped ≡ false) × Closes old new set (pages_of s.visited (told s.visited s.changes)) side wp tracked s.wrote
-closes_told dropped old new base set count side free wp tracked s t e same wp_is whole may =
-    let pages = pages_of s.visited (told s.visited s.changes) in
-    let here = subst (λ (x : FinMap nat_cmp Entry). MayClose count side x pages free) (sym same) may in
-    let there = subst (λ (x : kept_state.StepState). MayClose count side (changed base x.changes) (pages_of x.visited x.changes) free) (sym e) here in
-    let closes = whole there in
-    let back = subst (λ (x : kept_state.StepState). Closes old new (changed base x.changes) (pages_of x.visited x.changes) side x.control.wp tracked x.wrote) e closes.1 in
-    (closes.0, subst (λ (b : Bool). Closes old new set pages side b tracked s.wrote) wp_is (subst (λ (x : FinMap nat_cmp Entry). Closes old new x pages side s.control.wp tracked s.wrote) same back))
 
 module _ {S : Type 0} (stands : S → List ℕ → Type 0) (frames : S → List ℕ → List ℕ) (slots : S → List ℕ → ℕ → Option Slot) where
   pub record After (image : Image) (n : ℕ) (shadows : S) (pool : Pool) (old new : List ℕ) : Type 0 where

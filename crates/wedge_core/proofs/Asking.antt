@@ -23,7 +23,7 @@ use Rattle.image_load.specs.Boot.{text_pages}
 use Rattle.host_cpl3.specs.declared.view.View.{View}
 use Rattle.host_cpl3.specs.Access.{last_page}
 use Rattle.shadow_tables.specs.Host.{lent}
-use Rattle.shadow_tables.specs.Slots.{Slot, is_among}
+use Rattle.shadow_tables.specs.Slots.{Slot}
 use Rattle.shadow_tables.specs.declared.words.Side.{Side}
 use Rattle.shadow_tables.specs.declared.words.Side.TheVariants.{Kernel, User}
 use Rattle.step_mem.specs.Changes as changes
@@ -50,13 +50,11 @@ use Rattle.wedge_core.specs.declared.running.Lost.{Lost}
 use Rattle.wedge_core.specs.Closed.{MayClose, Closes}
 use Rattle.wedge_core.specs.Opened.{is_text_frame, is_given_frame, is_open_to, is_entry_open}
 use Rattle.wedge_core.specs.Standing.{is_kernel, side_of}
-use Rattle.wedge_core.specs.Told.{told}
 use Rattle.wedge_core.specs.Tries.{IsPrepared}
 use Rattle.wedge_core.specs.Views.{view_by}
-use Rattle.wedge_core.proofs.Elsewhere.{elsewhere_on, fetched_elsewhere, reached_elsewhere}
 use Rattle.wedge_core.proofs.Reaching.{among, all_reached}
 use Rattle.wedge_core.proofs.Seeing.{side_is}
-use Rattle.wedge_core.proofs.Telling.{went_all, among_contains, among_first, used_within}
+use Rattle.wedge_core.proofs.AmongPages.{told_among, among_contains, among_first, used_within}
 
 -- ---- pages of ranges
 
@@ -188,13 +186,6 @@ module _ (grants : Grants) (repeats : Again) (completes : NativeCompletes) (m : 
         let x = after_few (went_after p.after_fetch.visited ranges.read) ranges.write in
         omega (arith, a, f, r, x)
 
-    -- pages that it didn't go through have the entries that they had
-    pub others : (q : ℕ) → is_among q t.visited ≡ false → get t.set q ≡ get b.set q
-    others q n =
-        let e = elsewhere_on (space_at_start m.mode m.frames b.cpu b.ram b.set) p.after_fetch t (fetched_elsewhere (b.cpu.cpl == 3) b.cpu.regs.eip p.insn p.len (space_at_start m.mode m.frames b.cpu b.ram b.set) p.after_fetch p.fetches)
-        (elsewhere_on p.after_fetch p.after_read t (reached_elsewhere b.cpu false ranges.read p.after_fetch p.after_read p.reads) (reached_elsewhere b.cpu true ranges.write p.after_read t p.writes)) in
-        e.same q (λ c. let x = among t.visited q c in let f : true ≡ false = sym x ∙ n in cc)
-
     page_open : (frames q : ℕ) → changes.AreWithin frames t.set → Contains t.visited q → is_entry_open (text_pages m.image) (side_of (b.cpu.cpl == 3)) (get t.set q) ≡ true
     unfolding InRange
     page_open frames q within c =
@@ -212,10 +203,10 @@ module _ (grants : Grants) (repeats : Again) (completes : NativeCompletes) (m : 
         by_range write (Some r) g (inl e) = entry_open m.image side frames t (wp_of b) write q within (subst (IsGranted m.image (is_kernel side) (wp_of b) t write) (sym e) g.0)
         by_range write (Some r) g (inr e) = entry_open m.image side frames t (wp_of b) write q within (subst (IsGranted m.image (is_kernel side) (wp_of b) t write) (sym e) g.1)
 
-    pub may_close : (frames count free : ℕ) (cs : List Change) → count ≡ text_pages m.image → changes.AreWithin frames t.set → 8 ≤ free → MayClose count (side_of (b.cpu.cpl == 3)) t.set (pages_of t.visited (told t.visited cs)) free
-    may_close frames count free cs count_is within enough = record {
-      open_to = λ q h. subst (λ (n : ℕ). is_entry_open n (side_of (b.cpu.cpl == 3)) (get t.set q) ≡ true) (sym count_is) (page_open frames q within (among_contains t.visited q (went_all t.visited cs q h)));
-      room = (let u = used_within t.set (pages_of t.visited (told t.visited cs)) t.visited (went_all t.visited cs) in let f = few in omega (arith, u, f, enough));
+    pub may_close : (frames count free : ℕ) (cs : List Change) → changes.AreToldIn t.visited cs → count ≡ text_pages m.image → changes.AreWithin frames t.set → 8 ≤ free → MayClose count (side_of (b.cpu.cpl == 3)) t.set (pages_of t.visited cs) free
+    may_close frames count free cs told count_is within enough = record {
+      open_to = λ q h. subst (λ (n : ℕ). is_entry_open n (side_of (b.cpu.cpl == 3)) (get t.set q) ≡ true) (sym count_is) (page_open frames q within (among_contains t.visited q (told_among t.visited cs told q h)));
+      room = (let u = used_within t.set (pages_of t.visited cs) t.visited (told_among t.visited cs told) in let f = few in omega (arith, u, f, enough));
     }
 
     effect_is : effect_of (view_by directory b.cpu) (settled b t) p.insn p.len ≡ outcomes.Done p.regs p.stores
@@ -227,7 +218,7 @@ module _ (grants : Grants) (repeats : Again) (completes : NativeCompletes) (m : 
 
     -- ---- the pages are filled
 
-    module _ (old new : ℕ → Option Slot) (cs : List Change) (tracked : List ℕ) (memory : List ℕ) (closes : Closes old new t.set (pages_of t.visited (told t.visited cs)) (side_of (b.cpu.cpl == 3)) (wp_of b) tracked t.wrote)
+    module _ (old new : ℕ → Option Slot) (cs : List Change) (tracked : List ℕ) (memory : List ℕ) (closes : Closes old new t.set (pages_of t.visited cs) (side_of (b.cpu.cpl == 3)) (wp_of b) tracked t.wrote)
         (beyond : (page : ℕ) → 2 ^ 20 ≤ page → get t.set page ≡ None)
         (host : (page : ℕ) (write : Bool) → page < 2 ^ 20 → reached memory (length memory / 4096) (directory (side_of (b.cpu.cpl == 3))) page write ≡ lent (length memory / 4096) (new page) (side_of (b.cpu.cpl == 3)) write)
         (within : (page : ℕ) (entry : Entry) → get t.set page ≡ Some entry → entry.frame < length memory / 4096)
@@ -235,7 +226,7 @@ module _ (grants : Grants) (repeats : Again) (completes : NativeCompletes) (m : 
       where
         reached_all : AreReached memory (directory (side_of (b.cpu.cpl == 3))) p.after_fetch.visited (ranges_of p.insn b.cpu.regs)
         reached_all =
-            all_reached m.image side (wp_of b) t old new (pages_of t.visited (told t.visited cs)) tracked memory (directory side) closes
+            all_reached m.image side (wp_of b) t old new (pages_of t.visited cs) tracked memory (directory side) closes
             (λ q c. among_first q t.visited _ (among t.visited q c)) beyond host within p.after_fetch.visited ranges granted
 
         fetched_same : p.after_fetch.visited ≡ same_again.fetched.visited

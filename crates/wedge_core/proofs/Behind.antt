@@ -23,7 +23,7 @@ use Rattle.wedge_mem.specs.Told.{guest_frames, read_by}
 use Rattle.wedge_core.specs.Ready.{IsReadyAside, AreReady, AreReadyBehind, IsReady, IsReadyBehind}
 use Rattle.wedge_core.proofs.Bools.{none_some}
 use Rattle.wedge_core.proofs.Shedding.{Sheds, found_tables, ready_shed}
-use Rattle.wedge_core.proofs.Telling.{among_contains}
+use Rattle.wedge_core.proofs.AmongPages.{among_contains}
 
 -- ---- frames of a list
 

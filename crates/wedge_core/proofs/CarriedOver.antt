@@ -64,7 +64,7 @@ module _ {S : Type 0} (stands : S → List ℕ → Type 0) (frames : S → List 
       next = λ kept steps b c. c.known.next;
       past = λ kept steps t p c. record {
         known = laws.quiet m steps t (noted s) (marked s) (asides s memory) kept p c.known;
-        opened_to = widens.wider s memory (λ index. is_member eqb (indices_in steps) index) (λ index. is_member eqb (indices_in (steps ++ t ∷ [])) index) (laws.grow steps t).0 c.opened_to;
+        opened_to = widens.wider s memory (λ index. is_member eqb (indices_in steps) index) (λ index. is_member eqb (indices_in (steps ++ t ∷ [])) index) (laws.known.grow steps t).0 c.opened_to;
       };
     }
 
@@ -73,7 +73,7 @@ module _ {S : Type 0} (stands : S → List ℕ → Type 0) (frames : S → List 
         → CarriedWith m s memory kept steps b → CarriedWith m s' then kept steps b
     carried_there m s s' memory then kept steps b is stand same c =
         subst (λ (x : S). CarriedWith m x then kept steps b) (sym is) (record {
-          known = laws.still m steps b (noted s) (noted s) (marked s) (marked s) (asides s memory) (asides s then) kept
+          known = laws.known.still m steps b (noted s) (noted s) (marked s) (marked s) (asides s memory) (asides s then) kept
               (record { notes = λ frame e. e; marks = λ e. e; others = widens.same_asides s memory then stand same }) c.known;
           opened_to = widens.same_opened s memory then (λ index. is_member eqb (indices_in steps) index) stand same c.opened_to;
         })
@@ -82,7 +82,7 @@ module _ {S : Type 0} (stands : S → List ℕ → Type 0) (frames : S → List 
     few_held : (m : Setting) (s : S) (memory : List ℕ) (kept : Set) (steps : List Taken) (b : State) → ∥ stands s memory ∥₁ → Roomy steps → CarriedWith m s memory kept steps b → length (frames s memory) ≤ 400
     few_held m s memory kept steps b stand roomy c =
         let many = widens.sized s memory (λ index. is_member eqb (indices_in steps) index) (indices_in steps) stand c.opened_to (λ index lt h. h) in
-        let few = laws.few steps roomy in
+        let few = laws.known.few steps roomy in
         omega (arith, many, few)
 
     -- what one step of the run's own says of what is carried

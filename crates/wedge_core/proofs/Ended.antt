@@ -38,8 +38,8 @@ use Rattle.wedge_core.specs.Opened.{is_open_to, is_entry_open}
 use Rattle.wedge_core.specs.Ready.{IsReady}
 use Rattle.machine_step.specs.Roots.{RootsAs}
 use Rattle.wedge_core.specs.Standing.{ground, side_of}
-use Rattle.wedge_core.proofs.Knowing.{answer_from, told_among, told_by, over, a_step, all_found}
-use Rattle.wedge_core.proofs.Telling.{among_contains, used_within}
+use Rattle.wedge_core.proofs.Knowing.{answer_from, told_by, over, a_step, all_found}
+use Rattle.wedge_core.proofs.AmongPages.{among_contains, told_among, used_within}
 
 -- ---- the pages that a step used may be shown
 

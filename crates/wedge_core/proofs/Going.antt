@@ -324,7 +324,7 @@ going_on m old now new lost seen a b c told tells pages fills mid filled wanted 
           (λ roomy. goes.next now.set taken_so_far (with_set now g.whole) (g.carries s roomy) t refl (chosen_kept m now lost.before (λ drop. over.clash s drop taken_so_far g.whole roomy (g.carries s roomy))));
       carries = λ s roomy.
           let then : Roomy (taken_so_far ++ t ∷ []) = subst Roomy joined roomy in
-          subst (λ (l : List Taken). carried_then new.set l (with_set new r.whole)) (sym joined) (over.over s taken_so_far t then from refl (g.carries s (laws.roomy taken_so_far t then)));
+          subst (λ (l : List Taken). carried_then new.set l (with_set new r.whole)) (sym joined) (over.over s taken_so_far t then from refl (g.carries s (laws.known.before taken_so_far t then)));
       enough = enough;
       front = trace_of g.reports;
       trace = trace_join g.reports (r.report ∷ []) ∙ ap (λ (l : List Item). trace_of g.reports ++ l) (append-nil r.report.items ∙ r.items);

@@ -40,7 +40,7 @@ use Rattle.wedge_core.specs.Ready.{is_all}
 use Rattle.machine_step.specs.Roots.{RootsAs}
 use Rattle.wedge_core.specs.Standing.{wp_of}
 use Rattle.wedge_core.proofs.Shedding.{found_tables}
-use Rattle.wedge_core.proofs.Telling.{any_among, among_split, among_first}
+use Rattle.wedge_core.proofs.AmongPages.{any_among, told_among, among_first}
 
 clash : (b : Bool) → b ≡ true → b ≡ false → ⊥
 clash b t f = let g : true ≡ false = sym t ∙ f in cc
@@ -89,13 +89,6 @@ answer_from m b t w board s taken set e =
     }
 
 -- ---- pages that a step used
-
--- each page that was changed is one that was visited
-pub told_among : (visited : List ℕ) (changes : List Change) → AreToldIn visited changes → (q : ℕ) → is_among q (pages_of visited changes) ≡ true → is_among q visited ≡ true
-told_among visited changes told q h = elim (among_split q visited (map page_of changes) h) [
-  | inl a ↦ a
-  | inr c ↦ sym (any_among visited q) ∙ told q (any_among (map page_of changes) q ∙ c)
-]
 
 changed_other : (set : Set) (cs : List Change) (q : ℕ) → is_among q (map page_of cs) ≡ false → get (changed set cs) q ≡ get set q
 changed_other set [] q h = refl

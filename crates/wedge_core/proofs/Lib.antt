@@ -21,6 +21,8 @@ pub mod Joined
 pub mod Passed
 pub mod Going
 pub mod CarriedOver
+pub mod CarriedStep
+pub mod Tried
 pub mod Keeping
 pub mod Asked
 pub mod Reaching
@@ -35,8 +37,7 @@ pub mod LookedUses
 pub mod LookedMarks
 pub mod OnceRan
 pub mod Clashless
-pub mod Elsewhere
-pub mod Telling
+pub mod AmongPages
 pub mod Insensitive
 pub mod Asking
 pub mod Nexts

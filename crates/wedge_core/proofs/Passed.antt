@@ -45,7 +45,7 @@ module _ (laws : CarryLaws) (m : Setting) (carried : Set → List Taken → Stat
       record {
         rule = laws.rule m old b after sets kept reports report steps is k.rule (λ roomy. goes.next kept (steps_by m old sets) b (k.carries roomy) t refl (inl refl));
         carries = λ roomy.
-            let before : Roomy (steps_by m old sets) = laws.roomy (steps_by m old sets) t (subst Roomy joined roomy) in
+            let before : Roomy (steps_by m old sets) = laws.known.before (steps_by m old sets) t (subst Roomy joined roomy) in
             subst (λ (l : List Taken). carried after.set l after) (sym joined) (goes.past kept (steps_by m old sets) t past (k.carries before));
       }
 

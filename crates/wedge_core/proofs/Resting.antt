@@ -15,6 +15,7 @@ use Rattle.machine_model.specs.Step.{Report, Result, Went, step_of, stepped, by_
 use Rattle.machine_model.specs.Run.{Set, Steps, trace_of}
 use Rattle.machine_model.specs.Taken.{Taken, behind, steps_by}
 use Rattle.machine_model.specs.Notes.{AreLeft}
+use Rattle.machine_model.proofs.Runs.{no_steps}
 use Rattle.paging.specs.Space.{Space}
 use Rattle.sites.specs.declared.site.Site.{Site}
 use Rattle.machine_model.specs.Step.{went, worked, begins_next}
@@ -175,13 +176,9 @@ counts_stay m k counts = record {
   passed = sym (ap (passed_on counts.passed) (none_direct m.image.sites k));
 }
 
-steps_none : (m : Setting) (b : State) → Steps m b [] [] b
-unfolding Steps
-steps_none m b = (refl, refl)
-
 -- no step passes
 pub rests_none : (m : Setting) (b : State) (counts : Counts) → Passes m b b counts counts
-rests_none m b counts = record { n = 0; reports = []; steps = steps_none m b; left = tt; quiet = All-nil IsQuiet; silent = refl; counts = counts_stay m 0 counts }
+rests_none m b counts = record { n = 0; reports = []; steps = no_steps m b; left = tt; quiet = All-nil IsQuiet; silent = refl; counts = counts_stay m 0 counts }
 
 rests_at : (j : ℕ) (s : Setting) (cpu : Cpu) (ram : List ℕ) (set : Set) (board : Board) (t : ℕ) (counts : Counts)
     → cpu.halted ≡ true → interrupt_of (record cpu { held = false }) board ≡ None → comes_within board s.script t (suc j) ≡ false

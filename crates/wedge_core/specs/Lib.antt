@@ -16,7 +16,6 @@ pub mod Attempts
 pub mod Ran
 pub mod Tries
 pub mod Prepared
-pub mod Told
 pub mod Filled
 pub mod Ready
 pub mod Leaving

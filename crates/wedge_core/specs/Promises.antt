@@ -9,8 +9,6 @@ use Rattle.sites.specs.Patched.{patched}
 use Rattle.board.specs.Scripts.{Events}
 use Rattle.image_check.specs.Image.{Image}
 use Rattle.image_load.specs.Boot.{need}
-use Rattle.run_trace.specs.declared.pause.Pause.{Pause}
-use Rattle.run_trace.specs.declared.pause.Pause.TheVariants as pause
 use Rattle.image_load.specs.declared.fault.RunFault.{RunFault}
 use Rattle.image_load.specs.declared.fault.RunFault.TheVariants as fault
 use Rattle.run_trace.specs.declared.items.End.{End}

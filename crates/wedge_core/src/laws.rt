@@ -9,14 +9,10 @@ ghost use Rattle.native_steps.specs.Again.{Again};
 ghost use Rattle.native_steps.specs.Backward.{NativeCompletes};
 ghost use Rattle.native_steps.specs.Granted.{Grants};
 ghost use Rattle.native_steps.specs.TextLaws.{TextLaws};
-ghost use Rattle.kept_laws.specs.Carried.{RoomyBefore, RoomyIsFew, IndicesGrow};
-ghost use Rattle.kept_laws.specs.Known.{KnownStill, KnownOn};
-ghost use Rattle.kept_laws.specs.OverSteps.{SettlingTells, DroppedComesFrom};
 ghost use Rattle.wedge_core.specs.AloneLaws.{AlonesGo};
 ghost use Rattle.wedge_core.specs.ViewLaws.{ViewsLend, ViewsSee};
 
 use image_laws::{fetching, goes_on, outside_sites, places};
-use kept_laws::{known_goes_on, roomy_is_few, settling_tells};
 use machine_model::{
     following_goes_on, others_count_nothing, steps_are_done, steps_follow, works_follow,
 };
@@ -61,19 +57,4 @@ pub fn native_laws()
     outside_sites();
     fetching();
     goes_on();
-}
-
-/// What a run knows goes on over a step that it settles and ends, and while it is roomy its shadows hold few frames.
-pub fn known_laws()
-    ensures tells { SettlingTells }
-    ensures comes { DroppedComesFrom }
-    ensures still { KnownStill }
-    ensures on { KnownOn }
-    ensures before { RoomyBefore }
-    ensures few { RoomyIsFew }
-    ensures grow { IndicesGrow }
-{
-    settling_tells();
-    known_goes_on();
-    roomy_is_few();
 }

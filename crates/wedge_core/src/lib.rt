@@ -17,7 +17,6 @@ mod sight;
 mod single;
 mod slice;
 mod stretch;
-mod told;
 
 pub use guest::Guest;
 pub use laws::{alones_go, views_lend};

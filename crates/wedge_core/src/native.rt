@@ -42,12 +42,12 @@ ghost use Rattle.machine_model.specs.Keeping.{Roomy};
 ghost use Rattle.machine_model.specs.Run.{Set};
 ghost use Rattle.wedge_core.specs.Carried.{IsCarried, IsCarriedBy, IsTakenFrom};
 
+use crate::carrying::known_laws;
 use crate::clash::clashes;
-use crate::laws::{known_laws, native_laws};
+use crate::laws::native_laws;
 use crate::running::Running;
 use crate::sight::are_bytes;
 use crate::single::{NOT_YET, go, keep, original, text_frames};
-use crate::told::keep_told;
 use board::Board;
 use descriptors::Cpu;
 use frame_pool::Pool;
@@ -202,7 +202,6 @@ fn try_once<S: Reloads + Drop>(
             Ok(Attempt::Went(worked.seen))
         }
         None => {
-            keep_told(&mut state);
             keep(running, pool, ram, &state, text_frames(image));
             Ok(Attempt::Asked)
         }

@@ -30,8 +30,8 @@ ghost use Rattle.machine_model.specs.Keeping.{Roomy};
 ghost use Rattle.wedge_core.specs.Carried.{IsCarried, IsTakenFrom};
 ghost use Rattle.wedge_core.specs.Leaving.{Tells, Ends};
 
+use crate::carrying::known_laws;
 use crate::close::{close, leave};
-use crate::laws::known_laws;
 use crate::opened::TEXT_FRAME;
 use crate::running::Running;
 use crate::sight::are_bytes;

@@ -31,8 +31,8 @@ ghost use Rattle.machine_model.specs.Taken.{Taken};
 ghost use Rattle.machine_model.specs.Keeping.{Roomy};
 ghost use Rattle.wedge_core.specs.Carried.{IsCarried, IsTakenFrom};
 
-use crate::carrying::carry_laws;
-use crate::laws::{alones_go, known_laws};
+use crate::carrying::{carry_laws, known_laws};
+use crate::laws::alones_go;
 use crate::native::{Attempt, begin_native};
 use crate::noting::{tell, tell_both};
 use crate::rest::rest;

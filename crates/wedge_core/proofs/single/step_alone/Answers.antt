@@ -1,19 +1,9 @@
-use Rattle.std.proofs.Common.{◌≡◌, ℕ, ◌+◌, ◌*◌, ◌/◌, ◌==◌, ◌≤◌, eqb, Bool, true, false, List, [], ◌∷◌, ◌++◌, length, refl, sym, ap, subst, ◌∙◌, arith}
-use Rattle.std.specs.Set.{is_member}
+use Rattle.std.proofs.Common.{◌≡◌, ℕ, ◌*◌, ◌≤◌, Bool, true, List, [], length, refl, sym, ap, subst, ◌∙◌, arith}
 use Rattle.guest_ram.specs.Bytes.{AreBytes}
-use Rattle.shadow_tables.specs.Slots.{is_among}
-use Rattle.machine_model.specs.Keeping.{Roomy}
-use Rattle.machine_model.specs.Taken.{Taken}
-use Rattle.machine_model.specs.UsedPages.{Uses}
-use Rattle.native_steps.proofs.Shown.{shown_length}
-use Rattle.kept_laws.specs.Carried.{indices_in}
-use Rattle.wedge_core.specs.Carried.{IsCarried, IsTakenFrom}
-use Rattle.wedge_core.specs.Closed.{MayClose}
-use Rattle.machine_step.specs.Roots.{RootsAs}
-use Rattle.wedge_core.proofs.Knowing.{IsAnswer, answer_from}
-use Rattle.wedge_core.proofs.Ended.{IsDone, known_went, may_close_used, index_used}
+use Rattle.wedge_core.proofs.CarriedOver.{Widens}
+use Rattle.wedge_core.proofs.CarriedStep.{went_on}
 use Rattle.descriptors.specs.declared.cpu.Cpu.{Cpu}
-use Rattle.frame_pool.specs.Pool.{base_of, free_list}
+use Rattle.frame_pool.specs.Pool.{base_of}
 use Rattle.paging.specs.Space.{Mode, Wedge, Space}
 use Rattle.shadow_tables.specs.Entries.{entries_of}
 use Rattle.step_mem.specs.Changes.{AreWithin, changed}
@@ -24,7 +14,7 @@ use Rattle.wedge_mem.specs.Owned.{first, owns}
 use Rattle.step_mem.specs.Sound.{space_at}
 use Rattle.machine_model.specs.State.{wedge, wedge_mode}
 use Rattle.native_steps.specs.Mirrors.{shown}
-use Rattle.wedge_core.specs.Standing.{AreOpen, state_of, ground, side_of, wp_of}
+use Rattle.wedge_core.specs.Standing.{AreOpen, state_of, ground, wp_of}
 use Rattle.wedge_core.proofs.Alones.{alone_from, began}
 use Rattle.wedge_core.proofs.Opening.{same_open}
 use Rattle.wedge_core.proofs.Keeping.{keeps_above}
@@ -293,103 +283,22 @@ returns-in-Err-clause-filled g c =
     fills_same _ _ running.fills
     (kept_same g.S.Shadows.slots g.S.Shadows.asides running.shadows ram0 ram1 (g.met.S.Shadows.same_entries running.shadows ram0 ram1 held.stand same) (g.met.S.Shadows.same_asides running.shadows ram0 ram1 held.stand same))
 
--- what the run knows goes on
-module _ (g : Over) (c : goal.After-go g) (script : Events) (steps : List Taken) (t : Taken)
-    (free : length (free_list c.args.pool.now c.args.ram.now) + c.args.running.now.held ≡ 512) (roomy : Roomy (steps ++ t ∷ []))
-    (taken : IsTakenFrom (wedge (image g (d g c)) script (n g (d g c))) (b g (d g c) script) t) (by : t.set ≡ (b g (d g c) script).set)
-    (carried : IsCarried g.S.Shadows.slots g.S.Shadows.noted g.S.Shadows.marked g.S.Shadows.asides g.S.Shadows.opened (wedge (image g (d g c)) script (n g (d g c))) steps t.before (running g (d g c)).shadows (ram0 g (d g c)))
-  where
-    abbrev e : goal.After-worked-1 g
-    e = d g c
-
-    abbrev state : kept_state.StepState
-    state = state1 g e
-
-    answer : IsAnswer t c.in-Ok.worked (s1 g e script)
-    answer = answer_from (wedge (image g e) script (n g e)) (b g e script) t c.in-Ok.worked c.step_in-outcome.new.board (s1 g e script) taken by (went g e script)
-
-    indices : ℕ → Bool
-    indices index = is_member eqb (indices_in (steps ++ t ∷ [])) index
-
-    used : (page : ℕ) → is_among page (pages_of state.visited state.changes) ≡ true → indices (page / 1024) ≡ true
-    unfolding indices
-    used = index_used c.known_laws.ensures.grow steps t state.visited state.changes answer.pages c.step_in-outcome.ensures.sound.told
-
-    opened1 : g.S.Shadows.opened (running g e).shadows (ram1 g e) indices
-    unfolding indices
-    opened1 =
-        g.met.S.Shadows.wider (running g e).shadows (ram1 g e) (λ index. is_member eqb (indices_in steps) index) indices (c.known_laws.ensures.grow steps t).0
-        (g.met.S.Shadows.same_opened (running g e).shadows (ram0 g e) (ram1 g e) (λ index. is_member eqb (indices_in steps) index) c.requires.held.stand (a g e).same carried.opened_to)
-
-    few0 : length (g.S.Shadows.frames (running g e).shadows (ram0 g e)) ≤ 400
-    few0 =
-        let size = g.met.S.Reloads.sized (running g e).shadows (ram0 g e) (λ index. is_member eqb (indices_in steps) index) (indices_in steps) c.requires.held.stand carried.opened_to (λ index lt is. is) in
-        let few = c.known_laws.ensures.few steps (c.known_laws.ensures.before steps t roomy) in
-        omega (arith, size, few)
-
-    free1 : length (free_list c.args.pool.now (ram1 g e)) + length (g.S.Shadows.frames (running g e).shadows (ram1 g e)) ≡ 512
-    free1 =
-        let same = ap length (a g e).free_same in
-        let frames = ap length (a g e).frames_same in
-        let counted = c.requires.held.counted in
-        omega (arith, same, frames, counted, free)
-
-    uses : Uses ((running g e).cpu.cpl == 3) (space_at (λ r. entries_of (g.S.Shadows.slots (running g e).shadows r)) (ram0 g e) c.begin-state.result) (s1 g e script)
-    uses = rw c.in-Ok.is at c.step_in-outcome.ensures.uses
-
-    roots : RootsAs (running g e).cpu c.in-Ok.worked
-    roots = rw c.in-Ok.is at c.step_in-outcome.ensures.roots
-
-    may : MayClose c.text_frames-count.result (side_of ((running g e).cpu.cpl == 3)) (changed (entries_of (g.S.Shadows.slots (running g e).shadows (ram1 g e))) state.changes) (pages_of state.visited state.changes) (length (free_list c.args.pool.now (ram1 g e)))
-    may =
-        let o = c.original in
-        let mode_is : wedge_mode (image g e) ≡ Wedge o.result.first o.result.count (record { front = 0; front_len = 0; back = 0; back_len = 0 }) = λ i. Wedge (sym o.ensures.first i) (sym o.ensures.count i) (record { front = 0; front_len = 0; back = 0; back_len = 0 }) in
-        let sound = c.step_in-outcome.ensures.sound in
-        let noted = sound.noted in
-        let pages = sound.few in
-        let held = few0 in
-        let frames = ap length (a g e).frames_same in
-        let all = free1 in
-        may_close_used (image g e) c.text_frames-count.result state.control.frames (length (free_list c.args.pool.now (ram1 g e))) ((running g e).cpu.cpl == 3) (space_at (λ r. entries_of (g.S.Shadows.slots (running g e).shadows r)) (ram0 g e) c.begin-state.result) (s1 g e script) state.changes
-        c.text_frames-count.ensures uses (ap (λ (x : Space). x.visited) c.begin-state.ensures.space) (ap (λ (x : Space). x.mode) c.begin-state.ensures.space ∙ sym mode_is) sound.within sound.told (omega (arith, noted, pages, held, frames, all))
-
-    enough : (s : g.row.S.Denot) (memory : List ℕ) → ∥ g.S.Shadows.stands s memory ∥₁ → g.S.Shadows.opened s memory indices
-        → length (g.S.Shadows.frames s memory) + 2 ≤ length (free_list c.args.pool.now (ram1 g e)) + length (g.S.Shadows.frames (running g e).shadows (ram1 g e))
-    unfolding indices
-    enough s memory stands opened =
-        let size = g.met.S.Reloads.sized s memory (λ index. is_member eqb (indices_in (steps ++ t ∷ [])) index) (indices_in (steps ++ t ∷ [])) stands opened (λ index lt is. is) in
-        let few = c.known_laws.ensures.few (steps ++ t ∷ []) roomy in
-        let all = free1 in
-        omega (arith, size, few, all)
-
-    done : IsDone g.S.Shadows.slots g.S.Shadows.noted g.S.Shadows.marked g.S.Shadows.value g.S.Shadows.asides (image g e) script (n g e) t (b g e script) (running g e).shadows (ram0 g e) (ram1 g e)
-    done = record {
-      taken = taken;
-      by = by;
-      ram = any_script (image g e) script (n g e) (ram0 g e);
-      set = refl;
-      room = (let w = c.requires.held in let long = shown_length (ground (image g e) (n g e)) w.wedge (ram0 g e) w.host in let same = ap length (any_script (image g e) script (n g e) (ram0 g e)) in omega (arith, long, same));
-      entries = (a g e).entries_same;
-      same = asides1 g e;
-    }
-
-    ram_is : (s1 g e script).ram ≡ shown (ground (image g e) (n g e)) (ram1 g e)
-    ram_is = ram1_is g e script ∙ any_script (image g e) script (n g e) (ram1 g e)
-
-    pub carried_on : c.args.wanted ≡ false → IsCarried g.S.Shadows.slots g.S.Shadows.noted g.S.Shadows.marked g.S.Shadows.asides g.S.Shadows.opened (wedge (image g e) script (n g e)) (steps ++ t ∷ []) t.after c.go.new.running.shadows c.go.new.ram
-    unfolding indices
-    carried_on unwanted =
-        let law = c.known_laws.ensures in
-        let ends = c.go.ensures.ends unwanted may indices used opened1 enough in
-        let long = c.are_bytes.ensures.length in
-        record {
-          known =
-              known_went g.S.Shadows.slots g.S.Shadows.noted g.S.Shadows.marked g.S.Shadows.value g.S.Shadows.asides law.tells law.comes law.still law.on (image g e) script (n g e) steps t (b g e script) (entries_of (g.S.Shadows.slots (running g e).shadows (ram0 g e)))
-              (running g e).shadows (ram0 g e) (ram1 g e) done carried.known (g.S.Shadows.noted c.go.new.running.shadows) (g.S.Shadows.marked c.go.new.running.shadows) (g.S.Shadows.slots c.go.new.running.shadows c.go.new.ram) (g.S.Shadows.asides c.go.new.running.shadows c.go.new.ram)
-              c.in-Ok.worked c.step_in-outcome.new.board (s1 g e script) state.changes (went g e script) roots c.requires.ready refl c.step_in-outcome.ensures.sound.told
-              (let r = ram_is in let l = ap length r in omega (arith, long, l)) (subst AreBytes (sym ram_is) c.are_bytes.ensures.bytes) ends;
-          opened_to = c.go.ensures.opened indices used opened1;
-        }
-
+-- what the run carries goes on
 pub returns-in-Ok-clause-carried : goal.returns-in-Ok-clause-carried
-returns-in-Ok-clause-carried g c = λ script steps t unwanted free roomy taken by carried. carried_on g c script steps t free roomy taken by carried unwanted
+returns-in-Ok-clause-carried g c = λ script steps t unwanted free roomy taken by carried.
+    let d = c.before in
+    let o = c.original in
+    let last = s1 g d script in
+    let begun = space_at (λ r. entries_of (g.S.Shadows.slots (running g d).shadows r)) (ram0 g d) c.begin-state.result in
+    let mode_is : wedge_mode (image g d) ≡ Wedge o.result.first o.result.count (record { front = 0; front_len = 0; back = 0; back_len = 0 }) = λ i. Wedge (sym o.ensures.first i) (sym o.ensures.count i) (record { front = 0; front_len = 0; back = 0; back_len = 0 }) in
+    let widens : Widens g.S.Shadows.stands g.S.Shadows.frames g.S.Shadows.slots g.S.Shadows.noted g.S.Shadows.marked g.S.Shadows.asides g.S.Shadows.opened = record { same_asides = g.met.S.Shadows.same_asides; same_opened = g.met.S.Shadows.same_opened; wider = g.met.S.Shadows.wider; sized = g.met.S.Reloads.sized } in
+    let sound = c.step_in-outcome.ensures.sound in
+    let pages = sound.noted in
+    let most = sound.few in
+    let ram_is : last.ram ≡ shown (ground (image g d) (n g d)) (ram1 g d) = ram1_is g d script ∙ any_script (image g d) script (n g d) (ram1 g d) in
+    let long = c.are_bytes.ensures.length in
+    let same = ap length ram_is in
+    went_on g.S.Shadows.stands g.S.Shadows.frames g.S.Shadows.slots g.S.Shadows.noted g.S.Shadows.marked g.S.Shadows.value g.S.Shadows.asides g.S.Shadows.opened widens c.known_laws.ensures (image g d) script (running g d) c.args.pool.now (ram0 g d) (ram1 g d)
+    c.requires.held (a g d) steps t (entries_of (g.S.Shadows.slots (running g d).shadows (ram0 g d))) free roomy taken by (record { known = carried.known; opened_to = carried.opened_to }) last (state1 g d).changes refl sound.told c.go.new.running.shadows c.go.new.ram c.go.ensures.opened
+    c.in-Ok.worked c.step_in-outcome.new.board (went g d script) (rw c.in-Ok.is at c.step_in-outcome.ensures.roots) c.requires.ready (omega (arith, long, same)) (subst AreBytes (sym ram_is) c.are_bytes.ensures.bytes) begun c.text_frames-count.result (state1 g d).control.frames c.text_frames-count.ensures
+    (rw c.in-Ok.is at c.step_in-outcome.ensures.uses) (ap (λ (x : Space). x.visited) c.begin-state.ensures.space) (ap (λ (x : Space). x.mode) c.begin-state.ensures.space ∙ sym mode_is) sound.within (omega (arith, pages, most)) (c.go.ensures.ends unwanted)
