@@ -18,8 +18,7 @@ ghost use Rattle.wedge_core.specs.Pools.{Keeps};
 ghost use Rattle.wedge_core.specs.Promises.{with_patches};
 ghost use Rattle.wedge_core.specs.Ready.{IsReady};
 ghost use Rattle.wedge_core.specs.Slices.{BeginsEmpty, SliceAs};
-ghost use Rattle.run_trace.specs.Pauses.{IfPaused};
-ghost use Rattle.run_trace.specs.Pauses.{IfReached};
+ghost use Rattle.run_trace.specs.Pauses.{IfPaused, IfReached};
 ghost use Rattle.wedge_core.specs.Standing.{IsHeld, IsAble, ground, state_of};
 ghost use Rattle.wedge_core.specs.Starts.{IsAsNew, StartedAs};
 
