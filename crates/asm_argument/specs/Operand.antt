@@ -116,7 +116,7 @@ first sh (symbol.Text t) = allowed (takes_text sh) (partial.Whole (form.Text t))
 first sh _ = Err cause.BadOperand
 
 abbrev pub is_low : ℕ → Bool
-is_low n = nat_le n 2147483648
+is_low n = nat_le n 0x80000000
 
 abbrev pub lowered : ℕ → Bool → Partial → Result Partial SourceCause
 lowered n fit p = if is_low n then counted true fit p else Err cause.BadNumber

@@ -21,7 +21,7 @@ abbrev pub hlt : Insn
 hlt = record { op = op.Hlt; size = size.Long; a = operand.Absent; b = operand.Absent; imm = 0; sel = 0; rep = false }
 
 abbrev pub jump_to_itself : Insn
-jump_to_itself = record { op = op.Jmp; size = size.Long; a = operand.Absent; b = operand.Absent; imm = 4294967294; sel = 0; rep = false }
+jump_to_itself = record { op = op.Jmp; size = size.Long; a = operand.Absent; b = operand.Absent; imm = 0xFFFFFFFE; sel = 0; rep = false }
 
 -- so many NOPs from an offset on
 unfoldable pub nops_at : ℕ → ℕ → List Swept

@@ -47,7 +47,7 @@ pub record IsPadded (o : ObjectParts) (cs : List Chunk) : Type 0 where
 
 -- A direct branch whose field holds -4 names a symbol with no number beside it.
 abbrev pub IsAlone : Chunk → Type 0
-IsAlone (Alone c) = is_branch (insn_in c).op ≡ true → c.parts.imm ≡ 4294967292
+IsAlone (Alone c) = is_branch (insn_in c).op ≡ true → c.parts.imm ≡ 0xFFFFFFFC
 IsAlone Pair = Unit {0}
 
 abbrev pub AreAlone : List Chunk → Type 0

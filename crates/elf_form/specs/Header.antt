@@ -80,7 +80,7 @@ IsSection bytes s = (s + 40 ≤ length bytes) × (section_passes bytes s ≡ fal
 
 -- The fields that have one value.
 abbrev pub magic : List ℕ → Option ℕ
-magic bytes = bad (not (word32 bytes 0 == 1179403647)) 0
+magic bytes = bad (not (word32 bytes 0 == 0x464C457F)) 0
 
 abbrev pub class : List ℕ → Option ℕ
 class bytes = bad (not (byte bytes 4 == 1)) 4

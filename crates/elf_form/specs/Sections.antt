@@ -13,7 +13,7 @@ contents bytes s = if has_contents bytes s then part bytes (word32 bytes (s + 16
 
 -- an index that names a section (Special Section Indexes): not 0 (SHN_UNDEF), and below those that are reserved, from 0xFF00 (SHN_LORESERVE) on
 abbrev pub is_index : List ℕ → ℕ → Bool
-is_index bytes index = not (index == 0) && nat_lt index 65280 && nat_lt index (section_count bytes)
+is_index bytes index = not (index == 0) && nat_lt index 0xFF00 && nat_lt index (section_count bytes)
 
 -- The header names the section that holds the names. It is there, and a string table (3); else there are no names.
 abbrev pub names_section : List ℕ → ℕ

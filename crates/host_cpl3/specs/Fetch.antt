@@ -26,7 +26,7 @@ fetched_on m root eip front = do
 abbrev pub fetched_by : List ℕ → ℕ → ℕ → List ℕ → Decoded → Met Decoded
 fetched_by m root eip front (begins.Insn insn len) = gives (begins.Insn insn len)
 fetched_by m root eip front begins.Outside = gives begins.Outside
-fetched_by m root eip front begins.Short = if eip / 4096 == 1048575 then Err exits.Wrap else fetched_on m root eip front
+fetched_by m root eip front begins.Short = if eip / 4096 == 0xFFFFF then Err exits.Wrap else fetched_on m root eip front
 
 unfoldable pub fetched : List ℕ → ℕ → ℕ → Met Decoded
 fetched m root eip = do

@@ -17,7 +17,7 @@ is_null v _ = false
 
 -- the wedge window of linear addresses
 abbrev pub is_window : ℕ → Bool
-is_window at = nat_le 67108864 at && nat_lt at 100663296
+is_window at = nat_le 0x04000000 at && nat_lt at 0x06000000
 
 -- in the kernel view an instruction there isn't done by the host
 abbrev pub is_entry : View → ℕ → Bool
@@ -25,7 +25,7 @@ is_entry v at = v.kernel && is_window at
 
 -- in the kernel view SS, DS and ES expand down to 0x11000000
 abbrev pub is_past_limit : View → ℕ → Bool
-is_past_limit v at = v.kernel && nat_lt at 285212672
+is_past_limit v at = v.kernel && nat_lt at 0x11000000
 
 -- the general protection fault without a selector
 abbrev pub protection : Exit

@@ -21,15 +21,15 @@ pub record IsOfLevel (cpu : Cpu) (segment : Hidden) : Type 0 where
 -- bit 1 is 1, and of the others only CF, PF, AF, ZF, SF, IF, DF, OF and the two bits of IOPL may be set
 pub record AreFlags (bits : ℕ) : Type 0 where
   pub fixed : bit_and bits 2 ≡ 2
-  pub others : bit_and bits 4294951208 ≡ 0
+  pub others : bit_and bits 0xFFFFC128 ≡ 0
 
 -- the values that MOV to a control register takes: paging and protection are on, bit 4 of CR0 is 1, and of CR4 only
 -- PSE may be set
 pub record AreControls (cpu : Cpu) : Type 0 where
-  pub on : bit_and cpu.cr0 2147483665 ≡ 2147483665
-  pub others : bit_and cpu.cr0 2147155904 ≡ 0
-  pub directory : bit_and cpu.cr3 4071 ≡ 0
-  pub extensions : (cpu.cr4 ≡ 0) ⊎ (cpu.cr4 ≡ 16)
+  pub on : bit_and cpu.cr0 0x80000011 ≡ 0x80000011
+  pub others : bit_and cpu.cr0 0x7FFAFFC0 ≡ 0
+  pub directory : bit_and cpu.cr3 0xFE7 ≡ 0
+  pub extensions : (cpu.cr4 ≡ 0) ⊎ (cpu.cr4 ≡ 0x10)
 
 pub record Fit (cpu : Cpu) : Type 0 where
   pub level : IsLevel cpu.cpl

@@ -84,7 +84,7 @@ abbrev pub uses_behind : Setting → State → Seen → List ℕ → Decoded →
 uses_behind m b x front (begins.Insn insn len) = fetch_uses b (b.cpu.regs.eip / 4096 ∷ []) ++ range_uses b (begins.Insn insn len)
 uses_behind m b x front begins.Outside = fetch_uses b (b.cpu.regs.eip / 4096 ∷ [])
 uses_behind m b x front begins.Short =
-    if b.cpu.regs.eip / 4096 == 1048575 then fetch_uses b (b.cpu.regs.eip / 4096 ∷ []) else uses_on b (marked b.ram x.marks) front (next_seen m b x)
+    if b.cpu.regs.eip / 4096 == 0xFFFFF then fetch_uses b (b.cpu.regs.eip / 4096 ∷ []) else uses_on b (marked b.ram x.marks) front (next_seen m b x)
 
 abbrev pub uses_from : Setting → State → Option Seen → List Use
 uses_from m b None = fetch_uses b (b.cpu.regs.eip / 4096 ∷ [])

@@ -41,9 +41,9 @@ is_barred mode fetch user page frame = if fetch && not user then not (is_given m
 abbrev pub window_stop : Mode → Access → ℕ → Option reason.Stop
 window_stop Bare access at = None
 window_stop (Wedge text count own) access at =
-    if access.user || nat_le 285212672 at then None else
-    (if nat_le 268435456 at then Some stops.TextTouched else
-    (if nat_le 67108864 at && nat_lt at 100663296 then Some stops.WedgeTouched else Some stops.LowTouched))
+    if access.user || nat_le 0x11000000 at then None else
+    (if nat_le 0x10000000 at then Some stops.TextTouched else
+    (if nat_le 0x04000000 at && nat_lt at 0x06000000 then Some stops.WedgeTouched else Some stops.LowTouched))
 
 -- what decides a fresh walk
 pub record Tables : Type 0 where
