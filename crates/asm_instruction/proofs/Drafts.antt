@@ -17,7 +17,7 @@ use Rattle.asm_instruction.specs.declared.mnemonic.Family.{Family}
 use Rattle.asm_instruction.specs.declared.mnemonic.Family.TheVariants as family
 use Rattle.asm_instruction.specs.declared.mnemonic.Mnemonic.{Mnemonic}
 use Rattle.asm_instruction.specs.Sizes.{agreed}
-use Rattle.asm_instruction.specs.Draft.{nothing, register, memory, register_or_memory, said, instruction, alone}
+use Rattle.asm_instruction.specs.Draft.{nothing, register_operand, memory, register_or_memory, said, instruction, alone}
 use Rattle.asm_instruction.specs.Strings.{repeated as repeated_string, string_draft}
 use Rattle.asm_instruction.specs.Flags.{without_operands, plain_draft}
 use Rattle.asm_instruction.specs.System.{through, between, ported, memory_alone, of_memory, task, system_draft}
@@ -58,8 +58,8 @@ module _ (args : List Argument) where
   pub through_good : (o : Op) (s : Size) (g : Given) → is_direct o ≡ false → Good args (through o s g)
   unfolding through
   through_good o s (given.Immediate n) e = instruction_numbered args o s size.Byte nothing nothing n e tt tt
-  through_good o s given.Port e = instruction_good args o s nothing (register 2) e tt tt
-  through_good o s (given.Register size.Word n) e = choice (DraftGood args) (n == 2) (Some (instruction o s nothing (register 2))) None (instruction_good args o s nothing (register 2) e tt tt) tt
+  through_good o s given.Port e = instruction_good args o s nothing (register_operand 2) e tt tt
+  through_good o s (given.Register size.Word n) e = choice (DraftGood args) (n == 2) (Some (instruction o s nothing (register_operand 2))) None (instruction_good args o s nothing (register_operand 2) e tt tt) tt
   through_good o s (given.Register size.Byte n) e = tt
   through_good o s (given.Register size.Long n) e = tt
   through_good o s (given.Memory m) e = tt

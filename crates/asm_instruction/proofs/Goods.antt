@@ -29,7 +29,7 @@ use Rattle.asm_instruction.specs.Names.{or_else, ◌>>=◌}
 use Rattle.asm_instruction.specs.Field.{field}
 use Rattle.asm_instruction.specs.Argument.{names_symbol}
 use Rattle.asm_instruction.specs.Sizes.{agreed}
-use Rattle.asm_instruction.specs.Draft.{nothing, register, register_or_memory, said, paired, instruction, with_number, unary}
+use Rattle.asm_instruction.specs.Draft.{nothing, register_operand, register_or_memory, said, paired, instruction, with_number, unary}
 use Rattle.asm_instruction.specs.Arithmetic.{of_pair, memory_first, two, tested, one, into_register, to_register, multiplied, product, arithmetic_draft}
 use Rattle.asm_instruction.specs.Shift.{of_one, by_one, by_number, by_register, shift_draft}
 use Rattle.asm_instruction.specs.Control.{distance}
@@ -193,11 +193,11 @@ module _ (args : List Argument) where
 
   pub of_pair_good : (o : Op) (s : Size) (p : Pair) → is_direct o ≡ false → PairGood p → DraftGood args (of_pair o s p)
   of_pair_good o s (pair.Immediate n x) e h = instruction_numbered o s s x nothing n e h tt
-  of_pair_good o s (pair.FromRegister n x) e h = instruction_good o s x (register n) e h tt
-  of_pair_good o s (pair.FromMemory x n) e h = instruction_good o s (register n) x e tt h
+  of_pair_good o s (pair.FromRegister n x) e h = instruction_good o s x (register_operand n) e h tt
+  of_pair_good o s (pair.FromMemory x n) e h = instruction_good o s (register_operand n) x e tt h
 
   pub memory_first_good : (o : Op) (s : Size) (p : Pair) → is_direct o ≡ false → PairGood p → DraftGood args (memory_first o s p)
-  memory_first_good o s (pair.FromMemory x n) e h = instruction_good o s x (register n) e h tt
+  memory_first_good o s (pair.FromMemory x n) e h = instruction_good o s x (register_operand n) e h tt
   memory_first_good o s (pair.Immediate n x) e h = of_pair_good o s (pair.Immediate n x) e h
   memory_first_good o s (pair.FromRegister n x) e h = of_pair_good o s (pair.FromRegister n x) e h
 
@@ -214,7 +214,7 @@ module _ (args : List Argument) where
   one_good o f g e p = bind_from PlaceGood (DraftGood args) (register_or_memory g) _ (rom_good g p) (λ x h. bind_any (DraftGood args) (agreed f (said g) None) _ (λ z. instruction_good o z x nothing e h tt))
 
   pub into_register_good : (o : Op) (s : Size) (d : Given) (x : NumberedOperand) → is_direct o ≡ false → PlaceGood x → Good (into_register o s d x)
-  into_register_good o s (given.Register t n) x e h = instruction_good o s (register n) x e tt h
+  into_register_good o s (given.Register t n) x e h = instruction_good o s (register_operand n) x e tt h
   into_register_good o s (given.Memory m) x e h = tt
   into_register_good o s (given.Segment n) x e h = tt
   into_register_good o s (given.Control n) x e h = tt
@@ -230,7 +230,7 @@ module _ (args : List Argument) where
   Plain d = DraftGood args d × (is_direct d.insn.op ≡ false)
 
   pub into_register_plain : (o : Op) (s : Size) (d : Given) (x : NumberedOperand) → is_direct o ≡ false → PlaceGood x → When Plain (into_register o s d x)
-  into_register_plain o s (given.Register t n) x e h = (instruction_good o s (register n) x e tt h, ap is_direct (instruction_op o s (register n) x) ∙ e)
+  into_register_plain o s (given.Register t n) x e h = (instruction_good o s (register_operand n) x e tt h, ap is_direct (instruction_op o s (register_operand n) x) ∙ e)
   into_register_plain o s (given.Memory m) x e h = tt
   into_register_plain o s (given.Segment n) x e h = tt
   into_register_plain o s (given.Control n) x e h = tt
@@ -294,7 +294,7 @@ module _ (args : List Argument) where
 
   pub by_register_good : (o : Op) (f : Option Size) (g : Given) → is_direct o ≡ false → GivenGood args g → Good (by_register o f g)
   unfolding by_register
-  by_register_good o f g e p = bind_from PlaceGood (DraftGood args) (register_or_memory g) _ (rom_good g p) (λ x h. bind_any (DraftGood args) (agreed f (said g) None) _ (λ z. instruction_good o z x (register 1) e h tt))
+  by_register_good o f g e p = bind_from PlaceGood (DraftGood args) (register_or_memory g) _ (rom_good g p) (λ x h. bind_any (DraftGood args) (agreed f (said g) None) _ (λ z. instruction_good o z x (register_operand 1) e h tt))
 
   pub shift_good : (o : Op) (f : Option Size) (os : Operands) → is_direct o ≡ false → OperandsGood args os → Good (shift_draft o f os)
   unfolding shift_draft

@@ -23,7 +23,7 @@ use Rattle.asm_instruction.specs.declared.draft.Pair.{Pair}
 use Rattle.asm_instruction.specs.declared.draft.Pair.TheVariants as pair
 use Rattle.asm_instruction.specs.declared.mnemonic.Family.TheVariants as family
 use Rattle.asm_instruction.specs.Sizes.{agreed}
-use Rattle.asm_instruction.specs.Draft.{of_operand, nothing, register, register_or_memory, said, paired}
+use Rattle.asm_instruction.specs.Draft.{of_operand, nothing, register_operand, register_or_memory, said, paired}
 use Rattle.asm_instruction.specs.Moves.{special, from_segment, to_segment, from_control, to_control, general, moved, into_long, extended, effective, with_register, exchange, exchanged, move_draft}
 use Rattle.asm_instruction.specs.Stack.{of_long, of_general, of_number, pushed, popped, stack_draft}
 use Rattle.asm_instruction.specs.Assembled.{is_direct}
@@ -85,7 +85,7 @@ module _ (args : List Argument) where
   moved_good f given.Port given.Port p q = general_good f given.Port given.Port p q
 
   pub into_long_good : (o : Op) (s : Size) (d : Given) (x : NumberedOperand) → is_direct o ≡ false → PlaceGood x → Good args (into_long o s d x)
-  into_long_good o s (given.Register size.Long n) x e h = instruction_good args o s (register n) x e tt h
+  into_long_good o s (given.Register size.Long n) x e h = instruction_good args o s (register_operand n) x e tt h
   into_long_good o s (given.Register size.Word n) x e h = tt
   into_long_good o s (given.Register size.Byte n) x e h = tt
   into_long_good o s (given.Memory m) x e h = tt
@@ -108,16 +108,16 @@ module _ (args : List Argument) where
   effective_good f given.Port d p = tt
 
   pub with_register_good : (s : Size) (n : ℕ) (x : NumberedOperand) (o : Operand) → PlaceGood x → DraftGood args (with_register s n x o)
-  with_register_good s n x (operand.Register m) h = instruction_good args op.Xchg s (register (min n m)) (register (max n m)) refl tt tt
-  with_register_good s n x (operand.Memory m) h = instruction_good args op.Xchg s x (register n) refl h tt
-  with_register_good s n x operand.Absent h = instruction_good args op.Xchg s x (register n) refl h tt
-  with_register_good s n x (operand.Segment m) h = instruction_good args op.Xchg s x (register n) refl h tt
-  with_register_good s n x (operand.Control m) h = instruction_good args op.Xchg s x (register n) refl h tt
+  with_register_good s n x (operand.Register m) h = instruction_good args op.Xchg s (register_operand (min n m)) (register_operand (max n m)) refl tt tt
+  with_register_good s n x (operand.Memory m) h = instruction_good args op.Xchg s x (register_operand n) refl h tt
+  with_register_good s n x operand.Absent h = instruction_good args op.Xchg s x (register_operand n) refl h tt
+  with_register_good s n x (operand.Segment m) h = instruction_good args op.Xchg s x (register_operand n) refl h tt
+  with_register_good s n x (operand.Control m) h = instruction_good args op.Xchg s x (register_operand n) refl h tt
 
   pub exchange_good : (s : Size) (p : Pair) → PairGood p → Good args (exchange s p)
   exchange_good s (pair.Immediate n x) h = tt
   exchange_good s (pair.FromRegister n x) h = with_register_good s n x x.operand h
-  exchange_good s (pair.FromMemory x n) h = instruction_good args op.Xchg s x (register n) refl h tt
+  exchange_good s (pair.FromMemory x n) h = instruction_good args op.Xchg s x (register_operand n) refl h tt
 
   pub exchanged_good : (f : Option Size) (s d : Given) → GivenGood args s → GivenGood args d → Good args (exchanged f s d)
   unfolding exchanged

@@ -19,7 +19,7 @@ use Rattle.asm_instruction.specs.declared.mnemonic.Mnemonic.{Mnemonic}
 use Rattle.asm_instruction.specs.Names.{Table, found, or_else}
 use Rattle.asm_instruction.specs.Field.{field}
 use Rattle.asm_instruction.specs.Register.{long_registers, word_registers, byte_registers, segment_registers, control_registers}
-use Rattle.asm_instruction.specs.Argument.{general_register, special_register, register, displacement, address_register, is_dx, address, memory_operand, given_by, single, starred, unstarred, operands_of, is_named, argument_named, names_symbol}
+use Rattle.asm_instruction.specs.Argument.{general_register, special_register, named_register, displacement, address_register, is_dx, address, memory_operand, given_by, single, starred, unstarred, operands_of, is_named, argument_named, names_symbol}
 use Rattle.asm_instruction.specs.Arithmetic.{two_operand_names, one_operand_names}
 use Rattle.asm_instruction.specs.Shift.{shift_names}
 use Rattle.asm_instruction.specs.Moves.{move_names, extend_names}
@@ -52,8 +52,8 @@ module _ (args : List Argument) where
       either (GivenGood args) _ _ (bind_any (GivenGood args) (found segment_registers name) (λ s. Some (given.Segment s)) (λ s. tt))
       (bind_any (GivenGood args) (found control_registers name) (λ n. Some (given.Control n)) (λ n. tt))
 
-  register_good : (name : List ℕ) → When (GivenGood args) (register name)
-  unfolding register
+  register_good : (name : List ℕ) → When (GivenGood args) (named_register name)
+  unfolding named_register
   register_good name = either (GivenGood args) (general_register name) (special_register name) (general_good name) (other_good name)
 
   address_good : (b i : Option Reg) (s : ℕ) (n : Number) → NumberGood n → GivenGood args (address b i s n)

@@ -36,7 +36,7 @@ use Rattle.asm_instruction.specs.declared.mnemonic.Mnemonic.{Mnemonic}
 use Rattle.asm_instruction.specs.Names.{or_else}
 use Rattle.asm_instruction.specs.Field.{fits_field}
 use Rattle.asm_instruction.specs.Sizes.{agreed}
-use Rattle.asm_instruction.specs.Draft.{nothing, of_operand, register, memory, register_or_memory, said, paired, displaced, fits_displacement, instruction, with_number, unary, alone}
+use Rattle.asm_instruction.specs.Draft.{nothing, of_operand, register_operand, memory, register_or_memory, said, paired, displaced, fits_displacement, instruction, with_number, unary, alone}
 use Rattle.asm_instruction.specs.Arithmetic.{of_pair, memory_first, two, tested, one, into_register, to_register, multiplied, product, arithmetic_draft}
 use Rattle.asm_instruction.specs.Shift.{by_one, by_number, by_register, shift_draft}
 use Rattle.asm_instruction.specs.Moves.{special, from_segment, to_segment, from_control, to_control, general, moved, into_long, extended, effective, exchanged, move_draft}
@@ -176,7 +176,7 @@ unfolding one
 one_fit F o f g = bind_from (PlaceFit g) (FitTo (One F g)) (register_or_memory g) _ (rom_fit g) (λ x h. bind_any (FitTo (One F g)) (agreed f (said g) None) _ (λ z. unary_fit F g o z x h))
 
 into_register_fit : (F G : Size → Size) (o : Op) (z : Size) (s d : Given) (x : NumberedOperand) → PlaceFit s x → When (FitTo (Two F G s d)) (into_register o z d x)
-into_register_fit F G o z s (given.Register t n) x h = instruction_fit (Two F G s (given.Register t n)) o z (register n) x (h (G z))
+into_register_fit F G o z s (given.Register t n) x h = instruction_fit (Two F G s (given.Register t n)) o z (register_operand n) x (h (G z))
 into_register_fit F G o z s (given.Memory m) x h = tt
 into_register_fit F G o z s (given.Segment m) x h = tt
 into_register_fit F G o z s (given.Control m) x h = tt
@@ -247,7 +247,7 @@ unfolding by_register
 by_register_fit o f g =
     bind_from (PlaceFit g) (FitTo (λ z. One Byte g z ++ [])) (register_or_memory g) _ (rom_fit g)
     (λ x h. bind_any (FitTo (λ z. One Byte g z ++ [])) (agreed f (said g) None) _
-    (λ z. instruction_fit (λ z. One Byte g z ++ []) o z x (register 1) (first_fit g x size.Byte h ∙ none_more (numbers_in size.Byte g))))
+    (λ z. instruction_fit (λ z. One Byte g z ++ []) o z x (register_operand 1) (first_fit g x size.Byte h ∙ none_more (numbers_in size.Byte g))))
 
 shift_fit : (o : Op) (f : Option Size) (os : Operands) → Fit (family.Shift o) os (shift_draft o f os)
 unfolding shift_draft numbers field_of first_field_of
@@ -327,7 +327,7 @@ moved_fit f given.Port (given.Immediate n2) = general_fit f given.Port (given.Im
 moved_fit f given.Port given.Port = general_fit f given.Port given.Port
 
 into_long_fit : (o : Op) (z : Size) (s d : Given) (x : NumberedOperand) → PlaceFit s x → When (FitTo (Two Same Same s d)) (into_long o z d x)
-into_long_fit o z s (given.Register size.Long n) x h = instruction_fit (Two Same Same s (given.Register size.Long n)) o z (register n) x (h z)
+into_long_fit o z s (given.Register size.Long n) x h = instruction_fit (Two Same Same s (given.Register size.Long n)) o z (register_operand n) x (h z)
 into_long_fit o z s (given.Register size.Word n) x h = tt
 into_long_fit o z s (given.Register size.Byte n) x h = tt
 into_long_fit o z s (given.Memory m) x h = tt
@@ -564,7 +564,7 @@ through_fit : (o : Op) (s : Size) (g : Given) → When (FitTo (One Byte g)) (thr
 unfolding through instruction with_number
 through_fit o s (given.Immediate n) = and_true (fits_field size.Byte n.value)
 through_fit o s given.Port = refl
-through_fit o s (given.Register size.Word n) = choice (FitTo (One Byte (given.Register size.Word n))) (n == 2) (Some (instruction o s nothing (register 2))) None refl tt
+through_fit o s (given.Register size.Word n) = choice (FitTo (One Byte (given.Register size.Word n))) (n == 2) (Some (instruction o s nothing (register_operand 2))) None refl tt
 through_fit o s (given.Register size.Byte n) = tt
 through_fit o s (given.Register size.Long n) = tt
 through_fit o s (given.Memory m) = tt

@@ -31,8 +31,8 @@ special_register name =
     or_else (found segment_registers name >>= λ s. Some (given.Segment s))
     (found control_registers name >>= λ n. Some (given.Control n))
 
-unfoldable pub register : List ℕ → Option Given
-register name = or_else (general_register name) (special_register name)
+unfoldable pub named_register : List ℕ → Option Given
+named_register name = or_else (general_register name) (special_register name)
 
 -- ---- numbers and memory; k is the number of the argument
 
@@ -67,7 +67,7 @@ memory_operand n base index scale = do
 
 -- what the argument of number k says
 unfoldable pub given_by : Form → ℕ → Option Given
-given_by (form.Register name) k = register name
+given_by (form.Register name) k = named_register name
 given_by (form.Immediate v) k = Some (given.Immediate (number_in v k))
 given_by (form.Memory v base index scale) k =
     if is_none v && is_dx base && is_none index then Some given.Port

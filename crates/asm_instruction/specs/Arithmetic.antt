@@ -19,7 +19,7 @@ use Rattle.asm_instruction.specs.declared.mnemonic.Family.{Family}
 use Rattle.asm_instruction.specs.declared.mnemonic.Family.TheVariants as family
 use Rattle.asm_instruction.specs.Names.{Table, ◌>>=◌}
 use Rattle.asm_instruction.specs.Sizes.{agreed}
-use Rattle.asm_instruction.specs.Draft.{register, register_or_memory, said, paired, instruction, unary, with_number}
+use Rattle.asm_instruction.specs.Draft.{register_operand, register_or_memory, said, paired, instruction, unary, with_number}
 
 abbrev pub named_two : Op → Family
 named_two o = family.Arithmetic (arithmetic.Two o)
@@ -43,12 +43,12 @@ one_operand_names =
 -- the destination is the first operand
 abbrev pub of_pair : Op → Size → Pair → Draft
 of_pair o s (pair.Immediate n place) = with_number (unary o s place) s n
-of_pair o s (pair.FromRegister n place) = instruction o s place (register n)
-of_pair o s (pair.FromMemory place n) = instruction o s (register n) place
+of_pair o s (pair.FromRegister n place) = instruction o s place (register_operand n)
+of_pair o s (pair.FromMemory place n) = instruction o s (register_operand n) place
 
 -- memory is the first operand, in either order of the source
 abbrev pub memory_first : Op → Size → Pair → Draft
-memory_first o s (pair.FromMemory place n) = instruction o s place (register n)
+memory_first o s (pair.FromMemory place n) = instruction o s place (register_operand n)
 memory_first o s p = of_pair o s p
 
 -- from a register, memory or a number to a register or memory
@@ -73,7 +73,7 @@ one o suffix g = do
   Some (unary o s place)
 
 abbrev pub into_register : Op → Size → Given → NumberedOperand → Option Draft
-into_register o s (given.Register t n) place = Some (instruction o s (register n) place)
+into_register o s (given.Register t n) place = Some (instruction o s (register_operand n) place)
 into_register o s _ place = None
 
 -- from a register or memory to a register

@@ -24,14 +24,14 @@ of_operand o = record { operand = o; displacement = None }
 abbrev pub nothing : NumberedOperand
 nothing = of_operand operand.Absent
 
-abbrev pub register : ℕ → NumberedOperand
-register n = of_operand (operand.Register n)
+abbrev pub register_operand : ℕ → NumberedOperand
+register_operand n = of_operand (operand.Register n)
 
 abbrev pub memory : Memory → NumberedOperand
 memory m = record { operand = operand.Memory m.address; displacement = Some m.displacement }
 
 abbrev pub register_or_memory : Given → Option NumberedOperand
-register_or_memory (given.Register s n) = Some (register n)
+register_or_memory (given.Register s n) = Some (register_operand n)
 register_or_memory (given.Memory m) = Some (memory m)
 register_or_memory _ = None
 

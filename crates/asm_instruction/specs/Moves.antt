@@ -21,7 +21,7 @@ use Rattle.asm_instruction.specs.declared.mnemonic.Family.{Family}
 use Rattle.asm_instruction.specs.declared.mnemonic.Family.TheVariants as family
 use Rattle.asm_instruction.specs.Names.{Table, ◌>>=◌}
 use Rattle.asm_instruction.specs.Sizes.{agreed}
-use Rattle.asm_instruction.specs.Draft.{of_operand, register, register_or_memory, said, paired, instruction}
+use Rattle.asm_instruction.specs.Draft.{of_operand, register_operand, register_or_memory, said, paired, instruction}
 use Rattle.asm_instruction.specs.Arithmetic.{of_pair, to_register}
 
 -- with a suffix, or none
@@ -68,7 +68,7 @@ moved suffix from to = general suffix from to
 -- ---- MOVZX and MOVSX, whose size is that of the source
 
 abbrev pub into_long : Op → Size → Given → NumberedOperand → Option Draft
-into_long o s (given.Register size.Long n) from = Some (instruction o s (register n) from)
+into_long o s (given.Register size.Long n) from = Some (instruction o s (register_operand n) from)
 into_long o s _ from = None
 
 unfoldable pub extended : Op → Size → Given → Given → Option Draft
@@ -86,8 +86,8 @@ effective suffix _ destination = None
 -- ---- XCHG: of two registers the one of the lower number stands first, else memory
 
 abbrev pub with_register : Size → ℕ → NumberedOperand → Operand → Draft
-with_register s n other (operand.Register m) = instruction op.Xchg s (register (min n m)) (register (max n m))
-with_register s n other _ = instruction op.Xchg s other (register n)
+with_register s n other (operand.Register m) = instruction op.Xchg s (register_operand (min n m)) (register_operand (max n m))
+with_register s n other _ = instruction op.Xchg s other (register_operand n)
 
 abbrev pub two_registers : Size → ℕ → NumberedOperand → Draft
 two_registers s n other = with_register s n other other.operand
@@ -95,7 +95,7 @@ two_registers s n other = with_register s n other other.operand
 abbrev pub exchange : Size → Pair → Option Draft
 exchange s (pair.Immediate n place) = None
 exchange s (pair.FromRegister n place) = Some (two_registers s n place)
-exchange s (pair.FromMemory place n) = Some (instruction op.Xchg s place (register n))
+exchange s (pair.FromMemory place n) = Some (instruction op.Xchg s place (register_operand n))
 
 unfoldable pub exchanged : Option Size → Given → Given → Option Draft
 exchanged suffix source destination = do

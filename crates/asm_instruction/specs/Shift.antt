@@ -14,7 +14,7 @@ use Rattle.asm_instruction.specs.declared.mnemonic.Family.{Family}
 use Rattle.asm_instruction.specs.declared.mnemonic.Family.TheVariants as family
 use Rattle.asm_instruction.specs.Names.{Table, ◌>>=◌}
 use Rattle.asm_instruction.specs.Sizes.{agreed}
-use Rattle.asm_instruction.specs.Draft.{register, register_or_memory, said, instruction, unary, with_number}
+use Rattle.asm_instruction.specs.Draft.{register_operand, register_or_memory, said, instruction, unary, with_number}
 
 -- with a suffix, or none; SAL is another name of SHL (SDM volume 2)
 unfoldable pub shift_names : Table Family
@@ -44,7 +44,7 @@ unfoldable pub by_register : Op → Option Size → Given → Option Draft
 by_register o suffix g = do
   place ← register_or_memory g
   s ← agreed suffix (said g) None
-  Some (instruction o s place (register 1))
+  Some (instruction o s place (register_operand 1))
 
 unfoldable pub shift_draft : Op → Option Size → Operands → Option Draft
 shift_draft o suffix (operands.One g) = by_one o suffix g

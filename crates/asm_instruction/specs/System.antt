@@ -15,7 +15,7 @@ use Rattle.asm_instruction.specs.declared.mnemonic.Family.{Family}
 use Rattle.asm_instruction.specs.declared.mnemonic.Family.TheVariants as family
 use Rattle.asm_instruction.specs.Names.{Table, ◌>>=◌}
 use Rattle.asm_instruction.specs.Sizes.{agreed}
-use Rattle.asm_instruction.specs.Draft.{nothing, register, memory, register_or_memory, said, instruction, unary, with_number}
+use Rattle.asm_instruction.specs.Draft.{nothing, register_operand, memory, register_or_memory, said, instruction, unary, with_number}
 
 -- with a suffix, or none
 unfoldable pub system_names : Table Family
@@ -31,8 +31,8 @@ page_names = (codes "invlpg", family.System (kind.Memory op.DropPage)) ∷ []
 -- the port is in DX, or a byte
 unfoldable pub through : Op → Size → Given → Option Draft
 through o s (given.Immediate n) = Some (with_number (instruction o s nothing nothing) size.Byte n)
-through o s given.Port = Some (instruction o s nothing (register 2))
-through o s (given.Register size.Word n) = if n == 2 then Some (instruction o s nothing (register 2)) else None
+through o s given.Port = Some (instruction o s nothing (register_operand 2))
+through o s (given.Register size.Word n) = if n == 2 then Some (instruction o s nothing (register_operand 2)) else None
 through o s _ = None
 
 abbrev pub between : Op → Size → Given → Given → Option Draft

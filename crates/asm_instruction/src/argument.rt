@@ -80,9 +80,9 @@ fn special_register(name: &[u8]) -> Option<Given>
     }
 }
 
-#[tactic(auto, unfolding(crate::specs::Argument::register))]
-fn register(name: &Name) -> Option<Given>
-    ensures { result ≡ spec.register name.now }
+#[tactic(auto, unfolding(crate::specs::Argument::named_register))]
+fn named_register(name: &Name) -> Option<Given>
+    ensures { result ≡ spec.named_register name.now }
 {
     match general_register(&name.bytes) {
         Some(given) => Some(given),
@@ -171,7 +171,7 @@ fn given_by(form: &Form, argument: u8) -> Option<Given>
     ensures { result ≡ spec.given_by form.now argument }
 {
     match form {
-        Form::Register(name) => register(name),
+        Form::Register(name) => named_register(name),
         Form::Immediate(value) => Some(Given::Immediate(number_in(value, argument))),
         Form::Memory {
             value,

@@ -7,7 +7,7 @@ ghost use Rattle.asm_instruction.specs.Arithmetic as spec;
 use crate::argument::{Given, Number, Operands};
 use crate::bytes::{found, is_text};
 use crate::draft::{
-    Draft, Pair, instruction, paired, register, register_or_memory, said, unary, with_number,
+    Draft, Pair, instruction, paired, register_operand, register_or_memory, said, unary, with_number,
 };
 use crate::mnemonic::Family;
 use crate::sizes::agreed;
@@ -66,8 +66,8 @@ pub fn of_pair(op: Op, size: Size, pair: Pair) -> Draft
 {
     match pair {
         Pair::Immediate(number, place) => with_number(unary(op, size, place), size, number),
-        Pair::FromRegister(number, place) => instruction(op, size, place, register(number)),
-        Pair::FromMemory(place, number) => instruction(op, size, register(number), place),
+        Pair::FromRegister(number, place) => instruction(op, size, place, register_operand(number)),
+        Pair::FromMemory(place, number) => instruction(op, size, register_operand(number), place),
     }
 }
 
@@ -76,7 +76,7 @@ pub fn memory_first(op: Op, size: Size, pair: Pair) -> Draft
     ensures { result ≡ spec.memory_first op size pair }
 {
     match pair {
-        Pair::FromMemory(place, number) => instruction(op, size, place, register(number)),
+        Pair::FromMemory(place, number) => instruction(op, size, place, register_operand(number)),
         other => of_pair(op, size, other),
     }
 }
@@ -117,7 +117,7 @@ pub fn to_register(op: Op, suffix: Option<Size>, source: Given, destination: Giv
     let place = register_or_memory(source)?;
     let size = agreed(suffix, said(source), said(destination))?;
     match destination {
-        Given::Register(_, number) => Some(instruction(op, size, register(number), place)),
+        Given::Register(_, number) => Some(instruction(op, size, register_operand(number), place)),
         _ => None,
     }
 }

@@ -53,8 +53,8 @@ pub fn of_operand(operand: Operand) -> NumberedOperand
     }
 }
 
-pub fn register(number: u8) -> NumberedOperand
-    ensures { result ≡ spec.register number }
+pub fn register_operand(number: u8) -> NumberedOperand
+    ensures { result ≡ spec.register_operand number }
 {
     of_operand(Operand::Register(number))
 }
@@ -73,7 +73,7 @@ pub fn register_or_memory(given: Given) -> Option<NumberedOperand>
     ensures { result ≡ spec.register_or_memory given }
 {
     match given {
-        Given::Register(_, number) => Some(register(number)),
+        Given::Register(_, number) => Some(register_operand(number)),
         Given::Memory(at) => Some(memory(at)),
         _ => None,
     }

@@ -8,7 +8,7 @@ use crate::argument::{Given, Operands};
 use crate::arithmetic::{memory_first, of_pair, to_register};
 use crate::bytes::{found, is_text};
 use crate::draft::{
-    Draft, NumberedOperand, Pair, instruction, of_operand, paired, register, register_or_memory,
+    Draft, NumberedOperand, Pair, instruction, of_operand, paired, register_operand, register_or_memory,
     said,
 };
 use crate::mnemonic::Family;
@@ -151,7 +151,7 @@ fn extended(op: Op, size: Size, source: Given, destination: Given) -> Option<Dra
     let from = register_or_memory(source)?;
     let size = agreed(Some(size), said(source), None)?;
     match destination {
-        Given::Register(Size::Long, number) => Some(instruction(op, size, register(number), from)),
+        Given::Register(Size::Long, number) => Some(instruction(op, size, register_operand(number), from)),
         _ => None,
     }
 }
@@ -174,11 +174,11 @@ fn two_registers(size: Size, number: u8, other: NumberedOperand) -> Draft
             instruction(
                 Op::Xchg,
                 size,
-                register(number.min(second)),
-                register(number.max(second)),
+                register_operand(number.min(second)),
+                register_operand(number.max(second)),
             )
         }
-        _ => instruction(Op::Xchg, size, other, register(number)),
+        _ => instruction(Op::Xchg, size, other, register_operand(number)),
     }
 }
 
@@ -196,7 +196,7 @@ fn exchanged(suffix: Option<Size>, source: Given, destination: Given) -> Option<
             Op::Xchg,
             size,
             place,
-            register(number),
+            register_operand(number),
         )),
     }
 }

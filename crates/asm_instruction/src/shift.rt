@@ -6,7 +6,7 @@ ghost use Rattle.asm_instruction.specs.Shift as spec;
 
 use crate::argument::{Given, Number, Operands};
 use crate::bytes::{found, is_text};
-use crate::draft::{Draft, instruction, register, register_or_memory, said, unary, with_number};
+use crate::draft::{Draft, instruction, register_operand, register_or_memory, said, unary, with_number};
 use crate::mnemonic::Family;
 use crate::sizes::agreed;
 use ia32_types::{Insn, Op, Size};
@@ -58,7 +58,7 @@ fn by_register(op: Op, suffix: Option<Size>, given: Given) -> Option<Draft>
 {
     let place = register_or_memory(given)?;
     let size = agreed(suffix, said(given), None)?;
-    Some(instruction(op, size, place, register(1)))
+    Some(instruction(op, size, place, register_operand(1)))
 }
 
 #[tactic(auto, unfolding(crate::specs::Shift::shift_draft))]

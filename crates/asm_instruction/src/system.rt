@@ -7,7 +7,7 @@ ghost use Rattle.asm_instruction.specs.System as spec;
 use crate::argument::{Given, Operands};
 use crate::bytes::{found, is_text};
 use crate::draft::{
-    Draft, NOTHING, instruction, memory, register, register_or_memory, said, unary, with_number,
+    Draft, NOTHING, instruction, memory, register_operand, register_or_memory, said, unary, with_number,
 };
 use crate::mnemonic::Family;
 use crate::sizes::agreed;
@@ -57,10 +57,10 @@ fn through(op: Op, size: Size, port: Given) -> Option<Draft>
         Given::Immediate(number) => {
             Some(with_number(instruction(op, size, NOTHING, NOTHING), Size::Byte, number))
         }
-        Given::Port => Some(instruction(op, size, NOTHING, register(2))),
+        Given::Port => Some(instruction(op, size, NOTHING, register_operand(2))),
         Given::Register(Size::Word, number) => {
             if number == 2 {
-                Some(instruction(op, size, NOTHING, register(2)))
+                Some(instruction(op, size, NOTHING, register_operand(2)))
             } else {
                 None
             }

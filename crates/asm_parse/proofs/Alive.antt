@@ -84,7 +84,7 @@ behind_ends sc None = tt
 behind_ends sc (Some e) = complete_ends sc e.0 e.1 (e.2 ++ e.3 ∷ [])
 
 argument_ends : (sc : ScopeView) (o : Open) → Ends (argument_step sc o symbol.End)
-argument_ends sc o = either (is_bare o) _ _ (complete_ends sc o.line o.head o.done) (either (is_finished o.so_far) _ _ (behind_ends sc (ended o)) (shape_ends sc o (shape_at o.head (length o.done))))
+argument_ends sc o = either (is_bare o) _ _ (complete_ends sc o.line o.head o.arguments) (either (is_finished o.so_far) _ _ (behind_ends sc (ended o)) (shape_ends sc o (shape_at o.head (length o.arguments))))
 
 directive_ends : (sc : ScopeView) (line : ℕ) (n : List ℕ) (d : Option Directive) → Ends (of_directive d sc line n symbol.End)
 directive_ends sc line n None = tt

@@ -184,8 +184,8 @@ not_zero (suc i) h = ne_eqb (suc i) 0 (λ e. absurd (omega arith))
 
 not_name : (o : Open) (w : IsOpen o) → is_nothing o.so_far ≡ true → w.shape ≡ shape.Name → ⊥
 not_name o w e is = elim (w.first e) [
-  | inl instruction ↦ operand_not_name w.shape (instruction_operand o.head (length o.done) w.shape instruction w.may) is
-  | inr le ↦ later_shape o.head (length o.done) w.shape (not_zero (length o.done) le) w.may is
+  | inl instruction ↦ operand_not_name w.shape (instruction_operand o.head (length o.arguments) w.shape instruction w.may) is
+  | inr le ↦ later_shape o.head (length o.arguments) w.shape (not_zero (length o.arguments) le) w.may is
 ]
   where
     operand_not_name : (sh : Shape) → is_operand sh ≡ true → sh ≡ shape.Name → ⊥
@@ -219,20 +219,20 @@ module _ (sc : ScopeView) (line : ℕ) (h : Head) (before : List Argument) (a : 
 arguments_completed : (sc : ScopeView) (o : Open) → IsOpen o → Completed sc (state.Arguments o)
 arguments_completed sc o w =
     let f = finish w.shape o.so_far (not_name o w) in
-    let first : inners sc (state.Arguments o) (symbols_of f.pieces) ≡ Ok (sc, state.Arguments (open_at o.line o.head o.done o.star f.last)) =
-    form_runs o.line o.head o.done o.star w.shape w.may (symbols_of f.pieces) o.so_far f.last sc sc f.runs (gains_none (defines o.head (length o.done)) sc (named_in o.so_far) (named_in f.last) f.names) in
-    by_count f first (nat_lt (length (o.done ++ record { star = o.star; form = f.form } ∷ [])) (least o.head)) refl
+    let first : inners sc (state.Arguments o) (symbols_of f.pieces) ≡ Ok (sc, state.Arguments (open_at o.line o.head o.arguments o.star f.last)) =
+    form_runs o.line o.head o.arguments o.star w.shape w.may (symbols_of f.pieces) o.so_far f.last sc sc f.runs (gains_none (defines o.head (length o.arguments)) sc (named_in o.so_far) (named_in f.last) f.names) in
+    by_count f first (nat_lt (length (o.arguments ++ record { star = o.star; form = f.form } ∷ [])) (least o.head)) refl
   where
     joined : (ps qs : List Piece) (st : StatementState) (last : ScopeView) → inners sc (state.Arguments o) (symbols_of ps) ≡ Ok (sc, st) → inners sc st (symbols_of qs) ≡ Ok (last, state.Start) → inners sc (state.Arguments o) (symbols_of (ps ++ qs)) ≡ Ok (last, state.Start)
     joined ps qs st last h k = ap (inners sc (state.Arguments o)) (symbols_of-append ps qs) ∙ (inners_append (symbols_of ps) (symbols_of qs) sc (state.Arguments o) (sc, st) h ∙ k)
 
-    by_count : (f : Finish w.shape o.so_far) → inners sc (state.Arguments o) (symbols_of f.pieces) ≡ Ok (sc, state.Arguments (open_at o.line o.head o.done o.star f.last))
-        → (t : Bool) → nat_lt (length (o.done ++ record { star = o.star; form = f.form } ∷ [])) (least o.head) ≡ t → Completed sc (state.Arguments o)
+    by_count : (f : Finish w.shape o.so_far) → inners sc (state.Arguments o) (symbols_of f.pieces) ≡ Ok (sc, state.Arguments (open_at o.line o.head o.arguments o.star f.last))
+        → (t : Bool) → nat_lt (length (o.arguments ++ record { star = o.star; form = f.form } ∷ [])) (least o.head) ≡ t → Completed sc (state.Arguments o)
     by_count f first false count =
-        let e = ended_here sc o.line o.head o.done (record { star = o.star; form = f.form }) f.last f.ends count in
+        let e = ended_here sc o.line o.head o.arguments (record { star = o.star; form = f.form }) f.last f.ends count in
         by_symbols sc e.0 (state.Arguments o) (f.pieces ++ the_end ∷ []) (pieces-append f.pieces (the_end ∷ []) f.are (end_piece, tt)) (joined f.pieces (the_end ∷ []) _ e.0 first e.1)
     by_count f first true count =
-        let e = ended_later sc o.line o.head o.done (record { star = o.star; form = f.form }) f.last f.ends count in
+        let e = ended_later sc o.line o.head o.arguments (record { star = o.star; form = f.form }) f.last f.ends count in
         by_symbols sc e.0 (state.Arguments o) (f.pieces ++ the_mark 44 ∷ the_one ∷ the_end ∷ []) (pieces-append f.pieces (the_mark 44 ∷ the_one ∷ the_end ∷ []) f.are (comma_piece, (one_piece, (end_piece, tt)))) (joined f.pieces (the_mark 44 ∷ the_one ∷ the_end ∷ []) _ e.0 first e.1)
 
 -- ---- names that can still be said

@@ -56,7 +56,7 @@ step_gives escape.Plain b = plain_none b
 step_gives escape.Slash b = gives_either 0 (is_octal b) _ _ (omega arith) (omega arith)
 step_gives (escape.One v) b = gives_either 1 (is_octal b) _ _ (omega arith) (plain_some v b)
 step_gives (escape.Two v) b = gives_either 1 (is_octal b) _ _ (omega arith) (plain_some v b)
-step_gives escape.Done b = omega arith
+step_gives escape.Closed b = omega arith
 
 string_shorter : (e : Escape) (bs : List ℕ) → length (string_text e bs) ≤ owed e + length bs
 string_shorter e [] = omega arith

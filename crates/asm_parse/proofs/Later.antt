@@ -41,7 +41,7 @@ noting_later o (Err c) = tt
 
 name_later : (sc : ScopeView) (o : Open) (n : Option (List ℕ)) → IsLater (with_name sc o n)
 name_later sc o None = refl
-name_later sc o (Some n) = noting_later o (noting sc (defines o.head (length o.done)) n)
+name_later sc o (Some n) = noting_later o (noting sc (defines o.head (length o.arguments)) n)
 
 step_later : (sc : ScopeView) (o : Open) (s : Terminal) (r : Result Partial SourceCause) → IsLater (after_step sc o s r)
 step_later sc o s (Err c) = tt
@@ -52,7 +52,7 @@ shape_later sc o s None = tt
 shape_later sc o s (Some sh) = step_later sc o s (operand_step sh o.so_far s)
 
 within_later : (sc : ScopeView) (o : Open) (s : Terminal) → IsLater (within sc o s)
-within_later sc o s = shape_later sc o s (shape_at o.head (length o.done))
+within_later sc o s = shape_later sc o s (shape_at o.head (length o.arguments))
 
 next_later : (sc : ScopeView) (line : ℕ) (h : Head) (done : List Argument) (r : Option Shape) → IsLater (with_scope sc (argument_of line h done r))
 next_later sc line h done None = tt
@@ -71,7 +71,7 @@ end_later sc (Some e) = complete_later sc e.0 e.1 (e.2 ++ e.3 ∷ [])
 
 argument_later : (sc : ScopeView) (o : Open) (s : Terminal) → IsLater (argument_step sc o s)
 argument_later sc o symbol.Comma = either (is_finished o.so_far) _ _ (comma_later sc (ended o)) (within_later sc o symbol.Comma)
-argument_later sc o symbol.End = either (is_bare o) _ _ (complete_later sc o.line o.head o.done) (either (is_finished o.so_far) _ _ (end_later sc (ended o)) (within_later sc o symbol.End))
+argument_later sc o symbol.End = either (is_bare o) _ _ (complete_later sc o.line o.head o.arguments) (either (is_finished o.so_far) _ _ (end_later sc (ended o)) (within_later sc o symbol.End))
 argument_later sc o symbol.Star = either (takes_star o) _ _ refl (within_later sc o symbol.Star)
 argument_later sc o s = within_later sc o s
 

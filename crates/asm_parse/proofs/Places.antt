@@ -340,15 +340,15 @@ module _ (sc0 : ScopeView) (line : ℕ) (o : Open) (ss : List Terminal) (sc : Sc
       by_begun sh sp true u = let q = unbegun_quiet o.so_far w.arg sh sp u in rw (q.0, q.1) (star_only o.star)
       by_begun sh sp false u = let t = spelled_tail sh o.so_far o.star w.arg (w.solid u) sp in t.percent_is ∙ sym (awaits_is o.so_far)
 
-  byte_is : (c : SourceCause) → or_cause (pending sc (state.Arguments o)) c ≡ byte_cause sc0 (StatementPlace.argument o.head o.done w.behind (stars o.star ++ w.arg)) c
+  byte_is : (c : SourceCause) → or_cause (pending sc (state.Arguments o)) c ≡ byte_cause sc0 (StatementPlace.argument o.head o.arguments w.behind (stars o.star ++ w.arg)) c
   byte_is c = by_test (awaits_register o.so_far) refl
     where
-      by_test : (t : Bool) → awaits_register o.so_far ≡ t → or_cause (pending sc (state.Arguments o)) c ≡ byte_cause sc0 (StatementPlace.argument o.head o.done w.behind (stars o.star ++ w.arg)) c
+      by_test : (t : Bool) → awaits_register o.so_far ≡ t → or_cause (pending sc (state.Arguments o)) c ≡ byte_cause sc0 (StatementPlace.argument o.head o.arguments w.behind (stars o.star ++ w.arg)) c
       by_test true e = let f : is_percent (last_of (stars o.star ++ w.arg)) ≡ true = ends_percent ∙ e in rw (e, f) refl
       by_test false e = let f : is_percent (last_of (stars o.star ++ w.arg)) ≡ false = ends_percent ∙ e in rw (e, f) refl
 
   -- an argument of the shape begins so
-  opened : (sh : Shape) → shape_at o.head (length o.done) ≡ Some sh → Spelled sh o.so_far w.arg → (is_nothing o.so_far ≡ true → sh ≡ shape.Name → ⊥) → Opens (Some sh) (stars o.star ++ w.arg)
+  opened : (sh : Shape) → shape_at o.head (length o.arguments) ≡ Some sh → Spelled sh o.so_far w.arg → (is_nothing o.so_far ≡ true → sh ≡ shape.Name → ⊥) → Opens (Some sh) (stars o.star ++ w.arg)
   opened sh may sp never =
       let f = finish sh o.so_far never in
       let form = spelled_form sh f.last f.form (w.arg ++ symbols_of f.pieces) (run_spelled sh (symbols_of f.pieces) w.arg o.so_far f.last sp f.runs) f.ends in
@@ -357,16 +357,16 @@ module _ (sc0 : ScopeView) (line : ℕ) (o : Open) (ss : List Terminal) (sc : Sc
       by_star : (t : Bool) → o.star ≡ t → (more : List Terminal) (x : Form) → IsForm sh (w.arg ++ more) x → Opens (Some sh) (stars t ++ w.arg)
       by_star false e more x form = Opens.some more (record { star = false; form = x }) (IsArgument.plain form)
       by_star true e more x form =
-          let operand : is_operand sh ≡ true = ap is_operand (instruction_shape o.head (length o.done) sh (w.starred e) may) in
+          let operand : is_operand sh ≡ true = ap is_operand (instruction_shape o.head (length o.arguments) sh (w.starred e) may) in
           Opens.some more (record { star = true; form = x }) (IsArgument.starred operand form)
 
-  opens : Opens (shape_at o.head (length o.done)) (stars o.star ++ w.arg)
+  opens : Opens (shape_at o.head (length o.arguments)) (stars o.star ++ w.arg)
   opens = by_star o.star refl
     where
-      whole : (t : Bool) → o.star ≡ t → (r : Option Shape) → shape_at o.head (length o.done) ≡ r → Opens r (stars t ++ w.arg)
+      whole : (t : Bool) → o.star ≡ t → (r : Option Shape) → shape_at o.head (length o.arguments) ≡ r → Opens r (stars t ++ w.arg)
       whole true e None may = absurd (no_shape o.head (w.starred e) may)
         where
-          no_shape : (h : Head) → is_instruction h ≡ true → shape_at h (length o.done) ≡ None → ⊥
+          no_shape : (h : Head) → is_instruction h ≡ true → shape_at h (length o.arguments) ≡ None → ⊥
           no_shape (head.Instruction r n) i may = absurd cc
           no_shape (head.Directive k n) i may = absurd cc
       whole false e None may = elim w.spelled [
@@ -390,7 +390,7 @@ module _ (sc0 : ScopeView) (line : ℕ) (o : Open) (ss : List Terminal) (sc : Sc
               nothing_nil : (p : Partial) (xs : List Terminal) → Spelled sh p xs → is_nothing p ≡ true → xs ≡ []
               nothing_nil partial.Nothing xs q n = q
               nothing_nil _ xs q n = absurd cc
-          no_name true f n = subst (λ (x : Bool). Opens (Some sh) (stars x ++ w.arg)) f (opened sh may sp (λ n2 is. operand_not_name (sym (instruction_shape o.head (length o.done) sh (w.starred f) may) ∙ is)))
+          no_name true f n = subst (λ (x : Bool). Opens (Some sh) (stars x ++ w.arg)) f (opened sh may sp (λ n2 is. operand_not_name (sym (instruction_shape o.head (length o.arguments) sh (w.starred f) may) ∙ is)))
             where
               operand_not_name : shape.Operand ≡ shape.Name → ⊥
               operand_not_name e = absurd cc
@@ -399,12 +399,12 @@ module _ (sc0 : ScopeView) (line : ℕ) (o : Open) (ss : List Terminal) (sc : Sc
           by_nothing true n = no_name o.star refl n
           by_nothing false n = opened sh may sp (λ n2 is. not_both n2 n)
 
-      by_star : (t : Bool) → o.star ≡ t → Opens (shape_at o.head (length o.done)) (stars o.star ++ w.arg)
-      by_star t e = rw e (whole t e (shape_at o.head (length o.done)) refl)
+      by_star : (t : Bool) → o.star ≡ t → Opens (shape_at o.head (length o.arguments)) (stars o.star ++ w.arg)
+      by_star t e = rw e (whole t e (shape_at o.head (length o.arguments)) refl)
 
-  pub arguments_suit : Suits sc0 (StatementPlace.argument o.head o.done w.behind (stars o.star ++ w.arg)) sc (state.Arguments o)
+  pub arguments_suit : Suits sc0 (StatementPlace.argument o.head o.arguments w.behind (stars o.star ++ w.arg)) sc (state.Arguments o)
   arguments_suit = record {
-    cause = λ at s more c h. behind_is sc0 (StatementPlace.argument o.head o.done w.behind (stars o.star ++ w.arg)) sc (state.Arguments o) at s more c (λ d k. argument_refused sc0 line o ss sc w s d k) h;
+    cause = λ at s more c h. behind_is sc0 (StatementPlace.argument o.head o.arguments w.behind (stars o.star ++ w.arg)) sc (state.Arguments o) at s more c (λ d k. argument_refused sc0 line o ss sc w s d k) h;
     percent = λ at more c h. ap (λ (x : SourceCause). percent_cause x more) (argument_refused sc0 line o ss sc w symbol.Percent c h);
     first = λ e. absurd cc;
     byte = byte_is;
@@ -412,8 +412,8 @@ module _ (sc0 : ScopeView) (line : ℕ) (o : Open) (ss : List Terminal) (sc : Sc
 
   at_arguments : (ps : List Word) → ss ≡ symbols ps → (p : Word) (q : Word) (rest : List Word) → ps ≡ p ∷ q ∷ rest → Standing sc0 (state.Arguments o) ps sc
   at_arguments ps same p q rest e = record {
-    place = StatementPlace.argument o.head o.done w.behind (stars o.star ++ w.arg);
-    stands = subst (λ (x : List Terminal). LeadsTo sc0 x (StatementPlace.argument o.head o.done w.behind (stars o.star ++ w.arg))) (ap symbols (sym e))
+    place = StatementPlace.argument o.head o.arguments w.behind (stars o.star ++ w.arg);
+    stands = subst (λ (x : List Terminal). LeadsTo sc0 x (StatementPlace.argument o.head o.arguments w.behind (stars o.star ++ w.arg))) (ap symbols (sym e))
         (LeadsTo.argument (symbol_of p.kind p.bytes) (symbol_of q.kind q.bytes) (symbols rest) w.lead w.front (stars o.star ++ w.arg) (ap symbols (sym e) ∙ (sym same ∙ w.whole)) w.leads w.separated opens);
     suits = arguments_suit;
   }

@@ -162,8 +162,8 @@ doomed_stays P sc (state.Arguments o) l line s x g e h = absurd cc
 -- an argument that is opened: it may stand there, and where nothing of it has been read it isn't a directive's first
 pub record IsOpen (o : Open) : Type 0 where
   pub shape : Shape
-  pub may : shape_at o.head (length o.done) ≡ Some shape
-  pub first : is_nothing o.so_far ≡ true → (is_instruction o.head ≡ true) ⊎ (1 ≤ length o.done)
+  pub may : shape_at o.head (length o.arguments) ≡ Some shape
+  pub first : is_nothing o.so_far ≡ true → (is_instruction o.head ≡ true) ⊎ (1 ≤ length o.arguments)
 
 module _ (P : List ℕ → Type 0) where
   abbrev pub SymbolIs : Terminal → Type 0
@@ -198,7 +198,7 @@ module _ (P : List ℕ → Type 0) where
 
   name_quiet : (line : ℕ) (sc : ScopeView) (o : Open) (n : Option (List ℕ)) → GoodIn P sc → IsOpen o → NameIs n → Quiet line (with_name sc o n)
   name_quiet line sc o None g opened p = (opened, g)
-  name_quiet line sc o (Some n) g opened p = noted_quiet line o (noting sc (defines o.head (length o.done)) n) opened (λ sc2 e. seen_good P (noting_seen sc sc2 (defines o.head (length o.done)) n e) p g)
+  name_quiet line sc o (Some n) g opened p = noted_quiet line o (noting sc (defines o.head (length o.arguments)) n) opened (λ sc2 e. seen_good P (noting_seen sc sc2 (defines o.head (length o.arguments)) n e) p g)
 
   none_is_name : (q : Option (List ℕ)) → q ≡ None → NameIs q
   none_is_name q e = subst NameIs (sym e) tt
@@ -210,7 +210,7 @@ module _ (P : List ℕ → Type 0) where
   keeps_name p q s is (inl k) = none_is_name (name_in q) k.0
   keeps_name p q s is (inr (n, a, b, c, d)) = some_is_name (name_in q) n s a d is
 
-  stepped_quiet : (line : ℕ) (sc : ScopeView) (o : Open) (s : Terminal) (sh : Shape) → GoodIn P sc → SymbolIs s → shape_at o.head (length o.done) ≡ Some sh → (r : Result Partial SourceCause) → operand_step sh o.so_far s ≡ r → Quiet line (after_step sc o s r)
+  stepped_quiet : (line : ℕ) (sc : ScopeView) (o : Open) (s : Terminal) (sh : Shape) → GoodIn P sc → SymbolIs s → shape_at o.head (length o.arguments) ≡ Some sh → (r : Result Partial SourceCause) → operand_step sh o.so_far s ≡ r → Quiet line (after_step sc o s r)
   stepped_quiet line sc o s sh g is may (Err c) e = tt
   stepped_quiet line sc o s sh g is may (Ok q) e =
       let next = operand_next sh o.so_far s q e in
@@ -220,12 +220,12 @@ module _ (P : List ℕ → Type 0) where
       both : {t : Bool} → t ≡ false → t ≡ true → ⊥
       both e f = absurd cc
 
-  shape_quiet : (line : ℕ) (sc : ScopeView) (o : Open) (s : Terminal) (r : Option Shape) → GoodIn P sc → SymbolIs s → shape_at o.head (length o.done) ≡ r → Quiet line (at_shape sc o s r)
+  shape_quiet : (line : ℕ) (sc : ScopeView) (o : Open) (s : Terminal) (r : Option Shape) → GoodIn P sc → SymbolIs s → shape_at o.head (length o.arguments) ≡ r → Quiet line (at_shape sc o s r)
   shape_quiet line sc o s None g is e = tt
   shape_quiet line sc o s (Some sh) g is e = stepped_quiet line sc o s sh g is e (operand_step sh o.so_far s) refl
 
   within_quiet : (line : ℕ) (sc : ScopeView) (o : Open) (s : Terminal) → GoodIn P sc → SymbolIs s → Quiet line (within sc o s)
-  within_quiet line sc o s g is = shape_quiet line sc o s (shape_at o.head (length o.done)) g is refl
+  within_quiet line sc o s g is = shape_quiet line sc o s (shape_at o.head (length o.arguments)) g is refl
 
   argument_quiet : (line : ℕ) (sc : ScopeView) (b : ℕ) (h : Head) (done : List Argument) (r : Option Shape) → GoodIn P sc → shape_at h (length done) ≡ r → 1 ≤ length done → Quiet line (with_scope sc (argument_of b h done r))
   argument_quiet line sc b h done None g may le = tt
@@ -250,7 +250,7 @@ module _ (P : List ℕ → Type 0) where
   star_open : (o : Open) → takes_star o ≡ true → IsOpen (record o { star = true })
   star_open o h =
       let a = and_two (is_nothing o.so_far && not o.star) (is_instruction o.head) h in
-      record { shape = shape.Operand; may = operand_first o.head (length o.done) a.1; first = λ k. inl a.1 }
+      record { shape = shape.Operand; may = operand_first o.head (length o.arguments) a.1; first = λ k. inl a.1 }
     where
       operand_first : (h : Head) (i : ℕ) → is_instruction h ≡ true → shape_at h i ≡ Some shape.Operand
       operand_first (head.Instruction r n) i e = refl
@@ -262,7 +262,7 @@ module _ (P : List ℕ → Type 0) where
 
   arguments_quiet : (line : ℕ) (sc : ScopeView) (o : Open) (s : Terminal) → GoodIn P sc → SymbolIs s → Quiet line (argument_step sc o s)
   arguments_quiet line sc o symbol.Comma g is = either line (is_finished o.so_far) _ _ (comma_quiet line sc (ended o) g) (within_quiet line sc o symbol.Comma g tt)
-  arguments_quiet line sc o symbol.End g is = either line (is_bare o) _ _ (complete_quiet line sc o.line o.head o.done g) (either line (is_finished o.so_far) _ _ (end_quiet line sc (ended o) g) (within_quiet line sc o symbol.End g tt))
+  arguments_quiet line sc o symbol.End g is = either line (is_bare o) _ _ (complete_quiet line sc o.line o.head o.arguments g) (either line (is_finished o.so_far) _ _ (end_quiet line sc (ended o) g) (within_quiet line sc o symbol.End g tt))
   arguments_quiet line sc o symbol.Star g is = star_quiet line sc o g (takes_star o) refl
   arguments_quiet line sc o s g is = within_quiet line sc o s g is
 

@@ -172,15 +172,15 @@ record Within (sc0 : ScopeView) (line : ℕ) (h : Head) (done : List Argument) (
   all : List Terminal
   read : InArguments sc0 line o all sc
   head_is : o.head ≡ h
-  done_is : o.done ≡ done
+  done_is : o.arguments ≡ done
   behind_is : read.behind ≡ behind
   arg_is : stars o.star ++ read.arg ≡ arg
 
 within_suits : (sc0 : ScopeView) (line : ℕ) (h : Head) (done : List Argument) (behind : ScopeView) (arg : List Terminal) (sc : ScopeView) (o : Open) → Within sc0 line h done behind arg sc o → Suits sc0 (StatementPlace.argument h done behind arg) sc (state.Arguments o)
 within_suits sc0 line h done behind arg sc o w =
     let s = arguments_suit sc0 line o w.all sc w.read in
-    let one : StatementPlace.argument o.head o.done w.read.behind (stars o.star ++ w.read.arg) ≡ StatementPlace.argument h done behind arg =
-    ap (λ (x : Head). StatementPlace.argument x o.done w.read.behind (stars o.star ++ w.read.arg)) w.head_is
+    let one : StatementPlace.argument o.head o.arguments w.read.behind (stars o.star ++ w.read.arg) ≡ StatementPlace.argument h done behind arg =
+    ap (λ (x : Head). StatementPlace.argument x o.arguments w.read.behind (stars o.star ++ w.read.arg)) w.head_is
     ∙ (ap (λ (x : List Argument). StatementPlace.argument h x w.read.behind (stars o.star ++ w.read.arg)) w.done_is
     ∙ (ap (λ (x : ScopeView). StatementPlace.argument h done x (stars o.star ++ w.read.arg)) w.behind_is
     ∙ ap (λ (x : List Terminal). StatementPlace.argument h done behind x) w.arg_is)) in
@@ -191,17 +191,17 @@ record Further (sc0 : ScopeView) (line : ℕ) (h : Head) (done : List Argument) 
   is : y ≡ (y.0, state.Arguments o)
   within : Within sc0 line h done behind arg y.0 o
 
-was_spelled : (sc0 : ScopeView) (line : ℕ) (o : Open) (ss : List Terminal) (sc : ScopeView) (w : InArguments sc0 line o ss sc) (sh : Shape) → shape_at o.head (length o.done) ≡ Some sh → Spelled sh o.so_far w.arg
+was_spelled : (sc0 : ScopeView) (line : ℕ) (o : Open) (ss : List Terminal) (sc : ScopeView) (w : InArguments sc0 line o ss sc) (sh : Shape) → shape_at o.head (length o.arguments) ≡ Some sh → Spelled sh o.so_far w.arg
 was_spelled sc0 line o ss sc w sh may = elim w.spelled [
   | inl (e, f) ↦ subst (λ (p : Partial). Spelled sh p w.arg) (sym e) f
   | inr (sh2, may2, sp) ↦ subst (λ (x : Shape). Spelled x o.so_far w.arg) (some_shape sh2 sh (sym may2 ∙ may)) sp
 ]
 
-module _ (sc0 : ScopeView) (line : ℕ) (h : Head) (done : List Argument) (behind : ScopeView) (arg : List Terminal) (sc : ScopeView) (o : Open) (w : Within sc0 line h done behind arg sc o) (sh : Shape) (may : shape_at o.head (length o.done) ≡ Some sh) (s : Terminal) (q : Partial) (next : next_symbol sh o.so_far s ≡ ok q) (y : Pair) where
+module _ (sc0 : ScopeView) (line : ℕ) (h : Head) (done : List Argument) (behind : ScopeView) (arg : List Terminal) (sc : ScopeView) (o : Open) (w : Within sc0 line h done behind arg sc o) (sh : Shape) (may : shape_at o.head (length o.arguments) ≡ Some sh) (s : Terminal) (q : Partial) (next : next_symbol sh o.so_far s ≡ ok q) (y : Pair) where
   spelled : Spelled sh q (w.read.arg ++ s ∷ [])
   spelled = more sh o.so_far s q w.read.arg (was_spelled sc0 line o w.all sc w.read sh may) next
 
-  advanced : (sc2 : ScopeView) → Sees w.read.behind (defines o.head (length o.done)) (named_in q) sc2 → Within sc0 line h done behind (arg ++ s ∷ []) sc2 (record o { so_far = q })
+  advanced : (sc2 : ScopeView) → Sees w.read.behind (defines o.head (length o.arguments)) (named_in q) sc2 → Within sc0 line h done behind (arg ++ s ∷ []) sc2 (record o { so_far = q })
   unfolding advance
   advanced sc2 sees = record {
     all = w.all ++ s ∷ [];
@@ -220,21 +220,21 @@ module _ (sc0 : ScopeView) (line : ℕ) (h : Head) (done : List Argument) (behin
         within = subst (λ (x : ScopeView). Within sc0 line h done behind (arg ++ s ∷ []) x (record o { so_far = q })) scope v;
       }
 
-  by_noting : (n : List ℕ) → named_in q ≡ Some n → named_in o.so_far ≡ None → (r : Result ScopeView SourceCause) → noting sc (defines o.head (length o.done)) n ≡ r → after_noting (record o { so_far = q }) r ≡ Ok y
+  by_noting : (n : List ℕ) → named_in q ≡ Some n → named_in o.so_far ≡ None → (r : Result ScopeView SourceCause) → noting sc (defines o.head (length o.arguments)) n ≡ r → after_noting (record o { so_far = q }) r ≡ Ok y
       → Further sc0 line h done behind (arg ++ s ∷ []) (record o { so_far = q }) y
   by_noting n new none (Err c) e k = absurd cc
   by_noting n new none (Ok sc2) e k =
-      let same : w.read.behind ≡ sc = sees_none w.read.behind sc (defines o.head (length o.done)) (named_in o.so_far) none w.read.sees in
-      let seen : IsSeen w.read.behind (defines o.head (length o.done)) n sc2 = subst (λ (x : ScopeView). IsSeen x (defines o.head (length o.done)) n sc2) (sym same) (noting_seen sc sc2 (defines o.head (length o.done)) n e) in
-      let sees : Sees w.read.behind (defines o.head (length o.done)) (named_in q) sc2 = subst (λ (x : Option (List ℕ)). Sees w.read.behind (defines o.head (length o.done)) x sc2) (sym new) seen in
+      let same : w.read.behind ≡ sc = sees_none w.read.behind sc (defines o.head (length o.arguments)) (named_in o.so_far) none w.read.sees in
+      let seen : IsSeen w.read.behind (defines o.head (length o.arguments)) n sc2 = subst (λ (x : ScopeView). IsSeen x (defines o.head (length o.arguments)) n sc2) (sym same) (noting_seen sc sc2 (defines o.head (length o.arguments)) n e) in
+      let sees : Sees w.read.behind (defines o.head (length o.arguments)) (named_in q) sc2 = subst (λ (x : Option (List ℕ)). Sees w.read.behind (defines o.head (length o.arguments)) x sc2) (sym new) seen in
       at_pair sc2 (advanced sc2 sees) (same_pair (sc2, state.Arguments (record o { so_far = q })) y k)
 
   further : argument_step sc o s ≡ Ok y → Further sc0 line h done behind (arg ++ s ∷ []) (record o { so_far = q }) y
   further k = elim (name_step sh o.so_far s q next) [
     | inl t ↦
-        let sees : Sees w.read.behind (defines o.head (length o.done)) (named_in q) sc = subst (λ (x : Option (List ℕ)). Sees w.read.behind (defines o.head (length o.done)) x sc) (sym t.1) w.read.sees in
+        let sees : Sees w.read.behind (defines o.head (length o.arguments)) (named_in q) sc = subst (λ (x : Option (List ℕ)). Sees w.read.behind (defines o.head (length o.arguments)) x sc) (sym t.1) w.read.sees in
         at_pair sc (advanced sc sees) (same_pair (sc, state.Arguments (record o { so_far = q })) y (sym (ap (with_name sc (record o { so_far = q })) t.0) ∙ (sym (within_next sc o sh s q may next) ∙ k)))
-    | inr (n, a, b, c, d) ↦ by_noting n b c (noting sc (defines o.head (length o.done)) n) refl (sym (ap (with_name sc (record o { so_far = q })) a) ∙ (sym (within_next sc o sh s q may next) ∙ k))
+    | inr (n, a, b, c, d) ↦ by_noting n b c (noting sc (defines o.head (length o.arguments)) n) refl (sym (ap (with_name sc (record o { so_far = q })) a) ∙ (sym (within_next sc o sh s q may next) ∙ k))
   ]
 
 -- what has been read at the end of some symbols of the argument
@@ -243,7 +243,7 @@ record Reached (sc0 : ScopeView) (line : ℕ) (h : Head) (done : List Argument) 
   is : y.1 ≡ state.Arguments reader
   within : Within sc0 line h done behind arg y.0 reader
 
-args_run : (sc0 : ScopeView) (line : ℕ) (h : Head) (done : List Argument) (behind : ScopeView) (sh : Shape) (rest arg : List Terminal) (sc : ScopeView) (o : Open) (q : Partial) (fin : Pair) → Within sc0 line h done behind arg sc o → shape_at o.head (length o.done) ≡ Some sh
+args_run : (sc0 : ScopeView) (line : ℕ) (h : Head) (done : List Argument) (behind : ScopeView) (sh : Shape) (rest arg : List Terminal) (sc : ScopeView) (o : Open) (q : Partial) (fin : Pair) → Within sc0 line h done behind arg sc o → shape_at o.head (length o.arguments) ≡ Some sh
     → operand_run sh o.so_far rest ≡ ok q → inners sc (state.Arguments o) rest ≡ Ok fin → Reached sc0 line h done behind (arg ++ rest) fin
 args_run sc0 line h done behind sh [] arg sc o q fin w may run k =
     let e : (sc, state.Arguments o) ≡ fin = same_pair (sc, state.Arguments o) fin k in

@@ -176,7 +176,7 @@ noted_in o (Err c) = tt
 
 named_argument : (sc : ScopeView) (o : Open) (n : Option (List ℕ)) → InArgument (with_name sc o n)
 named_argument sc o None = (o, refl)
-named_argument sc o (Some n) = noted_in o (noting sc (defines o.head (length o.done)) n)
+named_argument sc o (Some n) = noted_in o (noting sc (defines o.head (length o.arguments)) n)
 
 stepped_in : (sc : ScopeView) (o : Open) (s : Terminal) (r : Result Partial SourceCause) → InArgument (after_step sc o s r)
 stepped_in sc o s (Err c) = tt
@@ -187,7 +187,7 @@ shaped_in sc o s None = tt
 shaped_in sc o s (Some sh) = stepped_in sc o s (operand_step sh o.so_far s)
 
 within_in : (sc : ScopeView) (o : Open) (s : Terminal) → InArgument (within sc o s)
-within_in sc o s = shaped_in sc o s (shape_at o.head (length o.done))
+within_in sc o s = shaped_in sc o s (shape_at o.head (length o.arguments))
 
 argument_in : (sc : ScopeView) (line : ℕ) (h : Head) (done : List Argument) (r : Option Shape) → InArgument (with_scope sc (argument_of line h done r))
 argument_in sc line h done None = tt

@@ -53,11 +53,11 @@ pub record InArguments (sc0 : ScopeView) (line : ℕ) (o : Open) (ss : List Term
   pub leads : Leads sc0 o.head lead
   pub ends : Ending sc0 line lead o.head
   pub same_line : o.line ≡ line
-  pub separated : Separated o.head sc0 front o.done behind
-  pub spelled : ((o.so_far ≡ partial.Nothing) × (arg ≡ [])) ⊎ ((sh : Shape) × (shape_at o.head (length o.done) ≡ Some sh) × Spelled sh o.so_far arg)
+  pub separated : Separated o.head sc0 front o.arguments behind
+  pub spelled : ((o.so_far ≡ partial.Nothing) × (arg ≡ [])) ⊎ ((sh : Shape) × (shape_at o.head (length o.arguments) ≡ Some sh) × Spelled sh o.so_far arg)
   pub solid : is_unbegun o.so_far ≡ false → arg ≡ [] → ⊥
   pub starred : o.star ≡ true → is_instruction o.head ≡ true
-  pub sees : Sees behind (defines o.head (length o.done)) (named_in o.so_far) sc
+  pub sees : Sees behind (defines o.head (length o.arguments)) (named_in o.so_far) sc
   pub whole : ss ≡ lead ++ (front ++ (stars o.star ++ arg))
 
 -- the change of a section to one of this name
@@ -131,7 +131,7 @@ separated_none Separated.none e = (refl, refl)
 separated_none (Separated.more {before} {a} sep next) e = absurd (not_empty before a e)
 
 module _ (sc0 : ScopeView) (line : ℕ) (o : Open) (ss : List Terminal) (sc : ScopeView) (y : ScopeView × StatementState) (w : InArguments sc0 line o ss sc) where
-  was_spelled : (sh : Shape) → shape_at o.head (length o.done) ≡ Some sh → Spelled sh o.so_far w.arg
+  was_spelled : (sh : Shape) → shape_at o.head (length o.arguments) ≡ Some sh → Spelled sh o.so_far w.arg
   was_spelled sh may = elim w.spelled [
     | inl (e, f) ↦ subst (λ (p : Partial). Spelled sh p w.arg) (sym e) f
     | inr (sh2, may2, sp) ↦ subst (λ (x : Shape). Spelled x o.so_far w.arg) (same_shape sh2 sh (sym may2 ∙ may)) sp
@@ -143,7 +143,7 @@ module _ (sc0 : ScopeView) (line : ℕ) (o : Open) (ss : List Terminal) (sc : Sc
     | inr (sh2, may2, sp) ↦ subst (λ (p : Partial). Spelled sh2 p w.arg) e sp
   ]
 
-  unfoldable pub advance : (s : Terminal) (sh : Shape) (q : Partial) (sc2 : ScopeView) → shape_at o.head (length o.done) ≡ Some sh → Spelled sh q (w.arg ++ s ∷ []) → Sees w.behind (defines o.head (length o.done)) (named_in q) sc2
+  unfoldable pub advance : (s : Terminal) (sh : Shape) (q : Partial) (sc2 : ScopeView) → shape_at o.head (length o.arguments) ≡ Some sh → Spelled sh q (w.arg ++ s ∷ []) → Sees w.behind (defines o.head (length o.arguments)) (named_in q) sc2
       → InArguments sc0 line (record o { so_far = q }) (ss ++ s ∷ []) sc2
   advance s sh q sc2 may sp sees = record {
     lead = w.lead;
@@ -161,48 +161,48 @@ module _ (sc0 : ScopeView) (line : ℕ) (o : Open) (ss : List Terminal) (sc : Sc
     whole = push_end w.lead w.front (stars o.star) w.arg ss s w.whole;
   }
 
-  by_noting : (s : Terminal) (sh : Shape) (q : Partial) (n : List ℕ) → shape_at o.head (length o.done) ≡ Some sh → Spelled sh q (w.arg ++ s ∷ []) → named_in q ≡ Some n → named_in o.so_far ≡ None
-      → (r : Result ScopeView SourceCause) → noting sc (defines o.head (length o.done)) n ≡ r → after_noting (record o { so_far = q }) r ≡ Ok y → Begun sc0 line y.1 (ss ++ s ∷ []) y.0
+  by_noting : (s : Terminal) (sh : Shape) (q : Partial) (n : List ℕ) → shape_at o.head (length o.arguments) ≡ Some sh → Spelled sh q (w.arg ++ s ∷ []) → named_in q ≡ Some n → named_in o.so_far ≡ None
+      → (r : Result ScopeView SourceCause) → noting sc (defines o.head (length o.arguments)) n ≡ r → after_noting (record o { so_far = q }) r ≡ Ok y → Begun sc0 line y.1 (ss ++ s ∷ []) y.0
   by_noting s sh q n may sp new none (Err c) e h = absurd cc
   by_noting s sh q n may sp new none (Ok sc2) e h =
-      let same : w.behind ≡ sc = sees_none w.behind sc (defines o.head (length o.done)) (named_in o.so_far) none w.sees in
-      let seen : IsSeen w.behind (defines o.head (length o.done)) n sc2 = subst (λ (x : ScopeView). IsSeen x (defines o.head (length o.done)) n sc2) (sym same) (noting_seen sc sc2 (defines o.head (length o.done)) n e) in
-      let sees : Sees w.behind (defines o.head (length o.done)) (named_in q) sc2 = subst (λ (x : Option (List ℕ)). Sees w.behind (defines o.head (length o.done)) x sc2) (sym new) seen in
+      let same : w.behind ≡ sc = sees_none w.behind sc (defines o.head (length o.arguments)) (named_in o.so_far) none w.sees in
+      let seen : IsSeen w.behind (defines o.head (length o.arguments)) n sc2 = subst (λ (x : ScopeView). IsSeen x (defines o.head (length o.arguments)) n sc2) (sym same) (noting_seen sc sc2 (defines o.head (length o.arguments)) n e) in
+      let sees : Sees w.behind (defines o.head (length o.arguments)) (named_in q) sc2 = subst (λ (x : Option (List ℕ)). Sees w.behind (defines o.head (length o.arguments)) x sc2) (sym new) seen in
       led sc0 line (ss ++ s ∷ []) (sc2, state.Arguments (record o { so_far = q })) y h (advance s sh q sc2 may sp sees)
 
-  by_partial : (s : Terminal) (sh : Shape) → shape_at o.head (length o.done) ≡ Some sh → (r : Result Partial SourceCause) → operand_step sh o.so_far s ≡ r → after_step sc o s r ≡ Ok y → Begun sc0 line y.1 (ss ++ s ∷ []) y.0
+  by_partial : (s : Terminal) (sh : Shape) → shape_at o.head (length o.arguments) ≡ Some sh → (r : Result Partial SourceCause) → operand_step sh o.so_far s ≡ r → after_step sc o s r ≡ Ok y → Begun sc0 line y.1 (ss ++ s ∷ []) y.0
   by_partial s sh may (Err c) f h = absurd cc
   by_partial s sh may (Ok q) f h =
       let next = operand_next sh o.so_far s q f in
       let sp : Spelled sh q (w.arg ++ s ∷ []) = more sh o.so_far s q w.arg (was_spelled sh may) next in
       elim (name_step sh o.so_far s q next) [
         | inl t ↦
-            let sees : Sees w.behind (defines o.head (length o.done)) (named_in q) sc = subst (λ (x : Option (List ℕ)). Sees w.behind (defines o.head (length o.done)) x sc) (sym t.1) w.sees in
+            let sees : Sees w.behind (defines o.head (length o.arguments)) (named_in q) sc = subst (λ (x : Option (List ℕ)). Sees w.behind (defines o.head (length o.arguments)) x sc) (sym t.1) w.sees in
             led sc0 line (ss ++ s ∷ []) (sc, state.Arguments (record o { so_far = q })) y (sym (ap (with_name sc (record o { so_far = q })) t.0) ∙ h) (advance s sh q sc may sp sees)
-        | inr (n, a, b, c, d) ↦ by_noting s sh q n may sp b c (noting sc (defines o.head (length o.done)) n) refl (sym (ap (with_name sc (record o { so_far = q })) a) ∙ h)
+        | inr (n, a, b, c, d) ↦ by_noting s sh q n may sp b c (noting sc (defines o.head (length o.arguments)) n) refl (sym (ap (with_name sc (record o { so_far = q })) a) ∙ h)
       ]
 
-  by_shape : (s : Terminal) (r : Option Shape) → shape_at o.head (length o.done) ≡ r → at_shape sc o s r ≡ Ok y → Begun sc0 line y.1 (ss ++ s ∷ []) y.0
+  by_shape : (s : Terminal) (r : Option Shape) → shape_at o.head (length o.arguments) ≡ r → at_shape sc o s r ≡ Ok y → Begun sc0 line y.1 (ss ++ s ∷ []) y.0
   by_shape s None e h = absurd cc
   by_shape s (Some sh) e h = by_partial s sh e (operand_step sh o.so_far s) refl h
 
   within_begun : (s : Terminal) → within sc o s ≡ Ok y → Begun sc0 line y.1 (ss ++ s ∷ []) y.0
-  within_begun s h = by_shape s (shape_at o.head (length o.done)) refl h
+  within_begun s h = by_shape s (shape_at o.head (length o.arguments)) refl h
 
   -- the argument that ends here
-  ended_next : (f : Form) → finished o.so_far ≡ Some f → IsNext o.head w.behind o.done (stars o.star ++ w.arg) (record { star = o.star; form = f }) sc
+  ended_next : (f : Form) → finished o.so_far ≡ Some f → IsNext o.head w.behind o.arguments (stars o.star ++ w.arg) (record { star = o.star; form = f }) sc
   ended_next f fin = elim w.spelled [
     | inl (e, g) ↦ absurd (not_finished_nothing o.so_far f e fin)
     | inr (sh, may, sp) ↦ record {
       shape = sh;
       may = may;
-      is = star_argument sh o.star w.arg f (λ e. instruction_operand o.head (length o.done) sh (w.starred e) may) (spelled_form sh o.so_far f w.arg sp fin);
-      sees = subst (λ (x : Option (List ℕ)). Sees w.behind (defines o.head (length o.done)) x sc) (finished_named o.so_far f fin) w.sees;
+      is = star_argument sh o.star w.arg f (λ e. instruction_operand o.head (length o.arguments) sh (w.starred e) may) (spelled_form sh o.so_far f w.arg sp fin);
+      sees = subst (λ (x : Option (List ℕ)). Sees w.behind (defines o.head (length o.arguments)) x sc) (finished_named o.so_far f fin) w.sees;
     }
   ]
 
-  behind_comma : (f : Form) → finished o.so_far ≡ Some f → (sh : Shape) → shape_at o.head (length (o.done ++ record { star = o.star; form = f } ∷ [])) ≡ Some sh
-      → InArguments sc0 line (open_at o.line o.head (o.done ++ record { star = o.star; form = f } ∷ []) false (begun sh)) (ss ++ symbol.Comma ∷ []) sc
+  behind_comma : (f : Form) → finished o.so_far ≡ Some f → (sh : Shape) → shape_at o.head (length (o.arguments ++ record { star = o.star; form = f } ∷ [])) ≡ Some sh
+      → InArguments sc0 line (open_at o.line o.head (o.arguments ++ record { star = o.star; form = f } ∷ []) false (begun sh)) (ss ++ symbol.Comma ∷ []) sc
   behind_comma f fin sh may = record {
     lead = w.lead;
     front = w.front ++ ((stars o.star ++ w.arg) ++ symbol.Comma ∷ []);
@@ -215,13 +215,13 @@ module _ (sc0 : ScopeView) (line : ℕ) (o : Open) (ss : List Terminal) (sc : Sc
     spelled = inr (sh, may, begun_spelled sh);
     solid = λ u e. begun_solid sh u;
     starred = λ e. absurd cc;
-    sees = subst (λ (x : Option (List ℕ)). Sees sc (defines o.head (length (o.done ++ record { star = o.star; form = f } ∷ []))) x sc) (sym (begun_unnamed sh)) refl;
+    sees = subst (λ (x : Option (List ℕ)). Sees sc (defines o.head (length (o.arguments ++ record { star = o.star; form = f } ∷ []))) x sc) (sym (begun_unnamed sh)) refl;
     whole = ap (λ (x : List Terminal). x ++ symbol.Comma ∷ []) w.whole ∙ (append_assoc w.lead (w.front ++ (stars o.star ++ w.arg)) (symbol.Comma ∷ [])
         ∙ ap (λ (x : List Terminal). w.lead ++ x) (append_assoc w.front (stars o.star ++ w.arg) (symbol.Comma ∷ []) ∙ sym (append-nil (w.front ++ ((stars o.star ++ w.arg) ++ symbol.Comma ∷ [])))));
   }
 
-  by_next : (f : Form) → finished o.so_far ≡ Some f → (r : Option Shape) → shape_at o.head (length (o.done ++ record { star = o.star; form = f } ∷ [])) ≡ r
-      → ◌≡◌ {A = Answer} (with_scope sc (argument_of o.line o.head (o.done ++ record { star = o.star; form = f } ∷ []) r)) (Ok y) → Begun sc0 line y.1 (ss ++ symbol.Comma ∷ []) y.0
+  by_next : (f : Form) → finished o.so_far ≡ Some f → (r : Option Shape) → shape_at o.head (length (o.arguments ++ record { star = o.star; form = f } ∷ [])) ≡ r
+      → ◌≡◌ {A = Answer} (with_scope sc (argument_of o.line o.head (o.arguments ++ record { star = o.star; form = f } ∷ []) r)) (Ok y) → Begun sc0 line y.1 (ss ++ symbol.Comma ∷ []) y.0
   by_next f fin None e h = absurd cc
   by_next f fin (Some sh) e h = led sc0 line (ss ++ symbol.Comma ∷ []) _ y h (behind_comma f fin sh e)
 
@@ -229,7 +229,7 @@ module _ (sc0 : ScopeView) (line : ℕ) (o : Open) (ss : List Terminal) (sc : Sc
   comma_begun false e h = within_begun symbol.Comma h
   comma_begun true e h =
       let f = is_finished_some o.so_far e in
-      by_next f.0 f.1 (shape_at o.head (length (o.done ++ record { star = o.star; form = f.0 } ∷ []))) refl (sym (ap (λ (x : Option Form). comma_behind sc (ended_as o x)) f.1) ∙ h)
+      by_next f.0 f.1 (shape_at o.head (length (o.arguments ++ record { star = o.star; form = f.0 } ∷ []))) refl (sym (ap (λ (x : Option Form). comma_behind sc (ended_as o x)) f.1) ∙ h)
 
   complete_begun : (ts : List Terminal) (args : List Argument) → ss ≡ w.lead ++ ts → HasArguments o.head sc0 ts args sc → (t : Bool) → nat_lt (length args) (least o.head) ≡ t
       → ◌≡◌ {A = Answer} (cond t (Err cause.BadArgument) (Ok (resumed (pushed sc (item_of o.line o.head args)) o.head, state.Start))) (Ok y) → Begun sc0 line y.1 (ss ++ symbol.End ∷ []) y.0
@@ -240,26 +240,26 @@ module _ (sc0 : ScopeView) (line : ℕ) (o : Open) (ss : List Terminal) (sc : Sc
       let st3 : Statement sc0 line (ss ++ symbol.End ∷ []) (resumed (pushed sc (item_of o.line o.head args)) o.head) = subst (λ (x : List Terminal). Statement sc0 line x (resumed (pushed sc (item_of o.line o.head args)) o.head)) (sym (ap (λ (x : List Terminal). x ++ symbol.End ∷ []) e ∙ append_assoc w.lead ts (symbol.End ∷ []))) st2 in
       led sc0 line (ss ++ symbol.End ∷ []) _ y h st3
 
-  bare_begun : is_bare o ≡ true → complete sc o.line o.head o.done ≡ Ok y → Begun sc0 line y.1 (ss ++ symbol.End ∷ []) y.0
+  bare_begun : is_bare o ≡ true → complete sc o.line o.head o.arguments ≡ Ok y → Begun sc0 line y.1 (ss ++ symbol.End ∷ []) y.0
   bare_begun bare h =
-      let b = and_three (is_nothing o.so_far) (not o.star) (length o.done == 0) bare in
+      let b = and_three (is_nothing o.so_far) (not o.star) (length o.arguments == 0) bare in
       let nothing = nothing_is o.so_far b.0 in
       let star = not_true o.star b.1 in
-      let done = no_length o.done b.2 in
+      let done = no_length o.arguments b.2 in
       let front = separated_none w.separated done in
-      let seen : w.behind ≡ sc = sees_none w.behind sc (defines o.head (length o.done)) (named_in o.so_far) (ap named_in nothing) w.sees in
+      let seen : w.behind ≡ sc = sees_none w.behind sc (defines o.head (length o.arguments)) (named_in o.so_far) (ap named_in nothing) w.sees in
       let none : HasArguments o.head sc0 [] [] sc = subst (λ (x : ScopeView). HasArguments o.head sc0 [] [] x) (front.1 ∙ seen) HasArguments.none in
-      let has : HasArguments o.head sc0 [] o.done sc = subst (λ (x : List Argument). HasArguments o.head sc0 [] x sc) (sym done) none in
+      let has : HasArguments o.head sc0 [] o.arguments sc = subst (λ (x : List Argument). HasArguments o.head sc0 [] x sc) (sym done) none in
       let nil : w.front ++ (stars o.star ++ w.arg) ≡ [] = rw (front.0, star, no_arg nothing) refl in
-      complete_begun [] o.done (w.whole ∙ ap (λ (x : List Terminal). w.lead ++ x) nil) has (nat_lt (length o.done) (least o.head)) refl h
+      complete_begun [] o.arguments (w.whole ∙ ap (λ (x : List Terminal). w.lead ++ x) nil) has (nat_lt (length o.arguments) (least o.head)) refl h
 
   end_begun : (t : Bool) → is_bare o ≡ t → (u : Bool) → is_finished o.so_far ≡ u
-      → ◌≡◌ {A = Answer} (cond t (complete sc o.line o.head o.done) (cond u (end_behind sc (ended o)) (within sc o symbol.End))) (Ok y) → Begun sc0 line y.1 (ss ++ symbol.End ∷ []) y.0
+      → ◌≡◌ {A = Answer} (cond t (complete sc o.line o.head o.arguments) (cond u (end_behind sc (ended o)) (within sc o symbol.End))) (Ok y) → Begun sc0 line y.1 (ss ++ symbol.End ∷ []) y.0
   end_begun true e u f h = bare_begun e h
   end_begun false e false f h = within_begun symbol.End h
   end_begun false e true f h =
       let g = is_finished_some o.so_far f in
-      complete_begun (w.front ++ (stars o.star ++ w.arg)) (o.done ++ record { star = o.star; form = g.0 } ∷ []) w.whole (HasArguments.some w.separated (ended_next g.0 g.1)) (nat_lt (length (o.done ++ record { star = o.star; form = g.0 } ∷ [])) (least o.head)) refl
+      complete_begun (w.front ++ (stars o.star ++ w.arg)) (o.arguments ++ record { star = o.star; form = g.0 } ∷ []) w.whole (HasArguments.some w.separated (ended_next g.0 g.1)) (nat_lt (length (o.arguments ++ record { star = o.star; form = g.0 } ∷ [])) (least o.head)) refl
       (sym (ap (λ (x : Option Form). end_behind sc (ended_as o x)) g.1) ∙ h)
 
   star_begun : (t : Bool) → takes_star o ≡ t → ◌≡◌ {A = Answer} (cond t (Ok (sc, state.Arguments (record o { star = true }))) (within sc o symbol.Star)) (Ok y) → Begun sc0 line y.1 (ss ++ symbol.Star ∷ []) y.0

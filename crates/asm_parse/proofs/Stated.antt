@@ -143,9 +143,9 @@ next_operand : (sh : Shape) (p : Partial) (s : Terminal) (q : Partial) → next_
 next_operand sh p symbol.Big q h = absurd (no_big sh p q h)
 next_operand sh p _ q h = h
 
-pub within_next : (sc : ScopeView) (o : Open) (sh : Shape) (s : Terminal) (q : Partial) → shape_at o.head (length o.done) ≡ Some sh → next_symbol sh o.so_far s ≡ ok q → argument_step sc o s ≡ with_name sc (record o { so_far = q }) (name_in q)
+pub within_next : (sc : ScopeView) (o : Open) (sh : Shape) (s : Terminal) (q : Partial) → shape_at o.head (length o.arguments) ≡ Some sh → next_symbol sh o.so_far s ≡ ok q → argument_step sc o s ≡ with_name sc (record o { so_far = q }) (name_in q)
 within_next sc o sh s q may h =
-    let a : at_shape sc o s (shape_at o.head (length o.done)) ≡ at_shape sc o s (Some sh) = ap (at_shape sc o s) may in
+    let a : at_shape sc o s (shape_at o.head (length o.arguments)) ≡ at_shape sc o s (Some sh) = ap (at_shape sc o s) may in
     let b : after_step sc o s (operand_step sh o.so_far s) ≡ after_step sc o s (Ok q) = ap (after_step sc o s) (next_operand sh o.so_far s q h) in
     goes_within sc o sh s q h ∙ (a ∙ b)
 
@@ -159,7 +159,7 @@ gains_same d sc sc2 None h = h
 gains_same d sc sc2 (Some n) h = h
 
 abbrev pub open_at : ℕ → Head → List Argument → Bool → Partial → Open
-open_at line h done star p = record { line = line; head = h; done = done; star = star; so_far = p }
+open_at line h done star p = record { line = line; head = h; arguments = done; star = star; so_far = p }
 
 pub form_runs : (line : ℕ) (h : Head) (done : List Argument) (star : Bool) (sh : Shape) → shape_at h (length done) ≡ Some sh → (ss : List Terminal) (p q : Partial) (sc sc2 : ScopeView)
     → operand_run sh p ss ≡ ok q → Gains (defines h (length done)) sc (named_in p) (named_in q) sc2
@@ -302,7 +302,7 @@ named_goes : (sc : ScopeView) (line : ℕ) (n : List ℕ) (o : Open) (ss : List 
     → inners sc (state.Arguments o) ss ≡ Ok y → inners sc (state.Named line n) ss ≡ Ok y
 named_goes sc line n o [] y eq e start h = let g : (sc, state.Arguments o) ≡ y = cc in let f : state.Arguments o ≡ state.Start = ap (λ (x : ScopeView × StatementState). x.1) g ∙ start in absurd cc
 named_goes sc line n o (symbol.Colon ∷ ss) y eq e start h =
-    let c = no_colon_shape sc o (shape_at o.head (length o.done)) e in
+    let c = no_colon_shape sc o (shape_at o.head (length o.arguments)) e in
     let g : inners sc (state.Arguments o) (symbol.Colon ∷ ss) ≡ Err c.0 = rw (c.1, inners) refl in
     let f : ◌≡◌ {A = Answer} (Err c.0) (Ok y) = sym g ∙ h in absurd cc
 named_goes sc line n o (s ∷ ss) y eq e start h = rw (eq s, inners) h

@@ -54,23 +54,23 @@ comma_fails : (sc : ScopeView) (o : Open) (c : SourceCause) (t : Bool) → is_fi
 comma_fails sc o c false e h = Fails.inside h (λ k. e)
 comma_fails sc o c true e h =
     let f = is_finished_some o.so_far e in
-    let g = shape_fails sc o.line o.head (o.done ++ record { star = o.star; form = f.0 } ∷ []) (shape_at o.head (length (o.done ++ record { star = o.star; form = f.0 } ∷ []))) c (sym (ap (λ (x : Option Form). comma_behind sc (ended_as o x)) f.1) ∙ h) in
-    Fails.many (length (o.done ++ record { star = o.star; form = f.0 } ∷ [])) refl e g.0 g.1
+    let g = shape_fails sc o.line o.head (o.arguments ++ record { star = o.star; form = f.0 } ∷ []) (shape_at o.head (length (o.arguments ++ record { star = o.star; form = f.0 } ∷ []))) c (sym (ap (λ (x : Option Form). comma_behind sc (ended_as o x)) f.1) ∙ h) in
+    Fails.many (length (o.arguments ++ record { star = o.star; form = f.0 } ∷ [])) refl e g.0 g.1
 
 and_first : (a b : Bool) → (a && b) ≡ true → a ≡ true
 and_first true b h = refl
 and_first false b h = absurd cc
 
 end_fails : (sc : ScopeView) (o : Open) (c : SourceCause) (t : Bool) → is_bare o ≡ t → (u : Bool) → is_finished o.so_far ≡ u
-    → ◌≡◌ {A = Answer} (cond t (complete sc o.line o.head o.done) (cond u (end_behind sc (ended o)) (within sc o symbol.End))) (Err c) → Fails sc o symbol.End c
+    → ◌≡◌ {A = Answer} (cond t (complete sc o.line o.head o.arguments) (cond u (end_behind sc (ended o)) (within sc o symbol.End))) (Err c) → Fails sc o symbol.End c
 end_fails sc o c true e u f h =
-    let g = count_fails (nat_lt (length o.done) (least o.head)) _ c h in
-    Fails.few (length o.done) refl (inl (and_first (is_nothing o.so_far) (not o.star) (and_first (is_nothing o.so_far && not o.star) (length o.done == 0) e))) g.0 g.1
+    let g = count_fails (nat_lt (length o.arguments) (least o.head)) _ c h in
+    Fails.few (length o.arguments) refl (inl (and_first (is_nothing o.so_far) (not o.star) (and_first (is_nothing o.so_far && not o.star) (length o.arguments == 0) e))) g.0 g.1
 end_fails sc o c false e false f h = Fails.inside h (λ k. f)
 end_fails sc o c false e true f h =
     let k = is_finished_some o.so_far f in
-    let g = count_fails (nat_lt (length (o.done ++ record { star = o.star; form = k.0 } ∷ [])) (least o.head)) _ c (sym (ap (λ (x : Option Form). end_behind sc (ended_as o x)) k.1) ∙ h) in
-    Fails.few (length (o.done ++ record { star = o.star; form = k.0 } ∷ [])) refl (inr f) g.0 g.1
+    let g = count_fails (nat_lt (length (o.arguments ++ record { star = o.star; form = k.0 } ∷ [])) (least o.head)) _ c (sym (ap (λ (x : Option Form). end_behind sc (ended_as o x)) k.1) ∙ h) in
+    Fails.few (length (o.arguments ++ record { star = o.star; form = k.0 } ∷ [])) refl (inr f) g.0 g.1
 
 star_fails : (sc : ScopeView) (o : Open) (c : SourceCause) (t : Bool) → ◌≡◌ {A = Answer} (cond t (Ok (sc, state.Arguments (record o { star = true }))) (within sc o symbol.Star)) (Err c) → Fails sc o symbol.Star c
 star_fails sc o c true h = absurd cc
@@ -164,7 +164,7 @@ sees_same : (sc sc2 : ScopeView) (d : Bool) (o : Option (List ℕ)) → o ≡ No
 sees_same sc sc2 d o e h = subst (λ (x : Option (List ℕ)). Sees sc d x sc2) e h
 
 module _ (sc0 : ScopeView) (line : ℕ) (o : Open) (ss : List Terminal) (sc : ScopeView) (w : InArguments sc0 line o ss sc) where
-  spelled_as : (sh : Shape) → shape_at o.head (length o.done) ≡ Some sh → Spelled sh o.so_far w.arg
+  spelled_as : (sh : Shape) → shape_at o.head (length o.arguments) ≡ Some sh → Spelled sh o.so_far w.arg
   spelled_as sh may = elim w.spelled [
     | inl (e, f) ↦ subst (λ (p : Partial). Spelled sh p w.arg) (sym e) f
     | inr (sh2, may2, sp) ↦ let same : sh2 ≡ sh = some_same sh2 sh (sym may2 ∙ may) in subst (λ (x : Shape). Spelled x o.so_far w.arg) same sp
@@ -176,17 +176,17 @@ module _ (sc0 : ScopeView) (line : ℕ) (o : Open) (ss : List Terminal) (sc : Sc
   -- ---- an instruction
 
   operand_within : (s : Terminal) (c : SourceCause) → is_instruction o.head ≡ true → within sc o s ≡ Err c → operand_at o.so_far s ≡ c
-  operand_within s c i h = by_step (operand_step shape.Operand o.so_far s) refl (sym (ap (at_shape sc o s) (instruction_is o.head (length o.done) i).0) ∙ h)
+  operand_within s c i h = by_step (operand_step shape.Operand o.so_far s) refl (sym (ap (at_shape sc o s) (instruction_is o.head (length o.arguments) i).0) ∙ h)
     where
       sp : Spelled shape.Operand o.so_far w.arg
-      sp = spelled_as shape.Operand (instruction_is o.head (length o.done) i).0
+      sp = spelled_as shape.Operand (instruction_is o.head (length o.arguments) i).0
 
       by_name : (q : Partial) → operand_step shape.Operand o.so_far s ≡ Ok q → with_name sc (record o { so_far = q }) (name_in q) ≡ Err c → operand_at o.so_far s ≡ c
       by_name q e k = elim (name_step shape.Operand o.so_far s q (operand_next shape.Operand o.so_far s q e)) [
         | inl t ↦ let g : ◌≡◌ {A = Answer} (with_name sc (record o { so_far = q }) None) (Err c) = sym (ap (with_name sc (record o { so_far = q })) t.0) ∙ k in absurd cc
         | inr (n, a, b, d, is) ↦
-            let f : after_noting (record o { so_far = q }) (noting sc (defines o.head (length o.done)) n) ≡ Err c = sym (ap (with_name sc (record o { so_far = q })) a) ∙ k in
-            let g : noting sc false n ≡ Err c = sym (ap (λ (x : Bool). noting sc x n) (instruction_is o.head (length o.done) i).2) ∙ name_fails (record o { so_far = q }) _ c f in
+            let f : after_noting (record o { so_far = q }) (noting sc (defines o.head (length o.arguments)) n) ≡ Err c = sym (ap (with_name sc (record o { so_far = q })) a) ∙ k in
+            let g : noting sc false n ≡ Err c = sym (ap (λ (x : Bool). noting sc x n) (instruction_is o.head (length o.arguments) i).2) ∙ name_fails (record o { so_far = q }) _ c f in
             let step : next_symbol shape.Operand o.so_far (symbol.Name n) ≡ ok q = sym (ap (next_symbol shape.Operand o.so_far) is) ∙ operand_next shape.Operand o.so_far s q e in
             ap (operand_at o.so_far) is ∙ (operand_name o.so_far n n q (no_absent o.so_far w.arg sp) step a ∙ noting_cause sc false n c g)
       ]
@@ -203,9 +203,9 @@ module _ (sc0 : ScopeView) (line : ℕ) (o : Open) (ss : List Terminal) (sc : Sc
       never : (n : ℕ) → nat_lt n 0 ≡ true → ⊥
       never n g = absurd (omega (arith, ltb-true n 0 g))
 
-  operand_refused : (s : Terminal) (c : SourceCause) → is_instruction o.head ≡ true → Fails sc o s c → in_argument o.head o.done w.behind (stars o.star ++ w.arg) s ≡ c
+  operand_refused : (s : Terminal) (c : SourceCause) → is_instruction o.head ≡ true → Fails sc o s c → in_argument o.head o.arguments w.behind (stars o.star ++ w.arg) s ≡ c
   operand_refused s c i f =
-      let t = operand_tail o.so_far o.star w.arg (spelled_as shape.Operand (instruction_is o.head (length o.done) i).0) w.solid in
+      let t = operand_tail o.so_far o.star w.arg (spelled_as shape.Operand (instruction_is o.head (length o.arguments) i).0) w.solid in
       rw i (operand_ends (stars o.star ++ w.arg) _ _ _ _ _ t s ∙ operand_fails s c i f)
 
   -- ---- a directive
@@ -218,16 +218,16 @@ module _ (sc0 : ScopeView) (line : ℕ) (o : Open) (ss : List Terminal) (sc : Sc
       by_star false e = e
 
   -- the cause where nothing of an argument has been read, and where something has
-  nothing_read : (s : Terminal) (d : SourceCause) → w.arg ≡ [] → value_first (takes_name (shape_at o.head (length o.done))) w.behind (defines o.head (length o.done)) s ≡ d → value_cause o.head o.done w.behind w.arg s ≡ d
-  nothing_read s d e h = ap (λ (x : List Terminal). value_cause o.head o.done w.behind x s) e ∙ (value_none o.head o.done w.behind s ∙ h)
+  nothing_read : (s : Terminal) (d : SourceCause) → w.arg ≡ [] → value_first (takes_name (shape_at o.head (length o.arguments))) w.behind (defines o.head (length o.arguments)) s ≡ d → value_cause o.head o.arguments w.behind w.arg s ≡ d
+  nothing_read s d e h = ap (λ (x : List Terminal). value_cause o.head o.arguments w.behind x s) e ∙ (value_none o.head o.arguments w.behind s ∙ h)
 
-  something_read : (sh : Shape) (s : Terminal) (d : SourceCause) → Spelled sh o.so_far w.arg → is_unbegun o.so_far ≡ false → value_at o.so_far s ≡ d → value_cause o.head o.done w.behind w.arg s ≡ d
-  something_read sh s d sp u h = value_ends o.head o.done w.behind w.arg _ _ _ _ _ (w.solid u) (spelled_tail sh o.so_far false w.arg (w.solid u) sp) s ∙ h
+  something_read : (sh : Shape) (s : Terminal) (d : SourceCause) → Spelled sh o.so_far w.arg → is_unbegun o.so_far ≡ false → value_at o.so_far s ≡ d → value_cause o.head o.arguments w.behind w.arg s ≡ d
+  something_read sh s d sp u h = value_ends o.head o.arguments w.behind w.arg _ _ _ _ _ (w.solid u) (spelled_tail sh o.so_far false w.arg (w.solid u) sp) s ∙ h
 
   -- nothing may stand there
-  unshaped : (s : Terminal) (c : SourceCause) → shape_at o.head (length o.done) ≡ None → ◌≡◌ {A = Answer} (Err (misplaced s)) (Err c) → value_cause o.head o.done w.behind w.arg s ≡ c
+  unshaped : (s : Terminal) (c : SourceCause) → shape_at o.head (length o.arguments) ≡ None → ◌≡◌ {A = Answer} (Err (misplaced s)) (Err c) → value_cause o.head o.arguments w.behind w.arg s ≡ c
   unshaped s c none h = elim w.spelled [
-    | inl (e, f) ↦ nothing_read s c f (sym (missing_is s (takes_name (shape_at o.head (length o.done))) w.behind (defines o.head (length o.done)) (ap takes_name none)) ∙ same_fault _ c h)
+    | inl (e, f) ↦ nothing_read s c f (sym (missing_is s (takes_name (shape_at o.head (length o.arguments))) w.behind (defines o.head (length o.arguments)) (ap takes_name none)) ∙ same_fault _ c h)
     | inr (sh, may, sp) ↦ let g : ◌≡◌ {A = Option Shape} None (Some sh) = sym none ∙ may in absurd cc
   ]
 
@@ -238,50 +238,50 @@ module _ (sc0 : ScopeView) (line : ℕ) (o : Open) (ss : List Terminal) (sc : Sc
       fault = rw (i, u) refl
 
   -- it doesn't go on with the argument
-  value_step : (sh : Shape) (s : Terminal) (d c : SourceCause) → is_instruction o.head ≡ false → shape_at o.head (length o.done) ≡ Some sh → (is_cut s ≡ true → is_finished o.so_far ≡ false) → operand_step sh o.so_far s ≡ Err d
-      → ◌≡◌ {A = Answer} (Err (cause_in o.head (is_unbegun o.so_far) (misplaced s) d)) (Err c) → (t : Bool) → is_unbegun o.so_far ≡ t → value_cause o.head o.done w.behind w.arg s ≡ c
+  value_step : (sh : Shape) (s : Terminal) (d c : SourceCause) → is_instruction o.head ≡ false → shape_at o.head (length o.arguments) ≡ Some sh → (is_cut s ≡ true → is_finished o.so_far ≡ false) → operand_step sh o.so_far s ≡ Err d
+      → ◌≡◌ {A = Answer} (Err (cause_in o.head (is_unbegun o.so_far) (misplaced s) d)) (Err c) → (t : Bool) → is_unbegun o.so_far ≡ t → value_cause o.head o.arguments w.behind w.arg s ≡ c
   value_step sh s d c i may cut e h true u =
-      let first : value_first (takes_names sh) w.behind (defines o.head (length o.done)) s ≡ c = sym (unbegun_err sh o.so_far w.behind (defines o.head (length o.done)) s d u e) ∙ directive_cause true s d c i u h in
-      nothing_read s c (unbegun_nil sh o.so_far w.arg (spelled_as sh may) u) (ap (λ (x : Option Shape). value_first (takes_name x) w.behind (defines o.head (length o.done)) s) may ∙ first)
+      let first : value_first (takes_names sh) w.behind (defines o.head (length o.arguments)) s ≡ c = sym (unbegun_err sh o.so_far w.behind (defines o.head (length o.arguments)) s d u e) ∙ directive_cause true s d c i u h in
+      nothing_read s c (unbegun_nil sh o.so_far w.arg (spelled_as sh may) u) (ap (λ (x : Option Shape). value_first (takes_name x) w.behind (defines o.head (length o.arguments)) s) may ∙ first)
   value_step sh s d c i may cut e h false u =
-      something_read sh s c (spelled_as sh may) u (sym (value_err sh o.so_far w.arg s (misplaced s) d (no_operand o.head (length o.done) sh i may) u (spelled_as sh may) cut e) ∙ directive_cause false s d c i u h)
+      something_read sh s c (spelled_as sh may) u (sym (value_err sh o.so_far w.arg s (misplaced s) d (no_operand o.head (length o.arguments) sh i may) u (spelled_as sh may) cut e) ∙ directive_cause false s d c i u h)
 
   -- it may not say this name
-  value_said : (sh : Shape) (s : Terminal) (q : Partial) (c : SourceCause) → is_instruction o.head ≡ false → shape_at o.head (length o.done) ≡ Some sh → next_symbol sh o.so_far s ≡ ok q → with_name sc (record o { so_far = q }) (name_in q) ≡ Err c
-      → (t : Bool) → is_unbegun o.so_far ≡ t → value_cause o.head o.done w.behind w.arg s ≡ c
+  value_said : (sh : Shape) (s : Terminal) (q : Partial) (c : SourceCause) → is_instruction o.head ≡ false → shape_at o.head (length o.arguments) ≡ Some sh → next_symbol sh o.so_far s ≡ ok q → with_name sc (record o { so_far = q }) (name_in q) ≡ Err c
+      → (t : Bool) → is_unbegun o.so_far ≡ t → value_cause o.head o.arguments w.behind w.arg s ≡ c
   value_said sh s q c i may e k t u = elim (name_step sh o.so_far s q e) [
     | inl x ↦ let g : ◌≡◌ {A = Answer} (with_name sc (record o { so_far = q }) None) (Err c) = sym (ap (with_name sc (record o { so_far = q })) x.0) ∙ k in absurd cc
     | inr (n, a, b, d, is) ↦
-        let f : noting sc (defines o.head (length o.done)) n ≡ Err c = name_fails (record o { so_far = q }) _ c (sym (ap (with_name sc (record o { so_far = q })) a) ∙ k) in
+        let f : noting sc (defines o.head (length o.arguments)) n ≡ Err c = name_fails (record o { so_far = q }) _ c (sym (ap (with_name sc (record o { so_far = q })) a) ∙ k) in
         let step : next_symbol sh o.so_far (symbol.Name n) ≡ ok q = sym (ap (next_symbol sh o.so_far) is) ∙ e in
-        let same : w.behind ≡ sc = sees_same w.behind sc (defines o.head (length o.done)) (named_in o.so_far) d w.sees in
-        by_begun n a step is (ap (λ (x : ScopeView). name_cause x (defines o.head (length o.done)) n) same ∙ noting_cause sc (defines o.head (length o.done)) n c f) t u
+        let same : w.behind ≡ sc = sees_same w.behind sc (defines o.head (length o.arguments)) (named_in o.so_far) d w.sees in
+        by_begun n a step is (ap (λ (x : ScopeView). name_cause x (defines o.head (length o.arguments)) n) same ∙ noting_cause sc (defines o.head (length o.arguments)) n c f) t u
   ]
     where
-      by_begun : (n : List ℕ) → name_in q ≡ Some n → next_symbol sh o.so_far (symbol.Name n) ≡ ok q → s ≡ symbol.Name n → name_cause w.behind (defines o.head (length o.done)) n ≡ c → (t : Bool) → is_unbegun o.so_far ≡ t
-          → value_cause o.head o.done w.behind w.arg s ≡ c
+      by_begun : (n : List ℕ) → name_in q ≡ Some n → next_symbol sh o.so_far (symbol.Name n) ≡ ok q → s ≡ symbol.Name n → name_cause w.behind (defines o.head (length o.arguments)) n ≡ c → (t : Bool) → is_unbegun o.so_far ≡ t
+          → value_cause o.head o.arguments w.behind w.arg s ≡ c
       by_begun n a step is cause true u =
           let takes = name_taken sh o.so_far n q u step in
-          let first : value_first (takes_name (shape_at o.head (length o.done))) w.behind (defines o.head (length o.done)) (symbol.Name n) ≡ name_cause w.behind (defines o.head (length o.done)) n = rw (may, takes) refl in
-          nothing_read s c (unbegun_nil sh o.so_far w.arg (spelled_as sh may) u) (ap (value_first (takes_name (shape_at o.head (length o.done))) w.behind (defines o.head (length o.done))) is ∙ (first ∙ cause))
-      by_begun n a step is cause false u = absurd (value_name sh o.so_far n n n q w.arg (no_operand o.head (length o.done) sh i may) u (spelled_as sh may) step a)
+          let first : value_first (takes_name (shape_at o.head (length o.arguments))) w.behind (defines o.head (length o.arguments)) (symbol.Name n) ≡ name_cause w.behind (defines o.head (length o.arguments)) n = rw (may, takes) refl in
+          nothing_read s c (unbegun_nil sh o.so_far w.arg (spelled_as sh may) u) (ap (value_first (takes_name (shape_at o.head (length o.arguments))) w.behind (defines o.head (length o.arguments))) is ∙ (first ∙ cause))
+      by_begun n a step is cause false u = absurd (value_name sh o.so_far n n n q w.arg (no_operand o.head (length o.arguments) sh i may) u (spelled_as sh may) step a)
 
-  value_within : (s : Terminal) (c : SourceCause) → is_instruction o.head ≡ false → (is_cut s ≡ true → is_finished o.so_far ≡ false) → (r : Option Shape) → shape_at o.head (length o.done) ≡ r → at_shape sc o s r ≡ Err c → value_cause o.head o.done w.behind w.arg s ≡ c
+  value_within : (s : Terminal) (c : SourceCause) → is_instruction o.head ≡ false → (is_cut s ≡ true → is_finished o.so_far ≡ false) → (r : Option Shape) → shape_at o.head (length o.arguments) ≡ r → at_shape sc o s r ≡ Err c → value_cause o.head o.arguments w.behind w.arg s ≡ c
   value_within s c i cut None may h = unshaped s c may h
   value_within s c i cut (Some sh) may h = by_step (operand_step sh o.so_far s) refl h
     where
-      by_step : (r : Result Partial SourceCause) → operand_step sh o.so_far s ≡ r → after_step sc o s r ≡ Err c → value_cause o.head o.done w.behind w.arg s ≡ c
+      by_step : (r : Result Partial SourceCause) → operand_step sh o.so_far s ≡ r → after_step sc o s r ≡ Err c → value_cause o.head o.arguments w.behind w.arg s ≡ c
       by_step (Err d) e k = value_step sh s d c i may cut e k (is_unbegun o.so_far) refl
       by_step (Ok q) e k = value_said sh s q c i may (operand_next sh o.so_far s q e) k (is_unbegun o.so_far) refl
 
   -- a comma or an end behind a whole argument, or where none has been read
-  whole_read : (s : Terminal) → is_cut s ≡ true → is_finished o.so_far ≡ true → value_cause o.head o.done w.behind w.arg s ≡ cause.BadArgument
+  whole_read : (s : Terminal) → is_cut s ≡ true → is_finished o.so_far ≡ true → value_cause o.head o.arguments w.behind w.arg s ≡ cause.BadArgument
   whole_read s cut fin = elim w.spelled [
     | inl (e, f) ↦ let g : is_finished partial.Nothing ≡ true = sym (ap is_finished e) ∙ fin in absurd cc
     | inr (sh, may, sp) ↦ by_begun sh sp (is_unbegun o.so_far) refl
   ]
     where
-      first_cut : (s : Terminal) (t : Bool) → is_cut s ≡ true → value_first t w.behind (defines o.head (length o.done)) s ≡ cause.BadArgument
+      first_cut : (s : Terminal) (t : Bool) → is_cut s ≡ true → value_first t w.behind (defines o.head (length o.arguments)) s ≡ cause.BadArgument
       first_cut symbol.Comma t e = refl
       first_cut symbol.End t e = refl
       first_cut _ t e = absurd cc
@@ -291,11 +291,11 @@ module _ (sc0 : ScopeView) (line : ℕ) (o : Open) (ss : List Terminal) (sc : Sc
       cut_unsigned symbol.End t e = refl
       cut_unsigned _ t e = absurd cc
 
-      by_begun : (sh : Shape) → Spelled sh o.so_far w.arg → (t : Bool) → is_unbegun o.so_far ≡ t → value_cause o.head o.done w.behind w.arg s ≡ cause.BadArgument
+      by_begun : (sh : Shape) → Spelled sh o.so_far w.arg → (t : Bool) → is_unbegun o.so_far ≡ t → value_cause o.head o.arguments w.behind w.arg s ≡ cause.BadArgument
       by_begun sh sp true u = nothing_read s cause.BadArgument (unbegun_nil sh o.so_far w.arg sp u) (first_cut s _ cut)
       by_begun sh sp false u = something_read sh s cause.BadArgument sp u (ap (λ (x : Bool). value_by (minuses o.so_far) x s) (finished_unsigned o.so_far fin) ∙ cut_unsigned s (minuses o.so_far) cut)
 
-  nothing_ends : is_nothing o.so_far ≡ true → value_cause o.head o.done w.behind w.arg symbol.End ≡ cause.BadArgument
+  nothing_ends : is_nothing o.so_far ≡ true → value_cause o.head o.arguments w.behind w.arg symbol.End ≡ cause.BadArgument
   nothing_ends h = nothing_read symbol.End cause.BadArgument nil refl
     where
       is_the_nothing : (p : Partial) → is_nothing p ≡ true → p ≡ partial.Nothing
@@ -308,19 +308,19 @@ module _ (sc0 : ScopeView) (line : ℕ) (o : Open) (ss : List Terminal) (sc : Sc
         | inr (sh, may, sp) ↦ subst (λ (x : Partial). Spelled sh x w.arg) (is_the_nothing o.so_far h) sp
       ]
 
-  value_fails : (s : Terminal) (c : SourceCause) → is_instruction o.head ≡ false → Fails sc o s c → value_cause o.head o.done w.behind w.arg s ≡ c
-  value_fails s c i (Fails.inside h cut) = value_within s c i cut (shape_at o.head (length o.done)) refl h
+  value_fails : (s : Terminal) (c : SourceCause) → is_instruction o.head ≡ false → Fails sc o s c → value_cause o.head o.arguments w.behind w.arg s ≡ c
+  value_fails s c i (Fails.inside h cut) = value_within s c i cut (shape_at o.head (length o.arguments)) refl h
   value_fails s c i (Fails.many n is fin none e) = rw is (whole_read symbol.Comma refl fin ∙ e)
   value_fails s c i (Fails.few n is (inl f) count e) = rw is (nothing_ends f ∙ e)
   value_fails s c i (Fails.few n is (inr fin) count e) = rw is (whole_read symbol.End refl fin ∙ e)
 
-  value_refused : (s : Terminal) (c : SourceCause) → is_instruction o.head ≡ false → Fails sc o s c → in_argument o.head o.done w.behind (stars o.star ++ w.arg) s ≡ c
+  value_refused : (s : Terminal) (c : SourceCause) → is_instruction o.head ≡ false → Fails sc o s c → in_argument o.head o.arguments w.behind (stars o.star ++ w.arg) s ≡ c
   value_refused s c i f = rw (i, unstarred i) (value_fails s c i f)
 
   -- The cause is that of the place.
-  pub argument_refused : (s : Terminal) (c : SourceCause) → argument_step sc o s ≡ Err c → in_argument o.head o.done w.behind (stars o.star ++ w.arg) s ≡ c
+  pub argument_refused : (s : Terminal) (c : SourceCause) → argument_step sc o s ≡ Err c → in_argument o.head o.arguments w.behind (stars o.star ++ w.arg) s ≡ c
   argument_refused s c h = by_head (is_instruction o.head) refl
     where
-      by_head : (t : Bool) → is_instruction o.head ≡ t → in_argument o.head o.done w.behind (stars o.star ++ w.arg) s ≡ c
+      by_head : (t : Bool) → is_instruction o.head ≡ t → in_argument o.head o.arguments w.behind (stars o.star ++ w.arg) s ≡ c
       by_head true i = operand_refused s c i (fails sc o s c h)
       by_head false i = value_refused s c i (fails sc o s c h)

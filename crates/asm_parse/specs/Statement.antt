@@ -77,7 +77,7 @@ after_noting o (Err c) = Err c
 
 abbrev pub with_name : ScopeView → Open → Option (List ℕ) → Result (ScopeView × StatementState) SourceCause
 with_name sc o None = Ok (arguments_of sc o)
-with_name sc o (Some n) = after_noting o (noting sc (defines o.head (length o.done)) n)
+with_name sc o (Some n) = after_noting o (noting sc (defines o.head (length o.arguments)) n)
 
 abbrev pub after_step : ScopeView → Open → Terminal → Result Partial SourceCause → Result (ScopeView × StatementState) SourceCause
 after_step sc o s (Err c) = Err (cause_in o.head (is_unbegun o.so_far) (misplaced s) c)
@@ -89,12 +89,12 @@ at_shape sc o s (Some sh) = after_step sc o s (operand_step sh o.so_far s)
 
 -- the next symbol of an argument
 abbrev pub within : ScopeView → Open → Terminal → Result (ScopeView × StatementState) SourceCause
-within sc o s = at_shape sc o s (shape_at o.head (length o.done))
+within sc o s = at_shape sc o s (shape_at o.head (length o.arguments))
 
 -- the argument that has been read, where it may end here
 abbrev pub ended_as : Open → Option Form → Option (ℕ × Head × List Argument × Argument)
 ended_as o None = None
-ended_as o (Some f) = Some (o.line, o.head, o.done, record { star = o.star; form = f })
+ended_as o (Some f) = Some (o.line, o.head, o.arguments, record { star = o.star; form = f })
 
 abbrev pub ended : Open → Option (ℕ × Head × List Argument × Argument)
 ended o = ended_as o (finished o.so_far)
@@ -105,12 +105,12 @@ Makes (Err (stop.Cause c)) r = r ≡ Err c
 Makes (Err stop.Memory) r = Unit {0}
 
 abbrev pub nothing_yet : ℕ → Head → Open
-nothing_yet line h = record { line = line; head = h; done = []; star = false; so_far = partial.Nothing }
+nothing_yet line h = record { line = line; head = h; arguments = []; star = false; so_far = partial.Nothing }
 
 -- an argument of this shape behind these
 abbrev pub argument_of : ℕ → Head → List Argument → Option Shape → Result StatementState SourceCause
 argument_of line h done None = Err cause.BadArgument
-argument_of line h done (Some sh) = Ok (state.Arguments (record { line = line; head = h; done = done; star = false; so_far = begun sh }))
+argument_of line h done (Some sh) = Ok (state.Arguments (record { line = line; head = h; arguments = done; star = false; so_far = begun sh }))
 
 -- a comma behind a whole argument
 abbrev pub next_argument : ℕ → Head → List Argument → Argument → Result StatementState SourceCause
@@ -132,7 +132,7 @@ abbrev pub complete_with : ScopeView → ℕ → Head → List Argument → Argu
 complete_with sc line h done last = complete sc line h (done ++ last ∷ [])
 
 abbrev pub is_bare : Open → Bool
-is_bare o = is_nothing o.so_far && not o.star && (length o.done == 0)
+is_bare o = is_nothing o.so_far && not o.star && (length o.arguments == 0)
 
 abbrev pub takes_star : Open → Bool
 takes_star o = is_nothing o.so_far && not o.star && is_instruction o.head
@@ -153,7 +153,7 @@ end_behind sc (Some e) = complete_with sc e.0 e.1 e.2 e.3
 abbrev pub argument_step : ScopeView → Open → Terminal → Result (ScopeView × StatementState) SourceCause
 argument_step sc o symbol.Comma = if is_finished o.so_far then comma_behind sc (ended o) else within sc o symbol.Comma
 argument_step sc o symbol.End =
-    if is_bare o then complete sc o.line o.head o.done
+    if is_bare o then complete sc o.line o.head o.arguments
     else if is_finished o.so_far then end_behind sc (ended o)
     else within sc o symbol.End
 argument_step sc o symbol.Star = if takes_star o then Ok (sc, state.Arguments (record o { star = true })) else within sc o symbol.Star

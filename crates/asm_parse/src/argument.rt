@@ -94,11 +94,11 @@ fn within(
     let Open {
         line,
         head,
-        done,
+        arguments,
         star,
         so_far,
     } = begun;
-    let index = done.list.len();
+    let index = arguments.list.len();
     let nothing = is_unbegun(&so_far);
     let other = misplaced(&symbol);
     let Some(shape) = shape_at(&head, index) else {
@@ -113,7 +113,7 @@ fn within(
             Ok(StatementState::Arguments(Open {
                 line,
                 head,
-                done,
+                arguments,
                 star,
                 so_far,
             }))
@@ -128,12 +128,12 @@ fn ended(begun: Open) -> Option<(u32, Head, Arguments, Argument)>
     let Open {
         line,
         head,
-        done,
+        arguments,
         star,
         so_far,
     } = begun;
     match finished(so_far) {
-        Some(form) => Some((line, head, done, Argument { star, form })),
+        Some(form) => Some((line, head, arguments, Argument { star, form })),
         None => None,
     }
 }
@@ -142,12 +142,12 @@ fn ended(begun: Open) -> Option<(u32, Head, Arguments, Argument)>
 fn next_argument(
     line: u32,
     head: Head,
-    done: Arguments,
+    arguments: Arguments,
     last: Argument,
 ) -> Result<StatementState, StepFault>
-    ensures { spec.Makes result (spec.next_argument line head done last) }
+    ensures { spec.Makes result (spec.next_argument line head arguments last) }
 {
-    let Arguments { list } = done;
+    let Arguments { list } = arguments;
     let mut list = list;
     list.push(last)?;
     let Some(shape) = shape_at(&head, list.len()) else {
@@ -156,7 +156,7 @@ fn next_argument(
     Ok(StatementState::Arguments(Open {
         line,
         head,
-        done: Arguments { list },
+        arguments: Arguments { list },
         star: false,
         so_far: begun(shape),
     }))
@@ -167,11 +167,11 @@ fn complete(
     scope: &mut Scope,
     line: u32,
     head: Head,
-    done: Arguments,
+    arguments: Arguments,
 ) -> Result<StatementState, StepFault>
-    ensures { spec.Does scope.new result (spec.complete scope.old line head done) }
+    ensures { spec.Does scope.new result (spec.complete scope.old line head arguments) }
 {
-    if done.list.len() < least(&head) {
+    if arguments.list.len() < least(&head) {
         return Err(StepFault::Cause(SourceCause::BadArgument));
     }
     match head {
@@ -179,7 +179,7 @@ fn complete(
             let body = Body::Instruction {
                 rep,
                 name,
-                arguments: done,
+                arguments,
             };
             scope.push(SourceItem { line, body })?;
             Ok(StatementState::Start)
@@ -187,7 +187,7 @@ fn complete(
         Head::Directive { kind, name } => {
             let body = Body::Directive {
                 name,
-                arguments: done,
+                arguments,
             };
             scope.push(SourceItem { line, body })?;
             if let Directive::Plain = kind {
@@ -203,12 +203,12 @@ fn complete_with(
     scope: &mut Scope,
     line: u32,
     head: Head,
-    done: Arguments,
+    arguments: Arguments,
     last: Argument,
 ) -> Result<StatementState, StepFault>
-    ensures { spec.Does scope.new result (spec.complete_with scope.old line head done last) }
+    ensures { spec.Does scope.new result (spec.complete_with scope.old line head arguments last) }
 {
-    let Arguments { list } = done;
+    let Arguments { list } = arguments;
     let mut list = list;
     list.push(last)?;
     complete(scope, line, head, Arguments { list })
@@ -218,7 +218,7 @@ fn complete_with(
 fn is_bare(begun: &Open) -> bool
     ensures { result ≡ spec.is_bare begun.now }
 {
-    is_nothing(&begun.so_far) && !begun.star && begun.done.list.len() == 0
+    is_nothing(&begun.so_far) && !begun.star && begun.arguments.list.len() == 0
 }
 
 fn takes_star(begun: &Open) -> bool
@@ -242,7 +242,7 @@ pub fn argument_step(
                 return within(alloc, scope, begun, Terminal::Comma);
             }
             match ended(begun) {
-                Some((line, head, done, last)) => next_argument(line, head, done, last),
+                Some((line, head, arguments, last)) => next_argument(line, head, arguments, last),
                 None => Err(StepFault::Cause(SourceCause::BadOperand)),
             }
         }
@@ -251,17 +251,17 @@ pub fn argument_step(
                 let Open {
                     line,
                     head,
-                    done,
+                    arguments,
                     star: _,
                     so_far: _,
                 } = begun;
-                return complete(scope, line, head, done);
+                return complete(scope, line, head, arguments);
             }
             if !is_finished(&begun.so_far) {
                 return within(alloc, scope, begun, Terminal::End);
             }
             match ended(begun) {
-                Some((line, head, done, last)) => complete_with(scope, line, head, done, last),
+                Some((line, head, arguments, last)) => complete_with(scope, line, head, arguments, last),
                 None => Err(StepFault::Cause(SourceCause::BadOperand)),
             }
         }
@@ -270,14 +270,14 @@ pub fn argument_step(
                 let Open {
                     line,
                     head,
-                    done,
+                    arguments,
                     star: _,
                     so_far,
                 } = begun;
                 return Ok(StatementState::Arguments(Open {
                     line,
                     head,
-                    done,
+                    arguments,
                     star: true,
                     so_far,
                 }));
@@ -294,7 +294,7 @@ pub fn nothing_yet(alloc: Global, line: u32, head: Head) -> Open
     Open {
         line,
         head,
-        done: Arguments {
+        arguments: Arguments {
             list: Vec::new(alloc),
         },
         star: false,

@@ -10,7 +10,7 @@ use asm_source::{Arguments, Name};
 pub struct Open {
     pub line: u32,
     pub head: Head,
-    pub done: Arguments,
+    pub arguments: Arguments,
     pub star: bool,
     pub so_far: Partial,
 }

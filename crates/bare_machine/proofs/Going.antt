@@ -9,7 +9,7 @@ use Rattle.bare_mem.specs.Part.{IsPartOf}
 use Rattle.machine_model.specs.State.{Setting, State}
 use Rattle.machine_model.specs.Step.{Report, Went, step_of, items_at}
 use Rattle.machine_model.specs.Run.{Set, Steps, trace_of, with_set}
-use Rattle.bare_machine.specs.Machine.{left, Goes, Rests, Passes, StepsBy, FirstIs}
+use Rattle.bare_machine.specs.Machine.{translations_of, Goes, Rests, Passes, StepsBy, FirstIs}
 use Rattle.bare_machine.proofs.Runs.{part_allowed, part_same, same_step, no_steps, steps_on, steps_join, by_none, by_on, by_join, trace_on, trace_join}
 use Rattle.bare_machine.proofs.Texts.{appends_both, front_of, appends_none}
 
@@ -21,7 +21,7 @@ pub record Going (s : Setting) (exact : Bool) (old now : State) (told tells : Op
   pub steps : Steps s old sets reports (with_set now whole)
   pub part : IsPartOf now.set whole
   pub first : FirstIs old.set (sets ++ now.set ∷ [])
-  pub exactly : exact ≡ true → StepsBy s left old reports now
+  pub exactly : exact ≡ true → StepsBy s translations_of old reports now
   pub text : Appends told tells (lines_of (trace_of reports))
 
 pub going_none : (s : Setting) (exact : Bool) (b : State) (told : Option (List ℕ)) → Going s exact b b told told
@@ -32,7 +32,7 @@ going_none s exact b told = record {
   steps = no_steps s b;
   part = part_same b.set;
   first = refl;
-  exactly = λ _. by_none s left b;
+  exactly = λ _. by_none s translations_of b;
   text = appends_none told;
 }
 
@@ -55,7 +55,7 @@ passes_here s exact old now told tells g = record {
   exactly = g.exactly;
 }
 
-kept_all : (s : Setting) (exact : Bool) (m mid : State) (whats : List What) → (r : Goes (step_of s m m.set) m.step whats exact mid) → exact ≡ true → step_of s m (left m) ≡ Went r.report mid
+kept_all : (s : Setting) (exact : Bool) (m mid : State) (whats : List What) → (r : Goes (step_of s m m.set) m.step whats exact mid) → exact ≡ true → step_of s m (translations_of m) ≡ Went r.report mid
 kept_all s exact m mid whats r e = r.went ∙ ap (λ (set : Set). Went r.report (with_set mid set)) (sym (r.all e))
 
 -- one step more
@@ -67,7 +67,7 @@ passes_on s exact old m mid whats told tells g r = record {
   steps = steps_on s old (with_set m g.whole) (with_set mid r.whole) g.sets m.set g.reports r.report g.steps (part_allowed s m g.whole m.set g.part) (same_step s m g.whole m.set ∙ r.went);
   part = r.part;
   first = first_on old.set g.sets m.set (mid.set ∷ []) g.first;
-  exactly = λ e. by_on s left old m mid g.reports r.report (g.exactly e) (kept_all s exact m mid whats r e);
+  exactly = λ e. by_on s translations_of old m mid g.reports r.report (g.exactly e) (kept_all s exact m mid whats r e);
 }
 
 pub lines_join : (xs ys : List Item) → lines_of (xs ++ ys) ≡ lines_of xs ++ lines_of ys
@@ -104,6 +104,6 @@ going_on s exact old m mid new whats told tells last g r put rest =
       steps = steps_join s old (with_set mid r.whole) (with_set new rest.left_then) p.sets rest.sets (g.reports ++ r.report ∷ []) rest.reports p.steps rest.steps;
       part = rest.part;
       first = first_more old.set g.sets m.set rest.sets (new.set ∷ []) g.first;
-      exactly = λ e. by_join s left old mid new (g.reports ++ r.report ∷ []) rest.reports (p.exactly e) rest.exactly;
+      exactly = λ e. by_join s translations_of old mid new (g.reports ++ r.report ∷ []) rest.reports (p.exactly e) rest.exactly;
       text = subst (λ (l : List ℕ). Appends told last l) (sym is) (appends_both told tells last _ _ g.text put);
     }

@@ -9,7 +9,7 @@ use Rattle.machine_model.specs.Step.{Report, Went, Halts, step_of}
 use Rattle.machine_model.specs.Run.{Set, Steps, with_set}
 use Rattle.machine_model.specs.Ends.{StepsTo}
 use Rattle.machine_model.proofs.Counting.{each_counts}
-use Rattle.bare_machine.specs.Machine.{left, StepsBy, FirstIs}
+use Rattle.bare_machine.specs.Machine.{translations_of, StepsBy, FirstIs}
 use Rattle.bare_machine.specs.Slices.{SliceAs, OneStepAs}
 use Rattle.bare_machine.proofs.Runs.{same_step}
 
@@ -27,18 +27,18 @@ steps_counted s old (set ∷ sets) reports last h =
     let more = steps_counted s h.0 sets h.2 last h.5 in
     omega (arith, one, more)
 
-by_one_counted : (s : Setting) (old : State) (reports : List Report) (last : State) → StepsBy s left old reports last → last.step ≡ old.step + length reports
+by_one_counted : (s : Setting) (old : State) (reports : List Report) (last : State) → StepsBy s translations_of old reports last → last.step ≡ old.step + length reports
 unfolding StepsBy
 by_one_counted s old [] last h =
     let is = ap (λ (b : State). b.step) h in
     omega (arith, is)
 by_one_counted s old (now ∷ later) last h =
-    let one = counted_by s old h.0 (left old) now h.1 in
+    let one = counted_by s old h.0 (translations_of old) now h.1 in
     let more = by_one_counted s h.0 later last h.2 in
     omega (arith, one, more)
 
 -- one step by an exact cache
-by_one : (s : Setting) (old : State) (reports : List Report) (last : State) → StepsBy s left old reports last → last.step ≡ old.step + 1 → (now : Report) × (step_of s old old.set ≡ Went now last)
+by_one : (s : Setting) (old : State) (reports : List Report) (last : State) → StepsBy s translations_of old reports last → last.step ≡ old.step + 1 → (now : Report) × (step_of s old old.set ≡ Went now last)
 unfolding StepsBy
 by_one s old [] last h n =
     let is = ap (λ (b : State). b.step) h in

@@ -8,7 +8,7 @@ use Rattle.machine_model.specs.Step.{interrupt_of}
 use Rattle.machine_model.specs.Run.{Set, with_set}
 use Rattle.machine_model.specs.Resting.{IsResting, resting, nothing, HaltedSteps}
 use Rattle.bare_mem.specs.Part.{IsPartOf}
-use Rattle.bare_machine.specs.Machine.{Rests, StepsBy, left}
+use Rattle.bare_machine.specs.Machine.{Rests, StepsBy, translations_of}
 use Rattle.bare_machine.proofs.Runs.{part_same, no_steps, by_none}
 
 no_step : (board : Board) → board_steps 0 board ≡ board
@@ -17,12 +17,12 @@ no_step board = refl
 
 -- no step passes
 pub rests_none : (s : Setting) (b : State) (whole : Set) → IsPartOf b.set whole → Rests s b whole b
-rests_none s b whole h = record { sets = []; reports = []; left_then = whole; steps = no_steps s (with_set b whole); part = h; exactly = by_none s left b; silent = refl }
+rests_none s b whole h = record { sets = []; reports = []; left_then = whole; steps = no_steps s (with_set b whole); part = h; exactly = by_none s translations_of b; silent = refl }
 
 module _ (halted : HaltedSteps) where
   -- some steps, each by the translations that are left
   idle_by : (k : ℕ) (s : Setting) (cpu : Cpu) (ram : List ℕ) (set : Set) (board : Board) (t : ℕ) → IsResting cpu board → comes_within board s.script t (suc k) ≡ false
-      → StepsBy s left (resting cpu ram set board (t + 1)) (nothing ∷ replicate k nothing) (resting cpu ram set (board_steps (suc k) board) (t + 1 + suc k))
+      → StepsBy s translations_of (resting cpu ram set board (t + 1)) (nothing ∷ replicate k nothing) (resting cpu ram set (board_steps (suc k) board) (t + 1 + suc k))
   unfolding StepsBy board_steps
   idle_by zero s cpu ram set board t h quiet = (resting cpu ram set (board_step board) (t + 1 + 1), (halted.each s cpu ram board t 0 h quiet).goes set set, refl)
   idle_by (suc k) s cpu ram set board t h quiet =
@@ -30,7 +30,7 @@ module _ (halted : HaltedSteps) where
       let rest = idle_by k s cpu ram set (board_step board) (t + 1) now.rests now.later in (
         resting cpu ram set (board_step board) (t + 1 + 1),
         now.goes set set,
-        subst (λ (n : ℕ). StepsBy s left (resting cpu ram set (board_step board) (t + 1 + 1)) (nothing ∷ replicate k nothing) (resting cpu ram set (board_steps (suc k) (board_step board)) n)) (omega arith) rest,
+        subst (λ (n : ℕ). StepsBy s translations_of (resting cpu ram set (board_step board) (t + 1 + 1)) (nothing ∷ replicate k nothing) (resting cpu ram set (board_steps (suc k) (board_step board)) n)) (omega arith) rest,
       )
 
   rests_at : (j : ℕ) (s : Setting) (cpu : Cpu) (ram : List ℕ) (whole set : Set) (board : Board) (t : ℕ) → IsResting cpu board → comes_within board s.script t (suc j) ≡ false → IsPartOf set whole

@@ -49,8 +49,8 @@ StepsBy s choose old [] new = new ≡ old
 StepsBy s choose old (now ∷ later) new = (mid : State) × (step_of s old (choose old) ≡ Went now mid) × StepsBy s choose mid later new
 
 -- the translations that the step before has left
-abbrev pub left : State → Set
-left b = b.set
+abbrev pub translations_of : State → Set
+translations_of b = b.set
 
 -- the first step goes by this set
 abbrev pub FirstIs : Set → List Set → Type 0
@@ -66,7 +66,7 @@ pub record Passes (s : Setting) (exact : Bool) (old : State) (reports : List Rep
   pub steps : Steps s old sets reports (with_set new whole)
   pub part : IsPartOf new.set whole
   pub first : FirstIs old.set (sets ++ new.set ∷ [])
-  pub exactly : exact ≡ true → StepsBy s left old reports new
+  pub exactly : exact ≡ true → StepsBy s translations_of old reports new
 
 -- Some steps in which nothing is seen and no translation changes lead from one state to another. Before the first some
 -- translations may have been lost.
@@ -76,5 +76,5 @@ pub record Rests (s : Setting) (old : State) (whole : Set) (new : State) : Type 
   pub left_then : Set
   pub steps : Steps s (with_set old whole) sets reports (with_set new left_then)
   pub part : IsPartOf new.set left_then
-  pub exactly : StepsBy s left old reports new
+  pub exactly : StepsBy s translations_of old reports new
   pub silent : trace_of reports ≡ []

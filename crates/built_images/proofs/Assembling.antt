@@ -32,7 +32,7 @@ use Rattle.asm_instruction.specs.declared.assembled.Named.{Named}
 use Rattle.asm_instruction.specs.declared.assembled.Refusal.{Refusal}
 use Rattle.asm_instruction.specs.declared.assembled.Refusal.TheVariants as refusal
 use Rattle.asm_instruction.specs.Names.{found, or_else, ◌>>=◌}
-use Rattle.asm_instruction.specs.Argument.{general_register, special_register, register, displacement, address_register, is_dx, address, memory_operand, given_by, starred, single, unstarred, operands_of, argument_named, names_symbol}
+use Rattle.asm_instruction.specs.Argument.{general_register, special_register, named_register, displacement, address_register, is_dx, address, memory_operand, given_by, starred, single, unstarred, operands_of, argument_named, names_symbol}
 use Rattle.ia32_types.specs.declared.register.Reg.{Reg}
 use Rattle.ia32_types.specs.Register.{number_of}
 use Rattle.ia32_types.specs.declared.size.Size.TheVariants as size
@@ -154,8 +154,8 @@ by_segment name = found segment_registers name >>= λ s. Some (given.Segment s)
 abbrev by_control : List ℕ → Option Given
 by_control name = found control_registers name >>= λ n. Some (given.Control n)
 
-register_not : (name : List ℕ) → NotMemory (register name)
-unfolding register
+register_not : (name : List ℕ) → NotMemory (named_register name)
+unfolding named_register
 register_not name =
     not_or (general_register name) (special_register name)
     (not_or (by_long name) (or_else (by_word name) (by_byte name)) (not_bound (found long_registers name) (λ r. given.Register size.Long (number_of r)) (λ r. tt))
@@ -184,7 +184,7 @@ named_value None b i scale m e d = record { argument = sym (ap (λ (n : Number).
 
 given_named : (f : ArgumentForm) (m : Memory) → given_by f 0 ≡ Some (given.Memory m) → IsNamed f m
 unfolding given_by memory_operand
-given_named (form.Register name) m e = absurd (not_memory (register name) m e (register_not name))
+given_named (form.Register name) m e = absurd (not_memory (named_register name) m e (register_not name))
 given_named (form.Immediate v) m e = absurd cc
 given_named (form.Memory v base index scale) m e = by_port (is_none v && is_dx base && is_none index) e where
   by_port : (b : Bool) → cond b (some_given given.Port) (address_register base >>= λ x. address_register index >>= λ y. Some (address x y scale (displacement v 0))) ≡ Some (given.Memory m) → IsNamed (form.Memory v base index scale) m

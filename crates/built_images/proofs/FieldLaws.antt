@@ -13,7 +13,7 @@ use Rattle.ia32_rows.specs.declared.row.Plus.{Plus}
 use Rattle.ia32_rows.specs.declared.row.Plus.TheVariants as plus
 use Rattle.ia32_rows.specs.declared.row.Operands.{Operands}
 use Rattle.ia32_rows.specs.declared.row.Operands.TheVariants as operands
-use Rattle.ia32_rows.specs.Reader.{done, byte_at, word_at, long_at}
+use Rattle.ia32_rows.specs.Reader.{success, byte_at, word_at, long_at}
 use Rattle.ia32_rows.specs.Fields.{extended, addressing_at, immediate_at, imm_len}
 use Rattle.ia32_rows.specs.Spelling.{parts_at, operands_of, in_order, sel_of, repeats, insn_of}
 use Rattle.ia32_rows.specs.Spells.{AreBytes, SpellsBy}
@@ -100,15 +100,15 @@ unfolding immediate_at
 imm_size_is immediate.Nothing bytes n sel e = no_bytes (0, 0) bytes n sel e
 imm_size_is immediate.One bytes n sel e = no_bytes (1, 0) bytes n sel e
 imm_size_is immediate.Byte bytes n sel e =
-    let r = and_then_ok (byte_at bytes) (λ b. done (pair b 0)) (n, sel) [] e in
+    let r = and_then_ok (byte_at bytes) (λ b. success (pair b 0)) (n, sel) [] e in
     let z = no_bytes (r.0, 0) r.1 n sel r.3 in
     one_byte bytes r.1 r.0 r.2 ∙ ap (λ (k : ℕ). 1 + k) z
 imm_size_is immediate.SignedByte bytes n sel e =
-    let r = and_then_ok (byte_at bytes) (λ b. done (pair (extended b) 0)) (n, sel) [] e in
+    let r = and_then_ok (byte_at bytes) (λ b. success (pair (extended b) 0)) (n, sel) [] e in
     let z = no_bytes (extended r.0, 0) r.1 n sel r.3 in
     one_byte bytes r.1 r.0 r.2 ∙ ap (λ (k : ℕ). 1 + k) z
 imm_size_is immediate.Word bytes n sel e =
-    let r = and_then_ok (word_at bytes) (λ k. done (pair k 0)) (n, sel) [] e in
+    let r = and_then_ok (word_at bytes) (λ k. success (pair k 0)) (n, sel) [] e in
     let s = same_read (r.0, 0) (n, sel) r.1 [] r.3 in
     two_bytes bytes r.0 (r.2 ∙ ap (read r.0) s.1)
 imm_size_is immediate.Long bytes n sel e =

@@ -27,7 +27,7 @@ use Rattle.asm_instruction.specs.declared.system.System.{System}
 use Rattle.asm_instruction.specs.declared.system.System.TheVariants as system
 use Rattle.asm_instruction.specs.Names.{◌>>=◌}
 use Rattle.asm_instruction.specs.Sizes.{agreed}
-use Rattle.asm_instruction.specs.Draft.{register, register_or_memory, said, paired, instruction, with_number, nothing, of_operand, memory}
+use Rattle.asm_instruction.specs.Draft.{register_operand, register_or_memory, said, paired, instruction, with_number, nothing, of_operand, memory}
 use Rattle.asm_instruction.specs.Arithmetic.{of_pair, memory_first, two, tested, one, into_register, to_register, multiplied, product, arithmetic_draft}
 use Rattle.asm_instruction.specs.Shift.{by_one, by_number, by_register, shift_draft}
 use Rattle.asm_instruction.specs.Moves.{special, from_segment, to_segment, from_control, to_control, general, moved, into_long, extended, effective, with_register, exchange, exchanged, move_of, move_draft}
@@ -56,13 +56,13 @@ quiet_number o s a b t n e = e
 
 quiet_pair : (o : Op) (s : Size) (p : Pair) → is_branch o ≡ false → IsQuiet (Some (of_pair o s p))
 quiet_pair o s (pair.Immediate n place) e = quiet_number o s place nothing s n e
-quiet_pair o s (pair.FromRegister n place) e = quiet_instruction o s place (register n) e
-quiet_pair o s (pair.FromMemory place n) e = quiet_instruction o s (register n) place e
+quiet_pair o s (pair.FromRegister n place) e = quiet_instruction o s place (register_operand n) e
+quiet_pair o s (pair.FromMemory place n) e = quiet_instruction o s (register_operand n) place e
 
 quiet_memory : (s : Size) (p : Pair) → IsQuiet (Some (memory_first op.Test s p))
 quiet_memory s (pair.Immediate n place) = quiet_number op.Test s place nothing s n refl
-quiet_memory s (pair.FromRegister n place) = quiet_instruction op.Test s place (register n) refl
-quiet_memory s (pair.FromMemory place n) = quiet_instruction op.Test s place (register n) refl
+quiet_memory s (pair.FromRegister n place) = quiet_instruction op.Test s place (register_operand n) refl
+quiet_memory s (pair.FromMemory place n) = quiet_instruction op.Test s place (register_operand n) refl
 
 -- ---- arithmetic
 
@@ -71,7 +71,7 @@ unfolding one
 quiet_one o t g e = bound (register_or_memory g) _ (λ place. bound (agreed t (said g) None) _ (λ s. quiet_instruction o s place nothing e))
 
 quiet_into : (o : Op) (s : Size) (g : Given) (place : NumberedOperand) → is_branch o ≡ false → IsQuiet (into_register o s g place)
-quiet_into o s (given.Register t n) place e = quiet_instruction o s (register n) place e
+quiet_into o s (given.Register t n) place e = quiet_instruction o s (register_operand n) place e
 quiet_into o s (given.Segment t) place e = tt
 quiet_into o s (given.Control t) place e = tt
 quiet_into o s (given.Memory t) place e = tt
@@ -110,7 +110,7 @@ pub quiet_shift : (o : Op) (t : Option Size) (os : Operands) → is_branch o ≡
 unfolding shift_draft by_one by_number by_register instruction
 quiet_shift o t (operands.One g) e = bound (register_or_memory g) _ (λ place. bound (agreed t (said g) None) _ (λ s. e))
 quiet_shift o t (operands.Two (given.Immediate n) g) e = bound (register_or_memory g) _ (λ place. bound (agreed t (said g) None) _ (λ s. quiet_number o s place nothing size.Byte n e))
-quiet_shift o t (operands.Two (given.Register size.Byte n) g) e = chosen (n == 1) (bound (register_or_memory g) _ (λ place. bound (agreed t (said g) None) _ (λ s. quiet_instruction o s place (register 1) e))) where
+quiet_shift o t (operands.Two (given.Register size.Byte n) g) e = chosen (n == 1) (bound (register_or_memory g) _ (λ place. bound (agreed t (said g) None) _ (λ s. quiet_instruction o s place (register_operand 1) e))) where
   chosen : (b : Bool) → IsQuiet (by_register o t g) → IsQuiet (cond b (by_register o t g) None)
   chosen true h = h
   chosen false h = tt
@@ -143,7 +143,7 @@ quiet_to_special t a (given.Control x) = bound (register_or_memory a) _ (λ from
 quiet_to_special t a b = quiet_general t a b
 
 quiet_long : (o : Op) (s : Size) (g : Given) (from : NumberedOperand) → is_branch o ≡ false → IsQuiet (into_long o s g from)
-quiet_long o s (given.Register size.Long n) from e = quiet_instruction o s (register n) from e
+quiet_long o s (given.Register size.Long n) from e = quiet_instruction o s (register_operand n) from e
 quiet_long o s (given.Register size.Byte n) from e = tt
 quiet_long o s (given.Register size.Word n) from e = tt
 quiet_long o s (given.Segment n) from e = tt
@@ -167,15 +167,15 @@ quiet_effective t given.Port b = tt
 
 quiet_with_register : (s : Size) (n : ℕ) (other : NumberedOperand) (x : Operand) → IsQuiet (Some (with_register s n other x))
 quiet_with_register s n other (operand.Register m) = quiet_instruction op.Xchg s _ _ refl
-quiet_with_register s n other operand.Absent = quiet_instruction op.Xchg s other (register n) refl
-quiet_with_register s n other (operand.Memory m) = quiet_instruction op.Xchg s other (register n) refl
-quiet_with_register s n other (operand.Segment m) = quiet_instruction op.Xchg s other (register n) refl
-quiet_with_register s n other (operand.Control m) = quiet_instruction op.Xchg s other (register n) refl
+quiet_with_register s n other operand.Absent = quiet_instruction op.Xchg s other (register_operand n) refl
+quiet_with_register s n other (operand.Memory m) = quiet_instruction op.Xchg s other (register_operand n) refl
+quiet_with_register s n other (operand.Segment m) = quiet_instruction op.Xchg s other (register_operand n) refl
+quiet_with_register s n other (operand.Control m) = quiet_instruction op.Xchg s other (register_operand n) refl
 
 quiet_exchange : (s : Size) (p : Pair) → IsQuiet (exchange s p)
 quiet_exchange s (pair.Immediate n place) = tt
 quiet_exchange s (pair.FromRegister n place) = quiet_with_register s n place place.operand
-quiet_exchange s (pair.FromMemory place n) = quiet_instruction op.Xchg s place (register n) refl
+quiet_exchange s (pair.FromMemory place n) = quiet_instruction op.Xchg s place (register_operand n) refl
 
 quiet_exchanged : (t : Option Size) (a b : Given) → IsQuiet (exchanged t a b)
 unfolding exchanged
@@ -257,8 +257,8 @@ quiet_if false d h = tt
 quiet_through : (o : Op) (s : Size) (g : Given) → is_branch o ≡ false → IsQuiet (through o s g)
 unfolding through
 quiet_through o s (given.Immediate n) e = quiet_number o s nothing nothing size.Byte n e
-quiet_through o s given.Port e = quiet_instruction o s nothing (register 2) e
-quiet_through o s (given.Register size.Word n) e = quiet_if (n == 2) (Some (instruction o s nothing (register 2))) (quiet_instruction o s nothing (register 2) e)
+quiet_through o s given.Port e = quiet_instruction o s nothing (register_operand 2) e
+quiet_through o s (given.Register size.Word n) e = quiet_if (n == 2) (Some (instruction o s nothing (register_operand 2))) (quiet_instruction o s nothing (register_operand 2) e)
 quiet_through o s (given.Register size.Byte n) e = tt
 quiet_through o s (given.Register size.Long n) e = tt
 quiet_through o s (given.Segment n) e = tt

@@ -11,7 +11,7 @@ use Rattle.ia32_rows.specs.declared.row.Addressing.{Addressing}
 use Rattle.ia32_rows.specs.declared.row.Addressing.TheVariants as addressing
 use Rattle.ia32_rows.specs.declared.row.Immediate.{Immediate}
 use Rattle.ia32_rows.specs.declared.row.Immediate.TheVariants as immediate
-use Rattle.ia32_rows.specs.Reader.{Reader, and_then, ◌>>=◌, done, byte_at, byte_where, word_at, long_at}
+use Rattle.ia32_rows.specs.Reader.{Reader, and_then, ◌>>=◌, success, byte_at, byte_where, word_at, long_at}
 use Rattle.ia32_rows.specs.Fields.{mod_of, reg_of, rm_of, extended, has_modrm, base_at, disp_at, memory_at, rm_at, addressing_at, immediate_at, imm_len}
 use Rattle.ia32_rows.proofs.Readers.{read, same_read, and_then_ok}
 use Rattle.ia32_rows.proofs.Fields.{base_reads}
@@ -39,7 +39,7 @@ same_numbers a b c d e = (ap (λ (p : ℕ × ℕ). p.0) e, ap (λ (p : ℕ × �
 pub long_imm : (bytes : List ℕ) (n sel : ℕ) → immediate_at immediate.Long bytes ≡ Ok ((n, sel), []) → ImmFront immediate.Long bytes n sel
 unfolding immediate_at
 long_imm bytes n sel e =
-    let r = and_then_ok (long_at bytes) (λ m. done (m, 0)) (n, sel) [] e in
+    let r = and_then_ok (long_at bytes) (λ m. success (m, 0)) (n, sel) [] e in
     let s = same_read (r.0, 0) (n, sel) r.1 [] r.3 in
     let v = same_numbers r.0 0 n sel s.0 in
     let none = s.1 in
@@ -51,14 +51,14 @@ long_imm bytes n sel e =
       is = is;
       four = four_bytes bytes n is;
       size = refl;
-      again = λ other m h. ap (λ x. and_then x (λ (k : ℕ). done (k, 0))) (long_then other [] m h) ∙ ap (λ k. read (pair m k) []) v.1;
+      again = λ other m h. ap (λ x. and_then x (λ (k : ℕ). success (k, 0))) (long_then other [] m h) ∙ ap (λ k. read (pair m k) []) v.1;
     }
 
 pub far_imm : (bytes : List ℕ) (n sel : ℕ) → immediate_at immediate.Far bytes ≡ Ok ((n, sel), []) → ImmFront immediate.Far bytes n sel
 unfolding immediate_at
 far_imm bytes n sel e =
-    let r = and_then_ok (long_at bytes) (λ offset. word_at >>= λ selector. done (offset, selector)) (n, sel) [] e in
-    let q = and_then_ok (word_at r.1) (λ selector. done (r.0, selector)) (n, sel) [] r.3 in
+    let r = and_then_ok (long_at bytes) (λ offset. word_at >>= λ selector. success (offset, selector)) (n, sel) [] e in
+    let q = and_then_ok (word_at r.1) (λ selector. success (r.0, selector)) (n, sel) [] r.3 in
     let s = same_read (r.0, q.0) (n, sel) q.1 [] q.3 in
     let v = same_numbers r.0 q.0 n sel s.0 in
     let none = s.1 in
@@ -72,7 +72,7 @@ far_imm bytes n sel e =
       is = l.is ∙ ap (λ (k : ℕ). read k []) v.0;
       four = l.four;
       size = omega (arith, two);
-      again = λ other m h. ap (λ x. and_then x (λ (k : ℕ). word_at >>= λ selector. done (k, selector))) (long_then other r.1 m h) ∙ ap (λ x. and_then x (λ (k : ℕ). done (m, k))) sel_is;
+      again = λ other m h. ap (λ x. and_then x (λ (k : ℕ). word_at >>= λ selector. success (k, selector))) (long_then other r.1 m h) ∙ ap (λ x. and_then x (λ (k : ℕ). success (m, k))) sel_is;
     }
 
 pub imm_front : (i : Immediate) (bytes : List ℕ) (n sel : ℕ) → imm_len i ≡ 4 → immediate_at i bytes ≡ Ok ((n, sel), []) → ImmFront i bytes n sel
@@ -91,7 +91,7 @@ pub record DispBack (p : Reader (ℕ × ℕ)) (bytes : List ℕ) (d : ℕ) : Typ
   pub again : (other : List ℕ) (m : ℕ) → long_at other ≡ Ok (m, []) → p other ≡ Ok ((m, 4), [])
 
 abbrev sized_by : Bool → Bool → Reader (ℕ × ℕ)
-sized_by z o = cond z (done (0, 0)) (cond o (byte_at >>= λ b. done (extended b, 1)) (long_at >>= λ k. done (k, 4)))
+sized_by z o = cond z (success (0, 0)) (cond o (byte_at >>= λ b. success (extended b, 1)) (long_at >>= λ k. success (k, 4)))
 
 by_size : (z o : Bool) (bytes : List ℕ) (d : ℕ) → sized_by z o bytes ≡ Ok ((d, 4), []) → DispBack (sized_by z o) bytes d
 by_size true o bytes d e =
@@ -99,17 +99,17 @@ by_size true o bytes d e =
     let v = same_numbers 0 0 d 4 s.0 in
     absurd (omega (arith, v.1))
 by_size false true bytes d e =
-    let r = and_then_ok (byte_at bytes) (λ b. done (extended b, 1)) (d, 4) [] e in
+    let r = and_then_ok (byte_at bytes) (λ b. success (extended b, 1)) (d, 4) [] e in
     let s = same_read (extended r.0, 1) (d, 4) r.1 [] r.3 in
     let v = ap (λ (q : ℕ × ℕ). q.1) s.0 in
     absurd (omega (arith, v))
 by_size false false bytes d e =
-    let r = and_then_ok (long_at bytes) (λ k. done (k, 4)) (d, 4) [] e in
+    let r = and_then_ok (long_at bytes) (λ k. success (k, 4)) (d, 4) [] e in
     let s = same_read (r.0, 4) (d, 4) r.1 [] r.3 in
     let v = ap (λ (q : ℕ × ℕ). q.0) s.0 in
     record {
       is = r.2 ∙ ap (λ (k : ℕ). read k r.1) v ∙ ap (read d) s.1;
-      again = λ other m h. ap (λ x. and_then x (λ (k : ℕ). done (pair k 4))) h;
+      again = λ other m h. ap (λ x. and_then x (λ (k : ℕ). success (pair k 4))) h;
     }
 
 disp_back : (mode : ℕ) (bytes : List ℕ) (d : ℕ) → disp_at mode bytes ≡ Ok ((d, 4), []) → DispBack (disp_at mode) bytes d
@@ -136,8 +136,8 @@ same_sized rm n other e = (ap (λ (p : Operand × ℕ). p.0) e, ap (λ (p : Oper
 memory_back : (m : ℕ) (bytes : List ℕ) (rm : Operand) → memory_at m bytes ≡ Ok ((rm, 4), []) → AtBack (memory_at m) bytes rm sized
 unfolding memory_at
 memory_back m bytes rm e =
-    let r = and_then_ok (base_at m bytes) (λ place. disp_at (cond (is_none place.base) 2 (mod_of m)) >>= λ disp. done (operand_at place disp.0, disp.1)) (rm, 4) [] e in
-    let q = and_then_ok (disp_at (cond (is_none r.0.base) 2 (mod_of m)) r.1) (λ disp. done (operand_at r.0 disp.0, disp.1)) (rm, 4) [] r.3 in
+    let r = and_then_ok (base_at m bytes) (λ place. disp_at (cond (is_none place.base) 2 (mod_of m)) >>= λ disp. success (operand_at place disp.0, disp.1)) (rm, 4) [] e in
+    let q = and_then_ok (disp_at (cond (is_none r.0.base) 2 (mod_of m)) r.1) (λ disp. success (operand_at r.0 disp.0, disp.1)) (rm, 4) [] r.3 in
     let s = same_read (operand_at r.0 q.0.0, q.0.1) (rm, 4) q.1 [] q.3 in
     let v = same_sized (operand_at r.0 q.0.0) q.0.1 rm s.0 in
     let t = (base_reads m).takes bytes r.0 r.1 r.2 in
@@ -149,11 +149,11 @@ memory_back m bytes rm e =
       parts = t.parts;
       is = b.is;
       again = λ other k h.
-          ap (λ x. and_then x (λ place. disp_at (cond (is_none place.base) 2 (mod_of m)) >>= λ disp. done (operand_at place disp.0, disp.1))) (t.again other)
-          ∙ ap (λ x. and_then x (λ (disp : ℕ × ℕ). done (operand_at r.0 disp.0, disp.1))) (b.again other k h);
+          ap (λ x. and_then x (λ place. disp_at (cond (is_none place.base) 2 (mod_of m)) >>= λ disp. success (operand_at place disp.0, disp.1))) (t.again other)
+          ∙ ap (λ x. and_then x (λ (disp : ℕ × ℕ). success (operand_at r.0 disp.0, disp.1))) (b.again other k h);
     })
 
-by_mode : (b : Bool) (m : ℕ) (bytes : List ℕ) (rm : Operand) → cond b (done (operand.Register (rm_of m), 0)) (memory_at m) bytes ≡ Ok ((rm, 4), []) → AtBack (cond b (done (operand.Register (rm_of m), 0)) (memory_at m)) bytes rm sized
+by_mode : (b : Bool) (m : ℕ) (bytes : List ℕ) (rm : Operand) → cond b (success (operand.Register (rm_of m), 0)) (memory_at m) bytes ≡ Ok ((rm, 4), []) → AtBack (cond b (success (operand.Register (rm_of m), 0)) (memory_at m)) bytes rm sized
 by_mode true m bytes rm e =
     let s = same_read (operand.Register (rm_of m), 0) (rm, 4) bytes [] e in
     let v = same_sized (operand.Register (rm_of m)) 0 rm s.0 in
@@ -187,7 +187,7 @@ addressing_back addressing.Nothing bytes reg rm e =
     let v = same_located _ _ s.0 in
     absurd (omega (arith, v.2))
 addressing_back addressing.Offset bytes reg rm e =
-    let r = and_then_ok (long_at bytes) (λ d. done (record { reg = 0; rm = plain_at d; disp_len = 4 })) (located reg rm) [] e in
+    let r = and_then_ok (long_at bytes) (λ d. success (record { reg = 0; rm = plain_at d; disp_len = 4 })) (located reg rm) [] e in
     let s = same_read (located 0 (plain_at r.0)) (located reg rm) r.1 [] r.3 in
     let v = same_located (located 0 (plain_at r.0)) (located reg rm) s.0 in
     let is : long_at bytes ≡ Ok (r.0, []) = r.2 ∙ ap (read r.0) s.1 in
@@ -196,11 +196,11 @@ addressing_back addressing.Offset bytes reg rm e =
       word = bytes;
       parts = refl;
       is = is;
-      again = λ other k h. ap (λ x. and_then x (λ (d : ℕ). done (located 0 (plain_at d)))) h ∙ ap (λ (n : ℕ). read (located n (plain_at k)) []) v.0;
+      again = λ other k h. ap (λ x. and_then x (λ (d : ℕ). success (located 0 (plain_at d)))) h ∙ ap (λ (n : ℕ). read (located n (plain_at k)) []) v.0;
     })
 addressing_back (addressing.Modrm form) bytes reg rm e =
-    let r = and_then_ok (byte_where (has_modrm form) bytes) (λ m. rm_at m >>= λ x. done (record { reg = reg_of m; rm = x.0; disp_len = x.1 })) (located reg rm) [] e in
-    let q = and_then_ok (rm_at r.0 r.1) (λ x. done (record { reg = reg_of r.0; rm = x.0; disp_len = x.1 })) (located reg rm) [] r.3 in
+    let r = and_then_ok (byte_where (has_modrm form) bytes) (λ m. rm_at m >>= λ x. success (record { reg = reg_of m; rm = x.0; disp_len = x.1 })) (located reg rm) [] e in
+    let q = and_then_ok (rm_at r.0 r.1) (λ x. success (record { reg = reg_of r.0; rm = x.0; disp_len = x.1 })) (located reg rm) [] r.3 in
     let s = same_read (record { reg = reg_of r.0; rm = q.0.0; disp_len = q.0.1 }) (located reg rm) q.1 [] q.3 in
     let v = same_located (record { reg = reg_of r.0; rm = q.0.0; disp_len = q.0.1 }) (located reg rm) s.0 in
     let d : rm_at r.0 r.1 ≡ Ok ((rm, 4), []) = q.2 ∙ ap (λ (n : ℕ). read (q.0.0, n) q.1) v.2 ∙ ap (λ (o : Operand). read (sized o) q.1) v.1 ∙ ap (read (sized rm)) s.1 in
@@ -212,7 +212,7 @@ addressing_back (addressing.Modrm form) bytes reg rm e =
       parts = f.0 ∙ ap (λ (bs : List ℕ). r.0 ∷ bs) b.parts;
       is = b.is;
       again = λ other k h.
-          ap (λ t. and_then (cond t (read r.0 (b.front ++ other)) (Rattle.std.specs.Prelude.Err Rattle.ia32_rows.specs.declared.row.Miss.TheVariants.Outside)) (λ m. rm_at m >>= λ x. done (record { reg = reg_of m; rm = x.0; disp_len = x.1 }))) f.1
-          ∙ ap (λ x. and_then x (λ (o : Operand × ℕ). done (record { reg = reg_of r.0; rm = o.0; disp_len = o.1 }))) (b.again other k h)
+          ap (λ t. and_then (cond t (read r.0 (b.front ++ other)) (Rattle.std.specs.Prelude.Err Rattle.ia32_rows.specs.declared.row.Miss.TheVariants.Outside)) (λ m. rm_at m >>= λ x. success (record { reg = reg_of m; rm = x.0; disp_len = x.1 }))) f.1
+          ∙ ap (λ x. and_then x (λ (o : Operand × ℕ). success (record { reg = reg_of r.0; rm = o.0; disp_len = o.1 }))) (b.again other k h)
           ∙ ap (λ (n : ℕ). read (located n (moved k rm)) []) v.0;
     }

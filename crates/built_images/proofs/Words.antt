@@ -4,7 +4,7 @@ use Rattle.std.specs.Int.{w32, from_le_bytes, to_le_bytes}
 use Rattle.std.proofs.lemmas.Nat.{from_le_bytes-to_le_bytes_4}
 use Rattle.guest_ram.specs.Bytes.{part, with_part, word32, with_word32}
 use Rattle.std.proofs.lemmas.List.{append-nil, length-append}
-use Rattle.ia32_rows.specs.Reader.{Reader, and_then, ◌>>=◌, done, byte_at, word_at, long_at}
+use Rattle.ia32_rows.specs.Reader.{Reader, and_then, ◌>>=◌, success, byte_at, word_at, long_at}
 use Rattle.ia32_rows.specs.Spells.{AreBytes}
 use Rattle.ia32_rows.proofs.Readers.{Takes, Reads, read, same_read, and_then_ok, word_reads, long_reads}
 
@@ -18,8 +18,8 @@ two_bytes (a ∷ b ∷ c ∷ bytes) n e = let s = same_read (a + 256 * b) n (c �
 pub four_bytes : (bytes : List ℕ) (n : ℕ) → long_at bytes ≡ Ok (n, []) → length bytes ≡ 4
 unfolding long_at
 four_bytes bytes n e =
-    let r = and_then_ok (word_at bytes) (λ low. word_at >>= λ high. done (low + 65536 * high)) n [] e in
-    let q = and_then_ok (word_at r.1) (λ high. done (r.0 + 65536 * high)) n [] r.3 in
+    let r = and_then_ok (word_at bytes) (λ low. word_at >>= λ high. success (low + 65536 * high)) n [] e in
+    let q = and_then_ok (word_at r.1) (λ high. success (r.0 + 65536 * high)) n [] r.3 in
     let t = word_reads.takes bytes r.0 r.1 r.2 in
     let low = two_bytes t.front r.0 (ap word_at (sym (append-nil t.front)) ∙ t.again []) in
     let end = same_read (r.0 + 65536 * q.0) n q.1 [] q.3 in

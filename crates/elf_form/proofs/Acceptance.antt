@@ -14,7 +14,7 @@ use Rattle.elf_form.specs.Segments.{is_load, loads, order}
 use Rattle.elf_form.specs.Sections.{names, is_sites, sites_sections, one_of}
 use Rattle.elf_form.specs.Reading.{parts_at, section_form, section_tests, header_tests, tests, image_in}
 use Rattle.elf_form.specs.Accepted.{wrong, causes, IsSound, ImageAs}
-use Rattle.elf_form.proofs.FormLaws.{neither, passed}
+use Rattle.elf_form.proofs.FormLaws.{neither, tested_none}
 
 -- the tests of a list of causes, and then a value
 chain : {A : Type 0} → List ElfCause → List ℕ → A → Result A Fault
@@ -51,7 +51,7 @@ chain-err A [] bytes x e h = absurd cc
 chain-err A (c ∷ cs) bytes x e h =
     elim (bind_err (Unit {0}) A (test c (wrong c bytes)) (λ _. chain cs bytes x) e h) [
       | inl fails ↦ inl (test-err c (wrong c bytes) e fails)
-      | inr goes ↦ inr (passed c (wrong c bytes) goes.1, chain-err A cs bytes x e goes.2)
+      | inr goes ↦ inr (tested_none c (wrong c bytes) goes.1, chain-err A cs bytes x e goes.2)
     ]
 
 chain-ok : (A : Type 0) (cs : List ElfCause) (bytes : List ℕ) (x y : A) → chain cs bytes x ≡ Ok y → IsSound cs bytes × (x ≡ y)
@@ -60,7 +60,7 @@ chain-ok A [] bytes x y h = (tt, cc)
 chain-ok A (c ∷ cs) bytes x y h =
     let goes = bind_ok (Unit {0}) A (test c (wrong c bytes)) (λ _. chain cs bytes x) y h in
     let rest = chain-ok A cs bytes x y goes.2 in
-    ((passed c (wrong c bytes) goes.1, rest.0), rest.1)
+    ((tested_none c (wrong c bytes) goes.1, rest.0), rest.1)
 
 sound-chain : {A : Type 0} (cs : List ElfCause) (bytes : List ℕ) (x : A) → IsSound cs bytes → chain cs bytes x ≡ Ok x
 unfolding chain

@@ -14,9 +14,9 @@ use Rattle.elf_form.specs.Segments.{order, memory_sizes, first_size, second_size
 use Rattle.elf_form.specs.Sections.{one_of}
 
 -- no place was found
-pub passed : (cause : ElfCause) (place : Option ℕ) → test cause place ≡ Ok tt → place ≡ None
-passed cause None e = refl
-passed cause (Some at) e = absurd cc
+pub tested_none : (cause : ElfCause) (place : Option ℕ) → test cause place ≡ Ok tt → place ≡ None
+tested_none cause None e = refl
+tested_none cause (Some at) e = absurd cc
 
 some_stays : (b : Bool) (x y : ℕ) → cond b (Some x) (Some y) ≡ None → ⊥
 some_stays true x y e = cc

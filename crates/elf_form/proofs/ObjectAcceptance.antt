@@ -8,7 +8,7 @@ use Rattle.elf_form.specs.declared.cause.ElfCause.TheVariants.{Truncated, Magic,
 use Rattle.elf_form.specs.ObjectParts.{ObjectParts}
 use Rattle.elf_form.specs.Faults.{Fault, IsFirstOf, test, Gives, ◌>>=◌}
 use Rattle.elf_form.specs.ObjectReading.{object_at, late_tests, middle_tests, early_tests, object_in, wrong_object, all_causes, ObjectAs}
-use Rattle.elf_form.proofs.FormLaws.{passed}
+use Rattle.elf_form.proofs.FormLaws.{tested_none}
 use Rattle.elf_form.proofs.Acceptance.{failed, test-err, bind_err, bind_ok}
 
 -- the tests of a list of causes, and then a value
@@ -26,7 +26,7 @@ chain-err A wrong [] x e h = absurd cc
 chain-err A wrong (c ∷ cs) x e h =
     elim (bind_err (Unit {0}) A (test c (wrong c)) (λ _. chain wrong cs x) e h) [
       | inl fails ↦ inl (test-err c (wrong c) e fails)
-      | inr goes ↦ inr (passed c (wrong c) goes.1, chain-err A wrong cs x e goes.2)
+      | inr goes ↦ inr (tested_none c (wrong c) goes.1, chain-err A wrong cs x e goes.2)
     ]
 
 first_chain : (A : Type 0) (wrong : ElfCause → Option ℕ) (cs : List ElfCause) (x : A) (e : Fault) → IsFirstOf wrong cs e → chain wrong cs x ≡ failed A e
@@ -46,7 +46,7 @@ chain-ok A wrong [] x y h = (tt, cc)
 chain-ok A wrong (c ∷ cs) x y h =
     let goes = bind_ok (Unit {0}) A (test c (wrong c)) (λ _. chain wrong cs x) y h in
     let rest = chain-ok A wrong cs x y goes.2 in
-    ((passed c (wrong c) goes.1, rest.0), rest.1)
+    ((tested_none c (wrong c) goes.1, rest.0), rest.1)
 
 sound-chain : {A : Type 0} (wrong : ElfCause → Option ℕ) (cs : List ElfCause) (x : A) → ((c : ElfCause) → wrong c ≡ None) → chain wrong cs x ≡ Ok x
 unfolding chain

@@ -116,7 +116,7 @@ pub record Gathering (os : List ObjectParts) (i : ℕ) (t : Totals) (gs : List (
   pub fits : text_end (take i os) + 2 ≤ TEXT_LIMIT
   pub gaps : SHORT_TEXT < text_end (take i os) + 2 → AreGapped 0 sites
   pub count : length sites ≡ t.sites
-  pub passed : Passed (object_refusal os) (numbered os) i
+  pub none_before : Passed (object_refusal os) (numbered os) i
 
 pub gathering_first : (os : List ObjectParts) → Gathering os 0 (record { text = 0; memory = 0; symbols = 0; sites = 0 }) [] []
 unfolding totals definitions text_end
@@ -129,7 +129,7 @@ gathering_first os = record {
   fits = omega arith;
   gaps = λ long. absurd (omega (arith, long));
   count = refl;
-  passed = refl;
+  none_before = refl;
 }
 
 module _ (os : List ObjectParts) (i : ℕ) (o : ObjectParts) (t : Totals) (gs : List (List ℕ × Target)) (sites : List Site) (lt : i < length os) (is : get_or os i o ≡ o) (now : Gathering os i t gs sites) where
@@ -141,7 +141,7 @@ module _ (os : List ObjectParts) (i : ℕ) (o : ObjectParts) (t : Totals) (gs : 
 
   pub gathering_fails : (e : LinkFault) → Fails e (tested (refused i (step_cause t sites gs (i, o)))) → Fails e (tested (first (object_refusal os) (numbered os)))
   gathering_fails e h =
-      fails_here (object_refusal os) (numbered os) i (i, o) e (subst (λ (n : ℕ). i < n) (sym (length-numbered os)) lt) (numbered_at os i o lt is) now.passed
+      fails_here (object_refusal os) (numbered os) i (i, o) e (subst (λ (n : ℕ). i < n) (sym (length-numbered os)) lt) (numbered_at os i o lt is) now.none_before
       (subst (λ (c : Option LinkCause). Fails e (tested (refused i c))) cause_now h)
 
   text_is : t.text ≡ text_at os i
@@ -199,7 +199,7 @@ module _ (os : List ObjectParts) (i : ℕ) (o : ObjectParts) (t : Totals) (gs : 
         fits = fits;
         gaps = λ long. subst (λ (s : List Site). AreGapped 0 s) (sym moved_so) (gaps_are cause long);
         count = count_is t' sites' sums more;
-        passed = first_next (object_refusal os) (numbered os) i (i, o) (subst (λ (n : ℕ). i < n) (sym (length-numbered os)) lt) (numbered_at os i o lt is) now.passed none;
+        none_before = first_next (object_refusal os) (numbered os) i (i, o) (subst (λ (n : ℕ). i < n) (sym (length-numbered os)) lt) (numbered_at os i o lt is) now.none_before none;
       }
 
 -- what is known of all objects
@@ -219,7 +219,7 @@ gathered_all os i t gs sites le now =
     let whole : take i os ≡ os = take_all i os le in
     let all : take i (numbered os) ≡ numbered os = take_all i (numbered os) (omega (arith, length-numbered os)) in
     record {
-      exact = ap tested (first_end (object_refusal os) (numbered os) i (omega (arith, length-numbered os)) now.passed);
+      exact = ap tested (first_end (object_refusal os) (numbered os) i (omega (arith, length-numbered os)) now.none_before);
       within = subst (λ (u : Totals). IsWithin u) (now.sums ∙ ap totals whole) now.within;
       names = now.names ∙ ap definitions all;
       moved = now.moved ∙ ap (flat_map (moved_sites os)) all;

@@ -38,7 +38,7 @@ one_first : (v : View) (k : ℕ) (s : Standing) (regs : Regs) (ram : List ℕ) (
 one_first v k s regs ram exit t e h = record {
   n = suc h.n;
   last = h.last;
-  went = (regs, (ram, (e, h.went)));
+  runs = (regs, (ram, (e, h.runs)));
   ends = elim h.ends [
     | inl x ↦ inl (let n : suc h.n ≡ suc k = omega (arith, x.0) in n, x.1, x.2)
     | inr x ↦ inr (let n : suc h.n < suc k = omega (arith, x.0) in n, x.1)
@@ -53,7 +53,7 @@ by_step v k s (Ok (Completed regs, ram)) e h = one_first v k s regs ram _ _ e (h
 by_step v k s (Ok (Entered regs, ram)) e h = record {
   n = 0;
   last = s;
-  went = refl;
+  runs = refl;
   ends = inr (let lt : 0 < suc k = omega arith in lt, subst (λ (m : Met (Completion × List ℕ)). Leaves m s (Entry regs.eip) (record s { regs = regs; ram = ram })) (sym e) (refl, refl));
   retired = omega arith;
   budget = λ b. absurd cc;
@@ -61,7 +61,7 @@ by_step v k s (Ok (Entered regs, ram)) e h = record {
 by_step v k s (Err exit) e h = let by_exit : exit ≡ Budget → ⊥ = step_not v s.ram s.regs exit e in record {
   n = 0;
   last = s;
-  went = refl;
+  runs = refl;
   ends = inr (let lt : 0 < suc k = omega arith in lt, subst (λ (m : Met (Completion × List ℕ)). Leaves m s exit s) (sym e) (refl, refl));
   retired = omega arith;
   budget = λ b. absurd (by_exit b);
@@ -72,7 +72,7 @@ unfolding host_run
 each_is_run v zero s = record {
   n = 0;
   last = s;
-  went = refl;
+  runs = refl;
   ends = inl (refl, refl, refl);
   retired = omega arith;
   budget = λ b. refl;

@@ -25,7 +25,7 @@ Leaves (Err e) s exit t = (exit ≡ e) × (t ≡ s)
 pub record IsRun (v : View) (k : ℕ) (s : Standing) (exit : Exit) (t : Standing) : Type 0 where
   pub n : ℕ
   pub last : Standing
-  pub went : RunsTo v n s last
+  pub runs : RunsTo v n s last
   pub ends : ((n ≡ k) × (exit ≡ Budget) × (t ≡ last)) ⊎ ((n < k) × Leaves (host_step v last.ram last.regs) last exit t)
   pub retired : t.retired ≡ s.retired + n
   pub budget : exit ≡ Budget → n ≡ k

@@ -22,7 +22,7 @@ use Rattle.ia32_rows.specs.declared.row.Base.{Base}
 use Rattle.ia32_rows.specs.declared.row.Located.{Located}
 use Rattle.ia32_rows.specs.declared.row.Form.{Form}
 use Rattle.ia32_rows.specs.declared.row.Parts.{Parts}
-use Rattle.ia32_rows.specs.Reader.{Reading, and_then, ◌>>=◌, done, byte_where, word_at, long_at}
+use Rattle.ia32_rows.specs.Reader.{Reading, and_then, ◌>>=◌, success, byte_where, word_at, long_at}
 use Rattle.ia32_rows.specs.Fields.{register, extended, mod_of, reg_of, rm_of, base_of, sib_of, base_at, disp_at, memory_at, rm_at, has_slash, has_place, has_modrm, addressing_at, immediate_at}
 use Rattle.ia32_rows.specs.Spelling.{has_code, lead_at, coded_at, parts_at}
 use Rattle.ia32_rows.proofs.Readers.{read, tested}
@@ -102,8 +102,8 @@ pub record Placed (base : Option Reg) (disp len : ℕ) : Type 0 where
 
 placed_4 : (base : Option Reg) (disp : ℕ) → Placed base disp 4
 unfolding disp_at
-placed_4 None disp = record { mode = omega arith; base_is = refl; disp_is = λ more. ap (λ r. and_then r (λ d. done (d, 4))) (long_back disp more) }
-placed_4 (Some r) disp = record { mode = omega arith; base_is = ap (λ (t : Reg). Some t) (register_back r); disp_is = λ more. ap (λ r. and_then r (λ d. done (d, 4))) (long_back disp more) }
+placed_4 None disp = record { mode = omega arith; base_is = refl; disp_is = λ more. ap (λ r. and_then r (λ d. success (d, 4))) (long_back disp more) }
+placed_4 (Some r) disp = record { mode = omega arith; base_is = ap (λ (t : Reg). Some t) (register_back r); disp_is = λ more. ap (λ r. and_then r (λ d. success (d, 4))) (long_back disp more) }
 
 some_base : (r : Reg) → (number_of r == 5) ≡ false → base_of 0 (number_of r) ≡ Some r
 some_base reg.Eax e = refl
@@ -331,7 +331,7 @@ addressing_back wide addressing.Offset p fit len more =
     let e = both (p.reg == 0) (is_offset p.rm) fit in
     let plain = offset_is p.rm e.1 in
     let four : p.disp_len ≡ 4 = len ∙ ap (disp_len_of wide) plain ∙ four_bytes wide (offset_of p.rm) in
-    ap (λ r. and_then r (λ d. done (located_is 0 4 (operand.Memory (record { base = None; index = None; scale = 1; disp = d }))))) (long_back (offset_of p.rm) more)
+    ap (λ r. and_then r (λ d. success (located_is 0 4 (operand.Memory (record { base = None; index = None; scale = 1; disp = d }))))) (long_back (offset_of p.rm) more)
     ∙ ap (λ l. read l more) (located_eq 0 p.reg 4 p.disp_len _ p.rm (sym (eqb-true p.reg 0 e.0)) (sym four) (sym plain))
 addressing_back wide (addressing.Modrm form) p fit len more =
     let e = both (nat_lt p.reg 8) (has_slash form.slash p.reg && rm_fits form.place p.rm) (and_right (nat_lt p.reg 8) (has_slash form.slash p.reg) (rm_fits form.place p.rm) fit) in
@@ -340,9 +340,9 @@ addressing_back wide (addressing.Modrm form) p fit len more =
     let slash : has_slash form.slash (reg_of b.m) ≡ true = ap (has_slash form.slash) b.reg_is ∙ f.0 in
     let ok : has_modrm form b.m ≡ true = both_true slash (b.mode_is form.place f.1) in
     let bytes : modrm_bytes p.reg p.disp_len p.rm ≡ b.m ∷ b.tail = ap (λ l. modrm_bytes p.reg l p.rm) len ∙ b.bytes_are in
-    ap (λ bs. and_then (byte_where (has_modrm form) (bs ++ more)) (λ m. rm_at m >>= λ rm. done (located_is (reg_of m) rm.1 rm.0))) bytes
-    ∙ ap (λ t. and_then (tested t b.m (b.tail ++ more)) (λ m. rm_at m >>= λ rm. done (located_is (reg_of m) rm.1 rm.0))) ok
-    ∙ ap (λ r. and_then r (λ rm. done (located_is (reg_of b.m) rm.1 rm.0))) (b.rm_is more)
+    ap (λ bs. and_then (byte_where (has_modrm form) (bs ++ more)) (λ m. rm_at m >>= λ rm. success (located_is (reg_of m) rm.1 rm.0))) bytes
+    ∙ ap (λ t. and_then (tested t b.m (b.tail ++ more)) (λ m. rm_at m >>= λ rm. success (located_is (reg_of m) rm.1 rm.0))) ok
+    ∙ ap (λ r. and_then r (λ rm. success (located_is (reg_of b.m) rm.1 rm.0))) (b.rm_is more)
     ∙ ap (λ l. read l more) (located_eq (reg_of b.m) p.reg (disp_len_of wide p.rm) p.disp_len p.rm p.rm b.reg_is (sym len) refl)
 
 -- each immediate reads its bytes back
@@ -362,12 +362,12 @@ immediate_back immediate.Word p fit more =
     let e = both (nat_lt p.imm 65536) (p.sel == 0) fit in
     let lt = ltb-true p.imm 65536 e.0 in
     let same : p.imm % 65536 ≡ p.imm = omega arith in
-    ap (λ r. and_then r (λ n. done (n, 0))) (word_back (p.imm % 65536) more) ∙ number_eq (p.imm % 65536) p.imm p.sel same e.1 more
+    ap (λ r. and_then r (λ n. success (n, 0))) (word_back (p.imm % 65536) more) ∙ number_eq (p.imm % 65536) p.imm p.sel same e.1 more
 immediate_back immediate.Long p fit more =
-    ap (λ r. and_then r (λ n. done (n, 0))) (long_back p.imm more) ∙ number_eq p.imm p.imm p.sel refl fit more
+    ap (λ r. and_then r (λ n. success (n, 0))) (long_back p.imm more) ∙ number_eq p.imm p.imm p.sel refl fit more
 immediate_back immediate.Far p fit more =
-    ap (λ r. and_then r (λ offset. word_at >>= λ selector. done (offset, selector))) (long_back p.imm (word_bytes p.sel ++ more))
-    ∙ ap (λ r. and_then r (λ selector. done (p.imm, selector))) (word_back p.sel more)
+    ap (λ r. and_then r (λ offset. word_at >>= λ selector. success (offset, selector))) (long_back p.imm (word_bytes p.sel ++ more))
+    ∙ ap (λ r. and_then r (λ selector. success (p.imm, selector))) (word_back p.sel more)
 
 lead_back : (kind : Lead) (more : List ℕ) → (n : ℕ) × (lead_at kind (lead_bytes kind ++ more) ≡ read n more)
 unfolding lead_at

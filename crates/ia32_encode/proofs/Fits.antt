@@ -17,11 +17,11 @@ use Rattle.ia32_rows.specs.declared.row.Base.{Base}
 use Rattle.ia32_rows.specs.declared.row.Located.{Located}
 use Rattle.ia32_rows.specs.declared.row.Form.{Form}
 use Rattle.ia32_rows.specs.declared.row.Parts.{Parts}
-use Rattle.ia32_rows.specs.Reader.{Reader, ◌>>=◌, done, byte_where, byte_at, word_at, long_at}
+use Rattle.ia32_rows.specs.Reader.{Reader, ◌>>=◌, success, byte_where, byte_at, word_at, long_at}
 use Rattle.ia32_rows.specs.Fields.{register, extended, mod_of, reg_of, rm_of, base_of, sib_of, base_at, disp_at, memory_at, rm_at, has_slash, has_place, has_modrm, addressing_at, immediate_at}
 use Rattle.ia32_rows.specs.Spelling.{has_code, lead_at, coded_at, parts_at}
 use Rattle.ia32_rows.specs.Spells.{AreBytes}
-use Rattle.ia32_rows.proofs.Readers.{Reads, and_then_ok, passed, read, same_read}
+use Rattle.ia32_rows.proofs.Readers.{Reads, and_then_ok, test_met, read, same_read}
 use Rattle.ia32_rows.proofs.Fields.{both, addressing_works, addressing_reads, lead_reads}
 use Rattle.ia32_encode.specs.Text.{is_signed_byte, index_number, disp_len_of}
 use Rattle.ia32_encode.specs.Parts.{rm_fits, addressing_fits, immediate_fits, form_fits}
@@ -65,21 +65,21 @@ unfolding immediate_at
 immediate_read immediate.Nothing bytes imm sel rest e h = let s = same_two 0 0 imm sel bytes rest e in subst (λ k. (k == 0 && sel == 0) ≡ true) s.0 (subst (λ k. (k == 0) ≡ true) s.1 refl)
 immediate_read immediate.One bytes imm sel rest e h = let s = same_two 1 0 imm sel bytes rest e in subst (λ k. (k == 1 && sel == 0) ≡ true) s.0 (subst (λ k. (k == 0) ≡ true) s.1 refl)
 immediate_read immediate.Byte bytes imm sel rest e h =
-    let r = and_then_ok (byte_at bytes) (λ b. done (b, 0)) (imm, sel) rest e in
+    let r = and_then_ok (byte_at bytes) (λ b. success (b, 0)) (imm, sel) rest e in
     let s = same_two r.0 0 imm sel r.1 rest r.3 in
     let lt : imm < 256 = subst (λ k. k < 256) s.0 (byte_below bytes r.0 r.1 r.2 h) in
     both_true (lt-ltb imm 256 lt) (subst (λ k. (k == 0) ≡ true) s.1 refl)
 immediate_read immediate.SignedByte bytes imm sel rest e h =
-    let r = and_then_ok (byte_at bytes) (λ b. done (extended b, 0)) (imm, sel) rest e in
+    let r = and_then_ok (byte_at bytes) (λ b. success (extended b, 0)) (imm, sel) rest e in
     let s = same_two (extended r.0) 0 imm sel r.1 rest r.3 in
     both_true (subst (λ k. is_signed_byte k ≡ true) s.0 (extended_signed r.0 (byte_below bytes r.0 r.1 r.2 h))) (subst (λ k. (k == 0) ≡ true) s.1 refl)
 immediate_read immediate.Word bytes imm sel rest e h =
-    let r = and_then_ok (word_at bytes) (λ n. done (n, 0)) (imm, sel) rest e in
+    let r = and_then_ok (word_at bytes) (λ n. success (n, 0)) (imm, sel) rest e in
     let s = same_two r.0 0 imm sel r.1 rest r.3 in
     let lt : imm < 65536 = subst (λ k. k < 65536) s.0 (word_below bytes r.0 r.1 r.2 h) in
     both_true (lt-ltb imm 65536 lt) (subst (λ k. (k == 0) ≡ true) s.1 refl)
 immediate_read immediate.Long bytes imm sel rest e h =
-    let r = and_then_ok (long_at bytes) (λ n. done (n, 0)) (imm, sel) rest e in
+    let r = and_then_ok (long_at bytes) (λ n. success (n, 0)) (imm, sel) rest e in
     let s = same_two r.0 0 imm sel r.1 rest r.3 in
     subst (λ k. (k == 0) ≡ true) s.1 refl
 immediate_read immediate.Far bytes imm sel rest e h = refl
@@ -120,12 +120,12 @@ sib_fits mode s false e h =
 base_read : (m : ℕ) (t : Bool) → (rm_of m == 4) ≡ t → (bytes : List ℕ) (b : Base) (rest : List ℕ) → base_at m bytes ≡ Ok (b, rest) → AreBytes bytes → base_fits b ≡ true
 unfolding base_at
 base_read m true t bytes b rest e h =
-    let r = and_then_ok (byte_at bytes) (λ s. done (sib_of (mod_of m) s)) b rest (ap (λ c. cond c (byte_at >>= λ s. done (sib_of (mod_of m) s)) (done (record { base = base_of (mod_of m) (rm_of m); index = None; scale = 1 })) bytes) (sym t) ∙ e) in
+    let r = and_then_ok (byte_at bytes) (λ s. success (sib_of (mod_of m) s)) b rest (ap (λ c. cond c (byte_at >>= λ s. success (sib_of (mod_of m) s)) (success (record { base = base_of (mod_of m) (rm_of m); index = None; scale = 1 })) bytes) (sym t) ∙ e) in
     let s = same_read (sib_of (mod_of m) r.0) b r.1 rest r.3 in
     subst (λ c. base_fits c ≡ true) s.0 (sib_fits (mod_of m) r.0 (r.0 / 8 % 8 == 4) refl (byte_below bytes r.0 r.1 r.2 h))
 base_read m false t bytes b rest e h =
     let plain : Base = record { base = base_of (mod_of m) (rm_of m); index = None; scale = 1 } in
-    let s = same_read plain b bytes rest (ap (λ c. cond c (byte_at >>= λ s. done (sib_of (mod_of m) s)) (done plain) bytes) (sym t) ∙ e) in
+    let s = same_read plain b bytes rest (ap (λ c. cond c (byte_at >>= λ s. success (sib_of (mod_of m) s)) (success plain) bytes) (sym t) ∙ e) in
     subst (λ c. base_fits c ≡ true) s.0 refl
 
 -- where the displacement has four bytes, so it has where it is to have four
@@ -138,9 +138,9 @@ same_pair m n k l e = (ap (λ (p : Operand × ℕ). p.0) e, ap (λ (p : Operand 
 memory_read : (p : RmForm) (m : ℕ) (bytes : List ℕ) (rm : Operand) (len : ℕ) (rest : List ℕ) → memory_at m bytes ≡ Ok ((rm, len), rest) → AreBytes bytes → has_place p 0 ≡ true → (rm_fits p rm ≡ true) × Wide rm len
 unfolding memory_at
 memory_read p m bytes rm len rest e h ok =
-    let r = and_then_ok (base_at m bytes) (λ b. disp_at (cond (is_none b.base) 2 (mod_of m)) >>= λ d. done (operand.Memory (record { base = b.base; index = b.index; scale = b.scale; disp = d.0 }), d.1)) (rm, len) rest e in
+    let r = and_then_ok (base_at m bytes) (λ b. disp_at (cond (is_none b.base) 2 (mod_of m)) >>= λ d. success (operand.Memory (record { base = b.base; index = b.index; scale = b.scale; disp = d.0 }), d.1)) (rm, len) rest e in
     let b = r.0 in
-    let q = and_then_ok (disp_at (cond (is_none b.base) 2 (mod_of m)) r.1) (λ d. done (operand.Memory (record { base = b.base; index = b.index; scale = b.scale; disp = d.0 }), d.1)) (rm, len) rest r.3 in
+    let q = and_then_ok (disp_at (cond (is_none b.base) 2 (mod_of m)) r.1) (λ d. success (operand.Memory (record { base = b.base; index = b.index; scale = b.scale; disp = d.0 }), d.1)) (rm, len) rest r.3 in
     let a : Address = record { base = b.base; index = b.index; scale = b.scale; disp = q.0.0 } in
     let s = same_pair (operand.Memory a) rm q.0.1 len (same_read (operand.Memory a, q.0.1) (rm, len) q.1 rest q.3).0 in
     (subst (λ o. rm_fits p o ≡ true) s.0 (both_true (base_read m (rm_of m == 4) refl bytes b r.1 r.2 h) ok), λ l. subst (λ o. disp_len_of true o ≡ 4) s.0 refl)
@@ -155,19 +155,19 @@ place_0 place.Register mode e h = absurd (false_true (mode == 3) e h) where
 rm_read : (p : RmForm) (m : ℕ) (t : Bool) → (mod_of m == 3) ≡ t → (bytes : List ℕ) (rm : Operand) (len : ℕ) (rest : List ℕ) → rm_at m bytes ≡ Ok ((rm, len), rest) → AreBytes bytes → has_place p (mod_of m) ≡ true → (rm_fits p rm ≡ true) × Wide rm len
 unfolding rm_at
 rm_read p m true t bytes rm len rest e h ok =
-    let s = same_read (operand.Register (rm_of m), 0) (rm, len) bytes rest (ap (λ c. cond c (done (operand.Register (rm_of m), 0)) (memory_at m) bytes) (sym t) ∙ e) in
+    let s = same_read (operand.Register (rm_of m), 0) (rm, len) bytes rest (ap (λ c. cond c (success (operand.Register (rm_of m), 0)) (memory_at m) bytes) (sym t) ∙ e) in
     let q = same_pair (operand.Register (rm_of m)) rm 0 len s.0 in
     let lt : rm_of m < 8 = omega arith in
     (subst (λ o. rm_fits p o ≡ true) q.0 (both_true (lt-ltb (rm_of m) 8 lt) (ap (has_place p) (sym (eqb-true (mod_of m) 3 t)) ∙ ok)), λ l. absurd (omega (arith, q.1, l)))
 rm_read p m false t bytes rm len rest e h ok =
-    memory_read p m bytes rm len rest (ap (λ c. cond c (done (operand.Register (rm_of m), 0)) (memory_at m) bytes) (sym t) ∙ e) h (place_0 p (mod_of m) t ok)
+    memory_read p m bytes rm len rest (ap (λ c. cond c (success (operand.Register (rm_of m), 0)) (memory_at m) bytes) (sym t) ∙ e) h (place_0 p (mod_of m) t ok)
 
 -- ---- what follows the opcode
 
 byte_passed : (test : ℕ → Bool) (bytes : List ℕ) (b : ℕ) (rest : List ℕ) → byte_where test bytes ≡ Ok (b, rest) → AreBytes bytes → (test b ≡ true) × AreBytes rest
 byte_passed test [] b rest e h = absurd cc
 byte_passed test (c ∷ bytes) b rest e h =
-    let s = passed (test c) c b bytes rest e in
+    let s = test_met (test c) c b bytes rest e in
     (ap test (sym s.1) ∙ s.0, subst AreBytes s.2 h.1)
 
 pub record LocatedFits (kind : Addressing) (l : Located) : Type 0 where
@@ -180,13 +180,13 @@ addressing_read addressing.Nothing bytes l rest e h =
     let s = same_read (record { reg = 0; rm = operand.Absent; disp_len = 0 }) l bytes rest e in
     subst (LocatedFits addressing.Nothing) s.0 (record { fits = refl; wide = λ k. absurd (omega (arith, k)) })
 addressing_read addressing.Offset bytes l rest e h =
-    let r = and_then_ok (long_at bytes) (λ d. done (record { reg = 0; rm = operand.Memory (record { base = None; index = None; scale = 1; disp = d }); disp_len = 4 })) l rest e in
+    let r = and_then_ok (long_at bytes) (λ d. success (record { reg = 0; rm = operand.Memory (record { base = None; index = None; scale = 1; disp = d }); disp_len = 4 })) l rest e in
     let s = same_read (record { reg = 0; rm = operand.Memory (record { base = None; index = None; scale = 1; disp = r.0 }); disp_len = 4 }) l r.1 rest r.3 in
     subst (LocatedFits addressing.Offset) s.0 (record { fits = refl; wide = λ k. refl })
 addressing_read (addressing.Modrm form) bytes l rest e h =
-    let r = and_then_ok (byte_where (has_modrm form) bytes) (λ m. rm_at m >>= λ rm. done (record { reg = reg_of m; rm = rm.0; disp_len = rm.1 })) l rest e in
+    let r = and_then_ok (byte_where (has_modrm form) bytes) (λ m. rm_at m >>= λ rm. success (record { reg = reg_of m; rm = rm.0; disp_len = rm.1 })) l rest e in
     let m = r.0 in
-    let q = and_then_ok (rm_at m r.1) (λ rm. done (record { reg = reg_of m; rm = rm.0; disp_len = rm.1 })) l rest r.3 in
+    let q = and_then_ok (rm_at m r.1) (λ rm. success (record { reg = reg_of m; rm = rm.0; disp_len = rm.1 })) l rest r.3 in
     let s = same_read (record { reg = reg_of m; rm = q.0.0; disp_len = q.0.1 }) l q.1 rest q.3 in
     let g = byte_passed (has_modrm form) bytes m r.1 r.2 h in
     let t = both (has_slash form.slash (reg_of m)) (has_place form.place (mod_of m)) g.0 in
@@ -202,14 +202,14 @@ pub record PartsFit (form : Form) (p : Parts) : Type 0 where
 coded_read : (form : Form) → addressing_works form.addressing ≡ true → (bytes : List ℕ) (p : Parts) (rest : List ℕ) → coded_at form bytes ≡ Ok (p, rest) → AreBytes bytes → PartsFit form p
 unfolding coded_at form_fits
 coded_read form works bytes p rest e h =
-    let r = and_then_ok (byte_where (has_code form) bytes) (λ code. addressing_at form.addressing >>= λ at. immediate_at form.immediate >>= λ imm. done (record { code = code; reg = at.reg; rm = at.rm; disp_len = at.disp_len; imm = imm.0; sel = imm.1 })) p rest e in
+    let r = and_then_ok (byte_where (has_code form) bytes) (λ code. addressing_at form.addressing >>= λ at. immediate_at form.immediate >>= λ imm. success (record { code = code; reg = at.reg; rm = at.rm; disp_len = at.disp_len; imm = imm.0; sel = imm.1 })) p rest e in
     let code = r.0 in
     let g = byte_passed (has_code form) bytes code r.1 r.2 h in
-    let q = and_then_ok (addressing_at form.addressing r.1) (λ at. immediate_at form.immediate >>= λ imm. done (record { code = code; reg = at.reg; rm = at.rm; disp_len = at.disp_len; imm = imm.0; sel = imm.1 })) p rest r.3 in
+    let q = and_then_ok (addressing_at form.addressing r.1) (λ at. immediate_at form.immediate >>= λ imm. success (record { code = code; reg = at.reg; rm = at.rm; disp_len = at.disp_len; imm = imm.0; sel = imm.1 })) p rest r.3 in
     let at = q.0 in
     let l = addressing_read form.addressing r.1 at q.1 q.2 g.1 in
     let left = rest_bytes _ (addressing_at form.addressing) (addressing_reads form.addressing works) r.1 at q.1 q.2 g.1 in
-    let i = and_then_ok (immediate_at form.immediate q.1) (λ imm. done (record { code = code; reg = at.reg; rm = at.rm; disp_len = at.disp_len; imm = imm.0; sel = imm.1 })) p rest q.3 in
+    let i = and_then_ok (immediate_at form.immediate q.1) (λ imm. success (record { code = code; reg = at.reg; rm = at.rm; disp_len = at.disp_len; imm = imm.0; sel = imm.1 })) p rest q.3 in
     let s = same_read (record { code = code; reg = at.reg; rm = at.rm; disp_len = at.disp_len; imm = i.0.0; sel = i.0.1 }) p i.1 rest i.3 in
     subst (PartsFit form) s.0 (record { fits = both_true (both_true g.0 l.fits) (immediate_read form.immediate q.1 i.0.0 i.0.1 i.1 i.2 left); wide = l.wide })
 

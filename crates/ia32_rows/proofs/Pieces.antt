@@ -6,12 +6,12 @@ use Rattle.std.proofs.lemmas.List.{append-nil}
 use Rattle.ia32_rows.specs.declared.row.Form.{Form}
 use Rattle.ia32_rows.specs.declared.row.Row.{Row}
 use Rattle.ia32_rows.specs.declared.row.Parts.{Parts}
-use Rattle.ia32_rows.specs.Reader.{Reader, and_then, ◌>>=◌, done, byte_where}
+use Rattle.ia32_rows.specs.Reader.{Reader, and_then, ◌>>=◌, success, byte_where}
 use Rattle.ia32_rows.specs.Fields.{addressing_at, immediate_at}
 use Rattle.ia32_rows.specs.Spelling.{has_code, lead_at, coded_at, parts_at}
 use Rattle.ia32_rows.specs.Pieces.{IsLaidOut}
 use Rattle.ia32_rows.specs.Rows.{rows}
-use Rattle.ia32_rows.proofs.Readers.{Takes, Reads, and_then_ok, passed, same_read}
+use Rattle.ia32_rows.proofs.Readers.{Takes, Reads, and_then_ok, test_met, same_read}
 use Rattle.ia32_rows.proofs.Fields.{addressing_works, addressing_reads, immediate_reads, lead_reads}
 use Rattle.ia32_rows.proofs.TableLaws.{row_works}
 
@@ -26,7 +26,7 @@ whole n p bytes x rest t = ap p (sym (append-nil t.front)) ∙ t.again []
 
 byte_is : (test : ℕ → Bool) (bytes : List ℕ) (b : ℕ) (rest : List ℕ) → byte_where test bytes ≡ Ok (b, rest) → (bytes ≡ b ∷ rest) × (test b ≡ true)
 byte_is test [] b rest e = absurd cc
-byte_is test (c ∷ bytes) b rest e = let s = passed (test c) c b bytes rest e in (cc (s.1, s.2), ap test (sym s.1) ∙ s.0)
+byte_is test (c ∷ bytes) b rest e = let s = test_met (test c) c b bytes rest e in (cc (s.1, s.2), ap test (sym s.1) ∙ s.0)
 
 module _ (form : Form) (works : addressing_works form.addressing ≡ true) (p : Parts) (bytes : List ℕ) where
   to_pieces : parts_at form bytes ≡ Ok (p, []) → IsLaidOut form p bytes
@@ -34,11 +34,11 @@ module _ (form : Form) (works : addressing_works form.addressing ≡ true) (p : 
   to_pieces e =
       let r = and_then_ok (lead_at form.lead bytes) (λ _. coded_at form) p [] e in
       let l = (lead_reads form.lead).takes bytes r.0 r.1 r.2 in
-      let q = and_then_ok (byte_where (has_code form) r.1) (λ code. addressing_at form.addressing >>= λ at. immediate_at form.immediate >>= λ imm. done (record { code = code; reg = at.reg; rm = at.rm; disp_len = at.disp_len; imm = imm.0; sel = imm.1 })) p [] r.3 in
+      let q = and_then_ok (byte_where (has_code form) r.1) (λ code. addressing_at form.addressing >>= λ at. immediate_at form.immediate >>= λ imm. success (record { code = code; reg = at.reg; rm = at.rm; disp_len = at.disp_len; imm = imm.0; sel = imm.1 })) p [] r.3 in
       let b = byte_is (has_code form) r.1 q.0 q.1 q.2 in
-      let s = and_then_ok (addressing_at form.addressing q.1) (λ at. immediate_at form.immediate >>= λ imm. done (record { code = q.0; reg = at.reg; rm = at.rm; disp_len = at.disp_len; imm = imm.0; sel = imm.1 })) p [] q.3 in
+      let s = and_then_ok (addressing_at form.addressing q.1) (λ at. immediate_at form.immediate >>= λ imm. success (record { code = q.0; reg = at.reg; rm = at.rm; disp_len = at.disp_len; imm = imm.0; sel = imm.1 })) p [] q.3 in
       let a = (addressing_reads form.addressing works).takes q.1 s.0 s.1 s.2 in
-      let t = and_then_ok (immediate_at form.immediate s.1) (λ imm. done (record { code = q.0; reg = s.0.reg; rm = s.0.rm; disp_len = s.0.disp_len; imm = imm.0; sel = imm.1 })) p [] s.3 in
+      let t = and_then_ok (immediate_at form.immediate s.1) (λ imm. success (record { code = q.0; reg = s.0.reg; rm = s.0.rm; disp_len = s.0.disp_len; imm = imm.0; sel = imm.1 })) p [] s.3 in
       let i = (immediate_reads form.immediate).takes s.1 t.0 t.1 t.2 in
       let u = same_read (record { code = q.0; reg = s.0.reg; rm = s.0.rm; disp_len = s.0.disp_len; imm = t.0.0; sel = t.0.1 }) p t.1 [] t.3 in
       let rest : s.1 ≡ i.front = i.parts ∙ ap (λ bs. i.front ++ bs) u.1 ∙ append-nil i.front in

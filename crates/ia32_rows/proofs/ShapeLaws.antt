@@ -16,7 +16,7 @@ use Rattle.ia32_rows.specs.declared.row.Operands.TheVariants as operands
 use Rattle.ia32_rows.specs.declared.row.Form.{Form}
 use Rattle.ia32_rows.specs.declared.row.Row.{Row}
 use Rattle.ia32_rows.specs.declared.row.Parts.{Parts}
-use Rattle.ia32_rows.specs.Reader.{◌>>=◌, done, byte_where, long_at}
+use Rattle.ia32_rows.specs.Reader.{◌>>=◌, success, byte_where, long_at}
 use Rattle.ia32_rows.specs.Fields.{mod_of, rm_of, has_modrm, base_at, disp_at, memory_at, rm_at, addressing_at, immediate_at}
 use Rattle.ia32_rows.specs.Spelling.{has_code, lead_at, coded_at, parts_at, operands_of, insn_of, in_order}
 use Rattle.ia32_rows.specs.Spells.{Spells}
@@ -29,9 +29,9 @@ below_8 m = omega arith
 abbrev memory_with : Base → ℕ × ℕ → Operand × ℕ
 memory_with place d = (operand.Memory (record { base = place.base; index = place.index; scale = place.scale; disp = d.0 }), d.1)
 
-memory_inner : (place : Base) (mode : ℕ) (bytes : List ℕ) (x : Operand × ℕ) (rest : List ℕ) → (disp_at mode >>= λ d. done (memory_with place d)) bytes ≡ Ok (x, rest) → IsNamed x.0
+memory_inner : (place : Base) (mode : ℕ) (bytes : List ℕ) (x : Operand × ℕ) (rest : List ℕ) → (disp_at mode >>= λ d. success (memory_with place d)) bytes ≡ Ok (x, rest) → IsNamed x.0
 memory_inner place mode bytes x rest e =
-    let b = and_then_ok {A = ℕ × ℕ} (disp_at mode bytes) (λ d. done (memory_with place d)) x rest e in
+    let b = and_then_ok {A = ℕ × ℕ} (disp_at mode bytes) (λ d. success (memory_with place d)) x rest e in
     let same : memory_with place b.0 ≡ x = (same_read (memory_with place b.0) x b.1 rest b.3).0 in
     let named : IsNamed (memory_with place b.0).0 = tt in
     subst (λ (y : Operand × ℕ). IsNamed y.0) same named
@@ -39,10 +39,10 @@ memory_inner place mode bytes x rest e =
 memory_named : (m : ℕ) (bytes : List ℕ) (x : Operand × ℕ) (rest : List ℕ) → memory_at m bytes ≡ Ok (x, rest) → IsNamed x.0
 unfolding memory_at
 memory_named m bytes x rest e =
-    let a = and_then_ok {A = Base} (base_at m bytes) (λ place. disp_at (cond (is_none place.base) 2 (mod_of m)) >>= λ d. done (memory_with place d)) x rest e in
+    let a = and_then_ok {A = Base} (base_at m bytes) (λ place. disp_at (cond (is_none place.base) 2 (mod_of m)) >>= λ d. success (memory_with place d)) x rest e in
     memory_inner a.0 (cond (is_none a.0.base) 2 (mod_of m)) a.1 x rest a.3
 
-rm_named_by : (b : Bool) (m : ℕ) (bytes : List ℕ) (x : Operand × ℕ) (rest : List ℕ) → cond b (done (operand.Register (rm_of m), 0)) (memory_at m) bytes ≡ Ok (x, rest) → IsNamed x.0
+rm_named_by : (b : Bool) (m : ℕ) (bytes : List ℕ) (x : Operand × ℕ) (rest : List ℕ) → cond b (success (operand.Register (rm_of m), 0)) (memory_at m) bytes ≡ Ok (x, rest) → IsNamed x.0
 rm_named_by true m bytes x rest e = subst (λ (y : Operand × ℕ). IsNamed y.0) (same_read _ x bytes rest e).0 (below_8 m)
 rm_named_by false m bytes x rest e = memory_named m bytes x rest e
 

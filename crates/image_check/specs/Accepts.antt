@@ -55,5 +55,5 @@ AreStarts text flags = (i : ℕ) → slice_index_or flags i false ≡ list_any (
 pub record IsChecked (image : Image) (flags : List Bool) : Type 0 where
   pub parts : ImageParts
   pub bytes : AreBytes parts.text
-  pub passed : image_from parts ≡ Ok image
+  pub accepted : image_from parts ≡ Ok image
   pub starts : AreStarts image.text flags

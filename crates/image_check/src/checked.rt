@@ -44,7 +44,7 @@ impl Checked {
 
     /// An image that has passed the tests.
     pub(crate) fn of(image: Image, sites: Sites, starts: Vec<bool>) -> Checked
-        requires passed { image_from image ≡ Ok (image_with image sites.list) }
+        requires accepted { image_from image ≡ Ok (image_with image sites.list) }
         requires format { sites.format ≡ told_format image.sites }
         requires starts { AreStarts image.text starts.items }
         requires bytes { AreBytes image.text }

@@ -22,10 +22,10 @@ is_found Beyond = false
 is_found Reserved = false
 
 -- a test that ends the walk was not met
-passed : (test : Bool) (a b : Walk) (e : Entry) (d t : ℕ) → is_found a ≡ false → cond test a b ≡ Found e d t → (test ≡ false) × (b ≡ Found e d t)
+second_found : (test : Bool) (a b : Walk) (e : Entry) (d t : ℕ) → is_found a ≡ false → cond test a b ≡ Found e d t → (test ≡ false) × (b ≡ Found e d t)
 unfolding is_found
-passed true a b e d t n h = absurd (let g : true ≡ false = sym (ap is_found h) ∙ n in cc)
-passed false a b e d t n h = (refl, h)
+second_found true a b e d t n h = absurd (let g : true ≡ false = sym (ap is_found h) ∙ n in cc)
+second_found false a b e d t n h = (refl, h)
 
 chosen : (test : Bool) (x y : Walk) → test ≡ true → cond test x y ≡ x
 chosen test x y e = ap (λ t. cond t x y) e
@@ -82,17 +82,17 @@ walk_parts : (ram : List ℕ) (frames cr3 : ℕ) (pse : Bool) (page : ℕ) (e : 
 unfolding fresh is_found
 walk_parts ram frames cr3 pse page e d t h =
     let dir = dir_in ram cr3 page in
-    let one = passed (nat_le frames (cr3 / 4096)) Beyond (by_dir ram frames cr3 pse page dir) e d t refl h in
-    let two = passed (not (has dir 1)) Absent (cond (is_large pse dir) (by_large frames cr3 page dir) (by_table ram frames cr3 page dir)) e d t refl one.1 in
+    let one = second_found (nat_le frames (cr3 / 4096)) Beyond (by_dir ram frames cr3 pse page dir) e d t refl h in
+    let two = second_found (not (has dir 1)) Absent (cond (is_large pse dir) (by_large frames cr3 page dir) (by_table ram frames cr3 page dir)) e d t refl one.1 in
     by_size (not_le frames (cr3 / 4096) one.0) (not_not (has dir 1) two.0) (is_large pse dir) refl two.1
   where
     of_table : cr3 / 4096 < frames → has (dir_in ram cr3 page) 1 ≡ true → is_large pse (dir_in ram cr3 page) ≡ false → by_table ram frames cr3 page (dir_in ram cr3 page) ≡ Found e d t → ByTable ram frames cr3 pse page e d t
     of_table root present small g =
         let dir = dir_in ram cr3 page in
         let word = word_in ram cr3 page in
-        let three = passed (nat_le frames (dir / 4096)) Beyond (by_word frames cr3 page dir word) e d t refl g in
-        let four = passed (not (has word 1)) Absent (cond (nat_le frames (word / 4096)) Beyond (Found (entry_of page dir word) (dir_place cr3 page) (word_place dir page))) e d t refl three.1 in
-        let five = passed (nat_le frames (word / 4096)) Beyond (Found (entry_of page dir word) (dir_place cr3 page) (word_place dir page)) e d t refl four.1 in
+        let three = second_found (nat_le frames (dir / 4096)) Beyond (by_word frames cr3 page dir word) e d t refl g in
+        let four = second_found (not (has word 1)) Absent (cond (nat_le frames (word / 4096)) Beyond (Found (entry_of page dir word) (dir_place cr3 page) (word_place dir page))) e d t refl three.1 in
+        let five = second_found (nat_le frames (word / 4096)) Beyond (Found (entry_of page dir word) (dir_place cr3 page) (word_place dir page)) e d t refl four.1 in
         let is = five.1 in
         record {
           root = root;
@@ -109,8 +109,8 @@ walk_parts ram frames cr3 pse page e d t h =
     of_directory : cr3 / 4096 < frames → has (dir_in ram cr3 page) 1 ≡ true → is_large pse (dir_in ram cr3 page) ≡ true → by_large frames cr3 page (dir_in ram cr3 page) ≡ Found e d t → ByDirectory ram frames cr3 pse page e d t
     of_directory root present large g =
         let dir = dir_in ram cr3 page in
-        let three = passed (has_reserved dir) Reserved (cond (nat_le frames (large_frame dir page)) Beyond (Found (large_entry page dir) (dir_place cr3 page) (dir_place cr3 page))) e d t refl g in
-        let four = passed (nat_le frames (large_frame dir page)) Beyond (Found (large_entry page dir) (dir_place cr3 page) (dir_place cr3 page)) e d t refl three.1 in
+        let three = second_found (has_reserved dir) Reserved (cond (nat_le frames (large_frame dir page)) Beyond (Found (large_entry page dir) (dir_place cr3 page) (dir_place cr3 page))) e d t refl g in
+        let four = second_found (nat_le frames (large_frame dir page)) Beyond (Found (large_entry page dir) (dir_place cr3 page) (dir_place cr3 page)) e d t refl three.1 in
         let is = four.1 in
         record {
           root = root;

@@ -132,10 +132,10 @@ fn follow<B: Kept>(
 {
     match effect {
         SysEffect::Next => ended(rules, completed, before, cpu),
-        SysEffect::Halted => done(completed, cpu, Dropped::Nothing),
-        SysEffect::DropPage(page) => done(completed, cpu, Dropped::Page(page)),
-        SysEffect::DropDir(index) => done(completed, cpu, Dropped::Dir(index)),
-        SysEffect::DropAll => done(completed, cpu, Dropped::All),
+        SysEffect::Halted => completes(completed, cpu, Dropped::Nothing),
+        SysEffect::DropPage(page) => completes(completed, cpu, Dropped::Page(page)),
+        SysEffect::DropDir(index) => completes(completed, cpu, Dropped::Dir(index)),
+        SysEffect::DropAll => completes(completed, cpu, Dropped::All),
         SysEffect::PortIn { port, wide } => read(cpu, board, completed, port, wide),
         SysEffect::PortOut { port, wide, value } => write(cpu, board, completed, port, wide, value),
         SysEffect::Raise { vector, code } => raise(rules, cpu, ram, kept, state, vector, code),
@@ -143,7 +143,7 @@ fn follow<B: Kept>(
     }
 }
 
-fn done(completed: Completed, cpu: Cpu, dropped: Dropped) -> Result<Worked, Stop>
+fn completes(completed: Completed, cpu: Cpu, dropped: Dropped) -> Result<Worked, Stop>
     ensures { result ≡ Ok (record { seen = Seen.Nothing; completed = Some completed; cpu = cpu; dropped = dropped }) }
 {
     Ok(Worked {

@@ -82,8 +82,8 @@ module _ (user : Bool) (s : Space) (page at : ℕ) (small : page < 2 ^ 20) where
     granted : grants e reading s.wp ≡ true
     free : is_stopped s.mode reading page e.frame d t ≡ false
 
-  passed : (e : Entry) (d t : ℕ) → IsPassed e d t → found_by s.mode page reading s.wp (Found e d t) ≡ Some (record { frame = e.frame; marks = d ∷ t ∷ [] })
-  passed e d t h =
+  found_where_allowed : (e : Entry) (d t : ℕ) → IsPassed e d t → found_by s.mode page reading s.wp (Found e d t) ≡ Some (record { frame = e.frame; marks = d ∷ t ∷ [] })
+  found_where_allowed e d t h =
       let x : Option Seen = Some (record { frame = e.frame; marks = d ∷ t ∷ [] }) in
       passed_by (not (grants e reading s.wp)) None (cond (is_stopped s.mode reading page e.frame d t) None x) (ap not h.granted)
       ∙ passed_by (is_stopped s.mode reading page e.frame d t) None x h.free
@@ -131,7 +131,7 @@ module _ (user : Bool) (s : Space) (page at : ℕ) (small : page < 2 ^ 20) where
           is =
               ap (λ (o : Option Entry). seen_by s.mode page o reading s.wp (fresh s.ram s.frames s.cr3 s.pse page)) none
               ∙ ap (found_by s.mode page reading s.wp) r.found
-              ∙ passed r.entry r.dir_at r.word_at (record { granted = r.granted; free = both_false (barred r.entry.frame) _ free clear });
+              ∙ found_where_allowed r.entry r.dir_at r.word_at (record { granted = r.granted; free = both_false (barred r.entry.frame) _ free clear });
           own = sym (own_marks s r.dir_at r.word_at) ∙ r.own;
           ram = refl;
           entry = entry;

@@ -19,7 +19,7 @@ use ia32_types::{Insn, Op};
 use paging::GuestMem;
 
 #[tactic(auto, unfolding(crate::specs::Sys::sys_work))]
-fn done<M: GuestMem>(insn: &Insn, len: u8, cpu: &Cpu, mem: &mut M) -> Result<SysOutcome, Refusal>
+fn dispatch<M: GuestMem>(insn: &Insn, len: u8, cpu: &Cpu, mem: &mut M) -> Result<SysOutcome, Refusal>
     requires { (M.space mem.old).pages ≤ 48 }
     ensures gives { Gives result (M.space mem.new) (sys_work insn.now len cpu.now (M.space mem.old)) }
     ensures pages { (M.space mem.new).pages ≤ (M.space mem.old).pages + 16 }
@@ -61,7 +61,7 @@ pub fn sys<M: GuestMem>(insn: &Insn, len: u8, cpu: &mut Cpu, mem: &mut M) -> Sys
     ensures pages { (M.space mem.new).pages ≤ (M.space mem.old).pages + 16 }
     ensures frame { M.frame mem.new ≡ M.frame mem.old }
 {
-    match done(insn, len, cpu, mem) {
+    match dispatch(insn, len, cpu, mem) {
         Ok(done) => {
             *cpu = done.cpu;
             done.effect

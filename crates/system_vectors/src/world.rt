@@ -261,7 +261,7 @@ const UNREAD: Own = Own {
     back_len: 0,
 };
 
-fn done(cpu: &mut Cpu, ram: &mut Ram, what: &What) -> Answer {
+fn performed(cpu: &mut Cpu, ram: &mut Ram, what: &What) -> Answer {
     let kept = Cached {
         cache: Buffer::new(),
     };
@@ -301,7 +301,7 @@ fn same(a: &Ram, b: &Ram) -> bool {
 pub fn run(alloc: Global, case: &Case) -> Result<Seen, AllocError> {
     let mut ram = memory(alloc, &case.before)?;
     let mut cpu = case.cpu;
-    let answer = done(&mut cpu, &mut ram, &case.what);
+    let answer = performed(&mut cpu, &mut ram, &case.what);
     if answer != case.answer {
         return Ok(Seen::Answer(answer));
     }

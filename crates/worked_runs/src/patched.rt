@@ -110,12 +110,12 @@ fn the_host_does_two_instructions_of_four(rt: HostRuntime) -> Result<(), Fail> {
         assert!(rt; [BOOTED, moved, both].contains(regs), "{regs:?}");
     }
     // Behind them stands the patched OUT.
-    assert_eq!(rt; host.left(), Exit::Entry(0x04F4_F500));
+    assert_eq!(rt; host.last_exit(), Exit::Entry(0x04F4_F500));
     Ok(())
 }
 
 // The bytes of the host's memory there, after a patched run of so many steps.
-fn left(alloc: Global, image: &Checked, n: u64, at: u32, len: u32) -> Result<Vec<u8>, Fail>
+fn memory_after(alloc: Global, image: &Checked, n: u64, at: u32, len: u32) -> Result<Vec<u8>, Fail>
     requires { n ≤ 2 ^ 40 }
 {
     let script = read_script(alloc, b"")?;
@@ -157,7 +157,7 @@ fn sites_are_patched_in_memory(rt: HostRuntime) -> Result<(), Fail> {
     for row in &PATCHED {
         let (source, patched) = *row;
         let image = image_of(alloc, source)?;
-        let bytes = left(alloc, &image, 0, 0x10_0000, 9)?;
+        let bytes = memory_after(alloc, &image, 0, 0x10_0000, 9)?;
         assert_eq!(rt; bytes.as_slice(), patched.as_slice());
     }
     Ok(())
@@ -167,7 +167,7 @@ fn sites_are_patched_in_memory(rt: HostRuntime) -> Result<(), Fail> {
 fn a_step_that_clashes_begins_with_no_translation(rt: HostRuntime) -> Result<(), Fail> {
     let alloc = rt.alloc();
     let image = image_of(alloc, COPIES_WITHIN_A_STALE_PAGE)?;
-    let word = left(alloc, &image, 9, 0x40_1004, 4)?;
+    let word = memory_after(alloc, &image, 9, 0x40_1004, 4)?;
     assert_eq!(rt; word.as_slice(), [2, 0, 0, 0].as_slice());
     Ok(())
 }

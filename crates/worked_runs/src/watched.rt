@@ -17,7 +17,7 @@ pub struct Watched {
     machine: Machine,
     begun: [Regs; 64],
     runs: usize,
-    left: Exit,
+    last_exit: Exit,
 }
 
 impl Watched {
@@ -33,7 +33,7 @@ impl Watched {
             machine: Machine::new(),
             begun: [none; 64],
             runs: 0,
-            left: Exit::Budget,
+            last_exit: Exit::Budget,
         }
     }
 
@@ -43,8 +43,8 @@ impl Watched {
     }
 
     /// How the last run ended.
-    pub fn left(&self) -> Exit {
-        self.left
+    pub fn last_exit(&self) -> Exit {
+        self.last_exit
     }
 }
 
@@ -92,7 +92,7 @@ impl Host for Watched {
             self.begun[self.runs] = *regs;
             self.runs += 1;
         }
-        self.left = self.machine.resume(view, regs, k);
-        self.left
+        self.last_exit = self.machine.resume(view, regs, k);
+        self.last_exit
     }
 }

@@ -28,16 +28,16 @@ pub returns-in-Next-clause-uses : goal.returns-in-Next-clause-uses
 returns-in-Next-clause-uses g c = λ s h. if_ok c.ended.result (rw c.in-Next.is at h)
 
 pub returns-in-Halted-clause-uses : goal.returns-in-Halted-clause-uses
-returns-in-Halted-clause-uses g c = λ s h. if_ok c.done.result (rw c.in-Halted.is at h)
+returns-in-Halted-clause-uses g c = λ s h. if_ok c.completes.result (rw c.in-Halted.is at h)
 
 pub returns-in-DropPage-clause-uses : goal.returns-in-DropPage-clause-uses
-returns-in-DropPage-clause-uses g c = λ s h. if_ok c.done-in-DropPage.result (rw c.in-DropPage.is at h)
+returns-in-DropPage-clause-uses g c = λ s h. if_ok c.completes-in-DropPage.result (rw c.in-DropPage.is at h)
 
 pub returns-in-DropDir-clause-uses : goal.returns-in-DropDir-clause-uses
-returns-in-DropDir-clause-uses g c = λ s h. if_ok c.done-in-DropDir.result (rw c.in-DropDir.is at h)
+returns-in-DropDir-clause-uses g c = λ s h. if_ok c.completes-in-DropDir.result (rw c.in-DropDir.is at h)
 
 pub returns-in-DropAll-clause-uses : goal.returns-in-DropAll-clause-uses
-returns-in-DropAll-clause-uses g c = λ s h. if_ok c.done-in-DropAll.result (rw c.in-DropAll.is at h)
+returns-in-DropAll-clause-uses g c = λ s h. if_ok c.completes-in-DropAll.result (rw c.in-DropAll.is at h)
 
 pub returns-in-PortIn-clause-uses : goal.returns-in-PortIn-clause-uses
 returns-in-PortIn-clause-uses g c = λ s h. if_ok c.read.result (rw c.in-PortIn.is at h)
@@ -71,16 +71,16 @@ returns-in-PortOut-clause-roots g c =
     (λ w k. ended_roots c.args.completed before c.args.cpu w (rw c.in-PortOut.is at c.requires.roots) k) c.write.ensures.ends
 
 pub returns-in-Halted-clause-roots : goal.returns-in-Halted-clause-roots
-returns-in-Halted-clause-roots g c = subst (λ (r : Result Worked Stop). IfOk r (RootsAs c.args.before.now)) (sym c.done.ensures) (rw c.in-Halted.is at c.requires.roots)
+returns-in-Halted-clause-roots g c = subst (λ (r : Result Worked Stop). IfOk r (RootsAs c.args.before.now)) (sym c.completes.ensures) (rw c.in-Halted.is at c.requires.roots)
 
 pub returns-in-DropPage-clause-roots : goal.returns-in-DropPage-clause-roots
-returns-in-DropPage-clause-roots g c = subst (λ (r : Result Worked Stop). IfOk r (RootsAs c.args.before.now)) (sym c.done-in-DropPage.ensures) (rw c.in-DropPage.is at c.requires.roots)
+returns-in-DropPage-clause-roots g c = subst (λ (r : Result Worked Stop). IfOk r (RootsAs c.args.before.now)) (sym c.completes-in-DropPage.ensures) (rw c.in-DropPage.is at c.requires.roots)
 
 pub returns-in-DropDir-clause-roots : goal.returns-in-DropDir-clause-roots
-returns-in-DropDir-clause-roots g c = subst (λ (r : Result Worked Stop). IfOk r (RootsAs c.args.before.now)) (sym c.done-in-DropDir.ensures) (rw c.in-DropDir.is at c.requires.roots)
+returns-in-DropDir-clause-roots g c = subst (λ (r : Result Worked Stop). IfOk r (RootsAs c.args.before.now)) (sym c.completes-in-DropDir.ensures) (rw c.in-DropDir.is at c.requires.roots)
 
 pub returns-in-DropAll-clause-roots : goal.returns-in-DropAll-clause-roots
-returns-in-DropAll-clause-roots g c = subst (λ (r : Result Worked Stop). IfOk r (RootsAs c.args.before.now)) (sym c.done-in-DropAll.ensures) (rw c.in-DropAll.is at c.requires.roots)
+returns-in-DropAll-clause-roots g c = subst (λ (r : Result Worked Stop). IfOk r (RootsAs c.args.before.now)) (sym c.completes-in-DropAll.ensures) (rw c.in-DropAll.is at c.requires.roots)
 
 pub returns-in-Raise-clause-roots : goal.returns-in-Raise-clause-roots
 returns-in-Raise-clause-roots g c =

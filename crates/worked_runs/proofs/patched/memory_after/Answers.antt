@@ -4,7 +4,7 @@ use Rattle.shadow_cache.specs.Views as roots
 use Rattle.machine_model.specs.State.{State}
 use Rattle.wedge_core.specs.Ready.{IsReady}
 use Rattle.wedge_core.specs.Standing.{IsHeld, ground}
-use Rattle.worked_runs.proofs.patched.left.Goals as goal
+use Rattle.worked_runs.proofs.patched.memory_after.Goals as goal
 
 pub slice-requires-clause-held : goal.slice-requires-clause-held
 slice-requires-clause-held c =
