@@ -17,8 +17,8 @@ pub record AreSet (f g : Flags) : Type 0 where
 
 -- both have the same IF, the same bits from IOPL on, and the same of those
 pub record AreKept (f g : Flags) : Type 0 where
-  pub interrupt : g.bits / 512 % 2 ≡ f.bits / 512 % 2
-  pub level : g.bits / 4096 ≡ f.bits / 4096
+  pub interrupt : g.bits / 0x200 % 2 ≡ f.bits / 0x200 % 2
+  pub level : g.bits / 0x1000 ≡ f.bits / 0x1000
   pub set : AreSet f g
 
 abbrev pub Leaves : Regs → Outcome → Type 0

@@ -37,7 +37,7 @@ pub record IsKnown (m : Setting) (steps : List Taken) (b : State) (noted : ℕ �
 
 -- the step left CR0.WP and CR4.PSE
 pub record RulesStay (t : Taken) : Type 0 where
-  pub wp : has t.after.cpu.cr0 65536 ≡ has t.before.cpu.cr0 65536
+  pub wp : has t.after.cpu.cr0 0x10000 ≡ has t.before.cpu.cr0 0x10000
   pub pse : pse_of t.after.cpu ≡ pse_of t.before.cpu
 
 -- no more is noted of the present tables, they are marked only where they were, and the same is kept for other values

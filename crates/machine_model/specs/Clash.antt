@@ -24,7 +24,7 @@ pub record Use : Type 0 where
   pub access : Access
 
 abbrev pub protects : State → Bool
-protects b = has b.cpu.cr0 65536
+protects b = has b.cpu.cr0 0x10000
 
 abbrev pub access_of : State → Bool → Access
 access_of b write = record { write = write; user = b.cpu.cpl == 3 }

@@ -17,10 +17,10 @@ use Rattle.paging.specs.Work.{Outcome}
 -- sets them and never clears them.
 pub record HasMoreFlags (old new : ℕ) : Type 0 where
   -- bits 0 to 4, and all from bit 7 on
-  pub low : new % 32 ≡ old % 32
-  pub high : new / 128 ≡ old / 128
-  pub accessed : has old 32 ≡ true → has new 32 ≡ true
-  pub dirty : has old 64 ≡ true → has new 64 ≡ true
+  pub low : new % 0x20 ≡ old % 0x20
+  pub high : new / 0x80 ≡ old / 0x80
+  pub accessed : has old 0x20 ≡ true → has new 0x20 ≡ true
+  pub dirty : has old 0x40 ≡ true → has new 0x40 ≡ true
 
 -- Memory behind accesses that wrote to these frames and, as walks do, set flags. Outside these frames each word has at
 -- most flags more.
@@ -36,7 +36,7 @@ pub record IsFoundBy (ram : List ℕ) (frames cr3 : ℕ) (pse : Bool) (tables : 
   pub word_at : ℕ
   pub dirty : Bool
   pub found : fresh ram frames cr3 pse page ≡ Found (record e { dirty = dirty }) dir_at word_at
-  pub accessed : (has (word32 ram dir_at) 32 ≡ true) × (has (word32 ram word_at) 32 ≡ true)
+  pub accessed : (has (word32 ram dir_at) 0x20 ≡ true) × (has (word32 ram word_at) 0x20 ≡ true)
   pub is_dirty : e.dirty ≡ true → dirty ≡ true
   pub words : (tables (dir_at / 4096) ≡ true) × (tables (word_at / 4096) ≡ true)
 

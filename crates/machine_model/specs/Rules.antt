@@ -21,7 +21,7 @@ stands_well m cpu = may_begin m.mode m.image cpu.regs.eip || not (cpu.cpl == 0)
 
 -- a user's code runs with IF 1 and IOPL 0
 abbrev pub is_open : Cpu → Bool
-is_open cpu = has cpu.regs.flags.bits 512 && cpu.regs.flags.bits / 4096 % 4 == 0
+is_open cpu = has cpu.regs.flags.bits 0x200 && cpu.regs.flags.bits / 0x1000 % 4 == 0
 
 -- what an instruction of this processor may leave: from level 0 to level 3 it leads with such flags alone
 abbrev pub may_leave : Mode → Cpu → Cpu → Bool

@@ -56,7 +56,7 @@ space_at_start mode frames cpu ram set =
       set = set;
       cr3 = cpu.cr3;
       pse = pse_of cpu;
-      wp = has cpu.cr0 65536;
+      wp = has cpu.cr0 0x10000;
       mode = mode;
       pages = 0;
       visited = [];
@@ -73,7 +73,7 @@ pub record IsCacheable (s : Setting) (b : State) (page : ℕ) (e : Entry) : Type
   pub word_at : ℕ
   pub dirty : Bool
   pub found : fresh b.ram s.frames b.cpu.cr3 (pse_of b.cpu) page ≡ Found (record e { dirty = dirty }) dir_at word_at
-  pub accessed : (has (word32 b.ram dir_at) 32 ≡ true) × (has (word32 b.ram word_at) 32 ≡ true)
+  pub accessed : (has (word32 b.ram dir_at) 0x20 ≡ true) × (has (word32 b.ram word_at) 0x20 ≡ true)
   pub is_dirty : e.dirty ≡ true → dirty ≡ true
 
 -- before a step any translation may be dropped, and any that a walk could use without setting a flag may be added

@@ -187,7 +187,7 @@ worked m b s = if b.cpu.halted then went [] None b b.cpu b.board s else begins_n
 
 -- the interrupt that the processor takes: one is pending, IF is 1 and deliveries are not held off
 abbrev pub interrupt_of : Cpu → Board → Option ℕ
-interrupt_of cpu board = if has cpu.regs.flags.bits 512 && not cpu.held then vector board else None
+interrupt_of cpu board = if has cpu.regs.flags.bits 0x200 && not cpu.held then vector board else None
 
 -- an external interrupt is acknowledged and delivered, which is the processor's whole work
 unfoldable pub interrupted : Setting → State → ℕ → Space → Result

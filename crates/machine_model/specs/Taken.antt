@@ -44,4 +44,4 @@ loads_root t = is_load t.report.completed
 
 -- the step changed CR0.WP
 abbrev pub changes_protection : Taken → Bool
-changes_protection t = if has t.before.cpu.cr0 65536 then not (has t.after.cpu.cr0 65536) else has t.after.cpu.cr0 65536
+changes_protection t = if has t.before.cpu.cr0 0x10000 then not (has t.after.cpu.cr0 0x10000) else has t.after.cpu.cr0 0x10000

@@ -56,7 +56,7 @@ pub record Follows (m : Setting) (v : View) (b : State) (memory : List ℕ) (reg
   pub board : after.board ≡ board_step b.board
   pub count : after.step ≡ b.step + 1
   pub stands : Mirrors m after_memory v after
-  pub interrupts : has regs.flags.bits 512 ≡ has b.cpu.regs.flags.bits 512
+  pub interrupts : has regs.flags.bits 0x200 ≡ has b.cpu.regs.flags.bits 0x200
   pub size : length after_memory ≡ length memory
   pub behind : drop (4096 * m.frames) after_memory ≡ drop (4096 * m.frames) memory
   pub untouched : (at : ℕ) → IsUnlent memory v.root at → frame after_memory at ≡ frame memory at
@@ -64,7 +64,7 @@ pub record Follows (m : Setting) (v : View) (b : State) (memory : List ℕ) (reg
   pub leads : v.kernel ≡ true → IsEntrance m.image regs.eip
 
 abbrev pub wp_of : State → Bool
-wp_of b = has b.cpu.cr0 65536
+wp_of b = has b.cpu.cr0 0x10000
 
 abbrev pub Forward : Type 0
 Forward =

@@ -25,7 +25,7 @@ use Rattle.machine_model.specs.Clash.{Use, protects, access_of, fetch_uses, rang
 -- memory with the accessed flag set in these bytes
 abbrev pub marked : List ℕ → List ℕ → List ℕ
 marked ram [] = ram
-marked ram (at ∷ marks) = marked (with_byte ram at (bit_or (byte ram at) 32)) marks
+marked ram (at ∷ marks) = marked (with_byte ram at (bit_or (byte ram at) 0x20)) marks
 
 -- where a fetch finds a page, and the bytes that its walk marks
 pub record Seen : Type 0 where
@@ -58,7 +58,7 @@ is_front b x at = nat_le (4096 * x.frame + b.cpu.regs.eip % 4096) at && nat_lt a
 
 -- one of these bytes is among them, and its accessed flag is clear
 abbrev pub marks_front : State → Seen → List ℕ → Bool
-marks_front b x marks = list_any (λ at. is_front b x at && not (has (byte (marked b.ram x.marks) at) 32)) marks
+marks_front b x marks = list_any (λ at. is_front b x at && not (has (byte (marked b.ram x.marks) at) 0x20)) marks
 
 abbrev pub seen_behind : State → Seen → Option Seen → Option Seen
 seen_behind b x None = None
@@ -115,4 +115,4 @@ LooksAgree =
 abbrev pub MarksAreRead : Type 0
 MarksAreRead =
     (ram marks : List ℕ) (k : ℕ) → AreBytes ram → All (λ at. at < length ram) marks
-    → byte (marked ram marks) k ≡ (if list_any (λ at. at == k) marks then bit_or (byte ram k) 32 else byte ram k)
+    → byte (marked ram marks) k ≡ (if list_any (λ at. at == k) marks then bit_or (byte ram k) 0x20 else byte ram k)

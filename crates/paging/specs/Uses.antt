@@ -26,11 +26,11 @@ is_own Bare at = false
 is_own (Wedge text count own) at =
     (nat_le own.front at && nat_lt at (own.front + own.front_len)) || (nat_le own.back at && nat_lt at (own.back + own.back_len))
 
--- the page of the text window to which the loader gave this frame: the window begins at page 65,536
+-- the page of the text window to which the loader gave this frame: the window begins at page 0x10000
 abbrev pub is_given : Mode → ℕ → ℕ → Bool
 is_given Bare page frame = true
 is_given (Wedge text count own) page frame =
-    nat_le 65536 page && nat_lt page (65536 + count) && frame == text + (page - 65536)
+    nat_le 0x10000 page && nat_lt page (0x10000 + count) && frame == text + (page - 0x10000)
 
 -- What a page may not be translated to: for data, and for code at level 3, a frame that holds text; for code at
 -- level 0 another frame than the loader gave.
@@ -70,8 +70,8 @@ walks_text s page =
 -- a walk turns a clear flag on in a byte of the instruction
 unfoldable pub marks_own : Tables → ℕ → ℕ → Bool → Bool
 marks_own s dir_at word_at write =
-    (is_own s.mode dir_at && not (has (byte s.ram dir_at) 32))
-    || (is_own s.mode word_at && (not (has (byte s.ram word_at) 32) || (write && not (has (byte s.ram word_at) 64))))
+    (is_own s.mode dir_at && not (has (byte s.ram dir_at) 0x20))
+    || (is_own s.mode word_at && (not (has (byte s.ram word_at) 0x20) || (write && not (has (byte s.ram word_at) 0x40))))
 
 -- the code of a page fault
 abbrev pub fault_code : Bool → Access → ℕ

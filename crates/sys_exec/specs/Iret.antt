@@ -28,14 +28,14 @@ popped cpu = do
   eip ← reads (top_of cpu) Long
   sel ← reads (top_of cpu + 4) Long
   flags ← reads (top_of cpu + 8) Long
-  gives (record { eip = eip; sel = sel % 65536; flags = flags })
+  gives (record { eip = eip; sel = sel % 0x10000; flags = flags })
 
 unfoldable pub popped_outer : Cpu → Work Refusal Outer
 popped_outer cpu = do
   _ ← reaching ((top_of cpu + 12) % 2 ^ 32) 8 (by_level cpu false)
   top ← reads ((top_of cpu + 12) % 2 ^ 32) Long
   sel ← reads ((top_of cpu + 12) % 2 ^ 32 + 4) Long
-  gives (record { top = top; sel = sel % 65536 })
+  gives (record { top = top; sel = sel % 0x10000 })
 
 -- an image that sets none of the flags that aren't kept
 abbrev pub keeps_flags : ℕ → Bool
@@ -43,7 +43,7 @@ keeps_flags image = not (is_foreign image)
 
 -- the level is within IOPL
 abbrev pub is_within : Cpu → Bool
-is_within cpu = nat_le cpu.cpl (cpu.regs.flags.bits / 4096 % 4)
+is_within cpu = nat_le cpu.cpl (cpu.regs.flags.bits / 0x1000 % 4)
 
 -- IF is popped where the level is within IOPL
 abbrev pub with_interrupt : Cpu → Flags → ℕ → Flags

@@ -49,7 +49,7 @@ operand_reached cpu a len write = do
 
 -- a selector from a register or from two bytes of memory
 unfoldable pub selector : Cpu → Operand → Work Refusal ℕ
-selector cpu (operands.Register k) = gives (reg_at cpu k % 65536)
+selector cpu (operands.Register k) = gives (reg_at cpu k % 0x10000)
 selector cpu (operands.Memory a) = do
   _ ← operand_reached cpu a 2 false
   reads (address_of a cpu.regs) sizes.Word

@@ -40,7 +40,7 @@ abbrev pub AreOpen : Image → Bool → (ℕ → Option Slot) → Type 0
 AreOpen image wp slots = (page : ℕ) → page < 2 ^ 20 → ForSome (slots page) (IsOpenSlot image wp)
 
 abbrev pub wp_of : Cpu → Bool
-wp_of cpu = has cpu.cr0 65536
+wp_of cpu = has cpu.cr0 0x10000
 
 -- a setting in which no event comes; what a guest stands for doesn't depend on events
 abbrev pub ground : Image → ℕ → Setting

@@ -53,13 +53,13 @@ by_word-bits n c page w v write w4 w2 v4 v1 both =
     let x : ℕ = dir_place c page in let y : ℕ = word_place w page in let f : ℕ = v / 4096 in
     let h : Bool = eqb (v / 2 % 2) 1 in let r : Bool = eqb (v % 2) 1 in let b : Bool = leb n f in
     let walk : Bool → Bool → Bool → Bool → Option ℕ = λ a4 a2 c4 c1.
-    reached_by write (cond (not c1) Absent (cond b Beyond (Found (record { page = page; frame = f; user = a4 && c4; write = a2 && h; dirty = has v 64 }) x y)))
+    reached_by write (cond (not c1) Absent (cond b Beyond (Found (record { page = page; frame = f; user = a4 && c4; write = a2 && h; dirty = has v 0x40 }) x y)))
     in
     ap (λ a. walk a (has w 2) (has v 4) (has v 1)) w4
     ∙ ap (λ a. walk true a (has v 4) (has v 1)) w2
     ∙ ap (λ a. walk true true a (has v 1)) v4
     ∙ ap (walk true true true) v1
-    ∙ rights f page x y r h b (has v 64) write both
+    ∙ rights f page x y r h b (has v 0x40) write both
 
 -- a word of a page under a directory word with all rights
 by_word-is : (n c page w v : ℕ) (write : Bool) → w % 4096 ≡ 7 → (v ≢ 0 → IsMarked v) → reached_by write (by_word n c page w v) ≡ lent_word n v write
