@@ -95,7 +95,7 @@ abbrev pub either : Option Range → Option Range → Option Range
 either (Some x) y = Some x
 either None y = y
 
--- a source is read and a destination written; a destination that is read too counts as written
+-- a source is read and a destination written; a destination that is read too counts as written (profile)
 abbrev pub source_and_target : Insn → Regs → Ranges
 source_and_target i r = record { read = operand_range i.b i.size r; write = operand_range i.a i.size r }
 

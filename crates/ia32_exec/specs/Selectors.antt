@@ -1,4 +1,5 @@
--- Segment registers read and pushed.
+-- Segment registers read and pushed. Intel SDM volume 2, MOV and PUSH. The upper half of a register, and of what is
+-- pushed, becomes 0 (profile: the SDM leaves the choice to the processor).
 use Rattle.std.specs.Prelude.{ℕ}
 use Rattle.ia32_types.specs.declared.size.Size.TheVariants.{Word}
 use Rattle.ia32_types.specs.declared.register.Seg.{Seg}

@@ -1,4 +1,4 @@
--- RET, and jumps and calls through an operand.
+-- RET, and jumps and calls through an operand. Intel SDM volume 2, RET, JMP and CALL.
 use Rattle.std.specs.Prelude.{ℕ, ◌+◌, if◌then◌else◌}
 use Rattle.ia32_types.specs.declared.size.Size.TheVariants.{Long}
 use Rattle.ia32_types.specs.declared.flags.Regs.{Regs}

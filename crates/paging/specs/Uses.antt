@@ -37,7 +37,7 @@ is_given (Wedge text count own) page frame =
 abbrev pub is_barred : Mode → (fetch user : Bool) → ℕ → ℕ → Bool
 is_barred mode fetch user page frame = if fetch && not user then not (is_given mode page frame) else is_text mode frame
 
--- why a supervisor access may not begin there
+-- why a supervisor access may not begin there: the text window, the monitor's window, and the low addresses (profile)
 abbrev pub window_stop : Mode → Access → ℕ → Option reason.Stop
 window_stop Bare access at = None
 window_stop (Wedge text count own) access at =

@@ -1,4 +1,4 @@
--- MOV to and from the control registers.
+-- MOV to and from the control registers. Intel SDM volume 3, control registers; which bits are admitted is the profile.
 use Rattle.std.specs.Prelude.{ℕ, ◌/◌, ◌%◌, Bool, ◌==◌, ◌&&◌, ◌||◌, not, if◌then◌else◌, bit_and, bit_or}
 use Rattle.ia32_types.specs.declared.insn.Operand.{Operand}
 use Rattle.ia32_types.specs.declared.insn.Operand.TheVariants.{Register, Control}

@@ -1,4 +1,4 @@
--- The interrupt flag, the flags on the stack, and HLT.
+-- The interrupt flag, the flags on the stack, and HLT. Intel SDM volume 2, CLI, STI, PUSHF, POPF and HLT.
 use Rattle.std.specs.Prelude.{ℕ, true, false, ◌||◌, not}
 use Rattle.ia32_types.specs.declared.flags.Flags.{Flags}
 use Rattle.ia32_types.specs.declared.stop.Stop.TheVariants as stops

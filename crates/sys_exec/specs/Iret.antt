@@ -1,4 +1,5 @@
--- IRET, in its order: what is popped, the code segment, an outer stack, the image of the flags, accessed flags.
+-- IRET, in its order: what is popped, the code segment, an outer stack, the image of the flags, accessed flags. Intel SDM
+-- volume 2, IRET; the order is the profile.
 use Rattle.std.specs.Prelude.{ℕ, ◌+◌, ◌/◌, ◌%◌, ◌^◌, Bool, true, false, ◌==◌, nat_lt, nat_le, if◌then◌else◌, slice_index, slice_set, List, not}
 use Rattle.ia32_types.specs.declared.size.Size.TheVariants.{Long}
 use Rattle.ia32_types.specs.declared.flags.Flags.{Flags}
