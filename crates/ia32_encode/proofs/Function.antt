@@ -201,7 +201,7 @@ false_not : (b : Bool) → (b ≡ true → ⊥) → b ≡ false
 false_not true h = absurd (h refl)
 false_not false h = refl
 
-fails : (row : Row) (wide : Wide) (insn : Insn) → (Suits row wide insn → ⊥) → does_suit row wide insn ≡ false
+pub fails : (row : Row) (wide : Wide) (insn : Insn) → (Suits row wide insn → ⊥) → does_suit row wide insn ≡ false
 fails row wide insn h = false_not (does_suit row wide insn) (λ t. h (true_suits row wide insn t))
 
 from_first : (table : List Row) (wide : Wide) (insn : Insn) (i : ℕ) (d : Row) → i < length table → Suits (get_or table i d) wide insn

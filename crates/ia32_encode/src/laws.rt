@@ -1,8 +1,11 @@
-ghost use Rattle.std.specs.Prelude.{◌≡◌, ◌+◌, ◌*◌, ◌<◌, ◌∷◌, [], ℕ, Bool, true, Some, None};
+ghost use Rattle.std.specs.Prelude.{◌≡◌, ◌+◌, ◌*◌, ◌%◌, ◌<◌, ◌∷◌, [], ℕ, Bool, true, Some, None};
 ghost use Rattle.ia32_types.specs.declared.insn.Op.TheVariants.{Return, Push, Pop, Mov, Jmp, Call, Jcc};
-ghost use Rattle.ia32_types.specs.declared.insn.Operand.TheVariants.{Absent, Register};
-ghost use Rattle.ia32_encode.specs.Short.{with_operand, by_distance, arithmetic, with_number, with_registers, plain, with_wide, bare, Begins};
+ghost use Rattle.ia32_types.specs.declared.insn.Operand.TheVariants.{Absent, Register, Memory};
+ghost use Rattle.ia32_types.specs.declared.insn.Address.{Address};
+ghost use Rattle.ia32_types.specs.declared.size.Size.TheVariants.{Byte, Word, Long};
+ghost use Rattle.ia32_encode.specs.Short.{with_operand, by_distance, arithmetic, with_number, with_registers, plain, with_wide, with_displacement, bare, Begins, IsSpelledByDigit};
 ghost use Rattle.ia32_encode.specs.Text.{is_signed_byte};
+ghost use Rattle.ia32_encode.specs.Parts.{address_fits};
 ghost use Rattle.ia32_types.specs.declared.insn.Insn.{Insn};
 ghost use Rattle.ia32_encode.specs.declared.bytes.ArrayBytes.{ArrayBytes};
 ghost use Rattle.ia32_encode.specs.declared.choose.Wide.{Wide};
@@ -31,15 +34,27 @@ pub fn branches_are_long()
     ensures jcc { (w : Bool) (condition distance : ℕ) → condition < 16 → Begins (0x0f ∷ (0x80 + condition) ∷ []) 6 (chosen (with_wide w) (by_distance Jcc condition distance)) }
 {}
 
-/// ADD, OR, ADC, SBB, AND, SUB, XOR and CMP of a register and a number that fits a signed byte take 83.
-#[tactic(auto, using(crate::proofs::ShortForms::short_number))]
+/// ADD, OR, ADC, SBB, AND, SUB, XOR and CMP of a register, or of what an address names, and a number that
+/// fits a signed byte take `83 /digit ib`: the number in one byte, whether or not the displacement names a
+/// symbol.
+#[tactic(auto, using(crate::proofs::SecondOperand::short_number, crate::proofs::SecondOperand::short_number_at))]
 pub fn numbers_are_short()
-    ensures { (k n imm : ℕ) → k < 8 → n < 8 → is_signed_byte imm ≡ true → Begins (0x83 ∷ []) 3 (chosen plain (with_number (arithmetic k) n imm)) }
+    ensures register { (k n imm : ℕ) → k < 8 → n < 8 → is_signed_byte imm ≡ true → Begins (0x83 ∷ (0xc0 + 8 * k + n) ∷ (imm % 256) ∷ []) 3 (chosen plain (with_number (arithmetic k) (Register n) imm)) }
+    ensures memory { (w : Bool) (k imm : ℕ) (a : Address) → k < 8 → address_fits a ≡ true → is_signed_byte imm ≡ true → IsSpelledByDigit 0x83 k imm (chosen (with_displacement w) (with_number (arithmetic k) (Memory a) imm)) }
 {}
 
 /// Between two registers the r/m field names the destination.
-#[tactic(auto, using(crate::proofs::ShortForms::rm_is_destination, crate::proofs::ShortForms::moved_to_rm))]
+#[tactic(auto, using(crate::proofs::SecondOperand::rm_is_destination, crate::proofs::SecondOperand::rm_is_byte_destination, crate::proofs::SecondOperand::moved_to_rm, crate::proofs::SecondOperand::moved_bytes_to_rm, crate::proofs::SecondOperand::moved_words_to_rm))]
 pub fn destinations_are_in_rm()
-    ensures arithmetic { (k m n : ℕ) → k < 8 → m < 8 → n < 8 → Begins ((8 * k + 1) ∷ (0xc0 + 8 * n + m) ∷ []) 2 (chosen plain (with_registers (arithmetic k) m n)) }
-    ensures moved { (m n : ℕ) → m < 8 → n < 8 → Begins (0x89 ∷ (0xc0 + 8 * n + m) ∷ []) 2 (chosen plain (with_registers Mov m n)) }
+    ensures arithmetic { (k m n : ℕ) → k < 8 → m < 8 → n < 8 → Begins ((8 * k + 1) ∷ (0xc0 + 8 * n + m) ∷ []) 2 (chosen plain (with_registers (arithmetic k) Long m n)) }
+    ensures arithmetic_bytes { (k m n : ℕ) → k < 8 → m < 8 → n < 8 → Begins ((8 * k) ∷ (0xc0 + 8 * n + m) ∷ []) 2 (chosen plain (with_registers (arithmetic k) Byte m n)) }
+    ensures moved { (m n : ℕ) → m < 8 → n < 8 → Begins (0x89 ∷ (0xc0 + 8 * n + m) ∷ []) 2 (chosen plain (with_registers Mov Long m n)) }
+    ensures moved_bytes { (m n : ℕ) → m < 8 → n < 8 → Begins (0x88 ∷ (0xc0 + 8 * n + m) ∷ []) 2 (chosen plain (with_registers Mov Byte m n)) }
+    ensures moved_words { (m n : ℕ) → m < 8 → n < 8 → Begins (0x66 ∷ 0x89 ∷ (0xc0 + 8 * n + m) ∷ []) 3 (chosen plain (with_registers Mov Word m n)) }
+{}
+
+/// ADD, OR, ADC, SBB, AND, SUB, XOR and CMP have no form of 16 bits (profile).
+#[tactic(auto, using(crate::proofs::SecondOperand::no_words))]
+pub fn arithmetic_has_no_words()
+    ensures { (wide : Wide) (k : ℕ) (insn : Insn) → insn.op ≡ arithmetic k → insn.size ≡ Word → chosen wide insn ≡ None }
 {}

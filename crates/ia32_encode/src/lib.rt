@@ -10,5 +10,6 @@ mod text;
 pub use bytes::ArrayBytes;
 pub use choose::{NoForm, Wide, encode};
 pub use laws::{
-    branches_are_long, choices, destinations_are_in_rm, numbers_are_short, short_forms,
+    arithmetic_has_no_words, branches_are_long, choices, destinations_are_in_rm, numbers_are_short,
+    short_forms,
 };

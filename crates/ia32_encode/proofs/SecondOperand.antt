@@ -1,0 +1,372 @@
+-- A number or a register as the second operand, by the table: the first row that can spell it.
+use Rattle.std.proofs.Common.{◌≡◌, ℕ, zero, suc, ◌+◌, ◌*◌, ◌%◌, ◌<◌, Bool, true, false, List, [], ◌∷◌, ◌++◌, Some, None, length, replicate, take, drop, refl, sym, ap, subst, ◌∙◌, arith}
+use Rattle.std.specs.Prelude.{◌-◌, ◌==◌, ◌&&◌, ◌||◌, not, nat_le}
+use Rattle.std.specs.List.{list_all}
+use Rattle.std.specs.Cmp.Derive.{both_true}
+use Rattle.std.proofs.lemmas.Bool.{eq-eqb, lt-ltb}
+use Rattle.std.proofs.lemmas.Bool.Decides.{nat_tests}
+use Rattle.std.proofs.lemmas.List.{append-nil, take_at}
+use denote.Enum.Bare.{true_same}
+use Rattle.ia32_types.specs.contracts.insn.Op.{the_type}
+use Rattle.ia32_types.specs.declared.insn.Address.{Address}
+use Rattle.ia32_types.specs.declared.insn.Insn.{Insn}
+use Rattle.ia32_types.specs.declared.insn.Op.{Op}
+use Rattle.ia32_types.specs.declared.insn.Op.TheVariants.{Mov}
+use Rattle.ia32_types.specs.declared.insn.Operand.{Operand}
+use Rattle.ia32_types.specs.declared.insn.Operand.TheVariants.{Register, Memory}
+use Rattle.ia32_types.specs.declared.size.Size.{Size}
+use Rattle.ia32_types.specs.declared.size.Size.TheVariants.{Byte, Word, Long}
+use Rattle.ia32_types.specs.Size.{width}
+use Rattle.ia32_rows.specs.declared.row.Row.{Row}
+use Rattle.ia32_rows.specs.declared.row.Parts.{Parts}
+use Rattle.ia32_rows.specs.declared.row.Lead.{Lead}
+use Rattle.ia32_rows.specs.declared.row.Lead.TheVariants as lead
+use Rattle.ia32_rows.specs.declared.row.Plus.TheVariants as plus
+use Rattle.ia32_rows.specs.declared.row.RmForm.TheVariants as place
+use Rattle.ia32_rows.specs.declared.row.Addressing.{Addressing}
+use Rattle.ia32_rows.specs.declared.row.Addressing.TheVariants as addressing
+use Rattle.ia32_rows.specs.declared.row.Immediate.TheVariants as immediate
+use Rattle.ia32_rows.specs.declared.row.Operands.{Operands}
+use Rattle.ia32_rows.specs.declared.row.Operands.TheVariants as operands
+use Rattle.ia32_rows.specs.Fields.{reg_of}
+use Rattle.ia32_rows.specs.Rows.{rows, row, digit, slash_r}
+use Rattle.ia32_rows.specs.Spelling.{has_code, operands_of, repeats, insn_of}
+use Rattle.ia32_rows.proofs.Fields.{both}
+use Rattle.ia32_encode.specs.declared.choose.Wide.{Wide}
+use Rattle.ia32_encode.specs.Same.{same_op, same_size}
+use Rattle.ia32_encode.specs.Chosen.{Suits, chosen, chosen_from}
+use Rattle.ia32_encode.specs.Parts.{rm_from, parts_for, form_fits, address_fits, rm_fits, is_offset, addressing_fits, immediate_fits}
+use Rattle.ia32_encode.specs.Pushed.{laid_out}
+use Rattle.ia32_encode.specs.Text.{is_signed_byte, index_number, base_number, disp_len_of, memory_len, mode_for, scale_bits, disp_bytes, modrm, has_sib, memory_bytes}
+use Rattle.ia32_encode.specs.Short.{arithmetic, with_number, with_registers, plain, with_displacement, Begins, IsSpelledByDigit}
+use Rattle.ia32_encode.proofs.Function.{suits_true, fails}
+use Rattle.ia32_encode.proofs.Back.{base_below}
+use Rattle.ia32_encode.proofs.ShortForms.{itself}
+
+-- ---- rows that can't suit are passed by
+
+-- a test that each row which suits the instruction passes
+abbrev Needs : (Row → Bool) → Wide → Insn → Type 0
+Needs can w i = (r : Row) → Suits r w i → can r ≡ true
+
+abbrev none_can : (Row → Bool) → List Row → Bool
+none_can can = list_all (λ r. not (can r))
+
+cannot : (b : Bool) → not b ≡ true → b ≡ true → ⊥
+cannot true h e = cc
+cannot false h e = cc
+
+passed_by : (can : Row → Bool) (w : Wide) (i : Insn) → Needs can w i → (before after : List Row) → none_can can before ≡ true → chosen_from (before ++ after) w i ≡ chosen_from after w i
+unfolding chosen_from
+passed_by can w i needs [] after h = refl
+passed_by can w i needs (r ∷ before) after h =
+    let e = both (not (can r)) (none_can can before) h in
+    rw (fails r w i (λ s. cannot (can r) e.0 (needs r s))) (passed_by can w i needs before after e.1)
+
+suited_first : (r : Row) (after : List Row) (w : Wide) (i : Insn) → Suits r w i → chosen_from (r ∷ after) w i ≡ Some (laid_out r.form (parts_for r w.disp i))
+unfolding chosen_from
+suited_first r after w i s = rw (suits_true r w i s) refl
+
+-- what is chosen is by the first row that can suit, if it does
+first_of : (can : Row → Bool) (w : Wide) (i : Insn) → Needs can w i → (before after : List Row) (r : Row) → rows ≡ before ++ r ∷ after → none_can can before ≡ true → Suits r w i
+    → chosen w i ≡ Some (laid_out r.form (parts_for r w.disp i))
+unfolding chosen
+first_of can w i needs before after r e h s = ap (λ (t : List Row). chosen_from t w i) e ∙ passed_by can w i needs before (r ∷ after) h ∙ suited_first r after w i s
+
+none_from : (w : Wide) (i : Insn) → chosen_from [] w i ≡ None
+unfolding chosen_from
+none_from w i = refl
+
+none_of : (can : Row → Bool) (w : Wide) (i : Insn) → Needs can w i → none_can can rows ≡ true → chosen w i ≡ None
+unfolding chosen
+none_of can w i needs h = ap (λ (t : List Row). chosen_from t w i) (sym (append-nil rows)) ∙ passed_by can w i needs rows [] h ∙ none_from w i
+
+-- rows of this instruction and size
+abbrev is_of : Op → Size → Row → Bool
+is_of o s r = same_op r.op o && same_size r.size s
+
+needs_same : (w : Wide) (i : Insn) → Needs (is_of i.op i.size) w i
+unfolding insn_of
+needs_same w i r s = both_true (true_same the_type r.op i.op (ap (λ (j : Insn). j.op) s.means)) (eq-eqb (width r.size) (width i.size) (ap (λ (j : Insn). width j.size) s.means))
+
+-- ---- a number that fits a signed byte
+
+abbrev short_row : ℕ → Op → Row
+short_row k o = row lead.Nothing 0x83 plus.Nothing (digit k) immediate.SignedByte o Long operands.Rm
+
+-- each of the eight has nine rows, this one first
+short_at : (k : ℕ) → k < 8 → rows ≡ take (9 * k) rows ++ short_row k (arithmetic k) ∷ drop (9 * k + 1) rows
+unfolding rows
+short_at zero lt = refl
+short_at (suc zero) lt = refl
+short_at (suc (suc zero)) lt = refl
+short_at (suc (suc (suc zero))) lt = refl
+short_at (suc (suc (suc (suc zero)))) lt = refl
+short_at (suc (suc (suc (suc (suc zero))))) lt = refl
+short_at (suc (suc (suc (suc (suc (suc zero)))))) lt = refl
+short_at (suc (suc (suc (suc (suc (suc (suc zero))))))) lt = refl
+short_at (suc (suc (suc (suc (suc (suc (suc (suc n)))))))) lt = absurd (omega arith)
+
+short_is_first : (k : ℕ) → k < 8 → none_can (is_of (arithmetic k) Long) (take (9 * k) rows) ≡ true
+unfolding rows
+short_is_first zero lt = refl
+short_is_first (suc zero) lt = refl
+short_is_first (suc (suc zero)) lt = refl
+short_is_first (suc (suc (suc zero))) lt = refl
+short_is_first (suc (suc (suc (suc zero)))) lt = refl
+short_is_first (suc (suc (suc (suc (suc zero))))) lt = refl
+short_is_first (suc (suc (suc (suc (suc (suc zero)))))) lt = refl
+short_is_first (suc (suc (suc (suc (suc (suc (suc zero))))))) lt = refl
+short_is_first (suc (suc (suc (suc (suc (suc (suc (suc n)))))))) lt = absurd (omega arith)
+
+short_suits : (w : Bool) (k imm : ℕ) (o : Op) (a : Operand) → k < 8 → rm_fits place.Either a ≡ true → is_signed_byte imm ≡ true → (not w || disp_len_of w a == 4) ≡ true
+    → Suits (short_row k o) (with_displacement w) (with_number o a imm)
+unfolding parts_for form_fits insn_of
+short_suits w k imm o a lt fit short four = record {
+  means = refl;
+  fits = both_true (both_true (both_true (lt-ltb k 8 lt) (itself k)) fit) (both_true short refl);
+  widths = both_true four refl;
+}
+
+short_is_chosen : (w : Bool) (k imm : ℕ) (a : Operand) → k < 8 → rm_fits place.Either a ≡ true → is_signed_byte imm ≡ true → (not w || disp_len_of w a == 4) ≡ true
+    → chosen (with_displacement w) (with_number (arithmetic k) a imm) ≡ Some (laid_out (short_row k (arithmetic k)).form (parts_for (short_row k (arithmetic k)) w (with_number (arithmetic k) a imm)))
+short_is_chosen w k imm a lt fit short four =
+    let i = with_number (arithmetic k) a imm in
+    first_of (is_of (arithmetic k) Long) (with_displacement w) i (needs_same (with_displacement w) i) (take (9 * k) rows) (drop (9 * k + 1) rows) (short_row k (arithmetic k))
+    (short_at k lt) (short_is_first k lt) (short_suits w k imm (arithmetic k) a lt fit short four)
+
+modrm_is : (n m : ℕ) → modrm 3 n m ≡ 0xc0 + 8 * n + m
+modrm_is n m = omega arith
+
+laid_register : (k n imm : ℕ) (o : Op) → Begins (0x83 ∷ (0xc0 + 8 * k + n) ∷ (imm % 256) ∷ []) 3 (Some (laid_out (short_row k o).form (parts_for (short_row k o) false (with_number o (Register n) imm))))
+unfolding parts_for
+laid_register k n imm o = (ap (λ (x : ℕ). 0x83 ∷ x ∷ imm % 256 ∷ []) (modrm_is k n), refl)
+
+pub short_number : (k n imm : ℕ) → k < 8 → n < 8 → is_signed_byte imm ≡ true → Begins (0x83 ∷ (0xc0 + 8 * k + n) ∷ (imm % 256) ∷ []) 3 (chosen plain (with_number (arithmetic k) (Register n) imm))
+short_number k n imm lt small short =
+    subst (Begins (0x83 ∷ (0xc0 + 8 * k + n) ∷ (imm % 256) ∷ []) 3) (sym (short_is_chosen false k imm (Register n) lt (both_true (lt-ltb n 8 small) refl) short refl))
+    (laid_register k n imm (arithmetic k))
+
+four_or_not : (w : Bool) (a : Address) → (not w || memory_len w a == 4) ≡ true
+four_or_not true a = refl
+four_or_not false a = refl
+
+-- the ModRM byte of an address, with a number in its reg field
+record HasReg (k : ℕ) (bytes : List ℕ) : Type 0 where
+  first : ℕ
+  rest : List ℕ
+  are : bytes ≡ first ∷ rest
+  reg : reg_of first ≡ k
+
+memory_reg : (k len : ℕ) (a : Address) (sib : Bool) → has_sib a ≡ sib → k < 8 → HasReg k (memory_bytes k len a)
+memory_reg k len a true s lt = rw s (record {
+  first = modrm (mode_for a.base len) k 4;
+  rest = modrm (scale_bits a.scale) (index_number a.index) (base_number a.base) ∷ disp_bytes len a.disp;
+  are = refl;
+  reg = omega arith;
+})
+memory_reg k len a false s lt = let b = base_below a.base in rw s (record {
+  first = modrm (mode_for a.base len) k (base_number a.base);
+  rest = disp_bytes len a.disp;
+  are = refl;
+  reg = omega (arith, b);
+})
+
+laid_by_digit : (w : Bool) (k imm : ℕ) (o : Op) (a : Address) → HasReg k (memory_bytes k (memory_len w a) a)
+    → IsSpelledByDigit 0x83 k imm (Some (laid_out (short_row k o).form (parts_for (short_row k o) w (with_number o (Memory a) imm))))
+unfolding parts_for
+laid_by_digit w k imm o a m =
+    let bytes = 0x83 ∷ (memory_bytes k (memory_len w a) a ++ imm % 256 ∷ []) in
+    record {
+      modrm = m.first;
+      rest = m.rest;
+      spelled = take_at bytes (replicate (16 - length bytes) 0) (length bytes) refl ∙ ap (λ (t : List ℕ). 0x83 ∷ (t ++ imm % 256 ∷ [])) m.are;
+      reg = m.reg;
+    }
+
+pub short_number_at : (w : Bool) (k imm : ℕ) (a : Address) → k < 8 → address_fits a ≡ true → is_signed_byte imm ≡ true
+    → IsSpelledByDigit 0x83 k imm (chosen (with_displacement w) (with_number (arithmetic k) (Memory a) imm))
+short_number_at w k imm a lt fit short =
+    subst (IsSpelledByDigit 0x83 k imm) (sym (short_is_chosen w k imm (Memory a) lt (both_true fit refl) short (four_or_not w a)))
+    (laid_by_digit w k imm (arithmetic k) a (memory_reg k (memory_len w a) a (has_sib a) refl lt))
+
+-- the eight have no row of 16 bits
+no_word_row : (k : ℕ) → none_can (is_of (arithmetic k) Word) rows ≡ true
+unfolding rows
+no_word_row zero = refl
+no_word_row (suc zero) = refl
+no_word_row (suc (suc zero)) = refl
+no_word_row (suc (suc (suc zero))) = refl
+no_word_row (suc (suc (suc (suc zero)))) = refl
+no_word_row (suc (suc (suc (suc (suc zero))))) = refl
+no_word_row (suc (suc (suc (suc (suc (suc zero)))))) = refl
+no_word_row (suc (suc (suc (suc (suc (suc (suc n))))))) = refl
+
+pub no_words : (wide : Wide) (k : ℕ) (insn : Insn) → insn.op ≡ arithmetic k → insn.size ≡ Word → chosen wide insn ≡ None
+no_words w k i e f =
+    none_of (is_of i.op i.size) w i (needs_same w i) (ap (λ (o : Op). none_can (is_of o i.size) rows) e ∙ ap (λ (s : Size). none_can (is_of (arithmetic k) s) rows) f ∙ no_word_row k)
+
+-- ---- two registers
+
+-- rows with a second operand
+abbrev has_second : Operands → Bool
+has_second operands.Nothing = false
+has_second operands.Rm = false
+has_second operands.Opcode = false
+has_second operands.Accumulator = false
+has_second operands.Extra = false
+has_second operands.Code = false
+has_second operands.Stack = false
+has_second operands.Data = false
+has_second _ = true
+
+abbrev is_plain : Addressing → Bool
+is_plain addressing.Offset = true
+is_plain _ = false
+
+-- rows of this instruction and size with a second operand and no plain address
+abbrev is_pair : Op → Size → Row → Bool
+is_pair o s r = is_of o s r && (has_second r.operands && not (is_plain r.form.addressing))
+
+second_is_there : (ops : Operands) (p : Parts) (n : ℕ) → (operands_of ops p).1 ≡ Register n → has_second ops ≡ true
+second_is_there operands.Nothing p n e = absurd cc
+second_is_there operands.Rm p n e = absurd cc
+second_is_there operands.Opcode p n e = absurd cc
+second_is_there operands.Accumulator p n e = absurd cc
+second_is_there operands.Extra p n e = absurd cc
+second_is_there operands.Code p n e = absurd cc
+second_is_there operands.Stack p n e = absurd cc
+second_is_there operands.Data p n e = absurd cc
+second_is_there _ p n e = refl
+
+no_offset : (ops : Operands) (m n : ℕ) → is_offset (rm_from ops (Register m) (Register n)) ≡ true → ⊥
+no_offset operands.Rm m n h = cc
+no_offset operands.RmReg m n h = cc
+no_offset operands.RegRm m n h = cc
+no_offset operands.RmCount m n h = cc
+no_offset operands.AccumulatorRm m n h = cc
+no_offset operands.RmAccumulator m n h = cc
+no_offset operands.RmControl m n h = cc
+no_offset operands.ControlRm m n h = cc
+no_offset operands.RmSegment m n h = cc
+no_offset operands.SegmentRm m n h = cc
+no_offset operands.TwoRegisters m n h = cc
+no_offset _ m n h = cc
+
+no_plain_address : (kind : Addressing) (ops : Operands) (reg m n : ℕ) → addressing_fits kind reg (rm_from ops (Register m) (Register n)) ≡ true → not (is_plain kind) ≡ true
+no_plain_address addressing.Nothing ops reg m n h = refl
+no_plain_address addressing.Offset ops reg m n h = absurd (no_offset ops m n (both (reg == 0) (is_offset (rm_from ops (Register m) (Register n))) h).1)
+no_plain_address (addressing.Modrm form) ops reg m n h = refl
+
+fits_address : (r : Row) (i : Insn) → form_fits r.form (parts_for r false i) ≡ true → addressing_fits r.form.addressing (parts_for r false i).reg (rm_from r.operands i.a i.b) ≡ true
+unfolding form_fits parts_for
+fits_address r i h =
+    let p = parts_for r false i in
+    (both (has_code r.form p.code) (addressing_fits r.form.addressing p.reg p.rm) (both (has_code r.form p.code && addressing_fits r.form.addressing p.reg p.rm) (immediate_fits r.form.immediate p.imm p.sel) h).0).1
+
+needs_pair : (o : Op) (s : Size) (m n : ℕ) → Needs (is_pair o s) plain (with_registers o s m n)
+unfolding insn_of
+needs_pair o s m n r t =
+    let i = with_registers o s m n in
+    both_true (needs_same plain i r t) (both_true
+    (second_is_there r.operands (parts_for r false i) n (ap (λ (j : Insn). j.b) t.means))
+    (no_plain_address r.form.addressing r.operands (parts_for r false i).reg m n (fits_address r i t.fits)))
+
+abbrev pair_row : Lead → ℕ → Op → Size → Row
+pair_row l code o s = row l code plus.Nothing slash_r immediate.Nothing o s operands.RmReg
+
+code_itself : (n : ℕ) → (nat_le n n && nat_le n n) ≡ true
+code_itself n = grind (arith, nat_tests)
+
+pair_suits : (l : Lead) (code : ℕ) (o : Op) (s : Size) (m n : ℕ) → repeats l ≡ false → m < 8 → n < 8 → Suits (pair_row l code o s) plain (with_registers o s m n)
+unfolding parts_for form_fits insn_of
+pair_suits l code o s m n e a b = record {
+  means = ap (λ (t : Bool). record { op = o; size = s; a = Register m; b = Register n; imm = 0; sel = 0; rep = t }) e;
+  fits = both_true (both_true (code_itself code) (both_true (both_true (lt-ltb n 8 b) refl) (both_true (lt-ltb m 8 a) refl))) refl;
+  widths = refl;
+}
+
+pair_is_chosen : (before after : List Row) (l : Lead) (code : ℕ) (o : Op) (s : Size) (m n : ℕ) → repeats l ≡ false → m < 8 → n < 8 → rows ≡ before ++ pair_row l code o s ∷ after → none_can (is_pair o s) before ≡ true
+    → chosen plain (with_registers o s m n) ≡ Some (laid_out (pair_row l code o s).form (parts_for (pair_row l code o s) false (with_registers o s m n)))
+pair_is_chosen before after l code o s m n e a b at first =
+    first_of (is_pair o s) plain (with_registers o s m n) (needs_pair o s m n) before after (pair_row l code o s) at first (pair_suits l code o s m n e a b)
+
+laid_pair : (code : ℕ) (o : Op) (s : Size) (m n : ℕ) → Begins (code ∷ (0xc0 + 8 * n + m) ∷ []) 2 (Some (laid_out (pair_row lead.Nothing code o s).form (parts_for (pair_row lead.Nothing code o s) false (with_registers o s m n))))
+unfolding parts_for
+laid_pair code o s m n = (ap (λ (x : ℕ). code ∷ x ∷ []) (modrm_is n m), refl)
+
+laid_words : (code : ℕ) (o : Op) (m n : ℕ) → Begins (0x66 ∷ code ∷ (0xc0 + 8 * n + m) ∷ []) 3 (Some (laid_out (pair_row lead.Word code o Word).form (parts_for (pair_row lead.Word code o Word) false (with_registers o Word m n))))
+unfolding parts_for
+laid_words code o m n = (ap (λ (x : ℕ). 0x66 ∷ code ∷ x ∷ []) (modrm_is n m), refl)
+
+two_registers : (before after : List Row) (code : ℕ) (o : Op) (s : Size) (m n : ℕ) → m < 8 → n < 8 → rows ≡ before ++ pair_row lead.Nothing code o s ∷ after → none_can (is_pair o s) before ≡ true
+    → Begins (code ∷ (0xc0 + 8 * n + m) ∷ []) 2 (chosen plain (with_registers o s m n))
+two_registers before after code o s m n a b at first =
+    subst (Begins (code ∷ (0xc0 + 8 * n + m) ∷ []) 2) (sym (pair_is_chosen before after lead.Nothing code o s m n refl a b at first)) (laid_pair code o s m n)
+
+byte_at : (k : ℕ) → k < 8 → rows ≡ take (9 * k + 5) rows ++ pair_row lead.Nothing (8 * k) (arithmetic k) Byte ∷ drop (9 * k + 6) rows
+unfolding rows
+byte_at zero lt = refl
+byte_at (suc zero) lt = refl
+byte_at (suc (suc zero)) lt = refl
+byte_at (suc (suc (suc zero))) lt = refl
+byte_at (suc (suc (suc (suc zero)))) lt = refl
+byte_at (suc (suc (suc (suc (suc zero))))) lt = refl
+byte_at (suc (suc (suc (suc (suc (suc zero)))))) lt = refl
+byte_at (suc (suc (suc (suc (suc (suc (suc zero))))))) lt = refl
+byte_at (suc (suc (suc (suc (suc (suc (suc (suc n)))))))) lt = absurd (omega arith)
+
+byte_is_first : (k : ℕ) → k < 8 → none_can (is_pair (arithmetic k) Byte) (take (9 * k + 5) rows) ≡ true
+unfolding rows
+byte_is_first zero lt = refl
+byte_is_first (suc zero) lt = refl
+byte_is_first (suc (suc zero)) lt = refl
+byte_is_first (suc (suc (suc zero))) lt = refl
+byte_is_first (suc (suc (suc (suc zero)))) lt = refl
+byte_is_first (suc (suc (suc (suc (suc zero))))) lt = refl
+byte_is_first (suc (suc (suc (suc (suc (suc zero)))))) lt = refl
+byte_is_first (suc (suc (suc (suc (suc (suc (suc zero))))))) lt = refl
+byte_is_first (suc (suc (suc (suc (suc (suc (suc (suc n)))))))) lt = absurd (omega arith)
+
+long_at : (k : ℕ) → k < 8 → rows ≡ take (9 * k + 6) rows ++ pair_row lead.Nothing (8 * k + 1) (arithmetic k) Long ∷ drop (9 * k + 7) rows
+unfolding rows
+long_at zero lt = refl
+long_at (suc zero) lt = refl
+long_at (suc (suc zero)) lt = refl
+long_at (suc (suc (suc zero))) lt = refl
+long_at (suc (suc (suc (suc zero)))) lt = refl
+long_at (suc (suc (suc (suc (suc zero))))) lt = refl
+long_at (suc (suc (suc (suc (suc (suc zero)))))) lt = refl
+long_at (suc (suc (suc (suc (suc (suc (suc zero))))))) lt = refl
+long_at (suc (suc (suc (suc (suc (suc (suc (suc n)))))))) lt = absurd (omega arith)
+
+long_is_first : (k : ℕ) → k < 8 → none_can (is_pair (arithmetic k) Long) (take (9 * k + 6) rows) ≡ true
+unfolding rows
+long_is_first zero lt = refl
+long_is_first (suc zero) lt = refl
+long_is_first (suc (suc zero)) lt = refl
+long_is_first (suc (suc (suc zero))) lt = refl
+long_is_first (suc (suc (suc (suc zero)))) lt = refl
+long_is_first (suc (suc (suc (suc (suc zero))))) lt = refl
+long_is_first (suc (suc (suc (suc (suc (suc zero)))))) lt = refl
+long_is_first (suc (suc (suc (suc (suc (suc (suc zero))))))) lt = refl
+long_is_first (suc (suc (suc (suc (suc (suc (suc (suc n)))))))) lt = absurd (omega arith)
+
+pub rm_is_destination : (k m n : ℕ) → k < 8 → m < 8 → n < 8 → Begins ((8 * k + 1) ∷ (0xc0 + 8 * n + m) ∷ []) 2 (chosen plain (with_registers (arithmetic k) Long m n))
+rm_is_destination k m n lt a b = two_registers (take (9 * k + 6) rows) (drop (9 * k + 7) rows) (8 * k + 1) (arithmetic k) Long m n a b (long_at k lt) (long_is_first k lt)
+
+pub rm_is_byte_destination : (k m n : ℕ) → k < 8 → m < 8 → n < 8 → Begins ((8 * k) ∷ (0xc0 + 8 * n + m) ∷ []) 2 (chosen plain (with_registers (arithmetic k) Byte m n))
+rm_is_byte_destination k m n lt a b = two_registers (take (9 * k + 5) rows) (drop (9 * k + 6) rows) (8 * k) (arithmetic k) Byte m n a b (byte_at k lt) (byte_is_first k lt)
+
+pub moved_bytes_to_rm : (m n : ℕ) → m < 8 → n < 8 → Begins (0x88 ∷ (0xc0 + 8 * n + m) ∷ []) 2 (chosen plain (with_registers Mov Byte m n))
+unfolding rows
+moved_bytes_to_rm m n a b = two_registers (take 137 rows) (drop 138 rows) 0x88 Mov Byte m n a b refl refl
+
+pub moved_to_rm : (m n : ℕ) → m < 8 → n < 8 → Begins (0x89 ∷ (0xc0 + 8 * n + m) ∷ []) 2 (chosen plain (with_registers Mov Long m n))
+unfolding rows
+moved_to_rm m n a b = two_registers (take 138 rows) (drop 139 rows) 0x89 Mov Long m n a b refl refl
+
+pub moved_words_to_rm : (m n : ℕ) → m < 8 → n < 8 → Begins (0x66 ∷ 0x89 ∷ (0xc0 + 8 * n + m) ∷ []) 3 (chosen plain (with_registers Mov Word m n))
+unfolding rows
+moved_words_to_rm m n a b =
+    subst (Begins (0x66 ∷ 0x89 ∷ (0xc0 + 8 * n + m) ∷ []) 3) (sym (pair_is_chosen (take 145 rows) (drop 146 rows) lead.Word 0x89 Mov Word m n refl a b refl refl)) (laid_words 0x89 Mov m n)
