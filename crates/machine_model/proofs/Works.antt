@@ -38,7 +38,7 @@ use Rattle.run_trace.specs.declared.items.End.TheVariants.{Bound, Stopped}
 use Rattle.machine_model.specs.State.{Setting, State, Loosened, on_bare, space_at_start}
 use Rattle.machine_model.specs.Rules.{stands_well, may_leave}
 use Rattle.machine_model.specs.Instruction.{taken, fetching, owning_front, owning_back, owned, fetched_on, fetched_by, fetched, is_plain, done_plainly, instructed}
-use Rattle.machine_model.specs.Step.{Report, Completed, Result, Went, Halts, went, entered, after_delivery, raised, code_of, after_effect, effect_on, after_software, interrupts_by, begun, by_op, by_decoded, after_refusal, after_fetch, fetches_next, begins_next, worked, interrupted, interrupt_of, by_interrupt, unheld, stepped, step_of}
+use Rattle.machine_model.specs.Step.{Report, Completed, Result, Went, Halts, concluded, entered, after_delivery, raised, code_of, after_effect, effect_on, after_software, interrupts_by, begun, by_op, by_decoded, after_refusal, after_fetch, fetches_next, begins_next, worked, interrupted, interrupt_of, by_interrupt, unheld, stepped, step_of}
 use Rattle.machine_model.specs.Run.{Set, Steps, EndsIn}
 use Rattle.sys_exec.specs.Operand.{past}
 use Rattle.machine_model.specs.Agreement.{is_extra, StepsAgree, RunsAgree}
@@ -129,8 +129,8 @@ guarded : (test : Bool) (r : Result) (stop : Stop) → is_extra_stop stop ≡ tr
 guarded true r stop h = inr refl
 guarded false r stop h = inl h
 
-entered_agrees : (m : Setting) (whats : List What) (completed : Option Completed) (b : State) (cpu : Cpu) (board : Board) (s : Space) → Agree (entered m whats completed b cpu board s) (went whats completed b cpu board s)
-entered_agrees m whats completed b cpu board s = guarded (stands_well m cpu) (went whats completed b cpu board s) stops.NotAStart refl
+entered_agrees : (m : Setting) (whats : List What) (completed : Option Completed) (b : State) (cpu : Cpu) (board : Board) (s : Space) → Agree (entered m whats completed b cpu board s) (concluded whats completed b cpu board s)
+entered_agrees m whats completed b cpu board s = guarded (stands_well m cpu) (concluded whats completed b cpu board s) stops.NotAStart refl
 
 delivery_agrees : (m : Setting) (whats : List What) (b : State) (board : Board) (o p : Outcome NotDelivered Cpu) → IsExtra deliveries.is_extra o ⊎ (p ≡ bared o)
     → Agree (after_delivery m whats b board o) (after_delivery (on_bare m) whats b board p)
@@ -149,7 +149,7 @@ raised_agrees law m b cpu vector code s =
 
 effect_agrees : deliveries.DeliveriesAgree → (m : Setting) (b : State) (completed : Completed) (e : SysEffect) (cpu : Cpu) (s : Space)
     → Agree (after_effect m b completed e cpu s) (after_effect (on_bare m) b completed e cpu (bare s))
-effect_agrees law m b completed effects.Next cpu s = guarded (may_leave m.mode b.cpu cpu) (went [] (Some completed) b cpu b.board s) stops.UserFlags refl
+effect_agrees law m b completed effects.Next cpu s = guarded (may_leave m.mode b.cpu cpu) (concluded [] (Some completed) b cpu b.board s) stops.UserFlags refl
 effect_agrees law m b completed effects.Halted cpu s = inr refl
 effect_agrees law m b completed (effects.DropPage page) cpu s = inr refl
 effect_agrees law m b completed (effects.DropDir index) cpu s = inr refl

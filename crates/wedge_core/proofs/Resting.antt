@@ -18,7 +18,7 @@ use Rattle.machine_model.specs.Notes.{AreLeft}
 use Rattle.machine_model.proofs.Runs.{no_steps}
 use Rattle.paging.specs.Space.{Space}
 use Rattle.sites.specs.declared.site.Site.{Site}
-use Rattle.machine_model.specs.Step.{went, worked, begins_next}
+use Rattle.machine_model.specs.Step.{concluded, worked, begins_next}
 use Rattle.machine_model.specs.Counts.{direct_addresses, passed_on}
 use Rattle.native_steps.specs.Stretch.{IsQuiet}
 use Rattle.wedge_core.specs.Slices.{Counts, CountsOn}
@@ -82,9 +82,9 @@ unfolding board_steps
 no_step board = refl
 
 -- a halted processor does nothing
-halted_works : (m : Setting) (b : State) (s : Space) → b.cpu.halted ≡ true → worked m b s ≡ went [] None b b.cpu b.board s
+halted_works : (m : Setting) (b : State) (s : Space) → b.cpu.halted ≡ true → worked m b s ≡ concluded [] None b b.cpu b.board s
 unfolding worked
-halted_works m b s e = ap (λ (h : Bool). cond h (went [] None b b.cpu b.board s) (begins_next m b s)) e
+halted_works m b s e = ap (λ (h : Bool). cond h (concluded [] None b b.cpu b.board s) (begins_next m b s)) e
 
 -- one such step
 idle_step : (s : Setting) (cpu : Cpu) (ram : List ℕ) (whole set : Set) (board : Board) (step : ℕ)

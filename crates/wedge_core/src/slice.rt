@@ -171,7 +171,7 @@ fn one_step<S: Reloads + Drop, H: Host>(
         return by_rules(running, pool, host, image, wanted);
     }
     match begin_native(running, pool, host.ram_mut(), image, wanted)? {
-        Attempt::Went(seen) => Ok(seen),
+        Attempt::Stepped(seen) => Ok(seen),
         Attempt::Asked => {
             let _one = run_on(running, host, 1);
             are_bytes(host.ram(), image, frames);
