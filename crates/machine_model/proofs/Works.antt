@@ -288,8 +288,8 @@ all_steps law m old new (set ∷ sets) reports steps = (
   steps.6,
 )
 
-stands_agrees : StepsAgree → (m : Setting) (b : State) (set : Set) (stop : Stop) → is_extra_stop stop ≡ false → step_of m b set ≡ Halts stop → step_of (on_bare m) b set ≡ Halts stop
-stands_agrees law m b set stop plain is = elim (law m b set) [
+halts_agrees : StepsAgree → (m : Setting) (b : State) (set : Set) (stop : Stop) → is_extra_stop stop ≡ false → step_of m b set ≡ Halts stop → step_of (on_bare m) b set ≡ Halts stop
+halts_agrees law m b set stop plain is = elim (law m b set) [
   | inl h ↦ absurd (clash (sym plain ∙ (ap is_extra (sym is) ∙ h)))
   | inr h ↦ h ∙ is
 ]
@@ -298,7 +298,7 @@ ends_agree : StepsAgree → (m : Setting) (n : ℕ) (last : State) (stop : Stop)
     → EndsIn (on_bare m) (cond extra last.step n) last (cond extra Bound (Stopped stop))
 ends_agree law m n last stop true is h = refl
 ends_agree law m n last stop false is h =
-    (h.0, record { set = h.1.set; allowed = loosened m last h.1.set h.1.allowed; stands = stands_agrees law m last h.1.set stop is h.1.stands })
+    (h.0, record { set = h.1.set; allowed = loosened m last h.1.set h.1.allowed; halts = halts_agrees law m last h.1.set stop is h.1.halts })
 
 pub runs_agree : StepsAgree → RunsAgree
 runs_agree law m n old sets reports last Bound run = record { steps = all_steps law m old last sets reports run.steps; ends = run.ends }

@@ -406,7 +406,7 @@ stopped m bound old now new lost stop a b told tells pages fills mid filled want
     let set = left_of lost.before now.set in
     let notes = g.notes ++ emptied_if lost.before now.step in
     let told_set = chosen_told m old now a b told tells pages fills mid wanted notes_on begins carried g lost.before in
-    let stands = chosen_first m now g.whole set ∙ h.stands in
+    let halts = chosen_first m now g.whole set ∙ h.halts in
     record {
       sets = g.sets;
       reports = g.reports;
@@ -414,13 +414,13 @@ stopped m bound old now new lost stop a b told tells pages fills mid filled want
       notes = notes;
       steps = g.steps;
       end = set;
-      ends = (lt, still, chosen_allowed m old now a b told tells pages fills mid wanted notes_on begins carried g lost.before, stands);
+      ends = (lt, still, chosen_allowed m old now a b told tells pages fills mid wanted notes_on begins carried g lost.before, halts);
       text = g.text;
       counts = g.counts;
       noted = λ w. record {
         told = are_told m old g.sets notes (by_then m old now a b told tells pages fills mid wanted notes_on begins carried g lost.before w);
         are = are_notes m old g.sets now.step notes (tried m old now a b told tells pages fills mid wanted notes_on begins carried g lost.before);
-        ends = subst (λ (x : Set). step_of m (with_set now g.whole) x ≡ Halts stop) (told_set w) stands;
+        ends = subst (λ (x : Set). step_of m (with_set now g.whole) x ≡ Halts stop) (told_set w) halts;
       };
       tells_notes = on g.notes g.tells_notes;
       each_filled = filled_push pages fills filled g.sets set (filled_later pages fills mid filled g.sets rises g.each_filled)

@@ -27,7 +27,7 @@ pub record Goes (m : Setting) (b : State) (lost : Lost) (seen : Seen) (new : Sta
 
 -- or it stops
 pub record StepHalts (m : Setting) (b : State) (lost : Lost) (stop : Stop) : Type 0 where
-  pub stands : stepped m (with_set b (left_of lost.before b.set)) ≡ Halts stop
+  pub halts : stepped m (with_set b (left_of lost.before b.set)) ≡ Halts stop
 
 abbrev pub StepAs : Setting → State → Lost → Result Seen Stop → State → Counts → Counts → Type 0
 StepAs m b lost (Ok seen) new before after = Goes m b lost seen new before after
