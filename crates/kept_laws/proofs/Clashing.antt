@@ -27,7 +27,7 @@ use Rattle.sys_exec.specs.declared.effect.Refusal.{Refusal}
 use Rattle.sys_exec.specs.declared.effect.Refusal.TheVariants as refusal
 use Rattle.machine_model.specs.State.{Setting, State, space_at_start}
 use Rattle.machine_model.specs.Run.{Set}
-use Rattle.machine_model.specs.Instruction.{taken, fetching, owning_front, owning_back, next_page, owned, fetched_on, fetched_by, fetched}
+use Rattle.machine_model.specs.Instruction.{bytes_fetched, fetching, owning_front, owning_back, next_page, owned, fetched_on, fetched_by, fetched}
 use Rattle.machine_model.specs.Clash.{Use, access_of, protects, fetch_uses, range_uses, uses_by, is_refused_by, clash_behind, clash_in, instruction_clashes, has_instruction, clashes_from}
 use Rattle.machine_model.specs.Reloading.{IsFoundBy, Follows, FetchesFollow, FoundOver}
 use Rattle.native_steps.proofs.Marks.{or_32, or_96}
@@ -217,7 +217,7 @@ refetched follow over m b tables kept others room fit sub none found user eip d 
 abbrev FewPages : ℕ → List ℕ → Type 0
 FewPages eip l = (l ≡ eip / 4096 ∷ []) ⊎ (l ≡ eip / 4096 ∷ next_page eip / 4096 ∷ [])
 
-taken_err : (at len : ℕ) (met : Touch) (s : Space) (r : Refusal) (t : Space) → taken at len met s ≡ Err (r, t) → s ≡ t
+taken_err : (at len : ℕ) (met : Touch) (s : Space) (r : Refusal) (t : Space) → bytes_fetched at len met s ≡ Err (r, t) → s ≡ t
 taken_err at len Ready s r t e = absurd cc
 taken_err at len (Fault code cr2) s r t e = err_space _ r s t e
   where

@@ -43,7 +43,7 @@ use Rattle.run_trace.specs.declared.items.What.{What}
 use Rattle.run_trace.specs.declared.items.What.TheVariants.{Sent, Irq}
 use Rattle.machine_model.specs.State.{Setting, State, space_at_start}
 use Rattle.machine_model.specs.Rules.{stands_well, may_leave}
-use Rattle.machine_model.specs.Instruction.{taken, fetching, owning_front, owning_back, owned, fetched_on, fetched_by, fetched, is_plain, done_plainly, instructed, with_accumulator}
+use Rattle.machine_model.specs.Instruction.{bytes_fetched, fetching, owning_front, owning_back, owned, fetched_on, fetched_by, fetched, is_plain, done_plainly, instructed, with_accumulator}
 use Rattle.machine_model.specs.Step.{Report, Completed, Result, Went, Halts, concluded, in_item, after_read, after_write, out_item, entered, after_delivery, raised, code_of, after_effect, effect_on, after_software, interrupts_by, begun, by_op, by_decoded, after_refusal, after_fetch, begins_next, worked, interrupted, interrupt_of, by_interrupt, unheld, step_of}
 use Rattle.machine_model.specs.Run.{Set}
 use Rattle.machine_model.specs.Reloading.{MemoryFollows, IsFoundBy, Follows, Leaves}
@@ -58,7 +58,7 @@ use Rattle.machine_model.proofs.TrackedDeliveries.{delivered_tracks}
 
 -- ---- the fetch
 
-taken_leaves : (at len : ℕ) (s : Space) (t : Touch) (u : Space) → Follows s u → Leaves s (taken at len t u)
+taken_leaves : (at len : ℕ) (s : Space) (t : Touch) (u : Space) → Follows s u → Leaves s (bytes_fetched at len t u)
 taken_leaves at len s touch.Ready u h = h
 taken_leaves at len s (touch.Fault code cr2) u h = h
 taken_leaves at len s (touch.Stop stop) u h = h

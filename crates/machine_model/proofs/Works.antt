@@ -37,7 +37,7 @@ use Rattle.run_trace.specs.declared.items.What.TheVariants.{Irq}
 use Rattle.run_trace.specs.declared.items.End.TheVariants.{Bound, Stopped}
 use Rattle.machine_model.specs.State.{Setting, State, Loosened, on_bare, space_at_start}
 use Rattle.machine_model.specs.Rules.{stands_well, may_leave}
-use Rattle.machine_model.specs.Instruction.{taken, fetching, owning_front, owning_back, owned, fetched_on, fetched_by, fetched, is_plain, done_plainly, instructed}
+use Rattle.machine_model.specs.Instruction.{bytes_fetched, fetching, owning_front, owning_back, owned, fetched_on, fetched_by, fetched, is_plain, done_plainly, instructed}
 use Rattle.machine_model.specs.Step.{Report, Completed, Result, Went, Halts, concluded, entered, after_delivery, raised, code_of, after_effect, effect_on, after_software, interrupts_by, begun, by_op, by_decoded, after_refusal, after_fetch, fetches_next, begins_next, worked, interrupted, interrupt_of, by_interrupt, unheld, stepped, step_of}
 use Rattle.machine_model.specs.Run.{Set, Steps, EndsIn}
 use Rattle.sys_exec.specs.Operand.{past}
@@ -52,14 +52,14 @@ pub record Laws : Type 0 where
 
 -- The fetch.
 
-taken_agrees : (at len : ℕ) (t : Touch) (s : Space) (p : Touch × Space) → TouchAgrees (t, s) p → IsExtra rows.is_extra (taken at len t s) ⊎ (taken at len p.0 p.1 ≡ bared (taken at len t s))
+taken_agrees : (at len : ℕ) (t : Touch) (s : Space) (p : Touch × Space) → TouchAgrees (t, s) p → IsExtra rows.is_extra (bytes_fetched at len t s) ⊎ (bytes_fetched at len p.0 p.1 ≡ bared (bytes_fetched at len t s))
 unfolding place
 taken_agrees at len touch.Ready s p (inl e) = absurd (clash e)
-taken_agrees at len touch.Ready s p (inr e) = inr (ap (λ (q : Touch × Space). taken at len q.0 q.1) e)
+taken_agrees at len touch.Ready s p (inr e) = inr (ap (λ (q : Touch × Space). bytes_fetched at len q.0 q.1) e)
 taken_agrees at len (touch.Fault code cr2) s p (inl e) = absurd (clash e)
-taken_agrees at len (touch.Fault code cr2) s p (inr e) = inr (ap (λ (q : Touch × Space). taken at len q.0 q.1) e)
+taken_agrees at len (touch.Fault code cr2) s p (inr e) = inr (ap (λ (q : Touch × Space). bytes_fetched at len q.0 q.1) e)
 taken_agrees at len (touch.Stop stop) s p (inl e) = inl e
-taken_agrees at len (touch.Stop stop) s p (inr e) = inr (ap (λ (q : Touch × Space). taken at len q.0 q.1) e)
+taken_agrees at len (touch.Stop stop) s p (inr e) = inr (ap (λ (q : Touch × Space). bytes_fetched at len q.0 q.1) e)
 
 fetching_agrees : FetchesAgree → (user : Bool) (at len : ℕ) → Agrees rows.is_extra (fetching user at len)
 unfolding fetching

@@ -15,7 +15,7 @@ use Rattle.sys_exec.specs.declared.effect.Refusal.{Refusal}
 use Rattle.sys_exec.specs.declared.effect.Refusal.TheVariants as refusal
 use Rattle.machine_model.specs.State.{Setting, State}
 use Rattle.ia32_decode.specs.Front.{longest, front_len}
-use Rattle.machine_model.specs.Instruction.{taken, fetching, owning_front, owning_back, next_page, owned, fetched_on, fetched_by, fetched}
+use Rattle.machine_model.specs.Instruction.{bytes_fetched, fetching, owning_front, owning_back, next_page, owned, fetched_on, fetched_by, fetched}
 use Rattle.native_steps.specs.Forward.{wp_of}
 use Rattle.native_steps.proofs.Pages.{At, Comes, IsFree, HasEntry, fetching_comes, comes_then}
 use Rattle.native_steps.proofs.Went.{page_went}
@@ -116,7 +116,7 @@ fetches_went s at len user =
     made_went (page_uses (unready s) true (at / 4096) at (record { write = false; user = user })).0 (page_uses (unready s) true (at / 4096) at (record { write = false; user = user })).1 at len
     ∙ page_went (unready s) true (at / 4096) at (record { write = false; user = user })
 
-taken_went : (at len : ℕ) (o : Touch) (s : Space) (bytes : List ℕ) (t : Space) → taken at len o s ≡ Ok (bytes, t) → t.visited ≡ s.visited
+taken_went : (at len : ℕ) (o : Touch) (s : Space) (bytes : List ℕ) (t : Space) → bytes_fetched at len o s ≡ Ok (bytes, t) → t.visited ≡ s.visited
 taken_went at len Ready s bytes t e = let p : ◌≡◌ {A = List ℕ × Space} (part s.ram (place s at) len, s) (bytes, t) = cc in sym (ap (λ (q : List ℕ × Space). q.1.visited) p)
 taken_went at len (Fault code cr2) s bytes t e = absurd cc
 taken_went at len (Stop stop) s bytes t e = absurd cc

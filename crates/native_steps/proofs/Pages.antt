@@ -22,7 +22,7 @@ use Rattle.sys_exec.specs.declared.effect.Refusal.{Refusal}
 use Rattle.sys_exec.specs.Access.{denials, reaching}
 use Rattle.image_load.specs.Boot.{text_pages}
 use Rattle.machine_model.specs.State.{Setting, State, wedge_mode}
-use Rattle.machine_model.specs.Instruction.{taken, fetching}
+use Rattle.machine_model.specs.Instruction.{bytes_fetched, fetching}
 use Rattle.native_steps.specs.Lends.{IsLent, AreKept}
 use Rattle.native_steps.specs.Forward.{wp_of}
 use Rattle.native_steps.proofs.Choices.{chosen, passed_by, lt_false, le_true}
@@ -169,7 +169,7 @@ module _ (m : Setting) (b : State) (kernel : Bool) where
       let bytes : part p.space.ram (place p.space at) len ≡ part b.ram (4096 * frame + at % 4096) len = ap (λ (x : List ℕ). part x (place p.space at) len) ram_is ∙ ap (λ (x : ℕ). part b.ram x len) place_is in
       record {
         space = p.space;
-        is = ap (λ (o : Touch × Space). taken at len o.0 o.1) p.is ∙ ap (λ (x : List ℕ). Ok (x, p.space)) bytes;
+        is = ap (λ (o : Touch × Space). bytes_fetched at len o.0 o.1) p.is ∙ ap (λ (x : List ℕ). Ok (x, p.space)) bytes;
         at = p.at;
       }
 

@@ -16,7 +16,7 @@ use Rattle.paging.specs.Uses.{is_own, window_stop, page_uses, go_on, and_then, u
 use Rattle.sys_exec.specs.Access.{reaching}
 use Rattle.image_load.specs.Boot.{text_pages}
 use Rattle.machine_model.specs.State.{Setting, State}
-use Rattle.machine_model.specs.Instruction.{taken, fetching}
+use Rattle.machine_model.specs.Instruction.{bytes_fetched, fetching}
 use Rattle.native_steps.specs.Forward.{wp_of}
 use Rattle.native_steps.proofs.Clear.{Use, AreClear}
 use Rattle.native_steps.proofs.Choices.{not_lt, passed_by, eq_told}
@@ -139,7 +139,7 @@ module _ (m : Setting) (b : State) (kernel : Bool) where
     pub place_is : place t at ≡ 4096 * frame + at % 4096
     pub bytes_is : bytes ≡ part t.ram (4096 * frame + at % 4096) len
 
-  pub taken_parts : (at len : ℕ) (o : Touch) (s : Space) (bytes : List ℕ) (t : Space) → taken at len o s ≡ Ok (bytes, t) → (o ≡ Ready) × ((part s.ram (place s at) len ≡ bytes) × (s ≡ t))
+  pub taken_parts : (at len : ℕ) (o : Touch) (s : Space) (bytes : List ℕ) (t : Space) → bytes_fetched at len o s ≡ Ok (bytes, t) → (o ≡ Ready) × ((part s.ram (place s at) len ≡ bytes) × (s ≡ t))
   taken_parts at len Ready s bytes t e =
       let p : ◌≡◌ {A = List ℕ × Space} (part s.ram (place s at) len, s) (bytes, t) = cc in
       (refl, (ap (λ (q : List ℕ × Space). q.0) p, ap (λ (q : List ℕ × Space). q.1) p))

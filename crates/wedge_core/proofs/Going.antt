@@ -300,7 +300,7 @@ going_on m old now new lost seen a b c told tells pages fills mid filled wanted 
     let goes_here = chosen_first m now g.whole set ∙ r.went in
     let taken_so_far = steps_by m old g.sets in
     let t = step_taken (with_set now g.whole) set r.report (with_set new r.whole) in
-    let joined : steps_by m old (g.sets ++ set ∷ []) ≡ taken_so_far ++ t ∷ [] = laws.taken m old (with_set now g.whole) (with_set new r.whole) g.sets set g.reports r.report g.steps goes_here in
+    let joined : steps_by m old (g.sets ++ set ∷ []) ≡ taken_so_far ++ t ∷ [] = laws.joins m old (with_set now g.whole) (with_set new r.whole) g.sets set g.reports r.report g.steps goes_here in
     let from : IsTakenFrom m (eventful m now) t = record { cpu = refl; ram = refl; went = goes_here; stepped = r.went } in
     let is : set_told notes (now.step + 1) r.whole ≡ left_of lost.after r.whole =
     told_more lost.after (now.step + 1) r.whole before up ∙ ap (left_of lost.after) (told_none now.step (now.step + 1) r.whole before (omega arith) tried_now.until) in
