@@ -81,7 +81,7 @@ module _ (laws : Laws) (m : Setting) (v : View) (w : IsWedge m) where
     after = b;
     reports = [];
     steps = (refl, refl);
-    left = tt;
+    sets = tt;
     quiet = all_none IsQuiet;
     beside = h;
     cpu = ap (λ (r : Regs). record b.cpu { regs = r }) h.regs;
@@ -253,11 +253,11 @@ module _ (laws : Laws) (m : Setting) (v : View) (w : IsWedge m) where
             after = r.after;
             reports = follows.report ∷ r.reports;
             steps = (after, follows.report, r.reports, any_allowed m b, went, subst (λ (x : Set). Steps m after (replicate r.n x) r.reports r.after) set_is r.steps, refl);
-            left = (
+            sets = (
               refl,
               λ report mid is.
                   subst (λ (x : State). AreLeft m x (replicate r.n b.set)) (went_there follows.report report after mid (sym went ∙ is))
-                  (subst (λ (x : Set). AreLeft m after (replicate r.n x)) set_is r.left),
+                  (subst (λ (x : Set). AreLeft m after (replicate r.n x)) set_is r.sets),
             );
             quiet = quiet_more r.n r.quiet;
             beside = r.beside;

@@ -89,7 +89,7 @@ pub record Advanced (m : Setting) (v : View) (b : State) (k : ℕ) (s : Standing
   pub after : State
   pub reports : List Report
   pub steps : Steps m b (replicate n b.set) reports after
-  pub left : AreLeft m b (replicate n b.set)
+  pub sets : AreLeft m b (replicate n b.set)
   pub quiet : All IsQuiet (steps_by m b (replicate n b.set))
   pub beside : Beside m v after last
   pub cpu : after.cpu ≡ record b.cpu { regs = last.regs }

@@ -127,7 +127,7 @@ chosen_there m now whole chosen = refl
 pub going_past : (m : Setting) (old now new : State) (a b c : Counts) (told tells : Option (List ℕ)) (pages fills mid filled : ℕ) (wanted : Bool) (notes_on : List Note → Type 0) (begins : Type 0) (carried : Set → List Taken → State → Type 0) → (g : Going m old now a b told tells pages fills mid wanted notes_on begins carried) → mid ≤ filled → FillsOn pages (len new.set) fills filled
     → CarryLaws → CarriesPast m carried → IsOfPages now.set → 4096 * m.frames ≤ length now.ram → Passes m now new b c → Going m old new a c told tells pages fills filled wanted notes_on begins carried
 unfolding Steps
-going_past m old now new a b c told tells pages fills mid filled wanted notes_on begins carried g rises enough laws goes pages_of room p = by p.n p.steps p.left p.quiet
+going_past m old now new a b c told tells pages fills mid filled wanted notes_on begins carried g rises enough laws goes pages_of room p = by p.n p.steps p.sets p.quiet
   where
     silent : trace_of (g.reports ++ p.reports) ≡ trace_of g.reports
     silent = trace_join g.reports p.reports ∙ (ap (λ (l : List Item). trace_of g.reports ++ l) p.silent ∙ append-nil (trace_of g.reports))
@@ -313,8 +313,8 @@ going_on m old now new lost seen a b c told tells pages fills mid filled wanted 
       whole = r.whole;
       notes = notes;
       steps = steps_join m old (with_set now g.whole) (with_set new r.whole) g.sets (set ∷ []) g.reports (r.report ∷ []) g.steps one;
-      allowed = r.left.allowed;
-      kept = λ w. r.left.exact (exact w) ∙ (sym is ∙ ap (λ (s : ℕ). set_told notes s r.whole) (sym count));
+      allowed = r.kept.allowed;
+      kept = λ w. r.kept.exact (exact w) ∙ (sym is ∙ ap (λ (s : ℕ). set_told notes s r.whole) (sym count));
       by = λ w. told_join m old (with_set now g.whole) g.sets (set ∷ []) g.reports notes g.steps (by_before w) (by_now w);
       so_far = subst (λ (s : ℕ). SoFar old.step s notes) (sym count) (go_next lost.after old.step now.step before low tried_now);
       tells_notes = subst notes_after (sym (append_assoc g.notes (emptied_if lost.before now.step) (emptied_if lost.after (now.step + 1)))) (on g.notes g.tells_notes);

@@ -307,7 +307,7 @@ idle_goes m b lost seen new before after same i = record {
   report = i.alone.report;
   whole = i.alone.whole;
   went = i.alone.went;
-  left = i.alone.left;
+  kept = i.alone.kept;
   items = i.alone.items;
   counts = subst (λ (x : Counts). CountsOn m (i.alone.report ∷ []) before x) same (none_counts m i.alone.report before i.uncounted);
 }

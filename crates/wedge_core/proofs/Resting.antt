@@ -178,7 +178,7 @@ counts_stay m k counts = record {
 
 -- no step passes
 pub rests_none : (m : Setting) (b : State) (counts : Counts) → Passes m b b counts counts
-rests_none m b counts = record { n = 0; reports = []; steps = no_steps m b; left = tt; quiet = All-nil IsQuiet; silent = refl; counts = counts_stay m 0 counts }
+rests_none m b counts = record { n = 0; reports = []; steps = no_steps m b; sets = tt; quiet = All-nil IsQuiet; silent = refl; counts = counts_stay m 0 counts }
 
 rests_at : (j : ℕ) (s : Setting) (cpu : Cpu) (ram : List ℕ) (set : Set) (board : Board) (t : ℕ) (counts : Counts)
     → cpu.halted ≡ true → interrupt_of (record cpu { held = false }) board ≡ None → comes_within board s.script t (suc j) ≡ false
@@ -187,7 +187,7 @@ rests_at j s cpu ram set board t counts halted none quiet = record {
   n = suc j;
   reports = nothing ∷ replicate j nothing;
   steps = idle_steps j s cpu ram set set board t halted none quiet (record { each = λ page e is. inl is });
-  left = idle_left j s cpu ram set board t halted none quiet;
+  sets = idle_left j s cpu ram set board t halted none quiet;
   quiet = idle_quiet j s cpu ram set board t halted none quiet;
   silent = nothing_seen (suc j);
   counts = counts_stay s (suc j) counts;

@@ -258,7 +258,7 @@ module _ {S : Type 0} (stands : S → List ℕ → Type 0) (frames : S → List 
               n = advanced.n;
               reports = advanced.reports;
               steps = subst (Steps m begun (replicate advanced.n whole) advanced.reports) (after_is ∙ ap (with_set (state_of stands frames slots m now after_memory)) (exact ∙ sym now_set)) advanced.steps;
-              left = advanced.left;
+              sets = advanced.sets;
               quiet = advanced.quiet;
               silent = advanced.unseen;
               counts = record { retired = (let a = r.count in let b = count_is in let c = advanced.direct in omega (arith, a, b, c)); passed = lands_there.passed ∙ advanced.passed };
