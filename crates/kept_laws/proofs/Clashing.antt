@@ -13,6 +13,7 @@ use Rattle.ia32_decode.specs.declared.answer.Decoded.TheVariants as begins
 use Rattle.ia32_decode.specs.Decoding.{decoded}
 use Rattle.ia32_decode.specs.Front.{longest, front_len}
 use Rattle.descriptors.specs.Controls.{pse_of}
+use Rattle.descriptors.specs.Access.{by_level}
 use Rattle.paging.specs.declared.entry.Access.{Access}
 use Rattle.paging.specs.declared.entry.Entry.{Entry}
 use Rattle.paging.specs.declared.entry.Touch.{Touch}
@@ -28,7 +29,7 @@ use Rattle.sys_exec.specs.declared.effect.Refusal.TheVariants as refusal
 use Rattle.machine_model.specs.State.{Setting, State, space_at_start}
 use Rattle.machine_model.specs.Run.{Set}
 use Rattle.machine_model.specs.Instruction.{bytes_fetched, fetching, owning_front, owning_back, next_page, owned, fetched_on, fetched_by, fetched}
-use Rattle.machine_model.specs.Clash.{Use, access_of, protects, fetch_uses, range_uses, uses_by, is_refused_by, clash_behind, clash_in, instruction_clashes, has_instruction, clashes_from}
+use Rattle.machine_model.specs.Clash.{Use, protects, fetch_uses, range_uses, uses_by, is_refused_by, clash_behind, clash_in, instruction_clashes, has_instruction, clashes_from}
 use Rattle.machine_model.specs.Reloading.{IsFoundBy, Follows, FetchesFollow, FoundOver}
 use Rattle.native_steps.proofs.Marks.{or_32, or_96}
 use Rattle.kept_laws.specs.Remembered.{was_read}
@@ -287,7 +288,7 @@ none_twice : (b : State) (entries : ℕ → Option Entry) (wp : Bool) (eip : ℕ
 none_twice b entries wp eip l (inl e) = ap (λ (x : List ℕ). clash_in entries wp (fetch_uses b x)) e
 none_twice b entries wp eip l (inr e) = ap (λ (x : List ℕ). clash_in entries wp (fetch_uses b x)) e ∙ by (eip / 4096 == next_page eip / 4096) refl
   where
-    by : (t : Bool) → (eip / 4096 == next_page eip / 4096) ≡ t → (((t || false) && is_refused_by (entries (next_page eip / 4096)) (access_of b false) wp) || false) ≡ false
+    by : (t : Bool) → (eip / 4096 == next_page eip / 4096) ≡ t → (((t || false) && is_refused_by (entries (next_page eip / 4096)) (by_level b.cpu false) wp) || false) ≡ false
     by true is = absurd (next_is eip (sym (eq_told (eip / 4096) (next_page eip / 4096) is)))
     by false is = refl
 

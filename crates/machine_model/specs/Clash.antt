@@ -4,6 +4,7 @@
 use Rattle.std.specs.Prelude.{ℕ, ◌+◌, ◌-◌, ◌/◌, Bool, true, false, ◌==◌, ◌&&◌, ◌||◌, not, List, [], ◌∷◌, ◌++◌, map, Option, Some, None, Ok, Err, is_some, if◌then◌else◌}
 use Rattle.std.specs.List.{list_any}
 use Rattle.std.specs.FinMap.{get}
+use Rattle.descriptors.specs.Access.{by_level}
 use Rattle.ia32_exec.specs.declared.access.Range.{Range}
 use Rattle.ia32_exec.specs.Effect.{ranges_of}
 use Rattle.ia32_decode.specs.declared.answer.Decoded.{Decoded}
@@ -26,9 +27,6 @@ pub record Use : Type 0 where
 abbrev pub protects : State → Bool
 protects b = has b.cpu.cr0 0x10000
 
-abbrev pub access_of : State → Bool → Access
-access_of b write = record { write = write; user = b.cpu.cpl == 3 }
-
 -- a page of a range, and its last where that is another
 abbrev pub uses_of : Access → Option Range → List Use
 uses_of access None = []
@@ -39,13 +37,13 @@ uses_of access (Some r) =
 
 -- the read range, then the write range
 abbrev pub range_uses : State → Decoded → List Use
-range_uses b (begins.Insn insn len) = uses_of (access_of b false) (ranges_of insn b.cpu.regs).read ++ uses_of (access_of b true) (ranges_of insn b.cpu.regs).write
+range_uses b (begins.Insn insn len) = uses_of (by_level b.cpu false) (ranges_of insn b.cpu.regs).read ++ uses_of (by_level b.cpu true) (ranges_of insn b.cpu.regs).write
 range_uses b begins.Short = []
 range_uses b begins.Outside = []
 
 -- the pages that a fetch went through
 abbrev pub fetch_uses : State → List ℕ → List Use
-fetch_uses b pages = map (λ (page : ℕ). record { page = page; access = access_of b false }) pages
+fetch_uses b pages = map (λ (page : ℕ). record { page = page; access = by_level b.cpu false }) pages
 
 -- a fetch that is refused has no instruction
 abbrev pub uses_by : State → Outcome Refusal Decoded → List Use

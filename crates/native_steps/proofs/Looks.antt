@@ -11,6 +11,7 @@ use Rattle.ia32_decode.specs.declared.answer.Decoded.TheVariants as begins
 use Rattle.ia32_decode.specs.Decoding.{decoded}
 use Rattle.ia32_decode.specs.Front.{longest, front_len}
 use Rattle.descriptors.specs.Controls.{pse_of}
+use Rattle.descriptors.specs.Access.{by_level}
 use Rattle.paging.specs.declared.entry.Access.{Access}
 use Rattle.paging.specs.declared.entry.Entry.{Entry}
 use Rattle.paging.specs.declared.entry.Walk.{Walk}
@@ -24,7 +25,7 @@ use Rattle.sys_exec.specs.declared.effect.Refusal.TheVariants as refusal
 use Rattle.image_check.specs.Image.{Image}
 use Rattle.machine_model.specs.State.{Setting, State, space_at_start, wedge_mode}
 use Rattle.machine_model.specs.Instruction.{fetching, owning_front, owning_back, next_page, owned, fetched_on, fetched_by, fetched}
-use Rattle.machine_model.specs.Clash.{Use, protects, access_of, fetch_uses, range_uses, uses_by, uses_at, is_refused_by, clash_in, instruction_clashes}
+use Rattle.machine_model.specs.Clash.{Use, protects, fetch_uses, range_uses, uses_by, uses_at, is_refused_by, clash_in, instruction_clashes}
 use Rattle.native_steps.specs.Forward.{wp_of}
 use Rattle.native_steps.specs.Looking.{marked, Seen, seen_by, seen, is_front, marks_front, seen_behind, next_seen, bytes_seen, uses_on, uses_behind, uses_from, uses_seen, UsesAreSeen, LooksAgree}
 use Rattle.native_steps.proofs.Choices.{chosen, passed_by, eq_true, is_false, eq_told, lt_false, clash}
@@ -80,7 +81,7 @@ one_clear : (b : State) (page : ℕ) → clash_in (get b.set) (protects b) (fetc
 one_clear b page = refl
 
 two_clear : (b : State) (page next : ℕ) → (page == next) ≡ false → clash_in (get b.set) (protects b) (fetch_uses b (page ∷ next ∷ [])) ≡ false
-two_clear b page next other = ap (λ x. ((x || false) && is_refused_by (get b.set next) (access_of b false) (protects b)) || false) other
+two_clear b page next other = ap (λ x. ((x || false) && is_refused_by (get b.set next) (by_level b.cpu false) (protects b)) || false) other
 
 -- ---- both pages
 
@@ -94,7 +95,7 @@ module _ (m : Setting) (b : State) (kernel : Bool) (mode : m.mode ≡ wedge_mode
   abbrev access : Access
   access = record { write = false; user = not kernel }
 
-  access_is : access_of b false ≡ access
+  access_is : by_level b.cpu false ≡ access
   access_is = ap (λ (u : Bool). record { write = false; user = u }) user
 
   start_in : IsWithin m b kernel start

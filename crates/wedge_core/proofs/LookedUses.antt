@@ -5,6 +5,7 @@ use Rattle.std.specs.List.{list_any}
 use Rattle.std.specs.FinMap.{get}
 use Rattle.board.specs.Scripts.{Events}
 use Rattle.descriptors.specs.declared.cpu.Cpu.{Cpu}
+use Rattle.descriptors.specs.Access.{by_level}
 use Rattle.guest_ram.specs.Bytes.{part}
 use Rattle.image_check.specs.Image.{Image}
 use Rattle.ia32_types.specs.declared.insn.Insn.{Insn}
@@ -18,7 +19,7 @@ use Rattle.paging.specs.Fresh.{has}
 use Rattle.machine_model.specs.State.{State, wedge}
 use Rattle.machine_model.specs.Run.{Set}
 use Rattle.machine_model.specs.Instruction.{next_page}
-use Rattle.machine_model.specs.Clash.{Use, access_of, clash_behind, clash_in, fetch_uses, instruction_clashes, is_refused_by, protects, range_uses, uses_at}
+use Rattle.machine_model.specs.Clash.{Use, clash_behind, clash_in, fetch_uses, instruction_clashes, is_refused_by, protects, range_uses, uses_at}
 use Rattle.native_steps.specs.Looking.{Seen, bytes_seen, marked, uses_on, uses_seen}
 use Rattle.wedge_core.specs.declared.clash.PageUse.{PageUse}
 use Rattle.wedge_core.specs.Clashing.{before, looked, model_use, model_uses}
@@ -97,7 +98,7 @@ part_few m a n k xs bytes none e le =
 
 -- the two pages of a fetch
 two_pages : (b : State) (old new : List PageUse) (page : ℕ) → page ≡ b.cpu.regs.eip / 4096 + 1
-    → model_uses (b.cpu.cpl == 3) old ≡ record { page = b.cpu.regs.eip / 4096; access = access_of b false } ∷ [] → new ≡ old ++ record { page = page; write = false } ∷ []
+    → model_uses (b.cpu.cpl == 3) old ≡ record { page = b.cpu.regs.eip / 4096; access = by_level b.cpu false } ∷ [] → new ≡ old ++ record { page = page; write = false } ∷ []
     → model_uses (b.cpu.cpl == 3) new ≡ fetch_uses b (b.cpu.regs.eip / 4096 ∷ next_page b.cpu.regs.eip / 4096 ∷ [])
 two_pages b old new page is one push =
     let user : Bool = b.cpu.cpl == 3 in
@@ -125,7 +126,7 @@ no_ranges_more b d uses h = sym (append-nil uses) ∙ ap (λ l. uses ++ l) (sym 
 
 -- what is collected where the next page was reached
 pub on_next : (o : Option Seen) (b : State) (ram front bytes : List ℕ) (x : Seen) (old new : List PageUse) (page : ℕ) (d : Decoded) (all : List Use) → page ≡ b.cpu.regs.eip / 4096 + 1
-    → model_uses (b.cpu.cpl == 3) old ≡ record { page = b.cpu.regs.eip / 4096; access = access_of b false } ∷ [] → new ≡ old ++ record { page = page; write = false } ∷ []
+    → model_uses (b.cpu.cpl == 3) old ≡ record { page = b.cpu.regs.eip / 4096; access = by_level b.cpu false } ∷ [] → new ≡ old ++ record { page = page; write = false } ∷ []
     → Some x ≡ o → bytes ≡ front ++ part (marked ram x.marks) (4096 * x.frame + page * 4096 % 4096) 11
     → d ≡ decoded bytes → all ≡ model_uses (b.cpu.cpl == 3) new ++ range_uses b d
     → all ≡ uses_on b ram front o

@@ -20,6 +20,7 @@ use Rattle.paging.specs.Space.{Space}
 use Rattle.sites.specs.declared.site.Site.{Site}
 use Rattle.machine_model.specs.Step.{concluded, worked, begins_next}
 use Rattle.machine_model.specs.Counts.{direct_addresses, passed_on}
+use Rattle.machine_model.specs.Resting.{resting, nothing}
 use Rattle.native_steps.specs.Stretch.{IsQuiet}
 use Rattle.wedge_core.specs.Slices.{Counts, CountsOn}
 use Rattle.wedge_core.specs.Stepping.{Passes}
@@ -69,13 +70,6 @@ vector_same board h = rw h refl
 
 interrupt_same : (cpu : Cpu) (board : Board) → edge_comes board.pit ≡ false → interrupt_of cpu (board_step board) ≡ interrupt_of cpu board
 interrupt_same cpu board h = ap (λ (v : Option ℕ). if has cpu.regs.flags.bits 512 && not cpu.held then v else None) (vector_same board h)
-
--- a processor whose deliveries are not held off
-abbrev pub resting : Cpu → List ℕ → Set → Board → ℕ → State
-resting cpu ram set board step = record { cpu = record cpu { held = false }; ram = ram; set = set; board = board; step = step }
-
-abbrev pub nothing : Report
-nothing = record { items = []; completed = None; pages = []; tables = []; wrote = [] }
 
 no_step : (board : Board) → board_steps 0 board ≡ board
 unfolding board_steps

@@ -24,11 +24,11 @@ ghost use Rattle.wedge_core.specs.Clashing.{looked, AreIn, marks_of, seen_of, be
 ghost use Rattle.wedge_core.specs.Standing.{ground};
 
 use crate::looking::{
-    Bytes, LONGEST, Seen, access_of, fetched, fetched_next, front_len, protects, read,
+    Bytes, LONGEST, Seen, fetched, fetched_next, front_len, protects, read,
 };
 use crate::sight::are_bytes;
 use arrayvec::ArrayVec;
-use descriptors::Cpu;
+use descriptors::{Cpu, by_level};
 use guest_ram::Ram;
 use ia32_decode::{Decoded, decode};
 use ia32_exec::{Range, ranges};
@@ -211,7 +211,7 @@ fn is_clash<S: Shadows>(cpu: &Cpu, shadows: &S, ram: &Ram, uses: &[PageUse]) -> 
 {
     for i in 0..uses.len() {
         let page = uses[i].page;
-        let access = access_of(cpu, uses[i].write);
+        let access = by_level(cpu, uses[i].write);
         if was_used(uses, i, page) && is_refused(shadows, ram, page, access, protects(cpu)) {
             return true;
         }
