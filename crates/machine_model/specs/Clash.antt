@@ -5,6 +5,7 @@ use Rattle.std.specs.Prelude.{ℕ, ◌+◌, ◌-◌, ◌/◌, Bool, true, false,
 use Rattle.std.specs.List.{list_any}
 use Rattle.std.specs.FinMap.{get}
 use Rattle.descriptors.specs.Access.{by_level}
+use Rattle.descriptors.specs.Controls.{wp_of}
 use Rattle.ia32_exec.specs.declared.access.Range.{Range}
 use Rattle.ia32_exec.specs.Effect.{ranges_of}
 use Rattle.ia32_decode.specs.declared.answer.Decoded.{Decoded}
@@ -23,9 +24,6 @@ use Rattle.machine_model.specs.Step.{interrupt_of}
 pub record Use : Type 0 where
   pub page : ℕ
   pub access : Access
-
-abbrev pub protects : State → Bool
-protects b = has b.cpu.cr0 0x10000
 
 -- a page of a range, and its last where that is another
 abbrev pub uses_of : Access → Option Range → List Use
@@ -69,7 +67,7 @@ clash_in entries wp uses = clash_behind entries wp [] uses
 
 -- the instruction at EIP clashes, with this state's entries
 unfoldable pub instruction_clashes : Setting → State → Bool
-instruction_clashes m b = clash_in (get b.set) (protects b) (uses_at m b)
+instruction_clashes m b = clash_in (get b.set) (wp_of b.cpu) (uses_at m b)
 
 -- a step in which an interrupt is delivered, or the processor is halted, has no instruction
 abbrev pub has_instruction : Setting → State → Bool

@@ -47,13 +47,6 @@ pub struct Seen {
     pub marks: Option<Marks>,
 }
 
-/// The rules for supervisor writes to read-only pages hold for this processor.
-pub fn protects(cpu: &Cpu) -> bool
-    ensures { result ≡ (cpu.now.cr0 / 65536 % 2 == 1) }
-{
-    cpu.cr0 / 65536 % 2 == 1
-}
-
 /// Code may not be fetched from the frame, at this level.
 fn is_barred(image: &Checked, user: bool, page: u32, frame: u32) -> bool
     ensures { result ≡ is_barred (wedge_mode image.now) true user page frame }
@@ -107,7 +100,7 @@ pub fn fetched<S: Shadows>(
     ensures frame { IfSome result (λ s. s.frame < frames) }
 {
     let access = by_level(cpu, false);
-    let wp = protects(cpu);
+    let wp = cpu.wp();
     if let Some(entry) = shadows.kept(ram, page)
         && allows(&entry, access, wp)
     {
