@@ -27,10 +27,14 @@ pub record Setting : Type 0 where
 abbrev pub on_bare : Setting → Setting
 on_bare m = record m { mode = Bare }
 
--- A monitor's rules over an image: the loader gave its text the frames from 0x100 on, and no byte is an instruction's
--- own yet.
+-- A monitor's rules over so many frames of text: the loader gave it those from 0x100 on, and no byte is an
+-- instruction's own yet.
+abbrev pub rules_over : ℕ → Mode
+rules_over count = Wedge 0x100 count (record { front = 0; front_len = 0; back = 0; back_len = 0 })
+
+-- those over an image
 abbrev pub wedge_mode : Image → Mode
-wedge_mode image = Wedge 0x100 (text_pages image) (record { front = 0; front_len = 0; back = 0; back_len = 0 })
+wedge_mode image = rules_over (text_pages image)
 
 abbrev pub wedge : Image → Events → ℕ → Setting
 wedge image script frames = record { mode = wedge_mode image; image = image; script = script; frames = frames }

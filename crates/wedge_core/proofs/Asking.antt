@@ -19,20 +19,22 @@ use Rattle.ia32_exec.specs.Short.{IsShort}
 use Rattle.paging.specs.declared.entry.Entry.{Entry}
 use Rattle.paging.specs.Reached.{reached}
 use Rattle.paging.specs.Space.{Space}
+use Rattle.paging.specs.Uses.{is_text, is_given}
 use Rattle.image_check.specs.Image.{Image}
 use Rattle.image_load.specs.Boot.{text_pages}
 use Rattle.host_cpl3.specs.declared.view.View.{View}
 use Rattle.host_cpl3.specs.Access.{last_page}
 use Rattle.shadow_tables.specs.Host.{lent}
-use Rattle.shadow_tables.specs.Slots.{Slot}
+use Rattle.shadow_tables.specs.Slots.{Slot, is_user}
 use Rattle.shadow_tables.specs.declared.words.Side.{Side}
 use Rattle.shadow_tables.specs.declared.words.Side.TheVariants.{Kernel, User}
 use Rattle.step_mem.specs.Changes as changes
 use Rattle.step_mem.specs.declared.changes.Change.{Change}
-use Rattle.machine_model.specs.State.{Setting, State, space_at_start}
+use Rattle.machine_model.specs.State.{Setting, State, space_at_start, wedge_mode}
 use Rattle.machine_model.specs.Clash.{instruction_clashes}
 use Rattle.machine_model.specs.Instruction.{next_page, fetched}
 use Rattle.machine_model.specs.Step.{Report, Went, stepped, unheld}
+use Rattle.machine_model.specs.UsedPages.{may_use}
 use Rattle.native_steps.specs.Again as again
 use Rattle.native_steps.specs.Again.{Again, StepsAgain, settled}
 use Rattle.native_steps.specs.Backward.{NativeCompletes, Completes, IsTranslated, AreReached}
@@ -49,7 +51,7 @@ use Rattle.wedge_mem.specs.Settled.{pages_of}
 use Rattle.wedge_core.specs.Attempts.{Asks}
 use Rattle.wedge_core.specs.declared.running.Lost.{Lost}
 use Rattle.wedge_core.specs.Closed.{MayClose, Closes}
-use Rattle.wedge_core.specs.Opened.{is_text_frame, is_given_frame, is_open_to, is_entry_open}
+use Rattle.wedge_core.specs.Opened.{is_entry_open}
 use Rattle.wedge_core.specs.Standing.{is_kernel, side_of}
 use Rattle.wedge_core.specs.Tries.{IsPrepared}
 use Rattle.wedge_core.specs.Views.{view_by}
@@ -132,13 +134,13 @@ fetch_few user eip insn len s t none e =
 
 -- ---- the view may show what was granted
 
-opened : (image : Image) (side : Side) (page frame : ℕ) → IsOpen (is_kernel side) image page frame → is_open_to (text_pages image) side page frame ≡ true
+opened : (image : Image) (side : Side) (page frame : ℕ) → IsOpen (is_kernel side) image page frame → may_use (wedge_mode image) (is_user side) page frame ≡ true
 opened image User page frame h = ap not h
-opened image Kernel page frame (inl g) = ap (λ (b : Bool). b || (nat_le 0x11000 page && not (is_text_frame (text_pages image) frame))) g
+opened image Kernel page frame (inl g) = ap (λ (b : Bool). b || (nat_le 0x11000 page && not (is_text (wedge_mode image) frame))) g
 opened image Kernel page frame (inr p) =
-    ap (λ (b : Bool). is_given_frame (text_pages image) page frame || (b && not (is_text_frame (text_pages image) frame))) (Rattle.native_steps.proofs.Choices.le_true 0x11000 page p.0)
-    ∙ ap (λ (b : Bool). is_given_frame (text_pages image) page frame || not b) p.1
-    ∙ or_true (is_given_frame (text_pages image) page frame)
+    ap (λ (b : Bool). is_given (wedge_mode image) page frame || (b && not (is_text (wedge_mode image) frame))) (Rattle.native_steps.proofs.Choices.le_true 0x11000 page p.0)
+    ∙ ap (λ (b : Bool). is_given (wedge_mode image) page frame || not b) p.1
+    ∙ or_true (is_given (wedge_mode image) page frame)
   where
     or_true : (b : Bool) → (b || true) ≡ true
     or_true true = refl
