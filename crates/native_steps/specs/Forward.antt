@@ -64,7 +64,6 @@ pub record Follows (m : Setting) (v : View) (b : State) (memory : List ℕ) (reg
   pub guest_untouched : (at : ℕ) → IsUnlent memory v.root at → frame after.ram at ≡ frame b.ram at
   pub leads : v.kernel ≡ true → IsEntrance m.image regs.eip
 
-
 abbrev pub Forward : Type 0
 Forward =
     (m : Setting) (memory : List ℕ) (v : View) (b : State)

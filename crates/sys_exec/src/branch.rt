@@ -8,8 +8,8 @@ ghost use Rattle.sys_exec.specs.Asked.{GivesAsked};
 
 use crate::effect::{Refusal, SysOutcome};
 use crate::operand::{
-    UNSUPPORTED, esp_below, gone_to, long_of, next, past, past_push, pull, push,
-    reach_operand, reg_at,
+    UNSUPPORTED, esp_below, gone_to, long_of, next, past, past_push, pull, push, reach_operand,
+    reg_at,
 };
 use descriptors::{Cpu, by_level, reach};
 use ia32_exec::address_of;

@@ -40,7 +40,6 @@ pub record IsOpenSlot (image : Image) (wp : Bool) (slot : Slot) : Type 0 where
 abbrev pub AreOpen : Image → Bool → (ℕ → Option Slot) → Type 0
 AreOpen image wp slots = (page : ℕ) → page < 2 ^ 20 → ForSome (slots page) (IsOpenSlot image wp)
 
-
 -- a setting in which no event comes; what a guest stands for doesn't depend on events
 abbrev pub ground : Image → ℕ → Setting
 ground image frames = wedge image [] frames

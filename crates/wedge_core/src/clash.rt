@@ -23,9 +23,7 @@ ghost use Rattle.step_mem.specs.Changes.{AreWithin};
 ghost use Rattle.wedge_core.specs.Clashing.{looked, AreIn, marks_of, seen_of, before, model_uses};
 ghost use Rattle.wedge_core.specs.Standing.{ground};
 
-use crate::looking::{
-    Bytes, LONGEST, Seen, fetched, fetched_next, front_len, read,
-};
+use crate::looking::{Bytes, LONGEST, Seen, fetched, fetched_next, front_len, read};
 use crate::sight::are_bytes;
 use arrayvec::ArrayVec;
 use descriptors::{Cpu, by_level};
