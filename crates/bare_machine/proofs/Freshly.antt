@@ -241,7 +241,7 @@ run_from k s n b (Went now mid) is counts left later =
     }
 run_from k s n b (Halts stop) is counts left later = record {
   last = b;
-  run = record { steps = (refl, refl); ends = (omega (arith, left), record { set = empty; allowed = empty_allowed s b; stands = is }) };
+  run = record { steps = (refl, refl); ends = (omega (arith, left), record { set = empty; allowed = empty_allowed s b; halts = is }) };
   count_is = refl;
 }
 

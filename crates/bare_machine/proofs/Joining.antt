@@ -77,5 +77,5 @@ pub parts_are_a_run : PartsAreARun
 parts_are_a_run s n old last new reports Reached l h = record { steps = l.steps; ends = h.0 }
 parts_are_a_run s n old last new reports (Stopped stop) l h = record {
   steps = l.steps;
-  ends = (h.0, record { set = last.set; allowed = l.loosened; stands = same_step s last l.whole last.set ∙ h.2 });
+  ends = (h.0, record { set = last.set; allowed = l.loosened; halts = same_step s last l.whole last.set ∙ h.2 });
 }

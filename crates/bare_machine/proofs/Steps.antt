@@ -13,7 +13,7 @@ use Rattle.step_mem.specs.Changes.{AreWithin}
 use Rattle.step_mem.proofs.Changed.{Within_with}
 use Rattle.bare_mem.specs.Part.{IsPartOf}
 use Rattle.machine_model.specs.State.{Setting, State}
-use Rattle.machine_model.specs.Step.{went, worked, begins_next}
+use Rattle.machine_model.specs.Step.{worked, begins_next}
 use Rattle.machine_step.specs.declared.worked.Dropped.{Dropped}
 use Rattle.machine_step.specs.declared.worked.Dropped.TheVariants as dropped
 use Rattle.machine_step.specs.Worked.{dropping}

@@ -49,7 +49,7 @@ ran s exact n old new told tells (Stopped stop) h = record {
   last = with_set h.last h.passes.whole;
   run = record {
     steps = h.passes.steps;
-    ends = (h.ends.0, record { set = h.last.set; allowed = part_allowed s h.last h.passes.whole h.last.set h.passes.part; stands = same_step s h.last h.passes.whole h.last.set ∙ h.ends.2 });
+    ends = (h.ends.0, record { set = h.last.set; allowed = part_allowed s h.last h.passes.whole h.last.set h.passes.part; halts = same_step s h.last h.passes.whole h.last.set ∙ h.ends.2 });
   };
   count_is = h.ends.1;
   text_is = text_is h.reports new.step (end_of (Stopped stop));

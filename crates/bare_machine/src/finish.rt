@@ -1,4 +1,4 @@
-//! The end of a step that went.
+//! The end of a step that concluded.
 
 ghost use Rattle.std.specs.Prelude.{◌≡◌, ◌+◌, ◌*◌, ◌<◌, ◌≤◌, ◌^◌, true, length, List, Option};
 ghost use Rattle.std.specs.FinMap.{FinMap};
@@ -7,7 +7,7 @@ ghost use Rattle.paging.specs.Space.{Space};
 ghost use Rattle.paging.specs.declared.entry.Entry.{Entry};
 ghost use Rattle.bare_mem.specs.Part.{IsPartOf};
 ghost use Rattle.step_mem.specs.Changes.{AreWithin, changed};
-ghost use Rattle.machine_model.specs.Step.{Completed, went};
+ghost use Rattle.machine_model.specs.Step.{Completed, concluded};
 ghost use Rattle.machine_step.specs.Worked.{dropping, IsDropped};
 ghost use Rattle.run_trace.specs.declared.items.What.{What as Shown};
 ghost use Rattle.bare_machine.specs.Machine.{state_of, Goes, IsKept};
@@ -19,14 +19,14 @@ use machine_step::Dropped;
 use step_mem::Changes;
 use xlate_buffer::Cache;
 
-/// The end of a step that went: what it changed of the translations is kept, the count rises, and the board advances.
+/// The end of a step that concluded: what it changed of the translations is kept, the count rises, and the board advances.
 pub fn go<C: Cache>(machine: &mut Bare<C>, cpu: Cpu, changes: &Changes, dropped: Dropped)
     requires bound { machine.old.step < 2 ^ 40 }
     requires ram { 4096 * machine.old.frames ≤ length machine.old.ram }
     requires within { AreWithin machine.old.frames (changed (C.entries machine.old.kept.cache) changes.now) }
     requires page { IsDropped dropped }
     ensures goes { (whats : List Shown) (completed : Option Completed) (s : Space) → s.ram ≡ machine.old.ram → s.set ≡ dropping dropped (changed (C.entries machine.old.kept.cache) changes.now)
-        → Goes (went whats completed (state_of C.entries machine.old) cpu machine.old.board s) machine.old.step whats (C.is_exact machine.old.kept.cache) (state_of C.entries machine.new) }
+        → Goes (concluded whats completed (state_of C.entries machine.old) cpu machine.old.board s) machine.old.step whats (C.is_exact machine.old.kept.cache) (state_of C.entries machine.new) }
     ensures kept { IsKept machine.new.frames (state_of C.entries machine.new) }
     ensures same { C.is_exact machine.new.kept.cache ≡ C.is_exact machine.old.kept.cache }
     ensures frames { machine.new.frames ≡ machine.old.frames }

@@ -4,9 +4,6 @@ ghost use Rattle.std.specs.Prelude.{◌≡◌, ◌+◌, ◌≤◌, ◌^◌, true
 ghost use Rattle.board.specs.Scripts.{is_script};
 ghost use Rattle.image_check.specs.Image.{Image};
 ghost use Rattle.pv_io.specs.Causes.{Rose};
-ghost use Rattle.machine_model.specs.Step.{items_at};
-ghost use Rattle.machine_step.specs.Worked.{whats};
-ghost use Rattle.run_trace.specs.Steps.{items_of};
 ghost use Rattle.bare_machine.specs.Machine.{bare, state_of, IsKept};
 ghost use Rattle.bare_machine.specs.Slices.{SliceAs};
 ghost use Rattle.run_trace.specs.Pauses.{IfReached};
@@ -14,9 +11,9 @@ ghost use Rattle.run_trace.specs.Pauses.{IfReached};
 use crate::idle::rest;
 use crate::machine::{Bare, first_state, step};
 use board::Script;
-use machine_step::Seen;
+use machine_step::items_of;
 use pv_io::{Failed, Sink};
-use run_trace::{Item, Pause, StepItems, put_step};
+use run_trace::{Pause, put_step};
 use xlate_buffer::Cache;
 
 /// Steps up to a count of steps, or to a stop. The lines of a step go to the sink at its end.
@@ -51,21 +48,4 @@ pub fn steps_to<C: Cache, O: Sink>(
         rest(machine, script, bound);
     }
     Ok(Pause::Reached)
-}
-
-/// What a step lets be seen, as items.
-fn items_of(step: u64, seen: Seen) -> StepItems
-    ensures items { items_of result ≡ items_at step (whats seen) }
-    ensures few { result.len ≤ 2 }
-{
-    let mut items = StepItems::new();
-    match seen {
-        Seen::Nothing => {}
-        Seen::One(what) => items.add(Item { step, what }),
-        Seen::Two(first, second) => {
-            items.add(Item { step, what: first });
-            items.add(Item { step, what: second });
-        }
-    }
-    items
 }

@@ -1,5 +1,5 @@
 -- Accesses to descriptors, gates and the task, for any way to refuse: a denied one ends the work.
-use Rattle.std.specs.Prelude.{ℕ, ◌+◌, ◌%◌, ◌^◌, Bool, true, false, Option, Some, None, Ok, Err}
+use Rattle.std.specs.Prelude.{ℕ, ◌+◌, ◌%◌, ◌^◌, Bool, true, false, Option, Some, None, Ok, Err, ◌==◌}
 use Rattle.ia32_types.specs.declared.size.Size.TheVariants.{Byte, Long}
 use Rattle.ia32_types.specs.declared.stop.Stop as reason
 use Rattle.paging.specs.declared.entry.Access.{Access}
@@ -28,6 +28,10 @@ reaching denials at len access s = met denials (uses s at len access).0 (uses s 
 -- an access of the processor's own, which has the supervisor's rights
 abbrev pub by_processor : Bool → Access
 by_processor write = record { write = write; user = false }
+
+-- an access of the code that runs, with the rights of its level
+abbrev pub by_level : Cpu → Bool → Access
+by_level cpu write = record { write = write; user = cpu.cpl == 3 }
 
 -- the two words of a descriptor or a gate
 unfoldable pub pair_at : {E : Type 0} → Denials E → ℕ → Work E (ℕ × ℕ)

@@ -4,7 +4,7 @@ ghost use Rattle.std.specs.Prelude.{◌≡◌, ◌+◌, ◌≤◌, OnOk};
 ghost use Rattle.paging.specs.Work.{Gives};
 ghost use Rattle.paging.specs.Space.{IsReach, earlier_of};
 ghost use Rattle.descriptors.specs.Segments.{slot};
-ghost use Rattle.descriptors.specs.Access.{Denials, reaching, by_processor, pair_at, byte_set, mark};
+ghost use Rattle.descriptors.specs.Access.{Denials, reaching, by_processor, by_level, pair_at, byte_set, mark};
 
 use crate::cpu::Cpu;
 use ia32_types::{Size, Stop};
@@ -52,6 +52,16 @@ pub fn by_processor(write: bool) -> Access
     ensures { result ≡ by_processor write }
 {
     Access { write, user: false }
+}
+
+/// An access of the code that runs, with the rights of its level.
+pub fn by_level(cpu: &Cpu, write: bool) -> Access
+    ensures { result ≡ by_level cpu.now write }
+{
+    Access {
+        write,
+        user: cpu.cpl == 3,
+    }
 }
 
 /// Reads the two words of a descriptor or a gate.

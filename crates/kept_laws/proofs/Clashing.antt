@@ -12,7 +12,8 @@ use Rattle.ia32_decode.specs.declared.answer.Decoded.{Decoded}
 use Rattle.ia32_decode.specs.declared.answer.Decoded.TheVariants as begins
 use Rattle.ia32_decode.specs.Decoding.{decoded}
 use Rattle.ia32_decode.specs.Front.{longest, front_len}
-use Rattle.descriptors.specs.Controls.{pse_of}
+use Rattle.descriptors.specs.Controls.{pse_of, wp_of}
+use Rattle.descriptors.specs.Access.{by_level}
 use Rattle.paging.specs.declared.entry.Access.{Access}
 use Rattle.paging.specs.declared.entry.Entry.{Entry}
 use Rattle.paging.specs.declared.entry.Touch.{Touch}
@@ -27,8 +28,8 @@ use Rattle.sys_exec.specs.declared.effect.Refusal.{Refusal}
 use Rattle.sys_exec.specs.declared.effect.Refusal.TheVariants as refusal
 use Rattle.machine_model.specs.State.{Setting, State, space_at_start}
 use Rattle.machine_model.specs.Run.{Set}
-use Rattle.machine_model.specs.Instruction.{taken, fetching, owning_front, owning_back, next_page, owned, fetched_on, fetched_by, fetched}
-use Rattle.machine_model.specs.Clash.{Use, access_of, protects, fetch_uses, range_uses, uses_by, is_refused_by, clash_behind, clash_in, instruction_clashes, has_instruction, clashes_from}
+use Rattle.machine_model.specs.Instruction.{bytes_fetched, fetching, owning_front, owning_back, next_page, owned, fetched_on, fetched_by, fetched}
+use Rattle.machine_model.specs.Clash.{Use, fetch_uses, range_uses, uses_by, is_refused_by, clash_behind, clash_in, instruction_clashes, has_instruction, clashes_from}
 use Rattle.machine_model.specs.Reloading.{IsFoundBy, Follows, FetchesFollow, FoundOver}
 use Rattle.native_steps.proofs.Marks.{or_32, or_96}
 use Rattle.kept_laws.specs.Remembered.{was_read}
@@ -217,7 +218,7 @@ refetched follow over m b tables kept others room fit sub none found user eip d 
 abbrev FewPages : ℕ → List ℕ → Type 0
 FewPages eip l = (l ≡ eip / 4096 ∷ []) ⊎ (l ≡ eip / 4096 ∷ next_page eip / 4096 ∷ [])
 
-taken_err : (at len : ℕ) (met : Touch) (s : Space) (r : Refusal) (t : Space) → taken at len met s ≡ Err (r, t) → s ≡ t
+taken_err : (at len : ℕ) (met : Touch) (s : Space) (r : Refusal) (t : Space) → bytes_fetched at len met s ≡ Err (r, t) → s ≡ t
 taken_err at len Ready s r t e = absurd cc
 taken_err at len (Fault code cr2) s r t e = err_space _ r s t e
   where
@@ -287,7 +288,7 @@ none_twice : (b : State) (entries : ℕ → Option Entry) (wp : Bool) (eip : ℕ
 none_twice b entries wp eip l (inl e) = ap (λ (x : List ℕ). clash_in entries wp (fetch_uses b x)) e
 none_twice b entries wp eip l (inr e) = ap (λ (x : List ℕ). clash_in entries wp (fetch_uses b x)) e ∙ by (eip / 4096 == next_page eip / 4096) refl
   where
-    by : (t : Bool) → (eip / 4096 == next_page eip / 4096) ≡ t → (((t || false) && is_refused_by (entries (next_page eip / 4096)) (access_of b false) wp) || false) ≡ false
+    by : (t : Bool) → (eip / 4096 == next_page eip / 4096) ≡ t → (((t || false) && is_refused_by (entries (next_page eip / 4096)) (by_level b.cpu false) wp) || false) ≡ false
     by true is = absurd (next_is eip (sym (eq_told (eip / 4096) (next_page eip / 4096) is)))
     by false is = refl
 
@@ -317,15 +318,15 @@ clash_more kept others wp used (u ∷ us) sub h =
 
 by_outcome : FetchesFollow → FoundOver → (m : Setting) (b : State) (tables : ℕ → Bool) (kept others : Set) → 4096 * m.frames ≤ length b.ram → AreBytes b.ram → ((q : ℕ) → ForSome (get kept q) (λ e. get others q ≡ Some e))
     → ((q : ℕ) → 2 ^ 20 ≤ q → get others q ≡ None) → ((q : ℕ) → q < 2 ^ 20 → ForSome (get others q) (λ e. IsFoundBy b.ram m.frames b.cpu.cr3 (pse_of b.cpu) tables q e))
-    → (o : Outcome Refusal Decoded) → fetched (b.cpu.cpl == 3) b.cpu.regs.eip (begun m b kept) ≡ o → clash_in (get kept) (protects b) (uses_by b o) ≡ true
-    → clash_in (get others) (protects b) (uses_by b (fetched (b.cpu.cpl == 3) b.cpu.regs.eip (begun m b others))) ≡ true
+    → (o : Outcome Refusal Decoded) → fetched (b.cpu.cpl == 3) b.cpu.regs.eip (begun m b kept) ≡ o → clash_in (get kept) (wp_of b.cpu) (uses_by b o) ≡ true
+    → clash_in (get others) (wp_of b.cpu) (uses_by b (fetched (b.cpu.cpl == 3) b.cpu.regs.eip (begun m b others))) ≡ true
 by_outcome follow over m b tables kept others room fit sub none found (Ok read) is h =
     let f = refetched follow over m b tables kept others room fit sub none found (b.cpu.cpl == 3) b.cpu.regs.eip read.0 read.1 is in
     let same : uses_by b (fetched (b.cpu.cpl == 3) b.cpu.regs.eip (begun m b others)) ≡ uses_by b (Ok read) = ap (uses_by b) f.is ∙ ap (λ (l : List ℕ). fetch_uses b l ++ range_uses b read.0) f.visited in
-    subst (λ (us : List Use). clash_in (get others) (protects b) us ≡ true) (sym same) (clash_more kept others (protects b) [] (uses_by b (Ok read)) sub h)
+    subst (λ (us : List Use). clash_in (get others) (wp_of b.cpu) us ≡ true) (sym same) (clash_more kept others (wp_of b.cpu) [] (uses_by b (Ok read)) sub h)
 by_outcome follow over m b tables kept others room fit sub none found (Err refused) is h =
-    clash (clash_in (get kept) (protects b) (fetch_uses b refused.1.visited)) h
-    (none_twice b (get kept) (protects b) b.cpu.regs.eip refused.1.visited (fetched_err follow (b.cpu.cpl == 3) b.cpu.regs.eip (begun m b kept) refused.0 refused.1 refl is))
+    clash (clash_in (get kept) (wp_of b.cpu) (fetch_uses b refused.1.visited)) h
+    (none_twice b (get kept) (wp_of b.cpu) b.cpu.regs.eip refused.1.visited (fetched_err follow (b.cpu.cpl == 3) b.cpu.regs.eip (begun m b kept) refused.0 refused.1 refl is))
 
 instructions_agree : FetchesFollow → FoundOver → (m : Setting) (b : State) (tables : ℕ → Bool) (kept others : Set) → 4096 * m.frames ≤ length b.ram → AreBytes b.ram → ((q : ℕ) → ForSome (get kept q) (λ e. get others q ≡ Some e))
     → ((q : ℕ) → 2 ^ 20 ≤ q → get others q ≡ None) → ((q : ℕ) → q < 2 ^ 20 → ForSome (get others q) (λ e. IsFoundBy b.ram m.frames b.cpu.cr3 (pse_of b.cpu) tables q e))

@@ -5,7 +5,7 @@ use Rattle.std.specs.FinMap.{empty}
 use Rattle.std.proofs.lemmas.List.Elements.{All-head, All-tail, All-cons, All-nil, All-append}
 use Rattle.guest_ram.specs.Bytes.{AreBytes}
 use Rattle.paging.specs.Fresh.{has}
-use Rattle.descriptors.specs.Controls.{pse_of}
+use Rattle.descriptors.specs.Controls.{pse_of, wp_of}
 use Rattle.shadow_tables.specs.Aside.{Aside, AreSame, LoseWrites, all_spared}
 use Rattle.shadow_tables.specs.Entries.{entries_of}
 use Rattle.machine_model.specs.State.{Setting, State}
@@ -123,7 +123,7 @@ same_or false true = inr (λ e. cc)
 same_or false false = inl refl
 
 rules_or : (t : Taken) → RulesStay t ⊎ (RulesStay t → ⊥)
-rules_or t = elim (same_or (has t.after.cpu.cr0 65536) (has t.before.cpu.cr0 65536)) [
+rules_or t = elim (same_or (wp_of t.after.cpu) (wp_of t.before.cpu)) [
   | inl wp ↦ elim (same_or (pse_of t.after.cpu) (pse_of t.before.cpu)) [
     | inl pse ↦ inl (record { wp = wp; pse = pse })
     | inr other ↦ inr (λ stay. other stay.pse)
@@ -143,12 +143,12 @@ changed false false h = absurd (h refl)
 
 -- where they change, all may go
 left_empty : (m : Setting) (t : Taken) (kept : Set) → IsStep m t → (RulesStay t → ⊥) → kept ≡ empty → IsLeft t kept
-left_empty m t kept step lost is plain = elim (same_or (has t.after.cpu.cr0 65536) (has t.before.cpu.cr0 65536)) [
+left_empty m t kept step lost is plain = elim (same_or (wp_of t.after.cpu) (wp_of t.before.cpu)) [
   | inl wp ↦ elim (same_or (pse_of t.after.cpu) (pse_of t.before.cpu)) [
     | inl pse ↦ absurd (lost (record { wp = wp; pse = pse }))
     | inr other ↦ inl (is ∙ sym (step.emptied other))
   ]
-  | inr other ↦ inr (is, changed (has t.before.cpu.cr0 65536) (has t.after.cpu.cr0 65536) other)
+  | inr other ↦ inr (is, changed (wp_of t.before.cpu) (wp_of t.after.cpu) other)
 ]
 
 -- ---- what a step was told

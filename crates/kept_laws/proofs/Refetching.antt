@@ -22,7 +22,7 @@ use Rattle.paging.specs.Work.{Outcome, Work, on_value, ◌>>=◌, gives, refuses
 use Rattle.sys_exec.specs.declared.effect.Refusal.{Refusal}
 use Rattle.sys_exec.specs.declared.effect.Refusal.TheVariants as refusal
 use Rattle.machine_model.specs.Run.{Set}
-use Rattle.machine_model.specs.Instruction.{taken, fetching, owning_front, owning_back, next_page, owned, fetched_on, fetched_by, fetched}
+use Rattle.machine_model.specs.Instruction.{bytes_fetched, fetching, owning_front, owning_back, next_page, owned, fetched_on, fetched_by, fetched}
 use Rattle.machine_model.specs.Reloading.{IsFoundBy}
 use Rattle.machine_model.proofs.Using.{there, elsewhere, found_page as fresh_page}
 use Rattle.native_steps.proofs.Choices.{chosen, passed_by}
@@ -240,7 +240,7 @@ fetches_again tables s T Y E at len user fit k e =
     page_range s T F (at / 4096) at len first (page_uses (other (unready s) T Y F) true (at / 4096) at (record { write = false; user = user })) met
     (page_again tables (unready s) T Y F (at / 4096) at (record { write = false; user = user }) refl fit k met)
 
-pub taken_ready : (at len : ℕ) (met : Touch) (s : Space) (x : List ℕ) (t : Space) → taken at len met s ≡ Ok (x, t) → (met ≡ Ready) × (part s.ram (place s at) len ≡ x) × (s ≡ t)
+pub taken_ready : (at len : ℕ) (met : Touch) (s : Space) (x : List ℕ) (t : Space) → bytes_fetched at len met s ≡ Ok (x, t) → (met ≡ Ready) × (part s.ram (place s at) len ≡ x) × (s ≡ t)
 taken_ready at len Ready s x t e = (refl, same_value (part s.ram (place s at) len) x s t e, same_space (part s.ram (place s at) len) x s t e)
 taken_ready at len (Fault code cr2) s x t e = absurd cc
 taken_ready at len (Stop stop) s x t e = absurd cc
@@ -249,12 +249,12 @@ place_same : (t : Space) (T : Set) (Y : List ℕ) (E : Earlier) (page : ℕ) →
 unfolding place
 place_same t T Y E page h at e = ap (λ p. place_by (get T p) at) e ∙ (h at ∙ sym (ap (λ p. place_by (get t.set p) at) e))
 
-from_range : (s t : Space) (T : Set) (at len : ℕ) (met : Touch × Space) (x : List ℕ) → part t.ram (place t at) len ≡ x → RangeReady s t T (at / 4096) met → Again s T (at / 4096) x t (taken at len met.0 met.1)
+from_range : (s t : Space) (T : Set) (at len : ℕ) (met : Touch × Space) (x : List ℕ) → part t.ram (place t at) len ≡ x → RangeReady s t T (at / 4096) met → Again s T (at / 4096) x t (bytes_fetched at len met.0 met.1)
 from_range s t T at len met x e h = record {
   set = h.set;
   tables = h.tables;
   earlier = h.earlier;
-  is = ap (λ (p : Touch × Space). taken at len p.0 p.1) h.is ∙ ap (λ (l : List ℕ). Ok (l, other t h.set h.tables h.earlier)) (ap (λ n. part t.ram n len) (place_same t h.set h.tables h.earlier (at / 4096) h.place_is at refl) ∙ e);
+  is = ap (λ (p : Touch × Space). bytes_fetched at len p.0 p.1) h.is ∙ ap (λ (l : List ℕ). Ok (l, other t h.set h.tables h.earlier)) (ap (λ n. part t.ram n len) (place_same t h.set h.tables h.earlier (at / 4096) h.place_is at refl) ∙ e);
   place_is = place_same t h.set h.tables h.earlier (at / 4096) h.place_is;
   others = h.others;
   ours = h.ours;

@@ -4,7 +4,7 @@ use Rattle.std.specs.List.{All}
 use Rattle.std.specs.FinMap.{get, empty}
 use Rattle.guest_ram.specs.Bytes.{AreBytes}
 use Rattle.paging.specs.Fresh.{has}
-use Rattle.descriptors.specs.Controls.{pse_of}
+use Rattle.descriptors.specs.Controls.{pse_of, wp_of}
 use Rattle.shadow_tables.specs.Aside.{Aside, AreSame}
 use Rattle.shadow_tables.specs.Entries.{entries_of}
 use Rattle.shadow_tables.specs.Slots.{Slot}
@@ -37,7 +37,7 @@ pub record IsKnown (m : Setting) (steps : List Taken) (b : State) (noted : ℕ �
 
 -- the step left CR0.WP and CR4.PSE
 pub record RulesStay (t : Taken) : Type 0 where
-  pub wp : has t.after.cpu.cr0 0x10000 ≡ has t.before.cpu.cr0 0x10000
+  pub wp : wp_of t.after.cpu ≡ wp_of t.before.cpu
   pub pse : pse_of t.after.cpu ≡ pse_of t.before.cpu
 
 -- no more is noted of the present tables, they are marked only where they were, and the same is kept for other values

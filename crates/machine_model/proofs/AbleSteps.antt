@@ -38,7 +38,7 @@ use Rattle.machine_model.specs.State.{Setting, State, space_at_start}
 use Rattle.machine_model.specs.Rules.{stands_well, is_open, may_leave}
 use Rattle.machine_model.specs.Instruction.{fetched, instructed, with_accumulator}
 use Rattle.machine_model.specs.Step as step
-use Rattle.machine_model.specs.Step.{Completed, Report, Result, Went, Halts, begun, begins_next, went, after_read, after_write, out_item, code_of, after_delivery, after_effect, after_software, after_instruction, by_op, by_decoded, after_refusal, after_fetch, fetches_next, worked, interrupt_of, interrupted, by_interrupt, unheld, stepped}
+use Rattle.machine_model.specs.Step.{Completed, Report, Result, Went, Halts, begun, begins_next, concluded, after_read, after_write, out_item, code_of, after_delivery, after_effect, after_software, after_instruction, by_op, by_decoded, after_refusal, after_fetch, fetches_next, worked, interrupt_of, interrupted, by_interrupt, unheld, stepped}
 use Rattle.machine_model.specs.Able.{IsAble, StepsKeepAble}
 use Rattle.machine_model.proofs.Yielding.{Ends, Yields, any_yields, gives_yields}
 use Rattle.sys_exec.specs.Operand.{past}
@@ -76,7 +76,7 @@ delivered_able cpu vector kind code =
 
 module _ (m : Setting) (b : State) where
   of_entered : (whats : List What) (c : Option Completed) (cpu : Cpu) (board : Board) (s : Space) → IsAble cpu → LeavesAble (step.entered m whats c b cpu board s)
-  of_entered whats c cpu board s h = chosen (stands_well m cpu) (went whats c b cpu board s) (Halts stops.NotAStart) (λ well. h) tt
+  of_entered whats c cpu board s h = chosen (stands_well m cpu) (concluded whats c b cpu board s) (Halts stops.NotAStart) (λ well. h) tt
 
   of_delivery : (whats : List What) (board : Board) (o : Outcome NotDelivered Cpu) → Ends IsAble o → LeavesAble (after_delivery m whats b board o)
   of_delivery whats board (Ok done) h = of_entered whats None done.0 board done.1 h
@@ -136,7 +136,7 @@ module _ (m : Setting) (b : State) (text count : ℕ) (own : Own) (mode : m.mode
   of_write c cpu item s (did.Sent value, board) h = h
 
   of_effect : (c : Completed) (e : SysEffect) (cpu : Cpu) (s : Space) → Suits b.cpu cpu → Stays b.cpu cpu e → LeavesAble (after_effect m b c e cpu s)
-  of_effect c effects.Next cpu s h k = chosen (may_leave m.mode b.cpu cpu) (went [] (Some c) b cpu b.board s) (Halts stops.UserFlags) (of_next cpu h) tt
+  of_effect c effects.Next cpu s h k = chosen (may_leave m.mode b.cpu cpu) (concluded [] (Some c) b cpu b.board s) (Halts stops.UserFlags) (of_next cpu h) tt
   of_effect c effects.Halted cpu s h k = at_level b.cpu cpu h k
   of_effect c (effects.DropPage page) cpu s h k = at_level b.cpu cpu h k
   of_effect c (effects.DropDir index) cpu s h k = at_level b.cpu cpu h k
@@ -173,7 +173,7 @@ module _ (m : Setting) (b : State) (text count : ℕ) (own : Own) (mode : m.mode
   of_work : (s : Space) → LeavesAble (worked m b s)
   unfolding worked
   of_work s =
-      chosen b.cpu.halted (went [] None b b.cpu b.board s) (begins_next m b s) (λ halted. able)
+      chosen b.cpu.halted (concluded [] None b b.cpu b.board s) (begins_next m b s) (λ halted. able)
       (chosen (stands_well m b.cpu) (fetches_next m b s) (Halts stops.NotAStart) (λ well. of_fetch (fetched (b.cpu.cpl == 3) b.cpu.regs.eip s)) tt)
 
   of_interrupt : (o : Option ℕ) (s : Space) → LeavesAble (by_interrupt m o b s)

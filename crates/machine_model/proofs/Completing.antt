@@ -42,7 +42,7 @@ use Rattle.run_trace.specs.declared.items.What.TheVariants.{Irq}
 use Rattle.machine_model.specs.State.{Setting, State, space_at_start}
 use Rattle.machine_model.specs.Rules.{stands_well, is_open, may_leave}
 use Rattle.machine_model.specs.Instruction.{fetched, instructed, is_plain, done_plainly}
-use Rattle.machine_model.specs.Step.{Completed, Result, Went, Halts, entered, begun, begins_next, went, after_read, after_write, out_item, code_of, after_delivery, raised, after_effect, after_software, after_instruction, by_op, by_decoded, after_refusal, after_fetch, fetches_next, worked, interrupt_of, interrupted, by_interrupt, unheld}
+use Rattle.machine_model.specs.Step.{Completed, Result, Went, Halts, entered, begun, begins_next, concluded, after_read, after_write, out_item, code_of, after_delivery, raised, after_effect, after_software, after_instruction, by_op, by_decoded, after_refusal, after_fetch, fetches_next, worked, interrupt_of, interrupted, by_interrupt, unheld}
 use Rattle.sys_exec.specs.Operand.{past}
 use Rattle.machine_model.specs.Alone.{IsDone, is_user, IsUser, is_barred, StepsAreDone}
 
@@ -135,7 +135,7 @@ instructed_by o insn len cpu s e = ap (λ x. cond (is_plain x) (done_plainly (ex
 
 module _ (m : Setting) (b : State) (P : Completed → Type 0) where
   of_entered : (whats : List What) (c : Option Completed) (cpu : Cpu) (board : Board) (s : Space) → ForSome c P → Completes P (entered m whats c b cpu board s)
-  of_entered whats c cpu board s p = chosen P (stands_well m cpu) (went whats c b cpu board s) (Halts stops.NotAStart) (λ well. p) (λ not_well. tt)
+  of_entered whats c cpu board s p = chosen P (stands_well m cpu) (concluded whats c b cpu board s) (Halts stops.NotAStart) (λ well. p) (λ not_well. tt)
 
   of_delivery : (whats : List What) (board : Board) (o : Outcome NotDelivered Cpu) → Completes P (after_delivery m whats b board o)
   of_delivery whats board (Ok done) = of_entered whats None done.0 board done.1 (in_none P)
@@ -164,7 +164,7 @@ module _ (m : Setting) (b : State) (P : Completed → Type 0) where
   of_write c cpu item s (did.Sent value, board) p = in_some P c p
 
   of_effect : (c : Completed) (e : SysEffect) (cpu : Cpu) (s : Space) → P c → Completes P (after_effect m b c e cpu s)
-  of_effect c effects.Next cpu s p = chosen P (may_leave m.mode b.cpu cpu) (went [] (Some c) b cpu b.board s) (Halts stops.UserFlags) (λ may. in_some P c p) (λ may_not. tt)
+  of_effect c effects.Next cpu s p = chosen P (may_leave m.mode b.cpu cpu) (concluded [] (Some c) b cpu b.board s) (Halts stops.UserFlags) (λ may. in_some P c p) (λ may_not. tt)
   of_effect c effects.Halted cpu s p = in_some P c p
   of_effect c (effects.DropPage page) cpu s p = in_some P c p
   of_effect c (effects.DropDir index) cpu s p = in_some P c p
@@ -212,7 +212,7 @@ module _ (m : Setting) (b : State) (P : Completed → Type 0) where
   of_work : (s : Space) → (b.cpu.halted ≡ false → stands_well m b.cpu ≡ true → (insn : Insn) (len : ℕ) (t : Space) → fetched (b.cpu.cpl == 3) b.cpu.regs.eip s ≡ Ok (begins.Insn insn len, t) → (IsUser b.cpu → is_barred insn.op ≡ false) → P (begun b insn)) → Completes P (worked m b s)
   unfolding worked
   of_work s h =
-      chosen P b.cpu.halted (went [] None b b.cpu b.board s) (begins_next m b s) (λ halted. in_none P)
+      chosen P b.cpu.halted (concluded [] None b b.cpu b.board s) (begins_next m b s) (λ halted. in_none P)
       (λ awake. chosen P (stands_well m b.cpu) (fetches_next m b s) (Halts stops.NotAStart) (λ well. of_fetch (fetched (b.cpu.cpl == 3) b.cpu.regs.eip s) (h awake well)) (λ not_well. tt))
 
   of_interrupt : (o : Option ℕ) (s : Space)

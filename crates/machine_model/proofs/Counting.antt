@@ -30,7 +30,7 @@ use Rattle.run_trace.specs.declared.items.What.TheVariants.{Irq}
 use Rattle.machine_model.specs.State.{Setting, State, space_at_start}
 use Rattle.machine_model.specs.Instruction.{fetched, instructed}
 use Rattle.machine_model.specs.Rules.{stands_well, may_leave}
-use Rattle.machine_model.specs.Step.{Completed, Result, Halts, entered, begun, begins_next, went, after_read, after_write, out_item, code_of, after_delivery, after_effect, after_software, by_op, by_decoded, after_refusal, after_fetch, fetches_next, worked, interrupt_of, interrupted, by_interrupt, unheld, step_of}
+use Rattle.machine_model.specs.Step.{Completed, Result, Halts, entered, begun, begins_next, concluded, after_read, after_write, out_item, code_of, after_delivery, after_effect, after_software, by_op, by_decoded, after_refusal, after_fetch, fetches_next, worked, interrupt_of, interrupted, by_interrupt, unheld, step_of}
 use Rattle.sys_exec.specs.Operand.{past}
 use Rattle.machine_model.specs.Ends.{StepsTo, EachStepCounts}
 
@@ -48,14 +48,14 @@ chosen n true x y p q = p
 chosen n false x y p q = q
 
 entered_counts : (m : Setting) (whats : List What) (c : Option Completed) (b : State) (cpu : Cpu) (board : Board) (s : Space) → StepsTo (b.step + 1) (entered m whats c b cpu board s)
-entered_counts m whats c b cpu board s = chosen (b.step + 1) (stands_well m cpu) (went whats c b cpu board s) (Halts stops.NotAStart) refl tt
+entered_counts m whats c b cpu board s = chosen (b.step + 1) (stands_well m cpu) (concluded whats c b cpu board s) (Halts stops.NotAStart) refl tt
 
 delivery_counts : (m : Setting) (whats : List What) (b : State) (board : Board) (o : Outcome NotDelivered Cpu) → StepsTo (b.step + 1) (after_delivery m whats b board o)
 delivery_counts m whats b board (Ok done) = entered_counts m whats None b done.0 board done.1
 delivery_counts m whats b board (Err refused) = tt
 
 effect_counts : (m : Setting) (b : State) (c : Completed) (e : SysEffect) (cpu : Cpu) (s : Space) → StepsTo (b.step + 1) (after_effect m b c e cpu s)
-effect_counts m b c effects.Next cpu s = chosen (b.step + 1) (may_leave m.mode b.cpu cpu) (went [] (Some c) b cpu b.board s) (Halts stops.UserFlags) refl tt
+effect_counts m b c effects.Next cpu s = chosen (b.step + 1) (may_leave m.mode b.cpu cpu) (concluded [] (Some c) b cpu b.board s) (Halts stops.UserFlags) refl tt
 effect_counts m b c effects.Halted cpu s = refl
 effect_counts m b c (effects.DropPage page) cpu s = refl
 effect_counts m b c (effects.DropDir index) cpu s = refl
@@ -94,7 +94,7 @@ fetch_counts m b (Err refused) = refusal_counts m b refused.0 refused.1
 worked_counts : (m : Setting) (b : State) (s : Space) → StepsTo (b.step + 1) (worked m b s)
 unfolding worked
 worked_counts m b s =
-    chosen (b.step + 1) b.cpu.halted (went [] None b b.cpu b.board s) (begins_next m b s) refl
+    chosen (b.step + 1) b.cpu.halted (concluded [] None b b.cpu b.board s) (begins_next m b s) refl
     (chosen (b.step + 1) (stands_well m b.cpu) (fetches_next m b s) (Halts stops.NotAStart) (fetch_counts m b (fetched (b.cpu.cpl == 3) b.cpu.regs.eip s)) tt)
 
 interrupt_counts : (m : Setting) (o : Option ℕ) (b : State) (s : Space) → StepsTo (b.step + 1) (by_interrupt m o b s)

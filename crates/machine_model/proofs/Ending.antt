@@ -41,7 +41,7 @@ from_step k s n b (Halts stop) is counts left later = record {
   reports = [];
   last = b;
   end = Stopped stop;
-  run = record { steps = no_steps s b; ends = (omega (arith, left), record { set = empty; allowed = empty_allowed s b; stands = is }) };
+  run = record { steps = no_steps s b; ends = (omega (arith, left), record { set = empty; allowed = empty_allowed s b; halts = is }) };
 }
 
 ends_after : (k : ℕ) (s : Setting) (n : ℕ) (b : State) → b.step + k ≡ n → HasEnd s n b

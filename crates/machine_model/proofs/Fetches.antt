@@ -22,7 +22,7 @@ use Rattle.paging.proofs.Translations.{clash}
 use Rattle.sys_exec.specs.declared.effect.Refusal.TheVariants as refusal
 use Rattle.paging.specs.Work.{Outcome, Work, on_value, refuses}
 use Rattle.ia32_decode.specs.Front.{longest, front_len}
-use Rattle.machine_model.specs.Instruction.{taken, fetching, next_page, owning_front, owning_back, owned, fetched_on, fetched_by, fetched}
+use Rattle.machine_model.specs.Instruction.{bytes_fetched, fetching, next_page, owning_front, owning_back, owned, fetched_on, fetched_by, fetched}
 use Rattle.machine_model.specs.Owned.{own_in_one, own_in_two, OwnsItsBytes}
 
 -- the rules, and the entry of a page, as they were
@@ -97,7 +97,7 @@ no_insn : (o p : Outcome Refusal Decoded) → gives_insn o ≡ false → gives_i
 no_insn o p a b e = clash (sym a ∙ (ap gives_insn e ∙ b))
 
 -- the bytes that were read, and memory then
-taken_is : (at len : ℕ) (t : Touch) (s new : Space) (bytes : List ℕ) → taken at len t s ≡ Ok (bytes, new) → new ≡ s
+taken_is : (at len : ℕ) (t : Touch) (s new : Space) (bytes : List ℕ) → bytes_fetched at len t s ≡ Ok (bytes, new) → new ≡ s
 taken_is at len Ready s new bytes e = ap (λ (o : Outcome Refusal (List ℕ)). space_in o) (sym e)
 taken_is at len (Fault code cr2) s new bytes e = absurd (cc)
 taken_is at len (Stop stop) s new bytes e = absurd (cc)

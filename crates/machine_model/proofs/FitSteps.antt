@@ -44,7 +44,7 @@ use Rattle.machine_model.specs.State.{Setting, State, space_at_start}
 use Rattle.machine_model.specs.Rules.{stands_well, may_leave}
 use Rattle.machine_model.specs.Instruction.{fetched, instructed, with_accumulator}
 use Rattle.machine_model.specs.Step as step
-use Rattle.machine_model.specs.Step.{Completed, Result, Went, Halts, begun, begins_next, went, after_read, after_write, out_item, code_of, after_delivery, after_effect, after_software, after_instruction, by_op, by_decoded, after_refusal, after_fetch, fetches_next, worked, interrupt_of, interrupted, by_interrupt, unheld}
+use Rattle.machine_model.specs.Step.{Completed, Result, Went, Halts, begun, begins_next, concluded, after_read, after_write, out_item, code_of, after_delivery, after_effect, after_software, after_instruction, by_op, by_decoded, after_refusal, after_fetch, fetches_next, worked, interrupt_of, interrupted, by_interrupt, unheld}
 use Rattle.machine_model.specs.StaysFit.{StepsKeepFit}
 use Rattle.machine_model.proofs.Yielding.{Ends, Yields, OfValue, then_yields, any_yields, gives_yields, unless_yields, keeps_yields, by_yields}
 use Rattle.machine_model.proofs.AbleRows.{none, both}
@@ -134,7 +134,7 @@ at_fault cpu at h = same cpu h (record cpu { cr2 = at }) refl refl refl refl ref
 
 module _ (m : Setting) (b : State) where
   of_entered : (whats : List What) (c : Option Completed) (cpu : Cpu) (board : Board) (s : Space) → IsWhole cpu → LeavesWhole (step.entered m whats c b cpu board s)
-  of_entered whats c cpu board s h = chosen (stands_well m cpu) (step.went whats c b cpu board s) (Halts stops.NotAStart) (λ well. h) (λ bad. tt)
+  of_entered whats c cpu board s h = chosen (stands_well m cpu) (step.concluded whats c b cpu board s) (Halts stops.NotAStart) (λ well. h) (λ bad. tt)
 
   of_delivery : (whats : List What) (board : Board) (o : Outcome NotDelivered Cpu) → Ends IsWhole o → LeavesWhole (after_delivery m whats b board o)
   of_delivery whats board (Ok done) h = of_entered whats None done.0 board done.1 h
@@ -155,7 +155,7 @@ module _ (m : Setting) (b : State) where
   of_write c cpu item s (did.Sent value, board) h = h
 
   of_effect : (c : Completed) (e : SysEffect) (cpu : Cpu) (s : Space) → IsWhole cpu → LeavesWhole (after_effect m b c e cpu s)
-  of_effect c effects.Next cpu s h = chosen (may_leave m.mode b.cpu cpu) (step.went [] (Some c) b cpu b.board s) (Halts stops.UserFlags) (λ leave. h) (λ no. tt)
+  of_effect c effects.Next cpu s h = chosen (may_leave m.mode b.cpu cpu) (step.concluded [] (Some c) b cpu b.board s) (Halts stops.UserFlags) (λ leave. h) (λ no. tt)
   of_effect c effects.Halted cpu s h = h
   of_effect c (effects.DropPage page) cpu s h = h
   of_effect c (effects.DropDir index) cpu s h = h
@@ -207,7 +207,7 @@ module _ (m : Setting) (b : State) where
     of_work : (s : Space) → LeavesWhole (worked m b s)
     unfolding worked
     of_work s =
-        chosen b.cpu.halted (step.went [] None b b.cpu b.board s) (begins_next m b s) (λ halted. whole) (λ awake.
+        chosen b.cpu.halted (step.concluded [] None b b.cpu b.board s) (begins_next m b s) (λ halted. whole) (λ awake.
         chosen (stands_well m b.cpu) (fetches_next m b s) (Halts stops.NotAStart) (λ well. of_fetch awake (fetched (b.cpu.cpl == 3) b.cpu.regs.eip s)) (λ bad. tt))
 
     of_interrupt : (o : Option ℕ) (s : Space) → LeavesWhole (by_interrupt m o b s)

@@ -8,13 +8,13 @@ use Rattle.descriptors.specs.declared.cpu.Cpu.{Cpu}
 use Rattle.paging.specs.Fresh.{has}
 use Rattle.paging.specs.Space.{Space}
 use Rattle.machine_model.specs.State.{Setting, State, space_at_start}
-use Rattle.machine_model.specs.Step.{went, worked, begins_next, step_of, stepped, by_interrupt, unheld}
+use Rattle.machine_model.specs.Step.{concluded, worked, begins_next, step_of, stepped, by_interrupt, unheld}
 use Rattle.machine_model.specs.Run.{Steps}
 use Rattle.machine_model.specs.Resting.{IsResting, resting, nothing, EachRests, AllRest, NothingIsSeen, HaltedSteps}
 
-halted_works : (m : Setting) (b : State) (s : Space) → b.cpu.halted ≡ true → worked m b s ≡ went [] None b b.cpu b.board s
+halted_works : (m : Setting) (b : State) (s : Space) → b.cpu.halted ≡ true → worked m b s ≡ concluded [] None b b.cpu b.board s
 unfolding worked
-halted_works m b s e = ap (λ (h : Bool). cond h (went [] None b b.cpu b.board s) (begins_next m b s)) e
+halted_works m b s e = ap (λ (h : Bool). cond h (concluded [] None b b.cpu b.board s) (begins_next m b s)) e
 
 rests_still : (cpu : Cpu) (board : Board) → vector (board_step board) ≡ vector board → IsResting cpu board → IsResting cpu (board_step board)
 rests_still cpu board same h = record {

@@ -12,9 +12,10 @@ use Rattle.ia32_types.specs.declared.size.Size.TheVariants.{Word, Long}
 use Rattle.ia32_exec.specs.Registers.{address_of}
 use Rattle.ia32_exec.specs.Stack.{esp_below}
 use Rattle.descriptors.specs.declared.cpu.Cpu.{Cpu}
+use Rattle.descriptors.specs.Access.{by_level}
 use Rattle.sys_exec.specs.declared.effect.SysEffect.TheVariants as effects
 use Rattle.sys_exec.specs.Access.{denials}
-use Rattle.sys_exec.specs.Operand.{unsupported, by_level, past}
+use Rattle.sys_exec.specs.Operand.{unsupported, past}
 use Rattle.sys_exec.specs.Flags.{clear_interrupts, set_interrupts, halt, push_flags, pop_flags}
 use Rattle.sys_exec.specs.Control.{load_control, write_control, control_of, read_control}
 use Rattle.sys_exec.specs.Table.{table_at, load_gdt, load_idt, load_tr, dropped, drop_page}

@@ -43,8 +43,8 @@ use Rattle.run_trace.specs.declared.items.What.{What}
 use Rattle.run_trace.specs.declared.items.What.TheVariants.{Sent, Irq}
 use Rattle.machine_model.specs.State.{Setting, State, space_at_start}
 use Rattle.machine_model.specs.Rules.{stands_well, may_leave}
-use Rattle.machine_model.specs.Instruction.{taken, fetching, owning_front, owning_back, owned, fetched_on, fetched_by, fetched, is_plain, done_plainly, instructed, with_accumulator}
-use Rattle.machine_model.specs.Step.{Report, Completed, Result, Went, Halts, went, in_item, after_read, after_write, out_item, entered, after_delivery, raised, code_of, after_effect, effect_on, after_software, interrupts_by, begun, by_op, by_decoded, after_refusal, after_fetch, begins_next, worked, interrupted, interrupt_of, by_interrupt, unheld, step_of}
+use Rattle.machine_model.specs.Instruction.{bytes_fetched, fetching, owning_front, owning_back, owned, fetched_on, fetched_by, fetched, is_plain, done_plainly, instructed, with_accumulator}
+use Rattle.machine_model.specs.Step.{Report, Completed, Result, Went, Halts, concluded, in_item, after_read, after_write, out_item, entered, after_delivery, raised, code_of, after_effect, effect_on, after_software, interrupts_by, begun, by_op, by_decoded, after_refusal, after_fetch, begins_next, worked, interrupted, interrupt_of, by_interrupt, unheld, step_of}
 use Rattle.machine_model.specs.Run.{Set}
 use Rattle.machine_model.specs.Reloading.{MemoryFollows, IsFoundBy, Follows, Leaves}
 use Rattle.machine_model.specs.Following.{FetchedFollows, RangesFollow, InstructedFollows, DeliveredFollows, IsLeftBy, StepsFollow, StepsKeepMemory, OthersStay, WordsStayFound, SetsAreFound, FoundAreCacheable}
@@ -58,7 +58,7 @@ use Rattle.machine_model.proofs.TrackedDeliveries.{delivered_tracks}
 
 -- ---- the fetch
 
-taken_leaves : (at len : ℕ) (s : Space) (t : Touch) (u : Space) → Follows s u → Leaves s (taken at len t u)
+taken_leaves : (at len : ℕ) (s : Space) (t : Touch) (u : Space) → Follows s u → Leaves s (bytes_fetched at len t u)
 taken_leaves at len s touch.Ready u h = h
 taken_leaves at len s (touch.Fault code cr2) u h = h
 taken_leaves at len s (touch.Stop stop) u h = h
@@ -124,11 +124,11 @@ abbrev IsLeft : Space → Result → Type 0
 IsLeft s (Went report b) = IsLeftBy s report b
 IsLeft s (Halts stop) = Unit {0}
 
-went_left : (s t : Space) (whats : List What) (completed : Option Completed) (b : State) (cpu : Cpu) (board : Board) → Follows s t → IsLeft s (went whats completed b cpu board t)
+went_left : (s t : Space) (whats : List What) (completed : Option Completed) (b : State) (cpu : Cpu) (board : Board) → Follows s t → IsLeft s (concluded whats completed b cpu board t)
 went_left s t whats completed b cpu board h = record { last = t; follows = h; ram = refl; set = λ page e is. is; tables = refl; wrote = refl; pages = refl }
 
 dropped_left : (s t : Space) (set : Set) (completed : Option Completed) (b : State) (cpu : Cpu) (board : Board) → Follows s t → ((page : ℕ) → ForSome (get set page) (λ e. get t.set page ≡ Some e))
-    → IsLeft s (went [] completed b cpu board (record t { set = set }))
+    → IsLeft s (concluded [] completed b cpu board (record t { set = set }))
 dropped_left s t set completed b cpu board h fewer = record { last = t; follows = h; ram = refl; set = fewer; tables = refl; wrote = refl; pages = refl }
 
 guarded : (s : Space) (test : Bool) (r : Result) (stop : Stop) → IsLeft s r → IsLeft s (cond test r (Halts stop))

@@ -5,7 +5,7 @@ use Rattle.ia32_types.specs.declared.insn.Operand.{Operand}
 use Rattle.ia32_types.specs.declared.insn.Operand.TheVariants as operands
 use Rattle.ia32_types.specs.declared.stop.Stop as reason
 use Rattle.ia32_exec.specs.Registers.{address_of}
-use Rattle.descriptors.specs.Access.{pair_at, byte_set}
+use Rattle.descriptors.specs.Access.{pair_at, byte_set, by_level}
 use Rattle.descriptors.specs.declared.cpu.Cpu.{Cpu}
 use Rattle.descriptors.specs.declared.form.Descriptor.{Descriptor}
 use Rattle.descriptors.specs.declared.form.Descriptor.TheVariants as forms
@@ -13,7 +13,7 @@ use Rattle.sys_exec.specs.declared.effect.Refusal.{Refusal}
 use Rattle.sys_exec.specs.declared.effect.Loading.{Loading}
 use Rattle.sys_exec.specs.declared.iret.Popped.{Popped}
 use Rattle.sys_exec.specs.Access.{denials, reaching}
-use Rattle.sys_exec.specs.Operand.{by_level, operand_reached, selector, long_of, pulled, pushed}
+use Rattle.sys_exec.specs.Operand.{operand_reached, selector, long_of, pulled, pushed}
 use Rattle.sys_exec.specs.Segment.{protection, selected, data_tests, find_data, marked, load_data, stack_tests, find_stack, return_tests, find_return, jump_tests, find_jump, as_task, load_task}
 use Rattle.sys_exec.specs.Iret.{popped, popped_outer, return_same, return_outer, interrupt_return}
 use Rattle.machine_model.proofs.UsingWorks.{is_stop, Keeps, keeping, then_keeps, unless_keeps, refuses_keeps, gives_keeps, reaching_keeps, pair_keeps, byte_keeps, mark_keeps}

@@ -41,8 +41,8 @@ use Rattle.run_trace.specs.declared.items.What.{What}
 use Rattle.run_trace.specs.declared.items.What.TheVariants.{Sent, Irq}
 use Rattle.machine_model.specs.State.{Setting, State, space_at_start}
 use Rattle.machine_model.specs.Rules.{stands_well, may_leave}
-use Rattle.machine_model.specs.Instruction.{taken, fetching, owning_front, owning_back, owned, fetched_on, fetched_by, fetched, is_plain, done_plainly, instructed, with_accumulator}
-use Rattle.machine_model.specs.Step.{Completed, Result, Went, Halts, went, in_item, after_read, after_write, out_item, entered, after_delivery, raised, code_of, after_effect, effect_on, after_software, interrupts_by, begun, by_op, by_decoded, after_refusal, after_fetch, begins_next, worked, interrupted, interrupt_of, by_interrupt, unheld, step_of}
+use Rattle.machine_model.specs.Instruction.{bytes_fetched, fetching, owning_front, owning_back, owned, fetched_on, fetched_by, fetched, is_plain, done_plainly, instructed, with_accumulator}
+use Rattle.machine_model.specs.Step.{Completed, Result, Went, Halts, concluded, in_item, after_read, after_write, out_item, entered, after_delivery, raised, code_of, after_effect, effect_on, after_software, interrupts_by, begun, by_op, by_decoded, after_refusal, after_fetch, begins_next, worked, interrupted, interrupt_of, by_interrupt, unheld, step_of}
 use Rattle.machine_model.specs.Run.{Set}
 use Rattle.machine_model.specs.UsedPages.{may_use, LeadWell, Uses, Uses_on, Delivers, FetchedUses, RangesUse, InstructedUses, DeliveredUses, IsUsedBy, StepsUse, UsedPagesLeadWell}
 use Rattle.machine_model.proofs.Using.{Met, same_uses, owning, fetches_met}
@@ -54,7 +54,7 @@ use Rattle.machine_model.proofs.UsingDeliveries.{delivered_keeps}
 
 -- ---- the fetch
 
-taken_leaves : (user : Bool) (at len : ℕ) (s : Space) (t : Touch) (u : Space) → Met user s t u → Leaves is_stop user s (taken at len t u)
+taken_leaves : (user : Bool) (at len : ℕ) (s : Space) (t : Touch) (u : Space) → Met user s t u → Leaves is_stop user s (bytes_fetched at len t u)
 taken_leaves user at len s touch.Ready u h = h
 taken_leaves user at len s (touch.Fault code cr2) u h = λ goes. h
 taken_leaves user at len s (touch.Stop stop) u h = λ goes. absurd (let e : true ≡ false = goes in cc)
@@ -147,11 +147,11 @@ abbrev IsLeft : Bool → Space → Result → Type 0
 IsLeft user s (Went report b) = IsUsedBy user s report b
 IsLeft user s (Halts stop) = Unit {0}
 
-went_left : (user : Bool) (s t : Space) (whats : List What) (completed : Option Completed) (b : State) (cpu : Cpu) (board : Board) → Uses user s t → IsLeft user s (went whats completed b cpu board t)
+went_left : (user : Bool) (s t : Space) (whats : List What) (completed : Option Completed) (b : State) (cpu : Cpu) (board : Board) → Uses user s t → IsLeft user s (concluded whats completed b cpu board t)
 went_left user s t whats completed b cpu board h = record { last = t; uses = h; ram = refl; set = λ page e is. is; pages = refl }
 
 dropped_left : (user : Bool) (s t : Space) (set : Set) (completed : Option Completed) (b : State) (cpu : Cpu) (board : Board) → Uses user s t → ((page : ℕ) → ForSome (get set page) (λ e. get t.set page ≡ Some e))
-    → IsLeft user s (went [] completed b cpu board (record t { set = set }))
+    → IsLeft user s (concluded [] completed b cpu board (record t { set = set }))
 dropped_left user s t set completed b cpu board h fewer = record { last = t; uses = h; ram = refl; set = fewer; pages = refl }
 
 guarded : (user : Bool) (s : Space) (test : Bool) (r : Result) (stop : Stop) → IsLeft user s r → IsLeft user s (cond test r (Halts stop))

@@ -37,8 +37,8 @@ use Rattle.run_trace.specs.declared.items.What.TheVariants.{Irq}
 use Rattle.run_trace.specs.declared.items.End.TheVariants.{Bound, Stopped}
 use Rattle.machine_model.specs.State.{Setting, State, Loosened, on_bare, space_at_start}
 use Rattle.machine_model.specs.Rules.{stands_well, may_leave}
-use Rattle.machine_model.specs.Instruction.{taken, fetching, owning_front, owning_back, owned, fetched_on, fetched_by, fetched, is_plain, done_plainly, instructed}
-use Rattle.machine_model.specs.Step.{Report, Completed, Result, Went, Halts, went, entered, after_delivery, raised, code_of, after_effect, effect_on, after_software, interrupts_by, begun, by_op, by_decoded, after_refusal, after_fetch, fetches_next, begins_next, worked, interrupted, interrupt_of, by_interrupt, unheld, stepped, step_of}
+use Rattle.machine_model.specs.Instruction.{bytes_fetched, fetching, owning_front, owning_back, owned, fetched_on, fetched_by, fetched, is_plain, done_plainly, instructed}
+use Rattle.machine_model.specs.Step.{Report, Completed, Result, Went, Halts, concluded, entered, after_delivery, raised, code_of, after_effect, effect_on, after_software, interrupts_by, begun, by_op, by_decoded, after_refusal, after_fetch, fetches_next, begins_next, worked, interrupted, interrupt_of, by_interrupt, unheld, stepped, step_of}
 use Rattle.machine_model.specs.Run.{Set, Steps, EndsIn}
 use Rattle.sys_exec.specs.Operand.{past}
 use Rattle.machine_model.specs.Agreement.{is_extra, StepsAgree, RunsAgree}
@@ -52,14 +52,14 @@ pub record Laws : Type 0 where
 
 -- The fetch.
 
-taken_agrees : (at len : ℕ) (t : Touch) (s : Space) (p : Touch × Space) → TouchAgrees (t, s) p → IsExtra rows.is_extra (taken at len t s) ⊎ (taken at len p.0 p.1 ≡ bared (taken at len t s))
+taken_agrees : (at len : ℕ) (t : Touch) (s : Space) (p : Touch × Space) → TouchAgrees (t, s) p → IsExtra rows.is_extra (bytes_fetched at len t s) ⊎ (bytes_fetched at len p.0 p.1 ≡ bared (bytes_fetched at len t s))
 unfolding place
 taken_agrees at len touch.Ready s p (inl e) = absurd (clash e)
-taken_agrees at len touch.Ready s p (inr e) = inr (ap (λ (q : Touch × Space). taken at len q.0 q.1) e)
+taken_agrees at len touch.Ready s p (inr e) = inr (ap (λ (q : Touch × Space). bytes_fetched at len q.0 q.1) e)
 taken_agrees at len (touch.Fault code cr2) s p (inl e) = absurd (clash e)
-taken_agrees at len (touch.Fault code cr2) s p (inr e) = inr (ap (λ (q : Touch × Space). taken at len q.0 q.1) e)
+taken_agrees at len (touch.Fault code cr2) s p (inr e) = inr (ap (λ (q : Touch × Space). bytes_fetched at len q.0 q.1) e)
 taken_agrees at len (touch.Stop stop) s p (inl e) = inl e
-taken_agrees at len (touch.Stop stop) s p (inr e) = inr (ap (λ (q : Touch × Space). taken at len q.0 q.1) e)
+taken_agrees at len (touch.Stop stop) s p (inr e) = inr (ap (λ (q : Touch × Space). bytes_fetched at len q.0 q.1) e)
 
 fetching_agrees : FetchesAgree → (user : Bool) (at len : ℕ) → Agrees rows.is_extra (fetching user at len)
 unfolding fetching
@@ -129,8 +129,8 @@ guarded : (test : Bool) (r : Result) (stop : Stop) → is_extra_stop stop ≡ tr
 guarded true r stop h = inr refl
 guarded false r stop h = inl h
 
-entered_agrees : (m : Setting) (whats : List What) (completed : Option Completed) (b : State) (cpu : Cpu) (board : Board) (s : Space) → Agree (entered m whats completed b cpu board s) (went whats completed b cpu board s)
-entered_agrees m whats completed b cpu board s = guarded (stands_well m cpu) (went whats completed b cpu board s) stops.NotAStart refl
+entered_agrees : (m : Setting) (whats : List What) (completed : Option Completed) (b : State) (cpu : Cpu) (board : Board) (s : Space) → Agree (entered m whats completed b cpu board s) (concluded whats completed b cpu board s)
+entered_agrees m whats completed b cpu board s = guarded (stands_well m cpu) (concluded whats completed b cpu board s) stops.NotAStart refl
 
 delivery_agrees : (m : Setting) (whats : List What) (b : State) (board : Board) (o p : Outcome NotDelivered Cpu) → IsExtra deliveries.is_extra o ⊎ (p ≡ bared o)
     → Agree (after_delivery m whats b board o) (after_delivery (on_bare m) whats b board p)
@@ -149,7 +149,7 @@ raised_agrees law m b cpu vector code s =
 
 effect_agrees : deliveries.DeliveriesAgree → (m : Setting) (b : State) (completed : Completed) (e : SysEffect) (cpu : Cpu) (s : Space)
     → Agree (after_effect m b completed e cpu s) (after_effect (on_bare m) b completed e cpu (bare s))
-effect_agrees law m b completed effects.Next cpu s = guarded (may_leave m.mode b.cpu cpu) (went [] (Some completed) b cpu b.board s) stops.UserFlags refl
+effect_agrees law m b completed effects.Next cpu s = guarded (may_leave m.mode b.cpu cpu) (concluded [] (Some completed) b cpu b.board s) stops.UserFlags refl
 effect_agrees law m b completed effects.Halted cpu s = inr refl
 effect_agrees law m b completed (effects.DropPage page) cpu s = inr refl
 effect_agrees law m b completed (effects.DropDir index) cpu s = inr refl
@@ -288,8 +288,8 @@ all_steps law m old new (set ∷ sets) reports steps = (
   steps.6,
 )
 
-stands_agrees : StepsAgree → (m : Setting) (b : State) (set : Set) (stop : Stop) → is_extra_stop stop ≡ false → step_of m b set ≡ Halts stop → step_of (on_bare m) b set ≡ Halts stop
-stands_agrees law m b set stop plain is = elim (law m b set) [
+halts_agrees : StepsAgree → (m : Setting) (b : State) (set : Set) (stop : Stop) → is_extra_stop stop ≡ false → step_of m b set ≡ Halts stop → step_of (on_bare m) b set ≡ Halts stop
+halts_agrees law m b set stop plain is = elim (law m b set) [
   | inl h ↦ absurd (clash (sym plain ∙ (ap is_extra (sym is) ∙ h)))
   | inr h ↦ h ∙ is
 ]
@@ -298,7 +298,7 @@ ends_agree : StepsAgree → (m : Setting) (n : ℕ) (last : State) (stop : Stop)
     → EndsIn (on_bare m) (cond extra last.step n) last (cond extra Bound (Stopped stop))
 ends_agree law m n last stop true is h = refl
 ends_agree law m n last stop false is h =
-    (h.0, record { set = h.1.set; allowed = loosened m last h.1.set h.1.allowed; stands = stands_agrees law m last h.1.set stop is h.1.stands })
+    (h.0, record { set = h.1.set; allowed = loosened m last h.1.set h.1.allowed; halts = halts_agrees law m last h.1.set stop is h.1.halts })
 
 pub runs_agree : StepsAgree → RunsAgree
 runs_agree law m n old sets reports last Bound run = record { steps = all_steps law m old last sets reports run.steps; ends = run.ends }

@@ -4,6 +4,8 @@
 use Rattle.std.specs.Prelude.{ℕ, ◌+◌, ◌-◌, ◌/◌, Bool, true, false, ◌==◌, ◌&&◌, ◌||◌, not, List, [], ◌∷◌, ◌++◌, map, Option, Some, None, Ok, Err, is_some, if◌then◌else◌}
 use Rattle.std.specs.List.{list_any}
 use Rattle.std.specs.FinMap.{get}
+use Rattle.descriptors.specs.Access.{by_level}
+use Rattle.descriptors.specs.Controls.{wp_of}
 use Rattle.ia32_exec.specs.declared.access.Range.{Range}
 use Rattle.ia32_exec.specs.Effect.{ranges_of}
 use Rattle.ia32_decode.specs.declared.answer.Decoded.{Decoded}
@@ -23,12 +25,6 @@ pub record Use : Type 0 where
   pub page : ℕ
   pub access : Access
 
-abbrev pub protects : State → Bool
-protects b = has b.cpu.cr0 0x10000
-
-abbrev pub access_of : State → Bool → Access
-access_of b write = record { write = write; user = b.cpu.cpl == 3 }
-
 -- a page of a range, and its last where that is another
 abbrev pub uses_of : Access → Option Range → List Use
 uses_of access None = []
@@ -39,13 +35,13 @@ uses_of access (Some r) =
 
 -- the read range, then the write range
 abbrev pub range_uses : State → Decoded → List Use
-range_uses b (begins.Insn insn len) = uses_of (access_of b false) (ranges_of insn b.cpu.regs).read ++ uses_of (access_of b true) (ranges_of insn b.cpu.regs).write
+range_uses b (begins.Insn insn len) = uses_of (by_level b.cpu false) (ranges_of insn b.cpu.regs).read ++ uses_of (by_level b.cpu true) (ranges_of insn b.cpu.regs).write
 range_uses b begins.Short = []
 range_uses b begins.Outside = []
 
 -- the pages that a fetch went through
 abbrev pub fetch_uses : State → List ℕ → List Use
-fetch_uses b pages = map (λ (page : ℕ). record { page = page; access = access_of b false }) pages
+fetch_uses b pages = map (λ (page : ℕ). record { page = page; access = by_level b.cpu false }) pages
 
 -- a fetch that is refused has no instruction
 abbrev pub uses_by : State → Outcome Refusal Decoded → List Use
@@ -71,7 +67,7 @@ clash_in entries wp uses = clash_behind entries wp [] uses
 
 -- the instruction at EIP clashes, with this state's entries
 unfoldable pub instruction_clashes : Setting → State → Bool
-instruction_clashes m b = clash_in (get b.set) (protects b) (uses_at m b)
+instruction_clashes m b = clash_in (get b.set) (wp_of b.cpu) (uses_at m b)
 
 -- a step in which an interrupt is delivered, or the processor is halted, has no instruction
 abbrev pub has_instruction : Setting → State → Bool

@@ -20,6 +20,7 @@ use Rattle.machine_model.specs.Counts.{direct_count, passed_digest}
 use Rattle.machine_model.specs.Taken.{Taken}
 use Rattle.machine_model.specs.Clash.{Use, clash_in}
 use Rattle.machine_model.specs.Keeping.{is_roomy}
+use Rattle.machine_model.specs.Resting.{nothing}
 
 abbrev pub plain_insn : Op → Insn
 plain_insn o = record { op = o; size = Long; a = Absent; b = Absent; imm = 0; sel = 0; rep = false }
@@ -28,9 +29,6 @@ abbrev pub report_of : Op → Bool → ℕ → Report
 report_of o user eip =
     record { items = []; completed = Some (record { insn = plain_insn o; eip = eip; user = user }); pages = []; tables = []; wrote = [] }
 
-abbrev pub waiting : Report
-waiting = record { items = []; completed = None; pages = []; tables = []; wrote = [] }
-
 -- two moves, OUT with its NOPs, HLT, and a halted step
 abbrev pub first_sites : List Site
 first_sites = record { at = 7; kind = kind.PortOut; len = 1; total = 5 } ∷ record { at = 12; kind = kind.Hlt; len = 1; total = 5 } ∷ []
@@ -38,7 +36,7 @@ first_sites = record { at = 7; kind = kind.PortOut; len = 1; total = 5 } ∷ rec
 abbrev pub first_reports : List Report
 first_reports =
     report_of op.Mov false 0x10000000 ∷ report_of op.Mov false 0x10000005 ∷ report_of op.PortOut false 0x10000007 ∷ report_of op.Nop false 0x10000008
-    ∷ report_of op.Nop false 0x10000009 ∷ report_of op.Nop false 0x1000000A ∷ report_of op.Nop false 0x1000000B ∷ report_of op.Hlt false 0x1000000C ∷ waiting ∷ []
+    ∷ report_of op.Nop false 0x10000009 ∷ report_of op.Nop false 0x1000000A ∷ report_of op.Nop false 0x1000000B ∷ report_of op.Hlt false 0x1000000C ∷ nothing ∷ []
 
 -- of a user's code INT, a load of a segment register and IRET don't count, and addresses of sites do
 abbrev pub user_reports : List Report
@@ -61,7 +59,7 @@ abbrev pub copy : List Use
 copy = use_of 0x10000 false ∷ use_of 0x11400 false ∷ use_of 0x11400 true ∷ []
 
 abbrev pub taken_with : State → Set → List ℕ → Taken
-taken_with b set pages = record { before = b; set = set; report = record waiting { pages = pages }; after = b }
+taken_with b set pages = record { before = b; set = set; report = record nothing { pages = pages }; after = b }
 
 -- a page under each of 24 directory indices
 abbrev pub indices : List ℕ

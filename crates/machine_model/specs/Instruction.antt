@@ -26,14 +26,14 @@ use Rattle.sys_exec.specs.declared.effect.Refusal.{Refusal}
 use Rattle.sys_exec.specs.declared.effect.Refusal.TheVariants as refusal
 
 -- the bytes that a fetch made ready
-abbrev pub taken : ℕ → ℕ → Touch → Space → Outcome Refusal (List ℕ)
-taken at len Ready s = Ok (part s.ram (place s at) len, s)
-taken at len (Fault code cr2) s = Err (refusal.Fault code cr2, s)
-taken at len (Stop stop) s = Err (refusal.Stop stop, s)
+abbrev pub bytes_fetched : ℕ → ℕ → Touch → Space → Outcome Refusal (List ℕ)
+bytes_fetched at len Ready s = Ok (part s.ram (place s at) len, s)
+bytes_fetched at len (Fault code cr2) s = Err (refusal.Fault code cr2, s)
+bytes_fetched at len (Stop stop) s = Err (refusal.Stop stop, s)
 
 -- bytes of one page
 unfoldable pub fetching : Bool → ℕ → ℕ → Work Refusal (List ℕ)
-fetching user at len s = taken at len (fetches s at len user).0 (fetches s at len user).1
+fetching user at len s = bytes_fetched at len (fetches s at len user).0 (fetches s at len user).1
 
 -- The bytes at an address, as those of this step's instruction: the first of them in one page, and in its second
 -- page the others. No walk that comes later in the step may mark them.

@@ -3,7 +3,7 @@ use Rattle.std.specs.Prelude.{◌≡◌, ◌⊎◌, ℕ, Bool, true, false, List
 use Rattle.std.specs.Option.{ForSome}
 use Rattle.std.specs.FinMap.{FinMap, get, empty}
 use Rattle.std.specs.Ordering.{nat_cmp}
-use Rattle.descriptors.specs.Controls.{pse_of}
+use Rattle.descriptors.specs.Controls.{pse_of, wp_of}
 use Rattle.descriptors.specs.declared.cpu.Cpu.{Cpu}
 use Rattle.paging.specs.declared.entry.Entry.{Entry}
 use Rattle.paging.specs.declared.entry.Walk.TheVariants.{Found}
@@ -27,10 +27,14 @@ pub record Setting : Type 0 where
 abbrev pub on_bare : Setting → Setting
 on_bare m = record m { mode = Bare }
 
--- A monitor's rules over an image: the loader gave its text the frames from 0x100 on, and no byte is an instruction's
--- own yet.
+-- A monitor's rules over so many frames of text: the loader gave it those from 0x100 on, and no byte is an
+-- instruction's own yet.
+abbrev pub rules_over : ℕ → Mode
+rules_over count = Wedge 0x100 count (record { front = 0; front_len = 0; back = 0; back_len = 0 })
+
+-- those over an image
 abbrev pub wedge_mode : Image → Mode
-wedge_mode image = Wedge 0x100 (text_pages image) (record { front = 0; front_len = 0; back = 0; back_len = 0 })
+wedge_mode image = rules_over (text_pages image)
 
 abbrev pub wedge : Image → Events → ℕ → Setting
 wedge image script frames = record { mode = wedge_mode image; image = image; script = script; frames = frames }
@@ -56,7 +60,7 @@ space_at_start mode frames cpu ram set =
       set = set;
       cr3 = cpu.cr3;
       pse = pse_of cpu;
-      wp = has cpu.cr0 0x10000;
+      wp = wp_of cpu;
       mode = mode;
       pages = 0;
       visited = [];

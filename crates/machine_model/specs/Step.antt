@@ -67,8 +67,8 @@ items_at step [] = []
 items_at step (what ∷ whats) = record { step = step; what = what } ∷ items_at step whats
 
 -- the count rises, and the board advances
-abbrev pub went : List What → Option Completed → State → Cpu → Board → Space → Result
-went whats completed b cpu board s =
+abbrev pub concluded : List What → Option Completed → State → Cpu → Board → Space → Result
+concluded whats completed b cpu board s =
     Went (record { items = items_at b.step whats; completed = completed; pages = s.visited; tables = s.tables; wrote = s.wrote })
     (record { cpu = cpu; ram = s.ram; set = s.set; board = board_step board; step = b.step + 1 })
 
@@ -86,13 +86,13 @@ out_item port false value = Out8 port value
 abbrev pub after_read : State → Completed → Cpu → ℕ → Bool → Space → PortRead × Board → Result
 after_read b completed cpu port wide s (read.Stop, board) = Halts stops.DeviceUse
 after_read b completed cpu port wide s (read.Value value, board) =
-    went (in_item port wide value ∷ []) (Some completed) b (with_accumulator wide value cpu) board s
+    concluded (in_item port wide value ∷ []) (Some completed) b (with_accumulator wide value cpu) board s
 
 -- what the board did at a write to a port
 abbrev pub after_write : State → Completed → Cpu → What → Space → Did × Board → Result
 after_write b completed cpu item s (did.Stop, board) = Halts stops.DeviceUse
-after_write b completed cpu item s (did.Done, board) = went (item ∷ []) (Some completed) b cpu board s
-after_write b completed cpu item s (did.Sent value, board) = went (item ∷ Sent value ∷ []) (Some completed) b cpu board s
+after_write b completed cpu item s (did.Done, board) = concluded (item ∷ []) (Some completed) b cpu board s
+after_write b completed cpu item s (did.Sent value, board) = concluded (item ∷ Sent value ∷ []) (Some completed) b cpu board s
 
 -- vectors 11 to 14 push an error code
 abbrev pub code_of : ℕ → ℕ → Option ℕ
@@ -104,7 +104,7 @@ stop_of (not_delivered.Stop stop) = stop
 
 -- a handler is entered, which must be where code may begin
 abbrev pub entered : Setting → List What → Option Completed → State → Cpu → Board → Space → Result
-entered m whats completed b cpu board s = if stands_well m cpu then went whats completed b cpu board s else Halts stops.NotAStart
+entered m whats completed b cpu board s = if stands_well m cpu then concluded whats completed b cpu board s else Halts stops.NotAStart
 
 -- The processor enters a handler, or the delivery stops. The board is the one that the delivery leaves.
 abbrev pub after_delivery : Setting → List What → State → Board → Outcome NotDelivered Cpu → Result
@@ -117,15 +117,15 @@ raised m b cpu vector code s = after_delivery m [] b b.board (delivered cpu vect
 
 -- an instruction ends, and may lead to level 3 with a user's flags alone
 abbrev pub ended : Setting → Completed → State → Cpu → Space → Result
-ended m completed b cpu s = if may_leave m.mode b.cpu cpu then went [] (Some completed) b cpu b.board s else Halts stops.UserFlags
+ended m completed b cpu s = if may_leave m.mode b.cpu cpu then concluded [] (Some completed) b cpu b.board s else Halts stops.UserFlags
 
 -- what an instruction comes to: its effect, the processor and memory
 abbrev pub after_effect : Setting → State → Completed → SysEffect → Cpu → Space → Result
 after_effect m b completed effects.Next cpu s = ended m completed b cpu s
-after_effect m b completed effects.Halted cpu s = went [] (Some completed) b cpu b.board s
-after_effect m b completed (effects.DropPage page) cpu s = went [] (Some completed) b cpu b.board (record s { set = remove s.set page })
-after_effect m b completed (effects.DropDir index) cpu s = went [] (Some completed) b cpu b.board (record s { set = without_dir s.set index })
-after_effect m b completed effects.DropAll cpu s = went [] (Some completed) b cpu b.board (record s { set = empty })
+after_effect m b completed effects.Halted cpu s = concluded [] (Some completed) b cpu b.board s
+after_effect m b completed (effects.DropPage page) cpu s = concluded [] (Some completed) b cpu b.board (record s { set = remove s.set page })
+after_effect m b completed (effects.DropDir index) cpu s = concluded [] (Some completed) b cpu b.board (record s { set = without_dir s.set index })
+after_effect m b completed effects.DropAll cpu s = concluded [] (Some completed) b cpu b.board (record s { set = empty })
 after_effect m b completed (effects.PortIn port wide) cpu s = after_read b completed cpu port wide s (port_read b.board port wide)
 after_effect m b completed (effects.PortOut port wide value) cpu s =
     after_write b completed cpu (out_item port wide value) s (port_written b.board port wide value)
@@ -183,7 +183,7 @@ begins_next m b s = if stands_well m b.cpu then fetches_next m b s else Halts st
 
 -- a halted processor does nothing, and another does one instruction
 unfoldable pub worked : Setting → State → Space → Result
-worked m b s = if b.cpu.halted then went [] None b b.cpu b.board s else begins_next m b s
+worked m b s = if b.cpu.halted then concluded [] None b b.cpu b.board s else begins_next m b s
 
 -- the interrupt that the processor takes: one is pending, IF is 1 and deliveries are not held off
 abbrev pub interrupt_of : Cpu → Board → Option ℕ

@@ -1,5 +1,6 @@
 -- The steps that a run has taken, one record each.
 use Rattle.std.specs.Prelude.{Bool, true, false, ◌==◌, ◌&&◌, not, List, [], ◌∷◌, Option, Some, None, if◌then◌else◌}
+use Rattle.descriptors.specs.Controls.{wp_of}
 use Rattle.ia32_types.specs.declared.insn.Op.{Op}
 use Rattle.ia32_types.specs.declared.insn.Op.TheVariants as op
 use Rattle.ia32_types.specs.declared.insn.Operand.{Operand}
@@ -44,4 +45,4 @@ loads_root t = is_load t.report.completed
 
 -- the step changed CR0.WP
 abbrev pub changes_protection : Taken → Bool
-changes_protection t = if has t.before.cpu.cr0 0x10000 then not (has t.after.cpu.cr0 0x10000) else has t.after.cpu.cr0 0x10000
+changes_protection t = if wp_of t.before.cpu then not (wp_of t.after.cpu) else wp_of t.after.cpu

@@ -1,8 +1,7 @@
 //! One step.
 
 ghost use Rattle.std.specs.Prelude.{◌≡◌, ◌+◌, ◌*◌, ◌==◌, ◌≤◌, length, false, IfOk};
-ghost use Rattle.descriptors.specs.Controls.{pse_of};
-ghost use Rattle.paging.specs.Fresh.{has};
+ghost use Rattle.descriptors.specs.Controls.{pse_of, wp_of};
 ghost use Rattle.step_mem.specs.Changes.{AreWithin};
 ghost use Rattle.step_mem.specs.Guard.{mode_of, IsLaid};
 ghost use Rattle.step_mem.specs.Shown.{shown, hidden};
@@ -91,13 +90,13 @@ pub fn step_again<'g, B: Kept>(
 
 /// What a walk goes by: the frames, the directory, and the two flags.
 fn control(cpu: &Cpu, frames: u32) -> Control
-    ensures { result ≡ record { frames = frames; cr3 = cpu.now.cr3; pse = pse_of cpu.now; wp = has cpu.now.cr0 65536 } }
+    ensures { result ≡ record { frames = frames; cr3 = cpu.now.cr3; pse = pse_of cpu.now; wp = wp_of cpu.now } }
 {
     Control {
         frames,
         cr3: cpu.cr3,
         pse: cpu.pse(),
-        wp: cpu.cr0 / 65536 % 2 == 1,
+        wp: cpu.wp(),
     }
 }
 

@@ -1,8 +1,13 @@
 //! What one step comes to.
 
+ghost use Rattle.std.specs.Prelude.{◌≡◌, ◌≤◌};
+ghost use Rattle.run_trace.specs.Steps.{items_of};
+ghost use Rattle.machine_model.specs.Step.{items_at};
+ghost use Rattle.machine_step.specs.Worked.{whats};
+
 use descriptors::Cpu;
 use ia32_types::{Insn, Stop};
-use run_trace::What;
+use run_trace::{Item, StepItems, What};
 
 /// What one step lets be seen.
 #[derive(Clone, Copy, Debug)]
@@ -46,4 +51,21 @@ pub struct Worked {
 pub enum Begun {
     Worked(Worked),
     Fetched { insn: Insn, len: u8, cpu: Cpu },
+}
+
+/// What a step lets be seen, as items.
+pub fn items_of(step: u64, seen: Seen) -> StepItems
+    ensures items { items_of result ≡ items_at step (whats seen) }
+    ensures few { result.len ≤ 2 }
+{
+    let mut items = StepItems::new();
+    match seen {
+        Seen::Nothing => {}
+        Seen::One(what) => items.add(Item { step, what }),
+        Seen::Two(first, second) => {
+            items.add(Item { step, what: first });
+            items.add(Item { step, what: second });
+        }
+    }
+    items
 }

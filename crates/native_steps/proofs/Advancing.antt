@@ -6,6 +6,7 @@ use Rattle.ia32_types.specs.declared.flags.Regs.{Regs}
 use Rattle.ia32_exec.specs.Digest.{digest}
 use Rattle.paging.specs.Fresh.{has}
 use Rattle.descriptors.specs.declared.cpu.Cpu.{Cpu}
+use Rattle.descriptors.specs.Controls.{wp_of}
 use Rattle.board.specs.Quiet.{StepsAreQuiet}
 use Rattle.sites.specs.declared.site.Site.{Site}
 use Rattle.image_check.specs.Places.{linear, site_at}
@@ -28,7 +29,7 @@ use Rattle.machine_model.specs.Notes.{AreLeft}
 use Rattle.machine_model.specs.Counts.{is_direct, direct_in, direct_addresses, passed_on}
 use Rattle.native_steps.specs.Lends.{Lends, IsUnlent, AreKept}
 use Rattle.native_steps.specs.Mirrors.{IsWedge, Mirrors}
-use Rattle.native_steps.specs.Forward.{wp_of, IsEntrance, IsNext, Follows, Forward, NotEntered, AtSites}
+use Rattle.native_steps.specs.Forward.{IsEntrance, IsNext, Follows, Forward, NotEntered, AtSites}
 use Rattle.native_steps.specs.Stretch.{SameBehind, StaysUnlent, Beside, board_now, AreQuiet, EndsAs, IsQuiet, Advanced}
 use Rattle.native_steps.proofs.Choices.{chosen, both, clash}
 use Rattle.native_steps.proofs.Completing.{no_window}
@@ -81,7 +82,7 @@ module _ (laws : Laws) (m : Setting) (v : View) (w : IsWedge m) where
     after = b;
     reports = [];
     steps = (refl, refl);
-    left = tt;
+    sets = tt;
     quiet = all_none IsQuiet;
     beside = h;
     cpu = ap (λ (r : Regs). record b.cpu { regs = r }) h.regs;
@@ -112,7 +113,7 @@ module _ (laws : Laws) (m : Setting) (v : View) (w : IsWedge m) where
     unfolding now
     stands_now = record { host = h.stands.host; ram = h.stands.ram; sees = h.stands.sees }
 
-    lends_now : Lends m s.ram v.root v.kernel (wp_of now) now.set
+    lends_now : Lends m s.ram v.root v.kernel (wp_of now.cpu) now.set
     unfolding now
     lends_now = h.lends s.ram (behind_same m s.ram)
 
@@ -177,7 +178,7 @@ module _ (laws : Laws) (m : Setting) (v : View) (w : IsWedge m) where
       unfolding after now
       guest_untouched = follows.guest_untouched
 
-      still : (memory : List ℕ) → SameBehind m ram memory → Lends m memory v.root v.kernel (wp_of b) b.set
+      still : (memory : List ℕ) → SameBehind m ram memory → Lends m memory v.root v.kernel (wp_of b.cpu) b.set
       still memory same = h.lends memory (behind_join m s.ram ram memory behind same)
 
       unlent_on : (at : ℕ) → StaysUnlent m v s.ram at → StaysUnlent m v ram at
@@ -188,8 +189,8 @@ module _ (laws : Laws) (m : Setting) (v : View) (w : IsWedge m) where
       beside = record {
         stands = follows.stands;
         lends = λ memory same.
-            subst (λ (x : Bool). Lends m memory v.root v.kernel x after.set) (ap (λ (c : Cpu). has c.cr0 65536) (sym cpu_is))
-            (subst (Lends m memory v.root v.kernel (wp_of b)) (sym set_is) (still memory same));
+            subst (λ (x : Bool). Lends m memory v.root v.kernel x after.set) (ap (λ (c : Cpu). wp_of c) (sym cpu_is))
+            (subst (Lends m memory v.root v.kernel (wp_of b.cpu)) (sym set_is) (still memory same));
         regs = ap (λ (c : Cpu). c.regs) cpu_is;
         awake = ap (λ (c : Cpu). c.halted) cpu_is ∙ h.awake;
         unheld = ap (λ (c : Cpu). c.held) cpu_is ∙ h.unheld;
@@ -253,11 +254,11 @@ module _ (laws : Laws) (m : Setting) (v : View) (w : IsWedge m) where
             after = r.after;
             reports = follows.report ∷ r.reports;
             steps = (after, follows.report, r.reports, any_allowed m b, went, subst (λ (x : Set). Steps m after (replicate r.n x) r.reports r.after) set_is r.steps, refl);
-            left = (
+            sets = (
               refl,
               λ report mid is.
                   subst (λ (x : State). AreLeft m x (replicate r.n b.set)) (went_there follows.report report after mid (sym went ∙ is))
-                  (subst (λ (x : Set). AreLeft m after (replicate r.n x)) set_is r.left),
+                  (subst (λ (x : Set). AreLeft m after (replicate r.n x)) set_is r.sets),
             );
             quiet = quiet_more r.n r.quiet;
             beside = r.beside;

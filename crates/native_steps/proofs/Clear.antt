@@ -5,6 +5,8 @@ use Rattle.std.specs.Option.{ForSome}
 use Rattle.std.specs.List.{Contains, list_any}
 use Rattle.std.specs.FinMap.{FinMap, get}
 use Rattle.std.specs.Ordering.{nat_cmp}
+use Rattle.descriptors.specs.Access.{by_level}
+use Rattle.descriptors.specs.Controls.{wp_of}
 use Rattle.ia32_types.specs.declared.insn.Insn.{Insn}
 use Rattle.ia32_decode.specs.declared.answer.Decoded.TheVariants as begins
 use Rattle.ia32_exec.specs.declared.access.Range.{Range}
@@ -19,8 +21,7 @@ use Rattle.host_cpl3.specs.Access.{last_page}
 use Rattle.machine_model.specs.State.{Setting, State, space_at_start}
 use Rattle.machine_model.specs.Instruction.{fetched}
 use Rattle.machine_model.specs.Clash as clashing
-use Rattle.machine_model.specs.Clash.{access_of, fetch_uses, is_refused_by, clash_behind, instruction_clashes}
-use Rattle.native_steps.specs.Forward.{wp_of}
+use Rattle.machine_model.specs.Clash.{fetch_uses, is_refused_by, clash_behind, instruction_clashes}
 use Rattle.native_steps.proofs.Choices.{eq_true}
 use Rattle.native_steps.proofs.Short.{ranges_short}
 
@@ -76,14 +77,14 @@ one_of true r e h = h
 one_of false r e h = absurd cc
 
 abbrev as_use : State → Use → clashing.Use
-as_use b u = record { page = u.page; access = access_of b u.write }
+as_use b u = record { page = u.page; access = by_level b.cpu u.write }
 
-clear_told : (b : State) (ps : List ℕ) (us : List Use) → clash_behind (get b.set) (wp_of b) ps (map (as_use b) us) ≡ false → AreClear b.set (b.cpu.cpl == 3) (wp_of b) ps us
+clear_told : (b : State) (ps : List ℕ) (us : List Use) → clash_behind (get b.set) (wp_of b.cpu) ps (map (as_use b) us) ≡ false → AreClear b.set (b.cpu.cpl == 3) (wp_of b.cpu) ps us
 clear_told b ps [] h = tt
 clear_told b ps (u ∷ us) h =
-    let access : Access = access_of b u.write in
-    let p = neither (list_any (λ page. page == u.page) ps && is_refused_by (get b.set u.page) access (wp_of b)) (clash_behind (get b.set) (wp_of b) (u.page ∷ ps) (map (as_use b) us)) h in (
-      λ c. not_refused (get b.set u.page) access (wp_of b) (one_of (list_any (λ page. page == u.page) ps) (is_refused_by (get b.set u.page) access (wp_of b)) (any_by u.page ps c.0 c.1 c.2) p.0),
+    let access : Access = by_level b.cpu u.write in
+    let p = neither (list_any (λ page. page == u.page) ps && is_refused_by (get b.set u.page) access (wp_of b.cpu)) (clash_behind (get b.set) (wp_of b.cpu) (u.page ∷ ps) (map (as_use b) us)) h in (
+      λ c. not_refused (get b.set u.page) access (wp_of b.cpu) (one_of (list_any (λ page. page == u.page) ps) (is_refused_by (get b.set u.page) access (wp_of b.cpu)) (any_by u.page ps c.0 c.1 c.2) p.0),
       clear_told b (u.page ∷ ps) us p.1,
     )
 
@@ -107,27 +108,27 @@ module _ (b : State) where
   map_other write first last true = refl
   map_other write first last false = refl
 
-  range_same : (write : Bool) (o : Option Range) → IsShort o → map (as_use b) (range_uses write o) ≡ clashing.uses_of (access_of b write) o
+  range_same : (write : Bool) (o : Option Range) → IsShort o → map (as_use b) (range_uses write o) ≡ clashing.uses_of (by_level b.cpu write) o
   range_same write None short = refl
   range_same write (Some r) short =
       ap (λ (l : List clashing.Use). as_use b (used write (r.at / 4096)) ∷ l)
       (map_other write (r.at / 4096) (last_page r) (last_page r == r.at / 4096) ∙ ap (other write (r.at / 4096)) (last_same r short.0))
 
   all_same : (pages : List ℕ) (ranges : Ranges) → IsShort ranges.read × IsShort ranges.write
-      → map (as_use b) (uses_of pages ranges) ≡ fetch_uses b pages ++ (clashing.uses_of (access_of b false) ranges.read ++ clashing.uses_of (access_of b true) ranges.write)
+      → map (as_use b) (uses_of pages ranges) ≡ fetch_uses b pages ++ (clashing.uses_of (by_level b.cpu false) ranges.read ++ clashing.uses_of (by_level b.cpu true) ranges.write)
   all_same pages ranges short =
       map-append (as_use b) (map (used false) pages) (range_uses false ranges.read ++ range_uses true ranges.write)
       ∙ ap (λ (l : List clashing.Use). l ++ map (as_use b) (range_uses false ranges.read ++ range_uses true ranges.write)) (fetch_same pages)
       ∙ ap (λ (l : List clashing.Use). fetch_uses b pages ++ l)
       (map-append (as_use b) (range_uses false ranges.read) (range_uses true ranges.write)
       ∙ ap (λ (l : List clashing.Use). l ++ map (as_use b) (range_uses true ranges.write)) (range_same false ranges.read short.0)
-      ∙ ap (λ (l : List clashing.Use). clashing.uses_of (access_of b false) ranges.read ++ l) (range_same true ranges.write short.1))
+      ∙ ap (λ (l : List clashing.Use). clashing.uses_of (by_level b.cpu false) ranges.read ++ l) (range_same true ranges.write short.1))
 
 -- an instruction that was fetched and doesn't clash
 pub clear_from : (m : Setting) (b : State) (insn : Insn) (len : ℕ) (fetch : Space)
     → fetched (b.cpu.cpl == 3) b.cpu.regs.eip (space_at_start m.mode m.frames b.cpu b.ram b.set) ≡ Ok (begins.Insn insn len, fetch) → instruction_clashes m b ≡ false
-    → AreClear b.set (b.cpu.cpl == 3) (wp_of b) [] (uses_of fetch.visited (ranges_of insn b.cpu.regs))
+    → AreClear b.set (b.cpu.cpl == 3) (wp_of b.cpu) [] (uses_of fetch.visited (ranges_of insn b.cpu.regs))
 unfolding instruction_clashes
 clear_from m b insn len fetch e h =
     clear_told b [] (uses_of fetch.visited (ranges_of insn b.cpu.regs))
-    (ap (clash_behind (get b.set) (wp_of b) []) (all_same b fetch.visited (ranges_of insn b.cpu.regs) (ranges_short insn b.cpu.regs) ∙ sym (ap (clashing.uses_by b) e)) ∙ h)
+    (ap (clash_behind (get b.set) (wp_of b.cpu) []) (all_same b fetch.visited (ranges_of insn b.cpu.regs) (ranges_short insn b.cpu.regs) ∙ sym (ap (clashing.uses_by b) e)) ∙ h)

@@ -1,6 +1,7 @@
 -- What the host did, and what the guest translated, as an instruction of both.
 use Rattle.std.proofs.Common.{◌≡◌, ℕ, ◌+◌, ◌-◌, ◌*◌, ◌/◌, ◌%◌, ◌^◌, ◌<◌, ◌≤◌, List, ◌++◌, length, Bool, true, false, ◌&&◌, ◌||◌, not, None, Ok, refl, sym, ap, subst, ◌∙◌, inl, inr, arith}
 use Rattle.std.proofs.lemmas.Bool.{cases_lt}
+use Rattle.descriptors.specs.Controls.{wp_of}
 use Rattle.guest_ram.specs.Bytes.{part}
 use Rattle.ia32_types.specs.declared.flags.Regs.{Regs}
 use Rattle.ia32_types.specs.declared.insn.Insn.{Insn}
@@ -31,7 +32,7 @@ use Rattle.machine_model.specs.Instruction.{is_plain, fetched}
 use Rattle.native_steps.specs.Lends.{Lends}
 use Rattle.native_steps.specs.Mirrors.{IsWedge, Mirrors}
 use Rattle.native_steps.specs.Native.{effect_of}
-use Rattle.native_steps.specs.Forward.{wp_of, IsNext, Follows}
+use Rattle.native_steps.specs.Forward.{IsNext, Follows}
 use Rattle.native_steps.specs.Backward.{IsTranslated, AreReached, Completes}
 use Rattle.native_steps.proofs.Pages.{At}
 use Rattle.native_steps.proofs.Ways.{front_at, Way}
@@ -55,7 +56,7 @@ pub record IsPlaced (m : Setting) (eip at len : ℕ) : Type 0 where
   pub few : len ≤ 11
   pub fits : at + len ≤ length m.image.text
 
-module _ (m : Setting) (w : IsWedge m) (memory : List ℕ) (v : View) (b : State) (stands : Mirrors m memory v b) (lends : Lends m memory v.root v.kernel (wp_of b) b.set) where
+module _ (m : Setting) (w : IsWedge m) (memory : List ℕ) (v : View) (b : State) (stands : Mirrors m memory v b) (lends : Lends m memory v.root v.kernel (wp_of b.cpu) b.set) where
   abbrev pub Shares : ℕ → ℕ → Type 0
   Shares = FetchShares m w memory v b stands lends
 

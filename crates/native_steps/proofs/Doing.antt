@@ -38,6 +38,7 @@ use Rattle.ia32_exec.specs.Transfers.{returned, jumped_through, called_through}
 use Rattle.ia32_exec.specs.Selectors.{selector_of}
 use Rattle.ia32_exec.specs.UserEffect.{user_row, user_effect}
 use Rattle.descriptors.specs.declared.cpu.Cpu.{Cpu}
+use Rattle.descriptors.specs.Access.{by_level}
 use Rattle.paging.specs.Space.{Space, place, place_by, byte_at, loaded, as_earlier, with_ram, saved}
 use Rattle.paging.specs.Work.{Outcome, Work, on_value, ◌>>=◌, gives, unless, reads, reads_earlier, writes}
 use Rattle.sys_exec.specs.declared.effect.Refusal.{Refusal}
@@ -45,7 +46,7 @@ use Rattle.sys_exec.specs.declared.effect.Refusal.TheVariants as refusal
 use Rattle.sys_exec.specs.declared.effect.SysOutcome.{SysOutcome}
 use Rattle.sys_exec.specs.declared.effect.SysEffect.TheVariants as effects
 use Rattle.sys_exec.specs.Access.{reaching}
-use Rattle.sys_exec.specs.Operand.{protection_0, by_level, selector_in, reg_at, operand_reached, long_of, pulled, pushed, with_regs, past, past_with, past_push, past_pop, gone_to, next}
+use Rattle.sys_exec.specs.Operand.{protection_0, selector_in, reg_at, operand_reached, long_of, pulled, pushed, with_regs, past, past_with, past_push, past_pop, gone_to, next}
 use Rattle.sys_exec.specs.Branch as branch
 use Rattle.sys_exec.specs.Flags.{with_flags, push_flags, pop_flags}
 use Rattle.sys_exec.specs.Iret.{keeps_flags, is_within, new_flags}

@@ -3,6 +3,7 @@ use Rattle.std.proofs.Common.{◌≡◌, ℕ, ◌+◌, ◌-◌, ◌*◌, ◌/◌
 use Rattle.std.specs.Prelude.{nat_le, nat_lt}
 use Rattle.std.specs.List.{Contains}
 use Rattle.std.proofs.lemmas.List.Elements.{Contains-append_left, Contains-append_right}
+use Rattle.descriptors.specs.Controls.{wp_of}
 use Rattle.guest_ram.specs.Bytes.{part}
 use Rattle.ia32_types.specs.declared.insn.Insn.{Insn}
 use Rattle.ia32_decode.specs.declared.answer.Decoded.TheVariants as begins
@@ -17,7 +18,6 @@ use Rattle.machine_model.specs.State.{Setting, State, wedge_mode}
 use Rattle.machine_model.specs.Instruction.{next_page, fetched}
 use Rattle.native_steps.specs.Lends.{IsOpen, IsLent, Lends}
 use Rattle.native_steps.specs.Mirrors.{IsWedge, Mirrors}
-use Rattle.native_steps.specs.Forward.{wp_of}
 use Rattle.native_steps.specs.Backward.{IsReached}
 use Rattle.native_steps.proofs.Choices.{both, eq_told, eq_true, clash}
 use Rattle.native_steps.proofs.Pages.{At, IsFree, lent_entry, fetching_comes}
@@ -60,17 +60,17 @@ pub free_code : (m : Setting) (b : State) (kernel : Bool) (page frame : ℕ) →
 free_code m b false page frame code o = o
 free_code m b true page frame code o = ap not (given_there m page frame (code refl) o)
 
-module _ (m : Setting) (w : IsWedge m) (memory : List ℕ) (v : View) (b : State) (stands : Mirrors m memory v b) (lends : Lends m memory v.root v.kernel (wp_of b) b.set) where
+module _ (m : Setting) (w : IsWedge m) (memory : List ℕ) (v : View) (b : State) (stands : Mirrors m memory v b) (lends : Lends m memory v.root v.kernel (wp_of b.cpu) b.set) where
   -- both fetch from the page, at this frame
   pub record FetchShares (page frame : ℕ) : Type 0 where
     pub leads : Leads memory v.root false page frame
-    pub lent : IsLent m v.kernel (wp_of b) b.set false page frame
+    pub lent : IsLent m v.kernel (wp_of b.cpu) b.set false page frame
     pub fetches : Fetches m b v.kernel page frame
 
   pub fetch_shares : (page frame : ℕ) → page < 2 ^ 20 → IsCode v.kernel page → Leads memory v.root false page frame → FetchShares page frame
   fetch_shares page frame lt code e =
       let lent = lends.each page lt false frame (leads_told memory v.root page lt false frame e) in
-      record { leads = e; lent = lent; fetches = record { entry = lent_entry m v.kernel (wp_of b) b.set false page frame lent; free = free_code m b v.kernel page frame code lent.is_open } }
+      record { leads = e; lent = lent; fetches = record { entry = lent_entry m v.kernel (wp_of b.cpu) b.set false page frame lent; free = free_code m b v.kernel page frame code lent.is_open } }
 
   pub guest_pages : (page frame : ℕ) → FetchShares page frame → Fetches m b v.kernel page frame
   guest_pages page frame s = s.fetches

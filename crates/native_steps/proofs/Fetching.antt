@@ -1,5 +1,6 @@
 -- The guest's fetch, by the bytes of its pages.
 use Rattle.std.proofs.Common.{◌≡◌, ℕ, ◌+◌, ◌-◌, ◌*◌, ◌/◌, ◌%◌, List, [], ◌∷◌, ◌++◌, Bool, true, false, cond, not, ◌==◌, Ok, Err, refl, sym, ap, subst, ◌∙◌, ◌⊎◌, inl, inr, arith}
+use Rattle.descriptors.specs.Controls.{wp_of}
 use Rattle.guest_ram.specs.Bytes.{part}
 use Rattle.ia32_types.specs.declared.stop.Stop.TheVariants as stops
 use Rattle.ia32_types.specs.declared.insn.Insn.{Insn}
@@ -15,8 +16,7 @@ use Rattle.sys_exec.specs.declared.effect.Refusal.{Refusal}
 use Rattle.sys_exec.specs.declared.effect.Refusal.TheVariants as refusal
 use Rattle.machine_model.specs.State.{Setting, State}
 use Rattle.ia32_decode.specs.Front.{longest, front_len}
-use Rattle.machine_model.specs.Instruction.{taken, fetching, owning_front, owning_back, next_page, owned, fetched_on, fetched_by, fetched}
-use Rattle.native_steps.specs.Forward.{wp_of}
+use Rattle.machine_model.specs.Instruction.{bytes_fetched, fetching, owning_front, owning_back, next_page, owned, fetched_on, fetched_by, fetched}
 use Rattle.native_steps.proofs.Pages.{At, Comes, IsFree, HasEntry, fetching_comes, comes_then}
 use Rattle.native_steps.proofs.Went.{page_went}
 use Rattle.native_steps.proofs.Ways.{front_at, back_at, Way}
@@ -25,7 +25,7 @@ use Rattle.native_steps.proofs.Ways.{front_at, back_at, Way}
 
 -- the entry of the page lets code be fetched, from this frame
 pub record Fetches (m : Setting) (b : State) (kernel : Bool) (page frame : ℕ) : Type 0 where
-  pub entry : HasEntry kernel (wp_of b) b.set false page frame
+  pub entry : HasEntry kernel (wp_of b.cpu) b.set false page frame
   pub free : IsFree m b kernel true page frame
 
 module _ (m : Setting) (b : State) (kernel : Bool) where
@@ -116,7 +116,7 @@ fetches_went s at len user =
     made_went (page_uses (unready s) true (at / 4096) at (record { write = false; user = user })).0 (page_uses (unready s) true (at / 4096) at (record { write = false; user = user })).1 at len
     ∙ page_went (unready s) true (at / 4096) at (record { write = false; user = user })
 
-taken_went : (at len : ℕ) (o : Touch) (s : Space) (bytes : List ℕ) (t : Space) → taken at len o s ≡ Ok (bytes, t) → t.visited ≡ s.visited
+taken_went : (at len : ℕ) (o : Touch) (s : Space) (bytes : List ℕ) (t : Space) → bytes_fetched at len o s ≡ Ok (bytes, t) → t.visited ≡ s.visited
 taken_went at len Ready s bytes t e = let p : ◌≡◌ {A = List ℕ × Space} (part s.ram (place s at) len, s) (bytes, t) = cc in sym (ap (λ (q : List ℕ × Space). q.1.visited) p)
 taken_went at len (Fault code cr2) s bytes t e = absurd cc
 taken_went at len (Stop stop) s bytes t e = absurd cc

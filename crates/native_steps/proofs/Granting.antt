@@ -1,5 +1,6 @@
 -- What a step's translations grant, and the effect over them.
 use Rattle.descriptors.specs.declared.cpu.Cpu.{Cpu}
+use Rattle.descriptors.specs.Controls.{wp_of}
 use Rattle.std.proofs.Common.{◌++◌, ◌≡◌, ℕ, zero, suc, ◌+◌, ◌-◌, ◌*◌, ◌/◌, ◌^◌, ◌<◌, ◌≤◌, List, [], ◌∷◌, length, Bool, true, false, cond, not, ◌==◌, Option, Some, None, Ok, refl, sym, ap, subst, ◌∙◌, ◌⊎◌, inl, inr, arith}
 use Rattle.std.specs.Prelude.{slice_index_or}
 use Rattle.std.specs.List.{Contains}
@@ -28,7 +29,7 @@ use Rattle.machine_model.specs.Instruction.{next_page}
 use Rattle.native_steps.specs.Lends.{IsOpen}
 use Rattle.native_steps.specs.Mirrors.{Sees}
 use Rattle.native_steps.specs.Native.{byte_of, effect_of}
-use Rattle.native_steps.specs.Forward.{wp_of, IsNext}
+use Rattle.native_steps.specs.Forward.{IsNext}
 use Rattle.native_steps.specs.Backward.{IsTranslated}
 use Rattle.native_steps.specs.Again.{AreWithin, settled}
 use Rattle.native_steps.specs.Granted.{IsGranted, IsRangeGranted, AreGranted, Leaves}
@@ -123,7 +124,7 @@ still_in cpu s t write None q e c = let p : ◌≡◌ {A = Unit {0} × Space} (t
 still_in cpu s t write (Some r) q e c = subst (λ (l : List ℕ). Contains l q) (sym (range_went s t r.at r.len (record { write = write; user = cpu.cpl == 3 }) e)) (goes_on s.visited r.at r.len q c)
 
 module _ (flags : EffectLaws) (m : Setting) (v : View) (b : State) (mode : m.mode ≡ wedge_mode m.image) (room : 4096 * m.frames ≤ length b.ram) (fit : AreBytes b.ram) (sound : AreWithin m b.set) (sees : Sees v b.cpu) (next : IsNext m v.kernel b) (small : b.cpu.regs.eip < 2 ^ 32) where
-  module _ (insn : Insn) (len : ℕ) (fetch read write : Space) (t : IsTranslated m b insn len fetch read write) (clear : AreClear b.set (b.cpu.cpl == 3) (wp_of b) [] (uses_of fetch.visited (ranges_of insn b.cpu.regs))) where
+  module _ (insn : Insn) (len : ℕ) (fetch read write : Space) (t : IsTranslated m b insn len fetch read write) (clear : AreClear b.set (b.cpu.cpl == 3) (wp_of b.cpu) [] (uses_of fetch.visited (ranges_of insn b.cpu.regs))) where
     abbrev reads : Option Range
     reads = (ranges_of insn b.cpu.regs).read
 
@@ -131,7 +132,7 @@ module _ (flags : EffectLaws) (m : Setting) (v : View) (b : State) (mode : m.mod
     writes = (ranges_of insn b.cpu.regs).write
 
     abbrev Granted : Bool → ℕ → Type 0
-    Granted w page = IsGranted m.image v.kernel (wp_of b) write w page
+    Granted w page = IsGranted m.image v.kernel (wp_of b.cpu) write w page
 
     user : (b.cpu.cpl == 3) ≡ not v.kernel
     user = level_user v.kernel b.cpu.cpl sees.level
@@ -139,7 +140,7 @@ module _ (flags : EffectLaws) (m : Setting) (v : View) (b : State) (mode : m.mod
     -- ---- the fetch
 
     fetched_page : (page frame : ℕ) → Fetches m (settled b write) v.kernel page frame → Contains write.visited page → Granted false page
-    fetched_page page frame f there = granted m.image v.kernel (wp_of b) write false true page frame f.entry f.free (λ k e. absurd (let g : true ≡ false = e in cc)) (λ e. absurd (let g : false ≡ true = e in cc)) there
+    fetched_page page frame f there = granted m.image v.kernel (wp_of b.cpu) write false true page frame f.entry f.free (λ k e. absurd (let g : true ≡ false = e in cc)) (λ e. absurd (let g : false ≡ true = e in cc)) there
 
     next_is : next_page b.cpu.regs.eip / 4096 ≡ b.cpu.regs.eip / 4096 + 1
     next_is = omega arith
@@ -171,16 +172,16 @@ module _ (flags : EffectLaws) (m : Setting) (v : View) (b : State) (mode : m.mod
 
     -- ---- ranges
 
-    range_granted : (w : Bool) (r : Range) → 1 ≤ r.len → again.HasRange flags m v b mode room fit sound sees next small write w r → (w ≡ true → Wrote r.at r.len write) → Contains write.visited (r.at / 4096) → Contains write.visited ((r.at + r.len - 1) / 4096) → IsRangeGranted m.image v.kernel (wp_of b) write w (Some r)
+    range_granted : (w : Bool) (r : Range) → 1 ≤ r.len → again.HasRange flags m v b mode room fit sound sees next small write w r → (w ≡ true → Wrote r.at r.len write) → Contains write.visited (r.at / 4096) → Contains write.visited ((r.at + r.len - 1) / 4096) → IsRangeGranted m.image v.kernel (wp_of b.cpu) write w (Some r)
     range_granted w r some h wrote there last_there = (
-      granted m.image v.kernel (wp_of b) write w false (r.at / 4096) h.first h.has_first h.free_first (λ k e. let a = h.above k in omega (arith, a))
-          (λ e. noted write r.at r.len h.first (wrote e) (first_noted write r.at r.len h.first (frame_is v.kernel (wp_of b) write.set w (r.at / 4096) h.first h.has_first))) there,
+      granted m.image v.kernel (wp_of b.cpu) write w false (r.at / 4096) h.first h.has_first h.free_first (λ k e. let a = h.above k in omega (arith, a))
+          (λ e. noted write r.at r.len h.first (wrote e) (first_noted write r.at r.len h.first (frame_is v.kernel (wp_of b.cpu) write.set w (r.at / 4096) h.first h.has_first))) there,
       subst (Granted w) (again.last_is flags m v b mode room fit sound sees next small r some)
-          (granted m.image v.kernel (wp_of b) write w false ((r.at + r.len - 1) / 4096) h.last_frame h.has_last h.free_last (λ k e. let a = h.above k in omega (arith, a, some))
-          (λ e. noted write r.at r.len h.last_frame (wrote e) (last_noted write r.at r.len h.last_frame (frame_is v.kernel (wp_of b) write.set w ((r.at + r.len - 1) / 4096) h.last_frame h.has_last))) last_there),
+          (granted m.image v.kernel (wp_of b.cpu) write w false ((r.at + r.len - 1) / 4096) h.last_frame h.has_last h.free_last (λ k e. let a = h.above k in omega (arith, a, some))
+          (λ e. noted write r.at r.len h.last_frame (wrote e) (last_noted write r.at r.len h.last_frame (frame_is v.kernel (wp_of b.cpu) write.set w ((r.at + r.len - 1) / 4096) h.last_frame h.has_last))) last_there),
     )
 
-    read_granted : (o : Option Range) → IsShort o → again.HasRanges flags m v b mode room fit sound sees next small write false o → reached b.cpu false o fetch ≡ Ok (tt, read) → IsRangeGranted m.image v.kernel (wp_of b) write false o
+    read_granted : (o : Option Range) → IsShort o → again.HasRanges flags m v b mode room fit sound sees next small write false o → reached b.cpu false o fetch ≡ Ok (tt, read) → IsRangeGranted m.image v.kernel (wp_of b.cpu) write false o
     unfolding again.HasRanges
     read_granted None short h e = tt
     read_granted (Some r) short h e =
@@ -189,7 +190,7 @@ module _ (flags : EffectLaws) (m : Setting) (v : View) (b : State) (mode : m.mod
         (still_in b.cpu read write true writes (r.at / 4096) t.write (subst (λ (l : List ℕ). Contains l (r.at / 4096)) (sym visited) (first_in fetch.visited r.at r.len)))
         (still_in b.cpu read write true writes ((r.at + r.len - 1) / 4096) t.write (subst (λ (l : List ℕ). Contains l ((r.at + r.len - 1) / 4096)) (sym visited) (last_in fetch.visited r.at r.len)))
 
-    write_granted : (o : Option Range) → IsShort o → again.HasRanges flags m v b mode room fit sound sees next small write true o → reached b.cpu true o read ≡ Ok (tt, write) → IsRangeGranted m.image v.kernel (wp_of b) write true o
+    write_granted : (o : Option Range) → IsShort o → again.HasRanges flags m v b mode room fit sound sees next small write true o → reached b.cpu true o read ≡ Ok (tt, write) → IsRangeGranted m.image v.kernel (wp_of b.cpu) write true o
     unfolding again.HasRanges
     write_granted None short h e = tt
     write_granted (Some r) short h e =
@@ -201,7 +202,7 @@ module _ (flags : EffectLaws) (m : Setting) (v : View) (b : State) (mode : m.mod
     short : IsShort reads × IsShort writes
     short = again.short flags m v b mode room fit sound sees next small insn len fetch read write t clear
 
-    all_granted : AreGranted m.image v.kernel (wp_of b) write fetch.visited (ranges_of insn b.cpu.regs)
+    all_granted : AreGranted m.image v.kernel (wp_of b.cpu) write fetch.visited (ranges_of insn b.cpu.regs)
     all_granted = record {
       fetch = fetch_granted;
       read = read_granted reads short.0 (again.read_end flags m v b mode room fit sound sees next small insn len fetch read write t clear) t.read;

@@ -3,6 +3,7 @@ use Rattle.std.proofs.Common.{◌≡◌, ℕ, ◌+◌, ◌-◌, ◌/◌, ◌≤�
 use Rattle.ia32_exec.specs.declared.access.Range.{Range}
 use Rattle.ia32_exec.specs.Short.{IsShort}
 use Rattle.descriptors.specs.declared.cpu.Cpu.{Cpu}
+use Rattle.descriptors.specs.Controls.{wp_of}
 use Rattle.paging.specs.declared.entry.Access.{Access}
 use Rattle.paging.specs.Space.{Mode, Wedge, Space}
 use Rattle.paging.specs.Uses.{window_stop}
@@ -14,7 +15,6 @@ use Rattle.image_load.specs.Boot.{text_pages}
 use Rattle.machine_model.specs.State.{Setting, State}
 use Rattle.native_steps.specs.Lends.{Lends}
 use Rattle.native_steps.specs.Mirrors.{IsWedge, Mirrors}
-use Rattle.native_steps.specs.Forward.{wp_of}
 use Rattle.native_steps.specs.Backward.{IsReached, IsRangeReached}
 use Rattle.native_steps.proofs.Pages.{At, Comes, HasEntry, lent_entry, range_passes, reaching_comes}
 use Rattle.native_steps.proofs.Uses.{reaching_uses, ready_parts, window_above}
@@ -31,8 +31,8 @@ module _ (m : Setting) (w : IsWedge m) (memory : List ℕ) (v : View) (b : State
   range_comes : (s : Space) (write : Bool) (r : Range) → At m b s → IsShared m w memory v b stands write r → Comes m b tt (reaching r.at r.len (by_cpu write) s)
   range_comes s write r h q =
       let last = same_last r q.some in
-      let lent1 = lent_entry m v.kernel (wp_of b) b.set write (r.at / 4096) q.first q.first_is.lent in
-      let lent2 = subst (λ (p : ℕ). HasEntry v.kernel (wp_of b) b.set write p q.last) last (lent_entry m v.kernel (wp_of b) b.set write (last_page r) q.last q.last_is.lent) in
+      let lent1 = lent_entry m v.kernel (wp_of b.cpu) b.set write (r.at / 4096) q.first q.first_is.lent in
+      let lent2 = subst (λ (p : ℕ). HasEntry v.kernel (wp_of b.cpu) b.set write p q.last) last (lent_entry m v.kernel (wp_of b.cpu) b.set write (last_page r) q.last q.last_is.lent) in
       let p = range_passes m b v.kernel s r.at r.len write q.first q.last h q.fits q.above lent1
       (free_data m w memory v b stands (r.at / 4096) q.first q.first_is.plain) lent2 (free_data m w memory v b stands ((r.at + r.len - 1) / 4096) q.last q.last_is.plain) in
       let c = reaching_comes m b v.kernel s r.at r.len write p in
@@ -42,7 +42,7 @@ module _ (m : Setting) (w : IsWedge m) (memory : List ℕ) (v : View) (b : State
   reached_comes s write None h q = record { space = s; is = refl; at = h }
   reached_comes s write (Some r) h q = range_comes s write r h q
 
-  range_from : Lends m memory v.root v.kernel (wp_of b) b.set → (s t : Space) (write : Bool) (r : Range) → At m b s → (1 ≤ r.len) × (r.len ≤ 32) → IsReached memory v.root write (r.at / 4096) → IsReached memory v.root write (last_page r)
+  range_from : Lends m memory v.root v.kernel (wp_of b.cpu) b.set → (s t : Space) (write : Bool) (r : Range) → At m b s → (1 ≤ r.len) × (r.len ≤ 32) → IsReached memory v.root write (r.at / 4096) → IsReached memory v.root write (last_page r)
       → reaching r.at r.len (by_cpu write) s ≡ Ok (tt, t) → IsShared m w memory v b stands write r
   range_from lends s t write r h short first last e =
       let parts = ready_parts s r.at r.len (by_cpu write) (reaching_uses s t r.at r.len (by_cpu write) e).0 in
@@ -55,6 +55,6 @@ module _ (m : Setting) (w : IsWedge m) (memory : List ℕ) (v : View) (b : State
       range_shared m w memory v b stands lends write r short.0 short.1 parts.0 (window_above v.kernel r.at window)
       first.0 (leads_from memory v.root (r.at / 4096) (omega (arith, first_in, some)) write first.0 first.1) last.0 (leads_from memory v.root (last_page r) (omega (arith, first_in, some)) write last.0 last.1)
 
-  pub reached_from : Lends m memory v.root v.kernel (wp_of b) b.set → (s t : Space) (write : Bool) (o : Option Range) → At m b s → IsShort o → IsRangeReached memory v.root write o → reached cpu write o s ≡ Ok (tt, t) → AreShared m w memory v b stands write o
+  pub reached_from : Lends m memory v.root v.kernel (wp_of b.cpu) b.set → (s t : Space) (write : Bool) (o : Option Range) → At m b s → IsShort o → IsRangeReached memory v.root write o → reached cpu write o s ≡ Ok (tt, t) → AreShared m w memory v b stands write o
   reached_from lends s t write None h short pages e = tt
   reached_from lends s t write (Some r) h short pages e = range_from lends s t write r h short pages.0 pages.1 e

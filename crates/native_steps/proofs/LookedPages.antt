@@ -17,7 +17,7 @@ use Rattle.paging.specs.Fresh.{has, fresh, tables_read, grants, flagged}
 use Rattle.paging.specs.Space.{Mode, Space, place, place_by}
 use Rattle.paging.specs.Uses.{tables_of, Decision, is_text, is_own, is_barred, marks_own, dirtied, decided, settled, usable, by_entry, page_uses, go_on, and_then, unready, made_ready, fetches}
 use Rattle.machine_model.specs.State.{Setting, State}
-use Rattle.machine_model.specs.Instruction.{taken, fetching}
+use Rattle.machine_model.specs.Instruction.{bytes_fetched, fetching}
 use Rattle.native_steps.specs.Looking.{marked, Seen, is_stopped, found_by, seen_by, bytes_seen}
 use Rattle.native_steps.proofs.Choices.{chosen, passed_by, eq_true}
 use Rattle.native_steps.proofs.Walks.{walk_parts, page_is as page_of_walk}
@@ -237,4 +237,4 @@ module _ (m : Setting) (b : State) (kernel : Bool) where
       let there : o.0 ≡ Ready = page_found (not kernel) (unready s) (at / 4096) at small x h own in
       let t : Space = (made_ready at len false o.1).1 in
       let ready : and_then o (made_ready at len false) ≡ (Ready, t) = ap (λ (z : Touch). go_on z o.1 (made_ready at len false)) there in
-      record { bytes = part t.ram (place t at) len; after = t; reads = ap (λ (z : Touch × Space). taken at len z.0 z.1) ready }
+      record { bytes = part t.ram (place t at) len; after = t; reads = ap (λ (z : Touch × Space). bytes_fetched at len z.0 z.1) ready }

@@ -10,7 +10,8 @@ use Rattle.ia32_decode.specs.declared.answer.Decoded.{Decoded}
 use Rattle.ia32_decode.specs.declared.answer.Decoded.TheVariants as begins
 use Rattle.ia32_decode.specs.Decoding.{decoded}
 use Rattle.ia32_decode.specs.Front.{longest, front_len}
-use Rattle.descriptors.specs.Controls.{pse_of}
+use Rattle.descriptors.specs.Controls.{pse_of, wp_of}
+use Rattle.descriptors.specs.Access.{by_level}
 use Rattle.paging.specs.declared.entry.Access.{Access}
 use Rattle.paging.specs.declared.entry.Entry.{Entry}
 use Rattle.paging.specs.declared.entry.Walk.{Walk}
@@ -24,8 +25,7 @@ use Rattle.sys_exec.specs.declared.effect.Refusal.TheVariants as refusal
 use Rattle.image_check.specs.Image.{Image}
 use Rattle.machine_model.specs.State.{Setting, State, space_at_start, wedge_mode}
 use Rattle.machine_model.specs.Instruction.{fetching, owning_front, owning_back, next_page, owned, fetched_on, fetched_by, fetched}
-use Rattle.machine_model.specs.Clash.{Use, protects, access_of, fetch_uses, range_uses, uses_by, uses_at, is_refused_by, clash_in, instruction_clashes}
-use Rattle.native_steps.specs.Forward.{wp_of}
+use Rattle.machine_model.specs.Clash.{Use, fetch_uses, range_uses, uses_by, uses_at, is_refused_by, clash_in, instruction_clashes}
 use Rattle.native_steps.specs.Looking.{marked, Seen, seen_by, seen, is_front, marks_front, seen_behind, next_seen, bytes_seen, uses_on, uses_behind, uses_from, uses_seen, UsesAreSeen, LooksAgree}
 use Rattle.native_steps.proofs.Choices.{chosen, passed_by, eq_true, is_false, eq_told, lt_false, clash}
 use Rattle.native_steps.proofs.Walking.{IsWithin}
@@ -76,11 +76,11 @@ any_none f h (k ∷ ks) = both_false (f k) (list_any f ks) (h k) (any_none f h k
 
 -- ---- uses that can't clash
 
-one_clear : (b : State) (page : ℕ) → clash_in (get b.set) (protects b) (fetch_uses b (page ∷ [])) ≡ false
+one_clear : (b : State) (page : ℕ) → clash_in (get b.set) (wp_of b.cpu) (fetch_uses b (page ∷ [])) ≡ false
 one_clear b page = refl
 
-two_clear : (b : State) (page next : ℕ) → (page == next) ≡ false → clash_in (get b.set) (protects b) (fetch_uses b (page ∷ next ∷ [])) ≡ false
-two_clear b page next other = ap (λ x. ((x || false) && is_refused_by (get b.set next) (access_of b false) (protects b)) || false) other
+two_clear : (b : State) (page next : ℕ) → (page == next) ≡ false → clash_in (get b.set) (wp_of b.cpu) (fetch_uses b (page ∷ next ∷ [])) ≡ false
+two_clear b page next other = ap (λ x. ((x || false) && is_refused_by (get b.set next) (by_level b.cpu false) (wp_of b.cpu)) || false) other
 
 -- ---- both pages
 
@@ -94,7 +94,7 @@ module _ (m : Setting) (b : State) (kernel : Bool) (mode : m.mode ≡ wedge_mode
   abbrev access : Access
   access = record { write = false; user = not kernel }
 
-  access_is : access_of b false ≡ access
+  access_is : by_level b.cpu false ≡ access
   access_is = ap (λ (u : Bool). record { write = false; user = u }) user
 
   start_in : IsWithin m b kernel start
@@ -104,7 +104,7 @@ module _ (m : Setting) (b : State) (kernel : Bool) (mode : m.mode ≡ wedge_mode
   none_before q c = let lt = c.1 in omega (arith, lt)
 
   seen_same : (page : ℕ) → seen m b page ≡ seen_in m.mode (look start) access page
-  seen_same page = ap (λ (a : Access). seen_by m.mode page (usable (get b.set page) a (wp_of b)) a (wp_of b) (fresh b.ram m.frames b.cpu.cr3 (pse_of b.cpu) page)) access_is
+  seen_same page = ap (λ (a : Access). seen_by m.mode page (usable (get b.set page) a (wp_of b.cpu)) a (wp_of b.cpu) (fresh b.ram m.frames b.cpu.cr3 (pse_of b.cpu) page)) access_is
 
   page_small : eip / 4096 < 2 ^ 20
   page_small = omega (arith, small)
@@ -164,25 +164,25 @@ module _ (m : Setting) (b : State) (kernel : Bool) (mode : m.mode ≡ wedge_mode
         any_same (λ at. is_own before.mode at && not (has (byte before.ram at) 32)) (λ at. is_front b x at && not (has (byte (marked b.ram x.marks) at) 32)) (λ k.
         ap (λ c. c && not (has (byte first.ram k) 32)) (own_is k) ∙ ap (λ (r : List ℕ). is_front b x k && not (has (byte r k) 32)) one.page.ram) marks
 
-    same_entry : seen_in before.mode (look before) access next ≡ seen_by m.mode next (usable (get b.set next) access (wp_of b)) access (wp_of b) (fresh first.ram m.frames b.cpu.cr3 (pse_of b.cpu) next)
+    same_entry : seen_in before.mode (look before) access next ≡ seen_by m.mode next (usable (get b.set next) access (wp_of b.cpu)) access (wp_of b.cpu) (fresh first.ram m.frames b.cpu.cr3 (pse_of b.cpu) next)
     same_entry =
         let f = one.page in
         owned_alike first.mode (place first eip) (front_len eip) next (usable (get first.set next) access first.wp) access first.wp (fresh first.ram first.frames first.cr3 first.pse next)
         ∙ ap (λ (z : Mode). seen_by z next (usable (get first.set next) access first.wp) access first.wp (fresh first.ram first.frames first.cr3 first.pse next)) through.through.mode
         ∙ ap (λ (e : Option Entry). seen_by m.mode next (usable e access first.wp) access first.wp (fresh first.ram first.frames first.cr3 first.pse next)) (f.others next next_other)
         ∙ ap (λ (w : Bool). seen_by m.mode next (usable (get b.set next) access w) access w (fresh first.ram first.frames first.cr3 first.pse next)) f.wp
-        ∙ ap (λ (n : ℕ). seen_by m.mode next (usable (get b.set next) access (wp_of b)) access (wp_of b) (fresh first.ram n first.cr3 first.pse next)) f.frames
-        ∙ ap (λ (n : ℕ). seen_by m.mode next (usable (get b.set next) access (wp_of b)) access (wp_of b) (fresh first.ram m.frames n first.pse next)) f.cr3
-        ∙ ap (λ (w : Bool). seen_by m.mode next (usable (get b.set next) access (wp_of b)) access (wp_of b) (fresh first.ram m.frames b.cpu.cr3 w next)) f.pse
+        ∙ ap (λ (n : ℕ). seen_by m.mode next (usable (get b.set next) access (wp_of b.cpu)) access (wp_of b.cpu) (fresh first.ram n first.cr3 first.pse next)) f.frames
+        ∙ ap (λ (n : ℕ). seen_by m.mode next (usable (get b.set next) access (wp_of b.cpu)) access (wp_of b.cpu) (fresh first.ram m.frames n first.pse next)) f.cr3
+        ∙ ap (λ (w : Bool). seen_by m.mode next (usable (get b.set next) access (wp_of b.cpu)) access (wp_of b.cpu) (fresh first.ram m.frames b.cpu.cr3 w next)) f.pse
 
     module _ (not_last : (eip / 4096 == 1048575) ≡ false) where
-      to_before : (y : Seen) (o : Option Entry) → seen_by m.mode next o access (wp_of b) (fresh first.ram m.frames b.cpu.cr3 (pse_of b.cpu) next) ≡ Some y → seen_by m.mode next o access (wp_of b) (fresh b.ram m.frames b.cpu.cr3 (pse_of b.cpu) next) ≡ Some y
+      to_before : (y : Seen) (o : Option Entry) → seen_by m.mode next o access (wp_of b.cpu) (fresh first.ram m.frames b.cpu.cr3 (pse_of b.cpu) next) ≡ Some y → seen_by m.mode next o access (wp_of b.cpu) (fresh b.ram m.frames b.cpu.cr3 (pse_of b.cpu) next) ≡ Some y
       to_before y (Some e) g = g
-      to_before y None g = found_before b.ram first.ram m.frames b.cpu.cr3 (pse_of b.cpu) m.mode next access (wp_of b) y through.through.marks (next_small not_last) room g
+      to_before y None g = found_before b.ram first.ram m.frames b.cpu.cr3 (pse_of b.cpu) m.mode next access (wp_of b.cpu) y through.through.marks (next_small not_last) room g
 
-      to_after : (y : Seen) (o : Option Entry) → seen_by m.mode next o access (wp_of b) (fresh b.ram m.frames b.cpu.cr3 (pse_of b.cpu) next) ≡ Some y → seen_by m.mode next o access (wp_of b) (fresh first.ram m.frames b.cpu.cr3 (pse_of b.cpu) next) ≡ Some y
+      to_after : (y : Seen) (o : Option Entry) → seen_by m.mode next o access (wp_of b.cpu) (fresh b.ram m.frames b.cpu.cr3 (pse_of b.cpu) next) ≡ Some y → seen_by m.mode next o access (wp_of b.cpu) (fresh first.ram m.frames b.cpu.cr3 (pse_of b.cpu) next) ≡ Some y
       to_after y (Some e) g = g
-      to_after y None g = found_after b.ram first.ram m.frames b.cpu.cr3 (pse_of b.cpu) m.mode next access (wp_of b) y through.through.marks (next_small not_last) room g
+      to_after y None g = found_after b.ram first.ram m.frames b.cpu.cr3 (pse_of b.cpu) m.mode next access (wp_of b.cpu) y through.through.marks (next_small not_last) room g
 
       -- ---- behind a fetch of both
 
@@ -195,7 +195,7 @@ module _ (m : Setting) (b : State) (kernel : Bool) (mode : m.mode ≡ wedge_mode
 
         next_is : next_seen m b x ≡ Some y
         next_is =
-            ap (seen_behind b x) (seen_same next ∙ to_before y (usable (get b.set next) access (wp_of b)) (sym same_entry ∙ second.page.is))
+            ap (seen_behind b x) (seen_same next ∙ to_before y (usable (get b.set next) access (wp_of b.cpu)) (sym same_entry ∙ second.page.is))
             ∙ passed_by (marks_front b x y.marks) None (Some y) (sym (marks_are y.marks) ∙ second.page.own)
 
         more_is : more ≡ bytes_seen (marked (marked b.ram x.marks) y.marks) y (next_page eip) longest
@@ -242,16 +242,16 @@ module _ (m : Setting) (b : State) (kernel : Bool) (mode : m.mode ≡ wedge_mode
   -- ---- where a look finds a clash
 
   abbrev Clashes : List Use → Type 0
-  Clashes uses = clash_in (get b.set) (protects b) uses ≡ true
+  Clashes uses = clash_in (get b.set) (wp_of b.cpu) uses ≡ true
 
   module _ (h : Clashes (uses_seen m b)) where
-    none_clear : {A : Type 0} (uses : List Use) → uses_seen m b ≡ uses → clash_in (get b.set) (protects b) uses ≡ false → A
-    none_clear uses is none = absurd (let f : true ≡ false = sym h ∙ ap (clash_in (get b.set) (protects b)) is ∙ none in cc)
+    none_clear : {A : Type 0} (uses : List Use) → uses_seen m b ≡ uses → clash_in (get b.set) (wp_of b.cpu) uses ≡ false → A
+    none_clear uses is none = absurd (let f : true ≡ false = sym h ∙ ap (clash_in (get b.set) (wp_of b.cpu)) is ∙ none in cc)
 
     -- the fetch gives an instruction
     at_instruction : (insn : Insn) (len : ℕ) (t : Space) → fetched (not kernel) eip start ≡ Ok (begins.Insn insn len, t) → instruction_clashes m b ≡ true
     unfolding instruction_clashes
-    at_instruction insn len t e = ap (clash_in (get b.set) (protects b)) (found insn len t (ap (λ (u : Bool). fetched u eip start) user ∙ e)) ∙ h
+    at_instruction insn len t e = ap (clash_in (get b.set) (wp_of b.cpu)) (found insn len t (ap (λ (u : Bool). fetched u eip start) user ∙ e)) ∙ h
 
     module _ (front : List ℕ) (first : Space) (reads : fetching (not kernel) eip (front_len eip) start ≡ Ok (front, first)) where
       fetched_is : (d : Decoded) → decoded front ≡ d → fetched (not kernel) eip start ≡ fetched_by (not kernel) eip front d first
@@ -309,7 +309,7 @@ module _ (m : Setting) (b : State) (kernel : Bool) (mode : m.mode ≡ wedge_mode
             by_marks true e =
                 none_clear (fetch_uses b (eip / 4096 ∷ next ∷ [])) (cut_is (ap (seen_behind b (x front first reads)) is ∙ ap (λ (c : Bool). cond {A = Option Seen} c None (Some y)) e)) (two_clear b (eip / 4096) next other_next)
             by_marks false e =
-                let there = same_entry front first reads ∙ to_after front first reads not_last y (usable (get b.set next) access (wp_of b)) (sym (seen_same next) ∙ is) in
+                let there = same_entry front first reads ∙ to_after front first reads not_last y (usable (get b.set next) access (wp_of b.cpu)) (sym (seen_same next) ∙ is) in
                 let f = fetch_found m b kernel (before front first reads) (next_page eip) longest y (next_small not_last) there (marks_are front first reads y.marks ∙ e) in
                 ended_past f.bytes f.after f.reads (decoded (front ++ f.bytes)) refl
 

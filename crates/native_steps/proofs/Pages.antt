@@ -18,20 +18,20 @@ use Rattle.paging.specs.Uses.{is_barred, window_stop, usable, by_entry, page_use
 use Rattle.paging.specs.Work.{Outcome, Work, on_value}
 use Rattle.descriptors.specs.Access as accesses
 use Rattle.descriptors.specs.Access.{met}
+use Rattle.descriptors.specs.Controls.{wp_of}
 use Rattle.sys_exec.specs.declared.effect.Refusal.{Refusal}
 use Rattle.sys_exec.specs.Access.{denials, reaching}
 use Rattle.image_load.specs.Boot.{text_pages}
 use Rattle.machine_model.specs.State.{Setting, State, wedge_mode}
-use Rattle.machine_model.specs.Instruction.{taken, fetching}
+use Rattle.machine_model.specs.Instruction.{bytes_fetched, fetching}
 use Rattle.native_steps.specs.Lends.{IsLent, AreKept}
-use Rattle.native_steps.specs.Forward.{wp_of}
 use Rattle.native_steps.proofs.Choices.{chosen, passed_by, lt_false, le_true}
 
 -- a step's memory, with the bytes and translations of the state
 pub record At (m : Setting) (b : State) (s : Space) : Type 0 where
   pub ram : s.ram ≡ b.ram
   pub set : s.set ≡ b.set
-  pub wp : s.wp ≡ wp_of b
+  pub wp : s.wp ≡ wp_of b.cpu
   pub visited : AreKept b.set s.visited
   -- no walk was done
   pub tables : s.tables ≡ []
@@ -82,7 +82,7 @@ module _ (m : Setting) (b : State) (kernel : Bool) where
           by_place zero lt is = sym is
           by_place (suc n) lt is = absurd (omega (arith, lt))
 
-  pub page_passes : (s : Space) (fetch : Bool) (page at : ℕ) (write : Bool) (frame : ℕ) → At m b s → HasEntry kernel (wp_of b) b.set write page frame → IsFree fetch page frame
+  pub page_passes : (s : Space) (fetch : Bool) (page at : ℕ) (write : Bool) (frame : ℕ) → At m b s → HasEntry kernel (wp_of b.cpu) b.set write page frame → IsFree fetch page frame
       → Passes m b (page_uses s fetch page at (by_side write))
   unfolding page_uses
   page_passes s fetch page at write frame h lent free =
@@ -122,8 +122,8 @@ module _ (m : Setting) (b : State) (kernel : Bool) where
       open_above false a = refl
 
   pub range_passes : (s : Space) (at len : ℕ) (write : Bool) (first last : ℕ) → At m b s → at + len ≤ 2 ^ 32 → (kernel ≡ true → 0x11000000 ≤ at)
-      → HasEntry kernel (wp_of b) b.set write (at / 4096) first → IsFree false (at / 4096) first
-      → HasEntry kernel (wp_of b) b.set write ((at + len - 1) / 4096) last → IsFree false ((at + len - 1) / 4096) last
+      → HasEntry kernel (wp_of b.cpu) b.set write (at / 4096) first → IsFree false (at / 4096) first
+      → HasEntry kernel (wp_of b.cpu) b.set write ((at + len - 1) / 4096) last → IsFree false ((at + len - 1) / 4096) last
       → Passes m b (uses s at len (by_side write))
   unfolding uses
   range_passes s at len write first last h fits above lent1 free1 lent2 free2 =
@@ -146,20 +146,20 @@ module _ (m : Setting) (b : State) (kernel : Bool) where
   unfolding accesses.reaching
   reaching_comes s at len write p = record { space = p.space; is = ap (λ (o : Touch × Space). met denials o.0 o.1) p.is; at = p.at }
 
-  pub fetch_passes : (s : Space) (at len frame : ℕ) → At m b s → HasEntry kernel (wp_of b) b.set false (at / 4096) frame → IsFree true (at / 4096) frame
+  pub fetch_passes : (s : Space) (at len frame : ℕ) → At m b s → HasEntry kernel (wp_of b.cpu) b.set false (at / 4096) frame → IsFree true (at / 4096) frame
       → Passes m b (fetches s at len (not kernel))
   unfolding fetches
   fetch_passes s at len frame h lent free =
       passes_then _ (made_ready at len false) (page_passes (unready s) true (at / 4096) at false frame (unready_at s h) lent free) (made at len false)
 
   -- where an address of a page lies
-  pub place_at : (s : Space) (at frame : ℕ) (write : Bool) → At m b s → HasEntry kernel (wp_of b) b.set write (at / 4096) frame → place s at ≡ 4096 * frame + at % 4096
+  pub place_at : (s : Space) (at frame : ℕ) (write : Bool) → At m b s → HasEntry kernel (wp_of b.cpu) b.set write (at / 4096) frame → place s at ≡ 4096 * frame + at % 4096
   unfolding place
   place_at s at frame write h lent =
       let sum : lent.entry.frame * 4096 + at % 4096 ≡ 4096 * frame + at % 4096 = omega (arith, lent.frame_is) in
       ap (λ (set : FinMap nat_cmp Entry). place_by (get set (at / 4096)) at) h.set ∙ ap (λ (o : Option Entry). place_by o at) lent.kept ∙ sum
 
-  pub fetching_comes : (s : Space) (at len frame : ℕ) → At m b s → HasEntry kernel (wp_of b) b.set false (at / 4096) frame → IsFree true (at / 4096) frame
+  pub fetching_comes : (s : Space) (at len frame : ℕ) → At m b s → HasEntry kernel (wp_of b.cpu) b.set false (at / 4096) frame → IsFree true (at / 4096) frame
       → Comes m b (part b.ram (4096 * frame + at % 4096) len) (fetching (not kernel) at len s)
   unfolding fetching
   fetching_comes s at len frame h lent free =
@@ -169,7 +169,7 @@ module _ (m : Setting) (b : State) (kernel : Bool) where
       let bytes : part p.space.ram (place p.space at) len ≡ part b.ram (4096 * frame + at % 4096) len = ap (λ (x : List ℕ). part x (place p.space at) len) ram_is ∙ ap (λ (x : ℕ). part b.ram x len) place_is in
       record {
         space = p.space;
-        is = ap (λ (o : Touch × Space). taken at len o.0 o.1) p.is ∙ ap (λ (x : List ℕ). Ok (x, p.space)) bytes;
+        is = ap (λ (o : Touch × Space). bytes_fetched at len o.0 o.1) p.is ∙ ap (λ (x : List ℕ). Ok (x, p.space)) bytes;
         at = p.at;
       }
 

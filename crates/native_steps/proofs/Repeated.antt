@@ -5,6 +5,7 @@ use Rattle.std.specs.List.{Contains}
 use Rattle.std.specs.FinMap.{FinMap, get}
 use Rattle.std.specs.Ordering.{nat_cmp}
 use Rattle.std.proofs.lemmas.Bool.{cases_lt}
+use Rattle.descriptors.specs.Controls.{wp_of}
 use Rattle.guest_ram.specs.Bytes.{AreBytes, byte}
 use Rattle.ia32_types.specs.declared.flags.Regs.{Regs}
 use Rattle.ia32_types.specs.declared.insn.Insn.{Insn}
@@ -41,7 +42,7 @@ use Rattle.machine_model.specs.Instruction.{next_page, fetched}
 use Rattle.machine_model.specs.Step.{Result, Report, Went, Halts, after_instruction, begun, after_fetch, unheld, stepped}
 use Rattle.native_steps.specs.Mirrors.{Sees}
 use Rattle.native_steps.specs.Native.{byte_of, effect_of, done_by}
-use Rattle.native_steps.specs.Forward.{wp_of, IsNext}
+use Rattle.native_steps.specs.Forward.{IsNext}
 use Rattle.native_steps.specs.Backward.{IsTranslated}
 use Rattle.native_steps.specs.Again.{AreWithin, settled, StepsAgain}
 use Rattle.native_steps.proofs.Clear.{Use, used, range_uses, uses_of, AreClear}
@@ -83,10 +84,10 @@ module _ (flags : EffectLaws) (m : Setting) (v : View) (b : State) (mode : m.mod
   Th = Through m b v.kernel
 
   abbrev Clear : List ℕ → List Use → Type 0
-  Clear ps us = AreClear b.set (not v.kernel) (wp_of b) ps us
+  Clear ps us = AreClear b.set (not v.kernel) (wp_of b.cpu) ps us
 
   abbrev HasIt : Space → Bool → ℕ → ℕ → Type 0
-  HasIt s write page frame = HasEntry v.kernel (wp_of b) s.set write page frame
+  HasIt s write page frame = HasEntry v.kernel (wp_of b.cpu) s.set write page frame
 
   -- ---- the fetch
 
@@ -161,7 +162,7 @@ module _ (flags : EffectLaws) (m : Setting) (v : View) (b : State) (mode : m.mod
       let g = range_through m b v.kernel ps s t write r.at r.len h short.0 c.0 (λ other there. second (last_page r == r.at / 4096) refl c.1 other there) e2 in
       record { through = g.through; range = g }
     where
-      second : (one : Bool) → (last_page r == r.at / 4096) ≡ one → AreClear b.set (not v.kernel) (wp_of b) ((r.at / 4096) ∷ ps) (cond one [] (used write (last_page r) ∷ []))
+      second : (one : Bool) → (last_page r == r.at / 4096) ≡ one → AreClear b.set (not v.kernel) (wp_of b.cpu) ((r.at / 4096) ∷ ps) (cond one [] (used write (last_page r) ∷ []))
           → ((r.at + r.len - 1) / 4096 == r.at / 4096) ≡ false → Contains ((r.at / 4096) ∷ ps) ((r.at + r.len - 1) / 4096) → IsServed m b v.kernel ((r.at + r.len - 1) / 4096) write
       second true is d other there = absurd (clash ((r.at + r.len - 1) / 4096 == r.at / 4096) (ap (λ p. p == r.at / 4096) (last_is r short.0) ∙ is) other)
       second false is d other there = subst (λ p. IsServed m b v.kernel p write) (sym (last_is r short.0)) (d.0 (subst (Contains ((r.at / 4096) ∷ ps)) (last_is r short.0) there))
@@ -171,10 +172,10 @@ module _ (flags : EffectLaws) (m : Setting) (v : View) (b : State) (mode : m.mod
     pub fits : r.at + r.len ≤ 2 ^ 32
     pub above : v.kernel ≡ true → 0x11000000 ≤ r.at
     pub first : ℕ
-    pub has_first : HasEntry v.kernel (wp_of b) last.set write (r.at / 4096) first
+    pub has_first : HasEntry v.kernel (wp_of b.cpu) last.set write (r.at / 4096) first
     pub free_first : IsFree m b v.kernel false (r.at / 4096) first
     pub last_frame : ℕ
-    pub has_last : HasEntry v.kernel (wp_of b) last.set write ((r.at + r.len - 1) / 4096) last_frame
+    pub has_last : HasEntry v.kernel (wp_of b.cpu) last.set write ((r.at + r.len - 1) / 4096) last_frame
     pub free_last : IsFree m b v.kernel false ((r.at + r.len - 1) / 4096) last_frame
 
   above_of : (s : Space) → IsWithin m b v.kernel s → (write : Bool) (at : ℕ) → window_stop s.mode (record { write = write; user = not v.kernel }) at ≡ None → v.kernel ≡ true → 0x11000000 ≤ at
@@ -249,7 +250,7 @@ module _ (flags : EffectLaws) (m : Setting) (v : View) (b : State) (mode : m.mod
     at_start = record { ram = refl; set = refl; wp = refl; visited = λ q c. absurd (let lt = c.1 in omega (arith, lt)); tables = refl; own = record { front = 0; front_len = 0; back = 0; back_len = 0 }; mode = mode }
 
   -- an address of a range has the same place then
-  place_of : (s : Space) (write : Bool) (page frame x : ℕ) → x / 4096 ≡ page → HasEntry v.kernel (wp_of b) s.set write page frame → place s x ≡ 4096 * frame + x % 4096
+  place_of : (s : Space) (write : Bool) (page frame x : ℕ) → x / 4096 ≡ page → HasEntry v.kernel (wp_of b.cpu) s.set write page frame → place s x ≡ 4096 * frame + x % 4096
   unfolding place
   place_of s write page frame x e h =
       let sum : h.entry.frame * 4096 + x % 4096 ≡ 4096 * frame + x % 4096 = let is = h.frame_is in omega (arith, is) in
@@ -269,7 +270,7 @@ module _ (flags : EffectLaws) (m : Setting) (v : View) (b : State) (mode : m.mod
 
   -- ---- the step
 
-  module _ (insn : Insn) (len : ℕ) (fetch read write : Space) (t : IsTranslated m b insn len fetch read write) (clear : AreClear b.set (b.cpu.cpl == 3) (wp_of b) [] (uses_of fetch.visited (ranges_of insn b.cpu.regs))) where
+  module _ (insn : Insn) (len : ℕ) (fetch read write : Space) (t : IsTranslated m b insn len fetch read write) (clear : AreClear b.set (b.cpu.cpl == 3) (wp_of b.cpu) [] (uses_of fetch.visited (ranges_of insn b.cpu.regs))) where
     abbrev reads : Option Range
     reads = (ranges_of insn b.cpu.regs).read
 
@@ -283,7 +284,7 @@ module _ (flags : EffectLaws) (m : Setting) (v : View) (b : State) (mode : m.mod
     fetch_is = ap (λ (u : Bool). fetched u b.cpu.regs.eip start) (sym user) ∙ t.fetched
 
     all_clear : Clear [] (map (used false) fetch.visited ++ (range_uses false reads ++ range_uses true writes))
-    all_clear = subst (λ (u : Bool). AreClear b.set u (wp_of b) [] (uses_of fetch.visited (ranges_of insn b.cpu.regs))) user clear
+    all_clear = subst (λ (u : Bool). AreClear b.set u (wp_of b.cpu) [] (uses_of fetch.visited (ranges_of insn b.cpu.regs))) user clear
 
     pub first : Began insn len fetch
     first = began insn len fetch (range_uses false reads ++ range_uses true writes) fetch_is all_clear
@@ -294,8 +295,8 @@ module _ (flags : EffectLaws) (m : Setting) (v : View) (b : State) (mode : m.mod
     rest : Clear fetch_pages (range_uses false reads) × Clear (after fetch_pages (range_uses false reads)) (range_uses true writes)
     rest =
         let c = subst (λ (l : List ℕ). Clear [] (map (used false) l ++ (range_uses false reads ++ range_uses true writes))) first.visited all_clear in
-        clear_split b.set (not v.kernel) (wp_of b) (range_uses false reads) (range_uses true writes) fetch_pages
-        (clear_split b.set (not v.kernel) (wp_of b) (map (used false) first.pages) (range_uses false reads ++ range_uses true writes) [] c).1
+        clear_split b.set (not v.kernel) (wp_of b.cpu) (range_uses false reads) (range_uses true writes) fetch_pages
+        (clear_split b.set (not v.kernel) (wp_of b.cpu) (map (used false) first.pages) (range_uses false reads ++ range_uses true writes) [] c).1
 
     abbrev read_pages : List ℕ
     read_pages = after fetch_pages (range_uses false reads)

@@ -16,7 +16,7 @@ use Rattle.ia32_decode.specs.declared.answer.Decoded.TheVariants as begins
 use Rattle.ia32_decode.specs.Answer.{Begins, Answers}
 use Rattle.ia32_decode.specs.Decoding.{decoded}
 use Rattle.ia32_decode.proofs.Exact.{answered, decoded_back}
-use Rattle.descriptors.specs.Controls.{pse_of}
+use Rattle.descriptors.specs.Controls.{pse_of, wp_of}
 use Rattle.paging.specs.declared.entry.Entry.{Entry}
 use Rattle.paging.specs.Space.{Mode, Wedge, Own, Space, place}
 use Rattle.paging.specs.Uses.{is_own, with_front, with_back}
@@ -25,7 +25,6 @@ use Rattle.image_load.specs.Boot.{text_pages}
 use Rattle.machine_model.specs.State.{Setting, State, wedge_mode, space_at_start}
 use Rattle.ia32_decode.specs.Front.{longest, front_len}
 use Rattle.machine_model.specs.Instruction.{fetching, owning_front, owning_back, next_page, owned}
-use Rattle.native_steps.specs.Forward.{wp_of}
 use Rattle.native_steps.specs.Again.{AreWithin, settled}
 use Rattle.native_steps.proofs.Clear.{used}
 use Rattle.native_steps.proofs.Choices.{le_true, lt_true, clash, eq_true}
@@ -110,7 +109,7 @@ module _ (m : Setting) (b : State) (kernel : Bool) (mode : m.mode ≡ wedge_mode
   start_in = record { frames = refl; cr3 = refl; pse = refl; wp = refl; own = record { front = 0; front_len = 0; back = 0; back_len = 0 }; mode = mode; room = room; fit = fit; pages = λ q lt. inl refl }
 
   -- entries lead to the guest's frames
-  pub frame_in : (s : Space) (page frame : ℕ) (write : Bool) → IsWithin m b kernel s → page < 2 ^ 20 → HasEntry kernel (wp_of b) s.set write page frame → frame < m.frames
+  pub frame_in : (s : Space) (page frame : ℕ) (write : Bool) → IsWithin m b kernel s → page < 2 ^ 20 → HasEntry kernel (wp_of b.cpu) s.set write page frame → frame < m.frames
   frame_in s page frame write h lt e =
       elim (h.pages page lt) [
         | inl untouched ↦ let f = sound page e.entry (sym untouched ∙ e.kept) in let is = e.frame_is in omega (arith, f, is)

@@ -3,6 +3,7 @@ use Rattle.std.proofs.Common.{◌≡◌, ℕ, ◌+◌, ◌-◌, ◌*◌, ◌/◌
 use Rattle.std.specs.Prelude.{nat_le, nat_lt}
 use Rattle.std.proofs.lemmas.Bool.{cases_lt}
 use Rattle.std.specs.FinMap.{get}
+use Rattle.descriptors.specs.Controls.{wp_of}
 use Rattle.guest_ram.specs.Bytes.{byte}
 use Rattle.ia32_exec.specs.declared.access.Range.{Range}
 use Rattle.ia32_exec.specs.Ranges.{Covers}
@@ -21,7 +22,6 @@ use Rattle.machine_model.specs.State.{Setting, State, wedge_mode}
 use Rattle.native_steps.specs.Lends.{IsOpen, IsLent, IsUnlent, Lends}
 use Rattle.native_steps.specs.Mirrors.{IsWedge, Mirrors}
 use Rattle.native_steps.specs.Native.{byte_of}
-use Rattle.native_steps.specs.Forward.{wp_of}
 use Rattle.native_steps.proofs.Choices.{both, lt_told, not_lt, is_false}
 use Rattle.native_steps.proofs.Pages.{IsFree}
 use Rattle.native_steps.proofs.HostParts.{Leads, leads_told, AreRanges}
@@ -75,7 +75,7 @@ module _ (m : Setting) (w : IsWedge m) (memory : List ℕ) (v : View) (b : State
   -- both reach the page, at this frame, and it has no text
   pub record Shares (write : Bool) (page frame : ℕ) : Type 0 where
     pub leads : Leads memory v.root write page frame
-    pub lent : IsLent m v.kernel (wp_of b) b.set write page frame
+    pub lent : IsLent m v.kernel (wp_of b.cpu) b.set write page frame
     pub plain : is_text (wedge_mode m.image) frame ≡ false
 
   -- a range that both reach
@@ -101,13 +101,13 @@ module _ (m : Setting) (w : IsWedge m) (memory : List ℕ) (v : View) (b : State
   within_limit true at h = is_false (nat_lt at 285212672) (λ e. let lt = lt_told at 285212672 e in let le = h refl in omega (arith, lt, le))
   within_limit false at h = refl
 
-  pub shares : Lends m memory v.root v.kernel (wp_of b) b.set → (write : Bool) (page frame : ℕ) → page < 2 ^ 20 → (v.kernel ≡ true → 0x11000 ≤ page) → Leads memory v.root write page frame → Shares write page frame
+  pub shares : Lends m memory v.root v.kernel (wp_of b.cpu) b.set → (write : Bool) (page frame : ℕ) → page < 2 ^ 20 → (v.kernel ≡ true → 0x11000 ≤ page) → Leads memory v.root write page frame → Shares write page frame
   shares lends write page frame lt above e =
       let lent = lends.each page lt write frame (leads_told memory v.root page lt write frame e) in
       record { leads = e; lent = lent; plain = no_text m w v.kernel page frame above lent.is_open }
 
   -- from what the host met
-  pub range_shared : Lends m memory v.root v.kernel (wp_of b) b.set → (write : Bool) (r : Range) → 1 ≤ r.len → r.len ≤ 32 → r.at + r.len ≤ 2 ^ 32 → (v.kernel ≡ true → 0x11000000 ≤ r.at)
+  pub range_shared : Lends m memory v.root v.kernel (wp_of b.cpu) b.set → (write : Bool) (r : Range) → 1 ≤ r.len → r.len ≤ 32 → r.at + r.len ≤ 2 ^ 32 → (v.kernel ≡ true → 0x11000000 ≤ r.at)
       → (first : ℕ) → Leads memory v.root write (r.at / 4096) first → (last : ℕ) → Leads memory v.root write (last_page r) last → IsShared write r
   range_shared lends write r some few fits above first e last g =
       record {
@@ -121,7 +121,7 @@ module _ (m : Setting) (w : IsWedge m) (memory : List ℕ) (v : View) (b : State
         last_is = shares lends write (last_page r) last (omega (arith, fits, some)) (λ k. let le = above k in omega (arith, le)) g;
       }
 
-  pub from_host : Lends m memory v.root v.kernel (wp_of b) b.set → (write : Bool) (o : Option Range) → IsShort o → AreRanges memory v write o → AreShared write o
+  pub from_host : Lends m memory v.root v.kernel (wp_of b.cpu) b.set → (write : Bool) (o : Option Range) → IsShort o → AreRanges memory v write o → AreShared write o
   from_host lends write None short h = tt
   from_host lends write (Some r) short h = range_shared lends write r short.0 short.1 h.fits (past_limit v.kernel r.at h.above) h.first h.first_is h.last h.last_is
 

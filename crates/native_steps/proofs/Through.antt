@@ -4,6 +4,7 @@ use Rattle.std.specs.Prelude.{nat_lt}
 use Rattle.std.specs.List.{Contains}
 use Rattle.std.specs.FinMap.{FinMap}
 use Rattle.std.specs.Ordering.{nat_cmp}
+use Rattle.descriptors.specs.Controls.{wp_of}
 use Rattle.guest_ram.specs.Bytes.{AreBytes, byte, part}
 use Rattle.ia32_types.specs.declared.stop.Stop as reason
 use Rattle.ia32_types.specs.declared.stop.Stop.TheVariants as stops
@@ -16,8 +17,7 @@ use Rattle.paging.specs.Uses.{is_own, window_stop, page_uses, go_on, and_then, u
 use Rattle.sys_exec.specs.Access.{reaching}
 use Rattle.image_load.specs.Boot.{text_pages}
 use Rattle.machine_model.specs.State.{Setting, State}
-use Rattle.machine_model.specs.Instruction.{taken, fetching}
-use Rattle.native_steps.specs.Forward.{wp_of}
+use Rattle.machine_model.specs.Instruction.{bytes_fetched, fetching}
 use Rattle.native_steps.proofs.Clear.{Use, AreClear}
 use Rattle.native_steps.proofs.Choices.{not_lt, passed_by, eq_told}
 use Rattle.native_steps.proofs.Pages.{HasEntry, IsFree}
@@ -56,13 +56,13 @@ module _ (m : Setting) (b : State) (kernel : Bool) where
   In = IsWithin m b kernel
 
   abbrev Has : Space → Bool → ℕ → ℕ → Type 0
-  Has s write page frame = HasEntry kernel (wp_of b) s.set write page frame
+  Has s write page frame = HasEntry kernel (wp_of b.cpu) s.set write page frame
 
   abbrev side : Bool → Access
   side write = record { write = write; user = not kernel }
 
   abbrev Clear : List ℕ → List Use → Type 0
-  Clear ps us = AreClear b.set (not kernel) (wp_of b) ps us
+  Clear ps us = AreClear b.set (not kernel) (wp_of b.cpu) ps us
 
   -- the same bytes and translations, with other accounts
   pub within_as : (s t : Space) → In s → s.ram ≡ t.ram → s.set ≡ t.set → s.frames ≡ t.frames → s.cr3 ≡ t.cr3 → s.pse ≡ t.pse → s.wp ≡ t.wp → (own : Own) → t.mode ≡ Wedge 0x100 (text_pages m.image) own → In t
@@ -84,7 +84,7 @@ module _ (m : Setting) (b : State) (kernel : Bool) where
     pub marks : AreMarked s.ram t.ram
     pub mode : t.mode ≡ s.mode
     pub owns : (k : ℕ) → is_own s.mode k ≡ true → byte t.ram k ≡ byte s.ram k
-    pub kept : (q : ℕ) (w : Bool) (f : ℕ) → Before ps q → HasEntry kernel (wp_of b) s.set w q f → HasEntry kernel (wp_of b) t.set w q f
+    pub kept : (q : ℕ) (w : Bool) (f : ℕ) → Before ps q → HasEntry kernel (wp_of b.cpu) s.set w q f → HasEntry kernel (wp_of b.cpu) t.set w q f
 
   pub through_on : (ps qs : List ℕ) (s t u : Space) → Through ps s t → Through qs t u → ((q : ℕ) → Before ps q → Before qs q) → Through ps s u
   through_on ps qs s t u h k more = record {
@@ -123,7 +123,7 @@ module _ (m : Setting) (b : State) (kernel : Bool) where
   unready_in : (s : Space) → In s → In (unready s)
   unready_in s h = within_as s (unready s) h refl refl refl refl refl refl h.own h.mode
 
-  placed : (s : Space) (at frame : ℕ) (write : Bool) → HasEntry kernel (wp_of b) s.set write (at / 4096) frame → place s at ≡ 4096 * frame + at % 4096
+  placed : (s : Space) (at frame : ℕ) (write : Bool) → HasEntry kernel (wp_of b.cpu) s.set write (at / 4096) frame → place s at ≡ 4096 * frame + at % 4096
   unfolding place
   placed s at frame write h =
       let sum : h.entry.frame * 4096 + at % 4096 ≡ 4096 * frame + at % 4096 = let e = h.frame_is in omega (arith, e) in
@@ -134,12 +134,12 @@ module _ (m : Setting) (b : State) (kernel : Bool) where
   pub record FetchThrough (ps : List ℕ) (s t : Space) (at len : ℕ) (bytes : List ℕ) : Type 0 where
     pub through : Through ps s t
     pub frame : ℕ
-    pub has : HasEntry kernel (wp_of b) t.set false (at / 4096) frame
+    pub has : HasEntry kernel (wp_of b.cpu) t.set false (at / 4096) frame
     pub free : IsFree m b kernel true (at / 4096) frame
     pub place_is : place t at ≡ 4096 * frame + at % 4096
     pub bytes_is : bytes ≡ part t.ram (4096 * frame + at % 4096) len
 
-  pub taken_parts : (at len : ℕ) (o : Touch) (s : Space) (bytes : List ℕ) (t : Space) → taken at len o s ≡ Ok (bytes, t) → (o ≡ Ready) × ((part s.ram (place s at) len ≡ bytes) × (s ≡ t))
+  pub taken_parts : (at len : ℕ) (o : Touch) (s : Space) (bytes : List ℕ) (t : Space) → bytes_fetched at len o s ≡ Ok (bytes, t) → (o ≡ Ready) × ((part s.ram (place s at) len ≡ bytes) × (s ≡ t))
   taken_parts at len Ready s bytes t e =
       let p : ◌≡◌ {A = List ℕ × Space} (part s.ram (place s at) len, s) (bytes, t) = cc in
       (refl, (ap (λ (q : List ℕ × Space). q.0) p, ap (λ (q : List ℕ × Space). q.1) p))
@@ -181,10 +181,10 @@ module _ (m : Setting) (b : State) (kernel : Bool) where
     pub fits : at + len ≤ 2 ^ 32
     pub window : window_stop s.mode (record { write = write; user = not kernel }) at ≡ None
     pub first : ℕ
-    pub has_first : HasEntry kernel (wp_of b) t.set write (at / 4096) first
+    pub has_first : HasEntry kernel (wp_of b.cpu) t.set write (at / 4096) first
     pub free_first : IsFree m b kernel false (at / 4096) first
     pub last : ℕ
-    pub has_last : HasEntry kernel (wp_of b) t.set write ((at + len - 1) / 4096) last
+    pub has_last : HasEntry kernel (wp_of b.cpu) t.set write ((at + len - 1) / 4096) last
     pub free_last : IsFree m b kernel false ((at + len - 1) / 4096) last
 
   abbrev last_of : ℕ → ℕ → ℕ
@@ -194,10 +194,10 @@ module _ (m : Setting) (b : State) (kernel : Bool) where
   record Paged (ps : List ℕ) (s t : Space) (write : Bool) (at len : ℕ) : Type 0 where
     through : Through ps s t
     first : ℕ
-    has_first : HasEntry kernel (wp_of b) t.set write (at / 4096) first
+    has_first : HasEntry kernel (wp_of b.cpu) t.set write (at / 4096) first
     free_first : IsFree m b kernel false (at / 4096) first
     last : ℕ
-    has_last : HasEntry kernel (wp_of b) t.set write ((at + len - 1) / 4096) last
+    has_last : HasEntry kernel (wp_of b.cpu) t.set write ((at + len - 1) / 4096) last
     free_last : IsFree m b kernel false ((at + len - 1) / 4096) last
 
   second_through : (ps : List ℕ) (s t u : Space) (write : Bool) (at len : ℕ) → Leaves m b kernel s t (at / 4096) write false → (Contains ps (at / 4096) → IsServed m b kernel (at / 4096) write)
@@ -215,7 +215,7 @@ module _ (m : Setting) (b : State) (kernel : Bool) where
             has_first = l.has;
             free_first = l.free;
             last = l.frame;
-            has_last = subst (λ p. HasEntry kernel (wp_of b) t.set write p l.frame) page l.has;
+            has_last = subst (λ p. HasEntry kernel (wp_of b.cpu) t.set write p l.frame) page l.has;
             free_last = subst (λ p. IsFree m b kernel false p l.frame) page l.free;
           })
       choice false is g =

@@ -7,7 +7,7 @@ use Rattle.std.specs.Cmp.{unsigned_tied}
 use Rattle.std.proofs.lemmas.Cmp.{nat_cmp_total}
 use Rattle.guest_ram.specs.Bytes.{AreBytes, byte, word32}
 use Rattle.ia32_types.specs.declared.stop.Stop.TheVariants as stops
-use Rattle.descriptors.specs.Controls.{pse_of}
+use Rattle.descriptors.specs.Controls.{pse_of, wp_of}
 use Rattle.paging.specs.declared.entry.Access.{Access}
 use Rattle.paging.specs.declared.entry.Entry.{Entry}
 use Rattle.paging.specs.declared.entry.Touch.{Touch}
@@ -19,7 +19,6 @@ use Rattle.paging.specs.Space.{Mode, Wedge, Own, Space}
 use Rattle.paging.specs.Uses.{Tables, tables_of, Decision, is_barred, is_own, walks_text, marks_own, fault_code, dirtied, by_walk, decided, settled, usable, by_entry, page_uses}
 use Rattle.image_load.specs.Boot.{text_pages}
 use Rattle.machine_model.specs.State.{Setting, State}
-use Rattle.native_steps.specs.Forward.{wp_of}
 use Rattle.native_steps.proofs.Choices.{chosen, passed_by, both, eq_told, eq_true}
 use Rattle.native_steps.proofs.Pages.{HasEntry, IsFree}
 use Rattle.native_steps.proofs.Marks.{AreMarked, marked_same, flagged_marked, flagged_fit, flagged_dirty, flagged_kept}
@@ -112,7 +111,7 @@ module _ (m : Setting) (b : State) (kernel : Bool) where
     pub frames : s.frames ≡ m.frames
     pub cr3 : s.cr3 ≡ b.cpu.cr3
     pub pse : s.pse ≡ pse_of b.cpu
-    pub wp : s.wp ≡ wp_of b
+    pub wp : s.wp ≡ wp_of b.cpu
     pub own : Own
     pub mode : s.mode ≡ Wedge 0x100 (text_pages m.image) own
     pub room : 4096 * m.frames ≤ length s.ram
@@ -124,18 +123,18 @@ module _ (m : Setting) (b : State) (kernel : Bool) where
 
   -- a later use of the page finds an entry that allows it, if it had one before the step
   abbrev pub IsServed : ℕ → Bool → Type 0
-  IsServed page write = ForSome (get b.set page) (λ e. allows e (side write) (wp_of b) ≡ true)
+  IsServed page write = ForSome (get b.set page) (λ e. allows e (side write) (wp_of b.cpu) ≡ true)
 
   -- what one page leaves
   pub record Leaves (s t : Space) (page : ℕ) (write fetch : Bool) : Type 0 where
     pub within : IsWithin t
     pub frame : ℕ
-    pub has : HasEntry kernel (wp_of b) t.set write page frame
+    pub has : HasEntry kernel (wp_of b.cpu) t.set write page frame
     pub free : IsFree m b kernel fetch page frame
     pub marks : AreMarked s.ram t.ram
     pub mode : t.mode ≡ s.mode
     pub owns : (k : ℕ) → is_own s.mode k ≡ true → byte t.ram k ≡ byte s.ram k
-    pub others : (q : ℕ) (w : Bool) (f : ℕ) → HasEntry kernel (wp_of b) s.set w q f → (q ≡ page → IsServed page write) → HasEntry kernel (wp_of b) t.set w q f
+    pub others : (q : ℕ) (w : Bool) (f : ℕ) → HasEntry kernel (wp_of b.cpu) s.set w q f → (q ≡ page → IsServed page write) → HasEntry kernel (wp_of b.cpu) t.set w q f
 
   same_space : (x y : Touch × Space) → x ≡ y → x.1 ≡ y.1
   same_space x y e = ap (λ (o : Touch × Space). o.1) e
@@ -259,20 +258,20 @@ module _ (m : Setting) (b : State) (kernel : Bool) where
               pages = λ q lt. from_there q lt (q == page) refl;
             }
 
-        allowed_by : (e : Entry) (w d : Bool) → grants e (side w) (wp_of b) ≡ true → (not w || d) ≡ true → allows (record e { dirty = d }) (side w) (wp_of b) ≡ true
-        allowed_by e w d g x = both_true (grants e (side w) (wp_of b)) (not w || d) g x
+        allowed_by : (e : Entry) (w d : Bool) → grants e (side w) (wp_of b.cpu) ≡ true → (not w || d) ≡ true → allows (record e { dirty = d }) (side w) (wp_of b.cpu) ≡ true
+        allowed_by e w d g x = both_true (grants e (side w) (wp_of b.cpu)) (not w || d) g x
           where
             both_true : (p q : Bool) → p ≡ true → q ≡ true → (p && q) ≡ true
             both_true p q i j = cc
 
-        granted : grants r.entry (side write) (wp_of b) ≡ true
+        granted : grants r.entry (side write) (wp_of b.cpu) ≡ true
         granted = ap (grants r.entry (side write)) (sym h.wp) ∙ r.granted
 
         written : (w d : Bool) → (not w || (d || w)) ≡ true
         written true d = or_true d
         written false d = refl
 
-        has_here : HasEntry kernel (wp_of b) t.set write page r.entry.frame
+        has_here : HasEntry kernel (wp_of b.cpu) t.set write page r.entry.frame
         has_here = record { entry = dirtied r.entry write; kept = got_here; frame_is = refl; allowed = allowed_by r.entry write (r.entry.dirty || write) granted (written write r.entry.dirty) }
 
         page_is : r.entry.page ≡ page
@@ -323,7 +322,7 @@ module _ (m : Setting) (b : State) (kernel : Bool) where
         or_more false true e w g f = ap (λ z. z || w) (f refl)
         or_more false false e w g f = absurd (let z : false ≡ true = g in cc)
 
-        again : (w : Bool) (f : ℕ) → HasEntry kernel (wp_of b) s.set w page f → IsServed page write → IsFrom s.ram s.set page → HasEntry kernel (wp_of b) t.set w page f
+        again : (w : Bool) (f : ℕ) → HasEntry kernel (wp_of b.cpu) s.set w page f → IsServed page write → IsFrom s.ram s.set page → HasEntry kernel (wp_of b.cpu) t.set w page f
         again w f x served (inl untouched) =
             absurd (not_usable (get s.set page) (side write) s.wp x.entry x.kept (ap (allows x.entry (side write)) h.wp ∙ served x.entry (sym untouched ∙ x.kept)) none)
         again w f x served (inr k) =
@@ -332,9 +331,9 @@ module _ (m : Setting) (b : State) (kernel : Bool) where
             let two : Found (record k.entry { dirty = k.dirty }) k.dir_at k.word_at ≡ Found r.entry r.dir_at r.word_at =
             sym (walk_is s.ram m.frames b.cpu.cr3 (pse_of b.cpu) page (record k.entry { dirty = k.dirty }) k.dir_at k.word_at k.walk) ∙ walk_is s.ram m.frames b.cpu.cr3 (pse_of b.cpu) page r.entry r.dir_at r.word_at walk in
             let there : record k.entry { dirty = k.dirty } ≡ r.entry = cc two in
-            let p = both (grants x.entry (side w) (wp_of b)) (not w || x.entry.dirty) x.allowed in
-            let grants_there : grants r.entry (side w) (wp_of b) ≡ true =
-            ap (λ (e : Entry). grants e (side w) (wp_of b)) (sym there) ∙ ap (λ (e : Entry). grants e (side w) (wp_of b)) same ∙ p.0 in
+            let p = both (grants x.entry (side w) (wp_of b.cpu)) (not w || x.entry.dirty) x.allowed in
+            let grants_there : grants r.entry (side w) (wp_of b.cpu) ≡ true =
+            ap (λ (e : Entry). grants e (side w) (wp_of b.cpu)) (sym there) ∙ ap (λ (e : Entry). grants e (side w) (wp_of b.cpu)) same ∙ p.0 in
             let dirty_too : x.entry.dirty ≡ true → r.entry.dirty ≡ true = λ d. ap (λ (e : Entry). e.dirty) (sym there) ∙ k.more (ap (λ (e : Entry). e.dirty) same ∙ d) in
             record {
               entry = dirtied r.entry write;
@@ -343,10 +342,10 @@ module _ (m : Setting) (b : State) (kernel : Bool) where
               allowed = allowed_by r.entry w (r.entry.dirty || write) grants_there (or_more (not w) x.entry.dirty r.entry.dirty write p.1 dirty_too);
             }
 
-        others_by : (q : ℕ) (w : Bool) (f : ℕ) → HasEntry kernel (wp_of b) s.set w q f → (q ≡ page → IsServed page write) → (same : Bool) → (q == page) ≡ same → HasEntry kernel (wp_of b) t.set w q f
+        others_by : (q : ℕ) (w : Bool) (f : ℕ) → HasEntry kernel (wp_of b.cpu) s.set w q f → (q ≡ page → IsServed page write) → (same : Bool) → (q == page) ≡ same → HasEntry kernel (wp_of b.cpu) t.set w q f
         others_by q w f x served true e =
             let is : q ≡ page = eq_told q page e in
-            subst (λ (p : ℕ). HasEntry kernel (wp_of b) t.set w p f) (sym is) (again w f (subst (λ (p : ℕ). HasEntry kernel (wp_of b) s.set w p f) is x) (served is) (h.pages page small))
+            subst (λ (p : ℕ). HasEntry kernel (wp_of b.cpu) t.set w p f) (sym is) (again w f (subst (λ (p : ℕ). HasEntry kernel (wp_of b.cpu) s.set w p f) is x) (served is) (h.pages page small))
         others_by q w f x served false e = record { entry = x.entry; kept = got_there q e ∙ x.kept; frame_is = x.frame_is; allowed = x.allowed }
 
         walk_leaves : Leaves s t page write fetch

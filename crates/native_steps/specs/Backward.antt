@@ -1,6 +1,7 @@
 -- What the guest translates, and the host's tables lend, the host does.
 use Rattle.std.specs.Prelude.{◌≡◌, ℕ, ◌/◌, ◌==◌, List, length, Bool, true, false, Option, Some, None, Ok}
 use Rattle.std.specs.List.{Contains}
+use Rattle.descriptors.specs.Controls.{wp_of}
 use Rattle.ia32_types.specs.declared.flags.Regs.{Regs}
 use Rattle.ia32_types.specs.declared.insn.Insn.{Insn}
 use Rattle.ia32_decode.specs.declared.answer.Decoded.TheVariants as begins
@@ -22,7 +23,7 @@ use Rattle.machine_model.specs.Instruction.{is_plain, fetched}
 use Rattle.native_steps.specs.Lends.{Lends}
 use Rattle.native_steps.specs.Mirrors.{IsWedge, Mirrors}
 use Rattle.native_steps.specs.Native.{effect_of, IsNative}
-use Rattle.native_steps.specs.Forward.{wp_of, IsNext, Follows}
+use Rattle.native_steps.specs.Forward.{IsNext, Follows}
 
 -- The guest's instruction was fetched, and its ranges were translated: memory after each. It is one that the host may
 -- do by itself, and at level 0 no sensitive one.
@@ -51,7 +52,7 @@ pub record AreReached (memory : List ℕ) (root : ℕ) (pages : List ℕ) (range
 abbrev pub Backward : Type 0
 Backward =
     (m : Setting) (memory : List ℕ) (v : View) (b : State)
-    → IsWedge m → Mirrors m memory v b → Lends m memory v.root v.kernel (wp_of b) b.set → IsNext m v.kernel b
+    → IsWedge m → Mirrors m memory v b → Lends m memory v.root v.kernel (wp_of b.cpu) b.set → IsNext m v.kernel b
     → (insn : Insn) (len : ℕ) (fetch read write : Space) → IsTranslated m b insn len fetch read write
     → AreReached memory v.root fetch.visited (ranges_of insn b.cpu.regs) → IsNative m memory v b insn len
 
@@ -64,7 +65,7 @@ pub record Completes (m : Setting) (memory : List ℕ) (v : View) (b : State) (r
 abbrev pub NativeCompletes : Type 0
 NativeCompletes =
     (m : Setting) (memory : List ℕ) (v : View) (b : State)
-    → IsWedge m → Mirrors m memory v b → Lends m memory v.root v.kernel (wp_of b) b.set → IsNext m v.kernel b
+    → IsWedge m → Mirrors m memory v b → Lends m memory v.root v.kernel (wp_of b.cpu) b.set → IsNext m v.kernel b
     → (insn : Insn) (len : ℕ) (fetch read write : Space) → IsTranslated m b insn len fetch read write
     → AreReached memory v.root fetch.visited (ranges_of insn b.cpu.regs)
     → (regs : Regs) (stores : Stores) → effect_of v b insn len ≡ outcomes.Done regs stores → Completes m memory v b regs

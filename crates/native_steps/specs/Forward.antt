@@ -1,5 +1,6 @@
 -- What the host completes, the guest's step does.
 use Rattle.std.specs.Prelude.{◌≡◌, ℕ, ◌+◌, ◌-◌, ◌*◌, ◌^◌, ◌≤◌, ◌<◌, List, [], length, drop, Bool, true, false, Some, None, Ok}
+use Rattle.descriptors.specs.Controls.{wp_of}
 use Rattle.guest_ram.specs.Bytes.{frame}
 use Rattle.ia32_types.specs.declared.flags.Regs.{Regs}
 use Rattle.paging.specs.Fresh.{has}
@@ -63,13 +64,10 @@ pub record Follows (m : Setting) (v : View) (b : State) (memory : List ℕ) (reg
   pub guest_untouched : (at : ℕ) → IsUnlent memory v.root at → frame after.ram at ≡ frame b.ram at
   pub leads : v.kernel ≡ true → IsEntrance m.image regs.eip
 
-abbrev pub wp_of : State → Bool
-wp_of b = has b.cpu.cr0 0x10000
-
 abbrev pub Forward : Type 0
 Forward =
     (m : Setting) (memory : List ℕ) (v : View) (b : State)
-    → IsWedge m → Mirrors m memory v b → Lends m memory v.root v.kernel (wp_of b) b.set → IsNext m v.kernel b
+    → IsWedge m → Mirrors m memory v b → Lends m memory v.root v.kernel (wp_of b.cpu) b.set → IsNext m v.kernel b
     → (regs : Regs) (after_memory : List ℕ) → host_step v memory b.cpu.regs ≡ Ok (Completed regs, after_memory)
     → Follows m v b memory regs after_memory
 
@@ -77,14 +75,14 @@ Forward =
 abbrev pub NotEntered : Type 0
 NotEntered =
     (m : Setting) (memory : List ℕ) (v : View) (b : State)
-    → IsWedge m → Mirrors m memory v b → Lends m memory v.root v.kernel (wp_of b) b.set → IsNext m v.kernel b
+    → IsWedge m → Mirrors m memory v b → Lends m memory v.root v.kernel (wp_of b.cpu) b.set → IsNext m v.kernel b
     → (regs : Regs) (after_memory : List ℕ) → host_step v memory b.cpu.regs ≡ Ok (Entered regs, after_memory) → ⊥
 
 -- At the first byte of a site the host does nothing but jump into the window, to the address that names the site.
 abbrev pub AtSites : Type 0
 AtSites =
     (m : Setting) (memory : List ℕ) (v : View) (b : State)
-    → IsWedge m → Mirrors m memory v b → Lends m memory v.root v.kernel (wp_of b) b.set → v.kernel ≡ true
+    → IsWedge m → Mirrors m memory v b → Lends m memory v.root v.kernel (wp_of b.cpu) b.set → v.kernel ≡ true
     → (site : Site) → 0x10000000 ≤ b.cpu.regs.eip → site_at m.image.sites (b.cpu.regs.eip - 0x10000000) ≡ Some site → site.at ≡ b.cpu.regs.eip - 0x10000000
     → (done : Completion) (after_memory : List ℕ) → host_step v memory b.cpu.regs ≡ Ok (done, after_memory)
     → (done ≡ Entered (record b.cpu.regs { eip = window_at site.at })) × (after_memory ≡ memory)

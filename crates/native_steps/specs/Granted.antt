@@ -3,6 +3,7 @@
 use Rattle.std.specs.Prelude.{◌≡◌, ℕ, ◌*◌, ◌/◌, ◌^◌, ◌≤◌, ◌<◌, List, length, Bool, true, false, not, Option, Some, None}
 use Rattle.std.specs.List.{Contains}
 use Rattle.std.specs.FinMap.{get}
+use Rattle.descriptors.specs.Controls.{wp_of}
 use Rattle.guest_ram.specs.Bytes.{AreBytes}
 use Rattle.ia32_types.specs.declared.insn.Insn.{Insn}
 use Rattle.ia32_exec.specs.declared.access.Range.{Range}
@@ -23,7 +24,7 @@ use Rattle.machine_model.specs.Step.{after_instruction, begun, unheld, stepped}
 use Rattle.native_steps.specs.Lends.{IsOpen}
 use Rattle.native_steps.specs.Mirrors.{Sees}
 use Rattle.native_steps.specs.Native.{effect_of, done_by}
-use Rattle.native_steps.specs.Forward.{wp_of, IsNext}
+use Rattle.native_steps.specs.Forward.{IsNext}
 use Rattle.native_steps.specs.Backward.{IsTranslated}
 use Rattle.native_steps.specs.Again.{settled, AreWithin}
 
@@ -48,7 +49,7 @@ pub record AreGranted (image : Image) (kernel wp : Bool) (s : Space) (pages : Li
   pub write : IsRangeGranted image kernel wp s true ranges.write
 
 pub record Leaves (m : Setting) (v : View) (b : State) (insn : Insn) (len : ℕ) (fetch write : Space) : Type 0 where
-  pub granted : AreGranted m.image v.kernel (wp_of b) write fetch.visited (ranges_of insn b.cpu.regs)
+  pub granted : AreGranted m.image v.kernel (wp_of b.cpu) write fetch.visited (ranges_of insn b.cpu.regs)
   -- what the instruction comes to over the step's memory is its effect over the state that is left
   pub effect : user_effect (selectors_of b.cpu) insn len b.cpu.regs (byte_of (ranges_of insn b.cpu.regs) write) ≡ effect_of v (settled b write) insn len
   -- and the step goes on by it, whether it is done, raises or stops

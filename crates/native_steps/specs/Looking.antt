@@ -10,7 +10,8 @@ use Rattle.ia32_decode.specs.declared.answer.Decoded.{Decoded}
 use Rattle.ia32_decode.specs.declared.answer.Decoded.TheVariants as begins
 use Rattle.ia32_decode.specs.Decoding.{decoded}
 use Rattle.ia32_decode.specs.Front.{longest, front_len}
-use Rattle.descriptors.specs.Controls.{pse_of}
+use Rattle.descriptors.specs.Controls.{pse_of, wp_of}
+use Rattle.descriptors.specs.Access.{by_level}
 use Rattle.paging.specs.declared.entry.Access.{Access}
 use Rattle.paging.specs.declared.entry.Entry.{Entry}
 use Rattle.paging.specs.declared.entry.Walk.{Walk}
@@ -20,7 +21,7 @@ use Rattle.paging.specs.Space.{Mode, Space}
 use Rattle.paging.specs.Uses.{is_text, is_barred, usable}
 use Rattle.machine_model.specs.State.{Setting, State, space_at_start, wedge_mode}
 use Rattle.machine_model.specs.Instruction.{next_page, fetched}
-use Rattle.machine_model.specs.Clash.{Use, protects, access_of, fetch_uses, range_uses, uses_at, clash_in, instruction_clashes}
+use Rattle.machine_model.specs.Clash.{Use, fetch_uses, range_uses, uses_at, clash_in, instruction_clashes}
 
 -- memory with the accessed flag set in these bytes
 abbrev pub marked : List ℕ → List ℕ → List ℕ
@@ -50,7 +51,7 @@ seen_by mode page (Some entry) access wp walk = if is_barred mode true access.us
 seen_by mode page None access wp walk = found_by mode page access wp walk
 
 abbrev pub seen : Setting → State → ℕ → Option Seen
-seen m b page = seen_by m.mode page (usable (get b.set page) (access_of b false) (protects b)) (access_of b false) (protects b) (fresh b.ram m.frames b.cpu.cr3 (pse_of b.cpu) page)
+seen m b page = seen_by m.mode page (usable (get b.set page) (by_level b.cpu false) (wp_of b.cpu)) (by_level b.cpu false) (wp_of b.cpu) (fresh b.ram m.frames b.cpu.cr3 (pse_of b.cpu) page)
 
 -- the byte is one of those that the fetch reads in its first page
 abbrev pub is_front : State → Seen → ℕ → Bool
@@ -109,7 +110,7 @@ abbrev pub LooksAgree : Type 0
 LooksAgree =
     (m : Setting) (b : State)
     → m.mode ≡ wedge_mode m.image → 4096 * m.frames ≤ length b.ram → AreBytes b.ram → b.cpu.regs.eip < 2 ^ 32
-    → clash_in (get b.set) (protects b) (uses_seen m b) ≡ true → instruction_clashes m b ≡ true
+    → clash_in (get b.set) (wp_of b.cpu) (uses_seen m b) ≡ true → instruction_clashes m b ≡ true
 
 -- A byte of such a memory is that of the memory, with the flag where it is marked.
 abbrev pub MarksAreRead : Type 0

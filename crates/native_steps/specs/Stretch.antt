@@ -2,6 +2,7 @@
 -- translations whatever its frames hold, are as many steps of the guest, each with the translations that are there.
 use Rattle.std.specs.Prelude.{◌≡◌, ℕ, zero, suc, ◌+◌, ◌*◌, ◌≤◌, false, true, List, [], length, replicate, drop, Some, None}
 use Rattle.std.specs.List.{All}
+use Rattle.descriptors.specs.Controls.{wp_of}
 use Rattle.guest_ram.specs.Bytes.{frame}
 use Rattle.board.specs.declared.devices.Board.{Board}
 use Rattle.board.specs.Boards.{given, board_steps, comes_within}
@@ -20,7 +21,7 @@ use Rattle.machine_model.specs.Notes.{AreLeft}
 use Rattle.machine_model.specs.Counts.{direct_count, passed_digest}
 use Rattle.native_steps.specs.Lends.{Lends, IsUnlent, AreKept}
 use Rattle.native_steps.specs.Mirrors.{IsWedge, Mirrors}
-use Rattle.native_steps.specs.Forward.{wp_of, IsEntrance}
+use Rattle.native_steps.specs.Forward.{IsEntrance}
 
 -- the same memory behind the guest's frames
 pub record SameBehind (m : Setting) (old new : List ℕ) : Type 0 where
@@ -36,7 +37,7 @@ StaysUnlent m v old at = (memory : List ℕ) → SameBehind m old memory → IsU
 -- its frames hold.
 pub record Beside (m : Setting) (v : View) (b : State) (s : Standing) : Type 0 where
   pub stands : Mirrors m s.ram v b
-  pub lends : (memory : List ℕ) → SameBehind m s.ram memory → Lends m memory v.root v.kernel (wp_of b) b.set
+  pub lends : (memory : List ℕ) → SameBehind m s.ram memory → Lends m memory v.root v.kernel (wp_of b.cpu) b.set
   pub regs : b.cpu.regs ≡ s.regs
   pub awake : b.cpu.halted ≡ false
   pub unheld : b.cpu.held ≡ false
@@ -89,7 +90,7 @@ pub record Advanced (m : Setting) (v : View) (b : State) (k : ℕ) (s : Standing
   pub after : State
   pub reports : List Report
   pub steps : Steps m b (replicate n b.set) reports after
-  pub left : AreLeft m b (replicate n b.set)
+  pub sets : AreLeft m b (replicate n b.set)
   pub quiet : All IsQuiet (steps_by m b (replicate n b.set))
   pub beside : Beside m v after last
   pub cpu : after.cpu ≡ record b.cpu { regs = last.regs }

@@ -29,7 +29,7 @@ use Rattle.ia32_exec.specs.Effect as plain
 use Rattle.ia32_exec.specs.Effect.{effect, ranges_of, ranges_row, on_stack}
 use Rattle.ia32_exec.specs.UserEffect.{user_row, user_effect}
 use Rattle.descriptors.specs.Access as accesses
-use Rattle.descriptors.specs.Access.{met}
+use Rattle.descriptors.specs.Access.{met, by_level}
 use Rattle.descriptors.specs.declared.cpu.Cpu.{Cpu}
 use Rattle.paging.specs.declared.entry.Access.{Access}
 use Rattle.paging.specs.declared.entry.Touch.{Touch}
@@ -46,7 +46,7 @@ use Rattle.sys_exec.specs.Flags.{push_flags, pop_flags, with_flags}
 use Rattle.sys_exec.specs.Move.{read_seg, selector_kept, push_seg}
 use Rattle.sys_exec.specs.Branch.{return_to, jump_to, call_to}
 use Rattle.sys_exec.specs.Branch as branch
-use Rattle.sys_exec.specs.Operand.{selector_in, operand_reached, long_of, pulled, pushed, with_regs, past, past_pop, next, by_level}
+use Rattle.sys_exec.specs.Operand.{selector_in, operand_reached, long_of, pulled, pushed, with_regs, past, past_pop, next}
 use Rattle.sys_exec.specs.Sys as sys
 use Rattle.sys_exec.specs.Sys.{sys_work}
 use Rattle.sys_exec.proofs.Rows.{user_flags_agree}

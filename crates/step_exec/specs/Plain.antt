@@ -12,6 +12,7 @@ use Rattle.ia32_exec.specs.Effect.{effect, ranges_of}
 use Rattle.ia32_exec.specs.Commit.{list_of}
 use Rattle.descriptors.specs.Segments.{segment_in}
 use Rattle.descriptors.specs.declared.cpu.Cpu.{Cpu}
+use Rattle.descriptors.specs.Access.{by_level}
 use Rattle.paging.specs.Space.{Space, byte_at, with_ram, saved}
 use Rattle.paging.specs.Work.{Outcome, Work, ◌>>=◌, gives, unless}
 use Rattle.sys_exec.specs.declared.effect.Refusal.{Refusal}
@@ -29,7 +30,7 @@ is_denied cpu (Some r) = is_null cpu r.seg
 -- a range, if there is one, is translated
 abbrev pub reached : Cpu → Bool → Option Range → Work Refusal (Unit {0})
 reached cpu write None = gives tt
-reached cpu write (Some r) = reaching r.at r.len (record { write = write; user = cpu.cpl == 3 })
+reached cpu write (Some r) = reaching r.at r.len (by_level cpu write)
 
 abbrev pub is_in : Option Range → ℕ → Bool
 is_in None at = false

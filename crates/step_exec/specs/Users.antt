@@ -22,11 +22,10 @@ use Rattle.sys_exec.specs.declared.effect.Refusal.{Refusal}
 use Rattle.sys_exec.specs.declared.effect.Refusal.TheVariants as refusal
 use Rattle.sys_exec.specs.declared.effect.SysEffect.TheVariants as effects
 use Rattle.sys_exec.specs.declared.effect.SysOutcome.{SysOutcome}
-use Rattle.sys_exec.specs.Access.{reaching}
 use Rattle.sys_exec.specs.Iret.{is_within}
 use Rattle.sys_exec.specs.Operand.{selector_in}
 use Rattle.sys_exec.specs.Sys.{sys_work}
-use Rattle.step_exec.specs.Plain.{is_null, byte_by, stored_all}
+use Rattle.step_exec.specs.Plain.{is_null, reached, byte_by, stored_all}
 
 abbrev pub selectors_of : Cpu → Selectors
 selectors_of cpu = record { es = selector_in cpu Es; cs = selector_in cpu Cs; ss = selector_in cpu Ss; ds = selector_in cpu Ds }
@@ -35,10 +34,6 @@ selectors_of cpu = record { es = selector_in cpu Es; cs = selector_in cpu Cs; ss
 abbrev pub unnull : Cpu → Option Range → Work Refusal (Unit {0})
 unnull cpu None = gives tt
 unnull cpu (Some r) = unless (refusal.Raise 13 0) (not (is_null cpu r.seg))
-
-abbrev pub translated : Cpu → Bool → Option Range → Work Refusal (Unit {0})
-translated cpu write None = gives tt
-translated cpu write (Some r) = reaching r.at r.len (record { write = write; user = cpu.cpl == 3 })
 
 -- memory as it is then
 abbrev pub seen : Work Refusal Space
@@ -54,9 +49,9 @@ abbrev pub user_form : Cpu → Ranges → ((ℕ → ℕ) → exec.Outcome) → W
 user_form cpu x f = do
   _ ← unnull cpu x.read
   _ ← unnull cpu x.write
-  _ ← translated cpu false x.read
+  _ ← reached cpu false x.read
   before ← seen
-  _ ← translated cpu true x.write
+  _ ← reached cpu true x.write
   after ← seen
   user_finished cpu (f (byte_by x.read before after))
 

@@ -8,10 +8,11 @@ use Rattle.ia32_exec.specs.Registers.{address_of, with_whole}
 use Rattle.ia32_exec.specs.Stack.{esp_below, esp_above}
 use Rattle.paging.specs.Work.{Work, ◌>>=◌, refuses, gives, reads_earlier, writes}
 use Rattle.descriptors.specs.declared.cpu.Cpu.{Cpu}
+use Rattle.descriptors.specs.Access.{by_level}
 use Rattle.sys_exec.specs.declared.effect.Refusal.{Refusal}
 use Rattle.sys_exec.specs.declared.effect.SysOutcome.{SysOutcome}
 use Rattle.sys_exec.specs.Access.{reaching}
-use Rattle.sys_exec.specs.Operand.{unsupported, by_level, reg_at, operand_reached, long_of, pulled, pushed, with_regs, past, past_push, gone_to, next}
+use Rattle.sys_exec.specs.Operand.{unsupported, reg_at, operand_reached, long_of, pulled, pushed, with_regs, past, past_push, gone_to, next}
 
 -- RET; the number of bytes that it drops besides
 unfoldable pub return_to : ℕ → Cpu → Work Refusal SysOutcome

@@ -11,13 +11,13 @@ use Rattle.paging.specs.Work.{Work, ◌>>=◌, gives, unless, reads}
 use Rattle.descriptors.specs.Segments.{seg_of}
 use Rattle.descriptors.specs.declared.cpu.Cpu.{Cpu}
 use Rattle.descriptors.specs.declared.cpu.Hidden.{Hidden}
+use Rattle.descriptors.specs.Access.{by_level}
 use Rattle.sys_exec.specs.declared.effect.Refusal.{Refusal}
 use Rattle.sys_exec.specs.declared.effect.Refusal.TheVariants.{Stop}
 use Rattle.sys_exec.specs.declared.effect.Loading.{Loading}
 use Rattle.sys_exec.specs.declared.iret.Popped.{Popped}
 use Rattle.sys_exec.specs.declared.iret.Outer.{Outer}
 use Rattle.sys_exec.specs.Access.{reaching}
-use Rattle.sys_exec.specs.Operand.{by_level}
 use Rattle.sys_exec.specs.Segment.{find_return, find_stack, marked}
 
 abbrev pub top_of : Cpu → ℕ

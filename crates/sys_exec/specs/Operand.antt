@@ -10,10 +10,10 @@ use Rattle.ia32_types.specs.declared.stop.Stop.TheVariants as stops
 use Rattle.ia32_exec.specs.Registers.{address_of, with_whole, eip_past}
 use Rattle.ia32_exec.specs.Ranges.{segment_of}
 use Rattle.ia32_exec.specs.Stack.{stack_of, esp_below, esp_above}
-use Rattle.paging.specs.declared.entry.Access.{Access}
 use Rattle.paging.specs.Work.{Work, ◌>>=◌, refuses, gives, unless, reads, writes}
 use Rattle.descriptors.specs.Segments.{segment_in}
 use Rattle.descriptors.specs.declared.cpu.Cpu.{Cpu}
+use Rattle.descriptors.specs.Access.{by_level}
 use Rattle.sys_exec.specs.declared.effect.Refusal.{Refusal}
 use Rattle.sys_exec.specs.declared.effect.Refusal.TheVariants.{Raise, Stop}
 use Rattle.sys_exec.specs.declared.effect.SysEffect.TheVariants as effects
@@ -31,9 +31,6 @@ protection_0 = Raise 13 0
 -- only level 0 may do it
 abbrev pub kernel_alone : Cpu → Work Refusal (Unit {0})
 kernel_alone cpu = unless protection_0 (cpu.cpl == 0)
-
-abbrev pub by_level : Cpu → Bool → Access
-by_level cpu write = record { write = write; user = cpu.cpl == 3 }
 
 abbrev pub selector_in : Cpu → Seg → ℕ
 selector_in cpu seg = (segment_in cpu seg).sel

@@ -8,10 +8,10 @@ ghost use Rattle.sys_exec.specs.Asked.{GivesAsked};
 
 use crate::effect::{Refusal, SysOutcome};
 use crate::operand::{
-    UNSUPPORTED, by_level, esp_below, gone_to, long_of, next, past, past_push, pull, push,
-    reach_operand, reg_at,
+    UNSUPPORTED, esp_below, gone_to, long_of, next, past, past_push, pull, push, reach_operand,
+    reg_at,
 };
-use descriptors::{Cpu, reach};
+use descriptors::{Cpu, by_level, reach};
 use ia32_exec::address_of;
 use ia32_types::{Address, Operand, Size};
 use paging::GuestMem;

@@ -19,7 +19,12 @@ use ia32_types::{Insn, Op};
 use paging::GuestMem;
 
 #[tactic(auto, unfolding(crate::specs::Sys::sys_work))]
-fn dispatch<M: GuestMem>(insn: &Insn, len: u8, cpu: &Cpu, mem: &mut M) -> Result<SysOutcome, Refusal>
+fn dispatch<M: GuestMem>(
+    insn: &Insn,
+    len: u8,
+    cpu: &Cpu,
+    mem: &mut M,
+) -> Result<SysOutcome, Refusal>
     requires { (M.space mem.old).pages ≤ 48 }
     ensures gives { Gives result (M.space mem.new) (sys_work insn.now len cpu.now (M.space mem.old)) }
     ensures pages { (M.space mem.new).pages ≤ (M.space mem.old).pages + 16 }

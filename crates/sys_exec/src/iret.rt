@@ -5,9 +5,8 @@ ghost use Rattle.paging.specs.Work.{Gives};
 ghost use Rattle.sys_exec.specs.Iret.{popped, popped_outer, keeps_flags, is_within, with_interrupt, with_level, new_flags, returned, kept_segment, outer_segments, return_same, return_outer, interrupt_return};
 
 use crate::effect::{Loading, Refusal};
-use crate::operand::by_level;
 use crate::segment::{find_return, find_stack, mark_loaded};
-use descriptors::{Cpu, Hidden, reach};
+use descriptors::{Cpu, Hidden, by_level, reach};
 use ia32_exec::{is_foreign, taken};
 use ia32_types::{Flags, Regs, Size, Stop};
 use paging::GuestMem;

@@ -15,6 +15,6 @@ mod segment;
 mod table;
 
 pub use agreement::{rows_agree, user_flags_agree};
-pub use effect::{Refusal, SysEffect};
+pub use effect::{Refusal, SysEffect, SysOutcome};
 pub use execute::sys;
 pub use operand::past;

@@ -6,13 +6,13 @@ ghost use Rattle.paging.specs.Space.{IsReach};
 ghost use Rattle.ia32_exec.specs.Registers.{address_of, with_whole, eip_past};
 ghost use Rattle.ia32_exec.specs.Ranges.{segment_of};
 ghost use Rattle.ia32_exec.specs.Stack.{esp_below, esp_above};
-ghost use Rattle.sys_exec.specs.Operand.{selector_in, reg_at, operand_reached, selector, long_of, pulled, pushed, by_level, past, past_with, past_push, past_pop, gone_to};
+ghost use Rattle.sys_exec.specs.Operand.{selector_in, reg_at, operand_reached, selector, long_of, pulled, pushed, past, past_with, past_push, past_pop, gone_to};
 
 use crate::effect::{Refusal, SysEffect, SysOutcome};
-use descriptors::{Cpu, reach};
+use descriptors::{Cpu, by_level, reach};
 use ia32_exec::{address_of, segment_of};
 use ia32_types::{Address, Operand, Seg, Size, Stop};
-use paging::{Access, GuestMem};
+use paging::GuestMem;
 
 pub const UNSUPPORTED: Refusal = Refusal::Stop(Stop::Unsupported);
 
@@ -20,15 +20,6 @@ pub const PROTECTION_0: Refusal = Refusal::Raise {
     vector: 13,
     code: 0,
 };
-
-pub fn by_level(cpu: &Cpu, write: bool) -> Access
-    ensures { result ≡ by_level cpu.now write }
-{
-    Access {
-        write,
-        user: cpu.cpl == 3,
-    }
-}
 
 pub fn selector_in(cpu: &Cpu, seg: Seg) -> u16
     ensures { result ≡ selector_in cpu.now seg }

@@ -1,5 +1,6 @@
 -- What a try at an instruction leaves of what a guest holds, and what is held behind it.
 use Rattle.std.proofs.Common.{◌≡◌, ℕ, ◌+◌, ◌*◌, ◌%◌, ◌≤◌, ◌<◌, ◌^◌, List, length, drop, Option, refl, ap, ◌∙◌, arith}
+use Rattle.descriptors.specs.Controls.{wp_of}
 use Rattle.board.specs.Scripts.{Events}
 use Rattle.frame_pool.specs.Held.{Owns, Moves, SameIn}
 use Rattle.frame_pool.specs.Pool.{base_of, free_list}
@@ -14,7 +15,7 @@ use Rattle.step_mem.specs.Shown.{beyond}
 use Rattle.machine_model.specs.State.{wedge}
 use Rattle.native_steps.specs.Mirrors.{shown}
 use Rattle.wedge_core.specs.Pools.{Keeps}
-use Rattle.wedge_core.specs.Standing.{IsHeld, AreOpen, ground, wp_of}
+use Rattle.wedge_core.specs.Standing.{IsHeld, AreOpen, ground}
 use Rattle.wedge_core.specs.declared.running.Running.{Running}
 use Rattle.wedge_core.proofs.Keeping.{keeps_join, keeps_above, keeps_moves}
 use Rattle.wedge_core.proofs.Memories.{Leaves, step_leaves, text_within, front_same, host_same, host_left}

@@ -22,7 +22,7 @@ alone_from m b lost w board s new e cpu ram boards step left =
       report = report;
       whole = whole;
       went = e ∙ (λ i. Went report (record { cpu = sym cpu i; ram = sym ram i; set = whole; board = sym boards i; step = sym step i }));
-      left = left;
+      kept = left;
       items = refl;
     }
 

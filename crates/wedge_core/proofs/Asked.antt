@@ -20,7 +20,7 @@ once_goes m b filled new before after lost kept once same =
       report = record once.report { tables = s.0; wrote = s.1 };
       whole = new.set;
       went = s.2;
-      left = record {
+      kept = record {
         allowed = part_allowed m (with_set new new.set) new.set (part_same new.set new.set refl);
         exact = λ back. ap (λ (x : Bool). left_of x new.set) (sym kept.0);
       };

@@ -5,6 +5,7 @@ use Rattle.std.specs.List.{Contains}
 use Rattle.std.specs.FinMap.{get}
 use Rattle.std.proofs.lemmas.List.{append_cancel_right}
 use Rattle.std.proofs.lemmas.List.Elements.{Contains-append_cases}
+use Rattle.descriptors.specs.Controls.{wp_of}
 use Rattle.guest_ram.specs.Bytes.{AreBytes}
 use Rattle.ia32_types.specs.declared.insn.Insn.{Insn}
 use Rattle.ia32_decode.specs.declared.answer.Decoded.TheVariants as begins
@@ -18,24 +19,26 @@ use Rattle.ia32_exec.specs.Short.{IsShort}
 use Rattle.paging.specs.declared.entry.Entry.{Entry}
 use Rattle.paging.specs.Reached.{reached}
 use Rattle.paging.specs.Space.{Space}
+use Rattle.paging.specs.Uses.{is_text, is_given}
 use Rattle.image_check.specs.Image.{Image}
 use Rattle.image_load.specs.Boot.{text_pages}
 use Rattle.host_cpl3.specs.declared.view.View.{View}
 use Rattle.host_cpl3.specs.Access.{last_page}
 use Rattle.shadow_tables.specs.Host.{lent}
-use Rattle.shadow_tables.specs.Slots.{Slot}
+use Rattle.shadow_tables.specs.Slots.{Slot, is_user}
 use Rattle.shadow_tables.specs.declared.words.Side.{Side}
 use Rattle.shadow_tables.specs.declared.words.Side.TheVariants.{Kernel, User}
 use Rattle.step_mem.specs.Changes as changes
 use Rattle.step_mem.specs.declared.changes.Change.{Change}
-use Rattle.machine_model.specs.State.{Setting, State, space_at_start}
+use Rattle.machine_model.specs.State.{Setting, State, space_at_start, wedge_mode}
 use Rattle.machine_model.specs.Clash.{instruction_clashes}
 use Rattle.machine_model.specs.Instruction.{next_page, fetched}
 use Rattle.machine_model.specs.Step.{Report, Went, stepped, unheld}
+use Rattle.machine_model.specs.UsedPages.{may_use}
 use Rattle.native_steps.specs.Again as again
 use Rattle.native_steps.specs.Again.{Again, StepsAgain, settled}
 use Rattle.native_steps.specs.Backward.{NativeCompletes, Completes, IsTranslated, AreReached}
-use Rattle.native_steps.specs.Forward.{wp_of, IsNext}
+use Rattle.native_steps.specs.Forward.{IsNext}
 use Rattle.native_steps.specs.Granted.{IsGranted, IsRangeGranted, AreGranted, Leaves, Grants}
 use Rattle.native_steps.specs.Lends.{Lends, IsOpen}
 use Rattle.native_steps.specs.Native.{effect_of}
@@ -48,7 +51,7 @@ use Rattle.wedge_mem.specs.Settled.{pages_of}
 use Rattle.wedge_core.specs.Attempts.{Asks}
 use Rattle.wedge_core.specs.declared.running.Lost.{Lost}
 use Rattle.wedge_core.specs.Closed.{MayClose, Closes}
-use Rattle.wedge_core.specs.Opened.{is_text_frame, is_given_frame, is_open_to, is_entry_open}
+use Rattle.wedge_core.specs.Opened.{is_entry_open}
 use Rattle.wedge_core.specs.Standing.{is_kernel, side_of}
 use Rattle.wedge_core.specs.Tries.{IsPrepared}
 use Rattle.wedge_core.specs.Views.{view_by}
@@ -131,13 +134,13 @@ fetch_few user eip insn len s t none e =
 
 -- ---- the view may show what was granted
 
-opened : (image : Image) (side : Side) (page frame : ℕ) → IsOpen (is_kernel side) image page frame → is_open_to (text_pages image) side page frame ≡ true
+opened : (image : Image) (side : Side) (page frame : ℕ) → IsOpen (is_kernel side) image page frame → may_use (wedge_mode image) (is_user side) page frame ≡ true
 opened image User page frame h = ap not h
-opened image Kernel page frame (inl g) = ap (λ (b : Bool). b || (nat_le 0x11000 page && not (is_text_frame (text_pages image) frame))) g
+opened image Kernel page frame (inl g) = ap (λ (b : Bool). b || (nat_le 0x11000 page && not (is_text (wedge_mode image) frame))) g
 opened image Kernel page frame (inr p) =
-    ap (λ (b : Bool). is_given_frame (text_pages image) page frame || (b && not (is_text_frame (text_pages image) frame))) (Rattle.native_steps.proofs.Choices.le_true 0x11000 page p.0)
-    ∙ ap (λ (b : Bool). is_given_frame (text_pages image) page frame || not b) p.1
-    ∙ or_true (is_given_frame (text_pages image) page frame)
+    ap (λ (b : Bool). is_given (wedge_mode image) page frame || (b && not (is_text (wedge_mode image) frame))) (Rattle.native_steps.proofs.Choices.le_true 0x11000 page p.0)
+    ∙ ap (λ (b : Bool). is_given (wedge_mode image) page frame || not b) p.1
+    ∙ or_true (is_given (wedge_mode image) page frame)
   where
     or_true : (b : Bool) → (b || true) ≡ true
     or_true true = refl
@@ -172,8 +175,8 @@ module _ (grants : Grants) (repeats : Again) (completes : NativeCompletes) (m : 
     same_again : StepsAgain m (view_by directory b.cpu) b p.insn p.len t
     same_again = repeats m v b w.mode room fit sound sees next small p.insn p.len p.after_fetch p.after_read t translated clear
 
-    granted : AreGranted m.image (is_kernel (side_of (b.cpu.cpl == 3))) (wp_of b) t p.after_fetch.visited (ranges_of p.insn b.cpu.regs)
-    granted = subst (λ (k : Bool). AreGranted m.image k (wp_of b) t p.after_fetch.visited (ranges_of p.insn b.cpu.regs)) (sym (side_is b.cpu)) left.granted
+    granted : AreGranted m.image (is_kernel (side_of (b.cpu.cpl == 3))) (wp_of b.cpu) t p.after_fetch.visited (ranges_of p.insn b.cpu.regs)
+    granted = subst (λ (k : Bool). AreGranted m.image k (wp_of b.cpu) t p.after_fetch.visited (ranges_of p.insn b.cpu.regs)) (sym (side_is b.cpu)) left.granted
 
     goes : t.visited ≡ went_after (went_after p.after_fetch.visited ranges.read) ranges.write
     goes = range_goes b.cpu p.after_read t true ranges.write p.writes ∙ ap (λ (l : List ℕ). went_after l ranges.write) (range_goes b.cpu p.after_fetch p.after_read false ranges.read p.reads)
@@ -192,16 +195,16 @@ module _ (grants : Grants) (repeats : Again) (completes : NativeCompletes) (m : 
         let short = ranges_short p.insn b.cpu.regs in
         elim (in_after (went_after p.after_fetch.visited ranges.read) ranges.write q short.1 (subst (λ (l : List ℕ). Contains l q) goes c)) [
           | inl d ↦ elim (in_after p.after_fetch.visited ranges.read q short.0 d) [
-            | inl f ↦ entry_open m.image side frames t (wp_of b) false q within (granted.fetch q f)
+            | inl f ↦ entry_open m.image side frames t (wp_of b.cpu) false q within (granted.fetch q f)
             | inr r ↦ by_range false ranges.read granted.read r
           ]
           | inr x ↦ by_range true ranges.write granted.write x
         ]
       where
-        by_range : (write : Bool) (o : Option Range) → IsRangeGranted m.image (is_kernel side) (wp_of b) t write o → InRange o q → is_entry_open (text_pages m.image) side (get t.set q) ≡ true
+        by_range : (write : Bool) (o : Option Range) → IsRangeGranted m.image (is_kernel side) (wp_of b.cpu) t write o → InRange o q → is_entry_open (text_pages m.image) side (get t.set q) ≡ true
         by_range write None g i = absurd i
-        by_range write (Some r) g (inl e) = entry_open m.image side frames t (wp_of b) write q within (subst (IsGranted m.image (is_kernel side) (wp_of b) t write) (sym e) g.0)
-        by_range write (Some r) g (inr e) = entry_open m.image side frames t (wp_of b) write q within (subst (IsGranted m.image (is_kernel side) (wp_of b) t write) (sym e) g.1)
+        by_range write (Some r) g (inl e) = entry_open m.image side frames t (wp_of b.cpu) write q within (subst (IsGranted m.image (is_kernel side) (wp_of b.cpu) t write) (sym e) g.0)
+        by_range write (Some r) g (inr e) = entry_open m.image side frames t (wp_of b.cpu) write q within (subst (IsGranted m.image (is_kernel side) (wp_of b.cpu) t write) (sym e) g.1)
 
     pub may_close : (frames count free : ℕ) (cs : List Change) → changes.AreToldIn t.visited cs → count ≡ text_pages m.image → changes.AreWithin frames t.set → 8 ≤ free → MayClose count (side_of (b.cpu.cpl == 3)) t.set (pages_of t.visited cs) free
     may_close frames count free cs told count_is within enough = record {
@@ -218,15 +221,15 @@ module _ (grants : Grants) (repeats : Again) (completes : NativeCompletes) (m : 
 
     -- ---- the pages are filled
 
-    module _ (old new : ℕ → Option Slot) (cs : List Change) (tracked : List ℕ) (memory : List ℕ) (closes : Closes old new t.set (pages_of t.visited cs) (side_of (b.cpu.cpl == 3)) (wp_of b) tracked t.wrote)
+    module _ (old new : ℕ → Option Slot) (cs : List Change) (tracked : List ℕ) (memory : List ℕ) (closes : Closes old new t.set (pages_of t.visited cs) (side_of (b.cpu.cpl == 3)) (wp_of b.cpu) tracked t.wrote)
         (beyond : (page : ℕ) → 2 ^ 20 ≤ page → get t.set page ≡ None)
         (host : (page : ℕ) (write : Bool) → page < 2 ^ 20 → reached memory (length memory / 4096) (directory (side_of (b.cpu.cpl == 3))) page write ≡ lent (length memory / 4096) (new page) (side_of (b.cpu.cpl == 3)) write)
         (within : (page : ℕ) (entry : Entry) → get t.set page ≡ Some entry → entry.frame < length memory / 4096)
-        (stands : Mirrors m memory (view_by directory b.cpu) (settled b t)) (lends : Lends m memory (directory (side_of (b.cpu.cpl == 3))) (not (b.cpu.cpl == 3)) (wp_of b) t.set)
+        (stands : Mirrors m memory (view_by directory b.cpu) (settled b t)) (lends : Lends m memory (directory (side_of (b.cpu.cpl == 3))) (not (b.cpu.cpl == 3)) (wp_of b.cpu) t.set)
       where
         reached_all : AreReached memory (directory (side_of (b.cpu.cpl == 3))) p.after_fetch.visited (ranges_of p.insn b.cpu.regs)
         reached_all =
-            all_reached m.image side (wp_of b) t old new (pages_of t.visited cs) tracked memory (directory side) closes
+            all_reached m.image side (wp_of b.cpu) t old new (pages_of t.visited cs) tracked memory (directory side) closes
             (λ q c. among_first q t.visited _ (among t.visited q c)) beyond host within p.after_fetch.visited ranges granted
 
         fetched_same : p.after_fetch.visited ≡ same_again.fetched.visited

@@ -11,7 +11,7 @@ use Rattle.wedge_core.specs.declared.native.Attempt.{Attempt}
 use Rattle.wedge_core.specs.declared.native.Attempt.TheVariants as attempt
 
 from_left : (m : Setting) (view : View) (b : State) (before : Bool) (after : Lost) (result : Result Attempt Stop) (new : State) (memory : List ℕ) → AttemptAs m view (with_set b (left_of before b.set)) false after result new memory → AttemptAs m view b before after result new memory
-from_left m view b before after (Ok (attempt.Went seen)) new memory a = record { alone = a.alone; uncounted = a.uncounted }
+from_left m view b before after (Ok (attempt.Stepped seen)) new memory a = record { alone = a.alone; uncounted = a.uncounted }
 from_left m view b before after (Ok attempt.Asked) new memory a = record { kept = a.kept; regs = a.regs; completes = a.completes; same = a.same }
 from_left m view b before after (Err stop) new memory a = a
 

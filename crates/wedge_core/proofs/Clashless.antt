@@ -3,10 +3,11 @@ use Rattle.std.proofs.Common.{◌≡◌, ℕ, List, [], ◌∷◌, Bool, true, f
 use Rattle.std.specs.List.{list_any}
 use Rattle.std.specs.FinMap.{get, empty, get-empty}
 use Rattle.std.specs.Ordering.{nat_cmp}
+use Rattle.descriptors.specs.Controls.{wp_of}
 use Rattle.paging.specs.declared.entry.Entry.{Entry}
 use Rattle.machine_model.specs.State.{Setting, State}
 use Rattle.machine_model.specs.Run.{Set}
-use Rattle.machine_model.specs.Clash.{Use, protects, uses_at, is_refused_by, clash_behind, instruction_clashes}
+use Rattle.machine_model.specs.Clash.{Use, uses_at, is_refused_by, clash_behind, instruction_clashes}
 
 and_false : (b : Bool) → (b && false) ≡ false
 and_false true = refl
@@ -21,4 +22,4 @@ none_clash entries wp none used (u ∷ us) =
 
 pub empty_clear : (m : Setting) (b : State) → b.set ≡ empty → instruction_clashes m b ≡ false
 unfolding instruction_clashes
-empty_clear m b e = none_clash (get b.set) (protects b) (λ page. ap (λ (s : Set). get s page) e ∙ get-empty nat_cmp page) [] (uses_at m b)
+empty_clear m b e = none_clash (get b.set) (wp_of b.cpu) (λ page. ap (λ (s : Set). get s page) e ∙ get-empty nat_cmp page) [] (uses_at m b)

@@ -149,8 +149,8 @@ each_goes done waits sites m b lost (Ok seen) new counts mode level may nothing 
       report = a.report;
       whole = a.whole;
       went = by_all m b lost.before nothing ∙ a.went;
-      left = a.left;
+      kept = a.kept;
       items = a.items;
       counts = none_counts m a.report counts (none_direct done waits sites m b a.report (with_set new a.whole) a.went mode level may);
     }
-each_goes done waits sites m b lost (Err stop) new counts mode level may nothing a = record { stands = by_all m b lost.before nothing ∙ a }
+each_goes done waits sites m b lost (Err stop) new counts mode level may nothing a = record { halts = by_all m b lost.before nothing ∙ a }

@@ -15,13 +15,13 @@ use Rattle.image_load.specs.Boot.{text_pages}
 use Rattle.shadow_tables.specs.Aside.{Aside, AreSame}
 use Rattle.shadow_tables.specs.Entries.{entries_of}
 use Rattle.shadow_tables.specs.Laws.Entries.{none-entries_of}
-use Rattle.shadow_tables.specs.Slots.{Slot, is_among}
+use Rattle.shadow_tables.specs.Slots.{Slot, is_among, is_user}
 use Rattle.shadow_tables.proofs.Asides.{same-refl}
 use Rattle.step_mem.specs.Changes.{AreWithin, AreToldIn, changed}
 use Rattle.step_mem.specs.declared.changes.Change.{Change}
 use Rattle.wedge_mem.specs.Settled.{pages_of}
 use Rattle.machine_model.specs.Run.{Set}
-use Rattle.machine_model.specs.State.{Setting, State, wedge, wedge_mode}
+use Rattle.machine_model.specs.State.{Setting, State, wedge, wedge_mode, rules_over}
 use Rattle.machine_model.specs.Step.{stepped}
 use Rattle.machine_model.specs.Taken.{Taken, is_load}
 use Rattle.machine_model.specs.UsedPages.{Uses, LeadWell, may_use}
@@ -34,7 +34,7 @@ use Rattle.kept_laws.specs.OverSteps.{SettlingTells, DroppedComesFrom}
 use Rattle.wedge_core.specs.Carried.{IsTakenFrom}
 use Rattle.wedge_core.specs.Closed.{MayClose}
 use Rattle.wedge_core.specs.Leaving.{Tells, Ends}
-use Rattle.wedge_core.specs.Opened.{is_open_to, is_entry_open}
+use Rattle.wedge_core.specs.Opened.{is_entry_open}
 use Rattle.wedge_core.specs.Ready.{IsReady}
 use Rattle.machine_step.specs.Roots.{RootsAs}
 use Rattle.wedge_core.specs.Standing.{ground, side_of}
@@ -43,7 +43,7 @@ use Rattle.wedge_core.proofs.AmongPages.{among_contains, told_among, used_within
 
 -- ---- the pages that a step used may be shown
 
-open_used : (count : ℕ) (own : Own) (user : Bool) (page frame : ℕ) → may_use (Wedge 0x100 count own) user page frame ≡ true → is_open_to count (side_of user) page frame ≡ true
+open_used : (count : ℕ) (own : Own) (user : Bool) (page frame : ℕ) → may_use (Wedge 0x100 count own) user page frame ≡ true → may_use (rules_over count) (is_user (side_of user)) page frame ≡ true
 open_used count own true page frame h = h
 open_used count own false page frame h = h
 
@@ -65,7 +65,7 @@ may_close_used image count frames free user first s changes count_is uses none m
         let there = subst (λ (x : Mode). may_use x user q e.frame ≡ true) mode here in
         let page : e.page ≡ q = (within q e at).0 in
         ap (is_entry_open (text_pages image) (side_of user)) at
-        ∙ subst (λ (k : ℕ). is_open_to (text_pages image) (side_of user) k e.frame ≡ true) (sym page) (open_used (text_pages image) (record { front = 0; front_len = 0; back = 0; back_len = 0 }) user q e.frame there)
+        ∙ subst (λ (k : ℕ). may_use (wedge_mode image) (is_user (side_of user)) k e.frame ≡ true) (sym page) (open_used (text_pages image) (record { front = 0; front_len = 0; back = 0; back_len = 0 }) user q e.frame there)
 
 -- ---- and lie under directory indices of the steps
 

@@ -127,7 +127,7 @@ chosen_there m now whole chosen = refl
 pub going_past : (m : Setting) (old now new : State) (a b c : Counts) (told tells : Option (List ℕ)) (pages fills mid filled : ℕ) (wanted : Bool) (notes_on : List Note → Type 0) (begins : Type 0) (carried : Set → List Taken → State → Type 0) → (g : Going m old now a b told tells pages fills mid wanted notes_on begins carried) → mid ≤ filled → FillsOn pages (len new.set) fills filled
     → CarryLaws → CarriesPast m carried → IsOfPages now.set → 4096 * m.frames ≤ length now.ram → Passes m now new b c → Going m old new a c told tells pages fills filled wanted notes_on begins carried
 unfolding Steps
-going_past m old now new a b c told tells pages fills mid filled wanted notes_on begins carried g rises enough laws goes pages_of room p = by p.n p.steps p.left p.quiet
+going_past m old now new a b c told tells pages fills mid filled wanted notes_on begins carried g rises enough laws goes pages_of room p = by p.n p.steps p.sets p.quiet
   where
     silent : trace_of (g.reports ++ p.reports) ≡ trace_of g.reports
     silent = trace_join g.reports p.reports ∙ (ap (λ (l : List Item). trace_of g.reports ++ l) p.silent ∙ append-nil (trace_of g.reports))
@@ -300,7 +300,7 @@ going_on m old now new lost seen a b c told tells pages fills mid filled wanted 
     let goes_here = chosen_first m now g.whole set ∙ r.went in
     let taken_so_far = steps_by m old g.sets in
     let t = step_taken (with_set now g.whole) set r.report (with_set new r.whole) in
-    let joined : steps_by m old (g.sets ++ set ∷ []) ≡ taken_so_far ++ t ∷ [] = laws.taken m old (with_set now g.whole) (with_set new r.whole) g.sets set g.reports r.report g.steps goes_here in
+    let joined : steps_by m old (g.sets ++ set ∷ []) ≡ taken_so_far ++ t ∷ [] = laws.joins m old (with_set now g.whole) (with_set new r.whole) g.sets set g.reports r.report g.steps goes_here in
     let from : IsTakenFrom m (eventful m now) t = record { cpu = refl; ram = refl; went = goes_here; stepped = r.went } in
     let is : set_told notes (now.step + 1) r.whole ≡ left_of lost.after r.whole =
     told_more lost.after (now.step + 1) r.whole before up ∙ ap (left_of lost.after) (told_none now.step (now.step + 1) r.whole before (omega arith) tried_now.until) in
@@ -313,8 +313,8 @@ going_on m old now new lost seen a b c told tells pages fills mid filled wanted 
       whole = r.whole;
       notes = notes;
       steps = steps_join m old (with_set now g.whole) (with_set new r.whole) g.sets (set ∷ []) g.reports (r.report ∷ []) g.steps one;
-      allowed = r.left.allowed;
-      kept = λ w. r.left.exact (exact w) ∙ (sym is ∙ ap (λ (s : ℕ). set_told notes s r.whole) (sym count));
+      allowed = r.kept.allowed;
+      kept = λ w. r.kept.exact (exact w) ∙ (sym is ∙ ap (λ (s : ℕ). set_told notes s r.whole) (sym count));
       by = λ w. told_join m old (with_set now g.whole) g.sets (set ∷ []) g.reports notes g.steps (by_before w) (by_now w);
       so_far = subst (λ (s : ℕ). SoFar old.step s notes) (sym count) (go_next lost.after old.step now.step before low tried_now);
       tells_notes = subst notes_after (sym (append_assoc g.notes (emptied_if lost.before now.step) (emptied_if lost.after (now.step + 1)))) (on g.notes g.tells_notes);
@@ -406,7 +406,7 @@ stopped m bound old now new lost stop a b told tells pages fills mid filled want
     let set = left_of lost.before now.set in
     let notes = g.notes ++ emptied_if lost.before now.step in
     let told_set = chosen_told m old now a b told tells pages fills mid wanted notes_on begins carried g lost.before in
-    let stands = chosen_first m now g.whole set ∙ h.stands in
+    let halts = chosen_first m now g.whole set ∙ h.halts in
     record {
       sets = g.sets;
       reports = g.reports;
@@ -414,13 +414,13 @@ stopped m bound old now new lost stop a b told tells pages fills mid filled want
       notes = notes;
       steps = g.steps;
       end = set;
-      ends = (lt, still, chosen_allowed m old now a b told tells pages fills mid wanted notes_on begins carried g lost.before, stands);
+      ends = (lt, still, chosen_allowed m old now a b told tells pages fills mid wanted notes_on begins carried g lost.before, halts);
       text = g.text;
       counts = g.counts;
       noted = λ w. record {
         told = are_told m old g.sets notes (by_then m old now a b told tells pages fills mid wanted notes_on begins carried g lost.before w);
         are = are_notes m old g.sets now.step notes (tried m old now a b told tells pages fills mid wanted notes_on begins carried g lost.before);
-        ends = subst (λ (x : Set). step_of m (with_set now g.whole) x ≡ Halts stop) (told_set w) stands;
+        ends = subst (λ (x : Set). step_of m (with_set now g.whole) x ≡ Halts stop) (told_set w) halts;
       };
       tells_notes = on g.notes g.tells_notes;
       each_filled = filled_push pages fills filled g.sets set (filled_later pages fills mid filled g.sets rises g.each_filled)

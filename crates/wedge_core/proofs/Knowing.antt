@@ -9,7 +9,7 @@ use Rattle.paging.specs.Fresh.{has}
 use Rattle.paging.specs.Space.{Space}
 use Rattle.paging.specs.Uses.{with_entry}
 use Rattle.board.specs.declared.devices.Board.{Board}
-use Rattle.descriptors.specs.Controls.{pse_of}
+use Rattle.descriptors.specs.Controls.{pse_of, wp_of}
 use Rattle.descriptors.specs.declared.cpu.Cpu.{Cpu}
 use Rattle.shadow_tables.specs.Aside.{Aside, IsSame, AreSame}
 use Rattle.shadow_tables.specs.Entries.{entries_of}
@@ -38,7 +38,6 @@ use Rattle.wedge_core.specs.Carried.{IsTakenFrom}
 use Rattle.wedge_core.specs.Leaving.{Tells, RulesSame, Ends}
 use Rattle.wedge_core.specs.Ready.{is_all}
 use Rattle.machine_step.specs.Roots.{RootsAs}
-use Rattle.wedge_core.specs.Standing.{wp_of}
 use Rattle.wedge_core.proofs.Shedding.{found_tables}
 use Rattle.wedge_core.proofs.AmongPages.{any_among, told_among, among_first}
 

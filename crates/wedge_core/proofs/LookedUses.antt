@@ -5,6 +5,8 @@ use Rattle.std.specs.List.{list_any}
 use Rattle.std.specs.FinMap.{get}
 use Rattle.board.specs.Scripts.{Events}
 use Rattle.descriptors.specs.declared.cpu.Cpu.{Cpu}
+use Rattle.descriptors.specs.Access.{by_level}
+use Rattle.descriptors.specs.Controls.{wp_of}
 use Rattle.guest_ram.specs.Bytes.{part}
 use Rattle.image_check.specs.Image.{Image}
 use Rattle.ia32_types.specs.declared.insn.Insn.{Insn}
@@ -14,11 +16,10 @@ use Rattle.ia32_decode.specs.Decoding.{decoded}
 use Rattle.ia32_decode.specs.Front.{longest}
 use Rattle.paging.specs.declared.entry.Access.{Access}
 use Rattle.paging.specs.declared.entry.Entry.{Entry}
-use Rattle.paging.specs.Fresh.{has}
 use Rattle.machine_model.specs.State.{State, wedge}
 use Rattle.machine_model.specs.Run.{Set}
 use Rattle.machine_model.specs.Instruction.{next_page}
-use Rattle.machine_model.specs.Clash.{Use, access_of, clash_behind, clash_in, fetch_uses, instruction_clashes, is_refused_by, protects, range_uses, uses_at}
+use Rattle.machine_model.specs.Clash.{Use, clash_behind, clash_in, fetch_uses, instruction_clashes, is_refused_by, range_uses, uses_at}
 use Rattle.native_steps.specs.Looking.{Seen, bytes_seen, marked, uses_on, uses_seen}
 use Rattle.wedge_core.specs.declared.clash.PageUse.{PageUse}
 use Rattle.wedge_core.specs.Clashing.{before, looked, model_use, model_uses}
@@ -97,7 +98,7 @@ part_few m a n k xs bytes none e le =
 
 -- the two pages of a fetch
 two_pages : (b : State) (old new : List PageUse) (page : ℕ) → page ≡ b.cpu.regs.eip / 4096 + 1
-    → model_uses (b.cpu.cpl == 3) old ≡ record { page = b.cpu.regs.eip / 4096; access = access_of b false } ∷ [] → new ≡ old ++ record { page = page; write = false } ∷ []
+    → model_uses (b.cpu.cpl == 3) old ≡ record { page = b.cpu.regs.eip / 4096; access = by_level b.cpu false } ∷ [] → new ≡ old ++ record { page = page; write = false } ∷ []
     → model_uses (b.cpu.cpl == 3) new ≡ fetch_uses b (b.cpu.regs.eip / 4096 ∷ next_page b.cpu.regs.eip / 4096 ∷ [])
 two_pages b old new page is one push =
     let user : Bool = b.cpu.cpl == 3 in
@@ -125,7 +126,7 @@ no_ranges_more b d uses h = sym (append-nil uses) ∙ ap (λ l. uses ++ l) (sym 
 
 -- what is collected where the next page was reached
 pub on_next : (o : Option Seen) (b : State) (ram front bytes : List ℕ) (x : Seen) (old new : List PageUse) (page : ℕ) (d : Decoded) (all : List Use) → page ≡ b.cpu.regs.eip / 4096 + 1
-    → model_uses (b.cpu.cpl == 3) old ≡ record { page = b.cpu.regs.eip / 4096; access = access_of b false } ∷ [] → new ≡ old ++ record { page = page; write = false } ∷ []
+    → model_uses (b.cpu.cpl == 3) old ≡ record { page = b.cpu.regs.eip / 4096; access = by_level b.cpu false } ∷ [] → new ≡ old ++ record { page = page; write = false } ∷ []
     → Some x ≡ o → bytes ≡ front ++ part (marked ram x.marks) (4096 * x.frame + page * 4096 % 4096) 11
     → d ≡ decoded bytes → all ≡ model_uses (b.cpu.cpl == 3) new ++ range_uses b d
     → all ≡ uses_on b ram front o
@@ -140,32 +141,32 @@ on_next o b ram front bytes x old new page d all is one push found read decodes 
 
 -- A state is looked at by its processor, memory and set alone.
 looked_alike : (image : Image) (script : Events) (frames : ℕ) (b : State) (cpu : Cpu) (ram : List ℕ) (set : Set) → b.cpu ≡ cpu → b.ram ≡ ram → b.set ≡ set
-    → clash_in (get set) (has cpu.cr0 65536) (uses_seen (ground image frames) (looked cpu ram set)) ≡ clash_in (get b.set) (protects b) (uses_seen (wedge image script frames) b)
+    → clash_in (get set) (wp_of cpu) (uses_seen (ground image frames) (looked cpu ram set)) ≡ clash_in (get b.set) (wp_of b.cpu) (uses_seen (wedge image script frames) b)
 looked_alike image script frames b cpu ram set c r s =
-    ap (λ (x : Cpu). clash_in (get set) (has x.cr0 65536) (uses_seen (ground image frames) (looked x ram set))) (sym c)
-    ∙ (ap (λ (x : List ℕ). clash_in (get set) (has b.cpu.cr0 65536) (uses_seen (ground image frames) (looked b.cpu x set))) (sym r)
-    ∙ ap (λ (x : Set). clash_in (get x) (has b.cpu.cr0 65536) (uses_seen (ground image frames) (looked b.cpu b.ram x))) (sym s))
+    ap (λ (x : Cpu). clash_in (get set) (wp_of x) (uses_seen (ground image frames) (looked x ram set))) (sym c)
+    ∙ (ap (λ (x : List ℕ). clash_in (get set) (wp_of b.cpu) (uses_seen (ground image frames) (looked b.cpu x set))) (sym r)
+    ∙ ap (λ (x : Set). clash_in (get x) (wp_of b.cpu) (uses_seen (ground image frames) (looked b.cpu b.ram x))) (sym s))
 
 -- Where the pages that are looked at are those of the step, the answer is that of the step.
 pub as_the_step : (image : Image) (script : Events) (frames : ℕ) (b : State) (cpu : Cpu) (ram : List ℕ) (set : Set) (result : Bool) (uses list : List PageUse)
-    → result ≡ clash_in (get set) (has cpu.cr0 65536) (model_uses (cpu.cpl == 3) uses) → uses ≡ list
+    → result ≡ clash_in (get set) (wp_of cpu) (model_uses (cpu.cpl == 3) uses) → uses ≡ list
     → model_uses (cpu.cpl == 3) list ≡ uses_seen (ground image frames) (looked cpu ram set)
     → b.cpu ≡ cpu → b.ram ≡ ram → b.set ≡ set → uses_at (wedge image script frames) b ≡ uses_seen (wedge image script frames) b
     → result ≡ instruction_clashes (wedge image script frames) b
 unfolding instruction_clashes
 as_the_step image script frames b cpu ram set result uses list is same looks c r s all =
     is
-    ∙ (ap (λ l. clash_in (get set) (has cpu.cr0 65536) (model_uses (cpu.cpl == 3) l)) same
-    ∙ (ap (clash_in (get set) (has cpu.cr0 65536)) looks
-    ∙ (looked_alike image script frames b cpu ram set c r s ∙ ap (clash_in (get b.set) (protects b)) (sym all))))
+    ∙ (ap (λ l. clash_in (get set) (wp_of cpu) (model_uses (cpu.cpl == 3) l)) same
+    ∙ (ap (clash_in (get set) (wp_of cpu)) looks
+    ∙ (looked_alike image script frames b cpu ram set c r s ∙ ap (clash_in (get b.set) (wp_of b.cpu)) (sym all))))
 
 -- And where a look finds a clash, so does the law of looks.
 pub as_it_looks : (image : Image) (script : Events) (frames : ℕ) (b : State) (cpu : Cpu) (ram : List ℕ) (set : Set) (result : Bool) (uses list : List PageUse)
-    → result ≡ clash_in (get set) (has cpu.cr0 65536) (model_uses (cpu.cpl == 3) uses) → uses ≡ list
+    → result ≡ clash_in (get set) (wp_of cpu) (model_uses (cpu.cpl == 3) uses) → uses ≡ list
     → model_uses (cpu.cpl == 3) list ≡ uses_seen (ground image frames) (looked cpu ram set)
-    → b.cpu ≡ cpu → b.ram ≡ ram → b.set ≡ set → result ≡ true → clash_in (get b.set) (protects b) (uses_seen (wedge image script frames) b) ≡ true
+    → b.cpu ≡ cpu → b.ram ≡ ram → b.set ≡ set → result ≡ true → clash_in (get b.set) (wp_of b.cpu) (uses_seen (wedge image script frames) b) ≡ true
 as_it_looks image script frames b cpu ram set result uses list is same looks c r s found =
     sym (looked_alike image script frames b cpu ram set c r s)
-    ∙ (ap (clash_in (get set) (has cpu.cr0 65536)) (sym looks)
-    ∙ (ap (λ l. clash_in (get set) (has cpu.cr0 65536) (model_uses (cpu.cpl == 3) l)) (sym same)
+    ∙ (ap (clash_in (get set) (wp_of cpu)) (sym looks)
+    ∙ (ap (λ l. clash_in (get set) (wp_of cpu) (model_uses (cpu.cpl == 3) l)) (sym same)
     ∙ (sym is ∙ found)))

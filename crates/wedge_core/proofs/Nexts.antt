@@ -116,7 +116,7 @@ idle m b lost worked board t new e cpu ram boards step left none =
         report = record { items = items_at b.step (whats worked.seen); completed = completed_by worked.completed; pages = t.visited; tables = t.tables; wrote = t.wrote };
         whole = whole;
         went = e ∙ (λ i. Went (record { items = items_at b.step (whats worked.seen); completed = completed_by worked.completed; pages = t.visited; tables = t.tables; wrote = t.wrote }) (record { cpu = sym cpu i; ram = sym ram i; set = whole; board = sym boards i; step = sym step i }));
-        left = left;
+        kept = left;
         items = refl;
       };
       uncounted = none;

@@ -1,7 +1,7 @@
 -- One instruction that the host was asked to do, as the guest's step.
 use Rattle.std.proofs.Common.{◌≡◌, ℕ, ◌+◌, ◌*◌, ◌%◌, ◌==◌, ◌≤◌, List, [], ◌∷◌, length, drop, Bool, false, cond, Option, Result, Ok, Err, OnOk, refl, sym, ap, subst, ◌∙◌, arith}
 use Rattle.guest_ram.specs.Bytes.{frame}
-use Rattle.descriptors.specs.Controls.{pse_of}
+use Rattle.descriptors.specs.Controls.{pse_of, wp_of}
 use Rattle.frame_pool.specs.Held.{Owns}
 use Rattle.frame_pool.specs.declared.Pool.{Pool}
 use Rattle.frame_pool.proofs.Above.{free_list-above}
@@ -42,7 +42,7 @@ use Rattle.wedge_core.specs.Pools.{Keeps}
 use Rattle.wedge_core.specs.Views.{view_by}
 use Rattle.wedge_core.specs.Ran.{Ran, landed}
 use Rattle.wedge_core.specs.Slices.{Counts, CountsOn}
-use Rattle.wedge_core.specs.Standing.{IsHeld, IsAble, AreOpen, ground, side_of, state_of, wp_of}
+use Rattle.wedge_core.specs.Standing.{IsHeld, IsAble, AreOpen, ground, side_of, state_of}
 use Rattle.wedge_core.specs.Stepping.{AloneAs, Goes}
 use Rattle.wedge_core.specs.declared.running.Lost.{Lost}
 use Rattle.wedge_core.specs.declared.running.Running.{Running}
@@ -307,7 +307,7 @@ idle_goes m b lost seen new before after same i = record {
   report = i.alone.report;
   whole = i.alone.whole;
   went = i.alone.went;
-  left = i.alone.left;
+  kept = i.alone.kept;
   items = i.alone.items;
   counts = subst (λ (x : Counts). CountsOn m (i.alone.report ∷ []) before x) same (none_counts m i.alone.report before i.uncounted);
 }

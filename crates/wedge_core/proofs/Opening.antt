@@ -5,8 +5,11 @@ use Rattle.std.proofs.lemmas.Bool.Decides.{nat_tests, eqb_tells}
 use Rattle.std.specs.Option.{ForSome}
 use Rattle.std.specs.FinMap.{FinMap, get, empty, get-empty}
 use Rattle.std.specs.Ordering.{nat_cmp}
+use Rattle.machine_model.specs.UsedPages.{may_use}
+use Rattle.machine_model.specs.State.{wedge_mode}
 use Rattle.paging.specs.declared.entry.Entry.{Entry}
 use Rattle.paging.specs.Fresh.{allows}
+use Rattle.paging.specs.Uses.{is_text, is_given}
 use Rattle.image_check.specs.Image.{Image}
 use Rattle.image_load.specs.Boot.{text_pages}
 use Rattle.shadow_tables.specs.Entries.{entries_of}
@@ -16,19 +19,19 @@ use Rattle.shadow_tables.specs.declared.words.Side.{Side}
 use Rattle.shadow_tables.specs.declared.words.Side.TheVariants.{Kernel, User}
 use Rattle.native_steps.specs.Lends.{IsOpen}
 use Rattle.wedge_mem.specs.Settled.{Settles, filled_by}
-use Rattle.wedge_core.specs.Opened.{is_text_frame, is_given_frame, is_open_to, is_entry_open}
+use Rattle.wedge_core.specs.Opened.{is_entry_open}
 use Rattle.wedge_core.specs.Standing.{is_kernel, lets, IsOpenSlot, AreOpen}
 use Rattle.wedge_core.proofs.Bools.{both, either, is_not, none_some}
 
 -- the test says where the view may lead
-open_leads : (image : Image) (side : Side) (page frame : ℕ) → is_open_to (text_pages image) side page frame ≡ true → IsOpen (is_kernel side) image page frame
-open_leads image User page frame h = is_not (is_text_frame (text_pages image) frame) h
+open_leads : (image : Image) (side : Side) (page frame : ℕ) → may_use (wedge_mode image) (is_user side) page frame ≡ true → IsOpen (is_kernel side) image page frame
+open_leads image User page frame h = is_not (is_text (wedge_mode image) frame) h
 open_leads image Kernel page frame h =
-    elim (either (is_given_frame (text_pages image) page frame) (nat_le 0x11000 page && not (is_text_frame (text_pages image) frame)) h) [
+    elim (either (is_given (wedge_mode image) page frame) (nat_le 0x11000 page && not (is_text (wedge_mode image) frame)) h) [
       | inl given ↦ inl given
       | inr data_page ↦
-          let parts = both (nat_le 0x11000 page) (not (is_text_frame (text_pages image) frame)) data_page in
-          inr (grind (arith, nat_tests, parts.0), is_not (is_text_frame (text_pages image) frame) parts.1)
+          let parts = both (nat_le 0x11000 page) (not (is_text (wedge_mode image) frame)) data_page in
+          inr (grind (arith, nat_tests, parts.0), is_not (is_text (wedge_mode image) frame) parts.1)
     ]
 
 rights : (barred : Bool) (side : Side) (entry : Entry) (wp write : Bool) → lets (filled barred side entry wp) write ≡ true → allows entry (record { write = write; user = is_user side }) wp ≡ true
@@ -36,7 +39,7 @@ rights barred side entry wp false h = h
 rights barred side entry wp true h = (both (not barred) (permits side entry true wp) h).1
 
 -- a page that was filled
-filled_open : (image : Image) (barred : Bool) (side : Side) (entry : Entry) (wp : Bool) → is_open_to (text_pages image) side entry.page entry.frame ≡ true → IsOpenSlot image wp (filled barred side entry wp)
+filled_open : (image : Image) (barred : Bool) (side : Side) (entry : Entry) (wp : Bool) → may_use (wedge_mode image) (is_user side) entry.page entry.frame ≡ true → IsOpenSlot image wp (filled barred side entry wp)
 filled_open image barred side entry wp h = record {
   allowed = λ write l. rights barred side entry wp write l;
   leads = λ write l. open_leads image side entry.page entry.frame h;

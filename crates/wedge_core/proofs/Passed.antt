@@ -41,7 +41,7 @@ module _ (laws : CarryLaws) (m : Setting) (carried : Set → List Taken → Stat
       → IsPast m (step_taken b kept report after) → SoFarKept m carried old sets b kept → SoFarKept m carried old (sets ++ kept ∷ []) after after.set
   one_more sets reports b after kept report steps is past k =
       let t = step_taken b kept report after in
-      let joined : steps_by m old (sets ++ kept ∷ []) ≡ steps_by m old sets ++ t ∷ [] = laws.taken m old b after sets kept reports report steps is in
+      let joined : steps_by m old (sets ++ kept ∷ []) ≡ steps_by m old sets ++ t ∷ [] = laws.joins m old b after sets kept reports report steps is in
       record {
         rule = laws.rule m old b after sets kept reports report steps is k.rule (λ roomy. goes.next kept (steps_by m old sets) b (k.carries roomy) t refl (inl refl));
         carries = λ roomy.

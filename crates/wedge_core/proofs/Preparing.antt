@@ -32,7 +32,7 @@ use Rattle.sys_exec.specs.declared.effect.SysOutcome.{SysOutcome}
 use Rattle.sys_exec.specs.Sys.{sys_work}
 use Rattle.step_exec.specs.Plain.{is_denied, is_refused, is_in, reached, byte_by, finished, executed}
 use Rattle.step_exec.specs.Divided.{both_reached, byte_of, completed, divided}
-use Rattle.step_exec.specs.Users.{IsUser, IsUserSite, selectors_of, unnull, translated, user_finished, user_form, user_executed}
+use Rattle.step_exec.specs.Users.{IsUser, IsUserSite, selectors_of, unnull, user_finished, user_form, user_executed}
 use Rattle.step_exec.proofs.Divided.{executed_divides}
 use Rattle.step_exec.proofs.UserForms.{has_user_form}
 use Rattle.host_cpl3.specs.Permit.{permitted_row, permitted}
@@ -165,10 +165,6 @@ module _ (cpu : Cpu) (f : (ℕ → ℕ) → exec.Outcome) where
   both_null (Some r) None k s = nulls (is_denied cpu (Some r)) false k s
   both_null (Some r) (Some w) k s = nulls (is_denied cpu (Some r)) (is_denied cpu (Some w)) k s
 
-  reached_is : (write : Bool) (o : Option Range) (s : Space) → translated cpu write o s ≡ reached cpu write o s
-  reached_is write None s = refl
-  reached_is write (Some r) s = refl
-
   abbrev ended_by : Option Range → Option Range → Space → Outcome Refusal SysOutcome
   ended_by read write t = user_finished cpu (f (byte_of (record { read = read; write = write }) t)) t
 
@@ -178,24 +174,20 @@ module _ (cpu : Cpu) (f : (ℕ → ℕ) → exec.Outcome) where
   by_writes read write s (Err refused) e = refl
 
   by_reads : (read write : Option Range) (o : Outcome Refusal (Unit {0}))
-      → on_value o (λ _ s. on_value (translated cpu true write s) (λ _ t. user_finished cpu (f (byte_by read s t)) t)) ≡ on_value (on_value o (λ _. reached cpu true write)) (λ _. ended_by read write)
-  by_reads read write (Ok x) =
-      ap (λ (o : Outcome Refusal (Unit {0})). on_value o (λ _ t. user_finished cpu (f (byte_by read x.1 t)) t)) (reached_is true write x.1)
-      ∙ by_writes read write x.1 (reached cpu true write x.1) refl
+      → on_value o (λ _ s. on_value (reached cpu true write s) (λ _ t. user_finished cpu (f (byte_by read s t)) t)) ≡ on_value (on_value o (λ _. reached cpu true write)) (λ _. ended_by read write)
+  by_reads read write (Ok x) = by_writes read write x.1 (reached cpu true write x.1) refl
   by_reads read write (Err refused) = refl
 
   by_nulls : (read write : Option Range) (o : Outcome Refusal (Unit {0}))
-      → on_value o (λ _ s. on_value (translated cpu false read s) (λ _ t. on_value (translated cpu true write t) (λ _ u. user_finished cpu (f (byte_by read t u)) u)))
+      → on_value o (λ _ s. on_value (reached cpu false read s) (λ _ t. on_value (reached cpu true write t) (λ _ u. user_finished cpu (f (byte_by read t u)) u)))
       ≡ on_value (on_value o (λ _ s. on_value (reached cpu false read s) (λ _. reached cpu true write))) (λ _. ended_by read write)
-  by_nulls read write (Ok x) =
-      ap (λ (o : Outcome Refusal (Unit {0})). on_value o (λ _ t. on_value (translated cpu true write t) (λ _ u. user_finished cpu (f (byte_by read t u)) u))) (reached_is false read x.1)
-      ∙ by_reads read write (reached cpu false read x.1)
+  by_nulls read write (Ok x) = by_reads read write (reached cpu false read x.1)
   by_nulls read write (Err refused) = refl
 
   form_divides : (x : Ranges) (s : Space) → user_form cpu x f s ≡ on_value (both_reached cpu x s) (λ _. ended_by x.read x.write)
   unfolding both_reached
   form_divides x s =
-      both_null x.read x.write (λ t. on_value (translated cpu false x.read t) (λ _ u. on_value (translated cpu true x.write u) (λ _ v. user_finished cpu (f (byte_by x.read u v)) v))) s
+      both_null x.read x.write (λ t. on_value (reached cpu false x.read t) (λ _ u. on_value (reached cpu true x.write u) (λ _ v. user_finished cpu (f (byte_by x.read u v)) v))) s
       ∙ by_nulls x.read x.write (unless (refusal.Raise 13 0) (not (is_refused cpu x)) s)
 
 user_done : (cpu : Cpu) (o : exec.Outcome) (s : Space) → user_finished cpu o s ≡ done_by cpu s o

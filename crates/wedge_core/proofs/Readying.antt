@@ -2,7 +2,7 @@
 use Rattle.std.proofs.Common.{◌≡◌, ◌⊎◌, ℕ, ◌^◌, ◌<◌, ◌≤◌, List, [], ◌∷◌, Bool, true, false, Option, Some, None, refl, sym, ap, subst, ◌∙◌, inl, inr, arith}
 use Rattle.std.specs.Option.{ForSome}
 use Rattle.std.specs.FinMap.{get, empty, len}
-use Rattle.descriptors.specs.Controls.{pse_of}
+use Rattle.descriptors.specs.Controls.{pse_of, wp_of}
 use Rattle.descriptors.specs.declared.cpu.Cpu.{Cpu}
 use Rattle.image_check.specs.Image.{Image}
 use Rattle.paging.specs.declared.entry.Entry.{Entry}
@@ -19,7 +19,7 @@ use Rattle.native_steps.specs.Mirrors.{shown}
 use Rattle.wedge_mem.specs.Told.{read_by}
 use Rattle.wedge_core.specs.Filled.{pages_aside, pages_kept}
 use Rattle.wedge_core.specs.Ready.{IsFoundIn, AreFound, IsReadyAside, AreReady, AllOpen, IsReadyBut, IsReady, IsReadyBehind}
-use Rattle.wedge_core.specs.Standing.{AreOpen, wp_of}
+use Rattle.wedge_core.specs.Standing.{AreOpen}
 use Rattle.wedge_core.proofs.Bools.{none_some}
 use Rattle.wedge_core.proofs.Shedding.{some_within, found_tables, AllShed, same_shed, shed_pages, all_ready_shed, ready_spared, loaded_pages, put_by_pages, Each, each_coming, each_staying, coming_value, begun_ready, ready_each, each_ready, open_each}
 use Rattle.wedge_core.proofs.Opening.{none_open, same_open}

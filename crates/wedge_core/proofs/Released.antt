@@ -2,6 +2,7 @@
 use Rattle.std.proofs.Common.{◌≡◌, ℕ, ◌%◌, ◌<◌, ◌^◌, List, length, None, sym, ap, ◌∙◌, arith}
 use Rattle.std.specs.FinMap.{get, empty, get-empty}
 use Rattle.std.specs.Ordering.{nat_cmp}
+use Rattle.descriptors.specs.Controls.{wp_of}
 use Rattle.frame_pool.specs.declared.Pool.{Pool}
 use Rattle.frame_pool.specs.Held.{Owns, Moves}
 use Rattle.image_check.specs.Image.{Image}
@@ -9,7 +10,7 @@ use Rattle.shadow_tables.specs.Entries.{entries_of}
 use Rattle.shadow_cache.specs.Views as roots
 use Rattle.shadow_cache.specs.declared.roots.Roots.{Roots}
 use Rattle.machine_model.specs.Run.{Set}
-use Rattle.wedge_core.specs.Standing.{IsHeld, ground, wp_of}
+use Rattle.wedge_core.specs.Standing.{IsHeld, ground}
 use Rattle.wedge_core.specs.declared.running.Running.{Running}
 use Rattle.wedge_core.proofs.Bools.{none_some}
 use Rattle.wedge_core.proofs.Memories.{front_same, host_same, text_within}

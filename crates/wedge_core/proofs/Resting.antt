@@ -18,8 +18,9 @@ use Rattle.machine_model.specs.Notes.{AreLeft}
 use Rattle.machine_model.proofs.Runs.{no_steps}
 use Rattle.paging.specs.Space.{Space}
 use Rattle.sites.specs.declared.site.Site.{Site}
-use Rattle.machine_model.specs.Step.{went, worked, begins_next}
+use Rattle.machine_model.specs.Step.{concluded, worked, begins_next}
 use Rattle.machine_model.specs.Counts.{direct_addresses, passed_on}
+use Rattle.machine_model.specs.Resting.{resting, nothing}
 use Rattle.native_steps.specs.Stretch.{IsQuiet}
 use Rattle.wedge_core.specs.Slices.{Counts, CountsOn}
 use Rattle.wedge_core.specs.Stepping.{Passes}
@@ -70,21 +71,14 @@ vector_same board h = rw h refl
 interrupt_same : (cpu : Cpu) (board : Board) → edge_comes board.pit ≡ false → interrupt_of cpu (board_step board) ≡ interrupt_of cpu board
 interrupt_same cpu board h = ap (λ (v : Option ℕ). if has cpu.regs.flags.bits 512 && not cpu.held then v else None) (vector_same board h)
 
--- a processor whose deliveries are not held off
-abbrev pub resting : Cpu → List ℕ → Set → Board → ℕ → State
-resting cpu ram set board step = record { cpu = record cpu { held = false }; ram = ram; set = set; board = board; step = step }
-
-abbrev pub nothing : Report
-nothing = record { items = []; completed = None; pages = []; tables = []; wrote = [] }
-
 no_step : (board : Board) → board_steps 0 board ≡ board
 unfolding board_steps
 no_step board = refl
 
 -- a halted processor does nothing
-halted_works : (m : Setting) (b : State) (s : Space) → b.cpu.halted ≡ true → worked m b s ≡ went [] None b b.cpu b.board s
+halted_works : (m : Setting) (b : State) (s : Space) → b.cpu.halted ≡ true → worked m b s ≡ concluded [] None b b.cpu b.board s
 unfolding worked
-halted_works m b s e = ap (λ (h : Bool). cond h (went [] None b b.cpu b.board s) (begins_next m b s)) e
+halted_works m b s e = ap (λ (h : Bool). cond h (concluded [] None b b.cpu b.board s) (begins_next m b s)) e
 
 -- one such step
 idle_step : (s : Setting) (cpu : Cpu) (ram : List ℕ) (whole set : Set) (board : Board) (step : ℕ)
@@ -178,7 +172,7 @@ counts_stay m k counts = record {
 
 -- no step passes
 pub rests_none : (m : Setting) (b : State) (counts : Counts) → Passes m b b counts counts
-rests_none m b counts = record { n = 0; reports = []; steps = no_steps m b; left = tt; quiet = All-nil IsQuiet; silent = refl; counts = counts_stay m 0 counts }
+rests_none m b counts = record { n = 0; reports = []; steps = no_steps m b; sets = tt; quiet = All-nil IsQuiet; silent = refl; counts = counts_stay m 0 counts }
 
 rests_at : (j : ℕ) (s : Setting) (cpu : Cpu) (ram : List ℕ) (set : Set) (board : Board) (t : ℕ) (counts : Counts)
     → cpu.halted ≡ true → interrupt_of (record cpu { held = false }) board ≡ None → comes_within board s.script t (suc j) ≡ false
@@ -187,7 +181,7 @@ rests_at j s cpu ram set board t counts halted none quiet = record {
   n = suc j;
   reports = nothing ∷ replicate j nothing;
   steps = idle_steps j s cpu ram set set board t halted none quiet (record { each = λ page e is. inl is });
-  left = idle_left j s cpu ram set board t halted none quiet;
+  sets = idle_left j s cpu ram set board t halted none quiet;
   quiet = idle_quiet j s cpu ram set board t halted none quiet;
   silent = nothing_seen (suc j);
   counts = counts_stay s (suc j) counts;

@@ -3,7 +3,7 @@ use Rattle.std.proofs.Common.{◌≡◌, ◌⊎◌, ℕ, ◌+◌, ◌^◌, ◌<�
 use Rattle.std.proofs.lemmas.Bool.{cases_lt}
 use Rattle.std.specs.Option.{ForSome}
 use Rattle.std.specs.FinMap.{get, empty, len}
-use Rattle.descriptors.specs.Controls.{pse_of}
+use Rattle.descriptors.specs.Controls.{pse_of, wp_of}
 use Rattle.descriptors.specs.declared.cpu.Cpu.{Cpu}
 use Rattle.paging.specs.declared.entry.Entry.{Entry}
 use Rattle.shadow_tables.specs.Aside.{Aside}
@@ -24,7 +24,6 @@ use Rattle.native_steps.proofs.Walks.{IsWalk, ByTable, Large, walk_parts}
 use Rattle.wedge_core.specs.Filled.{pages_aside}
 use Rattle.wedge_core.specs.Parts.{IsPartOf, IsLeft, left_of}
 use Rattle.wedge_core.specs.Ready.{AreFound, IsReady, IsReadyBut, is_all, leaving, left_out}
-use Rattle.wedge_core.specs.Standing.{wp_of}
 use Rattle.wedge_core.specs.declared.running.Lost.{Lost}
 use Rattle.wedge_core.proofs.Bools.{none_some}
 use Rattle.wedge_core.proofs.Filling.{part_few}

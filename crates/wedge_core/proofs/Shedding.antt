@@ -6,6 +6,7 @@ use Rattle.std.specs.Option.{ForSome}
 use Rattle.std.specs.FinMap.{len, len-empty, same_map, nat_cmp-IsAntisymmetric}
 use Rattle.std.specs.Ordering.{nat_cmp}
 use Rattle.descriptors.specs.declared.cpu.Cpu.{Cpu}
+use Rattle.descriptors.specs.Controls.{wp_of}
 use Rattle.image_check.specs.Image.{Image}
 use Rattle.paging.specs.declared.entry.Entry.{Entry}
 use Rattle.shadow_tables.specs.Aside.{Aside, IsSame, AreSame, LoseWrites, any_of, all_spared}
@@ -19,7 +20,7 @@ use Rattle.machine_model.specs.Reloading.{IsFoundBy}
 use Rattle.machine_model.specs.State.{Setting}
 use Rattle.wedge_core.specs.Filled.{pages_aside}
 use Rattle.wedge_core.specs.Ready.{AreFound, IsReadyAside, AreReady, AllOpen, AreReadyBehind}
-use Rattle.wedge_core.specs.Standing.{AreOpen, wp_of}
+use Rattle.wedge_core.specs.Standing.{AreOpen}
 use Rattle.wedge_core.proofs.Bools.{none_some}
 use Rattle.wedge_core.proofs.Opening.{some_is, within_open, none_open}
 

@@ -2,7 +2,7 @@
 use Rattle.std.proofs.Common.{◌≡◌, ℕ, zero, suc, ◌+◌, ◌-◌, ◌*◌, ◌/◌, ◌%◌, ◌≤◌, ◌<◌, ◌^◌, ◌==◌, Bool, true, false, ◌||◌, not, List, [], length, drop, replicate, Option, refl, sym, ap, subst, ◌∙◌, arith}
 use Rattle.std.specs.FinMap.{get}
 use Rattle.guest_ram.specs.Bytes.{frame}
-use Rattle.descriptors.specs.Controls.{pse_of}
+use Rattle.descriptors.specs.Controls.{pse_of, wp_of}
 use Rattle.frame_pool.specs.Pool.{base_of}
 use Rattle.frame_pool.specs.declared.Pool.{Pool}
 use Rattle.frame_pool.specs.Held.{Owns, SameIn}
@@ -34,7 +34,7 @@ use Rattle.wedge_core.specs.declared.running.Running.{Running}
 use Rattle.wedge_core.specs.Parts.{IsPartOf}
 use Rattle.wedge_core.specs.Pools.{Keeps}
 use Rattle.wedge_core.specs.Ran.{Ran, landed}
-use Rattle.wedge_core.specs.Standing.{IsHeld, AreOpen, ground, wp_of, side_of, set_of, state_of}
+use Rattle.wedge_core.specs.Standing.{IsHeld, AreOpen, ground, side_of, set_of, state_of}
 use Rattle.wedge_core.specs.Stepping.{Passes}
 use Rattle.wedge_core.specs.ViewLaws.{ViewsLend, ViewsSee}
 use Rattle.wedge_core.specs.Views.{view_by}
@@ -258,7 +258,7 @@ module _ {S : Type 0} (stands : S → List ℕ → Type 0) (frames : S → List 
               n = advanced.n;
               reports = advanced.reports;
               steps = subst (Steps m begun (replicate advanced.n whole) advanced.reports) (after_is ∙ ap (with_set (state_of stands frames slots m now after_memory)) (exact ∙ sym now_set)) advanced.steps;
-              left = advanced.left;
+              sets = advanced.sets;
               quiet = advanced.quiet;
               silent = advanced.unseen;
               counts = record { retired = (let a = r.count in let b = count_is in let c = advanced.direct in omega (arith, a, b, c)); passed = lands_there.passed ∙ advanced.passed };

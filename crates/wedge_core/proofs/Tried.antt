@@ -1,5 +1,6 @@
 -- What a try at the instruction at EIP left, before anything is kept of it.
 use Rattle.std.proofs.Common.{◌≡◌, ℕ, ◌+◌, ◌*◌, ◌==◌, ◌≤◌, ◌<◌, ◌^◌, Bool, true, not, List, length, drop, Option, sym, ap, subst, ◌∙◌, arith}
+use Rattle.descriptors.specs.Controls.{wp_of}
 use Rattle.guest_ram.specs.Bytes.{AreBytes}
 use Rattle.board.specs.Scripts.{Events}
 use Rattle.frame_pool.specs.Held.{Owns, SameIn}
@@ -21,7 +22,7 @@ use Rattle.machine_model.specs.State.{wedge, wedge_mode, space_at_start}
 use Rattle.native_steps.specs.Again as again
 use Rattle.native_steps.specs.Forward.{IsNext}
 use Rattle.native_steps.specs.Mirrors.{IsWedge, shown}
-use Rattle.wedge_core.specs.Standing.{IsHeld, AreOpen, ground, state_of, wp_of}
+use Rattle.wedge_core.specs.Standing.{IsHeld, AreOpen, ground, state_of}
 use Rattle.wedge_core.specs.Views.{may_run}
 use Rattle.wedge_core.specs.declared.running.Running.{Running}
 use Rattle.wedge_core.proofs.AfterTry.{After, any_script, after, few_after}

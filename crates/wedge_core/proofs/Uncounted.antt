@@ -38,7 +38,7 @@ use Rattle.sites.specs.declared.site.Site.{Site}
 use Rattle.machine_model.specs.State.{Setting, State}
 use Rattle.machine_model.specs.Rules.{stands_well, is_open, may_leave}
 use Rattle.machine_model.specs.Instruction.{instructed, is_plain, done_plainly}
-use Rattle.machine_model.specs.Step.{Completed, Result, Went, Halts, entered, begun, went, after_read, after_write, out_item, code_of, after_delivery, raised, after_effect, after_software, after_instruction, by_op, by_decoded, after_refusal}
+use Rattle.machine_model.specs.Step.{Completed, Result, Went, Halts, entered, begun, concluded, after_read, after_write, out_item, code_of, after_delivery, raised, after_effect, after_software, after_instruction, by_op, by_decoded, after_refusal}
 use Rattle.machine_model.specs.Alone.{IsUser, is_barred, is_native}
 use Rattle.sys_exec.specs.Operand.{past}
 use Rattle.machine_model.specs.Counts.{is_software, needs_descriptor, is_direct, direct_in}
@@ -119,7 +119,7 @@ instructed_by o insn len cpu s e = ap (λ x. cond (is_plain x) (done_plainly (ex
 
 module _ (m : Setting) (b : State) (P : Option Completed → Type 0) (none : P None) where
   of_entered : (whats : List What) (c : Option Completed) (cpu : Cpu) (board : Board) (s : Space) → P c → Leaves P (entered m whats c b cpu board s)
-  of_entered whats c cpu board s p = chosen P (stands_well m cpu) (went whats c b cpu board s) (Halts stops.NotAStart) p tt
+  of_entered whats c cpu board s p = chosen P (stands_well m cpu) (concluded whats c b cpu board s) (Halts stops.NotAStart) p tt
 
   of_delivery : (o : Outcome NotDelivered Cpu) → Leaves P (after_delivery m [] b b.board o)
   of_delivery (Ok done) = of_entered [] None done.0 b.board done.1 none
@@ -148,7 +148,7 @@ module _ (m : Setting) (b : State) (P : Option Completed → Type 0) (none : P N
   of_write c cpu item s (did.Sent value, board) p = p
 
   of_effect : (c : Completed) (e : SysEffect) (cpu : Cpu) (s : Space) → P (Some c) → Leaves P (after_effect m b c e cpu s)
-  of_effect c effects.Next cpu s p = chosen P (may_leave m.mode b.cpu cpu) (went [] (Some c) b cpu b.board s) (Halts stops.UserFlags) p tt
+  of_effect c effects.Next cpu s p = chosen P (may_leave m.mode b.cpu cpu) (concluded [] (Some c) b cpu b.board s) (Halts stops.UserFlags) p tt
   of_effect c effects.Halted cpu s p = p
   of_effect c (effects.DropPage page) cpu s p = p
   of_effect c (effects.DropDir index) cpu s p = p

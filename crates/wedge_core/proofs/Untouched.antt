@@ -3,7 +3,7 @@ use Rattle.std.proofs.Common.{◌≡◌, ℕ, ◌+◌, ◌*◌, ◌/◌, ◌%◌
 use Rattle.std.specs.Prelude.{nat_le}
 use Rattle.guest_ram.specs.Bytes.{frame, word32}
 use Rattle.guest_ram.proofs.Bytes.{word32-frame}
-use Rattle.descriptors.specs.Controls.{pse_of}
+use Rattle.descriptors.specs.Controls.{pse_of, wp_of}
 use Rattle.descriptors.specs.declared.cpu.Cpu.{Cpu}
 use Rattle.paging.specs.Reached.{reached}
 use Rattle.shadow_tables.specs.Aside.{Aside, AreSame, AllTracked}
@@ -16,7 +16,6 @@ use Rattle.native_steps.specs.Lends.{IsUnlent}
 use Rattle.native_steps.specs.Mirrors.{IsWedge, IsHost, shown}
 use Rattle.native_steps.proofs.Shown.{shown_length}
 use Rattle.wedge_core.specs.Ready.{AreReady, IsReady}
-use Rattle.wedge_core.specs.Standing.{wp_of}
 use Rattle.wedge_core.proofs.Bools.{both, none_some}
 use Rattle.wedge_core.proofs.Behind.{found_on, clash}
 use Rattle.wedge_core.proofs.Readying.{all_rules}

@@ -70,7 +70,7 @@ text_is reports count end = refl
 -- a slice that pauses ends so
 pub ends_by : (m : Setting) (n : ℕ) (last new : State) (end : Set) (pause : Pause) → PausesAs m n last new end (Ok pause) → EndsIn m n last (end_of pause)
 ends_by m n last new end Reached h = h.0
-ends_by m n last new end (Stopped stop) h = (h.0, record { set = end; allowed = h.2; stands = h.3 })
+ends_by m n last new end (Stopped stop) h = (h.0, record { set = end; allowed = h.2; halts = h.3 })
 
 pub count_by : (m : Setting) (n : ℕ) (last new : State) (end : Set) (pause : Pause) → PausesAs m n last new end (Ok pause) → new.step ≡ last.step
 count_by m n last new end Reached h = ap (λ (b : State). b.step) h.1

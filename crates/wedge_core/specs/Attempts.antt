@@ -34,17 +34,17 @@ pub record Asks (m : Setting) (view : View) (b : State) (before : Bool) (lost : 
 
 -- Before the step all translations may have been dropped; `lost` says what it lost or brought back.
 abbrev pub AttemptAs : Setting → View → State → Bool → Lost → Result Attempt Stop → State → List ℕ → Type 0
-AttemptAs m view b before lost (Ok (attempt.Went seen)) new memory = Idle m b before lost seen new
+AttemptAs m view b before lost (Ok (attempt.Stepped seen)) new memory = Idle m b before lost seen new
 AttemptAs m view b before lost (Ok attempt.Asked) new memory = Asks m view b before lost new memory
 AttemptAs m view b before lost (Err stop) new memory = stepped m (with_set b (left_of before b.set)) ≡ Halts stop
 
 -- what holds where the host is asked, and where the step went
 abbrev pub WhereAsked : Result Attempt Stop → Type 0 → Type 0
 WhereAsked (Ok attempt.Asked) fact = fact
-WhereAsked (Ok (attempt.Went seen)) fact = Unit {0}
+WhereAsked (Ok (attempt.Stepped seen)) fact = Unit {0}
 WhereAsked (Err stop) fact = Unit {0}
 
-abbrev pub WhereWent : Result Attempt Stop → Type 0 → Type 0
-WhereWent (Ok (attempt.Went seen)) fact = fact
-WhereWent (Ok attempt.Asked) fact = Unit {0}
-WhereWent (Err stop) fact = Unit {0}
+abbrev pub WhereStepped : Result Attempt Stop → Type 0 → Type 0
+WhereStepped (Ok (attempt.Stepped seen)) fact = fact
+WhereStepped (Ok attempt.Asked) fact = Unit {0}
+WhereStepped (Err stop) fact = Unit {0}

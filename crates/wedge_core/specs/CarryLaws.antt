@@ -24,4 +24,4 @@ pub record CarryLaws : Type 0 where
   pub start : KnownAtStart
   pub quiet : KnownQuiet
   pub rule : KeptOn
-  pub taken : TakenOn
+  pub joins : TakenOn

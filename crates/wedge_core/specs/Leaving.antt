@@ -1,7 +1,7 @@
 -- What the end of a step makes of what the shadows keep, for the present value of CR3 and for others.
 use Rattle.std.specs.Prelude.{◌≡◌, ℕ, ◌^◌, ◌<◌, Bool, true, false, ◌||◌, Option, None, List}
 use Rattle.std.specs.FinMap.{empty}
-use Rattle.descriptors.specs.Controls.{pse_of}
+use Rattle.descriptors.specs.Controls.{pse_of, wp_of}
 use Rattle.descriptors.specs.declared.cpu.Cpu.{Cpu}
 use Rattle.shadow_tables.specs.Aside.{Aside, IsSame, AreSame, LoseWrites, any_of, all_spared}
 use Rattle.shadow_tables.specs.Entries.{entries_of}
@@ -13,7 +13,6 @@ use Rattle.machine_step.specs.declared.worked.Dropped.{Dropped}
 use Rattle.machine_step.specs.Worked.{dropping}
 use Rattle.kept_laws.specs.Known.{StayAside, EmptyAside}
 use Rattle.wedge_core.specs.Ready.{is_all}
-use Rattle.wedge_core.specs.Standing.{wp_of}
 
 -- What is kept was told which frames a step read as tables, and then which it wrote.
 pub record Tells (tables wrote : List ℕ) (noted noted2 : ℕ → Bool) (marked marked2 : Bool) (asides asides2 : List Aside) : Type 0 where

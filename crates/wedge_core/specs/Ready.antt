@@ -2,7 +2,7 @@
 use Rattle.std.specs.Prelude.{◌≡◌, ℕ, ◌^◌, ◌<◌, List, [], ◌∷◌, Bool, false, ◌==◌, ◌/◌, ◌&&◌, Option, Some}
 use Rattle.std.specs.Option.{ForSome}
 use Rattle.std.specs.FinMap.{get}
-use Rattle.descriptors.specs.Controls.{pse_of}
+use Rattle.descriptors.specs.Controls.{pse_of, wp_of}
 use Rattle.descriptors.specs.declared.cpu.Cpu.{Cpu}
 use Rattle.image_check.specs.Image.{Image}
 use Rattle.shadow_tables.specs.Aside.{Aside, any_of}
@@ -15,7 +15,7 @@ use Rattle.machine_step.specs.declared.worked.Dropped.TheVariants as dropped
 pub use Rattle.machine_step.specs.Worked.{is_all}
 use Rattle.native_steps.specs.Mirrors.{shown}
 use Rattle.wedge_mem.specs.Told.{read_by}
-use Rattle.wedge_core.specs.Standing.{AreOpen, wp_of}
+use Rattle.wedge_core.specs.Standing.{AreOpen}
 
 -- in the guest's memory, with the processor's pages of 4 MB, a walk from this directory finds the page's entry, by words in
 -- frames of which the test holds

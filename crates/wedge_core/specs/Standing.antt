@@ -11,6 +11,7 @@ use Rattle.shadow_tables.specs.Slots.{Slot, is_user}
 use Rattle.shadow_tables.specs.declared.words.Side.{Side}
 use Rattle.shadow_tables.specs.declared.words.Side.TheVariants.{Kernel, User}
 use Rattle.descriptors.specs.declared.cpu.Cpu.{Cpu}
+use Rattle.descriptors.specs.Controls.{wp_of}
 use Rattle.image_check.specs.Image.{Image}
 use Rattle.machine_model.specs.State.{Setting, State, wedge}
 pub use Rattle.machine_model.specs.Able.{IsAble}
@@ -38,9 +39,6 @@ pub record IsOpenSlot (image : Image) (wp : Bool) (slot : Slot) : Type 0 where
 
 abbrev pub AreOpen : Image → Bool → (ℕ → Option Slot) → Type 0
 AreOpen image wp slots = (page : ℕ) → page < 2 ^ 20 → ForSome (slots page) (IsOpenSlot image wp)
-
-abbrev pub wp_of : Cpu → Bool
-wp_of cpu = has cpu.cr0 0x10000
 
 -- a setting in which no event comes; what a guest stands for doesn't depend on events
 abbrev pub ground : Image → ℕ → Setting

@@ -21,13 +21,13 @@ pub record Goes (m : Setting) (b : State) (lost : Lost) (seen : Seen) (new : Sta
   pub report : Report
   pub whole : Set
   pub went : stepped m (with_set b (left_of lost.before b.set)) ≡ Went report (with_set new whole)
-  pub left : IsLeft m new whole lost
+  pub kept : IsLeft m new whole lost
   pub items : report.items ≡ items_at b.step (whats seen)
   pub counts : CountsOn m (report ∷ []) before after
 
 -- or it stops
 pub record StepHalts (m : Setting) (b : State) (lost : Lost) (stop : Stop) : Type 0 where
-  pub stands : stepped m (with_set b (left_of lost.before b.set)) ≡ Halts stop
+  pub halts : stepped m (with_set b (left_of lost.before b.set)) ≡ Halts stop
 
 abbrev pub StepAs : Setting → State → Lost → Result Seen Stop → State → Counts → Counts → Type 0
 StepAs m b lost (Ok seen) new before after = Goes m b lost seen new before after
@@ -39,7 +39,7 @@ pub record Alone (m : Setting) (b : State) (lost : Lost) (seen : Seen) (new : St
   pub report : Report
   pub whole : Set
   pub went : stepped m b ≡ Went report (with_set new whole)
-  pub left : IsLeft m new whole lost
+  pub kept : IsLeft m new whole lost
   pub items : report.items ≡ items_at b.step (whats seen)
 
 -- or it stops
@@ -53,7 +53,7 @@ pub record Passes (m : Setting) (b new : State) (before after : Counts) : Type 0
   pub n : ℕ
   pub reports : List Report
   pub steps : Steps m b (replicate n b.set) reports new
-  pub left : AreLeft m b (replicate n b.set)
+  pub sets : AreLeft m b (replicate n b.set)
   pub quiet : All IsQuiet (steps_by m b (replicate n b.set))
   pub silent : trace_of reports ≡ []
   pub counts : CountsOn m reports before after

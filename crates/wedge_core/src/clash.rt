@@ -4,6 +4,7 @@
 ghost use Rattle.std.specs.Prelude.{◌≡◌, ℕ, ◌+◌, ◌*◌, ◌/◌, ◌%◌, ◌≤◌, ◌<◌, ◌^◌, ◌==◌, ◌++◌, Bool, true, false, List, [], ◌∷◌, Ok, Some, IfSome, length, map};
 ghost use Rattle.std.specs.FinMap.{get};
 ghost use Rattle.std.specs.List.{list_any, All};
+ghost use Rattle.descriptors.specs.Controls.{wp_of};
 ghost use Rattle.board.specs.declared.devices.Board.{Board};
 ghost use Rattle.board.specs.Scripts.{Events};
 ghost use Rattle.ia32_types.specs.declared.insn.Insn.{Insn};
@@ -14,7 +15,6 @@ ghost use Rattle.ia32_exec.specs.Short.{IsShort};
 ghost use Rattle.paging.specs.Space.{Space};
 ghost use Rattle.machine_model.specs.Clash.{clash_in, instruction_clashes, is_refused_by, uses_of};
 ghost use Rattle.machine_model.specs.Instruction.{fetched};
-ghost use Rattle.paging.specs.Fresh.{has};
 ghost use Rattle.machine_model.specs.State.{State, space_at_start, wedge};
 ghost use Rattle.native_steps.specs.Looking.{marked, next_seen, uses_on, uses_seen};
 ghost use Rattle.native_steps.specs.Mirrors.{shown};
@@ -23,12 +23,10 @@ ghost use Rattle.step_mem.specs.Changes.{AreWithin};
 ghost use Rattle.wedge_core.specs.Clashing.{looked, AreIn, marks_of, seen_of, before, model_uses};
 ghost use Rattle.wedge_core.specs.Standing.{ground};
 
-use crate::looking::{
-    Bytes, LONGEST, Seen, access_of, fetched, fetched_next, front_len, protects, read,
-};
+use crate::looking::{Bytes, LONGEST, Seen, fetched, fetched_next, front_len, read};
 use crate::sight::are_bytes;
 use arrayvec::ArrayVec;
-use descriptors::Cpu;
+use descriptors::{Cpu, by_level};
 use guest_ram::Ram;
 use ia32_decode::{Decoded, decode};
 use ia32_exec::{Range, ranges};
@@ -207,12 +205,12 @@ fn is_refused<S: Shadows>(shadows: &S, ram: &Ram, page: u32, access: Access, wp:
 /// A page is used twice, and what is kept for it doesn't allow the later use.
 fn is_clash<S: Shadows>(cpu: &Cpu, shadows: &S, ram: &Ram, uses: &[PageUse]) -> bool
     requires stands { ∥ S.stands shadows.now ram.now ∥₁ }
-    ensures { result ≡ clash_in (get (entries_of (S.slots shadows.now ram.now))) (has cpu.now.cr0 65536) (model_uses (cpu.now.cpl == 3) uses.now) }
+    ensures { result ≡ clash_in (get (entries_of (S.slots shadows.now ram.now))) (wp_of cpu.now) (model_uses (cpu.now.cpl == 3) uses.now) }
 {
     for i in 0..uses.len() {
         let page = uses[i].page;
-        let access = access_of(cpu, uses[i].write);
-        if was_used(uses, i, page) && is_refused(shadows, ram, page, access, protects(cpu)) {
+        let access = by_level(cpu, uses[i].write);
+        if was_used(uses, i, page) && is_refused(shadows, ram, page, access, cpu.wp()) {
             return true;
         }
     }
@@ -226,7 +224,7 @@ pub fn clashes<S: Shadows>(cpu: &Cpu, frames: u32, shadows: &S, ram: &Ram, image
     requires laid { 0x100000 + length image.now.text ≤ 4096 * frames }
     requires stands { ∥ S.stands shadows.now ram.now ∥₁ }
     requires kept { AreWithin frames (entries_of (S.slots shadows.now ram.now)) }
-    ensures looked { result ≡ clash_in (get (entries_of (S.slots shadows.now ram.now))) (has cpu.now.cr0 65536) (uses_seen (ground image.now frames) (looked cpu.now (shown (ground image.now frames) ram.now) (entries_of (S.slots shadows.now ram.now)))) }
+    ensures looked { result ≡ clash_in (get (entries_of (S.slots shadows.now ram.now))) (wp_of cpu.now) (uses_seen (ground image.now frames) (looked cpu.now (shown (ground image.now frames) ram.now) (entries_of (S.slots shadows.now ram.now)))) }
     ensures step { (script : Events) (b : State) (insn : Insn) (len : ℕ) (fetch : Space) → b.cpu ≡ cpu.now → b.ram ≡ shown (ground image.now frames) ram.now → b.set ≡ entries_of (S.slots shadows.now ram.now)
         → fetched (b.cpu.cpl == 3) b.cpu.regs.eip (space_at_start (wedge image.now script frames).mode frames b.cpu b.ram b.set) ≡ Ok (begins.Insn insn len, fetch)
         → result ≡ instruction_clashes (wedge image.now script frames) b }

@@ -5,7 +5,7 @@ ghost use Rattle.std.specs.FinMap.{empty};
 ghost use Rattle.frame_pool.specs.Held.{Owns, Moves};
 ghost use Rattle.frame_pool.specs.Pool.{base_of, free_list};
 ghost use Rattle.frame_pool.specs.declared.Pool.{Pool};
-ghost use Rattle.descriptors.specs.Controls.{pse_of};
+ghost use Rattle.descriptors.specs.Controls.{pse_of, wp_of};
 ghost use Rattle.descriptors.specs.declared.cpu.Cpu.{Cpu};
 ghost use Rattle.image_check.specs.Image.{Image};
 ghost use Rattle.image_load.specs.Boot.{text_pages};
@@ -22,12 +22,11 @@ ghost use Rattle.wedge_core.specs.Closed.{MayClose, Closes};
 ghost use Rattle.wedge_core.specs.Parts.{left_of};
 ghost use Rattle.wedge_core.specs.Filled.{pages_kept};
 ghost use Rattle.wedge_core.specs.Ready.{IsReady, IsReadyBut, IsReadyBehind, AreFound, AllOpen, is_all, leaving, left_out};
-ghost use Rattle.wedge_core.specs.Standing.{AreOpen, wp_of};
+ghost use Rattle.wedge_core.specs.Standing.{AreOpen};
 ghost use Rattle.std.specs.Prelude.{◌/◌};
 ghost use Rattle.kept_laws.specs.Known.{StayAside, EmptyAside};
 ghost use Rattle.wedge_core.specs.Leaving.{Tells, Loads, RulesSame};
 
-use crate::looking::protects;
 use crate::opened::are_open;
 use descriptors::Cpu;
 use frame_pool::Pool;
@@ -112,7 +111,7 @@ fn are_rules_changed(before: &Cpu, after: &Cpu) -> bool
     ensures same { result ≡ false → (wp_of after.now ≡ wp_of before.now) × (pse_of after.now ≡ pse_of before.now) }
     ensures other { result ≡ true → RulesSame before.now after.now → ⊥ }
 {
-    protects(before) != protects(after) || before.pse() != after.pse()
+    before.wp() != after.wp() || before.pse() != after.pse()
 }
 
 fn is_all(dropped: Dropped) -> bool

@@ -20,7 +20,7 @@ use crate::opened::{is_given, is_text};
 use crate::sight::{are_bytes, byte, walk};
 use crate::single::text_frames;
 use arrayvec::ArrayVec;
-use descriptors::Cpu;
+use descriptors::{Cpu, by_level};
 use guest_ram::Ram;
 use image_check::Checked;
 use native_steps::uses_are_seen;
@@ -45,23 +45,6 @@ pub struct Marks {
 pub struct Seen {
     pub frame: u32,
     pub marks: Option<Marks>,
-}
-
-/// The rules for supervisor writes to read-only pages hold for this processor.
-pub fn protects(cpu: &Cpu) -> bool
-    ensures { result ≡ (cpu.now.cr0 / 65536 % 2 == 1) }
-{
-    cpu.cr0 / 65536 % 2 == 1
-}
-
-/// The access of this processor.
-pub fn access_of(cpu: &Cpu, write: bool) -> Access
-    ensures { result ≡ record { write = write; user = cpu.now.cpl == 3 } }
-{
-    Access {
-        write,
-        user: cpu.cpl == 3,
-    }
 }
 
 /// Code may not be fetched from the frame, at this level.
@@ -116,8 +99,8 @@ pub fn fetched<S: Shadows>(
     ensures marks { IfSome result (λ s. AreIn frames (marks_of s.marks)) }
     ensures frame { IfSome result (λ s. s.frame < frames) }
 {
-    let access = access_of(cpu, false);
-    let wp = protects(cpu);
+    let access = by_level(cpu, false);
+    let wp = cpu.wp();
     if let Some(entry) = shadows.kept(ram, page)
         && allows(&entry, access, wp)
     {

@@ -11,7 +11,7 @@ ghost use Rattle.image_check.specs.Image.{Image};
 ghost use Rattle.board.specs.Scripts.{Events};
 ghost use Rattle.machine_model.specs.State.{wedge};
 ghost use Rattle.machine_model.specs.Alone.{is_native};
-ghost use Rattle.wedge_core.specs.Attempts.{AttemptAs, WhereAsked, WhereWent};
+ghost use Rattle.wedge_core.specs.Attempts.{AttemptAs, WhereAsked, WhereStepped};
 ghost use Rattle.wedge_core.specs.Clashing.{IsClear};
 ghost use Rattle.wedge_core.specs.Filled.{FillsOn, pages_kept};
 ghost use Rattle.wedge_core.specs.Ready.{IsReady};
@@ -68,7 +68,7 @@ use wedge_mem::Lent;
 /// Such a step went, or the host is to do it: its pages are filled, and nothing else is done.
 #[derive(Clone, Copy)]
 pub enum Attempt {
-    Went(Seen),
+    Stepped(Seen),
     Asked,
 }
 
@@ -114,7 +114,7 @@ pub fn begin_native<S: Reloads + Drop>(
     ensures held { OnOk result (IsHeld S.stands S.frames S.slots (ground image.now running.old.frames) (record running.new { step = running.old.step + 1 }) pool.new ram.new) }
     ensures ready { OnOk result (IsReady S.slots S.noted S.marked S.value S.asides (ground image.now running.old.frames) running.new.cpu running.new.shadows ram.new) }
     ensures wanted { OnOk result (wanted ≡ true → running.new.lost.back ≡ false) }
-    ensures carried { WhereWent result ((script : Events) (steps : List Taken) (t : Taken) → wanted ≡ false → length (free_list pool.old ram.old) + running.old.held ≡ 512 → Roomy (steps ++ t ∷ [])
+    ensures carried { WhereStepped result ((script : Events) (steps : List Taken) (t : Taken) → wanted ≡ false → length (free_list pool.old ram.old) + running.old.held ≡ 512 → Roomy (steps ++ t ∷ [])
         → IsTakenFrom (wedge image.now script running.old.frames) (state_of S.stands S.frames S.slots (wedge image.now script running.old.frames) running.old ram.old) t → t.set ≡ left_of running.new.lost.before (set_of S.stands S.frames S.slots running.old ram.old)
         → IsCarried S.slots S.noted S.marked S.asides S.opened (wedge image.now script running.old.frames) steps t.before running.old.shadows ram.old → IsCarried S.slots S.noted S.marked S.asides S.opened (wedge image.now script running.old.frames) (steps ++ t ∷ []) t.after running.new.shadows ram.new) }
     ensures carried_asked { WhereAsked result ((script : Events) (steps : List Taken) (t : Taken) → wanted ≡ false → length (free_list pool.old ram.old) + running.old.held ≡ 512 → Roomy (steps ++ t ∷ [])
@@ -122,7 +122,7 @@ pub fn begin_native<S: Reloads + Drop>(
         → is_load t.report.completed ≡ false → (t.after.cpu.cr0 ≡ running.old.cpu.cr0) × (t.after.cpu.cr3 ≡ running.old.cpu.cr3) × (t.after.cpu.cr4 ≡ running.old.cpu.cr4) → t.after.set ≡ set_of S.stands S.frames S.slots running.new ram.new → 4096 * running.old.frames ≤ length t.after.ram → AreBytes t.after.ram
         → IsCarried S.slots S.noted S.marked S.asides S.opened (wedge image.now script running.old.frames) steps t.before running.old.shadows ram.old → IsCarried S.slots S.noted S.marked S.asides S.opened (wedge image.now script running.old.frames) (steps ++ t ∷ []) t.after running.new.shadows ram.new) }
     ensures clashed { running.new.lost.before ≡ true → 8 ≤ length (free_list pool.old ram.old) → (script : Events) (b : Whole) → b.cpu ≡ running.old.cpu → b.ram ≡ shown (ground image.now running.old.frames) ram.old → b.set ≡ set_of S.stands S.frames S.slots running.old ram.old → instruction_clashes (wedge image.now script running.old.frames) b ≡ true }
-    ensures count { WhereWent result (running.new.step ≡ running.old.step + 1) }
+    ensures count { WhereStepped result (running.new.step ≡ running.old.step + 1) }
     ensures stays { OnErr result (running.new.step ≡ running.old.step) }
     ensures unfilled { OnErr result (running.new.fills ≡ running.old.fills) }
     ensures asked { WhereAsked result (running.new ≡ record running.old { shadows = running.new.shadows; held = running.new.held; fills = running.new.fills; lost = running.new.lost }) }
@@ -159,14 +159,14 @@ fn try_once<S: Reloads + Drop>(
     ensures held { OnOk result (IsHeld S.stands S.frames S.slots (ground image.now running.old.frames) (record running.new { step = running.old.step + 1 }) pool.new ram.new) }
     ensures ready { OnOk result (IsReady S.slots S.noted S.marked S.value S.asides (ground image.now running.old.frames) running.new.cpu running.new.shadows ram.new) }
     ensures wanted { OnOk result (wanted ≡ true → running.new.lost.back ≡ false) }
-    ensures carried { WhereWent result ((script : Events) (steps : List Taken) (t : Taken) → wanted ≡ false → length (free_list pool.old ram.old) + running.old.held ≡ 512 → Roomy (steps ++ t ∷ [])
+    ensures carried { WhereStepped result ((script : Events) (steps : List Taken) (t : Taken) → wanted ≡ false → length (free_list pool.old ram.old) + running.old.held ≡ 512 → Roomy (steps ++ t ∷ [])
         → IsTakenFrom (wedge image.now script running.old.frames) (state_of S.stands S.frames S.slots (wedge image.now script running.old.frames) running.old ram.old) t → t.set ≡ set_of S.stands S.frames S.slots running.old ram.old
         → (set : Set) → IsCarriedBy S.slots S.noted S.marked S.asides S.opened (wedge image.now script running.old.frames) steps t.before set running.old.shadows ram.old → IsCarried S.slots S.noted S.marked S.asides S.opened (wedge image.now script running.old.frames) (steps ++ t ∷ []) t.after running.new.shadows ram.new) }
     ensures carried_asked { WhereAsked result ((script : Events) (steps : List Taken) (t : Taken) → wanted ≡ false → length (free_list pool.old ram.old) + running.old.held ≡ 512 → Roomy (steps ++ t ∷ [])
         → IsTakenFrom (wedge image.now script running.old.frames) (state_of S.stands S.frames S.slots (wedge image.now script running.old.frames) running.old ram.old) t → t.set ≡ set_of S.stands S.frames S.slots running.old ram.old
         → is_load t.report.completed ≡ false → (t.after.cpu.cr0 ≡ running.old.cpu.cr0) × (t.after.cpu.cr3 ≡ running.old.cpu.cr3) × (t.after.cpu.cr4 ≡ running.old.cpu.cr4) → t.after.set ≡ set_of S.stands S.frames S.slots running.new ram.new → 4096 * running.old.frames ≤ length t.after.ram → AreBytes t.after.ram
         → (set : Set) → IsCarriedBy S.slots S.noted S.marked S.asides S.opened (wedge image.now script running.old.frames) steps t.before set running.old.shadows ram.old → IsCarried S.slots S.noted S.marked S.asides S.opened (wedge image.now script running.old.frames) (steps ++ t ∷ []) t.after running.new.shadows ram.new) }
-    ensures count { WhereWent result (running.new.step ≡ running.old.step + 1) }
+    ensures count { WhereStepped result (running.new.step ≡ running.old.step + 1) }
     ensures stays { OnErr result (running.new.step ≡ running.old.step) }
     ensures unfilled { OnErr result (running.new.fills ≡ running.old.fills) }
     ensures before { running.new.lost.before ≡ running.old.lost.before }
@@ -199,7 +199,7 @@ fn try_once<S: Reloads + Drop>(
             are_bytes(ram, image, running.frames);
             let count = text_frames(image);
             go(running, pool, ram, &state, &worked, count, wanted);
-            Ok(Attempt::Went(worked.seen))
+            Ok(Attempt::Stepped(worked.seen))
         }
         None => {
             keep(running, pool, ram, &state, text_frames(image));

@@ -4,14 +4,17 @@ ghost use Rattle.std.specs.Prelude.{◌≡◌, ℕ, ◌+◌, ◌≤◌, ◌&&◌
 ghost use Rattle.std.specs.FinMap.{get};
 ghost use Rattle.std.specs.Option.{ForSome};
 ghost use Rattle.paging.specs.declared.entry.Entry.{Entry as Translation};
+ghost use Rattle.paging.specs.Uses.{is_text, is_given};
 ghost use Rattle.image_check.specs.Image.{Image};
+ghost use Rattle.machine_model.specs.State.{rules_over};
+ghost use Rattle.machine_model.specs.UsedPages.{may_use};
 ghost use Rattle.image_load.specs.Boot.{text_pages};
 ghost use Rattle.shadow_tables.specs.Entries.{entries_of};
-ghost use Rattle.shadow_tables.specs.Slots.{is_among};
+ghost use Rattle.shadow_tables.specs.Slots.{is_among, is_user};
 ghost use Rattle.step_mem.specs.Changes.{changed};
 ghost use Rattle.native_steps.specs.Lends.{IsOpen};
 ghost use Rattle.wedge_mem.specs.Settled.{pages_of};
-ghost use Rattle.wedge_core.specs.Opened.{is_text_frame, is_given_frame, is_open_to, is_entry_open};
+ghost use Rattle.wedge_core.specs.Opened.{is_entry_open};
 ghost use Rattle.wedge_core.specs.Standing.{is_kernel};
 
 use guest_ram::Ram;
@@ -30,14 +33,14 @@ const DATA_PAGE: u32 = 0x1_1000;
 
 /// The frame is one of so many that hold text.
 pub(crate) fn is_text(count: u32, frame: u32) -> bool
-    ensures { result ≡ is_text_frame count frame }
+    ensures { result ≡ is_text (rules_over count) frame }
 {
     frame >= TEXT_FRAME && frame - TEXT_FRAME < count
 }
 
 /// The frame is the one that the loader gave this page of the text window, of so many.
 pub(crate) fn is_given(count: u32, page: u32, frame: u32) -> bool
-    ensures { result ≡ is_given_frame count page frame }
+    ensures { result ≡ is_given (rules_over count) page frame }
 {
     page >= TEXT_PAGE
         && page - TEXT_PAGE < count
@@ -47,7 +50,7 @@ pub(crate) fn is_given(count: u32, page: u32, frame: u32) -> bool
 
 /// The view of this side may show the page, where so many frames hold text.
 fn is_open(count: u32, side: Side, page: u32, frame: u32) -> bool
-    ensures { result ≡ is_open_to count side page frame }
+    ensures { result ≡ may_use (rules_over count) (is_user side) page frame }
 {
     match side {
         Side::User => !is_text(count, frame),

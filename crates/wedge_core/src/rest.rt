@@ -4,9 +4,7 @@ ghost use Rattle.std.specs.Prelude.{◌≡◌, ℕ, ◌+◌, ◌-◌, ◌*◌, �
 ghost use Rattle.frame_pool.specs.declared.Pool.{Pool as Frames};
 ghost use Rattle.frame_pool.specs.Pool.{free_list};
 ghost use Rattle.board.specs.declared.devices.Board.{Board as Devices};
-ghost use Rattle.board.specs.Boards.{given, comes_within};
-ghost use Rattle.std.specs.Prelude.{None};
-ghost use Rattle.machine_model.specs.Step.{interrupt_of};
+ghost use Rattle.board.specs.Boards.{given};
 ghost use Rattle.board.specs.Scripts.{Events, is_script};
 ghost use Rattle.machine_model.specs.State.{wedge};
 ghost use Rattle.wedge_core.specs.Standing.{IsHeld, IsAble, ground, set_of, state_of};
@@ -16,8 +14,8 @@ ghost use Rattle.wedge_core.specs.Slices.{Counts};
 ghost use Rattle.wedge_core.specs.Stepping.{Passes};
 
 use crate::running::Running;
-use board::{Board, Script};
-use machine_step::interrupt;
+use board::Script;
+use machine_step::{is_resting, quiet_steps};
 use shadow_tables::Shadows;
 
 /// Passes the steps in which a halted processor has nothing to do and nothing can come to the board, up to the bound, in one go.
@@ -33,36 +31,10 @@ pub fn rest<S: Shadows + Drop>(running: &mut Running<S>, script: &Script, bound:
     ensures later { running.old.step ≤ running.new.step }
     ensures within { running.new.step ≤ bound }
 {
-    if !is_resting(running) {
+    if !is_resting(&running.cpu, &running.board) {
         return;
     }
     let k = quiet_steps(&running.board, script, running.step, bound - running.step);
     running.board.advance(k);
     running.step += k;
-}
-
-/// The processor is halted, and no interrupt that is pending can end that.
-fn is_resting<S: Shadows + Drop>(running: &Running<S>) -> bool
-    ensures { result ≡ true → (running.now.cpu.halted ≡ true) × (running.now.cpu.held ≡ false) × (interrupt_of running.now.cpu running.now.board ≡ None) }
-{
-    if !running.cpu.halted {
-        return false;
-    }
-    if running.cpu.held {
-        return false;
-    }
-    interrupt(&running.cpu, &running.board).is_none()
-}
-
-/// How many steps, up to a number, pass before an edge or an event can come. The events of the step before were given.
-fn quiet_steps(board: &Board, script: &Script, step: u64, most: u64) -> u64
-    requires script { is_script script.now.list ≡ true }
-    requires begun { 0 < step }
-    ensures most { result ≤ most }
-    ensures quiet { 0 < result → comes_within board.now script.now.list (step - 1) result ≡ false }
-{
-    match board.next_event(script, step - 1) {
-        None => most,
-        Some(next) => most.min(next.saturating_sub(1)),
-    }
 }

@@ -15,9 +15,6 @@ ghost use Rattle.wedge_core.specs.Standing.{IsHeld, IsAble, ground, set_of, stat
 ghost use Rattle.std.specs.Prelude.{OnErr};
 ghost use Rattle.pv_io.specs.Causes.{Rose};
 ghost use Rattle.wedge_core.specs.Pools.{Keeps};
-ghost use Rattle.machine_model.specs.Step.{items_at};
-ghost use Rattle.machine_step.specs.Worked.{whats};
-ghost use Rattle.run_trace.specs.Steps.{items_of};
 ghost use Rattle.wedge_core.specs.Slices.{SliceAs};
 ghost use Rattle.run_trace.specs.Pauses.{IfPaused, IfReached};
 ghost use Rattle.wedge_core.specs.Stepping.{AloneAs, StepAs};
@@ -45,9 +42,9 @@ use host_cpl3::Host;
 use ia32_types::Stop;
 use image_check::Checked;
 use machine_model::steps_keep_able;
-use machine_step::Seen;
+use machine_step::{Seen, items_of};
 use pv_io::{Failed, Sink};
-use run_trace::{Item, Notes, Pause, StepItems, put_step};
+use run_trace::{Notes, Pause, put_step};
 use shadow_cache::Reloads;
 
 /// Steps up to a count of steps, or to a stop. The lines of a step go to the sink at its end. Before which steps all
@@ -171,7 +168,7 @@ fn one_step<S: Reloads + Drop, H: Host>(
         return by_rules(running, pool, host, image, wanted);
     }
     match begin_native(running, pool, host.ram_mut(), image, wanted)? {
-        Attempt::Went(seen) => Ok(seen),
+        Attempt::Stepped(seen) => Ok(seen),
         Attempt::Asked => {
             let _one = run_on(running, host, 1);
             are_bytes(host.ram(), image, frames);
@@ -214,21 +211,4 @@ fn by_rules<S: Reloads + Drop, H: Host>(
     ensures frames { running.new.frames ≡ running.old.frames }
 {
     step_alone(running, pool, host.ram_mut(), image, wanted)
-}
-
-/// What a step lets be seen, as items.
-fn items_of(step: u64, seen: Seen) -> StepItems
-    ensures items { items_of result ≡ items_at step (whats seen) }
-    ensures few { result.len ≤ 2 }
-{
-    let mut items = StepItems::new();
-    match seen {
-        Seen::Nothing => {}
-        Seen::One(what) => items.add(Item { step, what }),
-        Seen::Two(first, second) => {
-            items.add(Item { step, what: first });
-            items.add(Item { step, what: second });
-        }
-    }
-    items
 }

@@ -9,5 +9,5 @@ pub returns-clause-rests : goal.returns-clause-rests
 returns-clause-rests g c = λ image whole part.
     let m = c.args.machine.now in
     let s = bare image c.args.script.now.list m.frames in
-    let is = c.is_resting.ensures c.if-not-is_resting.false in
+    let is = c.is_resting.ensures.rests c.if-not-is_resting.false in
     rw c.advance.ensures (rests_some c.halted_steps_rest.ensures c.quiet_steps-k.result s (state_of g.C.Cache.entries m) whole c.requires.begun is.0 is.1 is.2 c.quiet_steps-k.ensures.quiet part)

@@ -6,5 +6,5 @@ returns c = record {
   start = c.known_goes_on.ensures.start;
   quiet = c.known_goes_on.ensures.quiet;
   rule = c.kept_on.ensures;
-  taken = c.taken_on.ensures;
+  joins = c.taken_on.ensures;
 }

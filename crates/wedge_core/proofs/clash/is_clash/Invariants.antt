@@ -1,6 +1,6 @@
 use Rattle.std.proofs.Common.{◌≡◌, ◌==◌, drop}
 use Rattle.std.specs.FinMap.{get}
-use Rattle.paging.specs.Fresh.{has}
+use Rattle.descriptors.specs.Controls.{wp_of}
 use Rattle.machine_model.specs.Clash.{clash_behind, clash_in}
 use Rattle.shadow_tables.specs.Entries.{entries_of}
 use Rattle.wedge_core.specs.Clashing.{before, model_uses}
@@ -8,5 +8,5 @@ use Rattle.wedge_core.proofs.clash.is_clash.Given as goal
 
 abbrev pub invariant-loop-i : goal.invariant-loop-i
 invariant-loop-i g l =
-    clash_in (get (entries_of (g.S.Shadows.slots l.shadows l.ram))) (has l.cpu.cr0 65536) (model_uses (l.cpu.cpl == 3) l.uses)
-    ≡ clash_behind (get (entries_of (g.S.Shadows.slots l.shadows l.ram))) (has l.cpu.cr0 65536) (before l.uses l.i) (drop l.i (model_uses (l.cpu.cpl == 3) l.uses))
+    clash_in (get (entries_of (g.S.Shadows.slots l.shadows l.ram))) (wp_of l.cpu) (model_uses (l.cpu.cpl == 3) l.uses)
+    ≡ clash_behind (get (entries_of (g.S.Shadows.slots l.shadows l.ram))) (wp_of l.cpu) (before l.uses l.i) (drop l.i (model_uses (l.cpu.cpl == 3) l.uses))

@@ -1,6 +1,7 @@
 use Rattle.std.proofs.Common.{◌≡◌, ℕ, ◌+◌, ◌*◌, ◌%◌, ◌≤◌, List, [], length, take, drop, refl, sym, ap, subst, ◌∙◌, arith}
 use Rattle.std.specs.FinMap.{get, get-empty}
 use Rattle.std.specs.Ordering.{nat_cmp}
+use Rattle.descriptors.specs.Controls.{wp_of}
 use Rattle.guest_ram.specs.Bytes.{part, with_part}
 use Rattle.frame_pool.specs.Held.{Owns, Moves, SameIn}
 use Rattle.frame_pool.specs.Pool.{base_of}
@@ -15,7 +16,7 @@ use Rattle.shadow_cache.specs.declared.roots.Roots.{Roots}
 use Rattle.machine_model.specs.Run.{Set}
 use Rattle.machine_model.specs.State.{wedge}
 use Rattle.native_steps.specs.Mirrors.{shown}
-use Rattle.wedge_core.specs.Standing.{ground, wp_of}
+use Rattle.wedge_core.specs.Standing.{ground}
 use Rattle.wedge_core.proofs.Adopted.{IsNew, started, new_behind, new_frames, new_empty, new_ready, new_pages}
 use Rattle.wedge_core.proofs.Booted.{part_front}
 use Rattle.wedge_core.proofs.Bools.{none_some}

@@ -16,7 +16,7 @@ use Rattle.wedge_core.specs.declared.native.Attempt.{Attempt}
 use Rattle.wedge_core.specs.declared.native.Attempt.TheVariants as attempt
 use Rattle.wedge_core.proofs.native.begin_native.Given.{Over}
 use Rattle.machine_model.specs.State.{Setting, State, wedge}
-use Rattle.wedge_core.specs.Attempts.{AttemptAs, WhereAsked, WhereWent}
+use Rattle.wedge_core.specs.Attempts.{AttemptAs, WhereAsked, WhereStepped}
 use Rattle.wedge_core.specs.Parts.{left_of}
 use Rattle.wedge_core.specs.Standing.{ground, set_of, state_of}
 use Rattle.wedge_core.specs.Views.{view_by}
@@ -92,14 +92,14 @@ returns-clause-ready g c =
     c.try_once.ensures.ready
 
 -- ---- what the run knows goes on
-where_went : {P Q : Type 0} (r : Result Attempt Stop) → (P → Q) → WhereWent r P → WhereWent r Q
-where_went (Ok (attempt.Went seen)) f h = f h
-where_went (Ok attempt.Asked) f h = tt
-where_went (Err stop) f h = tt
+where_stepped : {P Q : Type 0} (r : Result Attempt Stop) → (P → Q) → WhereStepped r P → WhereStepped r Q
+where_stepped (Ok (attempt.Stepped seen)) f h = f h
+where_stepped (Ok attempt.Asked) f h = tt
+where_stepped (Err stop) f h = tt
 
 where_asked : {P Q : Type 0} (r : Result Attempt Stop) → (P → Q) → WhereAsked r P → WhereAsked r Q
 where_asked (Ok attempt.Asked) f h = f h
-where_asked (Ok (attempt.Went seen)) f h = tt
+where_asked (Ok (attempt.Stepped seen)) f h = tt
 where_asked (Err stop) f h = tt
 
 module _ (g : Over) (c : goal.After-try_once g) where
@@ -176,8 +176,8 @@ module _ (g : Over) (c : goal.After-try_once g) where
       c.args.wanted ≡ false → length (free_list c.make_room.new.pool ram1) + r.held ≡ 512 → Roomy (steps ++ t ∷ [])
       → IsTakenFrom (wedge image script r.frames) (state_of g.S.Shadows.stands g.S.Shadows.frames g.S.Shadows.slots (wedge image script r.frames) r ram1) t → t.set ≡ set_of g.S.Shadows.stands g.S.Shadows.frames g.S.Shadows.slots r ram1 → fact
 
-  tried : WhereWent c.try_once.result ((script : Events) (steps : List Taken) (t : Taken) → IsTaken mid script steps t (Carries mid script steps t))
-  tried = subst (λ (r : Running g.row.S.Denot). WhereWent c.try_once.result ((script : Events) (steps : List Taken) (t : Taken) → IsTaken r script steps t (Carries r script steps t))) c.make_room.ensures.same c.try_once.ensures.carried
+  tried : WhereStepped c.try_once.result ((script : Events) (steps : List Taken) (t : Taken) → IsTaken mid script steps t (Carries mid script steps t))
+  tried = subst (λ (r : Running g.row.S.Denot). WhereStepped c.try_once.result ((script : Events) (steps : List Taken) (t : Taken) → IsTaken r script steps t (Carries r script steps t))) c.make_room.ensures.same c.try_once.ensures.carried
 
   abbrev Does : Running g.row.S.Denot → Taken → Type 0 → Type 0
   Does r t fact =
@@ -189,7 +189,7 @@ module _ (g : Over) (c : goal.After-try_once g) where
 
 pub returns-clause-carried : goal.returns-clause-carried
 returns-clause-carried g c =
-    where_went c.try_once.result
+    where_stepped c.try_once.result
     (λ f script steps t unwanted free roomy taken by carried.
     f script steps t unwanted (free_there g c script steps t free roomy carried) roomy (taken_there g c script t taken) (by_there g c script t by) (entries_of (g.S.Shadows.slots c.args.running.now.shadows c.args.ram.now)) (carried_there g c script steps t free roomy carried))
     (tried g c)

@@ -1,6 +1,7 @@
 use Rattle.std.proofs.Common.{ℕ, ◌%◌, false, sym, ap, ◌∙◌, arith}
 use Rattle.std.specs.FinMap.{empty}
-use Rattle.wedge_core.specs.Standing.{ground, wp_of}
+use Rattle.descriptors.specs.Controls.{wp_of}
+use Rattle.wedge_core.specs.Standing.{ground}
 use Rattle.wedge_core.proofs.Memories.{text_within, front_same, host_same}
 use Rattle.wedge_core.proofs.Opening.{none_open}
 use Rattle.wedge_core.proofs.Parts.{part_within, part_empty}

@@ -1,7 +1,8 @@
 use Rattle.std.proofs.Common.{ℕ, ◌%◌, false, length, sym, ap, ◌∙◌, inl, arith}
 use Rattle.std.specs.FinMap.{empty}
+use Rattle.descriptors.specs.Controls.{wp_of}
 use Rattle.frame_pool.proofs.Held.{Owns-moves}
-use Rattle.wedge_core.specs.Standing.{ground, wp_of}
+use Rattle.wedge_core.specs.Standing.{ground}
 use Rattle.wedge_core.proofs.Memories.{text_within, front_same, host_same, shown_same}
 use Rattle.wedge_core.proofs.Opening.{none_open}
 use Rattle.wedge_core.proofs.Parts.{part_within, part_empty}

@@ -5,6 +5,7 @@ use Rattle.std.specs.Ordering.{nat_cmp}
 use Rattle.guest_ram.specs.Bytes.{AreBytes}
 use Rattle.board.specs.Scripts.{Events}
 use Rattle.descriptors.specs.declared.cpu.Cpu.{Cpu}
+use Rattle.descriptors.specs.Controls.{wp_of}
 use Rattle.frame_pool.specs.Pool.{free_list}
 use Rattle.frame_pool.specs.declared.Pool.{Pool}
 use Rattle.image_check.specs.Image.{Image}
@@ -29,7 +30,7 @@ use Rattle.native_steps.specs.Mirrors.{IsHost, Sees, shown}
 use Rattle.wedge_core.specs.Closed.{MayClose, Closes}
 use Rattle.wedge_core.specs.Filled.{FillsOn, pages_kept}
 use Rattle.wedge_core.specs.Ready.{AllOpen, AreFound, IsReady}
-use Rattle.wedge_core.specs.Standing.{IsHeld, AreOpen, ground, state_of, side_of, wp_of}
+use Rattle.wedge_core.specs.Standing.{IsHeld, AreOpen, ground, state_of, side_of}
 use Rattle.wedge_core.specs.Tries.{IsPrepared, OthersAreUsers}
 use Rattle.wedge_core.specs.Views.{view_by}
 use Rattle.wedge_core.specs.declared.running.Running.{Running}

@@ -13,5 +13,5 @@ pub returns-clause-passes : goal.returns-clause-passes
 returns-clause-passes g c = λ image memory counts.
     let running = c.args.running.now in
     let m = wedge image c.args.script.now.list running.frames in
-    let is = c.is_resting.ensures c.if-not-is_resting.false in
+    let is = c.is_resting.ensures.rests c.if-not-is_resting.false in
     rw c.advance.ensures (rests_some c.quiet_steps-k.result m (state_of g.S.Shadows.stands g.S.Shadows.frames g.S.Shadows.slots m running memory) counts c.requires.begun is.0 is.1 is.2 c.quiet_steps-k.ensures.quiet)

@@ -1,9 +1,10 @@
 use Rattle.std.proofs.Common.{◌≡◌, ℕ, ◌≤◌, Bool, List, length, ap, sym, subst, ◌∙◌, arith}
+use Rattle.descriptors.specs.Controls.{wp_of}
 use Rattle.frame_pool.specs.Pool.{base_of, free_list}
 use Rattle.frame_pool.proofs.Held.{Moves-trans}
 use Rattle.wedge_mem.specs.Settled.{pages_of}
 use Rattle.wedge_core.specs.Ready.{IsReadyBut, leaving}
-use Rattle.wedge_core.specs.Standing.{AreOpen, wp_of}
+use Rattle.wedge_core.specs.Standing.{AreOpen}
 use Rattle.wedge_core.specs.declared.running.Running.{Running}
 use Rattle.wedge_core.proofs.Parts.{left_twice}
 use Rattle.wedge_core.proofs.Boards.{one_step}

@@ -3,6 +3,7 @@ use Rattle.guest_ram.specs.Bytes.{AreBytes}
 use Rattle.wedge_core.proofs.CarriedOver.{Widens}
 use Rattle.wedge_core.proofs.CarriedStep.{went_on}
 use Rattle.descriptors.specs.declared.cpu.Cpu.{Cpu}
+use Rattle.descriptors.specs.Controls.{wp_of}
 use Rattle.frame_pool.specs.Pool.{base_of}
 use Rattle.paging.specs.Space.{Mode, Wedge, Space}
 use Rattle.shadow_tables.specs.Entries.{entries_of}
@@ -14,7 +15,7 @@ use Rattle.wedge_mem.specs.Owned.{first, owns}
 use Rattle.step_mem.specs.Sound.{space_at}
 use Rattle.machine_model.specs.State.{wedge, wedge_mode}
 use Rattle.native_steps.specs.Mirrors.{shown}
-use Rattle.wedge_core.specs.Standing.{AreOpen, state_of, ground, wp_of}
+use Rattle.wedge_core.specs.Standing.{AreOpen, state_of, ground}
 use Rattle.wedge_core.proofs.Alones.{alone_from, began}
 use Rattle.wedge_core.proofs.Opening.{same_open}
 use Rattle.wedge_core.proofs.Keeping.{keeps_above}

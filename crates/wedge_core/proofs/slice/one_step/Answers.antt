@@ -61,7 +61,7 @@ returns-then-not-may_run-clause-able g c =
     alone_able c.steps_keep_able.ensures m (at c.args.running.now (g.H.Host.bytes c.args.host.now)) c.by_rules.new.running.lost c.by_rules.result (at c.by_rules.new.running (g.H.Host.bytes c.by_rules.new.host)) refl c.requires.able (c.by_rules.ensures.step [])
 
 -- the memory that was lent, at both ends
-module _ (g : Over) (c : goal.In-Went g) where
+module _ (g : Over) (c : goal.In-Stepped g) where
   old_memory : c.ram_mut.result.now ≡ g.H.Host.bytes c.args.host.now
   old_memory = c.ram_mut.ensures.ram
 
@@ -69,12 +69,12 @@ module _ (g : Over) (c : goal.In-Went g) where
   new_memory = sym (g.met.H.Host.bytes_changed c.args.host.now c.begin_native.new.ram)
 
   went : (script : _) → Idle (wedge c.args.image.now script c.args.running.now.frames)
-      (state_of g.S.Shadows.stands g.S.Shadows.frames g.S.Shadows.slots (wedge c.args.image.now script c.args.running.now.frames) c.args.running.now c.ram_mut.result.now) c.begin_native.new.running.lost.before c.begin_native.new.running.lost c.in-Went.seen
+      (state_of g.S.Shadows.stands g.S.Shadows.frames g.S.Shadows.slots (wedge c.args.image.now script c.args.running.now.frames) c.args.running.now c.ram_mut.result.now) c.begin_native.new.running.lost.before c.begin_native.new.running.lost c.in-Stepped.seen
       (state_of g.S.Shadows.stands g.S.Shadows.frames g.S.Shadows.slots (wedge c.args.image.now script c.args.running.now.frames) c.begin_native.new.running c.begin_native.new.ram)
-  went script = rw c.in-Went.is at (c.in_ok-seen.ensures.step script)
+  went script = rw c.in-Stepped.is at (c.in_ok-seen.ensures.step script)
 
-pub returns-in-Went-clause-step : goal.returns-in-Went-clause-step
-returns-in-Went-clause-step g c = λ script.
+pub returns-in-Stepped-clause-step : goal.returns-in-Stepped-clause-step
+returns-in-Stepped-clause-step g c = λ script.
     let m = wedge c.args.image.now script c.args.running.now.frames in
     let at = λ (r : Running g.row.S.Denot) (memory : List ℕ). state_of g.S.Shadows.stands g.S.Shadows.frames g.S.Shadows.slots m r memory in
     let host = g.H.Host.with_bytes c.args.host.now c.begin_native.new.ram in
@@ -82,22 +82,22 @@ returns-in-Went-clause-step g c = λ script.
     let after = counted (g.H.Host.retired host) (g.H.Host.passed host) in
     let same = counts_same (g.H.Host.retired c.args.host.now) (g.H.Host.retired host) (g.H.Host.passed c.args.host.now) (g.H.Host.passed host) (g.met.H.Host.retired_stays c.args.host.now c.begin_native.new.ram) (g.met.H.Host.passed_stays c.args.host.now c.begin_native.new.ram) in
     let lost = c.begin_native.new.running.lost in
-    let i = subst (λ (l : List ℕ). Idle m (at c.args.running.now (g.H.Host.bytes c.args.host.now)) lost.before lost c.in-Went.seen (at c.begin_native.new.running l)) (new_memory g c)
-    (subst (λ (l : List ℕ). Idle m (at c.args.running.now l) lost.before lost c.in-Went.seen (at c.begin_native.new.running c.begin_native.new.ram)) (old_memory g c) (went g c script)) in
-    idle_goes m _ lost c.in-Went.seen _ before after (sym same) i
+    let i = subst (λ (l : List ℕ). Idle m (at c.args.running.now (g.H.Host.bytes c.args.host.now)) lost.before lost c.in-Stepped.seen (at c.begin_native.new.running l)) (new_memory g c)
+    (subst (λ (l : List ℕ). Idle m (at c.args.running.now l) lost.before lost c.in-Stepped.seen (at c.begin_native.new.running c.begin_native.new.ram)) (old_memory g c) (went g c script)) in
+    idle_goes m _ lost c.in-Stepped.seen _ before after (sym same) i
 
-pub returns-in-Went-clause-held : goal.returns-in-Went-clause-held
-returns-in-Went-clause-held g c =
-    let count = rw c.in-Went.is at c.in_ok-seen.ensures.count in
+pub returns-in-Stepped-clause-held : goal.returns-in-Stepped-clause-held
+returns-in-Stepped-clause-held g c =
+    let count = rw c.in-Stepped.is at c.in_ok-seen.ensures.count in
     let r = c.begin_native.new.running in
     let held = subst (λ (k : ℕ). IsHeld g.S.Shadows.stands g.S.Shadows.frames g.S.Shadows.slots (ground c.args.image.now c.args.running.now.frames) (record r { step = k }) c.begin_native.new.pool c.begin_native.new.ram) (sym count) c.in_ok-seen.ensures.held in
     subst (λ (l : List ℕ). IsHeld g.S.Shadows.stands g.S.Shadows.frames g.S.Shadows.slots (ground c.args.image.now c.args.running.now.frames) r c.begin_native.new.pool l) (new_memory g c) held
 
-pub returns-in-Went-clause-able : goal.returns-in-Went-clause-able
-returns-in-Went-clause-able g c = idle_able c.steps_keep_able.ensures _ _ _ _ c.in-Went.seen _ refl c.requires.able (went g c [])
+pub returns-in-Stepped-clause-able : goal.returns-in-Stepped-clause-able
+returns-in-Stepped-clause-able g c = idle_able c.steps_keep_able.ensures _ _ _ _ c.in-Stepped.seen _ refl c.requires.able (went g c [])
 
-pub returns-in-Went-clause-pool : goal.returns-in-Went-clause-pool
-returns-in-Went-clause-pool g c =
+pub returns-in-Stepped-clause-pool : goal.returns-in-Stepped-clause-pool
+returns-in-Stepped-clause-pool g c =
     let p = c.args.pool.now in
     let q = c.begin_native.new.pool in
     let fs = λ (l : List ℕ). g.S.Shadows.frames c.args.running.now.shadows l in
@@ -180,14 +180,14 @@ returns-in-Asked-clause-pool g c =
     once_keeps g.S.Shadows.stands g.S.Shadows.frames g.S.Shadows.slots g.S.Shadows.directory _ _ _ _ _ _ _ _ _ _ _ (once g c.before) c.args.pool.now
     (subst (λ (l : List ℕ). Keeps c.args.pool.now c.begin_native.new.pool l m1 (gs l) (g.S.Shadows.frames c.begin_native.new.running.shadows m1)) (lent g c.before) c.in_ok-seen.ensures.pool)
 
-pub returns-in-Went-clause-started : goal.returns-in-Went-clause-started
-returns-in-Went-clause-started g c = g.met.H.Host.started_so c.args.host.now c.begin_native.new.ram
+pub returns-in-Stepped-clause-started : goal.returns-in-Stepped-clause-started
+returns-in-Stepped-clause-started g c = g.met.H.Host.started_so c.args.host.now c.begin_native.new.ram
 
-pub returns-in-Went-clause-stands : goal.returns-in-Went-clause-stands
-returns-in-Went-clause-stands g c = subst (λ (l : List ℕ). ∥ g.S.Shadows.stands c.begin_native.new.running.shadows l ∥₁) (new_memory g c) c.in_ok-seen.ensures.stands
+pub returns-in-Stepped-clause-stands : goal.returns-in-Stepped-clause-stands
+returns-in-Stepped-clause-stands g c = subst (λ (l : List ℕ). ∥ g.S.Shadows.stands c.begin_native.new.running.shadows l ∥₁) (new_memory g c) c.in_ok-seen.ensures.stands
 
-pub returns-in-Went-clause-count : goal.returns-in-Went-clause-count
-returns-in-Went-clause-count g c = rw c.in-Went.is at c.in_ok-seen.ensures.count
+pub returns-in-Stepped-clause-count : goal.returns-in-Stepped-clause-count
+returns-in-Stepped-clause-count g c = rw c.in-Stepped.is at c.in_ok-seen.ensures.count
 
 pub run_on-one-requires-clause-started : goal.run_on-one-requires-clause-started
 run_on-one-requires-clause-started g c = g.met.H.Host.started_so c.args.host.now c.begin_native.new.ram
@@ -208,8 +208,8 @@ run_on-one-requires-clause-room g c =
     let room = c.requires.room in
     omega (arith, same, room)
 
-pub returns-in-Went-clause-counted : goal.returns-in-Went-clause-counted
-returns-in-Went-clause-counted g c =
+pub returns-in-Stepped-clause-counted : goal.returns-in-Stepped-clause-counted
+returns-in-Stepped-clause-counted g c =
     let r = c.begin_native.new.running in
     subst (λ (l : List ℕ). r.held ≡ length (g.S.Shadows.frames r.shadows l)) (new_memory g c) c.in_ok-seen.ensures.counted
 
@@ -235,13 +235,13 @@ begin_native-requires-clause-ready g c =
     let r = c.args.running.now in
     subst (λ (l : List ℕ). IsReady g.S.Shadows.slots g.S.Shadows.noted g.S.Shadows.marked g.S.Shadows.value g.S.Shadows.asides (ground c.args.image.now r.frames) r.cpu r.shadows l) (sym c.ram_mut.ensures.ram) c.requires.ready
 
-pub returns-in-Went-clause-ready : goal.returns-in-Went-clause-ready
-returns-in-Went-clause-ready g c =
+pub returns-in-Stepped-clause-ready : goal.returns-in-Stepped-clause-ready
+returns-in-Stepped-clause-ready g c =
     let r = c.begin_native.new.running in
     subst (λ (l : List ℕ). IsReady g.S.Shadows.slots g.S.Shadows.noted g.S.Shadows.marked g.S.Shadows.value g.S.Shadows.asides (ground c.args.image.now c.args.running.now.frames) r.cpu r.shadows l) (new_memory g c) c.in_ok-seen.ensures.ready
 
-pub returns-in-Went-clause-filled : goal.returns-in-Went-clause-filled
-returns-in-Went-clause-filled g c =
+pub returns-in-Stepped-clause-filled : goal.returns-in-Stepped-clause-filled
+returns-in-Stepped-clause-filled g c =
     let old = λ (l : List ℕ). pages_kept g.S.Shadows.slots g.S.Shadows.asides c.args.running.now.shadows l in
     let new = λ (l : List ℕ). pages_kept g.S.Shadows.slots g.S.Shadows.asides c.begin_native.new.running.shadows l in
     let fills = c.args.running.now.fills in
@@ -329,17 +329,17 @@ pub returns-then-not-may_run-clause-clashed : goal.returns-then-not-may_run-clau
 returns-then-not-may_run-clause-clashed g c = if_ok c.by_rules.result (λ lost. absurd (let f : true ≡ false = sym lost ∙ c.by_rules.ensures.before in cc))
 
 -- the step went
-pub returns-in-Went-clause-carried : goal.returns-in-Went-clause-carried
-returns-in-Went-clause-carried g c =
+pub returns-in-Stepped-clause-carried : goal.returns-in-Stepped-clause-carried
+returns-in-Stepped-clause-carried g c =
     let r0 = c.args.running.now in
     let r1 = c.begin_native.new.running in
     let now : List ℕ → List ℕ → Type 0 = λ l k. (script : Events) (steps : List Taken) (t : Taken) → c.args.wanted ≡ false → length (free_list c.args.pool.now l) + r0.held ≡ 512 → Roomy (steps ++ t ∷ [])
     → IsTakenFrom (wedge c.args.image.now script r0.frames) (state_of g.S.Shadows.stands g.S.Shadows.frames g.S.Shadows.slots (wedge c.args.image.now script r0.frames) r0 l) t → t.set ≡ left_of r1.lost.before (set_of g.S.Shadows.stands g.S.Shadows.frames g.S.Shadows.slots r0 l)
     → IsCarried g.S.Shadows.slots g.S.Shadows.noted g.S.Shadows.marked g.S.Shadows.asides g.S.Shadows.opened (wedge c.args.image.now script r0.frames) steps t.before r0.shadows l → IsCarried g.S.Shadows.slots g.S.Shadows.noted g.S.Shadows.marked g.S.Shadows.asides g.S.Shadows.opened (wedge c.args.image.now script r0.frames) (steps ++ t ∷ []) t.after r1.shadows k in
-    subst (λ (k : List ℕ). now (g.H.Host.bytes c.args.host.now) k) (new_memory g c) (subst (λ (l : List ℕ). now l c.begin_native.new.ram) (old_memory g c) (rw c.in-Went.is at c.in_ok-seen.ensures.carried))
+    subst (λ (k : List ℕ). now (g.H.Host.bytes c.args.host.now) k) (new_memory g c) (subst (λ (l : List ℕ). now l c.begin_native.new.ram) (old_memory g c) (rw c.in-Stepped.is at c.in_ok-seen.ensures.carried))
 
-pub returns-in-Went-clause-clashed : goal.returns-in-Went-clause-clashed
-returns-in-Went-clause-clashed g c = λ lost room script b cpu ram set board.
+pub returns-in-Stepped-clause-clashed : goal.returns-in-Stepped-clause-clashed
+returns-in-Stepped-clause-clashed g c = λ lost room script b cpu ram set board.
     clashes_by (wedge c.args.image.now script c.args.running.now.frames) b c.args.running.now.cpu c.args.running.now.board c.args.image.now cpu board (sym c.may_run.ensures ∙ c.if-not-may_run.false)
     (c.in_ok-seen.ensures.clashed lost (subst (λ (l : List ℕ). 8 ≤ length (free_list c.args.pool.now l)) (sym (old_memory g c)) room) script b cpu (subst (λ (l : List ℕ). b.ram ≡ shown (ground c.args.image.now c.args.running.now.frames) l) (sym (old_memory g c)) ram)
     (subst (λ (l : List ℕ). b.set ≡ set_of g.S.Shadows.stands g.S.Shadows.frames g.S.Shadows.slots c.args.running.now l) (sym (old_memory g c)) set))
@@ -415,7 +415,7 @@ returns-in-Asked-clause-few g c =
     let few = once_few g.S.Shadows.stands g.S.Shadows.frames g.S.Shadows.slots g.S.Shadows.directory _ _ _ _ _ _ _ _ _ _ _ (once g c.before) in
     omega (arith, few)
 
-pub returns-in-Went-clause-few : goal.returns-in-Went-clause-few
-returns-in-Went-clause-few g c =
+pub returns-in-Stepped-clause-few : goal.returns-in-Stepped-clause-few
+returns-in-Stepped-clause-few g c =
     let same = g.met.H.Host.retired_stays c.args.host.now c.begin_native.new.ram in
     omega (arith, same)

@@ -1,0 +1,37 @@
+//! A halted processor that waits.
+
+ghost use Rattle.std.specs.Prelude.{◌≡◌, ◌-◌, ◌≤◌, ◌<◌, true, false, None};
+ghost use Rattle.board.specs.Boards.{comes_within};
+ghost use Rattle.board.specs.Scripts.{is_script};
+ghost use Rattle.machine_model.specs.Step.{interrupt_of};
+
+use crate::stepping::interrupt;
+use board::{Board, Script};
+use descriptors::Cpu;
+
+/// The processor is halted, and no interrupt that is pending can end that.
+pub fn is_resting(cpu: &Cpu, board: &Board) -> bool
+    ensures rests { result ≡ true → (cpu.now.halted ≡ true) × (cpu.now.held ≡ false) × (interrupt_of cpu.now board.now ≡ None) }
+    ensures awake { cpu.now.halted ≡ true → cpu.now.held ≡ false → interrupt_of cpu.now board.now ≡ None → result ≡ true }
+{
+    if !cpu.halted {
+        return false;
+    }
+    if cpu.held {
+        return false;
+    }
+    interrupt(cpu, board).is_none()
+}
+
+/// How many steps, up to a number, pass before an edge or an event can come. The events of the step before were given.
+pub fn quiet_steps(board: &Board, script: &Script, step: u64, most: u64) -> u64
+    requires script { is_script script.now.list ≡ true }
+    requires begun { 0 < step }
+    ensures most { result ≤ most }
+    ensures quiet { 0 < result → comes_within board.now script.now.list (step - 1) result ≡ false }
+{
+    match board.next_event(script, step - 1) {
+        None => most,
+        Some(next) => most.min(next.saturating_sub(1)),
+    }
+}
