@@ -7,7 +7,7 @@ ghost use Rattle.elf_form.specs.Tables.{entries, first};
 ghost use Rattle.elf_form.specs.Header.{cut, part_of, header_passes, section_passes, passes, IsWhole};
 ghost use Rattle.elf_form.specs.Header.{magic, class, encoding, version, file_type, machine};
 
-use crate::words::{byte, half, word};
+use guest_ram::{byte, half, word};
 
 /// The lower place.
 pub fn lower(a: Option<usize>, b: Option<usize>) -> Option<usize>

@@ -8,7 +8,7 @@ ghost use Rattle.elf_form.specs.Roles.{is_misaligned, misaligned, joined_fault, 
 use crate::output::{page_pad, put_zeros};
 use crate::roles::{Role, has_role, is_misaligned, up};
 use crate::sections::contents;
-use crate::words::{half, word};
+use guest_ram::{half, word};
 use std::alloc::{AllocError, Global};
 
 /// The alignment of the first section that is joined and has a bad one.

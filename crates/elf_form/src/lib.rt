@@ -21,7 +21,6 @@ mod segments;
 mod strings;
 mod symbol_walks;
 mod symbols;
-mod words;
 
 pub use cause::{ElfCause, ElfFault};
 pub use image::Image;

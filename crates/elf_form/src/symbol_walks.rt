@@ -8,7 +8,7 @@ ghost use Rattle.elf_form.specs.Header.{IsWhole, IsSection};
 ghost use Rattle.elf_form.specs.Symbols.{sections_fault, symbols_fault};
 
 use crate::symbols::{SectionTest, SymbolTest, Table, section_test, symbol_test};
-use crate::words::{half, word};
+use guest_ram::{half, word};
 
 /// The first place that a test of the sections gives.
 pub fn sections_fault(test: SectionTest, table: Table, names: &[u8], bytes: &[u8]) -> Option<usize>

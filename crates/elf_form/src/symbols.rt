@@ -11,7 +11,7 @@ use crate::object::DefinedIn;
 use crate::roles::{Role, has_role, is_kept, role_number, section_role};
 use crate::sections::{contents, from, is_index};
 use crate::segments::Found;
-use crate::words::{byte, half, word};
+use guest_ram::{byte, half, word};
 
 /// The symbol table: its section, where its entries begin, and how many it has with the null one
 /// (0 where there is no table).

@@ -1,7 +1,6 @@
 //! Fields that are filled with addresses and distances.
 
 ghost use Rattle.std.specs.Prelude.{◌≡◌, ◌+◌, ◌≤◌, ◌<◌, length, IsTrue, slice_get, IfOk};
-ghost use Rattle.guest_ram.specs.Bytes.{word32, with_word32};
 ghost use Rattle.elf_form.specs.ObjectLayout.{is_of};
 ghost use Rattle.elf_link.specs.Layout.{or_zero};
 ghost use Rattle.elf_link.specs.Symbols.{is_text, address};
@@ -14,6 +13,7 @@ use crate::fault::LinkCause;
 use crate::globals::{Globals, copy_of, name_of, target_of};
 use crate::target::Target;
 use elf_form::{DefinedIn, Object, Reloc, Symbol};
+use guest_ram::{put_word, word};
 use std::alloc::{AllocError, Global};
 
 /// What the objects' names and parts stand for.
@@ -136,21 +136,6 @@ fn field_at(base: Base, reloc: Reloc) -> u32
 {
     let part = if reloc.in_text { base.text } else { base.init };
     part.wrapping_add(reloc.at)
-}
-
-fn word(bytes: &[u8], at: usize) -> u32
-    requires { at + 4 ≤ length bytes.now }
-    ensures { result ≡ word32 bytes.now at }
-{
-    let part = &bytes[at..at + 4];
-    u32::from_le_bytes([part[0], part[1], part[2], part[3]])
-}
-
-fn put_word(bytes: &mut [u8], at: usize, word: u32)
-    requires { at + 4 ≤ length bytes.old }
-    ensures { bytes.new ≡ with_word32 bytes.old at word }
-{
-    bytes[at..at + 4].copy_from_slice(&word.to_le_bytes());
 }
 
 /// Fills the field of a relocation, if it is in this part.

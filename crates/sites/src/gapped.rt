@@ -9,7 +9,8 @@ ghost use Rattle.sites.specs.Gapped as spec;
 use crate::kind::{kind_numbered, number};
 use crate::reading::{has_no_kind, head_fault};
 use crate::site::{Site, Sites, SitesFault};
-use crate::words::{byte, byte_or_zero, word};
+use crate::words::byte_or_zero;
+use guest_ram::{byte, word};
 use ia32_types::SiteKind;
 use std::alloc::{AllocError, Global};
 

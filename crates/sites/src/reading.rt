@@ -10,7 +10,8 @@ ghost use Rattle.sites.specs.Formats.{told_format, told_count, sites_in};
 use crate::gapped::gapped_in;
 use crate::kind::kind_numbered;
 use crate::site::{Site, Sites, SitesFault};
-use crate::words::{byte, byte_or_zero, word};
+use crate::words::byte_or_zero;
+use guest_ram::{byte, word};
 use ia32_types::SiteKind;
 use std::alloc::Global;
 
