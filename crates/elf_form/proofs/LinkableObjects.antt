@@ -1,6 +1,7 @@
 -- Each object that is read can be linked: its relocations name symbols of its list, and their fields lie in their sections.
 use Rattle.std.proofs.Common.{Result, Ok, Err, IfOk, ◌≡◌, ◌⊎◌, inl, inr, ℕ, zero, suc, ◌+◌, ◌-◌, ◌*◌, ◌/◌, ◌%◌, ◌^◌, ◌<◌, ◌≤◌, Bool, true, false, ◌&&◌, ◌||◌, not, cond, nat_lt, List, [], ◌∷◌, length, map, get_or, replicate, Option, Some, None, refl, sym, ap, subst, ◌∙◌, arith, length-append}
 use Rattle.std.specs.Prelude.{filter, ◌==◌}
+use Rattle.std.specs.Bool.{then_some}
 use Rattle.std.specs.List.{flat_map}
 use Rattle.std.proofs.lemmas.Bool.Decides.{nat_tests}
 use Rattle.std.proofs.lemmas.List.{length-map, length-replicate}
@@ -18,7 +19,7 @@ use Rattle.elf_form.specs.declared.symbols.Entry.{Entry}
 use Rattle.elf_form.specs.declared.symbols.RelocTest.TheVariants.{Named, Form}
 use Rattle.elf_form.specs.declared.symbols.Table.{Table}
 use Rattle.elf_form.specs.ObjectParts.{ObjectParts}
-use Rattle.guest_ram.specs.Places.{◌or_else◌, bad}
+use Rattle.guest_ram.specs.Places.{◌or_else◌}
 use Rattle.elf_form.specs.Tables.{entries, found}
 use Rattle.elf_form.specs.Header.{header_table, section_table, section_count, sections, passes, has_contents, part_of, header_cut, header_table_cut, section_table_cut, header_part_cut, section_part_cut, cut, IsSection, IsWhole}
 use Rattle.elf_form.specs.Sections.{contents, is_index, names, is_null, is_sites}
@@ -65,10 +66,10 @@ number_in names bytes [] n i lt is = absurd (omega arith)
 number_in names bytes (y ∷ ys) n zero lt is = listed_first (is_listed names bytes y) n y (filter (is_listed names bytes) ys) is
 number_in names bytes (y ∷ ys) n (suc i) lt is = number_on (is_listed names bytes y) names bytes ys n y i (λ m. number_in names bytes ys m i (omega arith) is)
 
-listed_by : (file binding place : Bool) (y : ℕ) → file ≡ false → cond file None (bad (not binding) (y + 12) or_else bad (not place) (y + 14)) ≡ None → (not file && binding && place) ≡ true
+listed_by : (file binding place : Bool) (y : ℕ) → file ≡ false → cond file None (then_some (not binding) (y + 12) or_else then_some (not place) (y + 14)) ≡ None → (not file && binding && place) ≡ true
 listed_by true binding place y is h = cc
 listed_by false binding place y is h =
-    let both = else_none (bad (not binding) (y + 12)) (bad (not place) (y + 14)) h in
+    let both = else_none (then_some (not binding) (y + 12)) (then_some (not place) (y + 14)) h in
     let has_binding = not_false binding (bad_none (not binding) (y + 12) both.0) in
     let has_place = not_false place (bad_none (not place) (y + 14) both.1) in
     rw (has_binding, has_place) refl
@@ -314,7 +315,7 @@ IsTested table ns bytes e = (named_fault table ns bytes e.at ≡ None) × (form_
 symbol_in_list : (table : Table) (ns bytes : List ℕ) (e : Entry) → IsTested table ns bytes e
     → get_or (numbers ns bytes 0 (symbols_of table)) (number_of bytes e.at - 1) 0 < length (filter (is_listed ns bytes) (symbols_of table))
 symbol_in_list table ns bytes e tested =
-    let form = else_none (bad (is_outside ns bytes e) e.at) _ tested.1 in
+    let form = else_none (then_some (is_outside ns bytes e) e.at) _ tested.1 in
     let kinds = or_false (not (has_kind bytes e.at)) (names_none table bytes e.at) (bad_none _ (e.at + 4) form.1) in
     let has = has_names (has_symbol table bytes e.at) (is_file bytes (symbol_of table bytes e.at)) kinds.1 in
     let fault = when_true (has_symbol table bytes e.at) (symbol_fault ns bytes (symbol_of table bytes e.at)) has.0 tested.0 in
@@ -336,7 +337,7 @@ section_there : (table : Table) (ns bytes : List ℕ) (e : Entry) → form_fault
     → (nat_lt (target bytes e.section) (section_count bytes) ≡ true) × (word32 bytes e.at + 4 ≤ size bytes (section_of bytes (target bytes e.section)))
 unfolding size_at
 section_there table ns bytes e h =
-    let form = else_none (bad (is_outside ns bytes e) e.at) _ h in
+    let form = else_none (then_some (is_outside ns bytes e) e.at) _ h in
     let out = or_false (role_number (target_role ns bytes e.section) == 4) (nat_lt (size_at bytes (target bytes e.section)) (word32 bytes e.at + 4)) (bad_none (is_outside ns bytes e) e.at form.0) in
     size_on (nat_lt (target bytes e.section) (section_count bytes)) (size bytes (section_of bytes (target bytes e.section))) (word32 bytes e.at)
     (not_below (size_at bytes (target bytes e.section)) (word32 bytes e.at + 4) out.1)

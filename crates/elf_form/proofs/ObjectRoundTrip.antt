@@ -1,6 +1,7 @@
 -- A written object is read again.
 use Rattle.std.proofs.Common.{◌≡◌, ℕ, ◌+◌, ◌*◌, ◌-◌, ◌/◌, ◌%◌, ◌<◌, ◌≤◌, ◌^◌, Bool, true, false, cond, eqb, ltb, not, List, [], ◌++◌, length, get_or, map, Option, None, Ok, refl, ◌∙◌, subst, arith}
 use Rattle.std.specs.Prelude.{◌||◌, filter}
+use Rattle.std.specs.Bool.{then_some}
 use Rattle.std.proofs.lemmas.Bool.{le-ltb, lt-ltb}
 use Rattle.guest_ram.specs.Bytes.{word32}
 use Rattle.elf_form.specs.declared.object.DefinedIn.TheVariants as place
@@ -11,7 +12,6 @@ use Rattle.elf_form.specs.declared.symbols.SymbolTest.TheVariants.{Names, Global
 use Rattle.elf_form.specs.declared.symbols.RelocTest.{RelocTest}
 use Rattle.elf_form.specs.declared.symbols.RelocTest.TheVariants.{Named, Form}
 use Rattle.elf_form.specs.ObjectParts.{ObjectParts}
-use Rattle.guest_ram.specs.Places.{bad}
 use Rattle.elf_form.specs.Tables.{entries, found}
 use Rattle.elf_form.specs.Roles.{role_number}
 use Rattle.elf_form.specs.Symbols.{is_file, symbols_of, has_binding, has_place, is_listed, symbol_fault, global_fault, target, target_role, entry, number_of, has_symbol, symbol_of, size_at, named_fault, form_fault, is_unnamed, symbols_fault, reloc_test, relocs_fault, relocs_of, start_at, symbol_at, symbols_in, numbers, reloc_at}
@@ -56,7 +56,7 @@ relative_read : (b : Bool) → eqb (cond b 2 1) 2 ≡ b
 relative_read true = refl
 relative_read false = refl
 
-either_kind : (b : Bool) (at : ℕ) → bad (not (eqb (cond b 2 1) 1 || eqb (cond b 2 1) 2) || false) at ≡ None
+either_kind : (b : Bool) (at : ℕ) → then_some (not (eqb (cond b 2 1) 1 || eqb (cond b 2 1) 2) || false) at ≡ None
 either_kind true at = refl
 either_kind false at = refl
 

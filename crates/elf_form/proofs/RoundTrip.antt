@@ -1,12 +1,13 @@
 -- What is written is read again.
 use Rattle.std.proofs.Common.{◌≡◌, ℕ, ◌+◌, ◌*◌, ◌-◌, ◌≤◌, Bool, true, false, eqb, ltb, List, [], ◌∷◌, length, Option, None, Ok, refl, sym, ap, ◌∙◌, arith, eq-eqb}
 use Rattle.std.specs.Prelude.{filter}
+use Rattle.std.specs.Bool.{then_some}
 use Rattle.std.proofs.lemmas.Bool.{cond-true, cond-false, le-ltb}
 use Rattle.guest_ram.specs.Bytes.{part, word32}
 use Rattle.elf_form.specs.declared.segments.Found.TheVariants.{One, Two}
 use Rattle.elf_form.specs.ImageParts.{ImageParts}
 use Rattle.elf_form.specs.Faults.{◌or_lower◌}
-use Rattle.guest_ram.specs.Places.{◌or_else◌, bad}
+use Rattle.guest_ram.specs.Places.{◌or_else◌}
 use Rattle.elf_form.specs.Tables.{entries, first, found}
 use Rattle.elf_form.specs.Header.{headers, sections, passes, header_passes, section_passes, header_table, section_table, header_count, section_count, part_of, header_cut, header_table_cut, section_table_cut, header_part_cut, section_part_cut, cut}
 use Rattle.elf_form.specs.Segments.{is_load, loads, memory_sizes, sizes, order}
@@ -92,7 +93,7 @@ neither_first a b e g = rw (e, g) refl
 pub neither_lower : (a b : Option ℕ) → a ≡ None → b ≡ None → (a or_lower b) ≡ None
 neither_lower a b e g = rw (e, g) refl
 
-pub is_good : (is_bad : Bool) (at : ℕ) → is_bad ≡ false → bad is_bad at ≡ None
+pub is_good : (is_bad : Bool) (at : ℕ) → is_bad ≡ false → then_some is_bad at ≡ None
 is_good is_bad at e = rw e refl
 
 null_stays : (f : List ℕ) (s n g o z : ℕ) → IsRow f s n 0 g o z → section_passes f s ≡ false

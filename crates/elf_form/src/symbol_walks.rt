@@ -3,7 +3,6 @@
 ghost use Rattle.std.specs.Prelude.{◌≡◌, ◌≤◌, ◌<◌, ◌+◌, ◌*◌, ◌^◌, ◌++◌, length, All, OnOk, IfOk, IfSome};
 ghost use Rattle.guest_ram.specs.Bytes.{word16, word32};
 ghost use Rattle.elf_form.specs.Faults.{◌or_lower◌};
-ghost use Rattle.guest_ram.specs.Places.{◌or_else◌};
 ghost use Rattle.elf_form.specs.Header.{IsWhole, IsSection};
 ghost use Rattle.elf_form.specs.Symbols.{sections_fault, symbols_fault};
 

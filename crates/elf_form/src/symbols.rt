@@ -4,7 +4,6 @@ ghost use Rattle.std.specs.Prelude.{◌≡◌, ◌≤◌, ◌<◌, ◌+◌, ◌*
 ghost use Rattle.guest_ram.specs.Bytes.{word16, word32};
 ghost use Rattle.elf_form.specs.Tables.{AllFound};
 ghost use Rattle.elf_form.specs.Header.{IsWhole, IsSection, section_table, section_count};
-ghost use Rattle.guest_ram.specs.Places.{◌or_else◌};
 ghost use Rattle.elf_form.specs.Symbols.{target_role, table_at, is_file, has_binding, has_place, is_listed, place_by, role_at, symbol_fault, global_fault, is_reloc_section, is_reloc_section_of, entries_fault, is_linked, section_test, is_unnamed, symbol_test, has_symbol, size_at, number_of, IsEntry, is_outside, has_kind, names_none, named_fault, form_fault, reloc_test};
 
 use crate::object::DefinedIn;
@@ -48,16 +47,6 @@ pub enum SymbolTest {
 pub enum RelocTest {
     Named,
     Form,
-}
-
-/// The first place.
-pub fn first_of_two(a: Option<usize>, b: Option<usize>) -> Option<usize>
-    ensures { result ≡ a or_else b }
-{
-    match a {
-        Some(at) => Some(at),
-        None => b,
-    }
 }
 
 pub fn table_at(bytes: &[u8], found: Found) -> Table

@@ -3,7 +3,6 @@
 ghost use Rattle.std.specs.Prelude.{◌≡◌, ◌<◌, ◌≤◌, ◌+◌, ◌^◌, ◌++◌, IsTrue, length, IfNone, IfSome, OnOk, IfOk};
 ghost use Rattle.sites.specs.Spelling.{gap, gapped, AreGapped};
 ghost use Rattle.sites.specs.Reading.{cut_before, Gives};
-ghost use Rattle.guest_ram.specs.Places.{◌or_else◌, bad};
 ghost use Rattle.sites.specs.Gapped as spec;
 
 use crate::kind::{kind_numbered, number};
