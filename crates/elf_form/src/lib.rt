@@ -32,4 +32,5 @@ pub use laws::{
 pub use object::{Bytes, DefinedIn, Object, Reloc, Symbol};
 pub use object_reading::read_object;
 pub use object_writing::write_object;
+pub use output::pad;
 pub use reading::read_image;
