@@ -14,7 +14,7 @@ use Rattle.elf_form.specs.declared.symbols.RelocTest.TheVariants.{Named, Form}
 use Rattle.elf_form.specs.ObjectParts.{ObjectParts}
 use Rattle.elf_form.specs.Tables.{entries, found}
 use Rattle.elf_form.specs.Roles.{role_number}
-use Rattle.elf_form.specs.Symbols.{is_file, symbols_of, has_binding, has_place, is_listed, symbol_fault, global_fault, target, target_role, entry, number_of, has_symbol, symbol_of, size_at, named_fault, form_fault, is_unnamed, symbols_fault, reloc_test, relocs_fault, relocs_of, start_at, symbol_at, symbols_in, numbers, reloc_at}
+use Rattle.elf_form.specs.Symbols.{is_file, symbols_of, has_binding, has_place, is_listed, symbol_fault, global_fault, target, target_role, entry, named_symbol, has_symbol, symbol_of, size_at, named_fault, form_fault, is_unnamed, symbols_fault, reloc_test, relocs_fault, relocs_of, start_at, symbol_at, symbols_in, numbers, reloc_at}
 use Rattle.elf_form.specs.ObjectReading.{table_of, strings_of, string_places, kept_relocs, symbol_form, reloc_form, object_at, late_tests, middle_tests, early_tests, object_in}
 use Rattle.elf_form.specs.ObjectLayout.{layout, names_of, strings_of as names_table, is_of, place_number, object_names, object_bytes, IsWholeObject, HasValues}
 use Rattle.elf_form.proofs.RoundTrip.{neither_lower}
@@ -158,7 +158,7 @@ module _ (f : List ℕ) (o : ObjectParts) (is : IsFileOf f o) (has : HasRoles f 
   }
 
   module _ (s : ℕ) (in_text : Bool) (size : ℕ) (to : IsTarget s in_text size) (small : size < 2 ^ 31) (y : ℕ) (r : Reloc) (at : IsRelocAt in_text size (length o.symbols) f y r) where
-    number-is : number_of f y ≡ r.symbol + 1
+    number-is : named_symbol f y ≡ r.symbol + 1
     number-is = rw at.info (number_there r.symbol r.relative)
 
     kind-is : word32 f (y + 4) % 256 ≡ cond r.relative 2 1

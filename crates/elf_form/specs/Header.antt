@@ -41,9 +41,9 @@ abbrev pub section_passes : List ℕ → ℕ → Bool
 section_passes bytes s = has_contents bytes s && passes bytes (word32 bytes (s + 16)) (word32 bytes (s + 20))
 
 -- where the part begins that an entry names
-abbrev pub part_of : List ℕ → ℕ → Option ℕ → Option ℕ
-part_of bytes field None = None
-part_of bytes field (Some entry) = Some (word32 bytes (entry + field))
+abbrev pub part_begins : List ℕ → ℕ → Option ℕ → Option ℕ
+part_begins bytes field None = None
+part_begins bytes field (Some entry) = Some (word32 bytes (entry + field))
 
 abbrev pub header_cut : List ℕ → Option ℕ
 header_cut bytes = then_some (passes bytes 0 52) 0
@@ -55,10 +55,10 @@ abbrev pub section_table_cut : List ℕ → Option ℕ
 section_table_cut bytes = then_some (passes bytes (section_table bytes) (40 * section_count bytes)) (section_table bytes)
 
 abbrev pub header_part_cut : List ℕ → Option ℕ
-header_part_cut bytes = part_of bytes 4 (first (header_passes bytes) (headers bytes))
+header_part_cut bytes = part_begins bytes 4 (first (header_passes bytes) (headers bytes))
 
 abbrev pub section_part_cut : List ℕ → Option ℕ
-section_part_cut bytes = part_of bytes 16 (first (section_passes bytes) (sections bytes))
+section_part_cut bytes = part_begins bytes 16 (first (section_passes bytes) (sections bytes))
 
 -- The first part that passes the end: the header, the tables, what the program headers name, the contents of sections.
 unfoldable pub cut : List ℕ → Option ℕ

@@ -148,14 +148,14 @@ unfoldable pub symbols_fault : SymbolTest → Table → List ℕ → List ℕ �
 symbols_fault test table strings names bytes = first_some (symbol_test test strings names bytes) (symbols_of table)
 
 -- the number of the symbol that a relocation names; whether the table has it, behind the null one
-abbrev pub number_of : List ℕ → ℕ → ℕ
-number_of bytes y = word32 bytes (y + 4) / 256
+abbrev pub named_symbol : List ℕ → ℕ → ℕ
+named_symbol bytes y = word32 bytes (y + 4) / 256
 
 abbrev pub has_symbol : Table → List ℕ → ℕ → Bool
-has_symbol table bytes y = not (number_of bytes y == 0) && nat_lt (number_of bytes y) table.count
+has_symbol table bytes y = not (named_symbol bytes y == 0) && nat_lt (named_symbol bytes y) table.count
 
 abbrev pub symbol_of : Table → List ℕ → ℕ → ℕ
-symbol_of table bytes y = table.at + 16 * number_of bytes y
+symbol_of table bytes y = table.at + 16 * named_symbol bytes y
 
 unfoldable pub size_at : List ℕ → ℕ → ℕ
 size_at bytes index = if nat_lt index (section_count bytes) then size bytes (section_of bytes index) else 0
@@ -220,7 +220,7 @@ unfoldable pub reloc_at : List ℕ → List ℕ → List ℕ → Entry → Reloc
 reloc_at numbers names bytes e = record {
   in_text = role_number (target_role names bytes e.section) == 2;
   at = (start_at names bytes (target bytes e.section) + word32 bytes e.at) % 2 ^ 32;
-  symbol = slice_index numbers (number_of bytes e.at - 1);
+  symbol = slice_index numbers (named_symbol bytes e.at - 1);
   relative = word32 bytes (e.at + 4) % 256 == 2;
 }
 

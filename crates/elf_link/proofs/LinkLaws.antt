@@ -19,7 +19,7 @@ use Rattle.elf_link.specs.declared.fault.LinkFault.TheVariants as faults
 use Rattle.elf_link.specs.Layout.{round_up, text_size, init_size, text_end, init_end, memory_end, numbered, bases}
 use Rattle.elf_link.specs.Symbols.{globals}
 use Rattle.elf_form.specs.Linkable.{IsLinkable}
-use Rattle.elf_link.specs.Relocations.{part_of, with_fields}
+use Rattle.elf_link.specs.Relocations.{contents_of, with_fields}
 use Rattle.elf_link.specs.Sites.{linked_sites}
 use Rattle.elf_link.specs.Refusals.{Refused, first, refusal, object_refusal, relocs_refusal, start_refusal, start}
 use Rattle.elf_link.specs.Linked.{padded, texts, inits, linked_text, linked_init, image, unless, linked_image, entry_at}
@@ -79,7 +79,7 @@ image_is os text init sites bss entry p q r s t = λ j. record { text = sym p j;
 
 -- ---- sizes
 
-pub length-joined : (os : List ObjectParts) (k fill : ℕ) (in_text : Bool) (size : ObjectParts → ℕ) → ((o : ObjectParts) → length (part_of in_text o) ≡ size o) → (bs : List Base) (gs : List (List ℕ × Target)) (n : ℕ) → All IsLinkable os → length (flat_map (λ p. padded k fill (with_fields bs gs p in_text)) (enumerate_from n os)) ≡ sum_by (λ o. round_up k (size o)) os
+pub length-joined : (os : List ObjectParts) (k fill : ℕ) (in_text : Bool) (size : ObjectParts → ℕ) → ((o : ObjectParts) → length (contents_of in_text o) ≡ size o) → (bs : List Base) (gs : List (List ℕ × Target)) (n : ℕ) → All IsLinkable os → length (flat_map (λ p. padded k fill (with_fields bs gs p in_text)) (enumerate_from n os)) ≡ sum_by (λ o. round_up k (size o)) os
 length-joined [] k fill in_text size is bs gs n all = refl
 length-joined (o ∷ os) k fill in_text size is bs gs n all =
     let here : length (with_fields bs gs (n, o) in_text) ≡ size o = length-with_fields bs gs (n, o) in_text (all 0 o (omega arith)) ∙ is o in

@@ -5,7 +5,7 @@ ghost use Rattle.elf_form.specs.ObjectLayout.{is_of};
 ghost use Rattle.elf_link.specs.Layout.{or_zero};
 ghost use Rattle.elf_link.specs.Symbols.{is_text, address};
 ghost use Rattle.elf_form.specs.Linkable.{IsLinkable};
-ghost use Rattle.elf_link.specs.Relocations.{target_by, reloc_cause, field_at, address_by, sum_of, relocated, filled, part_of, with_fields};
+ghost use Rattle.elf_link.specs.Relocations.{target_by, reloc_cause, field_at, address_by, sum_of, relocated, filled, contents_of, with_fields};
 ghost use Rattle.elf_link.specs.Refusals.{first};
 
 use crate::base::Base;
@@ -118,7 +118,7 @@ fn sum_of(relative: bool, symbol: u32, addend: u32, place: u32) -> u32
 }
 
 /// The linear address of what a relocation names.
-fn address_of(plan: &Plan, number: u32, object: &Object, reloc: Reloc) -> u32
+fn named_address(plan: &Plan, number: u32, object: &Object, reloc: Reloc) -> u32
     ensures { result ≡ address_by plan.now.bases.items (target_by plan.now.globals number (slice_get object.now.symbols reloc.symbol)) }
 {
     match object.symbols.get(reloc.symbol as usize) {
@@ -148,7 +148,7 @@ fn fill(plan: &Plan, number: u32, object: &Object, in_text: bool, reloc: Reloc, 
         return;
     }
     let at = reloc.at as usize;
-    let symbol = address_of(plan, number, object, reloc);
+    let symbol = named_address(plan, number, object, reloc);
     let place = field_at(base_of(&plan.bases, number), reloc);
     let sum = sum_of(reloc.relative, symbol, word(bytes, at), place);
     put_word(bytes, at, sum);
