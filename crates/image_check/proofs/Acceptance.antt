@@ -11,7 +11,7 @@ use Rattle.ia32_types.specs.declared.site.SiteKind.TheVariants.{Cli, Sti, StiHlt
 use Rattle.ia32_types.specs.Site.{sensitive_kind}
 use Rattle.ia32_rows.specs.Spells.{AreBytes}
 use Rattle.elf_form.specs.ImageParts.{ImageParts}
-use Rattle.elf_form.specs.Faults.{Fault}
+use Rattle.elf_form.specs.Faults.{Fault, ◌or_lower◌}
 use Rattle.elf_form.specs.Reading.{image_in}
 use Rattle.elf_form.specs.Accepted.{ImageAs}
 use Rattle.elf_form.proofs.Acceptance.{read_as, as_read}
@@ -29,7 +29,7 @@ use Rattle.image_check.specs.Pieces.{is_branch, is_nop, target_of, site_role, pi
 use Rattle.image_check.specs.TextSites.{is_same, differ, Found, found_in, unless_lacking, sites_of}
 use Rattle.image_check.specs.Targets.{is_inside, is_entrance, leads_wrong, wrong_target}
 use Rattle.image_check.specs.Refusals.{Refusal}
-use Rattle.image_check.specs.Conditions.{text_place, init_place, text_size, init_size, entry_place, last_at, ends_at, text_end, lower, site_wrong, entry_at, entry_start}
+use Rattle.image_check.specs.Conditions.{text_place, init_place, text_size, init_size, entry_place, last_at, ends_at, text_end, site_wrong, entry_at, entry_start}
 use Rattle.image_check.specs.Checking.{as_form, placed, annotated, entered, image_with, image_from, image_of}
 use Rattle.image_check.specs.Accepts.{IsWithin, IsEntrance, IsAccepted, Accepts}
 use Rattle.image_check.proofs.FileLimits.{text_bytes}
@@ -118,10 +118,13 @@ unfolding differ
 differ-same [] = refl
 differ-same (s ∷ ss) = ap (λ b. cond b (differ ss ss) (Some (min s.at s.at))) (is_itself s) ∙ differ-same ss
 
-lower_none : (a b : Option ℕ) → lower a b ≡ None → (a ≡ None) × (b ≡ None)
+lower_none : (a b : Option ℕ) → (a or_lower b) ≡ None → (a ≡ None) × (b ≡ None)
 lower_none None b e = (refl, e)
 lower_none (Some a) None e = absurd cc
-lower_none (Some a) (Some b) e = absurd cc
+lower_none (Some a) (Some b) e = absurd (some_lower (nat_lt b a) e) where
+  some_lower : (c : Bool) → cond c (Some b) (Some a) ≡ None → ⊥
+  some_lower true h = cc
+  some_lower false h = cc
 
 all_found : (sites : List Site) (f : Found) → f.lacking ≡ None → sites ≡ f.sites → unless_lacking f.sites f.lacking ≡ Some sites
 all_found sites f none same = ap (unless_lacking f.sites) none ∙ ap (λ (ss : List Site). Some ss) (sym same)
@@ -141,7 +144,7 @@ were_found sites found (Some at) e = absurd cc
 pub sites_right : (sites : List Site) (ps : List Piece) → sites_of ps ≡ Some sites → site_wrong sites ps ≡ None
 sites_right sites ps e =
     let h = were_found sites (found_in ps).sites (found_in ps).lacking e in
-    ap (λ (a : Option ℕ). lower a (differ sites (found_in ps).sites)) h.0 ∙ ap (differ sites) h.1 ∙ differ-same sites
+    ap (λ (a : Option ℕ). a or_lower differ sites (found_in ps).sites) h.0 ∙ ap (differ sites) h.1 ∙ differ-same sites
 
 -- ---- where control comes in
 

@@ -1,6 +1,7 @@
 -- The conditions on an image, each with the first place at which it is broken.
-use Rattle.std.specs.Prelude.{ℕ, ◌+◌, ◌-◌, Bool, not, ◌&&◌, ◌||◌, List, length, slice_get, slice_index, Option, Some, None, nat_lt, min, ◌==◌}
+use Rattle.std.specs.Prelude.{ℕ, ◌+◌, ◌-◌, Bool, not, ◌&&◌, ◌||◌, List, length, slice_get, slice_index, Option, Some, None, nat_lt, ◌==◌}
 use Rattle.std.specs.Bool.{then_some}
+use Rattle.elf_form.specs.Faults.{◌or_lower◌}
 use Rattle.elf_form.specs.ImageParts.{ImageParts}
 use Rattle.sites.specs.declared.limits.TheConstants.{TEXT_LIMIT}
 use Rattle.sites.specs.declared.site.Site.{Site}
@@ -38,15 +39,9 @@ ends_at text at = at + 2 == length text && slice_index text at == 0xEB && slice_
 abbrev pub text_end : List ℕ → List Piece → Option ℕ
 text_end text ps = then_some (not (ends_at text (last_at ps))) (last_at ps)
 
--- the lower place
-abbrev pub lower : Option ℕ → Option ℕ → Option ℕ
-lower None b = b
-lower (Some a) None = Some a
-lower (Some a) (Some b) = Some (min a b)
-
 -- the lowest offset at which a sensitive instruction lacks its NOPs, or the annotations and the sites differ
 abbrev pub site_wrong : List Site → List Piece → Option ℕ
-site_wrong sites ps = lower (found_in ps).lacking (differ sites (found_in ps).sites)
+site_wrong sites ps = (found_in ps).lacking or_lower differ sites (found_in ps).sites
 
 -- the entry, as an offset in the text
 abbrev pub entry_at : ImageParts → ℕ
