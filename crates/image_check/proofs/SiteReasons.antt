@@ -30,16 +30,16 @@ join s ss = s ∷ ss
 differ_so : (a b : List Site) (at : ℕ) → differ a b ≡ Some at → FirstDiffer a b at
 unfolding differ
 differ_so [] [] at e = absurd cc
-differ_so [] (t ∷ ts) at e = record { both = []; left = []; right = t ∷ ts; first = refl; second = refl; differ = cc }
-differ_so (s ∷ ss) [] at e = record { both = []; left = s ∷ ss; right = []; first = refl; second = refl; differ = cc }
+differ_so [] (t ∷ ts) at e = record { both = []; rest_a = []; rest_b = t ∷ ts; first = refl; second = refl; differ = cc }
+differ_so (s ∷ ss) [] at e = record { both = []; rest_a = s ∷ ss; rest_b = []; first = refl; second = refl; differ = cc }
 differ_so (s ∷ ss) (t ∷ ts) at e =
     elim (true_or_false (is_same s t)) [
       | inl is ↦
           let more = differ_so ss ts at (sym (ap (λ b. cond b (differ ss ts) (Some (min s.at t.at))) is) ∙ e) in
-          record { both = s ∷ more.both; left = more.left; right = more.right; first = ap (join s) more.first; second = ap (λ (u : Site). u ∷ ts) (sym (same_site s t is)) ∙ ap (join s) more.second; differ = more.differ }
+          record { both = s ∷ more.both; rest_a = more.rest_a; rest_b = more.rest_b; first = ap (join s) more.first; second = ap (λ (u : Site). u ∷ ts) (sym (same_site s t is)) ∙ ap (join s) more.second; differ = more.differ }
       | inr differs ↦
           let e' : some (min s.at t.at) ≡ Some at = sym (ap (λ b. cond b (differ ss ts) (Some (min s.at t.at))) differs) ∙ e in
-          record { both = []; left = s ∷ ss; right = t ∷ ts; first = refl; second = refl; differ = (is_same_not s t differs, cc) }
+          record { both = []; rest_a = s ∷ ss; rest_b = t ∷ ts; first = refl; second = refl; differ = (is_same_not s t differs, cc) }
     ]
 
 next_so : (a b : List Site) (at : ℕ) → NextDiffer a b at → differ a b ≡ Some at
@@ -55,7 +55,7 @@ behind_both [] a b = refl
 behind_both (s ∷ ss) a b = ap (λ c. cond c (differ (ss ++ a) (ss ++ b)) (Some (min s.at s.at))) (is_itself s) ∙ behind_both ss a b
 
 so_differ : (a b : List Site) (at : ℕ) → FirstDiffer a b at → differ a b ≡ Some at
-so_differ a b at h = rw (h.first, h.second) (behind_both h.both h.left h.right ∙ next_so h.left h.right at h.differ)
+so_differ a b at h = rw (h.first, h.second) (behind_both h.both h.rest_a h.rest_b ∙ next_so h.rest_a h.rest_b at h.differ)
 
 lower_of : (a b : ℕ) → ((((some a) or_lower (some b)) ≡ some a) × (a ≤ b)) ⊎ ((((some a) or_lower (some b)) ≡ some b) × (b ≤ a))
 lower_of a b =

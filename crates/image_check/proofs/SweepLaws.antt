@@ -65,10 +65,10 @@ from_ok (suc n) at (b ∷ bytes) swept fit few e =
     let here = begun (b ∷ bytes) s.insn s.len fit is.1 in
     let some = begun_has_byte (b ∷ bytes) s.insn s.len here in
     let within = here.within in
-    let left = length-drop s.len (b ∷ bytes) in
-    let more = from_ok n (at + s.len) (drop s.len (b ∷ bytes)) rest.0 (AreBytes-drop s.len (b ∷ bytes) fit) (omega (arith, left)) rest.1 in
+    let fewer = length-drop s.len (b ∷ bytes) in
+    let more = from_ok n (at + s.len) (drop s.len (b ∷ bytes)) rest.0 (AreBytes-drop s.len (b ∷ bytes) fit) (omega (arith, fewer)) rest.1 in
     let whole : s ∷ rest.0 ≡ swept = cc rest.2 in
-    let end : (at + s.len) + length (drop s.len (b ∷ bytes)) ≡ at + length (b ∷ bytes) = omega (arith, left) in
+    let end : (at + s.len) + length (drop s.len (b ∷ bytes)) ≡ at + length (b ∷ bytes) = omega (arith, fewer) in
     subst (λ (ss : List Swept). SweepsTo at (b ∷ bytes) ss (at + length (b ∷ bytes)) []) whole
     (is.0, here, subst (λ to. SweepsTo (at + s.len) (drop s.len (b ∷ bytes)) rest.0 to []) end more)
 
@@ -78,15 +78,15 @@ not_empty b bytes e = cc
 -- where the sweep stops, from an offset on
 pub record StopsFrom (at : ℕ) (bytes : List ℕ) (to : ℕ) : Type 0 where
   pub swept : List Swept
-  pub left : List ℕ
-  pub reached : SweepsTo at bytes swept to left
-  pub some : left ≢ []
-  pub none : (insn : Insn) (n : ℕ) → Begins left insn n → ⊥
+  pub rest : List ℕ
+  pub reached : SweepsTo at bytes swept to rest
+  pub some : rest ≢ []
+  pub none : (insn : Insn) (n : ℕ) → Begins rest insn n → ⊥
 
 one_first : (at len to : ℕ) (bytes : List ℕ) (s : Swept) → s.at ≡ at → Begins bytes s.insn s.len → StopsFrom (at + s.len) (drop s.len bytes) to → StopsFrom at bytes to
 one_first at len to bytes s e here stops = record {
   swept = s ∷ stops.swept;
-  left = stops.left;
+  rest = stops.rest;
   reached = (e, here, stops.reached);
   some = stops.some;
   none = stops.none;
@@ -101,7 +101,7 @@ from_err (suc n) at to (b ∷ bytes) fit few e =
     elim (bind_err Swept (List Swept) (met at (decoded (b ∷ bytes))) _ to e) [
       | inl stops ↦
           let is = none_met at to (decoded (b ∷ bytes)) (b ∷ bytes) (answered (b ∷ bytes) fit) stops in
-          record { swept = []; left = b ∷ bytes; reached = (is.0, refl); some = not_empty b bytes; none = is.1 }
+          record { swept = []; rest = b ∷ bytes; reached = (is.0, refl); some = not_empty b bytes; none = is.1 }
       | inr goes ↦
           let s = goes.0 in
           let is = met_ok at (decoded (b ∷ bytes)) s goes.1 in
@@ -126,32 +126,32 @@ pub with_front : List Swept → Result (List Swept) ℕ → Result (List Swept) 
 with_front [] r = r
 with_front (s ∷ swept) r = with_front swept r >>= λ more. Ok (s ∷ more)
 
-pub record Leads (n at : ℕ) (bytes : List ℕ) (swept : List Swept) (to : ℕ) (left : List ℕ) : Type 0 where
+pub record Leads (n at : ℕ) (bytes : List ℕ) (swept : List Swept) (to : ℕ) (rest : List ℕ) : Type 0 where
   pub fuel : ℕ
-  pub enough : length left ≤ fuel
-  pub fits : AreBytes left
-  pub is : sweep_from n at bytes ≡ with_front swept (sweep_from fuel to left)
+  pub enough : length rest ≤ fuel
+  pub fits : AreBytes rest
+  pub is : sweep_from n at bytes ≡ with_front swept (sweep_from fuel to rest)
 
 step_is : (n at : ℕ) (bytes : List ℕ) (s : Swept) → 0 < length bytes → met at (decoded bytes) ≡ Ok s → sweep_from (suc n) at bytes ≡ (sweep_from n (at + s.len) (drop s.len bytes) >>= λ swept. Ok (s ∷ swept))
 unfolding sweep_from
 step_is n at [] s some e = absurd (omega arith)
 step_is n at (b ∷ bytes) s some e = rw e refl
 
-leads : (n at : ℕ) (bytes : List ℕ) (swept : List Swept) (to : ℕ) (left : List ℕ) → AreBytes bytes → length bytes ≤ n → SweepsTo at bytes swept to left → Leads n at bytes swept to left
+leads : (n at : ℕ) (bytes : List ℕ) (swept : List Swept) (to : ℕ) (rest : List ℕ) → AreBytes bytes → length bytes ≤ n → SweepsTo at bytes swept to rest → Leads n at bytes swept to rest
 unfolding with_front
-leads n at bytes [] to left fit few h = record {
+leads n at bytes [] to rest fit few h = record {
   fuel = n;
   enough = subst (λ (bs : List ℕ). length bs ≤ n) h.1 few;
   fits = subst AreBytes h.1 fit;
   is = ap (λ k. sweep_from n k bytes) h.0 ∙ ap (sweep_from n to) h.1;
 }
-leads n at bytes (s ∷ swept) to left fit few h =
+leads n at bytes (s ∷ swept) to rest fit few h =
     let some = begun_has_byte bytes s.insn s.len h.1 in
     let within = h.1.within in
     let m = n - 1 in
     let k : n ≡ suc m = omega arith in
     let e : met at (decoded bytes) ≡ Ok s = ap (met at) (answer_is bytes s.insn s.len fit h.1) ∙ met_is at s h.0 in
-    let later = leads m (at + s.len) (drop s.len bytes) swept to left (AreBytes-drop s.len bytes fit) (omega (arith, length-drop s.len bytes)) h.2 in
+    let later = leads m (at + s.len) (drop s.len bytes) swept to rest (AreBytes-drop s.len bytes fit) (omega (arith, length-drop s.len bytes)) h.2 in
     record {
       fuel = later.fuel;
       enough = later.enough;
@@ -197,6 +197,6 @@ sweep_exact text fit swept = (
 pub stop_exact : (text : List ℕ) → AreBytes text → (at : ℕ) → (sweep text ≡ Err at) ↔ SweepStops text at
 unfolding sweep
 stop_exact text fit at = (
-  (λ e. let s = from_err (length text) 0 at text fit (omega arith) e in record { swept = s.swept; left = s.left; reached = s.reached; some = s.some; none = s.none }),
-  (λ h. let l = leads (length text) 0 text h.swept at h.left fit (omega arith) h.reached in l.is ∙ ap (with_front h.swept) (stops l.fuel at h.left l.fits l.enough h.some h.none) ∙ front_err h.swept at),
+  (λ e. let s = from_err (length text) 0 at text fit (omega arith) e in record { swept = s.swept; rest = s.rest; reached = s.reached; some = s.some; none = s.none }),
+  (λ h. let l = leads (length text) 0 text h.swept at h.rest fit (omega arith) h.reached in l.is ∙ ap (with_front h.swept) (stops l.fuel at h.rest l.fits l.enough h.some h.none) ∙ front_err h.swept at),
 )

@@ -15,8 +15,8 @@ pub record Swept : Type 0 where
 -- The spellings of the instructions, joined in order, stand at the front of the bytes. They lead from one offset to
 -- another, and some bytes are left.
 abbrev pub SweepsTo : ℕ → List ℕ → List Swept → ℕ → List ℕ → Type 0
-SweepsTo from bytes [] to left = (from ≡ to) × (bytes ≡ left)
-SweepsTo from bytes (s ∷ swept) to left = (s.at ≡ from) × Begins bytes s.insn s.len × SweepsTo (from + s.len) (drop s.len bytes) swept to left
+SweepsTo from bytes [] to rest = (from ≡ to) × (bytes ≡ rest)
+SweepsTo from bytes (s ∷ swept) to rest = (s.at ≡ from) × Begins bytes s.insn s.len × SweepsTo (from + s.len) (drop s.len bytes) swept to rest
 
 -- The spellings of the instructions, joined in order, are the text.
 abbrev pub Sweep : List ℕ → List Swept → Type 0
@@ -25,10 +25,10 @@ Sweep text swept = SweepsTo 0 text swept (length text) []
 -- Behind some instructions no spelling begins the bytes that are left, although some are.
 pub record SweepStops (text : List ℕ) (at : ℕ) : Type 0 where
   pub swept : List Swept
-  pub left : List ℕ
-  pub reached : SweepsTo 0 text swept at left
-  pub some : left ≢ []
-  pub none : (insn : Insn) (n : ℕ) → Begins left insn n → ⊥
+  pub rest : List ℕ
+  pub reached : SweepsTo 0 text swept at rest
+  pub some : rest ≢ []
+  pub none : (insn : Insn) (n : ℕ) → Begins rest insn n → ⊥
 
 -- The same as a function: the instructions of the text, or the offset at which the sweep stops. Each has a byte, so
 -- there are no more of them than bytes.

@@ -25,10 +25,10 @@ fn is_refused(bytes: &[u8]) -> bool
     refused(bytes).is_some()
 }
 
-fn stop_cause(left: &[u8]) -> CheckCause
-    ensures { result ≡ stop_cause left.now }
+fn stop_cause(rest: &[u8]) -> CheckCause
+    ensures { result ≡ stop_cause rest.now }
 {
-    if is_refused(left) {
+    if is_refused(rest) {
         CheckCause::RefusedCode
     } else {
         CheckCause::BadCode
@@ -43,8 +43,8 @@ fn piece_at(text: &[u8], at: usize) -> Result<Piece, CheckFault>
     ensures room { IfOk result (λ p. (1 ≤ p.len) × (at + p.len ≤ length text.now)) }
     ensures place { IfOk result (λ p. p.at ≡ at) }
 {
-    let left = &text[at..];
-    match decode(left) {
+    let rest = &text[at..];
+    match decode(rest) {
         Decoded::Insn(insn, len) => {
             Ok(Piece {
                 at: at as u32,
@@ -55,7 +55,7 @@ fn piece_at(text: &[u8], at: usize) -> Result<Piece, CheckFault>
         Decoded::Short | Decoded::Outside => {
             Err(CheckFault::At {
                 at: at as u32,
-                cause: stop_cause(left),
+                cause: stop_cause(rest),
             })
         }
     }
