@@ -10,7 +10,7 @@ use Rattle.ia32_decode.specs.Answer.{Begins, Answers}
 use Rattle.ia32_decode.specs.Decoding.{decoded}
 use Rattle.ia32_decode.proofs.Exact.{answered}
 use Rattle.ia32_decode.proofs.Whole.{exactly_insn, begins_not_cut}
-use Rattle.image_check.specs.Sweep.{Swept, SweepsTo, Sweep, SweepStops, met, sweep_from, sweep, ◌>>=◌}
+use Rattle.image_check.specs.Sweep.{Swept, SweepsTo, Sweep, SweepStops, swept_at, sweep_from, sweep, ◌>>=◌}
 use Rattle.image_check.proofs.Begun.{begun_has_byte}
 
 pub AreBytes-drop : (n : ℕ) (bytes : List ℕ) → AreBytes bytes → AreBytes (drop n bytes)
@@ -26,17 +26,17 @@ bind_err : (A B : Type 0) (r : Result A ℕ) (f : A → Result B ℕ) (d : ℕ) 
 bind_err A B (Ok x) f d h = inr (x, refl, h)
 bind_err A B (Err c) f d h = inl cc
 
-met_ok : (at : ℕ) (d : Decoded) (s : Swept) → met at d ≡ Ok s → (s.at ≡ at) × (d ≡ answer.Insn s.insn s.len)
-met_ok at (answer.Insn insn n) s e =
+swept_ok : (at : ℕ) (d : Decoded) (s : Swept) → swept_at at d ≡ Ok s → (s.at ≡ at) × (d ≡ answer.Insn s.insn s.len)
+swept_ok at (answer.Insn insn n) s e =
     let same : record { at = at; len = n; insn = insn } ≡ s = cc in
     (sym (ap (λ (t : Swept). t.at) same), ap (λ (t : Swept). answer.Insn t.insn t.len) same)
-met_ok at answer.Short s e = absurd cc
-met_ok at answer.Outside s e = absurd cc
+swept_ok at answer.Short s e = absurd cc
+swept_ok at answer.Outside s e = absurd cc
 
-none_met : (at to : ℕ) (d : Decoded) (bytes : List ℕ) → Answers d bytes → met at d ≡ Err to → (at ≡ to) × ((insn : Insn) (n : ℕ) → Begins bytes insn n → ⊥)
-none_met at to (answer.Insn insn n) bytes h e = absurd cc
-none_met at to answer.Short bytes h e = (cc, λ insn n b. begins_not_cut bytes insn n b h)
-none_met at to answer.Outside bytes h e = (cc, h.not_begun)
+none_swept : (at to : ℕ) (d : Decoded) (bytes : List ℕ) → Answers d bytes → swept_at at d ≡ Err to → (at ≡ to) × ((insn : Insn) (n : ℕ) → Begins bytes insn n → ⊥)
+none_swept at to (answer.Insn insn n) bytes h e = absurd cc
+none_swept at to answer.Short bytes h e = (cc, λ insn n b. begins_not_cut bytes insn n b h)
+none_swept at to answer.Outside bytes h e = (cc, h.not_begun)
 
 begun : (bytes : List ℕ) (insn : Insn) (n : ℕ) → AreBytes bytes → decoded bytes ≡ answer.Insn insn n → Begins bytes insn n
 begun bytes insn n fit e = (exactly_insn (decoded bytes) bytes (answered bytes fit) insn n).0 e
@@ -58,10 +58,10 @@ from_ok zero at [] swept fit few e = ended at swept e
 from_ok zero at (b ∷ bytes) swept fit few e = absurd (omega arith)
 from_ok (suc n) at [] swept fit few e = ended at swept e
 from_ok (suc n) at (b ∷ bytes) swept fit few e =
-    let first = bind_ok Swept (List Swept) (met at (decoded (b ∷ bytes))) _ swept e in
+    let first = bind_ok Swept (List Swept) (swept_at at (decoded (b ∷ bytes))) _ swept e in
     let s = first.0 in
     let rest = bind_ok (List Swept) (List Swept) (sweep_from n (at + s.len) (drop s.len (b ∷ bytes))) _ swept first.2 in
-    let is = met_ok at (decoded (b ∷ bytes)) s first.1 in
+    let is = swept_ok at (decoded (b ∷ bytes)) s first.1 in
     let here = begun (b ∷ bytes) s.insn s.len fit is.1 in
     let some = begun_has_byte (b ∷ bytes) s.insn s.len here in
     let within = here.within in
@@ -98,13 +98,13 @@ from_err zero at to [] fit few e = absurd cc
 from_err zero at to (b ∷ bytes) fit few e = absurd (omega arith)
 from_err (suc n) at to [] fit few e = absurd cc
 from_err (suc n) at to (b ∷ bytes) fit few e =
-    elim (bind_err Swept (List Swept) (met at (decoded (b ∷ bytes))) _ to e) [
+    elim (bind_err Swept (List Swept) (swept_at at (decoded (b ∷ bytes))) _ to e) [
       | inl stops ↦
-          let is = none_met at to (decoded (b ∷ bytes)) (b ∷ bytes) (answered (b ∷ bytes) fit) stops in
+          let is = none_swept at to (decoded (b ∷ bytes)) (b ∷ bytes) (answered (b ∷ bytes) fit) stops in
           record { swept = []; rest = b ∷ bytes; reached = (is.0, refl); some = not_empty b bytes; none = is.1 }
       | inr goes ↦
           let s = goes.0 in
-          let is = met_ok at (decoded (b ∷ bytes)) s goes.1 in
+          let is = swept_ok at (decoded (b ∷ bytes)) s goes.1 in
           let here = begun (b ∷ bytes) s.insn s.len fit is.1 in
           let some = begun_has_byte (b ∷ bytes) s.insn s.len here in
           let within = here.within in
@@ -119,8 +119,8 @@ from_err (suc n) at to (b ∷ bytes) fit few e =
 abbrev one : Swept → Result Swept ℕ
 one s = Ok s
 
-met_is : (at : ℕ) (s : Swept) → s.at ≡ at → met at (answer.Insn s.insn s.len) ≡ Ok s
-met_is at s e = ap (λ k. one (record { at = k; len = s.len; insn = s.insn })) (sym e)
+swept_is : (at : ℕ) (s : Swept) → s.at ≡ at → swept_at at (answer.Insn s.insn s.len) ≡ Ok s
+swept_is at s e = ap (λ k. one (record { at = k; len = s.len; insn = s.insn })) (sym e)
 
 pub with_front : List Swept → Result (List Swept) ℕ → Result (List Swept) ℕ
 with_front [] r = r
@@ -132,7 +132,7 @@ pub record Leads (n at : ℕ) (bytes : List ℕ) (swept : List Swept) (to : ℕ)
   pub fits : AreBytes rest
   pub is : sweep_from n at bytes ≡ with_front swept (sweep_from fuel to rest)
 
-step_is : (n at : ℕ) (bytes : List ℕ) (s : Swept) → 0 < length bytes → met at (decoded bytes) ≡ Ok s → sweep_from (suc n) at bytes ≡ (sweep_from n (at + s.len) (drop s.len bytes) >>= λ swept. Ok (s ∷ swept))
+step_is : (n at : ℕ) (bytes : List ℕ) (s : Swept) → 0 < length bytes → swept_at at (decoded bytes) ≡ Ok s → sweep_from (suc n) at bytes ≡ (sweep_from n (at + s.len) (drop s.len bytes) >>= λ swept. Ok (s ∷ swept))
 unfolding sweep_from
 step_is n at [] s some e = absurd (omega arith)
 step_is n at (b ∷ bytes) s some e = rw e refl
@@ -150,7 +150,7 @@ leads n at bytes (s ∷ swept) to rest fit few h =
     let within = h.1.within in
     let m = n - 1 in
     let k : n ≡ suc m = omega arith in
-    let e : met at (decoded bytes) ≡ Ok s = ap (met at) (answer_is bytes s.insn s.len fit h.1) ∙ met_is at s h.0 in
+    let e : swept_at at (decoded bytes) ≡ Ok s = ap (swept_at at) (answer_is bytes s.insn s.len fit h.1) ∙ swept_is at s h.0 in
     let later = leads m (at + s.len) (drop s.len bytes) swept to rest (AreBytes-drop s.len bytes fit) (omega (arith, length-drop s.len bytes)) h.2 in
     record {
       fuel = later.fuel;
@@ -174,16 +174,16 @@ unfolding sweep_from
 ends zero at = refl
 ends (suc n) at = refl
 
-not_met : (at : ℕ) (d : Decoded) (bytes : List ℕ) → Answers d bytes → ((insn : Insn) (n : ℕ) → Begins bytes insn n → ⊥) → met at d ≡ Err at
-not_met at (answer.Insn insn n) bytes h none = absurd (none insn n h)
-not_met at answer.Short bytes h none = refl
-not_met at answer.Outside bytes h none = refl
+not_swept : (at : ℕ) (d : Decoded) (bytes : List ℕ) → Answers d bytes → ((insn : Insn) (n : ℕ) → Begins bytes insn n → ⊥) → swept_at at d ≡ Err at
+not_swept at (answer.Insn insn n) bytes h none = absurd (none insn n h)
+not_swept at answer.Short bytes h none = refl
+not_swept at answer.Outside bytes h none = refl
 
 stops : (n at : ℕ) (bytes : List ℕ) → AreBytes bytes → length bytes ≤ n → bytes ≢ [] → ((insn : Insn) (k : ℕ) → Begins bytes insn k → ⊥) → sweep_from n at bytes ≡ Err at
 unfolding sweep_from
 stops n at [] fit few some none = absurd (some refl)
 stops zero at (b ∷ bytes) fit few some none = absurd (omega arith)
-stops (suc n) at (b ∷ bytes) fit few some none = rw (not_met at (decoded (b ∷ bytes)) (b ∷ bytes) (answered (b ∷ bytes) fit) none) refl
+stops (suc n) at (b ∷ bytes) fit few some none = rw (not_swept at (decoded (b ∷ bytes)) (b ∷ bytes) (answered (b ∷ bytes) fit) none) refl
 
 -- ---- both
 

@@ -37,16 +37,16 @@ abbrev pub ◌>>=◌ : {A B : Type 0} → Result A ℕ → (A → Result B ℕ) 
 (Ok x) >>= f = f x
 (Err at) >>= f = Err at
 
-abbrev pub met : ℕ → Decoded → Result Swept ℕ
-met at (answer.Insn insn len) = Ok (record { at = at; len = len; insn = insn })
-met at answer.Short = Err at
-met at answer.Outside = Err at
+abbrev pub swept_at : ℕ → Decoded → Result Swept ℕ
+swept_at at (answer.Insn insn len) = Ok (record { at = at; len = len; insn = insn })
+swept_at at answer.Short = Err at
+swept_at at answer.Outside = Err at
 
 unfoldable pub sweep_from : ℕ → ℕ → List ℕ → Result (List Swept) ℕ
 sweep_from zero at bytes = Ok []
 sweep_from (suc n) at [] = Ok []
 sweep_from (suc n) at (b ∷ bytes) = do
-  s ← met at (decoded (b ∷ bytes))
+  s ← swept_at at (decoded (b ∷ bytes))
   swept ← sweep_from n (at + s.len) (drop s.len (b ∷ bytes))
   Ok (s ∷ swept)
 

@@ -3,7 +3,7 @@
 ghost use Rattle.std.specs.Prelude.{◌≡◌, ℕ, ◌+◌, ◌<◌, ◌≤◌, ◌≢◌, length, drop, slice_index_or, false, IfOk, IsTrue, IsNone, is_some};
 ghost use Rattle.sites.specs.declared.limits.TheConstants.{TEXT_LIMIT};
 ghost use Rattle.image_check.specs.Refusals.{Gives};
-ghost use Rattle.image_check.specs.Sweep.{met};
+ghost use Rattle.image_check.specs.Sweep.{swept_at};
 ghost use Rattle.image_check.specs.Pieces.{is_refused, stop_cause, piece_as, pieces_in, is_start};
 ghost use Rattle.ia32_decode.specs.Decoding.{decoded};
 
@@ -39,7 +39,7 @@ fn stop_cause(rest: &[u8]) -> CheckCause
 fn piece_at(text: &[u8], at: usize) -> Result<Piece, CheckFault>
     requires inside { at < length text.now }
     requires limit { length text.now ≤ TEXT_LIMIT }
-    ensures exact { Gives (λ p. p) result (piece_as text.now (met at (decoded (drop at text.now)))) }
+    ensures exact { Gives (λ p. p) result (piece_as text.now (swept_at at (decoded (drop at text.now)))) }
     ensures room { IfOk result (λ p. (1 ≤ p.len) × (at + p.len ≤ length text.now)) }
     ensures place { IfOk result (λ p. p.at ≡ at) }
 {
