@@ -24,14 +24,14 @@ unfoldable pub first : {X Y : Type 0} → (X → Option Y) → List X → Option
 first f [] = None
 first f (x ∷ xs) = f x or_else first f xs
 
--- a name that is among others
-abbrev pub is_among : List ℕ → List (List ℕ) → Bool
-is_among name names = list_any (λ n. bytes_eq name n) names
+-- a name is among others
+abbrev pub holds : List (List ℕ) → List ℕ → Bool
+holds names name = list_any (λ n. bytes_eq name n) names
 
 -- the first of some names that is among others or stands twice
 unfoldable pub first_doubled : List (List ℕ) → List (List ℕ) → Option (List ℕ)
 first_doubled others [] = None
-first_doubled others (name ∷ names) = if is_among name others then Some name else first_doubled (others ++ name ∷ []) names
+first_doubled others (name ∷ names) = if holds others name then Some name else first_doubled (others ++ name ∷ []) names
 
 abbrev pub exported_names : ℕ × ObjectParts → List (List ℕ)
 exported_names p = map (λ s. s.name) (filter is_exported p.1.symbols)
