@@ -1,8 +1,9 @@
 -- The three sections, and what an item adds to the one it stands in.
-use Rattle.std.specs.Prelude.{ℕ, ◌+◌, ◌-◌, ◌%◌, Bool, true, false, ◌||◌, List, ◌++◌, length, replicate, codes, nat_eq, nat_lt, Option, Some, None, if◌then◌else◌}
+use Rattle.std.specs.Prelude.{ℕ, ◌+◌, Bool, true, false, ◌||◌, List, ◌++◌, length, replicate, codes, nat_eq, nat_lt, Option, Some, None, if◌then◌else◌}
 use Rattle.std.specs.List.{starts_with}
 use Rattle.elf_form.specs.declared.object.DefinedIn.{DefinedIn}
 use Rattle.elf_form.specs.declared.object.DefinedIn.TheVariants as place
+use Rattle.elf_form.specs.Output.{pad}
 use Rattle.afterburner.specs.declared.section.Section.{Section}
 use Rattle.afterburner.specs.declared.section.Section.TheVariants as section
 use Rattle.afterburner.specs.ObjectSoFar.{ObjectSoFar}
@@ -41,10 +42,6 @@ section_named name before =
 abbrev pub entered : ObjectSoFar → Section → ObjectSoFar
 entered st s = record st { section = s }
 
--- how many bytes lead from `at` to the next multiple of n
-abbrev pub gap : ℕ → ℕ → ℕ
-gap n at = (n - at % n) % n
-
 abbrev pub filled_in : ObjectSoFar → Section → ℕ → ObjectSoFar
 filled_in st section.Text n = record st { text = st.text ++ replicate n 144 }
 filled_in st section.Init n = record st { init = st.init ++ replicate n 0 }
@@ -60,7 +57,7 @@ unless_more (Some most) n = if nat_lt most n then 0 else n
 
 -- up to the next multiple of the alignment, unless more than `most` bytes are needed
 unfoldable pub aligned : ObjectSoFar → ℕ → Option ℕ → ObjectSoFar
-aligned st alignment most = filled st (unless_more most (gap alignment (here st)))
+aligned st alignment most = filled st (unless_more most (pad alignment (here st)))
 
 -- a label
 unfoldable pub labelled : List (List ℕ) → ObjectSoFar → List ℕ → ObjectSoFar
@@ -73,5 +70,5 @@ defined_in_bss names st (Some name) = record st { definitions = defined_at names
 -- a piece of the zeroed bytes at its alignment, with its name
 unfoldable pub reserved : List (List ℕ) → ObjectSoFar → Option (List ℕ) → ℕ → ℕ → ObjectSoFar
 reserved names st name size alignment =
-    let placed = defined_in_bss names (record st { bss = st.bss + gap alignment st.bss }) name in
+    let placed = defined_in_bss names (record st { bss = st.bss + pad alignment st.bss }) name in
     record placed { bss = placed.bss + size }

@@ -5,7 +5,7 @@ ghost use Rattle.afterburner.specs.Sections as spec;
 
 use crate::assembly::Assembly;
 use asm_source::begins;
-use elf_form::DefinedIn;
+use elf_form::{DefinedIn, pad};
 use std::alloc::AllocError;
 
 /// The section that a piece of a source stands in: text, data or zeroed bytes.
@@ -58,15 +58,6 @@ pub fn section_named(name: &[u8], before: Section) -> Section
     } else {
         before
     }
-}
-
-/// How many bytes lead from `at` to the next multiple of the alignment.
-pub fn gap(alignment: usize, at: usize) -> usize
-    requires { 1 ≤ alignment }
-    ensures gap { result ≡ spec.gap alignment at }
-    ensures less { result < alignment }
-{
-    (alignment - at % alignment) % alignment
 }
 
 fn unless_more(most: Option<u64>, count: usize) -> usize
@@ -127,7 +118,7 @@ impl Assembly {
         requires room { self.old.bss + alignment < 2 ^ 64 }
         ensures { OnOk result (self.new ≡ spec.aligned self.old alignment most) }
     {
-        let count = unless_more(most, gap(alignment, self.here()));
+        let count = unless_more(most, pad(alignment, self.here()));
         self.fill(count)
     }
 }

@@ -6,9 +6,9 @@ ghost use Rattle.afterburner.specs.Symbols as spec;
 ghost use Rattle.afterburner.specs.Sections as sections;
 
 use crate::assembly::Assembly;
-use crate::section::{gap, place_of};
+use crate::section::place_of;
 use asm_source::{Name, Names};
-use elf_form::DefinedIn;
+use elf_form::{DefinedIn, pad};
 
 /// How far a name reaches, by the strongest directive that spoke of it. A name of which none spoke
 /// is local, unless it is undefined.
@@ -119,7 +119,7 @@ impl Assembly {
         requires size { size < 2 ^ 63 }
         ensures { self.new ≡ sections.reserved names.now self.old (option_copied name.entry) size alignment }
     {
-        self.bss += gap(alignment, self.bss);
+        self.bss += pad(alignment, self.bss);
         self.define_in_bss(names, name);
         self.bss += size as usize;
     }

@@ -1,6 +1,7 @@
 -- An image that is made of chunks passes all tests but that of targets, and that one where branches lead right.
 use Rattle.std.proofs.Common.{◌≡◌, ℕ, zero, suc, ◌+◌, ◌-◌, ◌<◌, ◌≤◌, true, false, not, ◌||◌, List, [], ◌∷◌, ◌++◌, length, map, Option, Some, None, Ok, Err, refl, sym, ap, subst, ◌∙◌, arith, inl, inr, ◌⊎◌}
 use Rattle.std.specs.Prelude.{◌==◌, nat_lt, replicate, slice_get, slice_index}
+use Rattle.std.specs.Bool.{then_some}
 use Rattle.std.proofs.lemmas.Bool.Decides.{nat_tests}
 use Rattle.std.proofs.lemmas.List.{append-nil, length-append, map-append}
 use Rattle.ia32_types.specs.declared.insn.Insn.{Insn}
@@ -15,7 +16,6 @@ use Rattle.sites.specs.Formats.{listed}
 use Rattle.image_check.specs.declared.fault.CheckCause.TheVariants.{Target}
 use Rattle.image_check.specs.declared.piece.Piece.{Piece}
 use Rattle.image_check.specs.Refusals.{Wrong}
-use Rattle.guest_ram.specs.Places.{bad}
 use Rattle.image_check.specs.Sweep.{Swept, Sweep, sweep}
 use Rattle.image_check.specs.Pieces.{target_of, piece_of, pieces_of, pieces_in}
 use Rattle.image_check.specs.Targets.{is_entrance, wrong_target}
@@ -138,8 +138,8 @@ not_above n limit le = grind (arith, nat_tests)
 no_entry : (at len : ℕ) → 0x10000000 ≤ at → at < 0x10000000 + len → (nat_lt at 0x10000000 || not (nat_lt at (0x10000000 + len))) ≡ false
 no_entry at len ge lt = grind (arith, nat_tests)
 
-right_place : (n m : ℕ) → n ≡ m → bad (not (n == m)) 0 ≡ None
-right_place n m e = ap (λ b. bad (not b) 0) (equal_so n m e)
+right_place : (n m : ℕ) → n ≡ m → then_some (not (n == m)) 0 ≡ None
+right_place n m e = ap (λ b. then_some (not b) 0) (equal_so n m e)
 
 placed_by : (parts : ImageParts) → text_place parts ≡ None → init_place parts ≡ None → text_size parts ≡ None → init_size parts ≡ None → entry_place parts ≡ None → placed parts ≡ Ok tt
 unfolding placed
@@ -214,9 +214,9 @@ module _ (parts : ImageParts) (cs : List Chunk) (b : IsBuilt parts cs) where
       placed_by parts
       (right_place parts.text_at 0x10000000 b.text_at)
       (right_place parts.init_at 0x11000000 b.init_at)
-      (ap (λ t. bad t 0) (no_size (length parts.text) w.text.0 w.text.1))
-      (ap (λ t. bad t 0) (not_above (length parts.init + parts.bss) 33554432 b.room))
-      (ap (λ t. bad t 0) (no_entry parts.entry (length parts.text) w.entry.0 w.entry.1))
+      (ap (λ t. then_some t 0) (no_size (length parts.text) w.text.0 w.text.1))
+      (ap (λ t. then_some t 0) (not_above (length parts.init + parts.bss) 33554432 b.room))
+      (ap (λ t. then_some t 0) (no_entry parts.entry (length parts.text) w.entry.0 w.entry.1))
 
   pub accepted_but : IsAcceptedButForTargets parts cs
   accepted_but =
@@ -224,9 +224,9 @@ module _ (parts : ImageParts) (cs : List Chunk) (b : IsBuilt parts cs) where
       outcome parts all_sites ps
       all_placed
       (swept_gives parts.text all_swept ((sweep_exact parts.text fits all_swept).1 is_swept))
-      (ap (λ t. bad (not t) (last_at ps)) ends_well)
+      (ap (λ t. then_some (not t) (last_at ps)) ends_well)
       b.annotated
       (sites_right all_sites ps (whole_sites cs b.chunks))
-      (ap (λ t. bad (not t) (entry_at parts)) (is_entrance_so all_swept all_sites (entry_at parts) enters))
+      (ap (λ t. then_some (not t) (entry_at parts)) (is_entrance_so all_swept all_sites (entry_at parts) enters))
       (wrong_target (is_entrance ps all_sites) ps)
       refl

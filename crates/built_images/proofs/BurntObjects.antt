@@ -19,6 +19,7 @@ use Rattle.elf_form.specs.declared.object.Symbol.{Symbol}
 use Rattle.elf_form.specs.declared.object.Reloc.{Reloc}
 use Rattle.elf_form.specs.ObjectParts.{ObjectParts}
 use Rattle.elf_form.specs.ObjectLayout.{is_of}
+use Rattle.elf_form.specs.Output.{pad}
 use Rattle.sites.specs.Spelling.{spelling}
 use Rattle.sites.specs.Formats.{listed}
 use Rattle.sites.specs.Limits.{in_text}
@@ -37,7 +38,7 @@ use Rattle.afterburner.specs.declared.fault.BurnCause.TheVariants as cause
 use Rattle.afterburner.specs.ObjectSoFar.{ObjectSoFar, undefined, fresh}
 use Rattle.afterburner.specs.Symbols.{definition_of, defined_at, stronger, with_binding, bound}
 use Rattle.afterburner.specs.Arguments.{count_at, text_at, symbol_at, limit_at, alignment, power}
-use Rattle.afterburner.specs.Sections.{is_init, place_of, size_of, here, section_named, entered, gap, filled_in, unless_more, aligned, labelled, defined_in_bss, reserved}
+use Rattle.afterburner.specs.Sections.{is_init, place_of, size_of, here, section_named, entered, filled_in, unless_more, aligned, labelled, defined_in_bss, reserved}
 use Rattle.afterburner.specs.Directives.{directive_of, all_fit, values, in_init, numbers, data_reloc, with_long, longs, string_bytes, strings, zeros_in, common_alignment, common, directed}
 use Rattle.afterburner.specs.Objects.{value_at, symbol, symbols_seen, are, ordered, renumbered, object}
 use Rattle.afterburner.specs.Burnt.{parted, made, limited, then_limited, item_made, Fault, at_line, next_made, all_made, finished, burnt}
@@ -92,8 +93,8 @@ module _ (Plain : Type 0) where
   reserved_made : (names : List (List ℕ)) (st : ObjectSoFar) (cs : List Chunk) (name : Option (List ℕ)) (size n : ℕ) → st.after_sti ≡ false → IsMade Plain st cs → IsMade Plain (reserved names st name size n) cs × ((reserved names st name size n).after_sti ≡ false)
   unfolding reserved
   reserved_made names st cs name size n e h =
-      let here = record st { bss = st.bss + gap n st.bss } in
-      let d = defined_made names here cs name e (bss_made st cs (st.bss + gap n st.bss) e h) in
+      let here = record st { bss = st.bss + pad n st.bss } in
+      let d = defined_made names here cs name e (bss_made st cs (st.bss + pad n st.bss) e h) in
       let p = defined_in_bss names here name in
       (bss_made p cs (p.bss + size) d.1 d.0, d.1)
 
@@ -104,7 +105,7 @@ module _ (Plain : Type 0) where
 
   aligned_made : (st : ObjectSoFar) (cs : List Chunk) (n : ℕ) (most : Option ℕ) → st.after_sti ≡ false → IsMade Plain st cs → Made Plain (aligned st n most)
   unfolding aligned
-  aligned_made st cs n most e h = filled_made st cs st.section (unless_more most (gap n (here st))) e h
+  aligned_made st cs n most e h = filled_made st cs st.section (unless_more most (pad n (here st))) e h
 
   place_edge : (st : ObjectSoFar) (cs : List Chunk) (s : Section) → IsMade Plain st cs → place_of s ≡ place.Text → IsEdge cs (size_of st s)
   place_edge st cs section.Text h e = subst (IsEdge cs) (ap length (sym h.text)) (whole_edge cs)

@@ -1,12 +1,14 @@
 -- Linked images of padded objects.
 use Rattle.std.proofs.Common.{◌≡◌, ℕ, zero, suc, ◌+◌, ◌-◌, ◌<◌, ◌≤◌, ◌^◌, ◌%◌, Bool, true, false, cond, min, List, [], ◌∷◌, ◌++◌, length, take, nat_lt, Option, Some, None, Result, Ok, refl, sym, ap, subst, ◌∙◌, arith}
 use Rattle.std.specs.Prelude.{slice_get, filter, sum_by, max, replicate, ◌==◌, codes}
+use Rattle.std.specs.Bool.{then_some}
 use Rattle.std.specs.List.{flat_map, enumerate_from, All, AllByRecursion, Contains}
 use Rattle.std.proofs.lemmas.Bool.Decides.{nat_tests}
 use Rattle.std.proofs.lemmas.List.{append-nil, length-append, length-replicate, length-take, take_all}
 use Rattle.std.proofs.lemmas.List.Sums.{sum_by-cons}
 use Rattle.std.proofs.lemmas.List.Elements.{All-nil, All-append, All-weaker, All-filter, All-contains, All-contains_itself}
 use Rattle.guest_ram.specs.Bytes.{word32}
+use Rattle.guest_ram.specs.Places.{◌or_else◌}
 use Rattle.ia32_rows.proofs.TableLaws.{at_most_eleven, not_empty}
 use Rattle.sites.specs.declared.limits.TheConstants.{TEXT_LIMIT}
 use Rattle.elf_form.specs.declared.object.Reloc.{Reloc}
@@ -28,7 +30,7 @@ use Rattle.elf_link.specs.Layout.{round_up, init_size, bss_size, text_room, init
 use Rattle.elf_link.specs.Symbols.{is_text, globals, address}
 use Rattle.elf_link.specs.Relocations.{reloc_cause, field_at, address_by, sum_of, target_by, relocated}
 use Rattle.elf_link.specs.Sites.{linked_sites}
-use Rattle.elf_link.specs.Refusals.{Refused, ◌or◌, when, first, object_cause, refused, object_refusal, relocs_refusal, start, start_refusal, refusal}
+use Rattle.elf_link.specs.Refusals.{Refused, first, object_cause, refused, object_refusal, relocs_refusal, start, start_refusal, refusal}
 use Rattle.elf_link.specs.Linked.{texts, linked_text, linked_init, entry_at, image, unless, linked_image}
 use Rattle.image_check.specs.Sweep.{Swept}
 use Rattle.image_check.specs.Pieces.{target_of}
@@ -47,7 +49,7 @@ use Rattle.built_images.proofs.LinkedTexts.{ObjectsRight, FromObject, from_objec
 
 -- ---- what is not refused
 
-none_or : {X : Type 0} (a b : Option X) → (a or b) ≡ None → (a ≡ None) × (b ≡ None)
+none_or : {X : Type 0} (a b : Option X) → (a or_else b) ≡ None → (a ≡ None) × (b ≡ None)
 none_or (Some x) b e = absurd cc
 none_or None b e = (refl, e)
 
@@ -85,7 +87,7 @@ pub record IsLinkedWell (os : List ObjectParts) : Type 0 where
 well : (os : List ObjectParts) → refusal os ≡ None → IsLinkedWell os
 unfolding refusal
 well os e =
-    let a = none_or (first (object_refusal os) (numbered os)) (first (relocs_refusal os) (numbered os) or start_refusal (start os)) e in
+    let a = none_or (first (object_refusal os) (numbered os)) (first (relocs_refusal os) (numbered os) or_else start_refusal (start os)) e in
     let b = none_or (first (relocs_refusal os) (numbered os)) (start_refusal (start os)) a.1 in
     record { objects = a.0; relocs = b.0; starts = b.1 }
 
@@ -106,7 +108,7 @@ not_reloc os i o r w there c =
 
 -- ---- the limits
 
-not_when : (b : Bool) (c : LinkCause) → when b c ≡ None → b ≡ false
+not_when : (b : Bool) (c : LinkCause) → then_some b c ≡ None → b ≡ false
 not_when true c e = absurd cc
 not_when false c e = refl
 
@@ -120,11 +122,11 @@ pub record IsWithin (os : List ObjectParts) : Type 0 where
 object_within : (os : List ObjectParts) (k : ℕ) (o : ObjectParts) → take (k + 1) os ≡ os → object_cause os (k, o) ≡ None → IsWithin os
 unfolding object_cause
 object_within os k o all e =
-    let a = none_or (when (nat_lt TEXT_LIMIT (text_end (take (k + 1) os) + 2)) TextTooLarge) _ e in
-    let b = none_or (when (nat_lt 33554432 (memory_end (take (k + 1) os))) InitTooLarge) _ a.1 in
+    let a = none_or (then_some (nat_lt TEXT_LIMIT (text_end (take (k + 1) os) + 2)) TextTooLarge) _ e in
+    let b = none_or (then_some (nat_lt 33554432 (memory_end (take (k + 1) os))) InitTooLarge) _ a.1 in
     record {
-      text = not_more TEXT_LIMIT (text_end os + 2) (not_when _ TextTooLarge (subst (λ (xs : List ObjectParts). when (nat_lt TEXT_LIMIT (text_end xs + 2)) TextTooLarge ≡ None) all a.0));
-      memory = not_more 33554432 (memory_end os) (not_when _ InitTooLarge (subst (λ (xs : List ObjectParts). when (nat_lt 33554432 (memory_end xs)) InitTooLarge ≡ None) all b.0));
+      text = not_more TEXT_LIMIT (text_end os + 2) (not_when _ TextTooLarge (subst (λ (xs : List ObjectParts). then_some (nat_lt TEXT_LIMIT (text_end xs + 2)) TextTooLarge ≡ None) all a.0));
+      memory = not_more 33554432 (memory_end os) (not_when _ InitTooLarge (subst (λ (xs : List ObjectParts). then_some (nat_lt 33554432 (memory_end xs)) InitTooLarge ≡ None) all b.0));
     }
 
 last_got : (o : ObjectParts) (os : List ObjectParts) → (p : ObjectParts) × (slice_get (o ∷ os) (length os) ≡ Some p)

@@ -1,6 +1,7 @@
 -- Where sizes are bad: what is computed finds the lowest place at which the condition holds.
 use Rattle.std.proofs.Common.{◌≡◌, ◌≢◌, ℕ, zero, suc, ◌+◌, ◌%◌, ◌<◌, ◌≤◌, Bool, true, false, not, cond, List, [], ◌∷◌, ◌++◌, length, nat_lt, Option, Some, None, refl, sym, ap, ◌∙◌, subst, inl, inr, ◌⊎◌, arith}
 use Rattle.std.specs.Prelude.{◌==◌, filter, slice_get}
+use Rattle.std.specs.Bool.{then_some}
 use Rattle.std.specs.List.{Contains, sum_by}
 use Rattle.std.proofs.lemmas.Bool.{cond-true, cond-false, cases_lt, lt-ltb, ltb-true, and_parts, and_from}
 use Rattle.std.proofs.lemmas.List.Sums.{sum_by-cons}
@@ -9,7 +10,6 @@ use Rattle.elf_form.specs.declared.roles.Role.{Role}
 use Rattle.elf_form.specs.declared.roles.Role.TheVariants as role
 use Rattle.elf_form.specs.declared.symbols.SectionTest.TheVariants.{EntrySizes}
 use Rattle.elf_form.specs.Faults.{◌or_lower◌}
-use Rattle.guest_ram.specs.Places.{bad}
 use Rattle.elf_form.specs.Output.{pad}
 use Rattle.elf_form.specs.Tables.{entries, first, found}
 use Rattle.elf_form.specs.Header.{section_table, section_count, sections}
@@ -126,7 +126,7 @@ pub entries_finds : (entry : ℕ) (bytes : List ℕ) (s : ℕ) → Finds (entrie
 entries_finds entry bytes s =
     finds_as (entries_fault entry bytes s) (λ k. ((size bytes s % entry ≢ 0) × (k ≡ s + 20)) ⊎ ((word32 bytes (s + 36) ≢ entry) × (k ≡ s + 36))) (IsBadEntrySize entry bytes s)
     to from
-    (finds_else (bad (not (size bytes s % entry == 0)) (s + 20)) (bad (not (word32 bytes (s + 36) == entry)) (s + 36)) (λ k. (size bytes s % entry ≢ 0) × (k ≡ s + 20)) (λ k. (word32 bytes (s + 36) ≢ entry) × (k ≡ s + 36)) (λ i j a b. omega (arith, a.1, b.1))
+    (finds_else (then_some (not (size bytes s % entry == 0)) (s + 20)) (then_some (not (word32 bytes (s + 36) == entry)) (s + 36)) (λ k. (size bytes s % entry ≢ 0) × (k ≡ s + 20)) (λ k. (word32 bytes (s + 36) ≢ entry) × (k ≡ s + 36)) (λ i j a b. omega (arith, a.1, b.1))
     (finds_field (size bytes s % entry) 0 (s + 20)) (finds_field (word32 bytes (s + 36)) entry (s + 36))) where
       to : (k : ℕ) → ((size bytes s % entry ≢ 0) × (k ≡ s + 20)) ⊎ ((word32 bytes (s + 36) ≢ entry) × (k ≡ s + 36)) → IsBadEntrySize entry bytes s k
       to k (inl (h, e)) = IsBadEntrySize.uneven h e

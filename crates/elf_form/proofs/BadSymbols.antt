@@ -1,6 +1,7 @@
 -- Where names, symbols and relocations of an object are bad: what is computed finds the lowest place at which the condition holds.
 use Rattle.std.proofs.Common.{◌≡◌, ◌≢◌, ℕ, ◌+◌, ◌-◌, ◌<◌, ◌≤◌, Bool, true, false, not, ◌||◌, cond, List, [], ◌∷◌, Option, Some, None, refl, sym, ap, ◌∙◌, subst, inl, inr, ◌⊎◌, arith}
 use Rattle.std.specs.Prelude.{◌==◌, filter}
+use Rattle.std.specs.Bool.{then_some}
 use Rattle.std.specs.List.{Contains, flat_map}
 use Rattle.std.proofs.lemmas.Bool.{eqb-true, eqb-false, eq-eqb, ne_eqb, or_cases, or_left, or_right, and_parts, and_from, not-true, not_from_false}
 use Rattle.std.proofs.lemmas.List.Elements.{Contains-append_left, Contains-append_right, Contains-append_cases}
@@ -13,7 +14,7 @@ use Rattle.elf_form.specs.declared.symbols.SectionTest.TheVariants.{Links}
 use Rattle.elf_form.specs.declared.symbols.SymbolTest.TheVariants.{Names, Globals}
 use Rattle.elf_form.specs.declared.symbols.RelocTest.{RelocTest}
 use Rattle.elf_form.specs.declared.symbols.RelocTest.TheVariants.{Named, Form}
-use Rattle.guest_ram.specs.Places.{◌or_else◌, bad}
+use Rattle.guest_ram.specs.Places.{◌or_else◌}
 use Rattle.elf_form.specs.Tables.{entries, first, found}
 use Rattle.elf_form.specs.Header.{section_table, section_count, sections}
 use Rattle.elf_form.specs.Sections.{names, nameless}
@@ -273,11 +274,11 @@ module _ (bytes : List ℕ) where
   symbol_finds : (y : ℕ) → Finds (symbol_fault (names bytes) bytes y) (SymbolBad y)
   unfolding symbol_fault
   symbol_finds y = by (is_file bytes y) refl where
-    by : (t : Bool) → is_file bytes y ≡ t → Finds (cond t None (bad (not (has_binding bytes y)) (y + 12) or_else bad (not (has_place (names bytes) bytes y)) (y + 14))) (SymbolBad y)
+    by : (t : Bool) → is_file bytes y ≡ t → Finds (cond t None (then_some (not (has_binding bytes y)) (y + 12) or_else then_some (not (has_place (names bytes) bytes y)) (y + 14))) (SymbolBad y)
     by true is = λ k h. both_ways is h.0
-    by false is = finds_as (bad (not (has_binding bytes y)) (y + 12) or_else bad (not (has_place (names bytes) bytes y)) (y + 14)) (λ k. ((has_binding bytes y ≡ false) × (k ≡ y + 12)) ⊎ ((has_place (names bytes) bytes y ≡ false) × (k ≡ y + 14))) (SymbolBad y)
+    by false is = finds_as (then_some (not (has_binding bytes y)) (y + 12) or_else then_some (not (has_place (names bytes) bytes y)) (y + 14)) (λ k. ((has_binding bytes y ≡ false) × (k ≡ y + 12)) ⊎ ((has_place (names bytes) bytes y ≡ false) × (k ≡ y + 14))) (SymbolBad y)
         (λ k h. (is, h)) (λ k h. h.1)
-        (finds_else (bad (not (has_binding bytes y)) (y + 12)) (bad (not (has_place (names bytes) bytes y)) (y + 14)) (λ k. (has_binding bytes y ≡ false) × (k ≡ y + 12)) (λ k. (has_place (names bytes) bytes y ≡ false) × (k ≡ y + 14)) (λ i j a b. omega (arith, a.1, b.1))
+        (finds_else (then_some (not (has_binding bytes y)) (y + 12)) (then_some (not (has_place (names bytes) bytes y)) (y + 14)) (λ k. (has_binding bytes y ≡ false) × (k ≡ y + 12)) (λ k. (has_place (names bytes) bytes y ≡ false) × (k ≡ y + 14)) (λ i j a b. omega (arith, a.1, b.1))
         (finds_not (has_binding bytes y) (y + 12)) (finds_not (has_place (names bytes) bytes y) (y + 14)))
 
   symbol_within : (y k : ℕ) → SymbolBad y k → (y ≤ k) × (k < y + 16)
@@ -345,14 +346,14 @@ module _ (bytes : List ℕ) where
   links_find : Finds (sections_fault Links (table_of bytes) (names bytes) bytes) LinkAt
   unfolding sections_fault
   links_find = finds_some (section_test Links (table_of bytes) (names bytes) bytes) LinkBad 40
-      (λ s. finds_if (is_reloc_section (names bytes) bytes s) (bad (not (is_linked (table_of bytes) (names bytes) bytes s)) (s + 24)) None (λ k. (is_linked (table_of bytes) (names bytes) bytes s ≡ false) × (k ≡ s + 24)) (λ k. ⊥) (finds_not (is_linked (table_of bytes) (names bytes) bytes s) (s + 24)) (λ k never. never))
+      (λ s. finds_if (is_reloc_section (names bytes) bytes s) (then_some (not (is_linked (table_of bytes) (names bytes) bytes s)) (s + 24)) None (λ k. (is_linked (table_of bytes) (names bytes) bytes s ≡ false) × (k ≡ s + 24)) (λ k. ⊥) (finds_not (is_linked (table_of bytes) (names bytes) bytes s) (s + 24)) (λ k never. never))
       link_within (section_table bytes) (section_count bytes)
 
   abbrev FormBad : Entry → ℕ → Type 0
   FormBad e k = ((is_outside (names bytes) bytes e ≡ true) × (k ≡ e.at)) ⊎ (((not (has_kind bytes e.at) || names_none (table_of bytes) bytes e.at) ≡ true) × (k ≡ e.at + 4))
 
   form_find : (e : Entry) → Finds (reloc_test Form (table_of bytes) (names bytes) bytes e) (FormBad e)
-  form_find e = finds_else (bad (is_outside (names bytes) bytes e) e.at) (bad (not (has_kind bytes e.at) || names_none (table_of bytes) bytes e.at) (e.at + 4)) (λ k. (is_outside (names bytes) bytes e ≡ true) × (k ≡ e.at)) (λ k. ((not (has_kind bytes e.at) || names_none (table_of bytes) bytes e.at) ≡ true) × (k ≡ e.at + 4)) (λ i j a b. omega (arith, a.1, b.1))
+  form_find e = finds_else (then_some (is_outside (names bytes) bytes e) e.at) (then_some (not (has_kind bytes e.at) || names_none (table_of bytes) bytes e.at) (e.at + 4)) (λ k. (is_outside (names bytes) bytes e ≡ true) × (k ≡ e.at)) (λ k. ((not (has_kind bytes e.at) || names_none (table_of bytes) bytes e.at) ≡ true) × (k ≡ e.at + 4)) (λ i j a b. omega (arith, a.1, b.1))
       (finds_bad (is_outside (names bytes) bytes e) e.at) (finds_bad (not (has_kind bytes e.at) || names_none (table_of bytes) bytes e.at) (e.at + 4))
 
   abbrev RelocAt : ℕ → Type 0

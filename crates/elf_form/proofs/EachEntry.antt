@@ -1,10 +1,11 @@
 -- What each entry of a list has, and what tests say that found no place.
 use Rattle.std.proofs.Common.{◌≡◌, ℕ, zero, suc, ◌<◌, Bool, true, false, ◌||◌, not, cond, nat_lt, List, [], ◌∷◌, ◌++◌, length, map, get_or, Option, Some, None, refl, arith}
 use Rattle.std.specs.Prelude.{fold}
+use Rattle.std.specs.Bool.{then_some}
 use Rattle.elf_form.specs.declared.object.Reloc.{Reloc}
 use Rattle.elf_form.specs.declared.symbols.Entry.{Entry}
 use Rattle.elf_form.specs.Faults.{◌or_lower◌}
-use Rattle.guest_ram.specs.Places.{◌or_else◌, bad}
+use Rattle.guest_ram.specs.Places.{◌or_else◌}
 
 -- ---- what stands in a list
 
@@ -32,7 +33,7 @@ each_all P (x ∷ xs) h (suc k) d lt = each_all P xs h.1 k d (omega arith)
 
 -- ---- tests that found no place
 
-pub bad_none : (b : Bool) (at : ℕ) → bad b at ≡ None → b ≡ false
+pub bad_none : (b : Bool) (at : ℕ) → then_some b at ≡ None → b ≡ false
 bad_none true at h = cc
 bad_none false at h = refl
 

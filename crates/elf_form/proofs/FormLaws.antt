@@ -8,7 +8,6 @@ use Rattle.elf_form.specs.declared.cause.ElfCause.{ElfCause}
 use Rattle.elf_form.specs.declared.segments.Found.{Found}
 use Rattle.elf_form.specs.declared.segments.Found.TheVariants.{Nothing, One, Two, More}
 use Rattle.elf_form.specs.Faults.{test, ◌or_lower◌}
-use Rattle.guest_ram.specs.Places.{bad}
 use Rattle.elf_form.specs.Tables.{AllFound, first_of, second_of}
 use Rattle.elf_form.specs.Segments.{order, memory_sizes, first_size, second_size, sizes, loads, header_size, program_size, section_size, too_long}
 use Rattle.elf_form.specs.Sections.{one_of}
@@ -28,13 +27,8 @@ neither None b e = (refl, e)
 neither (Some a) None e = absurd cc
 neither (Some a) (Some b) e = absurd (some_stays (ltb b a) b a e)
 
--- the place of a field that is bad, as std's word gives it
-pub then_bad : (is_bad : Bool) (at : ℕ) → then_some is_bad at ≡ bad is_bad at
-then_bad true at = refl
-then_bad false at = refl
-
 -- a field that is not bad
-pub not_bad : (is_bad : Bool) (at : ℕ) → bad is_bad at ≡ None → is_bad ≡ false
+pub not_bad : (is_bad : Bool) (at : ℕ) → then_some is_bad at ≡ None → is_bad ≡ false
 not_bad true at e = absurd cc
 not_bad false at e = refl
 

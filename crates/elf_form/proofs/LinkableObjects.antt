@@ -1,6 +1,7 @@
 -- Each object that is read can be linked: its relocations name symbols of its list, and their fields lie in their sections.
 use Rattle.std.proofs.Common.{Result, Ok, Err, IfOk, ◌≡◌, ◌⊎◌, inl, inr, ℕ, zero, suc, ◌+◌, ◌-◌, ◌*◌, ◌/◌, ◌%◌, ◌^◌, ◌<◌, ◌≤◌, Bool, true, false, ◌&&◌, ◌||◌, not, cond, nat_lt, List, [], ◌∷◌, length, map, get_or, replicate, Option, Some, None, refl, sym, ap, subst, ◌∙◌, arith, length-append}
 use Rattle.std.specs.Prelude.{filter, ◌==◌}
+use Rattle.std.specs.Bool.{then_some}
 use Rattle.std.specs.List.{flat_map}
 use Rattle.std.proofs.lemmas.Bool.Decides.{nat_tests}
 use Rattle.std.proofs.lemmas.List.{length-map, length-replicate}
@@ -18,9 +19,9 @@ use Rattle.elf_form.specs.declared.symbols.Entry.{Entry}
 use Rattle.elf_form.specs.declared.symbols.RelocTest.TheVariants.{Named, Form}
 use Rattle.elf_form.specs.declared.symbols.Table.{Table}
 use Rattle.elf_form.specs.ObjectParts.{ObjectParts}
-use Rattle.guest_ram.specs.Places.{◌or_else◌, bad}
+use Rattle.guest_ram.specs.Places.{◌or_else◌}
 use Rattle.elf_form.specs.Tables.{entries, found}
-use Rattle.elf_form.specs.Header.{header_table, section_table, section_count, sections, passes, has_contents, part_of, header_cut, header_table_cut, section_table_cut, header_part_cut, section_part_cut, cut, IsSection, IsWhole}
+use Rattle.elf_form.specs.Header.{header_table, section_table, section_count, sections, passes, has_contents, part_begins, header_cut, header_table_cut, section_table_cut, header_part_cut, section_part_cut, cut, IsSection, IsWhole}
 use Rattle.elf_form.specs.Sections.{contents, is_index, names, is_null, is_sites}
 use Rattle.elf_form.specs.Output.{pad}
 use Rattle.elf_form.specs.Roles.{role as role_of, role_number, has_role, with_role, size, alignment, up, starts, with_section, joined}
@@ -31,7 +32,7 @@ use Rattle.elf_form.specs.ObjectReading.{object_in}
 use Rattle.elf_form.proofs.ObjectAcceptance.{if_read}
 use Rattle.elf_form.proofs.WholeLaws.{section_at}
 use Rattle.elf_form.specs.Linkable.{IsLinkable}
-use Rattle.elf_form.specs.Symbols.{symbols_of, section_of, role_at, is_listed, is_file, has_binding, has_place, symbol_fault, target, target_role, is_reloc_section_of, entry, relocs_in, relocs_of, size_at, is_outside, number_of, has_symbol, symbol_of, has_kind, names_none, named_fault, form_fault, reloc_test, relocs_fault, start_in, start_at, numbers, reloc_at, symbol_at, symbols_in}
+use Rattle.elf_form.specs.Symbols.{symbols_of, section_of, role_at, is_listed, is_file, has_binding, has_place, symbol_fault, target, target_role, is_reloc_section_of, entry, relocs_in, relocs_of, size_at, is_outside, named_symbol, has_symbol, symbol_of, has_kind, names_none, named_fault, form_fault, reloc_test, relocs_fault, start_in, start_at, numbers, reloc_at, symbol_at, symbols_in}
 use Rattle.elf_form.proofs.EachEntry.{Each, each_append, each_map, each_both, each_all, bad_none, else_none, lower_none, fold_none, or_false, not_false}
 
 -- ---- entries of a table
@@ -65,10 +66,10 @@ number_in names bytes [] n i lt is = absurd (omega arith)
 number_in names bytes (y ∷ ys) n zero lt is = listed_first (is_listed names bytes y) n y (filter (is_listed names bytes) ys) is
 number_in names bytes (y ∷ ys) n (suc i) lt is = number_on (is_listed names bytes y) names bytes ys n y i (λ m. number_in names bytes ys m i (omega arith) is)
 
-listed_by : (file binding place : Bool) (y : ℕ) → file ≡ false → cond file None (bad (not binding) (y + 12) or_else bad (not place) (y + 14)) ≡ None → (not file && binding && place) ≡ true
+listed_by : (file binding place : Bool) (y : ℕ) → file ≡ false → cond file None (then_some (not binding) (y + 12) or_else then_some (not place) (y + 14)) ≡ None → (not file && binding && place) ≡ true
 listed_by true binding place y is h = cc
 listed_by false binding place y is h =
-    let both = else_none (bad (not binding) (y + 12)) (bad (not place) (y + 14)) h in
+    let both = else_none (then_some (not binding) (y + 12)) (then_some (not place) (y + 14)) h in
     let has_binding = not_false binding (bad_none (not binding) (y + 12) both.0) in
     let has_place = not_false place (bad_none (not place) (y + 14) both.1) in
     rw (has_binding, has_place) refl
@@ -135,7 +136,7 @@ is_one k h = grind (arith, nat_tests)
 not_zero : (k : ℕ) → not (k == 0) ≡ true → 1 ≤ k
 not_zero k h = grind (arith, nat_tests)
 
-part_none : (bytes : List ℕ) (field : ℕ) (o : Option ℕ) → part_of bytes field o ≡ None → o ≡ None
+part_none : (bytes : List ℕ) (field : ℕ) (o : Option ℕ) → part_begins bytes field o ≡ None → o ≡ None
 part_none bytes field None h = refl
 part_none bytes field (Some e) h = cc
 
@@ -312,19 +313,19 @@ abbrev pub IsTested : Table → List ℕ → List ℕ → Entry → Type 0
 IsTested table ns bytes e = (named_fault table ns bytes e.at ≡ None) × (form_fault table ns bytes e ≡ None)
 
 symbol_in_list : (table : Table) (ns bytes : List ℕ) (e : Entry) → IsTested table ns bytes e
-    → get_or (numbers ns bytes 0 (symbols_of table)) (number_of bytes e.at - 1) 0 < length (filter (is_listed ns bytes) (symbols_of table))
+    → get_or (numbers ns bytes 0 (symbols_of table)) (named_symbol bytes e.at - 1) 0 < length (filter (is_listed ns bytes) (symbols_of table))
 symbol_in_list table ns bytes e tested =
-    let form = else_none (bad (is_outside ns bytes e) e.at) _ tested.1 in
+    let form = else_none (then_some (is_outside ns bytes e) e.at) _ tested.1 in
     let kinds = or_false (not (has_kind bytes e.at)) (names_none table bytes e.at) (bad_none _ (e.at + 4) form.1) in
     let has = has_names (has_symbol table bytes e.at) (is_file bytes (symbol_of table bytes e.at)) kinds.1 in
     let fault = when_true (has_symbol table bytes e.at) (symbol_fault ns bytes (symbol_of table bytes e.at)) has.0 tested.0 in
     let is_there = listed ns bytes (symbol_of table bytes e.at) has.1 fault in
-    let positive = not_zero (number_of bytes e.at) (and_first (not (number_of bytes e.at == 0)) (nat_lt (number_of bytes e.at) table.count) has.0) in
-    let few = below (number_of bytes e.at) table.count (and_second (not (number_of bytes e.at == 0)) (nat_lt (number_of bytes e.at) table.count) has.0) in
-    let place : get_or (symbols_of table) (number_of bytes e.at - 1) 0 ≡ symbol_of table bytes e.at =
-    entry_at (table.at + 16) 16 (table.count - 1) (number_of bytes e.at - 1) (omega (arith, positive, few)) ∙ omega (arith, positive) in
+    let positive = not_zero (named_symbol bytes e.at) (and_first (not (named_symbol bytes e.at == 0)) (nat_lt (named_symbol bytes e.at) table.count) has.0) in
+    let few = below (named_symbol bytes e.at) table.count (and_second (not (named_symbol bytes e.at == 0)) (nat_lt (named_symbol bytes e.at) table.count) has.0) in
+    let place : get_or (symbols_of table) (named_symbol bytes e.at - 1) 0 ≡ symbol_of table bytes e.at =
+    entry_at (table.at + 16) 16 (table.count - 1) (named_symbol bytes e.at - 1) (omega (arith, positive, few)) ∙ omega (arith, positive) in
     let count = entries_length (table.at + 16) 16 (table.count - 1) in
-    let low = number_in ns bytes (symbols_of table) 0 (number_of bytes e.at - 1) (omega (arith, positive, few, count)) (subst (λ (y : ℕ). is_listed ns bytes y ≡ true) (sym place) is_there) in
+    let low = number_in ns bytes (symbols_of table) 0 (named_symbol bytes e.at - 1) (omega (arith, positive, few, count)) (subst (λ (y : ℕ). is_listed ns bytes y ≡ true) (sym place) is_there) in
     omega (arith, low)
 
 size_on : (b : Bool) (s w : ℕ) → w + 4 ≤ cond b s 0 → (b ≡ true) × (w + 4 ≤ s)
@@ -336,7 +337,7 @@ section_there : (table : Table) (ns bytes : List ℕ) (e : Entry) → form_fault
     → (nat_lt (target bytes e.section) (section_count bytes) ≡ true) × (word32 bytes e.at + 4 ≤ size bytes (section_of bytes (target bytes e.section)))
 unfolding size_at
 section_there table ns bytes e h =
-    let form = else_none (bad (is_outside ns bytes e) e.at) _ h in
+    let form = else_none (then_some (is_outside ns bytes e) e.at) _ h in
     let out = or_false (role_number (target_role ns bytes e.section) == 4) (nat_lt (size_at bytes (target bytes e.section)) (word32 bytes e.at + 4)) (bad_none (is_outside ns bytes e) e.at form.0) in
     size_on (nat_lt (target bytes e.section) (section_count bytes)) (size bytes (section_of bytes (target bytes e.section))) (word32 bytes e.at)
     (not_below (size_at bytes (target bytes e.section)) (word32 bytes e.at + 4) out.1)
@@ -393,7 +394,7 @@ init_room bytes t whole is role_is =
     subst (λ (s : ℕ). get_or (starts role.Init (names bytes) bytes 0 (sections bytes)) t 0 + size bytes s ≤ length (joined (names bytes) bytes [] (sections bytes))) (section_is bytes t is)
     (joined_room (names bytes) bytes [] (sections bytes) t full (section_in bytes t is) (subst (λ (s : ℕ). has_role role.Init (names bytes) bytes s ≡ true) (sym (section_is bytes t is)) has))
 
-text_inside : (ns bytes nums : List ℕ) (e : Entry) (symbols text init : ℕ) → HasTarget 2 ns bytes e → get_or nums (number_of bytes e.at - 1) 0 < symbols
+text_inside : (ns bytes nums : List ℕ) (e : Entry) (symbols text init : ℕ) → HasTarget 2 ns bytes e → get_or nums (named_symbol bytes e.at - 1) 0 < symbols
     → word32 bytes e.at + 4 ≤ text → IsInside symbols text init (reloc_at nums ns bytes e)
 unfolding reloc_at start_at
 text_inside ns bytes nums e symbols text init is low room =
@@ -405,7 +406,7 @@ text_inside ns bytes nums e symbols text init is low room =
           (omega (arith, room, mod-le (0 + word32 bytes e.at) (2 ^ 32))),
     )
 
-init_inside : (ns bytes nums : List ℕ) (e : Entry) (symbols text init : ℕ) → HasTarget 3 ns bytes e → get_or nums (number_of bytes e.at - 1) 0 < symbols
+init_inside : (ns bytes nums : List ℕ) (e : Entry) (symbols text init : ℕ) → HasTarget 3 ns bytes e → get_or nums (named_symbol bytes e.at - 1) 0 < symbols
     → get_or (starts role.Init ns bytes 0 (sections bytes)) (target bytes e.section) 0 + (word32 bytes e.at + 4) ≤ init → IsInside symbols text init (reloc_at nums ns bytes e)
 unfolding reloc_at start_at
 init_inside ns bytes nums e symbols text init is low room =

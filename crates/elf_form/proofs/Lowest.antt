@@ -1,10 +1,11 @@
 -- What finds the lowest of some places, and how such searches are put together.
 use Rattle.std.proofs.Common.{◌≡◌, ◌≢◌, ℕ, zero, suc, ◌+◌, ◌<◌, ◌≤◌, Bool, true, false, not, cond, List, [], ◌∷◌, nat_lt, Option, Some, None, refl, sym, ap, ◌∙◌, subst, inl, inr, ◌⊎◌, arith}
 use Rattle.std.specs.Prelude.{◌==◌, filter, fold}
+use Rattle.std.specs.Bool.{then_some}
 use Rattle.std.specs.List.{Contains}
 use Rattle.std.proofs.lemmas.Bool.{cases_lt, le-ltb, lt-ltb, eqb-false, ne_eqb}
 use Rattle.elf_form.specs.Faults.{◌or_lower◌}
-use Rattle.guest_ram.specs.Places.{◌or_else◌, bad}
+use Rattle.guest_ram.specs.Places.{◌or_else◌}
 use Rattle.elf_form.specs.Tables.{entries, first, found}
 use Rattle.elf_form.specs.Sections.{field_of}
 use Rattle.elf_form.specs.Symbols.{first_some}
@@ -60,16 +61,16 @@ finds_at o q P e h = subst (λ (x : Option ℕ). Finds x P) e h
 
 -- ---- one place
 
-pub finds_bad : (b : Bool) (at : ℕ) → Finds (bad b at) (λ k. (b ≡ true) × (k ≡ at))
+pub finds_bad : (b : Bool) (at : ℕ) → Finds (then_some b at) (λ k. (b ≡ true) × (k ≡ at))
 finds_bad true at = ((refl, refl), λ k p. omega (arith, p.1))
 finds_bad false at = λ k p. absurd cc
 
-pub finds_not : (b : Bool) (at : ℕ) → Finds (bad (not b) at) (λ k. (b ≡ false) × (k ≡ at))
+pub finds_not : (b : Bool) (at : ℕ) → Finds (then_some (not b) at) (λ k. (b ≡ false) × (k ≡ at))
 finds_not true at = λ k p. absurd cc
 finds_not false at = ((refl, refl), λ k p. omega (arith, p.1))
 
-pub finds_field : (m n at : ℕ) → Finds (bad (not (m == n)) at) (λ k. (m ≢ n) × (k ≡ at))
-finds_field m n at = finds_as (bad (not (m == n)) at) (λ k. ((m == n) ≡ false) × (k ≡ at)) (λ k. (m ≢ n) × (k ≡ at)) (λ k p. (eqb-false m n p.0, p.1)) (λ k p. (ne_eqb m n p.0, p.1)) (finds_not (m == n) at)
+pub finds_field : (m n at : ℕ) → Finds (then_some (not (m == n)) at) (λ k. (m ≢ n) × (k ≡ at))
+finds_field m n at = finds_as (then_some (not (m == n)) at) (λ k. ((m == n) ≡ false) × (k ≡ at)) (λ k. (m ≢ n) × (k ≡ at)) (λ k p. (eqb-false m n p.0, p.1)) (λ k p. (ne_eqb m n p.0, p.1)) (finds_not (m == n) at)
 
 -- ---- two searches
 
@@ -126,21 +127,21 @@ module _ (f : ℕ → Option ℕ) (P : ℕ → ℕ → Type 0) (size : ℕ) (eac
         below i j p (x, there, q) = omega (arith, (within at i p).1, (within x j q).0, entry_from (at + size) size n x there)
 
 -- the first that passes a test, by one of its fields
-some_first : (p : ℕ → Bool) (field : ℕ) (xs : List ℕ) → first_some (λ x. bad (p x) (x + field)) xs ≡ field_of field (first p xs)
+some_first : (p : ℕ → Bool) (field : ℕ) (xs : List ℕ) → first_some (λ x. then_some (p x) (x + field)) xs ≡ field_of field (first p xs)
 unfolding first_some first
 some_first p field [] = refl
 some_first p field (x ∷ xs) = by (p x) (some_first p field xs) where
-  by : (b : Bool) → first_some (λ y. bad (p y) (y + field)) xs ≡ field_of field (first p xs) → (bad b (x + field) or_else first_some (λ y. bad (p y) (y + field)) xs) ≡ field_of field (cond b (Some x) (first p xs))
+  by : (b : Bool) → first_some (λ y. then_some (p y) (y + field)) xs ≡ field_of field (first p xs) → (then_some b (x + field) or_else first_some (λ y. then_some (p y) (y + field)) xs) ≡ field_of field (cond b (Some x) (first p xs))
   by true e = refl
   by false e = e
 
 pub finds_first : (p : ℕ → Bool) (field at size n : ℕ) → field < size → Finds (field_of field (first p (entries at size n))) (λ k. (x : ℕ) × Contains (entries at size n) x × (p x ≡ true) × (k ≡ x + field))
 finds_first p field at size n lt =
-    finds_at (first_some (λ x. bad (p x) (x + field)) (entries at size n)) (field_of field (first p (entries at size n))) (λ k. (x : ℕ) × Contains (entries at size n) x × (p x ≡ true) × (k ≡ x + field))
+    finds_at (first_some (λ x. then_some (p x) (x + field)) (entries at size n)) (field_of field (first p (entries at size n))) (λ k. (x : ℕ) × Contains (entries at size n) x × (p x ≡ true) × (k ≡ x + field))
     (some_first p field (entries at size n))
-    (finds_as (first_some (λ x. bad (p x) (x + field)) (entries at size n)) (λ k. (x : ℕ) × Contains (entries at size n) x × ((p x ≡ true) × (k ≡ x + field))) (λ k. (x : ℕ) × Contains (entries at size n) x × (p x ≡ true) × (k ≡ x + field))
+    (finds_as (first_some (λ x. then_some (p x) (x + field)) (entries at size n)) (λ k. (x : ℕ) × Contains (entries at size n) x × ((p x ≡ true) × (k ≡ x + field))) (λ k. (x : ℕ) × Contains (entries at size n) x × (p x ≡ true) × (k ≡ x + field))
     (λ k h. (h.0, h.1, h.2.0, h.2.1)) (λ k h. (h.0, h.1, (h.2, h.3)))
-    (finds_some (λ x. bad (p x) (x + field)) (λ x k. (p x ≡ true) × (k ≡ x + field)) size (λ x. finds_bad (p x) (x + field)) (λ x k h. (omega (arith, h.1), omega (arith, h.1, lt))) at n))
+    (finds_some (λ x. then_some (p x) (x + field)) (λ x k. (p x ≡ true) × (k ≡ x + field)) size (λ x. finds_bad (p x) (x + field)) (λ x k h. (omega (arith, h.1), omega (arith, h.1, lt))) at n))
 
 plus_zero : (o : Option ℕ) → field_of 0 o ≡ o
 plus_zero None = refl

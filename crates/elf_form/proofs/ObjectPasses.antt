@@ -10,7 +10,7 @@ use Rattle.elf_form.specs.ObjectParts.{ObjectParts}
 use Rattle.elf_form.specs.Output.{pad}
 use Rattle.guest_ram.specs.Places.{◌or_else◌}
 use Rattle.elf_form.specs.Tables.{first, found}
-use Rattle.elf_form.specs.Header.{passes, header_passes, section_passes, header_table, section_table, header_count, section_count, part_of, header_cut, header_table_cut, section_table_cut, header_part_cut, section_part_cut, cut}
+use Rattle.elf_form.specs.Header.{passes, header_passes, section_passes, header_table, section_table, header_count, section_count, part_begins, header_cut, header_table_cut, section_table_cut, header_part_cut, section_part_cut, cut}
 use Rattle.elf_form.specs.Sections.{is_nameless, is_compressed, field_of, compressed, nameless}
 use Rattle.elf_form.specs.Roles.{with_role, is_misaligned, misaligned, joined_fault}
 use Rattle.elf_form.specs.Symbols.{first_some, section_test, sections_fault}
@@ -45,8 +45,8 @@ not_cut f o is =
     let a : header_cut f ≡ None = is_good (passes f 0 52) 0 (le-ltb (length f) 52 (omega arith)) in
     let b : header_table_cut f ≡ None = is_good (passes f (header_table f) (32 * header_count f)) (header_table f) (rw (is.header.headers, is.header.programs) (le-ltb (length f) 0 (omega arith))) in
     let c : section_table_cut f ≡ None = is_good (passes f (section_table f) (40 * section_count f)) (section_table f) (rw (is.header.sections, is.header.section_count) (le-ltb (length f) (s + 400) (omega arith))) in
-    let d : header_part_cut f ≡ None = ap (part_of f 4) (ap (first (header_passes f)) (headers-are f o is)) in
-    let e : section_part_cut f ≡ None = ap (part_of f 16) (ap (first (section_passes f)) (sections-are f o is)
+    let d : header_part_cut f ≡ None = ap (part_begins f 4) (ap (first (header_passes f)) (headers-are f o is)) in
+    let e : section_part_cut f ≡ None = ap (part_begins f 16) (ap (first (section_passes f)) (sections-are f o is)
     ∙ none_of_ten (section_passes f) s (stays f _ _ _ _ _ _ is.null (omega arith)) (stays f _ _ _ _ _ _ is.text (omega arith)) (stays f _ _ _ _ _ _ is.init (omega arith)) (bss_stays f _ _ _ _ _ is.bss) (stays f _ _ _ _ _ _ is.sites (omega arith)) (stays f _ _ _ _ _ _ is.text_relocs (omega arith)) (stays f _ _ _ _ _ _ is.data_relocs (omega arith)) (stays f _ _ _ _ _ _ is.symbols (omega arith)) (stays f _ _ _ _ _ _ is.strings (omega arith)) (stays f _ _ _ _ _ _ is.names (omega arith))) in
     neither_first (header_cut f) (header_table_cut f or_else (section_table_cut f or_else (header_part_cut f or_else section_part_cut f))) a (neither_first (header_table_cut f) (section_table_cut f or_else (header_part_cut f or_else section_part_cut f)) b (neither_first (section_table_cut f) (header_part_cut f or_else section_part_cut f) c (neither_first (header_part_cut f) (section_part_cut f) d e)))
 

@@ -1,6 +1,7 @@
 -- A written object is read again.
 use Rattle.std.proofs.Common.{◌≡◌, ℕ, ◌+◌, ◌*◌, ◌-◌, ◌/◌, ◌%◌, ◌<◌, ◌≤◌, ◌^◌, Bool, true, false, cond, eqb, ltb, not, List, [], ◌++◌, length, get_or, map, Option, None, Ok, refl, ◌∙◌, subst, arith}
 use Rattle.std.specs.Prelude.{◌||◌, filter}
+use Rattle.std.specs.Bool.{then_some}
 use Rattle.std.proofs.lemmas.Bool.{le-ltb, lt-ltb}
 use Rattle.guest_ram.specs.Bytes.{word32}
 use Rattle.elf_form.specs.declared.object.DefinedIn.TheVariants as place
@@ -11,10 +12,9 @@ use Rattle.elf_form.specs.declared.symbols.SymbolTest.TheVariants.{Names, Global
 use Rattle.elf_form.specs.declared.symbols.RelocTest.{RelocTest}
 use Rattle.elf_form.specs.declared.symbols.RelocTest.TheVariants.{Named, Form}
 use Rattle.elf_form.specs.ObjectParts.{ObjectParts}
-use Rattle.guest_ram.specs.Places.{bad}
 use Rattle.elf_form.specs.Tables.{entries, found}
 use Rattle.elf_form.specs.Roles.{role_number}
-use Rattle.elf_form.specs.Symbols.{is_file, symbols_of, has_binding, has_place, is_listed, symbol_fault, global_fault, target, target_role, entry, number_of, has_symbol, symbol_of, size_at, named_fault, form_fault, is_unnamed, symbols_fault, reloc_test, relocs_fault, relocs_of, start_at, symbol_at, symbols_in, numbers, reloc_at}
+use Rattle.elf_form.specs.Symbols.{is_file, symbols_of, has_binding, has_place, is_listed, symbol_fault, global_fault, target, target_role, entry, named_symbol, has_symbol, symbol_of, size_at, named_fault, form_fault, is_unnamed, symbols_fault, reloc_test, relocs_fault, relocs_of, start_at, symbol_at, symbols_in, numbers, reloc_at}
 use Rattle.elf_form.specs.ObjectReading.{table_of, strings_of, string_places, kept_relocs, symbol_form, reloc_form, object_at, late_tests, middle_tests, early_tests, object_in}
 use Rattle.elf_form.specs.ObjectLayout.{layout, names_of, strings_of as names_table, is_of, place_number, object_names, object_bytes, IsWholeObject, HasValues}
 use Rattle.elf_form.proofs.RoundTrip.{neither_lower}
@@ -56,7 +56,7 @@ relative_read : (b : Bool) → eqb (cond b 2 1) 2 ≡ b
 relative_read true = refl
 relative_read false = refl
 
-either_kind : (b : Bool) (at : ℕ) → bad (not (eqb (cond b 2 1) 1 || eqb (cond b 2 1) 2) || false) at ≡ None
+either_kind : (b : Bool) (at : ℕ) → then_some (not (eqb (cond b 2 1) 1 || eqb (cond b 2 1) 2) || false) at ≡ None
 either_kind true at = refl
 either_kind false at = refl
 
@@ -158,7 +158,7 @@ module _ (f : List ℕ) (o : ObjectParts) (is : IsFileOf f o) (has : HasRoles f 
   }
 
   module _ (s : ℕ) (in_text : Bool) (size : ℕ) (to : IsTarget s in_text size) (small : size < 2 ^ 31) (y : ℕ) (r : Reloc) (at : IsRelocAt in_text size (length o.symbols) f y r) where
-    number-is : number_of f y ≡ r.symbol + 1
+    number-is : named_symbol f y ≡ r.symbol + 1
     number-is = rw at.info (number_there r.symbol r.relative)
 
     kind-is : word32 f (y + 4) % 256 ≡ cond r.relative 2 1

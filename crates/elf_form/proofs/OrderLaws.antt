@@ -2,11 +2,12 @@
 use Rattle.std.specs.List.{Contains}
 use Rattle.std.proofs.Common.{◌≡◌, ℕ, zero, suc, ◌+◌, ◌*◌, ◌<◌, ◌≤◌, Bool, true, false, ◌&&◌, cond, List, [], ◌∷◌, ◌++◌, length, map, filter, nat_lt, Option, Some, None, refl, sym, ap, ◌∙◌, inl, inr, subst, slice_get, arith}
 use Rattle.std.specs.Prelude.{◌↔◌}
+use Rattle.std.specs.Bool.{then_some}
 use Rattle.std.proofs.lemmas.Bool.{cases_lt, le-ltb, lt-ltb}
 use Rattle.guest_ram.specs.Bytes.{word32}
-use Rattle.guest_ram.specs.Places.{◌or_else◌, bad}
+use Rattle.guest_ram.specs.Places.{◌or_else◌}
 use Rattle.elf_form.specs.Tables.{first}
-use Rattle.elf_form.specs.Header.{header_table, section_table, header_count, section_count, headers, sections, passes, has_contents, header_passes, section_passes, part_of, cut}
+use Rattle.elf_form.specs.Header.{header_table, section_table, header_count, section_count, headers, sections, passes, has_contents, header_passes, section_passes, part_begins, cut}
 use Rattle.elf_form.specs.Order.{named_by_header, named_by_section, named_parts, IsPast, IsFirstPast}
 use Rattle.elf_form.proofs.Lowest.{some, has_first, has_later, first_or_later, has_none}
 
@@ -15,10 +16,10 @@ past_in : ℕ → List (ℕ × ℕ) → Option ℕ
 past_in size [] = None
 past_in size (p ∷ ps) = cond (nat_lt size (p.0 + p.1)) (Some p.0) (past_in size ps)
 
-one_more : (size : ℕ) (p : ℕ × ℕ) (ps : List (ℕ × ℕ)) → past_in size (p ∷ ps) ≡ (bad (nat_lt size (p.0 + p.1)) p.0 or_else past_in size ps)
+one_more : (size : ℕ) (p : ℕ × ℕ) (ps : List (ℕ × ℕ)) → past_in size (p ∷ ps) ≡ (then_some (nat_lt size (p.0 + p.1)) p.0 or_else past_in size ps)
 unfolding past_in
 one_more size p ps = by (nat_lt size (p.0 + p.1)) where
-  by : (b : Bool) → cond b (Some p.0) (past_in size ps) ≡ (bad b p.0 or_else past_in size ps)
+  by : (b : Bool) → cond b (Some p.0) (past_in size ps) ≡ (then_some b p.0 or_else past_in size ps)
   by true = refl
   by false = refl
 
@@ -35,22 +36,22 @@ past_append size (p ∷ ps) qs = by (nat_lt size (p.0 + p.1)) (past_append size 
   by false e = e
 
 module _ (bytes : List ℕ) where
-  headers_past : (hs : List ℕ) → part_of bytes 4 (first (header_passes bytes) hs) ≡ past_in (length bytes) (map (named_by_header bytes) hs)
+  headers_past : (hs : List ℕ) → part_begins bytes 4 (first (header_passes bytes) hs) ≡ past_in (length bytes) (map (named_by_header bytes) hs)
   unfolding first past_in
   headers_past [] = refl
   headers_past (h ∷ hs) = by (header_passes bytes h) (headers_past hs) where
-    by : (b : Bool) → part_of bytes 4 (first (header_passes bytes) hs) ≡ past_in (length bytes) (map (named_by_header bytes) hs) → part_of bytes 4 (cond b (Some h) (first (header_passes bytes) hs)) ≡ cond b (Some (word32 bytes (h + 4))) (past_in (length bytes) (map (named_by_header bytes) hs))
+    by : (b : Bool) → part_begins bytes 4 (first (header_passes bytes) hs) ≡ past_in (length bytes) (map (named_by_header bytes) hs) → part_begins bytes 4 (cond b (Some h) (first (header_passes bytes) hs)) ≡ cond b (Some (word32 bytes (h + 4))) (past_in (length bytes) (map (named_by_header bytes) hs))
     by true e = refl
     by false e = e
 
-  sections_past : (ss : List ℕ) → part_of bytes 16 (first (section_passes bytes) ss) ≡ past_in (length bytes) (map (named_by_section bytes) (filter (has_contents bytes) ss))
+  sections_past : (ss : List ℕ) → part_begins bytes 16 (first (section_passes bytes) ss) ≡ past_in (length bytes) (map (named_by_section bytes) (filter (has_contents bytes) ss))
   unfolding first past_in
   sections_past [] = refl
   sections_past (s ∷ ss) = by (has_contents bytes s) (passes bytes (word32 bytes (s + 16)) (word32 bytes (s + 20))) refl (sections_past ss) where
-    by : (b c : Bool) → passes bytes (word32 bytes (s + 16)) (word32 bytes (s + 20)) ≡ c → part_of bytes 16 (first (section_passes bytes) ss) ≡ past_in (length bytes) (map (named_by_section bytes) (filter (has_contents bytes) ss)) → part_of bytes 16 (cond (b && passes bytes (word32 bytes (s + 16)) (word32 bytes (s + 20))) (Some s) (first (section_passes bytes) ss)) ≡ past_in (length bytes) (map (named_by_section bytes) (cond b (s ∷ filter (has_contents bytes) ss) (filter (has_contents bytes) ss)))
+    by : (b c : Bool) → passes bytes (word32 bytes (s + 16)) (word32 bytes (s + 20)) ≡ c → part_begins bytes 16 (first (section_passes bytes) ss) ≡ past_in (length bytes) (map (named_by_section bytes) (filter (has_contents bytes) ss)) → part_begins bytes 16 (cond (b && passes bytes (word32 bytes (s + 16)) (word32 bytes (s + 20))) (Some s) (first (section_passes bytes) ss)) ≡ past_in (length bytes) (map (named_by_section bytes) (cond b (s ∷ filter (has_contents bytes) ss) (filter (has_contents bytes) ss)))
     by false c is e = e
     by true c is e = both c is where
-      both : (c : Bool) → passes bytes (word32 bytes (s + 16)) (word32 bytes (s + 20)) ≡ c → part_of bytes 16 (cond (passes bytes (word32 bytes (s + 16)) (word32 bytes (s + 20))) (Some s) (first (section_passes bytes) ss)) ≡ cond (passes bytes (word32 bytes (s + 16)) (word32 bytes (s + 20))) (Some (word32 bytes (s + 16))) (past_in (length bytes) (map (named_by_section bytes) (filter (has_contents bytes) ss)))
+      both : (c : Bool) → passes bytes (word32 bytes (s + 16)) (word32 bytes (s + 20)) ≡ c → part_begins bytes 16 (cond (passes bytes (word32 bytes (s + 16)) (word32 bytes (s + 20))) (Some s) (first (section_passes bytes) ss)) ≡ cond (passes bytes (word32 bytes (s + 16)) (word32 bytes (s + 20))) (Some (word32 bytes (s + 16))) (past_in (length bytes) (map (named_by_section bytes) (filter (has_contents bytes) ss)))
       both true is = rw is refl
       both false is = rw is e
 
@@ -59,14 +60,14 @@ module _ (bytes : List ℕ) where
   cut_past =
       sym (
       one_more (length bytes) (0, 52) _
-      ∙ ap (λ (o : Option ℕ). bad (passes bytes 0 52) 0 or_else o) (
+      ∙ ap (λ (o : Option ℕ). then_some (passes bytes 0 52) 0 or_else o) (
       one_more (length bytes) (header_table bytes, 32 * header_count bytes) _
-      ∙ ap (λ (o : Option ℕ). bad (passes bytes (header_table bytes) (32 * header_count bytes)) (header_table bytes) or_else o) (
+      ∙ ap (λ (o : Option ℕ). then_some (passes bytes (header_table bytes) (32 * header_count bytes)) (header_table bytes) or_else o) (
       one_more (length bytes) (section_table bytes, 40 * section_count bytes) _
-      ∙ ap (λ (o : Option ℕ). bad (passes bytes (section_table bytes) (40 * section_count bytes)) (section_table bytes) or_else o) (
+      ∙ ap (λ (o : Option ℕ). then_some (passes bytes (section_table bytes) (40 * section_count bytes)) (section_table bytes) or_else o) (
       past_append (length bytes) (map (named_by_header bytes) (headers bytes)) (map (named_by_section bytes) (filter (has_contents bytes) (sections bytes)))
       ∙ ap (λ (o : Option ℕ). o or_else past_in (length bytes) (map (named_by_section bytes) (filter (has_contents bytes) (sections bytes)))) (sym (headers_past (headers bytes)))
-      ∙ ap (λ (o : Option ℕ). part_of bytes 4 (first (header_passes bytes) (headers bytes)) or_else o) (sym (sections_past (sections bytes)))))))
+      ∙ ap (λ (o : Option ℕ). part_begins bytes 4 (first (header_passes bytes) (headers bytes)) or_else o) (sym (sections_past (sections bytes)))))))
 
 module _ (size : ℕ) where
   past_so : (parts : List (ℕ × ℕ)) (at : ℕ) → past_in size parts ≡ Some at → IsFirstPast size parts at

@@ -1,6 +1,7 @@
 -- Each cause holds exactly where its condition does, and a refusal is the first cause that holds.
 use Rattle.std.proofs.Common.{◌≡◌, ◌≢◌, ℕ, zero, suc, ◌+◌, ◌%◌, ◌<◌, Bool, true, false, not, ◌&&◌, List, [], ◌∷◌, length, Option, Some, None, Result, Err, refl, sym, ap, ◌∙◌, subst, inl, inr, ◌⊎◌, slice_get, arith}
 use Rattle.std.specs.Prelude.{◌↔◌, ◌==◌}
+use Rattle.std.specs.Bool.{then_some}
 use Rattle.std.proofs.lemmas.Bool.{eqb-true, eqb-false, eq-eqb, ne_eqb, and_parts, and_from, not-true, not_from_false}
 use Rattle.guest_ram.specs.Bytes.{byte, word16, word32}
 use Rattle.elf_form.specs.declared.cause.ElfCause.{ElfCause}
@@ -10,7 +11,6 @@ use Rattle.elf_form.specs.declared.cause.ElfFault.TheVariants as faults
 use Rattle.elf_form.specs.ImageParts.{ImageParts}
 use Rattle.elf_form.specs.ObjectParts.{ObjectParts}
 use Rattle.elf_form.specs.Faults.{Fault, IsFirstOf, Gives}
-use Rattle.guest_ram.specs.Places.{bad}
 use Rattle.elf_form.specs.Tables.{found}
 use Rattle.elf_form.specs.Header.{cut, magic, class, encoding, version, file_type, machine}
 use Rattle.elf_form.specs.Segments.{loads, is_executable, order}
@@ -40,7 +40,7 @@ module _ (bytes : List ℕ) where
   other_list : (xs : List ℕ) → loaded bytes ≡ xs → ((a b : ℕ) → xs ≡ a ∷ b ∷ [] → ⊥) → Finds (Some 44) NotTwo
   other_list xs e never = (((λ t. never t.text t.init (sym e ∙ t.are)), refl), λ k p. omega (arith, p.1))
 
-  two_is : (a b : ℕ) → loaded bytes ≡ a ∷ b ∷ [] → (t : Bool) → (is_executable bytes a && not (is_executable bytes b)) ≡ t → Finds (bad (not t) 44) NotTwo
+  two_is : (a b : ℕ) → loaded bytes ≡ a ∷ b ∷ [] → (t : Bool) → (is_executable bytes a && not (is_executable bytes b)) ≡ t → Finds (then_some (not t) 44) NotTwo
   two_is a b e true is =
       let both = and_parts (is_executable bytes a) (not (is_executable bytes b)) is in
       let two : AreTwo bytes = record { text = a; init = b; are = e; executable = eqb-true (word32 bytes (a + 24) % 2) 1 both.0; other = eqb-false (word32 bytes (b + 24) % 2) 1 (not-true (is_executable bytes b) both.1) } in
@@ -87,7 +87,7 @@ module _ (bytes : List ℕ) where
   section_form_finds = finds_as (section_form bytes) PartAt (IsBadPart bytes) part_to part_from (finds_lower (order bytes (loads bytes)) (one_of (sites_sections bytes)) NotTwo (SitesPart bytes) order_finds (sites_finds bytes))
 
   version_finds : Finds (version bytes) (IsBadVersion bytes)
-  version_finds = finds_lower (bad (not (byte bytes 6 == 1)) 6) (bad (not (word32 bytes 20 == 1)) 20) (λ k. (byte bytes 6 ≢ 1) × (k ≡ 6)) (λ k. (word32 bytes 20 ≢ 1) × (k ≡ 20)) (finds_field (byte bytes 6) 1 6) (finds_field (word32 bytes 20) 1 20)
+  version_finds = finds_lower (then_some (not (byte bytes 6 == 1)) 6) (then_some (not (word32 bytes 20 == 1)) 20) (λ k. (byte bytes 6 ≢ 1) × (k ≡ 6)) (λ k. (word32 bytes 20 ≢ 1) × (k ≡ 20)) (finds_field (byte bytes 6) 1 6) (finds_field (word32 bytes 20) 1 20)
 
 -- ---- all causes
 

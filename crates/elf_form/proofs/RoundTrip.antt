@@ -1,14 +1,15 @@
 -- What is written is read again.
 use Rattle.std.proofs.Common.{◌≡◌, ℕ, ◌+◌, ◌*◌, ◌-◌, ◌≤◌, Bool, true, false, eqb, ltb, List, [], ◌∷◌, length, Option, None, Ok, refl, sym, ap, ◌∙◌, arith, eq-eqb}
 use Rattle.std.specs.Prelude.{filter}
+use Rattle.std.specs.Bool.{then_some}
 use Rattle.std.proofs.lemmas.Bool.{cond-true, cond-false, le-ltb}
 use Rattle.guest_ram.specs.Bytes.{part, word32}
 use Rattle.elf_form.specs.declared.segments.Found.TheVariants.{One, Two}
 use Rattle.elf_form.specs.ImageParts.{ImageParts}
 use Rattle.elf_form.specs.Faults.{◌or_lower◌}
-use Rattle.guest_ram.specs.Places.{◌or_else◌, bad}
+use Rattle.guest_ram.specs.Places.{◌or_else◌}
 use Rattle.elf_form.specs.Tables.{entries, first, found}
-use Rattle.elf_form.specs.Header.{headers, sections, passes, header_passes, section_passes, header_table, section_table, header_count, section_count, part_of, header_cut, header_table_cut, section_table_cut, header_part_cut, section_part_cut, cut}
+use Rattle.elf_form.specs.Header.{headers, sections, passes, header_passes, section_passes, header_table, section_table, header_count, section_count, part_begins, header_cut, header_table_cut, section_table_cut, header_part_cut, section_part_cut, cut}
 use Rattle.elf_form.specs.Segments.{is_load, loads, memory_sizes, sizes, order}
 use Rattle.elf_form.specs.Sections.{contents, names, is_sites, is_nameless, is_compressed, sites_sections, field_of, compressed, nameless}
 use Rattle.elf_form.specs.Reading.{parts_at, section_form, section_tests, header_tests, tests, image_in}
@@ -92,7 +93,7 @@ neither_first a b e g = rw (e, g) refl
 pub neither_lower : (a b : Option ℕ) → a ≡ None → b ≡ None → (a or_lower b) ≡ None
 neither_lower a b e g = rw (e, g) refl
 
-pub is_good : (is_bad : Bool) (at : ℕ) → is_bad ≡ false → bad is_bad at ≡ None
+pub is_good : (is_bad : Bool) (at : ℕ) → is_bad ≡ false → then_some is_bad at ≡ None
 is_good is_bad at e = rw e refl
 
 null_stays : (f : List ℕ) (s n g o z : ℕ) → IsRow f s n 0 g o z → section_passes f s ≡ false
@@ -118,8 +119,8 @@ not_cut f p is =
     let a : header_cut f ≡ None = is_good (passes f 0 52) 0 (le-ltb (length f) 52 (omega arith)) in
     let b : header_table_cut f ≡ None = is_good (passes f (header_table f) (32 * header_count f)) (header_table f) (rw (is.header.headers, is.header.programs) (le-ltb (length f) 116 (omega arith))) in
     let c : section_table_cut f ≡ None = is_good (passes f (section_table f) (40 * section_count f)) (section_table f) (rw (is.header.sections, is.header.section_count) (le-ltb (length f) (s + 240) (omega arith))) in
-    let d : header_part_cut f ≡ None = ap (part_of f 4) (ap (first (header_passes f)) (headers-are f p is) ∙ not_first (header_passes f) 52 (84 ∷ []) (program_stays f 52 _ _ _ _ _ is.text (omega arith)) (not_first (header_passes f) 84 [] (program_stays f 84 _ _ _ _ _ is.init (omega arith)) refl)) in
-    let e : section_part_cut f ≡ None = ap (part_of f 16) (ap (first (section_passes f)) (sections-are f p is)
+    let d : header_part_cut f ≡ None = ap (part_begins f 4) (ap (first (header_passes f)) (headers-are f p is) ∙ not_first (header_passes f) 52 (84 ∷ []) (program_stays f 52 _ _ _ _ _ is.text (omega arith)) (not_first (header_passes f) 84 [] (program_stays f 84 _ _ _ _ _ is.init (omega arith)) refl)) in
+    let e : section_part_cut f ≡ None = ap (part_begins f 16) (ap (first (section_passes f)) (sections-are f p is)
     ∙ none_of_rows (section_passes f) s (null_stays f _ _ _ _ _ is.row0) (bytes_stay f _ _ _ _ _ is.row1 (omega arith)) (bytes_stay f _ _ _ _ _ is.row2 (omega arith)) (bss_stays f _ _ _ _ _ is.row3) (bytes_stay f _ _ _ _ _ is.row4 (omega arith)) (names_stay f _ _ _ _ _ is.row5 (omega arith))) in
     neither_first (header_cut f) (header_table_cut f or_else (section_table_cut f or_else (header_part_cut f or_else section_part_cut f))) a (neither_first (header_table_cut f) (section_table_cut f or_else (header_part_cut f or_else section_part_cut f)) b (neither_first (section_table_cut f) (header_part_cut f or_else section_part_cut f) c (neither_first (header_part_cut f) (section_part_cut f) d e)))
 

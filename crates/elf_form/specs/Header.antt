@@ -1,8 +1,9 @@
 -- The header of a file (System V ABI, chapter 4, ELF Header), by offsets, and where its tables and their contents pass the end.
 use Rattle.std.specs.Prelude.{◌≡◌, ◌≤◌, ℕ, ◌+◌, ◌*◌, Bool, false, not, ◌&&◌, List, length, Option, Some, None, nat_lt, ◌==◌}
+use Rattle.std.specs.Bool.{then_some}
 use Rattle.guest_ram.specs.Bytes.{byte, word16, word32}
 use Rattle.elf_form.specs.Faults.{◌or_lower◌}
-use Rattle.guest_ram.specs.Places.{◌or_else◌, bad}
+use Rattle.guest_ram.specs.Places.{◌or_else◌}
 use Rattle.elf_form.specs.Tables.{entries, first}
 
 -- where the tables begin, and their entries
@@ -40,24 +41,24 @@ abbrev pub section_passes : List ℕ → ℕ → Bool
 section_passes bytes s = has_contents bytes s && passes bytes (word32 bytes (s + 16)) (word32 bytes (s + 20))
 
 -- where the part begins that an entry names
-abbrev pub part_of : List ℕ → ℕ → Option ℕ → Option ℕ
-part_of bytes field None = None
-part_of bytes field (Some entry) = Some (word32 bytes (entry + field))
+abbrev pub part_begins : List ℕ → ℕ → Option ℕ → Option ℕ
+part_begins bytes field None = None
+part_begins bytes field (Some entry) = Some (word32 bytes (entry + field))
 
 abbrev pub header_cut : List ℕ → Option ℕ
-header_cut bytes = bad (passes bytes 0 52) 0
+header_cut bytes = then_some (passes bytes 0 52) 0
 
 abbrev pub header_table_cut : List ℕ → Option ℕ
-header_table_cut bytes = bad (passes bytes (header_table bytes) (32 * header_count bytes)) (header_table bytes)
+header_table_cut bytes = then_some (passes bytes (header_table bytes) (32 * header_count bytes)) (header_table bytes)
 
 abbrev pub section_table_cut : List ℕ → Option ℕ
-section_table_cut bytes = bad (passes bytes (section_table bytes) (40 * section_count bytes)) (section_table bytes)
+section_table_cut bytes = then_some (passes bytes (section_table bytes) (40 * section_count bytes)) (section_table bytes)
 
 abbrev pub header_part_cut : List ℕ → Option ℕ
-header_part_cut bytes = part_of bytes 4 (first (header_passes bytes) (headers bytes))
+header_part_cut bytes = part_begins bytes 4 (first (header_passes bytes) (headers bytes))
 
 abbrev pub section_part_cut : List ℕ → Option ℕ
-section_part_cut bytes = part_of bytes 16 (first (section_passes bytes) (sections bytes))
+section_part_cut bytes = part_begins bytes 16 (first (section_passes bytes) (sections bytes))
 
 -- The first part that passes the end: the header, the tables, what the program headers name, the contents of sections.
 unfoldable pub cut : List ℕ → Option ℕ
@@ -80,19 +81,19 @@ IsSection bytes s = (s + 40 ≤ length bytes) × (section_passes bytes s ≡ fal
 
 -- The fields that have one value.
 abbrev pub magic : List ℕ → Option ℕ
-magic bytes = bad (not (word32 bytes 0 == 0x464C457F)) 0
+magic bytes = then_some (not (word32 bytes 0 == 0x464C457F)) 0
 
 abbrev pub class : List ℕ → Option ℕ
-class bytes = bad (not (byte bytes 4 == 1)) 4
+class bytes = then_some (not (byte bytes 4 == 1)) 4
 
 abbrev pub encoding : List ℕ → Option ℕ
-encoding bytes = bad (not (byte bytes 5 == 1)) 5
+encoding bytes = then_some (not (byte bytes 5 == 1)) 5
 
 abbrev pub version : List ℕ → Option ℕ
-version bytes = bad (not (byte bytes 6 == 1)) 6 or_lower bad (not (word32 bytes 20 == 1)) 20
+version bytes = then_some (not (byte bytes 6 == 1)) 6 or_lower then_some (not (word32 bytes 20 == 1)) 20
 
 abbrev pub file_type : ℕ → List ℕ → Option ℕ
-file_type wanted bytes = bad (not (word16 bytes 16 == wanted)) 16
+file_type wanted bytes = then_some (not (word16 bytes 16 == wanted)) 16
 
 abbrev pub machine : List ℕ → Option ℕ
-machine bytes = bad (not (word16 bytes 18 == 3)) 18
+machine bytes = then_some (not (word16 bytes 18 == 3)) 18

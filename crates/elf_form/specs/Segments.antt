@@ -1,10 +1,10 @@
 -- The two program headers of an image (System V ABI, chapter 5, Program Header).
 use Rattle.std.specs.Prelude.{ℕ, ◌+◌, ◌%◌, Bool, not, ◌&&◌, List, length, filter, Option, Some, None, nat_lt, ◌==◌}
+use Rattle.std.specs.Bool.{then_some}
 use Rattle.guest_ram.specs.Bytes.{word16, word32}
 use Rattle.elf_form.specs.declared.segments.Found.{Found}
 use Rattle.elf_form.specs.declared.segments.Found.TheVariants.{Nothing, One, Two, More}
 use Rattle.elf_form.specs.Faults.{◌or_lower◌}
-use Rattle.guest_ram.specs.Places.{bad}
 use Rattle.elf_form.specs.Tables.{found}
 use Rattle.elf_form.specs.Header.{headers}
 
@@ -16,10 +16,10 @@ loads bytes = found (filter (is_load bytes) (headers bytes))
 
 -- The first takes as much memory as it has bytes, the second no less.
 abbrev pub first_size : List ℕ → ℕ → Option ℕ
-first_size bytes h = bad (not (word32 bytes (h + 20) == word32 bytes (h + 16))) (h + 20)
+first_size bytes h = then_some (not (word32 bytes (h + 20) == word32 bytes (h + 16))) (h + 20)
 
 abbrev pub second_size : List ℕ → ℕ → Option ℕ
-second_size bytes h = bad (nat_lt (word32 bytes (h + 20)) (word32 bytes (h + 16))) (h + 20)
+second_size bytes h = then_some (nat_lt (word32 bytes (h + 20)) (word32 bytes (h + 16))) (h + 20)
 
 unfoldable pub memory_sizes : List ℕ → Found → Option ℕ
 memory_sizes bytes Nothing = None
@@ -28,16 +28,16 @@ memory_sizes bytes (Two a b) = first_size bytes a or_lower second_size bytes b
 memory_sizes bytes (More a b) = first_size bytes a or_lower second_size bytes b
 
 abbrev pub header_size : List ℕ → Option ℕ
-header_size bytes = bad (not (word16 bytes 40 == 52)) 40
+header_size bytes = then_some (not (word16 bytes 40 == 52)) 40
 
 abbrev pub program_size : List ℕ → Option ℕ
-program_size bytes = bad (not (word16 bytes 42 == 32)) 42
+program_size bytes = then_some (not (word16 bytes 42 == 32)) 42
 
 abbrev pub section_size : List ℕ → Option ℕ
-section_size bytes = bad (not (word16 bytes 46 == 40)) 46
+section_size bytes = then_some (not (word16 bytes 46 == 40)) 46
 
 abbrev pub too_long : List ℕ → Option ℕ
-too_long bytes = bad (nat_lt 33554432 (length bytes)) 33554432
+too_long bytes = then_some (nat_lt 33554432 (length bytes)) 33554432
 
 -- The lowest size field that is wrong.
 unfoldable pub sizes : List ℕ → Option ℕ
@@ -48,7 +48,7 @@ is_executable bytes h = word32 bytes (h + 24) % 2 == 1
 
 -- There are two, and the first alone is executable.
 unfoldable pub order : List ℕ → Found → Option ℕ
-order bytes (Two a b) = bad (not (is_executable bytes a && not (is_executable bytes b))) 44
+order bytes (Two a b) = then_some (not (is_executable bytes a && not (is_executable bytes b))) 44
 order bytes Nothing = Some 44
 order bytes (One a) = Some 44
 order bytes (More a b) = Some 44

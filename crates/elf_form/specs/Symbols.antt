@@ -1,5 +1,6 @@
 -- The symbols of an object and its relocations (System V ABI, chapter 4, Symbol Table and Relocation, with the relocation types of its i386 supplement).
 use Rattle.std.specs.Prelude.{ℕ, ◌≤◌, ◌+◌, ◌*◌, ◌-◌, ◌/◌, ◌%◌, ◌^◌, Bool, true, not, ◌&&◌, ◌||◌, List, [], ◌∷◌, length, map, filter, fold, drop, Option, None, nat_lt, ◌==◌, slice_index, if◌then◌else◌}
+use Rattle.std.specs.Bool.{then_some}
 use Rattle.std.specs.List.{list_any, before_first, flat_map}
 use Rattle.guest_ram.specs.Bytes.{byte, word16, word32}
 use Rattle.elf_form.specs.declared.roles.Role.{Role}
@@ -19,7 +20,7 @@ use Rattle.elf_form.specs.declared.symbols.SymbolTest.TheVariants.{Names, Global
 use Rattle.elf_form.specs.declared.symbols.RelocTest.{RelocTest}
 use Rattle.elf_form.specs.declared.symbols.RelocTest.TheVariants.{Named, Form}
 use Rattle.elf_form.specs.Faults.{◌or_lower◌}
-use Rattle.guest_ram.specs.Places.{◌or_else◌, bad}
+use Rattle.guest_ram.specs.Places.{◌or_else◌}
 use Rattle.elf_form.specs.Tables.{entries}
 use Rattle.elf_form.specs.Header.{section_table, section_count, sections}
 use Rattle.elf_form.specs.Sections.{contents, is_index}
@@ -83,7 +84,7 @@ is_listed names bytes y = not (is_file bytes y) && has_binding bytes y && has_pl
 unfoldable pub symbol_fault : List ℕ → List ℕ → ℕ → Option ℕ
 symbol_fault names bytes y =
     if is_file bytes y then None
-    else (bad (not (has_binding bytes y)) (y + 12) or_else bad (not (has_place names bytes y)) (y + 14))
+    else (then_some (not (has_binding bytes y)) (y + 12) or_else then_some (not (has_place names bytes y)) (y + 14))
 
 -- one that isn't local is needed
 abbrev pub global_fault : List ℕ → List ℕ → ℕ → Option ℕ
@@ -122,7 +123,7 @@ pub record IsEntry (bytes : List ℕ) (e : Entry) : Type 0 where
 
 -- a size that is no multiple of that of an entry, or another size of entries
 abbrev pub entries_fault : ℕ → List ℕ → ℕ → Option ℕ
-entries_fault entry bytes s = bad (not (size bytes s % entry == 0)) (s + 20) or_else bad (not (word32 bytes (s + 36) == entry)) (s + 36)
+entries_fault entry bytes s = then_some (not (size bytes s % entry == 0)) (s + 20) or_else then_some (not (word32 bytes (s + 36) == entry)) (s + 36)
 
 -- the section that a section names is the symbol table
 abbrev pub is_linked : Table → List ℕ → List ℕ → ℕ → Bool
@@ -130,7 +131,7 @@ is_linked table names bytes s = (role_number (role_at names bytes (word32 bytes 
 
 abbrev pub section_test : SectionTest → Table → List ℕ → List ℕ → ℕ → Option ℕ
 section_test EntrySizes table names bytes s = if is_reloc_section names bytes s then entries_fault 8 bytes s else None
-section_test Links table names bytes s = if is_reloc_section names bytes s then bad (not (is_linked table names bytes s)) (s + 24) else None
+section_test Links table names bytes s = if is_reloc_section names bytes s then then_some (not (is_linked table names bytes s)) (s + 24) else None
 
 unfoldable pub sections_fault : SectionTest → Table → List ℕ → List ℕ → Option ℕ
 sections_fault test table names bytes = first_some (section_test test table names bytes) (sections bytes)
@@ -140,21 +141,21 @@ abbrev pub is_unnamed : List ℕ → List ℕ → ℕ → Bool
 is_unnamed strings bytes y = not (list_any (λ b. b == 0) (drop (word32 bytes y) strings))
 
 abbrev pub symbol_test : SymbolTest → List ℕ → List ℕ → List ℕ → ℕ → Option ℕ
-symbol_test Names strings names bytes y = bad (is_unnamed strings bytes y) y
+symbol_test Names strings names bytes y = then_some (is_unnamed strings bytes y) y
 symbol_test Globals strings names bytes y = global_fault names bytes y
 
 unfoldable pub symbols_fault : SymbolTest → Table → List ℕ → List ℕ → List ℕ → Option ℕ
 symbols_fault test table strings names bytes = first_some (symbol_test test strings names bytes) (symbols_of table)
 
 -- the number of the symbol that a relocation names; whether the table has it, behind the null one
-abbrev pub number_of : List ℕ → ℕ → ℕ
-number_of bytes y = word32 bytes (y + 4) / 256
+abbrev pub named_symbol : List ℕ → ℕ → ℕ
+named_symbol bytes y = word32 bytes (y + 4) / 256
 
 abbrev pub has_symbol : Table → List ℕ → ℕ → Bool
-has_symbol table bytes y = not (number_of bytes y == 0) && nat_lt (number_of bytes y) table.count
+has_symbol table bytes y = not (named_symbol bytes y == 0) && nat_lt (named_symbol bytes y) table.count
 
 abbrev pub symbol_of : Table → List ℕ → ℕ → ℕ
-symbol_of table bytes y = table.at + 16 * number_of bytes y
+symbol_of table bytes y = table.at + 16 * named_symbol bytes y
 
 unfoldable pub size_at : List ℕ → ℕ → ℕ
 size_at bytes index = if nat_lt index (section_count bytes) then size bytes (section_of bytes index) else 0
@@ -175,7 +176,7 @@ abbrev pub named_fault : Table → List ℕ → List ℕ → ℕ → Option ℕ
 named_fault table names bytes y = if has_symbol table bytes y then symbol_fault names bytes (symbol_of table bytes y) else None
 
 abbrev pub form_fault : Table → List ℕ → List ℕ → Entry → Option ℕ
-form_fault table names bytes e = bad (is_outside names bytes e) e.at or_else bad (not (has_kind bytes e.at) || names_none table bytes e.at) (e.at + 4)
+form_fault table names bytes e = then_some (is_outside names bytes e) e.at or_else then_some (not (has_kind bytes e.at) || names_none table bytes e.at) (e.at + 4)
 
 abbrev pub reloc_test : RelocTest → Table → List ℕ → List ℕ → Entry → Option ℕ
 reloc_test Named table names bytes e = named_fault table names bytes e.at
@@ -219,7 +220,7 @@ unfoldable pub reloc_at : List ℕ → List ℕ → List ℕ → Entry → Reloc
 reloc_at numbers names bytes e = record {
   in_text = role_number (target_role names bytes e.section) == 2;
   at = (start_at names bytes (target bytes e.section) + word32 bytes e.at) % 2 ^ 32;
-  symbol = slice_index numbers (number_of bytes e.at - 1);
+  symbol = slice_index numbers (named_symbol bytes e.at - 1);
   relative = word32 bytes (e.at + 4) % 256 == 2;
 }
 

@@ -9,7 +9,7 @@ use crate::header::lower;
 use crate::roles::Role;
 use crate::sections::contents;
 use crate::symbols::{Entry, RelocTest, Table, is_reloc_section_of, reloc_test};
-use crate::words::{half, word};
+use guest_ram::{half, word};
 use std::alloc::{AllocError, Global};
 
 fn put_entries(out: &mut Vec<Entry>, bytes: &[u8], s: usize) -> Result<(), AllocError>

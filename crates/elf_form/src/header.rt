@@ -4,10 +4,10 @@ ghost use Rattle.std.specs.Prelude.{◌≡◌, ◌≤◌, ◌<◌, ◌+◌, ◌*
 ghost use Rattle.guest_ram.specs.Bytes.{byte, word16, word32};
 ghost use Rattle.elf_form.specs.Faults.{◌or_lower◌};
 ghost use Rattle.elf_form.specs.Tables.{entries, first};
-ghost use Rattle.elf_form.specs.Header.{cut, part_of, header_passes, section_passes, passes, IsWhole};
+ghost use Rattle.elf_form.specs.Header.{cut, part_begins, header_passes, section_passes, passes, IsWhole};
 ghost use Rattle.elf_form.specs.Header.{magic, class, encoding, version, file_type, machine};
 
-use crate::words::{byte, half, word};
+use guest_ram::{byte, half, word};
 
 /// The lower place.
 pub fn lower(a: Option<usize>, b: Option<usize>) -> Option<usize>
@@ -47,7 +47,7 @@ fn section_passes_end(bytes: &[u8], s: usize) -> bool
 
 fn cut_header(bytes: &[u8], table: usize, count: usize) -> Option<u32>
     requires { table + 32 * count ≤ length bytes.now }
-    ensures { result ≡ part_of bytes.now 4 (first (header_passes bytes.now) (entries table 32 count)) }
+    ensures { result ≡ part_begins bytes.now 4 (first (header_passes bytes.now) (entries table 32 count)) }
 {
     for i in 0..count {
         let h = table + 32 * i;
@@ -60,7 +60,7 @@ fn cut_header(bytes: &[u8], table: usize, count: usize) -> Option<u32>
 
 fn cut_section(bytes: &[u8], table: usize, count: usize) -> Option<u32>
     requires { table + 40 * count ≤ length bytes.now }
-    ensures { result ≡ part_of bytes.now 16 (first (section_passes bytes.now) (entries table 40 count)) }
+    ensures { result ≡ part_begins bytes.now 16 (first (section_passes bytes.now) (entries table 40 count)) }
 {
     for i in 0..count {
         let s = table + 40 * i;

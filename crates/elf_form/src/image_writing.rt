@@ -6,7 +6,7 @@ ghost use Rattle.elf_form.specs.ImageLayout.{init_from, sites_from, names_from, 
 ghost use Rattle.elf_form.specs.Reading.{image_in};
 
 use crate::image::Image;
-use crate::output::{page_pad, put_halves, put_longs, put_zeros, word_pad};
+use crate::output::{pad, put_halves, put_longs, put_zeros};
 use std::alloc::{AllocError, Global};
 
 const IDENTITY: [u8; 16] = *b"\x7FELF\x01\x01\x01\0\0\0\0\0\0\0\0\0";
@@ -19,7 +19,7 @@ fn init_from(image: &Image) -> usize
     ensures { result ≡ init_from image.now }
 {
     let end = 4096 + image.text.len();
-    end + page_pad(end)
+    end + pad(4096, end)
 }
 
 #[tactic(auto, unfolding(crate::specs::ImageLayout::init_from, crate::specs::ImageLayout::sites_from, crate::specs::ImageLayout::names_from, crate::specs::ImageLayout::sections_from))]
@@ -28,7 +28,7 @@ fn sites_from(image: &Image) -> usize
     ensures { result ≡ sites_from image.now }
 {
     let end = init_from(image) + image.init.len();
-    end + word_pad(end)
+    end + pad(4, end)
 }
 
 #[tactic(auto, unfolding(crate::specs::ImageLayout::init_from, crate::specs::ImageLayout::sites_from, crate::specs::ImageLayout::names_from, crate::specs::ImageLayout::sections_from))]
@@ -45,7 +45,7 @@ fn sections_from(image: &Image) -> usize
     ensures { result ≡ sections_from image.now }
 {
     let end = names_from(image) + NAMES.len();
-    end + word_pad(end)
+    end + pad(4, end)
 }
 
 /// The longs of the header: the version, where the image begins, its program headers and its
@@ -187,12 +187,12 @@ fn put_body(out: &mut Vec<u8>, image: &Image) -> Result<(), AllocError>
     ensures { OnOk result (out.new.items ≡ out.old.items ++ body image.now) }
 {
     out.extend_from_slice(&image.text)?;
-    put_zeros(out, page_pad(4096 + image.text.len()))?;
+    put_zeros(out, pad(4096, 4096 + image.text.len()))?;
     out.extend_from_slice(&image.init)?;
-    put_zeros(out, word_pad(init_from(image) + image.init.len()))?;
+    put_zeros(out, pad(4, init_from(image) + image.init.len()))?;
     out.extend_from_slice(&image.sites)?;
     out.extend_from_slice(&NAMES)?;
-    put_zeros(out, word_pad(names_from(image) + NAMES.len()))?;
+    put_zeros(out, pad(4, names_from(image) + NAMES.len()))?;
     Ok(())
 }
 

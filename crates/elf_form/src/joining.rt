@@ -5,10 +5,10 @@ ghost use Rattle.elf_form.specs.Header.{IsWhole, IsSection, sections};
 ghost use Rattle.elf_form.specs.declared.roles.Role.{Role};
 ghost use Rattle.elf_form.specs.Roles.{is_misaligned, misaligned, joined_fault, starts, joined_end, with_section, joined};
 
-use crate::output::{page_pad, put_zeros};
+use crate::output::{pad, put_zeros};
 use crate::roles::{Role, has_role, is_misaligned, up};
 use crate::sections::contents;
-use crate::words::{half, word};
+use guest_ram::{half, word};
 use std::alloc::{AllocError, Global};
 
 /// The alignment of the first section that is joined and has a bad one.
@@ -41,7 +41,7 @@ pub fn joined_fault(role: Role, names: &[u8], bytes: &[u8]) -> Option<usize>
         let s = table + 40 * i;
         if has_role(role, names, bytes, s) {
             let size = word(bytes, s + 20) as usize;
-            let more = total + (size + page_pad(size));
+            let more = total + (size + pad(4096, size));
             if more >= 0x1_0000_0000 {
                 return Some(s + 20);
             }

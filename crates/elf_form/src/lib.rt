@@ -21,7 +21,6 @@ mod segments;
 mod strings;
 mod symbol_walks;
 mod symbols;
-mod words;
 
 pub use cause::{ElfCause, ElfFault};
 pub use image::Image;
@@ -33,4 +32,5 @@ pub use laws::{
 pub use object::{Bytes, DefinedIn, Object, Reloc, Symbol};
 pub use object_reading::read_object;
 pub use object_writing::write_object;
+pub use output::pad;
 pub use reading::read_image;

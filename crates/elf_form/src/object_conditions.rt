@@ -17,7 +17,7 @@ use crate::sections::{contents, is_index, nameless, names};
 use crate::segments::{Found, LIMIT};
 use crate::symbol_walks::{sections_fault, symbols_fault};
 use crate::symbols::{SectionTest, SymbolTest, Table, entries_fault, table_at};
-use crate::words::{half, word};
+use guest_ram::{half, word};
 
 fn has_strings(bytes: &[u8], link: usize) -> bool
     requires { IsWhole bytes.now }

@@ -8,7 +8,7 @@ ghost use Rattle.elf_form.specs.ObjectLayout.{next, layout as layout_of, names_o
 ghost use Rattle.elf_form.specs.ObjectReading.{object_in};
 
 use crate::object::{DefinedIn, Object, Reloc, Symbol, bytes_of};
-use crate::output::{put_halves, put_longs, put_zeros, word_pad};
+use crate::output::{pad, put_halves, put_longs, put_zeros};
 use crate::strings::{Places, strings};
 use std::alloc::{AllocError, Global};
 
@@ -37,7 +37,7 @@ fn next(n: usize) -> usize
     ensures exact { result ≡ next n }
     ensures near { result < n + 4 }
 {
-    n + word_pad(n)
+    n + pad(4, n)
 }
 
 /// Whether it is a relocation of the text, or one of the data.
@@ -199,11 +199,11 @@ fn put_parts(out: &mut Vec<u8>, object: &Object, layout: &Layout) -> Result<(), 
     ensures { OnOk result (out.new.items ≡ out.old.items ++ object_parts object.now) }
 {
     out.extend_from_slice(&object.text)?;
-    put_zeros(out, word_pad(52 + object.text.len()))?;
+    put_zeros(out, pad(4, 52 + object.text.len()))?;
     out.extend_from_slice(&object.init)?;
-    put_zeros(out, word_pad(layout.init as usize + object.init.len()))?;
+    put_zeros(out, pad(4, layout.init as usize + object.init.len()))?;
     out.extend_from_slice(&object.sites)?;
-    put_zeros(out, word_pad(layout.sites as usize + object.sites.len()))?;
+    put_zeros(out, pad(4, layout.sites as usize + object.sites.len()))?;
     Ok(())
 }
 
@@ -226,9 +226,9 @@ fn put_tables(
     put_relocs(out, &object.relocs, false)?;
     put_symbols(out, places, &object.symbols)?;
     out.extend_from_slice(strings)?;
-    put_zeros(out, word_pad(layout.strings as usize + strings.len()))?;
+    put_zeros(out, pad(4, layout.strings as usize + strings.len()))?;
     out.extend_from_slice(&NAMES)?;
-    put_zeros(out, word_pad(layout.names as usize + NAMES.len()))?;
+    put_zeros(out, pad(4, layout.names as usize + NAMES.len()))?;
     Ok(())
 }
 

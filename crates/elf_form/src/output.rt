@@ -1,6 +1,6 @@
 //! What files are written of: numbers, the lowest byte first, and zero bytes.
 
-ghost use Rattle.std.specs.Prelude.{◌≡◌, ◌++◌, length, replicate, OnOk};
+ghost use Rattle.std.specs.Prelude.{◌≡◌, ◌≤◌, ◌<◌, ◌++◌, length, replicate, OnOk};
 ghost use Rattle.elf_form.specs.Output.{halves, longs, pad};
 
 use std::alloc::AllocError;
@@ -35,16 +35,11 @@ pub fn put_zeros(out: &mut Vec<u8>, count: usize) -> Result<(), AllocError>
     Ok(())
 }
 
-/// How many bytes lead to the next multiple of 4096.
-pub fn page_pad(n: usize) -> usize
-    ensures { result ≡ pad 4096 n }
+/// How many bytes lead from `n` to the next multiple of `k`.
+pub fn pad(k: usize, n: usize) -> usize
+    requires { 1 ≤ k }
+    ensures pad { result ≡ pad k n }
+    ensures less { result < k }
 {
-    (4096 - n % 4096) % 4096
-}
-
-/// How many bytes lead to the next multiple of 4.
-pub fn word_pad(n: usize) -> usize
-    ensures { result ≡ pad 4 n }
-{
-    (4 - n % 4) % 4
+    (k - n % k) % k
 }

@@ -15,7 +15,7 @@ use crate::header::{class, cut, encoding, file_type, lower, machine, magic, vers
 use crate::image::Image;
 use crate::sections::{compressed, contents, nameless, one_of, sites_sections};
 use crate::segments::{LIMIT, loads, order, sizes};
-use crate::words::word;
+use guest_ram::word;
 use std::alloc::Global;
 
 /// Passes where there is no place.

@@ -12,7 +12,7 @@ use crate::object::{Bytes, Reloc, Symbol};
 use crate::roles::{Role, role_number};
 use crate::sections::from;
 use crate::symbols::{Entry, Table, is_listed, place_by, role_at};
-use crate::words::{byte, half, word};
+use guest_ram::{byte, half, word};
 use std::alloc::{AllocError, Global};
 
 /// Where each section of data, and of zeroed bytes, begins among those that it is joined to.

@@ -9,7 +9,7 @@ ghost use Rattle.elf_form.specs.Output.{pad};
 
 use crate::sections::{is_null, is_sites};
 use crate::segments::Found;
-use crate::words::{half, word};
+use guest_ram::{half, word};
 
 /// What a section is read as: ignored, or the annotations, the text, a part of the data or of the
 /// zeroed bytes, one that is not allowed, the symbol table, or relocations.

@@ -7,7 +7,7 @@ ghost use Rattle.elf_form.specs.Header.{IsWhole, IsSection, section_passes};
 ghost use Rattle.elf_form.specs.Sections.{contents, is_index, names, is_null, is_nameless, is_sites, is_compressed, sites_sections, one_of, compressed, nameless};
 
 use crate::segments::Found;
-use crate::words::{half, word};
+use guest_ram::{half, word};
 
 /// The name of the section of sites, with the zero byte that ends it.
 pub const SITES_NAME: [u8; 10] = *b".pv_sites\0";

@@ -7,7 +7,7 @@ ghost use Rattle.elf_form.specs.Header.{IsWhole, IsHeader};
 ghost use Rattle.elf_form.specs.Segments.{loads, memory_sizes, first_size, second_size, sizes, order, is_executable};
 
 use crate::header::lower;
-use crate::words::{half, word};
+use guest_ram::{half, word};
 
 /// The longest file that is read.
 pub const LIMIT: usize = 33_554_432;

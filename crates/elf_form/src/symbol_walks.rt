@@ -3,12 +3,11 @@
 ghost use Rattle.std.specs.Prelude.{◌≡◌, ◌≤◌, ◌<◌, ◌+◌, ◌*◌, ◌^◌, ◌++◌, length, All, OnOk, IfOk, IfSome};
 ghost use Rattle.guest_ram.specs.Bytes.{word16, word32};
 ghost use Rattle.elf_form.specs.Faults.{◌or_lower◌};
-ghost use Rattle.guest_ram.specs.Places.{◌or_else◌};
 ghost use Rattle.elf_form.specs.Header.{IsWhole, IsSection};
 ghost use Rattle.elf_form.specs.Symbols.{sections_fault, symbols_fault};
 
 use crate::symbols::{SectionTest, SymbolTest, Table, section_test, symbol_test};
-use crate::words::{half, word};
+use guest_ram::{half, word};
 
 /// The first place that a test of the sections gives.
 pub fn sections_fault(test: SectionTest, table: Table, names: &[u8], bytes: &[u8]) -> Option<usize>

@@ -4,14 +4,13 @@ ghost use Rattle.std.specs.Prelude.{◌≡◌, ◌≤◌, ◌<◌, ◌+◌, ◌*
 ghost use Rattle.guest_ram.specs.Bytes.{word16, word32};
 ghost use Rattle.elf_form.specs.Tables.{AllFound};
 ghost use Rattle.elf_form.specs.Header.{IsWhole, IsSection, section_table, section_count};
-ghost use Rattle.guest_ram.specs.Places.{◌or_else◌};
-ghost use Rattle.elf_form.specs.Symbols.{target_role, table_at, is_file, has_binding, has_place, is_listed, place_by, role_at, symbol_fault, global_fault, is_reloc_section, is_reloc_section_of, entries_fault, is_linked, section_test, is_unnamed, symbol_test, has_symbol, size_at, number_of, IsEntry, is_outside, has_kind, names_none, named_fault, form_fault, reloc_test};
+ghost use Rattle.elf_form.specs.Symbols.{target_role, table_at, is_file, has_binding, has_place, is_listed, place_by, role_at, symbol_fault, global_fault, is_reloc_section, is_reloc_section_of, entries_fault, is_linked, section_test, is_unnamed, symbol_test, has_symbol, size_at, named_symbol, IsEntry, is_outside, has_kind, names_none, named_fault, form_fault, reloc_test};
 
 use crate::object::DefinedIn;
 use crate::roles::{Role, has_role, is_kept, role_number, section_role};
 use crate::sections::{contents, from, is_index};
 use crate::segments::Found;
-use crate::words::{byte, half, word};
+use guest_ram::{byte, half, word};
 
 /// The symbol table: its section, where its entries begin, and how many it has with the null one
 /// (0 where there is no table).
@@ -48,16 +47,6 @@ pub enum SymbolTest {
 pub enum RelocTest {
     Named,
     Form,
-}
-
-/// The first place.
-pub fn first_of_two(a: Option<usize>, b: Option<usize>) -> Option<usize>
-    ensures { result ≡ a or_else b }
-{
-    match a {
-        Some(at) => Some(at),
-        None => b,
-    }
 }
 
 pub fn table_at(bytes: &[u8], found: Found) -> Table
@@ -260,9 +249,9 @@ pub fn symbol_test(
     }
 }
 
-fn number_of(bytes: &[u8], y: usize) -> usize
+fn named_symbol(bytes: &[u8], y: usize) -> usize
     requires { y + 8 ≤ length bytes.now }
-    ensures number { result ≡ number_of bytes.now y }
+    ensures number { result ≡ named_symbol bytes.now y }
     ensures small { result < 2 ^ 24 }
 {
     word(bytes, y + 4) as usize / 256
@@ -272,7 +261,7 @@ fn has_symbol(table: Table, bytes: &[u8], y: usize) -> bool
     requires { y + 8 ≤ length bytes.now }
     ensures { result ≡ has_symbol table bytes.now y }
 {
-    number_of(bytes, y) != 0 && number_of(bytes, y) < table.count
+    named_symbol(bytes, y) != 0 && named_symbol(bytes, y) < table.count
 }
 
 #[tactic(auto, unfolding(crate::specs::Symbols::size_at))]
@@ -314,7 +303,7 @@ fn names_none(table: Table, bytes: &[u8], y: usize) -> bool
     if !has_symbol(table, bytes, y) {
         return true;
     }
-    is_file(bytes, table.at + 16 * number_of(bytes, y))
+    is_file(bytes, table.at + 16 * named_symbol(bytes, y))
 }
 
 fn named_fault(table: Table, names: &[u8], bytes: &[u8], y: usize) -> Option<usize>
@@ -327,7 +316,7 @@ fn named_fault(table: Table, names: &[u8], bytes: &[u8], y: usize) -> Option<usi
     if !has_symbol(table, bytes, y) {
         return None;
     }
-    symbol_fault(names, bytes, table.at + 16 * number_of(bytes, y))
+    symbol_fault(names, bytes, table.at + 16 * named_symbol(bytes, y))
 }
 
 fn form_fault(table: Table, names: &[u8], bytes: &[u8], e: Entry) -> Option<usize>

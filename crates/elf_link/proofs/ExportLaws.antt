@@ -5,7 +5,7 @@ use Rattle.std.proofs.lemmas.List.{at_drop_more, at_drop_all, map-append, append
 use Rattle.elf_form.specs.declared.object.Symbol.{Symbol}
 use Rattle.elf_link.specs.declared.target.Target.{Target}
 use Rattle.elf_link.specs.Symbols.{is_exported, target}
-use Rattle.elf_link.specs.Refusals.{is_among, first_doubled}
+use Rattle.elf_link.specs.Refusals.{holds, first_doubled}
 
 abbrev pub keys : List (List ℕ × Target) → List (List ℕ)
 keys gs = map (λ d. d.0) gs
@@ -49,14 +49,14 @@ module _ (n : ℕ) (old gs : List (List ℕ × Target)) (symbols : List Symbol) 
     added = ap (λ (es : List (List ℕ × Target)). gs ++ es) (sym (entries_at false e)) ∙ now.added;
   }
 
-  pub exporting_doubled : is_exported s ≡ true → is_among s.name (keys gs) ≡ true → first_doubled (keys old) (names symbols) ≡ Some s.name
+  pub exporting_doubled : is_exported s ≡ true → holds (keys gs) s.name ≡ true → first_doubled (keys old) (names symbols) ≡ Some s.name
   unfolding rest first_doubled
   exporting_doubled e there =
       sym now.so_far
       ∙ (ap (first_doubled (keys gs)) (names_at true e)
       ∙ ap (λ (t : Bool). cond t (Some s.name) (first_doubled (keys gs ++ s.name ∷ []) (names (drop (i + 1) symbols)))) there)
 
-  pub exporting_added : is_exported s ≡ true → is_among s.name (keys gs) ≡ false → Exporting n old (gs ++ (s.name, target n s) ∷ []) symbols (i + 1)
+  pub exporting_added : is_exported s ≡ true → holds (keys gs) s.name ≡ false → Exporting n old (gs ++ (s.name, target n s) ∷ []) symbols (i + 1)
   unfolding rest first_doubled
   exporting_added e absent = record {
     so_far =

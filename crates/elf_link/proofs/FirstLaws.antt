@@ -1,9 +1,10 @@
 -- The steps of a search for the first answer.
 use Rattle.std.proofs.Common.{◌≡◌, ℕ, ◌+◌, ◌<◌, ◌≤◌, true, false, List, length, get_or, drop, Option, Some, None, Ok, is_some, refl, ap, sym, ◌∙◌, subst}
 use Rattle.std.proofs.lemmas.List.{at_drop_more, at_drop_all, get_or_default}
+use Rattle.guest_ram.specs.Places.{◌or_else◌}
 use Rattle.elf_link.specs.declared.fault.LinkFault.{LinkFault}
 use Rattle.elf_link.specs.declared.fault.LinkFault.TheVariants as faults
-use Rattle.elf_link.specs.Refusals.{Refused, ◌or◌, first}
+use Rattle.elf_link.specs.Refusals.{Refused, first}
 use Rattle.elf_link.specs.Steps.{tested}
 use Rattle.elf_link.specs.Answers.{Fails}
 
@@ -12,16 +13,16 @@ module _ {X Y : Type 0} (f : X → Option Y) (xs : List X) (i : ℕ) where
   abbrev pub Passed : Type 0
   Passed = first f (drop i xs) ≡ first f xs
 
-  first_at : (x : X) → i < length xs → get_or xs i x ≡ x → first f (drop i xs) ≡ (f x or first f (drop (i + 1) xs))
+  first_at : (x : X) → i < length xs → get_or xs i x ≡ x → first f (drop i xs) ≡ (f x or_else first f (drop (i + 1) xs))
   unfolding first
-  first_at x lt e = at_drop_more (first f) xs i x lt ∙ ap (λ (y : X). f y or first f (drop (i + 1) xs)) e
+  first_at x lt e = at_drop_more (first f) xs i x lt ∙ ap (λ (y : X). f y or_else first f (drop (i + 1) xs)) e
 
   pub first_here : (x : X) (y : Option Y) → i < length xs → get_or xs i x ≡ x → Passed → f x ≡ y → is_some y ≡ true → first f xs ≡ y
-  first_here x (Some y) lt e passed found some = sym passed ∙ (first_at x lt e ∙ ap (λ (o : Option Y). o or first f (drop (i + 1) xs)) found)
+  first_here x (Some y) lt e passed found some = sym passed ∙ (first_at x lt e ∙ ap (λ (o : Option Y). o or_else first f (drop (i + 1) xs)) found)
   first_here x None lt e passed found some = absurd (cc)
 
   pub first_next : (x : X) → i < length xs → get_or xs i x ≡ x → Passed → f x ≡ None → first f (drop (i + 1) xs) ≡ first f xs
-  first_next x lt e passed none = ap (λ (o : Option Y). o or first f (drop (i + 1) xs)) (sym none) ∙ (sym (first_at x lt e) ∙ passed)
+  first_next x lt e passed none = ap (λ (o : Option Y). o or_else first f (drop (i + 1) xs)) (sym none) ∙ (sym (first_at x lt e) ∙ passed)
 
   pub first_end : length xs ≤ i → Passed → first f xs ≡ None
   unfolding first

@@ -1,10 +1,12 @@
 -- Each object tested in turn.
 use Rattle.std.proofs.Common.{◌≡◌, ℕ, ◌+◌, ◌<◌, ◌≤◌, Bool, true, false, List, [], ◌∷◌, ◌++◌, length, get_or, take, Option, Some, None, Ok, refl, ap, sym, ◌∙◌, subst, arith}
 use Rattle.std.specs.Prelude.{sum_by, map, nat_lt, not, ◌||◌, ◌&&◌}
+use Rattle.std.specs.Bool.{then_some}
 use Rattle.std.specs.List.{flat_map}
 use Rattle.std.proofs.lemmas.List.{take_all, length-append, length-map, append-nil}
 use Rattle.std.proofs.lemmas.List.Concat.{flat_map-append}
 use Rattle.std.proofs.lemmas.Bool.{ltb-false, lt-ltb}
+use Rattle.guest_ram.specs.Places.{◌or_else◌}
 use Rattle.elf_form.specs.ObjectParts.{ObjectParts}
 use Rattle.sites.specs.declared.site.Site.{Site}
 use Rattle.sites.specs.declared.limits.TheConstants.{TEXT_LIMIT, SHORT_TEXT, SITE_LIMIT}
@@ -20,7 +22,7 @@ use Rattle.elf_link.specs.declared.fault.LinkFault.{LinkFault}
 use Rattle.elf_link.specs.Layout.{text_room, init_room, bss_room, text_end, memory_end, numbered, text_at}
 use Rattle.elf_link.specs.Symbols.{exports, definitions, globals}
 use Rattle.elf_link.specs.Sites.{sites_of, misplaced, crowded, sites_wrong, moved, moved_sites, first_sites, linked_sites}
-use Rattle.elf_link.specs.Refusals.{◌or◌, when, first, refused, doubled, doubled_cause, object_cause, object_refusal}
+use Rattle.elf_link.specs.Refusals.{first, refused, doubled, doubled_cause, object_cause, object_refusal}
 use Rattle.elf_link.specs.Steps.{IsWithin, AreBelow, totals, with_object, size_cause, is_crowded, sites_bad, step_cause, tested}
 use Rattle.elf_link.specs.Answers.{Fails}
 use Rattle.elf_link.proofs.FirstLaws.{Passed, first_next, first_end, fails_here}
@@ -32,16 +34,16 @@ use Rattle.elf_link.proofs.SiteLaws.{below_next}
 totals_is : (t u : Totals) → t.text ≡ u.text → t.memory ≡ u.memory → t.symbols ≡ u.symbols → t.sites ≡ u.sites → t ≡ u
 totals_is t u p q r s = λ j. record { text = p j; memory = q j; symbols = r j; sites = s j }
 
-or_assoc : (a b c d : Option LinkCause) → ((a or (b or c)) or d) ≡ (a or (b or (c or d)))
+or_assoc : (a b c d : Option LinkCause) → ((a or_else (b or_else c)) or_else d) ≡ (a or_else (b or_else (c or_else d)))
 or_assoc (Some x) b c d = refl
 or_assoc None (Some y) c d = refl
 or_assoc None None c d = refl
 
-when_not : (b : Bool) (cause : LinkCause) (later : Option LinkCause) → (when b cause or later) ≡ None → b ≡ false
+when_not : (b : Bool) (cause : LinkCause) (later : Option LinkCause) → (then_some b cause or_else later) ≡ None → b ≡ false
 when_not true cause later h = absurd (cc)
 when_not false cause later h = refl
 
-when_later : (b : Bool) (cause : LinkCause) (later : Option LinkCause) → (when b cause or later) ≡ None → later ≡ None
+when_later : (b : Bool) (cause : LinkCause) (later : Option LinkCause) → (then_some b cause or_else later) ≡ None → later ≡ None
 when_later true cause later h = absurd (cc)
 when_later false cause later h = h
 
@@ -58,7 +60,7 @@ not_not true h = refl
 not_not false h = cc
 
 abbrev chain : Bool → Bool → Bool → Bool → Option LinkCause → Option LinkCause
-chain a b c d e = when a TextTooLarge or (when b InitTooLarge or (when c TooManySymbols or (when d SitesForm or e)))
+chain a b c d e = then_some a TextTooLarge or_else (then_some b InitTooLarge or_else (then_some c TooManySymbols or_else (then_some d SitesForm or_else e)))
 
 module _ (os : List ObjectParts) (i : ℕ) (o : ObjectParts) (lt : i < length os) (is : get_or os i o ≡ o) where
   pub totals_next : totals (take (i + 1) os) ≡ with_object (totals (take i os)) o
@@ -103,7 +105,7 @@ module _ (os : List ObjectParts) (i : ℕ) (o : ObjectParts) (lt : i < length os
   pub cause_is : step_cause (totals (take i os)) (first_sites os i) (definitions (take i (numbered os))) (i, o) ≡ object_cause os (i, o)
   unfolding step_cause size_cause object_cause
   cause_is =
-      or_assoc (when (nat_lt TEXT_LIMIT ((totals (take i os)).text + length o.text + 2)) TextTooLarge) (when (nat_lt 33554432 ((totals (take i os)).memory + init_room o + bss_room o)) InitTooLarge) (when (nat_lt 65536 ((totals (take i os)).symbols + length o.symbols)) TooManySymbols) (when (sites_bad (totals (take i os)) (first_sites os i) o) SitesForm or doubled_cause (doubled os (i, o)))
+      or_assoc (then_some (nat_lt TEXT_LIMIT ((totals (take i os)).text + length o.text + 2)) TextTooLarge) (then_some (nat_lt 33554432 ((totals (take i os)).memory + init_room o + bss_room o)) InitTooLarge) (then_some (nat_lt 65536 ((totals (take i os)).symbols + length o.symbols)) TooManySymbols) (then_some (sites_bad (totals (take i os)) (first_sites os i) o) SitesForm or_else doubled_cause (doubled os (i, o)))
       ∙ (λ j. chain (text_same j) (memory_same j) (symbols_same j) (sites_same j) (doubled_cause (doubled os (i, o))))
 
 -- what is known after i objects

@@ -4,6 +4,7 @@ use Rattle.std.specs.Prelude.{sum_by, All}
 use Rattle.std.specs.List.{flat_map, enumerate_from}
 use Rattle.std.proofs.lemmas.List.{length-append, length-replicate, length-take-le}
 use Rattle.std.proofs.lemmas.List.Sums.{sum_by-cons}
+use Rattle.guest_ram.specs.Places.{◌or_else◌}
 use Rattle.elf_form.specs.ObjectParts.{ObjectParts}
 use Rattle.elf_form.specs.ImageParts.{ImageParts}
 use Rattle.elf_form.specs.Output.{pad}
@@ -18,9 +19,9 @@ use Rattle.elf_link.specs.declared.fault.LinkFault.TheVariants as faults
 use Rattle.elf_link.specs.Layout.{round_up, text_size, init_size, text_end, init_end, memory_end, numbered, bases}
 use Rattle.elf_link.specs.Symbols.{globals}
 use Rattle.elf_form.specs.Linkable.{IsLinkable}
-use Rattle.elf_link.specs.Relocations.{part_of, with_fields}
+use Rattle.elf_link.specs.Relocations.{contents_of, with_fields}
 use Rattle.elf_link.specs.Sites.{linked_sites}
-use Rattle.elf_link.specs.Refusals.{Refused, ◌or◌, first, refusal, object_refusal, relocs_refusal, start_refusal, start}
+use Rattle.elf_link.specs.Refusals.{Refused, first, refusal, object_refusal, relocs_refusal, start_refusal, start}
 use Rattle.elf_link.specs.Linked.{padded, texts, inits, linked_text, linked_init, image, unless, linked_image, entry_at}
 use Rattle.elf_link.specs.Steps.{tested, tested_with, entered}
 use Rattle.elf_link.specs.Answers.{Fails}
@@ -32,20 +33,20 @@ module _ (os : List ObjectParts) where
   first_fails : (w : Refused) (o : Option Refused) → first (object_refusal os) (numbered os) ≡ o → tested o ≡ Err w → linked_image os ≡ Err w
   unfolding linked_image refusal
   first_fails w None p h = absurd (cc)
-  first_fails w (Some r) p h = ap (λ (o : Option Refused). unless (o or (first (relocs_refusal os) (numbered os) or start_refusal (start os))) (image os)) p ∙ cc
+  first_fails w (Some r) p h = ap (λ (o : Option Refused). unless (o or_else (first (relocs_refusal os) (numbered os) or_else start_refusal (start os))) (image os)) p ∙ cc
 
   pub objects_fail : (e : LinkFault) → Fails e (tested (first (object_refusal os) (numbered os))) → Fails e (linked_image os)
   objects_fail faults.Memory h = tt
   objects_fail (faults.At object cause) h = first_fails (record { object = object; cause = cause }) (first (object_refusal os) (numbered os)) refl h
 
   module _ (passed : tested (first (object_refusal os) (numbered os)) ≡ Ok tt) where
-    second : linked_image os ≡ unless (first (relocs_refusal os) (numbered os) or start_refusal (start os)) (image os)
+    second : linked_image os ≡ unless (first (relocs_refusal os) (numbered os) or_else start_refusal (start os)) (image os)
     unfolding linked_image refusal
-    second = ap (λ (o : Option Refused). unless (o or (first (relocs_refusal os) (numbered os) or start_refusal (start os))) (image os)) (none_from_tested _ passed)
+    second = ap (λ (o : Option Refused). unless (o or_else (first (relocs_refusal os) (numbered os) or_else start_refusal (start os))) (image os)) (none_from_tested _ passed)
 
     second_fails : (w : Refused) (o : Option Refused) → first (relocs_refusal os) (numbered os) ≡ o → tested o ≡ Err w → linked_image os ≡ Err w
     second_fails w None p h = absurd (cc)
-    second_fails w (Some r) p h = second ∙ (ap (λ (o : Option Refused). unless (o or start_refusal (start os)) (image os)) p ∙ cc)
+    second_fails w (Some r) p h = second ∙ (ap (λ (o : Option Refused). unless (o or_else start_refusal (start os)) (image os)) p ∙ cc)
 
     pub relocs_fail_all : (e : LinkFault) → Fails e (tested (first (relocs_refusal os) (numbered os))) → Fails e (linked_image os)
     relocs_fail_all faults.Memory h = tt
@@ -53,7 +54,7 @@ module _ (os : List ObjectParts) where
 
     module _ (named : tested (first (relocs_refusal os) (numbered os)) ≡ Ok tt) where
       third : linked_image os ≡ unless (start_refusal (start os)) (image os)
-      third = second ∙ ap (λ (o : Option Refused). unless (o or start_refusal (start os)) (image os)) (none_from_tested _ named)
+      third = second ∙ ap (λ (o : Option Refused). unless (o or_else start_refusal (start os)) (image os)) (none_from_tested _ named)
 
       third_fails : (w : Refused) (o : Option Refused) → start_refusal (start os) ≡ o → tested_with o (entry_at (bases os) (start os)) ≡ Err w → linked_image os ≡ Err w
       third_fails w None p h = absurd (cc)
@@ -78,7 +79,7 @@ image_is os text init sites bss entry p q r s t = λ j. record { text = sym p j;
 
 -- ---- sizes
 
-pub length-joined : (os : List ObjectParts) (k fill : ℕ) (in_text : Bool) (size : ObjectParts → ℕ) → ((o : ObjectParts) → length (part_of in_text o) ≡ size o) → (bs : List Base) (gs : List (List ℕ × Target)) (n : ℕ) → All IsLinkable os → length (flat_map (λ p. padded k fill (with_fields bs gs p in_text)) (enumerate_from n os)) ≡ sum_by (λ o. round_up k (size o)) os
+pub length-joined : (os : List ObjectParts) (k fill : ℕ) (in_text : Bool) (size : ObjectParts → ℕ) → ((o : ObjectParts) → length (contents_of in_text o) ≡ size o) → (bs : List Base) (gs : List (List ℕ × Target)) (n : ℕ) → All IsLinkable os → length (flat_map (λ p. padded k fill (with_fields bs gs p in_text)) (enumerate_from n os)) ≡ sum_by (λ o. round_up k (size o)) os
 length-joined [] k fill in_text size is bs gs n all = refl
 length-joined (o ∷ os) k fill in_text size is bs gs n all =
     let here : length (with_fields bs gs (n, o) in_text) ≡ size o = length-with_fields bs gs (n, o) in_text (all 0 o (omega arith)) ∙ is o in

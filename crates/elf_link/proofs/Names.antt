@@ -7,9 +7,8 @@ use Rattle.std.specs.Map as entries
 use Rattle.std.proofs.lemmas.Bool.{or_parts}
 use Rattle.indexmap.specs.IndexMap.{insert_entry}
 use Rattle.elf_link.specs.declared.target.Target.{Target}
-use Rattle.elf_link.specs.Keys.{named}
-use Rattle.elf_link.specs.Symbols.{lookup}
-use Rattle.elf_link.specs.Refusals.{is_among}
+use Rattle.elf_link.specs.Symbols.{lookup, named}
+use Rattle.elf_link.specs.Refusals.{holds}
 
 pub found_is : (name : List ℕ) (es : List (Vec ℕ × Target)) → entries.lookup (λ k. bytes_eq name k.items) es ≡ lookup name (named es)
 unfolding lookup
@@ -20,12 +19,12 @@ some_cond : (b : Bool) (t : Target) (r : Option Target) → is_some (cond b (Som
 some_cond true t r = refl
 some_cond false t r = refl
 
-pub holds_is : (name : List ℕ) (es : List (Vec ℕ × Target)) → is_some (entries.lookup (λ k. bytes_eq name k.items) es) ≡ is_among name (map (λ d. d.0) (named es))
+pub holds_is : (name : List ℕ) (es : List (Vec ℕ × Target)) → is_some (entries.lookup (λ k. bytes_eq name k.items) es) ≡ holds (map (λ d. d.0) (named es)) name
 holds_is name [] = refl
 holds_is name (e ∷ es) = some_cond (bytes_eq name e.0.items) e.1 (entries.lookup (λ k. bytes_eq name k.items) es) ∙ ap (λ (b : Bool). bytes_eq name e.0.items || b) (holds_is name es)
 
-pub named-insert : (es : List (Vec ℕ × Target)) (k : Vec ℕ) (t : Target) → is_among k.items (map (λ d. d.0) (named es)) ≡ false → named (insert_entry (λ a b. bytes_eq a.items b.items) es k t) ≡ named es ++ (k.items, t) ∷ []
+pub named-insert : (es : List (Vec ℕ × Target)) (k : Vec ℕ) (t : Target) → holds (map (λ d. d.0) (named es)) k.items ≡ false → named (insert_entry (λ a b. bytes_eq a.items b.items) es k t) ≡ named es ++ (k.items, t) ∷ []
 named-insert [] k t h = refl
 named-insert (e ∷ es) k t h =
-    let parts = or_parts (bytes_eq k.items e.0.items) (is_among k.items (map (λ d. d.0) (named es))) h in
+    let parts = or_parts (bytes_eq k.items e.0.items) (holds (map (λ d. d.0) (named es)) k.items) h in
     rw parts.0 (ap (λ (ds : List (List ℕ × Target)). (e.0.items, e.1) ∷ ds) (named-insert es k t parts.1))

@@ -13,7 +13,7 @@ use Rattle.elf_form.specs.Output.{pad}
 use Rattle.elf_link.specs.Layout.{round_up, text_size, text_room, init_size, init_room, bss_room, text_at, init_at, bss_at, text_end, init_end, extent, numbered, bases}
 use Rattle.elf_link.specs.Symbols.{globals}
 use Rattle.elf_form.specs.Linkable.{IsLinkable}
-use Rattle.elf_link.specs.Relocations.{part_of, with_fields}
+use Rattle.elf_link.specs.Relocations.{contents_of, with_fields}
 use Rattle.elf_link.specs.Linked.{padded, texts, inits, linked_text, linked_init}
 use Rattle.elf_link.proofs.LayoutLaws.{room_of, sum-more, text_end-le}
 use Rattle.elf_link.proofs.RelocLaws.{length-with_fields}
@@ -84,12 +84,12 @@ all-take os i all = λ m d h.
     let lt : m < i = omega (arith, length-take i os) in
     subst (λ (o : ObjectParts). IsLinkable o) (sym (get_or-take i os m d lt)) (all m d (omega (arith, length-take i os)))
 
-length-before : (os : List ObjectParts) (k fill : ℕ) (in_text : Bool) (size : ObjectParts → ℕ) → ((o : ObjectParts) → length (part_of in_text o) ≡ size o) → (i : ℕ) → All IsLinkable os → length (flat_map (λ p. padded k fill (with_fields (bases os) (globals os) p in_text)) (take i (numbered os))) ≡ sum_by (λ p. round_up k (size p)) (take i os)
+length-before : (os : List ObjectParts) (k fill : ℕ) (in_text : Bool) (size : ObjectParts → ℕ) → ((o : ObjectParts) → length (contents_of in_text o) ≡ size o) → (i : ℕ) → All IsLinkable os → length (flat_map (λ p. padded k fill (with_fields (bases os) (globals os) p in_text)) (take i (numbered os))) ≡ sum_by (λ p. round_up k (size p)) (take i os)
 length-before os k fill in_text size is i all =
     ap (λ (ps : List (ℕ × ObjectParts)). length (flat_map (λ p. padded k fill (with_fields (bases os) (globals os) p in_text)) ps)) (take-enumerate 0 i os)
     ∙ length-joined (take i os) k fill in_text size is (bases os) (globals os) 0 (all-take os i all)
 
-stands : (os : List ObjectParts) (k fill : ℕ) (in_text : Bool) (size : ObjectParts → ℕ) → ((o : ObjectParts) → length (part_of in_text o) ≡ size o) → (i j : ℕ) (o : ObjectParts) → All IsLinkable os → i < length os → get_or os i o ≡ o → j < size o →
+stands : (os : List ObjectParts) (k fill : ℕ) (in_text : Bool) (size : ObjectParts → ℕ) → ((o : ObjectParts) → length (contents_of in_text o) ≡ size o) → (i j : ℕ) (o : ObjectParts) → All IsLinkable os → i < length os → get_or os i o ≡ o → j < size o →
     get_or (flat_map (λ p. padded k fill (with_fields (bases os) (globals os) p in_text)) (numbered os)) (sum_by (λ p. round_up k (size p)) (take i os) + j) 0 ≡ get_or (with_fields (bases os) (globals os) (i, o) in_text) j 0
 stands os k fill in_text size is i j o all lt at below =
     let f : ℕ × ObjectParts → List ℕ = λ p. padded k fill (with_fields (bases os) (globals os) p in_text) in

@@ -1,5 +1,7 @@
 -- One object tested.
 use Rattle.std.proofs.Common.{◌≡◌, ℕ, Bool, true, false, cond, List, Option, Some, None, Result, Ok, Err, IsErrAnd, refl, ap, sym, ◌∙◌, subst}
+use Rattle.std.specs.Bool.{then_some}
+use Rattle.guest_ram.specs.Places.{◌or_else◌}
 use Rattle.elf_form.specs.ObjectParts.{ObjectParts}
 use Rattle.sites.specs.declared.site.Site.{Site}
 use Rattle.elf_link.specs.declared.target.Target.{Target}
@@ -9,7 +11,7 @@ use Rattle.elf_link.specs.declared.fault.LinkCause.TheVariants.{SitesForm}
 use Rattle.elf_link.specs.declared.fault.LinkFault.{LinkFault}
 use Rattle.elf_link.specs.declared.fault.LinkFault.TheVariants as faults
 use Rattle.elf_link.specs.Sites.{sites_of}
-use Rattle.elf_link.specs.Refusals.{Refused, ◌or◌, when, refused, first_doubled, exported_names, doubled_cause}
+use Rattle.elf_link.specs.Refusals.{Refused, refused, first_doubled, exported_names, doubled_cause}
 use Rattle.elf_link.specs.Steps.{size_cause, sites_bad, placed_sites, step_cause, tested}
 use Rattle.elf_link.specs.Answers.{Fails, Gives}
 use Rattle.elf_link.proofs.ExportLaws.{keys}
@@ -26,11 +28,11 @@ module _ (n : ℕ) (t : Totals) (before : List Site) (gs : List (List ℕ × Tar
   own : Option LinkCause
   own = doubled_cause (first_doubled (keys gs) (exported_names (n, o)))
 
-  step_at : (b : Bool) → sites_bad t before o ≡ b → step_cause t before gs (n, o) ≡ (when b SitesForm or own)
+  step_at : (b : Bool) → sites_bad t before o ≡ b → step_cause t before gs (n, o) ≡ (then_some b SitesForm or_else own)
   unfolding step_cause own
   step_at b e =
-      ap (λ (c : Option LinkCause). c or (when (sites_bad t before o) SitesForm or doubled_cause (first_doubled (keys gs) (exported_names (n, o))))) none
-      ∙ ap (λ (x : Bool). when x SitesForm or doubled_cause (first_doubled (keys gs) (exported_names (n, o)))) e
+      ap (λ (c : Option LinkCause). c or_else (then_some (sites_bad t before o) SitesForm or_else doubled_cause (first_doubled (keys gs) (exported_names (n, o))))) none
+      ∙ ap (λ (x : Bool). then_some x SitesForm or_else doubled_cause (first_doubled (keys gs) (exported_names (n, o)))) e
 
   pub sites_fail : (e : LinkFault) → Fails e (placed_sites n t before o) → Fails e (tested (refused n (step_cause t before gs (n, o))))
   unfolding placed_sites

@@ -1,12 +1,10 @@
 pub mod Numbers
 pub mod Layout
-pub mod Keys
 pub mod Symbols
 pub mod Relocations
 pub mod Sites
 pub mod Refusals
 pub mod Linked
-pub mod Spans
 pub mod Steps
 pub mod Answers
 pub mod Facts

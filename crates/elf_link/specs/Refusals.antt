@@ -1,7 +1,9 @@
 -- Why objects are not linked. The causes are tested in an order, and the first counts.
 use Rattle.std.specs.Prelude.{ℕ, ◌+◌, Bool, List, [], ◌∷◌, ◌++◌, length, map, take, filter, sum_by, nat_lt, codes, Option, Some, None, if◌then◌else◌}
+use Rattle.std.specs.Bool.{then_some}
 use Rattle.std.specs.List.{list_any}
 use Rattle.std.specs.Str.{bytes_eq}
+use Rattle.guest_ram.specs.Places.{◌or_else◌}
 use Rattle.elf_form.specs.ObjectParts.{ObjectParts}
 use Rattle.sites.specs.declared.limits.TheConstants.{TEXT_LIMIT}
 use Rattle.elf_link.specs.declared.target.Target.{Target}
@@ -17,27 +19,19 @@ pub record Refused : Type 0 where
   pub object : ℕ
   pub cause : LinkCause
 
-infixr 12 ◌or◌
-abbrev pub ◌or◌ : {X : Type 0} → Option X → Option X → Option X
-(Some x) or later = Some x
-None or later = later
-
-abbrev pub when : Bool → LinkCause → Option LinkCause
-when holds cause = if holds then Some cause else None
-
 -- what a test answers at the first item at which it answers
 unfoldable pub first : {X Y : Type 0} → (X → Option Y) → List X → Option Y
 first f [] = None
-first f (x ∷ xs) = f x or first f xs
+first f (x ∷ xs) = f x or_else first f xs
 
--- a name that is among others
-abbrev pub is_among : List ℕ → List (List ℕ) → Bool
-is_among name names = list_any (λ n. bytes_eq name n) names
+-- a name is among others
+abbrev pub holds : List (List ℕ) → List ℕ → Bool
+holds names name = list_any (λ n. bytes_eq name n) names
 
 -- the first of some names that is among others or stands twice
 unfoldable pub first_doubled : List (List ℕ) → List (List ℕ) → Option (List ℕ)
 first_doubled others [] = None
-first_doubled others (name ∷ names) = if is_among name others then Some name else first_doubled (others ++ name ∷ []) names
+first_doubled others (name ∷ names) = if holds others name then Some name else first_doubled (others ++ name ∷ []) names
 
 abbrev pub exported_names : ℕ × ObjectParts → List (List ℕ)
 exported_names p = map (λ s. s.name) (filter is_exported p.1.symbols)
@@ -54,11 +48,11 @@ doubled_cause (Some name) = Some (Doubled name)
 unfoldable pub object_cause : List ObjectParts → ℕ × ObjectParts → Option LinkCause
 object_cause os p =
     let os' = take (p.0 + 1) os in
-    when (nat_lt TEXT_LIMIT (text_end os' + 2)) TextTooLarge
-    or (when (nat_lt 33554432 (memory_end os')) InitTooLarge
-    or (when (nat_lt 65536 (sum_by (λ o. length o.symbols) os')) TooManySymbols
-    or (when (sites_wrong os p) SitesForm
-    or doubled_cause (doubled os p))))
+    then_some (nat_lt TEXT_LIMIT (text_end os' + 2)) TextTooLarge
+    or_else (then_some (nat_lt 33554432 (memory_end os')) InitTooLarge
+    or_else (then_some (nat_lt 65536 (sum_by (λ o. length o.symbols) os')) TooManySymbols
+    or_else (then_some (sites_wrong os p) SitesForm
+    or_else doubled_cause (doubled os p))))
 
 abbrev pub refused : ℕ → Option LinkCause → Option Refused
 refused i None = None
@@ -82,5 +76,5 @@ start_refusal (Some t) = if is_text t.place then None else Some (record { object
 unfoldable pub refusal : List ObjectParts → Option Refused
 refusal os =
     first (object_refusal os) (numbered os)
-    or (first (relocs_refusal os) (numbered os)
-    or start_refusal (start os))
+    or_else (first (relocs_refusal os) (numbered os)
+    or_else start_refusal (start os))

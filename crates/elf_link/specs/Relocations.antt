@@ -46,8 +46,8 @@ relocated bs gs p r addend =
     sum_of r.relative (address_by bs (target_by gs p.0 (slice_get p.1.symbols r.symbol))) addend (field_at (or_zero (slice_get bs p.0)) r)
 
 -- the text or the data of an object
-abbrev pub part_of : Bool → ObjectParts → List ℕ
-part_of in_text o = if in_text then o.text else o.init
+abbrev pub contents_of : Bool → ObjectParts → List ℕ
+contents_of in_text o = if in_text then o.text else o.init
 
 -- with a field filled; the fields of the other are left
 unfoldable pub filled : List Base → List (List ℕ × Target) → ℕ × ObjectParts → Bool → List ℕ → Reloc → List ℕ
@@ -55,4 +55,4 @@ filled bs gs p in_text bytes r = if is_of in_text r then with_word32 bytes r.at 
 
 -- with all its fields filled, in the order of the relocations
 unfoldable pub with_fields : List Base → List (List ℕ × Target) → ℕ × ObjectParts → Bool → List ℕ
-with_fields bs gs p in_text = fold (filled bs gs p in_text) (part_of in_text p.1) p.1.relocs
+with_fields bs gs p in_text = fold (filled bs gs p in_text) (contents_of in_text p.1) p.1.relocs

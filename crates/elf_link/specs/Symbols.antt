@@ -2,6 +2,7 @@
 use Rattle.std.specs.Prelude.{ℕ, ◌+◌, ◌%◌, ◌^◌, ◌&&◌, Bool, true, false, List, [], ◌∷◌, map, filter, slice_get, Option, Some, None, if◌then◌else◌}
 use Rattle.std.specs.List.{flat_map}
 use Rattle.std.specs.Str.{bytes_eq}
+use Rattle.std.specs.Global.{Vec}
 use Rattle.elf_form.specs.declared.object.DefinedIn.{DefinedIn}
 use Rattle.elf_form.specs.declared.object.DefinedIn.TheVariants.{Undefined, Text, Init, Bss}
 use Rattle.elf_form.specs.declared.object.Symbol.{Symbol}
@@ -41,6 +42,10 @@ definitions ps = flat_map exports ps
 unfoldable pub lookup : List ℕ → List (List ℕ × Target) → Option Target
 lookup name [] = None
 lookup name (d ∷ ds) = if bytes_eq name d.0 then Some d.1 else lookup name ds
+
+-- the names and their meanings, where names are held in vectors
+abbrev pub named : List (Vec ℕ × Target) → List (List ℕ × Target)
+named es = map (λ e. (e.0.items, e.1)) es
 
 abbrev pub globals : List ObjectParts → List (List ℕ × Target)
 globals os = definitions (numbered os)

@@ -2,7 +2,7 @@
 
 ghost use Rattle.std.specs.Prelude.{◌≡◌, ◌++◌, [], ◌∷◌, map, filter, None, false, OnOk, IfOk};
 ghost use Rattle.elf_link.specs.Symbols.{is_defined, is_exported, target, lookup, target_of};
-ghost use Rattle.elf_link.specs.Refusals.{is_among, first_doubled};
+ghost use Rattle.elf_link.specs.Refusals.{holds, first_doubled};
 
 use crate::target::Target;
 use elf_form::{Bytes, DefinedIn, Symbol};
@@ -20,7 +20,7 @@ pub struct Globals {
 impl Model for Globals {
     ghost use Rattle.std.specs.Prelude.{List, ℕ};
     ghost use Rattle.elf_link.specs.declared.target.Target.{Target as View};
-    ghost use Rattle.elf_link.specs.Keys.{named};
+    ghost use Rattle.elf_link.specs.Symbols.{named};
 
     ghost Value = { List (List ℕ × View) };
 
@@ -45,14 +45,14 @@ impl Globals {
 
     /// Whether a name is among them.
     pub fn holds(&self, name: &[u8]) -> bool
-        ensures { result ≡ is_among name.now (map (λ d. d.0) self.now) }
+        ensures { result ≡ holds (map (λ d. d.0) self.now) name.now }
     {
         self.map.contains_key(name)
     }
 
     /// Adds a name that isn't there.
     pub fn add(&mut self, alloc: Global, name: &[u8], target: Target) -> Result<(), AllocError>
-        requires { is_among name.now (map (λ d. d.0) self.old) ≡ false }
+        requires { holds (map (λ d. d.0) self.old) name.now ≡ false }
         ensures { OnOk result (self.new ≡ self.old ++ (name.now, target) ∷ []) }
     {
         let bytes = Vec::from_slice(alloc, name)?;

@@ -18,7 +18,7 @@ ghost use Rattle.elf_link.specs.Order.{IsFirstRefused, IsFirstCause, up_to, symb
 ghost use Rattle.elf_link.specs.Symbols.{is_text, is_exported, target, lookup, target_of, globals};
 ghost use Rattle.elf_form.specs.Linkable.{IsLinkable};
 ghost use Rattle.elf_link.specs.Relocations.{reloc_cause, with_fields};
-ghost use Rattle.elf_link.specs.Refusals.{Refused, first, first_doubled, is_among, object_cause, object_refusal, relocs_refusal, start, refusal, doubled, doubled_cause};
+ghost use Rattle.elf_link.specs.Refusals.{Refused, first, first_doubled, holds, object_cause, object_refusal, relocs_refusal, start, refusal, doubled, doubled_cause};
 ghost use Rattle.elf_link.specs.Doubled.{IsFirstDoubled};
 ghost use Rattle.elf_link.specs.Linked.{linked_text, linked_init};
 
@@ -59,7 +59,7 @@ pub fn relocations_refused()
 #[tactic(auto, using(crate::proofs::DoubledLaws::doubled_found, crate::proofs::DoubledLaws::doubled_none))]
 pub fn names_doubled()
     ensures found { (others names : List (List ℕ)) (name : List ℕ) → first_doubled others names ≡ Some name → IsFirstDoubled others names name }
-    ensures none { (others names : List (List ℕ)) → first_doubled others names ≡ None → (k : ℕ) (name : List ℕ) → slice_get names k ≡ Some name → is_among name (others ++ take k names) ≡ false }
+    ensures none { (others names : List (List ℕ)) → first_doubled others names ≡ None → (k : ℕ) (name : List ℕ) → slice_get names k ≡ Some name → holds (others ++ take k names) name ≡ false }
 {}
 
 /// Each object is tested by itself, the first that is refused is told, and none before it is

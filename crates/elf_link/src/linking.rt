@@ -19,7 +19,7 @@ use crate::gathering::{gather_all, refuse};
 use crate::globals::Globals;
 use crate::layout::{INIT_AT, TEXT_AT, bases, init_end, memory_end, text_end};
 use crate::relocations::{Plan, address, is_text, relocs_cause, with_fields};
-use elf_form::{Image, Object, write_image};
+use elf_form::{Image, Object, pad, write_image};
 use sites::{of_text, write_sites};
 use std::alloc::{AllocError, Global};
 
@@ -29,8 +29,7 @@ fn put_padded(out: &mut Vec<u8>, bytes: &[u8], to: usize, fill: u8) -> Result<()
     ensures { OnOk result (out.new.items ≡ out.old.items ++ padded to fill bytes.now) }
 {
     out.extend_from_slice(bytes)?;
-    let pad = (to - bytes.len() % to) % to;
-    for _i in 0..pad {
+    for _i in 0..pad(to, bytes.len()) {
         out.push(fill)?;
     }
     Ok(())

@@ -1,12 +1,11 @@
 //! Fields that are filled with addresses and distances.
 
 ghost use Rattle.std.specs.Prelude.{◌≡◌, ◌+◌, ◌≤◌, ◌<◌, length, IsTrue, slice_get, IfOk};
-ghost use Rattle.guest_ram.specs.Bytes.{word32, with_word32};
 ghost use Rattle.elf_form.specs.ObjectLayout.{is_of};
 ghost use Rattle.elf_link.specs.Layout.{or_zero};
 ghost use Rattle.elf_link.specs.Symbols.{is_text, address};
 ghost use Rattle.elf_form.specs.Linkable.{IsLinkable};
-ghost use Rattle.elf_link.specs.Relocations.{target_by, reloc_cause, field_at, address_by, sum_of, relocated, filled, part_of, with_fields};
+ghost use Rattle.elf_link.specs.Relocations.{target_by, reloc_cause, field_at, address_by, sum_of, relocated, filled, contents_of, with_fields};
 ghost use Rattle.elf_link.specs.Refusals.{first};
 
 use crate::base::Base;
@@ -14,6 +13,7 @@ use crate::fault::LinkCause;
 use crate::globals::{Globals, copy_of, name_of, target_of};
 use crate::target::Target;
 use elf_form::{DefinedIn, Object, Reloc, Symbol};
+use guest_ram::{put_word, word};
 use std::alloc::{AllocError, Global};
 
 /// What the objects' names and parts stand for.
@@ -118,7 +118,7 @@ fn sum_of(relative: bool, symbol: u32, addend: u32, place: u32) -> u32
 }
 
 /// The linear address of what a relocation names.
-fn address_of(plan: &Plan, number: u32, object: &Object, reloc: Reloc) -> u32
+fn named_address(plan: &Plan, number: u32, object: &Object, reloc: Reloc) -> u32
     ensures { result ≡ address_by plan.now.bases.items (target_by plan.now.globals number (slice_get object.now.symbols reloc.symbol)) }
 {
     match object.symbols.get(reloc.symbol as usize) {
@@ -138,21 +138,6 @@ fn field_at(base: Base, reloc: Reloc) -> u32
     part.wrapping_add(reloc.at)
 }
 
-fn word(bytes: &[u8], at: usize) -> u32
-    requires { at + 4 ≤ length bytes.now }
-    ensures { result ≡ word32 bytes.now at }
-{
-    let part = &bytes[at..at + 4];
-    u32::from_le_bytes([part[0], part[1], part[2], part[3]])
-}
-
-fn put_word(bytes: &mut [u8], at: usize, word: u32)
-    requires { at + 4 ≤ length bytes.old }
-    ensures { bytes.new ≡ with_word32 bytes.old at word }
-{
-    bytes[at..at + 4].copy_from_slice(&word.to_le_bytes());
-}
-
 /// Fills the field of a relocation, if it is in this part.
 #[tactic(auto, unfolding(crate::specs::Relocations::filled, crate::specs::Relocations::relocated))]
 fn fill(plan: &Plan, number: u32, object: &Object, in_text: bool, reloc: Reloc, bytes: &mut [u8])
@@ -163,7 +148,7 @@ fn fill(plan: &Plan, number: u32, object: &Object, in_text: bool, reloc: Reloc, 
         return;
     }
     let at = reloc.at as usize;
-    let symbol = address_of(plan, number, object, reloc);
+    let symbol = named_address(plan, number, object, reloc);
     let place = field_at(base_of(&plan.bases, number), reloc);
     let sum = sum_of(reloc.relative, symbol, word(bytes, at), place);
     put_word(bytes, at, sum);

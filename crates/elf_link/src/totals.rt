@@ -6,7 +6,7 @@ ghost use Rattle.elf_link.specs.Sites.{sites_of};
 ghost use Rattle.elf_link.specs.Steps.{IsWithin, HasRoom, size_cause, with_object};
 
 use crate::fault::LinkCause;
-use elf_form::Object;
+use elf_form::{Object, pad};
 use sites::TEXT_LIMIT;
 
 const MEMORY_LIMIT: usize = 33_554_432;
@@ -29,7 +29,7 @@ pub fn round_up(to: usize, n: usize) -> usize
     requires small { n < 2 ^ 63 }
     ensures { result ≡ round_up to n }
 {
-    n + (to - n % to) % to
+    n + pad(to, n)
 }
 
 /// The limit that an object breaks, if it does.

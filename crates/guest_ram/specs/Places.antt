@@ -1,12 +1,7 @@
--- The place at which bytes are bad, where they are.
-use Rattle.std.specs.Prelude.{ℕ, if◌then◌else◌, Bool, Option, Some, None}
+-- The first of two tests that finds something.
+use Rattle.std.specs.Prelude.{Option}
+use Rattle.std.specs.Option.{option_or}
 
--- the place, where it is bad
-abbrev pub bad : Bool → ℕ → Option ℕ
-bad is_bad at = if is_bad then Some at else None
-
--- the first place
 infixr 12 ◌or_else◌
-abbrev pub ◌or_else◌ : Option ℕ → Option ℕ → Option ℕ
-(Some at) or_else later = Some at
-None or_else later = later
+abbrev pub ◌or_else◌ : {A : Type 0} → Option A → Option A → Option A
+a or_else b = option_or a b

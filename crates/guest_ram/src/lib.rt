@@ -5,6 +5,9 @@ ghost use Rattle.std.specs.Prelude.{◌≡◌, ◌+◌, ◌*◌, ◌<◌, ◌≤
 ghost use Rattle.guest_ram.specs.Bytes.{part, with_part, byte, word16, word32, with_byte, with_word16, with_word32, AreBytes};
 
 mod memory;
+mod words;
+
+pub use words::{byte, half, put_word, word};
 
 use memory::{Lease, Memory, Room};
 use std::alloc::{AllocError, Global};

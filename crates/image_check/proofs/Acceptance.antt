@@ -1,6 +1,7 @@
 -- An image passes the tests exactly where it is accepted.
 use Rattle.std.proofs.Common.{◌≡◌, ℕ, zero, suc, ◌+◌, ◌<◌, ◌≤◌, Bool, true, false, not, ◌&&◌, ◌||◌, cond, min, List, [], ◌∷◌, length, map, nat_lt, Option, Some, None, Result, Ok, Err, refl, sym, ap, subst, ◌∙◌, inl, inr, ◌⊎◌, arith}
 use Rattle.std.specs.Prelude.{◌==◌, slice_index_or}
+use Rattle.std.specs.Bool.{then_some}
 use Rattle.std.specs.List.{list_any, Contains}
 use Rattle.std.proofs.lemmas.Bool.{cases_lt}
 use Rattle.std.proofs.lemmas.Bool.Decides.{nat_tests}
@@ -10,7 +11,7 @@ use Rattle.ia32_types.specs.declared.site.SiteKind.TheVariants.{Cli, Sti, StiHlt
 use Rattle.ia32_types.specs.Site.{sensitive_kind}
 use Rattle.ia32_rows.specs.Spells.{AreBytes}
 use Rattle.elf_form.specs.ImageParts.{ImageParts}
-use Rattle.elf_form.specs.Faults.{Fault}
+use Rattle.elf_form.specs.Faults.{Fault, ◌or_lower◌}
 use Rattle.elf_form.specs.Reading.{image_in}
 use Rattle.elf_form.specs.Accepted.{ImageAs}
 use Rattle.elf_form.proofs.Acceptance.{read_as, as_read}
@@ -28,8 +29,7 @@ use Rattle.image_check.specs.Pieces.{is_branch, is_nop, target_of, site_role, pi
 use Rattle.image_check.specs.TextSites.{is_same, differ, Found, found_in, unless_lacking, sites_of}
 use Rattle.image_check.specs.Targets.{is_inside, is_entrance, leads_wrong, wrong_target}
 use Rattle.image_check.specs.Refusals.{Refusal}
-use Rattle.guest_ram.specs.Places.{bad}
-use Rattle.image_check.specs.Conditions.{text_place, init_place, text_size, init_size, entry_place, last_at, ends_at, text_end, lower, site_wrong, entry_at, entry_start}
+use Rattle.image_check.specs.Conditions.{text_place, init_place, text_size, init_size, entry_place, last_at, ends_at, text_end, site_wrong, entry_at, entry_start}
 use Rattle.image_check.specs.Checking.{as_form, placed, annotated, entered, image_with, image_from, image_of}
 use Rattle.image_check.specs.Accepts.{IsWithin, IsEntrance, IsAccepted, Accepts}
 use Rattle.image_check.proofs.FileLimits.{text_bytes}
@@ -118,10 +118,13 @@ unfolding differ
 differ-same [] = refl
 differ-same (s ∷ ss) = ap (λ b. cond b (differ ss ss) (Some (min s.at s.at))) (is_itself s) ∙ differ-same ss
 
-lower_none : (a b : Option ℕ) → lower a b ≡ None → (a ≡ None) × (b ≡ None)
+lower_none : (a b : Option ℕ) → (a or_lower b) ≡ None → (a ≡ None) × (b ≡ None)
 lower_none None b e = (refl, e)
 lower_none (Some a) None e = absurd cc
-lower_none (Some a) (Some b) e = absurd cc
+lower_none (Some a) (Some b) e = absurd (some_lower (nat_lt b a) e) where
+  some_lower : (c : Bool) → cond c (Some b) (Some a) ≡ None → ⊥
+  some_lower true h = cc
+  some_lower false h = cc
 
 all_found : (sites : List Site) (f : Found) → f.lacking ≡ None → sites ≡ f.sites → unless_lacking f.sites f.lacking ≡ Some sites
 all_found sites f none same = ap (unless_lacking f.sites) none ∙ ap (λ (ss : List Site). Some ss) (sym same)
@@ -141,7 +144,7 @@ were_found sites found (Some at) e = absurd cc
 pub sites_right : (sites : List Site) (ps : List Piece) → sites_of ps ≡ Some sites → site_wrong sites ps ≡ None
 sites_right sites ps e =
     let h = were_found sites (found_in ps).sites (found_in ps).lacking e in
-    ap (λ (a : Option ℕ). lower a (differ sites (found_in ps).sites)) h.0 ∙ ap (differ sites) h.1 ∙ differ-same sites
+    ap (λ (a : Option ℕ). a or_lower differ sites (found_in ps).sites) h.0 ∙ ap (differ sites) h.1 ∙ differ-same sites
 
 -- ---- where control comes in
 
@@ -269,7 +272,7 @@ accepted_from parts image fit e =
 -- ---- the other way
 
 right_end : (text : List ℕ) (ps : List Piece) → ends_at text (last_at ps) ≡ true → text_end text ps ≡ None
-right_end text ps e = ap (λ b. bad (not b) (last_at ps)) e
+right_end text ps e = ap (λ b. then_some (not b) (last_at ps)) e
 
 equal_so : (m n : ℕ) → m ≡ n → (m == n) ≡ true
 equal_so m n e = grind (arith, nat_tests)
@@ -295,19 +298,19 @@ unfolding placed
 placed_right parts sites text init w =
     rw (text_right parts text, init_right parts init, size_right parts sites w, few_right parts sites w, entry_right parts sites w) refl where
       text_right : (p : ImageParts) → p.text_at ≡ 0x10000000 → text_place p ≡ None
-      text_right p e = ap (λ b. bad (not b) 0) (equal_so p.text_at 0x10000000 e)
+      text_right p e = ap (λ b. then_some (not b) 0) (equal_so p.text_at 0x10000000 e)
 
       init_right : (p : ImageParts) → p.init_at ≡ 0x11000000 → init_place p ≡ None
-      init_right p e = ap (λ b. bad (not b) 0) (equal_so p.init_at 0x11000000 e)
+      init_right p e = ap (λ b. then_some (not b) 0) (equal_so p.init_at 0x11000000 e)
 
       size_right : (p : ImageParts) (ss : List Site) → IsWithin (image_with p ss) → text_size p ≡ None
-      size_right p ss h = let some = h.text.0 in let few = h.text.1 in ap (λ b. bad b 0) (no_size (length p.text) some few)
+      size_right p ss h = let some = h.text.0 in let few = h.text.1 in ap (λ b. then_some b 0) (no_size (length p.text) some few)
 
       few_right : (p : ImageParts) (ss : List Site) → IsWithin (image_with p ss) → init_size p ≡ None
-      few_right p ss h = ap (λ b. bad b 0) (not_above (length p.init + p.bss) 33554432 h.room)
+      few_right p ss h = ap (λ b. then_some b 0) (not_above (length p.init + p.bss) 33554432 h.room)
 
       entry_right : (p : ImageParts) (ss : List Site) → IsWithin (image_with p ss) → entry_place p ≡ None
-      entry_right p ss h = ap (λ b. bad b 0) (no_entry p.entry (length p.text) h.entry.0 h.entry.1)
+      entry_right p ss h = ap (λ b. then_some b 0) (no_entry p.entry (length p.text) h.entry.0 h.entry.1)
 
 passes : (parts : ImageParts) (sites : List Site) (ps : List Piece) → placed parts ≡ Ok tt → pieces_in parts.text ≡ Ok ps → text_end parts.text ps ≡ None → listed parts.sites ≡ Ok sites → site_wrong sites ps ≡ None → wrong_target (is_entrance ps sites) ps ≡ None → entry_start parts ps sites ≡ None → image_from parts ≡ Ok (image_with parts sites)
 unfolding image_from annotated entered
@@ -323,7 +326,7 @@ from_accepted parts sites fit text init read h =
     read
     (sites_right sites (map piece_of h.swept) h.sites)
     (right_targets (is_entrance (map piece_of h.swept) sites) h.swept (λ s c branch. is_entrance_so h.swept sites (target_of s.at s.len s.insn) (h.targets s c branch)))
-    (ap (λ b. bad (not b) (entry_at parts)) (is_entrance_so h.swept sites (entry_at parts) h.entry))
+    (ap (λ b. then_some (not b) (entry_at parts)) (is_entrance_so h.swept sites (entry_at parts) h.entry))
 
 -- ---- the file
 

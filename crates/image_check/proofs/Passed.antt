@@ -1,6 +1,7 @@
 -- What an image has that passed all tests.
 use Rattle.std.proofs.Common.{◌≡◌, ℕ, Bool, true, false, List, Option, Some, None, Result, Ok, Err, refl, subst, arith}
 use Rattle.std.proofs.lemmas.Bool.Decides.{nat_tests}
+use Rattle.std.specs.Bool.{then_some}
 use Rattle.elf_form.specs.ImageParts.{ImageParts}
 use Rattle.sites.specs.declared.site.Site.{Site}
 use Rattle.sites.specs.Formats.{listed}
@@ -9,7 +10,6 @@ use Rattle.image_check.specs.declared.fault.CheckCause.TheVariants.{TextPlace, I
 use Rattle.image_check.specs.declared.piece.Piece.{Piece}
 use Rattle.image_check.specs.Image.{Image}
 use Rattle.image_check.specs.Refusals.{Refusal, test, ◌>>=◌}
-use Rattle.guest_ram.specs.Places.{bad}
 use Rattle.image_check.specs.Pieces.{pieces_in}
 use Rattle.image_check.specs.Targets.{is_entrance, wrong_target}
 use Rattle.image_check.specs.Conditions.{text_place, init_place, text_size, init_size, entry_place, text_end, site_wrong, entry_start}
@@ -101,7 +101,7 @@ has_passed parts image e =
 
 -- ---- bounds
 
-pub not_bad : (b : Bool) (at : ℕ) → bad b at ≡ None → b ≡ false
+pub not_bad : (b : Bool) (at : ℕ) → then_some b at ≡ None → b ≡ false
 not_bad true at e = absurd cc
 not_bad false at e = refl
 

@@ -1,6 +1,7 @@
 -- Where the places and sizes, the sweep and the end of a text are wrong.
 use Rattle.std.proofs.Common.{◌≡◌, ◌≢◌, ℕ, ◌+◌, ◌<◌, ◌≤◌, Bool, true, false, not, ◌&&◌, ◌||◌, cond, List, [], ◌∷◌, length, drop, map, nat_lt, Option, Some, None, Result, Ok, Err, refl, sym, ap, ◌∙◌, inl, inr, ◌⊎◌, length-drop, arith}
 use Rattle.std.specs.Prelude.{◌↔◌, ◌==◌, slice_index}
+use Rattle.std.specs.Bool.{then_some}
 use Rattle.std.proofs.lemmas.Bool.{cases_lt}
 use Rattle.std.proofs.lemmas.List.{drop_all}
 use Rattle.std.proofs.lemmas.Bool.Decides.{nat_tests}
@@ -11,7 +12,6 @@ use Rattle.image_check.specs.declared.fault.CheckCause.TheVariants.{TextPlace, I
 use Rattle.image_check.specs.declared.piece.Piece.{Piece}
 use Rattle.image_check.specs.Sweep.{Swept, sweep}
 use Rattle.image_check.specs.Pieces.{is_refused, piece_of}
-use Rattle.guest_ram.specs.Places.{bad}
 use Rattle.image_check.specs.Conditions.{text_place, init_place, text_size, init_size, entry_place, last_at, ends_at, text_end}
 use Rattle.image_check.specs.Causes.{refused_stop, bad_stop, of_swept}
 use Rattle.image_check.specs.Reasons.{MeetsNamed, MeetsOther, EndsOtherwise, IsWrong}
@@ -24,12 +24,12 @@ some n = Some n
 
 -- ---- tests of a number or two
 
-pub bad_so : (b : Bool) (place at : ℕ) → bad b place ≡ Some at → (b ≡ true) × (at ≡ place)
+pub bad_so : (b : Bool) (place at : ℕ) → then_some b place ≡ Some at → (b ≡ true) × (at ≡ place)
 bad_so true place at e = (refl, cc)
 bad_so false place at e = absurd cc
 
-pub so_bad : (b : Bool) (place at : ℕ) → b ≡ true → at ≡ place → bad b place ≡ Some at
-so_bad b place at e f = ap (λ c. bad c place) e ∙ ap some (sym f)
+pub so_bad : (b : Bool) (place at : ℕ) → b ≡ true → at ≡ place → then_some b place ≡ Some at
+so_bad b place at e f = ap (λ c. then_some c place) e ∙ ap some (sym f)
 
 not_equal : (m n : ℕ) → not (m == n) ≡ true → m ≢ n
 not_equal m n e = grind (arith, nat_tests)

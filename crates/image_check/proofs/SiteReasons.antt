@@ -1,11 +1,12 @@
 -- Where the annotations and the sites of a text differ, or a sensitive instruction lacks its NOPs.
 use Rattle.std.proofs.Common.{◌≡◌, ◌≢◌, ℕ, ◌≤◌, Bool, true, false, cond, min, List, [], ◌∷◌, ◌++◌, map, Option, Some, None, refl, sym, ap, ◌∙◌, inl, inr, ◌⊎◌, arith}
-use Rattle.std.proofs.lemmas.Bool.{cases_lt}
+use Rattle.std.proofs.lemmas.Bool.{cases_lt, le-ltb, lt-ltb}
+use Rattle.elf_form.specs.Faults.{◌or_lower◌}
 use Rattle.sites.specs.declared.site.Site.{Site}
 use Rattle.image_check.specs.Sweep.{Swept}
 use Rattle.image_check.specs.Pieces.{piece_of}
 use Rattle.image_check.specs.TextSites.{is_same, differ, found_in}
-use Rattle.image_check.specs.Conditions.{lower, site_wrong}
+use Rattle.image_check.specs.Conditions.{site_wrong}
 use Rattle.image_check.specs.Reasons.{NextDiffer, FirstDiffer, IsWrongAt}
 use Rattle.elf_form.specs.Order.{IsLowest}
 use Rattle.image_check.proofs.Acceptance.{same_site, is_itself}
@@ -29,16 +30,16 @@ join s ss = s ∷ ss
 differ_so : (a b : List Site) (at : ℕ) → differ a b ≡ Some at → FirstDiffer a b at
 unfolding differ
 differ_so [] [] at e = absurd cc
-differ_so [] (t ∷ ts) at e = record { both = []; left = []; right = t ∷ ts; first = refl; second = refl; differ = cc }
-differ_so (s ∷ ss) [] at e = record { both = []; left = s ∷ ss; right = []; first = refl; second = refl; differ = cc }
+differ_so [] (t ∷ ts) at e = record { both = []; rest_a = []; rest_b = t ∷ ts; first = refl; second = refl; differ = cc }
+differ_so (s ∷ ss) [] at e = record { both = []; rest_a = s ∷ ss; rest_b = []; first = refl; second = refl; differ = cc }
 differ_so (s ∷ ss) (t ∷ ts) at e =
     elim (true_or_false (is_same s t)) [
       | inl is ↦
           let more = differ_so ss ts at (sym (ap (λ b. cond b (differ ss ts) (Some (min s.at t.at))) is) ∙ e) in
-          record { both = s ∷ more.both; left = more.left; right = more.right; first = ap (join s) more.first; second = ap (λ (u : Site). u ∷ ts) (sym (same_site s t is)) ∙ ap (join s) more.second; differ = more.differ }
+          record { both = s ∷ more.both; rest_a = more.rest_a; rest_b = more.rest_b; first = ap (join s) more.first; second = ap (λ (u : Site). u ∷ ts) (sym (same_site s t is)) ∙ ap (join s) more.second; differ = more.differ }
       | inr differs ↦
           let e' : some (min s.at t.at) ≡ Some at = sym (ap (λ b. cond b (differ ss ts) (Some (min s.at t.at))) differs) ∙ e in
-          record { both = []; left = s ∷ ss; right = t ∷ ts; first = refl; second = refl; differ = (is_same_not s t differs, cc) }
+          record { both = []; rest_a = s ∷ ss; rest_b = t ∷ ts; first = refl; second = refl; differ = (is_same_not s t differs, cc) }
     ]
 
 next_so : (a b : List Site) (at : ℕ) → NextDiffer a b at → differ a b ≡ Some at
@@ -54,42 +55,42 @@ behind_both [] a b = refl
 behind_both (s ∷ ss) a b = ap (λ c. cond c (differ (ss ++ a) (ss ++ b)) (Some (min s.at s.at))) (is_itself s) ∙ behind_both ss a b
 
 so_differ : (a b : List Site) (at : ℕ) → FirstDiffer a b at → differ a b ≡ Some at
-so_differ a b at h = rw (h.first, h.second) (behind_both h.both h.left h.right ∙ next_so h.left h.right at h.differ)
+so_differ a b at h = rw (h.first, h.second) (behind_both h.both h.rest_a h.rest_b ∙ next_so h.rest_a h.rest_b at h.differ)
 
-lower_of : (a b : ℕ) → ((min a b ≡ a) × (a ≤ b)) ⊎ ((min a b ≡ b) × (b ≤ a))
+lower_of : (a b : ℕ) → ((((some a) or_lower (some b)) ≡ some a) × (a ≤ b)) ⊎ ((((some a) or_lower (some b)) ≡ some b) × (b ≤ a))
 lower_of a b =
-    elim (cases_lt a b) [
-      | inl lt ↦ inl (omega arith, omega arith)
-      | inr le ↦ inr (omega arith, le)
+    elim (cases_lt b a) [
+      | inl lt ↦ inr (ap (λ c. cond c (some b) (some a)) (lt-ltb b a lt), omega (arith, lt))
+      | inr le ↦ inl (ap (λ c. cond c (some b) (some a)) (le-ltb b a le), le)
     ]
+
+some_same : {a b : ℕ} → some a ≡ some b → a ≡ b
+some_same e = cc
 
 abbrev EitherIs : Option ℕ → Option ℕ → ℕ → Type 0
 EitherIs a b at = (a ≡ Some at) ⊎ (b ≡ Some at)
 
-lower_so : (a b : Option ℕ) (at : ℕ) → lower a b ≡ Some at → IsLowest (EitherIs a b) at
+lower_so : (a b : Option ℕ) (at : ℕ) → (a or_lower b) ≡ Some at → IsLowest (EitherIs a b) at
 lower_so None None at e = absurd cc
 lower_so None (Some b) at e = let same : b ≡ at = cc in (inr e, λ k h. elim h [ inl is ↦ absurd cc | inr is ↦ let other : b ≡ k = cc in omega (arith, same, other) ])
 lower_so (Some a) None at e = let same : a ≡ at = cc in (inl e, λ k h. elim h [ inl is ↦ let other : a ≡ k = cc in omega (arith, same, other) | inr is ↦ absurd cc ])
 lower_so (Some a) (Some b) at e =
-    let same : min a b ≡ at = cc in
     elim (lower_of a b) [
-      | inl first ↦ (
-        inl (ap some (sym first.0 ∙ same)),
-        λ k h. elim h [
-          | inl is ↦ let other : a ≡ k = cc in let least = first.0 in omega (arith, same, other, least)
-          | inr is ↦ let other : b ≡ k = cc in let least = first.0 in let le = first.1 in omega (arith, same, other, least, le)
-        ],
-      )
-      | inr second ↦ (
-        inr (ap some (sym second.0 ∙ same)),
-        λ k h. elim h [
-          | inl is ↦ let other : a ≡ k = cc in let least = second.0 in let le = second.1 in omega (arith, same, other, least, le)
-          | inr is ↦ let other : b ≡ k = cc in let least = second.0 in omega (arith, same, other, least)
-        ],
-      )
+      | inl first ↦
+          let same : a ≡ at = some_same (sym first.0 ∙ e) in
+          (inl (ap some same), λ k h. elim h [
+            | inl is ↦ let other : a ≡ k = cc in omega (arith, same, other)
+            | inr is ↦ let other : b ≡ k = cc in let le = first.1 in omega (arith, same, other, le)
+          ])
+      | inr second ↦
+          let same : b ≡ at = some_same (sym second.0 ∙ e) in
+          (inr (ap some same), λ k h. elim h [
+            | inl is ↦ let other : a ≡ k = cc in let le = second.1 in omega (arith, same, other, le)
+            | inr is ↦ let other : b ≡ k = cc in omega (arith, same, other)
+          ])
     ]
 
-so_lower : (a b : Option ℕ) (at : ℕ) → IsLowest (EitherIs a b) at → lower a b ≡ Some at
+so_lower : (a b : Option ℕ) (at : ℕ) → IsLowest (EitherIs a b) at → (a or_lower b) ≡ Some at
 so_lower None None at h = elim h.0 [ inl is ↦ is | inr is ↦ is ]
 so_lower None (Some b) at h = elim h.0 [ inl is ↦ absurd cc | inr is ↦ is ]
 so_lower (Some a) None at h = elim h.0 [ inl is ↦ is | inr is ↦ absurd cc ]
@@ -98,12 +99,12 @@ so_lower (Some a) (Some b) at h =
     let to_b : at ≤ b = h.1 b (inr refl) in
     elim h.0 [
       | inl is ↦ let same : a ≡ at = cc in elim (lower_of a b) [
-        | inl first ↦ ap some (first.0 ∙ same)
-        | inr second ↦ let le = second.1 in ap some (second.0 ∙ omega (arith, to_b, le, same))
+        | inl first ↦ first.0 ∙ ap some same
+        | inr second ↦ let le = second.1 in second.0 ∙ ap some (omega (arith, to_b, le, same))
       ]
       | inr is ↦ let same : b ≡ at = cc in elim (lower_of a b) [
-        | inl first ↦ let le = first.1 in ap some (first.0 ∙ omega (arith, to_a, le, same))
-        | inr second ↦ ap some (second.0 ∙ same)
+        | inl first ↦ let le = first.1 in first.0 ∙ ap some (omega (arith, to_a, le, same))
+        | inr second ↦ second.0 ∙ ap some same
       ]
     ]
 

@@ -10,7 +10,7 @@ use Rattle.ia32_decode.specs.Answer.{Begins, Answers}
 use Rattle.ia32_decode.specs.Decoding.{decoded}
 use Rattle.ia32_decode.proofs.Exact.{answered}
 use Rattle.ia32_decode.proofs.Whole.{exactly_insn, begins_not_cut}
-use Rattle.image_check.specs.Sweep.{Swept, SweepsTo, Sweep, SweepStops, met, sweep_from, sweep, ◌>>=◌}
+use Rattle.image_check.specs.Sweep.{Swept, SweepsTo, Sweep, SweepStops, swept_at, sweep_from, sweep, ◌>>=◌}
 use Rattle.image_check.proofs.Begun.{begun_has_byte}
 
 pub AreBytes-drop : (n : ℕ) (bytes : List ℕ) → AreBytes bytes → AreBytes (drop n bytes)
@@ -26,17 +26,17 @@ bind_err : (A B : Type 0) (r : Result A ℕ) (f : A → Result B ℕ) (d : ℕ) 
 bind_err A B (Ok x) f d h = inr (x, refl, h)
 bind_err A B (Err c) f d h = inl cc
 
-met_ok : (at : ℕ) (d : Decoded) (s : Swept) → met at d ≡ Ok s → (s.at ≡ at) × (d ≡ answer.Insn s.insn s.len)
-met_ok at (answer.Insn insn n) s e =
+swept_ok : (at : ℕ) (d : Decoded) (s : Swept) → swept_at at d ≡ Ok s → (s.at ≡ at) × (d ≡ answer.Insn s.insn s.len)
+swept_ok at (answer.Insn insn n) s e =
     let same : record { at = at; len = n; insn = insn } ≡ s = cc in
     (sym (ap (λ (t : Swept). t.at) same), ap (λ (t : Swept). answer.Insn t.insn t.len) same)
-met_ok at answer.Short s e = absurd cc
-met_ok at answer.Outside s e = absurd cc
+swept_ok at answer.Short s e = absurd cc
+swept_ok at answer.Outside s e = absurd cc
 
-none_met : (at to : ℕ) (d : Decoded) (bytes : List ℕ) → Answers d bytes → met at d ≡ Err to → (at ≡ to) × ((insn : Insn) (n : ℕ) → Begins bytes insn n → ⊥)
-none_met at to (answer.Insn insn n) bytes h e = absurd cc
-none_met at to answer.Short bytes h e = (cc, λ insn n b. begins_not_cut bytes insn n b h)
-none_met at to answer.Outside bytes h e = (cc, h.not_begun)
+none_swept : (at to : ℕ) (d : Decoded) (bytes : List ℕ) → Answers d bytes → swept_at at d ≡ Err to → (at ≡ to) × ((insn : Insn) (n : ℕ) → Begins bytes insn n → ⊥)
+none_swept at to (answer.Insn insn n) bytes h e = absurd cc
+none_swept at to answer.Short bytes h e = (cc, λ insn n b. begins_not_cut bytes insn n b h)
+none_swept at to answer.Outside bytes h e = (cc, h.not_begun)
 
 begun : (bytes : List ℕ) (insn : Insn) (n : ℕ) → AreBytes bytes → decoded bytes ≡ answer.Insn insn n → Begins bytes insn n
 begun bytes insn n fit e = (exactly_insn (decoded bytes) bytes (answered bytes fit) insn n).0 e
@@ -58,17 +58,17 @@ from_ok zero at [] swept fit few e = ended at swept e
 from_ok zero at (b ∷ bytes) swept fit few e = absurd (omega arith)
 from_ok (suc n) at [] swept fit few e = ended at swept e
 from_ok (suc n) at (b ∷ bytes) swept fit few e =
-    let first = bind_ok Swept (List Swept) (met at (decoded (b ∷ bytes))) _ swept e in
+    let first = bind_ok Swept (List Swept) (swept_at at (decoded (b ∷ bytes))) _ swept e in
     let s = first.0 in
     let rest = bind_ok (List Swept) (List Swept) (sweep_from n (at + s.len) (drop s.len (b ∷ bytes))) _ swept first.2 in
-    let is = met_ok at (decoded (b ∷ bytes)) s first.1 in
+    let is = swept_ok at (decoded (b ∷ bytes)) s first.1 in
     let here = begun (b ∷ bytes) s.insn s.len fit is.1 in
     let some = begun_has_byte (b ∷ bytes) s.insn s.len here in
     let within = here.within in
-    let left = length-drop s.len (b ∷ bytes) in
-    let more = from_ok n (at + s.len) (drop s.len (b ∷ bytes)) rest.0 (AreBytes-drop s.len (b ∷ bytes) fit) (omega (arith, left)) rest.1 in
+    let fewer = length-drop s.len (b ∷ bytes) in
+    let more = from_ok n (at + s.len) (drop s.len (b ∷ bytes)) rest.0 (AreBytes-drop s.len (b ∷ bytes) fit) (omega (arith, fewer)) rest.1 in
     let whole : s ∷ rest.0 ≡ swept = cc rest.2 in
-    let end : (at + s.len) + length (drop s.len (b ∷ bytes)) ≡ at + length (b ∷ bytes) = omega (arith, left) in
+    let end : (at + s.len) + length (drop s.len (b ∷ bytes)) ≡ at + length (b ∷ bytes) = omega (arith, fewer) in
     subst (λ (ss : List Swept). SweepsTo at (b ∷ bytes) ss (at + length (b ∷ bytes)) []) whole
     (is.0, here, subst (λ to. SweepsTo (at + s.len) (drop s.len (b ∷ bytes)) rest.0 to []) end more)
 
@@ -78,15 +78,15 @@ not_empty b bytes e = cc
 -- where the sweep stops, from an offset on
 pub record StopsFrom (at : ℕ) (bytes : List ℕ) (to : ℕ) : Type 0 where
   pub swept : List Swept
-  pub left : List ℕ
-  pub reached : SweepsTo at bytes swept to left
-  pub some : left ≢ []
-  pub none : (insn : Insn) (n : ℕ) → Begins left insn n → ⊥
+  pub rest : List ℕ
+  pub reached : SweepsTo at bytes swept to rest
+  pub some : rest ≢ []
+  pub none : (insn : Insn) (n : ℕ) → Begins rest insn n → ⊥
 
 one_first : (at len to : ℕ) (bytes : List ℕ) (s : Swept) → s.at ≡ at → Begins bytes s.insn s.len → StopsFrom (at + s.len) (drop s.len bytes) to → StopsFrom at bytes to
 one_first at len to bytes s e here stops = record {
   swept = s ∷ stops.swept;
-  left = stops.left;
+  rest = stops.rest;
   reached = (e, here, stops.reached);
   some = stops.some;
   none = stops.none;
@@ -98,13 +98,13 @@ from_err zero at to [] fit few e = absurd cc
 from_err zero at to (b ∷ bytes) fit few e = absurd (omega arith)
 from_err (suc n) at to [] fit few e = absurd cc
 from_err (suc n) at to (b ∷ bytes) fit few e =
-    elim (bind_err Swept (List Swept) (met at (decoded (b ∷ bytes))) _ to e) [
+    elim (bind_err Swept (List Swept) (swept_at at (decoded (b ∷ bytes))) _ to e) [
       | inl stops ↦
-          let is = none_met at to (decoded (b ∷ bytes)) (b ∷ bytes) (answered (b ∷ bytes) fit) stops in
-          record { swept = []; left = b ∷ bytes; reached = (is.0, refl); some = not_empty b bytes; none = is.1 }
+          let is = none_swept at to (decoded (b ∷ bytes)) (b ∷ bytes) (answered (b ∷ bytes) fit) stops in
+          record { swept = []; rest = b ∷ bytes; reached = (is.0, refl); some = not_empty b bytes; none = is.1 }
       | inr goes ↦
           let s = goes.0 in
-          let is = met_ok at (decoded (b ∷ bytes)) s goes.1 in
+          let is = swept_ok at (decoded (b ∷ bytes)) s goes.1 in
           let here = begun (b ∷ bytes) s.insn s.len fit is.1 in
           let some = begun_has_byte (b ∷ bytes) s.insn s.len here in
           let within = here.within in
@@ -119,39 +119,39 @@ from_err (suc n) at to (b ∷ bytes) fit few e =
 abbrev one : Swept → Result Swept ℕ
 one s = Ok s
 
-met_is : (at : ℕ) (s : Swept) → s.at ≡ at → met at (answer.Insn s.insn s.len) ≡ Ok s
-met_is at s e = ap (λ k. one (record { at = k; len = s.len; insn = s.insn })) (sym e)
+swept_is : (at : ℕ) (s : Swept) → s.at ≡ at → swept_at at (answer.Insn s.insn s.len) ≡ Ok s
+swept_is at s e = ap (λ k. one (record { at = k; len = s.len; insn = s.insn })) (sym e)
 
 pub with_front : List Swept → Result (List Swept) ℕ → Result (List Swept) ℕ
 with_front [] r = r
 with_front (s ∷ swept) r = with_front swept r >>= λ more. Ok (s ∷ more)
 
-pub record Leads (n at : ℕ) (bytes : List ℕ) (swept : List Swept) (to : ℕ) (left : List ℕ) : Type 0 where
+pub record Leads (n at : ℕ) (bytes : List ℕ) (swept : List Swept) (to : ℕ) (rest : List ℕ) : Type 0 where
   pub fuel : ℕ
-  pub enough : length left ≤ fuel
-  pub fits : AreBytes left
-  pub is : sweep_from n at bytes ≡ with_front swept (sweep_from fuel to left)
+  pub enough : length rest ≤ fuel
+  pub fits : AreBytes rest
+  pub is : sweep_from n at bytes ≡ with_front swept (sweep_from fuel to rest)
 
-step_is : (n at : ℕ) (bytes : List ℕ) (s : Swept) → 0 < length bytes → met at (decoded bytes) ≡ Ok s → sweep_from (suc n) at bytes ≡ (sweep_from n (at + s.len) (drop s.len bytes) >>= λ swept. Ok (s ∷ swept))
+step_is : (n at : ℕ) (bytes : List ℕ) (s : Swept) → 0 < length bytes → swept_at at (decoded bytes) ≡ Ok s → sweep_from (suc n) at bytes ≡ (sweep_from n (at + s.len) (drop s.len bytes) >>= λ swept. Ok (s ∷ swept))
 unfolding sweep_from
 step_is n at [] s some e = absurd (omega arith)
 step_is n at (b ∷ bytes) s some e = rw e refl
 
-leads : (n at : ℕ) (bytes : List ℕ) (swept : List Swept) (to : ℕ) (left : List ℕ) → AreBytes bytes → length bytes ≤ n → SweepsTo at bytes swept to left → Leads n at bytes swept to left
+leads : (n at : ℕ) (bytes : List ℕ) (swept : List Swept) (to : ℕ) (rest : List ℕ) → AreBytes bytes → length bytes ≤ n → SweepsTo at bytes swept to rest → Leads n at bytes swept to rest
 unfolding with_front
-leads n at bytes [] to left fit few h = record {
+leads n at bytes [] to rest fit few h = record {
   fuel = n;
   enough = subst (λ (bs : List ℕ). length bs ≤ n) h.1 few;
   fits = subst AreBytes h.1 fit;
   is = ap (λ k. sweep_from n k bytes) h.0 ∙ ap (sweep_from n to) h.1;
 }
-leads n at bytes (s ∷ swept) to left fit few h =
+leads n at bytes (s ∷ swept) to rest fit few h =
     let some = begun_has_byte bytes s.insn s.len h.1 in
     let within = h.1.within in
     let m = n - 1 in
     let k : n ≡ suc m = omega arith in
-    let e : met at (decoded bytes) ≡ Ok s = ap (met at) (answer_is bytes s.insn s.len fit h.1) ∙ met_is at s h.0 in
-    let later = leads m (at + s.len) (drop s.len bytes) swept to left (AreBytes-drop s.len bytes fit) (omega (arith, length-drop s.len bytes)) h.2 in
+    let e : swept_at at (decoded bytes) ≡ Ok s = ap (swept_at at) (answer_is bytes s.insn s.len fit h.1) ∙ swept_is at s h.0 in
+    let later = leads m (at + s.len) (drop s.len bytes) swept to rest (AreBytes-drop s.len bytes fit) (omega (arith, length-drop s.len bytes)) h.2 in
     record {
       fuel = later.fuel;
       enough = later.enough;
@@ -174,16 +174,16 @@ unfolding sweep_from
 ends zero at = refl
 ends (suc n) at = refl
 
-not_met : (at : ℕ) (d : Decoded) (bytes : List ℕ) → Answers d bytes → ((insn : Insn) (n : ℕ) → Begins bytes insn n → ⊥) → met at d ≡ Err at
-not_met at (answer.Insn insn n) bytes h none = absurd (none insn n h)
-not_met at answer.Short bytes h none = refl
-not_met at answer.Outside bytes h none = refl
+not_swept : (at : ℕ) (d : Decoded) (bytes : List ℕ) → Answers d bytes → ((insn : Insn) (n : ℕ) → Begins bytes insn n → ⊥) → swept_at at d ≡ Err at
+not_swept at (answer.Insn insn n) bytes h none = absurd (none insn n h)
+not_swept at answer.Short bytes h none = refl
+not_swept at answer.Outside bytes h none = refl
 
 stops : (n at : ℕ) (bytes : List ℕ) → AreBytes bytes → length bytes ≤ n → bytes ≢ [] → ((insn : Insn) (k : ℕ) → Begins bytes insn k → ⊥) → sweep_from n at bytes ≡ Err at
 unfolding sweep_from
 stops n at [] fit few some none = absurd (some refl)
 stops zero at (b ∷ bytes) fit few some none = absurd (omega arith)
-stops (suc n) at (b ∷ bytes) fit few some none = rw (not_met at (decoded (b ∷ bytes)) (b ∷ bytes) (answered (b ∷ bytes) fit) none) refl
+stops (suc n) at (b ∷ bytes) fit few some none = rw (not_swept at (decoded (b ∷ bytes)) (b ∷ bytes) (answered (b ∷ bytes) fit) none) refl
 
 -- ---- both
 
@@ -197,6 +197,6 @@ sweep_exact text fit swept = (
 pub stop_exact : (text : List ℕ) → AreBytes text → (at : ℕ) → (sweep text ≡ Err at) ↔ SweepStops text at
 unfolding sweep
 stop_exact text fit at = (
-  (λ e. let s = from_err (length text) 0 at text fit (omega arith) e in record { swept = s.swept; left = s.left; reached = s.reached; some = s.some; none = s.none }),
-  (λ h. let l = leads (length text) 0 text h.swept at h.left fit (omega arith) h.reached in l.is ∙ ap (with_front h.swept) (stops l.fuel at h.left l.fits l.enough h.some h.none) ∙ front_err h.swept at),
+  (λ e. let s = from_err (length text) 0 at text fit (omega arith) e in record { swept = s.swept; rest = s.rest; reached = s.reached; some = s.some; none = s.none }),
+  (λ h. let l = leads (length text) 0 text h.swept at h.rest fit (omega arith) h.reached in l.is ∙ ap (with_front h.swept) (stops l.fuel at h.rest l.fits l.enough h.some h.none) ∙ front_err h.swept at),
 )

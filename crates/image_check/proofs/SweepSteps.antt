@@ -7,7 +7,7 @@ use Rattle.elf_form.specs.declared.cause.ElfFault.TheVariants as elf
 use Rattle.image_check.specs.declared.fault.CheckFault.{CheckFault}
 use Rattle.image_check.specs.declared.fault.CheckFault.TheVariants as faults
 use Rattle.image_check.specs.Refusals.{Refusal, Form, Wrong, Fails}
-use Rattle.image_check.specs.Sweep.{Swept, met, sweep_from, sweep, ◌>>=◌}
+use Rattle.image_check.specs.Sweep.{Swept, swept_at, sweep_from, sweep, ◌>>=◌}
 use Rattle.image_check.specs.Pieces.{piece_of, piece_as, pieces_of, pieces_in, stop_cause}
 
 -- more instructions behind some
@@ -33,12 +33,12 @@ one_more : (text : List ℕ) (s : Swept) (r : Result (List Swept) ℕ) → piece
 one_more text s (Ok swept) = refl
 one_more text s (Err at) = refl
 
-sweep-ok : (n at : ℕ) (bytes : List ℕ) (s : Swept) → 0 < length bytes → met at (decoded bytes) ≡ Ok s → sweep_from (suc n) at bytes ≡ (sweep_from n (at + s.len) (drop s.len bytes) >>= λ swept. Ok (s ∷ swept))
+sweep-ok : (n at : ℕ) (bytes : List ℕ) (s : Swept) → 0 < length bytes → swept_at at (decoded bytes) ≡ Ok s → sweep_from (suc n) at bytes ≡ (sweep_from n (at + s.len) (drop s.len bytes) >>= λ swept. Ok (s ∷ swept))
 unfolding sweep_from
 sweep-ok n at [] s some e = absurd (omega arith)
 sweep-ok n at (b ∷ bytes) s some e = rw e refl
 
-sweep-err : (n at to : ℕ) (bytes : List ℕ) → 0 < length bytes → met at (decoded bytes) ≡ Err to → sweep_from (suc n) at bytes ≡ Err to
+sweep-err : (n at to : ℕ) (bytes : List ℕ) → 0 < length bytes → swept_at at (decoded bytes) ≡ Err to → sweep_from (suc n) at bytes ≡ Err to
 unfolding sweep_from
 sweep-err n at to [] some e = absurd (omega arith)
 sweep-err n at to (b ∷ bytes) some e = rw e refl
@@ -48,14 +48,14 @@ unfolding sweep_from
 sweep-end zero at = refl
 sweep-end (suc n) at = refl
 
--- what was met
-met_ok : (text : List ℕ) (r : Result Swept ℕ) (p : Piece) → piece_as text r ≡ Ok p → (s : Swept) × (r ≡ Ok s) × (piece_of s ≡ p)
-met_ok text (Ok s) p e = (s, refl, cc)
-met_ok text (Err at) p e = absurd cc
+-- what is swept at an offset
+swept_ok : (text : List ℕ) (r : Result Swept ℕ) (p : Piece) → piece_as text r ≡ Ok p → (s : Swept) × (r ≡ Ok s) × (piece_of s ≡ p)
+swept_ok text (Ok s) p e = (s, refl, cc)
+swept_ok text (Err at) p e = absurd cc
 
-met_err : (text : List ℕ) (r : Result Swept ℕ) (refusal : Refusal) → piece_as text r ≡ Err refusal → (at : ℕ) × (r ≡ Err at) × (refusal ≡ Wrong at (stop_cause (drop at text)))
-met_err text (Ok s) refusal e = absurd cc
-met_err text (Err at) refusal e = (at, refl, cc)
+swept_err : (text : List ℕ) (r : Result Swept ℕ) (refusal : Refusal) → piece_as text r ≡ Err refusal → (at : ℕ) × (r ≡ Err at) × (refusal ≡ Wrong at (stop_cause (drop at text)))
+swept_err text (Ok s) refusal e = absurd cc
+swept_err text (Err at) refusal e = (at, refl, cc)
 
 abbrev failed : Refusal → Result (List Piece) Refusal
 failed refusal = Err refusal
@@ -64,12 +64,12 @@ pub goes_from_none : (text : List ℕ) → Goes text [] 0
 unfolding pieces_in sweep
 goes_from_none text = record { fuel = length text; enough = omega arith; whole = behind_none _ }
 
-pub goes_on : (text : List ℕ) (ps : List Piece) (at : ℕ) (p : Piece) → at < length text → 1 ≤ p.len → piece_as text (met at (decoded (drop at text))) ≡ Ok p → Goes text ps at → Goes text (ps ++ p ∷ []) (at + p.len)
+pub goes_on : (text : List ℕ) (ps : List Piece) (at : ℕ) (p : Piece) → at < length text → 1 ≤ p.len → piece_as text (swept_at at (decoded (drop at text))) ≡ Ok p → Goes text ps at → Goes text (ps ++ p ∷ []) (at + p.len)
 goes_on text ps at p lt some e goes =
     let len = length-drop at text in
     let m = goes.fuel - 1 in
     let k : goes.fuel ≡ suc m = (let enough = goes.enough in omega (arith, enough, len)) in
-    let is = met_ok text (met at (decoded (drop at text))) p e in
+    let is = swept_ok text (swept_at at (decoded (drop at text))) p e in
     let n : is.0.len ≡ p.len = ap (λ (q : Piece). q.len) is.2 in
     let next : drop is.0.len (drop at text) ≡ drop (at + p.len) text = drop-drop is.0.len at text ∙ ap (λ j. drop (at + j) text) n in
     let one = sweep-ok m at (drop at text) is.0 (omega (arith, len)) is.1 in
@@ -88,12 +88,12 @@ goes_on text ps at p lt some e goes =
           ∙ goes.whole;
     }
 
-pub goes_wrong : (text : List ℕ) (ps : List Piece) (at : ℕ) (refusal : Refusal) → at < length text → piece_as text (met at (decoded (drop at text))) ≡ Err refusal → Goes text ps at → pieces_in text ≡ Err refusal
+pub goes_wrong : (text : List ℕ) (ps : List Piece) (at : ℕ) (refusal : Refusal) → at < length text → piece_as text (swept_at at (decoded (drop at text))) ≡ Err refusal → Goes text ps at → pieces_in text ≡ Err refusal
 goes_wrong text ps at refusal lt e goes =
     let len = length-drop at text in
     let m = goes.fuel - 1 in
     let k : goes.fuel ≡ suc m = (let enough = goes.enough in omega (arith, enough, len)) in
-    let is = met_err text (met at (decoded (drop at text))) refusal e in
+    let is = swept_err text (swept_at at (decoded (drop at text))) refusal e in
     let one = sweep-err m at is.0 (drop at text) (omega (arith, len)) is.1 in
     sym goes.whole
     ∙ ap (λ j. behind ps (pieces_of text (sweep_from j at (drop at text)))) k
@@ -109,7 +109,7 @@ goes_to_end text ps at le goes =
     ∙ ap (λ (qs : List Piece). Ok qs) (append-nil ps)
 
 -- what a refused instruction says of the whole text
-pub fails_whole : (text : List ℕ) (ps : List Piece) (at : ℕ) (e : CheckFault) → at < length text → Goes text ps at → Fails {Y = Piece} e (piece_as text (met at (decoded (drop at text)))) → Fails {Y = List Piece} e (pieces_in text)
+pub fails_whole : (text : List ℕ) (ps : List Piece) (at : ℕ) (e : CheckFault) → at < length text → Goes text ps at → Fails {Y = Piece} e (piece_as text (swept_at at (decoded (drop at text)))) → Fails {Y = List Piece} e (pieces_in text)
 fails_whole text ps at (faults.Elf (elf.At place cause)) lt goes fails = goes_wrong text ps at (Form (record { at = place; cause = cause })) lt fails goes
 fails_whole text ps at (faults.Elf elf.Memory) lt goes fails = fails
 fails_whole text ps at (faults.At place cause) lt goes fails = goes_wrong text ps at (Wrong place cause) lt fails goes

@@ -1,27 +1,28 @@
 -- The conditions on an image, each with the first place at which it is broken.
-use Rattle.std.specs.Prelude.{ℕ, ◌+◌, ◌-◌, Bool, not, ◌&&◌, ◌||◌, List, length, slice_get, slice_index, Option, Some, None, nat_lt, min, ◌==◌}
+use Rattle.std.specs.Prelude.{ℕ, ◌+◌, ◌-◌, Bool, not, ◌&&◌, ◌||◌, List, length, slice_get, slice_index, Option, Some, None, nat_lt, ◌==◌}
+use Rattle.std.specs.Bool.{then_some}
+use Rattle.elf_form.specs.Faults.{◌or_lower◌}
 use Rattle.elf_form.specs.ImageParts.{ImageParts}
 use Rattle.sites.specs.declared.limits.TheConstants.{TEXT_LIMIT}
 use Rattle.sites.specs.declared.site.Site.{Site}
 use Rattle.image_check.specs.declared.piece.Piece.{Piece}
-use Rattle.guest_ram.specs.Places.{bad}
 use Rattle.image_check.specs.Targets.{is_entrance}
 use Rattle.image_check.specs.TextSites.{found_in, differ}
 
 abbrev pub text_place : ImageParts → Option ℕ
-text_place parts = bad (not (parts.text_at == 0x10000000)) 0
+text_place parts = then_some (not (parts.text_at == 0x10000000)) 0
 
 abbrev pub init_place : ImageParts → Option ℕ
-init_place parts = bad (not (parts.init_at == 0x11000000)) 0
+init_place parts = then_some (not (parts.init_at == 0x11000000)) 0
 
 abbrev pub text_size : ImageParts → Option ℕ
-text_size parts = bad (length parts.text == 0 || nat_lt TEXT_LIMIT (length parts.text)) 0
+text_size parts = then_some (length parts.text == 0 || nat_lt TEXT_LIMIT (length parts.text)) 0
 
 abbrev pub init_size : ImageParts → Option ℕ
-init_size parts = bad (nat_lt 33554432 (length parts.init + parts.bss)) 0
+init_size parts = then_some (nat_lt 33554432 (length parts.init + parts.bss)) 0
 
 abbrev pub entry_place : ImageParts → Option ℕ
-entry_place parts = bad (nat_lt parts.entry 0x10000000 || not (nat_lt parts.entry (0x10000000 + length parts.text))) 0
+entry_place parts = then_some (nat_lt parts.entry 0x10000000 || not (nat_lt parts.entry (0x10000000 + length parts.text))) 0
 
 -- the offset of the last instruction
 abbrev pub at_of : Option Piece → ℕ
@@ -36,24 +37,18 @@ abbrev pub ends_at : List ℕ → ℕ → Bool
 ends_at text at = at + 2 == length text && slice_index text at == 0xEB && slice_index text (at + 1) == 0xFE
 
 abbrev pub text_end : List ℕ → List Piece → Option ℕ
-text_end text ps = bad (not (ends_at text (last_at ps))) (last_at ps)
-
--- the lower place
-abbrev pub lower : Option ℕ → Option ℕ → Option ℕ
-lower None b = b
-lower (Some a) None = Some a
-lower (Some a) (Some b) = Some (min a b)
+text_end text ps = then_some (not (ends_at text (last_at ps))) (last_at ps)
 
 -- the lowest offset at which a sensitive instruction lacks its NOPs, or the annotations and the sites differ
 abbrev pub site_wrong : List Site → List Piece → Option ℕ
-site_wrong sites ps = lower (found_in ps).lacking (differ sites (found_in ps).sites)
+site_wrong sites ps = (found_in ps).lacking or_lower differ sites (found_in ps).sites
 
 -- the entry, as an offset in the text
 abbrev pub entry_at : ImageParts → ℕ
 entry_at parts = parts.entry - 0x10000000
 
 abbrev pub entry_start_by : (ℕ → Bool) → ImageParts → Option ℕ
-entry_start_by entrance parts = bad (not (entrance (entry_at parts))) (entry_at parts)
+entry_start_by entrance parts = then_some (not (entrance (entry_at parts))) (entry_at parts)
 
 abbrev pub entry_start : ImageParts → List Piece → List Site → Option ℕ
 entry_start parts ps sites = entry_start_by (is_entrance ps sites) parts

@@ -48,7 +48,7 @@ is_refused bytes = list_any (λ (row : RefusedRow). is_ok (parts_at row.form byt
 
 -- why the sweep stops at these bytes
 abbrev pub stop_cause : List ℕ → CheckCause
-stop_cause left = if is_refused left then RefusedCode else BadCode
+stop_cause rest = if is_refused rest then RefusedCode else BadCode
 
 abbrev pub pieces_of : List ℕ → Result (List Swept) ℕ → Result (List Piece) Refusal
 pieces_of text (Ok swept) = Ok (map piece_of swept)

@@ -49,11 +49,11 @@ NextDiffer (s ∷ ss) (t ∷ ts) at = (s ≢ t) × (at ≡ min s.at t.at)
 -- Two lists of sites first differ, behind those with which both begin.
 pub record FirstDiffer (a b : List Site) (at : ℕ) : Type 0 where
   pub both : List Site
-  pub left : List Site
-  pub right : List Site
-  pub first : a ≡ both ++ left
-  pub second : b ≡ both ++ right
-  pub differ : NextDiffer left right at
+  pub rest_a : List Site
+  pub rest_b : List Site
+  pub first : a ≡ both ++ rest_a
+  pub second : b ≡ both ++ rest_b
+  pub differ : NextDiffer rest_a rest_b at
 
 -- A sensitive instruction, the first such, lacks its NOPs, or the annotations and the sites up to it differ first.
 abbrev pub IsWrongAt : List Swept → List Site → ℕ → Type 0

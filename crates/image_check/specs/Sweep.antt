@@ -15,8 +15,8 @@ pub record Swept : Type 0 where
 -- The spellings of the instructions, joined in order, stand at the front of the bytes. They lead from one offset to
 -- another, and some bytes are left.
 abbrev pub SweepsTo : ℕ → List ℕ → List Swept → ℕ → List ℕ → Type 0
-SweepsTo from bytes [] to left = (from ≡ to) × (bytes ≡ left)
-SweepsTo from bytes (s ∷ swept) to left = (s.at ≡ from) × Begins bytes s.insn s.len × SweepsTo (from + s.len) (drop s.len bytes) swept to left
+SweepsTo from bytes [] to rest = (from ≡ to) × (bytes ≡ rest)
+SweepsTo from bytes (s ∷ swept) to rest = (s.at ≡ from) × Begins bytes s.insn s.len × SweepsTo (from + s.len) (drop s.len bytes) swept to rest
 
 -- The spellings of the instructions, joined in order, are the text.
 abbrev pub Sweep : List ℕ → List Swept → Type 0
@@ -25,10 +25,10 @@ Sweep text swept = SweepsTo 0 text swept (length text) []
 -- Behind some instructions no spelling begins the bytes that are left, although some are.
 pub record SweepStops (text : List ℕ) (at : ℕ) : Type 0 where
   pub swept : List Swept
-  pub left : List ℕ
-  pub reached : SweepsTo 0 text swept at left
-  pub some : left ≢ []
-  pub none : (insn : Insn) (n : ℕ) → Begins left insn n → ⊥
+  pub rest : List ℕ
+  pub reached : SweepsTo 0 text swept at rest
+  pub some : rest ≢ []
+  pub none : (insn : Insn) (n : ℕ) → Begins rest insn n → ⊥
 
 -- The same as a function: the instructions of the text, or the offset at which the sweep stops. Each has a byte, so
 -- there are no more of them than bytes.
@@ -37,16 +37,16 @@ abbrev pub ◌>>=◌ : {A B : Type 0} → Result A ℕ → (A → Result B ℕ) 
 (Ok x) >>= f = f x
 (Err at) >>= f = Err at
 
-abbrev pub met : ℕ → Decoded → Result Swept ℕ
-met at (answer.Insn insn len) = Ok (record { at = at; len = len; insn = insn })
-met at answer.Short = Err at
-met at answer.Outside = Err at
+abbrev pub swept_at : ℕ → Decoded → Result Swept ℕ
+swept_at at (answer.Insn insn len) = Ok (record { at = at; len = len; insn = insn })
+swept_at at answer.Short = Err at
+swept_at at answer.Outside = Err at
 
 unfoldable pub sweep_from : ℕ → ℕ → List ℕ → Result (List Swept) ℕ
 sweep_from zero at bytes = Ok []
 sweep_from (suc n) at [] = Ok []
 sweep_from (suc n) at (b ∷ bytes) = do
-  s ← met at (decoded (b ∷ bytes))
+  s ← swept_at at (decoded (b ∷ bytes))
   swept ← sweep_from n (at + s.len) (drop s.len (b ∷ bytes))
   Ok (s ∷ swept)
 

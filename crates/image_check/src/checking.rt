@@ -4,14 +4,14 @@ ghost use Rattle.std.specs.Prelude.{◌≡◌, ℕ, ◌≤◌, ◌<◌, ◌+◌,
 ghost use Rattle.std.specs.List.{list_any};
 ghost use Rattle.ia32_rows.specs.Spells.{AreBytes};
 ghost use Rattle.elf_form.specs.Accepted.{ImageAs};
-ghost use Rattle.elf_form.specs.Faults.{Fault};
+ghost use Rattle.elf_form.specs.Faults.{Fault, ◌or_lower◌};
 ghost use Rattle.elf_form.specs.ImageParts.{ImageParts};
 ghost use Rattle.elf_form.specs.Reading.{image_in};
 ghost use Rattle.sites.specs.Formats.{told_format, listed};
 ghost use Rattle.image_check.specs.Refusals.{Gives, Form, Wrong};
 ghost use Rattle.image_check.specs.Pieces.{pieces_in, is_start};
 ghost use Rattle.image_check.specs.Targets.{is_entrance, wrong_target};
-ghost use Rattle.image_check.specs.Conditions.{last_at, ends_at, text_end, lower, site_wrong, entry_start_by};
+ghost use Rattle.image_check.specs.Conditions.{last_at, ends_at, text_end, site_wrong, entry_start_by};
 ghost use Rattle.image_check.specs.Checking.{as_form, as_sites, annotated, entered, image_from, image_of, image_with};
 ghost use Rattle.image_check.specs.Accepts.{AreStarts, Accepts};
 ghost use Rattle.image_check.specs.Causes.{causes, IsFirst};
@@ -70,8 +70,9 @@ fn annotations(alloc: Global, bytes: &[u8]) -> Result<Sites, CheckFault>
     }
 }
 
+/// The lower place.
 fn lower(a: Option<u32>, b: Option<u32>) -> Option<u32>
-    ensures { result ≡ lower a b }
+    ensures { result ≡ a or_lower b }
 {
     match (a, b) {
         (None, b) => b,

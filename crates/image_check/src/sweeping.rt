@@ -3,7 +3,7 @@
 ghost use Rattle.std.specs.Prelude.{◌≡◌, ℕ, ◌+◌, ◌<◌, ◌≤◌, ◌≢◌, length, drop, slice_index_or, false, IfOk, IsTrue, IsNone, is_some};
 ghost use Rattle.sites.specs.declared.limits.TheConstants.{TEXT_LIMIT};
 ghost use Rattle.image_check.specs.Refusals.{Gives};
-ghost use Rattle.image_check.specs.Sweep.{met};
+ghost use Rattle.image_check.specs.Sweep.{swept_at};
 ghost use Rattle.image_check.specs.Pieces.{is_refused, stop_cause, piece_as, pieces_in, is_start};
 ghost use Rattle.ia32_decode.specs.Decoding.{decoded};
 
@@ -25,10 +25,10 @@ fn is_refused(bytes: &[u8]) -> bool
     refused(bytes).is_some()
 }
 
-fn stop_cause(left: &[u8]) -> CheckCause
-    ensures { result ≡ stop_cause left.now }
+fn stop_cause(rest: &[u8]) -> CheckCause
+    ensures { result ≡ stop_cause rest.now }
 {
-    if is_refused(left) {
+    if is_refused(rest) {
         CheckCause::RefusedCode
     } else {
         CheckCause::BadCode
@@ -39,12 +39,12 @@ fn stop_cause(left: &[u8]) -> CheckCause
 fn piece_at(text: &[u8], at: usize) -> Result<Piece, CheckFault>
     requires inside { at < length text.now }
     requires limit { length text.now ≤ TEXT_LIMIT }
-    ensures exact { Gives (λ p. p) result (piece_as text.now (met at (decoded (drop at text.now)))) }
+    ensures exact { Gives (λ p. p) result (piece_as text.now (swept_at at (decoded (drop at text.now)))) }
     ensures room { IfOk result (λ p. (1 ≤ p.len) × (at + p.len ≤ length text.now)) }
     ensures place { IfOk result (λ p. p.at ≡ at) }
 {
-    let left = &text[at..];
-    match decode(left) {
+    let rest = &text[at..];
+    match decode(rest) {
         Decoded::Insn(insn, len) => {
             Ok(Piece {
                 at: at as u32,
@@ -55,7 +55,7 @@ fn piece_at(text: &[u8], at: usize) -> Result<Piece, CheckFault>
         Decoded::Short | Decoded::Outside => {
             Err(CheckFault::At {
                 at: at as u32,
-                cause: stop_cause(left),
+                cause: stop_cause(rest),
             })
         }
     }

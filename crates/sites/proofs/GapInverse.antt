@@ -1,6 +1,7 @@
 -- Reading and writing are inverse to each other in format 2.
 use Rattle.std.proofs.Common.{◌≡◌, ℕ, zero, suc, ◌+◌, ◌-◌, ◌*◌, ◌/◌, ◌%◌, ◌<◌, ◌≤◌, ◌^◌, Bool, true, false, eqb, ltb, List, [], ◌∷◌, ◌++◌, length, get_or, take, drop, Option, Some, None, Result, Ok, Err, refl, sym, ap, ◌∙◌, subst, arith, append_assoc}
 use Rattle.std.specs.Prelude.{not, ◌&&◌, max, is_none, unwrap_or}
+use Rattle.std.specs.Bool.{then_some}
 use Rattle.std.specs.Int.{w32, to_le_bytes}
 use Rattle.std.proofs.lemmas.Bool.{lt-ltb, le-ltb, ltb-false, ltb-true, not-false}
 use Rattle.std.proofs.lemmas.List.{drop-drop, take-append-drop, length-append, drop_all}
@@ -14,7 +15,7 @@ use Rattle.sites.specs.Kinds.{number, kind_numbered}
 use Rattle.sites.specs.Spelling.{gap, gaps, gapped, AreInGaps}
 use Rattle.sites.specs.SitesParts.{SitesParts}
 use Rattle.sites.specs.Reading.{cut_before, has_no_kind, head_fault}
-use Rattle.guest_ram.specs.Places.{◌or_else◌, bad}
+use Rattle.guest_ram.specs.Places.{◌or_else◌}
 use Rattle.sites.specs.Gapped.{gap_at, end_at, passes, has_wrong_length, gap_fault, gaps_fault, gap_site, gap_sites, gapped_in}
 use Rattle.sites.proofs.GapWalk.{in_second}
 use Rattle.sites.proofs.Inverse.{kind_numbered-number, number-kind, byte-behind, head_good, head_was, unless_none, unless_ok, neither, not_bad, second_false, part-word, drop-eight}
@@ -62,7 +63,7 @@ no_kind_there bytes at k is =
     and_false false = refl
 
 good_parts : (p k l : Bool) (bytes : List ℕ) (a : ℕ) → p ≡ false → k ≡ false → l ≡ false → a + 5 ≤ length bytes
-    → (bad p a or_else (bad k (a + 3) or_else (bad l (a + 4) or_else cut_before bytes (a + 5)))) ≡ None
+    → (then_some p a or_else (then_some k (a + 3) or_else (then_some l (a + 4) or_else cut_before bytes (a + 5)))) ≡ None
 good_parts p k l bytes a p_not k_not l_not room = rw (p_not, k_not, l_not, le-ltb (length bytes) (a + 5) room) refl
 
 not_bad_there : (bytes : List ℕ) (from a : ℕ) (s : Site) → Follows bytes from a s → 1 ≤ s.len → s.len ≤ 11 → s.total ≡ max 5 s.len → s.at + s.total < 2 ^ 32 → gap_fault bytes from a ≡ None
@@ -131,9 +132,9 @@ was_range n h =
 was_gap : (bytes : List ℕ) (from a : ℕ) → gap_fault bytes from a ≡ None → WasGap bytes from a
 unfolding gap_fault
 was_gap bytes from a e =
-    let f0 = bad (passes bytes from a) a in
-    let f1 = bad (has_no_kind bytes (a + 3)) (a + 3) in
-    let f2 = bad (has_wrong_length bytes (a + 4)) (a + 4) in
+    let f0 = then_some (passes bytes from a) a in
+    let f1 = then_some (has_no_kind bytes (a + 3)) (a + 3) in
+    let f2 = then_some (has_wrong_length bytes (a + 4)) (a + 4) in
     let f3 = cut_before bytes (a + 5) in
     let n0 = neither f0 (f1 or_else (f2 or_else f3)) e in
     let n1 = neither f1 (f2 or_else f3) n0.1 in

@@ -1,6 +1,7 @@
 -- Reading and writing are inverse to each other in format 1.
 use Rattle.std.proofs.Common.{◌≡◌, ℕ, zero, suc, ◌+◌, ◌-◌, ◌<◌, ◌≤◌, ◌^◌, Bool, true, false, eqb, ltb, List, [], ◌∷◌, ◌++◌, length, get_or, take, drop, Option, Some, None, ◌⊎◌, Result, Ok, Err, refl, sym, ap, ◌∙◌, subst, arith, eq-eqb, append_assoc, inl, inr}
 use Rattle.std.specs.Prelude.{IfOk, ◌*◌, not, ◌&&◌, ◌||◌, max, is_none, unwrap_or}
+use Rattle.std.specs.Bool.{then_some}
 use Rattle.std.specs.List.{flat_map}
 use Rattle.std.specs.Int.{w32, to_le_bytes, from_le_bytes}
 use Rattle.std.proofs.lemmas.Bool.{lt-ltb, le-ltb, ltb-false, eqb-true, not-false, or_cases, cases_Bool, agree_below_at, both_ways, or_parts, cond-true, cond-false}
@@ -15,7 +16,7 @@ use Rattle.sites.specs.Kinds.{kinds, number, kind_numbered}
 use Rattle.sites.specs.Spelling.{site, placed, AreInForm}
 use Rattle.sites.specs.SitesParts.{SitesParts}
 use Rattle.sites.specs.Reading.{differs, cut_before, falls, has_no_kind, has_wrong_total, unless, head_fault, site_fault, sites_fault, site_at, sites_at, placed_in}
-use Rattle.guest_ram.specs.Places.{◌or_else◌, bad}
+use Rattle.guest_ram.specs.Places.{◌or_else◌}
 
 -- ---- kinds
 
@@ -154,7 +155,7 @@ pub neither : (a b : Option ℕ) → (a or_else b) ≡ None → (a ≡ None) × 
 neither None b e = (refl, e)
 neither (Some a) b e = absurd cc
 
-pub not_bad : (is_bad : Bool) (at : ℕ) → bad is_bad at ≡ None → is_bad ≡ false
+pub not_bad : (is_bad : Bool) (at : ℕ) → then_some is_bad at ≡ None → is_bad ≡ false
 not_bad true at e = absurd cc
 not_bad false at e = refl
 
@@ -175,10 +176,10 @@ record WasSite (bytes : List ℕ) (least a : ℕ) : Type 0 where
 was_site : (bytes : List ℕ) (least a : ℕ) → site_fault bytes least a ≡ None → WasSite bytes least a
 unfolding site_fault
 was_site bytes least a e =
-    let f0 = bad (falls bytes least a) a in
-    let f1 = bad (has_no_kind bytes (a + 4)) (a + 4) in
-    let f2 = bad (has_wrong_total bytes a) (a + 6) in
-    let f3 = bad (differs bytes (a + 7) 0) (a + 7) in
+    let f0 = then_some (falls bytes least a) a in
+    let f1 = then_some (has_no_kind bytes (a + 4)) (a + 4) in
+    let f2 = then_some (has_wrong_total bytes a) (a + 6) in
+    let f3 = then_some (differs bytes (a + 7) 0) (a + 7) in
     let f4 = cut_before bytes (a + 8) in
     let n0 = neither f0 (f1 or_else (f2 or_else (f3 or_else f4))) e in
     let n1 = neither f1 (f2 or_else (f3 or_else f4)) n0.1 in
@@ -257,10 +258,10 @@ unless_ok (Some at) v sites e = absurd cc
 pub head_was : (bytes : List ℕ) (v : ℕ) → head_fault bytes v ≡ None → (8 ≤ length bytes) × (part bytes 0 4 ≡ 80 ∷ 86 ∷ 83 ∷ v ∷ [])
 unfolding head_fault
 head_was bytes v e =
-    let f0 = bad (differs bytes 0 80) 0 in
-    let f1 = bad (differs bytes 1 86) 1 in
-    let f2 = bad (differs bytes 2 83) 2 in
-    let f3 = bad (differs bytes 3 v) 3 in
+    let f0 = then_some (differs bytes 0 80) 0 in
+    let f1 = then_some (differs bytes 1 86) 1 in
+    let f2 = then_some (differs bytes 2 83) 2 in
+    let f3 = then_some (differs bytes 3 v) 3 in
     let f4 = cut_before bytes 8 in
     let n0 = neither f0 (f1 or_else (f2 or_else (f3 or_else f4))) e in
     let n1 = neither f1 (f2 or_else (f3 or_else f4)) n0.1 in

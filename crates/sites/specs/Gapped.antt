@@ -1,12 +1,13 @@
 -- What is read of a list of sites in format 2, or the first bad byte.
 use Rattle.std.specs.Prelude.{ℕ, zero, suc, ◌+◌, ◌-◌, ◌*◌, max, Bool, true, not, ◌&&◌, List, [], ◌∷◌, length, Option, Some, None, unwrap_or, Result, nat_lt, ◌==◌}
+use Rattle.std.specs.Bool.{then_some}
 use Rattle.guest_ram.specs.Bytes.{byte, word32}
 use Rattle.sites.specs.declared.site.Site.{Site}
 use Rattle.ia32_types.specs.declared.site.SiteKind.TheVariants.{Cli}
 use Rattle.sites.specs.SitesParts.{SitesParts}
 use Rattle.sites.specs.Kinds.{kind_numbered}
 use Rattle.sites.specs.Reading.{cut_before, has_no_kind, head_fault, unless}
-use Rattle.guest_ram.specs.Places.{◌or_else◌, bad}
+use Rattle.guest_ram.specs.Places.{◌or_else◌}
 
 -- three bytes, the lowest first
 abbrev pub gap_at : List ℕ → ℕ → ℕ
@@ -27,14 +28,14 @@ has_wrong_length bytes at = nat_lt at (length bytes) && not (nat_lt 0 (byte byte
 -- The first bad byte of the site at a.
 unfoldable pub gap_fault : List ℕ → ℕ → ℕ → Option ℕ
 gap_fault bytes from a =
-    bad (passes bytes from a) a
-    or_else (bad (has_no_kind bytes (a + 3)) (a + 3)
-    or_else (bad (has_wrong_length bytes (a + 4)) (a + 4)
+    then_some (passes bytes from a) a
+    or_else (then_some (has_no_kind bytes (a + 3)) (a + 3)
+    or_else (then_some (has_wrong_length bytes (a + 4)) (a + 4)
     or_else cut_before bytes (a + 5)))
 
 -- the first bad byte of n sites from a on, with which the bytes end
 unfoldable pub gaps_fault : List ℕ → ℕ → ℕ → ℕ → Option ℕ
-gaps_fault bytes from zero a = bad (nat_lt a (length bytes)) a
+gaps_fault bytes from zero a = then_some (nat_lt a (length bytes)) a
 gaps_fault bytes from (suc n) a = gap_fault bytes from a or_else gaps_fault bytes (end_at bytes from a) n (a + 5)
 
 unfoldable pub gap_site : List ℕ → ℕ → ℕ → Site

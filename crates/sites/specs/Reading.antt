@@ -1,5 +1,6 @@
 -- What is read of a list of sites in format 1, or the first bad byte.
 use Rattle.std.specs.Prelude.{◌≡◌, ℕ, zero, suc, ◌+◌, max, Bool, not, ◌&&◌, List, [], ◌∷◌, length, Option, Some, None, Result, Ok, Err, is_none, unwrap_or, nat_lt, ◌==◌, if◌then◌else◌}
+use Rattle.std.specs.Bool.{then_some}
 use Rattle.guest_ram.specs.Bytes.{byte, word32}
 use Rattle.sites.specs.declared.site.Site.{Site}
 use Rattle.sites.specs.declared.site.SitesFault.{SitesFault}
@@ -7,7 +8,7 @@ use Rattle.sites.specs.declared.site.SitesFault.TheVariants as faults
 use Rattle.ia32_types.specs.declared.site.SiteKind.TheVariants.{Cli}
 use Rattle.sites.specs.SitesParts.{SitesParts}
 use Rattle.sites.specs.Kinds.{kind_numbered}
-use Rattle.guest_ram.specs.Places.{bad, ◌or_else◌}
+use Rattle.guest_ram.specs.Places.{◌or_else◌}
 
 -- a byte that is there, and isn't v
 abbrev pub differs : List ℕ → ℕ → ℕ → Bool
@@ -15,15 +16,15 @@ differs bytes at v = nat_lt at (length bytes) && not (byte bytes at == v)
 
 -- the bytes end before a place
 abbrev pub cut_before : List ℕ → ℕ → Option ℕ
-cut_before bytes end = bad (nat_lt (length bytes) end) (length bytes)
+cut_before bytes end = then_some (nat_lt (length bytes) end) (length bytes)
 
 -- The first bad byte of the eight at the front: "PVS", the format's byte, and a count.
 unfoldable pub head_fault : List ℕ → ℕ → Option ℕ
 head_fault bytes format =
-    bad (differs bytes 0 80) 0
-    or_else (bad (differs bytes 1 86) 1
-    or_else (bad (differs bytes 2 83) 2
-    or_else (bad (differs bytes 3 format) 3
+    then_some (differs bytes 0 80) 0
+    or_else (then_some (differs bytes 1 86) 1
+    or_else (then_some (differs bytes 2 83) 2
+    or_else (then_some (differs bytes 3 format) 3
     or_else cut_before bytes 8)))
 
 -- the bad byte of each field of the site at a, whose offset is to be least or more
@@ -39,15 +40,15 @@ has_wrong_total bytes a = differs bytes (a + 6) (max 5 (byte bytes (a + 5)))
 -- The first bad byte of the site at a.
 unfoldable pub site_fault : List ℕ → ℕ → ℕ → Option ℕ
 site_fault bytes least a =
-    bad (falls bytes least a) a
-    or_else (bad (has_no_kind bytes (a + 4)) (a + 4)
-    or_else (bad (has_wrong_total bytes a) (a + 6)
-    or_else (bad (differs bytes (a + 7) 0) (a + 7)
+    then_some (falls bytes least a) a
+    or_else (then_some (has_no_kind bytes (a + 4)) (a + 4)
+    or_else (then_some (has_wrong_total bytes a) (a + 6)
+    or_else (then_some (differs bytes (a + 7) 0) (a + 7)
     or_else cut_before bytes (a + 8))))
 
 -- the first bad byte of n sites from a on, with which the bytes end
 unfoldable pub sites_fault : List ℕ → ℕ → ℕ → ℕ → Option ℕ
-sites_fault bytes least zero a = bad (nat_lt a (length bytes)) a
+sites_fault bytes least zero a = then_some (nat_lt a (length bytes)) a
 sites_fault bytes least (suc n) a = site_fault bytes least a or_else sites_fault bytes (word32 bytes a + 1) n (a + 8)
 
 unfoldable pub site_at : List ℕ → ℕ → Site

@@ -3,13 +3,13 @@
 ghost use Rattle.std.specs.Prelude.{◌≡◌, ◌<◌, ◌≤◌, ◌+◌, ◌^◌, ◌++◌, IsTrue, length, IfNone, IfSome, OnOk, IfOk};
 ghost use Rattle.sites.specs.Spelling.{gap, gapped, AreGapped};
 ghost use Rattle.sites.specs.Reading.{cut_before, Gives};
-ghost use Rattle.guest_ram.specs.Places.{◌or_else◌, bad};
 ghost use Rattle.sites.specs.Gapped as spec;
 
 use crate::kind::{kind_numbered, number};
 use crate::reading::{has_no_kind, head_fault};
 use crate::site::{Site, Sites, SitesFault};
-use crate::words::{byte, byte_or_zero, word};
+use crate::words::byte_or_zero;
+use guest_ram::{byte, word};
 use ia32_types::SiteKind;
 use std::alloc::{AllocError, Global};
 

@@ -4,13 +4,13 @@ ghost use Rattle.std.specs.Prelude.{◌≡◌, IfOk, ◌<◌, ◌≤◌, ◌+◌
 ghost use Rattle.sites.specs.SitesParts.{SitesParts};
 ghost use Rattle.sites.specs.Spelling.{spelling, AreInForm, IsInForm};
 ghost use Rattle.sites.specs.Reading.{differs, cut_before, head_fault, falls, has_no_kind, has_wrong_total, site_fault, sites_fault, site_at, sites_at, placed_in, Gives};
-ghost use Rattle.guest_ram.specs.Places.{◌or_else◌, bad};
 ghost use Rattle.sites.specs.Formats.{told_format, told_count, sites_in};
 
 use crate::gapped::gapped_in;
 use crate::kind::kind_numbered;
 use crate::site::{Site, Sites, SitesFault};
-use crate::words::{byte, byte_or_zero, word};
+use crate::words::byte_or_zero;
+use guest_ram::{byte, word};
 use ia32_types::SiteKind;
 use std::alloc::Global;
 

@@ -325,7 +325,7 @@ fn adopt_in(
     ensures refused { OnErr result ((ram.new ≡ ram.old) × (pool.new ≡ pool.old)) }
 {
     patching();
-    let _text = image.text();
+    image.accepted();
     let _free = pool.free();
     let shadows = Roots::new(alloc, ram, pool, cpu.cr3)?;
     patch(ram, TEXT_AT, image.sites());

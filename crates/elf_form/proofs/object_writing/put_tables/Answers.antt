@@ -12,4 +12,4 @@ returns-clause-bytes c =
     let again : c.deref-2.result.now ≡ c.args.object.now.relocs = c.deref-2.ensures.value ∙ ap (λ o. o.relocs) c.object.view_is in
     let symbols : c.deref-3.result.now ≡ c.args.object.now.symbols = c.deref-3.ensures.value ∙ ap (λ o. o.symbols) c.object.view_is in
     rw (c.in_ok-put_zeros-2.ensures, c.in_ok-extend_from_slice-2.ensures.items, c.in_ok-put_zeros.ensures, c.in_ok-extend_from_slice.ensures.items, c.in_ok-put_symbols.ensures.bytes (names_of c.args.object.now.symbols) c.requires.places, c.in_ok-put_relocs-2.ensures, c.in_ok-put_relocs.ensures)
-    (rw (relocs, again, symbols, c.word_pad.ensures, c.word_pad-2.ensures, c.requires.layout, c.requires.strings) (chain_seven c.args.out.now.items (reloc_table true o.relocs) (reloc_table false o.relocs) (symbol_table o.symbols) (strings_of o.symbols) (replicate (pad 4 ((layout o).strings + length (strings_of o.symbols))) 0) object_names (replicate (pad 4 ((layout o).names + 74)) 0)))
+    (rw (relocs, again, symbols, c.pad.ensures.pad, c.pad-2.ensures.pad, c.requires.layout, c.requires.strings) (chain_seven c.args.out.now.items (reloc_table true o.relocs) (reloc_table false o.relocs) (symbol_table o.symbols) (strings_of o.symbols) (replicate (pad 4 ((layout o).strings + length (strings_of o.symbols))) 0) object_names (replicate (pad 4 ((layout o).names + 74)) 0)))

@@ -90,10 +90,10 @@ module _ (c : goal.After-patch) where
   patches = patched (image d).text 0 (image d).sites
 
   long : length patches ≡ length (image d).text
-  long = c.patching.ensures.length (image d) c.text-text.ensures.accepted
+  long = c.patching.ensures.length (image d) c.accepted.ensures
 
   patched_is : ram2 ≡ with_part (ram1 d) 0x100000 patches
-  patched_is = c.patch.ensures.memory ∙ (ap (patched (ram1 d) 0x100000) c.sites.ensures.sites ∙ c.patching.ensures.memory (image d) c.text-text.ensures.accepted (ram1 d) 0x100000 (lies d) (text1 d))
+  patched_is = c.patch.ensures.memory ∙ (ap (patched (ram1 d) 0x100000) c.sites.ensures.sites ∙ c.patching.ensures.memory (image d) c.accepted.ensures (ram1 d) 0x100000 (lies d) (text1 d))
 
   above : drop (4096 * n d) ram2 ≡ drop (4096 * n d) (ram1 d)
   above =
@@ -133,12 +133,12 @@ returns-clause-held c =
     let size = moved.size in
     let len = c.patch.ensures.len in
     record {
-      wedge = record { mode = refl; accepted = c.text-text.ensures.accepted; room = fits };
+      wedge = record { mode = refl; accepted = c.accepted.ensures; room = fits };
       frames_are = refl;
       size = c.requires.frames;
       host = record {
         room = omega (arith, len, size, room);
-        text = ap (λ (l : List ℕ). part l 0x100000 (length im.text)) (c.patch.ensures.memory ∙ ap (patched (ram1 d) 0x100000) c.sites.ensures.sites) ∙ c.patching.ensures.text_in_memory im c.text-text.ensures.accepted (ram1 d) 0x100000 (lies d) (text1 d);
+        text = ap (λ (l : List ℕ). part l 0x100000 (length im.text)) (c.patch.ensures.memory ∙ ap (patched (ram1 d) 0x100000) c.sites.ensures.sites) ∙ c.patching.ensures.text_in_memory im c.accepted.ensures (ram1 d) 0x100000 (lies d) (text1 d);
       };
       whole = ap (λ (k : ℕ). k % 4096) (c.patch.ensures.len ∙ size) ∙ c.requires.whole;
       behind = omega (arith, low, same);

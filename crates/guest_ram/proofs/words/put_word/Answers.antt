@@ -1,7 +1,7 @@
 use Rattle.std.proofs.Common.{arith}
 use Rattle.std.proofs.lemmas.List.{places, same_lists}
 use Rattle.guest_ram.specs.Bytes.{with_part, with_word32}
-use Rattle.elf_link.proofs.relocations.put_word.Goals as goal
+use Rattle.guest_ram.proofs.words.put_word.Goals as goal
 
 pub returns : goal.returns
 unfolding with_part with_word32

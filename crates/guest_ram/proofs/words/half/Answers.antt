@@ -1,6 +1,6 @@
 use Rattle.std.proofs.Common.{◌≡◌, ◌+◌, ◌-◌, arith}
 use Rattle.guest_ram.specs.Bytes.{part, word16}
-use Rattle.elf_form.proofs.words.half.Goals as goal
+use Rattle.guest_ram.proofs.words.half.Goals as goal
 
 pub returns : goal.returns
 unfolding word16 part

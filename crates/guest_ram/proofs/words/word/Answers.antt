@@ -1,6 +1,6 @@
 use Rattle.std.proofs.Common.{◌≡◌, ◌+◌, ◌-◌, arith}
 use Rattle.guest_ram.specs.Bytes.{part, word32}
-use Rattle.elf_link.proofs.relocations.word.Goals as goal
+use Rattle.guest_ram.proofs.words.word.Goals as goal
 
 pub returns : goal.returns
 unfolding word32 part

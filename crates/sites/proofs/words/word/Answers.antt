@@ -1,9 +1,0 @@
-use Rattle.std.proofs.Common.{◌≡◌, ◌+◌, ◌-◌, arith}
-use Rattle.guest_ram.specs.Bytes.{part, word32}
-use Rattle.sites.proofs.words.word.Goals as goal
-
-pub returns : goal.returns
-unfolding word32 part
-returns c =
-    let len : c.args.at + 4 - c.args.at ≡ 4 = omega arith in
-    rw len at c.from_le_bytes.ensures
