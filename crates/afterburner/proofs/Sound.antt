@@ -2,13 +2,14 @@
 use Rattle.std.proofs.Common.{◌≡◌, ◌≤◌, ◌+◌, ℕ, Bool, true, false, List, [], ◌∷◌, ◌++◌, length, replicate, Option, Some, None, refl, ◌∙◌, cond, arith, fold, length-append, length-set}
 use Rattle.std.proofs.lemmas.List.{length-replicate}
 use Rattle.std.specs.Prelude.{Result, Ok, Err, IfOk, All, not, ℤ, nat_lt}
+use Rattle.std.specs.Option.{option_to_list}
 use Rattle.std.specs.List.{flat_map}
 use Rattle.std.proofs.lemmas.List.Elements.{All-append, All-nil, All-cons}
 use Rattle.elf_form.specs.declared.object.Reloc.{Reloc}
 use Rattle.sites.specs.declared.site.Site.{Site}
 use Rattle.asm_source.specs.declared.tree.Argument.{Argument}
 use Rattle.asm_source.specs.Names.{symbol_in, name_number}
-use Rattle.asm_source.specs.Readable.{name_list, argument_names}
+use Rattle.asm_source.specs.Readable.{argument_names}
 use Rattle.afterburner.specs.declared.fault.BurnCause.TheVariants as cause
 use Rattle.afterburner.specs.declared.section.Section.{Section}
 use Rattle.afterburner.specs.declared.section.Section.TheVariants as section
@@ -134,7 +135,7 @@ four_bytes : (z : ℤ) → length (value_bytes size.Long z) ≡ 4
 four_bytes z = refl
 
 -- a value of four bytes, whose relocation lies in them
-long_field : (names : List (List ℕ)) (st : ObjectSoFar) (z : ℤ) (o : Option (List ℕ)) → AreHeld names (name_list o) → All (IsRelocIn false (length (st.init ++ value_bytes size.Long z)) (length names)) (data_reloc names (length st.init) o)
+long_field : (names : List (List ℕ)) (st : ObjectSoFar) (z : ℤ) (o : Option (List ℕ)) → AreHeld names (option_to_list o) → All (IsRelocIn false (length (st.init ++ value_bytes size.Long z)) (length names)) (data_reloc names (length st.init) o)
 long_field names st z None h = All-nil _
 long_field names st z (Some name) h =
     All-cons (IsRelocIn false (length (st.init ++ value_bytes size.Long z)) (length names)) _ [] (record { section = refl; field = simp (length-append, four_bytes z) (omega arith); symbol = held_number names name h.0 }) (All-nil _)
@@ -143,7 +144,7 @@ few_fields : (names : List (List ℕ)) (at : ℕ) (o : Option (List ℕ)) → le
 few_fields names at None = omega arith
 few_fields names at (Some name) = omega arith
 
-sound_long : (names : List (List ℕ)) (st : ObjectSoFar) (x : Argument) → st.after_sti ≡ false → AreHeld names (name_list (symbol_in x.form)) → IsSound (length names) st → IsSound (length names) (with_long names st x)
+sound_long : (names : List (List ℕ)) (st : ObjectSoFar) (x : Argument) → st.after_sti ≡ false → AreHeld names (option_to_list (symbol_in x.form)) → IsSound (length names) st → IsSound (length names) (with_long names st x)
 sound_long names st x a h s =
     let z : ℤ = number_in x.form in
     let longer : length st.init ≤ length (st.init ++ value_bytes size.Long z) = simp length-append (omega arith) in
@@ -164,7 +165,7 @@ sound_long names st x a h s =
 sound_fold : (names : List (List ℕ)) (st : ObjectSoFar) (args : List Argument) → st.after_sti ≡ false → AreHeld names (argument_names args) → IsSound (length names) st → IsSound (length names) (fold (with_long names) st args)
 sound_fold names st [] a h s = s
 sound_fold names st (x ∷ args) a h s =
-    sound_fold names (with_long names st x) args a (held_right names (name_list (symbol_in x.form)) (argument_names args) h) (sound_long names st x a (held_left names (name_list (symbol_in x.form)) (argument_names args) h) s)
+    sound_fold names (with_long names st x) args a (held_right names (option_to_list (symbol_in x.form)) (argument_names args) h) (sound_long names st x a (held_left names (option_to_list (symbol_in x.form)) (argument_names args) h) s)
 
 sound_longs : (names : List (List ℕ)) (st : ObjectSoFar) (args : List Argument) → st.after_sti ≡ false → AreHeld names (argument_names args) → IsSound (length names) st → IfOk (longs names st args) (IsSound (length names))
 unfolding longs

@@ -1,6 +1,7 @@
 //! The tokens of a source.
 
 ghost use Rattle.std.specs.Prelude.{◌≡◌, ◌<◌, ◌≤◌, ◌++◌, ◌∷◌, [], length, List, IfOk, OnOk};
+ghost use Rattle.std.specs.Option.{option_to_list};
 ghost use Rattle.asm_lex.specs.declared.token.Token.{Token};
 ghost use Rattle.std.specs.Prelude.{ℕ};
 ghost use Rattle.asm_lex.specs.declared.fault.SourceCause.{SourceCause as CauseView};
@@ -18,7 +19,7 @@ use crate::token::Token;
 use std::alloc::{AllocError, Global};
 
 fn push(tokens: &mut Vec<Token>, token: Option<Token>) -> Result<(), AllocError>
-    ensures { OnOk result (tokens.new.items ≡ tokens.old.items ++ spec.listed token) }
+    ensures { OnOk result (tokens.new.items ≡ tokens.old.items ++ option_to_list token) }
 {
     if let Some(token) = token {
         tokens.push(token)?;
@@ -31,7 +32,7 @@ fn push_both(
     first: Option<Token>,
     second: Option<Token>,
 ) -> Result<(), AllocError>
-    ensures { OnOk result (tokens.new.items ≡ tokens.old.items ++ (spec.listed first ++ spec.listed second)) }
+    ensures { OnOk result (tokens.new.items ≡ tokens.old.items ++ (option_to_list first ++ option_to_list second)) }
 {
     push(tokens, first)?;
     push(tokens, second)?;

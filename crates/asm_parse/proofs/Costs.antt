@@ -2,6 +2,7 @@
 use Rattle.std.proofs.Common.{◌≡◌, ℕ, ◌+◌, ◌≤◌, Bool, true, false, cond, List, [], ◌∷◌, ◌++◌, length, Some, None, refl, ap, arith}
 use Rattle.std.proofs.lemmas.List.{length-append}
 use Rattle.std.specs.Prelude.{◌==◌, nat_lt, ◌^◌}
+use Rattle.std.specs.Option.{option_to_list}
 use Rattle.asm_lex.specs.declared.token.TokenKind.{TokenKind}
 use Rattle.asm_lex.specs.Words.{Word}
 use Rattle.asm_lex.specs.Source.{IsToken, Lexed}
@@ -11,7 +12,7 @@ use Rattle.asm_argument.specs.declared.escapes.Escape.{Escape}
 use Rattle.asm_argument.specs.declared.escapes.Escape.TheVariants as escape
 use Rattle.asm_argument.specs.declared.escapes.Unescaped.{Unescaped}
 use Rattle.asm_lex.specs.Bytes.{is_octal}
-use Rattle.asm_argument.specs.Escapes.{plain, escape_step, listed, opening, string_text}
+use Rattle.asm_argument.specs.Escapes.{plain, escape_step, opening, string_text}
 use Rattle.asm_argument.specs.Terminals.{number_value, mark_terminal, number_terminal, terminal_of}
 use Rattle.asm_parse.specs.Statements.{terminals}
 
@@ -38,7 +39,7 @@ owed (escape.Two v) = 1
 owed _ = 0
 
 abbrev Gives : ℕ → Unescaped → Type 0
-Gives o g = length (listed g.first ++ listed g.second) + owed g.next ≤ o + 1
+Gives o g = length (option_to_list g.first ++ option_to_list g.second) + owed g.next ≤ o + 1
 
 gives_either : (o : ℕ) (t : Bool) (a b : Unescaped) → Gives o a → Gives o b → Gives o (cond t a b)
 gives_either o true a b p q = p
@@ -62,7 +63,7 @@ string_shorter : (e : Escape) (bs : List ℕ) → length (string_text e bs) ≤ 
 string_shorter e [] = omega arith
 string_shorter e (b ∷ bs) =
     let g = escape_step e b in
-    omega (arith, step_gives e b, string_shorter (escape_step e b).next bs, length-append (listed (escape_step e b).first ++ listed (escape_step e b).second) (string_text (escape_step e b).next bs))
+    omega (arith, step_gives e b, string_shorter (escape_step e b).next bs, length-append (option_to_list (escape_step e b).first ++ option_to_list (escape_step e b).second) (string_text (escape_step e b).next bs))
 
 -- ---- tokens
 

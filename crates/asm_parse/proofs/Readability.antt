@@ -6,6 +6,7 @@ use Rattle.std.proofs.lemmas.List.Elements.{All-nil, All-cons, All-push}
 use Rattle.std.proofs.lemmas.Grind.{flat_map-append}
 use Rattle.std.proofs.lemmas.Bool.{ltb-true}
 use Rattle.std.specs.Prelude.{◌&&◌, ◌||◌, ◌==◌, ◌^◌, nat_lt, fold, All, IfOk, Result, Ok, Err}
+use Rattle.std.specs.Option.{option_to_list}
 use Rattle.std.specs.List.{flat_map, list_all}
 use Rattle.asm_lex.specs.declared.lexing.TheConstants.{LIMIT}
 use Rattle.asm_lex.specs.declared.fault.SourceFault.{SourceFault}
@@ -34,7 +35,7 @@ use Rattle.asm_argument.specs.Terminals.{number_value, mark_terminal, number_ter
 use Rattle.asm_parse.specs.Statement.{item_of, resumed}
 use Rattle.asm_parse.specs.Directives.{defines}
 use Rattle.asm_parse.specs.Statements.{IsSeen, Sees, IsArgument, IsNext, Separated, HasArguments, Statement, terminals, text_of, IsStatement, Statements}
-use Rattle.asm_source.specs.Readable.{name_list, argument_names, body_names, names_in, IsReadable}
+use Rattle.asm_source.specs.Readable.{argument_names, body_names, names_in, IsReadable}
 use Rattle.asm_parse.specs.Running.{Says, SourceAs, Parses, read}
 use Rattle.asm_parse.proofs.Sources.{parsed_is}
 use Rattle.asm_parse.proofs.Sizes.{source_pays, terminals-append}
@@ -176,7 +177,7 @@ none_grown sc sc2 e fit = record {
   items = ap (λ (x : ScopeView). x.items) (sym e);
 }
 
-sees_grown : (sc sc2 : ScopeView) (d : Bool) (o : Option (List ℕ)) → Sees sc d o sc2 → PlainName o → Fit sc → Grown sc sc2 (name_list o)
+sees_grown : (sc sc2 : ScopeView) (d : Bool) (o : Option (List ℕ)) → Sees sc d o sc2 → PlainName o → Fit sc → Grown sc sc2 (option_to_list o)
 sees_grown sc sc2 d None h plain fit = none_grown sc sc2 h fit
 sees_grown sc sc2 d (Some n) h plain fit = seen_grown h plain fit
 
@@ -187,15 +188,15 @@ both_grown sc sc1 sc2 ns ms a b = record {
   items = b.items ∙ a.items;
 }
 
-names-end : (before : List Argument) (a : Argument) → argument_names (before ++ a ∷ []) ≡ argument_names before ++ name_list (symbol_in a.form)
+names-end : (before : List Argument) (a : Argument) → argument_names (before ++ a ∷ []) ≡ argument_names before ++ option_to_list (symbol_in a.form)
 names-end before a =
-    flat_map-append (λ (x : Argument). name_list (symbol_in x.form)) before (a ∷ [])
-    ∙ ap (λ (x : List (List ℕ)). argument_names before ++ x) (append-nil (name_list (symbol_in a.form)))
+    flat_map-append (λ (x : Argument). option_to_list (symbol_in x.form)) before (a ∷ [])
+    ∙ ap (λ (x : List (List ℕ)). argument_names before ++ x) (append-nil (option_to_list (symbol_in a.form)))
 
-end_grown : (sc sc1 sc2 : ScopeView) (before : List Argument) (a : Argument) → Grown sc sc1 (argument_names before) → Grown sc1 sc2 (name_list (symbol_in a.form)) → Grown sc sc2 (argument_names (before ++ a ∷ []))
-end_grown sc sc1 sc2 before a g h = subst (Grown sc sc2) (sym (names-end before a)) (both_grown sc sc1 sc2 (argument_names before) (name_list (symbol_in a.form)) g h)
+end_grown : (sc sc1 sc2 : ScopeView) (before : List Argument) (a : Argument) → Grown sc sc1 (argument_names before) → Grown sc1 sc2 (option_to_list (symbol_in a.form)) → Grown sc sc2 (argument_names (before ++ a ∷ []))
+end_grown sc sc1 sc2 before a g h = subst (Grown sc sc2) (sym (names-end before a)) (both_grown sc sc1 sc2 (argument_names before) (option_to_list (symbol_in a.form)) g h)
 
-next_grown : {h : Head} {sc sc2 : ScopeView} {before : List Argument} {ts : List Terminal} {a : Argument} → IsNext h sc before ts a sc2 → PlainTerminals ts → Fit sc → Grown sc sc2 (name_list (symbol_in a.form))
+next_grown : {h : Head} {sc sc2 : ScopeView} {before : List Argument} {ts : List Terminal} {a : Argument} → IsNext h sc before ts a sc2 → PlainTerminals ts → Fit sc → Grown sc sc2 (option_to_list (symbol_in a.form))
 next_grown {h} {sc} {sc2} {before} {a} next plain fit = sees_grown sc sc2 (defines h (length before)) (symbol_in a.form) next.sees (argument_plain next.is plain) fit
 
 separated_grown : {h : Head} {sc sc2 : ScopeView} {ss : List Terminal} {args : List Argument} → Separated h sc ss args sc2 → PlainTerminals ss → Fit sc → Grown sc sc2 (argument_names args)
