@@ -16,8 +16,8 @@ use Rattle.afterburner.specs.declared.fault.BurnCause.{BurnCause}
 use Rattle.afterburner.specs.declared.fault.BurnCause.TheVariants as cause
 use Rattle.afterburner.specs.declared.section.Section.{Section}
 use Rattle.afterburner.specs.declared.section.Section.TheVariants as section
-use Rattle.afterburner.specs.declared.value.Width.{Width}
-use Rattle.afterburner.specs.declared.value.Width.TheVariants as width
+use Rattle.ia32_types.specs.declared.size.Size.{Size}
+use Rattle.ia32_types.specs.declared.size.Size.TheVariants as size
 use Rattle.afterburner.specs.Arguments.{count_at}
 use Rattle.afterburner.specs.Causes.{cause_number, cause_of}
 use Rattle.afterburner.specs.ObjectSoFar.{ObjectSoFar}
@@ -25,7 +25,7 @@ use Rattle.afterburner.specs.Sections.{is_text, is_init}
 use Rattle.afterburner.specs.Directives.{directive_of, all_fit, numbers, longs, strings, zeros_in, directed}
 use Rattle.afterburner.specs.Instructions.{instruction}
 use Rattle.afterburner.specs.Burnt.{parted, made, limited, item_made}
-use Rattle.afterburner.specs.Reasons.{width_of, gives_data, IsReason, IsLowestReason}
+use Rattle.afterburner.specs.Reasons.{size_of, gives_data, IsReason, IsLowestReason}
 use Rattle.afterburner.proofs.Statements.{ToldOf, unknown_told, refused_told as name_told, row_told, number_told}
 use Rattle.afterburner.proofs.Reasons.{reason}
 
@@ -90,27 +90,27 @@ outside_told names st rep name args q = by_assembled (assembled rep name args) r
 -- ---- directives
 
 module _ (names : List (List ℕ)) (st : ObjectSoFar) (args : List Argument) where
-  numbers_range : (w : Width) → all_fit w args ≡ false → Told (numbers (parted st) w args) cause.ValueRange
+  numbers_range : (w : Size) → all_fit w args ≡ false → Told (numbers (parted st) w args) cause.ValueRange
   unfolding numbers
   numbers_range w t = (cause.ValueRange, rw t refl, omega arith)
 
-  longs_range : all_fit width.Long args ≡ false → Told (longs names (parted st) args) cause.ValueRange
+  longs_range : all_fit size.Long args ≡ false → Told (longs names (parted st) args) cause.ValueRange
   unfolding longs
   longs_range t = (cause.ValueRange, rw t refl, omega arith)
 
-  range_told : (k : DirectiveName) (w : Width) → width_of k ≡ Some w → all_fit w args ≡ false → Told (directed names (parted st) k args) cause.ValueRange
+  range_told : (k : DirectiveName) (w : Size) → size_of k ≡ Some w → all_fit w args ≡ false → Told (directed names (parted st) k args) cause.ValueRange
   unfolding directed
-  range_told directive.Bytes w f t = let same : width.Byte ≡ w = cc in numbers_range width.Byte (subst (λ (x : Width). all_fit x args ≡ false) (sym same) t)
-  range_told directive.Shorts w f t = let same : width.Short ≡ w = cc in numbers_range width.Short (subst (λ (x : Width). all_fit x args ≡ false) (sym same) t)
-  range_told directive.Longs w f t = let same : width.Long ≡ w = cc in longs_range (subst (λ (x : Width). all_fit x args ≡ false) (sym same) t)
+  range_told directive.Bytes w f t = let same : size.Byte ≡ w = cc in numbers_range size.Byte (subst (λ (x : Size). all_fit x args ≡ false) (sym same) t)
+  range_told directive.Shorts w f t = let same : size.Word ≡ w = cc in numbers_range size.Word (subst (λ (x : Size). all_fit x args ≡ false) (sym same) t)
+  range_told directive.Longs w f t = let same : size.Long ≡ w = cc in longs_range (subst (λ (x : Size). all_fit x args ≡ false) (sym same) t)
   range_told _ w f t = absurd cc
 
-  numbers_outside : (w : Width) → is_init st.section ≡ false → (t : Bool) → all_fit w args ≡ t → Told (numbers (parted st) w args) cause.DataInText
+  numbers_outside : (w : Size) → is_init st.section ≡ false → (t : Bool) → all_fit w args ≡ t → Told (numbers (parted st) w args) cause.DataInText
   unfolding numbers
   numbers_outside w q true t = (cause.DataInText, rw (t, q) refl, omega arith)
   numbers_outside w q false t = (cause.ValueRange, rw t refl, omega arith)
 
-  longs_outside : is_init st.section ≡ false → (t : Bool) → all_fit width.Long args ≡ t → Told (longs names (parted st) args) cause.DataInText
+  longs_outside : is_init st.section ≡ false → (t : Bool) → all_fit size.Long args ≡ t → Told (longs names (parted st) args) cause.DataInText
   unfolding longs
   longs_outside q true t = (cause.DataInText, rw (t, q) refl, omega arith)
   longs_outside q false t = (cause.ValueRange, rw t refl, omega arith)
@@ -121,9 +121,9 @@ module _ (names : List (List ℕ)) (st : ObjectSoFar) (args : List Argument) whe
 
   data_outside_told : (k : DirectiveName) → gives_data k ≡ true → is_init st.section ≡ false → Told (directed names (parted st) k args) cause.DataInText
   unfolding directed
-  data_outside_told directive.Bytes g q = numbers_outside width.Byte q (all_fit width.Byte args) refl
-  data_outside_told directive.Shorts g q = numbers_outside width.Short q (all_fit width.Short args) refl
-  data_outside_told directive.Longs g q = longs_outside q (all_fit width.Long args) refl
+  data_outside_told directive.Bytes g q = numbers_outside size.Byte q (all_fit size.Byte args) refl
+  data_outside_told directive.Shorts g q = numbers_outside size.Word q (all_fit size.Word args) refl
+  data_outside_told directive.Longs g q = longs_outside q (all_fit size.Long args) refl
   data_outside_told directive.Ascii g q = strings_outside false q
   data_outside_told directive.Asciz g q = strings_outside true q
   data_outside_told _ g q = absurd cc

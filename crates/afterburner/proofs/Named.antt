@@ -1,12 +1,13 @@
 -- The names of items are among those of the source.
 use Rattle.std.proofs.Common.{◌≡◌, ◌<◌, ◌+◌, ℕ, zero, suc, Bool, true, false, List, [], ◌∷◌, ◌++◌, length, get_or, Option, Some, None, refl, ap, ◌∙◌, cond, arith, fold, eq-eqb, subst}
 use Rattle.std.specs.Prelude.{◌||◌, slice_get, not}
+use Rattle.std.specs.Option.{option_to_list}
 use Rattle.std.specs.List.{flat_map, list_any, position_or_len}
 use Rattle.std.specs.Str.{bytes_eq}
 use Rattle.asm_source.specs.declared.tree.Argument.{Argument}
 use Rattle.asm_source.specs.declared.tree.SourceItem.{SourceItem}
 use Rattle.asm_source.specs.Names.{symbol_in, holds, added, name_number}
-use Rattle.asm_source.specs.Readable.{argument_names, body_names, name_list, names_in}
+use Rattle.asm_source.specs.Readable.{argument_names, body_names, names_in}
 use Rattle.afterburner.specs.Sound.{AreHeld}
 
 pub found_within : {X : Type 0} (p : X → Bool) (xs : List X) → list_any p xs ≡ true → position_or_len p xs < length xs
@@ -68,7 +69,7 @@ item_held items k d lt =
     let all : List (List ℕ) = flat_map (λ (i : SourceItem). body_names i.body) items in
     held_piece (fold added [] all) (λ (i : SourceItem). body_names i.body) items k d lt (all_held [] all)
 
-pub named_held : (names : List (List ℕ)) (o : Option (List ℕ)) (n : List ℕ) → o ≡ Some n → AreHeld names (name_list o) → holds names n ≡ true
+pub named_held : (names : List (List ℕ)) (o : Option (List ℕ)) (n : List ℕ) → o ≡ Some n → AreHeld names (option_to_list o) → holds names n ≡ true
 named_held names None n e h = cc
 named_held names (Some m) n e h =
     let same : m ≡ n = cc in
@@ -79,5 +80,5 @@ pub argument_held : (names : List (List ℕ)) (args : List Argument) (k : ℕ) (
 argument_held names [] k a n e f h = cc
 argument_held names (x ∷ args) zero a n e f h =
     let same : x ≡ a = cc in
-    named_held names (symbol_in x.form) n (ap (λ (y : Argument). symbol_in y.form) same ∙ f) (held_left names (name_list (symbol_in x.form)) (argument_names args) h)
-argument_held names (x ∷ args) (suc k) a n e f h = argument_held names args k a n e f (held_right names (name_list (symbol_in x.form)) (argument_names args) h)
+    named_held names (symbol_in x.form) n (ap (λ (y : Argument). symbol_in y.form) same ∙ f) (held_left names (option_to_list (symbol_in x.form)) (argument_names args) h)
+argument_held names (x ∷ args) (suc k) a n e f h = argument_held names args k a n e f (held_right names (option_to_list (symbol_in x.form)) (argument_names args) h)

@@ -16,8 +16,8 @@ use Rattle.afterburner.specs.declared.fault.BurnCause.{BurnCause}
 use Rattle.afterburner.specs.declared.fault.BurnCause.TheVariants as cause
 use Rattle.afterburner.specs.declared.section.Section.{Section}
 use Rattle.afterburner.specs.declared.section.Section.TheVariants as section
-use Rattle.afterburner.specs.declared.value.Width.{Width}
-use Rattle.afterburner.specs.declared.value.Width.TheVariants as width
+use Rattle.ia32_types.specs.declared.size.Size.{Size}
+use Rattle.ia32_types.specs.declared.size.Size.TheVariants as size
 use Rattle.afterburner.specs.Arguments.{count_at}
 use Rattle.afterburner.specs.Causes.{cause_of}
 use Rattle.afterburner.specs.ObjectSoFar.{ObjectSoFar}
@@ -25,7 +25,7 @@ use Rattle.afterburner.specs.Sections.{is_text, is_init}
 use Rattle.afterburner.specs.Directives.{directive_of, all_fit, values, in_init, numbers, with_long, longs, string_bytes, strings, zeros_in, directed}
 use Rattle.afterburner.specs.Instructions.{placed, in_text, instruction}
 use Rattle.afterburner.specs.Burnt.{parted, made, limited, then_limited, item_made}
-use Rattle.afterburner.specs.Reasons.{width_of, gives_data, IsReason}
+use Rattle.afterburner.specs.Reasons.{size_of, gives_data, IsReason}
 use Rattle.afterburner.proofs.Statements.{statement_reason}
 
 in_init_refused : (st new : ObjectSoFar) (c : BurnCause) → in_init st new ≡ Err c → (is_init st.section ≡ false) × (cause.DataInText ≡ c)
@@ -44,21 +44,21 @@ module _ (names : List (List ℕ)) (st : ObjectSoFar) (name : List ℕ) (args : 
       let p = in_init_refused (parted st) new c e in
       subst Reason p.1 (IsReason.data_outside (ap gives_data q ∙ g) p.0)
 
-  out_of_range : (k : DirectiveName) (w : Width) (new : ObjectSoFar) (c : BurnCause) → directive_of name ≡ k → width_of k ≡ Some w → gives_data k ≡ true
+  out_of_range : (k : DirectiveName) (w : Size) (new : ObjectSoFar) (c : BurnCause) → directive_of name ≡ k → size_of k ≡ Some w → gives_data k ≡ true
       → cond (not (all_fit w args)) (Err cause.ValueRange) (in_init (parted st) new) ≡ Err c → Reason c
   out_of_range k w new c q f g e = by_fit (all_fit w args) refl e
     where
       by_fit : (t : Bool) → all_fit w args ≡ t → cond (not t) (Err cause.ValueRange) (in_init (parted st) new) ≡ Err c → Reason c
       by_fit true t e = outside k new c q g e
-      by_fit false t e = let same : cause.ValueRange ≡ c = cc in subst Reason same (IsReason.range w (ap width_of q ∙ f) t)
+      by_fit false t e = let same : cause.ValueRange ≡ c = cc in subst Reason same (IsReason.range w (ap size_of q ∙ f) t)
 
-  numbers_reason : (k : DirectiveName) (w : Width) (c : BurnCause) → directive_of name ≡ k → width_of k ≡ Some w → gives_data k ≡ true → numbers (parted st) w args ≡ Err c → Reason c
+  numbers_reason : (k : DirectiveName) (w : Size) (c : BurnCause) → directive_of name ≡ k → size_of k ≡ Some w → gives_data k ≡ true → numbers (parted st) w args ≡ Err c → Reason c
   unfolding numbers
   numbers_reason k w c q f g e = out_of_range k w (record (parted st) { init = st.init ++ values w args }) c q f g e
 
   longs_reason : (c : BurnCause) → directive_of name ≡ directive.Longs → longs names (parted st) args ≡ Err c → Reason c
   unfolding longs
-  longs_reason c q e = out_of_range directive.Longs width.Long (fold (with_long names) (parted st) args) c q refl refl e
+  longs_reason c q e = out_of_range directive.Longs size.Long (fold (with_long names) (parted st) args) c q refl refl e
 
   strings_reason : (k : DirectiveName) (ended : Bool) (c : BurnCause) → directive_of name ≡ k → gives_data k ≡ true → strings (parted st) ended args ≡ Err c → Reason c
   unfolding strings
@@ -84,8 +84,8 @@ module _ (names : List (List ℕ)) (st : ObjectSoFar) (name : List ℕ) (args : 
   directed_reason directive.Section c q e = absurd cc
   directed_reason directive.Global c q e = absurd cc
   directed_reason directive.Local c q e = absurd cc
-  directed_reason directive.Bytes c q e = numbers_reason directive.Bytes width.Byte c q refl refl e
-  directed_reason directive.Shorts c q e = numbers_reason directive.Shorts width.Short c q refl refl e
+  directed_reason directive.Bytes c q e = numbers_reason directive.Bytes size.Byte c q refl refl e
+  directed_reason directive.Shorts c q e = numbers_reason directive.Shorts size.Word c q refl refl e
   directed_reason directive.Longs c q e = longs_reason c q e
   directed_reason directive.Ascii c q e = strings_reason directive.Ascii false c q refl e
   directed_reason directive.Asciz c q e = strings_reason directive.Asciz true c q refl e

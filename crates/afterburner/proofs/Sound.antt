@@ -2,19 +2,20 @@
 use Rattle.std.proofs.Common.{◌≡◌, ◌≤◌, ◌+◌, ℕ, Bool, true, false, List, [], ◌∷◌, ◌++◌, length, replicate, Option, Some, None, refl, ◌∙◌, cond, arith, fold, length-append, length-set}
 use Rattle.std.proofs.lemmas.List.{length-replicate}
 use Rattle.std.specs.Prelude.{Result, Ok, Err, IfOk, All, not, ℤ, nat_lt}
+use Rattle.std.specs.Option.{option_to_list}
 use Rattle.std.specs.List.{flat_map}
 use Rattle.std.proofs.lemmas.List.Elements.{All-append, All-nil, All-cons}
 use Rattle.elf_form.specs.declared.object.Reloc.{Reloc}
 use Rattle.sites.specs.declared.site.Site.{Site}
 use Rattle.asm_source.specs.declared.tree.Argument.{Argument}
 use Rattle.asm_source.specs.Names.{symbol_in, name_number}
-use Rattle.asm_source.specs.Readable.{name_list, argument_names}
+use Rattle.asm_source.specs.Readable.{argument_names}
 use Rattle.afterburner.specs.declared.fault.BurnCause.TheVariants as cause
 use Rattle.afterburner.specs.declared.section.Section.{Section}
 use Rattle.afterburner.specs.declared.section.Section.TheVariants as section
 use Rattle.afterburner.specs.declared.symbol.Binding.{Binding}
-use Rattle.afterburner.specs.declared.value.Width.{Width}
-use Rattle.afterburner.specs.declared.value.Width.TheVariants as width
+use Rattle.ia32_types.specs.declared.size.Size.{Size}
+use Rattle.ia32_types.specs.declared.size.Size.TheVariants as size
 use Rattle.asm_source.specs.declared.directive_table.DirectiveName.{DirectiveName}
 use Rattle.asm_source.specs.declared.directive_table.DirectiveName.TheVariants as directive
 use Rattle.afterburner.specs.ObjectSoFar.{ObjectSoFar, undefined, fresh}
@@ -112,7 +113,7 @@ sound_data : (n : ℕ) (st : ObjectSoFar) (bytes : List ℕ) → st.after_sti �
 sound_data n st bytes a s =
     if_ok (IsSound n) (is_init st.section) _ _ (sound_kept n st (record st { init = st.init ++ bytes }) s refl refl refl refl (omega arith) (simp length-append (omega arith)) a) tt
 
-sound_numbers : (n : ℕ) (st : ObjectSoFar) (w : Width) (args : List Argument) → st.after_sti ≡ false → IsSound n st → IfOk (numbers st w args) (IsSound n)
+sound_numbers : (n : ℕ) (st : ObjectSoFar) (w : Size) (args : List Argument) → st.after_sti ≡ false → IsSound n st → IfOk (numbers st w args) (IsSound n)
 unfolding numbers
 sound_numbers n st w args a s = if_ok (IsSound n) (not (all_fit w args)) _ _ tt (sound_data n st (values w args) a s)
 
@@ -130,30 +131,30 @@ sound_strings : (n : ℕ) (st : ObjectSoFar) (ended : Bool) (args : List Argumen
 unfolding strings
 sound_strings n st ended args a s = sound_data n st (flat_map (string_bytes ended) args) a s
 
-four_bytes : (z : ℤ) → length (value_bytes 4 z) ≡ 4
+four_bytes : (z : ℤ) → length (value_bytes size.Long z) ≡ 4
 four_bytes z = refl
 
 -- a value of four bytes, whose relocation lies in them
-long_field : (names : List (List ℕ)) (st : ObjectSoFar) (z : ℤ) (o : Option (List ℕ)) → AreHeld names (name_list o) → All (IsRelocIn false (length (st.init ++ value_bytes 4 z)) (length names)) (data_reloc names (length st.init) o)
+long_field : (names : List (List ℕ)) (st : ObjectSoFar) (z : ℤ) (o : Option (List ℕ)) → AreHeld names (option_to_list o) → All (IsRelocIn false (length (st.init ++ value_bytes size.Long z)) (length names)) (data_reloc names (length st.init) o)
 long_field names st z None h = All-nil _
 long_field names st z (Some name) h =
-    All-cons (IsRelocIn false (length (st.init ++ value_bytes 4 z)) (length names)) _ [] (record { section = refl; field = simp (length-append, four_bytes z) (omega arith); symbol = held_number names name h.0 }) (All-nil _)
+    All-cons (IsRelocIn false (length (st.init ++ value_bytes size.Long z)) (length names)) _ [] (record { section = refl; field = simp (length-append, four_bytes z) (omega arith); symbol = held_number names name h.0 }) (All-nil _)
 
 few_fields : (names : List (List ℕ)) (at : ℕ) (o : Option (List ℕ)) → length (data_reloc names at o) ≤ 1
 few_fields names at None = omega arith
 few_fields names at (Some name) = omega arith
 
-sound_long : (names : List (List ℕ)) (st : ObjectSoFar) (x : Argument) → st.after_sti ≡ false → AreHeld names (name_list (symbol_in x.form)) → IsSound (length names) st → IsSound (length names) (with_long names st x)
+sound_long : (names : List (List ℕ)) (st : ObjectSoFar) (x : Argument) → st.after_sti ≡ false → AreHeld names (option_to_list (symbol_in x.form)) → IsSound (length names) st → IsSound (length names) (with_long names st x)
 sound_long names st x a h s =
     let z : ℤ = number_in x.form in
-    let longer : length st.init ≤ length (st.init ++ value_bytes 4 z) = simp length-append (omega arith) in
-    let more : length (st.init ++ value_bytes 4 z) ≡ length st.init + 4 = simp (length-append, four_bytes z) refl in
+    let longer : length st.init ≤ length (st.init ++ value_bytes size.Long z) = simp length-append (omega arith) in
+    let more : length (st.init ++ value_bytes size.Long z) ≡ length st.init + 4 = simp (length-append, four_bytes z) refl in
     let few = few_fields names (length st.init) (symbol_in x.form) in
     record {
       definitions = s.definitions;
       text_relocs = s.text_relocs;
-      data_relocs = All-append (IsRelocIn false (length (st.init ++ value_bytes 4 z)) (length names)) st.data_relocs (data_reloc names (length st.init) (symbol_in x.form))
-          (reloc_grown false (length names) (length st.init) (length (st.init ++ value_bytes 4 z)) st.data_relocs longer s.data_relocs) (long_field names st z (symbol_in x.form) h);
+      data_relocs = All-append (IsRelocIn false (length (st.init ++ value_bytes size.Long z)) (length names)) st.data_relocs (data_reloc names (length st.init) (symbol_in x.form))
+          (reloc_grown false (length names) (length st.init) (length (st.init ++ value_bytes size.Long z)) st.data_relocs longer s.data_relocs) (long_field names st z (symbol_in x.form) h);
       few_text = s.few_text;
       few_data = rw (length-append st.data_relocs (data_reloc names (length st.init) (symbol_in x.form)), more) (omega (arith, few, s.few_data));
       sites = s.sites;
@@ -164,12 +165,12 @@ sound_long names st x a h s =
 sound_fold : (names : List (List ℕ)) (st : ObjectSoFar) (args : List Argument) → st.after_sti ≡ false → AreHeld names (argument_names args) → IsSound (length names) st → IsSound (length names) (fold (with_long names) st args)
 sound_fold names st [] a h s = s
 sound_fold names st (x ∷ args) a h s =
-    sound_fold names (with_long names st x) args a (held_right names (name_list (symbol_in x.form)) (argument_names args) h) (sound_long names st x a (held_left names (name_list (symbol_in x.form)) (argument_names args) h) s)
+    sound_fold names (with_long names st x) args a (held_right names (option_to_list (symbol_in x.form)) (argument_names args) h) (sound_long names st x a (held_left names (option_to_list (symbol_in x.form)) (argument_names args) h) s)
 
 sound_longs : (names : List (List ℕ)) (st : ObjectSoFar) (args : List Argument) → st.after_sti ≡ false → AreHeld names (argument_names args) → IsSound (length names) st → IfOk (longs names st args) (IsSound (length names))
 unfolding longs
 sound_longs names st args a h s =
-    elim (all_fit width.Long args) as (λ b. IfOk (cond (not b) (Err cause.ValueRange) (in_init st (fold (with_long names) st args))) (IsSound (length names))) [
+    elim (all_fit size.Long args) as (λ b. IfOk (cond (not b) (Err cause.ValueRange) (in_init st (fold (with_long names) st args))) (IsSound (length names))) [
       | false ↦ tt
       | true ↦ elim (is_init st.section) as (λ b. IfOk (cond b (Ok (fold (with_long names) st args)) (Err cause.DataInText)) (IsSound (length names))) [ true ↦ sound_fold names st args a h s | false ↦ tt ]
     ]
@@ -182,8 +183,8 @@ sound_directed names st directive.Bss args a h s = sound_entered (length names) 
 sound_directed names st directive.Section args a h s = sound_entered (length names) st (section_named (text_at args 0) st.section) a s
 sound_directed names st directive.Global args a h s = sound_bound names (length names) st (symbol_at args 0) _ a s
 sound_directed names st directive.Local args a h s = sound_bound names (length names) st (symbol_at args 0) _ a s
-sound_directed names st directive.Bytes args a h s = sound_numbers (length names) st width.Byte args a s
-sound_directed names st directive.Shorts args a h s = sound_numbers (length names) st width.Short args a s
+sound_directed names st directive.Bytes args a h s = sound_numbers (length names) st size.Byte args a s
+sound_directed names st directive.Shorts args a h s = sound_numbers (length names) st size.Word args a s
 sound_directed names st directive.Longs args a h s = sound_longs names st args a h s
 sound_directed names st directive.Ascii args a h s = sound_strings (length names) st false args a s
 sound_directed names st directive.Asciz args a h s = sound_strings (length names) st true args a s

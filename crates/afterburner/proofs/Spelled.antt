@@ -15,7 +15,7 @@ use Rattle.asm_instruction.specs.declared.assembled.Named.{Named}
 use Rattle.asm_instruction.specs.Assembled.{HasBoundedLength, IsField, HasFields}
 use Rattle.afterburner.specs.ObjectSoFar.{ObjectSoFar}
 use Rattle.afterburner.specs.Arguments.{symbol_of, symbol_at}
-use Rattle.afterburner.specs.Instructions.{nops, padding, site_at, reloc_of, field_reloc, is_sti, added, paired, pair_site, no_site}
+use Rattle.afterburner.specs.Instructions.{nops, nops_behind, site_at, reloc_of, field_reloc, is_sti, added, paired, pair_site, no_site}
 use Rattle.afterburner.specs.Sound.{IsSound, IsRelocIn, AreApart, AreHeld}
 use Rattle.afterburner.proofs.Named.{held_number, argument_held}
 use Rattle.afterburner.proofs.Sound.{reloc_grown}
@@ -49,7 +49,7 @@ apart_more : (from at to : ℕ) (sites more : List Site) → AreApart from sites
 apart_more from at to [] more h m = apart_lower from at more to h m
 apart_more from at to (s ∷ sites) more h m = (h.0, h.1, h.2, h.3, apart_more (s.at + s.total) at to sites more h.4 m)
 
-site_lies : (at to len : ℕ) (kind : Option SiteKind) → 1 ≤ len → len ≤ 11 → at + len + padding kind len ≤ to → AreApart at (site_at at kind len) to
+site_lies : (at to len : ℕ) (kind : Option SiteKind) → 1 ≤ len → len ≤ 11 → at + len + nops_behind kind len ≤ to → AreApart at (site_at at kind len) to
 site_lies at to len None some short le = omega arith
 site_lies at to len (Some kind) some short le = (omega arith, some, short, refl, omega arith)
 
@@ -57,7 +57,7 @@ sti_sited : (kind : Option SiteKind) (at len : ℕ) (sites : List Site) → is_s
 sti_sited None at len sites e = cc
 sti_sited (Some kind) at len sites e = simp length-append (omega arith)
 
-sti_padded : (kind : Option SiteKind) (len : ℕ) → is_sti kind ≡ true → 4 ≤ len + padding kind len
+sti_padded : (kind : Option SiteKind) (len : ℕ) → is_sti kind ≡ true → 4 ≤ len + nops_behind kind len
 sti_padded None len e = cc
 sti_padded (Some kind) len e = omega arith
 
@@ -72,8 +72,8 @@ sound_added names st args a short fields spelled held s =
     let n : ℕ = length names in
     let kind : Option SiteKind = sensitive_kind a.insn in
     let bytes : List ℕ = take a.spelling.len a.spelling.bytes in
-    let text : List ℕ = st.text ++ bytes ++ nops (padding kind len) in
-    let size : length text ≡ at + len + padding kind len = length-append (st.text ++ bytes) (nops (padding kind len)) ∙ (ap (λ (k : ℕ). k + length (nops (padding kind len))) (length-append st.text bytes) ∙ rw (spelled, length-replicate {A = ℕ} (padding kind len) 144) refl) in
+    let text : List ℕ = st.text ++ bytes ++ nops (nops_behind kind len) in
+    let size : length text ≡ at + len + nops_behind kind len = length-append (st.text ++ bytes) (nops (nops_behind kind len)) ∙ (ap (λ (k : ℕ). k + length (nops (nops_behind kind len))) (length-append st.text bytes) ∙ rw (spelled, length-replicate {A = ℕ} (nops_behind kind len) 144) refl) in
     let grows : at ≤ length text = rw size (omega arith) in
     let room : at + len ≤ length text = rw size (omega arith) in
     let first : List Reloc = field_reloc names at args a.disp in
@@ -81,7 +81,7 @@ sound_added names st args a short fields spelled held s =
     let few_first : 2 * length first ≤ len = few_fields names at len args a.disp fields.disp in
     let few_second : 2 * length second ≤ len = few_fields names at len args a.imm fields.imm in
     let few : length (st.text_relocs ++ first ++ second) ≡ length st.text_relocs + length first + length second = length-append (st.text_relocs ++ first) second ∙ ap (λ (k : ℕ). k + length second) (length-append st.text_relocs first) in
-    let site_room : at + len + padding kind len ≤ length text = rw size (omega arith) in
+    let site_room : at + len + nops_behind kind len ≤ length text = rw size (omega arith) in
     record {
       definitions = s.definitions;
       text_relocs = All-append (IsRelocIn true (length text) n) (st.text_relocs ++ first) second

@@ -1,6 +1,7 @@
 -- The object that is made is whole.
 use Rattle.std.proofs.Common.{◌≡◌, ◌≤◌, ◌<◌, ◌+◌, ◌*◌, ℕ, zero, suc, Bool, true, false, List, [], ◌∷◌, ◌++◌, length, get_or, take, map, Option, Some, None, refl, ap, ◌∙◌, cond, arith, fold, length-append, append-nil}
 use Rattle.std.specs.Prelude.{All, filter, count_by, not, ◌≢◌, sum_by}
+use Rattle.std.specs.Option.{option_to_list}
 use Rattle.std.specs.List.{flat_map}
 use Rattle.std.proofs.lemmas.List.{map-append, length-map}
 use Rattle.std.proofs.lemmas.List.Sums.{length-filter, sum_by-append, sum_by-cons}
@@ -24,7 +25,7 @@ use Rattle.asm_source.specs.declared.tree.Body.TheVariants as body
 use Rattle.asm_source.specs.declared.tree.SourceItem.{SourceItem}
 use Rattle.asm_source.specs.Names.{symbol_in, name_of, holds, added}
 use Rattle.asm_source.specs.Size.{name_size, value_size, form_size, arguments_size, body_size, items_size}
-use Rattle.asm_source.specs.Readable.{IsReadable, name_list, argument_names, body_names, names_in}
+use Rattle.asm_source.specs.Readable.{IsReadable, argument_names, body_names, names_in}
 use Rattle.afterburner.specs.declared.symbol.Definition.{Definition}
 use Rattle.afterburner.specs.ObjectSoFar.{ObjectSoFar, undefined}
 use Rattle.afterburner.specs.Objects.{symbol, symbols_seen, are, defines, is_global, ordered, ordered_number, renumbered, object, reaches, value_at}
@@ -156,15 +157,15 @@ fold_sum ns (m ∷ ms) =
     let r = sum_by-cons (λ (n : List ℕ). length n) m ms in
     omega (arith, h, j, r)
 
-listed_sum : (o : Option (List ℕ)) → sum_by (λ (n : List ℕ). length n) (name_list o) ≤ name_size o
+listed_sum : (o : Option (List ℕ)) → sum_by (λ (n : List ℕ). length n) (option_to_list o) ≤ name_size o
 listed_sum None = omega arith
 listed_sum (Some n) = omega arith
 
-value_sum : (v : Option Value) → sum_by (λ (n : List ℕ). length n) (name_list (name_of v)) ≤ value_size v
+value_sum : (v : Option Value) → sum_by (λ (n : List ℕ). length n) (option_to_list (name_of v)) ≤ value_size v
 value_sum None = omega arith
 value_sum (Some v) = listed_sum v.name
 
-form_sum : (f : Form) → sum_by (λ (n : List ℕ). length n) (name_list (symbol_in f)) ≤ form_size f
+form_sum : (f : Form) → sum_by (λ (n : List ℕ). length n) (option_to_list (symbol_in f)) ≤ form_size f
 form_sum form.Absent = omega arith
 form_sum (form.Register r) = omega arith
 form_sum (form.Immediate v) = listed_sum v.name
@@ -176,7 +177,7 @@ arguments_sum [] = omega arith
 arguments_sum (a ∷ args) =
     let h = form_sum a.form in
     let j = arguments_sum args in
-    rw (sum_by-append (λ (n : List ℕ). length n) (name_list (symbol_in a.form)) (argument_names args)) (omega (arith, h, j))
+    rw (sum_by-append (λ (n : List ℕ). length n) (option_to_list (symbol_in a.form)) (argument_names args)) (omega (arith, h, j))
 
 body_sum : (b : Body) → sum_by (λ (n : List ℕ). length n) (body_names b) ≤ body_size b
 body_sum (body.Label n) = omega arith

@@ -1,5 +1,5 @@
 -- The directives, by families.
-use Rattle.std.specs.Prelude.{ℕ, ◌+◌, ◌*◌, Bool, true, false, not, nat_lt, List, [], ◌∷◌, ◌++◌, length, replicate, fold, Option, Some, None, Result, Ok, Err, if◌then◌else◌}
+use Rattle.std.specs.Prelude.{ℕ, ◌+◌, Bool, true, false, not, nat_lt, List, [], ◌∷◌, ◌++◌, length, replicate, fold, Option, Some, None, Result, Ok, Err, if◌then◌else◌}
 use Rattle.std.specs.List.{flat_map, list_all}
 use Rattle.asm_source.specs.declared.tree.Argument.{Argument}
 use Rattle.asm_source.specs.Names.{symbol_in, name_number}
@@ -12,12 +12,13 @@ use Rattle.afterburner.specs.declared.symbol.Binding.TheVariants as binding
 use Rattle.asm_source.specs.declared.directive_table.DirectiveName.{DirectiveName}
 use Rattle.asm_source.specs.declared.directive_table.DirectiveName.TheVariants as directive
 use Rattle.asm_source.specs.DirectiveTable.{directive_name}
-use Rattle.afterburner.specs.declared.value.Width.{Width}
-use Rattle.afterburner.specs.declared.value.Width.TheVariants as width
+use Rattle.ia32_types.specs.declared.size.Size.{Size}
+use Rattle.ia32_types.specs.declared.size.Size.TheVariants as size
+use Rattle.asm_instruction.specs.Field.{fits_field}
 use Rattle.afterburner.specs.ObjectSoFar.{ObjectSoFar}
 use Rattle.afterburner.specs.Symbols.{bound}
 use Rattle.afterburner.specs.Arguments.{number_in, text_in, count_at, text_at, symbol_at, limit_at, alignment, power}
-use Rattle.afterburner.specs.Values.{fits, value_bytes}
+use Rattle.afterburner.specs.Values.{value_bytes}
 use Rattle.afterburner.specs.Sections.{is_init, entered, section_named, aligned, reserved}
 
 abbrev pub or_skipped : Option DirectiveName → DirectiveName
@@ -28,23 +29,18 @@ or_skipped (Some d) = d
 abbrev pub directive_of : List ℕ → DirectiveName
 directive_of n = or_skipped (directive_name n)
 
-abbrev pub bytes_in : Width → ℕ
-bytes_in width.Byte = 1
-bytes_in width.Short = 2
-bytes_in width.Long = 4
+abbrev pub all_fit : Size → List Argument → Bool
+all_fit s args = list_all (λ (a : Argument). fits_field s (number_in a.form)) args
 
-abbrev pub all_fit : Width → List Argument → Bool
-all_fit w args = list_all (λ (a : Argument). fits (8 * bytes_in w) (number_in a.form)) args
-
-abbrev pub values : Width → List Argument → List ℕ
-values w args = flat_map (λ (a : Argument). value_bytes (bytes_in w) (number_in a.form)) args
+abbrev pub values : Size → List Argument → List ℕ
+values s args = flat_map (λ (a : Argument). value_bytes s (number_in a.form)) args
 
 abbrev pub in_init : ObjectSoFar → ObjectSoFar → Result ObjectSoFar BurnCause
 in_init st made = if is_init st.section then Ok made else Err cause.DataInText
 
 -- numbers
-unfoldable pub numbers : ObjectSoFar → Width → List Argument → Result ObjectSoFar BurnCause
-numbers st w args = if not (all_fit w args) then Err cause.ValueRange else in_init st (record st { init = st.init ++ values w args })
+unfoldable pub numbers : ObjectSoFar → Size → List Argument → Result ObjectSoFar BurnCause
+numbers st s args = if not (all_fit s args) then Err cause.ValueRange else in_init st (record st { init = st.init ++ values s args })
 
 abbrev pub data_reloc : List (List ℕ) → ℕ → Option (List ℕ) → List Reloc
 data_reloc names at None = []
@@ -53,12 +49,12 @@ data_reloc names at (Some name) = record { in_text = false; at = at; symbol = na
 -- a value of four bytes; a named one holds its constant and gives a relocation
 abbrev pub with_long : List (List ℕ) → ObjectSoFar → Argument → ObjectSoFar
 with_long names st a = record st {
-  init = st.init ++ value_bytes 4 (number_in a.form);
+  init = st.init ++ value_bytes size.Long (number_in a.form);
   data_relocs = st.data_relocs ++ data_reloc names (length st.init) (symbol_in a.form);
 }
 
 unfoldable pub longs : List (List ℕ) → ObjectSoFar → List Argument → Result ObjectSoFar BurnCause
-longs names st args = if not (all_fit width.Long args) then Err cause.ValueRange else in_init st (fold (with_long names) st args)
+longs names st args = if not (all_fit size.Long args) then Err cause.ValueRange else in_init st (fold (with_long names) st args)
 
 -- a string, and a zero byte where it has one at its end
 abbrev pub string_bytes : Bool → Argument → List ℕ
@@ -91,8 +87,8 @@ directed names st directive.Bss args = Ok (entered st section.Bss)
 directed names st directive.Section args = Ok (entered st (section_named (text_at args 0) st.section))
 directed names st directive.Global args = Ok (bound names st (symbol_at args 0) binding.Global)
 directed names st directive.Local args = Ok (bound names st (symbol_at args 0) binding.Local)
-directed names st directive.Bytes args = numbers st width.Byte args
-directed names st directive.Shorts args = numbers st width.Short args
+directed names st directive.Bytes args = numbers st size.Byte args
+directed names st directive.Shorts args = numbers st size.Word args
 directed names st directive.Longs args = longs names st args
 directed names st directive.Ascii args = strings st false args
 directed names st directive.Asciz args = strings st true args

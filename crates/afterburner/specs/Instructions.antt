@@ -22,9 +22,9 @@ abbrev pub nops : ℕ → List ℕ
 nops n = replicate n 144
 
 -- A sensitive instruction shorter than 5 bytes is followed by NOPs up to 5.
-abbrev pub padding : Option SiteKind → ℕ → ℕ
-padding None len = 0
-padding (Some kind) len = 5 - len
+abbrev pub nops_behind : Option SiteKind → ℕ → ℕ
+nops_behind None len = 0
+nops_behind (Some kind) len = 5 - len
 
 abbrev pub site_at : ℕ → Option SiteKind → ℕ → List Site
 site_at at None len = []
@@ -53,7 +53,7 @@ added names st args a =
     let at = length st.text in
     let kind = sensitive_kind a.insn in
     record st {
-      text = st.text ++ take a.spelling.len a.spelling.bytes ++ nops (padding kind a.spelling.len);
+      text = st.text ++ take a.spelling.len a.spelling.bytes ++ nops (nops_behind kind a.spelling.len);
       sites = st.sites ++ site_at at kind a.spelling.len;
       text_relocs = st.text_relocs ++ field_reloc names at args a.disp ++ field_reloc names at args a.imm;
       after_sti = is_sti kind;

@@ -9,8 +9,8 @@ use Rattle.asm_instruction.specs.Refusals.{IsRefused, IsUnknown, IsWithoutRow, H
 use Rattle.sites.specs.declared.limits.TheConstants.{TEXT_LIMIT, SITE_LIMIT}
 use Rattle.afterburner.specs.declared.fault.BurnCause.{BurnCause}
 use Rattle.afterburner.specs.declared.fault.BurnCause.TheVariants as cause
-use Rattle.afterburner.specs.declared.value.Width.{Width}
-use Rattle.afterburner.specs.declared.value.Width.TheVariants as width
+use Rattle.ia32_types.specs.declared.size.Size.{Size}
+use Rattle.ia32_types.specs.declared.size.Size.TheVariants as size
 use Rattle.afterburner.specs.Arguments.{count_at}
 use Rattle.afterburner.specs.Causes.{cause_number}
 use Rattle.afterburner.specs.ObjectSoFar.{ObjectSoFar}
@@ -18,12 +18,12 @@ use Rattle.afterburner.specs.Sections.{is_text, is_init}
 use Rattle.afterburner.specs.Directives.{directive_of, all_fit}
 use Rattle.afterburner.specs.Burnt.{made}
 
--- the width of the values that a directive gives
-abbrev pub width_of : DirectiveName → Option Width
-width_of directive.Bytes = Some width.Byte
-width_of directive.Shorts = Some width.Short
-width_of directive.Longs = Some width.Long
-width_of _ = None
+-- the size of the values that a directive gives
+abbrev pub size_of : DirectiveName → Option Size
+size_of directive.Bytes = Some size.Byte
+size_of directive.Shorts = Some size.Word
+size_of directive.Longs = Some size.Long
+size_of _ = None
 
 -- whether a directive gives values or strings
 abbrev pub gives_data : DirectiveName → Bool
@@ -43,7 +43,7 @@ pub data IsReason (names : List (List ℕ)) (st : ObjectSoFar) : Body → BurnCa
   no_row : {rep : Bool} {name : List ℕ} {args : List Argument} → IsWithoutRow rep name args → IsReason names st (body.Instruction rep name args) cause.Operands
   number : {rep : Bool} {name : List ℕ} {args : List Argument} → HasUnfitNumber rep name args → IsReason names st (body.Instruction rep name args) cause.ValueRange
   instruction_outside : {rep : Bool} {name : List ℕ} {args : List Argument} → is_text st.section ≡ false → IsReason names st (body.Instruction rep name args) cause.DataInText
-  range : {name : List ℕ} {args : List Argument} (w : Width) → width_of (directive_of name) ≡ Some w → all_fit w args ≡ false → IsReason names st (body.Directive name args) cause.ValueRange
+  range : {name : List ℕ} {args : List Argument} (w : Size) → size_of (directive_of name) ≡ Some w → all_fit w args ≡ false → IsReason names st (body.Directive name args) cause.ValueRange
   data_outside : {name : List ℕ} {args : List Argument} → gives_data (directive_of name) ≡ true → is_init st.section ≡ false → IsReason names st (body.Directive name args) cause.DataInText
   zeros_in_text : {name : List ℕ} {args : List Argument} → directive_of name ≡ directive.Zeros → is_text st.section ≡ true → IsReason names st (body.Directive name args) cause.DataInText
   many_zeros : {name : List ℕ} {args : List Argument} → directive_of name ≡ directive.Zeros → is_init st.section ≡ true → 33554432 < length st.init + st.bss + count_at args 0 → IsReason names st (body.Directive name args) cause.InitTooLarge

@@ -1,17 +1,15 @@
--- Numbers in fields.
-use Rattle.std.specs.Prelude.{ℕ, ◌-◌, ◌^◌, ℤ, pos, negsuc, Bool, List, nat_lt, take}
+-- Numbers in fields of data.
+use Rattle.std.specs.Prelude.{ℕ, ℤ, List, take}
 use Rattle.std.specs.Int.{w32, to_le_bytes}
+use Rattle.ia32_types.specs.declared.size.Size.{Size}
+use Rattle.ia32_types.specs.declared.size.Size.TheVariants as size
+use Rattle.asm_instruction.specs.Field.{field}
 
--- A field of n bits takes -2^(n-1) to 2^n - 1.
-abbrev pub fits : ℕ → ℤ → Bool
-fits bits (pos n) = nat_lt n (2 ^ bits)
-fits bits (negsuc n) = nat_lt n (2 ^ (bits - 1))
+abbrev pub bytes_in : Size → ℕ
+bytes_in size.Byte = 1
+bytes_in size.Word = 2
+bytes_in size.Long = 4
 
--- the number modulo 2^32
-abbrev pub modulo : ℤ → ℕ
-modulo (pos n) = n
-modulo (negsuc n) = 4294967295 - n
-
--- a number that fits a field of so many bytes, the lowest first
-abbrev pub value_bytes : ℕ → ℤ → List ℕ
-value_bytes width z = take width (to_le_bytes w32 (modulo z))
+-- the bits of the number in the field, the lowest byte first
+abbrev pub value_bytes : Size → ℤ → List ℕ
+value_bytes s z = take (bytes_in s) (to_le_bytes w32 (field s z))

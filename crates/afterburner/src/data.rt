@@ -1,37 +1,35 @@
 //! The directives that make data.
 
-ghost use Rattle.std.specs.Prelude.{◌≡◌, ◌≤◌, ◌<◌, ◌+◌, ◌*◌, ◌++◌, ◌^◌, IsTrue, length, fold, OnOk};
+ghost use Rattle.std.specs.Prelude.{◌≡◌, ◌≤◌, ◌<◌, ◌+◌, ◌*◌, ◌++◌, ◌^◌, length, fold, OnOk};
 ghost use Rattle.std.specs.List.{flat_map};
 ghost use Rattle.afterburner.specs.Burnt.{Makes};
 ghost use Rattle.afterburner.specs.Directives as spec;
-ghost use Rattle.afterburner.specs.declared.value.Width.TheVariants as width;
-ghost use Rattle.afterburner.specs.Values as values;
-ghost use Rattle.afterburner.specs.Arguments as arguments;
 
 use crate::argument::{number, symbol, text};
 use crate::assembly::Assembly;
 use crate::fault::{BurnCause, ItemFault};
 use crate::limits::INIT_LIMIT;
 use crate::section::{Section, is_init, put};
-use crate::value::{Width, fits, put_value};
+use crate::value::put_value;
+use asm_instruction::fits_field;
 use asm_source::{Argument, Names};
 use elf_form::Reloc;
+use ia32_types::Size;
 use std::alloc::AllocError;
 
-fn all_fit(width: Width, arguments: &[Argument]) -> bool
-    ensures { result ≡ spec.all_fit width arguments.now }
+fn all_fit(size: Size, arguments: &[Argument]) -> bool
+    ensures { result ≡ spec.all_fit size arguments.now }
 {
     arguments
         .iter()
-        .all(|argument| fits(width, number(&argument.form)))
+        .all(|argument| fits_field(size, number(&argument.form)))
 }
 
-fn put_values(out: &mut Vec<u8>, width: Width, arguments: &[Argument]) -> Result<(), AllocError>
-    requires { IsTrue (spec.all_fit width arguments.now) }
-    ensures { OnOk result (out.new.items ≡ out.old.items ++ spec.values width arguments.now) }
+fn put_values(out: &mut Vec<u8>, size: Size, arguments: &[Argument]) -> Result<(), AllocError>
+    ensures { OnOk result (out.new.items ≡ out.old.items ++ spec.values size arguments.now) }
 {
     for argument in arguments {
-        put_value(out, width, number(&argument.form))?;
+        put_value(out, size, number(&argument.form))?;
     }
     Ok(())
 }
@@ -58,16 +56,16 @@ fn put_strings(out: &mut Vec<u8>, ended: bool, arguments: &[Argument]) -> Result
 impl Assembly {
     /// Numbers of one or of two bytes.
     #[tactic(auto, unfolding(crate::specs::Directives::numbers))]
-    pub fn numbers(&mut self, width: Width, arguments: &[Argument]) -> Result<(), ItemFault>
-        ensures { Makes self.new result (spec.numbers self.old width arguments.now) }
+    pub fn numbers(&mut self, size: Size, arguments: &[Argument]) -> Result<(), ItemFault>
+        ensures { Makes self.new result (spec.numbers self.old size arguments.now) }
     {
-        if !all_fit(width, arguments) {
+        if !all_fit(size, arguments) {
             return Err(ItemFault::Cause(BurnCause::ValueRange));
         }
         if !is_init(self.section) {
             return Err(ItemFault::Cause(BurnCause::DataInText));
         }
-        put_values(&mut self.init, width, arguments)?;
+        put_values(&mut self.init, size, arguments)?;
         Ok(())
     }
 
@@ -75,7 +73,6 @@ impl Assembly {
     fn put_long(&mut self, names: &Names, argument: &Argument) -> Result<(), AllocError>
         requires few { length names.now ≤ 65536 }
         requires room { length self.old.init < 2 ^ 32 }
-        requires fits { IsTrue (values.fits 32 (arguments.number_in argument.now.form)) }
         ensures { OnOk result (self.new ≡ spec.with_long names.now self.old argument.now) }
     {
         if let Some(name) = symbol(argument) {
@@ -86,13 +83,12 @@ impl Assembly {
                 relative: false,
             })?;
         }
-        put_value(&mut self.init, Width::Long, number(&argument.form))
+        put_value(&mut self.init, Size::Long, number(&argument.form))
     }
 
     fn put_longs(&mut self, names: &Names, arguments: &[Argument]) -> Result<(), AllocError>
         requires few { length names.now ≤ 65536 }
         requires room { length self.old.init + 4 * length arguments.now < 2 ^ 32 }
-        requires fits { IsTrue (spec.all_fit width.Long arguments.now) }
         ensures { OnOk result (self.new ≡ fold (spec.with_long names.now) self.old arguments.now) }
     {
         for argument in arguments {
@@ -108,7 +104,7 @@ impl Assembly {
         requires room { length self.old.init + 4 * length arguments.now < 2 ^ 32 }
         ensures { Makes self.new result (spec.longs names.now self.old arguments.now) }
     {
-        if !all_fit(Width::Long, arguments) {
+        if !all_fit(Size::Long, arguments) {
             return Err(ItemFault::Cause(BurnCause::ValueRange));
         }
         if !is_init(self.section) {

@@ -9,8 +9,8 @@ use crate::assembly::Assembly;
 use crate::fault::ItemFault;
 use crate::section::{Section, section_named};
 use crate::symbol::Binding;
-use crate::value::Width;
 use asm_source::{Argument, DirectiveName, Names, directive_name};
+use ia32_types::Size;
 
 /// The directive of this name. One that is none says nothing, as one that is skipped.
 pub fn directive_of(name: &[u8]) -> DirectiveName
@@ -70,8 +70,8 @@ impl Assembly {
             )),
             DirectiveName::Global => self.bind(names, symbol_at(arguments, 0), Binding::Global),
             DirectiveName::Local => self.bind(names, symbol_at(arguments, 0), Binding::Local),
-            DirectiveName::Bytes => return self.numbers(Width::Byte, arguments),
-            DirectiveName::Shorts => return self.numbers(Width::Short, arguments),
+            DirectiveName::Bytes => return self.numbers(Size::Byte, arguments),
+            DirectiveName::Shorts => return self.numbers(Size::Word, arguments),
             DirectiveName::Longs => return self.longs(names, arguments),
             DirectiveName::Ascii => return self.strings(false, arguments),
             DirectiveName::Asciz => return self.strings(true, arguments),

@@ -38,8 +38,8 @@ fn cause_of(refusal: Refusal) -> BurnCause
 }
 
 /// How many NOPs follow an instruction of this length.
-fn padding(kind: Option<SiteKind>, len: u8) -> usize
-    ensures { result ≡ spec.padding kind len }
+fn nops_behind(kind: Option<SiteKind>, len: u8) -> usize
+    ensures { result ≡ spec.nops_behind kind len }
 {
     match kind {
         None => 0,
@@ -137,7 +137,7 @@ impl Assembly {
         let kind = sensitive(&assembled.insn);
         let len = assembled.spelling.len;
         self.text.extend_from_slice(spelled(assembled))?;
-        put(&mut self.text, padding(kind, len), NOP)?;
+        put(&mut self.text, nops_behind(kind, len), NOP)?;
         put_site(&mut self.sites, at, kind, len)?;
         put_field(&mut self.text_relocs, names, at, arguments, assembled.disp)?;
         put_field(&mut self.text_relocs, names, at, arguments, assembled.imm)?;

@@ -23,4 +23,3 @@ pub use fault::{BurnCause, BurnFault};
 pub use laws::{lowest_cause_is_told, one_refusal_comes_first, relocations_name_their_symbols};
 pub use section::Section;
 pub use symbol::{Binding, Definition};
-pub use value::Width;

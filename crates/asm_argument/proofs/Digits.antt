@@ -3,7 +3,7 @@ use Rattle.std.proofs.Common.{◌≡◌, ℕ, suc, ◌+◌, ◌*◌, ◌<◌, �
 use Rattle.std.proofs.Math.Nat.{mul-le-mul_left}
 use Rattle.std.proofs.lemmas.Bool.{le-ltb, lt-ltb}
 use Rattle.std.proofs.lemmas.List.{nil_from_length, length-drop}
-use Rattle.asm_argument.specs.Symbols.{digit_of, digits_value}
+use Rattle.asm_argument.specs.Terminals.{digit_of, digits_value}
 
 pub grows : (base so_far : ℕ) (bs : List ℕ) → 1 ≤ base → so_far ≤ digits_value base so_far bs
 grows base so_far [] h = omega arith

@@ -1,11 +1,11 @@
--- One argument: what the symbols so far say, and how it may go on.
+-- One argument: what the terminals so far say, and how it may go on.
 use Rattle.std.proofs.Common.{◌≡◌, ℕ, Bool, true, false, cond, List, [], ◌∷◌, ◌++◌, Option, Some, None, Result, Ok, Err, refl, sym, ap, subst, ◌∙◌, ◌⊎◌, inl, inr, append_assoc}
 use Rattle.std.proofs.lemmas.List.{append-nil}
 use Rattle.std.specs.Prelude.{ℤ, pos}
 use Rattle.asm_lex.specs.declared.fault.SourceCause.{SourceCause}
 use Rattle.asm_lex.specs.declared.fault.SourceCause.TheVariants as cause
-use Rattle.asm_argument.specs.declared.symbol.Terminal.{Terminal}
-use Rattle.asm_argument.specs.declared.symbol.Terminal.TheVariants as symbol
+use Rattle.asm_argument.specs.declared.terminal.Terminal.{Terminal}
+use Rattle.asm_argument.specs.declared.terminal.Terminal.TheVariants as terminal
 use Rattle.asm_argument.specs.declared.operand.Shape.{Shape}
 use Rattle.asm_argument.specs.declared.operand.Shape.TheVariants as shape
 use Rattle.asm_argument.specs.declared.operand.ValuePlace.{ValuePlace}
@@ -16,13 +16,13 @@ use Rattle.asm_source.specs.declared.tree.Value.{Value}
 use Rattle.asm_source.specs.declared.tree.Form.{Form}
 use Rattle.asm_source.specs.declared.tree.Form.TheVariants as form
 use Rattle.asm_argument.specs.Grammar.{IsConstant, IsValue, IsAddress, IsForm}
-use Rattle.asm_argument.specs.Operand.{takes_names, takes_sums, takes_minus, takes_numbers, takes_text, takes_absent, begun, fits, counted, allowed, lowered, registered, signed, turned, named, plain, of_memory, is_operand, first, is_low, is_register, is_scale, open_paren, address_step, next_symbol, operand_step, finished}
+use Rattle.asm_argument.specs.Operand.{takes_names, takes_sums, takes_minus, takes_numbers, takes_text, takes_absent, begun, fits, counted, allowed, lowered, registered, signed, turned, named, plain, of_memory, is_operand, first, is_low, is_register, is_scale, open_paren, address_step, next_terminal, operand_step, finished}
 
 abbrev pub ok : Partial → Result Partial SourceCause
 ok p = Ok p
 
-pub not_big : (sh : Shape) (p : Partial) (s : Terminal) → (s ≡ symbol.Big → ⊥) → operand_step sh p s ≡ next_symbol sh p s
-not_big sh p symbol.Big h = absurd (h refl)
+pub not_big : (sh : Shape) (p : Partial) (s : Terminal) → (s ≡ terminal.Big → ⊥) → operand_step sh p s ≡ next_terminal sh p s
+not_big sh p terminal.Big h = absurd (h refl)
 not_big sh p _ h = refl
 
 -- what is left to the parentheses
@@ -31,7 +31,7 @@ pub next_default : (sh : Shape) (p : Partial) (s : Terminal)
     → ((a : ValuePlace) → p ≡ partial.Minus a → ⊥) → ((a : ValuePlace) (n : List ℕ) → p ≡ partial.Name a n → ⊥)
     → ((a : ValuePlace) (n : List ℕ) (b : Bool) → p ≡ partial.Sign a n b → ⊥) → ((a : ValuePlace) (n : List ℕ) (b : Bool) → p ≡ partial.SignMinus a n b → ⊥)
     → ((a : ValuePlace) (v : Value) → p ≡ partial.Number a v → ⊥)
-    → next_symbol sh p s ≡ address_step p s
+    → next_terminal sh p s ≡ address_step p s
 next_default sh partial.Nothing s h1 h0 h2 h3 h4 h5 h6 h7 h8 = absurd (h1 refl)
 next_default sh partial.Absent s h1 h0 h2 h3 h4 h5 h6 h7 h8 = absurd (h0 refl)
 next_default sh partial.Percent s h1 h0 h2 h3 h4 h5 h6 h7 h8 = absurd (h2 refl)
@@ -43,14 +43,14 @@ next_default sh (partial.SignMinus a n b) s h1 h0 h2 h3 h4 h5 h6 h7 h8 = absurd 
 next_default sh (partial.Number a v) s h1 h0 h2 h3 h4 h5 h6 h7 h8 = absurd (h8 a v refl)
 next_default sh _ s h1 h0 h2 h3 h4 h5 h6 h7 h8 = refl
 
--- symbol by symbol
+-- terminal by terminal
 abbrev pub operand_run : Shape → Partial → List Terminal → Result Partial SourceCause
 operand_run sh p [] = Ok p
-operand_run sh p (s ∷ ss) = elim (next_symbol sh p s) [ Ok q ↦ operand_run sh q ss | Err c ↦ Err c ]
+operand_run sh p (s ∷ ss) = elim (next_terminal sh p s) [ Ok q ↦ operand_run sh q ss | Err c ↦ Err c ]
 
 pub run_append : (sh : Shape) (p q : Partial) (ss ts : List Terminal) → operand_run sh p ss ≡ Ok q → operand_run sh p (ss ++ ts) ≡ operand_run sh q ts
 run_append sh p q [] ts h = let e : p ≡ q = cc in rw e refl
-run_append sh p q (s ∷ ss) ts h = by_step (next_symbol sh p s) h (λ n e. run_append sh n q ss ts e)
+run_append sh p q (s ∷ ss) ts h = by_step (next_terminal sh p s) h (λ n e. run_append sh n q ss ts e)
   where
     by_step : (r : Result Partial SourceCause) → ◌≡◌ {A = Result Partial SourceCause} (elim r [ Ok n ↦ operand_run sh n ss | Err c ↦ Err c ]) (Ok q) → ((n : Partial) → operand_run sh n ss ≡ Ok q → operand_run sh n (ss ++ ts) ≡ operand_run sh q ts)
         → ◌≡◌ {A = Result Partial SourceCause} (elim r [ Ok n ↦ operand_run sh n (ss ++ ts) | Err c ↦ Err c ]) (operand_run sh q ts)
@@ -124,14 +124,14 @@ value_runs sh place.Immediate ss v (IsValue.sum {n} {ss = rest} {z} t u c) = (pa
 value_runs sh place.Immediate ss v (IsValue.difference {n} {ss = rest} {z} t u c) = (partial.Number place.Immediate (named n z), rw (u, operand_run) (constant_runs sh place.Immediate n true rest z c), inl refl)
 
 -- the parentheses behind a value or nothing
-address_runs : (sh : Shape) (v : Option Value) (ss : List Terminal) (b i : Option (List ℕ)) (s : ℕ) → IsAddress (symbol.Open ∷ ss) b i s → operand_run sh (partial.Open v) ss ≡ Ok (partial.Whole (of_memory v b i s))
+address_runs : (sh : Shape) (v : Option Value) (ss : List Terminal) (b i : Option (List ℕ)) (s : ℕ) → IsAddress (terminal.Open ∷ ss) b i s → operand_run sh (partial.Open v) ss ≡ Ok (partial.Whole (of_memory v b i s))
 address_runs sh v ss b i s (IsAddress.base r) = rw (r, operand_run) refl
 address_runs sh v ss b i s (IsAddress.index r) = rw (r, operand_run) refl
 address_runs sh v ss b i s (IsAddress.scaled r t) = rw (r, t, operand_run) refl
 address_runs sh v ss b i s (IsAddress.base_index r t) = rw (r, t, operand_run) refl
 address_runs sh v ss b i s (IsAddress.base_scaled r t u) = rw (r, t, u, operand_run) refl
 
-address_opens : (ss : List Terminal) {b i : Option (List ℕ)} {s : ℕ} → IsAddress ss b i s → (ts : List Terminal) × (ss ≡ symbol.Open ∷ ts)
+address_opens : (ss : List Terminal) {b i : Option (List ℕ)} {s : ℕ} → IsAddress ss b i s → (ts : List Terminal) × (ss ≡ terminal.Open ∷ ts)
 address_opens ss (IsAddress.base r) = (_, refl)
 address_opens ss (IsAddress.index r) = (_, refl)
 address_opens ss (IsAddress.scaled r t) = (_, refl)
@@ -143,7 +143,7 @@ finished_value p v q (inl e) = rw e refl
 finished_value place.Memory v q (inr (n, e, f)) = rw (e, f) refl
 finished_value place.Immediate v q (inr (n, e, f)) = rw (e, f) refl
 
-opens_value : (sh : Shape) (v : Value) (q : Partial) → is_operand sh ≡ true → IsDone place.Memory v q → next_symbol sh q symbol.Open ≡ Ok (partial.Open (Some v))
+opens_value : (sh : Shape) (v : Value) (q : Partial) → is_operand sh ≡ true → IsDone place.Memory v q → next_terminal sh q terminal.Open ≡ Ok (partial.Open (Some v))
 opens_value sh v q t (inl e) = rw (e, t) refl
 opens_value sh v q t (inr (n, e, f)) = rw (e, f, t) refl
 
@@ -159,7 +159,7 @@ form_reads sh ss f (IsForm.value {v} val) =
     record { last = r.0; runs = from_nothing sh ss r.0 f r.1 (finished_value place.Memory v r.0 r.2); ends = finished_value place.Memory v r.0 r.2 }
 form_reads sh ss f (IsForm.address {b} {i} {s} h a) = from_open ss (address_opens ss a) a
   where
-    from_open : (ss : List Terminal) → (ts : List Terminal) × (ss ≡ symbol.Open ∷ ts) → IsAddress ss b i s → Reads sh ss (of_memory None b i s)
+    from_open : (ss : List Terminal) → (ts : List Terminal) × (ss ≡ terminal.Open ∷ ts) → IsAddress ss b i s → Reads sh ss (of_memory None b i s)
     from_open ss (ts, e) a = record { last = partial.Whole (of_memory None b i s); runs = from_nothing sh ss (partial.Whole (of_memory None b i s)) (of_memory None b i s) (rw (e, h, operand_run) (address_runs sh None ts b i s (subst (λ (x : List Terminal). IsAddress x b i s) e a))) refl; ends = refl }
 form_reads sh ss f (IsForm.value_address {v} {b} {i} {s} vs ps h e val a) =
     let r = value_runs sh place.Memory vs v val in
@@ -215,10 +215,10 @@ value_of (partial.Scale v b i) = v
 value_of (partial.Scaled v b i s) = v
 value_of _ = None
 
--- the symbols of a base with its comma
+-- the terminals of a base with its comma
 abbrev pub base_part : Option (List ℕ) → List Terminal
-base_part None = symbol.Open ∷ symbol.Comma ∷ []
-base_part (Some b) = symbol.Open ∷ symbol.Percent ∷ symbol.Name b ∷ symbol.Comma ∷ []
+base_part None = terminal.Open ∷ terminal.Comma ∷ []
+base_part (Some b) = terminal.Open ∷ terminal.Percent ∷ terminal.Name b ∷ terminal.Comma ∷ []
 
 abbrev pub IsBase : Option (List ℕ) → Type 0
 IsBase None = Unit {0}
@@ -226,58 +226,58 @@ IsBase (Some b) = is_register b ≡ true
 
 -- what has been read since the parenthesis opened
 abbrev pub Inside : Option Value → Partial → List Terminal → Type 0
-Inside ov (partial.Open v) ps = (v ≡ ov) × (ps ≡ symbol.Open ∷ [])
-Inside ov (partial.BasePercent v) ps = (v ≡ ov) × (ps ≡ symbol.Open ∷ symbol.Percent ∷ [])
-Inside ov (partial.Base v b) ps = (v ≡ ov) × (ps ≡ symbol.Open ∷ symbol.Percent ∷ symbol.Name b ∷ []) × (is_register b ≡ true)
+Inside ov (partial.Open v) ps = (v ≡ ov) × (ps ≡ terminal.Open ∷ [])
+Inside ov (partial.BasePercent v) ps = (v ≡ ov) × (ps ≡ terminal.Open ∷ terminal.Percent ∷ [])
+Inside ov (partial.Base v b) ps = (v ≡ ov) × (ps ≡ terminal.Open ∷ terminal.Percent ∷ terminal.Name b ∷ []) × (is_register b ≡ true)
 Inside ov (partial.IndexComma v b) ps = (v ≡ ov) × (ps ≡ base_part b) × IsBase b
-Inside ov (partial.IndexPercent v b) ps = (v ≡ ov) × (ps ≡ base_part b ++ symbol.Percent ∷ []) × IsBase b
-Inside ov (partial.Index v b i) ps = (v ≡ ov) × (ps ≡ base_part b ++ symbol.Percent ∷ symbol.Name i ∷ []) × IsBase b × (is_register i ≡ true)
-Inside ov (partial.Scale v b i) ps = (v ≡ ov) × (ps ≡ base_part b ++ symbol.Percent ∷ symbol.Name i ∷ symbol.Comma ∷ []) × IsBase b × (is_register i ≡ true)
-Inside ov (partial.Scaled v b i s) ps = (v ≡ ov) × (ps ≡ base_part b ++ symbol.Percent ∷ symbol.Name i ∷ symbol.Comma ∷ symbol.Number s ∷ []) × IsBase b × (is_register i ≡ true) × (is_scale s ≡ true)
+Inside ov (partial.IndexPercent v b) ps = (v ≡ ov) × (ps ≡ base_part b ++ terminal.Percent ∷ []) × IsBase b
+Inside ov (partial.Index v b i) ps = (v ≡ ov) × (ps ≡ base_part b ++ terminal.Percent ∷ terminal.Name i ∷ []) × IsBase b × (is_register i ≡ true)
+Inside ov (partial.Scale v b i) ps = (v ≡ ov) × (ps ≡ base_part b ++ terminal.Percent ∷ terminal.Name i ∷ terminal.Comma ∷ []) × IsBase b × (is_register i ≡ true)
+Inside ov (partial.Scaled v b i s) ps = (v ≡ ov) × (ps ≡ base_part b ++ terminal.Percent ∷ terminal.Name i ∷ terminal.Comma ∷ terminal.Number s ∷ []) × IsBase b × (is_register i ≡ true) × (is_scale s ≡ true)
 Inside ov (partial.Whole f) ps = (b : Option (List ℕ)) × (i : Option (List ℕ)) × (s : ℕ) × (f ≡ of_memory ov b i s) × IsAddress ps b i s
 Inside ov _ ps = ⊥
 
--- one symbol more at the end
+-- one terminal more at the end
 ending : (ps qs : List Terminal) (s : Terminal) → ps ≡ qs → ps ++ s ∷ [] ≡ qs ++ s ∷ []
 ending ps qs s e = ap (λ (x : List Terminal). x ++ s ∷ []) e
 
 inside_step : (ov : Option Value) (p : Partial) (s : Terminal) (q : Partial) (ps : List Terminal) → Inside ov p ps → address_step p s ≡ ok q → Inside ov q (ps ++ s ∷ [])
-inside_step ov (partial.Open v) symbol.Percent q ps h e = subst (λ (x : Partial). Inside ov x (ps ++ symbol.Percent ∷ [])) (ok_is (partial.BasePercent v) q e) (h.0, ending _ _ _ h.1)
-inside_step ov (partial.Open v) symbol.Comma q ps h e = subst (λ (x : Partial). Inside ov x (ps ++ symbol.Comma ∷ [])) (ok_is (partial.IndexComma v None) q e) (h.0, ending _ _ _ h.1, tt)
+inside_step ov (partial.Open v) terminal.Percent q ps h e = subst (λ (x : Partial). Inside ov x (ps ++ terminal.Percent ∷ [])) (ok_is (partial.BasePercent v) q e) (h.0, ending _ _ _ h.1)
+inside_step ov (partial.Open v) terminal.Comma q ps h e = subst (λ (x : Partial). Inside ov x (ps ++ terminal.Comma ∷ [])) (ok_is (partial.IndexComma v None) q e) (h.0, ending _ _ _ h.1, tt)
 inside_step ov (partial.Open v) _ q ps h e = absurd cc
-inside_step ov (partial.BasePercent v) (symbol.Name r) q ps h e =
+inside_step ov (partial.BasePercent v) (terminal.Name r) q ps h e =
     let g = registered_ok (is_register r) (partial.Base v r) q e in
-    subst (λ (x : Partial). Inside ov x (ps ++ symbol.Name r ∷ [])) g.1 (h.0, ending _ _ _ h.1, g.0)
+    subst (λ (x : Partial). Inside ov x (ps ++ terminal.Name r ∷ [])) g.1 (h.0, ending _ _ _ h.1, g.0)
 inside_step ov (partial.BasePercent v) _ q ps h e = absurd cc
-inside_step ov (partial.Base v b) symbol.Close q ps h e =
-    subst (λ (x : Partial). Inside ov x (ps ++ symbol.Close ∷ [])) (ok_is (partial.Whole (of_memory v (Some b) None 1)) q e)
-    (Some b, None, 1, ap (λ (y : Option Value). of_memory y (Some b) None 1) h.0, subst (λ (y : List Terminal). IsAddress y (Some b) None 1) (sym (ending _ _ symbol.Close h.1)) (IsAddress.base h.2))
-inside_step ov (partial.Base v b) symbol.Comma q ps h e = subst (λ (x : Partial). Inside ov x (ps ++ symbol.Comma ∷ [])) (ok_is (partial.IndexComma v (Some b)) q e) (h.0, ending _ _ _ h.1, h.2)
+inside_step ov (partial.Base v b) terminal.Close q ps h e =
+    subst (λ (x : Partial). Inside ov x (ps ++ terminal.Close ∷ [])) (ok_is (partial.Whole (of_memory v (Some b) None 1)) q e)
+    (Some b, None, 1, ap (λ (y : Option Value). of_memory y (Some b) None 1) h.0, subst (λ (y : List Terminal). IsAddress y (Some b) None 1) (sym (ending _ _ terminal.Close h.1)) (IsAddress.base h.2))
+inside_step ov (partial.Base v b) terminal.Comma q ps h e = subst (λ (x : Partial). Inside ov x (ps ++ terminal.Comma ∷ [])) (ok_is (partial.IndexComma v (Some b)) q e) (h.0, ending _ _ _ h.1, h.2)
 inside_step ov (partial.Base v b) _ q ps h e = absurd cc
-inside_step ov (partial.IndexComma v b) symbol.Percent q ps h e = subst (λ (x : Partial). Inside ov x (ps ++ symbol.Percent ∷ [])) (ok_is (partial.IndexPercent v b) q e) (h.0, ending _ _ _ h.1, h.2)
+inside_step ov (partial.IndexComma v b) terminal.Percent q ps h e = subst (λ (x : Partial). Inside ov x (ps ++ terminal.Percent ∷ [])) (ok_is (partial.IndexPercent v b) q e) (h.0, ending _ _ _ h.1, h.2)
 inside_step ov (partial.IndexComma v b) _ q ps h e = absurd cc
-inside_step ov (partial.IndexPercent v b) (symbol.Name r) q ps h e =
+inside_step ov (partial.IndexPercent v b) (terminal.Name r) q ps h e =
     let g = registered_ok (is_register r) (partial.Index v b r) q e in
-    subst (λ (x : Partial). Inside ov x (ps ++ symbol.Name r ∷ [])) g.1 (h.0, ending _ _ _ h.1 ∙ append_assoc (base_part b) (symbol.Percent ∷ []) (symbol.Name r ∷ []), h.2, g.0)
+    subst (λ (x : Partial). Inside ov x (ps ++ terminal.Name r ∷ [])) g.1 (h.0, ending _ _ _ h.1 ∙ append_assoc (base_part b) (terminal.Percent ∷ []) (terminal.Name r ∷ []), h.2, g.0)
 inside_step ov (partial.IndexPercent v b) _ q ps h e = absurd cc
-inside_step ov (partial.Index v None i) symbol.Close q ps h e =
-    subst (λ (x : Partial). Inside ov x (ps ++ symbol.Close ∷ [])) (ok_is (partial.Whole (of_memory v None (Some i) 1)) q e)
-    (None, Some i, 1, ap (λ (y : Option Value). of_memory y None (Some i) 1) h.0, subst (λ (y : List Terminal). IsAddress y None (Some i) 1) (sym (ending _ _ symbol.Close h.1)) (IsAddress.index h.3))
-inside_step ov (partial.Index v (Some b) i) symbol.Close q ps h e =
-    subst (λ (x : Partial). Inside ov x (ps ++ symbol.Close ∷ [])) (ok_is (partial.Whole (of_memory v (Some b) (Some i) 1)) q e)
-    (Some b, Some i, 1, ap (λ (y : Option Value). of_memory y (Some b) (Some i) 1) h.0, subst (λ (y : List Terminal). IsAddress y (Some b) (Some i) 1) (sym (ending _ _ symbol.Close h.1)) (IsAddress.base_index h.2 h.3))
-inside_step ov (partial.Index v b i) symbol.Comma q ps h e = subst (λ (x : Partial). Inside ov x (ps ++ symbol.Comma ∷ [])) (ok_is (partial.Scale v b i) q e) (h.0, ending _ _ _ h.1 ∙ append_assoc (base_part b) (symbol.Percent ∷ symbol.Name i ∷ []) (symbol.Comma ∷ []), h.2, h.3)
+inside_step ov (partial.Index v None i) terminal.Close q ps h e =
+    subst (λ (x : Partial). Inside ov x (ps ++ terminal.Close ∷ [])) (ok_is (partial.Whole (of_memory v None (Some i) 1)) q e)
+    (None, Some i, 1, ap (λ (y : Option Value). of_memory y None (Some i) 1) h.0, subst (λ (y : List Terminal). IsAddress y None (Some i) 1) (sym (ending _ _ terminal.Close h.1)) (IsAddress.index h.3))
+inside_step ov (partial.Index v (Some b) i) terminal.Close q ps h e =
+    subst (λ (x : Partial). Inside ov x (ps ++ terminal.Close ∷ [])) (ok_is (partial.Whole (of_memory v (Some b) (Some i) 1)) q e)
+    (Some b, Some i, 1, ap (λ (y : Option Value). of_memory y (Some b) (Some i) 1) h.0, subst (λ (y : List Terminal). IsAddress y (Some b) (Some i) 1) (sym (ending _ _ terminal.Close h.1)) (IsAddress.base_index h.2 h.3))
+inside_step ov (partial.Index v b i) terminal.Comma q ps h e = subst (λ (x : Partial). Inside ov x (ps ++ terminal.Comma ∷ [])) (ok_is (partial.Scale v b i) q e) (h.0, ending _ _ _ h.1 ∙ append_assoc (base_part b) (terminal.Percent ∷ terminal.Name i ∷ []) (terminal.Comma ∷ []), h.2, h.3)
 inside_step ov (partial.Index v b i) _ q ps h e = absurd cc
-inside_step ov (partial.Scale v b i) (symbol.Number n) q ps h e =
+inside_step ov (partial.Scale v b i) (terminal.Number n) q ps h e =
     let g = scale_ok n (partial.Scaled v b i n) q e in
-    subst (λ (x : Partial). Inside ov x (ps ++ symbol.Number n ∷ [])) g.1 (h.0, ending _ _ _ h.1 ∙ append_assoc (base_part b) (symbol.Percent ∷ symbol.Name i ∷ symbol.Comma ∷ []) (symbol.Number n ∷ []), h.2, h.3, g.0)
+    subst (λ (x : Partial). Inside ov x (ps ++ terminal.Number n ∷ [])) g.1 (h.0, ending _ _ _ h.1 ∙ append_assoc (base_part b) (terminal.Percent ∷ terminal.Name i ∷ terminal.Comma ∷ []) (terminal.Number n ∷ []), h.2, h.3, g.0)
 inside_step ov (partial.Scale v b i) _ q ps h e = absurd cc
-inside_step ov (partial.Scaled v None i n) symbol.Close q ps h e =
-    subst (λ (x : Partial). Inside ov x (ps ++ symbol.Close ∷ [])) (ok_is (partial.Whole (of_memory v None (Some i) n)) q e)
-    (None, Some i, n, ap (λ (y : Option Value). of_memory y None (Some i) n) h.0, subst (λ (y : List Terminal). IsAddress y None (Some i) n) (sym (ending _ _ symbol.Close h.1)) (IsAddress.scaled h.3 h.4))
-inside_step ov (partial.Scaled v (Some b) i n) symbol.Close q ps h e =
-    subst (λ (x : Partial). Inside ov x (ps ++ symbol.Close ∷ [])) (ok_is (partial.Whole (of_memory v (Some b) (Some i) n)) q e)
-    (Some b, Some i, n, ap (λ (y : Option Value). of_memory y (Some b) (Some i) n) h.0, subst (λ (y : List Terminal). IsAddress y (Some b) (Some i) n) (sym (ending _ _ symbol.Close h.1)) (IsAddress.base_scaled h.2 h.3 h.4))
+inside_step ov (partial.Scaled v None i n) terminal.Close q ps h e =
+    subst (λ (x : Partial). Inside ov x (ps ++ terminal.Close ∷ [])) (ok_is (partial.Whole (of_memory v None (Some i) n)) q e)
+    (None, Some i, n, ap (λ (y : Option Value). of_memory y None (Some i) n) h.0, subst (λ (y : List Terminal). IsAddress y None (Some i) n) (sym (ending _ _ terminal.Close h.1)) (IsAddress.scaled h.3 h.4))
+inside_step ov (partial.Scaled v (Some b) i n) terminal.Close q ps h e =
+    subst (λ (x : Partial). Inside ov x (ps ++ terminal.Close ∷ [])) (ok_is (partial.Whole (of_memory v (Some b) (Some i) n)) q e)
+    (Some b, Some i, n, ap (λ (y : Option Value). of_memory y (Some b) (Some i) n) h.0, subst (λ (y : List Terminal). IsAddress y (Some b) (Some i) n) (sym (ending _ _ terminal.Close h.1)) (IsAddress.base_scaled h.2 h.3 h.4))
 inside_step ov (partial.Scaled v b i n) _ q ps h e = absurd cc
 inside_step ov (partial.Whole f) _ q ps h e = absurd cc
 inside_step ov partial.Absent _ q ps h e = absurd h
@@ -291,7 +291,7 @@ inside_step ov (partial.SignMinus a n b) _ q ps h e = absurd h
 inside_step ov (partial.Number a v) _ q ps h e = absurd h
 
 abbrev pub lead : ValuePlace → List Terminal
-lead place.Immediate = symbol.Dollar ∷ []
+lead place.Immediate = terminal.Dollar ∷ []
 lead place.Memory = []
 
 abbrev pub InPlace : Shape → ValuePlace → Type 0
@@ -299,8 +299,8 @@ InPlace sh place.Immediate = is_operand sh ≡ true
 InPlace sh place.Memory = Unit {0}
 
 abbrev pub sign : Bool → Terminal
-sign true = symbol.Minus
-sign false = symbol.Plus
+sign true = terminal.Minus
+sign false = terminal.Plus
 
 pub record WithAddress (sh : Shape) (p : Partial) (ss : List Terminal) : Type 0 where
   pub operand : is_operand sh ≡ true
@@ -311,16 +311,16 @@ pub record WithAddress (sh : Shape) (p : Partial) (ss : List Terminal) : Type 0 
   pub inside : Inside front p parts
   pub whole : ss ≡ values ++ parts
 
--- these symbols lead to this state
+-- these terminals lead to this state
 abbrev pub Spelled : Shape → Partial → List Terminal → Type 0
 Spelled sh partial.Nothing ss = ss ≡ []
 Spelled sh partial.Absent ss = (ss ≡ []) × (takes_absent sh ≡ true)
-Spelled sh partial.Percent ss = (is_operand sh ≡ true) × (ss ≡ symbol.Percent ∷ [])
-Spelled sh partial.Dollar ss = (is_operand sh ≡ true) × (ss ≡ symbol.Dollar ∷ [])
-Spelled sh (partial.Minus p) ss = InPlace sh p × (takes_minus sh ≡ true) × (ss ≡ lead p ++ symbol.Minus ∷ [])
-Spelled sh (partial.Name p n) ss = InPlace sh p × (takes_names sh ≡ true) × (ss ≡ lead p ++ symbol.Name n ∷ [])
-Spelled sh (partial.Sign p n neg) ss = InPlace sh p × (takes_names sh ≡ true) × (ss ≡ lead p ++ symbol.Name n ∷ sign neg ∷ []) × (takes_sums sh ≡ true)
-Spelled sh (partial.SignMinus p n neg) ss = InPlace sh p × (takes_names sh ≡ true) × (ss ≡ lead p ++ symbol.Name n ∷ sign neg ∷ symbol.Minus ∷ []) × (takes_sums sh ≡ true)
+Spelled sh partial.Percent ss = (is_operand sh ≡ true) × (ss ≡ terminal.Percent ∷ [])
+Spelled sh partial.Dollar ss = (is_operand sh ≡ true) × (ss ≡ terminal.Dollar ∷ [])
+Spelled sh (partial.Minus p) ss = InPlace sh p × (takes_minus sh ≡ true) × (ss ≡ lead p ++ terminal.Minus ∷ [])
+Spelled sh (partial.Name p n) ss = InPlace sh p × (takes_names sh ≡ true) × (ss ≡ lead p ++ terminal.Name n ∷ [])
+Spelled sh (partial.Sign p n neg) ss = InPlace sh p × (takes_names sh ≡ true) × (ss ≡ lead p ++ terminal.Name n ∷ sign neg ∷ []) × (takes_sums sh ≡ true)
+Spelled sh (partial.SignMinus p n neg) ss = InPlace sh p × (takes_names sh ≡ true) × (ss ≡ lead p ++ terminal.Name n ∷ sign neg ∷ terminal.Minus ∷ []) × (takes_sums sh ≡ true)
 Spelled sh (partial.Number p v) ss = InPlace sh p × (vs : List Terminal) × IsValue sh vs v × (ss ≡ lead p ++ vs)
 Spelled sh (partial.Whole f) ss = IsForm sh ss f
 Spelled sh (partial.Open v) ss = WithAddress sh (partial.Open v) ss
@@ -369,71 +369,71 @@ address_more sh p s q ss w e = from_inside sh q (ss ++ s ∷ []) (record {
 })
 
 -- a parenthesis behind a value
-opens : (sh : Shape) (p : ValuePlace) (v : Value) (vs ss : List Terminal) (q : Partial) → IsValue sh vs v → ss ≡ lead p ++ vs → open_paren sh p v ≡ ok q → Spelled sh q (ss ++ symbol.Open ∷ [])
+opens : (sh : Shape) (p : ValuePlace) (v : Value) (vs ss : List Terminal) (q : Partial) → IsValue sh vs v → ss ≡ lead p ++ vs → open_paren sh p v ≡ ok q → Spelled sh q (ss ++ terminal.Open ∷ [])
 opens sh place.Memory v vs ss q val e h =
     let g = allowed_ok (is_operand sh) (partial.Open (Some v)) q h in
-    subst (λ (x : Partial). Spelled sh x (ss ++ symbol.Open ∷ [])) g.1 (record { operand = g.0; front = Some v; values = vs; parts = symbol.Open ∷ []; is_value = OptValue.some val; inside = (refl, refl); whole = ending _ _ symbol.Open e })
+    subst (λ (x : Partial). Spelled sh x (ss ++ terminal.Open ∷ [])) g.1 (record { operand = g.0; front = Some v; values = vs; parts = terminal.Open ∷ []; is_value = OptValue.some val; inside = (refl, refl); whole = ending _ _ terminal.Open e })
 opens sh place.Immediate v vs ss q val e h = absurd cc
 
-first_symbol : (sh : Shape) (s : Terminal) (q : Partial) → first sh s ≡ ok q → Spelled sh q (s ∷ [])
-first_symbol sh symbol.Percent q h = let g = allowed_ok (is_operand sh) partial.Percent q h in subst (λ (x : Partial). Spelled sh x (symbol.Percent ∷ [])) g.1 (g.0, refl)
-first_symbol sh symbol.Dollar q h = let g = allowed_ok (is_operand sh) partial.Dollar q h in subst (λ (x : Partial). Spelled sh x (symbol.Dollar ∷ [])) g.1 (g.0, refl)
-first_symbol sh symbol.Open q h =
+first_terminal : (sh : Shape) (s : Terminal) (q : Partial) → first sh s ≡ ok q → Spelled sh q (s ∷ [])
+first_terminal sh terminal.Percent q h = let g = allowed_ok (is_operand sh) partial.Percent q h in subst (λ (x : Partial). Spelled sh x (terminal.Percent ∷ [])) g.1 (g.0, refl)
+first_terminal sh terminal.Dollar q h = let g = allowed_ok (is_operand sh) partial.Dollar q h in subst (λ (x : Partial). Spelled sh x (terminal.Dollar ∷ [])) g.1 (g.0, refl)
+first_terminal sh terminal.Open q h =
     let g = allowed_ok (is_operand sh) (partial.Open None) q h in
-    subst (λ (x : Partial). Spelled sh x (symbol.Open ∷ [])) g.1 (record { operand = g.0; front = None; values = []; parts = symbol.Open ∷ []; is_value = OptValue.none; inside = (refl, refl); whole = refl })
-first_symbol sh symbol.Minus q h = let g = allowed_ok (takes_minus sh) (partial.Minus place.Memory) q h in subst (λ (x : Partial). Spelled sh x (symbol.Minus ∷ [])) g.1 (tt, g.0, refl)
-first_symbol sh (symbol.Number n) q h =
+    subst (λ (x : Partial). Spelled sh x (terminal.Open ∷ [])) g.1 (record { operand = g.0; front = None; values = []; parts = terminal.Open ∷ []; is_value = OptValue.none; inside = (refl, refl); whole = refl })
+first_terminal sh terminal.Minus q h = let g = allowed_ok (takes_minus sh) (partial.Minus place.Memory) q h in subst (λ (x : Partial). Spelled sh x (terminal.Minus ∷ [])) g.1 (tt, g.0, refl)
+first_terminal sh (terminal.Number n) q h =
     let g = counted_ok (takes_numbers sh) (fits sh false n) (partial.Number place.Memory (plain (pos n))) q h in
-    subst (λ (x : Partial). Spelled sh x (symbol.Number n ∷ [])) g.2 (tt, symbol.Number n ∷ [], IsValue.number g.0 g.1, refl)
-first_symbol sh (symbol.Name n) q h = let g = allowed_ok (takes_names sh) (partial.Name place.Memory n) q h in subst (λ (x : Partial). Spelled sh x (symbol.Name n ∷ [])) g.1 (tt, g.0, refl)
-first_symbol sh (symbol.Text t) q h = let g = allowed_ok (takes_text sh) (partial.Whole (form.Text t)) q h in subst (λ (x : Partial). Spelled sh x (symbol.Text t ∷ [])) g.1 (IsForm.text g.0)
-first_symbol sh _ q h = absurd cc
+    subst (λ (x : Partial). Spelled sh x (terminal.Number n ∷ [])) g.2 (tt, terminal.Number n ∷ [], IsValue.number g.0 g.1, refl)
+first_terminal sh (terminal.Name n) q h = let g = allowed_ok (takes_names sh) (partial.Name place.Memory n) q h in subst (λ (x : Partial). Spelled sh x (terminal.Name n ∷ [])) g.1 (tt, g.0, refl)
+first_terminal sh (terminal.Text t) q h = let g = allowed_ok (takes_text sh) (partial.Whole (form.Text t)) q h in subst (λ (x : Partial). Spelled sh x (terminal.Text t ∷ [])) g.1 (IsForm.text g.0)
+first_terminal sh _ q h = absurd cc
 
-offset_value : (sh : Shape) (p : ValuePlace) (n : List ℕ) (neg : Bool) (cs ss : List Terminal) (z : ℤ) → takes_names sh ≡ true → takes_sums sh ≡ true → IsConstant neg cs z → ss ≡ lead p ++ symbol.Name n ∷ sign neg ∷ cs
+offset_value : (sh : Shape) (p : ValuePlace) (n : List ℕ) (neg : Bool) (cs ss : List Terminal) (z : ℤ) → takes_names sh ≡ true → takes_sums sh ≡ true → IsConstant neg cs z → ss ≡ lead p ++ terminal.Name n ∷ sign neg ∷ cs
     → (vs : List Terminal) × IsValue sh vs (named n z) × (ss ≡ lead p ++ vs)
-offset_value sh p n true cs ss z a b c e = (symbol.Name n ∷ symbol.Minus ∷ cs, IsValue.difference a b c, e)
-offset_value sh p n false cs ss z a b c e = (symbol.Name n ∷ symbol.Plus ∷ cs, IsValue.sum a b c, e)
+offset_value sh p n true cs ss z a b c e = (terminal.Name n ∷ terminal.Minus ∷ cs, IsValue.difference a b c, e)
+offset_value sh p n false cs ss z a b c e = (terminal.Name n ∷ terminal.Plus ∷ cs, IsValue.sum a b c, e)
 
-minus_constant : (neg : Bool) (k : ℕ) → is_low k ≡ true → IsConstant neg (symbol.Minus ∷ symbol.Number k ∷ []) (turned neg k)
+minus_constant : (neg : Bool) (k : ℕ) → is_low k ≡ true → IsConstant neg (terminal.Minus ∷ terminal.Number k ∷ []) (turned neg k)
 minus_constant true k low = IsConstant.minus low
 minus_constant false k low = IsConstant.minus low
 
-pub more : (sh : Shape) (p : Partial) (s : Terminal) (q : Partial) (ss : List Terminal) → Spelled sh p ss → next_symbol sh p s ≡ ok q → Spelled sh q (ss ++ s ∷ [])
-more sh partial.Nothing s q ss h e = rw h (first_symbol sh s q e)
-more sh partial.Absent s q ss h e = rw h.0 (first_symbol sh s q e)
-more sh partial.Percent (symbol.Name r) q ss h e =
+pub more : (sh : Shape) (p : Partial) (s : Terminal) (q : Partial) (ss : List Terminal) → Spelled sh p ss → next_terminal sh p s ≡ ok q → Spelled sh q (ss ++ s ∷ [])
+more sh partial.Nothing s q ss h e = rw h (first_terminal sh s q e)
+more sh partial.Absent s q ss h e = rw h.0 (first_terminal sh s q e)
+more sh partial.Percent (terminal.Name r) q ss h e =
     let g = registered_ok (is_register r) (partial.Whole (form.Register r)) q e in
-    subst (λ (x : Partial). Spelled sh x (ss ++ symbol.Name r ∷ [])) g.1 (rw h.1 (IsForm.register h.0 g.0))
+    subst (λ (x : Partial). Spelled sh x (ss ++ terminal.Name r ∷ [])) g.1 (rw h.1 (IsForm.register h.0 g.0))
 more sh partial.Percent _ q ss h e = absurd cc
-more sh partial.Dollar symbol.Minus q ss h e = subst (λ (x : Partial). Spelled sh x (ss ++ symbol.Minus ∷ [])) (ok_is (partial.Minus place.Immediate) q e) (h.0, (operand_takes sh h.0).1, ending _ _ _ h.1)
-more sh partial.Dollar (symbol.Number n) q ss h e =
-    subst (λ (x : Partial). Spelled sh x (ss ++ symbol.Number n ∷ [])) (ok_is (partial.Number place.Immediate (plain (pos n))) q e) (h.0, symbol.Number n ∷ [], IsValue.number (operand_takes sh h.0).0 (operand_fits sh false n h.0), ending _ _ _ h.1)
-more sh partial.Dollar (symbol.Name n) q ss h e = subst (λ (x : Partial). Spelled sh x (ss ++ symbol.Name n ∷ [])) (ok_is (partial.Name place.Immediate n) q e) (h.0, (operand_takes sh h.0).2, ending _ _ _ h.1)
+more sh partial.Dollar terminal.Minus q ss h e = subst (λ (x : Partial). Spelled sh x (ss ++ terminal.Minus ∷ [])) (ok_is (partial.Minus place.Immediate) q e) (h.0, (operand_takes sh h.0).1, ending _ _ _ h.1)
+more sh partial.Dollar (terminal.Number n) q ss h e =
+    subst (λ (x : Partial). Spelled sh x (ss ++ terminal.Number n ∷ [])) (ok_is (partial.Number place.Immediate (plain (pos n))) q e) (h.0, terminal.Number n ∷ [], IsValue.number (operand_takes sh h.0).0 (operand_fits sh false n h.0), ending _ _ _ h.1)
+more sh partial.Dollar (terminal.Name n) q ss h e = subst (λ (x : Partial). Spelled sh x (ss ++ terminal.Name n ∷ [])) (ok_is (partial.Name place.Immediate n) q e) (h.0, (operand_takes sh h.0).2, ending _ _ _ h.1)
 more sh partial.Dollar _ q ss h e = absurd cc
-more sh (partial.Minus p) (symbol.Number n) q ss h e =
+more sh (partial.Minus p) (terminal.Number n) q ss h e =
     let g = lowered_ok n (fits sh true n) (partial.Number p (plain (signed true n))) q e in
-    subst (λ (x : Partial). Spelled sh x (ss ++ symbol.Number n ∷ [])) g.2 (h.0, symbol.Minus ∷ symbol.Number n ∷ [], IsValue.negative h.1 g.0 g.1, ending _ _ _ h.2 ∙ append_assoc (lead p) (symbol.Minus ∷ []) (symbol.Number n ∷ []))
+    subst (λ (x : Partial). Spelled sh x (ss ++ terminal.Number n ∷ [])) g.2 (h.0, terminal.Minus ∷ terminal.Number n ∷ [], IsValue.negative h.1 g.0 g.1, ending _ _ _ h.2 ∙ append_assoc (lead p) (terminal.Minus ∷ []) (terminal.Number n ∷ []))
 more sh (partial.Minus p) _ q ss h e = absurd cc
-more sh (partial.Name p n) symbol.Plus q ss h e =
+more sh (partial.Name p n) terminal.Plus q ss h e =
     let g = allowed_ok (takes_sums sh) (partial.Sign p n false) q e in
-    subst (λ (x : Partial). Spelled sh x (ss ++ symbol.Plus ∷ [])) g.1 (h.0, h.1, ending _ _ _ h.2 ∙ append_assoc (lead p) (symbol.Name n ∷ []) (symbol.Plus ∷ []), g.0)
-more sh (partial.Name p n) symbol.Minus q ss h e =
+    subst (λ (x : Partial). Spelled sh x (ss ++ terminal.Plus ∷ [])) g.1 (h.0, h.1, ending _ _ _ h.2 ∙ append_assoc (lead p) (terminal.Name n ∷ []) (terminal.Plus ∷ []), g.0)
+more sh (partial.Name p n) terminal.Minus q ss h e =
     let g = allowed_ok (takes_sums sh) (partial.Sign p n true) q e in
-    subst (λ (x : Partial). Spelled sh x (ss ++ symbol.Minus ∷ [])) g.1 (h.0, h.1, ending _ _ _ h.2 ∙ append_assoc (lead p) (symbol.Name n ∷ []) (symbol.Minus ∷ []), g.0)
-more sh (partial.Name p n) symbol.Open q ss h e = opens sh p (named n (pos 0)) (symbol.Name n ∷ []) ss q (IsValue.name h.1) h.2 e
+    subst (λ (x : Partial). Spelled sh x (ss ++ terminal.Minus ∷ [])) g.1 (h.0, h.1, ending _ _ _ h.2 ∙ append_assoc (lead p) (terminal.Name n ∷ []) (terminal.Minus ∷ []), g.0)
+more sh (partial.Name p n) terminal.Open q ss h e = opens sh p (named n (pos 0)) (terminal.Name n ∷ []) ss q (IsValue.name h.1) h.2 e
 more sh (partial.Name p n) _ q ss h e = absurd cc
-more sh (partial.Sign p n neg) symbol.Minus q ss h e =
-    subst (λ (x : Partial). Spelled sh x (ss ++ symbol.Minus ∷ [])) (ok_is (partial.SignMinus p n neg) q e) (h.0, h.1, ending _ _ _ h.2 ∙ append_assoc (lead p) (symbol.Name n ∷ sign neg ∷ []) (symbol.Minus ∷ []), h.3)
-more sh (partial.Sign p n neg) (symbol.Number k) q ss h e =
-    let v = offset_value sh p n neg (symbol.Number k ∷ []) (ss ++ symbol.Number k ∷ []) (signed neg k) h.1 h.3 IsConstant.bare (ending _ _ _ h.2 ∙ append_assoc (lead p) (symbol.Name n ∷ sign neg ∷ []) (symbol.Number k ∷ [])) in
-    subst (λ (x : Partial). Spelled sh x (ss ++ symbol.Number k ∷ [])) (ok_is (partial.Number p (named n (signed neg k))) q e) (h.0, v.0, v.1, v.2)
+more sh (partial.Sign p n neg) terminal.Minus q ss h e =
+    subst (λ (x : Partial). Spelled sh x (ss ++ terminal.Minus ∷ [])) (ok_is (partial.SignMinus p n neg) q e) (h.0, h.1, ending _ _ _ h.2 ∙ append_assoc (lead p) (terminal.Name n ∷ sign neg ∷ []) (terminal.Minus ∷ []), h.3)
+more sh (partial.Sign p n neg) (terminal.Number k) q ss h e =
+    let v = offset_value sh p n neg (terminal.Number k ∷ []) (ss ++ terminal.Number k ∷ []) (signed neg k) h.1 h.3 IsConstant.bare (ending _ _ _ h.2 ∙ append_assoc (lead p) (terminal.Name n ∷ sign neg ∷ []) (terminal.Number k ∷ [])) in
+    subst (λ (x : Partial). Spelled sh x (ss ++ terminal.Number k ∷ [])) (ok_is (partial.Number p (named n (signed neg k))) q e) (h.0, v.0, v.1, v.2)
 more sh (partial.Sign p n neg) _ q ss h e = absurd cc
-more sh (partial.SignMinus p n neg) (symbol.Number k) q ss h e =
+more sh (partial.SignMinus p n neg) (terminal.Number k) q ss h e =
     let g = lowered_ok k true (partial.Number p (named n (turned neg k))) q e in
-    let v = offset_value sh p n neg (symbol.Minus ∷ symbol.Number k ∷ []) (ss ++ symbol.Number k ∷ []) (turned neg k) h.1 h.3 (minus_constant neg k g.0) (ending _ _ _ h.2 ∙ append_assoc (lead p) (symbol.Name n ∷ sign neg ∷ symbol.Minus ∷ []) (symbol.Number k ∷ [])) in
-    subst (λ (x : Partial). Spelled sh x (ss ++ symbol.Number k ∷ [])) g.2 (h.0, v.0, v.1, v.2)
+    let v = offset_value sh p n neg (terminal.Minus ∷ terminal.Number k ∷ []) (ss ++ terminal.Number k ∷ []) (turned neg k) h.1 h.3 (minus_constant neg k g.0) (ending _ _ _ h.2 ∙ append_assoc (lead p) (terminal.Name n ∷ sign neg ∷ terminal.Minus ∷ []) (terminal.Number k ∷ [])) in
+    subst (λ (x : Partial). Spelled sh x (ss ++ terminal.Number k ∷ [])) g.2 (h.0, v.0, v.1, v.2)
 more sh (partial.SignMinus p n neg) _ q ss h e = absurd cc
-more sh (partial.Number p v) symbol.Open q ss h e = opens sh p v h.1 ss q h.2 h.3 e
+more sh (partial.Number p v) terminal.Open q ss h e = opens sh p v h.1 ss q h.2 h.3 e
 more sh (partial.Number p v) _ q ss h e = absurd cc
 more sh (partial.Whole f) _ q ss h e = absurd cc
 more sh (partial.Open v) s q ss h e = address_more sh (partial.Open v) s q ss h e
@@ -457,9 +457,9 @@ spelled_form sh _ f ss h e = absurd cc
 
 pub run_spelled : (sh : Shape) (ss rs : List Terminal) (p q : Partial) → Spelled sh p rs → operand_run sh p ss ≡ ok q → Spelled sh q (rs ++ ss)
 run_spelled sh [] rs p q h e = let g : p ≡ q = cc in subst (λ (x : Partial). Spelled sh x (rs ++ [])) g (rw (append-nil rs) h)
-run_spelled sh (s ∷ ss) rs p q h e = by_step (next_symbol sh p s) refl e (λ n g k. run_spelled sh ss (rs ++ s ∷ []) n q g k)
+run_spelled sh (s ∷ ss) rs p q h e = by_step (next_terminal sh p s) refl e (λ n g k. run_spelled sh ss (rs ++ s ∷ []) n q g k)
   where
-    by_step : (r : Result Partial SourceCause) → next_symbol sh p s ≡ r → ◌≡◌ {A = Result Partial SourceCause} (elim r [ Ok n ↦ operand_run sh n ss | Err c ↦ Err c ]) (Ok q)
+    by_step : (r : Result Partial SourceCause) → next_terminal sh p s ≡ r → ◌≡◌ {A = Result Partial SourceCause} (elim r [ Ok n ↦ operand_run sh n ss | Err c ↦ Err c ]) (Ok q)
         → ((n : Partial) → Spelled sh n (rs ++ s ∷ []) → operand_run sh n ss ≡ ok q → Spelled sh q ((rs ++ s ∷ []) ++ ss)) → Spelled sh q (rs ++ s ∷ ss)
     by_step (Ok n) f g ih = rw (← append_assoc rs (s ∷ []) ss) (ih n (more sh p s n rs h f) g)
     by_step (Err c) f g ih = absurd cc

@@ -1,4 +1,4 @@
 pub mod Escapes
-pub mod Symbols
+pub mod Terminals
 pub mod Operand
 pub mod Grammar

@@ -1,10 +1,10 @@
--- One argument, symbol by symbol.
+-- One argument, terminal by terminal.
 use Rattle.std.specs.Str.{bytes_eq}
 use Rattle.std.specs.Prelude.{codes, nat_le, ◌==◌, ◌||◌, ℕ, ℤ, pos, ◌-ℤ◌, Bool, true, false, List, Option, Some, None, Result, Ok, Err, if◌then◌else◌}
 use Rattle.asm_lex.specs.declared.fault.SourceCause.{SourceCause}
 use Rattle.asm_lex.specs.declared.fault.SourceCause.TheVariants as cause
-use Rattle.asm_argument.specs.declared.symbol.Terminal.{Terminal}
-use Rattle.asm_argument.specs.declared.symbol.Terminal.TheVariants as symbol
+use Rattle.asm_argument.specs.declared.terminal.Terminal.{Terminal}
+use Rattle.asm_argument.specs.declared.terminal.Terminal.TheVariants as terminal
 use Rattle.asm_argument.specs.declared.operand.Shape.{Shape}
 use Rattle.asm_argument.specs.declared.operand.Shape.TheVariants as shape
 use Rattle.asm_argument.specs.declared.operand.ValuePlace.{ValuePlace}
@@ -104,15 +104,15 @@ counted false fit p = Err cause.BadOperand
 counted true true p = Ok p
 counted true false p = Err cause.BadArgument
 
--- the first symbol of an argument
+-- the first terminal of an argument
 abbrev pub first : Shape → Terminal → Result Partial SourceCause
-first sh symbol.Percent = allowed (is_operand sh) partial.Percent
-first sh symbol.Dollar = allowed (is_operand sh) partial.Dollar
-first sh symbol.Open = allowed (is_operand sh) (partial.Open None)
-first sh symbol.Minus = allowed (takes_minus sh) (partial.Minus place.Memory)
-first sh (symbol.Number n) = counted (takes_numbers sh) (fits sh false n) (partial.Number place.Memory (plain (pos n)))
-first sh (symbol.Name n) = allowed (takes_names sh) (partial.Name place.Memory n)
-first sh (symbol.Text t) = allowed (takes_text sh) (partial.Whole (form.Text t))
+first sh terminal.Percent = allowed (is_operand sh) partial.Percent
+first sh terminal.Dollar = allowed (is_operand sh) partial.Dollar
+first sh terminal.Open = allowed (is_operand sh) (partial.Open None)
+first sh terminal.Minus = allowed (takes_minus sh) (partial.Minus place.Memory)
+first sh (terminal.Number n) = counted (takes_numbers sh) (fits sh false n) (partial.Number place.Memory (plain (pos n)))
+first sh (terminal.Name n) = allowed (takes_names sh) (partial.Name place.Memory n)
+first sh (terminal.Text t) = allowed (takes_text sh) (partial.Whole (form.Text t))
 first sh _ = Err cause.BadOperand
 
 abbrev pub is_low : ℕ → Bool
@@ -169,48 +169,48 @@ open_paren sh place.Immediate v = Err cause.BadOperand
 
 -- within parentheses
 abbrev pub address_step : Partial → Terminal → Result Partial SourceCause
-address_step (partial.Open v) symbol.Percent = Ok (partial.BasePercent v)
-address_step (partial.Open v) symbol.Comma = Ok (partial.IndexComma v None)
-address_step (partial.BasePercent v) (symbol.Name r) = registered (is_register r) (partial.Base v r)
+address_step (partial.Open v) terminal.Percent = Ok (partial.BasePercent v)
+address_step (partial.Open v) terminal.Comma = Ok (partial.IndexComma v None)
+address_step (partial.BasePercent v) (terminal.Name r) = registered (is_register r) (partial.Base v r)
 address_step (partial.BasePercent v) _ = Err cause.BadRegister
-address_step (partial.Base v b) symbol.Close = Ok (partial.Whole (of_memory v (Some b) None 1))
-address_step (partial.Base v b) symbol.Comma = Ok (partial.IndexComma v (Some b))
-address_step (partial.IndexComma v b) symbol.Percent = Ok (partial.IndexPercent v b)
-address_step (partial.IndexPercent v b) (symbol.Name r) = registered (is_register r) (partial.Index v b r)
+address_step (partial.Base v b) terminal.Close = Ok (partial.Whole (of_memory v (Some b) None 1))
+address_step (partial.Base v b) terminal.Comma = Ok (partial.IndexComma v (Some b))
+address_step (partial.IndexComma v b) terminal.Percent = Ok (partial.IndexPercent v b)
+address_step (partial.IndexPercent v b) (terminal.Name r) = registered (is_register r) (partial.Index v b r)
 address_step (partial.IndexPercent v b) _ = Err cause.BadRegister
-address_step (partial.Index v b i) symbol.Close = Ok (partial.Whole (of_memory v b (Some i) 1))
-address_step (partial.Index v b i) symbol.Comma = Ok (partial.Scale v b i)
-address_step (partial.Scale v b i) (symbol.Number n) = if is_scale n then Ok (partial.Scaled v b i n) else Err cause.BadScale
-address_step (partial.Scaled v b i s) symbol.Close = Ok (partial.Whole (of_memory v b (Some i) s))
+address_step (partial.Index v b i) terminal.Close = Ok (partial.Whole (of_memory v b (Some i) 1))
+address_step (partial.Index v b i) terminal.Comma = Ok (partial.Scale v b i)
+address_step (partial.Scale v b i) (terminal.Number n) = if is_scale n then Ok (partial.Scaled v b i n) else Err cause.BadScale
+address_step (partial.Scaled v b i s) terminal.Close = Ok (partial.Whole (of_memory v b (Some i) s))
 address_step _ _ = Err cause.BadOperand
 
-abbrev pub next_symbol : Shape → Partial → Terminal → Result Partial SourceCause
-next_symbol sh partial.Nothing s = first sh s
-next_symbol sh partial.Absent s = first sh s
-next_symbol sh partial.Percent (symbol.Name r) = registered (is_register r) (partial.Whole (form.Register r))
-next_symbol sh partial.Percent _ = Err cause.BadRegister
-next_symbol sh partial.Dollar symbol.Minus = Ok (partial.Minus place.Immediate)
-next_symbol sh partial.Dollar (symbol.Number n) = Ok (partial.Number place.Immediate (plain (pos n)))
-next_symbol sh partial.Dollar (symbol.Name n) = Ok (partial.Name place.Immediate n)
-next_symbol sh partial.Dollar _ = Err cause.BadOperand
-next_symbol sh (partial.Minus p) (symbol.Number n) = lowered n (fits sh true n) (partial.Number p (plain (signed true n)))
-next_symbol sh (partial.Minus p) _ = Err cause.BadOperand
-next_symbol sh (partial.Name p n) symbol.Plus = allowed (takes_sums sh) (partial.Sign p n false)
-next_symbol sh (partial.Name p n) symbol.Minus = allowed (takes_sums sh) (partial.Sign p n true)
-next_symbol sh (partial.Name p n) symbol.Open = open_paren sh p (named n (pos 0))
-next_symbol sh (partial.Name p n) _ = Err cause.BadOperand
-next_symbol sh (partial.Sign p n neg) symbol.Minus = Ok (partial.SignMinus p n neg)
-next_symbol sh (partial.Sign p n neg) (symbol.Number k) = Ok (partial.Number p (named n (signed neg k)))
-next_symbol sh (partial.Sign p n neg) _ = Err cause.BadOperand
-next_symbol sh (partial.SignMinus p n neg) (symbol.Number k) = lowered k true (partial.Number p (named n (turned neg k)))
-next_symbol sh (partial.SignMinus p n neg) _ = Err cause.BadOperand
-next_symbol sh (partial.Number p v) symbol.Open = open_paren sh p v
-next_symbol sh (partial.Number p v) _ = Err cause.BadOperand
-next_symbol sh rest s = address_step rest s
+abbrev pub next_terminal : Shape → Partial → Terminal → Result Partial SourceCause
+next_terminal sh partial.Nothing s = first sh s
+next_terminal sh partial.Absent s = first sh s
+next_terminal sh partial.Percent (terminal.Name r) = registered (is_register r) (partial.Whole (form.Register r))
+next_terminal sh partial.Percent _ = Err cause.BadRegister
+next_terminal sh partial.Dollar terminal.Minus = Ok (partial.Minus place.Immediate)
+next_terminal sh partial.Dollar (terminal.Number n) = Ok (partial.Number place.Immediate (plain (pos n)))
+next_terminal sh partial.Dollar (terminal.Name n) = Ok (partial.Name place.Immediate n)
+next_terminal sh partial.Dollar _ = Err cause.BadOperand
+next_terminal sh (partial.Minus p) (terminal.Number n) = lowered n (fits sh true n) (partial.Number p (plain (signed true n)))
+next_terminal sh (partial.Minus p) _ = Err cause.BadOperand
+next_terminal sh (partial.Name p n) terminal.Plus = allowed (takes_sums sh) (partial.Sign p n false)
+next_terminal sh (partial.Name p n) terminal.Minus = allowed (takes_sums sh) (partial.Sign p n true)
+next_terminal sh (partial.Name p n) terminal.Open = open_paren sh p (named n (pos 0))
+next_terminal sh (partial.Name p n) _ = Err cause.BadOperand
+next_terminal sh (partial.Sign p n neg) terminal.Minus = Ok (partial.SignMinus p n neg)
+next_terminal sh (partial.Sign p n neg) (terminal.Number k) = Ok (partial.Number p (named n (signed neg k)))
+next_terminal sh (partial.Sign p n neg) _ = Err cause.BadOperand
+next_terminal sh (partial.SignMinus p n neg) (terminal.Number k) = lowered k true (partial.Number p (named n (turned neg k)))
+next_terminal sh (partial.SignMinus p n neg) _ = Err cause.BadOperand
+next_terminal sh (partial.Number p v) terminal.Open = open_paren sh p v
+next_terminal sh (partial.Number p v) _ = Err cause.BadOperand
+next_terminal sh rest s = address_step rest s
 
 abbrev pub operand_step : Shape → Partial → Terminal → Result Partial SourceCause
-operand_step sh p symbol.Big = Err cause.BadNumber
-operand_step sh p s = next_symbol sh p s
+operand_step sh p terminal.Big = Err cause.BadNumber
+operand_step sh p s = next_terminal sh p s
 
 -- the form that has been read, where it may end here
 abbrev pub finished : Partial → Option Form
@@ -233,7 +233,7 @@ abbrev pub is_nothing : Partial → Bool
 is_nothing partial.Nothing = true
 is_nothing _ = false
 
--- whether no symbol of the argument has been read
+-- whether no terminal of the argument has been read
 abbrev pub is_unbegun : Partial → Bool
 is_unbegun partial.Nothing = true
 is_unbegun partial.Absent = true

@@ -1,4 +1,4 @@
-//! The base, index and scale of an argument, symbol by symbol.
+//! The base, index and scale of an argument, terminal by terminal.
 
 ghost use Rattle.std.specs.Prelude.{◌≡◌};
 ghost use Rattle.asm_argument.specs.declared.operand.Partial.TheVariants as partial;
@@ -6,7 +6,7 @@ ghost use Rattle.asm_argument.specs.Operand as spec;
 
 use crate::operand::{Partial, discard, of_memory, registered};
 use crate::register::is_register;
-use crate::symbol::Terminal;
+use crate::terminal::Terminal;
 use asm_lex::SourceCause;
 use asm_source::{Name, Value};
 
@@ -16,22 +16,22 @@ fn is_scale(n: u32) -> bool
     n == 1 || n == 2 || n == 4 || n == 8
 }
 
-/// A symbol behind an opening parenthesis.
-fn open_step(value: Option<Value>, symbol: Terminal) -> Result<Partial, SourceCause>
-    ensures { result ≡ spec.address_step (partial.Open value) symbol }
+/// A terminal behind an opening parenthesis.
+fn open_step(value: Option<Value>, terminal: Terminal) -> Result<Partial, SourceCause>
+    ensures { result ≡ spec.address_step (partial.Open value) terminal }
 {
-    match symbol {
+    match terminal {
         Terminal::Percent => Ok(Partial::BasePercent(value)),
         Terminal::Comma => Ok(Partial::IndexComma(value, None)),
         _ => Err(SourceCause::BadOperand),
     }
 }
 
-/// A symbol behind the `%` of a base.
-fn base_percent_step(value: Option<Value>, symbol: Terminal) -> Result<Partial, SourceCause>
-    ensures { result ≡ spec.address_step (partial.BasePercent value) symbol }
+/// A terminal behind the `%` of a base.
+fn base_percent_step(value: Option<Value>, terminal: Terminal) -> Result<Partial, SourceCause>
+    ensures { result ≡ spec.address_step (partial.BasePercent value) terminal }
 {
-    match symbol {
+    match terminal {
         Terminal::Name(name) => {
             let is = is_register(&name);
             registered(is, Partial::Base(value, name))
@@ -40,40 +40,40 @@ fn base_percent_step(value: Option<Value>, symbol: Terminal) -> Result<Partial, 
     }
 }
 
-/// A symbol behind a base.
-fn base_step(value: Option<Value>, base: Name, symbol: Terminal) -> Result<Partial, SourceCause>
-    ensures { result ≡ spec.address_step (partial.Base value base) symbol }
+/// A terminal behind a base.
+fn base_step(value: Option<Value>, base: Name, terminal: Terminal) -> Result<Partial, SourceCause>
+    ensures { result ≡ spec.address_step (partial.Base value base) terminal }
 {
-    match symbol {
+    match terminal {
         Terminal::Close => Ok(Partial::Whole(of_memory(value, Some(base), None, 1))),
         Terminal::Comma => Ok(Partial::IndexComma(value, Some(base))),
         _ => Err(SourceCause::BadOperand),
     }
 }
 
-/// A symbol behind the comma of an index.
+/// A terminal behind the comma of an index.
 fn index_comma_step(
     value: Option<Value>,
     base: Option<Name>,
-    symbol: Terminal,
+    terminal: Terminal,
 ) -> Result<Partial, SourceCause>
-    ensures { result ≡ spec.address_step (partial.IndexComma value base) symbol }
+    ensures { result ≡ spec.address_step (partial.IndexComma value base) terminal }
 {
-    match symbol {
+    match terminal {
         Terminal::Percent => Ok(Partial::IndexPercent(value, base)),
         _ => Err(SourceCause::BadOperand),
     }
 }
 
-/// A symbol behind the `%` of an index.
+/// A terminal behind the `%` of an index.
 fn index_percent_step(
     value: Option<Value>,
     base: Option<Name>,
-    symbol: Terminal,
+    terminal: Terminal,
 ) -> Result<Partial, SourceCause>
-    ensures { result ≡ spec.address_step (partial.IndexPercent value base) symbol }
+    ensures { result ≡ spec.address_step (partial.IndexPercent value base) terminal }
 {
-    match symbol {
+    match terminal {
         Terminal::Name(name) => {
             let is = is_register(&name);
             registered(is, Partial::Index(value, base, name))
@@ -82,32 +82,32 @@ fn index_percent_step(
     }
 }
 
-/// A symbol behind an index.
+/// A terminal behind an index.
 fn index_step(
     value: Option<Value>,
     base: Option<Name>,
     index: Name,
-    symbol: Terminal,
+    terminal: Terminal,
 ) -> Result<Partial, SourceCause>
-    ensures { result ≡ spec.address_step (partial.Index value base index) symbol }
+    ensures { result ≡ spec.address_step (partial.Index value base index) terminal }
 {
-    match symbol {
+    match terminal {
         Terminal::Close => Ok(Partial::Whole(of_memory(value, base, Some(index), 1))),
         Terminal::Comma => Ok(Partial::Scale(value, base, index)),
         _ => Err(SourceCause::BadOperand),
     }
 }
 
-/// A symbol behind the comma of a scale.
+/// A terminal behind the comma of a scale.
 fn scale_step(
     value: Option<Value>,
     base: Option<Name>,
     index: Name,
-    symbol: Terminal,
+    terminal: Terminal,
 ) -> Result<Partial, SourceCause>
-    ensures { result ≡ spec.address_step (partial.Scale value base index) symbol }
+    ensures { result ≡ spec.address_step (partial.Scale value base index) terminal }
 {
-    match symbol {
+    match terminal {
         Terminal::Number(n) => {
             if is_scale(n) {
                 Ok(Partial::Scaled(value, base, index, n as u8))
@@ -119,36 +119,36 @@ fn scale_step(
     }
 }
 
-/// A symbol behind a scale.
+/// A terminal behind a scale.
 fn scaled_step(
     value: Option<Value>,
     base: Option<Name>,
     index: Name,
     scale: u8,
-    symbol: Terminal,
+    terminal: Terminal,
 ) -> Result<Partial, SourceCause>
-    ensures { result ≡ spec.address_step (partial.Scaled value base index scale) symbol }
+    ensures { result ≡ spec.address_step (partial.Scaled value base index scale) terminal }
 {
-    match symbol {
+    match terminal {
         Terminal::Close => Ok(Partial::Whole(of_memory(value, base, Some(index), scale))),
         _ => Err(SourceCause::BadOperand),
     }
 }
 
-/// The next symbol within parentheses.
-pub fn address_step(so_far: Partial, symbol: Terminal) -> Result<Partial, SourceCause>
-    ensures { result ≡ spec.address_step so_far symbol }
+/// The next terminal within parentheses.
+pub fn address_step(so_far: Partial, terminal: Terminal) -> Result<Partial, SourceCause>
+    ensures { result ≡ spec.address_step so_far terminal }
 {
     match so_far {
-        Partial::Open(value) => open_step(value, symbol),
-        Partial::BasePercent(value) => base_percent_step(value, symbol),
-        Partial::Base(value, base) => base_step(value, base, symbol),
-        Partial::IndexComma(value, base) => index_comma_step(value, base, symbol),
-        Partial::IndexPercent(value, base) => index_percent_step(value, base, symbol),
-        Partial::Index(value, base, index) => index_step(value, base, index, symbol),
-        Partial::Scale(value, base, index) => scale_step(value, base, index, symbol),
+        Partial::Open(value) => open_step(value, terminal),
+        Partial::BasePercent(value) => base_percent_step(value, terminal),
+        Partial::Base(value, base) => base_step(value, base, terminal),
+        Partial::IndexComma(value, base) => index_comma_step(value, base, terminal),
+        Partial::IndexPercent(value, base) => index_percent_step(value, base, terminal),
+        Partial::Index(value, base, index) => index_step(value, base, index, terminal),
+        Partial::Scale(value, base, index) => scale_step(value, base, index, terminal),
         Partial::Scaled(value, base, index, scale) => {
-            scaled_step(value, base, index, scale, symbol)
+            scaled_step(value, base, index, scale, terminal)
         }
         other => {
             discard(other);

@@ -1,4 +1,4 @@
-//! Symbols of an assembler's source, and the arguments that they make.
+//! Terminals of an assembler's source, and the arguments that they make.
 #![tactic(auto)]
 
 mod address;
@@ -6,7 +6,7 @@ mod escapes;
 mod number;
 mod operand;
 mod register;
-mod symbol;
+mod terminal;
 
 pub use escapes::{Escape, Unescaped};
 pub use operand::{
@@ -14,4 +14,4 @@ pub use operand::{
     is_unbegun, name_in, operand_step,
 };
 pub use register::is_register;
-pub use symbol::{Terminal, symbol_of};
+pub use terminal::{Terminal, terminal_of};

@@ -1,7 +1,7 @@
 //! What a number says.
 
 ghost use Rattle.std.specs.Prelude.{◌≡◌, ◌≤◌, ◌^◌, Some, None, if◌then◌else◌, nat_lt};
-ghost use Rattle.asm_argument.specs.Symbols as spec;
+ghost use Rattle.asm_argument.specs.Terminals as spec;
 
 fn digit_of(b: u8) -> u8
     ensures { result ≡ spec.digit_of b }

@@ -1,4 +1,4 @@
-//! One argument, symbol by symbol.
+//! One argument, terminal by terminal.
 
 ghost use Rattle.std.specs.Prelude.{◌≡◌};
 ghost use Rattle.std.specs.Option.{option_copied};
@@ -6,7 +6,7 @@ ghost use Rattle.asm_argument.specs.Operand as spec;
 
 use crate::address::address_step;
 use crate::register::is_register;
-use crate::symbol::Terminal;
+use crate::terminal::Terminal;
 use asm_lex::SourceCause;
 use asm_source::{Form, Name, Value};
 
@@ -190,7 +190,7 @@ impl Shape {
     }
 }
 
-/// The symbol where it may stand, or a fault.
+/// The terminal where it may stand, or a fault.
 fn allowed(may: bool, then: Partial) -> Result<Partial, SourceCause>
     ensures { result ≡ spec.allowed may then }
 {
@@ -235,11 +235,11 @@ fn counted(may: bool, fits: bool, then: Partial) -> Result<Partial, SourceCause>
     }
 }
 
-/// The first symbol of an argument.
-fn first(shape: Shape, symbol: Terminal) -> Result<Partial, SourceCause>
-    ensures { result ≡ spec.first shape symbol }
+/// The first terminal of an argument.
+fn first(shape: Shape, terminal: Terminal) -> Result<Partial, SourceCause>
+    ensures { result ≡ spec.first shape terminal }
 {
-    match symbol {
+    match terminal {
         Terminal::Percent => allowed(shape.is_operand(), Partial::Percent),
         Terminal::Dollar => allowed(shape.is_operand(), Partial::Dollar),
         Terminal::Open => allowed(shape.is_operand(), Partial::Open(None)),
@@ -289,29 +289,33 @@ pub fn registered(is: bool, then: Partial) -> Result<Partial, SourceCause>
     }
 }
 
-/// The next symbol of an argument.
-pub fn operand_step(shape: Shape, so_far: Partial, symbol: Terminal) -> Result<Partial, SourceCause>
-    ensures { result ≡ spec.operand_step shape so_far symbol }
+/// The next terminal of an argument.
+pub fn operand_step(
+    shape: Shape,
+    so_far: Partial,
+    terminal: Terminal,
+) -> Result<Partial, SourceCause>
+    ensures { result ≡ spec.operand_step shape so_far terminal }
 {
-    if let Terminal::Big = symbol {
+    if let Terminal::Big = terminal {
         return Err(SourceCause::BadNumber);
     }
     match so_far {
-        Partial::Nothing | Partial::Absent => first(shape, symbol),
-        Partial::Percent => match symbol {
+        Partial::Nothing | Partial::Absent => first(shape, terminal),
+        Partial::Percent => match terminal {
             Terminal::Name(name) => {
                 let is = is_register(&name);
                 registered(is, Partial::Whole(Form::Register(name)))
             }
             _ => Err(SourceCause::BadRegister),
         },
-        Partial::Dollar => match symbol {
+        Partial::Dollar => match terminal {
             Terminal::Minus => Ok(Partial::Minus(ValuePlace::Immediate)),
             Terminal::Number(n) => Ok(Partial::Number(ValuePlace::Immediate, plain(i64::from(n)))),
             Terminal::Name(name) => Ok(Partial::Name(ValuePlace::Immediate, name)),
             _ => Err(SourceCause::BadOperand),
         },
-        Partial::Minus(place) => match symbol {
+        Partial::Minus(place) => match terminal {
             Terminal::Number(n) => lowered(
                 n,
                 shape.fits(true, n),
@@ -319,18 +323,18 @@ pub fn operand_step(shape: Shape, so_far: Partial, symbol: Terminal) -> Result<P
             ),
             _ => Err(SourceCause::BadOperand),
         },
-        Partial::Name(place, name) => match symbol {
+        Partial::Name(place, name) => match terminal {
             Terminal::Plus => allowed(shape.takes_sums(), Partial::Sign(place, name, false)),
             Terminal::Minus => allowed(shape.takes_sums(), Partial::Sign(place, name, true)),
             Terminal::Open => open(shape, place, named(name, 0)),
             _ => Err(SourceCause::BadOperand),
         },
-        Partial::Sign(place, name, negative) => match symbol {
+        Partial::Sign(place, name, negative) => match terminal {
             Terminal::Minus => Ok(Partial::SignMinus(place, name, negative)),
             Terminal::Number(n) => Ok(Partial::Number(place, named(name, signed(negative, n)))),
             _ => Err(SourceCause::BadOperand),
         },
-        Partial::SignMinus(place, name, negative) => match symbol {
+        Partial::SignMinus(place, name, negative) => match terminal {
             Terminal::Number(n) => lowered(
                 n,
                 true,
@@ -338,11 +342,11 @@ pub fn operand_step(shape: Shape, so_far: Partial, symbol: Terminal) -> Result<P
             ),
             _ => Err(SourceCause::BadOperand),
         },
-        Partial::Number(place, value) => match symbol {
+        Partial::Number(place, value) => match terminal {
             Terminal::Open => open(shape, place, value),
             _ => Err(SourceCause::BadOperand),
         },
-        rest => address_step(rest, symbol),
+        rest => address_step(rest, terminal),
     }
 }
 
@@ -396,7 +400,7 @@ pub fn is_nothing(so_far: &Partial) -> bool
     }
 }
 
-/// Whether no symbol of the argument has been read.
+/// Whether no terminal of the argument has been read.
 pub fn is_unbegun(so_far: &Partial) -> bool
     ensures { result ≡ spec.is_unbegun so_far.now }
 {

@@ -1,6 +1,7 @@
 -- Each draft has numbers within their bounds, and is relative exactly where it is a direct branch to a symbol: arithmetic.
 use Rattle.std.proofs.Common.{◌≡◌, ℕ, ◌^◌, ◌<◌, Bool, true, false, List, Option, Some, None, refl, sym, ap, ◌∙◌, arith}
 use Rattle.std.specs.Prelude.{ℤ, ◌==◌, ◌&&◌, not, nat_lt, if◌then◌else◌}
+use Rattle.std.specs.Option.{option_or}
 use Rattle.ia32_types.specs.declared.insn.Op.{Op}
 use Rattle.ia32_types.specs.declared.insn.Op.TheVariants as op
 use Rattle.ia32_types.specs.declared.size.Size.{Size}
@@ -25,7 +26,7 @@ use Rattle.asm_instruction.specs.declared.draft.Pair.{Pair}
 use Rattle.asm_instruction.specs.declared.draft.Pair.TheVariants as pair
 use Rattle.asm_instruction.specs.declared.mnemonic.Family.{Family}
 use Rattle.asm_instruction.specs.declared.mnemonic.Family.TheVariants as family
-use Rattle.asm_instruction.specs.Names.{or_else, ◌>>=◌}
+use Rattle.asm_instruction.specs.Names.{◌>>=◌}
 use Rattle.asm_instruction.specs.Field.{field}
 use Rattle.asm_instruction.specs.Argument.{names_symbol}
 use Rattle.asm_instruction.specs.Sizes.{agreed}
@@ -49,7 +50,7 @@ pub bind_any : {A B : Type 0} (R : B → Type 0) (o : Option A) (f : A → Optio
 bind_any R None f k = tt
 bind_any R (Some a) f k = k a
 
-pub either : {A : Type 0} (R : A → Type 0) (a b : Option A) → When R a → When R b → When R (or_else a b)
+pub either : {A : Type 0} (R : A → Type 0) (a b : Option A) → When R a → When R b → When R (option_or a b)
 either R (Some a) b p q = p
 either R None b p q = q
 

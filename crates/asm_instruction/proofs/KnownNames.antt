@@ -1,6 +1,7 @@
 -- The names of instructions: what is found for a name is what the tables say that it means.
 use Rattle.std.proofs.Common.{◌≡◌, ℕ, ◌+◌, ◌-◌, ◌++◌, Bool, true, false, List, [], ◌∷◌, Option, Some, None, length, refl, sym, ap, subst, ◌∙◌, arith}
 use Rattle.std.specs.Prelude.{codes, ◌==◌, ◌&&◌, All, take, slice_index, if◌then◌else◌}
+use Rattle.std.specs.Option.{option_or}
 use Rattle.std.specs.List.{Contains}
 use Rattle.std.specs.Str.{bytes_eq}
 use Rattle.std.proofs.lemmas.Bool.{eqb-true}
@@ -15,7 +16,7 @@ use Rattle.asm_instruction.specs.declared.control.Control.TheVariants as control
 use Rattle.asm_instruction.specs.declared.mnemonic.Family.{Family}
 use Rattle.asm_instruction.specs.declared.mnemonic.Family.TheVariants as family
 use Rattle.asm_instruction.specs.declared.mnemonic.Mnemonic.{Mnemonic}
-use Rattle.asm_instruction.specs.Names.{Table, found, or_else}
+use Rattle.asm_instruction.specs.Names.{Table, found}
 use Rattle.asm_instruction.specs.Arithmetic.{two_operand_names, one_operand_names}
 use Rattle.asm_instruction.specs.Shift.{shift_names}
 use Rattle.asm_instruction.specs.Moves.{move_names, extend_names}
@@ -70,7 +71,7 @@ each_at P xs x h c = All-contains P xs x (each_is P xs h) c
 
 -- ---- what is found has the name
 
-exact_listed : (name : List ℕ) → When (Lists exact_names name) (or_else (exact_instruction name) (or_else (found page_names name) (found control_names name)))
+exact_listed : (name : List ℕ) → When (Lists exact_names name) (option_or (exact_instruction name) (option_or (found page_names name) (found control_names name)))
 unfolding exact_names exact_instruction
 exact_listed name =
     either (Lists exact_names name) _ _
@@ -144,7 +145,7 @@ conditional_named (c ∷ rest) =
     (λ h. jump_named (c ∷ rest) rest (ap (λ (n : ℕ). n ∷ rest) (eqb-true c 106 h))) (behind_named (c ∷ rest))
 
 -- in either order of the bindings
-regroup : {A : Type 0} (R : A → Type 0) (x y z : Option A) → When R (or_else x y) → When R z → When R (or_else x (or_else y z))
+regroup : {A : Type 0} (R : A → Type 0) (x y z : Option A) → When R (option_or x y) → When R z → When R (option_or x (option_or y z))
 regroup R (Some a) y z p q = p
 regroup R None (Some b) z p q = p
 regroup R None None z p q = q
@@ -152,7 +153,7 @@ regroup R None None z p q = q
 exact_named : (name : List ℕ) → When (IsBare name) (exact_name name)
 unfolding exact_name
 exact_named name =
-    regroup (IsBare name) (exact_instruction name) (or_else (found page_names name) (found control_names name)) (conditional_name name)
+    regroup (IsBare name) (exact_instruction name) (option_or (found page_names name) (found control_names name)) (conditional_name name)
     (weaken (Lists exact_names name) (IsBare name) _ (λ f c. IsName.exact c) (exact_listed name))
     (conditional_named name)
 
@@ -189,7 +190,7 @@ without_named name None p h q = q
 
 known_when : (name : List ℕ) → When (IsName name) (known_name name)
 unfolding known_name
-known_when name = without_named name (or_else (exact_name name) (sized_name name)) (with_suffix name) (either (IsBare name) (exact_name name) (sized_name name) (exact_named name) (sized_named name)) (with_suffix_named name)
+known_when name = without_named name (option_or (exact_name name) (sized_name name)) (with_suffix name) (either (IsBare name) (exact_name name) (sized_name name) (exact_named name) (sized_named name)) (with_suffix_named name)
 
 pub known_named : (name : List ℕ) (m : Mnemonic) → known_name name ≡ Some m → IsName name m
 known_named name m e = subst (When (IsName name)) e (known_when name)

@@ -1,6 +1,7 @@
 -- What is known of the operands that arguments give, and of the instructions that names mean.
 use Rattle.std.proofs.Common.{◌≡◌, ℕ, ◌-◌, ◌<◌, Bool, true, false, List, [], ◌∷◌, Option, Some, None, length, refl, sym, ap, ◌∙◌}
 use Rattle.std.specs.Prelude.{◌==◌, ◌&&◌, nat_lt, is_none, slice_get, slice_index, take}
+use Rattle.std.specs.Option.{option_or}
 use Rattle.std.specs.Str.{bytes_eq}
 use Rattle.std.proofs.lemmas.Bool.{ltb-true, lt-ltb}
 use Rattle.ia32_types.specs.declared.register.Reg.{Reg}
@@ -16,7 +17,7 @@ use Rattle.asm_instruction.specs.declared.argument.Given.{Given}
 use Rattle.asm_instruction.specs.declared.argument.Given.TheVariants as given
 use Rattle.asm_instruction.specs.declared.mnemonic.Family.{Family}
 use Rattle.asm_instruction.specs.declared.mnemonic.Mnemonic.{Mnemonic}
-use Rattle.asm_instruction.specs.Names.{Table, found, or_else}
+use Rattle.asm_instruction.specs.Names.{Table, found}
 use Rattle.asm_instruction.specs.Field.{field}
 use Rattle.asm_instruction.specs.Register.{long_registers, word_registers, byte_registers, segment_registers, control_registers}
 use Rattle.asm_instruction.specs.Argument.{general_register, special_register, named_register, displacement, address_register, is_dx, address, memory_operand, given_by, single, starred, unstarred, operands_of, is_named, argument_named, names_symbol}
@@ -194,4 +195,4 @@ without_good None p h q = q
 
 pub known_good : (name : List ℕ) → When MnemonicGood (known_name name)
 unfolding known_name
-known_good name = without_good (or_else (exact_name name) (sized_name name)) (with_suffix name) (either FamilyGood (exact_name name) (sized_name name) (exact_good name) (sized_good name)) (with_suffix_good name)
+known_good name = without_good (option_or (exact_name name) (sized_name name)) (with_suffix name) (either FamilyGood (exact_name name) (sized_name name) (exact_good name) (sized_good name)) (with_suffix_good name)

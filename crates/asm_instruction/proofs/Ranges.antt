@@ -1,6 +1,7 @@
 -- The numbers of what a statement means fit their fields exactly where those of its operands do.
 use Rattle.std.proofs.Common.{◌≡◌, ℕ, ◌++◌, Bool, true, false, List, [], ◌∷◌, Option, Some, None, refl, sym, ap, subst, ◌∙◌, arith}
 use Rattle.std.specs.Prelude.{ℤ, ◌==◌, ◌&&◌, All}
+use Rattle.std.specs.Option.{option_or}
 use Rattle.std.specs.List.{Contains}
 use Rattle.std.proofs.lemmas.List.Elements.{All-nil, All-cons, All-contains, Contains-append_right}
 use Rattle.ia32_types.specs.declared.register.Seg.{Seg}
@@ -33,7 +34,6 @@ use Rattle.asm_instruction.specs.declared.draft.Pair.TheVariants as pair
 use Rattle.asm_instruction.specs.declared.mnemonic.Family.{Family}
 use Rattle.asm_instruction.specs.declared.mnemonic.Family.TheVariants as family
 use Rattle.asm_instruction.specs.declared.mnemonic.Mnemonic.{Mnemonic}
-use Rattle.asm_instruction.specs.Names.{or_else}
 use Rattle.asm_instruction.specs.Field.{fits_field}
 use Rattle.asm_instruction.specs.Sizes.{agreed}
 use Rattle.asm_instruction.specs.Draft.{nothing, of_operand, register_operand, memory, register_or_memory, said, paired, displaced, fits_displacement, instruction, with_number, unary, alone}
@@ -74,7 +74,7 @@ one_more xs s z = ap (λ (b : Bool). all_fit xs && b) (and_true (fits_field s z)
 none_more : (xs : Numbers) → all_fit xs ≡ all_fit (xs ++ [])
 none_more xs = and_true (all_fit xs) ∙ sym (all_append xs [])
 
-or_none : (o : Option Number) → or_else o None ≡ o
+or_none : (o : Option Number) → option_or o None ≡ o
 or_none (Some n) = refl
 or_none None = refl
 
@@ -102,7 +102,7 @@ rom_fit (given.Control n) = tt
 rom_fit (given.Immediate n) = tt
 rom_fit given.Port = tt
 
-first_fit : (g : Given) (x : NumberedOperand) (z : Size) → PlaceFit g x → fits_displacement (or_else x.displacement None) ≡ all_fit (numbers_in z g)
+first_fit : (g : Given) (x : NumberedOperand) (z : Size) → PlaceFit g x → fits_displacement (option_or x.displacement None) ≡ all_fit (numbers_in z g)
 first_fit g x z h = ap fits_displacement (or_none x.displacement) ∙ h z
 
 abbrev One : (Size → Size) → Given → Size → Numbers
@@ -274,7 +274,7 @@ special_fit ns o f g a b h = bind_any (FitTo ns) (agreed f (said g) (Some size.L
 abbrev Into : Given → Size → Numbers
 Into g z = numbers_in z g ++ []
 
-into_place_fit : (g : Given) (x : NumberedOperand) → PlaceFit g x → (z : Size) → fits_displacement (or_else x.displacement None) ≡ all_fit (Into g z)
+into_place_fit : (g : Given) (x : NumberedOperand) → PlaceFit g x → (z : Size) → fits_displacement (option_or x.displacement None) ≡ all_fit (Into g z)
 into_place_fit g x h z = first_fit g x z h ∙ none_more (numbers_in z g)
 
 from_segment_fit : (f : Option Size) (r : Seg) (g : Given) → When (FitTo (Into g)) (from_segment f r g)

@@ -1,5 +1,6 @@
 -- What the arguments of a statement say.
 use Rattle.std.specs.Prelude.{codes, ℕ, pos, ◌&&◌, Bool, true, false, List, [], ◌∷◌, Option, Some, None, is_some, is_none, slice_get, if◌then◌else◌}
+use Rattle.std.specs.Option.{option_or}
 use Rattle.std.specs.Str.{bytes_eq}
 use Rattle.ia32_types.specs.declared.register.Reg.{Reg}
 use Rattle.ia32_types.specs.Register.{number_of}
@@ -14,7 +15,7 @@ use Rattle.asm_instruction.specs.declared.argument.Given.{Given}
 use Rattle.asm_instruction.specs.declared.argument.Given.TheVariants as given
 use Rattle.asm_instruction.specs.declared.argument.Operands.{Operands}
 use Rattle.asm_instruction.specs.declared.argument.Operands.TheVariants as operands
-use Rattle.asm_instruction.specs.Names.{found, or_else, ◌>>=◌}
+use Rattle.asm_instruction.specs.Names.{found, ◌>>=◌}
 use Rattle.asm_instruction.specs.Register.{long_registers, word_registers, byte_registers, segment_registers, control_registers}
 use Rattle.asm_instruction.specs.Field.{field}
 
@@ -22,17 +23,17 @@ use Rattle.asm_instruction.specs.Field.{field}
 
 abbrev pub general_register : List ℕ → Option Given
 general_register name =
-    or_else (found long_registers name >>= λ r. Some (given.Register size.Long (number_of r)))
-    (or_else (found word_registers name >>= λ n. Some (given.Register size.Word n))
+    option_or (found long_registers name >>= λ r. Some (given.Register size.Long (number_of r)))
+    (option_or (found word_registers name >>= λ n. Some (given.Register size.Word n))
     (found byte_registers name >>= λ n. Some (given.Register size.Byte n)))
 
 abbrev pub special_register : List ℕ → Option Given
 special_register name =
-    or_else (found segment_registers name >>= λ s. Some (given.Segment s))
+    option_or (found segment_registers name >>= λ s. Some (given.Segment s))
     (found control_registers name >>= λ n. Some (given.Control n))
 
 unfoldable pub named_register : List ℕ → Option Given
-named_register name = or_else (general_register name) (special_register name)
+named_register name = option_or (general_register name) (special_register name)
 
 -- ---- numbers and memory; k is the number of the argument
 

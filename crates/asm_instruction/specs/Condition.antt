@@ -1,6 +1,7 @@
 -- The conditions and their numbers (SDM volume 2, appendix B.1.4.7).
 use Rattle.std.specs.Prelude.{codes, ℕ, List, [], ◌∷◌, Option}
-use Rattle.asm_instruction.specs.Names.{Table, found, or_else}
+use Rattle.std.specs.Option.{option_or}
+use Rattle.asm_instruction.specs.Names.{Table, found}
 
 unfoldable pub lower_conditions : Table ℕ
 lower_conditions =
@@ -13,4 +14,4 @@ upper_conditions =
     (codes "ge", 13) ∷ (codes "nl", 13) ∷ (codes "le", 14) ∷ (codes "ng", 14) ∷ (codes "g", 15) ∷ (codes "nle", 15) ∷ []
 
 unfoldable pub condition : List ℕ → Option ℕ
-condition name = or_else (found lower_conditions name) (found upper_conditions name)
+condition name = option_or (found lower_conditions name) (found upper_conditions name)

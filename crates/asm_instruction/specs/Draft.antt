@@ -1,5 +1,6 @@
 -- An instruction that is put together from its operands.
 use Rattle.std.specs.Prelude.{ℕ, ◌&&◌, Bool, true, false, Option, Some, None}
+use Rattle.std.specs.Option.{option_or}
 use Rattle.ia32_types.specs.declared.insn.Op.{Op}
 use Rattle.ia32_types.specs.declared.insn.Operand.{Operand}
 use Rattle.ia32_types.specs.declared.insn.Operand.TheVariants as operand
@@ -13,7 +14,7 @@ use Rattle.asm_instruction.specs.declared.draft.NumberedOperand.{NumberedOperand
 use Rattle.asm_instruction.specs.declared.draft.Pair.{Pair}
 use Rattle.asm_instruction.specs.declared.draft.Pair.TheVariants as pair
 use Rattle.asm_instruction.specs.declared.draft.Draft.{Draft}
-use Rattle.asm_instruction.specs.Names.{or_else, ◌>>=◌}
+use Rattle.asm_instruction.specs.Names.{◌>>=◌}
 use Rattle.asm_instruction.specs.Field.{field, fits_field}
 
 -- ---- operands
@@ -61,7 +62,7 @@ paired _ destination = None
 -- ---- instructions
 
 abbrev pub displaced : NumberedOperand → NumberedOperand → Option Number
-displaced a b = or_else a.displacement b.displacement
+displaced a b = option_or a.displacement b.displacement
 
 abbrev pub argument : Option Number → Option ℕ
 argument (Some n) = Some n.argument

@@ -1,5 +1,6 @@
 -- The names of instructions, and what they mean with their operands.
 use Rattle.std.specs.Prelude.{ℕ, ◌-◌, ◌==◌, Bool, true, false, List, length, take, slice_index, Option, Some, None, if◌then◌else◌}
+use Rattle.std.specs.Option.{option_or}
 use Rattle.ia32_types.specs.declared.size.Size.{Size}
 use Rattle.ia32_types.specs.declared.size.Size.TheVariants as size
 use Rattle.asm_instruction.specs.declared.argument.Operands.{Operands}
@@ -7,7 +8,7 @@ use Rattle.asm_instruction.specs.declared.draft.Draft.{Draft}
 use Rattle.asm_instruction.specs.declared.mnemonic.Family.{Family}
 use Rattle.asm_instruction.specs.declared.mnemonic.Family.TheVariants as family
 use Rattle.asm_instruction.specs.declared.mnemonic.Mnemonic.{Mnemonic}
-use Rattle.asm_instruction.specs.Names.{found, or_else, ◌>>=◌}
+use Rattle.asm_instruction.specs.Names.{found, ◌>>=◌}
 use Rattle.asm_instruction.specs.Arithmetic.{two_operand_names, one_operand_names, arithmetic_draft}
 use Rattle.asm_instruction.specs.Shift.{shift_names, shift_draft}
 use Rattle.asm_instruction.specs.Moves.{move_names, extend_names, move_draft}
@@ -17,21 +18,18 @@ use Rattle.asm_instruction.specs.Strings.{string_names, string_draft}
 use Rattle.asm_instruction.specs.Flags.{plain_names, plain_draft}
 use Rattle.asm_instruction.specs.System.{system_names, page_names, system_draft}
 
-abbrev pub or_family : Option Family → Option Family → Option Family
-or_family = or_else
-
 unfoldable pub exact_instruction : List ℕ → Option Family
-exact_instruction name = or_family (or_family (found plain_names name) (found frame_names name)) (or_family (found extend_names name) (found string_names name))
+exact_instruction name = option_or (option_or (found plain_names name) (found frame_names name)) (option_or (found extend_names name) (found string_names name))
 
 -- a name that stands as it is
 unfoldable pub exact_name : List ℕ → Option Family
-exact_name name = or_family (exact_instruction name) (or_family (or_family (found page_names name) (found control_names name)) (conditional_name name))
+exact_name name = option_or (exact_instruction name) (option_or (option_or (found page_names name) (found control_names name)) (conditional_name name))
 
 -- a name that may have a suffix
 unfoldable pub sized_name : List ℕ → Option Family
 sized_name name =
-    or_family (or_family (or_family (found two_operand_names name) (found one_operand_names name)) (or_family (found shift_names name) (found move_names name)))
-    (or_family (or_family (found stack_names name) (found branch_names name)) (found system_names name))
+    option_or (option_or (option_or (found two_operand_names name) (found one_operand_names name)) (option_or (found shift_names name) (found move_names name)))
+    (option_or (option_or (found stack_names name) (found branch_names name)) (found system_names name))
 
 -- b, w or l
 abbrev pub suffix : ℕ → Option Size
@@ -52,7 +50,7 @@ without_suffix (Some f) others = Some (record { family = f; suffix = None })
 without_suffix None others = others
 
 unfoldable pub known_name : List ℕ → Option Mnemonic
-known_name name = without_suffix (or_family (exact_name name) (sized_name name)) (with_suffix name)
+known_name name = without_suffix (option_or (exact_name name) (sized_name name)) (with_suffix name)
 
 -- ---- what it means with its operands
 

@@ -10,11 +10,6 @@ abbrev pub found : {A : Type 0} → Table A → List ℕ → Option A
 found [] name = None
 found (entry ∷ table) name = if bytes_eq name entry.0 then Some entry.1 else found table name
 
--- the first of two answers that is there
-abbrev pub or_else : {A : Type 0} → Option A → Option A → Option A
-or_else (Some a) b = Some a
-or_else None b = b
-
 infixl 10 ◌>>=◌
 abbrev pub ◌>>=◌ : {A B : Type 0} → Option A → (A → Option B) → Option B
 (Some a) >>= f = f a

@@ -3,12 +3,11 @@
 ghost use Rattle.std.specs.Prelude.{◌≡◌, List, ℕ, option_copied};
 ghost use Rattle.asm_instruction.specs.Argument as spec;
 
-use crate::bytes::is_text;
-use crate::field::{field, fits_field};
+use crate::fields::{field, fits_field};
 use crate::register::{
     byte_register, control_register, long_register, segment_register, word_register,
 };
-use asm_source::{Argument, Form, Name, Value};
+use asm_source::{Argument, Form, Name, Value, is_text};
 use ia32_types::{Address, Reg, Seg, Size};
 
 /// A number as it is written, and whether a symbol's address is added to it.
@@ -84,10 +83,7 @@ fn special_register(name: &[u8]) -> Option<Given>
 fn named_register(name: &Name) -> Option<Given>
     ensures { result ≡ spec.named_register name.now }
 {
-    match general_register(&name.bytes) {
-        Some(given) => Some(given),
-        None => special_register(&name.bytes),
-    }
+    general_register(&name.bytes).or(special_register(&name.bytes))
 }
 
 fn number_in(value: &Value, argument: u8) -> Number

@@ -5,12 +5,14 @@ ghost use Rattle.asm_instruction.specs.Names.{found};
 ghost use Rattle.asm_instruction.specs.Arithmetic as spec;
 
 use crate::argument::{Given, Number, Operands};
-use crate::bytes::{found, is_text};
+use crate::bytes::found;
 use crate::draft::{
-    Draft, Pair, instruction, paired, register_operand, register_or_memory, said, unary, with_number,
+    Draft, Pair, instruction, paired, register_operand, register_or_memory, said, unary,
+    with_number,
 };
 use crate::mnemonic::Family;
 use crate::sizes::agreed;
+use asm_source::is_text;
 use ia32_types::{Op, Size};
 
 /// The kinds of arithmetic instructions, by the operands that they take.

@@ -4,7 +4,8 @@ ghost use Rattle.std.specs.Prelude.{◌≡◌};
 ghost use Rattle.asm_instruction.specs.Names.{found};
 ghost use Rattle.asm_instruction.specs.Condition as spec;
 
-use crate::bytes::{found, is_text};
+use crate::bytes::found;
+use asm_source::is_text;
 
 #[tactic(auto, unfolding(crate::specs::Condition::lower_conditions))]
 fn lower_condition(name: &[u8]) -> Option<u8>
@@ -57,8 +58,5 @@ fn upper_condition(name: &[u8]) -> Option<u8>
 pub fn condition(name: &[u8]) -> Option<u8>
     ensures { result ≡ spec.condition name.now }
 {
-    match lower_condition(name) {
-        Some(number) => Some(number),
-        None => upper_condition(name),
-    }
+    lower_condition(name).or(upper_condition(name))
 }

@@ -6,12 +6,13 @@ ghost use Rattle.asm_instruction.specs.Control as spec;
 
 use crate::argument::{Given, Memory, Number, Operands};
 use crate::arithmetic::one;
-use crate::bytes::{found, is_text};
+use crate::bytes::found;
 use crate::condition::condition;
 use crate::draft::{Draft, alone, register_or_memory, said, unary, with_number};
-use crate::field::{field, fits_field};
+use crate::fields::{field, fits_field};
 use crate::mnemonic::Family;
 use crate::sizes::agreed;
+use asm_source::is_text;
 use ia32_types::{Insn, Op, Size};
 
 /// The kinds of instructions that go elsewhere, and SETcc.

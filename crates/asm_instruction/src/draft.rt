@@ -4,7 +4,7 @@ ghost use Rattle.std.specs.Prelude.{◌≡◌};
 ghost use Rattle.asm_instruction.specs.Draft as spec;
 
 use crate::argument::{Given, Memory, Number};
-use crate::field::{field, fits_field};
+use crate::fields::{field, fits_field};
 use ia32_types::{Insn, Op, Operand, Size};
 
 /// An operand of an instruction, and the number that it takes.
@@ -128,10 +128,7 @@ pub fn paired(source: Given, destination: Given) -> Option<Pair>
 fn displaced(a: NumberedOperand, b: NumberedOperand) -> Option<Number>
     ensures { result ≡ spec.displaced a b }
 {
-    match a.displacement {
-        Some(number) => Some(number),
-        None => b.displacement,
-    }
+    a.displacement.or(b.displacement)
 }
 
 fn argument(number: Option<Number>) -> Option<u8>

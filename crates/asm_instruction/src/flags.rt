@@ -5,10 +5,11 @@ ghost use Rattle.asm_instruction.specs.Names.{found};
 ghost use Rattle.asm_instruction.specs.Flags as spec;
 
 use crate::argument::Operands;
-use crate::bytes::{found, is_text};
+use crate::bytes::found;
 use crate::draft::{Draft, alone};
 use crate::mnemonic::Family;
 use crate::sizes::agreed;
+use asm_source::is_text;
 use ia32_types::{Op, Size};
 
 /// The names of instructions without operands that have no suffix.

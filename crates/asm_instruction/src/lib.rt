@@ -9,7 +9,7 @@ mod bytes;
 mod condition;
 mod control;
 mod draft;
-mod field;
+mod fields;
 mod flags;
 mod laws;
 mod mnemonic;
@@ -24,4 +24,5 @@ mod system;
 
 pub use assembled::{Assembled, Named, Refusal};
 pub use assembling::assemble;
+pub use fields::{field, fits_field};
 pub use laws::{answers, refusals_have_their_conditions};

@@ -36,23 +36,13 @@ pub struct Mnemonic {
     pub suffix: Option<Size>,
 }
 
-fn or_family(a: Option<Family>, b: Option<Family>) -> Option<Family>
-    ensures { result ≡ spec.or_family a b }
-{
-    match a {
-        Some(family) => Some(family),
-        None => b,
-    }
-}
-
 #[tactic(auto, unfolding(crate::specs::Mnemonic::exact_instruction))]
 fn exact_instruction(name: &[u8]) -> Option<Family>
     ensures { result ≡ spec.exact_instruction name.now }
 {
-    or_family(
-        or_family(plain_name(name), frame_name(name)),
-        or_family(extend_name(name), string_name(name)),
-    )
+    plain_name(name)
+        .or(frame_name(name))
+        .or(extend_name(name).or(string_name(name)))
 }
 
 /// A name that stands as it is.
@@ -60,12 +50,10 @@ fn exact_instruction(name: &[u8]) -> Option<Family>
 fn exact_name(name: &[u8]) -> Option<Family>
     ensures { result ≡ spec.exact_name name.now }
 {
-    or_family(
-        exact_instruction(name),
-        or_family(
-            or_family(page_name(name), control_name(name)),
-            conditional_name(name),
-        ),
+    exact_instruction(name).or(
+        page_name(name)
+            .or(control_name(name))
+            .or(conditional_name(name)),
     )
 }
 
@@ -74,16 +62,10 @@ fn exact_name(name: &[u8]) -> Option<Family>
 fn sized_name(name: &[u8]) -> Option<Family>
     ensures { result ≡ spec.sized_name name.now }
 {
-    or_family(
-        or_family(
-            or_family(two_operand_name(name), one_operand_name(name)),
-            or_family(shift_name(name), move_name(name)),
-        ),
-        or_family(
-            or_family(stack_name(name), branch_name(name)),
-            system_name(name),
-        ),
-    )
+    two_operand_name(name)
+        .or(one_operand_name(name))
+        .or(shift_name(name).or(move_name(name)))
+        .or(stack_name(name).or(branch_name(name)).or(system_name(name)))
 }
 
 fn suffix(letter: u8) -> Option<Size>
@@ -126,7 +108,7 @@ fn with_suffix(name: &[u8]) -> Option<Mnemonic>
 pub fn known_name(name: &[u8]) -> Option<Mnemonic>
     ensures { result ≡ spec.known_name name.now }
 {
-    match or_family(exact_name(name), sized_name(name)) {
+    match exact_name(name).or(sized_name(name)) {
         Some(family) => Some(Mnemonic {
             family,
             suffix: None,

@@ -6,13 +6,14 @@ ghost use Rattle.asm_instruction.specs.Moves as spec;
 
 use crate::argument::{Given, Operands};
 use crate::arithmetic::{memory_first, of_pair, to_register};
-use crate::bytes::{found, is_text};
+use crate::bytes::found;
 use crate::draft::{
-    Draft, NumberedOperand, Pair, instruction, of_operand, paired, register_operand, register_or_memory,
-    said,
+    Draft, NumberedOperand, Pair, instruction, of_operand, paired, register_operand,
+    register_or_memory, said,
 };
 use crate::mnemonic::Family;
 use crate::sizes::agreed;
+use asm_source::is_text;
 use ia32_types::{Op, Operand, Seg, Size};
 
 /// The kinds of moves, by the operands that they take.
@@ -151,7 +152,12 @@ fn extended(op: Op, size: Size, source: Given, destination: Given) -> Option<Dra
     let from = register_or_memory(source)?;
     let size = agreed(Some(size), said(source), None)?;
     match destination {
-        Given::Register(Size::Long, number) => Some(instruction(op, size, register_operand(number), from)),
+        Given::Register(Size::Long, number) => Some(instruction(
+            op,
+            size,
+            register_operand(number),
+            from,
+        )),
         _ => None,
     }
 }

@@ -4,7 +4,8 @@ ghost use Rattle.std.specs.Prelude.{◌≡◌};
 ghost use Rattle.asm_instruction.specs.Names.{found};
 ghost use Rattle.asm_instruction.specs.Refused as spec;
 
-use crate::bytes::{found, is_text};
+use crate::bytes::found;
+use asm_source::is_text;
 use ia32_types::Refused;
 
 #[tactic(auto, unfolding(crate::specs::Refused::refused_names))]

@@ -4,7 +4,8 @@ ghost use Rattle.std.specs.Prelude.{◌≡◌};
 ghost use Rattle.asm_instruction.specs.Names.{found};
 ghost use Rattle.asm_instruction.specs.Register.{long_registers, word_registers, byte_registers, segment_registers, control_registers};
 
-use crate::bytes::{found, is_text};
+use crate::bytes::found;
+use asm_source::is_text;
 use ia32_types::{Reg, Seg};
 
 /// A register of 32 bits.

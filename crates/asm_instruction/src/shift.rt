@@ -5,10 +5,13 @@ ghost use Rattle.asm_instruction.specs.Names.{found};
 ghost use Rattle.asm_instruction.specs.Shift as spec;
 
 use crate::argument::{Given, Number, Operands};
-use crate::bytes::{found, is_text};
-use crate::draft::{Draft, instruction, register_operand, register_or_memory, said, unary, with_number};
+use crate::bytes::found;
+use crate::draft::{
+    Draft, instruction, register_operand, register_or_memory, said, unary, with_number,
+};
 use crate::mnemonic::Family;
 use crate::sizes::agreed;
+use asm_source::is_text;
 use ia32_types::{Insn, Op, Size};
 
 /// The names of the shifts and rotations. SAL is another name of SHL.

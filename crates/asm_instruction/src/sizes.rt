@@ -1,7 +1,7 @@
 //! The size of an instruction's operands.
 
 ghost use Rattle.std.specs.Prelude.{◌≡◌};
-ghost use Rattle.asm_instruction.specs.Sizes.{goes_with, said_first, agreed};
+ghost use Rattle.asm_instruction.specs.Sizes.{goes_with, agreed};
 
 use ia32_types::Size;
 
@@ -14,21 +14,12 @@ fn goes_with(said: Option<Size>, size: Size) -> bool
     }
 }
 
-fn said_first(a: Option<Size>, b: Option<Size>) -> Option<Size>
-    ensures { result ≡ said_first a b }
-{
-    match a {
-        Some(size) => Some(size),
-        None => b,
-    }
-}
-
 /// The size that one of the three says, if none says another.
 #[tactic(auto, unfolding(crate::specs::Sizes::agreed))]
 pub fn agreed(a: Option<Size>, b: Option<Size>, c: Option<Size>) -> Option<Size>
     ensures { result ≡ agreed a b c }
 {
-    let size = said_first(a, said_first(b, c))?;
+    let size = a.or(b.or(c))?;
     if goes_with(a, size) && goes_with(b, size) && goes_with(c, size) {
         Some(size)
     } else {

@@ -5,12 +5,13 @@ ghost use Rattle.asm_instruction.specs.Names.{found};
 ghost use Rattle.asm_instruction.specs.Stack as spec;
 
 use crate::argument::{Given, Number, Operands};
-use crate::bytes::{found, is_text};
+use crate::bytes::found;
 use crate::draft::{
     Draft, NumberedOperand, alone, of_operand, register_or_memory, said, unary, with_number,
 };
 use crate::mnemonic::Family;
 use crate::sizes::agreed;
+use asm_source::is_text;
 use ia32_types::{Op, Operand, Seg, Size};
 
 /// The kinds of instructions that push and pop an operand.

@@ -5,9 +5,10 @@ ghost use Rattle.asm_instruction.specs.Names.{found};
 ghost use Rattle.asm_instruction.specs.Strings as spec;
 
 use crate::argument::Operands;
-use crate::bytes::{found, is_text};
+use crate::bytes::found;
 use crate::draft::{Draft, alone};
 use crate::mnemonic::Family;
+use asm_source::is_text;
 use ia32_types::{Insn, Op, Size};
 
 /// The names of the string instructions, with their sizes.

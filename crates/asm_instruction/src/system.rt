@@ -5,12 +5,14 @@ ghost use Rattle.asm_instruction.specs.Names.{found};
 ghost use Rattle.asm_instruction.specs.System as spec;
 
 use crate::argument::{Given, Operands};
-use crate::bytes::{found, is_text};
+use crate::bytes::found;
 use crate::draft::{
-    Draft, NOTHING, instruction, memory, register_operand, register_or_memory, said, unary, with_number,
+    Draft, NOTHING, instruction, memory, register_operand, register_or_memory, said, unary,
+    with_number,
 };
 use crate::mnemonic::Family;
 use crate::sizes::agreed;
+use asm_source::is_text;
 use ia32_types::{Insn, Op, Size};
 
 /// The kinds of system instructions, by the operands that they take.

@@ -1,6 +1,7 @@
 -- The tokens' scan gives the words' tokens, so what it gives are the tokens of the text.
 use Rattle.std.proofs.Common.{◌≡◌, ℕ, ◌+◌, ◌-◌, ◌≤◌, List, [], ◌∷◌, ◌++◌, length, take, drop, map, Option, Some, None, Result, Ok, Err, refl, sym, ap, subst, ◌∙◌, append_assoc, arith, Bool, true, false, cond, inl, inr}
 use Rattle.std.specs.Prelude.{IfOk}
+use Rattle.std.specs.Option.{option_to_list}
 use Rattle.std.specs.Global.{Vec}
 use Rattle.std.proofs.lemmas.List.{length-append, length-take, length-drop}
 use Rattle.asm_lex.specs.Bytes.{class_of, is_source, is_letter, is_word}
@@ -16,12 +17,12 @@ use Rattle.asm_lex.specs.declared.machine.Stepped.{Stepped}
 use Rattle.asm_lex.specs.Machine.{stepped, after, stops, is_whole, start_of}
 use Rattle.asm_lex.specs.Words.{Scan, scan, with_token, token_of, line_after}
 use Rattle.asm_lex.specs.declared.fault.SourceFault.TheVariants as fault
-use Rattle.asm_lex.specs.Tokens.{Tokens, listed, in_front, token_scan, is_block, LexesTo, AreTokens, LexedAs}
+use Rattle.asm_lex.specs.Tokens.{Tokens, in_front, token_scan, is_block, LexesTo, AreTokens, LexedAs}
 use Rattle.asm_lex.proofs.Stepping.{FitsIn, Starts, Sound, sound}
 use Rattle.asm_lex.proofs.Found.{found}
 use Rattle.asm_lex.proofs.Again.{again}
 
-token_words : (seen : List ℕ) (line n : ℕ) (t : Option Token) (s : Scan) → length seen ≡ n → FitsIn n t → map token_of (with_token seen line t s).words ≡ listed t ++ map token_of s.words
+token_words : (seen : List ℕ) (line n : ℕ) (t : Option Token) (s : Scan) → length seen ≡ n → FitsIn n t → map token_of (with_token seen line t s).words ≡ option_to_list t ++ map token_of s.words
 token_words seen line n None s e h = refl
 token_words seen line n (Some t) s e h =
     let len : length (take t.len (drop t.at seen)) ≡ t.len = omega (arith, length-take t.len (drop t.at seen), length-drop t.at seen) in
@@ -39,13 +40,13 @@ pub same : (bs : List ℕ) (m : Mode) (seen : List ℕ) (at line : ℕ) → leng
 same [] m seen at line e h = record { tokens = refl; ending = refl }
 same (b ∷ bs) m seen at line e h = from_next (stepped m at line b) (sound m at line b h) (λ n k. same bs n (seen ++ b ∷ []) (at + 1) (line_after line b) (omega (arith, length-append seen (b ∷ []))) k)
   where
-    joined : (s : Stepped) (r : Scan) (t : Tokens) → Sound at s → Same r t → Same (with_token (seen ++ b ∷ []) line s.first (with_token (seen ++ b ∷ []) line s.second r)) (in_front (listed s.first ++ listed s.second) t)
+    joined : (s : Stepped) (r : Scan) (t : Tokens) → Sound at s → Same r t → Same (with_token (seen ++ b ∷ []) line s.first (with_token (seen ++ b ∷ []) line s.second r)) (in_front (option_to_list s.first ++ option_to_list s.second) t)
     joined s r t sd q =
         let len : length (seen ++ b ∷ []) ≡ at + 1 = omega (arith, length-append seen (b ∷ [])) in
         record {
           tokens = token_words (seen ++ b ∷ []) line (at + 1) s.first (with_token (seen ++ b ∷ []) line s.second r) len sd.first
-              ∙ (ap (λ (x : List Token). listed s.first ++ x) (token_words (seen ++ b ∷ []) line (at + 1) s.second r len sd.second ∙ ap (λ (x : List Token). listed s.second ++ x) q.tokens)
-              ∙ sym (append_assoc (listed s.first) (listed s.second) t.tokens));
+              ∙ (ap (λ (x : List Token). option_to_list s.first ++ x) (token_words (seen ++ b ∷ []) line (at + 1) s.second r len sd.second ∙ ap (λ (x : List Token). option_to_list s.second ++ x) q.tokens)
+              ∙ sym (append_assoc (option_to_list s.first) (option_to_list s.second) t.tokens));
           ending = ending_same (seen ++ b ∷ []) line s.first (with_token (seen ++ b ∷ []) line s.second r) ∙ (ending_same (seen ++ b ∷ []) line s.second r ∙ q.ending);
         }
 
@@ -54,7 +55,7 @@ same (b ∷ bs) m seen at line e h = from_next (stepped m at line b) (sound m at
           | Goes n ↦ scan n (seen ++ b ∷ []) (at + 1) (line_after line b) bs
           | Stops l c ↦ record { words = []; ending = Stops l c }
         ])))
-        (in_front (listed s.first ++ listed s.second) (elim s.next [
+        (in_front (option_to_list s.first ++ option_to_list s.second) (elim s.next [
           | Goes n ↦ token_scan n (at + 1) (line_after line b) bs
           | Stops l c ↦ record { tokens = []; ending = Stops l c }
         ]))
@@ -64,7 +65,7 @@ same (b ∷ bs) m seen at line e h = from_next (stepped m at line b) (sound m at
           | Goes n ↦ scan n (seen ++ b ∷ []) (at + 1) (line_after line b) bs
           | Stops l c ↦ record { words = []; ending = Stops l c }
         ])))
-            (in_front (listed s.first ++ listed s.second) (elim s.next [
+            (in_front (option_to_list s.first ++ option_to_list s.second) (elim s.next [
               | Goes n ↦ token_scan n (at + 1) (line_after line b) bs
               | Stops l c ↦ record { tokens = []; ending = Stops l c }
             ]))

@@ -1,6 +1,7 @@
 //! The tokens of a source.
 
 ghost use Rattle.std.specs.Prelude.{◌≡◌, ◌<◌, ◌≤◌, ◌++◌, ◌∷◌, [], length, List, IfOk, OnOk};
+ghost use Rattle.std.specs.Option.{option_to_list};
 ghost use Rattle.asm_lex.specs.declared.token.Token.{Token};
 ghost use Rattle.std.specs.Prelude.{ℕ};
 ghost use Rattle.asm_lex.specs.declared.fault.SourceCause.{SourceCause as CauseView};
@@ -17,24 +18,21 @@ use crate::machine::{Mode, Next, step};
 use crate::token::Token;
 use std::alloc::{AllocError, Global};
 
-fn push(tokens: &mut Vec<Token>, token: Option<Token>) -> Result<(), AllocError>
-    ensures { OnOk result (tokens.new.items ≡ tokens.old.items ++ spec.listed token) }
+fn push<T: Drop>(list: &mut Vec<T>, item: Option<T>) -> Result<(), AllocError>
+    ensures { OnOk result (list.new.items ≡ list.old.items ++ option_to_list item) }
 {
-    if let Some(token) = token {
-        tokens.push(token)?;
+    if let Some(item) = item {
+        list.push(item)?;
     }
     Ok(())
 }
 
-fn push_both(
-    tokens: &mut Vec<Token>,
-    first: Option<Token>,
-    second: Option<Token>,
-) -> Result<(), AllocError>
-    ensures { OnOk result (tokens.new.items ≡ tokens.old.items ++ (spec.listed first ++ spec.listed second)) }
+/// Adds the items that are there, at most two.
+pub fn push_both<T: Drop>(list: &mut Vec<T>, first: Option<T>, second: Option<T>) -> Result<(), AllocError>
+    ensures { OnOk result (list.new.items ≡ list.old.items ++ (option_to_list first ++ option_to_list second)) }
 {
-    push(tokens, first)?;
-    push(tokens, second)?;
+    push(list, first)?;
+    push(list, second)?;
     Ok(())
 }
 

@@ -3,8 +3,8 @@ use Rattle.std.proofs.Common.{◌≡◌, ℕ, Bool, true, false, cond, List, [],
 use Rattle.std.specs.Prelude.{nat_lt}
 use Rattle.asm_lex.specs.declared.fault.SourceCause.{SourceCause}
 use Rattle.asm_lex.specs.declared.fault.SourceCause.TheVariants as cause
-use Rattle.asm_argument.specs.declared.symbol.Terminal.{Terminal}
-use Rattle.asm_argument.specs.declared.symbol.Terminal.TheVariants as symbol
+use Rattle.asm_argument.specs.declared.terminal.Terminal.{Terminal}
+use Rattle.asm_argument.specs.declared.terminal.Terminal.TheVariants as terminal
 use Rattle.asm_argument.specs.declared.operand.Shape.{Shape}
 use Rattle.asm_argument.specs.declared.operand.Partial.{Partial}
 use Rattle.asm_argument.specs.declared.operand.Partial.TheVariants as partial
@@ -27,7 +27,7 @@ use Rattle.asm_lex.specs.declared.machine.Next.{Next}
 use Rattle.asm_lex.specs.declared.machine.Next.TheVariants.{Goes, Stops}
 use Rattle.asm_lex.specs.declared.machine.Stepped.{Stepped}
 use Rattle.asm_lex.specs.Machine.{stepped, after, stops, is_whole}
-use Rattle.asm_argument.specs.Symbols.{symbol_of}
+use Rattle.asm_argument.specs.Terminals.{terminal_of}
 use Rattle.asm_parse.specs.Reading.{Fault, fed, placed, is_longer, ending_at, with_end, next_word}
 use Rattle.asm_lex.specs.Words.{Word, word_of}
 use Rattle.asm_lex.specs.Lines.{first_lines}
@@ -52,7 +52,7 @@ either true a b p q = p
 either false a b p q = q
 
 -- no argument goes on with the end
-pub no_end : (sh : Shape) (p : Partial) → (c : SourceCause) × (operand_step sh p symbol.End ≡ Err c)
+pub no_end : (sh : Shape) (p : Partial) → (c : SourceCause) × (operand_step sh p terminal.End ≡ Err c)
 no_end sh partial.Nothing = (_, refl)
 no_end sh partial.Absent = (_, refl)
 no_end sh partial.Percent = (_, refl)
@@ -72,7 +72,7 @@ no_end sh (partial.Scale v b i) = (_, refl)
 no_end sh (partial.Scaled v b i s) = (_, refl)
 no_end sh (partial.Whole f) = (_, refl)
 
-shape_ends : (sc : ScopeView) (o : Open) (s : Option Shape) → Ends (at_shape sc o symbol.End s)
+shape_ends : (sc : ScopeView) (o : Open) (s : Option Shape) → Ends (at_shape sc o terminal.End s)
 shape_ends sc o None = tt
 shape_ends sc o (Some sh) = rw (no_end sh o.so_far).1 tt
 
@@ -83,10 +83,10 @@ behind_ends : (sc : ScopeView) (e : Option (ℕ × Head × List Argument × Argu
 behind_ends sc None = tt
 behind_ends sc (Some e) = complete_ends sc e.0 e.1 (e.2 ++ e.3 ∷ [])
 
-argument_ends : (sc : ScopeView) (o : Open) → Ends (argument_step sc o symbol.End)
+argument_ends : (sc : ScopeView) (o : Open) → Ends (argument_step sc o terminal.End)
 argument_ends sc o = either (is_bare o) _ _ (complete_ends sc o.line o.head o.arguments) (either (is_finished o.so_far) _ _ (behind_ends sc (ended o)) (shape_ends sc o (shape_at o.head (length o.arguments))))
 
-directive_ends : (sc : ScopeView) (line : ℕ) (n : List ℕ) (d : Option Directive) → Ends (of_directive d sc line n symbol.End)
+directive_ends : (sc : ScopeView) (line : ℕ) (n : List ℕ) (d : Option Directive) → Ends (of_directive d sc line n terminal.End)
 directive_ends sc line n None = tt
 directive_ends sc line n (Some directive.Skipped) = refl
 directive_ends sc line n (Some directive.Section) = tt
@@ -102,7 +102,7 @@ directive_ends sc line n (Some directive.LocalCommon) = argument_ends sc (nothin
 directive_ends sc line n (Some directive.Common) = argument_ends sc (nothing_yet line (head.Directive directive.Common n))
 
 -- The end of a statement leaves nothing open.
-pub end_ends : (sc : ScopeView) (st : StatementState) (line : ℕ) → Ends (step sc st line symbol.End)
+pub end_ends : (sc : ScopeView) (st : StatementState) (line : ℕ) → Ends (step sc st line terminal.End)
 end_ends sc state.Start line = refl
 end_ends sc (state.Named b n) line = either (is_passed sc n) _ _ refl (either (is_dotted n) _ _ (directive_ends sc b n (directive_of n)) (either (is_rep n) _ _ tt (argument_ends sc (nothing_yet b (head.Instruction false n)))))
 end_ends sc state.Skip line = refl
@@ -155,10 +155,10 @@ with_ends e (Err c) h = tt
 
 end_word : (sc : ScopeView) (st : StatementState) (w : Word) → w.kind ≡ kind.End → Ends (next_word sc st w)
 end_word sc st w h =
-    let symbol : symbol_of w.kind w.bytes ≡ symbol.End = ap (λ (k : TokenKind). symbol_of k w.bytes) h in
+    let terminal : terminal_of w.kind w.bytes ≡ terminal.End = ap (λ (k : TokenKind). terminal_of k w.bytes) h in
     let none : is_longer st w.at w.kind w.bytes ≡ false = ap (λ (k : TokenKind). is_longer st w.at k w.bytes) h ∙ not_longer st w.at w.bytes in
-    let ends : Ends (next_step sc st w.line (symbol_of w.kind w.bytes)) = subst (λ (s : Terminal). Ends (next_step sc st w.line s)) (sym symbol) (end_ends sc st w.line) in
-    rw none (with_ends (w.at + length w.bytes) (next_step sc st w.line (symbol_of w.kind w.bytes)) ends)
+    let ends : Ends (next_step sc st w.line (terminal_of w.kind w.bytes)) = subst (λ (s : Terminal). Ends (next_step sc st w.line s)) (sym terminal) (end_ends sc st w.line) in
+    rw none (with_ends (w.at + length w.bytes) (next_step sc st w.line (terminal_of w.kind w.bytes)) ends)
 
 fed_end : (sc : ScopeView) (st : StatementState) (seen : List ℕ) (line : ℕ) (t : Option Token) (z : ScopeView × StatementState) → LastEnd (Goes mode.Between) t → fed sc st seen line t ≡ Ok z → z.1 ≡ state.Start
 fed_end sc st seen line None z h e = absurd h

@@ -12,18 +12,18 @@ use Rattle.asm_lex.specs.Words.{Word, Scan, scan}
 use Rattle.asm_lex.specs.Source.{IsToken, Lexed}
 use Rattle.asm_lex.proofs.Again.{again}
 use Rattle.asm_lex.proofs.Found.{found}
-use Rattle.asm_argument.specs.declared.symbol.Terminal.{Terminal}
+use Rattle.asm_argument.specs.declared.terminal.Terminal.{Terminal}
 use Rattle.asm_parse.specs.declared.state.StatementState.{StatementState}
 use Rattle.asm_parse.specs.declared.state.StatementState.TheVariants as state
 use Rattle.asm_parse.specs.ScopeView.{ScopeView}
 use Rattle.asm_parse.specs.Scope.{fresh}
 use Rattle.asm_parse.specs.Statement.{doom, fault_line}
-use Rattle.asm_argument.specs.Symbols.{number_value, mark_symbol, number_symbol, symbol_of}
+use Rattle.asm_argument.specs.Terminals.{number_value, mark_terminal, number_terminal, terminal_of}
 use Rattle.asm_parse.specs.Reading.{Fault, placed, next_word}
 use Rattle.asm_parse.specs.Running.{Running, one_byte_over, moved, one_byte, run, start}
 use Rattle.asm_parse.proofs.Words.{read_words}
 use Rattle.asm_parse.proofs.Scopes.{GoodIn, fresh_good}
-use Rattle.asm_parse.proofs.Quiet.{SymbolIs, NamedIs, StateIs, word_next}
+use Rattle.asm_parse.proofs.Quiet.{TerminalIs, NamedIs, StateIs, word_next}
 use Rattle.asm_parse.proofs.Lines.{IsRead, bind_ok, placed_goes}
 use Rattle.asm_lex.proofs.TextTokens.{IsClosed}
 use Rattle.asm_parse.proofs.Linking.{link, unlink}
@@ -33,19 +33,19 @@ use Rattle.asm_parse.proofs.Completing.{completed}
 
 -- ---- the names of words
 
-symbol_either : (t : Bool) (a b : Terminal) → SymbolIs IsName a → SymbolIs IsName b → SymbolIs IsName (cond t a b)
-symbol_either true a b p q = p
-symbol_either false a b p q = q
+terminal_either : (t : Bool) (a b : Terminal) → TerminalIs IsName a → TerminalIs IsName b → TerminalIs IsName (cond t a b)
+terminal_either true a b p q = p
+terminal_either false a b p q = q
 
-mark_is : (m : ℕ) → SymbolIs IsName (mark_symbol m)
+mark_is : (m : ℕ) → TerminalIs IsName (mark_terminal m)
 mark_is m =
-    symbol_either (m == 36) _ _ tt (symbol_either (m == 37) _ _ tt (symbol_either (m == 40) _ _ tt (symbol_either (m == 41) _ _ tt (symbol_either (m == 42) _ _ tt
-    (symbol_either (m == 43) _ _ tt (symbol_either (m == 44) _ _ tt (symbol_either (m == 45) _ _ tt (symbol_either (m == 58) _ _ tt tt))))))))
+    terminal_either (m == 36) _ _ tt (terminal_either (m == 37) _ _ tt (terminal_either (m == 40) _ _ tt (terminal_either (m == 41) _ _ tt (terminal_either (m == 42) _ _ tt
+    (terminal_either (m == 43) _ _ tt (terminal_either (m == 44) _ _ tt (terminal_either (m == 45) _ _ tt (terminal_either (m == 58) _ _ tt tt))))))))
 
-number_is : (n : ℕ) → SymbolIs IsName (number_symbol n)
-number_is n = symbol_either (nat_lt n (2 ^ 32)) _ _ tt tt
+number_is : (n : ℕ) → TerminalIs IsName (number_terminal n)
+number_is n = terminal_either (nat_lt n (2 ^ 32)) _ _ tt tt
 
-pub token_is : (k : TokenKind) (piece rest : List ℕ) → IsToken k piece rest → SymbolIs IsName (symbol_of k piece)
+pub token_is : (k : TokenKind) (piece rest : List ℕ) → IsToken k piece rest → TerminalIs IsName (terminal_of k piece)
 token_is k piece rest (IsToken.end h) = tt
 token_is k piece rest (IsToken.mark {b} h) = mark_is b
 token_is k piece rest (IsToken.name {b} {bs} h g f) = (h, g)
@@ -55,7 +55,7 @@ token_is k piece rest (IsToken.string h g) = tt
 
 abbrev pub AreNamed : List Word → Type 0
 AreNamed [] = Unit {0}
-AreNamed (w ∷ ws) = SymbolIs IsName (symbol_of w.kind w.bytes) × AreNamed ws
+AreNamed (w ∷ ws) = TerminalIs IsName (terminal_of w.kind w.bytes) × AreNamed ws
 
 lexed_named : {at line : ℕ} {text : List ℕ} {ws : List Word} → Lexed at line text ws → AreNamed ws
 lexed_named Lexed.none = tt

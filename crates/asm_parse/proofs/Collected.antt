@@ -6,17 +6,17 @@ use Rattle.std.proofs.lemmas.List.{append-nil}
 use Rattle.std.proofs.lemmas.Bool.{eqb-true}
 use Rattle.asm_lex.specs.declared.fault.SourceCause.TheVariants as cause
 use Rattle.asm_lex.specs.Words.{Word}
-use Rattle.asm_argument.specs.declared.symbol.Terminal.{Terminal}
-use Rattle.asm_argument.specs.declared.symbol.Terminal.TheVariants as symbol
+use Rattle.asm_argument.specs.declared.terminal.Terminal.{Terminal}
+use Rattle.asm_argument.specs.declared.terminal.Terminal.TheVariants as terminal
 use Rattle.asm_parse.specs.declared.state.StatementState.{StatementState}
 use Rattle.asm_parse.specs.declared.state.StatementState.TheVariants as state
 use Rattle.asm_parse.specs.ScopeView.{ScopeView}
 use Rattle.asm_parse.specs.Scope.{fresh}
-use Rattle.asm_argument.specs.Symbols.{symbol_of}
+use Rattle.asm_argument.specs.Terminals.{terminal_of}
 use Rattle.asm_parse.specs.Reading.{placed, is_part, ending_at, next_word}
 use Rattle.asm_parse.proofs.Words.{read_words}
 use Rattle.asm_parse.specs.Statement.{sectioned, next_step, fault_line}
-use Rattle.asm_parse.specs.Statements.{is_inner, are_flags, symbols, text_of, Touch, IsStatement, Statements}
+use Rattle.asm_parse.specs.Statements.{is_inner, are_flags, terminals, text_of, Touch, IsStatement, Statements}
 use Rattle.asm_parse.proofs.Stated.{is_naming, not_longer}
 use Rattle.asm_parse.proofs.Quiet.{WordGoes, word_goes, Answer}
 use Rattle.asm_parse.proofs.Lines.{bind_ok}
@@ -47,8 +47,8 @@ pub record InName (sc0 : ScopeView) (ws : List Word) (b : ℕ) (n m : List ℕ) 
   pub front : List ℕ
   pub whole : ws ≡ first ∷ second ∷ parts
   pub line : b ≡ first.line
-  pub named : symbol_of first.kind first.bytes ≡ symbol.Name n
-  pub behind : symbol_of second.kind second.bytes ≡ symbol.Name front
+  pub named : terminal_of first.kind first.bytes ≡ terminal.Name n
+  pub behind : terminal_of second.kind second.bytes ≡ terminal.Name front
   pub naming : IsNaming sc0 n front
   pub touch : Touch (second.at + length second.bytes) parts
   pub name : m ≡ front ++ text_of parts
@@ -56,9 +56,9 @@ pub record InName (sc0 : ScopeView) (ws : List Word) (b : ℕ) (n m : List ℕ) 
 
 -- a statement once these words have ended
 abbrev pub InFlags : ScopeView → List Word → ℕ → List ℕ → List ℕ → Type 0
-InFlags sc0 ws b n m = (rest : List Word) (ss : List Terminal) → symbols rest ≡ ss ++ symbol.End ∷ [] → list_all is_inner ss ≡ true → IsStatement sc0 (ws ++ rest) (sectioned sc0 b n m)
+InFlags sc0 ws b n m = (rest : List Word) (ss : List Terminal) → terminals rest ≡ ss ++ terminal.End ∷ [] → list_all is_inner ss ≡ true → IsStatement sc0 (ws ++ rest) (sectioned sc0 b n m)
 
-name_ends : (sc0 : ScopeView) (ws rest : List Word) (b : ℕ) (n m : List ℕ) (e : ℕ) (ss : List Terminal) → InName sc0 ws b n m e → symbols rest ≡ ss ++ symbol.End ∷ [] → are_flags ss ≡ true → IsStatement sc0 (ws ++ rest) (sectioned sc0 b n m)
+name_ends : (sc0 : ScopeView) (ws rest : List Word) (b : ℕ) (n m : List ℕ) (e : ℕ) (ss : List Terminal) → InName sc0 ws b n m e → terminals rest ≡ ss ++ terminal.End ∷ [] → are_flags ss ≡ true → IsStatement sc0 (ws ++ rest) (sectioned sc0 b n m)
 name_ends sc0 ws rest b n m e ss w end flags =
     let st = IsStatement.section {sc = sc0} {n = n} {m = w.front} w.first w.second w.parts rest ss w.named w.naming.passed w.naming.dotted w.naming.section w.behind w.naming.is w.touch end flags in
     let st2 : IsStatement sc0 (w.first ∷ w.second ∷ (w.parts ++ rest)) (sectioned sc0 b n m) = subst (IsStatement sc0 (w.first ∷ w.second ∷ (w.parts ++ rest))) (rw (w.line, w.name) refl) st in
@@ -85,15 +85,15 @@ abbrev pub HeldBy : ScopeView → StatementState → Word → List Word → Scop
 HeldBy sc0 state.Start w ps sc = IsStatement sc0 (w ∷ ps) sc
 HeldBy sc0 (state.Sectioned b n m e) w ps sc = (sc0 ≡ sc) × InName sc0 (w ∷ ps) b n m e
 HeldBy sc0 (state.Flags b n m) w ps sc = (sc0 ≡ sc) × InFlags sc0 (w ∷ ps) b n m
-HeldBy sc0 st w ps sc = Begun sc0 w.line st (symbols (w ∷ ps)) sc
+HeldBy sc0 st w ps sc = Begun sc0 w.line st (terminals (w ∷ ps)) sc
 
 abbrev pub Held : ScopeView → StatementState → List Word → ScopeView → Type 0
 Held sc0 st [] sc = (st ≡ state.Start) × (sc0 ≡ sc)
 Held sc0 st (w ∷ ps) sc = (st ≡ state.Start → ⊥) × HeldBy sc0 st w ps sc
 
-symbols_end : (ps : List Word) (w : Word) → symbols (ps ++ w ∷ []) ≡ symbols ps ++ symbol_of w.kind w.bytes ∷ []
-symbols_end [] w = refl
-symbols_end (p ∷ ps) w = ap (λ (x : List Terminal). symbol_of p.kind p.bytes ∷ x) (symbols_end ps w)
+terminals_end : (ps : List Word) (w : Word) → terminals (ps ++ w ∷ []) ≡ terminals ps ++ terminal_of w.kind w.bytes ∷ []
+terminals_end [] w = refl
+terminals_end (p ∷ ps) w = ap (λ (x : List Terminal). terminal_of p.kind p.bytes ∷ x) (terminals_end ps w)
 
 held_is : (sc0 : ScopeView) (w : Word) (ps : List Word) (x y : ScopeView × StatementState) → x ≡ y → HeldBy sc0 y.1 w ps y.0 → HeldBy sc0 x.1 w ps x.0
 held_is sc0 w ps x y e h = subst (λ (z : ScopeView × StatementState). HeldBy sc0 z.1 w ps z.0) (sym e) h
@@ -102,7 +102,7 @@ ok_state : (x y : ScopeView × StatementState) → ◌≡◌ {A = Answer} (Ok x)
 ok_state x y e = cc
 
 -- the first two words of a section's name
-first_name : (sc0 sc : ScopeView) (p : Word) (ps : List Word) (b e : ℕ) (n m : List ℕ) → ((v : Word) → ps ≡ v ∷ [] → e ≡ v.at + length v.bytes) → b ≡ p.line → symbols (p ∷ ps) ≡ symbol.Name n ∷ symbol.Name m ∷ [] → IsNaming sc0 n m → InName sc0 (p ∷ ps) b n m e
+first_name : (sc0 sc : ScopeView) (p : Word) (ps : List Word) (b e : ℕ) (n m : List ℕ) → ((v : Word) → ps ≡ v ∷ [] → e ≡ v.at + length v.bytes) → b ≡ p.line → terminals (p ∷ ps) ≡ terminal.Name n ∷ terminal.Name m ∷ [] → IsNaming sc0 n m → InName sc0 (p ∷ ps) b n m e
 first_name sc0 sc p [] b e n m last line is naming = absurd cc
 first_name sc0 sc p (v ∷ []) b e n m last line is naming = record {
   first = p;
@@ -120,8 +120,8 @@ first_name sc0 sc p (v ∷ []) b e n m last line is naming = record {
 }
 first_name sc0 sc p (v ∷ u ∷ ps) b e n m last line is naming = absurd cc
 
--- What the symbols have begun, the words have.
-begun_held : (sc0 sc : ScopeView) (st : StatementState) (p : Word) (ps : List Word) (e : ℕ) → ((v : Word) → ps ≡ v ∷ [] → e ≡ v.at + length v.bytes) → Begun sc0 p.line st (symbols (p ∷ ps)) sc → HeldBy sc0 (ending_at e st) p ps sc
+-- What the terminals have begun, the words have.
+begun_held : (sc0 sc : ScopeView) (st : StatementState) (p : Word) (ps : List Word) (e : ℕ) → ((v : Word) → ps ≡ v ∷ [] → e ≡ v.at + length v.bytes) → Begun sc0 p.line st (terminals (p ∷ ps)) sc → HeldBy sc0 (ending_at e st) p ps sc
 begun_held sc0 sc state.Start p ps e last b = IsStatement.plain p ps b
 begun_held sc0 sc (state.Named l n) p ps e last b = b
 begun_held sc0 sc state.Skip p ps e last b = b
@@ -136,42 +136,42 @@ last_word (p ∷ []) w v e = absurd cc
 last_word (p ∷ q ∷ ps) w v e = absurd cc
 
 -- a word more, where no section's name is open
-plain_more : (sc0 sc : ScopeView) (st : StatementState) (p : Word) (ps : List Word) (w : Word) (z : ScopeView × StatementState) → (st ≡ state.Start → ⊥) → is_naming st ≡ false → Begun sc0 p.line st (symbols (p ∷ ps)) sc → next_word sc st w ≡ Ok z → HeldBy sc0 z.1 p (ps ++ w ∷ []) z.0
+plain_more : (sc0 sc : ScopeView) (st : StatementState) (p : Word) (ps : List Word) (w : Word) (z : ScopeView × StatementState) → (st ≡ state.Start → ⊥) → is_naming st ≡ false → Begun sc0 p.line st (terminals (p ∷ ps)) sc → next_word sc st w ≡ Ok z → HeldBy sc0 z.1 p (ps ++ w ∷ []) z.0
 plain_more sc0 sc st p ps w z inside no_name b h = elim (word_goes sc st w z h) [
   | WordGoes.on t g ↦ absurd (both t (not_longer st w.at w.kind w.bytes no_name))
-  | WordGoes.as_symbol y t f g ↦
-      let s = symbol_of w.kind w.bytes in
-      let c : Begun sc0 p.line y.1 (symbols (p ∷ ps) ++ symbol_of w.kind w.bytes ∷ []) y.0 = next_begun sc0 sc p.line w.line st (symbols (p ∷ ps) ++ symbol_of w.kind w.bytes ∷ []) (symbol_of w.kind w.bytes) y (begun_more sc0 sc p.line w.line st (symbols (p ∷ ps)) (symbol_of w.kind w.bytes) y inside no_name b) f in
-      let d : Begun sc0 p.line y.1 (symbols (p ∷ (ps ++ w ∷ []))) y.0 = subst (λ (x : List Terminal). Begun sc0 p.line y.1 x y.0) (sym (symbols_end (p ∷ ps) w)) c in
+  | WordGoes.as_terminal y t f g ↦
+      let s = terminal_of w.kind w.bytes in
+      let c : Begun sc0 p.line y.1 (terminals (p ∷ ps) ++ terminal_of w.kind w.bytes ∷ []) y.0 = next_begun sc0 sc p.line w.line st (terminals (p ∷ ps) ++ terminal_of w.kind w.bytes ∷ []) (terminal_of w.kind w.bytes) y (begun_more sc0 sc p.line w.line st (terminals (p ∷ ps)) (terminal_of w.kind w.bytes) y inside no_name b) f in
+      let d : Begun sc0 p.line y.1 (terminals (p ∷ (ps ++ w ∷ []))) y.0 = subst (λ (x : List Terminal). Begun sc0 p.line y.1 x y.0) (sym (terminals_end (p ∷ ps) w)) c in
       held_is sc0 p (ps ++ w ∷ []) z (y.0, ending_at (w.at + length w.bytes) y.1) g (begun_held sc0 y.0 y.1 p (ps ++ w ∷ []) (w.at + length w.bytes) (last_word ps w) d)
 ]
   where
     both : {t : Bool} → t ≡ true → t ≡ false → ⊥
     both e f = absurd cc
 
--- a symbol behind a section's name
-name_symbol : (sc0 sc : ScopeView) (b : ℕ) (n m : List ℕ) (e : ℕ) (p : Word) (ps : List Word) (w : Word) (y : ScopeView × StatementState) → sc0 ≡ sc → InName sc0 (p ∷ ps) b n m e → (s : Terminal) → symbol_of w.kind w.bytes ≡ s
+-- a terminal behind a section's name
+name_terminal : (sc0 sc : ScopeView) (b : ℕ) (n m : List ℕ) (e : ℕ) (p : Word) (ps : List Word) (w : Word) (y : ScopeView × StatementState) → sc0 ≡ sc → InName sc0 (p ∷ ps) b n m e → (s : Terminal) → terminal_of w.kind w.bytes ≡ s
     → next_step sc (state.Sectioned b n m e) w.line s ≡ Ok y → HeldBy sc0 (ending_at (w.at + length w.bytes) y.1) p (ps ++ w ∷ []) y.0
-name_symbol sc0 sc b n m e p ps w y same g symbol.End is h =
+name_terminal sc0 sc b n m e p ps w y same g terminal.End is h =
     let k : (sectioned sc b n m, state.Start) ≡ y = cc in
     let st : IsStatement sc0 (p ∷ (ps ++ w ∷ [])) (sectioned sc b n m) = subst (λ (x : ScopeView). IsStatement sc0 (p ∷ (ps ++ w ∷ [])) (sectioned x b n m)) same (name_ends sc0 (p ∷ ps) (w ∷ []) b n m e [] g (ap (λ (x : Terminal). x ∷ []) is) refl) in
     subst (λ (z : ScopeView × StatementState). HeldBy sc0 (ending_at (w.at + length w.bytes) z.1) p (ps ++ w ∷ []) z.0) k st
-name_symbol sc0 sc b n m e p ps w y same g symbol.Comma is h =
+name_terminal sc0 sc b n m e p ps w y same g terminal.Comma is h =
     let k : (sc, state.Flags b n m) ≡ y = cc in
     let st : InFlags sc0 (p ∷ (ps ++ w ∷ [])) b n m =
-    λ rest ss end inner. subst (λ (x : List Word). IsStatement sc0 (p ∷ x) (sectioned sc0 b n m)) (sym (append_assoc ps (w ∷ []) rest)) (name_ends sc0 (p ∷ ps) (w ∷ rest) b n m e (symbol.Comma ∷ ss) g (rw (is, end) refl) inner) in
+    λ rest ss end inner. subst (λ (x : List Word). IsStatement sc0 (p ∷ x) (sectioned sc0 b n m)) (sym (append_assoc ps (w ∷ []) rest)) (name_ends sc0 (p ∷ ps) (w ∷ rest) b n m e (terminal.Comma ∷ ss) g (rw (is, end) refl) inner) in
     subst (λ (z : ScopeView × StatementState). HeldBy sc0 (ending_at (w.at + length w.bytes) z.1) p (ps ++ w ∷ []) z.0) k (same, st)
-name_symbol sc0 sc b n m e p ps w y same g symbol.Percent is h =
+name_terminal sc0 sc b n m e p ps w y same g terminal.Percent is h =
     let k : (fresh, state.Stray w.line cause.BadOperand) ≡ y = cc in
     subst (λ (z : ScopeView × StatementState). HeldBy sc0 (ending_at (w.at + length w.bytes) z.1) p (ps ++ w ∷ []) z.0) k tt
-name_symbol sc0 sc b n m e p ps w y same g _ is h = absurd cc
+name_terminal sc0 sc b n m e p ps w y same g _ is h = absurd cc
 
 name_more : (sc0 sc : ScopeView) (b : ℕ) (n m : List ℕ) (e : ℕ) (p : Word) (ps : List Word) (w : Word) (z : ScopeView × StatementState) → HeldBy sc0 (state.Sectioned b n m e) p ps sc → next_word sc (state.Sectioned b n m e) w ≡ Ok z → HeldBy sc0 z.1 p (ps ++ w ∷ []) z.0
 name_more sc0 sc b n m e p ps w z g h = elim (word_goes sc (state.Sectioned b n m e) w z h) [
   | WordGoes.on t k ↦
       let both = and_two (e == w.at) (is_part w.kind w.bytes) t in
       held_is sc0 p (ps ++ w ∷ []) z (sc, state.Sectioned b n (m ++ w.bytes) (w.at + length w.bytes)) k (g.0, name_longer sc0 (p ∷ ps) w b n m e g.1 (eqb-true e w.at both.0) both.1)
-  | WordGoes.as_symbol y t f k ↦ held_is sc0 p (ps ++ w ∷ []) z (y.0, ending_at (w.at + length w.bytes) y.1) k (name_symbol sc0 sc b n m e p ps w y g.0 g.1 (symbol_of w.kind w.bytes) refl f)
+  | WordGoes.as_terminal y t f k ↦ held_is sc0 p (ps ++ w ∷ []) z (y.0, ending_at (w.at + length w.bytes) y.1) k (name_terminal sc0 sc b n m e p ps w y g.0 g.1 (terminal_of w.kind w.bytes) refl f)
 ]
   where
     and_two : (a b : Bool) → (a && b) ≡ true → (a ≡ true) × (b ≡ true)
@@ -179,22 +179,22 @@ name_more sc0 sc b n m e p ps w z g h = elim (word_goes sc (state.Sectioned b n 
     and_two true false h = absurd cc
     and_two false b h = absurd cc
 
-flags_stay : (sc0 sc : ScopeView) (b : ℕ) (n m : List ℕ) (p : Word) (ps : List Word) (w : Word) (y : ScopeView × StatementState) → sc0 ≡ sc → InFlags sc0 (p ∷ ps) b n m → (s : Terminal) → symbol_of w.kind w.bytes ≡ s → is_inner s ≡ true
+flags_stay : (sc0 sc : ScopeView) (b : ℕ) (n m : List ℕ) (p : Word) (ps : List Word) (w : Word) (y : ScopeView × StatementState) → sc0 ≡ sc → InFlags sc0 (p ∷ ps) b n m → (s : Terminal) → terminal_of w.kind w.bytes ≡ s → is_inner s ≡ true
     → (sc, state.Flags b n m) ≡ y → HeldBy sc0 (ending_at (w.at + length w.bytes) y.1) p (ps ++ w ∷ []) y.0
 flags_stay sc0 sc b n m p ps w y same g s is inside k =
     let st : InFlags sc0 (p ∷ (ps ++ w ∷ [])) b n m =
     λ rest ss end inner. subst (λ (x : List Word). IsStatement sc0 (p ∷ x) (sectioned sc0 b n m)) (sym (append_assoc ps (w ∷ []) rest)) (g (w ∷ rest) (s ∷ ss) (rw (is, end) refl) (rw inside inner)) in
     subst (λ (z : ScopeView × StatementState). HeldBy sc0 (ending_at (w.at + length w.bytes) z.1) p (ps ++ w ∷ []) z.0) k (same, st)
 
--- a symbol behind a section's name and a comma
-flags_symbol : (sc0 sc : ScopeView) (b : ℕ) (n m : List ℕ) (p : Word) (ps : List Word) (w : Word) (y : ScopeView × StatementState) → sc0 ≡ sc → InFlags sc0 (p ∷ ps) b n m → (s : Terminal) → symbol_of w.kind w.bytes ≡ s
+-- a terminal behind a section's name and a comma
+flags_terminal : (sc0 sc : ScopeView) (b : ℕ) (n m : List ℕ) (p : Word) (ps : List Word) (w : Word) (y : ScopeView × StatementState) → sc0 ≡ sc → InFlags sc0 (p ∷ ps) b n m → (s : Terminal) → terminal_of w.kind w.bytes ≡ s
     → next_step sc (state.Flags b n m) w.line s ≡ Ok y → HeldBy sc0 (ending_at (w.at + length w.bytes) y.1) p (ps ++ w ∷ []) y.0
-flags_symbol sc0 sc b n m p ps w y same g symbol.End is h =
+flags_terminal sc0 sc b n m p ps w y same g terminal.End is h =
     let k : (sectioned sc b n m, state.Start) ≡ y = cc in
     let st : IsStatement sc0 (p ∷ (ps ++ w ∷ [])) (sectioned sc b n m) = subst (λ (x : ScopeView). IsStatement sc0 (p ∷ (ps ++ w ∷ [])) (sectioned x b n m)) same (g (w ∷ []) [] (ap (λ (x : Terminal). x ∷ []) is) refl) in
     subst (λ (z : ScopeView × StatementState). HeldBy sc0 (ending_at (w.at + length w.bytes) z.1) p (ps ++ w ∷ []) z.0) k st
-flags_symbol sc0 sc b n m p ps w y same g symbol.Percent is h = flags_stay sc0 sc b n m p ps w y same g symbol.Percent is refl (ok_state (sc, state.Flags b n m) y h)
-flags_symbol sc0 sc b n m p ps w y same g s is h = flags_stay sc0 sc b n m p ps w y same g s is refl (ok_state (sc, state.Flags b n m) y h)
+flags_terminal sc0 sc b n m p ps w y same g terminal.Percent is h = flags_stay sc0 sc b n m p ps w y same g terminal.Percent is refl (ok_state (sc, state.Flags b n m) y h)
+flags_terminal sc0 sc b n m p ps w y same g s is h = flags_stay sc0 sc b n m p ps w y same g s is refl (ok_state (sc, state.Flags b n m) y h)
 
 pub held_more : (sc0 sc : ScopeView) (st : StatementState) (p : Word) (ps : List Word) (w : Word) (z : ScopeView × StatementState) → (st ≡ state.Start → ⊥) → HeldBy sc0 st p ps sc → next_word sc st w ≡ Ok z → HeldBy sc0 z.1 p (ps ++ w ∷ []) z.0
 held_more sc0 sc state.Start p ps w z inside g h = absurd (inside refl)
@@ -203,7 +203,7 @@ held_more sc0 sc state.Skip p ps w z inside g h = plain_more sc0 sc state.Skip p
 held_more sc0 sc (state.Sectioned b n m e) p ps w z inside g h = name_more sc0 sc b n m e p ps w z g h
 held_more sc0 sc (state.Flags b n m) p ps w z inside g h = elim (word_goes sc (state.Flags b n m) w z h) [
   | WordGoes.on t k ↦ absurd cc
-  | WordGoes.as_symbol y t f k ↦ held_is sc0 p (ps ++ w ∷ []) z (y.0, ending_at (w.at + length w.bytes) y.1) k (flags_symbol sc0 sc b n m p ps w y g.0 g.1 (symbol_of w.kind w.bytes) refl f)
+  | WordGoes.as_terminal y t f k ↦ held_is sc0 p (ps ++ w ∷ []) z (y.0, ending_at (w.at + length w.bytes) y.1) k (flags_terminal sc0 sc b n m p ps w y g.0 g.1 (terminal_of w.kind w.bytes) refl f)
 ]
 held_more sc0 sc (state.Arguments o) p ps w z inside g h = plain_more sc0 sc (state.Arguments o) p ps w z inside refl g h
 held_more sc0 sc (state.Stray l c) p ps w z inside g h = plain_more sc0 sc (state.Stray l c) p ps w z inside refl g h
@@ -212,8 +212,8 @@ held_more sc0 sc (state.Stray l c) p ps w z inside g h = plain_more sc0 sc (stat
 pub first_held : (sc : ScopeView) (w : Word) (z : ScopeView × StatementState) → next_word sc state.Start w ≡ Ok z → HeldBy sc z.1 w [] z.0
 first_held sc w z h = elim (word_goes sc state.Start w z h) [
   | WordGoes.on t k ↦ absurd cc
-  | WordGoes.as_symbol y t f k ↦
-      let b : Begun sc w.line y.1 (symbol_of w.kind w.bytes ∷ []) y.0 = next_begun sc sc w.line w.line state.Start (symbol_of w.kind w.bytes ∷ []) (symbol_of w.kind w.bytes) y (start_begun sc w.line (symbol_of w.kind w.bytes) y) f in
+  | WordGoes.as_terminal y t f k ↦
+      let b : Begun sc w.line y.1 (terminal_of w.kind w.bytes ∷ []) y.0 = next_begun sc sc w.line w.line state.Start (terminal_of w.kind w.bytes ∷ []) (terminal_of w.kind w.bytes) y (start_begun sc w.line (terminal_of w.kind w.bytes) y) f in
       held_is sc w [] z (y.0, ending_at (w.at + length w.bytes) y.1) k (begun_held sc y.0 y.1 w [] (w.at + length w.bytes) (λ v e. absurd cc) b)
 ]
 

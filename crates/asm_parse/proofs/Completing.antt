@@ -12,7 +12,7 @@ use Rattle.asm_lex.specs.Bytes.{class_of, is_letter, is_word}
 use Rattle.asm_lex.specs.declared.token.TokenKind.TheVariants as kind
 use Rattle.asm_lex.specs.Words.{Word}
 use Rattle.asm_lex.specs.Source.{lines_after}
-use Rattle.asm_argument.specs.declared.symbol.Terminal.TheVariants as symbol
+use Rattle.asm_argument.specs.declared.terminal.Terminal.TheVariants as terminal
 use Rattle.asm_argument.specs.declared.operand.Shape.{Shape}
 use Rattle.asm_argument.specs.declared.operand.Shape.TheVariants as shape
 use Rattle.asm_argument.specs.declared.operand.ValuePlace.TheVariants as place
@@ -34,7 +34,7 @@ use Rattle.asm_parse.specs.Scope.{has_room, is_spent, pushed, noted, defined_too
 use Rattle.asm_argument.specs.Operand.{is_operand, takes_numbers, fits, is_register, signed, turned, named, plain, of_memory, finished, is_nothing}
 use Rattle.asm_argument.specs.Grammar.{IsValue, IsForm}
 use Rattle.asm_argument.specs.Escapes.{opening, string_text}
-use Rattle.asm_argument.specs.Symbols.{symbol_of}
+use Rattle.asm_argument.specs.Terminals.{terminal_of}
 use Rattle.asm_parse.specs.Statement.{item_of, resumed, sectioned, is_passed, is_rep, is_taken, doom}
 use Rattle.asm_parse.specs.Directives.{shape_at, least, defines, is_section, is_dotted, directive_of, is_known, is_change, is_defining}
 use Rattle.asm_parse.specs.Statements.{IsSeen, IsArgument, IsNext, Separated, HasArguments, has_list, Statement}
@@ -44,7 +44,7 @@ use Rattle.asm_parse.proofs.Names.{named_in}
 use Rattle.asm_parse.proofs.Scopes.{Each, GoodIn, or_right, same_name, same_holds}
 use Rattle.asm_parse.proofs.Quiet.{IsOpen, StateIs}
 use Rattle.asm_parse.proofs.Stated.{inners, inners_append, inners_words, word_is, open_at, instruction_operand, Gains, form_runs, comma_runs, end_runs, statement_runs, named_section, rest_runs}
-use Rattle.asm_parse.proofs.Written.{Piece, words_at, symbols_of, ArePieces, pieces-append, symbols_of-append, symbols-words_at, IsName, name_piece, one_piece, zero_piece, text_piece, end_piece, percent_piece, close_piece, comma_piece, colon_piece, letter, letter_name, low, low_name, text_section, section_name_is, the_name, the_one, the_zero, the_text, the_end, the_mark}
+use Rattle.asm_parse.proofs.Written.{Piece, words_at, terminals_of, ArePieces, pieces-append, terminals_of-append, terminals-words_at, IsName, name_piece, one_piece, zero_piece, text_piece, end_piece, percent_piece, close_piece, comma_piece, colon_piece, letter, letter_name, low, low_name, text_section, section_name_is, the_name, the_one, the_zero, the_text, the_end, the_mark}
 
 -- ---- one argument
 
@@ -53,7 +53,7 @@ pub record Finish (sh : Shape) (p : Partial) : Type 0 where
   pub are : ArePieces pieces
   pub last : Partial
   pub form : Form
-  pub runs : operand_run sh p (symbols_of pieces) ≡ ok last
+  pub runs : operand_run sh p (terminals_of pieces) ≡ ok last
   pub ends : finished last ≡ Some form
   pub names : named_in last ≡ named_in p
 
@@ -136,12 +136,12 @@ pub record Completed (sc : ScopeView) (st : StatementState) : Type 0 where
   pub last : ScopeView
   pub runs : (at line : ℕ) → read_words sc st (words_at at line pieces) ≡ Ok (last, state.Start)
 
-by_symbols : (sc last : ScopeView) (st : StatementState) (ps : List Piece) → ArePieces ps → inners sc st (symbols_of ps) ≡ Ok (last, state.Start) → Completed sc st
-by_symbols sc last st ps are h = record {
+by_terminals : (sc last : ScopeView) (st : StatementState) (ps : List Piece) → ArePieces ps → inners sc st (terminals_of ps) ≡ Ok (last, state.Start) → Completed sc st
+by_terminals sc last st ps are h = record {
   pieces = ps;
   are = are;
   last = last;
-  runs = λ at line. inners_words (words_at at line ps) sc st (last, state.Start) refl (ap (inners sc st) (symbols-words_at ps at line) ∙ h);
+  runs = λ at line. inners_words (words_at at line ps) sc st (last, state.Start) refl (ap (inners sc st) (terminals-words_at ps at line) ∙ h);
 }
 
 gains_none : (d : Bool) (sc : ScopeView) (a b : Option (List ℕ)) → b ≡ a → Gains d sc a b sc
@@ -201,39 +201,39 @@ wants_two (head.Directive _ m) n le h = absurd (omega (arith, ltb-true n 1 h))
 
 -- an argument has been read
 module _ (sc : ScopeView) (line : ℕ) (h : Head) (before : List Argument) (a : Argument) (q : Partial) (fin : finished q ≡ Some a.form) where
-  ended_here : nat_lt (length (before ++ a ∷ [])) (least h) ≡ false → (last : ScopeView) × (inners sc (state.Arguments (open_at line h before a.star q)) (symbols_of (the_end ∷ [])) ≡ Ok (last, state.Start))
+  ended_here : nat_lt (length (before ++ a ∷ [])) (least h) ≡ false → (last : ScopeView) × (inners sc (state.Arguments (open_at line h before a.star q)) (terminals_of (the_end ∷ [])) ≡ Ok (last, state.Start))
   ended_here count = (resumed (pushed sc (item_of line h (before ++ a ∷ []))) h, rw (end_runs sc line h before a q fin count, inners) refl)
 
   ended_later : nat_lt (length (before ++ a ∷ [])) (least h) ≡ true
-      → (last : ScopeView) × (inners sc (state.Arguments (open_at line h before a.star q)) (symbols_of (the_mark 44 ∷ the_one ∷ the_end ∷ [])) ≡ Ok (last, state.Start))
+      → (last : ScopeView) × (inners sc (state.Arguments (open_at line h before a.star q)) (terminals_of (the_mark 44 ∷ the_one ∷ the_end ∷ [])) ≡ Ok (last, state.Start))
   ended_later count =
       let two = wants_two h (length (before ++ a ∷ [])) (omega (arith, length-append before (a ∷ []))) count in
       let may : shape_at h (length (before ++ a ∷ [])) ≡ Some shape.Count = ap (shape_at h) two.0 ∙ two.1 in
       let b : Argument = record { star = false; form = of_memory (Some (plain (pos 1))) None None 1 } in
       let many : nat_lt (length ((before ++ a ∷ []) ++ b ∷ [])) (least h) ≡ false = le-ltb _ _ (omega (arith, two.0, two.2, length-append (before ++ a ∷ []) (b ∷ []))) in
       let comma = comma_runs sc line h before a q shape.Count fin may in
-      let one = form_runs line h (before ++ a ∷ []) false shape.Count may (symbol.Number 1 ∷ []) partial.Nothing (partial.Number place.Memory (plain (pos 1))) sc sc refl refl in
+      let one = form_runs line h (before ++ a ∷ []) false shape.Count may (terminal.Number 1 ∷ []) partial.Nothing (partial.Number place.Memory (plain (pos 1))) sc sc refl refl in
       let end = end_runs sc line h (before ++ a ∷ []) b (partial.Number place.Memory (plain (pos 1))) refl many in
-      (resumed (pushed sc (item_of line h ((before ++ a ∷ []) ++ b ∷ []))) h, rw (comma, inners) (inners_append (symbol.Number 1 ∷ []) (symbol.End ∷ []) sc (state.Arguments (open_at line h (before ++ a ∷ []) false partial.Nothing)) (sc, state.Arguments (open_at line h (before ++ a ∷ []) false (partial.Number place.Memory (plain (pos 1))))) one ∙ rw (end, inners) refl))
+      (resumed (pushed sc (item_of line h ((before ++ a ∷ []) ++ b ∷ []))) h, rw (comma, inners) (inners_append (terminal.Number 1 ∷ []) (terminal.End ∷ []) sc (state.Arguments (open_at line h (before ++ a ∷ []) false partial.Nothing)) (sc, state.Arguments (open_at line h (before ++ a ∷ []) false (partial.Number place.Memory (plain (pos 1))))) one ∙ rw (end, inners) refl))
 
 arguments_completed : (sc : ScopeView) (o : Open) → IsOpen o → Completed sc (state.Arguments o)
 arguments_completed sc o w =
     let f = finish w.shape o.so_far (not_name o w) in
-    let first : inners sc (state.Arguments o) (symbols_of f.pieces) ≡ Ok (sc, state.Arguments (open_at o.line o.head o.arguments o.star f.last)) =
-    form_runs o.line o.head o.arguments o.star w.shape w.may (symbols_of f.pieces) o.so_far f.last sc sc f.runs (gains_none (defines o.head (length o.arguments)) sc (named_in o.so_far) (named_in f.last) f.names) in
+    let first : inners sc (state.Arguments o) (terminals_of f.pieces) ≡ Ok (sc, state.Arguments (open_at o.line o.head o.arguments o.star f.last)) =
+    form_runs o.line o.head o.arguments o.star w.shape w.may (terminals_of f.pieces) o.so_far f.last sc sc f.runs (gains_none (defines o.head (length o.arguments)) sc (named_in o.so_far) (named_in f.last) f.names) in
     by_count f first (nat_lt (length (o.arguments ++ record { star = o.star; form = f.form } ∷ [])) (least o.head)) refl
   where
-    joined : (ps qs : List Piece) (st : StatementState) (last : ScopeView) → inners sc (state.Arguments o) (symbols_of ps) ≡ Ok (sc, st) → inners sc st (symbols_of qs) ≡ Ok (last, state.Start) → inners sc (state.Arguments o) (symbols_of (ps ++ qs)) ≡ Ok (last, state.Start)
-    joined ps qs st last h k = ap (inners sc (state.Arguments o)) (symbols_of-append ps qs) ∙ (inners_append (symbols_of ps) (symbols_of qs) sc (state.Arguments o) (sc, st) h ∙ k)
+    joined : (ps qs : List Piece) (st : StatementState) (last : ScopeView) → inners sc (state.Arguments o) (terminals_of ps) ≡ Ok (sc, st) → inners sc st (terminals_of qs) ≡ Ok (last, state.Start) → inners sc (state.Arguments o) (terminals_of (ps ++ qs)) ≡ Ok (last, state.Start)
+    joined ps qs st last h k = ap (inners sc (state.Arguments o)) (terminals_of-append ps qs) ∙ (inners_append (terminals_of ps) (terminals_of qs) sc (state.Arguments o) (sc, st) h ∙ k)
 
-    by_count : (f : Finish w.shape o.so_far) → inners sc (state.Arguments o) (symbols_of f.pieces) ≡ Ok (sc, state.Arguments (open_at o.line o.head o.arguments o.star f.last))
+    by_count : (f : Finish w.shape o.so_far) → inners sc (state.Arguments o) (terminals_of f.pieces) ≡ Ok (sc, state.Arguments (open_at o.line o.head o.arguments o.star f.last))
         → (t : Bool) → nat_lt (length (o.arguments ++ record { star = o.star; form = f.form } ∷ [])) (least o.head) ≡ t → Completed sc (state.Arguments o)
     by_count f first false count =
         let e = ended_here sc o.line o.head o.arguments (record { star = o.star; form = f.form }) f.last f.ends count in
-        by_symbols sc e.0 (state.Arguments o) (f.pieces ++ the_end ∷ []) (pieces-append f.pieces (the_end ∷ []) f.are (end_piece, tt)) (joined f.pieces (the_end ∷ []) _ e.0 first e.1)
+        by_terminals sc e.0 (state.Arguments o) (f.pieces ++ the_end ∷ []) (pieces-append f.pieces (the_end ∷ []) f.are (end_piece, tt)) (joined f.pieces (the_end ∷ []) _ e.0 first e.1)
     by_count f first true count =
         let e = ended_later sc o.line o.head o.arguments (record { star = o.star; form = f.form }) f.last f.ends count in
-        by_symbols sc e.0 (state.Arguments o) (f.pieces ++ the_mark 44 ∷ the_one ∷ the_end ∷ []) (pieces-append f.pieces (the_mark 44 ∷ the_one ∷ the_end ∷ []) f.are (comma_piece, (one_piece, (end_piece, tt)))) (joined f.pieces (the_mark 44 ∷ the_one ∷ the_end ∷ []) _ e.0 first e.1)
+        by_terminals sc e.0 (state.Arguments o) (f.pieces ++ the_mark 44 ∷ the_one ∷ the_end ∷ []) (pieces-append f.pieces (the_mark 44 ∷ the_one ∷ the_end ∷ []) f.are (comma_piece, (one_piece, (end_piece, tt)))) (joined f.pieces (the_mark 44 ∷ the_one ∷ the_end ∷ []) _ e.0 first e.1)
 
 -- ---- names that can still be said
 
@@ -332,27 +332,27 @@ text_known = refl
 
 -- a number as a directive's argument
 one_argument : (sc : ScopeView) (k : Directive) (n : List ℕ) (before : List Argument) (sh : Shape) → shape_at (head.Directive k n) (length before) ≡ Some sh → takes_numbers sh ≡ true → fits sh false 1 ≡ true
-    → IsNext (head.Directive k n) sc before (symbol.Number 1 ∷ []) (record { star = false; form = of_memory (Some (plain (pos 1))) None None 1 }) sc
+    → IsNext (head.Directive k n) sc before (terminal.Number 1 ∷ []) (record { star = false; form = of_memory (Some (plain (pos 1))) None None 1 }) sc
 one_argument sc k n before sh may takes fit = record { shape = sh; may = may; is = IsArgument.plain (IsForm.value (IsValue.number takes fit)); sees = refl }
 
 module _ (sc : ScopeView) (b : ℕ) (n : List ℕ) (passed : is_passed sc n ≡ false) (dotted : is_dotted n ≡ true) where
   number_completed : (k : Directive) (sh : Shape) → directive_of n ≡ Some k → has_list k ≡ true → shape_at (head.Directive k n) 0 ≡ Some sh → takes_numbers sh ≡ true → fits sh false 1 ≡ true → nat_lt 1 (least (head.Directive k n)) ≡ false → Completed sc (state.Named b n)
   number_completed k sh dir list may takes fit count =
-      by_symbols sc _ (state.Named b n) (the_one ∷ the_end ∷ []) (one_piece, (end_piece, tt))
+      by_terminals sc _ (state.Named b n) (the_one ∷ the_end ∷ []) (one_piece, (end_piece, tt))
       (statement_runs (Statement.directive {sc = sc} {line = b} {n = n} passed dotted dir list (HasArguments.some Separated.none (one_argument sc k n [] sh may takes fit)) count))
 
   name_completed : directive_of n ≡ Some directive.Global → Sayable sc → Completed sc (state.Named b n)
   name_completed dir w =
-      let next : IsNext (head.Directive directive.Global n) sc [] (symbol.Name w.name ∷ []) (record { star = false; form = of_memory (Some (named w.name (pos 0))) None None 1 }) (noted sc w.name) =
+      let next : IsNext (head.Directive directive.Global n) sc [] (terminal.Name w.name ∷ []) (record { star = false; form = of_memory (Some (named w.name (pos 0))) None None 1 }) (noted sc w.name) =
       record { shape = shape.Name; may = refl; is = IsArgument.plain (IsForm.value (IsValue.name refl)); sees = IsSeen.used w.room } in
-      by_symbols sc _ (state.Named b n) (the_name w.name ∷ the_end ∷ []) (name_piece w.name w.is, (end_piece, tt))
+      by_terminals sc _ (state.Named b n) (the_name w.name ∷ the_end ∷ []) (name_piece w.name w.is, (end_piece, tt))
       (statement_runs (Statement.directive {sc = sc} {line = b} {n = n} passed dotted dir refl (HasArguments.some Separated.none next) refl))
 
   text_completed : directive_of n ≡ Some directive.Strings → Completed sc (state.Named b n)
   text_completed dir =
-      let next : IsNext (head.Directive directive.Strings n) sc [] (symbol_of kind.Text (34 ∷ 34 ∷ []) ∷ []) (record { star = false; form = form.Text (string_text opening (34 ∷ 34 ∷ [])) }) sc =
+      let next : IsNext (head.Directive directive.Strings n) sc [] (terminal_of kind.Text (34 ∷ 34 ∷ []) ∷ []) (record { star = false; form = form.Text (string_text opening (34 ∷ 34 ∷ [])) }) sc =
       record { shape = shape.Text; may = refl; is = IsArgument.plain (IsForm.text refl); sees = refl } in
-      by_symbols sc _ (state.Named b n) (the_text ∷ the_end ∷ []) (text_piece, (end_piece, tt))
+      by_terminals sc _ (state.Named b n) (the_text ∷ the_end ∷ []) (text_piece, (end_piece, tt))
       (statement_runs (Statement.directive {sc = sc} {line = b} {n = n} passed dotted dir refl (HasArguments.some Separated.none next) refl))
 
   defining_completed : (k : Directive) → directive_of n ≡ Some k → has_list k ≡ true → shape_at (head.Directive k n) 0 ≡ Some shape.Name → shape_at (head.Directive k n) 1 ≡ Some shape.Count → defines (head.Directive k n) 0 ≡ true
@@ -360,9 +360,9 @@ module _ (sc : ScopeView) (b : ℕ) (n : List ℕ) (passed : is_passed sc n ≡ 
   defining_completed k dir list first second def count w =
       let sc2 = defined_too (noted sc w.name) w.name in
       let a : Argument = record { star = false; form = of_memory (Some (named w.name (pos 0))) None None 1 } in
-      let next : IsNext (head.Directive k n) sc [] (symbol.Name w.name ∷ []) (record { star = false; form = of_memory (Some (named w.name (pos 0))) None None 1 }) (defined_too (noted sc w.name) w.name) =
+      let next : IsNext (head.Directive k n) sc [] (terminal.Name w.name ∷ []) (record { star = false; form = of_memory (Some (named w.name (pos 0))) None None 1 }) (defined_too (noted sc w.name) w.name) =
       record { shape = shape.Name; may = first; is = IsArgument.plain (IsForm.value (IsValue.name refl)); sees = rw def (IsSeen.defined w.new w.room) } in
-      by_symbols sc _ (state.Named b n) (the_name w.name ∷ the_mark 44 ∷ the_one ∷ the_end ∷ []) (name_piece w.name w.is, (comma_piece, (one_piece, (end_piece, tt))))
+      by_terminals sc _ (state.Named b n) (the_name w.name ∷ the_mark 44 ∷ the_one ∷ the_end ∷ []) (name_piece w.name w.is, (comma_piece, (one_piece, (end_piece, tt))))
       (statement_runs (Statement.directive {sc = sc} {line = b} {n = n} passed dotted dir list (HasArguments.some (Separated.more Separated.none next) (one_argument (defined_too (noted sc w.name) w.name) k n (a ∷ []) shape.Count second refl refl)) (rw count refl)))
 
   section_completed : directive_of n ≡ Some directive.Section → Completed sc (state.Named b n)
@@ -384,7 +384,7 @@ label_completed sc b n passed dotted dir alive =
     let sk = not_skipping sc.skipping refl in
     let taken = not_taken (is_taken sc n) refl sk in
     let parts = or_both (holds sc.defined n) (not (has_room sc n)) taken in
-    by_symbols sc _ (state.Named b n) (the_mark 58 ∷ []) (colon_piece, tt) (statement_runs (Statement.label {sc = sc} {line = b} {n = n} sk (IsSeen.defined parts.0 (not-false (has_room sc n) parts.1))))
+    by_terminals sc _ (state.Named b n) (the_mark 58 ∷ []) (colon_piece, tt) (statement_runs (Statement.label {sc = sc} {line = b} {n = n} sk (IsSeen.defined parts.0 (not-false (has_room sc n) parts.1))))
   where
     not_skipping : (t : Bool) → sc.skipping ≡ t → sc.skipping ≡ false
     not_skipping false e = e
@@ -420,7 +420,7 @@ named_completed sc b n g alive = by_tests (is_passed sc n) (is_dotted n) (is_rep
   where
     by_directive : (d : Option Directive) → is_passed sc n ≡ false → is_dotted n ≡ true → directive_of n ≡ d → Completed sc (state.Named b n)
     by_directive None passed dotted dir = label_completed sc b n passed dotted dir alive
-    by_directive (Some directive.Plain) passed dotted dir = by_symbols sc _ (state.Named b n) (the_end ∷ []) (end_piece, tt) (statement_runs (Statement.directive {sc = sc} {line = b} {n = n} passed dotted dir refl HasArguments.none refl))
+    by_directive (Some directive.Plain) passed dotted dir = by_terminals sc _ (state.Named b n) (the_end ∷ []) (end_piece, tt) (statement_runs (Statement.directive {sc = sc} {line = b} {n = n} passed dotted dir refl HasArguments.none refl))
     by_directive (Some directive.Section) passed dotted dir = section_completed sc b n passed dotted dir
     by_directive (Some directive.Global) passed dotted dir = name_completed sc b n passed dotted dir (sayable sc g)
     by_directive (Some directive.Bytes) passed dotted dir = number_completed sc b n passed dotted directive.Bytes shape.Number dir refl refl refl refl refl
@@ -431,20 +431,20 @@ named_completed sc b n g alive = by_tests (is_passed sc n) (is_dotted n) (is_rep
     by_directive (Some directive.Powered) passed dotted dir = number_completed sc b n passed dotted directive.Powered shape.Power dir refl refl refl refl refl
     by_directive (Some directive.Common) passed dotted dir = defining_completed sc b n passed dotted directive.Common dir refl refl refl refl refl (definable sc g (not_spent sc b n directive.Common passed dotted dir refl alive))
     by_directive (Some directive.LocalCommon) passed dotted dir = defining_completed sc b n passed dotted directive.LocalCommon dir refl refl refl refl refl (definable sc g (not_spent sc b n directive.LocalCommon passed dotted dir refl alive))
-    by_directive (Some directive.Skipped) passed dotted dir = by_symbols sc sc (state.Named b n) (the_end ∷ []) (end_piece, tt) (statement_runs (Statement.skipped_directive {sc = sc} {line = b} {n = n} [] passed dotted dir refl refl))
+    by_directive (Some directive.Skipped) passed dotted dir = by_terminals sc sc (state.Named b n) (the_end ∷ []) (end_piece, tt) (statement_runs (Statement.skipped_directive {sc = sc} {line = b} {n = n} [] passed dotted dir refl refl))
 
     by_tests : (t u v : Bool) → is_passed sc n ≡ t → is_dotted n ≡ u → is_rep n ≡ v → Completed sc (state.Named b n)
-    by_tests true u v e f k = by_symbols sc sc (state.Named b n) (the_end ∷ []) (end_piece, tt) (statement_runs (Statement.skipped {sc = sc} {line = b} {n = n} [] e refl refl))
+    by_tests true u v e f k = by_terminals sc sc (state.Named b n) (the_end ∷ []) (end_piece, tt) (statement_runs (Statement.skipped {sc = sc} {line = b} {n = n} [] e refl refl))
     by_tests false true v e f k = by_directive (directive_of n) e f refl
-    by_tests false false true e f k = by_symbols sc _ (state.Named b n) (the_name letter ∷ the_end ∷ []) (name_piece letter letter_name, (end_piece, tt)) (statement_runs (Statement.repeated {sc = sc} {line = b} {r = n} {n = letter} e f k HasArguments.none))
-    by_tests false false false e f k = by_symbols sc _ (state.Named b n) (the_end ∷ []) (end_piece, tt) (statement_runs (Statement.instruction {sc = sc} {line = b} {n = n} e f k HasArguments.none))
+    by_tests false false true e f k = by_terminals sc _ (state.Named b n) (the_name letter ∷ the_end ∷ []) (name_piece letter letter_name, (end_piece, tt)) (statement_runs (Statement.repeated {sc = sc} {line = b} {r = n} {n = letter} e f k HasArguments.none))
+    by_tests false false false e f k = by_terminals sc _ (state.Named b n) (the_end ∷ []) (end_piece, tt) (statement_runs (Statement.instruction {sc = sc} {line = b} {n = n} e f k HasArguments.none))
 
 -- Where nothing is dead the statement can end.
 pub completed : (sc : ScopeView) (st : StatementState) → GoodIn IsName sc → StateIs IsName st → doom sc st ≡ None → Completed sc st
 completed sc state.Start g is alive = record { pieces = []; are = tt; last = sc; runs = λ at line. refl }
 completed sc (state.Named b n) g is alive = named_completed sc b n g alive
-completed sc state.Skip g is alive = by_symbols sc sc state.Skip (the_end ∷ []) (end_piece, tt) refl
+completed sc state.Skip g is alive = by_terminals sc sc state.Skip (the_end ∷ []) (end_piece, tt) refl
 completed sc (state.Sectioned b n m e) g is alive = record { pieces = the_end ∷ []; are = (end_piece, tt); last = sectioned sc b n m; runs = λ at line. rest_runs (words_at at line (the_end ∷ [])) [] sc b n m e refl refl }
-completed sc (state.Flags b n m) g is alive = by_symbols sc (sectioned sc b n m) (state.Flags b n m) (the_end ∷ []) (end_piece, tt) refl
+completed sc (state.Flags b n m) g is alive = by_terminals sc (sectioned sc b n m) (state.Flags b n m) (the_end ∷ []) (end_piece, tt) refl
 completed sc (state.Arguments o) g is alive = arguments_completed sc o is
 completed sc (state.Stray l c) g is alive = absurd cc

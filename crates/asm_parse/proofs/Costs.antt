@@ -1,24 +1,25 @@
--- What a symbol says has no more bytes than its token.
+-- What a terminal says has no more bytes than its token.
 use Rattle.std.proofs.Common.{◌≡◌, ℕ, ◌+◌, ◌≤◌, Bool, true, false, cond, List, [], ◌∷◌, ◌++◌, length, Some, None, refl, ap, arith}
 use Rattle.std.proofs.lemmas.List.{length-append}
 use Rattle.std.specs.Prelude.{◌==◌, nat_lt, ◌^◌}
+use Rattle.std.specs.Option.{option_to_list}
 use Rattle.asm_lex.specs.declared.token.TokenKind.{TokenKind}
 use Rattle.asm_lex.specs.Words.{Word}
 use Rattle.asm_lex.specs.Source.{IsToken, Lexed}
-use Rattle.asm_argument.specs.declared.symbol.Terminal.{Terminal}
-use Rattle.asm_argument.specs.declared.symbol.Terminal.TheVariants as symbol
+use Rattle.asm_argument.specs.declared.terminal.Terminal.{Terminal}
+use Rattle.asm_argument.specs.declared.terminal.Terminal.TheVariants as terminal
 use Rattle.asm_argument.specs.declared.escapes.Escape.{Escape}
 use Rattle.asm_argument.specs.declared.escapes.Escape.TheVariants as escape
 use Rattle.asm_argument.specs.declared.escapes.Unescaped.{Unescaped}
 use Rattle.asm_lex.specs.Bytes.{is_octal}
-use Rattle.asm_argument.specs.Escapes.{plain, escape_step, listed, opening, string_text}
-use Rattle.asm_argument.specs.Symbols.{number_value, mark_symbol, number_symbol, symbol_of}
-use Rattle.asm_parse.specs.Statements.{symbols}
+use Rattle.asm_argument.specs.Escapes.{plain, escape_step, opening, string_text}
+use Rattle.asm_argument.specs.Terminals.{number_value, mark_terminal, number_terminal, terminal_of}
+use Rattle.asm_parse.specs.Statements.{terminals}
 
--- the bytes that a symbol stands for, or one
+-- the bytes that a terminal stands for, or one
 abbrev pub cost : Terminal → ℕ
-cost (symbol.Name n) = length n
-cost (symbol.Text t) = length t
+cost (terminal.Name n) = length n
+cost (terminal.Text t) = length t
 cost _ = 1
 
 abbrev pub costs : List Terminal → ℕ
@@ -38,7 +39,7 @@ owed (escape.Two v) = 1
 owed _ = 0
 
 abbrev Gives : ℕ → Unescaped → Type 0
-Gives o g = length (listed g.first ++ listed g.second) + owed g.next ≤ o + 1
+Gives o g = length (option_to_list g.first ++ option_to_list g.second) + owed g.next ≤ o + 1
 
 gives_either : (o : ℕ) (t : Bool) (a b : Unescaped) → Gives o a → Gives o b → Gives o (cond t a b)
 gives_either o true a b p q = p
@@ -62,7 +63,7 @@ string_shorter : (e : Escape) (bs : List ℕ) → length (string_text e bs) ≤ 
 string_shorter e [] = omega arith
 string_shorter e (b ∷ bs) =
     let g = escape_step e b in
-    omega (arith, step_gives e b, string_shorter (escape_step e b).next bs, length-append (listed (escape_step e b).first ++ listed (escape_step e b).second) (string_text (escape_step e b).next bs))
+    omega (arith, step_gives e b, string_shorter (escape_step e b).next bs, length-append (option_to_list (escape_step e b).first ++ option_to_list (escape_step e b).second) (string_text (escape_step e b).next bs))
 
 -- ---- tokens
 
@@ -70,17 +71,17 @@ one_either : (t : Bool) (a b : Terminal) → cost a ≡ 1 → cost b ≡ 1 → c
 one_either true a b p q = p
 one_either false a b p q = q
 
-mark_cost : (m : ℕ) → cost (mark_symbol m) ≡ 1
+mark_cost : (m : ℕ) → cost (mark_terminal m) ≡ 1
 mark_cost m =
     one_either (m == 36) _ _ refl (one_either (m == 37) _ _ refl (one_either (m == 40) _ _ refl (one_either (m == 41) _ _ refl (one_either (m == 42) _ _ refl
     (one_either (m == 43) _ _ refl (one_either (m == 44) _ _ refl (one_either (m == 45) _ _ refl (one_either (m == 58) _ _ refl refl))))))))
 
-number_cost : (n : ℕ) → cost (number_symbol n) ≡ 1
+number_cost : (n : ℕ) → cost (number_terminal n) ≡ 1
 number_cost n = one_either (nat_lt n (2 ^ 32)) _ _ refl refl
 
 record Pays (k : TokenKind) (bytes : List ℕ) : Type 0 where
   some : 1 ≤ length bytes
-  pays : cost (symbol_of k bytes) ≤ length bytes
+  pays : cost (terminal_of k bytes) ≤ length bytes
 
 token_pays : (k : TokenKind) (piece rest : List ℕ) → IsToken k piece rest → Pays k piece
 token_pays k piece rest (IsToken.end h) = record { some = omega arith; pays = omega arith }
@@ -98,9 +99,9 @@ weight (w ∷ ws) = length w.bytes + weight ws
 -- each word stands for no more than its bytes
 abbrev pub ArePaid : List Word → Type 0
 ArePaid [] = Unit {0}
-ArePaid (w ∷ ws) = (cost (symbol_of w.kind w.bytes) ≤ length w.bytes) × ArePaid ws
+ArePaid (w ∷ ws) = (cost (terminal_of w.kind w.bytes) ≤ length w.bytes) × ArePaid ws
 
-pub paid_costs : (ws : List Word) → ArePaid ws → costs (symbols ws) ≤ weight ws
+pub paid_costs : (ws : List Word) → ArePaid ws → costs (terminals ws) ≤ weight ws
 paid_costs [] h = omega arith
 paid_costs (w ∷ ws) h = omega (arith, h.0, paid_costs ws h.1)
 

@@ -17,9 +17,9 @@ use Rattle.asm_source.specs.declared.tree.SourceItem.{SourceItem}
 use Rattle.asm_parse.specs.ScopeView.{ScopeView}
 use Rattle.asm_parse.specs.Scope.{fresh}
 use Rattle.asm_parse.specs.Statement.{fault_line, stopped, left_open}
-use Rattle.asm_parse.specs.Statements.{symbols}
+use Rattle.asm_parse.specs.Statements.{terminals}
 use Rattle.asm_parse.specs.Reading.{Fault, fed, placed, next_word}
-use Rattle.asm_argument.specs.Symbols.{symbol_of}
+use Rattle.asm_argument.specs.Terminals.{terminal_of}
 use Rattle.asm_parse.specs.Running.{Running, ◌>>=◌, goes_on, second_does, one_byte_over, moved, one_byte, run, start, closed, read, Parses}
 use Rattle.asm_parse.specs.Refusals.{Ending, Worded, refused_cause, byte_cause, Refused, RefusedFor}
 use Rattle.asm_parse.proofs.Closing.{AreNamed, token_is}
@@ -109,7 +109,7 @@ refused_at text l c f h r = subst (λ (x : Fault). Refused text x.0 x.1) h r
 
 found_refused : (text : List ℕ) (ws : List Word) (e : Ending) (l : ℕ) (c : SourceCause) → Worded 0 1 (text ++ 10 ∷ []) ws e → Found ws e (l, c) → Refused text l c
 found_refused text ws e l c w (Found.word {sc} {p} front rest v whole begins never reaches is) =
-    refused_at text l c (v.line, refused_cause sc p (symbol_of v.kind v.bytes) (symbols rest)) (sym is) (Refused.word front rest v (subst (λ (x : List Word). Worded 0 1 (text ++ 10 ∷ []) x e) whole w) begins never reaches)
+    refused_at text l c (v.line, refused_cause sc p (terminal_of v.kind v.bytes) (terminals rest)) (sym is) (Refused.word front rest v (subst (λ (x : List Word). Worded 0 1 (text ++ 10 ∷ []) x e) whole w) begins never reaches)
 found_refused text ws e l c w (Found.byte {sc} {p} {line} {c = d} ends begins reaches is) =
     refused_at text l c (line, byte_cause sc p d) (sym is) (Refused.byte ws (subst (Worded 0 1 (text ++ 10 ∷ []) ws) ends w) begins reaches)
 found_refused text ws e l c w (Found.comment {line} ends begins is) =

@@ -3,8 +3,8 @@ use Rattle.std.proofs.Common.{◌≡◌, ℕ, Bool, true, false, cond, List, [],
 use Rattle.std.specs.Prelude.{nat_lt}
 use Rattle.asm_lex.specs.declared.fault.SourceCause.{SourceCause}
 use Rattle.asm_lex.specs.declared.fault.SourceCause.TheVariants as cause
-use Rattle.asm_argument.specs.declared.symbol.Terminal.{Terminal}
-use Rattle.asm_argument.specs.declared.symbol.Terminal.TheVariants as symbol
+use Rattle.asm_argument.specs.declared.terminal.Terminal.{Terminal}
+use Rattle.asm_argument.specs.declared.terminal.Terminal.TheVariants as terminal
 use Rattle.asm_argument.specs.declared.operand.Shape.{Shape}
 use Rattle.asm_argument.specs.declared.operand.Partial.{Partial}
 use Rattle.asm_source.specs.declared.tree.Argument.{Argument}
@@ -70,17 +70,17 @@ end_later sc None = tt
 end_later sc (Some e) = complete_later sc e.0 e.1 (e.2 ++ e.3 ∷ [])
 
 argument_later : (sc : ScopeView) (o : Open) (s : Terminal) → IsLater (argument_step sc o s)
-argument_later sc o symbol.Comma = either (is_finished o.so_far) _ _ (comma_later sc (ended o)) (within_later sc o symbol.Comma)
-argument_later sc o symbol.End = either (is_bare o) _ _ (complete_later sc o.line o.head o.arguments) (either (is_finished o.so_far) _ _ (end_later sc (ended o)) (within_later sc o symbol.End))
-argument_later sc o symbol.Star = either (takes_star o) _ _ refl (within_later sc o symbol.Star)
+argument_later sc o terminal.Comma = either (is_finished o.so_far) _ _ (comma_later sc (ended o)) (within_later sc o terminal.Comma)
+argument_later sc o terminal.End = either (is_bare o) _ _ (complete_later sc o.line o.head o.arguments) (either (is_finished o.so_far) _ _ (end_later sc (ended o)) (within_later sc o terminal.End))
+argument_later sc o terminal.Star = either (takes_star o) _ _ refl (within_later sc o terminal.Star)
 argument_later sc o s = within_later sc o s
 
 skip_later : (s : Terminal) → is_later (skip s) ≡ true
-skip_later symbol.End = refl
+skip_later terminal.End = refl
 skip_later _ = refl
 
 section_later : (sc : ScopeView) (line : ℕ) (n : List ℕ) (s : Terminal) → IsLater (with_scope sc (section_name line n s))
-section_later sc line n (symbol.Name m) = by_test (is_section m)
+section_later sc line n (terminal.Name m) = by_test (is_section m)
   where
     by_test : (t : Bool) → IsLater (with_scope sc (cond t (Ok (state.Sectioned line n m 0)) (Err cause.BadArgument)))
     by_test true = refl
@@ -94,7 +94,7 @@ directive_later sc line n s (Some directive.Section) = section_later sc line n s
 directive_later sc line n s (Some k) = argument_later sc (nothing_yet line (head.Directive k n)) s
 
 rep_later : (sc : ScopeView) (line : ℕ) (s : Terminal) → IsLater (rep_step sc line s)
-rep_later sc line (symbol.Name m) = refl
+rep_later sc line (terminal.Name m) = refl
 rep_later sc line _ = tt
 
 labelled_later : (line : ℕ) (n : List ℕ) (r : Result ScopeView SourceCause) → IsLater (labelled line n r)
@@ -102,16 +102,16 @@ labelled_later line n (Ok sc) = refl
 labelled_later line n (Err c) = tt
 
 named_later : (sc : ScopeView) (b : ℕ) (n : List ℕ) (s : Terminal) → IsLater (named_step sc b n s)
-named_later sc b n symbol.Colon = either sc.skipping _ _ refl (labelled_later b n (noting sc true n))
+named_later sc b n terminal.Colon = either sc.skipping _ _ refl (labelled_later b n (noting sc true n))
 named_later sc b n s = either (is_passed sc n) _ _ (skip_later s) (either (is_dotted n) _ _ (directive_later sc b n s (directive_of n)) (either (is_rep n) _ _ (rep_later sc b s) (argument_later sc (nothing_yet b (head.Instruction false n)) s)))
 
 sectioned_later : (sc : ScopeView) (b : ℕ) (n m : List ℕ) (s : Terminal) → IsLater (sectioned_step sc b n m s)
-sectioned_later sc b n m symbol.End = refl
-sectioned_later sc b n m symbol.Comma = refl
+sectioned_later sc b n m terminal.End = refl
+sectioned_later sc b n m terminal.Comma = refl
 sectioned_later sc b n m _ = tt
 
 flags_later : (sc : ScopeView) (b : ℕ) (n m : List ℕ) (line : ℕ) (s : Terminal) → IsLater (step sc (state.Flags b n m) line s)
-flags_later sc b n m line symbol.End = refl
+flags_later sc b n m line terminal.End = refl
 flags_later sc b n m line _ = refl
 
 inside_later : (sc : ScopeView) (st : StatementState) (line : ℕ) (s : Terminal) → (st ≡ state.Start → ⊥) → IsLater (step sc st line s)
@@ -123,23 +123,23 @@ inside_later sc (state.Flags b n m) line s inside = flags_later sc b n m line s
 inside_later sc (state.Arguments o) line s inside = argument_later sc o s
 inside_later sc (state.Stray l c) line s inside = tt
 
--- ---- the next symbol
+-- ---- the next terminal
 
--- A symbol leads on within the statement; it is the first name of one; or it is a `%` that may not stand there.
+-- A terminal leads on within the statement; it is the first name of one; or it is a `%` that may not stand there.
 pub data Leads-on (sc : ScopeView) (st : StatementState) (line : ℕ) (s : Terminal) (y : ScopeView × StatementState) : Type 0 where
   later : is_later y.1 ≡ true → Leads-on sc st line s y
-  name : (n : List ℕ) → st ≡ state.Start → s ≡ symbol.Name n → y ≡ (sc, state.Named line n) → Leads-on sc st line s y
-  astray : (c : SourceCause) → s ≡ symbol.Percent → step sc st line symbol.Percent ≡ Err c → is_place c ≡ true → y ≡ (fresh, state.Stray (fault_line sc st line) c) → Leads-on sc st line s y
+  name : (n : List ℕ) → st ≡ state.Start → s ≡ terminal.Name n → y ≡ (sc, state.Named line n) → Leads-on sc st line s y
+  astray : (c : SourceCause) → s ≡ terminal.Percent → step sc st line terminal.Percent ≡ Err c → is_place c ≡ true → y ≡ (fresh, state.Stray (fault_line sc st line) c) → Leads-on sc st line s y
 
 ok_same : (x y : ScopeView × StatementState) → ◌≡◌ {A = Answer} (Ok x) (Ok y) → x ≡ y
 ok_same x y h = cc
 
 start_name : (sc : ScopeView) (line : ℕ) (s : Terminal) (y : ScopeView × StatementState) → step sc state.Start line s ≡ Ok y → Leads-on sc state.Start line s y
-start_name sc line symbol.End y h = Leads-on.later (ap (λ (z : ScopeView × StatementState). is_later z.1) (sym (ok_same (sc, state.Start) y h)))
-start_name sc line (symbol.Name n) y h = Leads-on.name n refl refl (sym (ok_same (sc, state.Named line n) y h))
-start_name sc line symbol.Big y h = by_test sc.skipping h
+start_name sc line terminal.End y h = Leads-on.later (ap (λ (z : ScopeView × StatementState). is_later z.1) (sym (ok_same (sc, state.Start) y h)))
+start_name sc line (terminal.Name n) y h = Leads-on.name n refl refl (sym (ok_same (sc, state.Named line n) y h))
+start_name sc line terminal.Big y h = by_test sc.skipping h
   where
-    by_test : (t : Bool) → ◌≡◌ {A = Answer} (with_scope sc (unless_skipping t cause.BadNumber)) (Ok y) → Leads-on sc state.Start line symbol.Big y
+    by_test : (t : Bool) → ◌≡◌ {A = Answer} (with_scope sc (unless_skipping t cause.BadNumber)) (Ok y) → Leads-on sc state.Start line terminal.Big y
     by_test true h = Leads-on.later (ap (λ (z : ScopeView × StatementState). is_later z.1) (sym (ok_same (sc, state.Skip) y h)))
     by_test false h = absurd cc
 start_name sc line s y h = by_test sc.skipping h
@@ -164,13 +164,13 @@ step_leads sc st line s y h = elim (is_start st) [
 ]
 
 pub leads_on : (sc : ScopeView) (st : StatementState) (line : ℕ) (s : Terminal) (y : ScopeView × StatementState) → next_step sc st line s ≡ Ok y → Leads-on sc st line s y
-leads_on sc st line symbol.Percent y h = by_result (step sc st line symbol.Percent) refl h
+leads_on sc st line terminal.Percent y h = by_result (step sc st line terminal.Percent) refl h
   where
-    by_place : (c : SourceCause) (t : Bool) → is_place c ≡ t → step sc st line symbol.Percent ≡ Err c → ◌≡◌ {A = Answer} (cond t (Ok (fresh, state.Stray (fault_line sc st line) c)) (Err c)) (Ok y) → Leads-on sc st line symbol.Percent y
+    by_place : (c : SourceCause) (t : Bool) → is_place c ≡ t → step sc st line terminal.Percent ≡ Err c → ◌≡◌ {A = Answer} (cond t (Ok (fresh, state.Stray (fault_line sc st line) c)) (Err c)) (Ok y) → Leads-on sc st line terminal.Percent y
     by_place c true e f k = Leads-on.astray c refl f e (sym (ok_same _ y k))
     by_place c false e f k = absurd cc
 
-    by_result : (r : Answer) → step sc st line symbol.Percent ≡ r → strayed (fault_line sc st line) r ≡ Ok y → Leads-on sc st line symbol.Percent y
-    by_result (Ok x) e k = step_leads sc st line symbol.Percent y (e ∙ k)
+    by_result : (r : Answer) → step sc st line terminal.Percent ≡ r → strayed (fault_line sc st line) r ≡ Ok y → Leads-on sc st line terminal.Percent y
+    by_result (Ok x) e k = step_leads sc st line terminal.Percent y (e ∙ k)
     by_result (Err c) e k = by_place c (is_place c) refl e k
 leads_on sc st line s y h = step_leads sc st line s y h

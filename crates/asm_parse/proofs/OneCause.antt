@@ -5,17 +5,17 @@ use Rattle.asm_lex.specs.declared.fault.SourceCause.{SourceCause}
 use Rattle.asm_lex.specs.declared.fault.SourceFault.{SourceFault}
 use Rattle.asm_lex.specs.declared.fault.SourceFault.TheVariants as fault
 use Rattle.asm_lex.specs.Words.{Word}
-use Rattle.asm_argument.specs.declared.symbol.Terminal.{Terminal}
+use Rattle.asm_argument.specs.declared.terminal.Terminal.{Terminal}
 use Rattle.asm_source.specs.declared.tree.SourceItem.{SourceItem}
 use Rattle.asm_parse.specs.declared.state.StatementState.{StatementState}
 use Rattle.asm_parse.specs.declared.state.StatementState.TheVariants as state
 use Rattle.asm_parse.specs.ScopeView.{ScopeView}
 use Rattle.asm_parse.specs.Scope.{fresh}
-use Rattle.asm_argument.specs.Symbols.{symbol_of}
+use Rattle.asm_argument.specs.Terminals.{terminal_of}
 use Rattle.asm_parse.specs.Statement.{doom, fault_line}
 use Rattle.asm_parse.specs.Reading.{placed, next_word}
 use Rattle.asm_parse.specs.Running.{◌>>=◌, read, Parses, HasReading}
-use Rattle.asm_parse.specs.Statements.{symbols, Statements}
+use Rattle.asm_parse.specs.Statements.{terminals, Statements}
 use Rattle.asm_parse.specs.Refusals.{Ending, Worded, IsBeginning, IsNoBeginning, StatementPlace, Reaches, refused_cause, byte_cause, Refused, RefusesAs}
 use Rattle.asm_parse.proofs.Words.{read_words}
 use Rattle.asm_parse.proofs.Scopes.{GoodIn, fresh_good}
@@ -79,22 +79,22 @@ stopped_word ws w x named runs never = by_result (next_word x.0 x.1 w) refl
 
 -- two places that the reader's state suits give one cause
 module _ (x : Pair) (w : Word) (rest : List Terminal) (sc sc2 : ScopeView) (p p2 : StatementPlace) (one : Suits sc p x.0 x.1) (two : Suits sc2 p2 x.0 x.1) where
-  by_doomed : (z : Pair) → Doomed x.0 x.1 w z → refused_cause sc p (symbol_of w.kind w.bytes) rest ≡ refused_cause sc2 p2 (symbol_of w.kind w.bytes) rest
+  by_doomed : (z : Pair) → Doomed x.0 x.1 w z → refused_cause sc p (terminal_of w.kind w.bytes) rest ≡ refused_cause sc2 p2 (terminal_of w.kind w.bytes) rest
   by_doomed z (Doomed.name n start name k) =
       let a = one.first start in
       let b = two.first start in
-      ap (λ (q : StatementPlace). refused_cause sc q (symbol_of w.kind w.bytes) rest) a.1
-      ∙ (ap (λ (s : ScopeView). refused_cause s StatementPlace.first (symbol_of w.kind w.bytes) rest) (a.0 ∙ sym b.0)
-      ∙ ap (λ (q : StatementPlace). refused_cause sc2 q (symbol_of w.kind w.bytes) rest) (sym b.1))
+      ap (λ (q : StatementPlace). refused_cause sc q (terminal_of w.kind w.bytes) rest) a.1
+      ∙ (ap (λ (s : ScopeView). refused_cause s StatementPlace.first (terminal_of w.kind w.bytes) rest) (a.0 ∙ sym b.0)
+      ∙ ap (λ (q : StatementPlace). refused_cause sc2 q (terminal_of w.kind w.bytes) rest) (sym b.1))
   by_doomed z (Doomed.astray c percent fails is k) =
       ap (λ (s : Terminal). refused_cause sc p s rest) percent
       ∙ (one.percent w.line rest c fails ∙ sym (two.percent w.line rest c fails)
       ∙ ap (λ (s : Terminal). refused_cause sc2 p2 s rest) (sym percent))
 
-  one_word_cause : Stopped x w → refused_cause sc p (symbol_of w.kind w.bytes) rest ≡ refused_cause sc2 p2 (symbol_of w.kind w.bytes) rest
+  one_word_cause : Stopped x w → refused_cause sc p (terminal_of w.kind w.bytes) rest ≡ refused_cause sc2 p2 (terminal_of w.kind w.bytes) rest
   one_word_cause (inl (c, next)) =
       let fails = word_fails x.0 x.1 w c next in
-      one.cause w.line (symbol_of w.kind w.bytes) rest c fails ∙ sym (two.cause w.line (symbol_of w.kind w.bytes) rest c fails)
+      one.cause w.line (terminal_of w.kind w.bytes) rest c fails ∙ sym (two.cause w.line (terminal_of w.kind w.bytes) rest c fails)
   one_word_cause (inr (z, d)) = by_doomed z d
 
 -- ---- one place in the words
@@ -158,16 +158,16 @@ module _ (text : List ℕ) where
 
   two_words : {sc sc2 : ScopeView} {p p2 : StatementPlace} {e f : Ending} (ws rest : List Word) (w : Word) (vs more : List Word) (v : Word) → Words (ws ++ w ∷ rest) e → IsBeginning ws → IsNoBeginning (ws ++ w ∷ []) → Reaches ws sc p
       → Words (vs ++ v ∷ more) f → IsBeginning vs → IsNoBeginning (vs ++ v ∷ []) → Reaches vs sc2 p2
-      → OneFault w.line (refused_cause sc p (symbol_of w.kind w.bytes) (symbols rest)) v.line (refused_cause sc2 p2 (symbol_of v.kind v.bytes) (symbols more))
+      → OneFault w.line (refused_cause sc p (terminal_of w.kind w.bytes) (terminals rest)) v.line (refused_cause sc2 p2 (terminal_of v.kind v.bytes) (terminals more))
   two_words {sc} {sc2} {p} {p2} {e} {f} ws rest w vs more v words b never r words2 b2 never2 r2 =
       let all = one_text (ws ++ w ∷ rest) (vs ++ v ∷ more) e f words words2 in
       let same = split_same [] ws w rest vs v more all.0 never never2 b b2 in
       let x = begins ws b in
       let r3 : Reaches ws sc2 p2 = subst (λ (l : List Word). Reaches l sc2 p2) (sym same.front) r2 in
-      let causes = one_word_cause x.fin w (symbols rest) sc sc2 p p2 (reaches_suits ws sc p x.fin r x.runs x.alive) (reaches_suits ws sc2 p2 x.fin r3 x.runs x.alive)
+      let causes = one_word_cause x.fin w (terminals rest) sc sc2 p p2 (reaches_suits ws sc p x.fin r x.runs x.alive) (reaches_suits ws sc2 p2 x.fin r3 x.runs x.alive)
       (stopped_word ws w x.fin (named_split ws w rest e words) x.runs never) in (
         ap (λ (y : Word). y.line) same.word,
-        causes ∙ (ap (λ (y : Word). refused_cause sc2 p2 (symbol_of y.kind y.bytes) (symbols rest)) same.word ∙ ap (λ (l : List Word). refused_cause sc2 p2 (symbol_of v.kind v.bytes) (symbols l)) same.back),
+        causes ∙ (ap (λ (y : Word). refused_cause sc2 p2 (terminal_of y.kind y.bytes) (terminals rest)) same.word ∙ ap (λ (l : List Word). refused_cause sc2 p2 (terminal_of v.kind v.bytes) (terminals l)) same.back),
       )
 
   word_whole : {e f : Ending} (ws rest : List Word) (w : Word) (vs : List Word) → Words (ws ++ w ∷ rest) e → IsNoBeginning (ws ++ w ∷ []) → Words vs f → IsBeginning vs → ⊥

@@ -4,8 +4,8 @@ use Rattle.std.proofs.lemmas.List.{length-append}
 use Rattle.std.specs.Prelude.{not, ◌&&◌, ◌||◌, is_none, nat_lt, ◌+◌}
 use Rattle.asm_lex.specs.declared.fault.SourceCause.{SourceCause}
 use Rattle.asm_lex.specs.declared.fault.SourceCause.TheVariants as cause
-use Rattle.asm_argument.specs.declared.symbol.Terminal.{Terminal}
-use Rattle.asm_argument.specs.declared.symbol.Terminal.TheVariants as symbol
+use Rattle.asm_argument.specs.declared.terminal.Terminal.{Terminal}
+use Rattle.asm_argument.specs.declared.terminal.Terminal.TheVariants as terminal
 use Rattle.asm_argument.specs.declared.operand.Shape.{Shape}
 use Rattle.asm_argument.specs.declared.operand.Partial.{Partial}
 use Rattle.asm_source.specs.declared.tree.Argument.{Argument}
@@ -19,7 +19,7 @@ use Rattle.asm_parse.specs.declared.state.StatementState.TheVariants as state
 use Rattle.asm_lex.specs.Words.{Word}
 use Rattle.asm_lex.specs.declared.token.TokenKind.{TokenKind}
 use Rattle.asm_parse.specs.ScopeView.{ScopeView}
-use Rattle.asm_argument.specs.Symbols.{symbol_of}
+use Rattle.asm_argument.specs.Terminals.{terminal_of}
 use Rattle.asm_parse.specs.Reading.{is_longer, longer, ending_at, with_end, next_word}
 use Rattle.asm_source.specs.Names.{holds}
 use Rattle.asm_parse.specs.Scope.{has_room, is_spent, fresh, pushed}
@@ -27,7 +27,7 @@ use Rattle.asm_argument.specs.declared.operand.Shape.TheVariants as shape
 use Rattle.asm_argument.specs.declared.operand.ValuePlace.TheVariants as place
 use Rattle.asm_argument.specs.declared.operand.Partial.TheVariants as partial
 use Rattle.asm_parse.proofs.Scopes.{GoodIn, fresh_good, seen_good, spent_noting}
-use Rattle.asm_parse.proofs.Names.{noting_seen, Keeps, name_step, IsSome, symbol_some, operand_next}
+use Rattle.asm_parse.proofs.Names.{noting_seen, Keeps, name_step, IsSome, terminal_some, operand_next}
 use Rattle.asm_argument.specs.Operand.{operand_step, is_finished, is_nothing, name_in}
 use Rattle.asm_parse.specs.Statement.{item_of, resumed, noting, after_noting, with_name, after_step, at_shape, within, argument_of, comma_behind, end_behind, ended, complete, is_bare, takes_star, argument_step, nothing_yet, labelled, label, is_rep, rep_step, of_directive, is_passed, section_name, unless_skipping, start_step, colon_behind, other_behind, named_step, sectioned_step, flags_step, skip, with_scope, step, is_place, strayed, next_step, is_unknown, is_taken, lacks_names, if_doomed, doom, or_line, fault_line}
 use Rattle.asm_parse.specs.Directives.{shape_at, least, defines, is_instruction, directive_of, is_dotted, is_section, is_defining}
@@ -77,9 +77,9 @@ err_ok r e h = absurd cc
 
 named_stops : (sc : ScopeView) (b line : ℕ) (n : List ℕ) (s : Terminal) (x : ScopeView × StatementState) → sc.skipping ≡ false → is_dotted n ≡ true → directive_of n ≡ None → is_taken sc n ≡ true
     → next_step sc (state.Named b n) line s ≡ Ok x → ⊥
-named_stops sc b line n symbol.Colon x sk dotted dir taken h = taken_label sc b n x sk taken h
-named_stops sc b line n symbol.Percent x sk dotted dir taken h =
-    err_ok (strayed (fault_line sc (state.Named b n) line) (other_behind sc b n symbol.Percent)) (ap (strayed (fault_line sc (state.Named b n) line)) (unknown_behind sc b n symbol.Percent sk dotted dir)) h
+named_stops sc b line n terminal.Colon x sk dotted dir taken h = taken_label sc b n x sk taken h
+named_stops sc b line n terminal.Percent x sk dotted dir taken h =
+    err_ok (strayed (fault_line sc (state.Named b n) line) (other_behind sc b n terminal.Percent)) (ap (strayed (fault_line sc (state.Named b n) line)) (unknown_behind sc b n terminal.Percent sk dotted dir)) h
 named_stops sc b line n s x sk dotted dir taken h = err_ok (other_behind sc b n s) (unknown_behind sc b n s sk dotted dir) h
 
 -- What is dead stays so: behind a `%` what was said is of no more use.
@@ -87,14 +87,14 @@ abbrev pub Dead : ℕ → ScopeView × StatementState → Type 0
 Dead l x = (c : SourceCause) × (x ≡ (fresh, state.Stray l c))
 
 stray_stops : (sc : ScopeView) (l line : ℕ) (c : SourceCause) (s : Terminal) (x : ScopeView × StatementState) → next_step sc (state.Stray l c) line s ≡ Ok x → ⊥
-stray_stops sc l line c symbol.Percent x h = absurd cc
+stray_stops sc l line c terminal.Percent x h = absurd cc
 stray_stops sc l line c _ x h = absurd cc
 
 -- no name is left for the argument of a directive
 defines_none : (P : List ℕ → Type 0) (sc : ScopeView) (b : ℕ) (n : List ℕ) (k : Directive) (s : Terminal) → is_defining (Some k) ≡ true → GoodIn P sc → is_spent sc ≡ true → (c : SourceCause) × (of_directive (Some k) sc b n s ≡ Err c)
-defines_none P sc b n directive.Common (symbol.Name m) d g spent = let c = spent_noting P sc m g spent in (c.0, ap (after_noting (record (nothing_yet b (head.Directive directive.Common n)) { so_far = partial.Name place.Memory m })) c.1)
+defines_none P sc b n directive.Common (terminal.Name m) d g spent = let c = spent_noting P sc m g spent in (c.0, ap (after_noting (record (nothing_yet b (head.Directive directive.Common n)) { so_far = partial.Name place.Memory m })) c.1)
 defines_none P sc b n directive.Common _ d g spent = (_, refl)
-defines_none P sc b n directive.LocalCommon (symbol.Name m) d g spent = let c = spent_noting P sc m g spent in (c.0, ap (after_noting (record (nothing_yet b (head.Directive directive.LocalCommon n)) { so_far = partial.Name place.Memory m })) c.1)
+defines_none P sc b n directive.LocalCommon (terminal.Name m) d g spent = let c = spent_noting P sc m g spent in (c.0, ap (after_noting (record (nothing_yet b (head.Directive directive.LocalCommon n)) { so_far = partial.Name place.Memory m })) c.1)
 defines_none P sc b n directive.LocalCommon _ d g spent = (_, refl)
 defines_none P sc b n _ s d g spent = absurd cc
 
@@ -127,10 +127,10 @@ strayed_dead l r c x e h = by_test (is_place c) (sym (ap (strayed l) e) ∙ h)
 
 named_lacks : (P : List ℕ → Type 0) (sc : ScopeView) (b l line : ℕ) (n : List ℕ) (s : Terminal) (x : ScopeView × StatementState) → doom sc (state.Named b n) ≡ Some l → sc.skipping ≡ false → is_dotted n ≡ true → is_defining (directive_of n) ≡ true → GoodIn P sc → is_spent sc ≡ true
     → next_step sc (state.Named b n) line s ≡ Ok x → Dead l x
-named_lacks P sc b l line n symbol.Colon x d sk dotted def g spent h = absurd (lacks_label P sc b n x sk g spent h)
-named_lacks P sc b l line n symbol.Percent x d sk dotted def g spent h =
-    let c = lacks_behind P sc b n symbol.Percent sk dotted def g spent in
-    strayed_dead l (other_behind sc b n symbol.Percent) c.0 x c.1 (sym (ap (λ (o : Option ℕ). strayed (or_line o line) (other_behind sc b n symbol.Percent)) d) ∙ h)
+named_lacks P sc b l line n terminal.Colon x d sk dotted def g spent h = absurd (lacks_label P sc b n x sk g spent h)
+named_lacks P sc b l line n terminal.Percent x d sk dotted def g spent h =
+    let c = lacks_behind P sc b n terminal.Percent sk dotted def g spent in
+    strayed_dead l (other_behind sc b n terminal.Percent) c.0 x c.1 (sym (ap (λ (o : Option ℕ). strayed (or_line o line) (other_behind sc b n terminal.Percent)) d) ∙ h)
 named_lacks P sc b l line n s x d sk dotted def g spent h = let c = lacks_behind P sc b n s sk dotted def g spent in absurd (err_ok (other_behind sc b n s) c.1 h)
 
 or_two : (a b : Bool) → (a || b) ≡ true → (a ≡ true) ⊎ (b ≡ true)
@@ -166,9 +166,9 @@ pub record IsOpen (o : Open) : Type 0 where
   pub first : is_nothing o.so_far ≡ true → (is_instruction o.head ≡ true) ⊎ (1 ≤ length o.arguments)
 
 module _ (P : List ℕ → Type 0) where
-  abbrev pub SymbolIs : Terminal → Type 0
-  SymbolIs (symbol.Name n) = P n
-  SymbolIs _ = Unit {0}
+  abbrev pub TerminalIs : Terminal → Type 0
+  TerminalIs (terminal.Name n) = P n
+  TerminalIs _ = Unit {0}
 
   abbrev pub NamedIs : StatementState → Type 0
   NamedIs (state.Named b n) = P n
@@ -203,28 +203,28 @@ module _ (P : List ℕ → Type 0) where
   none_is_name : (q : Option (List ℕ)) → q ≡ None → NameIs q
   none_is_name q e = subst NameIs (sym e) tt
 
-  some_is_name : (q : Option (List ℕ)) (n : List ℕ) (s : Terminal) → q ≡ Some n → s ≡ symbol.Name n → SymbolIs s → NameIs q
-  some_is_name q n s e f p = let p2 : P n = subst SymbolIs f p in subst NameIs (sym e) p2
+  some_is_name : (q : Option (List ℕ)) (n : List ℕ) (s : Terminal) → q ≡ Some n → s ≡ terminal.Name n → TerminalIs s → NameIs q
+  some_is_name q n s e f p = let p2 : P n = subst TerminalIs f p in subst NameIs (sym e) p2
 
-  keeps_name : (p q : Partial) (s : Terminal) → SymbolIs s → Keeps p s q → NameIs (name_in q)
+  keeps_name : (p q : Partial) (s : Terminal) → TerminalIs s → Keeps p s q → NameIs (name_in q)
   keeps_name p q s is (inl k) = none_is_name (name_in q) k.0
   keeps_name p q s is (inr (n, a, b, c, d)) = some_is_name (name_in q) n s a d is
 
-  stepped_quiet : (line : ℕ) (sc : ScopeView) (o : Open) (s : Terminal) (sh : Shape) → GoodIn P sc → SymbolIs s → shape_at o.head (length o.arguments) ≡ Some sh → (r : Result Partial SourceCause) → operand_step sh o.so_far s ≡ r → Quiet line (after_step sc o s r)
+  stepped_quiet : (line : ℕ) (sc : ScopeView) (o : Open) (s : Terminal) (sh : Shape) → GoodIn P sc → TerminalIs s → shape_at o.head (length o.arguments) ≡ Some sh → (r : Result Partial SourceCause) → operand_step sh o.so_far s ≡ r → Quiet line (after_step sc o s r)
   stepped_quiet line sc o s sh g is may (Err c) e = tt
   stepped_quiet line sc o s sh g is may (Ok q) e =
       let next = operand_next sh o.so_far s q e in
-      let some : is_nothing q ≡ false = subst IsSome next (symbol_some sh o.so_far s) in
+      let some : is_nothing q ≡ false = subst IsSome next (terminal_some sh o.so_far s) in
       name_quiet line sc (record o { so_far = q }) (name_in q) g (record { shape = sh; may = may; first = λ k. absurd (both some k) }) (keeps_name o.so_far q s is (name_step sh o.so_far s q next))
     where
       both : {t : Bool} → t ≡ false → t ≡ true → ⊥
       both e f = absurd cc
 
-  shape_quiet : (line : ℕ) (sc : ScopeView) (o : Open) (s : Terminal) (r : Option Shape) → GoodIn P sc → SymbolIs s → shape_at o.head (length o.arguments) ≡ r → Quiet line (at_shape sc o s r)
+  shape_quiet : (line : ℕ) (sc : ScopeView) (o : Open) (s : Terminal) (r : Option Shape) → GoodIn P sc → TerminalIs s → shape_at o.head (length o.arguments) ≡ r → Quiet line (at_shape sc o s r)
   shape_quiet line sc o s None g is e = tt
   shape_quiet line sc o s (Some sh) g is e = stepped_quiet line sc o s sh g is e (operand_step sh o.so_far s) refl
 
-  within_quiet : (line : ℕ) (sc : ScopeView) (o : Open) (s : Terminal) → GoodIn P sc → SymbolIs s → Quiet line (within sc o s)
+  within_quiet : (line : ℕ) (sc : ScopeView) (o : Open) (s : Terminal) → GoodIn P sc → TerminalIs s → Quiet line (within sc o s)
   within_quiet line sc o s g is = shape_quiet line sc o s (shape_at o.head (length o.arguments)) g is refl
 
   argument_quiet : (line : ℕ) (sc : ScopeView) (b : ℕ) (h : Head) (done : List Argument) (r : Option Shape) → GoodIn P sc → shape_at h (length done) ≡ r → 1 ≤ length done → Quiet line (with_scope sc (argument_of b h done r))
@@ -256,14 +256,14 @@ module _ (P : List ℕ → Type 0) where
       operand_first (head.Instruction r n) i e = refl
       operand_first (head.Directive k n) i e = absurd cc
 
-  star_quiet : (line : ℕ) (sc : ScopeView) (o : Open) → GoodIn P sc → (t : Bool) → takes_star o ≡ t → Quiet line (cond t (Ok (sc, state.Arguments (record o { star = true }))) (within sc o symbol.Star))
+  star_quiet : (line : ℕ) (sc : ScopeView) (o : Open) → GoodIn P sc → (t : Bool) → takes_star o ≡ t → Quiet line (cond t (Ok (sc, state.Arguments (record o { star = true }))) (within sc o terminal.Star))
   star_quiet line sc o g true e = (star_open o e, g)
-  star_quiet line sc o g false e = within_quiet line sc o symbol.Star g tt
+  star_quiet line sc o g false e = within_quiet line sc o terminal.Star g tt
 
-  arguments_quiet : (line : ℕ) (sc : ScopeView) (o : Open) (s : Terminal) → GoodIn P sc → SymbolIs s → Quiet line (argument_step sc o s)
-  arguments_quiet line sc o symbol.Comma g is = either line (is_finished o.so_far) _ _ (comma_quiet line sc (ended o) g) (within_quiet line sc o symbol.Comma g tt)
-  arguments_quiet line sc o symbol.End g is = either line (is_bare o) _ _ (complete_quiet line sc o.line o.head o.arguments g) (either line (is_finished o.so_far) _ _ (end_quiet line sc (ended o) g) (within_quiet line sc o symbol.End g tt))
-  arguments_quiet line sc o symbol.Star g is = star_quiet line sc o g (takes_star o) refl
+  arguments_quiet : (line : ℕ) (sc : ScopeView) (o : Open) (s : Terminal) → GoodIn P sc → TerminalIs s → Quiet line (argument_step sc o s)
+  arguments_quiet line sc o terminal.Comma g is = either line (is_finished o.so_far) _ _ (comma_quiet line sc (ended o) g) (within_quiet line sc o terminal.Comma g tt)
+  arguments_quiet line sc o terminal.End g is = either line (is_bare o) _ _ (complete_quiet line sc o.line o.head o.arguments g) (either line (is_finished o.so_far) _ _ (end_quiet line sc (ended o) g) (within_quiet line sc o terminal.End g tt))
+  arguments_quiet line sc o terminal.Star g is = star_quiet line sc o g (takes_star o) refl
   arguments_quiet line sc o s g is = within_quiet line sc o s g is
 
   labelled_quiet : (line b : ℕ) (n : List ℕ) (r : Result ScopeView SourceCause) → ((sc : ScopeView) → r ≡ Ok sc → GoodIn P sc) → Quiet line (labelled b n r)
@@ -271,11 +271,11 @@ module _ (P : List ℕ → Type 0) where
   labelled_quiet line b n (Err c) g = tt
 
   skip_quiet : (line : ℕ) (sc : ScopeView) (s : Terminal) → GoodIn P sc → Quiet line (Ok (sc, skip s))
-  skip_quiet line sc symbol.End g = (tt, g)
+  skip_quiet line sc terminal.End g = (tt, g)
   skip_quiet line sc _ g = (tt, g)
 
   rep_quiet : (line : ℕ) (sc : ScopeView) (b : ℕ) (s : Terminal) → GoodIn P sc → Quiet line (rep_step sc b s)
-  rep_quiet line sc b (symbol.Name m) g = (record { shape = shape.Operand; may = refl; first = λ k. inl refl }, g)
+  rep_quiet line sc b (terminal.Name m) g = (record { shape = shape.Operand; may = refl; first = λ k. inl refl }, g)
   rep_quiet line sc b _ g = tt
 
   cond_quiet : (line : ℕ) (sc : ScopeView) (t : Bool) (st : StatementState) (c : SourceCause) → GoodIn P sc → IsQuiet line st → Quiet line (with_scope sc (cond t (Ok st) (Err c)))
@@ -283,45 +283,45 @@ module _ (P : List ℕ → Type 0) where
   cond_quiet line sc false st c g h = tt
 
   section_quiet : (line : ℕ) (sc : ScopeView) (b : ℕ) (n : List ℕ) (s : Terminal) → GoodIn P sc → Quiet line (with_scope sc (section_name b n s))
-  section_quiet line sc b n (symbol.Name m) g = cond_quiet line sc (is_section m) (state.Sectioned b n m 0) cause.BadArgument g tt
+  section_quiet line sc b n (terminal.Name m) g = cond_quiet line sc (is_section m) (state.Sectioned b n m 0) cause.BadArgument g tt
   section_quiet line sc b n _ g = tt
 
-  directive_quiet : (line : ℕ) (sc : ScopeView) (b : ℕ) (n : List ℕ) (s : Terminal) (d : Option Directive) → GoodIn P sc → SymbolIs s → Quiet line (of_directive d sc b n s)
+  directive_quiet : (line : ℕ) (sc : ScopeView) (b : ℕ) (n : List ℕ) (s : Terminal) (d : Option Directive) → GoodIn P sc → TerminalIs s → Quiet line (of_directive d sc b n s)
   directive_quiet line sc b n s None g is = tt
   directive_quiet line sc b n s (Some directive.Skipped) g is = skip_quiet line sc s g
   directive_quiet line sc b n s (Some directive.Section) g is = section_quiet line sc b n s g
   directive_quiet line sc b n s (Some k) g is = arguments_quiet line sc (nothing_yet b (head.Directive k n)) s g is
 
-  behind_quiet : (line : ℕ) (sc : ScopeView) (b : ℕ) (n : List ℕ) (s : Terminal) → GoodIn P sc → SymbolIs s → Quiet line (other_behind sc b n s)
+  behind_quiet : (line : ℕ) (sc : ScopeView) (b : ℕ) (n : List ℕ) (s : Terminal) → GoodIn P sc → TerminalIs s → Quiet line (other_behind sc b n s)
   behind_quiet line sc b n s g is =
       either line (is_passed sc n) _ _ (skip_quiet line sc s g)
       (either line (is_dotted n) _ _ (directive_quiet line sc b n s (directive_of n) g is) (either line (is_rep n) _ _ (rep_quiet line sc b s g) (arguments_quiet line sc (nothing_yet b (head.Instruction false n)) s g is)))
 
-  named_quiet : (line : ℕ) (sc : ScopeView) (b : ℕ) (n : List ℕ) (s : Terminal) → GoodIn P sc → P n → SymbolIs s → Quiet line (named_step sc b n s)
-  named_quiet line sc b n symbol.Colon g p is = either line sc.skipping _ _ (tt, g) (labelled_quiet line b n (noting sc true n) (λ sc2 e. seen_good P (noting_seen sc sc2 true n e) p g))
+  named_quiet : (line : ℕ) (sc : ScopeView) (b : ℕ) (n : List ℕ) (s : Terminal) → GoodIn P sc → P n → TerminalIs s → Quiet line (named_step sc b n s)
+  named_quiet line sc b n terminal.Colon g p is = either line sc.skipping _ _ (tt, g) (labelled_quiet line b n (noting sc true n) (λ sc2 e. seen_good P (noting_seen sc sc2 true n e) p g))
   named_quiet line sc b n s g p is = behind_quiet line sc b n s g is
 
   sectioned_quiet : (line : ℕ) (sc : ScopeView) (b : ℕ) (n m : List ℕ) (s : Terminal) → GoodIn P sc → Quiet line (sectioned_step sc b n m s)
-  sectioned_quiet line sc b n m symbol.End g = (tt, g)
-  sectioned_quiet line sc b n m symbol.Comma g = (tt, g)
-  sectioned_quiet line sc b n m symbol.Big g = tt
+  sectioned_quiet line sc b n m terminal.End g = (tt, g)
+  sectioned_quiet line sc b n m terminal.Comma g = (tt, g)
+  sectioned_quiet line sc b n m terminal.Big g = tt
   sectioned_quiet line sc b n m _ g = tt
 
   flags_quiet : (line : ℕ) (sc : ScopeView) (b : ℕ) (n m : List ℕ) (s : Terminal) → GoodIn P sc → Quiet line (flags_step sc b n m s)
-  flags_quiet line sc b n m symbol.End g = (tt, g)
+  flags_quiet line sc b n m terminal.End g = (tt, g)
   flags_quiet line sc b n m _ g = (tt, g)
 
   unless_quiet : (line : ℕ) (sc : ScopeView) (t : Bool) (c : SourceCause) → GoodIn P sc → Quiet line (with_scope sc (unless_skipping t c))
   unless_quiet line sc true c g = (tt, g)
   unless_quiet line sc false c g = tt
 
-  start_quiet : (line : ℕ) (sc : ScopeView) (s : Terminal) → GoodIn P sc → SymbolIs s → Quiet line (with_scope sc (start_step sc line s))
-  start_quiet line sc symbol.End g is = (tt, g)
-  start_quiet line sc (symbol.Name n) g is = ((refl, is), g)
-  start_quiet line sc symbol.Big g is = unless_quiet line sc sc.skipping cause.BadNumber g
+  start_quiet : (line : ℕ) (sc : ScopeView) (s : Terminal) → GoodIn P sc → TerminalIs s → Quiet line (with_scope sc (start_step sc line s))
+  start_quiet line sc terminal.End g is = (tt, g)
+  start_quiet line sc (terminal.Name n) g is = ((refl, is), g)
+  start_quiet line sc terminal.Big g is = unless_quiet line sc sc.skipping cause.BadNumber g
   start_quiet line sc _ g is = unless_quiet line sc sc.skipping cause.BadOperand g
 
-  step_quiet : (line : ℕ) (sc : ScopeView) (st : StatementState) (s : Terminal) → GoodIn P sc → NamedIs st → SymbolIs s → Quiet line (step sc st line s)
+  step_quiet : (line : ℕ) (sc : ScopeView) (st : StatementState) (s : Terminal) → GoodIn P sc → NamedIs st → TerminalIs s → Quiet line (step sc st line s)
   step_quiet line sc state.Start s g p is = start_quiet line sc s g is
   step_quiet line sc (state.Named b n) s g p is = named_quiet line sc b n s g p is
   step_quiet line sc state.Skip s g p is = skip_quiet line sc s g
@@ -334,9 +334,9 @@ module _ (P : List ℕ → Type 0) where
   strayed_quiet line (Ok x) h = h
   strayed_quiet line (Err c) h = either line (is_place c) _ _ (refl, fresh_good P) tt
 
-  next_quiet : (line : ℕ) (sc : ScopeView) (st : StatementState) (s : Terminal) → doom sc st ≡ None → GoodIn P sc → NamedIs st → SymbolIs s → Quiet line (next_step sc st line s)
-  next_quiet line sc st symbol.Percent e g p is =
-      subst (λ (o : Option ℕ). Quiet line (strayed (or_line o line) (step sc st line symbol.Percent))) (sym e) (strayed_quiet line (step sc st line symbol.Percent) (step_quiet line sc st symbol.Percent g p is))
+  next_quiet : (line : ℕ) (sc : ScopeView) (st : StatementState) (s : Terminal) → doom sc st ≡ None → GoodIn P sc → NamedIs st → TerminalIs s → Quiet line (next_step sc st line s)
+  next_quiet line sc st terminal.Percent e g p is =
+      subst (λ (o : Option ℕ). Quiet line (strayed (or_line o line) (step sc st line terminal.Percent))) (sym e) (strayed_quiet line (step sc st line terminal.Percent) (step_quiet line sc st terminal.Percent g p is))
   next_quiet line sc st s e g p is = step_quiet line sc st s g p is
 
 abbrev NoneOr : ℕ → Option ℕ → Type 0
@@ -364,22 +364,22 @@ quiet_state P line _ h = tt
 
 -- ---- the same of words
 
--- a word goes on with a section's name, or is a symbol
+-- a word goes on with a section's name, or is a terminal
 pub data WordGoes (sc : ScopeView) (st : StatementState) (w : Word) (x : ScopeView × StatementState) : Type 0 where
   on : is_longer st w.at w.kind w.bytes ≡ true → x ≡ (sc, longer st (w.at + length w.bytes) w.bytes) → WordGoes sc st w x
-  as_symbol : (y : ScopeView × StatementState) → is_longer st w.at w.kind w.bytes ≡ false → next_step sc st w.line (symbol_of w.kind w.bytes) ≡ Ok y → x ≡ (y.0, ending_at (w.at + length w.bytes) y.1) → WordGoes sc st w x
+  as_terminal : (y : ScopeView × StatementState) → is_longer st w.at w.kind w.bytes ≡ false → next_step sc st w.line (terminal_of w.kind w.bytes) ≡ Ok y → x ≡ (y.0, ending_at (w.at + length w.bytes) y.1) → WordGoes sc st w x
 
 pub word_goes : (sc : ScopeView) (st : StatementState) (w : Word) (x : ScopeView × StatementState) → next_word sc st w ≡ Ok x → WordGoes sc st w x
 word_goes sc st w x h = by_test (is_longer st w.at w.kind w.bytes) refl h
   where
-    by_result : (r : Answer) → is_longer st w.at w.kind w.bytes ≡ false → next_step sc st w.line (symbol_of w.kind w.bytes) ≡ r → with_end (w.at + length w.bytes) r ≡ Ok x → WordGoes sc st w x
-    by_result (Ok y) t e h = let g : (y.0, ending_at (w.at + length w.bytes) y.1) ≡ x = cc in WordGoes.as_symbol y t e (sym g)
+    by_result : (r : Answer) → is_longer st w.at w.kind w.bytes ≡ false → next_step sc st w.line (terminal_of w.kind w.bytes) ≡ r → with_end (w.at + length w.bytes) r ≡ Ok x → WordGoes sc st w x
+    by_result (Ok y) t e h = let g : (y.0, ending_at (w.at + length w.bytes) y.1) ≡ x = cc in WordGoes.as_terminal y t e (sym g)
     by_result (Err c) t e h = absurd cc
 
     by_test : (t : Bool) → is_longer st w.at w.kind w.bytes ≡ t
-        → ◌≡◌ {A = Answer} (cond t (Ok (sc, longer st (w.at + length w.bytes) w.bytes)) (with_end (w.at + length w.bytes) (next_step sc st w.line (symbol_of w.kind w.bytes)))) (Ok x) → WordGoes sc st w x
+        → ◌≡◌ {A = Answer} (cond t (Ok (sc, longer st (w.at + length w.bytes) w.bytes)) (with_end (w.at + length w.bytes) (next_step sc st w.line (terminal_of w.kind w.bytes)))) (Ok x) → WordGoes sc st w x
     by_test true e h = let g : (sc, longer st (w.at + length w.bytes) w.bytes) ≡ x = cc in WordGoes.on e (sym g)
-    by_test false e h = by_result (next_step sc st w.line (symbol_of w.kind w.bytes)) e refl h
+    by_test false e h = by_result (next_step sc st w.line (terminal_of w.kind w.bytes)) e refl h
 
 ending_doom : (sc : ScopeView) (st : StatementState) (e : ℕ) → doom sc (ending_at e st) ≡ doom sc st
 ending_doom sc (state.Sectioned b n m a) e = refl
@@ -421,7 +421,7 @@ ending_state P (state.Arguments o) e h = h
 ending_state P (state.Stray l c) e h = h
 
 -- One word makes nothing dead but in its own line, and what is dead stays so.
-pub word_next : (P : List ℕ → Type 0) (sc : ScopeView) (st : StatementState) (w : Word) (x : ScopeView × StatementState) → GoodIn P sc → NamedIs P st → SymbolIs P (symbol_of w.kind w.bytes) → next_word sc st w ≡ Ok x → Next P sc st w.line x
+pub word_next : (P : List ℕ → Type 0) (sc : ScopeView) (st : StatementState) (w : Word) (x : ScopeView × StatementState) → GoodIn P sc → NamedIs P st → TerminalIs P (terminal_of w.kind w.bytes) → next_word sc st w ≡ Ok x → Next P sc st w.line x
 word_next P sc st w x g named is h = elim (word_goes sc st w x h) [
   | WordGoes.on t e ↦
       let q = longer_quiet sc st w.at (w.at + length w.bytes) w.kind w.bytes t in
@@ -430,12 +430,12 @@ word_next P sc st w x g named is h = elim (word_goes sc st w x h) [
         scope = subst (λ (z : ScopeView × StatementState). GoodIn P z.0) (sym e) g;
         state = subst (λ (z : ScopeView × StatementState). StateIs P z.1) (sym e) (longer_state P st w.at (w.at + length w.bytes) w.kind w.bytes t);
       }
-  | WordGoes.as_symbol y t f e ↦ by_doom y f (ap (λ (z : ScopeView × StatementState). doom z.0 z.1) e ∙ ending_doom y.0 y.1 (w.at + length w.bytes)) (ap (λ (z : ScopeView × StatementState). z.0) e) (ap (λ (z : ScopeView × StatementState). z.1) e) (doom sc st) refl
+  | WordGoes.as_terminal y t f e ↦ by_doom y f (ap (λ (z : ScopeView × StatementState). doom z.0 z.1) e ∙ ending_doom y.0 y.1 (w.at + length w.bytes)) (ap (λ (z : ScopeView × StatementState). z.0) e) (ap (λ (z : ScopeView × StatementState). z.1) e) (doom sc st) refl
 ]
   where
-    by_doom : (y : ScopeView × StatementState) → next_step sc st w.line (symbol_of w.kind w.bytes) ≡ Ok y → doom x.0 x.1 ≡ doom y.0 y.1 → x.0 ≡ y.0 → x.1 ≡ ending_at (w.at + length w.bytes) y.1 → (d : Option ℕ) → doom sc st ≡ d → Next P sc st w.line x
+    by_doom : (y : ScopeView × StatementState) → next_step sc st w.line (terminal_of w.kind w.bytes) ≡ Ok y → doom x.0 x.1 ≡ doom y.0 y.1 → x.0 ≡ y.0 → x.1 ≡ ending_at (w.at + length w.bytes) y.1 → (d : Option ℕ) → doom sc st ≡ d → Next P sc st w.line x
     by_doom y f e scope state (Some l) k =
-        let dead = doomed_stays P sc st l w.line (symbol_of w.kind w.bytes) y g k f in
+        let dead = doomed_stays P sc st l w.line (terminal_of w.kind w.bytes) y g k f in
         let same : doom y.0 y.1 ≡ Some l = ap (λ (z : ScopeView × StatementState). doom z.0 z.1) dead.1 in
         record {
           doom = inl (e ∙ (same ∙ sym k));
@@ -443,7 +443,7 @@ word_next P sc st w x g named is h = elim (word_goes sc st w x h) [
           state = subst (StateIs P) (sym (state ∙ ap (λ (z : ScopeView × StatementState). ending_at (w.at + length w.bytes) z.1) dead.1)) tt;
         }
     by_doom y f e scope state None k =
-        let q : Quiet P w.line (Ok y) = subst (Quiet P w.line) f (next_quiet P w.line sc st (symbol_of w.kind w.bytes) k g named is) in
+        let q : Quiet P w.line (Ok y) = subst (Quiet P w.line) f (next_quiet P w.line sc st (terminal_of w.kind w.bytes) k g named is) in
         record {
           doom = elim (quiet_doom P w.line y.0 y.1 q.0) [ inl n ↦ inl (e ∙ (n ∙ sym k)) | inr n ↦ inr (k, e ∙ n) ];
           scope = subst (GoodIn P) (sym scope) q.1;
@@ -455,13 +455,13 @@ word_next P sc st w x g named is h = elim (word_goes sc st w x h) [
 abbrev pub Any : List ℕ → Type 0
 Any n = Unit {0}
 
-pub any_symbol : (s : Terminal) → SymbolIs Any s
-any_symbol (symbol.Name n) = tt
-any_symbol _ = tt
+pub any_terminal : (s : Terminal) → TerminalIs Any s
+any_terminal (terminal.Name n) = tt
+any_terminal _ = tt
 
 pub any_state : (st : StatementState) → NamedIs Any st
 any_state (state.Named b n) = tt
 any_state _ = tt
 
 pub any_next : (sc : ScopeView) (st : StatementState) (w : Word) (x : ScopeView × StatementState) → GoodIn Any sc → next_word sc st w ≡ Ok x → Next Any sc st w.line x
-any_next sc st w x g h = word_next Any sc st w x g (any_state st) (any_symbol (symbol_of w.kind w.bytes)) h
+any_next sc st w x g h = word_next Any sc st w x g (any_state st) (any_terminal (terminal_of w.kind w.bytes)) h

@@ -6,6 +6,7 @@ use Rattle.std.proofs.lemmas.List.Elements.{All-nil, All-cons, All-push}
 use Rattle.std.proofs.lemmas.Grind.{flat_map-append}
 use Rattle.std.proofs.lemmas.Bool.{ltb-true}
 use Rattle.std.specs.Prelude.{◌&&◌, ◌||◌, ◌==◌, ◌^◌, nat_lt, fold, All, IfOk, Result, Ok, Err}
+use Rattle.std.specs.Option.{option_to_list}
 use Rattle.std.specs.List.{flat_map, list_all}
 use Rattle.asm_lex.specs.declared.lexing.TheConstants.{LIMIT}
 use Rattle.asm_lex.specs.declared.fault.SourceFault.{SourceFault}
@@ -14,8 +15,8 @@ use Rattle.asm_lex.specs.declared.token.TokenKind.{TokenKind}
 use Rattle.asm_lex.specs.Bytes.{class_of, is_source, is_letter, is_word}
 use Rattle.asm_lex.specs.Words.{Word}
 use Rattle.asm_lex.specs.Source.{IsToken, Lexed}
-use Rattle.asm_argument.specs.declared.symbol.Terminal.{Terminal}
-use Rattle.asm_argument.specs.declared.symbol.Terminal.TheVariants as symbol
+use Rattle.asm_argument.specs.declared.terminal.Terminal.{Terminal}
+use Rattle.asm_argument.specs.declared.terminal.Terminal.TheVariants as terminal
 use Rattle.asm_argument.specs.declared.operand.Shape.{Shape}
 use Rattle.asm_source.specs.declared.tree.Value.{Value}
 use Rattle.asm_source.specs.declared.tree.Form.{Form}
@@ -30,14 +31,14 @@ use Rattle.asm_parse.specs.ScopeView.{ScopeView}
 use Rattle.asm_source.specs.Names.{holds, added, symbol_in}
 use Rattle.asm_parse.specs.Scope.{fresh, pushed}
 use Rattle.asm_argument.specs.Grammar.{IsValue, IsForm}
-use Rattle.asm_argument.specs.Symbols.{number_value, mark_symbol, number_symbol, symbol_of}
+use Rattle.asm_argument.specs.Terminals.{number_value, mark_terminal, number_terminal, terminal_of}
 use Rattle.asm_parse.specs.Statement.{item_of, resumed}
 use Rattle.asm_parse.specs.Directives.{defines}
-use Rattle.asm_parse.specs.Statements.{IsSeen, Sees, IsArgument, IsNext, Separated, HasArguments, Statement, symbols, text_of, IsStatement, Statements}
-use Rattle.asm_source.specs.Readable.{name_list, argument_names, body_names, names_in, IsReadable}
+use Rattle.asm_parse.specs.Statements.{IsSeen, Sees, IsArgument, IsNext, Separated, HasArguments, Statement, terminals, text_of, IsStatement, Statements}
+use Rattle.asm_source.specs.Readable.{argument_names, body_names, names_in, IsReadable}
 use Rattle.asm_parse.specs.Running.{Says, SourceAs, Parses, read}
 use Rattle.asm_parse.proofs.Sources.{parsed_is}
-use Rattle.asm_parse.proofs.Sizes.{source_pays, symbols-append}
+use Rattle.asm_parse.proofs.Sizes.{source_pays, terminals-append}
 
 -- ---- bytes and tokens
 
@@ -49,19 +50,19 @@ abbrev PlainName : Option (List ℕ) → Type 0
 PlainName None = Unit {0}
 PlainName (Some n) = Plain n
 
-abbrev PlainSymbol : Terminal → Type 0
-PlainSymbol (symbol.Name n) = Plain n
-PlainSymbol _ = Unit {0}
+abbrev PlainTerminal : Terminal → Type 0
+PlainTerminal (terminal.Name n) = Plain n
+PlainTerminal _ = Unit {0}
 
-abbrev PlainSymbols : List Terminal → Type 0
-PlainSymbols [] = Unit {0}
-PlainSymbols (s ∷ ss) = PlainSymbol s × PlainSymbols ss
+abbrev PlainTerminals : List Terminal → Type 0
+PlainTerminals [] = Unit {0}
+PlainTerminals (s ∷ ss) = PlainTerminal s × PlainTerminals ss
 
-front_plain : (ss ts : List Terminal) → PlainSymbols (ss ++ ts) → PlainSymbols ss
+front_plain : (ss ts : List Terminal) → PlainTerminals (ss ++ ts) → PlainTerminals ss
 front_plain [] ts h = tt
 front_plain (s ∷ ss) ts h = (h.0, front_plain ss ts h.1)
 
-back_plain : (ss ts : List Terminal) → PlainSymbols (ss ++ ts) → PlainSymbols ts
+back_plain : (ss ts : List Terminal) → PlainTerminals (ss ++ ts) → PlainTerminals ts
 back_plain [] ts h = h
 back_plain (s ∷ ss) ts h = back_plain ss ts h.1
 
@@ -84,19 +85,19 @@ words_plain : (bs : List ℕ) → list_all is_word bs ≡ true → Plain bs
 words_plain [] h = All-nil (λ (x : ℕ). 1 ≤ x)
 words_plain (b ∷ bs) h = let p = and_both (is_word b) (list_all is_word bs) h in All-cons (λ (x : ℕ). 1 ≤ x) b bs (word_some b p.0) (words_plain bs p.1)
 
-plain_either : (t : Bool) (a b : Terminal) → PlainSymbol a → PlainSymbol b → PlainSymbol (cond t a b)
+plain_either : (t : Bool) (a b : Terminal) → PlainTerminal a → PlainTerminal b → PlainTerminal (cond t a b)
 plain_either true a b p q = p
 plain_either false a b p q = q
 
-mark_plain : (m : ℕ) → PlainSymbol (mark_symbol m)
+mark_plain : (m : ℕ) → PlainTerminal (mark_terminal m)
 mark_plain m =
     plain_either (m == 36) _ _ tt (plain_either (m == 37) _ _ tt (plain_either (m == 40) _ _ tt (plain_either (m == 41) _ _ tt (plain_either (m == 42) _ _ tt
     (plain_either (m == 43) _ _ tt (plain_either (m == 44) _ _ tt (plain_either (m == 45) _ _ tt (plain_either (m == 58) _ _ tt tt))))))))
 
-number_plain : (n : ℕ) → PlainSymbol (number_symbol n)
+number_plain : (n : ℕ) → PlainTerminal (number_terminal n)
 number_plain n = plain_either (nat_lt n (2 ^ 32)) _ _ tt tt
 
-token_plain : (k : TokenKind) (piece rest : List ℕ) → IsToken k piece rest → PlainSymbol (symbol_of k piece)
+token_plain : (k : TokenKind) (piece rest : List ℕ) → IsToken k piece rest → PlainTerminal (terminal_of k piece)
 token_plain k piece rest (IsToken.end h) = tt
 token_plain k piece rest (IsToken.mark {b} h) = mark_plain b
 token_plain k piece rest (IsToken.name {b} {bs} h g f) = All-cons (λ (x : ℕ). 1 ≤ x) b bs (letter_some b h) (words_plain bs g)
@@ -104,30 +105,30 @@ token_plain k piece rest (IsToken.number {b} {bs} h g f e) = number_plain (numbe
 token_plain k piece rest (IsToken.character {b} {c} h g) = number_plain (number_value (b ∷ c ∷ []))
 token_plain k piece rest (IsToken.string {b} {bs} h g) = tt
 
-lexed_plain : {at line : ℕ} {text : List ℕ} {ws : List Word} → Lexed at line text ws → PlainSymbols (symbols ws)
+lexed_plain : {at line : ℕ} {text : List ℕ} {ws : List Word} → Lexed at line text ws → PlainTerminals (terminals ws)
 lexed_plain Lexed.none = tt
 lexed_plain (Lexed.gap piece rest e gap l) = lexed_plain l
 lexed_plain (Lexed.token k piece rest e is l) = (token_plain k piece rest is, lexed_plain l)
 
 -- ---- one argument
 
-value_plain : {sh : Shape} {ss : List Terminal} {v : Value} → IsValue sh ss v → PlainSymbols ss → PlainName v.name
+value_plain : {sh : Shape} {ss : List Terminal} {v : Value} → IsValue sh ss v → PlainTerminals ss → PlainName v.name
 value_plain (IsValue.number t f) h = tt
 value_plain (IsValue.negative t l f) h = tt
 value_plain (IsValue.name t) h = h.0
 value_plain (IsValue.sum t u c) h = h.0
 value_plain (IsValue.difference t u c) h = h.0
 
-form_plain : {sh : Shape} {ss : List Terminal} {f : Form} → IsForm sh ss f → PlainSymbols ss → PlainName (symbol_in f)
+form_plain : {sh : Shape} {ss : List Terminal} {f : Form} → IsForm sh ss f → PlainTerminals ss → PlainName (symbol_in f)
 form_plain (IsForm.absent h) p = tt
 form_plain (IsForm.text h) p = tt
 form_plain (IsForm.register h g) p = tt
 form_plain (IsForm.immediate h v) p = value_plain v p.1
 form_plain (IsForm.value v) p = value_plain v p
 form_plain (IsForm.address h a) p = tt
-form_plain (IsForm.value_address vs ps h e v a) p = value_plain v (front_plain vs ps (subst PlainSymbols e p))
+form_plain (IsForm.value_address vs ps h e v a) p = value_plain v (front_plain vs ps (subst PlainTerminals e p))
 
-argument_plain : {sh : Shape} {ss : List Terminal} {a : Argument} → IsArgument sh ss a → PlainSymbols ss → PlainName (symbol_in a.form)
+argument_plain : {sh : Shape} {ss : List Terminal} {a : Argument} → IsArgument sh ss a → PlainTerminals ss → PlainName (symbol_in a.form)
 argument_plain (IsArgument.plain f) p = form_plain f p
 argument_plain (IsArgument.starred h f) p = form_plain f p.1
 
@@ -176,7 +177,7 @@ none_grown sc sc2 e fit = record {
   items = ap (λ (x : ScopeView). x.items) (sym e);
 }
 
-sees_grown : (sc sc2 : ScopeView) (d : Bool) (o : Option (List ℕ)) → Sees sc d o sc2 → PlainName o → Fit sc → Grown sc sc2 (name_list o)
+sees_grown : (sc sc2 : ScopeView) (d : Bool) (o : Option (List ℕ)) → Sees sc d o sc2 → PlainName o → Fit sc → Grown sc sc2 (option_to_list o)
 sees_grown sc sc2 d None h plain fit = none_grown sc sc2 h fit
 sees_grown sc sc2 d (Some n) h plain fit = seen_grown h plain fit
 
@@ -187,24 +188,24 @@ both_grown sc sc1 sc2 ns ms a b = record {
   items = b.items ∙ a.items;
 }
 
-names-end : (before : List Argument) (a : Argument) → argument_names (before ++ a ∷ []) ≡ argument_names before ++ name_list (symbol_in a.form)
+names-end : (before : List Argument) (a : Argument) → argument_names (before ++ a ∷ []) ≡ argument_names before ++ option_to_list (symbol_in a.form)
 names-end before a =
-    flat_map-append (λ (x : Argument). name_list (symbol_in x.form)) before (a ∷ [])
-    ∙ ap (λ (x : List (List ℕ)). argument_names before ++ x) (append-nil (name_list (symbol_in a.form)))
+    flat_map-append (λ (x : Argument). option_to_list (symbol_in x.form)) before (a ∷ [])
+    ∙ ap (λ (x : List (List ℕ)). argument_names before ++ x) (append-nil (option_to_list (symbol_in a.form)))
 
-end_grown : (sc sc1 sc2 : ScopeView) (before : List Argument) (a : Argument) → Grown sc sc1 (argument_names before) → Grown sc1 sc2 (name_list (symbol_in a.form)) → Grown sc sc2 (argument_names (before ++ a ∷ []))
-end_grown sc sc1 sc2 before a g h = subst (Grown sc sc2) (sym (names-end before a)) (both_grown sc sc1 sc2 (argument_names before) (name_list (symbol_in a.form)) g h)
+end_grown : (sc sc1 sc2 : ScopeView) (before : List Argument) (a : Argument) → Grown sc sc1 (argument_names before) → Grown sc1 sc2 (option_to_list (symbol_in a.form)) → Grown sc sc2 (argument_names (before ++ a ∷ []))
+end_grown sc sc1 sc2 before a g h = subst (Grown sc sc2) (sym (names-end before a)) (both_grown sc sc1 sc2 (argument_names before) (option_to_list (symbol_in a.form)) g h)
 
-next_grown : {h : Head} {sc sc2 : ScopeView} {before : List Argument} {ts : List Terminal} {a : Argument} → IsNext h sc before ts a sc2 → PlainSymbols ts → Fit sc → Grown sc sc2 (name_list (symbol_in a.form))
+next_grown : {h : Head} {sc sc2 : ScopeView} {before : List Argument} {ts : List Terminal} {a : Argument} → IsNext h sc before ts a sc2 → PlainTerminals ts → Fit sc → Grown sc sc2 (option_to_list (symbol_in a.form))
 next_grown {h} {sc} {sc2} {before} {a} next plain fit = sees_grown sc sc2 (defines h (length before)) (symbol_in a.form) next.sees (argument_plain next.is plain) fit
 
-separated_grown : {h : Head} {sc sc2 : ScopeView} {ss : List Terminal} {args : List Argument} → Separated h sc ss args sc2 → PlainSymbols ss → Fit sc → Grown sc sc2 (argument_names args)
+separated_grown : {h : Head} {sc sc2 : ScopeView} {ss : List Terminal} {args : List Argument} → Separated h sc ss args sc2 → PlainTerminals ss → Fit sc → Grown sc sc2 (argument_names args)
 separated_grown {sc} Separated.none plain fit = none_grown sc sc refl fit
 separated_grown {h} {sc} {sc2} (Separated.more {ss} {ts} {before} {a} {sc1} sep next) plain fit =
-    let g = separated_grown sep (front_plain ss (ts ++ symbol.Comma ∷ []) plain) fit in
-    end_grown sc sc1 sc2 before a g (next_grown next (front_plain ts (symbol.Comma ∷ []) (back_plain ss (ts ++ symbol.Comma ∷ []) plain)) g.fit)
+    let g = separated_grown sep (front_plain ss (ts ++ terminal.Comma ∷ []) plain) fit in
+    end_grown sc sc1 sc2 before a g (next_grown next (front_plain ts (terminal.Comma ∷ []) (back_plain ss (ts ++ terminal.Comma ∷ []) plain)) g.fit)
 
-arguments_grown : {h : Head} {sc sc2 : ScopeView} {ss : List Terminal} {args : List Argument} → HasArguments h sc ss args sc2 → PlainSymbols ss → Fit sc → Grown sc sc2 (argument_names args)
+arguments_grown : {h : Head} {sc sc2 : ScopeView} {ss : List Terminal} {args : List Argument} → HasArguments h sc ss args sc2 → PlainTerminals ss → Fit sc → Grown sc sc2 (argument_names args)
 arguments_grown {sc} HasArguments.none plain fit = none_grown sc sc refl fit
 arguments_grown {h} {sc} {sc2} (HasArguments.some {ss} {ts} {before} {a} {sc1} sep next) plain fit =
     let g = separated_grown sep (front_plain ss ts plain) fit in
@@ -242,32 +243,32 @@ resumed_names sc (head.Instruction r n) = refl
 resumed_names sc (head.Directive directive.Plain n) = refl
 resumed_names sc (head.Directive _ n) = refl
 
-statement_tracks : {sc sc2 : ScopeView} {line : ℕ} {ss : List Terminal} → Statement sc line ss sc2 → PlainSymbols ss → Tracks sc → Tracks sc2
+statement_tracks : {sc sc2 : ScopeView} {line : ℕ} {ss : List Terminal} → Statement sc line ss sc2 → PlainTerminals ss → Tracks sc → Tracks sc2
 statement_tracks Statement.empty plain t = t
 statement_tracks {sc} {line} (Statement.label {sc2} {n} sk seen) plain t =
     tracks_on sc sc2 _ (record { line = line; body = body.Label n }) t (seen_grown seen plain.0 t.fit) refl refl
 statement_tracks {sc} {line} (Statement.instruction {sc2} {n} {ss} {args} passed dotted rep has) plain t =
-    tracks_on sc sc2 _ (item_of line (head.Instruction false n) args) t (arguments_grown has (front_plain ss (symbol.End ∷ []) plain.1) t.fit) refl refl
+    tracks_on sc sc2 _ (item_of line (head.Instruction false n) args) t (arguments_grown has (front_plain ss (terminal.End ∷ []) plain.1) t.fit) refl refl
 statement_tracks {sc} {line} (Statement.repeated {sc2} {r} {n} {ss} {args} passed dotted rep has) plain t =
-    tracks_on sc sc2 _ (item_of line (head.Instruction true n) args) t (arguments_grown has (front_plain ss (symbol.End ∷ []) plain.1.1) t.fit) refl refl
+    tracks_on sc sc2 _ (item_of line (head.Instruction true n) args) t (arguments_grown has (front_plain ss (terminal.End ∷ []) plain.1.1) t.fit) refl refl
 statement_tracks {sc} {line} (Statement.directive {sc2} {n} {k} {ss} {args} passed dotted dir list has count) plain t =
-    tracks_on sc sc2 _ (item_of line (head.Directive k n) args) t (arguments_grown has (front_plain ss (symbol.End ∷ []) plain.1) t.fit)
+    tracks_on sc sc2 _ (item_of line (head.Directive k n) args) t (arguments_grown has (front_plain ss (terminal.End ∷ []) plain.1) t.fit)
     (resumed_names (pushed sc2 (item_of line (head.Directive k n) args)) (head.Directive k n)) (resumed_items (pushed sc2 (item_of line (head.Directive k n) args)) (head.Directive k n))
 statement_tracks (Statement.skipped_directive ss passed dotted dir u h) plain t = t
 statement_tracks (Statement.skipped_label sk) plain t = t
 statement_tracks (Statement.skipped ss passed u h) plain t = t
 statement_tracks (Statement.nameless ss sk k h) plain t = t
 
-piece_tracks : {sc sc2 : ScopeView} {ws : List Word} → IsStatement sc ws sc2 → PlainSymbols (symbols ws) → Tracks sc → Tracks sc2
+piece_tracks : {sc sc2 : ScopeView} {ws : List Word} → IsStatement sc ws sc2 → PlainTerminals (terminals ws) → Tracks sc → Tracks sc2
 piece_tracks (IsStatement.plain w ws st) plain t = statement_tracks st plain t
 piece_tracks {sc} (IsStatement.section {n} {m} w v parts rest ss wn passed dotted dir vm is touch end flags) plain t =
     tracks_on sc sc _ (record { line = w.line; body = body.Directive n (record { star = false; form = form.Text (m ++ text_of parts) } ∷ []) }) t (none_grown sc sc refl t.fit) refl refl
 
-statements_track : {sc sc2 : ScopeView} {ws : List Word} → Statements sc ws sc2 → PlainSymbols (symbols ws) → Tracks sc → Tracks sc2
+statements_track : {sc sc2 : ScopeView} {ws : List Word} → Statements sc ws sc2 → PlainTerminals (terminals ws) → Tracks sc → Tracks sc2
 statements_track Statements.none plain t = t
 statements_track {ws} (Statements.more piece rest e st tail) plain t =
-    let whole : PlainSymbols (symbols piece ++ symbols rest) = subst PlainSymbols (ap symbols e ∙ symbols-append piece rest) plain in
-    statements_track tail (back_plain (symbols piece) (symbols rest) whole) (piece_tracks st (front_plain (symbols piece) (symbols rest) whole) t)
+    let whole : PlainTerminals (terminals piece ++ terminals rest) = subst PlainTerminals (ap terminals e ∙ terminals-append piece rest) plain in
+    statements_track tail (back_plain (terminals piece) (terminals rest) whole) (piece_tracks st (front_plain (terminals piece) (terminals rest) whole) t)
 
 fresh_tracks : Tracks fresh
 unfolding names_in

@@ -5,8 +5,8 @@ use Rattle.std.specs.Prelude.{◌+◌, ◌&&◌, ◌||◌}
 use Rattle.asm_lex.specs.declared.fault.SourceCause.{SourceCause}
 use Rattle.asm_lex.specs.declared.fault.SourceCause.TheVariants as cause
 use Rattle.asm_lex.specs.Words.{Word}
-use Rattle.asm_argument.specs.declared.symbol.Terminal.{Terminal}
-use Rattle.asm_argument.specs.declared.symbol.Terminal.TheVariants as symbol
+use Rattle.asm_argument.specs.declared.terminal.Terminal.{Terminal}
+use Rattle.asm_argument.specs.declared.terminal.Terminal.TheVariants as terminal
 use Rattle.asm_parse.specs.declared.state.Open.{Open}
 use Rattle.asm_parse.specs.declared.state.StatementState.{StatementState}
 use Rattle.asm_parse.specs.declared.state.StatementState.TheVariants as state
@@ -14,9 +14,9 @@ use Rattle.asm_parse.specs.ScopeView.{ScopeView}
 use Rattle.asm_parse.specs.Scope.{fresh}
 use Rattle.asm_parse.specs.Statement.{sectioned, step, next_step, fault_line, doom, or_line, pending, or_cause, stopped, left_open, open_at_end, is_unknown, is_taken, lacks_names, if_doomed, is_place, strayed, with_scope, unless_skipping}
 use Rattle.asm_parse.specs.Reading.{Fault, placed, is_longer, longer, ending_at, next_word}
-use Rattle.asm_argument.specs.Symbols.{symbol_of}
+use Rattle.asm_argument.specs.Terminals.{terminal_of}
 use Rattle.asm_parse.specs.Running.{◌>>=◌}
-use Rattle.asm_parse.specs.Statements.{is_inner, symbols, IsStatement, Statements}
+use Rattle.asm_parse.specs.Statements.{is_inner, terminals, IsStatement, Statements}
 use Rattle.asm_parse.specs.Refusals.{Ending, IsBeginning, StatementPlace, Reaches, percent_cause, first_name_cause, refused_cause, byte_cause}
 use Rattle.asm_parse.proofs.Words.{read_words}
 use Rattle.asm_parse.proofs.Scopes.{GoodIn, fresh_good}
@@ -53,9 +53,9 @@ skips sc c true = λ o e. absurd cc
 skips sc c false = tt
 
 start_quiet : (sc : ScopeView) (line : ℕ) (s : Terminal) → Quietly (step sc state.Start line s)
-start_quiet sc line symbol.End = λ o e. absurd cc
-start_quiet sc line (symbol.Name n) = λ o e. absurd cc
-start_quiet sc line symbol.Big = skips sc cause.BadNumber sc.skipping
+start_quiet sc line terminal.End = λ o e. absurd cc
+start_quiet sc line (terminal.Name n) = λ o e. absurd cc
+start_quiet sc line terminal.Big = skips sc cause.BadNumber sc.skipping
 start_quiet sc line _ = skips sc cause.BadOperand sc.skipping
 
 strayed_quiet : (line : ℕ) (r : Answer) → Quietly r → Quietly (strayed line r)
@@ -67,35 +67,35 @@ strayed_quiet line (Err c) h = by_place (is_place c)
     by_place false = tt
 
 first_quiet : (sc : ScopeView) (line : ℕ) (s : Terminal) → Quietly (next_step sc state.Start line s)
-first_quiet sc line symbol.Percent = strayed_quiet (fault_line sc state.Start line) (step sc state.Start line symbol.Percent) (start_quiet sc line symbol.Percent)
+first_quiet sc line terminal.Percent = strayed_quiet (fault_line sc state.Start line) (step sc state.Start line terminal.Percent) (start_quiet sc line terminal.Percent)
 first_quiet sc line s = start_quiet sc line s
 
 begun_flags : (sc0 sc : ScopeView) (line : ℕ) (ss : List Terminal) (st : StatementState) (b : ℕ) (n m : List ℕ) → Begun sc0 line st ss sc → st ≡ state.Flags b n m → ⊥
 begun_flags sc0 sc line ss st b n m g e = subst (λ (x : StatementState). Begun sc0 line x ss sc) e g
 
-more_section : (sc0 : ScopeView) (ps : List Word) (w : Word) → InSection sc0 (symbols ps) → is_inner (symbol_of w.kind w.bytes) ≡ true → InSection sc0 (symbols (ps ++ w ∷ []))
+more_section : (sc0 : ScopeView) (ps : List Word) (w : Word) → InSection sc0 (terminals ps) → is_inner (terminal_of w.kind w.bytes) ≡ true → InSection sc0 (terminals (ps ++ w ∷ []))
 more_section sc0 ps w g inner = record {
   directive = g.directive;
   name = g.name;
-  more = g.more ++ symbol_of w.kind w.bytes ∷ [];
-  whole = symbols_end ps w ∙ ap (λ (x : List Terminal). x ++ symbol_of w.kind w.bytes ∷ []) g.whole;
+  more = g.more ++ terminal_of w.kind w.bytes ∷ [];
+  whole = terminals_end ps w ∙ ap (λ (x : List Terminal). x ++ terminal_of w.kind w.bytes ∷ []) g.whole;
   naming = g.naming;
-  inner = all_more g.more (symbol_of w.kind w.bytes ∷ []) g.inner (all_and (symbol_of w.kind w.bytes) [] inner refl);
+  inner = all_more g.more (terminal_of w.kind w.bytes ∷ []) g.inner (all_and (terminal_of w.kind w.bytes) [] inner refl);
 }
   where
-    symbols_end : (ps : List Word) (w : Word) → symbols (ps ++ w ∷ []) ≡ symbols ps ++ symbol_of w.kind w.bytes ∷ []
-    symbols_end [] w = refl
-    symbols_end (p ∷ ps) w = ap (λ (x : List Terminal). symbol_of p.kind p.bytes ∷ x) (symbols_end ps w)
+    terminals_end : (ps : List Word) (w : Word) → terminals (ps ++ w ∷ []) ≡ terminals ps ++ terminal_of w.kind w.bytes ∷ []
+    terminals_end [] w = refl
+    terminals_end (p ∷ ps) w = ap (λ (x : List Terminal). terminal_of p.kind p.bytes ∷ x) (terminals_end ps w)
 
 module _ (sc0 sc : ScopeView) (w : Word) (z : ScopeView × StatementState) where
-  -- the state's symbol, where no section's name is open
-  plain_flags : (st : StatementState) (p : Word) (ps : List Word) (b : ℕ) (n m : List ℕ) → (st ≡ state.Start → ⊥) → is_naming st ≡ false → Begun sc0 p.line st (symbols (p ∷ ps)) sc → next_word sc st w ≡ Ok z → z.1 ≡ state.Flags b n m → ⊥
+  -- the state's terminal, where no section's name is open
+  plain_flags : (st : StatementState) (p : Word) (ps : List Word) (b : ℕ) (n m : List ℕ) → (st ≡ state.Start → ⊥) → is_naming st ≡ false → Begun sc0 p.line st (terminals (p ∷ ps)) sc → next_word sc st w ≡ Ok z → z.1 ≡ state.Flags b n m → ⊥
   plain_flags st p ps b n m inside plain g h e = elim (word_goes sc st w z h) [
     | WordGoes.on t k ↦ absurd (both t (not_longer st w.at w.kind w.bytes plain))
-    | WordGoes.as_symbol y t f k ↦
+    | WordGoes.as_terminal y t f k ↦
         let flags : y.1 ≡ state.Flags b n m = ending_flags y.1 (w.at + length w.bytes) b n m (sym (ap (λ (x : ScopeView × StatementState). x.1) k) ∙ e) in
-        begun_flags sc0 y.0 p.line (symbols (p ∷ ps) ++ symbol_of w.kind w.bytes ∷ []) y.1 b n m
-        (next_begun sc0 sc p.line w.line st (symbols (p ∷ ps) ++ symbol_of w.kind w.bytes ∷ []) (symbol_of w.kind w.bytes) y (begun_more sc0 sc p.line w.line st (symbols (p ∷ ps)) (symbol_of w.kind w.bytes) y inside plain g) f) flags
+        begun_flags sc0 y.0 p.line (terminals (p ∷ ps) ++ terminal_of w.kind w.bytes ∷ []) y.1 b n m
+        (next_begun sc0 sc p.line w.line st (terminals (p ∷ ps) ++ terminal_of w.kind w.bytes ∷ []) (terminal_of w.kind w.bytes) y (begun_more sc0 sc p.line w.line st (terminals (p ∷ ps)) (terminal_of w.kind w.bytes) y inside plain g) f) flags
   ]
     where
       both : {t : Bool} → t ≡ true → t ≡ false → ⊥
@@ -104,30 +104,30 @@ module _ (sc0 sc : ScopeView) (w : Word) (z : ScopeView × StatementState) where
   start_flags : (b : ℕ) (n m : List ℕ) → next_word sc state.Start w ≡ Ok z → z.1 ≡ state.Flags b n m → ⊥
   start_flags b n m h e = elim (word_goes sc state.Start w z h) [
     | WordGoes.on t k ↦ absurd cc
-    | WordGoes.as_symbol y t f k ↦
+    | WordGoes.as_terminal y t f k ↦
         let flags : y.1 ≡ state.Flags b n m = ending_flags y.1 (w.at + length w.bytes) b n m (sym (ap (λ (x : ScopeView × StatementState). x.1) k) ∙ e) in
-        begun_flags sc y.0 w.line (symbol_of w.kind w.bytes ∷ []) y.1 b n m
-        (next_begun sc sc w.line w.line state.Start (symbol_of w.kind w.bytes ∷ []) (symbol_of w.kind w.bytes) y (start_begun sc w.line (symbol_of w.kind w.bytes) y) f) flags
+        begun_flags sc y.0 w.line (terminal_of w.kind w.bytes ∷ []) y.1 b n m
+        (next_begun sc sc w.line w.line state.Start (terminal_of w.kind w.bytes ∷ []) (terminal_of w.kind w.bytes) y (start_begun sc w.line (terminal_of w.kind w.bytes) y) f) flags
   ]
 
-  inner_or : (s : Terminal) → (s ≡ symbol.End) ⊎ (is_inner s ≡ true)
-  inner_or symbol.End = inl refl
+  inner_or : (s : Terminal) → (s ≡ terminal.End) ⊎ (is_inner s ≡ true)
+  inner_or terminal.End = inl refl
   inner_or s = inr refl
 
   -- an end leads behind the statement
-  name_ended : (line a : ℕ) (k l : List ℕ) (x b : ℕ) (n m : List ℕ) (y : ScopeView × StatementState) → next_step sc (state.Sectioned a k l x) line symbol.End ≡ Ok y → y.1 ≡ state.Flags b n m → ⊥
+  name_ended : (line a : ℕ) (k l : List ℕ) (x b : ℕ) (n m : List ℕ) (y : ScopeView × StatementState) → next_step sc (state.Sectioned a k l x) line terminal.End ≡ Ok y → y.1 ≡ state.Flags b n m → ⊥
   name_ended line a k l x b n m y h e = let g : (sectioned sc a k l, state.Start) ≡ y = cc in let f : state.Start ≡ state.Flags b n m = ap (λ (v : ScopeView × StatementState). v.1) g ∙ e in absurd cc
 
-  flags_ended : (line a : ℕ) (k l : List ℕ) (b : ℕ) (n m : List ℕ) (y : ScopeView × StatementState) → next_step sc (state.Flags a k l) line symbol.End ≡ Ok y → y.1 ≡ state.Flags b n m → ⊥
+  flags_ended : (line a : ℕ) (k l : List ℕ) (b : ℕ) (n m : List ℕ) (y : ScopeView × StatementState) → next_step sc (state.Flags a k l) line terminal.End ≡ Ok y → y.1 ≡ state.Flags b n m → ⊥
   flags_ended line a k l b n m y h e = let g : (sectioned sc a k l, state.Start) ≡ y = cc in let f : state.Start ≡ state.Flags b n m = ap (λ (v : ScopeView × StatementState). v.1) g ∙ e in absurd cc
 
-  flags_inner : (st : StatementState) (b : ℕ) (n m : List ℕ) → ((y : ScopeView × StatementState) → next_step sc st w.line symbol.End ≡ Ok y → y.1 ≡ state.Flags b n m → ⊥) → ((longer_to : StatementState) → longer_to ≡ longer st (w.at + length w.bytes) w.bytes → is_longer st w.at w.kind w.bytes ≡ true → longer_to ≡ state.Flags b n m → ⊥)
-      → next_word sc st w ≡ Ok z → z.1 ≡ state.Flags b n m → is_inner (symbol_of w.kind w.bytes) ≡ true
+  flags_inner : (st : StatementState) (b : ℕ) (n m : List ℕ) → ((y : ScopeView × StatementState) → next_step sc st w.line terminal.End ≡ Ok y → y.1 ≡ state.Flags b n m → ⊥) → ((longer_to : StatementState) → longer_to ≡ longer st (w.at + length w.bytes) w.bytes → is_longer st w.at w.kind w.bytes ≡ true → longer_to ≡ state.Flags b n m → ⊥)
+      → next_word sc st w ≡ Ok z → z.1 ≡ state.Flags b n m → is_inner (terminal_of w.kind w.bytes) ≡ true
   flags_inner st b n m never never_on h e = elim (word_goes sc st w z h) [
     | WordGoes.on t k ↦ absurd (never_on z.1 (ap (λ (v : ScopeView × StatementState). v.1) k) t e)
-    | WordGoes.as_symbol y t f k ↦
+    | WordGoes.as_terminal y t f k ↦
         let flags : y.1 ≡ state.Flags b n m = ending_flags y.1 (w.at + length w.bytes) b n m (sym (ap (λ (x : ScopeView × StatementState). x.1) k) ∙ e) in
-        elim (inner_or (symbol_of w.kind w.bytes)) [
+        elim (inner_or (terminal_of w.kind w.bytes)) [
           | inl end ↦ absurd (never y (ap (next_step sc st w.line) (sym end) ∙ f) flags)
           | inr inner ↦ inner
         ]
@@ -136,20 +136,20 @@ module _ (sc0 sc : ScopeView) (w : Word) (z : ScopeView × StatementState) where
   start_arguments : (o : Open) → next_word sc state.Start w ≡ Ok z → z.1 ≡ state.Arguments o → ⊥
   start_arguments o h e = elim (word_goes sc state.Start w z h) [
     | WordGoes.on t k ↦ absurd cc
-    | WordGoes.as_symbol y t f k ↦
+    | WordGoes.as_terminal y t f k ↦
         let arguments : y.1 ≡ state.Arguments o = ending_arguments y.1 (w.at + length w.bytes) o (sym (ap (λ (x : ScopeView × StatementState). x.1) k) ∙ e) in
-        let quiet : Quietly (Ok y) = subst Quietly f (first_quiet sc w.line (symbol_of w.kind w.bytes)) in
+        let quiet : Quietly (Ok y) = subst Quietly f (first_quiet sc w.line (terminal_of w.kind w.bytes)) in
         quiet o arguments
   ]
 
-  flags_extra : (st : StatementState) (ps : List Word) (b : ℕ) (n m : List ℕ) → Held sc0 st ps sc → Extra sc0 st ps → next_word sc st w ≡ Ok z → z.1 ≡ state.Flags b n m → InSection sc0 (symbols (ps ++ w ∷ []))
+  flags_extra : (st : StatementState) (ps : List Word) (b : ℕ) (n m : List ℕ) → Held sc0 st ps sc → Extra sc0 st ps → next_word sc st w ≡ Ok z → z.1 ≡ state.Flags b n m → InSection sc0 (terminals (ps ++ w ∷ []))
   flags_extra st [] b n m held extra h e = absurd (start_flags b n m (subst (λ (x : StatementState). next_word sc x w ≡ Ok z) held.0 h) e)
   flags_extra state.Start (p ∷ ps) b n m held extra h e = absurd (held.0 refl)
   flags_extra (state.Named a k) (p ∷ ps) b n m held extra h e = absurd (plain_flags (state.Named a k) p ps b n m held.0 refl held.1 h e)
   flags_extra state.Skip (p ∷ ps) b n m held extra h e = absurd (plain_flags state.Skip p ps b n m held.0 refl held.1 h e)
   flags_extra (state.Sectioned a k l x) (p ∷ ps) b n m held extra h e =
       section_words sc0 (p ∷ ps) a k l x held.1.1 (w ∷ [])
-      (all_and (symbol_of w.kind w.bytes) [] (flags_inner (state.Sectioned a k l x) b n m (λ y f g. name_ended w.line a k l x b n m y f g) (λ v f t g. absurd cc) h e) refl)
+      (all_and (terminal_of w.kind w.bytes) [] (flags_inner (state.Sectioned a k l x) b n m (λ y f g. name_ended w.line a k l x b n m y f g) (λ v f t g. absurd cc) h e) refl)
   flags_extra (state.Flags a k l) (p ∷ ps) b n m held extra h e =
       more_section sc0 (p ∷ ps) w extra (flags_inner (state.Flags a k l) b n m (λ y f g. flags_ended w.line a k l b n m y f g) (λ v f t g. absurd cc) h e)
   flags_extra (state.Arguments o) (p ∷ ps) b n m held extra h e = absurd (plain_flags (state.Arguments o) p ps b n m held.0 refl held.1 h e)
@@ -271,8 +271,8 @@ module _ (all : List Word) (e : Ending) (f : Fault) (named : AreNamed all) where
   at_refused : (w : Word) (ws : List Word) (sc : ScopeView) (st : StatementState) (c : SourceCause) → Walk all (w ∷ ws) sc st → next_word sc st w ≡ Err c → placed_in (fault_line sc st w.line) ws e (Err c) ≡ Some f → Found all e f
   at_refused w ws sc st c k h g =
       let s = stands (w ∷ ws) sc st k in
-      let same = s.suits.cause w.line (symbol_of w.kind w.bytes) (symbols ws) c (word_fails sc st w c h) in
-      let fault : f ≡ (w.line, refused_cause k.scope s.place (symbol_of w.kind w.bytes) (symbols ws)) = sym (some_same (fault_line sc st w.line, c) f g) ∙ (ap (λ (x : Option ℕ). (or_line x w.line, c)) k.alive ∙ ap (λ (x : SourceCause). (w.line, x)) (sym same)) in
+      let same = s.suits.cause w.line (terminal_of w.kind w.bytes) (terminals ws) c (word_fails sc st w c h) in
+      let fault : f ≡ (w.line, refused_cause k.scope s.place (terminal_of w.kind w.bytes) (terminals ws)) = sym (some_same (fault_line sc st w.line, c) f g) ∙ (ap (λ (x : Option ℕ). (or_line x w.line, c)) k.alive ∙ ap (λ (x : SourceCause). (w.line, x)) (sym same)) in
       Found.word (k.before ++ k.begun) ws w k.whole (begins (w ∷ ws) sc st k) (refused_never (k.before ++ k.begun) w sc st (fault_line sc st w.line, c) k.runs (ap (placed (fault_line sc st w.line)) h)) (reaches (w ∷ ws) sc st k) fault
 
   at_doomed : (w : Word) (ws : List Word) (sc : ScopeView) (st : StatementState) (z : ScopeView × StatementState) (l : ℕ) (k : Walk all (w ∷ ws) sc st) → next_word sc st w ≡ Ok z → doom z.0 z.1 ≡ Some l → fault_in z.0 z.1 ws e ≡ Some f → Found all e f
@@ -283,21 +283,21 @@ module _ (all : List Word) (e : Ending) (f : Fault) (named : AreNamed all) where
       same_line true b l h = refl
       same_line false b l h = absurd cc
 
-      by_doomed : Doomed sc st w z → f ≡ (w.line, refused_cause k.scope (stands (w ∷ ws) sc st k).place (symbol_of w.kind w.bytes) (symbols ws))
+      by_doomed : Doomed sc st w z → f ≡ (w.line, refused_cause k.scope (stands (w ∷ ws) sc st k).place (terminal_of w.kind w.bytes) (terminals ws))
       by_doomed (Doomed.name n x y q) =
           let at_first = (stands (w ∷ ws) sc st k).suits.first x in
           let dead : doom sc (state.Named w.line n) ≡ Some l = sym (ap (λ (v : ScopeView × StatementState). doom v.0 v.1) q) ∙ d in
           let dead2 : doom sc (state.Named w.line n) ≡ Some w.line = same_line ((is_unknown sc n && is_taken sc n) || lacks_names sc n) w.line l dead in
-          let fault : f ≡ (w.line, first_name_cause sc n (symbols ws)) = name_fault sc w.line n ws e f k.good dead2 (sym (ap (λ (v : ScopeView × StatementState). fault_in v.0 v.1 ws e) q) ∙ g) in
-          let same : refused_cause k.scope (stands (w ∷ ws) sc st k).place (symbol_of w.kind w.bytes) (symbols ws) ≡ first_name_cause sc n (symbols ws) =
-          ap (λ (v : StatementPlace). refused_cause k.scope v (symbol_of w.kind w.bytes) (symbols ws)) at_first.1
-          ∙ (ap (λ (v : Terminal). refused_cause k.scope StatementPlace.first v (symbols ws)) y ∙ ap (λ (v : ScopeView). first_name_cause v n (symbols ws)) at_first.0) in
+          let fault : f ≡ (w.line, first_name_cause sc n (terminals ws)) = name_fault sc w.line n ws e f k.good dead2 (sym (ap (λ (v : ScopeView × StatementState). fault_in v.0 v.1 ws e) q) ∙ g) in
+          let same : refused_cause k.scope (stands (w ∷ ws) sc st k).place (terminal_of w.kind w.bytes) (terminals ws) ≡ first_name_cause sc n (terminals ws) =
+          ap (λ (v : StatementPlace). refused_cause k.scope v (terminal_of w.kind w.bytes) (terminals ws)) at_first.1
+          ∙ (ap (λ (v : Terminal). refused_cause k.scope StatementPlace.first v (terminals ws)) y ∙ ap (λ (v : ScopeView). first_name_cause v n (terminals ws)) at_first.0) in
           fault ∙ ap (λ (v : SourceCause). (w.line, v)) (sym same)
       by_doomed (Doomed.astray c y x p q) =
           let at_line : z ≡ (fresh, state.Stray w.line c) = q ∙ ap (λ (o : Option ℕ). (fresh, state.Stray (or_line o w.line) c)) k.alive in
-          let fault : f ≡ (w.line, percent_cause c (symbols ws)) = stray_fault fresh w.line c ws e f p (sym (ap (λ (v : ScopeView × StatementState). fault_in v.0 v.1 ws e) at_line) ∙ g) in
-          let same : refused_cause k.scope (stands (w ∷ ws) sc st k).place (symbol_of w.kind w.bytes) (symbols ws) ≡ percent_cause c (symbols ws) =
-          ap (λ (v : Terminal). refused_cause k.scope (stands (w ∷ ws) sc st k).place v (symbols ws)) y ∙ (stands (w ∷ ws) sc st k).suits.percent w.line (symbols ws) c x in
+          let fault : f ≡ (w.line, percent_cause c (terminals ws)) = stray_fault fresh w.line c ws e f p (sym (ap (λ (v : ScopeView × StatementState). fault_in v.0 v.1 ws e) at_line) ∙ g) in
+          let same : refused_cause k.scope (stands (w ∷ ws) sc st k).place (terminal_of w.kind w.bytes) (terminals ws) ≡ percent_cause c (terminals ws) =
+          ap (λ (v : Terminal). refused_cause k.scope (stands (w ∷ ws) sc st k).place v (terminals ws)) y ∙ (stands (w ∷ ws) sc st k).suits.percent w.line (terminals ws) c x in
           fault ∙ ap (λ (v : SourceCause). (w.line, v)) (sym same)
 
   find : (ws : List Word) (sc : ScopeView) (st : StatementState) → Walk all ws sc st → fault_in sc st ws e ≡ Some f → Found all e f

@@ -1,10 +1,10 @@
--- A symbol that is refused has the cause of its place.
+-- A terminal that is refused has the cause of its place.
 use Rattle.std.proofs.Common.{◌≡◌, ℕ, Bool, true, false, cond, List, [], ◌∷◌, length, Some, None, Result, Ok, Err, refl, sym, ap, ◌∙◌}
 use Rattle.std.specs.Prelude.{◌&&◌, not}
 use Rattle.asm_lex.specs.declared.fault.SourceCause.{SourceCause}
 use Rattle.asm_lex.specs.declared.fault.SourceCause.TheVariants as cause
-use Rattle.asm_argument.specs.declared.symbol.Terminal.{Terminal}
-use Rattle.asm_argument.specs.declared.symbol.Terminal.TheVariants as symbol
+use Rattle.asm_argument.specs.declared.terminal.Terminal.{Terminal}
+use Rattle.asm_argument.specs.declared.terminal.Terminal.TheVariants as terminal
 use Rattle.asm_argument.specs.declared.operand.Shape.{Shape}
 use Rattle.asm_argument.specs.declared.operand.Shape.TheVariants as shape
 use Rattle.asm_argument.specs.declared.operand.ValuePlace.TheVariants as place
@@ -16,7 +16,7 @@ use Rattle.asm_parse.specs.declared.directive.Head.{Head}
 use Rattle.asm_parse.specs.ScopeView.{ScopeView}
 use Rattle.asm_source.specs.Names.{holds}
 use Rattle.asm_parse.specs.Scope.{has_room, noted, defined_too}
-use Rattle.asm_argument.specs.Operand.{is_operand, takes_names, takes_sums, takes_minus, takes_numbers, takes_text, fits, is_low, is_register, is_scale, counted, allowed, registered, first, next_symbol, operand_step, is_finished, is_unbegun, name_in}
+use Rattle.asm_argument.specs.Operand.{is_operand, takes_names, takes_sums, takes_minus, takes_numbers, takes_text, fits, is_low, is_register, is_scale, counted, allowed, registered, first, next_terminal, operand_step, is_finished, is_unbegun, name_in}
 use Rattle.asm_parse.specs.Directives.{shape_at, defines}
 use Rattle.asm_parse.specs.Statement.{noting, misplaced, argument_cause}
 use Rattle.asm_parse.specs.Refusals.{name_cause, operand_cause, takes_name, value_cause}
@@ -28,29 +28,29 @@ err c = Err c
 
 -- ---- an operand of an instruction
 
--- the cause, by how the operand's symbols end
+-- the cause, by how the operand's terminals end
 abbrev pub operand_by : Bool → Bool → Bool → Bool → Terminal → SourceCause
-operand_by percent index minus free symbol.Big = cause.BadNumber
-operand_by percent index minus free (symbol.Number n) = cond percent cause.BadRegister (cond index cause.BadScale (cond minus cause.BadNumber cause.BadOperand))
-operand_by percent index minus free (symbol.Name n) = cond percent cause.BadRegister (cond free cause.TooManySymbols cause.BadOperand)
+operand_by percent index minus free terminal.Big = cause.BadNumber
+operand_by percent index minus free (terminal.Number n) = cond percent cause.BadRegister (cond index cause.BadScale (cond minus cause.BadNumber cause.BadOperand))
+operand_by percent index minus free (terminal.Name n) = cond percent cause.BadRegister (cond free cause.TooManySymbols cause.BadOperand)
 operand_by percent index minus free s = cond percent cause.BadRegister cause.BadOperand
 
 pub operand_ends : (ss : List Terminal) (a b c d e : Bool) → Tail ss a b c d e → (s : Terminal) → operand_cause ss s ≡ operand_by a b c e s
-operand_ends ss a b c d e t symbol.Big = refl
-operand_ends ss a b c d e t (symbol.Number n) = rw (t.percent_is, t.index_is, t.minus_is) refl
-operand_ends ss a b c d e t (symbol.Name n) = rw (t.percent_is, t.free_is) refl
-operand_ends ss a b c d e t symbol.Percent = rw t.percent_is refl
-operand_ends ss a b c d e t symbol.Dollar = rw t.percent_is refl
-operand_ends ss a b c d e t symbol.Star = rw t.percent_is refl
-operand_ends ss a b c d e t symbol.Comma = rw t.percent_is refl
-operand_ends ss a b c d e t symbol.Colon = rw t.percent_is refl
-operand_ends ss a b c d e t symbol.Open = rw t.percent_is refl
-operand_ends ss a b c d e t symbol.Close = rw t.percent_is refl
-operand_ends ss a b c d e t symbol.Plus = rw t.percent_is refl
-operand_ends ss a b c d e t symbol.Minus = rw t.percent_is refl
-operand_ends ss a b c d e t symbol.At = rw t.percent_is refl
-operand_ends ss a b c d e t (symbol.Text x) = rw t.percent_is refl
-operand_ends ss a b c d e t symbol.End = rw t.percent_is refl
+operand_ends ss a b c d e t terminal.Big = refl
+operand_ends ss a b c d e t (terminal.Number n) = rw (t.percent_is, t.index_is, t.minus_is) refl
+operand_ends ss a b c d e t (terminal.Name n) = rw (t.percent_is, t.free_is) refl
+operand_ends ss a b c d e t terminal.Percent = rw t.percent_is refl
+operand_ends ss a b c d e t terminal.Dollar = rw t.percent_is refl
+operand_ends ss a b c d e t terminal.Star = rw t.percent_is refl
+operand_ends ss a b c d e t terminal.Comma = rw t.percent_is refl
+operand_ends ss a b c d e t terminal.Colon = rw t.percent_is refl
+operand_ends ss a b c d e t terminal.Open = rw t.percent_is refl
+operand_ends ss a b c d e t terminal.Close = rw t.percent_is refl
+operand_ends ss a b c d e t terminal.Plus = rw t.percent_is refl
+operand_ends ss a b c d e t terminal.Minus = rw t.percent_is refl
+operand_ends ss a b c d e t terminal.At = rw t.percent_is refl
+operand_ends ss a b c d e t (terminal.Text x) = rw t.percent_is refl
+operand_ends ss a b c d e t terminal.End = rw t.percent_is refl
 
 abbrev pub operand_at : Partial → Terminal → SourceCause
 operand_at p s = operand_by (percents p) (indexed p) (minuses p) (frees p) s
@@ -74,69 +74,69 @@ same_err : (a c : SourceCause) → err a ≡ err c → a ≡ c
 same_err a c h = cc
 
 pub operand_err : (p : Partial) (s : Terminal) (c : SourceCause) → operand_step shape.Operand p s ≡ err c → operand_at p s ≡ c
-operand_err partial.Nothing symbol.Percent c h = absurd cc
-operand_err partial.Nothing symbol.Dollar c h = absurd cc
-operand_err partial.Nothing symbol.Open c h = absurd cc
-operand_err partial.Nothing symbol.Minus c h = absurd cc
-operand_err partial.Nothing (symbol.Number n) c h = absurd cc
-operand_err partial.Nothing (symbol.Name n) c h = absurd cc
+operand_err partial.Nothing terminal.Percent c h = absurd cc
+operand_err partial.Nothing terminal.Dollar c h = absurd cc
+operand_err partial.Nothing terminal.Open c h = absurd cc
+operand_err partial.Nothing terminal.Minus c h = absurd cc
+operand_err partial.Nothing (terminal.Number n) c h = absurd cc
+operand_err partial.Nothing (terminal.Name n) c h = absurd cc
 operand_err partial.Nothing _ c h = same_err _ c h
-operand_err partial.Absent symbol.Percent c h = absurd cc
-operand_err partial.Absent symbol.Dollar c h = absurd cc
-operand_err partial.Absent symbol.Open c h = absurd cc
-operand_err partial.Absent symbol.Minus c h = absurd cc
-operand_err partial.Absent (symbol.Number n) c h = absurd cc
-operand_err partial.Absent (symbol.Name n) c h = absurd cc
+operand_err partial.Absent terminal.Percent c h = absurd cc
+operand_err partial.Absent terminal.Dollar c h = absurd cc
+operand_err partial.Absent terminal.Open c h = absurd cc
+operand_err partial.Absent terminal.Minus c h = absurd cc
+operand_err partial.Absent (terminal.Number n) c h = absurd cc
+operand_err partial.Absent (terminal.Name n) c h = absurd cc
 operand_err partial.Absent _ c h = same_err _ c h
-operand_err partial.Percent symbol.Big c h = same_err _ c h
-operand_err partial.Percent (symbol.Name r) c h = register_err (is_register r) _ c h
+operand_err partial.Percent terminal.Big c h = same_err _ c h
+operand_err partial.Percent (terminal.Name r) c h = register_err (is_register r) _ c h
 operand_err partial.Percent _ c h = same_err _ c h
-operand_err partial.Dollar symbol.Minus c h = absurd cc
-operand_err partial.Dollar (symbol.Number n) c h = absurd cc
-operand_err partial.Dollar (symbol.Name n) c h = absurd cc
+operand_err partial.Dollar terminal.Minus c h = absurd cc
+operand_err partial.Dollar (terminal.Number n) c h = absurd cc
+operand_err partial.Dollar (terminal.Name n) c h = absurd cc
 operand_err partial.Dollar _ c h = same_err _ c h
-operand_err (partial.Minus p) (symbol.Number n) c h = low_err (is_low n) _ c h
+operand_err (partial.Minus p) (terminal.Number n) c h = low_err (is_low n) _ c h
 operand_err (partial.Minus p) _ c h = same_err _ c h
-operand_err (partial.Name p n) symbol.Plus c h = absurd cc
-operand_err (partial.Name p n) symbol.Minus c h = absurd cc
-operand_err (partial.Name place.Memory n) symbol.Open c h = absurd cc
-operand_err (partial.Name place.Immediate n) symbol.Open c h = same_err _ c h
+operand_err (partial.Name p n) terminal.Plus c h = absurd cc
+operand_err (partial.Name p n) terminal.Minus c h = absurd cc
+operand_err (partial.Name place.Memory n) terminal.Open c h = absurd cc
+operand_err (partial.Name place.Immediate n) terminal.Open c h = same_err _ c h
 operand_err (partial.Name p n) _ c h = same_err _ c h
-operand_err (partial.Sign p n neg) symbol.Minus c h = absurd cc
-operand_err (partial.Sign p n neg) (symbol.Number k) c h = absurd cc
+operand_err (partial.Sign p n neg) terminal.Minus c h = absurd cc
+operand_err (partial.Sign p n neg) (terminal.Number k) c h = absurd cc
 operand_err (partial.Sign p n true) _ c h = same_err _ c h
 operand_err (partial.Sign p n false) _ c h = same_err _ c h
-operand_err (partial.SignMinus p n neg) (symbol.Number k) c h = low_err (is_low k) _ c h
+operand_err (partial.SignMinus p n neg) (terminal.Number k) c h = low_err (is_low k) _ c h
 operand_err (partial.SignMinus p n neg) _ c h = same_err _ c h
-operand_err (partial.Number place.Memory v) symbol.Open c h = absurd cc
-operand_err (partial.Number place.Immediate v) symbol.Open c h = same_err _ c h
+operand_err (partial.Number place.Memory v) terminal.Open c h = absurd cc
+operand_err (partial.Number place.Immediate v) terminal.Open c h = same_err _ c h
 operand_err (partial.Number p v) _ c h = same_err _ c h
-operand_err (partial.Open v) symbol.Percent c h = absurd cc
-operand_err (partial.Open v) symbol.Comma c h = absurd cc
+operand_err (partial.Open v) terminal.Percent c h = absurd cc
+operand_err (partial.Open v) terminal.Comma c h = absurd cc
 operand_err (partial.Open v) _ c h = same_err _ c h
-operand_err (partial.BasePercent v) symbol.Big c h = same_err _ c h
-operand_err (partial.BasePercent v) (symbol.Name r) c h = register_err (is_register r) _ c h
+operand_err (partial.BasePercent v) terminal.Big c h = same_err _ c h
+operand_err (partial.BasePercent v) (terminal.Name r) c h = register_err (is_register r) _ c h
 operand_err (partial.BasePercent v) _ c h = same_err _ c h
-operand_err (partial.Base v b) symbol.Close c h = absurd cc
-operand_err (partial.Base v b) symbol.Comma c h = absurd cc
+operand_err (partial.Base v b) terminal.Close c h = absurd cc
+operand_err (partial.Base v b) terminal.Comma c h = absurd cc
 operand_err (partial.Base v b) _ c h = same_err _ c h
-operand_err (partial.IndexComma v b) symbol.Percent c h = absurd cc
+operand_err (partial.IndexComma v b) terminal.Percent c h = absurd cc
 operand_err (partial.IndexComma v b) _ c h = same_err _ c h
-operand_err (partial.IndexPercent v b) symbol.Big c h = same_err _ c h
-operand_err (partial.IndexPercent v b) (symbol.Name r) c h = register_err (is_register r) _ c h
+operand_err (partial.IndexPercent v b) terminal.Big c h = same_err _ c h
+operand_err (partial.IndexPercent v b) (terminal.Name r) c h = register_err (is_register r) _ c h
 operand_err (partial.IndexPercent v b) _ c h = same_err _ c h
-operand_err (partial.Index v b i) symbol.Close c h = absurd cc
-operand_err (partial.Index v b i) symbol.Comma c h = absurd cc
+operand_err (partial.Index v b i) terminal.Close c h = absurd cc
+operand_err (partial.Index v b i) terminal.Comma c h = absurd cc
 operand_err (partial.Index v b i) _ c h = same_err _ c h
-operand_err (partial.Scale v b i) (symbol.Number n) c h = scale_err (is_scale n) _ c h
+operand_err (partial.Scale v b i) (terminal.Number n) c h = scale_err (is_scale n) _ c h
 operand_err (partial.Scale v b i) _ c h = same_err _ c h
-operand_err (partial.Scaled v b i n) symbol.Close c h = absurd cc
+operand_err (partial.Scaled v b i n) terminal.Close c h = absurd cc
 operand_err (partial.Scaled v b i n) _ c h = same_err _ c h
-operand_err (partial.Whole f) symbol.Big c h = same_err _ c h
+operand_err (partial.Whole f) terminal.Big c h = same_err _ c h
 operand_err (partial.Whole f) _ c h = same_err _ c h
 
 -- where a name may stand, one that may not be said is one too many
-pub operand_name : (p : Partial) (m n : List ℕ) (q : Partial) → (p ≡ partial.Absent → ⊥) → next_symbol shape.Operand p (symbol.Name m) ≡ ok q → name_in q ≡ Some n → operand_at p (symbol.Name m) ≡ cause.TooManySymbols
+pub operand_name : (p : Partial) (m n : List ℕ) (q : Partial) → (p ≡ partial.Absent → ⊥) → next_terminal shape.Operand p (terminal.Name m) ≡ ok q → name_in q ≡ Some n → operand_at p (terminal.Name m) ≡ cause.TooManySymbols
 operand_name partial.Nothing m n q never h e = refl
 operand_name partial.Dollar m n q never h e = refl
 operand_name partial.Absent m n q never h e = absurd (never refl)
@@ -149,25 +149,25 @@ operand_name _ m n q never h e = absurd cc
 
 -- the cause behind what has been read of it, by how that ends
 abbrev pub value_by : Bool → Bool → Terminal → SourceCause
-value_by minus sign symbol.Big = cause.BadNumber
-value_by minus sign (symbol.Number n) = cond minus (cond (is_low n) cause.BadArgument cause.BadNumber) cause.BadOperand
-value_by minus sign symbol.Comma = cond sign cause.BadOperand cause.BadArgument
-value_by minus sign symbol.End = cond sign cause.BadOperand cause.BadArgument
+value_by minus sign terminal.Big = cause.BadNumber
+value_by minus sign (terminal.Number n) = cond minus (cond (is_low n) cause.BadArgument cause.BadNumber) cause.BadOperand
+value_by minus sign terminal.Comma = cond sign cause.BadOperand cause.BadArgument
+value_by minus sign terminal.End = cond sign cause.BadOperand cause.BadArgument
 value_by minus sign s = cause.BadOperand
 
 pub value_ends : (h : Head) (done : List Argument) (sc : ScopeView) (ss : List Terminal) (a b c d e : Bool) → (ss ≡ [] → ⊥) → Tail ss a b c d e → (s : Terminal) → value_cause h done sc ss s ≡ value_by c d s
 value_ends h done sc [] a b c d e never t s = absurd (never refl)
-value_ends h done sc (x ∷ xs) a b c d e never t (symbol.Number n) = rw t.minus_is refl
-value_ends h done sc (x ∷ xs) a b c d e never t symbol.Comma = rw t.sign_is refl
-value_ends h done sc (x ∷ xs) a b c d e never t symbol.End = rw t.sign_is refl
+value_ends h done sc (x ∷ xs) a b c d e never t (terminal.Number n) = rw t.minus_is refl
+value_ends h done sc (x ∷ xs) a b c d e never t terminal.Comma = rw t.sign_is refl
+value_ends h done sc (x ∷ xs) a b c d e never t terminal.End = rw t.sign_is refl
 value_ends h done sc (x ∷ xs) a b c d e never t _ = refl
 
 abbrev pub value_at : Partial → Terminal → SourceCause
 value_at p s = value_by (minuses p) (signs p) s
 
 abbrev pub is_cut : Terminal → Bool
-is_cut symbol.Comma = true
-is_cut symbol.End = true
+is_cut terminal.Comma = true
+is_cut terminal.End = true
 is_cut _ = false
 
 pub not_both : {t : Bool} → t ≡ true → t ≡ false → ⊥
@@ -196,29 +196,29 @@ value_err sh partial.Absent ss s other c n u sp cut h = absurd cc
 value_err sh partial.Percent ss s other c n u sp cut h = absurd (not_both sp.0 n)
 value_err sh partial.Dollar ss s other c n u sp cut h = absurd (not_both sp.0 n)
 value_err sh (partial.Minus place.Immediate) ss s other c n u sp cut h = absurd (not_both sp.0 n)
-value_err sh (partial.Minus place.Memory) ss (symbol.Number k) other c n u sp cut h = lowered_err (is_low k) (fits sh true k) _ other c h
+value_err sh (partial.Minus place.Memory) ss (terminal.Number k) other c n u sp cut h = lowered_err (is_low k) (fits sh true k) _ other c h
 value_err sh (partial.Minus place.Memory) ss _ other c n u sp cut h = cause_is other _ c _ h refl
 value_err sh (partial.Name place.Immediate m) ss s other c n u sp cut h = absurd (not_both sp.0 n)
-value_err sh (partial.Name place.Memory m) ss symbol.Plus other c n u sp cut h = allowed_err (takes_sums sh) _ other c _ h refl
-value_err sh (partial.Name place.Memory m) ss symbol.Minus other c n u sp cut h = allowed_err (takes_sums sh) _ other c _ h refl
-value_err sh (partial.Name place.Memory m) ss symbol.Open other c n u sp cut h = allowed_err (is_operand sh) _ other c _ h refl
-value_err sh (partial.Name place.Memory m) ss symbol.Comma other c n u sp cut h = absurd (not_both refl (cut refl))
-value_err sh (partial.Name place.Memory m) ss symbol.End other c n u sp cut h = absurd (not_both refl (cut refl))
+value_err sh (partial.Name place.Memory m) ss terminal.Plus other c n u sp cut h = allowed_err (takes_sums sh) _ other c _ h refl
+value_err sh (partial.Name place.Memory m) ss terminal.Minus other c n u sp cut h = allowed_err (takes_sums sh) _ other c _ h refl
+value_err sh (partial.Name place.Memory m) ss terminal.Open other c n u sp cut h = allowed_err (is_operand sh) _ other c _ h refl
+value_err sh (partial.Name place.Memory m) ss terminal.Comma other c n u sp cut h = absurd (not_both refl (cut refl))
+value_err sh (partial.Name place.Memory m) ss terminal.End other c n u sp cut h = absurd (not_both refl (cut refl))
 value_err sh (partial.Name place.Memory m) ss _ other c n u sp cut h = cause_is other _ c _ h refl
 value_err sh (partial.Sign place.Immediate m neg) ss s other c n u sp cut h = absurd (not_both sp.0 n)
-value_err sh (partial.Sign place.Memory m neg) ss symbol.Minus other c n u sp cut h = absurd cc
-value_err sh (partial.Sign place.Memory m neg) ss (symbol.Number k) other c n u sp cut h = absurd cc
+value_err sh (partial.Sign place.Memory m neg) ss terminal.Minus other c n u sp cut h = absurd cc
+value_err sh (partial.Sign place.Memory m neg) ss (terminal.Number k) other c n u sp cut h = absurd cc
 value_err sh (partial.Sign place.Memory m neg) ss _ other c n u sp cut h = cause_is other _ c _ h refl
 value_err sh (partial.SignMinus place.Immediate m neg) ss s other c n u sp cut h = absurd (not_both sp.0 n)
-value_err sh (partial.SignMinus place.Memory m neg) ss (symbol.Number k) other c n u sp cut h = lowered_err (is_low k) true _ other c h
+value_err sh (partial.SignMinus place.Memory m neg) ss (terminal.Number k) other c n u sp cut h = lowered_err (is_low k) true _ other c h
 value_err sh (partial.SignMinus place.Memory m neg) ss _ other c n u sp cut h = cause_is other _ c _ h refl
 value_err sh (partial.Number place.Immediate v) ss s other c n u sp cut h = absurd (not_both sp.0 n)
-value_err sh (partial.Number place.Memory v) ss symbol.Open other c n u sp cut h = allowed_err (is_operand sh) _ other c _ h refl
-value_err sh (partial.Number place.Memory v) ss symbol.Comma other c n u sp cut h = absurd (not_both refl (cut refl))
-value_err sh (partial.Number place.Memory v) ss symbol.End other c n u sp cut h = absurd (not_both refl (cut refl))
+value_err sh (partial.Number place.Memory v) ss terminal.Open other c n u sp cut h = allowed_err (is_operand sh) _ other c _ h refl
+value_err sh (partial.Number place.Memory v) ss terminal.Comma other c n u sp cut h = absurd (not_both refl (cut refl))
+value_err sh (partial.Number place.Memory v) ss terminal.End other c n u sp cut h = absurd (not_both refl (cut refl))
 value_err sh (partial.Number place.Memory v) ss _ other c n u sp cut h = cause_is other _ c _ h refl
-value_err sh (partial.Whole f) ss symbol.Comma other c n u sp cut h = absurd (not_both refl (cut refl))
-value_err sh (partial.Whole f) ss symbol.End other c n u sp cut h = absurd (not_both refl (cut refl))
+value_err sh (partial.Whole f) ss terminal.Comma other c n u sp cut h = absurd (not_both refl (cut refl))
+value_err sh (partial.Whole f) ss terminal.End other c n u sp cut h = absurd (not_both refl (cut refl))
 value_err sh (partial.Whole f) ss _ other c n u sp cut h = cause_is other _ c _ h refl
 value_err sh (partial.Open v) ss s other c n u sp cut h = absurd (not_both sp.operand n)
 value_err sh (partial.BasePercent v) ss s other c n u sp cut h = absurd (not_both sp.operand n)
@@ -231,11 +231,11 @@ value_err sh (partial.Scaled v b i k) ss s other c n u sp cut h = absurd (not_bo
 
 -- where nothing of the argument has been read
 abbrev pub value_first : Bool → ScopeView → Bool → Terminal → SourceCause
-value_first takes sc def (symbol.Name n) = cond takes (name_cause sc def n) cause.BadArgument
+value_first takes sc def (terminal.Name n) = cond takes (name_cause sc def n) cause.BadArgument
 value_first takes sc def s = misplaced s
 
 pub value_none : (h : Head) (done : List Argument) (sc : ScopeView) (s : Terminal) → value_cause h done sc [] s ≡ value_first (takes_name (shape_at h (length done))) sc (defines h (length done)) s
-value_none h done sc (symbol.Name n) = refl
+value_none h done sc (terminal.Name n) = refl
 value_none h done sc _ = refl
 
 first_cause : (other a c d : SourceCause) → err a ≡ err c → argument_cause true other a ≡ d → argument_cause true other c ≡ d
@@ -255,25 +255,25 @@ first_named true q sc def n c h = absurd cc
 first_named false q sc def n c h = first_cause cause.BadArgument cause.BadOperand c cause.BadArgument h refl
 
 first_err : (sh : Shape) (sc : ScopeView) (def : Bool) (s : Terminal) (c : SourceCause) → first sh s ≡ err c → argument_cause true (misplaced s) c ≡ value_first (takes_names sh) sc def s
-first_err sh sc def symbol.Percent c h = first_allowed (is_operand sh) _ _ c _ h refl
-first_err sh sc def symbol.Dollar c h = first_allowed (is_operand sh) _ _ c _ h refl
-first_err sh sc def symbol.Open c h = first_allowed (is_operand sh) _ _ c _ h refl
-first_err sh sc def symbol.Minus c h = first_allowed (takes_minus sh) _ _ c _ h refl
-first_err sh sc def (symbol.Number n) c h = first_counted (takes_numbers sh) (fits sh false n) _ c h
-first_err sh sc def (symbol.Name n) c h = first_named (takes_names sh) _ sc def n c h
-first_err sh sc def (symbol.Text t) c h = first_allowed (takes_text sh) _ _ c _ h refl
-first_err sh sc def symbol.Big c h = first_cause _ _ c _ h refl
+first_err sh sc def terminal.Percent c h = first_allowed (is_operand sh) _ _ c _ h refl
+first_err sh sc def terminal.Dollar c h = first_allowed (is_operand sh) _ _ c _ h refl
+first_err sh sc def terminal.Open c h = first_allowed (is_operand sh) _ _ c _ h refl
+first_err sh sc def terminal.Minus c h = first_allowed (takes_minus sh) _ _ c _ h refl
+first_err sh sc def (terminal.Number n) c h = first_counted (takes_numbers sh) (fits sh false n) _ c h
+first_err sh sc def (terminal.Name n) c h = first_named (takes_names sh) _ sc def n c h
+first_err sh sc def (terminal.Text t) c h = first_allowed (takes_text sh) _ _ c _ h refl
+first_err sh sc def terminal.Big c h = first_cause _ _ c _ h refl
 first_err sh sc def _ c h = first_cause _ _ c _ h refl
 
 pub unbegun_err : (sh : Shape) (p : Partial) (sc : ScopeView) (def : Bool) (s : Terminal) (c : SourceCause) → is_unbegun p ≡ true → operand_step sh p s ≡ err c → argument_cause true (misplaced s) c ≡ value_first (takes_names sh) sc def s
-unbegun_err sh partial.Nothing sc def symbol.Big c u h = first_cause _ cause.BadNumber c _ h refl
+unbegun_err sh partial.Nothing sc def terminal.Big c u h = first_cause _ cause.BadNumber c _ h refl
 unbegun_err sh partial.Nothing sc def s c u h = first_err sh sc def s c h
-unbegun_err sh partial.Absent sc def symbol.Big c u h = first_cause _ cause.BadNumber c _ h refl
+unbegun_err sh partial.Absent sc def terminal.Big c u h = first_cause _ cause.BadNumber c _ h refl
 unbegun_err sh partial.Absent sc def s c u h = first_err sh sc def s c h
 unbegun_err sh _ sc def s c u h = absurd cc
 
 pub missing_is : (s : Terminal) (takes : Bool) (sc : ScopeView) (def : Bool) → takes ≡ false → misplaced s ≡ value_first takes sc def s
-missing_is (symbol.Name n) takes sc def e = rw e refl
+missing_is (terminal.Name n) takes sc def e = rw e refl
 missing_is _ takes sc def e = refl
 
 -- ---- a name

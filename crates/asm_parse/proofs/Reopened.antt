@@ -1,11 +1,11 @@
--- Where symbols stand in arguments the reader is in the arguments, with what has been read of them so.
+-- Where terminals stand in arguments the reader is in the arguments, with what has been read of them so.
 use Rattle.std.proofs.Common.{◌≡◌, ℕ, Bool, true, false, List, [], ◌∷◌, ◌++◌, length, Option, Some, None, Result, Ok, Err, refl, sym, ap, subst, ◌∙◌, ◌⊎◌, inl, inr, append_assoc}
 use Rattle.std.specs.List.{list_all}
 use Rattle.std.proofs.lemmas.List.{append-nil}
 use Rattle.asm_lex.specs.declared.fault.SourceCause.{SourceCause}
 use Rattle.asm_lex.specs.declared.fault.SourceCause.TheVariants as cause
-use Rattle.asm_argument.specs.declared.symbol.Terminal.{Terminal}
-use Rattle.asm_argument.specs.declared.symbol.Terminal.TheVariants as symbol
+use Rattle.asm_argument.specs.declared.terminal.Terminal.{Terminal}
+use Rattle.asm_argument.specs.declared.terminal.Terminal.TheVariants as terminal
 use Rattle.asm_argument.specs.declared.operand.Shape.{Shape}
 use Rattle.asm_argument.specs.declared.operand.Shape.TheVariants as shape
 use Rattle.asm_argument.specs.declared.operand.Partial.{Partial}
@@ -16,43 +16,43 @@ use Rattle.asm_parse.specs.declared.state.Open.{Open}
 use Rattle.asm_parse.specs.declared.state.StatementState.{StatementState}
 use Rattle.asm_parse.specs.declared.state.StatementState.TheVariants as state
 use Rattle.asm_parse.specs.ScopeView.{ScopeView}
-use Rattle.asm_argument.specs.Operand.{begun, next_symbol, finished, is_unbegun}
+use Rattle.asm_argument.specs.Operand.{begun, next_terminal, finished, is_unbegun}
 use Rattle.asm_parse.specs.Directives.{shape_at, defines, is_instruction}
 use Rattle.asm_parse.specs.Statement.{noting, after_noting, with_name, argument_step, nothing_yet}
 use Rattle.asm_parse.specs.Statements.{IsSeen, Sees, IsArgument, Separated, is_inner, Statement}
 use Rattle.asm_parse.specs.Refusals.{StatementPlace, Leads, Opens}
 use Rattle.asm_argument.proofs.Operands.{ok, operand_run, form_reads, Spelled, begun_spelled, more}
-use Rattle.asm_parse.proofs.Names.{noting_seen, named_in, name_step, finished_is, no_end_symbol}
+use Rattle.asm_parse.proofs.Names.{noting_seen, named_in, name_step, finished_is, no_end_terminal}
 use Rattle.asm_parse.proofs.Stated.{inner, inners, inners_append, within_next, open_at, begun_unnamed, first_shape, argument_runs, comma_runs, separated_runs, operand_begun, operand_head}
 use Rattle.asm_parse.proofs.Said.{stars, Ending, InArguments, begun_solid, sees_none, advance}
 use Rattle.asm_parse.proofs.Places.{Suits, arguments_suit, all_more}
 use Rattle.asm_parse.proofs.Reread.{Pair, same_pair}
 use Rattle.asm_parse.proofs.Quiet.{Answer}
 
--- ---- the symbols of arguments
+-- ---- the terminals of arguments
 
 all_front : (xs ys : List Terminal) → list_all is_inner (xs ++ ys) ≡ true → list_all is_inner xs ≡ true
 all_front [] ys h = refl
-all_front (symbol.End ∷ xs) ys h = absurd cc
+all_front (terminal.End ∷ xs) ys h = absurd cc
 all_front (x ∷ xs) ys h = all_front xs ys h
 
 run_inner : (sh : Shape) (ss : List Terminal) (p q : Partial) → operand_run sh p ss ≡ ok q → list_all is_inner ss ≡ true
 run_inner sh [] p q h = refl
-run_inner sh (s ∷ ss) p q h = by_step (next_symbol sh p s) refl h (λ x k. run_inner sh ss x q k)
+run_inner sh (s ∷ ss) p q h = by_step (next_terminal sh p s) refl h (λ x k. run_inner sh ss x q k)
   where
-    by_symbol : (s : Terminal) (x : Partial) → next_symbol sh p s ≡ ok x → list_all is_inner ss ≡ true → list_all is_inner (s ∷ ss) ≡ true
-    by_symbol symbol.End x e k = absurd (no_end_symbol sh p x e)
-    by_symbol s x e k = k
+    by_terminal : (s : Terminal) (x : Partial) → next_terminal sh p s ≡ ok x → list_all is_inner ss ≡ true → list_all is_inner (s ∷ ss) ≡ true
+    by_terminal terminal.End x e k = absurd (no_end_terminal sh p x e)
+    by_terminal s x e k = k
 
-    by_step : (r : Result Partial SourceCause) → next_symbol sh p s ≡ r → ◌≡◌ {A = Result Partial SourceCause} (elim r [ Ok x ↦ operand_run sh x ss | Err c ↦ Err c ]) (Ok q) → ((x : Partial) → operand_run sh x ss ≡ ok q → list_all is_inner ss ≡ true) → list_all is_inner (s ∷ ss) ≡ true
-    by_step (Ok x) e k ih = by_symbol s x e (ih x k)
+    by_step : (r : Result Partial SourceCause) → next_terminal sh p s ≡ r → ◌≡◌ {A = Result Partial SourceCause} (elim r [ Ok x ↦ operand_run sh x ss | Err c ↦ Err c ]) (Ok q) → ((x : Partial) → operand_run sh x ss ≡ ok q → list_all is_inner ss ≡ true) → list_all is_inner (s ∷ ss) ≡ true
+    by_step (Ok x) e k ih = by_terminal s x e (ih x k)
     by_step (Err c) e k ih = absurd cc
 
 run_prefix : (sh : Shape) (xs ys : List Terminal) (p q : Partial) → operand_run sh p (xs ++ ys) ≡ ok q → (x : Partial) × (operand_run sh p xs ≡ ok x)
 run_prefix sh [] ys p q h = (p, refl)
-run_prefix sh (s ∷ ss) ys p q h = by_step (next_symbol sh p s) refl h (λ x k. run_prefix sh ss ys x q k)
+run_prefix sh (s ∷ ss) ys p q h = by_step (next_terminal sh p s) refl h (λ x k. run_prefix sh ss ys x q k)
   where
-    by_step : (r : Result Partial SourceCause) → next_symbol sh p s ≡ r → ◌≡◌ {A = Result Partial SourceCause} (elim r [ Ok x ↦ operand_run sh x (ss ++ ys) | Err c ↦ Err c ]) (Ok q) → ((x : Partial) → operand_run sh x (ss ++ ys) ≡ ok q → (z : Partial) × (operand_run sh x ss ≡ ok z))
+    by_step : (r : Result Partial SourceCause) → next_terminal sh p s ≡ r → ◌≡◌ {A = Result Partial SourceCause} (elim r [ Ok x ↦ operand_run sh x (ss ++ ys) | Err c ↦ Err c ]) (Ok q) → ((x : Partial) → operand_run sh x (ss ++ ys) ≡ ok q → (z : Partial) × (operand_run sh x ss ≡ ok z))
         → (x : Partial) × ◌≡◌ {A = Result Partial SourceCause} (elim r [ Ok z ↦ operand_run sh z ss | Err c ↦ Err c ]) (Ok x)
     by_step (Ok x) e k ih = ih x k
     by_step (Err c) e k ih = absurd cc
@@ -63,7 +63,7 @@ argument_inner {sh} (IsArgument.starred {ss = rest} {f} operand form) = let r = 
 
 separated_inner : {h : Head} {sc sc2 : ScopeView} {ss : List Terminal} {done : List Argument} → Separated h sc ss done sc2 → list_all is_inner ss ≡ true
 separated_inner Separated.none = refl
-separated_inner (Separated.more {ss} {ts} sep next) = all_more ss (ts ++ symbol.Comma ∷ []) (separated_inner sep) (all_more ts (symbol.Comma ∷ []) (argument_inner next.is) refl)
+separated_inner (Separated.more {ss} {ts} sep next) = all_more ss (ts ++ terminal.Comma ∷ []) (separated_inner sep) (all_more ts (terminal.Comma ∷ []) (argument_inner next.is) refl)
 
 opens_inner : {o : Option Shape} {ss : List Terminal} → Opens o ss → list_all is_inner ss ≡ true
 opens_inner Opens.nothing = refl
@@ -75,23 +75,23 @@ body_inner {front} {arg} sep opens = all_more front arg (separated_inner sep) (o
 -- none begins with a colon
 abbrev pub IsColon : List Terminal → Type 0
 IsColon [] = ⊥
-IsColon (symbol.Colon ∷ ss) = Unit {0}
+IsColon (terminal.Colon ∷ ss) = Unit {0}
 IsColon (s ∷ ss) = ⊥
 
 colon_front : (xs ys : List Terminal) → IsColon (xs ++ ys) → IsColon xs ⊎ ((xs ≡ []) × IsColon ys)
 colon_front [] ys h = inr (refl, h)
-colon_front (symbol.Colon ∷ xs) ys h = inl tt
+colon_front (terminal.Colon ∷ xs) ys h = inl tt
 colon_front (x ∷ xs) ys h = absurd h
 
 more_colon : (xs ys : List Terminal) → IsColon xs → IsColon (xs ++ ys)
 more_colon [] ys h = absurd h
-more_colon (symbol.Colon ∷ xs) ys h = tt
+more_colon (terminal.Colon ∷ xs) ys h = tt
 more_colon (x ∷ xs) ys h = absurd h
 
 run_colon : (sh : Shape) (ss : List Terminal) (q : Partial) → operand_run sh (begun sh) ss ≡ ok q → IsColon ss → ⊥
 run_colon sh [] q h c = c
-run_colon shape.Fill (symbol.Colon ∷ ss) q h c = absurd cc
-run_colon sh (symbol.Colon ∷ ss) q h c = absurd cc
+run_colon shape.Fill (terminal.Colon ∷ ss) q h c = absurd cc
+run_colon sh (terminal.Colon ∷ ss) q h c = absurd cc
 run_colon sh (s ∷ ss) q h c = c
 
 argument_colon : {sh : Shape} {ss : List Terminal} {a : Argument} → IsArgument sh ss a → IsColon ss → ⊥
@@ -100,9 +100,9 @@ argument_colon (IsArgument.starred operand form) c = c
 
 separated_colon : {h : Head} {sc sc2 : ScopeView} {ss : List Terminal} {done : List Argument} → Separated h sc ss done sc2 → IsColon ss → ⊥
 separated_colon Separated.none c = c
-separated_colon (Separated.more {ss} {ts} sep next) c = elim (colon_front ss (ts ++ symbol.Comma ∷ []) c) [
+separated_colon (Separated.more {ss} {ts} sep next) c = elim (colon_front ss (ts ++ terminal.Comma ∷ []) c) [
   | inl first ↦ separated_colon sep first
-  | inr (none, later) ↦ elim (colon_front ts (symbol.Comma ∷ []) later) [ inl first ↦ argument_colon next.is first | inr (none_so, comma) ↦ comma ]
+  | inr (none, later) ↦ elim (colon_front ts (terminal.Comma ∷ []) later) [ inl first ↦ argument_colon next.is first | inr (none_so, comma) ↦ comma ]
 ]
 
 pub body_colon : {h : Head} {sc sc2 : ScopeView} {front arg : List Terminal} {done : List Argument} {o : Option Shape} → Separated h sc front done sc2 → Opens o arg → IsColon (front ++ arg) → ⊥
@@ -133,7 +133,7 @@ record Fresh (line : ℕ) (h : Head) (done : List Argument) (sc : ScopeView) (x 
   begins : (sh : Shape) → shape_at h (length done) ≡ Some sh → so_far ≡ begun sh
   either : (so_far ≡ partial.Nothing) ⊎ ((sh : Shape) × (shape_at h (length done) ≡ Some sh) × (so_far ≡ begun sh))
 
-comma_none : (sc : ScopeView) (line : ℕ) (h : Head) (done : List Argument) (a : Argument) (q : Partial) → finished q ≡ Some a.form → shape_at h (length (done ++ a ∷ [])) ≡ None → argument_step sc (open_at line h done a.star q) symbol.Comma ≡ Err cause.BadArgument
+comma_none : (sc : ScopeView) (line : ℕ) (h : Head) (done : List Argument) (a : Argument) (q : Partial) → finished q ≡ Some a.form → shape_at h (length (done ++ a ∷ [])) ≡ None → argument_step sc (open_at line h done a.star q) terminal.Comma ≡ Err cause.BadArgument
 comma_none sc line h done a q fin none = rw (finished_is q a.form fin, fin, none) refl
 
 some_shape : (a b : Shape) → ◌≡◌ {A = Option Shape} (Some a) (Some b) → a ≡ b
@@ -148,17 +148,17 @@ front_runs line {h} {sc} Separated.none x e = record {
 }
 front_runs line {h} {sc} {sc2} (Separated.more {ss} {ts} {before} {a} {sc1} sep next) x e =
     let r = argument_runs line h before next.shape next.may ts a sc1 sc2 next.is next.sees in
-    let all : inners sc (state.Arguments (nothing_yet line h)) (ss ++ (ts ++ symbol.Comma ∷ [])) ≡ inners sc2 (state.Arguments (open_at line h before a.star r.0)) (symbol.Comma ∷ []) =
-    inners_append ss (ts ++ symbol.Comma ∷ []) sc (state.Arguments (nothing_yet line h)) _ (separated_runs line sep next.shape next.may) ∙ inners_append ts (symbol.Comma ∷ []) sc1 (state.Arguments (open_at line h before false (begun next.shape))) _ r.1 in
+    let all : inners sc (state.Arguments (nothing_yet line h)) (ss ++ (ts ++ terminal.Comma ∷ [])) ≡ inners sc2 (state.Arguments (open_at line h before a.star r.0)) (terminal.Comma ∷ []) =
+    inners_append ss (ts ++ terminal.Comma ∷ []) sc (state.Arguments (nothing_yet line h)) _ (separated_runs line sep next.shape next.may) ∙ inners_append ts (terminal.Comma ∷ []) sc1 (state.Arguments (open_at line h before false (begun next.shape))) _ r.1 in
     by_shape r.0 r.2 (sym all ∙ e) (shape_at h (length (before ++ a ∷ []))) refl
   where
-    by_shape : (q : Partial) → finished q ≡ Some a.form → inners sc2 (state.Arguments (open_at line h before a.star q)) (symbol.Comma ∷ []) ≡ Ok x → (o : Option Shape) → shape_at h (length (before ++ a ∷ [])) ≡ o → Fresh line h (before ++ a ∷ []) sc2 x
+    by_shape : (q : Partial) → finished q ≡ Some a.form → inners sc2 (state.Arguments (open_at line h before a.star q)) (terminal.Comma ∷ []) ≡ Ok x → (o : Option Shape) → shape_at h (length (before ++ a ∷ [])) ≡ o → Fresh line h (before ++ a ∷ []) sc2 x
     by_shape q fin k None may =
-        let one : inners sc2 (state.Arguments (open_at line h before a.star q)) (symbol.Comma ∷ []) ≡ Err cause.BadArgument = ap (λ (r : Answer). elim r [ Ok y ↦ inners y.0 y.1 [] | Err c ↦ Err c ]) (comma_none sc2 line h before a q fin may) in
+        let one : inners sc2 (state.Arguments (open_at line h before a.star q)) (terminal.Comma ∷ []) ≡ Err cause.BadArgument = ap (λ (r : Answer). elim r [ Ok y ↦ inners y.0 y.1 [] | Err c ↦ Err c ]) (comma_none sc2 line h before a q fin may) in
         let none_so : ◌≡◌ {A = Answer} (Err cause.BadArgument) (Ok x) = sym one ∙ k in
         absurd cc
     by_shape q fin k (Some sh) may =
-        let one : inners sc2 (state.Arguments (open_at line h before a.star q)) (symbol.Comma ∷ []) ≡ Ok (sc2, state.Arguments (open_at line h (before ++ a ∷ []) false (begun sh))) = ap (λ (r : Answer). elim r [ Ok y ↦ inners y.0 y.1 [] | Err c ↦ Err c ]) (comma_runs sc2 line h before a q sh fin may) in
+        let one : inners sc2 (state.Arguments (open_at line h before a.star q)) (terminal.Comma ∷ []) ≡ Ok (sc2, state.Arguments (open_at line h (before ++ a ∷ []) false (begun sh))) = ap (λ (r : Answer). elim r [ Ok y ↦ inners y.0 y.1 [] | Err c ↦ Err c ]) (comma_runs sc2 line h before a q sh fin may) in
         record {
           so_far = begun sh;
           is = sym (same_pair (sc2, state.Arguments (open_at line h (before ++ a ∷ []) false (begun sh))) x (sym one ∙ k));
@@ -186,7 +186,7 @@ within_suits sc0 line h done behind arg sc o w =
     ∙ ap (λ (x : List Terminal). StatementPlace.argument h done behind x) w.arg_is)) in
     subst (λ (p : StatementPlace). Suits sc0 p sc (state.Arguments o)) one s
 
--- one symbol of the argument more
+-- one terminal of the argument more
 record Further (sc0 : ScopeView) (line : ℕ) (h : Head) (done : List Argument) (behind : ScopeView) (arg : List Terminal) (o : Open) (y : Pair) : Type 0 where
   is : y ≡ (y.0, state.Arguments o)
   within : Within sc0 line h done behind arg y.0 o
@@ -197,7 +197,7 @@ was_spelled sc0 line o ss sc w sh may = elim w.spelled [
   | inr (sh2, may2, sp) ↦ subst (λ (x : Shape). Spelled x o.so_far w.arg) (some_shape sh2 sh (sym may2 ∙ may)) sp
 ]
 
-module _ (sc0 : ScopeView) (line : ℕ) (h : Head) (done : List Argument) (behind : ScopeView) (arg : List Terminal) (sc : ScopeView) (o : Open) (w : Within sc0 line h done behind arg sc o) (sh : Shape) (may : shape_at o.head (length o.arguments) ≡ Some sh) (s : Terminal) (q : Partial) (next : next_symbol sh o.so_far s ≡ ok q) (y : Pair) where
+module _ (sc0 : ScopeView) (line : ℕ) (h : Head) (done : List Argument) (behind : ScopeView) (arg : List Terminal) (sc : ScopeView) (o : Open) (w : Within sc0 line h done behind arg sc o) (sh : Shape) (may : shape_at o.head (length o.arguments) ≡ Some sh) (s : Terminal) (q : Partial) (next : next_terminal sh o.so_far s ≡ ok q) (y : Pair) where
   spelled : Spelled sh q (w.read.arg ++ s ∷ [])
   spelled = more sh o.so_far s q w.read.arg (was_spelled sc0 line o w.all sc w.read sh may) next
 
@@ -237,7 +237,7 @@ module _ (sc0 : ScopeView) (line : ℕ) (h : Head) (done : List Argument) (behin
     | inr (n, a, b, c, d) ↦ by_noting n b c (noting sc (defines o.head (length o.arguments)) n) refl (sym (ap (with_name sc (record o { so_far = q })) a) ∙ (sym (within_next sc o sh s q may next) ∙ k))
   ]
 
--- what has been read at the end of some symbols of the argument
+-- what has been read at the end of some terminals of the argument
 record Reached (sc0 : ScopeView) (line : ℕ) (h : Head) (done : List Argument) (behind : ScopeView) (arg : List Terminal) (y : Pair) : Type 0 where
   reader : Open
   is : y.1 ≡ state.Arguments reader
@@ -253,9 +253,9 @@ args_run sc0 line h done behind sh [] arg sc o q fin w may run k =
       within = subst (λ (x : ScopeView). Within sc0 line h done behind (arg ++ []) x o) (ap (λ (x : Pair). x.0) e) (subst (λ (x : List Terminal). Within sc0 line h done behind x sc o) (sym (append-nil arg)) w);
     }
 args_run sc0 line h done behind sh (s ∷ rest) arg sc o q fin w may run k =
-    by_step (next_symbol sh o.so_far s) refl run (λ x r y f g. args_run sc0 line h done behind sh rest (arg ++ s ∷ []) y.0 (record o { so_far = x }) q fin f.within may r g)
+    by_step (next_terminal sh o.so_far s) refl run (λ x r y f g. args_run sc0 line h done behind sh rest (arg ++ s ∷ []) y.0 (record o { so_far = x }) q fin f.within may r g)
   where
-    by_read : (x : Partial) → next_symbol sh o.so_far s ≡ ok x → operand_run sh x rest ≡ ok q → (r : Answer) → argument_step sc o s ≡ r → ◌≡◌ {A = Answer} (elim r [ Ok y ↦ inners y.0 y.1 rest | Err c ↦ Err c ]) (Ok fin)
+    by_read : (x : Partial) → next_terminal sh o.so_far s ≡ ok x → operand_run sh x rest ≡ ok q → (r : Answer) → argument_step sc o s ≡ r → ◌≡◌ {A = Answer} (elim r [ Ok y ↦ inners y.0 y.1 rest | Err c ↦ Err c ]) (Ok fin)
         → ((x : Partial) → operand_run sh x rest ≡ ok q → (y : Pair) → Further sc0 line h done behind (arg ++ s ∷ []) (record o { so_far = x }) y → inners y.0 (state.Arguments (record o { so_far = x })) rest ≡ Ok fin → Reached sc0 line h done behind ((arg ++ s ∷ []) ++ rest) fin)
         → Reached sc0 line h done behind (arg ++ s ∷ rest) fin
     by_read x e run2 (Err c) f g ih = absurd cc
@@ -264,7 +264,7 @@ args_run sc0 line h done behind sh (s ∷ rest) arg sc o q fin w may run k =
         let g2 : inners y.0 (state.Arguments (record o { so_far = x })) rest ≡ Ok fin = ap (λ (z : Pair). inners z.0 z.1 rest) (sym t.is) ∙ g in
         subst (λ (z : List Terminal). Reached sc0 line h done behind z fin) (append_assoc arg (s ∷ []) rest) (ih x run2 y t g2)
 
-    by_step : (r : Result Partial SourceCause) → next_symbol sh o.so_far s ≡ r → ◌≡◌ {A = Result Partial SourceCause} (elim r [ Ok x ↦ operand_run sh x rest | Err c ↦ Err c ]) (Ok q)
+    by_step : (r : Result Partial SourceCause) → next_terminal sh o.so_far s ≡ r → ◌≡◌ {A = Result Partial SourceCause} (elim r [ Ok x ↦ operand_run sh x rest | Err c ↦ Err c ]) (Ok q)
         → ((x : Partial) → operand_run sh x rest ≡ ok q → (y : Pair) → Further sc0 line h done behind (arg ++ s ∷ []) (record o { so_far = x }) y → inners y.0 (state.Arguments (record o { so_far = x })) rest ≡ Ok fin → Reached sc0 line h done behind ((arg ++ s ∷ []) ++ rest) fin)
         → Reached sc0 line h done behind (arg ++ s ∷ rest) fin
     by_step (Err c) e run2 ih = absurd cc
@@ -325,15 +325,15 @@ module _ (sc0 : ScopeView) (line : ℕ) (h : Head) (lead front : List Terminal) 
         within = subst (λ (x : ScopeView). Within sc0 line h done behind [] x (open_at line h done false p)) (ap (λ (x : Pair). x.0) same) (fresh_within p (inr (sh, may, is)) false (λ none_so. absurd cc));
       }
   shaped sh may (s ∷ ss) later a p fin is xs e (IsArgument.starred {ss = rest} {f} operand form) k =
-      let first : symbol.Star ≡ s = cc in
+      let first : terminal.Star ≡ s = cc in
       let others : rest ≡ ss ++ later = cc in
       let r = form_reads sh rest f form in
       let run : operand_run sh p (ss ++ later) ≡ ok r.last = ap (λ (x : Partial). operand_run sh x (ss ++ later)) is ∙ (ap (operand_run sh (begun sh)) (sym others) ∙ r.runs) in
       let front_run = run_prefix sh ss later p r.last run in
-      let takes : argument_step behind (open_at line h done false p) symbol.Star ≡ Ok (behind, state.Arguments (open_at line h done true p)) = rw (is, operand_begun sh operand, operand_head h (length done) sh may operand) refl in
+      let takes : argument_step behind (open_at line h done false p) terminal.Star ≡ Ok (behind, state.Arguments (open_at line h done true p)) = rw (is, operand_begun sh operand, operand_head h (length done) sh may operand) refl in
       let k2 : inners behind (state.Arguments (open_at line h done true p)) ss ≡ Ok fin =
       sym (ap (λ (x : Answer). elim x [ Ok y ↦ inners y.0 y.1 ss | Err c ↦ Err c ]) takes) ∙ (ap (λ (x : Terminal). inners behind (state.Arguments (open_at line h done false p)) (x ∷ ss)) first ∙ k) in
-      let reached = args_run sc0 line h done behind sh ss (symbol.Star ∷ []) behind (open_at line h done true p) front_run.0 fin (fresh_within p (inr (sh, may, is)) true (λ _. operand_head h (length done) sh may operand)) may front_run.1 k2 in
+      let reached = args_run sc0 line h done behind sh ss (terminal.Star ∷ []) behind (open_at line h done true p) front_run.0 fin (fresh_within p (inr (sh, may, is)) true (λ _. operand_head h (length done) sh may operand)) may front_run.1 k2 in
       subst (λ (x : Terminal). Reached sc0 line h done behind (x ∷ ss) fin) first reached
 
   opened : (o : Option Shape) (arg : List Terminal) → shape_at h (length done) ≡ o → Opens o arg → (p : Partial) → ((sh : Shape) → shape_at h (length done) ≡ Some sh → p ≡ begun sh) → (p ≡ partial.Nothing) ⊎ ((sh : Shape) × (shape_at h (length done) ≡ Some sh) × (p ≡ begun sh))

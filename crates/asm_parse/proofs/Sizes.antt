@@ -3,8 +3,8 @@ use Rattle.std.proofs.Common.{◌≡◌, ℕ, ◌+◌, ◌≤◌, Bool, true, fa
 use Rattle.std.proofs.lemmas.List.{length-append}
 use Rattle.asm_lex.specs.declared.lexing.TheConstants.{LIMIT}
 use Rattle.asm_lex.specs.Words.{Word}
-use Rattle.asm_argument.specs.declared.symbol.Terminal.{Terminal}
-use Rattle.asm_argument.specs.declared.symbol.Terminal.TheVariants as symbol
+use Rattle.asm_argument.specs.declared.terminal.Terminal.{Terminal}
+use Rattle.asm_argument.specs.declared.terminal.Terminal.TheVariants as terminal
 use Rattle.asm_argument.specs.declared.operand.Shape.{Shape}
 use Rattle.asm_argument.specs.declared.operand.Partial.TheVariants as partial
 use Rattle.asm_argument.specs.declared.operand.Partial.{Partial}
@@ -23,10 +23,10 @@ use Rattle.asm_argument.specs.Operand.{begun, takes_absent}
 use Rattle.asm_argument.specs.Grammar.{IsValue, IsAddress, IsForm}
 use Rattle.asm_parse.specs.Statement.{item_of, resumed, sectioned}
 use Rattle.asm_parse.specs.Directives.{shape_at}
-use Rattle.asm_parse.specs.Statements.{IsSeen, Sees, IsArgument, Separated, HasArguments, Statement, symbols, text_of, IsStatement, Statements}
+use Rattle.asm_parse.specs.Statements.{IsSeen, Sees, IsArgument, Separated, HasArguments, Statement, terminals, text_of, IsStatement, Statements}
 use Rattle.std.specs.Prelude.{IfOk, Result, Ok, Err}
 use Rattle.asm_lex.specs.declared.fault.SourceFault.{SourceFault}
-use Rattle.asm_argument.specs.Symbols.{symbol_of}
+use Rattle.asm_argument.specs.Terminals.{terminal_of}
 use Rattle.asm_parse.specs.Running.{Says, Parses, read}
 use Rattle.asm_parse.proofs.Sources.{parsed_is}
 use Rattle.asm_source.specs.Size.{name_size, form_size, arguments_size, body_size, body_count, items_size, items_count}
@@ -105,13 +105,13 @@ separated_pays {h} (Separated.more {ss} {ts} {before} {a} {sc1} {sc2} sep next) 
     let p = separated_pays sep in
     let q = argument_pays next.is in
     record {
-      size = omega (arith, size-append before (a ∷ []), costs-append ss (ts ++ symbol.Comma ∷ []), costs-append ts (symbol.Comma ∷ []), p.size, q.size);
+      size = omega (arith, size-append before (a ∷ []), costs-append ss (ts ++ terminal.Comma ∷ []), costs-append ts (terminal.Comma ∷ []), p.size, q.size);
       count = inr (elim p.count [
         | inl e ↦
             let may : shape_at h 0 ≡ Some next.shape = ap (λ (x : List Argument). shape_at h (length x)) (sym e) ∙ next.may in
             let one = first_some h next.shape (length ts) may q.some in
-            omega (arith, one, ap length e, length-append before (a ∷ []), length-append ss (ts ++ symbol.Comma ∷ []), length-append ts (symbol.Comma ∷ []))
-        | inr le ↦ omega (arith, le, length-append before (a ∷ []), length-append ss (ts ++ symbol.Comma ∷ []), length-append ts (symbol.Comma ∷ []))
+            omega (arith, one, ap length e, length-append before (a ∷ []), length-append ss (ts ++ terminal.Comma ∷ []), length-append ts (terminal.Comma ∷ []))
+        | inr le ↦ omega (arith, le, length-append before (a ∷ []), length-append ss (ts ++ terminal.Comma ∷ []), length-append ts (terminal.Comma ∷ []))
       ]);
       same = sees_same sc1 sc2 _ _ next.sees ∙ p.same;
     }
@@ -155,37 +155,37 @@ pushed_pays sc sc1 sc2 x ss same new size count =
     let p = items_end sc.items x in
     record { size = omega (arith, ap items_size e, p.0, size); count = omega (arith, ap items_count e, p.1, count) }
 
-same_pays : (sc : ScopeView) (s : Terminal) (ss : List Terminal) → StatementPays sc sc (s ∷ (ss ++ symbol.End ∷ []))
-same_pays sc s ss = record { size = omega (arith, costs-append ss (symbol.End ∷ [])); count = omega (arith, length-append ss (symbol.End ∷ [])) }
+same_pays : (sc : ScopeView) (s : Terminal) (ss : List Terminal) → StatementPays sc sc (s ∷ (ss ++ terminal.End ∷ []))
+same_pays sc s ss = record { size = omega (arith, costs-append ss (terminal.End ∷ [])); count = omega (arith, length-append ss (terminal.End ∷ [])) }
 
 statement_pays : {sc sc2 : ScopeView} {line : ℕ} {ss : List Terminal} → Statement sc line ss sc2 → StatementPays sc sc2 ss
 statement_pays Statement.empty = record { size = omega arith; count = omega arith }
 statement_pays {sc} {line} (Statement.label {sc2} {n} sk seen) =
-    pushed_pays sc sc2 _ (record { line = line; body = body.Label n }) (symbol.Name n ∷ symbol.Colon ∷ []) (sees_same sc sc2 true (Some n) seen) refl (omega arith) (omega arith)
+    pushed_pays sc sc2 _ (record { line = line; body = body.Label n }) (terminal.Name n ∷ terminal.Colon ∷ []) (sees_same sc sc2 true (Some n) seen) refl (omega arith) (omega arith)
 statement_pays {sc} {line} (Statement.instruction {sc2} {n} {ss} {args} passed dotted rep has) =
     let p = arguments_pay has in
-    pushed_pays sc sc2 _ (item_of line (head.Instruction false n) args) (symbol.Name n ∷ (ss ++ symbol.End ∷ [])) p.same refl (omega (arith, p.size, costs-append ss (symbol.End ∷ []))) (omega (arith, p.count, length-append ss (symbol.End ∷ [])))
+    pushed_pays sc sc2 _ (item_of line (head.Instruction false n) args) (terminal.Name n ∷ (ss ++ terminal.End ∷ [])) p.same refl (omega (arith, p.size, costs-append ss (terminal.End ∷ []))) (omega (arith, p.count, length-append ss (terminal.End ∷ [])))
 statement_pays {sc} {line} (Statement.repeated {sc2} {r} {n} {ss} {args} passed dotted rep has) =
     let p = arguments_pay has in
-    pushed_pays sc sc2 _ (item_of line (head.Instruction true n) args) (symbol.Name r ∷ symbol.Name n ∷ (ss ++ symbol.End ∷ [])) p.same refl (omega (arith, p.size, costs-append ss (symbol.End ∷ []))) (omega (arith, p.count, length-append ss (symbol.End ∷ [])))
+    pushed_pays sc sc2 _ (item_of line (head.Instruction true n) args) (terminal.Name r ∷ terminal.Name n ∷ (ss ++ terminal.End ∷ [])) p.same refl (omega (arith, p.size, costs-append ss (terminal.End ∷ []))) (omega (arith, p.count, length-append ss (terminal.End ∷ [])))
 statement_pays {sc} {line} (Statement.directive {sc2} {n} {k} {ss} {args} passed dotted dir list has count) =
     let p = arguments_pay has in
-    pushed_pays sc sc2 _ (item_of line (head.Directive k n) args) (symbol.Name n ∷ (ss ++ symbol.End ∷ [])) p.same (resumed_same (pushed sc2 (item_of line (head.Directive k n) args)) (head.Directive k n))
-    (omega (arith, p.size, costs-append ss (symbol.End ∷ []))) (omega (arith, p.count, length-append ss (symbol.End ∷ [])))
-statement_pays {sc} (Statement.skipped_directive {n} ss passed dotted dir u h) = same_pays sc (symbol.Name n) ss
+    pushed_pays sc sc2 _ (item_of line (head.Directive k n) args) (terminal.Name n ∷ (ss ++ terminal.End ∷ [])) p.same (resumed_same (pushed sc2 (item_of line (head.Directive k n) args)) (head.Directive k n))
+    (omega (arith, p.size, costs-append ss (terminal.End ∷ []))) (omega (arith, p.count, length-append ss (terminal.End ∷ [])))
+statement_pays {sc} (Statement.skipped_directive {n} ss passed dotted dir u h) = same_pays sc (terminal.Name n) ss
 statement_pays {sc} (Statement.skipped_label {n} sk) = record { size = omega arith; count = omega arith }
-statement_pays {sc} (Statement.skipped {n} ss passed u h) = same_pays sc (symbol.Name n) ss
+statement_pays {sc} (Statement.skipped {n} ss passed u h) = same_pays sc (terminal.Name n) ss
 statement_pays {sc} (Statement.nameless {s} ss sk k h) = same_pays sc s ss
 
 -- ---- a source
 
-pub symbols-append : (ws vs : List Word) → symbols (ws ++ vs) ≡ symbols ws ++ symbols vs
-symbols-append [] vs = refl
-symbols-append (w ∷ ws) vs = ap (λ (x : List Terminal). symbol_of w.kind w.bytes ∷ x) (symbols-append ws vs)
+pub terminals-append : (ws vs : List Word) → terminals (ws ++ vs) ≡ terminals ws ++ terminals vs
+terminals-append [] vs = refl
+terminals-append (w ∷ ws) vs = ap (λ (x : List Terminal). terminal_of w.kind w.bytes ∷ x) (terminals-append ws vs)
 
-symbols-length : (ws : List Word) → length (symbols ws) ≡ length ws
-symbols-length [] = refl
-symbols-length (w ∷ ws) = omega (arith, symbols-length ws)
+terminals-length : (ws : List Word) → length (terminals ws) ≡ length ws
+terminals-length [] = refl
+terminals-length (w ∷ ws) = omega (arith, terminals-length ws)
 
 paid_front : (ws vs : List Word) → ArePaid (ws ++ vs) → ArePaid ws
 paid_front [] vs h = tt
@@ -207,14 +207,14 @@ record PiecePays (sc sc2 : ScopeView) (ws : List Word) : Type 0 where
   size : items_size sc2.items + 1 ≤ items_size sc.items + weight ws
   count : items_count sc2.items + 1 ≤ items_count sc.items + length ws
 
-section_pays : (sc : ScopeView) (w v : Word) (parts rest : List Word) (n m : List ℕ) (ss : List Terminal) → symbol_of w.kind w.bytes ≡ symbol.Name n → symbol_of v.kind v.bytes ≡ symbol.Name m → symbols rest ≡ ss ++ symbol.End ∷ []
+section_pays : (sc : ScopeView) (w v : Word) (parts rest : List Word) (n m : List ℕ) (ss : List Terminal) → terminal_of w.kind w.bytes ≡ terminal.Name n → terminal_of v.kind v.bytes ≡ terminal.Name m → terminals rest ≡ ss ++ terminal.End ∷ []
     → ArePaid (w ∷ v ∷ (parts ++ rest)) → PiecePays sc (sectioned sc w.line n (m ++ text_of parts)) (w ∷ v ∷ (parts ++ rest))
 section_pays sc w v parts rest n m ss wn vm end paid =
     let p = items_end sc.items (record { line = w.line; body = body.Directive n (record { star = false; form = form.Text (m ++ text_of parts) } ∷ []) }) in
     let first : length n ≤ length w.bytes = omega (arith, paid.0, ap cost wn) in
     let second : length m ≤ length v.bytes = omega (arith, paid.1.0, ap cost vm) in
-    let last : 1 ≤ weight rest = omega (arith, paid_costs rest (paid_back parts rest paid.1.1), ap costs end, costs-append ss (symbol.End ∷ [])) in
-    let some : 1 ≤ length rest = omega (arith, symbols-length rest, ap length end, length-append ss (symbol.End ∷ [])) in
+    let last : 1 ≤ weight rest = omega (arith, paid_costs rest (paid_back parts rest paid.1.1), ap costs end, costs-append ss (terminal.End ∷ [])) in
+    let some : 1 ≤ length rest = omega (arith, terminals-length rest, ap length end, length-append ss (terminal.End ∷ [])) in
     record {
       size = omega (arith, p.0, first, second, last, length-append m (text_of parts), length-text_of parts, weight-append parts rest);
       count = omega (arith, p.1, some, length-append parts rest);
@@ -223,7 +223,7 @@ section_pays sc w v parts rest n m ss wn vm end paid =
 piece_pays : {sc sc2 : ScopeView} {ws : List Word} → IsStatement sc ws sc2 → ArePaid ws → PiecePays sc sc2 ws
 piece_pays (IsStatement.plain w ws st) paid =
     let p = statement_pays st in
-    record { size = omega (arith, p.size, paid_costs (w ∷ ws) paid); count = omega (arith, p.count, symbols-length (w ∷ ws)) }
+    record { size = omega (arith, p.size, paid_costs (w ∷ ws) paid); count = omega (arith, p.count, terminals-length (w ∷ ws)) }
 piece_pays {sc} (IsStatement.section {n} {m} w v parts rest ss wn passed dotted dir vm is touch end flags) paid = section_pays sc w v parts rest n m ss wn vm end paid
 
 -- with one to spare where there is a statement

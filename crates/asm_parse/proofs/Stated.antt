@@ -1,4 +1,4 @@
--- What the cases of the grammar say is read symbol by symbol.
+-- What the cases of the grammar say is read terminal by terminal.
 use Rattle.std.proofs.Common.{◌≡◌, ℕ, Bool, true, false, cond, List, [], ◌∷◌, ◌++◌, length, Option, Some, None, Result, Ok, Err, refl, sym, ap, subst, ◌∙◌, ◌⊎◌, inl, inr, append_assoc, arith}
 use Rattle.std.proofs.lemmas.Bool.{le-ltb, eq-eqb}
 use Rattle.std.proofs.lemmas.List.{append-nil}
@@ -7,8 +7,8 @@ use Rattle.std.specs.List.{list_all}
 use Rattle.asm_lex.specs.declared.fault.SourceCause.{SourceCause}
 use Rattle.asm_lex.specs.declared.fault.SourceCause.TheVariants as cause
 use Rattle.asm_lex.specs.Words.{Word}
-use Rattle.asm_argument.specs.declared.symbol.Terminal.{Terminal}
-use Rattle.asm_argument.specs.declared.symbol.Terminal.TheVariants as symbol
+use Rattle.asm_argument.specs.declared.terminal.Terminal.{Terminal}
+use Rattle.asm_argument.specs.declared.terminal.Terminal.TheVariants as terminal
 use Rattle.asm_argument.specs.declared.operand.Shape.{Shape}
 use Rattle.asm_argument.specs.declared.operand.Shape.TheVariants as shape
 use Rattle.asm_argument.specs.declared.operand.Partial.{Partial}
@@ -25,19 +25,19 @@ use Rattle.asm_parse.specs.declared.state.StatementState.{StatementState}
 use Rattle.asm_parse.specs.declared.state.StatementState.TheVariants as state
 use Rattle.asm_parse.specs.ScopeView.{ScopeView}
 use Rattle.asm_parse.specs.Scope.{pushed}
-use Rattle.asm_argument.specs.Operand.{is_operand, begun, next_symbol, operand_step, finished, is_nothing, name_in}
+use Rattle.asm_argument.specs.Operand.{is_operand, begun, next_terminal, operand_step, finished, is_nothing, name_in}
 use Rattle.asm_lex.specs.declared.token.TokenKind.{TokenKind}
 use Rattle.asm_lex.specs.declared.token.TokenKind.TheVariants as token
-use Rattle.asm_argument.specs.Symbols.{mark_symbol, number_symbol, number_value, symbol_of}
+use Rattle.asm_argument.specs.Terminals.{mark_terminal, number_terminal, number_value, terminal_of}
 use Rattle.asm_parse.specs.Reading.{Fault, placed, is_part, is_longer, ending_at, next_word}
 use Rattle.asm_parse.specs.Running.{◌>>=◌}
 use Rattle.asm_parse.proofs.Words.{read_words}
 use Rattle.asm_parse.specs.Statement.{item_of, resumed, sectioned, with_name, after_step, at_shape, within, argument_step, nothing_yet, named_step, colon_behind, label, labelled, unless_skipping, other_behind, of_directive, skip, sectioned_step, flags_step, start_step, step, strayed, next_step, fault_line, is_passed, with_scope}
 use Rattle.asm_parse.specs.Directives.{shape_at, least, defines, is_instruction, is_dotted, directive_of, is_section}
 use Rattle.asm_source.specs.Names.{symbol_in}
-use Rattle.asm_parse.specs.Statements.{IsSeen, Sees, IsArgument, Separated, HasArguments, is_inner, is_unlabelled, is_nameless, are_flags, has_list, Statement, symbols, text_of, Touch, IsStatement, Statements}
+use Rattle.asm_parse.specs.Statements.{IsSeen, Sees, IsArgument, Separated, HasArguments, is_inner, is_unlabelled, is_nameless, are_flags, has_list, Statement, terminals, text_of, Touch, IsStatement, Statements}
 use Rattle.asm_argument.proofs.Operands.{ok, operand_run, form_reads}
-use Rattle.asm_parse.proofs.Names.{seen_noting, named_in, name_step, name_stays, finished_named, finished_is, no_star, no_end_symbol, no_big, no_comma}
+use Rattle.asm_parse.proofs.Names.{seen_noting, named_in, name_step, name_stays, finished_named, finished_is, no_star, no_end_terminal, no_big, no_comma}
 use Rattle.asm_parse.proofs.Quiet.{Answer}
 
 -- ---- within a statement
@@ -62,7 +62,7 @@ inner_step sc (state.Stray l c) line s y h = absurd cc
 
 -- what goes on goes on behind a `%` too
 pub step_next : (sc : ScopeView) (st : StatementState) (line : ℕ) (s : Terminal) (y : ScopeView × StatementState) → step sc st line s ≡ Ok y → next_step sc st line s ≡ Ok y
-step_next sc st line symbol.Percent y h = ap (strayed (fault_line sc st line)) h
+step_next sc st line terminal.Percent y h = ap (strayed (fault_line sc st line)) h
 step_next sc st line _ y h = h
 
 abbrev pub inners : ScopeView → StatementState → List Terminal → Answer
@@ -91,34 +91,34 @@ pub same_ending : (st : StatementState) (e : ℕ) → is_naming st ≡ false →
 same_ending (state.Sectioned b n m a) e h = absurd cc
 same_ending _ e h = refl
 
--- a word that is a symbol
-pub word_is : (sc : ScopeView) (st : StatementState) (w : Word) (x : ScopeView × StatementState) → is_longer st w.at w.kind w.bytes ≡ false → step sc st w.line (symbol_of w.kind w.bytes) ≡ Ok x
+-- a word that is a terminal
+pub word_is : (sc : ScopeView) (st : StatementState) (w : Word) (x : ScopeView × StatementState) → is_longer st w.at w.kind w.bytes ≡ false → step sc st w.line (terminal_of w.kind w.bytes) ≡ Ok x
     → next_word sc st w ≡ Ok (x.0, ending_at (w.at + length w.bytes) x.1)
-word_is sc st w x none h = rw (none, step_next sc st w.line (symbol_of w.kind w.bytes) x h) refl
+word_is sc st w x none h = rw (none, step_next sc st w.line (terminal_of w.kind w.bytes) x h) refl
 
 -- the state in which a name's reading goes on isn't that of a section's
 inside_naming : (sc : ScopeView) (st : StatementState) (s : Terminal) (z : ScopeView × StatementState) → inner sc st s ≡ Ok z → is_naming st ≡ false
 inside_naming sc (state.Sectioned b n m e) s z h = absurd cc
 inside_naming sc _ s z h = refl
 
-start_naming : (ws : List Word) (sc : ScopeView) (st : StatementState) (y : ScopeView × StatementState) → y.1 ≡ state.Start → inners sc st (symbols ws) ≡ Ok y → is_naming st ≡ false
+start_naming : (ws : List Word) (sc : ScopeView) (st : StatementState) (y : ScopeView × StatementState) → y.1 ≡ state.Start → inners sc st (terminals ws) ≡ Ok y → is_naming st ≡ false
 start_naming [] sc st y start h = let e : (sc, st) ≡ y = cc in ap is_naming (ap (λ (x : ScopeView × StatementState). x.1) e ∙ start)
-start_naming (w ∷ ws) sc st y start h = by_step (inner sc st (symbol_of w.kind w.bytes)) refl h
+start_naming (w ∷ ws) sc st y start h = by_step (inner sc st (terminal_of w.kind w.bytes)) refl h
   where
-    by_step : (r : Answer) → inner sc st (symbol_of w.kind w.bytes) ≡ r → ◌≡◌ {A = Answer} (elim r [ Ok z ↦ inners z.0 z.1 (symbols ws) | Err c ↦ Err c ]) (Ok y) → is_naming st ≡ false
-    by_step (Ok z) e h = inside_naming sc st (symbol_of w.kind w.bytes) z e
+    by_step : (r : Answer) → inner sc st (terminal_of w.kind w.bytes) ≡ r → ◌≡◌ {A = Answer} (elim r [ Ok z ↦ inners z.0 z.1 (terminals ws) | Err c ↦ Err c ]) (Ok y) → is_naming st ≡ false
+    by_step (Ok z) e h = inside_naming sc st (terminal_of w.kind w.bytes) z e
     by_step (Err c) e h = absurd cc
 
-pub inners_words : (ws : List Word) (sc : ScopeView) (st : StatementState) (y : ScopeView × StatementState) → y.1 ≡ state.Start → inners sc st (symbols ws) ≡ Ok y → read_words sc st ws ≡ Ok y
+pub inners_words : (ws : List Word) (sc : ScopeView) (st : StatementState) (y : ScopeView × StatementState) → y.1 ≡ state.Start → inners sc st (terminals ws) ≡ Ok y → read_words sc st ws ≡ Ok y
 inners_words [] sc st y start h = let e : (sc, st) ≡ y = cc in ap (λ (x : ScopeView × StatementState). Ok x) e
-inners_words (w ∷ ws) sc st y start h = by_step (inner sc st (symbol_of w.kind w.bytes)) refl h (λ z e. inners_words ws z.0 z.1 y start e)
+inners_words (w ∷ ws) sc st y start h = by_step (inner sc st (terminal_of w.kind w.bytes)) refl h (λ z e. inners_words ws z.0 z.1 y start e)
   where
-    by_step : (r : Answer) → inner sc st (symbol_of w.kind w.bytes) ≡ r → ◌≡◌ {A = Answer} (elim r [ Ok z ↦ inners z.0 z.1 (symbols ws) | Err c ↦ Err c ]) (Ok y)
-        → ((z : ScopeView × StatementState) → inners z.0 z.1 (symbols ws) ≡ Ok y → read_words z.0 z.1 ws ≡ Ok y) → read_words sc st (w ∷ ws) ≡ Ok y
+    by_step : (r : Answer) → inner sc st (terminal_of w.kind w.bytes) ≡ r → ◌≡◌ {A = Answer} (elim r [ Ok z ↦ inners z.0 z.1 (terminals ws) | Err c ↦ Err c ]) (Ok y)
+        → ((z : ScopeView × StatementState) → inners z.0 z.1 (terminals ws) ≡ Ok y → read_words z.0 z.1 ws ≡ Ok y) → read_words sc st (w ∷ ws) ≡ Ok y
     by_step (Ok z) e h ih =
-        let none = not_longer st w.at w.kind w.bytes (inside_naming sc st (symbol_of w.kind w.bytes) z e) in
+        let none = not_longer st w.at w.kind w.bytes (inside_naming sc st (terminal_of w.kind w.bytes) z e) in
         let same = same_ending z.1 (w.at + length w.bytes) (start_naming ws z.0 z.1 y start h) in
-        rw (word_is sc st w z none (inner_step sc st w.line (symbol_of w.kind w.bytes) z e), same) (ih z h)
+        rw (word_is sc st w z none (inner_step sc st w.line (terminal_of w.kind w.bytes) z e), same) (ih z h)
     by_step (Err c) e h ih = absurd cc
 
 pub words_append : (ws vs : List Word) (sc : ScopeView) (st : StatementState) (y : ScopeView × StatementState) → read_words sc st ws ≡ Ok y → read_words sc st (ws ++ vs) ≡ read_words y.0 y.1 vs
@@ -132,18 +132,18 @@ words_append (w ∷ ws) vs sc st y h = by_step (placed (fault_line sc st w.line)
 
 -- ---- one argument
 
--- a symbol with which an argument goes on
-pub goes_within : (sc : ScopeView) (o : Open) (sh : Shape) (s : Terminal) (q : Partial) → next_symbol sh o.so_far s ≡ ok q → argument_step sc o s ≡ within sc o s
-goes_within sc o sh symbol.Comma q h = rw (no_comma sh o.so_far q h) refl
-goes_within sc o sh symbol.End q h = absurd (no_end_symbol sh o.so_far q h)
-goes_within sc o sh symbol.Star q h = absurd (no_star sh o.so_far q h)
+-- a terminal with which an argument goes on
+pub goes_within : (sc : ScopeView) (o : Open) (sh : Shape) (s : Terminal) (q : Partial) → next_terminal sh o.so_far s ≡ ok q → argument_step sc o s ≡ within sc o s
+goes_within sc o sh terminal.Comma q h = rw (no_comma sh o.so_far q h) refl
+goes_within sc o sh terminal.End q h = absurd (no_end_terminal sh o.so_far q h)
+goes_within sc o sh terminal.Star q h = absurd (no_star sh o.so_far q h)
 goes_within sc o sh _ q h = refl
 
-next_operand : (sh : Shape) (p : Partial) (s : Terminal) (q : Partial) → next_symbol sh p s ≡ ok q → operand_step sh p s ≡ ok q
-next_operand sh p symbol.Big q h = absurd (no_big sh p q h)
+next_operand : (sh : Shape) (p : Partial) (s : Terminal) (q : Partial) → next_terminal sh p s ≡ ok q → operand_step sh p s ≡ ok q
+next_operand sh p terminal.Big q h = absurd (no_big sh p q h)
 next_operand sh p _ q h = h
 
-pub within_next : (sc : ScopeView) (o : Open) (sh : Shape) (s : Terminal) (q : Partial) → shape_at o.head (length o.arguments) ≡ Some sh → next_symbol sh o.so_far s ≡ ok q → argument_step sc o s ≡ with_name sc (record o { so_far = q }) (name_in q)
+pub within_next : (sc : ScopeView) (o : Open) (sh : Shape) (s : Terminal) (q : Partial) → shape_at o.head (length o.arguments) ≡ Some sh → next_terminal sh o.so_far s ≡ ok q → argument_step sc o s ≡ with_name sc (record o { so_far = q }) (name_in q)
 within_next sc o sh s q may h =
     let a : at_shape sc o s (shape_at o.head (length o.arguments)) ≡ at_shape sc o s (Some sh) = ap (at_shape sc o s) may in
     let b : after_step sc o s (operand_step sh o.so_far s) ≡ after_step sc o s (Ok q) = ap (after_step sc o s) (next_operand sh o.so_far s q h) in
@@ -168,9 +168,9 @@ form_runs line h done star sh may [] p q sc sc2 e g =
     let same : p ≡ q = cc in
     let g2 : Gains (defines h (length done)) sc (named_in q) (named_in q) sc2 = subst (λ (x : Partial). Gains (defines h (length done)) sc (named_in x) (named_in q) sc2) same g in
     rw (same, gains_same (defines h (length done)) sc sc2 (named_in q) g2) refl
-form_runs line h done star sh may (s ∷ ss) p q sc sc2 e g = by_step (next_symbol sh p s) refl e (λ x. form_runs line h done star sh may ss x q)
+form_runs line h done star sh may (s ∷ ss) p q sc sc2 e g = by_step (next_terminal sh p s) refl e (λ x. form_runs line h done star sh may ss x q)
   where
-    by_step : (r : Result Partial SourceCause) → next_symbol sh p s ≡ r → ◌≡◌ {A = Result Partial SourceCause} (elim r [ Ok x ↦ operand_run sh x ss | Err c ↦ Err c ]) (Ok q)
+    by_step : (r : Result Partial SourceCause) → next_terminal sh p s ≡ r → ◌≡◌ {A = Result Partial SourceCause} (elim r [ Ok x ↦ operand_run sh x ss | Err c ↦ Err c ]) (Ok q)
         → ((x : Partial) (sc sc2 : ScopeView) → operand_run sh x ss ≡ ok q → Gains (defines h (length done)) sc (named_in x) (named_in q) sc2
         → inners sc (state.Arguments (open_at line h done star x)) ss ≡ Ok (sc2, state.Arguments (open_at line h done star q)))
         → inners sc (state.Arguments (open_at line h done star p)) (s ∷ ss) ≡ Ok (sc2, state.Arguments (open_at line h done star q))
@@ -260,7 +260,7 @@ argument_runs line h done sh may ss a sc sc2 (IsArgument.starred {ss = rest} {f}
 -- ---- arguments
 
 pub comma_runs : (sc : ScopeView) (line : ℕ) (h : Head) (done : List Argument) (a : Argument) (q : Partial) (sh : Shape) → finished q ≡ Some a.form → shape_at h (length (done ++ a ∷ [])) ≡ Some sh
-    → argument_step sc (open_at line h done a.star q) symbol.Comma ≡ Ok (sc, state.Arguments (open_at line h (done ++ a ∷ []) false (begun sh)))
+    → argument_step sc (open_at line h done a.star q) terminal.Comma ≡ Ok (sc, state.Arguments (open_at line h (done ++ a ∷ []) false (begun sh)))
 comma_runs sc line h done a q sh fin may = rw (finished_is q a.form fin, fin, may) refl
 
 pub separated_runs : (line : ℕ) {h : Head} {sc sc2 : ScopeView} {ss : List Terminal} {args : List Argument} → Separated h sc ss args sc2 → (sh : Shape) → shape_at h (length args) ≡ Some sh
@@ -268,60 +268,60 @@ pub separated_runs : (line : ℕ) {h : Head} {sc sc2 : ScopeView} {ss : List Ter
 separated_runs line {h} Separated.none sh may = rw (first_shape h sh may) refl
 separated_runs line {h} {sc} {sc2} (Separated.more {ss} {ts} {before} {a} {sc1} sep next) sh may =
     let r = argument_runs line h before next.shape next.may ts a sc1 sc2 next.is next.sees in
-    let comma : inners sc2 (state.Arguments (open_at line h before a.star r.0)) (symbol.Comma ∷ []) ≡ Ok (sc2, state.Arguments (open_at line h (before ++ a ∷ []) false (begun sh))) = rw (comma_runs sc2 line h before a r.0 sh r.2 may, inners) refl in
-    inners_append ss (ts ++ symbol.Comma ∷ []) sc (state.Arguments (nothing_yet line h)) _ (separated_runs line sep next.shape next.may)
-    ∙ (inners_append ts (symbol.Comma ∷ []) sc1 (state.Arguments (open_at line h before false (begun next.shape))) _ r.1 ∙ comma)
+    let comma : inners sc2 (state.Arguments (open_at line h before a.star r.0)) (terminal.Comma ∷ []) ≡ Ok (sc2, state.Arguments (open_at line h (before ++ a ∷ []) false (begun sh))) = rw (comma_runs sc2 line h before a r.0 sh r.2 may, inners) refl in
+    inners_append ss (ts ++ terminal.Comma ∷ []) sc (state.Arguments (nothing_yet line h)) _ (separated_runs line sep next.shape next.may)
+    ∙ (inners_append ts (terminal.Comma ∷ []) sc1 (state.Arguments (open_at line h before false (begun next.shape))) _ r.1 ∙ comma)
 
 finished_something : (q : Partial) (f : Form) → finished q ≡ Some f → is_nothing q ≡ false
 finished_something partial.Nothing f h = absurd cc
 finished_something _ f h = refl
 
 pub end_runs : (sc : ScopeView) (line : ℕ) (h : Head) (done : List Argument) (a : Argument) (q : Partial) → finished q ≡ Some a.form → nat_lt (length (done ++ a ∷ [])) (least h) ≡ false
-    → argument_step sc (open_at line h done a.star q) symbol.End ≡ Ok (resumed (pushed sc (item_of line h (done ++ a ∷ []))) h, state.Start)
+    → argument_step sc (open_at line h done a.star q) terminal.End ≡ Ok (resumed (pushed sc (item_of line h (done ++ a ∷ []))) h, state.Start)
 end_runs sc line h done a q fin count = rw (finished_something q a.form fin, finished_is q a.form fin, fin, count) refl
 
 pub arguments_run : (line : ℕ) {h : Head} {sc sc2 : ScopeView} {ss : List Terminal} {args : List Argument} → HasArguments h sc ss args sc2 → nat_lt (length args) (least h) ≡ false
-    → inners sc (state.Arguments (nothing_yet line h)) (ss ++ symbol.End ∷ []) ≡ Ok (resumed (pushed sc2 (item_of line h args)) h, state.Start)
+    → inners sc (state.Arguments (nothing_yet line h)) (ss ++ terminal.End ∷ []) ≡ Ok (resumed (pushed sc2 (item_of line h args)) h, state.Start)
 arguments_run line HasArguments.none count = rw (count, inners) refl
 arguments_run line {h} {sc} {sc2} (HasArguments.some {ss} {ts} {before} {a} {sc1} sep next) count =
     let r = argument_runs line h before next.shape next.may ts a sc1 sc2 next.is next.sees in
-    let end : inners sc2 (state.Arguments (open_at line h before a.star r.0)) (symbol.End ∷ []) ≡ Ok (resumed (pushed sc2 (item_of line h (before ++ a ∷ []))) h, state.Start) = rw (end_runs sc2 line h before a r.0 r.2 count, inners) refl in
-    ap (inners sc (state.Arguments (nothing_yet line h))) (append_assoc ss ts (symbol.End ∷ []))
-    ∙ (inners_append ss (ts ++ symbol.End ∷ []) sc (state.Arguments (nothing_yet line h)) _ (separated_runs line sep next.shape next.may)
-    ∙ (inners_append ts (symbol.End ∷ []) sc1 (state.Arguments (open_at line h before false (begun next.shape))) _ r.1 ∙ end))
+    let end : inners sc2 (state.Arguments (open_at line h before a.star r.0)) (terminal.End ∷ []) ≡ Ok (resumed (pushed sc2 (item_of line h (before ++ a ∷ []))) h, state.Start) = rw (end_runs sc2 line h before a r.0 r.2 count, inners) refl in
+    ap (inners sc (state.Arguments (nothing_yet line h))) (append_assoc ss ts (terminal.End ∷ []))
+    ∙ (inners_append ss (ts ++ terminal.End ∷ []) sc (state.Arguments (nothing_yet line h)) _ (separated_runs line sep next.shape next.may)
+    ∙ (inners_append ts (terminal.End ∷ []) sc1 (state.Arguments (open_at line h before false (begun next.shape))) _ r.1 ∙ end))
 
 -- ---- statements
 
-no_colon_shape : (sc : ScopeView) (o : Open) (r : Option Shape) → o.so_far ≡ partial.Nothing → (c : SourceCause) × (at_shape sc o symbol.Colon r ≡ Err c)
+no_colon_shape : (sc : ScopeView) (o : Open) (r : Option Shape) → o.so_far ≡ partial.Nothing → (c : SourceCause) × (at_shape sc o terminal.Colon r ≡ Err c)
 no_colon_shape sc o None e = (_, refl)
 no_colon_shape sc o (Some sh) e =
-    let g : operand_step sh o.so_far symbol.Colon ≡ Err cause.BadOperand = ap (λ (p : Partial). operand_step sh p symbol.Colon) e in
-    (_, ap (after_step sc o symbol.Colon) g)
+    let g : operand_step sh o.so_far terminal.Colon ≡ Err cause.BadOperand = ap (λ (p : Partial). operand_step sh p terminal.Colon) e in
+    (_, ap (after_step sc o terminal.Colon) g)
 
 named_goes : (sc : ScopeView) (line : ℕ) (n : List ℕ) (o : Open) (ss : List Terminal) (y : ScopeView × StatementState) → ((s : Terminal) → other_behind sc line n s ≡ argument_step sc o s) → o.so_far ≡ partial.Nothing → y.1 ≡ state.Start
     → inners sc (state.Arguments o) ss ≡ Ok y → inners sc (state.Named line n) ss ≡ Ok y
 named_goes sc line n o [] y eq e start h = let g : (sc, state.Arguments o) ≡ y = cc in let f : state.Arguments o ≡ state.Start = ap (λ (x : ScopeView × StatementState). x.1) g ∙ start in absurd cc
-named_goes sc line n o (symbol.Colon ∷ ss) y eq e start h =
+named_goes sc line n o (terminal.Colon ∷ ss) y eq e start h =
     let c = no_colon_shape sc o (shape_at o.head (length o.arguments)) e in
-    let g : inners sc (state.Arguments o) (symbol.Colon ∷ ss) ≡ Err c.0 = rw (c.1, inners) refl in
+    let g : inners sc (state.Arguments o) (terminal.Colon ∷ ss) ≡ Err c.0 = rw (c.1, inners) refl in
     let f : ◌≡◌ {A = Answer} (Err c.0) (Ok y) = sym g ∙ h in absurd cc
 named_goes sc line n o (s ∷ ss) y eq e start h = rw (eq s, inners) h
 
-skip_runs : (sc : ScopeView) (ss : List Terminal) → list_all is_inner ss ≡ true → inners sc state.Skip (ss ++ symbol.End ∷ []) ≡ Ok (sc, state.Start)
+skip_runs : (sc : ScopeView) (ss : List Terminal) → list_all is_inner ss ≡ true → inners sc state.Skip (ss ++ terminal.End ∷ []) ≡ Ok (sc, state.Start)
 skip_runs sc [] h = refl
-skip_runs sc (symbol.End ∷ ss) h = absurd cc
+skip_runs sc (terminal.End ∷ ss) h = absurd cc
 skip_runs sc (s ∷ ss) h = skip_runs sc ss h
 
-flags_run : (sc : ScopeView) (line : ℕ) (n m : List ℕ) (ss : List Terminal) → list_all is_inner ss ≡ true → inners sc (state.Flags line n m) (ss ++ symbol.End ∷ []) ≡ Ok (sectioned sc line n m, state.Start)
+flags_run : (sc : ScopeView) (line : ℕ) (n m : List ℕ) (ss : List Terminal) → list_all is_inner ss ≡ true → inners sc (state.Flags line n m) (ss ++ terminal.End ∷ []) ≡ Ok (sectioned sc line n m, state.Start)
 flags_run sc line n m [] h = refl
-flags_run sc line n m (symbol.End ∷ ss) h = absurd cc
+flags_run sc line n m (terminal.End ∷ ss) h = absurd cc
 flags_run sc line n m (s ∷ ss) h = flags_run sc line n m ss h
 
 passes : (sc : ScopeView) (line : ℕ) (n : List ℕ) (ss : List Terminal) → ((s : Terminal) → other_behind sc line n s ≡ Ok (sc, skip s)) → is_unlabelled ss ≡ true → list_all is_inner ss ≡ true
-    → inners sc (state.Named line n) (ss ++ symbol.End ∷ []) ≡ Ok (sc, state.Start)
-passes sc line n [] eq u h = rw (eq symbol.End, inners) refl
-passes sc line n (symbol.Colon ∷ ss) eq u h = absurd cc
-passes sc line n (symbol.End ∷ ss) eq u h = absurd cc
+    → inners sc (state.Named line n) (ss ++ terminal.End ∷ []) ≡ Ok (sc, state.Start)
+passes sc line n [] eq u h = rw (eq terminal.End, inners) refl
+passes sc line n (terminal.Colon ∷ ss) eq u h = absurd cc
+passes sc line n (terminal.End ∷ ss) eq u h = absurd cc
 passes sc line n (s ∷ ss) eq u h = rw (eq s, inners) (skip_runs sc ss h)
 
 pub of_list : (k : Directive) (sc : ScopeView) (line : ℕ) (n : List ℕ) (s : Terminal) → has_list k ≡ true → of_directive (Some k) sc line n s ≡ argument_step sc (nothing_yet line (head.Directive k n)) s
@@ -333,10 +333,10 @@ abbrev pub opening : ScopeView → ℕ → List Terminal → Answer
 opening sc line [] = Ok (sc, state.Start)
 opening sc line (s ∷ ss) = elim (with_scope sc (start_step sc line s)) [ Ok y ↦ inners y.0 y.1 ss | Err c ↦ Err c ]
 
-nameless_runs : (sc : ScopeView) (line : ℕ) (s : Terminal) (ss : List Terminal) → sc.skipping ≡ true → is_nameless s ≡ true → list_all is_inner ss ≡ true → opening sc line (s ∷ (ss ++ symbol.End ∷ [])) ≡ Ok (sc, state.Start)
-nameless_runs sc line (symbol.Name n) ss sk k h = absurd cc
-nameless_runs sc line symbol.End ss sk k h = absurd cc
-nameless_runs sc line symbol.Big ss sk k h = rw (ap (λ (t : Bool). unless_skipping t cause.BadNumber) sk, opening, inners) (skip_runs sc ss h)
+nameless_runs : (sc : ScopeView) (line : ℕ) (s : Terminal) (ss : List Terminal) → sc.skipping ≡ true → is_nameless s ≡ true → list_all is_inner ss ≡ true → opening sc line (s ∷ (ss ++ terminal.End ∷ [])) ≡ Ok (sc, state.Start)
+nameless_runs sc line (terminal.Name n) ss sk k h = absurd cc
+nameless_runs sc line terminal.End ss sk k h = absurd cc
+nameless_runs sc line terminal.Big ss sk k h = rw (ap (λ (t : Bool). unless_skipping t cause.BadNumber) sk, opening, inners) (skip_runs sc ss h)
 nameless_runs sc line s ss sk k h = rw (ap (λ (t : Bool). unless_skipping t cause.BadOperand) sk, opening, inners) (skip_runs sc ss h)
 
 label_runs : (sc sc2 : ScopeView) (line : ℕ) (n : List ℕ) → sc.skipping ≡ false → IsSeen sc true n sc2 → colon_behind sc line n ≡ Ok (pushed sc2 (record { line = line; body = body.Label n }), state.Start)
@@ -352,19 +352,19 @@ pub statement_runs : {sc sc2 : ScopeView} {line : ℕ} {ss : List Terminal} → 
 statement_runs Statement.empty = refl
 statement_runs {sc} {line} (Statement.label {sc2} {n} sk seen) = rw (label_runs sc sc2 line n sk seen, inners) refl
 statement_runs {sc} {line} (Statement.instruction {n} {ss} passed dotted rep args) =
-    named_goes sc line n (nothing_yet line (head.Instruction false n)) (ss ++ symbol.End ∷ []) _ (λ s. rw (passed, dotted, rep) refl) refl refl (arguments_run line args (never_below _))
+    named_goes sc line n (nothing_yet line (head.Instruction false n)) (ss ++ terminal.End ∷ []) _ (λ s. rw (passed, dotted, rep) refl) refl refl (arguments_run line args (never_below _))
 statement_runs {sc} {line} (Statement.repeated passed dotted rep args) = rw (passed, dotted, rep, inners) (arguments_run line args (never_below _))
 statement_runs {sc} {line} (Statement.directive {n} {k} {ss} passed dotted dir list args count) =
-    named_goes sc line n (nothing_yet line (head.Directive k n)) (ss ++ symbol.End ∷ []) _ (λ s. rw (passed, dotted, dir) (of_list k sc line n s list)) refl refl (arguments_run line args count)
+    named_goes sc line n (nothing_yet line (head.Directive k n)) (ss ++ terminal.End ∷ []) _ (λ s. rw (passed, dotted, dir) (of_list k sc line n s list)) refl refl (arguments_run line args count)
 statement_runs {sc} {line} (Statement.skipped_directive {n} ss passed dotted dir u h) = passes sc line n ss (λ s. rw (passed, dotted, dir) refl) u h
 statement_runs {sc} {line} (Statement.skipped_label {n} sk) = rw (passed_label sc line n sk, inners) refl
 statement_runs {sc} {line} (Statement.skipped {n} ss passed u h) = passes sc line n ss (λ s. rw passed refl) u h
 statement_runs {sc} {line} (Statement.nameless {s} ss sk k h) = nameless_runs sc line s ss sk k h
 
-opening_words : (w : Word) (ws : List Word) (sc : ScopeView) (y : ScopeView × StatementState) → y.1 ≡ state.Start → opening sc w.line (symbols (w ∷ ws)) ≡ Ok y → read_words sc state.Start (w ∷ ws) ≡ Ok y
-opening_words w ws sc y start h = by_step (with_scope sc (start_step sc w.line (symbol_of w.kind w.bytes))) refl h
+opening_words : (w : Word) (ws : List Word) (sc : ScopeView) (y : ScopeView × StatementState) → y.1 ≡ state.Start → opening sc w.line (terminals (w ∷ ws)) ≡ Ok y → read_words sc state.Start (w ∷ ws) ≡ Ok y
+opening_words w ws sc y start h = by_step (with_scope sc (start_step sc w.line (terminal_of w.kind w.bytes))) refl h
   where
-    by_step : (r : Answer) → with_scope sc (start_step sc w.line (symbol_of w.kind w.bytes)) ≡ r → ◌≡◌ {A = Answer} (elim r [ Ok z ↦ inners z.0 z.1 (symbols ws) | Err c ↦ Err c ]) (Ok y) → read_words sc state.Start (w ∷ ws) ≡ Ok y
+    by_step : (r : Answer) → with_scope sc (start_step sc w.line (terminal_of w.kind w.bytes)) ≡ r → ◌≡◌ {A = Answer} (elim r [ Ok z ↦ inners z.0 z.1 (terminals ws) | Err c ↦ Err c ]) (Ok y) → read_words sc state.Start (w ∷ ws) ≡ Ok y
     by_step (Ok z) e h = rw (word_is sc state.Start w z refl e, same_ending z.1 (w.at + length w.bytes) (start_naming ws z.0 z.1 y start h)) (inners_words ws z.0 z.1 y start h)
     by_step (Err c) e h = absurd cc
 
@@ -382,36 +382,36 @@ cond_not : (t : Bool) (a b c : Terminal) → (a ≡ c → ⊥) → (b ≡ c → 
 cond_not true a b c p q = p
 cond_not false a b c p q = q
 
-no_comma_mark : (m : ℕ) → (m == 44) ≡ false → mark_symbol m ≡ symbol.Comma → ⊥
+no_comma_mark : (m : ℕ) → (m == 44) ≡ false → mark_terminal m ≡ terminal.Comma → ⊥
 no_comma_mark m h =
-    cond_not (m == 36) _ _ symbol.Comma (λ f. absurd cc) (cond_not (m == 37) _ _ symbol.Comma (λ f. absurd cc) (cond_not (m == 40) _ _ symbol.Comma (λ f. absurd cc) (cond_not (m == 41) _ _ symbol.Comma (λ f. absurd cc)
-    (cond_not (m == 42) _ _ symbol.Comma (λ f. absurd cc) (cond_not (m == 43) _ _ symbol.Comma (λ f. absurd cc)
-    (λ f. cond_not (m == 45) symbol.Minus (cond (m == 58) symbol.Colon symbol.At) symbol.Comma (λ g. absurd cc) (cond_not (m == 58) symbol.Colon symbol.At symbol.Comma (λ g. absurd cc) (λ g. absurd cc)) (sym (behind_comma m h) ∙ f)))))))
+    cond_not (m == 36) _ _ terminal.Comma (λ f. absurd cc) (cond_not (m == 37) _ _ terminal.Comma (λ f. absurd cc) (cond_not (m == 40) _ _ terminal.Comma (λ f. absurd cc) (cond_not (m == 41) _ _ terminal.Comma (λ f. absurd cc)
+    (cond_not (m == 42) _ _ terminal.Comma (λ f. absurd cc) (cond_not (m == 43) _ _ terminal.Comma (λ f. absurd cc)
+    (λ f. cond_not (m == 45) terminal.Minus (cond (m == 58) terminal.Colon terminal.At) terminal.Comma (λ g. absurd cc) (cond_not (m == 58) terminal.Colon terminal.At terminal.Comma (λ g. absurd cc) (λ g. absurd cc)) (sym (behind_comma m h) ∙ f)))))))
   where
-    behind_comma : (k : ℕ) → (k == 44) ≡ false → cond (k == 44) symbol.Comma (cond (k == 45) symbol.Minus (cond (k == 58) symbol.Colon symbol.At)) ≡ cond (k == 45) symbol.Minus (cond (k == 58) symbol.Colon symbol.At)
+    behind_comma : (k : ℕ) → (k == 44) ≡ false → cond (k == 44) terminal.Comma (cond (k == 45) terminal.Minus (cond (k == 58) terminal.Colon terminal.At)) ≡ cond (k == 45) terminal.Minus (cond (k == 58) terminal.Colon terminal.At)
     behind_comma k h = rw h refl
 
-no_end_mark : (m : ℕ) → mark_symbol m ≡ symbol.End → ⊥
+no_end_mark : (m : ℕ) → mark_terminal m ≡ terminal.End → ⊥
 no_end_mark m =
-    cond_not (m == 36) _ _ symbol.End (λ f. absurd cc) (cond_not (m == 37) _ _ symbol.End (λ f. absurd cc) (cond_not (m == 40) _ _ symbol.End (λ f. absurd cc) (cond_not (m == 41) _ _ symbol.End (λ f. absurd cc)
-    (cond_not (m == 42) _ _ symbol.End (λ f. absurd cc) (cond_not (m == 43) _ _ symbol.End (λ f. absurd cc) (cond_not (m == 44) _ _ symbol.End (λ f. absurd cc) (cond_not (m == 45) _ _ symbol.End (λ f. absurd cc)
-    (cond_not (m == 58) symbol.Colon symbol.At symbol.End (λ f. absurd cc) (λ f. absurd cc)))))))))
+    cond_not (m == 36) _ _ terminal.End (λ f. absurd cc) (cond_not (m == 37) _ _ terminal.End (λ f. absurd cc) (cond_not (m == 40) _ _ terminal.End (λ f. absurd cc) (cond_not (m == 41) _ _ terminal.End (λ f. absurd cc)
+    (cond_not (m == 42) _ _ terminal.End (λ f. absurd cc) (cond_not (m == 43) _ _ terminal.End (λ f. absurd cc) (cond_not (m == 44) _ _ terminal.End (λ f. absurd cc) (cond_not (m == 45) _ _ terminal.End (λ f. absurd cc)
+    (cond_not (m == 58) terminal.Colon terminal.At terminal.End (λ f. absurd cc) (λ f. absurd cc)))))))))
 
-not_number : (n : ℕ) (s : Terminal) → (s ≡ symbol.Comma) ⊎ (s ≡ symbol.End) → number_symbol n ≡ s → ⊥
-not_number n s (inl g) e = cond_not (nat_lt n (2 ^ 32)) (symbol.Number n) symbol.Big symbol.Comma (λ f. absurd cc) (λ f. absurd cc) (e ∙ g)
-not_number n s (inr g) e = cond_not (nat_lt n (2 ^ 32)) (symbol.Number n) symbol.Big symbol.End (λ f. absurd cc) (λ f. absurd cc) (e ∙ g)
+not_number : (n : ℕ) (s : Terminal) → (s ≡ terminal.Comma) ⊎ (s ≡ terminal.End) → number_terminal n ≡ s → ⊥
+not_number n s (inl g) e = cond_not (nat_lt n (2 ^ 32)) (terminal.Number n) terminal.Big terminal.Comma (λ f. absurd cc) (λ f. absurd cc) (e ∙ g)
+not_number n s (inr g) e = cond_not (nat_lt n (2 ^ 32)) (terminal.Number n) terminal.Big terminal.End (λ f. absurd cc) (λ f. absurd cc) (e ∙ g)
 
-comma_part : (m : ℕ) (t : Bool) → (m == 44) ≡ t → mark_symbol m ≡ symbol.Comma → not (m == 44) ≡ false
+comma_part : (m : ℕ) (t : Bool) → (m == 44) ≡ t → mark_terminal m ≡ terminal.Comma → not (m == 44) ≡ false
 comma_part m true f e = rw f refl
 comma_part m false f e = absurd (no_comma_mark m f e)
 
-ends_part : (k : TokenKind) (bytes : List ℕ) (s : Terminal) → (s ≡ symbol.Comma) ⊎ (s ≡ symbol.End) → symbol_of k bytes ≡ s → is_part k bytes ≡ false
+ends_part : (k : TokenKind) (bytes : List ℕ) (s : Terminal) → (s ≡ terminal.Comma) ⊎ (s ≡ terminal.End) → terminal_of k bytes ≡ s → is_part k bytes ≡ false
 ends_part token.End bytes s c e = refl
-ends_part token.Name bytes s (inl g) e = let f : symbol.Name bytes ≡ symbol.Comma = e ∙ g in absurd cc
-ends_part token.Name bytes s (inr g) e = let f : symbol.Name bytes ≡ symbol.End = e ∙ g in absurd cc
+ends_part token.Name bytes s (inl g) e = let f : terminal.Name bytes ≡ terminal.Comma = e ∙ g in absurd cc
+ends_part token.Name bytes s (inr g) e = let f : terminal.Name bytes ≡ terminal.End = e ∙ g in absurd cc
 ends_part token.Number bytes s c e = absurd (not_number (number_value bytes) s c e)
-ends_part token.Text bytes s (inl g) e = let f : symbol_of token.Text bytes ≡ symbol.Comma = e ∙ g in absurd cc
-ends_part token.Text bytes s (inr g) e = let f : symbol_of token.Text bytes ≡ symbol.End = e ∙ g in absurd cc
+ends_part token.Text bytes s (inl g) e = let f : terminal_of token.Text bytes ≡ terminal.Comma = e ∙ g in absurd cc
+ends_part token.Text bytes s (inr g) e = let f : terminal_of token.Text bytes ≡ terminal.End = e ∙ g in absurd cc
 ends_part (token.Mark m) bytes s (inr g) e = absurd (no_end_mark m (e ∙ g))
 ends_part (token.Mark m) bytes s (inl g) e = comma_part m (m == 44) refl (e ∙ g)
 
@@ -423,27 +423,27 @@ not_part (state.Sectioned b n m e) w h = rw h (none (e == w.at))
     none false = refl
 not_part _ w h = refl
 
-pub rest_runs : (rest : List Word) (ss : List Terminal) (sc : ScopeView) (line : ℕ) (n m : List ℕ) (e : ℕ) → symbols rest ≡ ss ++ symbol.End ∷ [] → are_flags ss ≡ true
+pub rest_runs : (rest : List Word) (ss : List Terminal) (sc : ScopeView) (line : ℕ) (n m : List ℕ) (e : ℕ) → terminals rest ≡ ss ++ terminal.End ∷ [] → are_flags ss ≡ true
     → read_words sc (state.Sectioned line n m e) rest ≡ Ok (sectioned sc line n m, state.Start)
 rest_runs [] [] sc line n m e h flags = absurd cc
 rest_runs [] (s ∷ ss) sc line n m e h flags = absurd cc
 rest_runs (w ∷ ws) [] sc line n m e h flags =
-    let s : symbol_of w.kind w.bytes ≡ symbol.End = cc in
-    let none : symbols ws ≡ [] = cc in
-    let is = word_is sc (state.Sectioned line n m e) w (sectioned sc line n m, state.Start) (not_part (state.Sectioned line n m e) w (ends_part w.kind w.bytes symbol.End (inr refl) s)) (ap (sectioned_step sc line n m) s) in
+    let s : terminal_of w.kind w.bytes ≡ terminal.End = cc in
+    let none : terminals ws ≡ [] = cc in
+    let is = word_is sc (state.Sectioned line n m e) w (sectioned sc line n m, state.Start) (not_part (state.Sectioned line n m e) w (ends_part w.kind w.bytes terminal.End (inr refl) s)) (ap (sectioned_step sc line n m) s) in
     rw is (inners_words ws (sectioned sc line n m) state.Start (sectioned sc line n m, state.Start) refl (ap (inners (sectioned sc line n m) state.Start) none))
-rest_runs (w ∷ ws) (symbol.Comma ∷ ss) sc line n m e h flags =
-    let s : symbol_of w.kind w.bytes ≡ symbol.Comma = cc in
-    let behind : symbols ws ≡ ss ++ symbol.End ∷ [] = cc in
-    let is = word_is sc (state.Sectioned line n m e) w (sc, state.Flags line n m) (not_part (state.Sectioned line n m e) w (ends_part w.kind w.bytes symbol.Comma (inl refl) s)) (ap (sectioned_step sc line n m) s) in
+rest_runs (w ∷ ws) (terminal.Comma ∷ ss) sc line n m e h flags =
+    let s : terminal_of w.kind w.bytes ≡ terminal.Comma = cc in
+    let behind : terminals ws ≡ ss ++ terminal.End ∷ [] = cc in
+    let is = word_is sc (state.Sectioned line n m e) w (sc, state.Flags line n m) (not_part (state.Sectioned line n m e) w (ends_part w.kind w.bytes terminal.Comma (inl refl) s)) (ap (sectioned_step sc line n m) s) in
     rw is (inners_words ws sc (state.Flags line n m) (sectioned sc line n m, state.Start) refl (ap (inners sc (state.Flags line n m)) behind ∙ flags_run sc line n m ss flags))
 rest_runs (w ∷ ws) (s ∷ ss) sc line n m e h flags = absurd cc
 
-pub named_section : (sc : ScopeView) (line : ℕ) (n m : List ℕ) → is_passed sc n ≡ false → is_dotted n ≡ true → directive_of n ≡ Some kind.Section → is_section m ≡ true → named_step sc line n (symbol.Name m) ≡ Ok (sc, state.Sectioned line n m 0)
+pub named_section : (sc : ScopeView) (line : ℕ) (n m : List ℕ) → is_passed sc n ≡ false → is_dotted n ≡ true → directive_of n ≡ Some kind.Section → is_section m ≡ true → named_step sc line n (terminal.Name m) ≡ Ok (sc, state.Sectioned line n m 0)
 named_section sc line n m passed dotted dir is = rw (passed, dotted, dir, is) refl
 
-section_runs : (sc : ScopeView) (w v : Word) (parts rest : List Word) (n m : List ℕ) (ss : List Terminal) → symbol_of w.kind w.bytes ≡ symbol.Name n → is_passed sc n ≡ false → is_dotted n ≡ true → directive_of n ≡ Some kind.Section
-    → symbol_of v.kind v.bytes ≡ symbol.Name m → is_section m ≡ true → Touch (v.at + length v.bytes) parts → symbols rest ≡ ss ++ symbol.End ∷ [] → are_flags ss ≡ true
+section_runs : (sc : ScopeView) (w v : Word) (parts rest : List Word) (n m : List ℕ) (ss : List Terminal) → terminal_of w.kind w.bytes ≡ terminal.Name n → is_passed sc n ≡ false → is_dotted n ≡ true → directive_of n ≡ Some kind.Section
+    → terminal_of v.kind v.bytes ≡ terminal.Name m → is_section m ≡ true → Touch (v.at + length v.bytes) parts → terminals rest ≡ ss ++ terminal.End ∷ [] → are_flags ss ≡ true
     → read_words sc state.Start (w ∷ v ∷ (parts ++ rest)) ≡ Ok (sectioned sc w.line n (m ++ text_of parts), state.Start)
 section_runs sc w v parts rest n m ss wn passed dotted dir vm is touch end flags =
     let one = word_is sc state.Start w (sc, state.Named w.line n) refl (ap (λ (s : Terminal). with_scope sc (start_step sc w.line s)) wn) in

@@ -1,11 +1,11 @@
--- In a directive or an instruction a symbol that is refused has the cause of its place.
+-- In a directive or an instruction a terminal that is refused has the cause of its place.
 use Rattle.std.proofs.Common.{◌≡◌, ℕ, Bool, true, false, cond, List, [], ◌∷◌, ◌++◌, length, Option, Some, None, Result, Ok, Err, refl, sym, ap, subst, ◌∙◌, ◌⊎◌, inl, inr, arith}
 use Rattle.std.proofs.lemmas.Bool.{ltb-true}
 use Rattle.std.specs.Prelude.{◌==◌, ◌&&◌, not, nat_lt}
 use Rattle.asm_lex.specs.declared.fault.SourceCause.{SourceCause}
 use Rattle.asm_lex.specs.declared.fault.SourceCause.TheVariants as cause
-use Rattle.asm_argument.specs.declared.symbol.Terminal.{Terminal}
-use Rattle.asm_argument.specs.declared.symbol.Terminal.TheVariants as symbol
+use Rattle.asm_argument.specs.declared.terminal.Terminal.{Terminal}
+use Rattle.asm_argument.specs.declared.terminal.Terminal.TheVariants as terminal
 use Rattle.asm_argument.specs.declared.operand.Shape.{Shape}
 use Rattle.asm_argument.specs.declared.operand.Shape.TheVariants as shape
 use Rattle.asm_argument.specs.declared.operand.Partial.{Partial}
@@ -20,7 +20,7 @@ use Rattle.asm_parse.specs.declared.state.Open.{Open}
 use Rattle.asm_parse.specs.declared.state.StatementState.{StatementState}
 use Rattle.asm_parse.specs.declared.state.StatementState.TheVariants as state
 use Rattle.asm_parse.specs.ScopeView.{ScopeView}
-use Rattle.asm_argument.specs.Operand.{is_operand, takes_names, next_symbol, operand_step, is_finished, is_unbegun, is_nothing, name_in}
+use Rattle.asm_argument.specs.Operand.{is_operand, takes_names, next_terminal, operand_step, is_finished, is_unbegun, is_nothing, name_in}
 use Rattle.asm_parse.specs.Directives.{shape_at, directive_shape, least, defines, is_instruction}
 use Rattle.asm_parse.specs.Statement.{noting, misplaced, argument_cause, cause_in, after_noting, with_name, after_step, at_shape, within, argument_of, ended, ended_as, comma_behind, end_behind, complete, is_bare, takes_star, with_scope, argument_step}
 use Rattle.asm_parse.specs.Statements.{Sees}
@@ -35,12 +35,12 @@ use Rattle.asm_parse.proofs.Quiet.{Answer}
 pub same_fault : (a c : SourceCause) → ◌≡◌ {A = Answer} (Err a) (Err c) → a ≡ c
 same_fault a c h = cc
 
--- ---- how a symbol is refused
+-- ---- how a terminal is refused
 
 data Fails (sc : ScopeView) (o : Open) (s : Terminal) (c : SourceCause) : Type 0 where
   inside : within sc o s ≡ Err c → (is_cut s ≡ true → is_finished o.so_far ≡ false) → Fails sc o s c
-  many : (n : ℕ) → s ≡ symbol.Comma → is_finished o.so_far ≡ true → shape_at o.head n ≡ None → cause.BadArgument ≡ c → Fails sc o s c
-  few : (n : ℕ) → s ≡ symbol.End → (is_nothing o.so_far ≡ true) ⊎ (is_finished o.so_far ≡ true) → nat_lt n (least o.head) ≡ true → cause.BadArgument ≡ c → Fails sc o s c
+  many : (n : ℕ) → s ≡ terminal.Comma → is_finished o.so_far ≡ true → shape_at o.head n ≡ None → cause.BadArgument ≡ c → Fails sc o s c
+  few : (n : ℕ) → s ≡ terminal.End → (is_nothing o.so_far ≡ true) ⊎ (is_finished o.so_far ≡ true) → nat_lt n (least o.head) ≡ true → cause.BadArgument ≡ c → Fails sc o s c
 
 shape_fails : (sc : ScopeView) (line : ℕ) (h : Head) (done : List Argument) (r : Option Shape) (c : SourceCause) → ◌≡◌ {A = Answer} (with_scope sc (argument_of line h done r)) (Err c) → (r ≡ None) × (cause.BadArgument ≡ c)
 shape_fails sc line h done None c e = (refl, same_fault cause.BadArgument c e)
@@ -50,7 +50,7 @@ count_fails : (t : Bool) (x : ScopeView × StatementState) (c : SourceCause) →
 count_fails true x c e = (refl, same_fault cause.BadArgument c e)
 count_fails false x c e = absurd cc
 
-comma_fails : (sc : ScopeView) (o : Open) (c : SourceCause) (t : Bool) → is_finished o.so_far ≡ t → ◌≡◌ {A = Answer} (cond t (comma_behind sc (ended o)) (within sc o symbol.Comma)) (Err c) → Fails sc o symbol.Comma c
+comma_fails : (sc : ScopeView) (o : Open) (c : SourceCause) (t : Bool) → is_finished o.so_far ≡ t → ◌≡◌ {A = Answer} (cond t (comma_behind sc (ended o)) (within sc o terminal.Comma)) (Err c) → Fails sc o terminal.Comma c
 comma_fails sc o c false e h = Fails.inside h (λ k. e)
 comma_fails sc o c true e h =
     let f = is_finished_some o.so_far e in
@@ -62,7 +62,7 @@ and_first true b h = refl
 and_first false b h = absurd cc
 
 end_fails : (sc : ScopeView) (o : Open) (c : SourceCause) (t : Bool) → is_bare o ≡ t → (u : Bool) → is_finished o.so_far ≡ u
-    → ◌≡◌ {A = Answer} (cond t (complete sc o.line o.head o.arguments) (cond u (end_behind sc (ended o)) (within sc o symbol.End))) (Err c) → Fails sc o symbol.End c
+    → ◌≡◌ {A = Answer} (cond t (complete sc o.line o.head o.arguments) (cond u (end_behind sc (ended o)) (within sc o terminal.End))) (Err c) → Fails sc o terminal.End c
 end_fails sc o c true e u f h =
     let g = count_fails (nat_lt (length o.arguments) (least o.head)) _ c h in
     Fails.few (length o.arguments) refl (inl (and_first (is_nothing o.so_far) (not o.star) (and_first (is_nothing o.so_far && not o.star) (length o.arguments == 0) e))) g.0 g.1
@@ -72,14 +72,14 @@ end_fails sc o c false e true f h =
     let g = count_fails (nat_lt (length (o.arguments ++ record { star = o.star; form = k.0 } ∷ [])) (least o.head)) _ c (sym (ap (λ (x : Option Form). end_behind sc (ended_as o x)) k.1) ∙ h) in
     Fails.few (length (o.arguments ++ record { star = o.star; form = k.0 } ∷ [])) refl (inr f) g.0 g.1
 
-star_fails : (sc : ScopeView) (o : Open) (c : SourceCause) (t : Bool) → ◌≡◌ {A = Answer} (cond t (Ok (sc, state.Arguments (record o { star = true }))) (within sc o symbol.Star)) (Err c) → Fails sc o symbol.Star c
+star_fails : (sc : ScopeView) (o : Open) (c : SourceCause) (t : Bool) → ◌≡◌ {A = Answer} (cond t (Ok (sc, state.Arguments (record o { star = true }))) (within sc o terminal.Star)) (Err c) → Fails sc o terminal.Star c
 star_fails sc o c true h = absurd cc
 star_fails sc o c false h = Fails.inside h (λ k. absurd cc)
 
 fails : (sc : ScopeView) (o : Open) (s : Terminal) (c : SourceCause) → argument_step sc o s ≡ Err c → Fails sc o s c
-fails sc o symbol.Comma c h = comma_fails sc o c (is_finished o.so_far) refl h
-fails sc o symbol.End c h = end_fails sc o c (is_bare o) refl (is_finished o.so_far) refl h
-fails sc o symbol.Star c h = star_fails sc o c (takes_star o) h
+fails sc o terminal.Comma c h = comma_fails sc o c (is_finished o.so_far) refl h
+fails sc o terminal.End c h = end_fails sc o c (is_bare o) refl (is_finished o.so_far) refl h
+fails sc o terminal.Star c h = star_fails sc o c (takes_star o) h
 fails sc o _ c h = Fails.inside h (λ k. absurd cc)
 
 -- ---- the heads
@@ -140,15 +140,15 @@ finished_unsigned (partial.Whole f) h = refl
 finished_unsigned partial.Absent h = refl
 finished_unsigned _ h = absurd cc
 
--- only the first symbol of a directive's argument is a name
-value_name : (sh : Shape) (p : Partial) (ss m n : List ℕ) (q : Partial) (ts : List Terminal) → is_operand sh ≡ false → is_unbegun p ≡ false → Spelled sh p ts → next_symbol sh p (symbol.Name m) ≡ ok q → name_in q ≡ Some n → ⊥
+-- only the first terminal of a directive's argument is a name
+value_name : (sh : Shape) (p : Partial) (ss m n : List ℕ) (q : Partial) (ts : List Terminal) → is_operand sh ≡ false → is_unbegun p ≡ false → Spelled sh p ts → next_terminal sh p (terminal.Name m) ≡ ok q → name_in q ≡ Some n → ⊥
 value_name sh partial.Dollar ss m n q ts other u sp h e = not_both sp.0 other
 value_name sh partial.Percent ss m n q ts other u sp h e = not_both sp.0 other
 value_name sh (partial.BasePercent v) ss m n q ts other u sp h e = not_both sp.operand other
 value_name sh (partial.IndexPercent v b) ss m n q ts other u sp h e = not_both sp.operand other
 value_name sh _ ss m n q ts other u sp h e = absurd cc
 
-name_taken : (sh : Shape) (p : Partial) (m : List ℕ) (q : Partial) → is_unbegun p ≡ true → next_symbol sh p (symbol.Name m) ≡ ok q → takes_names sh ≡ true
+name_taken : (sh : Shape) (p : Partial) (m : List ℕ) (q : Partial) → is_unbegun p ≡ true → next_terminal sh p (terminal.Name m) ≡ ok q → takes_names sh ≡ true
 name_taken sh partial.Nothing m q u h = (allowed_ok (takes_names sh) _ q h).0
 name_taken sh partial.Absent m q u h = (allowed_ok (takes_names sh) _ q h).0
 name_taken sh _ m q u h = absurd cc
@@ -187,7 +187,7 @@ module _ (sc0 : ScopeView) (line : ℕ) (o : Open) (ss : List Terminal) (sc : Sc
         | inr (n, a, b, d, is) ↦
             let f : after_noting (record o { so_far = q }) (noting sc (defines o.head (length o.arguments)) n) ≡ Err c = sym (ap (with_name sc (record o { so_far = q })) a) ∙ k in
             let g : noting sc false n ≡ Err c = sym (ap (λ (x : Bool). noting sc x n) (instruction_is o.head (length o.arguments) i).2) ∙ name_fails (record o { so_far = q }) _ c f in
-            let step : next_symbol shape.Operand o.so_far (symbol.Name n) ≡ ok q = sym (ap (next_symbol shape.Operand o.so_far) is) ∙ operand_next shape.Operand o.so_far s q e in
+            let step : next_terminal shape.Operand o.so_far (terminal.Name n) ≡ ok q = sym (ap (next_terminal shape.Operand o.so_far) is) ∙ operand_next shape.Operand o.so_far s q e in
             ap (operand_at o.so_far) is ∙ (operand_name o.so_far n n q (no_absent o.so_far w.arg sp) step a ∙ noting_cause sc false n c g)
       ]
 
@@ -247,22 +247,22 @@ module _ (sc0 : ScopeView) (line : ℕ) (o : Open) (ss : List Terminal) (sc : Sc
       something_read sh s c (spelled_as sh may) u (sym (value_err sh o.so_far w.arg s (misplaced s) d (no_operand o.head (length o.arguments) sh i may) u (spelled_as sh may) cut e) ∙ directive_cause false s d c i u h)
 
   -- it may not say this name
-  value_said : (sh : Shape) (s : Terminal) (q : Partial) (c : SourceCause) → is_instruction o.head ≡ false → shape_at o.head (length o.arguments) ≡ Some sh → next_symbol sh o.so_far s ≡ ok q → with_name sc (record o { so_far = q }) (name_in q) ≡ Err c
+  value_said : (sh : Shape) (s : Terminal) (q : Partial) (c : SourceCause) → is_instruction o.head ≡ false → shape_at o.head (length o.arguments) ≡ Some sh → next_terminal sh o.so_far s ≡ ok q → with_name sc (record o { so_far = q }) (name_in q) ≡ Err c
       → (t : Bool) → is_unbegun o.so_far ≡ t → value_cause o.head o.arguments w.behind w.arg s ≡ c
   value_said sh s q c i may e k t u = elim (name_step sh o.so_far s q e) [
     | inl x ↦ let g : ◌≡◌ {A = Answer} (with_name sc (record o { so_far = q }) None) (Err c) = sym (ap (with_name sc (record o { so_far = q })) x.0) ∙ k in absurd cc
     | inr (n, a, b, d, is) ↦
         let f : noting sc (defines o.head (length o.arguments)) n ≡ Err c = name_fails (record o { so_far = q }) _ c (sym (ap (with_name sc (record o { so_far = q })) a) ∙ k) in
-        let step : next_symbol sh o.so_far (symbol.Name n) ≡ ok q = sym (ap (next_symbol sh o.so_far) is) ∙ e in
+        let step : next_terminal sh o.so_far (terminal.Name n) ≡ ok q = sym (ap (next_terminal sh o.so_far) is) ∙ e in
         let same : w.behind ≡ sc = sees_same w.behind sc (defines o.head (length o.arguments)) (named_in o.so_far) d w.sees in
         by_begun n a step is (ap (λ (x : ScopeView). name_cause x (defines o.head (length o.arguments)) n) same ∙ noting_cause sc (defines o.head (length o.arguments)) n c f) t u
   ]
     where
-      by_begun : (n : List ℕ) → name_in q ≡ Some n → next_symbol sh o.so_far (symbol.Name n) ≡ ok q → s ≡ symbol.Name n → name_cause w.behind (defines o.head (length o.arguments)) n ≡ c → (t : Bool) → is_unbegun o.so_far ≡ t
+      by_begun : (n : List ℕ) → name_in q ≡ Some n → next_terminal sh o.so_far (terminal.Name n) ≡ ok q → s ≡ terminal.Name n → name_cause w.behind (defines o.head (length o.arguments)) n ≡ c → (t : Bool) → is_unbegun o.so_far ≡ t
           → value_cause o.head o.arguments w.behind w.arg s ≡ c
       by_begun n a step is cause true u =
           let takes = name_taken sh o.so_far n q u step in
-          let first : value_first (takes_name (shape_at o.head (length o.arguments))) w.behind (defines o.head (length o.arguments)) (symbol.Name n) ≡ name_cause w.behind (defines o.head (length o.arguments)) n = rw (may, takes) refl in
+          let first : value_first (takes_name (shape_at o.head (length o.arguments))) w.behind (defines o.head (length o.arguments)) (terminal.Name n) ≡ name_cause w.behind (defines o.head (length o.arguments)) n = rw (may, takes) refl in
           nothing_read s c (unbegun_nil sh o.so_far w.arg (spelled_as sh may) u) (ap (value_first (takes_name (shape_at o.head (length o.arguments))) w.behind (defines o.head (length o.arguments))) is ∙ (first ∙ cause))
       by_begun n a step is cause false u = absurd (value_name sh o.so_far n n n q w.arg (no_operand o.head (length o.arguments) sh i may) u (spelled_as sh may) step a)
 
@@ -282,21 +282,21 @@ module _ (sc0 : ScopeView) (line : ℕ) (o : Open) (ss : List Terminal) (sc : Sc
   ]
     where
       first_cut : (s : Terminal) (t : Bool) → is_cut s ≡ true → value_first t w.behind (defines o.head (length o.arguments)) s ≡ cause.BadArgument
-      first_cut symbol.Comma t e = refl
-      first_cut symbol.End t e = refl
+      first_cut terminal.Comma t e = refl
+      first_cut terminal.End t e = refl
       first_cut _ t e = absurd cc
 
       cut_unsigned : (s : Terminal) (t : Bool) → is_cut s ≡ true → value_by t false s ≡ cause.BadArgument
-      cut_unsigned symbol.Comma t e = refl
-      cut_unsigned symbol.End t e = refl
+      cut_unsigned terminal.Comma t e = refl
+      cut_unsigned terminal.End t e = refl
       cut_unsigned _ t e = absurd cc
 
       by_begun : (sh : Shape) → Spelled sh o.so_far w.arg → (t : Bool) → is_unbegun o.so_far ≡ t → value_cause o.head o.arguments w.behind w.arg s ≡ cause.BadArgument
       by_begun sh sp true u = nothing_read s cause.BadArgument (unbegun_nil sh o.so_far w.arg sp u) (first_cut s _ cut)
       by_begun sh sp false u = something_read sh s cause.BadArgument sp u (ap (λ (x : Bool). value_by (minuses o.so_far) x s) (finished_unsigned o.so_far fin) ∙ cut_unsigned s (minuses o.so_far) cut)
 
-  nothing_ends : is_nothing o.so_far ≡ true → value_cause o.head o.arguments w.behind w.arg symbol.End ≡ cause.BadArgument
-  nothing_ends h = nothing_read symbol.End cause.BadArgument nil refl
+  nothing_ends : is_nothing o.so_far ≡ true → value_cause o.head o.arguments w.behind w.arg terminal.End ≡ cause.BadArgument
+  nothing_ends h = nothing_read terminal.End cause.BadArgument nil refl
     where
       is_the_nothing : (p : Partial) → is_nothing p ≡ true → p ≡ partial.Nothing
       is_the_nothing partial.Nothing h = refl
@@ -310,9 +310,9 @@ module _ (sc0 : ScopeView) (line : ℕ) (o : Open) (ss : List Terminal) (sc : Sc
 
   value_fails : (s : Terminal) (c : SourceCause) → is_instruction o.head ≡ false → Fails sc o s c → value_cause o.head o.arguments w.behind w.arg s ≡ c
   value_fails s c i (Fails.inside h cut) = value_within s c i cut (shape_at o.head (length o.arguments)) refl h
-  value_fails s c i (Fails.many n is fin none e) = rw is (whole_read symbol.Comma refl fin ∙ e)
+  value_fails s c i (Fails.many n is fin none e) = rw is (whole_read terminal.Comma refl fin ∙ e)
   value_fails s c i (Fails.few n is (inl f) count e) = rw is (nothing_ends f ∙ e)
-  value_fails s c i (Fails.few n is (inr fin) count e) = rw is (whole_read symbol.End refl fin ∙ e)
+  value_fails s c i (Fails.few n is (inr fin) count e) = rw is (whole_read terminal.End refl fin ∙ e)
 
   value_refused : (s : Terminal) (c : SourceCause) → is_instruction o.head ≡ false → Fails sc o s c → in_argument o.head o.arguments w.behind (stars o.star ++ w.arg) s ≡ c
   value_refused s c i f = rw (i, unstarred i) (value_fails s c i f)

@@ -1,7 +1,7 @@
--- How the symbols of an argument end, by what has been read of it.
+-- How the terminals of an argument end, by what has been read of it.
 use Rattle.std.proofs.Common.{◌≡◌, ℕ, Bool, true, false, List, [], ◌∷◌, ◌++◌, Option, Some, None, refl, sym, ap, subst, ◌∙◌}
-use Rattle.asm_argument.specs.declared.symbol.Terminal.{Terminal}
-use Rattle.asm_argument.specs.declared.symbol.Terminal.TheVariants as symbol
+use Rattle.asm_argument.specs.declared.terminal.Terminal.{Terminal}
+use Rattle.asm_argument.specs.declared.terminal.Terminal.TheVariants as terminal
 use Rattle.asm_argument.specs.declared.operand.Shape.{Shape}
 use Rattle.asm_argument.specs.declared.operand.ValuePlace.{ValuePlace}
 use Rattle.asm_argument.specs.declared.operand.ValuePlace.TheVariants as place
@@ -10,7 +10,7 @@ use Rattle.asm_argument.specs.declared.operand.Partial.TheVariants as partial
 use Rattle.asm_source.specs.declared.tree.Value.{Value}
 use Rattle.asm_source.specs.declared.tree.Form.{Form}
 use Rattle.asm_argument.specs.Grammar.{IsConstant, IsValue, IsAddress, IsForm}
-use Rattle.asm_parse.specs.Refusals.{last_of, is_percent, is_minus, is_sign, is_for_symbol, ends_index}
+use Rattle.asm_parse.specs.Refusals.{last_of, is_percent, is_minus, is_sign, is_for_terminal, ends_index}
 use Rattle.asm_argument.proofs.Operands.{OptValue, base_part, lead, sign, WithAddress, Spelled}
 use Rattle.asm_parse.proofs.Said.{stars}
 
@@ -80,7 +80,7 @@ pub record Tail (ss : List Terminal) (percent index minus sign free : Bool) : Ty
   pub index_is : ends_index ss ≡ index
   pub minus_is : is_minus (last_of ss) ≡ minus
   pub sign_is : is_sign (last_of ss) ≡ sign
-  pub free_is : is_for_symbol (last_of ss) ≡ free
+  pub free_is : is_for_terminal (last_of ss) ≡ free
 
 behind : (f : List Terminal) (p : Terminal) (ps : List Terminal) (a b c d e : Bool) → Clear f → Tail (p ∷ ps) a b c d e → Tail (f ++ (p ∷ ps)) a b c d e
 behind f p ps a b c d e k t = record {
@@ -88,7 +88,7 @@ behind f p ps a b c d e k t = record {
   index_is = k.index p ps ∙ t.index_is;
   minus_is = ap is_minus (k.last p ps) ∙ t.minus_is;
   sign_is = ap is_sign (k.last p ps) ∙ t.sign_is;
-  free_is = ap is_for_symbol (k.last p ps) ∙ t.free_is;
+  free_is = ap is_for_terminal (k.last p ps) ∙ t.free_is;
 }
 
 -- a list that isn't empty, and how it ends
@@ -129,7 +129,7 @@ form_ends : (sh : Shape) (ss : List Terminal) (f : Form) → (ss ≡ [] → ⊥)
 form_ends sh ss f never (IsForm.absent h) = absurd (never refl)
 form_ends sh ss f never (IsForm.text h) = record { first = _; rest = _; whole = refl; tail = record { percent_is = refl; index_is = refl; minus_is = refl; sign_is = refl; free_is = refl } }
 form_ends sh ss f never (IsForm.register h r) = record { first = _; rest = _; whole = refl; tail = record { percent_is = refl; index_is = refl; minus_is = refl; sign_is = refl; free_is = refl } }
-form_ends sh ss f never (IsForm.immediate {ss = vs} h v) = longer (symbol.Dollar ∷ []) vs false false false false false (clear_lead place.Immediate) (value_ends v)
+form_ends sh ss f never (IsForm.immediate {ss = vs} h v) = longer (terminal.Dollar ∷ []) vs false false false false false (clear_lead place.Immediate) (value_ends v)
 form_ends sh ss f never (IsForm.value v) = value_ends v
 form_ends sh ss f never (IsForm.address h a) = address_ends a
 form_ends sh ss f never (IsForm.value_address vs ps h e v a) = same_ends ss (vs ++ ps) false false false false false e (longer vs ps false false false false false (clear_value v) (address_ends a))
@@ -139,15 +139,15 @@ form_ends sh ss f never (IsForm.value_address vs ps h e v a) = same_ends ss (vs 
 lead_ends : (p : ValuePlace) (ss : List Terminal) (a b c d e : Bool) → Ends ss a b c d e → Ends (lead p ++ ss) a b c d e
 lead_ends p ss a b c d e n = longer (lead p) ss a b c d e (clear_lead p) n
 
-sign_ends : (n : List ℕ) (neg : Bool) → Ends (symbol.Name n ∷ sign neg ∷ []) false false neg true false
+sign_ends : (n : List ℕ) (neg : Bool) → Ends (terminal.Name n ∷ sign neg ∷ []) false false neg true false
 sign_ends n true = record { first = _; rest = _; whole = refl; tail = record { percent_is = refl; index_is = refl; minus_is = refl; sign_is = refl; free_is = refl } }
 sign_ends n false = record { first = _; rest = _; whole = refl; tail = record { percent_is = refl; index_is = refl; minus_is = refl; sign_is = refl; free_is = refl } }
 
-sign_minus_ends : (n : List ℕ) (neg : Bool) → Ends (symbol.Name n ∷ sign neg ∷ symbol.Minus ∷ []) false false true true false
+sign_minus_ends : (n : List ℕ) (neg : Bool) → Ends (terminal.Name n ∷ sign neg ∷ terminal.Minus ∷ []) false false true true false
 sign_minus_ends n true = record { first = _; rest = _; whole = refl; tail = record { percent_is = refl; index_is = refl; minus_is = refl; sign_is = refl; free_is = refl } }
 sign_minus_ends n false = record { first = _; rest = _; whole = refl; tail = record { percent_is = refl; index_is = refl; minus_is = refl; sign_is = refl; free_is = refl } }
 
-percent_part : (b : Option (List ℕ)) → Ends (base_part b ++ symbol.Percent ∷ []) true false false false false
+percent_part : (b : Option (List ℕ)) → Ends (base_part b ++ terminal.Percent ∷ []) true false false false false
 percent_part None = record { first = _; rest = _; whole = refl; tail = record { percent_is = refl; index_is = refl; minus_is = refl; sign_is = refl; free_is = refl } }
 percent_part (Some b) = record { first = _; rest = _; whole = refl; tail = record { percent_is = refl; index_is = refl; minus_is = refl; sign_is = refl; free_is = refl } }
 
@@ -155,15 +155,15 @@ base_ends : (b : Option (List ℕ)) → Ends (base_part b) false false false fal
 base_ends None = record { first = _; rest = _; whole = refl; tail = record { percent_is = refl; index_is = refl; minus_is = refl; sign_is = refl; free_is = refl } }
 base_ends (Some b) = record { first = _; rest = _; whole = refl; tail = record { percent_is = refl; index_is = refl; minus_is = refl; sign_is = refl; free_is = refl } }
 
-index_part : (b : Option (List ℕ)) (i : List ℕ) → Ends (base_part b ++ symbol.Percent ∷ symbol.Name i ∷ []) false false false false false
+index_part : (b : Option (List ℕ)) (i : List ℕ) → Ends (base_part b ++ terminal.Percent ∷ terminal.Name i ∷ []) false false false false false
 index_part None i = record { first = _; rest = _; whole = refl; tail = record { percent_is = refl; index_is = refl; minus_is = refl; sign_is = refl; free_is = refl } }
 index_part (Some b) i = record { first = _; rest = _; whole = refl; tail = record { percent_is = refl; index_is = refl; minus_is = refl; sign_is = refl; free_is = refl } }
 
-scale_part : (b : Option (List ℕ)) (i : List ℕ) → Ends (base_part b ++ symbol.Percent ∷ symbol.Name i ∷ symbol.Comma ∷ []) false true false false false
+scale_part : (b : Option (List ℕ)) (i : List ℕ) → Ends (base_part b ++ terminal.Percent ∷ terminal.Name i ∷ terminal.Comma ∷ []) false true false false false
 scale_part None i = record { first = _; rest = _; whole = refl; tail = record { percent_is = refl; index_is = refl; minus_is = refl; sign_is = refl; free_is = refl } }
 scale_part (Some b) i = record { first = _; rest = _; whole = refl; tail = record { percent_is = refl; index_is = refl; minus_is = refl; sign_is = refl; free_is = refl } }
 
-scaled_part : (b : Option (List ℕ)) (i : List ℕ) (s : ℕ) → Ends (base_part b ++ symbol.Percent ∷ symbol.Name i ∷ symbol.Comma ∷ symbol.Number s ∷ []) false false false false false
+scaled_part : (b : Option (List ℕ)) (i : List ℕ) (s : ℕ) → Ends (base_part b ++ terminal.Percent ∷ terminal.Name i ∷ terminal.Comma ∷ terminal.Number s ∷ []) false false false false false
 scaled_part None i s = record { first = _; rest = _; whole = refl; tail = record { percent_is = refl; index_is = refl; minus_is = refl; sign_is = refl; free_is = refl } }
 scaled_part (Some b) i s = record { first = _; rest = _; whole = refl; tail = record { percent_is = refl; index_is = refl; minus_is = refl; sign_is = refl; free_is = refl } }
 
@@ -194,6 +194,6 @@ spelled_ends sh (partial.Index v b i) ss never h = in_address sh (partial.Index 
 spelled_ends sh (partial.Scale v b i) ss never h = in_address sh (partial.Scale v b i) ss _ h h.inside.1 (scale_part b i)
 spelled_ends sh (partial.Scaled v b i n) ss never h = in_address sh (partial.Scaled v b i n) ss _ h h.inside.1 (scaled_part b i n)
 
--- What has been read says how the symbols end, with or without a star.
+-- What has been read says how the terminals end, with or without a star.
 pub spelled_tail : (sh : Shape) (p : Partial) (star : Bool) (ss : List Terminal) → (ss ≡ [] → ⊥) → Spelled sh p ss → Tail (stars star ++ ss) (percents p) (indexed p) (minuses p) (signs p) (frees p)
 spelled_tail sh p star ss never h = after (stars star) ss _ _ _ _ _ (clear_stars star) (spelled_ends sh p ss never h)

@@ -4,8 +4,8 @@ use Rattle.std.specs.Prelude.{◌&&◌, ◌||◌, ◌+◌, not, is_none}
 use Rattle.asm_lex.specs.declared.fault.SourceCause.{SourceCause}
 use Rattle.asm_lex.specs.declared.fault.SourceCause.TheVariants as cause
 use Rattle.asm_lex.specs.Words.{Word}
-use Rattle.asm_argument.specs.declared.symbol.Terminal.{Terminal}
-use Rattle.asm_argument.specs.declared.symbol.Terminal.TheVariants as symbol
+use Rattle.asm_argument.specs.declared.terminal.Terminal.{Terminal}
+use Rattle.asm_argument.specs.declared.terminal.Terminal.TheVariants as terminal
 use Rattle.asm_parse.specs.declared.directive.Directive.{Directive}
 use Rattle.asm_parse.specs.declared.state.StatementState.{StatementState}
 use Rattle.asm_parse.specs.declared.state.StatementState.TheVariants as state
@@ -14,9 +14,9 @@ use Rattle.asm_parse.specs.Scope.{fresh}
 use Rattle.asm_parse.specs.Directives.{directive_of, is_dotted, is_defining}
 use Rattle.asm_parse.specs.Statement.{step, next_step, fault_line, doom, or_line, pending, or_cause, stopped, left_open, open_at_end, is_unknown, is_taken, lacks_names, if_doomed, is_place, stray_cause}
 use Rattle.asm_parse.specs.Reading.{Fault, placed, is_longer, ending_at, with_end, longer, next_word}
-use Rattle.asm_argument.specs.Symbols.{symbol_of}
+use Rattle.asm_argument.specs.Terminals.{terminal_of}
 use Rattle.asm_parse.specs.Running.{◌>>=◌}
-use Rattle.asm_parse.specs.Statements.{symbols}
+use Rattle.asm_parse.specs.Statements.{terminals}
 use Rattle.asm_parse.specs.Refusals.{Ending, IsBeginning, IsNoBeginning, StatementPlace, Reaches, percent_cause, behind_cause, first_name_cause, refused_cause, byte_cause}
 use Rattle.asm_parse.proofs.Words.{read_words}
 use Rattle.asm_parse.proofs.Scopes.{GoodIn, fresh_good}
@@ -70,25 +70,25 @@ doomed_never ws w sc st z l runs h good d = λ more sc2 statements.
 
 pub data Found (all : List Word) (e : Ending) (f : Fault) : Type 0 where
   word : {sc : ScopeView} {p : StatementPlace} (front rest : List Word) (w : Word) → all ≡ front ++ w ∷ rest → IsBeginning front → IsNoBeginning (front ++ w ∷ []) → Reaches front sc p
-      → f ≡ (w.line, refused_cause sc p (symbol_of w.kind w.bytes) (symbols rest)) → Found all e f
+      → f ≡ (w.line, refused_cause sc p (terminal_of w.kind w.bytes) (terminals rest)) → Found all e f
   byte : {sc : ScopeView} {p : StatementPlace} {line : ℕ} {c : SourceCause} → e ≡ Ending.broken line c → IsBeginning all → Reaches all sc p → f ≡ (line, byte_cause sc p c) → Found all e f
   comment : {line : ℕ} → e ≡ Ending.comment line → IsBeginning all → f ≡ (line, cause.OpenComment) → Found all e f
 
 -- ---- a word that doesn't go on
 
-pub word_fails : (sc : ScopeView) (st : StatementState) (w : Word) (c : SourceCause) → next_word sc st w ≡ Err c → next_step sc st w.line (symbol_of w.kind w.bytes) ≡ Err c
+pub word_fails : (sc : ScopeView) (st : StatementState) (w : Word) (c : SourceCause) → next_word sc st w ≡ Err c → next_step sc st w.line (terminal_of w.kind w.bytes) ≡ Err c
 word_fails sc st w c h = by_test (is_longer st w.at w.kind w.bytes) h
   where
     by_result : (r : Answer) → with_end (w.at + length w.bytes) r ≡ Err c → r ≡ Err c
     by_result (Ok y) h = absurd cc
     by_result (Err d) h = cc
 
-    by_test : (t : Bool) → ◌≡◌ {A = Answer} (cond t (Ok (sc, longer st (w.at + length w.bytes) w.bytes)) (with_end (w.at + length w.bytes) (next_step sc st w.line (symbol_of w.kind w.bytes)))) (Err c) → next_step sc st w.line (symbol_of w.kind w.bytes) ≡ Err c
+    by_test : (t : Bool) → ◌≡◌ {A = Answer} (cond t (Ok (sc, longer st (w.at + length w.bytes) w.bytes)) (with_end (w.at + length w.bytes) (next_step sc st w.line (terminal_of w.kind w.bytes)))) (Err c) → next_step sc st w.line (terminal_of w.kind w.bytes) ≡ Err c
     by_test true h = absurd cc
-    by_test false h = by_result (next_step sc st w.line (symbol_of w.kind w.bytes)) h
+    by_test false h = by_result (next_step sc st w.line (terminal_of w.kind w.bytes)) h
 
 -- behind a `%` that may not stand there
-pub stray_fault : (sc : ScopeView) (l : ℕ) (c : SourceCause) (ws : List Word) (e : Ending) (f : Fault) → is_place c ≡ true → fault_in sc (state.Stray l c) ws e ≡ Some f → f ≡ (l, percent_cause c (symbols ws))
+pub stray_fault : (sc : ScopeView) (l : ℕ) (c : SourceCause) (ws : List Word) (e : Ending) (f : Fault) → is_place c ≡ true → fault_in sc (state.Stray l c) ws e ≡ Some f → f ≡ (l, percent_cause c (terminals ws))
 stray_fault sc l c [] e f is h = by_end e h
   where
     nothing : (c : SourceCause) → is_place c ≡ true → percent_cause c [] ≡ cause.BadRegister
@@ -100,21 +100,21 @@ stray_fault sc l c [] e f is h = by_end e h
     by_end Ending.whole h = absurd cc
     by_end (Ending.broken k d) h = sym (some_same _ f h) ∙ ap (λ (x : SourceCause). (l, x)) (sym (nothing c is))
     by_end (Ending.comment k) h = sym (some_same _ f h) ∙ ap (λ (x : SourceCause). (l, x)) (sym (nothing c is))
-stray_fault sc l c (w ∷ ws) e f is h = by_symbol (symbol_of w.kind w.bytes) h
+stray_fault sc l c (w ∷ ws) e f is h = by_terminal (terminal_of w.kind w.bytes) h
   where
-    behind : (c : SourceCause) (s : Terminal) → is_place c ≡ true → percent_cause c (s ∷ symbols ws) ≡ stray_cause c s
-    behind cause.BadOperand (symbol.Name n) is = refl
-    behind cause.BadArgument (symbol.Name n) is = refl
+    behind : (c : SourceCause) (s : Terminal) → is_place c ≡ true → percent_cause c (s ∷ terminals ws) ≡ stray_cause c s
+    behind cause.BadOperand (terminal.Name n) is = refl
+    behind cause.BadArgument (terminal.Name n) is = refl
     behind cause.BadOperand _ is = refl
     behind cause.BadArgument _ is = refl
     behind _ s is = absurd cc
 
-    percent : (c : SourceCause) → is_place c ≡ true → stray_cause c symbol.Percent ≡ cause.BadRegister
+    percent : (c : SourceCause) → is_place c ≡ true → stray_cause c terminal.Percent ≡ cause.BadRegister
     percent c is = refl
 
-    by_symbol : (s : Terminal) → ◌≡◌ {A = Option Fault} (elim (placed l (with_end (w.at + length w.bytes) (next_step sc (state.Stray l c) w.line s))) [ Ok y ↦ fault_in y.0 y.1 ws e | Err g ↦ Some g ]) (Some f) → f ≡ (l, percent_cause c (s ∷ symbols ws))
-    by_symbol symbol.Percent h = sym (some_same _ f h) ∙ ap (λ (x : SourceCause). (l, x)) (sym (behind c symbol.Percent is))
-    by_symbol s h = sym (some_same _ f h) ∙ ap (λ (x : SourceCause). (l, x)) (sym (behind c s is))
+    by_terminal : (s : Terminal) → ◌≡◌ {A = Option Fault} (elim (placed l (with_end (w.at + length w.bytes) (next_step sc (state.Stray l c) w.line s))) [ Ok y ↦ fault_in y.0 y.1 ws e | Err g ↦ Some g ]) (Some f) → f ≡ (l, percent_cause c (s ∷ terminals ws))
+    by_terminal terminal.Percent h = sym (some_same _ f h) ∙ ap (λ (x : SourceCause). (l, x)) (sym (behind c terminal.Percent is))
+    by_terminal s h = sym (some_same _ f h) ∙ ap (λ (x : SourceCause). (l, x)) (sym (behind c s is))
 
 -- ---- what a word makes dead
 
@@ -163,16 +163,16 @@ later_alive sc state.Start e l h d = absurd cc
 later_alive sc _ e l h d = absurd cc
 
 pub data Doomed (sc : ScopeView) (st : StatementState) (w : Word) (z : ScopeView × StatementState) : Type 0 where
-  name : (n : List ℕ) → st ≡ state.Start → symbol_of w.kind w.bytes ≡ symbol.Name n → z ≡ (sc, state.Named w.line n) → Doomed sc st w z
-  astray : (c : SourceCause) → symbol_of w.kind w.bytes ≡ symbol.Percent → step sc st w.line symbol.Percent ≡ Err c → is_place c ≡ true → z ≡ (fresh, state.Stray (fault_line sc st w.line) c) → Doomed sc st w z
+  name : (n : List ℕ) → st ≡ state.Start → terminal_of w.kind w.bytes ≡ terminal.Name n → z ≡ (sc, state.Named w.line n) → Doomed sc st w z
+  astray : (c : SourceCause) → terminal_of w.kind w.bytes ≡ terminal.Percent → step sc st w.line terminal.Percent ≡ Err c → is_place c ≡ true → z ≡ (fresh, state.Stray (fault_line sc st w.line) c) → Doomed sc st w z
 
 pub doomed_word : (sc : ScopeView) (st : StatementState) (w : Word) (z : ScopeView × StatementState) (l : ℕ) → next_word sc st w ≡ Ok z → doom z.0 z.1 ≡ Some l → Doomed sc st w z
 doomed_word sc st w z l h d = elim (word_goes sc st w z h) [
   | WordGoes.on t k ↦ absurd (longer_alive sc st w l t (sym (ap (λ (x : ScopeView × StatementState). doom x.0 x.1) k) ∙ d))
-  | WordGoes.as_symbol y t f k ↦ by_lead y k (leads_on sc st w.line (symbol_of w.kind w.bytes) y f)
+  | WordGoes.as_terminal y t f k ↦ by_lead y k (leads_on sc st w.line (terminal_of w.kind w.bytes) y f)
 ]
   where
-    by_lead : (y : ScopeView × StatementState) → z ≡ (y.0, ending_at (w.at + length w.bytes) y.1) → Leads-on sc st w.line (symbol_of w.kind w.bytes) y → Doomed sc st w z
+    by_lead : (y : ScopeView × StatementState) → z ≡ (y.0, ending_at (w.at + length w.bytes) y.1) → Leads-on sc st w.line (terminal_of w.kind w.bytes) y → Doomed sc st w z
     by_lead y k (Leads-on.later e) = absurd (later_alive y.0 y.1 (w.at + length w.bytes) l e (sym (ap (λ (x : ScopeView × StatementState). doom x.0 x.1) k) ∙ d))
     by_lead y k (Leads-on.name n s e x) = Doomed.name n s e (k ∙ ap (λ (q : ScopeView × StatementState). (q.0, ending_at (w.at + length w.bytes) q.1)) x)
     by_lead y k (Leads-on.astray c s e p x) = Doomed.astray c s e p (k ∙ ap (λ (q : ScopeView × StatementState). (q.0, ending_at (w.at + length w.bytes) q.1)) x)
@@ -184,7 +184,7 @@ named_start : (b : ℕ) (n : List ℕ) → state.Named b n ≡ state.Start → �
 named_start b n e = absurd cc
 
 -- behind a name with which no statement begins
-pub name_fault : (sc : ScopeView) (b : ℕ) (n : List ℕ) (ws : List Word) (e : Ending) (f : Fault) → GoodIn Any sc → doom sc (state.Named b n) ≡ Some b → fault_in sc (state.Named b n) ws e ≡ Some f → f ≡ (b, first_name_cause sc n (symbols ws))
+pub name_fault : (sc : ScopeView) (b : ℕ) (n : List ℕ) (ws : List Word) (e : Ending) (f : Fault) → GoodIn Any sc → doom sc (state.Named b n) ≡ Some b → fault_in sc (state.Named b n) ws e ≡ Some f → f ≡ (b, first_name_cause sc n (terminals ws))
 name_fault sc b n [] Ending.whole f good d h = absurd cc
 name_fault sc b n [] (Ending.broken l c) f good d h =
     sym (some_same (stopped sc (state.Named b n) l c) f h) ∙ (ap (λ (x : Option ℕ). (or_line x l, or_cause (pending sc (state.Named b n)) c)) d ∙ ap (λ (x : SourceCause). (b, x)) (name_pending sc b b n c d))
@@ -192,18 +192,18 @@ name_fault sc b n [] (Ending.comment l) f good d h =
     sym (some_same (left_open sc (state.Named b n) l) f h) ∙ (ap (λ (x : Option ℕ). open_at_end x (pending sc (state.Named b n)) l) d ∙ ap (λ (x : SourceCause). (b, x)) (name_pending sc b b n cause.OpenComment d))
 name_fault sc b n (w ∷ ws) e f good d h = by_result (next_word sc (state.Named b n) w) refl (sym (ap (λ (x : Option ℕ). placed_in (or_line x w.line) ws e (next_word sc (state.Named b n) w)) d) ∙ h)
   where
-    by_doomed : (z : ScopeView × StatementState) → Doomed sc (state.Named b n) w z → fault_in z.0 z.1 ws e ≡ Some f → f ≡ (b, behind_cause sc (StatementPlace.named n) (symbol_of w.kind w.bytes) (symbols ws))
+    by_doomed : (z : ScopeView × StatementState) → Doomed sc (state.Named b n) w z → fault_in z.0 z.1 ws e ≡ Some f → f ≡ (b, behind_cause sc (StatementPlace.named n) (terminal_of w.kind w.bytes) (terminals ws))
     by_doomed z (Doomed.name m s k x) g = absurd (named_start b n s)
     by_doomed z (Doomed.astray c s k p x) g =
         let at_b : z ≡ (fresh, state.Stray b c) = x ∙ ap (λ (o : Option ℕ). (fresh, state.Stray (or_line o w.line) c)) d in
-        let fault : f ≡ (b, percent_cause c (symbols ws)) = stray_fault fresh b c ws e f p (sym (ap (λ (q : ScopeView × StatementState). fault_in q.0 q.1 ws e) at_b) ∙ g) in
-        let same : behind_cause sc (StatementPlace.named n) (symbol_of w.kind w.bytes) (symbols ws) ≡ percent_cause c (symbols ws) =
-        ap (λ (y : Terminal). behind_cause sc (StatementPlace.named n) y (symbols ws)) s ∙ ap (λ (y : SourceCause). percent_cause y (symbols ws)) (named_fails sc b n symbol.Percent c k) in
+        let fault : f ≡ (b, percent_cause c (terminals ws)) = stray_fault fresh b c ws e f p (sym (ap (λ (q : ScopeView × StatementState). fault_in q.0 q.1 ws e) at_b) ∙ g) in
+        let same : behind_cause sc (StatementPlace.named n) (terminal_of w.kind w.bytes) (terminals ws) ≡ percent_cause c (terminals ws) =
+        ap (λ (y : Terminal). behind_cause sc (StatementPlace.named n) y (terminals ws)) s ∙ ap (λ (y : SourceCause). percent_cause y (terminals ws)) (named_fails sc b n terminal.Percent c k) in
         fault ∙ ap (λ (y : SourceCause). (b, y)) (sym same)
 
-    by_result : (r : Answer) → next_word sc (state.Named b n) w ≡ r → placed_in b ws e r ≡ Some f → f ≡ (b, first_name_cause sc n (symbol_of w.kind w.bytes ∷ symbols ws))
+    by_result : (r : Answer) → next_word sc (state.Named b n) w ≡ r → placed_in b ws e r ≡ Some f → f ≡ (b, first_name_cause sc n (terminal_of w.kind w.bytes ∷ terminals ws))
     by_result (Err c) k g =
-        let same = behind_is sc (StatementPlace.named n) sc (state.Named b n) w.line (symbol_of w.kind w.bytes) (symbols ws) c (λ x y. named_fails sc b n (symbol_of w.kind w.bytes) x y) (word_fails sc (state.Named b n) w c k) in
+        let same = behind_is sc (StatementPlace.named n) sc (state.Named b n) w.line (terminal_of w.kind w.bytes) (terminals ws) c (λ x y. named_fails sc b n (terminal_of w.kind w.bytes) x y) (word_fails sc (state.Named b n) w c k) in
         sym (some_same (b, c) f g) ∙ ap (λ (x : SourceCause). (b, x)) (sym same)
     by_result (Ok z) k g =
         let next = any_next sc (state.Named b n) w z good k in

@@ -7,9 +7,9 @@ use Rattle.asm_lex.specs.declared.token.TokenKind.TheVariants as kind
 use Rattle.asm_lex.specs.Bytes.{class_of, is_letter, is_word}
 use Rattle.asm_lex.specs.Words.{Word}
 use Rattle.asm_lex.specs.Source.{IsGap, IsToken, lines_after, Lexed}
-use Rattle.asm_argument.specs.declared.symbol.Terminal.{Terminal}
-use Rattle.asm_argument.specs.Symbols.{symbol_of}
-use Rattle.asm_parse.specs.Statements.{symbols}
+use Rattle.asm_argument.specs.declared.terminal.Terminal.{Terminal}
+use Rattle.asm_argument.specs.Terminals.{terminal_of}
+use Rattle.asm_parse.specs.Statements.{terminals}
 
 pub record Piece : Type 0 where
   pub kind : TokenKind
@@ -23,9 +23,9 @@ abbrev pub words_at : ℕ → ℕ → List Piece → List Word
 words_at at line [] = []
 words_at at line (p ∷ ps) = record { kind = p.kind; at = at; line = line; bytes = p.bytes } ∷ words_at (at + length p.bytes + length {A = ℕ} (32 ∷ [])) (lines_after (lines_after line p.bytes) (32 ∷ [])) ps
 
-abbrev pub symbols_of : List Piece → List Terminal
-symbols_of [] = []
-symbols_of (p ∷ ps) = symbol_of p.kind p.bytes ∷ symbols_of ps
+abbrev pub terminals_of : List Piece → List Terminal
+terminals_of [] = []
+terminals_of (p ∷ ps) = terminal_of p.kind p.bytes ∷ terminals_of ps
 
 abbrev pub ArePieces : List Piece → Type 0
 ArePieces [] = Unit {0}
@@ -35,13 +35,13 @@ pub pieces-append : (ps qs : List Piece) → ArePieces ps → ArePieces qs → A
 pieces-append [] qs h k = k
 pieces-append (p ∷ ps) qs h k = (h.0, pieces-append ps qs h.1 k)
 
-pub symbols_of-append : (ps qs : List Piece) → symbols_of (ps ++ qs) ≡ symbols_of ps ++ symbols_of qs
-symbols_of-append [] qs = refl
-symbols_of-append (p ∷ ps) qs = ap (λ (x : List Terminal). symbol_of p.kind p.bytes ∷ x) (symbols_of-append ps qs)
+pub terminals_of-append : (ps qs : List Piece) → terminals_of (ps ++ qs) ≡ terminals_of ps ++ terminals_of qs
+terminals_of-append [] qs = refl
+terminals_of-append (p ∷ ps) qs = ap (λ (x : List Terminal). terminal_of p.kind p.bytes ∷ x) (terminals_of-append ps qs)
 
-pub symbols-words_at : (ps : List Piece) (at line : ℕ) → symbols (words_at at line ps) ≡ symbols_of ps
-symbols-words_at [] at line = refl
-symbols-words_at (p ∷ ps) at line = ap (λ (x : List Terminal). symbol_of p.kind p.bytes ∷ x) (symbols-words_at ps _ _)
+pub terminals-words_at : (ps : List Piece) (at line : ℕ) → terminals (words_at at line ps) ≡ terminals_of ps
+terminals-words_at [] at line = refl
+terminals-words_at (p ∷ ps) at line = ap (λ (x : List Terminal). terminal_of p.kind p.bytes ∷ x) (terminals-words_at ps _ _)
 
 blank_is : class_of 32 ≡ class.Blank
 unfolding class_of

@@ -7,7 +7,7 @@ use Rattle.asm_lex.specs.declared.fault.SourceFault.TheVariants as fault
 use Rattle.asm_lex.specs.declared.token.Token.{Token}
 use Rattle.asm_lex.specs.declared.token.TokenKind.{TokenKind}
 use Rattle.asm_lex.specs.declared.token.TokenKind.TheVariants as kind
-use Rattle.asm_argument.specs.Symbols.{symbol_of}
+use Rattle.asm_argument.specs.Terminals.{terminal_of}
 use Rattle.asm_parse.specs.declared.state.StatementState.{StatementState}
 use Rattle.asm_parse.specs.declared.state.StatementState.TheVariants as state
 use Rattle.asm_parse.specs.declared.stop.StepFault.{StepFault}
@@ -49,7 +49,7 @@ with_end end (Err c) = Err c
 abbrev pub next_word : ScopeView → StatementState → Word → Result (ScopeView × StatementState) SourceCause
 next_word sc st w =
     if is_longer st w.at w.kind w.bytes then Ok (sc, longer st (w.at + length w.bytes) w.bytes)
-    else with_end (w.at + length w.bytes) (next_step sc st w.line (symbol_of w.kind w.bytes))
+    else with_end (w.at + length w.bytes) (next_step sc st w.line (terminal_of w.kind w.bytes))
 
 abbrev pub Fault : Type 0
 Fault = ℕ × SourceCause

@@ -11,8 +11,8 @@ use Rattle.asm_lex.specs.Bytes.{class_of}
 use Rattle.asm_lex.specs.Words.{Word}
 use Rattle.asm_lex.specs.Source.{IsGap, IsToken, lines_after}
 use Rattle.asm_lex.specs.Refusals.{is_unclosed, IsWrong}
-use Rattle.asm_argument.specs.declared.symbol.Terminal.{Terminal}
-use Rattle.asm_argument.specs.declared.symbol.Terminal.TheVariants as symbol
+use Rattle.asm_argument.specs.declared.terminal.Terminal.{Terminal}
+use Rattle.asm_argument.specs.declared.terminal.Terminal.TheVariants as terminal
 use Rattle.asm_argument.specs.declared.operand.Shape.{Shape}
 use Rattle.asm_source.specs.declared.tree.Argument.{Argument}
 use Rattle.asm_source.specs.declared.tree.SourceItem.{SourceItem}
@@ -26,8 +26,8 @@ use Rattle.asm_parse.specs.Scope.{fresh}
 use Rattle.asm_argument.specs.Operand.{takes_names, is_low, is_register}
 use Rattle.asm_parse.specs.Directives.{shape_at, defines, is_instruction, is_dotted, directive_of, is_section}
 use Rattle.asm_parse.specs.Statement.{is_passed, is_rep, misplaced}
-use Rattle.asm_parse.specs.Statements.{IsArgument, Separated, has_list, is_inner, Statement, symbols, Statements}
-use Rattle.asm_argument.specs.Symbols.{symbol_of}
+use Rattle.asm_parse.specs.Statements.{IsArgument, Separated, has_list, is_inner, Statement, terminals, Statements}
+use Rattle.asm_argument.specs.Terminals.{terminal_of}
 
 -- ---- the words of a text, of which the last may be followed by what is no token
 
@@ -61,9 +61,9 @@ IsNoBeginning ws = (more : List Word) (sc : ScopeView) → Statements fresh (ws 
 
 -- What stands in front of the arguments of a directive or an instruction.
 pub data Leads (sc : ScopeView) : Head → List Terminal → Type 0 where
-  instruction : {n : List ℕ} → is_passed sc n ≡ false → is_dotted n ≡ false → is_rep n ≡ false → Leads sc (head.Instruction false n) (symbol.Name n ∷ [])
-  repeated : {r n : List ℕ} → is_passed sc r ≡ false → is_dotted r ≡ false → is_rep r ≡ true → Leads sc (head.Instruction true n) (symbol.Name r ∷ symbol.Name n ∷ [])
-  directive : {n : List ℕ} {k : Directive} → is_passed sc n ≡ false → is_dotted n ≡ true → directive_of n ≡ Some k → has_list k ≡ true → Leads sc (head.Directive k n) (symbol.Name n ∷ [])
+  instruction : {n : List ℕ} → is_passed sc n ≡ false → is_dotted n ≡ false → is_rep n ≡ false → Leads sc (head.Instruction false n) (terminal.Name n ∷ [])
+  repeated : {r n : List ℕ} → is_passed sc r ≡ false → is_dotted r ≡ false → is_rep r ≡ true → Leads sc (head.Instruction true n) (terminal.Name r ∷ terminal.Name n ∷ [])
+  directive : {n : List ℕ} {k : Directive} → is_passed sc n ≡ false → is_dotted n ≡ true → directive_of n ≡ Some k → has_list k ≡ true → Leads sc (head.Directive k n) (terminal.Name n ∷ [])
 
 -- Nothing, or what an argument of this shape begins with.
 pub data Opens : Option Shape → List Terminal → Type 0 where
@@ -71,7 +71,7 @@ pub data Opens : Option Shape → List Terminal → Type 0 where
   some : {sh : Shape} {ss : List Terminal} (more : List Terminal) (a : Argument) → IsArgument sh (ss ++ more) a → Opens (Some sh) ss
 
 -- At the statement's beginning; behind its first name; behind the name of a section; where any token may stand up to the statement's end;
--- or behind these symbols of an argument, these whole arguments in front of it, and what is said then.
+-- or behind these terminals of an argument, these whole arguments in front of it, and what is said then.
 pub data StatementPlace : Type 0 where
   first : StatementPlace
   named : List ℕ → StatementPlace
@@ -79,12 +79,12 @@ pub data StatementPlace : Type 0 where
   skipped : StatementPlace
   argument : Head → List Argument → ScopeView → List Terminal → StatementPlace
 
--- The symbols of a statement so far, more than one where arguments are read, lead to this place.
+-- The terminals of a statement so far, more than one where arguments are read, lead to this place.
 pub data LeadsTo (sc : ScopeView) : List Terminal → StatementPlace → Type 0 where
   first : LeadsTo sc [] StatementPlace.first
-  named : {n : List ℕ} → LeadsTo sc (symbol.Name n ∷ []) (StatementPlace.named n)
-  section : {n m : List ℕ} (ss : List Terminal) → is_passed sc n ≡ false → is_dotted n ≡ true → directive_of n ≡ Some kind.Section → is_section m ≡ true → list_all is_inner ss ≡ true → LeadsTo sc (symbol.Name n ∷ symbol.Name m ∷ ss) StatementPlace.section
-  skipped : {line : ℕ} {ss : List Terminal} → ((rest : List Terminal) → list_all is_inner rest ≡ true → Statement sc line (ss ++ (rest ++ symbol.End ∷ [])) sc) → LeadsTo sc ss StatementPlace.skipped
+  named : {n : List ℕ} → LeadsTo sc (terminal.Name n ∷ []) (StatementPlace.named n)
+  section : {n m : List ℕ} (ss : List Terminal) → is_passed sc n ≡ false → is_dotted n ≡ true → directive_of n ≡ Some kind.Section → is_section m ≡ true → list_all is_inner ss ≡ true → LeadsTo sc (terminal.Name n ∷ terminal.Name m ∷ ss) StatementPlace.section
+  skipped : {line : ℕ} {ss : List Terminal} → ((rest : List Terminal) → list_all is_inner rest ≡ true → Statement sc line (ss ++ (rest ++ terminal.End ∷ [])) sc) → LeadsTo sc ss StatementPlace.skipped
   argument : {h : Head} {sc2 : ScopeView} {done : List Argument} (s t : Terminal) (ss lead front arg : List Terminal) → s ∷ t ∷ ss ≡ lead ++ (front ++ arg) → Leads sc h lead → Separated h sc front done sc2 → Opens (shape_at h (length done)) arg
       → LeadsTo sc (s ∷ t ∷ ss) (StatementPlace.argument h done sc2 arg)
 
@@ -94,7 +94,7 @@ pub record Reaches (ws : List Word) (sc : ScopeView) (p : StatementPlace) : Type
   pub begun : List Word
   pub whole : ws ≡ before ++ begun
   pub statements : Statements fresh before sc
-  pub stands : LeadsTo sc (symbols begun) p
+  pub stands : LeadsTo sc (terminals begun) p
 
 -- ---- the causes
 
@@ -109,29 +109,29 @@ is_empty (s ∷ ss) = false
 
 -- `%`: a register has to follow
 abbrev pub is_percent : Option Terminal → Bool
-is_percent (Some symbol.Percent) = true
+is_percent (Some terminal.Percent) = true
 is_percent _ = false
 
 -- `-`: a number has to follow that isn't above 2^31
 abbrev pub is_minus : Option Terminal → Bool
-is_minus (Some symbol.Minus) = true
+is_minus (Some terminal.Minus) = true
 is_minus _ = false
 
 abbrev pub is_sign : Option Terminal → Bool
-is_sign (Some symbol.Minus) = true
-is_sign (Some symbol.Plus) = true
+is_sign (Some terminal.Minus) = true
+is_sign (Some terminal.Plus) = true
 is_sign _ = false
 
--- where an operand's symbol may stand: first, or behind `$` or `*`
-abbrev pub is_for_symbol : Option Terminal → Bool
-is_for_symbol None = true
-is_for_symbol (Some symbol.Dollar) = true
-is_for_symbol (Some symbol.Star) = true
-is_for_symbol _ = false
+-- where an operand's terminal may stand: first, or behind `$` or `*`
+abbrev pub is_for_terminal : Option Terminal → Bool
+is_for_terminal None = true
+is_for_terminal (Some terminal.Dollar) = true
+is_for_terminal (Some terminal.Star) = true
+is_for_terminal _ = false
 
 -- `,%index,`: a scale has to follow
 abbrev pub is_index : List Terminal → Bool
-is_index (symbol.Comma ∷ symbol.Percent ∷ symbol.Name i ∷ symbol.Comma ∷ []) = true
+is_index (terminal.Comma ∷ terminal.Percent ∷ terminal.Name i ∷ terminal.Comma ∷ []) = true
 is_index _ = false
 
 abbrev pub ends_index : List Terminal → Bool
@@ -140,7 +140,7 @@ ends_index (s ∷ ss) = is_index (s ∷ ss) || ends_index ss
 
 -- a token that may not stand there, where no other cause is
 abbrev pub other_cause : Terminal → SourceCause
-other_cause symbol.Big = cause.BadNumber
+other_cause terminal.Big = cause.BadNumber
 other_cause s = cause.BadOperand
 
 -- a name that may not be said: it is defined already, or one too many
@@ -149,15 +149,15 @@ name_cause sc def n = if def && holds sc.defined n then cause.DoubledLabel else 
 
 -- in an operand of an instruction
 abbrev pub operand_cause : List Terminal → Terminal → SourceCause
-operand_cause arg symbol.Big = cause.BadNumber
-operand_cause arg (symbol.Number n) =
+operand_cause arg terminal.Big = cause.BadNumber
+operand_cause arg (terminal.Number n) =
     if is_percent (last_of arg) then cause.BadRegister
     else if ends_index arg then cause.BadScale
     else if is_minus (last_of arg) then cause.BadNumber
     else cause.BadOperand
-operand_cause arg (symbol.Name n) =
+operand_cause arg (terminal.Name n) =
     if is_percent (last_of arg) then cause.BadRegister
-    else if is_for_symbol (last_of arg) then cause.TooManySymbols
+    else if is_for_terminal (last_of arg) then cause.TooManySymbols
     else cause.BadOperand
 operand_cause arg s = if is_percent (last_of arg) then cause.BadRegister else cause.BadOperand
 
@@ -167,12 +167,12 @@ takes_name (Some sh) = takes_names sh
 
 -- in an argument of a directive
 abbrev pub value_cause : Head → List Argument → ScopeView → List Terminal → Terminal → SourceCause
-value_cause h done sc [] (symbol.Name n) = if takes_name (shape_at h (length done)) then name_cause sc (defines h (length done)) n else cause.BadArgument
+value_cause h done sc [] (terminal.Name n) = if takes_name (shape_at h (length done)) then name_cause sc (defines h (length done)) n else cause.BadArgument
 value_cause h done sc [] s = misplaced s
-value_cause h done sc (t ∷ ts) symbol.Big = cause.BadNumber
-value_cause h done sc (t ∷ ts) (symbol.Number n) = if is_minus (last_of (t ∷ ts)) then (if is_low n then cause.BadArgument else cause.BadNumber) else cause.BadOperand
-value_cause h done sc (t ∷ ts) symbol.Comma = if is_sign (last_of (t ∷ ts)) then cause.BadOperand else cause.BadArgument
-value_cause h done sc (t ∷ ts) symbol.End = if is_sign (last_of (t ∷ ts)) then cause.BadOperand else cause.BadArgument
+value_cause h done sc (t ∷ ts) terminal.Big = cause.BadNumber
+value_cause h done sc (t ∷ ts) (terminal.Number n) = if is_minus (last_of (t ∷ ts)) then (if is_low n then cause.BadArgument else cause.BadNumber) else cause.BadOperand
+value_cause h done sc (t ∷ ts) terminal.Comma = if is_sign (last_of (t ∷ ts)) then cause.BadOperand else cause.BadArgument
+value_cause h done sc (t ∷ ts) terminal.End = if is_sign (last_of (t ∷ ts)) then cause.BadOperand else cause.BadArgument
 value_cause h done sc (t ∷ ts) s = cause.BadOperand
 
 abbrev pub in_argument : Head → List Argument → ScopeView → List Terminal → Terminal → SourceCause
@@ -186,7 +186,7 @@ directive_cause (Some k) sc n s = value_cause (head.Directive k n) [] sc [] s
 
 -- behind the first name of a statement
 abbrev pub named_cause : ScopeView → List ℕ → Terminal → SourceCause
-named_cause sc n symbol.Colon = name_cause sc true n
+named_cause sc n terminal.Colon = name_cause sc true n
 named_cause sc n s =
     if is_dotted n then directive_cause (directive_of n) sc n s
     else if is_rep n then other_cause s
@@ -202,24 +202,24 @@ cause_at sc (StatementPlace.argument h done sc2 arg) s = in_argument h done sc2 
 
 -- Where a `%` may not stand its own cause comes first: no register stands behind it.
 abbrev pub percent_cause : SourceCause → List Terminal → SourceCause
-percent_cause cause.BadOperand (symbol.Name n ∷ rest) = if is_register n then cause.BadOperand else cause.BadRegister
-percent_cause cause.BadArgument (symbol.Name n ∷ rest) = if is_register n then cause.BadArgument else cause.BadRegister
+percent_cause cause.BadOperand (terminal.Name n ∷ rest) = if is_register n then cause.BadOperand else cause.BadRegister
+percent_cause cause.BadArgument (terminal.Name n ∷ rest) = if is_register n then cause.BadArgument else cause.BadRegister
 percent_cause cause.BadOperand rest = cause.BadRegister
 percent_cause cause.BadArgument rest = cause.BadRegister
 percent_cause c rest = c
 
 abbrev pub behind_cause : ScopeView → StatementPlace → Terminal → List Terminal → SourceCause
-behind_cause sc p symbol.Percent rest = percent_cause (cause_at sc p symbol.Percent) rest
+behind_cause sc p terminal.Percent rest = percent_cause (cause_at sc p terminal.Percent) rest
 behind_cause sc p s rest = cause_at sc p s
 
--- a name with which no statement begins: by the symbol behind it, it is no label or no directive
+-- a name with which no statement begins: by the terminal behind it, it is no label or no directive
 abbrev pub first_name_cause : ScopeView → List ℕ → List Terminal → SourceCause
 first_name_cause sc n [] = if is_none (directive_of n) then cause.UnknownDirective else cause.TooManySymbols
 first_name_cause sc n (s ∷ rest) = behind_cause sc (StatementPlace.named n) s rest
 
--- The cause of a word in this place that is refused, with these symbols behind it.
+-- The cause of a word in this place that is refused, with these terminals behind it.
 abbrev pub refused_cause : ScopeView → StatementPlace → Terminal → List Terminal → SourceCause
-refused_cause sc StatementPlace.first (symbol.Name n) rest = first_name_cause sc n rest
+refused_cause sc StatementPlace.first (terminal.Name n) rest = first_name_cause sc n rest
 refused_cause sc p s rest = behind_cause sc p s rest
 
 -- Where a byte can't go on with any token, what stands before may have an earlier cause: no register behind a `%`, or an unknown directive.
@@ -234,7 +234,7 @@ byte_cause sc p c = c
 -- or where all words can go on, at the byte or comment that ends them.
 pub data Refused (text : List ℕ) : ℕ → SourceCause → Type 0 where
   word : {sc : ScopeView} {p : StatementPlace} {e : Ending} (ws rest : List Word) (w : Word) → Worded 0 1 (text ++ 10 ∷ []) (ws ++ w ∷ rest) e → IsBeginning ws → IsNoBeginning (ws ++ w ∷ []) → Reaches ws sc p
-      → Refused text w.line (refused_cause sc p (symbol_of w.kind w.bytes) (symbols rest))
+      → Refused text w.line (refused_cause sc p (terminal_of w.kind w.bytes) (terminals rest))
   byte : {sc : ScopeView} {p : StatementPlace} {line : ℕ} {c : SourceCause} (ws : List Word) → Worded 0 1 (text ++ 10 ∷ []) ws (Ending.broken line c) → IsBeginning ws → Reaches ws sc p
       → Refused text line (byte_cause sc p c)
   comment : {line : ℕ} (ws : List Word) → Worded 0 1 (text ++ 10 ∷ []) ws (Ending.comment line) → IsBeginning ws → Refused text line cause.OpenComment

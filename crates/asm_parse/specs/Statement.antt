@@ -1,10 +1,10 @@
--- One statement, symbol by symbol.
+-- One statement, terminal by terminal.
 use Rattle.std.specs.Str.{bytes_eq}
 use Rattle.std.specs.Prelude.{codes, is_none, nat_lt, ◌≡◌, ℕ, ◌==◌, Bool, true, false, not, ◌&&◌, ◌||◌, List, [], ◌∷◌, ◌++◌, length, Option, Some, None, Result, Ok, Err, if◌then◌else◌}
 use Rattle.asm_lex.specs.declared.fault.SourceCause.{SourceCause}
 use Rattle.asm_lex.specs.declared.fault.SourceCause.TheVariants as cause
-use Rattle.asm_argument.specs.declared.symbol.Terminal.{Terminal}
-use Rattle.asm_argument.specs.declared.symbol.Terminal.TheVariants as symbol
+use Rattle.asm_argument.specs.declared.terminal.Terminal.{Terminal}
+use Rattle.asm_argument.specs.declared.terminal.Terminal.TheVariants as terminal
 use Rattle.asm_argument.specs.declared.operand.Shape.{Shape}
 use Rattle.asm_argument.specs.declared.operand.Partial.{Partial}
 use Rattle.asm_argument.specs.declared.operand.Partial.TheVariants as partial
@@ -30,15 +30,15 @@ use Rattle.asm_argument.specs.Operand.{operand_step, begun, finished, is_finishe
 
 -- a token with which no argument begins
 abbrev pub begins_nothing : Terminal → Bool
-begins_nothing symbol.Plus = true
-begins_nothing symbol.Close = true
-begins_nothing symbol.Colon = true
-begins_nothing symbol.At = true
+begins_nothing terminal.Plus = true
+begins_nothing terminal.Close = true
+begins_nothing terminal.Colon = true
+begins_nothing terminal.At = true
 begins_nothing _ = false
 
 -- where an argument of another kind, or none, stands in an argument's place
 abbrev pub misplaced : Terminal → SourceCause
-misplaced symbol.Big = cause.BadNumber
+misplaced terminal.Big = cause.BadNumber
 misplaced s = if begins_nothing s then cause.BadOperand else cause.BadArgument
 
 -- a fault in an argument of a directive
@@ -87,7 +87,7 @@ abbrev pub at_shape : ScopeView → Open → Terminal → Option Shape → Resul
 at_shape sc o s None = Err (misplaced s)
 at_shape sc o s (Some sh) = after_step sc o s (operand_step sh o.so_far s)
 
--- the next symbol of an argument
+-- the next terminal of an argument
 abbrev pub within : ScopeView → Open → Terminal → Result (ScopeView × StatementState) SourceCause
 within sc o s = at_shape sc o s (shape_at o.head (length o.arguments))
 
@@ -149,19 +149,19 @@ abbrev pub end_behind : ScopeView → Option (ℕ × Head × List Argument × Ar
 end_behind sc None = Err cause.BadOperand
 end_behind sc (Some e) = complete_with sc e.0 e.1 e.2 e.3
 
--- a symbol of a directive or an instruction
+-- a terminal of a directive or an instruction
 abbrev pub argument_step : ScopeView → Open → Terminal → Result (ScopeView × StatementState) SourceCause
-argument_step sc o symbol.Comma = if is_finished o.so_far then comma_behind sc (ended o) else within sc o symbol.Comma
-argument_step sc o symbol.End =
+argument_step sc o terminal.Comma = if is_finished o.so_far then comma_behind sc (ended o) else within sc o terminal.Comma
+argument_step sc o terminal.End =
     if is_bare o then complete sc o.line o.head o.arguments
     else if is_finished o.so_far then end_behind sc (ended o)
-    else within sc o symbol.End
-argument_step sc o symbol.Star = if takes_star o then Ok (sc, state.Arguments (record o { star = true })) else within sc o symbol.Star
+    else within sc o terminal.End
+argument_step sc o terminal.Star = if takes_star o then Ok (sc, state.Arguments (record o { star = true })) else within sc o terminal.Star
 argument_step sc o s = within sc o s
 
 -- the rest of a statement that isn't read
 abbrev pub skip : Terminal → StatementState
-skip symbol.End = state.Start
+skip terminal.End = state.Start
 skip _ = state.Skip
 
 abbrev pub labelled : ℕ → List ℕ → Result ScopeView SourceCause → Result (ScopeView × StatementState) SourceCause
@@ -174,13 +174,13 @@ label sc line n = labelled line n (noting sc true n)
 unfoldable pub is_rep : List ℕ → Bool
 is_rep n = bytes_eq n (codes "rep")
 
--- a symbol behind `rep`
+-- a terminal behind `rep`
 abbrev pub rep_step : ScopeView → ℕ → Terminal → Result (ScopeView × StatementState) SourceCause
-rep_step sc line (symbol.Name m) = Ok (sc, state.Arguments (nothing_yet line (head.Instruction true m)))
-rep_step sc line symbol.Big = Err cause.BadNumber
+rep_step sc line (terminal.Name m) = Ok (sc, state.Arguments (nothing_yet line (head.Instruction true m)))
+rep_step sc line terminal.Big = Err cause.BadNumber
 rep_step sc line _ = Err cause.BadOperand
 
--- a symbol behind an instruction's name
+-- a terminal behind an instruction's name
 abbrev pub instruction_step : ScopeView → ℕ → List ℕ → Terminal → Result (ScopeView × StatementState) SourceCause
 instruction_step sc line n s = if is_rep n then rep_step sc line s else argument_step sc (nothing_yet line (head.Instruction false n)) s
 
@@ -189,7 +189,7 @@ abbrev pub is_passed : ScopeView → List ℕ → Bool
 is_passed sc n = sc.skipping && not (changes_section n)
 
 abbrev pub section_name : ℕ → List ℕ → Terminal → Result StatementState SourceCause
-section_name line n (symbol.Name m) = if is_section m then Ok (state.Sectioned line n m 0) else Err cause.BadArgument
+section_name line n (terminal.Name m) = if is_section m then Ok (state.Sectioned line n m 0) else Err cause.BadArgument
 section_name line n s = Err (misplaced s)
 
 abbrev pub of_directive : Option Directive → ScopeView → ℕ → List ℕ → Terminal → Result (ScopeView × StatementState) SourceCause
@@ -198,7 +198,7 @@ of_directive (Some directive.Skipped) sc line n s = Ok (sc, skip s)
 of_directive (Some directive.Section) sc line n s = with_scope sc (section_name line n s)
 of_directive (Some k) sc line n s = argument_step sc (nothing_yet line (head.Directive k n)) s
 
--- a symbol behind a directive's name
+-- a terminal behind a directive's name
 abbrev pub directive_step : ScopeView → ℕ → List ℕ → Terminal → Result (ScopeView × StatementState) SourceCause
 directive_step sc line n s = of_directive (directive_of n) sc line n s
 
@@ -213,16 +213,16 @@ unless_skipping true c = Ok state.Skip
 unless_skipping false c = Err c
 
 abbrev pub start_step : ScopeView → ℕ → Terminal → Result StatementState SourceCause
-start_step sc line symbol.End = Ok state.Start
-start_step sc line (symbol.Name n) = Ok (state.Named line n)
-start_step sc line symbol.Big = unless_skipping sc.skipping cause.BadNumber
+start_step sc line terminal.End = Ok state.Start
+start_step sc line (terminal.Name n) = Ok (state.Named line n)
+start_step sc line terminal.Big = unless_skipping sc.skipping cause.BadNumber
 start_step sc line _ = unless_skipping sc.skipping cause.BadOperand
 
 -- a colon behind a name
 abbrev pub colon_behind : ScopeView → ℕ → List ℕ → Result (ScopeView × StatementState) SourceCause
 colon_behind sc begun n = if sc.skipping then Ok (sc, state.Start) else label sc begun n
 
--- another symbol behind a name
+-- another terminal behind a name
 abbrev pub other_behind : ScopeView → ℕ → List ℕ → Terminal → Result (ScopeView × StatementState) SourceCause
 other_behind sc begun n s =
     if is_passed sc n then Ok (sc, skip s)
@@ -230,27 +230,27 @@ other_behind sc begun n s =
     else instruction_step sc begun n s
 
 abbrev pub named_step : ScopeView → ℕ → List ℕ → Terminal → Result (ScopeView × StatementState) SourceCause
-named_step sc begun n symbol.Colon = colon_behind sc begun n
+named_step sc begun n terminal.Colon = colon_behind sc begun n
 named_step sc begun n s = other_behind sc begun n s
 
--- a symbol behind a section's name
+-- a terminal behind a section's name
 abbrev pub sectioned_step : ScopeView → ℕ → List ℕ → List ℕ → Terminal → Result (ScopeView × StatementState) SourceCause
-sectioned_step sc begun n m symbol.End = section sc begun n m
-sectioned_step sc begun n m symbol.Comma = Ok (sc, state.Flags begun n m)
-sectioned_step sc begun n m symbol.Big = Err cause.BadNumber
+sectioned_step sc begun n m terminal.End = section sc begun n m
+sectioned_step sc begun n m terminal.Comma = Ok (sc, state.Flags begun n m)
+sectioned_step sc begun n m terminal.Big = Err cause.BadNumber
 sectioned_step sc begun n m _ = Err cause.BadOperand
 
--- a symbol behind a section's name and a comma
+-- a terminal behind a section's name and a comma
 abbrev pub flags_step : ScopeView → ℕ → List ℕ → List ℕ → Terminal → Result (ScopeView × StatementState) SourceCause
-flags_step sc begun n m symbol.End = section sc begun n m
+flags_step sc begun n m terminal.End = section sc begun n m
 flags_step sc begun n m _ = Ok (sc, state.Flags begun n m)
 
 -- what stands behind a `%` that may not stand there: a register, or the `%` has that cause of its own
 abbrev pub stray_cause : SourceCause → Terminal → SourceCause
-stray_cause c (symbol.Name n) = if is_register n then c else cause.BadRegister
+stray_cause c (terminal.Name n) = if is_register n then c else cause.BadRegister
 stray_cause c _ = cause.BadRegister
 
--- the next symbol of a source
+-- the next terminal of a source
 abbrev pub step : ScopeView → StatementState → ℕ → Terminal → Result (ScopeView × StatementState) SourceCause
 step sc state.Start line s = with_scope sc (start_step sc line s)
 step sc (state.Named begun n) line s = named_step sc begun n s
@@ -306,9 +306,9 @@ abbrev pub strayed : ℕ → Result (ScopeView × StatementState) SourceCause �
 strayed line (Ok x) = Ok x
 strayed line (Err c) = stray line c
 
--- the next symbol, where a `%` may be one that may not stand there
+-- the next terminal, where a `%` may be one that may not stand there
 abbrev pub next_step : ScopeView → StatementState → ℕ → Terminal → Result (ScopeView × StatementState) SourceCause
-next_step sc st line symbol.Percent = strayed (fault_line sc st line) (step sc st line symbol.Percent)
+next_step sc st line terminal.Percent = strayed (fault_line sc st line) (step sc st line terminal.Percent)
 next_step sc st line s = step sc st line s
 
 abbrev pub if_pending : Bool → SourceCause → Option SourceCause

@@ -1,4 +1,4 @@
-//! The arguments of one statement, symbol by symbol.
+//! The arguments of one statement, terminal by terminal.
 
 ghost use Rattle.std.specs.Prelude.{◌≡◌, length};
 ghost use Rattle.asm_parse.specs.Statement as spec;
@@ -14,31 +14,31 @@ use asm_lex::SourceCause;
 use asm_source::{Argument, Arguments, Body, Name, SourceItem};
 use std::alloc::Global;
 
-/// Whether no argument begins with the symbol.
-fn begins_nothing(symbol: &Terminal) -> bool
-    ensures { result ≡ spec.begins_nothing symbol.now }
+/// Whether no argument begins with the terminal.
+fn begins_nothing(terminal: &Terminal) -> bool
+    ensures { result ≡ spec.begins_nothing terminal.now }
 {
-    match symbol {
+    match terminal {
         Terminal::Plus | Terminal::Close | Terminal::Colon | Terminal::At => true,
         _ => false,
     }
 }
 
 /// Where an argument of another kind, or none, stands in an argument's place.
-pub fn misplaced(symbol: &Terminal) -> SourceCause
-    ensures { result ≡ spec.misplaced symbol.now }
+pub fn misplaced(terminal: &Terminal) -> SourceCause
+    ensures { result ≡ spec.misplaced terminal.now }
 {
-    if let Terminal::Big = symbol {
+    if let Terminal::Big = terminal {
         return SourceCause::BadNumber;
     }
-    if begins_nothing(symbol) {
+    if begins_nothing(terminal) {
         SourceCause::BadOperand
     } else {
         SourceCause::BadArgument
     }
 }
 
-/// A fault in an argument of a directive, where nothing of it was read before the symbol, or something.
+/// A fault in an argument of a directive, where nothing of it was read before the terminal, or something.
 fn argument_cause(nothing: bool, misplaced: SourceCause, cause: SourceCause) -> SourceCause
     ensures { result ≡ spec.argument_cause nothing misplaced cause }
 {
@@ -82,14 +82,14 @@ pub fn noting(alloc: Global, scope: &mut Scope, defined: bool, name: &Name) -> R
     Ok(())
 }
 
-/// The next symbol of an argument.
+/// The next terminal of an argument.
 fn within(
     alloc: Global,
     scope: &mut Scope,
     begun: Open,
-    symbol: Terminal,
+    terminal: Terminal,
 ) -> Result<StatementState, StepFault>
-    ensures { spec.Does scope.new result (spec.within scope.old begun symbol) }
+    ensures { spec.Does scope.new result (spec.within scope.old begun terminal) }
 {
     let Open {
         line,
@@ -100,11 +100,11 @@ fn within(
     } = begun;
     let index = arguments.list.len();
     let nothing = is_unbegun(&so_far);
-    let other = misplaced(&symbol);
+    let other = misplaced(&terminal);
     let Some(shape) = shape_at(&head, index) else {
         return Err(StepFault::Cause(other));
     };
-    match operand_step(shape, so_far, symbol) {
+    match operand_step(shape, so_far, terminal) {
         Err(cause) => Err(StepFault::Cause(cause_in(&head, nothing, other, cause))),
         Ok(so_far) => {
             if let Some(name) = name_in(&so_far) {
@@ -185,10 +185,7 @@ fn complete(
             Ok(StatementState::Start)
         }
         Head::Directive { kind, name } => {
-            let body = Body::Directive {
-                name,
-                arguments,
-            };
+            let body = Body::Directive { name, arguments };
             scope.push(SourceItem { line, body })?;
             if let Directive::Plain = kind {
                 scope.set_skipping(false);
@@ -227,16 +224,16 @@ fn takes_star(begun: &Open) -> bool
     is_nothing(&begun.so_far) && !begun.star && is_instruction(&begun.head)
 }
 
-/// A symbol of a directive or an instruction.
+/// A terminal of a directive or an instruction.
 pub fn argument_step(
     alloc: Global,
     scope: &mut Scope,
     begun: Open,
-    symbol: Terminal,
+    terminal: Terminal,
 ) -> Result<StatementState, StepFault>
-    ensures { spec.Does scope.new result (spec.argument_step scope.old begun symbol) }
+    ensures { spec.Does scope.new result (spec.argument_step scope.old begun terminal) }
 {
-    match symbol {
+    match terminal {
         Terminal::Comma => {
             if !is_finished(&begun.so_far) {
                 return within(alloc, scope, begun, Terminal::Comma);
@@ -261,7 +258,9 @@ pub fn argument_step(
                 return within(alloc, scope, begun, Terminal::End);
             }
             match ended(begun) {
-                Some((line, head, arguments, last)) => complete_with(scope, line, head, arguments, last),
+                Some((line, head, arguments, last)) => complete_with(
+                    scope, line, head, arguments, last,
+                ),
                 None => Err(StepFault::Cause(SourceCause::BadOperand)),
             }
         }

@@ -41,17 +41,17 @@ fn stray(
     }
 }
 
-/// The next symbol of a source, where a `%` may be one that may not stand there.
+/// The next terminal of a source, where a `%` may be one that may not stand there.
 pub fn next_step(
     alloc: Global,
     scope: &mut Scope,
     state: StatementState,
     line: u32,
-    symbol: Terminal,
+    terminal: Terminal,
 ) -> Result<StatementState, StepFault>
-    ensures { spec.Does scope.new result (spec.next_step scope.old state line symbol) }
+    ensures { spec.Does scope.new result (spec.next_step scope.old state line terminal) }
 {
-    match symbol {
+    match terminal {
         Terminal::Percent => {
             let at = fault_line(scope, &state, line);
             match step(alloc, scope, state, line, Terminal::Percent) {

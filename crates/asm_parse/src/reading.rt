@@ -12,7 +12,7 @@ use crate::dead::{fault_line, next_step, stopped};
 use crate::scope::Scope;
 use crate::state::{StatementState, discard};
 use crate::stop::StepFault;
-use asm_argument::{Terminal, symbol_of};
+use asm_argument::{Terminal, terminal_of};
 use asm_lex::{Mode, Next, SourceFault, Stepped, Token, TokenKind, line_after};
 use asm_source::Name;
 use std::alloc::{AllocError, Global};
@@ -32,17 +32,17 @@ fn at_line(
 }
 
 /// A token as the grammar sees it, in this line.
-fn feed_symbol(
+fn feed_terminal(
     alloc: Global,
     scope: &mut Scope,
     state: StatementState,
     line: u32,
-    symbol: Terminal,
+    terminal: Terminal,
 ) -> Result<StatementState, SourceFault>
-    ensures { spec.Feeds scope.new result (spec.placed (fault_line scope.old state line) (next_step scope.old state line symbol)) }
+    ensures { spec.Feeds scope.new result (spec.placed (fault_line scope.old state line) (next_step scope.old state line terminal)) }
 {
     let at = fault_line(scope, &state, line);
-    at_line(at, next_step(alloc, scope, state, line, symbol))
+    at_line(at, next_step(alloc, scope, state, line, terminal))
 }
 
 /// Whether no comma and no blank is in the token's bytes, and it ends no statement.
@@ -120,8 +120,8 @@ fn feed_word(
             Ok(state) => Ok(state),
         };
     }
-    let symbol = symbol_of(alloc, kind, bytes)?;
-    match feed_symbol(alloc, scope, state, line, symbol) {
+    let terminal = terminal_of(alloc, kind, bytes)?;
+    match feed_terminal(alloc, scope, state, line, terminal) {
         Err(fault) => Err(fault),
         Ok(state) => Ok(ending_at(end, state)),
     }

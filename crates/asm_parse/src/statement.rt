@@ -1,4 +1,4 @@
-//! One statement, symbol by symbol.
+//! One statement, terminal by terminal.
 
 ghost use Rattle.std.specs.Prelude.{◌≡◌};
 ghost use Rattle.asm_parse.specs.Statement as spec;
@@ -17,10 +17,10 @@ use asm_source::{Argument, Arguments, Body, Form, Name, SourceItem};
 use std::alloc::Global;
 
 /// The rest of a statement that isn't read.
-fn skip(symbol: Terminal) -> StatementState
-    ensures { result ≡ spec.skip symbol }
+fn skip(terminal: Terminal) -> StatementState
+    ensures { result ≡ spec.skip terminal }
 {
-    match symbol {
+    match terminal {
         Terminal::End => StatementState::Start,
         _ => StatementState::Skip,
     }
@@ -41,16 +41,16 @@ fn label(
     Ok(StatementState::Start)
 }
 
-/// A symbol behind `rep`.
+/// A terminal behind `rep`.
 fn rep_step(
     alloc: Global,
     scope: &mut Scope,
     line: u32,
-    symbol: Terminal,
+    terminal: Terminal,
 ) -> Result<StatementState, StepFault>
-    ensures { spec.Does scope.new result (spec.rep_step scope.old line symbol) }
+    ensures { spec.Does scope.new result (spec.rep_step scope.old line terminal) }
 {
-    match symbol {
+    match terminal {
         Terminal::Name(name) => Ok(StatementState::Arguments(nothing_yet(
             alloc,
             line,
@@ -61,21 +61,21 @@ fn rep_step(
     }
 }
 
-/// A symbol behind an instruction's name.
+/// A terminal behind an instruction's name.
 fn instruction_step(
     alloc: Global,
     scope: &mut Scope,
     line: u32,
     name: Name,
-    symbol: Terminal,
+    terminal: Terminal,
 ) -> Result<StatementState, StepFault>
-    ensures { spec.Does scope.new result (spec.instruction_step scope.old line name symbol) }
+    ensures { spec.Does scope.new result (spec.instruction_step scope.old line name terminal) }
 {
     if is_rep(&name) {
-        rep_step(alloc, scope, line, symbol)
+        rep_step(alloc, scope, line, terminal)
     } else {
         let head = Head::Instruction { rep: false, name };
-        argument_step(alloc, scope, nothing_yet(alloc, line, head), symbol)
+        argument_step(alloc, scope, nothing_yet(alloc, line, head), terminal)
     }
 }
 
@@ -86,10 +86,10 @@ fn is_passed(scope: &Scope, name: &Name) -> bool
     scope.is_skipping() && !changes_section(name)
 }
 
-fn section_name(line: u32, name: Name, symbol: Terminal) -> Result<StatementState, StepFault>
-    ensures { spec.Makes result (spec.section_name line name symbol) }
+fn section_name(line: u32, name: Name, terminal: Terminal) -> Result<StatementState, StepFault>
+    ensures { spec.Makes result (spec.section_name line name terminal) }
 {
-    match symbol {
+    match terminal {
         Terminal::Name(section) => {
             if is_section(&section) {
                 Ok(StatementState::Sectioned(line, name, section, 0))
@@ -101,24 +101,24 @@ fn section_name(line: u32, name: Name, symbol: Terminal) -> Result<StatementStat
     }
 }
 
-/// A symbol behind a directive's name.
+/// A terminal behind a directive's name.
 fn directive_step(
     alloc: Global,
     scope: &mut Scope,
     line: u32,
     name: Name,
-    symbol: Terminal,
+    terminal: Terminal,
 ) -> Result<StatementState, StepFault>
-    ensures { spec.Does scope.new result (spec.directive_step scope.old line name symbol) }
+    ensures { spec.Does scope.new result (spec.directive_step scope.old line name terminal) }
 {
     match directive_named(&name) {
         None => Err(StepFault::Cause(SourceCause::UnknownDirective)),
         Some(kind) => match kind {
-            Directive::Skipped => Ok(skip(symbol)),
-            Directive::Section => section_name(line, name, symbol),
+            Directive::Skipped => Ok(skip(terminal)),
+            Directive::Section => section_name(line, name, terminal),
             _ => {
                 let head = Head::Directive { kind, name };
-                argument_step(alloc, scope, nothing_yet(alloc, line, head), symbol)
+                argument_step(alloc, scope, nothing_yet(alloc, line, head), terminal)
             }
         },
     }
@@ -159,10 +159,10 @@ fn unless_skipping(skipping: bool, cause: SourceCause) -> Result<StatementState,
     }
 }
 
-fn start_step(scope: &Scope, line: u32, symbol: Terminal) -> Result<StatementState, StepFault>
-    ensures { spec.Makes result (spec.start_step scope.now line symbol) }
+fn start_step(scope: &Scope, line: u32, terminal: Terminal) -> Result<StatementState, StepFault>
+    ensures { spec.Makes result (spec.start_step scope.now line terminal) }
 {
-    match symbol {
+    match terminal {
         Terminal::End => Ok(StatementState::Start),
         Terminal::Name(name) => Ok(StatementState::Named(line, name)),
         Terminal::Big => unless_skipping(scope.is_skipping(), SourceCause::BadNumber),
@@ -186,22 +186,22 @@ fn colon_behind(
     }
 }
 
-/// Another symbol behind a name.
+/// Another terminal behind a name.
 fn other_behind(
     alloc: Global,
     scope: &mut Scope,
     begun: u32,
     name: Name,
-    symbol: Terminal,
+    terminal: Terminal,
 ) -> Result<StatementState, StepFault>
-    ensures { spec.Does scope.new result (spec.other_behind scope.old begun name symbol) }
+    ensures { spec.Does scope.new result (spec.other_behind scope.old begun name terminal) }
 {
     if is_passed(scope, &name) {
-        Ok(skip(symbol))
+        Ok(skip(terminal))
     } else if is_dotted(&name) {
-        directive_step(alloc, scope, begun, name, symbol)
+        directive_step(alloc, scope, begun, name, terminal)
     } else {
-        instruction_step(alloc, scope, begun, name, symbol)
+        instruction_step(alloc, scope, begun, name, terminal)
     }
 }
 
@@ -210,28 +210,28 @@ fn named_step(
     scope: &mut Scope,
     begun: u32,
     name: Name,
-    symbol: Terminal,
+    terminal: Terminal,
 ) -> Result<StatementState, StepFault>
-    ensures { spec.Does scope.new result (spec.named_step scope.old begun name symbol) }
+    ensures { spec.Does scope.new result (spec.named_step scope.old begun name terminal) }
 {
-    match symbol {
+    match terminal {
         Terminal::Colon => colon_behind(alloc, scope, begun, name),
         other => other_behind(alloc, scope, begun, name, other),
     }
 }
 
-/// A symbol behind a section's name.
+/// A terminal behind a section's name.
 fn sectioned_step(
     alloc: Global,
     scope: &mut Scope,
     begun: u32,
     name: Name,
     named: Name,
-    symbol: Terminal,
+    terminal: Terminal,
 ) -> Result<StatementState, StepFault>
-    ensures { spec.Does scope.new result (spec.sectioned_step scope.old begun name named symbol) }
+    ensures { spec.Does scope.new result (spec.sectioned_step scope.old begun name named terminal) }
 {
-    match symbol {
+    match terminal {
         Terminal::End => section(alloc, scope, begun, name, named),
         Terminal::Comma => Ok(StatementState::Flags(begun, name, named)),
         Terminal::Big => Err(StepFault::Cause(SourceCause::BadNumber)),
@@ -239,28 +239,28 @@ fn sectioned_step(
     }
 }
 
-/// A symbol behind a section's name and a comma.
+/// A terminal behind a section's name and a comma.
 fn flags_step(
     alloc: Global,
     scope: &mut Scope,
     begun: u32,
     name: Name,
     named: Name,
-    symbol: Terminal,
+    terminal: Terminal,
 ) -> Result<StatementState, StepFault>
-    ensures { spec.Does scope.new result (spec.flags_step scope.old begun name named symbol) }
+    ensures { spec.Does scope.new result (spec.flags_step scope.old begun name named terminal) }
 {
-    match symbol {
+    match terminal {
         Terminal::End => section(alloc, scope, begun, name, named),
         _ => Ok(StatementState::Flags(begun, name, named)),
     }
 }
 
 /// The cause at a `%` that may not stand in its place, with what follows it.
-fn stray_cause(cause: SourceCause, symbol: &Terminal) -> SourceCause
-    ensures { result ≡ spec.stray_cause cause symbol.now }
+fn stray_cause(cause: SourceCause, terminal: &Terminal) -> SourceCause
+    ensures { result ≡ spec.stray_cause cause terminal.now }
 {
-    match symbol {
+    match terminal {
         Terminal::Name(name) => {
             if is_register(name) {
                 cause
@@ -272,27 +272,27 @@ fn stray_cause(cause: SourceCause, symbol: &Terminal) -> SourceCause
     }
 }
 
-/// The next symbol of a source.
+/// The next terminal of a source.
 pub fn step(
     alloc: Global,
     scope: &mut Scope,
     state: StatementState,
     line: u32,
-    symbol: Terminal,
+    terminal: Terminal,
 ) -> Result<StatementState, StepFault>
-    ensures { spec.Does scope.new result (spec.step scope.old state line symbol) }
+    ensures { spec.Does scope.new result (spec.step scope.old state line terminal) }
 {
     match state {
-        StatementState::Start => start_step(scope, line, symbol),
-        StatementState::Named(begun, name) => named_step(alloc, scope, begun, name, symbol),
-        StatementState::Skip => Ok(skip(symbol)),
+        StatementState::Start => start_step(scope, line, terminal),
+        StatementState::Named(begun, name) => named_step(alloc, scope, begun, name, terminal),
+        StatementState::Skip => Ok(skip(terminal)),
         StatementState::Sectioned(begun, name, named, _) => {
-            sectioned_step(alloc, scope, begun, name, named, symbol)
+            sectioned_step(alloc, scope, begun, name, named, terminal)
         }
         StatementState::Flags(begun, name, named) => flags_step(
-            alloc, scope, begun, name, named, symbol,
+            alloc, scope, begun, name, named, terminal,
         ),
-        StatementState::Stray(_, cause) => Err(StepFault::Cause(stray_cause(cause, &symbol))),
-        StatementState::Arguments(begun) => argument_step(alloc, scope, begun, symbol),
+        StatementState::Stray(_, cause) => Err(StepFault::Cause(stray_cause(cause, &terminal))),
+        StatementState::Arguments(begun) => argument_step(alloc, scope, begun, terminal),
     }
 }

@@ -1,5 +1,6 @@
 -- What is known of the items of every source that is read.
 use Rattle.std.specs.Prelude.{ℕ, ◌≤◌, List, [], ◌∷◌, length, fold, All, Option, Some, None}
+use Rattle.std.specs.Option.{option_to_list}
 use Rattle.std.specs.List.{flat_map}
 use Rattle.asm_lex.specs.declared.lexing.TheConstants.{LIMIT}
 use Rattle.asm_source.specs.declared.tree.Argument.{Argument}
@@ -9,12 +10,8 @@ use Rattle.asm_source.specs.declared.tree.SourceItem.{SourceItem}
 use Rattle.asm_source.specs.Names.{added, symbol_in}
 use Rattle.asm_source.specs.Size.{items_size, items_count}
 
-abbrev pub name_list : Option (List ℕ) → List (List ℕ)
-name_list None = []
-name_list (Some n) = n ∷ []
-
 abbrev pub argument_names : List Argument → List (List ℕ)
-argument_names args = flat_map (λ (a : Argument). name_list (symbol_in a.form)) args
+argument_names args = flat_map (λ (a : Argument). option_to_list (symbol_in a.form)) args
 
 -- the symbols that an item names, in its order
 abbrev pub body_names : Body → List (List ℕ)

@@ -1,6 +1,7 @@
 -- What is known of an instruction that is assembled: its row, where its fields stand, and which of them a branch has.
 use Rattle.std.proofs.Common.{◌≡◌, ℕ, ◌+◌, Bool, true, false, not, cond, ◌&&◌, ◌||◌, List, [], ◌∷◌, length, Option, Some, None, Result, Ok, Err, refl, sym, ap, subst, ◌∙◌, arith, inl, inr}
 use Rattle.std.specs.Prelude.{slice_get, ◌==◌, is_some, is_none}
+use Rattle.std.specs.Option.{option_or}
 use Rattle.std.specs.List.{list_all, Contains}
 use Rattle.std.proofs.lemmas.Bool.{eqb-true}
 use Rattle.std.proofs.lemmas.List.Sums.{AllPass-from_list_all}
@@ -31,7 +32,7 @@ use Rattle.asm_instruction.specs.declared.assembled.Assembled.{Assembled}
 use Rattle.asm_instruction.specs.declared.assembled.Named.{Named}
 use Rattle.asm_instruction.specs.declared.assembled.Refusal.{Refusal}
 use Rattle.asm_instruction.specs.declared.assembled.Refusal.TheVariants as refusal
-use Rattle.asm_instruction.specs.Names.{found, or_else, ◌>>=◌}
+use Rattle.asm_instruction.specs.Names.{found, ◌>>=◌}
 use Rattle.asm_instruction.specs.Argument.{general_register, special_register, named_register, displacement, address_register, is_dx, address, memory_operand, given_by, starred, single, unstarred, operands_of, argument_named, names_symbol}
 use Rattle.ia32_types.specs.declared.register.Reg.{Reg}
 use Rattle.ia32_types.specs.Register.{number_of}
@@ -135,7 +136,7 @@ not_bound : {A : Type 0} (o : Option A) (f : A → Given) → ((x : A) → NotMe
 not_bound None f h = tt
 not_bound (Some x) f h = h x
 
-not_or : (a b : Option Given) → NotMemory a → NotMemory b → NotMemory (or_else a b)
+not_or : (a b : Option Given) → NotMemory a → NotMemory b → NotMemory (option_or a b)
 not_or (Some g) b h k = h
 not_or None b h k = k
 
@@ -158,7 +159,7 @@ register_not : (name : List ℕ) → NotMemory (named_register name)
 unfolding named_register
 register_not name =
     not_or (general_register name) (special_register name)
-    (not_or (by_long name) (or_else (by_word name) (by_byte name)) (not_bound (found long_registers name) (λ r. given.Register size.Long (number_of r)) (λ r. tt))
+    (not_or (by_long name) (option_or (by_word name) (by_byte name)) (not_bound (found long_registers name) (λ r. given.Register size.Long (number_of r)) (λ r. tt))
     (not_or (by_word name) (by_byte name) (not_bound (found word_registers name) (λ n. given.Register size.Word n) (λ n. tt)) (not_bound (found byte_registers name) (λ n. given.Register size.Byte n) (λ n. tt))))
     (not_or (by_segment name) (by_control name) (not_bound (found segment_registers name) (λ s. given.Segment s) (λ s. tt)) (not_bound (found control_registers name) (λ n. given.Control n) (λ n. tt)))
 

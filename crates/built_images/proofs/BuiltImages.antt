@@ -25,7 +25,8 @@ use Rattle.image_check.specs.Accepts.{IsEntrance, IsWithin}
 use Rattle.image_check.proofs.SweepLaws.{sweep_exact}
 use Rattle.image_check.proofs.Acceptance.{sites_right, is_entrance_so, from_accepted}
 use Rattle.built_images.specs.Joined.{jump_to_itself, nops_at}
-use Rattle.built_images.specs.Chunks.{Coded, insn_in, IsCoded, Chunk, Alone, Pair, IsChunk, AreChunks, nops_behind, padding, chunk_text, chunks_text, chunk_sites, chunks_swept, Begins}
+use Rattle.afterburner.specs.Instructions.{nops_behind}
+use Rattle.built_images.specs.Chunks.{Coded, insn_in, IsCoded, Chunk, Alone, Pair, IsChunk, AreChunks, padding, chunk_text, chunks_text, chunk_sites, chunks_swept, Begins}
 use Rattle.built_images.specs.Built.{IsBuilt, LeadsRight, IsAcceptedButForTargets}
 use Rattle.built_images.proofs.SweepJoins.{jump_spelled}
 use Rattle.built_images.proofs.ChunkSites.{coded_spelled, whole_sweep, whole_sites}

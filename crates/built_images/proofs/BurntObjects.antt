@@ -31,8 +31,8 @@ use Rattle.afterburner.specs.declared.symbol.Binding.{Binding}
 use Rattle.afterburner.specs.declared.symbol.Binding.TheVariants as binding
 use Rattle.asm_source.specs.declared.directive_table.DirectiveName.{DirectiveName}
 use Rattle.asm_source.specs.declared.directive_table.DirectiveName.TheVariants as directive
-use Rattle.afterburner.specs.declared.value.Width.{Width}
-use Rattle.afterburner.specs.declared.value.Width.TheVariants as width
+use Rattle.ia32_types.specs.declared.size.Size.{Size}
+use Rattle.ia32_types.specs.declared.size.Size.TheVariants as size
 use Rattle.afterburner.specs.declared.fault.BurnCause.{BurnCause}
 use Rattle.afterburner.specs.declared.fault.BurnCause.TheVariants as cause
 use Rattle.afterburner.specs.ObjectSoFar.{ObjectSoFar, undefined, fresh}
@@ -134,13 +134,13 @@ module _ (Plain : Type 0) where
   in_init_made : (st next new : ObjectSoFar) (cs : List Chunk) → IsMade Plain next cs → in_init st next ≡ Ok new → Made Plain new
   in_init_made st next new cs h e = (cs, subst (λ (x : ObjectSoFar). IsMade Plain x cs) (or_ok (is_init st.section) cause.DataInText next new e) h)
 
-  numbers_made : (st new : ObjectSoFar) (cs : List Chunk) (w : Width) (args : List Argument) → st.after_sti ≡ false → IsMade Plain st cs → numbers st w args ≡ Ok new → Made Plain new
+  numbers_made : (st new : ObjectSoFar) (cs : List Chunk) (w : Size) (args : List Argument) → st.after_sti ≡ false → IsMade Plain st cs → numbers st w args ≡ Ok new → Made Plain new
   unfolding numbers
   numbers_made st new cs w args e h is = in_init_made st (record st { init = st.init ++ values w args }) new cs (init_made st cs (st.init ++ values w args) e h) (if_ok (not (all_fit w args)) cause.ValueRange (in_init st (record st { init = st.init ++ values w args })) new is)
 
   longs_is : (names : List (List ℕ)) (st new : ObjectSoFar) (cs : List Chunk) (args : List Argument) → st.after_sti ≡ false → IsMade Plain st cs → longs names st args ≡ Ok new → Made Plain new
   unfolding longs
-  longs_is names st new cs args e h is = in_init_made st (fold (with_long names) st args) new cs (longs_made names st cs args e h) (if_ok (not (all_fit width.Long args)) cause.ValueRange (in_init st (fold (with_long names) st args)) new is)
+  longs_is names st new cs args e h is = in_init_made st (fold (with_long names) st args) new cs (longs_made names st cs args e h) (if_ok (not (all_fit size.Long args)) cause.ValueRange (in_init st (fold (with_long names) st args)) new is)
 
   strings_made : (st new : ObjectSoFar) (cs : List Chunk) (ended : Bool) (args : List Argument) → st.after_sti ≡ false → IsMade Plain st cs → strings st ended args ≡ Ok new → Made Plain new
   unfolding strings
@@ -176,8 +176,8 @@ module _ (Plain : Type 0) where
   directed_made names st new cs directive.Section args e h is = made_as (entered st (section_named (text_at args 0) st.section)) new cs (section_made st cs (section_named (text_at args 0) st.section) e h) is
   directed_made names st new cs directive.Global args e h is = made_as (bound names st (symbol_at args 0) binding.Global) new cs (bound_made names st cs (symbol_at args 0) binding.Global e h) is
   directed_made names st new cs directive.Local args e h is = made_as (bound names st (symbol_at args 0) binding.Local) new cs (bound_made names st cs (symbol_at args 0) binding.Local e h) is
-  directed_made names st new cs directive.Bytes args e h is = numbers_made st new cs width.Byte args e h is
-  directed_made names st new cs directive.Shorts args e h is = numbers_made st new cs width.Short args e h is
+  directed_made names st new cs directive.Bytes args e h is = numbers_made st new cs size.Byte args e h is
+  directed_made names st new cs directive.Shorts args e h is = numbers_made st new cs size.Word args e h is
   directed_made names st new cs directive.Longs args e h is = longs_is names st new cs args e h is
   directed_made names st new cs directive.Ascii args e h is = strings_made st new cs false args e h is
   directed_made names st new cs directive.Asciz args e h is = strings_made st new cs true args e h is

@@ -28,9 +28,9 @@ use Rattle.ia32_types.specs.declared.size.Size.TheVariants as size
 use Rattle.asm_instruction.specs.Field.{field}
 use Rattle.asm_instruction.specs.Control.{distance}
 use Rattle.afterburner.specs.Sections.{is_text}
-use Rattle.afterburner.specs.Instructions.{nops, padding as burnt_padding, site_at, reloc_of, field_reloc, is_sti, is_hlt, added, pair_site, no_site, paired, placed, in_text, instruction}
+use Rattle.afterburner.specs.Instructions.{nops, nops_behind, site_at, reloc_of, field_reloc, is_sti, is_hlt, added, pair_site, no_site, paired, placed, in_text, instruction}
 use Rattle.image_check.specs.Pieces.{is_branch}
-use Rattle.built_images.specs.Chunks.{Coded, insn_in, Chunk, Alone, Pair, IsChunk, AreChunks, nops_behind, padding, chunk_text, chunks_text, site_by, chunk_site, chunk_sites}
+use Rattle.built_images.specs.Chunks.{Coded, insn_in, Chunk, Alone, Pair, IsChunk, AreChunks, padding, chunk_text, chunks_text, site_by, chunk_site, chunk_sites}
 use Rattle.built_images.specs.Filled.{IsField, HasFields, HaveFields, reloc_later, chunk_relocs, chunks_relocs}
 use Rattle.built_images.specs.Padded.{IsEdge, IsLinkedBranch, IsAlone, AreAlone}
 use Rattle.built_images.specs.Sources.{NamesNoNumber}
@@ -170,10 +170,6 @@ module _ (Plain : Type 0) where
 
   -- ---- an instruction
 
-  padding_same : (o : Option SiteKind) (len : ℕ) → burnt_padding o len ≡ nops_behind o len
-  padding_same None len = refl
-  padding_same (Some k) len = refl
-
   site_same : (at len : ℕ) (o : Option SiteKind) → site_at at o len ≡ site_by at len o
   site_same at len None = refl
   site_same at len (Some k) = refl
@@ -262,15 +258,15 @@ module _ (Plain : Type 0) where
       let c = made_coded names args a f in
       let kind = kind_same names args a f in
       let len = f.len in
-      let pad : padding c ≡ burnt_padding (sensitive_kind a.insn) a.spelling.len =
-      ap (λ o. nops_behind o (length (spelling_bytes a))) kind ∙ ap (nops_behind (sensitive_kind a.insn)) len ∙ sym (padding_same (sensitive_kind a.insn) a.spelling.len) in
+      let pad : padding c ≡ nops_behind (sensitive_kind a.insn) a.spelling.len =
+      ap (λ o. nops_behind o (length (spelling_bytes a))) kind ∙ ap (nops_behind (sensitive_kind a.insn)) len in
       let at : 0 + length (chunks_text cs) ≡ length st.text = ap (λ bs. 0 + length bs) (sym h.text) ∙ (omega arith) in
       record {
         read = by_chunk_join IsReadChunk cs (Alone c ∷ []) h.read (record { listed = f.listed; read = f.read }, tt);
         fields = by_chunk_join HasFields cs (Alone c ∷ []) h.fields (coded_fields names args a f, tt);
         branches = by_chunk_join IsLinkedBranch cs (Alone c ∷ []) h.branches (coded_branch names args a f, tt);
         text =
-            append_assoc st.text (spelling_bytes a) (nops (burnt_padding (sensitive_kind a.insn) a.spelling.len))
+            append_assoc st.text (spelling_bytes a) (nops (nops_behind (sensitive_kind a.insn) a.spelling.len))
             ∙ ap (λ n. st.text ++ (spelling_bytes a ++ nops n)) (sym pad)
             ∙ ap (λ bs. bs ++ chunk_text (Alone c)) h.text
             ∙ ap (λ bs. chunks_text cs ++ bs) (sym (append-nil (chunk_text (Alone c))))

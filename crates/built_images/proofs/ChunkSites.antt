@@ -17,7 +17,8 @@ use Rattle.image_check.specs.Sweep.{SweepsTo, Sweep}
 use Rattle.image_check.specs.Pieces.{is_branch, is_nop, target_of, site_role, role_of, piece_of}
 use Rattle.image_check.specs.TextSites.{has_nops, has_hlt, is_sti, by_role, single, pair, begun_by, Found, with_site, found_by, found_behind, unless_lacking, sites_of}
 use Rattle.built_images.specs.Joined.{sti, hlt, nops_at}
-use Rattle.built_images.specs.Chunks.{Coded, insn_in, IsCoded, Chunk, Alone, Pair, IsChunk, AreChunks, nops_behind, padding, chunk_text, chunks_text, site_by, chunk_site, chunk_sites, chunk_swept, chunks_swept}
+use Rattle.afterburner.specs.Instructions.{nops_behind}
+use Rattle.built_images.specs.Chunks.{Coded, insn_in, IsCoded, Chunk, Alone, Pair, IsChunk, AreChunks, padding, chunk_text, chunks_text, site_by, chunk_site, chunk_sites, chunk_swept, chunks_swept}
 use Rattle.built_images.proofs.SweepJoins.{to_append, one_sweeps, nops_sweep, sti_spelled, hlt_spelled}
 use Rattle.built_images.proofs.Sensitive.{branch_plain, nop_plain, sti_bytes}
 

@@ -1,6 +1,7 @@
 -- Of the instructions that statements mean, the direct branches are those that name a symbol alone.
 use Rattle.std.proofs.Common.{◌≡◌, ℕ, ◌-◌, Bool, true, false, not, cond, ◌&&◌, List, [], ◌∷◌, length, take, Option, Some, None, refl, sym, ap, subst, ◌∙◌, inl, inr, ◌⊎◌}
 use Rattle.std.specs.Prelude.{slice_index, ◌==◌}
+use Rattle.std.specs.Option.{option_or}
 use Rattle.std.specs.List.{list_all}
 use Rattle.std.specs.Str.{bytes_eq}
 use Rattle.ia32_types.specs.declared.insn.Op.{Op}
@@ -24,7 +25,7 @@ use Rattle.asm_instruction.specs.declared.moves.Moves.TheVariants as moves
 use Rattle.asm_instruction.specs.declared.control.Control.{Control}
 use Rattle.asm_instruction.specs.declared.control.Control.TheVariants as control
 use Rattle.asm_instruction.specs.declared.system.System.TheVariants as system
-use Rattle.asm_instruction.specs.Names.{Table, found, or_else, ◌>>=◌}
+use Rattle.asm_instruction.specs.Names.{Table, found, ◌>>=◌}
 use Rattle.asm_instruction.specs.Condition.{condition}
 use Rattle.asm_instruction.specs.Sizes.{agreed}
 use Rattle.asm_instruction.specs.Draft.{register_or_memory, said, instruction, with_number, alone, nothing}
@@ -36,7 +37,7 @@ use Rattle.asm_instruction.specs.Control.{branch_names, control_names, jump_name
 use Rattle.asm_instruction.specs.Strings.{string_names, string_draft}
 use Rattle.asm_instruction.specs.Flags.{plain_names, plain_draft}
 use Rattle.asm_instruction.specs.System.{system_names, page_names, system_draft}
-use Rattle.asm_instruction.specs.Mnemonic.{or_family, exact_instruction, exact_name, sized_name, suffix, suffixed, with_suffix, without_suffix, known_name, by_family, without_repeat, repeated, drafted}
+use Rattle.asm_instruction.specs.Mnemonic.{exact_instruction, exact_name, sized_name, suffix, suffixed, with_suffix, without_suffix, known_name, by_family, without_repeat, repeated, drafted}
 use Rattle.built_images.proofs.QuietDrafts.{IsQuiet, bound, quiet_arithmetic, quiet_instruction, quiet_moves, quiet_number, quiet_one, quiet_plain, quiet_shift, quiet_stack, quiet_string, quiet_system}
 
 -- ---- branches
@@ -189,7 +190,7 @@ found_fine (x ∷ table) name e = by_name (bytes_eq name x.0) (both (is_fine x.1
   by_name true h k = h
   by_name false h k = k
 
-or_fine : (a b : Option Family) → AllFine a → AllFine b → AllFine (or_else a b)
+or_fine : (a b : Option Family) → AllFine a → AllFine b → AllFine (option_or a b)
 or_fine (Some f) b h k = h
 or_fine None b h k = k
 
@@ -251,7 +252,7 @@ without_fine None m h k = k
 
 known_fine : (name : List ℕ) → MnemonicFine (known_name name)
 unfolding known_name
-known_fine name = without_fine (or_family (exact_name name) (sized_name name)) (with_suffix name) (or_fine _ _ (exact_fine name) (sized_fine name)) (with_suffix_fine name)
+known_fine name = without_fine (option_or (exact_name name) (sized_name name)) (with_suffix name) (or_fine _ _ (exact_fine name) (sized_fine name)) (with_suffix_fine name)
 
 fine_is : (o : Option Mnemonic) (m : Mnemonic) → o ≡ Some m → MnemonicFine o → is_fine m.family ≡ true
 fine_is None m e h = absurd cc

@@ -11,7 +11,8 @@ use Rattle.sites.specs.declared.site.Site.{Site}
 use Rattle.image_check.specs.Sweep.{Swept}
 use Rattle.image_check.specs.Accepts.{IsEntrance}
 use Rattle.built_images.specs.Joined.{nops_at}
-use Rattle.built_images.specs.Chunks.{Coded, insn_in, Chunk, Alone, Pair, AreChunks, nops_behind, padding, chunk_text, chunks_text, site_by, chunk_site, chunk_sites, chunk_swept, chunks_swept, Begins}
+use Rattle.afterburner.specs.Instructions.{nops_behind}
+use Rattle.built_images.specs.Chunks.{Coded, insn_in, Chunk, Alone, Pair, AreChunks, padding, chunk_text, chunks_text, site_by, chunk_site, chunk_sites, chunk_swept, chunks_swept, Begins}
 
 pub text_append : (a b : List Chunk) → chunks_text (a ++ b) ≡ chunks_text a ++ chunks_text b
 text_append a b = flat_map-append chunk_text a b

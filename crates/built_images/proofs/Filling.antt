@@ -14,7 +14,8 @@ use Rattle.ia32_rows.specs.Spelling.{insn_of}
 use Rattle.ia32_rows.specs.Spells.{SpellsBy}
 use Rattle.elf_form.specs.declared.object.Reloc.{Reloc}
 use Rattle.built_images.specs.Fields.{imm_size, disp_place, imm_place, with_disp, with_imm}
-use Rattle.built_images.specs.Chunks.{Coded, insn_in, IsCoded, Chunk, Alone, Pair, AreChunks, nops_behind, padding, chunk_text, chunks_text, site_by, chunk_site, chunk_sites}
+use Rattle.afterburner.specs.Instructions.{nops_behind}
+use Rattle.built_images.specs.Chunks.{Coded, insn_in, IsCoded, Chunk, Alone, Pair, AreChunks, padding, chunk_text, chunks_text, site_by, chunk_site, chunk_sites}
 use Rattle.built_images.specs.Filled.{IsField, HaveFields, reloc_later, chunks_relocs, fill, fill_at, MakesWords, IsFilledChunk, AreFilled}
 use Rattle.built_images.proofs.FieldLaws.{disp_law, imm_law, disp_held, imm_held}
 use Rattle.built_images.proofs.WordLaws.{written_among, read_among}

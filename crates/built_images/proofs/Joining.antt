@@ -10,7 +10,8 @@ use Rattle.ia32_rows.specs.Spells.{Spells}
 use Rattle.image_check.specs.Sweep.{Swept}
 use Rattle.image_check.specs.Pieces.{is_branch, target_of}
 use Rattle.built_images.specs.Joined.{nop, sti, hlt, jump_to_itself, nops_at}
-use Rattle.built_images.specs.Chunks.{Coded, insn_in, IsCoded, Chunk, Alone, Pair, AreChunks, nops_behind, padding, chunk_text, chunks_text, site_by, chunk_site, chunk_sites, chunk_swept, chunks_swept, Begins}
+use Rattle.afterburner.specs.Instructions.{nops_behind}
+use Rattle.built_images.specs.Chunks.{Coded, insn_in, IsCoded, Chunk, Alone, Pair, AreChunks, padding, chunk_text, chunks_text, site_by, chunk_site, chunk_sites, chunk_swept, chunks_swept, Begins}
 use Rattle.built_images.specs.Filled.{HasFields, HaveFields, chunk_relocs, chunks_relocs}
 use Rattle.built_images.specs.Padded.{IsEdge, IsLinkedBranch, IsAlone}
 use Rattle.built_images.proofs.SweepJoins.{nop_spelled, jump_spelled}

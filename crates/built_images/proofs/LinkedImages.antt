@@ -35,7 +35,8 @@ use Rattle.elf_link.specs.Linked.{texts, linked_text, linked_init, entry_at, ima
 use Rattle.image_check.specs.Sweep.{Swept}
 use Rattle.image_check.specs.Pieces.{target_of}
 use Rattle.built_images.specs.Joined.{jump_to_itself}
-use Rattle.built_images.specs.Chunks.{Coded, insn_in, IsCoded, Chunk, Alone, Pair, AreChunks, nops_behind, padding, chunk_text, chunks_text, site_by, chunk_site, chunk_sites, chunks_swept, Begins}
+use Rattle.afterburner.specs.Instructions.{nops_behind}
+use Rattle.built_images.specs.Chunks.{Coded, insn_in, IsCoded, Chunk, Alone, Pair, AreChunks, padding, chunk_text, chunks_text, site_by, chunk_site, chunk_sites, chunks_swept, Begins}
 use Rattle.built_images.specs.Filled.{chunks_relocs}
 use Rattle.built_images.specs.Padded.{IsEdge, IsPadded, ArePadded, AreAlone, AnyChunks}
 use Rattle.built_images.specs.Built.{IsBuilt, LeadsRight}

@@ -1,6 +1,6 @@
 -- Texts as burning makes them: instructions, of which the sensitive ones are followed by NOPs up to five bytes; and STI with
 -- HLT behind it.
-use Rattle.std.specs.Prelude.{◌≡◌, ℕ, ◌+◌, ◌-◌, max, List, [], ◌∷◌, ◌++◌, length, replicate, Option, Some, None}
+use Rattle.std.specs.Prelude.{◌≡◌, ℕ, ◌+◌, max, List, [], ◌∷◌, ◌++◌, length, replicate, Option, Some, None}
 use Rattle.std.specs.List.{flat_map, AllByRecursion, Contains}
 use Rattle.ia32_types.specs.declared.insn.Insn.{Insn}
 use Rattle.ia32_types.specs.declared.site.SiteKind.{SiteKind}
@@ -14,6 +14,7 @@ use Rattle.ia32_rows.specs.Rows.{rows}
 use Rattle.elf_form.specs.declared.object.Reloc.{Reloc}
 use Rattle.sites.specs.declared.site.Site.{Site}
 use Rattle.image_check.specs.Sweep.{Swept}
+use Rattle.afterburner.specs.Instructions.{nops_behind}
 use Rattle.built_images.specs.Joined.{sti, hlt, nops_at}
 
 -- an instruction by the row and the parts that spell it, its bytes, and the relocations of its fields, with places from its
@@ -44,10 +45,6 @@ abbrev pub AreChunks : List Chunk → Type 0
 AreChunks cs = AllByRecursion IsChunk cs
 
 -- how many NOPs follow
-abbrev pub nops_behind : Option SiteKind → ℕ → ℕ
-nops_behind None len = 0
-nops_behind (Some kind) len = 5 - len
-
 abbrev pub padding : Coded → ℕ
 padding c = nops_behind (sensitive_kind (insn_in c)) (length c.bytes)
 

@@ -1,7 +1,7 @@
 //! A token as the grammar sees it.
 
 ghost use Rattle.std.specs.Prelude.{◌≡◌, IfOk};
-ghost use Rattle.asm_argument.specs.Symbols as spec;
+ghost use Rattle.asm_argument.specs.Terminals as spec;
 
 use crate::escapes::string_bytes;
 use crate::number::number_value;
@@ -29,8 +29,8 @@ pub enum Terminal {
     End,
 }
 
-fn mark_symbol(m: u8) -> Terminal
-    ensures { result ≡ spec.mark_symbol m }
+fn mark_terminal(m: u8) -> Terminal
+    ensures { result ≡ spec.mark_terminal m }
 {
     if m == b'$' {
         Terminal::Dollar
@@ -55,8 +55,8 @@ fn mark_symbol(m: u8) -> Terminal
     }
 }
 
-fn number_symbol(bytes: &[u8]) -> Terminal
-    ensures { result ≡ spec.number_symbol (spec.number_value bytes.now) }
+fn number_terminal(bytes: &[u8]) -> Terminal
+    ensures { result ≡ spec.number_terminal (spec.number_value bytes.now) }
 {
     match number_value(bytes) {
         Some(n) => Terminal::Number(n),
@@ -65,18 +65,18 @@ fn number_symbol(bytes: &[u8]) -> Terminal
 }
 
 /// A token as the grammar sees it.
-pub fn symbol_of(alloc: Global, kind: TokenKind, bytes: &[u8]) -> Result<Terminal, AllocError>
-    ensures { IfOk result (λ s. s ≡ spec.symbol_of kind bytes.now) }
+pub fn terminal_of(alloc: Global, kind: TokenKind, bytes: &[u8]) -> Result<Terminal, AllocError>
+    ensures { IfOk result (λ s. s ≡ spec.terminal_of kind bytes.now) }
 {
     match kind {
         TokenKind::Name => Ok(Terminal::Name(Name {
             bytes: Vec::from_slice(alloc, bytes)?,
         })),
-        TokenKind::Number => Ok(number_symbol(bytes)),
+        TokenKind::Number => Ok(number_terminal(bytes)),
         TokenKind::Text => Ok(Terminal::Text(Name {
             bytes: string_bytes(alloc, bytes)?,
         })),
-        TokenKind::Mark(m) => Ok(mark_symbol(m)),
+        TokenKind::Mark(m) => Ok(mark_terminal(m)),
         TokenKind::End => Ok(Terminal::End),
     }
 }

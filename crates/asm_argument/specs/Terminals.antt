@@ -2,8 +2,8 @@
 use Rattle.std.specs.Prelude.{ℕ, ◌+◌, ◌-◌, ◌*◌, ◌^◌, ◌==◌, nat_lt, nat_le, List, [], ◌∷◌, if◌then◌else◌}
 use Rattle.asm_lex.specs.declared.token.TokenKind.{TokenKind}
 use Rattle.asm_lex.specs.declared.token.TokenKind.TheVariants as kind
-use Rattle.asm_argument.specs.declared.symbol.Terminal.{Terminal}
-use Rattle.asm_argument.specs.declared.symbol.Terminal.TheVariants as symbol
+use Rattle.asm_argument.specs.declared.terminal.Terminal.{Terminal}
+use Rattle.asm_argument.specs.declared.terminal.Terminal.TheVariants as terminal
 use Rattle.asm_argument.specs.Escapes.{string_text, opening}
 
 abbrev pub digit_of : ℕ → ℕ
@@ -25,26 +25,26 @@ abbrev pub number_value : List ℕ → ℕ
 number_value [] = 0
 number_value (b ∷ bs) = tail_value b bs
 
-abbrev pub mark_symbol : ℕ → Terminal
-mark_symbol m =
-    if m == 36 then symbol.Dollar
-    else if m == 37 then symbol.Percent
-    else if m == 40 then symbol.Open
-    else if m == 41 then symbol.Close
-    else if m == 42 then symbol.Star
-    else if m == 43 then symbol.Plus
-    else if m == 44 then symbol.Comma
-    else if m == 45 then symbol.Minus
-    else if m == 58 then symbol.Colon
-    else symbol.At
+abbrev pub mark_terminal : ℕ → Terminal
+mark_terminal m =
+    if m == 36 then terminal.Dollar
+    else if m == 37 then terminal.Percent
+    else if m == 40 then terminal.Open
+    else if m == 41 then terminal.Close
+    else if m == 42 then terminal.Star
+    else if m == 43 then terminal.Plus
+    else if m == 44 then terminal.Comma
+    else if m == 45 then terminal.Minus
+    else if m == 58 then terminal.Colon
+    else terminal.At
 
-abbrev pub number_symbol : ℕ → Terminal
-number_symbol n = if nat_lt n (2 ^ 32) then symbol.Number n else symbol.Big
+abbrev pub number_terminal : ℕ → Terminal
+number_terminal n = if nat_lt n (2 ^ 32) then terminal.Number n else terminal.Big
 
 -- a token as the grammar sees it
-abbrev pub symbol_of : TokenKind → List ℕ → Terminal
-symbol_of kind.Name bytes = symbol.Name bytes
-symbol_of kind.Number bytes = number_symbol (number_value bytes)
-symbol_of kind.Text bytes = symbol.Text (string_text opening bytes)
-symbol_of (kind.Mark m) bytes = mark_symbol m
-symbol_of kind.End bytes = symbol.End
+abbrev pub terminal_of : TokenKind → List ℕ → Terminal
+terminal_of kind.Name bytes = terminal.Name bytes
+terminal_of kind.Number bytes = number_terminal (number_value bytes)
+terminal_of kind.Text bytes = terminal.Text (string_text opening bytes)
+terminal_of (kind.Mark m) bytes = mark_terminal m
+terminal_of kind.End bytes = terminal.End
