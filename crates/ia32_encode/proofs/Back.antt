@@ -9,7 +9,7 @@ use Rattle.ia32_types.specs.declared.register.Reg.TheVariants as reg
 use Rattle.ia32_types.specs.declared.insn.Address.{Address}
 use Rattle.ia32_types.specs.declared.insn.Operand.{Operand}
 use Rattle.ia32_types.specs.declared.insn.Operand.TheVariants as operand
-use Rattle.ia32_types.specs.Register.{number_of}
+use Rattle.ia32_types.specs.Register.{number_of, numbered_register}
 use Rattle.ia32_rows.specs.declared.row.RmForm.{RmForm}
 use Rattle.ia32_rows.specs.declared.row.RmForm.TheVariants as place
 use Rattle.ia32_rows.specs.declared.row.Addressing.{Addressing}
@@ -23,7 +23,7 @@ use Rattle.ia32_rows.specs.declared.row.Located.{Located}
 use Rattle.ia32_rows.specs.declared.row.Form.{Form}
 use Rattle.ia32_rows.specs.declared.row.Parts.{Parts}
 use Rattle.ia32_rows.specs.Reader.{Reading, and_then, ◌>>=◌, success, byte_where, word_at, long_at}
-use Rattle.ia32_rows.specs.Fields.{register, extended, mod_of, reg_of, rm_of, base_of, sib_of, base_at, disp_at, memory_at, rm_at, has_slash, has_place, has_modrm, addressing_at, immediate_at}
+use Rattle.ia32_rows.specs.Fields.{extended, mod_of, reg_of, rm_of, base_of, sib_of, base_at, disp_at, memory_at, rm_at, has_slash, has_place, has_modrm, addressing_at, immediate_at}
 use Rattle.ia32_rows.specs.Spelling.{has_code, lead_at, coded_at, parts_at}
 use Rattle.ia32_rows.proofs.Readers.{read, tested}
 use Rattle.ia32_rows.proofs.Fields.{both}
@@ -72,7 +72,7 @@ pub index_below : (index : Option Reg) → index_number index < 8
 index_below None = omega arith
 index_below (Some r) = number_below r
 
-register_back : (r : Reg) → register (number_of r) ≡ r
+register_back : (r : Reg) → numbered_register (number_of r) ≡ r
 register_back reg.Eax = refl
 register_back reg.Ecx = refl
 register_back reg.Edx = refl

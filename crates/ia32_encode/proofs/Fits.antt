@@ -6,7 +6,7 @@ use Rattle.std.proofs.lemmas.Bool.{eqb-true, eq-eqb, lt-ltb}
 use Rattle.ia32_types.specs.declared.insn.Address.{Address}
 use Rattle.ia32_types.specs.declared.insn.Operand.{Operand}
 use Rattle.ia32_types.specs.declared.insn.Operand.TheVariants as operand
-use Rattle.ia32_types.specs.Register.{number_of}
+use Rattle.ia32_types.specs.Register.{number_of, numbered_register}
 use Rattle.ia32_rows.specs.declared.row.RmForm.{RmForm}
 use Rattle.ia32_rows.specs.declared.row.RmForm.TheVariants as place
 use Rattle.ia32_rows.specs.declared.row.Addressing.{Addressing}
@@ -18,7 +18,7 @@ use Rattle.ia32_rows.specs.declared.row.Located.{Located}
 use Rattle.ia32_rows.specs.declared.row.Form.{Form}
 use Rattle.ia32_rows.specs.declared.row.Parts.{Parts}
 use Rattle.ia32_rows.specs.Reader.{Reader, ◌>>=◌, success, byte_where, byte_at, word_at, long_at}
-use Rattle.ia32_rows.specs.Fields.{register, extended, mod_of, reg_of, rm_of, base_of, sib_of, base_at, disp_at, memory_at, rm_at, has_slash, has_place, has_modrm, addressing_at, immediate_at}
+use Rattle.ia32_rows.specs.Fields.{extended, mod_of, reg_of, rm_of, base_of, sib_of, base_at, disp_at, memory_at, rm_at, has_slash, has_place, has_modrm, addressing_at, immediate_at}
 use Rattle.ia32_rows.specs.Spelling.{has_code, lead_at, coded_at, parts_at}
 use Rattle.ia32_rows.specs.Spells.{AreBytes}
 use Rattle.ia32_rows.proofs.Readers.{Reads, and_then_ok, test_met, read, same_read}
@@ -86,7 +86,7 @@ immediate_read immediate.Far bytes imm sel rest e h = refl
 
 -- ---- memory operands
 
-register_number : (i : ℕ) → i < 8 → number_of (register i) ≡ i
+register_number : (i : ℕ) → i < 8 → number_of (numbered_register i) ≡ i
 register_number zero h = refl
 register_number (suc zero) h = refl
 register_number (suc (suc zero)) h = refl
@@ -113,9 +113,9 @@ sib_fits mode s true e h = rw e refl
 sib_fits mode s false e h =
     let k : s / 64 < 4 = omega arith in
     let i : s / 8 % 8 < 8 = omega arith in
-    let f : base_fits (record { base = base_of mode (s % 8); index = Some (register (s / 8 % 8)); scale = 2 ^ (s / 64) }) ≡ true =
+    let f : base_fits (record { base = base_of mode (s % 8); index = Some (numbered_register (s / 8 % 8)); scale = 2 ^ (s / 64) }) ≡ true =
     both_true (ap (λ n. not (n == 4)) (register_number (s / 8 % 8) i) ∙ ap not e) (scale_fits (s / 64) k) in
-    subst (λ t. base_fits (cond t (record { base = base_of mode (s % 8); index = None; scale = 1 }) (record { base = base_of mode (s % 8); index = Some (register (s / 8 % 8)); scale = 2 ^ (s / 64) })) ≡ true) (sym e) f
+    subst (λ t. base_fits (cond t (record { base = base_of mode (s % 8); index = None; scale = 1 }) (record { base = base_of mode (s % 8); index = Some (numbered_register (s / 8 % 8)); scale = 2 ^ (s / 64) })) ≡ true) (sym e) f
 
 base_read : (m : ℕ) (t : Bool) → (rm_of m == 4) ≡ t → (bytes : List ℕ) (b : Base) (rest : List ℕ) → base_at m bytes ≡ Ok (b, rest) → AreBytes bytes → base_fits b ≡ true
 unfolding base_at
