@@ -5,6 +5,8 @@ use Rattle.std.proofs.lemmas.List.{length-append, take_at, drop_at}
 use Rattle.ia32_types.specs.declared.insn.Insn.{Insn}
 use Rattle.ia32_types.specs.declared.insn.Operand.{Operand}
 use Rattle.ia32_types.specs.declared.insn.Operand.TheVariants as operand
+use Rattle.ia32_types.specs.declared.size.Size.TheVariants as size
+use Rattle.ia32_types.specs.Bits.{sign_extended}
 use Rattle.ia32_rows.specs.declared.row.Row.{Row}
 use Rattle.ia32_rows.specs.declared.row.Parts.{Parts}
 use Rattle.ia32_rows.specs.declared.row.Immediate.{Immediate}
@@ -14,7 +16,7 @@ use Rattle.ia32_rows.specs.declared.row.Plus.TheVariants as plus
 use Rattle.ia32_rows.specs.declared.row.Operands.{Operands}
 use Rattle.ia32_rows.specs.declared.row.Operands.TheVariants as operands
 use Rattle.ia32_rows.specs.Reader.{success, byte_at, word_at, long_at}
-use Rattle.ia32_rows.specs.Fields.{extended, addressing_at, immediate_at, imm_len}
+use Rattle.ia32_rows.specs.Fields.{addressing_at, immediate_at, imm_len}
 use Rattle.ia32_rows.specs.Spelling.{parts_at, operands_of, in_order, sel_of, repeats, insn_of}
 use Rattle.ia32_rows.specs.Spells.{AreBytes, SpellsBy}
 use Rattle.ia32_rows.specs.Pieces.{IsLaidOut}
@@ -104,8 +106,8 @@ imm_size_is immediate.Byte bytes n sel e =
     let z = no_bytes (r.0, 0) r.1 n sel r.3 in
     one_byte bytes r.1 r.0 r.2 ∙ ap (λ (k : ℕ). 1 + k) z
 imm_size_is immediate.SignedByte bytes n sel e =
-    let r = and_then_ok (byte_at bytes) (λ b. success (pair (extended b) 0)) (n, sel) [] e in
-    let z = no_bytes (extended r.0, 0) r.1 n sel r.3 in
+    let r = and_then_ok (byte_at bytes) (λ b. success (pair (sign_extended 32 size.Byte b) 0)) (n, sel) [] e in
+    let z = no_bytes (sign_extended 32 size.Byte r.0, 0) r.1 n sel r.3 in
     one_byte bytes r.1 r.0 r.2 ∙ ap (λ (k : ℕ). 1 + k) z
 imm_size_is immediate.Word bytes n sel e =
     let r = and_then_ok (word_at bytes) (λ k. success (pair k 0)) (n, sel) [] e in
