@@ -26,7 +26,8 @@ use Rattle.ia32_rows.proofs.Pieces.{in_pieces}
 use Rattle.image_check.proofs.SweepLaws.{AreBytes-drop}
 use Rattle.guest_ram.specs.Bytes.{word32, with_word32}
 use Rattle.std.specs.Int.{w32, to_le_bytes}
-use Rattle.built_images.specs.Fields.{imm_size, imm_place, disp_place, disp_of, moved, with_disp, with_imm, insn_disp, insn_imm}
+use Rattle.ia32_encode.specs.Text.{offset_of}
+use Rattle.built_images.specs.Fields.{imm_size, imm_place, disp_place, moved, with_disp, with_imm, insn_disp, insn_imm}
 use Rattle.built_images.proofs.Words.{IsWord, word_in, filled, word_of, filled_word, word_there, two_bytes, four_bytes, whole}
 use Rattle.built_images.proofs.ReadFields.{addressing_back, far_imm, imm_front, located, long_imm, pair}
 
@@ -126,13 +127,13 @@ imm_size_is immediate.Far bytes n sel e =
     let size = f.size in
     omega (arith, l, four, size)
 
-disp_placed : (row : Row) (p : Parts) (bytes : List ℕ) → p.disp_len ≡ 4 → IsLaidOut row.form p bytes → Placed row bytes (disp_place row bytes) (disp_of p.rm) (λ m. with_disp m p)
+disp_placed : (row : Row) (p : Parts) (bytes : List ℕ) → p.disp_len ≡ 4 → IsLaidOut row.form p bytes → Placed row bytes (disp_place row bytes) (offset_of p.rm) (λ m. with_disp m p)
 disp_placed row p bytes four o =
     let e : addressing_at row.form.addressing o.address ≡ Ok (located p.reg p.rm, []) = o.address_is ∙ ap (λ (n : ℕ). read (record { reg = p.reg; rm = p.rm; disp_len = n }) []) four in
     let a = addressing_back row.form.addressing o.address p.reg p.rm e in
     let size = imm_size_is row.form.immediate o.immediate p.imm p.sel o.immediate_is in
     let front = o.lead ++ (p.code ∷ a.front) in
-    let len4 = four_bytes a.word (disp_of p.rm) a.is in
+    let len4 = four_bytes a.word (offset_of p.rm) a.is in
     let split : bytes ≡ joined front a.word o.immediate =
     o.together ∙ ap (λ bs. o.lead ++ (p.code ∷ (bs ++ o.immediate))) a.parts
     ∙ ap (λ bs. o.lead ++ (p.code ∷ bs)) (append_assoc a.front a.word o.immediate)
@@ -288,13 +289,13 @@ module _ (row : Row) (p : Parts) (bytes : List ℕ) (insn : Insn) (listed : Cont
   number_in at held parts_with f = let h = held_in at held parts_with f in (h.0, word_there bytes at held h.1)
 
   pub disp_law : p.disp_len ≡ 4 → (n : ℕ) → n < 2 ^ 32 → SpellsBy row (with_disp n p) (with_word32 bytes (disp_place row bytes) n) (insn_disp n insn)
-  disp_law four n lt = number_with (disp_place row bytes) (disp_of p.rm) (λ m. with_disp m p) (insn_disp n insn) (disp_placed row p bytes four (laid row p bytes insn listed spelled)) n lt (disp_means row p insn n spelled.means)
+  disp_law four n lt = number_with (disp_place row bytes) (offset_of p.rm) (λ m. with_disp m p) (insn_disp n insn) (disp_placed row p bytes four (laid row p bytes insn listed spelled)) n lt (disp_means row p insn n spelled.means)
 
   pub imm_law : imm_len row.form.immediate ≡ 4 → (n : ℕ) → n < 2 ^ 32 → SpellsBy row (with_imm n p) (with_word32 bytes (imm_place row bytes) n) (insn_imm n insn)
   imm_law four n lt = number_with (imm_place row bytes) p.imm (λ m. with_imm m p) (insn_imm n insn) (imm_placed row p bytes four (laid row p bytes insn listed spelled)) n lt (imm_means row p insn n spelled.means)
 
-  pub disp_held : p.disp_len ≡ 4 → (disp_place row bytes + 4 ≤ length bytes) × (word32 bytes (disp_place row bytes) ≡ disp_of p.rm)
-  disp_held four = number_in (disp_place row bytes) (disp_of p.rm) (λ m. with_disp m p) (disp_placed row p bytes four (laid row p bytes insn listed spelled))
+  pub disp_held : p.disp_len ≡ 4 → (disp_place row bytes + 4 ≤ length bytes) × (word32 bytes (disp_place row bytes) ≡ offset_of p.rm)
+  disp_held four = number_in (disp_place row bytes) (offset_of p.rm) (λ m. with_disp m p) (disp_placed row p bytes four (laid row p bytes insn listed spelled))
 
   pub imm_held : imm_len row.form.immediate ≡ 4 → (imm_place row bytes + 4 ≤ length bytes) × (word32 bytes (imm_place row bytes) ≡ p.imm)
   imm_held four = number_in (imm_place row bytes) p.imm (λ m. with_imm m p) (imm_placed row p bytes four (laid row p bytes insn listed spelled))

@@ -18,7 +18,8 @@ use Rattle.ia32_rows.specs.Fields.{mod_of, reg_of, rm_of, has_modrm, base_at, di
 use Rattle.ia32_rows.proofs.Readers.{read, same_read, and_then_ok}
 use Rattle.ia32_rows.proofs.Fields.{base_reads}
 use Rattle.std.specs.Int.{w32, to_le_bytes}
-use Rattle.built_images.specs.Fields.{imm_size, disp_of, moved}
+use Rattle.ia32_encode.specs.Text.{offset_of}
+use Rattle.built_images.specs.Fields.{imm_size, moved}
 use Rattle.built_images.proofs.Words.{two_bytes, four_bytes, long_then, long_front}
 
 -- ---- the immediate comes first in what is read, and any number may
@@ -123,7 +124,7 @@ pub record AtBack {A : Type 0} (p : Reader A) (bytes : List ℕ) (rm : Operand) 
   pub front : List ℕ
   pub word : List ℕ
   pub parts : bytes ≡ front ++ word
-  pub is : long_at word ≡ Ok (disp_of rm, [])
+  pub is : long_at word ≡ Ok (offset_of rm, [])
   pub again : (other : List ℕ) (m : ℕ) → long_at other ≡ Ok (m, []) → p (front ++ other) ≡ Ok (value (moved m rm), [])
 
 abbrev operand_at : Base → ℕ → Operand

@@ -78,6 +78,7 @@ modrm_bytes reg len (operand.Register n) = modrm 3 reg n ∷ []
 modrm_bytes reg len (operand.Memory a) = memory_bytes reg len a
 modrm_bytes reg len _ = []
 
+-- an operand's displacement
 abbrev pub offset_of : Operand → ℕ
 offset_of (operand.Memory a) = a.disp
 offset_of _ = 0
