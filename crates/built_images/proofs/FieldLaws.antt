@@ -5,6 +5,8 @@ use Rattle.std.proofs.lemmas.List.{length-append, take_at, drop_at}
 use Rattle.ia32_types.specs.declared.insn.Insn.{Insn}
 use Rattle.ia32_types.specs.declared.insn.Operand.{Operand}
 use Rattle.ia32_types.specs.declared.insn.Operand.TheVariants as operand
+use Rattle.ia32_types.specs.declared.size.Size.TheVariants as size
+use Rattle.ia32_types.specs.Bits.{sign_extended}
 use Rattle.ia32_rows.specs.declared.row.Row.{Row}
 use Rattle.ia32_rows.specs.declared.row.Parts.{Parts}
 use Rattle.ia32_rows.specs.declared.row.Immediate.{Immediate}
@@ -14,7 +16,7 @@ use Rattle.ia32_rows.specs.declared.row.Plus.TheVariants as plus
 use Rattle.ia32_rows.specs.declared.row.Operands.{Operands}
 use Rattle.ia32_rows.specs.declared.row.Operands.TheVariants as operands
 use Rattle.ia32_rows.specs.Reader.{success, byte_at, word_at, long_at}
-use Rattle.ia32_rows.specs.Fields.{extended, addressing_at, immediate_at, imm_len}
+use Rattle.ia32_rows.specs.Fields.{addressing_at, immediate_at, imm_len}
 use Rattle.ia32_rows.specs.Spelling.{parts_at, operands_of, in_order, sel_of, repeats, insn_of}
 use Rattle.ia32_rows.specs.Spells.{AreBytes, SpellsBy}
 use Rattle.ia32_rows.specs.Pieces.{IsLaidOut}
@@ -24,7 +26,8 @@ use Rattle.ia32_rows.proofs.Pieces.{in_pieces}
 use Rattle.image_check.proofs.SweepLaws.{AreBytes-drop}
 use Rattle.guest_ram.specs.Bytes.{word32, with_word32}
 use Rattle.std.specs.Int.{w32, to_le_bytes}
-use Rattle.built_images.specs.Fields.{imm_size, imm_place, disp_place, disp_of, moved, with_disp, with_imm, insn_disp, insn_imm}
+use Rattle.ia32_encode.specs.Text.{offset_of}
+use Rattle.built_images.specs.Fields.{imm_size, imm_place, disp_place, moved, with_disp, with_imm, insn_disp, insn_imm}
 use Rattle.built_images.proofs.Words.{IsWord, word_in, filled, word_of, filled_word, word_there, two_bytes, four_bytes, whole}
 use Rattle.built_images.proofs.ReadFields.{addressing_back, far_imm, imm_front, located, long_imm, pair}
 
@@ -104,8 +107,8 @@ imm_size_is immediate.Byte bytes n sel e =
     let z = no_bytes (r.0, 0) r.1 n sel r.3 in
     one_byte bytes r.1 r.0 r.2 ∙ ap (λ (k : ℕ). 1 + k) z
 imm_size_is immediate.SignedByte bytes n sel e =
-    let r = and_then_ok (byte_at bytes) (λ b. success (pair (extended b) 0)) (n, sel) [] e in
-    let z = no_bytes (extended r.0, 0) r.1 n sel r.3 in
+    let r = and_then_ok (byte_at bytes) (λ b. success (pair (sign_extended 32 size.Byte b) 0)) (n, sel) [] e in
+    let z = no_bytes (sign_extended 32 size.Byte r.0, 0) r.1 n sel r.3 in
     one_byte bytes r.1 r.0 r.2 ∙ ap (λ (k : ℕ). 1 + k) z
 imm_size_is immediate.Word bytes n sel e =
     let r = and_then_ok (word_at bytes) (λ k. success (pair k 0)) (n, sel) [] e in
@@ -124,13 +127,13 @@ imm_size_is immediate.Far bytes n sel e =
     let size = f.size in
     omega (arith, l, four, size)
 
-disp_placed : (row : Row) (p : Parts) (bytes : List ℕ) → p.disp_len ≡ 4 → IsLaidOut row.form p bytes → Placed row bytes (disp_place row bytes) (disp_of p.rm) (λ m. with_disp m p)
+disp_placed : (row : Row) (p : Parts) (bytes : List ℕ) → p.disp_len ≡ 4 → IsLaidOut row.form p bytes → Placed row bytes (disp_place row bytes) (offset_of p.rm) (λ m. with_disp m p)
 disp_placed row p bytes four o =
     let e : addressing_at row.form.addressing o.address ≡ Ok (located p.reg p.rm, []) = o.address_is ∙ ap (λ (n : ℕ). read (record { reg = p.reg; rm = p.rm; disp_len = n }) []) four in
     let a = addressing_back row.form.addressing o.address p.reg p.rm e in
     let size = imm_size_is row.form.immediate o.immediate p.imm p.sel o.immediate_is in
     let front = o.lead ++ (p.code ∷ a.front) in
-    let len4 = four_bytes a.word (disp_of p.rm) a.is in
+    let len4 = four_bytes a.word (offset_of p.rm) a.is in
     let split : bytes ≡ joined front a.word o.immediate =
     o.together ∙ ap (λ bs. o.lead ++ (p.code ∷ (bs ++ o.immediate))) a.parts
     ∙ ap (λ bs. o.lead ++ (p.code ∷ bs)) (append_assoc a.front a.word o.immediate)
@@ -286,13 +289,13 @@ module _ (row : Row) (p : Parts) (bytes : List ℕ) (insn : Insn) (listed : Cont
   number_in at held parts_with f = let h = held_in at held parts_with f in (h.0, word_there bytes at held h.1)
 
   pub disp_law : p.disp_len ≡ 4 → (n : ℕ) → n < 2 ^ 32 → SpellsBy row (with_disp n p) (with_word32 bytes (disp_place row bytes) n) (insn_disp n insn)
-  disp_law four n lt = number_with (disp_place row bytes) (disp_of p.rm) (λ m. with_disp m p) (insn_disp n insn) (disp_placed row p bytes four (laid row p bytes insn listed spelled)) n lt (disp_means row p insn n spelled.means)
+  disp_law four n lt = number_with (disp_place row bytes) (offset_of p.rm) (λ m. with_disp m p) (insn_disp n insn) (disp_placed row p bytes four (laid row p bytes insn listed spelled)) n lt (disp_means row p insn n spelled.means)
 
   pub imm_law : imm_len row.form.immediate ≡ 4 → (n : ℕ) → n < 2 ^ 32 → SpellsBy row (with_imm n p) (with_word32 bytes (imm_place row bytes) n) (insn_imm n insn)
   imm_law four n lt = number_with (imm_place row bytes) p.imm (λ m. with_imm m p) (insn_imm n insn) (imm_placed row p bytes four (laid row p bytes insn listed spelled)) n lt (imm_means row p insn n spelled.means)
 
-  pub disp_held : p.disp_len ≡ 4 → (disp_place row bytes + 4 ≤ length bytes) × (word32 bytes (disp_place row bytes) ≡ disp_of p.rm)
-  disp_held four = number_in (disp_place row bytes) (disp_of p.rm) (λ m. with_disp m p) (disp_placed row p bytes four (laid row p bytes insn listed spelled))
+  pub disp_held : p.disp_len ≡ 4 → (disp_place row bytes + 4 ≤ length bytes) × (word32 bytes (disp_place row bytes) ≡ offset_of p.rm)
+  disp_held four = number_in (disp_place row bytes) (offset_of p.rm) (λ m. with_disp m p) (disp_placed row p bytes four (laid row p bytes insn listed spelled))
 
   pub imm_held : imm_len row.form.immediate ≡ 4 → (imm_place row bytes + 4 ≤ length bytes) × (word32 bytes (imm_place row bytes) ≡ p.imm)
   imm_held four = number_in (imm_place row bytes) p.imm (λ m. with_imm m p) (imm_placed row p bytes four (laid row p bytes insn listed spelled))

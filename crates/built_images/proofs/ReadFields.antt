@@ -5,6 +5,8 @@ use Rattle.std.specs.List.{Contains}
 use Rattle.std.proofs.lemmas.List.{append-nil}
 use Rattle.ia32_types.specs.declared.insn.Operand.{Operand}
 use Rattle.ia32_types.specs.declared.insn.Operand.TheVariants as operand
+use Rattle.ia32_types.specs.declared.size.Size.TheVariants as size
+use Rattle.ia32_types.specs.Bits.{sign_extended}
 use Rattle.ia32_rows.specs.declared.row.Base.{Base}
 use Rattle.ia32_rows.specs.declared.row.Located.{Located}
 use Rattle.ia32_rows.specs.declared.row.Addressing.{Addressing}
@@ -12,11 +14,12 @@ use Rattle.ia32_rows.specs.declared.row.Addressing.TheVariants as addressing
 use Rattle.ia32_rows.specs.declared.row.Immediate.{Immediate}
 use Rattle.ia32_rows.specs.declared.row.Immediate.TheVariants as immediate
 use Rattle.ia32_rows.specs.Reader.{Reader, and_then, ◌>>=◌, success, byte_at, byte_where, word_at, long_at}
-use Rattle.ia32_rows.specs.Fields.{mod_of, reg_of, rm_of, extended, has_modrm, base_at, disp_at, memory_at, rm_at, addressing_at, immediate_at, imm_len}
+use Rattle.ia32_rows.specs.Fields.{mod_of, reg_of, rm_of, has_modrm, base_at, disp_at, memory_at, rm_at, addressing_at, immediate_at, imm_len}
 use Rattle.ia32_rows.proofs.Readers.{read, same_read, and_then_ok}
 use Rattle.ia32_rows.proofs.Fields.{base_reads}
 use Rattle.std.specs.Int.{w32, to_le_bytes}
-use Rattle.built_images.specs.Fields.{imm_size, disp_of, moved}
+use Rattle.ia32_encode.specs.Text.{offset_of}
+use Rattle.built_images.specs.Fields.{imm_size, moved}
 use Rattle.built_images.proofs.Words.{two_bytes, four_bytes, long_then, long_front}
 
 -- ---- the immediate comes first in what is read, and any number may
@@ -91,7 +94,7 @@ pub record DispBack (p : Reader (ℕ × ℕ)) (bytes : List ℕ) (d : ℕ) : Typ
   pub again : (other : List ℕ) (m : ℕ) → long_at other ≡ Ok (m, []) → p other ≡ Ok ((m, 4), [])
 
 abbrev sized_by : Bool → Bool → Reader (ℕ × ℕ)
-sized_by z o = cond z (success (0, 0)) (cond o (byte_at >>= λ b. success (extended b, 1)) (long_at >>= λ k. success (k, 4)))
+sized_by z o = cond z (success (0, 0)) (cond o (byte_at >>= λ b. success (sign_extended 32 size.Byte b, 1)) (long_at >>= λ k. success (k, 4)))
 
 by_size : (z o : Bool) (bytes : List ℕ) (d : ℕ) → sized_by z o bytes ≡ Ok ((d, 4), []) → DispBack (sized_by z o) bytes d
 by_size true o bytes d e =
@@ -99,8 +102,8 @@ by_size true o bytes d e =
     let v = same_numbers 0 0 d 4 s.0 in
     absurd (omega (arith, v.1))
 by_size false true bytes d e =
-    let r = and_then_ok (byte_at bytes) (λ b. success (extended b, 1)) (d, 4) [] e in
-    let s = same_read (extended r.0, 1) (d, 4) r.1 [] r.3 in
+    let r = and_then_ok (byte_at bytes) (λ b. success (sign_extended 32 size.Byte b, 1)) (d, 4) [] e in
+    let s = same_read (sign_extended 32 size.Byte r.0, 1) (d, 4) r.1 [] r.3 in
     let v = ap (λ (q : ℕ × ℕ). q.1) s.0 in
     absurd (omega (arith, v))
 by_size false false bytes d e =
@@ -121,7 +124,7 @@ pub record AtBack {A : Type 0} (p : Reader A) (bytes : List ℕ) (rm : Operand) 
   pub front : List ℕ
   pub word : List ℕ
   pub parts : bytes ≡ front ++ word
-  pub is : long_at word ≡ Ok (disp_of rm, [])
+  pub is : long_at word ≡ Ok (offset_of rm, [])
   pub again : (other : List ℕ) (m : ℕ) → long_at other ≡ Ok (m, []) → p (front ++ other) ≡ Ok (value (moved m rm), [])
 
 abbrev operand_at : Base → ℕ → Operand

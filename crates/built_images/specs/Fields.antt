@@ -26,11 +26,7 @@ imm_place row bytes = length bytes - imm_size row.form.immediate
 abbrev pub disp_place : Row → List ℕ → ℕ
 disp_place row bytes = length bytes - imm_size row.form.immediate - 4
 
--- an operand's displacement, and the operand with another
-abbrev pub disp_of : Operand → ℕ
-disp_of (Memory m) = m.disp
-disp_of _ = 0
-
+-- an operand with another displacement
 abbrev pub moved : ℕ → Operand → Operand
 moved n (Memory m) = Memory (record m { disp = n })
 moved n x = x

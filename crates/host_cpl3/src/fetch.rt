@@ -1,7 +1,6 @@
 //! Reading the instruction at EIP.
 
 ghost use Rattle.std.specs.Prelude.{◌≡◌, ◌+◌, ◌*◌, ◌-◌, ◌/◌, ◌%◌, ◌<◌, ◌≤◌, ◌^◌, ◌++◌, length, List, ℕ, IfOk, MatchResult};
-ghost use Rattle.ia32_decode.specs.Front.{front_len};
 ghost use Rattle.ia32_rows.specs.Spells.{Spells};
 ghost use Rattle.host_cpl3.specs.Fetch.{fetching, fetched_on, fetched, spelled};
 ghost use Rattle.ia32_decode.specs.Spelled.{IsSpelled};
@@ -12,11 +11,8 @@ use crate::pages::page_met;
 use crate::walks::Walks;
 use arrayvec::ArrayVec;
 use guest_ram::Ram;
-use ia32_decode::{Decoded, decode};
+use ia32_decode::{Decoded, LONGEST, decode, front_len};
 use ia32_types::Insn;
-
-/// No instruction is longer.
-const LONGEST: u32 = 11;
 
 type Bytes = ArrayVec<u8, 32>;
 
@@ -41,14 +37,6 @@ pub fn fetch(walks: &mut Walks, ram: &Ram, root: u32, eip: u32) -> Result<Decode
             fetch_on(walks, ram, root, eip, front)
         }
     }
-}
-
-fn front_len(eip: u32) -> u32
-    ensures len { result ≡ front_len eip }
-    ensures few { result ≤ 11 }
-    ensures one { eip % 4096 + result ≤ 4096 }
-{
-    LONGEST.min(4096 - eip % 4096)
 }
 
 // With bytes of the second page too.

@@ -4,11 +4,13 @@
 mod answer;
 mod fields;
 mod form;
+mod front;
 mod index;
 mod laws;
 mod named;
 mod numbers;
 
 pub use answer::{Decoded, decode};
+pub use front::{LONGEST, front_len};
 pub use laws::{answers, reads_back};
 pub use named::refused;

@@ -9,7 +9,9 @@ use Rattle.ia32_types.specs.declared.register.Reg.TheVariants as reg
 use Rattle.ia32_types.specs.declared.insn.Address.{Address}
 use Rattle.ia32_types.specs.declared.insn.Operand.{Operand}
 use Rattle.ia32_types.specs.declared.insn.Operand.TheVariants as operand
-use Rattle.ia32_types.specs.Register.{number_of}
+use Rattle.ia32_types.specs.declared.size.Size.TheVariants as size
+use Rattle.ia32_types.specs.Register.{number_of, numbered_register}
+use Rattle.ia32_types.specs.Bits.{sign_extended}
 use Rattle.ia32_rows.specs.declared.row.RmForm.{RmForm}
 use Rattle.ia32_rows.specs.declared.row.RmForm.TheVariants as place
 use Rattle.ia32_rows.specs.declared.row.Addressing.{Addressing}
@@ -23,7 +25,7 @@ use Rattle.ia32_rows.specs.declared.row.Located.{Located}
 use Rattle.ia32_rows.specs.declared.row.Form.{Form}
 use Rattle.ia32_rows.specs.declared.row.Parts.{Parts}
 use Rattle.ia32_rows.specs.Reader.{Reading, and_then, ◌>>=◌, success, byte_where, word_at, long_at}
-use Rattle.ia32_rows.specs.Fields.{register, extended, mod_of, reg_of, rm_of, base_of, sib_of, base_at, disp_at, memory_at, rm_at, has_slash, has_place, has_modrm, addressing_at, immediate_at}
+use Rattle.ia32_rows.specs.Fields.{mod_of, reg_of, rm_of, base_of, sib_of, base_at, disp_at, memory_at, rm_at, has_slash, has_place, has_modrm, addressing_at, immediate_at}
 use Rattle.ia32_rows.specs.Spelling.{has_code, lead_at, coded_at, parts_at}
 use Rattle.ia32_rows.proofs.Readers.{read, tested}
 use Rattle.ia32_rows.proofs.Fields.{both}
@@ -72,7 +74,7 @@ pub index_below : (index : Option Reg) → index_number index < 8
 index_below None = omega arith
 index_below (Some r) = number_below r
 
-register_back : (r : Reg) → register (number_of r) ≡ r
+register_back : (r : Reg) → numbered_register (number_of r) ≡ r
 register_back reg.Eax = refl
 register_back reg.Ecx = refl
 register_back reg.Edx = refl
@@ -129,7 +131,7 @@ placed_0 (Some r) disp s z =
 placed_1 : (base : Option Reg) (disp : ℕ) → is_none base ≡ false → is_signed_byte disp ≡ true → Placed base disp 1
 unfolding disp_at
 placed_1 None disp s f = absurd cc
-placed_1 (Some r) disp s f = record { mode = omega arith; base_is = ap (λ (t : Reg). Some t) (register_back r); disp_is = λ more. ap (λ k. read (k, 1) more) (eqb-true (extended (disp % 256)) disp f) }
+placed_1 (Some r) disp s f = record { mode = omega arith; base_is = ap (λ (t : Reg). Some t) (register_back r); disp_is = λ more. ap (λ k. read (k, 1) more) (eqb-true (sign_extended 32 size.Byte (disp % 256)) disp f) }
 
 placed : (wide : Bool) (a : Address) → Placed a.base a.disp (memory_len wide a)
 placed wide a = len_cases (Placed a.base a.disp) (wide || is_none a.base) (a.disp == 0 && not (base_number a.base == 5)) (is_signed_byte a.disp)
@@ -357,7 +359,7 @@ immediate_back immediate.Byte p fit more =
     number_eq (p.imm % 256) p.imm p.sel same e.1 more
 immediate_back immediate.SignedByte p fit more =
     let e = both (is_signed_byte p.imm) (p.sel == 0) fit in
-    number_eq (extended (p.imm % 256)) p.imm p.sel (eqb-true (extended (p.imm % 256)) p.imm e.0) e.1 more
+    number_eq (sign_extended 32 size.Byte (p.imm % 256)) p.imm p.sel (eqb-true (sign_extended 32 size.Byte (p.imm % 256)) p.imm e.0) e.1 more
 immediate_back immediate.Word p fit more =
     let e = both (nat_lt p.imm 65536) (p.sel == 0) fit in
     let lt = ltb-true p.imm 65536 e.0 in

@@ -6,7 +6,9 @@ use Rattle.std.proofs.lemmas.Bool.{eqb-true, eq-eqb, lt-ltb}
 use Rattle.ia32_types.specs.declared.insn.Address.{Address}
 use Rattle.ia32_types.specs.declared.insn.Operand.{Operand}
 use Rattle.ia32_types.specs.declared.insn.Operand.TheVariants as operand
-use Rattle.ia32_types.specs.Register.{number_of}
+use Rattle.ia32_types.specs.declared.size.Size.TheVariants as size
+use Rattle.ia32_types.specs.Register.{number_of, numbered_register}
+use Rattle.ia32_types.specs.Bits.{sign_extended}
 use Rattle.ia32_rows.specs.declared.row.RmForm.{RmForm}
 use Rattle.ia32_rows.specs.declared.row.RmForm.TheVariants as place
 use Rattle.ia32_rows.specs.declared.row.Addressing.{Addressing}
@@ -18,7 +20,7 @@ use Rattle.ia32_rows.specs.declared.row.Located.{Located}
 use Rattle.ia32_rows.specs.declared.row.Form.{Form}
 use Rattle.ia32_rows.specs.declared.row.Parts.{Parts}
 use Rattle.ia32_rows.specs.Reader.{Reader, ◌>>=◌, success, byte_where, byte_at, word_at, long_at}
-use Rattle.ia32_rows.specs.Fields.{register, extended, mod_of, reg_of, rm_of, base_of, sib_of, base_at, disp_at, memory_at, rm_at, has_slash, has_place, has_modrm, addressing_at, immediate_at}
+use Rattle.ia32_rows.specs.Fields.{mod_of, reg_of, rm_of, base_of, sib_of, base_at, disp_at, memory_at, rm_at, has_slash, has_place, has_modrm, addressing_at, immediate_at}
 use Rattle.ia32_rows.specs.Spelling.{has_code, lead_at, coded_at, parts_at}
 use Rattle.ia32_rows.specs.Spells.{AreBytes}
 use Rattle.ia32_rows.proofs.Readers.{Reads, and_then_ok, test_met, read, same_read}
@@ -57,8 +59,8 @@ same_byte : (b : ℕ) (t : Bool) → nat_lt b 128 ≡ t → b < 256 → cond t b
 same_byte b true e h = omega arith
 same_byte b false e h = omega arith
 
-extended_signed : (b : ℕ) → b < 256 → is_signed_byte (extended b) ≡ true
-extended_signed b h = eq-eqb (extended (extended b % 256)) (extended b) (ap extended (same_byte b (nat_lt b 128) refl h))
+extended_signed : (b : ℕ) → b < 256 → is_signed_byte (sign_extended 32 size.Byte b) ≡ true
+extended_signed b h = eq-eqb (sign_extended 32 size.Byte (sign_extended 32 size.Byte b % 256)) (sign_extended 32 size.Byte b) (ap (sign_extended 32 size.Byte) (same_byte b (nat_lt b 128) refl h))
 
 immediate_read : (kind : Immediate) (bytes : List ℕ) (imm sel : ℕ) (rest : List ℕ) → immediate_at kind bytes ≡ Ok ((imm, sel), rest) → AreBytes bytes → immediate_fits kind imm sel ≡ true
 unfolding immediate_at
@@ -70,8 +72,8 @@ immediate_read immediate.Byte bytes imm sel rest e h =
     let lt : imm < 256 = subst (λ k. k < 256) s.0 (byte_below bytes r.0 r.1 r.2 h) in
     both_true (lt-ltb imm 256 lt) (subst (λ k. (k == 0) ≡ true) s.1 refl)
 immediate_read immediate.SignedByte bytes imm sel rest e h =
-    let r = and_then_ok (byte_at bytes) (λ b. success (extended b, 0)) (imm, sel) rest e in
-    let s = same_two (extended r.0) 0 imm sel r.1 rest r.3 in
+    let r = and_then_ok (byte_at bytes) (λ b. success (sign_extended 32 size.Byte b, 0)) (imm, sel) rest e in
+    let s = same_two (sign_extended 32 size.Byte r.0) 0 imm sel r.1 rest r.3 in
     both_true (subst (λ k. is_signed_byte k ≡ true) s.0 (extended_signed r.0 (byte_below bytes r.0 r.1 r.2 h))) (subst (λ k. (k == 0) ≡ true) s.1 refl)
 immediate_read immediate.Word bytes imm sel rest e h =
     let r = and_then_ok (word_at bytes) (λ n. success (n, 0)) (imm, sel) rest e in
@@ -86,7 +88,7 @@ immediate_read immediate.Far bytes imm sel rest e h = refl
 
 -- ---- memory operands
 
-register_number : (i : ℕ) → i < 8 → number_of (register i) ≡ i
+register_number : (i : ℕ) → i < 8 → number_of (numbered_register i) ≡ i
 register_number zero h = refl
 register_number (suc zero) h = refl
 register_number (suc (suc zero)) h = refl
@@ -113,9 +115,9 @@ sib_fits mode s true e h = rw e refl
 sib_fits mode s false e h =
     let k : s / 64 < 4 = omega arith in
     let i : s / 8 % 8 < 8 = omega arith in
-    let f : base_fits (record { base = base_of mode (s % 8); index = Some (register (s / 8 % 8)); scale = 2 ^ (s / 64) }) ≡ true =
+    let f : base_fits (record { base = base_of mode (s % 8); index = Some (numbered_register (s / 8 % 8)); scale = 2 ^ (s / 64) }) ≡ true =
     both_true (ap (λ n. not (n == 4)) (register_number (s / 8 % 8) i) ∙ ap not e) (scale_fits (s / 64) k) in
-    subst (λ t. base_fits (cond t (record { base = base_of mode (s % 8); index = None; scale = 1 }) (record { base = base_of mode (s % 8); index = Some (register (s / 8 % 8)); scale = 2 ^ (s / 64) })) ≡ true) (sym e) f
+    subst (λ t. base_fits (cond t (record { base = base_of mode (s % 8); index = None; scale = 1 }) (record { base = base_of mode (s % 8); index = Some (numbered_register (s / 8 % 8)); scale = 2 ^ (s / 64) })) ≡ true) (sym e) f
 
 base_read : (m : ℕ) (t : Bool) → (rm_of m == 4) ≡ t → (bytes : List ℕ) (b : Base) (rest : List ℕ) → base_at m bytes ≡ Ok (b, rest) → AreBytes bytes → base_fits b ≡ true
 unfolding base_at

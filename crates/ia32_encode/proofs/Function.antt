@@ -8,7 +8,7 @@ use denote.Enum.Bare.{same_true, true_same}
 use Rattle.ia32_types.specs.contracts.insn.Op.{the_type}
 use Rattle.ia32_types.specs.declared.register.Reg.{Reg}
 use Rattle.ia32_types.specs.declared.register.Reg.TheVariants as reg
-use Rattle.ia32_types.specs.Register.{number_of}
+use Rattle.ia32_types.specs.Register.{number_of, segment_number}
 use Rattle.ia32_types.specs.declared.register.Seg.{Seg}
 use Rattle.ia32_types.specs.declared.register.Seg.TheVariants as seg
 use Rattle.ia32_types.specs.declared.insn.Address.{Address}
@@ -35,7 +35,7 @@ use Rattle.ia32_rows.specs.Rows.{rows}
 use Rattle.ia32_rows.proofs.Fields.{both}
 use Rattle.ia32_encode.specs.declared.bytes.ArrayBytes.{ArrayBytes}
 use Rattle.ia32_encode.specs.declared.choose.Wide.{Wide}
-use Rattle.ia32_encode.specs.Parts.{segment_number, parts_for, form_fits, is_absent, addressing_fits, immediate_fits}
+use Rattle.ia32_encode.specs.Parts.{parts_for, form_fits, is_absent, addressing_fits, immediate_fits}
 use Rattle.ia32_encode.specs.Pushed.{laid_out}
 use Rattle.ia32_encode.specs.Text.{disp_bytes, has_sib, memory_bytes, modrm_bytes, addressing_bytes, immediate_bytes, lead_bytes, head_bytes, disp_len_of}
 use Rattle.ia32_encode.proofs.Laid.{parts_len, width_of, chosen_spells, chosen_length}

@@ -7,6 +7,7 @@ use Rattle.std.proofs.lemmas.List.{length-append, append-nil, take_at, get_or_de
 use Rattle.ia32_types.specs.declared.insn.Insn.{Insn}
 use Rattle.ia32_types.specs.declared.insn.Operand.{Operand}
 use Rattle.ia32_types.specs.declared.insn.Operand.TheVariants as operand
+use Rattle.ia32_types.specs.Shape.{IsNamed}
 use Rattle.ia32_rows.specs.declared.row.Addressing.{Addressing}
 use Rattle.ia32_rows.specs.declared.row.Addressing.TheVariants as addressing
 use Rattle.ia32_rows.specs.declared.row.RmForm.{RmForm}
@@ -23,7 +24,7 @@ use Rattle.ia32_decode.proofs.Exact.{decoded_back}
 use Rattle.ia32_encode.specs.declared.bytes.ArrayBytes.{ArrayBytes}
 use Rattle.ia32_encode.specs.declared.choose.Wide.{Wide}
 use Rattle.ia32_encode.specs.Text.{disp_len_of, lead_bytes, addressing_bytes, immediate_bytes, head_bytes, form_bytes}
-use Rattle.ia32_encode.specs.Parts.{parts_for, rm_fits, is_absent, is_offset, addressing_fits, immediate_fits, form_fits, RegisterFits}
+use Rattle.ia32_encode.specs.Parts.{parts_for, rm_fits, is_absent, is_offset, addressing_fits, immediate_fits, form_fits}
 use Rattle.ia32_encode.specs.Pushed.{pushed, pushed_all, laid_out}
 use Rattle.ia32_encode.specs.Chosen.{SpellsWide, IsReadBack, widths_fit, Suits, NoneSuits, IsChosen}
 use Rattle.ia32_encode.proofs.Back.{form_back}
@@ -80,35 +81,35 @@ laid form p a b ea eb le =
 
 -- ---- what a row that suits gives
 
-rm_below : (place : RmForm) (rm : Operand) → rm_fits place rm ≡ true → RegisterFits rm
+rm_below : (place : RmForm) (rm : Operand) → rm_fits place rm ≡ true → IsNamed rm
 rm_below place (operand.Register n) h = ltb-true n 8 (both (nat_lt n 8) (has_place place 3) h).0
 rm_below place (operand.Memory a) h = tt
 rm_below place operand.Absent h = tt
 rm_below place (operand.Segment s) h = tt
 rm_below place (operand.Control n) h = tt
 
-offset_below : (rm : Operand) → is_offset rm ≡ true → RegisterFits rm
+offset_below : (rm : Operand) → is_offset rm ≡ true → IsNamed rm
 offset_below (operand.Register n) h = absurd cc
 offset_below (operand.Memory a) h = tt
 offset_below operand.Absent h = tt
 offset_below (operand.Segment s) h = tt
 offset_below (operand.Control n) h = tt
 
-absent_below : (rm : Operand) → is_absent rm ≡ true → RegisterFits rm
+absent_below : (rm : Operand) → is_absent rm ≡ true → IsNamed rm
 absent_below (operand.Register n) h = absurd cc
 absent_below (operand.Memory a) h = tt
 absent_below operand.Absent h = tt
 absent_below (operand.Segment s) h = tt
 absent_below (operand.Control n) h = tt
 
-addressing_below : (kind : Addressing) (reg : ℕ) (rm : Operand) → addressing_fits kind reg rm ≡ true → (reg < 8) × RegisterFits rm
+addressing_below : (kind : Addressing) (reg : ℕ) (rm : Operand) → addressing_fits kind reg rm ≡ true → (reg < 8) × IsNamed rm
 addressing_below addressing.Nothing reg rm h = let s = both (reg == 0) (is_absent rm) h in let z = eqb-true reg 0 s.0 in (omega (arith, z), absent_below rm s.1)
 addressing_below addressing.Offset reg rm h = let s = both (reg == 0) (is_offset rm) h in let z = eqb-true reg 0 s.0 in (omega (arith, z), offset_below rm s.1)
 addressing_below (addressing.Modrm form) reg rm h =
     let s = both (nat_lt reg 8 && has_slash form.slash reg) (rm_fits form.place rm) h in
     (ltb-true reg 8 (both (nat_lt reg 8) (has_slash form.slash reg) s.0).0, rm_below form.place rm s.1)
 
-pub fits_below : (form : Form) (p : Parts) → form_fits form p ≡ true → (p.reg < 8) × RegisterFits p.rm
+pub fits_below : (form : Form) (p : Parts) → form_fits form p ≡ true → (p.reg < 8) × IsNamed p.rm
 unfolding form_fits
 fits_below form p h = addressing_below form.addressing p.reg p.rm (both (has_code form p.code) (addressing_fits form.addressing p.reg p.rm) (both (has_code form p.code && addressing_fits form.addressing p.reg p.rm) (immediate_fits form.immediate p.imm p.sel) h).0).1
 

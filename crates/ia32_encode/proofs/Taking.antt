@@ -12,6 +12,7 @@ use Rattle.ia32_types.specs.declared.insn.Operand.TheVariants as operand
 use Rattle.ia32_types.specs.declared.insn.Insn.{Insn}
 use Rattle.ia32_types.specs.declared.insn.Op.TheVariants as op
 use Rattle.ia32_types.specs.declared.size.Size.TheVariants as size
+use Rattle.ia32_types.specs.Shape.{IsNamed}
 use Rattle.ia32_rows.specs.declared.row.Plus.{Plus}
 use Rattle.ia32_rows.specs.declared.row.Plus.TheVariants as plus
 use Rattle.ia32_rows.specs.declared.row.Lead.{Lead}
@@ -33,7 +34,7 @@ use Rattle.ia32_rows.proofs.Readers.{AreBytes-append}
 use Rattle.ia32_encode.specs.declared.bytes.ArrayBytes.{ArrayBytes}
 use Rattle.ia32_encode.specs.declared.choose.Wide.{Wide}
 use Rattle.ia32_encode.specs.Text.{word_bytes, long_bytes, base_number, index_number, scale_bits, mode_for, disp_bytes, modrm, has_sib, modrm_bytes, offset_of, addressing_bytes, immediate_bytes, lead_bytes, head_bytes, form_bytes}
-use Rattle.ia32_encode.specs.Parts.{rm_from, sel_from, parts_for, form_fits, addressing_fits, immediate_fits, RegisterFits}
+use Rattle.ia32_encode.specs.Parts.{rm_from, sel_from, parts_for, form_fits, addressing_fits, immediate_fits}
 use Rattle.ia32_encode.specs.Pushed.{laid_out}
 use Rattle.ia32_encode.specs.Chosen.{Suits, IsChosen, NoneSuits, does_suit, chosen_from, chosen, IsOperandBounded, IsBounded, IsGood}
 use Rattle.ia32_encode.proofs.Back.{base_below, index_below}
@@ -161,7 +162,7 @@ memory_cases false reg len a r d = (
   disp_cases (len == 0) (len == 1) a.disp d,
 )
 
-modrm_are : (reg len : ℕ) (rm : Operand) → reg < 8 → RegisterFits rm → IsOperandBounded rm → AreBytes (modrm_bytes reg len rm)
+modrm_are : (reg len : ℕ) (rm : Operand) → reg < 8 → IsNamed rm → IsOperandBounded rm → AreBytes (modrm_bytes reg len rm)
 modrm_are reg len (operand.Register n) r f h = (modrm_below 3 reg n (omega arith) r f, tt)
 modrm_are reg len (operand.Memory a) r f h = memory_cases (has_sib a) reg len a r h
 modrm_are reg len operand.Absent r f h = tt
@@ -175,7 +176,7 @@ offset_below (operand.Register n) h = omega arith
 offset_below (operand.Segment s) h = omega arith
 offset_below (operand.Control n) h = omega arith
 
-addressing_are : (kind : Addressing) (p : Parts) → p.reg < 8 → RegisterFits p.rm → IsOperandBounded p.rm → AreBytes (addressing_bytes kind p)
+addressing_are : (kind : Addressing) (p : Parts) → p.reg < 8 → IsNamed p.rm → IsOperandBounded p.rm → AreBytes (addressing_bytes kind p)
 addressing_are addressing.Nothing p r f h = tt
 addressing_are addressing.Offset p r f h = long_are (offset_of p.rm) (offset_below p.rm h)
 addressing_are (addressing.Modrm form) p r f h = modrm_are p.reg p.disp_len p.rm r f h

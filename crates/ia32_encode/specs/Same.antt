@@ -3,7 +3,7 @@ use Rattle.std.specs.Prelude.{◌==◌, ◌&&◌, Bool, true, false, Option, Som
 use denote.Enum.Bare.{sameb}
 use Rattle.ia32_types.specs.contracts.insn.Op.{the_type}
 use Rattle.ia32_types.specs.declared.register.Reg.{Reg}
-use Rattle.ia32_types.specs.Register.{number_of}
+use Rattle.ia32_types.specs.Register.{number_of, segment_number}
 use Rattle.ia32_types.specs.declared.register.Seg.{Seg}
 use Rattle.ia32_types.specs.declared.insn.Address.{Address}
 use Rattle.ia32_types.specs.declared.insn.Op.{Op}
@@ -12,7 +12,6 @@ use Rattle.ia32_types.specs.declared.insn.Operand.TheVariants as operand
 use Rattle.ia32_types.specs.declared.insn.Insn.{Insn}
 use Rattle.ia32_types.specs.declared.size.Size.{Size}
 use Rattle.ia32_types.specs.Size.{width}
-use Rattle.ia32_encode.specs.Parts.{segment_number}
 
 abbrev pub same_op : Op → Op → Bool
 same_op = sameb the_type

@@ -5,6 +5,8 @@ use Rattle.ia32_types.specs.Register.{number_of}
 use Rattle.ia32_types.specs.declared.insn.Address.{Address}
 use Rattle.ia32_types.specs.declared.insn.Operand.{Operand}
 use Rattle.ia32_types.specs.declared.insn.Operand.TheVariants as operand
+use Rattle.ia32_types.specs.declared.size.Size.TheVariants as size
+use Rattle.ia32_types.specs.Bits.{sign_extended}
 use Rattle.ia32_rows.specs.declared.row.Lead.{Lead}
 use Rattle.ia32_rows.specs.declared.row.Lead.TheVariants as lead
 use Rattle.ia32_rows.specs.declared.row.Addressing.{Addressing}
@@ -13,7 +15,6 @@ use Rattle.ia32_rows.specs.declared.row.Immediate.{Immediate}
 use Rattle.ia32_rows.specs.declared.row.Immediate.TheVariants as immediate
 use Rattle.ia32_rows.specs.declared.row.Form.{Form}
 use Rattle.ia32_rows.specs.declared.row.Parts.{Parts}
-use Rattle.ia32_rows.specs.Fields.{extended}
 
 -- two and four bytes, the lowest first
 abbrev pub word_bytes : ℕ → List ℕ
@@ -24,7 +25,7 @@ long_bytes n = n % 256 ∷ n / 256 % 256 ∷ n / 65536 % 256 ∷ n / 16777216 �
 
 -- whether the number is a byte that was sign-extended
 abbrev pub is_signed_byte : ℕ → Bool
-is_signed_byte n = extended (n % 256) == n
+is_signed_byte n = sign_extended 32 size.Byte (n % 256) == n
 
 -- the number of the base register; 5 stands for none
 abbrev pub base_number : Option Reg → ℕ
@@ -77,6 +78,7 @@ modrm_bytes reg len (operand.Register n) = modrm 3 reg n ∷ []
 modrm_bytes reg len (operand.Memory a) = memory_bytes reg len a
 modrm_bytes reg len _ = []
 
+-- an operand's displacement
 abbrev pub offset_of : Operand → ℕ
 offset_of (operand.Memory a) = a.disp
 offset_of _ = 0

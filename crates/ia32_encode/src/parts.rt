@@ -1,24 +1,13 @@
 ghost use Rattle.std.specs.Prelude.{◌≡◌, List};
-ghost use Rattle.ia32_rows.specs.Fields.{extended, has_place};
+ghost use Rattle.ia32_rows.specs.Fields.{has_place};
 ghost use Rattle.ia32_rows.specs.Spelling.{insn_of};
 ghost use Rattle.ia32_encode.specs.Text.{is_signed_byte, base_number, index_number, memory_len, disp_len_of};
-ghost use Rattle.ia32_encode.specs.Parts.{segment_number, number_in, rm_from, digit_of, reg_from, low_from, code_from, sel_from, parts_for, address_fits, rm_fits, is_absent, is_offset, addressing_fits, immediate_fits, form_fits};
+ghost use Rattle.ia32_encode.specs.Parts.{number_in, rm_from, digit_of, reg_from, low_from, code_from, sel_from, parts_for, address_fits, rm_fits, is_absent, is_offset, addressing_fits, immediate_fits, form_fits};
 
 use ia32_rows::{
     Addressing, Form, Immediate, Operands, Parts, Plus, RmForm, Row, Slash, fits_code, fits_slash,
 };
-use ia32_types::{Address, Insn, Operand, Reg, Seg};
-
-fn segment_code(s: Seg) -> u8
-    ensures { result ≡ segment_number s }
-{
-    match s {
-        Seg::Es => 0,
-        Seg::Cs => 1,
-        Seg::Ss => 2,
-        Seg::Ds => 3,
-    }
-}
+use ia32_types::{Address, Insn, Operand, Reg, Size, sign_extended_32};
 
 fn number(o: Operand) -> u8
     ensures { result ≡ number_in o }
@@ -26,7 +15,7 @@ fn number(o: Operand) -> u8
     match o {
         Operand::Register(n) => n,
         Operand::Control(n) => n,
-        Operand::Segment(s) => segment_code(s),
+        Operand::Segment(s) => s.number(),
         Operand::Absent | Operand::Memory(_) => 0,
     }
 }
@@ -35,9 +24,7 @@ fn number(o: Operand) -> u8
 pub fn fits_signed_byte(n: u32) -> bool
     ensures { result ≡ is_signed_byte n }
 {
-    let low = n % 256;
-    let extended = if low < 128 { low } else { low + 0xffff_ff00 };
-    extended == n
+    sign_extended_32(Size::Byte, n % 256) == n
 }
 
 /// The number of the base register; 5 stands for none.

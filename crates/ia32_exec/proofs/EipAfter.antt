@@ -14,7 +14,7 @@ use Rattle.ia32_exec.specs.declared.outcome.Outcome.{Outcome}
 use Rattle.ia32_exec.specs.Operands.{stored, kept_in}
 use Rattle.ia32_exec.specs.Registers.{with_register, with_whole, eip_past}
 use Rattle.ia32_exec.specs.Arithmetic.{arithmetic, tested, shifted, upper, with_halves, multiplied, product_to, signed_by, signed_multiplied, multiplied_by, shared, divided}
-use Rattle.ia32_exec.specs.Moves.{moved, zero_extended, sign_extended, loaded_address, exchanged, widened, sign_spread}
+use Rattle.ia32_exec.specs.Moves.{moved, moved_with_zeros, moved_with_sign, loaded_address, exchanged, widened, sign_spread}
 use Rattle.ia32_exec.specs.Stack.{pushed_number, pushed, popped, all_pushed, all_popped, frame_left, called, flags_pushed, is_foreign, top_of_stack, flags_popped}
 use Rattle.ia32_exec.specs.Control.{condition, jumped, jump, branched, set_by, flag_made}
 use Rattle.ia32_exec.specs.Strings.{IsString, is_over, turn, counted, string}
@@ -77,13 +77,13 @@ module _ (o : Op) (i : Insn) (len : ℕ) (r : Regs) (b : ℕ → ℕ) where
   unfolding moved
   moved_leads = inl (stored_eip i.a i.size _ _)
 
-  zero_extended_leads : Leads o i len r (zero_extended i len r b)
-  unfolding zero_extended
-  zero_extended_leads = inl (kept_in_eip i.a Long _ _)
+  moved_with_zeros_leads : Leads o i len r (moved_with_zeros i len r b)
+  unfolding moved_with_zeros
+  moved_with_zeros_leads = inl (kept_in_eip i.a Long _ _)
 
-  sign_extended_leads : Leads o i len r (sign_extended i len r b)
-  unfolding sign_extended
-  sign_extended_leads = inl (kept_in_eip i.a Long _ _)
+  moved_with_sign_leads : Leads o i len r (moved_with_sign i len r b)
+  unfolding moved_with_sign
+  moved_with_sign_leads = inl (kept_in_eip i.a Long _ _)
 
   loaded_address_leads : Leads o i len r (loaded_address i len r b)
   unfolding loaded_address
@@ -216,8 +216,8 @@ row_leads op.ImulBy i len r b = multiplied_by_leads op.ImulBy i len r b
 row_leads op.Div i len r b = divided_leads op.Div i len r b false
 row_leads op.Idiv i len r b = divided_leads op.Idiv i len r b true
 row_leads op.Mov i len r b = moved_leads op.Mov i len r b
-row_leads op.Movzx i len r b = zero_extended_leads op.Movzx i len r b
-row_leads op.Movsx i len r b = sign_extended_leads op.Movsx i len r b
+row_leads op.Movzx i len r b = moved_with_zeros_leads op.Movzx i len r b
+row_leads op.Movsx i len r b = moved_with_sign_leads op.Movsx i len r b
 row_leads op.Lea i len r b = loaded_address_leads op.Lea i len r b
 row_leads op.Xchg i len r b = exchanged_leads op.Xchg i len r b
 row_leads op.Push i len r b = pushed_leads op.Push i len r b

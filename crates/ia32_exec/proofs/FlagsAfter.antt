@@ -27,7 +27,7 @@ use Rattle.ia32_exec.specs.declared.selectors.Selectors.{Selectors}
 use Rattle.ia32_exec.specs.Registers.{register_value, with_register, with_whole, eip_past}
 use Rattle.ia32_exec.specs.Operands.{value_of, stored, kept_in, done}
 use Rattle.ia32_exec.specs.Arithmetic.{flagged, computed, count_of, arithmetic, tested, shifted, with_halves, upper, multiplied, signed_by, signed_multiplied, product_to, multiplied_by, shared, divided}
-use Rattle.ia32_exec.specs.Moves.{moved, zero_extended, sign_extended, loaded_address, exchanged, widened, sign_spread}
+use Rattle.ia32_exec.specs.Moves.{moved, moved_with_zeros, moved_with_sign, loaded_address, exchanged, widened, sign_spread}
 use Rattle.ia32_exec.specs.Stack.{is_foreign, taken, top_of_stack, esp_above, pushed, pushed_number, popped, all_pushed, all_popped, frame_left, called, flags_pushed, flags_popped}
 use Rattle.ia32_exec.specs.Control.{condition, jump, jumped, branched, set_by, flag_made}
 use Rattle.ia32_exec.specs.Strings.{is_over, string, turn, moved_on, counted}
@@ -240,7 +240,7 @@ module _ (i : Insn) (len : ℕ) (r : Regs) where
   turned_lods v = apart_on r (with_register i.size 0 v r) _ (apart_register i.size 0 v r) (record { flags = refl })
 
   row_leaves : (o : Op) (b : ℕ → ℕ) → Leaves r (row o i len r b)
-  unfolding signed_multiplied multiplied_by moved zero_extended sign_extended loaded_address exchanged pushed pushed_number popped all_pushed all_popped widened sign_spread frame_left set_by jump branched called flags_pushed flags_popped string
+  unfolding signed_multiplied multiplied_by moved moved_with_zeros moved_with_sign loaded_address exchanged pushed pushed_number popped all_pushed all_popped widened sign_spread frame_left set_by jump branched called flags_pushed flags_popped string
   row_leaves Add b = of_arithmetic b
   row_leaves Or b = of_arithmetic b
   row_leaves Adc b = of_arithmetic b

@@ -26,11 +26,12 @@ use Rattle.ia32_exec.specs.Registers.{register_value, with_register, with_whole,
 use Rattle.ia32_exec.specs.Ranges.{operand_range, AreAll, Covers}
 use Rattle.ia32_exec.specs.Operands.{value_of, source_of, stored, kept_in, done}
 use Rattle.ia32_exec.specs.Arithmetic.{flagged, count_of, arithmetic, tested, shifted, with_halves, upper, multiplied, signed_by, signed_multiplied, product_to, multiplied_by, shared, divided}
-use Rattle.ia32_exec.specs.Moves.{sign_extension, loaded_address, moved, zero_extended, sign_extended, exchanged}
+use Rattle.ia32_exec.specs.Moves.{loaded_address, moved, moved_with_zeros, moved_with_sign, exchanged}
 use Rattle.ia32_exec.specs.Stack.{stack_of, esp_below, esp_above, slot_of, is_foreign, taken, pushed, pushed_number, popped, all_popped, frame_left, flags_popped}
 use Rattle.ia32_exec.specs.Strings.{is_over, moved_on, string, turn, counted}
 use Rattle.ia32_exec.specs.Effect.{either, row, ranges_row, effect, ranges_of}
 use Rattle.ia32_types.specs.Places.{is_place}
+use Rattle.ia32_types.specs.Bits.{sign_extended}
 use Rattle.ia32_exec.specs.Transfers.{gone_to, returned, jumped_through, called_through}
 use Rattle.ia32_exec.specs.UserEffect.{user_row, user_effect}
 use Rattle.ia32_exec.specs.SameBytes.{SameOverRanges}
@@ -143,7 +144,7 @@ module _ (b c : ℕ → ℕ) where
       ∙ ap (λ x. f (slot_of 7 r c) (slot_of 6 r c) (slot_of 5 r c) (slot_of 4 r c) (slot_of 2 r c) (slot_of 1 r c) x) (g 0 (omega arith))
 
   row_same : (op : Op) (i : Insn) (len : ℕ) (r : Regs) → IsShaped i → Covers Same (ranges_row op i r).read → Covers Same (ranges_row op i r).write → row op i len r b ≡ row op i len r c
-  unfolding loaded_address signed_multiplied multiplied_by moved zero_extended sign_extended exchanged pushed popped frame_left flags_popped string
+  unfolding loaded_address signed_multiplied multiplied_by moved moved_with_zeros moved_with_sign exchanged pushed popped frame_left flags_popped string
   row_same Add i len r s h k = arithmetic_same i len r h k
   row_same Or i len r s h k = arithmetic_same i len r h k
   row_same Adc i len r s h k = arithmetic_same i len r h k
@@ -169,7 +170,7 @@ module _ (b c : ℕ → ℕ) where
   row_same Idiv i len r s h k = divided_same true i len r h
   row_same Mov i len r s h k = ap (λ x. done (stored i.a i.size x (eip_past len r))) (source_same i.b i.imm i.size r h)
   row_same Movzx i len r s h k = ap (λ x. Done (kept_in i.a Long x (eip_past len r)) Nothing) (value_same i.b i.size r h)
-  row_same Movsx i len r s h k = ap (λ x. Done (kept_in i.a Long (sign_extension i.size x) (eip_past len r)) Nothing) (value_same i.b i.size r h)
+  row_same Movsx i len r s h k = ap (λ x. Done (kept_in i.a Long (sign_extended 32 i.size x) (eip_past len r)) Nothing) (value_same i.b i.size r h)
   row_same Lea i len r s h k = refl
   row_same Xchg i len r s h k =
       two (λ x y. Done (kept_in i.b i.size x (stored i.a i.size y (eip_past len r)).0) (stored i.a i.size y (eip_past len r)).1) _ _ _ _ (value_same i.a i.size r k) (value_same i.b i.size r h)

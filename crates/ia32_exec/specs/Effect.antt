@@ -18,7 +18,7 @@ use Rattle.ia32_exec.specs.declared.access.Ranges.{Ranges}
 use Rattle.ia32_exec.specs.Ranges.{operand_range, Covers}
 use Rattle.ia32_exec.specs.Registers.{eip_past, with_whole}
 use Rattle.ia32_exec.specs.Arithmetic.{arithmetic, tested, shifted, multiplied, signed_multiplied, multiplied_by, divided}
-use Rattle.ia32_exec.specs.Moves.{moved, zero_extended, sign_extended, loaded_address, exchanged, widened, sign_spread}
+use Rattle.ia32_exec.specs.Moves.{moved, moved_with_zeros, moved_with_sign, loaded_address, exchanged, widened, sign_spread}
 use Rattle.ia32_exec.specs.Stack.{stack_of, esp_below, esp_above, pushed, popped, all_pushed, all_popped, frame_left, called, flags_pushed, flags_popped}
 use Rattle.ia32_exec.specs.Control.{jump, branched, set_by, flag_made}
 use Rattle.ia32_exec.specs.Strings.{is_over, string}
@@ -49,8 +49,8 @@ row ImulBy i len r b = multiplied_by i len r b
 row Div i len r b = divided false i len r b
 row Idiv i len r b = divided true i len r b
 row Mov i len r b = moved i len r b
-row Movzx i len r b = zero_extended i len r b
-row Movsx i len r b = sign_extended i len r b
+row Movzx i len r b = moved_with_zeros i len r b
+row Movsx i len r b = moved_with_sign i len r b
 row Lea i len r b = loaded_address i len r b
 row Xchg i len r b = exchanged i len r b
 row Push i len r b = pushed i len r b

@@ -33,5 +33,5 @@ pub use outcome::{Effect, Outcome, Store, Stores};
 pub use ranges_of::{ranges, segment_of};
 pub use registers::{address_of, with_register};
 pub use selectors::Selectors;
-pub use stack::{is_foreign, taken};
+pub use stack::{esp_above, esp_below, is_foreign, taken};
 pub use users::user_effect;

@@ -12,17 +12,19 @@ use crate::outcome::{Outcome, Store, Stores};
 use crate::registers::{eip_past, with_whole};
 use ia32_types::{Flags, Insn, Regs, Size, Stop};
 
-fn esp_below(by: u32, regs: &Regs) -> u32
+/// ESP after a push of so many bytes.
+pub fn esp_below(by: u32, regs: &Regs) -> u32
     requires { 0 < by }
     ensures { result ≡ esp_below by regs.now }
 {
     regs.r[4].wrapping_sub(by)
 }
 
-fn esp_above(by: u32, regs: &Regs) -> u32
+/// ESP after a pop of so many bytes.
+pub fn esp_above(by: u64, regs: &Regs) -> u32
     ensures { result ≡ esp_above by regs.now }
 {
-    regs.r[4].wrapping_add(by)
+    regs.r[4].wrapping_add((by % 0x1_0000_0000) as u32)
 }
 
 /// A number goes onto the stack.

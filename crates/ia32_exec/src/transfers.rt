@@ -3,7 +3,7 @@ ghost use Rattle.ia32_types.specs.declared.size.Size.TheVariants.{Long};
 ghost use Rattle.ia32_types.specs.Shape.{IsNamed};
 ghost use Rattle.ia32_exec.specs.Memory.{IsAllAt};
 ghost use Rattle.ia32_exec.specs.Operands.{IsReadable};
-ghost use Rattle.ia32_exec.specs.Stack.{stack_of, esp_above};
+ghost use Rattle.ia32_exec.specs.Stack.{stack_of};
 ghost use Rattle.ia32_types.specs.Places.{is_place};
 ghost use Rattle.ia32_exec.specs.Transfers.{returned, jumped_through, called_through};
 
@@ -11,20 +11,13 @@ use crate::memory::LinearBytes;
 use crate::operands::value_of;
 use crate::outcome::{Outcome, Store, Stores};
 use crate::registers::{eip_past, with_whole};
+use crate::stack::esp_above;
 use ia32_types::{Insn, Operand, Regs, Size, Stop};
 
 fn is_place(operand: Operand) -> bool
     ensures { result ≡ is_place operand }
 {
     matches!(operand, Operand::Register(_) | Operand::Memory(_))
-}
-
-/// ESP after a pop of four bytes that drops more.
-fn raised_over(more: u32, regs: &Regs) -> u32
-    ensures { result ≡ esp_above (4 + more) regs.now }
-{
-    let sum = u64::from(regs.r[4]) + (4 + u64::from(more));
-    (sum % 0x1_0000_0000) as u32
 }
 
 /// RET.
@@ -34,7 +27,7 @@ pub fn returned<M: LinearBytes>(insn: &Insn, regs: &Regs, mem: &M) -> Outcome
     ensures { result ≡ returned insn.now regs.now (M.byte mem.now) }
 {
     let eip = mem.read(regs.r[4], Size::Long);
-    let risen = with_whole(4, raised_over(insn.imm, regs), *regs);
+    let risen = with_whole(4, esp_above(4 + u64::from(insn.imm), regs), *regs);
     Outcome::Done(Regs { eip, ..risen }, Stores::Nothing)
 }
 

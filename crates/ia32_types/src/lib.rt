@@ -10,7 +10,7 @@ mod site;
 mod size;
 mod stop;
 
-pub use bits::{bit, with_bit};
+pub use bits::{bit, sign_extended_32, sign_extended_64, with_bit};
 pub use flags::{Flags, Regs};
 pub use insn::{Address, Insn, Op, Operand};
 pub use register::{Reg, Seg};

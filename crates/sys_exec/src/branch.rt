@@ -2,27 +2,17 @@
 
 ghost use Rattle.std.specs.Prelude.{◌≡◌, ◌+◌, ◌*◌, ◌≤◌, ◌<◌, ◌^◌};
 ghost use Rattle.paging.specs.Work.{Gives};
-ghost use Rattle.ia32_exec.specs.Stack.{esp_above};
 ghost use Rattle.sys_exec.specs.Branch.{return_to, jump_to, called_through, call_to};
 ghost use Rattle.sys_exec.specs.Asked.{GivesAsked};
 
 use crate::effect::{Refusal, SysOutcome};
 use crate::operand::{
-    UNSUPPORTED, esp_below, gone_to, long_of, next, past, past_push, pull, push, reach_operand,
-    reg_at,
+    UNSUPPORTED, gone_to, long_of, next, past, past_push, pull, push, reach_operand, reg_at,
 };
 use descriptors::{Cpu, by_level, reach};
-use ia32_exec::address_of;
+use ia32_exec::{address_of, esp_above, esp_below};
 use ia32_types::{Address, Operand, Size};
 use paging::GuestMem;
-
-/// ESP after a pop that drops further bytes.
-fn raised_over(cpu: &Cpu, more: u32) -> u32
-    ensures { result ≡ esp_above (4 + more) cpu.now.regs }
-{
-    let sum = u64::from(cpu.regs.r[4]) + (4 + u64::from(more));
-    (sum % (1 << 32)) as u32
-}
 
 /// RET, which drops further bytes of the stack.
 #[tactic(auto, unfolding(crate::specs::Branch::return_to))]
@@ -35,7 +25,7 @@ pub fn return_to<M: GuestMem>(more: u32, cpu: &Cpu, mem: &mut M) -> Result<SysOu
 {
     let target = pull(cpu, mem)?;
     let mut after = gone_to(cpu, target);
-    after.regs.r[4] = raised_over(cpu, more);
+    after.regs.r[4] = esp_above(4 + u64::from(more), &cpu.regs);
     Ok(next(after))
 }
 
@@ -61,7 +51,7 @@ fn call_through<M: GuestMem>(a: &Address, len: u8, cpu: &Cpu, mem: &mut M) -> Re
     ensures frame { M.frame mem.new ≡ M.frame mem.old }
 {
     reach_operand(cpu, mem, a, 4, false)?;
-    let top = esp_below(cpu);
+    let top = esp_below(4, &cpu.regs);
     reach::<M, Refusal>(mem, top, 4, by_level(cpu, true))?;
     let target = mem.load_earlier(address_of(*a, &cpu.regs), Size::Long);
     mem.save(top, Size::Long, past(cpu, len).regs.eip);

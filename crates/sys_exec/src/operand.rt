@@ -5,12 +5,11 @@ ghost use Rattle.paging.specs.Work.{Gives};
 ghost use Rattle.paging.specs.Space.{IsReach};
 ghost use Rattle.ia32_exec.specs.Registers.{address_of, with_whole, eip_past};
 ghost use Rattle.ia32_exec.specs.Ranges.{segment_of};
-ghost use Rattle.ia32_exec.specs.Stack.{esp_below, esp_above};
 ghost use Rattle.sys_exec.specs.Operand.{selector_in, reg_at, operand_reached, selector, long_of, pulled, pushed, past, past_with, past_push, past_pop, gone_to};
 
 use crate::effect::{Refusal, SysEffect, SysOutcome};
 use descriptors::{Cpu, by_level, reach};
-use ia32_exec::{address_of, segment_of};
+use ia32_exec::{address_of, esp_above, esp_below, segment_of};
 use ia32_types::{Address, Operand, Seg, Size, Stop};
 use paging::GuestMem;
 
@@ -119,24 +118,10 @@ pub fn push<M: GuestMem>(cpu: &Cpu, mem: &mut M, value: u32) -> Result<(), Refus
     ensures pages { (M.space mem.new).pages ≤ (M.space mem.old).pages + 2 }
     ensures frame { M.frame mem.new ≡ M.frame mem.old }
 {
-    let at = esp_below(cpu);
+    let at = esp_below(4, &cpu.regs);
     reach::<M, Refusal>(mem, at, 4, by_level(cpu, true))?;
     mem.save(at, Size::Long, value);
     Ok(())
-}
-
-/// ESP after a push.
-pub fn esp_below(cpu: &Cpu) -> u32
-    ensures { result ≡ esp_below 4 cpu.now.regs }
-{
-    cpu.regs.r[4].wrapping_sub(4)
-}
-
-/// ESP after a pop of so many bytes.
-pub fn esp_above(cpu: &Cpu, by: u32) -> u32
-    ensures { result ≡ esp_above by cpu.now.regs }
-{
-    cpu.regs.r[4].wrapping_add(by)
 }
 
 /// Past the instruction.
@@ -162,14 +147,14 @@ pub fn past_with(cpu: &Cpu, len: u8, k: u8, value: u32) -> Cpu
 pub fn past_push(cpu: &Cpu, len: u8) -> Cpu
     ensures { result ≡ past_push cpu.now len }
 {
-    past_with(cpu, len, 4, esp_below(cpu))
+    past_with(cpu, len, 4, esp_below(4, &cpu.regs))
 }
 
 /// Past the instruction, with ESP after a pop.
 pub fn past_pop(cpu: &Cpu, len: u8) -> Cpu
     ensures { result ≡ past_pop cpu.now len }
 {
-    past_with(cpu, len, 4, esp_above(cpu, 4))
+    past_with(cpu, len, 4, esp_above(4, &cpu.regs))
 }
 
 /// At a target.
