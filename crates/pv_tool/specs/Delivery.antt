@@ -18,8 +18,8 @@ HaltsAs told found sure before now halt.ReadFault = Rose before now × (sure ≡
 HaltsAs told found sure before now halt.Memory = Unit {0}
 
 -- the same of files before and after
-abbrev pub HaltsSo : {F : Type 0} → disk.Ghosts F → Type 0 → F → F → (List ℕ → Type 0) → Halt → Type 0
-HaltsSo f found old new told h = HaltsAs told found (f.sure old) (f.load_faults old) (f.load_faults new) h
+abbrev pub HaltsOverFiles : {F : Type 0} → disk.Ghosts F → Type 0 → F → F → (List ℕ → Type 0) → Halt → Type 0
+HaltsOverFiles f found old new told h = HaltsAs told found (f.sure old) (f.load_faults old) (f.load_faults new) h
 
 -- The text was put, with the status that is meant with it, or the output failed within it.
 pub data Says (text : List ℕ) (meant : Status) (old new : Option (List ℕ)) (before now : ℕ) (result : Status) : Type 0 where

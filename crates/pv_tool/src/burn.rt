@@ -13,7 +13,7 @@ ghost use Rattle.wedge_core.specs.Slices.{Counts as HostCounts};
 ghost use Rattle.pv_tool.specs.Words.{Burn};
 ghost use Rattle.pv_tool.specs.Outside.{beside, OnlyRead};
 ghost use Rattle.pv_tool.specs.Outcome.{refused};
-ghost use Rattle.pv_tool.specs.Delivery.{HaltsSo, RefusesAs};
+ghost use Rattle.pv_tool.specs.Delivery.{HaltsOverFiles, RefusesAs};
 ghost use Rattle.pv_tool.specs.Burning.{Burns, HasBurnt, HasSource, HasNoSource, ReadsBack, object_made_line, source_line, burn_line};
 ghost use Rattle.pv_tool.specs.Meaning.{Means, Counts, Leaves};
 
@@ -50,7 +50,7 @@ pub fn burn<F: Files, S: Sink>(
 // The object of a source that a file holds, as a file, and its line.
 fn made<F: Files>(alloc: Global, name: &str, files: &mut F) -> Result<Made, Halt>
     ensures made { IfOk result (λ m. (o : ObjectParts) × HasBurnt (F.held files.old) name.now o × (m.file.items ≡ object_bytes o) × (m.line ≡ object_made_line o) × ReadsBack o) }
-    ensures halted { IfErr result (HaltsSo F.Files (IsHeld (F.held files.old) name.now) files.old files.new (λ line. (object : List ℕ) → Burns (F.held files.old) name.now object (refused line))) }
+    ensures halted { IfErr result (HaltsOverFiles F.Files (IsHeld (F.held files.old) name.now) files.old files.new (λ line. (object : List ℕ) → Burns (F.held files.old) name.now object (refused line))) }
     ensures read { OnlyRead F.Files (IsHeld (F.held files.old) name.now) files.old files.new }
 {
     let source = source_in(alloc, name, files)?;
@@ -67,7 +67,7 @@ fn made<F: Files>(alloc: Global, name: &str, files: &mut F) -> Result<Made, Halt
 fn source_in<F: Files>(alloc: Global, name: &str, files: &mut F) -> Result<Source, Halt>
     ensures source { IfOk result (λ s. HasSource (F.held files.old) name.now s) }
     ensures readable { IfOk result IsReadable }
-    ensures halted { IfErr result (HaltsSo F.Files (IsHeld (F.held files.old) name.now) files.old files.new (λ line. (at : ℕ) × (cause : SourceCause) × HasNoSource (F.held files.old) name.now (at, cause) × (line ≡ source_line at cause))) }
+    ensures halted { IfErr result (HaltsOverFiles F.Files (IsHeld (F.held files.old) name.now) files.old files.new (λ line. (at : ℕ) × (cause : SourceCause) × HasNoSource (F.held files.old) name.now (at, cause) × (line ≡ source_line at cause))) }
     ensures read { OnlyRead F.Files (IsHeld (F.held files.old) name.now) files.old files.new }
 {
     let file = load(alloc, name, files)?;

@@ -8,7 +8,7 @@ ghost use Rattle.wedge_core.specs.Slices.{Counts as HostCounts};
 ghost use Rattle.pv_tool.specs.Words.{Check};
 ghost use Rattle.pv_tool.specs.Lines.{image_line, place_line, form_number};
 ghost use Rattle.pv_tool.specs.Outside.{beside, OnlyRead};
-ghost use Rattle.pv_tool.specs.Delivery.{HaltsSo, RefusesAs};
+ghost use Rattle.pv_tool.specs.Delivery.{HaltsOverFiles, RefusesAs};
 ghost use Rattle.pv_tool.specs.Checking.{HasImage, HasNoImage, accepted_line, format_words};
 ghost use Rattle.pv_tool.specs.Meaning.{Means, Counts};
 
@@ -38,7 +38,7 @@ pub fn check<F: Files, S: Sink>(alloc: Global, name: &str, files: &mut F, out: &
 /// The accepted image that a file is.
 pub fn accepted<F: Files>(alloc: Global, name: &str, files: &mut F) -> Result<Checked, Halt>
     ensures image { IfOk result (HasImage (F.held files.old) name.now) }
-    ensures halted { IfErr result (HaltsSo F.Files (IsHeld (F.held files.old) name.now) files.old files.new (λ line. (refusal : Refusal) × HasNoImage (F.held files.old) name.now refusal × (line ≡ image_line refusal))) }
+    ensures halted { IfErr result (HaltsOverFiles F.Files (IsHeld (F.held files.old) name.now) files.old files.new (λ line. (refusal : Refusal) × HasNoImage (F.held files.old) name.now refusal × (line ≡ image_line refusal))) }
     ensures read { OnlyRead F.Files (IsHeld (F.held files.old) name.now) files.old files.new }
 {
     let file = load(alloc, name, files)?;

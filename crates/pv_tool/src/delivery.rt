@@ -4,7 +4,7 @@ ghost use Rattle.std.specs.Prelude.{◌≡◌, ◌≤◌, List, ℕ, Ok, IfOk, I
 ghost use Rattle.pv_io.specs.Files.{Holds, IsHeld};
 ghost use Rattle.wedge_core.specs.Slices.{Counts as HostCounts};
 ghost use Rattle.pv_tool.specs.Outside.{beside, OnlyRead, NotRead};
-ghost use Rattle.pv_tool.specs.Delivery.{HaltsSo, RefusesAs, Says, Ends, Delivers};
+ghost use Rattle.pv_tool.specs.Delivery.{HaltsOverFiles, RefusesAs, Says, Ends, Delivers};
 
 use crate::halt::{Halt, Line};
 use crate::status::Status;
@@ -14,7 +14,7 @@ use std::alloc::{AllocError, Global};
 /// The bytes of a file.
 pub fn load<F: Files>(alloc: Global, name: &str, files: &mut F) -> Result<Vec<u8>, Halt>
     ensures loaded { IfOk result (λ file. Holds (F.held files.old) name.now file.items) }
-    ensures halted { IfErr result (HaltsSo F.Files (IsHeld (F.held files.old) name.now) files.old files.new (λ line. ⊥)) }
+    ensures halted { IfErr result (HaltsOverFiles F.Files (IsHeld (F.held files.old) name.now) files.old files.new (λ line. ⊥)) }
     ensures read { OnlyRead F.Files (IsHeld (F.held files.old) name.now) files.old files.new }
 {
     let mut file = Vec::new(alloc);

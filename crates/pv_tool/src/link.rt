@@ -12,7 +12,7 @@ ghost use Rattle.pv_tool.specs.Words.{Link};
 ghost use Rattle.pv_tool.specs.Lines.{form_number, object_place_line};
 ghost use Rattle.pv_tool.specs.Outside.{beside, OnlyRead};
 ghost use Rattle.pv_tool.specs.Outcome.{refused};
-ghost use Rattle.pv_tool.specs.Delivery.{HaltsSo, RefusesAs};
+ghost use Rattle.pv_tool.specs.Delivery.{HaltsOverFiles, RefusesAs};
 ghost use Rattle.pv_tool.specs.Linking.{Links, HasObject, HasNoObject, HasObjects, FindsObjects, FirstFault, HasLinked, ImageReadsBack, image_made_line};
 ghost use Rattle.pv_tool.specs.Meaning.{Means, Counts, Leaves};
 
@@ -49,7 +49,7 @@ pub fn link<F: Files, S: Sink>(
 fn made<F: Files>(alloc: Global, names: &[String], files: &mut F) -> Result<Made, Halt>
     requires { length names.now ≤ 64 }
     ensures made { IfOk result (λ m. (p : ImageParts) × HasLinked (F.held files.old) (map string_bytes names.now) p × (m.file.items ≡ image_bytes p) × (m.line ≡ image_made_line p)) }
-    ensures halted { IfErr result (HaltsSo F.Files (FindsObjects (F.held files.old) (map string_bytes names.now)) files.old files.new (λ line. (image : List ℕ) → Links (F.held files.old) image (map string_bytes names.now) (refused line))) }
+    ensures halted { IfErr result (HaltsOverFiles F.Files (FindsObjects (F.held files.old) (map string_bytes names.now)) files.old files.new (λ line. (image : List ℕ) → Links (F.held files.old) image (map string_bytes names.now) (refused line))) }
     ensures read { OnlyRead F.Files (FindsObjects (F.held files.old) (map string_bytes names.now)) files.old files.new }
 {
     let objects = objects_in(alloc, names, files)?;
@@ -66,7 +66,7 @@ fn objects_in<F: Files>(alloc: Global, names: &[String], files: &mut F) -> Resul
     ensures objects { IfOk result (λ os. HasObjects (F.held files.old) (map string_bytes names.now) os.items) }
     ensures few { IfOk result (λ os. length os.items ≤ 64) }
     ensures linkable { IfOk result (λ os. All IsLinkable os.items) }
-    ensures halted { IfErr result (HaltsSo F.Files (FindsObjects (F.held files.old) (map string_bytes names.now)) files.old files.new (λ line. (i : ℕ) × (fault : Fault) × FirstFault (F.held files.old) (map string_bytes names.now) i fault × (line ≡ object_place_line (form_number fault.cause) i fault.at))) }
+    ensures halted { IfErr result (HaltsOverFiles F.Files (FindsObjects (F.held files.old) (map string_bytes names.now)) files.old files.new (λ line. (i : ℕ) × (fault : Fault) × FirstFault (F.held files.old) (map string_bytes names.now) i fault × (line ≡ object_place_line (form_number fault.cause) i fault.at))) }
     ensures read { OnlyRead F.Files (FindsObjects (F.held files.old) (map string_bytes names.now)) files.old files.new }
 {
     let mut objects = Vec::new(alloc);
@@ -81,7 +81,7 @@ fn objects_in<F: Files>(alloc: Global, names: &[String], files: &mut F) -> Resul
 fn object_in<F: Files>(alloc: Global, index: u32, name: &str, files: &mut F) -> Result<Object, Halt>
     ensures object { IfOk result (λ o. HasObject (F.held files.old) name.now o) }
     ensures linkable { IfOk result (λ o. IsLinkable o) }
-    ensures halted { IfErr result (HaltsSo F.Files (IsHeld (F.held files.old) name.now) files.old files.new (λ line. (fault : Fault) × HasNoObject (F.held files.old) name.now fault × (line ≡ object_place_line (form_number fault.cause) index fault.at))) }
+    ensures halted { IfErr result (HaltsOverFiles F.Files (IsHeld (F.held files.old) name.now) files.old files.new (λ line. (fault : Fault) × HasNoObject (F.held files.old) name.now fault × (line ≡ object_place_line (form_number fault.cause) index fault.at))) }
     ensures read { OnlyRead F.Files (IsHeld (F.held files.old) name.now) files.old files.new }
 {
     let file = load(alloc, name, files)?;

@@ -7,7 +7,7 @@ ghost use Rattle.board.specs.declared.fault.ScriptCause.{ScriptCause};
 ghost use Rattle.pv_tool.specs.View.{AreWithin, run_command};
 ghost use Rattle.pv_tool.specs.Lines.{script_line};
 ghost use Rattle.pv_tool.specs.Outside.{outside, completed_by, OnlyRead};
-ghost use Rattle.pv_tool.specs.Delivery.{HaltsSo};
+ghost use Rattle.pv_tool.specs.Delivery.{HaltsOverFiles};
 ghost use Rattle.pv_tool.specs.Checking.{HasImage};
 ghost use Rattle.pv_tool.specs.Running.{HasScript, HasNoScript, NoRun, FindsRun, AnswersOn, ToldAs};
 ghost use Rattle.pv_tool.specs.Meaning.{Means, Counts};
@@ -76,7 +76,7 @@ pub fn found<F: Files>(
     ensures image { IfOk result (λ found. HasImage (F.held files.old) image.now found.image) }
     ensures script { IfOk result (λ found. HasScript (F.held files.old) script.now found.script.list) }
     ensures form { IfOk result (λ found. is_script found.script.list ≡ true) }
-    ensures halted { IfErr result (HaltsSo F.Files (FindsRun (F.held files.old) image.now script.now) files.old files.new (NoRun (F.held files.old) image.now script.now)) }
+    ensures halted { IfErr result (HaltsOverFiles F.Files (FindsRun (F.held files.old) image.now script.now) files.old files.new (NoRun (F.held files.old) image.now script.now)) }
     ensures read { OnlyRead F.Files (FindsRun (F.held files.old) image.now script.now) files.old files.new }
 {
     let image = accepted(alloc, image, files)?;
@@ -88,7 +88,7 @@ pub fn found<F: Files>(
 fn scripted<F: Files>(alloc: Global, name: &str, files: &mut F) -> Result<Script, Halt>
     ensures script { IfOk result (λ script. HasScript (F.held files.old) name.now script.list) }
     ensures form { IfOk result (λ script. is_script script.list ≡ true) }
-    ensures halted { IfErr result (HaltsSo F.Files (IsHeld (F.held files.old) name.now) files.old files.new (λ line. (at : ℕ) × (cause : ScriptCause) × HasNoScript (F.held files.old) name.now (at, cause) × (line ≡ script_line at cause))) }
+    ensures halted { IfErr result (HaltsOverFiles F.Files (IsHeld (F.held files.old) name.now) files.old files.new (λ line. (at : ℕ) × (cause : ScriptCause) × HasNoScript (F.held files.old) name.now (at, cause) × (line ≡ script_line at cause))) }
     ensures read { OnlyRead F.Files (IsHeld (F.held files.old) name.now) files.old files.new }
 {
     let file = load(alloc, name, files)?;
