@@ -3,6 +3,7 @@
 ghost use Rattle.std.specs.Prelude.{◌≡◌};
 ghost use Rattle.asm_argument.specs.declared.operand.Partial.TheVariants as partial;
 ghost use Rattle.asm_argument.specs.Operand as spec;
+ghost use Rattle.asm_argument.specs.Shapes as shapes;
 
 use crate::operand::{Partial, discard, of_memory, registered};
 use crate::register::is_register;
@@ -11,7 +12,7 @@ use asm_lex::SourceCause;
 use asm_source::{Name, Value};
 
 fn is_scale(n: u32) -> bool
-    ensures { result ≡ spec.is_scale n }
+    ensures { result ≡ shapes.is_scale n }
 {
     n == 1 || n == 2 || n == 4 || n == 8
 }

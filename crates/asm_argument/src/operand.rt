@@ -3,6 +3,7 @@
 ghost use Rattle.std.specs.Prelude.{◌≡◌};
 ghost use Rattle.std.specs.Option.{option_copied};
 ghost use Rattle.asm_argument.specs.Operand as spec;
+ghost use Rattle.asm_argument.specs.Shapes as shapes;
 
 use crate::address::address_step;
 use crate::register::is_register;
@@ -63,7 +64,7 @@ pub enum Partial {
 }
 
 fn signed(negative: bool, n: u32) -> i64
-    ensures { result ≡ spec.signed negative n }
+    ensures { result ≡ shapes.signed negative n }
 {
     if negative {
         0 - i64::from(n)
@@ -83,7 +84,7 @@ fn turned(negative: bool, n: u32) -> i64
 }
 
 fn named(name: Name, number: i64) -> Value
-    ensures { result ≡ spec.named name number }
+    ensures { result ≡ shapes.named name number }
 {
     Value {
         name: Some(name),
@@ -92,7 +93,7 @@ fn named(name: Name, number: i64) -> Value
 }
 
 fn plain(number: i64) -> Value
-    ensures { result ≡ spec.plain number }
+    ensures { result ≡ shapes.plain number }
 {
     Value { name: None, number }
 }
@@ -101,7 +102,7 @@ fn plain(number: i64) -> Value
 pub fn discard(_so_far: Partial) {}
 
 pub fn of_memory(value: Option<Value>, base: Option<Name>, index: Option<Name>, scale: u8) -> Form
-    ensures { result ≡ spec.of_memory value base index scale }
+    ensures { result ≡ shapes.of_memory value base index scale }
 {
     Form::Memory {
         value,
@@ -113,7 +114,7 @@ pub fn of_memory(value: Option<Value>, base: Option<Name>, index: Option<Name>, 
 
 impl Shape {
     fn is_operand(self) -> bool
-        ensures { result ≡ spec.is_operand self }
+        ensures { result ≡ shapes.is_operand self }
     {
         match self {
             Shape::Operand => true,
@@ -122,7 +123,7 @@ impl Shape {
     }
 
     fn takes_names(self) -> bool
-        ensures { result ≡ spec.takes_names self }
+        ensures { result ≡ shapes.takes_names self }
     {
         match self {
             Shape::Operand | Shape::Value | Shape::Name => true,
@@ -131,7 +132,7 @@ impl Shape {
     }
 
     fn takes_sums(self) -> bool
-        ensures { result ≡ spec.takes_sums self }
+        ensures { result ≡ shapes.takes_sums self }
     {
         match self {
             Shape::Operand | Shape::Value => true,
@@ -140,7 +141,7 @@ impl Shape {
     }
 
     fn takes_minus(self) -> bool
-        ensures { result ≡ spec.takes_minus self }
+        ensures { result ≡ shapes.takes_minus self }
     {
         match self {
             Shape::Operand
@@ -154,7 +155,7 @@ impl Shape {
     }
 
     fn takes_numbers(self) -> bool
-        ensures { result ≡ spec.takes_numbers self }
+        ensures { result ≡ shapes.takes_numbers self }
     {
         match self {
             Shape::Operand
@@ -170,7 +171,7 @@ impl Shape {
 
     /// Whether a number, or one behind a minus, is of those that may stand there.
     fn fits(self, negative: bool, n: u32) -> bool
-        ensures { result ≡ spec.fits self negative n }
+        ensures { result ≡ shapes.fits self negative n }
     {
         match self {
             Shape::Count => !negative || n == 0,
@@ -181,7 +182,7 @@ impl Shape {
     }
 
     fn takes_text(self) -> bool
-        ensures { result ≡ spec.takes_text self }
+        ensures { result ≡ shapes.takes_text self }
     {
         match self {
             Shape::Text => true,
@@ -203,7 +204,7 @@ fn allowed(may: bool, then: Partial) -> Result<Partial, SourceCause>
 }
 
 fn is_alignment(n: u32) -> bool
-    ensures { result ≡ spec.is_alignment n }
+    ensures { result ≡ shapes.is_alignment n }
 {
     n == 1
         || n == 2
@@ -260,7 +261,7 @@ fn first(shape: Shape, terminal: Terminal) -> Result<Partial, SourceCause>
 
 /// Whether a number may stand behind a minus.
 fn is_low(n: u32) -> bool
-    ensures { result ≡ spec.is_low n }
+    ensures { result ≡ shapes.is_low n }
 {
     n <= 2147483648
 }

@@ -6,6 +6,7 @@ ghost use Rattle.asm_lex.specs.Machine.{start_of};
 ghost use Rattle.asm_lex.specs.declared.machine.Next.TheVariants.{Goes};
 ghost use Rattle.asm_parse.specs.Statement.{fault_line, next_step};
 ghost use Rattle.asm_parse.specs.Reading as spec;
+ghost use Rattle.asm_parse.specs.Items as items;
 ghost use Rattle.asm_parse.specs.Running as run;
 
 use crate::dead::{fault_line, next_step, stopped};
@@ -47,7 +48,7 @@ fn feed_terminal(
 
 /// Whether no comma and no blank is in the token's bytes, and it ends no statement.
 fn is_part(kind: TokenKind, bytes: &[u8]) -> bool
-    ensures { result ≡ spec.is_part kind bytes.now }
+    ensures { result ≡ items.is_part kind bytes.now }
 {
     match kind {
         TokenKind::End => false,
@@ -57,7 +58,7 @@ fn is_part(kind: TokenKind, bytes: &[u8]) -> bool
 }
 
 fn are_inside(bytes: &[u8]) -> bool
-    ensures { result ≡ list_all spec.is_inside bytes.now }
+    ensures { result ≡ list_all items.is_inside bytes.now }
 {
     bytes
         .iter()

@@ -2,6 +2,7 @@
 
 ghost use Rattle.std.specs.Prelude.{◌≡◌};
 ghost use Rattle.asm_parse.specs.Statement as spec;
+ghost use Rattle.asm_parse.specs.Items as items;
 
 use crate::argument::{argument_step, misplaced, nothing_yet, noting};
 use crate::directive::{
@@ -81,7 +82,7 @@ fn instruction_step(
 
 /// Whether the statement of this name is skipped.
 fn is_passed(scope: &Scope, name: &Name) -> bool
-    ensures { result ≡ spec.is_passed scope.now name.now }
+    ensures { result ≡ items.is_passed scope.now name.now }
 {
     scope.is_skipping() && !changes_section(name)
 }
