@@ -47,19 +47,57 @@ pub enum Partial {
     Percent,
     Dollar,
     Minus(ValuePlace),
-    Name(ValuePlace, Name),
-    /// Behind a sign: true for a minus.
-    Sign(ValuePlace, Name, bool),
-    SignMinus(ValuePlace, Name, bool),
-    Number(ValuePlace, Value),
+    Name {
+        place: ValuePlace,
+        name: Name,
+    },
+    /// Behind a sign.
+    Sign {
+        place: ValuePlace,
+        name: Name,
+        negative: bool,
+    },
+    /// Behind a sign and a minus.
+    SignMinus {
+        place: ValuePlace,
+        name: Name,
+        negative: bool,
+    },
+    Number {
+        place: ValuePlace,
+        value: Value,
+    },
     Open(Option<Value>),
     BasePercent(Option<Value>),
-    Base(Option<Value>, Name),
-    IndexComma(Option<Value>, Option<Name>),
-    IndexPercent(Option<Value>, Option<Name>),
-    Index(Option<Value>, Option<Name>, Name),
-    Scale(Option<Value>, Option<Name>, Name),
-    Scaled(Option<Value>, Option<Name>, Name, u8),
+    Base {
+        value: Option<Value>,
+        base: Name,
+    },
+    IndexComma {
+        value: Option<Value>,
+        base: Option<Name>,
+    },
+    IndexPercent {
+        value: Option<Value>,
+        base: Option<Name>,
+    },
+    Index {
+        value: Option<Value>,
+        base: Option<Name>,
+        index: Name,
+    },
+    /// Behind the comma of a scale.
+    Scale {
+        value: Option<Value>,
+        base: Option<Name>,
+        index: Name,
+    },
+    Scaled {
+        value: Option<Value>,
+        base: Option<Name>,
+        index: Name,
+        scale: u8,
+    },
     Whole(Form),
 }
 
@@ -248,11 +286,17 @@ fn first(shape: Shape, terminal: Terminal) -> Result<Partial, SourceCause>
         Terminal::Number(n) => counted(
             shape.takes_numbers(),
             shape.fits(false, n),
-            Partial::Number(ValuePlace::Memory, plain(i64::from(n))),
+            Partial::Number {
+                place: ValuePlace::Memory,
+                value: plain(i64::from(n)),
+            },
         ),
         Terminal::Name(name) => allowed(
             shape.takes_names(),
-            Partial::Name(ValuePlace::Memory, name),
+            Partial::Name {
+                place: ValuePlace::Memory,
+                name,
+            },
         ),
         Terminal::Text(bytes) => allowed(shape.takes_text(), Partial::Whole(Form::Text(bytes))),
         _ => Err(SourceCause::BadOperand),
@@ -312,38 +356,79 @@ pub fn operand_step(
         },
         Partial::Dollar => match terminal {
             Terminal::Minus => Ok(Partial::Minus(ValuePlace::Immediate)),
-            Terminal::Number(n) => Ok(Partial::Number(ValuePlace::Immediate, plain(i64::from(n)))),
-            Terminal::Name(name) => Ok(Partial::Name(ValuePlace::Immediate, name)),
+            Terminal::Number(n) => Ok(Partial::Number {
+                place: ValuePlace::Immediate,
+                value: plain(i64::from(n)),
+            }),
+            Terminal::Name(name) => Ok(Partial::Name {
+                place: ValuePlace::Immediate,
+                name,
+            }),
             _ => Err(SourceCause::BadOperand),
         },
         Partial::Minus(place) => match terminal {
             Terminal::Number(n) => lowered(
                 n,
                 shape.fits(true, n),
-                Partial::Number(place, plain(signed(true, n))),
+                Partial::Number {
+                    place,
+                    value: plain(signed(true, n)),
+                },
             ),
             _ => Err(SourceCause::BadOperand),
         },
-        Partial::Name(place, name) => match terminal {
-            Terminal::Plus => allowed(shape.takes_sums(), Partial::Sign(place, name, false)),
-            Terminal::Minus => allowed(shape.takes_sums(), Partial::Sign(place, name, true)),
+        Partial::Name { place, name } => match terminal {
+            Terminal::Plus => allowed(
+                shape.takes_sums(),
+                Partial::Sign {
+                    place,
+                    name,
+                    negative: false,
+                },
+            ),
+            Terminal::Minus => allowed(
+                shape.takes_sums(),
+                Partial::Sign {
+                    place,
+                    name,
+                    negative: true,
+                },
+            ),
             Terminal::Open => open(shape, place, named(name, 0)),
             _ => Err(SourceCause::BadOperand),
         },
-        Partial::Sign(place, name, negative) => match terminal {
-            Terminal::Minus => Ok(Partial::SignMinus(place, name, negative)),
-            Terminal::Number(n) => Ok(Partial::Number(place, named(name, signed(negative, n)))),
+        Partial::Sign {
+            place,
+            name,
+            negative,
+        } => match terminal {
+            Terminal::Minus => Ok(Partial::SignMinus {
+                place,
+                name,
+                negative,
+            }),
+            Terminal::Number(n) => Ok(Partial::Number {
+                place,
+                value: named(name, signed(negative, n)),
+            }),
             _ => Err(SourceCause::BadOperand),
         },
-        Partial::SignMinus(place, name, negative) => match terminal {
+        Partial::SignMinus {
+            place,
+            name,
+            negative,
+        } => match terminal {
             Terminal::Number(n) => lowered(
                 n,
                 true,
-                Partial::Number(place, named(name, turned(negative, n))),
+                Partial::Number {
+                    place,
+                    value: named(name, turned(negative, n)),
+                },
             ),
             _ => Err(SourceCause::BadOperand),
         },
-        Partial::Number(place, value) => match terminal {
+        Partial::Number { place, value } => match terminal {
             Terminal::Open => open(shape, place, value),
             _ => Err(SourceCause::BadOperand),
         },
@@ -365,15 +450,22 @@ pub fn finished(so_far: Partial) -> Option<Form>
     ensures { result ≡ spec.finished so_far }
 {
     match so_far {
-        Partial::Name(ValuePlace::Immediate, name) => Some(Form::Immediate(named(name, 0))),
-        Partial::Name(ValuePlace::Memory, name) => Some(of_memory(
-            Some(named(name, 0)),
-            None,
-            None,
-            1,
-        )),
-        Partial::Number(ValuePlace::Immediate, value) => Some(Form::Immediate(value)),
-        Partial::Number(ValuePlace::Memory, value) => Some(of_memory(Some(value), None, None, 1)),
+        Partial::Name {
+            place: ValuePlace::Immediate,
+            name,
+        } => Some(Form::Immediate(named(name, 0))),
+        Partial::Name {
+            place: ValuePlace::Memory,
+            name,
+        } => Some(of_memory(Some(named(name, 0)), None, None, 1)),
+        Partial::Number {
+            place: ValuePlace::Immediate,
+            value,
+        } => Some(Form::Immediate(value)),
+        Partial::Number {
+            place: ValuePlace::Memory,
+            value,
+        } => Some(of_memory(Some(value), None, None, 1)),
         Partial::Whole(form) => Some(form),
         Partial::Absent => Some(Form::Absent),
         other => {
@@ -387,7 +479,7 @@ pub fn is_finished(so_far: &Partial) -> bool
     ensures { result ≡ spec.is_finished so_far.now }
 {
     match so_far {
-        Partial::Name(_, _) | Partial::Number(_, _) | Partial::Whole(_) | Partial::Absent => true,
+        Partial::Name { .. } | Partial::Number { .. } | Partial::Whole(_) | Partial::Absent => true,
         _ => false,
     }
 }
@@ -426,7 +518,7 @@ pub fn awaits_register(so_far: &Partial) -> bool
     ensures { result ≡ spec.awaits_register so_far.now }
 {
     match so_far {
-        Partial::Percent | Partial::BasePercent(_) | Partial::IndexPercent(_, _) => true,
+        Partial::Percent | Partial::BasePercent(_) | Partial::IndexPercent { .. } => true,
         _ => false,
     }
 }
@@ -436,7 +528,7 @@ pub fn name_in(so_far: &Partial) -> Option<&Name>
     ensures { option_copied result ≡ spec.name_in so_far.now }
 {
     match so_far {
-        Partial::Name(_, name) => Some(name),
+        Partial::Name { name, .. } => Some(name),
         _ => None,
     }
 }

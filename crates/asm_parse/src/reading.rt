@@ -70,7 +70,7 @@ fn is_longer(state: &StatementState, at: usize, kind: TokenKind, bytes: &[u8]) -
     ensures { result ≡ spec.is_longer state.now at kind bytes.now }
 {
     match state {
-        StatementState::Sectioned(_, _, _, end) => *end == at && is_part(kind, bytes),
+        StatementState::Sectioned { end, .. } => *end == at && is_part(kind, bytes),
         _ => false,
     }
 }
@@ -80,10 +80,20 @@ fn longer(state: StatementState, end: usize, bytes: &[u8]) -> Result<StatementSt
     ensures { IfOk result (λ st. st ≡ spec.longer state end bytes.now) }
 {
     match state {
-        StatementState::Sectioned(line, name, section, _) => {
+        StatementState::Sectioned {
+            line,
+            name,
+            section,
+            ..
+        } => {
             let mut section = section.bytes;
             section.extend_from_slice(bytes)?;
-            Ok(StatementState::Sectioned(line, name, Name { bytes: section }, end))
+            Ok(StatementState::Sectioned {
+                line,
+                name,
+                section: Name { bytes: section },
+                end,
+            })
         }
         other => Ok(other),
     }
@@ -94,9 +104,17 @@ fn ending_at(end: usize, state: StatementState) -> StatementState
     ensures { result ≡ spec.ending_at end state }
 {
     match state {
-        StatementState::Sectioned(line, name, section, _) => StatementState::Sectioned(
-            line, name, section, end,
-        ),
+        StatementState::Sectioned {
+            line,
+            name,
+            section,
+            ..
+        } => StatementState::Sectioned {
+            line,
+            name,
+            section,
+            end,
+        },
         other => other,
     }
 }
