@@ -16,7 +16,8 @@ use Rattle.asm_source.specs.declared.tree.Value.{Value}
 use Rattle.asm_source.specs.declared.tree.Form.{Form}
 use Rattle.asm_source.specs.declared.tree.Form.TheVariants as form
 use Rattle.asm_argument.specs.Grammar.{IsConstant, IsValue, IsAddress, IsForm}
-use Rattle.asm_argument.specs.Operand.{takes_names, takes_sums, takes_minus, takes_numbers, takes_text, takes_absent, begun, fits, counted, allowed, lowered, registered, signed, turned, named, plain, of_memory, is_operand, first, is_low, is_register, is_scale, open_paren, address_step, next_terminal, operand_step, finished}
+use Rattle.asm_argument.specs.Operand.{begun, counted, allowed, lowered, registered, turned, first, open_paren, address_step, next_terminal, operand_step, finished}
+use Rattle.asm_argument.specs.Shapes.{takes_names, takes_sums, takes_minus, takes_numbers, takes_text, takes_absent, fits, signed, named, plain, of_memory, is_operand, is_low, is_register, is_scale}
 
 abbrev pub ok : Partial → Result Partial SourceCause
 ok p = Ok p

@@ -6,7 +6,7 @@ use Rattle.asm_argument.specs.declared.operand.Shape.{Shape}
 use Rattle.asm_source.specs.declared.tree.Value.{Value}
 use Rattle.asm_source.specs.declared.tree.Form.{Form}
 use Rattle.asm_source.specs.declared.tree.Form.TheVariants as form
-use Rattle.asm_argument.specs.Operand.{signed, named, plain, of_memory, is_operand, takes_names, takes_sums, takes_minus, takes_numbers, takes_text, takes_absent, fits, is_low, is_register, is_scale}
+use Rattle.asm_argument.specs.Shapes.{signed, named, plain, of_memory, is_operand, takes_names, takes_sums, takes_minus, takes_numbers, takes_text, takes_absent, fits, is_low, is_register, is_scale}
 
 -- A number behind a sign, true for a minus. It may have a minus of its own.
 pub data IsConstant : Bool → List Terminal → ℤ → Type 0 where

@@ -1,4 +1,5 @@
 pub mod Escapes
 pub mod Terminals
+pub mod Shapes
 pub mod Operand
 pub mod Grammar

@@ -3,6 +3,7 @@
 ghost use Rattle.std.specs.Prelude.{◌≡◌};
 ghost use Rattle.asm_argument.specs.declared.operand.Partial.TheVariants as partial;
 ghost use Rattle.asm_argument.specs.Operand as spec;
+ghost use Rattle.asm_argument.specs.Shapes as shapes;
 
 use crate::operand::{Partial, discard, of_memory, registered};
 use crate::register::is_register;
@@ -11,7 +12,7 @@ use asm_lex::SourceCause;
 use asm_source::{Name, Value};
 
 fn is_scale(n: u32) -> bool
-    ensures { result ≡ spec.is_scale n }
+    ensures { result ≡ shapes.is_scale n }
 {
     n == 1 || n == 2 || n == 4 || n == 8
 }
@@ -22,7 +23,7 @@ fn open_step(value: Option<Value>, terminal: Terminal) -> Result<Partial, Source
 {
     match terminal {
         Terminal::Percent => Ok(Partial::BasePercent(value)),
-        Terminal::Comma => Ok(Partial::IndexComma(value, None)),
+        Terminal::Comma => Ok(Partial::IndexComma { value, base: None }),
         _ => Err(SourceCause::BadOperand),
     }
 }
@@ -34,7 +35,7 @@ fn base_percent_step(value: Option<Value>, terminal: Terminal) -> Result<Partial
     match terminal {
         Terminal::Name(name) => {
             let is = is_register(&name);
-            registered(is, Partial::Base(value, name))
+            registered(is, Partial::Base { value, base: name })
         }
         _ => Err(SourceCause::BadRegister),
     }
@@ -46,7 +47,10 @@ fn base_step(value: Option<Value>, base: Name, terminal: Terminal) -> Result<Par
 {
     match terminal {
         Terminal::Close => Ok(Partial::Whole(of_memory(value, Some(base), None, 1))),
-        Terminal::Comma => Ok(Partial::IndexComma(value, Some(base))),
+        Terminal::Comma => Ok(Partial::IndexComma {
+            value,
+            base: Some(base),
+        }),
         _ => Err(SourceCause::BadOperand),
     }
 }
@@ -60,7 +64,7 @@ fn index_comma_step(
     ensures { result ≡ spec.address_step (partial.IndexComma value base) terminal }
 {
     match terminal {
-        Terminal::Percent => Ok(Partial::IndexPercent(value, base)),
+        Terminal::Percent => Ok(Partial::IndexPercent { value, base }),
         _ => Err(SourceCause::BadOperand),
     }
 }
@@ -76,7 +80,14 @@ fn index_percent_step(
     match terminal {
         Terminal::Name(name) => {
             let is = is_register(&name);
-            registered(is, Partial::Index(value, base, name))
+            registered(
+                is,
+                Partial::Index {
+                    value,
+                    base,
+                    index: name,
+                },
+            )
         }
         _ => Err(SourceCause::BadRegister),
     }
@@ -93,7 +104,7 @@ fn index_step(
 {
     match terminal {
         Terminal::Close => Ok(Partial::Whole(of_memory(value, base, Some(index), 1))),
-        Terminal::Comma => Ok(Partial::Scale(value, base, index)),
+        Terminal::Comma => Ok(Partial::Scale { value, base, index }),
         _ => Err(SourceCause::BadOperand),
     }
 }
@@ -110,7 +121,12 @@ fn scale_step(
     match terminal {
         Terminal::Number(n) => {
             if is_scale(n) {
-                Ok(Partial::Scaled(value, base, index, n as u8))
+                Ok(Partial::Scaled {
+                    value,
+                    base,
+                    index,
+                    scale: n as u8,
+                })
             } else {
                 Err(SourceCause::BadScale)
             }
@@ -142,14 +158,17 @@ pub fn address_step(so_far: Partial, terminal: Terminal) -> Result<Partial, Sour
     match so_far {
         Partial::Open(value) => open_step(value, terminal),
         Partial::BasePercent(value) => base_percent_step(value, terminal),
-        Partial::Base(value, base) => base_step(value, base, terminal),
-        Partial::IndexComma(value, base) => index_comma_step(value, base, terminal),
-        Partial::IndexPercent(value, base) => index_percent_step(value, base, terminal),
-        Partial::Index(value, base, index) => index_step(value, base, index, terminal),
-        Partial::Scale(value, base, index) => scale_step(value, base, index, terminal),
-        Partial::Scaled(value, base, index, scale) => {
-            scaled_step(value, base, index, scale, terminal)
-        }
+        Partial::Base { value, base } => base_step(value, base, terminal),
+        Partial::IndexComma { value, base } => index_comma_step(value, base, terminal),
+        Partial::IndexPercent { value, base } => index_percent_step(value, base, terminal),
+        Partial::Index { value, base, index } => index_step(value, base, index, terminal),
+        Partial::Scale { value, base, index } => scale_step(value, base, index, terminal),
+        Partial::Scaled {
+            value,
+            base,
+            index,
+            scale,
+        } => { scaled_step(value, base, index, scale, terminal) }
         other => {
             discard(other);
             Err(SourceCause::BadOperand)

@@ -3,6 +3,7 @@
 ghost use Rattle.std.specs.Prelude.{◌≡◌};
 ghost use Rattle.std.specs.Option.{option_copied};
 ghost use Rattle.asm_argument.specs.Operand as spec;
+ghost use Rattle.asm_argument.specs.Shapes as shapes;
 
 use crate::address::address_step;
 use crate::register::is_register;
@@ -46,24 +47,62 @@ pub enum Partial {
     Percent,
     Dollar,
     Minus(ValuePlace),
-    Name(ValuePlace, Name),
-    /// Behind a sign: true for a minus.
-    Sign(ValuePlace, Name, bool),
-    SignMinus(ValuePlace, Name, bool),
-    Number(ValuePlace, Value),
+    Name {
+        place: ValuePlace,
+        name: Name,
+    },
+    /// Behind a sign.
+    Sign {
+        place: ValuePlace,
+        name: Name,
+        negative: bool,
+    },
+    /// Behind a sign and a minus.
+    SignMinus {
+        place: ValuePlace,
+        name: Name,
+        negative: bool,
+    },
+    Number {
+        place: ValuePlace,
+        value: Value,
+    },
     Open(Option<Value>),
     BasePercent(Option<Value>),
-    Base(Option<Value>, Name),
-    IndexComma(Option<Value>, Option<Name>),
-    IndexPercent(Option<Value>, Option<Name>),
-    Index(Option<Value>, Option<Name>, Name),
-    Scale(Option<Value>, Option<Name>, Name),
-    Scaled(Option<Value>, Option<Name>, Name, u8),
+    Base {
+        value: Option<Value>,
+        base: Name,
+    },
+    IndexComma {
+        value: Option<Value>,
+        base: Option<Name>,
+    },
+    IndexPercent {
+        value: Option<Value>,
+        base: Option<Name>,
+    },
+    Index {
+        value: Option<Value>,
+        base: Option<Name>,
+        index: Name,
+    },
+    /// Behind the comma of a scale.
+    Scale {
+        value: Option<Value>,
+        base: Option<Name>,
+        index: Name,
+    },
+    Scaled {
+        value: Option<Value>,
+        base: Option<Name>,
+        index: Name,
+        scale: u8,
+    },
     Whole(Form),
 }
 
 fn signed(negative: bool, n: u32) -> i64
-    ensures { result ≡ spec.signed negative n }
+    ensures { result ≡ shapes.signed negative n }
 {
     if negative {
         0 - i64::from(n)
@@ -83,7 +122,7 @@ fn turned(negative: bool, n: u32) -> i64
 }
 
 fn named(name: Name, number: i64) -> Value
-    ensures { result ≡ spec.named name number }
+    ensures { result ≡ shapes.named name number }
 {
     Value {
         name: Some(name),
@@ -92,7 +131,7 @@ fn named(name: Name, number: i64) -> Value
 }
 
 fn plain(number: i64) -> Value
-    ensures { result ≡ spec.plain number }
+    ensures { result ≡ shapes.plain number }
 {
     Value { name: None, number }
 }
@@ -101,7 +140,7 @@ fn plain(number: i64) -> Value
 pub fn discard(_so_far: Partial) {}
 
 pub fn of_memory(value: Option<Value>, base: Option<Name>, index: Option<Name>, scale: u8) -> Form
-    ensures { result ≡ spec.of_memory value base index scale }
+    ensures { result ≡ shapes.of_memory value base index scale }
 {
     Form::Memory {
         value,
@@ -113,7 +152,7 @@ pub fn of_memory(value: Option<Value>, base: Option<Name>, index: Option<Name>, 
 
 impl Shape {
     fn is_operand(self) -> bool
-        ensures { result ≡ spec.is_operand self }
+        ensures { result ≡ shapes.is_operand self }
     {
         match self {
             Shape::Operand => true,
@@ -122,7 +161,7 @@ impl Shape {
     }
 
     fn takes_names(self) -> bool
-        ensures { result ≡ spec.takes_names self }
+        ensures { result ≡ shapes.takes_names self }
     {
         match self {
             Shape::Operand | Shape::Value | Shape::Name => true,
@@ -131,7 +170,7 @@ impl Shape {
     }
 
     fn takes_sums(self) -> bool
-        ensures { result ≡ spec.takes_sums self }
+        ensures { result ≡ shapes.takes_sums self }
     {
         match self {
             Shape::Operand | Shape::Value => true,
@@ -140,7 +179,7 @@ impl Shape {
     }
 
     fn takes_minus(self) -> bool
-        ensures { result ≡ spec.takes_minus self }
+        ensures { result ≡ shapes.takes_minus self }
     {
         match self {
             Shape::Operand
@@ -154,7 +193,7 @@ impl Shape {
     }
 
     fn takes_numbers(self) -> bool
-        ensures { result ≡ spec.takes_numbers self }
+        ensures { result ≡ shapes.takes_numbers self }
     {
         match self {
             Shape::Operand
@@ -170,7 +209,7 @@ impl Shape {
 
     /// Whether a number, or one behind a minus, is of those that may stand there.
     fn fits(self, negative: bool, n: u32) -> bool
-        ensures { result ≡ spec.fits self negative n }
+        ensures { result ≡ shapes.fits self negative n }
     {
         match self {
             Shape::Count => !negative || n == 0,
@@ -181,7 +220,7 @@ impl Shape {
     }
 
     fn takes_text(self) -> bool
-        ensures { result ≡ spec.takes_text self }
+        ensures { result ≡ shapes.takes_text self }
     {
         match self {
             Shape::Text => true,
@@ -203,7 +242,7 @@ fn allowed(may: bool, then: Partial) -> Result<Partial, SourceCause>
 }
 
 fn is_alignment(n: u32) -> bool
-    ensures { result ≡ spec.is_alignment n }
+    ensures { result ≡ shapes.is_alignment n }
 {
     n == 1
         || n == 2
@@ -247,11 +286,17 @@ fn first(shape: Shape, terminal: Terminal) -> Result<Partial, SourceCause>
         Terminal::Number(n) => counted(
             shape.takes_numbers(),
             shape.fits(false, n),
-            Partial::Number(ValuePlace::Memory, plain(i64::from(n))),
+            Partial::Number {
+                place: ValuePlace::Memory,
+                value: plain(i64::from(n)),
+            },
         ),
         Terminal::Name(name) => allowed(
             shape.takes_names(),
-            Partial::Name(ValuePlace::Memory, name),
+            Partial::Name {
+                place: ValuePlace::Memory,
+                name,
+            },
         ),
         Terminal::Text(bytes) => allowed(shape.takes_text(), Partial::Whole(Form::Text(bytes))),
         _ => Err(SourceCause::BadOperand),
@@ -260,7 +305,7 @@ fn first(shape: Shape, terminal: Terminal) -> Result<Partial, SourceCause>
 
 /// Whether a number may stand behind a minus.
 fn is_low(n: u32) -> bool
-    ensures { result ≡ spec.is_low n }
+    ensures { result ≡ shapes.is_low n }
 {
     n <= 2147483648
 }
@@ -311,38 +356,79 @@ pub fn operand_step(
         },
         Partial::Dollar => match terminal {
             Terminal::Minus => Ok(Partial::Minus(ValuePlace::Immediate)),
-            Terminal::Number(n) => Ok(Partial::Number(ValuePlace::Immediate, plain(i64::from(n)))),
-            Terminal::Name(name) => Ok(Partial::Name(ValuePlace::Immediate, name)),
+            Terminal::Number(n) => Ok(Partial::Number {
+                place: ValuePlace::Immediate,
+                value: plain(i64::from(n)),
+            }),
+            Terminal::Name(name) => Ok(Partial::Name {
+                place: ValuePlace::Immediate,
+                name,
+            }),
             _ => Err(SourceCause::BadOperand),
         },
         Partial::Minus(place) => match terminal {
             Terminal::Number(n) => lowered(
                 n,
                 shape.fits(true, n),
-                Partial::Number(place, plain(signed(true, n))),
+                Partial::Number {
+                    place,
+                    value: plain(signed(true, n)),
+                },
             ),
             _ => Err(SourceCause::BadOperand),
         },
-        Partial::Name(place, name) => match terminal {
-            Terminal::Plus => allowed(shape.takes_sums(), Partial::Sign(place, name, false)),
-            Terminal::Minus => allowed(shape.takes_sums(), Partial::Sign(place, name, true)),
+        Partial::Name { place, name } => match terminal {
+            Terminal::Plus => allowed(
+                shape.takes_sums(),
+                Partial::Sign {
+                    place,
+                    name,
+                    negative: false,
+                },
+            ),
+            Terminal::Minus => allowed(
+                shape.takes_sums(),
+                Partial::Sign {
+                    place,
+                    name,
+                    negative: true,
+                },
+            ),
             Terminal::Open => open(shape, place, named(name, 0)),
             _ => Err(SourceCause::BadOperand),
         },
-        Partial::Sign(place, name, negative) => match terminal {
-            Terminal::Minus => Ok(Partial::SignMinus(place, name, negative)),
-            Terminal::Number(n) => Ok(Partial::Number(place, named(name, signed(negative, n)))),
+        Partial::Sign {
+            place,
+            name,
+            negative,
+        } => match terminal {
+            Terminal::Minus => Ok(Partial::SignMinus {
+                place,
+                name,
+                negative,
+            }),
+            Terminal::Number(n) => Ok(Partial::Number {
+                place,
+                value: named(name, signed(negative, n)),
+            }),
             _ => Err(SourceCause::BadOperand),
         },
-        Partial::SignMinus(place, name, negative) => match terminal {
+        Partial::SignMinus {
+            place,
+            name,
+            negative,
+        } => match terminal {
             Terminal::Number(n) => lowered(
                 n,
                 true,
-                Partial::Number(place, named(name, turned(negative, n))),
+                Partial::Number {
+                    place,
+                    value: named(name, turned(negative, n)),
+                },
             ),
             _ => Err(SourceCause::BadOperand),
         },
-        Partial::Number(place, value) => match terminal {
+        Partial::Number { place, value } => match terminal {
             Terminal::Open => open(shape, place, value),
             _ => Err(SourceCause::BadOperand),
         },
@@ -364,15 +450,22 @@ pub fn finished(so_far: Partial) -> Option<Form>
     ensures { result ≡ spec.finished so_far }
 {
     match so_far {
-        Partial::Name(ValuePlace::Immediate, name) => Some(Form::Immediate(named(name, 0))),
-        Partial::Name(ValuePlace::Memory, name) => Some(of_memory(
-            Some(named(name, 0)),
-            None,
-            None,
-            1,
-        )),
-        Partial::Number(ValuePlace::Immediate, value) => Some(Form::Immediate(value)),
-        Partial::Number(ValuePlace::Memory, value) => Some(of_memory(Some(value), None, None, 1)),
+        Partial::Name {
+            place: ValuePlace::Immediate,
+            name,
+        } => Some(Form::Immediate(named(name, 0))),
+        Partial::Name {
+            place: ValuePlace::Memory,
+            name,
+        } => Some(of_memory(Some(named(name, 0)), None, None, 1)),
+        Partial::Number {
+            place: ValuePlace::Immediate,
+            value,
+        } => Some(Form::Immediate(value)),
+        Partial::Number {
+            place: ValuePlace::Memory,
+            value,
+        } => Some(of_memory(Some(value), None, None, 1)),
         Partial::Whole(form) => Some(form),
         Partial::Absent => Some(Form::Absent),
         other => {
@@ -386,7 +479,7 @@ pub fn is_finished(so_far: &Partial) -> bool
     ensures { result ≡ spec.is_finished so_far.now }
 {
     match so_far {
-        Partial::Name(_, _) | Partial::Number(_, _) | Partial::Whole(_) | Partial::Absent => true,
+        Partial::Name { .. } | Partial::Number { .. } | Partial::Whole(_) | Partial::Absent => true,
         _ => false,
     }
 }
@@ -425,7 +518,7 @@ pub fn awaits_register(so_far: &Partial) -> bool
     ensures { result ≡ spec.awaits_register so_far.now }
 {
     match so_far {
-        Partial::Percent | Partial::BasePercent(_) | Partial::IndexPercent(_, _) => true,
+        Partial::Percent | Partial::BasePercent(_) | Partial::IndexPercent { .. } => true,
         _ => false,
     }
 }
@@ -435,7 +528,7 @@ pub fn name_in(so_far: &Partial) -> Option<&Name>
     ensures { option_copied result ≡ spec.name_in so_far.now }
 {
     match so_far {
-        Partial::Name(_, name) => Some(name),
+        Partial::Name { name, .. } => Some(name),
         _ => None,
     }
 }

@@ -1,21 +1,21 @@
 //! The names of registers.
 
 ghost use Rattle.std.specs.Prelude.{◌≡◌};
-ghost use Rattle.asm_argument.specs.Operand as spec;
+ghost use Rattle.asm_argument.specs.Shapes as shapes;
 
 use asm_source::{Name, is_text};
 
 /// Whether the name is one of the 24 general registers, `es`, `cs`, `ss`, `ds`, `cr0`, `cr2`, `cr3`
 /// or `cr4`.
 pub fn is_register(name: &Name) -> bool
-    ensures { result ≡ spec.is_register name.now }
+    ensures { result ≡ shapes.is_register name.now }
 {
     is_register_name(&name.bytes)
 }
 
-#[tactic(auto, unfolding(crate::specs::Operand::is_register))]
+#[tactic(auto, unfolding(crate::specs::Shapes::is_register))]
 fn is_register_name(name: &[u8]) -> bool
-    ensures { result ≡ spec.is_register name.now }
+    ensures { result ≡ shapes.is_register name.now }
 {
     is_text(name, b"al")
         || is_text(name, b"cl")

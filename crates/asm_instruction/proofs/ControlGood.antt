@@ -6,6 +6,7 @@ use Rattle.ia32_types.specs.declared.insn.Op.{Op}
 use Rattle.ia32_types.specs.declared.insn.Op.TheVariants as op
 use Rattle.ia32_types.specs.declared.size.Size.{Size}
 use Rattle.ia32_types.specs.declared.size.Size.TheVariants as size
+use Rattle.ia32_types.specs.Shape.{is_direct_branch}
 use Rattle.ia32_rows.proofs.Fields.{both}
 use Rattle.asm_source.specs.declared.tree.Argument.{Argument}
 use Rattle.asm_instruction.specs.declared.argument.Number.{Number}
@@ -22,7 +23,6 @@ use Rattle.asm_instruction.specs.Sizes.{agreed}
 use Rattle.asm_instruction.specs.Draft.{nothing, register_or_memory, said, instruction, with_number, alone}
 use Rattle.asm_instruction.specs.Arithmetic.{one}
 use Rattle.asm_instruction.specs.Control.{distance, to_symbol, is_symbol, to_operand, direct, indirect, return_of, returned, with_selector, far, with_condition, set, control_draft}
-use Rattle.asm_instruction.specs.Assembled.{is_direct}
 use Rattle.asm_instruction.proofs.Goods.{When, bind_from, bind_any, choice, word_below, distance_below, PlaceGood, MemoryGood, GivenGood, OperandsGood, DraftGood, opposite, family_good, branch_direct, branch_indirect}
 use Rattle.asm_instruction.proofs.Goods.{Good, instruction_good, instruction_op, instruction_numbered, rom_good, Plain}
 
@@ -31,7 +31,7 @@ module _ (args : List Argument) where
   both_true_first true b h = refl
   both_true_first false b h = h
 
-  pub symbol_good : (o : Op) (c : ℕ) (m : Memory) → is_direct o ≡ true → c < 16 → is_symbol m ≡ true → MemoryGood args m → DraftGood args (to_symbol o c m)
+  pub symbol_good : (o : Op) (c : ℕ) (m : Memory) → is_direct_branch o ≡ true → c < 16 → is_symbol m ≡ true → MemoryGood args m → DraftGood args (to_symbol o c m)
   unfolding to_symbol instruction
   symbol_good o c m e lt s h =
       let named = both (m.displacement.named) (is_none m.address.base) (both (m.displacement.named && is_none m.address.base) (is_none m.address.index) s).0 in
@@ -41,11 +41,11 @@ module _ (args : List Argument) where
         relative = λ t. e;
       }
 
-  pub to_operand_if : (o : Op) (c : ℕ) (m : Memory) (b : Bool) → is_symbol m ≡ b → is_direct o ≡ true → c < 16 → MemoryGood args m → Good args (if b then Some (to_symbol o c m) else None)
+  pub to_operand_if : (o : Op) (c : ℕ) (m : Memory) (b : Bool) → is_symbol m ≡ b → is_direct_branch o ≡ true → c < 16 → MemoryGood args m → Good args (if b then Some (to_symbol o c m) else None)
   to_operand_if o c m true s e lt h = symbol_good o c m e lt s h
   to_operand_if o c m false s e lt h = tt
 
-  pub to_operand_good : (o : Op) (c : ℕ) (g : Given) → is_direct o ≡ true → c < 16 → GivenGood args g → Good args (to_operand o c g)
+  pub to_operand_good : (o : Op) (c : ℕ) (g : Given) → is_direct_branch o ≡ true → c < 16 → GivenGood args g → Good args (to_operand o c g)
   to_operand_good o c (given.Memory m) e lt h = to_operand_if o c m (is_symbol m) refl e lt h
   to_operand_good o c (given.Register s n) e lt h = tt
   to_operand_good o c (given.Segment n) e lt h = tt
@@ -53,11 +53,11 @@ module _ (args : List Argument) where
   to_operand_good o c (given.Immediate n) e lt h = tt
   to_operand_good o c given.Port e lt h = tt
 
-  pub direct_good : (o : Op) (c : ℕ) (f : Option Size) (g : Given) → is_direct o ≡ true → c < 16 → GivenGood args g → Good args (direct o c f g)
+  pub direct_good : (o : Op) (c : ℕ) (f : Option Size) (g : Given) → is_direct_branch o ≡ true → c < 16 → GivenGood args g → Good args (direct o c f g)
   unfolding direct
   direct_good o c f g e lt h = bind_any (DraftGood args) (agreed f (Some size.Long) None) _ (λ z. to_operand_good o c g e lt h)
 
-  pub indirect_good : (o : Op) (f : Option Size) (g : Given) → is_direct o ≡ false → GivenGood args g → Good args (indirect o f g)
+  pub indirect_good : (o : Op) (f : Option Size) (g : Given) → is_direct_branch o ≡ false → GivenGood args g → Good args (indirect o f g)
   unfolding indirect
   indirect_good o f g e p = bind_from PlaceGood (DraftGood args) (register_or_memory g) _ (rom_good args g p) (λ x h. bind_any (DraftGood args) (agreed f (said g) (Some size.Long)) _ (λ z. instruction_good args o z x nothing e h tt))
 
@@ -77,10 +77,10 @@ module _ (args : List Argument) where
   unfolding returned
   returned_good f os = bind_any (DraftGood args) (agreed f (Some size.Long) None) _ (λ z. return_good os)
 
-  pub selector_good : (d : Draft) (n : Number) → is_direct d.insn.op ≡ false → DraftGood args d → DraftGood args (with_selector d n)
+  pub selector_good : (d : Draft) (n : Number) → is_direct_branch d.insn.op ≡ false → DraftGood args d → DraftGood args (with_selector d n)
   selector_good d n e g = record {
     bounded = record { a = g.bounded.a; b = g.bounded.b; imm = g.bounded.imm; sel = word_below n.value };
-    direct = λ t. absurd (opposite (is_direct d.insn.op) e t);
+    direct = λ t. absurd (opposite (is_direct_branch d.insn.op) e t);
     relative = g.relative;
   }
 
@@ -91,19 +91,19 @@ module _ (args : List Argument) where
   pub far_good : (n k : Number) → Good args (far n k)
   unfolding far
   far_good n k = choice (DraftGood args) n.named None _ tt (selector_good (with_number (alone op.FarJump) size.Long k) n
-      (ap is_direct (numbered_op (alone op.FarJump) size.Long k ∙ instruction_op args op.FarJump size.Long nothing nothing))
+      (ap is_direct_branch (numbered_op (alone op.FarJump) size.Long k ∙ instruction_op args op.FarJump size.Long nothing nothing))
       (instruction_numbered args op.FarJump size.Long size.Long nothing nothing k refl tt tt))
 
-  pub condition_good : (d : Draft) (c : ℕ) → c < 16 → is_direct d.insn.op ≡ false → DraftGood args d → DraftGood args (with_condition d c)
+  pub condition_good : (d : Draft) (c : ℕ) → c < 16 → is_direct_branch d.insn.op ≡ false → DraftGood args d → DraftGood args (with_condition d c)
   condition_good d c lt e g = record {
     bounded = record { a = g.bounded.a; b = g.bounded.b; imm = g.bounded.imm; sel = omega arith };
-    direct = λ t. absurd (opposite (is_direct d.insn.op) e t);
+    direct = λ t. absurd (opposite (is_direct_branch d.insn.op) e t);
     relative = g.relative;
   }
 
-  pub one_plain : (o : Op) (f : Option Size) (g : Given) → is_direct o ≡ false → GivenGood args g → When (Plain args) (one o f g)
+  pub one_plain : (o : Op) (f : Option Size) (g : Given) → is_direct_branch o ≡ false → GivenGood args g → When (Plain args) (one o f g)
   unfolding one
-  one_plain o f g e p = bind_from PlaceGood (Plain args) (register_or_memory g) _ (rom_good args g p) (λ x h. bind_any (Plain args) (agreed f (said g) None) _ (λ z. (instruction_good args o z x nothing e h tt, ap is_direct (instruction_op args o z x nothing) ∙ e)))
+  one_plain o f g e p = bind_from PlaceGood (Plain args) (register_or_memory g) _ (rom_good args g p) (λ x h. bind_any (Plain args) (agreed f (said g) None) _ (λ z. (instruction_good args o z x nothing e h tt, ap is_direct_branch (instruction_op args o z x nothing) ∙ e)))
 
   pub set_good : (c : ℕ) (g : Given) → c < 16 → GivenGood args g → Good args (set c g)
   unfolding set

@@ -5,6 +5,7 @@ use Rattle.ia32_types.specs.declared.insn.Op.{Op}
 use Rattle.ia32_types.specs.declared.insn.Op.TheVariants as op
 use Rattle.ia32_types.specs.declared.size.Size.{Size}
 use Rattle.ia32_types.specs.declared.size.Size.TheVariants as size
+use Rattle.ia32_types.specs.Shape.{is_direct_branch}
 use Rattle.asm_source.specs.declared.tree.Argument.{Argument}
 use Rattle.asm_instruction.specs.declared.argument.Given.{Given}
 use Rattle.asm_instruction.specs.declared.argument.Given.TheVariants as given
@@ -22,40 +23,39 @@ use Rattle.asm_instruction.specs.Strings.{repeated as repeated_string, string_dr
 use Rattle.asm_instruction.specs.Flags.{without_operands, plain_draft}
 use Rattle.asm_instruction.specs.System.{through, between, ported, memory_alone, of_memory, task, system_draft}
 use Rattle.asm_instruction.specs.Mnemonic.{by_family, repeated as repeated_name, drafted, without_repeat}
-use Rattle.asm_instruction.specs.Assembled.{is_direct}
 use Rattle.asm_instruction.proofs.Goods.{When, bind_from, bind_any, choice, PlaceGood, GivenGood, OperandsGood, DraftGood, opposite, family_good, not_direct}
 use Rattle.asm_instruction.proofs.Goods.{Good, instruction_good, instruction_op, instruction_numbered, rom_good, arithmetic_good, shift_good}
 use Rattle.asm_instruction.proofs.MovesGood.{move_good, stack_good}
 use Rattle.asm_instruction.proofs.ControlGood.{control_good}
 
 module _ (args : List Argument) where
-  pub repeated_good : (d : Draft) (s : Size) (r : Bool) → is_direct d.insn.op ≡ false → DraftGood args d → DraftGood args (repeated_string d s r)
+  pub repeated_good : (d : Draft) (s : Size) (r : Bool) → is_direct_branch d.insn.op ≡ false → DraftGood args d → DraftGood args (repeated_string d s r)
   repeated_good d s r e g = record {
     bounded = record { a = g.bounded.a; b = g.bounded.b; imm = g.bounded.imm; sel = g.bounded.sel };
-    direct = λ t. absurd (opposite (is_direct d.insn.op) e t);
+    direct = λ t. absurd (opposite (is_direct_branch d.insn.op) e t);
     relative = g.relative;
   }
 
-  pub string_good : (r : Bool) (o : Op) (s : Size) (os : Operands) → is_direct o ≡ false → Good args (string_draft r o s os)
+  pub string_good : (r : Bool) (o : Op) (s : Size) (os : Operands) → is_direct_branch o ≡ false → Good args (string_draft r o s os)
   unfolding string_draft
-  string_good r o s operands.Nothing e = repeated_good (alone o) s r (ap is_direct (instruction_op args o size.Long nothing nothing) ∙ e) (instruction_good args o size.Long nothing nothing e tt tt)
+  string_good r o s operands.Nothing e = repeated_good (alone o) s r (ap is_direct_branch (instruction_op args o size.Long nothing nothing) ∙ e) (instruction_good args o size.Long nothing nothing e tt tt)
   string_good r o s (operands.One g) e = tt
   string_good r o s (operands.Starred g) e = tt
   string_good r o s (operands.Two x d) e = tt
   string_good r o s (operands.Three x d g) e = tt
 
-  pub without_good : (o : Op) (os : Operands) → is_direct o ≡ false → Good args (without_operands o os)
+  pub without_good : (o : Op) (os : Operands) → is_direct_branch o ≡ false → Good args (without_operands o os)
   without_good o operands.Nothing e = instruction_good args o size.Long nothing nothing e tt tt
   without_good o (operands.One g) e = tt
   without_good o (operands.Starred g) e = tt
   without_good o (operands.Two x d) e = tt
   without_good o (operands.Three x d g) e = tt
 
-  pub plain_good : (o : Op) (f : Option Size) (os : Operands) → is_direct o ≡ false → Good args (plain_draft o f os)
+  pub plain_good : (o : Op) (f : Option Size) (os : Operands) → is_direct_branch o ≡ false → Good args (plain_draft o f os)
   unfolding plain_draft
   plain_good o f os e = bind_any (DraftGood args) (agreed f (Some size.Long) None) _ (λ z. without_good o os e)
 
-  pub through_good : (o : Op) (s : Size) (g : Given) → is_direct o ≡ false → Good args (through o s g)
+  pub through_good : (o : Op) (s : Size) (g : Given) → is_direct_branch o ≡ false → Good args (through o s g)
   unfolding through
   through_good o s (given.Immediate n) e = instruction_numbered args o s size.Byte nothing nothing n e tt tt
   through_good o s given.Port e = instruction_good args o s nothing (register_operand 2) e tt tt
@@ -66,7 +66,7 @@ module _ (args : List Argument) where
   through_good o s (given.Segment m) e = tt
   through_good o s (given.Control m) e = tt
 
-  pub between_good : (o : Op) (s : Size) (p g : Given) → is_direct o ≡ false → Good args (between o s p g)
+  pub between_good : (o : Op) (s : Size) (p g : Given) → is_direct_branch o ≡ false → Good args (between o s p g)
   between_good o s p (given.Register t n) e = choice (DraftGood args) (n == 0) (through o s p) None (through_good o s p e) tt
   between_good o s p (given.Memory m) e = tt
   between_good o s p (given.Segment m) e = tt
@@ -74,11 +74,11 @@ module _ (args : List Argument) where
   between_good o s p (given.Immediate m) e = tt
   between_good o s p given.Port e = tt
 
-  pub ported_good : (o : Op) (f : Option Size) (p g : Given) → is_direct o ≡ false → Good args (ported o f p g)
+  pub ported_good : (o : Op) (f : Option Size) (p g : Given) → is_direct_branch o ≡ false → Good args (ported o f p g)
   unfolding ported
   ported_good o f p g e = bind_any (DraftGood args) (agreed f (said g) None) _ (λ z. between_good o z p g e)
 
-  pub memory_alone_good : (o : Op) (s : Size) (g : Given) → is_direct o ≡ false → GivenGood args g → Good args (memory_alone o s g)
+  pub memory_alone_good : (o : Op) (s : Size) (g : Given) → is_direct_branch o ≡ false → GivenGood args g → Good args (memory_alone o s g)
   memory_alone_good o s (given.Memory m) e h = instruction_good args o s (memory m) nothing e h.below tt
   memory_alone_good o s (given.Register t n) e h = tt
   memory_alone_good o s (given.Segment n) e h = tt
@@ -86,7 +86,7 @@ module _ (args : List Argument) where
   memory_alone_good o s (given.Immediate n) e h = tt
   memory_alone_good o s given.Port e h = tt
 
-  pub of_memory_good : (o : Op) (f : Option Size) (g : Given) → is_direct o ≡ false → GivenGood args g → Good args (of_memory o f g)
+  pub of_memory_good : (o : Op) (f : Option Size) (g : Given) → is_direct_branch o ≡ false → GivenGood args g → Good args (of_memory o f g)
   unfolding of_memory
   of_memory_good o f g e h = bind_any (DraftGood args) (agreed f (Some size.Long) None) _ (λ z. memory_alone_good o z g e h)
 

@@ -6,6 +6,7 @@ use Rattle.ia32_types.specs.declared.insn.Op.{Op}
 use Rattle.ia32_types.specs.declared.insn.Op.TheVariants as op
 use Rattle.ia32_types.specs.declared.size.Size.{Size}
 use Rattle.ia32_types.specs.declared.size.Size.TheVariants as size
+use Rattle.ia32_types.specs.Shape.{is_direct_branch}
 use Rattle.ia32_rows.proofs.Fields.{both}
 use Rattle.ia32_encode.specs.Chosen.{IsOperandBounded, IsBounded}
 use Rattle.asm_source.specs.declared.tree.Argument.{Argument}
@@ -34,7 +35,7 @@ use Rattle.asm_instruction.specs.Draft.{nothing, register_operand, register_or_m
 use Rattle.asm_instruction.specs.Arithmetic.{of_pair, memory_first, two, tested, one, into_register, to_register, multiplied, product, arithmetic_draft}
 use Rattle.asm_instruction.specs.Shift.{of_one, by_one, by_number, by_register, shift_draft}
 use Rattle.asm_instruction.specs.Control.{distance}
-use Rattle.asm_instruction.specs.Assembled.{is_direct, constant_in}
+use Rattle.asm_instruction.specs.Assembled.{constant_in}
 
 -- ---- steps that may fail
 
@@ -105,8 +106,8 @@ pub record IsDistanceOf (args : List Argument) (d : Draft) : Type 0 where
 
 pub record DraftGood (args : List Argument) (d : Draft) : Type 0 where
   pub bounded : IsBounded d.insn
-  pub direct : is_direct d.insn.op ≡ true → IsDistanceOf args d
-  pub relative : d.relative ≡ true → is_direct d.insn.op ≡ true
+  pub direct : is_direct_branch d.insn.op ≡ true → IsDistanceOf args d
+  pub relative : d.relative ≡ true → is_direct_branch d.insn.op ≡ true
 
 pub opposite : (b : Bool) → b ≡ false → b ≡ true → ⊥
 opposite b f t = cc
@@ -114,14 +115,14 @@ opposite b f t = cc
 -- ---- what is known of the names
 
 abbrev pub no_direct : Op → Bool
-no_direct o = not (is_direct o)
+no_direct o = not (is_direct_branch o)
 
 abbrev pub family_good : Family → Bool
 family_good (family.Arithmetic (arithmetic.Two o)) = no_direct o
 family_good (family.Arithmetic (arithmetic.One o)) = no_direct o
 family_good (family.Shift o) = no_direct o
 family_good (family.Moves (moves.Extend o s)) = no_direct o
-family_good (family.Control (control.Branch x y)) = is_direct x && no_direct y
+family_good (family.Control (control.Branch x y)) = is_direct_branch x && no_direct y
 family_good (family.Control (control.Conditional c)) = nat_lt c 16
 family_good (family.Control (control.Set c)) = nat_lt c 16
 family_good (family.Strings o s) = no_direct o
@@ -133,24 +134,24 @@ pub not_true : (b : Bool) → not b ≡ true → b ≡ false
 not_true true h = sym h
 not_true false h = refl
 
-pub not_direct : (o : Op) → no_direct o ≡ true → is_direct o ≡ false
-not_direct o h = not_true (is_direct o) h
+pub not_direct : (o : Op) → no_direct o ≡ true → is_direct_branch o ≡ false
+not_direct o h = not_true (is_direct_branch o) h
 
-pub branch_direct : (x y : Op) → (is_direct x && no_direct y) ≡ true → is_direct x ≡ true
-branch_direct x y h = (both (is_direct x) (no_direct y) h).0
+pub branch_direct : (x y : Op) → (is_direct_branch x && no_direct y) ≡ true → is_direct_branch x ≡ true
+branch_direct x y h = (both (is_direct_branch x) (no_direct y) h).0
 
-pub branch_indirect : (x y : Op) → (is_direct x && no_direct y) ≡ true → is_direct y ≡ false
-branch_indirect x y h = not_true (is_direct y) (both (is_direct x) (no_direct y) h).1
+pub branch_indirect : (x y : Op) → (is_direct_branch x && no_direct y) ≡ true → is_direct_branch y ≡ false
+branch_indirect x y h = not_true (is_direct_branch y) (both (is_direct_branch x) (no_direct y) h).1
 
 module _ (args : List Argument) where
   abbrev pub Good : Option Draft → Type 0
   Good o = When (DraftGood args) o
 
-  pub instruction_good : (o : Op) (s : Size) (a b : NumberedOperand) → is_direct o ≡ false → PlaceGood a → PlaceGood b → DraftGood args (instruction o s a b)
+  pub instruction_good : (o : Op) (s : Size) (a b : NumberedOperand) → is_direct_branch o ≡ false → PlaceGood a → PlaceGood b → DraftGood args (instruction o s a b)
   unfolding instruction
   instruction_good o s a b e p q = record {
     bounded = record { a = p; b = q; imm = omega arith; sel = omega arith };
-    direct = λ t. absurd (opposite (is_direct o) e t);
+    direct = λ t. absurd (opposite (is_direct_branch o) e t);
     relative = λ t. absurd cc;
   }
 
@@ -158,17 +159,17 @@ module _ (args : List Argument) where
   unfolding instruction
   instruction_op o s a b = refl
 
-  pub numbered_good : (d : Draft) (s : Size) (n : Number) → is_direct d.insn.op ≡ false → DraftGood args d → DraftGood args (with_number d s n)
+  pub numbered_good : (d : Draft) (s : Size) (n : Number) → is_direct_branch d.insn.op ≡ false → DraftGood args d → DraftGood args (with_number d s n)
   unfolding with_number
   numbered_good d s n e g = record {
     bounded = record { a = g.bounded.a; b = g.bounded.b; imm = field_below s n.value; sel = g.bounded.sel };
-    direct = λ t. absurd (opposite (is_direct d.insn.op) e t);
+    direct = λ t. absurd (opposite (is_direct_branch d.insn.op) e t);
     relative = g.relative;
   }
 
   -- an instruction with a number
-  pub instruction_numbered : (o : Op) (s t : Size) (a b : NumberedOperand) (n : Number) → is_direct o ≡ false → PlaceGood a → PlaceGood b → DraftGood args (with_number (instruction o s a b) t n)
-  instruction_numbered o s t a b n e p q = numbered_good (instruction o s a b) t n (ap is_direct (instruction_op o s a b) ∙ e) (instruction_good o s a b e p q)
+  pub instruction_numbered : (o : Op) (s t : Size) (a b : NumberedOperand) (n : Number) → is_direct_branch o ≡ false → PlaceGood a → PlaceGood b → DraftGood args (with_number (instruction o s a b) t n)
+  instruction_numbered o s t a b n e p q = numbered_good (instruction o s a b) t n (ap is_direct_branch (instruction_op o s a b) ∙ e) (instruction_good o s a b e p q)
 
   pub rom_good : (g : Given) → GivenGood args g → When PlaceGood (register_or_memory g)
   rom_good (given.Register s n) h = tt
@@ -192,17 +193,17 @@ module _ (args : List Argument) where
   paired_good (given.Control n) d p q = tt
   paired_good given.Port d p q = tt
 
-  pub of_pair_good : (o : Op) (s : Size) (p : Pair) → is_direct o ≡ false → PairGood p → DraftGood args (of_pair o s p)
+  pub of_pair_good : (o : Op) (s : Size) (p : Pair) → is_direct_branch o ≡ false → PairGood p → DraftGood args (of_pair o s p)
   of_pair_good o s (pair.Immediate n x) e h = instruction_numbered o s s x nothing n e h tt
   of_pair_good o s (pair.FromRegister n x) e h = instruction_good o s x (register_operand n) e h tt
   of_pair_good o s (pair.FromMemory x n) e h = instruction_good o s (register_operand n) x e tt h
 
-  pub memory_first_good : (o : Op) (s : Size) (p : Pair) → is_direct o ≡ false → PairGood p → DraftGood args (memory_first o s p)
+  pub memory_first_good : (o : Op) (s : Size) (p : Pair) → is_direct_branch o ≡ false → PairGood p → DraftGood args (memory_first o s p)
   memory_first_good o s (pair.FromMemory x n) e h = instruction_good o s x (register_operand n) e h tt
   memory_first_good o s (pair.Immediate n x) e h = of_pair_good o s (pair.Immediate n x) e h
   memory_first_good o s (pair.FromRegister n x) e h = of_pair_good o s (pair.FromRegister n x) e h
 
-  pub two_good : (o : Op) (f : Option Size) (s d : Given) → is_direct o ≡ false → GivenGood args s → GivenGood args d → Good (two o f s d)
+  pub two_good : (o : Op) (f : Option Size) (s d : Given) → is_direct_branch o ≡ false → GivenGood args s → GivenGood args d → Good (two o f s d)
   unfolding two
   two_good o f s d e p q = bind_from PairGood (DraftGood args) (paired s d) _ (paired_good s d p q) (λ x h. bind_any (DraftGood args) (agreed f (said s) (said d)) _ (λ z. of_pair_good o z x e h))
 
@@ -210,11 +211,11 @@ module _ (args : List Argument) where
   unfolding tested
   tested_good f s d p q = bind_from PairGood (DraftGood args) (paired s d) _ (paired_good s d p q) (λ x h. bind_any (DraftGood args) (agreed f (said s) (said d)) _ (λ z. memory_first_good op.Test z x refl h))
 
-  pub one_good : (o : Op) (f : Option Size) (g : Given) → is_direct o ≡ false → GivenGood args g → Good (one o f g)
+  pub one_good : (o : Op) (f : Option Size) (g : Given) → is_direct_branch o ≡ false → GivenGood args g → Good (one o f g)
   unfolding one
   one_good o f g e p = bind_from PlaceGood (DraftGood args) (register_or_memory g) _ (rom_good g p) (λ x h. bind_any (DraftGood args) (agreed f (said g) None) _ (λ z. instruction_good o z x nothing e h tt))
 
-  pub into_register_good : (o : Op) (s : Size) (d : Given) (x : NumberedOperand) → is_direct o ≡ false → PlaceGood x → Good (into_register o s d x)
+  pub into_register_good : (o : Op) (s : Size) (d : Given) (x : NumberedOperand) → is_direct_branch o ≡ false → PlaceGood x → Good (into_register o s d x)
   into_register_good o s (given.Register t n) x e h = instruction_good o s (register_operand n) x e tt h
   into_register_good o s (given.Memory m) x e h = tt
   into_register_good o s (given.Segment n) x e h = tt
@@ -222,23 +223,23 @@ module _ (args : List Argument) where
   into_register_good o s (given.Immediate n) x e h = tt
   into_register_good o s given.Port x e h = tt
 
-  pub to_register_good : (o : Op) (f : Option Size) (s d : Given) → is_direct o ≡ false → GivenGood args s → Good (to_register o f s d)
+  pub to_register_good : (o : Op) (f : Option Size) (s d : Given) → is_direct_branch o ≡ false → GivenGood args s → Good (to_register o f s d)
   unfolding to_register
   to_register_good o f s d e p = bind_from PlaceGood (DraftGood args) (register_or_memory s) _ (rom_good s p) (λ x h. bind_any (DraftGood args) (agreed f (said s) (said d)) _ (λ z. into_register_good o z d x e h))
 
   -- good, and no direct branch
   abbrev pub Plain : Draft → Type 0
-  Plain d = DraftGood args d × (is_direct d.insn.op ≡ false)
+  Plain d = DraftGood args d × (is_direct_branch d.insn.op ≡ false)
 
-  pub into_register_plain : (o : Op) (s : Size) (d : Given) (x : NumberedOperand) → is_direct o ≡ false → PlaceGood x → When Plain (into_register o s d x)
-  into_register_plain o s (given.Register t n) x e h = (instruction_good o s (register_operand n) x e tt h, ap is_direct (instruction_op o s (register_operand n) x) ∙ e)
+  pub into_register_plain : (o : Op) (s : Size) (d : Given) (x : NumberedOperand) → is_direct_branch o ≡ false → PlaceGood x → When Plain (into_register o s d x)
+  into_register_plain o s (given.Register t n) x e h = (instruction_good o s (register_operand n) x e tt h, ap is_direct_branch (instruction_op o s (register_operand n) x) ∙ e)
   into_register_plain o s (given.Memory m) x e h = tt
   into_register_plain o s (given.Segment n) x e h = tt
   into_register_plain o s (given.Control n) x e h = tt
   into_register_plain o s (given.Immediate n) x e h = tt
   into_register_plain o s given.Port x e h = tt
 
-  pub to_register_plain : (o : Op) (f : Option Size) (s d : Given) → is_direct o ≡ false → GivenGood args s → When Plain (to_register o f s d)
+  pub to_register_plain : (o : Op) (f : Option Size) (s d : Given) → is_direct_branch o ≡ false → GivenGood args s → When Plain (to_register o f s d)
   unfolding to_register
   to_register_plain o f s d e p = bind_from PlaceGood Plain (register_or_memory s) _ (rom_good s p) (λ x h. bind_any Plain (agreed f (said s) (said d)) _ (λ z. into_register_plain o z d x e h))
 
@@ -278,26 +279,26 @@ module _ (args : List Argument) where
   arithmetic_good (arithmetic.One o) f (operands.Three s d g) e h = tt
   arithmetic_good arithmetic.Multiply f os e h = product_good f os h
 
-  pub of_one_good : (d : Draft) → is_direct d.insn.op ≡ false → DraftGood args d → DraftGood args (of_one d)
+  pub of_one_good : (d : Draft) → is_direct_branch d.insn.op ≡ false → DraftGood args d → DraftGood args (of_one d)
   of_one_good d e g = record {
     bounded = record { a = g.bounded.a; b = g.bounded.b; imm = omega arith; sel = g.bounded.sel };
-    direct = λ t. absurd (opposite (is_direct d.insn.op) e t);
+    direct = λ t. absurd (opposite (is_direct_branch d.insn.op) e t);
     relative = g.relative;
   }
 
-  pub by_one_good : (o : Op) (f : Option Size) (g : Given) → is_direct o ≡ false → GivenGood args g → Good (by_one o f g)
+  pub by_one_good : (o : Op) (f : Option Size) (g : Given) → is_direct_branch o ≡ false → GivenGood args g → Good (by_one o f g)
   unfolding by_one
-  by_one_good o f g e p = bind_from PlaceGood (DraftGood args) (register_or_memory g) _ (rom_good g p) (λ x h. bind_any (DraftGood args) (agreed f (said g) None) _ (λ z. of_one_good (unary o z x) (ap is_direct (instruction_op o z x nothing) ∙ e) (instruction_good o z x nothing e h tt)))
+  by_one_good o f g e p = bind_from PlaceGood (DraftGood args) (register_or_memory g) _ (rom_good g p) (λ x h. bind_any (DraftGood args) (agreed f (said g) None) _ (λ z. of_one_good (unary o z x) (ap is_direct_branch (instruction_op o z x nothing) ∙ e) (instruction_good o z x nothing e h tt)))
 
-  pub by_number_good : (o : Op) (f : Option Size) (n : Number) (g : Given) → is_direct o ≡ false → GivenGood args g → Good (by_number o f n g)
+  pub by_number_good : (o : Op) (f : Option Size) (n : Number) (g : Given) → is_direct_branch o ≡ false → GivenGood args g → Good (by_number o f n g)
   unfolding by_number
   by_number_good o f n g e p = bind_from PlaceGood (DraftGood args) (register_or_memory g) _ (rom_good g p) (λ x h. bind_any (DraftGood args) (agreed f (said g) None) _ (λ z. instruction_numbered o z size.Byte x nothing n e h tt))
 
-  pub by_register_good : (o : Op) (f : Option Size) (g : Given) → is_direct o ≡ false → GivenGood args g → Good (by_register o f g)
+  pub by_register_good : (o : Op) (f : Option Size) (g : Given) → is_direct_branch o ≡ false → GivenGood args g → Good (by_register o f g)
   unfolding by_register
   by_register_good o f g e p = bind_from PlaceGood (DraftGood args) (register_or_memory g) _ (rom_good g p) (λ x h. bind_any (DraftGood args) (agreed f (said g) None) _ (λ z. instruction_good o z x (register_operand 1) e h tt))
 
-  pub shift_good : (o : Op) (f : Option Size) (os : Operands) → is_direct o ≡ false → OperandsGood args os → Good (shift_draft o f os)
+  pub shift_good : (o : Op) (f : Option Size) (os : Operands) → is_direct_branch o ≡ false → OperandsGood args os → Good (shift_draft o f os)
   unfolding shift_draft
   shift_good o f operands.Nothing e h = tt
   shift_good o f (operands.One g) e h = by_one_good o f g e h

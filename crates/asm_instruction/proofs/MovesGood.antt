@@ -8,6 +8,7 @@ use Rattle.ia32_types.specs.declared.insn.Operand.{Operand}
 use Rattle.ia32_types.specs.declared.insn.Operand.TheVariants as operand
 use Rattle.ia32_types.specs.declared.size.Size.{Size}
 use Rattle.ia32_types.specs.declared.size.Size.TheVariants as size
+use Rattle.ia32_types.specs.Shape.{is_direct_branch}
 use Rattle.asm_source.specs.declared.tree.Argument.{Argument}
 use Rattle.asm_instruction.specs.declared.argument.Number.{Number}
 use Rattle.asm_instruction.specs.declared.argument.Given.{Given}
@@ -26,12 +27,11 @@ use Rattle.asm_instruction.specs.Sizes.{agreed}
 use Rattle.asm_instruction.specs.Draft.{of_operand, nothing, register_operand, register_or_memory, said, paired}
 use Rattle.asm_instruction.specs.Moves.{special, from_segment, to_segment, from_control, to_control, general, moved, into_long, extended, effective, with_register, exchange, exchanged, move_draft}
 use Rattle.asm_instruction.specs.Stack.{of_long, of_general, of_number, pushed, popped, stack_draft}
-use Rattle.asm_instruction.specs.Assembled.{is_direct}
 use Rattle.asm_instruction.proofs.Goods.{bind_from, bind_any, PlaceGood, PairGood, GivenGood, OperandsGood, DraftGood, family_good, not_direct}
 use Rattle.asm_instruction.proofs.Goods.{Good, instruction_good, instruction_numbered, rom_good, paired_good, of_pair_good, to_register_good}
 
 module _ (args : List Argument) where
-  pub special_good : (o : Op) (f : Option Size) (g : Given) (a b : NumberedOperand) → is_direct o ≡ false → PlaceGood a → PlaceGood b → Good args (special o f g a b)
+  pub special_good : (o : Op) (f : Option Size) (g : Given) (a b : NumberedOperand) → is_direct_branch o ≡ false → PlaceGood a → PlaceGood b → Good args (special o f g a b)
   unfolding special
   special_good o f g a b e p q = bind_any (DraftGood args) (agreed f (said g) (Some size.Long)) _ (λ z. instruction_good args o z a b e p q)
 
@@ -84,7 +84,7 @@ module _ (args : List Argument) where
   moved_good f given.Port (given.Immediate n2) p q = general_good f given.Port (given.Immediate n2) p q
   moved_good f given.Port given.Port p q = general_good f given.Port given.Port p q
 
-  pub into_long_good : (o : Op) (s : Size) (d : Given) (x : NumberedOperand) → is_direct o ≡ false → PlaceGood x → Good args (into_long o s d x)
+  pub into_long_good : (o : Op) (s : Size) (d : Given) (x : NumberedOperand) → is_direct_branch o ≡ false → PlaceGood x → Good args (into_long o s d x)
   into_long_good o s (given.Register size.Long n) x e h = instruction_good args o s (register_operand n) x e tt h
   into_long_good o s (given.Register size.Word n) x e h = tt
   into_long_good o s (given.Register size.Byte n) x e h = tt
@@ -94,7 +94,7 @@ module _ (args : List Argument) where
   into_long_good o s (given.Immediate n) x e h = tt
   into_long_good o s given.Port x e h = tt
 
-  pub extended_good : (o : Op) (z : Size) (s d : Given) → is_direct o ≡ false → GivenGood args s → Good args (extended o z s d)
+  pub extended_good : (o : Op) (z : Size) (s d : Given) → is_direct_branch o ≡ false → GivenGood args s → Good args (extended o z s d)
   unfolding extended
   extended_good o z s d e p = bind_from PlaceGood (DraftGood args) (register_or_memory s) _ (rom_good args s p) (λ x h. bind_any (DraftGood args) (agreed (Some z) (said s) None) _ (λ y. into_long_good o y d x e h))
 
@@ -134,11 +134,11 @@ module _ (args : List Argument) where
   move_good k f (operands.Starred g) e h = tt
   move_good k f (operands.Three s d g) e h = tt
 
-  pub of_long_good : (o : Op) (f : Option Size) (g : Given) (a : NumberedOperand) → is_direct o ≡ false → PlaceGood a → Good args (of_long o f g a)
+  pub of_long_good : (o : Op) (f : Option Size) (g : Given) (a : NumberedOperand) → is_direct_branch o ≡ false → PlaceGood a → Good args (of_long o f g a)
   unfolding of_long
   of_long_good o f g a e p = bind_any (DraftGood args) (agreed f (said g) (Some size.Long)) _ (λ z. instruction_good args o z a nothing e p tt)
 
-  pub of_general_good : (o : Op) (f : Option Size) (g : Given) → is_direct o ≡ false → GivenGood args g → Good args (of_general o f g)
+  pub of_general_good : (o : Op) (f : Option Size) (g : Given) → is_direct_branch o ≡ false → GivenGood args g → Good args (of_general o f g)
   unfolding of_general
   of_general_good o f g e p = bind_from PlaceGood (DraftGood args) (register_or_memory g) _ (rom_good args g p) (λ x h. of_long_good o f g x e h)
 

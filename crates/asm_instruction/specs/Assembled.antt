@@ -1,8 +1,7 @@
 -- The instruction that a statement is, in its chosen spelling.
 use Rattle.std.specs.Prelude.{◌≡◌, ℕ, ℤ, pos, ◌+◌, ◌≤◌, Bool, true, false, List, take, Option, Some, None, is_some, Result, Ok, Err, slice_get, if◌then◌else◌}
-use Rattle.ia32_types.specs.declared.insn.Op.{Op}
-use Rattle.ia32_types.specs.declared.insn.Op.TheVariants as op
 use Rattle.ia32_types.specs.declared.size.Size.TheVariants as size
+use Rattle.ia32_types.specs.Shape.{is_direct_branch}
 use Rattle.ia32_encode.specs.declared.bytes.ArrayBytes.{ArrayBytes}
 use Rattle.ia32_encode.specs.declared.choose.Wide.{Wide}
 use Rattle.ia32_encode.specs.Chosen.{SpellsWide, IsReadBack, IsBounded, chosen}
@@ -120,12 +119,6 @@ pub record IsRight (args : List Argument) (a : Assembled) : Type 0 where
 
 -- ---- direct branches
 
-abbrev pub is_direct : Op → Bool
-is_direct op.Jmp = true
-is_direct op.Call = true
-is_direct op.Jcc = true
-is_direct _ = false
-
 -- the number in a value, which is 0 where none is written
 abbrev pub constant_of : Form → ℤ
 constant_of (form.Immediate v) = v.number
@@ -148,5 +141,5 @@ pub record IsDistance (args : List Argument) (a : Assembled) : Type 0 where
 
 -- no field of an instruction is a distance but that of a direct branch
 pub record IsBranchRight (args : List Argument) (a : Assembled) : Type 0 where
-  pub direct : is_direct a.insn.op ≡ true → IsDistance args a
-  pub only : (f : Named) → a.imm ≡ Some f → f.relative ≡ true → is_direct a.insn.op ≡ true
+  pub direct : is_direct_branch a.insn.op ≡ true → IsDistance args a
+  pub only : (f : Named) → a.imm ≡ Some f → f.relative ≡ true → is_direct_branch a.insn.op ≡ true

@@ -28,7 +28,11 @@ fn push<T: Drop>(list: &mut Vec<T>, item: Option<T>) -> Result<(), AllocError>
 }
 
 /// Adds the items that are there, at most two.
-pub fn push_both<T: Drop>(list: &mut Vec<T>, first: Option<T>, second: Option<T>) -> Result<(), AllocError>
+pub fn push_both<T: Drop>(
+    list: &mut Vec<T>,
+    first: Option<T>,
+    second: Option<T>,
+) -> Result<(), AllocError>
     ensures { OnOk result (list.new.items ≡ list.old.items ++ (option_to_list first ++ option_to_list second)) }
 {
     push(list, first)?;

@@ -38,7 +38,8 @@ use Rattle.std.proofs.Common.{zero, suc}
 use Rattle.std.specs.Prelude.{◌==◌, ◌&&◌, ◌+◌}
 use Rattle.std.proofs.lemmas.Bool.{eqb-true}
 use Rattle.asm_argument.specs.Operand.{operand_step, is_finished}
-use Rattle.asm_parse.specs.Statement.{at_shape, complete, end_behind, ended, is_bare, argument_step, nothing_yet, of_directive, is_passed, is_rep, step, next_step, fault_line}
+use Rattle.asm_parse.specs.Statement.{at_shape, complete, end_behind, ended, is_bare, argument_step, nothing_yet, of_directive, step, next_step, fault_line}
+use Rattle.asm_parse.specs.Items.{is_passed, is_rep}
 use Rattle.asm_parse.specs.Directives.{shape_at, least, directive_of, is_dotted}
 use Rattle.asm_parse.proofs.Quiet.{Answer}
 

@@ -29,7 +29,8 @@ use Rattle.asm_argument.specs.declared.operand.Partial.TheVariants as partial
 use Rattle.asm_parse.proofs.Scopes.{GoodIn, fresh_good, seen_good, spent_noting}
 use Rattle.asm_parse.proofs.Names.{noting_seen, Keeps, name_step, IsSome, terminal_some, operand_next}
 use Rattle.asm_argument.specs.Operand.{operand_step, is_finished, is_nothing, name_in}
-use Rattle.asm_parse.specs.Statement.{item_of, resumed, noting, after_noting, with_name, after_step, at_shape, within, argument_of, comma_behind, end_behind, ended, complete, is_bare, takes_star, argument_step, nothing_yet, labelled, label, is_rep, rep_step, of_directive, is_passed, section_name, unless_skipping, start_step, colon_behind, other_behind, named_step, sectioned_step, flags_step, skip, with_scope, step, is_place, strayed, next_step, is_unknown, is_taken, lacks_names, if_doomed, doom, or_line, fault_line}
+use Rattle.asm_parse.specs.Statement.{noting, after_noting, with_name, after_step, at_shape, within, argument_of, comma_behind, end_behind, ended, complete, is_bare, takes_star, argument_step, nothing_yet, labelled, label, rep_step, of_directive, section_name, unless_skipping, start_step, colon_behind, other_behind, named_step, sectioned_step, flags_step, skip, with_scope, step, is_place, strayed, next_step, is_unknown, is_taken, lacks_names, if_doomed, doom, or_line, fault_line}
+use Rattle.asm_parse.specs.Items.{item_of, resumed, is_rep, is_passed}
 use Rattle.asm_parse.specs.Directives.{shape_at, least, defines, is_instruction, directive_of, is_dotted, is_section, is_defining}
 
 abbrev pub Answer : Type 0

@@ -32,7 +32,7 @@ use Rattle.asm_source.specs.Names.{holds, added, symbol_in}
 use Rattle.asm_parse.specs.Scope.{fresh, pushed}
 use Rattle.asm_argument.specs.Grammar.{IsValue, IsForm}
 use Rattle.asm_argument.specs.Terminals.{number_value, mark_terminal, number_terminal, terminal_of}
-use Rattle.asm_parse.specs.Statement.{item_of, resumed}
+use Rattle.asm_parse.specs.Items.{item_of, resumed}
 use Rattle.asm_parse.specs.Directives.{defines}
 use Rattle.asm_parse.specs.Statements.{IsSeen, Sees, IsArgument, IsNext, Separated, HasArguments, Statement, terminals, text_of, IsStatement, Statements}
 use Rattle.asm_source.specs.Readable.{argument_names, body_names, names_in, IsReadable}

@@ -12,7 +12,8 @@ use Rattle.asm_parse.specs.declared.state.StatementState.{StatementState}
 use Rattle.asm_parse.specs.declared.state.StatementState.TheVariants as state
 use Rattle.asm_parse.specs.ScopeView.{ScopeView}
 use Rattle.asm_parse.specs.Scope.{fresh}
-use Rattle.asm_parse.specs.Statement.{sectioned, step, next_step, fault_line, doom, or_line, pending, or_cause, stopped, left_open, open_at_end, is_unknown, is_taken, lacks_names, if_doomed, is_place, strayed, with_scope, unless_skipping}
+use Rattle.asm_parse.specs.Statement.{step, next_step, fault_line, doom, or_line, pending, or_cause, stopped, left_open, open_at_end, is_unknown, is_taken, lacks_names, if_doomed, is_place, strayed, with_scope, unless_skipping}
+use Rattle.asm_parse.specs.Items.{sectioned}
 use Rattle.asm_parse.specs.Reading.{Fault, placed, is_longer, longer, ending_at, next_word}
 use Rattle.asm_argument.specs.Terminals.{terminal_of}
 use Rattle.asm_parse.specs.Running.{◌>>=◌}

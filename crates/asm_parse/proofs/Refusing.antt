@@ -16,7 +16,8 @@ use Rattle.asm_parse.specs.declared.directive.Head.{Head}
 use Rattle.asm_parse.specs.ScopeView.{ScopeView}
 use Rattle.asm_source.specs.Names.{holds}
 use Rattle.asm_parse.specs.Scope.{has_room, noted, defined_too}
-use Rattle.asm_argument.specs.Operand.{is_operand, takes_names, takes_sums, takes_minus, takes_numbers, takes_text, fits, is_low, is_register, is_scale, counted, allowed, registered, first, next_terminal, operand_step, is_finished, is_unbegun, name_in}
+use Rattle.asm_argument.specs.Operand.{counted, allowed, registered, first, next_terminal, operand_step, is_finished, is_unbegun, name_in}
+use Rattle.asm_argument.specs.Shapes.{is_operand, takes_names, takes_sums, takes_minus, takes_numbers, takes_text, fits, is_low, is_register, is_scale}
 use Rattle.asm_parse.specs.Directives.{shape_at, defines}
 use Rattle.asm_parse.specs.Statement.{noting, misplaced, argument_cause}
 use Rattle.asm_parse.specs.Refusals.{name_cause, operand_cause, takes_name, value_cause}

@@ -23,9 +23,11 @@ use Rattle.asm_parse.specs.declared.state.StatementState.{StatementState}
 use Rattle.asm_parse.specs.declared.state.StatementState.TheVariants as state
 use Rattle.asm_parse.specs.ScopeView.{ScopeView}
 use Rattle.asm_parse.specs.Scope.{pushed, fresh}
-use Rattle.asm_argument.specs.Operand.{is_operand, begun, operand_step, finished, is_finished, is_nothing, is_unbegun}
+use Rattle.asm_argument.specs.Operand.{begun, operand_step, finished, is_finished, is_nothing, is_unbegun}
+use Rattle.asm_argument.specs.Shapes.{is_operand}
 use Rattle.asm_argument.specs.Grammar.{IsForm}
-use Rattle.asm_parse.specs.Statement.{item_of, resumed, noting, with_name, after_noting, after_step, at_shape, within, argument_step, is_bare, takes_star, ended, ended_as, comma_behind, end_behind, complete, nothing_yet, named_step, labelled, label, directive_step, of_directive, rep_step, section_name, unless_skipping, skip, start_step, step, argument_of, is_place, strayed, next_step, fault_line, with_scope, is_passed, is_rep}
+use Rattle.asm_parse.specs.Statement.{noting, with_name, after_noting, after_step, at_shape, within, argument_step, is_bare, takes_star, ended, ended_as, comma_behind, end_behind, complete, nothing_yet, named_step, labelled, label, directive_step, of_directive, rep_step, section_name, unless_skipping, skip, start_step, step, argument_of, is_place, strayed, next_step, fault_line, with_scope}
+use Rattle.asm_parse.specs.Items.{item_of, resumed, is_passed, is_rep}
 use Rattle.asm_parse.specs.Directives.{shape_at, least, defines, is_instruction, directive_of, is_dotted, is_section}
 use Rattle.asm_parse.specs.Refusals.{Leads}
 use Rattle.asm_parse.specs.Statements.{IsSeen, Sees, IsArgument, IsNext, Separated, HasArguments, is_inner, is_unlabelled, has_list, Statement}

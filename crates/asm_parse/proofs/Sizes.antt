@@ -19,9 +19,10 @@ use Rattle.asm_parse.specs.declared.directive.Head.{Head}
 use Rattle.asm_parse.specs.declared.directive.Head.TheVariants as head
 use Rattle.asm_parse.specs.ScopeView.{ScopeView}
 use Rattle.asm_parse.specs.Scope.{pushed}
-use Rattle.asm_argument.specs.Operand.{begun, takes_absent}
+use Rattle.asm_argument.specs.Operand.{begun}
+use Rattle.asm_argument.specs.Shapes.{takes_absent}
 use Rattle.asm_argument.specs.Grammar.{IsValue, IsAddress, IsForm}
-use Rattle.asm_parse.specs.Statement.{item_of, resumed, sectioned}
+use Rattle.asm_parse.specs.Items.{item_of, resumed, sectioned}
 use Rattle.asm_parse.specs.Directives.{shape_at}
 use Rattle.asm_parse.specs.Statements.{IsSeen, Sees, IsArgument, Separated, HasArguments, Statement, terminals, text_of, IsStatement, Statements}
 use Rattle.std.specs.Prelude.{IfOk, Result, Ok, Err}

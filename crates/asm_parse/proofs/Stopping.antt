@@ -20,7 +20,8 @@ use Rattle.asm_parse.specs.declared.state.Open.{Open}
 use Rattle.asm_parse.specs.declared.state.StatementState.{StatementState}
 use Rattle.asm_parse.specs.declared.state.StatementState.TheVariants as state
 use Rattle.asm_parse.specs.ScopeView.{ScopeView}
-use Rattle.asm_argument.specs.Operand.{is_operand, takes_names, next_terminal, operand_step, is_finished, is_unbegun, is_nothing, name_in}
+use Rattle.asm_argument.specs.Operand.{next_terminal, operand_step, is_finished, is_unbegun, is_nothing, name_in}
+use Rattle.asm_argument.specs.Shapes.{is_operand, takes_names}
 use Rattle.asm_parse.specs.Directives.{shape_at, directive_shape, least, defines, is_instruction}
 use Rattle.asm_parse.specs.Statement.{noting, misplaced, argument_cause, cause_in, after_noting, with_name, after_step, at_shape, within, argument_of, ended, ended_as, comma_behind, end_behind, complete, is_bare, takes_star, with_scope, argument_step}
 use Rattle.asm_parse.specs.Statements.{Sees}

@@ -14,7 +14,8 @@ use Rattle.asm_parse.specs.ScopeView.{ScopeView}
 use Rattle.asm_parse.specs.Scope.{fresh}
 use Rattle.asm_argument.specs.Terminals.{terminal_of}
 use Rattle.asm_parse.specs.Directives.{shape_at, is_dotted, directive_of, is_section}
-use Rattle.asm_parse.specs.Statement.{argument_step, nothing_yet, is_passed, other_behind, step, doom}
+use Rattle.asm_parse.specs.Statement.{argument_step, nothing_yet, other_behind, step, doom}
+use Rattle.asm_parse.specs.Items.{is_passed}
 use Rattle.asm_parse.specs.Reading.{ending_at}
 use Rattle.asm_parse.specs.Statements.{is_inner, Separated, Statement, terminals}
 use Rattle.asm_parse.specs.Refusals.{StatementPlace, Leads, Opens, LeadsTo, Reaches}

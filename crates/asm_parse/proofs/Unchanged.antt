@@ -17,7 +17,8 @@ use Rattle.asm_parse.specs.declared.state.StatementState.TheVariants as state
 use Rattle.asm_parse.specs.ScopeView.{ScopeView}
 use Rattle.asm_parse.specs.Scope.{pushed}
 use Rattle.asm_argument.specs.Terminals.{terminal_of}
-use Rattle.asm_parse.specs.Statement.{item_of, resumed, skip, unless_skipping, other_behind, step, doom, with_scope}
+use Rattle.asm_parse.specs.Statement.{skip, unless_skipping, other_behind, step, doom, with_scope}
+use Rattle.asm_parse.specs.Items.{item_of, resumed}
 use Rattle.asm_parse.specs.Reading.{ending_at}
 use Rattle.asm_parse.specs.Statements.{IsSeen, Sees, Separated, HasArguments, is_inner, is_unlabelled, is_nameless, Statement, terminals}
 use Rattle.asm_source.specs.Names.{symbol_in}

@@ -1,12 +1,10 @@
 -- A source, read from left to right.
-use Rattle.std.specs.Prelude.{◌≡◌, ℕ, ◌+◌, ◌≤◌, ◌==◌, ◌&&◌, ◌||◌, not, Bool, false, List, ◌++◌, length, Option, Some, None, Result, Ok, Err, if◌then◌else◌}
-use Rattle.std.specs.List.{list_all}
+use Rattle.std.specs.Prelude.{◌≡◌, ℕ, ◌+◌, ◌≤◌, ◌==◌, ◌&&◌, Bool, false, List, ◌++◌, length, Option, Some, None, Result, Ok, Err, if◌then◌else◌}
 use Rattle.asm_lex.specs.declared.fault.SourceCause.{SourceCause}
 use Rattle.asm_lex.specs.declared.fault.SourceFault.{SourceFault}
 use Rattle.asm_lex.specs.declared.fault.SourceFault.TheVariants as fault
 use Rattle.asm_lex.specs.declared.token.Token.{Token}
 use Rattle.asm_lex.specs.declared.token.TokenKind.{TokenKind}
-use Rattle.asm_lex.specs.declared.token.TokenKind.TheVariants as kind
 use Rattle.asm_argument.specs.Terminals.{terminal_of}
 use Rattle.asm_parse.specs.declared.state.StatementState.{StatementState}
 use Rattle.asm_parse.specs.declared.state.StatementState.TheVariants as state
@@ -15,17 +13,9 @@ use Rattle.asm_parse.specs.declared.stop.StepFault.TheVariants as stop
 use Rattle.asm_parse.specs.ScopeView.{ScopeView}
 use Rattle.asm_parse.specs.Statement.{next_step, fault_line}
 use Rattle.asm_lex.specs.Words.{Word, word_of}
+use Rattle.asm_parse.specs.Items.{is_part}
 
 -- ---- a section's name
-
-abbrev pub is_inside : ℕ → Bool
-is_inside b = not ((b == 44) || (b == 32) || (b == 9))
-
--- A section's name goes on with each token that it touches and in which no comma and no blank is, up to the statement's end.
-abbrev pub is_part : TokenKind → List ℕ → Bool
-is_part kind.End bytes = false
-is_part (kind.Mark m) bytes = not (m == 44)
-is_part k bytes = list_all is_inside bytes
 
 abbrev pub is_longer : StatementState → ℕ → TokenKind → List ℕ → Bool
 is_longer (state.Sectioned b n m e) at k bytes = (e == at) && is_part k bytes

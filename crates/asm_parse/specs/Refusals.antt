@@ -23,9 +23,10 @@ use Rattle.asm_parse.specs.declared.directive.Head.TheVariants as head
 use Rattle.asm_parse.specs.ScopeView.{ScopeView}
 use Rattle.asm_source.specs.Names.{holds}
 use Rattle.asm_parse.specs.Scope.{fresh}
-use Rattle.asm_argument.specs.Operand.{takes_names, is_low, is_register}
+use Rattle.asm_argument.specs.Shapes.{takes_names, is_low, is_register}
 use Rattle.asm_parse.specs.Directives.{shape_at, defines, is_instruction, is_dotted, directive_of, is_section}
-use Rattle.asm_parse.specs.Statement.{is_passed, is_rep, misplaced}
+use Rattle.asm_parse.specs.Statement.{misplaced}
+use Rattle.asm_parse.specs.Items.{is_passed, is_rep}
 use Rattle.asm_parse.specs.Statements.{IsArgument, Separated, has_list, is_inner, Statement, terminals, Statements}
 use Rattle.asm_argument.specs.Terminals.{terminal_of}
 

@@ -1,6 +1,5 @@
 -- One statement, terminal by terminal.
-use Rattle.std.specs.Str.{bytes_eq}
-use Rattle.std.specs.Prelude.{codes, is_none, nat_lt, ◌≡◌, ℕ, ◌==◌, Bool, true, false, not, ◌&&◌, ◌||◌, List, [], ◌∷◌, ◌++◌, length, Option, Some, None, Result, Ok, Err, if◌then◌else◌}
+use Rattle.std.specs.Prelude.{is_none, nat_lt, ◌≡◌, ℕ, ◌==◌, Bool, true, false, not, ◌&&◌, ◌||◌, List, [], ◌∷◌, ◌++◌, length, Option, Some, None, Result, Ok, Err, if◌then◌else◌}
 use Rattle.asm_lex.specs.declared.fault.SourceCause.{SourceCause}
 use Rattle.asm_lex.specs.declared.fault.SourceCause.TheVariants as cause
 use Rattle.asm_argument.specs.declared.terminal.Terminal.{Terminal}
@@ -10,9 +9,7 @@ use Rattle.asm_argument.specs.declared.operand.Partial.{Partial}
 use Rattle.asm_argument.specs.declared.operand.Partial.TheVariants as partial
 use Rattle.asm_source.specs.declared.tree.Argument.{Argument}
 use Rattle.asm_source.specs.declared.tree.Form.{Form}
-use Rattle.asm_source.specs.declared.tree.Form.TheVariants as form
 use Rattle.asm_source.specs.declared.tree.Body.TheVariants as body
-use Rattle.asm_source.specs.declared.tree.SourceItem.{SourceItem}
 use Rattle.asm_parse.specs.declared.directive.Directive.{Directive}
 use Rattle.asm_parse.specs.declared.directive.Directive.TheVariants as directive
 use Rattle.asm_parse.specs.declared.directive.Head.{Head}
@@ -22,11 +19,13 @@ use Rattle.asm_parse.specs.declared.state.StatementState.{StatementState}
 use Rattle.asm_parse.specs.declared.state.StatementState.TheVariants as state
 use Rattle.asm_parse.specs.declared.stop.StepFault.{StepFault}
 use Rattle.asm_parse.specs.declared.stop.StepFault.TheVariants as stop
-use Rattle.asm_parse.specs.Directives.{shape_at, least, is_instruction, defines, directive_of, is_dotted, changes_section, is_section, is_unread, is_defining}
+use Rattle.asm_parse.specs.Directives.{shape_at, least, is_instruction, defines, directive_of, is_dotted, is_section, is_defining}
 use Rattle.asm_parse.specs.ScopeView.{ScopeView}
 use Rattle.asm_source.specs.Names.{holds}
 use Rattle.asm_parse.specs.Scope.{has_room, is_spent, fresh, pushed, noted, defined_too}
-use Rattle.asm_argument.specs.Operand.{operand_step, begun, finished, is_finished, is_nothing, is_unbegun, awaits_register, is_register, name_in}
+use Rattle.asm_argument.specs.Operand.{operand_step, begun, finished, is_finished, is_nothing, is_unbegun, awaits_register, name_in}
+use Rattle.asm_argument.specs.Shapes.{is_register}
+use Rattle.asm_parse.specs.Items.{item_of, resumed, sectioned, is_rep, is_passed}
 
 -- a token with which no argument begins
 abbrev pub begins_nothing : Terminal → Bool
@@ -116,15 +115,6 @@ argument_of line h done (Some sh) = Ok (state.Arguments (record { line = line; h
 abbrev pub next_argument : ℕ → Head → List Argument → Argument → Result StatementState SourceCause
 next_argument line h done last = argument_of line h (done ++ last ∷ []) (shape_at h (length (done ++ last ∷ [])))
 
-abbrev pub item_of : ℕ → Head → List Argument → SourceItem
-item_of line (head.Instruction r n) args = record { line = line; body = body.Instruction r n args }
-item_of line (head.Directive k n) args = record { line = line; body = body.Directive n args }
-
--- a change of the section ends the skipping
-abbrev pub resumed : ScopeView → Head → ScopeView
-resumed sc (head.Directive directive.Plain n) = record sc { skipping = false }
-resumed sc _ = sc
-
 abbrev pub complete : ScopeView → ℕ → Head → List Argument → Result (ScopeView × StatementState) SourceCause
 complete sc line h args = if nat_lt (length args) (least h) then Err cause.BadArgument else Ok (resumed (pushed sc (item_of line h args)) h, state.Start)
 
@@ -171,9 +161,6 @@ labelled line n (Err c) = Err c
 abbrev pub label : ScopeView → ℕ → List ℕ → Result (ScopeView × StatementState) SourceCause
 label sc line n = labelled line n (noting sc true n)
 
-unfoldable pub is_rep : List ℕ → Bool
-is_rep n = bytes_eq n (codes "rep")
-
 -- a terminal behind `rep`
 abbrev pub rep_step : ScopeView → ℕ → Terminal → Result (ScopeView × StatementState) SourceCause
 rep_step sc line (terminal.Name m) = Ok (sc, state.Arguments (nothing_yet line (head.Instruction true m)))
@@ -183,10 +170,6 @@ rep_step sc line _ = Err cause.BadOperand
 -- a terminal behind an instruction's name
 abbrev pub instruction_step : ScopeView → ℕ → List ℕ → Terminal → Result (ScopeView × StatementState) SourceCause
 instruction_step sc line n s = if is_rep n then rep_step sc line s else argument_step sc (nothing_yet line (head.Instruction false n)) s
-
--- the statement of this name is skipped
-abbrev pub is_passed : ScopeView → List ℕ → Bool
-is_passed sc n = sc.skipping && not (changes_section n)
 
 abbrev pub section_name : ℕ → List ℕ → Terminal → Result StatementState SourceCause
 section_name line n (terminal.Name m) = if is_section m then Ok (state.Sectioned line n m 0) else Err cause.BadArgument
@@ -201,9 +184,6 @@ of_directive (Some k) sc line n s = argument_step sc (nothing_yet line (head.Dir
 -- a terminal behind a directive's name
 abbrev pub directive_step : ScopeView → ℕ → List ℕ → Terminal → Result (ScopeView × StatementState) SourceCause
 directive_step sc line n s = of_directive (directive_of n) sc line n s
-
-abbrev pub sectioned : ScopeView → ℕ → List ℕ → List ℕ → ScopeView
-sectioned sc line n m = record (pushed sc (record { line = line; body = body.Directive n (record { star = false; form = form.Text m } ∷ []) })) { skipping = is_unread m }
 
 abbrev pub section : ScopeView → ℕ → List ℕ → List ℕ → Result (ScopeView × StatementState) SourceCause
 section sc line n m = Ok (sectioned sc line n m, state.Start)

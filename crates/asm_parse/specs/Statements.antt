@@ -15,11 +15,11 @@ use Rattle.asm_parse.specs.declared.directive.Head.TheVariants as head
 use Rattle.asm_parse.specs.ScopeView.{ScopeView}
 use Rattle.asm_source.specs.Names.{holds, symbol_in}
 use Rattle.asm_parse.specs.Scope.{has_room, pushed, noted, defined_too}
-use Rattle.asm_argument.specs.Operand.{is_operand}
+use Rattle.asm_argument.specs.Shapes.{is_operand}
 use Rattle.asm_argument.specs.Grammar.{IsForm}
 use Rattle.asm_argument.specs.Terminals.{terminal_of}
-use Rattle.asm_parse.specs.Reading.{is_part}
-use Rattle.asm_parse.specs.Statement.{item_of, resumed, sectioned, is_rep, is_passed}
+use Rattle.asm_parse.specs.Items.{is_part}
+use Rattle.asm_parse.specs.Items.{item_of, resumed, sectioned, is_rep, is_passed}
 use Rattle.asm_parse.specs.Directives.{shape_at, least, defines, is_dotted, is_section, directive_of}
 
 -- ---- names

@@ -35,7 +35,7 @@ fn stray(
 {
     if is_place(cause) {
         *scope = Scope::new(alloc);
-        Ok(StatementState::Stray(line, cause))
+        Ok(StatementState::Stray { line, cause })
     } else {
         Err(StepFault::Cause(cause))
     }
@@ -93,8 +93,8 @@ fn doom(scope: &Scope, state: &StatementState) -> Option<u32>
     ensures { result ≡ spec.doom scope.now state.now }
 {
     match state {
-        StatementState::Stray(line, _) => Some(*line),
-        StatementState::Named(begun, name) => {
+        StatementState::Stray { line, .. } => Some(*line),
+        StatementState::Named { line: begun, name } => {
             if (is_unknown(scope, name) && is_taken(scope, name)) || lacks_names(scope, name) {
                 Some(*begun)
             } else {
@@ -120,8 +120,8 @@ fn pending(scope: &Scope, state: &StatementState) -> Option<SourceCause>
     ensures { result ≡ spec.pending scope.now state.now }
 {
     match state {
-        StatementState::Stray(_, _) => Some(SourceCause::BadRegister),
-        StatementState::Named(_, name) => {
+        StatementState::Stray { .. } => Some(SourceCause::BadRegister),
+        StatementState::Named { name, .. } => {
             if is_unknown(scope, name) {
                 Some(SourceCause::UnknownDirective)
             } else if lacks_names(scope, name) {

@@ -2,7 +2,7 @@
 
 ghost use Rattle.std.specs.Prelude.{◌≡◌};
 ghost use Rattle.asm_parse.specs.Directives as spec;
-ghost use Rattle.asm_parse.specs.Statement.{is_rep};
+ghost use Rattle.asm_parse.specs.Items.{is_rep};
 
 use asm_argument::Shape;
 use asm_source::{DirectiveName, Name, begins, directive_name, is_text};
@@ -132,7 +132,7 @@ pub fn defines(head: &Head, index: usize) -> bool
     }
 }
 
-#[tactic(auto, unfolding(crate::specs::Statement::is_rep))]
+#[tactic(auto, unfolding(crate::specs::Items::is_rep))]
 pub fn is_rep(name: &Name) -> bool
     ensures { result ≡ is_rep name.now }
 {

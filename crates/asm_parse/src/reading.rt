@@ -6,6 +6,7 @@ ghost use Rattle.asm_lex.specs.Machine.{start_of};
 ghost use Rattle.asm_lex.specs.declared.machine.Next.TheVariants.{Goes};
 ghost use Rattle.asm_parse.specs.Statement.{fault_line, next_step};
 ghost use Rattle.asm_parse.specs.Reading as spec;
+ghost use Rattle.asm_parse.specs.Items as items;
 ghost use Rattle.asm_parse.specs.Running as run;
 
 use crate::dead::{fault_line, next_step, stopped};
@@ -47,7 +48,7 @@ fn feed_terminal(
 
 /// Whether no comma and no blank is in the token's bytes, and it ends no statement.
 fn is_part(kind: TokenKind, bytes: &[u8]) -> bool
-    ensures { result ≡ spec.is_part kind bytes.now }
+    ensures { result ≡ items.is_part kind bytes.now }
 {
     match kind {
         TokenKind::End => false,
@@ -57,7 +58,7 @@ fn is_part(kind: TokenKind, bytes: &[u8]) -> bool
 }
 
 fn are_inside(bytes: &[u8]) -> bool
-    ensures { result ≡ list_all spec.is_inside bytes.now }
+    ensures { result ≡ list_all items.is_inside bytes.now }
 {
     bytes
         .iter()
@@ -69,7 +70,7 @@ fn is_longer(state: &StatementState, at: usize, kind: TokenKind, bytes: &[u8]) -
     ensures { result ≡ spec.is_longer state.now at kind bytes.now }
 {
     match state {
-        StatementState::Sectioned(_, _, _, end) => *end == at && is_part(kind, bytes),
+        StatementState::Sectioned { end, .. } => *end == at && is_part(kind, bytes),
         _ => false,
     }
 }
@@ -79,10 +80,20 @@ fn longer(state: StatementState, end: usize, bytes: &[u8]) -> Result<StatementSt
     ensures { IfOk result (λ st. st ≡ spec.longer state end bytes.now) }
 {
     match state {
-        StatementState::Sectioned(line, name, section, _) => {
+        StatementState::Sectioned {
+            line,
+            name,
+            section,
+            ..
+        } => {
             let mut section = section.bytes;
             section.extend_from_slice(bytes)?;
-            Ok(StatementState::Sectioned(line, name, Name { bytes: section }, end))
+            Ok(StatementState::Sectioned {
+                line,
+                name,
+                section: Name { bytes: section },
+                end,
+            })
         }
         other => Ok(other),
     }
@@ -93,9 +104,17 @@ fn ending_at(end: usize, state: StatementState) -> StatementState
     ensures { result ≡ spec.ending_at end state }
 {
     match state {
-        StatementState::Sectioned(line, name, section, _) => StatementState::Sectioned(
-            line, name, section, end,
-        ),
+        StatementState::Sectioned {
+            line,
+            name,
+            section,
+            ..
+        } => StatementState::Sectioned {
+            line,
+            name,
+            section,
+            end,
+        },
         other => other,
     }
 }

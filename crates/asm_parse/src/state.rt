@@ -20,16 +20,31 @@ pub struct Open {
 pub enum StatementState {
     Start,
     /// A name, which may be a label or begin a directive or an instruction, and its line.
-    Named(u32, Name),
+    Named {
+        line: u32,
+        name: Name,
+    },
     /// The rest of the statement isn't read.
     Skip,
     /// A change to a named section: the directive, the section's name so far, and the place behind it.
-    Sectioned(u32, Name, Name, usize),
+    Sectioned {
+        line: u32,
+        name: Name,
+        section: Name,
+        end: usize,
+    },
     /// The same, behind a comma.
-    Flags(u32, Name, Name),
+    Flags {
+        line: u32,
+        name: Name,
+        section: Name,
+    },
     Arguments(Open),
     /// Behind a `%` that may not stand in its place: its line, and why.
-    Stray(u32, SourceCause),
+    Stray {
+        line: u32,
+        cause: SourceCause,
+    },
 }
 
 /// Lets go of what a statement has left open.

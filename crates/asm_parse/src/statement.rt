@@ -2,6 +2,7 @@
 
 ghost use Rattle.std.specs.Prelude.{◌≡◌};
 ghost use Rattle.asm_parse.specs.Statement as spec;
+ghost use Rattle.asm_parse.specs.Items as items;
 
 use crate::argument::{argument_step, misplaced, nothing_yet, noting};
 use crate::directive::{
@@ -81,7 +82,7 @@ fn instruction_step(
 
 /// Whether the statement of this name is skipped.
 fn is_passed(scope: &Scope, name: &Name) -> bool
-    ensures { result ≡ spec.is_passed scope.now name.now }
+    ensures { result ≡ items.is_passed scope.now name.now }
 {
     scope.is_skipping() && !changes_section(name)
 }
@@ -92,7 +93,12 @@ fn section_name(line: u32, name: Name, terminal: Terminal) -> Result<StatementSt
     match terminal {
         Terminal::Name(section) => {
             if is_section(&section) {
-                Ok(StatementState::Sectioned(line, name, section, 0))
+                Ok(StatementState::Sectioned {
+                    line,
+                    name,
+                    section,
+                    end: 0,
+                })
             } else {
                 Err(StepFault::Cause(SourceCause::BadArgument))
             }
@@ -164,7 +170,7 @@ fn start_step(scope: &Scope, line: u32, terminal: Terminal) -> Result<StatementS
 {
     match terminal {
         Terminal::End => Ok(StatementState::Start),
-        Terminal::Name(name) => Ok(StatementState::Named(line, name)),
+        Terminal::Name(name) => Ok(StatementState::Named { line, name }),
         Terminal::Big => unless_skipping(scope.is_skipping(), SourceCause::BadNumber),
         _ => unless_skipping(scope.is_skipping(), SourceCause::BadOperand),
     }
@@ -233,7 +239,11 @@ fn sectioned_step(
 {
     match terminal {
         Terminal::End => section(alloc, scope, begun, name, named),
-        Terminal::Comma => Ok(StatementState::Flags(begun, name, named)),
+        Terminal::Comma => Ok(StatementState::Flags {
+            line: begun,
+            name,
+            section: named,
+        }),
         Terminal::Big => Err(StepFault::Cause(SourceCause::BadNumber)),
         _ => Err(StepFault::Cause(SourceCause::BadOperand)),
     }
@@ -252,7 +262,11 @@ fn flags_step(
 {
     match terminal {
         Terminal::End => section(alloc, scope, begun, name, named),
-        _ => Ok(StatementState::Flags(begun, name, named)),
+        _ => Ok(StatementState::Flags {
+            line: begun,
+            name,
+            section: named,
+        }),
     }
 }
 
@@ -284,15 +298,22 @@ pub fn step(
 {
     match state {
         StatementState::Start => start_step(scope, line, terminal),
-        StatementState::Named(begun, name) => named_step(alloc, scope, begun, name, terminal),
+        StatementState::Named { line: begun, name } => {
+            named_step(alloc, scope, begun, name, terminal)
+        },
         StatementState::Skip => Ok(skip(terminal)),
-        StatementState::Sectioned(begun, name, named, _) => {
-            sectioned_step(alloc, scope, begun, name, named, terminal)
-        }
-        StatementState::Flags(begun, name, named) => flags_step(
-            alloc, scope, begun, name, named, terminal,
-        ),
-        StatementState::Stray(_, cause) => Err(StepFault::Cause(stray_cause(cause, &terminal))),
+        StatementState::Sectioned {
+            line: begun,
+            name,
+            section: named,
+            ..
+        } => { sectioned_step(alloc, scope, begun, name, named, terminal) }
+        StatementState::Flags {
+            line: begun,
+            name,
+            section: named,
+        } => flags_step(alloc, scope, begun, name, named, terminal),
+        StatementState::Stray { cause, .. } => Err(StepFault::Cause(stray_cause(cause, &terminal))),
         StatementState::Arguments(begun) => argument_step(alloc, scope, begun, terminal),
     }
 }

@@ -1,5 +1,5 @@
 -- What is known of the items of every source that is read.
-use Rattle.std.specs.Prelude.{ℕ, ◌≤◌, List, [], ◌∷◌, length, fold, All, Option, Some, None}
+use Rattle.std.specs.Prelude.{ℕ, ◌≤◌, List, [], ◌∷◌, length, fold, All}
 use Rattle.std.specs.Option.{option_to_list}
 use Rattle.std.specs.List.{flat_map}
 use Rattle.asm_lex.specs.declared.lexing.TheConstants.{LIMIT}
