@@ -7,8 +7,8 @@ ghost use Rattle.sys_exec.specs.Asked.{GivesAsked};
 
 use crate::effect::{Refusal, SysOutcome};
 use crate::operand::{
-    UNSUPPORTED, by_level, gone_to, long_of, next, past, past_push, pull, push,
-    reach_operand, reg_at,
+    UNSUPPORTED, by_level, gone_to, long_of, next, past, past_push, pull, push, reach_operand,
+    reg_at,
 };
 use descriptors::{Cpu, reach};
 use ia32_exec::{address_of, esp_above, esp_below};
