@@ -1,6 +1,7 @@
 -- What an instruction comes to is the same over bytes that are the same in its ranges.
 use Rattle.std.proofs.Common.{◌≡◌, ℕ, ◌+◌, ◌*◌, ◌/◌, ◌<◌, ◌^◌, ◌%◌, Bool, true, false, cond, refl, sym, ap, subst, ◌∙◌, Some, None, [], ◌∷◌, arith}
 use Rattle.std.specs.Prelude.{slice_index, if◌then◌else◌}
+use Rattle.std.specs.Option.{option_or}
 use Rattle.ia32_types.specs.declared.size.Size.{Size}
 use Rattle.ia32_types.specs.declared.size.Size.TheVariants.{Byte, Word, Long}
 use Rattle.ia32_types.specs.declared.register.Seg.TheVariants.{Ds}
@@ -29,7 +30,7 @@ use Rattle.ia32_exec.specs.Arithmetic.{flagged, count_of, arithmetic, tested, sh
 use Rattle.ia32_exec.specs.Moves.{loaded_address, moved, moved_with_zeros, moved_with_sign, exchanged}
 use Rattle.ia32_exec.specs.Stack.{stack_of, esp_below, esp_above, slot_of, is_foreign, taken, pushed, pushed_number, popped, all_popped, frame_left, flags_popped}
 use Rattle.ia32_exec.specs.Strings.{is_over, moved_on, string, turn, counted}
-use Rattle.ia32_exec.specs.Effect.{either, row, ranges_row, effect, ranges_of}
+use Rattle.ia32_exec.specs.Effect.{row, ranges_row, effect, ranges_of}
 use Rattle.ia32_types.specs.Places.{is_place}
 use Rattle.ia32_types.specs.Bits.{sign_extended}
 use Rattle.ia32_exec.specs.Transfers.{gone_to, returned, jumped_through, called_through}
@@ -71,7 +72,7 @@ module _ (b c : ℕ → ℕ) where
   source_same (Control n) imm s r h = refl
 
   -- of two operands one at most is in memory
-  both_covered : (x y : Operand) (s : Size) (r : Regs) → IsAlone x y → Covers Same (either (operand_range x s r) (operand_range y s r)) → Covers Same (operand_range x s r) × Covers Same (operand_range y s r)
+  both_covered : (x y : Operand) (s : Size) (r : Regs) → IsAlone x y → Covers Same (option_or (operand_range x s r) (operand_range y s r)) → Covers Same (operand_range x s r) × Covers Same (operand_range y s r)
   both_covered Absent y s r a h = (tt, h)
   both_covered (Register n) y s r a h = (tt, h)
   both_covered (Segment g) y s r a h = (tt, h)

@@ -1,5 +1,6 @@
 -- What an instruction accesses, and what it does: one row for each.
 use Rattle.std.specs.Prelude.{ℕ, ◌/◌, true, false, if◌then◌else◌, Option, Some, None, slice_index}
+use Rattle.std.specs.Option.{option_or}
 use Rattle.ia32_types.specs.declared.size.Size.TheVariants.{Byte, Word, Long}
 use Rattle.ia32_types.specs.declared.register.Seg.{Seg}
 use Rattle.ia32_types.specs.declared.register.Seg.TheVariants.{Es, Ss, Ds}
@@ -91,16 +92,12 @@ reads x = record { read = x; write = None }
 abbrev pub writes : Option Range → Ranges
 writes x = record { read = None; write = x }
 
-abbrev pub either : Option Range → Option Range → Option Range
-either (Some x) y = Some x
-either None y = y
-
 -- a source is read and a destination written; a destination that is read too counts as written (profile)
 abbrev pub source_and_target : Insn → Regs → Ranges
 source_and_target i r = record { read = operand_range i.b i.size r; write = operand_range i.a i.size r }
 
 abbrev pub both_read : Insn → Regs → Ranges
-both_read i r = reads (either (operand_range i.a i.size r) (operand_range i.b i.size r))
+both_read i r = reads (option_or (operand_range i.a i.size r) (operand_range i.b i.size r))
 
 -- one element at ESI or EDI
 abbrev pub element : Seg → ℕ → Insn → Regs → Option Range

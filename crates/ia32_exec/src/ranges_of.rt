@@ -2,7 +2,7 @@ ghost use Rattle.std.specs.Prelude.{◌≡◌, ◌<◌, ◌+◌, slice_index};
 ghost use Rattle.ia32_types.specs.declared.size.Size.TheVariants.{Long};
 ghost use Rattle.ia32_exec.specs.Registers.{with_whole};
 ghost use Rattle.ia32_exec.specs.Ranges.{segment_of, operand_range};
-ghost use Rattle.ia32_exec.specs.Effect.{on_stack, reads, writes, either, source_and_target, both_read, element, unless_over, ranges_of};
+ghost use Rattle.ia32_exec.specs.Effect.{on_stack, reads, writes, source_and_target, both_read, element, unless_over, ranges_of};
 ghost use Rattle.ia32_exec.specs.Short.{IsShort};
 
 use crate::access::{Range, Ranges};
@@ -52,15 +52,6 @@ fn writes(write: Option<Range>) -> Ranges
     Ranges { read: None, write }
 }
 
-fn either(first: Option<Range>, second: Option<Range>) -> Option<Range>
-    ensures { result ≡ either first second }
-{
-    match first {
-        Some(range) => Some(range),
-        None => second,
-    }
-}
-
 fn source_and_target(insn: &Insn, regs: &Regs) -> Ranges
     ensures { result ≡ source_and_target insn.now regs.now }
 {
@@ -74,7 +65,7 @@ fn both_read(insn: &Insn, regs: &Regs) -> Ranges
     ensures { result ≡ both_read insn.now regs.now }
 {
     let first = operand_range(insn.a, insn.size, regs);
-    reads(either(first, operand_range(insn.b, insn.size, regs)))
+    reads(first.or(operand_range(insn.b, insn.size, regs)))
 }
 
 fn element(seg: Seg, n: usize, insn: &Insn, regs: &Regs) -> Option<Range>

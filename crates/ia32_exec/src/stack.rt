@@ -82,7 +82,7 @@ pub fn all_pushed(len: u8, regs: &Regs) -> Outcome
     Outcome::Done(after, Stores::Eight(at, values))
 }
 
-fn slot<M: LinearBytes>(k: u32, regs: &Regs, mem: &M) -> u32
+fn slot_of<M: LinearBytes>(k: u32, regs: &Regs, mem: &M) -> u32
     requires within { k < 8 }
     requires covered { AreAll (M.readable mem.now) (stack_of regs.now) 32 }
     ensures { result ≡ slot_of k regs.now (M.byte mem.now) }
@@ -97,14 +97,14 @@ pub fn all_popped<M: LinearBytes>(len: u8, regs: &Regs, mem: &M) -> Outcome
     ensures { result ≡ all_popped len regs.now (M.byte mem.now) }
 {
     let r = [
-        slot(7, regs, mem),
-        slot(6, regs, mem),
-        slot(5, regs, mem),
-        slot(4, regs, mem),
+        slot_of(7, regs, mem),
+        slot_of(6, regs, mem),
+        slot_of(5, regs, mem),
+        slot_of(4, regs, mem),
         esp_above(32, regs),
-        slot(2, regs, mem),
-        slot(1, regs, mem),
-        slot(0, regs, mem),
+        slot_of(2, regs, mem),
+        slot_of(1, regs, mem),
+        slot_of(0, regs, mem),
     ];
     Outcome::Done(
         eip_past(u32::from(len), Regs { r, ..*regs }),

@@ -1,5 +1,6 @@
 -- Pages lead well over a plain instruction, whose ranges are of one byte at least.
 use Rattle.std.proofs.Common.{ℕ, ◌/◌, ◌≤◌, ◌==◌, Bool, true, false, cond, List, [], ◌∷◌, refl, Option, Some, None, Ok, Err, arith, not}
+use Rattle.std.specs.Option.{option_or}
 use Rattle.ia32_types.specs.declared.size.Size.{Size}
 use Rattle.ia32_types.specs.declared.size.Size.TheVariants.{Byte, Word, Long}
 use Rattle.ia32_types.specs.declared.flags.Regs.{Regs}
@@ -17,7 +18,7 @@ use Rattle.ia32_exec.specs.declared.outcome.Store.{Store}
 use Rattle.ia32_exec.specs.Ranges.{operand_range}
 use Rattle.ia32_exec.specs.Commit.{list_of}
 use Rattle.ia32_exec.specs.Strings.{is_over}
-use Rattle.ia32_exec.specs.Effect.{either, effect, ranges_row, ranges_of}
+use Rattle.ia32_exec.specs.Effect.{effect, ranges_row, ranges_of}
 use Rattle.paging.specs.Space.{Space, saved}
 use Rattle.paging.specs.Work.{Outcome}
 use Rattle.descriptors.specs.declared.cpu.Cpu.{Cpu}
@@ -49,7 +50,7 @@ some_choice : (b : Bool) (r : Range) → 1 ≤ r.len → HasBytes (cond b None (
 some_choice true r h = tt
 some_choice false r h = h
 
-some_either : (a b : Option Range) → HasBytes a → HasBytes b → HasBytes (either a b)
+some_either : (a b : Option Range) → HasBytes a → HasBytes b → HasBytes (option_or a b)
 some_either (Some x) b h k = h
 some_either None b h k = k
 
@@ -59,7 +60,7 @@ Have ranges = HasBytes ranges.read × HasBytes ranges.write
 both_operands : (i : Insn) (r : Regs) → HasBytes (operand_range i.b i.size r) × HasBytes (operand_range i.a i.size r)
 both_operands i r = (some_operand i.b i.size r, some_operand i.a i.size r)
 
-both_reads : (i : Insn) (r : Regs) → HasBytes (either (operand_range i.a i.size r) (operand_range i.b i.size r)) × Unit {0}
+both_reads : (i : Insn) (r : Regs) → HasBytes (option_or (operand_range i.a i.size r) (operand_range i.b i.size r)) × Unit {0}
 both_reads i r = (some_either _ _ (some_operand i.a i.size r) (some_operand i.b i.size r), tt)
 
 row_has : (o : Op) (i : Insn) (r : Regs) → Have (ranges_row o i r)

@@ -1,5 +1,6 @@
 -- The ranges of an instruction have 1 to 32 bytes.
 use Rattle.std.proofs.Common.{◌/◌, ◌≤◌, Bool, true, false, cond, Option, Some, None, arith}
+use Rattle.std.specs.Option.{option_or}
 use Rattle.ia32_types.specs.declared.size.Size.{Size}
 use Rattle.ia32_types.specs.declared.size.Size.TheVariants.{Byte, Word, Long}
 use Rattle.ia32_types.specs.declared.flags.Regs.{Regs}
@@ -12,7 +13,7 @@ use Rattle.ia32_types.specs.Size.{width}
 use Rattle.ia32_exec.specs.declared.access.Range.{Range}
 use Rattle.ia32_exec.specs.Ranges.{operand_range}
 use Rattle.ia32_exec.specs.Strings.{is_over}
-use Rattle.ia32_exec.specs.Effect.{either, unless_over, ranges_row, ranges_of}
+use Rattle.ia32_exec.specs.Effect.{unless_over, ranges_row, ranges_of}
 use Rattle.ia32_exec.specs.Short.{IsShort}
 
 short_size : (s : Size) → (1 ≤ width s / 8) × (width s / 8 ≤ 32)
@@ -27,7 +28,7 @@ short_operand (operand.Memory a) s r = short_size s
 short_operand (operand.Segment g) s r = tt
 short_operand (operand.Control n) s r = tt
 
-short_either : (x y : Option Range) → IsShort x → IsShort y → IsShort (either x y)
+short_either : (x y : Option Range) → IsShort x → IsShort y → IsShort (option_or x y)
 short_either None y h k = k
 short_either (Some r) y h k = h
 
