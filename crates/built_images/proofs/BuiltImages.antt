@@ -139,8 +139,8 @@ not_above n limit le = grind (arith, nat_tests)
 no_entry : (at len : ℕ) → 0x10000000 ≤ at → at < 0x10000000 + len → (nat_lt at 0x10000000 || not (nat_lt at (0x10000000 + len))) ≡ false
 no_entry at len ge lt = grind (arith, nat_tests)
 
-right_place : (n m : ℕ) → n ≡ m → then_some (not (n == m)) 0 ≡ None
-right_place n m e = ap (λ b. then_some (not b) 0) (equal_so n m e)
+right_place : (n m : ℕ) → n ≡ m → then_some {T = ℕ} (not (n == m)) 0 ≡ None
+right_place n m e = ap (λ b. then_some {T = ℕ} (not b) 0) (equal_so n m e)
 
 placed_by : (parts : ImageParts) → text_place parts ≡ None → init_place parts ≡ None → text_size parts ≡ None → init_size parts ≡ None → entry_place parts ≡ None → placed parts ≡ Ok tt
 unfolding placed
@@ -215,9 +215,9 @@ module _ (parts : ImageParts) (cs : List Chunk) (b : IsBuilt parts cs) where
       placed_by parts
       (right_place parts.text_at 0x10000000 b.text_at)
       (right_place parts.init_at 0x11000000 b.init_at)
-      (ap (λ t. then_some t 0) (no_size (length parts.text) w.text.0 w.text.1))
-      (ap (λ t. then_some t 0) (not_above (length parts.init + parts.bss) 33554432 b.room))
-      (ap (λ t. then_some t 0) (no_entry parts.entry (length parts.text) w.entry.0 w.entry.1))
+      (ap (λ t. then_some {T = ℕ} t 0) (no_size (length parts.text) w.text.0 w.text.1))
+      (ap (λ t. then_some {T = ℕ} t 0) (not_above (length parts.init + parts.bss) 33554432 b.room))
+      (ap (λ t. then_some {T = ℕ} t 0) (no_entry parts.entry (length parts.text) w.entry.0 w.entry.1))
 
   pub accepted_but : IsAcceptedButForTargets parts cs
   accepted_but =

@@ -1,7 +1,6 @@
 -- Sites of one text behind those of others.
-use Rattle.std.proofs.Common.{◌≡◌, ℕ, zero, suc, ◌+◌, ◌*◌, ◌<◌, ◌≤◌, ◌^◌, max, List, [], ◌∷◌, ◌++◌, length, refl, ◌∙◌, subst, arith}
+use Rattle.std.proofs.Common.{◌≡◌, ℕ, zero, suc, ◌+◌, ◌<◌, ◌≤◌, ◌^◌, max, List, [], ◌∷◌, ◌++◌, subst, arith}
 use Rattle.std.specs.Prelude.{All, map}
-use Rattle.std.proofs.lemmas.List.{length-append}
 use Rattle.sites.specs.declared.site.Site.{Site}
 use Rattle.sites.specs.Spelling.{AreSites, AreInForm}
 use Rattle.elf_link.specs.Sites.{moved}

@@ -7,11 +7,10 @@ ghost use Rattle.guest_ram.specs.Bytes.{part, with_part, byte, word16, word32, w
 mod memory;
 mod words;
 
-pub use words::{byte, half, put_word, word};
-
 use memory::{Lease, Memory, Room};
 use std::alloc::{AllocError, Global};
 use std::marker::Model;
+pub use words::{byte, half, put_word, word};
 
 /// The bytes of a frame.
 pub const FRAME: u32 = 4096;

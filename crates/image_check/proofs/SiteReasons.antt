@@ -77,17 +77,21 @@ lower_so (Some a) None at e = let same : a ≡ at = cc in (inl e, λ k h. elim h
 lower_so (Some a) (Some b) at e =
     elim (lower_of a b) [
       | inl first ↦
-          let same : a ≡ at = some_same (sym first.0 ∙ e) in
-          (inl (ap some same), λ k h. elim h [
-            | inl is ↦ let other : a ≡ k = cc in omega (arith, same, other)
-            | inr is ↦ let other : b ≡ k = cc in let le = first.1 in omega (arith, same, other, le)
-          ])
+          let same : a ≡ at = some_same (sym first.0 ∙ e) in (
+            inl (ap some same),
+            λ k h. elim h [
+              | inl is ↦ let other : a ≡ k = cc in omega (arith, same, other)
+              | inr is ↦ let other : b ≡ k = cc in let le = first.1 in omega (arith, same, other, le)
+            ],
+          )
       | inr second ↦
-          let same : b ≡ at = some_same (sym second.0 ∙ e) in
-          (inr (ap some same), λ k h. elim h [
-            | inl is ↦ let other : a ≡ k = cc in let le = second.1 in omega (arith, same, other, le)
-            | inr is ↦ let other : b ≡ k = cc in omega (arith, same, other)
-          ])
+          let same : b ≡ at = some_same (sym second.0 ∙ e) in (
+            inr (ap some same),
+            λ k h. elim h [
+              | inl is ↦ let other : a ≡ k = cc in let le = second.1 in omega (arith, same, other, le)
+              | inr is ↦ let other : b ≡ k = cc in omega (arith, same, other)
+            ],
+          )
     ]
 
 so_lower : (a b : Option ℕ) (at : ℕ) → IsLowest (EitherIs a b) at → (a or_lower b) ≡ Some at

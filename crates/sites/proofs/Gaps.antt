@@ -1,8 +1,7 @@
 -- Writing sites of format 2 one after the other, and testing whether they can be written so.
-use Rattle.std.proofs.Common.{◌≡◌, ℕ, suc, ◌+◌, ◌-◌, ◌<◌, ◌≤◌, ◌^◌, Bool, true, false, eqb, ltb, List, [], ◌∷◌, ◌++◌, length, get_or, drop, refl, sym, ap, ◌∙◌, subst, arith, append_assoc, lt-ltb, le-ltb, eq-eqb}
-use Rattle.std.specs.Prelude.{not, ◌&&◌, max, IsTrue}
+use Rattle.std.proofs.Common.{◌≡◌, ℕ, ◌+◌, ◌-◌, ◌<◌, ◌≤◌, ◌^◌, Bool, true, false, eqb, ltb, List, [], ◌∷◌, ◌++◌, length, get_or, drop, refl, sym, ap, ◌∙◌, subst, arith, append_assoc, lt-ltb, le-ltb, eq-eqb}
+use Rattle.std.specs.Prelude.{not, ◌&&◌, max}
 use Rattle.std.proofs.lemmas.Bool.{ltb-false, ltb-true, eqb-true}
-use Rattle.std.proofs.lemmas.Bool.Decides.{nat_tests}
 use Rattle.std.proofs.lemmas.List.{drop_more, drop_all, append-nil}
 use Rattle.sites.specs.declared.site.Site.{Site}
 use Rattle.sites.specs.Spelling.{gap, gaps, AreGapped}

@@ -1,6 +1,6 @@
 -- Reading and writing are inverse to each other in format 1.
-use Rattle.std.proofs.Common.{◌≡◌, ℕ, zero, suc, ◌+◌, ◌-◌, ◌<◌, ◌≤◌, ◌^◌, Bool, true, false, eqb, ltb, List, [], ◌∷◌, ◌++◌, length, get_or, take, drop, Option, Some, None, ◌⊎◌, Result, Ok, Err, refl, sym, ap, ◌∙◌, subst, arith, eq-eqb, append_assoc, inl, inr}
-use Rattle.std.specs.Prelude.{IfOk, ◌*◌, not, ◌&&◌, ◌||◌, max, is_none, unwrap_or}
+use Rattle.std.proofs.Common.{◌≡◌, ℕ, zero, suc, ◌+◌, ◌-◌, ◌<◌, ◌≤◌, ◌^◌, Bool, true, false, eqb, ltb, List, [], ◌∷◌, ◌++◌, length, get_or, take, drop, Option, Some, None, ◌⊎◌, Ok, refl, sym, ap, ◌∙◌, subst, arith, eq-eqb, append_assoc, inl, inr}
+use Rattle.std.specs.Prelude.{◌*◌, not, ◌&&◌, ◌||◌, max, is_none, unwrap_or}
 use Rattle.std.specs.Bool.{then_some}
 use Rattle.std.specs.List.{flat_map}
 use Rattle.std.specs.Int.{w32, to_le_bytes, from_le_bytes}

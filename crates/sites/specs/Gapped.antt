@@ -1,5 +1,5 @@
 -- What is read of a list of sites in format 2, or the first bad byte.
-use Rattle.std.specs.Prelude.{ℕ, zero, suc, ◌+◌, ◌-◌, ◌*◌, max, Bool, true, not, ◌&&◌, List, [], ◌∷◌, length, Option, Some, None, unwrap_or, Result, nat_lt, ◌==◌}
+use Rattle.std.specs.Prelude.{ℕ, zero, suc, ◌+◌, ◌-◌, ◌*◌, max, Bool, true, not, ◌&&◌, List, [], ◌∷◌, length, Option, unwrap_or, Result, nat_lt, ◌==◌}
 use Rattle.std.specs.Bool.{then_some}
 use Rattle.guest_ram.specs.Bytes.{byte, word32}
 use Rattle.sites.specs.declared.site.Site.{Site}

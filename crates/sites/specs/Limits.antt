@@ -1,5 +1,5 @@
 -- The format in which the sites of a text are written.
-use Rattle.std.specs.Prelude.{ℕ, Bool, List, nat_lt, if◌then◌else◌}
+use Rattle.std.specs.Prelude.{ℕ, List, nat_lt, if◌then◌else◌}
 use Rattle.sites.specs.declared.site.Site.{Site}
 use Rattle.sites.specs.declared.limits.TheConstants.{SHORT_TEXT}
 use Rattle.sites.specs.SitesParts.{SitesParts}

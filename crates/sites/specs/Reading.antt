@@ -1,5 +1,5 @@
 -- What is read of a list of sites in format 1, or the first bad byte.
-use Rattle.std.specs.Prelude.{◌≡◌, ℕ, zero, suc, ◌+◌, max, Bool, not, ◌&&◌, List, [], ◌∷◌, length, Option, Some, None, Result, Ok, Err, is_none, unwrap_or, nat_lt, ◌==◌, if◌then◌else◌}
+use Rattle.std.specs.Prelude.{◌≡◌, ℕ, zero, suc, ◌+◌, max, Bool, not, ◌&&◌, List, [], ◌∷◌, length, Option, Some, None, Result, Ok, Err, is_none, unwrap_or, nat_lt, ◌==◌}
 use Rattle.std.specs.Bool.{then_some}
 use Rattle.guest_ram.specs.Bytes.{byte, word32}
 use Rattle.sites.specs.declared.site.Site.{Site}

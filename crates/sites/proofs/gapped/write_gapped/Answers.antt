@@ -1,5 +1,5 @@
-use Rattle.std.proofs.Common.{◌≡◌, ◌++◌, sym, ap, ◌∙◌}
-use Rattle.sites.specs.Spelling.{gaps, gapped}
+use Rattle.std.proofs.Common.{sym, ◌∙◌}
+use Rattle.sites.specs.Spelling.{gapped}
 use Rattle.sites.proofs.Gaps.{one_gap, no_more_gaps, gapped_here}
 use Rattle.sites.proofs.gapped.write_gapped.Goals as goal
 
