@@ -10,11 +10,11 @@ use Rattle.pic8259.specs.Phases.{phase_fits}
 use Rattle.pic8259.specs.Requests.{chip_fits, pair_fits, stands_for_slave}
 use Rattle.pit8254.specs.Counts.{is_period, is_next_period, is_count}
 use Rattle.uart16550.specs.States.{port_fits}
-use Rattle.board.specs.Restored.{phase_of, period_of, count_of, four_at, eight_at, chip_at, pair_at, timer_at, settings_at, waiting_at, all_met, is_period_or_none, chip_demands, pair_demands, timer_demands, port_demands, demands, board_form}
+use Rattle.board.specs.Restored.{phase_of, period_of, count_of, four_at, eight_at, chip_at, controllers_at, timer_at, settings_at, waiting_at, all_met, is_period_or_none, chip_demands, pair_demands, timer_demands, port_demands, demands, board_form}
 
 abbrev pub parts : List ℕ → Bool
 parts bytes =
-    all_met (chip_demands bytes 0) && all_met (chip_demands bytes 7) && stands_for_slave (pair_at bytes)
+    all_met (chip_demands bytes 0) && all_met (chip_demands bytes 7) && stands_for_slave (controllers_at bytes)
     && all_met (timer_demands bytes) && all_met (port_demands bytes)
 
 and_same : (a b c : Bool) → b ≡ c → (a && b) ≡ (a && c)
@@ -39,7 +39,7 @@ form_is bytes =
     ∙ ap (λ x. x && all_met t)
     (list_all-append met (a ++ b) p
     ∙ ap (λ x. x && all_met p) (list_all-append met a b)
-    ∙ ap (λ x. all_met a && all_met b && x) (and_true (stands_for_slave (pair_at bytes)))))
+    ∙ ap (λ x. all_met a && all_met b && x) (and_true (stands_for_slave (controllers_at bytes)))))
 
 pub last_decides : (a b c d e : Bool) → a ≡ true → b ≡ true → c ≡ true → d ≡ true →
     (a && (b && (c && (d && (e && true))))) ≡ e
@@ -54,11 +54,11 @@ join a b is_a is_b = rw (is_a, is_b) refl
 
 part_facts : (bytes : List ℕ) → board_form bytes ≡ true →
     (all_met (chip_demands bytes 0) ≡ true) × (all_met (chip_demands bytes 7) ≡ true)
-    × (stands_for_slave (pair_at bytes) ≡ true) × (all_met (timer_demands bytes) ≡ true) × (all_met (port_demands bytes) ≡ true)
+    × (stands_for_slave (controllers_at bytes) ≡ true) × (all_met (timer_demands bytes) ≡ true) × (all_met (port_demands bytes) ≡ true)
 part_facts bytes form =
     let e = both _ (all_met (port_demands bytes)) (sym (form_is bytes) ∙ form) in
     let d = both _ (all_met (timer_demands bytes)) e.0 in
-    let c = both _ (stands_for_slave (pair_at bytes)) d.0 in
+    let c = both _ (stands_for_slave (controllers_at bytes)) d.0 in
     let b = both (all_met (chip_demands bytes 0)) (all_met (chip_demands bytes 7)) c.0 in
     (b.0, b.1, c.1, d.1, e.1)
 
@@ -70,10 +70,10 @@ chip_facts bytes o met =
     let d = both (slice_index bytes (o + 5) % 8 == 0) _ c.1 in
     join (slice_index bytes (o + 5) % 8 == 0) _ d.0 c.0
 
-pub form_pics : (bytes : List ℕ) → board_form bytes ≡ true → pair_fits (pair_at bytes) ≡ true
+pub form_pics : (bytes : List ℕ) → board_form bytes ≡ true → pair_fits (controllers_at bytes) ≡ true
 form_pics bytes form =
     let facts = part_facts bytes form in
-    join _ (stands_for_slave (pair_at bytes))
+    join _ (stands_for_slave (controllers_at bytes))
     (join (chip_fits (chip_at bytes 0)) (chip_fits (chip_at bytes 7)) (chip_facts bytes 0 facts.0) (chip_facts bytes 7 facts.1))
     facts.2
 

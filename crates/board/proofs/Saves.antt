@@ -27,7 +27,7 @@ use Rattle.uart16550.specs.Registers.{Registers}
 use Rattle.uart16550.specs.States.{port_fits}
 use Rattle.board.specs.declared.devices.Board.{Board}
 use Rattle.board.specs.Saved.{phase_number, selected_number, timer_number, low_byte, period_in, next_period_in, steps_left_in, chip_bytes, timer_bytes, set_bytes, waiting_bytes, saved}
-use Rattle.board.specs.Restored.{phase_of, selected_of, timer_phase_of, period_of, count_of, chip_at, pair_at, timer_at, board_at, all_met, are_zero, is_period_or_none, chip_demands, pair_demands, timer_demands, port_demands, Demands, demands, board_form}
+use Rattle.board.specs.Restored.{phase_of, selected_of, timer_phase_of, period_of, count_of, chip_at, controllers_at, timer_at, board_at, all_met, are_zero, is_period_or_none, chip_demands, pair_demands, timer_demands, port_demands, Demands, demands, board_form}
 
 -- how the bytes are laid
 
@@ -269,7 +269,7 @@ saved_form board pics pit uart =
     (port_demands (saved board))
     (chip_met board.pics.master each.0)
     (chip_met board.pics.slave each.1)
-    (join (stands_for_slave (pair_at (saved board))) true (ap stands_for_slave back ∙ chips.1) refl)
+    (join (stands_for_slave (controllers_at (saved board))) true (ap stands_for_slave back ∙ chips.1) refl)
     (timer_met board board.pit pit)
     (join _ _ (worth_small board.uart.interrupt_enable)
     (join _ _ port.0

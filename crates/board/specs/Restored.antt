@@ -65,8 +65,8 @@ chip_at bytes o = record {
   selected = selected_of (slice_index bytes (o + 6));
 }
 
-abbrev pub pair_at : List ℕ → Pair
-pair_at bytes = record { master = chip_at bytes 0; slave = chip_at bytes 7 }
+abbrev pub controllers_at : List ℕ → Pair
+controllers_at bytes = record { master = chip_at bytes 0; slave = chip_at bytes 7 }
 
 abbrev pub timer_at : List ℕ → Timer
 timer_at bytes = record {
@@ -89,7 +89,7 @@ waiting_at bytes = slice_range bytes 39 (39 + slice_index bytes 38)
 
 unfoldable pub board_at : List ℕ → Board
 board_at bytes = record {
-  pics = pair_at bytes;
+  pics = controllers_at bytes;
   pit = timer_at bytes;
   uart = registers_of (settings_at bytes) (waiting_at bytes);
 }
@@ -116,7 +116,7 @@ chip_demands bytes o =
 
 -- the master's IR2 is set exactly while the slave has something to raise, which its mask is the last to decide
 abbrev pub pair_demands : List ℕ → Demands
-pair_demands bytes = (11, stands_for_slave (pair_at bytes)) ∷ []
+pair_demands bytes = (11, stands_for_slave (controllers_at bytes)) ∷ []
 
 abbrev pub is_period_or_none : ℕ → Bool
 is_period_or_none n = n == 0 || is_period n

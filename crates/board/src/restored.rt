@@ -4,7 +4,7 @@ ghost use Rattle.std.specs.Prelude.{◌≡◌, ◌+◌, ◌≤◌, true, slice_i
 ghost use Rattle.pic8259.specs.Requests.{pair_fits};
 ghost use Rattle.pit8254.specs.Counts.{is_count};
 ghost use Rattle.uart16550.specs.States.{port_fits};
-ghost use Rattle.board.specs.Restored.{four_at, eight_at, phase_of, selected_of, timer_phase_of, period_of, count_of, chip_at, pair_at, timer_at, settings_at, waiting_at, all_met, are_zero, chip_demands, is_period_or_none, timer_demands, port_demands, board_form};
+ghost use Rattle.board.specs.Restored.{four_at, eight_at, phase_of, selected_of, timer_phase_of, period_of, count_of, chip_at, controllers_at, timer_at, settings_at, waiting_at, all_met, are_zero, chip_demands, is_period_or_none, timer_demands, port_demands, board_form};
 
 use pic8259::{Chip, Pair, Phase as ChipPhase, Selected};
 use pit8254::{Count, Phase as TimerPhase, Timer};
@@ -64,8 +64,8 @@ fn chip_at(bytes: &[u8; 64], at: usize) -> Chip
     }
 }
 
-pub fn pair_at(bytes: &[u8; 64]) -> Pair
-    ensures { result ≡ pair_at bytes.now }
+pub fn controllers_at(bytes: &[u8; 64]) -> Pair
+    ensures { result ≡ controllers_at bytes.now }
 {
     Pair {
         master: chip_at(bytes, 0),
@@ -174,14 +174,14 @@ fn port_meets(bytes: &[u8; 64]) -> bool
 #[tactic(auto, using(crate::proofs::Forms::form_is, crate::proofs::Forms::form_pics, crate::proofs::Forms::form_count, crate::proofs::Forms::form_port))]
 pub fn has_form(bytes: &[u8; 64]) -> bool
     ensures form { result ≡ board_form bytes.now }
-    ensures pics { result ≡ true → pair_fits (pair_at bytes.now) ≡ true }
+    ensures pics { result ≡ true → pair_fits (controllers_at bytes.now) ≡ true }
     ensures pit { result ≡ true → is_count (timer_at bytes.now).count ≡ true }
     ensures uart { result ≡ true → port_fits (settings_at bytes.now).modem_control (waiting_at bytes.now) ≡ true }
     ensures waiting { result ≡ true → slice_index bytes.now 38 ≤ 16 }
 {
     chip_meets(bytes, 0)
         && chip_meets(bytes, 7)
-        && pair_at(bytes).stands_for_slave()
+        && controllers_at(bytes).stands_for_slave()
         && timer_meets(bytes)
         && port_meets(bytes)
 }

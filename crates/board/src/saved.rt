@@ -8,7 +8,7 @@ ghost use Rattle.board.specs.Saved.{phase_number, selected_number, timer_number,
 ghost use Rattle.board.specs.Restored.{board_form, board_at, restored};
 
 use crate::devices::Board;
-use crate::restored::{has_form, pair_at, settings_at, timer_at};
+use crate::restored::{has_form, controllers_at, settings_at, timer_at};
 use pic8259::{Chip, Phase as ChipPhase, Pics, Selected};
 use pit8254::{Phase as TimerPhase, Pit, Timer};
 use uart16550::{Settings, Uart};
@@ -41,7 +41,7 @@ impl Board {
         if !has_form(bytes) {
             return None;
         }
-        let pics = Pics::from_pair(pair_at(bytes))?;
+        let pics = Pics::from_pair(controllers_at(bytes))?;
         let pit = Pit::from_timer(timer_at(bytes))?;
         let end = 39 + bytes[38] as usize;
         let uart = Uart::from_settings(settings_at(bytes), &bytes[39..end])?;

@@ -44,3 +44,8 @@ pub record Moves (p p' : Pool) (m m' fs fs' : List ℕ) : Type 0 where
 pub record SameIn (fs m m' : List ℕ) : Type 0 where
   pub size : length m' ≡ length m
   pub frames : (f : ℕ) → 1 ≤ times f fs → frame m' f ≡ frame m f
+
+-- what is written in other frames than the free ones changes nothing of the pool
+abbrev pub WritesElsewhereKeep : Type 0
+WritesElsewhereKeep =
+    (p : Pool) (m m' : List ℕ) → Stands p m → SameIn (free_list p m) m m' → Stands p m' × (free_list p m' ≡ free_list p m)

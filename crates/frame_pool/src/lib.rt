@@ -3,8 +3,11 @@
 
 ghost use Rattle.std.specs.Prelude.{◌≡◌, ◌+◌, ◌*◌, ◌<◌, ◌≤◌, ◌^◌, ◌∷◌, List, ℕ, length, MatchOption};
 ghost use Rattle.frame_pool.specs.Frames.{frames_from};
-ghost use Rattle.frame_pool.specs.Held.{SameIn};
 ghost use Rattle.frame_pool.specs.Pool.{base_of, count_of, free_list, Stands, IsOut, SameFrames, SameBut, SameOutside, Takes, TakesNone};
+
+mod laws;
+
+pub use laws::writes_elsewhere_keep_the_pool;
 
 use guest_ram::{FRAME, Ram};
 
@@ -90,10 +93,9 @@ impl Pool {
         self.free += 1;
     }
 
-    /// How many frames are free. What is written in other frames than the free ones changes nothing of the pool.
+    /// How many frames are free.
     pub fn free(&self) -> u32
         ensures count { (m : List ℕ) → result ≡ length (free_list self.now m) }
-        ensures apart { (m m' : List ℕ) → Stands self.now m → SameIn (free_list self.now m) m m' → Stands self.now m' × (free_list self.now m' ≡ free_list self.now m) }
     {
         self.free
     }

@@ -196,7 +196,7 @@ fn told(
     (
         after.roots.kept(&ram, 0x11000),
         after.roots.adequate(&ram, Side::Kernel, 0x11000, true),
-        after.done,
+        after.count,
         pool.free(),
     )
 }

@@ -1,7 +1,7 @@
 -- A sink in memory: what it has taken, its room, the number of its next call, the numbers of the calls
 -- that are to fail, and how many have failed.
-use Rattle.std.specs.Prelude.{ℕ, ◌+◌, ◌-◌, ◌^◌, min, Bool, ◌||◌, ◌==◌, nat_lt, if◌then◌else◌, List, ◌++◌, length}
-use Rattle.std.specs.List.{list_any}
+use Rattle.std.specs.Prelude.{ℕ, ◌+◌, ◌-◌, ◌^◌, min, Bool, ◌||◌, nat_lt, if◌then◌else◌, List, ◌++◌, length}
+use Rattle.pv_io.specs.Among.{is_among}
 
 pub record Taken : Type 0 where
   pub bytes : List ℕ
@@ -16,7 +16,7 @@ one_more n = min (n + 1) (2 ^ 64 - 1)
 
 -- a call fails where its number is in the list or its bytes don't fit the room
 abbrev pub is_refused : Taken → List ℕ → Bool
-is_refused s bytes = list_any (λ n. n == s.calls) s.fail || nat_lt s.room (length s.bytes + length bytes)
+is_refused s bytes = is_among s.calls s.fail || nat_lt s.room (length s.bytes + length bytes)
 
 -- after a call; one that fails takes nothing and is counted
 abbrev pub put_to : Taken → List ℕ → Taken

@@ -4,8 +4,9 @@ ghost use Rattle.std.specs.Prelude.{◌≡◌, true, false, [], Some, None, Err,
 ghost use Rattle.pv_io.specs.Causes.{HasCause, Rose};
 ghost use Rattle.pv_io.specs.Files.{IsMissing, Loads, Stores, ChangesAt};
 ghost use Rattle.pv_io.specs.Held.{HoldsAt};
+ghost use Rattle.pv_io.specs.Among.{is_among};
 ghost use Rattle.pv_io.specs.MemSink.{one_more};
-ghost use Rattle.pv_io.specs.MemFiles.{held_of, is_listed, load_fails};
+ghost use Rattle.pv_io.specs.MemFiles.{held_of, load_fails};
 
 use crate::{Files, IoAnswer};
 use std::alloc::{AllocError, Global};
@@ -42,8 +43,8 @@ impl MemFiles {
 }
 
 /// The number of a call is in the list.
-fn is_listed(call: u64, fail: &Vec<u64>) -> bool
-    ensures { result ≡ is_listed call fail.now.items }
+fn is_among(call: u64, fail: &Vec<u64>) -> bool
+    ensures { result ≡ is_among call fail.now.items }
 {
     fail.contains(&call)
 }
@@ -74,7 +75,7 @@ impl Files for MemFiles {
         ensures list { self.new.fail.items ≡ self.old.fail.items }
     {
         let _ = alloc;
-        let listed = is_listed(self.calls, &self.fail);
+        let listed = is_among(self.calls, &self.fail);
         self.calls = self.calls.saturating_add(1);
         if listed {
             self.load_faults = self.load_faults.saturating_add(1);
@@ -100,15 +101,15 @@ impl Files for MemFiles {
         ensures cause { HasCause self.old.store_faults self.new.store_faults result }
         ensures other_count { self.new.load_faults ≡ self.old.load_faults }
 
-        ensures refused { is_listed self.old.calls self.old.fail.items ≡ true → result ≡ Err IoAnswer.Failed }
-        ensures granted { is_listed self.old.calls self.old.fail.items ≡ false → IsErrOf result IoAnswer.Failed → ⊥ }
+        ensures refused { is_among self.old.calls self.old.fail.items ≡ true → result ≡ Err IoAnswer.Failed }
+        ensures granted { is_among self.old.calls self.old.fail.items ≡ false → IsErrOf result IoAnswer.Failed → ⊥ }
         ensures kept { IsErrOf result IoAnswer.Failed → self.new.files ≡ self.old.files }
         ensures counted { self.new.store_faults ≡
-            (if is_listed self.old.calls self.old.fail.items then one_more self.old.store_faults else self.old.store_faults) }
+            (if is_among self.old.calls self.old.fail.items then one_more self.old.store_faults else self.old.store_faults) }
         ensures calls { self.new.calls ≡ one_more self.old.calls }
         ensures list { self.new.fail.items ≡ self.old.fail.items }
     {
-        let listed = is_listed(self.calls, &self.fail);
+        let listed = is_among(self.calls, &self.fail);
         self.calls = self.calls.saturating_add(1);
         if listed {
             self.store_faults = self.store_faults.saturating_add(1);

@@ -47,8 +47,8 @@ module _ (v : ℕ) (cs : List RootsCall) (side : Side) (entry : Entry) (wp : Boo
           value_of = a.0.value_of;
           tables = a.0.tables;
           mark = a.0.mark;
-          slots = λ page l. subst (λ x. IsSlot v (cs ++ fill ∷ []) x (slot_at p.shadow m' page)) (sym (last-more q.done (length cs) (Fill side entry wp) page))
-              (slot-filled v cs fill side entry wp (is_among entry.frame (tables_of (p ∷ ps))) (last_of q.done page) (slot_at p.shadow m) (slot_at p.shadow m') page many barred t l (a.0.slots page l));
+          slots = λ page l. subst (λ x. IsSlot v (cs ++ fill ∷ []) x (slot_at p.shadow m' page)) (sym (last-more q.calls (length cs) (Fill side entry wp) page))
+              (slot-filled v cs fill side entry wp (is_among entry.frame (tables_of (p ∷ ps))) (last_of q.calls page) (slot_at p.shadow m) (slot_at p.shadow m') page many barred t l (a.0.slots page l));
           opened = opened-more v cs q p m m' a.0 side (entry.page / 1024) index o;
           few = few-more v cs q p m m' a.0 side (entry.page / 1024) index o;
         },
@@ -69,8 +69,8 @@ module _ (v : ℕ) (cs : List RootsCall) (p : Pair) (ps : List Pair) (m m' : Lis
           value_of = a.0.value_of;
           tables = a.0.tables;
           mark = a.0.mark;
-          slots = λ x l. subst (λ y. IsSlot v (cs ++ Shared (DropPage page) ∷ []) y (slot_at p.shadow m' x)) (sym (last-more q.done (length cs) (DropPage page) x))
-              (slot-dropped v cs (Shared (DropPage page)) page (last_of q.done x) (slot_at p.shadow m) (slot_at p.shadow m') x many t l (a.0.slots x l));
+          slots = λ x l. subst (λ y. IsSlot v (cs ++ Shared (DropPage page) ∷ []) y (slot_at p.shadow m' x)) (sym (last-more q.calls (length cs) (DropPage page) x))
+              (slot-dropped v cs (Shared (DropPage page)) page (last_of q.calls x) (slot_at p.shadow m) (slot_at p.shadow m') x many t l (a.0.slots x l));
           opened = λ place y. (let z = a.0.opened place y in (z.0, keeps place.side place.index z.0 z.1));
           few = subst (λ (fs : List ℕ). length fs ≤ 2 + length q.places) (sym same) a.0.few;
         },
@@ -88,8 +88,8 @@ module _ (v : ℕ) (cs : List RootsCall) (p : Pair) (ps : List Pair) (m m' : Lis
           value_of = a.0.value_of;
           tables = a.0.tables;
           mark = a.0.mark;
-          slots = λ x l. subst (λ y. IsSlot v (cs ++ Shared (DropDir index) ∷ []) y (slot_at p.shadow m' x)) (sym (last-more q.done (length cs) (DropDir index) x))
-              (slot-lost v cs (Shared (DropDir index)) index (last_of q.done x) (slot_at p.shadow m) (slot_at p.shadow m') x many t l (a.0.slots x l));
+          slots = λ x l. subst (λ y. IsSlot v (cs ++ Shared (DropDir index) ∷ []) y (slot_at p.shadow m' x)) (sym (last-more q.calls (length cs) (DropDir index) x))
+              (slot-lost v cs (Shared (DropDir index)) index (last_of q.calls x) (slot_at p.shadow m) (slot_at p.shadow m') x many t l (a.0.slots x l));
           opened = λ place y. (let z = a.0.opened place y in (z.0, keeps place.side place.index z.0 z.1));
           few = subst (λ (fs : List ℕ). length fs ≤ 2 + length q.places) (sym same) a.0.few;
         },

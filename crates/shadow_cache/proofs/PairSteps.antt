@@ -26,7 +26,7 @@ agrees-kept v cs c q p m m' w e s k a =
       value_of = a.value_of;
       tables = a.tables;
       mark = a.mark;
-      slots = λ page l. slot-stays v cs c (last_of q.done page) (slot_at p.shadow m page) (slot_at p.shadow m' page) w (s page l) (a.slots page l);
+      slots = λ page l. slot-stays v cs c (last_of q.calls page) (slot_at p.shadow m page) (slot_at p.shadow m' page) w (s page l) (a.slots page l);
       opened = λ place t. (let o = a.opened place t in (o.0, k place.side place.index o.0 o.1));
       few = subst (λ (fs : List ℕ). length fs ≤ 2 + length q.places) (sym e) a.few;
     }
@@ -43,7 +43,7 @@ agrees-lost v cs c frame q p m m' w e s k a =
       value_of = a.value_of;
       tables = a.tables;
       mark = a.mark;
-      slots = λ page l. slot-noted v cs c frame (last_of q.done page) (slot_at p.shadow m page) (slot_at p.shadow m' page) w (s page l) (a.slots page l);
+      slots = λ page l. slot-noted v cs c frame (last_of q.calls page) (slot_at p.shadow m page) (slot_at p.shadow m' page) w (s page l) (a.slots page l);
       opened = λ place t. (let o = a.opened place t in (o.0, k place.side place.index o.0 o.1));
       few = subst (λ (fs : List ℕ). length fs ≤ 2 + length q.places) (sym e) a.few;
     }

@@ -60,16 +60,16 @@ with-once true place places e o = o
 with-once false place places e o = (e, o)
 
 placed-filled : (p : Past) (moment : ℕ) (side : Side) (entry : Entry) (wp : Bool) → IsPlaced p
-    → IsPlaced (record p { done = p.done ++ record { moment = moment; call = Fill side entry wp } ∷ []; places = with_place (record { side = side; index = entry.page / 1024 }) p.places })
+    → IsPlaced (record p { calls = p.calls ++ record { moment = moment; call = Fill side entry wp } ∷ []; places = with_place (record { side = side; index = entry.page / 1024 }) p.places })
 placed-filled p moment side entry wp a =
     let place : DirSlot = record { side = side; index = entry.page / 1024 } in
     record {
-      filled = with-filled (is_place place p.places) p.done moment side entry wp p.places a.filled;
+      filled = with-filled (is_place place p.places) p.calls moment side entry wp p.places a.filled;
       once = with-once (is_place place p.places) place p.places refl a.once;
     }
 
-placed-later : (p : Past) (d : MadeCall) → IsPlaced p → IsPlaced (record p { done = p.done ++ d ∷ [] })
-placed-later p d a = record { filled = λ place t. filled-later p.done d place (a.filled place t); once = a.once }
+placed-later : (p : Past) (d : MadeCall) → IsPlaced p → IsPlaced (record p { calls = p.calls ++ d ∷ [] })
+placed-later p d a = record { filled = λ place t. filled-later p.calls d place (a.filled place t); once = a.once }
 
 placed-begun : (v : ℕ) → IsPlaced (begun v)
 placed-begun v = record { filled = λ place t. absurd (let e : false ≡ true = t in cc); once = tt }

@@ -134,7 +134,7 @@ past-of v cs q p m a =
       value_of = a.value_of;
       tables = a.tables;
       mark = a.mark;
-      slots = λ page l. kept-as v cs q.done page (slot_at p.shadow m page) (a.slots page l);
+      slots = λ page l. kept-as v cs q.calls page (slot_at p.shadow m page) (a.slots page l);
       frames = a.few;
     }
 
@@ -146,7 +146,7 @@ pasts-of v cs (q ∷ qs) (p ∷ ps) m a = (past-of v cs q p m a.0, pasts-of v cs
 
 pub present-of : (v : ℕ) (cs : List RootsCall) (qs : List Past) (p : Pair) (ps : List Pair) (m : List ℕ) → AllAgree v cs qs (p ∷ ps) m → (page : ℕ) → page < 2 ^ 20 → IsKeptAs v cs (done_in qs) page (slot_at p.shadow m page)
 present-of v cs [] p ps m a page l = absurd a
-present-of v cs (q ∷ qs) p ps m a page l = kept-as v cs q.done page (slot_at p.shadow m page) (a.0.slots page l)
+present-of v cs (q ∷ qs) p ps m a page l = kept-as v cs q.calls page (slot_at p.shadow m page) (a.0.slots page l)
 
 -- ---- the frames
 

@@ -22,14 +22,14 @@ pub record DirSlot : Type 0 where
 -- read and that weren't written since, and whether one of those was written.
 pub record Past : Type 0 where
   pub value : ℕ
-  pub done : List MadeCall
+  pub calls : List MadeCall
   pub places : List DirSlot
   pub tables : List ℕ
   pub marked : Bool
 
 -- a pair as it begins
 abbrev pub begun : ℕ → Past
-begun value = record { value = value; done = []; places = []; tables = []; marked = false }
+begun value = record { value = value; calls = []; places = []; tables = []; marked = false }
 
 abbrev pub is_place : DirSlot → List DirSlot → Bool
 is_place p [] = false
@@ -53,7 +53,7 @@ abbrev pub marked_at : ℕ → Past → Past
 marked_at frame p = if is_among frame p.tables then record p { tables = all_but frame p.tables; marked = true } else p
 
 abbrev pub and_then : Past → ℕ → Call → Past
-and_then p moment call = record p { done = p.done ++ record { moment = moment; call = call } ∷ [] }
+and_then p moment call = record p { calls = p.calls ++ record { moment = moment; call = call } ∷ [] }
 
 abbrev pub filled_under : Past → DirSlot → Past
 filled_under p place = record p { places = with_place place p.places }

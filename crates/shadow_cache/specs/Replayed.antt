@@ -69,7 +69,7 @@ pub record IsPast (value : ℕ) (calls : List RootsCall) (past : Past) (p : Pair
   pub value_of : p.cr3 ≡ past.value
   pub tables : (frame : ℕ) → reads p frame ≡ is_among frame past.tables
   pub mark : p.marked ≡ past.marked
-  pub slots : (page : ℕ) → page < 2 ^ 20 → IsKeptAs value calls past.done page (slot_at p.shadow m page)
+  pub slots : (page : ℕ) → page < 2 ^ 20 → IsKeptAs value calls past.calls page (slot_at p.shadow m page)
   pub frames : length (held p.shadow m) ≤ 2 + length past.places
 
 -- as many pairs as there are pasts, each as its own says
@@ -100,7 +100,7 @@ IsEachOnce (p ∷ ps) = (is_place p ps ≡ false) × IsEachOnce ps
 
 -- the places of a pair are each there once, and a page was filled under each
 pub record IsPlaced (p : Past) : Type 0 where
-  pub filled : (place : DirSlot) → is_place place p.places ≡ true → IsFilledUnder p.done place
+  pub filled : (place : DirSlot) → is_place place p.places ≡ true → IsFilledUnder p.calls place
   pub once : IsEachOnce p.places
 
 abbrev pub ArePlaced : List Past → Type 0
@@ -110,4 +110,4 @@ ArePlaced (p ∷ ps) = IsPlaced p × ArePlaced ps
 -- what is done in the present pair
 abbrev pub done_in : List Past → List MadeCall
 done_in [] = []
-done_in (p ∷ ps) = p.done
+done_in (p ∷ ps) = p.calls

@@ -32,7 +32,7 @@ pub enum RootsCall {
 #[derive(Drop)]
 pub struct Replayed {
     pub roots: Roots,
-    pub done: usize,
+    pub count: usize,
 }
 
 /// Does a call that all shadows have, unless it is a fill and no frame is free. Then nothing changes.
@@ -94,14 +94,14 @@ fn follow(roots: &mut Roots, ram: &mut Ram, pool: &mut Pool, calls: &[RootsCall]
     ensures stopped { result < length calls.now → BeginsBeyond (length (free_list pool.new ram.new)) (drop result calls.now) }
     ensures law { (value : ℕ) → Agree value [] (pairs_of roots.old) ram.old → Agree value (take result calls.now) (pairs_of roots.new) ram.new }
 {
-    let mut done = 0;
+    let mut count = 0;
     for call in calls {
         if !apply(roots, ram, pool, *call) {
-            return done;
+            return count;
         }
-        done += 1;
+        count += 1;
     }
-    done
+    count
 }
 
 /// `new` with this value, and then the calls in order, up to one for which too few frames are free. Each pair is then as
@@ -124,14 +124,14 @@ pub fn replay(
     ensures stands { IfOk result (λ r. ∥ IsRoots (pairs_of r.roots) ram.new ∥₁) }
     ensures owns { IfOk result (λ r. Owns pool.new ram.new (frames_of (pairs_of r.roots) ram.new)) }
     ensures moves { IfOk result (λ r. Moves pool.old pool.new ram.old ram.new [] (frames_of (pairs_of r.roots) ram.new)) }
-    ensures some { IfOk result (λ r. r.done ≤ length calls.now) }
-    ensures stopped { IfOk result (λ r. r.done < length calls.now → BeginsBeyond (length (free_list pool.new ram.new)) (drop r.done calls.now)) }
-    ensures frames { IfOk result (λ r. length (free_list pool.old ram.old) ≤ length (free_list pool.new ram.new) + most_frames (pairs_after cr3 (take r.done calls.now))) }
-    ensures pairs { IfOk result (λ r. ArePasts cr3 (take r.done calls.now) (pairs_after cr3 (take r.done calls.now)) (pairs_of r.roots) ram.new) }
+    ensures some { IfOk result (λ r. r.count ≤ length calls.now) }
+    ensures stopped { IfOk result (λ r. r.count < length calls.now → BeginsBeyond (length (free_list pool.new ram.new)) (drop r.count calls.now)) }
+    ensures frames { IfOk result (λ r. length (free_list pool.old ram.old) ≤ length (free_list pool.new ram.new) + most_frames (pairs_after cr3 (take r.count calls.now))) }
+    ensures pairs { IfOk result (λ r. ArePasts cr3 (take r.count calls.now) (pairs_after cr3 (take r.count calls.now)) (pairs_of r.roots) ram.new) }
     ensures law { IfOk result (λ r. (page : ℕ) → page < 2 ^ 20
-        → IsKeptAs cr3 (take r.done calls.now) (done_in (pairs_after cr3 (take r.done calls.now))) page (slots_of (pairs_of r.roots) ram.new page)) }
+        → IsKeptAs cr3 (take r.count calls.now) (done_in (pairs_after cr3 (take r.count calls.now))) page (slots_of (pairs_of r.roots) ram.new page)) }
 {
     let mut roots = Roots::new(alloc, ram, pool, cr3)?;
-    let done = follow(&mut roots, ram, pool, calls);
-    Ok(Replayed { roots, done })
+    let count = follow(&mut roots, ram, pool, calls);
+    Ok(Replayed { roots, count })
 }

@@ -74,12 +74,12 @@ pub fn replay<S: Shadows>(shadows: &mut S, ram: &mut Ram, pool: &mut Pool, calls
     ensures adequate { ((s : S) → S.tracked s ≡ []) → (page : ℕ) → page < 2 ^ 20 → (side : Side) (write : Bool)
         → (is_adequate (S.slots shadows.new ram.new page) side write ≡ true) ↔ IsAdequateAfter (take result calls.now) page (S.slots shadows.old ram.old page) side write }
 {
-    let mut done = 0;
+    let mut count = 0;
     for call in calls {
         if !apply(shadows, ram, pool, *call) {
-            return done;
+            return count;
         }
-        done += 1;
+        count += 1;
     }
-    done
+    count
 }

@@ -58,7 +58,7 @@ pub returns-then-not-apply-clause-stopped : goal.returns-then-not-apply-clause-s
 returns-then-not-apply-clause-stopped c = λ h.
     let l = c.loop-call in let cs = c.args.calls.now in
     let e = c.apply.ensures.undone (refused c) in
-    let here : drop l.done cs ≡ get_or cs l.call-index none ∷ drop (suc l.call-index) cs =
+    let here : drop l.count cs ≡ get_or cs l.call-index none ∷ drop (suc l.call-index) cs =
     ap (λ n. drop n cs) l.invariant.count ∙ drop-cons cs l.call-index none c.loop-call-test.true
     in
     subst (BeginsBeyond (length (free_list c.apply.new.pool c.apply.new.ram))) (sym here) e.2

@@ -7,7 +7,7 @@ use Rattle.shadow_cache.proofs.call_lists.follow.Given as goal
 
 abbrev pub invariant-loop-call : goal.invariant-loop-call
 invariant-loop-call l = record {
-  count : l.done ≡ l.call-index;
+  count : l.count ≡ l.call-index;
   stands : ∥ IsRoots (pairs_of l.roots) l.ram ∥₁;
   moves : Moves l.fn.pool l.pool l.fn.ram l.ram (frames_of (pairs_of l.fn.roots) l.fn.ram) (frames_of (pairs_of l.roots) l.ram);
   law : (value : ℕ) → Agree value [] (pairs_of l.fn.roots) l.fn.ram → Agree value (take l.call-index l.calls) (pairs_of l.roots) l.ram;

@@ -79,7 +79,7 @@ pub returns-then-not-apply-clause-stopped : goal.returns-then-not-apply-clause-s
 returns-then-not-apply-clause-stopped g c = λ h.
     let cs = c.args.calls.now in
     let e = c.apply.ensures.undone (refused g c) in
-    let here : drop c.loop-call.done cs ≡ get_or cs c.loop-call.call-index none ∷ drop (suc c.loop-call.call-index) cs =
+    let here : drop c.loop-call.count cs ≡ get_or cs c.loop-call.call-index none ∷ drop (suc c.loop-call.call-index) cs =
     ap (λ n. drop n cs) c.loop-call.invariant.count ∙ drop-cons cs c.loop-call.call-index none c.loop-call-test.true
     in
     (subst BeginsWithFill (sym here) e.0, e.1)
@@ -92,8 +92,8 @@ returns-then-not-apply-clause-law g c = λ page h.
     let same = c.apply.ensures.same (refused g c) page h in
     let then = g.S.Shadows.slots l.shadows l.ram page in
     let now = g.S.Shadows.slots c.apply.new.shadows c.apply.new.ram page in
-    follows (take l.done cs) page o now
-    (subst (λ x. IsWithin x (after (take l.done cs) page o)) (sym same)
+    follows (take l.count cs) page o now
+    (subst (λ x. IsWithin x (after (take l.count cs) page o)) (sym same)
     (subst (λ n. IsWithin then (after (take n cs) page o)) (sym l.invariant.count) (l.invariant.within page h)))
 
 pub returns-then-not-apply-clause-adequate : goal.returns-then-not-apply-clause-adequate
@@ -102,7 +102,7 @@ returns-then-not-apply-clause-adequate g c = λ free page h side write.
     let cs = c.args.calls.now in
     let o = g.S.Shadows.slots c.args.shadows.now c.args.ram.now page in
     let now = g.S.Shadows.slots c.apply.new.shadows c.apply.new.ram page in
-    adequate-after (take l.done cs) page o now side write
+    adequate-after (take l.count cs) page o now side write
     (c.apply.ensures.same (refused g c) page h ∙ l.invariant.slots free page h ∙ ap (λ n. after (take n cs) page o) (sym l.invariant.count))
 
 -- ---- all done
@@ -118,7 +118,7 @@ returns-clause-law g c = λ page h.
     let cs = c.args.calls.now in
     let o = g.S.Shadows.slots c.args.shadows.now c.args.ram.now page in
     let now = g.S.Shadows.slots l.shadows l.ram page in
-    follows (take l.done cs) page o now (subst (λ n. IsWithin now (after (take n cs) page o)) (sym l.invariant.count) (l.invariant.within page h))
+    follows (take l.count cs) page o now (subst (λ n. IsWithin now (after (take n cs) page o)) (sym l.invariant.count) (l.invariant.within page h))
 
 pub returns-clause-adequate : goal.returns-clause-adequate
 returns-clause-adequate g c = λ free page h side write.
@@ -126,4 +126,4 @@ returns-clause-adequate g c = λ free page h side write.
     let cs = c.args.calls.now in
     let o = g.S.Shadows.slots c.args.shadows.now c.args.ram.now page in
     let now = g.S.Shadows.slots l.shadows l.ram page in
-    adequate-after (take l.done cs) page o now side write (l.invariant.slots free page h ∙ ap (λ n. after (take n cs) page o) (sym l.invariant.count))
+    adequate-after (take l.count cs) page o now side write (l.invariant.slots free page h ∙ ap (λ n. after (take n cs) page o) (sym l.invariant.count))

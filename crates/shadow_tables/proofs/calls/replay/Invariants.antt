@@ -7,7 +7,7 @@ use Rattle.shadow_tables.proofs.calls.replay.Given as goal
 
 abbrev pub invariant-loop-call : goal.invariant-loop-call
 invariant-loop-call g l = record {
-  count : l.done ≡ l.call-index;
+  count : l.count ≡ l.call-index;
   stands : ∥ g.S.Shadows.stands l.shadows l.ram ∥₁;
   moves : Moves l.fn.pool l.pool l.fn.ram l.ram (g.S.Shadows.frames l.fn.shadows l.fn.ram) (g.S.Shadows.frames l.shadows l.ram);
   left : length (free_list l.fn.pool l.fn.ram) ≤ length (free_list l.pool l.ram) + fills (take l.call-index l.calls);
