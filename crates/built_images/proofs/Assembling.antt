@@ -5,6 +5,7 @@ use Rattle.std.specs.Option.{option_or}
 use Rattle.std.specs.List.{list_all, Contains}
 use Rattle.std.proofs.lemmas.Bool.{eqb-true}
 use Rattle.std.proofs.lemmas.List.Sums.{AllPass-from_list_all}
+use Rattle.ia32_types.specs.Shape.{is_direct_branch}
 use Rattle.ia32_types.specs.declared.insn.Op.{Op}
 use Rattle.ia32_types.specs.declared.insn.Insn.{Insn}
 use Rattle.ia32_rows.specs.declared.row.Row.{Row}
@@ -44,7 +45,6 @@ use Rattle.asm_instruction.specs.Draft.{instruction}
 use Rattle.asm_instruction.specs.Control.{distance, to_symbol}
 use Rattle.asm_instruction.specs.Mnemonic.{known_name, drafted}
 use Rattle.asm_instruction.specs.Assembled.{named_field, widths, whole, with_spelling, spelled, drafted_of, by_draft, by_mnemonic, by_name, assembled, spelling_bytes}
-use Rattle.image_check.specs.Pieces.{is_branch}
 use Rattle.afterburner.specs.Arguments.{number_in as constant_in}
 use Rattle.built_images.specs.Fields.{imm_size, disp_place, imm_place}
 use Rattle.built_images.proofs.Drafts.{IsBranch, meant_sound}
@@ -107,7 +107,7 @@ named_is true (Some j) at r f e =
 named_is false (Some j) at r f e = absurd cc
 
 abbrev branch_long : Row → Bool
-branch_long row = not (is_branch row.op) || (not (imm_len row.form.immediate == 4) || imm_size row.form.immediate == 4)
+branch_long row = not (is_direct_branch row.op) || (not (imm_len row.form.immediate == 4) || imm_size row.form.immediate == 4)
 
 branches_long : list_all branch_long rows ≡ true
 unfolding rows
@@ -121,10 +121,10 @@ three false b c h p q = absurd cc
 four_true : (n : ℕ) → n ≡ 4 → (n == 4) ≡ true
 four_true n e = ap (λ m. m == 4) e
 
-branch_row : (row : Row) → Contains rows row → is_branch row.op ≡ true → imm_len row.form.immediate ≡ 4 → imm_size row.form.immediate ≡ 4
+branch_row : (row : Row) → Contains rows row → is_direct_branch row.op ≡ true → imm_len row.form.immediate ≡ 4 → imm_size row.form.immediate ≡ 4
 branch_row row c b four =
     let right : branch_long row ≡ true = sym (ap branch_long c.2) ∙ AllPass-from_list_all branch_long rows branches_long c.0 row c.1 in
-    eqb-true (imm_size row.form.immediate) 4 (three (is_branch row.op) (imm_len row.form.immediate == 4) (imm_size row.form.immediate == 4) right b (four_true (imm_len row.form.immediate) four))
+    eqb-true (imm_size row.form.immediate) 4 (three (is_direct_branch row.op) (imm_len row.form.immediate == 4) (imm_size row.form.immediate == 4) right b (four_true (imm_len row.form.immediate) four))
 
 -- the operand of a branch is the one argument, which names a symbol
 abbrev NotMemory : Option Given → Type 0
@@ -256,7 +256,7 @@ pub record IsFielded (args : List Argument) (a : Assembled) : Type 0 where
   pub len : length (spelling_bytes a) ≡ a.spelling.len
   pub disp : (f : Named) → a.disp ≡ Some f → (parts.disp_len ≡ 4) × (f.at ≡ disp_place row (spelling_bytes a))
   pub imm : (f : Named) → a.imm ≡ Some f → (imm_len row.form.immediate ≡ 4) × (f.at ≡ imm_place row (spelling_bytes a))
-  pub branch : is_branch a.insn.op ≡ true → BranchField args a
+  pub branch : is_direct_branch a.insn.op ≡ true → BranchField args a
 
 some_name : (o : Option (List ℕ)) → is_some o ≡ true → (n : List ℕ) × (o ≡ Some n)
 some_name (Some n) h = (n, refl)
@@ -310,7 +310,7 @@ whole_spelling : (d : Draft) (args : List Argument) (s : ArrayBytes) → ((whole
 unfolding whole
 whole_spelling d args s = (refl, refl)
 
-branch_field : (d : Draft) (args : List Argument) (s : ArrayBytes) (os : Operands) → operands_of args ≡ Some os → IsBranch os d → (k : IsKnown (widths d args) d.insn s) → is_branch d.insn.op ≡ true → BranchField args (whole_of d args s)
+branch_field : (d : Draft) (args : List Argument) (s : ArrayBytes) (os : Operands) → operands_of args ≡ Some os → IsBranch os d → (k : IsKnown (widths d args) d.insn s) → is_direct_branch d.insn.op ≡ true → BranchField args (whole_of d args s)
 branch_field d args s os given b k branch =
     let m = b.memory in
     let one = one_named args m (given ∙ ap (λ x. Some x) b.one) in
@@ -320,7 +320,7 @@ branch_field d args s os given b k branch =
     let imm : d.imm ≡ Some m.displacement.argument = ap (λ (x : Draft). x.imm) b.is ∙ symbol_imm b.name b.condition m in
     let relative : d.relative ≡ true = ap (λ (x : Draft). x.relative) b.is ∙ symbol_relative b.name b.condition m in
     let wide : (widths d args).imm ≡ true = imm_wide d args ∙ ap (names_symbol args) imm ∙ symbol_there args m.displacement.argument one.argument one.there (ap is_some name.1) in
-    let size = branch_row k.row k.listed (ap is_branch k.op ∙ branch) (k.imm_long wide) in
+    let size = branch_row k.row k.listed (ap is_direct_branch k.op ∙ branch) (k.imm_long wide) in
     let room = k.imm_room wide in
     let spelling = ap (λ (x : ArrayBytes). x.len) (whole_spelling d args s).0 in
     let number : (whole_of d args s).insn.imm ≡ distance (field_of one.argument) = ap (λ (i : Insn). i.imm) (whole_spelling d args s).1 ∙ ap (λ (x : Draft). x.insn.imm) b.is ∙ symbol_number b.name b.condition m ∙ ap distance one.disp in
@@ -337,7 +337,7 @@ branch_field d args s os given b k branch =
       constant = number;
     }
 
-fielded : (d : Draft) (args : List Argument) (s : ArrayBytes) → IsKnown (widths d args) d.insn s → (is_branch d.insn.op ≡ true → BranchField args (whole_of d args s)) → IsFielded args (whole_of d args s)
+fielded : (d : Draft) (args : List Argument) (s : ArrayBytes) → IsKnown (widths d args) d.insn s → (is_direct_branch d.insn.op ≡ true → BranchField args (whole_of d args s)) → IsFielded args (whole_of d args s)
 unfolding whole
 fielded d args s k branch = record {
   row = k.row;
@@ -362,6 +362,6 @@ assembled_fielded rep name args a e =
     let sound = meant_sound rep name h.mnemonic h.operands h.draft h.known h.drafted in
     subst (IsFielded args) (sym h.is) (fielded h.draft args h.spelling k (λ branch.
     elim sound [
-      | inl quiet ↦ absurd (false_true (is_branch h.draft.insn.op) branch quiet)
+      | inl quiet ↦ absurd (false_true (is_direct_branch h.draft.insn.op) branch quiet)
       | inr b ↦ branch_field h.draft args h.spelling h.operands h.given b k branch
     ]))

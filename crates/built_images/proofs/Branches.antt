@@ -1,4 +1,5 @@
 -- Where the branches of a text lead whose fields are filled.
+use Rattle.ia32_types.specs.Shape.{is_direct_branch}
 use Rattle.std.proofs.Common.{◌≡◌, ℕ, ◌+◌, ◌-◌, ◌≤◌, ◌^◌, ◌%◌, true, List, [], ◌∷◌, ◌++◌, length, map, refl, sym, ap, subst, ◌∙◌, append_assoc, arith}
 use Rattle.std.specs.Prelude.{fold, replicate}
 use Rattle.std.specs.List.{All, AllByRecursion, Contains}
@@ -10,7 +11,7 @@ use Rattle.ia32_rows.specs.declared.row.Row.{Row}
 use Rattle.ia32_rows.specs.Fields.{imm_len}
 use Rattle.ia32_rows.specs.Spelling.{insn_of}
 use Rattle.elf_form.specs.declared.object.Reloc.{Reloc}
-use Rattle.image_check.specs.Pieces.{is_branch, target_of}
+use Rattle.image_check.specs.Pieces.{target_of}
 use Rattle.built_images.specs.Fields.{imm_size, imm_place}
 use Rattle.built_images.specs.Chunks.{Coded, insn_in, IsCoded, Chunk, Alone, Pair, IsChunk, AreChunks, padding, chunk_text, chunks_text, chunk_swept, chunks_swept}
 use Rattle.built_images.specs.Filled.{reloc_later, chunk_relocs, chunks_relocs, fill_at, MakesWords, IsFilled, IsFilledChunk, AreFilled}
@@ -30,7 +31,7 @@ imm_is c = refl
 
 -- what is put into the field of a branch at an offset leads right, in a text that stands at another
 abbrev pub RightAt : (ℕ → Type 0) → ℕ → (Reloc → ℕ → ℕ) → ℕ → Chunk → Type 0
-RightAt Good base made at (Alone c) = is_branch (insn_in c).op ≡ true → (l : IsLinked c) → Good (((base + at) + length c.bytes + made (reloc_later at l.reloc) (word32 c.bytes l.reloc.at)) % 2 ^ 32)
+RightAt Good base made at (Alone c) = is_direct_branch (insn_in c).op ≡ true → (l : IsLinked c) → Good (((base + at) + length c.bytes + made (reloc_later at l.reloc) (word32 c.bytes l.reloc.at)) % 2 ^ 32)
 RightAt Good base made at Pair = Unit {0}
 
 abbrev pub AllRight : (ℕ → Type 0) → ℕ → (Reloc → ℕ → ℕ) → ℕ → List Chunk → Type 0
@@ -54,9 +55,9 @@ filled_imm made at c d l words h f =
     ∙ ap (λ bs. word32 bs r.at) bytes
     ∙ word32-with_word32 c.bytes r.at v (omega (arith, end)) (words (reloc_later at r) (word32 c.bytes r.at))
 
-one_branch : (Good : ℕ → Type 0) (base : ℕ) (made : Reloc → ℕ → ℕ) (at : ℕ) (c d : Coded) → MakesWords made → IsCoded d → IsFilled made at c d → (is_branch (insn_in c).op ≡ true → IsLinked c) → RightAt Good base made at (Alone c) → OnBranch Good (record { at = base + at; len = length d.bytes; insn = insn_in d })
+one_branch : (Good : ℕ → Type 0) (base : ℕ) (made : Reloc → ℕ → ℕ) (at : ℕ) (c d : Coded) → MakesWords made → IsCoded d → IsFilled made at c d → (is_direct_branch (insn_in c).op ≡ true → IsLinked c) → RightAt Good base made at (Alone c) → OnBranch Good (record { at = base + at; len = length d.bytes; insn = insn_in d })
 one_branch Good base made at c d words h f linked right b =
-    let on : is_branch (insn_in c).op ≡ true = ap is_branch (sym (op_same c d f.row)) ∙ b in
+    let on : is_direct_branch (insn_in c).op ≡ true = ap is_direct_branch (sym (op_same c d f.row)) ∙ b in
     let l = linked on in
     let v = made (reloc_later at l.reloc) (word32 c.bytes l.reloc.at) in
     let e : target_of (base + at) (length d.bytes) (insn_in d) ≡ ((base + at) + length c.bytes + v) % 2 ^ 32 =

@@ -4,6 +4,7 @@ use Rattle.std.specs.Prelude.{pos, replicate, slice_set, slice_index_or, slice_g
 use Rattle.std.specs.List.{All, AllByRecursion, Contains}
 use Rattle.std.proofs.lemmas.List.{append-nil, length-append, map-append, set_at, get_or_at}
 use Rattle.std.proofs.lemmas.List.Elements.{All-nil, All-cons, All-append, All-weaker}
+use Rattle.ia32_types.specs.Shape.{is_direct_branch}
 use Rattle.ia32_types.specs.declared.site.SiteKind.{SiteKind}
 use Rattle.ia32_types.specs.declared.site.SiteKind.TheVariants as site
 use Rattle.ia32_types.specs.Site.{kind_of, sensitive_kind}
@@ -29,7 +30,6 @@ use Rattle.asm_instruction.specs.Field.{field}
 use Rattle.asm_instruction.specs.Control.{distance}
 use Rattle.afterburner.specs.Sections.{is_text}
 use Rattle.afterburner.specs.Instructions.{nops, nops_behind, site_at, reloc_of, field_reloc, is_sti, is_hlt, added, pair_site, no_site, paired, placed, in_text, instruction}
-use Rattle.image_check.specs.Pieces.{is_branch}
 use Rattle.built_images.specs.Chunks.{Coded, insn_in, Chunk, Alone, Pair, IsChunk, AreChunks, padding, chunk_text, chunks_text, site_by, chunk_site, chunk_sites}
 use Rattle.built_images.specs.Filled.{IsField, HasFields, HaveFields, reloc_later, chunk_relocs, chunks_relocs}
 use Rattle.built_images.specs.Padded.{IsEdge, IsLinkedBranch, IsAlone, AreAlone}
@@ -226,7 +226,7 @@ module _ (Plain : Type 0) where
   coded_branch : (names : List (List ℕ)) (args : List Argument) (a : Assembled) (f : IsFielded args a) → IsLinkedBranch (Alone (made_coded names args a f))
   coded_branch names args a f = λ branch.
       let c = made_coded names args a f in
-      let b = f.branch (ap is_branch (sym (row_op c ∙ f.op)) ∙ branch) in
+      let b = f.branch (ap is_direct_branch (sym (row_op c ∙ f.op)) ∙ branch) in
       let z : 0 + b.field.at ≡ b.field.at = omega arith in
       let i = f.imm b.field b.imm in
       let len = f.len in
@@ -419,9 +419,9 @@ module _ (Plain : Type 0) where
     by_sti true false e = (cs ++ (Alone (made_coded names args a f) ∷ []), added_made names st args a f cs alone h)
     by_sti false c e = (cs ++ (Alone (made_coded names args a f) ∷ []), added_made names st args a f cs alone h)
 
-  coded_alone : (names : List (List ℕ)) (args : List Argument) (a : Assembled) (f : IsFielded args a) → (is_branch a.insn.op ≡ true → AllByRecursion (λ (x : Argument). number_in x.form ≡ pos 0) args) → IsAlone (Alone (made_coded names args a f))
+  coded_alone : (names : List (List ℕ)) (args : List Argument) (a : Assembled) (f : IsFielded args a) → (is_direct_branch a.insn.op ≡ true → AllByRecursion (λ (x : Argument). number_in x.form ≡ pos 0) args) → IsAlone (Alone (made_coded names args a f))
   coded_alone names args a f none = λ branch.
-      let on = ap is_branch (sym (row_op (made_coded names args a f) ∙ f.op)) ∙ branch in
+      let on = ap is_direct_branch (sym (row_op (made_coded names args a f) ∙ f.op)) ∙ branch in
       let b = f.branch on in
       let zero_is = number_there args b.field.argument b.argument b.there (none on) in
       f.number ∙ b.constant ∙ ap (λ z. distance (field size.Long z)) zero_is where

@@ -2,6 +2,7 @@
 use Rattle.std.proofs.Common.{◌≡◌, ℕ, zero, suc, ◌+◌, ◌-◌, ◌≤◌, Bool, true, false, cond, ◌&&◌, List, [], ◌∷◌, ◌++◌, length, map, Option, Some, None, refl, ap, subst, ◌∙◌, arith, inl, inr, ◌⊎◌}
 use Rattle.std.specs.Prelude.{max, replicate}
 use Rattle.std.proofs.lemmas.List.{length-append, length-replicate, map-append}
+use Rattle.ia32_types.specs.Shape.{is_direct_branch}
 use Rattle.ia32_types.specs.declared.insn.Insn.{Insn}
 use Rattle.ia32_types.specs.declared.site.SiteKind.{SiteKind}
 use Rattle.ia32_types.specs.declared.site.SiteKind.TheVariants as site
@@ -14,7 +15,7 @@ use Rattle.image_check.specs.declared.piece.Piece.{Piece}
 use Rattle.image_check.specs.declared.site.Here.{Here}
 use Rattle.image_check.specs.declared.site.Here.TheVariants as here
 use Rattle.image_check.specs.Sweep.{SweepsTo, Sweep}
-use Rattle.image_check.specs.Pieces.{is_branch, is_nop, target_of, site_role, role_of, piece_of}
+use Rattle.image_check.specs.Pieces.{is_nop, target_of, site_role, role_of, piece_of}
 use Rattle.image_check.specs.TextSites.{has_nops, has_hlt, is_sti, by_role, single, pair, begun_by, Found, with_site, found_by, found_behind, unless_lacking, sites_of}
 use Rattle.built_images.specs.Joined.{sti, hlt, nops_at}
 use Rattle.afterburner.specs.Instructions.{nops_behind}
@@ -80,12 +81,12 @@ not_nop false n o e = refl
 
 site_is : (at len : ℕ) (insn : Insn) (k : SiteKind) → sensitive_kind insn ≡ Some k → role_of at len insn ≡ role.Site k
 site_is at len insn k e =
-    elim (true_or_false (is_branch insn.op)) [
+    elim (true_or_false (is_direct_branch insn.op)) [
       | inl b ↦ absurd (some_none k (kind_of insn.op) e (branch_plain insn.op b))
       | inr b ↦ elim (true_or_false (is_nop insn.op)) [
         | inl n ↦ absurd (some_none k (kind_of insn.op) e (nop_plain insn.op n))
         | inr n ↦
-            not_nop (is_branch insn.op) (role.Branch (target_of at len insn)) (cond (is_nop insn.op) role.Nop (site_role (sensitive_kind insn))) b
+            not_nop (is_direct_branch insn.op) (role.Branch (target_of at len insn)) (cond (is_nop insn.op) role.Nop (site_role (sensitive_kind insn))) b
             ∙ not_nop (is_nop insn.op) role.Nop (site_role (sensitive_kind insn)) n
             ∙ ap site_role e
       ]
@@ -172,7 +173,7 @@ alone_found : (at : ℕ) (c : Coded) → IsCoded c → (o : Option SiteKind) →
 unfolding nops_at
 alone_found at c h None e ps =
     let p = piece_of (record { at = at; len = length c.bytes; insn = insn_in c }) in
-    quiet_found p ps (quiet_begins p ps p.role refl (quiet_branch (is_branch (insn_in c).op) (is_nop (insn_in c).op) (target_of at (length c.bytes) (insn_in c)) (sensitive_kind (insn_in c)) e))
+    quiet_found p ps (quiet_begins p ps p.role refl (quiet_branch (is_direct_branch (insn_in c).op) (is_nop (insn_in c).op) (target_of at (length c.bytes) (insn_in c)) (sensitive_kind (insn_in c)) e))
 alone_found at c h (Some k) e ps =
     let p = piece_of (record { at = at; len = length c.bytes; insn = insn_in c }) in
     let total : max 5 (length c.bytes) - length c.bytes ≡ 5 - length c.bytes = omega arith in

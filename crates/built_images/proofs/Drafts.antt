@@ -4,11 +4,11 @@ use Rattle.std.specs.Prelude.{slice_index, ◌==◌}
 use Rattle.std.specs.Option.{option_or}
 use Rattle.std.specs.List.{list_all}
 use Rattle.std.specs.Str.{bytes_eq}
+use Rattle.ia32_types.specs.Shape.{is_direct_branch}
 use Rattle.ia32_types.specs.declared.insn.Op.{Op}
 use Rattle.ia32_types.specs.declared.insn.Op.TheVariants as op
 use Rattle.ia32_types.specs.declared.size.Size.{Size}
 use Rattle.ia32_types.specs.declared.size.Size.TheVariants as size
-use Rattle.image_check.specs.Pieces.{is_branch}
 use Rattle.asm_instruction.specs.declared.argument.Number.{Number}
 use Rattle.asm_instruction.specs.declared.argument.Memory.{Memory}
 use Rattle.asm_instruction.specs.declared.argument.Given.{Given}
@@ -53,7 +53,7 @@ pub record IsBranch (os : Operands) (d : Draft) : Type 0 where
 
 abbrev pub IsSound : Operands → Option Draft → Type 0
 IsSound os None = Unit {0}
-IsSound os (Some d) = (is_branch d.insn.op ≡ false) ⊎ IsBranch os d
+IsSound os (Some d) = (is_direct_branch d.insn.op ≡ false) ⊎ IsBranch os d
 
 sound : (os : Operands) (d : Option Draft) → IsQuiet d → IsSound os d
 sound os None h = tt
@@ -79,7 +79,7 @@ sound_direct : (o : Op) (c : ℕ) (t : Option Size) (g : Given) → IsSound (ope
 unfolding direct
 sound_direct o c t g = sound_bound (operands.One g) (agreed t (Some size.Long) None) (λ s. to_operand o c g) (λ s. sound_operand o c g)
 
-quiet_indirect : (o : Op) (t : Option Size) (g : Given) → is_branch o ≡ false → IsQuiet (indirect o t g)
+quiet_indirect : (o : Op) (t : Option Size) (g : Given) → is_direct_branch o ≡ false → IsQuiet (indirect o t g)
 unfolding indirect
 quiet_indirect o t g e = bound (register_or_memory g) _ (λ place. bound (agreed t (said g) (Some size.Long)) _ (λ s. quiet_instruction o s place nothing e))
 
@@ -114,7 +114,7 @@ quiet_set : (c : ℕ) (g : Given) → IsQuiet (set c g)
 unfolding set
 quiet_set c g = quiet_condition (one op.Setcc (Some size.Byte) g) c (quiet_one op.Setcc (Some size.Byte) g refl)
 
-sound_control : (k : Control) (t : Option Size) (os : Operands) → ((o i : Op) → k ≡ control.Branch o i → is_branch i ≡ false) → IsSound os (control_draft k t os)
+sound_control : (k : Control) (t : Option Size) (os : Operands) → ((o i : Op) → k ≡ control.Branch o i → is_direct_branch i ≡ false) → IsSound os (control_draft k t os)
 unfolding control_draft
 sound_control (control.Branch o i) t (operands.One g) h = sound_direct o 0 t g
 sound_control (control.Branch o i) t (operands.Starred g) h = sound (operands.Starred g) (indirect i t g) (quiet_indirect i t g (h o i refl))
@@ -128,36 +128,36 @@ sound_control _ t _ h = tt
 -- ---- families, and the names that have them
 
 abbrev pub is_fine : Family → Bool
-is_fine (family.Arithmetic (arithmetic.Two o)) = not (is_branch o)
-is_fine (family.Arithmetic (arithmetic.One o)) = not (is_branch o)
-is_fine (family.Shift o) = not (is_branch o)
-is_fine (family.Moves (moves.Extend o s)) = not (is_branch o)
-is_fine (family.Control (control.Branch o i)) = not (is_branch i)
-is_fine (family.Strings o s) = not (is_branch o)
-is_fine (family.Plain o) = not (is_branch o)
-is_fine (family.System (system.Memory o)) = not (is_branch o)
+is_fine (family.Arithmetic (arithmetic.Two o)) = not (is_direct_branch o)
+is_fine (family.Arithmetic (arithmetic.One o)) = not (is_direct_branch o)
+is_fine (family.Shift o) = not (is_direct_branch o)
+is_fine (family.Moves (moves.Extend o s)) = not (is_direct_branch o)
+is_fine (family.Control (control.Branch o i)) = not (is_direct_branch i)
+is_fine (family.Strings o s) = not (is_direct_branch o)
+is_fine (family.Plain o) = not (is_direct_branch o)
+is_fine (family.System (system.Memory o)) = not (is_direct_branch o)
 is_fine _ = true
 
 not_true : (b : Bool) → not b ≡ true → b ≡ false
 not_true true e = absurd cc
 not_true false e = refl
 
-fine_arithmetic : (k : Arithmetic) → is_fine (family.Arithmetic k) ≡ true → (o : Op) → (k ≡ arithmetic.Two o) ⊎ (k ≡ arithmetic.One o) → is_branch o ≡ false
-fine_arithmetic k e o (inl is) = not_true (is_branch o) (ap (λ x. is_fine (family.Arithmetic x)) (sym is) ∙ e)
-fine_arithmetic k e o (inr is) = not_true (is_branch o) (ap (λ x. is_fine (family.Arithmetic x)) (sym is) ∙ e)
+fine_arithmetic : (k : Arithmetic) → is_fine (family.Arithmetic k) ≡ true → (o : Op) → (k ≡ arithmetic.Two o) ⊎ (k ≡ arithmetic.One o) → is_direct_branch o ≡ false
+fine_arithmetic k e o (inl is) = not_true (is_direct_branch o) (ap (λ x. is_fine (family.Arithmetic x)) (sym is) ∙ e)
+fine_arithmetic k e o (inr is) = not_true (is_direct_branch o) (ap (λ x. is_fine (family.Arithmetic x)) (sym is) ∙ e)
 
 sound_family : (f : Family) (t : Option Size) (os : Operands) → is_fine f ≡ true → IsSound os (by_family f t os)
 sound_family (family.Arithmetic k) t os e = sound os (arithmetic_draft k t os) (quiet_arithmetic k t os (fine_arithmetic k e))
-sound_family (family.Shift o) t os e = sound os (shift_draft o t os) (quiet_shift o t os (not_true (is_branch o) e))
-sound_family (family.Moves k) t os e = sound os (move_draft k t os) (quiet_moves k t os (λ o s is. not_true (is_branch o) (ap (λ x. is_fine (family.Moves x)) (sym is) ∙ e)))
+sound_family (family.Shift o) t os e = sound os (shift_draft o t os) (quiet_shift o t os (not_true (is_direct_branch o) e))
+sound_family (family.Moves k) t os e = sound os (move_draft k t os) (quiet_moves k t os (λ o s is. not_true (is_direct_branch o) (ap (λ x. is_fine (family.Moves x)) (sym is) ∙ e)))
 sound_family (family.Stack k) t os e = sound os (stack_draft k t os) (quiet_stack k t os)
-sound_family (family.Control k) t os e = sound_control k t os (λ o i is. not_true (is_branch i) (ap (λ x. is_fine (family.Control x)) (sym is) ∙ e))
-sound_family (family.Strings o s) t os e = sound os (string_draft false o s os) (quiet_string false o s os (not_true (is_branch o) e))
-sound_family (family.Plain o) t os e = sound os (plain_draft o t os) (quiet_plain o t os (not_true (is_branch o) e))
-sound_family (family.System k) t os e = sound os (system_draft k t os) (quiet_system k t os (λ o is. not_true (is_branch o) (ap (λ x. is_fine (family.System x)) (sym is) ∙ e)))
+sound_family (family.Control k) t os e = sound_control k t os (λ o i is. not_true (is_direct_branch i) (ap (λ x. is_fine (family.Control x)) (sym is) ∙ e))
+sound_family (family.Strings o s) t os e = sound os (string_draft false o s os) (quiet_string false o s os (not_true (is_direct_branch o) e))
+sound_family (family.Plain o) t os e = sound os (plain_draft o t os) (quiet_plain o t os (not_true (is_direct_branch o) e))
+sound_family (family.System k) t os e = sound os (system_draft k t os) (quiet_system k t os (λ o is. not_true (is_direct_branch o) (ap (λ x. is_fine (family.System x)) (sym is) ∙ e)))
 
 sound_repeated : (f : Family) (os : Operands) → is_fine f ≡ true → IsSound os (repeated f os)
-sound_repeated (family.Strings o s) os e = sound os (string_draft true o s os) (quiet_string true o s os (not_true (is_branch o) e))
+sound_repeated (family.Strings o s) os e = sound os (string_draft true o s os) (quiet_string true o s os (not_true (is_direct_branch o) e))
 sound_repeated (family.Arithmetic k) os e = tt
 sound_repeated (family.Shift k) os e = tt
 sound_repeated (family.Moves k) os e = tt
@@ -258,10 +258,10 @@ fine_is : (o : Option Mnemonic) (m : Mnemonic) → o ≡ Some m → MnemonicFine
 fine_is None m e h = absurd cc
 fine_is (Some n) m e h = let same : n ≡ m = cc in ap (λ (x : Mnemonic). is_fine x.family) (sym same) ∙ h
 
-sound_is : (os : Operands) (o : Option Draft) (d : Draft) → o ≡ Some d → IsSound os o → (is_branch d.insn.op ≡ false) ⊎ IsBranch os d
+sound_is : (os : Operands) (o : Option Draft) (d : Draft) → o ≡ Some d → IsSound os o → (is_direct_branch d.insn.op ≡ false) ⊎ IsBranch os d
 sound_is os None d e h = absurd cc
-sound_is os (Some x) d e h = let same : x ≡ d = cc in subst (λ (y : Draft). (is_branch y.insn.op ≡ false) ⊎ IsBranch os y) same h
+sound_is os (Some x) d e h = let same : x ≡ d = cc in subst (λ (y : Draft). (is_direct_branch y.insn.op ≡ false) ⊎ IsBranch os y) same h
 
 -- what a name means with its operands is no direct branch, or one to a symbol
-pub meant_sound : (rep : Bool) (name : List ℕ) (m : Mnemonic) (os : Operands) (d : Draft) → known_name name ≡ Some m → drafted rep m os ≡ Some d → (is_branch d.insn.op ≡ false) ⊎ IsBranch os d
+pub meant_sound : (rep : Bool) (name : List ℕ) (m : Mnemonic) (os : Operands) (d : Draft) → known_name name ≡ Some m → drafted rep m os ≡ Some d → (is_direct_branch d.insn.op ≡ false) ⊎ IsBranch os d
 meant_sound rep name m os d known is = sound_is os (drafted rep m os) d is (sound_drafted rep m os (fine_is (known_name name) m known (known_fine name)))

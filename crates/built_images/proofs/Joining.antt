@@ -4,11 +4,12 @@ use Rattle.std.specs.Prelude.{replicate}
 use Rattle.std.specs.List.{All, AllByRecursion}
 use Rattle.std.proofs.lemmas.List.{append-nil}
 use Rattle.std.proofs.lemmas.List.Elements.{All-nil, All-cons, All-append}
+use Rattle.ia32_types.specs.Shape.{is_direct_branch}
 use Rattle.ia32_types.specs.declared.insn.Insn.{Insn}
 use Rattle.ia32_types.specs.Site.{sensitive_kind}
 use Rattle.ia32_rows.specs.Spells.{Spells}
 use Rattle.image_check.specs.Sweep.{Swept}
-use Rattle.image_check.specs.Pieces.{is_branch, target_of}
+use Rattle.image_check.specs.Pieces.{target_of}
 use Rattle.built_images.specs.Joined.{nop, sti, hlt, jump_to_itself, nops_at}
 use Rattle.afterburner.specs.Instructions.{nops_behind}
 use Rattle.built_images.specs.Chunks.{Coded, insn_in, IsCoded, Chunk, Alone, Pair, AreChunks, padding, chunk_text, chunks_text, site_by, chunk_site, chunk_sites, chunk_swept, chunks_swept, Begins}
@@ -100,7 +101,7 @@ jump_sites at = ap (λ xs. xs ++ []) (jump_site at)
 -- ---- what holds of the direct branches of a text
 
 abbrev pub OnBranch : (ℕ → Type 0) → Swept → Type 0
-OnBranch Good s = is_branch s.insn.op ≡ true → Good (target_of s.at s.len s.insn)
+OnBranch Good s = is_direct_branch s.insn.op ≡ true → Good (target_of s.at s.len s.insn)
 
 pub nops_no_branch : (Good : ℕ → Type 0) (at n : ℕ) → All (OnBranch Good) (nops_at at n)
 unfolding nops_at
@@ -115,8 +116,8 @@ pair_branch Good at =
     All-cons (OnBranch Good) (record { at = at; len = 1; insn = sti }) (record { at = at + 1; len = 1; insn = hlt } ∷ nops_at (at + 2) 3) (λ e. absurd cc)
     (All-cons (OnBranch Good) (record { at = at + 1; len = 1; insn = hlt }) (nops_at (at + 2) 3) (λ e. absurd cc) (nops_no_branch Good (at + 2) 3))
 
-nop_false : (insn : Insn) → insn ≡ nop → is_branch insn.op ≡ true → ⊥
-nop_false insn e b = let c : is_branch nop.op ≡ true = sym (ap (λ (i : Insn). is_branch i.op) e) ∙ b in absurd cc
+nop_false : (insn : Insn) → insn ≡ nop → is_direct_branch insn.op ≡ true → ⊥
+nop_false insn e b = let c : is_direct_branch nop.op ≡ true = sym (ap (λ (i : Insn). is_direct_branch i.op) e) ∙ b in absurd cc
 
 pub nop_chunks_branch : (Good : ℕ → Type 0) (at n : ℕ) → All (OnBranch Good) (chunks_swept at (nop_chunks n))
 unfolding nop_chunks chunks_swept

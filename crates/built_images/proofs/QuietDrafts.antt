@@ -1,13 +1,13 @@
 -- Statements that mean no direct branch.
 use Rattle.std.proofs.Common.{◌≡◌, ℕ, Bool, true, false, cond, Option, Some, None, refl, inl, inr, ◌⊎◌}
 use Rattle.std.specs.Prelude.{◌==◌}
+use Rattle.ia32_types.specs.Shape.{is_direct_branch}
 use Rattle.ia32_types.specs.declared.insn.Op.{Op}
 use Rattle.ia32_types.specs.declared.insn.Op.TheVariants as op
 use Rattle.ia32_types.specs.declared.insn.Operand.{Operand}
 use Rattle.ia32_types.specs.declared.insn.Operand.TheVariants as operand
 use Rattle.ia32_types.specs.declared.size.Size.{Size}
 use Rattle.ia32_types.specs.declared.size.Size.TheVariants as size
-use Rattle.image_check.specs.Pieces.{is_branch}
 use Rattle.asm_instruction.specs.declared.argument.Number.{Number}
 use Rattle.asm_instruction.specs.declared.argument.Given.{Given}
 use Rattle.asm_instruction.specs.declared.argument.Given.TheVariants as given
@@ -40,21 +40,21 @@ use Rattle.asm_instruction.specs.System.{through, between, ported, memory_alone,
 
 abbrev pub IsQuiet : Option Draft → Type 0
 IsQuiet None = Unit {0}
-IsQuiet (Some d) = is_branch d.insn.op ≡ false
+IsQuiet (Some d) = is_direct_branch d.insn.op ≡ false
 
 pub bound : {A : Type 0} (o : Option A) (f : A → Option Draft) → ((a : A) → IsQuiet (f a)) → IsQuiet (o >>= f)
 bound (Some a) f h = h a
 bound None f h = tt
 
-pub quiet_instruction : (o : Op) (s : Size) (a b : NumberedOperand) → is_branch o ≡ false → IsQuiet (Some (instruction o s a b))
+pub quiet_instruction : (o : Op) (s : Size) (a b : NumberedOperand) → is_direct_branch o ≡ false → IsQuiet (Some (instruction o s a b))
 unfolding instruction
 quiet_instruction o s a b e = e
 
-pub quiet_number : (o : Op) (s : Size) (a b : NumberedOperand) (t : Size) (n : Number) → is_branch o ≡ false → IsQuiet (Some (with_number (instruction o s a b) t n))
+pub quiet_number : (o : Op) (s : Size) (a b : NumberedOperand) (t : Size) (n : Number) → is_direct_branch o ≡ false → IsQuiet (Some (with_number (instruction o s a b) t n))
 unfolding instruction with_number
 quiet_number o s a b t n e = e
 
-quiet_pair : (o : Op) (s : Size) (p : Pair) → is_branch o ≡ false → IsQuiet (Some (of_pair o s p))
+quiet_pair : (o : Op) (s : Size) (p : Pair) → is_direct_branch o ≡ false → IsQuiet (Some (of_pair o s p))
 quiet_pair o s (pair.Immediate n place) e = quiet_number o s place nothing s n e
 quiet_pair o s (pair.FromRegister n place) e = quiet_instruction o s place (register_operand n) e
 quiet_pair o s (pair.FromMemory place n) e = quiet_instruction o s (register_operand n) place e
@@ -66,11 +66,11 @@ quiet_memory s (pair.FromMemory place n) = quiet_instruction op.Test s place (re
 
 -- ---- arithmetic
 
-pub quiet_one : (o : Op) (t : Option Size) (g : Given) → is_branch o ≡ false → IsQuiet (one o t g)
+pub quiet_one : (o : Op) (t : Option Size) (g : Given) → is_direct_branch o ≡ false → IsQuiet (one o t g)
 unfolding one
 quiet_one o t g e = bound (register_or_memory g) _ (λ place. bound (agreed t (said g) None) _ (λ s. quiet_instruction o s place nothing e))
 
-quiet_into : (o : Op) (s : Size) (g : Given) (place : NumberedOperand) → is_branch o ≡ false → IsQuiet (into_register o s g place)
+quiet_into : (o : Op) (s : Size) (g : Given) (place : NumberedOperand) → is_direct_branch o ≡ false → IsQuiet (into_register o s g place)
 quiet_into o s (given.Register t n) place e = quiet_instruction o s (register_operand n) place e
 quiet_into o s (given.Segment t) place e = tt
 quiet_into o s (given.Control t) place e = tt
@@ -78,7 +78,7 @@ quiet_into o s (given.Memory t) place e = tt
 quiet_into o s (given.Immediate t) place e = tt
 quiet_into o s given.Port place e = tt
 
-quiet_to : (o : Op) (t : Option Size) (a b : Given) → is_branch o ≡ false → IsQuiet (to_register o t a b)
+quiet_to : (o : Op) (t : Option Size) (a b : Given) → is_direct_branch o ≡ false → IsQuiet (to_register o t a b)
 unfolding to_register
 quiet_to o t a b e = bound (register_or_memory a) _ (λ place. bound (agreed t (said a) (said b)) _ (λ s. quiet_into o s b place e))
 
@@ -87,7 +87,7 @@ unfolding with_number
 quiet_with None t n h = tt
 quiet_with (Some d) t n h = h
 
-pub quiet_arithmetic : (k : Arithmetic) (t : Option Size) (os : Operands) → (arithmetic_ok : (o : Op) → (k ≡ arithmetic.Two o) ⊎ (k ≡ arithmetic.One o) → is_branch o ≡ false) → IsQuiet (arithmetic_draft k t os)
+pub quiet_arithmetic : (k : Arithmetic) (t : Option Size) (os : Operands) → (arithmetic_ok : (o : Op) → (k ≡ arithmetic.Two o) ⊎ (k ≡ arithmetic.One o) → is_direct_branch o ≡ false) → IsQuiet (arithmetic_draft k t os)
 unfolding arithmetic_draft two tested product multiplied
 quiet_arithmetic (arithmetic.Two o) t (operands.Two a b) h = bound (paired a b) _ (λ p. bound (agreed t (said a) (said b)) _ (λ s. quiet_pair o s p (h o (inl refl))))
 quiet_arithmetic arithmetic.Test t (operands.Two a b) h = bound (paired a b) _ (λ p. bound (agreed t (said a) (said b)) _ (λ s. quiet_memory s p))
@@ -106,7 +106,7 @@ quiet_arithmetic _ t _ h = tt
 
 -- ---- shifts
 
-pub quiet_shift : (o : Op) (t : Option Size) (os : Operands) → is_branch o ≡ false → IsQuiet (shift_draft o t os)
+pub quiet_shift : (o : Op) (t : Option Size) (os : Operands) → is_direct_branch o ≡ false → IsQuiet (shift_draft o t os)
 unfolding shift_draft by_one by_number by_register instruction
 quiet_shift o t (operands.One g) e = bound (register_or_memory g) _ (λ place. bound (agreed t (said g) None) _ (λ s. e))
 quiet_shift o t (operands.Two (given.Immediate n) g) e = bound (register_or_memory g) _ (λ place. bound (agreed t (said g) None) _ (λ s. quiet_number o s place nothing size.Byte n e))
@@ -126,7 +126,7 @@ quiet_shift o t (operands.Three a b c) e = tt
 
 -- ---- moves
 
-quiet_special : (o : Op) (t : Option Size) (g : Given) (a b : NumberedOperand) → is_branch o ≡ false → IsQuiet (special o t g a b)
+quiet_special : (o : Op) (t : Option Size) (g : Given) (a b : NumberedOperand) → is_direct_branch o ≡ false → IsQuiet (special o t g a b)
 unfolding special
 quiet_special o t g a b e = bound (agreed t (said g) (Some size.Long)) _ (λ s. quiet_instruction o s a b e)
 
@@ -142,7 +142,7 @@ quiet_to_special t a (given.Segment x) = bound (register_or_memory a) _ (λ from
 quiet_to_special t a (given.Control x) = bound (register_or_memory a) _ (λ from. quiet_special op.WriteControl t a (of_operand (operand.Control x)) from refl)
 quiet_to_special t a b = quiet_general t a b
 
-quiet_long : (o : Op) (s : Size) (g : Given) (from : NumberedOperand) → is_branch o ≡ false → IsQuiet (into_long o s g from)
+quiet_long : (o : Op) (s : Size) (g : Given) (from : NumberedOperand) → is_direct_branch o ≡ false → IsQuiet (into_long o s g from)
 quiet_long o s (given.Register size.Long n) from e = quiet_instruction o s (register_operand n) from e
 quiet_long o s (given.Register size.Byte n) from e = tt
 quiet_long o s (given.Register size.Word n) from e = tt
@@ -152,7 +152,7 @@ quiet_long o s (given.Memory n) from e = tt
 quiet_long o s (given.Immediate n) from e = tt
 quiet_long o s given.Port from e = tt
 
-quiet_extended : (o : Op) (s : Size) (a b : Given) → is_branch o ≡ false → IsQuiet (extended o s a b)
+quiet_extended : (o : Op) (s : Size) (a b : Given) → is_direct_branch o ≡ false → IsQuiet (extended o s a b)
 unfolding extended
 quiet_extended o s a b e = bound (register_or_memory a) _ (λ from. bound (agreed (Some s) (said a) None) _ (λ t. quiet_long o t b from e))
 
@@ -181,13 +181,13 @@ quiet_exchanged : (t : Option Size) (a b : Given) → IsQuiet (exchanged t a b)
 unfolding exchanged
 quiet_exchanged t a b = bound (paired a b) _ (λ p. bound (agreed t (said a) (said b)) _ (λ s. quiet_exchange s p))
 
-quiet_move : (k : Moves) (t : Option Size) (a b : Given) → ((o : Op) (s : Size) → k ≡ moves.Extend o s → is_branch o ≡ false) → IsQuiet (move_of k t a b)
+quiet_move : (k : Moves) (t : Option Size) (a b : Given) → ((o : Op) (s : Size) → k ≡ moves.Extend o s → is_direct_branch o ≡ false) → IsQuiet (move_of k t a b)
 quiet_move moves.Move t a b h = quiet_to_special t a b
 quiet_move (moves.Extend o s) t a b h = quiet_extended o s a b (h o s refl)
 quiet_move moves.Lea t a b h = quiet_effective t a b
 quiet_move moves.Exchange t a b h = quiet_exchanged t a b
 
-pub quiet_moves : (k : Moves) (t : Option Size) (os : Operands) → ((o : Op) (s : Size) → k ≡ moves.Extend o s → is_branch o ≡ false) → IsQuiet (move_draft k t os)
+pub quiet_moves : (k : Moves) (t : Option Size) (os : Operands) → ((o : Op) (s : Size) → k ≡ moves.Extend o s → is_direct_branch o ≡ false) → IsQuiet (move_draft k t os)
 unfolding move_draft
 quiet_moves k t (operands.Two a b) h = quiet_move k t a b h
 quiet_moves k t operands.Nothing h = tt
@@ -197,11 +197,11 @@ quiet_moves k t (operands.Three a b c) h = tt
 
 -- ---- the stack
 
-quiet_of_long : (o : Op) (t : Option Size) (g : Given) (a : NumberedOperand) → is_branch o ≡ false → IsQuiet (of_long o t g a)
+quiet_of_long : (o : Op) (t : Option Size) (g : Given) (a : NumberedOperand) → is_direct_branch o ≡ false → IsQuiet (of_long o t g a)
 unfolding of_long
 quiet_of_long o t g a e = bound (agreed t (said g) (Some size.Long)) _ (λ s. quiet_instruction o s a nothing e)
 
-quiet_of_general : (o : Op) (t : Option Size) (g : Given) → is_branch o ≡ false → IsQuiet (of_general o t g)
+quiet_of_general : (o : Op) (t : Option Size) (g : Given) → is_direct_branch o ≡ false → IsQuiet (of_general o t g)
 unfolding of_general
 quiet_of_general o t g e = bound (register_or_memory g) _ (λ a. quiet_of_long o t g a e)
 
@@ -231,7 +231,7 @@ quiet_stack k t (operands.Three a b c) = tt
 
 -- ---- strings, flags, system
 
-pub quiet_string : (rep : Bool) (o : Op) (s : Size) (os : Operands) → is_branch o ≡ false → IsQuiet (string_draft rep o s os)
+pub quiet_string : (rep : Bool) (o : Op) (s : Size) (os : Operands) → is_direct_branch o ≡ false → IsQuiet (string_draft rep o s os)
 unfolding string_draft instruction
 quiet_string rep o s operands.Nothing e = e
 quiet_string rep o s (operands.One a) e = tt
@@ -239,14 +239,14 @@ quiet_string rep o s (operands.Starred a) e = tt
 quiet_string rep o s (operands.Two a b) e = tt
 quiet_string rep o s (operands.Three a b c) e = tt
 
-quiet_without : (o : Op) (os : Operands) → is_branch o ≡ false → IsQuiet (without_operands o os)
+quiet_without : (o : Op) (os : Operands) → is_direct_branch o ≡ false → IsQuiet (without_operands o os)
 quiet_without o operands.Nothing e = quiet_instruction o size.Long nothing nothing e
 quiet_without o (operands.One a) e = tt
 quiet_without o (operands.Starred a) e = tt
 quiet_without o (operands.Two a b) e = tt
 quiet_without o (operands.Three a b c) e = tt
 
-pub quiet_plain : (o : Op) (t : Option Size) (os : Operands) → is_branch o ≡ false → IsQuiet (plain_draft o t os)
+pub quiet_plain : (o : Op) (t : Option Size) (os : Operands) → is_direct_branch o ≡ false → IsQuiet (plain_draft o t os)
 unfolding plain_draft
 quiet_plain o t os e = bound (agreed t (Some size.Long) None) _ (λ s. quiet_without o os e)
 
@@ -254,7 +254,7 @@ quiet_if : (b : Bool) (d : Option Draft) → IsQuiet d → IsQuiet (cond b d Non
 quiet_if true d h = h
 quiet_if false d h = tt
 
-quiet_through : (o : Op) (s : Size) (g : Given) → is_branch o ≡ false → IsQuiet (through o s g)
+quiet_through : (o : Op) (s : Size) (g : Given) → is_direct_branch o ≡ false → IsQuiet (through o s g)
 unfolding through
 quiet_through o s (given.Immediate n) e = quiet_number o s nothing nothing size.Byte n e
 quiet_through o s given.Port e = quiet_instruction o s nothing (register_operand 2) e
@@ -265,7 +265,7 @@ quiet_through o s (given.Segment n) e = tt
 quiet_through o s (given.Control n) e = tt
 quiet_through o s (given.Memory n) e = tt
 
-quiet_between : (o : Op) (s : Size) (p g : Given) → is_branch o ≡ false → IsQuiet (between o s p g)
+quiet_between : (o : Op) (s : Size) (p g : Given) → is_direct_branch o ≡ false → IsQuiet (between o s p g)
 quiet_between o s p (given.Register t n) e = quiet_if (n == 0) (through o s p) (quiet_through o s p e)
 quiet_between o s p (given.Segment n) e = tt
 quiet_between o s p (given.Control n) e = tt
@@ -273,11 +273,11 @@ quiet_between o s p (given.Memory n) e = tt
 quiet_between o s p (given.Immediate n) e = tt
 quiet_between o s p given.Port e = tt
 
-quiet_ported : (o : Op) (t : Option Size) (p g : Given) → is_branch o ≡ false → IsQuiet (ported o t p g)
+quiet_ported : (o : Op) (t : Option Size) (p g : Given) → is_direct_branch o ≡ false → IsQuiet (ported o t p g)
 unfolding ported
 quiet_ported o t p g e = bound (agreed t (said g) None) _ (λ s. quiet_between o s p g e)
 
-quiet_alone : (o : Op) (s : Size) (g : Given) → is_branch o ≡ false → IsQuiet (memory_alone o s g)
+quiet_alone : (o : Op) (s : Size) (g : Given) → is_direct_branch o ≡ false → IsQuiet (memory_alone o s g)
 quiet_alone o s (given.Memory m) e = quiet_instruction o s (memory m) nothing e
 quiet_alone o s (given.Register t n) e = tt
 quiet_alone o s (given.Segment n) e = tt
@@ -285,7 +285,7 @@ quiet_alone o s (given.Control n) e = tt
 quiet_alone o s (given.Immediate n) e = tt
 quiet_alone o s given.Port e = tt
 
-quiet_of_memory : (o : Op) (t : Option Size) (g : Given) → is_branch o ≡ false → IsQuiet (of_memory o t g)
+quiet_of_memory : (o : Op) (t : Option Size) (g : Given) → is_direct_branch o ≡ false → IsQuiet (of_memory o t g)
 unfolding of_memory
 quiet_of_memory o t g e = bound (agreed t (Some size.Long) None) _ (λ s. quiet_alone o s g e)
 
@@ -293,7 +293,7 @@ quiet_task : (t : Option Size) (g : Given) → IsQuiet (task t g)
 unfolding task
 quiet_task t g = bound (register_or_memory g) _ (λ place. bound (agreed t (said g) (Some size.Word)) _ (λ s. quiet_instruction op.LoadTask size.Long place nothing refl))
 
-pub quiet_system : (k : System) (t : Option Size) (os : Operands) → ((o : Op) → k ≡ system.Memory o → is_branch o ≡ false) → IsQuiet (system_draft k t os)
+pub quiet_system : (k : System) (t : Option Size) (os : Operands) → ((o : Op) → k ≡ system.Memory o → is_direct_branch o ≡ false) → IsQuiet (system_draft k t os)
 unfolding system_draft
 quiet_system system.In t (operands.Two p to) h = quiet_ported op.PortIn t p to refl
 quiet_system system.Out t (operands.Two from p) h = quiet_ported op.PortOut t p from refl

@@ -4,6 +4,7 @@ use Rattle.std.specs.Prelude.{◌==◌, nat_le}
 use Rattle.std.specs.List.{list_all, Contains}
 use Rattle.std.proofs.lemmas.Bool.Decides.{nat_tests}
 use Rattle.std.proofs.lemmas.List.Sums.{AllPass-from_list_all}
+use Rattle.ia32_types.specs.Shape.{is_direct_branch}
 use Rattle.ia32_types.specs.declared.insn.Op.{Op}
 use Rattle.ia32_types.specs.declared.insn.Op.TheVariants as op
 use Rattle.ia32_types.specs.declared.site.SiteKind.{SiteKind}
@@ -29,9 +30,9 @@ use Rattle.ia32_rows.specs.Rows.{rows, sites}
 use Rattle.ia32_rows.proofs.Readers.{same_read}
 use Rattle.ia32_rows.proofs.SiteLaws.{is_listed}
 use Rattle.ia32_rows.proofs.Pieces.{in_pieces}
-use Rattle.image_check.specs.Pieces.{is_branch, is_nop}
+use Rattle.image_check.specs.Pieces.{is_nop}
 
-pub branch_plain : (o : Op) → is_branch o ≡ true → kind_of o ≡ None
+pub branch_plain : (o : Op) → is_direct_branch o ≡ true → kind_of o ≡ None
 branch_plain op.Jmp e = refl
 branch_plain op.Call e = refl
 branch_plain op.Jcc e = refl

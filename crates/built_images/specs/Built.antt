@@ -1,4 +1,5 @@
 -- Images whose text is made of padded instructions.
+use Rattle.ia32_types.specs.Shape.{is_direct_branch}
 use Rattle.std.specs.Prelude.{◌≡◌, ◌⊎◌, ℕ, ◌+◌, ◌-◌, ◌≤◌, true, List, [], ◌∷◌, ◌++◌, length, Ok, Err}
 use Rattle.std.specs.List.{Contains}
 use Rattle.sites.specs.declared.limits.TheConstants.{TEXT_LIMIT}
@@ -6,7 +7,7 @@ use Rattle.elf_form.specs.ImageParts.{ImageParts}
 use Rattle.sites.specs.Formats.{listed}
 use Rattle.image_check.specs.declared.fault.CheckCause.TheVariants.{Target}
 use Rattle.image_check.specs.Sweep.{Swept}
-use Rattle.image_check.specs.Pieces.{is_branch, target_of}
+use Rattle.image_check.specs.Pieces.{target_of}
 use Rattle.image_check.specs.Refusals.{Wrong}
 use Rattle.image_check.specs.Checking.{image_with, image_from}
 use Rattle.built_images.specs.Chunks.{Coded, Chunk, Alone, AreChunks, Begins, chunks_text, chunk_sites, chunks_swept}
@@ -30,7 +31,7 @@ pub record IsBuilt (parts : ImageParts) (cs : List Chunk) : Type 0 where
 
 -- Each direct branch leads to where a padded instruction begins.
 abbrev pub LeadsRight : List Chunk → Type 0
-LeadsRight cs = (s : Swept) → Contains (chunks_swept 0 cs) s → is_branch s.insn.op ≡ true → Begins cs (target_of s.at s.len s.insn)
+LeadsRight cs = (s : Swept) → Contains (chunks_swept 0 cs) s → is_direct_branch s.insn.op ≡ true → Begins cs (target_of s.at s.len s.insn)
 
 -- The image is accepted, or it is refused for the target of a branch.
 abbrev pub IsAcceptedButForTargets : ImageParts → List Chunk → Type 0

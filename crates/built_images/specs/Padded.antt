@@ -1,4 +1,5 @@
 -- Objects whose texts are padded instructions, with relocations in their fields and labels between them.
+use Rattle.ia32_types.specs.Shape.{is_direct_branch}
 use Rattle.std.specs.Prelude.{◌≡◌, ℕ, ◌+◌, ◌<◌, true, List, [], ◌∷◌, ◌++◌, length, filter, All, Ok}
 use Rattle.std.specs.List.{AllByRecursion, Contains}
 use Rattle.ia32_rows.specs.Fields.{imm_len}
@@ -8,7 +9,6 @@ use Rattle.elf_form.specs.declared.object.Reloc.{Reloc}
 use Rattle.elf_form.specs.ObjectParts.{ObjectParts}
 use Rattle.elf_form.specs.ObjectLayout.{is_of}
 use Rattle.sites.specs.Formats.{listed}
-use Rattle.image_check.specs.Pieces.{is_branch}
 use Rattle.built_images.specs.Fields.{imm_place}
 use Rattle.built_images.specs.Chunks.{Coded, insn_in, Chunk, Alone, Pair, AreChunks, chunks_text, chunk_sites}
 use Rattle.built_images.specs.Filled.{HaveFields, chunks_relocs}
@@ -32,7 +32,7 @@ pub record IsLinked (c : Coded) : Type 0 where
 
 -- A direct branch is linked so.
 abbrev pub IsLinkedBranch : Chunk → Type 0
-IsLinkedBranch (Alone c) = is_branch (insn_in c).op ≡ true → IsLinked c
+IsLinkedBranch (Alone c) = is_direct_branch (insn_in c).op ≡ true → IsLinked c
 IsLinkedBranch Pair = Unit {0}
 
 pub record IsPadded (o : ObjectParts) (cs : List Chunk) : Type 0 where
@@ -47,7 +47,7 @@ pub record IsPadded (o : ObjectParts) (cs : List Chunk) : Type 0 where
 
 -- A direct branch whose field holds -4 names a symbol with no number beside it.
 abbrev pub IsAlone : Chunk → Type 0
-IsAlone (Alone c) = is_branch (insn_in c).op ≡ true → c.parts.imm ≡ 0xFFFFFFFC
+IsAlone (Alone c) = is_direct_branch (insn_in c).op ≡ true → c.parts.imm ≡ 0xFFFFFFFC
 IsAlone Pair = Unit {0}
 
 abbrev pub AreAlone : List Chunk → Type 0

@@ -1,4 +1,5 @@
 -- Objects that are burnt from sources.
+use Rattle.ia32_types.specs.Shape.{is_direct_branch}
 use Rattle.std.specs.Prelude.{◌≡◌, ◌⊎◌, ℕ, pos, true, List, Ok, Err}
 use Rattle.std.specs.List.{AllByRecursion}
 use Rattle.ia32_rows.specs.Spells.{AreBytes}
@@ -15,7 +16,6 @@ use Rattle.afterburner.specs.Burnt.{burnt}
 use Rattle.image_check.specs.declared.fault.CheckCause.TheVariants.{Target}
 use Rattle.image_check.specs.Image.{Image}
 use Rattle.image_check.specs.Refusals.{Wrong}
-use Rattle.image_check.specs.Pieces.{is_branch}
 use Rattle.image_check.specs.Checking.{image_of}
 use Rattle.image_check.specs.Accepts.{Accepts}
 
@@ -31,7 +31,7 @@ AreBurnt os = AllByRecursion IsBurnt os
 
 -- The item is no direct branch that names a symbol plus or minus a number.
 abbrev pub NamesNoNumber : Body → Type 0
-NamesNoNumber (body.Instruction rep name args) = (a : Assembled) → assembled rep name args ≡ Ok a → is_branch a.insn.op ≡ true → AllByRecursion (λ (x : Argument). number_in x.form ≡ pos 0) args
+NamesNoNumber (body.Instruction rep name args) = (a : Assembled) → assembled rep name args ≡ Ok a → is_direct_branch a.insn.op ≡ true → AllByRecursion (λ (x : Argument). number_in x.form ≡ pos 0) args
 NamesNoNumber _ = Unit {0}
 
 abbrev pub NameNoNumbers : List SourceItem → Type 0

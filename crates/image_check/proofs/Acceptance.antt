@@ -6,6 +6,7 @@ use Rattle.std.specs.List.{list_any, Contains}
 use Rattle.std.proofs.lemmas.Bool.{cases_lt}
 use Rattle.std.proofs.lemmas.Bool.Decides.{nat_tests}
 use Rattle.std.proofs.lemmas.List.Folds.{Any-from_list_any, list_any-from_Any}
+use Rattle.ia32_types.specs.Shape.{is_direct_branch}
 use Rattle.ia32_types.specs.declared.site.SiteKind.{SiteKind}
 use Rattle.ia32_types.specs.declared.site.SiteKind.TheVariants.{Cli, Sti, StiHlt, Hlt, PushFlags, PopFlags, Iret, ReadControl, WriteControl, LoadGdt, LoadIdt, LoadTask, DropPage, ReadSeg, LoadSeg, PushSeg, PopSeg, FarJump, PortIn, PortOut, Return, JumpTo, CallTo}
 use Rattle.ia32_types.specs.Site.{sensitive_kind}
@@ -25,7 +26,7 @@ use Rattle.image_check.specs.declared.piece.Role.TheVariants as role
 use Rattle.image_check.specs.declared.piece.Piece.{Piece}
 use Rattle.image_check.specs.Image.{Image}
 use Rattle.image_check.specs.Sweep.{Swept, Sweep, sweep}
-use Rattle.image_check.specs.Pieces.{is_branch, is_nop, target_of, site_role, piece_of, pieces_of, pieces_in, is_start}
+use Rattle.image_check.specs.Pieces.{is_nop, target_of, site_role, piece_of, pieces_of, pieces_in, is_start}
 use Rattle.image_check.specs.TextSites.{is_same, differ, Found, found_in, unless_lacking, sites_of}
 use Rattle.image_check.specs.Targets.{is_inside, is_entrance, leads_wrong, wrong_target}
 use Rattle.image_check.specs.Refusals.{Refusal}
@@ -201,14 +202,14 @@ is_entrance_so swept sites at h =
 
 -- ---- branches
 
-pub branch_role : (s : Swept) → is_branch s.insn.op ≡ true → (piece_of s).role ≡ role.Branch (target_of s.at s.len s.insn)
+pub branch_role : (s : Swept) → is_direct_branch s.insn.op ≡ true → (piece_of s).role ≡ role.Branch (target_of s.at s.len s.insn)
 branch_role s e = ap (λ b. cond b (role.Branch (target_of s.at s.len s.insn)) (cond (is_nop s.insn.op) role.Nop (site_role (sensitive_kind s.insn)))) e
 
 first_right : (b : Bool) (at : ℕ) (x : Option ℕ) → cond b (Some at) x ≡ None → (b ≡ false) × (x ≡ None)
 first_right true at x e = absurd cc
 first_right false at x e = (refl, e)
 
-targets_right : (entrance : ℕ → Bool) (swept : List Swept) → wrong_target entrance (map piece_of swept) ≡ None → (k : ℕ) (s : Swept) → k < length swept → slice_index_or swept k s ≡ s → is_branch s.insn.op ≡ true → entrance (target_of s.at s.len s.insn) ≡ true
+targets_right : (entrance : ℕ → Bool) (swept : List Swept) → wrong_target entrance (map piece_of swept) ≡ None → (k : ℕ) (s : Swept) → k < length swept → slice_index_or swept k s ≡ s → is_direct_branch s.insn.op ≡ true → entrance (target_of s.at s.len s.insn) ≡ true
 unfolding wrong_target
 targets_right entrance [] e k s lt is branch = absurd (omega arith)
 targets_right entrance (t ∷ swept) e zero s lt is branch =
@@ -227,14 +228,14 @@ pub other_leads : (entrance : ℕ → Bool) (b : Bool) (o : Option SiteKind) →
 other_leads entrance true o = refl
 other_leads entrance false o = site_leads entrance o
 
-one_right : (entrance : ℕ → Bool) (s : Swept) → (is_branch s.insn.op ≡ true → entrance (target_of s.at s.len s.insn) ≡ true) → leads_wrong entrance (piece_of s).role ≡ false
+one_right : (entrance : ℕ → Bool) (s : Swept) → (is_direct_branch s.insn.op ≡ true → entrance (target_of s.at s.len s.insn) ≡ true) → leads_wrong entrance (piece_of s).role ≡ false
 one_right entrance s h =
-    elim (true_or_false (is_branch s.insn.op)) [
+    elim (true_or_false (is_direct_branch s.insn.op)) [
       | inl e ↦ ap (leads_wrong entrance) (branch_role s e) ∙ ap not (h e)
       | inr e ↦ ap (λ b. leads_wrong entrance (cond b (role.Branch (target_of s.at s.len s.insn)) (cond (is_nop s.insn.op) role.Nop (site_role (sensitive_kind s.insn))))) e ∙ other_leads entrance (is_nop s.insn.op) (sensitive_kind s.insn)
     ]
 
-right_targets : (entrance : ℕ → Bool) (swept : List Swept) → ((s : Swept) → Contains swept s → is_branch s.insn.op ≡ true → entrance (target_of s.at s.len s.insn) ≡ true) → wrong_target entrance (map piece_of swept) ≡ None
+right_targets : (entrance : ℕ → Bool) (swept : List Swept) → ((s : Swept) → Contains swept s → is_direct_branch s.insn.op ≡ true → entrance (target_of s.at s.len s.insn) ≡ true) → wrong_target entrance (map piece_of swept) ≡ None
 unfolding wrong_target
 right_targets entrance [] h = refl
 right_targets entrance (t ∷ swept) h =

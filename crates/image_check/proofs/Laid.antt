@@ -2,6 +2,7 @@
 use Rattle.std.proofs.Common.{◌≡◌, ℕ, zero, suc, ◌+◌, ◌-◌, ◌<◌, ◌≤◌, Bool, true, false, ◌&&◌, cond, max, List, [], ◌∷◌, length, drop, map, Option, Some, None, refl, sym, ap, subst, ◌∙◌, inl, inr, ◌⊎◌, arith}
 use Rattle.std.specs.Prelude.{slice_index_or}
 use Rattle.std.specs.List.{Contains}
+use Rattle.ia32_types.specs.Shape.{is_direct_branch}
 use Rattle.ia32_types.specs.declared.insn.Op.{Op}
 use Rattle.ia32_types.specs.declared.insn.Op.TheVariants as op
 use Rattle.ia32_types.specs.declared.site.SiteKind.{SiteKind}
@@ -43,9 +44,9 @@ none_in y c = let lt = c.1 in omega (arith, lt)
 -- ---- what an instruction is to the check, and what it is
 
 role_by : ℕ → Op → Role
-role_by target o = cond (pieces.is_branch o) (role.Branch target) (cond (pieces.is_nop o) role.Nop (site_role (kind_of o)))
+role_by target o = cond (is_direct_branch o) (role.Branch target) (cond (pieces.is_nop o) role.Nop (site_role (kind_of o)))
 
-branch_kind : (o : Op) → pieces.is_branch o ≡ true → kind_of o ≡ None
+branch_kind : (o : Op) → is_direct_branch o ≡ true → kind_of o ≡ None
 branch_kind op.Jmp e = refl
 branch_kind op.Call e = refl
 branch_kind op.Jcc e = refl
@@ -93,13 +94,13 @@ role_site target false true o kind e = absurd cc
 role_site target false false o kind e = site_is o kind e
 
 is_insensitive : (s : Swept) → not_site (piece_of s).role ≡ true → sensitive_kind s.insn ≡ None
-is_insensitive s e = role_plain (target_of s.at s.len s.insn) (pieces.is_branch s.insn.op) (pieces.is_nop s.insn.op) (kind_of s.insn.op) (branch_kind s.insn.op) (nop_kind s.insn.op) e
+is_insensitive s e = role_plain (target_of s.at s.len s.insn) (is_direct_branch s.insn.op) (pieces.is_nop s.insn.op) (kind_of s.insn.op) (branch_kind s.insn.op) (nop_kind s.insn.op) e
 
 is_sensitive : (s : Swept) (kind : SiteKind) → (piece_of s).role ≡ role.Site kind → sensitive_kind s.insn ≡ Some kind
-is_sensitive s kind e = role_site (target_of s.at s.len s.insn) (pieces.is_branch s.insn.op) (pieces.is_nop s.insn.op) (kind_of s.insn.op) kind e
+is_sensitive s kind e = role_site (target_of s.at s.len s.insn) (is_direct_branch s.insn.op) (pieces.is_nop s.insn.op) (kind_of s.insn.op) kind e
 
 is_padding : (s : Swept) → is_nop (piece_of s).role ≡ true → s.insn.op ≡ op.Nop
-is_padding s e = nop_is s.insn.op (role_nop (target_of s.at s.len s.insn) (pieces.is_branch s.insn.op) (pieces.is_nop s.insn.op) (kind_of s.insn.op) e)
+is_padding s e = nop_is s.insn.op (role_nop (target_of s.at s.len s.insn) (is_direct_branch s.insn.op) (pieces.is_nop s.insn.op) (kind_of s.insn.op) e)
 
 sti_role : (r : Role) → is_sti r ≡ true → r ≡ role.Site Sti
 sti_role (role.Site Sti) e = refl

@@ -3,6 +3,7 @@ use Rattle.std.proofs.Common.{◌≡◌, ℕ, zero, suc, ◌+◌, ◌-◌, ◌�
 use Rattle.std.specs.List.{list_all, Contains}
 use Rattle.std.proofs.lemmas.List.{length-append, length-take}
 use Rattle.std.proofs.lemmas.List.Sums.{AllPass-from_list_all}
+use Rattle.ia32_types.specs.Shape.{is_direct_branch}
 use Rattle.ia32_types.specs.declared.insn.Insn.{Insn}
 use Rattle.ia32_types.specs.declared.insn.Op.{Op}
 use Rattle.ia32_types.specs.declared.insn.Op.TheVariants as op
@@ -122,7 +123,7 @@ begun_one bytes insn n h e =
 -- ---- by role
 
 role_by : ℕ → Op → Role
-role_by target o = cond (pieces.is_branch o) (role.Branch target) (cond (pieces.is_nop o) role.Nop (site_role (kind_of o)))
+role_by target o = cond (is_direct_branch o) (role.Branch target) (cond (pieces.is_nop o) role.Nop (site_role (kind_of o)))
 
 nop_single : (target : ℕ) (o : Op) → is_nop (role_by target o) ≡ true → is_single o ≡ true
 unfolding role_by is_single

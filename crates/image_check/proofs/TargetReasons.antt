@@ -4,13 +4,14 @@ use Rattle.std.specs.List.{Contains}
 use Rattle.elf_form.specs.ImageParts.{ImageParts}
 use Rattle.sites.specs.declared.site.Site.{Site}
 use Rattle.image_check.specs.Sweep.{Swept}
-use Rattle.image_check.specs.Pieces.{is_branch, is_nop, target_of, site_role, piece_of}
+use Rattle.image_check.specs.Pieces.{is_nop, target_of, site_role, piece_of}
 use Rattle.image_check.specs.Targets.{is_entrance, leads_wrong, wrong_target}
 use Rattle.image_check.specs.Conditions.{entry_at, entry_start}
 use Rattle.image_check.specs.Accepts.{IsEntrance}
 use Rattle.image_check.specs.Reasons.{LeadsAstray}
 use Rattle.image_check.proofs.Acceptance.{entrance_is, is_entrance_so, branch_role, not_false, other_leads}
 use Rattle.image_check.proofs.Laid.{first_in, later_in, first_or_later, none_in}
+use Rattle.ia32_types.specs.Shape.{is_direct_branch}
 use Rattle.ia32_types.specs.Site.{sensitive_kind}
 use Rattle.image_check.proofs.PlaceReasons.{some, bad_so, so_bad, not_both, not_true, turned}
 use Rattle.image_check.proofs.SiteReasons.{true_or_false}
@@ -25,19 +26,19 @@ record Astray (entrance : ℕ → Bool) (swept : List Swept) (at : ℕ) : Type 0
   later : List Swept
   swept_are : swept ≡ before ++ branch ∷ later
   place : branch.at ≡ at
-  direct : is_branch branch.insn.op ≡ true
+  direct : is_direct_branch branch.insn.op ≡ true
   astray : entrance (target_of branch.at branch.len branch.insn) ≡ false
-  right : (s : Swept) → Contains before s → is_branch s.insn.op ≡ true → entrance (target_of s.at s.len s.insn) ≡ true
+  right : (s : Swept) → Contains before s → is_direct_branch s.insn.op ≡ true → entrance (target_of s.at s.len s.insn) ≡ true
 
 abbrev joined : Swept → List Swept → List Swept
 joined s ss = s ∷ ss
 
 module _ (entrance : ℕ → Bool) where
-  leads_by : (s : Swept) (b : Bool) → is_branch s.insn.op ≡ b → leads_wrong entrance (piece_of s).role ≡ (b && not (entrance (target_of s.at s.len s.insn)))
+  leads_by : (s : Swept) (b : Bool) → is_direct_branch s.insn.op ≡ b → leads_wrong entrance (piece_of s).role ≡ (b && not (entrance (target_of s.at s.len s.insn)))
   leads_by s true e = ap (leads_wrong entrance) (branch_role s e)
   leads_by s false e = ap (λ b. leads_wrong entrance (cond b (role.Branch (target_of s.at s.len s.insn)) (cond (is_nop s.insn.op) role.Nop (site_role (sensitive_kind s.insn))))) e ∙ other_leads entrance (is_nop s.insn.op) (sensitive_kind s.insn)
 
-  one_right : (s : Swept) → leads_wrong entrance (piece_of s).role ≡ false → is_branch s.insn.op ≡ true → entrance (target_of s.at s.len s.insn) ≡ true
+  one_right : (s : Swept) → leads_wrong entrance (piece_of s).role ≡ false → is_direct_branch s.insn.op ≡ true → entrance (target_of s.at s.len s.insn) ≡ true
   one_right s leads e = not_false _ (sym (leads_by s true e) ∙ leads)
 
   wrong_target_so : (swept : List Swept) (at : ℕ) → wrong_target entrance (map piece_of swept) ≡ Some at → Astray entrance swept at
@@ -62,21 +63,21 @@ module _ (entrance : ℕ → Bool) where
               right = λ s c b. elim (first_or_later t more.before s c) [ inl same ↦ one_right s (ap (λ (u : Swept). leads_wrong entrance (piece_of u).role) (sym same) ∙ leads) b | inr c' ↦ more.right s c' b ];
             }
       ] where
-        wrong_branch : (s : Swept) → leads_wrong entrance (piece_of s).role ≡ true → (is_branch s.insn.op ≡ true) × (entrance (target_of s.at s.len s.insn) ≡ false)
-        wrong_branch s is = by (is_branch s.insn.op) refl where
-          by : (b : Bool) → is_branch s.insn.op ≡ b → (is_branch s.insn.op ≡ true) × (entrance (target_of s.at s.len s.insn) ≡ false)
+        wrong_branch : (s : Swept) → leads_wrong entrance (piece_of s).role ≡ true → (is_direct_branch s.insn.op ≡ true) × (entrance (target_of s.at s.len s.insn) ≡ false)
+        wrong_branch s is = by (is_direct_branch s.insn.op) refl where
+          by : (b : Bool) → is_direct_branch s.insn.op ≡ b → (is_direct_branch s.insn.op ≡ true) × (entrance (target_of s.at s.len s.insn) ≡ false)
           by true e = (e, turned _ (sym (leads_by s true e) ∙ is))
           by false e = absurd (not_both _ is (leads_by s false e))
 
-  astray_first : (before : List Swept) (branch : Swept) (later : List Swept) → is_branch branch.insn.op ≡ true → entrance (target_of branch.at branch.len branch.insn) ≡ false → ((s : Swept) → Contains before s → is_branch s.insn.op ≡ true → entrance (target_of s.at s.len s.insn) ≡ true) → wrong_target entrance (map piece_of (before ++ branch ∷ later)) ≡ Some branch.at
+  astray_first : (before : List Swept) (branch : Swept) (later : List Swept) → is_direct_branch branch.insn.op ≡ true → entrance (target_of branch.at branch.len branch.insn) ≡ false → ((s : Swept) → Contains before s → is_direct_branch s.insn.op ≡ true → entrance (target_of s.at s.len s.insn) ≡ true) → wrong_target entrance (map piece_of (before ++ branch ∷ later)) ≡ Some branch.at
   unfolding wrong_target
   astray_first [] branch later direct astray right = ap (λ b. cond b (Some branch.at) (wrong_target entrance (map piece_of later))) (leads_by branch true direct ∙ ap not astray)
   astray_first (t ∷ before) branch later direct astray right =
       ap (λ b. cond b (Some t.at) (wrong_target entrance (map piece_of (before ++ branch ∷ later)))) (right_one t (right t (first_in t before)))
       ∙ astray_first before branch later direct astray (λ s c b. right s (later_in t before s c) b) where
-        right_one : (s : Swept) → (is_branch s.insn.op ≡ true → entrance (target_of s.at s.len s.insn) ≡ true) → leads_wrong entrance (piece_of s).role ≡ false
-        right_one s h = by (is_branch s.insn.op) refl where
-          by : (b : Bool) → is_branch s.insn.op ≡ b → leads_wrong entrance (piece_of s).role ≡ false
+        right_one : (s : Swept) → (is_direct_branch s.insn.op ≡ true → entrance (target_of s.at s.len s.insn) ≡ true) → leads_wrong entrance (piece_of s).role ≡ false
+        right_one s h = by (is_direct_branch s.insn.op) refl where
+          by : (b : Bool) → is_direct_branch s.insn.op ≡ b → leads_wrong entrance (piece_of s).role ≡ false
           by true e = leads_by s true e ∙ ap not (h e)
           by false e = leads_by s false e
 

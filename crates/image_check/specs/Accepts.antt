@@ -1,4 +1,5 @@
 -- Which images are accepted, in words that name no order of tests.
+use Rattle.ia32_types.specs.Shape.{is_direct_branch}
 use Rattle.std.specs.Prelude.{◌≡◌, ℕ, ◌+◌, ◌-◌, ◌≤◌, ◌<◌, ◌==◌, true, false, Bool, List, length, map, slice_index_or, Some, Ok}
 use Rattle.std.specs.List.{list_any, Contains}
 use Rattle.ia32_rows.specs.Spells.{AreBytes}
@@ -9,7 +10,7 @@ use Rattle.sites.specs.declared.limits.TheConstants.{TEXT_LIMIT}
 use Rattle.sites.specs.Formats.{sites_in}
 use Rattle.image_check.specs.Image.{Image}
 use Rattle.image_check.specs.Sweep.{Swept, Sweep, starts_of}
-use Rattle.image_check.specs.Pieces.{is_branch, target_of, piece_of}
+use Rattle.image_check.specs.Pieces.{target_of, piece_of}
 use Rattle.image_check.specs.TextSites.{sites_of}
 use Rattle.image_check.specs.Conditions.{last_at, ends_at}
 use Rattle.image_check.specs.Checking.{image_with, image_from}
@@ -33,7 +34,7 @@ pub record IsAccepted (image : Image) : Type 0 where
   pub sweep : Sweep image.text swept
   pub ends : ends_at image.text (last_at (map piece_of swept)) ≡ true
   pub sites : sites_of (map piece_of swept) ≡ Some image.sites
-  pub targets : (s : Swept) → Contains swept s → is_branch s.insn.op ≡ true → IsEntrance swept image.sites (target_of s.at s.len s.insn)
+  pub targets : (s : Swept) → Contains swept s → is_direct_branch s.insn.op ≡ true → IsEntrance swept image.sites (target_of s.at s.len s.insn)
   pub entry : IsEntrance swept image.sites (image.entry - 0x10000000)
 
 -- The file has the form of an image, its parts are at their places, its annotations are those of the sites of its

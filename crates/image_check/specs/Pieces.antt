@@ -1,6 +1,7 @@
 -- What the conditions on an image ask of its instructions.
 use Rattle.std.specs.Prelude.{ℕ, ◌+◌, ◌%◌, ◌^◌, Bool, true, false, List, drop, map, Option, Some, None, Result, Ok, Err, is_ok, ◌==◌, if◌then◌else◌}
 use Rattle.std.specs.List.{list_any}
+use Rattle.ia32_types.specs.Shape.{is_direct_branch}
 use Rattle.ia32_types.specs.declared.insn.Insn.{Insn}
 use Rattle.ia32_types.specs.declared.insn.Op.{Op}
 use Rattle.ia32_types.specs.declared.insn.Op.TheVariants as op
@@ -17,13 +18,6 @@ use Rattle.image_check.specs.declared.piece.Piece.{Piece}
 use Rattle.image_check.specs.Refusals.{Refusal, Wrong}
 use Rattle.image_check.specs.Sweep.{Swept, sweep}
 
--- the direct branches: EB, E9, E8, 70 to 7F, and 0F 80 to 0F 8F
-abbrev pub is_branch : Op → Bool
-is_branch op.Jmp = true
-is_branch op.Call = true
-is_branch op.Jcc = true
-is_branch _ = false
-
 abbrev pub is_nop : Op → Bool
 is_nop op.Nop = true
 is_nop _ = false
@@ -37,7 +31,7 @@ site_role (Some kind) = role.Site kind
 site_role None = role.Plain
 
 abbrev pub role_of : ℕ → ℕ → Insn → Role
-role_of at len insn = if is_branch insn.op then role.Branch (target_of at len insn) else if is_nop insn.op then role.Nop else site_role (sensitive_kind insn)
+role_of at len insn = if is_direct_branch insn.op then role.Branch (target_of at len insn) else if is_nop insn.op then role.Nop else site_role (sensitive_kind insn)
 
 abbrev pub piece_of : Swept → Piece
 piece_of s = record { at = s.at; len = s.len; role = role_of s.at s.len s.insn }

@@ -1,6 +1,7 @@
 -- Why an image is not accepted: each cause by the condition that it stands for, and the order in which the causes count.
 use Rattle.std.specs.Prelude.{◌≡◌, ◌≢◌, ◌⊎◌, ℕ, ◌+◌, ◌-◌, ◌≤◌, ◌<◌, min, true, List, [], ◌∷◌, ◌++◌, length, drop, map, slice_get, Some, Err, Ok}
 use Rattle.std.specs.List.{Contains}
+use Rattle.ia32_types.specs.Shape.{is_direct_branch}
 use Rattle.ia32_types.specs.declared.site.Refused.{Refused}
 use Rattle.ia32_decode.specs.Named.{BeginsRefused}
 use Rattle.elf_form.specs.ImageParts.{ImageParts}
@@ -10,7 +11,7 @@ use Rattle.sites.specs.Formats.{listed}
 use Rattle.image_check.specs.declared.fault.CheckCause.{CheckCause}
 use Rattle.image_check.specs.declared.fault.CheckCause.TheVariants.{TextPlace, InitPlace, TextSize, InitSize, EntryPlace, RefusedCode, BadCode, TextEnd, SiteWrong, SitesForm, Target, EntryStart}
 use Rattle.image_check.specs.Sweep.{Swept, Sweep, SweepStops}
-use Rattle.image_check.specs.Pieces.{is_branch, target_of, piece_of}
+use Rattle.image_check.specs.Pieces.{target_of, piece_of}
 use Rattle.image_check.specs.TextSites.{found_in}
 use Rattle.image_check.specs.Conditions.{last_at}
 use Rattle.image_check.specs.Accepts.{IsEntrance}
@@ -66,9 +67,9 @@ pub record LeadsAstray (swept : List Swept) (sites : List Site) (at : ℕ) : Typ
   pub later : List Swept
   pub swept_are : swept ≡ before ++ branch ∷ later
   pub place : branch.at ≡ at
-  pub direct : is_branch branch.insn.op ≡ true
+  pub direct : is_direct_branch branch.insn.op ≡ true
   pub astray : IsEntrance swept sites (target_of branch.at branch.len branch.insn) → ⊥
-  pub right : (s : Swept) → Contains before s → is_branch s.insn.op ≡ true → IsEntrance swept sites (target_of s.at s.len s.insn)
+  pub right : (s : Swept) → Contains before s → is_direct_branch s.insn.op ≡ true → IsEntrance swept sites (target_of s.at s.len s.insn)
 
 -- The condition of each cause, at a place: an offset of the text, of the annotations for those that have no form, or 0.
 abbrev pub IsWrong : CheckCause → ImageParts → ℕ → Type 0

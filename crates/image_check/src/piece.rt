@@ -1,7 +1,8 @@
 //! What the check asks of an instruction.
 
+ghost use Rattle.ia32_types.specs.Shape.{is_direct_branch};
 ghost use Rattle.std.specs.Prelude.{◌≡◌, ◌+◌, ◌<◌, ◌≤◌, ◌^◌, length, drop, IfOk, IsTrue, ◌==◌};
-ghost use Rattle.image_check.specs.Pieces.{is_branch, is_nop, role_of};
+ghost use Rattle.image_check.specs.Pieces.{is_nop, role_of};
 
 use ia32_types::{Insn, Op, SiteKind, sensitive};
 
@@ -22,8 +23,8 @@ pub struct Piece {
     pub role: Role,
 }
 
-fn is_branch(op: Op) -> bool
-    ensures { result ≡ is_branch op }
+fn is_direct_branch(op: Op) -> bool
+    ensures { result ≡ is_direct_branch op }
 {
     matches!(op, Op::Jmp | Op::Call | Op::Jcc)
 }
@@ -39,7 +40,7 @@ pub fn role_of(at: u32, len: u8, insn: &Insn) -> Role
     requires { at + len < 2 ^ 32 }
     ensures { result ≡ role_of at len insn.now }
 {
-    if is_branch(insn.op) {
+    if is_direct_branch(insn.op) {
         return Role::Branch((at + u32::from(len)).wrapping_add(insn.imm));
     }
     if is_nop(insn.op) {

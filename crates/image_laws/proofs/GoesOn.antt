@@ -1,5 +1,6 @@
 -- An instruction outside sites leads to where control may come in.
 use Rattle.std.proofs.Common.{◌≡◌, ℕ, ◌+◌, ◌%◌, ◌^◌, true, refl, sym, ap, subst, ◌∙◌, inl, inr}
+use Rattle.ia32_types.specs.Shape.{is_direct_branch}
 use Rattle.ia32_types.specs.declared.flags.Regs.{Regs}
 use Rattle.ia32_types.specs.declared.insn.Insn.{Insn}
 use Rattle.ia32_types.specs.declared.insn.Op.{Op}
@@ -12,7 +13,7 @@ use Rattle.ia32_exec.specs.Effect.{row, effect}
 use Rattle.ia32_exec.specs.EipAfter.{IsBranch, IsEipAfter, Leads, EipGoesOn}
 use Rattle.image_check.specs.Image.{Image}
 use Rattle.image_check.specs.Sweep.{Swept}
-use Rattle.image_check.specs.Pieces.{is_branch, target_of}
+use Rattle.image_check.specs.Pieces.{target_of}
 use Rattle.image_check.specs.Accepts.{IsAccepted}
 use Rattle.image_check.specs.Places.{linear, StandsOutside}
 use Rattle.image_laws.specs.WaysIn.{IsWayIn}
@@ -21,7 +22,7 @@ use Rattle.image_laws.proofs.WaysOn.{next_outside, branch_way, here_way, next_ad
 goes_by : EipGoesOn → (i : Insn) (len : ℕ) (r : Regs) (b : ℕ → ℕ) (after : Regs) (stores : Stores) → effect i len r b ≡ Done after stores → IsEipAfter i.op i len r after.eip
 goes_by goes i len r b after stores e = subst (Leads i.op i len r) e (goes i len r b)
 
-branch_is : (o : Op) → IsBranch o → is_branch o ≡ true
+branch_is : (o : Op) → IsBranch o → is_direct_branch o ≡ true
 branch_is op.Jmp h = refl
 branch_is op.Call h = refl
 branch_is op.Jcc h = refl
@@ -46,7 +47,7 @@ module _ (goes : EipGoesOn) (image : Image) (h : IsAccepted image) (s : Swept) (
   next_is : (r.eip + s.len) % 2 ^ 32 ≡ linear (s.at + s.len)
   next_is = ap (λ k. (k + s.len) % 2 ^ 32) here ∙ next_address image h s out.stands
 
-  by_branch : is_branch s.insn.op ≡ true → (eip : ℕ) → eip ≡ ((r.eip + s.len) % 2 ^ 32 + s.insn.imm) % 2 ^ 32 → Arrives eip
+  by_branch : is_direct_branch s.insn.op ≡ true → (eip : ℕ) → eip ≡ ((r.eip + s.len) % 2 ^ 32 + s.insn.imm) % 2 ^ 32 → Arrives eip
   by_branch branch eip e =
       (target_of s.at s.len s.insn, e ∙ ap (λ k. (k + s.insn.imm) % 2 ^ 32) next_is ∙ branch_address image h s out.stands branch, branch_way image h s out.stands branch)
 
@@ -60,5 +61,5 @@ module _ (goes : EipGoesOn) (image : Image) (h : IsAccepted image) (s : Swept) (
             | inr stays ↦ (s.at, stays.1 ∙ here, here_way image h s out)
           ]
         ]
-        | inr last ↦ by_branch (ap is_branch last.jump) after.eip (sym (jumps_by s.insn s.len r b after stores last.jump e))
+        | inr last ↦ by_branch (ap is_direct_branch last.jump) after.eip (sym (jumps_by s.insn s.len r b after stores last.jump e))
       ]

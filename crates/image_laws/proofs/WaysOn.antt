@@ -5,6 +5,7 @@ use Rattle.std.specs.List.{list_any, Contains}
 use Rattle.std.proofs.lemmas.Bool.{cases_lt}
 use Rattle.std.proofs.lemmas.Bool.Decides.{nat_tests}
 use Rattle.std.proofs.lemmas.List.{places, same_lists, append-nil}
+use Rattle.ia32_types.specs.Shape.{is_direct_branch}
 use Rattle.ia32_types.specs.declared.insn.Insn.{Insn}
 use Rattle.ia32_types.specs.declared.insn.Op.TheVariants as op
 use Rattle.ia32_types.specs.declared.insn.Operand.TheVariants as operand
@@ -20,7 +21,7 @@ use Rattle.sites.specs.declared.site.Site.{Site}
 use Rattle.image_check.specs.declared.place.AtOffset.TheVariants.{NotAStart, Outside, Inside}
 use Rattle.image_check.specs.Image.{Image}
 use Rattle.image_check.specs.Sweep.{Swept}
-use Rattle.image_check.specs.Pieces.{is_branch, target_of, piece_of}
+use Rattle.image_check.specs.Pieces.{target_of, piece_of}
 use Rattle.image_check.specs.Conditions.{last_at, ends_at}
 use Rattle.image_check.specs.Accepts.{IsEntrance, IsAccepted}
 use Rattle.image_check.specs.Places.{swept_of, is_start, lies_in, site_at, is_in_site, is_start_at, is_site_at, by_site, place_of, place_at, linear, StandsOutside, StandsInside}
@@ -182,7 +183,7 @@ module _ (image : Image) (h : IsAccepted image) where
           | inr not ↦ omega (arith, le, not)
         ]
 
-  pub branch_way : (s : Swept) → Contains (swept_of image.text) s → is_branch s.insn.op ≡ true → IsWayIn image (target_of s.at s.len s.insn)
+  pub branch_way : (s : Swept) → Contains (swept_of image.text) s → is_direct_branch s.insn.op ≡ true → IsWayIn image (target_of s.at s.len s.insn)
   branch_way s c branch = way_in (target_of s.at s.len s.insn) (h.targets s (subst (λ (swept : List Swept). Contains swept s) (swept_is image h) c) branch)
 
   pub here_way : (s : Swept) → StandsOutside image s → IsWayIn image s.at
@@ -222,7 +223,7 @@ module _ (image : Image) (h : IsAccepted image) where
       let ends = (room image h s c).1 in
       omega (arith, few, ends)
 
-  pub branch_address : (s : Swept) → Contains (swept_of image.text) s → is_branch s.insn.op ≡ true → (linear (s.at + s.len) + s.insn.imm) % 2 ^ 32 ≡ linear (target_of s.at s.len s.insn)
+  pub branch_address : (s : Swept) → Contains (swept_of image.text) s → is_direct_branch s.insn.op ≡ true → (linear (s.at + s.len) + s.insn.imm) % 2 ^ 32 ≡ linear (target_of s.at s.len s.insn)
   branch_address s c branch =
       let few = h.within.text.1 in
       let lt = start_below (target_of s.at s.len s.insn) (branch_way s c branch).start in

@@ -2,6 +2,7 @@
 
 ghost use Rattle.std.specs.Prelude.{◌≡◌, ◌⊎◌, ◌+◌, ◌-◌, ◌%◌, ◌^◌, ◌≤◌, ◌<◌, ℕ, List, true, false, ◌↔◌, length};
 ghost use Rattle.std.specs.List.{Contains};
+ghost use Rattle.ia32_types.specs.Shape.{is_direct_branch};
 ghost use Rattle.ia32_types.specs.declared.flags.Regs.{Regs};
 ghost use Rattle.ia32_exec.specs.declared.outcome.Outcome.TheVariants.{Done};
 ghost use Rattle.ia32_exec.specs.declared.outcome.Stores.{Stores};
@@ -11,7 +12,7 @@ ghost use Rattle.image_check.specs.declared.place.AtOffset.TheVariants.{NotAStar
 ghost use Rattle.image_check.specs.Image.{Image};
 ghost use Rattle.image_check.specs.Accepts.{IsAccepted};
 ghost use Rattle.image_check.specs.Sweep.{Swept};
-ghost use Rattle.image_check.specs.Pieces.{is_branch, target_of};
+ghost use Rattle.image_check.specs.Pieces.{target_of};
 ghost use Rattle.image_check.specs.Places.{swept_of, is_start, is_in_site, is_start_at, is_site_at, place_of, place_at, linear, StandsOutside};
 ghost use Rattle.image_laws.specs.WaysIn.{IsWayIn, IsLast};
 
@@ -23,7 +24,7 @@ use ia32_exec::eip_goes_on;
 pub fn ways_on()
     ensures next { (image : Image) → IsAccepted image → (s : Swept) → Contains (swept_of image.text) s → (is_start image.text (s.at + s.len) ≡ true) ⊎ IsLast image s }
     ensures next_outside { (image : Image) → IsAccepted image → (s : Swept) → StandsOutside image s → IsWayIn image (s.at + s.len) ⊎ IsLast image s }
-    ensures branch { (image : Image) → IsAccepted image → (s : Swept) → Contains (swept_of image.text) s → is_branch s.insn.op ≡ true → IsWayIn image (target_of s.at s.len s.insn) }
+    ensures branch { (image : Image) → IsAccepted image → (s : Swept) → Contains (swept_of image.text) s → is_direct_branch s.insn.op ≡ true → IsWayIn image (target_of s.at s.len s.insn) }
     ensures here { (image : Image) → IsAccepted image → (s : Swept) → StandsOutside image s → IsWayIn image s.at }
     ensures site { (image : Image) → IsAccepted image → (site : Site) → Contains image.sites site → IsWayIn image site.at }
     ensures entry { (image : Image) → IsAccepted image → (0x10000000 ≤ image.entry) × IsWayIn image (image.entry - 0x10000000) }
@@ -33,7 +34,7 @@ pub fn ways_on()
 /// The same as linear addresses, by the sums that an instruction makes.
 pub fn addresses()
     ensures next { (image : Image) → IsAccepted image → (s : Swept) → Contains (swept_of image.text) s → (linear s.at + s.len) % 2 ^ 32 ≡ linear (s.at + s.len) }
-    ensures branch { (image : Image) → IsAccepted image → (s : Swept) → Contains (swept_of image.text) s → is_branch s.insn.op ≡ true → (linear (s.at + s.len) + s.insn.imm) % 2 ^ 32 ≡ linear (target_of s.at s.len s.insn) }
+    ensures branch { (image : Image) → IsAccepted image → (s : Swept) → Contains (swept_of image.text) s → is_direct_branch s.insn.op ≡ true → (linear (s.at + s.len) + s.insn.imm) % 2 ^ 32 ≡ linear (target_of s.at s.len s.insn) }
     ensures place { (image : Image) (at : ℕ) → place_at image (linear at) ≡ place_of image at }
     ensures not_a_start { (image : Image) (eip : ℕ) → (place_at image eip ≡ NotAStart) ↔ (is_start_at image.text eip ≡ false) }
     ensures in_site { (sites : List Site) (at : ℕ) → is_site_at sites (linear at) ≡ is_in_site sites at }
