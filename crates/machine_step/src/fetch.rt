@@ -6,7 +6,6 @@ ghost use Rattle.paging.specs.Space.{place};
 ghost use Rattle.paging.specs.Work.{Gives};
 ghost use Rattle.step_mem.specs.Shown.{hidden};
 ghost use Rattle.step_mem.specs.Sound.{IsSound, space_at};
-ghost use Rattle.ia32_decode.specs.Front.{front_len};
 ghost use Rattle.machine_model.specs.Instruction.{fetching, fetched_on, fetched};
 ghost use Rattle.machine_model.specs.UsedPages.{Uses, AtRefusal};
 ghost use Rattle.machine_step.specs.Fetches.{GivesAs};
@@ -14,15 +13,12 @@ ghost use Rattle.ia32_decode.specs.Spelled.{IsSpelled};
 
 use arrayvec::ArrayVec;
 use guest_ram::Ram;
-use ia32_decode::{Decoded, decode};
+use ia32_decode::{Decoded, LONGEST, decode, front_len};
 use ia32_types::Stop;
 use machine_model::works_use;
 use paging::Touch;
 use step_mem::{Kept, StepState, own_back, own_front};
 use sys_exec::Refusal;
-
-/// No instruction is longer.
-const LONGEST: u32 = 11;
 
 type Bytes = ArrayVec<u8, 32>;
 
@@ -84,15 +80,6 @@ fn fetch_pages<B: Kept>(
             fetch_on(ram, kept, state, user, at, &mut front)
         }
     }
-}
-
-fn front_len(at: u32) -> u32
-    ensures len { result ≡ front_len at }
-    ensures some { 0 < result }
-    ensures few { result ≤ 11 }
-    ensures one { at % 4096 + result ≤ 4096 }
-{
-    LONGEST.min(4096 - at % 4096)
 }
 
 // With bytes of the second page too.

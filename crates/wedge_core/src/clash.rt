@@ -23,12 +23,12 @@ ghost use Rattle.step_mem.specs.Changes.{AreWithin};
 ghost use Rattle.wedge_core.specs.Clashing.{looked, AreIn, marks_of, seen_of, before, model_uses};
 ghost use Rattle.wedge_core.specs.Standing.{ground};
 
-use crate::looking::{Bytes, LONGEST, Seen, fetched, fetched_next, front_len, read};
+use crate::looking::{Bytes, Seen, fetched, fetched_next, read};
 use crate::sight::are_bytes;
 use arrayvec::ArrayVec;
 use descriptors::{Cpu, by_level};
 use guest_ram::Ram;
-use ia32_decode::{Decoded, decode};
+use ia32_decode::{Decoded, LONGEST, decode, front_len};
 use ia32_exec::{Range, ranges};
 use ia32_types::Insn;
 use image_check::Checked;

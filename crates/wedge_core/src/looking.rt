@@ -5,7 +5,6 @@ ghost use Rattle.std.specs.Prelude.{◌≡◌, ℕ, ◌+◌, ◌*◌, ◌/◌, �
 ghost use Rattle.std.specs.List.{list_any};
 ghost use Rattle.guest_ram.specs.Bytes.{byte, part};
 ghost use Rattle.shadow_tables.specs.Entries.{entries_of};
-ghost use Rattle.ia32_decode.specs.Front.{front_len};
 ghost use Rattle.machine_model.specs.Run.{Set};
 ghost use Rattle.machine_model.specs.State.{wedge_mode};
 ghost use Rattle.paging.specs.Fresh.{has};
@@ -22,13 +21,11 @@ use crate::single::text_frames;
 use arrayvec::ArrayVec;
 use descriptors::{Cpu, by_level};
 use guest_ram::Ram;
+use ia32_decode::front_len;
 use image_check::Checked;
 use native_steps::uses_are_seen;
 use paging::{Access, Walk, allows, grants};
 use shadow_tables::Shadows;
-
-/// No instruction is longer.
-pub const LONGEST: u32 = 11;
 
 /// The bytes that a fetch finds.
 pub type Bytes = ArrayVec<u8, 32>;
@@ -204,15 +201,6 @@ pub fn read(
     for i in 0..len {
         into.push(byte_seen(ram, image, frames, earlier, seen.marks, start + i));
     }
-}
-
-/// How many bytes at an address lie in its page, of those that an instruction may have.
-pub fn front_len(at: u32) -> u32
-    ensures len { result ≡ front_len at }
-    ensures few { result ≤ 11 }
-    ensures one { at % 4096 + result ≤ 4096 }
-{
-    LONGEST.min(4096 - at % 4096)
 }
 
 /// The byte is one of those that the fetch reads in its first page, and its accessed flag is clear.
