@@ -8,7 +8,7 @@ ghost use Rattle.board.specs.Saved.{phase_number, selected_number, timer_number,
 ghost use Rattle.board.specs.Restored.{board_form, board_at, restored};
 
 use crate::devices::Board;
-use crate::restored::{has_form, controllers_at, settings_at, timer_at};
+use crate::restored::{controllers_at, has_form, settings_at, timer_at};
 use pic8259::{Chip, Phase as ChipPhase, Pics, Selected};
 use pit8254::{Phase as TimerPhase, Pit, Timer};
 use uart16550::{Settings, Uart};

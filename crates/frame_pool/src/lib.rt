@@ -7,9 +7,8 @@ ghost use Rattle.frame_pool.specs.Pool.{base_of, count_of, free_list, Stands, Is
 
 mod laws;
 
-pub use laws::writes_elsewhere_keep_the_pool;
-
 use guest_ram::{FRAME, Ram};
+pub use laws::writes_elsewhere_keep_the_pool;
 
 /// A part of a memory's frames, some of them free. The free ones' links lie in the memory, so each call is handed the
 /// memory as the pool left it. Frames are numbered from the memory's beginning, and have 4,096 bytes.
