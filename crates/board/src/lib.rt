@@ -14,5 +14,6 @@ mod script;
 pub use devices::{Board, PortRead};
 pub use fault::{ScriptCause, ScriptFault};
 pub use laws::steps_are_quiet;
+pub use read::number_upto;
 pub use reading::read_script;
 pub use script::{Event, Script};

@@ -13,8 +13,8 @@ use crate::script::Event;
 
 const MAX_STEP: u64 = 1 << 40;
 
-/// A decimal number up to a limit.
-fn number(word: &[u8], limit: u64) -> Option<u64>
+/// A decimal number up to a limit, leading zeros allowed. No digits say 0.
+pub fn number_upto(word: &[u8], limit: u64) -> Option<u64>
     requires { limit < 2 ^ 60 }
     ensures value { result ≡ number_upto limit word.now }
     ensures bound { IfSome result (λ n. n ≤ limit) }
@@ -96,7 +96,7 @@ fn read_words(step: &[u8], kind: &[u8], value: &[u8]) -> Result<(u64, Event), Sc
     } else {
         return Err(ScriptCause::NoForm);
     };
-    match (number(step, MAX_STEP), event) {
+    match (number_upto(step, MAX_STEP), event) {
         (Some(step), Some(event)) => Ok((step, event)),
         _ => Err(ScriptCause::BadNumber),
     }
@@ -106,7 +106,7 @@ fn read_line_number(value: &[u8]) -> Option<Event>
     ensures event { result ≡ option_map Line (free_line_of (number_upto 15 value.now)) }
     ensures fits { IfSome result (λ e. event_fits e ≡ true) }
 {
-    match number(value, 15) {
+    match number_upto(value, 15) {
         Some(n) => {
             if n >= 1 && n != 2 && n != 4 {
                 Some(Event::Line(n as u8))
