@@ -321,16 +321,76 @@ fn keeps_the_limits_of_sizes(rt: HostRuntime) -> Result<(), Fail> {
     Ok(())
 }
 
-#[test]
-fn keeps_the_limits_of_symbols_and_sites(rt: HostRuntime) -> Result<(), Fail> {
-    let alloc = rt.alloc();
-    let mut many = plain(alloc, &[], &[], 0)?;
-    for _ in 0..65_537 {
-        many.symbols
+/// An object with so many symbols.
+fn symbols(alloc: Global, count: u32) -> Result<Object, AllocError> {
+    let mut object = plain(alloc, &[], &[], 0)?;
+    for _ in 0..count {
+        object
+            .symbols
             .push(symbol(alloc, b"", DefinedIn::Text, 0, false)?)?;
     }
-    let many = vec![in alloc; many]?;
-    assert_eq!(rt; numbered(alloc, &many), Some((0, 35)));
+    Ok(object)
+}
+
+/// How many symbols or sites two objects have, and the refusal.
+type Counted = (u32, u32, Option<(u32, u8)>);
+
+const SYMBOLS: [Counted; 4] = [
+    (65_536, 0, None),
+    (65_537, 0, Some((0, 35))),
+    (65_535, 1, None),
+    (65_535, 2, Some((1, 35))),
+];
+
+#[test]
+fn keeps_the_limit_of_symbols(rt: HostRuntime) -> Result<(), Fail> {
+    let alloc = rt.alloc();
+    for row in &SYMBOLS {
+        let (first, second, want) = *row;
+        let objects = vec![in alloc; symbols(alloc, first)?, symbols(alloc, second)?]?;
+        assert_eq!(rt; made(alloc, &objects).is_some(), want.is_none());
+        assert_eq!(rt; numbered(alloc, &objects), want);
+    }
+    Ok(())
+}
+
+/// An object of so many CLIs, each with its NOPs.
+fn patched(alloc: Global, count: u32) -> Result<Object, AllocError> {
+    let mut object = plain(alloc, &[], &[], 0)?;
+    object.sites = Vec::from_slice(alloc, b"PVS1")?;
+    object.sites.extend_from_slice(&count.to_le_bytes())?;
+    for i in 0..count {
+        object.text.extend_from_slice(b"\xFA\x90\x90\x90\x90")?;
+        object
+            .sites
+            .extend_from_slice(&i.wrapping_mul(5).to_le_bytes())?;
+        object.sites.extend_from_slice(&[1, 1, 5, 0])?;
+    }
+    Ok(object)
+}
+
+const SITES_OF: [Counted; 4] = [
+    (262_144, 0, None),
+    (262_145, 0, Some((0, 36))),
+    (131_072, 131_072, None),
+    (131_072, 131_073, Some((1, 36))),
+];
+
+#[test]
+fn keeps_the_limit_of_sites(rt: HostRuntime) -> Result<(), Fail> {
+    let alloc = rt.alloc();
+    for row in &SITES_OF {
+        let (first, second, want) = *row;
+        let objects = vec![in alloc; patched(alloc, first)?, patched(alloc, second)?]?;
+        assert_eq!(rt; made(alloc, &objects).is_some(), want.is_none());
+        assert_eq!(rt; numbered(alloc, &objects), want);
+    }
+    Ok(())
+}
+
+#[test]
+fn refuses_a_site_past_its_text(rt: HostRuntime) -> Result<(), Fail> {
+    let alloc = rt.alloc();
     let mut past = defining(alloc, b"f", &[0xFA, 0x90, 0x90, 0x90])?;
     past.sites = Vec::from_slice(alloc, b"PVS1\x01\0\0\0\0\0\0\0\x01\x01\x05\0")?;
     let past = vec![in alloc; worked(alloc)?, past]?;

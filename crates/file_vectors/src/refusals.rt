@@ -43,6 +43,25 @@ fn a_branch_leads_from_the_first_instruction_to_the_last(rt: HostRuntime) -> Res
     Ok(())
 }
 
+/// How many zeros stand behind RDTSC, and the number of the answer.
+const ZEROS: [(usize, u32); 2] = [(16_777_214, 65), (16_777_215, 62)];
+
+#[test]
+fn a_text_has_at_most_sixteen_megabytes(rt: HostRuntime) -> Result<(), Fail> {
+    let alloc = rt.alloc();
+    for row in &ZEROS {
+        let (zeros, number) = *row;
+        let mut text = Vec::from_slice(alloc, &[0x0F, 0x31])?;
+        text.extend_from_slice(&vec![in alloc; 0; zeros]?)?;
+        assert_eq!(rt;
+            answer(alloc, image(&text, &NO_SITES))?,
+            (number, 0),
+            "over {zeros} zeros"
+        );
+    }
+    Ok(())
+}
+
 const CLI_FIRST: [u8; 16] = [0x50, 0x56, 0x53, 0x31, 1, 0, 0, 0, 0, 0, 0, 0, 1, 1, 5, 0];
 
 const LIDT_FIRST: [u8; 16] = [0x50, 0x56, 0x53, 0x31, 1, 0, 0, 0, 0, 0, 0, 0, 11, 7, 7, 0];

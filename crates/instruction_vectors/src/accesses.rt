@@ -250,6 +250,29 @@ static STRINGS: [Row; 8] = [
     ("rep lodsb", &[0xf3, 0xac], SOURCE_1, None),
 ];
 
+/// What concerns flags alone; and instructions of the system, of which registers tell no access, not even of an
+/// operand or the stack (profile).
+static NOTHING: [Row; 18] = [
+    ("clc", &[0xf8], None, None),
+    ("stc", &[0xf9], None, None),
+    ("cld", &[0xfc], None, None),
+    ("std", &[0xfd], None, None),
+    ("cli", &[0xfa], None, None),
+    ("sti", &[0xfb], None, None),
+    ("hlt", &[0xf4], None, None),
+    ("popl %ds", &[0x1f], None, None),
+    ("iret", &[0xcf], None, None),
+    ("inb %dx,%al", &[0xec], None, None),
+    ("outb %al,$0x20", &[0xe6, 0x20], None, None),
+    ("lgdt (%ebx)", &[0x0f, 0x01, 0x13], None, None),
+    ("lidt (%ebx)", &[0x0f, 0x01, 0x1b], None, None),
+    ("ltr (%ebx)", &[0x0f, 0x00, 0x1b], None, None),
+    ("invlpg (%ebx)", &[0x0f, 0x01, 0x3b], None, None),
+    ("movl (%ebx),%ds", &[0x8e, 0x1b], None, None),
+    ("movl %cr0,%eax", &[0x0f, 0x20, 0xc0], None, None),
+    ("movl %eax,%cr3", &[0x0f, 0x22, 0xd8], None, None),
+];
+
 fn accesses(bytes: &[u8], regs: &Regs) -> Option<Ranges> {
     match decode(bytes) {
         Decoded::Insn(insn, _) => Some(ranges(&insn, regs)),
@@ -284,6 +307,11 @@ fn the_stack_is_accessed(rt: HostRuntime) {
 #[test]
 fn strings_are_accessed(rt: HostRuntime) {
     all_are_accessed(&rt, &STRINGS);
+}
+
+#[test]
+fn flags_and_the_system_access_nothing(rt: HostRuntime) {
+    all_are_accessed(&rt, &NOTHING);
 }
 
 /// A string instruction that repeats does nothing more where ECX is 0.

@@ -37,6 +37,19 @@ fn holds(alloc: Global, files: &mut MemFiles, name: &str) -> bool {
     files.load(alloc, name, &mut bytes).is_ok()
 }
 
+/// The status of a list of words over a sink of which one call fails, and that sink.
+fn told(
+    alloc: Global,
+    files: &mut MemFiles,
+    all: &[&str],
+    call: u64,
+) -> Result<(Status, MemSink), AllocError> {
+    let mut out = MemSink::new(alloc, 4096, only(alloc, call)?)?;
+    let words = words(alloc, all)?;
+    let status = top(alloc, &words, files, &mut out, &mut Machine::new());
+    Ok((status, out))
+}
+
 /// The words, the calls of the files that they make and the number of that which fails, and the status. Nothing is printed.
 type Failing = (Words, u64, u64, u8);
 
@@ -66,9 +79,10 @@ fn a_load_or_store_that_fails_is_the_last_call(rt: HostRuntime) -> Result<(), Fa
         let mut files = held(alloc)?;
         let before = files.calls;
         files.fail = only(alloc, before.wrapping_add(failing))?;
-        let (answered, out) = answer(alloc, &mut files, all)?;
+        let (answered, out) = told(alloc, &mut files, all, 0)?;
         assert_eq!(rt; answered.number(), status);
-        assert_eq!(rt; out.bytes().len(), 0);
+        // Any put would fail, one of no byte too.
+        assert_eq!(rt; out.faults(), 0);
         assert_eq!(rt; files.calls, before.wrapping_add(made));
         // No name is new, and the names that are held can be read.
         assert!(rt; !holds(alloc, &mut files, "P"));
@@ -102,26 +116,16 @@ fn nothing_is_loaded_behind_a_refusal_or_a_missing_name(rt: HostRuntime) -> Resu
         let (all, status, made) = *row;
         let mut files = held(alloc)?;
         let before = files.calls;
-        let (answered, _) = answer(alloc, &mut files, all)?;
+        // A refusal is one put, and any other would fail; where a name is missing, any would.
+        let (missing, lines) = if status == 5 { (1, 0) } else { (0, 1) };
+        let (answered, out) = told(alloc, &mut files, all, lines)?;
         assert_eq!(rt; answered.number(), status);
+        assert_eq!(rt; out.faults(), 0);
         assert_eq!(rt; files.calls, before.wrapping_add(made));
-        assert_eq!(rt; files.load_faults, if status == 5 { 1 } else { 0 });
+        assert_eq!(rt; files.load_faults, missing);
         assert!(rt; !holds(alloc, &mut files, "P"));
     }
     Ok(())
-}
-
-/// The status of a list of words over a sink of which one call fails, and that sink.
-fn told(
-    alloc: Global,
-    files: &mut MemFiles,
-    all: &[&str],
-    call: u64,
-) -> Result<(Status, MemSink), AllocError> {
-    let mut out = MemSink::new(alloc, 4096, only(alloc, call)?)?;
-    let words = words(alloc, all)?;
-    let status = top(alloc, &words, files, &mut out, &mut Machine::new());
-    Ok((status, out))
 }
 
 /// The words, the call of the sink that fails, the status, and what the sink took.
@@ -180,9 +184,46 @@ fn each_line_is_one_put_and_its_fault_is_told(rt: HostRuntime) -> Result<(), Fai
         let (answered, out) = told(alloc, &mut files, all, call)?;
         assert_eq!(rt; out.bytes(), taken);
         assert_eq!(rt; answered.number(), status);
+        assert_eq!(rt; out.faults(), if status == 6 { 1 } else { 0 });
     }
     // What was made is stored before its line is put; what is refused is not.
     assert!(rt; holds(alloc, &mut files, "P"));
+    assert!(rt; !holds(alloc, &mut files, "Q"));
+    Ok(())
+}
+
+/// The words of what is refused, and its line.
+const REFUSED: [(Words, &[u8]); 5] = [
+    (&["burn", "X", "Q"], b"refused 20 line 1\n"),
+    (&["link", "Q", "X"], b"refused 40 object 0 at 1094795585\n"),
+    (
+        &["link", "Q", "O", "X"],
+        b"refused 40 object 1 at 1094795585\n",
+    ),
+    (&["link", "Q", "P", "P"], b"refused 31 object 1 name f\n"),
+    (
+        &["run", "--bare", "X", "B", "2048", "8"],
+        b"refused 40 at 1094795585\n",
+    ),
+];
+
+#[test]
+fn a_refusal_is_one_put(rt: HostRuntime) -> Result<(), Fail> {
+    let alloc = rt.alloc();
+    let mut files = held(alloc)?;
+    files.store("T", b".globl f\nf: nop\n")?;
+    answer(alloc, &mut files, &["burn", "T", "P"])?;
+    for row in &REFUSED {
+        let (all, line) = *row;
+        let (answered, out) = told(alloc, &mut files, all, 0)?;
+        assert_eq!(rt; answered.number(), 6);
+        assert_eq!(rt; out.bytes().len(), 0);
+        // A second put would fail.
+        let (answered, out) = told(alloc, &mut files, all, 1)?;
+        assert_eq!(rt; answered.number(), 3);
+        assert_eq!(rt; out.faults(), 0);
+        assert_eq!(rt; out.bytes(), line);
+    }
     assert!(rt; !holds(alloc, &mut files, "Q"));
     Ok(())
 }
@@ -289,9 +330,9 @@ fn words_of_no_form_are_refused(rt: HostRuntime) -> Result<(), Fail> {
     for words in &NO_FORM {
         let mut files = held(alloc)?;
         let before = files.calls;
-        let (status, out) = answer(alloc, &mut files, *words)?;
+        let (status, out) = told(alloc, &mut files, *words, 0)?;
         assert_eq!(rt; status.number(), 2);
-        assert_eq!(rt; out.bytes().len(), 0);
+        assert_eq!(rt; out.faults(), 0);
         assert_eq!(rt; files.calls, before);
     }
     Ok(())
