@@ -11,7 +11,7 @@ use Rattle.ia32_types.specs.declared.insn.Operand.{Operand}
 use Rattle.ia32_types.specs.declared.insn.Operand.TheVariants.{Absent, Register, Memory, Segment, Control}
 use Rattle.ia32_types.specs.Flags.{carry_at, direction_at}
 use Rattle.ia32_exec.specs.declared.outcome.Outcome.{Outcome}
-use Rattle.ia32_exec.specs.Operands.{stored, kept_in}
+use Rattle.ia32_exec.specs.Operands.{to_destination, kept_in}
 use Rattle.ia32_exec.specs.Registers.{with_register, with_whole, eip_past}
 use Rattle.ia32_exec.specs.Arithmetic.{arithmetic, tested, shifted, upper, with_halves, multiplied, product_to, signed_by, signed_multiplied, multiplied_by, shared, divided}
 use Rattle.ia32_exec.specs.Moves.{moved, moved_with_zeros, moved_with_sign, loaded_address, exchanged, widened, sign_spread}
@@ -33,12 +33,12 @@ with_register_eip Byte n v r = either_eip (nat_lt n 4) _ _ r.eip refl refl
 with_register_eip Word n v r = refl
 with_register_eip Long n v r = refl
 
-stored_eip : (o : Operand) (s : Size) (v : ℕ) (r : Regs) → (stored o s v r).0.eip ≡ r.eip
-stored_eip (Register n) s v r = with_register_eip s n v r
-stored_eip Absent s v r = refl
-stored_eip (Memory a) s v r = refl
-stored_eip (Segment g) s v r = refl
-stored_eip (Control n) s v r = refl
+destination_eip : (o : Operand) (s : Size) (v : ℕ) (r : Regs) → (to_destination o s v r).0.eip ≡ r.eip
+destination_eip (Register n) s v r = with_register_eip s n v r
+destination_eip Absent s v r = refl
+destination_eip (Memory a) s v r = refl
+destination_eip (Segment g) s v r = refl
+destination_eip (Control n) s v r = refl
 
 kept_in_eip : (o : Operand) (s : Size) (v : ℕ) (r : Regs) → (kept_in o s v r).eip ≡ r.eip
 kept_in_eip (Register n) s v r = with_register_eip s n v r
@@ -59,7 +59,7 @@ module _ (o : Op) (i : Insn) (len : ℕ) (r : Regs) (b : ℕ → ℕ) where
 
   arithmetic_leads : Leads o i len r (arithmetic i len r b)
   unfolding arithmetic
-  arithmetic_leads = inl (stored_eip i.a i.size _ _)
+  arithmetic_leads = inl (destination_eip i.a i.size _ _)
 
   tested_leads : Leads o i len r (tested i len r b)
   unfolding tested
@@ -67,7 +67,7 @@ module _ (o : Op) (i : Insn) (len : ℕ) (r : Regs) (b : ℕ → ℕ) where
 
   shifted_leads : Leads o i len r (shifted i len r b)
   unfolding shifted
-  shifted_leads = inl (stored_eip i.a i.size _ _)
+  shifted_leads = inl (destination_eip i.a i.size _ _)
 
   product_to_leads : (x y : ℕ) → Leads o i len r (product_to i x y len r)
   unfolding product_to
@@ -75,7 +75,7 @@ module _ (o : Op) (i : Insn) (len : ℕ) (r : Regs) (b : ℕ → ℕ) where
 
   moved_leads : Leads o i len r (moved i len r b)
   unfolding moved
-  moved_leads = inl (stored_eip i.a i.size _ _)
+  moved_leads = inl (destination_eip i.a i.size _ _)
 
   moved_with_zeros_leads : Leads o i len r (moved_with_zeros i len r b)
   unfolding moved_with_zeros
@@ -91,7 +91,7 @@ module _ (o : Op) (i : Insn) (len : ℕ) (r : Regs) (b : ℕ → ℕ) where
 
   exchanged_leads : Leads o i len r (exchanged i len r b)
   unfolding exchanged
-  exchanged_leads = inl (kept_in_eip i.b i.size _ _ ∙ stored_eip i.a i.size _ (eip_past len r))
+  exchanged_leads = inl (kept_in_eip i.b i.size _ _ ∙ destination_eip i.a i.size _ (eip_past len r))
 
   pushed_leads : Leads o i len r (pushed i len r b)
   unfolding pushed pushed_number
@@ -99,7 +99,7 @@ module _ (o : Op) (i : Insn) (len : ℕ) (r : Regs) (b : ℕ → ℕ) where
 
   popped_leads : Leads o i len r (popped i len r b)
   unfolding popped
-  popped_leads = inl (stored_eip i.a Long _ _)
+  popped_leads = inl (destination_eip i.a Long _ _)
 
   all_pushed_leads : Leads o i len r (all_pushed len r)
   unfolding all_pushed
@@ -123,7 +123,7 @@ module _ (o : Op) (i : Insn) (len : ℕ) (r : Regs) (b : ℕ → ℕ) where
 
   set_by_leads : Leads o i len r (set_by i len r)
   unfolding set_by
-  set_by_leads = inl (stored_eip i.a Byte _ _)
+  set_by_leads = inl (destination_eip i.a Byte _ _)
 
   flags_pushed_leads : Leads o i len r (flags_pushed len r)
   unfolding flags_pushed pushed_number

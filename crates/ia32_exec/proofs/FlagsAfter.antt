@@ -25,7 +25,7 @@ use Rattle.ia32_exec.specs.declared.outcome.Stores.{Stores}
 use Rattle.ia32_exec.specs.declared.outcome.Stores.TheVariants.{Nothing}
 use Rattle.ia32_exec.specs.declared.selectors.Selectors.{Selectors}
 use Rattle.ia32_exec.specs.Registers.{register_value, with_register, with_whole, eip_past}
-use Rattle.ia32_exec.specs.Operands.{value_of, stored, kept_in, done}
+use Rattle.ia32_exec.specs.Operands.{value_of, to_destination, kept_in, done}
 use Rattle.ia32_exec.specs.Arithmetic.{flagged, computed, count_of, arithmetic, tested, shifted, with_halves, upper, multiplied, signed_by, signed_multiplied, product_to, multiplied_by, shared, divided}
 use Rattle.ia32_exec.specs.Moves.{moved, moved_with_zeros, moved_with_sign, loaded_address, exchanged, widened, sign_spread}
 use Rattle.ia32_exec.specs.Stack.{is_foreign, taken, top_of_stack, esp_above, pushed, pushed_number, popped, all_pushed, all_popped, frame_left, called, flags_pushed, flags_popped}
@@ -137,12 +137,12 @@ apart_register Byte n v r = apart_choice (nat_lt n 4) r _ _ (record { flags = re
 apart_register Word n v r = record { flags = refl }
 apart_register Long n v r = record { flags = refl }
 
-apart_stored : (o : Operand) (s : Size) (v : ℕ) (r : Regs) → IsApart r (stored o s v r).0
-apart_stored Absent s v r = apart_same r
-apart_stored (Register n) s v r = apart_register s n v r
-apart_stored (Memory a) s v r = apart_same r
-apart_stored (Segment g) s v r = apart_same r
-apart_stored (Control n) s v r = apart_same r
+apart_destination : (o : Operand) (s : Size) (v : ℕ) (r : Regs) → IsApart r (to_destination o s v r).0
+apart_destination Absent s v r = apart_same r
+apart_destination (Register n) s v r = apart_register s n v r
+apart_destination (Memory a) s v r = apart_same r
+apart_destination (Segment g) s v r = apart_same r
+apart_destination (Control n) s v r = apart_same r
 
 apart_kept : (o : Operand) (s : Size) (v : ℕ) (r : Regs) → IsApart r (kept_in o s v r)
 apart_kept Absent s v r = apart_same r
@@ -166,7 +166,7 @@ module _ (i : Insn) (len : ℕ) (r : Regs) where
 
   of_arithmetic : (b : ℕ → ℕ) → Leaves r (arithmetic i len r b)
   unfolding arithmetic
-  of_arithmetic b = next_with (computed i r b).1 _ (alu_kept i.op i.size _ _ r.flags) (apart_stored i.a i.size (computed i r b).0 (flagged len (computed i r b).1 r))
+  of_arithmetic b = next_with (computed i r b).1 _ (alu_kept i.op i.size _ _ r.flags) (apart_destination i.a i.size (computed i r b).0 (flagged len (computed i r b).1 r))
 
   of_tested : (b : ℕ → ℕ) → Leaves r (tested i len r b)
   unfolding tested
@@ -176,7 +176,7 @@ module _ (i : Insn) (len : ℕ) (r : Regs) where
   unfolding shifted
   of_shifted b =
       let o = shift i.op i.size (value_of i.a i.size r b) (count_of i.b i.imm r) r.flags in
-      next_with o.1 _ (shift_kept i.op i.size _ _ r.flags) (apart_stored i.a i.size o.0 (flagged len o.1 r))
+      next_with o.1 _ (shift_kept i.op i.size _ _ r.flags) (apart_destination i.a i.size o.0 (flagged len o.1 r))
 
   of_multiplied : (sign : Bool) (b : ℕ → ℕ) → Leaves r (multiplied sign i len r b)
   unfolding multiplied
@@ -205,8 +205,8 @@ module _ (i : Insn) (len : ℕ) (r : Regs) where
   unfolding divided
   of_divided sign b = of_shared i.size _
 
-  of_stored : (o : Operand) (s : Size) (v : ℕ) (n : Regs) → IsApart (eip_past len r) n → Leaves r (done (stored o s v n))
-  of_stored o s v n a = next _ (apart_on (eip_past len r) n _ a (apart_stored o s v n))
+  of_destination : (o : Operand) (s : Size) (v : ℕ) (n : Regs) → IsApart (eip_past len r) n → Leaves r (done (to_destination o s v n))
+  of_destination o s v n a = next _ (apart_on (eip_past len r) n _ a (apart_destination o s v n))
 
   of_kept : (o : Operand) (s : Size) (v : ℕ) (n : Regs) (ws : Stores) → IsApart (eip_past len r) n → Leaves r (Done (kept_in o s v n) ws)
   of_kept o s v n ws a = next _ (apart_on (eip_past len r) n _ a (apart_kept o s v n))
@@ -264,20 +264,20 @@ module _ (i : Insn) (len : ℕ) (r : Regs) where
   row_leaves ImulBy b = of_product _ _
   row_leaves Div b = of_divided false b
   row_leaves Idiv b = of_divided true b
-  row_leaves Mov b = of_stored i.a i.size _ (eip_past len r) (apart_same _)
+  row_leaves Mov b = of_destination i.a i.size _ (eip_past len r) (apart_same _)
   row_leaves Movzx b = of_kept i.a Long _ (eip_past len r) Nothing (apart_same _)
   row_leaves Movsx b = of_kept i.a Long _ (eip_past len r) Nothing (apart_same _)
   row_leaves Lea b = of_kept i.a Long _ (eip_past len r) Nothing (apart_same _)
-  row_leaves Xchg b = of_kept i.b i.size _ _ Nothing (apart_stored i.a i.size _ (eip_past len r))
+  row_leaves Xchg b = of_kept i.b i.size _ _ Nothing (apart_destination i.a i.size _ (eip_past len r))
   row_leaves Push b = kept_same r.flags
-  row_leaves Pop b = of_stored i.a Long _ _ (record { flags = refl })
+  row_leaves Pop b = of_destination i.a Long _ _ (record { flags = refl })
   row_leaves Pusha b = kept_same r.flags
   row_leaves Popa b = kept_same r.flags
   row_leaves Cwde b = next _ (apart_register Long 0 _ (eip_past len r))
   row_leaves Cdq b = next _ (apart_register Long 2 _ (eip_past len r))
   row_leaves Leave b = kept_same r.flags
   row_leaves Nop b = next _ (apart_same _)
-  row_leaves Setcc b = of_stored i.a Byte _ (eip_past len r) (apart_same _)
+  row_leaves Setcc b = of_destination i.a Byte _ (eip_past len r) (apart_same _)
   row_leaves Movs b = of_over (is_over i r) _ (turn Movs i.size r b).1 Nothing (of_counted i.rep _ (turn Movs i.size r b).1 (record { flags = refl }))
   row_leaves Stos b = of_over (is_over i r) _ (turn Stos i.size r b).1 Nothing (of_counted i.rep _ (turn Stos i.size r b).1 (record { flags = refl }))
   row_leaves Lods b = of_over (is_over i r) _ Nothing Nothing (of_counted i.rep _ Nothing (turned_lods _))

@@ -25,7 +25,7 @@ use Rattle.ia32_exec.specs.declared.selectors.Selectors.{Selectors}
 use Rattle.ia32_exec.specs.Memory.{number_at, store}
 use Rattle.ia32_exec.specs.Registers.{register_value, with_register, with_whole, address_of, eip_past}
 use Rattle.ia32_exec.specs.Ranges.{operand_range, AreAll, Covers}
-use Rattle.ia32_exec.specs.Operands.{value_of, source_of, stored, kept_in, done}
+use Rattle.ia32_exec.specs.Operands.{value_of, source_of, to_destination, kept_in, done}
 use Rattle.ia32_exec.specs.Arithmetic.{flagged, count_of, arithmetic, tested, shifted, with_halves, upper, multiplied, signed_by, signed_multiplied, product_to, multiplied_by, shared, divided}
 use Rattle.ia32_exec.specs.Moves.{loaded_address, moved, moved_with_zeros, moved_with_sign, exchanged}
 use Rattle.ia32_exec.specs.Stack.{stack_of, esp_below, esp_above, slot_of, is_foreign, taken, pushed, pushed_number, popped, all_popped, frame_left, flags_popped}
@@ -86,7 +86,7 @@ module _ (b c : ℕ → ℕ) where
   arithmetic_same : (i : Insn) (len : ℕ) (r : Regs) → Covers Same (operand_range i.b i.size r) → Covers Same (operand_range i.a i.size r) → arithmetic i len r b ≡ arithmetic i len r c
   unfolding arithmetic
   arithmetic_same i len r h k =
-      two (λ x y. done (stored i.a i.size (alu i.op i.size x y r.flags).0 (flagged len (alu i.op i.size x y r.flags).1 r))) _ _ _ _
+      two (λ x y. done (to_destination i.a i.size (alu i.op i.size x y r.flags).0 (flagged len (alu i.op i.size x y r.flags).1 r))) _ _ _ _
       (value_same i.a i.size r k) (source_same i.b i.imm i.size r h)
 
   tested_same : (i : Insn) (len : ℕ) (r : Regs) → Covers Same (operand_range i.a i.size r) × Covers Same (operand_range i.b i.size r) → tested i len r b ≡ tested i len r c
@@ -96,7 +96,7 @@ module _ (b c : ℕ → ℕ) where
   shifted_same : (i : Insn) (len : ℕ) (r : Regs) → Covers Same (operand_range i.a i.size r) → shifted i len r b ≡ shifted i len r c
   unfolding shifted
   shifted_same i len r h =
-      ap (λ x. done (stored i.a i.size (shift i.op i.size x (count_of i.b i.imm r) r.flags).0 (flagged len (shift i.op i.size x (count_of i.b i.imm r) r.flags).1 r))) (value_same i.a i.size r h)
+      ap (λ x. done (to_destination i.a i.size (shift i.op i.size x (count_of i.b i.imm r) r.flags).0 (flagged len (shift i.op i.size x (count_of i.b i.imm r) r.flags).1 r))) (value_same i.a i.size r h)
 
   multiplied_same : (sign : Bool) (i : Insn) (len : ℕ) (r : Regs) → Covers Same (operand_range i.a i.size r) → multiplied sign i len r b ≡ multiplied sign i len r c
   unfolding multiplied
@@ -169,14 +169,14 @@ module _ (b c : ℕ → ℕ) where
   row_same ImulBy i len r s h k = ap (λ x. product_to i x i.imm len r) (value_same i.b i.size r h)
   row_same Div i len r s h k = divided_same false i len r h
   row_same Idiv i len r s h k = divided_same true i len r h
-  row_same Mov i len r s h k = ap (λ x. done (stored i.a i.size x (eip_past len r))) (source_same i.b i.imm i.size r h)
+  row_same Mov i len r s h k = ap (λ x. done (to_destination i.a i.size x (eip_past len r))) (source_same i.b i.imm i.size r h)
   row_same Movzx i len r s h k = ap (λ x. Done (kept_in i.a Long x (eip_past len r)) Nothing) (value_same i.b i.size r h)
   row_same Movsx i len r s h k = ap (λ x. Done (kept_in i.a Long (sign_extended 32 i.size x) (eip_past len r)) Nothing) (value_same i.b i.size r h)
   row_same Lea i len r s h k = refl
   row_same Xchg i len r s h k =
-      two (λ x y. Done (kept_in i.b i.size x (stored i.a i.size y (eip_past len r)).0) (stored i.a i.size y (eip_past len r)).1) _ _ _ _ (value_same i.a i.size r k) (value_same i.b i.size r h)
+      two (λ x y. Done (kept_in i.b i.size x (to_destination i.a i.size y (eip_past len r)).0) (to_destination i.a i.size y (eip_past len r)).1) _ _ _ _ (value_same i.a i.size r k) (value_same i.b i.size r h)
   row_same Push i len r s h k = ap (λ x. pushed_number x (eip_past len r)) (source_same i.a i.imm Long r h)
-  row_same Pop i len r s h k = ap (λ x. done (stored i.a Long x (eip_past len (with_whole 4 (esp_above 4 r) r)))) (number_same Long (stack_of r) h)
+  row_same Pop i len r s h k = ap (λ x. done (to_destination i.a Long x (eip_past len (with_whole 4 (esp_above 4 r) r)))) (number_same Long (stack_of r) h)
   row_same Pusha i len r s h k = refl
   row_same Popa i len r s h k = all_popped_same len r h
   row_same Cwde i len r s h k = refl

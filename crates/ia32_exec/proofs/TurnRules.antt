@@ -17,7 +17,7 @@ use Rattle.ia32_exec.specs.declared.outcome.Outcome.TheVariants.{Done}
 use Rattle.ia32_exec.specs.Memory.{number_at, store}
 use Rattle.ia32_exec.specs.Commit.{list_of, longs_to}
 use Rattle.ia32_exec.specs.Effect.{effect, row}
-use Rattle.ia32_exec.specs.Operands.{source_of, stored, done}
+use Rattle.ia32_exec.specs.Operands.{source_of, to_destination, done}
 use Rattle.ia32_exec.specs.Registers.{register_value, with_register, with_whole, eip_past}
 use Rattle.ia32_exec.specs.Stack.{pushed, pushed_number, popped, esp_below, esp_above, all_pushed, all_popped}
 use Rattle.ia32_exec.specs.Strings.{IsString, turn, counted, string}
@@ -115,7 +115,7 @@ unfolding popped with_register
 landed pop n l v p g read =
     let up : Regs = eip_past l (with_whole 4 (esp_above 4 p.regs) p.regs) in
     let x : ℕ = number_at p.bytes Long (slice_index p.regs.r 4) in
-    ap (λ a. (committed (done (stored a Long x up)) p).regs) g ∙ ap (λ y. with_register Long n y up) read
+    ap (λ a. (committed (done (to_destination a Long x up)) p).regs) g ∙ ap (λ y. with_register Long n y up) read
 
 ended : (l n v k : ℕ) (r : Regs) (at : ℕ) →
     slice_set (slice_set r.r 4 at) 4 ((slice_index (slice_set r.r 4 at) 4 + 4) % 2 ^ 32) ≡ r.r →

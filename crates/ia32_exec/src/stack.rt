@@ -7,7 +7,7 @@ ghost use Rattle.ia32_types.specs.Shape.{IsNamed};
 ghost use Rattle.ia32_exec.specs.Stack.{stack_of, esp_below, esp_above, pushed_number, pushed, top_of_stack, slot_of, popped, all_pushed, all_popped, frame_left, called, flags_pushed, is_foreign, taken, flags_popped};
 
 use crate::memory::LinearBytes;
-use crate::operands::{source_of, stored};
+use crate::operands::{source_of, to_destination};
 use crate::outcome::{Outcome, Store, Stores};
 use crate::registers::{eip_past, with_whole};
 use ia32_types::{Flags, Insn, Regs, Size, Stop};
@@ -66,7 +66,12 @@ pub fn popped<M: LinearBytes>(insn: &Insn, len: u8, regs: &Regs, mem: &M) -> Out
 {
     let value = top_of_stack(regs, mem);
     let risen = with_whole(4, esp_above(4, regs), *regs);
-    let (after, stores) = stored(insn.a, Size::Long, value, eip_past(u32::from(len), risen));
+    let (after, stores) = to_destination(
+        insn.a,
+        Size::Long,
+        value,
+        eip_past(u32::from(len), risen),
+    );
     Outcome::Done(after, stores)
 }
 
