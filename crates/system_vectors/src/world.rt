@@ -249,7 +249,7 @@ fn begin<'g, B: Kept>(
         frames,
         cr3: cpu.cr3,
         pse: cpu.pse(),
-        wp: cpu.cr0 / 65536 % 2 == 1,
+        wp: cpu.wp(),
     };
     StepState::new(control, guard)
 }
