@@ -1,7 +1,8 @@
 -- What is kept for other values of CR3, call after call.
 use Rattle.std.proofs.Common.{◌≡◌, ℕ, List, [], ◌∷◌, ◌++◌, Bool, true, false, not, ◌||◌, ◌&&◌, cond, eqb, Option, Some, None, refl, sym, ap, ◌∙◌}
+use Rattle.std.specs.List.{list_any}
 use Rattle.shadow_tables.specs.Slots.{Slot, is_among, barred}
-use Rattle.shadow_tables.specs.Aside.{Aside, IsSame, LosesWritesTo, AreSame, LoseWrites, any_of, spared, all_spared}
+use Rattle.shadow_tables.specs.Aside.{Aside, IsSame, LosesWritesTo, AreSame, LoseWrites, spared, all_spared}
 
 -- ---- the same
 
@@ -25,7 +26,7 @@ same-trans (x ∷ xs) (y ∷ ys) (z ∷ zs) h k = (is-trans x y z h.0 k.0, same-
 
 -- ---- rights to write that were lost
 
-and-true : (b : Bool) → (b && true) ≡ b
+pub and-true : (b : Bool) → (b && true) ≡ b
 and-true true = refl
 and-true false = refl
 
@@ -45,7 +46,7 @@ among-append f (g ∷ fs) gs = ap (λ b. eqb f g || b) (among-append f fs gs) �
 with-writes : Slot → Bool → Option Slot
 with-writes slot b = Some (record slot { writes = b })
 
-barred-none : (o : Option Slot) → barred [] o ≡ o
+pub barred-none : (o : Option Slot) → barred [] o ≡ o
 unfolding with-writes
 barred-none None = refl
 barred-none (Some slot) = ap (with-writes slot) (and-true slot.writes)
@@ -108,9 +109,9 @@ spared-same frame [] (y ∷ ys) h = absurd h
 spared-same frame (x ∷ xs) [] h = absurd h
 spared-same frame (x ∷ xs) (y ∷ ys) h = same-by (not (x.tables frame)) (not (y.tables frame)) x y (spared frame xs) (spared frame ys) (ap not (h.0.tables frame)) h.0 (spared-same frame xs ys h.1)
 
-pub any-same : (s t : ℕ → Bool) (frames : List ℕ) → ((f : ℕ) → t f ≡ s f) → any_of t frames ≡ any_of s frames
+pub any-same : (s t : ℕ → Bool) (frames : List ℕ) → ((f : ℕ) → t f ≡ s f) → list_any t frames ≡ list_any s frames
 any-same s t [] h = refl
-any-same s t (f ∷ fs) h = ap (λ b. b || any_of t fs) (h f) ∙ ap (λ b. s f || b) (any-same s t fs h)
+any-same s t (f ∷ fs) h = ap (λ b. b || list_any t fs) (h f) ∙ ap (λ b. s f || b) (any-same s t fs h)
 
 lose-by : (fs : List ℕ) (b c : Bool) (x y : Aside) (xs ys : List Aside) → c ≡ b → LosesWritesTo fs x y → LoseWrites fs xs ys → LoseWrites fs (cond b (x ∷ xs) xs) (cond c (y ∷ ys) ys)
 lose-by fs true true x y xs ys e h k = (h, k)
@@ -123,11 +124,11 @@ spared-lose fs frames [] [] h = tt
 spared-lose fs frames [] (y ∷ ys) h = absurd h
 spared-lose fs frames (x ∷ xs) [] h = absurd h
 spared-lose fs frames (x ∷ xs) (y ∷ ys) h =
-    lose-by fs (not (any_of x.tables frames)) (not (any_of y.tables frames)) x y (all_spared frames xs) (all_spared frames ys) (ap not (any-same x.tables y.tables frames h.0.tables)) h.0 (spared-lose fs frames xs ys h.1)
+    lose-by fs (not (list_any x.tables frames)) (not (list_any y.tables frames)) x y (all_spared frames xs) (all_spared frames ys) (ap not (any-same x.tables y.tables frames h.0.tables)) h.0 (spared-lose fs frames xs ys h.1)
 
-pub any-append : (test : ℕ → Bool) (fs gs : List ℕ) → any_of test (fs ++ gs) ≡ (any_of test fs || any_of test gs)
+pub any-append : (test : ℕ → Bool) (fs gs : List ℕ) → list_any test (fs ++ gs) ≡ (list_any test fs || list_any test gs)
 any-append test [] gs = refl
-any-append test (f ∷ fs) gs = ap (λ b. test f || b) (any-append test fs gs) ∙ or-assoc (test f) (any_of test fs) (any_of test gs)
+any-append test (f ∷ fs) gs = ap (λ b. test f || b) (any-append test fs gs) ∙ or-assoc (test f) (list_any test fs) (list_any test gs)
 
 pub none-written : (xs : List Aside) → all_spared [] xs ≡ xs
 none-written [] = refl
@@ -145,5 +146,5 @@ twice-by frame false false true x xs ys e h k = absurd cc
 pub spared-more : (frames : List ℕ) (frame : ℕ) (xs : List Aside) → spared frame (all_spared frames xs) ≡ all_spared (frames ++ frame ∷ []) xs
 spared-more frames frame [] = refl
 spared-more frames frame (x ∷ xs) =
-    twice-by frame (any_of x.tables frames) (x.tables frame) (any_of x.tables (frames ++ frame ∷ [])) x (all_spared frames xs) (all_spared (frames ++ frame ∷ []) xs) refl
+    twice-by frame (list_any x.tables frames) (x.tables frame) (list_any x.tables (frames ++ frame ∷ [])) x (all_spared frames xs) (all_spared (frames ++ frame ∷ []) xs) refl
     (any-append x.tables frames (frame ∷ [])) (spared-more frames frame xs)

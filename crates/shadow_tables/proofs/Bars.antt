@@ -6,6 +6,7 @@ use Rattle.frame_pool.proofs.Held.{Writes-refl, Writes-trans, Holds-writes}
 use Rattle.shadow_views.specs.Tables.{dir, at, owned, IsIn, Puts}
 use Rattle.shadow_views.proofs.Changes.{at-none}
 use Rattle.shadow_tables.specs.Opened.{KeepsTables}
+use Rattle.shadow_tables.proofs.Asides.{and-true}
 use Rattle.shadow_tables.proofs.Tabled.{keeps-trans, puts-keep}
 use Rattle.shadow_tables.specs.Slots.{Slot, barred, barred_word, slot_of, by_words, roots, held, slot_at, IsMarked, IsShadow, Becomes}
 use Rattle.paging.specs.Fresh.{has}
@@ -92,10 +93,6 @@ made-parts side page a b c d e g = cc
 
 bit-same : (v w n : ℕ) → v ≡ w → eqb (v % n) 1 ≡ eqb (w % n) 1
 bit-same v w n e = ap (λ x. eqb (x % n) 1) e
-
-and-true : (a : Bool) → (a && true) ≡ a
-and-true true = refl
-and-true false = refl
 
 less-writes : (frame w : ℕ) → w / 4096 ≡ frame → w / 2 % 2 ≡ 1 → has (w - 2) 2 ≡ (has w 2 && not (eqb (w / 4096) frame || false))
 less-writes frame w e h =

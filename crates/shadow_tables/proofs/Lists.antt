@@ -10,6 +10,7 @@ use Rattle.shadow_tables.specs.declared.words.Side.{Side}
 use Rattle.shadow_tables.specs.declared.words.Side.TheVariants.{Kernel, User}
 use Rattle.shadow_tables.specs.declared.calls.Call.{Call}
 use Rattle.shadow_tables.specs.declared.calls.Call.TheVariants.{Fill, DropPage, DropDir, DropAll, Note, Written}
+use Rattle.shadow_tables.proofs.Asides.{barred-none}
 
 -- ---- a list up to a place
 
@@ -282,17 +283,9 @@ both-first : (a b : Bool) → (a && b) ≡ true → a ≡ true
 both-first true b e = refl
 both-first false b e = e
 
-and-true : (a : Bool) → (a && true) ≡ a
-and-true true = refl
-and-true false = refl
-
 barred-within : (tracked : List ℕ) (o : Option Slot) → IsWithin (barred tracked o) o
 barred-within tracked None = tt
 barred-within tracked (Some slot) = (refl, refl, refl, both-first slot.writes (not (is_among slot.entry.frame tracked)))
-
-barred-none : (o : Option Slot) → barred [] o ≡ o
-barred-none None = refl
-barred-none (Some slot) = ap (λ w. Some (record slot { writes = w })) (and-true slot.writes)
 
 pub note-within : (f f' : ℕ → Option Slot) (tracked : List ℕ) (page : ℕ) → LosesWrites f f' tracked → page < 2 ^ 20 → IsWithin (f' page) (f page)
 note-within f f' tracked page t l = subst (λ x. IsWithin x (f page)) (sym (t page l)) (barred-within tracked (f page))

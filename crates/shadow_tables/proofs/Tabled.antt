@@ -21,11 +21,11 @@ keeps-trans s m m1 m2 a b = λ side index l ne. b side index l (a side index l n
 pub puts-keep : (s : Shadow) (m m' : List ℕ) (r page v : ℕ) → Puts m m' (roots s) r page v → KeepsTables s m m'
 puts-keep s m m' r page v a = λ side index l ne z. ne (sym (a.dirs (root_of s side) index (in-root s side) l) ∙ z)
 
-named : (w v : ℕ) → w ≢ 0 → (v ≡ w) ⊎ (v % 4096 ≡ 7) → v ≢ 0
-named w v ne h = λ z. elim h [ inl e ↦ ne (sym e ∙ z) | inr e ↦ absurd (omega (arith, e, z)) ]
+named-still : (w v : ℕ) → w ≢ 0 → (v ≡ w) ⊎ (v % 4096 ≡ 7) → v ≢ 0
+named-still w v ne h = λ z. elim h [ inl e ↦ ne (sym e ∙ z) | inr e ↦ absurd (omega (arith, e, z)) ]
 
 pub opens-keep : (s : Shadow) (p p' : Pool) (m m' : List ℕ) (r d : ℕ) → Opens p p' m m' (roots s) r d → KeepsTables s m m'
-opens-keep s p p' m m' r d a = λ side index l ne. named (dir m (root_of s side) index) (dir m' (root_of s side) index) ne (a.dirs (root_of s side) index (in-root s side) l)
+opens-keep s p p' m m' r d a = λ side index l ne. named-still (dir m (root_of s side) index) (dir m' (root_of s side) index) ne (a.dirs (root_of s side) index (in-root s side) l)
 
 -- where a table is there, nothing is to be done for it
 pub opens-there : (p p' : Pool) (m m' : List ℕ) (rs : List ℕ) (r d : ℕ) → Owns p m (owned m rs) → dir m r d ≢ 0 → p' ≡ p → m' ≡ m → Opens p p' m m' rs r d

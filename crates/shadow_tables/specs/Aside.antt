@@ -1,5 +1,7 @@
 -- What is kept beside the present tables, for values of CR3 that may be loaded again.
-use Rattle.std.specs.Prelude.{◌≡◌, ℕ, ◌^◌, ◌<◌, ◌||◌, not, Bool, true, false, Option, Some, List, [], ◌∷◌, filter}
+use Rattle.std.specs.Prelude.{◌≡◌, ℕ, ◌^◌, ◌<◌, not, Bool, true, false, Option, Some, List, [], ◌∷◌, filter}
+pub use Rattle.std.specs.List.{list_any as any_of}
+use Rattle.std.specs.List.{list_any}
 use Rattle.shadow_tables.specs.Slots.{Slot, is_among, SameSlots, LosesWrites}
 
 -- A value of CR3 that isn't the present one: the frames from which the guest's tables were read under it, and what is
@@ -35,18 +37,13 @@ LoseWrites frames [] (new ∷ news) = ⊥
 LoseWrites frames (old ∷ olds) [] = ⊥
 LoseWrites frames (old ∷ olds) (new ∷ news) = LosesWritesTo frames old new × LoseWrites frames olds news
 
--- the test is true of one of these frames
-abbrev pub any_of : (ℕ → Bool) → List ℕ → Bool
-any_of test [] = false
-any_of test (frame ∷ frames) = test frame || any_of test frames
-
 -- those whose tables weren't read from the frame: a write there leaves them
 abbrev pub spared : ℕ → List Aside → List Aside
 spared frame asides = filter (λ a. not (a.tables frame)) asides
 
 -- those whose tables were read from none of these frames
 abbrev pub all_spared : List ℕ → List Aside → List Aside
-all_spared frames asides = filter (λ a. not (any_of a.tables frames)) asides
+all_spared frames asides = filter (λ a. not (list_any a.tables frames)) asides
 
 -- what is kept for a page is of that page, with a frame of memory
 abbrev pub AllFit : List Aside → Type 0

@@ -205,11 +205,11 @@ ne-is x y ne = elim (eqb_tells x y) [ inl t ↦ absurd (ne t.1) | inr f ↦ f.0 
 eq-told : (x y : ℕ) → eqb x y ≡ true → x ≡ y
 eq-told x y h = elim (eqb_tells x y) [ inl t ↦ t.1 | inr f ↦ absurd (let e = f.0 in cc) ]
 
-turned : (x y : ℕ) → eqb x y ≡ eqb y x
-turned x y = elim (eqb_tells x y) [ inl t ↦ t.0 ∙ sym (eq-is y x (sym t.1)) | inr f ↦ f.0 ∙ sym (ne-is y x (λ e. f.1 (sym e))) ]
+eqb-turned : (x y : ℕ) → eqb x y ≡ eqb y x
+eqb-turned x y = elim (eqb_tells x y) [ inl t ↦ t.0 ∙ sym (eq-is y x (sym t.1)) | inr f ↦ f.0 ∙ sym (ne-is y x (λ e. f.1 (sym e))) ]
 
 equal : IsEquivalence eqb
-equal = record { refl = λ x. eq-is x x refl; symm = turned; congr = λ x y z h. ap (λ (v : ℕ). eqb v z) (eq-told x y h) }
+equal = record { refl = λ x. eq-is x x refl; symm = eqb-turned; congr = λ x y z h. ap (λ (v : ℕ). eqb v z) (eq-told x y h) }
 
 member-or : (x : ℕ) (xs : List ℕ) (q : ℕ) → is_member eqb (x ∷ xs) q ≡ true → (q ≡ x) ⊎ (is_member eqb xs q ≡ true)
 member-or x xs q = by (eqb q x) refl
