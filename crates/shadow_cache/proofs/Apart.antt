@@ -3,6 +3,7 @@ use Rattle.std.proofs.Common.{◌≡◌, ℕ, zero, suc, ◌≤◌, List, [], �
 use Rattle.std.proofs.lemmas.Bool.Decides.{eqb_tells}
 use Rattle.shadow_cache.specs.Past.{Past, unmarked, of_value, but_value, with_front, after_switch}
 use Rattle.shadow_cache.specs.Away.{has_value, AreApart}
+use Rattle.shadow_cache.proofs.Small.{same-some, none-some}
 
 pub or-false : (a b : Bool) → a ≡ false → b ≡ false → (a || b) ≡ false
 or-false true b e f = e
@@ -15,12 +16,6 @@ first-false false b e = refl
 pub rest-false : (a b : Bool) → (a || b) ≡ false → b ≡ false
 rest-false true b e = cc
 rest-false false b e = e
-
-same-past : (a b : Past) → Some a ≡ Some b → a ≡ b
-same-past a b e = cc
-
-none-past : (a : Past) → None ≡ Some a → ⊥
-none-past a e = cc
 
 some-past : (a : Past) → Some a ≡ None → ⊥
 some-past a e = cc
@@ -43,10 +38,10 @@ none-of v (p ∷ ps) e =
     ∙ none-of v ps (rest-false (eqb p.value v) (has_value v ps) e)
 
 pub of-is : (v : ℕ) (ps : List Past) (q : Past) → of_value v ps ≡ Some q → q.value ≡ v
-of-is v [] q e = absurd (none-past q e)
+of-is v [] q e = absurd (none-some q e)
 of-is v (p ∷ ps) q e =
     elim (eqb_tells p.value v) [
-      | inl t ↦ ap (λ (x : Past). x.value) (sym (same-past p q (sym (ap (λ b. cond b (Some p) (of_value v ps)) t.0) ∙ e))) ∙ t.1
+      | inl t ↦ ap (λ (x : Past). x.value) (sym (same-some p q (sym (ap (λ b. cond b (Some p) (of_value v ps)) t.0) ∙ e))) ∙ t.1
       | inr t ↦ of-is v ps q (sym (ap (λ b. cond b (Some p) (of_value v ps)) t.0) ∙ e)
     ]
 
@@ -140,7 +135,7 @@ take-few (suc n) [] = omega arith
 take-few (suc n) (p ∷ ps) = let e = take-few n ps in omega (arith, e)
 
 but-few : (v : ℕ) (ps : List Past) (q : Past) → of_value v ps ≡ Some q → suc (length (but_value v ps)) ≡ length ps
-but-few v [] q e = absurd (none-past q e)
+but-few v [] q e = absurd (none-some q e)
 but-few v (p ∷ ps) q e =
     elim (eqb_tells p.value v) [
       | inl t ↦ ap (λ b. suc (length (cond b ps (p ∷ but_value v ps)))) t.0

@@ -11,6 +11,8 @@ use Rattle.shadow_cache.specs.declared.call_lists.RootsCall.TheVariants.{Shared,
 use Rattle.shadow_cache.proofs.Since.{pairs-more, pairs-join, calls-cons, calls-none}
 use Rattle.shadow_cache.proofs.Tabled.{all-but-other}
 use Rattle.shadow_cache.proofs.Apart.{or-false, first-false, rest-false, of-none, of-is, filter-none, filter-apart, but-apart, but-gone}
+use Rattle.std.proofs.lemmas.Bool.{false≢true}
+use Rattle.shadow_cache.proofs.Whole.{marked-value}
 
 -- ---- the pairs before it
 
@@ -38,11 +40,8 @@ but-short v (w ∷ ws) m =
           let r = but-short v ws (sym (ap (λ b. b || is_among v ws) t.0) ∙ m) in omega (arith, e, r)
     ]
 
-false-true : false ≡ true → ⊥
-false-true e = cc
-
 value-other : (q : Past) (v : ℕ) → eqb q.value v ≡ false → (q.value ≡ v → ⊥)
-value-other q v e s = elim (eqb_tells q.value v) [ inl t ↦ false-true (sym e ∙ t.0) | inr t ↦ t.1 s ]
+value-other q v e s = elim (eqb_tells q.value v) [ inl t ↦ false≢true (sym e ∙ t.0) | inr t ↦ t.1 s ]
 
 fronts-but : (p : Past) (v : ℕ) (vs : List ℕ) (qs : List Past) → has_value v qs ≡ false → Fronts p vs qs → Fronts p (all_but v vs) qs
 fronts-but p v vs [] e f = tt
@@ -232,10 +231,6 @@ instead p vs ps w q e =
       apart = (ap (λ x. has_value x w.more) e ∙ w.apart.0, w.apart.1);
       fronts = (ap (λ x. is_among x vs) e ∙ w.fronts.0, ap (λ x. eqb x p.value) e ∙ w.fronts.1, w.fronts.2);
     }
-
-marked-value : (b : Bool) (frame : ℕ) (q : Past) → (cond b (record q { tables = all_but frame q.tables; marked = true }) q).value ≡ q.value
-marked-value true frame q = refl
-marked-value false frame q = refl
 
 written-away : (p : Past) (vs : List ℕ) (n frame : ℕ) (ps : List Past) → is_among frame p.tables ≡ false → Away p vs ps → Away p vs (after_shared n (Written frame) ps)
 written-away p vs n frame ps l w =

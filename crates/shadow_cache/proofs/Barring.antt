@@ -8,7 +8,7 @@ use Rattle.shadow_cache.specs.declared.pair.Pair.{Pair}
 use Rattle.shadow_tables.specs.Opened.{KeepsTables}
 use Rattle.shadow_cache.specs.Laws.{keeps-same, frames-cons, times-frames, kept-same, kept-shadows, kept-frames}
 use Rattle.shadow_tables.specs.Laws.Views.{held-stays, slot_at-stays, IsShadow-stays}
-use Rattle.shadow_cache.proofs.Leaving.{same-some}
+use Rattle.shadow_cache.proofs.Small.{same-some}
 
 -- the first n have lost it, and the others are as they were
 abbrev pub FirstLose : ℕ → List Pair → (m m' : List ℕ) → ℕ → Type 0

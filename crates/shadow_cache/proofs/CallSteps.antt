@@ -9,7 +9,7 @@ use Rattle.shadow_tables.specs.declared.calls.Call.TheVariants.{Fill, DropPage, 
 use Rattle.shadow_cache.specs.Pairs.{no_tables, tables_of, frames_of}
 use Rattle.shadow_cache.specs.Others.{AreKept, AllLoseWrites, place_of}
 use Rattle.shadow_cache.specs.After.{written_in, noted_in, emptied}
-use Rattle.shadow_cache.specs.Switched.{staying, IsFresh, Opens, ComesBack, IsSwitched}
+use Rattle.shadow_cache.specs.Switched.{staying_pairs, IsFresh, Opens, ComesBack, IsSwitched}
 use Rattle.shadow_cache.specs.Past.{Past, begun, is_table, after_shared, unmarked, of_value, but_value, with_front, after_switch, pairs_after}
 use Rattle.shadow_cache.specs.Replayed.{IsFitCall, AreFitCalls}
 use Rattle.shadow_cache.specs.Agreeing.{last_of, IsSlot, AllAgree, Agree}
@@ -191,7 +191,7 @@ module _ (v : ℕ) (cs : List RootsCall) (value : ℕ) (m m' : List ℕ) where
   pub step-switch : (ps ps' : List Pair) → IsSwitched ps ps' m m' value → Agree v cs ps m → Agree v (cs ++ Switch value ∷ []) ps' m'
   step-switch ps ps' x a =
       subst (λ (xs : List Past). AllAgree v (cs ++ load ∷ []) xs ps' m') (sym (pairs-more v cs (Switch value)))
-      (comes (unmarked (pairs_after v cs)) (staying ps) ps' (place_of value (staying ps)) (all-unmarked v cs (pairs_after v cs) ps m a) refl x)
+      (comes (unmarked (pairs_after v cs)) (staying_pairs ps) ps' (place_of value (staying_pairs ps)) (all-unmarked v cs (pairs_after v cs) ps m a) refl x)
 
 -- ---- the first pair
 

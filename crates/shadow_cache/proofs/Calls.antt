@@ -10,8 +10,9 @@ use Rattle.shadow_cache.specs.Others.{AreKept}
 use Rattle.shadow_cache.specs.declared.pair.Pair.{Pair}
 use Rattle.shadow_cache.specs.Laws.{frames-cons, kept-shadows, kept-barred, tables-any}
 use Rattle.shadow_cache.proofs.Leaving.{none-frames}
-use Rattle.shadow_cache.proofs.Present.{none-some, present-owns, move-roots, move-moves}
+use Rattle.shadow_cache.proofs.Present.{present-owns, move-roots, move-moves}
 use Rattle.shadow_cache.proofs.Beside.{bars-fewer, all-fewer, tables-part, few-filter, sized-filter, barred-filter, unmarked-filter, any-filter, none-reads, or-less, or-right, reads-set, reads-there, no-reads, no-length, beside-shadow, beside-held, beside-slots, beside-tables, beside-moves, beside-owns, beside-roots}
+use Rattle.shadow_cache.proofs.Small.{clash, both-less, none-some, length-set}
 
 -- ---- the same views
 
@@ -43,9 +44,6 @@ bars-empty test p m e = λ page slot l q t. absurd (none-some slot (sym (e.none 
 
 unread : (p : Pair) (x : ℕ) → any_reads (emptied p ∷ []) x ≡ false
 unread p x = ap (λ b. b || false) (no-reads x)
-
-clash : (b : Bool) → b ≡ false → b ≡ true → ⊥
-clash b e f = cc
 
 module _ (pool pool1 pool2 : Pool) (p : Pair) (ps ps' : List Pair) (m m1 m2 : List ℕ) (h : IsRoots (p ∷ ps) m) (o : Owns pool m (frames_of (p ∷ ps) m)) (none : ps' ≡ [])
     (v : Moves pool pool1 m m1 (frames_of ps m) []) where
@@ -106,11 +104,6 @@ spoilt-shadow : (b : Bool) (p : Pair) (frame : ℕ) → (spoilt b p frame).shado
 spoilt-shadow true p frame = refl
 spoilt-shadow false p frame = refl
 
-length-set : (bits : List Bool) (i : ℕ) (v : Bool) → length (slice_set bits i v) ≡ length bits
-length-set [] i v = refl
-length-set (b ∷ bs) zero v = refl
-length-set (b ∷ bs) (suc i) v = ap suc (length-set bs i v)
-
 spoilt-size : (b : Bool) (p : Pair) (frame : ℕ) → length (spoilt b p frame).tables ≡ length p.tables
 spoilt-size true p frame = length-set p.tables frame false
 spoilt-size false p frame = refl
@@ -130,10 +123,6 @@ spoilt-there true p frame e = reads-there p.tables frame false (read-there p.tab
 
 abbrev pub unspoilt : ℕ → List Pair → List Pair
 unspoilt frame ps = filter (λ q. not (reads q frame)) ps
-
-both-less : (a b c d : Bool) → (a ≡ true → c ≡ true) → (b ≡ true → d ≡ true) → (a || b) ≡ true → (c || d) ≡ true
-both-less true b c d f g e = ap (λ x. x || d) (f refl)
-both-less false b c d f g e = or-right c d (g e)
 
 module _ (pool pool1 : Pool) (p p' : Pair) (ps ps' : List Pair) (m m1 : List ℕ) (frame : ℕ) (h : IsRoots (p ∷ ps) m) (o : Owns pool m (frames_of (p ∷ ps) m))
     (rest : ps' ≡ unspoilt frame ps) (kept : AreKept ps' m m1) (v : Moves pool pool1 m m1 (frames_of ps m) (frames_of ps' m1)) (q : p' ≡ spoilt (reads p frame) p frame) where

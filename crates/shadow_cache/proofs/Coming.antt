@@ -10,9 +10,10 @@ use Rattle.shadow_cache.specs.Others.{AreKept, one_later, place_of}
 use Rattle.shadow_cache.specs.Switched.{Opens, ComesBack, Comes, IsSwitched}
 use Rattle.shadow_cache.specs.declared.pair.Pair.{Pair}
 use Rattle.shadow_cache.specs.Laws.{frames-cons, times-frames, kept-same, kept-shadows, kept-frames, kept-barred}
-use Rattle.shadow_cache.proofs.Leaving.{kept-refl, kept-trans, same-some, times-remove, shadows-at, shadows-remove, any-at}
-use Rattle.shadow_cache.proofs.Present.{none-some}
+use Rattle.shadow_cache.proofs.Leaving.{kept-refl, kept-trans, times-remove, shadows-at, shadows-remove, any-at}
 use Rattle.shadow_cache.proofs.Beside.{all-fewer, or-less, or-right, no-reads, no-length}
+use Rattle.shadow_cache.proofs.Small.{none-some, same-some}
+use Rattle.std.proofs.lemmas.List.{append-nil}
 
 -- ---- some of the pairs
 
@@ -111,12 +112,8 @@ drop-all n [] l = drop-none n
 drop-all zero (p ∷ ps) l = absurd (omega (arith, l))
 drop-all (suc n) (p ∷ ps) l = drop-all n ps (omega (arith, l))
 
-append-none : (ps : List Pair) → ps ++ [] ≡ ps
-append-none [] = refl
-append-none (p ∷ ps) = ap (λ (qs : List Pair). p ∷ qs) (append-none ps)
-
 pub last-leaves : (ps : List Pair) → length ps ≤ 8 → remove ps 7 ≡ take 7 ps
-last-leaves ps l = ap (λ (qs : List Pair). take 7 ps ++ qs) (drop-all 8 ps l) ∙ append-none (take 7 ps)
+last-leaves ps l = ap (λ (qs : List Pair). take 7 ps ++ qs) (drop-all 8 ps l) ∙ append-nil (take 7 ps)
 
 pub none-leaves : (n : ℕ) (ps : List Pair) → length ps ≤ n → take n ps ≡ ps
 none-leaves n [] l = take-none n

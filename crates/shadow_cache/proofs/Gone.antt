@@ -11,12 +11,7 @@ use Rattle.shadow_cache.specs.declared.call_lists.RootsCall.TheVariants.{Shared,
 use Rattle.shadow_cache.proofs.Since.{pairs-more, pairs-join, calls-cons, calls-none}
 use Rattle.shadow_cache.proofs.Apart.{or-false, first-false, rest-false, none-of, of-is, filter-none, take-none, but-none}
 use Rattle.shadow_cache.proofs.Whole.{marked-value, pairs-apart, call-apart}
-
-same-past : (a b : Past) → Some a ≡ Some b → a ≡ b
-same-past a b e = cc
-
-none-past : (a : Past) → None ≡ Some a → ⊥
-none-past a e = cc
+use Rattle.shadow_cache.proofs.Small.{same-some}
 
 pub eqb-other : (a b : ℕ) → a ≢ b → eqb a b ≡ false
 eqb-other a b n = elim (eqb_tells a b) [ inl t ↦ absurd (n t.1) | inr t ↦ t.0 ]
@@ -46,7 +41,7 @@ first-was p q qs s w =
     elim (eqb_tells q.value p.value) [
       | inl t ↦ elim w [
         | inl e ↦ absurd (let x : true ≡ false = sym t.0 ∙ first-false (eqb q.value p.value) (has_value p.value qs) e in cc)
-        | inr e ↦ same-past q p (sym (ap (λ b. cond b (Some q) (of_value p.value qs)) t.0) ∙ e)
+        | inr e ↦ same-some q p (sym (ap (λ b. cond b (Some q) (of_value p.value qs)) t.0) ∙ e)
       ]
       | inr t ↦ absurd (t.1 s)
     ]

@@ -10,12 +10,10 @@ use Rattle.shadow_tables.specs.Slots.{held, IsShadow}
 use Rattle.shadow_cache.specs.Pairs.{reads, any_reads, frames_of, AreShadows}
 use Rattle.shadow_cache.specs.Others.{AreKept, one_later, place_of}
 use Rattle.shadow_cache.specs.declared.pair.Pair.{Pair}
-use Rattle.shadow_cache.specs.Laws.{times-frames, kept-same, kept-frames}
+use Rattle.shadow_cache.specs.Laws.{times-frames, kept-same, kept-frames, or-true}
+use Rattle.shadow_cache.proofs.Small.{same-some}
 
 -- ---- lists
-
-pub same-some : (p q : Pair) → Some p ≡ Some q → p ≡ q
-same-some p q e = cc
 
 pub times-remove : (f : ℕ) (ps : List Pair) (i : ℕ) (p : Pair) (m : List ℕ) → slice_get ps i ≡ Some p → times f (frames_of ps m) ≡ times f (held p.shadow m) + times f (frames_of (remove ps i) m)
 times-remove f [] i p m e = absurd cc
@@ -49,10 +47,6 @@ kept-remove [] zero m m' k = tt
 kept-remove [] (suc i) m m' k = tt
 kept-remove (q ∷ qs) zero m m' k = k.3
 kept-remove (q ∷ qs) (suc i) m m' k = (k.0, k.1, k.2, kept-remove qs i m m' k.3, k.4)
-
-or-true : (a : Bool) → (a || true) ≡ true
-or-true true = refl
-or-true false = refl
 
 -- ---- one leaves
 

@@ -1,3 +1,4 @@
+pub mod Small
 pub mod AloneRoots
 pub mod Keys
 pub mod Leaving

@@ -5,17 +5,12 @@ use Rattle.shadow_cache.specs.Pairs.{reads}
 use Rattle.shadow_cache.specs.After.{emptied, mark_of, noted_in, noted_of, value_of, written_in}
 use Rattle.shadow_cache.specs.declared.pair.Pair.{Pair}
 use Rattle.shadow_cache.proofs.Beside.{no-reads, reads-set, reads-there}
+use Rattle.shadow_cache.proofs.Small.{clash}
+use Rattle.shadow_cache.specs.Laws.{or-true}
 
-or-true : (b : Bool) → (b || true) ≡ true
-or-true true = refl
-or-true false = refl
-
-or-false : (b : Bool) → (b || false) ≡ b
-or-false true = refl
-or-false false = refl
-
-clash : (b : Bool) → b ≡ false → b ≡ true → ⊥
-clash b e f = cc
+or-none : (b : Bool) → (b || false) ≡ b
+or-none true = refl
+or-none false = refl
 
 set-exact : (bits : List Bool) (i f : ℕ) → i < length bits → get_or (slice_set bits i true) f false ≡ (get_or bits f false || eqb f i)
 set-exact bits i f l =
@@ -25,7 +20,7 @@ set-exact bits i f l =
           ∙ sym (ap (λ b. get_or bits f false || b) t.0 ∙ or-true (get_or bits f false))
       | inr t ↦
           elim (reads-set bits i f true) [
-            | inl s ↦ s ∙ sym (ap (λ b. get_or bits f false || b) t.0 ∙ or-false (get_or bits f false))
+            | inl s ↦ s ∙ sym (ap (λ b. get_or bits f false || b) t.0 ∙ or-none (get_or bits f false))
             | inr u ↦ absurd (t.1 u.0)
           ]
     ]
@@ -52,7 +47,7 @@ written-there p ps qs frame e h = there-by (reads p frame) p frame (sym (ap (λ 
 
 marked-by : (b : Bool) (p : Pair) (frame : ℕ) → (spoilt b p frame).marked ≡ (p.marked || b)
 marked-by true p frame = sym (or-true p.marked)
-marked-by false p frame = sym (or-false p.marked)
+marked-by false p frame = sym (or-none p.marked)
 
 pub written-marked : (p : Pair) (ps qs : List Pair) (frame : ℕ) → qs ≡ written_in (p ∷ ps) frame → mark_of qs ≡ (p.marked || reads p frame)
 written-marked p ps qs frame e = ap mark_of e ∙ marked-by (reads p frame) p frame

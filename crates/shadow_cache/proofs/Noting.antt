@@ -10,21 +10,19 @@ use Rattle.shadow_cache.specs.Pairs.{no_tables, any_reads, tables_of, frames_of,
 use Rattle.shadow_cache.specs.Others.{AreKept, AllLoseWrites}
 use Rattle.shadow_cache.specs.declared.pair.Pair.{Pair}
 use Rattle.shadow_tables.specs.Opened.{KeepsTables}
-use Rattle.shadow_cache.specs.Laws.{keeps-same, frames-cons, times-frames, kept-same, kept-shadows, tables-any}
+use Rattle.shadow_cache.specs.Laws.{keeps-same, frames-cons, times-frames, kept-same, kept-shadows, tables-any, or-true}
 use Rattle.shadow_cache.proofs.Leaving.{none-frames}
 use Rattle.shadow_cache.proofs.Barring.{rest-holds}
-use Rattle.shadow_cache.proofs.Present.{none-some, apart, write-frames, write-memory}
+use Rattle.shadow_cache.proofs.Present.{apart, write-frames, write-memory}
 use Rattle.shadow_cache.proofs.Beside.{reads-set, reads-there, no-length}
+use Rattle.shadow_cache.proofs.Small.{same-some, none-some, length-set}
+use Rattle.std.proofs.lemmas.List.{append-nil}
 
 -- ---- a new pair
 
-append-none : (fs : List ℕ) → fs ++ [] ≡ fs
-append-none [] = refl
-append-none (f ∷ fs) = ap (λ (gs : List ℕ). f ∷ gs) (append-none fs)
-
 pub alone-frames : (p : Pair) (ps : List Pair) (m : List ℕ) → ps ≡ [] → frames_of (p ∷ ps) m ≡ held p.shadow m
 alone-frames p ps m e =
-    ap (λ (qs : List Pair). frames_of (p ∷ qs) m) e ∙ frames-cons p [] m ∙ ap (λ (fs : List ℕ). held p.shadow m ++ fs) (none-frames m) ∙ append-none (held p.shadow m)
+    ap (λ (qs : List Pair). frames_of (p ∷ qs) m) e ∙ frames-cons p [] m ∙ ap (λ (fs : List ℕ). held p.shadow m ++ fs) (none-frames m) ∙ append-nil (held p.shadow m)
 
 pub fresh-roots : (p : Pair) (ps : List Pair) (m : List ℕ) → ps ≡ [] → IsEmpty p.shadow m → p.tables ≡ no_tables → IsRoots (p ∷ ps) m
 fresh-roots p ps m e f t =
@@ -54,13 +52,10 @@ clear false b e = refl
 abbrev Bars : (ℕ → Bool) → Option Slot → Type 0
 Bars test o = (slot : Slot) → o ≡ Some slot → test slot.entry.frame ≡ true → slot.writes ≡ false
 
-same-slot : (a b : Slot) → Some a ≡ Some b → a ≡ b
-same-slot a b e = cc
-
 bars-one : (t u : ℕ → Bool) (frame : ℕ) (o : Option Slot) → ((x : ℕ) → u x ≡ true → (x ≡ frame) ⊎ (t x ≡ true)) → Bars t o → Bars u (barred (one frame) o)
 bars-one t u frame None i b = λ slot e y. absurd (none-some slot e)
 bars-one t u frame (Some s) i b = λ slot e y.
-    let q = same-slot (record s { writes = s.writes && not (eqb s.entry.frame frame || false) }) slot e in
+    let q = same-some (record s { writes = s.writes && not (eqb s.entry.frame frame || false) }) slot e in
     let z : u s.entry.frame ≡ true = ap (λ (x : Slot). u x.entry.frame) q ∙ y in
     sym (ap (λ (x : Slot). x.writes) q) ∙ elim (i s.entry.frame z) [
       | inl same ↦ elim (eqb_tells s.entry.frame frame) [ inl k ↦ out s.writes (eqb s.entry.frame frame) k.0 | inr k ↦ absurd (k.1 same) ]
@@ -86,15 +81,6 @@ all-lose (p ∷ ps) m m1 m2 frame k l = (
 or-none : (c : Bool) → (c || false) ≡ c
 or-none true = refl
 or-none false = refl
-
-or-true : (a : Bool) → (a || true) ≡ true
-or-true true = refl
-or-true false = refl
-
-length-set : (bits : List Bool) (i : ℕ) (v : Bool) → length (slice_set bits i v) ≡ length bits
-length-set [] i v = refl
-length-set (b ∷ bs) zero v = refl
-length-set (b ∷ bs) (suc i) v = ap suc (length-set bs i v)
 
 -- the same right goes by all frames that are tracked then
 flags : (a b c : Bool) → (a ≡ true → b ≡ c) → (a && not (b || false)) ≡ (a && not c)

@@ -11,15 +11,7 @@ use Rattle.shadow_cache.proofs.Since.{pairs-more}
 use Rattle.shadow_cache.proofs.Apart.{or-false, first-false, rest-false, of-none, none-of, of-is, unmarked-apart, unmarked-few}
 use Rattle.shadow_cache.proofs.Whole.{marked-value, pairs-apart, pairs-few}
 use Rattle.shadow_cache.proofs.Gone.{eqb-other, filter-gone, front-gone, begins-by}
-
-same-past : (a b : Past) → Some a ≡ Some b → a ≡ b
-same-past a b e = cc
-
-none-past : (a : Past) → None ≡ Some a → ⊥
-none-past a e = cc
-
-false-true : (b : Bool) → b ≡ false → b ≡ true → ⊥
-false-true b e f = cc
+use Rattle.shadow_cache.proofs.Small.{same-some, none-some, clash}
 
 -- ---- the pair of a value
 
@@ -27,17 +19,17 @@ eqb-self : (v : ℕ) → eqb v v ≡ true
 eqb-self v = elim (eqb_tells v v) [ inl t ↦ t.0 | inr t ↦ absurd (t.1 refl) ]
 
 has-at : (qs : List Past) (i : ℕ) (p : Past) (v : ℕ) → slice_get qs i ≡ Some p → has_value v qs ≡ false → eqb p.value v ≡ false
-has-at [] i p v e h = absurd (none-past p e)
-has-at (q ∷ qs) zero p v e h = ap (λ (x : Past). eqb x.value v) (sym (same-past q p e)) ∙ first-false (eqb q.value v) (has_value v qs) h
+has-at [] i p v e h = absurd (none-some p e)
+has-at (q ∷ qs) zero p v e h = ap (λ (x : Past). eqb x.value v) (sym (same-some q p e)) ∙ first-false (eqb q.value v) (has_value v qs) h
 has-at (q ∷ qs) (suc i) p v e h = has-at qs i p v e (rest-false (eqb q.value v) (has_value v qs) h)
 
 eqb-swap : (a b : ℕ) → eqb a b ≡ false → eqb b a ≡ false
-eqb-swap a b e = eqb-other b a (λ s. (elim (eqb_tells a b) [ inl t ↦ false-true (eqb a b) e t.0 | inr t ↦ t.1 (sym s) ]))
+eqb-swap a b e = eqb-other b a (λ s. (elim (eqb_tells a b) [ inl t ↦ clash (eqb a b) e t.0 | inr t ↦ t.1 (sym s) ]))
 
 of-at : (qs : List Past) (i : ℕ) (p : Past) → slice_get qs i ≡ Some p → AreApart qs → of_value p.value qs ≡ Some p
-of-at [] i p e a = absurd (none-past p e)
+of-at [] i p e a = absurd (none-some p e)
 of-at (q ∷ qs) zero p e a =
-    let s = same-past q p e in
+    let s = same-some q p e in
     ap (λ b. cond b (Some q) (of_value p.value qs)) (ap (λ (x : Past). eqb x.value p.value) s ∙ eqb-self p.value) ∙ ap (λ x. Some x) s
 of-at (q ∷ qs) (suc i) p e a =
     ap (λ b. cond b (Some q) (of_value p.value qs)) (eqb-swap p.value q.value (has-at qs i p q.value e a.0)) ∙ of-at qs i p e a.1
@@ -63,10 +55,10 @@ of-but w v (p ∷ ps) n =
 -- ---- the last of those that stay
 
 of-some : (w : ℕ) (p q : Past) (ps : List Past) → eqb q.value w ≡ true → of_value w (q ∷ ps) ≡ Some p → q ≡ p
-of-some w p q ps t e = same-past q p (sym (ap (λ b. cond b (Some q) (of_value w ps)) t) ∙ e)
+of-some w p q ps t e = same-some q p (sym (ap (λ b. cond b (Some q) (of_value w ps)) t) ∙ e)
 
 short-none : (w : ℕ) (ps : List Past) (p : Past) → length ps ≤ 0 → of_value w ps ≡ Some p → ⊥
-short-none w [] p l e = none-past p e
+short-none w [] p l e = none-some p e
 short-none w (q ∷ ps) p l e = absurd (omega (arith, l))
 
 of-take : (n w : ℕ) (ps : List Past) (p : Past) → of_value w ps ≡ Some p → length ps ≤ suc n → is_of_value w (slice_get ps n) ≡ false → of_value w (take n ps) ≡ Some p
@@ -86,7 +78,7 @@ first-by None w q h n = cc
 first-by (Some x) w q h n =
     elim (eqb_tells x.value w) [
       | inl t ↦ ap (eqb q.value) (sym t.1) ∙ eqb-swap x.value q.value (n x refl)
-      | inr t ↦ absurd (false-true (eqb x.value w) t.0 h)
+      | inr t ↦ absurd (clash (eqb x.value w) t.0 h)
     ]
 
 first-other : (n w : ℕ) (q : Past) (ps : List Past) → has_value q.value ps ≡ false → is_of_value w (slice_get ps n) ≡ true → eqb q.value w ≡ false
@@ -121,16 +113,16 @@ both-false : (a b : Bool) → a ≡ false → (not a && b) ≡ b
 both-false true b e = cc
 both-false false b e = refl
 
-and-first : (a b : Bool) → (not a && b) ≡ true → a ≡ false
-and-first true b e = absurd (false-true false refl e)
-and-first false b e = refl
+and-not : (a b : Bool) → (not a && b) ≡ true → a ≡ false
+and-not true b e = absurd (clash false refl e)
+and-not false b e = refl
 
 module _ (v : ℕ) (p : Past) (ps : List Past) (a : AreApart ps) (few : length ps ≤ 8) (here : of_value p.value ps ≡ Some p) where
   goes-by : (o : Option Past) → of_value v ps ≡ o → (not (has_value v ps) && is_of_value p.value (slice_get ps 7)) ≡ true → p.value ≢ v → has_value p.value (with_front v ps o) ≡ false
   goes-by None e h n =
       or-false (eqb v p.value) (has_value p.value (take 7 ps)) (eqb-other v p.value (λ s. n (sym s)))
       (last-goes 7 p.value ps a (sym (both-false (has_value v ps) (is_of_value p.value (slice_get ps 7)) (of-none v ps e)) ∙ h))
-  goes-by (Some q) e h n = absurd (none-past q (sym (none-of v ps (and-first (has_value v ps) (is_of_value p.value (slice_get ps 7)) h)) ∙ e))
+  goes-by (Some q) e h n = absurd (none-some q (sym (none-of v ps (and-not (has_value v ps) (is_of_value p.value (slice_get ps 7)) h)) ∙ e))
 
   stays-by : (o : Option Past) → of_value v ps ≡ o → (not (has_value v ps) && is_of_value p.value (slice_get ps 7)) ≡ false → p.value ≢ v → of_value p.value (with_front v ps o) ≡ Some p
   stays-by None e h n =
@@ -147,7 +139,7 @@ module _ (v : ℕ) (p : Past) (ps : List Past) (a : AreApart ps) (few : length p
   load-goes : (not (has_value v ps) && is_of_value p.value (slice_get ps 7)) ≡ true → has_value p.value (after_switch v ps) ≡ false
   load-goes h =
       elim (eqb_tells p.value v) [
-        | inl t ↦ absurd (none-past p (sym (none-of v ps (and-first (has_value v ps) (is_of_value p.value (slice_get ps 7)) h)) ∙ its-own t.1))
+        | inl t ↦ absurd (none-some p (sym (none-of v ps (and-not (has_value v ps) (is_of_value p.value (slice_get ps 7)) h)) ∙ its-own t.1))
         | inr t ↦ goes-by (of_value v ps) refl h t.1
       ]
 
@@ -178,11 +170,11 @@ module _ (n : ℕ) (q : Past) (ps : List Past) (a : AreApart (q ∷ ps)) (few : 
   others-go (Switch v) h =
       let xs : List Past = unmarked (q ∷ ps) in let f = unmarked-few (q ∷ ps) in
       load-goes v p xs (unmarked-apart (q ∷ ps) a) (omega (arith, f, few)) (unmarked-of q.marked p.value p q ps other here) h
-  others-go (Shared (Fill side entry wp)) h = absurd (false-true false refl h)
-  others-go (Shared (DropPage page)) h = absurd (false-true false refl h)
-  others-go (Shared (DropDir index)) h = absurd (false-true false refl h)
+  others-go (Shared (Fill side entry wp)) h = absurd (clash false refl h)
+  others-go (Shared (DropPage page)) h = absurd (clash false refl h)
+  others-go (Shared (DropDir index)) h = absurd (clash false refl h)
   others-go (Shared DropAll) h = or-false (eqb q.value p.value) false other refl
-  others-go (Shared (Note frame)) h = absurd (false-true false refl h)
+  others-go (Shared (Note frame)) h = absurd (clash false refl h)
   others-go (Shared (Written frame)) h =
       let t : Past → Bool = λ x. not (is_among frame x.tables) in
       or-false (eqb (marked_at frame q).value p.value) (has_value p.value (filter t ps)) (marked-other frame) (filter-gone p t ps (ap not h) a.1 (inr here))
@@ -200,7 +192,7 @@ module _ (n : ℕ) (q : Past) (ps : List Past) (a : AreApart (q ∷ ps)) (few : 
   others-stay (Shared (Fill side entry wp)) h = changed _ refl
   others-stay (Shared (DropPage page)) h = changed _ refl
   others-stay (Shared (DropDir index)) h = changed _ refl
-  others-stay (Shared DropAll) h = absurd (false-true true h refl)
+  others-stay (Shared DropAll) h = absurd (clash true h refl)
   others-stay (Shared (Note frame)) h = changed _ refl
   others-stay (Shared (Written frame)) h =
       let t : Past → Bool = λ x. not (is_among frame x.tables) in

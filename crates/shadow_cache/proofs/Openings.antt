@@ -9,9 +9,9 @@ use Rattle.shadow_cache.specs.Pairs.{reads, frames_of}
 use Rattle.shadow_cache.specs.Opening.{AllOpenedOnly}
 use Rattle.shadow_cache.specs.Others.{AreKept, AllLoseWrites, place_of}
 use Rattle.shadow_cache.specs.After.{noted_in, written_in, emptied, OpensIn, KeepsIn}
-use Rattle.shadow_cache.specs.Switched.{IsFresh, staying, ComesBack, Opens, IsSwitched}
+use Rattle.shadow_cache.specs.Switched.{IsFresh, staying_pairs, ComesBack, Opens, IsSwitched}
 use Rattle.shadow_cache.specs.declared.pair.Pair.{Pair}
-use Rattle.shadow_cache.proofs.Leaving.{same-some}
+use Rattle.shadow_cache.proofs.Small.{same-some}
 
 no-longer : (xs ys : List ℕ) → xs ≡ ys → length xs ≤ length ys
 no-longer xs ys e = let f = ap (λ (l : List ℕ). length l) e in omega (arith, f)
@@ -65,7 +65,7 @@ emptied-opened indices p ps qs m' e two =
 
 -- ---- a load
 
-staying-opened : (indices : ℕ → Bool) (p : Pair) (ps : List Pair) (m : List ℕ) → AllOpenedOnly indices (p ∷ ps) m → AllOpenedOnly indices (staying (p ∷ ps)) m
+staying-opened : (indices : ℕ → Bool) (p : Pair) (ps : List Pair) (m : List ℕ) → AllOpenedOnly indices (p ∷ ps) m → AllOpenedOnly indices (staying_pairs (p ∷ ps)) m
 staying-opened indices p ps m h = by p.marked
   where
     by : (b : Bool) → AllOpenedOnly indices (cond b ps (p ∷ ps)) m
@@ -105,7 +105,7 @@ comes-opened indices ps qs m m' cr3 None c h = new-opened indices ps qs m m' cr3
 comes-opened indices ps qs m m' cr3 (Some i) c h = back-opened indices ps qs m m' i c h
 
 pub loaded-opened : (indices : ℕ → Bool) (p : Pair) (ps qs : List Pair) (m m' : List ℕ) (cr3 : ℕ) → IsSwitched (p ∷ ps) qs m m' cr3 → AllOpenedOnly indices (p ∷ ps) m → AllOpenedOnly indices qs m'
-loaded-opened indices p ps qs m m' cr3 c h = comes-opened indices (staying (p ∷ ps)) qs m m' cr3 (place_of cr3 (staying (p ∷ ps))) c (staying-opened indices p ps m h)
+loaded-opened indices p ps qs m m' cr3 c h = comes-opened indices (staying_pairs (p ∷ ps)) qs m m' cr3 (place_of cr3 (staying_pairs (p ∷ ps))) c (staying-opened indices p ps m h)
 
 pub start-opened : (indices : ℕ → Bool) (p : Pair) (ps : List Pair) (m : List ℕ) → ps ≡ [] → IsEmpty p.shadow m → AllOpenedOnly indices (p ∷ ps) m
 start-opened indices p ps m none h =

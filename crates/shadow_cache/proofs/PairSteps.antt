@@ -7,16 +7,16 @@ use Rattle.shadow_tables.specs.declared.words.Side.{Side}
 use Rattle.shadow_tables.specs.declared.words.Side.TheVariants.{Kernel, User}
 use Rattle.shadow_cache.specs.Pairs.{reads, any_reads}
 use Rattle.shadow_cache.specs.Others.{AreKept, AllLoseWrites, one_later, place_of}
-use Rattle.shadow_cache.specs.Switched.{staying, IsFresh}
+use Rattle.shadow_cache.specs.Switched.{staying_pairs, IsFresh}
 use Rattle.shadow_cache.specs.Past.{DirSlot, Past, begun, is_place, with_place, is_table, all_but, unmarked, of_value, but_value}
 use Rattle.shadow_cache.specs.Agreeing.{last_of, Agrees, AllAgree}
 use Rattle.shadow_cache.specs.declared.pair.Pair.{Pair}
 use Rattle.shadow_cache.specs.declared.call_lists.RootsCall.{RootsCall}
 use Rattle.shadow_cache.proofs.Beside.{reads-set, reads-there, no-reads}
 use Rattle.shadow_cache.proofs.Calls.{read-there}
-use Rattle.shadow_cache.proofs.Leaving.{same-some}
 use Rattle.shadow_cache.proofs.Tabled.{Fewer, OneMore, all-but-there, all-but-other}
 use Rattle.shadow_cache.proofs.SlotSteps.{slot-stays, slot-noted}
+use Rattle.shadow_cache.proofs.Small.{same-some, none-some, some-none, none-later, later-is, later-none}
 
 -- ---- pairs that keep what they kept, or lose a right to write
 
@@ -132,7 +132,7 @@ unmarked-by : (v : ℕ) (cs : List RootsCall) (b : Bool) (q : Past) (qs : List P
 unmarked-by v cs true q qs p ps m a = a.1
 unmarked-by v cs false q qs p ps m a = a
 
-pub all-unmarked : (v : ℕ) (cs : List RootsCall) (qs : List Past) (ps : List Pair) (m : List ℕ) → AllAgree v cs qs ps m → AllAgree v cs (unmarked qs) (staying ps) m
+pub all-unmarked : (v : ℕ) (cs : List RootsCall) (qs : List Past) (ps : List Pair) (m : List ℕ) → AllAgree v cs qs ps m → AllAgree v cs (unmarked qs) (staying_pairs ps) m
 all-unmarked v cs [] [] m a = tt
 all-unmarked v cs [] (p ∷ ps) m a = absurd a
 all-unmarked v cs (q ∷ qs) [] m a = absurd a
@@ -140,19 +140,6 @@ all-unmarked v cs (q ∷ qs) (p ∷ ps) m a =
     subst (λ b. AllAgree v cs (cond b qs (q ∷ qs)) (cond p.marked ps (p ∷ ps)) m) a.0.mark (unmarked-by v cs p.marked q qs p ps m a)
 
 -- ---- the pair of a value
-
-none-later : (o : Option ℕ) → one_later o ≡ None → o ≡ None
-none-later None e = refl
-none-later (Some i) e = cc
-
-some-none : (i : ℕ) → Some i ≡ None → ⊥
-some-none i e = cc
-
-none-some : (i : ℕ) → None ≡ Some i → ⊥
-none-some i e = cc
-
-same-place : (i j : ℕ) → Some i ≡ Some j → i ≡ j
-same-place i j e = cc
 
 pub value-none : (v : ℕ) (cs : List RootsCall) (value : ℕ) (qs : List Past) (ps : List Pair) (m : List ℕ) → AllAgree v cs qs ps m → place_of value ps ≡ None → of_value value qs ≡ None
 value-none v cs value [] [] m a e = refl
@@ -193,14 +180,6 @@ later-found v cs value q qs p x rest m t a f =
       others = subst (λ b. AllAgree v cs (cond b qs (q ∷ but_value value qs)) (p ∷ rest) m) (sym e) (a, f.others);
     }
 
-later-is : (o : Option ℕ) (i : ℕ) → one_later o ≡ Some (suc i) → o ≡ Some i
-later-is None i e = absurd (none-some (suc i) e)
-later-is (Some j) i e = (let s = same-place (suc j) (suc i) e in let t : j ≡ i = omega (arith, s) in ap (λ k. Some k) t)
-
-later-none : (o : Option ℕ) → one_later o ≡ Some 0 → ⊥
-later-none None e = none-some 0 e
-later-none (Some j) e = (let s = same-place (suc j) 0 e in absurd (omega (arith, s)))
-
 pub value-found : (v : ℕ) (cs : List RootsCall) (value : ℕ) (qs : List Past) (ps : List Pair) (i : ℕ) (x : Pair) (m : List ℕ) → AllAgree v cs qs ps m → place_of value ps ≡ Some i → slice_get ps i ≡ Some x → Found v cs value qs (remove ps i) x m
 value-found v cs value [] [] i x m a e g = absurd (none-some i e)
 value-found v cs value [] (p ∷ ps) i x m a e g = absurd a
@@ -212,7 +191,7 @@ value-found v cs value (q ∷ qs) (p ∷ ps) zero x m a e g =
     ]
 value-found v cs value (q ∷ qs) (p ∷ ps) (suc i) x m a e g =
     elim (eqb_tells p.cr3 value) [
-      | inl t ↦ absurd (let s = same-place 0 (suc i) (sym (ap (λ b. cond b (Some 0) (one_later (place_of value ps))) t.0) ∙ e) in omega (arith, s))
+      | inl t ↦ absurd (let s = same-some 0 (suc i) (sym (ap (λ b. cond b (Some 0) (one_later (place_of value ps))) t.0) ∙ e) in omega (arith, s))
       | inr t ↦
           later-found v cs value q qs p x (remove ps i) m t.0 a.0
           (value-found v cs value qs ps i x m a.1 (later-is (place_of value ps) i (sym (ap (λ b. cond b (Some 0) (one_later (place_of value ps))) t.0) ∙ e)) g)

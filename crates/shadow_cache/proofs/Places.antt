@@ -13,6 +13,7 @@ use Rattle.shadow_cache.specs.declared.call_lists.RootsCall.TheVariants.{Shared,
 use Rattle.shadow_cache.proofs.PairSteps.{side-is, index-is, and-first, and-second, or-cases}
 use Rattle.shadow_cache.proofs.Since.{pairs-are}
 use Rattle.shadow_cache.proofs.Whole.{calls-keep}
+use Rattle.shadow_cache.proofs.Small.{same-some, none-some}
 
 -- ---- one pair
 
@@ -105,17 +106,11 @@ unmarked-placed : (ps : List Past) → ArePlaced ps → ArePlaced (unmarked ps)
 unmarked-placed [] a = tt
 unmarked-placed (p ∷ ps) a = rest-placed p.marked p ps ps a.0 a.1 a.1
 
-same-past : (a b : Past) → Some a ≡ Some b → a ≡ b
-same-past a b e = cc
-
-none-past : (a : Past) → None ≡ Some a → ⊥
-none-past a e = cc
-
 of-placed : (v : ℕ) (ps : List Past) (q : Past) → of_value v ps ≡ Some q → ArePlaced ps → IsPlaced q
-of-placed v [] q e a = absurd (none-past q e)
+of-placed v [] q e a = absurd (none-some q e)
 of-placed v (p ∷ ps) q e a =
     elim (eqb_tells p.value v) [
-      | inl t ↦ subst IsPlaced (same-past p q (sym (ap (λ b. cond b (Some p) (of_value v ps)) t.0) ∙ e)) a.0
+      | inl t ↦ subst IsPlaced (same-some p q (sym (ap (λ b. cond b (Some p) (of_value v ps)) t.0) ∙ e)) a.0
       | inr t ↦ of-placed v ps q (sym (ap (λ b. cond b (Some p) (of_value v ps)) t.0) ∙ e) a.1
     ]
 

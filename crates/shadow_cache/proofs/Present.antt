@@ -11,15 +11,13 @@ use Rattle.shadow_cache.specs.Pairs.{any_reads, frames_of, BarsWrites, IsRoots}
 use Rattle.shadow_cache.specs.Others.{AreKept}
 use Rattle.shadow_cache.specs.declared.pair.Pair.{Pair}
 use Rattle.shadow_cache.specs.Laws.{frames-cons, kept-same, kept-shadows, kept-frames, kept-barred}
+use Rattle.shadow_cache.proofs.Small.{same-some, none-some}
 
 -- ---- rights to write
 
 pub bars-turned : (test : ℕ → Bool) (f f' : ℕ → Option Slot) (page : ℕ) → BarsWrites test f → ((q : ℕ) → q < 2 ^ 20 → (q ≡ page → ⊥) → f' q ≡ f q) → ((slot : Slot) → f' page ≡ Some slot → test slot.entry.frame ≡ true → slot.writes ≡ false) → BarsWrites test f'
 bars-turned test f f' page b others here = λ q slot l e t.
     elim (eqb_tells q page) [ inl x ↦ here slot (ap f' (sym x.1) ∙ e) t | inr x ↦ b q slot l (sym (others q l x.1) ∙ e) t ]
-
-pub none-some : (slot : Slot) → None ≡ Some slot → ⊥
-none-some slot e = cc
 
 pub bars-dropped : (test : ℕ → Bool) (f f' : ℕ → Option Slot) (page : ℕ) → BarsWrites test f → f' page ≡ None → ((q : ℕ) → q < 2 ^ 20 → (q ≡ page → ⊥) → f' q ≡ f q) → BarsWrites test f'
 bars-dropped test f f' page b none others = bars-turned test f f' page b others (λ slot e t. absurd (none-some slot (sym none ∙ e)))
@@ -28,9 +26,6 @@ pub bars-lost : (test : ℕ → Bool) (f f' : ℕ → Option Slot) (index : ℕ)
 bars-lost test f f' index b d = λ q slot l e t.
     elim (eqb_tells (q / 1024) index) [ inl x ↦ absurd (none-some slot (sym (d.gone q l x.1) ∙ e)) | inr x ↦ b q slot l (sym (d.others q l x.1) ∙ e) t ]
 
-same-slot : (a b : Slot) → Some a ≡ Some b → a ≡ b
-same-slot a b e = cc
-
 no-right : (b p : Bool) → b ≡ true → (not b && p) ≡ false
 no-right true p e = refl
 no-right false p e = cc
@@ -38,7 +33,7 @@ no-right false p e = cc
 pub bars-filled : (test : ℕ → Bool) (f f' : ℕ → Option Slot) (b : Bool) (side : Side) (entry : Entry) (wp : Bool) → b ≡ test entry.frame → BarsWrites test f → f' entry.page ≡ Some (filled b side entry wp) → ((q : ℕ) → q < 2 ^ 20 → (q ≡ entry.page → ⊥) → f' q ≡ f q) → BarsWrites test f'
 bars-filled test f f' b side entry wp same bars there others =
     bars-turned test f f' entry.page bars others (λ slot e t. (
-    let q = same-slot (filled b side entry wp) slot (sym there ∙ e) in
+    let q = same-some (filled b side entry wp) slot (sym there ∙ e) in
     let on : b ≡ true = same ∙ ap (λ (s : Slot). test s.entry.frame) q ∙ t in
     sym (ap (λ (s : Slot). s.writes) q) ∙ no-right b (permits side entry true wp) on))
 

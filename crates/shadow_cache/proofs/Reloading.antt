@@ -7,14 +7,14 @@ use Rattle.shadow_cache.specs.Pairs.{reads, any_reads, tables_of, AreUnmarked, O
 use Rattle.shadow_cache.specs.Others.{AreKept, one_later, place_of}
 use Rattle.shadow_cache.specs.After.{beside, mark_of, value_of}
 use Rattle.shadow_cache.specs.Asides.{aside_of, asides_of}
-use Rattle.shadow_cache.specs.Switched as switched
-use Rattle.shadow_cache.specs.Switched.{IsFresh, Opens, ComesBack, IsSwitched}
-use Rattle.shadow_cache.specs.Reloaded.{put_by, of_cr3, but_cr3, begun, or_begun, coming, beside_coming, staying}
+use Rattle.shadow_cache.specs.Switched.{IsFresh, staying_pairs, Opens, ComesBack, IsSwitched}
+use Rattle.shadow_cache.specs.Reloaded.{put_by, of_cr3, but_cr3, begun_aside, or_begun, coming, beside_coming, staying}
 use Rattle.shadow_cache.specs.Laws.{same-kept}
 use Rattle.shadow_cache.specs.declared.pair.Pair.{Pair}
 use Rattle.shadow_cache.proofs.Beside.{no-reads, tables-part, or-less, or-right}
 use Rattle.shadow_cache.proofs.Coming.{any-remove, unmarked-at}
-use Rattle.shadow_cache.proofs.Leaving.{same-some, any-at}
+use Rattle.shadow_cache.proofs.Leaving.{any-at}
+use Rattle.shadow_cache.proofs.Small.{same-some, none-some, some-none, none-later, later-is, later-none}
 
 -- ---- the present pair is put by
 
@@ -22,38 +22,17 @@ left-by : (b : Bool) (p : Pair) (ps : List Pair) (m : List ℕ) → cond b (asid
 left-by true p ps m = refl
 left-by false p ps m = refl
 
-pub left-is : (p : Pair) (ps : List Pair) (m : List ℕ) → put_by (Some p.cr3) p.marked (reads p) (slot_at p.shadow m) (asides_of ps m) ≡ asides_of (switched.staying (p ∷ ps)) m
+pub left-is : (p : Pair) (ps : List Pair) (m : List ℕ) → put_by (Some p.cr3) p.marked (reads p) (slot_at p.shadow m) (asides_of ps m) ≡ asides_of (staying_pairs (p ∷ ps)) m
 left-is p ps m = left-by p.marked p ps m
 
 unmarked-by : (b : Bool) (p : Pair) (ps : List Pair) → p.marked ≡ b → AreUnmarked ps → AreUnmarked (cond b ps (p ∷ ps))
 unmarked-by true p ps e h = h
 unmarked-by false p ps e h = (e, h)
 
-pub left-unmarked : (p : Pair) (ps : List Pair) → OthersUnmarked (p ∷ ps) → AreUnmarked (switched.staying (p ∷ ps))
+pub left-unmarked : (p : Pair) (ps : List Pair) → OthersUnmarked (p ∷ ps) → AreUnmarked (staying_pairs (p ∷ ps))
 left-unmarked p ps h = unmarked-by p.marked p ps refl h
 
 -- ---- the pair of a value
-
-none-later : (o : Option ℕ) → one_later o ≡ None → o ≡ None
-none-later None e = refl
-none-later (Some i) e = cc
-
-some-none : (i : ℕ) → Some i ≡ None → ⊥
-some-none i e = cc
-
-none-some : (i : ℕ) → None ≡ Some i → ⊥
-none-some i e = cc
-
-same-place : (i j : ℕ) → Some i ≡ Some j → i ≡ j
-same-place i j e = cc
-
-later-is : (o : Option ℕ) (i : ℕ) → one_later o ≡ Some (suc i) → o ≡ Some i
-later-is None i e = absurd (none-some (suc i) e)
-later-is (Some j) i e = (let s = same-place (suc j) (suc i) e in let t : j ≡ i = omega (arith, s) in ap (λ k. Some k) t)
-
-later-none : (o : Option ℕ) → one_later o ≡ Some 0 → ⊥
-later-none None e = none-some 0 e
-later-none (Some j) e = (let s = same-place (suc j) 0 e in absurd (omega (arith, s)))
 
 find-none : (cr3 : ℕ) (ps : List Pair) (m : List ℕ) → place_of cr3 ps ≡ None → of_cr3 cr3 (asides_of ps m) ≡ None
 find-none cr3 [] m e = refl
@@ -95,7 +74,7 @@ find-some cr3 (p ∷ ps) zero x m e h =
     ]
 find-some cr3 (p ∷ ps) (suc i) x m e h =
     elim (eqb_tells p.cr3 cr3) [
-      | inl t ↦ absurd (let s = same-place 0 (suc i) (sym (ap (λ b. cond b (Some 0) (one_later (place_of cr3 ps))) t.0) ∙ e) in omega (arith, s))
+      | inl t ↦ absurd (let s = same-some 0 (suc i) (sym (ap (λ b. cond b (Some 0) (one_later (place_of cr3 ps))) t.0) ∙ e) in omega (arith, s))
       | inr t ↦
           found-later cr3 p ps (remove ps i) x m t.0
           (find-some cr3 ps i x m (later-is (place_of cr3 ps) i (sym (ap (λ b. cond b (Some 0) (one_later (place_of cr3 ps))) t.0) ∙ e)) h)
@@ -104,7 +83,7 @@ find-some cr3 (p ∷ ps) (suc i) x m e h =
 -- ---- what comes and what stays
 
 abbrev pub first_aside : ℕ → List Pair → List ℕ → Aside
-first_aside cr3 [] m = begun cr3
+first_aside cr3 [] m = begun_aside cr3
 first_aside cr3 (p ∷ ps) m = record { cr3 = cr3; tables = reads p; slots = slot_at p.shadow m }
 
 pub record IsReloaded (cr3 : ℕ) (left : List Aside) (ps : List Pair) (m : List ℕ) : Type 0 where
@@ -151,7 +130,7 @@ pub reloaded : (cr3 : ℕ) (p : Pair) (ps qs : List Pair) (m m' : List ℕ) → 
     → IsReloaded cr3 (put_by (Some p.cr3) p.marked (reads p) (slot_at p.shadow m) (asides_of ps m)) qs m'
 reloaded cr3 p ps qs m m' u x =
     subst (λ (xs : List Aside). IsReloaded cr3 xs qs m') (sym (left-is p ps m))
-    (reloaded-by (place_of cr3 (switched.staying (p ∷ ps))) cr3 (switched.staying (p ∷ ps)) qs m m' refl (left-unmarked p ps u) x)
+    (reloaded-by (place_of cr3 (staying_pairs (p ∷ ps))) cr3 (staying_pairs (p ∷ ps)) qs m m' refl (left-unmarked p ps u) x)
 
 -- ---- no further frame is tracked
 
@@ -164,13 +143,13 @@ front-by : (b : Bool) (ps rest : List Pair) (x : Pair) (f : ℕ) → reads x f �
 front-by true ps rest x f r h k e = h r
 front-by false ps rest x f r h k e = k (sym (ap (λ b. b || any_reads rest f) r) ∙ e)
 
-unread : (x : Pair) (f : ℕ) → reads x f ≡ false → reads x f ≡ true → ⊥
-unread x f e h = cc
+not-read : (x : Pair) (f : ℕ) → reads x f ≡ false → reads x f ≡ true → ⊥
+not-read x f e h = cc
 
 fewer-by : (o : Option ℕ) (cr3 : ℕ) (ps qs : List Pair) (m m' : List ℕ) (f : ℕ) → MatchOption o (Opens ps qs m m' cr3) (λ i. ComesBack ps qs m m' i) → any_reads qs f ≡ true → any_reads ps f ≡ true
 fewer-by None cr3 ps qs m m' f x e =
     front-by (reads x.pair f) ps (take 7 ps) x.pair f refl
-    (λ h. absurd (unread x.pair f (ap (λ bits. get_or bits f false) x.fresh.tables ∙ no-reads f) h)) (any-take 7 ps f) (sym (ap (λ (xs : List Pair). any_reads xs f) x.front) ∙ e)
+    (λ h. absurd (not-read x.pair f (ap (λ bits. get_or bits f false) x.fresh.tables ∙ no-reads f) h)) (any-take 7 ps f) (sym (ap (λ (xs : List Pair). any_reads xs f) x.front) ∙ e)
 fewer-by (Some i) cr3 ps qs m m' f x e =
     front-by (reads x.pair f) ps (remove ps i) x.pair f refl (λ h. any-at ps i f x.pair x.here h) (any-remove ps i f) (sym (ap (λ (xs : List Pair). any_reads xs f) x.front) ∙ e)
 
@@ -180,4 +159,4 @@ staying-by false p ps f e = e
 
 pub reloaded-tracked : (cr3 : ℕ) (p : Pair) (ps qs : List Pair) (m m' : List ℕ) → IsSwitched (p ∷ ps) qs m m' cr3 → ArePart (tables_of qs) (tables_of (p ∷ ps))
 reloaded-tracked cr3 p ps qs m m' x =
-    tables-part (p ∷ ps) qs (λ f e. staying-by p.marked p ps f (fewer-by (place_of cr3 (switched.staying (p ∷ ps))) cr3 (switched.staying (p ∷ ps)) qs m m' f x e))
+    tables-part (p ∷ ps) qs (λ f e. staying-by p.marked p ps f (fewer-by (place_of cr3 (staying_pairs (p ∷ ps))) cr3 (staying_pairs (p ∷ ps)) qs m m' f x e))

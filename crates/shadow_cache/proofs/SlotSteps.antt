@@ -10,9 +10,8 @@ use Rattle.shadow_cache.specs.Agreeing.{Filling, filling_after, IsHeld, IsSlot}
 use Rattle.shadow_cache.specs.declared.call_lists.RootsCall.{RootsCall}
 use Rattle.shadow_cache.proofs.Since.{length-more, since-less, since-now, since-more, since-here}
 use Rattle.shadow_cache.proofs.Tabled.{Fewer, AsMany, OneMore}
-
-false-true : (b : Bool) → b ≡ false → b ≡ true → ⊥
-false-true b e f = cc
+use Rattle.shadow_cache.proofs.Small.{clash}
+use Rattle.shadow_cache.proofs.Apart.{or-false, first-false, rest-false}
 
 not-true : (b : Bool) → (b ≡ true → ⊥) → b ≡ false
 not-true true h = absurd (h refl)
@@ -30,7 +29,7 @@ slot-stays v cs c (Some f) o o' w e h =
       early = omega (arith, l, early);
       free = λ b.
           let n = h.free b in
-          since-more v cs c f.moment f.entry.frame n (not-true (is_table (pairs_after v (cs ++ c ∷ [])) f.entry.frame) (λ t. false-true (is_table (pairs_after v cs) f.entry.frame) (since-now v cs f.moment f.entry.frame h.early n) (w f.entry.frame t)));
+          since-more v cs c f.moment f.entry.frame n (not-true (is_table (pairs_after v (cs ++ c ∷ [])) f.entry.frame) (λ t. clash (is_table (pairs_after v cs) f.entry.frame) (since-now v cs f.moment f.entry.frame h.early n) (w f.entry.frame t)));
       still = λ n. h.still (since-less v cs c f.moment f.entry.frame n);
     }
 
@@ -42,18 +41,6 @@ bar-more false true true = refl
 bar-more false true false = refl
 bar-more false false true = refl
 bar-more false false false = refl
-
-none-of : (b q : Bool) → (b || q) ≡ false → q ≡ false
-none-of true q e = cc
-none-of false q e = e
-
-first-of-none : (b q : Bool) → (b || q) ≡ false → b ≡ false
-first-of-none true q e = e
-first-of-none false q e = refl
-
-none-both : (b q : Bool) → b ≡ false → q ≡ false → (b || q) ≡ false
-none-both true q e f = e
-none-both false q e f = f
 
 pub slot-noted : (v : ℕ) (cs : List RootsCall) (c : RootsCall) (frame : ℕ) (x : Option Filling) (o o' : Option Slot) → OneMore v cs c frame → o' ≡ barred (frame ∷ []) o → IsSlot v cs x o → IsSlot v (cs ++ c ∷ []) x o'
 slot-noted v cs c frame None o o' w e h = e ∙ ap (barred (frame ∷ [])) h
@@ -67,11 +54,11 @@ slot-noted v cs c frame (Some f) o o' w e h =
           ∙ ap (λ w. Some (record { side = f.side; entry = f.entry; reads = permits f.side f.entry false f.wp; writes = w })) (bar-more h.barred (permits f.side f.entry true f.wp) q);
       early = omega (arith, l, early);
       free = λ b.
-          let n = h.free (first-of-none h.barred q b) in
-          since-more v cs c f.moment f.entry.frame n (w f.entry.frame ∙ none-both q t (none-of h.barred q b) (since-now v cs f.moment f.entry.frame h.early n));
+          let n = h.free (first-false h.barred q b) in
+          since-more v cs c f.moment f.entry.frame n (w f.entry.frame ∙ or-false q t (rest-false h.barred q b) (since-now v cs f.moment f.entry.frame h.early n));
       still = λ n.
           let now = since-now v (cs ++ c ∷ []) f.moment f.entry.frame (omega (arith, l, early)) n in
-          none-both h.barred q (h.still (since-less v cs c f.moment f.entry.frame n)) (first-of-none q t (sym (w f.entry.frame) ∙ now));
+          or-false h.barred q (h.still (since-less v cs c f.moment f.entry.frame n)) (first-false q t (sym (w f.entry.frame) ∙ now));
     }
 
 -- ---- a page is filled

@@ -10,6 +10,7 @@ use Rattle.shadow_cache.specs.declared.call_lists.RootsCall.{RootsCall}
 use Rattle.shadow_cache.specs.declared.call_lists.RootsCall.TheVariants.{Shared, Switch}
 use Rattle.shadow_cache.proofs.Beside.{or-less, or-right}
 use Rattle.shadow_cache.proofs.Since.{pairs-more}
+use Rattle.shadow_cache.proofs.Small.{same-some, none-some, both-less}
 
 -- ---- all frames but one
 
@@ -73,22 +74,16 @@ but-less : (v : ℕ) (ps : List Past) (f : ℕ) → is_table (but_value v ps) f 
 but-less v [] f e = e
 but-less v (p ∷ ps) f e = rest-less (eqb p.value v) p (but_value v ps) ps f e (but-less v ps f)
 
-same-past : (a b : Past) → Some a ≡ Some b → a ≡ b
-same-past a b e = cc
-
-none-past : (a : Past) → None ≡ Some a → ⊥
-none-past a e = cc
-
 or-here : (a b : Bool) → a ≡ true → (a || b) ≡ true
 or-here true b e = refl
 or-here false b e = cc
 
 one-of : (b : Bool) (p q : Past) (o : Option Past) (ps : List Past) (f : ℕ) → cond b (Some p) o ≡ Some q → is_among f q.tables ≡ true → (o ≡ Some q → is_table ps f ≡ true) → is_table (p ∷ ps) f ≡ true
-one-of true p q o ps f e t h = or-here (is_among f p.tables) (is_table ps f) (ap (λ (x : Past). is_among f x.tables) (same-past p q e) ∙ t)
+one-of true p q o ps f e t h = or-here (is_among f p.tables) (is_table ps f) (ap (λ (x : Past). is_among f x.tables) (same-some p q e) ∙ t)
 one-of false p q o ps f e t h = or-right (is_among f p.tables) (is_table ps f) (h e)
 
 of-less : (v : ℕ) (ps : List Past) (q : Past) (f : ℕ) → of_value v ps ≡ Some q → is_among f q.tables ≡ true → is_table ps f ≡ true
-of-less v [] q f e t = absurd (none-past q e)
+of-less v [] q f e t = absurd (none-some q e)
 of-less v (p ∷ ps) q f e t = one-of (eqb p.value v) p q (of_value v ps) ps f e t (λ o. of-less v ps q f o t)
 
 either : (a b c : Bool) → (a || b) ≡ true → (a ≡ true → c ≡ true) → (b ≡ true → c ≡ true) → c ≡ true
@@ -109,10 +104,6 @@ unmarked-less (p ∷ ps) f e = unmarked-by p.marked p ps f e
 
 abbrev pub Fewer : ℕ → List RootsCall → RootsCall → Type 0
 Fewer v cs c = (f : ℕ) → is_table (pairs_after v (cs ++ c ∷ [])) f ≡ true → is_table (pairs_after v cs) f ≡ true
-
-both-less : (a b c d : Bool) → (a ≡ true → c ≡ true) → (b ≡ true → d ≡ true) → (a || b) ≡ true → (c || d) ≡ true
-both-less true b c d f g e = or-here c d (f refl)
-both-less false b c d f g e = or-right c d (g e)
 
 from-more : (v : ℕ) (cs : List RootsCall) (c : RootsCall) → ((f : ℕ) → is_table (after_call (length cs) c (pairs_after v cs)) f ≡ true → is_table (pairs_after v cs) f ≡ true) → Fewer v cs c
 from-more v cs c h = λ f e. h f (sym (ap (λ (ps : List Past). is_table ps f) (pairs-more v cs c)) ∙ e)
@@ -171,15 +162,15 @@ fewer-as v cs c h = λ f e. sym (h f) ∙ e
 
 -- ---- one more
 
-or-assoc : (a b c : Bool) → ((a || b) || c) ≡ (a || (b || c))
-or-assoc true b c = refl
-or-assoc false b c = refl
+or-nested : (a b c : Bool) → ((a || b) || c) ≡ (a || (b || c))
+or-nested true b c = refl
+or-nested false b c = refl
 
 abbrev pub OneMore : ℕ → List RootsCall → RootsCall → ℕ → Type 0
 OneMore v cs c frame = (f : ℕ) → is_table (pairs_after v (cs ++ c ∷ [])) f ≡ (eqb f frame || is_table (pairs_after v cs) f)
 
 note-one : (n frame : ℕ) (p : Past) (ps : List Past) (f : ℕ) → is_table (after_shared n (Note frame) (p ∷ ps)) f ≡ (eqb f frame || is_table (p ∷ ps) f)
-note-one n frame p ps f = or-assoc (eqb f frame) (is_among f p.tables) (is_table ps f)
+note-one n frame p ps f = or-nested (eqb f frame) (is_among f p.tables) (is_table ps f)
 
 pub one-note : (v : ℕ) (cs : List RootsCall) (frame : ℕ) (p : Past) (ps : List Past) → pairs_after v cs ≡ p ∷ ps → OneMore v cs (Shared (Note frame)) frame
 one-note v cs frame p ps e = λ f.

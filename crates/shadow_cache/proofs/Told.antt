@@ -16,6 +16,7 @@ use Rattle.shadow_tables.specs.Slots.{held}
 use Rattle.shadow_cache.specs.Replayed.{most_frames}
 use Rattle.std.proofs.Common.{◌≤◌, length, length-append, arith}
 use Rattle.shadow_cache.proofs.LastFills.{last-to, last-is}
+use Rattle.std.proofs.lemmas.Bool.{false≢true}
 
 same-entry : (a b : Entry) → Some a ≡ Some b → a ≡ b
 same-entry a b e = cc
@@ -33,11 +34,8 @@ some-kept : (v : ℕ) (cs : List RootsCall) (done : List MadeCall) (page : ℕ) 
 some-kept v cs done page None o entry l h e = absurd (none-entry entry (sym (ap entry_in h) ∙ e))
 some-kept v cs done page (Some f) o entry l h e = record { fill = f; last = last-is done page f l; held = h }
 
-false-true : false ≡ true → ⊥
-false-true e = cc
-
 some-adequate : (v : ℕ) (cs : List RootsCall) (done : List MadeCall) (page : ℕ) (x : Option Filling) (o : Option Slot) (side : Side) (write : Bool) → last_of done page ≡ x → IsSlot v cs x o → is_adequate o side write ≡ true → Filled v cs done page o
-some-adequate v cs done page None o side write l h e = absurd (false-true (sym (ap (λ y. is_adequate y side write) h) ∙ e))
+some-adequate v cs done page None o side write l h e = absurd (false≢true (sym (ap (λ y. is_adequate y side write) h) ∙ e))
 some-adequate v cs done page (Some f) o side write l h e = record { fill = f; last = last-is done page f l; held = h }
 
 held-of : (v : ℕ) (cs : List RootsCall) (done : List MadeCall) (page : ℕ) (side : Side) (entry : Entry) (wp : Bool) (moment : ℕ) (o : Option Slot) → IsSlot v cs (last_of done page) o → LastFill done page side entry wp moment → IsHeld v cs (record { moment = moment; side = side; entry = entry; wp = wp }) o
@@ -51,8 +49,8 @@ record Reads (s side : Side) (entry : Entry) (wp : Bool) : Type 0 where
 
 reads-from : (b : Bool) (s side : Side) (entry : Entry) (wp : Bool) → is_adequate (Some (filled b s entry wp)) side false ≡ true → Reads s side entry wp
 reads-from b Kernel Kernel entry wp h = record { same = refl; passes = h }
-reads-from b Kernel User entry wp h = absurd (false-true h)
-reads-from b User Kernel entry wp h = absurd (false-true h)
+reads-from b Kernel User entry wp h = absurd (false≢true h)
+reads-from b User Kernel entry wp h = absurd (false≢true h)
 reads-from b User User entry wp h = record { same = refl; passes = h }
 
 reads-to : (b : Bool) (side : Side) (entry : Entry) (wp : Bool) → permits side entry false wp ≡ true → is_adequate (Some (filled b side entry wp)) side false ≡ true
@@ -65,21 +63,21 @@ record Writes (b : Bool) (s side : Side) (entry : Entry) (wp : Bool) : Type 0 wh
   passes : permits side entry true wp ≡ true
 
 not-first : (b p : Bool) → (not b && p) ≡ true → b ≡ false
-not-first true p e = absurd (false-true e)
+not-first true p e = absurd (false≢true e)
 not-first false p e = refl
 
 not-second : (b p : Bool) → (not b && p) ≡ true → p ≡ true
-not-second true p e = absurd (false-true e)
+not-second true p e = absurd (false≢true e)
 not-second false p e = e
 
 writes-from : (b : Bool) (s side : Side) (entry : Entry) (wp : Bool) → is_adequate (Some (filled b s entry wp)) side true ≡ true → Writes b s side entry wp
 writes-from b Kernel Kernel entry wp h = record { same = refl; free = not-first b (permits Kernel entry true wp) h; passes = not-second b (permits Kernel entry true wp) h }
-writes-from b Kernel User entry wp h = absurd (false-true h)
-writes-from b User Kernel entry wp h = absurd (false-true h)
+writes-from b Kernel User entry wp h = absurd (false≢true h)
+writes-from b User Kernel entry wp h = absurd (false≢true h)
 writes-from b User User entry wp h = record { same = refl; free = not-first b (permits User entry true wp) h; passes = not-second b (permits User entry true wp) h }
 
 not-both : (b p : Bool) → b ≡ false → p ≡ true → (not b && p) ≡ true
-not-both true p e f = absurd (false-true (sym e))
+not-both true p e f = absurd (false≢true (sym e))
 not-both false p e f = f
 
 writes-to : (b : Bool) (side : Side) (entry : Entry) (wp : Bool) → b ≡ false → permits side entry true wp ≡ true → is_adequate (Some (filled b side entry wp)) side true ≡ true

@@ -1,5 +1,6 @@
 -- Pairs over loads of CR3.
 use Rattle.std.specs.Prelude.{◌≡◌, ◌≢◌, ◌⊎◌, ℕ, ◌==◌, ◌≤◌, ◌||◌, ◌&&◌, not, List, [], ◌∷◌, ◌++◌, length, slice_get, Bool, true, false, Option, Some, None}
+use Rattle.std.specs.List.{list_any}
 use Rattle.shadow_tables.specs.Slots.{is_among}
 use Rattle.shadow_tables.specs.declared.calls.Call.TheVariants.{Fill, DropPage, DropDir, DropAll, Note, Written}
 use Rattle.shadow_cache.specs.Past.{Past, begun, unmarked, of_value, pairs_after}
@@ -8,8 +9,7 @@ use Rattle.shadow_cache.specs.declared.call_lists.RootsCall.TheVariants.{Shared,
 
 -- a pair of this value is there
 abbrev pub has_value : ℕ → List Past → Bool
-has_value value [] = false
-has_value value (p ∷ ps) = (p.value == value) || has_value value ps
+has_value value ps = list_any (λ p. p.value == value) ps
 
 -- no two have one value
 abbrev pub AreApart : List Past → Type 0

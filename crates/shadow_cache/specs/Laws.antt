@@ -225,7 +225,7 @@ all-barred t u (p ∷ ps) m i h = (λ page slot l e y. h.0 page slot l e (sym (i
 pub asides-barred : (p : Pair) (ps : List Pair) (m : List ℕ) → ∥ IsRoots (p ∷ ps) m ∥₁ → AllBarred (λ f. is_among f (tables_of (p ∷ ps))) (asides_of ps m)
 asides-barred p ps m h = all-barred (any_reads (p ∷ ps)) (λ f. is_among f (tables_of (p ∷ ps))) ps m (λ f. tables-any (p ∷ ps) f) (had (p ∷ ps) m h).barred.1
 
-or-true : (b : Bool) → (b || true) ≡ true
+pub or-true : (b : Bool) → (b || true) ≡ true
 or-true true = refl
 or-true false = refl
 

@@ -1,5 +1,6 @@
 -- Pairs of views told by what was done in them: a list with the present one first, from `new` on.
 use Rattle.std.specs.Prelude.{ℕ, suc, ◌==◌, ◌/◌, ◌&&◌, ◌||◌, not, if◌then◌else◌, Bool, true, false, Option, Some, None, List, [], ◌∷◌, ◌++◌, take, filter}
+use Rattle.std.specs.List.{find}
 use Rattle.shadow_tables.specs.Slots.{is_among, is_side}
 use Rattle.shadow_tables.specs.declared.words.Side.{Side}
 use Rattle.shadow_tables.specs.declared.calls.Call.{Call}
@@ -76,8 +77,7 @@ unmarked (p ∷ ps) = if p.marked then ps else p ∷ ps
 
 -- the pair of this value
 abbrev pub of_value : ℕ → List Past → Option Past
-of_value value [] = None
-of_value value (p ∷ ps) = if p.value == value then Some p else of_value value ps
+of_value value ps = find (λ p. p.value == value) ps
 
 -- and the others
 abbrev pub but_value : ℕ → List Past → List Past

@@ -1,5 +1,6 @@
 -- Where a load of CR3 leads, over what is kept for each of its values.
 use Rattle.std.specs.Prelude.{ℕ, ◌==◌, if◌then◌else◌, take, Bool, false, Option, Some, None, List, [], ◌∷◌}
+use Rattle.std.specs.List.{find}
 use Rattle.shadow_tables.specs.Aside.{Aside}
 use Rattle.shadow_tables.specs.Slots.{Slot}
 
@@ -11,8 +12,7 @@ put_by (Some cr3) marked tables slots asides = if marked then asides else record
 
 -- the first of this value
 abbrev pub of_cr3 : ℕ → List Aside → Option Aside
-of_cr3 cr3 [] = None
-of_cr3 cr3 (a ∷ asides) = if a.cr3 == cr3 then Some a else of_cr3 cr3 asides
+of_cr3 cr3 asides = find (λ a. a.cr3 == cr3) asides
 
 -- all but the first of this value
 abbrev pub but_cr3 : ℕ → List Aside → List Aside
@@ -20,11 +20,11 @@ but_cr3 cr3 [] = []
 but_cr3 cr3 (a ∷ asides) = if a.cr3 == cr3 then asides else a ∷ but_cr3 cr3 asides
 
 -- a value under which nothing is kept and no table was read
-abbrev pub begun : ℕ → Aside
-begun cr3 = record { cr3 = cr3; tables = λ frame. false; slots = λ page. None }
+abbrev pub begun_aside : ℕ → Aside
+begun_aside cr3 = record { cr3 = cr3; tables = λ frame. false; slots = λ page. None }
 
 abbrev pub or_begun : ℕ → Option Aside → Aside
-or_begun cr3 None = begun cr3
+or_begun cr3 None = begun_aside cr3
 or_begun cr3 (Some a) = a
 
 -- what is kept under the value that is loaded: what was put by under it comes back, or nothing is kept yet

@@ -13,9 +13,9 @@ pub record IsFresh (p : Pair) (m : List ℕ) (cr3 : ℕ) : Type 0 where
   pub unmarked : p.marked ≡ false
 
 -- a marked present pair leaves
-abbrev pub staying : List Pair → List Pair
-staying [] = []
-staying (p ∷ ps) = if p.marked then ps else p ∷ ps
+abbrev pub staying_pairs : List Pair → List Pair
+staying_pairs [] = []
+staying_pairs (p ∷ ps) = if p.marked then ps else p ∷ ps
 
 -- the pair in this place comes to the front
 pub record ComesBack (ps ps' : List Pair) (m m' : List ℕ) (i : ℕ) : Type 0 where
@@ -37,4 +37,4 @@ Comes ps ps' m m' cr3 = MatchOption (place_of cr3 ps) (Opens ps ps' m m' cr3) (�
 
 -- where a load of CR3 with this value leads
 abbrev pub IsSwitched : List Pair → List Pair → (m m' : List ℕ) → ℕ → Type 0
-IsSwitched ps ps' m m' cr3 = Comes (staying ps) ps' m m' cr3
+IsSwitched ps ps' m m' cr3 = Comes (staying_pairs ps) ps' m m' cr3

@@ -5,7 +5,7 @@ ghost use Rattle.frame_pool.specs.Pool.{free_list};
 ghost use Rattle.frame_pool.specs.Held.{Owns, Moves};
 ghost use Rattle.shadow_cache.specs.Pairs.{frames_of, AreUnmarked, IsRoots};
 ghost use Rattle.shadow_cache.specs.Others.{AreKept};
-ghost use Rattle.shadow_cache.specs.Switched.{staying, Comes};
+ghost use Rattle.shadow_cache.specs.Switched.{staying_pairs, Comes};
 
 use crate::others::{find, leave};
 use crate::pair::Pair;
@@ -17,7 +17,7 @@ use guest_ram::Ram;
 pub fn put_by(others: &mut Pairs, ram: &mut Ram, pool: &mut Pool, before: Pair)
     requires roots { IsRoots (before ∷ others.old) ram.old }
     requires owns { Owns pool.old ram.old (frames_of (before ∷ others.old) ram.old) }
-    ensures staying { others.new ≡ staying (before ∷ others.old) }
+    ensures staying { others.new ≡ staying_pairs (before ∷ others.old) }
     ensures roots { IsRoots others.new ram.new }
     ensures unmarked { AreUnmarked others.new }
     ensures kept { AreKept others.new ram.old ram.new }
