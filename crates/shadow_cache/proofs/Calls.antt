@@ -36,13 +36,13 @@ roots-shadow p p' ps m h e size i =
 
 -- ---- all dropped
 
-abbrev pub emptied : Pair → Pair
-emptied p = record p { tables = no_tables; marked = false }
+abbrev pub emptied_pair : Pair → Pair
+emptied_pair p = record p { tables = no_tables; marked = false }
 
 bars-empty : (test : ℕ → Bool) (p : Pair) (m : List ℕ) → IsEmpty p.shadow m → BarsWrites test (slot_at p.shadow m)
 bars-empty test p m e = λ page slot l q t. absurd (none-some slot (sym (e.none page l) ∙ q))
 
-unread : (p : Pair) (x : ℕ) → any_reads (emptied p ∷ []) x ≡ false
+unread : (p : Pair) (x : ℕ) → any_reads (emptied_pair p ∷ []) x ≡ false
 unread p x = ap (λ b. b || false) (no-reads x)
 
 module _ (pool pool1 pool2 : Pool) (p : Pair) (ps ps' : List Pair) (m m1 m2 : List ℕ) (h : IsRoots (p ∷ ps) m) (o : Owns pool m (frames_of (p ∷ ps) m)) (none : ps' ≡ [])
@@ -62,14 +62,14 @@ module _ (pool pool1 pool2 : Pool) (p : Pair) (ps ps' : List Pair) (m m1 m2 : Li
   pub alone-owns : Owns pool1 m1 (held p.shadow m1)
   alone-owns = present-owns pool1 pool1 p [] m1 m1 alone alone-owned
 
-  module _ (e : IsEmpty p.shadow m2) (w : Moves pool1 pool2 m1 m2 (held p.shadow m1) (held p.shadow m2)) (p' : Pair) (q : p' ≡ emptied p) where
-    bare : IsRoots (emptied p ∷ []) m2
+  module _ (e : IsEmpty p.shadow m2) (w : Moves pool1 pool2 m1 m2 (held p.shadow m1) (held p.shadow m2)) (p' : Pair) (q : p' ≡ emptied_pair p) where
+    bare : IsRoots (emptied_pair p ∷ []) m2
     bare =
-        roots-shadow p (emptied p) [] m2 (move-roots pool1 pool2 p [] m1 m2 alone alone-owned e.shadow w (bars-empty (any_reads (p ∷ [])) p m2 e)) refl
-        (no-length) (λ x f. absurd (clash (any_reads (emptied p ∷ []) x) (unread p x) f))
+        roots-shadow p (emptied_pair p) [] m2 (move-roots pool1 pool2 p [] m1 m2 alone alone-owned e.shadow w (bars-empty (any_reads (p ∷ [])) p m2 e)) refl
+        (no-length) (λ x f. absurd (clash (any_reads (emptied_pair p ∷ []) x) (unread p x) f))
 
-    lists : (x : Pair) (xs : List Pair) → x ≡ emptied p → xs ≡ [] → x ∷ xs ≡ emptied p ∷ []
-    lists x xs a b = ap (λ (y : Pair). y ∷ xs) a ∙ ap (λ (ys : List Pair). emptied p ∷ ys) b
+    lists : (x : Pair) (xs : List Pair) → x ≡ emptied_pair p → xs ≡ [] → x ∷ xs ≡ emptied_pair p ∷ []
+    lists x xs a b = ap (λ (y : Pair). y ∷ xs) a ∙ ap (λ (ys : List Pair). emptied_pair p ∷ ys) b
 
     pub dropped-roots : IsRoots (p' ∷ ps') m2
     dropped-roots = subst (λ (xs : List Pair). IsRoots xs m2) (sym (lists p' ps' q none)) bare
@@ -77,7 +77,7 @@ module _ (pool pool1 pool2 : Pool) (p : Pair) (ps ps' : List Pair) (m m1 m2 : Li
     pub dropped-moves : Moves pool pool2 m m2 (frames_of (p ∷ ps) m) (frames_of (p' ∷ ps') m2)
     dropped-moves =
         subst (λ (xs : List Pair). Moves pool pool2 m m2 (frames_of (p ∷ ps) m) (frames_of xs m2)) (sym (lists p' ps' q none))
-        (subst (Moves pool pool2 m m2 (frames_of (p ∷ ps) m)) (sym (frames-shadow p (emptied p) [] m2 refl))
+        (subst (Moves pool pool2 m m2 (frames_of (p ∷ ps) m)) (sym (frames-shadow p (emptied_pair p) [] m2 refl))
         (Moves-trans pool pool1 pool2 m m1 m2 (frames_of (p ∷ ps) m) (frames_of (p ∷ []) m1) (frames_of (p ∷ []) m2)
         (beside-moves pool pool1 p ps [] m m1 h o gone) (move-moves pool1 pool2 p [] m1 m2 alone alone-owned e.shadow w)))
 
@@ -87,13 +87,13 @@ module _ (pool pool1 pool2 : Pool) (p : Pair) (ps ps' : List Pair) (m m1 m2 : Li
     pub dropped-two : length (frames_of (p' ∷ ps') m2) ≡ 2
     dropped-two =
         ap (λ (xs : List Pair). length (frames_of xs m2)) (lists p' ps' q none)
-        ∙ ap (λ (fs : List ℕ). length fs) (frames-cons (emptied p) [] m2 ∙ ap (λ (fs : List ℕ). held p.shadow m2 ++ fs) (none-frames m2))
+        ∙ ap (λ (fs : List ℕ). length fs) (frames-cons (emptied_pair p) [] m2 ∙ ap (λ (fs : List ℕ). held p.shadow m2 ++ fs) (none-frames m2))
         ∙ ap (λ (fs : List ℕ). length (fs ++ [])) e.frames
 
     pub dropped-tracked : ArePart (tables_of (p' ∷ ps')) (tables_of (p ∷ ps))
     dropped-tracked =
         subst (λ (xs : List Pair). ArePart (tables_of xs) (tables_of (p ∷ ps))) (sym (lists p' ps' q none))
-        (tables-part (p ∷ ps) (emptied p ∷ []) (λ x f. absurd (clash (any_reads (emptied p ∷ []) x) (unread p x) f)))
+        (tables-part (p ∷ ps) (emptied_pair p ∷ []) (λ x f. absurd (clash (any_reads (emptied_pair p ∷ []) x) (unread p x) f)))
 
 -- ---- a frame that was written
 

@@ -5,12 +5,9 @@ use Rattle.shadow_cache.specs.Pairs.{reads}
 use Rattle.shadow_cache.specs.After.{emptied, mark_of, noted_in, noted_of, value_of, written_in}
 use Rattle.shadow_cache.specs.declared.pair.Pair.{Pair}
 use Rattle.shadow_cache.proofs.Beside.{no-reads, reads-set, reads-there}
-use Rattle.shadow_cache.proofs.Small.{clash}
+use Rattle.shadow_cache.proofs.Small.{clash, or-none}
 use Rattle.shadow_cache.specs.Laws.{or-true}
-
-or-none : (b : Bool) → (b || false) ≡ b
-or-none true = refl
-or-none false = refl
+use Rattle.shadow_cache.proofs.Calls.{spoilt}
 
 set-exact : (bits : List Bool) (i f : ℕ) → i < length bits → get_or (slice_set bits i true) f false ≡ (get_or bits f false || eqb f i)
 set-exact bits i f l =
@@ -27,9 +24,6 @@ set-exact bits i f l =
 
 pub noted-exact : (p : Pair) (ps qs : List Pair) (frame f : ℕ) → length p.tables ≡ 16384 → frame < 16384 → qs ≡ noted_in (p ∷ ps) frame → noted_of qs f ≡ (reads p f || eqb f frame)
 noted-exact p ps qs frame f size low e = ap (λ xs. noted_of xs f) e ∙ set-exact p.tables frame f (omega (arith, size, low))
-
-abbrev spoilt : Bool → Pair → ℕ → Pair
-spoilt b p frame = cond b (record p { tables = slice_set p.tables frame false; marked = true }) p
 
 marked-other : (b : Bool) (p : Pair) (frame f : ℕ) → (f ≡ frame → ⊥) → reads (spoilt b p frame) f ≡ reads p f
 marked-other true p frame f n = elim (reads-set p.tables frame f false) [ inl s ↦ s | inr t ↦ absurd (n t.0) ]

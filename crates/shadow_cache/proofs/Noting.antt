@@ -15,7 +15,7 @@ use Rattle.shadow_cache.proofs.Leaving.{none-frames}
 use Rattle.shadow_cache.proofs.Barring.{rest-holds}
 use Rattle.shadow_cache.proofs.Present.{apart, write-frames, write-memory}
 use Rattle.shadow_cache.proofs.Beside.{reads-set, reads-there, no-length}
-use Rattle.shadow_cache.proofs.Small.{same-some, none-some, length-set}
+use Rattle.shadow_cache.proofs.Small.{same-some, none-some, length-set, or-none}
 use Rattle.std.proofs.lemmas.List.{append-nil}
 
 -- ---- a new pair
@@ -77,10 +77,6 @@ all-lose (p ∷ ps) m m1 m2 frame k l = (
   l.2 ∙ k.1,
   λ side index h ne. l.3 side index h (k.4 side index h ne),
 )
-
-or-none : (c : Bool) → (c || false) ≡ c
-or-none true = refl
-or-none false = refl
 
 -- the same right goes by all frames that are tracked then
 flags : (a b c : Bool) → (a ≡ true → b ≡ c) → (a && not (b || false)) ≡ (a && not c)
@@ -173,24 +169,24 @@ tracked-loses ps m frame h e = all-barred (any_reads ps) frame ps m e h.barred
 
 -- ---- a frame that is noted
 
-abbrev pub noted : Pair → ℕ → Pair
-noted p frame = record p { tables = slice_set p.tables frame true }
+abbrev pub with_noted : Pair → ℕ → Pair
+with_noted p frame = record p { tables = slice_set p.tables frame true }
 
 module _ (p : Pair) (ps : List Pair) (m m2 : List ℕ) (frame : ℕ) (h : IsRoots (p ∷ ps) m) (low : frame < 16384)
     (shadows : AreShadows (p ∷ ps) m2) (loses : AllLoseWrites (p ∷ ps) m m2 frame) (frames : frames_of (p ∷ ps) m2 ≡ frames_of (p ∷ ps) m) (memory : Writes (frames_of (p ∷ ps) m) m m2) where
   size : length (slice_set p.tables frame true) ≡ 16384
   size = length-set p.tables frame true ∙ h.sized.0
 
-  any-noted : (x : ℕ) → any_reads (noted p frame ∷ ps) x ≡ true → (x ≡ frame) ⊎ (any_reads (p ∷ ps) x ≡ true)
+  any-noted : (x : ℕ) → any_reads (with_noted p frame ∷ ps) x ≡ true → (x ≡ frame) ⊎ (any_reads (p ∷ ps) x ≡ true)
   any-noted x e = elim (reads-set p.tables frame x true) [ inl s ↦ inr (sym (ap (λ b. b || any_reads ps x) s) ∙ e) | inr t ↦ inl t.0 ]
 
-  pub note-frames : frames_of (noted p frame ∷ ps) m2 ≡ frames_of (p ∷ ps) m
-  note-frames = frames-cons (noted p frame) ps m2 ∙ sym (frames-cons p ps m2) ∙ frames
+  pub note-frames : frames_of (with_noted p frame ∷ ps) m2 ≡ frames_of (p ∷ ps) m
+  note-frames = frames-cons (with_noted p frame) ps m2 ∙ sym (frames-cons p ps m2) ∙ frames
 
-  pub note-moves : (pool : Pool) → Owns pool m (frames_of (p ∷ ps) m) → Moves pool pool m m2 (frames_of (p ∷ ps) m) (frames_of (noted p frame ∷ ps) m2)
-  note-moves pool o = Moves-kept pool m m2 (frames_of (p ∷ ps) m) (frames_of (noted p frame ∷ ps) m2) o note-frames memory
+  pub note-moves : (pool : Pool) → Owns pool m (frames_of (p ∷ ps) m) → Moves pool pool m m2 (frames_of (p ∷ ps) m) (frames_of (with_noted p frame ∷ ps) m2)
+  note-moves pool o = Moves-kept pool m m2 (frames_of (p ∷ ps) m) (frames_of (with_noted p frame ∷ ps) m2) o note-frames memory
 
-  pub note-roots : IsRoots (noted p frame ∷ ps) m2
+  pub note-roots : IsRoots (with_noted p frame ∷ ps) m2
   note-roots =
       record {
         few = h.few;
@@ -198,34 +194,34 @@ module _ (p : Pair) (ps : List Pair) (m m2 : List ℕ) (frame : ℕ) (h : IsRoot
         shadows = shadows;
         sized = (size, h.sized.1);
         barred = (
-          bars-noted (any_reads (p ∷ ps)) (any_reads (noted p frame ∷ ps)) frame (slot_at p.shadow m) (slot_at p.shadow m2) any-noted loses.0 h.barred.0,
-          all-noted (any_reads (p ∷ ps)) (any_reads (noted p frame ∷ ps)) frame ps m m2 any-noted loses.1 h.barred.1,
+          bars-noted (any_reads (p ∷ ps)) (any_reads (with_noted p frame ∷ ps)) frame (slot_at p.shadow m) (slot_at p.shadow m2) any-noted loses.0 h.barred.0,
+          all-noted (any_reads (p ∷ ps)) (any_reads (with_noted p frame ∷ ps)) frame ps m m2 any-noted loses.1 h.barred.1,
         );
         unmarked = h.unmarked;
       }
 
-  any-is : (x : ℕ) → any_reads (p ∷ ps) x ≡ false → eqb x frame ≡ any_reads (noted p frame ∷ ps) x
+  any-is : (x : ℕ) → any_reads (p ∷ ps) x ≡ false → eqb x frame ≡ any_reads (with_noted p frame ∷ ps) x
   any-is x e =
       elim (eqb_tells x frame) [
         | inl t ↦
             let z = h.sized.0 in
             t.0 ∙ sym (ap (λ y. get_or (slice_set p.tables frame true) y false || any_reads ps y) t.1 ∙ ap (λ b. b || any_reads ps frame) (reads-there p.tables frame true (omega (arith, z, low))))
-        | inr t ↦ t.0 ∙ sym (flip (any_reads (noted p frame ∷ ps) x) (λ y. elim (any-noted x y) [ inl s ↦ t.1 s | inr s ↦ (let q : false ≡ true = sym e ∙ s in cc) ]))
+        | inr t ↦ t.0 ∙ sym (flip (any_reads (with_noted p frame ∷ ps) x) (λ y. elim (any-noted x y) [ inl s ↦ t.1 s | inr s ↦ (let q : false ≡ true = sym e ∙ s in cc) ]))
       ]
 
-  same-rights : (o : Option Slot) → Bars (any_reads (p ∷ ps)) o → barred (frame ∷ []) o ≡ barred (tables_of (noted p frame ∷ ps)) o
+  same-rights : (o : Option Slot) → Bars (any_reads (p ∷ ps)) o → barred (frame ∷ []) o ≡ barred (tables_of (with_noted p frame ∷ ps)) o
   same-rights None b = refl
   same-rights (Some s) b =
-      ap (λ w. Some (record s { writes = w })) (flags s.writes (eqb s.entry.frame frame) (is_among s.entry.frame (tables_of (noted p frame ∷ ps))) (λ y.
+      ap (λ w. Some (record s { writes = w })) (flags s.writes (eqb s.entry.frame frame) (is_among s.entry.frame (tables_of (with_noted p frame ∷ ps))) (λ y.
       any-is s.entry.frame (flip (any_reads (p ∷ ps) s.entry.frame) (λ z. (let q : true ≡ false = sym y ∙ b s refl z in cc)))
-      ∙ sym (tables-any (noted p frame ∷ ps) s.entry.frame)))
+      ∙ sym (tables-any (with_noted p frame ∷ ps) s.entry.frame)))
 
-  pub note-slots : LosesWrites (slot_at p.shadow m) (slot_at p.shadow m2) (tables_of (noted p frame ∷ ps))
+  pub note-slots : LosesWrites (slot_at p.shadow m) (slot_at p.shadow m2) (tables_of (with_noted p frame ∷ ps))
   note-slots page l = loses.0 page l ∙ same-rights (slot_at p.shadow m page) (λ s e y. h.barred.0 page s l e y)
 
-  pub note-tracked : ArePart (tables_of (noted p frame ∷ ps)) (frame ∷ tables_of (p ∷ ps))
+  pub note-tracked : ArePart (tables_of (with_noted p frame ∷ ps)) (frame ∷ tables_of (p ∷ ps))
   note-tracked f e =
-      elim (any-noted f (sym (tables-any (noted p frame ∷ ps) f) ∙ e)) [
+      elim (any-noted f (sym (tables-any (with_noted p frame ∷ ps) f) ∙ e)) [
         | inl s ↦ elim (eqb_tells f frame) [ inl t ↦ ap (λ b. b || is_among f (tables_of (p ∷ ps))) t.0 | inr t ↦ absurd (t.1 s) ]
         | inr s ↦ ap (λ b. eqb f frame || b) (tables-any (p ∷ ps) f ∙ s) ∙ or-true (eqb f frame)
       ]

@@ -44,11 +44,11 @@ filled-now done moment side entry wp place t =
     }
 
 -- a place more, where it isn't there
-abbrev Filled : List MadeCall → List DirSlot → Type 0
-Filled done places = (place : DirSlot) → is_place place places ≡ true → IsFilledUnder done place
+abbrev AreFilledUnder : List MadeCall → List DirSlot → Type 0
+AreFilledUnder done places = (place : DirSlot) → is_place place places ≡ true → IsFilledUnder done place
 
-with-filled : (b : Bool) (done : List MadeCall) (moment : ℕ) (side : Side) (entry : Entry) (wp : Bool) (places : List DirSlot) → Filled done places
-    → Filled (done ++ record { moment = moment; call = Fill side entry wp } ∷ []) (cond b places (record { side = side; index = entry.page / 1024 } ∷ places))
+with-filled : (b : Bool) (done : List MadeCall) (moment : ℕ) (side : Side) (entry : Entry) (wp : Bool) (places : List DirSlot) → AreFilledUnder done places
+    → AreFilledUnder (done ++ record { moment = moment; call = Fill side entry wp } ∷ []) (cond b places (record { side = side; index = entry.page / 1024 } ∷ places))
 with-filled true done moment side entry wp places f = λ place t. filled-later done (record { moment = moment; call = Fill side entry wp }) place (f place t)
 with-filled false done moment side entry wp places f = λ place t.
     elim (or-cases (is_side place.side side && eqb place.index (entry.page / 1024)) (is_place place places) t) [

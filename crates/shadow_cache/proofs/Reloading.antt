@@ -97,8 +97,8 @@ take-asides zero ps m = refl
 take-asides (suc n) [] m = refl
 take-asides (suc n) (p ∷ ps) m = ap (λ (xs : List Aside). aside_of p m ∷ xs) (take-asides n ps m)
 
-opened : (cr3 : ℕ) (ps : List Pair) (m m' : List ℕ) (x : Pair) → of_cr3 cr3 (asides_of ps m) ≡ None → IsFresh x m' cr3 → AreKept (take 7 ps) m m' → IsReloaded cr3 (asides_of ps m) (x ∷ take 7 ps) m'
-opened cr3 ps m m' x none f k =
+opened-new : (cr3 : ℕ) (ps : List Pair) (m m' : List ℕ) (x : Pair) → of_cr3 cr3 (asides_of ps m) ≡ None → IsFresh x m' cr3 → AreKept (take 7 ps) m m' → IsReloaded cr3 (asides_of ps m) (x ∷ take 7 ps) m'
+opened-new cr3 ps m m' x none f k =
     record {
       value = ap (λ v. Some v) f.value;
       marked = f.unmarked;
@@ -121,7 +121,7 @@ came_back cr3 ps rest m m' x f u k =
 
 reloaded-by : (o : Option ℕ) (cr3 : ℕ) (ps qs : List Pair) (m m' : List ℕ) → place_of cr3 ps ≡ o → AreUnmarked ps → MatchOption o (Opens ps qs m m' cr3) (λ i. ComesBack ps qs m m' i) → IsReloaded cr3 (asides_of ps m) qs m'
 reloaded-by None cr3 ps qs m m' e u x =
-    subst (λ (xs : List Pair). IsReloaded cr3 (asides_of ps m) xs m') (sym x.front) (opened cr3 ps m m' x.pair (find-none cr3 ps m e) x.fresh x.kept)
+    subst (λ (xs : List Pair). IsReloaded cr3 (asides_of ps m) xs m') (sym x.front) (opened-new cr3 ps m m' x.pair (find-none cr3 ps m e) x.fresh x.kept)
 reloaded-by (Some i) cr3 ps qs m m' e u x =
     subst (λ (xs : List Pair). IsReloaded cr3 (asides_of ps m) xs m') (sym x.front)
     (came_back cr3 ps (remove ps i) m m' x.pair (find-some cr3 ps i x.pair m e x.here) (unmarked-at ps i x.pair x.here u) (subst (λ (xs : List Pair). AreKept xs m m') x.front x.kept))

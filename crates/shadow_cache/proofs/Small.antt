@@ -19,6 +19,10 @@ pub both-less : (a b c d : Bool) → (a ≡ true → c ≡ true) → (b ≡ true
 both-less true b c d f g e = ap (λ x. x || d) (f refl)
 both-less false b c d f g e = or_right c d (g e)
 
+pub or-none : (b : Bool) → (b || false) ≡ b
+or-none true = refl
+or-none false = refl
+
 pub length-set : (bits : List Bool) (i : ℕ) (v : Bool) → length (slice_set bits i v) ≡ length bits
 length-set [] i v = refl
 length-set (b ∷ bs) zero v = refl
