@@ -5,14 +5,15 @@ use Rattle.std.specs.FinMap.{FinMap, get}
 use Rattle.std.specs.Ordering.{nat_cmp}
 use Rattle.std.proofs.lemmas.Bool.Decides.{eqb_tells}
 use Rattle.paging.specs.declared.entry.Entry.{Entry}
+use Rattle.paging.specs.Uses.{with_entry}
 use Rattle.shadow_tables.specs.Slots.{is_among}
 use Rattle.step_mem.specs.declared.changes.Change.{Change}
-use Rattle.step_mem.specs.Changes.{page_of, AreToldIn}
+use Rattle.step_mem.specs.Changes.{changed, page_of, entry_of, AreToldIn}
+use Rattle.step_mem.proofs.Changed.{get_with_other}
+use Rattle.machine_model.specs.Run.{Set}
 use Rattle.wedge_mem.specs.Settled.{has_entry, pages_of, used}
-
-bool_cases : (b : Bool) → (b ≡ true) ⊎ (b ≡ false)
-bool_cases true = inl refl
-bool_cases false = inr refl
+use Rattle.wedge_core.proofs.Bools.{or_true, right_false}
+use Rattle.std.proofs.lemmas.Bool.{cases_Bool}
 
 eq_turned : (q x : ℕ) → (q == x) ≡ (x == q)
 eq_turned q x = elim (eqb_tells q x) [
@@ -27,19 +28,24 @@ pub any_among : (xs : List ℕ) (q : ℕ) → list_any (λ x. x == q) xs ≡ is_
 any_among [] q = refl
 any_among (x ∷ xs) q = ap (λ (b : Bool). b || list_any (λ y. y == q) xs) (eq_turned x q) ∙ ap (λ (b : Bool). (q == x) || b) (any_among xs q)
 
-or_true : (b : Bool) → (b || true) ≡ true
-or_true true = refl
-or_true false = refl
-
 pub among_split : (q : ℕ) (xs ys : List ℕ) → is_among q (xs ++ ys) ≡ true → (is_among q xs ≡ true) ⊎ (is_among q ys ≡ true)
 among_split q [] ys h = inr h
 among_split q (x ∷ xs) ys h =
-    elim (bool_cases (q == x)) [
+    elim (cases_Bool (q == x)) [
       | inl t ↦ inl (ap (λ (b : Bool). b || is_among q xs) t)
       | inr n ↦ elim (among_split q xs ys (sym (ap (λ (b : Bool). b || is_among q (xs ++ ys)) n) ∙ h)) [
         | inl a ↦ inl (ap (λ (b : Bool). (q == x) || b) a ∙ or_true (q == x))
         | inr c ↦ inr c
       ]
+    ]
+
+-- a page of which nothing was changed has its entry
+pub changed_other : (set : Set) (cs : List Change) (q : ℕ) → is_among q (map page_of cs) ≡ false → get (changed set cs) q ≡ get set q
+changed_other set [] q h = refl
+changed_other set (c ∷ cs) q h =
+    elim (eqb_tells q (page_of c)) [
+      | inl e ↦ absurd (let f : true ≡ false = sym (ap (λ (b : Bool). b || is_among q (map page_of cs)) e.0) ∙ h in cc)
+      | inr n ↦ changed_other (with_entry set (page_of c) (entry_of c)) cs q (right_false (q == page_of c) (is_among q (map page_of cs)) h) ∙ get_with_other set (page_of c) (entry_of c) q n.1
     ]
 
 -- each page that a step changed is one that it went through
@@ -60,7 +66,7 @@ among_contains (x ∷ xs) q h =
 pub among_first : (q : ℕ) (xs ys : List ℕ) → is_among q xs ≡ true → is_among q (xs ++ ys) ≡ true
 among_first q [] ys h = absurd (let f : false ≡ true = h in cc)
 among_first q (x ∷ xs) ys h =
-    elim (bool_cases (q == x)) [
+    elim (cases_Bool (q == x)) [
       | inl t ↦ ap (λ (b : Bool). b || is_among q (xs ++ ys)) t
       | inr n ↦ ap (λ (b : Bool). (q == x) || b) (among_first q xs ys (sym (ap (λ (b : Bool). b || is_among q xs) n) ∙ h)) ∙ or_true (q == x)
     ]
@@ -74,7 +80,7 @@ without z (w ∷ ws) = cond (z == w) ws (w ∷ without z ws)
 without_few : (z : ℕ) (ws : List ℕ) → is_among z ws ≡ true → length (without z ws) + 1 ≡ length ws
 without_few z [] h = absurd (let f : false ≡ true = h in cc)
 without_few z (w ∷ ws) h =
-    elim (bool_cases (z == w)) [
+    elim (cases_Bool (z == w)) [
       | inl t ↦ ap (λ (b : Bool). length (cond b ws (w ∷ without z ws)) + 1) t ∙ omega arith
       | inr n ↦
           let r = without_few z ws (sym (ap (λ (c : Bool). c || is_among z ws) n) ∙ h) in
@@ -90,7 +96,7 @@ without_other z q (w ∷ ws) n h =
           ap (λ (b : Bool). is_among q (cond b ws (w ∷ without z ws))) t.0 ∙ sym (ap (λ (c : Bool). c || is_among q ws) other) ∙ h
       | inr f ↦
           ap (λ (b : Bool). is_among q (cond b ws (w ∷ without z ws))) f.0
-          ∙ elim (bool_cases (q == w)) [
+          ∙ elim (cases_Bool (q == w)) [
             | inl t ↦ ap (λ (c : Bool). c || is_among q (without z ws)) t
             | inr g ↦ ap (λ (c : Bool). (q == w) || c) (without_other z q ws n (sym (ap (λ (c : Bool). c || is_among q ws) g) ∙ h)) ∙ or_true (q == w)
           ]
@@ -109,7 +115,7 @@ none_more z xs n b true e r = absurd (let f : true ≡ false = e in cc)
 used_more : (set : FinMap nat_cmp Entry) (z : ℕ) (zs ws : List ℕ) → ((vs : List ℕ) → ((q : ℕ) → is_among q zs ≡ true → is_among q vs ≡ true) → length (used set zs) ≤ length vs)
     → ((q : ℕ) → is_among q (z ∷ zs) ≡ true → is_among q ws ≡ true) → length (used set (z ∷ zs)) ≤ length ws
 used_more set z zs ws rest h =
-    elim (bool_cases (is_among z zs)) [
+    elim (cases_Bool (is_among z zs)) [
       | inl t ↦ none_more z (used set zs) (length ws) (has_entry (get set z)) (not (is_among z zs)) (ap not t) (rest ws later)
       | inr n ↦
           let few = without_few z ws here in

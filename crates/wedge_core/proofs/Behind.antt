@@ -3,14 +3,14 @@ use Rattle.std.proofs.Common.{◌≡◌, ◌⊎◌, ℕ, zero, suc, ◌+◌, ◌
 use Rattle.std.proofs.lemmas.Bool.{cases_lt}
 use Rattle.std.proofs.lemmas.Bool.Decides.{eqb_tells, nat_tests}
 use Rattle.std.specs.Prelude.{nat_le}
-use Rattle.std.specs.List.{Contains}
+use Rattle.std.specs.List.{Contains, list_any}
 use Rattle.std.specs.FinMap.{get}
 use Rattle.guest_ram.specs.Bytes.{word32}
 use Rattle.descriptors.specs.Controls.{pse_of}
 use Rattle.descriptors.specs.declared.cpu.Cpu.{Cpu}
 use Rattle.paging.specs.declared.entry.Entry.{Entry}
 use Rattle.paging.specs.Space.{Space}
-use Rattle.shadow_tables.specs.Aside.{Aside, IsSame, AreSame, any_of}
+use Rattle.shadow_tables.specs.Aside.{Aside, IsSame, AreSame}
 use Rattle.shadow_tables.specs.Slots.{Slot, is_among, entry_in}
 use Rattle.shadow_tables.proofs.Lists.{within-same}
 use Rattle.machine_model.specs.Reloading.{HasMoreFlags, MemoryFollows, IsFoundBy, Follows}
@@ -21,9 +21,10 @@ use Rattle.machine_model.proofs.MoreFlags.{flags_by}
 use Rattle.native_steps.specs.Mirrors.{shown}
 use Rattle.wedge_mem.specs.Told.{guest_frames, read_by}
 use Rattle.wedge_core.specs.Ready.{IsReadyAside, AreReady, AreReadyBehind, IsReady, IsReadyBehind}
-use Rattle.wedge_core.proofs.Bools.{none_some}
+use Rattle.wedge_core.proofs.Bools.{none_some, clash, left_false, right_false, or_true}
 use Rattle.wedge_core.proofs.Shedding.{Sheds, found_tables, ready_shed}
 use Rattle.wedge_core.proofs.AmongPages.{among_contains}
+use Rattle.shadow_tables.proofs.Asides.{any-same}
 
 -- ---- frames of a list
 
@@ -31,38 +32,19 @@ or_false : (a b : Bool) → a ≡ false → (a || b) ≡ b
 or_false true b e = absurd (let f : true ≡ false = e in cc)
 or_false false b e = refl
 
-or_true : (a : Bool) → (a || true) ≡ true
-or_true true = refl
-or_true false = refl
-
-left_false : (a b : Bool) → (a || b) ≡ false → a ≡ false
-left_false true b e = absurd (let f : true ≡ false = e in cc)
-left_false false b e = refl
-
-right_false : (a b : Bool) → (a || b) ≡ false → b ≡ false
-right_false true b e = absurd (let f : true ≡ false = e in cc)
-right_false false b e = e
-
-pub clash : (b : Bool) → b ≡ true → b ≡ false → ⊥
-clash b t f = let g : true ≡ false = sym t ∙ f in cc
-
 pub contains_among : (xs : List ℕ) (q : ℕ) → Contains xs q → is_among q xs ≡ true
 contains_among [] q (k, lt, at) = absurd (omega (arith, lt))
 contains_among (x ∷ xs) q (zero, lt, at) = elim (eqb_tells q x) [ inl t ↦ ap (λ (b : Bool). b || is_among q xs) t.0 | inr n ↦ absurd (n.1 (sym at)) ]
 contains_among (x ∷ xs) q (suc k, lt, at) = ap (λ (b : Bool). (q == x) || b) (contains_among xs q (k, omega (arith, lt), at)) ∙ or_true (q == x)
 
 -- a test that holds of none of them
-pub any_none : (test : ℕ → Bool) (frames : List ℕ) → any_of test frames ≡ false → (f : ℕ) → is_among f frames ≡ true → test f ≡ false
+pub any_none : (test : ℕ → Bool) (frames : List ℕ) → list_any test frames ≡ false → (f : ℕ) → is_among f frames ≡ true → test f ≡ false
 any_none test [] h f a = absurd (clash false a refl)
 any_none test (x ∷ xs) h f a =
     elim (eqb_tells f x) [
-      | inl e ↦ ap test e.1 ∙ left_false (test x) (any_of test xs) h
-      | inr n ↦ any_none test xs (right_false (test x) (any_of test xs) h) f (sym (or_false (f == x) (is_among f xs) n.0) ∙ a)
+      | inl e ↦ ap test e.1 ∙ left_false (test x) (list_any test xs) h
+      | inr n ↦ any_none test xs (right_false (test x) (list_any test xs) h) f (sym (or_false (f == x) (is_among f xs) n.0) ∙ a)
     ]
-
-pub any_same : (s t : ℕ → Bool) (frames : List ℕ) → ((f : ℕ) → t f ≡ s f) → any_of t frames ≡ any_of s frames
-any_same s t [] h = refl
-any_same s t (f ∷ fs) h = ap (λ (b : Bool). b || any_of t fs) (h f) ∙ ap (λ (b : Bool). s f || b) (any_same s t fs h)
 
 -- a frame that a guest has
 among_guest : (tables : List ℕ) (f : ℕ) → is_among f tables ≡ true → f < 16384 → is_among f (guest_frames tables) ≡ true
@@ -79,7 +61,7 @@ among_guest (x ∷ xs) f a lt = by (nat_le 16384 x) refl (λ h. among_guest xs f
       | inr n ↦ ap (λ (b : Bool). b || is_among f (guest_frames xs)) n.0 ∙ rest (sym (or_false (f == x) (is_among f xs) n.0) ∙ a)
     ]
 
-module _ (noted : ℕ → Bool) (tables wrote : List ℕ) (low : (frame : ℕ) → Contains tables frame → frame < 16384) (none : any_of (read_by noted tables) wrote ≡ false) where
+module _ (noted : ℕ → Bool) (tables wrote : List ℕ) (low : (frame : ℕ) → Contains tables frame → frame < 16384) (none : list_any (read_by noted tables) wrote ≡ false) where
   -- no frame that was noted was written
   unwritten : (frame : ℕ) → noted frame ≡ true → Contains wrote frame → ⊥
   unwritten frame n c = clash (noted frame) n (left_false (noted frame) (is_among frame (guest_frames tables)) (any_none (read_by noted tables) wrote none frame (contains_among wrote frame c)))
@@ -103,7 +85,7 @@ found_behind wrote ram then frames cr3 pse tables page e lt room follows free h 
 
 -- ---- what is kept for another value
 
-aside_behind : (wrote : List ℕ) (m : Setting) (cpu : Cpu) (ram then : List ℕ) (a : Aside) → 4096 * m.frames ≤ length ram → MemoryFollows wrote ram then → any_of a.tables wrote ≡ false
+aside_behind : (wrote : List ℕ) (m : Setting) (cpu : Cpu) (ram then : List ℕ) (a : Aside) → 4096 * m.frames ≤ length ram → MemoryFollows wrote ram then → list_any a.tables wrote ≡ false
     → IsReadyAside m cpu ram a → IsReadyAside m cpu then a
 aside_behind wrote m cpu ram then a room follows none h = record {
   found = λ page lt slot e.
@@ -122,7 +104,7 @@ asides_behind wrote m cpu ram then [] (n ∷ ns) room follows same h = absurd sa
 asides_behind wrote m cpu ram then (o ∷ os) [] room follows same h = absurd same
 asides_behind wrote m cpu ram then (o ∷ os) (n ∷ ns) room follows same h = (
   λ none.
-      ready_shed m cpu then o n (shed o n same.0) (aside_behind wrote m cpu ram then o room follows (sym (any_same o.tables n.tables wrote same.0.tables) ∙ none) h.0),
+      ready_shed m cpu then o n (shed o n same.0) (aside_behind wrote m cpu ram then o room follows (sym (any-same o.tables n.tables wrote same.0.tables) ∙ none) h.0),
   asides_behind wrote m cpu ram then os ns room follows same.1 h.1,
 )
 
@@ -159,7 +141,7 @@ module _ {S : Type 0} (slots : S → List ℕ → ℕ → Option Slot) (noted : 
           ]
 
       -- what was kept before
-      old_found : marked s ≡ false → any_of (read_by (noted s) tables) wrote ≡ false → (page : ℕ) → page < 2 ^ 20 → (e : Entry) → get first.set page ≡ Some e
+      old_found : marked s ≡ false → list_any (read_by (noted s) tables) wrote ≡ false → (page : ℕ) → page < 2 ^ 20 → (e : Entry) → get first.set page ≡ Some e
           → IsFoundBy (shown m then) m.frames cpu.cr3 (pse_of cpu) (read_by (noted s) tables) page e
       old_found un none page lt e is = by (slots s memory page) refl
         where
@@ -173,7 +155,7 @@ module _ {S : Type 0} (slots : S → List ℕ → ℕ → Option Slot) (noted : 
               (found_tables (shown m then) m.frames cpu.cr3 (pse_of cpu) (noted s) (read_by (noted s) tables) page slot.entry (noted_holds (noted s) tables) still)
 
       -- or what it left
-      new_found : marked s ≡ false → any_of (read_by (noted s) tables) wrote ≡ false → (page : ℕ) → page < 2 ^ 20 → (e : Entry) → get last.set page ≡ Some e
+      new_found : marked s ≡ false → list_any (read_by (noted s) tables) wrote ≡ false → (page : ℕ) → page < 2 ^ 20 → (e : Entry) → get last.set page ≡ Some e
           → IsFoundBy (shown m then) m.frames cpu.cr3 (pse_of cpu) (read_by (noted s) tables) page e
       new_found un none page lt e is =
           let room = k.room in

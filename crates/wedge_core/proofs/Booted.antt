@@ -17,7 +17,7 @@ use Rattle.shadow_cache.specs.declared.roots.Roots.{Roots}
 use Rattle.machine_model.specs.State.{State, wedge}
 use Rattle.wedge_core.specs.Standing.{IsHeld, ground}
 use Rattle.wedge_core.specs.declared.running.Running.{Running}
-use Rattle.wedge_core.proofs.Memories.{text_within}
+use Rattle.wedge_core.proofs.Memories.{text_within, part_front}
 
 grows : (m : List ℕ) (a : ℕ) (bs : List ℕ) → length m ≤ length (with_part m a bs)
 unfolding with_part
@@ -53,20 +53,16 @@ front_stands image frames count old new same is =
     let e : 4096 * frames ≡ frames * 4096 = omega arith in
     frames_same frames old new (λ g l. same.others g (inl l)) ∙ (ap (λ k. take k old) e ∙ is)
 
-pub part_front : (l : List ℕ) (n a k : ℕ) → a + k ≤ n → part (take n l) a k ≡ part l a k
-unfolding part
-part_front l n a k h = same_lists _ _ (grind (arith, places)) (λ j d i. grind (arith, places))
-
 pub text_stands : (image : Image) (frames : ℕ) (memory : List ℕ) → need image ≤ frames → take (4096 * frames) memory ≡ boot_ram image frames → part memory 0x100000 (length image.text) ≡ image.text
 text_stands image frames memory fits is =
     let within = text_within image in
     sym (part_front memory (4096 * frames) 0x100000 (length image.text) (omega (arith, within, fits)))
     ∙ (ap (λ (l : List ℕ). part l 0x100000 (length image.text)) is ∙ text_there image frames fits)
 
-abbrev begun : Cpu → List ℕ → Board → State
-begun cpu ram board = record { cpu = cpu; ram = ram; set = empty; board = board; step = 0 }
+abbrev first_state : Cpu → List ℕ → Board → State
+first_state cpu ram board = record { cpu = cpu; ram = ram; set = empty; board = board; step = 0 }
 
-pub begun_is : (cpu cpu2 : Cpu) (ram ram2 : List ℕ) (board board2 : Board) → cpu ≡ cpu2 → ram ≡ ram2 → board ≡ board2 → begun cpu ram board ≡ begun cpu2 ram2 board2
+pub begun_is : (cpu cpu2 : Cpu) (ram ram2 : List ℕ) (board board2 : Board) → cpu ≡ cpu2 → ram ≡ ram2 → board ≡ board2 → first_state cpu ram board ≡ first_state cpu2 ram2 board2
 begun_is cpu cpu2 ram ram2 board board2 p q t = λ i. record { cpu = p i; ram = q i; set = empty; board = t i; step = 0 }
 
 -- what a guest stands for doesn't depend on events

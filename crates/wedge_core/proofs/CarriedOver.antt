@@ -21,7 +21,7 @@ use Rattle.native_steps.proofs.Shown.{shown_length}
 use Rattle.kept_laws.specs.Carried.{indices_in}
 use Rattle.kept_laws.specs.Known.{IsKnown}
 use Rattle.wedge_core.specs.declared.running.Running.{Running}
-use Rattle.wedge_core.specs.Carried.{IsCarried, IsTakenFrom}
+use Rattle.wedge_core.specs.Carried.{IsCarried, IsTakenFrom, IsCarriedBy}
 use Rattle.wedge_core.specs.CarryLaws.{CarryLaws}
 use Rattle.wedge_core.specs.Parts.{left_of}
 use Rattle.wedge_core.specs.Pools.{Keeps}
@@ -32,9 +32,8 @@ use Rattle.wedge_core.proofs.Passed.{CarriesPast}
 
 module _ {S : Type 0} (stands : S → List ℕ → Type 0) (frames : S → List ℕ → List ℕ) (slots : S → List ℕ → ℕ → Option Slot) (noted : S → ℕ → Bool) (marked : S → Bool) (asides : S → List ℕ → List Aside) (opened : S → List ℕ → (ℕ → Bool) → Type 0) where
   -- all is known, where the next step goes by this set
-  pub record CarriedWith (m : Setting) (s : S) (memory : List ℕ) (kept : Set) (steps : List Taken) (b : State) : Type 0 where
-    pub known : IsKnown m steps b (noted s) (marked s) (asides s memory) kept
-    pub opened_to : opened s memory (λ index. is_member eqb (indices_in steps) index)
+  abbrev pub CarriedWith : Setting → S → List ℕ → Set → List Taken → State → Type 0
+  CarriedWith m s memory kept steps b = IsCarriedBy slots noted marked asides opened m steps b kept s memory
 
   pub with_kept : (m : Setting) (s : S) (memory : List ℕ) (steps : List Taken) (b : State) → IsCarried slots noted marked asides opened m steps b s memory → CarriedWith m s memory (entries_of (slots s memory)) steps b
   with_kept m s memory steps b c = record { known = c.known; opened_to = c.opened_to }

@@ -20,6 +20,7 @@ use Rattle.wedge_core.specs.Parts.{left_of}
 use Rattle.machine_model.specs.Run.{with_set}
 use Rattle.wedge_core.specs.Slices.{Counts, CountsOn}
 use Rattle.wedge_core.specs.Views.{is_outside, may_run}
+use Rattle.wedge_core.proofs.Bools.{clash, and_false, or_true}
 
 pub none_counts : (m : Setting) (r : Report) (counts : Counts) → direct_in m.image.sites r.completed ≡ [] → CountsOn m (r ∷ []) counts counts
 none_counts m r counts e =
@@ -52,17 +53,13 @@ placed false false site e = inr (inl refl)
 placed false true None e = absurd (let f : true ≡ false = e in cc)
 placed false true (Some s) e = inr (inr (refl, (s, refl)))
 
-below : (eip : ℕ) → nat_lt eip 0x10000000 ≡ true → nat_le 0x10000000 eip ≡ false
-below eip e = grind (arith, nat_tests)
+not_above : (eip : ℕ) → nat_lt eip 0x10000000 ≡ true → nat_le 0x10000000 eip ≡ false
+not_above eip e = grind (arith, nat_tests)
 
 not_below : (eip : ℕ) → nat_lt eip 0x10000000 ≡ false → 0x10000000 ≤ eip
 not_below eip e = grind (arith, nat_tests)
 
 -- ---- a start
-
-and_false : (b : Bool) → (b && false) ≡ false
-and_false true = refl
-and_false false = refl
 
 no_start : (text : List ℕ) (m : Setting) (eip : ℕ) → text ≡ m.image.text → places.is_start text (eip - 0x10000000) ≡ false → is_start m.image eip ≡ false
 unfolding places.is_start
@@ -78,10 +75,6 @@ no_stand m b mode level e =
 
 lies : (s : Site) (eip : ℕ) → 0x10000000 ≤ eip → lies_in (eip - 0x10000000) s ≡ true → (nat_le (0x10000000 + s.at) eip && nat_lt eip (0x10000000 + s.at + s.total)) ≡ true
 lies s eip above e = grind (arith, nat_tests)
-
-or_true : (b : Bool) → (b || true) ≡ true
-or_true true = refl
-or_true false = refl
 
 in_some : (sites : List Site) (eip : ℕ) (s : Site) → 0x10000000 ≤ eip → find (lies_in (eip - 0x10000000)) sites ≡ Some s → is_site_at sites eip ≡ true
 in_some [] eip s above e = absurd (let f : ◌≡◌ {A = Option Site} None (Some s) = e in cc)
@@ -102,9 +95,6 @@ never : (o : Option Completed) → ForSome o (λ c. ⊥) → o ≡ None
 never None h = refl
 never (Some c) h = absurd (h c refl)
 
-clash : (b : Bool) → b ≡ true → b ≡ false → ⊥
-clash b e f = cc
-
 level_0 : (cpl : ℕ) → IsLevel cpl → (cpl == 3) ≡ false → cpl ≡ 0
 level_0 cpl (inl z) e = z
 level_0 cpl (inr u) e = absurd (clash (cpl == 3) (ap (λ x. x == 3) u) e)
@@ -122,7 +112,7 @@ module _ (done : StepsAreDone) (waits : WaitsCountNothing) (sites : SitesCountNo
       let eip = b.cpu.regs.eip in
       let zero = level_0 b.cpu.cpl level kernel in
       elim (placed (nat_lt eip 0x10000000) (places.is_start m.image.text (eip - 0x10000000)) (site_at m.image.sites (eip - 0x10000000)) out) [
-        | inl low ↦ unstarted (no_stand m b mode zero (ap (λ (x : Bool). x && list_any (λ at. at == eip - 0x10000000) (Rattle.image_check.specs.Sweep.starts_of m.image.text)) (below eip low)))
+        | inl low ↦ unstarted (no_stand m b mode zero (ap (λ (x : Bool). x && list_any (λ at. at == eip - 0x10000000) (Rattle.image_check.specs.Sweep.starts_of m.image.text)) (not_above eip low)))
         | inr h ↦ elim h [
           | inl start ↦ unstarted (no_stand m b mode zero (no_start m.image.text m eip refl start))
           | inr k ↦ sites m b report after m.image.sites kernel (inside m.image.sites eip k.1.0 (not_below eip k.0) k.1.1) went

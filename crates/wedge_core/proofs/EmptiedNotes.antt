@@ -29,7 +29,7 @@ pub record SoFar (first now : ℕ) (notes : List Note) : Type 0 where
   pub next : notes_of now notes ≤ 1
 
 -- the same where the next step was tried
-pub record Tried (first now : ℕ) (notes : List Note) : Type 0 where
+pub record TriedNotes (first now : ℕ) (notes : List Note) : Type 0 where
   pub ordered : is_ordered first notes ≡ true
   pub until : All (IsUpTo now) notes
   pub few : (step : ℕ) → notes_of step notes ≤ 2
@@ -96,8 +96,8 @@ count_if false s n = omega arith
 not_equal : (a b : ℕ) → a < b → (a == b) ≡ false
 not_equal a b lt = grind (arith, nat_tests, lt)
 
-not_below : (a b : ℕ) → b < a → (a == b) ≡ false
-not_below a b lt = grind (arith, nat_tests, lt)
+not_same : (a b : ℕ) → b < a → (a == b) ≡ false
+not_same a b lt = grind (arith, nat_tests, lt)
 
 count_other : (b : Bool) (s n : ℕ) → (n == s) ≡ false → notes_of s (emptied_if b n) ≡ 0
 count_other true s n o = ap (λ (x : Bool). length (cond {A = List Note} x (emptied_at n ∷ []) [])) o
@@ -115,7 +115,7 @@ pub none_yet : (first : ℕ) → SoFar first first []
 none_yet first = record { ordered = refl; until = All-nil (IsUpTo first); few = λ step. omega arith; next = omega arith }
 
 -- a step is tried
-pub try_next : (b : Bool) (first now : ℕ) (notes : List Note) → first ≤ now → SoFar first now notes → Tried first now (notes ++ emptied_if b now)
+pub try_next : (b : Bool) (first now : ℕ) (notes : List Note) → first ≤ now → SoFar first now notes → TriedNotes first now (notes ++ emptied_if b now)
 try_next b first now notes le h = record {
   ordered = ordered_more b first now notes le h.until h.ordered;
   until = up_to_more b now notes h.until;
@@ -132,7 +132,7 @@ try_next b first now notes le h = record {
 }
 
 -- and went
-pub go_next : (b : Bool) (first now : ℕ) (notes : List Note) → first ≤ now → Tried first now notes → SoFar first (now + 1) (notes ++ emptied_if b (now + 1))
+pub go_next : (b : Bool) (first now : ℕ) (notes : List Note) → first ≤ now → TriedNotes first now notes → SoFar first (now + 1) (notes ++ emptied_if b (now + 1))
 go_next b first now notes le h =
     let up = up_to_later now (now + 1) notes (omega arith) h.until in
     let above = none_above now (now + 1) notes (omega arith) h.until in
@@ -161,7 +161,7 @@ so_far_later first now later notes lt h = record {
   next = (let none = none_above now later notes lt h.until in omega (arith, none));
 }
 
-pub tried_none : (first now : ℕ) (notes : List Note) → SoFar first now notes → Tried first now notes
+pub tried_none : (first now : ℕ) (notes : List Note) → SoFar first now notes → TriedNotes first now notes
 tried_none first now notes h = record { ordered = h.ordered; until = h.until; few = h.few }
 
 -- ---- no page is told alone
@@ -216,20 +216,20 @@ any_if true n = elim (eqb_tells n n) [ inl e ↦ ap (λ (x : Bool). x || false) 
 any_if false n = refl
 
 any_other : (b : Bool) (s n : ℕ) → s < n → list_any (is_emptied s) (emptied_if b n) ≡ false
-any_other true s n lt = ap (λ (x : Bool). x || false) (not_below n s lt)
+any_other true s n lt = ap (λ (x : Bool). x || false) (not_same n s lt)
 any_other false s n lt = refl
 
-left_twice : (a b : Bool) (set : Set) → left_of (a || b) set ≡ left_of b (left_of a set)
-left_twice true true set = refl
-left_twice true false set = refl
-left_twice false b set = refl
+left_either : (a b : Bool) (set : Set) → left_of (a || b) set ≡ left_of b (left_of a set)
+left_either true true set = refl
+left_either true false set = refl
+left_either false b set = refl
 
 -- of the next step one more thing is told
 pub told_more : (b : Bool) (n : ℕ) (set : Set) (notes : List Note) → All (IsUpTo n) notes → set_told (notes ++ emptied_if b n) n set ≡ left_of b (set_told notes n set)
 told_more b n set notes h =
     told_is n n set (notes ++ emptied_if b n) (up_to_more b n notes h)
     ∙ (ap (λ (x : Bool). left_of x set) (list_any-append (is_emptied n) notes (emptied_if b n) ∙ ap (λ (x : Bool). list_any (is_emptied n) notes || x) (any_if b n))
-    ∙ (left_twice (list_any (is_emptied n) notes) b set ∙ ap (left_of b) (sym (told_is n n set notes h))))
+    ∙ (left_either (list_any (is_emptied n) notes) b set ∙ ap (left_of b) (sym (told_is n n set notes h))))
 
 or_none : (a b : Bool) → b ≡ false → (a || b) ≡ a
 or_none true b h = refl

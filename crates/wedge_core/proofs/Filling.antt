@@ -22,6 +22,7 @@ use Rattle.wedge_mem.specs.Settled.{used, has_entry, pages_of}
 use Rattle.machine_model.specs.Run.{Set}
 use Rattle.wedge_core.specs.Filled.{FillsOn}
 use Rattle.wedge_core.specs.Parts.{IsPartOf}
+use Rattle.std.proofs.lemmas.Bool.{cases_Bool}
 
 -- ---- the pages of a set, each once
 
@@ -38,14 +39,14 @@ second : (a b : Bool) → T (a && b) → T b
 second true b p = p
 second false b p = absurd p
 
-below : (x : ℕ) (es : List (ℕ × Entry)) → T (below_all nat_cmp x es) → AllByRecursion (λ y. nat_cmp x y ≡ Less) (map (λ e. e.0) es)
-below x [] h = tt
-below x (e ∷ es) h = (less (nat_cmp x e.0) (first _ _ h), below x es (second _ _ h))
+below_each : (x : ℕ) (es : List (ℕ × Entry)) → T (below_all nat_cmp x es) → AllByRecursion (λ y. nat_cmp x y ≡ Less) (map (λ e. e.0) es)
+below_each x [] h = tt
+below_each x (e ∷ es) h = (less (nat_cmp x e.0) (first _ _ h), below_each x es (second _ _ h))
 
 sorted : (es : List (ℕ × Entry)) → T (is_sorted nat_cmp es) → IsStrictlySortedBy nat_cmp (map (λ e. e.0) es)
 unfolding IsStrictlySortedBy
 sorted [] h = tt
-sorted (e ∷ es) h = (below e.0 es (first _ _ h), sorted es (second _ _ h))
+sorted (e ∷ es) h = (below_each e.0 es (first _ _ h), sorted es (second _ _ h))
 
 distinct : (set : Set) → IsDistinct (eq_by_cmp nat_cmp) (keys set)
 distinct set = IsDistinct-from_sorted nat_cmp (keys set) (sorted (entries set) (entries_sorted set))
@@ -59,27 +60,23 @@ has_some : (o : Option Entry) → is_some o ≡ true → has_entry o ≡ true
 has_some None h = h
 has_some (Some e) h = refl
 
-any_among : (q : ℕ) (xs : List ℕ) → list_any (eq_by_cmp nat_cmp q) xs ≡ is_among q xs
-any_among q [] = refl
-any_among q (x ∷ xs) = ap (λ b. b || list_any (eq_by_cmp nat_cmp q) xs) (unsigned_tied q x) ∙ ap (λ b. (q == x) || b) (any_among q xs)
+among_keys : (q : ℕ) (xs : List ℕ) → list_any (eq_by_cmp nat_cmp q) xs ≡ is_among q xs
+among_keys q [] = refl
+among_keys q (x ∷ xs) = ap (λ b. b || list_any (eq_by_cmp nat_cmp q) xs) (unsigned_tied q x) ∙ ap (λ b. (q == x) || b) (among_keys q xs)
 
-or_false : (a b : Bool) → a ≡ false → (a || b) ≡ true → b ≡ true
-or_false true b n h = absurd (let f : true ≡ false = n in cc)
-or_false false b n h = h
+or_past : (a b : Bool) → a ≡ false → (a || b) ≡ true → b ≡ true
+or_past true b n h = absurd (let f : true ≡ false = n in cc)
+or_past false b n h = h
 
 or_right : (a : Bool) → (a || true) ≡ true
 or_right true = refl
 or_right false = refl
 
-bool_cases : (b : Bool) → (b ≡ true) ⊎ (b ≡ false)
-bool_cases true = inl refl
-bool_cases false = inr refl
-
 -- a page that has an entry is one of those used
 in_used : (set : Set) (q : ℕ) → has_entry (get set q) ≡ true → (pages : List ℕ) → is_among q pages ≡ true → is_among q (used set pages) ≡ true
 in_used set q has [] h = h
 in_used set q has (p ∷ pages) h =
-    elim (bool_cases (is_among q pages)) [
+    elim (cases_Bool (is_among q pages)) [
       | inl t ↦ later (has_entry (get set p) && not (is_among p pages)) (in_used set q has pages t)
       | inr n ↦ elim (eqb_tells q p) [
         | inl e ↦
@@ -102,7 +99,7 @@ grown old new pages each =
     list_any-append (eq_by_cmp nat_cmp q) (keys old) (used new pages) ∙ elim (each q has) [
       | inl t ↦ ap (λ b. b || list_any (eq_by_cmp nat_cmp q) (used new pages)) (sym (contains_key-keys old q) ∙ t)
       | inr t ↦
-          ap (λ b. list_any (eq_by_cmp nat_cmp q) (keys old) || b) (any_among q (used new pages) ∙ in_used new q (has_some (get new q) has) pages t)
+          ap (λ b. list_any (eq_by_cmp nat_cmp q) (keys old) || b) (among_keys q (used new pages) ∙ in_used new q (has_some (get new q) has) pages t)
           ∙ or_right (list_any (eq_by_cmp nat_cmp q) (keys old))
     ]) in
     let a = counts_keys new in

@@ -36,7 +36,7 @@ use Rattle.wedge_core.proofs.Parts.{part_left, part_same, part_allowed, part_loo
 use Rattle.wedge_core.proofs.Joined.{steps_join, no_steps, steps_one, trace_join, counts_join, counts_none}
 use Rattle.wedge_core.proofs.Filling.{part_few}
 use Rattle.wedge_core.proofs.Texts.{appends_both, appends_none, front_of, lines_join}
-use Rattle.wedge_core.proofs.EmptiedNotes.{SoFar, Tried, none_yet, try_next, go_next, so_far_later, told_more, told_none, told_before, up_to_later, tried_none, none_dropped, dropped_once, are_pages, steps_until}
+use Rattle.wedge_core.proofs.EmptiedNotes.{SoFar, TriedNotes, none_yet, try_next, go_next, so_far_later, told_more, told_none, told_before, up_to_later, tried_none, none_dropped, dropped_once, are_pages, steps_until}
 use Rattle.wedge_core.proofs.Passed.{CarriesPast, some_more, step_taken, taken_first}
 use Rattle.wedge_core.proofs.ToldSteps.{ToldBy, told_nothing, told_one, told_join, told_on, left_behind, steps_counted, are_told}
 
@@ -70,8 +70,8 @@ none_split [] y b e = cc
 none_split (z ∷ a) y b e = cc
 
 -- no step is kept or not
-none_kept : (m : Setting) (b : State) → Kept m b []
-none_kept m b = record { each = λ earlier now later is roomy. absurd (none_split earlier now later is) }
+kept_none : (m : Setting) (b : State) → Kept m b []
+kept_none m b = record { each = λ earlier now later is roomy. absurd (none_split earlier now later is) }
 
 pub going_none : (m : Setting) (b : State) (counts : Counts) (told : Option (List ℕ)) (pages fills : ℕ) (wanted : Bool) (notes_on : List Note → Type 0) (begins : Type 0) (carried : Set → List Taken → State → Type 0) → notes_on [] → len b.set ≤ pages → (begins → carried b.set [] b) → Going m b b counts counts told told pages fills fills wanted notes_on begins carried
 going_none m b counts told pages fills wanted notes_on begins carried none few start = record {
@@ -86,7 +86,7 @@ going_none m b counts told pages fills wanted notes_on begins carried none few s
   so_far = none_yet b.step;
   tells_notes = none;
   each_filled = All-nil (λ (set : Set). FillsOn pages (len set) fills fills);
-  rule = λ s. none_kept m b;
+  rule = λ s. kept_none m b;
   carries = λ s roomy. start s;
   enough = record { rises = omega arith; enough = omega (arith, few) };
   text = appends_none told;
@@ -94,8 +94,8 @@ going_none m b counts told pages fills wanted notes_on begins carried none few s
 }
 
 -- none of them is behind the first
-pub begun : (m : Setting) (old now : State) (a b : Counts) (told tells : Option (List ℕ)) (pages fills filled : ℕ) (wanted : Bool) (notes_on : List Note → Type 0) (begins : Type 0) (carried : Set → List Taken → State → Type 0) → (g : Going m old now a b told tells pages fills filled wanted notes_on begins carried) → old.step + length g.sets ≡ now.step
-begun m old now a b told tells pages fills filled wanted notes_on begins carried g = sym (steps_counted m old g.sets g.reports (with_set now g.whole) g.steps)
+pub none_behind : (m : Setting) (old now : State) (a b : Counts) (told tells : Option (List ℕ)) (pages fills filled : ℕ) (wanted : Bool) (notes_on : List Note → Type 0) (begins : Type 0) (carried : Set → List Taken → State → Type 0) → (g : Going m old now a b told tells pages fills filled wanted notes_on begins carried) → old.step + length g.sets ≡ now.step
+none_behind m old now a b told tells pages fills filled wanted notes_on begins carried g = sym (steps_counted m old g.sets g.reports (with_set now g.whole) g.steps)
 
 -- what is left of a set is part of it
 told_part : (b : Bool) (set : Set) → IsPartOf (left_of b set) set
@@ -247,7 +247,7 @@ module _ (m : Setting) (old now : State) (a b : Counts) (told tells : Option (Li
   chosen = left_of dropped now.set
 
   pub here : old.step + length g.sets ≡ now.step
-  here = begun m old now a b told tells pages fills mid wanted notes_on begins carried g
+  here = none_behind m old now a b told tells pages fills mid wanted notes_on begins carried g
 
   pub first : old.step ≤ now.step
   first = let n = here in omega (arith, n)
@@ -258,7 +258,7 @@ module _ (m : Setting) (old now : State) (a b : Counts) (told tells : Option (Li
   pub chosen_allowed : Loosened m (with_set now g.whole) chosen
   chosen_allowed = part_loosened m (with_set now g.whole) chosen now.set (told_part dropped now.set) g.allowed
 
-  pub tried : Tried old.step now.step notes_tried
+  pub tried : TriedNotes old.step now.step notes_tried
   tried = try_next dropped old.step now.step g.notes first g.so_far
 
   pub by_then : wanted ≡ true → ToldBy m old g.sets notes_tried
@@ -365,7 +365,7 @@ stepped_front m old now new seen a b told tells last pages fills filled wanted n
 
 -- ---- where the slice ends
 
-are_notes : (m : Setting) (old : State) (sets : List Set) (last : ℕ) (notes : List Note) → Tried old.step last notes → AreNotes m old sets last notes
+are_notes : (m : Setting) (old : State) (sets : List Set) (last : ℕ) (notes : List Note) → TriedNotes old.step last notes → AreNotes m old sets last notes
 are_notes m old sets last notes h = record {
   ordered = h.ordered;
   until = steps_until last notes h.until;

@@ -31,24 +31,24 @@ by_view v w k s p is run = subst (λ (x : View). host_run x k s ≡ p) is run
 is_run : EachIsRun → (v : View) (k : ℕ) (s : Standing) (exit : Exit) (t : Standing) → host_run v k s ≡ (exit, t) → IsRun v k s exit t
 is_run law v k s exit t is = subst (λ (p : Exit × Standing). IsRun v k s p.0 p.1) is (law v k s)
 
-pub record Counts (k : ℕ) (s t : Standing) : Type 0 where
+pub record Retires (k : ℕ) (s t : Standing) : Type 0 where
   pub n : ℕ
   pub few : n ≤ k
   pub retired : t.retired ≡ s.retired + n
 
-pub counts_of : EachIsRun → (v : View) (k : ℕ) (s : Standing) (exit : Exit) (t : Standing) → host_run v k s ≡ (exit, t) → Counts k s t
+pub counts_of : EachIsRun → (v : View) (k : ℕ) (s : Standing) (exit : Exit) (t : Standing) → host_run v k s ≡ (exit, t) → Retires k s t
 counts_of law v k s exit t is =
     let r = is_run law v k s exit t is in
     record { n = r.n; few = elim r.ends [ inl all ↦ (let e = all.0 in omega (arith, e)) | inr some ↦ (let e = some.0 in omega (arith, e)) ]; retired = r.retired }
 
 -- ---- where it leads
 
-below : (v : View) (at : ℕ) → is_entry v at ≡ true → at < 0x06000000
-below v at e = let w = both (nat_le 67108864 at) (nat_lt at 100663296) (both v.kernel (is_window at) e).1 in grind (arith, nat_tests, w.1)
+entry_low : (v : View) (at : ℕ) → is_entry v at ≡ true → at < 0x06000000
+entry_low v at e = let w = both (nat_le 67108864 at) (nat_lt at 100663296) (both v.kernel (is_window at) e).1 in grind (arith, nat_tests, w.1)
 
 module _ (enters : EntersTheWindow) (leaves : ExitsInTheWindow) where
   by_exit : (v : View) (memory : List ℕ) (r : Regs) (exit : Exit) → host_step v memory r ≡ Err exit → LeadsLow exit
-  by_exit v memory r (exits.Entry at) e = let p = leaves v memory r at e in subst (λ (n : ℕ). n < 0x06000000) (sym p.1) (below v r.eip p.0)
+  by_exit v memory r (exits.Entry at) e = let p = leaves v memory r at e in subst (λ (n : ℕ). n < 0x06000000) (sym p.1) (entry_low v r.eip p.0)
   by_exit v memory r (exits.Fault vector code cr2) e = tt
   by_exit v memory r (exits.Soft vector) e = tt
   by_exit v memory r exits.Outside e = tt
@@ -58,7 +58,7 @@ module _ (enters : EntersTheWindow) (leaves : ExitsInTheWindow) where
 
   by_met : (v : View) (last : Standing) (exit : Exit) (t : Standing) (met : Met (Completion × List ℕ)) → host_step v last.ram last.regs ≡ met → Leaves met last exit t → LeadsLow exit
   by_met v last exit t (Ok (Completed regs, ram)) e l = absurd l
-  by_met v last exit t (Ok (Entered regs, ram)) e l = subst LeadsLow (sym l.0) (below v regs.eip (enters v last.ram last.regs regs ram e))
+  by_met v last exit t (Ok (Entered regs, ram)) e l = subst LeadsLow (sym l.0) (entry_low v regs.eip (enters v last.ram last.regs regs ram e))
   by_met v last exit t (Err x) e l = subst LeadsLow (sym l.0) (by_exit v last.ram last.regs x e)
 
   pub leads_low : EachIsRun → (v : View) (k : ℕ) (s : Standing) (exit : Exit) (t : Standing) → host_run v k s ≡ (exit, t) → LeadsLow exit

@@ -37,12 +37,9 @@ use Rattle.native_steps.proofs.Through.{Through, through_same, within_as, taken_
 use Rattle.native_steps.proofs.Walking.{IsWithin, IsServed, decided_readied}
 use Rattle.native_steps.proofs.Walks.{IsWalk, ByTable, Large, walk_parts, walk_in}
 use Rattle.native_steps.proofs.Ways.{Way}
+use Rattle.std.proofs.lemmas.Bool.{not-false, or_parts}
 
 -- ---- the frames of the text stay
-
-either : (x y : Bool) → (x || y) ≡ false → (x ≡ false) × (y ≡ false)
-either false y e = (refl, e)
-either true y e = absurd cc
 
 second_of : (x y z : Bool) → x ≡ true → y ≡ true → (x && (y && z)) ≡ false → z ≡ false
 second_of true true z e f g = g
@@ -67,7 +64,7 @@ roots_apart : (s : Tables) (page : ℕ) → walks_text s page ≡ false → (is_
 unfolding walks_text
 roots_apart s page e =
     let dir : ℕ = word32 s.ram (dir_place s.cr3 page) in
-    let p = either (is_text s.mode (s.cr3 / 4096)) _ e in
+    let p = or_parts (is_text s.mode (s.cr3 / 4096)) _ e in
     (p.0, λ lt h small. last_of (is_large s.pse dir) (is_text s.mode (dir / 4096)) small (second_of (nat_lt (s.cr3 / 4096) s.frames) (has dir 1) _ (lt_true (s.cr3 / 4096) s.frames lt) h p.1))
 
 dir_frame : (cr3 page : ℕ) → page < 2 ^ 20 → dir_place cr3 page / 4096 ≡ cr3 / 4096
@@ -93,14 +90,14 @@ module _ (m : Setting) (b : State) where
   abbrev IsTextAt : ℕ → Type 0
   IsTextAt k = is_text (wedge_mode m.image) (k / 4096) ≡ true
 
-  record Keeps (s t : Space) : Type 0 where
+  record KeepsText (s t : Space) : Type 0 where
     long : length t.ram ≡ length s.ram
     same : (k : ℕ) → is_text (wedge_mode m.image) (k / 4096) ≡ true → byte t.ram k ≡ byte s.ram k
 
-  keeps_ram : (s t : Space) → t.ram ≡ s.ram → Keeps s t
+  keeps_ram : (s t : Space) → t.ram ≡ s.ram → KeepsText s t
   keeps_ram s t e = record { long = ap length e; same = λ k h. ap (λ (x : List ℕ). byte x k) e }
 
-  keeps_on : (s t u : Space) → Keeps s t → Keeps t u → Keeps s u
+  keeps_on : (s t u : Space) → KeepsText s t → KeepsText t u → KeepsText s u
   keeps_on s t u h k = record { long = k.long ∙ h.long; same = λ q x. k.same q x ∙ h.same q x }
 
   off_text : (s : Space) → In s → (k d : ℕ) → IsTextAt k → is_text s.mode (d / 4096) ≡ false → k ≡ d → ⊥
@@ -134,7 +131,7 @@ module _ (m : Setting) (b : State) where
   none_there : (q : ℕ) → Contains {X = ℕ} [] q → ⊥
   none_there q c = let lt = c.1 in omega (arith, lt)
 
-  fetching_text : (s t : Space) (at len : ℕ) (bytes : List ℕ) → In s → at / 4096 < 2 ^ 20 → fetching false at len s ≡ Ok (bytes, t) → Keeps s t
+  fetching_text : (s t : Space) (at len : ℕ) (bytes : List ℕ) → In s → at / 4096 < 2 ^ 20 → fetching false at len s ≡ Ok (bytes, t) → KeepsText s t
   unfolding fetching fetches
   fetching_text s t at len bytes h small e =
       let p = taken_parts m b true at len (fetches s at len false).0 (fetches s at len false).1 bytes t e in
@@ -149,10 +146,6 @@ module _ (m : Setting) (b : State) where
       }
 
 -- ---- the instruction that is fetched
-
-not_false : (x : Bool) → not x ≡ false → x ≡ true
-not_false true e = refl
-not_false false e = absurd cc
 
 -- the frame that the loader gave
 given : (image : Image) (page frame : ℕ) → is_given (wedge_mode image) page frame ≡ true → (65536 ≤ page) × (frame ≡ 0x100 + (page - 65536))
@@ -171,17 +164,17 @@ module _ (m : Setting) (w : IsWedge m) (memory : List ℕ) (host : IsHost m memo
     P t = Fetches m (again.settled b t) true
 
     fetched_there : (t : Space) (page frame : ℕ) → P t page frame → (65536 ≤ page) × (frame ≡ 0x100 + (page - 65536))
-    fetched_there t page frame f = given m.image page frame (not_false (is_given (wedge_mode m.image) page frame) f.free)
+    fetched_there t page frame f = given m.image page frame (not-false (is_given (wedge_mode m.image) page frame) f.free)
 
     text_at : (k : ℕ) → 0x100000 ≤ k → k < 0x100000 + length m.image.text → is_text (wedge_mode m.image) (k / 4096) ≡ true
     text_at k le lt = ap (λ (x : Bool). x && nat_lt (k / 4096) (0x100 + text_pages m.image)) (le_true 0x100 (k / 4096) (omega (arith, le))) ∙ lt_true (k / 4096) (0x100 + text_pages m.image) (omega (arith, le, lt))
 
-    same_text : (t : Space) → Keeps m b start t → (at n : ℕ) → at + n ≤ length m.image.text → part t.ram (0x100000 + at) n ≡ part m.image.text at n
+    same_text : (t : Space) → KeepsText m b start t → (at n : ℕ) → at + n ≤ length m.image.text → part t.ram (0x100000 + at) n ≡ part m.image.text at n
     same_text t h at n le =
         part_same t.ram b.ram (0x100000 + at) n h.long (λ k low high. h.same k (text_at k (omega (arith, low)) (omega (arith, high, le))))
         ∙ (ap (λ (x : List ℕ). part x (0x100000 + at) n) ram_is ∙ text_shown m w memory host at n le)
 
-    is_swept : (t : Space) (insn : Insn) (len : ℕ) → Keeps m b start t → Way (P t) t.ram b.cpu.regs.eip insn len → kind_of insn.op ≡ None
+    is_swept : (t : Space) (insn : Insn) (len : ℕ) → KeepsText m b start t → Way (P t) t.ram b.cpu.regs.eip insn len → kind_of insn.op ≡ None
     is_swept t insn len kept way =
         let there = start_there m.image laws b.cpu.regs.eip (next.start refl) in
         let s = laws.instruction (b.cpu.regs.eip - 0x10000000) there.1 in
@@ -230,7 +223,7 @@ module _ (m : Setting) (w : IsWedge m) (memory : List ℕ) (host : IsHost m memo
         begun : In m b start
         begun = start_in m b true w.mode room fit sound small
 
-        first_keeps : (p : IsFetch false b.cpu.regs.eip insn len start t) → Keeps m b start p.first
+        first_keeps : (p : IsFetch false b.cpu.regs.eip insn len start t) → KeepsText m b start p.first
         first_keeps p = fetching_text m b start p.first b.cpu.regs.eip (front_len b.cpu.regs.eip) p.front begun page_small p.reads
 
         first_in : (p : IsFetch false b.cpu.regs.eip insn len start t) → In m b p.first

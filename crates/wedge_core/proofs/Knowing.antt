@@ -39,18 +39,8 @@ use Rattle.wedge_core.specs.Leaving.{Tells, RulesSame, Ends}
 use Rattle.wedge_core.specs.Ready.{is_all}
 use Rattle.machine_step.specs.Roots.{RootsAs}
 use Rattle.wedge_core.proofs.Shedding.{found_tables}
-use Rattle.wedge_core.proofs.AmongPages.{any_among, told_among, among_first}
-
-clash : (b : Bool) → b ≡ true → b ≡ false → ⊥
-clash b t f = let g : true ≡ false = sym t ∙ f in cc
-
-not_true : (b : Bool) → (b ≡ true → ⊥) → b ≡ false
-not_true true n = absurd (n refl)
-not_true false n = refl
-
-right_false : (a b : Bool) → (a || b) ≡ false → b ≡ false
-right_false true b e = absurd (let f : true ≡ false = e in cc)
-right_false false b e = e
+use Rattle.wedge_core.proofs.AmongPages.{any_among, told_among, among_first, changed_other}
+use Rattle.wedge_core.proofs.Bools.{clash, not_true, right_false}
 
 -- ---- what a step reported
 
@@ -88,14 +78,6 @@ answer_from m b t w board s taken set e =
     }
 
 -- ---- pages that a step used
-
-changed_other : (set : Set) (cs : List Change) (q : ℕ) → is_among q (map page_of cs) ≡ false → get (changed set cs) q ≡ get set q
-changed_other set [] q h = refl
-changed_other set (c ∷ cs) q h =
-    elim (eqb_tells q (page_of c)) [
-      | inl e ↦ absurd (let f : true ≡ false = sym (ap (λ (b : Bool). b || is_among q (map page_of cs)) e.0) ∙ h in cc)
-      | inr n ↦ changed_other (with_entry set (page_of c) (entry_of c)) cs q (right_false (q == page_of c) (is_among q (map page_of cs)) h) ∙ get_with_other set (page_of c) (entry_of c) q n.1
-    ]
 
 -- a page that no access went through has the entry that it had
 unchanged : (base : Set) (visited : List ℕ) (changes : List Change) → AreToldIn visited changes → (q : ℕ) → is_among q visited ≡ false → get (changed base changes) q ≡ get base q

@@ -25,16 +25,9 @@ use Rattle.native_steps.specs.Stretch.{AreQuiet, board_now, board_after, EndsAs}
 use Rattle.wedge_core.specs.Ran.{landed}
 use Rattle.wedge_core.specs.Standing.{ground}
 use Rattle.wedge_core.specs.Views.{is_outside, may_run}
-use Rattle.wedge_core.proofs.Bools.{both, is_not, none_some}
+use Rattle.wedge_core.proofs.Bools.{both, is_not, none_some, clash, none_of}
 
 -- ---- the processor may go on
-
-clash : (b : Bool) → b ≡ true → b ≡ false → ⊥
-clash b e f = cc
-
-none_of : (o : Option ℕ) → is_none o ≡ true → o ≡ None
-none_of None e = refl
-none_of (Some x) e = absurd (let f : false ≡ true = e in cc)
 
 -- at level 0 it stands where the text has an instruction outside sites
 pub record IsBetween (image : Image) (eip : ℕ) : Type 0 where
@@ -42,15 +35,15 @@ pub record IsBetween (image : Image) (eip : ℕ) : Type 0 where
   pub start : places.is_start image.text (eip - 0x10000000) ≡ true
   pub outside : site_at image.sites (eip - 0x10000000) ≡ None
 
-placed : (image : Image) (eip : ℕ) (low start : Bool) (site : Option Site) → nat_lt eip 0x10000000 ≡ low → places.is_start image.text (eip - 0x10000000) ≡ start → site_at image.sites (eip - 0x10000000) ≡ site
+placed_between : (image : Image) (eip : ℕ) (low start : Bool) (site : Option Site) → nat_lt eip 0x10000000 ≡ low → places.is_start image.text (eip - 0x10000000) ≡ start → site_at image.sites (eip - 0x10000000) ≡ site
     → is_outside (cond low NotAStart (cond start (by_site site) NotAStart)) ≡ true → IsBetween image eip
-placed image eip true start site a b c e = absurd (let f : false ≡ true = e in cc)
-placed image eip false false site a b c e = absurd (let f : false ≡ true = e in cc)
-placed image eip false true None a b c e = record { above = grind (arith, nat_tests, a); start = b; outside = c }
-placed image eip false true (Some s) a b c e = absurd (let f : false ≡ true = e in cc)
+placed_between image eip true start site a b c e = absurd (let f : false ≡ true = e in cc)
+placed_between image eip false false site a b c e = absurd (let f : false ≡ true = e in cc)
+placed_between image eip false true None a b c e = record { above = grind (arith, nat_tests, a); start = b; outside = c }
+placed_between image eip false true (Some s) a b c e = absurd (let f : false ≡ true = e in cc)
 
 between : (image : Image) (eip : ℕ) → is_outside (place_at image eip) ≡ true → IsBetween image eip
-between image eip e = placed image eip (nat_lt eip 0x10000000) (places.is_start image.text (eip - 0x10000000)) (site_at image.sites (eip - 0x10000000)) refl refl refl e
+between image eip e = placed_between image eip (nat_lt eip 0x10000000) (places.is_start image.text (eip - 0x10000000)) (site_at image.sites (eip - 0x10000000)) refl refl refl e
 
 entrance_of : (image : Image) (eip : ℕ) → IsBetween image eip → IsEntrance image eip
 entrance_of image eip h = record {

@@ -4,10 +4,11 @@ use Rattle.std.specs.Prelude.{MatchOption, is_none}
 use Rattle.std.specs.FinMap.{empty}
 use Rattle.std.proofs.lemmas.List.{take_all}
 use Rattle.std.proofs.lemmas.Bool.Decides.{eqb_tells}
+use Rattle.std.specs.List.{list_any}
 use Rattle.frame_pool.specs.Pool.{free_list}
 use Rattle.frame_pool.specs.declared.Pool.{Pool}
 use Rattle.descriptors.specs.declared.cpu.Cpu.{Cpu}
-use Rattle.shadow_tables.specs.Aside.{Aside, IsSame, AreSame, LoseWrites, any_of, all_spared}
+use Rattle.shadow_tables.specs.Aside.{Aside, IsSame, AreSame, LoseWrites, all_spared}
 use Rattle.shadow_tables.specs.Entries.{entries_of}
 use Rattle.shadow_tables.specs.Slots.{Slot, is_among}
 use Rattle.shadow_tables.proofs.Asides.{same-refl}
@@ -19,14 +20,6 @@ use Rattle.machine_step.specs.Worked.{dropping}
 use Rattle.kept_laws.specs.Known.{StayAside, EmptyAside}
 use Rattle.wedge_core.specs.Leaving.{Tells, Loads, Ends, RulesSame}
 use Rattle.wedge_core.specs.Ready.{is_all}
-
-pub not_true : (b : Bool) → (b ≡ true → ⊥) → b ≡ false
-not_true true h = absurd (h refl)
-not_true false h = refl
-
-pub not_false : (b : Bool) → (b ≡ false → ⊥) → b ≡ true
-not_false true h = refl
-not_false false h = absurd (h refl)
 
 -- the instruction dropped all, and the rules are the same: CR3 was loaded
 pub no_way : (changed all : Bool) → changed ≡ false → all ≡ true → (changed || not all) ≡ true → ⊥
@@ -64,7 +57,7 @@ module _ (noted noted2 : ℕ → Bool) (marked marked2 : Bool) (asides asides2 :
 
   -- what a step that was settled was told
   pub tells_by : (tables wrote : List ℕ) (result : Option ℕ) → ((frame : ℕ) → noted2 frame ≡ true → read_by noted tables frame ≡ true)
-      → MatchOption result (marked2 ≡ true → marked ≡ true) (λ n. marked2 ≡ (marked || any_of (read_by noted tables) wrote))
+      → MatchOption result (marked2 ≡ true → marked ≡ true) (λ n. marked2 ≡ (marked || list_any (read_by noted tables) wrote))
       → MatchOption result (asides2 ≡ []) (λ n. LoseWrites (guest_frames tables) (all_spared wrote asides) asides2) → is_none result ≡ false → Tells tables wrote noted noted2 marked marked2 asides asides2
   tells_by tables wrote None n m a e = absurd (let f : true ≡ false = e in cc)
   tells_by tables wrote (Some k) n m a e = record { notes = n; marks = m; others = a }

@@ -6,10 +6,7 @@ use Rattle.machine_model.specs.Instruction.{next_page}
 use Rattle.native_steps.specs.Looking.{Seen, marks_front, next_seen, seen, seen_behind}
 use Rattle.wedge_core.specs.declared.looking.Marks.{Marks}
 use Rattle.wedge_core.specs.Clashing.{marks_of}
-
-or_false : (x : Bool) → (x || false) ≡ x
-or_false true = refl
-or_false false = refl
+use Rattle.std.proofs.Math.Bool.{or-false}
 
 -- the first place, or else the second
 pub any_first : (f : ℕ → Bool) (o : Option Marks) (x : Marks) (r : Bool) → o ≡ Some x → r ≡ f x.dir → r ≡ true → r ≡ list_any f (marks_of o)
@@ -17,7 +14,7 @@ any_first f o x r is first marks = marks ∙ sym (ap (λ (z : Option Marks). lis
 
 pub any_second : (f : ℕ → Bool) (o : Option Marks) (x : Marks) (r s : Bool) → o ≡ Some x → r ≡ f x.dir → r ≡ false → s ≡ f x.word → s ≡ list_any f (marks_of o)
 any_second f o x r s is first passes second =
-    second ∙ sym (ap (λ (z : Option Marks). list_any f (marks_of z)) is ∙ (ap (λ b. b || (f x.word || false)) (sym first ∙ passes) ∙ or_false (f x.word)))
+    second ∙ sym (ap (λ (z : Option Marks). list_any f (marks_of z)) is ∙ (ap (λ b. b || (f x.word || false)) (sym first ∙ passes) ∙ or-false (f x.word)))
 
 module _ (m : Setting) (b : State) (x : Seen) (page : ℕ) (at : page ≡ b.cpu.regs.eip / 4096 + 1) where
   next_from : (o : Option Seen) → o ≡ seen m b page → seen_behind b x o ≡ next_seen m b x

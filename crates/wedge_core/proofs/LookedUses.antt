@@ -90,8 +90,8 @@ unfolding part
 few_of m a n k le = grind (arith, places)
 
 -- so many bytes at most
-pub part_few : (m : List ℕ) (a n k : ℕ) (xs bytes : List ℕ) → xs ≡ [] → bytes ≡ xs ++ part m a n → n ≤ k → length bytes ≤ k
-part_few m a n k xs bytes none e le =
+pub bytes_few : (m : List ℕ) (a n k : ℕ) (xs bytes : List ℕ) → xs ≡ [] → bytes ≡ xs ++ part m a n → n ≤ k → length bytes ≤ k
+bytes_few m a n k xs bytes none e le =
     let few = few_of m a n k le in
     let is : length bytes ≡ length (part m a n) = ap length (e ∙ ap (λ l. l ++ part m a n) none) in
     omega (arith, few, is)

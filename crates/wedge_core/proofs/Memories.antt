@@ -23,6 +23,10 @@ append_both (x ∷ xs) (z ∷ zs) ys ws l e =
     let t = append_both xs zs ys ws (omega (arith, l)) rest in
     (let tail = t.0 in cc, t.1)
 
+pub part_front : (l : List ℕ) (n a k : ℕ) → a + k ≤ n → part (take n l) a k ≡ part l a k
+unfolding part
+part_front l n a k h = same_lists _ _ (grind (arith, places)) (λ j d i. grind (arith, places))
+
 -- what a step leaves of raw memory
 pub record Leaves (count frames : ℕ) (old new : List ℕ) : Type 0 where
   pub text : part new 0x100000 (4096 * count) ≡ part old 0x100000 (4096 * count)

@@ -32,12 +32,8 @@ use Rattle.wedge_core.specs.Parts.{IsLeft}
 use Rattle.wedge_core.specs.declared.running.Lost.{Lost}
 use Rattle.wedge_core.specs.Tries.{OthersAreUsers}
 use Rattle.wedge_core.specs.Views.{is_outside, may_run}
-use Rattle.wedge_core.proofs.Bools.{both, is_not}
+use Rattle.wedge_core.proofs.Bools.{both, is_not, none_of}
 use Rattle.wedge_core.proofs.Insensitive.{insensitive}
-
-none_of : {A : Type 0} (o : Option A) → is_none o ≡ true → o ≡ None
-none_of None e = refl
-none_of (Some x) e = absurd cc
 
 stands_out : (low start : Bool) (site : Option Site) → is_outside (cond low NotAStart (cond start (by_site site) NotAStart)) ≡ true → (low ≡ false) × (start ≡ true) × (site ≡ None)
 stands_out true start site e = absurd cc

@@ -69,25 +69,25 @@ part_left true part whole is = part_empty part whole is
 part_left false part whole is = part_same part whole is
 
 -- of nothing nothing leaves
-none_dropped : (d : Dropped) → dropping d empty ≡ empty
-none_dropped dropped.Nothing = refl
-none_dropped (dropped.Page page) =
+dropping_empty : (d : Dropped) → dropping d empty ≡ empty
+dropping_empty dropped.Nothing = refl
+dropping_empty (dropped.Page page) =
     let none : Set = empty in
     same_map nat_cmp_total nat_cmp-IsAntisymmetric (remove none page) none
     (λ q. elim (eqb_tells q page) [
       | inl t ↦ ap (λ (k : ℕ). get (remove none page) k) t.1 ∙ (get_with_same none page None ∙ sym (get-empty nat_cmp q))
       | inr n ↦ get_with_other none page None q n.1
     ])
-none_dropped (dropped.Dir index) =
+dropping_empty (dropped.Dir index) =
     let none : Set = empty in
     same_map nat_cmp_total nat_cmp-IsAntisymmetric (without_dir none index) none
     (λ q.
     let stays : Bool = not (q / 1024 == index) in
     dir_get none index q ∙ (ap (λ (o : Option Entry). cond stays o None) (get-empty nat_cmp q) ∙ (none_anyhow stays ∙ sym (get-empty nat_cmp q))))
-none_dropped dropped.All = refl
+dropping_empty dropped.All = refl
 
 -- all may leave before some of them do, and behind that
 pub left_twice : (d : Dropped) (first second : Bool) (set mid new : Set) → mid ≡ left_of first set → new ≡ left_of second (dropping d mid) → new ≡ left_of (first || second) (dropping d set)
 left_twice d true true set mid new is then = then
-left_twice d true false set mid new is then = then ∙ (ap (dropping d) is ∙ none_dropped d)
+left_twice d true false set mid new is then = then ∙ (ap (dropping d) is ∙ dropping_empty d)
 left_twice d false second set mid new is then = then ∙ ap (λ (x : Set). left_of second (dropping d x)) is

@@ -11,7 +11,7 @@ use Rattle.machine_model.specs.Keeping.{Roomy, Kept}
 use Rattle.native_steps.specs.Stretch.{IsQuiet}
 use Rattle.kept_laws.specs.Known.{IsOfPages, IsNextKept, IsPast}
 use Rattle.wedge_core.specs.CarryLaws.{CarryLaws}
-use Rattle.wedge_core.proofs.Joined.{steps_join, steps_one}
+use Rattle.wedge_core.proofs.Joined.{steps_join, steps_one, went_there}
 
 -- What is known, with what is kept: the next step that goes by what is kept goes by the rule, and a step that the run has no
 -- part in goes on with it.
@@ -31,9 +31,6 @@ step_taken b set report after = record { before = b; set = set; report = report;
 pub taken_first : (m : Setting) (b after : State) (set : Set) (sets : List Set) (report : Report) → step_of m b set ≡ Went report after
     → steps_by m b (set ∷ sets) ≡ step_taken b set report after ∷ steps_by m after sets
 taken_first m b after set sets report is = ap (λ (r : Result). behind b set r (λ a. steps_by m a sets)) is
-
-went_there : (a b : Report) (x y : State) → Went a x ≡ Went b y → x ≡ y
-went_there a b x y is = cc
 
 module _ (laws : CarryLaws) (m : Setting) (carried : Set → List Taken → State → Type 0) (goes : CarriesPast m carried) (old : State) where
   -- one step more, by what is kept

@@ -7,6 +7,7 @@ use Rattle.sites.specs.declared.site.Site.{Site}
 use Rattle.sites.specs.Patched.{AreInside}
 use Rattle.machine_model.specs.State.{Setting}
 use Rattle.native_steps.specs.Mirrors.{shown}
+use Rattle.wedge_core.proofs.Memories.{part_front}
 
 -- sites of a text that stands in a memory
 pub inside_moved : (len new at : ℕ) (sites : List Site) → at + len ≤ new → AreInside len 0 sites → AreInside new at sites
@@ -20,10 +21,6 @@ drop_behind m a bs k le fits = same_lists _ _ (grind (arith, places)) (λ j d i.
 take_with : (m : List ℕ) (a : ℕ) (bs : List ℕ) (k : ℕ) → a + length bs ≤ k → k ≤ length m → take k (with_part m a bs) ≡ with_part (take k m) a bs
 unfolding with_part
 take_with m a bs k le fits = same_lists _ _ (grind (arith, places)) (λ j d i. grind (arith, places))
-
-part_front : (l : List ℕ) (n a k : ℕ) → a + k ≤ n → part (take n l) a k ≡ part l a k
-unfolding part
-part_front l n a k h = same_lists _ _ (grind (arith, places)) (λ j d i. grind (arith, places))
 
 -- with the text laid over it, it is as it was
 pub unpatched : (m : Setting) (ram patches : List ℕ) → length patches ≡ length m.image.text → 0x100000 + length m.image.text ≤ 4096 * m.frames → 4096 * m.frames ≤ length ram

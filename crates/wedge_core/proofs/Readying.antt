@@ -2,16 +2,17 @@
 use Rattle.std.proofs.Common.{◌≡◌, ◌⊎◌, ℕ, ◌^◌, ◌<◌, ◌≤◌, List, [], ◌∷◌, Bool, true, false, Option, Some, None, refl, sym, ap, subst, ◌∙◌, inl, inr, arith}
 use Rattle.std.specs.Option.{ForSome}
 use Rattle.std.specs.FinMap.{get, empty, len}
+use Rattle.std.specs.List.{list_any}
 use Rattle.descriptors.specs.Controls.{pse_of, wp_of}
 use Rattle.descriptors.specs.declared.cpu.Cpu.{Cpu}
 use Rattle.image_check.specs.Image.{Image}
 use Rattle.paging.specs.declared.entry.Entry.{Entry}
-use Rattle.shadow_tables.specs.Aside.{Aside, IsSame, AreSame, any_of, all_spared}
+use Rattle.shadow_tables.specs.Aside.{Aside, IsSame, AreSame, all_spared}
 use Rattle.shadow_tables.specs.Calls.{IsWithin}
 use Rattle.shadow_tables.specs.Entries.{entries_of}
 use Rattle.shadow_tables.specs.Laws.Entries.{entries_of-none, entries_of-same}
 use Rattle.shadow_tables.specs.Slots.{Slot, entry_in}
-use Rattle.shadow_cache.specs.Reloaded.{put_by, begun, coming, staying}
+use Rattle.shadow_cache.specs.Reloaded.{put_by, begun_aside, coming, staying}
 use Rattle.machine_model.specs.Reloading.{IsFoundBy}
 use Rattle.machine_model.specs.Run.{Set}
 use Rattle.machine_model.specs.State.{Setting}
@@ -83,7 +84,7 @@ module _ {S : Type 0} (slots : S → List ℕ → ℕ → Option Slot) (noted : 
 
   -- all that the step left is kept
   pub settled_ready : (out : ℕ → Bool) (m : Setting) (cpu : Cpu) (old new : S) (memory then : List ℕ) (set : Set) (tables wrote : List ℕ)
-      → value new ≡ value old → (marked new ≡ false → (marked old ≡ false) × (any_of (read_by (noted old) tables) wrote ≡ false))
+      → value new ≡ value old → (marked new ≡ false → (marked old ≡ false) × (list_any (read_by (noted old) tables) wrote ≡ false))
       → (marked new ≡ false → (page : ℕ) → page < 2 ^ 20 → (e : Entry) → IsFoundBy (shown m memory) m.frames cpu.cr3 (pse_of cpu) (read_by (noted old) tables) page e → IsFoundBy (shown m memory) m.frames cpu.cr3 (pse_of cpu) (noted new) page e)
       → ((page : ℕ) → page < 2 ^ 20 → get set page ≡ entry_in (slots new then page))
       → AllShed (all_spared wrote (asides old memory)) (asides new then) → shown m then ≡ shown m memory
@@ -173,7 +174,7 @@ module _ {S : Type 0} (slots : S → List ℕ → ℕ → Option Slot) (noted : 
     pub loaded_shows : (image : Image) (wp : Bool) → AreOpen image wp (slots old memory) → AllOpen image wp (asides old memory) → AreOpen image wp (slots new then)
     loaded_shows image wp opened h =
         let P = λ (a : Aside). AreOpen image wp a.slots in
-        let here = each_coming P cr3 put (none_open image wp (begun cr3).slots (λ page lt. refl)) (open_each image wp put (put_open image wp old memory opened h)) in
+        let here = each_coming P cr3 put (none_open image wp (begun_aside cr3).slots (λ page lt. refl)) (open_each image wp put (put_open image wp old memory opened h)) in
         same_open image wp (coming cr3 put).slots (slots new then) s.present.slots here
 
     pub loaded_fewer : pages_kept slots asides new then ≤ pages_kept slots asides old memory

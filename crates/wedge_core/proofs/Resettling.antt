@@ -3,9 +3,10 @@ use Rattle.std.proofs.Common.{◌≡◌, ℕ, ◌+◌, ◌^◌, ◌<◌, ◌≤�
 use Rattle.std.specs.Prelude.{MatchOption, IfSome, IsSome, is_none}
 use Rattle.std.specs.FinMap.{get, empty, get-empty, len}
 use Rattle.std.specs.Ordering.{nat_cmp}
+use Rattle.std.specs.List.{list_any}
 use Rattle.descriptors.specs.declared.cpu.Cpu.{Cpu}
 use Rattle.image_check.specs.Image.{Image}
-use Rattle.shadow_tables.specs.Aside.{Aside, LoseWrites, any_of, all_spared}
+use Rattle.shadow_tables.specs.Aside.{Aside, LoseWrites, all_spared}
 use Rattle.shadow_tables.specs.Entries.{entries_of}
 use Rattle.shadow_tables.specs.Slots.{Slot, is_among, entry_in}
 use Rattle.machine_model.specs.Run.{Set}
@@ -14,10 +15,11 @@ use Rattle.native_steps.specs.Mirrors.{shown}
 use Rattle.wedge_mem.specs.Told.{guest_frames, read_by}
 use Rattle.wedge_core.specs.Filled.{pages_aside, pages_kept}
 use Rattle.wedge_core.specs.Ready.{AllOpen, IsReadyBut, IsReadyBehind}
-use Rattle.wedge_core.proofs.Behind.{clash, any_none}
+use Rattle.wedge_core.proofs.Behind.{any_none}
 use Rattle.wedge_core.proofs.Opening.{no_slot}
 use Rattle.wedge_core.proofs.Readying.{none_ready, none_pages, settled_ready}
 use Rattle.wedge_core.proofs.Shedding.{lost_shed, open_shed, open_spared, shed_pages, spared_pages, found_tables}
+use Rattle.wedge_core.proofs.Bools.{clash}
 
 or_parts : (a b c : Bool) → c ≡ (a || b) → c ≡ false → (a ≡ false) × (b ≡ false)
 or_parts true b c e f = absurd (let g : true ≡ false = sym e ∙ f in cc)
@@ -53,7 +55,7 @@ module _ {S : Type 0} (slots : S → List ℕ → ℕ → Option Slot) (noted : 
     pub entries : MatchOption result (entries_of (slots new then) ≡ empty) (λ n. entries_of (slots new then) ≡ set)
     pub at : (page : ℕ) → page < 2 ^ 20 → get (entries_of (slots new then)) page ≡ entry_in (slots new then page)
     pub noted_is : IsSome result → (frame : ℕ) → is_among frame wrote ≡ false → noted new frame ≡ read_by (noted old) tables frame
-    pub marked_is : MatchOption result (marked new ≡ true → marked old ≡ true) (λ n. marked new ≡ (marked old || any_of (read_by (noted old) tables) wrote))
+    pub marked_is : MatchOption result (marked new ≡ true → marked old ≡ true) (λ n. marked new ≡ (marked old || list_any (read_by (noted old) tables) wrote))
     pub value_is : value new ≡ value old
     pub asides_are : AsidesAre result tables wrote (asides old memory) (asides new then)
 
@@ -66,16 +68,16 @@ module _ {S : Type 0} (slots : S → List ℕ → ℕ → Option Slot) (noted : 
   closed_ready out m cpu old new memory then set tables wrote None s ram h =
       none_ready slots noted marked value asides out m cpu new then (s.value_is ∙ h.value_is) (no_slots (slots new then) s.at s.entries) s.asides_are
   closed_ready out m cpu old new memory then set tables wrote (Some n) s ram h =
-      let parts = λ (un : marked new ≡ false). or_parts (marked old) (any_of (read_by (noted old) tables) wrote) (marked new) s.marked_is un in
+      let parts = λ (un : marked new ≡ false). or_parts (marked old) (list_any (read_by (noted old) tables) wrote) (marked new) s.marked_is un in
       settled_ready slots noted marked value asides out m cpu old new memory then set tables wrote s.value_is parts
       (λ un page lt e. found_tables (shown m memory) m.frames cpu.cr3 (Rattle.descriptors.specs.Controls.pse_of cpu) (read_by (noted old) tables) (noted new) page e
       (λ f r. s.noted_is refl f (unwritten f (parts un).1 r) ∙ r))
       (λ page lt. ap (λ (x : Set). get x page) (sym s.entries) ∙ s.at page lt)
       (lost_shed (guest_frames tables) (all_spared wrote (asides old memory)) (asides new then) s.asides_are) ram h
     where
-      by : (f : ℕ) (b : Bool) → is_among f wrote ≡ b → any_of (read_by (noted old) tables) wrote ≡ false → read_by (noted old) tables f ≡ true → is_among f wrote ≡ false
+      by : (f : ℕ) (b : Bool) → is_among f wrote ≡ b → list_any (read_by (noted old) tables) wrote ≡ false → read_by (noted old) tables f ≡ true → is_among f wrote ≡ false
       by f true e none r = absurd (clash (read_by (noted old) tables f) r (any_none (read_by (noted old) tables) wrote none f e))
       by f false e none r = e
 
-      unwritten : (f : ℕ) → any_of (read_by (noted old) tables) wrote ≡ false → read_by (noted old) tables f ≡ true → is_among f wrote ≡ false
+      unwritten : (f : ℕ) → list_any (read_by (noted old) tables) wrote ≡ false → read_by (noted old) tables f ≡ true → is_among f wrote ≡ false
       unwritten f none r = by f (is_among f wrote) refl none r

@@ -24,6 +24,7 @@ use Rattle.machine_model.specs.Resting.{resting, nothing}
 use Rattle.native_steps.specs.Stretch.{IsQuiet}
 use Rattle.wedge_core.specs.Slices.{Counts, CountsOn}
 use Rattle.wedge_core.specs.Stepping.{Passes}
+use Rattle.wedge_core.proofs.Joined.{went_there}
 
 neither : (a b : Bool) → (a || b) ≡ false → (a ≡ false) × (b ≡ false)
 neither false b h = (refl, h)
@@ -112,9 +113,6 @@ idle_steps (suc k) s cpu ram whole set board t halted none quiet allowed =
       subst (λ (n : ℕ). Steps s (resting cpu ram set (board_step board) (t + 1 + 1)) (set ∷ replicate k set) (nothing ∷ replicate k nothing) (resting cpu ram set (board_steps (suc k) (board_step board)) n)) (omega arith) rest,
       refl,
     )
-
-went_there : (a b : Report) (x y : State) → Went a x ≡ Went b y → x ≡ y
-went_there a b x y is = cc
 
 -- and none of them changes the translations
 idle_left : (k : ℕ) (s : Setting) (cpu : Cpu) (ram : List ℕ) (set : Set) (board : Board) (t : ℕ)

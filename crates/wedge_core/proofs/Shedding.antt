@@ -5,17 +5,18 @@ use Rattle.std.proofs.lemmas.Cmp.{nat_cmp_total}
 use Rattle.std.specs.Option.{ForSome}
 use Rattle.std.specs.FinMap.{len, len-empty, same_map, nat_cmp-IsAntisymmetric}
 use Rattle.std.specs.Ordering.{nat_cmp}
+use Rattle.std.specs.List.{list_any}
 use Rattle.descriptors.specs.declared.cpu.Cpu.{Cpu}
 use Rattle.descriptors.specs.Controls.{wp_of}
 use Rattle.image_check.specs.Image.{Image}
 use Rattle.paging.specs.declared.entry.Entry.{Entry}
-use Rattle.shadow_tables.specs.Aside.{Aside, IsSame, AreSame, LoseWrites, any_of, all_spared}
+use Rattle.shadow_tables.specs.Aside.{Aside, IsSame, AreSame, LoseWrites, all_spared}
 use Rattle.shadow_tables.specs.Calls.{IsWithin}
 use Rattle.shadow_tables.specs.Entries.{entries_of}
 use Rattle.shadow_tables.specs.Laws.Entries.{get-entries_of, none-entries_of, entries_of-none}
 use Rattle.shadow_tables.specs.Slots.{Slot, entry_in}
 use Rattle.shadow_tables.proofs.Lists.{within-same, note-within}
-use Rattle.shadow_cache.specs.Reloaded.{put_by, of_cr3, but_cr3, begun, coming, or_begun, beside_coming, staying}
+use Rattle.shadow_cache.specs.Reloaded.{put_by, of_cr3, but_cr3, begun_aside, coming, or_begun, beside_coming, staying}
 use Rattle.machine_model.specs.Reloading.{IsFoundBy}
 use Rattle.machine_model.specs.State.{Setting}
 use Rattle.wedge_core.specs.Filled.{pages_aside}
@@ -121,7 +122,7 @@ if_open image wp false a rest h k = k
 
 pub open_spared : (image : Image) (wp : Bool) (wrote : List ℕ) (asides : List Aside) → AllOpen image wp asides → AllOpen image wp (all_spared wrote asides)
 open_spared image wp wrote [] h = tt
-open_spared image wp wrote (a ∷ asides) h = if_open image wp (not (any_of a.tables wrote)) a (all_spared wrote asides) h.0 (open_spared image wp wrote asides h.1)
+open_spared image wp wrote (a ∷ asides) h = if_open image wp (not (list_any a.tables wrote)) a (all_spared wrote asides) h.0 (open_spared image wp wrote asides h.1)
 
 if_pages : (b : Bool) (a : Aside) (rest all : List Aside) → pages_aside rest ≤ pages_aside all → pages_aside (cond b (a ∷ rest) rest) ≤ pages_aside (a ∷ all)
 if_pages true a rest all h = omega (arith, h)
@@ -129,7 +130,7 @@ if_pages false a rest all h = omega (arith, h)
 
 pub spared_pages : (wrote : List ℕ) (asides : List Aside) → pages_aside (all_spared wrote asides) ≤ pages_aside asides
 spared_pages wrote [] = omega arith
-spared_pages wrote (a ∷ asides) = if_pages (not (any_of a.tables wrote)) a (all_spared wrote asides) asides (spared_pages wrote asides)
+spared_pages wrote (a ∷ asides) = if_pages (not (list_any a.tables wrote)) a (all_spared wrote asides) asides (spared_pages wrote asides)
 
 module _ (m : Setting) (cpu : Cpu) (ram : List ℕ) where
   pub ready_shed : (old new : Aside) → Sheds old new → IsReadyAside m cpu ram old → IsReadyAside m cpu ram new
@@ -155,7 +156,7 @@ module _ (m : Setting) (cpu : Cpu) (ram : List ℕ) where
   -- those whose tables were written leave
   pub ready_spared : (wrote : List ℕ) (asides : List Aside) → AreReadyBehind wrote m cpu ram asides → AreReady m cpu ram (all_spared wrote asides)
   ready_spared wrote [] h = tt
-  ready_spared wrote (a ∷ asides) h = ready_if (any_of a.tables wrote) a (all_spared wrote asides) h.0 (ready_spared wrote asides h.1)
+  ready_spared wrote (a ∷ asides) h = ready_if (list_any a.tables wrote) a (all_spared wrote asides) h.0 (ready_spared wrote asides h.1)
 
 -- ---- a value is loaded
 
@@ -164,8 +165,8 @@ taken_pages zero asides = omega arith
 taken_pages (suc n) [] = omega arith
 taken_pages (suc n) (a ∷ asides) = let h = taken_pages n asides in omega (arith, h)
 
-begun_pages : (cr3 : ℕ) → len (entries_of (begun cr3).slots) ≡ 0
-begun_pages cr3 = ap (λ (set : Rattle.machine_model.specs.Run.Set). len set) (entries_of-none (begun cr3).slots (λ page lt. refl)) ∙ len-empty nat_cmp Entry
+begun_pages : (cr3 : ℕ) → len (entries_of (begun_aside cr3).slots) ≡ 0
+begun_pages cr3 = ap (λ (set : Rattle.machine_model.specs.Run.Set). len set) (entries_of-none (begun_aside cr3).slots (λ page lt. refl)) ∙ len-empty nat_cmp Entry
 
 -- how many pages there are for the value and beside it
 abbrev all_pages : ℕ → List Aside → ℕ
@@ -234,7 +235,7 @@ module _ (P : Aside → Type 0) where
   one_of cr3 true a o h k = h
   one_of cr3 false a o h k = k
 
-  pub each_coming : (cr3 : ℕ) (asides : List Aside) → P (begun cr3) → Each asides → P (coming cr3 asides)
+  pub each_coming : (cr3 : ℕ) (asides : List Aside) → P (begun_aside cr3) → Each asides → P (coming cr3 asides)
   each_coming cr3 [] none h = none
   each_coming cr3 (a ∷ asides) none h = one_of cr3 (a.cr3 == cr3) a (of_cr3 cr3 asides) h.0 (each_coming cr3 asides none h.1)
 
@@ -248,10 +249,10 @@ coming_value cr3 [] = refl
 coming_value cr3 (a ∷ asides) = value_if cr3 (a.cr3 == cr3) a (of_cr3 cr3 asides) refl (coming_value cr3 asides)
 
 module _ (m : Setting) (cpu : Cpu) (ram : List ℕ) where
-  pub begun_ready : (cr3 : ℕ) → IsReadyAside m cpu ram (begun cr3)
+  pub begun_ready : (cr3 : ℕ) → IsReadyAside m cpu ram (begun_aside cr3)
   begun_ready cr3 = record {
     found = λ page lt slot e. absurd (none_some slot e);
-    open_to = none_open m.image (wp_of cpu) (begun cr3).slots (λ page lt. refl);
+    open_to = none_open m.image (wp_of cpu) (begun_aside cr3).slots (λ page lt. refl);
   }
 
   pub ready_each : (asides : List Aside) → AreReady m cpu ram asides → Each (IsReadyAside m cpu ram) asides

@@ -39,27 +39,15 @@ use Rattle.wedge_core.specs.Standing.{ground}
 use Rattle.wedge_core.specs.Tries.{IsPrepared}
 use Rattle.wedge_core.proofs.Behind.{IsStep, behind_ready}
 use Rattle.wedge_core.proofs.Parts.{dir_get}
-
-clash : (b : Bool) → b ≡ true → b ≡ false → ⊥
-clash b t f = let g : true ≡ false = sym t ∙ f in cc
-
-right_false : (a b : Bool) → (a || b) ≡ false → b ≡ false
-right_false true b e = absurd (let f : true ≡ false = e in cc)
-right_false false b e = e
+use Rattle.wedge_core.proofs.Bools.{clash, right_false}
+use Rattle.wedge_core.proofs.AmongPages.{changed_other}
+use Rattle.wedge_core.proofs.Boards.{none_given}
 
 -- ---- entries that a step leaves as they were
 
-changed_other : (set : Set) (cs : List Change) (q : ℕ) → is_among q (map page_of cs) ≡ false → get (changed set cs) q ≡ get set q
-changed_other set [] q h = refl
-changed_other set (c ∷ cs) q h =
-    elim (eqb_tells q (page_of c)) [
-      | inl e ↦ absurd (let f : true ≡ false = sym (ap (λ (b : Bool). b || is_among q (map page_of cs)) e.0) ∙ h in cc)
-      | inr n ↦ changed_other (with_entry set (page_of c) (entry_of c)) cs q (right_false (q == page_of c) (is_among q (map page_of cs)) h) ∙ get_with_other set (page_of c) (entry_of c) q n.1
-    ]
-
-among_later : (q : ℕ) (xs ys : List ℕ) → is_among q (xs ++ ys) ≡ false → is_among q ys ≡ false
-among_later q [] ys h = h
-among_later q (x ∷ xs) ys h = among_later q xs ys (right_false (q == x) (is_among q (xs ++ ys)) h)
+not_among_later : (q : ℕ) (xs ys : List ℕ) → is_among q (xs ++ ys) ≡ false → is_among q ys ≡ false
+not_among_later q [] ys h = h
+not_among_later q (x ∷ xs) ys h = not_among_later q xs ys (right_false (q == x) (is_among q (xs ++ ys)) h)
 
 stays : (d : Dropped) (set : Set) (pages : List ℕ) (q : ℕ) → is_all d ≡ false → leaving d pages q ≡ false → get (dropping d set) q ≡ get set q
 stays dropped.Nothing set pages q a h = refl
@@ -70,20 +58,16 @@ stays dropped.All set pages q a h = absurd (clash true refl a)
 -- an entry that it left, but for those that leave, was there or was left by its accesses
 kept_or_left : (d : Dropped) (base : Set) (visited : List ℕ) (cs : List Change) (first last : Set) → ((q : ℕ) → get base q ≡ get first q) → ((q : ℕ) → ForSome (get (dropping d (changed base cs)) q) (λ e. get last q ≡ Some e))
     → (page : ℕ) → leaving d (pages_of visited cs) page ≡ false → (e : Entry) → get (changed base cs) page ≡ Some e → (get first page ≡ Some e) ⊎ (get last page ≡ Some e)
-kept_or_left dropped.All base visited cs first last same left page out e is = inl (sym (changed_other base cs page (among_later page visited (map page_of cs) out) ∙ same page) ∙ is)
+kept_or_left dropped.All base visited cs first last same left page out e is = inl (sym (changed_other base cs page (not_among_later page visited (map page_of cs) out) ∙ same page) ∙ is)
 kept_or_left dropped.Nothing base visited cs first last same left page out e is = inr (left page e is)
 kept_or_left (dropped.Page gone) base visited cs first last same left page out e is = inr (left page e (stays (dropped.Page gone) (changed base cs) (pages_of visited cs) page refl out ∙ is))
 kept_or_left (dropped.Dir index) base visited cs first last same left page out e is = inr (left page e (stays (dropped.Dir index) (changed base cs) (pages_of visited cs) page refl out ∙ is))
 
 -- ---- a step
 
-none_given : (board : Board) (step : ℕ) → given board [] step ≡ board
-unfolding given
-none_given board step = refl
-
-same_step : (image : Image) (n : ℕ) (b : State) → step_of (ground image n) b b.set ≡ stepped (ground image n) b
+ground_step : (image : Image) (n : ℕ) (b : State) → step_of (ground image n) b b.set ≡ stepped (ground image n) b
 unfolding step_of
-same_step image n b = ap (λ (d : Board). stepped (ground image n) (record b { board = d })) (none_given b.board b.step)
+ground_step image n b = ap (λ (d : Board). stepped (ground image n) (record b { board = d })) (none_given b.board b.step)
 
 -- both ranges of an instruction that is prepared
 both_is : (b : State) (first t : Space) (p : IsPrepared b first t) → both_reached b.cpu (ranges_of p.insn b.cpu.regs) p.after_fetch ≡ Ok (tt, t)
@@ -135,7 +119,7 @@ module _ {S : Type 0} (slots : S → List ℕ → ℕ → Option Slot) (noted : 
     went_ready steps worked board t changes e ram set_is =
         let report : Report = record { items = Rattle.machine_model.specs.Step.items_at b.step (whats worked.seen); completed = completed_by worked.completed; pages = t.visited; tables = t.tables; wrote = t.wrote } in
         let after : State = record { cpu = worked.cpu; ram = t.ram; set = dropping worked.dropped t.set; board = Rattle.board.specs.Boards.board_step board; step = b.step + 1 } in
-        let left = steps m b b.set report after (same_step image n b ∙ e) in
+        let left = steps m b b.set report after (ground_step image n b ∙ e) in
         behind_ready slots noted marked value asides m b.cpu s memory then first left.last (step_from left.last left.follows (sym left.ram ∙ ram)) t.tables t.wrote (sym left.tables) (sym left.wrote) h
         (leaving worked.dropped (pages_of t.visited changes)) (changed (entries_of (slots s then)) changes)
         (λ page lt out x is. kept_or_left worked.dropped (entries_of (slots s then)) t.visited changes b.set left.last.set

@@ -43,6 +43,7 @@ use Rattle.wedge_core.proofs.Opening.{same_open}
 use Rattle.wedge_core.proofs.Parts.{part_same}
 use Rattle.wedge_core.proofs.Seeing.{side_is}
 use Rattle.wedge_core.proofs.Landing.{MayRun, quiet_steps, Lands, lands, state_is, board_some, shown_any, steps_none, no_sets}
+use Rattle.wedge_core.proofs.Boards.{none_given}
 
 -- where no event is in a script, none comes
 front : (a b : Bool) → (a || b) ≡ false → (a || false) ≡ false
@@ -52,10 +53,6 @@ front false b e = refl
 none_comes : (board : Board) (script : Events) (step n : ℕ) → comes_within board script step n ≡ false → comes_within board [] step n ≡ false
 unfolding comes_within
 none_comes board script step n e = front (edge_within n board.pit) (event_within step n script) e
-
-none_given : (board : Board) (step : ℕ) → given board [] step ≡ board
-unfolding given
-none_given board step = refl
 
 module _ {S : Type 0} (stands : S → List ℕ → Type 0) (frames : S → List ℕ → List ℕ) (slots : S → List ℕ → ℕ → Option Slot) (directory : S → Side → ℕ) where
   -- the laws of shadows

@@ -12,6 +12,7 @@ use Rattle.machine_model.specs.Notes.{AreTold, AreLeft, set_told}
 use Rattle.machine_model.proofs.Counting.{each_counts}
 use Rattle.wedge_core.specs.Noted.{emptied_if}
 use Rattle.wedge_core.proofs.EmptiedNotes.{IsUpTo, told_none, told_before}
+use Rattle.wedge_core.proofs.Joined.{went_there}
 
 -- before each step the translations are those that the one before left, but for what the notes tell
 pub ToldBy : Setting → State → List Set → List Note → Type 0
@@ -31,9 +32,6 @@ steps_counted m old (set ∷ sets) reports last h =
     let one = counted_by m old h.0 set h.1 h.4 in
     let more = steps_counted m h.0 sets h.2 last h.5 in
     omega (arith, one, more)
-
-pub went_there : (a b : Report) (x y : State) → Went a x ≡ Went b y → x ≡ y
-went_there a b x y is = cc
 
 pub told_nothing : (m : Setting) (b : State) (notes : List Note) → ToldBy m b [] notes
 unfolding ToldBy

@@ -48,16 +48,16 @@ use Rattle.machine_step.specs.Worked.{went_as, completed_by}
 use Rattle.native_steps.proofs.Choices.{both, clash, eq_told}
 
 -- of a step that goes, what it completed has P
-abbrev Leaves : (Option Completed → Type 0) → Result → Type 0
-Leaves P (Went report after) = P report.completed
-Leaves P (Halts stop) = Unit {0}
+abbrev CompletesAs : (Option Completed → Type 0) → Result → Type 0
+CompletesAs P (Went report after) = P report.completed
+CompletesAs P (Halts stop) = Unit {0}
 
 -- where the instruction is done, X
 abbrev DoneIf : Type 0 → Outcome Refusal SysOutcome → Type 0
 DoneIf X (Ok x) = X
 DoneIf X (Err e) = Unit {0}
 
-chosen : (P : Option Completed → Type 0) (h : Bool) (x y : Result) → Leaves P x → Leaves P y → Leaves P (cond h x y)
+chosen : (P : Option Completed → Type 0) (h : Bool) (x y : Result) → CompletesAs P x → CompletesAs P y → CompletesAs P (cond h x y)
 chosen P true x y p q = p
 chosen P false x y p q = q
 
@@ -118,36 +118,36 @@ instructed_by o insn len cpu s e = ap (λ x. cond (is_plain x) (done_plainly (ex
 -- ---- what a step comes to
 
 module _ (m : Setting) (b : State) (P : Option Completed → Type 0) (none : P None) where
-  of_entered : (whats : List What) (c : Option Completed) (cpu : Cpu) (board : Board) (s : Space) → P c → Leaves P (entered m whats c b cpu board s)
+  of_entered : (whats : List What) (c : Option Completed) (cpu : Cpu) (board : Board) (s : Space) → P c → CompletesAs P (entered m whats c b cpu board s)
   of_entered whats c cpu board s p = chosen P (stands_well m cpu) (concluded whats c b cpu board s) (Halts stops.NotAStart) p tt
 
-  of_delivery : (o : Outcome NotDelivered Cpu) → Leaves P (after_delivery m [] b b.board o)
+  of_delivery : (o : Outcome NotDelivered Cpu) → CompletesAs P (after_delivery m [] b b.board o)
   of_delivery (Ok done) = of_entered [] None done.0 b.board done.1 none
   of_delivery (Err refused) = tt
 
-  of_raised : (cpu : Cpu) (vector code : ℕ) (s : Space) → Leaves P (raised m b cpu vector code s)
+  of_raised : (cpu : Cpu) (vector code : ℕ) (s : Space) → CompletesAs P (raised m b cpu vector code s)
   of_raised cpu vector code s = of_delivery (delivered cpu vector Raised (code_of vector code) s)
 
-  of_refusal : (r : Refusal) (s : Space) → Leaves P (after_refusal m b r s)
+  of_refusal : (r : Refusal) (s : Space) → CompletesAs P (after_refusal m b r s)
   of_refusal (refusal.Fault code at) s = of_raised (record b.cpu { cr2 = at }) 14 code s
   of_refusal (refusal.Raise vector code) s = of_raised b.cpu vector code s
   of_refusal (refusal.Stop stop) s = tt
 
-  of_software : (c : Completed) (vector : ℕ) (o : Outcome NotDelivered Cpu) → P (Some c) → Leaves P (after_software m b c vector o)
+  of_software : (c : Completed) (vector : ℕ) (o : Outcome NotDelivered Cpu) → P (Some c) → CompletesAs P (after_software m b c vector o)
   of_software c vector (Ok done) p = of_entered [] (Some c) done.0 b.board done.1 p
   of_software c vector (Err (not_delivered.Privilege, s)) p = of_raised b.cpu 13 (8 * vector + 2) s
   of_software c vector (Err (not_delivered.Stop stop, s)) p = tt
 
-  of_read : (c : Completed) (cpu : Cpu) (port : ℕ) (wide : Bool) (s : Space) (x : PortRead × Board) → P (Some c) → Leaves P (after_read b c cpu port wide s x)
+  of_read : (c : Completed) (cpu : Cpu) (port : ℕ) (wide : Bool) (s : Space) (x : PortRead × Board) → P (Some c) → CompletesAs P (after_read b c cpu port wide s x)
   of_read c cpu port wide s (read.Stop, board) p = tt
   of_read c cpu port wide s (read.Value value, board) p = p
 
-  of_write : (c : Completed) (cpu : Cpu) (item : What) (s : Space) (x : Did × Board) → P (Some c) → Leaves P (after_write b c cpu item s x)
+  of_write : (c : Completed) (cpu : Cpu) (item : What) (s : Space) (x : Did × Board) → P (Some c) → CompletesAs P (after_write b c cpu item s x)
   of_write c cpu item s (did.Stop, board) p = tt
   of_write c cpu item s (did.Done, board) p = p
   of_write c cpu item s (did.Sent value, board) p = p
 
-  of_effect : (c : Completed) (e : SysEffect) (cpu : Cpu) (s : Space) → P (Some c) → Leaves P (after_effect m b c e cpu s)
+  of_effect : (c : Completed) (e : SysEffect) (cpu : Cpu) (s : Space) → P (Some c) → CompletesAs P (after_effect m b c e cpu s)
   of_effect c effects.Next cpu s p = chosen P (may_leave m.mode b.cpu cpu) (concluded [] (Some c) b cpu b.board s) (Halts stops.UserFlags) p tt
   of_effect c effects.Halted cpu s p = p
   of_effect c (effects.DropPage page) cpu s p = p
@@ -158,18 +158,18 @@ module _ (m : Setting) (b : State) (P : Option Completed → Type 0) (none : P N
   of_effect c (effects.Raise vector code) cpu s p = of_raised cpu vector code s
   of_effect c (effects.Stop stop) cpu s p = tt
 
-  of_told : (c : Completed) (r : Refusal) (s : Space) → Leaves P (after_instruction m b c (Err (r, s)))
+  of_told : (c : Completed) (r : Refusal) (s : Space) → CompletesAs P (after_instruction m b c (Err (r, s)))
   of_told c (refusal.Fault code at) s = of_raised (record b.cpu { cr2 = at }) 14 code s
   of_told c (refusal.Raise vector code) s = of_raised b.cpu vector code s
   of_told c (refusal.Stop stop) s = tt
 
-  of_instruction : (c : Completed) (o : Outcome Refusal SysOutcome) → DoneIf (P (Some c)) o → Leaves P (after_instruction m b c o)
+  of_instruction : (c : Completed) (o : Outcome Refusal SysOutcome) → DoneIf (P (Some c)) o → CompletesAs P (after_instruction m b c o)
   of_instruction c (Ok done) p = of_effect c done.0.effect done.0.cpu done.1 p
   of_instruction c (Err refused) p = of_told c refused.0 refused.1
 
 -- a refusal completes nothing
 pub refused_none : (m : Setting) (b : State) (r : Refusal) (s : Space) (worked : Worked) (board : Board) (t : Space) → after_refusal m b r s ≡ went_as b worked board t → completed_by worked.completed ≡ None
-refused_none m b r s worked board t e = subst (Leaves (λ (c : Option Completed). c ≡ None)) e (of_refusal m b (λ (c : Option Completed). c ≡ None) refl r s)
+refused_none m b r s worked board t e = subst (CompletesAs (λ (c : Option Completed). c ≡ None)) e (of_refusal m b (λ (c : Option Completed). c ≡ None) refl r s)
 
 -- ---- what isn't direct
 
@@ -218,7 +218,7 @@ module _ (m : Setting) (b : State) (sites : List Site) where
   by_bar insn len s user native false free =
       done_anyhow (None_of (Some (begun b insn))) (instructed insn len b.cpu s) (by_user insn (both (b.cpu.cpl == 3) (is_open b.cpu) user).0 native free)
 
-  of_op : (o : Op) (insn : Insn) (len : ℕ) (s : Space) → insn.op ≡ o → is_native (b.cpu.cpl == 3) insn.op ≡ false → IsUser b.cpu ⊎ (is_software insn.op ≡ true) → Leaves None_of (by_op m o b insn len s)
+  of_op : (o : Op) (insn : Insn) (len : ℕ) (s : Space) → insn.op ≡ o → is_native (b.cpu.cpl == 3) insn.op ≡ false → IsUser b.cpu ⊎ (is_software insn.op ≡ true) → CompletesAs None_of (by_op m o b insn len s)
   of_op op.Int insn len s e native h = of_software m b None_of refl (begun b insn) (insn.imm % 256) (delivered (past b.cpu len) (insn.imm % 256) Soft None s) (by_soft insn (ap is_software e))
   of_op op.Int3 insn len s e native h = of_software m b None_of refl (begun b insn) 3 (delivered (past b.cpu len) 3 Soft None s) (by_soft insn (ap is_software e))
   of_op o insn len s e native h =
@@ -231,4 +231,4 @@ module _ (m : Setting) (b : State) (sites : List Site) where
 -- what a user's processor doesn't do by itself, INT and INT3 complete nothing direct
 pub others_uncounted : (m : Setting) (b : State) (insn : Insn) (len : ℕ) (s : Space) → is_native (b.cpu.cpl == 3) insn.op ≡ false → IsUser b.cpu ⊎ (is_software insn.op ≡ true)
     → (worked : Worked) (board : Board) (t : Space) → by_decoded m b (begins.Insn insn len) s ≡ went_as b worked board t → (sites : List Site) → direct_in sites (completed_by worked.completed) ≡ []
-others_uncounted m b insn len s native h worked board t e sites = subst (Leaves (λ (c : Option Completed). direct_in sites c ≡ [])) e (of_op m b sites insn.op insn len s refl native h)
+others_uncounted m b insn len s native h worked board t e sites = subst (CompletesAs (λ (c : Option Completed). direct_in sites c ≡ [])) e (of_op m b sites insn.op insn len s refl native h)

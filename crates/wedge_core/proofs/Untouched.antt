@@ -16,8 +16,8 @@ use Rattle.native_steps.specs.Lends.{IsUnlent}
 use Rattle.native_steps.specs.Mirrors.{IsWedge, IsHost, shown}
 use Rattle.native_steps.proofs.Shown.{shown_length}
 use Rattle.wedge_core.specs.Ready.{AreReady, IsReady}
-use Rattle.wedge_core.proofs.Bools.{both, none_some}
-use Rattle.wedge_core.proofs.Behind.{found_on, clash}
+use Rattle.wedge_core.proofs.Bools.{both, none_some, clash}
+use Rattle.wedge_core.proofs.Behind.{found_on}
 use Rattle.wedge_core.proofs.Readying.{all_rules}
 use Rattle.wedge_core.proofs.Shedding.{same_shed, all_ready_shed}
 

@@ -8,6 +8,7 @@ use Rattle.std.specs.Ordering.{nat_cmp}
 use Rattle.paging.specs.declared.entry.Entry.{Entry}
 use Rattle.shadow_tables.specs.Slots.{is_among}
 use Rattle.wedge_mem.specs.Settled.{used, has_entry, pages_of}
+use Rattle.std.proofs.lemmas.Bool.{cases_Bool}
 
 used_by : (b : Bool) (page : ℕ) (rest pages : List ℕ) → length rest ≤ length pages → length (cond b (page ∷ rest) rest) ≤ length (page ∷ pages)
 used_by true page rest pages h = omega (arith, h)
@@ -28,14 +29,10 @@ among-append x (z ∷ xs) y h e =
       | inr n ↦ among-append x xs y (sym (ap (λ b. b || is_among x (xs ++ y ∷ [])) n.0) ∙ h) (sym (ap (λ b. b || is_among x xs) n.0) ∙ e)
     ]
 
-bool_cases : (b : Bool) → (b ≡ true) ⊎ (b ≡ false)
-bool_cases true = inl refl
-bool_cases false = inr refl
-
 -- what holds of the pages before an index, and of the one there
 pub each_more : (test : ℕ → Bool) (xs : List ℕ) (i : ℕ) → i < length xs → test (get_or xs i 0) ≡ true → ((x : ℕ) → is_among x (take i xs) ≡ true → test x ≡ true) → (x : ℕ) → is_among x (take (i + 1) xs) ≡ true → test x ≡ true
 each_more test xs i l here before x h =
-    elim (bool_cases (is_among x (take i xs))) [
+    elim (cases_Bool (is_among x (take i xs))) [
       | inl t ↦ before x t
       | inr n ↦
           let e : x ≡ get_or xs i 0 = among-append x (take i xs) (get_or xs i 0) (sym (ap (is_among x) (rw add-one (take-suc xs i 0 l))) ∙ h) n in

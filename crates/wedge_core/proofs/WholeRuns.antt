@@ -33,12 +33,8 @@ use Rattle.wedge_core.specs.Slices.{Counts, PausesAs, SliceAs}
 use Rattle.wedge_core.specs.Standing.{IsHeld, ground}
 use Rattle.wedge_core.specs.Filled.{FillsOn}
 use Rattle.wedge_core.specs.declared.running.Running.{Running}
-use Rattle.wedge_core.proofs.Memories.{text_within}
+use Rattle.wedge_core.proofs.Memories.{text_within, part_front}
 use Rattle.wedge_core.proofs.RunPieces.{run_join, seen_join, lines_both, put_both, put_front, put_none}
-
-part_front : (l : List ℕ) (n a k : ℕ) → a + k ≤ n → part (take n l) a k ≡ part l a k
-unfolding part
-part_front l n a k h = same_lists _ _ (grind (arith, places)) (λ j d i. grind (arith, places))
 
 -- the host's first frames are the guest's memory with the text patched
 pub front_is : (m : Setting) (memory : List ℕ) → IsHost m memory → 0x100000 + length m.image.text ≤ 4096 * m.frames → take (4096 * m.frames) memory ≡ with_patches m.image (shown m memory)

@@ -1,9 +1,10 @@
 -- What the end of a step makes of what the shadows keep, for the present value of CR3 and for others.
 use Rattle.std.specs.Prelude.{◌≡◌, ℕ, ◌^◌, ◌<◌, Bool, true, false, ◌||◌, Option, None, List}
 use Rattle.std.specs.FinMap.{empty}
+use Rattle.std.specs.List.{list_any}
 use Rattle.descriptors.specs.Controls.{pse_of, wp_of}
 use Rattle.descriptors.specs.declared.cpu.Cpu.{Cpu}
-use Rattle.shadow_tables.specs.Aside.{Aside, IsSame, AreSame, LoseWrites, any_of, all_spared}
+use Rattle.shadow_tables.specs.Aside.{Aside, IsSame, AreSame, LoseWrites, all_spared}
 use Rattle.shadow_tables.specs.Entries.{entries_of}
 use Rattle.shadow_tables.specs.Slots.{Slot, is_among}
 use Rattle.shadow_cache.specs.Reloaded.{put_by, coming, staying}
@@ -17,7 +18,7 @@ use Rattle.wedge_core.specs.Ready.{is_all}
 -- What is kept was told which frames a step read as tables, and then which it wrote.
 pub record Tells (tables wrote : List ℕ) (noted noted2 : ℕ → Bool) (marked marked2 : Bool) (asides asides2 : List Aside) : Type 0 where
   pub notes : (frame : ℕ) → noted2 frame ≡ true → read_by noted tables frame ≡ true
-  pub marks : marked2 ≡ (marked || any_of (read_by noted tables) wrote)
+  pub marks : marked2 ≡ (marked || list_any (read_by noted tables) wrote)
   pub others : LoseWrites (guest_frames tables) (all_spared wrote asides) asides2
 
 -- the rules by which rights are given and tables are read are the same

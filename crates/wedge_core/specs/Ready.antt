@@ -2,10 +2,11 @@
 use Rattle.std.specs.Prelude.{◌≡◌, ℕ, ◌^◌, ◌<◌, List, [], ◌∷◌, Bool, false, ◌==◌, ◌/◌, ◌&&◌, Option, Some}
 use Rattle.std.specs.Option.{ForSome}
 use Rattle.std.specs.FinMap.{get}
+use Rattle.std.specs.List.{list_any}
 use Rattle.descriptors.specs.Controls.{pse_of, wp_of}
 use Rattle.descriptors.specs.declared.cpu.Cpu.{Cpu}
 use Rattle.image_check.specs.Image.{Image}
-use Rattle.shadow_tables.specs.Aside.{Aside, any_of}
+use Rattle.shadow_tables.specs.Aside.{Aside}
 use Rattle.shadow_tables.specs.Slots.{Slot, is_among}
 use Rattle.machine_model.specs.Reloading.{IsFoundBy}
 use Rattle.machine_model.specs.Run.{Set}
@@ -42,7 +43,7 @@ AllOpen image wp (a ∷ asides) = AreOpen image wp a.slots × AllOpen image wp a
 -- those whose tables lie in none of the frames that were written
 abbrev pub AreReadyBehind : List ℕ → Setting → Cpu → List ℕ → List Aside → Type 0
 AreReadyBehind wrote m cpu ram [] = Unit {0}
-AreReadyBehind wrote m cpu ram (a ∷ asides) = (any_of a.tables wrote ≡ false → IsReadyAside m cpu ram a) × AreReadyBehind wrote m cpu ram asides
+AreReadyBehind wrote m cpu ram (a ∷ asides) = (list_any a.tables wrote ≡ false → IsReadyAside m cpu ram a) × AreReadyBehind wrote m cpu ram asides
 
 -- the pages that leave at the end of a step; where all leave, those that the step went through
 abbrev pub leaving : Dropped → List ℕ → ℕ → Bool
@@ -70,6 +71,6 @@ module _ {S : Type 0} (slots : S → List ℕ → ℕ → Option Slot) (noted : 
   -- written those.
   pub record IsReadyBehind (out : ℕ → Bool) (m : Setting) (cpu : Cpu) (s : S) (memory : List ℕ) (set : Set) (tables wrote : List ℕ) : Type 0 where
     pub value_is : value s ≡ Some cpu.cr3
-    pub present : marked s ≡ false → any_of (read_by (noted s) tables) wrote ≡ false → (page : ℕ) → page < 2 ^ 20 → out page ≡ false
+    pub present : marked s ≡ false → list_any (read_by (noted s) tables) wrote ≡ false → (page : ℕ) → page < 2 ^ 20 → out page ≡ false
         → ForSome (get set page) (IsFoundBy (shown m memory) m.frames cpu.cr3 (pse_of cpu) (read_by (noted s) tables) page)
     pub others : AreReadyBehind wrote m cpu (shown m memory) (asides s memory)

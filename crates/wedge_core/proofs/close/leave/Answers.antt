@@ -8,8 +8,9 @@ use Rattle.wedge_core.specs.Parts.{left_of}
 use Rattle.wedge_core.specs.Ready.{left_out}
 use Rattle.wedge_core.proofs.Returning.{rules_but, through_ready, loaded_left, through_left, nothing_out, out_among}
 use Rattle.machine_step.specs.Worked.{dropping}
-use Rattle.wedge_core.proofs.Leaving.{not_true, not_false, no_way, loads_from, same_free}
+use Rattle.wedge_core.proofs.Leaving.{no_way, loads_from, same_free}
 use Rattle.wedge_core.proofs.close.leave.Goals as goal
+use Rattle.wedge_core.proofs.Bools.{not_true, not_false}
 
 pub returns-clause-moves : goal.returns-clause-moves
 returns-clause-moves g c = Moves-trans _ _ _ _ _ _ _ _ _ c.drop_by-changed.ensures.moves c.load.ensures.moves
