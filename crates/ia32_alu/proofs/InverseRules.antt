@@ -15,7 +15,7 @@ use Rattle.ia32_types.specs.Bits.{signed_at, fits_at, bits_at, signed, low}
 use Rattle.ia32_alu.specs.Product.{double_top, unsigned_product, signed_product, multiply}
 use Rattle.ia32_alu.specs.Quotient.{unsigned_quotient, signed_quotient, divide}
 use Rattle.ia32_alu.proofs.CompareRules.{low_small}
-use Rattle.ia32_alu.proofs.QuotientRules.{signed_of_bits, abs_signed, abs_some, fits_below}
+use Rattle.ia32_alu.proofs.QuotientRules.{signed_of_bits, abs_signed, abs_some, fits_below, is_below}
 
 -- the halves of a number with twice the bits, joined again
 joined : (m n : ℕ) → 0 < m → n < m * m → n / m % m * m + n % m % m ≡ n
@@ -39,9 +39,6 @@ pairs {a = a} {b = b} {c = c} {d = d} p q = ap (λ x. some_pair x b) p ∙ ap (�
 
 isnt_zero : (n : ℕ) → 0 < n → eqb n 0 ≡ false
 isnt_zero n p = grind (arith, nat_tests)
-
-is_below : (a m : ℕ) → a < m → nat_lt a m ≡ true
-is_below a m p = grind (arith, nat_tests)
 
 unsigned_back : (s : Size) (a b : ℕ) → a < span s → 0 < b → unsigned_quotient s (a * b) b ≡ Some (a, 0)
 unfolding unsigned_quotient

@@ -164,7 +164,7 @@ only_quotient q d r less = div-eq_of_lt-le d (omega arith) (rw add-mul (omega ar
 not_zero : (d r : ℕ) → r < d → (d == 0) ≡ false
 not_zero d r less = grind (arith, nat_tests)
 
-is_below : (q n : ℕ) → q < n → nat_lt q n ≡ true
+pub is_below : (q n : ℕ) → q < n → nat_lt q n ≡ true
 is_below q n less = grind (arith, nat_tests)
 
 found : (s : Size) (q d r : ℕ) → r < d → q < span s → unsigned_quotient s (q * d + r) d ≡ Some (q, r)
