@@ -52,21 +52,21 @@ is_another m n h = grind (arith, nat_tests, h)
 later_is_another : (at j k : ℕ) → k < j → (at + j == at + k) ≡ false
 later_is_another at j k lt = grind (arith, nat_tests)
 
-inside : (at n x : ℕ) → (nat_le at x && nat_lt x (at + n)) ≡ true → (at ≤ x) × (x < at + n)
-inside at n x e = (grind (arith, nat_tests), grind (arith, nat_tests))
+in_range : (at n x : ℕ) → (nat_le at x && nat_lt x (at + n)) ≡ true → (at ≤ x) × (x < at + n)
+in_range at n x e = (grind (arith, nat_tests), grind (arith, nat_tests))
 
-outside : (at n x k : ℕ) → (nat_le at x && nat_lt x (at + n)) ≡ false → k < n → (at + k == x) ≡ false
-outside at n x k e lt = grind (arith, nat_tests)
+out_of_range : (at n x k : ℕ) → (nat_le at x && nat_lt x (at + n)) ≡ false → k < n → (at + k == x) ≡ false
+out_of_range at n x k e lt = grind (arith, nat_tests)
 
 in_flat : (n at v : ℕ) (b : ℕ → ℕ) (x : ℕ) → with_bytes (λ i j. i == j) n at v b x ≡ (if nat_le at x && nat_lt x (at + n) then v / 2 ^ (8 * (x - at)) % 2 ^ 8 else b x)
 in_flat n at v b x = by (nat_le at x && nat_lt x (at + n)) refl where
   by : (t : Bool) → (nat_le at x && nat_lt x (at + n)) ≡ t → with_bytes (λ i j. i == j) n at v b x ≡ (if t then v / 2 ^ (8 * (x - at)) % 2 ^ 8 else b x)
   by true e =
-      let h = inside at n x e in
+      let h = in_range at n x e in
       let whole : at + (x - at) ≡ x = omega arith in
       let P : ℕ → Type 0 = λ y. with_bytes (λ i j. i == j) n at v b y ≡ v / 2 ^ (8 * (x - at)) % 2 ^ 8 in
       subst P whole (held (λ i j. i == j) at v b n (x - at) (omega arith) (is_itself (at + (x - at))) (λ j a z. later_is_another at j (x - at) a))
-  by false e = others (λ i j. i == j) at v b n x (λ k lt. outside at n x k e lt)
+  by false e = others (λ i j. i == j) at v b n x (λ k lt. out_of_range at n x k e lt)
 
 pub flat : (ws : List Store) (b : ℕ → ℕ) → all_stored (λ i j. i == j) ws b ≡ all_written ws b
 unfolding all_stored

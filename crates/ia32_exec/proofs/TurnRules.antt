@@ -301,12 +301,12 @@ turned_length : (o : Op) (s : Size) (e : ℕ) (f : Flags) (b : ℕ → ℕ) (g :
 turned_length o s e f b g h eight =
     as_eight (λ x. length (turned o s x e f b).0.r ≡ 8) (λ g0 g1 g2 g3 g4 g5 g6 g7. turn_eight o s e f b g0 g1 g2 g3 g4 g5 g6 g7 h) g eight
 
-record IsRepeated (len e : ℕ) (single many : RegsAndBytes) : Type 0 where
+record EndsCountedOut (len e : ℕ) (single many : RegsAndBytes) : Type 0 where
   out : IsCountedOut single many
   passes : many.regs.eip ≡ (e + len) % 2 ^ 32
 
 many_turns : (n : ℕ) (i : Insn) (o : Op) (len single : ℕ) (g : List ℕ) (e e' : ℕ) (f : Flags) (b : ℕ → ℕ) → i.op ≡ o → IsString o → length g ≡ 8 →
-    IsRepeated len e (turns (suc n) (record i { rep = false }) single (state g e' f b)) (turns (suc n) (record i { rep = true }) len (state (slice_set g 1 (suc n)) e f b))
+    EndsCountedOut len e (turns (suc n) (record i { rep = false }) single (state g e' f b)) (turns (suc n) (record i { rep = true }) len (state (slice_set g 1 (suc n)) e f b))
 many_turns zero i o len single g e e' f b is h eight =
     let T : List ℕ = (turned o i.size g e' f b).0.r in
     let c : ℕ → ℕ = turned_bytes o i.size g e' f b in
@@ -315,8 +315,8 @@ many_turns zero i o len single g e e' f b is h eight =
     let left : after (record i { rep = false }) single (state g e' f b) ≡ one = single_step i o single g e' f b is h in
     let right : after (record i { rep = true }) len (state (slice_set g 1 1) e f b) ≡ last =
     repeated_of i o 0 len e e' f b g is h eight ∙ ap (λ x. state x ((e + len) % 2 ^ 32) f c) (set_set 1 1 0 T) in
-    let P : RegsAndBytes → Type 0 = λ x. IsRepeated len e x (after (record i { rep = true }) len (state (slice_set g 1 1) e f b)) in
-    let Q : RegsAndBytes → Type 0 = λ x. IsRepeated len e one x in
+    let P : RegsAndBytes → Type 0 = λ x. EndsCountedOut len e x (after (record i { rep = true }) len (state (slice_set g 1 1) e f b)) in
+    let Q : RegsAndBytes → Type 0 = λ x. EndsCountedOut len e one x in
     subst P (sym left) (subst Q (sym right) (record { out = record { bytes = refl; flags = refl; registers = refl }; passes = refl }))
 many_turns (suc n) i o len single g e e' f b is h eight =
     let T : List ℕ = (turned o i.size g e' f b).0.r in
@@ -330,19 +330,19 @@ many_turns (suc n) i o len single g e e' f b is h eight =
     ∙ ap (λ t. record { regs = cond t (eip_past len (with_whole 1 (suc (suc n) - 1) x)) (with_whole 1 (suc (suc n) - 1) x); bytes = c }) (isnt_one n)
     ∙ ap (λ k. state (slice_set (slice_set T 1 (suc (suc n))) 1 k) e f c) (one_less (suc n))
     ∙ ap (λ y. state y e f c) (set_set 1 (suc (suc n)) (suc n) T) in
-    let P : RegsAndBytes → Type 0 = λ x. IsRepeated len e (turns (suc n) (record i { rep = false }) single x) (turns (suc n) (record i { rep = true }) len (after (record i { rep = true }) len (state (slice_set g 1 (suc (suc n))) e f b))) in
-    let Q : RegsAndBytes → Type 0 = λ x. IsRepeated len e (turns (suc n) (record i { rep = false }) single one) (turns (suc n) (record i { rep = true }) len x) in
+    let P : RegsAndBytes → Type 0 = λ x. EndsCountedOut len e (turns (suc n) (record i { rep = false }) single x) (turns (suc n) (record i { rep = true }) len (after (record i { rep = true }) len (state (slice_set g 1 (suc (suc n))) e f b))) in
+    let Q : RegsAndBytes → Type 0 = λ x. EndsCountedOut len e (turns (suc n) (record i { rep = false }) single one) (turns (suc n) (record i { rep = true }) len x) in
     subst P (sym left) (subst Q (sym right)
     (many_turns n i o len single T e ((e' + single) % 2 ^ 32) f c is h (turned_length o i.size e' f b g h eight)))
 
 all_turns : (i : Insn) (n len single : ℕ) (m : RegsAndBytes) → IsString i.op → i.rep ≡ true → IsWhole m.regs → slice_index m.regs.r 1 ≡ suc n →
-    IsRepeated len m.regs.eip (turns (suc n) (record i { rep = false }) single m) (turns (suc n) i len m)
+    EndsCountedOut len m.regs.eip (turns (suc n) (record i { rep = false }) single m) (turns (suc n) i len m)
 all_turns i n len single m h rep w ecx =
     let g : List ℕ = m.regs.r in
     let same : slice_set g 1 (suc n) ≡ g = ap (slice_set g 1) (sym ecx) ∙ set_same 1 g in
     let P : List ℕ → Type 0 = λ x.
-    IsRepeated len m.regs.eip (turns (suc n) (record i { rep = false }) single m) (turns (suc n) (record i { rep = true }) len (state x m.regs.eip m.regs.flags m.bytes)) in
-    let Q : Bool → Type 0 = λ x. IsRepeated len m.regs.eip (turns (suc n) (record i { rep = false }) single m) (turns (suc n) (record i { rep = x }) len m) in
+    EndsCountedOut len m.regs.eip (turns (suc n) (record i { rep = false }) single m) (turns (suc n) (record i { rep = true }) len (state x m.regs.eip m.regs.flags m.bytes)) in
+    let Q : Bool → Type 0 = λ x. EndsCountedOut len m.regs.eip (turns (suc n) (record i { rep = false }) single m) (turns (suc n) (record i { rep = x }) len m) in
     subst Q (sym rep) (subst P same (many_turns n i i.op len single g m.regs.eip m.regs.eip m.regs.flags m.bytes refl h w.eight))
 
 pub counted_out : (i : Insn) (n len single : ℕ) (m : RegsAndBytes) → IsString i.op → i.rep ≡ true → IsWhole m.regs → slice_index m.regs.r 1 ≡ suc n →
