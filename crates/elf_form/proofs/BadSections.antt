@@ -1,16 +1,16 @@
 -- Where sections and their names are bad: what is computed finds the lowest place at which the condition holds.
 use Rattle.std.proofs.Common.{◌≡◌, ℕ, ◌+◌, ◌<◌, true, false, not, ◌||◌, List, [], ◌∷◌, Option, Some, None, refl, ap, subst, inl, inr, ◌⊎◌, arith}
 use Rattle.std.specs.Prelude.{◌==◌, filter}
-use Rattle.std.specs.List.{Contains, list_any}
+use Rattle.std.specs.List.{Contains, list_any, find}
 use Rattle.std.proofs.lemmas.Bool.{eqb-true, eqb-false, eq-eqb, ne_eqb, or_cases, or_left, or_right, and_parts, and_from, not-true, not_from_false, or_parts, or_from}
 use Rattle.elf_form.specs.declared.roles.Role.{Role}
 use Rattle.elf_form.specs.declared.roles.Role.TheVariants as role
 use Rattle.elf_form.specs.declared.segments.Found.{Found}
 use Rattle.elf_form.specs.declared.segments.Found.TheVariants.{Nothing, One, Two, More}
 use Rattle.elf_form.specs.Faults.{◌or_lower◌}
-use Rattle.elf_form.specs.Tables.{first, found}
+use Rattle.elf_form.specs.Tables.{found, further}
 use Rattle.elf_form.specs.Header.{section_table, section_count, sections}
-use Rattle.elf_form.specs.Sections.{names, is_sites, is_nameless, is_compressed, field_of, sites_sections, one_of, compressed, nameless}
+use Rattle.elf_form.specs.Sections.{names, is_sites, is_nameless, is_compressed, sites_sections, one_of, compressed, nameless}
 use Rattle.elf_form.specs.Roles.{role as role_of, role_number, has_role, with_role, alignment, alignments, is_misaligned, misaligned}
 use Rattle.elf_form.specs.ObjectReading.{first_field, second_field, object_form}
 use Rattle.elf_form.specs.Order.{IsLowest}
@@ -57,7 +57,7 @@ module _ (bytes : List ℕ) where
       finds_as (first_field 4 (found (filter (has_role role.Foreign (names bytes) bytes) (sections bytes)))) (λ k. (s : ℕ) × Contains (sections bytes) s × (has_role role.Foreign (names bytes) bytes s ≡ true) × (k ≡ s + 4)) (λ k. (s : ℕ) × IsOf role.Foreign bytes s × (k ≡ s + 4))
       (λ k h. (h.0, (h.1, role_is role.Foreign (names bytes) bytes h.0 h.2), h.3))
       (λ k h. (h.0, h.1.0, is_role role.Foreign (names bytes) bytes h.0 h.1.1, h.2))
-      (finds_at (field_of 4 (first (has_role role.Foreign (names bytes) bytes) (sections bytes))) (first_field 4 (found (filter (has_role role.Foreign (names bytes) bytes) (sections bytes))))
+      (finds_at (further 4 (find (has_role role.Foreign (names bytes) bytes) (sections bytes))) (first_field 4 (found (filter (has_role role.Foreign (names bytes) bytes) (sections bytes))))
       (λ k. (s : ℕ) × Contains (sections bytes) s × (has_role role.Foreign (names bytes) bytes s ≡ true) × (k ≡ s + 4))
       (first_found 4 (has_role role.Foreign (names bytes) bytes) (sections bytes))
       (finds_first (has_role role.Foreign (names bytes) bytes) 4 (section_table bytes) 40 (section_count bytes) (omega arith)))
@@ -79,7 +79,7 @@ module _ (bytes : List ℕ) where
   misaligned_finds : Finds (misaligned (names bytes) bytes) Misaligned
   unfolding misaligned
   misaligned_finds =
-      finds_as (field_of 32 (first (is_misaligned (names bytes) bytes) (sections bytes))) (λ k. (s : ℕ) × Contains (sections bytes) s × (is_misaligned (names bytes) bytes s ≡ true) × (k ≡ s + 32)) Misaligned
+      finds_as (further 32 (find (is_misaligned (names bytes) bytes) (sections bytes))) (λ k. (s : ℕ) × Contains (sections bytes) s × (is_misaligned (names bytes) bytes s ≡ true) × (k ≡ s + 32)) Misaligned
       to from (finds_first (is_misaligned (names bytes) bytes) 32 (section_table bytes) 40 (section_count bytes) (omega arith)) where
         to : (k : ℕ) → (s : ℕ) × Contains (sections bytes) s × (is_misaligned (names bytes) bytes s ≡ true) × (k ≡ s + 32) → Misaligned k
         to k (s, there, wrong, e) =
@@ -170,9 +170,9 @@ module _ (bytes : List ℕ) where
   pub sites_finds : Finds (one_of (sites_sections bytes)) SitesPart
   unfolding sites_sections
   sites_finds =
-      one_by (field_of 0 (first (is_sites (names bytes) bytes) (sections bytes))) (second_field 0 (found (filter (is_sites (names bytes) bytes) (sections bytes)))) (found (filter (is_sites (names bytes) bytes) (sections bytes)))
+      one_by (further 0 (find (is_sites (names bytes) bytes) (sections bytes))) (second_field 0 (found (filter (is_sites (names bytes) bytes) (sections bytes)))) (found (filter (is_sites (names bytes) bytes) (sections bytes)))
       (first_found 0 (is_sites (names bytes) bytes) (sections bytes)) refl
-      (finds_as (field_of 0 (first (is_sites (names bytes) bytes) (sections bytes))) (λ k. (s : ℕ) × Contains (sections bytes) s × (is_sites (names bytes) bytes s ≡ true) × (k ≡ s + 0)) (λ k. (s : ℕ) × IsNamedSites bytes s × (k ≡ s + 0))
+      (finds_as (further 0 (find (is_sites (names bytes) bytes) (sections bytes))) (λ k. (s : ℕ) × Contains (sections bytes) s × (is_sites (names bytes) bytes s ≡ true) × (k ≡ s + 0)) (λ k. (s : ℕ) × IsNamedSites bytes s × (k ≡ s + 0))
       (λ k h. (h.0, (h.1, h.2), h.3)) (λ k h. (h.0, h.1.0, h.1.1, h.2))
       (finds_first (is_sites (names bytes) bytes) 0 (section_table bytes) 40 (section_count bytes) (omega arith)))
       (finds_second (is_sites (names bytes) bytes) 0 40 (section_table bytes) (section_count bytes) (omega arith))

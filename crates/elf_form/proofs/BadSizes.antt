@@ -2,7 +2,7 @@
 use Rattle.std.proofs.Common.{◌≡◌, ◌≢◌, ℕ, zero, suc, ◌+◌, ◌%◌, ◌<◌, ◌≤◌, Bool, true, false, not, cond, List, [], ◌∷◌, ◌++◌, length, nat_lt, Option, Some, None, refl, sym, ap, ◌∙◌, subst, inl, inr, ◌⊎◌, arith}
 use Rattle.std.specs.Prelude.{◌==◌, filter, slice_get}
 use Rattle.std.specs.Bool.{then_some}
-use Rattle.std.specs.List.{Contains, sum_by}
+use Rattle.std.specs.List.{Contains, sum_by, find}
 use Rattle.std.proofs.lemmas.Bool.{cond-true, cond-false, cases_lt, lt-ltb, ltb-true, and_parts, and_from}
 use Rattle.std.proofs.lemmas.List.Sums.{sum_by-cons}
 use Rattle.guest_ram.specs.Bytes.{word16, word32}
@@ -11,7 +11,7 @@ use Rattle.elf_form.specs.declared.roles.Role.TheVariants as role
 use Rattle.elf_form.specs.declared.symbols.SectionTest.TheVariants.{EntrySizes}
 use Rattle.elf_form.specs.Faults.{◌or_lower◌}
 use Rattle.elf_form.specs.Output.{pad}
-use Rattle.elf_form.specs.Tables.{entries, first, found}
+use Rattle.elf_form.specs.Tables.{entries, found}
 use Rattle.elf_form.specs.Header.{section_table, section_count, sections}
 use Rattle.elf_form.specs.Segments.{loads, first_size, second_size, memory_sizes, header_size, program_size, section_size, too_long, sizes}
 use Rattle.elf_form.specs.Sections.{names}
@@ -19,7 +19,7 @@ use Rattle.elf_form.specs.Roles.{role as role_of, has_role, with_role, is_kept, 
 use Rattle.elf_form.specs.Symbols.{is_reloc_section, target_role, entries_fault, section_test, sections_fault}
 use Rattle.elf_form.specs.ObjectReading.{table_of, table_fault, inner_sizes, object_sizes}
 use Rattle.elf_form.specs.Order.{IsLowest}
-use Rattle.elf_form.specs.Reasons.{IsOf, in_pages, IsTooMuch, IsTable, IsRelocs, IsBadEntrySize, IsBadObjectSize, loaded, IsBadImageSize}
+use Rattle.elf_form.specs.Reasons.{IsOf, in_pages, IsTooMuch, IsSymbolTable, IsRelocs, IsBadEntrySize, IsBadObjectSize, loaded, IsBadImageSize}
 use Rattle.elf_form.proofs.Lowest.{has_first, has_later, Finds, finds_as, finds_at, finds_lower, finds_else, finds_bad, finds_field, finds_if, finds_some, finds_first_entry, entry_from}
 use Rattle.elf_form.proofs.BadSections.{role_is, is_role}
 
@@ -149,9 +149,9 @@ pub finds_then : (o : Option ℕ) (P : ℕ → Type 0) (f : ℕ → Option ℕ) 
 finds_then None P f Q h g = λ k q. h q.0 q.1.0
 finds_then (Some x) P f Q h g = finds_as (f x) (Q x) (λ k. (y : ℕ) × IsLowest P y × Q y k) (λ k q. (x, h, q)) (λ k q. let same : q.0 ≡ x = omega (arith, h.1 q.0 q.1.0, q.1.1 x h.0) in subst (λ y. Q y k) same q.2) (g x)
 
-pub first_of_role : (r : Role) (bytes : List ℕ) → Finds (first (has_role r (names bytes) bytes) (sections bytes)) (IsOf r bytes)
+pub first_of_role : (r : Role) (bytes : List ℕ) → Finds (find (has_role r (names bytes) bytes) (sections bytes)) (IsOf r bytes)
 first_of_role r bytes =
-    finds_as (first (has_role r (names bytes) bytes) (sections bytes)) (λ s. Contains (sections bytes) s × (has_role r (names bytes) bytes s ≡ true)) (IsOf r bytes)
+    finds_as (find (has_role r (names bytes) bytes) (sections bytes)) (λ s. Contains (sections bytes) s × (has_role r (names bytes) bytes s ≡ true)) (IsOf r bytes)
     (λ s h. (h.0, role_is r (names bytes) bytes s h.1)) (λ s h. (h.0, is_role r (names bytes) bytes s h.1))
     (finds_first_entry (has_role r (names bytes) bytes) (section_table bytes) 40 (section_count bytes) (omega arith))
 
@@ -161,11 +161,11 @@ head_of_found bytes x [] = refl
 head_of_found bytes x (y ∷ []) = refl
 head_of_found bytes x (y ∷ z ∷ zs) = refl
 
-table_first : (bytes : List ℕ) (p : ℕ → Bool) (xs : List ℕ) → then_of (first p xs) (entries_fault 16 bytes) ≡ table_fault bytes (found (filter p xs))
-unfolding first found
+table_first : (bytes : List ℕ) (p : ℕ → Bool) (xs : List ℕ) → then_of (find p xs) (entries_fault 16 bytes) ≡ table_fault bytes (found (filter p xs))
+unfolding found
 table_first bytes p [] = refl
 table_first bytes p (x ∷ xs) = by (p x) (table_first bytes p xs) where
-  by : (b : Bool) → then_of (first p xs) (entries_fault 16 bytes) ≡ table_fault bytes (found (filter p xs)) → then_of (cond b (Some x) (first p xs)) (entries_fault 16 bytes) ≡ table_fault bytes (found (cond b (x ∷ filter p xs) (filter p xs)))
+  by : (b : Bool) → then_of (find p xs) (entries_fault 16 bytes) ≡ table_fault bytes (found (filter p xs)) → then_of (cond b (Some x) (find p xs)) (entries_fault 16 bytes) ≡ table_fault bytes (found (cond b (x ∷ filter p xs) (filter p xs)))
   by true e = head_of_found bytes x (filter p xs)
   by false e = e
 
@@ -173,14 +173,14 @@ table_first bytes p (x ∷ xs) = by (p x) (table_first bytes p xs) where
 
 module _ (bytes : List ℕ) where
   abbrev TableSize : ℕ → Type 0
-  TableSize k = (s : ℕ) × IsTable bytes s × IsBadEntrySize 16 bytes s k
+  TableSize k = (s : ℕ) × IsSymbolTable bytes s × IsBadEntrySize 16 bytes s k
 
   table_finds : Finds (table_fault bytes (with_role role.Symbols (names bytes) bytes)) TableSize
   unfolding with_role
   table_finds =
-      finds_at (then_of (first (has_role role.Symbols (names bytes) bytes) (sections bytes)) (entries_fault 16 bytes)) (table_fault bytes (found (filter (has_role role.Symbols (names bytes) bytes) (sections bytes)))) TableSize
+      finds_at (then_of (find (has_role role.Symbols (names bytes) bytes) (sections bytes)) (entries_fault 16 bytes)) (table_fault bytes (found (filter (has_role role.Symbols (names bytes) bytes) (sections bytes)))) TableSize
       (table_first bytes (has_role role.Symbols (names bytes) bytes) (sections bytes))
-      (finds_then (first (has_role role.Symbols (names bytes) bytes) (sections bytes)) (IsOf role.Symbols bytes) (entries_fault 16 bytes) (IsBadEntrySize 16 bytes) (first_of_role role.Symbols bytes) (entries_finds 16 bytes))
+      (finds_then (find (has_role role.Symbols (names bytes) bytes) (sections bytes)) (IsOf role.Symbols bytes) (entries_fault 16 bytes) (IsBadEntrySize 16 bytes) (first_of_role role.Symbols bytes) (entries_finds 16 bytes))
 
   pub relocs_so : (s : ℕ) → Contains (sections bytes) s → is_reloc_section (names bytes) bytes s ≡ true → IsRelocs bytes s
   relocs_so s there h = let both = and_parts (has_role role.Relocs (names bytes) bytes s) (is_kept (target_role (names bytes) bytes s)) h in ((there, role_is role.Relocs (names bytes) bytes s both.0), both.1)

@@ -2,7 +2,7 @@
 use Rattle.std.proofs.Common.{◌≡◌, ◌≢◌, ℕ, ◌+◌, ◌-◌, ◌<◌, ◌≤◌, Bool, true, false, not, ◌||◌, cond, List, [], ◌∷◌, Option, Some, None, refl, sym, ap, ◌∙◌, subst, inl, inr, ◌⊎◌, arith}
 use Rattle.std.specs.Prelude.{◌==◌, filter}
 use Rattle.std.specs.Bool.{then_some}
-use Rattle.std.specs.List.{Contains, flat_map}
+use Rattle.std.specs.List.{Contains, flat_map, find}
 use Rattle.std.proofs.lemmas.Bool.{eqb-true, eqb-false, eq-eqb, ne_eqb, or_cases, or_left, or_right, and_parts, and_from, not-true, not_from_false}
 use Rattle.std.proofs.lemmas.List.Elements.{Contains-append_left, Contains-append_right, Contains-append_cases}
 use Rattle.std.proofs.lemmas.List.Concat.{flat_map-cons}
@@ -15,13 +15,13 @@ use Rattle.elf_form.specs.declared.symbols.SymbolTest.TheVariants.{Names, Global
 use Rattle.elf_form.specs.declared.symbols.RelocTest.{RelocTest}
 use Rattle.elf_form.specs.declared.symbols.RelocTest.TheVariants.{Named, Form}
 use Rattle.guest_ram.specs.Places.{◌or_else◌}
-use Rattle.elf_form.specs.Tables.{entries, first, found}
+use Rattle.elf_form.specs.Tables.{entries, found}
 use Rattle.elf_form.specs.Header.{section_table, section_count, sections}
 use Rattle.elf_form.specs.Sections.{names, nameless}
 use Rattle.elf_form.specs.Roles.{role_number, has_role, with_role, is_kept}
 use Rattle.elf_form.specs.Symbols.{table_at, symbols_of, binding, is_file, has_binding, has_place, symbol_fault, target_role, is_reloc_section, is_reloc_section_of, relocs_in, relocs_of, is_linked, section_test, sections_fault, is_unnamed, symbol_test, symbols_fault, has_symbol, symbol_of, is_outside, has_kind, names_none, reloc_test, relocs_fault}
 use Rattle.elf_form.specs.ObjectReading.{has_strings, table_of, link_of, strings_of, section_names_fault, symbol_names_fault, string_places, kept_relocs, symbol_form, reloc_form}
-use Rattle.elf_form.specs.Reasons.{IsOf, IsTable, IsRelocs, IsNameless, IsBadName, IsReloc, IsNeeded, IsBadSymbol, IsBadReloc}
+use Rattle.elf_form.specs.Reasons.{IsOf, IsSymbolTable, IsRelocs, IsNameless, IsBadName, IsReloc, IsNeeded, IsBadSymbol, IsBadReloc}
 use Rattle.elf_form.proofs.Lowest.{some, has_first, has_later, first_or_later, has_none, Finds, finds_so, so_finds, finds_as, finds_at, finds_lower, finds_else, finds_bad, finds_not, finds_if, finds_some, finds_fold}
 use Rattle.elf_form.proofs.BadSections.{role_is, is_role, nameless_finds}
 use Rattle.elf_form.proofs.BadSizes.{then_of, finds_then, first_of_role, relocs_so, so_relocs}
@@ -35,19 +35,17 @@ no_entries : (at size n : ℕ) → n ≡ 0 → entries at size n ≡ []
 unfolding entries
 no_entries at size n e = ap (entries at size) e
 
-first_filter : (p : ℕ → Bool) (xs : List ℕ) (s : ℕ) → first p xs ≡ Some s → (ys : List ℕ) × (filter p xs ≡ s ∷ ys)
-unfolding first
+first_filter : (p : ℕ → Bool) (xs : List ℕ) (s : ℕ) → find p xs ≡ Some s → (ys : List ℕ) × (filter p xs ≡ s ∷ ys)
 first_filter p [] s e = absurd cc
 first_filter p (x ∷ xs) s e = by (p x) e (λ k. first_filter p xs s k) where
-  by : (b : Bool) → cond b (Some x) (first p xs) ≡ Some s → (first p xs ≡ Some s → (ys : List ℕ) × (filter p xs ≡ s ∷ ys)) → (ys : List ℕ) × (cond b (x ∷ filter p xs) (filter p xs) ≡ s ∷ ys)
+  by : (b : Bool) → cond b (Some x) (find p xs) ≡ Some s → (find p xs ≡ Some s → (ys : List ℕ) × (filter p xs ≡ s ∷ ys)) → (ys : List ℕ) × (cond b (x ∷ filter p xs) (filter p xs) ≡ s ∷ ys)
   by true k ih = (filter p xs, ap (λ (y : ℕ). y ∷ filter p xs) (some_same x s k))
   by false k ih = ih k
 
-none_filter : (p : ℕ → Bool) (xs : List ℕ) → first p xs ≡ None → filter p xs ≡ []
-unfolding first
+none_filter : (p : ℕ → Bool) (xs : List ℕ) → find p xs ≡ None → filter p xs ≡ []
 none_filter p [] e = refl
 none_filter p (x ∷ xs) e = by (p x) e (λ k. none_filter p xs k) where
-  by : (b : Bool) → cond b (Some x) (first p xs) ≡ None → (first p xs ≡ None → filter p xs ≡ []) → cond b (x ∷ filter p xs) (filter p xs) ≡ []
+  by : (b : Bool) → cond b (Some x) (find p xs) ≡ None → (find p xs ≡ None → filter p xs ≡ []) → cond b (x ∷ filter p xs) (filter p xs) ≡ []
   by true k ih = absurd cc
   by false k ih = ih k
 
@@ -61,21 +59,21 @@ no_section : (bytes : List ℕ) → (table_at bytes (found [])).count ≡ 0
 unfolding found
 no_section bytes = refl
 
-table_section : (bytes : List ℕ) (s : ℕ) → IsTable bytes s → (table_of bytes).section ≡ s
+table_section : (bytes : List ℕ) (s : ℕ) → IsSymbolTable bytes s → (table_of bytes).section ≡ s
 unfolding table_of with_role
 table_section bytes s h =
-    let f = first_filter (has_role role.Symbols (names bytes) bytes) (sections bytes) s (so_finds (first (has_role role.Symbols (names bytes) bytes) (sections bytes)) (IsOf role.Symbols bytes) s (first_of_role role.Symbols bytes) h) in
+    let f = first_filter (has_role role.Symbols (names bytes) bytes) (sections bytes) s (so_finds (find (has_role role.Symbols (names bytes) bytes) (sections bytes)) (IsOf role.Symbols bytes) s (first_of_role role.Symbols bytes) h) in
     ap (λ (xs : List ℕ). (table_at bytes (found xs)).section) f.1 ∙ head_section bytes s f.0
 
-table_count : (bytes : List ℕ) → first (has_role role.Symbols (names bytes) bytes) (sections bytes) ≡ None → (table_of bytes).count ≡ 0
+table_count : (bytes : List ℕ) → find (has_role role.Symbols (names bytes) bytes) (sections bytes) ≡ None → (table_of bytes).count ≡ 0
 unfolding table_of with_role
 table_count bytes e = ap (λ (xs : List ℕ). (table_at bytes (found xs)).count) (none_filter (has_role role.Symbols (names bytes) bytes) (sections bytes) e) ∙ no_section bytes
 
-symbol_table : (bytes : List ℕ) (y : ℕ) → Contains (symbols_of (table_of bytes)) y → (s : ℕ) × IsTable bytes s
-symbol_table bytes y there = by (first (has_role role.Symbols (names bytes) bytes) (sections bytes)) refl where
-  by : (o : Option ℕ) → first (has_role role.Symbols (names bytes) bytes) (sections bytes) ≡ o → (s : ℕ) × IsTable bytes s
+symbol_table : (bytes : List ℕ) (y : ℕ) → Contains (symbols_of (table_of bytes)) y → (s : ℕ) × IsSymbolTable bytes s
+symbol_table bytes y there = by (find (has_role role.Symbols (names bytes) bytes) (sections bytes)) refl where
+  by : (o : Option ℕ) → find (has_role role.Symbols (names bytes) bytes) (sections bytes) ≡ o → (s : ℕ) × IsSymbolTable bytes s
   by None e = absurd (has_none y (subst (λ (xs : List ℕ). Contains xs y) (no_entries ((table_of bytes).at + 16) 16 ((table_of bytes).count - 1) (omega (arith, table_count bytes e))) there))
-  by (Some s) e = (s, finds_so (first (has_role role.Symbols (names bytes) bytes) (sections bytes)) (IsOf role.Symbols bytes) s (first_of_role role.Symbols bytes) e)
+  by (Some s) e = (s, finds_so (find (has_role role.Symbols (names bytes) bytes) (sections bytes)) (IsOf role.Symbols bytes) s (first_of_role role.Symbols bytes) e)
 
 -- ---- names
 
@@ -134,33 +132,33 @@ module _ (bytes : List ℕ) where
   head_asked x (y ∷ []) = refl
   head_asked x (y ∷ z ∷ zs) = refl
 
-  asked_of : (p : ℕ → Bool) (xs : List ℕ) → then_of (first p xs) asked ≡ symbol_names_fault bytes (found (filter p xs))
-  unfolding first found
+  asked_of : (p : ℕ → Bool) (xs : List ℕ) → then_of (find p xs) asked ≡ symbol_names_fault bytes (found (filter p xs))
+  unfolding found
   asked_of p [] = refl
   asked_of p (x ∷ xs) = by (p x) (asked_of p xs) where
-    by : (b : Bool) → then_of (first p xs) asked ≡ symbol_names_fault bytes (found (filter p xs)) → then_of (cond b (Some x) (first p xs)) asked ≡ symbol_names_fault bytes (found (cond b (x ∷ filter p xs) (filter p xs)))
+    by : (b : Bool) → then_of (find p xs) asked ≡ symbol_names_fault bytes (found (filter p xs)) → then_of (cond b (Some x) (find p xs)) asked ≡ symbol_names_fault bytes (found (cond b (x ∷ filter p xs) (filter p xs)))
     by true e = head_asked x (filter p xs)
     by false e = e
 
   abbrev SymbolNames : ℕ → Type 0
-  SymbolNames k = ((s : ℕ) × IsTable bytes s × NoTable s k) ⊎ ((has_strings bytes (link_of bytes) ≡ true) × Unnamed k)
+  SymbolNames k = ((s : ℕ) × IsSymbolTable bytes s × NoTable s k) ⊎ ((has_strings bytes (link_of bytes) ≡ true) × Unnamed k)
 
   symbol_names_finds : Finds (symbol_names_fault bytes (with_role role.Symbols (names bytes) bytes)) SymbolNames
   unfolding with_role
   symbol_names_finds =
-      finds_as (symbol_names_fault bytes (found (filter (has_role role.Symbols (names bytes) bytes) (sections bytes)))) (λ k. (s : ℕ) × IsTable bytes s × Asked s k) SymbolNames
+      finds_as (symbol_names_fault bytes (found (filter (has_role role.Symbols (names bytes) bytes) (sections bytes)))) (λ k. (s : ℕ) × IsSymbolTable bytes s × Asked s k) SymbolNames
       to from
-      (finds_at (then_of (first (has_role role.Symbols (names bytes) bytes) (sections bytes)) asked) (symbol_names_fault bytes (found (filter (has_role role.Symbols (names bytes) bytes) (sections bytes)))) (λ k. (s : ℕ) × IsTable bytes s × Asked s k)
+      (finds_at (then_of (find (has_role role.Symbols (names bytes) bytes) (sections bytes)) asked) (symbol_names_fault bytes (found (filter (has_role role.Symbols (names bytes) bytes) (sections bytes)))) (λ k. (s : ℕ) × IsSymbolTable bytes s × Asked s k)
       (asked_of (has_role role.Symbols (names bytes) bytes) (sections bytes))
-      (finds_then (first (has_role role.Symbols (names bytes) bytes) (sections bytes)) (IsOf role.Symbols bytes) asked Asked (first_of_role role.Symbols bytes) asked_finds)) where
-        link_is : (s : ℕ) → IsTable bytes s → link_of bytes ≡ word32 bytes (s + 24)
+      (finds_then (find (has_role role.Symbols (names bytes) bytes) (sections bytes)) (IsOf role.Symbols bytes) asked Asked (first_of_role role.Symbols bytes) asked_finds)) where
+        link_is : (s : ℕ) → IsSymbolTable bytes s → link_of bytes ≡ word32 bytes (s + 24)
         link_is s h = ap (λ (x : ℕ). word32 bytes (x + 24)) (table_section bytes s h)
 
-        to : (k : ℕ) → (s : ℕ) × IsTable bytes s × Asked s k → SymbolNames k
+        to : (k : ℕ) → (s : ℕ) × IsSymbolTable bytes s × Asked s k → SymbolNames k
         to k (s, h, inl a) = inr a
         to k (s, h, inr (never, e)) = inl (s, h, (sym (ap (has_strings bytes) (link_is s h)) ∙ never, e))
 
-        from : (k : ℕ) → SymbolNames k → (s : ℕ) × IsTable bytes s × Asked s k
+        from : (k : ℕ) → SymbolNames k → (s : ℕ) × IsSymbolTable bytes s × Asked s k
         from k (inl (s, h, (never, e))) = (s, h, inr (ap (has_strings bytes) (link_is s h) ∙ never, e))
         from k (inr a) = let t = symbol_table bytes k a.1.0 in (t.0, t.1, inl a)
 

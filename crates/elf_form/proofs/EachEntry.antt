@@ -1,11 +1,10 @@
 -- What each entry of a list has, and what tests say that found no place.
-use Rattle.std.proofs.Common.{◌≡◌, ℕ, zero, suc, ◌<◌, Bool, true, false, ◌||◌, not, cond, nat_lt, List, [], ◌∷◌, ◌++◌, length, map, get_or, Option, Some, None, refl, arith}
+use Rattle.std.proofs.Common.{◌≡◌, ℕ, zero, suc, ◌<◌, Bool, true, false, ◌||◌, not, List, [], ◌∷◌, ◌++◌, length, map, get_or, Option, None, refl, arith}
 use Rattle.std.specs.Prelude.{fold}
-use Rattle.std.specs.Bool.{then_some}
 use Rattle.elf_form.specs.declared.object.Reloc.{Reloc}
 use Rattle.elf_form.specs.declared.symbols.Entry.{Entry}
 use Rattle.elf_form.specs.Faults.{◌or_lower◌}
-use Rattle.guest_ram.specs.Places.{◌or_else◌}
+use Rattle.elf_form.proofs.FormLaws.{lower_none}
 
 -- ---- what stands in a list
 
@@ -32,23 +31,6 @@ each_all P (x ∷ xs) h zero d lt = h.0
 each_all P (x ∷ xs) h (suc k) d lt = each_all P xs h.1 k d (omega arith)
 
 -- ---- tests that found no place
-
-pub bad_none : (b : Bool) (at : ℕ) → then_some b at ≡ None → b ≡ false
-bad_none true at h = cc
-bad_none false at h = refl
-
-pub else_none : (a b : Option ℕ) → (a or_else b) ≡ None → (a ≡ None) × (b ≡ None)
-else_none None b h = (refl, h)
-else_none (Some x) b h = cc
-
-pub lower_some : (t : Bool) (x y : ℕ) → cond t (Some x) (Some y) ≡ None → ⊥
-lower_some true x y h = cc
-lower_some false x y h = cc
-
-pub lower_none : (a b : Option ℕ) → (a or_lower b) ≡ None → (a ≡ None) × (b ≡ None)
-lower_none None b h = (refl, h)
-lower_none (Some x) None h = cc
-lower_none (Some x) (Some y) h = absurd (lower_some (nat_lt y x) y x h)
 
 pub fold_none : (t : Entry → Option ℕ) (a : Option ℕ) (es : List Entry) → fold (λ lowest e. lowest or_lower t e) a es ≡ None → (a ≡ None) × Each (λ e. t e ≡ None) es
 fold_none t a [] h = (h, tt)

@@ -5,8 +5,8 @@ use Rattle.std.specs.List.{flat_map, AllByRecursion}
 use Rattle.std.proofs.lemmas.Bool.{cond-true}
 use Rattle.std.proofs.lemmas.List.{length-append}
 use Rattle.elf_form.specs.Faults.{◌or_lower◌}
-use Rattle.elf_form.specs.Tables.{entries}
-use Rattle.elf_form.specs.Symbols.{first_some, is_listed, numbers}
+use Rattle.elf_form.specs.Tables.{entries, first_some}
+use Rattle.elf_form.specs.Symbols.{is_listed, numbers}
 
 -- P holds of each element and of the place of its entry, the first at at, each k bytes on
 abbrev pub EachAt : {X : Type 0} → (ℕ → X → Type 0) → ℕ → ℕ → List X → Type 0

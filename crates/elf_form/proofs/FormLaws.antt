@@ -4,6 +4,7 @@ use Rattle.std.specs.Prelude.{IfNone}
 use Rattle.std.specs.Bool.{then_some}
 use Rattle.std.proofs.lemmas.Bool.{ltb-false}
 use Rattle.guest_ram.specs.Bytes.{word32}
+use Rattle.guest_ram.specs.Places.{◌or_else◌}
 use Rattle.elf_form.specs.declared.cause.ElfCause.{ElfCause}
 use Rattle.elf_form.specs.declared.segments.Found.{Found}
 use Rattle.elf_form.specs.declared.segments.Found.TheVariants.{Nothing, One, Two, More}
@@ -17,20 +18,24 @@ pub tested_none : (cause : ElfCause) (place : Option ℕ) → test cause place �
 tested_none cause None e = refl
 tested_none cause (Some at) e = absurd cc
 
-some_stays : (b : Bool) (x y : ℕ) → cond b (Some x) (Some y) ≡ None → ⊥
-some_stays true x y e = cc
-some_stays false x y e = cc
+-- a test that does not hold
+pub then_none : {A : Type 0} (b : Bool) (x : A) → then_some b x ≡ None → b ≡ false
+then_none true x h = absurd cc
+then_none false x h = refl
 
--- neither of two
-pub neither : (a b : Option ℕ) → (a or_lower b) ≡ None → (a ≡ None) × (b ≡ None)
-neither None b e = (refl, e)
-neither (Some a) None e = absurd cc
-neither (Some a) (Some b) e = absurd (some_stays (ltb b a) b a e)
+-- neither of two places
+pub else_none : {A : Type 0} (a b : Option A) → (a or_else b) ≡ None → (a ≡ None) × (b ≡ None)
+else_none None b h = (refl, h)
+else_none (Some x) b h = absurd cc
 
--- a field that is not bad
-pub not_bad : (is_bad : Bool) (at : ℕ) → then_some is_bad at ≡ None → is_bad ≡ false
-not_bad true at e = absurd cc
-not_bad false at e = refl
+lower_some : (t : Bool) (x y : ℕ) → cond t (Some x) (Some y) ≡ None → ⊥
+lower_some true x y h = cc
+lower_some false x y h = cc
+
+pub lower_none : (a b : Option ℕ) → (a or_lower b) ≡ None → (a ≡ None) × (b ≡ None)
+lower_none None b h = (refl, h)
+lower_none (Some x) None h = absurd cc
+lower_none (Some x) (Some y) h = absurd (lower_some (ltb y x) y x h)
 
 pub two_of : (bytes : List ℕ) (P : ℕ → Type 0) (f : Found) → order bytes f ≡ None → AllFound P f → P (first_of f) × P (second_of f)
 unfolding order
@@ -50,17 +55,17 @@ pub second_fits : (bytes : List ℕ) (f : Found) → order bytes f ≡ None → 
 unfolding order memory_sizes
 second_fits bytes Nothing e m = absurd cc
 second_fits bytes (One a) e m = absurd cc
-second_fits bytes (Two a b) e m = ltb-false _ _ (not_bad (ltb (word32 bytes (b + 20)) (word32 bytes (b + 16))) (b + 20) ((neither (first_size bytes a) (second_size bytes b) m).1))
+second_fits bytes (Two a b) e m = ltb-false _ _ (then_none (ltb (word32 bytes (b + 20)) (word32 bytes (b + 16))) (b + 20) ((lower_none (first_size bytes a) (second_size bytes b) m).1))
 second_fits bytes (More a b) e m = absurd cc
 
 -- the sizes that were compared
 pub sizes_memory : (bytes : List ℕ) → sizes bytes ≡ None → memory_sizes bytes (loads bytes) ≡ None
 unfolding sizes
 sizes_memory bytes e =
-    let rest = (neither (header_size bytes) (program_size bytes or_lower (section_size bytes or_lower (memory_sizes bytes (loads bytes) or_lower too_long bytes))) e).1 in
-    let rest = (neither (program_size bytes) (section_size bytes or_lower (memory_sizes bytes (loads bytes) or_lower too_long bytes)) rest).1 in
-    let rest = (neither (section_size bytes) (memory_sizes bytes (loads bytes) or_lower too_long bytes) rest).1 in
-    (neither (memory_sizes bytes (loads bytes)) (too_long bytes) rest).0
+    let rest = (lower_none (header_size bytes) (program_size bytes or_lower (section_size bytes or_lower (memory_sizes bytes (loads bytes) or_lower too_long bytes))) e).1 in
+    let rest = (lower_none (program_size bytes) (section_size bytes or_lower (memory_sizes bytes (loads bytes) or_lower too_long bytes)) rest).1 in
+    let rest = (lower_none (section_size bytes) (memory_sizes bytes (loads bytes) or_lower too_long bytes) rest).1 in
+    (lower_none (memory_sizes bytes (loads bytes)) (too_long bytes) rest).0
 
 pub when_none : (place : Option ℕ) (P : Type 0) → (place ≡ None → P) → IfNone place P
 when_none None P h = h refl

@@ -5,6 +5,7 @@ pub mod AppendLaws
 pub mod RowLaws
 pub mod FileWords
 pub mod RoundTrip
+pub mod TestLaws
 pub mod Acceptance
 pub mod StringLaws
 pub mod SymbolNames

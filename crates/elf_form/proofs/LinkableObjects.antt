@@ -33,7 +33,8 @@ use Rattle.elf_form.proofs.ObjectAcceptance.{if_read}
 use Rattle.elf_form.proofs.WholeLaws.{section_at}
 use Rattle.elf_form.specs.Linkable.{IsLinkable}
 use Rattle.elf_form.specs.Symbols.{symbols_of, section_of, role_at, is_listed, is_file, has_binding, has_place, symbol_fault, target, target_role, is_reloc_section_of, entry, relocs_in, relocs_of, size_at, is_outside, named_symbol, has_symbol, symbol_of, has_kind, names_none, named_fault, form_fault, reloc_test, relocs_fault, start_in, start_at, numbers, reloc_at, symbol_at, symbols_in}
-use Rattle.elf_form.proofs.EachEntry.{Each, each_append, each_map, each_both, each_all, bad_none, else_none, lower_none, fold_none, or_false, not_false}
+use Rattle.elf_form.proofs.EachEntry.{Each, each_append, each_map, each_both, each_all, fold_none, or_false, not_false}
+use Rattle.elf_form.proofs.FormLaws.{then_none, else_none, lower_none}
 
 -- ---- entries of a table
 
@@ -70,8 +71,8 @@ listed_by : (file binding place : Bool) (y : ℕ) → file ≡ false → cond fi
 listed_by true binding place y is h = cc
 listed_by false binding place y is h =
     let both = else_none (then_some (not binding) (y + 12)) (then_some (not place) (y + 14)) h in
-    let has_binding = not_false binding (bad_none (not binding) (y + 12) both.0) in
-    let has_place = not_false place (bad_none (not place) (y + 14) both.1) in
+    let has_binding = not_false binding (then_none (not binding) (y + 12) both.0) in
+    let has_place = not_false place (then_none (not place) (y + 14) both.1) in
     rw (has_binding, has_place) refl
 
 -- a symbol that a relocation names
@@ -148,9 +149,9 @@ whole bytes h =
     let c = else_none (section_table_cut bytes) _ b.1 in
     let d = else_none (header_part_cut bytes) (section_part_cut bytes) c.1 in
     record {
-      header = not_below (length bytes) 52 (bad_none (passes bytes 0 52) 0 a.0);
-      header_room = not_below (length bytes) _ (bad_none _ (header_table bytes) b.0);
-      section_room = not_below (length bytes) _ (bad_none _ (section_table bytes) c.0);
+      header = not_below (length bytes) 52 (then_none (passes bytes 0 52) 0 a.0);
+      header_room = not_below (length bytes) _ (then_none _ (header_table bytes) b.0);
+      section_room = not_below (length bytes) _ (then_none _ (section_table bytes) c.0);
       header_parts = part_none bytes 4 _ d.0;
       section_parts = part_none bytes 16 _ d.1;
     }
@@ -316,7 +317,7 @@ symbol_in_list : (table : Table) (ns bytes : List ℕ) (e : Entry) → IsTested 
     → get_or (numbers ns bytes 0 (symbols_of table)) (named_symbol bytes e.at - 1) 0 < length (filter (is_listed ns bytes) (symbols_of table))
 symbol_in_list table ns bytes e tested =
     let form = else_none (then_some (is_outside ns bytes e) e.at) _ tested.1 in
-    let kinds = or_false (not (has_kind bytes e.at)) (names_none table bytes e.at) (bad_none _ (e.at + 4) form.1) in
+    let kinds = or_false (not (has_kind bytes e.at)) (names_none table bytes e.at) (then_none _ (e.at + 4) form.1) in
     let has = has_names (has_symbol table bytes e.at) (is_file bytes (symbol_of table bytes e.at)) kinds.1 in
     let fault = when_true (has_symbol table bytes e.at) (symbol_fault ns bytes (symbol_of table bytes e.at)) has.0 tested.0 in
     let is_there = listed ns bytes (symbol_of table bytes e.at) has.1 fault in
@@ -338,7 +339,7 @@ section_there : (table : Table) (ns bytes : List ℕ) (e : Entry) → form_fault
 unfolding size_at
 section_there table ns bytes e h =
     let form = else_none (then_some (is_outside ns bytes e) e.at) _ h in
-    let out = or_false (role_number (target_role ns bytes e.section) == 4) (nat_lt (size_at bytes (target bytes e.section)) (word32 bytes e.at + 4)) (bad_none (is_outside ns bytes e) e.at form.0) in
+    let out = or_false (role_number (target_role ns bytes e.section) == 4) (nat_lt (size_at bytes (target bytes e.section)) (word32 bytes e.at + 4)) (then_none (is_outside ns bytes e) e.at form.0) in
     size_on (nat_lt (target bytes e.section) (section_count bytes)) (size bytes (section_of bytes (target bytes e.section))) (word32 bytes e.at)
     (not_below (size_at bytes (target bytes e.section)) (word32 bytes e.at + 4) out.1)
 
@@ -453,7 +454,7 @@ sites_short bytes (More s t) h = omega (arith, contents_short bytes s)
 
 short : (bytes : List ℕ) → object_sizes bytes ≡ None → length bytes ≤ 33554432
 unfolding object_sizes
-short bytes h = not_below 33554432 (length bytes) (bad_none _ _ (lower_none _ _ h).1)
+short bytes h = not_below 33554432 (length bytes) (then_none _ _ (lower_none _ _ h).1)
 
 -- all relocations that are read
 relocs_inside : (bytes : List ℕ) → IsWhole bytes → object_form bytes ≡ None → symbol_form bytes ≡ None → reloc_form bytes ≡ None

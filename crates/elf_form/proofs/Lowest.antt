@@ -2,13 +2,11 @@
 use Rattle.std.proofs.Common.{◌≡◌, ◌≢◌, ℕ, zero, suc, ◌+◌, ◌<◌, ◌≤◌, Bool, true, false, not, cond, List, [], ◌∷◌, nat_lt, Option, Some, None, refl, sym, ap, ◌∙◌, subst, inl, inr, ◌⊎◌, arith}
 use Rattle.std.specs.Prelude.{◌==◌, filter, fold}
 use Rattle.std.specs.Bool.{then_some}
-use Rattle.std.specs.List.{Contains}
+use Rattle.std.specs.List.{Contains, find}
 use Rattle.std.proofs.lemmas.Bool.{cases_lt, le-ltb, lt-ltb, eqb-false, ne_eqb}
 use Rattle.elf_form.specs.Faults.{◌or_lower◌}
 use Rattle.guest_ram.specs.Places.{◌or_else◌}
-use Rattle.elf_form.specs.Tables.{entries, first, found}
-use Rattle.elf_form.specs.Sections.{field_of}
-use Rattle.elf_form.specs.Symbols.{first_some}
+use Rattle.elf_form.specs.Tables.{entries, found, first_some, further}
 use Rattle.elf_form.specs.ObjectReading.{first_field, second_field}
 use Rattle.elf_form.specs.Order.{IsLowest}
 
@@ -127,32 +125,32 @@ module _ (f : ℕ → Option ℕ) (P : ℕ → ℕ → Type 0) (size : ℕ) (eac
         below i j p (x, there, q) = omega (arith, (within at i p).1, (within x j q).0, entry_from (at + size) size n x there)
 
 -- the first that passes a test, by one of its fields
-some_first : (p : ℕ → Bool) (field : ℕ) (xs : List ℕ) → first_some (λ x. then_some (p x) (x + field)) xs ≡ field_of field (first p xs)
-unfolding first_some first
+some_first : (p : ℕ → Bool) (field : ℕ) (xs : List ℕ) → first_some (λ x. then_some (p x) (x + field)) xs ≡ further field (find p xs)
+unfolding first_some
 some_first p field [] = refl
 some_first p field (x ∷ xs) = by (p x) (some_first p field xs) where
-  by : (b : Bool) → first_some (λ y. then_some (p y) (y + field)) xs ≡ field_of field (first p xs) → (then_some b (x + field) or_else first_some (λ y. then_some (p y) (y + field)) xs) ≡ field_of field (cond b (Some x) (first p xs))
+  by : (b : Bool) → first_some (λ y. then_some (p y) (y + field)) xs ≡ further field (find p xs) → (then_some b (x + field) or_else first_some (λ y. then_some (p y) (y + field)) xs) ≡ further field (cond b (Some x) (find p xs))
   by true e = refl
   by false e = e
 
-pub finds_first : (p : ℕ → Bool) (field at size n : ℕ) → field < size → Finds (field_of field (first p (entries at size n))) (λ k. (x : ℕ) × Contains (entries at size n) x × (p x ≡ true) × (k ≡ x + field))
+pub finds_first : (p : ℕ → Bool) (field at size n : ℕ) → field < size → Finds (further field (find p (entries at size n))) (λ k. (x : ℕ) × Contains (entries at size n) x × (p x ≡ true) × (k ≡ x + field))
 finds_first p field at size n lt =
-    finds_at (first_some (λ x. then_some (p x) (x + field)) (entries at size n)) (field_of field (first p (entries at size n))) (λ k. (x : ℕ) × Contains (entries at size n) x × (p x ≡ true) × (k ≡ x + field))
+    finds_at (first_some (λ x. then_some (p x) (x + field)) (entries at size n)) (further field (find p (entries at size n))) (λ k. (x : ℕ) × Contains (entries at size n) x × (p x ≡ true) × (k ≡ x + field))
     (some_first p field (entries at size n))
     (finds_as (first_some (λ x. then_some (p x) (x + field)) (entries at size n)) (λ k. (x : ℕ) × Contains (entries at size n) x × ((p x ≡ true) × (k ≡ x + field))) (λ k. (x : ℕ) × Contains (entries at size n) x × (p x ≡ true) × (k ≡ x + field))
     (λ k h. (h.0, h.1, h.2.0, h.2.1)) (λ k h. (h.0, h.1, (h.2, h.3)))
     (finds_some (λ x. then_some (p x) (x + field)) (λ x k. (p x ≡ true) × (k ≡ x + field)) size (λ x. finds_bad (p x) (x + field)) (λ x k h. (omega (arith, h.1), omega (arith, h.1, lt))) at n))
 
-plus_zero : (o : Option ℕ) → field_of 0 o ≡ o
+plus_zero : (o : Option ℕ) → further 0 o ≡ o
 plus_zero None = refl
 plus_zero (Some x) = ap some (omega arith)
 
-pub finds_first_entry : (p : ℕ → Bool) (at size n : ℕ) → 0 < size → Finds (first p (entries at size n)) (λ x. Contains (entries at size n) x × (p x ≡ true))
+pub finds_first_entry : (p : ℕ → Bool) (at size n : ℕ) → 0 < size → Finds (find p (entries at size n)) (λ x. Contains (entries at size n) x × (p x ≡ true))
 finds_first_entry p at size n lt =
-    finds_as (first p (entries at size n)) (λ k. (x : ℕ) × Contains (entries at size n) x × (p x ≡ true) × (k ≡ x + 0)) (λ x. Contains (entries at size n) x × (p x ≡ true))
+    finds_as (find p (entries at size n)) (λ k. (x : ℕ) × Contains (entries at size n) x × (p x ≡ true) × (k ≡ x + 0)) (λ x. Contains (entries at size n) x × (p x ≡ true))
     to
     (λ k h. (k, h.0, h.1, omega arith))
-    (finds_at (field_of 0 (first p (entries at size n))) (first p (entries at size n)) (λ k. (x : ℕ) × Contains (entries at size n) x × (p x ≡ true) × (k ≡ x + 0)) (plus_zero (first p (entries at size n))) (finds_first p 0 at size n lt)) where
+    (finds_at (further 0 (find p (entries at size n))) (find p (entries at size n)) (λ k. (x : ℕ) × Contains (entries at size n) x × (p x ≡ true) × (k ≡ x + 0)) (plus_zero (find p (entries at size n))) (finds_first p 0 at size n lt)) where
       to : (k : ℕ) → (x : ℕ) × Contains (entries at size n) x × (p x ≡ true) × (k ≡ x + 0) → Contains (entries at size n) k × (p k ≡ true)
       to k (x, there, is, same) = let e : x ≡ k = omega (arith, same) in subst (λ y. Contains (entries at size n) y × (p y ≡ true)) e (there, is)
 
@@ -164,11 +162,11 @@ head_found field x [] = refl
 head_found field x (y ∷ []) = refl
 head_found field x (y ∷ z ∷ zs) = refl
 
-pub first_found : (field : ℕ) (p : ℕ → Bool) (xs : List ℕ) → field_of field (first p xs) ≡ first_field field (found (filter p xs))
-unfolding first found
+pub first_found : (field : ℕ) (p : ℕ → Bool) (xs : List ℕ) → further field (find p xs) ≡ first_field field (found (filter p xs))
+unfolding found
 first_found field p [] = refl
 first_found field p (x ∷ xs) = by (p x) (first_found field p xs) where
-  by : (b : Bool) → field_of field (first p xs) ≡ first_field field (found (filter p xs)) → field_of field (cond b (Some x) (first p xs)) ≡ first_field field (found (cond b (x ∷ filter p xs) (filter p xs)))
+  by : (b : Bool) → further field (find p xs) ≡ first_field field (found (filter p xs)) → further field (cond b (Some x) (find p xs)) ≡ first_field field (found (cond b (x ∷ filter p xs) (filter p xs)))
   by true e = head_found field x (filter p xs)
   by false e = e
 
@@ -188,9 +186,9 @@ finds_second p field size at zero lt = λ k h. has_none h.0 h.1.0.0
 finds_second p field size at (suc n) lt = by (p at) refl (finds_second p field size (at + size) n lt) where
   by : (b : Bool) → p at ≡ b → Finds (second_field field (found (filter p (entries (at + size) size n)))) (λ k. (s : ℕ) × IsLater p (entries (at + size) size n) s × (k ≡ s + field)) → Finds (second_field field (found (cond b (at ∷ filter p (entries (at + size) size n)) (filter p (entries (at + size) size n))))) (λ k. (s : ℕ) × IsLater p (at ∷ entries (at + size) size n) s × (k ≡ s + field))
   by true is ih =
-      finds_at (field_of field (first p (entries (at + size) size n))) (second_field field (found (at ∷ filter p (entries (at + size) size n)))) (λ k. (s : ℕ) × IsLater p (at ∷ entries (at + size) size n) s × (k ≡ s + field))
+      finds_at (further field (find p (entries (at + size) size n))) (second_field field (found (at ∷ filter p (entries (at + size) size n)))) (λ k. (s : ℕ) × IsLater p (at ∷ entries (at + size) size n) s × (k ≡ s + field))
       (first_found field p (entries (at + size) size n) ∙ sym (second_after field at (filter p (entries (at + size) size n))))
-      (finds_as (field_of field (first p (entries (at + size) size n))) (λ k. (x : ℕ) × Contains (entries (at + size) size n) x × (p x ≡ true) × (k ≡ x + field)) (λ k. (s : ℕ) × IsLater p (at ∷ entries (at + size) size n) s × (k ≡ s + field))
+      (finds_as (further field (find p (entries (at + size) size n))) (λ k. (x : ℕ) × Contains (entries (at + size) size n) x × (p x ≡ true) × (k ≡ x + field)) (λ k. (s : ℕ) × IsLater p (at ∷ entries (at + size) size n) s × (k ≡ s + field))
       to from (finds_first p field (at + size) size n lt)) where
         to : (k : ℕ) → (x : ℕ) × Contains (entries (at + size) size n) x × (p x ≡ true) × (k ≡ x + field) → (s : ℕ) × IsLater p (at ∷ entries (at + size) size n) s × (k ≡ s + field)
         to k (x, there, passed, same) = (x, ((has_later at x (entries (at + size) size n) there, passed), at, (has_first at (entries (at + size) size n), is), omega (arith, entry_from (at + size) size n x there, lt)), same)

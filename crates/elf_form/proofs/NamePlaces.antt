@@ -10,7 +10,8 @@ use Rattle.std.proofs.lemmas.List.Folds.{list_any-append}
 use Rattle.std.proofs.lemmas.List.Sums.{position_or_len_is}
 use Rattle.std.proofs.lemmas.Slice.Eq.{bytes_eq-Decides}
 use Rattle.elf_form.specs.declared.object.Symbol.{Symbol}
-use Rattle.elf_form.specs.StringTable.{further, place_in, unless_placed, with_name, table_bytes, name_place}
+use Rattle.elf_form.specs.Tables.{further}
+use Rattle.elf_form.specs.StringTable.{place_in, unless_placed, with_name, table_bytes, name_place}
 use Rattle.elf_form.specs.ObjectLayout.{names_of}
 use Rattle.elf_form.specs.Symbols.{name_in}
 use Rattle.elf_form.proofs.StringLaws.{else_last, place_in-append}
@@ -29,7 +30,7 @@ stands (n ∷ names) name at e = split (bytes_eq name n) (λ later is. stands na
   behind None known is h = absurd cc
   behind (Some later) known is h =
       let left : StandsAt names name later = known later is in
-      let place : length n + 1 + later ≡ at = cc in
+      let place : later + (length n + 1) ≡ at = cc in
       let len : length (n ++ 0 ∷ []) + later ≡ at = omega (arith, length-append n (0 ∷ [])) in
       record { rest = left.rest; split = ap (λ (k : ℕ). drop k ((n ++ 0 ∷ []) ++ table_bytes names)) (sym len) ∙ drop-append-add (n ++ 0 ∷ []) (table_bytes names) later ∙ left.split }
 

@@ -1,6 +1,7 @@
 -- A written object passes the tests of its parts and of its sections.
 use Rattle.std.proofs.Common.{◌≡◌, ℕ, ◌+◌, ◌*◌, ◌%◌, ◌<◌, ◌≤◌, Bool, true, false, ltb, List, length, None, refl, ap, ◌∙◌, arith, eq-eqb}
 use Rattle.std.specs.Prelude.{◌&&◌, count_by}
+use Rattle.std.specs.List.{find}
 use Rattle.std.proofs.lemmas.Bool.{le-ltb, lt-ltb}
 use Rattle.guest_ram.specs.Bytes.{word32}
 use Rattle.elf_form.specs.declared.roles.Role.TheVariants as role
@@ -9,11 +10,11 @@ use Rattle.elf_form.specs.declared.symbols.SectionTest.TheVariants.{EntrySizes, 
 use Rattle.elf_form.specs.ObjectParts.{ObjectParts}
 use Rattle.elf_form.specs.Output.{pad}
 use Rattle.guest_ram.specs.Places.{◌or_else◌}
-use Rattle.elf_form.specs.Tables.{first, found}
+use Rattle.elf_form.specs.Tables.{found, first_some, further}
 use Rattle.elf_form.specs.Header.{passes, header_passes, section_passes, header_table, section_table, header_count, section_count, part_begins, header_cut, header_table_cut, section_table_cut, header_part_cut, section_part_cut, cut}
-use Rattle.elf_form.specs.Sections.{is_nameless, is_compressed, field_of, compressed, nameless}
+use Rattle.elf_form.specs.Sections.{is_nameless, is_compressed, compressed, nameless}
 use Rattle.elf_form.specs.Roles.{with_role, is_misaligned, misaligned, joined_fault}
-use Rattle.elf_form.specs.Symbols.{first_some, section_test, sections_fault}
+use Rattle.elf_form.specs.Symbols.{section_test, sections_fault}
 use Rattle.elf_form.specs.ObjectReading.{has_strings, table_of, link_of, table_fault, inner_sizes, object_sizes, object_form, section_names_fault}
 use Rattle.elf_form.specs.ObjectLayout.{layout, is_of, object_names}
 use Rattle.elf_form.proofs.FileWords.{IsRow}
@@ -23,8 +24,8 @@ use Rattle.elf_form.proofs.ObjectSections.{rows, headers-are, sections-are, name
 
 -- ---- no part passes the end
 
-none_of_ten : (p : ℕ → Bool) (s : ℕ) → p s ≡ false → p (s + 40) ≡ false → p (s + 80) ≡ false → p (s + 120) ≡ false → p (s + 160) ≡ false → p (s + 200) ≡ false → p (s + 240) ≡ false → p (s + 280) ≡ false → p (s + 320) ≡ false → p (s + 360) ≡ false → first p (rows s) ≡ None
-unfolding rows first
+none_of_ten : (p : ℕ → Bool) (s : ℕ) → p s ≡ false → p (s + 40) ≡ false → p (s + 80) ≡ false → p (s + 120) ≡ false → p (s + 160) ≡ false → p (s + 200) ≡ false → p (s + 240) ≡ false → p (s + 280) ≡ false → p (s + 320) ≡ false → p (s + 360) ≡ false → find p (rows s) ≡ None
+unfolding rows
 none_of_ten p s a b c d e g h i j k = rw (a, b, c, d, e, g, h, i, j, k) refl
 
 both : (a b : Bool) → b ≡ false → (a && b) ≡ false
@@ -38,15 +39,15 @@ bss_stays : (f : List ℕ) (s n g o z : ℕ) → IsRow f s n 8 g o z → section
 bss_stays f s n g o z row = rw row.kind refl
 
 pub not_cut : (f : List ℕ) (o : ObjectParts) → IsFileOf f o → cut f ≡ None
-unfolding cut first
+unfolding cut
 not_cut f o is =
     let at = is.at in
     let s = (layout o).sections in
     let a : header_cut f ≡ None = is_good (passes f 0 52) 0 (le-ltb (length f) 52 (omega arith)) in
     let b : header_table_cut f ≡ None = is_good (passes f (header_table f) (32 * header_count f)) (header_table f) (rw (is.header.headers, is.header.programs) (le-ltb (length f) 0 (omega arith))) in
     let c : section_table_cut f ≡ None = is_good (passes f (section_table f) (40 * section_count f)) (section_table f) (rw (is.header.sections, is.header.section_count) (le-ltb (length f) (s + 400) (omega arith))) in
-    let d : header_part_cut f ≡ None = ap (part_begins f 4) (ap (first (header_passes f)) (headers-are f o is)) in
-    let e : section_part_cut f ≡ None = ap (part_begins f 16) (ap (first (section_passes f)) (sections-are f o is)
+    let d : header_part_cut f ≡ None = ap (part_begins f 4) (ap (find (header_passes f)) (headers-are f o is)) in
+    let e : section_part_cut f ≡ None = ap (part_begins f 16) (ap (find (section_passes f)) (sections-are f o is)
     ∙ none_of_ten (section_passes f) s (stays f _ _ _ _ _ _ is.null (omega arith)) (stays f _ _ _ _ _ _ is.text (omega arith)) (stays f _ _ _ _ _ _ is.init (omega arith)) (bss_stays f _ _ _ _ _ is.bss) (stays f _ _ _ _ _ _ is.sites (omega arith)) (stays f _ _ _ _ _ _ is.text_relocs (omega arith)) (stays f _ _ _ _ _ _ is.data_relocs (omega arith)) (stays f _ _ _ _ _ _ is.symbols (omega arith)) (stays f _ _ _ _ _ _ is.strings (omega arith)) (stays f _ _ _ _ _ _ is.names (omega arith))) in
     neither_first (header_cut f) (header_table_cut f or_else (section_table_cut f or_else (header_part_cut f or_else section_part_cut f))) a (neither_first (header_table_cut f) (section_table_cut f or_else (header_part_cut f or_else section_part_cut f)) b (neither_first (section_table_cut f) (header_part_cut f or_else section_part_cut f) c (neither_first (header_part_cut f) (section_part_cut f) d e)))
 
@@ -93,8 +94,8 @@ module _ (f : List ℕ) (o : ObjectParts) (is : IsFileOf f o) (has : HasRoles f 
 
   -- ---- sections
 
-  aligned : first (is_misaligned object_names f) (rows (layout o).sections) ≡ None
-  unfolding first rows
+  aligned : find (is_misaligned object_names f) (rows (layout o).sections) ≡ None
+  unfolding rows
   aligned = rw (has.null, has.text, has.init, has.bss, has.sites, has.text_relocs, has.data_relocs, has.symbols, has.strings, has.names, is.links.data_alignment, is.links.bss_alignment) refl
 
   pub form-none : object_form f ≡ None
@@ -104,7 +105,7 @@ module _ (f : List ℕ) (o : ObjectParts) (is : IsFileOf f o) (has : HasRoles f 
   pub not_compressed : compressed f ≡ None
   unfolding compressed
   not_compressed =
-      ap (field_of 8) (ap (first (is_compressed f)) (sections-are f o is) ∙ none_of_ten (is_compressed f) (layout o).sections (rw is.null.kind refl) (rw (is.text.kind, is.text.flags) refl) (rw (is.init.kind, is.init.flags) refl) (rw (is.bss.kind, is.bss.flags) refl) (rw (is.sites.kind, is.sites.flags) refl) (rw (is.text_relocs.kind, is.text_relocs.flags) refl) (rw (is.data_relocs.kind, is.data_relocs.flags) refl) (rw (is.symbols.kind, is.symbols.flags) refl) (rw (is.strings.kind, is.strings.flags) refl) (rw (is.names.kind, is.names.flags) refl))
+      ap (further 8) (ap (find (is_compressed f)) (sections-are f o is) ∙ none_of_ten (is_compressed f) (layout o).sections (rw is.null.kind refl) (rw (is.text.kind, is.text.flags) refl) (rw (is.init.kind, is.init.flags) refl) (rw (is.bss.kind, is.bss.flags) refl) (rw (is.sites.kind, is.sites.flags) refl) (rw (is.text_relocs.kind, is.text_relocs.flags) refl) (rw (is.data_relocs.kind, is.data_relocs.flags) refl) (rw (is.symbols.kind, is.symbols.flags) refl) (rw (is.strings.kind, is.strings.flags) refl) (rw (is.names.kind, is.names.flags) refl))
 
   -- ---- names
 

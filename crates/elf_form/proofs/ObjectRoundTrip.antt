@@ -12,10 +12,11 @@ use Rattle.elf_form.specs.declared.symbols.SymbolTest.TheVariants.{Names, Global
 use Rattle.elf_form.specs.declared.symbols.RelocTest.{RelocTest}
 use Rattle.elf_form.specs.declared.symbols.RelocTest.TheVariants.{Named, Form}
 use Rattle.elf_form.specs.ObjectParts.{ObjectParts}
+use Rattle.elf_form.specs.Faults.{tested}
 use Rattle.elf_form.specs.Tables.{entries, found}
 use Rattle.elf_form.specs.Roles.{role_number}
 use Rattle.elf_form.specs.Symbols.{is_file, symbols_of, has_binding, has_place, is_listed, symbol_fault, global_fault, target, target_role, entry, named_symbol, has_symbol, symbol_of, size_at, named_fault, form_fault, is_unnamed, symbols_fault, reloc_test, relocs_fault, relocs_of, start_at, symbol_at, symbols_in, numbers, reloc_at}
-use Rattle.elf_form.specs.ObjectReading.{table_of, strings_of, string_places, kept_relocs, symbol_form, reloc_form, object_at, late_tests, middle_tests, early_tests, object_in}
+use Rattle.elf_form.specs.ObjectReading.{table_of, strings_of, string_places, kept_relocs, symbol_form, reloc_form, object_at, wrong_object, object_in}
 use Rattle.elf_form.specs.ObjectLayout.{layout, names_of, strings_of as names_table, is_of, place_number, object_names, object_bytes, IsWholeObject, HasValues}
 use Rattle.elf_form.proofs.RoundTrip.{neither_lower}
 use Rattle.elf_form.proofs.EntryLists.{EachAt, each-weaker, each-at, first_some-each, listed-each, map-each, lowest-each, numbers-each}
@@ -250,7 +251,7 @@ module _ (f : List ℕ) (o : ObjectParts) (is : IsFileOf f o) (has : HasRoles f 
       rw (names-are f o is) (rw (with-role f o is has role.Text, with-role f o is has role.Sites, sections-are f o is) (rw (text_bytes f o is has, sites_bytes f o is has, joined-init f o is has, joined-bss f o is has, bss, symbols-read, texts-read, datas-read, ← ordered) refl))
 
   read-as : o.relocs ≡ filter (is_of true) o.relocs ++ filter (is_of false) o.relocs → object_in f ≡ Ok o
-  unfolding object_in early_tests middle_tests late_tests
+  unfolding object_in tested wrong_object
   read-as ordered =
       rw (not_cut f o is, is.header.magic, is.header.class, is.header.encoding, is.header.version, is.header.second_version, is.header.file_type, is.header.machine, sizes-none f o is has, form-none f o is has, not_compressed f o is has, names-none, symbols-pass, relocs-pass, parts-are ordered) refl
 

@@ -1,12 +1,11 @@
 -- The first part that passes the end.
-use Rattle.std.specs.List.{Contains}
+use Rattle.std.specs.List.{Contains, find}
 use Rattle.std.proofs.Common.{◌≡◌, ℕ, zero, suc, ◌+◌, ◌*◌, ◌<◌, ◌≤◌, Bool, true, false, ◌&&◌, cond, List, [], ◌∷◌, ◌++◌, length, map, filter, nat_lt, Option, Some, None, refl, sym, ap, ◌∙◌, inl, inr, subst, slice_get, arith}
 use Rattle.std.specs.Prelude.{◌↔◌}
 use Rattle.std.specs.Bool.{then_some}
 use Rattle.std.proofs.lemmas.Bool.{cases_lt, le-ltb, lt-ltb}
 use Rattle.guest_ram.specs.Bytes.{word32}
 use Rattle.guest_ram.specs.Places.{◌or_else◌}
-use Rattle.elf_form.specs.Tables.{first}
 use Rattle.elf_form.specs.Header.{header_table, section_table, header_count, section_count, headers, sections, passes, has_contents, header_passes, section_passes, part_begins, cut}
 use Rattle.elf_form.specs.Order.{named_by_header, named_by_section, named_parts, IsPast, IsFirstPast}
 use Rattle.elf_form.proofs.Lowest.{some, has_first, has_later, first_or_later, has_none}
@@ -36,22 +35,22 @@ past_append size (p ∷ ps) qs = by (nat_lt size (p.0 + p.1)) (past_append size 
   by false e = e
 
 module _ (bytes : List ℕ) where
-  headers_past : (hs : List ℕ) → part_begins bytes 4 (first (header_passes bytes) hs) ≡ past_in (length bytes) (map (named_by_header bytes) hs)
-  unfolding first past_in
+  headers_past : (hs : List ℕ) → part_begins bytes 4 (find (header_passes bytes) hs) ≡ past_in (length bytes) (map (named_by_header bytes) hs)
+  unfolding past_in
   headers_past [] = refl
   headers_past (h ∷ hs) = by (header_passes bytes h) (headers_past hs) where
-    by : (b : Bool) → part_begins bytes 4 (first (header_passes bytes) hs) ≡ past_in (length bytes) (map (named_by_header bytes) hs) → part_begins bytes 4 (cond b (Some h) (first (header_passes bytes) hs)) ≡ cond b (Some (word32 bytes (h + 4))) (past_in (length bytes) (map (named_by_header bytes) hs))
+    by : (b : Bool) → part_begins bytes 4 (find (header_passes bytes) hs) ≡ past_in (length bytes) (map (named_by_header bytes) hs) → part_begins bytes 4 (cond b (Some h) (find (header_passes bytes) hs)) ≡ cond b (Some (word32 bytes (h + 4))) (past_in (length bytes) (map (named_by_header bytes) hs))
     by true e = refl
     by false e = e
 
-  sections_past : (ss : List ℕ) → part_begins bytes 16 (first (section_passes bytes) ss) ≡ past_in (length bytes) (map (named_by_section bytes) (filter (has_contents bytes) ss))
-  unfolding first past_in
+  sections_past : (ss : List ℕ) → part_begins bytes 16 (find (section_passes bytes) ss) ≡ past_in (length bytes) (map (named_by_section bytes) (filter (has_contents bytes) ss))
+  unfolding past_in
   sections_past [] = refl
   sections_past (s ∷ ss) = by (has_contents bytes s) (passes bytes (word32 bytes (s + 16)) (word32 bytes (s + 20))) refl (sections_past ss) where
-    by : (b c : Bool) → passes bytes (word32 bytes (s + 16)) (word32 bytes (s + 20)) ≡ c → part_begins bytes 16 (first (section_passes bytes) ss) ≡ past_in (length bytes) (map (named_by_section bytes) (filter (has_contents bytes) ss)) → part_begins bytes 16 (cond (b && passes bytes (word32 bytes (s + 16)) (word32 bytes (s + 20))) (Some s) (first (section_passes bytes) ss)) ≡ past_in (length bytes) (map (named_by_section bytes) (cond b (s ∷ filter (has_contents bytes) ss) (filter (has_contents bytes) ss)))
+    by : (b c : Bool) → passes bytes (word32 bytes (s + 16)) (word32 bytes (s + 20)) ≡ c → part_begins bytes 16 (find (section_passes bytes) ss) ≡ past_in (length bytes) (map (named_by_section bytes) (filter (has_contents bytes) ss)) → part_begins bytes 16 (cond (b && passes bytes (word32 bytes (s + 16)) (word32 bytes (s + 20))) (Some s) (find (section_passes bytes) ss)) ≡ past_in (length bytes) (map (named_by_section bytes) (cond b (s ∷ filter (has_contents bytes) ss) (filter (has_contents bytes) ss)))
     by false c is e = e
     by true c is e = both c is where
-      both : (c : Bool) → passes bytes (word32 bytes (s + 16)) (word32 bytes (s + 20)) ≡ c → part_begins bytes 16 (cond (passes bytes (word32 bytes (s + 16)) (word32 bytes (s + 20))) (Some s) (first (section_passes bytes) ss)) ≡ cond (passes bytes (word32 bytes (s + 16)) (word32 bytes (s + 20))) (Some (word32 bytes (s + 16))) (past_in (length bytes) (map (named_by_section bytes) (filter (has_contents bytes) ss)))
+      both : (c : Bool) → passes bytes (word32 bytes (s + 16)) (word32 bytes (s + 20)) ≡ c → part_begins bytes 16 (cond (passes bytes (word32 bytes (s + 16)) (word32 bytes (s + 20))) (Some s) (find (section_passes bytes) ss)) ≡ cond (passes bytes (word32 bytes (s + 16)) (word32 bytes (s + 20))) (Some (word32 bytes (s + 16))) (past_in (length bytes) (map (named_by_section bytes) (filter (has_contents bytes) ss)))
       both true is = rw is refl
       both false is = rw is e
 
@@ -67,7 +66,7 @@ module _ (bytes : List ℕ) where
       ∙ ap (λ (o : Option ℕ). then_some (passes bytes (section_table bytes) (40 * section_count bytes)) (section_table bytes) or_else o) (
       past_append (length bytes) (map (named_by_header bytes) (headers bytes)) (map (named_by_section bytes) (filter (has_contents bytes) (sections bytes)))
       ∙ ap (λ (o : Option ℕ). o or_else past_in (length bytes) (map (named_by_section bytes) (filter (has_contents bytes) (sections bytes)))) (sym (headers_past (headers bytes)))
-      ∙ ap (λ (o : Option ℕ). part_begins bytes 4 (first (header_passes bytes) (headers bytes)) or_else o) (sym (sections_past (sections bytes)))))))
+      ∙ ap (λ (o : Option ℕ). part_begins bytes 4 (find (header_passes bytes) (headers bytes)) or_else o) (sym (sections_past (sections bytes)))))))
 
 module _ (size : ℕ) where
   past_so : (parts : List (ℕ × ℕ)) (at : ℕ) → past_in size parts ≡ Some at → IsFirstPast size parts at

@@ -10,16 +10,15 @@ use Rattle.elf_form.specs.declared.cause.ElfFault.{ElfFault}
 use Rattle.elf_form.specs.declared.cause.ElfFault.TheVariants as faults
 use Rattle.elf_form.specs.ImageParts.{ImageParts}
 use Rattle.elf_form.specs.ObjectParts.{ObjectParts}
-use Rattle.elf_form.specs.Faults.{Fault, IsFirstOf, Gives}
+use Rattle.elf_form.specs.Faults.{Fault, IsFirstOf, causes, Gives}
 use Rattle.elf_form.specs.Tables.{found}
-use Rattle.elf_form.specs.Header.{cut, magic, class, encoding, version, file_type, machine}
+use Rattle.elf_form.specs.Header.{cut, magic, class, encoding, version, file_type, machine, wrong_file}
 use Rattle.elf_form.specs.Segments.{loads, is_executable, order}
 use Rattle.elf_form.specs.Sections.{one_of, sites_sections}
-use Rattle.elf_form.specs.Reading.{section_form, image_in}
-use Rattle.elf_form.specs.Accepted.{wrong, causes}
-use Rattle.elf_form.specs.ObjectReading.{object_in, wrong_object, all_causes}
+use Rattle.elf_form.specs.Reading.{section_form, wrong_in_image, wrong_image, image_in}
+use Rattle.elf_form.specs.ObjectReading.{object_in, wrong_in_object, wrong_object}
 use Rattle.elf_form.specs.Order.{named_parts, IsPast, IsFirstPast, IsLowest, HasPlace, IsRefused}
-use Rattle.elf_form.specs.Reasons.{loaded, AreTwo, IsBadPart, IsBadVersion, IsBadObject, IsBadImage, IsRefusedObject, IsRefusedImage, no_object, no_image}
+use Rattle.elf_form.specs.Reasons.{loaded, AreTwo, IsBadPart, IsBadVersion, IsBadFile, IsBadInObject, IsBadInImage, IsBadObject, IsBadImage, IsRefusedObject, IsRefusedImage, no_object, no_image}
 use Rattle.elf_form.proofs.OrderLaws.{cut_exact, cut_none}
 use Rattle.elf_form.proofs.Lowest.{Finds, finds_so, so_finds, finds_none, none_finds, finds_as, finds_lower, finds_field}
 use Rattle.elf_form.proofs.BadSections.{object_form_finds, compressed_finds, nameless_finds, SitesPart, sites_finds}
@@ -105,37 +104,45 @@ by_finding bytes o P h = record {
 by_cut : (bytes : List ℕ) → Meets bytes (cut bytes) (IsFirstPast (length bytes) (named_parts bytes)) (IsPast (length bytes) (named_parts bytes))
 by_cut bytes = record { exact = cut_exact bytes; none = cut_none bytes }
 
+file_meets : (wanted : ℕ) (other : ElfCause → Option ℕ) (bad : ElfCause → ℕ → Type 0) (bytes : List ℕ) → ((cause : ElfCause) → Finds (other cause) (bad cause)) → (cause : ElfCause)
+    → Meets bytes (wrong_file wanted other bytes cause) (HasPlace (IsBadFile wanted bad bytes) bytes cause) (IsBadFile wanted bad bytes cause)
+file_meets wanted other bad bytes finds Truncated = by_cut bytes
+file_meets wanted other bad bytes finds Magic = by_finding bytes (magic bytes) (IsBadFile wanted bad bytes Magic) (finds_field (word32 bytes 0) 1179403647 0)
+file_meets wanted other bad bytes finds Class = by_finding bytes (class bytes) (IsBadFile wanted bad bytes Class) (finds_field (byte bytes 4) 1 4)
+file_meets wanted other bad bytes finds Encoding = by_finding bytes (encoding bytes) (IsBadFile wanted bad bytes Encoding) (finds_field (byte bytes 5) 1 5)
+file_meets wanted other bad bytes finds Version = by_finding bytes (version bytes) (IsBadFile wanted bad bytes Version) (version_finds bytes)
+file_meets wanted other bad bytes finds FileType = by_finding bytes (file_type wanted bytes) (IsBadFile wanted bad bytes FileType) (finds_field (word16 bytes 16) wanted 16)
+file_meets wanted other bad bytes finds Machine = by_finding bytes (machine bytes) (IsBadFile wanted bad bytes Machine) (finds_field (word16 bytes 18) 3 18)
+file_meets wanted other bad bytes finds Sizes = by_finding bytes (other Sizes) (bad Sizes) (finds Sizes)
+file_meets wanted other bad bytes finds SectionForm = by_finding bytes (other SectionForm) (bad SectionForm) (finds SectionForm)
+file_meets wanted other bad bytes finds Compressed = by_finding bytes (other Compressed) (bad Compressed) (finds Compressed)
+file_meets wanted other bad bytes finds StringPlace = by_finding bytes (other StringPlace) (bad StringPlace) (finds StringPlace)
+file_meets wanted other bad bytes finds SymbolForm = by_finding bytes (other SymbolForm) (bad SymbolForm) (finds SymbolForm)
+file_meets wanted other bad bytes finds RelocForm = by_finding bytes (other RelocForm) (bad RelocForm) (finds RelocForm)
+
+object_finds : (bytes : List ℕ) (cause : ElfCause) → Finds (wrong_in_object bytes cause) (IsBadInObject bytes cause)
+object_finds bytes Sizes = object_sizes_finds bytes
+object_finds bytes SectionForm = object_form_finds bytes
+object_finds bytes Compressed = compressed_finds bytes
+object_finds bytes StringPlace = string_places_finds bytes
+object_finds bytes SymbolForm = symbol_form_finds bytes
+object_finds bytes RelocForm = reloc_form_finds bytes
+object_finds bytes _ = λ k never. never
+
+image_finds : (bytes : List ℕ) (cause : ElfCause) → Finds (wrong_in_image bytes cause) (IsBadInImage bytes cause)
+image_finds bytes Sizes = image_sizes_finds bytes
+image_finds bytes SectionForm = section_form_finds bytes
+image_finds bytes Compressed = compressed_finds bytes
+image_finds bytes StringPlace = nameless_finds bytes
+image_finds bytes _ = λ k never. never
+
 object_meets : (bytes : List ℕ) (cause : ElfCause) → Meets bytes (wrong_object bytes cause) (HasPlace (IsBadObject bytes) bytes cause) (IsBadObject bytes cause)
 unfolding wrong_object
-object_meets bytes Truncated = by_cut bytes
-object_meets bytes Magic = by_finding bytes (magic bytes) (IsBadObject bytes Magic) (finds_field (word32 bytes 0) 1179403647 0)
-object_meets bytes Class = by_finding bytes (class bytes) (IsBadObject bytes Class) (finds_field (byte bytes 4) 1 4)
-object_meets bytes Encoding = by_finding bytes (encoding bytes) (IsBadObject bytes Encoding) (finds_field (byte bytes 5) 1 5)
-object_meets bytes Version = by_finding bytes (version bytes) (IsBadObject bytes Version) (version_finds bytes)
-object_meets bytes FileType = by_finding bytes (file_type 1 bytes) (IsBadObject bytes FileType) (finds_field (word16 bytes 16) 1 16)
-object_meets bytes Machine = by_finding bytes (machine bytes) (IsBadObject bytes Machine) (finds_field (word16 bytes 18) 3 18)
-object_meets bytes Sizes = by_finding bytes (wrong_object bytes Sizes) (IsBadObject bytes Sizes) (object_sizes_finds bytes)
-object_meets bytes SectionForm = by_finding bytes (wrong_object bytes SectionForm) (IsBadObject bytes SectionForm) (object_form_finds bytes)
-object_meets bytes Compressed = by_finding bytes (wrong_object bytes Compressed) (IsBadObject bytes Compressed) (compressed_finds bytes)
-object_meets bytes StringPlace = by_finding bytes (wrong_object bytes StringPlace) (IsBadObject bytes StringPlace) (string_places_finds bytes)
-object_meets bytes SymbolForm = by_finding bytes (wrong_object bytes SymbolForm) (IsBadObject bytes SymbolForm) (symbol_form_finds bytes)
-object_meets bytes RelocForm = by_finding bytes (wrong_object bytes RelocForm) (IsBadObject bytes RelocForm) (reloc_form_finds bytes)
+object_meets bytes cause = file_meets 1 (wrong_in_object bytes) (IsBadInObject bytes) bytes (object_finds bytes) cause
 
-image_meets : (bytes : List ℕ) (cause : ElfCause) → Meets bytes (wrong cause bytes) (HasPlace (IsBadImage bytes) bytes cause) (IsBadImage bytes cause)
-unfolding wrong
-image_meets bytes Truncated = by_cut bytes
-image_meets bytes Magic = by_finding bytes (magic bytes) (IsBadImage bytes Magic) (finds_field (word32 bytes 0) 1179403647 0)
-image_meets bytes Class = by_finding bytes (class bytes) (IsBadImage bytes Class) (finds_field (byte bytes 4) 1 4)
-image_meets bytes Encoding = by_finding bytes (encoding bytes) (IsBadImage bytes Encoding) (finds_field (byte bytes 5) 1 5)
-image_meets bytes Version = by_finding bytes (version bytes) (IsBadImage bytes Version) (version_finds bytes)
-image_meets bytes FileType = by_finding bytes (file_type 2 bytes) (IsBadImage bytes FileType) (finds_field (word16 bytes 16) 2 16)
-image_meets bytes Machine = by_finding bytes (machine bytes) (IsBadImage bytes Machine) (finds_field (word16 bytes 18) 3 18)
-image_meets bytes Sizes = by_finding bytes (wrong Sizes bytes) (IsBadImage bytes Sizes) (image_sizes_finds bytes)
-image_meets bytes SectionForm = by_finding bytes (wrong SectionForm bytes) (IsBadImage bytes SectionForm) (section_form_finds bytes)
-image_meets bytes Compressed = by_finding bytes (wrong Compressed bytes) (IsBadImage bytes Compressed) (compressed_finds bytes)
-image_meets bytes StringPlace = by_finding bytes (wrong StringPlace bytes) (IsBadImage bytes StringPlace) (nameless_finds bytes)
-image_meets bytes SymbolForm = by_finding bytes None (IsBadImage bytes SymbolForm) (λ k never. never)
-image_meets bytes RelocForm = by_finding bytes None (IsBadImage bytes RelocForm) (λ k never. never)
+image_meets : (bytes : List ℕ) (cause : ElfCause) → Meets bytes (wrong_image bytes cause) (HasPlace (IsBadImage bytes) bytes cause) (IsBadImage bytes cause)
+unfolding wrong_image
+image_meets bytes cause = file_meets 2 (wrong_in_image bytes) (IsBadInImage bytes) bytes (image_finds bytes) cause
 
 pub object_exact : (bytes : List ℕ) (cause : ElfCause) (at : ℕ) → (wrong_object bytes cause ≡ Some at) ↔ HasPlace (IsBadObject bytes) bytes cause at
 object_exact bytes cause at = (object_meets bytes cause).exact at
@@ -143,10 +150,10 @@ object_exact bytes cause at = (object_meets bytes cause).exact at
 pub object_none : (bytes : List ℕ) (cause : ElfCause) → (wrong_object bytes cause ≡ None) ↔ ((at : ℕ) → IsBadObject bytes cause at → ⊥)
 object_none bytes cause = (object_meets bytes cause).none
 
-pub image_exact : (bytes : List ℕ) (cause : ElfCause) (at : ℕ) → (wrong cause bytes ≡ Some at) ↔ HasPlace (IsBadImage bytes) bytes cause at
+pub image_exact : (bytes : List ℕ) (cause : ElfCause) (at : ℕ) → (wrong_image bytes cause ≡ Some at) ↔ HasPlace (IsBadImage bytes) bytes cause at
 image_exact bytes cause at = (image_meets bytes cause).exact at
 
-pub image_none : (bytes : List ℕ) (cause : ElfCause) → (wrong cause bytes ≡ None) ↔ ((at : ℕ) → IsBadImage bytes cause at → ⊥)
+pub image_none : (bytes : List ℕ) (cause : ElfCause) → (wrong_image bytes cause ≡ None) ↔ ((at : ℕ) → IsBadImage bytes cause at → ⊥)
 image_none bytes cause = (image_meets bytes cause).none
 
 -- ---- the order
@@ -185,18 +192,18 @@ module _ (bytes : List ℕ) (place_of : ElfCause → Option ℕ) (bad_by : ElfCa
 -- ---- the readers
 
 pub object_refused : (bytes : List ℕ) (r : Result ObjectParts ElfFault) → Gives (λ o. o) r (object_in bytes) → (at : ℕ) (cause : ElfCause) → r ≡ Err (faults.At at cause) → IsRefusedObject bytes at cause
-object_refused bytes r given at cause e = (refused_exact bytes (wrong_object bytes) (IsBadObject bytes) (object_meets bytes) all_causes at cause).0 (object_first bytes r given at cause e)
+object_refused bytes r given at cause e = (refused_exact bytes (wrong_object bytes) (IsBadObject bytes) (object_meets bytes) causes at cause).0 (object_first bytes r given at cause e)
 
 pub object_refused_only : (bytes : List ℕ) (r : Result ObjectParts ElfFault) → Gives (λ o. o) r (object_in bytes) → (at : ℕ) (cause : ElfCause) → IsRefusedObject bytes at cause → Gives (λ o. o) r (no_object at cause)
 object_refused_only bytes r given at cause h =
-    subst (λ (read : Result ObjectParts Fault). Gives (λ o. o) r read) (object_by_first bytes (record { at = at; cause = cause }) ((refused_exact bytes (wrong_object bytes) (IsBadObject bytes) (object_meets bytes) all_causes at cause).1 h)) given
+    subst (λ (read : Result ObjectParts Fault). Gives (λ o. o) r read) (object_by_first bytes (record { at = at; cause = cause }) ((refused_exact bytes (wrong_object bytes) (IsBadObject bytes) (object_meets bytes) causes at cause).1 h)) given
 
 pub image_refused : (bytes : List ℕ) (r : Result ImageParts ElfFault) → Gives (λ image. image) r (image_in bytes) → (at : ℕ) (cause : ElfCause) → r ≡ Err (faults.At at cause) → IsRefusedImage bytes at cause
-image_refused bytes r given at cause e = (refused_exact bytes (λ c. wrong c bytes) (IsBadImage bytes) (image_meets bytes) causes at cause).0 (if_first bytes r given at cause e)
+image_refused bytes r given at cause e = (refused_exact bytes (wrong_image bytes) (IsBadImage bytes) (image_meets bytes) causes at cause).0 (if_first bytes r given at cause e)
 
 pub image_refused_only : (bytes : List ℕ) (r : Result ImageParts ElfFault) → Gives (λ image. image) r (image_in bytes) → (at : ℕ) (cause : ElfCause) → IsRefusedImage bytes at cause → Gives (λ image. image) r (no_image at cause)
 image_refused_only bytes r given at cause h =
-    subst (λ (read : Result ImageParts Fault). Gives (λ image. image) r read) (read_by_first bytes (record { at = at; cause = cause }) ((refused_exact bytes (λ c. wrong c bytes) (IsBadImage bytes) (image_meets bytes) causes at cause).1 h)) given
+    subst (λ (read : Result ImageParts Fault). Gives (λ image. image) r read) (read_by_first bytes (record { at = at; cause = cause }) ((refused_exact bytes (wrong_image bytes) (IsBadImage bytes) (image_meets bytes) causes at cause).1 h)) given
 
 -- ---- what is read of a file
 
@@ -209,11 +216,11 @@ failed_image at cause = Err (faults.At at cause)
 pub objects_in_order : (bytes : List ℕ) (at : ℕ) (cause : ElfCause) → (object_in bytes ≡ no_object at cause) ↔ IsRefusedObject bytes at cause
 objects_in_order bytes at cause = (
   (λ e. object_refused bytes (failed_object at cause) e at cause refl),
-  (λ h. object_by_first bytes (record { at = at; cause = cause }) ((refused_exact bytes (wrong_object bytes) (IsBadObject bytes) (object_meets bytes) all_causes at cause).1 h)),
+  (λ h. object_by_first bytes (record { at = at; cause = cause }) ((refused_exact bytes (wrong_object bytes) (IsBadObject bytes) (object_meets bytes) causes at cause).1 h)),
 )
 
 pub images_in_order : (bytes : List ℕ) (at : ℕ) (cause : ElfCause) → (image_in bytes ≡ no_image at cause) ↔ IsRefusedImage bytes at cause
 images_in_order bytes at cause = (
   (λ e. image_refused bytes (failed_image at cause) e at cause refl),
-  (λ h. read_by_first bytes (record { at = at; cause = cause }) ((refused_exact bytes (λ c. wrong c bytes) (IsBadImage bytes) (image_meets bytes) causes at cause).1 h)),
+  (λ h. read_by_first bytes (record { at = at; cause = cause }) ((refused_exact bytes (wrong_image bytes) (IsBadImage bytes) (image_meets bytes) causes at cause).1 h)),
 )

@@ -2,17 +2,18 @@
 use Rattle.std.proofs.Common.{◌≡◌, ℕ, ◌+◌, ◌*◌, ◌-◌, ◌≤◌, Bool, true, false, eqb, ltb, List, [], ◌∷◌, length, Option, None, Ok, refl, sym, ap, ◌∙◌, arith, eq-eqb}
 use Rattle.std.specs.Prelude.{filter}
 use Rattle.std.specs.Bool.{then_some}
+use Rattle.std.specs.List.{find}
 use Rattle.std.proofs.lemmas.Bool.{cond-true, cond-false, le-ltb}
 use Rattle.guest_ram.specs.Bytes.{part, word32}
 use Rattle.elf_form.specs.declared.segments.Found.TheVariants.{One, Two}
 use Rattle.elf_form.specs.ImageParts.{ImageParts}
-use Rattle.elf_form.specs.Faults.{◌or_lower◌}
+use Rattle.elf_form.specs.Faults.{tested, causes, ◌or_lower◌}
 use Rattle.guest_ram.specs.Places.{◌or_else◌}
-use Rattle.elf_form.specs.Tables.{entries, first, found}
+use Rattle.elf_form.specs.Tables.{entries, found, further}
 use Rattle.elf_form.specs.Header.{headers, sections, passes, header_passes, section_passes, header_table, section_table, header_count, section_count, part_begins, header_cut, header_table_cut, section_table_cut, header_part_cut, section_part_cut, cut}
 use Rattle.elf_form.specs.Segments.{is_load, loads, memory_sizes, sizes, order}
-use Rattle.elf_form.specs.Sections.{contents, names, is_sites, is_nameless, is_compressed, sites_sections, field_of, compressed, nameless}
-use Rattle.elf_form.specs.Reading.{parts_at, section_form, section_tests, header_tests, tests, image_in}
+use Rattle.elf_form.specs.Sections.{contents, names, is_sites, is_nameless, is_compressed, sites_sections, compressed, nameless}
+use Rattle.elf_form.specs.Reading.{parts_at, section_form, wrong_image, image_at, image_in}
 use Rattle.elf_form.specs.ImageLayout.{init_from, sites_from, names_from, sections_from, section_names, image_bytes, IsWritableImage, HasLongs}
 use Rattle.elf_form.proofs.FileWords.{IsRow, IsProgram, HasHeader, IsLaidOut, laid_out, length-file, header_is, text_program, init_program, null_row, text_row, data_row, bss_row, sites_row, names_row, text_part, init_part, sites_part, names_part}
 
@@ -70,12 +71,11 @@ sections-are : (f : List ℕ) (p : ImageParts) → IsFileOf f p → sections f �
 unfolding entries rows
 sections-are f p is = rw (is.header.sections, is.header.section_count) refl
 
-pub not_first : (p : ℕ → Bool) (x : ℕ) (xs : List ℕ) → p x ≡ false → first p xs ≡ None → first p (x ∷ xs) ≡ None
-unfolding first
+pub not_first : (p : ℕ → Bool) (x : ℕ) (xs : List ℕ) → p x ≡ false → find p xs ≡ None → find p (x ∷ xs) ≡ None
 not_first p x xs not_here none = cond-false _ _ _ not_here ∙ none
 
-none_of_rows : (p : ℕ → Bool) (s : ℕ) → p s ≡ false → p (s + 40) ≡ false → p (s + 40 + 40) ≡ false → p (s + 40 + 40 + 40) ≡ false → p (s + 40 + 40 + 40 + 40) ≡ false → p (s + 40 + 40 + 40 + 40 + 40) ≡ false → first p (rows s) ≡ None
-unfolding rows first
+none_of_rows : (p : ℕ → Bool) (s : ℕ) → p s ≡ false → p (s + 40) ≡ false → p (s + 40 + 40) ≡ false → p (s + 40 + 40 + 40) ≡ false → p (s + 40 + 40 + 40 + 40) ≡ false → p (s + 40 + 40 + 40 + 40 + 40) ≡ false → find p (rows s) ≡ None
+unfolding rows
 none_of_rows p s a b c d e g = rw (a, b, c, d, e, g) refl
 
 kept : (p : ℕ → Bool) (x : ℕ) (xs ys : List ℕ) → p x ≡ true → filter p xs ≡ ys → filter p (x ∷ xs) ≡ x ∷ ys
@@ -112,15 +112,15 @@ program_stays : (f : List ℕ) (h o a z m g : ℕ) → IsProgram f h o a z m g �
 program_stays f h o a z m g row le = rw (row.offset, row.size) (le-ltb (length f) (o + z) le)
 
 not_cut : (f : List ℕ) (p : ImageParts) → IsFileOf f p → cut f ≡ None
-unfolding cut first
+unfolding cut
 not_cut f p is =
     let at = is.at in
     let s = sections_from p in
     let a : header_cut f ≡ None = is_good (passes f 0 52) 0 (le-ltb (length f) 52 (omega arith)) in
     let b : header_table_cut f ≡ None = is_good (passes f (header_table f) (32 * header_count f)) (header_table f) (rw (is.header.headers, is.header.programs) (le-ltb (length f) 116 (omega arith))) in
     let c : section_table_cut f ≡ None = is_good (passes f (section_table f) (40 * section_count f)) (section_table f) (rw (is.header.sections, is.header.section_count) (le-ltb (length f) (s + 240) (omega arith))) in
-    let d : header_part_cut f ≡ None = ap (part_begins f 4) (ap (first (header_passes f)) (headers-are f p is) ∙ not_first (header_passes f) 52 (84 ∷ []) (program_stays f 52 _ _ _ _ _ is.text (omega arith)) (not_first (header_passes f) 84 [] (program_stays f 84 _ _ _ _ _ is.init (omega arith)) refl)) in
-    let e : section_part_cut f ≡ None = ap (part_begins f 16) (ap (first (section_passes f)) (sections-are f p is)
+    let d : header_part_cut f ≡ None = ap (part_begins f 4) (ap (find (header_passes f)) (headers-are f p is) ∙ not_first (header_passes f) 52 (84 ∷ []) (program_stays f 52 _ _ _ _ _ is.text (omega arith)) (not_first (header_passes f) 84 [] (program_stays f 84 _ _ _ _ _ is.init (omega arith)) refl)) in
+    let e : section_part_cut f ≡ None = ap (part_begins f 16) (ap (find (section_passes f)) (sections-are f p is)
     ∙ none_of_rows (section_passes f) s (null_stays f _ _ _ _ _ is.row0) (bytes_stay f _ _ _ _ _ is.row1 (omega arith)) (bytes_stay f _ _ _ _ _ is.row2 (omega arith)) (bss_stays f _ _ _ _ _ is.row3) (bytes_stay f _ _ _ _ _ is.row4 (omega arith)) (names_stay f _ _ _ _ _ is.row5 (omega arith))) in
     neither_first (header_cut f) (header_table_cut f or_else (section_table_cut f or_else (header_part_cut f or_else section_part_cut f))) a (neither_first (header_table_cut f) (section_table_cut f or_else (header_part_cut f or_else section_part_cut f)) b (neither_first (section_table_cut f) (header_part_cut f or_else section_part_cut f) c (neither_first (header_part_cut f) (section_part_cut f) d e)))
 
@@ -159,7 +159,7 @@ sites-are f p is =
 not_compressed : (f : List ℕ) (p : ImageParts) → IsFileOf f p → compressed f ≡ None
 unfolding compressed
 not_compressed f p is =
-    ap (field_of 8) (ap (first (is_compressed f)) (sections-are f p is) ∙ none_of_rows (is_compressed f) (sections_from p) (rw is.row0.kind refl) (rw (is.row1.kind, is.row1.flags) refl) (rw (is.row2.kind, is.row2.flags) refl) (rw (is.row3.kind, is.row3.flags) refl) (rw (is.row4.kind, is.row4.flags) refl) (rw (is.row5.kind, is.row5.flags) refl))
+    ap (further 8) (ap (find (is_compressed f)) (sections-are f p is) ∙ none_of_rows (is_compressed f) (sections_from p) (rw is.row0.kind refl) (rw (is.row1.kind, is.row1.flags) refl) (rw (is.row2.kind, is.row2.flags) refl) (rw (is.row3.kind, is.row3.flags) refl) (rw (is.row4.kind, is.row4.flags) refl) (rw (is.row5.kind, is.row5.flags) refl))
 
 all_named : (f : List ℕ) (p : ImageParts) → IsFileOf f p → nameless f ≡ None
 unfolding nameless
@@ -172,8 +172,8 @@ form-none f p is = rw (loads-are f p is, sites-are f p is, order-none f p is) re
 
 -- ---- the whole
 
-tests-pass : (f : List ℕ) (p : ImageParts) → IsFileOf f p → tests f ≡ Ok (52, 84, sections_from p + 40 + 40 + 40 + 40)
-unfolding tests header_tests section_tests
+tests-pass : (f : List ℕ) (p : ImageParts) → IsFileOf f p → tested (wrong_image f) causes (image_at f) ≡ Ok (parts_at f 52 84 (sections_from p + 40 + 40 + 40 + 40))
+unfolding tested wrong_image
 tests-pass f p is =
     rw (not_cut f p is, is.header.magic, is.header.class, is.header.encoding, is.header.version, is.header.second_version, is.header.file_type, is.header.machine, sizes-none f p is, form-none f p is, not_compressed f p is, all_named f p is, loads-are f p is, sites-are f p is) refl
 

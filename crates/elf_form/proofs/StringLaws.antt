@@ -8,7 +8,8 @@ use denote.Ref.{Bor}
 use Rattle.std.proofs.lemmas.List.{length-append, append-nil}
 use Rattle.std.proofs.lemmas.Slice.Eq.{bytes_eq-Decides}
 use Rattle.std.specs.Str.{bytes_eq}
-use Rattle.elf_form.specs.StringTable.{further, place_in, unless_placed, with_name, table_bytes, IsTable}
+use Rattle.elf_form.specs.Tables.{further}
+use Rattle.elf_form.specs.StringTable.{place_in, unless_placed, with_name, table_bytes, IsStringTable}
 
 pub table_bytes-append : (names : List (List ℕ)) (name : List ℕ) → table_bytes (names ++ name ∷ []) ≡ table_bytes names ++ (name ++ 0 ∷ [])
 unfolding table_bytes
@@ -21,7 +22,7 @@ else_last (Some at) same end = Some at
 else_last None true end = Some end
 else_last None false end = None
 
-further-last : (k end : ℕ) (same : Bool) (o : Option ℕ) → further k (else_last o same end) ≡ else_last (further k o) same (k + end)
+further-last : (k end : ℕ) (same : Bool) (o : Option ℕ) → further k (else_last o same end) ≡ else_last (further k o) same (end + k)
 further-last k end true None = refl
 further-last k end false None = refl
 further-last k end same (Some at) = refl
@@ -33,7 +34,7 @@ place_in-append [] name q = split (bytes_eq q name) refl where
   split true e = refl
   split false e = refl
 place_in-append (n ∷ names) name q = split (bytes_eq q n) (place_in-append names name q) where
-  len : length n + 1 + length (table_bytes names) ≡ length ((n ++ 0 ∷ []) ++ table_bytes names)
+  len : length (table_bytes names) + (length n + 1) ≡ length ((n ++ 0 ∷ []) ++ table_bytes names)
   len = omega (arith, length-append (n ++ 0 ∷ []) (table_bytes names), length-append n (0 ∷ []))
 
   split : (b : Bool) → place_in (names ++ name ∷ []) q ≡ else_last (place_in names q) (bytes_eq q name) (length (table_bytes names)) → cond b (Some 0) (further (length n + 1) (place_in (names ++ name ∷ []) q)) ≡ else_last (cond b (Some 0) (further (length n + 1) (place_in names q))) (bytes_eq q name) (length (table_bytes (n ∷ names)))
@@ -68,12 +69,12 @@ stays : (names : List (List ℕ)) (name : List ℕ) (o : Option ℕ) → is_some
 stays names name None e = absurd cc
 stays names name (Some at) e = refl
 
-module _ {S : Type 0} (names : List (List ℕ)) (name strings : List ℕ) (map : HashMap (Bor (List ℕ)) ℕ S) (is : IsTable names strings map) where
-  pub placed : (b : Bool) → b ≡ is_some (hash.get_by (λ k. bytes_eq name k.now) map) → b ≡ true → IsTable (with_name names name) strings map
+module _ {S : Type 0} (names : List (List ℕ)) (name strings : List ℕ) (map : HashMap (Bor (List ℕ)) ℕ S) (is : IsStringTable names strings map) where
+  pub placed : (b : Bool) → b ≡ is_some (hash.get_by (λ k. bytes_eq name k.now) map) → b ≡ true → IsStringTable (with_name names name) strings map
   placed b e h = rw (stays names name (place_in names name) (ap is_some (sym (is.has.places name)) ∙ sym e ∙ h)) is
 
   pub added : (b : Bool) (at : ℕ) (some last : List ℕ) (new : HashMap (Bor (List ℕ)) ℕ S) → b ≡ is_some (hash.get_by (λ k. bytes_eq name k.now) map) → b ≡ false → at ≡ length strings
-      → some ≡ strings ++ name → last ≡ some ++ 0 ∷ [] → hash.UpdatesBy (λ x y. bytes_eq x.now y.now) (λ k. bytes_eq name k.now) map new (Some at) → IsTable (with_name names name) last new
+      → some ≡ strings ++ name → last ≡ some ++ 0 ∷ [] → hash.UpdatesBy (λ x y. bytes_eq x.now y.now) (λ k. bytes_eq name k.now) map new (Some at) → IsStringTable (with_name names name) last new
   added b at some last new e h len one two updates =
       let none : place_in names name ≡ None = no_place (place_in names name) (ap is_some (sym (is.has.places name)) ∙ sym e ∙ h) in
       let here : at ≡ length (table_bytes names) = len ∙ ap length is.bytes in

@@ -1,12 +1,12 @@
 -- Walks over a table, entry by entry.
 use Rattle.std.proofs.Common.{◌≡◌, ℕ, zero, suc, ◌+◌, ◌-◌, ◌*◌, ◌<◌, ◌≤◌, Bool, true, false, cond, List, [], ◌∷◌, Option, Some, None, refl, ap, ◌∙◌, arith}
 use Rattle.std.specs.Prelude.{filter}
+use Rattle.std.specs.List.{find}
 use Rattle.std.proofs.lemmas.Bool.{cond-true, cond-false}
 use Rattle.elf_form.specs.declared.segments.Found.{Found}
 use Rattle.elf_form.specs.declared.segments.Found.TheVariants.{Nothing, One, Two, More}
-use Rattle.elf_form.specs.Tables.{entries, first, found, with_one, AllFound}
+use Rattle.elf_form.specs.Tables.{entries, found, with_one, AllFound, first_some}
 use Rattle.guest_ram.specs.Places.{◌or_else◌}
-use Rattle.elf_form.specs.Symbols.{first_some}
 
 -- what is left at the entry i, and one further on
 pub entries-more : (at k n i : ℕ) → i < n → entries (at + k * i) k (n - i) ≡ (at + k * i) ∷ entries (at + k * (i + 1)) k (n - (i + 1))
@@ -28,27 +28,23 @@ entries-start at k n =
     let b : n - 0 ≡ n = omega arith in
     rw (a, b) refl
 
-pub first-here : (p : ℕ → Bool) (at k n i : ℕ) → i < n → p (at + k * i) ≡ true → first p (entries (at + k * i) k (n - i)) ≡ Some (at + k * i)
-unfolding first
-first-here p at k n i lt here = ap (first p) (entries-more at k n i lt) ∙ cond-true _ _ _ here
+pub find-here : (p : ℕ → Bool) (at k n i : ℕ) → i < n → p (at + k * i) ≡ true → find p (entries (at + k * i) k (n - i)) ≡ Some (at + k * i)
+find-here p at k n i lt here = ap (find p) (entries-more at k n i lt) ∙ cond-true _ _ _ here
 
-pub first-next : (p : ℕ → Bool) (at k n i : ℕ) → i < n → p (at + k * i) ≡ false → first p (entries (at + k * i) k (n - i)) ≡ first p (entries (at + k * (i + 1)) k (n - (i + 1)))
-unfolding first
-first-next p at k n i lt not_here = ap (first p) (entries-more at k n i lt) ∙ cond-false _ _ _ not_here
+pub find-next : (p : ℕ → Bool) (at k n i : ℕ) → i < n → p (at + k * i) ≡ false → find p (entries (at + k * i) k (n - i)) ≡ find p (entries (at + k * (i + 1)) k (n - (i + 1)))
+find-next p at k n i lt not_here = ap (find p) (entries-more at k n i lt) ∙ cond-false _ _ _ not_here
 
-pub first-end : (p : ℕ → Bool) (at k n i : ℕ) → n ≤ i → first p (entries (at + k * i) k (n - i)) ≡ None
-unfolding first
-first-end p at k n i le = ap (first p) (entries-end at k n i le)
+pub find-end : (p : ℕ → Bool) (at k n i : ℕ) → n ≤ i → find p (entries (at + k * i) k (n - i)) ≡ None
+find-end p at k n i le = ap (find p) (entries-end at k n i le)
 
-passed_by : (p : ℕ → Bool) (x : ℕ) (xs : List ℕ) → first p (x ∷ xs) ≡ None → (p x ≡ false) × (first p xs ≡ None)
-unfolding first
+passed_by : (p : ℕ → Bool) (x : ℕ) (xs : List ℕ) → find p (x ∷ xs) ≡ None → (p x ≡ false) × (find p xs ≡ None)
 passed_by p x xs e = split (p x) refl e where
-  split : (b : Bool) → p x ≡ b → cond b (Some x) (first p xs) ≡ None → (p x ≡ false) × (first p xs ≡ None)
+  split : (b : Bool) → p x ≡ b → cond b (Some x) (find p xs) ≡ None → (p x ≡ false) × (find p xs ≡ None)
   split true is h = absurd cc
   split false is h = (is, h)
 
 -- no entry passes
-pub none_passes : (p : ℕ → Bool) (at k n i : ℕ) → first p (entries at k n) ≡ None → i < n → p (at + k * i) ≡ false
+pub none_passes : (p : ℕ → Bool) (at k n i : ℕ) → find p (entries at k n) ≡ None → i < n → p (at + k * i) ≡ false
 unfolding entries
 none_passes p at k zero i e lt = absurd (omega arith)
 none_passes p at k (suc n) zero e lt =

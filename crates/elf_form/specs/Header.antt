@@ -1,10 +1,13 @@
 -- The header of a file (System V ABI, chapter 4, ELF Header), by offsets, and where its tables and their contents pass the end.
-use Rattle.std.specs.Prelude.{◌≡◌, ◌≤◌, ℕ, ◌+◌, ◌*◌, Bool, false, not, ◌&&◌, List, length, Option, Some, None, nat_lt, ◌==◌}
+use Rattle.std.specs.Prelude.{◌≡◌, ◌≤◌, ℕ, ◌+◌, ◌*◌, Bool, false, not, ◌&&◌, List, length, Option, Some, None, Result, nat_lt, ◌==◌}
 use Rattle.std.specs.Bool.{then_some}
+use Rattle.std.specs.List.{find}
 use Rattle.guest_ram.specs.Bytes.{byte, word16, word32}
-use Rattle.elf_form.specs.Faults.{◌or_lower◌}
 use Rattle.guest_ram.specs.Places.{◌or_else◌}
-use Rattle.elf_form.specs.Tables.{entries, first}
+use Rattle.elf_form.specs.declared.cause.ElfCause.{ElfCause}
+use Rattle.elf_form.specs.declared.cause.ElfCause.TheVariants.{Truncated, Magic, Class, Encoding, Version, FileType, Machine}
+use Rattle.elf_form.specs.Faults.{Fault, tested, header_causes, ◌or_lower◌}
+use Rattle.elf_form.specs.Tables.{entries}
 
 -- where the tables begin, and their entries
 abbrev pub header_table : List ℕ → ℕ
@@ -55,10 +58,10 @@ abbrev pub section_table_cut : List ℕ → Option ℕ
 section_table_cut bytes = then_some (passes bytes (section_table bytes) (40 * section_count bytes)) (section_table bytes)
 
 abbrev pub header_part_cut : List ℕ → Option ℕ
-header_part_cut bytes = part_begins bytes 4 (first (header_passes bytes) (headers bytes))
+header_part_cut bytes = part_begins bytes 4 (find (header_passes bytes) (headers bytes))
 
 abbrev pub section_part_cut : List ℕ → Option ℕ
-section_part_cut bytes = part_begins bytes 16 (first (section_passes bytes) (sections bytes))
+section_part_cut bytes = part_begins bytes 16 (find (section_passes bytes) (sections bytes))
 
 -- The first part that passes the end: the header, the tables, what the program headers name, the contents of sections.
 unfoldable pub cut : List ℕ → Option ℕ
@@ -69,8 +72,8 @@ pub record IsWhole (bytes : List ℕ) : Type 0 where
   pub header : 52 ≤ length bytes
   pub header_room : header_table bytes + 32 * header_count bytes ≤ length bytes
   pub section_room : section_table bytes + 40 * section_count bytes ≤ length bytes
-  pub header_parts : first (header_passes bytes) (headers bytes) ≡ None
-  pub section_parts : first (section_passes bytes) (sections bytes) ≡ None
+  pub header_parts : find (header_passes bytes) (headers bytes) ≡ None
+  pub section_parts : find (section_passes bytes) (sections bytes) ≡ None
 
 -- a program header, and a section, of such a file
 abbrev pub IsHeader : List ℕ → ℕ → Type 0
@@ -97,3 +100,18 @@ file_type wanted bytes = then_some (not (word16 bytes 16 == wanted)) 16
 
 abbrev pub machine : List ℕ → Option ℕ
 machine bytes = then_some (not (word16 bytes 18 == 3)) 18
+
+-- Where a file of a type (1 an object, 2 an image) is wrong by a cause, if it is. What follows the header is told for the other causes.
+abbrev pub wrong_file : ℕ → (ElfCause → Option ℕ) → List ℕ → ElfCause → Option ℕ
+wrong_file wanted other bytes Truncated = cut bytes
+wrong_file wanted other bytes Magic = magic bytes
+wrong_file wanted other bytes Class = class bytes
+wrong_file wanted other bytes Encoding = encoding bytes
+wrong_file wanted other bytes Version = version bytes
+wrong_file wanted other bytes FileType = file_type wanted bytes
+wrong_file wanted other bytes Machine = machine bytes
+wrong_file wanted other bytes cause = other cause
+
+-- the tests of the identification, the type and the machine
+unfoldable pub identified : ℕ → List ℕ → Result (Unit {0}) Fault
+identified wanted bytes = tested (wrong_file wanted (λ _. None) bytes) header_causes tt

@@ -1,8 +1,8 @@
 -- What is read of an object, or the first fault.
-use Rattle.std.specs.Prelude.{◌≡◌, ℕ, ◌+◌, ◌%◌, ◌^◌, Bool, ◌&&◌, ◌||◌, List, [], ◌∷◌, ◌++◌, map, Option, Some, None, Result, Ok, ◌==◌, if◌then◌else◌}
+use Rattle.std.specs.Prelude.{◌≡◌, ℕ, ◌+◌, ◌%◌, ◌^◌, Bool, ◌&&◌, ◌||◌, List, [], ◌∷◌, ◌++◌, map, Option, Some, None, Result, ◌==◌, if◌then◌else◌}
 use Rattle.guest_ram.specs.Bytes.{word16, word32}
 use Rattle.elf_form.specs.declared.cause.ElfCause.{ElfCause}
-use Rattle.elf_form.specs.declared.cause.ElfCause.TheVariants.{Truncated, Magic, Class, Encoding, Version, FileType, Machine, Sizes, SectionForm, Compressed, StringPlace, SymbolForm, RelocForm}
+use Rattle.elf_form.specs.declared.cause.ElfCause.TheVariants.{Sizes, SectionForm, Compressed, StringPlace, SymbolForm, RelocForm}
 use Rattle.elf_form.specs.declared.roles.Role.TheVariants as role
 use Rattle.elf_form.specs.declared.symbols.Table.{Table}
 use Rattle.elf_form.specs.declared.symbols.SectionTest.TheVariants.{EntrySizes, Links}
@@ -12,8 +12,8 @@ use Rattle.elf_form.specs.declared.symbols.RelocTest.TheVariants.{Named, Form}
 use Rattle.elf_form.specs.declared.segments.Found.{Found}
 use Rattle.elf_form.specs.declared.segments.Found.TheVariants.{Nothing, One, Two, More}
 use Rattle.elf_form.specs.ObjectParts.{ObjectParts}
-use Rattle.elf_form.specs.Faults.{Fault, test, ◌>>=◌, ◌or_lower◌}
-use Rattle.elf_form.specs.Header.{section_count, sections, cut, magic, class, encoding, version, file_type, machine}
+use Rattle.elf_form.specs.Faults.{Fault, tested, causes, ◌or_lower◌}
+use Rattle.elf_form.specs.Header.{section_count, sections, wrong_file}
 use Rattle.elf_form.specs.Segments.{header_size, section_size, too_long}
 use Rattle.elf_form.specs.Sections.{contents, is_index, names, compressed, nameless}
 use Rattle.elf_form.specs.Roles.{with_role, misaligned, joined_fault, joined_end, joined}
@@ -130,59 +130,23 @@ object_at bytes = record {
       ++ map (reloc_at (numbers (names bytes) bytes 0 (symbols_of (table_of bytes))) (names bytes) bytes) (relocs_of role.Init (names bytes) bytes);
 }
 
--- ---- the tests in their order
+-- where a file is wrong as an object by a cause, if it is
+abbrev pub wrong_in_object : List ℕ → ElfCause → Option ℕ
+wrong_in_object bytes Sizes = object_sizes bytes
+wrong_in_object bytes SectionForm = object_form bytes
+wrong_in_object bytes Compressed = compressed bytes
+wrong_in_object bytes StringPlace = string_places bytes
+wrong_in_object bytes SymbolForm = symbol_form bytes
+wrong_in_object bytes RelocForm = reloc_form bytes
+wrong_in_object bytes _ = None
 
-unfoldable pub late_tests : List ℕ → Result ObjectParts Fault
-late_tests bytes = do
-  _ ← test SymbolForm (symbol_form bytes)
-  _ ← test RelocForm (reloc_form bytes)
-  Ok (object_at bytes)
-
-unfoldable pub middle_tests : List ℕ → Result ObjectParts Fault
-middle_tests bytes = do
-  _ ← test SectionForm (object_form bytes)
-  _ ← test Compressed (compressed bytes)
-  _ ← test StringPlace (string_places bytes)
-  late_tests bytes
-
-unfoldable pub early_tests : List ℕ → Result ObjectParts Fault
-early_tests bytes = do
-  _ ← test Magic (magic bytes)
-  _ ← test Class (class bytes)
-  _ ← test Encoding (encoding bytes)
-  _ ← test Version (version bytes)
-  _ ← test FileType (file_type 1 bytes)
-  _ ← test Machine (machine bytes)
-  _ ← test Sizes (object_sizes bytes)
-  middle_tests bytes
+unfoldable pub wrong_object : List ℕ → ElfCause → Option ℕ
+wrong_object bytes cause = wrong_file 1 (wrong_in_object bytes) bytes cause
 
 unfoldable pub object_in : List ℕ → Result ObjectParts Fault
-object_in bytes = do
-  _ ← test Truncated (cut bytes)
-  early_tests bytes
+object_in bytes = tested (wrong_object bytes) causes (object_at bytes)
 
--- ---- without an order
-
--- where a file is wrong by a cause, if it is
-unfoldable pub wrong_object : List ℕ → ElfCause → Option ℕ
-wrong_object bytes Truncated = cut bytes
-wrong_object bytes Magic = magic bytes
-wrong_object bytes Class = class bytes
-wrong_object bytes Encoding = encoding bytes
-wrong_object bytes Version = version bytes
-wrong_object bytes FileType = file_type 1 bytes
-wrong_object bytes Machine = machine bytes
-wrong_object bytes Sizes = object_sizes bytes
-wrong_object bytes SectionForm = object_form bytes
-wrong_object bytes Compressed = compressed bytes
-wrong_object bytes StringPlace = string_places bytes
-wrong_object bytes SymbolForm = symbol_form bytes
-wrong_object bytes RelocForm = reloc_form bytes
-
--- the causes in the order in which they count
-abbrev pub all_causes : List ElfCause
-all_causes = Truncated ∷ Magic ∷ Class ∷ Encoding ∷ Version ∷ FileType ∷ Machine ∷ Sizes ∷ SectionForm ∷ Compressed ∷ StringPlace ∷ SymbolForm ∷ RelocForm ∷ []
-
+-- The same without an order.
 -- A file is an object where it is wrong by no cause.
 pub record ObjectAs (bytes : List ℕ) (object : ObjectParts) : Type 0 where
   pub sound : (cause : ElfCause) → wrong_object bytes cause ≡ None

@@ -1,11 +1,12 @@
 -- What is read of an image, or the first fault.
-use Rattle.std.specs.Prelude.{◌≤◌, ℕ, ◌+◌, ◌-◌, List, Option, Result, Ok}
+use Rattle.std.specs.Prelude.{◌≤◌, ℕ, ◌+◌, ◌-◌, List, Option, None, Result}
 use Rattle.guest_ram.specs.Bytes.{word32, part}
-use Rattle.elf_form.specs.declared.cause.ElfCause.TheVariants.{Truncated, Magic, Class, Encoding, Version, FileType, Machine, Sizes, SectionForm, Compressed, StringPlace}
+use Rattle.elf_form.specs.declared.cause.ElfCause.{ElfCause}
+use Rattle.elf_form.specs.declared.cause.ElfCause.TheVariants.{Sizes, SectionForm, Compressed, StringPlace}
 use Rattle.elf_form.specs.ImageParts.{ImageParts}
-use Rattle.elf_form.specs.Faults.{Fault, test, ◌>>=◌, ◌or_lower◌}
+use Rattle.elf_form.specs.Faults.{Fault, tested, causes, ◌or_lower◌}
 use Rattle.elf_form.specs.Tables.{first_of, second_of}
-use Rattle.elf_form.specs.Header.{cut, magic, class, encoding, version, file_type, machine, IsHeader, IsSection}
+use Rattle.elf_form.specs.Header.{wrong_file, IsHeader, IsSection}
 use Rattle.elf_form.specs.Segments.{loads, sizes, order}
 use Rattle.elf_form.specs.Sections.{sites_sections, one_of, contents, compressed, nameless}
 
@@ -21,38 +22,30 @@ parts_at bytes t d s = record {
   sites = contents bytes s;
 }
 
+abbrev pub parts_by : List ℕ → ℕ × ℕ × ℕ → ImageParts
+parts_by bytes at = parts_at bytes at.0 at.1 at.2
+
 -- which program headers and sections there are
 unfoldable pub section_form : List ℕ → Option ℕ
 section_form bytes = order bytes (loads bytes) or_lower one_of (sites_sections bytes)
 
--- The first cause that holds decides. Where none does, these are the two program headers and the section.
-unfoldable pub section_tests : List ℕ → Result (ℕ × ℕ × ℕ) Fault
-section_tests bytes = do
-  _ ← test SectionForm (section_form bytes)
-  _ ← test Compressed (compressed bytes)
-  _ ← test StringPlace (nameless bytes)
-  Ok (first_of (loads bytes), second_of (loads bytes), first_of (sites_sections bytes))
+-- where a file is wrong as an image by a cause, if it is
+abbrev pub wrong_in_image : List ℕ → ElfCause → Option ℕ
+wrong_in_image bytes Sizes = sizes bytes
+wrong_in_image bytes SectionForm = section_form bytes
+wrong_in_image bytes Compressed = compressed bytes
+wrong_in_image bytes StringPlace = nameless bytes
+wrong_in_image bytes _ = None
 
-unfoldable pub header_tests : List ℕ → Result (ℕ × ℕ × ℕ) Fault
-header_tests bytes = do
-  _ ← test Magic (magic bytes)
-  _ ← test Class (class bytes)
-  _ ← test Encoding (encoding bytes)
-  _ ← test Version (version bytes)
-  _ ← test FileType (file_type 2 bytes)
-  _ ← test Machine (machine bytes)
-  _ ← test Sizes (sizes bytes)
-  section_tests bytes
+unfoldable pub wrong_image : List ℕ → ElfCause → Option ℕ
+wrong_image bytes cause = wrong_file 2 (wrong_in_image bytes) bytes cause
 
-unfoldable pub tests : List ℕ → Result (ℕ × ℕ × ℕ) Fault
-tests bytes = do
-  _ ← test Truncated (cut bytes)
-  header_tests bytes
+-- The image of a file that is wrong by no cause, by its two program headers and its section of sites.
+abbrev pub image_at : List ℕ → ImageParts
+image_at bytes = parts_at bytes (first_of (loads bytes)) (second_of (loads bytes)) (first_of (sites_sections bytes))
 
 unfoldable pub image_in : List ℕ → Result ImageParts Fault
-image_in bytes = do
-  at ← tests bytes
-  Ok (parts_at bytes at.0 at.1 at.2)
+image_in bytes = tested (wrong_image bytes) causes (image_at bytes)
 
 -- two program headers and a section of the file
 abbrev pub ArePlaces : List ℕ → ℕ × ℕ × ℕ → Type 0

@@ -9,15 +9,14 @@ use Rattle.elf_form.specs.declared.roles.Role.TheVariants as role
 use Rattle.elf_form.specs.declared.symbols.Entry.{Entry}
 use Rattle.elf_form.specs.ImageParts.{ImageParts}
 use Rattle.elf_form.specs.ObjectParts.{ObjectParts}
-use Rattle.elf_form.specs.Faults.{Fault}
+use Rattle.elf_form.specs.Faults.{Fault, causes}
 use Rattle.elf_form.specs.Output.{pad}
 use Rattle.elf_form.specs.Header.{section_count, headers, sections}
 use Rattle.elf_form.specs.Segments.{is_load}
 use Rattle.elf_form.specs.Sections.{names, is_sites, is_nameless, is_compressed}
 use Rattle.elf_form.specs.Roles.{role as role_of, has_role, is_kept, alignment, alignments, size}
 use Rattle.elf_form.specs.Symbols.{symbols_of, binding, is_file, has_binding, has_place, target_role, relocs_in, is_linked, is_unnamed, has_symbol, symbol_of, is_outside, has_kind, names_none}
-use Rattle.elf_form.specs.ObjectReading.{has_strings, table_of, strings_of, link_of, all_causes}
-use Rattle.elf_form.specs.Accepted.{causes}
+use Rattle.elf_form.specs.ObjectReading.{has_strings, table_of, strings_of, link_of}
 use Rattle.elf_form.specs.Order.{named_parts, IsPast, IsLowest, IsRefused}
 
 -- ---- sections
@@ -53,8 +52,8 @@ pub record IsTooMuch (r : Role) (bytes : List ℕ) (s : ℕ) : Type 0 where
   pub together : 2 ^ 32 ≤ sum_by (in_pages bytes) (filter (has_role r (names bytes) bytes) (before ++ s ∷ []))
 
 -- the symbol table: the first section of symbols
-abbrev pub IsTable : List ℕ → ℕ → Type 0
-IsTable bytes s = IsLowest (IsOf role.Symbols bytes) s
+abbrev pub IsSymbolTable : List ℕ → ℕ → Type 0
+IsSymbolTable bytes s = IsLowest (IsOf role.Symbols bytes) s
 
 -- the relocations of a section that is kept
 abbrev pub IsRelocs : List ℕ → ℕ → Type 0
@@ -71,7 +70,7 @@ pub data IsBadObjectSize (bytes : List ℕ) (at : ℕ) : Type 0 where
   section_header : word16 bytes 46 ≢ 40 → at ≡ 46 → IsBadObjectSize bytes at
   init : (s : ℕ) → IsTooMuch role.Init bytes s → at ≡ s + 20 → IsBadObjectSize bytes at
   bss : (s : ℕ) → IsTooMuch role.Bss bytes s → at ≡ s + 20 → IsBadObjectSize bytes at
-  symbols : (s : ℕ) → IsTable bytes s → IsBadEntrySize 16 bytes s at → IsBadObjectSize bytes at
+  symbols : (s : ℕ) → IsSymbolTable bytes s → IsBadEntrySize 16 bytes s at → IsBadObjectSize bytes at
   relocs : (s : ℕ) → IsRelocs bytes s → IsBadEntrySize 8 bytes s at → IsBadObjectSize bytes at
   file : 33554432 < length bytes → at ≡ 33554432 → IsBadObjectSize bytes at
 
@@ -125,7 +124,7 @@ IsNameless bytes s = IsSectionAt bytes s × (is_nameless (names bytes) bytes s �
 pub data IsBadName (bytes : List ℕ) (at : ℕ) : Type 0 where
   no_names : has_strings bytes (word16 bytes 50) ≡ false → section_count bytes ≢ 0 → at ≡ 50 → IsBadName bytes at
   section : has_strings bytes (word16 bytes 50) ≡ true → IsNameless bytes at → IsBadName bytes at
-  no_table : (s : ℕ) → IsTable bytes s → has_strings bytes (word32 bytes (s + 24)) ≡ false → at ≡ s + 24 → IsBadName bytes at
+  no_table : (s : ℕ) → IsSymbolTable bytes s → has_strings bytes (word32 bytes (s + 24)) ≡ false → at ≡ s + 24 → IsBadName bytes at
   symbol : has_strings bytes (link_of bytes) ≡ true → Contains (symbols_of (table_of bytes)) at → is_unnamed (strings_of bytes) bytes at ≡ true → IsBadName bytes at
 
 -- ---- symbols and relocations
@@ -157,41 +156,42 @@ pub data IsBadReloc (bytes : List ℕ) (at : ℕ) : Type 0 where
 abbrev pub IsBadVersion : List ℕ → ℕ → Type 0
 IsBadVersion bytes at = ((byte bytes 6 ≢ 1) × (at ≡ 6)) ⊎ ((word32 bytes 20 ≢ 1) × (at ≡ 20))
 
--- An object is bad by a cause at this place.
-abbrev pub IsBadObject : List ℕ → ElfCause → ℕ → Type 0
-IsBadObject bytes Truncated at = IsPast (length bytes) (named_parts bytes) at
-IsBadObject bytes Magic at = (word32 bytes 0 ≢ 0x464C457F) × (at ≡ 0)
-IsBadObject bytes Class at = (byte bytes 4 ≢ 1) × (at ≡ 4)
-IsBadObject bytes Encoding at = (byte bytes 5 ≢ 1) × (at ≡ 5)
-IsBadObject bytes Version at = IsBadVersion bytes at
-IsBadObject bytes FileType at = (word16 bytes 16 ≢ 1) × (at ≡ 16)
-IsBadObject bytes Machine at = (word16 bytes 18 ≢ 3) × (at ≡ 18)
-IsBadObject bytes Sizes at = IsBadObjectSize bytes at
-IsBadObject bytes SectionForm at = IsBadSection bytes at
-IsBadObject bytes Compressed at = IsCompressed bytes at
-IsBadObject bytes StringPlace at = IsBadName bytes at
-IsBadObject bytes SymbolForm at = IsBadSymbol bytes at
-IsBadObject bytes RelocForm at = IsBadReloc bytes at
+-- A file of a type (1 an object, 2 an image) is bad by a cause at this place. What follows the header is told for the other causes.
+abbrev pub IsBadFile : ℕ → (ElfCause → ℕ → Type 0) → List ℕ → ElfCause → ℕ → Type 0
+IsBadFile wanted inner bytes Truncated at = IsPast (length bytes) (named_parts bytes) at
+IsBadFile wanted inner bytes Magic at = (word32 bytes 0 ≢ 0x464C457F) × (at ≡ 0)
+IsBadFile wanted inner bytes Class at = (byte bytes 4 ≢ 1) × (at ≡ 4)
+IsBadFile wanted inner bytes Encoding at = (byte bytes 5 ≢ 1) × (at ≡ 5)
+IsBadFile wanted inner bytes Version at = IsBadVersion bytes at
+IsBadFile wanted inner bytes FileType at = (word16 bytes 16 ≢ wanted) × (at ≡ 16)
+IsBadFile wanted inner bytes Machine at = (word16 bytes 18 ≢ 3) × (at ≡ 18)
+IsBadFile wanted inner bytes cause at = inner cause at
 
--- An image is.
+abbrev pub IsBadInObject : List ℕ → ElfCause → ℕ → Type 0
+IsBadInObject bytes Sizes at = IsBadObjectSize bytes at
+IsBadInObject bytes SectionForm at = IsBadSection bytes at
+IsBadInObject bytes Compressed at = IsCompressed bytes at
+IsBadInObject bytes StringPlace at = IsBadName bytes at
+IsBadInObject bytes SymbolForm at = IsBadSymbol bytes at
+IsBadInObject bytes RelocForm at = IsBadReloc bytes at
+IsBadInObject bytes _ at = ⊥
+
+abbrev pub IsBadInImage : List ℕ → ElfCause → ℕ → Type 0
+IsBadInImage bytes Sizes at = IsBadImageSize bytes at
+IsBadInImage bytes SectionForm at = IsBadPart bytes at
+IsBadInImage bytes Compressed at = IsCompressed bytes at
+IsBadInImage bytes StringPlace at = IsNameless bytes at
+IsBadInImage bytes _ at = ⊥
+
+abbrev pub IsBadObject : List ℕ → ElfCause → ℕ → Type 0
+IsBadObject bytes cause at = IsBadFile 1 (IsBadInObject bytes) bytes cause at
+
 abbrev pub IsBadImage : List ℕ → ElfCause → ℕ → Type 0
-IsBadImage bytes Truncated at = IsPast (length bytes) (named_parts bytes) at
-IsBadImage bytes Magic at = (word32 bytes 0 ≢ 0x464C457F) × (at ≡ 0)
-IsBadImage bytes Class at = (byte bytes 4 ≢ 1) × (at ≡ 4)
-IsBadImage bytes Encoding at = (byte bytes 5 ≢ 1) × (at ≡ 5)
-IsBadImage bytes Version at = IsBadVersion bytes at
-IsBadImage bytes FileType at = (word16 bytes 16 ≢ 2) × (at ≡ 16)
-IsBadImage bytes Machine at = (word16 bytes 18 ≢ 3) × (at ≡ 18)
-IsBadImage bytes Sizes at = IsBadImageSize bytes at
-IsBadImage bytes SectionForm at = IsBadPart bytes at
-IsBadImage bytes Compressed at = IsCompressed bytes at
-IsBadImage bytes StringPlace at = IsNameless bytes at
-IsBadImage bytes SymbolForm at = ⊥
-IsBadImage bytes RelocForm at = ⊥
+IsBadImage bytes cause at = IsBadFile 2 (IsBadInImage bytes) bytes cause at
 
 -- A file is no object, or no image: it is bad by a cause, and by none before it.
 abbrev pub IsRefusedObject : List ℕ → ℕ → ElfCause → Type 0
-IsRefusedObject bytes at cause = IsRefused (IsBadObject bytes) all_causes bytes at cause
+IsRefusedObject bytes at cause = IsRefused (IsBadObject bytes) causes bytes at cause
 
 abbrev pub IsRefusedImage : List ℕ → ℕ → ElfCause → Type 0
 IsRefusedImage bytes at cause = IsRefused (IsBadImage bytes) causes bytes at cause

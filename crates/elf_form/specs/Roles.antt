@@ -1,14 +1,14 @@
 -- What each section of an object is read as, by its type and its flags (System V ABI, chapter 4, Sections). What is joined and how is the profile's.
 use Rattle.std.specs.Prelude.{ℕ, ◌+◌, ◌-◌, ◌/◌, ◌%◌, ◌^◌, Bool, true, false, not, ◌&&◌, ◌||◌, List, [], ◌∷◌, ◌++◌, length, filter, replicate, Option, Some, None, nat_lt, ◌==◌, if◌then◌else◌}
-use Rattle.std.specs.List.{list_any}
+use Rattle.std.specs.List.{list_any, find}
 use Rattle.guest_ram.specs.Bytes.{word32}
 use Rattle.elf_form.specs.declared.roles.Role.{Role}
 use Rattle.elf_form.specs.declared.roles.Role.TheVariants.{Ignored, Sites, Text, Init, Bss, Foreign, Symbols, Relocs}
 use Rattle.elf_form.specs.declared.segments.Found.{Found}
 use Rattle.elf_form.specs.Output.{pad}
-use Rattle.elf_form.specs.Tables.{found, first}
+use Rattle.elf_form.specs.Tables.{found, further}
 use Rattle.elf_form.specs.Header.{sections}
-use Rattle.elf_form.specs.Sections.{contents, is_null, is_sites, field_of}
+use Rattle.elf_form.specs.Sections.{contents, is_null, is_sites}
 
 -- Types: bits of the program (1), symbols (2), a note (7), no bits (8), relocations (9). Flags: 2 allocated, 4 executable.
 abbrev pub allocated_role : ℕ → ℕ → Role
@@ -73,7 +73,7 @@ abbrev pub is_misaligned : List ℕ → List ℕ → ℕ → Bool
 is_misaligned names bytes s = (has_role Init names bytes s || has_role Bss names bytes s) && not (list_any (λ a. a == alignment bytes s) alignments)
 
 unfoldable pub misaligned : List ℕ → List ℕ → Option ℕ
-misaligned names bytes = field_of 32 (first (is_misaligned names bytes) (sections bytes))
+misaligned names bytes = further 32 (find (is_misaligned names bytes) (sections bytes))
 
 -- the size field of the first section with which the sizes, in whole pages of 4,096 bytes, come to 2 ^ 32 or more
 unfoldable pub joined_fault : Role → List ℕ → List ℕ → ℕ → List ℕ → Option ℕ

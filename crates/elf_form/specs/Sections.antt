@@ -1,10 +1,10 @@
 -- The names of sections (System V ABI, chapter 4, Sections and String Table), and the one section that is asked for.
 use Rattle.std.specs.Prelude.{ℕ, ◌+◌, ◌*◌, ◌%◌, ◌/◌, Bool, not, ◌&&◌, List, [], ◌∷◌, drop, filter, Option, Some, None, nat_lt, nat_eq, ◌==◌, codes, ◌++◌, if◌then◌else◌}
-use Rattle.std.specs.List.{list_any, starts_with}
+use Rattle.std.specs.List.{list_any, starts_with, find}
 use Rattle.guest_ram.specs.Bytes.{word16, word32, part}
 use Rattle.elf_form.specs.declared.segments.Found.{Found}
 use Rattle.elf_form.specs.declared.segments.Found.TheVariants.{Nothing, One, Two, More}
-use Rattle.elf_form.specs.Tables.{found, first}
+use Rattle.elf_form.specs.Tables.{found, further}
 use Rattle.elf_form.specs.Header.{section_table, section_count, sections, has_contents}
 
 -- the bytes of a section
@@ -49,12 +49,8 @@ one_of (More s t) = Some t
 abbrev pub is_compressed : List ℕ → ℕ → Bool
 is_compressed bytes s = not (is_null bytes s) && (word32 bytes (s + 8) / 2048 % 2 == 1)
 
-abbrev pub field_of : ℕ → Option ℕ → Option ℕ
-field_of field None = None
-field_of field (Some entry) = Some (entry + field)
-
 unfoldable pub compressed : List ℕ → Option ℕ
-compressed bytes = field_of 8 (first (is_compressed bytes) (sections bytes))
+compressed bytes = further 8 (find (is_compressed bytes) (sections bytes))
 
 unfoldable pub nameless : List ℕ → Option ℕ
-nameless bytes = first (is_nameless (names bytes) bytes) (sections bytes)
+nameless bytes = find (is_nameless (names bytes) bytes) (sections bytes)

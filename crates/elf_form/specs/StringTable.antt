@@ -5,10 +5,7 @@ use Rattle.std.specs.Str.{bytes_eq}
 use Rattle.std.specs.HashMap as hash
 use Rattle.std.specs.HashMap.{HashMap}
 use denote.Ref.{Bor}
-
-abbrev pub further : ℕ → Option ℕ → Option ℕ
-further k None = None
-further k (Some at) = Some (k + at)
+use Rattle.elf_form.specs.Tables.{further}
 
 -- where a name begins among the names of a table, if it is there
 abbrev pub place_in : List (List ℕ) → List ℕ → Option ℕ
@@ -35,6 +32,6 @@ pub record HasPlaces {S : Type 0} (names : List (List ℕ)) (map : HashMap (Bor 
   pub places : (name : List ℕ) → hash.get_by (λ k. bytes_eq name k.now) map ≡ place_in names name
 
 -- a table's bytes, and such a map
-pub record IsTable {S : Type 0} (names : List (List ℕ)) (strings : List ℕ) (map : HashMap (Bor (List ℕ)) ℕ S) : Type 0 where
+pub record IsStringTable {S : Type 0} (names : List (List ℕ)) (strings : List ℕ) (map : HashMap (Bor (List ℕ)) ℕ S) : Type 0 where
   pub bytes : strings ≡ table_bytes names
   pub has : HasPlaces names map

@@ -21,15 +21,10 @@ use Rattle.elf_form.specs.declared.symbols.RelocTest.{RelocTest}
 use Rattle.elf_form.specs.declared.symbols.RelocTest.TheVariants.{Named, Form}
 use Rattle.elf_form.specs.Faults.{◌or_lower◌}
 use Rattle.guest_ram.specs.Places.{◌or_else◌}
-use Rattle.elf_form.specs.Tables.{entries}
+use Rattle.elf_form.specs.Tables.{entries, first_some}
 use Rattle.elf_form.specs.Header.{section_table, section_count, sections}
 use Rattle.elf_form.specs.Sections.{contents, is_index}
 use Rattle.elf_form.specs.Roles.{role as role_of, role_number, has_role, is_kept, size, starts}
-
--- the first place that an entry of a list gives
-unfoldable pub first_some : (ℕ → Option ℕ) → List ℕ → Option ℕ
-first_some f [] = None
-first_some f (x ∷ xs) = f x or_else first_some f xs
 
 -- ---- the symbol table (Symbol Table): the first section of symbols, 16 bytes for each, the null one first
 

@@ -1,12 +1,14 @@
 //! The header, and the parts that pass the end of the file.
 
 ghost use Rattle.std.specs.Prelude.{◌≡◌, ◌≤◌, ◌<◌, ◌+◌, ◌*◌, ◌^◌, Bool, length, not, ◌||◌, ◌==◌, IfNone, IfSome};
+ghost use Rattle.std.specs.List.{find};
 ghost use Rattle.guest_ram.specs.Bytes.{byte, word16, word32};
-ghost use Rattle.elf_form.specs.Faults.{◌or_lower◌};
-ghost use Rattle.elf_form.specs.Tables.{entries, first};
+ghost use Rattle.elf_form.specs.Faults.{test, Gives, ◌or_lower◌};
+ghost use Rattle.elf_form.specs.Tables.{entries};
 ghost use Rattle.elf_form.specs.Header.{cut, part_begins, header_passes, section_passes, passes, IsWhole};
-ghost use Rattle.elf_form.specs.Header.{magic, class, encoding, version, file_type, machine};
+ghost use Rattle.elf_form.specs.Header.{magic, class, encoding, version, file_type, machine, identified};
 
+use crate::cause::{ElfCause, ElfFault};
 use guest_ram::{byte, half, word};
 
 /// The lower place.
@@ -47,7 +49,7 @@ fn section_passes_end(bytes: &[u8], s: usize) -> bool
 
 fn cut_header(bytes: &[u8], table: usize, count: usize) -> Option<u32>
     requires { table + 32 * count ≤ length bytes.now }
-    ensures { result ≡ part_begins bytes.now 4 (first (header_passes bytes.now) (entries table 32 count)) }
+    ensures { result ≡ part_begins bytes.now 4 (find (header_passes bytes.now) (entries table 32 count)) }
 {
     for i in 0..count {
         let h = table + 32 * i;
@@ -60,7 +62,7 @@ fn cut_header(bytes: &[u8], table: usize, count: usize) -> Option<u32>
 
 fn cut_section(bytes: &[u8], table: usize, count: usize) -> Option<u32>
     requires { table + 40 * count ≤ length bytes.now }
-    ensures { result ≡ part_begins bytes.now 16 (first (section_passes bytes.now) (entries table 40 count)) }
+    ensures { result ≡ part_begins bytes.now 16 (find (section_passes bytes.now) (entries table 40 count)) }
 {
     for i in 0..count {
         let s = table + 40 * i;
@@ -96,28 +98,28 @@ pub fn cut(bytes: &[u8]) -> Option<u32>
     cut_section(bytes, sections as usize, section_count as usize)
 }
 
-pub fn magic(bytes: &[u8]) -> Option<usize>
+fn magic(bytes: &[u8]) -> Option<usize>
     requires { 52 ≤ length bytes.now }
     ensures { result ≡ magic bytes.now }
 {
     (word(bytes, 0) != 0x464C_457F).then_some(0)
 }
 
-pub fn class(bytes: &[u8]) -> Option<usize>
+fn class(bytes: &[u8]) -> Option<usize>
     requires { 52 ≤ length bytes.now }
     ensures { result ≡ class bytes.now }
 {
     (byte(bytes, 4) != 1).then_some(4)
 }
 
-pub fn encoding(bytes: &[u8]) -> Option<usize>
+fn encoding(bytes: &[u8]) -> Option<usize>
     requires { 52 ≤ length bytes.now }
     ensures { result ≡ encoding bytes.now }
 {
     (byte(bytes, 5) != 1).then_some(5)
 }
 
-pub fn version(bytes: &[u8]) -> Option<usize>
+fn version(bytes: &[u8]) -> Option<usize>
     requires { 52 ≤ length bytes.now }
     ensures { result ≡ version bytes.now }
 {
@@ -127,16 +129,44 @@ pub fn version(bytes: &[u8]) -> Option<usize>
     )
 }
 
-pub fn file_type(bytes: &[u8], wanted: u16) -> Option<usize>
+fn file_type(bytes: &[u8], wanted: u16) -> Option<usize>
     requires { 52 ≤ length bytes.now }
     ensures { result ≡ file_type wanted bytes.now }
 {
     (half(bytes, 16) != wanted).then_some(16)
 }
 
-pub fn machine(bytes: &[u8]) -> Option<usize>
+fn machine(bytes: &[u8]) -> Option<usize>
     requires { 52 ≤ length bytes.now }
     ensures { result ≡ machine bytes.now }
 {
     (half(bytes, 18) != 3).then_some(18)
+}
+
+/// Passes where there is no place.
+pub fn test(cause: ElfCause, place: Option<usize>) -> Result<(), ElfFault>
+    requires { IfSome place (λ at. at < 2 ^ 32) }
+    ensures { Gives (λ _. tt) result (test cause place) }
+{
+    match place {
+        None => Ok(()),
+        Some(at) => Err(ElfFault::At {
+            at: at as u32,
+            cause,
+        }),
+    }
+}
+
+/// The tests of the identification, the type and the machine.
+#[tactic(auto, unfolding(crate::specs::Header::identified, crate::specs::Faults::tested))]
+pub fn identified(bytes: &[u8], wanted: u16) -> Result<(), ElfFault>
+    requires { 52 ≤ length bytes.now }
+    ensures { Gives (λ _. tt) result (identified wanted bytes.now) }
+{
+    test(ElfCause::Magic, magic(bytes))?;
+    test(ElfCause::Class, class(bytes))?;
+    test(ElfCause::Encoding, encoding(bytes))?;
+    test(ElfCause::Version, version(bytes))?;
+    test(ElfCause::FileType, file_type(bytes, wanted))?;
+    test(ElfCause::Machine, machine(bytes))
 }

@@ -4,8 +4,7 @@ ghost use Rattle.std.specs.Prelude.{◌≡◌, ◌↔◌, ◌≤◌, ◌+◌, �
 ghost use Rattle.std.specs.List.{sum_by};
 ghost use Rattle.elf_form.specs.ObjectParts.{ObjectParts};
 ghost use Rattle.elf_form.specs.ObjectLayout.{layout, object_bytes};
-ghost use Rattle.elf_form.specs.Accepted.{wrong};
-ghost use Rattle.elf_form.specs.Reading.{image_in};
+ghost use Rattle.elf_form.specs.Reading.{image_in, wrong_image};
 ghost use Rattle.elf_form.specs.ObjectReading.{object_in, wrong_object};
 ghost use Rattle.elf_form.specs.Order.{HasPlace};
 ghost use Rattle.elf_form.specs.Reasons.{IsBadObject, IsBadImage, IsRefusedObject, IsRefusedImage, no_object, no_image};
@@ -29,8 +28,8 @@ pub fn object_causes_are_conditions()
 
 /// The same of an image.
 pub fn image_causes_are_conditions()
-    ensures exact { (bytes : List ℕ) (cause : ElfCause) (at : ℕ) → (wrong cause bytes ≡ Some at) ↔ HasPlace (IsBadImage bytes) bytes cause at }
-    ensures none { (bytes : List ℕ) (cause : ElfCause) → (wrong cause bytes ≡ None) ↔ ((at : ℕ) → IsBadImage bytes cause at → ⊥) }
+    ensures exact { (bytes : List ℕ) (cause : ElfCause) (at : ℕ) → (wrong_image bytes cause ≡ Some at) ↔ HasPlace (IsBadImage bytes) bytes cause at }
+    ensures none { (bytes : List ℕ) (cause : ElfCause) → (wrong_image bytes cause ≡ None) ↔ ((at : ℕ) → IsBadImage bytes cause at → ⊥) }
 {}
 
 /// A file is refused as an object, by a cause and at a place, exactly where the cause has this

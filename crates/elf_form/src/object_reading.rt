@@ -1,27 +1,27 @@
 //! Reading an object.
 
-ghost use Rattle.std.specs.Prelude.{◌≡◌, ℕ, ◌≤◌, ◌<◌, ◌+◌, ◌*◌, ◌^◌, List, length, All, IfNone, IfSome, IfOk};
+ghost use Rattle.std.specs.Prelude.{◌≡◌, ℕ, ◌≤◌, ◌<◌, ◌+◌, ◌*◌, ◌^◌, ◌∷◌, List, length, All, IfNone, IfSome, IfOk};
 ghost use Rattle.elf_form.specs.declared.roles.Role.TheVariants as role;
 ghost use Rattle.elf_form.specs.declared.cause.ElfCause.{ElfCause};
+ghost use Rattle.elf_form.specs.declared.cause.ElfCause.TheVariants.{Sizes};
 ghost use Rattle.elf_form.specs.Tables.{AllFound};
-ghost use Rattle.elf_form.specs.Faults.{Gives, IsFirstOf};
-ghost use Rattle.elf_form.specs.Header.{IsWhole, IsSection, sections};
+ghost use Rattle.elf_form.specs.Faults.{tested, causes, section_causes, late_causes, Gives, IsFirstOf, and_then};
+ghost use Rattle.elf_form.specs.Header.{IsWhole, IsSection, sections, identified};
 ghost use Rattle.elf_form.specs.Sections.{names as names_in};
 ghost use Rattle.elf_form.specs.Roles.{with_role, starts as starts_of};
 ghost use Rattle.elf_form.specs.Symbols.{IsEntry, relocs_of};
 ghost use Rattle.elf_form.specs.KeptRelocs.{AreKept};
 ghost use Rattle.elf_form.specs.Linkable.{IsLinkable};
 ghost use Rattle.elf_form.specs.ObjectParts.{ObjectParts};
-ghost use Rattle.elf_form.specs.ObjectReading.{table_of as table_in, kept_relocs, symbol_form, reloc_form, text_in, sites_in, object_at, late_tests, middle_tests, early_tests, object_in, wrong_object, all_causes, ObjectAs};
+ghost use Rattle.elf_form.specs.ObjectReading.{table_of as table_in, kept_relocs, symbol_form, reloc_form, text_in, sites_in, object_at, object_in, wrong_object, ObjectAs};
 ghost use Rattle.elf_form.specs.Reasons.{IsRefusedObject, no_object};
 
 use crate::cause::{ElfCause, ElfFault};
 use crate::entries::{entries_of, relocs_fault};
-use crate::header::{class, cut, encoding, file_type, lower, machine, magic, version};
+use crate::header::{cut, identified, lower, test};
 use crate::joining::{joined, starts};
 use crate::object::Object;
 use crate::object_conditions::{object_form, object_sizes, string_places, strings_of, table_of};
-use crate::reading::test;
 use crate::records::{Starts, numbers, put_relocs, symbols_in};
 use crate::roles::{Role, with_role};
 use crate::sections::{compressed, contents, names};
@@ -137,11 +137,11 @@ fn object_at(alloc: Global, bytes: &[u8], kept: &Kept) -> Result<Object, AllocEr
     })
 }
 
-#[tactic(auto, unfolding(crate::specs::ObjectReading::late_tests))]
+#[tactic(auto, unfolding(crate::specs::Faults::tested, crate::specs::ObjectReading::wrong_object))]
 fn late_tested(alloc: Global, bytes: &[u8]) -> Result<Object, ElfFault>
     requires whole { IsWhole bytes.now }
     requires limit { length bytes.now ≤ LIMIT }
-    ensures { Gives (λ o. o) result (late_tests bytes.now) }
+    ensures { Gives (λ o. o) result (tested (wrong_object bytes.now) late_causes (object_at bytes.now)) }
 {
     let kept = kept_in(alloc, bytes)?;
     test(ElfCause::SymbolForm, symbol_form(bytes, &kept))?;
@@ -149,11 +149,11 @@ fn late_tested(alloc: Global, bytes: &[u8]) -> Result<Object, ElfFault>
     Ok(object_at(alloc, bytes, &kept)?)
 }
 
-#[tactic(auto, unfolding(crate::specs::ObjectReading::middle_tests))]
-fn middle_tested(alloc: Global, bytes: &[u8]) -> Result<Object, ElfFault>
+#[tactic(auto, unfolding(crate::specs::Faults::tested, crate::specs::ObjectReading::wrong_object))]
+fn section_tested(alloc: Global, bytes: &[u8]) -> Result<Object, ElfFault>
     requires whole { IsWhole bytes.now }
     requires limit { length bytes.now ≤ LIMIT }
-    ensures { Gives (λ o. o) result (middle_tests bytes.now) }
+    ensures { Gives (λ o. o) result (tested (wrong_object bytes.now) section_causes (object_at bytes.now)) }
 {
     test(ElfCause::SectionForm, object_form(bytes))?;
     test(ElfCause::Compressed, compressed(bytes))?;
@@ -161,32 +161,26 @@ fn middle_tested(alloc: Global, bytes: &[u8]) -> Result<Object, ElfFault>
     late_tested(alloc, bytes)
 }
 
-#[tactic(auto, unfolding(crate::specs::ObjectReading::early_tests))]
-fn early_tested(alloc: Global, bytes: &[u8]) -> Result<Object, ElfFault>
+#[tactic(auto, unfolding(crate::specs::Faults::tested, crate::specs::ObjectReading::wrong_object))]
+fn header_tested(alloc: Global, bytes: &[u8]) -> Result<Object, ElfFault>
     requires { IsWhole bytes.now }
-    ensures { Gives (λ o. o) result (early_tests bytes.now) }
+    ensures { Gives (λ o. o) result (and_then (identified 1 bytes.now) (tested (wrong_object bytes.now) (Sizes ∷ section_causes) (object_at bytes.now))) }
 {
-    test(ElfCause::Magic, magic(bytes))?;
-    test(ElfCause::Class, class(bytes))?;
-    test(ElfCause::Encoding, encoding(bytes))?;
-    test(ElfCause::Version, version(bytes))?;
-    test(ElfCause::FileType, file_type(bytes, 1))?;
-    test(ElfCause::Machine, machine(bytes))?;
+    identified(bytes, 1)?;
     test(ElfCause::Sizes, object_sizes(bytes))?;
-    middle_tested(alloc, bytes)
+    section_tested(alloc, bytes)
 }
 
-#[tactic(auto, unfolding(crate::specs::ObjectReading::object_in))]
 fn object(alloc: Global, bytes: &[u8]) -> Result<Object, ElfFault>
     ensures { Gives (λ o. o) result (object_in bytes.now) }
 {
-    if let Some(at) = cut(bytes) {
-        return Err(ElfFault::At {
+    match cut(bytes) {
+        Some(at) => Err(ElfFault::At {
             at,
             cause: ElfCause::Truncated,
-        });
+        }),
+        None => header_tested(alloc, bytes),
     }
-    early_tested(alloc, bytes)
 }
 
 /// The object that a file is, or the first of its faults.
@@ -196,7 +190,7 @@ pub fn read_object(alloc: Global, bytes: &[u8]) -> Result<Object, ElfFault>
     // Where the file holds an object, it is read, unless memory runs out.
     ensures only { (object : ObjectParts) → ObjectAs bytes.now object → Gives (λ o. o) result (Ok object) }
     // A fault is the first cause that holds, at its place.
-    ensures first { (at : ℕ) (cause : ElfCause) → result ≡ Err (ElfFault.At at cause) → IsFirstOf (wrong_object bytes.now) all_causes (record { at = at; cause = cause }) }
+    ensures first { (at : ℕ) (cause : ElfCause) → result ≡ Err (ElfFault.At at cause) → IsFirstOf (wrong_object bytes.now) causes (record { at = at; cause = cause }) }
     // The same by the causes' conditions: at the cause's place its own holds, and at no place does one of a cause before it.
     ensures refused { (at : ℕ) (cause : ElfCause) → result ≡ Err (ElfFault.At at cause) → IsRefusedObject bytes.now at cause }
     ensures refused_only { (at : ℕ) (cause : ElfCause) → IsRefusedObject bytes.now at cause → Gives (λ o. o) result (no_object at cause) }

@@ -3,7 +3,7 @@
 ghost use Rattle.std.specs.Prelude.{◌≡◌, ℕ, List, [], ◌∷◌, ◌<◌, ◌≤◌, ◌+◌, ◌*◌, ◌^◌, ◌++◌, Bool, true, false, length, count_by, map, replicate, All, Ok, OnOk, IfOk};
 ghost use Rattle.std.specs.List.{flat_map};
 ghost use Rattle.elf_form.specs.Output.{halves, longs, pad};
-ghost use Rattle.elf_form.specs.StringTable.{name_place, IsTable, HasPlaces};
+ghost use Rattle.elf_form.specs.StringTable.{name_place, IsStringTable, HasPlaces};
 ghost use Rattle.elf_form.specs.ObjectLayout.{next, layout as layout_of, names_of, strings_of, is_of, place_number, symbol_bytes, symbol_table, first_global, reloc_bytes, reloc_table, object_header, object_parts, object_tables, part_sections, table_sections, object_names, object_bytes, IsWritableObject, IsWholeObject, HasValues, AreLengths};
 ghost use Rattle.elf_form.specs.ObjectReading.{object_in};
 

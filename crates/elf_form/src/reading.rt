@@ -1,44 +1,31 @@
 //! Reading an image.
 
-ghost use Rattle.std.specs.Prelude.{◌≡◌, ℕ, ◌≤◌, ◌<◌, ◌+◌, ◌^◌, List, length, IfNone, IfSome, IfOk};
-ghost use Rattle.elf_form.specs.Faults.{test, Gives, IsFirstOf};
-ghost use Rattle.elf_form.specs.Header.{IsWhole};
+ghost use Rattle.std.specs.Prelude.{◌≡◌, ℕ, ◌≤◌, ◌<◌, ◌+◌, ◌^◌, ◌∷◌, List, length, IfNone, IfSome, IfOk};
+ghost use Rattle.elf_form.specs.Faults.{tested, causes, section_causes, Gives, IsFirstOf, and_then};
+ghost use Rattle.elf_form.specs.Header.{IsWhole, identified};
 ghost use Rattle.elf_form.specs.Segments.{memory_sizes, loads};
 ghost use Rattle.elf_form.specs.ImageParts.{ImageParts};
 ghost use Rattle.elf_form.specs.declared.cause.ElfCause.{ElfCause};
-ghost use Rattle.elf_form.specs.Accepted.{ImageAs, wrong, causes};
-ghost use Rattle.elf_form.specs.Reading.{section_form, section_tests, header_tests, tests, image_in, parts_at, ArePlaces};
+ghost use Rattle.elf_form.specs.declared.cause.ElfCause.TheVariants.{Sizes};
+ghost use Rattle.elf_form.specs.Accepted.{ImageAs};
+ghost use Rattle.elf_form.specs.Reading.{wrong_image, image_at, image_in, parts_by, ArePlaces};
 ghost use Rattle.elf_form.specs.Reasons.{IsRefusedImage, no_image};
 
 use crate::cause::{ElfCause, ElfFault};
-use crate::header::{class, cut, encoding, file_type, lower, machine, magic, version};
+use crate::header::{cut, identified, lower, test};
 use crate::image::Image;
 use crate::sections::{compressed, contents, nameless, one_of, sites_sections};
 use crate::segments::{LIMIT, loads, order, sizes};
 use guest_ram::word;
 use std::alloc::Global;
 
-/// Passes where there is no place.
-pub fn test(cause: ElfCause, place: Option<usize>) -> Result<(), ElfFault>
-    requires { IfSome place (λ at. at < 2 ^ 32) }
-    ensures { Gives (λ _. tt) result (test cause place) }
-{
-    match place {
-        None => Ok(()),
-        Some(at) => Err(ElfFault::At {
-            at: at as u32,
-            cause,
-        }),
-    }
-}
-
 /// The tests of program headers and sections in their order.
-#[tactic(auto, unfolding(crate::specs::Reading::section_tests, crate::specs::Reading::section_form))]
+#[tactic(auto, unfolding(crate::specs::Faults::tested, crate::specs::Reading::wrong_image, crate::specs::Reading::section_form))]
 fn section_tested(bytes: &[u8]) -> Result<(usize, usize, usize), ElfFault>
     requires whole { IsWhole bytes.now }
     requires limit { length bytes.now ≤ LIMIT }
     requires memory { memory_sizes bytes.now (loads bytes.now) ≡ None }
-    ensures exact { Gives (λ at. at) result (section_tests bytes.now) }
+    ensures exact { Gives (parts_by bytes.now) result (tested (wrong_image bytes.now) section_causes (image_at bytes.now)) }
     ensures places { IfOk result (ArePlaces bytes.now) }
 {
     let headers = loads(bytes);
@@ -53,38 +40,32 @@ fn section_tested(bytes: &[u8]) -> Result<(usize, usize, usize), ElfFault>
 }
 
 /// The tests of the header in their order, and those behind them.
-#[tactic(auto, unfolding(crate::specs::Reading::header_tests))]
+#[tactic(auto, unfolding(crate::specs::Faults::tested, crate::specs::Reading::wrong_image))]
 fn header_tested(bytes: &[u8]) -> Result<(usize, usize, usize), ElfFault>
     requires { IsWhole bytes.now }
-    ensures exact { Gives (λ at. at) result (header_tests bytes.now) }
+    ensures exact { Gives (parts_by bytes.now) result (and_then (identified 2 bytes.now) (tested (wrong_image bytes.now) (Sizes ∷ section_causes) (image_at bytes.now))) }
     ensures places { IfOk result (ArePlaces bytes.now) }
 {
-    test(ElfCause::Magic, magic(bytes))?;
-    test(ElfCause::Class, class(bytes))?;
-    test(ElfCause::Encoding, encoding(bytes))?;
-    test(ElfCause::Version, version(bytes))?;
-    test(ElfCause::FileType, file_type(bytes, 2))?;
-    test(ElfCause::Machine, machine(bytes))?;
+    identified(bytes, 2)?;
     test(ElfCause::Sizes, sizes(bytes))?;
     section_tested(bytes)
 }
 
 /// All tests in their order.
-#[tactic(auto, unfolding(crate::specs::Reading::tests))]
 fn tested(bytes: &[u8]) -> Result<(usize, usize, usize), ElfFault>
-    ensures exact { Gives (λ at. at) result (tests bytes.now) }
+    ensures exact { Gives (parts_by bytes.now) result (image_in bytes.now) }
     ensures places { IfOk result (ArePlaces bytes.now) }
 {
-    if let Some(at) = cut(bytes) {
-        return Err(ElfFault::At {
+    match cut(bytes) {
+        Some(at) => Err(ElfFault::At {
             at,
             cause: ElfCause::Truncated,
-        });
+        }),
+        None => header_tested(bytes),
     }
-    header_tested(bytes)
 }
 
-#[tactic(auto, unfolding(crate::specs::Reading::image_in, crate::specs::Reading::parts_at, guest_ram::specs::Bytes::part))]
+#[tactic(auto, unfolding(crate::specs::Reading::parts_at, guest_ram::specs::Bytes::part))]
 fn image(alloc: Global, bytes: &[u8]) -> Result<Image, ElfFault>
     ensures { Gives (λ image. image) result (image_in bytes.now) }
 {
@@ -111,7 +92,7 @@ pub fn read_image(alloc: Global, bytes: &[u8]) -> Result<Image, ElfFault>
     // Where the file holds an image, it is read, unless memory runs out.
     ensures only { (image : ImageParts) → ImageAs bytes.now image → Gives (λ image. image) result (Ok image) }
     // A fault is the first cause that holds, at its place.
-    ensures first { (at : ℕ) (cause : ElfCause) → result ≡ Err (ElfFault.At at cause) → IsFirstOf (λ c. wrong c bytes.now) causes (record { at = at; cause = cause }) }
+    ensures first { (at : ℕ) (cause : ElfCause) → result ≡ Err (ElfFault.At at cause) → IsFirstOf (wrong_image bytes.now) causes (record { at = at; cause = cause }) }
     // The same by the causes' conditions: at the cause's place its own holds, and at no place does one of a cause before it.
     ensures refused { (at : ℕ) (cause : ElfCause) → result ≡ Err (ElfFault.At at cause) → IsRefusedImage bytes.now at cause }
     ensures refused_only { (at : ℕ) (cause : ElfCause) → IsRefusedImage bytes.now at cause → Gives (λ image. image) result (no_image at cause) }

@@ -1,7 +1,7 @@
 //! String tables: names, each ended by a zero byte.
 
 ghost use Rattle.std.specs.Prelude.{◌≡◌, ℕ, ◌+◌, ◌<◌, ◌^◌, List, length, OnOk, IfOk};
-ghost use Rattle.elf_form.specs.StringTable.{with_name, IsTable};
+ghost use Rattle.elf_form.specs.StringTable.{with_name, IsStringTable};
 ghost use Rattle.elf_form.specs.ObjectLayout.{names_of, strings_of};
 
 use crate::object::{Symbol, bytes_of};
@@ -18,7 +18,7 @@ pub fn put_name<'a>(
     name: &'a [u8],
 ) -> Result<(), AllocError>
     requires { length strings.old.items < 2 ^ 32 }
-    ensures { OnOk result ((names : List (List ℕ)) → IsTable names strings.old.items places.old → IsTable (with_name names name.now) strings.new.items places.new) }
+    ensures { OnOk result ((names : List (List ℕ)) → IsStringTable names strings.old.items places.old → IsStringTable (with_name names name.now) strings.new.items places.new) }
 {
     if places.contains_key(name) {
         return Ok(());
@@ -36,7 +36,7 @@ pub fn strings<'a>(
     symbols: &'a [Symbol],
 ) -> Result<(Vec<u8>, Places<'a>), AllocError>
     requires { length (strings_of symbols.now) < 2 ^ 32 }
-    ensures { IfOk result (λ r. IsTable (names_of symbols.now) r.0.items r.1) }
+    ensures { IfOk result (λ r. IsStringTable (names_of symbols.now) r.0.items r.1) }
 {
     let mut strings = Vec::new(alloc);
     let mut places = HashMap::new(alloc);

@@ -4,38 +4,39 @@ use Rattle.std.proofs.lemmas.List.{at_drop_more, at_drop_all, get_or_default}
 use Rattle.guest_ram.specs.Places.{◌or_else◌}
 use Rattle.elf_link.specs.declared.fault.LinkFault.{LinkFault}
 use Rattle.elf_link.specs.declared.fault.LinkFault.TheVariants as faults
-use Rattle.elf_link.specs.Refusals.{Refused, first}
+use Rattle.elf_form.specs.Tables.{first_some}
+use Rattle.elf_link.specs.Refusals.{Refused}
 use Rattle.elf_link.specs.Steps.{tested}
 use Rattle.elf_link.specs.Answers.{Fails}
 
 module _ {X Y : Type 0} (f : X → Option Y) (xs : List X) (i : ℕ) where
   -- Nothing was found before i.
   abbrev pub Passed : Type 0
-  Passed = first f (drop i xs) ≡ first f xs
+  Passed = first_some f (drop i xs) ≡ first_some f xs
 
-  first_at : (x : X) → i < length xs → get_or xs i x ≡ x → first f (drop i xs) ≡ (f x or_else first f (drop (i + 1) xs))
-  unfolding first
-  first_at x lt e = at_drop_more (first f) xs i x lt ∙ ap (λ (y : X). f y or_else first f (drop (i + 1) xs)) e
+  first_at : (x : X) → i < length xs → get_or xs i x ≡ x → first_some f (drop i xs) ≡ (f x or_else first_some f (drop (i + 1) xs))
+  unfolding first_some
+  first_at x lt e = at_drop_more (first_some f) xs i x lt ∙ ap (λ (y : X). f y or_else first_some f (drop (i + 1) xs)) e
 
-  pub first_here : (x : X) (y : Option Y) → i < length xs → get_or xs i x ≡ x → Passed → f x ≡ y → is_some y ≡ true → first f xs ≡ y
-  first_here x (Some y) lt e passed found some = sym passed ∙ (first_at x lt e ∙ ap (λ (o : Option Y). o or_else first f (drop (i + 1) xs)) found)
+  pub first_here : (x : X) (y : Option Y) → i < length xs → get_or xs i x ≡ x → Passed → f x ≡ y → is_some y ≡ true → first_some f xs ≡ y
+  first_here x (Some y) lt e passed found some = sym passed ∙ (first_at x lt e ∙ ap (λ (o : Option Y). o or_else first_some f (drop (i + 1) xs)) found)
   first_here x None lt e passed found some = absurd (cc)
 
-  pub first_next : (x : X) → i < length xs → get_or xs i x ≡ x → Passed → f x ≡ None → first f (drop (i + 1) xs) ≡ first f xs
-  first_next x lt e passed none = ap (λ (o : Option Y). o or_else first f (drop (i + 1) xs)) (sym none) ∙ (sym (first_at x lt e) ∙ passed)
+  pub first_next : (x : X) → i < length xs → get_or xs i x ≡ x → Passed → f x ≡ None → first_some f (drop (i + 1) xs) ≡ first_some f xs
+  first_next x lt e passed none = ap (λ (o : Option Y). o or_else first_some f (drop (i + 1) xs)) (sym none) ∙ (sym (first_at x lt e) ∙ passed)
 
-  pub first_end : length xs ≤ i → Passed → first f xs ≡ None
-  unfolding first
-  first_end le passed = sym passed ∙ at_drop_all (first f) xs i le
+  pub first_end : length xs ≤ i → Passed → first_some f xs ≡ None
+  unfolding first_some
+  first_end le passed = sym passed ∙ at_drop_all (first_some f) xs i le
 
 -- a refusal of one item is the refusal of the list
 module _ {X : Type 0} (f : X → Option Refused) (xs : List X) (i : ℕ) where
-  fails_by : (x : X) (o : Option Refused) (e : LinkFault) → i < length xs → get_or xs i x ≡ x → Passed f xs i → f x ≡ o → Fails e (tested o) → Fails e (tested (first f xs))
+  fails_by : (x : X) (o : Option Refused) (e : LinkFault) → i < length xs → get_or xs i x ≡ x → Passed f xs i → f x ≡ o → Fails e (tested o) → Fails e (tested (first_some f xs))
   fails_by x o faults.Memory lt is passed found h = tt
   fails_by x None (faults.At object cause) lt is passed found h = absurd (cc)
   fails_by x (Some r) (faults.At object cause) lt is passed found h = ap tested (first_here f xs i x (Some r) lt is passed found refl) ∙ h
 
-  pub fails_here : (x : X) (e : LinkFault) → i < length xs → get_or xs i x ≡ x → Passed f xs i → Fails e (tested (f x)) → Fails e (tested (first f xs))
+  pub fails_here : (x : X) (e : LinkFault) → i < length xs → get_or xs i x ≡ x → Passed f xs i → Fails e (tested (f x)) → Fails e (tested (first_some f xs))
   fails_here x e lt is passed h = fails_by x (f x) e lt is passed refl h
 
 none_from : (o : Option Refused) → tested o ≡ Ok tt → o ≡ None

@@ -22,9 +22,11 @@ use Rattle.elf_link.specs.declared.fault.LinkFault.{LinkFault}
 use Rattle.elf_link.specs.Layout.{text_room, init_room, bss_room, text_end, memory_end, numbered, text_at}
 use Rattle.elf_link.specs.Symbols.{exports, definitions, globals}
 use Rattle.elf_link.specs.Sites.{sites_of, misplaced, crowded, sites_wrong, moved, moved_sites, first_sites, linked_sites}
-use Rattle.elf_link.specs.Refusals.{first, refused, doubled, doubled_cause, object_cause, object_refusal}
-use Rattle.elf_link.specs.Steps.{IsWithin, AreBelow, totals, with_object, size_cause, is_crowded, sites_bad, step_cause, tested}
+use Rattle.elf_form.specs.Tables.{first_some}
+use Rattle.elf_link.specs.Refusals.{refused, doubled, doubled_cause, object_cause, object_refusal}
+use Rattle.elf_link.specs.Steps.{IsWithin, AreBelow, totals, with_object, size_cause, is_crowded, sites_wrong_by, step_cause, tested}
 use Rattle.elf_link.specs.Answers.{Fails}
+use Rattle.elf_form.proofs.FormLaws.{then_none, else_none}
 use Rattle.elf_link.proofs.FirstLaws.{Passed, first_next, first_end, fails_here}
 use Rattle.elf_link.proofs.LayoutLaws.{sum-more, text_end-more, text_end-le, memory_limit}
 use Rattle.elf_link.proofs.BaseLaws.{numbered_at, length-numbered, take-numbered}
@@ -39,13 +41,8 @@ or_assoc (Some x) b c d = refl
 or_assoc None (Some y) c d = refl
 or_assoc None None c d = refl
 
-when_not : (b : Bool) (cause : LinkCause) (later : Option LinkCause) → (then_some b cause or_else later) ≡ None → b ≡ false
-when_not true cause later h = absurd (cc)
-when_not false cause later h = refl
-
-when_later : (b : Bool) (cause : LinkCause) (later : Option LinkCause) → (then_some b cause or_else later) ≡ None → later ≡ None
-when_later true cause later h = absurd (cc)
-when_later false cause later h = h
+passed : (b : Bool) (cause : LinkCause) (later : Option LinkCause) → (then_some b cause or_else later) ≡ None → (b ≡ false) × (later ≡ None)
+passed b cause later h = let both = else_none (then_some b cause) later h in (then_none b cause both.0, both.1)
 
 or_second : (a b : Bool) → (a || b) ≡ false → b ≡ false
 or_second true b h = cc
@@ -96,8 +93,8 @@ module _ (os : List ObjectParts) (i : ℕ) (o : ObjectParts) (lt : i < length os
       let sites : first_sites os i ++ moved_sites os (i, o) ≡ first_sites os (i + 1) = sym (flat_more (moved_sites os)) in
       λ j. nat_lt SHORT_TEXT (end j + 2) && not (are_gapped 0 (sites j))
 
-  sites_same : sites_bad (totals (take i os)) (first_sites os i) o ≡ sites_wrong os (i, o)
-  unfolding totals sites_bad sites_wrong
+  sites_same : sites_wrong_by (totals (take i os)) (first_sites os i) o ≡ sites_wrong os (i, o)
+  unfolding totals sites_wrong_by sites_wrong
   sites_same =
       ap (λ (n : ℕ). misplaced (length o.text) (sites_in o.sites) || nat_lt SITE_LIMIT n || is_crowded (totals (take i os)) (first_sites os i) (length o.text) (sites_of o)) (sym (sum-more (λ p. length (sites_of p)) os i o lt is))
       ∙ ap (λ (b : Bool). misplaced (length o.text) (sites_in o.sites) || nat_lt SITE_LIMIT (sum_by (λ p. length (sites_of p)) (take (i + 1) os)) || b) crowded_same
@@ -105,7 +102,7 @@ module _ (os : List ObjectParts) (i : ℕ) (o : ObjectParts) (lt : i < length os
   pub cause_is : step_cause (totals (take i os)) (first_sites os i) (definitions (take i (numbered os))) (i, o) ≡ object_cause os (i, o)
   unfolding step_cause size_cause object_cause
   cause_is =
-      or_assoc (then_some (nat_lt TEXT_LIMIT ((totals (take i os)).text + length o.text + 2)) TextTooLarge) (then_some (nat_lt 33554432 ((totals (take i os)).memory + init_room o + bss_room o)) InitTooLarge) (then_some (nat_lt 65536 ((totals (take i os)).symbols + length o.symbols)) TooManySymbols) (then_some (sites_bad (totals (take i os)) (first_sites os i) o) SitesForm or_else doubled_cause (doubled os (i, o)))
+      or_assoc (then_some (nat_lt TEXT_LIMIT ((totals (take i os)).text + length o.text + 2)) TextTooLarge) (then_some (nat_lt 33554432 ((totals (take i os)).memory + init_room o + bss_room o)) InitTooLarge) (then_some (nat_lt 65536 ((totals (take i os)).symbols + length o.symbols)) TooManySymbols) (then_some (sites_wrong_by (totals (take i os)) (first_sites os i) o) SitesForm or_else doubled_cause (doubled os (i, o)))
       ∙ (λ j. chain (text_same j) (memory_same j) (symbols_same j) (sites_same j) (doubled_cause (doubled os (i, o))))
 
 -- what is known after i objects
@@ -141,7 +138,7 @@ module _ (os : List ObjectParts) (i : ℕ) (o : ObjectParts) (t : Totals) (gs : 
       ∙ (ap (λ (ss : List Site). step_cause (totals (take i os)) ss gs (i, o)) now.moved
       ∙ (ap (λ (g : List (List ℕ × Target)). step_cause (totals (take i os)) (first_sites os i) g (i, o)) now.names ∙ cause_is os i o lt is))
 
-  pub gathering_fails : (e : LinkFault) → Fails e (tested (refused i (step_cause t sites gs (i, o)))) → Fails e (tested (first (object_refusal os) (numbered os)))
+  pub gathering_fails : (e : LinkFault) → Fails e (tested (refused i (step_cause t sites gs (i, o)))) → Fails e (tested (first_some (object_refusal os) (numbered os)))
   gathering_fails e h =
       fails_here (object_refusal os) (numbered os) i (i, o) e (subst (λ (n : ℕ). i < n) (sym (length-numbered os)) lt) (numbered_at os i o lt is) now.none_before
       (subst (λ (c : Option LinkCause). Fails e (tested (refused i c))) cause_now h)
@@ -161,16 +158,16 @@ module _ (os : List ObjectParts) (i : ℕ) (o : ObjectParts) (t : Totals) (gs : 
 
   fits_is : object_cause os (i, o) ≡ None → text_end (take (i + 1) os) + 2 ≤ TEXT_LIMIT
   unfolding object_cause
-  fits_is none = ltb-false TEXT_LIMIT (text_end (take (i + 1) os) + 2) (when_not (nat_lt TEXT_LIMIT (text_end (take (i + 1) os) + 2)) TextTooLarge _ none)
+  fits_is none = ltb-false TEXT_LIMIT (text_end (take (i + 1) os) + 2) (passed (nat_lt TEXT_LIMIT (text_end (take (i + 1) os) + 2)) TextTooLarge _ none).0
 
   sites_right : object_cause os (i, o) ≡ None → sites_wrong os (i, o) ≡ false
   unfolding object_cause
   sites_right none =
       let os' = take (i + 1) os in
-      let a = when_later (nat_lt TEXT_LIMIT (text_end os' + 2)) TextTooLarge _ none in
-      let b = when_later (nat_lt 33554432 (memory_end os')) InitTooLarge _ a in
-      let c = when_later (nat_lt 65536 (sum_by (λ p. length p.symbols) os')) TooManySymbols _ b in
-      when_not (sites_wrong os (i, o)) SitesForm _ c
+      let a = passed (nat_lt TEXT_LIMIT (text_end os' + 2)) TextTooLarge _ none in
+      let b = passed (nat_lt 33554432 (memory_end os')) InitTooLarge _ a.1 in
+      let c = passed (nat_lt 65536 (sum_by (λ p. length p.symbols) os')) TooManySymbols _ b.1 in
+      (passed (sites_wrong os (i, o)) SitesForm _ c.1).0
 
   gaps_are : object_cause os (i, o) ≡ None → SHORT_TEXT < text_end (take (i + 1) os) + 2 → AreGapped 0 (first_sites os (i + 1))
   unfolding sites_wrong
@@ -206,7 +203,7 @@ module _ (os : List ObjectParts) (i : ℕ) (o : ObjectParts) (t : Totals) (gs : 
 
 -- what is known of all objects
 pub record Gathers (os : List ObjectParts) (t : Totals) (gs : List (List ℕ × Target)) (sites : List Site) : Type 0 where
-  pub exact : tested (first (object_refusal os) (numbered os)) ≡ Ok tt
+  pub exact : tested (first_some (object_refusal os) (numbered os)) ≡ Ok tt
   pub within : IsWithin (totals os)
   pub names : gs ≡ globals os
   pub moved : sites ≡ linked_sites os

@@ -21,42 +21,43 @@ use Rattle.elf_link.specs.Symbols.{globals}
 use Rattle.elf_form.specs.Linkable.{IsLinkable}
 use Rattle.elf_link.specs.Relocations.{contents_of, with_fields}
 use Rattle.elf_link.specs.Sites.{linked_sites}
-use Rattle.elf_link.specs.Refusals.{Refused, first, refusal, object_refusal, relocs_refusal, start_refusal, start}
-use Rattle.elf_link.specs.Linked.{padded, texts, inits, linked_text, linked_init, image, unless, linked_image, entry_at}
-use Rattle.elf_link.specs.Steps.{tested, tested_with, entered}
+use Rattle.elf_form.specs.Tables.{first_some}
+use Rattle.elf_link.specs.Refusals.{Refused, refusal, object_refusal, relocs_refusal, start_refusal, start, unless}
+use Rattle.elf_link.specs.Linked.{padded, texts, inits, linked_text, linked_init, image, linked_image, entry_at}
+use Rattle.elf_link.specs.Steps.{tested, entered}
 use Rattle.elf_link.specs.Answers.{Fails}
 use Rattle.elf_link.proofs.FirstLaws.{none_from_tested}
 use Rattle.elf_link.proofs.RelocLaws.{length-with_fields}
 use Rattle.elf_link.proofs.LayoutLaws.{text_end-le, extent-within}
 
 module _ (os : List ObjectParts) where
-  first_fails : (w : Refused) (o : Option Refused) → first (object_refusal os) (numbered os) ≡ o → tested o ≡ Err w → linked_image os ≡ Err w
+  first_fails : (w : Refused) (o : Option Refused) → first_some (object_refusal os) (numbered os) ≡ o → tested o ≡ Err w → linked_image os ≡ Err w
   unfolding linked_image refusal
   first_fails w None p h = absurd (cc)
-  first_fails w (Some r) p h = ap (λ (o : Option Refused). unless (o or_else (first (relocs_refusal os) (numbered os) or_else start_refusal (start os))) (image os)) p ∙ cc
+  first_fails w (Some r) p h = ap (λ (o : Option Refused). unless (o or_else (first_some (relocs_refusal os) (numbered os) or_else start_refusal (start os))) (image os)) p ∙ cc
 
-  pub objects_fail : (e : LinkFault) → Fails e (tested (first (object_refusal os) (numbered os))) → Fails e (linked_image os)
+  pub objects_fail : (e : LinkFault) → Fails e (tested (first_some (object_refusal os) (numbered os))) → Fails e (linked_image os)
   objects_fail faults.Memory h = tt
-  objects_fail (faults.At object cause) h = first_fails (record { object = object; cause = cause }) (first (object_refusal os) (numbered os)) refl h
+  objects_fail (faults.At object cause) h = first_fails (record { object = object; cause = cause }) (first_some (object_refusal os) (numbered os)) refl h
 
-  module _ (passed : tested (first (object_refusal os) (numbered os)) ≡ Ok tt) where
-    second : linked_image os ≡ unless (first (relocs_refusal os) (numbered os) or_else start_refusal (start os)) (image os)
+  module _ (passed : tested (first_some (object_refusal os) (numbered os)) ≡ Ok tt) where
+    second : linked_image os ≡ unless (first_some (relocs_refusal os) (numbered os) or_else start_refusal (start os)) (image os)
     unfolding linked_image refusal
-    second = ap (λ (o : Option Refused). unless (o or_else (first (relocs_refusal os) (numbered os) or_else start_refusal (start os))) (image os)) (none_from_tested _ passed)
+    second = ap (λ (o : Option Refused). unless (o or_else (first_some (relocs_refusal os) (numbered os) or_else start_refusal (start os))) (image os)) (none_from_tested _ passed)
 
-    second_fails : (w : Refused) (o : Option Refused) → first (relocs_refusal os) (numbered os) ≡ o → tested o ≡ Err w → linked_image os ≡ Err w
+    second_fails : (w : Refused) (o : Option Refused) → first_some (relocs_refusal os) (numbered os) ≡ o → tested o ≡ Err w → linked_image os ≡ Err w
     second_fails w None p h = absurd (cc)
     second_fails w (Some r) p h = second ∙ (ap (λ (o : Option Refused). unless (o or_else start_refusal (start os)) (image os)) p ∙ cc)
 
-    pub relocs_fail_all : (e : LinkFault) → Fails e (tested (first (relocs_refusal os) (numbered os))) → Fails e (linked_image os)
+    pub relocs_fail_all : (e : LinkFault) → Fails e (tested (first_some (relocs_refusal os) (numbered os))) → Fails e (linked_image os)
     relocs_fail_all faults.Memory h = tt
-    relocs_fail_all (faults.At object cause) h = second_fails (record { object = object; cause = cause }) (first (relocs_refusal os) (numbered os)) refl h
+    relocs_fail_all (faults.At object cause) h = second_fails (record { object = object; cause = cause }) (first_some (relocs_refusal os) (numbered os)) refl h
 
-    module _ (named : tested (first (relocs_refusal os) (numbered os)) ≡ Ok tt) where
+    module _ (named : tested (first_some (relocs_refusal os) (numbered os)) ≡ Ok tt) where
       third : linked_image os ≡ unless (start_refusal (start os)) (image os)
       third = second ∙ ap (λ (o : Option Refused). unless (o or_else start_refusal (start os)) (image os)) (none_from_tested _ named)
 
-      third_fails : (w : Refused) (o : Option Refused) → start_refusal (start os) ≡ o → tested_with o (entry_at (bases os) (start os)) ≡ Err w → linked_image os ≡ Err w
+      third_fails : (w : Refused) (o : Option Refused) → start_refusal (start os) ≡ o → unless o (entry_at (bases os) (start os)) ≡ Err w → linked_image os ≡ Err w
       third_fails w None p h = absurd (cc)
       third_fails w (Some r) p h = third ∙ (ap (λ (o : Option Refused). unless o (image os)) p ∙ cc)
 
@@ -65,7 +66,7 @@ module _ (os : List ObjectParts) where
       start_fails faults.Memory h = tt
       start_fails (faults.At object cause) h = third_fails (record { object = object; cause = cause }) (start_refusal (start os)) refl h
 
-      linked_by : (n : ℕ) (o : Option Refused) → start_refusal (start os) ≡ o → tested_with o (entry_at (bases os) (start os)) ≡ Ok n → (linked_image os ≡ Ok (image os)) × (n ≡ entry_at (bases os) (start os))
+      linked_by : (n : ℕ) (o : Option Refused) → start_refusal (start os) ≡ o → unless o (entry_at (bases os) (start os)) ≡ Ok n → (linked_image os ≡ Ok (image os)) × (n ≡ entry_at (bases os) (start os))
       linked_by n None p h = (third ∙ ap (λ (o : Option Refused). unless o (image os)) p, cc)
       linked_by n (Some r) p h = absurd (cc)
 

@@ -16,7 +16,8 @@ use Rattle.elf_link.specs.declared.target.Target.{Target}
 use Rattle.elf_link.specs.Layout.{text_end, memory_end, numbered}
 use Rattle.elf_link.specs.Symbols.{is_text}
 use Rattle.elf_link.specs.Sites.{sites_of, sites_wrong, misplaced, crowded}
-use Rattle.elf_link.specs.Refusals.{Refused, first, refused, object_cause, object_refusal, relocs_refusal, start, start_refusal, refusal, doubled, doubled_cause}
+use Rattle.elf_form.specs.Tables.{first_some}
+use Rattle.elf_link.specs.Refusals.{Refused, refused, object_cause, object_refusal, relocs_refusal, start, start_refusal, refusal, doubled, doubled_cause}
 use Rattle.elf_link.specs.Order.{IsFirstRefused, IsFirstCause, up_to, symbol_count, TextFits, MemoryFits, SymbolsFit, AreInText}
 
 -- the same from a number on
@@ -41,11 +42,11 @@ module _ (test : ℕ × ObjectParts → Option LinkCause) where
       at_zero test n o None (ap (λ (p : ObjectParts). test (n, p)) (sym same) ∙ none)
   before_next n x xs r rest none (suc j) o lt at = at_next test n j o None (rest.before j o (omega arith) at)
 
-  first_from : (n : ℕ) (os : List ObjectParts) (r : Refused) → first (λ p. refused p.0 (test p)) (enumerate_from n os) ≡ Some r → IsFrom test n os r
-  unfolding first
+  first_from : (n : ℕ) (os : List ObjectParts) (r : Refused) → first_some (λ p. refused p.0 (test p)) (enumerate_from n os) ≡ Some r → IsFrom test n os r
+  unfolding first_some
   first_from n [] r h = absurd (cc)
   first_from n (x ∷ xs) r h = by (first_from (n + 1) xs r) (test (n, x)) refl h where
-    by : (first (λ p. refused p.0 (test p)) (enumerate_from (n + 1) xs) ≡ Some r → IsFrom test (n + 1) xs r) → (c : Option LinkCause) → test (n, x) ≡ c → (refused n c or_else first (λ p. refused p.0 (test p)) (enumerate_from (n + 1) xs)) ≡ Some r → IsFrom test n (x ∷ xs) r
+    by : (first_some (λ p. refused p.0 (test p)) (enumerate_from (n + 1) xs) ≡ Some r → IsFrom test (n + 1) xs r) → (c : Option LinkCause) → test (n, x) ≡ c → (refused n c or_else first_some (λ p. refused p.0 (test p)) (enumerate_from (n + 1) xs)) ≡ Some r → IsFrom test n (x ∷ xs) r
     by ih (Some c) e h =
         let same : record { object = n; cause = c } ≡ r = cc in
         record {
@@ -67,11 +68,11 @@ module _ (test : ℕ × ObjectParts → Option LinkCause) where
           before = before_next n x xs r rest e;
         }
 
-  none_from : (n : ℕ) (os : List ObjectParts) → first (λ p. refused p.0 (test p)) (enumerate_from n os) ≡ None → (i : ℕ) (o : ObjectParts) → slice_get os i ≡ Some o → test (n + i, o) ≡ None
-  unfolding first
+  none_from : (n : ℕ) (os : List ObjectParts) → first_some (λ p. refused p.0 (test p)) (enumerate_from n os) ≡ None → (i : ℕ) (o : ObjectParts) → slice_get os i ≡ Some o → test (n + i, o) ≡ None
+  unfolding first_some
   none_from n [] h i o at = absurd (cc)
   none_from n (x ∷ xs) h i o at = by (none_from (n + 1) xs) (test (n, x)) refl h i at where
-    by : (first (λ p. refused p.0 (test p)) (enumerate_from (n + 1) xs) ≡ None → (i : ℕ) (o : ObjectParts) → slice_get xs i ≡ Some o → test (n + 1 + i, o) ≡ None) → (c : Option LinkCause) → test (n, x) ≡ c → (refused n c or_else first (λ p. refused p.0 (test p)) (enumerate_from (n + 1) xs)) ≡ None → (i : ℕ) → slice_get (x ∷ xs) i ≡ Some o → test (n + i, o) ≡ None
+    by : (first_some (λ p. refused p.0 (test p)) (enumerate_from (n + 1) xs) ≡ None → (i : ℕ) (o : ObjectParts) → slice_get xs i ≡ Some o → test (n + 1 + i, o) ≡ None) → (c : Option LinkCause) → test (n, x) ≡ c → (refused n c or_else first_some (λ p. refused p.0 (test p)) (enumerate_from (n + 1) xs)) ≡ None → (i : ℕ) → slice_get (x ∷ xs) i ≡ Some o → test (n + i, o) ≡ None
     by ih (Some c) e h i at = absurd (cc)
     by ih None e h zero at =
         let same : x ≡ o = cc in
@@ -89,10 +90,10 @@ module _ (test : ℕ × ObjectParts → Option LinkCause) where
         before = λ j o lt at. ap (λ (k : ℕ). test (k, o)) (sym (plus j)) ∙ is.before j o (omega (arith, number)) at;
       }
 
-  pub first_refused : (os : List ObjectParts) (r : Refused) → first (λ p. refused p.0 (test p)) (numbered os) ≡ Some r → IsFirstRefused test os r
+  pub first_refused : (os : List ObjectParts) (r : Refused) → first_some (λ p. refused p.0 (test p)) (numbered os) ≡ Some r → IsFirstRefused test os r
   first_refused os r h = from_zero os r (first_from 0 os r h)
 
-  pub none_refused : (os : List ObjectParts) → first (λ p. refused p.0 (test p)) (numbered os) ≡ None → (i : ℕ) (o : ObjectParts) → slice_get os i ≡ Some o → test (i, o) ≡ None
+  pub none_refused : (os : List ObjectParts) → first_some (λ p. refused p.0 (test p)) (numbered os) ≡ None → (i : ℕ) (o : ObjectParts) → slice_get os i ≡ Some o → test (i, o) ≡ None
   none_refused os h i o at =
       let plus : 0 + i ≡ i = omega arith in
       ap (λ (k : ℕ). test (k, o)) (sym plus) ∙ none_from 0 os h i o at
@@ -100,25 +101,25 @@ module _ (test : ℕ × ObjectParts → Option LinkCause) where
 -- ---- the relocations of one object
 
 module _ (test : Reloc → Option LinkCause) where
-  pub first_cause : (rs : List Reloc) (cause : LinkCause) → first test rs ≡ Some cause → IsFirstCause test rs cause
-  unfolding first
+  pub first_cause : (rs : List Reloc) (cause : LinkCause) → first_some test rs ≡ Some cause → IsFirstCause test rs cause
+  unfolding first_some
   first_cause [] cause h = absurd (cc)
   first_cause (x ∷ xs) cause h = by (first_cause xs cause) (test x) refl h where
     at : (rest : IsFirstCause test xs cause) → test x ≡ None → (j : ℕ) (r : Reloc) → j < suc rest.index → slice_get (x ∷ xs) j ≡ Some r → test r ≡ None
     at rest none zero r lt here = let same : x ≡ r = cc in ap test (sym same) ∙ none
     at rest none (suc j) r lt here = rest.before j r (omega arith) here
 
-    by : (first test xs ≡ Some cause → IsFirstCause test xs cause) → (c : Option LinkCause) → test x ≡ c → (c or_else first test xs) ≡ Some cause → IsFirstCause test (x ∷ xs) cause
+    by : (first_some test xs ≡ Some cause → IsFirstCause test xs cause) → (c : Option LinkCause) → test x ≡ c → (c or_else first_some test xs) ≡ Some cause → IsFirstCause test (x ∷ xs) cause
     by ih (Some c) e h = record { index = 0; reloc = x; there = refl; caused = e ∙ h; before = λ j r lt here. absurd (omega arith) }
     by ih None e h =
         let rest = ih h in
         record { index = suc rest.index; reloc = rest.reloc; there = rest.there; caused = rest.caused; before = at rest e }
 
-  pub no_cause : (rs : List Reloc) → first test rs ≡ None → (k : ℕ) (r : Reloc) → slice_get rs k ≡ Some r → test r ≡ None
-  unfolding first
+  pub no_cause : (rs : List Reloc) → first_some test rs ≡ None → (k : ℕ) (r : Reloc) → slice_get rs k ≡ Some r → test r ≡ None
+  unfolding first_some
   no_cause [] h k r at = absurd (cc)
   no_cause (x ∷ xs) h k r at = by (no_cause xs) (test x) refl h k at where
-    by : (first test xs ≡ None → (k : ℕ) (r : Reloc) → slice_get xs k ≡ Some r → test r ≡ None) → (c : Option LinkCause) → test x ≡ c → (c or_else first test xs) ≡ None → (k : ℕ) → slice_get (x ∷ xs) k ≡ Some r → test r ≡ None
+    by : (first_some test xs ≡ None → (k : ℕ) (r : Reloc) → slice_get xs k ≡ Some r → test r ≡ None) → (c : Option LinkCause) → test x ≡ c → (c or_else first_some test xs) ≡ None → (k : ℕ) → slice_get (x ∷ xs) k ≡ Some r → test r ≡ None
     by ih (Some c) e h k at = absurd (cc)
     by ih None e h zero at = let same : x ≡ r = cc in ap test (sym same) ∙ e
     by ih None e h (suc k) at = ih h k r at
@@ -194,23 +195,23 @@ module _ (os : List ObjectParts) (p : ℕ × ObjectParts) where
 -- ---- the stages
 
 module _ (os : List ObjectParts) where
-  pub objects_first : (r : Refused) → first (object_refusal os) (numbered os) ≡ Some r → refusal os ≡ Some r
+  pub objects_first : (r : Refused) → first_some (object_refusal os) (numbered os) ≡ Some r → refusal os ≡ Some r
   unfolding refusal
   objects_first r h = rw h refl
 
-  pub relocs_second : (r : Refused) → first (object_refusal os) (numbered os) ≡ None → first (relocs_refusal os) (numbered os) ≡ Some r → refusal os ≡ Some r
+  pub relocs_second : (r : Refused) → first_some (object_refusal os) (numbered os) ≡ None → first_some (relocs_refusal os) (numbered os) ≡ Some r → refusal os ≡ Some r
   unfolding refusal
   relocs_second r a h = rw (a, h) refl
 
-  start_last : first (object_refusal os) (numbered os) ≡ None → first (relocs_refusal os) (numbered os) ≡ None → refusal os ≡ start_refusal (start os)
+  start_last : first_some (object_refusal os) (numbered os) ≡ None → first_some (relocs_refusal os) (numbered os) ≡ None → refusal os ≡ start_refusal (start os)
   unfolding refusal
   start_last a b = rw (a, b) refl
 
-  pub no_start : first (object_refusal os) (numbered os) ≡ None → first (relocs_refusal os) (numbered os) ≡ None → start os ≡ None → refusal os ≡ None
+  pub no_start : first_some (object_refusal os) (numbered os) ≡ None → first_some (relocs_refusal os) (numbered os) ≡ None → start os ≡ None → refusal os ≡ None
   no_start a b h = start_last a b ∙ ap start_refusal h
 
-  pub start_in_text : (t : Target) → first (object_refusal os) (numbered os) ≡ None → first (relocs_refusal os) (numbered os) ≡ None → start os ≡ Some t → is_text t.place ≡ true → refusal os ≡ None
+  pub start_in_text : (t : Target) → first_some (object_refusal os) (numbered os) ≡ None → first_some (relocs_refusal os) (numbered os) ≡ None → start os ≡ Some t → is_text t.place ≡ true → refusal os ≡ None
   start_in_text t a b h inside = start_last a b ∙ (ap start_refusal h ∙ rw inside refl)
 
-  pub start_elsewhere : (t : Target) → first (object_refusal os) (numbered os) ≡ None → first (relocs_refusal os) (numbered os) ≡ None → start os ≡ Some t → is_text t.place ≡ false → refusal os ≡ Some (record { object = t.object; cause = NotText t.value })
+  pub start_elsewhere : (t : Target) → first_some (object_refusal os) (numbered os) ≡ None → first_some (relocs_refusal os) (numbered os) ≡ None → start os ≡ Some t → is_text t.place ≡ false → refusal os ≡ Some (record { object = t.object; cause = NotText t.value })
   start_elsewhere t a b h outside = start_last a b ∙ (ap start_refusal h ∙ rw outside refl)

@@ -12,7 +12,7 @@ use Rattle.elf_link.specs.declared.fault.LinkFault.{LinkFault}
 use Rattle.elf_link.specs.declared.fault.LinkFault.TheVariants as faults
 use Rattle.elf_link.specs.Sites.{sites_of}
 use Rattle.elf_link.specs.Refusals.{Refused, refused, first_doubled, exported_names, doubled_cause}
-use Rattle.elf_link.specs.Steps.{size_cause, sites_bad, placed_sites, step_cause, tested}
+use Rattle.elf_link.specs.Steps.{size_cause, sites_wrong_by, placed_sites, step_cause, tested}
 use Rattle.elf_link.specs.Answers.{Fails, Gives}
 use Rattle.elf_link.proofs.ExportLaws.{keys}
 
@@ -28,30 +28,30 @@ module _ (n : ℕ) (t : Totals) (before : List Site) (gs : List (List ℕ × Tar
   own : Option LinkCause
   own = doubled_cause (first_doubled (keys gs) (exported_names (n, o)))
 
-  step_at : (b : Bool) → sites_bad t before o ≡ b → step_cause t before gs (n, o) ≡ (then_some b SitesForm or_else own)
+  step_at : (b : Bool) → sites_wrong_by t before o ≡ b → step_cause t before gs (n, o) ≡ (then_some b SitesForm or_else own)
   unfolding step_cause own
   step_at b e =
-      ap (λ (c : Option LinkCause). c or_else (then_some (sites_bad t before o) SitesForm or_else doubled_cause (first_doubled (keys gs) (exported_names (n, o))))) none
+      ap (λ (c : Option LinkCause). c or_else (then_some (sites_wrong_by t before o) SitesForm or_else doubled_cause (first_doubled (keys gs) (exported_names (n, o))))) none
       ∙ ap (λ (x : Bool). then_some x SitesForm or_else doubled_cause (first_doubled (keys gs) (exported_names (n, o)))) e
 
   pub sites_fail : (e : LinkFault) → Fails e (placed_sites n t before o) → Fails e (tested (refused n (step_cause t before gs (n, o))))
   unfolding placed_sites
   sites_fail faults.Memory h = tt
-  sites_fail (faults.At object cause) h = by (sites_bad t before o) refl h where
-    by : (b : Bool) → sites_bad t before o ≡ b → Fails (faults.At object cause) (cond {A = Result (List Site) Refused} b (Err (record { object = n; cause = SitesForm })) (Ok (sites_of o))) → tested (refused n (step_cause t before gs (n, o))) ≡ Err (record { object = object; cause = cause })
+  sites_fail (faults.At object cause) h = by (sites_wrong_by t before o) refl h where
+    by : (b : Bool) → sites_wrong_by t before o ≡ b → Fails (faults.At object cause) (cond {A = Result (List Site) Refused} b (Err (record { object = n; cause = SitesForm })) (Ok (sites_of o))) → tested (refused n (step_cause t before gs (n, o))) ≡ Err (record { object = object; cause = cause })
     by true e h = ap (λ (c : Option LinkCause). tested (refused n c)) (step_at true e) ∙ cc
     by false e h = absurd (cc)
 
   pub step_after : (sites : List Site) → placed_sites n t before o ≡ Ok sites → step_cause t before gs (n, o) ≡ doubled_cause (first_doubled (keys gs) (exported_names (n, o)))
   unfolding placed_sites own
-  step_after sites h = by (sites_bad t before o) refl h where
-    by : (b : Bool) → sites_bad t before o ≡ b → ◌≡◌ {A = Result (List Site) Refused} (cond {A = Result (List Site) Refused} b (Err (record { object = n; cause = SitesForm })) (Ok (sites_of o))) (Ok sites) → step_cause t before gs (n, o) ≡ doubled_cause (first_doubled (keys gs) (exported_names (n, o)))
+  step_after sites h = by (sites_wrong_by t before o) refl h where
+    by : (b : Bool) → sites_wrong_by t before o ≡ b → ◌≡◌ {A = Result (List Site) Refused} (cond {A = Result (List Site) Refused} b (Err (record { object = n; cause = SitesForm })) (Ok (sites_of o))) (Ok sites) → step_cause t before gs (n, o) ≡ doubled_cause (first_doubled (keys gs) (exported_names (n, o)))
     by true e h = absurd (cc)
     by false e h = step_at false e
 
   pub placed_is : (sites : List Site) → placed_sites n t before o ≡ Ok sites → sites ≡ sites_of o
   unfolding placed_sites
-  placed_is sites h = by (sites_bad t before o) h where
+  placed_is sites h = by (sites_wrong_by t before o) h where
     by : (b : Bool) → ◌≡◌ {A = Result (List Site) Refused} (cond {A = Result (List Site) Refused} b (Err (record { object = n; cause = SitesForm })) (Ok (sites_of o))) (Ok sites) → sites ≡ sites_of o
     by true h = absurd (cc)
     by false h = cc

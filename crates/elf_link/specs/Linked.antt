@@ -13,7 +13,7 @@ use Rattle.elf_link.specs.Layout.{text_end, init_end, memory_end, numbered, base
 use Rattle.elf_link.specs.Symbols.{address, globals}
 use Rattle.elf_link.specs.Relocations.{with_fields}
 use Rattle.elf_link.specs.Sites.{linked_sites}
-use Rattle.elf_link.specs.Refusals.{Refused, start, refusal}
+use Rattle.elf_link.specs.Refusals.{Refused, start, refusal, unless}
 
 -- bytes, and what fills them up to a multiple of k
 abbrev pub padded : ℕ → ℕ → List ℕ → List ℕ
@@ -39,10 +39,6 @@ entry_at bs (Some t) = address bs t
 
 unfoldable pub image : List ObjectParts → ImageParts
 image os = record { text = linked_text os; init = linked_init os; bss = memory_end os - init_end os; entry = entry_at (bases os) (start os); text_at = 0x10000000; init_at = 0x11000000; sites = spelling (in_text (length (linked_text os)) (linked_sites os)) }
-
-abbrev pub unless : Option Refused → ImageParts → Result ImageParts Refused
-unless None parts = Ok parts
-unless (Some r) parts = Err r
 
 -- the image, or the first refusal
 unfoldable pub linked_image : List ObjectParts → Result ImageParts Refused

@@ -1,10 +1,11 @@
 -- Why objects are not linked. The causes are tested in an order, and the first counts.
-use Rattle.std.specs.Prelude.{ℕ, ◌+◌, Bool, List, [], ◌∷◌, ◌++◌, length, map, take, filter, sum_by, nat_lt, codes, Option, Some, None, if◌then◌else◌}
+use Rattle.std.specs.Prelude.{ℕ, ◌+◌, Bool, List, [], ◌∷◌, ◌++◌, length, map, take, filter, sum_by, nat_lt, codes, Option, Some, None, Result, Ok, Err, if◌then◌else◌}
 use Rattle.std.specs.Bool.{then_some}
 use Rattle.std.specs.List.{list_any}
 use Rattle.std.specs.Str.{bytes_eq}
 use Rattle.guest_ram.specs.Places.{◌or_else◌}
 use Rattle.elf_form.specs.ObjectParts.{ObjectParts}
+use Rattle.elf_form.specs.Tables.{first_some}
 use Rattle.sites.specs.declared.limits.TheConstants.{TEXT_LIMIT}
 use Rattle.elf_link.specs.declared.target.Target.{Target}
 use Rattle.elf_link.specs.declared.fault.LinkCause.{LinkCause}
@@ -18,11 +19,6 @@ use Rattle.elf_link.specs.Sites.{sites_wrong}
 pub record Refused : Type 0 where
   pub object : ℕ
   pub cause : LinkCause
-
--- what a test answers at the first item at which it answers
-unfoldable pub first : {X Y : Type 0} → (X → Option Y) → List X → Option Y
-first f [] = None
-first f (x ∷ xs) = f x or_else first f xs
 
 -- a name is among others
 abbrev pub holds : List (List ℕ) → List ℕ → Bool
@@ -62,7 +58,7 @@ abbrev pub object_refusal : List ObjectParts → ℕ × ObjectParts → Option R
 object_refusal os p = refused p.0 (object_cause os p)
 
 abbrev pub relocs_refusal : List ObjectParts → ℕ × ObjectParts → Option Refused
-relocs_refusal os p = refused p.0 (first (reloc_cause (globals os) p) p.1.relocs)
+relocs_refusal os p = refused p.0 (first_some (reloc_cause (globals os) p) p.1.relocs)
 
 -- what `_start` stands for
 abbrev pub start : List ObjectParts → Option Target
@@ -75,6 +71,11 @@ start_refusal (Some t) = if is_text t.place then None else Some (record { object
 -- each object; then the relocations of each object; then the entry
 unfoldable pub refusal : List ObjectParts → Option Refused
 refusal os =
-    first (object_refusal os) (numbered os)
-    or_else (first (relocs_refusal os) (numbered os)
+    first_some (object_refusal os) (numbered os)
+    or_else (first_some (relocs_refusal os) (numbered os)
     or_else start_refusal (start os))
+
+-- a value, unless something is refused
+abbrev pub unless : {X : Type 0} → Option Refused → X → Result X Refused
+unless None x = Ok x
+unless (Some r) x = Err r

@@ -1,5 +1,5 @@
 -- What is asked of an object, by the sums over the objects before it.
-use Rattle.std.specs.Prelude.{ℕ, ◌+◌, ◌≤◌, ◌<◌, ◌||◌, ◌&&◌, ◌++◌, Bool, not, All, List, length, map, codes, sum_by, nat_lt, Option, Some, None, Result, Ok, Err, if◌then◌else◌}
+use Rattle.std.specs.Prelude.{ℕ, ◌+◌, ◌≤◌, ◌<◌, ◌||◌, ◌&&◌, ◌++◌, Bool, not, All, List, length, map, codes, sum_by, nat_lt, Option, Result, Ok, Err, if◌then◌else◌}
 use Rattle.std.specs.Bool.{then_some}
 use Rattle.guest_ram.specs.Places.{◌or_else◌}
 use Rattle.elf_form.specs.ObjectParts.{ObjectParts}
@@ -16,7 +16,7 @@ use Rattle.elf_link.specs.declared.fault.LinkCause.TheVariants.{TextTooLarge, In
 use Rattle.elf_link.specs.Layout.{text_room, init_room, bss_room}
 use Rattle.elf_link.specs.Symbols.{lookup}
 use Rattle.elf_link.specs.Sites.{sites_of, misplaced, moved}
-use Rattle.elf_link.specs.Refusals.{Refused, first_doubled, exported_names, doubled_cause, start_refusal}
+use Rattle.elf_link.specs.Refusals.{Refused, first_doubled, exported_names, doubled_cause, start_refusal, unless}
 use Rattle.elf_link.specs.Linked.{entry_at}
 
 -- the sums over objects
@@ -48,37 +48,34 @@ size_cause t o =
 abbrev pub is_crowded : Totals → List Site → ℕ → List Site → Bool
 is_crowded t before text sites = nat_lt SHORT_TEXT (t.text + text + 2) && not (are_gapped 0 (before ++ map (moved t.text) sites))
 
-unfoldable pub sites_bad : Totals → List Site → ObjectParts → Bool
-sites_bad t before o = misplaced (length o.text) (sites_in o.sites) || nat_lt SITE_LIMIT (t.sites + length (sites_of o)) || is_crowded t before (length o.text) (sites_of o)
+-- An object's own sites are malformed or misplaced, or too many behind a number of others.
+abbrev pub own_sites_wrong : ℕ → ObjectParts → Bool
+own_sites_wrong before o = misplaced (length o.text) (sites_in o.sites) || nat_lt SITE_LIMIT (before + length (sites_of o))
+
+-- What Sites has as sites_wrong, by the sums over the objects before and their sites.
+unfoldable pub sites_wrong_by : Totals → List Site → ObjectParts → Bool
+sites_wrong_by t before o = own_sites_wrong t.sites o || is_crowded t before (length o.text) (sites_of o)
 
 unfoldable pub step_cause : Totals → List Site → List (List ℕ × Target) → ℕ × ObjectParts → Option LinkCause
 step_cause t before gs p =
     size_cause t p.1
-    or_else (then_some (sites_bad t before p.1) SitesForm
+    or_else (then_some (sites_wrong_by t before p.1) SitesForm
     or_else doubled_cause (first_doubled (map (λ d. d.0) gs) (exported_names p)))
 
 -- a test that passes where nothing is refused
 abbrev pub tested : Option Refused → Result (Unit {0}) Refused
-tested None = Ok tt
-tested (Some r) = Err r
-
-abbrev pub tested_with : {X : Type 0} → Option Refused → X → Result X Refused
-tested_with None x = Ok x
-tested_with (Some r) x = Err r
+tested r = unless r tt
 
 -- the sites of object i, behind a number of others; and behind others that are known
-abbrev pub own_bad : ℕ → ObjectParts → Bool
-own_bad before o = misplaced (length o.text) (sites_in o.sites) || nat_lt SITE_LIMIT (before + length (sites_of o))
-
 unfoldable pub own_sites : ℕ → ℕ → ObjectParts → Result (List Site) Refused
-own_sites i before o = if own_bad before o then Err (record { object = i; cause = SitesForm }) else Ok (sites_of o)
+own_sites i before o = if own_sites_wrong before o then Err (record { object = i; cause = SitesForm }) else Ok (sites_of o)
 
 unfoldable pub placed_sites : ℕ → Totals → List Site → ObjectParts → Result (List Site) Refused
-placed_sites i t before o = if sites_bad t before o then Err (record { object = i; cause = SitesForm }) else Ok (sites_of o)
+placed_sites i t before o = if sites_wrong_by t before o then Err (record { object = i; cause = SitesForm }) else Ok (sites_of o)
 
 -- the entry, where it is in text
 unfoldable pub entered : List Base → List (List ℕ × Target) → Result ℕ Refused
-entered bs gs = tested_with (start_refusal (lookup (codes "_start") gs)) (entry_at bs (lookup (codes "_start") gs))
+entered bs gs = unless (start_refusal (lookup (codes "_start") gs)) (entry_at bs (lookup (codes "_start") gs))
 
 -- A list of sites is in form, and its sites end by `end`.
 pub record AreBelow (end : ℕ) (sites : List Site) : Type 0 where

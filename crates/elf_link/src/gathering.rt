@@ -7,7 +7,8 @@ ghost use Rattle.elf_link.specs.Symbols.{exports, globals};
 ghost use Rattle.elf_link.specs.Sites.{sites_of, moved, linked_sites};
 ghost use Rattle.elf_form.specs.Linkable.{IsLinkable};
 ghost use Rattle.sites.specs.Spelling.{AreGapped};
-ghost use Rattle.elf_link.specs.Refusals.{refused, first, doubled_cause, object_refusal};
+ghost use Rattle.elf_form.specs.Tables.{first_some};
+ghost use Rattle.elf_link.specs.Refusals.{refused, doubled_cause, object_refusal};
 ghost use Rattle.elf_link.specs.Steps.{IsWithin, AreBelow, totals, with_object, step_cause, is_crowded, own_sites, placed_sites, tested};
 ghost use Rattle.elf_link.specs.Answers.{Gives};
 
@@ -124,7 +125,7 @@ fn are_crowded(
 }
 
 /// The sites of an object behind all others. They are also refused where they are crowded.
-#[tactic(auto, unfolding(crate::specs::Steps::placed_sites, crate::specs::Steps::own_sites, crate::specs::Steps::sites_bad))]
+#[tactic(auto, unfolding(crate::specs::Steps::placed_sites, crate::specs::Steps::own_sites, crate::specs::Steps::sites_wrong_by))]
 fn placed_sites(
     alloc: Global,
     number: u32,
@@ -173,7 +174,7 @@ fn gather(alloc: Global, number: u32, object: &Object, all: &mut Gathered) -> Re
 pub fn gather_all(alloc: Global, objects: &Vec<Object>) -> Result<Gathered, LinkFault>
     requires few { length objects.now.items ≤ 64 }
     requires linkable { All IsLinkable objects.now.items }
-    ensures exact { Gives (λ _. tt) result (tested (first (object_refusal objects.now.items) (numbered objects.now.items))) }
+    ensures exact { Gives (λ _. tt) result (tested (first_some (object_refusal objects.now.items) (numbered objects.now.items))) }
     ensures within { IfOk result (λ _. IsWithin (totals objects.now.items)) }
     ensures globals { IfOk result (λ all. all.globals ≡ globals objects.now.items) }
     ensures sites { IfOk result (λ all. all.sites.items ≡ linked_sites objects.now.items) }

@@ -18,7 +18,8 @@ ghost use Rattle.elf_link.specs.Order.{IsFirstRefused, IsFirstCause, up_to, symb
 ghost use Rattle.elf_link.specs.Symbols.{is_text, is_exported, target, lookup, target_of, globals};
 ghost use Rattle.elf_form.specs.Linkable.{IsLinkable};
 ghost use Rattle.elf_link.specs.Relocations.{reloc_cause, with_fields};
-ghost use Rattle.elf_link.specs.Refusals.{Refused, first, first_doubled, holds, object_cause, object_refusal, relocs_refusal, start, refusal, doubled, doubled_cause};
+ghost use Rattle.elf_form.specs.Tables.{first_some};
+ghost use Rattle.elf_link.specs.Refusals.{Refused, first_doubled, holds, object_cause, object_refusal, relocs_refusal, start, refusal, doubled, doubled_cause};
 ghost use Rattle.elf_link.specs.Doubled.{IsFirstDoubled};
 ghost use Rattle.elf_link.specs.Linked.{linked_text, linked_init};
 
@@ -65,8 +66,8 @@ pub fn names_doubled()
 /// Each object is tested by itself, the first that is refused is told, and none before it is
 /// refused by any cause.
 pub fn objects_in_order()
-    ensures found { (os : List ObjectParts) (r : Refused) → first (object_refusal os) (numbered os) ≡ Some r → IsFirstRefused (object_cause os) os r }
-    ensures none { (os : List ObjectParts) → first (object_refusal os) (numbered os) ≡ None → (i : ℕ) (o : ObjectParts) → slice_get os i ≡ Some o → object_cause os (i, o) ≡ None }
+    ensures found { (os : List ObjectParts) (r : Refused) → first_some (object_refusal os) (numbered os) ≡ Some r → IsFirstRefused (object_cause os) os r }
+    ensures none { (os : List ObjectParts) → first_some (object_refusal os) (numbered os) ≡ None → (i : ℕ) (o : ObjectParts) → slice_get os i ≡ Some o → object_cause os (i, o) ≡ None }
 {}
 
 /// What an object is refused for, in this order, over the objects up to and with it, laid out by
@@ -96,18 +97,18 @@ pub fn sites_refused()
 /// The first object with a relocation that is refused is told, with the cause of the first of its
 /// relocations that is; none before it is refused.
 pub fn relocations_in_order()
-    ensures object { (os : List ObjectParts) (r : Refused) → first (relocs_refusal os) (numbered os) ≡ Some r → IsFirstRefused (λ p. first (reloc_cause (globals os) p) p.1.relocs) os r }
-    ensures relocation { (os : List ObjectParts) (p : ℕ × ObjectParts) (cause : CauseView) → first (reloc_cause (globals os) p) p.1.relocs ≡ Some cause → IsFirstCause (reloc_cause (globals os) p) p.1.relocs cause }
-    ensures none { (os : List ObjectParts) → first (relocs_refusal os) (numbered os) ≡ None → (i k : ℕ) (o : ObjectParts) (r : RelocView) → slice_get os i ≡ Some o → slice_get o.relocs k ≡ Some r → reloc_cause (globals os) (i, o) r ≡ None }
+    ensures object { (os : List ObjectParts) (r : Refused) → first_some (relocs_refusal os) (numbered os) ≡ Some r → IsFirstRefused (λ p. first_some (reloc_cause (globals os) p) p.1.relocs) os r }
+    ensures relocation { (os : List ObjectParts) (p : ℕ × ObjectParts) (cause : CauseView) → first_some (reloc_cause (globals os) p) p.1.relocs ≡ Some cause → IsFirstCause (reloc_cause (globals os) p) p.1.relocs cause }
+    ensures none { (os : List ObjectParts) → first_some (relocs_refusal os) (numbered os) ≡ None → (i k : ℕ) (o : ObjectParts) (r : RelocView) → slice_get os i ≡ Some o → slice_get o.relocs k ≡ Some r → reloc_cause (globals os) (i, o) r ≡ None }
 {}
 
 /// All objects are tested before any relocation, and all relocations before the entry: `_start`
 /// is refused exactly where it is defined outside text.
 #[tactic(auto, using(crate::proofs::OrderLaws::objects_first, crate::proofs::OrderLaws::relocs_second, crate::proofs::OrderLaws::no_start, crate::proofs::OrderLaws::start_in_text, crate::proofs::OrderLaws::start_elsewhere))]
 pub fn stages_in_order()
-    ensures objects { (os : List ObjectParts) (r : Refused) → first (object_refusal os) (numbered os) ≡ Some r → refusal os ≡ Some r }
-    ensures relocations { (os : List ObjectParts) (r : Refused) → first (object_refusal os) (numbered os) ≡ None → first (relocs_refusal os) (numbered os) ≡ Some r → refusal os ≡ Some r }
-    ensures no_start { (os : List ObjectParts) → first (object_refusal os) (numbered os) ≡ None → first (relocs_refusal os) (numbered os) ≡ None → start os ≡ None → refusal os ≡ None }
-    ensures start_in_text { (os : List ObjectParts) (t : TargetView) → first (object_refusal os) (numbered os) ≡ None → first (relocs_refusal os) (numbered os) ≡ None → start os ≡ Some t → is_text t.place ≡ true → refusal os ≡ None }
-    ensures start_elsewhere { (os : List ObjectParts) (t : TargetView) → first (object_refusal os) (numbered os) ≡ None → first (relocs_refusal os) (numbered os) ≡ None → start os ≡ Some t → is_text t.place ≡ false → refusal os ≡ Some (record { object = t.object; cause = NotText t.value }) }
+    ensures objects { (os : List ObjectParts) (r : Refused) → first_some (object_refusal os) (numbered os) ≡ Some r → refusal os ≡ Some r }
+    ensures relocations { (os : List ObjectParts) (r : Refused) → first_some (object_refusal os) (numbered os) ≡ None → first_some (relocs_refusal os) (numbered os) ≡ Some r → refusal os ≡ Some r }
+    ensures no_start { (os : List ObjectParts) → first_some (object_refusal os) (numbered os) ≡ None → first_some (relocs_refusal os) (numbered os) ≡ None → start os ≡ None → refusal os ≡ None }
+    ensures start_in_text { (os : List ObjectParts) (t : TargetView) → first_some (object_refusal os) (numbered os) ≡ None → first_some (relocs_refusal os) (numbered os) ≡ None → start os ≡ Some t → is_text t.place ≡ true → refusal os ≡ None }
+    ensures start_elsewhere { (os : List ObjectParts) (t : TargetView) → first_some (object_refusal os) (numbered os) ≡ None → first_some (relocs_refusal os) (numbered os) ≡ None → start os ≡ Some t → is_text t.place ≡ false → refusal os ≡ Some (record { object = t.object; cause = NotText t.value }) }
 {}

@@ -8,7 +8,8 @@ ghost use Rattle.elf_link.specs.Layout.{numbered, bases};
 ghost use Rattle.elf_link.specs.Symbols.{globals as globals_of};
 ghost use Rattle.elf_form.specs.Linkable.{IsLinkable};
 ghost use Rattle.elf_link.specs.Relocations.{reloc_cause, with_fields};
-ghost use Rattle.elf_link.specs.Refusals.{refused, first, relocs_refusal};
+ghost use Rattle.elf_form.specs.Tables.{first_some};
+ghost use Rattle.elf_link.specs.Refusals.{refused, relocs_refusal};
 ghost use Rattle.elf_link.specs.Steps.{IsWithin, AreBelow, totals, entered, tested};
 ghost use Rattle.elf_link.specs.Linked.{padded, linked_text, linked_init, linked_image, file_of};
 ghost use Rattle.elf_link.specs.Answers.{Gives};
@@ -77,7 +78,7 @@ fn relocs_tested(alloc: Global, objects: &Vec<Object>, globals: &Globals) -> Res
     requires few { length objects.now.items ≤ 64 }
     requires linkable { All IsLinkable objects.now.items }
     requires globals { globals.now ≡ globals_of objects.now.items }
-    ensures { Gives (λ _. tt) result (tested (first (relocs_refusal objects.now.items) (numbered objects.now.items))) }
+    ensures { Gives (λ _. tt) result (tested (first_some (relocs_refusal objects.now.items) (numbered objects.now.items))) }
 {
     for (i, object) in objects.iter().enumerate() {
         let cause = relocs_cause(alloc, globals, i as u32, object)?;

@@ -6,7 +6,7 @@ ghost use Rattle.elf_link.specs.Layout.{or_zero};
 ghost use Rattle.elf_link.specs.Symbols.{is_text, address};
 ghost use Rattle.elf_form.specs.Linkable.{IsLinkable};
 ghost use Rattle.elf_link.specs.Relocations.{target_by, reloc_cause, field_at, address_by, sum_of, relocated, filled, contents_of, with_fields};
-ghost use Rattle.elf_link.specs.Refusals.{first};
+ghost use Rattle.elf_form.specs.Tables.{first_some};
 
 use crate::base::Base;
 use crate::fault::LinkCause;
@@ -94,7 +94,7 @@ pub fn relocs_cause(
     object: &Object,
 ) -> Result<Option<LinkCause>, AllocError>
     requires { IsLinkable object.now }
-    ensures { IfOk result (λ cause. cause ≡ first (reloc_cause globals.now (number, object.now)) object.now.relocs) }
+    ensures { IfOk result (λ cause. cause ≡ first_some (reloc_cause globals.now (number, object.now)) object.now.relocs) }
 {
     for reloc in &object.relocs {
         let cause = reloc_cause(alloc, globals, number, object, *reloc)?;

@@ -16,6 +16,7 @@ use Rattle.elf_form.specs.Faults.{Fault, ◌or_lower◌}
 use Rattle.elf_form.specs.Reading.{image_in}
 use Rattle.elf_form.specs.Accepted.{ImageAs}
 use Rattle.elf_form.proofs.Acceptance.{read_as, as_read}
+use Rattle.elf_form.proofs.FormLaws.{then_none, lower_none}
 use Rattle.sites.specs.declared.site.Site.{Site}
 use Rattle.sites.specs.Kinds.{number, kind_numbered}
 use Rattle.sites.specs.declared.limits.TheConstants.{TEXT_LIMIT}
@@ -26,7 +27,7 @@ use Rattle.image_check.specs.declared.piece.Role.TheVariants as role
 use Rattle.image_check.specs.declared.piece.Piece.{Piece}
 use Rattle.image_check.specs.Image.{Image}
 use Rattle.image_check.specs.Sweep.{Swept, Sweep, sweep}
-use Rattle.image_check.specs.Pieces.{is_nop, target_of, site_role, piece_of, pieces_of, pieces_in, is_start}
+use Rattle.image_check.specs.Pieces.{is_nop, target_of, site_role, piece_of, pieces_of, pieces_in, is_piece_start}
 use Rattle.image_check.specs.TextSites.{is_same, differ, Found, found_in, unless_lacking, sites_of}
 use Rattle.image_check.specs.Targets.{is_inside, is_entrance, leads_wrong, wrong_target}
 use Rattle.image_check.specs.Refusals.{Refusal}
@@ -35,7 +36,7 @@ use Rattle.image_check.specs.Checking.{as_form, placed, annotated, entered, imag
 use Rattle.image_check.specs.Accepts.{IsWithin, IsEntrance, IsAccepted, Accepts}
 use Rattle.image_check.proofs.FileLimits.{text_bytes}
 use Rattle.image_check.proofs.Offsets.{any_at, swept_in}
-use Rattle.image_check.proofs.Passed.{bind_ok, not_bad, IsPlaced, has_passed, within_parts}
+use Rattle.image_check.proofs.Passed.{bind_ok, IsPlaced, has_passed, within_parts}
 use Rattle.image_check.proofs.Starts.{contains_any, any_contains}
 use Rattle.image_check.proofs.SweepLaws.{sweep_exact}
 
@@ -119,14 +120,6 @@ unfolding differ
 differ-same [] = refl
 differ-same (s ∷ ss) = ap (λ b. cond b (differ ss ss) (Some (min s.at s.at))) (is_itself s) ∙ differ-same ss
 
-lower_none : (a b : Option ℕ) → (a or_lower b) ≡ None → (a ≡ None) × (b ≡ None)
-lower_none None b e = (refl, e)
-lower_none (Some a) None e = absurd cc
-lower_none (Some a) (Some b) e = absurd (some_lower (nat_lt b a) e) where
-  some_lower : (c : Bool) → cond c (Some b) (Some a) ≡ None → ⊥
-  some_lower true h = cc
-  some_lower false h = cc
-
 all_found : (sites : List Site) (f : Found) → f.lacking ≡ None → sites ≡ f.sites → unless_lacking f.sites f.lacking ≡ Some sites
 all_found sites f none same = ap (unless_lacking f.sites) none ∙ ap (λ (ss : List Site). Some ss) (sym same)
 
@@ -172,7 +165,7 @@ true_not_false e = cc
 
 pub entrance_is : (swept : List Swept) (sites : List Site) (at : ℕ) → is_entrance (map piece_of swept) sites at ≡ true → IsEntrance swept sites at
 entrance_is swept sites at e =
-    let h = both (is_start (map piece_of swept) at) (not (list_any (is_inside at) sites)) e in
+    let h = both (is_piece_start (map piece_of swept) at) (not (list_any (is_inside at) sites)) e in
     let none = turned (list_any (is_inside at) sites) h.1 in
     record {
       start = any_contains (map (λ (s : Swept). s.at) swept) at (sym (any_at swept at) ∙ h.0);
@@ -189,7 +182,7 @@ true_or_false false = inr refl
 
 pub is_entrance_so : (swept : List Swept) (sites : List Site) (at : ℕ) → IsEntrance swept sites at → is_entrance (map piece_of swept) sites at ≡ true
 is_entrance_so swept sites at h =
-    let start : is_start (map piece_of swept) at ≡ true = any_at swept at ∙ contains_any (map (λ (s : Swept). s.at) swept) at h.start in
+    let start : is_piece_start (map piece_of swept) at ≡ true = any_at swept at ∙ contains_any (map (λ (s : Swept). s.at) swept) at h.start in
     elim (true_or_false (list_any (is_inside at) sites)) [
       | inl any ↦
           let one = Any-from_list_any (is_inside at) sites any in
@@ -245,7 +238,7 @@ right_targets entrance (t ∷ swept) h =
 -- ---- the image
 
 end_is : (text : List ℕ) (ps : List Piece) → text_end text ps ≡ None → ends_at text (last_at ps) ≡ true
-end_is text ps e = not_false (ends_at text (last_at ps)) (not_bad _ (last_at ps) e)
+end_is text ps e = not_false (ends_at text (last_at ps)) (then_none _ (last_at ps) e)
 
 accepted_with : (parts : ImageParts) (sites : List Site) (swept : List Swept) → IsPlaced parts → Sweep parts.text swept → text_end parts.text (map piece_of swept) ≡ None → site_wrong sites (map piece_of swept) ≡ None → wrong_target (is_entrance (map piece_of swept) sites) (map piece_of swept) ≡ None → entry_start parts (map piece_of swept) sites ≡ None → IsAccepted (image_with parts sites)
 accepted_with parts sites swept placed is end same targets entry = record {
@@ -255,7 +248,7 @@ accepted_with parts sites swept placed is end same targets entry = record {
   ends = end_is parts.text (map piece_of swept) end;
   sites = sites_there sites (map piece_of swept) same;
   targets = λ s c branch. entrance_is swept sites (target_of s.at s.len s.insn) (targets_right (is_entrance (map piece_of swept) sites) swept targets c.0 s c.1 c.2 branch);
-  entry = entrance_is swept sites (entry_at parts) (not_false (is_entrance (map piece_of swept) sites (entry_at parts)) (not_bad _ (entry_at parts) entry));
+  entry = entrance_is swept sites (entry_at parts) (not_false (is_entrance (map piece_of swept) sites (entry_at parts)) (then_none _ (entry_at parts) entry));
 }
 
 pub accepted_from : (parts : ImageParts) (image : Image) → AreBytes parts.text → image_from parts ≡ Ok image → IsAccepted image
@@ -336,7 +329,7 @@ form_read (Ok p) parts e = cc
 form_read (Err f) parts e = absurd cc
 
 placed_text : (parts : ImageParts) → IsPlaced parts → (parts.text_at ≡ 0x10000000) × (parts.init_at ≡ 0x11000000)
-placed_text parts p = (equal parts.text_at 0x10000000 (not_false _ (not_bad _ 0 p.text_at)), equal parts.init_at 0x11000000 (not_false _ (not_bad _ 0 p.init_at)))
+placed_text parts p = (equal parts.text_at 0x10000000 (not_false _ (then_none _ 0 p.text_at)), equal parts.init_at 0x11000000 (not_false _ (then_none _ 0 p.init_at)))
 
 abbrev ok_sites : List Site → ℕ → Result SitesParts ℕ
 ok_sites sites format = Ok (of_format sites format)

@@ -6,13 +6,14 @@ use Rattle.ia32_rows.specs.Spells.{AreBytes}
 use Rattle.ia32_rows.proofs.Readers.{AreBytes-take}
 use Rattle.image_check.proofs.SweepLaws.{AreBytes-drop}
 use Rattle.guest_ram.specs.Bytes.{word32, part}
+use Rattle.elf_form.specs.declared.cause.ElfCause.TheVariants.{Sizes}
 use Rattle.elf_form.specs.ImageParts.{ImageParts}
 use Rattle.elf_form.specs.Faults.{◌or_lower◌}
 use Rattle.elf_form.specs.Header.{has_contents}
 use Rattle.elf_form.specs.Segments.{sizes, too_long, header_size, program_size, section_size, memory_sizes, loads}
 use Rattle.elf_form.specs.Sections.{contents}
-use Rattle.elf_form.specs.Reading.{parts_at}
-use Rattle.elf_form.specs.Accepted.{ImageAs, wrong}
+use Rattle.elf_form.specs.Reading.{parts_at, wrong_image}
+use Rattle.elf_form.specs.Accepted.{ImageAs}
 
 second_none : (a b : Option ℕ) → (a or_lower b) ≡ None → b ≡ None
 second_none None b e = e
@@ -49,9 +50,9 @@ unfolding parts_at
 sites_are bytes t d s = refl
 
 pub few_sites : (bytes : List ℕ) (image : ImageParts) → ImageAs bytes image → length image.sites < 2 ^ 32
-unfolding wrong
+unfolding wrong_image
 few_sites bytes image is =
-    let limit = sizes_short bytes is.sound.1.1.1.1.1.1.1.0 in
+    let limit = sizes_short bytes (is.sound Sizes) in
     let e : image.sites ≡ contents bytes is.sites = ap (λ (p : ImageParts). p.sites) is.parts ∙ sites_are bytes is.text is.init is.sites in
     let few = contents_short bytes is.sites in
     omega (arith, limit, few, ap length e)

@@ -18,7 +18,7 @@ use Rattle.image_check.specs.declared.site.Here.TheVariants as here
 use Rattle.image_check.specs.Sweep.{Swept, SweepsTo}
 use Rattle.image_check.specs.Pieces as pieces
 use Rattle.image_check.specs.Pieces.{piece_of, target_of, site_role}
-use Rattle.image_check.specs.TextSites.{is_nop, is_sti, is_hlt, has_nops, has_hlt, pair, single, padded, by_role, begun_by, Found, found_by, found_behind}
+use Rattle.image_check.specs.TextSites.{is_nop_role, is_sti, is_hlt, has_nops, has_hlt, pair, single, padded, by_role, begun_by, Found, found_by, found_behind}
 use Rattle.image_check.specs.Layout.{AreApart, PartOf, Alone, PairSti, PairHlt, Padding, BeginsSite}
 use Rattle.image_check.proofs.Begun.{begun_has_byte}
 use Rattle.image_check.proofs.Room.{begun_one, nop_piece, hlt_piece, sti_piece, both, true_or_false}
@@ -60,11 +60,11 @@ nop_is : (o : Op) → pieces.is_nop o ≡ true → o ≡ op.Nop
 nop_is op.Nop e = refl
 nop_is _ e = absurd cc
 
-no_nop_role : (o : Option SiteKind) → is_nop (site_role o) ≡ true → ⊥
+no_nop_role : (o : Option SiteKind) → is_nop_role (site_role o) ≡ true → ⊥
 no_nop_role None e = cc
 no_nop_role (Some k) e = cc
 
-role_nop : (target : ℕ) (a b : Bool) (o : Option SiteKind) → is_nop (cond a (role.Branch target) (cond b role.Nop (site_role o))) ≡ true → b ≡ true
+role_nop : (target : ℕ) (a b : Bool) (o : Option SiteKind) → is_nop_role (cond a (role.Branch target) (cond b role.Nop (site_role o))) ≡ true → b ≡ true
 role_nop target true b o e = absurd cc
 role_nop target false true o e = refl
 role_nop target false false o e = absurd (no_nop_role o e)
@@ -99,7 +99,7 @@ is_insensitive s e = role_plain (target_of s.at s.len s.insn) (is_direct_branch 
 is_sensitive : (s : Swept) (kind : SiteKind) → (piece_of s).role ≡ role.Site kind → sensitive_kind s.insn ≡ Some kind
 is_sensitive s kind e = role_site (target_of s.at s.len s.insn) (is_direct_branch s.insn.op) (pieces.is_nop s.insn.op) (kind_of s.insn.op) kind e
 
-is_padding : (s : Swept) → is_nop (piece_of s).role ≡ true → s.insn.op ≡ op.Nop
+is_padding : (s : Swept) → is_nop_role (piece_of s).role ≡ true → s.insn.op ≡ op.Nop
 is_padding s e = nop_is s.insn.op (role_nop (target_of s.at s.len s.insn) (is_direct_branch s.insn.op) (pieces.is_nop s.insn.op) (kind_of s.insn.op) e)
 
 sti_role : (r : Role) → is_sti r ≡ true → r ≡ role.Site Sti
@@ -406,7 +406,7 @@ laid_behind false zero from bytes [] to left h f none = record {
 laid_behind false (suc n) from bytes [] to left h f none = absurd cc
 laid_behind true (suc n) from bytes [] to left h f none = absurd (let e = f.1 in cc)
 laid_behind false (suc n) from bytes (s ∷ swept) to left h f none =
-    let two = both (is_nop (piece_of s).role) (has_nops n (map piece_of swept)) f in
+    let two = both (is_nop_role (piece_of s).role) (has_nops n (map piece_of swept)) f in
     filler_first false n from s swept _ to h.0 (begun_one bytes s.insn s.len h.1 (nop_piece s two.0)) (is_padding s two.0)
     (laid_behind false n (from + s.len) (drop s.len bytes) swept to left h.2 two.1 none)
 laid_behind true (suc n) from bytes (s ∷ swept) to left h f none =

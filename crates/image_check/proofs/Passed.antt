@@ -1,8 +1,8 @@
 -- What an image has that passed all tests.
-use Rattle.std.proofs.Common.{◌≡◌, ℕ, Bool, true, false, List, Option, Some, None, Result, Ok, Err, refl, subst, arith}
+use Rattle.std.proofs.Common.{◌≡◌, ℕ, List, Option, Some, None, Result, Ok, Err, refl, subst, arith}
 use Rattle.std.proofs.lemmas.Bool.Decides.{nat_tests}
-use Rattle.std.specs.Bool.{then_some}
 use Rattle.elf_form.specs.ImageParts.{ImageParts}
+use Rattle.elf_form.proofs.FormLaws.{then_none}
 use Rattle.sites.specs.declared.site.Site.{Site}
 use Rattle.sites.specs.Formats.{listed}
 use Rattle.image_check.specs.declared.fault.CheckCause.{CheckCause}
@@ -101,15 +101,11 @@ has_passed parts image e =
 
 -- ---- bounds
 
-pub not_bad : (b : Bool) (at : ℕ) → then_some b at ≡ None → b ≡ false
-not_bad true at e = absurd cc
-not_bad false at e = refl
-
 pub within_parts : (parts : ImageParts) (sites : List Site) → IsPlaced parts → IsWithin (image_with parts sites)
 within_parts parts sites p =
-    let text = not_bad _ 0 p.text_len in
-    let init = not_bad _ 0 p.init_len in
-    let entry = not_bad _ 0 p.entry_in in
+    let text = then_none _ 0 p.text_len in
+    let init = then_none _ 0 p.init_len in
+    let entry = then_none _ 0 p.entry_in in
     record {
       text = (grind (arith, nat_tests), grind (arith, nat_tests));
       room = grind (arith, nat_tests);

@@ -35,7 +35,7 @@ use Rattle.image_check.specs.declared.site.Here.TheVariants as here
 use Rattle.image_check.specs.Sweep.{Swept, SweepsTo}
 use Rattle.image_check.specs.Pieces as pieces
 use Rattle.image_check.specs.Pieces.{piece_of, target_of, site_role}
-use Rattle.image_check.specs.TextSites.{is_nop, is_sti, is_hlt, has_nops, has_hlt, pair, single, padded, by_role, begun_by, Found, found_by, found_behind, unless_lacking}
+use Rattle.image_check.specs.TextSites.{is_nop_role, is_sti, is_hlt, has_nops, has_hlt, pair, single, padded, by_role, begun_by, Found, found_by, found_behind, unless_lacking}
 use Rattle.image_check.specs.Image.{Image}
 use Rattle.image_check.specs.Accepts.{IsAccepted}
 
@@ -125,7 +125,7 @@ begun_one bytes insn n h e =
 role_by : ℕ → Op → Role
 role_by target o = cond (is_direct_branch o) (role.Branch target) (cond (pieces.is_nop o) role.Nop (site_role (kind_of o)))
 
-nop_single : (target : ℕ) (o : Op) → is_nop (role_by target o) ≡ true → is_single o ≡ true
+nop_single : (target : ℕ) (o : Op) → is_nop_role (role_by target o) ≡ true → is_single o ≡ true
 unfolding role_by is_single
 nop_single target op.Nop e = refl
 nop_single target _ e = absurd cc
@@ -140,7 +140,7 @@ unfolding role_by is_single
 sti_single target op.Sti e = refl
 sti_single target _ e = absurd cc
 
-pub nop_piece : (s : Swept) → is_nop (piece_of s).role ≡ true → is_single s.insn.op ≡ true
+pub nop_piece : (s : Swept) → is_nop_role (piece_of s).role ≡ true → is_single s.insn.op ≡ true
 unfolding role_by
 nop_piece s e = nop_single (target_of s.at s.len s.insn) s.insn.op e
 
@@ -166,7 +166,7 @@ unfolding has_nops
 nops_room zero from bytes swept to left h e = let up = goes_up from bytes swept to left h in omega (arith, up)
 nops_room (suc n) from bytes [] to left h e = absurd cc
 nops_room (suc n) from bytes (s ∷ swept) to left h e =
-    let nop = both (is_nop (piece_of s).role) (has_nops n (map piece_of swept)) e in
+    let nop = both (is_nop_role (piece_of s).role) (has_nops n (map piece_of swept)) e in
     let one = begun_one bytes s.insn s.len h.1 (nop_piece s nop.0) in
     let later = nops_room n (from + s.len) (drop s.len bytes) swept to left h.2 nop.1 in
     omega (arith, one, later)

@@ -8,7 +8,7 @@ use Rattle.image_check.specs.declared.piece.Role.TheVariants.{Plain}
 use Rattle.image_check.specs.declared.piece.Piece.{Piece}
 use Rattle.image_check.specs.declared.site.Here.{Here}
 use Rattle.image_check.specs.declared.site.Here.TheVariants as here
-use Rattle.image_check.specs.TextSites.{is_nop, has_nops, begun_by, Found, found_by, found_behind, found_in, is_same, differ}
+use Rattle.image_check.specs.TextSites.{is_nop_role, has_nops, begun_by, Found, found_by, found_behind, found_in, is_same, differ}
 
 -- what indexing gives past the end
 abbrev pub no_piece : Piece
@@ -25,19 +25,19 @@ all_behind xs i = take_all _ _ (omega (arith, length-drop i xs))
 
 -- ---- NOPs
 
-nops_first : (n : ℕ) (p : Piece) (ps : List Piece) → has_nops (suc n) (p ∷ ps) ≡ (is_nop p.role && has_nops n ps)
+nops_first : (n : ℕ) (p : Piece) (ps : List Piece) → has_nops (suc n) (p ∷ ps) ≡ (is_nop_role p.role && has_nops n ps)
 unfolding has_nops
 nops_first n p ps = refl
 
-pub nops-step : (count i : ℕ) (ps : List Piece) (d : Piece) → i < count → i < length ps → has_nops (count - i) (drop i ps) ≡ (is_nop (slice_index_or ps i d).role && has_nops (count - (i + 1)) (drop (i + 1) ps))
+pub nops-step : (count i : ℕ) (ps : List Piece) (d : Piece) → i < count → i < length ps → has_nops (count - i) (drop i ps) ≡ (is_nop_role (slice_index_or ps i d).role && has_nops (count - (i + 1)) (drop (i + 1) ps))
 nops-step count i ps d lt in_ps =
     let k : count - i ≡ suc (count - (i + 1)) = omega arith in
     ap (λ n. has_nops n (drop i ps)) k ∙ ap (has_nops (suc (count - (i + 1)))) (next_of ps i d in_ps) ∙ nops_first (count - (i + 1)) (slice_index_or ps i d) (drop (i + 1) ps)
 
-pub nops-wrong : (count i : ℕ) (ps : List Piece) (d : Piece) → i < count → i < length ps → is_nop (slice_index_or ps i d).role ≡ false → has_nops (count - i) (drop i ps) ≡ false
+pub nops-wrong : (count i : ℕ) (ps : List Piece) (d : Piece) → i < count → i < length ps → is_nop_role (slice_index_or ps i d).role ≡ false → has_nops (count - i) (drop i ps) ≡ false
 nops-wrong count i ps d lt in_ps e = nops-step count i ps d lt in_ps ∙ ap (λ b. b && has_nops (count - (i + 1)) (drop (i + 1) ps)) e
 
-pub nops-right : (count i : ℕ) (ps : List Piece) (d : Piece) → i < count → i < length ps → is_nop (slice_index_or ps i d).role ≡ true → has_nops (count - i) (drop i ps) ≡ has_nops (count - (i + 1)) (drop (i + 1) ps)
+pub nops-right : (count i : ℕ) (ps : List Piece) (d : Piece) → i < count → i < length ps → is_nop_role (slice_index_or ps i d).role ≡ true → has_nops (count - i) (drop i ps) ≡ has_nops (count - (i + 1)) (drop (i + 1) ps)
 nops-right count i ps d lt in_ps e = nops-step count i ps d lt in_ps ∙ ap (λ b. b && has_nops (count - (i + 1)) (drop (i + 1) ps)) e
 
 nops_none : (n : ℕ) → has_nops (suc n) [] ≡ false

@@ -7,23 +7,23 @@ use Rattle.std.proofs.lemmas.Grind.{common_steps}
 use Rattle.std.proofs.lemmas.List.{get_or_read}
 use Rattle.std.proofs.lemmas.List.Folds.{list_any-append, Any-from_list_any, list_any-from_Any}
 use Rattle.image_check.specs.declared.piece.Piece.{Piece}
-use Rattle.image_check.specs.Pieces.{is_start}
+use Rattle.image_check.specs.Pieces.{is_piece_start}
 
 pub no_marks : (n i : ℕ) → slice_index_or (replicate n false) i false ≡ false
 no_marks n i = grind (arith, common_steps)
 
-one_start : (p : Piece) (i : ℕ) → is_start (p ∷ []) i ≡ (p.at == i)
+one_start : (p : Piece) (i : ℕ) → is_piece_start (p ∷ []) i ≡ (p.at == i)
 one_start p i = grind (arith, common_steps)
 
 marked_now : (starts : List Bool) (at i : ℕ) → at < length starts → slice_index_or (slice_set starts at true) i false ≡ (slice_index_or starts i false || (at == i))
 marked_now starts at i lt = grind (arith, common_steps, nat_tests)
 
-pub mark_more : (starts : List Bool) (ps : List Piece) (p : Piece) (at i : ℕ) → p.at ≡ at → at < length starts → slice_index_or starts i false ≡ is_start ps i → slice_index_or (slice_set starts at true) i false ≡ is_start (ps ++ p ∷ []) i
+pub mark_more : (starts : List Bool) (ps : List Piece) (p : Piece) (at i : ℕ) → p.at ≡ at → at < length starts → slice_index_or starts i false ≡ is_piece_start ps i → slice_index_or (slice_set starts at true) i false ≡ is_piece_start (ps ++ p ∷ []) i
 mark_more starts ps p at i e lt so_far =
     marked_now starts at i lt
     ∙ ap (λ b. b || (at == i)) so_far
-    ∙ ap (λ k. is_start ps i || (k == i)) (sym e)
-    ∙ ap (λ b. is_start ps i || b) (sym (one_start p i))
+    ∙ ap (λ k. is_piece_start ps i || (k == i)) (sym e)
+    ∙ ap (λ b. is_piece_start ps i || b) (sym (one_start p i))
     ∙ sym (list_any-append (λ (q : Piece). q.at == i) ps (p ∷ []))
 
 equal_numbers : (k at : ℕ) → (k == at) ≡ true → k ≡ at

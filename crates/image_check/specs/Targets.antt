@@ -5,14 +5,14 @@ use Rattle.sites.specs.declared.site.Site.{Site}
 use Rattle.image_check.specs.declared.piece.Role.{Role}
 use Rattle.image_check.specs.declared.piece.Role.TheVariants as role
 use Rattle.image_check.specs.declared.piece.Piece.{Piece}
-use Rattle.image_check.specs.Pieces.{is_start}
+use Rattle.image_check.specs.Pieces.{is_piece_start}
 
 -- whether an offset lies in a site past its first byte
 abbrev pub is_inside : ℕ → Site → Bool
 is_inside at s = nat_lt s.at at && nat_lt at (s.at + s.total)
 
 abbrev pub is_entrance : List Piece → List Site → ℕ → Bool
-is_entrance ps sites at = is_start ps at && not (list_any (is_inside at) sites)
+is_entrance ps sites at = is_piece_start ps at && not (list_any (is_inside at) sites)
 
 -- the direct branch that comes first of those that do not lead to where control may come in
 abbrev pub leads_wrong : (ℕ → Bool) → Role → Bool

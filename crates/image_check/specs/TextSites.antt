@@ -10,9 +10,9 @@ use Rattle.image_check.specs.declared.piece.Piece.{Piece}
 use Rattle.image_check.specs.declared.site.Here.{Here}
 use Rattle.image_check.specs.declared.site.Here.TheVariants as here
 
-abbrev pub is_nop : Role → Bool
-is_nop role.Nop = true
-is_nop _ = false
+abbrev pub is_nop_role : Role → Bool
+is_nop_role role.Nop = true
+is_nop_role _ = false
 
 abbrev pub is_sti : Role → Bool
 is_sti (role.Site Sti) = true
@@ -26,7 +26,7 @@ is_hlt _ = false
 unfoldable pub has_nops : ℕ → List Piece → Bool
 has_nops zero ps = true
 has_nops (suc n) [] = false
-has_nops (suc n) (p ∷ ps) = is_nop p.role && has_nops n ps
+has_nops (suc n) (p ∷ ps) = is_nop_role p.role && has_nops n ps
 
 -- HLT and three NOPs come first
 abbrev pub has_hlt : List Piece → Bool

@@ -9,7 +9,7 @@ ghost use Rattle.elf_form.specs.ImageParts.{ImageParts};
 ghost use Rattle.elf_form.specs.Reading.{image_in};
 ghost use Rattle.sites.specs.Formats.{told_format, listed};
 ghost use Rattle.image_check.specs.Refusals.{Gives, Form, Wrong};
-ghost use Rattle.image_check.specs.Pieces.{pieces_in, is_start};
+ghost use Rattle.image_check.specs.Pieces.{pieces_in, is_piece_start};
 ghost use Rattle.image_check.specs.Targets.{is_entrance, wrong_target};
 ghost use Rattle.image_check.specs.Conditions.{last_at, ends_at, text_end, site_wrong, entry_start_by};
 ghost use Rattle.image_check.specs.Checking.{as_form, as_sites, annotated, entered, image_from, image_of, image_with};
@@ -113,7 +113,7 @@ fn annotated(alloc: Global, image: &Image, pieces: &[Piece]) -> Result<Sites, Ch
 /// The tests of where control comes in, by a branch and at the entry.
 #[tactic(auto, unfolding(crate::specs::Checking::entered))]
 fn entered(alloc: Global, image: &Image, swept: &Swept, sites: &Sites) -> Result<(), CheckFault>
-    requires starts { (i : ℕ) → slice_index_or swept.now.starts.items i false ≡ is_start swept.now.pieces.items i }
+    requires starts { (i : ℕ) → slice_index_or swept.now.starts.items i false ≡ is_piece_start swept.now.pieces.items i }
     requires entry { 0x1000_0000 ≤ image.now.entry }
     ensures { Gives (λ _. tt) result (entered image.now swept.now.pieces.items sites.now.list) }
 {

@@ -1,7 +1,7 @@
 //! The sites of a text, and where the annotations differ from them.
 
 ghost use Rattle.std.specs.Prelude.{◌≡◌, ◌-◌, ◌≤◌, List, IfOk, ◌&&◌};
-ghost use Rattle.image_check.specs.TextSites.{is_nop, is_sti, is_hlt, has_nops, has_hlt, begun_by, pair, single, found_in, is_same, differ};
+ghost use Rattle.image_check.specs.TextSites.{is_nop_role, is_sti, is_hlt, has_nops, has_hlt, begun_by, pair, single, found_in, is_same, differ};
 
 use crate::piece::{Piece, Role};
 use ia32_types::SiteKind;
@@ -23,8 +23,8 @@ pub struct Found {
     pub lacking: Option<u32>,
 }
 
-fn is_nop(role: Role) -> bool
-    ensures { result ≡ is_nop role }
+fn is_nop_role(role: Role) -> bool
+    ensures { result ≡ is_nop_role role }
 {
     matches!(role, Role::Nop)
 }
@@ -50,7 +50,7 @@ fn has_nops(count: u8, pieces: &[Piece]) -> bool
             return false;
         }
         let piece = pieces[i];
-        if !is_nop(piece.role) {
+        if !is_nop_role(piece.role) {
             return false;
         }
     }

@@ -4,7 +4,7 @@ ghost use Rattle.std.specs.Prelude.{◌≡◌, ℕ, ◌+◌, ◌<◌, ◌≤◌,
 ghost use Rattle.sites.specs.declared.limits.TheConstants.{TEXT_LIMIT};
 ghost use Rattle.image_check.specs.Refusals.{Gives};
 ghost use Rattle.image_check.specs.Sweep.{swept_at};
-ghost use Rattle.image_check.specs.Pieces.{is_refused, stop_cause, piece_as, pieces_in, is_start};
+ghost use Rattle.image_check.specs.Pieces.{is_refused, stop_cause, piece_as, pieces_in, is_piece_start};
 ghost use Rattle.ia32_decode.specs.Decoding.{decoded};
 
 use crate::fault::{CheckCause, CheckFault};
@@ -65,7 +65,7 @@ fn piece_at(text: &[u8], at: usize) -> Result<Piece, CheckFault>
 pub fn sweep(alloc: Global, text: &[u8]) -> Result<Swept, CheckFault>
     requires { length text.now ≤ TEXT_LIMIT }
     ensures pieces { Gives (λ swept. swept.pieces.items) result (pieces_in text.now) }
-    ensures starts { IfOk result (λ swept. (i : ℕ) → slice_index_or swept.starts.items i false ≡ is_start swept.pieces.items i) }
+    ensures starts { IfOk result (λ swept. (i : ℕ) → slice_index_or swept.starts.items i false ≡ is_piece_start swept.pieces.items i) }
     ensures len { IfOk result (λ swept. length swept.starts.items ≡ length text.now) }
 {
     let mut pieces = Vec::new(alloc);

@@ -18,7 +18,7 @@ use Rattle.sites.specs.Reading.{cut_before, has_no_kind, head_fault}
 use Rattle.guest_ram.specs.Places.{◌or_else◌}
 use Rattle.sites.specs.Gapped.{gap_at, end_at, passes, has_wrong_length, gap_fault, gaps_fault, gap_site, gap_sites, gapped_in}
 use Rattle.sites.proofs.GapWalk.{in_second}
-use Rattle.sites.proofs.Inverse.{kind_numbered-number, number-kind, byte-behind, head_good, head_was, unless_none, unless_ok, neither, not_bad, second_false, part-word, drop-eight}
+use Rattle.sites.proofs.Inverse.{kind_numbered-number, number-kind, byte-behind, head_good, head_was, unless_none, unless_ok, else_none, then_none, second_false, part-word, drop-eight}
 
 -- ---- what is spelled is read so
 
@@ -136,16 +136,16 @@ was_gap bytes from a e =
     let f1 = then_some (has_no_kind bytes (a + 3)) (a + 3) in
     let f2 = then_some (has_wrong_length bytes (a + 4)) (a + 4) in
     let f3 = cut_before bytes (a + 5) in
-    let n0 = neither f0 (f1 or_else (f2 or_else f3)) e in
-    let n1 = neither f1 (f2 or_else f3) n0.1 in
-    let n2 = neither f2 f3 n1.1 in
-    let room : a + 5 ≤ length bytes = ltb-false _ _ (not_bad (ltb (length bytes) (a + 5)) (length bytes) n2.1) in
+    let n0 = else_none f0 (f1 or_else (f2 or_else f3)) e in
+    let n1 = else_none f1 (f2 or_else f3) n0.1 in
+    let n2 = else_none f2 f3 n1.1 in
+    let room : a + 5 ≤ length bytes = ltb-false _ _ (then_none (ltb (length bytes) (a + 5)) (length bytes) n2.1) in
     let here : not (ltb (length bytes) (a + 3)) ≡ true = ap not (le-ltb (length bytes) (a + 3) (omega arith)) in
-    let size = was_range (byte bytes (a + 4)) (second_false (ltb (a + 4) (length bytes)) (not (ltb 0 (byte bytes (a + 4)) && ltb (byte bytes (a + 4)) 12)) (lt-ltb _ _ (omega arith)) (not_bad (has_wrong_length bytes (a + 4)) (a + 4) n2.0)) in
+    let size = was_range (byte bytes (a + 4)) (second_false (ltb (a + 4) (length bytes)) (not (ltb 0 (byte bytes (a + 4)) && ltb (byte bytes (a + 4)) 12)) (lt-ltb _ _ (omega arith)) (then_none (has_wrong_length bytes (a + 4)) (a + 4) n2.0)) in
     record {
       room = room;
-      end = omega (arith, ltb-false _ _ (second_false (not (ltb (length bytes) (a + 3))) (ltb 4294967295 (end_at bytes from a)) here (not_bad (passes bytes from a) a n0.0)));
-      kind = second_false (ltb (a + 3) (length bytes)) (is_none (kind_numbered (byte bytes (a + 3)))) (lt-ltb _ _ (omega arith)) (not_bad (has_no_kind bytes (a + 3)) (a + 3) n1.0);
+      end = omega (arith, ltb-false _ _ (second_false (not (ltb (length bytes) (a + 3))) (ltb 4294967295 (end_at bytes from a)) here (then_none (passes bytes from a) a n0.0)));
+      kind = second_false (ltb (a + 3) (length bytes)) (is_none (kind_numbered (byte bytes (a + 3)))) (lt-ltb _ _ (omega arith)) (then_none (has_no_kind bytes (a + 3)) (a + 3) n1.0);
       some = size.0;
       most = size.1;
     }
@@ -214,9 +214,9 @@ no_gaps from bytes h = h
 
 gaps_spelled : (n : ℕ) (bytes : List ℕ) (from a : ℕ) → AreBytes bytes → gaps_fault bytes from n a ≡ None → AreSpelled bytes from n a
 unfolding gaps_fault gap_sites
-gaps_spelled zero bytes from a fits e = record { rest = no_gaps from (drop a bytes) (drop_all a bytes (ltb-false _ _ (not_bad (ltb a (length bytes)) a e))); are = tt; count = refl }
+gaps_spelled zero bytes from a fits e = record { rest = no_gaps from (drop a bytes) (drop_all a bytes (ltb-false _ _ (then_none (ltb a (length bytes)) a e))); are = tt; count = refl }
 gaps_spelled (suc n) bytes from a fits e =
-    let both = neither (gap_fault bytes from a) (gaps_fault bytes (end_at bytes from a) n (a + 5)) e in
+    let both = else_none (gap_fault bytes from a) (gaps_fault bytes (end_at bytes from a) n (a + 5)) e in
     let was = was_gap bytes from a both.0 in
     let others = gaps_spelled n bytes (end_at bytes from a) (a + 5) fits both.1 in
     record {
@@ -230,7 +230,7 @@ unfolding gapped_in gapped
 gapped_was bytes sites fits e =
     let n = word32 bytes 4 in
     let ok = unless_ok (head_fault bytes 50 or_else gaps_fault bytes 0 n 8) (in_second (gap_sites bytes 0 n 8)) sites e in
-    let both = neither (head_fault bytes 50) (gaps_fault bytes 0 n 8) ok.0 in
+    let both = else_none (head_fault bytes 50) (gaps_fault bytes 0 n 8) ok.0 in
     let head = head_was bytes 50 both.0 in
     let room : 8 ≤ length bytes = head.0 in
     let all = gaps_spelled n bytes 0 8 fits both.1 in

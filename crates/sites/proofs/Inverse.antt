@@ -151,13 +151,13 @@ placed_read sites are lt =
 
 -- ---- what is read is spelled so
 
-pub neither : (a b : Option ℕ) → (a or_else b) ≡ None → (a ≡ None) × (b ≡ None)
-neither None b e = (refl, e)
-neither (Some a) b e = absurd cc
+pub else_none : (a b : Option ℕ) → (a or_else b) ≡ None → (a ≡ None) × (b ≡ None)
+else_none None b e = (refl, e)
+else_none (Some a) b e = absurd cc
 
-pub not_bad : (is_bad : Bool) (at : ℕ) → then_some is_bad at ≡ None → is_bad ≡ false
-not_bad true at e = absurd cc
-not_bad false at e = refl
+pub then_none : (is_bad : Bool) (at : ℕ) → then_some is_bad at ≡ None → is_bad ≡ false
+then_none true at e = absurd cc
+then_none false at e = refl
 
 pub second_false : (x y : Bool) → x ≡ true → (x && y) ≡ false → y ≡ false
 second_false true y e h = h
@@ -181,18 +181,18 @@ was_site bytes least a e =
     let f2 = then_some (has_wrong_total bytes a) (a + 6) in
     let f3 = then_some (differs bytes (a + 7) 0) (a + 7) in
     let f4 = cut_before bytes (a + 8) in
-    let n0 = neither f0 (f1 or_else (f2 or_else (f3 or_else f4))) e in
-    let n1 = neither f1 (f2 or_else (f3 or_else f4)) n0.1 in
-    let n2 = neither f2 (f3 or_else f4) n1.1 in
-    let n3 = neither f3 f4 n2.1 in
-    let room : a + 8 ≤ length bytes = ltb-false _ _ (not_bad (ltb (length bytes) (a + 8)) (length bytes) n3.1) in
+    let n0 = else_none f0 (f1 or_else (f2 or_else (f3 or_else f4))) e in
+    let n1 = else_none f1 (f2 or_else (f3 or_else f4)) n0.1 in
+    let n2 = else_none f2 (f3 or_else f4) n1.1 in
+    let n3 = else_none f3 f4 n2.1 in
+    let room : a + 8 ≤ length bytes = ltb-false _ _ (then_none (ltb (length bytes) (a + 8)) (length bytes) n3.1) in
     let here : not (ltb (length bytes) (a + 4)) ≡ true = ap not (le-ltb (length bytes) (a + 4) (omega arith)) in
     record {
       room = room;
-      rises = ltb-false _ _ (second_false (not (ltb (length bytes) (a + 4))) (ltb (word32 bytes a) least) here (not_bad (falls bytes least a) a n0.0));
-      kind = second_false (ltb (a + 4) (length bytes)) (is_none (kind_numbered (byte bytes (a + 4)))) (lt-ltb _ _ (omega arith)) (not_bad (has_no_kind bytes (a + 4)) (a + 4) n1.0);
-      total = same_byte bytes (a + 6) (max 5 (byte bytes (a + 5))) (omega arith) (not_bad (has_wrong_total bytes a) (a + 6) n2.0);
-      last = same_byte bytes (a + 7) 0 (omega arith) (not_bad (differs bytes (a + 7) 0) (a + 7) n3.0);
+      rises = ltb-false _ _ (second_false (not (ltb (length bytes) (a + 4))) (ltb (word32 bytes a) least) here (then_none (falls bytes least a) a n0.0));
+      kind = second_false (ltb (a + 4) (length bytes)) (is_none (kind_numbered (byte bytes (a + 4)))) (lt-ltb _ _ (omega arith)) (then_none (has_no_kind bytes (a + 4)) (a + 4) n1.0);
+      total = same_byte bytes (a + 6) (max 5 (byte bytes (a + 5))) (omega arith) (then_none (has_wrong_total bytes a) (a + 6) n2.0);
+      last = same_byte bytes (a + 7) 0 (omega arith) (then_none (differs bytes (a + 7) 0) (a + 7) n3.0);
     }
 
 pub four : (xs : List ℕ) → length xs ≡ 4 → xs ≡ get_or xs 0 0 ∷ get_or xs 1 0 ∷ get_or xs 2 0 ∷ get_or xs 3 0 ∷ []
@@ -240,9 +240,9 @@ record AreSpelled (bytes : List ℕ) (least n a : ℕ) : Type 0 where
 
 sites_spelled : (n : ℕ) (bytes : List ℕ) (least a : ℕ) → AreBytes bytes → sites_fault bytes least n a ≡ None → AreSpelled bytes least n a
 unfolding sites_fault sites_at
-sites_spelled zero bytes least a fits e = record { rest = drop_all a bytes (ltb-false _ _ (not_bad (ltb a (length bytes)) a e)); are = tt; count = refl }
+sites_spelled zero bytes least a fits e = record { rest = drop_all a bytes (ltb-false _ _ (then_none (ltb a (length bytes)) a e)); are = tt; count = refl }
 sites_spelled (suc n) bytes least a fits e =
-    let both = neither (site_fault bytes least a) (sites_fault bytes (word32 bytes a + 1) n (a + 8)) e in
+    let both = else_none (site_fault bytes least a) (sites_fault bytes (word32 bytes a + 1) n (a + 8)) e in
     let was = was_site bytes least a both.0 in
     let others = sites_spelled n bytes (word32 bytes a + 1) (a + 8) fits both.1 in
     record {
@@ -263,15 +263,15 @@ head_was bytes v e =
     let f2 = then_some (differs bytes 2 83) 2 in
     let f3 = then_some (differs bytes 3 v) 3 in
     let f4 = cut_before bytes 8 in
-    let n0 = neither f0 (f1 or_else (f2 or_else (f3 or_else f4))) e in
-    let n1 = neither f1 (f2 or_else (f3 or_else f4)) n0.1 in
-    let n2 = neither f2 (f3 or_else f4) n1.1 in
-    let n3 = neither f3 f4 n2.1 in
-    let room : 8 ≤ length bytes = ltb-false _ _ (not_bad (ltb (length bytes) 8) (length bytes) n3.1) in
-    let b0 = same_byte bytes 0 80 (omega arith) (not_bad (differs bytes 0 80) 0 n0.0) in
-    let b1 = same_byte bytes 1 86 (omega arith) (not_bad (differs bytes 1 86) 1 n1.0) in
-    let b2 = same_byte bytes 2 83 (omega arith) (not_bad (differs bytes 2 83) 2 n2.0) in
-    let b3 = same_byte bytes 3 v (omega arith) (not_bad (differs bytes 3 v) 3 n3.0) in
+    let n0 = else_none f0 (f1 or_else (f2 or_else (f3 or_else f4))) e in
+    let n1 = else_none f1 (f2 or_else (f3 or_else f4)) n0.1 in
+    let n2 = else_none f2 (f3 or_else f4) n1.1 in
+    let n3 = else_none f3 f4 n2.1 in
+    let room : 8 ≤ length bytes = ltb-false _ _ (then_none (ltb (length bytes) 8) (length bytes) n3.1) in
+    let b0 = same_byte bytes 0 80 (omega arith) (then_none (differs bytes 0 80) 0 n0.0) in
+    let b1 = same_byte bytes 1 86 (omega arith) (then_none (differs bytes 1 86) 1 n1.0) in
+    let b2 = same_byte bytes 2 83 (omega arith) (then_none (differs bytes 2 83) 2 n2.0) in
+    let b3 = same_byte bytes 3 v (omega arith) (then_none (differs bytes 3 v) 3 n3.0) in
     (room, part-four bytes 0 (omega arith) ∙ rw (b0, b1, b2, b3) refl)
 
 pub placed_was : (bytes : List ℕ) (sites : SitesParts) → AreBytes bytes → placed_in bytes ≡ Ok sites → (bytes ≡ placed sites.list) × AreInForm 0 sites.list × (sites.format ≡ 1)
@@ -279,7 +279,7 @@ unfolding placed_in placed
 placed_was bytes sites fits e =
     let n = word32 bytes 4 in
     let ok = unless_ok (head_fault bytes 49 or_else sites_fault bytes 0 n 8) (in_first (sites_at bytes n 8)) sites e in
-    let both = neither (head_fault bytes 49) (sites_fault bytes 0 n 8) ok.0 in
+    let both = else_none (head_fault bytes 49) (sites_fault bytes 0 n 8) ok.0 in
     let head = head_was bytes 49 both.0 in
     let room : 8 ≤ length bytes = head.0 in
     let all = sites_spelled n bytes 0 8 fits both.1 in

@@ -1,7 +1,7 @@
 use Rattle.std.proofs.Common.{[], length, take, ap, subst, arith}
 use Rattle.std.specs.Map.{lookup}
 use Rattle.std.specs.Str.{bytes_eq}
-use Rattle.elf_form.specs.StringTable.{with_name, table_bytes, IsTable}
+use Rattle.elf_form.specs.StringTable.{with_name, table_bytes, IsStringTable}
 use Rattle.elf_form.specs.ObjectLayout.{names_of}
 use Rattle.elf_form.proofs.SymbolNames.{names_of-fits, names_of-more}
 use Rattle.elf_form.proofs.strings.strings.Goals as goal
@@ -17,4 +17,4 @@ put_name-requires-in-loop-s c = omega (arith, names_of-fits c.args.symbols.now c
 pub loop-s-preserved : goal.loop-s-preserved
 loop-s-preserved c =
     rw (names_of-more c.args.symbols.now c.loop-s.s-index c.s-item.result c.loop-s-test.true c.s-item.is)
-    (subst (λ name. IsTable (with_name (names_of (take c.loop-s.s-index c.args.symbols.now)) name) c.put_name-in-loop-s.new.strings.items c.put_name-in-loop-s.new.places) c.bytes_of.ensures (c.in_ok-put_name-2.ensures _ c.loop-s.invariant))
+    (subst (λ name. IsStringTable (with_name (names_of (take c.loop-s.s-index c.args.symbols.now)) name) c.put_name-in-loop-s.new.strings.items c.put_name-in-loop-s.new.places) c.bytes_of.ensures (c.in_ok-put_name-2.ensures _ c.loop-s.invariant))

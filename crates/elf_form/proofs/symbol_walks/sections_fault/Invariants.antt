@@ -1,6 +1,6 @@
 use Rattle.std.proofs.Common.{◌≡◌, ◌+◌, ◌*◌, ◌-◌}
-use Rattle.elf_form.specs.Tables.{entries}
-use Rattle.elf_form.specs.Symbols.{first_some, section_test}
+use Rattle.elf_form.specs.Tables.{entries, first_some}
+use Rattle.elf_form.specs.Symbols.{section_test}
 use Rattle.elf_form.proofs.symbol_walks.sections_fault.Given as goal
 
 abbrev pub invariant-loop-i : goal.invariant-loop-i
