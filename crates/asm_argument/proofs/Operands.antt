@@ -1,7 +1,7 @@
 -- One argument: what the terminals so far say, and how it may go on.
 use Rattle.std.proofs.Common.{◌≡◌, ℕ, Bool, true, false, cond, List, [], ◌∷◌, ◌++◌, Option, Some, None, Result, Ok, Err, refl, sym, ap, subst, ◌∙◌, ◌⊎◌, inl, inr, append_assoc}
 use Rattle.std.proofs.lemmas.List.{append-nil}
-use Rattle.std.specs.Prelude.{ℤ, pos}
+use Rattle.std.specs.Prelude.{ℤ, pos, not}
 use Rattle.asm_lex.specs.declared.fault.SourceCause.{SourceCause}
 use Rattle.asm_lex.specs.declared.fault.SourceCause.TheVariants as cause
 use Rattle.asm_argument.specs.declared.terminal.Terminal.{Terminal}
@@ -16,7 +16,7 @@ use Rattle.asm_source.specs.declared.tree.Value.{Value}
 use Rattle.asm_source.specs.declared.tree.Form.{Form}
 use Rattle.asm_source.specs.declared.tree.Form.TheVariants as form
 use Rattle.asm_argument.specs.Grammar.{IsConstant, IsValue, IsAddress, IsForm}
-use Rattle.asm_argument.specs.Operand.{begun, counted, allowed, lowered, registered, turned, first, open_paren, address_step, next_terminal, operand_step, finished}
+use Rattle.asm_argument.specs.Operand.{begun, counted, allowed, lowered, registered, first, open_paren, address_step, next_terminal, operand_step, finished}
 use Rattle.asm_argument.specs.Shapes.{takes_names, takes_sums, takes_minus, takes_numbers, takes_text, takes_absent, fits, signed, named, plain, of_memory, is_operand, is_low, is_register, is_scale}
 
 abbrev pub ok : Partial → Result Partial SourceCause
@@ -395,10 +395,6 @@ offset_value : (sh : Shape) (p : ValuePlace) (n : List ℕ) (neg : Bool) (cs ss 
 offset_value sh p n true cs ss z a b c e = (terminal.Name n ∷ terminal.Minus ∷ cs, IsValue.difference a b c, e)
 offset_value sh p n false cs ss z a b c e = (terminal.Name n ∷ terminal.Plus ∷ cs, IsValue.sum a b c, e)
 
-minus_constant : (neg : Bool) (k : ℕ) → is_low k ≡ true → IsConstant neg (terminal.Minus ∷ terminal.Number k ∷ []) (turned neg k)
-minus_constant true k low = IsConstant.minus low
-minus_constant false k low = IsConstant.minus low
-
 pub more : (sh : Shape) (p : Partial) (s : Terminal) (q : Partial) (ss : List Terminal) → Spelled sh p ss → next_terminal sh p s ≡ ok q → Spelled sh q (ss ++ s ∷ [])
 more sh partial.Nothing s q ss h e = rw h (first_terminal sh s q e)
 more sh partial.Absent s q ss h e = rw h.0 (first_terminal sh s q e)
@@ -430,8 +426,8 @@ more sh (partial.Sign p n neg) (terminal.Number k) q ss h e =
     subst (λ (x : Partial). Spelled sh x (ss ++ terminal.Number k ∷ [])) (ok_is (partial.Number p (named n (signed neg k))) q e) (h.0, v.0, v.1, v.2)
 more sh (partial.Sign p n neg) _ q ss h e = absurd cc
 more sh (partial.SignMinus p n neg) (terminal.Number k) q ss h e =
-    let g = lowered_ok k true (partial.Number p (named n (turned neg k))) q e in
-    let v = offset_value sh p n neg (terminal.Minus ∷ terminal.Number k ∷ []) (ss ++ terminal.Number k ∷ []) (turned neg k) h.1 h.3 (minus_constant neg k g.0) (ending _ _ _ h.2 ∙ append_assoc (lead p) (terminal.Name n ∷ sign neg ∷ terminal.Minus ∷ []) (terminal.Number k ∷ [])) in
+    let g = lowered_ok k true (partial.Number p (named n (signed (not neg) k))) q e in
+    let v = offset_value sh p n neg (terminal.Minus ∷ terminal.Number k ∷ []) (ss ++ terminal.Number k ∷ []) (signed (not neg) k) h.1 h.3 (IsConstant.minus g.0) (ending _ _ _ h.2 ∙ append_assoc (lead p) (terminal.Name n ∷ sign neg ∷ terminal.Minus ∷ []) (terminal.Number k ∷ [])) in
     subst (λ (x : Partial). Spelled sh x (ss ++ terminal.Number k ∷ [])) g.2 (h.0, v.0, v.1, v.2)
 more sh (partial.SignMinus p n neg) _ q ss h e = absurd cc
 more sh (partial.Number p v) terminal.Open q ss h e = opens sh p v h.1 ss q h.2 h.3 e

@@ -1,5 +1,5 @@
 -- One argument, terminal by terminal.
-use Rattle.std.specs.Prelude.{ℕ, ℤ, pos, ◌-ℤ◌, Bool, true, false, List, Option, Some, None, Result, Ok, Err, if◌then◌else◌}
+use Rattle.std.specs.Prelude.{ℕ, pos, Bool, true, false, not, List, Option, Some, None, Result, Ok, Err, if◌then◌else◌}
 use Rattle.asm_lex.specs.declared.fault.SourceCause.{SourceCause}
 use Rattle.asm_lex.specs.declared.fault.SourceCause.TheVariants as cause
 use Rattle.asm_argument.specs.declared.terminal.Terminal.{Terminal}
@@ -14,10 +14,6 @@ use Rattle.asm_source.specs.declared.tree.Value.{Value}
 use Rattle.asm_source.specs.declared.tree.Form.{Form}
 use Rattle.asm_source.specs.declared.tree.Form.TheVariants as form
 use Rattle.asm_argument.specs.Shapes.{signed, named, plain, of_memory, is_operand, takes_names, takes_sums, takes_minus, takes_numbers, takes_text, fits, is_low, is_register, is_scale}
-
-abbrev pub turned : Bool → ℕ → ℤ
-turned true n = pos n
-turned false n = pos 0 -ℤ pos n
 
 -- an argument of which nothing has been read
 abbrev pub begun : Shape → Partial
@@ -90,7 +86,7 @@ next_terminal sh (partial.Name p n) _ = Err cause.BadOperand
 next_terminal sh (partial.Sign p n neg) terminal.Minus = Ok (partial.SignMinus p n neg)
 next_terminal sh (partial.Sign p n neg) (terminal.Number k) = Ok (partial.Number p (named n (signed neg k)))
 next_terminal sh (partial.Sign p n neg) _ = Err cause.BadOperand
-next_terminal sh (partial.SignMinus p n neg) (terminal.Number k) = lowered k true (partial.Number p (named n (turned neg k)))
+next_terminal sh (partial.SignMinus p n neg) (terminal.Number k) = lowered k true (partial.Number p (named n (signed (not neg) k)))
 next_terminal sh (partial.SignMinus p n neg) _ = Err cause.BadOperand
 next_terminal sh (partial.Number p v) terminal.Open = open_paren sh p v
 next_terminal sh (partial.Number p v) _ = Err cause.BadOperand

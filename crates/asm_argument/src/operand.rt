@@ -111,16 +111,6 @@ fn signed(negative: bool, n: u32) -> i64
     }
 }
 
-fn turned(negative: bool, n: u32) -> i64
-    ensures { result ≡ spec.turned negative n }
-{
-    if negative {
-        i64::from(n)
-    } else {
-        0 - i64::from(n)
-    }
-}
-
 fn named(name: Name, number: i64) -> Value
     ensures { result ≡ shapes.named name number }
 {
@@ -423,7 +413,7 @@ pub fn operand_step(
                 true,
                 Partial::Number {
                     place,
-                    value: named(name, turned(negative, n)),
+                    value: named(name, signed(!negative, n)),
                 },
             ),
             _ => Err(SourceCause::BadOperand),

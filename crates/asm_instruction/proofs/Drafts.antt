@@ -19,17 +19,17 @@ use Rattle.asm_instruction.specs.declared.mnemonic.Family.TheVariants as family
 use Rattle.asm_instruction.specs.declared.mnemonic.Mnemonic.{Mnemonic}
 use Rattle.asm_instruction.specs.Sizes.{agreed}
 use Rattle.asm_instruction.specs.Draft.{nothing, register_operand, memory, register_or_memory, said, instruction, alone}
-use Rattle.asm_instruction.specs.Strings.{repeated as repeated_string, string_draft}
+use Rattle.asm_instruction.specs.Strings.{as_string, string_draft}
 use Rattle.asm_instruction.specs.Flags.{without_operands, plain_draft}
 use Rattle.asm_instruction.specs.System.{through, between, ported, memory_alone, of_memory, task, system_draft}
-use Rattle.asm_instruction.specs.Mnemonic.{by_family, repeated as repeated_name, drafted, without_repeat}
+use Rattle.asm_instruction.specs.Mnemonic.{by_family, repeated, drafted, without_repeat}
 use Rattle.asm_instruction.proofs.Goods.{When, bind_from, bind_any, choice, PlaceGood, GivenGood, OperandsGood, DraftGood, opposite, family_good, not_direct}
 use Rattle.asm_instruction.proofs.Goods.{Good, instruction_good, instruction_op, instruction_numbered, rom_good, arithmetic_good, shift_good}
 use Rattle.asm_instruction.proofs.MovesGood.{move_good, stack_good}
 use Rattle.asm_instruction.proofs.ControlGood.{control_good}
 
 module _ (args : List Argument) where
-  pub repeated_good : (d : Draft) (s : Size) (r : Bool) → is_direct_branch d.insn.op ≡ false → DraftGood args d → DraftGood args (repeated_string d s r)
+  pub repeated_good : (d : Draft) (s : Size) (r : Bool) → is_direct_branch d.insn.op ≡ false → DraftGood args d → DraftGood args (as_string d s r)
   repeated_good d s r e g = record {
     bounded = record { a = g.bounded.a; b = g.bounded.b; imm = g.bounded.imm; sel = g.bounded.sel };
     direct = λ t. absurd (opposite (is_direct_branch d.insn.op) e t);
@@ -127,7 +127,7 @@ module _ (args : List Argument) where
   by_family_good (family.Plain o) f os e h = plain_good o f os (not_direct o e)
   by_family_good (family.System k) f os e h = system_good k f os e h
 
-  pub repeated_family : (k : Family) (os : Operands) → family_good k ≡ true → Good args (repeated_name k os)
+  pub repeated_family : (k : Family) (os : Operands) → family_good k ≡ true → Good args (repeated k os)
   repeated_family (family.Strings o s) os e = string_good true o s os (not_direct o e)
   repeated_family (family.Arithmetic k) os e = tt
   repeated_family (family.Shift o) os e = tt
@@ -139,4 +139,4 @@ module _ (args : List Argument) where
 
   pub drafted_good : (rep : Bool) (m : Mnemonic) (os : Operands) → family_good m.family ≡ true → OperandsGood args os → When (DraftGood args) (drafted rep m os)
   unfolding drafted without_repeat
-  drafted_good rep m os e h = choice (DraftGood args) rep (repeated_name m.family os) (by_family m.family m.suffix os) (repeated_family m.family os e) (by_family_good m.family m.suffix os e h)
+  drafted_good rep m os e h = choice (DraftGood args) rep (repeated m.family os) (by_family m.family m.suffix os) (repeated_family m.family os e) (by_family_good m.family m.suffix os e h)

@@ -6,5 +6,7 @@ pub mod Drafts
 pub mod Naming
 pub mod Answered
 pub mod KnownNames
+pub mod Fitting
+pub mod MovesFit
 pub mod Ranges
 pub mod Refusing

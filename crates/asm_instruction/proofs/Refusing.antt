@@ -22,7 +22,8 @@ use Rattle.asm_instruction.specs.Refusals.{IsName, IsRefused, IsUnknown, Means, 
 use Rattle.asm_instruction.proofs.Goods.{When, DraftGood}
 use Rattle.asm_instruction.proofs.Naming.{known_good}
 use Rattle.asm_instruction.proofs.Answered.{drafted_of_good}
-use Rattle.asm_instruction.proofs.Ranges.{all_fit, drafted_fit, one_unfit, unfit_all}
+use Rattle.asm_instruction.proofs.Fitting.{all_fit, one_unfit, unfit_all}
+use Rattle.asm_instruction.proofs.Ranges.{drafted_fit}
 use Rattle.asm_instruction.proofs.KnownNames.{known_named, named_known, refused_found, found_refused, not_both}
 
 module _ (rep : Bool) (name : List ℕ) (args : List Argument) where

@@ -19,9 +19,10 @@ string_names =
     (codes "stosb", family.Strings op.Stos size.Byte) ∷ (codes "stosl", family.Strings op.Stos size.Long) ∷
     (codes "lodsb", family.Strings op.Lods size.Byte) ∷ (codes "lodsl", family.Strings op.Lods size.Long) ∷ []
 
-abbrev pub repeated : Draft → Size → Bool → Draft
-repeated d s rep = record d { insn = record d.insn { size = s; rep = rep } }
+-- of this size, with or without the repeat prefix
+abbrev pub as_string : Draft → Size → Bool → Draft
+as_string d s rep = record d { insn = record d.insn { size = s; rep = rep } }
 
 unfoldable pub string_draft : Bool → Op → Size → Operands → Option Draft
-string_draft rep o s operands.Nothing = Some (repeated (alone o) s rep)
+string_draft rep o s operands.Nothing = Some (as_string (alone o) s rep)
 string_draft rep o s _ = None

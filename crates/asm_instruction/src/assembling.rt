@@ -21,7 +21,7 @@ const EMPTY: ArrayBytes = ArrayBytes {
 };
 
 // The field at this place, if its argument names a symbol.
-fn field(named: bool, argument: Option<u8>, at: u8, relative: bool) -> Option<Named>
+fn named_field(named: bool, argument: Option<u8>, at: u8, relative: bool) -> Option<Named>
     ensures { result ≡ spec.named_field named argument at relative }
 {
     match argument {
@@ -57,8 +57,8 @@ fn whole(draft: &Draft, wide: Wide, spelling: ArrayBytes) -> Assembled
     Assembled {
         spelling,
         insn: draft.insn,
-        disp: field(wide.disp, draft.disp, spelling.disp_at, false),
-        imm: field(wide.imm, draft.imm, spelling.imm_at, draft.relative),
+        disp: named_field(wide.disp, draft.disp, spelling.disp_at, false),
+        imm: named_field(wide.imm, draft.imm, spelling.imm_at, draft.relative),
     }
 }
 

@@ -54,7 +54,7 @@ RefusedFor text (Err fault.Memory) = Unit {0}
 RefusedFor text (Err (fault.At l c)) = IsRefused text l c
 
 -- the refusal in this line for this cause, unless memory ran out
-abbrev pub RefusesAs : ℕ → SourceCause → Result (Vec Token) SourceFault → Type 0
-RefusesAs l c (Ok v) = ⊥
+abbrev pub RefusesAs : {A : Type 0} → ℕ → SourceCause → Result A SourceFault → Type 0
+RefusesAs l c (Ok x) = ⊥
 RefusesAs l c (Err fault.Memory) = Unit {0}
 RefusesAs l c (Err (fault.At k d)) = (k ≡ l) × (d ≡ c)

@@ -144,8 +144,8 @@ between_goes_on p t h between alive =
     )
 
 -- Where nothing is dead some text goes on.
-pub goes_on : (p : List ℕ) (s : Running) → run start p ≡ Ok s → IsClosed (Goes s.mode) → doom s.scope s.state ≡ None → (more : List ℕ) × IsRead (p ++ more)
-goes_on p s h k alive =
+pub closed_goes_on : (p : List ℕ) (s : Running) → run start p ≡ Ok s → IsClosed (Goes s.mode) → doom s.scope s.state ≡ None → (more : List ℕ) × IsRead (p ++ more)
+closed_goes_on p s h k alive =
     let c = closes s.scope s.state s.mode s.seen s.at s.line k in
     let runs : run start (p ++ closing s.mode) ≡ Ok c.last = run_two start s p (closing s.mode) h ∙ c.runs in
     let g = between_goes_on (p ++ closing s.mode) c.last runs c.between (rw (c.scope, c.state) alive) in

@@ -31,7 +31,7 @@ use Rattle.asm_parse.specs.declared.state.StatementState.TheVariants as state
 use Rattle.asm_parse.specs.ScopeView.{ScopeView}
 use Rattle.asm_source.specs.Names.{holds}
 use Rattle.asm_parse.specs.Scope.{has_room, is_spent, pushed, noted, defined_too}
-use Rattle.asm_argument.specs.Operand.{turned, finished, is_nothing}
+use Rattle.asm_argument.specs.Operand.{finished, is_nothing}
 use Rattle.asm_argument.specs.Shapes.{is_operand, takes_numbers, fits, is_register, signed, named, plain, of_memory}
 use Rattle.asm_argument.specs.Grammar.{IsValue, IsForm}
 use Rattle.asm_argument.specs.Escapes.{opening, string_text}
@@ -116,8 +116,8 @@ finish sh (partial.Name place.Memory n) never = done sh (partial.Name place.Memo
 finish sh (partial.Name place.Immediate n) never = done sh (partial.Name place.Immediate n) (form.Immediate (named n (pos 0))) refl
 finish sh (partial.Sign place.Memory n b) never = record { pieces = the_one ∷ []; are = (one_piece, tt); last = partial.Number place.Memory (named n (signed b 1)); form = of_memory (Some (named n (signed b 1))) None None 1; runs = refl; ends = refl; names = refl }
 finish sh (partial.Sign place.Immediate n b) never = record { pieces = the_one ∷ []; are = (one_piece, tt); last = partial.Number place.Immediate (named n (signed b 1)); form = form.Immediate (named n (signed b 1)); runs = refl; ends = refl; names = refl }
-finish sh (partial.SignMinus place.Memory n b) never = record { pieces = the_one ∷ []; are = (one_piece, tt); last = partial.Number place.Memory (named n (turned b 1)); form = of_memory (Some (named n (turned b 1))) None None 1; runs = refl; ends = refl; names = refl }
-finish sh (partial.SignMinus place.Immediate n b) never = record { pieces = the_one ∷ []; are = (one_piece, tt); last = partial.Number place.Immediate (named n (turned b 1)); form = form.Immediate (named n (turned b 1)); runs = refl; ends = refl; names = refl }
+finish sh (partial.SignMinus place.Memory n b) never = record { pieces = the_one ∷ []; are = (one_piece, tt); last = partial.Number place.Memory (named n (signed (not b) 1)); form = of_memory (Some (named n (signed (not b) 1))) None None 1; runs = refl; ends = refl; names = refl }
+finish sh (partial.SignMinus place.Immediate n b) never = record { pieces = the_one ∷ []; are = (one_piece, tt); last = partial.Number place.Immediate (named n (signed (not b) 1)); form = form.Immediate (named n (signed (not b) 1)); runs = refl; ends = refl; names = refl }
 finish sh (partial.Number place.Memory v) never = done sh (partial.Number place.Memory v) (of_memory (Some v) None None 1) refl
 finish sh (partial.Number place.Immediate v) never = done sh (partial.Number place.Immediate v) (form.Immediate v) refl
 finish sh (partial.Open v) never = record { pieces = the_mark 37 ∷ the_name low ∷ the_mark 41 ∷ []; are = (percent_piece, low_close); last = partial.Whole (of_memory v (Some low) None 1); form = of_memory v (Some low) None 1; runs = rw (low_register, operand_run) refl; ends = refl; names = refl }

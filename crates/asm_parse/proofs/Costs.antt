@@ -12,7 +12,7 @@ use Rattle.asm_argument.specs.declared.escapes.Escape.{Escape}
 use Rattle.asm_argument.specs.declared.escapes.Escape.TheVariants as escape
 use Rattle.asm_argument.specs.declared.escapes.Unescaped.{Unescaped}
 use Rattle.asm_lex.specs.Bytes.{is_octal}
-use Rattle.asm_argument.specs.Escapes.{plain, escape_step, opening, string_text}
+use Rattle.asm_argument.specs.Escapes.{plain_step, escape_step, opening, string_text}
 use Rattle.asm_argument.specs.Terminals.{number_value, mark_terminal, number_terminal, terminal_of}
 use Rattle.asm_parse.specs.Statements.{terminals}
 
@@ -45,10 +45,10 @@ gives_either : (o : ℕ) (t : Bool) (a b : Unescaped) → Gives o a → Gives o 
 gives_either o true a b p q = p
 gives_either o false a b p q = q
 
-plain_none : (b : ℕ) → Gives 0 (plain None b)
+plain_none : (b : ℕ) → Gives 0 (plain_step None b)
 plain_none b = gives_either 0 (b == 92) _ _ (omega arith) (gives_either 0 (b == 34) _ _ (omega arith) (omega arith))
 
-plain_some : (v b : ℕ) → Gives 1 (plain (Some v) b)
+plain_some : (v b : ℕ) → Gives 1 (plain_step (Some v) b)
 plain_some v b = gives_either 1 (b == 92) _ _ (omega arith) (gives_either 1 (b == 34) _ _ (omega arith) (omega arith))
 
 step_gives : (e : Escape) (b : ℕ) → Gives (owed e) (escape_step e b)

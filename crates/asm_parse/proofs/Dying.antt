@@ -1,6 +1,6 @@
 -- The line of a fault is the first after which no text goes on.
 use Rattle.std.proofs.Common.{◌≡◌, ℕ, zero, suc, ◌+◌, ◌≤◌, ◌<◌, Bool, true, false, List, [], ◌∷◌, ◌++◌, Option, Some, None, Result, Ok, Err, refl, sym, ap, ◌∙◌, arith, inl, inr}
-use Rattle.std.specs.Prelude.{◌==◌}
+use Rattle.std.specs.Prelude.{◌==◌, unwrap_or}
 use Rattle.asm_lex.specs.declared.fault.SourceCause.{SourceCause}
 use Rattle.asm_lex.specs.declared.fault.SourceCause.TheVariants.{OpenComment}
 use Rattle.asm_lex.specs.declared.machine.Mode.TheVariants as mode
@@ -9,7 +9,7 @@ use Rattle.asm_lex.specs.Words.{Word, scan, line_after}
 use Rattle.asm_parse.specs.declared.state.StatementState.{StatementState}
 use Rattle.asm_parse.specs.declared.state.StatementState.TheVariants as state
 use Rattle.asm_parse.specs.ScopeView.{ScopeView}
-use Rattle.asm_parse.specs.Statement.{doom, pending, or_line, fault_line, left_open, open_at_end}
+use Rattle.asm_parse.specs.Statement.{doom, pending, fault_line, left_open, open_at_end}
 use Rattle.asm_parse.specs.Reading.{Fault, placed, next_word}
 use Rattle.asm_lex.specs.Lines.{first_lines}
 use Rattle.asm_parse.specs.Running.{Running, ◌>>=◌, one_byte, run, start, closed, read}
@@ -55,10 +55,10 @@ doomed_never r l good d more t h =
 
 -- ---- the line of a fault
 
-some_line : (o : Option ℕ) (l line : ℕ) → o ≡ Some l → or_line o line ≡ l
+some_line : (o : Option ℕ) (l line : ℕ) → o ≡ Some l → unwrap_or o line ≡ l
 some_line o l line e = rw e refl
 
-none_line : (o : Option ℕ) (line : ℕ) → o ≡ None → or_line o line ≡ line
+none_line : (o : Option ℕ) (line : ℕ) → o ≡ None → unwrap_or o line ≡ line
 none_line o line e = rw e refl
 
 err_same : {f g : Fault} → ◌≡◌ {A = Result Running Fault} (Err f) (Err g) → f ≡ g

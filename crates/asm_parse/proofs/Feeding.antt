@@ -2,8 +2,8 @@
 use Rattle.std.proofs.Common.{◌≡◌, ℕ, ◌+◌, false, length, Result, Ok, Err, refl, ap}
 use Rattle.asm_lex.specs.declared.fault.SourceCause.{SourceCause}
 use Rattle.asm_parse.specs.declared.state.StatementState.{StatementState}
-use Rattle.asm_parse.specs.declared.stop.StepFault.{StepFault}
-use Rattle.asm_parse.specs.declared.stop.StepFault.TheVariants as stop
+use Rattle.asm_parse.specs.declared.fault.StepFault.{StepFault}
+use Rattle.asm_parse.specs.declared.fault.StepFault.TheVariants as step_fault
 use Rattle.asm_parse.specs.ScopeView.{ScopeView}
 use Rattle.asm_lex.specs.Words.{Word}
 use Rattle.asm_lex.specs.declared.fault.SourceFault.{SourceFault}
@@ -15,8 +15,8 @@ use Rattle.asm_argument.specs.declared.terminal.Terminal.{Terminal}
 
 pub feeds : (new : ScopeView) (line : ℕ) (s : Result StatementState StepFault) (r : Result (ScopeView × StatementState) SourceCause) → Does new s r → Feeds new (at_line line s) (placed line r)
 feeds new line (Ok st) r h = rw h refl
-feeds new line (Err (stop.Cause c)) r h = rw h refl
-feeds new line (Err stop.Memory) r h = tt
+feeds new line (Err (step_fault.Cause c)) r h = rw h refl
+feeds new line (Err step_fault.Memory) r h = tt
 
 pub fed_terminal : (new : ScopeView) (line at : ℕ) (s : Result StatementState StepFault) (r : Result (ScopeView × StatementState) SourceCause) (out : Result StatementState SourceFault)
     → at ≡ line → out ≡ at_line at s → Does new s r → Feeds new out (placed line r)

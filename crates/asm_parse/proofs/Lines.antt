@@ -1,5 +1,6 @@
 -- A fault of one byte is in its line, or in that of a token with which no text goes on.
 use Rattle.std.proofs.Common.{◌≡◌, ℕ, List, [], ◌∷◌, ◌++◌, Option, Some, None, Result, Ok, Err, refl, sym, ap, subst, ◌∙◌, ◌⊎◌, inl, inr}
+use Rattle.std.specs.Prelude.{unwrap_or}
 use Rattle.asm_lex.specs.declared.machine.Mode.{Mode}
 use Rattle.asm_lex.specs.declared.machine.Next.{Next}
 use Rattle.asm_lex.specs.declared.machine.Next.TheVariants.{Goes, Stops}
@@ -9,7 +10,7 @@ use Rattle.asm_lex.specs.Machine.{stepped}
 use Rattle.asm_lex.specs.Words.{Word, word_of, line_after}
 use Rattle.asm_parse.specs.declared.state.StatementState.{StatementState}
 use Rattle.asm_parse.specs.ScopeView.{ScopeView}
-use Rattle.asm_parse.specs.Statement.{doom, or_line, fault_line, stopped}
+use Rattle.asm_parse.specs.Statement.{doom, fault_line, stopped}
 use Rattle.asm_parse.specs.Reading.{Fault, fed, placed, next_word}
 use Rattle.asm_parse.specs.Running.{Running, ◌>>=◌, goes_on, byte_does, second_does, one_byte_over, moved, one_byte, run, read}
 use Rattle.asm_parse.proofs.Scopes.{GoodIn}
@@ -43,8 +44,8 @@ keeps_on : (sc sc2 sc3 : ScopeView) (st st2 st3 : StatementState) (line : ℕ) �
 keeps_on sc sc2 sc3 st st2 st3 line p q g = let a = p g in let b = q a.1 in (doom_on sc sc2 sc3 st st2 st3 line a.0 b.0, b.1)
 
 doom_line : (sc sc2 : ScopeView) (st st2 : StatementState) (line : ℕ) → Doom sc st line sc2 st2 → fault_line sc2 st2 line ≡ fault_line sc st line
-doom_line sc sc2 st st2 line (inl e) = ap (λ (d : Option ℕ). or_line d line) e
-doom_line sc sc2 st st2 line (inr (n, s)) = ap (λ (d : Option ℕ). or_line d line) s ∙ sym (ap (λ (d : Option ℕ). or_line d line) n)
+doom_line sc sc2 st st2 line (inl e) = ap (λ (d : Option ℕ). unwrap_or d line) e
+doom_line sc sc2 st st2 line (inr (n, s)) = ap (λ (d : Option ℕ). unwrap_or d line) s ∙ sym (ap (λ (d : Option ℕ). unwrap_or d line) n)
 
 placed_line : (line : ℕ) (r : Answer) (f : Fault) → placed line r ≡ Err f → f.0 ≡ line
 placed_line line (Ok x) f h = absurd cc

@@ -14,7 +14,7 @@ use Rattle.asm_source.specs.declared.tree.Form.TheVariants as form
 use Rattle.asm_parse.specs.ScopeView.{ScopeView}
 use Rattle.asm_source.specs.Names.{holds, name_of, symbol_in}
 use Rattle.asm_parse.specs.Scope.{has_room, noted, defined_too}
-use Rattle.asm_argument.specs.Operand.{turned, is_nothing, first, allowed, counted, lowered, registered, next_terminal, operand_step, finished, is_finished, name_in}
+use Rattle.asm_argument.specs.Operand.{is_nothing, first, allowed, counted, lowered, registered, next_terminal, operand_step, finished, is_finished, name_in}
 use Rattle.asm_argument.specs.Shapes.{is_operand, takes_names, takes_sums, takes_minus, takes_numbers, takes_text, fits, signed, named, plain, of_memory, is_register, is_scale, is_low}
 use Rattle.asm_parse.specs.Statement.{noting}
 use Rattle.asm_parse.specs.Statements.{IsSeen}
@@ -92,7 +92,7 @@ name_step sh (partial.Name a n) _ q h = absurd cc
 name_step sh (partial.Sign a n neg) terminal.Minus q h = subst (Keeps (partial.Sign a n neg) terminal.Minus) (ok_is (partial.SignMinus a n neg) q h) (inl (refl, refl))
 name_step sh (partial.Sign a n neg) (terminal.Number k) q h = subst (Keeps (partial.Sign a n neg) (terminal.Number k)) (ok_is (partial.Number a (named n (signed neg k))) q h) (inl (refl, refl))
 name_step sh (partial.Sign a n neg) _ q h = absurd cc
-name_step sh (partial.SignMinus a n neg) (terminal.Number k) q h = subst (Keeps (partial.SignMinus a n neg) (terminal.Number k)) (lowered_ok k true (partial.Number a (named n (turned neg k))) q h).2 (inl (refl, refl))
+name_step sh (partial.SignMinus a n neg) (terminal.Number k) q h = subst (Keeps (partial.SignMinus a n neg) (terminal.Number k)) (lowered_ok k true (partial.Number a (named n (signed (not neg) k))) q h).2 (inl (refl, refl))
 name_step sh (partial.SignMinus a n neg) _ q h = absurd cc
 name_step sh (partial.Number place.Memory v) terminal.Open q h = subst (Keeps (partial.Number place.Memory v) terminal.Open) (allowed_ok (is_operand sh) (partial.Open (Some v)) q h).1 (inl (refl, refl))
 name_step sh (partial.Number place.Immediate v) terminal.Open q h = absurd cc
@@ -249,7 +249,7 @@ terminal_some sh (partial.Name a n) _ = tt
 terminal_some sh (partial.Sign a n neg) terminal.Minus = refl
 terminal_some sh (partial.Sign a n neg) (terminal.Number k) = refl
 terminal_some sh (partial.Sign a n neg) _ = tt
-terminal_some sh (partial.SignMinus a n neg) (terminal.Number k) = lowered_some k true (partial.Number a (named n (turned neg k))) refl
+terminal_some sh (partial.SignMinus a n neg) (terminal.Number k) = lowered_some k true (partial.Number a (named n (signed (not neg) k))) refl
 terminal_some sh (partial.SignMinus a n neg) _ = tt
 terminal_some sh (partial.Number place.Memory v) terminal.Open = allowed_some (is_operand sh) (partial.Open (Some v)) refl
 terminal_some sh (partial.Number place.Immediate v) terminal.Open = tt

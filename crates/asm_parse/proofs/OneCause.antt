@@ -16,7 +16,8 @@ use Rattle.asm_parse.specs.Statement.{doom, fault_line}
 use Rattle.asm_parse.specs.Reading.{placed, next_word}
 use Rattle.asm_parse.specs.Running.{◌>>=◌, read, Parses, HasReading}
 use Rattle.asm_parse.specs.Statements.{terminals, Statements}
-use Rattle.asm_parse.specs.Refusals.{Ending, Worded, IsBeginning, IsNoBeginning, StatementPlace, Reaches, refused_cause, byte_cause, Refused, RefusesAs}
+use Rattle.asm_parse.specs.Refusals.{Ending, Worded, IsBeginning, IsNoBeginning, StatementPlace, Reaches, refused_cause, byte_cause, Refused}
+use Rattle.asm_lex.specs.Refusals.{RefusesAs}
 use Rattle.asm_parse.proofs.Words.{read_words}
 use Rattle.asm_parse.proofs.Scopes.{GoodIn, fresh_good}
 use Rattle.asm_parse.proofs.Quiet.{Any, any_next, Answer}

@@ -1,8 +1,9 @@
 -- What has been read of a statement leads to a place, and what is refused there has its cause.
 use Rattle.std.proofs.Common.{◌≡◌, ℕ, Bool, true, false, cond, List, [], ◌∷◌, ◌++◌, length, Option, Some, None, Result, Ok, Err, refl, sym, ap, subst, ◌∙◌, inl, inr}
 use Rattle.std.proofs.lemmas.List.{append-nil}
-use Rattle.std.specs.Prelude.{◌==◌, ◌&&◌, ◌||◌, ◌+◌, ◌^◌, nat_lt}
+use Rattle.std.specs.Prelude.{◌==◌, ◌&&◌, ◌||◌, ◌+◌, ◌^◌, nat_lt, unwrap_or}
 use Rattle.std.specs.List.{list_all}
+use Rattle.std.specs.Bool.{then_some}
 use Rattle.asm_lex.specs.declared.fault.SourceCause.{SourceCause}
 use Rattle.asm_lex.specs.declared.fault.SourceCause.TheVariants as cause
 use Rattle.asm_lex.specs.Words.{Word}
@@ -30,7 +31,7 @@ use Rattle.asm_parse.specs.Items.{is_part}
 use Rattle.asm_argument.specs.Operand.{is_unbegun, is_nothing, awaits_register}
 use Rattle.asm_argument.specs.Shapes.{is_operand}
 use Rattle.asm_parse.specs.Directives.{shape_at, is_instruction, directive_of, is_dotted, is_section}
-use Rattle.asm_parse.specs.Statement.{misplaced, noting, with_scope, nothing_yet, argument_step, labelled, label, rep_step, section_name, of_directive, directive_step, unless_skipping, named_step, sectioned_step, step, skip, is_unknown, is_taken, lacks_names, if_doomed, doom, fault_line, is_place, strayed, next_step, pending, or_cause}
+use Rattle.asm_parse.specs.Statement.{misplaced, noting, with_scope, nothing_yet, argument_step, labelled, label, rep_step, section_name, of_directive, directive_step, unless_skipping, named_step, sectioned_step, step, skip, is_unknown, is_taken, lacks_names, doom, fault_line, is_place, strayed, next_step, pending}
 use Rattle.asm_parse.specs.Items.{is_rep, is_passed}
 use Rattle.asm_parse.specs.Statements.{IsArgument, has_list, is_inner, Statement, terminals, Touch}
 use Rattle.asm_parse.specs.Refusals.{StatementPlace, Leads, Opens, LeadsTo, last_of, is_percent, other_cause, name_cause, operand_cause, value_cause, directive_cause, named_cause, cause_at, percent_cause, behind_cause, refused_cause, byte_cause}
@@ -145,7 +146,7 @@ pub record Suits (sc0 : ScopeView) (place : StatementPlace) (sc : ScopeView) (st
   pub cause : (line : ℕ) (s : Terminal) (rest : List Terminal) (c : SourceCause) → next_step sc st line s ≡ Err c → refused_cause sc0 place s rest ≡ c
   pub percent : (line : ℕ) (rest : List Terminal) (c : SourceCause) → step sc st line terminal.Percent ≡ Err c → refused_cause sc0 place terminal.Percent rest ≡ percent_cause c rest
   pub first : st ≡ state.Start → (sc0 ≡ sc) × (place ≡ StatementPlace.first)
-  pub byte : (c : SourceCause) → or_cause (pending sc st) c ≡ byte_cause sc0 place c
+  pub byte : (c : SourceCause) → unwrap_or (pending sc st) c ≡ byte_cause sc0 place c
 
 pub record Standing (sc0 : ScopeView) (st : StatementState) (ps : List Word) (sc : ScopeView) : Type 0 where
   pub place : StatementPlace
@@ -185,15 +186,15 @@ or_false : (a b : Bool) → (a || b) ≡ false → b ≡ false
 or_false true b h = absurd cc
 or_false false b h = h
 
-not_doomed : (t : Bool) (b : ℕ) → if_doomed t b ≡ None → t ≡ false
+not_doomed : (t : Bool) (b : ℕ) → then_some t b ≡ None → t ≡ false
 not_doomed true b h = absurd cc
 not_doomed false b h = refl
 
 -- of a name that may still begin something, only that it is an unknown directive is known
-named_byte : (sc : ScopeView) (b : ℕ) (n : List ℕ) (c : SourceCause) → doom sc (state.Named b n) ≡ None → or_cause (pending sc (state.Named b n)) c ≡ byte_cause sc (StatementPlace.named n) c
+named_byte : (sc : ScopeView) (b : ℕ) (n : List ℕ) (c : SourceCause) → doom sc (state.Named b n) ≡ None → unwrap_or (pending sc (state.Named b n)) c ≡ byte_cause sc (StatementPlace.named n) c
 named_byte sc b n c alive = by_test (is_unknown sc n) refl
   where
-    by_test : (t : Bool) → is_unknown sc n ≡ t → or_cause (pending sc (state.Named b n)) c ≡ byte_cause sc (StatementPlace.named n) c
+    by_test : (t : Bool) → is_unknown sc n ≡ t → unwrap_or (pending sc (state.Named b n)) c ≡ byte_cause sc (StatementPlace.named n) c
     by_test true e = rw e refl
     by_test false e =
         let lacks : lacks_names sc n ≡ false = or_false (is_unknown sc n && is_taken sc n) (lacks_names sc n) (not_doomed _ b alive) in
@@ -342,10 +343,10 @@ module _ (sc0 : ScopeView) (line : ℕ) (o : Open) (ss : List Terminal) (sc : Sc
       by_begun sh sp true u = let q = unbegun_quiet o.so_far w.arg sh sp u in rw (q.0, q.1) (star_only o.star)
       by_begun sh sp false u = let t = spelled_tail sh o.so_far o.star w.arg (w.solid u) sp in t.percent_is ∙ sym (awaits_is o.so_far)
 
-  byte_is : (c : SourceCause) → or_cause (pending sc (state.Arguments o)) c ≡ byte_cause sc0 (StatementPlace.argument o.head o.arguments w.behind (stars o.star ++ w.arg)) c
+  byte_is : (c : SourceCause) → unwrap_or (pending sc (state.Arguments o)) c ≡ byte_cause sc0 (StatementPlace.argument o.head o.arguments w.behind (stars o.star ++ w.arg)) c
   byte_is c = by_test (awaits_register o.so_far) refl
     where
-      by_test : (t : Bool) → awaits_register o.so_far ≡ t → or_cause (pending sc (state.Arguments o)) c ≡ byte_cause sc0 (StatementPlace.argument o.head o.arguments w.behind (stars o.star ++ w.arg)) c
+      by_test : (t : Bool) → awaits_register o.so_far ≡ t → unwrap_or (pending sc (state.Arguments o)) c ≡ byte_cause sc0 (StatementPlace.argument o.head o.arguments w.behind (stars o.star ++ w.arg)) c
       by_test true e = let f : is_percent (last_of (stars o.star ++ w.arg)) ≡ true = ends_percent ∙ e in rw (e, f) refl
       by_test false e = let f : is_percent (last_of (stars o.star ++ w.arg)) ≡ false = ends_percent ∙ e in rw (e, f) refl
 

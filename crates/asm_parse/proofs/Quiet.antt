@@ -1,7 +1,8 @@
 -- What is dead takes no token more, and a token makes nothing dead but in its own line.
 use Rattle.std.proofs.Common.{◌≡◌, ℕ, Bool, true, false, cond, List, [], ◌∷◌, ◌++◌, length, Option, Some, None, Result, Ok, Err, refl, sym, ap, subst, ◌∙◌, ◌⊎◌, inl, inr, ◌≤◌, arith}
 use Rattle.std.proofs.lemmas.List.{length-append}
-use Rattle.std.specs.Prelude.{not, ◌&&◌, ◌||◌, is_none, nat_lt, ◌+◌}
+use Rattle.std.specs.Prelude.{not, ◌&&◌, ◌||◌, is_none, nat_lt, ◌+◌, unwrap_or}
+use Rattle.std.specs.Bool.{then_some}
 use Rattle.asm_lex.specs.declared.fault.SourceCause.{SourceCause}
 use Rattle.asm_lex.specs.declared.fault.SourceCause.TheVariants as cause
 use Rattle.asm_argument.specs.declared.terminal.Terminal.{Terminal}
@@ -29,7 +30,7 @@ use Rattle.asm_argument.specs.declared.operand.Partial.TheVariants as partial
 use Rattle.asm_parse.proofs.Scopes.{GoodIn, fresh_good, seen_good, spent_noting}
 use Rattle.asm_parse.proofs.Names.{noting_seen, Keeps, name_step, IsSome, terminal_some, operand_next}
 use Rattle.asm_argument.specs.Operand.{operand_step, is_finished, is_nothing, name_in}
-use Rattle.asm_parse.specs.Statement.{noting, after_noting, with_name, after_step, at_shape, within, argument_of, comma_behind, end_behind, ended, complete, is_bare, takes_star, argument_step, nothing_yet, labelled, label, rep_step, of_directive, section_name, unless_skipping, start_step, colon_behind, other_behind, named_step, sectioned_step, flags_step, skip, with_scope, step, is_place, strayed, next_step, is_unknown, is_taken, lacks_names, if_doomed, doom, or_line, fault_line}
+use Rattle.asm_parse.specs.Statement.{noting, after_noting, with_name, after_step, at_shape, within, argument_of, comma_behind, end_behind, ended, complete, is_bare, takes_star, argument_step, nothing_yet, labelled, label, rep_step, of_directive, section_name, unless_skipping, start_step, colon_behind, other_behind, named_step, sectioned_step, flags_step, skip, with_scope, step, is_place, strayed, next_step, is_unknown, is_taken, lacks_names, doom, fault_line}
 use Rattle.asm_parse.specs.Items.{item_of, resumed, is_rep, is_passed}
 use Rattle.asm_parse.specs.Directives.{shape_at, least, defines, is_instruction, directive_of, is_dotted, is_section, is_defining}
 
@@ -38,12 +39,12 @@ Answer = Result (ScopeView × StatementState) SourceCause
 
 -- ---- what is dead
 
-and_two : (a b : Bool) → (a && b) ≡ true → (a ≡ true) × (b ≡ true)
+pub and_two : (a b : Bool) → (a && b) ≡ true → (a ≡ true) × (b ≡ true)
 and_two true true h = (refl, refl)
 and_two true false h = absurd cc
 and_two false b h = absurd cc
 
-doomed_is : (t : Bool) (b l : ℕ) → if_doomed t b ≡ Some l → t ≡ true
+pub doomed_is : (t : Bool) (b l : ℕ) → then_some t b ≡ Some l → t ≡ true
 doomed_is true b l h = refl
 doomed_is false b l h = absurd cc
 
@@ -131,7 +132,7 @@ named_lacks : (P : List ℕ → Type 0) (sc : ScopeView) (b l line : ℕ) (n : L
 named_lacks P sc b l line n terminal.Colon x d sk dotted def g spent h = absurd (lacks_label P sc b n x sk g spent h)
 named_lacks P sc b l line n terminal.Percent x d sk dotted def g spent h =
     let c = lacks_behind P sc b n terminal.Percent sk dotted def g spent in
-    strayed_dead l (other_behind sc b n terminal.Percent) c.0 x c.1 (sym (ap (λ (o : Option ℕ). strayed (or_line o line) (other_behind sc b n terminal.Percent)) d) ∙ h)
+    strayed_dead l (other_behind sc b n terminal.Percent) c.0 x c.1 (sym (ap (λ (o : Option ℕ). strayed (unwrap_or o line) (other_behind sc b n terminal.Percent)) d) ∙ h)
 named_lacks P sc b l line n s x d sk dotted def g spent h = let c = lacks_behind P sc b n s sk dotted def g spent in absurd (err_ok (other_behind sc b n s) c.1 h)
 
 or_two : (a b : Bool) → (a || b) ≡ true → (a ≡ true) ⊎ (b ≡ true)
@@ -337,13 +338,13 @@ module _ (P : List ℕ → Type 0) where
 
   next_quiet : (line : ℕ) (sc : ScopeView) (st : StatementState) (s : Terminal) → doom sc st ≡ None → GoodIn P sc → NamedIs st → TerminalIs s → Quiet line (next_step sc st line s)
   next_quiet line sc st terminal.Percent e g p is =
-      subst (λ (o : Option ℕ). Quiet line (strayed (or_line o line) (step sc st line terminal.Percent))) (sym e) (strayed_quiet line (step sc st line terminal.Percent) (step_quiet line sc st terminal.Percent g p is))
+      subst (λ (o : Option ℕ). Quiet line (strayed (unwrap_or o line) (step sc st line terminal.Percent))) (sym e) (strayed_quiet line (step sc st line terminal.Percent) (step_quiet line sc st terminal.Percent g p is))
   next_quiet line sc st s e g p is = step_quiet line sc st s g p is
 
 abbrev NoneOr : ℕ → Option ℕ → Type 0
 NoneOr line d = (d ≡ None) ⊎ (d ≡ Some line)
 
-if_quiet : (t : Bool) (b line : ℕ) → b ≡ line → NoneOr line (if_doomed t b)
+if_quiet : (t : Bool) (b line : ℕ) → b ≡ line → NoneOr line (then_some t b)
 if_quiet true b line e = inr (ap (λ (x : ℕ). Some x) e)
 if_quiet false b line e = inl refl
 

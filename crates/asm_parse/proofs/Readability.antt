@@ -39,6 +39,7 @@ use Rattle.asm_source.specs.Readable.{argument_names, body_names, names_in, IsRe
 use Rattle.asm_parse.specs.Running.{Says, SourceAs, Parses, read}
 use Rattle.asm_parse.proofs.Sources.{parsed_is}
 use Rattle.asm_parse.proofs.Sizes.{source_pays, terminals-append}
+use Rattle.asm_parse.proofs.Quiet.{and_two}
 
 -- ---- bytes and tokens
 
@@ -76,14 +77,9 @@ unfolding class_of is_source is_letter
 letter_some zero h = absurd cc
 letter_some (suc b) h = omega arith
 
-and_both : (a b : Bool) → (a && b) ≡ true → (a ≡ true) × (b ≡ true)
-and_both true true h = (refl, refl)
-and_both true false h = absurd cc
-and_both false b h = absurd cc
-
 words_plain : (bs : List ℕ) → list_all is_word bs ≡ true → Plain bs
 words_plain [] h = All-nil (λ (x : ℕ). 1 ≤ x)
-words_plain (b ∷ bs) h = let p = and_both (is_word b) (list_all is_word bs) h in All-cons (λ (x : ℕ). 1 ≤ x) b bs (word_some b p.0) (words_plain bs p.1)
+words_plain (b ∷ bs) h = let p = and_two (is_word b) (list_all is_word bs) h in All-cons (λ (x : ℕ). 1 ≤ x) b bs (word_some b p.0) (words_plain bs p.1)
 
 plain_either : (t : Bool) (a b : Terminal) → PlainTerminal a → PlainTerminal b → PlainTerminal (cond t a b)
 plain_either true a b p q = p

@@ -1,7 +1,8 @@
 -- A text that is refused is refused for the first word with which no source goes on, or for what ends its words.
 use Rattle.std.proofs.Common.{◌≡◌, ℕ, Bool, true, false, cond, List, [], ◌∷◌, ◌++◌, length, Option, Some, None, Ok, Err, refl, sym, ap, subst, ◌∙◌, ◌⊎◌, inl, inr, append_assoc}
 use Rattle.std.proofs.lemmas.List.{append-nil}
-use Rattle.std.specs.Prelude.{◌+◌, ◌&&◌, ◌||◌}
+use Rattle.std.specs.Prelude.{◌+◌, ◌&&◌, ◌||◌, unwrap_or}
+use Rattle.std.specs.Bool.{then_some}
 use Rattle.asm_lex.specs.declared.fault.SourceCause.{SourceCause}
 use Rattle.asm_lex.specs.declared.fault.SourceCause.TheVariants as cause
 use Rattle.asm_lex.specs.Words.{Word}
@@ -12,7 +13,7 @@ use Rattle.asm_parse.specs.declared.state.StatementState.{StatementState}
 use Rattle.asm_parse.specs.declared.state.StatementState.TheVariants as state
 use Rattle.asm_parse.specs.ScopeView.{ScopeView}
 use Rattle.asm_parse.specs.Scope.{fresh}
-use Rattle.asm_parse.specs.Statement.{step, next_step, fault_line, doom, or_line, pending, or_cause, stopped, left_open, open_at_end, is_unknown, is_taken, lacks_names, if_doomed, is_place, strayed, with_scope, unless_skipping}
+use Rattle.asm_parse.specs.Statement.{step, next_step, fault_line, doom, pending, stopped, left_open, open_at_end, is_unknown, is_taken, lacks_names, is_place, strayed, with_scope, unless_skipping}
 use Rattle.asm_parse.specs.Items.{sectioned}
 use Rattle.asm_parse.specs.Reading.{Fault, placed, is_longer, longer, ending_at, next_word}
 use Rattle.asm_argument.specs.Terminals.{terminal_of}
@@ -262,7 +263,7 @@ module _ (all : List Word) (e : Ending) (f : Fault) (named : AreNamed all) where
       let r = reaches [] sc st k in
       let whole : (k.before ++ k.begun) ≡ all = sym (k.whole ∙ append-nil (k.before ++ k.begun)) in
       let s = stands [] sc st k in
-      let fault : f ≡ (l, byte_cause k.scope s.place c) = sym (some_same (stopped sc st l c) f h) ∙ (ap (λ (x : Option ℕ). (or_line x l, or_cause (pending sc st) c)) k.alive ∙ ap (λ (x : SourceCause). (l, x)) (s.suits.byte c)) in
+      let fault : f ≡ (l, byte_cause k.scope s.place c) = sym (some_same (stopped sc st l c) f h) ∙ (ap (λ (x : Option ℕ). (unwrap_or x l, unwrap_or (pending sc st) c)) k.alive ∙ ap (λ (x : SourceCause). (l, x)) (s.suits.byte c)) in
       Found.byte is (subst IsBeginning whole (begins [] sc st k)) (subst (λ (x : List Word). Reaches x k.scope s.place) whole r) fault
   at_end sc st k (Ending.comment l) is h =
       let whole : (k.before ++ k.begun) ≡ all = sym (k.whole ∙ append-nil (k.before ++ k.begun)) in
@@ -273,14 +274,14 @@ module _ (all : List Word) (e : Ending) (f : Fault) (named : AreNamed all) where
   at_refused w ws sc st c k h g =
       let s = stands (w ∷ ws) sc st k in
       let same = s.suits.cause w.line (terminal_of w.kind w.bytes) (terminals ws) c (word_fails sc st w c h) in
-      let fault : f ≡ (w.line, refused_cause k.scope s.place (terminal_of w.kind w.bytes) (terminals ws)) = sym (some_same (fault_line sc st w.line, c) f g) ∙ (ap (λ (x : Option ℕ). (or_line x w.line, c)) k.alive ∙ ap (λ (x : SourceCause). (w.line, x)) (sym same)) in
+      let fault : f ≡ (w.line, refused_cause k.scope s.place (terminal_of w.kind w.bytes) (terminals ws)) = sym (some_same (fault_line sc st w.line, c) f g) ∙ (ap (λ (x : Option ℕ). (unwrap_or x w.line, c)) k.alive ∙ ap (λ (x : SourceCause). (w.line, x)) (sym same)) in
       Found.word (k.before ++ k.begun) ws w k.whole (begins (w ∷ ws) sc st k) (refused_never (k.before ++ k.begun) w sc st (fault_line sc st w.line, c) k.runs (ap (placed (fault_line sc st w.line)) h)) (reaches (w ∷ ws) sc st k) fault
 
   at_doomed : (w : Word) (ws : List Word) (sc : ScopeView) (st : StatementState) (z : ScopeView × StatementState) (l : ℕ) (k : Walk all (w ∷ ws) sc st) → next_word sc st w ≡ Ok z → doom z.0 z.1 ≡ Some l → fault_in z.0 z.1 ws e ≡ Some f → Found all e f
   at_doomed w ws sc st z l k h d g =
       Found.word (k.before ++ k.begun) ws w k.whole (begins (w ∷ ws) sc st k) (doomed_never (k.before ++ k.begun) w sc st z l k.runs h (good_next all ws w sc st k z h) d) (reaches (w ∷ ws) sc st k) (by_doomed (doomed_word sc st w z l h d))
     where
-      same_line : (t : Bool) (b l : ℕ) → if_doomed t b ≡ Some l → if_doomed t b ≡ Some b
+      same_line : (t : Bool) (b l : ℕ) → then_some t b ≡ Some l → then_some t b ≡ Some b
       same_line true b l h = refl
       same_line false b l h = absurd cc
 
@@ -295,7 +296,7 @@ module _ (all : List Word) (e : Ending) (f : Fault) (named : AreNamed all) where
           ∙ (ap (λ (v : Terminal). refused_cause k.scope StatementPlace.first v (terminals ws)) y ∙ ap (λ (v : ScopeView). first_name_cause v n (terminals ws)) at_first.0) in
           fault ∙ ap (λ (v : SourceCause). (w.line, v)) (sym same)
       by_doomed (Doomed.astray c y x p q) =
-          let at_line : z ≡ (fresh, state.Stray w.line c) = q ∙ ap (λ (o : Option ℕ). (fresh, state.Stray (or_line o w.line) c)) k.alive in
+          let at_line : z ≡ (fresh, state.Stray w.line c) = q ∙ ap (λ (o : Option ℕ). (fresh, state.Stray (unwrap_or o w.line) c)) k.alive in
           let fault : f ≡ (w.line, percent_cause c (terminals ws)) = stray_fault fresh w.line c ws e f p (sym (ap (λ (v : ScopeView × StatementState). fault_in v.0 v.1 ws e) at_line) ∙ g) in
           let same : refused_cause k.scope (stands (w ∷ ws) sc st k).place (terminal_of w.kind w.bytes) (terminals ws) ≡ percent_cause c (terminals ws) =
           ap (λ (v : Terminal). refused_cause k.scope (stands (w ∷ ws) sc st k).place v (terminals ws)) y ∙ (stands (w ∷ ws) sc st k).suits.percent w.line (terminals ws) c x in

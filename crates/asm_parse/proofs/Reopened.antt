@@ -24,7 +24,7 @@ use Rattle.asm_parse.specs.Refusals.{StatementPlace, Leads, Opens}
 use Rattle.asm_argument.proofs.Operands.{ok, operand_run, form_reads, Spelled, begun_spelled, more}
 use Rattle.asm_parse.proofs.Names.{noting_seen, named_in, name_step, finished_is, no_end_terminal}
 use Rattle.asm_parse.proofs.Stated.{inner, inners, inners_append, within_next, open_at, begun_unnamed, first_shape, argument_runs, comma_runs, separated_runs, operand_begun, operand_head}
-use Rattle.asm_parse.proofs.Said.{stars, Ending, InArguments, begun_solid, sees_none, advance}
+use Rattle.asm_parse.proofs.Said.{stars, EndsStatement, InArguments, begun_solid, sees_none, advance, same_shape}
 use Rattle.asm_parse.proofs.Places.{Suits, arguments_suit, all_more}
 use Rattle.asm_parse.proofs.Reread.{Pair, same_pair}
 use Rattle.asm_parse.proofs.Quiet.{Answer}
@@ -136,9 +136,6 @@ record Fresh (line : ℕ) (h : Head) (done : List Argument) (sc : ScopeView) (x 
 comma_none : (sc : ScopeView) (line : ℕ) (h : Head) (done : List Argument) (a : Argument) (q : Partial) → finished q ≡ Some a.form → shape_at h (length (done ++ a ∷ [])) ≡ None → argument_step sc (open_at line h done a.star q) terminal.Comma ≡ Err cause.BadArgument
 comma_none sc line h done a q fin none = rw (finished_is q a.form fin, fin, none) refl
 
-some_shape : (a b : Shape) → ◌≡◌ {A = Option Shape} (Some a) (Some b) → a ≡ b
-some_shape a b e = cc
-
 front_runs : (line : ℕ) {h : Head} {sc sc2 : ScopeView} {ss : List Terminal} {done : List Argument} → Separated h sc ss done sc2 → (x : Pair) → inners sc (state.Arguments (nothing_yet line h)) ss ≡ Ok x → Fresh line h done sc2 x
 front_runs line {h} {sc} Separated.none x e = record {
   so_far = partial.Nothing;
@@ -162,7 +159,7 @@ front_runs line {h} {sc} {sc2} (Separated.more {ss} {ts} {before} {a} {sc1} sep 
         record {
           so_far = begun sh;
           is = sym (same_pair (sc2, state.Arguments (open_at line h (before ++ a ∷ []) false (begun sh))) x (sym one ∙ k));
-          begins = λ sh2 may2. ap begun (some_shape sh sh2 (sym may ∙ may2));
+          begins = λ sh2 may2. ap begun (same_shape sh sh2 (sym may ∙ may2));
           either = inr (sh, may, refl);
         }
 
@@ -194,7 +191,7 @@ record Further (sc0 : ScopeView) (line : ℕ) (h : Head) (done : List Argument) 
 was_spelled : (sc0 : ScopeView) (line : ℕ) (o : Open) (ss : List Terminal) (sc : ScopeView) (w : InArguments sc0 line o ss sc) (sh : Shape) → shape_at o.head (length o.arguments) ≡ Some sh → Spelled sh o.so_far w.arg
 was_spelled sc0 line o ss sc w sh may = elim w.spelled [
   | inl (e, f) ↦ subst (λ (p : Partial). Spelled sh p w.arg) (sym e) f
-  | inr (sh2, may2, sp) ↦ subst (λ (x : Shape). Spelled x o.so_far w.arg) (some_shape sh2 sh (sym may2 ∙ may)) sp
+  | inr (sh2, may2, sp) ↦ subst (λ (x : Shape). Spelled x o.so_far w.arg) (same_shape sh2 sh (sym may2 ∙ may)) sp
 ]
 
 module _ (sc0 : ScopeView) (line : ℕ) (h : Head) (done : List Argument) (behind : ScopeView) (arg : List Terminal) (sc : ScopeView) (o : Open) (w : Within sc0 line h done behind arg sc o) (sh : Shape) (may : shape_at o.head (length o.arguments) ≡ Some sh) (s : Terminal) (q : Partial) (next : next_terminal sh o.so_far s ≡ ok q) (y : Pair) where
@@ -272,7 +269,7 @@ args_run sc0 line h done behind sh (s ∷ rest) arg sc o q fin w may run k =
 
 -- ---- from the grammar's words to the reader's state
 
-leads_end : {sc0 : ScopeView} {h : Head} {lead : List Terminal} (line : ℕ) → Leads sc0 h lead → Ending sc0 line lead h
+leads_end : {sc0 : ScopeView} {h : Head} {lead : List Terminal} (line : ℕ) → Leads sc0 h lead → EndsStatement sc0 line lead h
 leads_end line (Leads.instruction go dotted rep) = λ ss args sc2 has count. Statement.instruction go dotted rep has
 leads_end line (Leads.repeated go dotted rep) = λ ss args sc2 has count. Statement.repeated go dotted rep has
 leads_end line (Leads.directive go dotted dir list) = λ ss args sc2 has count. Statement.directive go dotted dir list has count

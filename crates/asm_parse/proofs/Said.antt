@@ -43,8 +43,8 @@ stars true = terminal.Star ∷ []
 stars false = []
 
 -- These terminals and arguments with an end are a statement.
-abbrev pub Ending : ScopeView → ℕ → List Terminal → Head → Type 0
-Ending sc0 line lead h = (ss : List Terminal) (args : List Argument) (sc2 : ScopeView) → HasArguments h sc0 ss args sc2 → nat_lt (length args) (least h) ≡ false
+abbrev pub EndsStatement : ScopeView → ℕ → List Terminal → Head → Type 0
+EndsStatement sc0 line lead h = (ss : List Terminal) (args : List Argument) (sc2 : ScopeView) → HasArguments h sc0 ss args sc2 → nat_lt (length args) (least h) ≡ false
     → Statement sc0 line (lead ++ (ss ++ terminal.End ∷ [])) (resumed (pushed sc2 (item_of line h args)) h)
 
 pub record InArguments (sc0 : ScopeView) (line : ℕ) (o : Open) (ss : List Terminal) (sc : ScopeView) : Type 0 where
@@ -53,7 +53,7 @@ pub record InArguments (sc0 : ScopeView) (line : ℕ) (o : Open) (ss : List Term
   pub arg : List Terminal
   pub behind : ScopeView
   pub leads : Leads sc0 o.head lead
-  pub ends : Ending sc0 line lead o.head
+  pub ends : EndsStatement sc0 line lead o.head
   pub same_line : o.line ≡ line
   pub separated : Separated o.head sc0 front o.arguments behind
   pub spelled : ((o.so_far ≡ partial.Nothing) × (arg ≡ [])) ⊎ ((sh : Shape) × (shape_at o.head (length o.arguments) ≡ Some sh) × Spelled sh o.so_far arg)
@@ -94,7 +94,7 @@ pub begun_solid : (sh : Shape) → is_unbegun (begun sh) ≡ false → ⊥
 begun_solid shape.Fill e = absurd cc
 begun_solid _ e = absurd cc
 
-same_shape : (a b : Shape) → ◌≡◌ {A = Option Shape} (Some a) (Some b) → a ≡ b
+pub same_shape : (a b : Shape) → ◌≡◌ {A = Option Shape} (Some a) (Some b) → a ≡ b
 same_shape a b e = cc
 
 pub sees_none : (sc sc2 : ScopeView) (d : Bool) (o : Option (List ℕ)) → o ≡ None → Sees sc d o sc2 → sc ≡ sc2
@@ -294,7 +294,7 @@ module _ (sc0 : ScopeView) (line : ℕ) (o : Open) (ss : List Terminal) (sc : Sc
   arguments_begun terminal.Star h = star_begun (takes_star o) refl h
   arguments_begun s h = within_begun s h
 
-unfoldable pub fresh_arguments : (sc0 : ScopeView) (line : ℕ) (lead : List Terminal) (h : Head) → Leads sc0 h lead → Ending sc0 line lead h → InArguments sc0 line (nothing_yet line h) lead sc0
+unfoldable pub fresh_arguments : (sc0 : ScopeView) (line : ℕ) (lead : List Terminal) (h : Head) → Leads sc0 h lead → EndsStatement sc0 line lead h → InArguments sc0 line (nothing_yet line h) lead sc0
 fresh_arguments sc0 line lead h leads ends = record {
   lead = lead;
   front = [];

@@ -21,7 +21,7 @@ use Rattle.asm_parse.proofs.Words.{read_words}
 use Rattle.asm_parse.proofs.Lines.{bind_ok}
 use Rattle.asm_parse.proofs.Dying.{dead_line, alive_line}
 use Rattle.asm_parse.specs.Statement.{doom}
-use Rattle.asm_parse.proofs.Closing.{goes_on}
+use Rattle.asm_parse.proofs.Closing.{closed_goes_on}
 use Rattle.asm_lex.proofs.TextTokens.{IsClosed}
 use Rattle.asm_parse.proofs.Linking.{run_append, link, unlink, last_mode, closed_between, closed_ok, ok_same, not_both}
 use Rattle.asm_parse.proofs.Stated.{statements_run}
@@ -80,4 +80,4 @@ refused_alive text (Err fault.Memory) h = tt
 refused_alive text (Err (fault.At l c)) h = λ other n lt. further n (alive_line text (l, c) h other n lt)
   where
     further : (n : ℕ) → (s : Running) × (run start (first_lines n text) ≡ Ok s) × (doom s.scope s.state ≡ None) × IsClosed (Goes s.mode) → GoesOn text n
-    further n (s, e, d, k) = let g = goes_on (first_lines n text) s e k d in (g.0, (g.1.0.scope.items, read_is (first_lines n text ++ g.0) g.1.0 g.1.1))
+    further n (s, e, d, k) = let g = closed_goes_on (first_lines n text) s e k d in (g.0, (g.1.0.scope.items, read_is (first_lines n text ++ g.0) g.1.0 g.1.1))

@@ -28,7 +28,7 @@ use Rattle.asm_parse.specs.Statements.{Sees}
 use Rattle.asm_parse.specs.Refusals.{name_cause, takes_name, value_cause, in_argument}
 use Rattle.asm_argument.proofs.Operands.{ok, allowed_ok, Spelled}
 use Rattle.asm_parse.proofs.Names.{named_in, name_step, is_finished_some, operand_next}
-use Rattle.asm_parse.proofs.Said.{stars, InArguments}
+use Rattle.asm_parse.proofs.Said.{stars, InArguments, sees_none}
 use Rattle.asm_parse.proofs.Tails.{percents, indexed, minuses, signs, frees, Tail, spelled_tail}
 use Rattle.asm_parse.proofs.Refusing.{operand_at, operand_ends, operand_err, operand_name, value_by, value_at, value_ends, is_cut, value_err, value_first, value_none, unbegun_err, missing_is, noting_cause, not_both}
 use Rattle.asm_parse.proofs.Quiet.{Answer}
@@ -161,9 +161,6 @@ name_fails o (Err d) c h = ap (λ (x : SourceCause). Err x) (same_fault d c h)
 instruction_cause : (h : Head) (nothing : Bool) (other c : SourceCause) → is_instruction h ≡ true → cause_in h nothing other c ≡ c
 instruction_cause h nothing other c e = rw e refl
 
-sees_same : (sc sc2 : ScopeView) (d : Bool) (o : Option (List ℕ)) → o ≡ None → Sees sc d o sc2 → sc ≡ sc2
-sees_same sc sc2 d o e h = subst (λ (x : Option (List ℕ)). Sees sc d x sc2) e h
-
 module _ (sc0 : ScopeView) (line : ℕ) (o : Open) (ss : List Terminal) (sc : ScopeView) (w : InArguments sc0 line o ss sc) where
   spelled_as : (sh : Shape) → shape_at o.head (length o.arguments) ≡ Some sh → Spelled sh o.so_far w.arg
   spelled_as sh may = elim w.spelled [
@@ -255,7 +252,7 @@ module _ (sc0 : ScopeView) (line : ℕ) (o : Open) (ss : List Terminal) (sc : Sc
     | inr (n, a, b, d, is) ↦
         let f : noting sc (defines o.head (length o.arguments)) n ≡ Err c = name_fails (record o { so_far = q }) _ c (sym (ap (with_name sc (record o { so_far = q })) a) ∙ k) in
         let step : next_terminal sh o.so_far (terminal.Name n) ≡ ok q = sym (ap (next_terminal sh o.so_far) is) ∙ e in
-        let same : w.behind ≡ sc = sees_same w.behind sc (defines o.head (length o.arguments)) (named_in o.so_far) d w.sees in
+        let same : w.behind ≡ sc = sees_none w.behind sc (defines o.head (length o.arguments)) (named_in o.so_far) d w.sees in
         by_begun n a step is (ap (λ (x : ScopeView). name_cause x (defines o.head (length o.arguments)) n) same ∙ noting_cause sc (defines o.head (length o.arguments)) n c f) t u
   ]
     where

@@ -23,7 +23,7 @@ use Rattle.asm_parse.proofs.Words.{read_words}
 use Rattle.asm_parse.proofs.Stated.{inners, words_append, named_section, statements_run, of_list}
 use Rattle.asm_parse.proofs.Places.{Suits, start_suits, named_suits, skip_suits}
 use Rattle.asm_parse.proofs.Reread.{Pair, on_word, inner_parts, section_stays, first_argument, arguments_read, suits_at, same_pair, ending_arguments}
-use Rattle.asm_parse.proofs.Unchanged.{skipped_state}
+use Rattle.asm_parse.proofs.Unchanged.{skipped_state, head_same}
 use Rattle.asm_parse.proofs.Reopened.{body_inner, IsColon, body_colon, arguments_reached}
 use Rattle.asm_parse.proofs.Quiet.{Answer}
 
@@ -84,23 +84,20 @@ behind_name w (v ∷ ws) sc n h body fin name rest some inside never goes k aliv
     ap (λ (r : Answer). elim r [ Ok y ↦ inners y.0 y.1 (terminals ws) | Err c ↦ Err c ]) argument_goes ∙ arguments_read ws two.next.0 two.next.1 opens_on.0 fin opens_on.1 p.1 rest2 alive in
     ap (inners sc (state.Arguments (nothing_yet w.line h))) (sym rest) ∙ all
 
-head_tail : (s t : Terminal) (xs ys : List Terminal) → s ∷ xs ≡ t ∷ ys → (s ≡ t) × (xs ≡ ys)
-head_tail s t xs ys e = (cc, cc)
-
 module _ (w v : Word) (ws : List Word) (sc : ScopeView) (body : List Terminal) (fin : Pair) (inside : list_all is_inner body ≡ true) (never : IsColon body → ⊥) (k : read_words sc state.Start (w ∷ v ∷ ws) ≡ Ok fin) (alive : doom fin.0 fin.1 ≡ None) where
   some_body : terminals (v ∷ ws) ≡ body → body ≡ [] → ⊥
   some_body e f = let g : terminals (v ∷ ws) ≡ [] = e ∙ f in absurd cc
 
   lead_read : {h : Head} {lead : List Terminal} → Leads sc h lead → terminals (w ∷ v ∷ ws) ≡ lead ++ body → inners sc (state.Arguments (nothing_yet w.line h)) body ≡ Ok fin
   lead_read (Leads.instruction {n} go dotted rep) e =
-      let p = head_tail (terminal_of w.kind w.bytes) (terminal.Name n) (terminals (v ∷ ws)) body e in
+      let p = head_same (terminal_of w.kind w.bytes) (terminal.Name n) (terminals (v ∷ ws)) body e in
       behind_name w (v ∷ ws) sc n (head.Instruction false n) body fin p.0 p.1 (some_body p.1) inside never (λ s. rw (go, dotted, rep) refl) k alive
   lead_read (Leads.directive {n} {k = d} go dotted dir list) e =
-      let p = head_tail (terminal_of w.kind w.bytes) (terminal.Name n) (terminals (v ∷ ws)) body e in
+      let p = head_same (terminal_of w.kind w.bytes) (terminal.Name n) (terminals (v ∷ ws)) body e in
       behind_name w (v ∷ ws) sc n (head.Directive d n) body fin p.0 p.1 (some_body p.1) inside never (λ s. rw (go, dotted, dir) (of_list d sc w.line n s list)) k alive
   lead_read (Leads.repeated {r} {n} go dotted rep) e =
-      let p = head_tail (terminal_of w.kind w.bytes) (terminal.Name r) (terminals (v ∷ ws)) (terminal.Name n ∷ body) e in
-      let q = head_tail (terminal_of v.kind v.bytes) (terminal.Name n) (terminals ws) body p.1 in
+      let p = head_same (terminal_of w.kind w.bytes) (terminal.Name r) (terminals (v ∷ ws)) (terminal.Name n ∷ body) e in
+      let q = head_same (terminal_of v.kind v.bytes) (terminal.Name n) (terminals ws) body p.1 in
       let two = on_word sc (state.Named w.line r) v ws fin refl (first_word w (v ∷ ws) sc r fin p.0 k alive) alive in
       let named : step sc (state.Named w.line r) v.line (terminal.Name n) ≡ Ok (sc, state.Arguments (nothing_yet w.line (head.Instruction true n))) = rw (go, dotted, rep) refl in
       let next : two.next ≡ (sc, state.Arguments (nothing_yet w.line (head.Instruction true n))) = sym (same_pair (sc, state.Arguments (nothing_yet w.line (head.Instruction true n))) two.next (sym (ap (step sc (state.Named w.line r) v.line) q.0 ∙ named) ∙ two.goes)) in

@@ -118,9 +118,9 @@ address_ends (IsAddress.base_index r t) = record { first = _; rest = _; whole = 
 address_ends (IsAddress.base_scaled r t u) = record { first = _; rest = _; whole = refl; tail = record { percent_is = refl; index_is = refl; minus_is = refl; sign_is = refl; free_is = refl } }
 
 -- the same behind what is clear
-longer : (f ss : List Terminal) (a b c d e : Bool) → Clear f → Ends ss a b c d e → Ends (f ++ ss) a b c d e
-longer [] ss a b c d e k n = n
-longer (x ∷ f) ss a b c d e k n = record { first = x; rest = f ++ ss; whole = refl; tail = after (x ∷ f) ss a b c d e k n }
+ends_longer : (f ss : List Terminal) (a b c d e : Bool) → Clear f → Ends ss a b c d e → Ends (f ++ ss) a b c d e
+ends_longer [] ss a b c d e k n = n
+ends_longer (x ∷ f) ss a b c d e k n = record { first = x; rest = f ++ ss; whole = refl; tail = after (x ∷ f) ss a b c d e k n }
 
 same_ends : (ss ts : List Terminal) (a b c d e : Bool) → ss ≡ ts → Ends ts a b c d e → Ends ss a b c d e
 same_ends ss ts a b c d e h n = subst (λ (x : List Terminal). Ends x a b c d e) (sym h) n
@@ -129,15 +129,15 @@ form_ends : (sh : Shape) (ss : List Terminal) (f : Form) → (ss ≡ [] → ⊥)
 form_ends sh ss f never (IsForm.absent h) = absurd (never refl)
 form_ends sh ss f never (IsForm.text h) = record { first = _; rest = _; whole = refl; tail = record { percent_is = refl; index_is = refl; minus_is = refl; sign_is = refl; free_is = refl } }
 form_ends sh ss f never (IsForm.register h r) = record { first = _; rest = _; whole = refl; tail = record { percent_is = refl; index_is = refl; minus_is = refl; sign_is = refl; free_is = refl } }
-form_ends sh ss f never (IsForm.immediate {ss = vs} h v) = longer (terminal.Dollar ∷ []) vs false false false false false (clear_lead place.Immediate) (value_ends v)
+form_ends sh ss f never (IsForm.immediate {ss = vs} h v) = ends_longer (terminal.Dollar ∷ []) vs false false false false false (clear_lead place.Immediate) (value_ends v)
 form_ends sh ss f never (IsForm.value v) = value_ends v
 form_ends sh ss f never (IsForm.address h a) = address_ends a
-form_ends sh ss f never (IsForm.value_address vs ps h e v a) = same_ends ss (vs ++ ps) false false false false false e (longer vs ps false false false false false (clear_value v) (address_ends a))
+form_ends sh ss f never (IsForm.value_address vs ps h e v a) = same_ends ss (vs ++ ps) false false false false false e (ends_longer vs ps false false false false false (clear_value v) (address_ends a))
 
 -- ---- what has been read of an argument
 
 lead_ends : (p : ValuePlace) (ss : List Terminal) (a b c d e : Bool) → Ends ss a b c d e → Ends (lead p ++ ss) a b c d e
-lead_ends p ss a b c d e n = longer (lead p) ss a b c d e (clear_lead p) n
+lead_ends p ss a b c d e n = ends_longer (lead p) ss a b c d e (clear_lead p) n
 
 sign_ends : (n : List ℕ) (neg : Bool) → Ends (terminal.Name n ∷ sign neg ∷ []) false false neg true false
 sign_ends n true = record { first = _; rest = _; whole = refl; tail = record { percent_is = refl; index_is = refl; minus_is = refl; sign_is = refl; free_is = refl } }
@@ -171,7 +171,7 @@ abbrev EndsAs : Partial → List Terminal → Type 0
 EndsAs p ss = Ends ss (percents p) (indexed p) (minuses p) (signs p) (frees p)
 
 in_address : (sh : Shape) (p : Partial) (ss ps : List Terminal) (w : WithAddress sh p ss) → w.parts ≡ ps → EndsAs p ps → EndsAs p ss
-in_address sh p ss ps w e n = same_ends ss (w.values ++ ps) _ _ _ _ _ (w.whole ∙ ap (λ (x : List Terminal). w.values ++ x) e) (longer w.values ps _ _ _ _ _ (clear_option w.is_value) n)
+in_address sh p ss ps w e n = same_ends ss (w.values ++ ps) _ _ _ _ _ (w.whole ∙ ap (λ (x : List Terminal). w.values ++ x) e) (ends_longer w.values ps _ _ _ _ _ (clear_option w.is_value) n)
 
 spelled_ends : (sh : Shape) (p : Partial) (ss : List Terminal) → (ss ≡ [] → ⊥) → Spelled sh p ss → EndsAs p ss
 spelled_ends sh partial.Nothing ss never h = absurd (never h)

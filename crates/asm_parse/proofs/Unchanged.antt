@@ -141,7 +141,7 @@ record Front (sc : ScopeView) (s : Terminal) (ss : List Terminal) : Type 0 where
   is : is_nameless s ≡ true
   inside : list_all is_inner ss ≡ true
 
-head_same : (s t : Terminal) (xs ys : List Terminal) → s ∷ xs ≡ t ∷ ys → (s ≡ t) × (xs ≡ ys)
+pub head_same : (s t : Terminal) (xs ys : List Terminal) → s ∷ xs ≡ t ∷ ys → (s ≡ t) × (xs ≡ ys)
 head_same s t xs ys e = (cc, cc)
 
 front_passed : {sc : ScopeView} {xs : List Terminal} (s : Terminal) (ss : List Terminal) → ((n : List ℕ) → s ≡ terminal.Name n → ⊥) → Passed sc xs → xs ≡ s ∷ (ss ++ terminal.End ∷ []) → Front sc s ss

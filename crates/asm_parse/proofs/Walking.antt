@@ -1,6 +1,7 @@
 -- The first word that is refused, and where all words go on, what ends them.
 use Rattle.std.proofs.Common.{◌≡◌, ℕ, Bool, true, false, cond, List, [], ◌∷◌, ◌++◌, length, Option, Some, None, Result, Ok, Err, refl, sym, ap, ◌∙◌, inl, inr, append_assoc}
-use Rattle.std.specs.Prelude.{◌&&◌, ◌||◌, ◌+◌, not, is_none}
+use Rattle.std.specs.Prelude.{◌&&◌, ◌||◌, ◌+◌, not, is_none, unwrap_or}
+use Rattle.std.specs.Bool.{then_some}
 use Rattle.asm_lex.specs.declared.fault.SourceCause.{SourceCause}
 use Rattle.asm_lex.specs.declared.fault.SourceCause.TheVariants as cause
 use Rattle.asm_lex.specs.Words.{Word}
@@ -12,7 +13,7 @@ use Rattle.asm_parse.specs.declared.state.StatementState.TheVariants as state
 use Rattle.asm_parse.specs.ScopeView.{ScopeView}
 use Rattle.asm_parse.specs.Scope.{fresh}
 use Rattle.asm_parse.specs.Directives.{directive_of, is_dotted, is_defining}
-use Rattle.asm_parse.specs.Statement.{step, next_step, fault_line, doom, or_line, pending, or_cause, stopped, left_open, open_at_end, is_unknown, is_taken, lacks_names, if_doomed, is_place, stray_cause}
+use Rattle.asm_parse.specs.Statement.{step, next_step, fault_line, doom, pending, stopped, left_open, open_at_end, is_unknown, is_taken, lacks_names, is_place, stray_cause}
 use Rattle.asm_parse.specs.Reading.{Fault, placed, is_longer, ending_at, with_end, longer, next_word}
 use Rattle.asm_argument.specs.Terminals.{terminal_of}
 use Rattle.asm_parse.specs.Running.{◌>>=◌}
@@ -20,7 +21,7 @@ use Rattle.asm_parse.specs.Statements.{terminals}
 use Rattle.asm_parse.specs.Refusals.{Ending, IsBeginning, IsNoBeginning, StatementPlace, Reaches, percent_cause, behind_cause, first_name_cause, refused_cause, byte_cause}
 use Rattle.asm_parse.proofs.Words.{read_words}
 use Rattle.asm_parse.proofs.Scopes.{GoodIn, fresh_good}
-use Rattle.asm_parse.proofs.Quiet.{Any, any_next, WordGoes, word_goes, Answer}
+use Rattle.asm_parse.proofs.Quiet.{Any, any_next, WordGoes, word_goes, Answer, doomed_is}
 use Rattle.asm_parse.proofs.Dying.{words_doomed}
 use Rattle.asm_parse.proofs.Stated.{words_append, statements_run}
 use Rattle.asm_parse.proofs.Collected.{are_statements}
@@ -130,24 +131,20 @@ and_third true true false d h = absurd cc
 and_third true false c d h = absurd cc
 and_third false b c d h = absurd cc
 
-doomed_true : (t : Bool) (b l : ℕ) → if_doomed t b ≡ Some l → t ≡ true
-doomed_true true b l h = refl
-doomed_true false b l h = absurd cc
-
 defining_some : (o : Option Directive) → is_defining o ≡ true → is_none o ≡ false
 defining_some None h = absurd cc
 defining_some (Some k) h = refl
 
 -- of a name with which no statement begins
-name_pending : (sc : ScopeView) (b l : ℕ) (n : List ℕ) (c : SourceCause) → doom sc (state.Named b n) ≡ Some l → or_cause (pending sc (state.Named b n)) c ≡ first_name_cause sc n []
+name_pending : (sc : ScopeView) (b l : ℕ) (n : List ℕ) (c : SourceCause) → doom sc (state.Named b n) ≡ Some l → unwrap_or (pending sc (state.Named b n)) c ≡ first_name_cause sc n []
 name_pending sc b l n c d = by_test (is_unknown sc n) refl
   where
-    by_test : (t : Bool) → is_unknown sc n ≡ t → or_cause (pending sc (state.Named b n)) c ≡ first_name_cause sc n []
+    by_test : (t : Bool) → is_unknown sc n ≡ t → unwrap_or (pending sc (state.Named b n)) c ≡ first_name_cause sc n []
     by_test true e =
         let none : is_none (directive_of n) ≡ true = and_last (is_dotted n) (not sc.skipping) (is_none (directive_of n)) e in
         rw (e, none) refl
     by_test false e =
-        let either : ((is_unknown sc n && is_taken sc n) || lacks_names sc n) ≡ true = doomed_true _ b l d in
+        let either : ((is_unknown sc n && is_taken sc n) || lacks_names sc n) ≡ true = doomed_is _ b l d in
         let lacks : lacks_names sc n ≡ true = sym (ap (λ (t : Bool). (t && is_taken sc n) || lacks_names sc n) e) ∙ either in
         let some : is_none (directive_of n) ≡ false = defining_some (directive_of n) (and_third (is_dotted n) (not sc.skipping) (is_defining (directive_of n)) _ lacks) in
         rw (e, lacks, some) refl
@@ -187,15 +184,15 @@ named_start b n e = absurd cc
 pub name_fault : (sc : ScopeView) (b : ℕ) (n : List ℕ) (ws : List Word) (e : Ending) (f : Fault) → GoodIn Any sc → doom sc (state.Named b n) ≡ Some b → fault_in sc (state.Named b n) ws e ≡ Some f → f ≡ (b, first_name_cause sc n (terminals ws))
 name_fault sc b n [] Ending.whole f good d h = absurd cc
 name_fault sc b n [] (Ending.broken l c) f good d h =
-    sym (some_same (stopped sc (state.Named b n) l c) f h) ∙ (ap (λ (x : Option ℕ). (or_line x l, or_cause (pending sc (state.Named b n)) c)) d ∙ ap (λ (x : SourceCause). (b, x)) (name_pending sc b b n c d))
+    sym (some_same (stopped sc (state.Named b n) l c) f h) ∙ (ap (λ (x : Option ℕ). (unwrap_or x l, unwrap_or (pending sc (state.Named b n)) c)) d ∙ ap (λ (x : SourceCause). (b, x)) (name_pending sc b b n c d))
 name_fault sc b n [] (Ending.comment l) f good d h =
     sym (some_same (left_open sc (state.Named b n) l) f h) ∙ (ap (λ (x : Option ℕ). open_at_end x (pending sc (state.Named b n)) l) d ∙ ap (λ (x : SourceCause). (b, x)) (name_pending sc b b n cause.OpenComment d))
-name_fault sc b n (w ∷ ws) e f good d h = by_result (next_word sc (state.Named b n) w) refl (sym (ap (λ (x : Option ℕ). placed_in (or_line x w.line) ws e (next_word sc (state.Named b n) w)) d) ∙ h)
+name_fault sc b n (w ∷ ws) e f good d h = by_result (next_word sc (state.Named b n) w) refl (sym (ap (λ (x : Option ℕ). placed_in (unwrap_or x w.line) ws e (next_word sc (state.Named b n) w)) d) ∙ h)
   where
     by_doomed : (z : ScopeView × StatementState) → Doomed sc (state.Named b n) w z → fault_in z.0 z.1 ws e ≡ Some f → f ≡ (b, behind_cause sc (StatementPlace.named n) (terminal_of w.kind w.bytes) (terminals ws))
     by_doomed z (Doomed.name m s k x) g = absurd (named_start b n s)
     by_doomed z (Doomed.astray c s k p x) g =
-        let at_b : z ≡ (fresh, state.Stray b c) = x ∙ ap (λ (o : Option ℕ). (fresh, state.Stray (or_line o w.line) c)) d in
+        let at_b : z ≡ (fresh, state.Stray b c) = x ∙ ap (λ (o : Option ℕ). (fresh, state.Stray (unwrap_or o w.line) c)) d in
         let fault : f ≡ (b, percent_cause c (terminals ws)) = stray_fault fresh b c ws e f p (sym (ap (λ (q : ScopeView × StatementState). fault_in q.0 q.1 ws e) at_b) ∙ g) in
         let same : behind_cause sc (StatementPlace.named n) (terminal_of w.kind w.bytes) (terminals ws) ≡ percent_cause c (terminals ws) =
         ap (λ (y : Terminal). behind_cause sc (StatementPlace.named n) y (terminals ws)) s ∙ ap (λ (y : SourceCause). percent_cause y (terminals ws)) (named_fails sc b n terminal.Percent c k) in

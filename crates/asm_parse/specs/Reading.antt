@@ -8,8 +8,8 @@ use Rattle.asm_lex.specs.declared.token.TokenKind.{TokenKind}
 use Rattle.asm_argument.specs.Terminals.{terminal_of}
 use Rattle.asm_parse.specs.declared.state.StatementState.{StatementState}
 use Rattle.asm_parse.specs.declared.state.StatementState.TheVariants as state
-use Rattle.asm_parse.specs.declared.stop.StepFault.{StepFault}
-use Rattle.asm_parse.specs.declared.stop.StepFault.TheVariants as stop
+use Rattle.asm_parse.specs.declared.fault.StepFault.{StepFault}
+use Rattle.asm_parse.specs.declared.fault.StepFault.TheVariants as step_fault
 use Rattle.asm_parse.specs.ScopeView.{ScopeView}
 use Rattle.asm_parse.specs.Statement.{next_step, fault_line}
 use Rattle.asm_lex.specs.Words.{Word, word_of}
@@ -54,8 +54,8 @@ fed sc st seen line (Some t) = placed (fault_line sc st line) (next_word sc st (
 
 abbrev pub at_line : ℕ → Result StatementState StepFault → Result StatementState SourceFault
 at_line line (Ok st) = Ok st
-at_line line (Err (stop.Cause c)) = Err (fault.At line c)
-at_line line (Err stop.Memory) = Err fault.Memory
+at_line line (Err (step_fault.Cause c)) = Err (fault.At line c)
+at_line line (Err step_fault.Memory) = Err fault.Memory
 
 abbrev pub Feeds : ScopeView → Result StatementState SourceFault → Result (ScopeView × StatementState) Fault → Type 0
 Feeds new (Ok st) r = r ≡ Ok (new, st)

@@ -245,9 +245,3 @@ abbrev pub RefusedFor : List ℕ → Result (List SourceItem) SourceFault → Ty
 RefusedFor text (Ok x) = Unit {0}
 RefusedFor text (Err fault.Memory) = Unit {0}
 RefusedFor text (Err (fault.At l c)) = Refused text l c
-
--- the refusal in this line for this cause, unless memory ran out
-abbrev pub RefusesAs : ℕ → SourceCause → Result (List SourceItem) SourceFault → Type 0
-RefusesAs l c (Ok x) = ⊥
-RefusesAs l c (Err fault.Memory) = Unit {0}
-RefusesAs l c (Err (fault.At k d)) = (k ≡ l) × (d ≡ c)

@@ -1,5 +1,6 @@
 -- One statement, terminal by terminal.
-use Rattle.std.specs.Prelude.{is_none, nat_lt, ◌≡◌, ℕ, ◌==◌, Bool, true, false, not, ◌&&◌, ◌||◌, List, [], ◌∷◌, ◌++◌, length, Option, Some, None, Result, Ok, Err, if◌then◌else◌}
+use Rattle.std.specs.Prelude.{is_none, nat_lt, ◌≡◌, ℕ, ◌==◌, Bool, true, false, not, ◌&&◌, ◌||◌, List, [], ◌∷◌, ◌++◌, length, Option, Some, None, unwrap_or, Result, Ok, Err, if◌then◌else◌}
+use Rattle.std.specs.Bool.{then_some}
 use Rattle.asm_lex.specs.declared.fault.SourceCause.{SourceCause}
 use Rattle.asm_lex.specs.declared.fault.SourceCause.TheVariants as cause
 use Rattle.asm_argument.specs.declared.terminal.Terminal.{Terminal}
@@ -17,8 +18,8 @@ use Rattle.asm_parse.specs.declared.directive.Head.TheVariants as head
 use Rattle.asm_parse.specs.declared.state.Open.{Open}
 use Rattle.asm_parse.specs.declared.state.StatementState.{StatementState}
 use Rattle.asm_parse.specs.declared.state.StatementState.TheVariants as state
-use Rattle.asm_parse.specs.declared.stop.StepFault.{StepFault}
-use Rattle.asm_parse.specs.declared.stop.StepFault.TheVariants as stop
+use Rattle.asm_parse.specs.declared.fault.StepFault.{StepFault}
+use Rattle.asm_parse.specs.declared.fault.StepFault.TheVariants as step_fault
 use Rattle.asm_parse.specs.Directives.{shape_at, least, is_instruction, defines, directive_of, is_dotted, is_section, is_defining}
 use Rattle.asm_parse.specs.ScopeView.{ScopeView}
 use Rattle.asm_source.specs.Names.{holds}
@@ -59,13 +60,13 @@ noting sc def n =
 
 abbrev pub Notes : ScopeView → Result (Unit {0}) StepFault → Result ScopeView SourceCause → Type 0
 Notes new (Ok u) r = r ≡ Ok new
-Notes new (Err (stop.Cause c)) r = r ≡ Err c
-Notes new (Err stop.Memory) r = Unit {0}
+Notes new (Err (step_fault.Cause c)) r = r ≡ Err c
+Notes new (Err step_fault.Memory) r = Unit {0}
 
 abbrev pub Does : ScopeView → Result StatementState StepFault → Result (ScopeView × StatementState) SourceCause → Type 0
 Does new (Ok st) r = r ≡ Ok (new, st)
-Does new (Err (stop.Cause c)) r = r ≡ Err c
-Does new (Err stop.Memory) r = Unit {0}
+Does new (Err (step_fault.Cause c)) r = r ≡ Err c
+Does new (Err step_fault.Memory) r = Unit {0}
 
 abbrev pub arguments_of : ScopeView → Open → ScopeView × StatementState
 arguments_of sc o = (sc, state.Arguments o)
@@ -100,8 +101,8 @@ ended o = ended_as o (finished o.so_far)
 
 abbrev pub Makes : Result StatementState StepFault → Result StatementState SourceCause → Type 0
 Makes (Ok st) r = r ≡ Ok st
-Makes (Err (stop.Cause c)) r = r ≡ Err c
-Makes (Err stop.Memory) r = Unit {0}
+Makes (Err (step_fault.Cause c)) r = r ≡ Err c
+Makes (Err step_fault.Memory) r = Unit {0}
 
 abbrev pub nothing_yet : ℕ → Head → Open
 nothing_yet line h = record { line = line; head = h; arguments = []; star = false; so_far = partial.Nothing }
@@ -254,23 +255,15 @@ is_taken sc n = holds sc.defined n || not (has_room sc n)
 abbrev pub lacks_names : ScopeView → List ℕ → Bool
 lacks_names sc n = is_dotted n && not sc.skipping && is_defining (directive_of n) && is_spent sc
 
-abbrev pub if_doomed : Bool → ℕ → Option ℕ
-if_doomed true line = Some line
-if_doomed false line = None
-
 -- the line of a token with which no text goes on, where one has been read
 abbrev pub doom : ScopeView → StatementState → Option ℕ
 doom sc (state.Stray l c) = Some l
-doom sc (state.Named b n) = if_doomed ((is_unknown sc n && is_taken sc n) || lacks_names sc n) b
+doom sc (state.Named b n) = then_some ((is_unknown sc n && is_taken sc n) || lacks_names sc n) b
 doom sc _ = None
-
-abbrev pub or_line : Option ℕ → ℕ → ℕ
-or_line None line = line
-or_line (Some l) line = l
 
 -- the line of a fault in this line
 abbrev pub fault_line : ScopeView → StatementState → ℕ → ℕ
-fault_line sc st line = or_line (doom sc st) line
+fault_line sc st line = unwrap_or (doom sc st) line
 
 -- whether a fault at a `%` is that it stands there
 abbrev pub is_place : SourceCause → Bool
@@ -291,28 +284,20 @@ abbrev pub next_step : ScopeView → StatementState → ℕ → Terminal → Res
 next_step sc st line terminal.Percent = strayed (fault_line sc st line) (step sc st line terminal.Percent)
 next_step sc st line s = step sc st line s
 
-abbrev pub if_pending : Bool → SourceCause → Option SourceCause
-if_pending true c = Some c
-if_pending false c = None
-
 -- the cause at a token that has been read, where nothing that is a token follows
 abbrev pub pending : ScopeView → StatementState → Option SourceCause
 pending sc (state.Stray l c) = Some cause.BadRegister
-pending sc (state.Named b n) = if is_unknown sc n then Some cause.UnknownDirective else if_pending (lacks_names sc n) cause.TooManySymbols
-pending sc (state.Arguments o) = if_pending (awaits_register o.so_far) cause.BadRegister
+pending sc (state.Named b n) = if is_unknown sc n then Some cause.UnknownDirective else then_some (lacks_names sc n) cause.TooManySymbols
+pending sc (state.Arguments o) = then_some (awaits_register o.so_far) cause.BadRegister
 pending sc _ = None
-
-abbrev pub or_cause : Option SourceCause → SourceCause → SourceCause
-or_cause None c = c
-or_cause (Some p) c = p
 
 -- a character that is no token in this line, or none of its kind
 abbrev pub stopped : ScopeView → StatementState → ℕ → SourceCause → ℕ × SourceCause
-stopped sc st line c = (fault_line sc st line, or_cause (pending sc st) c)
+stopped sc st line c = (fault_line sc st line, unwrap_or (pending sc st) c)
 
 abbrev pub open_at_end : Option ℕ → Option SourceCause → ℕ → ℕ × SourceCause
 open_at_end None p began = (began, cause.OpenComment)
-open_at_end (Some l) p began = (l, or_cause p cause.OpenComment)
+open_at_end (Some l) p began = (l, unwrap_or p cause.OpenComment)
 
 -- a comment that began in this line and doesn't end
 abbrev pub left_open : ScopeView → StatementState → ℕ → ℕ × SourceCause

@@ -4,9 +4,9 @@ ghost use Rattle.std.specs.Prelude.{◌≡◌, length};
 ghost use Rattle.asm_parse.specs.Statement as spec;
 
 use crate::directive::{Directive, Head, defines, is_instruction, least, shape_at};
+use crate::fault::StepFault;
 use crate::scope::Scope;
 use crate::state::{Open, StatementState};
-use crate::stop::StepFault;
 use asm_argument::{
     Partial, Terminal, begun, finished, is_finished, is_nothing, is_unbegun, name_in, operand_step,
 };

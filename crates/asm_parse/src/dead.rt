@@ -5,10 +5,10 @@ ghost use Rattle.std.specs.Option.{option_copied};
 ghost use Rattle.asm_parse.specs.Statement as spec;
 
 use crate::directive::{directive_named, is_defining, is_dotted};
+use crate::fault::StepFault;
 use crate::scope::Scope;
 use crate::state::StatementState;
 use crate::statement::step;
-use crate::stop::StepFault;
 use asm_argument::{Terminal, awaits_register};
 use asm_lex::SourceCause;
 use asm_source::Name;
@@ -95,11 +95,8 @@ fn doom(scope: &Scope, state: &StatementState) -> Option<u32>
     match state {
         StatementState::Stray { line, .. } => Some(*line),
         StatementState::Named { line: begun, name } => {
-            if (is_unknown(scope, name) && is_taken(scope, name)) || lacks_names(scope, name) {
-                Some(*begun)
-            } else {
-                None
-            }
+            ((is_unknown(scope, name) && is_taken(scope, name)) || lacks_names(scope, name))
+                .then_some(*begun)
         }
         _ => None,
     }
@@ -109,10 +106,7 @@ fn doom(scope: &Scope, state: &StatementState) -> Option<u32>
 pub fn fault_line(scope: &Scope, state: &StatementState, line: u32) -> u32
     ensures { result ≡ spec.fault_line scope.now state.now line }
 {
-    match doom(scope, state) {
-        Some(dead) => dead,
-        None => line,
-    }
+    doom(scope, state).unwrap_or(line)
 }
 
 /// The cause at a token that has been read, where nothing that is a token follows.
@@ -124,18 +118,12 @@ fn pending(scope: &Scope, state: &StatementState) -> Option<SourceCause>
         StatementState::Named { name, .. } => {
             if is_unknown(scope, name) {
                 Some(SourceCause::UnknownDirective)
-            } else if lacks_names(scope, name) {
-                Some(SourceCause::TooManySymbols)
             } else {
-                None
+                lacks_names(scope, name).then_some(SourceCause::TooManySymbols)
             }
         }
         StatementState::Arguments(begun) => {
-            if awaits_register(&begun.so_far) {
-                Some(SourceCause::BadRegister)
-            } else {
-                None
-            }
+            awaits_register(&begun.so_far).then_some(SourceCause::BadRegister)
         }
         _ => None,
     }
@@ -151,10 +139,7 @@ pub fn stopped(
     ensures { result ≡ spec.stopped scope.now state.now line cause }
 {
     let line = fault_line(scope, state, line);
-    match pending(scope, state) {
-        Some(pending) => (line, pending),
-        None => (line, cause),
-    }
+    (line, pending(scope, state).unwrap_or(cause))
 }
 
 /// The line and the cause where a comment that began in this line doesn't end.
@@ -163,9 +148,9 @@ pub fn left_open(scope: &Scope, state: &StatementState, began: u32) -> (u32, Sou
 {
     match doom(scope, state) {
         None => (began, SourceCause::OpenComment),
-        Some(line) => match pending(scope, state) {
-            Some(pending) => (line, pending),
-            None => (line, SourceCause::OpenComment),
-        },
+        Some(line) => (
+            line,
+            pending(scope, state).unwrap_or(SourceCause::OpenComment),
+        ),
     }
 }

@@ -9,7 +9,8 @@ ghost use Rattle.asm_source.specs.Size.{items_size, items_count};
 ghost use Rattle.asm_lex.specs.declared.fault.SourceCause.TheVariants.{OpenComment, TooLong};
 ghost use Rattle.asm_lex.specs.declared.fault.SourceFault.TheVariants.{At};
 ghost use Rattle.asm_lex.specs.declared.fault.SourceCause.{SourceCause as CauseView};
-ghost use Rattle.asm_parse.specs.Refusals.{Refused, RefusedFor, RefusesAs};
+ghost use Rattle.asm_lex.specs.Refusals.{RefusesAs};
+ghost use Rattle.asm_parse.specs.Refusals.{Refused, RefusedFor};
 ghost use Rattle.asm_parse.specs.Running as run;
 
 use crate::dead::left_open;

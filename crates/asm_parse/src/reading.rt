@@ -10,9 +10,9 @@ ghost use Rattle.asm_parse.specs.Items as items;
 ghost use Rattle.asm_parse.specs.Running as run;
 
 use crate::dead::{fault_line, next_step, stopped};
+use crate::fault::StepFault;
 use crate::scope::Scope;
 use crate::state::{StatementState, discard};
-use crate::stop::StepFault;
 use asm_argument::{Terminal, terminal_of};
 use asm_lex::{Mode, Next, SourceFault, Stepped, Token, TokenKind, line_after};
 use asm_source::Name;

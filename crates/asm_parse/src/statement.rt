@@ -9,9 +9,9 @@ use crate::directive::{
     Directive, Head, changes_section, directive_named, is_dotted, is_rep, is_section,
     is_skipped_section,
 };
+use crate::fault::StepFault;
 use crate::scope::Scope;
 use crate::state::StatementState;
-use crate::stop::StepFault;
 use asm_argument::{Terminal, is_register};
 use asm_lex::SourceCause;
 use asm_source::{Argument, Arguments, Body, Form, Name, SourceItem};
