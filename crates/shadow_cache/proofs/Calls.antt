@@ -11,7 +11,7 @@ use Rattle.shadow_cache.specs.declared.pair.Pair.{Pair}
 use Rattle.shadow_cache.specs.Laws.{frames-cons, kept-shadows, kept-barred, tables-any}
 use Rattle.shadow_cache.proofs.Leaving.{none-frames}
 use Rattle.shadow_cache.proofs.Present.{present-owns, move-roots, move-moves}
-use Rattle.shadow_cache.proofs.Beside.{bars-fewer, all-fewer, tables-part, few-filter, sized-filter, barred-filter, unmarked-filter, any-filter, none-reads, or-less, or-right, reads-set, reads-there, no-reads, no-length, beside-shadow, beside-held, beside-slots, beside-tables, beside-moves, beside-owns, beside-roots}
+use Rattle.shadow_cache.proofs.Beside.{bars-fewer, all-fewer, tables-part, few-filter, sized-filter, barred-filter, unmarked-filter, any-filter, none-reads, or-less, reads-set, reads-there, no-reads, no-length, beside-shadow, beside-held, beside-slots, beside-tables, beside-moves, beside-owns, beside-roots}
 use Rattle.shadow_cache.proofs.Small.{clash, both-less, none-some, length-set}
 
 -- ---- the same views

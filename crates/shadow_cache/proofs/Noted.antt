@@ -1,5 +1,5 @@
 -- From which frames the present tables were read, and whether one of those was written, after each call.
-use Rattle.std.proofs.Common.{◌≡◌, ℕ, ◌<◌, List, ◌∷◌, length, get_or, slice_set, Bool, true, false, ◌||◌, cond, eqb, Some, refl, sym, ap, ◌∙◌, inl, inr, arith}
+use Rattle.std.proofs.Common.{◌≡◌, ℕ, ◌<◌, List, ◌∷◌, length, get_or, slice_set, Bool, true, false, ◌||◌, eqb, Some, refl, sym, ap, ◌∙◌, inl, inr, arith}
 use Rattle.std.proofs.lemmas.Bool.Decides.{eqb_tells}
 use Rattle.shadow_cache.specs.Pairs.{reads}
 use Rattle.shadow_cache.specs.After.{emptied, mark_of, noted_in, noted_of, value_of, written_in}

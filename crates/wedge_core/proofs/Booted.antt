@@ -1,7 +1,7 @@
 -- The memory in which a guest starts, behind which its pool was made.
 use Rattle.std.proofs.Common.{◌≡◌, ℕ, zero, suc, ◌+◌, ◌*◌, ◌<◌, ◌≤◌, List, length, take, take-add, replicate, refl, sym, ap, ◌∙◌, inl, arith}
 use Rattle.std.proofs.Math.ListN.{length-replicate}
-use Rattle.std.proofs.lemmas.List.{places, same_lists}
+use Rattle.std.proofs.lemmas.List.{places}
 use Rattle.std.specs.FinMap.{empty}
 use Rattle.descriptors.specs.declared.cpu.Cpu.{Cpu}
 use Rattle.guest_ram.specs.Bytes.{part, with_part, frame}

@@ -1,13 +1,11 @@
 -- A step that was settled and ended goes on with what a run knows.
-use Rattle.std.proofs.Common.{◌≡◌, ℕ, ◌*◌, ◌^◌, ◌<◌, ◌≤◌, Bool, true, false, ◌==◌, ◌||◌, List, [], ◌∷◌, ◌++◌, map, length, append_assoc, Option, Some, None, refl, sym, ap, subst, ◌∙◌, inl, inr}
-use Rattle.std.proofs.lemmas.Bool.Decides.{eqb_tells}
+use Rattle.std.proofs.Common.{◌≡◌, ℕ, ◌*◌, ◌^◌, ◌<◌, ◌≤◌, Bool, true, false, ◌==◌, List, [], ◌∷◌, ◌++◌, map, length, append_assoc, Option, Some, None, refl, sym, ap, subst, ◌∙◌}
 use Rattle.std.specs.List.{list_any}
 use Rattle.std.specs.Option.{ForSome}
 use Rattle.std.specs.FinMap.{get, empty}
 use Rattle.guest_ram.specs.Bytes.{AreBytes}
 use Rattle.paging.specs.Fresh.{has}
 use Rattle.paging.specs.Space.{Space}
-use Rattle.paging.specs.Uses.{with_entry}
 use Rattle.board.specs.declared.devices.Board.{Board}
 use Rattle.descriptors.specs.Controls.{pse_of, wp_of}
 use Rattle.descriptors.specs.declared.cpu.Cpu.{Cpu}
@@ -16,9 +14,8 @@ use Rattle.shadow_tables.specs.Entries.{entries_of}
 use Rattle.shadow_tables.specs.Laws.Entries.{get-entries_of}
 use Rattle.shadow_tables.specs.Slots.{Slot, is_among, entry_in}
 use Rattle.shadow_cache.specs.Reloaded.{put_by, coming, staying}
-use Rattle.step_mem.specs.Changes.{changed, page_of, entry_of, AreToldIn}
+use Rattle.step_mem.specs.Changes.{changed, page_of, AreToldIn}
 use Rattle.step_mem.specs.declared.changes.Change.{Change}
-use Rattle.step_mem.proofs.Changed.{get_with_other}
 use Rattle.wedge_mem.specs.Settled.{pages_of}
 use Rattle.machine_model.specs.Reloading.{IsFoundBy}
 use Rattle.machine_model.specs.Run.{Set, with_set}
@@ -40,7 +37,7 @@ use Rattle.wedge_core.specs.Ready.{is_all}
 use Rattle.machine_step.specs.Roots.{RootsAs}
 use Rattle.wedge_core.proofs.Shedding.{found_tables}
 use Rattle.wedge_core.proofs.AmongPages.{any_among, told_among, among_first, changed_other}
-use Rattle.wedge_core.proofs.Bools.{clash, not_true, right_false}
+use Rattle.wedge_core.proofs.Bools.{clash, not_true}
 
 -- ---- what a step reported
 

@@ -1,5 +1,5 @@
 -- What the walk of a fetch's second page marks, and where that fetch leads.
-use Rattle.std.proofs.Common.{◌≡◌, ℕ, ◌+◌, ◌/◌, Bool, true, false, cond, ◌||◌, Option, Some, None, sym, ap, refl, ◌∙◌, arith}
+use Rattle.std.proofs.Common.{◌≡◌, ℕ, ◌+◌, ◌/◌, Bool, true, false, cond, ◌||◌, Option, Some, None, sym, ap, ◌∙◌, arith}
 use Rattle.std.specs.List.{list_any}
 use Rattle.machine_model.specs.State.{Setting, State}
 use Rattle.machine_model.specs.Instruction.{next_page}

@@ -11,7 +11,7 @@ use Rattle.board.specs.Boards.{edged, given, board_step, board_steps, event_with
 use Rattle.descriptors.specs.declared.cpu.Cpu.{Cpu}
 use Rattle.paging.specs.Fresh.{has}
 use Rattle.machine_model.specs.State.{Setting, State, Loosened, space_at_start}
-use Rattle.machine_model.specs.Step.{Report, Result, Went, step_of, stepped, by_interrupt, interrupt_of, unheld}
+use Rattle.machine_model.specs.Step.{Result, Went, step_of, stepped, by_interrupt, interrupt_of, unheld}
 use Rattle.machine_model.specs.Run.{Set, Steps, trace_of}
 use Rattle.machine_model.specs.Taken.{Taken, behind, steps_by}
 use Rattle.machine_model.specs.Notes.{AreLeft}

@@ -1,10 +1,9 @@
 -- What is kept may be used again behind the accesses of a step that went, and of one that is prepared for the host.
-use Rattle.std.proofs.Common.{◌≡◌, ◌⊎◌, ℕ, ◌+◌, ◌^◌, ◌<◌, ◌≤◌, ◌==◌, List, [], ◌∷◌, ◌++◌, map, Bool, true, false, ◌||◌, cond, not, Option, Some, None, Ok, refl, sym, ap, subst, ◌∙◌, inl, inr, arith}
+use Rattle.std.proofs.Common.{◌≡◌, ◌⊎◌, ℕ, ◌+◌, ◌^◌, ◌<◌, ◌≤◌, ◌==◌, List, [], ◌∷◌, ◌++◌, map, Bool, true, false, cond, not, Option, Some, None, Ok, refl, sym, ap, subst, ◌∙◌, inl, inr, arith}
 use Rattle.std.proofs.lemmas.Bool.Decides.{eqb_tells}
 use Rattle.std.specs.Option.{ForSome}
 use Rattle.std.specs.FinMap.{get}
 use Rattle.board.specs.declared.devices.Board.{Board}
-use Rattle.board.specs.Boards.{given}
 use Rattle.ia32_decode.specs.declared.answer.Decoded.{Decoded}
 use Rattle.ia32_exec.specs.Effect.{ranges_of}
 use Rattle.image_check.specs.Image.{Image}
@@ -13,13 +12,12 @@ use Rattle.paging.specs.Space.{Space}
 use Rattle.paging.specs.Work.{Work, Outcome, ◌>>=◌, on_value, unless}
 use Rattle.sys_exec.specs.declared.effect.Refusal.{Refusal}
 use Rattle.sys_exec.specs.declared.effect.Refusal.TheVariants as refusal
-use Rattle.paging.specs.Uses.{with_entry}
 use Rattle.shadow_tables.specs.Aside.{Aside, AreSame}
 use Rattle.shadow_tables.specs.Entries.{entries_of}
 use Rattle.shadow_tables.specs.Slots.{Slot, is_among, entry_in}
 use Rattle.step_exec.specs.Plain.{reached}
 use Rattle.step_exec.specs.Divided.{both_reached}
-use Rattle.step_mem.specs.Changes.{changed, page_of, entry_of}
+use Rattle.step_mem.specs.Changes.{changed, page_of}
 use Rattle.step_mem.specs.declared.changes.Change.{Change}
 use Rattle.step_mem.proofs.Changed.{get_with_other}
 use Rattle.machine_step.specs.declared.worked.Dropped.{Dropped}
