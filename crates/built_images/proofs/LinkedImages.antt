@@ -31,6 +31,7 @@ use Rattle.elf_link.specs.Symbols.{is_text, globals, address}
 use Rattle.elf_link.specs.Relocations.{reloc_cause, field_at, address_by, sum_of, target_by, relocated}
 use Rattle.elf_link.specs.Sites.{linked_sites}
 use Rattle.elf_form.specs.Tables.{first_some}
+use Rattle.elf_form.proofs.FormLaws.{then_none}
 use Rattle.elf_link.specs.Refusals.{Refused, object_cause, refused, object_refusal, relocs_refusal, start, start_refusal, refusal, unless}
 use Rattle.elf_link.specs.Linked.{texts, linked_text, linked_init, entry_at, image, linked_image}
 use Rattle.image_check.specs.Sweep.{Swept}
@@ -110,10 +111,6 @@ not_reloc os i o r w there c =
 
 -- ---- the limits
 
-not_when : (b : Bool) (c : LinkCause) → then_some b c ≡ None → b ≡ false
-not_when true c e = absurd cc
-not_when false c e = refl
-
 not_more : (limit n : ℕ) → nat_lt limit n ≡ false → n ≤ limit
 not_more limit n e = grind (arith, nat_tests)
 
@@ -127,8 +124,8 @@ object_within os k o all e =
     let a = none_or (then_some (nat_lt TEXT_LIMIT (text_end (take (k + 1) os) + 2)) TextTooLarge) _ e in
     let b = none_or (then_some (nat_lt 33554432 (memory_end (take (k + 1) os))) InitTooLarge) _ a.1 in
     record {
-      text = not_more TEXT_LIMIT (text_end os + 2) (not_when _ TextTooLarge (subst (λ (xs : List ObjectParts). then_some (nat_lt TEXT_LIMIT (text_end xs + 2)) TextTooLarge ≡ None) all a.0));
-      memory = not_more 33554432 (memory_end os) (not_when _ InitTooLarge (subst (λ (xs : List ObjectParts). then_some (nat_lt 33554432 (memory_end xs)) InitTooLarge ≡ None) all b.0));
+      text = not_more TEXT_LIMIT (text_end os + 2) (then_none _ TextTooLarge (subst (λ (xs : List ObjectParts). then_some (nat_lt TEXT_LIMIT (text_end xs + 2)) TextTooLarge ≡ None) all a.0));
+      memory = not_more 33554432 (memory_end os) (then_none _ InitTooLarge (subst (λ (xs : List ObjectParts). then_some (nat_lt 33554432 (memory_end xs)) InitTooLarge ≡ None) all b.0));
     }
 
 last_got : (o : ObjectParts) (os : List ObjectParts) → (p : ObjectParts) × (slice_get (o ∷ os) (length os) ≡ Some p)
