@@ -30,8 +30,10 @@ use Rattle.elf_link.specs.Layout.{round_up, init_size, bss_size, text_room, init
 use Rattle.elf_link.specs.Symbols.{is_text, globals, address}
 use Rattle.elf_link.specs.Relocations.{reloc_cause, field_at, address_by, sum_of, target_by, relocated}
 use Rattle.elf_link.specs.Sites.{linked_sites}
-use Rattle.elf_link.specs.Refusals.{Refused, first, object_cause, refused, object_refusal, relocs_refusal, start, start_refusal, refusal}
-use Rattle.elf_link.specs.Linked.{texts, linked_text, linked_init, entry_at, image, unless, linked_image}
+use Rattle.elf_form.specs.Tables.{first_some}
+use Rattle.elf_form.proofs.FormLaws.{then_none}
+use Rattle.elf_link.specs.Refusals.{Refused, object_cause, refused, object_refusal, relocs_refusal, start, start_refusal, refusal, unless}
+use Rattle.elf_link.specs.Linked.{texts, linked_text, linked_init, entry_at, image, linked_image}
 use Rattle.image_check.specs.Sweep.{Swept}
 use Rattle.image_check.specs.Pieces.{target_of}
 use Rattle.built_images.specs.Joined.{jump_to_itself}
@@ -54,18 +56,18 @@ none_or : {X : Type 0} (a b : Option X) → (a or_else b) ≡ None → (a ≡ No
 none_or (Some x) b e = absurd cc
 none_or None b e = (refl, e)
 
-first_none : {X Y : Type 0} (f : X → Option Y) (xs : List X) (k : ℕ) (x : X) → first f xs ≡ None → slice_get xs k ≡ Some x → f x ≡ None
-unfolding first
+first_none : {X Y : Type 0} (f : X → Option Y) (xs : List X) (k : ℕ) (x : X) → first_some f xs ≡ None → slice_get xs k ≡ Some x → f x ≡ None
+unfolding first_some
 first_none f [] k x e got = absurd cc
-first_none f (y ∷ xs) zero x e got = let same : y ≡ x = cc in ap f (sym same) ∙ (none_or (f y) (first f xs) e).0
-first_none f (y ∷ xs) (suc k) x e got = first_none f xs k x (none_or (f y) (first f xs) e).1 got
+first_none f (y ∷ xs) zero x e got = let same : y ≡ x = cc in ap f (sym same) ∙ (none_or (f y) (first_some f xs) e).0
+first_none f (y ∷ xs) (suc k) x e got = first_none f xs k x (none_or (f y) (first_some f xs) e).1 got
 
 contains_got : {X : Type 0} (xs : List X) (k : ℕ) (x : X) → k < length xs → Rattle.std.specs.Prelude.slice_index_or xs k x ≡ x → slice_get xs k ≡ Some x
 contains_got [] k x lt e = absurd (omega arith)
 contains_got (y ∷ xs) zero x lt e = ap Some e
 contains_got (y ∷ xs) (suc k) x lt e = contains_got xs k x (omega arith) e
 
-first_contained : {X Y : Type 0} (f : X → Option Y) (xs : List X) (x : X) → first f xs ≡ None → Contains xs x → f x ≡ None
+first_contained : {X Y : Type 0} (f : X → Option Y) (xs : List X) (x : X) → first_some f xs ≡ None → Contains xs x → f x ≡ None
 first_contained f xs x e c = first_none f xs c.0 x e (contains_got xs c.0 x c.1 c.2)
 
 number_got : (n : ℕ) (os : List ObjectParts) (k : ℕ) (o : ObjectParts) → slice_get os k ≡ Some o → slice_get (enumerate_from n os) k ≡ Some (n + k, o)
@@ -81,15 +83,15 @@ not_refused i None e = refl
 not_refused i (Some c) e = absurd cc
 
 pub record IsLinkedWell (os : List ObjectParts) : Type 0 where
-  pub objects : first (object_refusal os) (numbered os) ≡ None
-  pub relocs : first (relocs_refusal os) (numbered os) ≡ None
+  pub objects : first_some (object_refusal os) (numbered os) ≡ None
+  pub relocs : first_some (relocs_refusal os) (numbered os) ≡ None
   pub starts : start_refusal (start os) ≡ None
 
 well : (os : List ObjectParts) → refusal os ≡ None → IsLinkedWell os
 unfolding refusal
 well os e =
-    let a = none_or (first (object_refusal os) (numbered os)) (first (relocs_refusal os) (numbered os) or_else start_refusal (start os)) e in
-    let b = none_or (first (relocs_refusal os) (numbered os)) (start_refusal (start os)) a.1 in
+    let a = none_or (first_some (object_refusal os) (numbered os)) (first_some (relocs_refusal os) (numbered os) or_else start_refusal (start os)) e in
+    let b = none_or (first_some (relocs_refusal os) (numbered os)) (start_refusal (start os)) a.1 in
     record { objects = a.0; relocs = b.0; starts = b.1 }
 
 abbrev ok_parts : ImageParts → Result ImageParts Refused
@@ -105,13 +107,9 @@ is_linked os parts e = let h = linked_by (refusal os) (image os) parts e in (wel
 
 not_reloc : (os : List ObjectParts) (i : ℕ) (o : ObjectParts) (r : Reloc) → IsLinkedWell os → slice_get os i ≡ Some o → Contains o.relocs r → reloc_cause (globals os) (i, o) r ≡ None
 not_reloc os i o r w there c =
-    first_contained (reloc_cause (globals os) (i, o)) o.relocs r (not_refused i (first (reloc_cause (globals os) (i, o)) o.relocs) (first_none (relocs_refusal os) (numbered os) i (i, o) w.relocs (numbered_got os i o there))) c
+    first_contained (reloc_cause (globals os) (i, o)) o.relocs r (not_refused i (first_some (reloc_cause (globals os) (i, o)) o.relocs) (first_none (relocs_refusal os) (numbered os) i (i, o) w.relocs (numbered_got os i o there))) c
 
 -- ---- the limits
-
-not_when : (b : Bool) (c : LinkCause) → then_some b c ≡ None → b ≡ false
-not_when true c e = absurd cc
-not_when false c e = refl
 
 not_more : (limit n : ℕ) → nat_lt limit n ≡ false → n ≤ limit
 not_more limit n e = grind (arith, nat_tests)
@@ -126,8 +124,8 @@ object_within os k o all e =
     let a = none_or (then_some (nat_lt TEXT_LIMIT (text_end (take (k + 1) os) + 2)) TextTooLarge) _ e in
     let b = none_or (then_some (nat_lt 33554432 (memory_end (take (k + 1) os))) InitTooLarge) _ a.1 in
     record {
-      text = not_more TEXT_LIMIT (text_end os + 2) (not_when _ TextTooLarge (subst (λ (xs : List ObjectParts). then_some (nat_lt TEXT_LIMIT (text_end xs + 2)) TextTooLarge ≡ None) all a.0));
-      memory = not_more 33554432 (memory_end os) (not_when _ InitTooLarge (subst (λ (xs : List ObjectParts). then_some (nat_lt 33554432 (memory_end xs)) InitTooLarge ≡ None) all b.0));
+      text = not_more TEXT_LIMIT (text_end os + 2) (then_none _ TextTooLarge (subst (λ (xs : List ObjectParts). then_some (nat_lt TEXT_LIMIT (text_end xs + 2)) TextTooLarge ≡ None) all a.0));
+      memory = not_more 33554432 (memory_end os) (then_none _ InitTooLarge (subst (λ (xs : List ObjectParts). then_some (nat_lt 33554432 (memory_end xs)) InitTooLarge ≡ None) all b.0));
     }
 
 last_got : (o : ObjectParts) (os : List ObjectParts) → (p : ObjectParts) × (slice_get (o ∷ os) (length os) ≡ Some p)
