@@ -25,7 +25,7 @@ use Rattle.afterburner.specs.Sections.{is_text, is_init}
 use Rattle.afterburner.specs.Directives.{directive_of, all_fit, numbers, longs, strings, zeros_in, directed}
 use Rattle.afterburner.specs.Instructions.{instruction}
 use Rattle.afterburner.specs.Burnt.{parted, made, limited, item_made}
-use Rattle.afterburner.specs.Reasons.{size_of, gives_data, IsReason, IsLowestReason}
+use Rattle.afterburner.specs.Reasons.{given_size, gives_data, IsReason, IsLowestReason}
 use Rattle.afterburner.proofs.Statements.{ToldOf, unknown_told, refused_told as name_told, row_told, number_told}
 use Rattle.afterburner.proofs.Reasons.{reason}
 
@@ -98,7 +98,7 @@ module _ (names : List (List ℕ)) (st : ObjectSoFar) (args : List Argument) whe
   unfolding longs
   longs_range t = (cause.ValueRange, rw t refl, omega arith)
 
-  range_told : (k : DirectiveName) (w : Size) → size_of k ≡ Some w → all_fit w args ≡ false → Told (directed names (parted st) k args) cause.ValueRange
+  range_told : (k : DirectiveName) (w : Size) → given_size k ≡ Some w → all_fit w args ≡ false → Told (directed names (parted st) k args) cause.ValueRange
   unfolding directed
   range_told directive.Bytes w f t = let same : size.Byte ≡ w = cc in numbers_range size.Byte (subst (λ (x : Size). all_fit x args ≡ false) (sym same) t)
   range_told directive.Shorts w f t = let same : size.Word ≡ w = cc in numbers_range size.Word (subst (λ (x : Size). all_fit x args ≡ false) (sym same) t)

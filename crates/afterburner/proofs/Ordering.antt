@@ -11,7 +11,7 @@ use Rattle.elf_form.specs.declared.object.Symbol.{Symbol}
 use Rattle.afterburner.specs.declared.symbol.Definition.{Definition}
 use Rattle.afterburner.specs.Objects.{symbol, symbols_seen, ordered_number, with_number, renumbered}
 
-some_inj : {A : Type 0} {x y : A} → Some x ≡ Some y → x ≡ y
+pub some_inj : {A : Type 0} {x y : A} → Some x ≡ Some y → x ≡ y
 some_inj e = cc
 
 seen_suc : (names : List (List ℕ)) (ds : List Definition) (k : ℕ) (name : List ℕ) (d : Definition) → k < length ds → slice_get names k ≡ Some name → symbols_seen (take (suc k) names) (take (suc k) ds) ≡ symbols_seen (take k names) (take k ds) ++ symbol name (get_or ds k d) ∷ []

@@ -25,7 +25,7 @@ use Rattle.afterburner.specs.Sections.{is_text, is_init}
 use Rattle.afterburner.specs.Directives.{directive_of, all_fit, values, in_init, numbers, with_long, longs, string_bytes, strings, zeros_in, directed}
 use Rattle.afterburner.specs.Instructions.{placed, in_text, instruction}
 use Rattle.afterburner.specs.Burnt.{parted, made, limited, then_limited, item_made}
-use Rattle.afterburner.specs.Reasons.{size_of, gives_data, IsReason}
+use Rattle.afterburner.specs.Reasons.{given_size, gives_data, IsReason}
 use Rattle.afterburner.proofs.Statements.{statement_reason}
 
 in_init_refused : (st new : ObjectSoFar) (c : BurnCause) → in_init st new ≡ Err c → (is_init st.section ≡ false) × (cause.DataInText ≡ c)
@@ -44,15 +44,15 @@ module _ (names : List (List ℕ)) (st : ObjectSoFar) (name : List ℕ) (args : 
       let p = in_init_refused (parted st) new c e in
       subst Reason p.1 (IsReason.data_outside (ap gives_data q ∙ g) p.0)
 
-  out_of_range : (k : DirectiveName) (w : Size) (new : ObjectSoFar) (c : BurnCause) → directive_of name ≡ k → size_of k ≡ Some w → gives_data k ≡ true
+  out_of_range : (k : DirectiveName) (w : Size) (new : ObjectSoFar) (c : BurnCause) → directive_of name ≡ k → given_size k ≡ Some w → gives_data k ≡ true
       → cond (not (all_fit w args)) (Err cause.ValueRange) (in_init (parted st) new) ≡ Err c → Reason c
   out_of_range k w new c q f g e = by_fit (all_fit w args) refl e
     where
       by_fit : (t : Bool) → all_fit w args ≡ t → cond (not t) (Err cause.ValueRange) (in_init (parted st) new) ≡ Err c → Reason c
       by_fit true t e = outside k new c q g e
-      by_fit false t e = let same : cause.ValueRange ≡ c = cc in subst Reason same (IsReason.range w (ap size_of q ∙ f) t)
+      by_fit false t e = let same : cause.ValueRange ≡ c = cc in subst Reason same (IsReason.range w (ap given_size q ∙ f) t)
 
-  numbers_reason : (k : DirectiveName) (w : Size) (c : BurnCause) → directive_of name ≡ k → size_of k ≡ Some w → gives_data k ≡ true → numbers (parted st) w args ≡ Err c → Reason c
+  numbers_reason : (k : DirectiveName) (w : Size) (c : BurnCause) → directive_of name ≡ k → given_size k ≡ Some w → gives_data k ≡ true → numbers (parted st) w args ≡ Err c → Reason c
   unfolding numbers
   numbers_reason k w c q f g e = out_of_range k w (record (parted st) { init = st.init ++ values w args }) c q f g e
 

@@ -6,9 +6,7 @@ use Rattle.elf_form.specs.declared.object.Symbol.{Symbol}
 use Rattle.afterburner.specs.declared.symbol.Definition.{Definition}
 use Rattle.afterburner.specs.Symbols.{definition_of}
 use Rattle.afterburner.specs.Objects.{is_global, are, defines, symbol, symbols_seen, ordered, ordered_number}
-
-some_inj : {A : Type 0} {x y : A} → Some x ≡ Some y → x ≡ y
-some_inj e = cc
+use Rattle.afterburner.proofs.Ordering.{some_inj}
 
 -- one more symbol in front, if it is counted
 counted : (b : Bool) (s : Symbol) (rest : List Symbol) (c : ℕ) → slice_get (cond b (s ∷ rest) rest) (cond b 1 0 + c) ≡ slice_get rest c

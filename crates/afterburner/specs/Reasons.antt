@@ -19,11 +19,11 @@ use Rattle.afterburner.specs.Directives.{directive_of, all_fit}
 use Rattle.afterburner.specs.Burnt.{made}
 
 -- the size of the values that a directive gives
-abbrev pub size_of : DirectiveName → Option Size
-size_of directive.Bytes = Some size.Byte
-size_of directive.Shorts = Some size.Word
-size_of directive.Longs = Some size.Long
-size_of _ = None
+abbrev pub given_size : DirectiveName → Option Size
+given_size directive.Bytes = Some size.Byte
+given_size directive.Shorts = Some size.Word
+given_size directive.Longs = Some size.Long
+given_size _ = None
 
 -- whether a directive gives values or strings
 abbrev pub gives_data : DirectiveName → Bool
@@ -43,7 +43,7 @@ pub data IsReason (names : List (List ℕ)) (st : ObjectSoFar) : Body → BurnCa
   no_row : {rep : Bool} {name : List ℕ} {args : List Argument} → IsWithoutRow rep name args → IsReason names st (body.Instruction rep name args) cause.Operands
   number : {rep : Bool} {name : List ℕ} {args : List Argument} → HasUnfitNumber rep name args → IsReason names st (body.Instruction rep name args) cause.ValueRange
   instruction_outside : {rep : Bool} {name : List ℕ} {args : List Argument} → is_text st.section ≡ false → IsReason names st (body.Instruction rep name args) cause.DataInText
-  range : {name : List ℕ} {args : List Argument} (w : Size) → size_of (directive_of name) ≡ Some w → all_fit w args ≡ false → IsReason names st (body.Directive name args) cause.ValueRange
+  range : {name : List ℕ} {args : List Argument} (w : Size) → given_size (directive_of name) ≡ Some w → all_fit w args ≡ false → IsReason names st (body.Directive name args) cause.ValueRange
   data_outside : {name : List ℕ} {args : List Argument} → gives_data (directive_of name) ≡ true → is_init st.section ≡ false → IsReason names st (body.Directive name args) cause.DataInText
   zeros_in_text : {name : List ℕ} {args : List Argument} → directive_of name ≡ directive.Zeros → is_text st.section ≡ true → IsReason names st (body.Directive name args) cause.DataInText
   many_zeros : {name : List ℕ} {args : List Argument} → directive_of name ≡ directive.Zeros → is_init st.section ≡ true → 33554432 < length st.init + st.bss + count_at args 0 → IsReason names st (body.Directive name args) cause.InitTooLarge

@@ -1,6 +1,6 @@
 -- The three sections, and what an item adds to the one it stands in.
-use Rattle.std.specs.Prelude.{ℕ, ◌+◌, Bool, true, false, ◌||◌, List, ◌++◌, length, replicate, codes, nat_eq, nat_lt, Option, Some, None, if◌then◌else◌}
-use Rattle.std.specs.List.{starts_with}
+use Rattle.std.specs.Prelude.{ℕ, ◌+◌, Bool, true, false, ◌||◌, List, ◌++◌, length, replicate, codes, nat_lt, Option, Some, None, if◌then◌else◌}
+use Rattle.asm_source.specs.DirectiveTable.{begins}
 use Rattle.elf_form.specs.declared.object.DefinedIn.{DefinedIn}
 use Rattle.elf_form.specs.declared.object.DefinedIn.TheVariants as place
 use Rattle.elf_form.specs.Output.{pad}
@@ -34,9 +34,9 @@ here st = size_of st st.section
 -- a section by its name; a name of another section leaves the section
 unfoldable pub section_named : List ℕ → Section → Section
 section_named name before =
-    if starts_with nat_eq name (codes ".text") then section.Text else
-    if starts_with nat_eq name (codes ".bss") then section.Bss else
-    if starts_with nat_eq name (codes ".rodata") || starts_with nat_eq name (codes ".data") then section.Init else
+    if begins name (codes ".text") then section.Text else
+    if begins name (codes ".bss") then section.Bss else
+    if begins name (codes ".rodata") || begins name (codes ".data") then section.Init else
     before
 
 abbrev pub entered : ObjectSoFar → Section → ObjectSoFar

@@ -8,7 +8,7 @@ ghost use Rattle.afterburner.specs.Arguments.{number_in, text_in, count_of, coun
 use asm_source::{Argument, Form, Name, Value};
 
 /// The symbol's name in an argument.
-pub fn symbol(argument: &Argument) -> Option<&Name>
+pub fn symbol_in(argument: &Argument) -> Option<&Name>
     ensures { option_copied result ≡ symbol_in argument.now.form }
 {
     match &argument.form {
@@ -82,7 +82,7 @@ pub fn symbol_at(arguments: &[Argument], index: usize) -> Option<&Name>
     ensures { option_copied result ≡ symbol_at arguments.now index }
 {
     match arguments.get(index) {
-        Some(argument) => symbol(argument),
+        Some(argument) => symbol_in(argument),
         None => None,
     }
 }

@@ -5,7 +5,7 @@ ghost use Rattle.std.specs.List.{flat_map};
 ghost use Rattle.afterburner.specs.Burnt.{Makes};
 ghost use Rattle.afterburner.specs.Directives as spec;
 
-use crate::argument::{number, symbol, text};
+use crate::argument::{number, symbol_in, text};
 use crate::assembly::Assembly;
 use crate::fault::{BurnCause, ItemFault};
 use crate::limits::INIT_LIMIT;
@@ -75,7 +75,7 @@ impl Assembly {
         requires room { length self.old.init < 2 ^ 32 }
         ensures { OnOk result (self.new ≡ spec.with_long names.now self.old argument.now) }
     {
-        if let Some(name) = symbol(argument) {
+        if let Some(name) = symbol_in(argument) {
             self.data_relocs.push(Reloc {
                 in_text: false,
                 at: self.init.len() as u32,

@@ -4,7 +4,7 @@ ghost use Rattle.std.specs.Prelude.{◌≡◌, fold, IfOk, OnOk};
 ghost use Rattle.asm_source.specs.Names.{added};
 ghost use Rattle.asm_source.specs.Readable.{argument_names, body_names, names_in};
 
-use crate::argument::symbol;
+use crate::argument::symbol_in;
 use asm_source::{Argument, Body, Names, Source};
 use std::alloc::{AllocError, Global};
 
@@ -12,7 +12,7 @@ fn add_arguments(alloc: Global, names: &mut Names, arguments: &[Argument]) -> Re
     ensures { OnOk result (names.new ≡ fold added names.old (argument_names arguments.now)) }
 {
     for argument in arguments {
-        if let Some(name) = symbol(argument) {
+        if let Some(name) = symbol_in(argument) {
             names.add(alloc, &name.bytes)?;
         }
     }
