@@ -10,7 +10,8 @@ use Rattle.ia32_exec.specs.declared.outcome.Stores.TheVariants.{Nothing, One, Ei
 use Rattle.ia32_exec.specs.Memory.{store, IsAllAt}
 use Rattle.ia32_exec.specs.Ranges.{AreAll}
 use Rattle.ia32_exec.specs.Commit.{AreStored, list_of, longs_to}
-use Rattle.host_cpl3.specs.Store.{number_stored, all_stored}
+use Rattle.paging.specs.Numbers.{number_stored}
+use Rattle.host_cpl3.specs.Store.{all_stored}
 
 pub stored_more : (at : ℕ → ℕ) (m : List ℕ) (ws : List Store) (w : Store) → all_stored at m (ws ++ w ∷ []) ≡ number_stored at (all_stored at m ws) w.at w.size w.value
 stored_more at m [] w = refl

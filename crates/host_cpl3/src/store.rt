@@ -7,7 +7,8 @@ ghost use Rattle.ia32_exec.specs.Memory.{IsAllAt};
 ghost use Rattle.ia32_exec.specs.Ranges.{AreAll};
 ghost use Rattle.ia32_exec.specs.Commit.{AreStored, list_of, longs_to};
 ghost use Rattle.host_cpl3.specs.Kept.{SameBut};
-ghost use Rattle.host_cpl3.specs.Store.{number_stored, all_stored};
+ghost use Rattle.paging.specs.Numbers.{number_stored};
+ghost use Rattle.host_cpl3.specs.Store.{all_stored};
 ghost use Rattle.host_cpl3.specs.Reaches.{placed, IsWritten};
 
 use crate::reach::Reach;

@@ -6,3 +6,4 @@ pub mod Site
 pub mod Shape
 pub mod Firsts
 pub mod Places
+pub mod Bytes

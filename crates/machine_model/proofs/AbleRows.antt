@@ -61,13 +61,13 @@ pub record Suits (old new : Cpu) : Type 0 where
   pub users : old.cpl ≡ 3 → is_open new ≡ true
 
 -- behind other effects than going on the level is the same
-abbrev pub Stays : Cpu → Cpu → SysEffect → Type 0
-Stays old new effects.Next = Unit {0}
-Stays old new e = new.cpl ≡ old.cpl
+abbrev pub LevelStays : Cpu → Cpu → SysEffect → Type 0
+LevelStays old new effects.Next = Unit {0}
+LevelStays old new e = new.cpl ≡ old.cpl
 
-pub record IsLeft (old : Cpu) (done : SysOutcome) : Type 0 where
+pub record IsLeftAble (old : Cpu) (done : SysOutcome) : Type 0 where
   pub suits : Suits old done.cpu
-  pub stays : Stays old done.cpu done.effect
+  pub stays : LevelStays old done.cpu done.effect
 
 -- ---- tests
 
@@ -170,15 +170,15 @@ module _ (stay : InsensitiveStay) (cpu : Cpu) (able : IsAble cpu) where
   popped_open image u =
       ap (λ (f : Flags). has f.bits 512 && f.bits / 4096 % 4 == 0) (popped_flags image u) ∙ kept_open (taken cpu.regs.flags image) (stay.images cpu.regs.flags image) u
 
-  goes : (new : Cpu) → Suits cpu new → Yields (IsLeft cpu) (next new)
+  goes : (new : Cpu) → Suits cpu new → Yields (IsLeftAble cpu) (next new)
   goes new h = gives_yields (record { suits = h; stays = tt })
 
-  goes_on : (new : Cpu) → new.cpl ≡ cpu.cpl → new.seg ≡ cpu.seg → new.regs.flags ≡ cpu.regs.flags → Yields (IsLeft cpu) (next new)
+  goes_on : (new : Cpu) → new.cpl ≡ cpu.cpl → new.seg ≡ cpu.seg → new.regs.flags ≡ cpu.regs.flags → Yields (IsLeftAble cpu) (next new)
   goes_on new l s f = goes new (same cpu able new l s f)
 
   -- ---- flags and HLT
 
-  of_cli : (len : ℕ) → Yields (IsLeft cpu) (clear_interrupts len cpu)
+  of_cli : (len : ℕ) → Yields (IsLeftAble cpu) (clear_interrupts len cpu)
   unfolding clear_interrupts
   of_cli len = then_yields (unless_yields protection_0 (is_within cpu)) (λ done w. goes _ (record {
     level = able.level;
@@ -187,7 +187,7 @@ module _ (stay : InsensitiveStay) (cpu : Cpu) (able : IsAble cpu) where
     users = λ u. absurd (clash (is_within cpu) w (not_within u));
   }))
 
-  of_sti : (len : ℕ) → Yields (IsLeft cpu) (set_interrupts len cpu)
+  of_sti : (len : ℕ) → Yields (IsLeftAble cpu) (set_interrupts len cpu)
   unfolding set_interrupts
   of_sti len = then_yields (unless_yields protection_0 (is_within cpu)) (λ done w. goes _ (record {
     level = able.level;
@@ -196,15 +196,15 @@ module _ (stay : InsensitiveStay) (cpu : Cpu) (able : IsAble cpu) where
     users = λ u. absurd (clash (is_within cpu) w (not_within u));
   }))
 
-  of_hlt : (len : ℕ) → Yields (IsLeft cpu) (halt len cpu)
+  of_hlt : (len : ℕ) → Yields (IsLeftAble cpu) (halt len cpu)
   unfolding halt
   of_hlt len = any_yields (kernel_alone cpu) (λ done. gives_yields (record { suits = same cpu able _ refl refl refl; stays = refl }))
 
-  of_pushf : (len : ℕ) → Yields (IsLeft cpu) (push_flags len cpu)
+  of_pushf : (len : ℕ) → Yields (IsLeftAble cpu) (push_flags len cpu)
   unfolding push_flags
   of_pushf len = any_yields (pushed cpu cpu.regs.flags.bits) (λ done. goes_on _ refl refl refl)
 
-  of_popf : (len : ℕ) → Yields (IsLeft cpu) (pop_flags len cpu)
+  of_popf : (len : ℕ) → Yields (IsLeftAble cpu) (pop_flags len cpu)
   unfolding pop_flags
   of_popf len = any_yields (pulled cpu) (λ image. any_yields (flags_tested image) (λ done. goes (with_flags (past_pop cpu len) (new_flags cpu image)) (record { level = able.level; code = able.code; stack = able.stack; users = popped_open image })))
 
@@ -251,16 +251,16 @@ module _ (stay : InsensitiveStay) (cpu : Cpu) (able : IsAble cpu) where
 
   -- ---- control registers
 
-  of_read_control : (a b : Operand) (len : ℕ) → Yields (IsLeft cpu) (read_control a b len cpu)
+  of_read_control : (a b : Operand) (len : ℕ) → Yields (IsLeftAble cpu) (read_control a b len cpu)
   unfolding read_control
   of_read_control (operands.Register k) (operands.Control number) len = any_yields (kernel_alone cpu) (λ done. any_yields (control_of cpu number) (λ v. goes_on _ refl refl refl))
   of_read_control a b len = record { each = λ s. tt }
 
-  drops_all : (new : Cpu) (changes : Bool) → new.cpl ≡ cpu.cpl → Stays cpu new (cond changes effects.DropAll effects.Next)
+  drops_all : (new : Cpu) (changes : Bool) → new.cpl ≡ cpu.cpl → LevelStays cpu new (cond changes effects.DropAll effects.Next)
   drops_all new true same = same
   drops_all new false same = tt
 
-  of_load_control : (len number v : ℕ) → Yields (IsLeft cpu) (load_control (past cpu len) number v)
+  of_load_control : (len number v : ℕ) → Yields (IsLeftAble cpu) (load_control (past cpu len) number v)
   unfolding load_control
   of_load_control len number v =
       if_yields (number == 0) (any_yields (unless control_stop (bit_and v control_0_needed == control_0_needed && bit_and v control_0_refused == 0)) (λ done. goes_on _ refl refl refl))
@@ -269,51 +269,51 @@ module _ (stay : InsensitiveStay) (cpu : Cpu) (able : IsAble cpu) where
       (if_yields (number == 4) (any_yields (unless control_stop (v == 0 || v == 0x10)) (λ done. gives_yields (record { suits = same cpu able _ refl refl refl; stays = drops_all (record (past cpu len) { cr4 = v }) (changes_pse (past cpu len) v) refl })))
       (record { each = λ s. tt }))))
 
-  of_write_control : (a b : Operand) (len : ℕ) → Yields (IsLeft cpu) (write_control a b len cpu)
+  of_write_control : (a b : Operand) (len : ℕ) → Yields (IsLeftAble cpu) (write_control a b len cpu)
   unfolding write_control
   of_write_control (operands.Control number) (operands.Register k) len = any_yields (kernel_alone cpu) (λ done. of_load_control len number _)
   of_write_control a b len = record { each = λ s. tt }
 
   -- ---- tables
 
-  of_gdt : (a : Operand) (len : ℕ) → Yields (IsLeft cpu) (load_gdt a len cpu)
+  of_gdt : (a : Operand) (len : ℕ) → Yields (IsLeftAble cpu) (load_gdt a len cpu)
   unfolding load_gdt
   of_gdt a len = any_yields (kernel_alone cpu) (λ done. any_yields (table_at cpu a) (λ table. goes_on _ refl refl refl))
 
-  of_idt : (a : Operand) (len : ℕ) → Yields (IsLeft cpu) (load_idt a len cpu)
+  of_idt : (a : Operand) (len : ℕ) → Yields (IsLeftAble cpu) (load_idt a len cpu)
   unfolding load_idt
   of_idt a len = any_yields (kernel_alone cpu) (λ done. any_yields (table_at cpu a) (λ table. goes_on _ refl refl refl))
 
-  of_tr : (a : Operand) (len : ℕ) → Yields (IsLeft cpu) (load_tr a len cpu)
+  of_tr : (a : Operand) (len : ℕ) → Yields (IsLeftAble cpu) (load_tr a len cpu)
   unfolding load_tr
   of_tr a len = any_yields (kernel_alone cpu) (λ done. any_yields (selector cpu a) (λ sel. any_yields (load_task cpu sel) (λ task. goes_on _ refl refl refl)))
 
-  drops_stay : (new : Cpu) (pse : Bool) (at : ℕ) → new.cpl ≡ cpu.cpl → Stays cpu new (drop_at pse at)
+  drops_stay : (new : Cpu) (pse : Bool) (at : ℕ) → new.cpl ≡ cpu.cpl → LevelStays cpu new (drop_at pse at)
   drops_stay new true at same = same
   drops_stay new false at same = same
 
-  of_dropped : (len : ℕ) (a : Operand) → Yields (IsLeft cpu) (dropped len cpu a)
+  of_dropped : (len : ℕ) (a : Operand) → Yields (IsLeftAble cpu) (dropped len cpu a)
   of_dropped len (operands.Memory a) = gives_yields (record { suits = same cpu able _ refl refl refl; stays = drops_stay (past cpu len) (pse_of cpu) (address_of a cpu.regs) refl })
   of_dropped len a = record { each = λ s. tt }
 
-  of_drop_page : (a : Operand) (len : ℕ) → Yields (IsLeft cpu) (drop_page a len cpu)
+  of_drop_page : (a : Operand) (len : ℕ) → Yields (IsLeftAble cpu) (drop_page a len cpu)
   unfolding drop_page
   of_drop_page a len = any_yields (kernel_alone cpu) (λ done. of_dropped len a)
 
   -- ---- segment registers
 
-  of_kept : (len sel : ℕ) (a : Operand) → Yields (IsLeft cpu) (selector_kept len cpu sel a)
+  of_kept : (len sel : ℕ) (a : Operand) → Yields (IsLeftAble cpu) (selector_kept len cpu sel a)
   unfolding selector_kept
   of_kept len sel (operands.Register k) = goes_on _ refl refl refl
   of_kept len sel (operands.Memory a) = any_yields (operand_reached cpu a 2 true) (λ one. any_yields (writes (address_of a cpu.regs) Word sel) (λ two. goes_on (past cpu len) refl refl refl))
   of_kept len sel a = record { each = λ s. tt }
 
-  of_read_seg : (insn : Insn) (b : Operand) (len : ℕ) → Yields (IsLeft cpu) (read_seg insn b len cpu)
+  of_read_seg : (insn : Insn) (b : Operand) (len : ℕ) → Yields (IsLeftAble cpu) (read_seg insn b len cpu)
   unfolding read_seg
   of_read_seg insn (operands.Segment seg) len = of_kept len _ insn.a
   of_read_seg insn b len = record { each = λ s. tt }
 
-  of_load : (after : Cpu) (sel : ℕ) (seg : Seg) → Suits cpu after → Yields (IsLeft cpu) (load_by after cpu sel seg)
+  of_load : (after : Cpu) (sel : ℕ) (seg : Seg) → Suits cpu after → Yields (IsLeftAble cpu) (load_by after cpu sel seg)
   unfolding load_by
   of_load after sel Cs h = record { each = λ s. tt }
   of_load after sel Ss h = then_yields (found_stack cpu.cpl sel) (λ l e. any_yields (marked cpu l) (λ done. goes _ (record {
@@ -335,17 +335,17 @@ module _ (stay : InsensitiveStay) (cpu : Cpu) (able : IsAble cpu) where
     users = h.users;
   }))
 
-  of_load_seg : (insn : Insn) (a : Operand) (len : ℕ) → Yields (IsLeft cpu) (load_seg insn a len cpu)
+  of_load_seg : (insn : Insn) (a : Operand) (len : ℕ) → Yields (IsLeftAble cpu) (load_seg insn a len cpu)
   unfolding load_seg
   of_load_seg insn (operands.Segment seg) len = any_yields (selector cpu insn.b) (λ sel. of_load (past cpu len) sel seg (same cpu able _ refl refl refl))
   of_load_seg insn a len = record { each = λ s. tt }
 
-  of_push_seg : (a : Operand) (len : ℕ) → Yields (IsLeft cpu) (push_seg a len cpu)
+  of_push_seg : (a : Operand) (len : ℕ) → Yields (IsLeftAble cpu) (push_seg a len cpu)
   unfolding push_seg
   of_push_seg (operands.Segment seg) len = any_yields (pushed cpu (selector_in cpu seg)) (λ done. goes_on _ refl refl refl)
   of_push_seg a len = record { each = λ s. tt }
 
-  of_pop_seg : (a : Operand) (len : ℕ) → Yields (IsLeft cpu) (pop_seg a len cpu)
+  of_pop_seg : (a : Operand) (len : ℕ) → Yields (IsLeftAble cpu) (pop_seg a len cpu)
   unfolding pop_seg
   of_pop_seg (operands.Segment seg) len = any_yields (pulled cpu) (λ v. of_load (past_pop cpu len) (v % 65536) seg (same cpu able _ refl refl refl))
   of_pop_seg a len = record { each = λ s. tt }
@@ -354,7 +354,7 @@ module _ (stay : InsensitiveStay) (cpu : Cpu) (able : IsAble cpu) where
   unfolding find_jump
   found_jump sel = any_yields (ends_if protection_0 (nat_lt sel 4)) (λ done. any_yields (selected cpu form_stop sel) (λ pair. any_yields (jump_tests cpu.cpl sel (descriptor_of pair.0 pair.1)) (λ tested. gives_yields {x = loading (sel / 4 * 4 + cpu.cpl % 4) pair.1 (descriptor_of pair.0 pair.1)} refl)))
 
-  of_far_jump : (insn : Insn) → Yields (IsLeft cpu) (far_jump insn cpu)
+  of_far_jump : (insn : Insn) → Yields (IsLeftAble cpu) (far_jump insn cpu)
   unfolding far_jump
   of_far_jump insn = then_yields (found_jump insn.sel) (λ code e. any_yields (marked cpu code) (λ done. goes _ (record {
     level = able.level;
@@ -365,23 +365,23 @@ module _ (stay : InsensitiveStay) (cpu : Cpu) (able : IsAble cpu) where
 
   -- ---- ports and branches
 
-  of_port_in : (insn : Insn) (len : ℕ) → Yields (IsLeft cpu) (port_in insn len cpu)
+  of_port_in : (insn : Insn) (len : ℕ) → Yields (IsLeftAble cpu) (port_in insn len cpu)
   unfolding port_in
   of_port_in insn len = any_yields (unless protection_0 (is_within cpu)) (λ done. gives_yields (record { suits = same cpu able _ refl refl refl; stays = refl }))
 
-  of_port_out : (insn : Insn) (len : ℕ) → Yields (IsLeft cpu) (port_out insn len cpu)
+  of_port_out : (insn : Insn) (len : ℕ) → Yields (IsLeftAble cpu) (port_out insn len cpu)
   unfolding port_out
   of_port_out insn len = any_yields (unless protection_0 (is_within cpu)) (λ done. gives_yields (record { suits = same cpu able _ refl refl refl; stays = refl }))
 
-  of_return : (more : ℕ) → Yields (IsLeft cpu) (return_to more cpu)
+  of_return : (more : ℕ) → Yields (IsLeftAble cpu) (return_to more cpu)
   unfolding return_to
   of_return more = any_yields (pulled cpu) (λ target. goes_on _ refl refl refl)
 
-  of_jump : (a : Operand) → Yields (IsLeft cpu) (jump_to a cpu)
+  of_jump : (a : Operand) → Yields (IsLeftAble cpu) (jump_to a cpu)
   unfolding jump_to
   of_jump a = any_yields (long_of cpu a) (λ target. goes_on _ refl refl refl)
 
-  of_call : (a : Operand) (len : ℕ) → Yields (IsLeft cpu) (call_to a len cpu)
+  of_call : (a : Operand) (len : ℕ) → Yields (IsLeftAble cpu) (call_to a len cpu)
   unfolding call_to
   of_call (operands.Register k) len = any_yields (pushed cpu (past cpu len).regs.eip) (λ done. goes_on _ refl refl refl)
   of_call (operands.Memory a) len = any_yields (called_through a len cpu) (λ target. goes_on _ refl refl refl)
@@ -389,7 +389,7 @@ module _ (stay : InsensitiveStay) (cpu : Cpu) (able : IsAble cpu) where
 
   -- ---- the rows
 
-  row_left : (o : Op) (insn : Insn) (len : ℕ) → Yields (IsLeft cpu) (row o insn len cpu)
+  row_left : (o : Op) (insn : Insn) (len : ℕ) → Yields (IsLeftAble cpu) (row o insn len cpu)
   row_left ops.Cli insn len = of_cli len
   row_left ops.Sti insn len = of_sti len
   row_left ops.Hlt insn len = of_hlt len
@@ -414,7 +414,7 @@ module _ (stay : InsensitiveStay) (cpu : Cpu) (able : IsAble cpu) where
   row_left ops.CallTo insn len = of_call insn.a len
   row_left o insn len = record { each = λ s. tt }
 
-  sys_left : (insn : Insn) (len : ℕ) → Yields (IsLeft cpu) (sys_work insn len cpu)
+  sys_left : (insn : Insn) (len : ℕ) → Yields (IsLeftAble cpu) (sys_work insn len cpu)
   unfolding sys_work
   sys_left insn len = row_left insn.op insn len
 
@@ -438,15 +438,15 @@ module _ (stay : InsensitiveStay) (cpu : Cpu) (able : IsAble cpu) where
   unfolding executed
   of_plain insn len = any_yields (unless (refusals.Raise 13 0) (not (is_refused cpu (ranges_of insn cpu.regs)))) (λ done. record { each = λ s. of_reads insn len (reached cpu false (ranges_of insn cpu.regs).read s) })
 
-  plainly_left : (o : Outcome Refusal Cpu) → Ends (Suits cpu) o → Ends (IsLeft cpu) (done_plainly o)
+  plainly_left : (o : Outcome Refusal Cpu) → Ends (Suits cpu) o → Ends (IsLeftAble cpu) (done_plainly o)
   plainly_left (Ok x) h = record { suits = h; stays = tt }
   plainly_left (Err refused) h = tt
 
-  choice : (test : Bool) (x y : Outcome Refusal SysOutcome) → Ends (IsLeft cpu) x → Ends (IsLeft cpu) y → Ends (IsLeft cpu) (cond test x y)
+  choice : (test : Bool) (x y : Outcome Refusal SysOutcome) → Ends (IsLeftAble cpu) x → Ends (IsLeftAble cpu) y → Ends (IsLeftAble cpu) (cond test x y)
   choice true x y h k = h
   choice false x y h k = k
 
-  pub left : (insn : Insn) (len : ℕ) (s : Space) → Ends (IsLeft cpu) (instructed insn len cpu s)
+  pub left : (insn : Insn) (len : ℕ) (s : Space) → Ends (IsLeftAble cpu) (instructed insn len cpu s)
   unfolding instructed
   left insn len s =
       choice (is_plain insn.op) (done_plainly (executed insn len cpu s)) (sys_work insn len cpu s)

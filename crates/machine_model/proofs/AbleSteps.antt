@@ -42,7 +42,7 @@ use Rattle.machine_model.specs.Step.{Completed, Report, Result, Went, Halts, beg
 use Rattle.machine_model.specs.Able.{IsAble, StepsKeepAble}
 use Rattle.machine_model.proofs.Yielding.{Ends, Yields, any_yields, gives_yields}
 use Rattle.sys_exec.specs.Operand.{past}
-use Rattle.machine_model.proofs.AbleRows.{Suits, Stays, IsLeft, null_1, null_2, other, same, left}
+use Rattle.machine_model.proofs.AbleRows.{Suits, LevelStays, IsLeftAble, null_1, null_2, other, same, left}
 
 -- a step that goes leaves an able processor
 abbrev LeavesAble : Result → Type 0
@@ -135,7 +135,7 @@ module _ (m : Setting) (b : State) (text count : ℕ) (own : Own) (mode : m.mode
   of_write c cpu item s (did.Done, board) h = h
   of_write c cpu item s (did.Sent value, board) h = h
 
-  of_effect : (c : Completed) (e : SysEffect) (cpu : Cpu) (s : Space) → Suits b.cpu cpu → Stays b.cpu cpu e → LeavesAble (after_effect m b c e cpu s)
+  of_effect : (c : Completed) (e : SysEffect) (cpu : Cpu) (s : Space) → Suits b.cpu cpu → LevelStays b.cpu cpu e → LeavesAble (after_effect m b c e cpu s)
   of_effect c effects.Next cpu s h k = chosen (may_leave m.mode b.cpu cpu) (concluded [] (Some c) b cpu b.board s) (Halts stops.UserFlags) (of_next cpu h) tt
   of_effect c effects.Halted cpu s h k = at_level b.cpu cpu h k
   of_effect c (effects.DropPage page) cpu s h k = at_level b.cpu cpu h k
@@ -151,7 +151,7 @@ module _ (m : Setting) (b : State) (text count : ℕ) (own : Own) (mode : m.mode
   of_told c (refusal.Raise vector code) s = of_raised m b b.cpu vector code s
   of_told c (refusal.Stop stop) s = tt
 
-  of_instruction : (c : Completed) (o : Outcome Refusal SysOutcome) → Ends (IsLeft b.cpu) o → LeavesAble (after_instruction m b c o)
+  of_instruction : (c : Completed) (o : Outcome Refusal SysOutcome) → Ends (IsLeftAble b.cpu) o → LeavesAble (after_instruction m b c o)
   of_instruction c (Ok done) h = of_effect c done.0.effect done.0.cpu done.1 h.suits h.stays
   of_instruction c (Err refused) h = of_told c refused.0 refused.1
 

@@ -26,7 +26,7 @@ use Rattle.machine_model.specs.Instruction.{bytes_fetched, fetching, next_page, 
 use Rattle.machine_model.specs.Owned.{own_in_one, own_in_two, OwnsItsBytes}
 
 -- the rules, and the entry of a page, as they were
-pub record Leaves (old new : Space) (page : ℕ) : Type 0 where
+pub record KeepsPage (old new : Space) (page : ℕ) : Type 0 where
   pub mode : new.mode ≡ old.mode
   pub entry : get new.set page ≡ get old.set page
 
@@ -38,27 +38,27 @@ get_other : (set : FinMap nat_cmp Entry) (page : ℕ) (entry : Option Entry) (q 
 get_other set page entry q n =
     get_with set page entry q ∙ elim (eqb_tells q page) [ inl t ↦ absurd (n t.1) | inr f ↦ ap (λ b. cond b entry (get set q)) f.0 ]
 
-either_leaves : (test : Bool) (s : Space) (q : ℕ) → Leaves s (cond {A = Touch × Space} test (Stop stops.TextMapped, s) (Ready, s)).1 q
+either_leaves : (test : Bool) (s : Space) (q : ℕ) → KeepsPage s (cond {A = Touch × Space} test (Stop stops.TextMapped, s) (Ready, s)).1 q
 either_leaves true s q = record { mode = refl; entry = refl }
 either_leaves false s q = record { mode = refl; entry = refl }
 
-entry_leaves : (s : Space) (fetch : Bool) (page at : ℕ) (access : Access) (entry : Option Entry) (q : ℕ) → q ≢ page → Leaves s (by_entry s fetch page at access entry).1 q
+entry_leaves : (s : Space) (fetch : Bool) (page at : ℕ) (access : Access) (entry : Option Entry) (q : ℕ) → q ≢ page → KeepsPage s (by_entry s fetch page at access entry).1 q
 entry_leaves s fetch page at access None q n =
     record { mode = refl; entry = get_other s.set page (decided (tables_of s) fetch page at access).entry q n }
 entry_leaves s fetch page at access (Some entry) q n = either_leaves (is_barred s.mode fetch access.user page entry.frame) s q
 
-page_leaves : (s : Space) (fetch : Bool) (page at : ℕ) (access : Access) (q : ℕ) → q ≢ page → Leaves s (page_uses s fetch page at access).1 q
+page_leaves : (s : Space) (fetch : Bool) (page at : ℕ) (access : Access) (q : ℕ) → q ≢ page → KeepsPage s (page_uses s fetch page at access).1 q
 unfolding page_uses
 page_leaves s fetch page at access q n =
     let left = entry_leaves (record s { pages = s.pages + 1; visited = s.visited ++ page ∷ [] }) fetch page at access (usable (get s.set page) access s.wp) q n in
     record { mode = left.mode; entry = left.entry }
 
-ready_leaves : (met : Touch) (s : Space) (at len q : ℕ) → Leaves s (go_on met s (made_ready at len false)).1 q
+ready_leaves : (met : Touch) (s : Space) (at len q : ℕ) → KeepsPage s (go_on met s (made_ready at len false)).1 q
 ready_leaves Ready s at len q = record { mode = refl; entry = refl }
 ready_leaves (Fault code cr2) s at len q = record { mode = refl; entry = refl }
 ready_leaves (Stop stop) s at len q = record { mode = refl; entry = refl }
 
-fetches_leave : (s : Space) (at len : ℕ) (user : Bool) (q : ℕ) → q ≢ at / 4096 → Leaves s (fetches s at len user).1 q
+fetches_leave : (s : Space) (at len : ℕ) (user : Bool) (q : ℕ) → q ≢ at / 4096 → KeepsPage s (fetches s at len user).1 q
 unfolding fetches
 fetches_leave s at len user q n =
     let access : Access = record { write = false; user = user } in
@@ -121,7 +121,7 @@ unfolding place
 in_one eip l text count own s e = inl (ap (λ (m : Mode). with_front m (place s eip) l) e)
 
 in_two : (eip l text count : ℕ) (own : Own) (first second : Space) → first.mode ≡ Wedge text count own
-    → Leaves (record first { mode = with_front first.mode (place first eip) (front_len eip) }) second (eip / 4096)
+    → KeepsPage (record first { mode = with_front first.mode (place first eip) (front_len eip) }) second (eip / 4096)
     → Goal eip l text count (record second { mode = with_back second.mode (place second (next_page eip)) (l - front_len eip) })
 unfolding place
 in_two eip l text count own first second e left =
@@ -129,7 +129,7 @@ in_two eip l text count own first second e left =
     ∙ ap (λ (p : ℕ). Wedge text count (record { front = p; front_len = front_len eip; back = place second (next_page eip); back_len = l - front_len eip })) (ap (λ (o : Option Entry). place_by o eip) (sym left.entry)))
 
 second_owned : (eip len text count : ℕ) (own : Own) (insn : Insn) (first second new : Space) (d : Decoded) → first.mode ≡ Wedge text count own
-    → Leaves (record first { mode = with_front first.mode (place first eip) (front_len eip) }) second (eip / 4096)
+    → KeepsPage (record first { mode = with_front first.mode (place first eip) (front_len eip) }) second (eip / 4096)
     → owned eip d second ≡ Ok (begins.Insn insn len, new) → Goal eip len text count new
 unfolding owning_back
 second_owned eip len text count own insn first second new (begins.Insn i l) m left e =
@@ -152,7 +152,7 @@ more_owned eip len text count own user insn front first new (Ok (more, second)) 
     let left = fetches_leave (owned_first first eip) (next_page eip) longest user (eip / 4096) (other_page eip) in
     let same = fetching_is user (next_page eip) longest (owned_first first eip) second more is in
     second_owned eip len text count own insn first second new (decoded (front ++ more)) m
-    (subst (λ (s : Space). Leaves (owned_first first eip) s (eip / 4096)) (sym same) left) e
+    (subst (λ (s : Space). KeepsPage (owned_first first eip) s (eip / 4096)) (sym same) left) e
 more_owned eip len text count own user insn front first new (Err refused) m is e = absurd (no_insn _ _ refl refl e)
 
 on_owned : (eip len text count : ℕ) (own : Own) (user : Bool) (insn : Insn) (front : List ℕ) (first new : Space) → first.mode ≡ Wedge text count own

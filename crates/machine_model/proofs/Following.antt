@@ -14,6 +14,7 @@ use Rattle.ia32_types.specs.declared.size.Size.{Size}
 use Rattle.ia32_types.specs.declared.size.Size.TheVariants.{Byte, Word, Long}
 use Rattle.ia32_types.specs.declared.stop.Stop as reason
 use Rattle.ia32_types.specs.declared.stop.Stop.TheVariants as stops
+use Rattle.ia32_types.specs.Bytes.{size_in_bytes}
 use Rattle.paging.specs.declared.entry.Access.{Access}
 use Rattle.paging.specs.declared.entry.Entry.{Entry}
 use Rattle.paging.specs.declared.entry.Walk.{Walk}
@@ -21,7 +22,7 @@ use Rattle.paging.specs.declared.entry.Walk.TheVariants.{Absent, Beyond, Reserve
 use Rattle.paging.specs.declared.entry.Touch.{Touch}
 use Rattle.paging.specs.declared.entry.Touch.TheVariants.{Ready, Fault, Stop}
 use Rattle.paging.specs.Fresh.{fresh, has, is_large, dir_place, table_in, tables_read, grants, flagged}
-use Rattle.paging.specs.Space.{Mode, Span, Earlier, Space, size_in_bytes, place, with_byte, written, saved, frames_of}
+use Rattle.paging.specs.Space.{Mode, Span, Earlier, Space, place, written, saved, frames_of}
 use Rattle.paging.specs.Uses.{tables_of, Decision, is_barred, window_stop, walks_text, marks_own, dirtied, by_walk, decided, settled, usable, by_entry, page_uses, go_on, and_then, unready, made_ready, second_page, by_pages, by_window, uses, fetches}
 use Rattle.machine_model.specs.Reloading.{MemoryFollows, IsFoundBy, HoldsOf, AreApart, Follows, FollowsItself, FollowsOn, FoundOver, AllFoundOver, UsesFollow, FetchesFollow}
 use Rattle.machine_model.proofs.MoreFlags.{eq_told, not_eq, flags_by, long_with, byte_other, memory_same, memory_on, flagged_follows, flagged_other}
@@ -408,7 +409,7 @@ first : (s : Space) (at n : ℕ) → 0 < n → ((k : ℕ) → k < n → IsNoted 
 first s at n lt h = let e : at + 0 ≡ at = omega arith in subst (IsNoted s) e (h 0 lt)
 
 saved_memory : (s : Space) (at : ℕ) (size : Size) (v : ℕ) → ((k : ℕ) → k < size_in_bytes size → IsNoted s (at + k)) → Keeps s.wrote s.ram (written s at size v)
-unfolding written with_byte
+unfolding written
 saved_memory s at Byte v h = kept_byte s.wrote s.ram s.ram (place s at) (v % 256) (first s at 1 (omega arith) h) (kept_same s.wrote s.ram)
 saved_memory s at Word v h =
     kept_byte s.wrote s.ram _ (place s (at + 1)) (v / 256 % 256) (h 1 (omega arith))

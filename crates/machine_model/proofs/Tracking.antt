@@ -3,10 +3,11 @@
 use Rattle.std.proofs.Common.{◌≡◌, ℕ, ◌+◌, ◌<◌, ◌≤◌, Bool, true, false, cond, refl, Option, Some, None, Ok, Err, arith}
 use Rattle.ia32_types.specs.declared.size.Size.{Size}
 use Rattle.ia32_types.specs.declared.size.Size.TheVariants.{Byte}
+use Rattle.ia32_types.specs.Bytes.{size_in_bytes}
 use Rattle.paging.specs.declared.entry.Access.{Access}
 use Rattle.paging.specs.declared.entry.Touch.{Touch}
 use Rattle.paging.specs.declared.entry.Touch.TheVariants as touch
-use Rattle.paging.specs.Space.{Space, size_in_bytes, place}
+use Rattle.paging.specs.Space.{Space, place}
 use Rattle.paging.specs.Uses.{uses}
 use Rattle.paging.specs.Work.{Outcome, Work, on_value, ◌>>=◌, gives, refuses, unless, reads, reads_earlier, writes}
 use Rattle.descriptors.specs.declared.cpu.Cpu.{Cpu}

@@ -29,7 +29,7 @@ use Rattle.step_exec.specs.Plain.{is_refused, reached, byte_by, stored_all, fini
 use Rattle.step_exec.specs.Divided.{both_reached}
 use Rattle.machine_model.specs.UsedPages.{Uses}
 use Rattle.machine_model.proofs.Using.{same_uses, uses_on}
-use Rattle.machine_model.proofs.UsingWorks.{is_stop, Leaves, Keeps, leaves_on, then_keeps, gives_keeps, unless_keeps, reaching_keeps, saved_uses}
+use Rattle.machine_model.proofs.UsingWorks.{is_stop, LeavesUses, Keeps, leaves_on, then_keeps, gives_keeps, unless_keeps, reaching_keeps, saved_uses}
 
 -- ---- ranges have bytes
 
@@ -135,18 +135,18 @@ stored_uses user [] s = same_uses user s
 stored_uses user (w ∷ ws) s =
     uses_on user s (saved s w.at w.size w.value) (stored_all (saved s w.at w.size w.value) ws) (saved_uses user s w.at w.size w.value) (stored_uses user ws (saved s w.at w.size w.value))
 
-finished_leaves : (user : Bool) (cpu : Cpu) (s : Space) (o : exec.Outcome) → Leaves is_stop user s (finished cpu s o)
+finished_leaves : (user : Bool) (cpu : Cpu) (s : Space) (o : exec.Outcome) → LeavesUses is_stop user s (finished cpu s o)
 finished_leaves user cpu s (outcomes.Done regs stores) = stored_uses user (list_of stores) s
 finished_leaves user cpu s (outcomes.Raise vector code) = λ goes. same_uses user s
 finished_leaves user cpu s (outcomes.Stop stop) = λ goes. same_uses user s
 
-writes_leave : (insn : Insn) (len : ℕ) (cpu : Cpu) (user : Bool) (before s : Space) (o : Outcome Refusal (Unit {0})) → Leaves is_stop user s o → Leaves is_stop user s (after_writes insn len cpu before o)
+writes_leave : (insn : Insn) (len : ℕ) (cpu : Cpu) (user : Bool) (before s : Space) (o : Outcome Refusal (Unit {0})) → LeavesUses is_stop user s o → LeavesUses is_stop user s (after_writes insn len cpu before o)
 writes_leave insn len cpu user before s (Ok done) h =
     let outcome : exec.Outcome = effect insn len cpu.regs (byte_by (ranges_of insn cpu.regs).read before done.1) in
     leaves_on is_stop user s done.1 (finished cpu done.1 outcome) h (finished_leaves user cpu done.1 outcome)
 writes_leave insn len cpu user before s (Err refused) h = h
 
-reads_leave : (insn : Insn) (len : ℕ) (cpu : Cpu) (s : Space) (o : Outcome Refusal (Unit {0})) → Leaves is_stop (cpu.cpl == 3) s o → Leaves is_stop (cpu.cpl == 3) s (after_reads insn len cpu o)
+reads_leave : (insn : Insn) (len : ℕ) (cpu : Cpu) (s : Space) (o : Outcome Refusal (Unit {0})) → LeavesUses is_stop (cpu.cpl == 3) s o → LeavesUses is_stop (cpu.cpl == 3) s (after_reads insn len cpu o)
 reads_leave insn len cpu s (Ok done) h =
     let range : Option Range = (ranges_of insn cpu.regs).write in
     leaves_on is_stop (cpu.cpl == 3) s done.1 (after_writes insn len cpu done.1 (reached cpu true range done.1)) h

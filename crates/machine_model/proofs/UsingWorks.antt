@@ -27,18 +27,18 @@ is_end not_delivered.Privilege = false
 is_end (not_delivered.Stop stop) = true
 
 -- done, or refused by what isn't an end
-abbrev pub Leaves : {E A : Type 0} → (E → Bool) → Bool → Space → Outcome E A → Type 0
-Leaves ends user s (Ok x) = Uses user s x.1
-Leaves ends user s (Err e) = ends e.0 ≡ false → Uses user s e.1
+abbrev pub LeavesUses : {E A : Type 0} → (E → Bool) → Bool → Space → Outcome E A → Type 0
+LeavesUses ends user s (Ok x) = Uses user s x.1
+LeavesUses ends user s (Err e) = ends e.0 ≡ false → Uses user s e.1
 
 pub record Keeps {E A : Type 0} (ends : E → Bool) (user : Bool) (w : Work E A) : Type 0 where
-  pub each : (s : Space) → Leaves ends user s (w s)
+  pub each : (s : Space) → LeavesUses ends user s (w s)
 
-pub leaves_on : {E A : Type 0} (ends : E → Bool) (user : Bool) (s t : Space) (o : Outcome E A) → Uses user s t → Leaves ends user t o → Leaves ends user s o
+pub leaves_on : {E A : Type 0} (ends : E → Bool) (user : Bool) (s t : Space) (o : Outcome E A) → Uses user s t → LeavesUses ends user t o → LeavesUses ends user s o
 leaves_on ends user s t (Ok x) h k = uses_on user s t x.1 h k
 leaves_on ends user s t (Err e) h k = λ goes. uses_on user s t e.1 h (k goes)
 
-after : {E A B : Type 0} (ends : E → Bool) (user : Bool) (s : Space) (o : Outcome E A) (f : A → Work E B) → Leaves ends user s o → ((x : A) → Keeps ends user (f x)) → Leaves ends user s (on_value o f)
+after : {E A B : Type 0} (ends : E → Bool) (user : Bool) (s : Space) (o : Outcome E A) (f : A → Work E B) → LeavesUses ends user s o → ((x : A) → Keeps ends user (f x)) → LeavesUses ends user s (on_value o f)
 after ends user s (Ok x) f h k = leaves_on ends user s x.1 (f x.0 x.1) h ((k x.0).each x.1)
 after ends user s (Err e) f h k = h
 
@@ -72,7 +72,7 @@ pub if_keeps : {E A : Type 0} {ends : E → Bool} {user : Bool} {w v : Work E A}
 if_keeps true h k = h
 if_keeps false h k = k
 
-met_leaves : {E : Type 0} (ends : E → Bool) (d : Denials E) (user : Bool) (s : Space) (t : Touch) (u : Space) → ((stop : reason.Stop) → ends (d.stop stop) ≡ true) → Met user s t u → Leaves ends user s (met d t u)
+met_leaves : {E : Type 0} (ends : E → Bool) (d : Denials E) (user : Bool) (s : Space) (t : Touch) (u : Space) → ((stop : reason.Stop) → ends (d.stop stop) ≡ true) → Met user s t u → LeavesUses ends user s (met d t u)
 met_leaves ends d user s touch.Ready u stops h = h
 met_leaves ends d user s (touch.Fault code at) u stops h = λ goes. h
 met_leaves ends d user s (touch.Stop stop) u stops h = λ goes. absurd (let e = stops stop in cc)

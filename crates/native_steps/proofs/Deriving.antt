@@ -57,8 +57,8 @@ pub record IsPlaced (m : Setting) (eip at len : ℕ) : Type 0 where
   pub fits : at + len ≤ length m.image.text
 
 module _ (m : Setting) (w : IsWedge m) (memory : List ℕ) (v : View) (b : State) (stands : Mirrors m memory v b) (lends : Lends m memory v.root v.kernel (wp_of b.cpu) b.set) where
-  abbrev pub Shares : ℕ → ℕ → Type 0
-  Shares = FetchShares m w memory v b stands lends
+  abbrev pub SharesFetch : ℕ → ℕ → Type 0
+  SharesFetch = FetchShares m w memory v b stands lends
 
   pub small : length m.image.text ≤ 16777216
   small = w.accepted.within.text.1
@@ -71,12 +71,12 @@ module _ (m : Setting) (w : IsWedge m) (memory : List ℕ) (v : View) (b : State
     next_below : front_len (0x10000000 + at) < len → (0x10000000 + at) / 4096 + 1 < 0x11000
     next_below lt = let a = p.some in let n = p.few in let f = p.fits in let s = small in omega (arith, a, n, f, s, lt)
 
-    pub placed : v.kernel ≡ true → (frame : ℕ) → Shares ((0x10000000 + at) / 4096) frame → 4096 * frame + (0x10000000 + at) % 4096 ≡ 0x100000 + at
+    pub placed : v.kernel ≡ true → (frame : ℕ) → SharesFetch ((0x10000000 + at) / 4096) frame → 4096 * frame + (0x10000000 + at) % 4096 ≡ 0x100000 + at
     placed k frame s =
         let f = given_frame m w memory v b stands lends k ((0x10000000 + at) / 4096) frame page_below s in
         omega (arith, f)
 
-    pub behind : v.kernel ≡ true → (frame next : ℕ) → front_len (0x10000000 + at) < len → Shares ((0x10000000 + at) / 4096) frame → Shares ((0x10000000 + at) / 4096 + 1) next → next ≡ frame + 1
+    pub behind : v.kernel ≡ true → (frame next : ℕ) → front_len (0x10000000 + at) < len → SharesFetch ((0x10000000 + at) / 4096) frame → SharesFetch ((0x10000000 + at) / 4096 + 1) next → next ≡ frame + 1
     behind k frame next lt s t =
         let f = given_frame m w memory v b stands lends k ((0x10000000 + at) / 4096) frame page_below s in
         let g = given_frame m w memory v b stands lends k ((0x10000000 + at) / 4096 + 1) next (next_below lt) t in
@@ -126,7 +126,7 @@ module _ (m : Setting) (w : IsWedge m) (memory : List ℕ) (v : View) (b : State
     first_code false k = λ e. absurd (let f : true ≡ false = sym e ∙ k in cc)
 
     abbrev WayIn : List ℕ → Insn → ℕ → Type 0
-    WayIn ram insn len = Way Shares ram eip insn len
+    WayIn ram insn len = Way SharesFetch ram eip insn len
 
     -- what the text of one memory has, the text of the other has
     record IsBoth (insn : Insn) (len : ℕ) : Type 0 where
@@ -153,7 +153,7 @@ module _ (m : Setting) (w : IsWedge m) (memory : List ℕ) (v : View) (b : State
       -- it goes on in the next page, where those of the first don't begin it
       second : (text ram : List ℕ) → ((at n : ℕ) → at + n ≤ length m.image.text → part ram (0x100000 + at) n ≡ part text at n)
           → ((more : List ℕ) → decoded (part text t.swept.at t.swept.len ++ more) ≡ begins.Insn t.swept.insn t.swept.len) → ((n : ℕ) → n < t.swept.len → decoded (part text t.swept.at n) ≡ begins.Short)
-          → (frame : ℕ) → Shares (there / 4096) frame → decoded (front_at ram frame there) ≡ begins.Short → IsCode v.kernel (there / 4096 + 1)
+          → (frame : ℕ) → SharesFetch (there / 4096) frame → decoded (front_at ram frame there) ≡ begins.Short → IsCode v.kernel (there / 4096 + 1)
       second text ram same whole cut frame page e =
           let p = t.placed_is in
           elim (cases_lt (front_len there) t.swept.len) [
@@ -161,30 +161,30 @@ module _ (m : Setting) (w : IsWedge m) (memory : List ℕ) (v : View) (b : State
             | inr le ↦ absurd (let q : begins.Short ≡ begins.Insn t.swept.insn t.swept.len = sym e ∙ front_is text ram (length m.image.text) same t.swept.at t.swept.len t.swept.insn p.some p.few p.fits small whole cut frame (placed t.swept.at t.swept.len eip p k frame page) le in cc)
           ]
 
-      host_second : (frame : ℕ) → Shares (eip / 4096) frame → decoded (front_at memory frame eip) ≡ begins.Short → IsCode v.kernel (eip / 4096 + 1)
+      host_second : (frame : ℕ) → SharesFetch (eip / 4096) frame → decoded (front_at memory frame eip) ≡ begins.Short → IsCode v.kernel (eip / 4096 + 1)
       host_second frame =
-          subst (λ (x : ℕ). Shares (x / 4096) frame → decoded (front_at memory frame x) ≡ begins.Short → IsCode v.kernel (x / 4096 + 1)) (sym t.place)
+          subst (λ (x : ℕ). SharesFetch (x / 4096) frame → decoded (front_at memory frame x) ≡ begins.Short → IsCode v.kernel (x / 4096 + 1)) (sym t.place)
           (second (patched m.image.text 0 m.image.sites) memory same_patched (laws.whole_patched t.swept t.outside t.swept.len (omega arith)) (laws.cut_patched t.swept t.outside) frame)
 
-      guest_second : (frame : ℕ) → Shares (eip / 4096) frame → decoded (front_at b.ram frame eip) ≡ begins.Short → IsCode v.kernel (eip / 4096 + 1)
+      guest_second : (frame : ℕ) → SharesFetch (eip / 4096) frame → decoded (front_at b.ram frame eip) ≡ begins.Short → IsCode v.kernel (eip / 4096 + 1)
       guest_second frame =
-          subst (λ (x : ℕ). Shares (x / 4096) frame → decoded (front_at b.ram frame x) ≡ begins.Short → IsCode v.kernel (x / 4096 + 1)) (sym t.place)
+          subst (λ (x : ℕ). SharesFetch (x / 4096) frame → decoded (front_at b.ram frame x) ≡ begins.Short → IsCode v.kernel (x / 4096 + 1)) (sym t.place)
           (second m.image.text b.ram same_text (laws.whole t.swept t.outside.stands t.swept.len (omega arith)) (laws.cut t.swept t.outside.stands) frame)
 
-      kernel_from : (insn : Insn) (len frame : ℕ) → insn ≡ t.swept.insn → len ≡ t.swept.len → Shares (there / 4096) frame → (front_len there < t.swept.len → (g : ℕ) × Shares (there / 4096 + 1) g) → IsBoth insn len
+      kernel_from : (insn : Insn) (len frame : ℕ) → insn ≡ t.swept.insn → len ≡ t.swept.len → SharesFetch (there / 4096) frame → (front_len there < t.swept.len → (g : ℕ) × SharesFetch (there / 4096 + 1) g) → IsBoth insn len
       kernel_from insn len frame e f page more =
           let p = t.placed_is in
           let place = placed t.swept.at t.swept.len eip p k frame page in
-          let next_page : front_len there < t.swept.len → Shares (there / 4096 + 1) (frame + 1) = λ lt.
+          let next_page : front_len there < t.swept.len → SharesFetch (there / 4096 + 1) (frame + 1) = λ lt.
           let g = more lt in
-          subst (Shares (there / 4096 + 1)) (behind t.swept.at t.swept.len eip p k frame g.0 lt page g.1) g.1
+          subst (SharesFetch (there / 4096 + 1)) (behind t.swept.at t.swept.len eip p k frame g.0 lt page g.1) g.1
           in
           let host = way_from (patched m.image.text 0 m.image.sites) memory (length m.image.text) same_patched t.swept.at t.swept.len t.swept.insn p.some p.few p.fits small
-          (laws.whole_patched t.swept t.outside t.swept.len (omega arith)) (laws.cut_patched t.swept t.outside) Shares frame page place next_page in
+          (laws.whole_patched t.swept t.outside t.swept.len (omega arith)) (laws.cut_patched t.swept t.outside) SharesFetch frame page place next_page in
           let guest = way_from m.image.text b.ram (length m.image.text) same_text t.swept.at t.swept.len t.swept.insn p.some p.few p.fits small
-          (laws.whole t.swept t.outside.stands t.swept.len (omega arith)) (laws.cut t.swept t.outside.stands) Shares frame page place next_page in
-          let move : (ram : List ℕ) → Way Shares ram there t.swept.insn t.swept.len → WayIn ram insn len = λ (ram : List ℕ) h.
-          subst (λ (x : Insn). Way Shares ram eip x len) (sym e) (subst (λ (x : ℕ). Way Shares ram eip t.swept.insn x) (sym f) (subst (λ (x : ℕ). Way Shares ram x t.swept.insn t.swept.len) (sym t.place) h))
+          (laws.whole t.swept t.outside.stands t.swept.len (omega arith)) (laws.cut t.swept t.outside.stands) SharesFetch frame page place next_page in
+          let move : (ram : List ℕ) → Way SharesFetch ram there t.swept.insn t.swept.len → WayIn ram insn len = λ (ram : List ℕ) h.
+          subst (λ (x : Insn). Way SharesFetch ram eip x len) (sym e) (subst (λ (x : ℕ). Way SharesFetch ram eip t.swept.insn x) (sym f) (subst (λ (x : ℕ). Way SharesFetch ram x t.swept.insn t.swept.len) (sym t.place) h))
           in
           record { host = move memory host; guest = move b.ram guest; text = λ j. record { swept = t.swept; outside = t.outside; place = t.place; insn_is = e; len_is = f } }
 
@@ -192,38 +192,38 @@ module _ (m : Setting) (w : IsWedge m) (memory : List ℕ) (v : View) (b : State
       kernel_host insn len h =
           let p = t.placed_is in
           let x = way_to (patched m.image.text 0 m.image.sites) memory (length m.image.text) same_patched t.swept.at t.swept.len t.swept.insn p.some p.few p.fits small
-          (laws.whole_patched t.swept t.outside t.swept.len (omega arith)) (laws.cut_patched t.swept t.outside) Shares (placed t.swept.at t.swept.len eip p k) (behind t.swept.at t.swept.len eip p k) insn len
-          (subst (λ (x : ℕ). Way Shares memory x insn len) t.place h) in
+          (laws.whole_patched t.swept t.outside t.swept.len (omega arith)) (laws.cut_patched t.swept t.outside) SharesFetch (placed t.swept.at t.swept.len eip p k) (behind t.swept.at t.swept.len eip p k) insn len
+          (subst (λ (x : ℕ). Way SharesFetch memory x insn len) t.place h) in
           kernel_from insn len x.frame x.insn_is x.len_is x.page x.next
 
       kernel_guest : (insn : Insn) (len : ℕ) → WayIn b.ram insn len → IsBoth insn len
       kernel_guest insn len h =
           let p = t.placed_is in
           let x = way_to m.image.text b.ram (length m.image.text) same_text t.swept.at t.swept.len t.swept.insn p.some p.few p.fits small
-          (laws.whole t.swept t.outside.stands t.swept.len (omega arith)) (laws.cut t.swept t.outside.stands) Shares (placed t.swept.at t.swept.len eip p k) (behind t.swept.at t.swept.len eip p k) insn len
-          (subst (λ (x : ℕ). Way Shares b.ram x insn len) t.place h) in
+          (laws.whole t.swept t.outside.stands t.swept.len (omega arith)) (laws.cut t.swept t.outside.stands) SharesFetch (placed t.swept.at t.swept.len eip p k) (behind t.swept.at t.swept.len eip p k) insn len
+          (subst (λ (x : ℕ). Way SharesFetch b.ram x insn len) t.place h) in
           kernel_from insn len x.frame x.insn_is x.len_is x.page x.next
 
     no_kernel : {A : Type 0} → v.kernel ≡ false → v.kernel ≡ true → A
     no_kernel f e = absurd (let g : true ≡ false = sym e ∙ f in cc)
 
-    host_code : (kernel : Bool) → v.kernel ≡ kernel → (frame : ℕ) → Shares (eip / 4096) frame → decoded (front_at memory frame eip) ≡ begins.Short → IsCode v.kernel (eip / 4096 + 1)
+    host_code : (kernel : Bool) → v.kernel ≡ kernel → (frame : ℕ) → SharesFetch (eip / 4096) frame → decoded (front_at memory frame eip) ≡ begins.Short → IsCode v.kernel (eip / 4096 + 1)
     host_code true k = host_second k (in_text k)
     host_code false k = λ frame s e. no_kernel k
 
-    guest_code : (kernel : Bool) → v.kernel ≡ kernel → (frame : ℕ) → Shares (eip / 4096) frame → decoded (front_at b.ram frame eip) ≡ begins.Short → IsCode v.kernel (eip / 4096 + 1)
+    guest_code : (kernel : Bool) → v.kernel ≡ kernel → (frame : ℕ) → SharesFetch (eip / 4096) frame → decoded (front_at b.ram frame eip) ≡ begins.Short → IsCode v.kernel (eip / 4096 + 1)
     guest_code true k = guest_second k (in_text k)
     guest_code false k = λ frame s e. no_kernel k
 
     both_from_host : (kernel : Bool) → v.kernel ≡ kernel → (insn : Insn) (len : ℕ) → WayIn memory insn len → IsBoth insn len
     both_from_host true k insn len h = kernel_host k (in_text k) insn len h
     both_from_host false k insn len h =
-        record { host = h; guest = other_bytes Shares memory b.ram eip insn len (λ page frame o n s le. sym (user_bytes m w memory v b stands lends k page frame o n s le)) h; text = no_kernel k }
+        record { host = h; guest = other_bytes SharesFetch memory b.ram eip insn len (λ page frame o n s le. sym (user_bytes m w memory v b stands lends k page frame o n s le)) h; text = no_kernel k }
 
     both_from_guest : (kernel : Bool) → v.kernel ≡ kernel → (insn : Insn) (len : ℕ) → WayIn b.ram insn len → IsBoth insn len
     both_from_guest true k insn len h = kernel_guest k (in_text k) insn len h
     both_from_guest false k insn len h =
-        record { host = other_bytes Shares b.ram memory eip insn len (user_bytes m w memory v b stands lends k) h; guest = h; text = no_kernel k }
+        record { host = other_bytes SharesFetch b.ram memory eip insn len (user_bytes m w memory v b stands lends k) h; guest = h; text = no_kernel k }
 
     abbrev Common : Insn → ℕ → Type 0
     Common insn len = IsCommon flags m w memory v b stands next insn len
@@ -258,7 +258,7 @@ module _ (m : Setting) (w : IsWedge m) (memory : List ℕ) (v : View) (b : State
           common = record {
             outside = met.outside;
             host_way = met.way;
-            guest_way = weaker Shares (Fetches m b v.kernel) b.ram b.cpu.regs.eip insn len (guest_pages m w memory v b stands lends) two.guest;
+            guest_way = weaker SharesFetch (Fetches m b v.kernel) b.ram b.cpu.regs.eip insn len (guest_pages m w memory v b stands lends) two.guest;
             allowed = met.permitted;
             plain_is = λ k. plain_there insn len met.permitted (two.text k);
             segments = or_false (is_denied b.cpu (ranges_of insn b.cpu.regs).read) (is_denied b.cpu (ranges_of insn b.cpu.regs).write)
@@ -281,7 +281,7 @@ module _ (m : Setting) (w : IsWedge m) (memory : List ℕ) (v : View) (b : State
         let fetch : fetched (not v.kernel) b.cpu.regs.eip start ≡ Ok (begins.Insn insn len, after_fetch) = ap (λ (u : Bool). fetched u b.cpu.regs.eip start) (sym is_user) ∙ t.fetched in
         let way = shared.from_guest m w memory v b stands lends start after_fetch b.cpu.regs.eip insn len at0 (eip_small v.kernel refl) (first_code v.kernel refl) (guest_code v.kernel refl) pages.fetch fetch in
         let two = both_from_guest v.kernel refl insn len way in
-        let guest_way = weaker Shares (Fetches m b v.kernel) b.ram b.cpu.regs.eip insn len (guest_pages m w memory v b stands lends) two.guest in
+        let guest_way = weaker SharesFetch (Fetches m b v.kernel) b.ram b.cpu.regs.eip insn len (guest_pages m w memory v b stands lends) two.guest in
         let f = fetched_comes m b v.kernel start b.cpu.regs.eip insn len at0 guest_way in
         let at1 : At m b after_fetch = subst (At m b) (same_space (begins.Insn insn len) (begins.Insn insn len) f.space after_fetch (sym f.is ∙ fetch)) f.at in
         let short = ranges_short insn b.cpu.regs in
@@ -292,7 +292,7 @@ module _ (m : Setting) (w : IsWedge m) (memory : List ℕ) (v : View) (b : State
         record {
           common = record {
             outside = not_entry v.kernel refl;
-            host_way = weaker Shares (Leads memory v.root false) memory b.cpu.regs.eip insn len (host_pages m w memory v b stands lends) two.host;
+            host_way = weaker SharesFetch (Leads memory v.root false) memory b.cpu.regs.eip insn len (host_pages m w memory v b stands lends) two.host;
             guest_way = guest_way;
             allowed = t.permitted;
             plain_is = λ k. plain_there insn len t.permitted (two.text k);

@@ -154,18 +154,18 @@ module _ (user : Bool) (s : Space) (page at : ℕ) (small : page < 2 ^ 20) where
 
   -- ---- and what is seen, the fetch finds
 
-  record IsFound (x : Seen) (e : Entry) (d t : ℕ) : Type 0 where
+  record IsFoundSeen (x : Seen) (e : Entry) (d t : ℕ) : Type 0 where
     passes : IsPassed e d t
     marks : d ∷ t ∷ [] ≡ x.marks
 
-  found_parts : (x : Seen) (e : Entry) (d t : ℕ) → found_by s.mode page reading s.wp (Found e d t) ≡ Some x → IsFound x e d t
+  found_parts : (x : Seen) (e : Entry) (d t : ℕ) → found_by s.mode page reading s.wp (Found e d t) ≡ Some x → IsFoundSeen x e d t
   found_parts x e d t h = by_grant (grants e reading s.wp) refl h
     where
-      by_stop : grants e reading s.wp ≡ true → (c : Bool) → is_stopped s.mode reading page e.frame d t ≡ c → cond {A = Option Seen} c None (Some (record { frame = e.frame; marks = d ∷ t ∷ [] })) ≡ Some x → IsFound x e d t
+      by_stop : grants e reading s.wp ≡ true → (c : Bool) → is_stopped s.mode reading page e.frame d t ≡ c → cond {A = Option Seen} c None (Some (record { frame = e.frame; marks = d ∷ t ∷ [] })) ≡ Some x → IsFoundSeen x e d t
       by_stop g true is f = absurd cc
       by_stop g false is f = let same : record { frame = e.frame; marks = d ∷ t ∷ [] } ≡ x = cc in record { passes = record { granted = g; free = is }; marks = ap (λ (y : Seen). y.marks) same }
 
-      by_grant : (g : Bool) → grants e reading s.wp ≡ g → cond {A = Option Seen} (not g) None (cond (is_stopped s.mode reading page e.frame d t) None (Some (record { frame = e.frame; marks = d ∷ t ∷ [] }))) ≡ Some x → IsFound x e d t
+      by_grant : (g : Bool) → grants e reading s.wp ≡ g → cond {A = Option Seen} (not g) None (cond (is_stopped s.mode reading page e.frame d t) None (Some (record { frame = e.frame; marks = d ∷ t ∷ [] }))) ≡ Some x → IsFoundSeen x e d t
       by_grant false g f = absurd cc
       by_grant true g f = by_stop g (is_stopped s.mode reading page e.frame d t) refl f
 

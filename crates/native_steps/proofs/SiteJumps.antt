@@ -32,7 +32,7 @@ use Rattle.native_steps.proofs.Shown.{text_patched}
 use Rattle.native_steps.proofs.Standing.{front_is, way_to}
 use Rattle.native_steps.proofs.FetchShared as shared
 use Rattle.native_steps.proofs.FetchShared.{IsCode}
-use Rattle.native_steps.proofs.Deriving.{IsPlaced, Shares, small, placed, behind, code}
+use Rattle.native_steps.proofs.Deriving.{IsPlaced, SharesFetch, small, placed, behind, code}
 
 -- what the laws say of a site
 pub record IsSite (m : Setting) (at : ℕ) : Type 0 where
@@ -76,17 +76,17 @@ module _ (m : Setting) (w : IsWedge m) (memory : List ℕ) (v : View) (b : State
         let c = code m w memory v b stands lends at 5 b.cpu.regs.eip p in
         let fits = site.fits in
         let few = small m w memory v b stands lends in
-        let second : (frame : ℕ) → Shares m w memory v b stands lends ((0x10000000 + at) / 4096) frame → decoded (front_at memory frame (0x10000000 + at)) ≡ begins.Short → IsCode v.kernel (b.cpu.regs.eip / 4096 + 1) = λ frame s cut.
+        let second : (frame : ℕ) → SharesFetch m w memory v b stands lends ((0x10000000 + at) / 4096) frame → decoded (front_at memory frame (0x10000000 + at)) ≡ begins.Short → IsCode v.kernel (b.cpu.regs.eip / 4096 + 1) = λ frame s cut.
         elim (cases_lt (front_len (0x10000000 + at)) 5) [
           | inl lt ↦ c.1 lt
           | inr le ↦ absurd (let q : begins.Short ≡ begins.Insn jump_out 5 = sym cut ∙ front_is (patched m.image.text 0 m.image.sites) memory (length m.image.text) (text_patched m w memory stands.host) at 5 jump_out (omega arith) (omega arith) site.fits few site.jump site.cut frame (placed m w memory v b stands lends at 5 b.cpu.regs.eip p kernel frame s) le in cc)
         ]
         in
-        let two = subst (λ (x : ℕ). (frame : ℕ) → Shares m w memory v b stands lends (x / 4096) frame → decoded (front_at memory frame x) ≡ begins.Short → IsCode v.kernel (b.cpu.regs.eip / 4096 + 1)) (sym place) second in
+        let two = subst (λ (x : ℕ). (frame : ℕ) → SharesFetch m w memory v b stands lends (x / 4096) frame → decoded (front_at memory frame x) ≡ begins.Short → IsCode v.kernel (b.cpu.regs.eip / 4096 + 1)) (sym place) second in
         let way = shared.from_host m w memory v b stands lends b.cpu.regs.eip d.insn d.len (omega (arith, place, fits, few)) c.0 two d.met.way in
         let x = way_to (patched m.image.text 0 m.image.sites) memory (length m.image.text) (text_patched m w memory stands.host) at 5 jump_out (omega arith) (omega arith) site.fits few site.jump site.cut
-        (Shares m w memory v b stands lends) (placed m w memory v b stands lends at 5 b.cpu.regs.eip p kernel) (behind m w memory v b stands lends at 5 b.cpu.regs.eip p kernel) d.insn d.len
-        (subst (λ (y : ℕ). Way (Shares m w memory v b stands lends) memory y d.insn d.len) place way) in
+        (SharesFetch m w memory v b stands lends) (placed m w memory v b stands lends at 5 b.cpu.regs.eip p kernel) (behind m w memory v b stands lends at 5 b.cpu.regs.eip p kernel) d.insn d.len
+        (subst (λ (y : ℕ). Way (SharesFetch m w memory v b stands lends) memory y d.insn d.len) place way) in
         let is : ◌≡◌ {A = Met (Completion × List ℕ)} (Ok (Entered there, memory)) (Ok (done, after_memory)) =
         sym effect_is ∙ sym (ap (λ (i : Insn). effect_there memory v b.cpu.regs i 5) x.insn_is) ∙ sym (ap (effect_there memory v b.cpu.regs d.insn) x.len_is) ∙ d.is in
         let q = same_pair (Entered there) done memory after_memory is in

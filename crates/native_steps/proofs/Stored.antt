@@ -14,25 +14,18 @@ use Rattle.ia32_exec.specs.Commit.{AreStored, list_of, longs_to}
 use Rattle.paging.proofs.Drops.{drop-with_byte}
 use Rattle.paging.specs.Space.{Space, place, written, saved, with_ram}
 use Rattle.step_exec.specs.Plain.{stored_all}
-use Rattle.host_cpl3.specs.Store.{number_stored, all_stored}
+use Rattle.paging.specs.Numbers.{number_stored}
+use Rattle.host_cpl3.specs.Store.{all_stored}
 use Rattle.machine_model.specs.State.{Setting}
 use Rattle.native_steps.specs.Mirrors.{IsWedge, IsHost, shown}
 use Rattle.native_steps.proofs.Shown.{IsApart, shown_with, still_host, still_long}
 
 -- ---- the guest's stores, as changes of its memory alone
 
-written_is : (s : Space) (a : ℕ) (size : Size) (v : ℕ) → written s a size v ≡ number_stored (place s) s.ram a size v
-unfolding written Rattle.paging.specs.Space.with_byte
-written_is s a Byte v = refl
-written_is s a Word v = refl
-written_is s a Long v = refl
-
 pub stored_is : (s : Space) (ws : List Store) → stored_all s ws ≡ with_ram s (all_stored (place s) s.ram ws)
-unfolding place
+unfolding written place
 stored_is s [] = refl
-stored_is s (w ∷ ws) =
-    stored_is (saved s w.at w.size w.value) ws
-    ∙ ap (λ (x : List ℕ). with_ram s (all_stored (place s) x ws)) (written_is s w.at w.size w.value)
+stored_is s (w ∷ ws) = stored_is (saved s w.at w.size w.value) ws
 
 -- ---- what each byte keeps, all stores keep
 
@@ -53,26 +46,26 @@ module _ (at : ℕ → ℕ) (P : ℕ → Type 0) (K : List ℕ → List ℕ → 
       (h 3 (omega arith))
 
   -- each number of a list
-  abbrev AreIn : List Store → Type 0
-  AreIn [] = Unit {0}
-  AreIn (s ∷ ss) = IsAllAt P s.at s.size × AreIn ss
+  abbrev AreAllIn : List Store → Type 0
+  AreAllIn [] = Unit {0}
+  AreAllIn (s ∷ ss) = IsAllAt P s.at s.size × AreAllIn ss
 
-  list_kept : (ss : List Store) (now seen : List ℕ) → K now seen → AreIn ss → K (all_stored at now ss) (all_stored at seen ss)
+  list_kept : (ss : List Store) (now seen : List ℕ) → K now seen → AreAllIn ss → K (all_stored at now ss) (all_stored at seen ss)
   list_kept [] now seen k h = k
   list_kept (s ∷ ss) now seen k h = list_kept ss _ _ (number_kept now seen s.at s.size s.value k h.0) h.1
 
-  in_both : (ss : List Store) (s : Store) → AreIn ss → IsAllAt P s.at s.size → AreIn (ss ++ s ∷ [])
+  in_both : (ss : List Store) (s : Store) → AreAllIn ss → IsAllAt P s.at s.size → AreAllIn (ss ++ s ∷ [])
   in_both [] s h k = (k, tt)
   in_both (x ∷ ss) s h k = (h.0, in_both ss s h.1 k)
 
-  longs_in : (n a : ℕ) (vs : List ℕ) → AreAll P a (4 * n) → AreIn (longs_to n a vs)
+  longs_in : (n a : ℕ) (vs : List ℕ) → AreAll P a (4 * n) → AreAllIn (longs_to n a vs)
   longs_in zero a vs h = tt
   longs_in (suc n) a vs h =
       in_both (longs_to n a vs) (store (a + 4 * n) Long (slice_index vs n)) (longs_in n a vs (λ k lt. h k (omega (arith, lt)))) (λ k lt.
       let e : a + (4 * n + k) ≡ a + 4 * n + k = omega arith in
       subst P e (h (4 * n + k) (omega (arith, lt))))
 
-  all_in : (ws : Stores) → AreStored P ws → AreIn (list_of ws)
+  all_in : (ws : Stores) → AreStored P ws → AreAllIn (list_of ws)
   all_in Nothing h = tt
   all_in (One s) h = (h, tt)
   all_in (Eight a vs) h = longs_in 8 a vs h

@@ -23,7 +23,7 @@ use Rattle.native_steps.proofs.Choices.{not_lt, passed_by, eq_told}
 use Rattle.native_steps.proofs.Pages.{HasEntry, IsFree}
 use Rattle.native_steps.proofs.Uses.{reaching_uses, ready_parts}
 use Rattle.native_steps.proofs.Marks.{AreMarked, marked_same, marked_on}
-use Rattle.native_steps.proofs.Walking.{IsWithin, IsServed, Leaves, page_leaves}
+use Rattle.native_steps.proofs.Walking.{IsWithin, IsServed, LeavesPage, page_leaves}
 
 -- ---- the pages that were used
 
@@ -98,7 +98,7 @@ module _ (m : Setting) (b : State) (kernel : Bool) where
   pub through_same : (ps : List ℕ) (s : Space) → In s → Through ps s s
   through_same ps s h = record { within = h; marks = marked_same s.ram; mode = refl; owns = λ k o. refl; kept = λ q w f x y. y }
 
-  page_through : (ps : List ℕ) (s t : Space) (page : ℕ) (write fetch : Bool) → Leaves m b kernel s t page write fetch → (Contains ps page → IsServed m b kernel page write) → Through ps s t
+  page_through : (ps : List ℕ) (s t : Space) (page : ℕ) (write fetch : Bool) → LeavesPage m b kernel s t page write fetch → (Contains ps page → IsServed m b kernel page write) → Through ps s t
   page_through ps s t page write fetch l served = record {
     within = l.within;
     marks = l.marks;
@@ -200,7 +200,7 @@ module _ (m : Setting) (b : State) (kernel : Bool) where
     has_last : HasEntry kernel (wp_of b.cpu) t.set write ((at + len - 1) / 4096) last
     free_last : IsFree m b kernel false ((at + len - 1) / 4096) last
 
-  second_through : (ps : List ℕ) (s t u : Space) (write : Bool) (at len : ℕ) → Leaves m b kernel s t (at / 4096) write false → (Contains ps (at / 4096) → IsServed m b kernel (at / 4096) write)
+  second_through : (ps : List ℕ) (s t u : Space) (write : Bool) (at len : ℕ) → LeavesPage m b kernel s t (at / 4096) write false → (Contains ps (at / 4096) → IsServed m b kernel (at / 4096) write)
       → ((last_of at len == at / 4096) ≡ false → Contains ((at / 4096) ∷ ps) (last_of at len) → IsServed m b kernel (last_of at len) write) → last_of at len < 2 ^ 20
       → second_page at len (side write) t ≡ (Ready, u) → Paged ps s u write at len
   second_through ps s t u write at len l served later small e = choice (last_of at len == at / 4096) refl e

@@ -126,7 +126,7 @@ module _ (m : Setting) (b : State) (kernel : Bool) where
   IsServed page write = ForSome (get b.set page) (λ e. allows e (side write) (wp_of b.cpu) ≡ true)
 
   -- what one page leaves
-  pub record Leaves (s t : Space) (page : ℕ) (write fetch : Bool) : Type 0 where
+  pub record LeavesPage (s t : Space) (page : ℕ) (write fetch : Bool) : Type 0 where
     pub within : IsWithin t
     pub frame : ℕ
     pub has : HasEntry kernel (wp_of b.cpu) t.set write page frame
@@ -145,13 +145,13 @@ module _ (m : Setting) (b : State) (kernel : Bool) where
     abbrev seen : Space
     seen = record s { pages = s.pages + 1; visited = s.visited ++ page ∷ [] }
 
-    by_entry_leaves : (e : Entry) → usable (get s.set page) (side write) s.wp ≡ Some e → by_entry seen fetch page at (side write) (Some e) ≡ (Ready, t) → Leaves s t page write fetch
+    by_entry_leaves : (e : Entry) → usable (get s.set page) (side write) s.wp ≡ Some e → by_entry seen fetch page at (side write) (Some e) ≡ (Ready, t) → LeavesPage s t page write fetch
     by_entry_leaves e found x =
         let parts = usable_parts (get s.set page) (side write) s.wp e found in
         choice (is_barred s.mode fetch (not kernel) page e.frame) refl parts.0 parts.1 x
       where
-        left : seen ≡ t → is_barred s.mode fetch (not kernel) page e.frame ≡ false → get s.set page ≡ Some e → allows e (side write) s.wp ≡ true → Leaves s t page write fetch
-        left y f kept allowed = subst (λ (z : Space). Leaves s z page write fetch) y (record {
+        left : seen ≡ t → is_barred s.mode fetch (not kernel) page e.frame ≡ false → get s.set page ≡ Some e → allows e (side write) s.wp ≡ true → LeavesPage s t page write fetch
+        left y f kept allowed = subst (λ (z : Space). LeavesPage s z page write fetch) y (record {
           within = record { frames = h.frames; cr3 = h.cr3; pse = h.pse; wp = h.wp; own = h.own; mode = h.mode; room = h.room; fit = h.fit; pages = h.pages };
           frame = e.frame;
           has = record { entry = e; kept = kept; frame_is = refl; allowed = ap (allows e (side write)) (sym h.wp) ∙ allowed };
@@ -162,7 +162,7 @@ module _ (m : Setting) (b : State) (kernel : Bool) where
           others = λ q w f2 has g. has;
         })
 
-        choice : (text : Bool) → is_barred s.mode fetch (not kernel) page e.frame ≡ text → get s.set page ≡ Some e → allows e (side write) s.wp ≡ true → cond {A = Touch × Space} text (Stop stops.TextMapped, seen) (Ready, seen) ≡ (Ready, t) → Leaves s t page write fetch
+        choice : (text : Bool) → is_barred s.mode fetch (not kernel) page e.frame ≡ text → get s.set page ≡ Some e → allows e (side write) s.wp ≡ true → cond {A = Touch × Space} text (Stop stops.TextMapped, seen) (Ready, seen) ≡ (Ready, t) → LeavesPage s t page write fetch
         choice true f kept allowed y = absurd (let g : Stop stops.TextMapped ≡ Ready = ap (λ (o : Touch × Space). o.0) y in cc)
         choice false f kept allowed y = left (same_space (Ready, seen) (Ready, t) y) f kept allowed
 
@@ -348,7 +348,7 @@ module _ (m : Setting) (b : State) (kernel : Bool) where
             subst (λ (p : ℕ). HasEntry kernel (wp_of b.cpu) t.set w p f) (sym is) (again w f (subst (λ (p : ℕ). HasEntry kernel (wp_of b.cpu) s.set w p f) is x) (served is) (h.pages page small))
         others_by q w f x served false e = record { entry = x.entry; kept = got_there q e ∙ x.kept; frame_is = x.frame_is; allowed = x.allowed }
 
-        walk_leaves : Leaves s t page write fetch
+        walk_leaves : LeavesPage s t page write fetch
         walk_leaves = record {
           within = within;
           frame = r.entry.frame;
@@ -362,17 +362,17 @@ module _ (m : Setting) (b : State) (kernel : Bool) where
 
     -- ---- both
 
-    walk_left : page < 2 ^ 20 → usable (get s.set page) (side write) s.wp ≡ None → settled seen page (decided (tables_of s) fetch page at (side write)) ≡ (Ready, t) → Leaves s t page write fetch
+    walk_left : page < 2 ^ 20 → usable (get s.set page) (side write) s.wp ≡ None → settled seen page (decided (tables_of s) fetch page at (side write)) ≡ (Ready, t) → LeavesPage s t page write fetch
     walk_left small none x =
         let met : (decided (tables_of s) fetch page at (side write)).met ≡ Ready = ap (λ (o : Touch × Space). o.0) x in
         let r = decided_readied (tables_of s) fetch page at (side write) met in
         let end : (settled seen page (decided (tables_of s) fetch page at (side write))).1 ≡ t = same_space _ (Ready, t) x in
         walk_leaves small none r (sym (ap (λ (d : Decision). (settled seen page d).1) r.is) ∙ end)
 
-    by_usable : page < 2 ^ 20 → (o : Option Entry) → usable (get s.set page) (side write) s.wp ≡ o → by_entry seen fetch page at (side write) o ≡ (Ready, t) → Leaves s t page write fetch
+    by_usable : page < 2 ^ 20 → (o : Option Entry) → usable (get s.set page) (side write) s.wp ≡ o → by_entry seen fetch page at (side write) o ≡ (Ready, t) → LeavesPage s t page write fetch
     by_usable small (Some e) is x = by_entry_leaves e is x
     by_usable small None is x = walk_left small is x
 
-    pub page_leaves : page < 2 ^ 20 → page_uses s fetch page at (side write) ≡ (Ready, t) → Leaves s t page write fetch
+    pub page_leaves : page < 2 ^ 20 → page_uses s fetch page at (side write) ≡ (Ready, t) → LeavesPage s t page write fetch
     unfolding page_uses
     page_leaves small x = by_usable small (usable (get s.set page) (side write) s.wp) refl x

@@ -3,7 +3,7 @@
 use Rattle.std.proofs.Common.{◌≡◌, ℕ, Bool, true, false, cond, refl, ap, ◌∙◌, ◌⊎◌, inl, inr, Ok, Err}
 use Rattle.ia32_types.specs.declared.size.Size.{Size}
 use Rattle.ia32_types.specs.declared.size.Size.TheVariants.{Byte, Word, Long}
-use Rattle.paging.specs.Space.{loaded, written, byte_at, with_byte, place}
+use Rattle.paging.specs.Space.{loaded, written, byte_at, place}
 use Rattle.paging.specs.Work.{Outcome, Work, on_value, ◌>>=◌, gives, unless, reads, reads_earlier, writes, refuses}
 use Rattle.paging.specs.Agreement.{bare, bared, IsExtra, Agrees}
 
@@ -36,7 +36,7 @@ reads_earlier_agrees extra at Word = record { at_each = λ s. inr refl }
 reads_earlier_agrees extra at Long = record { at_each = λ s. inr refl }
 
 pub writes_agrees : {E : Type 0} (extra : E → Bool) (at : ℕ) (size : Size) (v : ℕ) → Agrees extra (writes {E = E} at size v)
-unfolding written with_byte place
+unfolding written place
 writes_agrees extra at Byte v = record { at_each = λ s. inr refl }
 writes_agrees extra at Word v = record { at_each = λ s. inr refl }
 writes_agrees extra at Long v = record { at_each = λ s. inr refl }

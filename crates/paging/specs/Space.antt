@@ -5,9 +5,11 @@ use Rattle.std.specs.Ordering.{nat_cmp}
 use Rattle.guest_ram.specs.Bytes as bytes
 use Rattle.ia32_types.specs.declared.size.Size.{Size}
 use Rattle.ia32_types.specs.declared.size.Size.TheVariants.{Byte, Word, Long}
+use Rattle.ia32_types.specs.Bytes.{size_in_bytes}
 use Rattle.paging.specs.declared.entry.Entry.{Entry}
 use Rattle.paging.specs.declared.entry.Touch.{Touch}
 use Rattle.paging.specs.declared.entry.Touch.TheVariants.{Ready, Fault, Stop}
+use Rattle.paging.specs.Numbers.{number_stored}
 
 -- The physical bytes of the instruction of this step, as far as they were read: those in its first page and those
 -- in its second. Each piece is a place and a length.
@@ -57,11 +59,6 @@ pub record Space : Type 0 where
   pub ready : Span
   -- what the touch before it made ready
   pub earlier : Earlier
-
-abbrev pub size_in_bytes : Size → ℕ
-size_in_bytes Byte = 1
-size_in_bytes Word = 2
-size_in_bytes Long = 4
 
 -- a number of that size
 abbrev pub FitsSize : Size → ℕ → Type 0
@@ -144,10 +141,7 @@ unfoldable pub with_byte : Space → List ℕ → ℕ → ℕ → List ℕ
 with_byte s ram at v = bytes.with_byte ram (place s at) v
 
 unfoldable pub written : Space → ℕ → Size → ℕ → List ℕ
-written s at Byte v = with_byte s s.ram at (v % 256)
-written s at Word v = with_byte s (with_byte s s.ram at (v % 256)) (at + 1) (v / 256 % 256)
-written s at Long v =
-    with_byte s (with_byte s (with_byte s (with_byte s s.ram at (v % 256)) (at + 1) (v / 256 % 256)) (at + 2) (v / 65536 % 256)) (at + 3) (v / 16777216)
+written s at size v = number_stored (place s) s.ram at size v
 
 -- a write changes bytes of memory and nothing else
 abbrev pub saved : Space → ℕ → Size → ℕ → Space

@@ -10,7 +10,7 @@ use Rattle.ia32_exec.specs.Commit.{list_of}
 use Rattle.ia32_types.specs.declared.size.Size.{Size}
 use Rattle.ia32_types.specs.declared.size.Size.TheVariants.{Byte, Word, Long}
 use Rattle.descriptors.specs.declared.cpu.Cpu.{Cpu}
-use Rattle.paging.specs.Space.{Space, byte_at, place, saved, written, with_byte}
+use Rattle.paging.specs.Space.{Space, byte_at, place, saved, written}
 use Rattle.paging.specs.Work.{Outcome}
 use Rattle.paging.specs.Agreement.{bare, bared, IsExtra, Agrees}
 use Rattle.paging.proofs.Works.{work_steps}
@@ -24,7 +24,7 @@ range_agrees cpu write None = search work_steps
 range_agrees cpu write (Some r) = search reach
 
 saved_bare : (s : Space) (at : ℕ) (size : Size) (v : ℕ) → saved (bare s) at size v ≡ bare (saved s at size v)
-unfolding written with_byte place
+unfolding written place
 saved_bare s at Byte v = refl
 saved_bare s at Word v = refl
 saved_bare s at Long v = refl

@@ -9,11 +9,11 @@ ghost use Rattle.step_exec.specs.Plain.{reached, is_null, is_denied, is_refused}
 ghost use Rattle.step_exec.specs.Ready.{IsLast, IsReady, IsReadMade};
 ghost use Rattle.ia32_exec.specs.declared.access.Range.{Range as Bytes};
 
-use descriptors::Cpu;
+use descriptors::{Cpu, by_level};
 use guest_ram::Ram;
 use ia32_exec::{Range, Ranges};
 use ia32_types::Seg;
-use paging::{Access, Touch};
+use paging::Touch;
 use step_mem::{Kept, StepState};
 use sys_exec::Refusal;
 
@@ -65,10 +65,7 @@ pub fn reach<B: Kept>(
     match range {
         None => Ok(()),
         Some(range) => {
-            let access = Access {
-                write,
-                user: cpu.cpl == 3,
-            };
+            let access = by_level(cpu, write);
             match step_mem::touch(ram, kept, state, range.at, range.len, access) {
                 Touch::Ready => Ok(()),
                 Touch::Fault { code, at } => Err(Refusal::Fault { code, at }),

@@ -3,7 +3,8 @@
 ghost use Rattle.std.specs.Prelude.{◌≡◌, ℕ, ◌+◌, ◌*◌, ◌/◌, ◌%◌, ◌≤◌, ◌<◌, ◌^◌, length, ◌++◌, IsSome, false};
 ghost use Rattle.guest_ram.specs.Bytes as in_ram;
 ghost use Rattle.std.specs.FinMap.{get};
-ghost use Rattle.paging.specs.Space.{FitsSize, IsReady, IsReadyEarlier, IsWritable, loaded, loaded_earlier, place, place_by, saved, size_in_bytes, with_byte, with_ram};
+ghost use Rattle.ia32_types.specs.Bytes.{size_in_bytes};
+ghost use Rattle.paging.specs.Space.{FitsSize, IsReady, IsReadyEarlier, IsWritable, loaded, loaded_earlier, place, place_by, saved, with_byte, with_ram};
 ghost use Rattle.paging.specs.Uses.{is_text};
 ghost use Rattle.step_mem.specs.Changes.{changed, AreWithin};
 ghost use Rattle.step_mem.specs.Guard.{mode_of, IsApart, IsLaid};
