@@ -1,10 +1,10 @@
 -- What is kept for values of CR3, through the calls that change it.
 use Rattle.std.proofs.Common.{◌≡◌, ℕ, zero, suc, ◌+◌, ◌≤◌, List, [], ◌∷◌, ◌++◌, length, take, Bool, true, false, cond, not, ◌||◌, ◌==◌, eqb, Option, Some, None, refl, sym, ap, subst, ◌∙◌, inl, inr, arith}
 use Rattle.std.specs.Prelude.{filter}
-use Rattle.std.specs.List.{All, IsDistinct}
+use Rattle.std.specs.List.{All, IsDistinct, list_any}
 use Rattle.std.specs.Set.{is_member, distinct_count}
 use Rattle.std.proofs.lemmas.List.Elements.{All-head, All-tail}
-use Rattle.shadow_tables.specs.Aside.{Aside, AreSame, LoseWrites, any_of, all_spared}
+use Rattle.shadow_tables.specs.Aside.{Aside, AreSame, LoseWrites, all_spared}
 use Rattle.shadow_tables.specs.Entries.{entries_of}
 use Rattle.shadow_tables.specs.Laws.Entries.{entries_of-same, entries_of-barred}
 use Rattle.shadow_cache.specs.Reloaded.{of_cr3, but_cr3, or_begun, coming, beside_coming, staying}
@@ -92,17 +92,17 @@ more_read steps t (a ∷ xs) h = (λ f e. read_more steps t f (h.0 f e), more_re
 
 -- ---- where no frame of their tables was written all are spared
 
-none_of : (steps : List Taken) (test : ℕ → Bool) (wrote : List ℕ) → ((f : ℕ) → test f ≡ true → was_read steps f ≡ true) → All (λ frame. was_read steps frame ≡ false) wrote → any_of test wrote ≡ false
+none_of : (steps : List Taken) (test : ℕ → Bool) (wrote : List ℕ) → ((f : ℕ) → test f ≡ true → was_read steps f ≡ true) → All (λ frame. was_read steps frame ≡ false) wrote → list_any test wrote ≡ false
 none_of steps test [] h k = refl
 none_of steps test (f ∷ fs) h k = by (test f) (h f) (none_of steps test fs h (All-tail (λ frame. was_read steps frame ≡ false) f fs k))
   where
-    by : (b : Bool) → (b ≡ true → was_read steps f ≡ true) → any_of test fs ≡ false → (b || any_of test fs) ≡ false
+    by : (b : Bool) → (b ≡ true → was_read steps f ≡ true) → list_any test fs ≡ false → (b || list_any test fs) ≡ false
     by true g rest = clash (was_read steps f) (g refl) (All-head (λ frame. was_read steps frame ≡ false) f fs k)
     by false g rest = rest
 
 pub all_stay : (steps : List Taken) (wrote : List ℕ) (xs : List Aside) → AllRead steps xs → All (λ frame. was_read steps frame ≡ false) wrote → all_spared wrote xs ≡ xs
 all_stay steps wrote [] h k = refl
-all_stay steps wrote (a ∷ xs) h k = by (any_of a.tables wrote) (none_of steps a.tables wrote h.0 k) (all_stay steps wrote xs h.1 k)
+all_stay steps wrote (a ∷ xs) h k = by (list_any a.tables wrote) (none_of steps a.tables wrote h.0 k) (all_stay steps wrote xs h.1 k)
   where
     by : (b : Bool) → b ≡ false → all_spared wrote xs ≡ xs → cond (not b) (a ∷ all_spared wrote xs) (all_spared wrote xs) ≡ a ∷ xs
     by true e rest = clash true refl e

@@ -4,8 +4,9 @@ use Rattle.std.proofs.Math.Dec.{leb}
 use Rattle.std.proofs.lemmas.Bool.Decides.{eqb_tells, leb_tells}
 use Rattle.std.proofs.lemmas.List.{take_more}
 use Rattle.std.proofs.lemmas.List.Elements.{filter-append}
-use Rattle.shadow_tables.specs.Aside.{Aside, AreSame, LoseWrites, any_of, spared, all_spared}
-use Rattle.shadow_tables.specs.Slots.{is_among}
+use Rattle.std.specs.List.{list_any}
+use Rattle.shadow_tables.specs.Aside.{Aside, AreSame, LoseWrites, spared, all_spared}
+use Rattle.guest_ram.specs.Among.{is_among}
 use Rattle.shadow_tables.proofs.Asides.{among-append, any-append, lose-more, lose-none, lose-same, none-written, same-refl, same-trans, spared-lose, spared-more, spared-same}
 use Rattle.wedge_mem.specs.Told.{guest_frames}
 use Rattle.wedge_mem.proofs.Lists.{bool_cases}
@@ -84,12 +85,12 @@ more-lose fs i xs ys zs l h k =
 
 -- ---- one frame more is written
 
-any-there : (test : ℕ → Bool) (fs : List ℕ) (x : ℕ) → is_among x fs ≡ true → test x ≡ true → any_of test fs ≡ true
+any-there : (test : ℕ → Bool) (fs : List ℕ) (x : ℕ) → is_among x fs ≡ true → test x ≡ true → list_any test fs ≡ true
 any-there test [] x h t = absurd (let e : false ≡ true = h in cc)
 any-there test (f ∷ fs) x h t =
     elim (eqb_tells x f) [
-      | inl s ↦ ap (λ b. b || any_of test fs) (ap test (sym s.1) ∙ t)
-      | inr s ↦ or-right (test f) (any_of test fs) (any-there test fs x (sym (ap (λ b. b || is_among x fs) s.0) ∙ h) t)
+      | inl s ↦ ap (λ b. b || list_any test fs) (ap test (sym s.1) ∙ t)
+      | inr s ↦ or-right (test f) (list_any test fs) (any-there test fs x (sym (ap (λ b. b || is_among x fs) s.0) ∙ h) t)
     ]
 
 joined : (a b c : Bool) → (c ≡ true → b ≡ true) → (a || b) ≡ (a || (b || c))
@@ -98,22 +99,22 @@ joined false true c h = refl
 joined false false true h = h refl
 joined false false false h = refl
 
-any-more : (test : ℕ → Bool) (fs : List ℕ) (i : ℕ) → i < length fs → any_of test (take (i + 1) fs) ≡ (any_of test (take i fs) || test (get_or fs i 0))
+any-more : (test : ℕ → Bool) (fs : List ℕ) (i : ℕ) → i < length fs → list_any test (take (i + 1) fs) ≡ (list_any test (take i fs) || test (get_or fs i 0))
 any-more test fs i l =
-    ap (any_of test) (take_more fs i 0 l) ∙ any-append test (take i fs) (get_or fs i 0 ∷ []) ∙ ap (λ b. any_of test (take i fs) || b) (or-false (test (get_or fs i 0)))
+    ap (list_any test) (take_more fs i 0 l) ∙ any-append test (take i fs) (get_or fs i 0 ∷ []) ∙ ap (λ b. list_any test (take i fs) || b) (or-false (test (get_or fs i 0)))
 
-marked-now : (a : Bool) (fs : List ℕ) (first old : ℕ → Bool) (x : ℕ) → (old x ≡ true → first x ≡ true) → (is_among x fs ≡ false → old x ≡ first x) → ((a || any_of first fs) || old x) ≡ (a || (any_of first fs || first x))
+marked-now : (a : Bool) (fs : List ℕ) (first old : ℕ → Bool) (x : ℕ) → (old x ≡ true → first x ≡ true) → (is_among x fs ≡ false → old x ≡ first x) → ((a || list_any first fs) || old x) ≡ (a || (list_any first fs || first x))
 marked-now a fs first old x less same =
     elim (bool_cases (is_among x fs)) [
       | inl t ↦
-          or-assoc a (any_of first fs) (old x)
-          ∙ sym (joined a (any_of first fs) (old x) (λ h. any-there first fs x t (less h)))
-          ∙ joined a (any_of first fs) (first x) (λ h. any-there first fs x t h)
-      | inr n ↦ or-assoc a (any_of first fs) (old x) ∙ ap (λ b. a || (any_of first fs || b)) (same n)
+          or-assoc a (list_any first fs) (old x)
+          ∙ sym (joined a (list_any first fs) (old x) (λ h. any-there first fs x t (less h)))
+          ∙ joined a (list_any first fs) (first x) (λ h. any-there first fs x t h)
+      | inr n ↦ or-assoc a (list_any first fs) (old x) ∙ ap (λ b. a || (list_any first fs || b)) (same n)
     ]
 
-pub more-marked : (fs : List ℕ) (i : ℕ) (first old : ℕ → Bool) (a b c : Bool) → i < length fs → b ≡ (a || any_of first (take i fs)) → c ≡ (b || old (get_or fs i 0))
-    → ((f : ℕ) → old f ≡ true → first f ≡ true) → ((f : ℕ) → is_among f (take i fs) ≡ false → old f ≡ first f) → c ≡ (a || any_of first (take (i + 1) fs))
+pub more-marked : (fs : List ℕ) (i : ℕ) (first old : ℕ → Bool) (a b c : Bool) → i < length fs → b ≡ (a || list_any first (take i fs)) → c ≡ (b || old (get_or fs i 0))
+    → ((f : ℕ) → old f ≡ true → first f ≡ true) → ((f : ℕ) → is_among f (take i fs) ≡ false → old f ≡ first f) → c ≡ (a || list_any first (take (i + 1) fs))
 more-marked fs i first old a b c l before here less same =
     let x : ℕ = get_or fs i 0 in
     here ∙ ap (λ y. y || old x) before ∙ marked-now a (take i fs) first old x (less x) (same x) ∙ ap (λ y. a || y) (sym (any-more first fs i l))

@@ -3,15 +3,16 @@
 ghost use Rattle.std.proofs.Props.{props};
 ghost use Rattle.std.specs.Prelude.{◌≡◌, ℕ, ◌+◌, ◌*◌, ◌/◌, ◌%◌, ◌≤◌, ◌<◌, ◌^◌, length, take, true, false, ◌||◌, [], IfSome, IsSome, MatchOption};
 ghost use Rattle.std.specs.FinMap.{empty, get};
+ghost use Rattle.std.specs.List.{list_any};
 ghost use Rattle.descriptors.specs.Controls.{pse_of, wp_of};
 ghost use Rattle.frame_pool.specs.Held.{Moves, Owns};
 ghost use Rattle.frame_pool.specs.Pool.{base_of, free_list};
 ghost use Rattle.paging.specs.Fresh.{has};
 ghost use Rattle.paging.specs.Space.{Readied};
 ghost use Rattle.paging.specs.Uses.{fetches};
-ghost use Rattle.shadow_tables.specs.Aside.{LoseWrites, any_of, all_spared};
+ghost use Rattle.shadow_tables.specs.Aside.{LoseWrites, all_spared};
 ghost use Rattle.shadow_tables.specs.Entries.{entries_of};
-ghost use Rattle.shadow_tables.specs.Slots.{is_among};
+ghost use Rattle.guest_ram.specs.Among.{is_among};
 ghost use Rattle.step_mem.specs.Changes.{AreWithin};
 ghost use Rattle.step_mem.specs.Shown.{beyond};
 ghost use Rattle.wedge_mem.specs.Progress.{IsGoing, owning, space_at_first, space_in};
@@ -129,7 +130,7 @@ impl<'a, S: Shadows> WedgeMem<'a, S> {
         ensures noted { IsSome result → (frame : ℕ) → is_among frame self.old.step.state.wrote ≡ false → S.noted self.new.shadows.now frame ≡ read_by (S.noted self.old.shadows.now) self.old.step.state.tables frame }
         ensures noted_only { (frame : ℕ) → S.noted self.new.shadows.now frame ≡ true → read_by (S.noted self.old.shadows.now) self.old.step.state.tables frame ≡ true }
         ensures marked { MatchOption result (S.marked self.new.shadows.now ≡ true → S.marked self.old.shadows.now ≡ true)
-            (λ n. S.marked self.new.shadows.now ≡ (S.marked self.old.shadows.now || any_of (read_by (S.noted self.old.shadows.now) self.old.step.state.tables) self.old.step.state.wrote)) }
+            (λ n. S.marked self.new.shadows.now ≡ (S.marked self.old.shadows.now || list_any (read_by (S.noted self.old.shadows.now) self.old.step.state.tables) self.old.step.state.wrote)) }
         ensures value { S.value self.new.shadows.now ≡ S.value self.old.shadows.now }
         ensures asides { MatchOption result (S.asides self.new.shadows.now self.new.ram.now ≡ [])
             (λ n. LoseWrites (guest_frames self.old.step.state.tables) (all_spared self.old.step.state.wrote (S.asides self.old.shadows.now self.old.ram.now)) (S.asides self.new.shadows.now self.new.ram.now)) }

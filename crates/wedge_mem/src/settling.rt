@@ -2,11 +2,13 @@
 
 ghost use Rattle.std.specs.Prelude.{◌≡◌, ◌+◌, ◌*◌, ◌≤◌, ◌<◌, ◌^◌, ℕ, List, length, true, false, ◌||◌, [], take, IfSome, IsSome, MatchOption, Bool, ◌/◌};
 ghost use Rattle.std.specs.FinMap.{FinMap, empty, get};
+ghost use Rattle.std.specs.List.{list_any};
 ghost use Rattle.frame_pool.specs.Pool.{base_of, free_list};
 ghost use Rattle.frame_pool.specs.Held.{Owns, Moves};
-ghost use Rattle.shadow_tables.specs.Aside.{LoseWrites, any_of, all_spared};
+ghost use Rattle.shadow_tables.specs.Aside.{LoseWrites, all_spared};
 ghost use Rattle.shadow_tables.specs.Entries.{entries_of};
-ghost use Rattle.shadow_tables.specs.Slots.{is_among, ArePart};
+ghost use Rattle.guest_ram.specs.Among.{is_among};
+ghost use Rattle.shadow_tables.specs.Slots.{ArePart};
 ghost use Rattle.shadow_tables.specs.declared.words.Side.{Side as View};
 ghost use Rattle.step_mem.specs.Changes.{changed};
 ghost use Rattle.step_mem.specs.Sound.{IsSound};
@@ -48,7 +50,7 @@ pub fn settle<S: Shadows>(
     ensures noted { IsSome result → (frame : ℕ) → is_among frame state.now.wrote ≡ false → S.noted shadows.new frame ≡ read_by (S.noted shadows.old) state.now.tables frame }
     ensures noted_only { (frame : ℕ) → S.noted shadows.new frame ≡ true → read_by (S.noted shadows.old) state.now.tables frame ≡ true }
     ensures marked { MatchOption result (S.marked shadows.new ≡ true → S.marked shadows.old ≡ true)
-        (λ n. S.marked shadows.new ≡ (S.marked shadows.old || any_of (read_by (S.noted shadows.old) state.now.tables) state.now.wrote)) }
+        (λ n. S.marked shadows.new ≡ (S.marked shadows.old || list_any (read_by (S.noted shadows.old) state.now.tables) state.now.wrote)) }
     ensures value { S.value shadows.new ≡ S.value shadows.old }
     ensures asides { MatchOption result (S.asides shadows.new ram.new ≡ [])
         (λ n. LoseWrites (guest_frames state.now.tables) (all_spared state.now.wrote (S.asides shadows.old ram.old)) (S.asides shadows.new ram.new)) }

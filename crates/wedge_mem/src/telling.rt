@@ -1,12 +1,14 @@
 //! Telling the shadows which frames a step read as tables, and which it wrote.
 
 ghost use Rattle.std.specs.Prelude.{◌≡◌, ◌^◌, ◌<◌, ◌≤◌, ℕ, length, true, false, ◌||◌, [], ◌∷◌, Bool, ◌/◌};
+ghost use Rattle.std.specs.List.{list_any};
 ghost use Rattle.frame_pool.specs.Pool.{free_list};
 ghost use Rattle.frame_pool.specs.Held.{Owns, Moves, Writes};
-ghost use Rattle.shadow_tables.specs.Aside.{AreSame, LoseWrites, any_of, all_spared};
+ghost use Rattle.shadow_tables.specs.Aside.{AreSame, LoseWrites, all_spared};
 ghost use Rattle.shadow_tables.specs.Calls.{IsWithin};
 ghost use Rattle.shadow_tables.specs.Entries.{entries_of};
-ghost use Rattle.shadow_tables.specs.Slots.{is_among, ArePart, SameSlots};
+ghost use Rattle.guest_ram.specs.Among.{is_among};
+ghost use Rattle.shadow_tables.specs.Slots.{ArePart, SameSlots};
 ghost use Rattle.shadow_tables.specs.declared.words.Side.{Side as View};
 ghost use Rattle.wedge_mem.specs.Told.{guest_frames, read_by};
 
@@ -64,7 +66,7 @@ pub fn tell_written<S: Shadows>(shadows: &mut S, ram: &mut Ram, pool: &mut Pool,
     ensures tracked { ArePart (S.tracked shadows.new) (S.tracked shadows.old) }
     ensures noted { (frame : ℕ) → is_among frame wrote.now ≡ false → S.noted shadows.new frame ≡ S.noted shadows.old frame }
     ensures noted_less { (frame : ℕ) → S.noted shadows.new frame ≡ true → S.noted shadows.old frame ≡ true }
-    ensures marked { S.marked shadows.new ≡ (S.marked shadows.old || any_of (S.noted shadows.old) wrote.now) }
+    ensures marked { S.marked shadows.new ≡ (S.marked shadows.old || list_any (S.noted shadows.old) wrote.now) }
     ensures value { S.value shadows.new ≡ S.value shadows.old }
     ensures asides { AreSame (all_spared wrote.now (S.asides shadows.old ram.old)) (S.asides shadows.new ram.new) }
     ensures untracked { (frame : ℕ) → is_among frame wrote.now ≡ true → is_among frame (S.tracked shadows.new) ≡ false }

@@ -1,9 +1,11 @@
 use Rattle.std.proofs.Common.{◌≡◌, ℕ, Bool, ◌≤◌, length, take, true, false, ◌||◌}
+use Rattle.std.specs.List.{list_any}
 use Rattle.frame_pool.specs.Pool.{free_list}
 use Rattle.frame_pool.specs.Held.{Moves}
-use Rattle.shadow_tables.specs.Aside.{AreSame, any_of, all_spared}
+use Rattle.shadow_tables.specs.Aside.{AreSame, all_spared}
 use Rattle.shadow_tables.specs.Entries.{entries_of}
-use Rattle.shadow_tables.specs.Slots.{is_among, ArePart, SameSlots}
+use Rattle.guest_ram.specs.Among.{is_among}
+use Rattle.shadow_tables.specs.Slots.{ArePart, SameSlots}
 use Rattle.wedge_mem.proofs.telling.tell_written.Given as goal
 
 abbrev pub invariant-loop-frame : goal.invariant-loop-frame
@@ -14,7 +16,7 @@ invariant-loop-frame g l = record {
   tracked : ArePart (g.S.Shadows.tracked l.shadows) (g.S.Shadows.tracked l.fn.shadows);
   noted : (frame : ℕ) → is_among frame (take l.frame-index l.wrote) ≡ false → g.S.Shadows.noted l.shadows frame ≡ g.S.Shadows.noted l.fn.shadows frame;
   noted_less : (frame : ℕ) → g.S.Shadows.noted l.shadows frame ≡ true → g.S.Shadows.noted l.fn.shadows frame ≡ true;
-  marked : g.S.Shadows.marked l.shadows ≡ (g.S.Shadows.marked l.fn.shadows || any_of (g.S.Shadows.noted l.fn.shadows) (take l.frame-index l.wrote));
+  marked : g.S.Shadows.marked l.shadows ≡ (g.S.Shadows.marked l.fn.shadows || list_any (g.S.Shadows.noted l.fn.shadows) (take l.frame-index l.wrote));
   opened : (indices : ℕ → Bool) → g.S.Shadows.opened l.fn.shadows l.fn.ram indices → g.S.Shadows.opened l.shadows l.ram indices;
   value : g.S.Shadows.value l.shadows ≡ g.S.Shadows.value l.fn.shadows;
   asides : AreSame (all_spared (take l.frame-index l.wrote) (g.S.Shadows.asides l.fn.shadows l.fn.ram)) (g.S.Shadows.asides l.shadows l.ram);
