@@ -2,7 +2,6 @@ pub mod Causes
 pub mod Files
 pub mod Sink
 pub mod Held
-pub mod Among
 pub mod MemSink
 pub mod MemFiles
 pub mod Writer

@@ -3,7 +3,7 @@ use Rattle.std.specs.Prelude.{ℕ, Bool, ◌||◌, List, String, Vec, option_map
 use Rattle.std.specs.declared.alloc.Global.{Global}
 use Rattle.std.specs.BTreeMap.{BTreeMap, get_by_text}
 use Rattle.pv_io.specs.Files.{FileMap}
-use Rattle.pv_io.specs.Among.{is_among}
+use Rattle.guest_ram.specs.Among.{is_among}
 
 -- the bytes of each name
 abbrev pub held_of : BTreeMap (String Global) (Vec ℕ Global) → FileMap

@@ -1,7 +1,7 @@
 -- A sink in memory: what it has taken, its room, the number of its next call, the numbers of the calls
 -- that are to fail, and how many have failed.
 use Rattle.std.specs.Prelude.{ℕ, ◌+◌, ◌-◌, ◌^◌, min, Bool, ◌||◌, nat_lt, if◌then◌else◌, List, ◌++◌, length}
-use Rattle.pv_io.specs.Among.{is_among}
+use Rattle.guest_ram.specs.Among.{is_among}
 
 pub record Taken : Type 0 where
   pub bytes : List ℕ

@@ -4,7 +4,7 @@ ghost use Rattle.std.specs.Prelude.{◌≡◌, true, false, [], Some, None, Err,
 ghost use Rattle.pv_io.specs.Causes.{HasCause, Rose};
 ghost use Rattle.pv_io.specs.Files.{IsMissing, Loads, Stores, ChangesAt};
 ghost use Rattle.pv_io.specs.Held.{HoldsAt};
-ghost use Rattle.pv_io.specs.Among.{is_among};
+ghost use Rattle.guest_ram.specs.Among.{is_among};
 ghost use Rattle.pv_io.specs.MemSink.{one_more};
 ghost use Rattle.pv_io.specs.MemFiles.{held_of, load_fails};
 
