@@ -2,14 +2,9 @@
 use Rattle.std.specs.Prelude.{ℕ, ℤ, List, take}
 use Rattle.std.specs.Int.{w32, to_le_bytes}
 use Rattle.ia32_types.specs.declared.size.Size.{Size}
-use Rattle.ia32_types.specs.declared.size.Size.TheVariants as size
+use Rattle.ia32_types.specs.Bytes.{size_in_bytes}
 use Rattle.asm_instruction.specs.Field.{field}
-
-abbrev pub bytes_in : Size → ℕ
-bytes_in size.Byte = 1
-bytes_in size.Word = 2
-bytes_in size.Long = 4
 
 -- the bits of the number in the field, the lowest byte first
 abbrev pub value_bytes : Size → ℤ → List ℕ
-value_bytes s z = take (bytes_in s) (to_le_bytes w32 (field s z))
+value_bytes s z = take (size_in_bytes s) (to_le_bytes w32 (field s z))

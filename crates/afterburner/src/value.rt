@@ -1,6 +1,7 @@
 //! Numbers in fields of data.
 
 ghost use Rattle.std.specs.Prelude.{◌≡◌, ◌≤◌, ◌++◌, OnOk};
+ghost use Rattle.ia32_types.specs.Bytes.{size_in_bytes};
 ghost use Rattle.afterburner.specs.Values as spec;
 
 use asm_instruction::field;
@@ -8,7 +9,7 @@ use ia32_types::Size;
 use std::alloc::AllocError;
 
 fn bytes_in(size: Size) -> usize
-    ensures bytes { result ≡ spec.bytes_in size }
+    ensures bytes { result ≡ size_in_bytes size }
     ensures most { result ≤ 4 }
 {
     match size {
