@@ -23,6 +23,7 @@ use Rattle.paging.specs.Space as space
 use Rattle.paging.specs.Space.{Mode, Bare, Wedge, Space, place_by, with_ram}
 use Rattle.board.specs.Boards.{board_step}
 use Rattle.native_steps.specs.EffectLaws.{EffectLaws}
+use Rattle.step_exec.specs.Users.{user_finished}
 use Rattle.step_exec.specs.Plain.{stored_all}
 use Rattle.host_cpl3.specs.declared.view.View.{View}
 use Rattle.host_cpl3.specs.declared.exit.Completion.{Completion}
@@ -45,7 +46,7 @@ use Rattle.machine_model.specs.Step as step
 use Rattle.machine_model.specs.Taken.{is_load, is_control_3, is_write}
 use Rattle.native_steps.specs.Lends.{IsUnlent}
 use Rattle.native_steps.specs.Mirrors.{IsWedge, IsLevel, Sees, Mirrors, shown}
-use Rattle.native_steps.specs.Native.{byte_of, effect_of, done_by, IsNative}
+use Rattle.native_steps.specs.Native.{byte_of, effect_of, IsNative}
 use Rattle.native_steps.specs.Forward.{IsEntrance, IsNext, Follows}
 use Rattle.native_steps.specs.Backward.{Completes}
 use Rattle.native_steps.proofs.Choices.{chosen, passed_by, is_false, both, clash, lt_false, le_true, eq_told}
@@ -233,7 +234,7 @@ module _ (flags : EffectLaws) (m : Setting) (w : IsWedge m) (laws : TextLaws m.i
       unfolding after report new_cpu end
       went =
           n.guest
-          ∙ ap (λ (o : exec.Outcome). step.after_instruction m (step.unheld b) (step.begun b insn) (done_by (step.unheld b).cpu n.space o)) e
+          ∙ ap (λ (o : exec.Outcome). step.after_instruction m (step.unheld b) (step.begun b insn) (user_finished (step.unheld b).cpu o n.space)) e
           ∙ chosen (rules.may_leave m.mode (step.unheld b).cpu (record b.cpu { regs = regs; held = false })) (step.Went report after) (step.Halts stops.UserFlags) (may_leave m.mode)
 
       still_open : rules.is_open b.cpu ≡ true → rules.is_open new_cpu ≡ true

@@ -53,19 +53,19 @@ use Rattle.sys_exec.specs.Iret.{keeps_flags, is_within, new_flags}
 use Rattle.sys_exec.specs.Move.{selector_kept, read_seg, push_seg}
 use Rattle.sys_exec.specs.Sys.{row, sys_work}
 use Rattle.sys_exec.specs.Agreement.{UserFlagsAgree}
+use Rattle.step_exec.specs.Users.{user_finished}
 use Rattle.step_exec.specs.Plain.{is_null, is_refused, reached, is_in, byte_by, finished, after_reads, after_writes, executed}
 use Rattle.host_cpl3.specs.Permit.{permitted_row, permitted}
 use Rattle.machine_model.specs.Instruction as instruction
 use Rattle.machine_model.specs.Instruction.{done_plainly, instructed}
 use Rattle.machine_model.specs.State.{Setting, State}
 use Rattle.machine_model.specs.Step.{Completed, after_instruction}
-use Rattle.native_steps.specs.Native.{done_by}
 use Rattle.native_steps.proofs.Uses.{reaching_earlier}
 use Rattle.native_steps.proofs.Choices.{chosen, le_true, lt_true}
 
 -- ---- plain instructions
 
-plainly : (cpu : Cpu) (s : Space) (o : exec.Outcome) → done_plainly (finished cpu s o) ≡ done_by cpu s o
+plainly : (cpu : Cpu) (s : Space) (o : exec.Outcome) → done_plainly (finished cpu s o) ≡ user_finished cpu o s
 plainly cpu s (outcomes.Done regs stores) = refl
 plainly cpu s (outcomes.Raise vector code) = refl
 plainly cpu s (outcomes.Stop stop) = refl
@@ -187,7 +187,7 @@ module _ (m : Setting) (b : State) (c : Completed) where
       pub write : reached cpu true ranges.write t ≡ Ok (tt, u)
 
     flags_push : (i : Insn) (len : ℕ) → Are (ranges_row op.PushFlags i cpu.regs)
-        → Comes (push_flags len cpu s) (done_by cpu u (flags_pushed len cpu.regs))
+        → Comes (push_flags len cpu s) (user_finished cpu (flags_pushed len cpu.regs) u)
     unfolding push_flags flags_pushed pushed_number
     flags_push i len h =
         let e = subst (λ (x : Space). reaching (esp_below 4 cpu.regs) 4 (by_level cpu true) x ≡ Ok (tt, u)) (sym (nothing_reached s t h.read)) h.write in
@@ -201,12 +201,12 @@ module _ (m : Setting) (b : State) (c : Completed) where
 
     popping : (len : ℕ) (foreign : Bool) (f k : Flags) → f ≡ k
         → on_value (cond (not foreign) (Ok (tt, t)) (Err (refusal.Stop stops.FlagBits, t))) (λ (x : Unit {0}). next (with_flags (past_pop cpu len) f))
-        ≡ done_by cpu t (cond foreign (outcomes.Stop stops.FlagBits) (popped_to len k))
+        ≡ user_finished cpu (cond foreign (outcomes.Stop stops.FlagBits) (popped_to len k)) t
     popping len true f k e = refl
     popping len false f k e = ap (λ (x : Flags). Ok (record { cpu = with_flags (past_pop cpu len) x; effect = effects.Next }, t)) e
 
     flags_pop : (i : Insn) (len : ℕ) → IsUser cpu → Are (ranges_row op.PopFlags i cpu.regs)
-        → Comes (pop_flags len cpu s) (done_by cpu u (flags_popped len cpu.regs (Bytes (ranges_row op.PopFlags i cpu.regs).read)))
+        → Comes (pop_flags len cpu s) (user_finished cpu (flags_popped len cpu.regs (Bytes (ranges_row op.PopFlags i cpu.regs).read)) u)
     unfolding pop_flags flags_popped
     flags_pop i len user h =
         let last : t ≡ u = nothing_reached t u h.write in
@@ -217,11 +217,11 @@ module _ (m : Setting) (b : State) (c : Completed) where
         same _ _
         (ap (λ (o : Outcome Refusal ℕ). on_value o (taking len)) (pulled_is cpu s t h.read)
         ∙ popping len (is_foreign image) (new_flags cpu image) (stack.taken cpu.regs.flags image) kept
-        ∙ ap (λ (x : Space). done_by cpu x (cond (is_foreign image) (outcomes.Stop stops.FlagBits) (popped_to len (stack.taken cpu.regs.flags image)))) last
-        ∙ ap (λ (v : ℕ). done_by cpu u (cond (is_foreign v) (outcomes.Stop stops.FlagBits) (popped_to len (stack.taken cpu.regs.flags v)))) number)
+        ∙ ap (λ (x : Space). user_finished cpu (cond (is_foreign image) (outcomes.Stop stops.FlagBits) (popped_to len (stack.taken cpu.regs.flags image))) x) last
+        ∙ ap (λ (v : ℕ). user_finished cpu (cond (is_foreign v) (outcomes.Stop stops.FlagBits) (popped_to len (stack.taken cpu.regs.flags v))) u) number)
 
     return : (i : Insn) (len : ℕ) → Are (ranges_row op.Return i cpu.regs)
-        → Comes (branch.return_to i.imm cpu s) (done_by cpu u (returned i cpu.regs (Bytes (ranges_row op.Return i cpu.regs).read)))
+        → Comes (branch.return_to i.imm cpu s) (user_finished cpu (returned i cpu.regs (Bytes (ranges_row op.Return i cpu.regs).read)) u)
     unfolding branch.return_to returned
     return i len h =
         let last : t ≡ u = nothing_reached t u h.write in
@@ -238,7 +238,7 @@ module _ (m : Setting) (b : State) (c : Completed) where
 
     jump : (a : Operand) → IsNamed a → Are (record { read = operand_range a Long cpu.regs; write = None })
         → Comes (branch.jump_to a cpu s)
-        (done_by cpu u (cond (is_place a) (outcomes.Done (transfers.gone_to (value_of a Long cpu.regs (Bytes (operand_range a Long cpu.regs))) cpu.regs) Nothing) (outcomes.Stop stops.Unsupported)))
+        (user_finished cpu (cond (is_place a) (outcomes.Done (transfers.gone_to (value_of a Long cpu.regs (Bytes (operand_range a Long cpu.regs))) cpu.regs) Nothing) (outcomes.Stop stops.Unsupported)) u)
     unfolding branch.jump_to long_of register_value
     jump Absent k h = refl
     jump (Segment x) k h = refl
@@ -279,7 +279,7 @@ module _ (m : Setting) (b : State) (c : Completed) where
 
     call : (a : Operand) (len : ℕ) → IsNamed a → Are (record { read = operand_range a Long cpu.regs; write = stack_write })
         → Comes (branch.call_to a len cpu s)
-        (done_by cpu u (cond (is_place a) (call_to len (value_of a Long cpu.regs (Bytes (operand_range a Long cpu.regs)))) (outcomes.Stop stops.Unsupported)))
+        (user_finished cpu (cond (is_place a) (call_to len (value_of a Long cpu.regs (Bytes (operand_range a Long cpu.regs)))) (outcomes.Stop stops.Unsupported)) u)
     unfolding branch.call_to register_value
     call Absent len k h = refl
     call (Segment x) len k h = refl
@@ -295,7 +295,7 @@ module _ (m : Setting) (b : State) (c : Completed) where
     selector_to a len v = selectors.selector_to a v (registers.eip_past len cpu.regs)
 
     kept : (a : Operand) (len v : ℕ) → IsNamed a → Are (record { read = None; write = operand_range a Word cpu.regs })
-        → Comes (selector_kept len cpu v a s) (done_by cpu u (selector_to a len v))
+        → Comes (selector_kept len cpu v a s) (user_finished cpu (selector_to a len v) u)
     unfolding selector_kept address_of
     kept Absent len v k h = refl
     kept (Segment x) len v k h = refl
@@ -311,7 +311,7 @@ module _ (m : Setting) (b : State) (c : Completed) where
         (ap (λ (o : Outcome Refusal (Unit {0})). on_value o (λ (z : Unit {0}). writes (address_of a cpu.regs) Word v >>= (λ (y : Unit {0}). next (past cpu len)))) (operand_is cpu a 2 true s u free e))
 
     selector_read : (from a : Operand) (i : Insn) (len : ℕ) → IsNamed a → i.a ≡ a → Are (record { read = None; write = operand_range a Word cpu.regs })
-        → Comes (read_seg i from len cpu s) (done_by cpu u (selectors.read_from g from a (registers.eip_past len cpu.regs)))
+        → Comes (read_seg i from len cpu s) (user_finished cpu (selectors.read_from g from a (registers.eip_past len cpu.regs)) u)
     unfolding read_seg
     selector_read Absent a i len k e h = refl
     selector_read (Register x) a i len k e h = refl
@@ -320,10 +320,10 @@ module _ (m : Setting) (b : State) (c : Completed) where
     selector_read (Segment x) a i len k e h =
         same _ _ (ap (λ (o : Operand). selector_kept len cpu (selector_in cpu x) o s) e)
         ∙ kept a len (selector_in cpu x) k h
-        ∙ ap (λ (v : ℕ). after_instruction m b c (done_by cpu u (selector_to a len v))) (sym (sel x))
+        ∙ ap (λ (v : ℕ). after_instruction m b c (user_finished cpu (selector_to a len v) u)) (sym (sel x))
 
     selector_push : (a : Operand) (len : ℕ) → Are (record { read = None; write = stack_write })
-        → Comes (push_seg a len cpu s) (done_by cpu u (selectors.pushed_from g a (registers.eip_past len cpu.regs)))
+        → Comes (push_seg a len cpu s) (user_finished cpu (selectors.pushed_from g a (registers.eip_past len cpu.regs)) u)
     unfolding push_seg pushed_number
     selector_push Absent len h = refl
     selector_push (Register x) len h = refl
@@ -333,14 +333,14 @@ module _ (m : Setting) (b : State) (c : Completed) where
         let e = subst (λ (w : Space). reaching (esp_below 4 cpu.regs) 4 (by_level cpu true) w ≡ Ok (tt, u)) (sym (nothing_reached s t h.read)) h.write in
         same _ _
         (ap (λ (o : Outcome Refusal (Unit {0})). on_value o (λ (z : Unit {0}). next (past_push cpu len))) (pushed_is cpu (selector_in cpu x) s u e)
-        ∙ ap (λ (v : ℕ). done_by cpu u (selectors.pushed_from (record { es = v; cs = v; ss = v; ds = v }) (Segment Es) (registers.eip_past len cpu.regs))) (sym (sel x)))
+        ∙ ap (λ (v : ℕ). user_finished cpu (selectors.pushed_from (record { es = v; cs = v; ss = v; ds = v }) (Segment Es) (registers.eip_past len cpu.regs)) u) (sym (sel x)))
 
     -- the rows that are no plain instructions
     pub row_is : (o : Op) (i : Insn) (len : ℕ) → i.op ≡ o → (IsPopFlags o → IsUser cpu) → IsShaped i → permitted_row o i.imm ≡ Ok tt → instruction.is_plain o ≡ false → Are (ranges_row o i cpu.regs)
-        → Comes (row o i len cpu s) (done_by cpu u (user_row o g i len cpu.regs (Bytes (ranges_row o i cpu.regs).read)))
+        → Comes (row o i len cpu s) (user_finished cpu (user_row o g i len cpu.regs (Bytes (ranges_row o i cpu.regs).read)) u)
     unfolding effect returned jumped_through called_through selectors.selector_read selectors.selector_pushed
-    row_is op.PushFlags i len e user k p q h = flags_push i len h ∙ ap (λ (x : Op). after_instruction m b c (done_by cpu u (effects_of.row x i len cpu.regs (Bytes None)))) (sym e)
-    row_is op.PopFlags i len e user k p q h = flags_pop i len (user tt) h ∙ ap (λ (x : Op). after_instruction m b c (done_by cpu u (effects_of.row x i len cpu.regs (Bytes (ranges_row op.PopFlags i cpu.regs).read)))) (sym e)
+    row_is op.PushFlags i len e user k p q h = flags_push i len h ∙ ap (λ (x : Op). after_instruction m b c (user_finished cpu (effects_of.row x i len cpu.regs (Bytes None)) u)) (sym e)
+    row_is op.PopFlags i len e user k p q h = flags_pop i len (user tt) h ∙ ap (λ (x : Op). after_instruction m b c (user_finished cpu (effects_of.row x i len cpu.regs (Bytes (ranges_row op.PopFlags i cpu.regs).read)) u)) (sym e)
     row_is op.ReadSeg i len e user k p q h = selector_read i.b i.a i len k.named_a refl h
     row_is op.PushSeg i len e user k p q h = selector_push i.a len h
     row_is op.Return i len e user k p q h = return i len h
@@ -367,15 +367,15 @@ module _ (m : Setting) (b : State) (c : Completed) where
 
     -- an instruction
     pub instructed_is : (i : Insn) (len : ℕ) → (IsPopFlags i.op → IsUser cpu) → IsShaped i → permitted i ≡ Ok tt → Are (ranges_of i cpu.regs)
-        → Comes (instructed i len cpu s) (done_by cpu u (user_effect g i len cpu.regs (Bytes (ranges_of i cpu.regs).read)))
+        → Comes (instructed i len cpu s) (user_finished cpu (user_effect g i len cpu.regs (Bytes (ranges_of i cpu.regs).read)) u)
     unfolding instructed sys_work user_effect permitted ranges_of
     instructed_is i len user k p h = chosen_by (instruction.is_plain i.op) refl
       where
         chosen_by : (plain : Bool) → instruction.is_plain i.op ≡ plain
-            → Comes (cond plain (done_plainly (executed i len cpu s)) (row i.op i len cpu s)) (done_by cpu u (user_effect g i len cpu.regs (Bytes (ranges_of i cpu.regs).read)))
+            → Comes (cond plain (done_plainly (executed i len cpu s)) (row i.op i len cpu s)) (user_finished cpu (user_effect g i len cpu.regs (Bytes (ranges_of i cpu.regs).read)) u)
         chosen_by true e =
             same _ _
             (ap done_plainly (executed_is i len cpu s t u h.free h.read h.write)
             ∙ plainly cpu u (effect i len cpu.regs (Bytes (ranges_of i cpu.regs).read))
-            ∙ ap (done_by cpu u) (sym (plain_effect g i len cpu.regs (Bytes (ranges_of i cpu.regs).read) e)))
+            ∙ ap (λ (o : exec.Outcome). user_finished cpu o u) (sym (plain_effect g i len cpu.regs (Bytes (ranges_of i cpu.regs).read) e)))
         chosen_by false e = row_is i.op i len refl user k p e h

@@ -29,6 +29,7 @@ use Rattle.paging.specs.Space.{Mode, Space, place, place_by, byte_at, with_ram}
 use Rattle.paging.specs.Uses.{window_stop}
 use Rattle.sys_exec.specs.Access.{reaching}
 use Rattle.native_steps.specs.EffectLaws.{EffectLaws}
+use Rattle.step_exec.specs.Users.{user_finished}
 use Rattle.step_exec.specs.Plain.{reached, is_in, byte_by}
 use Rattle.native_steps.proofs.Short.{ranges_short}
 use Rattle.host_cpl3.specs.declared.view.View.{View}
@@ -41,7 +42,7 @@ use Rattle.ia32_decode.specs.Front.{front_len}
 use Rattle.machine_model.specs.Instruction.{next_page, fetched}
 use Rattle.machine_model.specs.Step.{Result, Report, Went, Halts, after_instruction, begun, after_fetch, unheld, stepped}
 use Rattle.native_steps.specs.Mirrors.{Sees}
-use Rattle.native_steps.specs.Native.{byte_of, effect_of, done_by}
+use Rattle.native_steps.specs.Native.{byte_of, effect_of}
 use Rattle.native_steps.specs.Forward.{IsNext}
 use Rattle.native_steps.specs.Backward.{IsTranslated}
 use Rattle.native_steps.specs.Again.{AreWithin, settled, StepsAgain}
@@ -413,9 +414,9 @@ module _ (flags : EffectLaws) (m : Setting) (v : View) (b : State) (mode : m.mod
     abbrev finish : List ℕ → FinMap nat_cmp Entry → List ℕ → List ℕ → List ℕ → Regs → Stores → Result
     finish ram set visited tables wrote regs stores =
         after_instruction m (unheld b) (begun b insn)
-        (done_by (unheld b).cpu (record write { ram = all_stored (λ x. place_by (get set (x / 4096)) x) ram (list_of stores); set = set; visited = visited; tables = tables; wrote = wrote }) (outcomes.Done regs Nothing))
+        (user_finished (unheld b).cpu (outcomes.Done regs Nothing) (record write { ram = all_stored (λ x. place_by (get set (x / 4096)) x) ram (list_of stores); set = set; visited = visited; tables = tables; wrote = wrote }))
 
-    finished_is : (s : Space) (regs : Regs) (stores : Stores) → after_instruction m (unheld b) (begun b insn) (done_by (unheld b).cpu s (outcomes.Done regs stores)) ≡ finish s.ram s.set s.visited s.tables s.wrote regs stores
+    finished_is : (s : Space) (regs : Regs) (stores : Stores) → after_instruction m (unheld b) (begun b insn) (user_finished (unheld b).cpu (outcomes.Done regs stores) s) ≡ finish s.ram s.set s.visited s.tables s.wrote regs stores
     unfolding place
     finished_is s regs stores =
         ap (λ (x : Space). after_instruction m (unheld b) (begun b insn) (Ok (record { cpu = record (unheld b).cpu { regs = regs }; effect = effects.Next }, x))) (stored_is s (list_of stores))
@@ -453,18 +454,18 @@ module _ (flags : EffectLaws) (m : Setting) (v : View) (b : State) (mode : m.mod
         flags.same (byte_by reads read write) (byte_of (settled b write)) (selectors_of v) insn len b.cpu.regs first.shape
         (all (λ x. byte_by reads read write x ≡ byte_of (settled b write) x) reads bytes_same) (all (λ x. byte_by reads read write x ≡ byte_of (settled b write) x) writes bytes_same)
 
-    pub outcome : stepped m b ≡ after_instruction m (unheld b) (begun b insn) (done_by (unheld b).cpu write (effect_of v (settled b write) insn len))
+    pub outcome : stepped m b ≡ after_instruction m (unheld b) (begun b insn) (user_finished (unheld b).cpu (effect_of v (settled b write) insn len) write)
     outcome =
         stepped_by m v.kernel b sees.level next
         ∙ ap (after_fetch m (unheld b)) t.fetched
         ∙ by_op_is m insn.op (unheld b) insn len fetch soft
         ∙ instructed_is m (unheld b) (begun b insn) flags.agree (selectors_of v) (unheld b).cpu (selects_by v b.cpu sees) fetch read write insn len user_held first.shape t.permitted (record { free = t.segments; read = t.read; write = t.write })
-        ∙ ap (λ (o : exec.Outcome). after_instruction m (unheld b) (begun b insn) (done_by (unheld b).cpu write o)) same_effect
+        ∙ ap (λ (o : exec.Outcome). after_instruction m (unheld b) (begun b insn) (user_finished (unheld b).cpu o write)) same_effect
 
     original : (regs : Regs) (stores : Stores) → effect_of v (settled b write) insn len ≡ outcomes.Done regs stores → stepped m b ≡ finish write.ram write.set write.visited write.tables write.wrote regs stores
     original regs stores e =
         outcome
-        ∙ ap (λ (o : exec.Outcome). after_instruction m (unheld b) (begun b insn) (done_by (unheld b).cpu write o)) e
+        ∙ ap (λ (o : exec.Outcome). after_instruction m (unheld b) (begun b insn) (user_finished (unheld b).cpu o write)) e
         ∙ finished_is write regs stores
 
     next_again : IsNext m v.kernel (settled b write)
@@ -477,7 +478,7 @@ module _ (flags : EffectLaws) (m : Setting) (v : View) (b : State) (mode : m.mod
         ∙ by_op_is m insn.op (unheld (settled b write)) insn len again_fetch.space soft
         ∙ instructed_is m (unheld (settled b write)) (begun b insn) flags.agree (selectors_of v) (unheld b).cpu (selects_by v b.cpu sees) again_fetch.space again_read.space again_write.space insn len user_held first.shape t.permitted
         (record { free = t.segments; read = again_read.is; write = again_write.is })
-        ∙ ap (λ (o : exec.Outcome). after_instruction m (unheld (settled b write)) (begun b insn) (done_by (unheld b).cpu again_write.space o))
+        ∙ ap (λ (o : exec.Outcome). after_instruction m (unheld (settled b write)) (begun b insn) (user_finished (unheld b).cpu o again_write.space))
         (flags.same (byte_by reads again_read.space again_write.space) (byte_of (settled b write)) (selectors_of v) insn len b.cpu.regs first.shape
         (all (λ x. byte_by reads again_read.space again_write.space x ≡ byte_of (settled b write) x) reads again_bytes) (all (λ x. byte_by reads again_read.space again_write.space x ≡ byte_of (settled b write) x) writes again_bytes) ∙ e)
         ∙ finished_is again_write.space regs stores

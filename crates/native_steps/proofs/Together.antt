@@ -21,6 +21,7 @@ use Rattle.descriptors.specs.declared.cpu.Cpu.{Cpu}
 use Rattle.paging.specs.declared.entry.Entry.{Entry}
 use Rattle.paging.specs.Space.{Space, place, place_by, byte_at, with_ram}
 use Rattle.native_steps.specs.EffectLaws.{EffectLaws}
+use Rattle.step_exec.specs.Users.{user_finished}
 use Rattle.step_exec.specs.Plain as plain
 use Rattle.step_exec.specs.Plain.{is_denied, is_refused, reached, is_in, byte_by}
 use Rattle.host_cpl3.specs.declared.view.View.{View}
@@ -37,7 +38,7 @@ use Rattle.native_steps.specs.Mirrors.{IsWedge, IsLevel, Sees, Mirrors}
 use Rattle.image_check.specs.Places.{is_site_at}
 use Rattle.machine_model.specs.Counts.{is_software, needs_descriptor, is_direct}
 use Rattle.native_steps.proofs.Inside.{not_inside}
-use Rattle.native_steps.specs.Native.{byte_of, effect_of, done_by, IsNative}
+use Rattle.native_steps.specs.Native.{byte_of, effect_of, IsNative}
 use Rattle.native_steps.specs.Forward.{IsNext}
 use Rattle.native_steps.proofs.Choices.{chosen, passed_by, is_false, is_not, both, le_told, lt_told, clash, le_false, lt_false}
 use Rattle.native_steps.proofs.Pages.{At}
@@ -268,7 +269,7 @@ module _ (flags : EffectLaws) (m : Setting) (w : IsWedge m) (memory : List ℕ) 
               ∙ ap (after_fetch m (unheld b)) fetch
               ∙ by_op_is m insn.op (unheld b) insn len f.space soft
               ∙ instructed_is m (unheld b) (begun b insn) flags.agree (selectors_of v) (unheld b).cpu selects f.space r.space x.space insn len user_of_held shape c.allowed (record { free = c.segments; read = r.is; write = x.is })
-              ∙ ap (λ (o : exec.Outcome). after_instruction m (unheld b) (begun b insn) (done_by (unheld b).cpu x.space o)) same;
+              ∙ ap (λ (o : exec.Outcome). after_instruction m (unheld b) (begun b insn) (user_finished (unheld b).cpu o x.space)) same;
         }
       where
         user_of_held : IsPopFlags insn.op → IsUser (unheld b).cpu

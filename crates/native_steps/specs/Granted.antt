@@ -14,7 +14,7 @@ use Rattle.paging.specs.declared.entry.Entry.{Entry}
 use Rattle.paging.specs.Fresh.{allows}
 use Rattle.paging.specs.Space.{Space}
 use Rattle.step_exec.specs.Divided.{byte_of}
-use Rattle.step_exec.specs.Users.{selectors_of}
+use Rattle.step_exec.specs.Users.{selectors_of, user_finished}
 use Rattle.host_cpl3.specs.declared.view.View.{View}
 use Rattle.host_cpl3.specs.Access.{last_page}
 use Rattle.image_check.specs.Image.{Image}
@@ -23,7 +23,7 @@ use Rattle.machine_model.specs.Clash.{instruction_clashes}
 use Rattle.machine_model.specs.Step.{after_instruction, begun, unheld, stepped}
 use Rattle.native_steps.specs.Lends.{IsOpen}
 use Rattle.native_steps.specs.Mirrors.{Sees}
-use Rattle.native_steps.specs.Native.{effect_of, done_by}
+use Rattle.native_steps.specs.Native.{effect_of}
 use Rattle.native_steps.specs.Forward.{IsNext}
 use Rattle.native_steps.specs.Backward.{IsTranslated}
 use Rattle.native_steps.specs.Again.{settled, AreWithin}
@@ -53,7 +53,7 @@ pub record Leaves (m : Setting) (v : View) (b : State) (insn : Insn) (len : ℕ)
   -- what the instruction comes to over the step's memory is its effect over the state that is left
   pub effect : user_effect (selectors_of b.cpu) insn len b.cpu.regs (byte_of (ranges_of insn b.cpu.regs) write) ≡ effect_of v (settled b write) insn len
   -- and the step goes on by it, whether it is done, raises or stops
-  pub step : stepped m b ≡ after_instruction m (unheld b) (begun b insn) (done_by (unheld b).cpu write (effect_of v (settled b write) insn len))
+  pub step : stepped m b ≡ after_instruction m (unheld b) (begun b insn) (user_finished (unheld b).cpu (effect_of v (settled b write) insn len) write)
 
 abbrev pub Grants : Type 0
 Grants =

@@ -45,7 +45,6 @@ use Rattle.machine_model.specs.Step as steps
 use Rattle.machine_model.specs.Step.{after_instruction, after_refusal, begun, by_decoded}
 use Rattle.machine_step.specs.declared.worked.Worked.{Worked}
 use Rattle.machine_step.proofs.Refused.{refused_same}
-use Rattle.native_steps.specs.Native.{done_by}
 use Rattle.native_steps.proofs.Choices.{both, clash, eq_told}
 use Rattle.native_steps.proofs.Doing.{plain_effect}
 use Rattle.native_steps.proofs.Together.{by_op_is, not_soft}
@@ -117,9 +116,9 @@ user_cpu cpu able three =
 -- ---- an insensitive instruction
 
 abbrev done_in : Insn → ℕ → Cpu → Work Refusal SysOutcome
-done_in insn len cpu s = done_by cpu s (effect_in insn len cpu s)
+done_in insn len cpu s = user_finished cpu (effect_in insn len cpu s) s
 
-plainly : (cpu : Cpu) (s : Space) (o : exec.Outcome) → done_plainly (finished cpu s o) ≡ done_by cpu s o
+plainly : (cpu : Cpu) (s : Space) (o : exec.Outcome) → done_plainly (finished cpu s o) ≡ user_finished cpu o s
 plainly cpu s (outcomes.Done regs stores) = refl
 plainly cpu s (outcomes.Raise vector code) = refl
 plainly cpu s (outcomes.Stop stop) = refl
@@ -129,7 +128,7 @@ plain_outcome : (insn : Insn) (len : ℕ) (cpu : Cpu) → is_plain insn.op ≡ t
 unfolding completed
 plain_outcome insn len cpu e (Ok x) =
     plainly cpu x.1 (effect insn len cpu.regs (byte_of (ranges_of insn cpu.regs) x.1))
-    ∙ ap (done_by cpu x.1) (sym (plain_effect (selectors_of cpu) insn len cpu.regs (byte_of (ranges_of insn cpu.regs) x.1) e))
+    ∙ ap (λ (o : exec.Outcome). user_finished cpu o x.1) (sym (plain_effect (selectors_of cpu) insn len cpu.regs (byte_of (ranges_of insn cpu.regs) x.1) e))
 plain_outcome insn len cpu e (Err refused) = refl
 
 plain_divides : (insn : Insn) (len : ℕ) (cpu : Cpu) (s : Space) → is_plain insn.op ≡ true
@@ -190,14 +189,9 @@ module _ (cpu : Cpu) (f : (ℕ → ℕ) → exec.Outcome) where
       both_null x.read x.write (λ t. on_value (reached cpu false x.read t) (λ _ u. on_value (reached cpu true x.write u) (λ _ v. user_finished cpu (f (byte_by x.read u v)) v))) s
       ∙ by_nulls x.read x.write (unless (refusal.Raise 13 0) (not (is_refused cpu x)) s)
 
-user_done : (cpu : Cpu) (o : exec.Outcome) (s : Space) → user_finished cpu o s ≡ done_by cpu s o
-user_done cpu (outcomes.Done regs stores) s = refl
-user_done cpu (outcomes.Raise vector code) s = refl
-user_done cpu (outcomes.Stop stop) s = refl
-
 site_outcome : (insn : Insn) (len : ℕ) (cpu : Cpu) (o : Outcome Refusal (Unit {0}))
     → on_value o (λ _ t. user_finished cpu (effect_in insn len cpu t) t) ≡ on_value o (λ _. done_in insn len cpu)
-site_outcome insn len cpu (Ok x) = user_done cpu (effect_in insn len cpu x.1) x.1
+site_outcome insn len cpu (Ok x) = refl
 site_outcome insn len cpu (Err refused) = refl
 
 site_divides : (insn : Insn) (len : ℕ) (cpu : Cpu) (s : Space) → is_plain insn.op ≡ false → IsUserSite insn.op → IsUser cpu → ((found : List ℕ) × Spells found insn)
@@ -222,7 +216,7 @@ native_divides insn len cpu s able native spelled = by_level (cpu.cpl == 3) refl
       | inr q ↦ site_divides insn len cpu s q.0 q.1 (user_cpu cpu able e) spelled
     ]
 
-left_refused : (cpu : Cpu) (o : exec.Outcome) (s : Space) (x : Refusal × Space) → left_undone o s ≡ Err x → done_by cpu s o ≡ Err x
+left_refused : (cpu : Cpu) (o : exec.Outcome) (s : Space) (x : Refusal × Space) → left_undone o s ≡ Err x → user_finished cpu o s ≡ Err x
 left_refused cpu (outcomes.Done regs stores) s x e = absurd cc
 left_refused cpu (outcomes.Raise vector code) s x e = let p : ◌≡◌ {A = Refusal × Space} (refusal.Raise vector code, s) x = cc in ap (λ (y : Refusal × Space). Err y) p
 left_refused cpu (outcomes.Stop stop) s x e = let p : ◌≡◌ {A = Refusal × Space} (refusal.Stop stop, s) x = cc in ap (λ (y : Refusal × Space). Err y) p
