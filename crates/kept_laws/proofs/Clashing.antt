@@ -2,9 +2,10 @@
 use Rattle.std.proofs.Common.{◌≡◌, ℕ, zero, suc, ◌+◌, ◌-◌, ◌*◌, ◌/◌, ◌^◌, ◌<◌, ◌≤◌, List, [], ◌∷◌, ◌++◌, length, take, drop, Bool, true, false, cond, not, ◌&&◌, ◌||◌, ◌==◌, Option, Some, None, Ok, Err, refl, sym, ap, subst, ◌∙◌, ◌⊎◌, inl, inr, arith}
 use Rattle.std.specs.Prelude.{bit_or}
 use Rattle.std.proofs.lemmas.Bool.{cases_lt}
-use Rattle.std.specs.List.{list_any, Contains}
+use Rattle.std.specs.List.{Contains}
 use Rattle.std.specs.Option.{ForSome}
 use Rattle.std.specs.FinMap.{get}
+use Rattle.guest_ram.specs.Among.{is_among}
 use Rattle.guest_ram.specs.Bytes.{AreBytes, byte, with_byte, with_part}
 use Rattle.guest_ram.proofs.Bytes.{byte_lt}
 use Rattle.ia32_types.specs.declared.stop.Stop.TheVariants as stops
@@ -286,10 +287,10 @@ fetched_err follow user eip s r t w e =
 
 none_twice : (b : State) (entries : ℕ → Option Entry) (wp : Bool) (eip : ℕ) (l : List ℕ) → FewPages eip l → clash_in entries wp (fetch_uses b l) ≡ false
 none_twice b entries wp eip l (inl e) = ap (λ (x : List ℕ). clash_in entries wp (fetch_uses b x)) e
-none_twice b entries wp eip l (inr e) = ap (λ (x : List ℕ). clash_in entries wp (fetch_uses b x)) e ∙ by (eip / 4096 == next_page eip / 4096) refl
+none_twice b entries wp eip l (inr e) = ap (λ (x : List ℕ). clash_in entries wp (fetch_uses b x)) e ∙ by (next_page eip / 4096 == eip / 4096) refl
   where
-    by : (t : Bool) → (eip / 4096 == next_page eip / 4096) ≡ t → (((t || false) && is_refused_by (entries (next_page eip / 4096)) (by_level b.cpu false) wp) || false) ≡ false
-    by true is = absurd (next_is eip (sym (eq_told (eip / 4096) (next_page eip / 4096) is)))
+    by : (t : Bool) → (next_page eip / 4096 == eip / 4096) ≡ t → (((t || false) && is_refused_by (entries (next_page eip / 4096)) (by_level b.cpu false) wp) || false) ≡ false
+    by true is = absurd (next_is eip (eq_told (next_page eip / 4096) (eip / 4096) is))
     by false is = refl
 
 -- ---- more translations refuse no less
@@ -311,7 +312,7 @@ or_both false x y false d h k e = absurd (let f : false ≡ true = e in cc)
 clash_more : (kept others : Set) (wp : Bool) (used : List ℕ) (us : List Use) → ((page : ℕ) → ForSome (get kept page) (λ e. get others page ≡ Some e)) → clash_behind (get kept) wp used us ≡ true → clash_behind (get others) wp used us ≡ true
 clash_more kept others wp used [] sub h = h
 clash_more kept others wp used (u ∷ us) sub h =
-    or_both (list_any (λ page. page == u.page) used) (is_refused_by (get kept u.page) u.access wp) (is_refused_by (get others u.page) u.access wp) (clash_behind (get kept) wp (u.page ∷ used) us) (clash_behind (get others) wp (u.page ∷ used) us)
+    or_both (is_among u.page used) (is_refused_by (get kept u.page) u.access wp) (is_refused_by (get others u.page) u.access wp) (clash_behind (get kept) wp (u.page ∷ used) us) (clash_behind (get others) wp (u.page ∷ used) us)
     (refused_more (get kept u.page) (get others u.page) u.access wp (sub u.page)) (clash_more kept others wp (u.page ∷ used) us sub) h
 
 -- ---- a step that clashes

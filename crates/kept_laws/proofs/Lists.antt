@@ -1,8 +1,9 @@
 -- Lists of steps: their splits, what their walks read, and the values that they loaded.
-use Rattle.std.proofs.Common.{◌≡◌, ℕ, List, [], ◌∷◌, ◌++◌, Bool, true, false, ◌||◌, ◌==◌, eqb, append_assoc, refl, sym, ap, subst, ◌∙◌}
+use Rattle.std.proofs.Common.{◌≡◌, ℕ, List, [], ◌∷◌, ◌++◌, Bool, true, false, ◌||◌, eqb, append_assoc, refl, sym, ap, subst, ◌∙◌}
 use Rattle.std.specs.List.{list_any, Contains, All}
 use Rattle.std.specs.Set.{is_member}
 use Rattle.std.proofs.lemmas.List.Elements.{All-head, All-tail, All-cons, All-nil}
+use Rattle.guest_ram.specs.Among.{is_among}
 use Rattle.machine_model.specs.Taken.{Taken}
 use Rattle.machine_model.specs.Keeping.{root_in, roots_in, tables_in}
 use Rattle.kept_laws.specs.Remembered.{was_read, Unwritten}
@@ -56,11 +57,11 @@ any_over test (x ∷ xs) ys zs f h = by (test x) (any_over test xs ys zs f) h
 
 pub read_more : (xs : List Taken) (t : Taken) (f : ℕ) → was_read xs f ≡ true → was_read (xs ++ t ∷ []) f ≡ true
 read_more [] t f h = absurd (let e : false ≡ true = h in cc)
-read_more (x ∷ xs) t f h = any_over (λ table. table == f) x.report.tables (tables_in xs) (tables_in (xs ++ t ∷ [])) (read_more xs t f) h
+read_more (x ∷ xs) t f h = any_over (eqb f) x.report.tables (tables_in xs) (tables_in (xs ++ t ∷ [])) (read_more xs t f) h
 
-pub read_last : (xs : List Taken) (t : Taken) (f : ℕ) → list_any (λ table. table == f) t.report.tables ≡ true → was_read (xs ++ t ∷ []) f ≡ true
-read_last [] t f h = any_left (λ table. table == f) t.report.tables [] h
-read_last (x ∷ xs) t f h = any_right (λ table. table == f) x.report.tables (tables_in (xs ++ t ∷ [])) (read_last xs t f h)
+pub read_last : (xs : List Taken) (t : Taken) (f : ℕ) → is_among f t.report.tables ≡ true → was_read (xs ++ t ∷ []) f ≡ true
+read_last [] t f h = any_left (eqb f) t.report.tables [] h
+read_last (x ∷ xs) t f h = any_right (eqb f) x.report.tables (tables_in (xs ++ t ∷ [])) (read_last xs t f h)
 
 pub unwritten_front : (xs : List Taken) (t : Taken) → Unwritten (xs ++ t ∷ []) → Unwritten xs
 unwritten_front xs t h = λ front u back e. h front u (back ++ t ∷ []) (split_more xs t front u back e)

@@ -2,18 +2,18 @@
 use Rattle.std.proofs.Common.{◌≡◌, ℕ, ◌^◌, ◌<◌, List, [], ◌∷◌, Bool, true, false, cond, not, ◌||◌, ◌==◌, Option, Some, None, refl, sym, ap, ◌∙◌, ◌⊎◌, inl, inr, arith}
 use Rattle.std.proofs.lemmas.Bool.{cases_lt}
 use Rattle.std.specs.Prelude.{nat_le}
-use Rattle.std.specs.List.{list_any, Contains}
+use Rattle.std.specs.List.{Contains}
 use Rattle.std.specs.FinMap.{get}
 use Rattle.std.proofs.lemmas.List.Elements.{Contains-append_right}
+use Rattle.guest_ram.specs.Among.{is_among}
 use Rattle.paging.specs.declared.entry.Entry.{Entry}
 use Rattle.shadow_tables.specs.Aside.{any_of}
-use Rattle.shadow_tables.specs.Slots.{is_among, entry_in}
+use Rattle.shadow_tables.specs.Slots.{entry_in}
 use Rattle.shadow_tables.specs.Entries.{entries_of}
 use Rattle.shadow_tables.specs.Laws.Entries.{get-entries_of, none-entries_of}
 use Rattle.wedge_mem.specs.Told.{guest_frames, read_by}
 use Rattle.machine_model.specs.Taken.{Taken}
 use Rattle.kept_laws.specs.OverSteps.{IsNotedBy, SettlingTells, DroppedComesFrom}
-use Rattle.kept_laws.proofs.Counts.{eq_told, eq_is}
 
 -- ---- frames that were read as tables
 
@@ -21,26 +21,21 @@ or_cases : (a b : Bool) → (a || b) ≡ true → (a ≡ true) ⊎ (b ≡ true)
 or_cases true b e = inl refl
 or_cases false b e = inr e
 
-guest_any : (frame : ℕ) (tables : List ℕ) → is_among frame (guest_frames tables) ≡ true → list_any (λ table. table == frame) tables ≡ true
+guest_any : (frame : ℕ) (tables : List ℕ) → is_among frame (guest_frames tables) ≡ true → is_among frame tables ≡ true
 guest_any frame [] h = h
 guest_any frame (t ∷ ts) h = by (nat_le 16384 t) (guest_any frame ts) h
   where
-    first : (b : Bool) → (frame == t) ≡ b → (is_among frame (guest_frames ts) ≡ true → list_any (λ table. table == frame) ts ≡ true) → (b || is_among frame (guest_frames ts)) ≡ true → ((t == frame) || list_any (λ table. table == frame) ts) ≡ true
-    first true is k e = ap (λ x. x || list_any (λ table. table == frame) ts) (eq_is t frame (sym (eq_told frame t is)))
-    first false is k e = or_right (t == frame) (list_any (λ table. table == frame) ts) (k e)
-      where
-        or_right : (a b : Bool) → b ≡ true → (a || b) ≡ true
-        or_right true b e = refl
-        or_right false b e = e
+    both : (b : Bool) → (is_among frame (guest_frames ts) ≡ true → is_among frame ts ≡ true) → (b || is_among frame (guest_frames ts)) ≡ true → (b || is_among frame ts) ≡ true
+    both true k e = refl
+    both false k e = k e
 
-    by : (b : Bool) → (is_among frame (guest_frames ts) ≡ true → list_any (λ table. table == frame) ts ≡ true) → is_among frame (cond (not b) (t ∷ guest_frames ts) (guest_frames ts)) ≡ true
-        → ((t == frame) || list_any (λ table. table == frame) ts) ≡ true
-    by true k h = or_last (t == frame) (list_any (λ table. table == frame) ts) (k h)
+    by : (b : Bool) → (is_among frame (guest_frames ts) ≡ true → is_among frame ts ≡ true) → is_among frame (cond (not b) (t ∷ guest_frames ts) (guest_frames ts)) ≡ true → is_among frame (t ∷ ts) ≡ true
+    by true k h = or_last (frame == t) (is_among frame ts) (k h)
       where
         or_last : (a b : Bool) → b ≡ true → (a || b) ≡ true
         or_last true b e = refl
         or_last false b e = e
-    by false k h = first (frame == t) refl k h
+    by false k h = both (frame == t) k h
 
 noted_by : (noted : ℕ → Bool) (t : Taken) (frame : ℕ) → read_by noted t.report.tables frame ≡ true → IsNotedBy noted t frame
 noted_by noted t frame e = elim (or_cases (noted frame) (is_among frame (guest_frames t.report.tables)) e) [ inl a ↦ inl a | inr b ↦ inr (guest_any frame t.report.tables b) ]
@@ -72,18 +67,18 @@ no_entry e is = cc
 pub dropped_comes_from : DroppedComesFrom
 dropped_comes_from t whole slots same gone stays none = record { has = has; only = only }
   where
-    has : (page : ℕ) (e : Entry) → get t.set page ≡ Some e → list_any (λ used. used == page) t.report.pages ≡ false → get (entries_of slots) page ≡ Some e
+    has : (page : ℕ) (e : Entry) → get t.set page ≡ Some e → is_among page t.report.pages ≡ false → get (entries_of slots) page ≡ Some e
     has page e is unused = elim (cases_lt page (2 ^ 20)) [
       | inl l ↦ get-entries_of slots page l ∙ (stays page l unused ∙ (same page unused ∙ is))
       | inr g ↦ absurd (no_entry e (sym (none page g) ∙ is))
     ]
 
-    kept : (page : ℕ) (e : Entry) → page < 2 ^ 20 → (b : Bool) → list_any (λ used. used == page) t.report.pages ≡ b → entry_in (slots page) ≡ Some e → get t.set page ≡ Some e
+    kept : (page : ℕ) (e : Entry) → page < 2 ^ 20 → (b : Bool) → is_among page t.report.pages ≡ b → entry_in (slots page) ≡ Some e → get t.set page ≡ Some e
     kept page e l true used is = absurd (no_entry e (sym (ap entry_in (gone page l used)) ∙ is))
     kept page e l false unused is = sym (same page unused) ∙ (sym (stays page l unused) ∙ is)
 
     only : (page : ℕ) (e : Entry) → get (entries_of slots) page ≡ Some e → get t.set page ≡ Some e
     only page e is = elim (cases_lt page (2 ^ 20)) [
-      | inl l ↦ kept page e l (list_any (λ used. used == page) t.report.pages) refl (sym (get-entries_of slots page l) ∙ is)
+      | inl l ↦ kept page e l (is_among page t.report.pages) refl (sym (get-entries_of slots page l) ∙ is)
       | inr g ↦ absurd (no_entry e (sym (none-entries_of slots page g) ∙ is))
     ]

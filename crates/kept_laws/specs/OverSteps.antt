@@ -1,10 +1,11 @@
 -- How what shadows remember goes on over the steps of a run: the statements of the laws.
-use Rattle.std.specs.Prelude.{◌≡◌, ◌⊎◌, ℕ, ◌^◌, ◌<◌, ◌≤◌, Bool, true, false, ◌==◌, ◌||◌, List, [], ◌∷◌, ◌++◌, Option, Some, None}
-use Rattle.std.specs.List.{list_any, Contains}
+use Rattle.std.specs.Prelude.{◌≡◌, ◌⊎◌, ℕ, ◌^◌, ◌<◌, ◌≤◌, Bool, true, false, ◌||◌, List, [], ◌∷◌, ◌++◌, Option, Some, None}
+use Rattle.std.specs.List.{Contains}
 use Rattle.shadow_tables.specs.Aside.{Aside, IsSame, AreSame, LoseWrites, any_of, all_spared}
 use Rattle.shadow_tables.specs.Entries.{entries_of}
 use Rattle.shadow_tables.specs.Slots.{Slot, entry_in}
 use Rattle.std.specs.FinMap.{get}
+use Rattle.guest_ram.specs.Among.{is_among}
 use Rattle.wedge_mem.specs.Told.{guest_frames, read_by}
 use Rattle.shadow_cache.specs.Reloaded.{put_by, coming, staying}
 use Rattle.machine_model.specs.State.{Setting, State}
@@ -15,7 +16,7 @@ use Rattle.kept_laws.specs.Remembered.{ComesFrom, IsOwed, IsRemembered, Unwritte
 
 -- the frame was noted before, or a walk of the step read it as a directory or table
 abbrev pub IsNotedBy : (ℕ → Bool) → Taken → ℕ → Type 0
-IsNotedBy noted t frame = (noted frame ≡ true) ⊎ (list_any (λ table. table == frame) t.report.tables ≡ true)
+IsNotedBy noted t frame = (noted frame ≡ true) ⊎ (is_among frame t.report.tables ≡ true)
 
 -- What a step makes of what is kept beside its own translations: the frames that its walks read are noted. The present
 -- tables are marked where it wrote in a noted frame. What is kept for another value goes where the step wrote in a frame of
@@ -55,9 +56,9 @@ SettlingTells =
 -- access changed another page. So what is kept comes from the set before the step.
 abbrev pub DroppedComesFrom : Type 0
 DroppedComesFrom =
-    (t : Taken) (whole : Set) (slots : ℕ → Option Slot) → ((page : ℕ) → list_any (λ used. used == page) t.report.pages ≡ false → get whole page ≡ get t.set page)
-    → ((page : ℕ) → page < 2 ^ 20 → list_any (λ used. used == page) t.report.pages ≡ true → slots page ≡ None)
-    → ((page : ℕ) → page < 2 ^ 20 → list_any (λ used. used == page) t.report.pages ≡ false → entry_in (slots page) ≡ get whole page)
+    (t : Taken) (whole : Set) (slots : ℕ → Option Slot) → ((page : ℕ) → is_among page t.report.pages ≡ false → get whole page ≡ get t.set page)
+    → ((page : ℕ) → page < 2 ^ 20 → is_among page t.report.pages ≡ true → slots page ≡ None)
+    → ((page : ℕ) → page < 2 ^ 20 → is_among page t.report.pages ≡ false → entry_in (slots page) ≡ get whole page)
     → ((page : ℕ) → 2 ^ 20 ≤ page → get t.set page ≡ None)
     → ComesFrom t (entries_of slots)
 

@@ -1,9 +1,10 @@
 -- What shadows keep for values of CR3 that aren't present, beside the steps of the run so far.
 use Rattle.std.specs.Prelude.{◌≡◌, ◌⊎◌, ℕ, ◌≤◌, Bool, true, false, ◌==◌, eqb, not, List, [], ◌∷◌, ◌++◌, Some}
-use Rattle.std.specs.List.{list_any, filter, All}
+use Rattle.std.specs.List.{filter, All}
 use Rattle.std.specs.Set.{is_member, distinct_count}
 use Rattle.std.specs.Option.{ForSome}
 use Rattle.std.specs.FinMap.{get}
+use Rattle.guest_ram.specs.Among.{is_among}
 use Rattle.shadow_tables.specs.Aside.{Aside}
 use Rattle.shadow_tables.specs.Entries.{entries_of}
 use Rattle.machine_model.specs.State.{Setting, State}
@@ -13,7 +14,7 @@ use Rattle.machine_model.specs.Keeping.{leaves, roots_in, tables_in, clashes, Ha
 
 -- a walk of these steps read the frame as a directory or table
 abbrev pub was_read : List Taken → ℕ → Bool
-was_read steps frame = list_any (λ table. table == frame) (tables_in steps)
+was_read steps frame = is_among frame (tables_in steps)
 
 -- no step wrote in a frame that a walk had read as a directory or table by its end
 abbrev pub Unwritten : List Taken → Type 0

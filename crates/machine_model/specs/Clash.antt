@@ -2,8 +2,8 @@
 -- allow the later use. The uses are those that the step makes itself, with the entries by which it is asked: the pages
 -- that its fetch goes through, and the ranges of the instruction that the fetch reads.
 use Rattle.std.specs.Prelude.{ℕ, ◌+◌, ◌-◌, ◌/◌, Bool, true, false, ◌==◌, ◌&&◌, ◌||◌, not, List, [], ◌∷◌, ◌++◌, map, Option, Some, None, Ok, Err, is_some, if◌then◌else◌}
-use Rattle.std.specs.List.{list_any}
 use Rattle.std.specs.FinMap.{get}
+use Rattle.guest_ram.specs.Among.{is_among}
 use Rattle.descriptors.specs.Access.{by_level}
 use Rattle.descriptors.specs.Controls.{wp_of}
 use Rattle.ia32_exec.specs.declared.access.Range.{Range}
@@ -60,7 +60,7 @@ is_refused_by (Some entry) access wp = not (allows entry access wp)
 abbrev pub clash_behind : (ℕ → Option Entry) → Bool → List ℕ → List Use → Bool
 clash_behind entries wp used [] = false
 clash_behind entries wp used (u ∷ us) =
-    (list_any (λ page. page == u.page) used && is_refused_by (entries u.page) u.access wp) || clash_behind entries wp (u.page ∷ used) us
+    (is_among u.page used && is_refused_by (entries u.page) u.access wp) || clash_behind entries wp (u.page ∷ used) us
 
 abbrev pub clash_in : (ℕ → Option Entry) → Bool → List Use → Bool
 clash_in entries wp uses = clash_behind entries wp [] uses

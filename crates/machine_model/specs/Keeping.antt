@@ -1,8 +1,9 @@
 -- Which translations a run keeps from step to step, while its pages lie under few directory indices.
 use Rattle.std.specs.Prelude.{◌≡◌, ◌⊎◌, ℕ, ◌/◌, ◌≤◌, Bool, true, false, ◌==◌, eqb, ◌&&◌, not, List, [], ◌∷◌, ◌++◌, map, reverse, Some, nat_le, if◌then◌else◌}
-use Rattle.std.specs.List.{list_any, flat_map, filter, All}
+use Rattle.std.specs.List.{flat_map, filter, All}
 use Rattle.std.specs.Set.{distinct_count}
 use Rattle.std.specs.FinMap.{get, empty}
+use Rattle.guest_ram.specs.Among.{is_among}
 use Rattle.paging.specs.declared.entry.Entry.{Entry}
 use Rattle.machine_model.specs.State.{Setting, State}
 use Rattle.machine_model.specs.Run.{Set}
@@ -69,12 +70,12 @@ pub record Returns (m : Setting) (earlier : List Taken) (now : Taken) (c : ℕ) 
   pub same : All (λ (t : Taken). (t.before.cpu.cr0 ≡ left.before.cpu.cr0) × (t.before.cpu.cr4 ≡ left.before.cpu.cr4)) (since ++ now ∷ [])
   -- no step so far wrote in a frame that a walk of the run had read as a directory or table by its end
   pub unwritten : (front : List Taken) (t : Taken) (back : List Taken) → earlier ≡ front ++ t ∷ back
-      → All (λ frame. list_any (λ table. table == frame) (tables_in (front ++ t ∷ [])) ≡ false) t.report.wrote
+      → All (λ frame. is_among frame (tables_in (front ++ t ∷ [])) ≡ false) t.report.wrote
 
 -- this set has every entry of the set before a step, but perhaps those of pages that the step itself used
 abbrev pub HasEntriesOf : Taken → Set → Type 0
 HasEntriesOf left set =
-    (page : ℕ) (e : Entry) → get left.set page ≡ Some e → list_any (λ used. used == page) left.report.pages ≡ false → get set page ≡ Some e
+    (page : ℕ) (e : Entry) → get left.set page ≡ Some e → is_among page left.report.pages ≡ false → get set page ≡ Some e
 
 -- behind a load of CR3: entries that a run may always add, and all of those that were left with the value
 abbrev pub Reloads : Setting → List Taken → Taken → Taken → Type 0

@@ -2,9 +2,10 @@
 use Rattle.std.proofs.Common.{◌≡◌, ℕ, zero, suc, ◌+◌, ◌-◌, ◌/◌, ◌≤◌, ◌<◌, ◌==◌, List, [], ◌∷◌, ◌++◌, length, map, Bool, true, false, cond, ◌&&◌, ◌||◌, not, Option, Some, None, Ok, refl, sym, ap, ◌∙◌, arith}
 use Rattle.std.specs.Prelude.{slice_index_or, if◌then◌else◌}
 use Rattle.std.specs.Option.{ForSome}
-use Rattle.std.specs.List.{Contains, list_any}
+use Rattle.std.specs.List.{Contains}
 use Rattle.std.specs.FinMap.{FinMap, get}
 use Rattle.std.specs.Ordering.{nat_cmp}
+use Rattle.guest_ram.specs.Among.{is_among}
 use Rattle.descriptors.specs.Access.{by_level}
 use Rattle.descriptors.specs.Controls.{wp_of}
 use Rattle.ia32_types.specs.declared.insn.Insn.{Insn}
@@ -59,10 +60,10 @@ or_true : (a : Bool) → (a || true) ≡ true
 or_true true = refl
 or_true false = refl
 
-any_by : (q : ℕ) (ps : List ℕ) (k : ℕ) → k < length ps → slice_index_or ps k q ≡ q → list_any (λ page. page == q) ps ≡ true
+any_by : (q : ℕ) (ps : List ℕ) (k : ℕ) → k < length ps → slice_index_or ps k q ≡ q → is_among q ps ≡ true
 any_by q [] k lt e = absurd (omega (arith, lt))
-any_by q (p ∷ ps) zero lt e = ap (λ t. t || list_any (λ page. page == q) ps) (eq_true p q e)
-any_by q (p ∷ ps) (suc k) lt e = ap (λ t. (p == q) || t) (any_by q ps k (omega (arith, lt)) e) ∙ or_true (p == q)
+any_by q (p ∷ ps) zero lt e = ap (λ t. t || is_among q ps) (eq_true q p (sym e))
+any_by q (p ∷ ps) (suc k) lt e = ap (λ t. (q == p) || t) (any_by q ps k (omega (arith, lt)) e) ∙ or_true (q == p)
 
 not_refused : (o : Option Entry) (access : Access) (wp : Bool) → is_refused_by o access wp ≡ false → ForSome o (λ e. allows e access wp ≡ true)
 not_refused None access wp h x e = absurd cc
@@ -83,8 +84,8 @@ clear_told : (b : State) (ps : List ℕ) (us : List Use) → clash_behind (get b
 clear_told b ps [] h = tt
 clear_told b ps (u ∷ us) h =
     let access : Access = by_level b.cpu u.write in
-    let p = neither (list_any (λ page. page == u.page) ps && is_refused_by (get b.set u.page) access (wp_of b.cpu)) (clash_behind (get b.set) (wp_of b.cpu) (u.page ∷ ps) (map (as_use b) us)) h in (
-      λ c. not_refused (get b.set u.page) access (wp_of b.cpu) (one_of (list_any (λ page. page == u.page) ps) (is_refused_by (get b.set u.page) access (wp_of b.cpu)) (any_by u.page ps c.0 c.1 c.2) p.0),
+    let p = neither (is_among u.page ps && is_refused_by (get b.set u.page) access (wp_of b.cpu)) (clash_behind (get b.set) (wp_of b.cpu) (u.page ∷ ps) (map (as_use b) us)) h in (
+      λ c. not_refused (get b.set u.page) access (wp_of b.cpu) (one_of (is_among u.page ps) (is_refused_by (get b.set u.page) access (wp_of b.cpu)) (any_by u.page ps c.0 c.1 c.2) p.0),
       clear_told b (u.page ∷ ps) us p.1,
     )
 

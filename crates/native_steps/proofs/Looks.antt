@@ -79,7 +79,7 @@ any_none f h (k ∷ ks) = both_false (f k) (list_any f ks) (h k) (any_none f h k
 one_clear : (b : State) (page : ℕ) → clash_in (get b.set) (wp_of b.cpu) (fetch_uses b (page ∷ [])) ≡ false
 one_clear b page = refl
 
-two_clear : (b : State) (page next : ℕ) → (page == next) ≡ false → clash_in (get b.set) (wp_of b.cpu) (fetch_uses b (page ∷ next ∷ [])) ≡ false
+two_clear : (b : State) (page next : ℕ) → (next == page) ≡ false → clash_in (get b.set) (wp_of b.cpu) (fetch_uses b (page ∷ next ∷ [])) ≡ false
 two_clear b page next other = ap (λ x. ((x || false) && is_refused_by (get b.set next) (by_level b.cpu false) (wp_of b.cpu)) || false) other
 
 -- ---- both pages
@@ -114,9 +114,6 @@ module _ (m : Setting) (b : State) (kernel : Bool) (mode : m.mode ≡ wedge_mode
 
   next_other : (next == eip / 4096) ≡ false
   next_other = is_false (next == eip / 4096) (λ e. let is = eq_told next (eip / 4096) e in omega (arith, is))
-
-  other_next : (eip / 4096 == next) ≡ false
-  other_next = is_false (eip / 4096 == next) (λ e. let is = eq_told (eip / 4096) next e in omega (arith, is))
 
   next_small : (eip / 4096 == 1048575) ≡ false → next < 2 ^ 20
   next_small not_last =
@@ -284,11 +281,11 @@ module _ (m : Setting) (b : State) (kernel : Bool) (mode : m.mode ≡ wedge_mode
           unfolding owning_back
           ended_past (begins.Insn insn len) is =
               at_instruction insn len (record after { mode = with_back after.mode (place after (next_page eip)) (len - front_len eip) }) (fetched_more ∙ on_more (begins.Insn insn len) is)
-          ended_past begins.Short is = none_clear (fetch_uses b (eip / 4096 ∷ next ∷ [])) (two_are begins.Short is) (two_clear b (eip / 4096) next other_next)
-          ended_past begins.Outside is = none_clear (fetch_uses b (eip / 4096 ∷ next ∷ [])) (two_are begins.Outside is) (two_clear b (eip / 4096) next other_next)
+          ended_past begins.Short is = none_clear (fetch_uses b (eip / 4096 ∷ next ∷ [])) (two_are begins.Short is) (two_clear b (eip / 4096) next next_other)
+          ended_past begins.Outside is = none_clear (fetch_uses b (eip / 4096 ∷ next ∷ [])) (two_are begins.Outside is) (two_clear b (eip / 4096) next next_other)
 
         seen_on : (o : Option Seen) → seen m b next ≡ o → instruction_clashes m b ≡ true
-        seen_on None is = none_clear (fetch_uses b (eip / 4096 ∷ next ∷ [])) (cut_is (ap (seen_behind b (x front first reads)) is)) (two_clear b (eip / 4096) next other_next)
+        seen_on None is = none_clear (fetch_uses b (eip / 4096 ∷ next ∷ [])) (cut_is (ap (seen_behind b (x front first reads)) is)) (two_clear b (eip / 4096) next next_other)
           where
             cut_is : next_seen m b (x front first reads) ≡ None → uses_seen m b ≡ fetch_uses b (eip / 4096 ∷ next ∷ [])
             cut_is none =
@@ -307,7 +304,7 @@ module _ (m : Setting) (b : State) (kernel : Bool) (mode : m.mode ≡ wedge_mode
 
             by_marks : (c : Bool) → marks_front b (x front first reads) y.marks ≡ c → instruction_clashes m b ≡ true
             by_marks true e =
-                none_clear (fetch_uses b (eip / 4096 ∷ next ∷ [])) (cut_is (ap (seen_behind b (x front first reads)) is ∙ ap (λ (c : Bool). cond {A = Option Seen} c None (Some y)) e)) (two_clear b (eip / 4096) next other_next)
+                none_clear (fetch_uses b (eip / 4096 ∷ next ∷ [])) (cut_is (ap (seen_behind b (x front first reads)) is ∙ ap (λ (c : Bool). cond {A = Option Seen} c None (Some y)) e)) (two_clear b (eip / 4096) next next_other)
             by_marks false e =
                 let there = same_entry front first reads ∙ to_after front first reads not_last y (usable (get b.set next) access (wp_of b.cpu)) (sym (seen_same next) ∙ is) in
                 let f = fetch_found m b kernel (before front first reads) (next_page eip) longest y (next_small not_last) there (marks_are front first reads y.marks ∙ e) in

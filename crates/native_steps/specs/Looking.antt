@@ -4,6 +4,7 @@
 use Rattle.std.specs.Prelude.{◌≡◌, ℕ, ◌+◌, ◌*◌, ◌/◌, ◌%◌, ◌^◌, ◌≤◌, ◌<◌, Bool, true, false, ◌==◌, nat_le, nat_lt, ◌&&◌, ◌||◌, not, List, [], ◌∷◌, ◌++◌, length, Option, Some, None, Ok, bit_or, if◌then◌else◌}
 use Rattle.std.specs.List.{list_any, All}
 use Rattle.std.specs.FinMap.{get}
+use Rattle.guest_ram.specs.Among.{is_among}
 use Rattle.guest_ram.specs.Bytes.{AreBytes, byte, part, with_byte}
 use Rattle.ia32_types.specs.declared.insn.Insn.{Insn}
 use Rattle.ia32_decode.specs.declared.answer.Decoded.{Decoded}
@@ -116,4 +117,4 @@ LooksAgree =
 abbrev pub MarksAreRead : Type 0
 MarksAreRead =
     (ram marks : List ℕ) (k : ℕ) → AreBytes ram → All (λ at. at < length ram) marks
-    → byte (marked ram marks) k ≡ (if list_any (λ at. at == k) marks then bit_or (byte ram k) 0x20 else byte ram k)
+    → byte (marked ram marks) k ≡ (if is_among k marks then bit_or (byte ram k) 0x20 else byte ram k)

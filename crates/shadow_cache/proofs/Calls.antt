@@ -3,7 +3,8 @@ use Rattle.std.proofs.Common.{◌≡◌, ℕ, zero, suc, ◌<◌, ◌≤◌, Lis
 use Rattle.frame_pool.specs.declared.Pool.{Pool}
 use Rattle.frame_pool.specs.Held.{Holds, Owns, Moves}
 use Rattle.frame_pool.proofs.Held.{Moves-trans, Owns-moves}
-use Rattle.shadow_tables.specs.Slots.{is_among, ArePart, held, slot_at, SameSlots, IsShadow, IsEmpty}
+use Rattle.guest_ram.specs.Among.{is_among}
+use Rattle.shadow_tables.specs.Slots.{ArePart, held, slot_at, SameSlots, IsShadow, IsEmpty}
 use Rattle.shadow_tables.specs.Opened.{KeepsTables}
 use Rattle.shadow_cache.specs.Pairs.{no_tables, reads, any_reads, tables_of, frames_of, AreSized, BarsWrites, AllBarWrites, AreUnmarked, IsRoots}
 use Rattle.shadow_cache.specs.Others.{AreKept}

@@ -4,7 +4,8 @@ use Rattle.std.proofs.lemmas.Bool.Decides.{eqb_tells}
 use Rattle.frame_pool.specs.declared.Pool.{Pool}
 use Rattle.frame_pool.specs.Held.{Holds, Owns, Writes, Moves, SameIn}
 use Rattle.frame_pool.proofs.Held.{Holds-writes, Writes-trans, Moves-kept}
-use Rattle.shadow_tables.specs.Slots.{Slot, barred, is_among, ArePart, held, slot_at, LosesWrites, IsShadow, IsEmpty}
+use Rattle.guest_ram.specs.Among.{is_among}
+use Rattle.shadow_tables.specs.Slots.{Slot, barred, ArePart, held, slot_at, LosesWrites, IsShadow, IsEmpty}
 use Rattle.shadow_tables.specs.Laws.Views.{held-stays, slot_at-stays, IsShadow-stays}
 use Rattle.shadow_cache.specs.Pairs.{no_tables, any_reads, tables_of, frames_of, AreShadows, BarsWrites, AllBarWrites, IsRoots}
 use Rattle.shadow_cache.specs.Others.{AreKept, AllLoseWrites}

@@ -1,7 +1,7 @@
 -- Which pairs leave at a call.
 use Rattle.std.proofs.Common.{◌≡◌, ◌≢◌, ℕ, zero, suc, ◌≤◌, List, [], ◌∷◌, ◌++◌, length, take, filter, slice_get, Bool, true, false, not, ◌&&◌, cond, eqb, Option, Some, None, refl, sym, ap, ◌∙◌, subst, inl, inr, arith}
 use Rattle.std.proofs.lemmas.Bool.Decides.{eqb_tells}
-use Rattle.shadow_tables.specs.Slots.{is_among}
+use Rattle.guest_ram.specs.Among.{is_among}
 use Rattle.shadow_tables.specs.declared.calls.Call.TheVariants.{Fill, DropPage, DropDir, DropAll, Note, Written}
 use Rattle.shadow_cache.specs.Past.{Past, begun, marked_at, unmarked, of_value, but_value, with_front, after_switch, after_call, pairs_after}
 use Rattle.shadow_cache.specs.Away.{has_value, AreApart, is_of_value, leaves, IsPresent, OthersLeaveOrStay, PresentLeavesOrStays}

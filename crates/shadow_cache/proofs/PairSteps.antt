@@ -1,7 +1,8 @@
 -- Pairs and their pasts, after one call more.
 use Rattle.std.proofs.Common.{◌≡◌, ℕ, zero, suc, ◌+◌, ◌<◌, ◌≤◌, ◌⊎◌, List, [], ◌∷◌, ◌++◌, length, take, remove, filter, slice_get, slice_set, get_or, Bool, true, false, not, ◌||◌, ◌&&◌, cond, eqb, Option, Some, None, refl, sym, ap, ◌∙◌, subst, inl, inr, arith}
 use Rattle.std.proofs.lemmas.Bool.Decides.{eqb_tells}
-use Rattle.shadow_tables.specs.Slots.{is_among, is_side, held, slot_at, SameSlots, LosesWrites}
+use Rattle.guest_ram.specs.Among.{is_among}
+use Rattle.shadow_tables.specs.Slots.{is_side, held, slot_at, SameSlots, LosesWrites}
 use Rattle.shadow_tables.specs.Opened.{HasTable, KeepsTables, HasOpened}
 use Rattle.shadow_tables.specs.declared.words.Side.{Side}
 use Rattle.shadow_tables.specs.declared.words.Side.TheVariants.{Kernel, User}

@@ -1,6 +1,6 @@
 -- What holds of the pairs after every list of calls.
 use Rattle.std.proofs.Common.{◌≡◌, ℕ, suc, ◌≤◌, List, [], ◌∷◌, length, filter, Bool, true, false, not, cond, Option, Some, None, refl, sym, ap, ◌∙◌, subst, arith}
-use Rattle.shadow_tables.specs.Slots.{is_among}
+use Rattle.guest_ram.specs.Among.{is_among}
 use Rattle.shadow_tables.specs.declared.calls.Call.{Call}
 use Rattle.shadow_tables.specs.declared.calls.Call.TheVariants.{Fill, DropPage, DropDir, DropAll, Note, Written}
 use Rattle.shadow_cache.specs.Past.{Past, begun, all_but, unmarked, of_value, with_front, after_switch, after_shared, after_call, after_calls, pairs_after}

@@ -1,6 +1,6 @@
 -- Pairs over loads of CR3.
 use Rattle.std.specs.Prelude.{◌≡◌, ◌≢◌, ◌⊎◌, ℕ, ◌==◌, ◌≤◌, ◌||◌, ◌&&◌, not, List, [], ◌∷◌, ◌++◌, length, slice_get, Bool, true, false, Option, Some, None}
-use Rattle.shadow_tables.specs.Slots.{is_among}
+use Rattle.guest_ram.specs.Among.{is_among}
 use Rattle.shadow_tables.specs.declared.calls.Call.TheVariants.{Fill, DropPage, DropDir, DropAll, Note, Written}
 use Rattle.shadow_cache.specs.Past.{Past, begun, unmarked, of_value, pairs_after}
 use Rattle.shadow_cache.specs.declared.call_lists.RootsCall.{RootsCall}

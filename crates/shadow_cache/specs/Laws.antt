@@ -12,7 +12,8 @@ use Rattle.frame_pool.proofs.Held.{Holds-writes}
 use Rattle.frame_pool.proofs.Props.{Holds-prop}
 use Rattle.paging.specs.Reached.{reached, walk_frames}
 use Rattle.shadow_tables.specs.Host.{lent}
-use Rattle.shadow_tables.specs.Slots.{Slot, is_among, roots, held, slot_at, root_of, SameSlots, IsShadow}
+use Rattle.guest_ram.specs.Among.{is_among}
+use Rattle.shadow_tables.specs.Slots.{Slot, roots, held, slot_at, root_of, SameSlots, IsShadow}
 use Rattle.shadow_tables.specs.Opened.{KeepsTables}
 use Rattle.shadow_tables.specs.declared.shadow.Shadow.{Shadow}
 use Rattle.shadow_views.proofs.Counts.{owned-root}

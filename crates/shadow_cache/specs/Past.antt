@@ -1,6 +1,7 @@
 -- Pairs of views told by what was done in them: a list with the present one first, from `new` on.
 use Rattle.std.specs.Prelude.{ℕ, suc, ◌==◌, ◌/◌, ◌&&◌, ◌||◌, not, if◌then◌else◌, Bool, true, false, Option, Some, None, List, [], ◌∷◌, ◌++◌, take, filter}
-use Rattle.shadow_tables.specs.Slots.{is_among, is_side}
+use Rattle.guest_ram.specs.Among.{is_among}
+use Rattle.shadow_tables.specs.Slots.{is_side}
 use Rattle.shadow_tables.specs.declared.words.Side.{Side}
 use Rattle.shadow_tables.specs.declared.calls.Call.{Call}
 use Rattle.shadow_tables.specs.declared.calls.Call.TheVariants.{Fill, DropPage, DropDir, DropAll, Note, Written}

@@ -1,7 +1,8 @@
 -- What pairs keep after `new` and a list of calls.
 use Rattle.std.specs.Prelude.{◌≡◌, ℕ, ◌+◌, ◌/◌, ◌^◌, ◌<◌, ◌≤◌, ◌↔◌, List, [], ◌∷◌, ◌++◌, length, take, map, Bool, true, false, Option, Some}
 use Rattle.paging.specs.declared.entry.Entry.{Entry}
-use Rattle.shadow_tables.specs.Slots.{Slot, entry_in, is_adequate, is_among, permits, held, slot_at}
+use Rattle.guest_ram.specs.Among.{is_among}
+use Rattle.shadow_tables.specs.Slots.{Slot, entry_in, is_adequate, permits, held, slot_at}
 use Rattle.shadow_tables.specs.Calls.{IsFit, LeaveAlone, fill_count}
 use Rattle.shadow_tables.specs.declared.words.Side.{Side}
 use Rattle.shadow_tables.specs.declared.calls.Call.TheVariants.{Fill}

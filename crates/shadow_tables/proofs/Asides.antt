@@ -1,6 +1,7 @@
 -- What is kept for other values of CR3, call after call.
 use Rattle.std.proofs.Common.{◌≡◌, ℕ, List, [], ◌∷◌, ◌++◌, Bool, true, false, not, ◌||◌, ◌&&◌, cond, eqb, Option, Some, None, refl, sym, ap, ◌∙◌}
-use Rattle.shadow_tables.specs.Slots.{Slot, is_among, barred}
+use Rattle.guest_ram.specs.Among.{is_among}
+use Rattle.shadow_tables.specs.Slots.{Slot, barred}
 use Rattle.shadow_tables.specs.Aside.{Aside, IsSame, LosesWritesTo, AreSame, LoseWrites, any_of, spared, all_spared}
 
 -- ---- the same

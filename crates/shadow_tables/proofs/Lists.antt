@@ -3,7 +3,8 @@ use Rattle.std.proofs.Common.{◌≡◌, ◌↔◌, ℕ, zero, suc, ◌+◌, ◌
 use Rattle.std.proofs.lemmas.Bool.Decides.{eqb_tells}
 use Rattle.std.proofs.lemmas.List.{take_more}
 use Rattle.paging.specs.declared.entry.Entry.{Entry}
-use Rattle.shadow_tables.specs.Slots.{Slot, filled, barred, is_among, entry_in, is_side, is_adequate, permits, Turns, LosesDir, LosesWrites}
+use Rattle.guest_ram.specs.Among.{is_among}
+use Rattle.shadow_tables.specs.Slots.{Slot, filled, barred, entry_in, is_side, is_adequate, permits, Turns, LosesDir, LosesWrites}
 use Rattle.shadow_tables.specs.Steps.{after, after_call}
 use Rattle.shadow_tables.specs.Calls.{IsFit, AreFit, fill_count, fills, Concerns, LeaveAlone, LastFill, IsEntryAfter, IsAdequateAfter, IsWithin, Follows}
 use Rattle.shadow_tables.specs.declared.words.Side.{Side}

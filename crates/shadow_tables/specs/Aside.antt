@@ -1,6 +1,6 @@
 -- What is kept beside the present tables, for values of CR3 that may be loaded again.
 use Rattle.std.specs.Prelude.{◌≡◌, ℕ, ◌^◌, ◌<◌, ◌||◌, not, Bool, true, false, Option, Some, List, [], ◌∷◌, filter}
-use Rattle.shadow_tables.specs.Slots.{Slot, is_among, SameSlots, LosesWrites}
+use Rattle.shadow_tables.specs.Slots.{Slot, SameSlots, LosesWrites}
 
 -- A value of CR3 that isn't the present one: the frames from which the guest's tables were read under it, and what is
 -- kept for each page.

@@ -21,7 +21,8 @@ use Rattle.shadow_views.proofs.Counts.{owned-root, owned-table}
 use Rattle.shadow_views.proofs.Changes.{high}
 use Rattle.shadow_tables.specs.Entries.{entries_of}
 use Rattle.shadow_tables.specs.Host.{lent}
-use Rattle.shadow_tables.specs.Slots.{Slot, is_among, slot_of, by_words, entry_in, roots, root_of, held, slot_at, SameSlots, IsShadow}
+use Rattle.guest_ram.specs.Among.{is_among}
+use Rattle.shadow_tables.specs.Slots.{Slot, slot_of, by_words, entry_in, roots, root_of, held, slot_at, SameSlots, IsShadow}
 use Rattle.shadow_tables.specs.declared.shadow.Shadow.{Shadow}
 use Rattle.shadow_tables.specs.declared.words.Side.{Side}
 use Rattle.shadow_tables.specs.declared.words.Side.TheVariants.{Kernel, User}

@@ -1,5 +1,6 @@
 -- What the views of a kernel and of a user keep for a page.
-use Rattle.std.specs.Prelude.{◌≡◌, ◌≢◌, ℕ, zero, suc, ◌+◌, ◌-◌, ◌*◌, ◌/◌, ◌%◌, ◌^◌, ◌<◌, List, [], ◌∷◌, Bool, true, false, ◌==◌, ◌&&◌, ◌||◌, not, if◌then◌else◌, Option, Some, None}
+use Rattle.std.specs.Prelude.{◌≡◌, ◌≢◌, ℕ, zero, suc, ◌+◌, ◌-◌, ◌*◌, ◌/◌, ◌%◌, ◌^◌, ◌<◌, List, [], ◌∷◌, Bool, true, false, ◌==◌, ◌&&◌, not, if◌then◌else◌, Option, Some, None}
+use Rattle.guest_ram.specs.Among.{is_among}
 use Rattle.paging.specs.declared.entry.Entry.{Entry}
 use Rattle.paging.specs.Fresh.{allows, has}
 use Rattle.frame_pool.specs.Held.{Holds}
@@ -22,11 +23,6 @@ is_user User = true
 -- the view lets the access pass under wp
 abbrev pub permits : Side → Entry → Bool → Bool → Bool
 permits side entry write wp = allows entry (record { write = write; user = is_user side }) wp
-
--- the frame is one of these
-abbrev pub is_among : ℕ → List ℕ → Bool
-is_among frame [] = false
-is_among frame (f ∷ fs) = (frame == f) || is_among frame fs
 
 -- what a fill makes: the host may do what the view lets pass, but no write where the frame is barred from writes
 abbrev pub filled : Bool → Side → Entry → Bool → Slot

@@ -10,7 +10,8 @@ ghost use Rattle.paging.specs.Uses.{without_dir};
 ghost use Rattle.shadow_tables.specs.Aside.{Aside, AreSame, LoseWrites, AllFit, AllBarred, AllTracked, spared};
 ghost use Rattle.shadow_tables.specs.Entries.{entries_of};
 ghost use Rattle.shadow_tables.specs.Host.{lent};
-ghost use Rattle.shadow_tables.specs.Slots.{Slot, filled, is_among, ArePart, entry_in, is_adequate, Turns, LosesDir, LosesWrites, SameSlots, IsShadow, held, slot_at, root_of};
+ghost use Rattle.guest_ram.specs.Among.{is_among};
+ghost use Rattle.shadow_tables.specs.Slots.{Slot, filled, ArePart, entry_in, is_adequate, Turns, LosesDir, LosesWrites, SameSlots, IsShadow, held, slot_at, root_of};
 ghost use Rattle.shadow_tables.specs.declared.words.Side.{Side};
 ghost use Rattle.shadow_tables.specs.Laws as laws;
 

@@ -1,11 +1,11 @@
 -- Pages that are among others: those that a step changed among those that it went through, and how many have an entry.
 use Rattle.std.proofs.Common.{◌≡◌, ℕ, suc, ◌+◌, ◌≤◌, List, [], ◌∷◌, ◌++◌, length, map, Bool, true, false, cond, ◌||◌, ◌&&◌, not, ◌==◌, ◌⊎◌, inl, inr, refl, sym, ap, ◌∙◌, arith}
-use Rattle.std.specs.List.{Contains, list_any}
+use Rattle.std.specs.List.{Contains}
 use Rattle.std.specs.FinMap.{FinMap, get}
 use Rattle.std.specs.Ordering.{nat_cmp}
 use Rattle.std.proofs.lemmas.Bool.Decides.{eqb_tells}
+use Rattle.guest_ram.specs.Among.{is_among}
 use Rattle.paging.specs.declared.entry.Entry.{Entry}
-use Rattle.shadow_tables.specs.Slots.{is_among}
 use Rattle.step_mem.specs.declared.changes.Change.{Change}
 use Rattle.step_mem.specs.Changes.{page_of, AreToldIn}
 use Rattle.wedge_mem.specs.Settled.{has_entry, pages_of, used}
@@ -13,19 +13,6 @@ use Rattle.wedge_mem.specs.Settled.{has_entry, pages_of, used}
 bool_cases : (b : Bool) → (b ≡ true) ⊎ (b ≡ false)
 bool_cases true = inl refl
 bool_cases false = inr refl
-
-eq_turned : (q x : ℕ) → (q == x) ≡ (x == q)
-eq_turned q x = elim (eqb_tells q x) [
-  | inl e ↦ e.0 ∙ sym (ap (λ (k : ℕ). k == q) (sym e.1) ∙ same q)
-  | inr n ↦ n.0 ∙ elim (eqb_tells x q) [ inl e ↦ absurd (n.1 (sym e.1)) | inr o ↦ sym o.0 ]
-]
-  where
-    same : (k : ℕ) → (k == k) ≡ true
-    same k = elim (eqb_tells k k) [ inl e ↦ e.0 | inr n ↦ absurd (n.1 refl) ]
-
-pub any_among : (xs : List ℕ) (q : ℕ) → list_any (λ x. x == q) xs ≡ is_among q xs
-any_among [] q = refl
-any_among (x ∷ xs) q = ap (λ (b : Bool). b || list_any (λ y. y == q) xs) (eq_turned x q) ∙ ap (λ (b : Bool). (q == x) || b) (any_among xs q)
 
 or_true : (b : Bool) → (b || true) ≡ true
 or_true true = refl
@@ -46,7 +33,7 @@ among_split q (x ∷ xs) ys h =
 pub told_among : (visited : List ℕ) (changes : List Change) → AreToldIn visited changes → (q : ℕ) → is_among q (pages_of visited changes) ≡ true → is_among q visited ≡ true
 told_among visited changes told q h = elim (among_split q visited (map page_of changes) h) [
   | inl a ↦ a
-  | inr c ↦ sym (any_among visited q) ∙ told q (any_among (map page_of changes) q ∙ c)
+  | inr c ↦ told q c
 ]
 
 pub among_contains : (xs : List ℕ) (q : ℕ) → is_among q xs ≡ true → Contains xs q

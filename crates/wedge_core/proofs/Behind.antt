@@ -11,7 +11,8 @@ use Rattle.descriptors.specs.declared.cpu.Cpu.{Cpu}
 use Rattle.paging.specs.declared.entry.Entry.{Entry}
 use Rattle.paging.specs.Space.{Space}
 use Rattle.shadow_tables.specs.Aside.{Aside, IsSame, AreSame, any_of}
-use Rattle.shadow_tables.specs.Slots.{Slot, is_among, entry_in}
+use Rattle.guest_ram.specs.Among.{is_among}
+use Rattle.shadow_tables.specs.Slots.{Slot, entry_in}
 use Rattle.shadow_tables.proofs.Lists.{within-same}
 use Rattle.machine_model.specs.Reloading.{HasMoreFlags, MemoryFollows, IsFoundBy, Follows}
 use Rattle.machine_model.specs.Run.{Set}

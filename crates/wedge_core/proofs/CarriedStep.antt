@@ -11,7 +11,8 @@ use Rattle.image_load.specs.Boot.{text_pages}
 use Rattle.paging.specs.Space.{Space}
 use Rattle.shadow_tables.specs.Aside.{Aside}
 use Rattle.shadow_tables.specs.Entries.{entries_of}
-use Rattle.shadow_tables.specs.Slots.{Slot, is_among}
+use Rattle.guest_ram.specs.Among.{is_among}
+use Rattle.shadow_tables.specs.Slots.{Slot}
 use Rattle.step_mem.specs.Changes.{AreToldIn, AreWithin, changed}
 use Rattle.step_mem.specs.declared.changes.Change.{Change}
 use Rattle.wedge_mem.specs.Settled.{pages_of}

@@ -2,7 +2,8 @@
 use Rattle.std.proofs.Common.{◌≡◌, ◌⊎◌, ℕ, ◌+◌, ◌^◌, ◌<◌, ◌≤◌, List, [], ◌∷◌, ◌++◌, length, take, take-suc, get_or, add-one, Bool, true, false, ◌||◌, Option, None, sym, ap, ◌∙◌, inl, inr, arith}
 use Rattle.std.proofs.lemmas.List.{take_all}
 use Rattle.std.proofs.lemmas.Bool.Decides.{eqb_tells}
-use Rattle.shadow_tables.specs.Slots.{Slot, is_among}
+use Rattle.guest_ram.specs.Among.{is_among}
+use Rattle.shadow_tables.specs.Slots.{Slot}
 
 among_last : (x : ℕ) (xs : List ℕ) (y : ℕ) → is_among x (xs ++ y ∷ []) ≡ true → (is_among x xs ≡ true) ⊎ (x ≡ y)
 among_last x [] y h = elim (eqb_tells x y) [ inl t ↦ inr t.1 | inr n ↦ absurd (let z : false ≡ true = sym (ap (λ (b : Bool). b || false) n.0) ∙ h in cc) ]

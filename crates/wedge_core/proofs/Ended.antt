@@ -15,7 +15,8 @@ use Rattle.image_load.specs.Boot.{text_pages}
 use Rattle.shadow_tables.specs.Aside.{Aside, AreSame}
 use Rattle.shadow_tables.specs.Entries.{entries_of}
 use Rattle.shadow_tables.specs.Laws.Entries.{none-entries_of}
-use Rattle.shadow_tables.specs.Slots.{Slot, is_among, is_user}
+use Rattle.guest_ram.specs.Among.{is_among}
+use Rattle.shadow_tables.specs.Slots.{Slot, is_user}
 use Rattle.shadow_tables.proofs.Asides.{same-refl}
 use Rattle.step_mem.specs.Changes.{AreWithin, AreToldIn, changed}
 use Rattle.step_mem.specs.declared.changes.Change.{Change}

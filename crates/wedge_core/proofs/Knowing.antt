@@ -1,9 +1,9 @@
 -- A step that was settled and ended goes on with what a run knows.
 use Rattle.std.proofs.Common.{◌≡◌, ℕ, ◌*◌, ◌^◌, ◌<◌, ◌≤◌, Bool, true, false, ◌==◌, ◌||◌, List, [], ◌∷◌, ◌++◌, map, length, append_assoc, Option, Some, None, refl, sym, ap, subst, ◌∙◌, inl, inr}
 use Rattle.std.proofs.lemmas.Bool.Decides.{eqb_tells}
-use Rattle.std.specs.List.{list_any}
 use Rattle.std.specs.Option.{ForSome}
 use Rattle.std.specs.FinMap.{get, empty}
+use Rattle.guest_ram.specs.Among.{is_among}
 use Rattle.guest_ram.specs.Bytes.{AreBytes}
 use Rattle.paging.specs.Fresh.{has}
 use Rattle.paging.specs.Space.{Space}
@@ -14,7 +14,7 @@ use Rattle.descriptors.specs.declared.cpu.Cpu.{Cpu}
 use Rattle.shadow_tables.specs.Aside.{Aside, IsSame, AreSame}
 use Rattle.shadow_tables.specs.Entries.{entries_of}
 use Rattle.shadow_tables.specs.Laws.Entries.{get-entries_of}
-use Rattle.shadow_tables.specs.Slots.{Slot, is_among, entry_in}
+use Rattle.shadow_tables.specs.Slots.{Slot, entry_in}
 use Rattle.shadow_cache.specs.Reloaded.{put_by, coming, staying}
 use Rattle.step_mem.specs.Changes.{changed, page_of, entry_of, AreToldIn}
 use Rattle.step_mem.specs.declared.changes.Change.{Change}
@@ -39,7 +39,7 @@ use Rattle.wedge_core.specs.Leaving.{Tells, RulesSame, Ends}
 use Rattle.wedge_core.specs.Ready.{is_all}
 use Rattle.machine_step.specs.Roots.{RootsAs}
 use Rattle.wedge_core.proofs.Shedding.{found_tables}
-use Rattle.wedge_core.proofs.AmongPages.{any_among, told_among, among_first}
+use Rattle.wedge_core.proofs.AmongPages.{told_among, among_first}
 
 clash : (b : Bool) → b ≡ true → b ≡ false → ⊥
 clash b t f = let g : true ≡ false = sym t ∙ f in cc
@@ -100,7 +100,7 @@ changed_other set (c ∷ cs) q h =
 -- a page that no access went through has the entry that it had
 unchanged : (base : Set) (visited : List ℕ) (changes : List Change) → AreToldIn visited changes → (q : ℕ) → is_among q visited ≡ false → get (changed base changes) q ≡ get base q
 unchanged base visited changes told q out =
-    changed_other base changes q (not_true (is_among q (map page_of changes)) (λ c. clash (is_among q visited) (sym (any_among visited q) ∙ told q (any_among (map page_of changes) q ∙ c)) out))
+    changed_other base changes q (not_true (is_among q (map page_of changes)) (λ c. clash (is_among q visited) (told q c) out))
 
 -- ---- what a step makes of what is kept
 
@@ -131,13 +131,13 @@ module _ (tells : SettlingTells) (comes : DroppedComesFrom) (t : Taken) (before 
     rules_back : RulesSame before w.cpu → RulesStay t
     rules_back r = record { wp = ap wp_of a.cpu ∙ (r.0 ∙ sym (ap wp_of cpu)); pse = ap pse_of a.cpu ∙ (r.1 ∙ sym (ap pse_of cpu)) }
 
-    unused : (q : ℕ) → list_any (λ used. used == q) t.report.pages ≡ false → is_among q s.visited ≡ false
-    unused q e = sym (any_among s.visited q) ∙ (ap (list_any (λ used. used == q)) (sym a.pages) ∙ e)
+    unused : (q : ℕ) → is_among q t.report.pages ≡ false → is_among q s.visited ≡ false
+    unused q e = ap (is_among q) (sym a.pages) ∙ e
 
-    is_used : (q : ℕ) → list_any (λ used. used == q) t.report.pages ≡ true → is_among q s.visited ≡ true
-    is_used q e = sym (any_among s.visited q) ∙ (ap (list_any (λ used. used == q)) (sym a.pages) ∙ e)
+    is_used : (q : ℕ) → is_among q t.report.pages ≡ true → is_among q s.visited ≡ true
+    is_used q e = ap (is_among q) (sym a.pages) ∙ e
 
-    left : (q : ℕ) → list_any (λ used. used == q) t.report.pages ≡ false → get s.set q ≡ get t.set q
+    left : (q : ℕ) → is_among q t.report.pages ≡ false → get s.set q ≡ get t.set q
     left q e = ap (λ (x : Set). get x q) set ∙ (unchanged base s.visited changes told q (unused q e) ∙ ap (λ (x : Set). get x q) base_is)
 
     pub over : (noted noted2 : ℕ → Bool) (marked marked2 : Bool) (slots2 : ℕ → Option Slot) (asides asides2 : List Aside)

@@ -1,8 +1,8 @@
 -- The uses that a look at the next instruction collects, and the search for a clash among them.
 use Rattle.std.proofs.Common.{◌≡◌, ℕ, ◌+◌, ◌*◌, ◌/◌, ◌%◌, ◌==◌, ◌≤◌, ◌<◌, List, [], ◌∷◌, ◌++◌, length, drop, get_or, add-one, Bool, true, false, ◌&&◌, ◌||◌, Option, Some, refl, sym, ap, ◌∙◌, arith}
 use Rattle.std.proofs.lemmas.List.{append-nil, at_drop_more, at_drop_all, get_or-map, length-map, map-append, places}
-use Rattle.std.specs.List.{list_any}
 use Rattle.std.specs.FinMap.{get}
+use Rattle.guest_ram.specs.Among.{is_among}
 use Rattle.board.specs.Scripts.{Events}
 use Rattle.descriptors.specs.declared.cpu.Cpu.{Cpu}
 use Rattle.descriptors.specs.Access.{by_level}
@@ -35,7 +35,7 @@ module _ (entries : ℕ → Option Entry) (wp user : Bool) where
 
   -- a clash at this use
   abbrev pub hits : List ℕ → PageUse → Bool
-  hits used u = list_any (λ page. page == u.page) used && is_refused_by (entries u.page) (record { write = u.write; user = user }) wp
+  hits used u = is_among u.page used && is_refused_by (entries u.page) (record { write = u.write; user = user }) wp
 
   pub hits_or_behind : (uses : List PageUse) (i : ℕ) → i < length uses → behind uses i ≡ (hits (before uses i) (get_or uses i none) || behind uses (i + 1))
   hits_or_behind uses i lt =
@@ -60,7 +60,7 @@ module _ (entries : ℕ → Option Entry) (wp user : Bool) where
 
   pub clash_found : (uses : List PageUse) (i : ℕ) (all : Bool) (access : Access) (w : Bool) → i < length uses → all ≡ behind uses i
       → access ≡ record { write = (get_or uses i none).write; user = user } → w ≡ wp
-      → list_any (λ page. page == (get_or uses i none).page) (before uses i) ≡ true → is_refused_by (entries (get_or uses i none).page) access w ≡ true
+      → is_among (get_or uses i none).page (before uses i) ≡ true → is_refused_by (entries (get_or uses i none).page) access w ≡ true
       → true ≡ all
   clash_found uses i all access w lt is a p used refused =
       let u = get_or uses i none in
@@ -69,7 +69,7 @@ module _ (entries : ℕ → Option Entry) (wp user : Bool) where
       ∙ ap (λ b. b || behind uses (i + 1)) (sym (judged u access w a p) ∙ refused))))
 
   pub unused_passed : (uses : List PageUse) (i : ℕ) (all : Bool) → i < length uses → all ≡ behind uses i
-      → list_any (λ page. page == (get_or uses i none).page) (before uses i) ≡ false → all ≡ behind uses (i + 1)
+      → is_among (get_or uses i none).page (before uses i) ≡ false → all ≡ behind uses (i + 1)
   unused_passed uses i all lt is used =
       let u = get_or uses i none in
       is ∙ (hits_or_behind uses i lt
@@ -77,7 +77,7 @@ module _ (entries : ℕ → Option Entry) (wp user : Bool) where
 
   pub allowed_passed : (uses : List PageUse) (i : ℕ) (all : Bool) (access : Access) (w : Bool) → i < length uses → all ≡ behind uses i
       → access ≡ record { write = (get_or uses i none).write; user = user } → w ≡ wp
-      → list_any (λ page. page == (get_or uses i none).page) (before uses i) ≡ true → is_refused_by (entries (get_or uses i none).page) access w ≡ false
+      → is_among (get_or uses i none).page (before uses i) ≡ true → is_refused_by (entries (get_or uses i none).page) access w ≡ false
       → all ≡ behind uses (i + 1)
   allowed_passed uses i all access w lt is a p used refused =
       let u = get_or uses i none in

@@ -14,7 +14,8 @@ use Rattle.image_check.specs.Image.{Image}
 use Rattle.image_load.specs.Boot.{text_pages}
 use Rattle.shadow_tables.specs.Entries.{entries_of}
 use Rattle.shadow_tables.specs.Calls.{IsWithin}
-use Rattle.shadow_tables.specs.Slots.{Slot, filled, is_among, is_user, permits, entry_in, Turns, LosesDir}
+use Rattle.guest_ram.specs.Among.{is_among}
+use Rattle.shadow_tables.specs.Slots.{Slot, filled, is_user, permits, entry_in, Turns, LosesDir}
 use Rattle.shadow_tables.specs.declared.words.Side.{Side}
 use Rattle.shadow_tables.specs.declared.words.Side.TheVariants.{Kernel, User}
 use Rattle.native_steps.specs.Lends.{IsOpen}

@@ -9,7 +9,8 @@ use Rattle.paging.specs.Fresh.{allows}
 use Rattle.paging.specs.Reached.{reached}
 use Rattle.paging.specs.Space.{Space}
 use Rattle.shadow_tables.specs.Host.{lent, frame_below}
-use Rattle.shadow_tables.specs.Slots.{Slot, filled, is_among, is_side, is_user, is_adequate, permits}
+use Rattle.guest_ram.specs.Among.{is_among}
+use Rattle.shadow_tables.specs.Slots.{Slot, filled, is_side, is_user, is_adequate, permits}
 use Rattle.shadow_tables.specs.declared.words.Side.{Side}
 use Rattle.shadow_tables.specs.declared.words.Side.TheVariants.{Kernel, User}
 use Rattle.ia32_exec.specs.declared.access.Range.{Range}

@@ -7,7 +7,8 @@ use Rattle.descriptors.specs.declared.cpu.Cpu.{Cpu}
 use Rattle.image_check.specs.Image.{Image}
 use Rattle.shadow_tables.specs.Aside.{Aside, LoseWrites, any_of, all_spared}
 use Rattle.shadow_tables.specs.Entries.{entries_of}
-use Rattle.shadow_tables.specs.Slots.{Slot, is_among, entry_in}
+use Rattle.guest_ram.specs.Among.{is_among}
+use Rattle.shadow_tables.specs.Slots.{Slot, entry_in}
 use Rattle.machine_model.specs.Run.{Set}
 use Rattle.machine_model.specs.State.{Setting}
 use Rattle.native_steps.specs.Mirrors.{shown}

@@ -11,7 +11,8 @@ use Rattle.shadow_tables.specs.Calls.{IsWithin}
 use Rattle.shadow_tables.proofs.Lists.{within-same}
 use Rattle.shadow_tables.specs.Entries.{entries_of}
 use Rattle.shadow_tables.specs.Laws.Entries.{get-entries_of, none-entries_of}
-use Rattle.shadow_tables.specs.Slots.{Slot, is_among, entry_in}
+use Rattle.guest_ram.specs.Among.{is_among}
+use Rattle.shadow_tables.specs.Slots.{Slot, entry_in}
 use Rattle.step_mem.specs.Changes.{AreWithin}
 use Rattle.machine_step.specs.declared.worked.Dropped.{Dropped}
 use Rattle.machine_step.specs.declared.worked.Dropped.TheVariants as dropped

@@ -16,7 +16,8 @@ use Rattle.sys_exec.specs.declared.effect.Refusal.TheVariants as refusal
 use Rattle.paging.specs.Uses.{with_entry}
 use Rattle.shadow_tables.specs.Aside.{Aside, AreSame}
 use Rattle.shadow_tables.specs.Entries.{entries_of}
-use Rattle.shadow_tables.specs.Slots.{Slot, is_among, entry_in}
+use Rattle.guest_ram.specs.Among.{is_among}
+use Rattle.shadow_tables.specs.Slots.{Slot, entry_in}
 use Rattle.step_exec.specs.Plain.{reached}
 use Rattle.step_exec.specs.Divided.{both_reached}
 use Rattle.step_mem.specs.Changes.{changed, page_of, entry_of}

@@ -8,7 +8,8 @@ use Rattle.descriptors.specs.declared.cpu.Cpu.{Cpu}
 use Rattle.paging.specs.Reached.{reached}
 use Rattle.shadow_tables.specs.Aside.{Aside, AreSame, AllTracked}
 use Rattle.shadow_tables.specs.Host.{lent, frame_below}
-use Rattle.shadow_tables.specs.Slots.{Slot, is_among, is_side, is_adequate, SameSlots}
+use Rattle.guest_ram.specs.Among.{is_among}
+use Rattle.shadow_tables.specs.Slots.{Slot, is_side, is_adequate, SameSlots}
 use Rattle.shadow_tables.specs.declared.words.Side.{Side}
 use Rattle.machine_model.specs.Reloading.{IsFoundBy}
 use Rattle.machine_model.specs.State.{Setting}

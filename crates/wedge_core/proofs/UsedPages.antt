@@ -6,7 +6,7 @@ use Rattle.step_mem.specs.declared.changes.Change.{Change}
 use Rattle.std.specs.FinMap.{FinMap, get}
 use Rattle.std.specs.Ordering.{nat_cmp}
 use Rattle.paging.specs.declared.entry.Entry.{Entry}
-use Rattle.shadow_tables.specs.Slots.{is_among}
+use Rattle.guest_ram.specs.Among.{is_among}
 use Rattle.wedge_mem.specs.Settled.{used, has_entry, pages_of}
 
 used_by : (b : Bool) (page : ℕ) (rest pages : List ℕ) → length rest ≤ length pages → length (cond b (page ∷ rest) rest) ≤ length (page ∷ pages)

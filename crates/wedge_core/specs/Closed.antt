@@ -2,7 +2,8 @@
 use Rattle.std.specs.Prelude.{◌≡◌, ℕ, ◌≤◌, List, length, Bool, true, false, Option}
 use Rattle.std.specs.FinMap.{get}
 use Rattle.shadow_tables.specs.Entries.{entries_of}
-use Rattle.shadow_tables.specs.Slots.{Slot, is_among}
+use Rattle.guest_ram.specs.Among.{is_among}
+use Rattle.shadow_tables.specs.Slots.{Slot}
 use Rattle.shadow_tables.specs.declared.words.Side.{Side}
 use Rattle.machine_model.specs.Run.{Set}
 use Rattle.wedge_mem.specs.Settled.{Settles, used}

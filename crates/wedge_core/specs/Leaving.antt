@@ -5,7 +5,8 @@ use Rattle.descriptors.specs.Controls.{pse_of, wp_of}
 use Rattle.descriptors.specs.declared.cpu.Cpu.{Cpu}
 use Rattle.shadow_tables.specs.Aside.{Aside, IsSame, AreSame, LoseWrites, any_of, all_spared}
 use Rattle.shadow_tables.specs.Entries.{entries_of}
-use Rattle.shadow_tables.specs.Slots.{Slot, is_among}
+use Rattle.guest_ram.specs.Among.{is_among}
+use Rattle.shadow_tables.specs.Slots.{Slot}
 use Rattle.shadow_cache.specs.Reloaded.{put_by, coming, staying}
 use Rattle.wedge_mem.specs.Told.{guest_frames, read_by}
 use Rattle.machine_model.specs.Run.{Set}

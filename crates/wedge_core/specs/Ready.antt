@@ -6,7 +6,8 @@ use Rattle.descriptors.specs.Controls.{pse_of, wp_of}
 use Rattle.descriptors.specs.declared.cpu.Cpu.{Cpu}
 use Rattle.image_check.specs.Image.{Image}
 use Rattle.shadow_tables.specs.Aside.{Aside, any_of}
-use Rattle.shadow_tables.specs.Slots.{Slot, is_among}
+use Rattle.guest_ram.specs.Among.{is_among}
+use Rattle.shadow_tables.specs.Slots.{Slot}
 use Rattle.machine_model.specs.Reloading.{IsFoundBy}
 use Rattle.machine_model.specs.Run.{Set}
 use Rattle.machine_model.specs.State.{Setting}

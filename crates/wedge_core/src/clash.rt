@@ -3,7 +3,8 @@
 
 ghost use Rattle.std.specs.Prelude.{◌≡◌, ℕ, ◌+◌, ◌*◌, ◌/◌, ◌%◌, ◌≤◌, ◌<◌, ◌^◌, ◌==◌, ◌++◌, Bool, true, false, List, [], ◌∷◌, Ok, Some, IfSome, length, map};
 ghost use Rattle.std.specs.FinMap.{get};
-ghost use Rattle.std.specs.List.{list_any, All};
+ghost use Rattle.std.specs.List.{All};
+ghost use Rattle.guest_ram.specs.Among.{is_among};
 ghost use Rattle.descriptors.specs.Controls.{wp_of};
 ghost use Rattle.board.specs.declared.devices.Board.{Board};
 ghost use Rattle.board.specs.Scripts.{Events};
@@ -176,12 +177,12 @@ fn add_next<S: Shadows>(
 /// One of the first n uses is of this page.
 fn was_used(uses: &[PageUse], n: usize, page: u32) -> bool
     requires within { n ≤ length uses.now }
-    ensures { result ≡ list_any (λ p. p == page) (before uses.now n) }
+    ensures { result ≡ is_among page (before uses.now n) }
 {
     let mut i = n;
     while i > 0 {
         i -= 1;
-        if uses[i].page == page {
+        if page == uses[i].page {
             return true;
         }
     }

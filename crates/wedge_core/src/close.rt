@@ -11,7 +11,7 @@ ghost use Rattle.image_check.specs.Image.{Image};
 ghost use Rattle.image_load.specs.Boot.{text_pages};
 ghost use Rattle.shadow_tables.specs.Aside.{AreSame};
 ghost use Rattle.shadow_tables.specs.Entries.{entries_of};
-ghost use Rattle.shadow_tables.specs.Slots.{is_among};
+ghost use Rattle.guest_ram.specs.Among.{is_among};
 ghost use Rattle.step_mem.specs.Changes.{changed};
 ghost use Rattle.step_mem.specs.Sound.{IsSound};
 ghost use Rattle.machine_step.specs.Worked.{dropping, IsDropped};

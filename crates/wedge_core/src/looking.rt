@@ -2,7 +2,7 @@
 //! monitor's rules stop the fetch, nothing is found.
 
 ghost use Rattle.std.specs.Prelude.{◌≡◌, ℕ, ◌+◌, ◌*◌, ◌/◌, ◌%◌, ◌≤◌, ◌<◌, ◌^◌, ◌==◌, ◌&&◌, ◌||◌, ◌++◌, length, true, not, Bool, List, IfSome, bit_or, if◌then◌else◌};
-ghost use Rattle.std.specs.List.{list_any};
+ghost use Rattle.guest_ram.specs.Among.{is_among};
 ghost use Rattle.guest_ram.specs.Bytes.{byte, part};
 ghost use Rattle.shadow_tables.specs.Entries.{entries_of};
 ghost use Rattle.machine_model.specs.Run.{Set};
@@ -138,11 +138,11 @@ pub fn fetched<S: Shadows>(
 
 /// The place is one of these.
 fn is_marked(marks: Option<Marks>, place: u32) -> bool
-    ensures { result ≡ list_any (λ at. at == place) (marks_of marks) }
+    ensures { result ≡ is_among place (marks_of marks) }
 {
     match marks {
         None => false,
-        Some(marks) => marks.dir == place || marks.word == place,
+        Some(marks) => place == marks.dir || place == marks.word,
     }
 }
 

@@ -25,7 +25,7 @@ ghost use Rattle.wedge_core.specs.Ready.{IsReady, IsReadyBut, IsReadyBehind, Are
 ghost use Rattle.wedge_core.specs.Standing.{AreOpen, IsHeld, ground, set_of, side_of, state_of};
 ghost use Rattle.wedge_core.specs.Stepping.{AloneAs};
 ghost use Rattle.std.specs.Prelude.{◌++◌, ◌∷◌, []};
-ghost use Rattle.shadow_tables.specs.Slots.{is_among};
+ghost use Rattle.guest_ram.specs.Among.{is_among};
 ghost use Rattle.machine_model.specs.Taken.{Taken};
 ghost use Rattle.machine_model.specs.Keeping.{Roomy};
 ghost use Rattle.wedge_core.specs.Carried.{IsCarried, IsTakenFrom};

@@ -5,7 +5,8 @@ use Rattle.std.proofs.lemmas.Bool.Decides.{eqb_tells}
 use Rattle.std.specs.FinMap.{FinMap, get}
 use Rattle.std.specs.Ordering.{nat_cmp}
 use Rattle.paging.specs.declared.entry.Entry.{Entry}
-use Rattle.shadow_tables.specs.Slots.{is_among, ArePart}
+use Rattle.guest_ram.specs.Among.{is_among}
+use Rattle.shadow_tables.specs.Slots.{ArePart}
 use Rattle.wedge_mem.specs.Settled.{has_entry, used}
 
 pub true-false : true ≡ false → ⊥

@@ -5,7 +5,7 @@ use Rattle.std.proofs.lemmas.Bool.Decides.{eqb_tells, leb_tells}
 use Rattle.std.proofs.lemmas.List.{take_more}
 use Rattle.std.proofs.lemmas.List.Elements.{filter-append}
 use Rattle.shadow_tables.specs.Aside.{Aside, AreSame, LoseWrites, any_of, spared, all_spared}
-use Rattle.shadow_tables.specs.Slots.{is_among}
+use Rattle.guest_ram.specs.Among.{is_among}
 use Rattle.shadow_tables.proofs.Asides.{among-append, any-append, lose-more, lose-none, lose-same, none-written, same-refl, same-trans, spared-lose, spared-more, spared-same}
 use Rattle.wedge_mem.specs.Told.{guest_frames}
 use Rattle.wedge_mem.proofs.Lists.{bool_cases}

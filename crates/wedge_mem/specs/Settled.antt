@@ -3,7 +3,8 @@ use Rattle.std.specs.Prelude.{◌≡◌, ℕ, ◌^◌, ◌<◌, List, [], ◌∷
 use Rattle.std.specs.FinMap.{FinMap, get}
 use Rattle.std.specs.Ordering.{nat_cmp}
 use Rattle.paging.specs.declared.entry.Entry.{Entry}
-use Rattle.shadow_tables.specs.Slots.{Slot, filled, is_among}
+use Rattle.guest_ram.specs.Among.{is_among}
+use Rattle.shadow_tables.specs.Slots.{Slot, filled}
 use Rattle.shadow_tables.specs.Calls.{IsWithin}
 use Rattle.shadow_tables.specs.declared.words.Side.{Side}
 use Rattle.step_mem.specs.Changes.{page_of}

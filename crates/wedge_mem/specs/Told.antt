@@ -1,6 +1,6 @@
 -- What a step tells the shadows: the frames that it read as tables, and those that it wrote.
 use Rattle.std.specs.Prelude.{ℕ, nat_le, not, ◌||◌, Bool, List, filter}
-use Rattle.shadow_tables.specs.Slots.{is_among}
+use Rattle.guest_ram.specs.Among.{is_among}
 
 -- those of the frames that a guest may have, of at most 64 MB
 abbrev pub guest_frames : List ℕ → List ℕ

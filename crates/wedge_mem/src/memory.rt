@@ -11,7 +11,7 @@ ghost use Rattle.paging.specs.Space.{Readied};
 ghost use Rattle.paging.specs.Uses.{fetches};
 ghost use Rattle.shadow_tables.specs.Aside.{LoseWrites, any_of, all_spared};
 ghost use Rattle.shadow_tables.specs.Entries.{entries_of};
-ghost use Rattle.shadow_tables.specs.Slots.{is_among};
+ghost use Rattle.guest_ram.specs.Among.{is_among};
 ghost use Rattle.step_mem.specs.Changes.{AreWithin};
 ghost use Rattle.step_mem.specs.Shown.{beyond};
 ghost use Rattle.wedge_mem.specs.Progress.{IsGoing, owning, space_at_first, space_in};

@@ -3,7 +3,7 @@
 ghost use Rattle.std.specs.Prelude.{◌≡◌, ◌+◌, ◌<◌, ◌≤◌, ◌^◌, ◌&&◌, length, not, None};
 ghost use Rattle.std.specs.FinMap.{get};
 ghost use Rattle.shadow_tables.specs.Entries.{entries_of};
-ghost use Rattle.shadow_tables.specs.Slots.{is_among};
+ghost use Rattle.guest_ram.specs.Among.{is_among};
 ghost use Rattle.step_mem.specs.Changes.{changed, AreOfPages};
 ghost use Rattle.wedge_mem.specs.Settled.{has_entry, pages_of, used};
 

@@ -6,7 +6,8 @@ ghost use Rattle.frame_pool.specs.Held.{Owns, Moves, Writes};
 ghost use Rattle.shadow_tables.specs.Aside.{AreSame, LoseWrites, any_of, all_spared};
 ghost use Rattle.shadow_tables.specs.Calls.{IsWithin};
 ghost use Rattle.shadow_tables.specs.Entries.{entries_of};
-ghost use Rattle.shadow_tables.specs.Slots.{is_among, ArePart, SameSlots};
+ghost use Rattle.guest_ram.specs.Among.{is_among};
+ghost use Rattle.shadow_tables.specs.Slots.{ArePart, SameSlots};
 ghost use Rattle.shadow_tables.specs.declared.words.Side.{Side as View};
 ghost use Rattle.wedge_mem.specs.Told.{guest_frames, read_by};
 

@@ -1,5 +1,6 @@
 use Rattle.std.proofs.Common.{◌≡◌, ◌++◌, ap, ◌∙◌, ◌*◌, subst, sym, false, Option, Some, IfSome, IsSome}
 use Rattle.std.specs.FinMap.{get}
+use Rattle.guest_ram.specs.Among.{is_among}
 use Rattle.paging.specs.declared.entry.Entry.{Entry}
 use Rattle.paging.specs.Fresh.{tables_read}
 use Rattle.paging.specs.Uses.{with_entry, settled, is_barred}
@@ -7,7 +8,7 @@ use Rattle.step_mem.specs.Guard.{mode_of}
 use Rattle.std.specs.Prelude.{map}
 use Rattle.std.proofs.Common.{List, true}
 use Rattle.step_mem.specs.declared.changes.Change.{Change}
-use Rattle.step_mem.specs.Changes.{changed, AreWithin, page_of, entry_of, is_one_of}
+use Rattle.step_mem.specs.Changes.{changed, AreWithin, page_of, entry_of}
 use Rattle.step_mem.specs.Space.{space_of, with_tables}
 use Rattle.step_mem.specs.Shown.{shown}
 use Rattle.step_mem.proofs.Changed.{one_change_more, changed_push, get_with_same, get_with_other, Within_with}
@@ -65,4 +66,4 @@ returns-clause-clear g c = λ ready x is.
 
 pub returns-clause-more : goal.returns-clause-more
 returns-clause-more g c = λ q h.
-    one_change_more c.args.changes.now c.change_of.result c.args.page q c.change_of.ensures.page (subst (λ (cs : List Change). is_one_of (map page_of cs) q ≡ true) c.push.ensures h)
+    one_change_more c.args.changes.now c.change_of.result c.args.page q c.change_of.ensures.page (subst (λ (cs : List Change). is_among q (map page_of cs) ≡ true) c.push.ensures h)

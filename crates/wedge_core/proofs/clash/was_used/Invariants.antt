@@ -1,5 +1,5 @@
-use Rattle.std.proofs.Common.{◌≡◌, ◌==◌, ◌≤◌, length}
-use Rattle.std.specs.List.{list_any}
+use Rattle.std.proofs.Common.{◌≡◌, ◌≤◌, length}
+use Rattle.guest_ram.specs.Among.{is_among}
 use Rattle.wedge_core.specs.Clashing.{before}
 use Rattle.wedge_core.proofs.clash.was_used.Given as goal
 
@@ -7,4 +7,4 @@ abbrev pub decreases-loop-i : goal.decreases-loop-i
 decreases-loop-i l = l.i
 
 abbrev pub invariant-loop-i : goal.invariant-loop-i
-invariant-loop-i l = (l.i ≤ length l.uses) × (list_any (λ p. p == l.page) (before l.uses l.n) ≡ list_any (λ p. p == l.page) (before l.uses l.i))
+invariant-loop-i l = (l.i ≤ length l.uses) × (is_among l.page (before l.uses l.n) ≡ is_among l.page (before l.uses l.i))

@@ -2,7 +2,7 @@ use Rattle.std.proofs.Common.{◌≡◌, ◌⊎◌, ℕ, take, ◌^◌, ◌<◌,
 use Rattle.frame_pool.specs.declared.Pool.{Pool}
 use Rattle.frame_pool.specs.Held.{Owns, Moves}
 use Rattle.shadow_tables.specs.Aside.{AreSame}
-use Rattle.shadow_tables.specs.Slots.{is_among}
+use Rattle.guest_ram.specs.Among.{is_among}
 use Rattle.wedge_core.proofs.close.drop_pages.Given as goal
 
 abbrev pub invariant-loop-page : goal.invariant-loop-page

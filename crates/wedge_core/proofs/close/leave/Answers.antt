@@ -3,7 +3,7 @@ use Rattle.frame_pool.specs.Pool.{base_of}
 use Rattle.frame_pool.proofs.Held.{Moves-trans}
 use Rattle.shadow_tables.specs.Entries.{entries_of}
 use Rattle.shadow_tables.specs.Laws.Entries.{entries_of-none}
-use Rattle.shadow_tables.specs.Slots.{is_among}
+use Rattle.guest_ram.specs.Among.{is_among}
 use Rattle.wedge_core.specs.Parts.{left_of}
 use Rattle.wedge_core.specs.Ready.{left_out}
 use Rattle.wedge_core.proofs.Returning.{rules_but, through_ready, loaded_left, through_left, nothing_out, out_among}

@@ -1,6 +1,6 @@
 use Rattle.std.proofs.Common.{false, sym, ◌∙◌, arith}
 use Rattle.frame_pool.proofs.Held.{Owns-moves}
-use Rattle.shadow_tables.specs.Slots.{is_among}
+use Rattle.guest_ram.specs.Among.{is_among}
 use Rattle.wedge_core.proofs.Memories.{front_same, shown_same}
 use Rattle.wedge_core.proofs.Opening.{some_open}
 use Rattle.wedge_core.proofs.Readying.{fewer_ready, none_ready, none_pages}

@@ -1,7 +1,7 @@
 use Rattle.std.proofs.Common.{get_or, ℕ, sym, ap, ◌∙◌}
 use Rattle.std.specs.FinMap.{get}
 use Rattle.shadow_tables.specs.Entries.{entries_of}
-use Rattle.shadow_tables.specs.Slots.{is_among}
+use Rattle.guest_ram.specs.Among.{is_among}
 use Rattle.step_mem.specs.Changes.{changed}
 use Rattle.wedge_core.specs.Opened.{is_entry_open}
 use Rattle.wedge_core.proofs.UsedPages.{each_more, each_all, each_none, among_at}

@@ -1,6 +1,6 @@
 use Rattle.std.proofs.Common.{◌≡◌, ℕ, ◌+◌, ◌==◌, true, refl, sym, subst, arith}
 use Rattle.host_cpl3.specs.Hosts.{standing}
-use Rattle.shadow_tables.specs.Slots.{is_among}
+use Rattle.guest_ram.specs.Among.{is_among}
 use Rattle.wedge_core.specs.Filled.{FillsOn, pages_kept}
 use Rattle.wedge_core.specs.Ready.{IsReady}
 use Rattle.wedge_core.specs.Standing.{ground, set_of, side_of}

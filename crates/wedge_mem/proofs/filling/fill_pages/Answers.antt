@@ -4,7 +4,8 @@ use Rattle.frame_pool.proofs.Held.{Owns-moves, Moves-trans}
 use Rattle.frame_pool.specs.Pool.{free_list}
 use Rattle.paging.specs.declared.entry.Entry.{Entry}
 use Rattle.shadow_tables.specs.Entries.{entries_of}
-use Rattle.shadow_tables.specs.Slots.{Slot, is_among}
+use Rattle.guest_ram.specs.Among.{is_among}
+use Rattle.shadow_tables.specs.Slots.{Slot}
 use Rattle.shadow_tables.proofs.Asides.{same-trans}
 use Rattle.step_mem.specs.Changes.{changed}
 use Rattle.wedge_mem.specs.Settled.{filled_by, has_entry}

@@ -4,7 +4,7 @@ use Rattle.frame_pool.specs.Pool.{free_list}
 use Rattle.frame_pool.specs.Held.{Moves}
 use Rattle.shadow_tables.specs.Aside.{AreSame}
 use Rattle.shadow_tables.specs.Entries.{entries_of}
-use Rattle.shadow_tables.specs.Slots.{is_among}
+use Rattle.guest_ram.specs.Among.{is_among}
 use Rattle.step_mem.specs.Changes.{changed}
 use Rattle.wedge_mem.specs.Settled.{filled_by, used}
 use Rattle.wedge_mem.proofs.filling.fill_pages.Given as goal

@@ -1,5 +1,5 @@
 use Rattle.std.proofs.Common.{◌≡◌, drop}
-use Rattle.shadow_tables.specs.Slots.{is_among}
+use Rattle.guest_ram.specs.Among.{is_among}
 use Rattle.wedge_mem.proofs.pages.is_among.Given as goal
 
 abbrev pub invariant-loop-other : goal.invariant-loop-other

@@ -3,7 +3,8 @@ use Rattle.frame_pool.specs.Pool.{free_list}
 use Rattle.frame_pool.specs.Held.{Moves}
 use Rattle.shadow_tables.specs.Aside.{AreSame, any_of, all_spared}
 use Rattle.shadow_tables.specs.Entries.{entries_of}
-use Rattle.shadow_tables.specs.Slots.{is_among, ArePart, SameSlots}
+use Rattle.guest_ram.specs.Among.{is_among}
+use Rattle.shadow_tables.specs.Slots.{ArePart, SameSlots}
 use Rattle.wedge_mem.proofs.telling.tell_written.Given as goal
 
 abbrev pub invariant-loop-frame : goal.invariant-loop-frame
