@@ -95,8 +95,8 @@ fn doom(scope: &Scope, state: &StatementState) -> Option<u32>
     match state {
         StatementState::Stray { line, .. } => Some(*line),
         StatementState::Named { line: begun, name } => {
-            ((is_unknown(scope, name) && is_taken(scope, name)) || lacks_names(scope, name))
-                .then_some(*begun)
+            ((is_unknown(scope, name) && is_taken(scope, name))
+                || lacks_names(scope, name)).then_some(*begun)
         }
         _ => None,
     }
