@@ -1,10 +1,8 @@
 //! The kernel of a number, built into an image.
 
-ghost use Rattle.std.specs.Prelude.{◌≡◌, ℕ, [], ◌∷◌, Ok, Err, IfOk, IfErr};
+ghost use Rattle.std.specs.Prelude.{[], ◌∷◌, Ok, Err, IfOk, IfErr};
 ghost use Rattle.kernel_gen.specs.Kernels.{kernel_text};
-ghost use Rattle.asm_lex.specs.declared.fault.SourceCause.{SourceCause};
 ghost use Rattle.asm_source.specs.Readable.{IsReadable};
-ghost use Rattle.asm_parse.specs.Running.{SourceAs};
 ghost use Rattle.elf_form.specs.ImageLayout.{IsWritableImage, image_bytes};
 ghost use Rattle.elf_form.specs.Linkable.{IsLinkable};
 ghost use Rattle.elf_form.specs.ObjectLayout.{IsWholeObject, object_bytes};
@@ -12,7 +10,6 @@ ghost use Rattle.elf_form.specs.ObjectReading.{object_in};
 ghost use Rattle.afterburner.specs.Burnt.{burnt};
 ghost use Rattle.elf_link.specs.Linked.{linked_image};
 ghost use Rattle.image_check.specs.Checking.{image_of};
-ghost use Rattle.pv_tool.specs.Burning.{IsNoSource, source_line};
 ghost use Rattle.pv_tool.specs.Delivery.{RefusesAs};
 ghost use Rattle.pv_tool.specs.Working.{Builds, Answers, object_read, object_made, image_made, image_accepted};
 
@@ -20,9 +17,9 @@ use crate::check::refusal_of;
 use crate::delivery::refused;
 use crate::halt::Halt;
 use crate::lines::{line_line, link_line, number_of_form, object_place_line};
+use crate::source::source_of_text;
 use afterburner::{BurnFault, burn};
-use asm_lex::SourceFault;
-use asm_parse::{Source, parse};
+use asm_parse::Source;
 use elf_form::{ElfFault, Image, Object, read_object, write_image, write_object};
 use elf_link::{LinkFault, linked};
 use image_check::{Checked, check};
@@ -36,25 +33,10 @@ pub fn built(alloc: Global, number: u32) -> Result<Checked, Halt>
     ensures refused { IfErr result (RefusesAs (λ line. Builds (kernel_text number) (Err line))) }
 {
     let text = kernel(alloc, number)?;
-    let source = source_of(alloc, &text)?;
+    let source = source_of_text(alloc, &text)?;
     let object = object_of(alloc, &source)?;
     let image = image_from(alloc, object)?;
     accepted(alloc, &image)
-}
-
-// The source that a text is.
-fn source_of(alloc: Global, text: &[u8]) -> Result<Source, Halt>
-    ensures source { IfOk result (λ s. SourceAs text.now s) }
-    ensures readable { IfOk result IsReadable }
-    ensures refused { IfErr result (RefusesAs (λ line. (at : ℕ) × (cause : SourceCause) × IsNoSource text.now (at, cause) × (line ≡ source_line at cause))) }
-{
-    match parse(alloc, text) {
-        Ok(source) => Ok(source),
-        Err(SourceFault::Memory) => Err(Halt::Memory),
-        Err(SourceFault::At { line, cause }) => {
-            Err(refused(line_line(alloc, cause.number() as u32, line as u64)))
-        }
-    }
 }
 
 // The object that a source is burnt to.

@@ -1,11 +1,7 @@
 //! The command `burn`.
 
 ghost use Rattle.std.specs.Prelude.{◌≡◌, ◌≤◌, List, ℕ, Ok, IfOk, IfErr, OnOk};
-ghost use Rattle.pv_io.specs.Files.{Holds, IsHeld};
-ghost use Rattle.asm_lex.specs.declared.fault.SourceCause.{SourceCause};
-ghost use Rattle.asm_source.specs.declared.tree.SourceItem.{SourceItem};
-ghost use Rattle.asm_source.specs.Readable.{IsReadable};
-ghost use Rattle.asm_parse.specs.Running.{SourceAs};
+ghost use Rattle.pv_io.specs.Files.{IsHeld};
 ghost use Rattle.elf_form.specs.ObjectParts.{ObjectParts};
 ghost use Rattle.elf_form.specs.ObjectLayout.{IsWholeObject, object_bytes};
 ghost use Rattle.afterburner.specs.Burnt.{Fault, burnt};
@@ -13,17 +9,16 @@ ghost use Rattle.wedge_core.specs.Slices.{Counts as HostCounts};
 ghost use Rattle.pv_tool.specs.Words.{Burn};
 ghost use Rattle.pv_tool.specs.Outside.{beside, OnlyRead};
 ghost use Rattle.pv_tool.specs.Outcome.{refused};
-ghost use Rattle.pv_tool.specs.Delivery.{HaltsOverFiles, RefusesAs};
-ghost use Rattle.pv_tool.specs.Burning.{Burns, HasBurnt, HasSource, HasNoSource, ReadsBack, object_made_line, source_line, burn_line};
+ghost use Rattle.pv_tool.specs.Delivery.{HaltsOverFiles};
+ghost use Rattle.pv_tool.specs.Burning.{Burns, HasBurnt, ReadsBack, object_made_line};
 ghost use Rattle.pv_tool.specs.Meaning.{Means, Counts, Leaves};
 
-use crate::delivery::{Made, deliver, end, load, refused};
+use crate::delivery::{Made, deliver, end, refused};
 use crate::halt::Halt;
 use crate::lines::{Sizes, line_line, sizes_line};
+use crate::source::source_in_file;
 use crate::status::Status;
 use afterburner::{BurnFault, burn as burn_source};
-use asm_lex::SourceFault;
-use asm_parse::{Source, parse};
 use elf_form::{Object, write_object};
 use pv_io::{Files, Sink};
 use sites::count;
@@ -53,28 +48,11 @@ fn made<F: Files>(alloc: Global, name: &str, files: &mut F) -> Result<Made, Halt
     ensures halted { IfErr result (HaltsOverFiles F.Files (IsHeld (F.held files.old) name.now) files.old files.new (λ line. (object : List ℕ) → Burns (F.held files.old) name.now object (refused line))) }
     ensures read { OnlyRead F.Files (IsHeld (F.held files.old) name.now) files.old files.new }
 {
-    let source = source_in(alloc, name, files)?;
+    let source = source_in_file(alloc, name, files)?;
     match burn_source(alloc, &source) {
         Ok(object) => Ok(file_of(alloc, &object)?),
         Err(BurnFault::Memory) => Err(Halt::Memory),
         Err(BurnFault::At { line, cause }) => {
-            Err(refused(line_line(alloc, cause.number() as u32, line as u64)))
-        }
-    }
-}
-
-// The source that a file holds.
-fn source_in<F: Files>(alloc: Global, name: &str, files: &mut F) -> Result<Source, Halt>
-    ensures source { IfOk result (λ s. HasSource (F.held files.old) name.now s) }
-    ensures readable { IfOk result IsReadable }
-    ensures halted { IfErr result (HaltsOverFiles F.Files (IsHeld (F.held files.old) name.now) files.old files.new (λ line. (at : ℕ) × (cause : SourceCause) × HasNoSource (F.held files.old) name.now (at, cause) × (line ≡ source_line at cause))) }
-    ensures read { OnlyRead F.Files (IsHeld (F.held files.old) name.now) files.old files.new }
-{
-    let file = load(alloc, name, files)?;
-    match parse(alloc, &file) {
-        Ok(source) => Ok(source),
-        Err(SourceFault::Memory) => Err(Halt::Memory),
-        Err(SourceFault::At { line, cause }) => {
             Err(refused(line_line(alloc, cause.number() as u32, line as u64)))
         }
     }
