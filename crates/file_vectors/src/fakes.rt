@@ -1,6 +1,8 @@
 //! Files and sinks in memory and of the system.
 
+use crate::agree::are_bytes;
 use pv_io::{DiskFiles, Files, IoAnswer, MemFiles, MemSink, Sink, StdSink, SureFiles, SureSink};
+use std::alloc::Global;
 use std::fs;
 use std::test::Fail;
 
@@ -11,18 +13,24 @@ fn is_failed(answer: &Result<(), IoAnswer>) -> bool {
     }
 }
 
+/// A piece, and whether it is taken.
+const PIECES: [(&[u8], bool); 6] = [
+    (b"abc", true),
+    (b"d", false),
+    (b"defghi", false),
+    (b"defgh", true),
+    (b"", true),
+    (b"i", false),
+];
+
 #[test]
 fn a_sink_in_memory_fails_by_its_list_and_its_room(rt: HostRuntime) -> Result<(), Fail> {
-    let mut fail = Vec::new(rt.alloc());
-    fail.push(1u64)?;
-    let mut out = MemSink::new(rt.alloc(), 8, fail)?;
-    assert!(rt; out.put(b"abc").is_ok());
-    assert!(rt; out.put(b"d").is_err());
-    assert!(rt; out.put(b"defghi").is_err());
-    assert!(rt; out.put(b"defgh").is_ok());
-    assert!(rt; out.put(b"").is_ok());
-    assert!(rt; out.put(b"i").is_err());
-    assert_eq!(rt; out.bytes(), b"abcdefgh".as_slice());
+    let mut out = MemSink::new(rt.alloc(), 8, Vec::from_slice(rt.alloc(), &[1])?)?;
+    for row in &PIECES {
+        let (piece, taken) = *row;
+        assert_eq!(rt; out.put(piece).is_ok(), taken);
+    }
+    are_bytes(&rt, out.bytes(), b"abcdefgh");
     assert_eq!(rt; out.faults(), 3);
     Ok(())
 }
@@ -33,53 +41,92 @@ fn a_sure_sink_takes_all(rt: HostRuntime) {
     assert!(rt; out.put(b"abc").is_ok());
 }
 
+/// A file's name, the bytes that are stored in it or none where it is loaded, and whether that is done.
+type Call = (&'static str, Option<&'static [u8]>, bool);
+
+/// Whether each call is answered so.
+fn are_answered(files: &mut impl Files, alloc: Global, into: &mut Vec<u8>, calls: &[Call]) -> bool {
+    for call in calls {
+        let (name, bytes, done) = *call;
+        let answer = match bytes {
+            Some(bytes) => files.store(name, bytes),
+            None => files.load(alloc, name, into),
+        };
+        if !(if done {
+            answer.is_ok()
+        } else {
+            is_failed(&answer)
+        }) {
+            return false;
+        }
+    }
+    true
+}
+
+const FIRST: [Call; 4] = [
+    ("a", Some(b"one"), true),
+    ("a", None, false),
+    ("a", None, true),
+    ("b", None, false),
+];
+
+const SECOND: [Call; 4] = [
+    ("a", Some(b"two"), false),
+    ("b", Some(b"three"), true),
+    ("a", None, true),
+    ("b", None, true),
+];
+
 #[test]
 fn files_in_memory_fail_by_their_list(rt: HostRuntime) -> Result<(), Fail> {
     let alloc = rt.alloc();
-    let mut fail = Vec::new(alloc);
-    fail.push(1u64)?;
-    fail.push(4u64)?;
-    let mut files = MemFiles::new(alloc, fail)?;
+    let mut files = MemFiles::new(alloc, Vec::from_slice(alloc, &[1, 4])?)?;
     let mut into = Vec::from_slice(alloc, b"> ")?;
-    assert!(rt; files.store("a", b"one").is_ok());
-    assert!(rt; is_failed(&files.load(alloc, "a", &mut into)));
-    assert!(rt; files.load(alloc, "a", &mut into).is_ok());
-    assert!(rt; is_failed(&files.load(alloc, "b", &mut into)));
-    assert_eq!(rt; into.as_slice(), b"> one".as_slice());
-    assert!(rt; is_failed(&files.store("a", b"two")));
-    assert!(rt; files.store("b", b"three").is_ok());
-    assert!(rt; files.load(alloc, "a", &mut into).is_ok());
-    assert!(rt; files.load(alloc, "b", &mut into).is_ok());
-    assert_eq!(rt; into.as_slice(), b"> oneonethree".as_slice());
+    assert!(rt; are_answered(&mut files, alloc, &mut into, &FIRST));
+    are_bytes(&rt, &into, b"> one");
+    assert!(rt; are_answered(&mut files, alloc, &mut into, &SECOND));
+    are_bytes(&rt, &into, b"> oneonethree");
     assert_eq!(rt; (files.load_faults, files.store_faults), (2, 1));
     Ok(())
 }
+
+const STORED_TWICE: [Call; 4] = [
+    ("a", None, false),
+    ("a", Some(b"one"), true),
+    ("a", Some(b"two"), true),
+    ("a", None, true),
+];
 
 #[test]
 fn sure_files_lack_only_names_that_were_not_stored(rt: HostRuntime) -> Result<(), Fail> {
     let alloc = rt.alloc();
     let mut files = SureFiles::new(alloc)?;
     let mut into = Vec::new(alloc);
-    assert!(rt; is_failed(&files.load(alloc, "a", &mut into)));
-    assert!(rt; files.store("a", b"one").is_ok());
-    assert!(rt; files.store("a", b"two").is_ok());
-    assert!(rt; files.load(alloc, "a", &mut into).is_ok());
-    assert_eq!(rt; into.as_slice(), b"two".as_slice());
+    assert!(rt; are_answered(&mut files, alloc, &mut into, &STORED_TWICE));
+    are_bytes(&rt, &into, b"two");
     Ok(())
 }
+
+const WRITTEN: [Call; 3] = [
+    ("stored.bin", Some(b"old and longer"), true),
+    ("stored.bin", Some(b"new\x00\xff"), true),
+    ("stored.bin", None, true),
+];
+
+const REMOVED: [Call; 2] = [
+    ("stored.bin", None, false),
+    ("no/such/folder", Some(b"x"), false),
+];
 
 #[test]
 fn files_of_the_system_are_read_and_written(rt: HostRuntime) -> Result<(), Fail> {
     let alloc = rt.alloc();
     let mut files = DiskFiles::new(&rt);
     let mut into = Vec::from_slice(alloc, b"> ")?;
-    assert!(rt; files.store("stored.bin", b"old and longer").is_ok());
-    assert!(rt; files.store("stored.bin", b"new\x00\xff").is_ok());
-    assert!(rt; files.load(alloc, "stored.bin", &mut into).is_ok());
+    assert!(rt; are_answered(&mut files, alloc, &mut into, &WRITTEN));
     fs::remove_file(&rt, "stored.bin")?;
-    assert!(rt; is_failed(&files.load(alloc, "stored.bin", &mut into)));
-    assert!(rt; is_failed(&files.store("no/such/folder", b"x")));
-    assert_eq!(rt; into.as_slice(), b"> new\x00\xff".as_slice());
+    assert!(rt; are_answered(&mut files, alloc, &mut into, &REMOVED));
+    are_bytes(&rt, &into, b"> new\x00\xff");
     Ok(())
 }
 

@@ -1,8 +1,11 @@
 //! Items and ends, and their lines.
 
+use crate::agree::are_bytes;
 use ia32_types::Stop;
 use pv_io::MemSink;
 use run_trace::{End, Ended, Item, NoNotes, Notes, StepItems, What, put_end, put_item, put_step};
+use std::alloc::{AllocError, Global};
+use std::process::Abort;
 use std::test::Fail;
 
 const ITEMS: [(u64, What, &str); 7] = [
@@ -34,55 +37,53 @@ const STOPS: [(Stop, &str); 16] = [
     (Stop::CodeIsTable, "end steps 15 stop 16 CodeIsTable\n"),
 ];
 
+/// The line of an item.
+fn is_line(rt: &impl Abort, alloc: Global, item: &Item, text: &[u8]) -> Result<(), AllocError> {
+    let mut out = MemSink::new(alloc, 64, Vec::new(alloc))?;
+    assert!(rt; put_item(item, &mut out).is_ok());
+    are_bytes(rt, out.bytes(), text);
+    Ok(())
+}
+
 #[test]
 fn items_have_their_lines(rt: HostRuntime) -> Result<(), Fail> {
     for row in &ITEMS {
         let (step, what, text) = *row;
-        let mut out = MemSink::new(rt.alloc(), 64, Vec::new(rt.alloc()))?;
-        assert!(rt; put_item(&Item { step, what }, &mut out).is_ok());
-        assert_eq!(rt; out.bytes(), text.as_bytes());
+        is_line(&rt, rt.alloc(), &Item { step, what }, text.as_bytes())?;
     }
+    Ok(())
+}
+
+/// The line of an end.
+fn is_end(rt: &impl Abort, alloc: Global, ended: &Ended, text: &[u8]) -> Result<(), AllocError> {
+    let mut out = MemSink::new(alloc, 64, Vec::new(alloc))?;
+    assert!(rt; put_end(ended, &mut out).is_ok());
+    are_bytes(rt, out.bytes(), text);
     Ok(())
 }
 
 #[test]
 fn ends_have_their_lines(rt: HostRuntime) -> Result<(), Fail> {
-    let mut steps = 0u64;
+    let mut ended = Ended {
+        steps: 0,
+        end: End::Bound,
+        fills: 7,
+    };
     for row in &STOPS {
         let (stop, text) = *row;
-        let mut out = MemSink::new(rt.alloc(), 64, Vec::new(rt.alloc()))?;
-        let end = End::Stopped(stop);
-        let ended = Ended {
-            steps,
-            end,
-            fills: 7,
-        };
-        assert!(rt; put_end(&ended, &mut out).is_ok());
-        assert_eq!(rt; out.bytes(), text.as_bytes());
-        steps = steps.saturating_add(1);
+        ended.end = End::Stopped(stop);
+        is_end(&rt, rt.alloc(), &ended, text.as_bytes())?;
+        ended.steps = ended.steps.saturating_add(1);
     }
-    let mut out = MemSink::new(rt.alloc(), 64, Vec::new(rt.alloc()))?;
-    let end = End::Bound;
-    assert!(rt;
-        put_end(
-            &Ended {
-                steps,
-                end,
-                fills: 0
-            },
-            &mut out
-        )
-        .is_ok()
-    );
-    assert_eq!(rt; out.bytes(), b"end steps 16\n".as_slice());
+    ended.end = End::Bound;
+    ended.fills = 0;
+    is_end(&rt, rt.alloc(), &ended, b"end steps 16\n")?;
     Ok(())
 }
 
 #[test]
 fn a_line_is_one_call_of_the_sink(rt: HostRuntime) -> Result<(), Fail> {
-    let mut fail = Vec::new(rt.alloc());
-    fail.push(1u64)?;
-    let mut out = MemSink::new(rt.alloc(), 64, fail)?;
+    let mut out = MemSink::new(rt.alloc(), 64, Vec::from_slice(rt.alloc(), &[1])?)?;
     let what = What::Irq(0x2f);
     assert!(rt; put_item(&Item { step: 3, what }, &mut out).is_ok());
     assert!(rt; put_item(&Item { step: 4, what }, &mut out).is_err());
@@ -98,7 +99,7 @@ fn a_line_is_one_call_of_the_sink(rt: HostRuntime) -> Result<(), Fail> {
         )
         .is_ok()
     );
-    assert_eq!(rt; out.bytes(), b"3 irq 2f\nend steps 5\n".as_slice());
+    are_bytes(&rt, out.bytes(), b"3 irq 2f\nend steps 5\n");
     assert_eq!(rt; out.faults(), 1);
     Ok(())
 }
@@ -108,7 +109,7 @@ fn a_step_has_a_line_for_each_item(rt: HostRuntime) -> Result<(), Fail> {
     let mut out = MemSink::new(rt.alloc(), 64, Vec::new(rt.alloc()))?;
     let mut items = StepItems::new();
     assert!(rt; put_step(&items, &mut out).is_ok());
-    assert_eq!(rt; out.bytes(), b"".as_slice());
+    are_bytes(&rt, out.bytes(), b"");
     items.add(Item {
         step: 2,
         what: What::Out8(0x3f8, 0x48),
@@ -118,15 +119,13 @@ fn a_step_has_a_line_for_each_item(rt: HostRuntime) -> Result<(), Fail> {
         what: What::Sent(0x48),
     });
     assert!(rt; put_step(&items, &mut out).is_ok());
-    assert_eq!(rt; out.bytes(), b"2 out8 03f8 48\n2 tx 48\n".as_slice());
+    are_bytes(&rt, out.bytes(), b"2 out8 03f8 48\n2 tx 48\n");
     Ok(())
 }
 
 #[test]
 fn a_step_ends_at_a_line_that_is_not_taken(rt: HostRuntime) -> Result<(), Fail> {
-    let mut fail = Vec::new(rt.alloc());
-    fail.push(1u64)?;
-    let mut out = MemSink::new(rt.alloc(), 64, fail)?;
+    let mut out = MemSink::new(rt.alloc(), 64, Vec::from_slice(rt.alloc(), &[1])?)?;
     let mut items = StepItems::new();
     items.add(Item {
         step: 2,
@@ -137,7 +136,7 @@ fn a_step_ends_at_a_line_that_is_not_taken(rt: HostRuntime) -> Result<(), Fail> 
         what: What::Sent(0x48),
     });
     assert!(rt; put_step(&items, &mut out).is_err());
-    assert_eq!(rt; out.bytes(), b"2 out8 03f8 48\n".as_slice());
+    are_bytes(&rt, out.bytes(), b"2 out8 03f8 48\n");
     assert_eq!(rt; out.faults(), 1);
     Ok(())
 }

@@ -1,30 +1,26 @@
 //! Objects that other tools made, and worked examples.
 
+use crate::agree::are_bytes;
 use crate::vectors::{GCC_OBJECT, WORKED_OBJECT};
-use elf_form::{DefinedIn, ElfCause, ElfFault, Reloc, read_object};
+use elf_form::{DefinedIn, ElfCause, ElfFault, Object, Reloc, Symbol, read_object};
 use std::alloc::{AllocError, Global};
+use std::process::Abort;
 use std::test::Fail;
 
-const TEXT: [u8; 17] = [
-    0xBA, 0xF8, 0x03, 0, 0, 0xB0, 0x48, 0xEE, 0x90, 0x90, 0x90, 0x90, 0xF4, 0x90, 0x90, 0x90, 0x90,
-];
+const TEXT: &[u8] = b"\xBA\xF8\x03\0\0\xB0\x48\xEE\x90\x90\x90\x90\xF4\x90\x90\x90\x90";
 
-const SITES: [u8; 24] = [
-    0x50, 0x56, 0x53, 0x31, 2, 0, 0, 0, 7, 0, 0, 0, 20, 1, 5, 0, 12, 0, 0, 0, 4, 1, 5, 0,
-];
+const SITES: &[u8] = b"PVS1\x02\0\0\0\x07\0\0\0\x14\x01\x05\0\x0C\0\0\0\x04\x01\x05\0";
 
 /// The text of the GCC object by objdump -d.
-const GCC_TEXT: [u8; 22] = [
-    0x8B, 0x44, 0x24, 0x04, 0x01, 0x05, 0, 0, 0, 0, 0xA1, 0, 0, 0, 0, 0x03, 0x05, 0, 0, 0, 0, 0xC3,
-];
+const GCC_TEXT: &[u8] = b"\x8B\x44\x24\x04\x01\x05\0\0\0\0\xA1\0\0\0\0\x03\x05\0\0\0\0\xC3";
 
 #[test]
 fn reads_the_parts_of_a_gcc_object(rt: HostRuntime) -> Result<(), Fail> {
     let object = read_object(rt.alloc(), &GCC_OBJECT)?;
-    assert_eq!(rt; object.text.as_slice(), GCC_TEXT.as_slice());
-    assert_eq!(rt; object.init.as_slice(), [7, 0, 0, 0].as_slice());
+    are_bytes(&rt, &object.text, GCC_TEXT);
+    are_bytes(&rt, &object.init, b"\x07\0\0\0");
+    are_bytes(&rt, &object.sites, b"PVS1\0\0\0\0");
     assert_eq!(rt; object.bss, 4);
-    assert_eq!(rt; object.sites.as_slice(), b"PVS1\0\0\0\0".as_slice());
     Ok(())
 }
 
@@ -40,49 +36,64 @@ const GCC_SYMBOLS: [SymbolRow; 5] = [
     (b"near", DefinedIn::Init, 0, true),
 ];
 
+/// The symbol is this one.
+fn is_symbol(rt: &impl Abort, symbol: &Symbol, row: &SymbolRow) {
+    let (name, place, value, global) = *row;
+    are_bytes(rt, &symbol.name.list, name);
+    assert_eq!(rt; symbol.place, place);
+    assert_eq!(rt; (symbol.value, symbol.global), (value, global));
+}
+
+/// These are all the symbols of an object.
+fn are_symbols(rt: &impl Abort, object: &Object, rows: &[SymbolRow]) {
+    assert_eq!(rt; object.symbols.len(), rows.len());
+    for (symbol, row) in object.symbols.iter().zip(rows) {
+        is_symbol(rt, symbol, row);
+    }
+}
+
 #[test]
 fn reads_the_symbols_of_a_gcc_object(rt: HostRuntime) -> Result<(), Fail> {
     let object = read_object(rt.alloc(), &GCC_OBJECT)?;
-    assert_eq!(rt; object.symbols.len(), 5);
-    for (symbol, row) in object.symbols.iter().zip(&GCC_SYMBOLS) {
-        let (name, place, value, global) = *row;
-        assert_eq!(rt; symbol.name.list.as_slice(), name);
-        assert_eq!(rt; symbol.place, place);
-        assert_eq!(rt; symbol.value, value);
-        assert_eq!(rt; symbol.global, global);
-    }
+    are_symbols(&rt, &object, &GCC_SYMBOLS);
     Ok(())
 }
+
+// readelf -r: .bss, far_away, near, each R_386_32
+const GCC_RELOCS: [Reloc; 3] = [
+    Reloc {
+        in_text: true,
+        at: 6,
+        symbol: 0,
+        relative: false,
+    },
+    Reloc {
+        in_text: true,
+        at: 11,
+        symbol: 3,
+        relative: false,
+    },
+    Reloc {
+        in_text: true,
+        at: 17,
+        symbol: 4,
+        relative: false,
+    },
+];
 
 #[test]
 fn reads_the_relocations_of_a_gcc_object(rt: HostRuntime) -> Result<(), Fail> {
     let object = read_object(rt.alloc(), &GCC_OBJECT)?;
-    // readelf -r: .bss, far_away, near, each R_386_32
-    let rows = [(6, 0), (11, 3), (17, 4)];
-    assert_eq!(rt; object.relocs.len(), rows.len());
-    for (reloc, (at, symbol)) in object.relocs.iter().zip(rows) {
-        let want = Reloc {
-            in_text: true,
-            at,
-            symbol,
-            relative: false,
-        };
-        assert_eq!(rt; *reloc, want);
-    }
+    assert_eq!(rt; object.relocs.as_slice(), GCC_RELOCS.as_slice());
     Ok(())
 }
 
 #[test]
 fn reads_a_worked_object(rt: HostRuntime) -> Result<(), Fail> {
     let object = read_object(rt.alloc(), &WORKED_OBJECT)?;
-    assert_eq!(rt; object.text.as_slice(), TEXT.as_slice());
-    assert_eq!(rt; object.sites.as_slice(), SITES.as_slice());
-    assert_eq!(rt; object.symbols.len(), 1);
-    for symbol in &object.symbols {
-        assert_eq!(rt; symbol.name.list.as_slice(), b"_start".as_slice());
-        assert_eq!(rt; symbol.place, DefinedIn::Text);
-        assert!(rt; symbol.global);
-    }
+    are_bytes(&rt, &object.text, TEXT);
+    are_bytes(&rt, &object.sites, SITES);
+    are_symbols(&rt, &object, &[(b"_start", DefinedIn::Text, 0, true)]);
     Ok(())
 }
 
@@ -147,37 +158,62 @@ fn reads_no_cut_object(rt: HostRuntime) {
     }
 }
 
-#[test]
-fn index_zero_names_no_section(rt: HostRuntime) -> Result<(), Fail> {
-    // The header of the text stands first, the null one behind it; the symbol has index 0 (SHN_UNDEF).
-    let mut bytes = Vec::from_slice(rt.alloc(), &WORKED_OBJECT[..126])?;
-    bytes.extend_from_slice(&[0])?;
-    bytes.extend_from_slice(&WORKED_OBJECT[127..212])?;
-    bytes.extend_from_slice(&WORKED_OBJECT[252..292])?;
-    bytes.extend_from_slice(&WORKED_OBJECT[212..252])?;
-    bytes.extend_from_slice(&WORKED_OBJECT[292..])?;
-    let object = read_object(rt.alloc(), &bytes)?;
-    assert_eq!(rt; object.text.as_slice(), TEXT.as_slice());
-    assert_eq!(rt; object.symbols.len(), 1);
-    for symbol in &object.symbols {
-        assert_eq!(rt; symbol.place, DefinedIn::Undefined);
-        assert_eq!(rt; symbol.value, 0);
+/// The pieces, one behind the other.
+fn joined(alloc: Global, pieces: &[&[u8]]) -> Result<Vec<u8>, AllocError> {
+    let mut bytes = Vec::new(alloc);
+    for piece in pieces {
+        bytes.extend_from_slice(piece)?;
     }
-    Ok(())
+    Ok(bytes)
+}
+
+/// The worked object with the header of the text first, the null one behind it; the symbol has index 0 (SHN_UNDEF).
+fn with_text_first(alloc: Global) -> Result<Vec<u8>, AllocError> {
+    joined(
+        alloc,
+        &[
+            &WORKED_OBJECT[..126],
+            b"\0",
+            &WORKED_OBJECT[127..212],
+            &WORKED_OBJECT[252..292],
+            &WORKED_OBJECT[212..252],
+            &WORKED_OBJECT[292..],
+        ],
+    )
 }
 
 #[test]
-fn reserved_indices_name_no_section(rt: HostRuntime) -> Result<(), Fail> {
-    // 65,535 headers. The symbol has index 0xFFF1 (SHN_ABS); the header of that number is one of zeroed bytes.
-    let mut bytes = Vec::from_slice(rt.alloc(), &WORKED_OBJECT[..48])?;
-    bytes.extend_from_slice(&[0xFF, 0xFF])?;
-    bytes.extend_from_slice(&WORKED_OBJECT[50..126])?;
-    bytes.extend_from_slice(&[0xF1, 0xFF])?;
-    bytes.extend_from_slice(&WORKED_OBJECT[128..])?;
+fn index_zero_names_no_section(rt: HostRuntime) -> Result<(), Fail> {
+    let bytes = with_text_first(rt.alloc())?;
+    let object = read_object(rt.alloc(), &bytes)?;
+    are_bytes(&rt, &object.text, TEXT);
+    are_symbols(&rt, &object, &[(b"_start", DefinedIn::Undefined, 0, true)]);
+    Ok(())
+}
+
+/// The worked object with 65,535 headers. The symbol has index 0xFFF1 (SHN_ABS); the header of that number is one of
+/// zeroed bytes.
+fn with_all_headers(alloc: Global) -> Result<Vec<u8>, AllocError> {
+    let mut bytes = joined(
+        alloc,
+        &[
+            &WORKED_OBJECT[..48],
+            b"\xFF\xFF",
+            &WORKED_OBJECT[50..126],
+            b"\xF1\xFF",
+            &WORKED_OBJECT[128..],
+        ],
+    )?;
     for index in 10..0xFFFF {
         let from = if index == 0xFFF1 { 332 } else { 212 };
         bytes.extend_from_slice(&WORKED_OBJECT[from..from + 40])?;
     }
+    Ok(bytes)
+}
+
+#[test]
+fn reserved_indices_name_no_section(rt: HostRuntime) -> Result<(), Fail> {
+    let bytes = with_all_headers(rt.alloc())?;
     assert_eq!(rt;
         fault(read_object(rt.alloc(), &bytes)),
         Some((126, ElfCause::SymbolForm))
@@ -209,22 +245,29 @@ const INDICES: [Index; 4] = [
     (516, &[0xF1, 0xFF, 0, 0], 532, 0xFFFF, 516),
 ];
 
+/// The 40 bytes of a header.
+fn header(from: usize) -> Option<&'static [u8]> {
+    WORKED_OBJECT.get(from..)?.get(..40)
+}
+
+/// The worked object with that field. Header 0 is that of the string table, which is named by its index or by a reserved
+/// one. With 65,535 headers each index has one: those behind the tenth are all like header 0.
+fn with_index(alloc: Global, row: &Index) -> Result<Vec<u8>, Fail> {
+    let (field, index, from, count, _) = *row;
+    let header = header(from).ok_or("short")?;
+    let headers = count.to_le_bytes();
+    let mut bytes = changed(alloc, &[(field, index), (48, &headers), (212, header)])?;
+    for _ in 10..count {
+        bytes.extend_from_slice(header)?;
+    }
+    Ok(bytes)
+}
+
 #[test]
 fn indices_of_no_section_name_no_string_table(rt: HostRuntime) -> Result<(), Fail> {
     for row in &INDICES {
-        // Header 0 is that of the string table, which is named by its index or by a reserved one. With 65,535 headers each
-        // index has one: those behind the tenth are all like header 0.
-        let (field, index, from, count, at) = *row;
-        let header = WORKED_OBJECT
-            .get(from..)
-            .ok_or("short")?
-            .get(..40)
-            .ok_or("short")?;
-        let headers = count.to_le_bytes();
-        let mut bytes = changed(rt.alloc(), &[(field, index), (48, &headers), (212, header)])?;
-        for _ in 10..count {
-            bytes.extend_from_slice(header)?;
-        }
+        let bytes = with_index(rt.alloc(), row)?;
+        let at = row.4;
         assert_eq!(rt;
             fault(read_object(rt.alloc(), &bytes)),
             Some((at, ElfCause::StringPlace)),
@@ -243,8 +286,7 @@ fn an_object_without_sections_is_read(rt: HostRuntime) -> Result<(), Fail> {
     )?;
     bytes.truncate(52);
     let object = read_object(rt.alloc(), &bytes)?;
-    assert_eq!(rt; object.text.len(), 0);
-    assert_eq!(rt; object.symbols.len(), 0);
-    assert_eq!(rt; object.sites.as_slice(), b"PVS1\0\0\0\0".as_slice());
+    assert_eq!(rt; (object.text.len(), object.symbols.len()), (0, 0));
+    are_bytes(&rt, &object.sites, b"PVS1\0\0\0\0");
     Ok(())
 }
