@@ -1,5 +1,7 @@
 use board::{Board, Event, PortRead, ScriptCause, ScriptFault, read_script};
 use ia32_types::Did;
+use std::alloc::Global;
+use std::process::Abort;
 use std::test::Fail;
 
 fn sent(board: &mut Board, port: u16, v: u8) -> Did {
@@ -34,19 +36,50 @@ fn taken(board: &mut Board) -> Option<u8> {
     Some(board.acknowledge())
 }
 
+/// What is done to a board, and what it comes to.
+#[derive(Clone, Copy)]
+enum Step {
+    Sent(u16, u8),
+    Advance(u64),
+    Pending(Option<u8>),
+    Taken(Option<u8>),
+}
+
+/// Whether a step comes to what it says; a byte that is sent is taken.
+fn holds(board: &mut Board, step: Step) -> bool {
+    match step {
+        Step::Sent(port, v) => sent(board, port, v) == Did::Done,
+        Step::Advance(k) => {
+            board.advance(k);
+            true
+        }
+        Step::Pending(vector) => board.pending() == vector,
+        Step::Taken(vector) => taken(board) == vector,
+    }
+}
+
+fn follow(rt: &impl Abort, board: &mut Board, steps: &[Step]) {
+    for (k, step) in steps.iter().enumerate() {
+        assert!(rt; holds(board, *step), "step {k}");
+    }
+}
+
+const TIMER: [Step; 10] = [
+    Step::Sent(0x43, 0x34),
+    Step::Sent(0x40, 2),
+    Step::Sent(0x40, 0),
+    Step::Advance(15),
+    Step::Pending(None),
+    Step::Advance(1),
+    Step::Pending(Some(0x20)),
+    Step::Advance(0x1000_0000_0000_0000),
+    Step::Taken(Some(0x20)),
+    Step::Pending(None),
+];
+
 #[test]
 fn timer_asks_after_eight_steps_a_count(rt: HostRuntime) {
-    let mut board = started();
-    for (port, v) in [(0x43, 0x34), (0x40, 2), (0x40, 0)] {
-        assert!(rt; sent(&mut board, port, v) == Did::Done);
-    }
-    board.advance(15);
-    assert_eq!(rt; board.pending(), None);
-    board.advance(1);
-    assert_eq!(rt; board.pending(), Some(0x20));
-    board.advance(1 << 60);
-    assert_eq!(rt; taken(&mut board), Some(0x20));
-    assert_eq!(rt; board.pending(), None);
+    follow(&rt, &mut started(), &TIMER);
 }
 
 /// A port, whether four bytes are read, and what is read.
@@ -78,6 +111,15 @@ fn ports_are_served_ignored_or_refused(rt: HostRuntime) {
     assert!(rt; sent(&mut board, 0x3F8, 0x48) == Did::Sent(0x48));
 }
 
+const RECEIVED: [Step; 6] = [
+    Step::Taken(Some(0x2C)),
+    Step::Sent(0xA0, 0x64),
+    Step::Sent(0x20, 0x62),
+    Step::Pending(None),
+    Step::Sent(0x3F9, 1),
+    Step::Pending(Some(0x24)),
+];
+
 #[test]
 fn a_received_byte_asks_once_its_interrupt_is_enabled(rt: HostRuntime) -> Result<(), Fail> {
     let script = read_script(rt.alloc(), b"4 rx 41\n4 line 12")?;
@@ -90,12 +132,7 @@ fn a_received_byte_asks_once_its_interrupt_is_enabled(rt: HostRuntime) -> Result
             "at {step}"
         );
     }
-    assert_eq!(rt; taken(&mut board), Some(0x2C));
-    assert_eq!(rt; sent(&mut board, 0xA0, 0x64), Did::Done);
-    assert_eq!(rt; sent(&mut board, 0x20, 0x62), Did::Done);
-    assert_eq!(rt; board.pending(), None);
-    assert_eq!(rt; sent(&mut board, 0x3F9, 1), Did::Done);
-    assert_eq!(rt; board.pending(), Some(0x24));
+    follow(&rt, &mut board, &RECEIVED);
     Ok(())
 }
 
@@ -128,18 +165,29 @@ const REFUSED: [Refused; 16] = [
 ];
 
 #[test]
-fn scripts_are_read_and_refused(rt: HostRuntime) -> Result<(), Fail> {
+fn scripts_are_read(rt: HostRuntime) -> Result<(), Fail> {
     let script = read_script(rt.alloc(), b"# first\n0 rx 4F\n\n007 line 05\n7 rx 0a")?;
     assert!(rt; script.list.as_slice() == EVENTS.as_slice());
     let board = Board::new();
     assert_eq!(rt; board.next_event(&script, 0), Some(7));
     assert_eq!(rt; board.next_event(&script, 7), None);
+    Ok(())
+}
+
+/// Whether a script is refused so.
+fn is_refused(alloc: Global, text: &[u8], line: u64, cause: ScriptCause) -> bool {
+    match read_script(alloc, text) {
+        Ok(_) => false,
+        Err(fault) => fault == ScriptFault::At { line, cause },
+    }
+}
+
+#[test]
+fn scripts_are_refused(rt: HostRuntime) {
     for row in &REFUSED {
         let (text, line, cause) = *row;
-        let answer = read_script(rt.alloc(), text).err().ok_or("read")?;
-        assert_eq!(rt; answer, ScriptFault::At { line, cause });
+        assert!(rt; is_refused(rt.alloc(), text, line, cause), "{line}");
     }
-    Ok(())
 }
 
 #[test]
@@ -150,10 +198,7 @@ fn a_script_has_room_for_65536_events(rt: HostRuntime) -> Result<(), Fail> {
     }
     assert_eq!(rt; read_script(rt.alloc(), &text)?.list.len(), 65536);
     text.extend_from_slice(b"1099511627776 line 3")?;
-    let answer = read_script(rt.alloc(), &text).err().ok_or("read")?;
-    let line = 65537;
-    let cause = ScriptCause::TooMany;
-    assert_eq!(rt; answer, ScriptFault::At { line, cause });
+    assert!(rt; is_refused(rt.alloc(), &text, 65537, ScriptCause::TooMany));
     Ok(())
 }
 
@@ -190,21 +235,36 @@ const WORKING: [u8; 64] = [
     0, 0, 0, 0, 0, 0, 0, 0, 0, 0, 0, 0, 0, 0, 0, 0, 0, 0, 0, 0, 0, 0, 0,
 ];
 
+const SAVED: [Step; 5] = [
+    Step::Advance(12),
+    Step::Taken(Some(0x24)),
+    Step::Pending(None),
+    Step::Advance(1),
+    Step::Taken(Some(0x20)),
+];
+
 #[test]
 fn board_is_saved_and_restored(rt: HostRuntime) -> Result<(), Fail> {
-    assert_eq!(rt; working().save(), WORKING);
+    assert!(rt; working().save() == WORKING);
     let mut board = Board::restore(&WORKING).ok_or("the form")?;
-    assert_eq!(rt; board.save(), WORKING);
-    board.advance(12);
-    assert_eq!(rt; taken(&mut board), Some(0x24));
-    assert_eq!(rt; board.pending(), None);
-    board.advance(1);
-    assert_eq!(rt; taken(&mut board), Some(0x20));
+    assert!(rt; board.save() == WORKING);
+    follow(&rt, &mut board, &SAVED);
+    Ok(())
+}
+
+#[test]
+fn fresh_board_is_saved_and_restored(rt: HostRuntime) {
     let fresh = Board::new().save();
     assert_eq!(rt; fresh[4], 0xFF);
     assert_eq!(rt; fresh[11], 0xFF);
     assert!(rt; Board::restore(&fresh).is_some());
-    Ok(())
+}
+
+/// Whether a board has these bytes with another one at a place.
+fn is_restored(bytes: [u8; 64], at: usize, value: u8) -> bool {
+    let mut bytes = bytes;
+    bytes[at % 64] = value;
+    Board::restore(&bytes).is_some()
 }
 
 /// A byte of that form, and a value that it never has.
@@ -239,9 +299,7 @@ const WRONG: [(usize, u8); 24] = [
 fn bytes_of_no_board_are_not_restored(rt: HostRuntime) {
     for row in &WRONG {
         let (at, value) = *row;
-        let mut bytes = WORKING;
-        bytes[at % 64] = value;
-        assert!(rt; Board::restore(&bytes).is_none(), "byte {at} is {value}");
+        assert!(rt; !is_restored(WORKING, at, value), "byte {at} is {value}");
     }
 }
 
@@ -266,8 +324,6 @@ const OTHER: [(usize, u8); 13] = [
 fn other_values_are_restored(rt: HostRuntime) {
     for row in &OTHER {
         let (at, value) = *row;
-        let mut bytes = WORKING;
-        bytes[at % 64] = value;
-        assert!(rt; Board::restore(&bytes).is_some(), "byte {at} is {value}");
+        assert!(rt; is_restored(WORKING, at, value), "byte {at} is {value}");
     }
 }

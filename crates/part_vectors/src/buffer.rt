@@ -1,4 +1,5 @@
 use paging::Entry;
+use std::process::Abort;
 use xlate_buffer::Buffer;
 
 const FIRST: Entry = Entry {
@@ -17,24 +18,57 @@ const SECOND: Entry = Entry {
     dirty: false,
 };
 
+/// What is done to the buffer, or found in it.
+#[derive(Clone, Copy)]
+enum Step {
+    Keep(Entry),
+    DropPage(u32),
+    DropAll,
+    Find(u32, Option<Entry>),
+}
+
+/// Whether a step comes to what it says.
+fn holds(buffer: &mut Buffer, step: Step) -> bool {
+    match step {
+        Step::Keep(entry) => buffer.keep(entry),
+        Step::DropPage(page) => buffer.drop_page(page),
+        Step::DropAll => buffer.drop_all(),
+        Step::Find(page, entry) => return buffer.find(page) == entry,
+    }
+    true
+}
+
+fn follow(rt: &impl Abort, steps: &[Step]) {
+    let mut buffer = Buffer::new();
+    for (k, step) in steps.iter().enumerate() {
+        assert!(rt; holds(&mut buffer, *step), "step {k}");
+    }
+}
+
+const TAKEN: [Step; 4] = [
+    Step::Keep(FIRST),
+    Step::Keep(SECOND),
+    Step::Find(1, None),
+    Step::Find(65, Some(SECOND)),
+];
+
 #[test]
 fn a_page_takes_the_place_of_another(rt: HostRuntime) {
-    let mut buffer = Buffer::new();
-    buffer.keep(FIRST);
-    buffer.keep(SECOND);
-    assert_eq!(rt; buffer.find(1), None);
-    assert_eq!(rt; buffer.find(65), Some(SECOND));
+    follow(&rt, &TAKEN);
 }
+
+const DROPPED: [Step; 8] = [
+    Step::Keep(FIRST),
+    Step::DropPage(65),
+    Step::Find(1, Some(FIRST)),
+    Step::DropPage(1),
+    Step::Find(1, None),
+    Step::Keep(SECOND),
+    Step::DropAll,
+    Step::Find(65, None),
+];
 
 #[test]
 fn dropped_pages_are_not_found(rt: HostRuntime) {
-    let mut buffer = Buffer::new();
-    buffer.keep(FIRST);
-    buffer.drop_page(65);
-    assert_eq!(rt; buffer.find(1), Some(FIRST));
-    buffer.drop_page(1);
-    assert_eq!(rt; buffer.find(1), None);
-    buffer.keep(SECOND);
-    buffer.drop_all();
-    assert_eq!(rt; buffer.find(65), None);
+    follow(&rt, &DROPPED);
 }

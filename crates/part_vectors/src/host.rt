@@ -9,6 +9,7 @@ use guest_ram::Ram;
 use host_cpl3::{Exit, Host, Machine, View};
 use ia32_types::{Flags, Regs};
 use std::alloc::{AllocError, Global};
+use std::process::Abort;
 
 const KERNEL: View = View {
     kernel: true,
@@ -88,31 +89,79 @@ fn stays_within_one_walk_and_ends_at_the_budget(rt: HostRuntime) {
     assert_eq!(rt; regs.eip, 0x1000_0000);
 }
 
+/// What is seen behind a run.
+#[derive(Clone, Copy)]
+enum Shown {
+    Register(usize, u32),
+    Eip(u32),
+    Retired(u64),
+    Passed(u64),
+    Word(u32, u32),
+}
+
+fn is_shown(machine: &Machine, regs: &Regs, shown: Shown) -> bool
+    requires { IsSome machine.now.ram }
+{
+    match shown {
+        Shown::Register(k, v) => k < 8 && regs.r[k] == v,
+        Shown::Eip(at) => regs.eip == at,
+        Shown::Retired(n) => machine.retired() == n,
+        Shown::Passed(n) => machine.passed() == n,
+        Shown::Word(at, v) => {
+            let ram = machine.ram();
+            ram.len() == 32768 && at <= 32764 && ram.read32(at) == v
+        }
+    }
+}
+
+/// Runs the code on a new machine, to this exit.
+fn runs(
+    rt: &impl Abort,
+    alloc: Global,
+    code: &[u8],
+    view: &View,
+    esp: u32,
+    budget: u64,
+    exit: Exit,
+    all: &[Shown],
+)
+    requires code { length code.now ≤ 4096 }
+    requires root { view.now.root ≡ 1 }
+{
+    let mut machine = machine(alloc, code).expect(rt, "memory");
+    let mut regs = regs(esp);
+    assert_eq!(rt; machine.resume(view, &mut regs, budget), exit);
+    for (k, shown) in all.iter().enumerate() {
+        assert!(rt; is_shown(&machine, &regs, *shown), "{k}");
+    }
+}
+
+const COMPLETED: [Shown; 4] = [
+    Shown::Register(0, 0x1234_5678),
+    Shown::Eip(0x1000_0011),
+    Shown::Retired(4),
+    Shown::Word(0x5000, 0x1234_5679),
+];
+
 #[test]
 fn completes_what_came_before_an_exit(rt: HostRuntime) {
     let code = b"\x90\xB8\x78\x56\x34\x12\xA3\x00\x00\x00\x11\xFF\x05\x00\x00\x00\x11\xCD\x80";
-    let mut machine = machine(rt.alloc(), code).expect(&rt, "memory");
-    let mut regs = regs(0);
-    assert_eq!(rt; machine.resume(&KERNEL, &mut regs, 9), Exit::Soft(0x80));
-    assert_eq!(rt; regs.r[0], 0x1234_5678);
-    assert_eq!(rt; regs.eip, 0x1000_0011);
-    assert_eq!(rt; machine.retired(), 4);
-    assert_eq!(rt; machine.ram().len(), 32768);
-    assert_eq!(rt; machine.ram().read32(0x5000), 0x1234_5679);
+    let exit = Exit::Soft(0x80);
+    runs(&rt, rt.alloc(), code, &KERNEL, 0, 9, exit, &COMPLETED);
 }
+
+const LEFT: [Shown; 3] = [
+    Shown::Eip(0x04F4_F4F9),
+    Shown::Retired(1),
+    Shown::Passed(0x1000_0000),
+];
 
 // A jump into the wedge window isn't counted, and the exit has the registers there.
 #[test]
 fn leaves_at_the_wedge_window(rt: HostRuntime) {
-    let mut machine = machine(rt.alloc(), b"\x90\xE9\xF3\xF4\xF4\xF4").expect(&rt, "memory");
-    let mut regs = regs(0);
-    assert_eq!(rt;
-        machine.resume(&KERNEL, &mut regs, 5),
-        Exit::Entry(0x04F4_F4F9)
-    );
-    assert_eq!(rt; regs.eip, 0x04F4_F4F9);
-    assert_eq!(rt; machine.retired(), 1);
-    assert_eq!(rt; machine.passed(), 0x1000_0000);
+    let code = b"\x90\xE9\xF3\xF4\xF4\xF4";
+    let exit = Exit::Entry(0x04F4_F4F9);
+    runs(&rt, rt.alloc(), code, &KERNEL, 0, 5, exit, &LEFT);
 }
 
 macro_rules! fault {
@@ -165,20 +214,28 @@ fn exits_where_an_instruction_cannot_be_done(rt: HostRuntime) {
     }
 }
 
+const SELECTORS: [Shown; 2] = [Shown::Register(0, 0x23), Shown::Word(0x500C, 0x23)];
+
 // Selectors are the view's, and a null segment denies an access.
 #[test]
 fn shows_the_selectors_of_the_view(rt: HostRuntime) {
-    let mut machine = machine(rt.alloc(), b"\x8C\xD8\x16\xAA").expect(&rt, "memory");
+    let code = b"\x8C\xD8\x16\xAA";
     let view = View {
         kernel: false,
         es_null: true,
         ..KERNEL
     };
-    let mut regs = regs(0x1100_0010);
-    assert_eq!(rt; machine.resume(&view, &mut regs, 9), fault!(13, 0, 0));
-    assert_eq!(rt; regs.r[0], 0x23);
-    assert_eq!(rt; machine.ram().len(), 32768);
-    assert_eq!(rt; machine.ram().read32(0x500C), 0x23);
+    let exit = fault!(13, 0, 0);
+    runs(
+        &rt,
+        rt.alloc(),
+        code,
+        &view,
+        0x1100_0010,
+        9,
+        exit,
+        &SELECTORS,
+    );
 }
 
 // The third instruction reads through the table word that the second one wrote.

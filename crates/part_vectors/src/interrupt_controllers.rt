@@ -1,5 +1,6 @@
 use ia32_types::Did;
 use pic8259::Pics;
+use std::process::Abort;
 
 const MASTER: u16 = 0x20;
 
@@ -9,16 +10,14 @@ const SLAVE: u16 = 0xA0;
 
 const SLAVE_DATA: u16 = 0xA1;
 
-/// Both, started with the vector bases 0x20 and 0x28.
-fn started() -> Pics {
-    let mut pics = Pics::new();
-    let _ = pics.write(MASTER, 0x11);
-    let _ = pics.write(SLAVE, 0x11);
-    for (master, slave) in [(0x20, 0x28), (4, 2), (1, 1)] {
-        let _ = pics.write(MASTER_DATA, master);
-        let _ = pics.write(SLAVE_DATA, slave);
-    }
-    pics
+/// What is done to both, and what it comes to.
+#[derive(Clone, Copy)]
+enum Step {
+    Edge(u8),
+    Write(u16, u8, Did),
+    Read(u16, u8),
+    Pending(Option<u8>),
+    Taken(Option<u8>),
 }
 
 /// Acknowledges what is pending.
@@ -27,60 +26,119 @@ fn taken(pics: &mut Pics) -> Option<u8> {
     Some(pics.acknowledge())
 }
 
+/// Whether a step comes to what it says.
+fn holds(pics: &mut Pics, step: Step) -> bool {
+    match step {
+        Step::Edge(line) => {
+            if line >= 16 || line == 2 {
+                return false;
+            }
+            pics.edge(line);
+            true
+        }
+        Step::Write(port, v, did) => pics.write(port, v) == did,
+        Step::Read(port, v) => pics.read(port) == v,
+        Step::Pending(vector) => pics.pending() == vector,
+        Step::Taken(vector) => taken(pics) == vector,
+    }
+}
+
+fn follow(rt: &impl Abort, pics: &mut Pics, steps: &[Step]) {
+    for (k, step) in steps.iter().enumerate() {
+        assert!(rt; holds(pics, *step), "step {k}");
+    }
+}
+
+const STARTS: [(u16, u8); 8] = [
+    (MASTER, 0x11),
+    (SLAVE, 0x11),
+    (MASTER_DATA, 0x20),
+    (SLAVE_DATA, 0x28),
+    (MASTER_DATA, 4),
+    (SLAVE_DATA, 2),
+    (MASTER_DATA, 1),
+    (SLAVE_DATA, 1),
+];
+
+/// Both, started with the vector bases 0x20 and 0x28.
+fn started() -> Pics {
+    let mut pics = Pics::new();
+    for row in &STARTS {
+        let (port, v) = *row;
+        let _ = pics.write(port, v);
+    }
+    pics
+}
+
+const BEFORE_THE_START: [Step; 21] = [
+    Step::Read(MASTER_DATA, 0xFF),
+    Step::Edge(4),
+    Step::Read(MASTER, 0x10),
+    Step::Pending(None),
+    Step::Write(MASTER, 0x10, Did::Stop),
+    Step::Write(MASTER, 0x13, Did::Stop),
+    Step::Write(MASTER, 0x15, Did::Stop),
+    Step::Write(MASTER, 0x40, Did::Stop),
+    Step::Write(MASTER, 0x68, Did::Stop),
+    Step::Write(MASTER, 0x08, Did::Stop),
+    Step::Write(MASTER, 0x0C, Did::Stop),
+    Step::Write(MASTER, 0x11, Did::Done),
+    Step::Read(MASTER, 0),
+    Step::Write(MASTER_DATA, 0x27, Did::Done),
+    Step::Write(MASTER_DATA, 5, Did::Stop),
+    Step::Write(MASTER_DATA, 4, Did::Done),
+    Step::Write(MASTER_DATA, 3, Did::Stop),
+    Step::Edge(4),
+    Step::Pending(None),
+    Step::Write(MASTER_DATA, 1, Did::Done),
+    Step::Pending(Some(0x24)),
+];
+
 #[test]
 fn nothing_is_raised_before_the_start(rt: HostRuntime) {
-    let mut pics = Pics::new();
-    assert_eq!(rt; pics.read(MASTER_DATA), 0xFF);
-    pics.edge(4);
-    assert_eq!(rt; pics.read(MASTER), 0x10);
-    assert_eq!(rt; pics.pending(), None);
-    for v in [0x10, 0x13, 0x15, 0x40, 0x68, 0x08, 0x0C] {
-        assert_eq!(rt; pics.write(MASTER, v), Did::Stop, "byte {v}");
-    }
-    assert_eq!(rt; pics.write(MASTER, 0x11), Did::Done);
-    assert_eq!(rt; pics.read(MASTER), 0);
-    assert_eq!(rt; pics.write(MASTER_DATA, 0x27), Did::Done);
-    assert_eq!(rt; pics.write(MASTER_DATA, 5), Did::Stop);
-    assert_eq!(rt; pics.write(MASTER_DATA, 4), Did::Done);
-    assert_eq!(rt; pics.write(MASTER_DATA, 3), Did::Stop);
-    pics.edge(4);
-    assert_eq!(rt; pics.pending(), None);
-    assert_eq!(rt; pics.write(MASTER_DATA, 1), Did::Done);
-    assert_eq!(rt; pics.pending(), Some(0x24));
+    follow(&rt, &mut Pics::new(), &BEFORE_THE_START);
 }
+
+const BOTH: [Step; 16] = [
+    Step::Edge(12),
+    Step::Read(MASTER, 4),
+    Step::Taken(Some(0x2C)),
+    Step::Write(MASTER, 0x0B, Did::Done),
+    Step::Write(SLAVE, 0x0B, Did::Done),
+    Step::Read(MASTER, 4),
+    Step::Read(SLAVE, 0x10),
+    Step::Edge(14),
+    Step::Edge(5),
+    Step::Pending(None),
+    Step::Write(SLAVE, 0x64, Did::Done),
+    Step::Pending(None),
+    Step::Write(MASTER, 0x62, Did::Done),
+    Step::Read(MASTER, 0),
+    Step::Read(SLAVE, 0),
+    Step::Taken(Some(0x2E)),
+];
 
 #[test]
 fn a_line_of_the_slave_is_taken_and_ended_at_both(rt: HostRuntime) {
-    let mut pics = started();
-    pics.edge(12);
-    assert_eq!(rt; pics.read(MASTER), 4);
-    assert_eq!(rt; taken(&mut pics), Some(0x2C));
-    assert_eq!(rt; pics.write(MASTER, 0x0B), Did::Done);
-    assert_eq!(rt; pics.write(SLAVE, 0x0B), Did::Done);
-    assert_eq!(rt; (pics.read(MASTER), pics.read(SLAVE)), (4, 0x10));
-    pics.edge(14);
-    pics.edge(5);
-    assert_eq!(rt; pics.pending(), None);
-    assert_eq!(rt; pics.write(SLAVE, 0x64), Did::Done);
-    assert_eq!(rt; pics.pending(), None);
-    assert_eq!(rt; pics.write(MASTER, 0x62), Did::Done);
-    assert_eq!(rt; (pics.read(MASTER), pics.read(SLAVE)), (0, 0));
-    assert_eq!(rt; taken(&mut pics), Some(0x2E));
+    follow(&rt, &mut started(), &BOTH);
 }
+
+const LEVELS: [Step; 12] = [
+    Step::Edge(7),
+    Step::Edge(3),
+    Step::Edge(1),
+    Step::Write(MASTER_DATA, 2, Did::Done),
+    Step::Taken(Some(0x23)),
+    Step::Pending(None),
+    Step::Write(MASTER_DATA, 0, Did::Done),
+    Step::Taken(Some(0x21)),
+    Step::Write(MASTER, 0x20, Did::Done),
+    Step::Pending(None),
+    Step::Write(MASTER, 0x20, Did::Done),
+    Step::Taken(Some(0x27)),
+];
 
 #[test]
 fn the_highest_unmasked_level_comes_first(rt: HostRuntime) {
-    let mut pics = started();
-    for line in [7, 3, 1] {
-        pics.edge(line);
-    }
-    assert_eq!(rt; pics.write(MASTER_DATA, 2), Did::Done);
-    assert_eq!(rt; taken(&mut pics), Some(0x23));
-    assert_eq!(rt; pics.pending(), None);
-    assert_eq!(rt; pics.write(MASTER_DATA, 0), Did::Done);
-    assert_eq!(rt; taken(&mut pics), Some(0x21));
-    assert_eq!(rt; pics.write(MASTER, 0x20), Did::Done);
-    assert_eq!(rt; pics.pending(), None);
-    assert_eq!(rt; pics.write(MASTER, 0x20), Did::Done);
-    assert_eq!(rt; taken(&mut pics), Some(0x27));
+    follow(&rt, &mut started(), &LEVELS);
 }

@@ -124,19 +124,71 @@ fn seen(bench: &Bench) -> (Option<Entry>, bool)
     )
 }
 
+/// What is done, or what is kept for the page and whether it may be written.
+#[derive(Clone, Copy)]
+enum Step {
+    Fill(u32),
+    Note(u32),
+    Go(u32),
+    Written(u32),
+    Keeps(u32),
+    MayWrite(bool),
+}
+
+fn did(rt: &impl Abort, bench: Bench, step: Step) -> Bench
+    requires stands { ∥ IsRoots (pairs_of bench.roots) bench.ram ∥₁ }
+    requires owns { Owns bench.pool bench.ram (frames_of (pairs_of bench.roots) bench.ram) }
+    ensures stands { ∥ IsRoots (pairs_of result.roots) result.ram ∥₁ }
+    ensures owns { Owns result.pool result.ram (frames_of (pairs_of result.roots) result.ram) }
+{
+    match step {
+        Step::Fill(frame) => fill(rt, bench, frame),
+        Step::Note(frame) => note(rt, bench, frame),
+        Step::Go(cr3) => go(rt, bench, cr3),
+        Step::Written(frame) => written(bench, frame),
+        Step::Keeps(frame) => {
+            assert_eq!(rt; seen(&bench).0, Some(entry(frame)));
+            bench
+        }
+        Step::MayWrite(may) => {
+            assert_eq!(rt; seen(&bench).1, may);
+            bench
+        }
+    }
+}
+
+fn follow(rt: &impl Abort, bench: Bench, steps: &[Step]) -> Bench
+    requires stands { ∥ IsRoots (pairs_of bench.roots) bench.ram ∥₁ }
+    requires owns { Owns bench.pool bench.ram (frames_of (pairs_of bench.roots) bench.ram) }
+    ensures stands { ∥ IsRoots (pairs_of result.roots) result.ram ∥₁ }
+    ensures owns { Owns result.pool result.ram (frames_of (pairs_of result.roots) result.ram) }
+{
+    let mut bench = bench;
+    for row in steps {
+        bench = did(rt, bench, *row);
+    }
+    bench
+}
+
+const BACK: [Step; 11] = [
+    Step::Fill(0x20),
+    Step::Note(0x14),
+    Step::Go(0x30000),
+    Step::MayWrite(false),
+    Step::Go(0x1000),
+    Step::MayWrite(true),
+    Step::Written(0x14),
+    Step::MayWrite(true),
+    Step::Go(0x30000),
+    Step::Go(0x1000),
+    Step::MayWrite(false),
+];
+
 // An entry comes back with its value of CR3, unless a frame that its tables were read from was written.
 #[test]
 fn brings_entries_back_until_a_table_is_written(rt: HostRuntime) {
-    let bench = fill(&rt, begin(&rt, rt.alloc()), 0x20);
-    let bench = note(&rt, bench, 0x14);
-    let bench = go(&rt, bench, 0x30000);
-    assert!(rt; !seen(&bench).1);
-    let bench = go(&rt, bench, 0x1000);
-    assert!(rt; seen(&bench).1);
-    let bench = written(bench, 0x14);
-    assert!(rt; seen(&bench).1);
-    let bench = go(&rt, go(&rt, bench, 0x30000), 0x1000);
-    assert!(rt; !seen(&bench).1);
+    let bench = begin(&rt, rt.alloc());
+    let _ = follow(&rt, bench, &BACK);
 }
 
 // A ninth value takes the place of the first, and an eighth does not. Eight pairs hold 16 frames and a table.
@@ -153,20 +205,27 @@ fn keeps_eight_values(rt: HostRuntime) {
     }
 }
 
+const BARRED: [Step; 13] = [
+    Step::Fill(0x14),
+    Step::MayWrite(true),
+    Step::Go(0x30000),
+    Step::Note(0x14),
+    Step::Fill(0x14),
+    Step::Keeps(0x14),
+    Step::MayWrite(false),
+    Step::Go(0x1000),
+    Step::Keeps(0x14),
+    Step::MayWrite(false),
+    Step::Written(0x14),
+    Step::Fill(0x14),
+    Step::MayWrite(true),
+];
+
 // No page of a frame that any pair reads as a table is writable.
 #[test]
 fn bars_writes_to_tables_of_all_pairs(rt: HostRuntime) {
-    let bench = fill(&rt, begin(&rt, rt.alloc()), 0x14);
-    assert!(rt; seen(&bench).1);
-    let bench = note(&rt, go(&rt, bench, 0x30000), 0x14);
-    let bench = fill(&rt, bench, 0x14);
-    assert_eq!(rt; seen(&bench).0, Some(entry(0x14)));
-    assert!(rt; !seen(&bench).1);
-    let bench = go(&rt, bench, 0x1000);
-    assert_eq!(rt; seen(&bench).0, Some(entry(0x14)));
-    assert!(rt; !seen(&bench).1);
-    let bench = fill(&rt, written(bench, 0x14), 0x14);
-    assert!(rt; seen(&bench).1);
+    let bench = begin(&rt, rt.alloc());
+    let _ = follow(&rt, bench, &BARRED);
 }
 
 /// A fill that the present pair's tables don't bar, in a kernel's view.

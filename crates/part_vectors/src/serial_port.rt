@@ -1,5 +1,36 @@
 use ia32_types::Did;
+use std::process::Abort;
 use uart16550::Uart;
+
+/// What is done to the port, and what it comes to.
+#[derive(Clone, Copy)]
+enum Step {
+    Receive(u8),
+    Write(u16, u8, Did),
+    Read(u16, u8),
+    Line(bool),
+}
+
+/// Whether a step comes to what it says.
+fn holds(uart: &mut Uart, step: Step) -> bool {
+    match step {
+        Step::Receive(v) => {
+            uart.receive(v);
+            true
+        }
+        Step::Write(port, v, did) => uart.write(port, v) == did,
+        Step::Read(port, v) => uart.read(port) == v,
+        Step::Line(on) => uart.line() == on,
+    }
+}
+
+fn follow(rt: &impl Abort, uart: &mut Uart, steps: &[Step]) {
+    for (k, step) in steps.iter().enumerate() {
+        assert!(rt; holds(uart, *step), "step {k}");
+    }
+}
+
+const NO_MORE: [Step; 2] = [Step::Read(0x3FD, 0x60), Step::Read(0x3F8, 0)];
 
 #[test]
 fn receiver_keeps_sixteen_bytes_and_loses_the_seventeenth(rt: HostRuntime) {
@@ -8,33 +39,42 @@ fn receiver_keeps_sixteen_bytes_and_loses_the_seventeenth(rt: HostRuntime) {
         uart.receive(v);
     }
     for v in 0x41..0x51 {
-        assert_eq!(rt; uart.read(0x3FD), 0x61, "before {v}");
-        assert_eq!(rt; uart.read(0x3F8), v);
+        let received = [Step::Read(0x3FD, 0x61), Step::Read(0x3F8, v)];
+        follow(&rt, &mut uart, &received);
     }
-    assert_eq!(rt; uart.read(0x3FD), 0x60);
-    assert_eq!(rt; uart.read(0x3F8), 0);
+    follow(&rt, &mut uart, &NO_MORE);
 }
+
+const REGISTERS: [Step; 25] = [
+    Step::Write(0x3F8, 0x48, Did::Sent(0x48)),
+    Step::Write(0x3F9, 2, Did::Stop),
+    Step::Write(0x3FC, 0x10, Did::Stop),
+    // the divisor latch
+    Step::Write(0x3FB, 0x83, Did::Done),
+    Step::Write(0x3F8, 0x0C, Did::Done),
+    Step::Write(0x3F9, 0x55, Did::Done),
+    Step::Read(0x3F8, 0x0C),
+    Step::Read(0x3F9, 0x55),
+    Step::Write(0x3FB, 3, Did::Done),
+    Step::Read(0x3F8, 0),
+    Step::Read(0x3F9, 0),
+    Step::Write(0x3F9, 1, Did::Done),
+    Step::Read(0x3FA, 1),
+    Step::Line(false),
+    Step::Receive(0x41),
+    Step::Read(0x3FA, 4),
+    Step::Line(true),
+    Step::Write(0x3FA, 2, Did::Done),
+    Step::Read(0x3FD, 0x60),
+    Step::Line(false),
+    Step::Write(0x3FC, 0xEF, Did::Done),
+    Step::Write(0x3FF, 0x5A, Did::Done),
+    Step::Read(0x3FC, 0x0F),
+    Step::Read(0x3FE, 0xB0),
+    Step::Read(0x3FF, 0x5A),
+];
 
 #[test]
 fn registers_are_kept_shown_and_refused(rt: HostRuntime) {
-    let mut uart = Uart::new();
-    assert_eq!(rt; uart.write(0x3F8, 0x48), Did::Sent(0x48));
-    assert_eq!(rt; uart.write(0x3F9, 2), Did::Stop);
-    assert_eq!(rt; uart.write(0x3FC, 0x10), Did::Stop);
-    assert_eq!(rt; uart.write(0x3FB, 0x83), Did::Done);
-    assert_eq!(rt; uart.write(0x3F8, 0x0C), Did::Done);
-    assert_eq!(rt; uart.write(0x3F9, 0x55), Did::Done);
-    assert_eq!(rt; (uart.read(0x3F8), uart.read(0x3F9)), (0x0C, 0x55));
-    assert_eq!(rt; uart.write(0x3FB, 3), Did::Done);
-    assert_eq!(rt; (uart.read(0x3F8), uart.read(0x3F9)), (0, 0));
-    assert_eq!(rt; uart.write(0x3F9, 1), Did::Done);
-    assert_eq!(rt; (uart.read(0x3FA), uart.line()), (1, false));
-    uart.receive(0x41);
-    assert_eq!(rt; (uart.read(0x3FA), uart.line()), (4, true));
-    assert_eq!(rt; uart.write(0x3FA, 2), Did::Done);
-    assert_eq!(rt; (uart.read(0x3FD), uart.line()), (0x60, false));
-    assert_eq!(rt; uart.write(0x3FC, 0xEF), Did::Done);
-    assert_eq!(rt; uart.write(0x3FF, 0x5A), Did::Done);
-    let shown = (uart.read(0x3FC), uart.read(0x3FE), uart.read(0x3FF));
-    assert_eq!(rt; shown, (0x0F, 0xB0, 0x5A));
+    follow(&rt, &mut Uart::new(), &REGISTERS);
 }

@@ -2,12 +2,15 @@
 
 ghost use Rattle.std.specs.Prelude.{◌≡◌, ◌<◌, ◌≤◌, ◌^◌, length};
 ghost use Rattle.shadow_tables.specs.Calls.{IsFit};
-ghost use Rattle.shadow_tables.specs.Slots.{IsShadow};
+ghost use Rattle.shadow_tables.specs.Slots.{held, IsShadow};
+ghost use Rattle.frame_pool.specs.Held.{Owns};
 
 use frame_pool::Pool;
 use guest_ram::Ram;
 use paging::Entry;
 use shadow_tables::{Call, Shadow, Shadows, Side, replay};
+use std::alloc::Global;
+use std::process::Abort;
 
 fn entry(frame: u32, write: bool, dirty: bool) -> Entry
     ensures page { result.page ≡ 69632 }
@@ -22,40 +25,143 @@ fn entry(frame: u32, write: bool, dirty: bool) -> Entry
     }
 }
 
+#[derive(Drop)]
+struct Bench {
+    ram: Ram,
+    pool: Pool,
+    shadow: Shadow,
+}
+
+/// An empty shadow over a pool of 12 frames.
+fn begin(rt: &impl Abort, alloc: Global) -> Bench
+    ensures shadow { IsShadow result.shadow result.ram }
+    ensures owns { Owns result.pool result.ram (held result.shadow result.ram) }
+{
+    let mut ram = Ram::new(alloc, 16).expect(rt, "memory");
+    assert_eq!(rt; ram.len(), 65536);
+    let mut pool = Pool::new(&mut ram, 4, 12);
+    let shadow = Shadow::new(&mut ram, &mut pool);
+    Bench { ram, pool, shadow }
+}
+
+/// What is done, or seen: a fill has a frame, and whether its entry has the rights to write and dirty.
+#[derive(Clone, Copy)]
+enum Step {
+    Fill(Side, u32, bool, bool, bool),
+    DropAll,
+    Adequate(Side, bool, bool),
+    Keeps(u32),
+    KeepsNone,
+    Free(u32),
+}
+
+fn fill(rt: &impl Abort, bench: Bench, side: Side, entry: Entry, wp: bool) -> Bench
+    requires shadow { IsShadow bench.shadow bench.ram }
+    requires owns { Owns bench.pool bench.ram (held bench.shadow bench.ram) }
+    ensures shadow { IsShadow result.shadow result.ram }
+    ensures owns { Owns result.pool result.ram (held result.shadow result.ram) }
+{
+    let Bench {
+        mut ram,
+        mut pool,
+        mut shadow,
+    } = bench;
+    assert!(rt; pool.free() >= 1);
+    assert!(rt; entry.page < 0x10_0000 && entry.frame < 0x10_0000);
+    shadow.fill(&mut ram, &mut pool, side, entry, wp);
+    Bench { ram, pool, shadow }
+}
+
+fn emptied(bench: Bench) -> Bench
+    requires shadow { IsShadow bench.shadow bench.ram }
+    requires owns { Owns bench.pool bench.ram (held bench.shadow bench.ram) }
+    ensures shadow { IsShadow result.shadow result.ram }
+    ensures owns { Owns result.pool result.ram (held result.shadow result.ram) }
+{
+    let Bench {
+        mut ram,
+        mut pool,
+        mut shadow,
+    } = bench;
+    shadow.drop_all(&mut ram, &mut pool);
+    Bench { ram, pool, shadow }
+}
+
+fn did(rt: &impl Abort, bench: Bench, step: Step) -> Bench
+    requires shadow { IsShadow bench.shadow bench.ram }
+    requires owns { Owns bench.pool bench.ram (held bench.shadow bench.ram) }
+    ensures shadow { IsShadow result.shadow result.ram }
+    ensures owns { Owns result.pool result.ram (held result.shadow result.ram) }
+{
+    match step {
+        Step::Fill(side, frame, write, dirty, wp) => {
+            fill(rt, bench, side, entry(frame, write, dirty), wp)
+        }
+        Step::DropAll => emptied(bench),
+        Step::Adequate(side, write, want) => {
+            assert_eq!(rt;
+                bench.shadow.adequate(&bench.ram, side, 0x11000, write),
+                want
+            );
+            bench
+        }
+        Step::Keeps(frame) => {
+            assert_eq!(rt;
+                bench.shadow.kept(&bench.ram, 0x11000),
+                Some(entry(frame, true, true))
+            );
+            bench
+        }
+        Step::KeepsNone => {
+            assert_eq!(rt; bench.shadow.kept(&bench.ram, 0x11000), None);
+            bench
+        }
+        Step::Free(frames) => {
+            assert_eq!(rt; bench.pool.free(), frames);
+            bench
+        }
+    }
+}
+
+fn do_all(rt: &impl Abort, bench: Bench, steps: &[Step]) -> Bench
+    requires shadow { IsShadow bench.shadow bench.ram }
+    requires owns { Owns bench.pool bench.ram (held bench.shadow bench.ram) }
+    ensures shadow { IsShadow result.shadow result.ram }
+    ensures owns { Owns result.pool result.ram (held result.shadow result.ram) }
+{
+    let mut bench = bench;
+    for row in steps {
+        bench = did(rt, bench, *row);
+    }
+    bench
+}
+
+const VIEWS: [Step; 17] = [
+    Step::Free(10),
+    Step::Fill(Side::Kernel, 3, true, false, true),
+    Step::Adequate(Side::Kernel, true, false),
+    Step::Adequate(Side::Kernel, false, true),
+    Step::Free(9),
+    Step::Fill(Side::User, 2, true, true, true),
+    Step::Adequate(Side::Kernel, false, false),
+    Step::Adequate(Side::User, true, true),
+    Step::Keeps(2),
+    Step::Free(8),
+    Step::Fill(Side::Kernel, 1, false, true, false),
+    Step::Adequate(Side::Kernel, true, true),
+    Step::Fill(Side::Kernel, 1, false, true, true),
+    Step::Adequate(Side::Kernel, true, false),
+    Step::DropAll,
+    Step::KeepsNone,
+    Step::Free(10),
+];
+
 // An entry without dirty lets no write pass. A fill on the other side takes the page away from the first. The kernel
 // writes where the entry is not writable exactly if `wp` is false.
 #[test]
 fn holds_a_page_in_one_view(rt: HostRuntime) {
-    let mut ram = Ram::new(rt.alloc(), 16).expect(&rt, "memory");
-    assert_eq!(rt; ram.len(), 65536);
-    let mut pool = Pool::new(&mut ram, 4, 12);
-    let mut shadow = Shadow::new(&mut ram, &mut pool);
-    assert_eq!(rt; pool.free(), 10);
-    shadow.fill(
-        &mut ram,
-        &mut pool,
-        Side::Kernel,
-        entry(3, true, false),
-        true,
-    );
-    assert_eq!(rt; shadow.adequate(&ram, Side::Kernel, 0x11000, true), false);
-    assert_eq!(rt; shadow.adequate(&ram, Side::Kernel, 0x11000, false), true);
-    assert_eq!(rt; pool.free(), 9);
-    shadow.fill(&mut ram, &mut pool, Side::User, entry(2, true, true), true);
-    assert_eq!(rt; shadow.adequate(&ram, Side::Kernel, 0x11000, false), false);
-    assert_eq!(rt; shadow.adequate(&ram, Side::User, 0x11000, true), true);
-    assert_eq!(rt; shadow.kept(&ram, 0x11000), Some(entry(2, true, true)));
-    assert_eq!(rt; pool.free(), 8);
-    for wp in [false, true] {
-        if pool.free() == 0 {
-            return;
-        }
-        shadow.fill(&mut ram, &mut pool, Side::Kernel, entry(1, false, true), wp);
-        assert_eq!(rt; shadow.adequate(&ram, Side::Kernel, 0x11000, true), !wp);
-    }
-    shadow.drop_all(&mut ram, &mut pool);
-    assert_eq!(rt; shadow.kept(&ram, 0x11000), None);
-    assert_eq!(rt; pool.free(), 10);
+    let bench = begin(&rt, rt.alloc());
+    let _ = do_all(&rt, bench, &VIEWS);
 }
 
 // What a plain map keeps for a page.

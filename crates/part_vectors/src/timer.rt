@@ -1,9 +1,6 @@
 use ia32_types::Did;
 use pit8254::Pit;
-
-fn control(pit: &mut Pit, v: u8) -> Did {
-    pit.write(0x43, v)
-}
+use std::process::Abort;
 
 fn count(pit: &mut Pit, low: u8, high: u8) -> (Did, Did) {
     (pit.write(0x40, low), pit.write(0x40, high))
@@ -23,7 +20,7 @@ fn a_count_is_eight_steps_a_tick(rt: HostRuntime) {
     for row in &COUNTS {
         let (mode, low, high, steps) = *row;
         let mut pit = Pit::new();
-        assert_eq!(rt; control(&mut pit, mode), Did::Done);
+        assert_eq!(rt; pit.write(0x43, mode), Did::Done);
         assert_eq!(rt; pit.left(), None);
         assert_eq!(rt; count(&mut pit, low, high), (Did::Done, Did::Done));
         assert_eq!(rt; pit.left(), Some(steps), "after {low} and {high}");
@@ -33,30 +30,65 @@ fn a_count_is_eight_steps_a_tick(rt: HostRuntime) {
     }
 }
 
+/// What is done to the timer, and what it comes to.
+#[derive(Clone, Copy)]
+enum Step {
+    Write(u16, u8, Did),
+    Left(Option<u64>),
+    Pass(u64, bool),
+}
+
+/// Whether a step comes to what it says.
+fn holds(pit: &mut Pit, step: Step) -> bool {
+    match step {
+        Step::Write(port, v, did) => pit.write(port, v) == did,
+        Step::Left(steps) => pit.left() == steps,
+        Step::Pass(k, edge) => pit.pass(k) == edge,
+    }
+}
+
+fn follow(rt: &impl Abort, steps: &[Step]) {
+    let mut pit = Pit::new();
+    for (k, step) in steps.iter().enumerate() {
+        assert!(rt; holds(&mut pit, *step), "step {k}");
+    }
+}
+
+const NEW_COUNT: [Step; 12] = [
+    Step::Write(0x43, 0x34, Did::Done),
+    Step::Write(0x40, 2, Did::Done),
+    Step::Write(0x40, 0, Did::Done),
+    Step::Pass(15, false),
+    Step::Write(0x40, 4, Did::Done),
+    Step::Write(0x40, 0, Did::Done),
+    Step::Left(Some(1)),
+    Step::Pass(1, true),
+    Step::Left(Some(32)),
+    Step::Write(0x43, 0x36, Did::Done),
+    Step::Left(None),
+    Step::Pass(0x100_0000_0000, false),
+];
+
 #[test]
 fn a_new_count_waits_for_the_next_edge(rt: HostRuntime) {
-    let mut pit = Pit::new();
-    let _ = control(&mut pit, 0x34);
-    let _ = count(&mut pit, 2, 0);
-    assert!(rt; !pit.pass(15));
-    assert_eq!(rt; count(&mut pit, 4, 0), (Did::Done, Did::Done));
-    assert_eq!(rt; pit.left(), Some(1));
-    assert!(rt; pit.pass(1));
-    assert_eq!(rt; pit.left(), Some(32));
-    assert_eq!(rt; control(&mut pit, 0x36), Did::Done);
-    assert_eq!(rt; pit.left(), None);
-    assert!(rt; !pit.pass(1 << 40));
+    follow(&rt, &NEW_COUNT);
 }
+
+const OTHER_BYTES: [Step; 11] = [
+    Step::Write(0x40, 2, Did::Stop),
+    Step::Write(0x43, 0x30, Did::Stop),
+    Step::Write(0x43, 0x32, Did::Stop),
+    Step::Write(0x43, 0x35, Did::Stop),
+    Step::Write(0x43, 0x74, Did::Stop),
+    Step::Write(0x43, 0x00, Did::Stop),
+    Step::Write(0x43, 0x34, Did::Done),
+    Step::Write(0x40, 1, Did::Done),
+    Step::Write(0x40, 0, Did::Stop),
+    Step::Write(0x40, 1, Did::Done),
+    Step::Left(Some(8 * 0x101)),
+];
 
 #[test]
 fn other_bytes_stop(rt: HostRuntime) {
-    let mut pit = Pit::new();
-    assert_eq!(rt; pit.write(0x40, 2), Did::Stop);
-    for mode in [0x30, 0x32, 0x35, 0x74, 0x00] {
-        assert_eq!(rt; control(&mut pit, mode), Did::Stop, "control {mode}");
-    }
-    let _ = control(&mut pit, 0x34);
-    assert_eq!(rt; count(&mut pit, 1, 0), (Did::Done, Did::Stop));
-    assert_eq!(rt; pit.write(0x40, 1), Did::Done);
-    assert_eq!(rt; pit.left(), Some(8 * 0x101));
+    follow(&rt, &OTHER_BYTES);
 }

@@ -1,9 +1,8 @@
 //! MOV to and from the control registers, bit by bit.
 
-use crate::world::{Case, NONE, Seen, cpu_at, past, refused, run, with, with_flags};
+use crate::world::{Case, NONE, comes_out, cpu_at, past, refused, with, with_flags};
 use descriptors::Cpu;
 use ia32_types::Stop;
-use std::test::Fail;
 use sys_exec::SysEffect;
 
 const STOP: SysEffect = SysEffect::Stop(Stop::ControlBits);
@@ -129,27 +128,18 @@ fn given(number: u8, row: Given) -> Case {
 }
 
 #[test]
-fn control_registers_keep_their_bits(rt: HostRuntime) -> Result<(), Fail> {
+fn control_registers_keep_their_bits(rt: HostRuntime) {
     let alloc = rt.alloc();
     for (number, rows) in [(0u8, &CR0[..]), (2, &CR2[..]), (3, &CR3[..]), (4, &CR4[..])] {
-        for row in rows {
-            assert_eq!(rt;
-                run(alloc, &given(number, *row))?,
-                Seen::Right,
-                "{number} {row:?}"
-            );
+        for (k, row) in rows.iter().enumerate() {
+            comes_out(&rt, alloc, k, &given(number, *row));
         }
     }
     for bit in 0..32u32 {
         // PSE (4) alone is kept
         let kept = if bit == 4 { Some(0x10) } else { None };
-        assert_eq!(rt;
-            run(alloc, &given(4, (1 << bit, kept)))?,
-            Seen::Right,
-            "CR4 {bit}"
-        );
+        comes_out(&rt, alloc, bit as usize, &given(4, (1 << bit, kept)));
     }
-    Ok(())
 }
 
 /// CR4, what it is given, and what is asked: all translations leave the set where PSE changes, and else none.
@@ -168,17 +158,12 @@ fn switched(cr4: u32, v: u32, effect: SysEffect) -> Case {
 }
 
 #[test]
-fn a_change_of_pse_drops_all(rt: HostRuntime) -> Result<(), Fail> {
+fn a_change_of_pse_drops_all(rt: HostRuntime) {
     let alloc = rt.alloc();
-    for row in &SWITCHES {
+    for (k, row) in SWITCHES.iter().enumerate() {
         let (cr4, v, effect) = *row;
-        assert_eq!(rt;
-            run(alloc, &switched(cr4, v, effect))?,
-            Seen::Right,
-            "{row:?}"
-        );
+        comes_out(&rt, alloc, k, &switched(cr4, v, effect));
     }
-    Ok(())
 }
 
 fn told(number: u8, v: u32) -> Case {
@@ -203,7 +188,7 @@ fn users(bytes: [u8; 8]) -> Case {
 }
 
 #[test]
-fn control_registers_are_told_to_the_kernel_alone(rt: HostRuntime) -> Result<(), Fail> {
+fn control_registers_are_told_to_the_kernel_alone(rt: HostRuntime) {
     let alloc = rt.alloc();
     for (number, v) in [
         (0u8, 0x8001_0011u32),
@@ -211,9 +196,8 @@ fn control_registers_are_told_to_the_kernel_alone(rt: HostRuntime) -> Result<(),
         (3, 0x0000_1000),
         (4, 0),
     ] {
-        assert_eq!(rt; run(alloc, &told(number, v))?, Seen::Right, "{number}");
-        assert_eq!(rt; run(alloc, &users(from(number)))?, Seen::Right, "{number}");
-        assert_eq!(rt; run(alloc, &users(to(number)))?, Seen::Right, "{number}");
+        comes_out(&rt, alloc, usize::from(number), &told(number, v));
+        comes_out(&rt, alloc, usize::from(number), &users(from(number)));
+        comes_out(&rt, alloc, usize::from(number), &users(to(number)));
     }
-    Ok(())
 }

@@ -1,13 +1,12 @@
 //! Deliveries: each test at its first failing place, the frame that is pushed, and the processor in the handler.
 
 use crate::world::{
-    ABSENT, Answer, Case, EIP, IDT, NONE, READ_ONLY, Seen, TASK, What, accessed, cpu_at, run,
+    ABSENT, Answer, Case, EIP, IDT, NONE, READ_ONLY, TASK, What, accessed, comes_out, cpu_at,
     segment,
 };
 use descriptors::Cpu;
 use event_entry::{Kind, NotDelivered};
 use ia32_types::Stop;
-use std::test::Fail;
 use sys_exec::SysEffect;
 
 const FAILED: Result<(), NotDelivered> = Err(NotDelivered::Stop(Stop::DeliveryFailed));
@@ -37,7 +36,7 @@ fn refused(cpl: u8, kind: Kind, code: Option<u32>, answer: Result<(), NotDeliver
 }
 
 // A change before the delivery: a word of memory, or a register that the tests look at.
-#[derive(Clone, Copy, Debug)]
+#[derive(Clone, Copy)]
 enum But {
     Word(u32, u32),
     GateLimit(u16),
@@ -128,16 +127,15 @@ const REFUSED: [Row; 48] = [
 ];
 
 #[test]
-fn deliveries_meet_their_tests(rt: HostRuntime) -> Result<(), Fail> {
+fn deliveries_meet_their_tests(rt: HostRuntime) {
     let alloc = rt.alloc();
-    for row in &REFUSED {
+    for (k, row) in REFUSED.iter().enumerate() {
         let (cpl, but) = *row;
         for kind in [Kind::Raised, Kind::External] {
             let case = changed(refused(cpl, kind, None, FAILED), but);
-            assert_eq!(rt; run(alloc, &case)?, Seen::Right, "{cpl} {but:?}");
+            comes_out(&rt, alloc, k, &case);
         }
     }
-    Ok(())
 }
 
 // In the handler.
@@ -217,12 +215,11 @@ fn soft(row: Soft) -> Case {
 }
 
 #[test]
-fn software_events_are_tested_by_the_gates_level(rt: HostRuntime) -> Result<(), Fail> {
+fn software_events_are_tested_by_the_gates_level(rt: HostRuntime) {
     let alloc = rt.alloc();
-    for row in &SOFT {
-        assert_eq!(rt; run(alloc, &soft(*row))?, Seen::Right, "{row:?}");
+    for (k, row) in SOFT.iter().enumerate() {
+        comes_out(&rt, alloc, k, &soft(*row));
     }
-    Ok(())
 }
 
 // The least that a delivery needs, and where a test is not made.
@@ -238,17 +235,16 @@ const TAKEN: [Row; 8] = [
 ];
 
 #[test]
-fn deliveries_need_no_more(rt: HostRuntime) -> Result<(), Fail> {
+fn deliveries_need_no_more(rt: HostRuntime) {
     let alloc = rt.alloc();
-    for row in &TAKEN {
+    for (k, row) in TAKEN.iter().enumerate() {
         let (cpl, but) = *row;
         let case = taken(
             changed(refused(cpl, Kind::External, None, FAILED), but),
             0x0000_0002,
         );
-        assert_eq!(rt; run(alloc, &case)?, Seen::Right, "{cpl} {but:?}");
+        comes_out(&rt, alloc, k, &case);
     }
-    Ok(())
 }
 
 /// The gate's upper word, the flags before, and the flags in the handler.
@@ -278,20 +274,15 @@ fn entering(row: Entry, cpl: u8, code: Option<u32>) -> Case {
 }
 
 #[test]
-fn frames_are_pushed(rt: HostRuntime) -> Result<(), Fail> {
+fn frames_are_pushed(rt: HostRuntime) {
     let alloc = rt.alloc();
-    for row in &FLAGS {
+    for (k, row) in FLAGS.iter().enumerate() {
         for cpl in [0u8, 3] {
             for code in [None, Some(0x5A5A_0001)] {
-                assert_eq!(rt;
-                    run(alloc, &entering(*row, cpl, code))?,
-                    Seen::Right,
-                    "{row:?} {cpl} {code:?}"
-                );
+                comes_out(&rt, alloc, k, &entering(*row, cpl, code));
             }
         }
     }
-    Ok(())
 }
 
 /// The level, the gate's selector, the inner stack's, and CS in the handler.
@@ -319,12 +310,11 @@ fn marking(row: Marks) -> Case {
 }
 
 #[test]
-fn accessed_bits_are_written(rt: HostRuntime) -> Result<(), Fail> {
+fn accessed_bits_are_written(rt: HostRuntime) {
     let alloc = rt.alloc();
-    for row in &MARKS {
-        assert_eq!(rt; run(alloc, &marking(*row))?, Seen::Right, "{row:?}");
+    for (k, row) in MARKS.iter().enumerate() {
+        comes_out(&rt, alloc, k, &marking(*row));
     }
-    Ok(())
 }
 
 /// The level, the gate's upper word, the gate's selector, the inner stack's, and the flags.
@@ -360,10 +350,9 @@ fn back(row: Round) -> Case {
 }
 
 #[test]
-fn a_return_gives_the_processor_back(rt: HostRuntime) -> Result<(), Fail> {
+fn a_return_gives_the_processor_back(rt: HostRuntime) {
     let alloc = rt.alloc();
-    for row in &ROUNDS {
-        assert_eq!(rt; run(alloc, &back(*row))?, Seen::Right, "{row:?}");
+    for (k, row) in ROUNDS.iter().enumerate() {
+        comes_out(&rt, alloc, k, &back(*row));
     }
-    Ok(())
 }

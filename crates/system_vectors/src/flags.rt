@@ -1,7 +1,6 @@
 //! CLI, STI, HLT and PUSHF, and what holds external interrupts off.
 
-use crate::world::{Case, NONE, Seen, cpu_at, past, refused, run, with, with_flags};
-use std::test::Fail;
+use crate::world::{Case, NONE, comes_out, cpu_at, past, refused, with, with_flags};
 use sys_exec::SysEffect;
 
 const PROTECTION: SysEffect = SysEffect::Raise {
@@ -61,13 +60,12 @@ fn set(row: Row) -> Case {
 }
 
 #[test]
-fn the_interrupt_flag_is_set_by_level(rt: HostRuntime) -> Result<(), Fail> {
+fn the_interrupt_flag_is_set_by_level(rt: HostRuntime) {
     let alloc = rt.alloc();
-    for row in &ROWS {
-        assert_eq!(rt; run(alloc, &cleared(*row))?, Seen::Right, "CLI {row:?}");
-        assert_eq!(rt; run(alloc, &set(*row))?, Seen::Right, "STI {row:?}");
+    for (k, row) in ROWS.iter().enumerate() {
+        comes_out(&rt, alloc, k, &cleared(*row));
+        comes_out(&rt, alloc, k, &set(*row));
     }
-    Ok(())
 }
 
 fn halted() -> Case {
@@ -93,22 +91,17 @@ fn pushed(cpl: u8, flags: u32, at: u32) -> Case {
 }
 
 #[test]
-fn the_kernel_halts_and_flags_are_pushed(rt: HostRuntime) -> Result<(), Fail> {
+fn the_kernel_halts_and_flags_are_pushed(rt: HostRuntime) {
     let alloc = rt.alloc();
-    assert_eq!(rt; run(alloc, &halted())?, Seen::Right);
+    comes_out(&rt, alloc, 0, &halted());
     for flags in [0x0000_0002, 0x0000_3202] {
-        assert_eq!(rt; run(alloc, &not_halted(flags))?, Seen::Right, "{flags}");
+        comes_out(&rt, alloc, 0, &not_halted(flags));
     }
     for (cpl, flags, at) in [
         (0, 0x0000_3ED7, 0x6FFC),
         (3, 0x0000_0202, 0x8FFC),
         (3, 0x0000_3002, 0x8FFC),
     ] {
-        assert_eq!(rt;
-            run(alloc, &pushed(cpl, flags, at))?,
-            Seen::Right,
-            "{cpl} {flags}"
-        );
+        comes_out(&rt, alloc, 0, &pushed(cpl, flags, at));
     }
-    Ok(())
 }

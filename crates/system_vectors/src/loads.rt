@@ -1,19 +1,18 @@
 //! Loads of segment registers and of the task register: each test at its first failing place.
 
 use crate::world::{
-    ABSENT, ALL, Answer, Case, GDT, NONE, READ_ONLY, Seen, What, Words, accessed, cpu_at, null,
-    past, refused, run, segment, with, with_cr2, with_limit, with_segment,
+    ABSENT, ALL, Answer, Case, GDT, NONE, READ_ONLY, What, Words, accessed, comes_out, cpu_at,
+    null, past, refused, segment, with, with_cr2, with_limit, with_segment,
 };
 use descriptors::{Cpu, Task};
 use ia32_types::Stop;
-use std::test::Fail;
 use sys_exec::SysEffect;
 
 /// The level, the limit of the global table, the selector, and what the load comes to.
 type Row = (u8, u16, u16, Load);
 
 /// What a load comes to.
-#[derive(Clone, Copy, Debug, PartialEq, Eq)]
+#[derive(Clone, Copy)]
 pub enum Load {
     /// The register is null.
     Null,
@@ -312,52 +311,40 @@ fn task_loaded() -> Case {
 }
 
 #[test]
-fn data_segments_meet_their_tests(rt: HostRuntime) -> Result<(), Fail> {
+fn data_segments_meet_their_tests(rt: HostRuntime) {
     let alloc = rt.alloc();
-    for row in &DATA {
+    for (k, row) in DATA.iter().enumerate() {
         for place in [0usize, 3] {
-            assert_eq!(rt;
-                run(alloc, &moved(place, *row))?,
-                Seen::Right,
-                "MOV {place} {row:?}"
-            );
-            assert_eq!(rt;
-                run(alloc, &popped(place, *row))?,
-                Seen::Right,
-                "POP {place} {row:?}"
-            );
+            comes_out(&rt, alloc, k, &moved(place, *row));
+            comes_out(&rt, alloc, k, &popped(place, *row));
         }
     }
-    Ok(())
 }
 
 #[test]
-fn stacks_meet_their_tests(rt: HostRuntime) -> Result<(), Fail> {
+fn stacks_meet_their_tests(rt: HostRuntime) {
     let alloc = rt.alloc();
-    for row in &STACK {
-        assert_eq!(rt; run(alloc, &moved(2, *row))?, Seen::Right, "MOV {row:?}");
-        assert_eq!(rt; run(alloc, &popped(2, *row))?, Seen::Right, "POP {row:?}");
+    for (k, row) in STACK.iter().enumerate() {
+        comes_out(&rt, alloc, k, &moved(2, *row));
+        comes_out(&rt, alloc, k, &popped(2, *row));
     }
-    Ok(())
 }
 
 #[test]
-fn far_jumps_meet_their_tests(rt: HostRuntime) -> Result<(), Fail> {
+fn far_jumps_meet_their_tests(rt: HostRuntime) {
     let alloc = rt.alloc();
-    for row in &JUMP {
-        assert_eq!(rt; run(alloc, &jumped(*row))?, Seen::Right, "{row:?}");
+    for (k, row) in JUMP.iter().enumerate() {
+        comes_out(&rt, alloc, k, &jumped(*row));
     }
-    Ok(())
 }
 
 #[test]
-fn tasks_meet_their_tests(rt: HostRuntime) -> Result<(), Fail> {
+fn tasks_meet_their_tests(rt: HostRuntime) {
     let alloc = rt.alloc();
-    for row in &TASKS {
-        assert_eq!(rt; run(alloc, &task_refused(*row))?, Seen::Right, "{row:?}");
+    for (k, row) in TASKS.iter().enumerate() {
+        comes_out(&rt, alloc, k, &task_refused(*row));
     }
-    assert_eq!(rt; run(alloc, &task_loaded())?, Seen::Right);
-    Ok(())
+    comes_out(&rt, alloc, 0, &task_loaded());
 }
 
 /// The level, the table's base, CR0, what MOV of 30 or 43 to ES comes to, and CR2 then.
@@ -430,10 +417,9 @@ fn reached(row: Reach) -> Case {
 }
 
 #[test]
-fn descriptors_are_reached_by_the_supervisor(rt: HostRuntime) -> Result<(), Fail> {
+fn descriptors_are_reached_by_the_supervisor(rt: HostRuntime) {
     let alloc = rt.alloc();
-    for row in &REACHES {
-        assert_eq!(rt; run(alloc, &reached(*row))?, Seen::Right, "{row:?}");
+    for (k, row) in REACHES.iter().enumerate() {
+        comes_out(&rt, alloc, k, &reached(*row));
     }
-    Ok(())
 }

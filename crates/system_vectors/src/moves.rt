@@ -1,10 +1,9 @@
 //! Segment registers that are read and pushed, and loads from memory.
 
 use crate::world::{
-    Case, NONE, OPERAND, Seen, Words, cpu_at, null, past, refused, run, segment, with, with_segment,
+    Case, NONE, OPERAND, Words, comes_out, cpu_at, null, past, refused, segment, with, with_segment,
 };
 use descriptors::Cpu;
-use std::test::Fail;
 use sys_exec::SysEffect;
 
 /// MOV of a segment register to EBX, MOV of it to A002, PUSH of it, and the selector that it has here: ES, CS, SS, DS.
@@ -78,14 +77,13 @@ fn pushed(row: Row) -> Case {
 }
 
 #[test]
-fn selectors_are_told(rt: HostRuntime) -> Result<(), Fail> {
+fn selectors_are_told(rt: HostRuntime) {
     let alloc = rt.alloc();
-    for row in &ROWS {
-        assert_eq!(rt; run(alloc, &to_register(*row))?, Seen::Right, "{row:?}");
-        assert_eq!(rt; run(alloc, &to_memory(*row))?, Seen::Right, "{row:?}");
-        assert_eq!(rt; run(alloc, &pushed(*row))?, Seen::Right, "{row:?}");
+    for (k, row) in ROWS.iter().enumerate() {
+        comes_out(&rt, alloc, k, &to_register(*row));
+        comes_out(&rt, alloc, k, &to_memory(*row));
+        comes_out(&rt, alloc, k, &pushed(*row));
     }
-    Ok(())
 }
 
 // An instruction whose operand in memory goes by DS, which is null.
@@ -134,7 +132,7 @@ fn stack_from_memory(held: bool) -> Case {
 }
 
 #[test]
-fn selectors_are_read_from_memory(rt: HostRuntime) -> Result<(), Fail> {
+fn selectors_are_read_from_memory(rt: HostRuntime) {
     let alloc = rt.alloc();
     // MOV of ES to memory, MOV to ES from memory, LTR of memory
     for bytes in [
@@ -142,15 +140,10 @@ fn selectors_are_read_from_memory(rt: HostRuntime) -> Result<(), Fail> {
         [0x8E, 0x05, 0x00, 0xA0, 0, 0, 0, 0],
         [0x0F, 0x00, 0x1D, 0x00, 0xA0, 0, 0, 0],
     ] {
-        assert_eq!(rt; run(alloc, &through_null(bytes))?, Seen::Right, "{bytes:?}");
+        comes_out(&rt, alloc, 0, &through_null(bytes));
     }
-    assert_eq!(rt; run(alloc, &from_memory())?, Seen::Right);
+    comes_out(&rt, alloc, 0, &from_memory());
     for held in [false, true] {
-        assert_eq!(rt;
-            run(alloc, &stack_from_memory(held))?,
-            Seen::Right,
-            "{held}"
-        );
+        comes_out(&rt, alloc, 0, &stack_from_memory(held));
     }
-    Ok(())
 }

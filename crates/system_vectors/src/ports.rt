@@ -1,7 +1,6 @@
 //! IN and OUT by level, and which port and value they name.
 
-use crate::world::{Case, NONE, Seen, cpu_at, past, refused, run, with, with_flags};
-use std::test::Fail;
+use crate::world::{Case, NONE, comes_out, cpu_at, past, refused, with, with_flags};
 use sys_exec::SysEffect;
 
 /// The bytes, their count, and what is asked where EAX is B1C2D3A0 and DX is A2A2.
@@ -111,16 +110,11 @@ fn asked(row: Row, level: Level) -> Case {
 }
 
 #[test]
-fn ports_are_reached_by_level(rt: HostRuntime) -> Result<(), Fail> {
+fn ports_are_reached_by_level(rt: HostRuntime) {
     let alloc = rt.alloc();
-    for row in &ROWS {
+    for (k, row) in ROWS.iter().enumerate() {
         for level in &LEVELS {
-            assert_eq!(rt;
-                run(alloc, &asked(*row, *level))?,
-                Seen::Right,
-                "{row:?} {level:?}"
-            );
+            comes_out(&rt, alloc, k, &asked(*row, *level));
         }
     }
-    Ok(())
 }

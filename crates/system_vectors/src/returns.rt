@@ -2,12 +2,11 @@
 
 use crate::loads::{Load, effect_of};
 use crate::world::{
-    ABSENT, ALL, Case, EIP, NONE, Seen, Words, accessed, cpu_at, null, past, refused, run, segment,
+    ABSENT, ALL, Case, EIP, NONE, Words, accessed, comes_out, cpu_at, null, past, refused, segment,
     with, with_cr2, with_flags, with_limit, with_segment,
 };
 use descriptors::{Cpu, Hidden};
 use ia32_types::Stop;
-use std::test::Fail;
 use sys_exec::SysEffect;
 
 const IRET: [u8; 8] = [0xCF, 0, 0, 0, 0, 0, 0, 0];
@@ -130,12 +129,11 @@ fn tested(row: Refused) -> Case {
 }
 
 #[test]
-fn returns_meet_their_tests(rt: HostRuntime) -> Result<(), Fail> {
+fn returns_meet_their_tests(rt: HostRuntime) {
     let alloc = rt.alloc();
-    for row in &TESTS {
-        assert_eq!(rt; run(alloc, &tested(*row))?, Seen::Right, "{row:?}");
+    for (k, row) in TESTS.iter().enumerate() {
+        comes_out(&rt, alloc, k, &tested(*row));
     }
-    Ok(())
 }
 
 /// The level, the limit of the global table, CS and SS.
@@ -163,12 +161,11 @@ fn gone(row: Goes) -> Case {
 }
 
 #[test]
-fn returns_load_code_and_stack(rt: HostRuntime) -> Result<(), Fail> {
+fn returns_load_code_and_stack(rt: HostRuntime) {
     let alloc = rt.alloc();
-    for row in &GOES {
-        assert_eq!(rt; run(alloc, &gone(*row))?, Seen::Right, "{row:?}");
+    for (k, row) in GOES.iter().enumerate() {
+        comes_out(&rt, alloc, k, &gone(*row));
     }
-    Ok(())
 }
 
 /// The level, the flags before, the image that is popped, and the flags then.
@@ -225,22 +222,13 @@ fn taken_outwards() -> Case {
 }
 
 #[test]
-fn flags_are_taken_by_level(rt: HostRuntime) -> Result<(), Fail> {
+fn flags_are_taken_by_level(rt: HostRuntime) {
     let alloc = rt.alloc();
-    for row in &FLAGS {
-        assert_eq!(rt;
-            run(alloc, &taken_by_iret(*row))?,
-            Seen::Right,
-            "IRET {row:?}"
-        );
-        assert_eq!(rt;
-            run(alloc, &taken_by_popf(*row))?,
-            Seen::Right,
-            "POPF {row:?}"
-        );
+    for (k, row) in FLAGS.iter().enumerate() {
+        comes_out(&rt, alloc, k, &taken_by_iret(*row));
+        comes_out(&rt, alloc, k, &taken_by_popf(*row));
     }
-    assert_eq!(rt; run(alloc, &taken_outwards())?, Seen::Right);
-    Ok(())
+    comes_out(&rt, alloc, 0, &taken_outwards());
 }
 
 // TF, NT, VM, AC, VIF, VIP, ID
@@ -276,19 +264,14 @@ fn stopped(cpl: u8, code: u16, image: u32, bytes: [u8; 8]) -> Case {
 }
 
 #[test]
-fn images_of_other_flags_stop(rt: HostRuntime) -> Result<(), Fail> {
+fn images_of_other_flags_stop(rt: HostRuntime) {
     let alloc = rt.alloc();
     for image in &IMAGES {
-        for row in &POPPING {
+        for (k, row) in POPPING.iter().enumerate() {
             let (cpl, code, bytes) = *row;
-            assert_eq!(rt;
-                run(alloc, &stopped(cpl, code, *image, bytes))?,
-                Seen::Right,
-                "{cpl} {code} {image}"
-            );
+            comes_out(&rt, alloc, k, &stopped(cpl, code, *image, bytes));
         }
     }
-    Ok(())
 }
 
 fn level_0(sel: u16) -> Hidden {
@@ -328,23 +311,19 @@ fn within(extra: Hidden, data: Hidden) -> Case {
 }
 
 #[test]
-fn outer_returns_make_segments_null(rt: HostRuntime) -> Result<(), Fail> {
+fn outer_returns_make_segments_null(rt: HostRuntime) {
     let alloc = rt.alloc();
     for extra in data_segments() {
         for data in data_segments() {
-            assert_eq!(rt;
-                run(alloc, &outwards(extra, data))?,
-                Seen::Right,
-                "{extra:?} {data:?}"
-            );
-            assert_eq!(rt;
-                run(alloc, &within(extra.0, data.0))?,
-                Seen::Right,
-                "{extra:?} {data:?}"
+            comes_out(&rt, alloc, usize::from(extra.0.sel), &outwards(extra, data));
+            comes_out(
+                &rt,
+                alloc,
+                usize::from(extra.0.sel),
+                &within(extra.0, data.0),
             );
         }
     }
-    Ok(())
 }
 
 /// The level, ESP, CS, what comes, and CR2 then.
@@ -436,14 +415,13 @@ fn reached(row: Reach) -> Case {
 }
 
 #[test]
-fn returns_read_with_the_rights_of_their_level(rt: HostRuntime) -> Result<(), Fail> {
+fn returns_read_with_the_rights_of_their_level(rt: HostRuntime) {
     let alloc = rt.alloc();
-    for row in &REACHES {
-        assert_eq!(rt; run(alloc, &reached(*row))?, Seen::Right, "{row:?}");
+    for (k, row) in REACHES.iter().enumerate() {
+        comes_out(&rt, alloc, k, &reached(*row));
     }
     // a return at the same level reads no more than twelve
     let cpu = with(cpu_at(0), 4, 0xEFF4);
     let case = inner(cpu, frame(0xEFF4, 0x08, 0x0000_0002, 0), 0x08);
-    assert_eq!(rt; run(alloc, &case)?, Seen::Right);
-    Ok(())
+    comes_out(&rt, alloc, 0, &case);
 }

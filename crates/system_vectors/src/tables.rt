@@ -1,12 +1,11 @@
 //! LGDT, LIDT and INVLPG.
 
 use crate::world::{
-    ABSENT, Case, NONE, OPERAND, Seen, cpu_at, null, past, refused, run, with, with_cr2,
+    ABSENT, Case, NONE, OPERAND, comes_out, cpu_at, null, past, refused, with, with_cr2,
     with_flags, with_segment,
 };
 use descriptors::{Cpu, Table};
 use ia32_types::Stop;
-use std::test::Fail;
 use sys_exec::SysEffect;
 
 const PROTECTION: SysEffect = SysEffect::Raise {
@@ -57,14 +56,13 @@ fn through_null(bytes: [u8; 8]) -> Case {
 }
 
 #[test]
-fn tables_are_loaded(rt: HostRuntime) -> Result<(), Fail> {
+fn tables_are_loaded(rt: HostRuntime) {
     let alloc = rt.alloc();
     for bytes in [LGDT, LIDT] {
-        assert_eq!(rt; run(alloc, &loaded(bytes))?, Seen::Right);
-        assert_eq!(rt; run(alloc, &by_user(bytes))?, Seen::Right);
-        assert_eq!(rt; run(alloc, &through_null(bytes))?, Seen::Right);
+        comes_out(&rt, alloc, 0, &loaded(bytes));
+        comes_out(&rt, alloc, 0, &by_user(bytes));
+        comes_out(&rt, alloc, 0, &through_null(bytes));
     }
-    Ok(())
 }
 
 /// EBP, what LGDT through it comes to, and CR2 then. Its six bytes are one range.
@@ -105,12 +103,11 @@ fn reached(row: Reach) -> Case {
 }
 
 #[test]
-fn tables_are_read_in_one_range(rt: HostRuntime) -> Result<(), Fail> {
+fn tables_are_read_in_one_range(rt: HostRuntime) {
     let alloc = rt.alloc();
-    for row in &REACHES {
-        assert_eq!(rt; run(alloc, &reached(*row))?, Seen::Right, "{row:?}");
+    for (k, row) in REACHES.iter().enumerate() {
+        comes_out(&rt, alloc, k, &reached(*row));
     }
-    Ok(())
 }
 
 // The address is mapped by nothing, and its segment may be null.
@@ -121,15 +118,11 @@ fn dropped(cpu: Cpu) -> Case {
 }
 
 #[test]
-fn a_page_is_dropped_without_an_access(rt: HostRuntime) -> Result<(), Fail> {
+fn a_page_is_dropped_without_an_access(rt: HostRuntime) {
     let alloc = rt.alloc();
-    assert_eq!(rt; run(alloc, &dropped(cpu_at(0)))?, Seen::Right);
-    assert_eq!(rt;
-        run(alloc, &dropped(with_segment(cpu_at(0), 3, null(0))))?,
-        Seen::Right
-    );
-    assert_eq!(rt; run(alloc, &by_user(INVLPG))?, Seen::Right);
-    Ok(())
+    comes_out(&rt, alloc, 0, &dropped(cpu_at(0)));
+    comes_out(&rt, alloc, 0, &dropped(with_segment(cpu_at(0), 3, null(0))));
+    comes_out(&rt, alloc, 0, &by_user(INVLPG));
 }
 
 // With pages of 4 MB every page of the directory index is dropped.
@@ -144,8 +137,7 @@ fn dropped_with_pse() -> Case {
 }
 
 #[test]
-fn a_directory_is_dropped_with_pse(rt: HostRuntime) -> Result<(), Fail> {
+fn a_directory_is_dropped_with_pse(rt: HostRuntime) {
     let alloc = rt.alloc();
-    assert_eq!(rt; run(alloc, &dropped_with_pse())?, Seen::Right);
-    Ok(())
+    comes_out(&rt, alloc, 0, &dropped_with_pse());
 }

@@ -12,6 +12,7 @@ use guest_ram::Ram;
 use ia32_decode::{Decoded, decode};
 use ia32_types::{Flags, Insn, Op, Operand, Regs, Size};
 use std::alloc::{AllocError, Global};
+use std::process::Abort;
 use step_exec::{deliver_in, sys_in};
 use step_mem::{Control, Guard, Kept, Own, StepState, Text};
 use sys_exec::SysEffect;
@@ -60,7 +61,7 @@ const OTHER: [(u32, u32); 9] = [
 
 /// What is done: the instruction that begins the bytes, or an event with its error code, by vector 0x21; or such an
 /// event and then the IRET that ends its handler.
-#[derive(Clone, Copy, Debug)]
+#[derive(Clone, Copy)]
 pub enum What {
     Insn([u8; 8]),
     Event(Kind, Option<u32>),
@@ -82,7 +83,7 @@ pub const NONE: Words = [(0, 0); 8];
 
 /// One row: a processor, what stands in memory besides the tables, what is done, and what comes of it: the answer, the
 /// processor, and the words of memory that have changed.
-#[derive(Clone, Copy, Debug)]
+#[derive(Clone, Copy)]
 pub struct Case {
     pub cpu: Cpu,
     pub before: Words,
@@ -94,7 +95,7 @@ pub struct Case {
 
 /// How a row came out: as it says, or what was otherwise.
 #[derive(Clone, Copy, Debug, PartialEq, Eq)]
-pub enum Seen {
+enum Seen {
     Right,
     Answer(Answer),
     Processor,
@@ -298,7 +299,7 @@ fn same(a: &Ram, b: &Ram) -> bool {
 }
 
 /// Does what a row says.
-pub fn run(alloc: Global, case: &Case) -> Result<Seen, AllocError> {
+fn run(alloc: Global, case: &Case) -> Result<Seen, AllocError> {
     let mut ram = memory(alloc, &case.before)?;
     let mut cpu = case.cpu;
     let answer = performed(&mut cpu, &mut ram, &case.what);
@@ -314,6 +315,12 @@ pub fn run(alloc: Global, case: &Case) -> Result<Seen, AllocError> {
         return Ok(Seen::Memory);
     }
     Ok(Seen::Right)
+}
+
+/// A case comes out as it says. `row` names it where it doesn't.
+pub fn comes_out(rt: &impl Abort, alloc: Global, row: usize, case: &Case) {
+    let seen = run(alloc, case).expect(rt, "memory");
+    assert_eq!(rt; seen, Seen::Right, "row {row}");
 }
 
 /// An instruction that raises or stops: the processor and memory stay.
