@@ -81,8 +81,9 @@ fits _ negative n = true
 abbrev pub is_low : ℕ → Bool
 is_low n = nat_le n 0x80000000
 
-unfoldable pub is_register : List ℕ → Bool
-is_register name =
+-- The general registers of 8, 16 and 32 bits; the segment registers and the control registers.
+unfoldable pub is_byte_register : List ℕ → Bool
+is_byte_register name =
     bytes_eq name (codes "al")
     || bytes_eq name (codes "cl")
     || bytes_eq name (codes "dl")
@@ -91,7 +92,10 @@ is_register name =
     || bytes_eq name (codes "ch")
     || bytes_eq name (codes "dh")
     || bytes_eq name (codes "bh")
-    || bytes_eq name (codes "ax")
+
+unfoldable pub is_word_register : List ℕ → Bool
+is_word_register name =
+    bytes_eq name (codes "ax")
     || bytes_eq name (codes "cx")
     || bytes_eq name (codes "dx")
     || bytes_eq name (codes "bx")
@@ -99,7 +103,10 @@ is_register name =
     || bytes_eq name (codes "bp")
     || bytes_eq name (codes "si")
     || bytes_eq name (codes "di")
-    || bytes_eq name (codes "eax")
+
+unfoldable pub is_long_register : List ℕ → Bool
+is_long_register name =
+    bytes_eq name (codes "eax")
     || bytes_eq name (codes "ecx")
     || bytes_eq name (codes "edx")
     || bytes_eq name (codes "ebx")
@@ -107,7 +114,10 @@ is_register name =
     || bytes_eq name (codes "ebp")
     || bytes_eq name (codes "esi")
     || bytes_eq name (codes "edi")
-    || bytes_eq name (codes "es")
+
+unfoldable pub is_system_register : List ℕ → Bool
+is_system_register name =
+    bytes_eq name (codes "es")
     || bytes_eq name (codes "cs")
     || bytes_eq name (codes "ss")
     || bytes_eq name (codes "ds")
@@ -115,6 +125,9 @@ is_register name =
     || bytes_eq name (codes "cr2")
     || bytes_eq name (codes "cr3")
     || bytes_eq name (codes "cr4")
+
+unfoldable pub is_register : List ℕ → Bool
+is_register name = is_byte_register name || is_word_register name || is_long_register name || is_system_register name
 
 abbrev pub is_scale : ℕ → Bool
 is_scale n = (n == 1) || (n == 2) || (n == 4) || (n == 8)

@@ -7,15 +7,20 @@ use asm_source::{Name, is_text};
 
 /// Whether the name is one of the 24 general registers, `es`, `cs`, `ss`, `ds`, `cr0`, `cr2`, `cr3`
 /// or `cr4`.
+#[tactic(auto, unfolding(crate::specs::Shapes::is_register))]
 pub fn is_register(name: &Name) -> bool
     ensures { result ≡ shapes.is_register name.now }
 {
-    is_register_name(&name.bytes)
+    let name = name.bytes.as_slice();
+    is_byte_register(name)
+        || is_word_register(name)
+        || is_long_register(name)
+        || is_system_register(name)
 }
 
-#[tactic(auto, unfolding(crate::specs::Shapes::is_register))]
-fn is_register_name(name: &[u8]) -> bool
-    ensures { result ≡ shapes.is_register name.now }
+#[tactic(auto, unfolding(crate::specs::Shapes::is_byte_register))]
+fn is_byte_register(name: &[u8]) -> bool
+    ensures { result ≡ shapes.is_byte_register name.now }
 {
     is_text(name, b"al")
         || is_text(name, b"cl")
@@ -25,7 +30,13 @@ fn is_register_name(name: &[u8]) -> bool
         || is_text(name, b"ch")
         || is_text(name, b"dh")
         || is_text(name, b"bh")
-        || is_text(name, b"ax")
+}
+
+#[tactic(auto, unfolding(crate::specs::Shapes::is_word_register))]
+fn is_word_register(name: &[u8]) -> bool
+    ensures { result ≡ shapes.is_word_register name.now }
+{
+    is_text(name, b"ax")
         || is_text(name, b"cx")
         || is_text(name, b"dx")
         || is_text(name, b"bx")
@@ -33,7 +44,13 @@ fn is_register_name(name: &[u8]) -> bool
         || is_text(name, b"bp")
         || is_text(name, b"si")
         || is_text(name, b"di")
-        || is_text(name, b"eax")
+}
+
+#[tactic(auto, unfolding(crate::specs::Shapes::is_long_register))]
+fn is_long_register(name: &[u8]) -> bool
+    ensures { result ≡ shapes.is_long_register name.now }
+{
+    is_text(name, b"eax")
         || is_text(name, b"ecx")
         || is_text(name, b"edx")
         || is_text(name, b"ebx")
@@ -41,7 +58,13 @@ fn is_register_name(name: &[u8]) -> bool
         || is_text(name, b"ebp")
         || is_text(name, b"esi")
         || is_text(name, b"edi")
-        || is_text(name, b"es")
+}
+
+#[tactic(auto, unfolding(crate::specs::Shapes::is_system_register))]
+fn is_system_register(name: &[u8]) -> bool
+    ensures { result ≡ shapes.is_system_register name.now }
+{
+    is_text(name, b"es")
         || is_text(name, b"cs")
         || is_text(name, b"ss")
         || is_text(name, b"ds")

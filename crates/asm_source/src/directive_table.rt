@@ -39,6 +39,18 @@ pub enum DirectiveName {
 pub fn directive_name(name: &[u8]) -> Option<DirectiveName>
     ensures { result ≡ spec.directive_name name.now }
 {
+    section_directive(name)
+        .or(symbol_directive(name))
+        .or(value_directive(name))
+        .or(string_directive(name))
+        .or(alignment_directive(name))
+        .or(skipped_directive(name))
+}
+
+#[tactic(auto, unfolding(crate::specs::DirectiveTable::section_directive))]
+fn section_directive(name: &[u8]) -> Option<DirectiveName>
+    ensures { result ≡ spec.section_directive name.now }
+{
     if is_text(name, b".text") {
         Some(DirectiveName::Text)
     } else if is_text(name, b".data") {
@@ -47,40 +59,90 @@ pub fn directive_name(name: &[u8]) -> Option<DirectiveName>
         Some(DirectiveName::Bss)
     } else if is_text(name, b".section") {
         Some(DirectiveName::Section)
-    } else if is_text(name, b".globl") || is_text(name, b".global") {
+    } else {
+        None
+    }
+}
+
+#[tactic(auto, unfolding(crate::specs::DirectiveTable::symbol_directive))]
+fn symbol_directive(name: &[u8]) -> Option<DirectiveName>
+    ensures { result ≡ spec.symbol_directive name.now }
+{
+    if is_text(name, b".globl") || is_text(name, b".global") {
         Some(DirectiveName::Global)
     } else if is_text(name, b".local") {
         Some(DirectiveName::Local)
-    } else if is_text(name, b".byte") {
+    } else if is_text(name, b".comm") {
+        Some(DirectiveName::Common)
+    } else if is_text(name, b".lcomm") {
+        Some(DirectiveName::LocalCommon)
+    } else {
+        None
+    }
+}
+
+#[tactic(auto, unfolding(crate::specs::DirectiveTable::value_directive))]
+fn value_directive(name: &[u8]) -> Option<DirectiveName>
+    ensures { result ≡ spec.value_directive name.now }
+{
+    if is_text(name, b".byte") {
         Some(DirectiveName::Bytes)
     } else if is_text(name, b".short") || is_text(name, b".word") || is_text(name, b".value") {
         Some(DirectiveName::Shorts)
     } else if is_text(name, b".long") || is_text(name, b".int") {
         Some(DirectiveName::Longs)
-    } else if is_text(name, b".ascii") {
+    } else if is_text(name, b".zero") || is_text(name, b".skip") || is_text(name, b".space") {
+        Some(DirectiveName::Zeros)
+    } else {
+        None
+    }
+}
+
+#[tactic(auto, unfolding(crate::specs::DirectiveTable::string_directive))]
+fn string_directive(name: &[u8]) -> Option<DirectiveName>
+    ensures { result ≡ spec.string_directive name.now }
+{
+    if is_text(name, b".ascii") {
         Some(DirectiveName::Ascii)
     } else if is_text(name, b".asciz") || is_text(name, b".string") {
         Some(DirectiveName::Asciz)
-    } else if is_text(name, b".zero") || is_text(name, b".skip") || is_text(name, b".space") {
-        Some(DirectiveName::Zeros)
-    } else if is_text(name, b".align") || is_text(name, b".balign") {
+    } else {
+        None
+    }
+}
+
+#[tactic(auto, unfolding(crate::specs::DirectiveTable::alignment_directive))]
+fn alignment_directive(name: &[u8]) -> Option<DirectiveName>
+    ensures { result ≡ spec.alignment_directive name.now }
+{
+    if is_text(name, b".align") || is_text(name, b".balign") {
         Some(DirectiveName::Aligned)
     } else if is_text(name, b".p2align") {
         Some(DirectiveName::Powered)
-    } else if is_text(name, b".comm") {
-        Some(DirectiveName::Common)
-    } else if is_text(name, b".lcomm") {
-        Some(DirectiveName::LocalCommon)
-    } else if is_text(name, b".file")
+    } else {
+        None
+    }
+}
+
+fn skipped_directive(name: &[u8]) -> Option<DirectiveName>
+    ensures { result ≡ spec.skipped_directive name.now }
+{
+    if is_skipped(name) {
+        Some(DirectiveName::Skipped)
+    } else {
+        None
+    }
+}
+
+#[tactic(auto, unfolding(crate::specs::DirectiveTable::is_skipped))]
+fn is_skipped(name: &[u8]) -> bool
+    ensures { result ≡ spec.is_skipped name.now }
+{
+    is_text(name, b".file")
         || is_text(name, b".type")
         || is_text(name, b".size")
         || is_text(name, b".ident")
         || is_text(name, b".code32")
         || is_text(name, b".loc")
         || begins(name, b".cfi_")
-    {
-        Some(DirectiveName::Skipped)
-    } else {
-        None
-    }
 }
