@@ -16,15 +16,11 @@ use Rattle.asm_source.specs.declared.tree.Value.{Value}
 use Rattle.asm_source.specs.declared.tree.Form.{Form}
 use Rattle.asm_source.specs.declared.tree.Form.TheVariants as form
 use Rattle.asm_argument.specs.Grammar.{IsConstant, IsValue, IsAddress, IsForm}
-use Rattle.asm_argument.specs.Operand.{begun, counted, allowed, lowered, registered, first, open_paren, address_step, next_terminal, operand_step, finished}
+use Rattle.asm_argument.specs.Operand.{begun, counted, allowed, lowered, registered, first, open_paren, address_step, next_terminal, finished}
 use Rattle.asm_argument.specs.Shapes.{takes_names, takes_sums, takes_minus, takes_numbers, takes_text, takes_absent, fits, signed, named, plain, of_memory, is_operand, is_low, is_register, is_scale}
 
 abbrev pub ok : Partial → Result Partial SourceCause
 ok p = Ok p
-
-pub not_big : (sh : Shape) (p : Partial) (s : Terminal) → (s ≡ terminal.Big → ⊥) → operand_step sh p s ≡ next_terminal sh p s
-not_big sh p terminal.Big h = absurd (h refl)
-not_big sh p _ h = refl
 
 -- what is left to the parentheses
 pub next_default : (sh : Shape) (p : Partial) (s : Terminal)

@@ -3,6 +3,7 @@
 ghost use Rattle.std.specs.Prelude.{◌≡◌};
 ghost use Rattle.std.specs.Option.{option_copied};
 ghost use Rattle.asm_argument.specs.Operand as spec;
+ghost use Rattle.asm_argument.specs.declared.operand.Partial.TheVariants as partial;
 ghost use Rattle.asm_argument.specs.Shapes as shapes;
 
 use crate::address::address_step;
@@ -324,6 +325,171 @@ pub fn registered(is: bool, then: Partial) -> Result<Partial, SourceCause>
     }
 }
 
+/// A terminal behind the `%` of an operand.
+fn percent_step(shape: Shape, terminal: Terminal) -> Result<Partial, SourceCause>
+    ensures { result ≡ spec.next_terminal shape partial.Percent terminal }
+{
+    match terminal {
+        Terminal::Name(name) => {
+            let is = is_register(&name);
+            registered(is, Partial::Whole(Form::Register(name)))
+        }
+        _ => Err(SourceCause::BadRegister),
+    }
+}
+
+/// A terminal behind a `$`.
+fn dollar_step(shape: Shape, terminal: Terminal) -> Result<Partial, SourceCause>
+    ensures { result ≡ spec.next_terminal shape partial.Dollar terminal }
+{
+    match terminal {
+        Terminal::Minus => Ok(Partial::Minus(ValuePlace::Immediate)),
+        Terminal::Number(n) => Ok(Partial::Number {
+            place: ValuePlace::Immediate,
+            value: plain(i64::from(n)),
+        }),
+        Terminal::Name(name) => Ok(Partial::Name {
+            place: ValuePlace::Immediate,
+            name,
+        }),
+        _ => Err(SourceCause::BadOperand),
+    }
+}
+
+/// A terminal behind the minus of a number.
+fn minus_step(shape: Shape, place: ValuePlace, terminal: Terminal) -> Result<Partial, SourceCause>
+    ensures { result ≡ spec.next_terminal shape (partial.Minus place) terminal }
+{
+    match terminal {
+        Terminal::Number(n) => lowered(
+            n,
+            shape.fits(true, n),
+            Partial::Number {
+                place,
+                value: plain(signed(true, n)),
+            },
+        ),
+        _ => Err(SourceCause::BadOperand),
+    }
+}
+
+/// A terminal behind a name.
+fn name_step(
+    shape: Shape,
+    place: ValuePlace,
+    name: Name,
+    terminal: Terminal,
+) -> Result<Partial, SourceCause>
+    ensures { result ≡ spec.next_terminal shape (partial.Name place name) terminal }
+{
+    match terminal {
+        Terminal::Plus => allowed(
+            shape.takes_sums(),
+            Partial::Sign {
+                place,
+                name,
+                negative: false,
+            },
+        ),
+        Terminal::Minus => allowed(
+            shape.takes_sums(),
+            Partial::Sign {
+                place,
+                name,
+                negative: true,
+            },
+        ),
+        Terminal::Open => open(shape, place, named(name, 0)),
+        _ => Err(SourceCause::BadOperand),
+    }
+}
+
+/// A terminal behind a name and a sign.
+fn sign_step(
+    shape: Shape,
+    place: ValuePlace,
+    name: Name,
+    negative: bool,
+    terminal: Terminal,
+) -> Result<Partial, SourceCause>
+    ensures { result ≡ spec.next_terminal shape (partial.Sign place name negative) terminal }
+{
+    match terminal {
+        Terminal::Minus => Ok(Partial::SignMinus {
+            place,
+            name,
+            negative,
+        }),
+        Terminal::Number(n) => Ok(Partial::Number {
+            place,
+            value: named(name, signed(negative, n)),
+        }),
+        _ => Err(SourceCause::BadOperand),
+    }
+}
+
+/// A terminal behind a name, a sign and a minus.
+fn sign_minus_step(
+    shape: Shape,
+    place: ValuePlace,
+    name: Name,
+    negative: bool,
+    terminal: Terminal,
+) -> Result<Partial, SourceCause>
+    ensures { result ≡ spec.next_terminal shape (partial.SignMinus place name negative) terminal }
+{
+    match terminal {
+        Terminal::Number(n) => lowered(
+            n,
+            true,
+            Partial::Number {
+                place,
+                value: named(name, signed(!negative, n)),
+            },
+        ),
+        _ => Err(SourceCause::BadOperand),
+    }
+}
+
+/// A terminal behind a number.
+fn number_step(
+    shape: Shape,
+    place: ValuePlace,
+    value: Value,
+    terminal: Terminal,
+) -> Result<Partial, SourceCause>
+    ensures { result ≡ spec.next_terminal shape (partial.Number place value) terminal }
+{
+    match terminal {
+        Terminal::Open => open(shape, place, value),
+        _ => Err(SourceCause::BadOperand),
+    }
+}
+
+fn next_terminal(shape: Shape, so_far: Partial, terminal: Terminal) -> Result<Partial, SourceCause>
+    ensures { result ≡ spec.next_terminal shape so_far terminal }
+{
+    match so_far {
+        Partial::Nothing | Partial::Absent => first(shape, terminal),
+        Partial::Percent => percent_step(shape, terminal),
+        Partial::Dollar => dollar_step(shape, terminal),
+        Partial::Minus(place) => minus_step(shape, place, terminal),
+        Partial::Name { place, name } => name_step(shape, place, name, terminal),
+        Partial::Sign {
+            place,
+            name,
+            negative,
+        } => sign_step(shape, place, name, negative, terminal),
+        Partial::SignMinus {
+            place,
+            name,
+            negative,
+        } => sign_minus_step(shape, place, name, negative, terminal),
+        Partial::Number { place, value } => number_step(shape, place, value, terminal),
+        rest => address_step(rest, terminal),
+    }
+}
+
 /// The next terminal of an argument.
 pub fn operand_step(
     shape: Shape,
@@ -332,97 +498,12 @@ pub fn operand_step(
 ) -> Result<Partial, SourceCause>
     ensures { result ≡ spec.operand_step shape so_far terminal }
 {
-    if let Terminal::Big = terminal {
-        return Err(SourceCause::BadNumber);
-    }
-    match so_far {
-        Partial::Nothing | Partial::Absent => first(shape, terminal),
-        Partial::Percent => match terminal {
-            Terminal::Name(name) => {
-                let is = is_register(&name);
-                registered(is, Partial::Whole(Form::Register(name)))
-            }
-            _ => Err(SourceCause::BadRegister),
-        },
-        Partial::Dollar => match terminal {
-            Terminal::Minus => Ok(Partial::Minus(ValuePlace::Immediate)),
-            Terminal::Number(n) => Ok(Partial::Number {
-                place: ValuePlace::Immediate,
-                value: plain(i64::from(n)),
-            }),
-            Terminal::Name(name) => Ok(Partial::Name {
-                place: ValuePlace::Immediate,
-                name,
-            }),
-            _ => Err(SourceCause::BadOperand),
-        },
-        Partial::Minus(place) => match terminal {
-            Terminal::Number(n) => lowered(
-                n,
-                shape.fits(true, n),
-                Partial::Number {
-                    place,
-                    value: plain(signed(true, n)),
-                },
-            ),
-            _ => Err(SourceCause::BadOperand),
-        },
-        Partial::Name { place, name } => match terminal {
-            Terminal::Plus => allowed(
-                shape.takes_sums(),
-                Partial::Sign {
-                    place,
-                    name,
-                    negative: false,
-                },
-            ),
-            Terminal::Minus => allowed(
-                shape.takes_sums(),
-                Partial::Sign {
-                    place,
-                    name,
-                    negative: true,
-                },
-            ),
-            Terminal::Open => open(shape, place, named(name, 0)),
-            _ => Err(SourceCause::BadOperand),
-        },
-        Partial::Sign {
-            place,
-            name,
-            negative,
-        } => match terminal {
-            Terminal::Minus => Ok(Partial::SignMinus {
-                place,
-                name,
-                negative,
-            }),
-            Terminal::Number(n) => Ok(Partial::Number {
-                place,
-                value: named(name, signed(negative, n)),
-            }),
-            _ => Err(SourceCause::BadOperand),
-        },
-        Partial::SignMinus {
-            place,
-            name,
-            negative,
-        } => match terminal {
-            Terminal::Number(n) => lowered(
-                n,
-                true,
-                Partial::Number {
-                    place,
-                    value: named(name, signed(!negative, n)),
-                },
-            ),
-            _ => Err(SourceCause::BadOperand),
-        },
-        Partial::Number { place, value } => match terminal {
-            Terminal::Open => open(shape, place, value),
-            _ => Err(SourceCause::BadOperand),
-        },
-        rest => address_step(rest, terminal),
+    match terminal {
+        Terminal::Big => {
+            discard(so_far);
+            Err(SourceCause::BadNumber)
+        }
+        other => next_terminal(shape, so_far, other),
     }
 }
 
