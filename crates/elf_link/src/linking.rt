@@ -4,14 +4,16 @@ ghost use Rattle.std.specs.Prelude.{◌≡◌, ◌+◌, ◌≤◌, ◌<◌, ◌^
 ghost use Rattle.elf_form.specs.ImageLayout.{IsWritableImage, HasLongs};
 ghost use Rattle.elf_form.specs.Output.{pad};
 ghost use Rattle.sites.specs.declared.site.Site.{Site as SiteView};
-ghost use Rattle.elf_link.specs.Layout.{numbered, bases};
+ghost use Rattle.elf_link.specs.Layout.{numbered, bases, text_end};
+ghost use Rattle.elf_link.specs.Sites.{linked_sites};
+ghost use Rattle.sites.specs.Spelling.{AreGapped};
 ghost use Rattle.elf_link.specs.Symbols.{globals as globals_of};
 ghost use Rattle.elf_form.specs.Linkable.{IsLinkable};
 ghost use Rattle.elf_link.specs.Relocations.{reloc_cause, with_fields};
 ghost use Rattle.elf_form.specs.Tables.{first_some};
-ghost use Rattle.elf_link.specs.Refusals.{refused, relocs_refusal};
+ghost use Rattle.elf_link.specs.Refusals.{refused, start, relocs_refusal};
 ghost use Rattle.elf_link.specs.Steps.{IsWithin, AreBelow, totals, entered, tested};
-ghost use Rattle.elf_link.specs.Linked.{padded, linked_text, linked_init, linked_image, file_of};
+ghost use Rattle.elf_link.specs.Linked.{padded, linked_text, linked_init, entry_at, image, linked_image, file_of};
 ghost use Rattle.elf_link.specs.Answers.{Gives};
 ghost use Rattle.elf_link.specs.Facts.{IsPlan, IsLaidOut};
 
@@ -21,7 +23,7 @@ use crate::globals::Globals;
 use crate::layout::{INIT_AT, TEXT_AT, bases, init_end, memory_end, text_end};
 use crate::relocations::{Plan, address, is_text, relocs_cause, with_fields};
 use elf_form::{Image, Object, pad, write_image};
-use sites::{of_text, write_sites};
+use sites::{SHORT_TEXT, Site, TEXT_LIMIT, of_text, write_sites};
 use std::alloc::{AllocError, Global};
 
 /// Adds bytes, and what fills them up to a multiple of `to`.
@@ -106,6 +108,45 @@ fn entered(plan: &Plan) -> Result<u32, LinkFault>
     }
 }
 
+/// The image of objects that passed every test, which is entered at `entry`.
+fn placed(
+    alloc: Global,
+    objects: &Vec<Object>,
+    plan: &Plan,
+    sites: Vec<Site>,
+    entry: u32,
+) -> Result<Image, AllocError>
+    requires few { length objects.now.items ≤ 64 }
+    requires linkable { All IsLinkable objects.now.items }
+    requires within { IsWithin (totals objects.now.items) }
+    requires fits { text_end objects.now.items + 2 ≤ TEXT_LIMIT }
+    requires plan { IsPlan objects.now.items plan.now }
+    requires sites { sites.items ≡ linked_sites objects.now.items }
+    requires below { AreBelow (text_end objects.now.items) sites.items }
+    requires count { length sites.items ≤ 262144 }
+    requires gaps { SHORT_TEXT < text_end objects.now.items + 2 → AreGapped 0 sites.items }
+    requires entry { entry ≡ entry_at (bases objects.now.items) (start objects.now.items) }
+    ensures image { IfOk result (λ placed. placed ≡ image objects.now.items) }
+    ensures laid_out { IfOk result (λ image. IsLaidOut image) }
+    ensures writable { IfOk result (λ image. IsWritableImage image) }
+    ensures longs { IfOk result (λ image. HasLongs image) }
+{
+    let init_end = init_end(objects);
+    let text = linked_text(alloc, objects, plan)?;
+    let init = linked_init(alloc, objects, plan)?;
+    let sites = of_text(sites, text.len());
+    let sites = write_sites(alloc, &sites)?;
+    Ok(Image {
+        text,
+        init,
+        bss: (memory_end(objects) - init_end) as u32,
+        entry,
+        text_at: TEXT_AT,
+        init_at: INIT_AT,
+        sites,
+    })
+}
+
 /// The image that objects make, or the first cause by which they are refused.
 pub fn linked(alloc: Global, objects: &Vec<Object>) -> Result<Image, LinkFault>
     requires few { length objects.now.items ≤ 64 }
@@ -123,20 +164,7 @@ pub fn linked(alloc: Global, objects: &Vec<Object>) -> Result<Image, LinkFault>
     };
     relocs_tested(alloc, objects, &plan.globals)?;
     let entry = entered(&plan)?;
-    let init_end = init_end(objects);
-    let text = linked_text(alloc, objects, &plan)?;
-    let init = linked_init(alloc, objects, &plan)?;
-    let sites = of_text(all.sites, text.len());
-    let sites = write_sites(alloc, &sites)?;
-    Ok(Image {
-        text,
-        init,
-        bss: (memory_end(objects) - init_end) as u32,
-        entry,
-        text_at: TEXT_AT,
-        init_at: INIT_AT,
-        sites,
-    })
+    Ok(placed(alloc, objects, &plan, all.sites, entry)?)
 }
 
 /// The file of the image that objects make, or the first cause by which they are refused.
