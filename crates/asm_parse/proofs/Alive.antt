@@ -9,14 +9,14 @@ use Rattle.asm_argument.specs.declared.operand.Shape.{Shape}
 use Rattle.asm_argument.specs.declared.operand.Partial.{Partial}
 use Rattle.asm_argument.specs.declared.operand.Partial.TheVariants as partial
 use Rattle.asm_source.specs.declared.tree.Argument.{Argument}
-use Rattle.asm_parse.specs.declared.directive.Directive.{Directive}
-use Rattle.asm_parse.specs.declared.directive.Directive.TheVariants as directive
-use Rattle.asm_parse.specs.declared.directive.Head.{Head}
-use Rattle.asm_parse.specs.declared.directive.Head.TheVariants as head
-use Rattle.asm_parse.specs.declared.state.Open.{Open}
-use Rattle.asm_parse.specs.declared.state.StatementState.{StatementState}
-use Rattle.asm_parse.specs.declared.state.StatementState.TheVariants as state
-use Rattle.asm_parse.specs.ScopeView.{ScopeView}
+use Rattle.asm_statement.specs.declared.directive.Directive.{Directive}
+use Rattle.asm_statement.specs.declared.directive.Directive.TheVariants as directive
+use Rattle.asm_statement.specs.declared.directive.Head.{Head}
+use Rattle.asm_statement.specs.declared.directive.Head.TheVariants as head
+use Rattle.asm_statement.specs.declared.state.Open.{Open}
+use Rattle.asm_statement.specs.declared.state.StatementState.{StatementState}
+use Rattle.asm_statement.specs.declared.state.StatementState.TheVariants as state
+use Rattle.asm_statement.specs.ScopeView.{ScopeView}
 use Rattle.asm_lex.specs.Bytes.{class_of, is_source, is_letter, is_word}
 use Rattle.asm_lex.specs.declared.token.Token.{Token}
 use Rattle.asm_lex.specs.declared.token.TokenKind.{TokenKind}
@@ -28,19 +28,19 @@ use Rattle.asm_lex.specs.declared.machine.Next.TheVariants.{Goes, Stops}
 use Rattle.asm_lex.specs.declared.machine.Stepped.{Stepped}
 use Rattle.asm_lex.specs.Machine.{stepped, after, stops, is_whole}
 use Rattle.asm_argument.specs.Terminals.{terminal_of}
-use Rattle.asm_parse.specs.Reading.{Fault, fed, placed, is_longer, ending_at, with_end, next_word}
+use Rattle.asm_statement.specs.Reading.{Fault, fed, placed, is_longer, ending_at, with_end, next_word}
 use Rattle.asm_lex.specs.Words.{Word, word_of}
 use Rattle.asm_lex.specs.Lines.{first_lines}
-use Rattle.asm_parse.specs.Running.{Running, goes_on, second_does, byte_does, one_byte_over, moved, one_byte, run, start, closed, read}
+use Rattle.asm_statement.specs.Running.{Running, goes_on, second_does, byte_does, one_byte_over, moved, one_byte, run, start, closed, read}
 use Rattle.asm_parse.proofs.Lines.{bind_ok, IsRead, run_ok}
 use Rattle.asm_parse.proofs.Linking.{goes_is}
 use Rattle.std.proofs.Common.{zero, suc}
 use Rattle.std.specs.Prelude.{◌==◌, ◌&&◌, ◌+◌}
 use Rattle.std.proofs.lemmas.Bool.{eqb-true}
 use Rattle.asm_argument.specs.Operand.{operand_step, is_finished}
-use Rattle.asm_parse.specs.Statement.{at_shape, complete, end_behind, ended, is_bare, argument_step, nothing_yet, of_directive, step, next_step, fault_line}
-use Rattle.asm_parse.specs.Items.{is_passed, is_rep}
-use Rattle.asm_parse.specs.Directives.{shape_at, least, directive_of, is_dotted}
+use Rattle.asm_statement.specs.Statement.{at_shape, complete, end_behind, ended, is_bare, argument_step, nothing_yet, of_directive, step, next_step, fault_line}
+use Rattle.asm_statement.specs.Items.{is_passed, is_rep}
+use Rattle.asm_statement.specs.Directives.{shape_at, least, directive_of, is_dotted}
 use Rattle.asm_parse.proofs.Quiet.{Answer}
 
 -- where it goes on, nothing is open

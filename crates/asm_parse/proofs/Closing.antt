@@ -13,14 +13,14 @@ use Rattle.asm_lex.specs.Source.{IsToken, Lexed}
 use Rattle.asm_lex.proofs.Again.{again}
 use Rattle.asm_lex.proofs.Found.{found}
 use Rattle.asm_argument.specs.declared.terminal.Terminal.{Terminal}
-use Rattle.asm_parse.specs.declared.state.StatementState.{StatementState}
-use Rattle.asm_parse.specs.declared.state.StatementState.TheVariants as state
-use Rattle.asm_parse.specs.ScopeView.{ScopeView}
-use Rattle.asm_parse.specs.Scope.{fresh}
-use Rattle.asm_parse.specs.Statement.{doom, fault_line}
+use Rattle.asm_statement.specs.declared.state.StatementState.{StatementState}
+use Rattle.asm_statement.specs.declared.state.StatementState.TheVariants as state
+use Rattle.asm_statement.specs.ScopeView.{ScopeView}
+use Rattle.asm_statement.specs.Scope.{fresh}
+use Rattle.asm_statement.specs.Statement.{doom, fault_line}
 use Rattle.asm_argument.specs.Terminals.{number_value, mark_terminal, number_terminal, terminal_of}
-use Rattle.asm_parse.specs.Reading.{Fault, placed, next_word}
-use Rattle.asm_parse.specs.Running.{Running, one_byte_over, moved, one_byte, run, start}
+use Rattle.asm_statement.specs.Reading.{Fault, placed, next_word}
+use Rattle.asm_statement.specs.Running.{Running, one_byte_over, moved, one_byte, run, start}
 use Rattle.asm_parse.proofs.Words.{read_words}
 use Rattle.asm_parse.proofs.Scopes.{GoodIn, fresh_good}
 use Rattle.asm_parse.proofs.Quiet.{TerminalIs, NamedIs, StateIs, word_next}

@@ -8,16 +8,16 @@ use Rattle.asm_lex.specs.declared.fault.SourceCause.TheVariants as cause
 use Rattle.asm_lex.specs.Words.{Word}
 use Rattle.asm_argument.specs.declared.terminal.Terminal.{Terminal}
 use Rattle.asm_argument.specs.declared.terminal.Terminal.TheVariants as terminal
-use Rattle.asm_parse.specs.declared.state.StatementState.{StatementState}
-use Rattle.asm_parse.specs.declared.state.StatementState.TheVariants as state
-use Rattle.asm_parse.specs.ScopeView.{ScopeView}
-use Rattle.asm_parse.specs.Scope.{fresh}
+use Rattle.asm_statement.specs.declared.state.StatementState.{StatementState}
+use Rattle.asm_statement.specs.declared.state.StatementState.TheVariants as state
+use Rattle.asm_statement.specs.ScopeView.{ScopeView}
+use Rattle.asm_statement.specs.Scope.{fresh}
 use Rattle.asm_argument.specs.Terminals.{terminal_of}
-use Rattle.asm_parse.specs.Reading.{placed, ending_at, next_word}
-use Rattle.asm_parse.specs.Items.{is_part}
+use Rattle.asm_statement.specs.Reading.{placed, ending_at, next_word}
+use Rattle.asm_statement.specs.Items.{is_part}
 use Rattle.asm_parse.proofs.Words.{read_words}
-use Rattle.asm_parse.specs.Statement.{next_step, fault_line}
-use Rattle.asm_parse.specs.Items.{sectioned}
+use Rattle.asm_statement.specs.Statement.{next_step, fault_line}
+use Rattle.asm_statement.specs.Items.{sectioned}
 use Rattle.asm_parse.specs.Statements.{is_inner, are_flags, terminals, text_of, Touch, IsStatement, Statements}
 use Rattle.asm_parse.proofs.Stated.{is_naming, not_longer}
 use Rattle.asm_parse.proofs.Quiet.{WordGoes, word_goes, Answer}

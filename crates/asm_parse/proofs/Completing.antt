@@ -21,24 +21,24 @@ use Rattle.asm_argument.specs.declared.operand.Partial.TheVariants as partial
 use Rattle.asm_source.specs.declared.tree.Form.{Form}
 use Rattle.asm_source.specs.declared.tree.Form.TheVariants as form
 use Rattle.asm_source.specs.declared.tree.Argument.{Argument}
-use Rattle.asm_parse.specs.declared.directive.Directive.{Directive}
-use Rattle.asm_parse.specs.declared.directive.Directive.TheVariants as directive
-use Rattle.asm_parse.specs.declared.directive.Head.{Head}
-use Rattle.asm_parse.specs.declared.directive.Head.TheVariants as head
-use Rattle.asm_parse.specs.declared.state.Open.{Open}
-use Rattle.asm_parse.specs.declared.state.StatementState.{StatementState}
-use Rattle.asm_parse.specs.declared.state.StatementState.TheVariants as state
-use Rattle.asm_parse.specs.ScopeView.{ScopeView}
+use Rattle.asm_statement.specs.declared.directive.Directive.{Directive}
+use Rattle.asm_statement.specs.declared.directive.Directive.TheVariants as directive
+use Rattle.asm_statement.specs.declared.directive.Head.{Head}
+use Rattle.asm_statement.specs.declared.directive.Head.TheVariants as head
+use Rattle.asm_statement.specs.declared.state.Open.{Open}
+use Rattle.asm_statement.specs.declared.state.StatementState.{StatementState}
+use Rattle.asm_statement.specs.declared.state.StatementState.TheVariants as state
+use Rattle.asm_statement.specs.ScopeView.{ScopeView}
 use Rattle.asm_source.specs.Names.{holds}
-use Rattle.asm_parse.specs.Scope.{has_room, is_spent, pushed, noted, defined_too}
+use Rattle.asm_statement.specs.Scope.{has_room, is_spent, pushed, noted, defined_too}
 use Rattle.asm_argument.specs.Operand.{finished, is_nothing}
 use Rattle.asm_argument.specs.Shapes.{is_operand, takes_numbers, fits, is_register, signed, named, plain, of_memory}
 use Rattle.asm_argument.specs.Grammar.{IsValue, IsForm}
 use Rattle.asm_argument.specs.Escapes.{opening, string_text}
 use Rattle.asm_argument.specs.Terminals.{terminal_of}
-use Rattle.asm_parse.specs.Statement.{is_taken, doom}
-use Rattle.asm_parse.specs.Items.{item_of, resumed, sectioned, is_passed, is_rep}
-use Rattle.asm_parse.specs.Directives.{shape_at, least, defines, is_section, is_dotted, directive_of, is_known, is_change, is_defining}
+use Rattle.asm_statement.specs.Statement.{is_taken, doom}
+use Rattle.asm_statement.specs.Items.{item_of, resumed, sectioned, is_passed, is_rep}
+use Rattle.asm_statement.specs.Directives.{shape_at, least, defines, is_section, is_dotted, directive_of, is_known, is_change, is_defining}
 use Rattle.asm_parse.specs.Statements.{IsSeen, IsArgument, IsNext, Separated, HasArguments, has_list, Statement}
 use Rattle.asm_parse.proofs.Words.{read_words}
 use Rattle.asm_argument.proofs.Operands.{ok, operand_run}

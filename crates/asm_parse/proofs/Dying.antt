@@ -6,13 +6,13 @@ use Rattle.asm_lex.specs.declared.fault.SourceCause.TheVariants.{OpenComment}
 use Rattle.asm_lex.specs.declared.machine.Mode.TheVariants as mode
 use Rattle.asm_lex.specs.declared.machine.Mode.{Mode}
 use Rattle.asm_lex.specs.Words.{Word, scan, line_after}
-use Rattle.asm_parse.specs.declared.state.StatementState.{StatementState}
-use Rattle.asm_parse.specs.declared.state.StatementState.TheVariants as state
-use Rattle.asm_parse.specs.ScopeView.{ScopeView}
-use Rattle.asm_parse.specs.Statement.{doom, pending, fault_line, left_open, open_at_end}
-use Rattle.asm_parse.specs.Reading.{Fault, placed, next_word}
+use Rattle.asm_statement.specs.declared.state.StatementState.{StatementState}
+use Rattle.asm_statement.specs.declared.state.StatementState.TheVariants as state
+use Rattle.asm_statement.specs.ScopeView.{ScopeView}
+use Rattle.asm_statement.specs.Statement.{doom, pending, fault_line, left_open, open_at_end}
+use Rattle.asm_statement.specs.Reading.{Fault, placed, next_word}
 use Rattle.asm_lex.specs.Lines.{first_lines}
-use Rattle.asm_parse.specs.Running.{Running, ◌>>=◌, one_byte, run, start, closed, read}
+use Rattle.asm_statement.specs.Running.{Running, ◌>>=◌, one_byte, run, start, closed, read}
 use Rattle.asm_parse.proofs.Scopes.{GoodIn, fresh_good}
 use Rattle.asm_parse.proofs.Quiet.{Any, any_next}
 use Rattle.asm_parse.proofs.Lines.{OneByte, placed_goes, bind_ok, err_line, ok_byte, run_ok, IsRead}

@@ -11,16 +11,16 @@ use Rattle.asm_lex.specs.declared.machine.Next.TheVariants.{Goes, Stops}
 use Rattle.asm_lex.specs.Machine.{stepped}
 use Rattle.asm_lex.specs.Words.{Word, Scan, scan, with_token}
 use Rattle.asm_lex.proofs.FaultLines.{StopsIn, step_in}
-use Rattle.asm_parse.specs.declared.state.StatementState.{StatementState}
-use Rattle.asm_parse.specs.declared.state.StatementState.TheVariants as state
+use Rattle.asm_statement.specs.declared.state.StatementState.{StatementState}
+use Rattle.asm_statement.specs.declared.state.StatementState.TheVariants as state
 use Rattle.asm_source.specs.declared.tree.SourceItem.{SourceItem}
-use Rattle.asm_parse.specs.ScopeView.{ScopeView}
-use Rattle.asm_parse.specs.Scope.{fresh}
-use Rattle.asm_parse.specs.Statement.{fault_line, stopped, left_open}
+use Rattle.asm_statement.specs.ScopeView.{ScopeView}
+use Rattle.asm_statement.specs.Scope.{fresh}
+use Rattle.asm_statement.specs.Statement.{fault_line, stopped, left_open}
 use Rattle.asm_parse.specs.Statements.{terminals}
-use Rattle.asm_parse.specs.Reading.{Fault, fed, placed, next_word}
+use Rattle.asm_statement.specs.Reading.{Fault, fed, placed, next_word}
 use Rattle.asm_argument.specs.Terminals.{terminal_of}
-use Rattle.asm_parse.specs.Running.{Running, ◌>>=◌, goes_on, second_does, one_byte_over, moved, one_byte, run, start, closed, read, Parses}
+use Rattle.asm_statement.specs.Running.{Running, ◌>>=◌, goes_on, second_does, one_byte_over, moved, one_byte, run, start, closed, read, Parses}
 use Rattle.asm_parse.specs.Refusals.{Ending, Worded, refused_cause, byte_cause, Refused, RefusedFor}
 use Rattle.asm_parse.proofs.Closing.{AreNamed, token_is}
 use Rattle.asm_parse.proofs.Walking.{fault_in, Found}

@@ -8,19 +8,19 @@ use Rattle.asm_argument.specs.declared.terminal.Terminal.TheVariants as terminal
 use Rattle.asm_argument.specs.declared.operand.Shape.{Shape}
 use Rattle.asm_argument.specs.declared.operand.Partial.{Partial}
 use Rattle.asm_source.specs.declared.tree.Argument.{Argument}
-use Rattle.asm_parse.specs.declared.directive.Directive.{Directive}
-use Rattle.asm_parse.specs.declared.directive.Directive.TheVariants as directive
-use Rattle.asm_parse.specs.declared.directive.Head.{Head}
-use Rattle.asm_parse.specs.declared.directive.Head.TheVariants as head
-use Rattle.asm_parse.specs.declared.state.Open.{Open}
-use Rattle.asm_parse.specs.declared.state.StatementState.{StatementState}
-use Rattle.asm_parse.specs.declared.state.StatementState.TheVariants as state
-use Rattle.asm_parse.specs.ScopeView.{ScopeView}
-use Rattle.asm_parse.specs.Scope.{fresh}
+use Rattle.asm_statement.specs.declared.directive.Directive.{Directive}
+use Rattle.asm_statement.specs.declared.directive.Directive.TheVariants as directive
+use Rattle.asm_statement.specs.declared.directive.Head.{Head}
+use Rattle.asm_statement.specs.declared.directive.Head.TheVariants as head
+use Rattle.asm_statement.specs.declared.state.Open.{Open}
+use Rattle.asm_statement.specs.declared.state.StatementState.{StatementState}
+use Rattle.asm_statement.specs.declared.state.StatementState.TheVariants as state
+use Rattle.asm_statement.specs.ScopeView.{ScopeView}
+use Rattle.asm_statement.specs.Scope.{fresh}
 use Rattle.asm_argument.specs.Operand.{operand_step, is_finished, name_in}
-use Rattle.asm_parse.specs.Directives.{shape_at, least, directive_of, is_dotted, is_section, defines}
-use Rattle.asm_parse.specs.Statement.{noting, after_noting, with_name, after_step, at_shape, argument_of, comma_behind, end_behind, ended, complete, is_bare, takes_star, within, argument_step, nothing_yet, labelled, rep_step, section_name, of_directive, with_scope, sectioned_step, skip, named_step, step, unless_skipping, is_place, fault_line, strayed, next_step}
-use Rattle.asm_parse.specs.Items.{is_rep, is_passed}
+use Rattle.asm_statement.specs.Directives.{shape_at, least, directive_of, is_dotted, is_section, defines}
+use Rattle.asm_statement.specs.Statement.{noting, after_noting, with_name, after_step, at_shape, argument_of, comma_behind, end_behind, ended, complete, is_bare, takes_star, within, argument_step, nothing_yet, labelled, rep_step, section_name, of_directive, with_scope, sectioned_step, skip, named_step, step, unless_skipping, is_place, fault_line, strayed, next_step}
+use Rattle.asm_statement.specs.Items.{is_rep, is_passed}
 use Rattle.asm_parse.proofs.Quiet.{Answer}
 
 abbrev pub is_later : StatementState → Bool

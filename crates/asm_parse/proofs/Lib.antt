@@ -3,9 +3,6 @@ pub mod Words
 pub mod Scopes
 pub mod Quiet
 pub mod Lines
-pub mod Feeding
-pub mod Stepping
-pub mod Advancing
 pub mod Linking
 pub mod Alive
 pub mod Dying
@@ -16,6 +13,7 @@ pub mod Written
 pub mod Completing
 pub mod Closing
 pub mod Sources
+pub mod Lengths
 pub mod Costs
 pub mod Sizes
 pub mod Readability

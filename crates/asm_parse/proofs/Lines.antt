@@ -8,11 +8,11 @@ use Rattle.asm_lex.specs.declared.machine.Stepped.{Stepped}
 use Rattle.asm_lex.specs.declared.token.Token.{Token}
 use Rattle.asm_lex.specs.Machine.{stepped}
 use Rattle.asm_lex.specs.Words.{Word, word_of, line_after}
-use Rattle.asm_parse.specs.declared.state.StatementState.{StatementState}
-use Rattle.asm_parse.specs.ScopeView.{ScopeView}
-use Rattle.asm_parse.specs.Statement.{doom, fault_line, stopped}
-use Rattle.asm_parse.specs.Reading.{Fault, fed, placed, next_word}
-use Rattle.asm_parse.specs.Running.{Running, ◌>>=◌, goes_on, byte_does, second_does, one_byte_over, moved, one_byte, run, read}
+use Rattle.asm_statement.specs.declared.state.StatementState.{StatementState}
+use Rattle.asm_statement.specs.ScopeView.{ScopeView}
+use Rattle.asm_statement.specs.Statement.{doom, fault_line, stopped}
+use Rattle.asm_statement.specs.Reading.{Fault, fed, placed, next_word}
+use Rattle.asm_statement.specs.Running.{Running, ◌>>=◌, goes_on, byte_does, second_does, one_byte_over, moved, one_byte, run, read}
 use Rattle.asm_parse.proofs.Scopes.{GoodIn}
 use Rattle.asm_parse.proofs.Quiet.{Answer, Any, any_next}
 use Rattle.asm_parse.proofs.Names.{none_some}

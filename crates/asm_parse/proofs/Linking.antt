@@ -9,11 +9,11 @@ use Rattle.asm_lex.specs.declared.machine.Stepped.{Stepped}
 use Rattle.asm_lex.specs.Machine.{stepped}
 use Rattle.asm_lex.specs.Words.{Scan, scan, with_token, word_of, line_after}
 use Rattle.asm_lex.proofs.TextTokens.{IsClosed, at_newline, ending_same}
-use Rattle.asm_parse.specs.declared.state.StatementState.{StatementState}
-use Rattle.asm_parse.specs.ScopeView.{ScopeView}
-use Rattle.asm_parse.specs.Statement.{fault_line}
-use Rattle.asm_parse.specs.Reading.{Fault, fed, placed, next_word}
-use Rattle.asm_parse.specs.Running.{Running, closed, goes_on, second_does, byte_does, one_byte_over, moved, one_byte, run}
+use Rattle.asm_statement.specs.declared.state.StatementState.{StatementState}
+use Rattle.asm_statement.specs.ScopeView.{ScopeView}
+use Rattle.asm_statement.specs.Statement.{fault_line}
+use Rattle.asm_statement.specs.Reading.{Fault, fed, placed, next_word}
+use Rattle.asm_statement.specs.Running.{Running, closed, goes_on, second_does, byte_does, one_byte_over, moved, one_byte, run}
 use Rattle.asm_parse.proofs.Words.{read_words}
 use Rattle.asm_parse.proofs.Lines.{bind_ok, run_ok}
 

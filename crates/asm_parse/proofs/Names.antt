@@ -11,12 +11,12 @@ use Rattle.asm_argument.specs.declared.operand.Partial.{Partial}
 use Rattle.asm_argument.specs.declared.operand.Partial.TheVariants as partial
 use Rattle.asm_source.specs.declared.tree.Form.{Form}
 use Rattle.asm_source.specs.declared.tree.Form.TheVariants as form
-use Rattle.asm_parse.specs.ScopeView.{ScopeView}
+use Rattle.asm_statement.specs.ScopeView.{ScopeView}
 use Rattle.asm_source.specs.Names.{holds, name_of, symbol_in}
-use Rattle.asm_parse.specs.Scope.{has_room, noted, defined_too}
+use Rattle.asm_statement.specs.Scope.{has_room, noted, defined_too}
 use Rattle.asm_argument.specs.Operand.{is_nothing, first, allowed, counted, lowered, registered, next_terminal, operand_step, finished, is_finished, name_in}
 use Rattle.asm_argument.specs.Shapes.{is_operand, takes_names, takes_sums, takes_minus, takes_numbers, takes_text, fits, signed, named, plain, of_memory, is_register, is_scale, is_low}
-use Rattle.asm_parse.specs.Statement.{noting}
+use Rattle.asm_statement.specs.Statement.{noting}
 use Rattle.asm_parse.specs.Statements.{IsSeen}
 use Rattle.asm_argument.proofs.Operands.{ok, registered_ok, allowed_ok, counted_ok, lowered_ok, scale_ok, ok_is, operand_run}
 

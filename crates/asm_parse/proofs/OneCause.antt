@@ -7,14 +7,15 @@ use Rattle.asm_lex.specs.declared.fault.SourceFault.TheVariants as fault
 use Rattle.asm_lex.specs.Words.{Word}
 use Rattle.asm_argument.specs.declared.terminal.Terminal.{Terminal}
 use Rattle.asm_source.specs.declared.tree.SourceItem.{SourceItem}
-use Rattle.asm_parse.specs.declared.state.StatementState.{StatementState}
-use Rattle.asm_parse.specs.declared.state.StatementState.TheVariants as state
-use Rattle.asm_parse.specs.ScopeView.{ScopeView}
-use Rattle.asm_parse.specs.Scope.{fresh}
+use Rattle.asm_statement.specs.declared.state.StatementState.{StatementState}
+use Rattle.asm_statement.specs.declared.state.StatementState.TheVariants as state
+use Rattle.asm_statement.specs.ScopeView.{ScopeView}
+use Rattle.asm_statement.specs.Scope.{fresh}
 use Rattle.asm_argument.specs.Terminals.{terminal_of}
-use Rattle.asm_parse.specs.Statement.{doom, fault_line}
-use Rattle.asm_parse.specs.Reading.{placed, next_word}
-use Rattle.asm_parse.specs.Running.{◌>>=◌, read, Parses, HasReading}
+use Rattle.asm_statement.specs.Statement.{doom, fault_line}
+use Rattle.asm_statement.specs.Reading.{placed, next_word}
+use Rattle.asm_parse.specs.Source.{HasReading}
+use Rattle.asm_statement.specs.Running.{◌>>=◌, read, Parses}
 use Rattle.asm_parse.specs.Statements.{terminals, Statements}
 use Rattle.asm_parse.specs.Refusals.{Ending, Worded, IsBeginning, IsNoBeginning, StatementPlace, Reaches, refused_cause, byte_cause, Refused}
 use Rattle.asm_lex.specs.Refusals.{RefusesAs}

@@ -12,14 +12,14 @@ use Rattle.asm_argument.specs.declared.operand.Partial.{Partial}
 use Rattle.asm_argument.specs.declared.operand.Partial.TheVariants as partial
 use Rattle.asm_source.specs.declared.tree.Argument.{Argument}
 use Rattle.asm_source.specs.declared.tree.Form.TheVariants as form
-use Rattle.asm_parse.specs.declared.directive.Head.{Head}
-use Rattle.asm_parse.specs.ScopeView.{ScopeView}
+use Rattle.asm_statement.specs.declared.directive.Head.{Head}
+use Rattle.asm_statement.specs.ScopeView.{ScopeView}
 use Rattle.asm_source.specs.Names.{holds}
-use Rattle.asm_parse.specs.Scope.{has_room, noted, defined_too}
+use Rattle.asm_statement.specs.Scope.{has_room, noted, defined_too}
 use Rattle.asm_argument.specs.Operand.{counted, allowed, registered, first, next_terminal, operand_step, is_finished, is_unbegun, name_in}
 use Rattle.asm_argument.specs.Shapes.{is_operand, takes_names, takes_sums, takes_minus, takes_numbers, takes_text, fits, is_low, is_register, is_scale}
-use Rattle.asm_parse.specs.Directives.{shape_at, defines}
-use Rattle.asm_parse.specs.Statement.{noting, misplaced, argument_cause}
+use Rattle.asm_statement.specs.Directives.{shape_at, defines}
+use Rattle.asm_statement.specs.Statement.{noting, misplaced, argument_cause}
 use Rattle.asm_parse.specs.Refusals.{name_cause, operand_cause, takes_name, value_cause}
 use Rattle.asm_argument.proofs.Operands.{ok, registered_ok, Spelled}
 use Rattle.asm_parse.proofs.Tails.{percents, indexed, minuses, signs, frees, Tail}

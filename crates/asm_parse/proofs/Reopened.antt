@@ -11,14 +11,14 @@ use Rattle.asm_argument.specs.declared.operand.Shape.TheVariants as shape
 use Rattle.asm_argument.specs.declared.operand.Partial.{Partial}
 use Rattle.asm_argument.specs.declared.operand.Partial.TheVariants as partial
 use Rattle.asm_source.specs.declared.tree.Argument.{Argument}
-use Rattle.asm_parse.specs.declared.directive.Head.{Head}
-use Rattle.asm_parse.specs.declared.state.Open.{Open}
-use Rattle.asm_parse.specs.declared.state.StatementState.{StatementState}
-use Rattle.asm_parse.specs.declared.state.StatementState.TheVariants as state
-use Rattle.asm_parse.specs.ScopeView.{ScopeView}
+use Rattle.asm_statement.specs.declared.directive.Head.{Head}
+use Rattle.asm_statement.specs.declared.state.Open.{Open}
+use Rattle.asm_statement.specs.declared.state.StatementState.{StatementState}
+use Rattle.asm_statement.specs.declared.state.StatementState.TheVariants as state
+use Rattle.asm_statement.specs.ScopeView.{ScopeView}
 use Rattle.asm_argument.specs.Operand.{begun, next_terminal, finished, is_unbegun}
-use Rattle.asm_parse.specs.Directives.{shape_at, defines, is_instruction}
-use Rattle.asm_parse.specs.Statement.{noting, after_noting, with_name, argument_step, nothing_yet}
+use Rattle.asm_statement.specs.Directives.{shape_at, defines, is_instruction}
+use Rattle.asm_statement.specs.Statement.{noting, after_noting, with_name, argument_step, nothing_yet}
 use Rattle.asm_parse.specs.Statements.{IsSeen, Sees, IsArgument, Separated, is_inner, Statement}
 use Rattle.asm_parse.specs.Refusals.{StatementPlace, Leads, Opens}
 use Rattle.asm_argument.proofs.Operands.{ok, operand_run, form_reads, Spelled, begun_spelled, more}

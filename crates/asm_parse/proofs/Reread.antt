@@ -8,18 +8,18 @@ use Rattle.asm_argument.specs.declared.terminal.Terminal.TheVariants as terminal
 use Rattle.asm_argument.specs.declared.operand.Shape.{Shape}
 use Rattle.asm_argument.specs.declared.operand.Partial.{Partial}
 use Rattle.asm_source.specs.declared.tree.Argument.{Argument}
-use Rattle.asm_parse.specs.declared.directive.Head.{Head}
-use Rattle.asm_parse.specs.declared.state.Open.{Open}
-use Rattle.asm_parse.specs.declared.state.StatementState.{StatementState}
-use Rattle.asm_parse.specs.declared.state.StatementState.TheVariants as state
-use Rattle.asm_parse.specs.ScopeView.{ScopeView}
-use Rattle.asm_parse.specs.Scope.{fresh}
+use Rattle.asm_statement.specs.declared.directive.Head.{Head}
+use Rattle.asm_statement.specs.declared.state.Open.{Open}
+use Rattle.asm_statement.specs.declared.state.StatementState.{StatementState}
+use Rattle.asm_statement.specs.declared.state.StatementState.TheVariants as state
+use Rattle.asm_statement.specs.ScopeView.{ScopeView}
+use Rattle.asm_statement.specs.Scope.{fresh}
 use Rattle.asm_argument.specs.Operand.{operand_step, is_finished, name_in}
 use Rattle.asm_argument.specs.Terminals.{terminal_of}
-use Rattle.asm_parse.specs.Directives.{shape_at, defines}
-use Rattle.asm_parse.specs.Statement.{noting, after_noting, with_name, after_step, at_shape, within, argument_of, comma_behind, ended, takes_star, argument_step, with_scope, step, next_step, strayed, is_place, fault_line, doom, skip}
-use Rattle.asm_parse.specs.Reading.{Fault, placed, ending_at, with_end, next_word}
-use Rattle.asm_parse.specs.Running.{◌>>=◌}
+use Rattle.asm_statement.specs.Directives.{shape_at, defines}
+use Rattle.asm_statement.specs.Statement.{noting, after_noting, with_name, after_step, at_shape, within, argument_of, comma_behind, ended, takes_star, argument_step, with_scope, step, next_step, strayed, is_place, fault_line, doom, skip}
+use Rattle.asm_statement.specs.Reading.{Fault, placed, ending_at, with_end, next_word}
+use Rattle.asm_statement.specs.Running.{◌>>=◌}
 use Rattle.asm_parse.specs.Statements.{is_inner, terminals}
 use Rattle.asm_parse.specs.Refusals.{StatementPlace}
 use Rattle.asm_parse.proofs.Words.{read_words}

@@ -14,21 +14,21 @@ use Rattle.asm_argument.specs.declared.operand.Partial.{Partial}
 use Rattle.asm_argument.specs.declared.operand.Partial.TheVariants as partial
 use Rattle.asm_source.specs.declared.tree.Argument.{Argument}
 use Rattle.asm_source.specs.declared.tree.Form.{Form}
-use Rattle.asm_parse.specs.declared.directive.Directive.{Directive}
-use Rattle.asm_parse.specs.declared.directive.Directive.TheVariants as kind
-use Rattle.asm_parse.specs.declared.directive.Head.{Head}
-use Rattle.asm_parse.specs.declared.directive.Head.TheVariants as head
-use Rattle.asm_parse.specs.declared.state.Open.{Open}
-use Rattle.asm_parse.specs.declared.state.StatementState.{StatementState}
-use Rattle.asm_parse.specs.declared.state.StatementState.TheVariants as state
-use Rattle.asm_parse.specs.ScopeView.{ScopeView}
-use Rattle.asm_parse.specs.Scope.{pushed, fresh}
+use Rattle.asm_statement.specs.declared.directive.Directive.{Directive}
+use Rattle.asm_statement.specs.declared.directive.Directive.TheVariants as kind
+use Rattle.asm_statement.specs.declared.directive.Head.{Head}
+use Rattle.asm_statement.specs.declared.directive.Head.TheVariants as head
+use Rattle.asm_statement.specs.declared.state.Open.{Open}
+use Rattle.asm_statement.specs.declared.state.StatementState.{StatementState}
+use Rattle.asm_statement.specs.declared.state.StatementState.TheVariants as state
+use Rattle.asm_statement.specs.ScopeView.{ScopeView}
+use Rattle.asm_statement.specs.Scope.{pushed, fresh}
 use Rattle.asm_argument.specs.Operand.{begun, operand_step, finished, is_finished, is_nothing, is_unbegun}
 use Rattle.asm_argument.specs.Shapes.{is_operand}
 use Rattle.asm_argument.specs.Grammar.{IsForm}
-use Rattle.asm_parse.specs.Statement.{noting, with_name, after_noting, after_step, at_shape, within, argument_step, is_bare, takes_star, ended, ended_as, comma_behind, end_behind, complete, nothing_yet, named_step, labelled, label, directive_step, of_directive, rep_step, section_name, unless_skipping, skip, start_step, step, argument_of, is_place, strayed, next_step, fault_line, with_scope}
-use Rattle.asm_parse.specs.Items.{item_of, resumed, is_passed, is_rep}
-use Rattle.asm_parse.specs.Directives.{shape_at, least, defines, is_instruction, directive_of, is_dotted, is_section}
+use Rattle.asm_statement.specs.Statement.{noting, with_name, after_noting, after_step, at_shape, within, argument_step, is_bare, takes_star, ended, ended_as, comma_behind, end_behind, complete, nothing_yet, named_step, labelled, label, directive_step, of_directive, rep_step, section_name, unless_skipping, skip, start_step, step, argument_of, is_place, strayed, next_step, fault_line, with_scope}
+use Rattle.asm_statement.specs.Items.{item_of, resumed, is_passed, is_rep}
+use Rattle.asm_statement.specs.Directives.{shape_at, least, defines, is_instruction, directive_of, is_dotted, is_section}
 use Rattle.asm_parse.specs.Refusals.{Leads}
 use Rattle.asm_parse.specs.Statements.{IsSeen, Sees, IsArgument, IsNext, Separated, HasArguments, is_inner, is_unlabelled, has_list, Statement}
 use Rattle.asm_argument.proofs.Operands.{Spelled, begun_spelled, more, spelled_form}

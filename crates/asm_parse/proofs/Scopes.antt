@@ -11,10 +11,10 @@ use Rattle.std.specs.List.{IsDistinct}
 use Rattle.std.specs.Str.{bytes_eq}
 use Rattle.asm_lex.specs.declared.fault.SourceCause.{SourceCause}
 use Rattle.asm_lex.specs.declared.fault.SourceCause.TheVariants as cause
-use Rattle.asm_parse.specs.ScopeView.{ScopeView}
+use Rattle.asm_statement.specs.ScopeView.{ScopeView}
 use Rattle.asm_source.specs.Names.{holds, added}
-use Rattle.asm_parse.specs.Scope.{fresh, has_room, is_spent}
-use Rattle.asm_parse.specs.Statement.{noting}
+use Rattle.asm_statement.specs.Scope.{fresh, has_room, is_spent}
+use Rattle.asm_statement.specs.Statement.{noting}
 use Rattle.asm_parse.specs.Statements.{IsSeen}
 
 abbrev pub Each : (List ℕ → Type 0) → List (List ℕ) → Type 0

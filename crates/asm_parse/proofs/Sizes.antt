@@ -14,21 +14,22 @@ use Rattle.asm_source.specs.declared.tree.Form.TheVariants as form
 use Rattle.asm_source.specs.declared.tree.Argument.{Argument}
 use Rattle.asm_source.specs.declared.tree.Body.TheVariants as body
 use Rattle.asm_source.specs.declared.tree.SourceItem.{SourceItem}
-use Rattle.asm_parse.specs.declared.directive.Directive.TheVariants as kind
-use Rattle.asm_parse.specs.declared.directive.Head.{Head}
-use Rattle.asm_parse.specs.declared.directive.Head.TheVariants as head
-use Rattle.asm_parse.specs.ScopeView.{ScopeView}
-use Rattle.asm_parse.specs.Scope.{pushed}
+use Rattle.asm_statement.specs.declared.directive.Directive.TheVariants as kind
+use Rattle.asm_statement.specs.declared.directive.Head.{Head}
+use Rattle.asm_statement.specs.declared.directive.Head.TheVariants as head
+use Rattle.asm_statement.specs.ScopeView.{ScopeView}
+use Rattle.asm_statement.specs.Scope.{pushed}
 use Rattle.asm_argument.specs.Operand.{begun}
 use Rattle.asm_argument.specs.Shapes.{takes_absent}
 use Rattle.asm_argument.specs.Grammar.{IsValue, IsAddress, IsForm}
-use Rattle.asm_parse.specs.Items.{item_of, resumed, sectioned}
-use Rattle.asm_parse.specs.Directives.{shape_at}
+use Rattle.asm_statement.specs.Items.{item_of, resumed, sectioned}
+use Rattle.asm_statement.specs.Directives.{shape_at}
 use Rattle.asm_parse.specs.Statements.{IsSeen, Sees, IsArgument, Separated, HasArguments, Statement, terminals, text_of, IsStatement, Statements}
 use Rattle.std.specs.Prelude.{IfOk, Result, Ok, Err}
 use Rattle.asm_lex.specs.declared.fault.SourceFault.{SourceFault}
 use Rattle.asm_argument.specs.Terminals.{terminal_of}
-use Rattle.asm_parse.specs.Running.{Says, Parses, read}
+use Rattle.asm_parse.specs.Source.{Says}
+use Rattle.asm_statement.specs.Running.{Parses, read}
 use Rattle.asm_parse.proofs.Sources.{parsed_is}
 use Rattle.asm_source.specs.Size.{name_size, form_size, arguments_size, body_size, body_count, items_size, items_count}
 use Rattle.asm_argument.proofs.Operands.{absent_begun}

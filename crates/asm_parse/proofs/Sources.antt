@@ -11,16 +11,17 @@ use Rattle.asm_lex.specs.Words.{Scan, scan}
 use Rattle.asm_lex.proofs.Again.{again}
 use Rattle.asm_lex.proofs.Found.{found}
 use Rattle.asm_source.specs.declared.tree.SourceItem.{SourceItem}
-use Rattle.asm_parse.specs.declared.state.StatementState.{StatementState}
-use Rattle.asm_parse.specs.declared.state.StatementState.TheVariants as state
-use Rattle.asm_parse.specs.ScopeView.{ScopeView}
-use Rattle.asm_parse.specs.Scope.{fresh}
+use Rattle.asm_statement.specs.declared.state.StatementState.{StatementState}
+use Rattle.asm_statement.specs.declared.state.StatementState.TheVariants as state
+use Rattle.asm_statement.specs.ScopeView.{ScopeView}
+use Rattle.asm_statement.specs.Scope.{fresh}
 use Rattle.asm_lex.specs.Lines.{first_lines}
-use Rattle.asm_parse.specs.Running.{Running, closed, run, start, read, Says, SourceAs, Parses, ReadsAs, DeadAt, GoesOn, AliveBefore}
+use Rattle.asm_parse.specs.Source.{Says, SourceAs, ReadsAs, DeadAt, GoesOn, AliveBefore}
+use Rattle.asm_statement.specs.Running.{Running, closed, run, start, read, Parses}
 use Rattle.asm_parse.proofs.Words.{read_words}
 use Rattle.asm_parse.proofs.Lines.{bind_ok}
 use Rattle.asm_parse.proofs.Dying.{dead_line, alive_line}
-use Rattle.asm_parse.specs.Statement.{doom}
+use Rattle.asm_statement.specs.Statement.{doom}
 use Rattle.asm_parse.proofs.Closing.{closed_goes_on}
 use Rattle.asm_lex.proofs.TextTokens.{IsClosed}
 use Rattle.asm_parse.proofs.Linking.{run_append, link, unlink, last_mode, closed_between, closed_ok, ok_same, not_both}

@@ -16,27 +16,27 @@ use Rattle.asm_argument.specs.declared.operand.Partial.TheVariants as partial
 use Rattle.asm_source.specs.declared.tree.Argument.{Argument}
 use Rattle.asm_source.specs.declared.tree.Form.{Form}
 use Rattle.asm_source.specs.declared.tree.Body.TheVariants as body
-use Rattle.asm_parse.specs.declared.directive.Directive.{Directive}
-use Rattle.asm_parse.specs.declared.directive.Directive.TheVariants as kind
-use Rattle.asm_parse.specs.declared.directive.Head.{Head}
-use Rattle.asm_parse.specs.declared.directive.Head.TheVariants as head
-use Rattle.asm_parse.specs.declared.state.Open.{Open}
-use Rattle.asm_parse.specs.declared.state.StatementState.{StatementState}
-use Rattle.asm_parse.specs.declared.state.StatementState.TheVariants as state
-use Rattle.asm_parse.specs.ScopeView.{ScopeView}
-use Rattle.asm_parse.specs.Scope.{pushed}
+use Rattle.asm_statement.specs.declared.directive.Directive.{Directive}
+use Rattle.asm_statement.specs.declared.directive.Directive.TheVariants as kind
+use Rattle.asm_statement.specs.declared.directive.Head.{Head}
+use Rattle.asm_statement.specs.declared.directive.Head.TheVariants as head
+use Rattle.asm_statement.specs.declared.state.Open.{Open}
+use Rattle.asm_statement.specs.declared.state.StatementState.{StatementState}
+use Rattle.asm_statement.specs.declared.state.StatementState.TheVariants as state
+use Rattle.asm_statement.specs.ScopeView.{ScopeView}
+use Rattle.asm_statement.specs.Scope.{pushed}
 use Rattle.asm_argument.specs.Operand.{begun, next_terminal, operand_step, finished, is_nothing, name_in}
 use Rattle.asm_argument.specs.Shapes.{is_operand}
 use Rattle.asm_lex.specs.declared.token.TokenKind.{TokenKind}
 use Rattle.asm_lex.specs.declared.token.TokenKind.TheVariants as token
 use Rattle.asm_argument.specs.Terminals.{mark_terminal, number_terminal, number_value, terminal_of}
-use Rattle.asm_parse.specs.Reading.{Fault, placed, is_longer, ending_at, next_word}
-use Rattle.asm_parse.specs.Items.{is_part}
-use Rattle.asm_parse.specs.Running.{◌>>=◌}
+use Rattle.asm_statement.specs.Reading.{Fault, placed, is_longer, ending_at, next_word}
+use Rattle.asm_statement.specs.Items.{is_part}
+use Rattle.asm_statement.specs.Running.{◌>>=◌}
 use Rattle.asm_parse.proofs.Words.{read_words}
-use Rattle.asm_parse.specs.Statement.{with_name, after_step, at_shape, within, argument_step, nothing_yet, named_step, colon_behind, label, labelled, unless_skipping, other_behind, of_directive, skip, sectioned_step, flags_step, start_step, step, strayed, next_step, fault_line, with_scope}
-use Rattle.asm_parse.specs.Items.{item_of, resumed, sectioned, is_passed}
-use Rattle.asm_parse.specs.Directives.{shape_at, least, defines, is_instruction, is_dotted, directive_of, is_section}
+use Rattle.asm_statement.specs.Statement.{with_name, after_step, at_shape, within, argument_step, nothing_yet, named_step, colon_behind, label, labelled, unless_skipping, other_behind, of_directive, skip, sectioned_step, flags_step, start_step, step, strayed, next_step, fault_line, with_scope}
+use Rattle.asm_statement.specs.Items.{item_of, resumed, sectioned, is_passed}
+use Rattle.asm_statement.specs.Directives.{shape_at, least, defines, is_instruction, is_dotted, directive_of, is_section}
 use Rattle.asm_source.specs.Names.{symbol_in}
 use Rattle.asm_parse.specs.Statements.{IsSeen, Sees, IsArgument, Separated, HasArguments, is_inner, is_unlabelled, is_nameless, are_flags, has_list, Statement, terminals, text_of, Touch, IsStatement, Statements}
 use Rattle.asm_argument.proofs.Operands.{ok, operand_run, form_reads}

@@ -12,18 +12,18 @@ use Rattle.asm_argument.specs.declared.operand.Partial.{Partial}
 use Rattle.asm_argument.specs.declared.operand.Partial.TheVariants as partial
 use Rattle.asm_source.specs.declared.tree.Argument.{Argument}
 use Rattle.asm_source.specs.declared.tree.Form.{Form}
-use Rattle.asm_parse.specs.declared.directive.Directive.{Directive}
-use Rattle.asm_parse.specs.declared.directive.Directive.TheVariants as kind
-use Rattle.asm_parse.specs.declared.directive.Head.{Head}
-use Rattle.asm_parse.specs.declared.directive.Head.TheVariants as head
-use Rattle.asm_parse.specs.declared.state.Open.{Open}
-use Rattle.asm_parse.specs.declared.state.StatementState.{StatementState}
-use Rattle.asm_parse.specs.declared.state.StatementState.TheVariants as state
-use Rattle.asm_parse.specs.ScopeView.{ScopeView}
+use Rattle.asm_statement.specs.declared.directive.Directive.{Directive}
+use Rattle.asm_statement.specs.declared.directive.Directive.TheVariants as kind
+use Rattle.asm_statement.specs.declared.directive.Head.{Head}
+use Rattle.asm_statement.specs.declared.directive.Head.TheVariants as head
+use Rattle.asm_statement.specs.declared.state.Open.{Open}
+use Rattle.asm_statement.specs.declared.state.StatementState.{StatementState}
+use Rattle.asm_statement.specs.declared.state.StatementState.TheVariants as state
+use Rattle.asm_statement.specs.ScopeView.{ScopeView}
 use Rattle.asm_argument.specs.Operand.{next_terminal, operand_step, is_finished, is_unbegun, is_nothing, name_in}
 use Rattle.asm_argument.specs.Shapes.{is_operand, takes_names}
-use Rattle.asm_parse.specs.Directives.{shape_at, directive_shape, least, defines, is_instruction}
-use Rattle.asm_parse.specs.Statement.{noting, misplaced, argument_cause, cause_in, after_noting, with_name, after_step, at_shape, within, argument_of, ended, ended_as, comma_behind, end_behind, complete, is_bare, takes_star, with_scope, argument_step}
+use Rattle.asm_statement.specs.Directives.{shape_at, directive_shape, least, defines, is_instruction}
+use Rattle.asm_statement.specs.Statement.{noting, misplaced, argument_cause, cause_in, after_noting, with_name, after_step, at_shape, within, argument_of, ended, ended_as, comma_behind, end_behind, complete, is_bare, takes_star, with_scope, argument_step}
 use Rattle.asm_parse.specs.Statements.{Sees}
 use Rattle.asm_parse.specs.Refusals.{name_cause, takes_name, value_cause, in_argument}
 use Rattle.asm_argument.proofs.Operands.{ok, allowed_ok, Spelled}

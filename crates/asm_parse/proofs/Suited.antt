@@ -5,18 +5,18 @@ use Rattle.asm_lex.specs.Words.{Word}
 use Rattle.asm_argument.specs.declared.terminal.Terminal.{Terminal}
 use Rattle.asm_argument.specs.declared.terminal.Terminal.TheVariants as terminal
 use Rattle.asm_source.specs.declared.tree.Argument.{Argument}
-use Rattle.asm_parse.specs.declared.directive.Directive.TheVariants as kind
-use Rattle.asm_parse.specs.declared.directive.Head.{Head}
-use Rattle.asm_parse.specs.declared.directive.Head.TheVariants as head
-use Rattle.asm_parse.specs.declared.state.StatementState.{StatementState}
-use Rattle.asm_parse.specs.declared.state.StatementState.TheVariants as state
-use Rattle.asm_parse.specs.ScopeView.{ScopeView}
-use Rattle.asm_parse.specs.Scope.{fresh}
+use Rattle.asm_statement.specs.declared.directive.Directive.TheVariants as kind
+use Rattle.asm_statement.specs.declared.directive.Head.{Head}
+use Rattle.asm_statement.specs.declared.directive.Head.TheVariants as head
+use Rattle.asm_statement.specs.declared.state.StatementState.{StatementState}
+use Rattle.asm_statement.specs.declared.state.StatementState.TheVariants as state
+use Rattle.asm_statement.specs.ScopeView.{ScopeView}
+use Rattle.asm_statement.specs.Scope.{fresh}
 use Rattle.asm_argument.specs.Terminals.{terminal_of}
-use Rattle.asm_parse.specs.Directives.{shape_at, is_dotted, directive_of, is_section}
-use Rattle.asm_parse.specs.Statement.{argument_step, nothing_yet, other_behind, step, doom}
-use Rattle.asm_parse.specs.Items.{is_passed}
-use Rattle.asm_parse.specs.Reading.{ending_at}
+use Rattle.asm_statement.specs.Directives.{shape_at, is_dotted, directive_of, is_section}
+use Rattle.asm_statement.specs.Statement.{argument_step, nothing_yet, other_behind, step, doom}
+use Rattle.asm_statement.specs.Items.{is_passed}
+use Rattle.asm_statement.specs.Reading.{ending_at}
 use Rattle.asm_parse.specs.Statements.{is_inner, Separated, Statement, terminals}
 use Rattle.asm_parse.specs.Refusals.{StatementPlace, Leads, Opens, LeadsTo, Reaches}
 use Rattle.asm_parse.proofs.Words.{read_words}

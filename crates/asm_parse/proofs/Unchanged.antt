@@ -9,20 +9,20 @@ use Rattle.asm_argument.specs.declared.terminal.Terminal.TheVariants as terminal
 use Rattle.asm_source.specs.declared.tree.Argument.{Argument}
 use Rattle.asm_source.specs.declared.tree.SourceItem.{SourceItem}
 use Rattle.asm_source.specs.declared.tree.Body.TheVariants as body
-use Rattle.asm_parse.specs.declared.directive.Directive.TheVariants as kind
-use Rattle.asm_parse.specs.declared.directive.Head.{Head}
-use Rattle.asm_parse.specs.declared.directive.Head.TheVariants as head
-use Rattle.asm_parse.specs.declared.state.StatementState.{StatementState}
-use Rattle.asm_parse.specs.declared.state.StatementState.TheVariants as state
-use Rattle.asm_parse.specs.ScopeView.{ScopeView}
-use Rattle.asm_parse.specs.Scope.{pushed}
+use Rattle.asm_statement.specs.declared.directive.Directive.TheVariants as kind
+use Rattle.asm_statement.specs.declared.directive.Head.{Head}
+use Rattle.asm_statement.specs.declared.directive.Head.TheVariants as head
+use Rattle.asm_statement.specs.declared.state.StatementState.{StatementState}
+use Rattle.asm_statement.specs.declared.state.StatementState.TheVariants as state
+use Rattle.asm_statement.specs.ScopeView.{ScopeView}
+use Rattle.asm_statement.specs.Scope.{pushed}
 use Rattle.asm_argument.specs.Terminals.{terminal_of}
-use Rattle.asm_parse.specs.Statement.{skip, unless_skipping, other_behind, step, doom, with_scope}
-use Rattle.asm_parse.specs.Items.{item_of, resumed}
-use Rattle.asm_parse.specs.Reading.{ending_at}
+use Rattle.asm_statement.specs.Statement.{skip, unless_skipping, other_behind, step, doom, with_scope}
+use Rattle.asm_statement.specs.Items.{item_of, resumed}
+use Rattle.asm_statement.specs.Reading.{ending_at}
 use Rattle.asm_parse.specs.Statements.{IsSeen, Sees, Separated, HasArguments, is_inner, is_unlabelled, is_nameless, Statement, terminals}
 use Rattle.asm_source.specs.Names.{symbol_in}
-use Rattle.asm_parse.specs.Directives.{defines}
+use Rattle.asm_statement.specs.Directives.{defines}
 use Rattle.asm_parse.proofs.Words.{read_words}
 use Rattle.asm_parse.proofs.Reread.{Pair, on_word, inner_parts, skip_stays, same_pair, skip_inner}
 

@@ -1,9 +1,3 @@
-pub mod ScopeView
-pub mod Scope
-pub mod Directives
-pub mod Items
-pub mod Statement
-pub mod Reading
 pub mod Statements
-pub mod Running
+pub mod Source
 pub mod Refusals

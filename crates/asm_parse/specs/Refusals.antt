@@ -16,17 +16,17 @@ use Rattle.asm_argument.specs.declared.terminal.Terminal.TheVariants as terminal
 use Rattle.asm_argument.specs.declared.operand.Shape.{Shape}
 use Rattle.asm_source.specs.declared.tree.Argument.{Argument}
 use Rattle.asm_source.specs.declared.tree.SourceItem.{SourceItem}
-use Rattle.asm_parse.specs.declared.directive.Directive.{Directive}
-use Rattle.asm_parse.specs.declared.directive.Directive.TheVariants as kind
-use Rattle.asm_parse.specs.declared.directive.Head.{Head}
-use Rattle.asm_parse.specs.declared.directive.Head.TheVariants as head
-use Rattle.asm_parse.specs.ScopeView.{ScopeView}
+use Rattle.asm_statement.specs.declared.directive.Directive.{Directive}
+use Rattle.asm_statement.specs.declared.directive.Directive.TheVariants as kind
+use Rattle.asm_statement.specs.declared.directive.Head.{Head}
+use Rattle.asm_statement.specs.declared.directive.Head.TheVariants as head
+use Rattle.asm_statement.specs.ScopeView.{ScopeView}
 use Rattle.asm_source.specs.Names.{holds}
-use Rattle.asm_parse.specs.Scope.{fresh}
+use Rattle.asm_statement.specs.Scope.{fresh}
 use Rattle.asm_argument.specs.Shapes.{takes_names, is_low, is_register}
-use Rattle.asm_parse.specs.Directives.{shape_at, defines, is_instruction, is_dotted, directive_of, is_section}
-use Rattle.asm_parse.specs.Statement.{misplaced}
-use Rattle.asm_parse.specs.Items.{is_passed, is_rep}
+use Rattle.asm_statement.specs.Directives.{shape_at, defines, is_instruction, is_dotted, directive_of, is_section}
+use Rattle.asm_statement.specs.Statement.{misplaced}
+use Rattle.asm_statement.specs.Items.{is_passed, is_rep}
 use Rattle.asm_parse.specs.Statements.{IsArgument, Separated, has_list, is_inner, Statement, terminals, Statements}
 use Rattle.asm_argument.specs.Terminals.{terminal_of}
 

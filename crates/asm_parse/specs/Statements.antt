@@ -8,19 +8,19 @@ use Rattle.asm_argument.specs.declared.operand.Shape.{Shape}
 use Rattle.asm_source.specs.declared.tree.Form.{Form}
 use Rattle.asm_source.specs.declared.tree.Argument.{Argument}
 use Rattle.asm_source.specs.declared.tree.Body.TheVariants as body
-use Rattle.asm_parse.specs.declared.directive.Directive.{Directive}
-use Rattle.asm_parse.specs.declared.directive.Directive.TheVariants as kind
-use Rattle.asm_parse.specs.declared.directive.Head.{Head}
-use Rattle.asm_parse.specs.declared.directive.Head.TheVariants as head
-use Rattle.asm_parse.specs.ScopeView.{ScopeView}
+use Rattle.asm_statement.specs.declared.directive.Directive.{Directive}
+use Rattle.asm_statement.specs.declared.directive.Directive.TheVariants as kind
+use Rattle.asm_statement.specs.declared.directive.Head.{Head}
+use Rattle.asm_statement.specs.declared.directive.Head.TheVariants as head
+use Rattle.asm_statement.specs.ScopeView.{ScopeView}
 use Rattle.asm_source.specs.Names.{holds, symbol_in}
-use Rattle.asm_parse.specs.Scope.{has_room, pushed, noted, defined_too}
+use Rattle.asm_statement.specs.Scope.{has_room, pushed, noted, defined_too}
 use Rattle.asm_argument.specs.Shapes.{is_operand}
 use Rattle.asm_argument.specs.Grammar.{IsForm}
 use Rattle.asm_argument.specs.Terminals.{terminal_of}
-use Rattle.asm_parse.specs.Items.{is_part}
-use Rattle.asm_parse.specs.Items.{item_of, resumed, sectioned, is_rep, is_passed}
-use Rattle.asm_parse.specs.Directives.{shape_at, least, defines, is_dotted, is_section, directive_of}
+use Rattle.asm_statement.specs.Items.{is_part}
+use Rattle.asm_statement.specs.Items.{item_of, resumed, sectioned, is_rep, is_passed}
+use Rattle.asm_statement.specs.Directives.{shape_at, least, defines, is_dotted, is_section, directive_of}
 
 -- ---- names
 

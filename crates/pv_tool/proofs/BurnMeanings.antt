@@ -4,7 +4,7 @@ use Rattle.std.specs.Prelude.{IfOk, IfErr}
 use Rattle.pv_io.specs.Files.{FileMap, Holds}
 use Rattle.asm_lex.specs.declared.fault.SourceCause.{SourceCause}
 use Rattle.asm_source.specs.declared.tree.SourceItem.{SourceItem}
-use Rattle.asm_parse.specs.Running.{SourceAs}
+use Rattle.asm_parse.specs.Source.{SourceAs}
 use Rattle.asm_parse.proofs.Sources.{is_read}
 use Rattle.elf_form.specs.ObjectParts.{ObjectParts}
 use Rattle.elf_form.specs.ObjectLayout.{object_bytes}

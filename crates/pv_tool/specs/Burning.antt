@@ -6,7 +6,8 @@ use Rattle.asm_lex.specs.declared.fault.SourceCause.TheVariants as source
 use Rattle.asm_lex.specs.declared.lexing.TheConstants.{LIMIT}
 use Rattle.asm_lex.specs.Causes.{cause_number as source_number}
 use Rattle.asm_source.specs.declared.tree.SourceItem.{SourceItem}
-use Rattle.asm_parse.specs.Running.{SourceAs, read}
+use Rattle.asm_parse.specs.Source.{SourceAs}
+use Rattle.asm_statement.specs.Running.{read}
 use Rattle.elf_form.specs.ObjectParts.{ObjectParts}
 use Rattle.sites.specs.Formats.{told_count}
 use Rattle.elf_form.specs.ObjectLayout.{object_bytes}

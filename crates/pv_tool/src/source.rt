@@ -4,7 +4,7 @@ ghost use Rattle.std.specs.Prelude.{◌≡◌, ℕ, IfOk, IfErr};
 ghost use Rattle.pv_io.specs.Files.{IsHeld};
 ghost use Rattle.asm_lex.specs.declared.fault.SourceCause.{SourceCause};
 ghost use Rattle.asm_source.specs.Readable.{IsReadable};
-ghost use Rattle.asm_parse.specs.Running.{SourceAs};
+ghost use Rattle.asm_parse.specs.Source.{SourceAs};
 ghost use Rattle.pv_tool.specs.Outside.{OnlyRead};
 ghost use Rattle.pv_tool.specs.Delivery.{HaltsOverFiles, RefusesAs};
 ghost use Rattle.pv_tool.specs.Burning.{IsNoSource, HasSource, HasNoSource, source_line};

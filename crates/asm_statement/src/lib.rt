@@ -1,0 +1,25 @@
+//! The statements of an assembler's source, one token at a time, and what a text comes to that is read from left to
+//! right.
+#![tactic(auto)]
+
+mod argument;
+mod dead;
+mod directive;
+mod fault;
+mod reading;
+mod scope;
+mod state;
+mod statement;
+mod text;
+
+pub use asm_argument::{Escape, Partial, Shape, Terminal, Unescaped, ValuePlace};
+pub use asm_lex::LIMIT;
+pub use asm_source::{
+    Argument, Arguments, Body, DirectiveName, Form, Name, Source, SourceItem, Value, begins,
+    directive_name,
+};
+pub use directive::{Directive, Head};
+pub use fault::StepFault;
+pub use scope::Scope;
+pub use state::{Open, StatementState};
+pub use text::read_text;

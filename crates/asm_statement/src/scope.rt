@@ -1,0 +1,110 @@
+//! What the statements before say.
+
+ghost use Rattle.std.specs.Prelude.{◌≡◌, OnOk, OnErr};
+ghost use Rattle.asm_source.specs.Names.{holds};
+ghost use Rattle.asm_statement.specs.Scope as spec;
+
+use asm_source::{Name, Names, SourceItem};
+use std::alloc::{AllocError, Global};
+use std::marker::Model;
+
+/// The items so far, the names so far in the order in which they were first seen, which of them are
+/// defined, and whether statements are skipped.
+#[derive(Debug, Drop)]
+pub struct Scope {
+    items: Vec<SourceItem>,
+    names: Names,
+    defined: Names,
+    skipping: bool,
+}
+
+impl Model for Scope {
+    ghost use Rattle.asm_statement.specs.ScopeView.{ScopeView};
+
+    ghost Value = { ScopeView };
+
+    ghost view = { λ s. record { items = s.items.items; names = s.names; defined = s.defined; skipping = s.skipping } };
+}
+
+impl Scope {
+    pub fn new(alloc: Global) -> Scope
+        ensures { result ≡ spec.fresh }
+    {
+        Scope {
+            items: Vec::new(alloc),
+            names: Names::new(alloc),
+            defined: Names::new(alloc),
+            skipping: false,
+        }
+    }
+
+    pub fn is_skipping(&self) -> bool
+        ensures { result ≡ self.now.skipping }
+    {
+        self.skipping
+    }
+
+    pub fn is_defined(&self, name: &Name) -> bool
+        ensures { result ≡ holds self.now.defined name.now }
+    {
+        self.defined.holds(&name.bytes)
+    }
+
+    pub fn has_room(&self, name: &Name) -> bool
+        ensures { result ≡ spec.has_room self.now name.now }
+    {
+        self.names.holds(&name.bytes) || self.names.len() < 65536
+    }
+
+    /// Whether all 65,536 names are defined.
+    pub fn is_spent(&self) -> bool
+        ensures { result ≡ spec.is_spent self.now }
+    {
+        self.defined.len() >= 65536
+    }
+
+    pub fn set_skipping(&mut self, skipping: bool)
+        ensures { self.new ≡ record self.old { skipping = skipping } }
+    {
+        self.skipping = skipping;
+    }
+
+    /// Says an item more.
+    pub fn push(&mut self, item: SourceItem) -> Result<(), AllocError>
+        ensures pushed { OnOk result (self.new ≡ spec.pushed self.old item) }
+        ensures unchanged { OnErr result (self.new ≡ self.old) }
+    {
+        self.items.push(item)?;
+        Ok(())
+    }
+
+    /// A name is seen.
+    pub fn note(&mut self, alloc: Global, name: &Name) -> Result<(), AllocError>
+        ensures noted { OnOk result (self.new ≡ spec.noted self.old name.now) }
+        ensures unchanged { OnErr result (self.new ≡ self.old) }
+    {
+        self.names.add(alloc, &name.bytes)?;
+        Ok(())
+    }
+
+    /// A name is defined.
+    pub fn define(&mut self, alloc: Global, name: &Name) -> Result<(), AllocError>
+        ensures defined { OnOk result (self.new ≡ spec.defined_too self.old name.now) }
+        ensures unchanged { OnErr result (self.new ≡ self.old) }
+    {
+        self.defined.add(alloc, &name.bytes)?;
+        Ok(())
+    }
+
+    pub fn into_items(self) -> Vec<SourceItem>
+        ensures { result.items ≡ self.items }
+    {
+        let Scope {
+            items,
+            names: _,
+            defined: _,
+            skipping: _,
+        } = self;
+        items
+    }
+}
