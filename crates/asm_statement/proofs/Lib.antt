@@ -1,3 +1,4 @@
 pub mod Feeding
 pub mod Stepping
 pub mod Advancing
+pub mod Growing

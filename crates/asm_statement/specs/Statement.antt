@@ -91,6 +91,25 @@ at_shape sc o s (Some sh) = after_step sc o s (operand_step sh o.so_far s)
 abbrev pub within : ScopeView → Open → Terminal → Result (ScopeView × StatementState) SourceCause
 within sc o s = at_shape sc o s (shape_at o.head (length o.arguments))
 
+-- the argument with its next terminal, and what is noted of it
+abbrev pub grown_as : Open → Terminal → Result Partial SourceCause → Result Open SourceCause
+grown_as o s (Err c) = Err (cause_in o.head (is_unbegun o.so_far) (misplaced s) c)
+grown_as o s (Ok q) = Ok (record o { so_far = q })
+
+abbrev pub grown_at : Open → Terminal → Option Shape → Result Open SourceCause
+grown_at o s None = Err (misplaced s)
+grown_at o s (Some sh) = grown_as o s (operand_step sh o.so_far s)
+
+abbrev pub grown : Open → Terminal → Result Open SourceCause
+grown o s = grown_at o s (shape_at o.head (length o.arguments))
+
+abbrev pub name_noted_as : ScopeView → Open → Option (List ℕ) → Result ScopeView SourceCause
+name_noted_as sc o None = Ok sc
+name_noted_as sc o (Some n) = noting sc (defines o.head (length o.arguments)) n
+
+abbrev pub name_noted : ScopeView → Open → Result ScopeView SourceCause
+name_noted sc o = name_noted_as sc o (name_in o.so_far)
+
 -- the argument that has been read, where it may end here
 abbrev pub ended_as : Open → Option Form → Option (ℕ × Head × List Argument × Argument)
 ended_as o None = None

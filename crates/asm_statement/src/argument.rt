@@ -1,12 +1,13 @@
 //! The arguments of one statement, terminal by terminal.
 
 ghost use Rattle.std.specs.Prelude.{◌≡◌, length};
+ghost use Rattle.asm_argument.specs.declared.terminal.Terminal.TheVariants as terminal;
 ghost use Rattle.asm_statement.specs.Statement as spec;
 
 use crate::directive::{Directive, Head, defines, is_instruction, least, shape_at};
 use crate::fault::StepFault;
 use crate::scope::Scope;
-use crate::state::{Open, StatementState};
+use crate::state::{Open, StatementState, discard};
 use asm_argument::{
     Partial, Terminal, begun, finished, is_finished, is_nothing, is_unbegun, name_in, operand_step,
 };
@@ -82,6 +83,50 @@ pub fn noting(alloc: Global, scope: &mut Scope, defined: bool, name: &Name) -> R
     Ok(())
 }
 
+/// The argument with its next terminal.
+fn grown(begun: Open, terminal: Terminal) -> Result<Open, SourceCause>
+    ensures { result ≡ spec.grown begun terminal }
+{
+    let other = misplaced(&terminal);
+    let Some(shape) = shape_at(&begun.head, begun.arguments.list.len()) else {
+        discard(StatementState::Arguments(begun));
+        return Err(other);
+    };
+    let nothing = is_unbegun(&begun.so_far);
+    let Open {
+        line,
+        head,
+        arguments,
+        star,
+        so_far,
+    } = begun;
+    match operand_step(shape, so_far, terminal) {
+        Err(cause) => Err(cause_in(&head, nothing, other, cause)),
+        Ok(so_far) => Ok(Open {
+            line,
+            head,
+            arguments,
+            star,
+            so_far,
+        }),
+    }
+}
+
+/// Notes the name that an argument has just got, if it has one.
+fn note_name(alloc: Global, scope: &mut Scope, begun: &Open) -> Result<(), StepFault>
+    ensures { spec.Notes scope.new result (spec.name_noted scope.old begun.now) }
+{
+    match name_in(&begun.so_far) {
+        None => Ok(()),
+        Some(name) => noting(
+            alloc,
+            scope,
+            defines(&begun.head, begun.arguments.list.len()),
+            name,
+        ),
+    }
+}
+
 /// The next terminal of an argument.
 fn within(
     alloc: Global,
@@ -91,33 +136,15 @@ fn within(
 ) -> Result<StatementState, StepFault>
     ensures { spec.Does scope.new result (spec.within scope.old begun terminal) }
 {
-    let Open {
-        line,
-        head,
-        arguments,
-        star,
-        so_far,
-    } = begun;
-    let index = arguments.list.len();
-    let nothing = is_unbegun(&so_far);
-    let other = misplaced(&terminal);
-    let Some(shape) = shape_at(&head, index) else {
-        return Err(StepFault::Cause(other));
-    };
-    match operand_step(shape, so_far, terminal) {
-        Err(cause) => Err(StepFault::Cause(cause_in(&head, nothing, other, cause))),
-        Ok(so_far) => {
-            if let Some(name) = name_in(&so_far) {
-                noting(alloc, scope, defines(&head, index), name)?;
+    match grown(begun, terminal) {
+        Err(cause) => Err(StepFault::Cause(cause)),
+        Ok(begun) => match note_name(alloc, scope, &begun) {
+            Ok(()) => Ok(StatementState::Arguments(begun)),
+            Err(fault) => {
+                discard(StatementState::Arguments(begun));
+                Err(fault)
             }
-            Ok(StatementState::Arguments(Open {
-                line,
-                head,
-                arguments,
-                star,
-                so_far,
-            }))
-        }
+        },
     }
 }
 
@@ -224,6 +251,69 @@ fn takes_star(begun: &Open) -> bool
     is_nothing(&begun.so_far) && !begun.star && is_instruction(&begun.head)
 }
 
+/// A comma behind what has been read.
+fn comma_step(alloc: Global, scope: &mut Scope, begun: Open) -> Result<StatementState, StepFault>
+    ensures { spec.Does scope.new result (spec.argument_step scope.old begun terminal.Comma) }
+{
+    if !is_finished(&begun.so_far) {
+        return within(alloc, scope, begun, Terminal::Comma);
+    }
+    match ended(begun) {
+        Some((line, head, arguments, last)) => next_argument(line, head, arguments, last),
+        None => Err(StepFault::Cause(SourceCause::BadOperand)),
+    }
+}
+
+/// The end of a statement without arguments.
+fn bare_end(scope: &mut Scope, begun: Open) -> Result<StatementState, StepFault>
+    ensures { spec.Does scope.new result (spec.complete scope.old begun.line begun.head begun.arguments) }
+{
+    let Open {
+        line,
+        head,
+        arguments,
+        star: _,
+        so_far: _,
+    } = begun;
+    complete(scope, line, head, arguments)
+}
+
+/// The end of a statement whose last argument may end here.
+fn last_end(scope: &mut Scope, begun: Open) -> Result<StatementState, StepFault>
+    ensures { spec.Does scope.new result (spec.end_behind scope.old (spec.ended begun)) }
+{
+    match ended(begun) {
+        Some((line, head, arguments, last)) => complete_with(scope, line, head, arguments, last),
+        None => Err(StepFault::Cause(SourceCause::BadOperand)),
+    }
+}
+
+/// The end of the statement.
+fn end_step(alloc: Global, scope: &mut Scope, begun: Open) -> Result<StatementState, StepFault>
+    ensures { spec.Does scope.new result (spec.argument_step scope.old begun terminal.End) }
+{
+    if is_bare(&begun) {
+        bare_end(scope, begun)
+    } else if is_finished(&begun.so_far) {
+        last_end(scope, begun)
+    } else {
+        within(alloc, scope, begun, Terminal::End)
+    }
+}
+
+/// A star before an operand.
+fn star_step(alloc: Global, scope: &mut Scope, begun: Open) -> Result<StatementState, StepFault>
+    ensures { spec.Does scope.new result (spec.argument_step scope.old begun terminal.Star) }
+{
+    if takes_star(&begun) {
+        let mut begun = begun;
+        begun.star = true;
+        Ok(StatementState::Arguments(begun))
+    } else {
+        within(alloc, scope, begun, Terminal::Star)
+    }
+}
+
 /// A terminal of a directive or an instruction.
 pub fn argument_step(
     alloc: Global,
@@ -234,55 +324,9 @@ pub fn argument_step(
     ensures { spec.Does scope.new result (spec.argument_step scope.old begun terminal) }
 {
     match terminal {
-        Terminal::Comma => {
-            if !is_finished(&begun.so_far) {
-                return within(alloc, scope, begun, Terminal::Comma);
-            }
-            match ended(begun) {
-                Some((line, head, arguments, last)) => next_argument(line, head, arguments, last),
-                None => Err(StepFault::Cause(SourceCause::BadOperand)),
-            }
-        }
-        Terminal::End => {
-            if is_bare(&begun) {
-                let Open {
-                    line,
-                    head,
-                    arguments,
-                    star: _,
-                    so_far: _,
-                } = begun;
-                return complete(scope, line, head, arguments);
-            }
-            if !is_finished(&begun.so_far) {
-                return within(alloc, scope, begun, Terminal::End);
-            }
-            match ended(begun) {
-                Some((line, head, arguments, last)) => complete_with(
-                    scope, line, head, arguments, last,
-                ),
-                None => Err(StepFault::Cause(SourceCause::BadOperand)),
-            }
-        }
-        Terminal::Star => {
-            if takes_star(&begun) {
-                let Open {
-                    line,
-                    head,
-                    arguments,
-                    star: _,
-                    so_far,
-                } = begun;
-                return Ok(StatementState::Arguments(Open {
-                    line,
-                    head,
-                    arguments,
-                    star: true,
-                    so_far,
-                }));
-            }
-            within(alloc, scope, begun, Terminal::Star)
-        }
+        Terminal::Comma => comma_step(alloc, scope, begun),
+        Terminal::End => end_step(alloc, scope, begun),
+        Terminal::Star => star_step(alloc, scope, begun),
         other => within(alloc, scope, begun, other),
     }
 }
