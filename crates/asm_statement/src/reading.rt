@@ -139,7 +139,13 @@ fn feed_word(
             Ok(state) => Ok(state),
         };
     }
-    let terminal = terminal_of(alloc, kind, bytes)?;
+    let terminal = match terminal_of(alloc, kind, bytes) {
+        Ok(terminal) => terminal,
+        Err(_) => {
+            discard(state);
+            return Err(SourceFault::Memory);
+        }
+    };
     match feed_terminal(alloc, scope, state, line, terminal) {
         Err(fault) => Err(fault),
         Ok(state) => Ok(ending_at(end, state)),
