@@ -9,6 +9,7 @@ use Rattle.machine_model.specs.Step.{Report, Went, Halts, step_of}
 use Rattle.machine_model.specs.Run.{Set, Steps, with_set}
 use Rattle.machine_model.specs.Ends.{StepsTo}
 use Rattle.machine_model.proofs.Counting.{each_counts}
+use Rattle.machine_model.proofs.Runs.{went_there}
 use Rattle.bare_machine.specs.Machine.{translations_of, StepsBy, FirstIs}
 use Rattle.bare_machine.specs.Slices.{SliceAs, OneStepAs}
 use Rattle.bare_machine.proofs.Runs.{same_step}
@@ -75,9 +76,6 @@ none_of s old (set ∷ sets) reports last whole stop h first n is =
     let all = steps_counted s old (set ∷ sets) reports (with_set last whole) h in
     absurd (omega (arith, all, n))
 
-went_whole : (a b : Report) (x y : State) → Went a x ≡ Went b y → x ≡ y
-went_whole a b x y is = cc
-
 pub one_step : (s : Setting) (exact : Bool) (bound : ℕ) (old new : State) (told tells : Option (List ℕ)) (result : Result Pause Failed) → bound ≡ old.step + 1 → SliceAs s exact bound old new told tells result → OneStepAs s exact old new result
 one_step s exact bound old new told tells (Ok Reached) one h =
     let last : new ≡ h.last = h.ends.1 in
@@ -91,7 +89,7 @@ one_step s exact bound old new told tells (Ok Reached) one h =
       p.part,
       λ e.
           let by = by_one s old h.reports h.last (p.exactly e) n in
-          ap (λ (b : State). b.set) (went_whole by.0 is.0 h.last (with_set h.last p.whole) (sym by.1 ∙ is.1)),
+          ap (λ (b : State). b.set) (went_there by.0 is.0 h.last (with_set h.last p.whole) (sym by.1 ∙ is.1)),
     )
 one_step s exact bound old new told tells (Ok (Stopped stop)) one h =
     let less : h.last.step < old.step + 1 = omega (arith, h.ends.0, one) in

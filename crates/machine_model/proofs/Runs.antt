@@ -29,6 +29,10 @@ pub steps_one : (m : Setting) (old new : State) (set : Set) (now : Report) → L
 unfolding Steps
 steps_one m old new set now allowed is = (new, now, [], allowed, is, (refl, refl), refl)
 
+-- a step leads to one state
+pub went_there : (a b : Report) (x y : State) → Went a x ≡ Went b y → x ≡ y
+went_there a b x y is = cc
+
 -- what was seen in two runs
 pub trace_join : (reports later : List Report) → trace_of (reports ++ later) ≡ trace_of reports ++ trace_of later
 trace_join [] later = refl

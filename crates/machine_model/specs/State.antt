@@ -1,14 +1,15 @@
 -- The state of a machine, what it runs with, and the state in which it starts.
-use Rattle.std.specs.Prelude.{◌≡◌, ◌⊎◌, ℕ, Bool, true, false, List, [], Some}
+use Rattle.std.specs.Prelude.{◌≡◌, ◌⊎◌, ℕ, Bool, true, List, Some}
 use Rattle.std.specs.Option.{ForSome}
 use Rattle.std.specs.FinMap.{FinMap, get, empty}
 use Rattle.std.specs.Ordering.{nat_cmp}
-use Rattle.descriptors.specs.Controls.{pse_of, wp_of}
+use Rattle.descriptors.specs.Controls.{pse_of}
+pub use Rattle.descriptors.specs.Starting.{space_at_start}
 use Rattle.descriptors.specs.declared.cpu.Cpu.{Cpu}
 use Rattle.paging.specs.declared.entry.Entry.{Entry}
 use Rattle.paging.specs.declared.entry.Walk.TheVariants.{Found}
 use Rattle.paging.specs.Fresh.{fresh, has}
-use Rattle.paging.specs.Space.{Mode, Bare, Wedge, Space}
+use Rattle.paging.specs.Space.{Mode, Bare, Wedge}
 use Rattle.guest_ram.specs.Bytes.{word32}
 use Rattle.board.specs.declared.devices.Board.{Board}
 use Rattle.board.specs.Scripts.{Events}
@@ -50,25 +51,6 @@ pub record State : Type 0 where
 -- where every run begins
 abbrev pub boot : Setting → State
 boot s = record { cpu = boot_cpu s.image s.frames; ram = boot_ram s.image s.frames; set = empty; board = at_reset; step = 0 }
-
--- memory as a step of this processor reaches it, before its first access
-abbrev pub space_at_start : Mode → ℕ → Cpu → List ℕ → FinMap nat_cmp Entry → Space
-space_at_start mode frames cpu ram set =
-    record {
-      ram = ram;
-      frames = frames;
-      set = set;
-      cr3 = cpu.cr3;
-      pse = pse_of cpu;
-      wp = wp_of cpu;
-      mode = mode;
-      pages = 0;
-      visited = [];
-      tables = [];
-      wrote = [];
-      ready = record { start = 0; len = 0; write = false };
-      earlier = record { start = 0; len = 0; set = set };
-    }
 
 -- A fresh walk of a page finds this entry, though its dirty flag may be clear in the entry, with the accessed flag set
 -- in both words, which for a page of 4 MB are one word.

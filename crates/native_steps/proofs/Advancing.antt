@@ -23,6 +23,7 @@ use Rattle.host_cpl3.specs.HostRun.{Standing, counted, after_step, host_run}
 use Rattle.host_cpl3.specs.Borders.{BeginsBelow, EntersTheWindow, ExitsInTheWindow}
 use Rattle.machine_model.specs.State.{Setting, State, Loosened}
 use Rattle.machine_model.specs.Step.{Report, Result, Went, step_of}
+use Rattle.machine_model.proofs.Runs.{went_there}
 use Rattle.machine_model.specs.Run.{Set, Steps, trace_of}
 use Rattle.machine_model.specs.Taken.{Taken, behind as steps_behind, is_load, steps_by}
 use Rattle.machine_model.specs.Notes.{AreLeft}
@@ -64,9 +65,6 @@ behind_same m memory = record { size = refl; beyond = refl }
 
 behind_join : (m : Setting) (a b c : List ℕ) → SameBehind m a b → SameBehind m b c → SameBehind m a c
 behind_join m a b c p q = record { size = q.size ∙ p.size; beyond = q.beyond ∙ p.beyond }
-
-went_there : (a b : Report) (x y : State) → Went a x ≡ Went b y → x ≡ y
-went_there a b x y is = cc
 
 any_allowed : (m : Setting) (b : State) → Loosened m b b.set
 any_allowed m b = record { each = λ page e is. inl is }

@@ -1,6 +1,7 @@
 -- The values of pairs.
 use Rattle.std.proofs.Common.{◌≡◌, ℕ, zero, suc, ◌≤◌, List, [], ◌∷◌, length, take, filter, Bool, true, false, ◌||◌, cond, eqb, Option, Some, None, refl, sym, ap, ◌∙◌, subst, inl, inr, arith}
 use Rattle.std.proofs.lemmas.Bool.Decides.{eqb_tells}
+use Rattle.std.proofs.lemmas.List.{length-take}
 use Rattle.shadow_cache.specs.Past.{Past, unmarked, of_value, but_value, with_front, after_switch}
 use Rattle.shadow_cache.specs.Away.{has_value, AreApart}
 use Rattle.shadow_cache.proofs.Small.{same-some, none-some}
@@ -104,13 +105,13 @@ but-gone v (p ∷ ps) a =
       | inr t ↦ ap (λ b. has_value v (cond b ps (p ∷ but_value v ps))) t.0 ∙ or-false (eqb p.value v) (has_value v (but_value v ps)) t.0 (but-gone v ps a.1)
     ]
 
-unmarked-by : (b : Bool) (p : Past) (ps : List Past) → AreApart (p ∷ ps) → AreApart (cond b ps (p ∷ ps))
-unmarked-by true p ps a = a.1
-unmarked-by false p ps a = a
+unmarked-apart-by : (b : Bool) (p : Past) (ps : List Past) → AreApart (p ∷ ps) → AreApart (cond b ps (p ∷ ps))
+unmarked-apart-by true p ps a = a.1
+unmarked-apart-by false p ps a = a
 
 pub unmarked-apart : (ps : List Past) → AreApart ps → AreApart (unmarked ps)
 unmarked-apart [] a = tt
-unmarked-apart (p ∷ ps) a = unmarked-by p.marked p ps a
+unmarked-apart (p ∷ ps) a = unmarked-apart-by p.marked p ps a
 
 front-apart : (v : ℕ) (ps : List Past) (o : Option Past) → of_value v ps ≡ o → AreApart ps → AreApart (with_front v ps o)
 front-apart v ps None e a = (take-none 7 ps v (of-none v ps e), take-apart 7 ps a)
@@ -129,11 +130,6 @@ pub filter-few : (t : Past → Bool) (ps : List Past) → length (filter t ps) �
 filter-few t [] = omega arith
 filter-few t (p ∷ ps) = cond-few (t p) p (filter t ps) (length ps) (filter-few t ps)
 
-take-few : (n : ℕ) (ps : List Past) → length (take n ps) ≤ n
-take-few zero ps = omega arith
-take-few (suc n) [] = omega arith
-take-few (suc n) (p ∷ ps) = let e = take-few n ps in omega (arith, e)
-
 but-few : (v : ℕ) (ps : List Past) (q : Past) → of_value v ps ≡ Some q → suc (length (but_value v ps)) ≡ length ps
 but-few v [] q e = absurd (none-some q e)
 but-few v (p ∷ ps) q e =
@@ -145,7 +141,7 @@ but-few v (p ∷ ps) q e =
     ]
 
 front-few : (v : ℕ) (ps : List Past) (o : Option Past) → of_value v ps ≡ o → length ps ≤ 8 → length (with_front v ps o) ≤ 8
-front-few v ps None e l = let t = take-few 7 ps in omega (arith, t)
+front-few v ps None e l = let t = length-take 7 ps in omega (arith, t)
 front-few v ps (Some q) e l = let t = but-few v ps q e in omega (arith, t, l)
 
 pub switch-few : (v : ℕ) (ps : List Past) → length ps ≤ 8 → length (after_switch v ps) ≤ 8

@@ -11,12 +11,12 @@ use Rattle.shadow_cache.specs.declared.pair.Pair.{Pair}
 pub others-kept : (p : Pair) (ps qs : List Pair) (m m' : List ℕ) → qs ≡ p ∷ ps → AreKept ps m m' → AreSame (asides_of ps m) (asides_of (beside qs) m')
 others-kept p ps qs m m' e k = subst (λ (xs : List Pair). AreSame (asides_of ps m) (asides_of (beside xs) m')) (sym e) (same-kept ps m m' k)
 
-all-lose : (ps : List Pair) (m m' : List ℕ) (frame : ℕ) → AllLoseWrites ps m m' frame → LoseWrites (frame ∷ []) (asides_of ps m) (asides_of ps m')
-all-lose [] m m' frame k = tt
-all-lose (p ∷ ps) m m' frame k = (record { cr3 = refl; tables = λ f. refl; slots = k.0 }, all-lose ps m m' frame k.1)
+asides-lose : (ps : List Pair) (m m' : List ℕ) (frame : ℕ) → AllLoseWrites ps m m' frame → LoseWrites (frame ∷ []) (asides_of ps m) (asides_of ps m')
+asides-lose [] m m' frame k = tt
+asides-lose (p ∷ ps) m m' frame k = (record { cr3 = refl; tables = λ f. refl; slots = k.0 }, asides-lose ps m m' frame k.1)
 
 pub others-lose : (p : Pair) (ps qs : List Pair) (m m' : List ℕ) (frame : ℕ) → qs ≡ noted_in (p ∷ ps) frame → AllLoseWrites (p ∷ ps) m m' frame → LoseWrites (frame ∷ []) (asides_of ps m) (asides_of (beside qs) m')
-others-lose p ps qs m m' frame e k = subst (λ (xs : List Pair). LoseWrites (frame ∷ []) (asides_of ps m) (asides_of (beside xs) m')) (sym e) (all-lose ps m m' frame k.1)
+others-lose p ps qs m m' frame e k = subst (λ (xs : List Pair). LoseWrites (frame ∷ []) (asides_of ps m) (asides_of (beside xs) m')) (sym e) (asides-lose ps m m' frame k.1)
 
 one-aside : (b : Bool) (p : Pair) (qs : List Pair) (m : List ℕ) (xs : List Aside) → asides_of qs m ≡ xs → asides_of (cond b (p ∷ qs) qs) m ≡ cond b (aside_of p m ∷ xs) xs
 one-aside true p qs m xs e = ap (λ (ys : List Aside). aside_of p m ∷ ys) e

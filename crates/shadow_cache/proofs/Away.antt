@@ -221,8 +221,8 @@ leave-away p vs n v ps few among other u i =
     (load-away p vs few v among other [] i.others tt tt))
 
 -- another pair in the place of the present one, of its value
-instead : (p : Past) (vs : List ℕ) (ps : List Past) (w : Away p vs ps) (q : Past) → q.value ≡ w.first.value → Away p vs (q ∷ (w.more ++ p ∷ w.rest))
-instead p vs ps w q e =
+away-instead : (p : Past) (vs : List ℕ) (ps : List Past) (w : Away p vs ps) (q : Past) → q.value ≡ w.first.value → Away p vs (q ∷ (w.more ++ p ∷ w.rest))
+away-instead p vs ps w q e =
     record {
       first = q;
       more = w.more;
@@ -247,11 +247,11 @@ written-away p vs n frame ps l w =
     })
 
 shared-away : (p : Past) (vs : List ℕ) (n : ℕ) (c : Call) (ps : List Past) → LeavesBe p (Shared c) → Away p vs ps → Away p vs (after_shared n c ps)
-shared-away p vs n (Fill side entry wp) ps l w = subst (λ (xs : List Past). Away p vs (after_shared n (Fill side entry wp) xs)) (sym w.place) (instead p vs ps w _ refl)
-shared-away p vs n (DropPage page) ps l w = subst (λ (xs : List Past). Away p vs (after_shared n (DropPage page) xs)) (sym w.place) (instead p vs ps w _ refl)
-shared-away p vs n (DropDir index) ps l w = subst (λ (xs : List Past). Away p vs (after_shared n (DropDir index) xs)) (sym w.place) (instead p vs ps w _ refl)
+shared-away p vs n (Fill side entry wp) ps l w = subst (λ (xs : List Past). Away p vs (after_shared n (Fill side entry wp) xs)) (sym w.place) (away-instead p vs ps w _ refl)
+shared-away p vs n (DropPage page) ps l w = subst (λ (xs : List Past). Away p vs (after_shared n (DropPage page) xs)) (sym w.place) (away-instead p vs ps w _ refl)
+shared-away p vs n (DropDir index) ps l w = subst (λ (xs : List Past). Away p vs (after_shared n (DropDir index) xs)) (sym w.place) (away-instead p vs ps w _ refl)
 shared-away p vs n DropAll ps l w = absurd l
-shared-away p vs n (Note frame) ps l w = subst (λ (xs : List Past). Away p vs (after_shared n (Note frame) xs)) (sym w.place) (instead p vs ps w _ refl)
+shared-away p vs n (Note frame) ps l w = subst (λ (xs : List Past). Away p vs (after_shared n (Note frame) xs)) (sym w.place) (away-instead p vs ps w _ refl)
 shared-away p vs n (Written frame) ps l w = written-away p vs n frame ps l w
 
 calls-away : (p : Past) (vs : List ℕ) (n : ℕ) (cs : List RootsCall) (ps : List Past) → length vs ≤ 7 → AllLeaveBe p cs → LoadsAmong vs cs → Away p vs ps → Away p vs (after_calls n cs ps)

@@ -64,15 +64,15 @@ both-frames : (q : Pair) (qs : List Pair) (m m' : List ℕ) → held q.shadow m'
 both-frames q qs m m' a b =
     frames-cons q qs m' ∙ ap (λ (fs : List ℕ). fs ++ frames_of qs m') a ∙ ap (λ (fs : List ℕ). held q.shadow m ++ fs) b ∙ sym (frames-cons q qs m)
 
-pub bar-frames : (ps : List Pair) (i : ℕ) (p : Pair) (m m' : List ℕ) → slice_get ps i ≡ Some p → AreShadows ps m → Holds m (frames_of ps m) → held p.shadow m' ≡ held p.shadow m → Writes (held p.shadow m) m m' → frames_of ps m' ≡ frames_of ps m
+pub barred-frames : (ps : List Pair) (i : ℕ) (p : Pair) (m m' : List ℕ) → slice_get ps i ≡ Some p → AreShadows ps m → Holds m (frames_of ps m) → held p.shadow m' ≡ held p.shadow m → Writes (held p.shadow m) m m' → frames_of ps m' ≡ frames_of ps m
 unfolding frames_of
-bar-frames [] i p m m' e h o s w = refl
-bar-frames (q ∷ qs) zero p m m' e h o s w =
+barred-frames [] i p m m' e h o s w = refl
+barred-frames (q ∷ qs) zero p m m' e h o s w =
     let same = same-some q p e in
     let w' : Writes (held q.shadow m) m m' = subst (λ (x : Pair). Writes (held x.shadow m) m m') (sym same) w in
     both-frames q qs m m' (subst (λ (x : Pair). held x.shadow m' ≡ held x.shadow m) (sym same) s) (kept-frames qs m m' (kept-same qs m m' h.1 (rest-same q qs m m' o w')))
-bar-frames (q ∷ qs) (suc i) p m m' e h o s w =
-    both-frames q qs m m' (held-stays q.shadow m m' h.0 (first-same q qs i p m m' e o w)) (bar-frames qs i p m m' e h.1 (rest-holds q qs m o) s w)
+barred-frames (q ∷ qs) (suc i) p m m' e h o s w =
+    both-frames q qs m m' (held-stays q.shadow m m' h.0 (first-same q qs i p m m' e o w)) (barred-frames qs i p m m' e h.1 (rest-holds q qs m o) s w)
 
 -- ---- one more
 

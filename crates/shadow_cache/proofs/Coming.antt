@@ -1,5 +1,5 @@
 -- A load of CR3.
-use Rattle.std.proofs.Common.{◌≡◌, ℕ, zero, suc, ◌≤◌, List, [], ◌∷◌, ◌++◌, length, take, drop, slice_get, remove, get_or, Bool, true, false, ◌||◌, cond, MatchOption, Option, Some, None, refl, sym, ap, ◌∙◌, subst, inl, inr, arith}
+use Rattle.std.proofs.Common.{◌≡◌, ℕ, zero, suc, ◌≤◌, List, [], ◌∷◌, ◌++◌, length, take, slice_get, remove, get_or, Bool, true, false, ◌||◌, cond, MatchOption, Option, Some, None, refl, sym, ap, ◌∙◌, subst, inl, inr, arith}
 use Rattle.std.proofs.lemmas.Bool.Decides.{eqb_tells}
 use Rattle.frame_pool.specs.declared.Pool.{Pool}
 use Rattle.frame_pool.specs.Held.{times, Holds, Owns, Moves, SameIn}
@@ -13,7 +13,7 @@ use Rattle.shadow_cache.specs.Laws.{frames-cons, times-frames, kept-same, kept-s
 use Rattle.shadow_cache.proofs.Leaving.{kept-refl, kept-trans, times-remove, shadows-at, shadows-remove, any-at}
 use Rattle.shadow_cache.proofs.Beside.{all-fewer, or-less, or-right, no-reads, no-length}
 use Rattle.shadow_cache.proofs.Small.{none-some, same-some}
-use Rattle.std.proofs.lemmas.List.{append-nil}
+use Rattle.std.proofs.lemmas.List.{append-nil, drop_all}
 
 -- ---- some of the pairs
 
@@ -39,9 +39,9 @@ unmarked-at (q ∷ qs) zero p e h = subst (λ (x : Pair). x.marked ≡ false) (s
 unmarked-at (q ∷ qs) (suc i) p e h = unmarked-at qs i p e h.1
 
 -- all of them, so all but the first
-pub all-unmarked : (ps : List Pair) → AreUnmarked ps → OthersUnmarked ps
-all-unmarked [] h = tt
-all-unmarked (p ∷ ps) h = h.1
+pub others-unmarked : (ps : List Pair) → AreUnmarked ps → OthersUnmarked ps
+others-unmarked [] h = tt
+others-unmarked (p ∷ ps) h = h.1
 
 sized-at : (ps : List Pair) (i : ℕ) (p : Pair) → slice_get ps i ≡ Some p → AreSized ps → length p.tables ≡ 16384
 sized-at [] i p e h = absurd cc
@@ -76,12 +76,12 @@ module _ (ps : List Pair) (i : ℕ) (p : Pair) (m : List ℕ) (here : slice_get 
   front-counts : (f : ℕ) → times f (frames_of (p ∷ remove ps i) m) ≡ times f (frames_of ps m)
   front-counts f = let a = times-frames f p (remove ps i) m in let b = times-remove f ps i p m here in omega (arith, a, b)
 
-  front-by : (x : ℕ) (b : Bool) → reads p x ≡ b → any_reads (p ∷ remove ps i) x ≡ true → any_reads ps x ≡ true
-  front-by x true r e = any-at ps i x p here r
-  front-by x false r e = any-remove ps i x (sym (ap (λ b. b || any_reads (remove ps i) x) r) ∙ e)
+  front-any-by : (x : ℕ) (b : Bool) → reads p x ≡ b → any_reads (p ∷ remove ps i) x ≡ true → any_reads ps x ≡ true
+  front-any-by x true r e = any-at ps i x p here r
+  front-any-by x false r e = any-remove ps i x (sym (ap (λ b. b || any_reads (remove ps i) x) r) ∙ e)
 
   front-any : (x : ℕ) → any_reads (p ∷ remove ps i) x ≡ true → any_reads ps x ≡ true
-  front-any x e = front-by x (reads p x) refl e
+  front-any x e = front-any-by x (reads p x) refl e
 
   pub front-roots : AreUnmarked ps → IsRoots (p ∷ remove ps i) m
   front-roots unmarked =
@@ -99,31 +99,8 @@ module _ (ps : List Pair) (i : ℕ) (p : Pair) (m : List ℕ) (here : slice_get 
 
 -- ---- the last of 8 leaves
 
-drop-none : (n : ℕ) → drop n (let none : List Pair = [] in none) ≡ []
-drop-none zero = refl
-drop-none (suc n) = refl
-
-take-none : (n : ℕ) → take n (let none : List Pair = [] in none) ≡ []
-take-none zero = refl
-take-none (suc n) = refl
-
-drop-all : (n : ℕ) (ps : List Pair) → length ps ≤ n → drop n ps ≡ []
-drop-all n [] l = drop-none n
-drop-all zero (p ∷ ps) l = absurd (omega (arith, l))
-drop-all (suc n) (p ∷ ps) l = drop-all n ps (omega (arith, l))
-
 pub last-leaves : (ps : List Pair) → length ps ≤ 8 → remove ps 7 ≡ take 7 ps
-last-leaves ps l = ap (λ (qs : List Pair). take 7 ps ++ qs) (drop-all 8 ps l) ∙ append-nil (take 7 ps)
-
-pub none-leaves : (n : ℕ) (ps : List Pair) → length ps ≤ n → take n ps ≡ ps
-none-leaves n [] l = take-none n
-none-leaves zero (p ∷ ps) l = absurd (omega (arith, l))
-none-leaves (suc n) (p ∷ ps) l = ap (λ (qs : List Pair). p ∷ qs) (none-leaves n ps (omega (arith, l)))
-
-pub take-few : (n : ℕ) (ps : List Pair) → length (take n ps) ≤ n
-take-few zero ps = omega arith
-take-few (suc n) [] = omega arith
-take-few (suc n) (p ∷ ps) = let e = take-few n ps in omega (arith, e)
+last-leaves ps l = ap (λ (qs : List Pair). take 7 ps ++ qs) (drop_all 8 ps l) ∙ append-nil (take 7 ps)
 
 -- ---- a new one
 

@@ -139,8 +139,8 @@ switch-beside p n v ps o b =
     front-beside p v xs (of_value v xs) o refl (unmarked-was p b.first.marked b.first b.more b.was (cons-was p b.first b.more b.other b.was)))
 
 -- another in the place of the present one, of its value
-instead : (p : Past) (ps : List Past) (b : Beside p ps) (q : Past) → q.value ≡ b.first.value → Beside p (q ∷ b.more)
-instead p ps b q e = record { first = q; more = b.more; place = refl; other = ap (λ x. eqb x p.value) e ∙ b.other; was = b.was }
+beside-instead : (p : Past) (ps : List Past) (b : Beside p ps) (q : Past) → q.value ≡ b.first.value → Beside p (q ∷ b.more)
+beside-instead p ps b q e = record { first = q; more = b.more; place = refl; other = ap (λ x. eqb x p.value) e ∙ b.other; was = b.was }
 
 written-beside : (p : Past) (n frame : ℕ) (ps : List Past) → AreApart ps → Beside p ps → Beside p (after_shared n (Written frame) ps)
 written-beside p n frame ps a b =
@@ -151,13 +151,13 @@ written-beside p n frame ps a b =
     (record { first = q; more = filter t b.more; place = refl; other = ap (λ x. eqb x p.value) e ∙ b.other; was = filter-was p t b.more (subst AreApart b.place a).1 b.was })
 
 shared-beside : (p : Past) (n : ℕ) (c : Call) (ps : List Past) → AreApart ps → Beside p ps → Beside p (after_shared n c ps)
-shared-beside p n (Fill side entry wp) ps a b = subst (λ (xs : List Past). Beside p (after_shared n (Fill side entry wp) xs)) (sym b.place) (instead p ps b _ refl)
-shared-beside p n (DropPage page) ps a b = subst (λ (xs : List Past). Beside p (after_shared n (DropPage page) xs)) (sym b.place) (instead p ps b _ refl)
-shared-beside p n (DropDir index) ps a b = subst (λ (xs : List Past). Beside p (after_shared n (DropDir index) xs)) (sym b.place) (instead p ps b _ refl)
+shared-beside p n (Fill side entry wp) ps a b = subst (λ (xs : List Past). Beside p (after_shared n (Fill side entry wp) xs)) (sym b.place) (beside-instead p ps b _ refl)
+shared-beside p n (DropPage page) ps a b = subst (λ (xs : List Past). Beside p (after_shared n (DropPage page) xs)) (sym b.place) (beside-instead p ps b _ refl)
+shared-beside p n (DropDir index) ps a b = subst (λ (xs : List Past). Beside p (after_shared n (DropDir index) xs)) (sym b.place) (beside-instead p ps b _ refl)
 shared-beside p n DropAll ps a b =
     subst (λ (xs : List Past). Beside p (after_shared n DropAll xs)) (sym b.place)
     (record { first = begun b.first.value; more = []; place = refl; other = b.other; was = inl refl })
-shared-beside p n (Note frame) ps a b = subst (λ (xs : List Past). Beside p (after_shared n (Note frame) xs)) (sym b.place) (instead p ps b _ refl)
+shared-beside p n (Note frame) ps a b = subst (λ (xs : List Past). Beside p (after_shared n (Note frame) xs)) (sym b.place) (beside-instead p ps b _ refl)
 shared-beside p n (Written frame) ps a b = written-beside p n frame ps a b
 
 -- ---- gone

@@ -163,8 +163,8 @@ module _ (n : ℕ) (q : Past) (ps : List Past) (a : AreApart (q ∷ ps)) (few : 
   here : of_value p.value ps ≡ Some p
   here = of-at ps i p at a.1
 
-  marked-other : (frame : ℕ) → eqb (marked_at frame q).value p.value ≡ false
-  marked-other frame = ap (λ x. eqb x p.value) (marked-value (is_among frame q.tables) frame q) ∙ other
+  marked-value-other : (frame : ℕ) → eqb (marked_at frame q).value p.value ≡ false
+  marked-value-other frame = ap (λ x. eqb x p.value) (marked-value (is_among frame q.tables) frame q) ∙ other
 
   others-go : (c : RootsCall) → leaves c (q ∷ ps) p ≡ true → has_value p.value (after_call n c (q ∷ ps)) ≡ false
   others-go (Switch v) h =
@@ -177,7 +177,7 @@ module _ (n : ℕ) (q : Past) (ps : List Past) (a : AreApart (q ∷ ps)) (few : 
   others-go (Shared (Note frame)) h = absurd (clash false refl h)
   others-go (Shared (Written frame)) h =
       let t : Past → Bool = λ x. not (is_among frame x.tables) in
-      or-false (eqb (marked_at frame q).value p.value) (has_value p.value (filter t ps)) (marked-other frame) (filter-gone p t ps (ap not h) a.1 (inr here))
+      or-false (eqb (marked_at frame q).value p.value) (has_value p.value (filter t ps)) (marked-value-other frame) (filter-gone p t ps (ap not h) a.1 (inr here))
 
   abbrev Here : List Past → Type 0
   Here qs = of_value p.value qs ≡ Some p
@@ -196,7 +196,7 @@ module _ (n : ℕ) (q : Past) (ps : List Past) (a : AreApart (q ∷ ps)) (few : 
   others-stay (Shared (Note frame)) h = changed _ refl
   others-stay (Shared (Written frame)) h =
       let t : Past → Bool = λ x. not (is_among frame x.tables) in
-      of-rest p.value (marked_at frame q) (filter t ps) (marked-other frame) ∙ of-filter t p.value ps p (ap not h) here
+      of-rest p.value (marked_at frame q) (filter t ps) (marked-value-other frame) ∙ of-filter t p.value ps p (ap not h) here
 
 pub others-leave-or-stay : OthersLeaveOrStay
 others-leave-or-stay value calls call present others i p e at =

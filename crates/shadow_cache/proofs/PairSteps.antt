@@ -129,16 +129,16 @@ all-first v cs (suc n) [] (p ∷ ps) m a = absurd a
 all-first v cs (suc n) (q ∷ qs) [] m a = absurd a
 all-first v cs (suc n) (q ∷ qs) (p ∷ ps) m a = (a.0, all-first v cs n qs ps m a.1)
 
-unmarked-by : (v : ℕ) (cs : List RootsCall) (b : Bool) (q : Past) (qs : List Past) (p : Pair) (ps : List Pair) (m : List ℕ) → AllAgree v cs (q ∷ qs) (p ∷ ps) m → AllAgree v cs (cond b qs (q ∷ qs)) (cond b ps (p ∷ ps)) m
-unmarked-by v cs true q qs p ps m a = a.1
-unmarked-by v cs false q qs p ps m a = a
+all-unmarked-by : (v : ℕ) (cs : List RootsCall) (b : Bool) (q : Past) (qs : List Past) (p : Pair) (ps : List Pair) (m : List ℕ) → AllAgree v cs (q ∷ qs) (p ∷ ps) m → AllAgree v cs (cond b qs (q ∷ qs)) (cond b ps (p ∷ ps)) m
+all-unmarked-by v cs true q qs p ps m a = a.1
+all-unmarked-by v cs false q qs p ps m a = a
 
 pub all-unmarked : (v : ℕ) (cs : List RootsCall) (qs : List Past) (ps : List Pair) (m : List ℕ) → AllAgree v cs qs ps m → AllAgree v cs (unmarked qs) (staying_pairs ps) m
 all-unmarked v cs [] [] m a = tt
 all-unmarked v cs [] (p ∷ ps) m a = absurd a
 all-unmarked v cs (q ∷ qs) [] m a = absurd a
 all-unmarked v cs (q ∷ qs) (p ∷ ps) m a =
-    subst (λ b. AllAgree v cs (cond b qs (q ∷ qs)) (cond p.marked ps (p ∷ ps)) m) a.0.mark (unmarked-by v cs p.marked q qs p ps m a)
+    subst (λ b. AllAgree v cs (cond b qs (q ∷ qs)) (cond p.marked ps (p ∷ ps)) m) a.0.mark (all-unmarked-by v cs p.marked q qs p ps m a)
 
 -- ---- the pair of a value
 

@@ -25,12 +25,12 @@ left-by false p ps m = refl
 pub left-is : (p : Pair) (ps : List Pair) (m : List ℕ) → put_by (Some p.cr3) p.marked (reads p) (slot_at p.shadow m) (asides_of ps m) ≡ asides_of (staying_pairs (p ∷ ps)) m
 left-is p ps m = left-by p.marked p ps m
 
-unmarked-by : (b : Bool) (p : Pair) (ps : List Pair) → p.marked ≡ b → AreUnmarked ps → AreUnmarked (cond b ps (p ∷ ps))
-unmarked-by true p ps e h = h
-unmarked-by false p ps e h = (e, h)
+left-unmarked-by : (b : Bool) (p : Pair) (ps : List Pair) → p.marked ≡ b → AreUnmarked ps → AreUnmarked (cond b ps (p ∷ ps))
+left-unmarked-by true p ps e h = h
+left-unmarked-by false p ps e h = (e, h)
 
 pub left-unmarked : (p : Pair) (ps : List Pair) → OthersUnmarked (p ∷ ps) → AreUnmarked (staying_pairs (p ∷ ps))
-left-unmarked p ps h = unmarked-by p.marked p ps refl h
+left-unmarked p ps h = left-unmarked-by p.marked p ps refl h
 
 -- ---- the pair of a value
 

@@ -94,13 +94,13 @@ front-less : (v : ℕ) (ps : List Past) (f : ℕ) (o : Option Past) → of_value
 front-less v ps f None e t = take-less 7 ps f t
 front-less v ps f (Some q) e t = either (is_among f q.tables) (is_table (but_value v ps) f) (is_table ps f) t (of-less v ps q f e) (but-less v ps f)
 
-unmarked-by : (b : Bool) (p : Past) (ps : List Past) (f : ℕ) → is_table (cond b ps (p ∷ ps)) f ≡ true → is_table (p ∷ ps) f ≡ true
-unmarked-by true p ps f e = or-right (is_among f p.tables) (is_table ps f) e
-unmarked-by false p ps f e = e
+unmarked-less-by : (b : Bool) (p : Past) (ps : List Past) (f : ℕ) → is_table (cond b ps (p ∷ ps)) f ≡ true → is_table (p ∷ ps) f ≡ true
+unmarked-less-by true p ps f e = or-right (is_among f p.tables) (is_table ps f) e
+unmarked-less-by false p ps f e = e
 
 unmarked-less : (ps : List Past) (f : ℕ) → is_table (unmarked ps) f ≡ true → is_table ps f ≡ true
 unmarked-less [] f e = e
-unmarked-less (p ∷ ps) f e = unmarked-by p.marked p ps f e
+unmarked-less (p ∷ ps) f e = unmarked-less-by p.marked p ps f e
 
 abbrev pub Fewer : ℕ → List RootsCall → RootsCall → Type 0
 Fewer v cs c = (f : ℕ) → is_table (pairs_after v (cs ++ c ∷ [])) f ≡ true → is_table (pairs_after v cs) f ≡ true

@@ -1,5 +1,6 @@
 -- Pairs of views, one for each value of CR3 that is kept, over a memory.
-use Rattle.std.specs.Prelude.{◌≡◌, ℕ, suc, ◌^◌, ◌<◌, ◌≤◌, List, [], ◌∷◌, ◌++◌, length, slice_index_or, replicate, Bool, true, false, ◌||◌, if◌then◌else◌, Option, Some}
+use Rattle.std.specs.Prelude.{◌≡◌, ℕ, suc, ◌^◌, ◌<◌, ◌≤◌, List, [], ◌∷◌, ◌++◌, length, slice_index_or, replicate, Bool, true, false, if◌then◌else◌, Option, Some}
+use Rattle.std.specs.List.{list_any}
 use Rattle.frame_pool.specs.Held.{Holds}
 use Rattle.shadow_tables.specs.Slots.{Slot, held, slot_at, IsShadow}
 use Rattle.shadow_cache.specs.declared.pair.Pair.{Pair}
@@ -14,8 +15,7 @@ reads p frame = slice_index_or p.tables frame false
 
 -- those of any pair
 abbrev pub any_reads : List Pair → ℕ → Bool
-any_reads [] frame = false
-any_reads (p ∷ ps) frame = reads p frame || any_reads ps frame
+any_reads ps frame = list_any (λ p. reads p frame) ps
 
 -- the places, from n on, that are true
 unfoldable pub places_from : ℕ → List Bool → List ℕ

@@ -1,6 +1,6 @@
 -- Pairs of views told by what was done in them: a list with the present one first, from `new` on.
-use Rattle.std.specs.Prelude.{ℕ, suc, ◌==◌, ◌/◌, ◌&&◌, ◌||◌, not, if◌then◌else◌, Bool, true, false, Option, Some, None, List, [], ◌∷◌, ◌++◌, take, filter}
-use Rattle.std.specs.List.{find}
+use Rattle.std.specs.Prelude.{ℕ, suc, ◌==◌, ◌/◌, ◌&&◌, not, if◌then◌else◌, Bool, true, false, Option, Some, None, List, [], ◌∷◌, ◌++◌, take, filter}
+use Rattle.std.specs.List.{list_any, find}
 use Rattle.guest_ram.specs.Among.{is_among}
 use Rattle.shadow_tables.specs.Slots.{is_side}
 use Rattle.shadow_tables.specs.declared.words.Side.{Side}
@@ -34,16 +34,14 @@ abbrev pub begun : ℕ → Past
 begun value = record { value = value; calls = []; places = []; tables = []; marked = false }
 
 abbrev pub is_place : DirSlot → List DirSlot → Bool
-is_place p [] = false
-is_place p (q ∷ qs) = (is_side p.side q.side && (p.index == q.index)) || is_place p qs
+is_place p ps = list_any (λ q. is_side p.side q.side && (p.index == q.index)) ps
 
 abbrev pub with_place : DirSlot → List DirSlot → List DirSlot
 with_place p ps = if is_place p ps then ps else p ∷ ps
 
 -- the frame is among the tables of any pair
 abbrev pub is_table : List Past → ℕ → Bool
-is_table [] frame = false
-is_table (p ∷ ps) frame = is_among frame p.tables || is_table ps frame
+is_table ps frame = list_any (λ p. is_among frame p.tables) ps
 
 -- the frames but this one
 abbrev pub all_but : ℕ → List ℕ → List ℕ

@@ -1,6 +1,6 @@
 -- What the shadows keep after fills.
 use Rattle.std.proofs.Common.{◌≡◌, ℕ, zero, suc, ◌+◌, ◌^◌, ◌<◌, ◌≤◌, List, [], ◌∷◌, ◌++◌, map, length, drop, get_or, Bool, true, false, not, cond, eqb, ◌&&◌, ◌||◌, Option, Some, None, refl, sym, ap, ◌∙◌, inl, inr, arith}
-use Rattle.std.proofs.lemmas.Bool.{cases_lt}
+use Rattle.std.proofs.lemmas.Bool.{cases_lt, cases_Bool, or_right}
 use Rattle.std.proofs.lemmas.Bool.Decides.{eqb_tells}
 use Rattle.std.proofs.lemmas.List.Elements.{All-head, All-tail}
 use Rattle.std.proofs.lemmas.Cmp.{nat_cmp_total}
@@ -15,7 +15,7 @@ use Rattle.step_mem.specs.declared.changes.Change.{Change}
 use Rattle.step_mem.specs.Changes.{changed, last_change, page_of, entry_of, AreOfPages}
 use Rattle.step_mem.proofs.Changed.{settle, get_changed}
 use Rattle.wedge_mem.specs.Settled.{Fills, filled_by, pages_of}
-use Rattle.wedge_mem.proofs.Lists.{bool_cases, true-false, among-here, among-later}
+use Rattle.wedge_mem.proofs.Lists.{true-false, among-here, among-later}
 
 -- ---- a page that is still to be filled
 
@@ -47,12 +47,8 @@ entry-still xs i old now cs fill l h = same-entry old now cs (get_or xs i 0) (he
 
 -- ---- one page more is filled
 
-or-true : (a b : Bool) → b ≡ true → (a || b) ≡ true
-or-true true b e = refl
-or-true false b e = e
-
 among-cons : (q y : ℕ) (ys : List ℕ) → is_among q ys ≡ true → is_among q (y ∷ ys) ≡ true
-among-cons q y ys e = or-true (eqb q y) (is_among q ys) e
+among-cons q y ys e = or_right (eqb q y) (is_among q ys) e
 
 among-all : (q : ℕ) (xs : List ℕ) (i : ℕ) → is_among q (drop i xs) ≡ true → is_among q xs ≡ true
 among-all q xs zero e = e
@@ -71,7 +67,7 @@ pub fill-more :
 fill-more xs i old now new fill v l e h k q small =
     let p : ℕ = get_or xs i 0 in
     elim (eqb_tells q p) [
-      | inl t ↦ elim (bool_cases (is_among p (drop (i + 1) xs))) [
+      | inl t ↦ elim (cases_Bool (is_among p (drop (i + 1) xs))) [
         | inl later ↦
             k q small
             ∙ kept-by (eqb q p) (is_among p (drop (i + 1) xs)) v (now q) later
@@ -109,8 +105,8 @@ last-none f (c ∷ cs) q e =
 not-second : (q : ℕ) (xs ys : List ℕ) → is_among q (xs ++ ys) ≡ false → is_among q ys ≡ false
 not-second q [] ys e = e
 not-second q (x ∷ xs) ys e =
-    elim (bool_cases (is_among q (xs ++ ys))) [
-      | inl t ↦ absurd (true-false (sym (or-true (eqb q x) (is_among q (xs ++ ys)) t) ∙ e))
+    elim (cases_Bool (is_among q (xs ++ ys))) [
+      | inl t ↦ absurd (true-false (sym (or_right (eqb q x) (is_among q (xs ++ ys)) t) ∙ e))
       | inr f ↦ not-second q xs ys f
     ]
 
@@ -130,7 +126,7 @@ module _ (old new : ℕ → Option Slot) (visited : List ℕ) (cs : List Change)
   entry-after : (q : ℕ) → get (entries_of new) q ≡ get (changed (entries_of old) cs) q
   entry-after q =
       elim (cases_lt q (2 ^ 20)) [
-        | inl l ↦ elim (bool_cases (is_among q (pages_of visited cs))) [
+        | inl l ↦ elim (cases_Bool (is_among q (pages_of visited cs))) [
           | inl t ↦ get-entries_of new q l ∙ ap entry_in (fills.through q l t) ∙ entry-filled side wp tracked (get (changed (entries_of old) cs) q)
           | inr f ↦
               get-entries_of new q l ∙ ap entry_in (fills.others q l f) ∙ sym (get-entries_of old q l)

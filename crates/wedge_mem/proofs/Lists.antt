@@ -1,6 +1,7 @@
 -- Lists of pages, gone through from the first on.
-use Rattle.std.proofs.Common.{◌≡◌, ℕ, zero, suc, ◌+◌, ◌-◌, ◌<◌, List, [], ◌∷◌, ◌++◌, ◌⊎◌, length, drop, drop-cons, take, take-suc, get_or, add-one, zero-add, Bool, true, false, not, cond, eqb, ◌&&◌, ◌||◌, Option, Some, None, IfSome, refl, sym, ap, ◌∙◌, subst, inl, inr, arith}
+use Rattle.std.proofs.Common.{◌≡◌, ℕ, zero, suc, ◌+◌, ◌-◌, ◌<◌, List, [], ◌∷◌, ◌++◌, length, drop, drop-cons, take, take-suc, get_or, add-one, zero-add, Bool, true, false, not, cond, eqb, ◌&&◌, ◌||◌, Option, Some, None, IfSome, refl, sym, ap, ◌∙◌, subst, inl, inr, arith}
 use Rattle.std.proofs.lemmas.List.{take_all, length-drop}
+use Rattle.std.proofs.lemmas.Bool.{cases_Bool, or_right}
 use Rattle.std.proofs.lemmas.Bool.Decides.{eqb_tells}
 use Rattle.std.specs.FinMap.{FinMap, get}
 use Rattle.std.specs.Ordering.{nat_cmp}
@@ -11,10 +12,6 @@ use Rattle.wedge_mem.specs.Settled.{has_entry, used}
 
 pub true-false : true ≡ false → ⊥
 true-false e = cc
-
-pub bool_cases : (b : Bool) → (b ≡ true) ⊎ (b ≡ false)
-bool_cases true = inl refl
-bool_cases false = inr refl
 
 by-bool : (b : Bool) {c : Bool} → (b ≡ true → c ≡ true) → c ≡ false → b ≡ false
 by-bool true h e = sym (h refl) ∙ e
@@ -75,7 +72,7 @@ among-append x (z ∷ xs) y h e =
 
 pub untracked-more : (xs : List ℕ) (i : ℕ) (old new : List ℕ) → i < length xs → ArePart new old → is_among (get_or xs i 0) new ≡ false → ((x : ℕ) → is_among x (take i xs) ≡ true → is_among x old ≡ false) → (x : ℕ) → is_among x (take (i + 1) xs) ≡ true → is_among x new ≡ false
 untracked-more xs i old new l part here before x h =
-    elim (bool_cases (is_among x (take i xs))) [
+    elim (cases_Bool (is_among x (take i xs))) [
       | inl t ↦ part-false x new old part (before x t)
       | inr n ↦
           let e : x ≡ get_or xs i 0 = among-append x (take i xs) (get_or xs i 0) (sym (ap (is_among x) (rw add-one (take-suc xs i 0 l))) ∙ h) n in
@@ -101,7 +98,7 @@ noted-less xs i first old new l here before x h =
 
 pub noted-more : (xs : List ℕ) (i : ℕ) (old new : ℕ → Bool) → i < length xs → (get_or xs i 0 < 16384 → new (get_or xs i 0) ≡ true) → ((x : ℕ) → old x ≡ true → new x ≡ true) → ((x : ℕ) → is_among x (take i xs) ≡ true → x < 16384 → old x ≡ true) → (x : ℕ) → is_among x (take (i + 1) xs) ≡ true → x < 16384 → new x ≡ true
 noted-more xs i old new l here stays before x h low =
-    elim (bool_cases (is_among x (take i xs))) [
+    elim (cases_Bool (is_among x (take i xs))) [
       | inl t ↦ stays x (before x t low)
       | inr n ↦
           let e : x ≡ get_or xs i 0 = among-append x (take i xs) (get_or xs i 0) (sym (ap (is_among x) (rw add-one (take-suc xs i 0 l))) ∙ h) n in
@@ -109,12 +106,8 @@ noted-more xs i old new l here stays before x h low =
           subst (λ y. new y ≡ true) (sym e) (here low')
     ]
 
-or-true : (a b : Bool) → b ≡ true → (a || b) ≡ true
-or-true true b e = refl
-or-true false b e = e
-
 -- an element is among its list
 pub element-among : (xs : List ℕ) (i : ℕ) → i < length xs → is_among (get_or xs i 0) xs ≡ true
 element-among [] i l = absurd (omega (arith, l))
 element-among (x ∷ xs) zero l = elim (eqb_tells x x) [ inl t ↦ ap (λ b. b || is_among x xs) t.0 | inr n ↦ absurd (n.1 refl) ]
-element-among (x ∷ xs) (suc i) l = or-true (eqb (get_or xs i 0) x) (is_among (get_or xs i 0) xs) (element-among xs i (omega (arith, l)))
+element-among (x ∷ xs) (suc i) l = or_right (eqb (get_or xs i 0) x) (is_among (get_or xs i 0) xs) (element-among xs i (omega (arith, l)))

@@ -1,6 +1,7 @@
 -- Frame after frame is noted, or told to be written.
 use Rattle.std.proofs.Common.{◌≡◌, ℕ, ◌+◌, ◌<◌, List, [], ◌∷◌, ◌++◌, length, take, get_or, Bool, true, false, not, cond, eqb, ◌||◌, refl, sym, ap, ◌∙◌, subst, inl, inr, arith}
 use Rattle.std.proofs.Math.Dec.{leb}
+use Rattle.std.proofs.lemmas.Bool.{cases_Bool}
 use Rattle.std.proofs.lemmas.Bool.Decides.{eqb_tells, leb_tells}
 use Rattle.std.proofs.lemmas.List.{take_more}
 use Rattle.std.proofs.lemmas.List.Elements.{filter-append}
@@ -9,7 +10,6 @@ use Rattle.shadow_tables.specs.Aside.{Aside, AreSame, LoseWrites, spared, all_sp
 use Rattle.guest_ram.specs.Among.{is_among}
 use Rattle.shadow_tables.proofs.Asides.{among-append, any-append, lose-more, lose-none, lose-same, none-written, same-refl, same-trans, spared-lose, spared-more, spared-same}
 use Rattle.wedge_mem.specs.Told.{guest_frames}
-use Rattle.wedge_mem.proofs.Lists.{bool_cases}
 
 or-false : (b : Bool) → (b || false) ≡ b
 or-false true = refl
@@ -105,7 +105,7 @@ any-more test fs i l =
 
 marked-now : (a : Bool) (fs : List ℕ) (first old : ℕ → Bool) (x : ℕ) → (old x ≡ true → first x ≡ true) → (is_among x fs ≡ false → old x ≡ first x) → ((a || list_any first fs) || old x) ≡ (a || (list_any first fs || first x))
 marked-now a fs first old x less same =
-    elim (bool_cases (is_among x fs)) [
+    elim (cases_Bool (is_among x fs)) [
       | inl t ↦
           or-assoc a (list_any first fs) (old x)
           ∙ sym (joined a (list_any first fs) (old x) (λ h. any-there first fs x t (less h)))

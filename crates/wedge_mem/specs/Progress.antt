@@ -1,11 +1,13 @@
 -- What a step of a guest's memory did so far, over memory as it stands: the frames of the text are kept from data, and
 -- what lies in them is what memory has.
-use Rattle.std.specs.Prelude.{◌≡◌, ℕ, ◌+◌, ◌-◌, ◌%◌, List, [], take, Bool, false, Option, Some, None, nat_le, if◌then◌else◌}
+use Rattle.std.specs.Prelude.{◌≡◌, ℕ, ◌+◌, ◌-◌, ◌%◌, List, [], take, Option, Some, None, nat_le, if◌then◌else◌}
 use Rattle.std.specs.FinMap.{FinMap}
 use Rattle.std.specs.Ordering.{nat_cmp}
 use Rattle.paging.specs.declared.entry.Entry.{Entry}
 use Rattle.paging.specs.Space.{Space, Wedge, place}
 use Rattle.paging.specs.Uses.{with_front, with_back}
+use Rattle.descriptors.specs.declared.cpu.Cpu.{Cpu}
+use Rattle.descriptors.specs.Starting.{space_at_start}
 use Rattle.step_mem.specs.Changes.{changed}
 use Rattle.step_mem.specs.Guard.{own_of}
 use Rattle.step_mem.specs.Shown.{laid}
@@ -51,24 +53,10 @@ space_in kept ram p =
       earlier = record { start = p.state.earlier.start; len = p.state.earlier.len; set = changed (kept ram) (take p.state.earlier.count p.state.changes) };
     }
 
--- at the beginning of a step nothing is used or ready
-abbrev pub space_at_first : List ℕ → FinMap nat_cmp Entry → (frames cr3 : ℕ) → (pse wp : Bool) → (first count : ℕ) → Space
-space_at_first ram set frames cr3 pse wp first count =
-    record {
-      ram = laid [] first frames ram;
-      frames = frames;
-      set = set;
-      cr3 = cr3;
-      pse = pse;
-      wp = wp;
-      mode = Wedge first count (record { front = 0; front_len = 0; back = 0; back_len = 0 });
-      pages = 0;
-      visited = [];
-      tables = [];
-      wrote = [];
-      ready = record { start = 0; len = 0; write = false };
-      earlier = record { start = 0; len = 0; set = set };
-    }
+-- as a step begins under a monitor's rules over those frames, of whose text no original bytes are laid over memory
+abbrev pub space_at_first : List ℕ → FinMap nat_cmp Entry → (frames : ℕ) → Cpu → (first count : ℕ) → Space
+space_at_first ram set frames cpu first count =
+    space_at_start (Wedge first count (record { front = 0; front_len = 0; back = 0; back_len = 0 })) frames cpu (laid [] first frames ram) set
 
 -- how many bytes of a page lie from an address on
 abbrev pub left_in_page : ℕ → ℕ

@@ -4,7 +4,6 @@ ghost use Rattle.std.proofs.Props.{props};
 ghost use Rattle.std.specs.Prelude.{◌≡◌, ℕ, ◌+◌, ◌*◌, ◌/◌, ◌%◌, ◌≤◌, ◌<◌, ◌^◌, length, take, true, false, ◌||◌, [], IfSome, IsSome, MatchOption};
 ghost use Rattle.std.specs.FinMap.{empty, get};
 ghost use Rattle.std.specs.List.{list_any};
-ghost use Rattle.descriptors.specs.Controls.{pse_of, wp_of};
 ghost use Rattle.frame_pool.specs.Held.{Moves, Owns};
 ghost use Rattle.frame_pool.specs.Pool.{base_of, free_list};
 ghost use Rattle.paging.specs.Fresh.{has};
@@ -60,7 +59,7 @@ impl<'a, S: Shadows> WedgeMem<'a, S> {
         requires text { text_at / 4096 + text_frames ≤ frames }
         requires within { AreWithin frames (entries_of (S.slots shadows.old ram.old)) }
         ensures space { ⟦<WedgeMem<'a, S> as GuestMem>⟧.space result
-            ≡ space_at_first ram.old (entries_of (S.slots shadows.old ram.old)) frames cpu.now.cr3 (pse_of cpu.now) (wp_of cpu.now) (text_at / 4096) text_frames }
+            ≡ space_at_first ram.old (entries_of (S.slots shadows.old ram.old)) frames cpu.now (text_at / 4096) text_frames }
         ensures same_memory { result.ram.ghost_name ≡ ram.entry.ghost_name }
         ensures same_pool { result.pool.ghost_name ≡ pool.entry.ghost_name }
         ensures same_shadows { result.shadows.ghost_name ≡ shadows.entry.ghost_name }

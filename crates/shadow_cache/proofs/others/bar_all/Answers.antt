@@ -3,7 +3,7 @@ use Rattle.frame_pool.specs.Held.{Holds, Writes}
 use Rattle.frame_pool.proofs.Held.{Holds-writes, Writes-refl, Writes-trans}
 use Rattle.shadow_cache.specs.Pairs.{frames_of}
 use Rattle.shadow_cache.proofs.Leaving.{shadows-at}
-use Rattle.shadow_cache.proofs.Barring.{lose-none, lose-more, lose-all, bar-shadows, bar-frames, bar-writes}
+use Rattle.shadow_cache.proofs.Barring.{lose-none, lose-more, lose-all, bar-shadows, barred-frames, bar-writes}
 use Rattle.shadow_cache.proofs.others.bar_all.Goals as goal
 
 pub loop-i-init : goal.loop-i-init
@@ -20,7 +20,7 @@ loop-i-preserved c =
     let shadows = l.invariant.shadows in
     record {
       shadows = bar-shadows ps l.i c.at.result.now l.ram n c.at.ensures shadows holds e.shadow e.memory;
-      frames = bar-frames ps l.i c.at.result.now l.ram n c.at.ensures shadows holds e.held e.memory ∙ l.invariant.frames;
+      frames = barred-frames ps l.i c.at.result.now l.ram n c.at.ensures shadows holds e.held e.memory ∙ l.invariant.frames;
       loses = lose-more l.i ps c.at.result.now m l.ram n c.args.frame c.at.ensures shadows holds e.loses e.memory e.held e.tables l.invariant.loses;
       memory = Writes-trans (frames_of ps m) m l.ram n l.invariant.memory
           (subst (λ (fs : List ℕ). Writes fs l.ram n) l.invariant.frames (bar-writes ps l.i c.at.result.now l.ram n c.at.ensures e.memory));

@@ -1,4 +1,5 @@
 use Rattle.std.proofs.Common.{◌≡◌, ℕ, ◌≤◌, List, ◌∷◌, length, remove, MatchOption, Option, sym, ap, ◌∙◌, subst, arith}
+use Rattle.std.proofs.lemmas.List.{length-take}
 use Rattle.frame_pool.specs.Held.{Moves}
 use Rattle.frame_pool.proofs.Held.{Owns-moves, Moves-trans}
 use Rattle.shadow_cache.specs.Pairs.{frames_of, IsRoots}
@@ -6,7 +7,7 @@ use Rattle.shadow_cache.specs.Others.{AreKept}
 use Rattle.shadow_cache.specs.Switched.{Opens, ComesBack}
 use Rattle.shadow_cache.specs.declared.pair.Pair.{Pair}
 use Rattle.shadow_cache.proofs.Leaving.{kept-trans, kept-refl}
-use Rattle.shadow_cache.proofs.Coming.{front-roots, front-moves, take-few, open-kept, open-moves, open-roots}
+use Rattle.shadow_cache.proofs.Coming.{front-roots, front-moves, open-kept, open-moves, open-roots}
 use Rattle.shadow_cache.proofs.switching.come.Goals as goal
 
 front : (ps qs : List Pair) (p : Pair) (i : ℕ) → qs ≡ remove ps i → p ∷ remove ps i ≡ p ∷ qs
@@ -43,14 +44,14 @@ pub returns-in-None-clause-roots : goal.returns-in-None-clause-roots
 returns-in-None-clause-roots c =
     let a = c.make_room.ensures in let e = c.new.ensures in
     let o = Owns-moves c.args.pool.now c.make_room.new.pool c.args.ram.now c.make_room.new.ram (frames_of c.args.others.now c.args.ram.now) (frames_of c.make_room.new.others c.make_room.new.ram) c.requires.owns a.moves in
-    let few : length c.make_room.new.others ≤ 7 = (let t = take-few 7 c.args.others.now in let s = ap (λ (xs : List Pair). length xs) a.rest in omega (arith, t, s)) in
+    let few : length c.make_room.new.others ≤ 7 = (let t = length-take 7 c.args.others.now in let s = ap (λ (xs : List Pair). length xs) a.rest in omega (arith, t, s)) in
     open-roots c.make_room.new.pool c.new.new.pool c.new.result c.make_room.new.others c.make_room.new.ram c.new.new.ram a.roots o e.moves e.empty e.tables few a.unmarked
 
 pub returns-in-None-clause-moves : goal.returns-in-None-clause-moves
 returns-in-None-clause-moves c =
     let a = c.make_room.ensures in let e = c.new.ensures in
     let o = Owns-moves c.args.pool.now c.make_room.new.pool c.args.ram.now c.make_room.new.ram (frames_of c.args.others.now c.args.ram.now) (frames_of c.make_room.new.others c.make_room.new.ram) c.requires.owns a.moves in
-    let few : length c.make_room.new.others ≤ 7 = (let t = take-few 7 c.args.others.now in let s = ap (λ (xs : List Pair). length xs) a.rest in omega (arith, t, s)) in
+    let few : length c.make_room.new.others ≤ 7 = (let t = length-take 7 c.args.others.now in let s = ap (λ (xs : List Pair). length xs) a.rest in omega (arith, t, s)) in
     Moves-trans c.args.pool.now c.make_room.new.pool c.new.new.pool c.args.ram.now c.make_room.new.ram c.new.new.ram (frames_of c.args.others.now c.args.ram.now) (frames_of c.make_room.new.others c.make_room.new.ram) (frames_of (c.new.result ∷ c.make_room.new.others) c.new.new.ram)
     a.moves (open-moves c.make_room.new.pool c.new.new.pool c.new.result c.make_room.new.others c.make_room.new.ram c.new.new.ram a.roots o e.moves e.empty e.tables few)
 
@@ -58,7 +59,7 @@ pub returns-in-None-clause-comes : goal.returns-in-None-clause-comes
 returns-in-None-clause-comes c =
     let a = c.make_room.ensures in let e = c.new.ensures in
     let o = Owns-moves c.args.pool.now c.make_room.new.pool c.args.ram.now c.make_room.new.ram (frames_of c.args.others.now c.args.ram.now) (frames_of c.make_room.new.others c.make_room.new.ram) c.requires.owns a.moves in
-    let few : length c.make_room.new.others ≤ 7 = (let t = take-few 7 c.args.others.now in let s = ap (λ (xs : List Pair). length xs) a.rest in omega (arith, t, s)) in
+    let few : length c.make_room.new.others ≤ 7 = (let t = length-take 7 c.args.others.now in let s = ap (λ (xs : List Pair). length xs) a.rest in omega (arith, t, s)) in
     let ps = c.args.others.now in let qs : List Pair = c.new.result ∷ c.make_room.new.others in let m = c.args.ram.now in let n = c.new.new.ram in
     subst (λ (o : Option ℕ). MatchOption o (Opens ps qs m n c.args.cr3) (λ i. ComesBack ps qs m n i)) (sym c.in-None.is ∙ c.find.ensures.place)
     (let x : Opens ps qs m n c.args.cr3 =
