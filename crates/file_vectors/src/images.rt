@@ -51,23 +51,28 @@ fn put_header(out: &mut Vec<u8>, entry: u32, sections_at: u32) -> Result<(), All
     put(out, &SIZES)
 }
 
-// The program headers, of text and of data.
-fn put_programs(out: &mut Vec<u8>, parts: &Parts<'_>, text: u32) -> Result<(), AllocError> {
+// The program headers: of so much text, and of data at an offset.
+fn put_programs(
+    out: &mut Vec<u8>,
+    parts: &Parts<'_>,
+    text: u32,
+    data: u32,
+) -> Result<(), AllocError> {
     let text_at = parts.text_at;
     put(out, &[1, 116, text_at, text_at, text, text, 5, 0x1000])?;
     let init_at = parts.init_at;
-    put(out, &[1, 116, init_at, init_at, 0, parts.bss, 6, 0x1000])
+    put(out, &[1, data, init_at, init_at, 0, parts.bss, 6, 0x1000])
 }
 
-// The header, two program headers, the text, the annotations, the names of the sections, and the
-// sections: null, .pv_sites, .shstrtab. All by the layout of ELF files of 32 bits.
-fn file(alloc: Global, parts: Parts<'_>) -> Result<Vec<u8>, AllocError> {
+// The header, two program headers, the text, no data, the annotations, the names of the sections, and
+// the sections: null, .pv_sites, .shstrtab. All by the layout of ELF files of 32 bits.
+pub fn file(alloc: Global, parts: Parts<'_>) -> Result<Vec<u8>, AllocError> {
     let text = (parts.text.len() % 67_108_864) as u32;
     let sites = (parts.sites.len() % 65536) as u32;
     let names = 116 + text + sites;
     let mut out = Vec::new(alloc);
     put_header(&mut out, parts.entry, names + 21)?;
-    put_programs(&mut out, &parts, text)?;
+    put_programs(&mut out, &parts, text, 116 + text)?;
     out.extend_from_slice(parts.text)?;
     out.extend_from_slice(parts.sites)?;
     out.extend_from_slice(b"\0.pv_sites\0.shstrtab\0")?;

@@ -2,61 +2,18 @@
 
 ghost use Rattle.std.specs.Prelude.{◌≡◌, ◌*◌, ◌≤◌, length, IfOk};
 
+use crate::images::{NO_SITES, file, image};
 use guest_ram::Ram;
 use image_check::{Checked, check};
 use image_load::{Boot, TooSmall, load};
 use std::alloc::{AllocError, Global};
 use std::test::Fail;
 
-fn put(out: &mut Vec<u8>, longs: &[u32]) -> Result<(), AllocError> {
-    for n in longs {
-        out.extend_from_slice(&n.to_le_bytes())?;
-    }
-    Ok(())
-}
-
-const IDENTIFICATION: [u8; 16] = [0x7F, 0x45, 0x4C, 0x46, 1, 1, 1, 0, 0, 0, 0, 0, 0, 0, 0, 0];
-
-// What follows it in the header, the program header of the text, and that of data up to its size in the file.
-const HEADERS: [u32; 21] = [
-    0x0003_0002,
-    1,
-    0x1000_0000,
-    52,
-    147,
-    0,
-    0x0020_0034,
-    0x0028_0002,
-    0x0002_0003,
-    // text
-    1,
-    116,
-    0x1000_0000,
-    0x1000_0000,
-    2,
-    2,
-    5,
-    0x1000,
-    // data
-    1,
-    118,
-    0x1100_0000,
-    0x1100_0000,
-];
-
-// The section headers: null, .pv_sites, .shstrtab.
-const SECTIONS: [u32; 30] = [
-    0, 0, 0, 0, 0, 0, 0, 0, 0, 0, 1, 1, 0, 0, 118, 8, 0, 0, 4, 0, 11, 3, 0, 0, 126, 21, 0, 0, 0, 0,
-];
-
-// An image whose text is EB FE, with so many zeroed bytes and no sites.
-fn file(alloc: Global, bss: u32) -> Result<Vec<u8>, AllocError> {
-    let mut out = Vec::from_slice(alloc, &IDENTIFICATION)?;
-    put(&mut out, &HEADERS)?;
-    put(&mut out, &[0, bss, 6, 0x1000])?;
-    out.extend_from_slice(b"\xEB\xFEPVS1\0\0\0\0\0.pv_sites\0.shstrtab\0")?;
-    put(&mut out, &SECTIONS)?;
-    Ok(out)
+// An image of so many zeroed bytes, whose text is its end.
+fn zeroed(alloc: Global, bss: u32) -> Result<Vec<u8>, AllocError> {
+    let mut parts = image(b"\xEB\xFE", &NO_SITES);
+    parts.bss = bss;
+    file(alloc, parts)
 }
 
 // An image in a memory of so many frames, with what is told of it.
@@ -76,7 +33,7 @@ fn started(
 #[test]
 fn an_image_that_is_too_large_is_told(rt: HostRuntime) -> Result<(), Fail> {
     let alloc = rt.alloc();
-    let image = check(alloc, &file(alloc, 8_388_608)?)?;
+    let image = check(alloc, &zeroed(alloc, 8_388_608)?)?;
     let (_ram, told) = started(alloc, &image, 2048)?;
     match told {
         Err(TooSmall { need, have }) => assert_eq!(rt; (need, have), (2305, 2048)),
@@ -105,7 +62,7 @@ const WORDS: [(u32, u32); 13] = [
 #[test]
 fn a_machine_starts_as_the_boot_state_says(rt: HostRuntime) -> Result<(), Fail> {
     let alloc = rt.alloc();
-    let image = check(alloc, &file(alloc, 4)?)?;
+    let image = check(alloc, &zeroed(alloc, 4)?)?;
     let (ram, told) = started(alloc, &image, 2048)?;
     match told {
         Ok(boot) => {

@@ -1,20 +1,16 @@
 //! A processor with memory, in which one instruction is done or one event is delivered.
 
-ghost use Rattle.std.specs.Prelude.{◌≡◌, ◌≤◌, ◌*◌, length};
-ghost use Rattle.step_mem.specs.Changes.{AreWithin};
-ghost use Rattle.step_mem.specs.Guard.{IsLaid};
-ghost use Rattle.step_mem.specs.Sound.{IsSound};
-
 use bare_mem::Cached;
 use descriptors::{Cpu, Hidden, Table, Task};
 use event_entry::{Kind, NotDelivered};
 use guest_ram::Ram;
 use ia32_decode::{Decoded, decode};
 use ia32_types::{Flags, Insn, Op, Operand, Regs, Size};
+use machine_step::begin;
 use std::alloc::{AllocError, Global};
 use std::process::Abort;
 use step_exec::{deliver_in, sys_in};
-use step_mem::{Control, Guard, Kept, Own, StepState, Text};
+use step_mem::{Guard, Own, Text};
 use sys_exec::SysEffect;
 use xlate_buffer::Buffer;
 
@@ -227,32 +223,6 @@ fn memory(alloc: Global, words: &Words) -> Result<Ram, AllocError> {
     put_tables(&mut ram);
     put_all(&mut ram, words);
     Ok(ram)
-}
-
-// What a step keeps, before its first access.
-fn begin<'g, B: Kept>(
-    cpu: &Cpu,
-    ram: &Ram,
-    kept: &B,
-    frames: u32,
-    guard: Guard<'g>,
-) -> StepState<'g>
-    requires frames { 4096 * frames ≤ length ram.now }
-    requires below { 4096 * frames ≤ B.floor kept.now }
-    requires stands { ∥ B.stands kept.now ram.now ∥₁ }
-    requires within { AreWithin frames (B.entries kept.now ram.now) }
-    requires laid { IsLaid guard.text.now frames }
-    ensures sound { IsSound (B.entries kept.now) (B.floor kept.now) (B.stands kept.now) ram.now result }
-    ensures pages { result.pages ≡ 0 }
-{
-    let _len = ram.len();
-    let control = Control {
-        frames,
-        cr3: cpu.cr3,
-        pse: cpu.pse(),
-        wp: cpu.wp(),
-    };
-    StepState::new(control, guard)
 }
 
 const UNREAD: Own = Own {
