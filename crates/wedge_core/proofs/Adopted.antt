@@ -15,9 +15,9 @@ use Rattle.shadow_cache.specs.Views as roots
 use Rattle.shadow_cache.specs.declared.pair.Pair.{Pair}
 use Rattle.shadow_cache.specs.declared.roots.Roots.{Roots}
 use Rattle.machine_model.specs.State.{Setting}
-use Rattle.wedge_core.specs.Filled.{pages_kept}
-use Rattle.wedge_core.specs.Ready.{IsReady}
-use Rattle.wedge_core.proofs.Readying.{none_ready, none_pages}
+use Rattle.wedge_step.specs.Filled.{pages_kept}
+use Rattle.wedge_step.specs.Ready.{IsReady}
+use Rattle.wedge_step.proofs.Readying.{none_ready, none_pages}
 
 pub record IsNew (r : Roots) (m : List ℕ) (cr3 : ℕ) : Type 0 where
   pub stand : ∥ roots.stands r m ∥₁

@@ -3,12 +3,12 @@ use Rattle.std.proofs.Common.{◌≡◌, ℕ, List, Bool, false, refl, sym, ap}
 use Rattle.machine_step.specs.declared.worked.Seen.TheVariants.{Nothing}
 use Rattle.machine_model.specs.State.{Setting, State}
 use Rattle.machine_model.specs.Step.{Report, Went, stepped}
-use Rattle.wedge_core.specs.Parts.{left_of}
+use Rattle.wedge_step.specs.Parts.{left_of}
 use Rattle.machine_model.specs.Run.{with_set}
 use Rattle.wedge_core.specs.Slices.{Counts}
 use Rattle.wedge_core.specs.Stepping.{Goes, Once}
-use Rattle.wedge_core.specs.declared.running.Lost.{Lost}
-use Rattle.wedge_core.proofs.Parts.{part_same, part_allowed}
+use Rattle.wedge_step.specs.declared.running.Lost.{Lost}
+use Rattle.wedge_step.proofs.Parts.{part_same, part_allowed}
 
 -- what the step notes of its walks and writes may differ
 pub once_goes : (m : Setting) (b filled new : State) (before after : Counts) (lost : Lost) → (lost.after ≡ false) × (lost.back ≡ false) → Once m filled new before after

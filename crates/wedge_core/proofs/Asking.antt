@@ -49,15 +49,15 @@ use Rattle.native_steps.proofs.Uses.{went_by}
 use Rattle.native_steps.proofs.WentPages.{went_after, range_goes}
 use Rattle.wedge_mem.specs.Settled.{pages_of}
 use Rattle.wedge_core.specs.Attempts.{Asks}
-use Rattle.wedge_core.specs.declared.running.Lost.{Lost}
-use Rattle.wedge_core.specs.Closed.{MayClose, Closes}
-use Rattle.wedge_core.specs.Opened.{is_entry_open}
-use Rattle.wedge_core.specs.Standing.{is_kernel, side_of}
+use Rattle.wedge_step.specs.declared.running.Lost.{Lost}
+use Rattle.wedge_step.specs.Closed.{MayClose, Closes}
+use Rattle.wedge_step.specs.Opened.{is_entry_open}
+use Rattle.wedge_step.specs.Standing.{is_kernel, side_of}
 use Rattle.wedge_core.specs.Tries.{IsPrepared}
 use Rattle.wedge_core.specs.Views.{view_by}
 use Rattle.wedge_core.proofs.Reaching.{among, all_reached}
 use Rattle.wedge_core.proofs.Seeing.{side_is}
-use Rattle.wedge_core.proofs.AmongPages.{told_among, among_contains, among_first, used_within}
+use Rattle.wedge_step.proofs.AmongPages.{told_among, among_contains, among_first, used_within}
 
 -- ---- pages of ranges
 

@@ -5,8 +5,8 @@ use Rattle.host_cpl3.specs.declared.view.View.{View}
 use Rattle.machine_model.specs.State.{Setting, State}
 use Rattle.machine_model.specs.Run.{Set, with_set}
 use Rattle.wedge_core.specs.Attempts.{AttemptAs}
-use Rattle.wedge_core.specs.Parts.{left_of}
-use Rattle.wedge_core.specs.declared.running.Lost.{Lost}
+use Rattle.wedge_step.specs.Parts.{left_of}
+use Rattle.wedge_step.specs.declared.running.Lost.{Lost}
 use Rattle.wedge_core.specs.declared.native.Attempt.{Attempt}
 use Rattle.wedge_core.specs.declared.native.Attempt.TheVariants as attempt
 

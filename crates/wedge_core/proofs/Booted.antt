@@ -15,9 +15,9 @@ use Rattle.image_load.specs.Boot.{need, data_frame, boot_ram, boot_descriptors, 
 use Rattle.shadow_cache.specs.Views as roots
 use Rattle.shadow_cache.specs.declared.roots.Roots.{Roots}
 use Rattle.machine_model.specs.State.{State, wedge}
-use Rattle.wedge_core.specs.Standing.{IsHeld, ground}
-use Rattle.wedge_core.specs.declared.running.Running.{Running}
-use Rattle.wedge_core.proofs.Memories.{text_within, part_front}
+use Rattle.wedge_step.specs.Standing.{IsHeld, ground}
+use Rattle.wedge_step.specs.declared.running.Running.{Running}
+use Rattle.wedge_step.proofs.Memories.{text_within, part_front}
 
 grows : (m : List ℕ) (a : ℕ) (bs : List ℕ) → length m ≤ length (with_part m a bs)
 unfolding with_part

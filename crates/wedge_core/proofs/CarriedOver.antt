@@ -1,6 +1,6 @@
 -- What a run knows, over steps in which it has no part and over one step of its own.
-use Rattle.std.proofs.Common.{◌≡◌, ℕ, ◌+◌, ◌*◌, ◌<◌, ◌≤◌, Bool, true, false, eqb, Option, List, [], ◌∷◌, ◌++◌, length, sym, ap, subst, ◌∙◌, arith}
-use Rattle.std.specs.Set.{is_member, distinct_count}
+use Rattle.std.proofs.Common.{◌≡◌, ℕ, ◌+◌, ◌*◌, ◌≤◌, Bool, true, false, eqb, Option, List, [], ◌∷◌, ◌++◌, length, sym, ap, subst, ◌∙◌, arith}
+use Rattle.std.specs.Set.{is_member}
 use Rattle.frame_pool.specs.Held.{SameIn}
 use Rattle.frame_pool.specs.Pool.{free_list}
 use Rattle.frame_pool.specs.declared.Pool.{Pool}
@@ -8,7 +8,7 @@ use Rattle.board.specs.declared.devices.Board.{Board}
 use Rattle.board.specs.Boards.{given}
 use Rattle.board.specs.Scripts.{Events}
 use Rattle.image_check.specs.Image.{Image}
-use Rattle.shadow_tables.specs.Aside.{Aside, AreSame}
+use Rattle.shadow_tables.specs.Aside.{Aside}
 use Rattle.shadow_tables.specs.Entries.{entries_of}
 use Rattle.shadow_tables.specs.Slots.{Slot}
 use Rattle.machine_model.specs.State.{Setting, State, wedge}
@@ -20,12 +20,13 @@ use Rattle.native_steps.specs.Mirrors.{shown}
 use Rattle.native_steps.proofs.Shown.{shown_length}
 use Rattle.kept_laws.specs.Carried.{indices_in}
 use Rattle.kept_laws.specs.Known.{IsKnown}
-use Rattle.wedge_core.specs.declared.running.Running.{Running}
-use Rattle.wedge_core.specs.Carried.{IsCarried, IsTakenFrom, IsCarriedBy}
-use Rattle.wedge_core.specs.CarryLaws.{CarryLaws}
-use Rattle.wedge_core.specs.Parts.{left_of}
-use Rattle.wedge_core.specs.Pools.{Keeps}
-use Rattle.wedge_core.specs.Standing.{IsHeld, ground, set_of, state_of}
+use Rattle.wedge_step.specs.declared.running.Running.{Running}
+use Rattle.wedge_step.specs.Carried.{IsCarried, IsTakenFrom, IsCarriedBy}
+use Rattle.wedge_step.specs.CarryLaws.{CarryLaws}
+use Rattle.wedge_step.specs.Parts.{left_of}
+use Rattle.wedge_step.specs.Pools.{Keeps}
+use Rattle.wedge_step.specs.Standing.{IsHeld, ground, set_of, state_of}
+use Rattle.wedge_step.proofs.Widening.{Widens}
 use Rattle.wedge_core.proofs.Going.{StepCarries, eventful}
 use Rattle.wedge_core.proofs.Landing.{shown_any}
 use Rattle.wedge_core.proofs.Passed.{CarriesPast}
@@ -42,14 +43,6 @@ module _ {S : Type 0} (stands : S → List ℕ → Type 0) (frames : S → List 
   as_kept m s memory kept steps b is c =
       record { known = subst (IsKnown m steps b (noted s) (marked s) (asides s memory)) (sym is) c.known; opened_to = c.opened_to }
 
-  -- the laws of shadows
-  pub record Widens : Type 0 where
-    pub same_asides : (s : S) (m m' : List ℕ) → ∥ stands s m ∥₁ → SameIn (frames s m) m m' → AreSame (asides s m) (asides s m')
-    pub same_opened : (s : S) (m m' : List ℕ) (indices : ℕ → Bool) → ∥ stands s m ∥₁ → SameIn (frames s m) m m' → opened s m indices → opened s m' indices
-    pub wider : (s : S) (m : List ℕ) (indices more : ℕ → Bool) → ((index : ℕ) → indices index ≡ true → more index ≡ true) → opened s m indices → opened s m more
-    pub sized : (s : S) (m : List ℕ) (indices : ℕ → Bool) (among : List ℕ) → ∥ stands s m ∥₁ → opened s m indices
-        → ((index : ℕ) → index < 1024 → indices index ≡ true → is_member eqb among index ≡ true) → length (frames s m) ≤ 8 * (2 + 2 * distinct_count eqb among)
-
   -- the guest's memory has all its frames
   pub room_at : (image : Image) (script : Events) (f : ℕ) (g : Running S) (pool : Pool) (memory : List ℕ) → IsHeld stands frames slots (ground image f) g pool memory → 4096 * f ≤ length (shown (wedge image script f) memory)
   room_at image script f g pool memory h =
@@ -57,7 +50,7 @@ module _ {S : Type 0} (stands : S → List ℕ → Type 0) (frames : S → List 
       let same = ap (λ (l : List ℕ). length l) (shown_any image script f memory) in
       omega (arith, long, same)
 
-  module _ (widens : Widens) (laws : CarryLaws) where
+  module _ (widens : Widens stands frames asides opened) (laws : CarryLaws) where
     pub carries_past : (m : Setting) (s : S) (memory : List ℕ) → CarriesPast m (CarriedWith m s memory)
     carries_past m s memory = record {
       next = λ kept steps b c. c.known.next;

@@ -9,7 +9,7 @@ use Rattle.paging.specs.declared.entry.Entry.{Entry}
 use Rattle.machine_model.specs.State.{Setting, State}
 use Rattle.machine_model.specs.Run.{Set}
 use Rattle.machine_model.specs.Clash.{Use, uses_at, is_refused_by, clash_behind, instruction_clashes}
-use Rattle.wedge_core.proofs.Bools.{and_false}
+use Rattle.wedge_step.proofs.Bools.{and_false}
 
 none_clash : (entries : ℕ → Option Entry) (wp : Bool) → ((page : ℕ) → entries page ≡ None) → (used : List ℕ) (us : List Use) → clash_behind entries wp used us ≡ false
 none_clash entries wp none used [] = refl

@@ -16,11 +16,11 @@ use Rattle.machine_model.specs.Counts.{direct_in, direct_addresses, passed_on}
 use Rattle.machine_model.specs.Step.{Completed, Report, Went, interrupt_of, stepped}
 use Rattle.machine_model.specs.Alone.{StepsAreDone, WaitsCountNothing, SitesCountNothing}
 use Rattle.wedge_core.specs.AloneLaws.{AlonesGo}
-use Rattle.wedge_core.specs.Parts.{left_of}
+use Rattle.wedge_step.specs.Parts.{left_of}
 use Rattle.machine_model.specs.Run.{with_set}
 use Rattle.wedge_core.specs.Slices.{Counts, CountsOn}
 use Rattle.wedge_core.specs.Views.{is_outside, may_run}
-use Rattle.wedge_core.proofs.Bools.{clash, and_false, or_true}
+use Rattle.wedge_step.proofs.Bools.{clash, and_false, or_true}
 
 pub none_counts : (m : Setting) (r : Report) (counts : Counts) → direct_in m.image.sites r.completed ≡ [] → CountsOn m (r ∷ []) counts counts
 none_counts m r counts e =

@@ -9,7 +9,7 @@ use Rattle.run_trace.specs.Notes.{Note, emptied_at, dropped_at}
 use Rattle.machine_model.specs.Run.{Set}
 use Rattle.machine_model.specs.Notes.{step_in, is_emptied, is_dropped, without, set_told, is_ordered, IsPage}
 use Rattle.wedge_core.specs.Noted.{emptied_if}
-use Rattle.wedge_core.specs.Parts.{left_of}
+use Rattle.wedge_step.specs.Parts.{left_of}
 
 -- of an emptying, before a step up to this one
 abbrev pub IsUpTo : ℕ → Note → Type 0

@@ -24,17 +24,17 @@ use Rattle.machine_model.specs.Keeping.{Roomy, Kept}
 use Rattle.machine_model.specs.Notes.{AreLeft, AreNotes, set_told}
 use Rattle.native_steps.specs.Stretch.{IsQuiet}
 use Rattle.kept_laws.specs.Known.{IsOfPages}
-use Rattle.wedge_core.specs.Carried.{IsTakenFrom}
-use Rattle.wedge_core.specs.CarryLaws.{CarryLaws}
-use Rattle.wedge_core.specs.Filled.{FillsOn}
+use Rattle.wedge_step.specs.Carried.{IsTakenFrom}
+use Rattle.wedge_step.specs.CarryLaws.{CarryLaws}
+use Rattle.wedge_step.specs.Filled.{FillsOn}
 use Rattle.wedge_core.specs.Noted.{NotesOn, emptied_if, notes_then}
-use Rattle.wedge_core.specs.Parts.{IsPartOf, left_of}
+use Rattle.wedge_step.specs.Parts.{IsPartOf, left_of}
 use Rattle.wedge_core.specs.Slices.{Counts, CountsOn, SliceAs}
 use Rattle.wedge_core.specs.Stepping.{Goes, StepHalts, Passes, StepAs}
-use Rattle.wedge_core.specs.declared.running.Lost.{Lost}
-use Rattle.wedge_core.proofs.Parts.{part_left, part_same, part_allowed, part_loosened}
+use Rattle.wedge_step.specs.declared.running.Lost.{Lost}
+use Rattle.wedge_step.proofs.Parts.{part_left, part_same, part_allowed, part_loosened}
 use Rattle.wedge_core.proofs.Joined.{steps_join, no_steps, steps_one, trace_join, counts_join, counts_none}
-use Rattle.wedge_core.proofs.Filling.{part_few}
+use Rattle.wedge_step.proofs.Filling.{part_few}
 use Rattle.wedge_core.proofs.Texts.{appends_both, appends_none, front_of, lines_join}
 use Rattle.wedge_core.proofs.EmptiedNotes.{SoFar, TriedNotes, none_yet, try_next, go_next, so_far_later, told_more, told_none, told_before, up_to_later, tried_none, none_dropped, dropped_once, are_pages, steps_until}
 use Rattle.wedge_core.proofs.Passed.{CarriesPast, some_more, step_taken, taken_first}

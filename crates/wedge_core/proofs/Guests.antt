@@ -12,12 +12,12 @@ use Rattle.image_load.specs.declared.fault.StartFault.{StartFault}
 use Rattle.shadow_cache.specs.Views as roots
 use Rattle.machine_model.specs.State.{wedge}
 use Rattle.native_steps.specs.Mirrors.{shown}
-use Rattle.wedge_core.specs.Filled.{FillsOn, IsFilled, pages_kept}
+use Rattle.wedge_step.specs.Filled.{FillsOn, IsFilled, pages_kept}
 use Rattle.wedge_core.specs.Promises.{with_patches}
 use Rattle.run_trace.specs.Pauses.{IfReached}
-use Rattle.wedge_core.specs.Standing.{IsHeld, ground}
+use Rattle.wedge_step.specs.Standing.{IsHeld, ground}
 use Rattle.wedge_core.specs.declared.guest.Guest.{Guest}
-use Rattle.wedge_core.specs.declared.running.Running.{Running}
+use Rattle.wedge_step.specs.declared.running.Running.{Running}
 use Rattle.wedge_core.proofs.WholeRuns.{front_held}
 
 zero_or : (n : ℕ) → (n ≡ 0) ⊎ (1 ≤ n)

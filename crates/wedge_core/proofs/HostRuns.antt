@@ -20,7 +20,7 @@ use Rattle.host_cpl3.specs.HostRun.{Standing, host_run}
 use Rattle.host_cpl3.specs.RunsTo.{Leaves, IsRun, EachIsRun}
 use Rattle.host_cpl3.specs.Borders.{EntersTheWindow, ExitsInTheWindow}
 use Rattle.wedge_core.specs.Ran.{LeadsLow}
-use Rattle.wedge_core.proofs.Bools.{both}
+use Rattle.wedge_step.proofs.Bools.{both}
 
 -- the same run, by the view that a call was given
 pub by_view : (v w : View) (k : ℕ) (s : Standing) (p : Exit × Standing) → v ≡ w → host_run v k s ≡ p → host_run w k s ≡ p

@@ -10,7 +10,7 @@ use Rattle.machine_model.specs.Clash.{clashes_from, has_instruction, instruction
 use Rattle.machine_model.specs.State.{Setting, State}
 use Rattle.machine_model.specs.Step.{interrupt_of}
 use Rattle.wedge_core.specs.Views.{is_outside, may_run}
-use Rattle.wedge_core.proofs.Bools.{both}
+use Rattle.wedge_step.proofs.Bools.{both}
 
 awake : (halted : Bool) (o : Option ℕ) → not halted ≡ true → is_none o ≡ true → not (halted || is_some o) ≡ true
 awake true o h k = absurd (let f : false ≡ true = h in cc)

@@ -23,9 +23,9 @@ use Rattle.native_steps.specs.Mirrors.{shown}
 use Rattle.native_steps.specs.Forward.{IsEntrance}
 use Rattle.native_steps.specs.Stretch.{AreQuiet, board_now, board_after, EndsAs}
 use Rattle.wedge_core.specs.Ran.{landed}
-use Rattle.wedge_core.specs.Standing.{ground}
+use Rattle.wedge_step.specs.Standing.{ground}
 use Rattle.wedge_core.specs.Views.{is_outside, may_run}
-use Rattle.wedge_core.proofs.Bools.{both, is_not, none_some, clash, none_of}
+use Rattle.wedge_step.proofs.Bools.{both, is_not, none_some, clash, none_of}
 
 -- ---- the processor may go on
 

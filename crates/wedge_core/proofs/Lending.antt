@@ -14,9 +14,9 @@ use Rattle.step_mem.specs.Changes.{AreWithin}
 use Rattle.machine_model.specs.State.{Setting}
 use Rattle.machine_model.specs.Run.{Set}
 use Rattle.native_steps.specs.Lends.{Lends, IsLent, IsOpen}
-use Rattle.wedge_core.specs.Parts.{IsPartOf}
-use Rattle.wedge_core.specs.Standing.{is_kernel, lets, IsOpenSlot, AreOpen}
-use Rattle.wedge_core.proofs.Bools.{both, none_some}
+use Rattle.wedge_step.specs.Parts.{IsPartOf}
+use Rattle.wedge_step.specs.Standing.{is_kernel, lets, IsOpenSlot, AreOpen}
+use Rattle.wedge_step.proofs.Bools.{both, none_some}
 
 same_side : (a b : Side) → is_side a b ≡ true → a ≡ b
 same_side Kernel Kernel h = refl

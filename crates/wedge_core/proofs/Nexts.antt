@@ -28,11 +28,11 @@ use Rattle.native_steps.specs.Mirrors.{IsWedge, IsHost, IsLevel, shown}
 use Rattle.native_steps.specs.TextLaws.{TextLaws}
 use Rattle.native_steps.proofs.Together.{stepped_by}
 use Rattle.wedge_core.specs.Attempts.{Idle}
-use Rattle.wedge_core.specs.Parts.{IsLeft}
-use Rattle.wedge_core.specs.declared.running.Lost.{Lost}
+use Rattle.wedge_step.specs.Parts.{IsLeft}
+use Rattle.wedge_step.specs.declared.running.Lost.{Lost}
 use Rattle.wedge_core.specs.Tries.{OthersAreUsers}
 use Rattle.wedge_core.specs.Views.{is_outside, may_run}
-use Rattle.wedge_core.proofs.Bools.{both, is_not, none_of}
+use Rattle.wedge_step.proofs.Bools.{both, is_not, none_of}
 use Rattle.wedge_core.proofs.Insensitive.{insensitive}
 
 stands_out : (low start : Bool) (site : Option Site) → is_outside (cond low NotAStart (cond start (by_site site) NotAStart)) ≡ true → (low ≡ false) × (start ≡ true) × (site ≡ None)

@@ -35,24 +35,25 @@ use Rattle.native_steps.specs.Forward.{Follows}
 use Rattle.native_steps.specs.Lends.{IsUnlent}
 use Rattle.native_steps.specs.Mirrors.{IsHost, shown}
 use Rattle.wedge_core.specs.Attempts.{Asks, Idle}
-use Rattle.wedge_core.specs.Carried.{IsTakenFrom}
-use Rattle.wedge_core.specs.Filled.{FillsOn}
-use Rattle.wedge_core.specs.Parts.{left_of}
-use Rattle.wedge_core.specs.Pools.{Keeps}
+use Rattle.wedge_step.specs.Carried.{IsTakenFrom}
+use Rattle.wedge_step.specs.Filled.{FillsOn}
+use Rattle.wedge_step.specs.Parts.{left_of}
+use Rattle.wedge_step.specs.Pools.{Keeps}
 use Rattle.wedge_core.specs.Views.{view_by}
 use Rattle.wedge_core.specs.Ran.{Ran, landed}
 use Rattle.wedge_core.specs.Slices.{Counts, CountsOn}
-use Rattle.wedge_core.specs.Standing.{IsHeld, IsAble, AreOpen, ground, side_of, state_of}
-use Rattle.wedge_core.specs.Stepping.{AloneAs, Goes}
-use Rattle.wedge_core.specs.declared.running.Lost.{Lost}
-use Rattle.wedge_core.specs.declared.running.Running.{Running}
-use Rattle.wedge_core.proofs.AfterTry.{any_script}
+use Rattle.wedge_step.specs.Standing.{IsHeld, IsAble, AreOpen, ground, side_of, state_of}
+use Rattle.wedge_core.specs.Stepping.{Goes}
+use Rattle.wedge_step.specs.Alone.{AloneAs}
+use Rattle.wedge_step.specs.declared.running.Lost.{Lost}
+use Rattle.wedge_step.specs.declared.running.Running.{Running}
+use Rattle.wedge_step.proofs.AfterTry.{any_script}
 use Rattle.wedge_core.proofs.Asked.{once_goes}
-use Rattle.wedge_core.proofs.Boards.{one_step}
-use Rattle.wedge_core.proofs.Knowing.{report_in, state_in}
+use Rattle.wedge_step.proofs.Boards.{one_step}
+use Rattle.wedge_step.proofs.Knowing.{report_in, state_in}
 use Rattle.wedge_core.proofs.Counting.{none_counts, one_counts}
-use Rattle.wedge_core.proofs.Keeping.{keeps_join, keeps_above}
-use Rattle.wedge_core.proofs.Opening.{same_open}
+use Rattle.wedge_step.proofs.Keeping.{keeps_join, keeps_above}
+use Rattle.wedge_step.proofs.Opening.{same_open}
 
 -- ---- what the host's call comes to
 

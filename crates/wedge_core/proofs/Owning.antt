@@ -8,7 +8,7 @@ use Rattle.frame_pool.proofs.Held.{Owns-sum, Owns-within}
 use Rattle.frame_pool.proofs.Lengths.{hit-self, times-cons, IsNotIn-times}
 use Rattle.pv_io.specs.declared.answer.Failed.{Failed}
 use Rattle.run_trace.specs.declared.pause.Pause.{Pause}
-use Rattle.wedge_core.specs.Pools.{Keeps}
+use Rattle.wedge_step.specs.Pools.{Keeps}
 use Rattle.run_trace.specs.Pauses.{IfPaused}
 
 distinct_from : (gs : List ℕ) → ((f : ℕ) → times f gs ≤ 1) → AreDistinct gs

@@ -10,7 +10,7 @@ use Rattle.machine_model.specs.Notes.{AreLeft}
 use Rattle.machine_model.specs.Keeping.{Roomy, Kept}
 use Rattle.native_steps.specs.Stretch.{IsQuiet}
 use Rattle.kept_laws.specs.Known.{IsOfPages, IsNextKept, IsPast}
-use Rattle.wedge_core.specs.CarryLaws.{CarryLaws}
+use Rattle.wedge_step.specs.CarryLaws.{CarryLaws}
 use Rattle.wedge_core.proofs.Joined.{steps_join, steps_one}
 
 -- What is known, with what is kept: the next step that goes by what is kept goes by the rule, and a step that the run has no

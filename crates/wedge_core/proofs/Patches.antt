@@ -7,7 +7,7 @@ use Rattle.sites.specs.declared.site.Site.{Site}
 use Rattle.sites.specs.Patched.{AreInside}
 use Rattle.machine_model.specs.State.{Setting}
 use Rattle.native_steps.specs.Mirrors.{shown}
-use Rattle.wedge_core.proofs.Memories.{part_front}
+use Rattle.wedge_step.proofs.Memories.{part_front}
 
 -- sites of a text that stands in a memory
 pub inside_moved : (len new at : ℕ) (sites : List Site) → at + len ≤ new → AreInside len 0 sites → AreInside new at sites

@@ -21,9 +21,9 @@ use Rattle.image_check.specs.Image.{Image}
 use Rattle.native_steps.specs.Backward.{IsReached, IsRangeReached, AreReached}
 use Rattle.native_steps.specs.Granted.{IsGranted, IsRangeGranted, AreGranted}
 use Rattle.wedge_mem.specs.Settled.{filled_by}
-use Rattle.wedge_core.specs.Closed.{Closes}
-use Rattle.wedge_core.specs.Standing.{is_kernel}
-use Rattle.wedge_core.proofs.Bools.{none_some}
+use Rattle.wedge_step.specs.Closed.{Closes}
+use Rattle.wedge_step.specs.Standing.{is_kernel}
+use Rattle.wedge_step.proofs.Bools.{none_some}
 
 user_is : (side : Side) → not (is_kernel side) ≡ is_user side
 user_is Kernel = refl

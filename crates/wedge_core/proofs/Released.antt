@@ -10,11 +10,11 @@ use Rattle.shadow_tables.specs.Entries.{entries_of}
 use Rattle.shadow_cache.specs.Views as roots
 use Rattle.shadow_cache.specs.declared.roots.Roots.{Roots}
 use Rattle.machine_model.specs.Run.{Set}
-use Rattle.wedge_core.specs.Standing.{IsHeld, ground}
-use Rattle.wedge_core.specs.declared.running.Running.{Running}
-use Rattle.wedge_core.proofs.Bools.{none_some}
-use Rattle.wedge_core.proofs.Memories.{front_same, host_same, text_within}
-use Rattle.wedge_core.proofs.Opening.{none_open}
+use Rattle.wedge_step.specs.Standing.{IsHeld, ground}
+use Rattle.wedge_step.specs.declared.running.Running.{Running}
+use Rattle.wedge_step.proofs.Bools.{none_some}
+use Rattle.wedge_step.proofs.Memories.{front_same, host_same, text_within}
+use Rattle.wedge_step.proofs.Opening.{none_open}
 
 pub held_on : (image : Image) (frames : ℕ) (g : Running Roots) (s : Roots) (p p' : Pool) (m m' : List ℕ)
     → ∥ roots.stands s m' ∥₁ → ((page : ℕ) → page < 2 ^ 20 → roots.slots s m' page ≡ None) → entries_of (roots.slots s m') ≡ empty → length (roots.frames s m') ≡ 2 → Owns p' m' (roots.frames s m')

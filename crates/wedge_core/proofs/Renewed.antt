@@ -8,9 +8,9 @@ use Rattle.shadow_tables.specs.Entries.{entries_of}
 use Rattle.shadow_cache.specs.Views as roots
 use Rattle.shadow_cache.specs.declared.roots.Roots.{Roots}
 use Rattle.machine_model.specs.State.{Setting}
-use Rattle.wedge_core.specs.Standing.{IsHeld, ground, state_of}
-use Rattle.wedge_core.specs.declared.running.Running.{Running}
-use Rattle.wedge_core.proofs.Memories.{front_same, shown_same}
+use Rattle.wedge_step.specs.Standing.{IsHeld, ground, state_of}
+use Rattle.wedge_step.specs.declared.running.Running.{Running}
+use Rattle.wedge_step.proofs.Memories.{front_same, shown_same}
 use Rattle.wedge_core.proofs.Released.{held_on}
 
 -- it is held as before

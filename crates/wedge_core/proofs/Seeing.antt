@@ -5,7 +5,7 @@ use Rattle.std.proofs.lemmas.Bool.Decides.{nat_tests}
 use Rattle.descriptors.specs.declared.cpu.Cpu.{Cpu}
 use Rattle.shadow_tables.specs.declared.words.Side.{Side}
 use Rattle.native_steps.specs.Mirrors.{Sees, IsLevel}
-use Rattle.wedge_core.specs.Standing.{IsAble, side_of, is_kernel}
+use Rattle.wedge_step.specs.Standing.{IsAble, side_of, is_kernel}
 use Rattle.wedge_core.specs.Views.{view_by}
 
 level_of : (cpl : ℕ) → (cpl ≡ 0) ⊎ (cpl ≡ 3) → IsLevel (not (cpl == 3)) cpl

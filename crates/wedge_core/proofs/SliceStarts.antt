@@ -11,9 +11,9 @@ use Rattle.shadow_tables.specs.Slots.{Slot}
 use Rattle.machine_model.specs.State.{Setting, State}
 use Rattle.machine_model.specs.Run.{Set}
 use Rattle.kept_laws.specs.Known.{IsKnown}
-use Rattle.wedge_core.specs.Carried.{IsCarried}
-use Rattle.wedge_core.specs.CarryLaws.{CarryLaws}
-use Rattle.wedge_core.specs.Filled.{FillsOn}
+use Rattle.wedge_step.specs.Carried.{IsCarried}
+use Rattle.wedge_step.specs.CarryLaws.{CarryLaws}
+use Rattle.wedge_step.specs.Filled.{FillsOn}
 use Rattle.wedge_core.specs.Slices.{Counts, SliceAs}
 use Rattle.run_trace.specs.Pauses.{IfPaused}
 use Rattle.wedge_core.specs.Starts.{IsAsNew}

@@ -30,20 +30,20 @@ use Rattle.machine_model.specs.Able.{IsAble}
 use Rattle.native_steps.specs.Lends.{Lends, IsUnlent}
 use Rattle.native_steps.specs.Mirrors.{IsHost, shown}
 use Rattle.native_steps.specs.Stretch.{SameBehind, Beside, Advanced, Advances, board_after}
-use Rattle.wedge_core.specs.declared.running.Running.{Running}
-use Rattle.wedge_core.specs.Parts.{IsPartOf}
-use Rattle.wedge_core.specs.Pools.{Keeps}
+use Rattle.wedge_step.specs.declared.running.Running.{Running}
+use Rattle.wedge_step.specs.Parts.{IsPartOf}
+use Rattle.wedge_step.specs.Pools.{Keeps}
 use Rattle.wedge_core.specs.Ran.{Ran, landed}
-use Rattle.wedge_core.specs.Standing.{IsHeld, AreOpen, ground, side_of, set_of, state_of}
+use Rattle.wedge_step.specs.Standing.{IsHeld, AreOpen, ground, side_of, set_of, state_of}
 use Rattle.wedge_core.specs.Stepping.{Passes}
 use Rattle.wedge_core.specs.ViewLaws.{ViewsLend, ViewsSee}
 use Rattle.wedge_core.specs.Views.{view_by}
-use Rattle.wedge_core.proofs.Keeping.{keeps_above}
-use Rattle.wedge_core.proofs.Opening.{same_open}
-use Rattle.wedge_core.proofs.Parts.{part_same}
+use Rattle.wedge_step.proofs.Keeping.{keeps_above}
+use Rattle.wedge_step.proofs.Opening.{same_open}
+use Rattle.wedge_step.proofs.Parts.{part_same}
 use Rattle.wedge_core.proofs.Seeing.{side_is}
 use Rattle.wedge_core.proofs.Landing.{MayRun, quiet_steps, Lands, lands, state_is, board_some, shown_any, steps_none, no_sets}
-use Rattle.wedge_core.proofs.Boards.{none_given}
+use Rattle.wedge_step.proofs.Boards.{none_given}
 
 -- where no event is in a script, none comes
 front : (a b : Bool) → (a || b) ≡ false → (a || false) ≡ false

@@ -22,13 +22,13 @@ use Rattle.machine_model.specs.State.{wedge, wedge_mode, space_at_start}
 use Rattle.native_steps.specs.Again as again
 use Rattle.native_steps.specs.Forward.{IsNext}
 use Rattle.native_steps.specs.Mirrors.{IsWedge, shown}
-use Rattle.wedge_core.specs.Standing.{IsHeld, AreOpen, ground, state_of}
+use Rattle.wedge_step.specs.Standing.{IsHeld, AreOpen, ground, state_of}
 use Rattle.wedge_core.specs.Views.{may_run}
-use Rattle.wedge_core.specs.declared.running.Running.{Running}
-use Rattle.wedge_core.proofs.AfterTry.{After, any_script, after, few_after}
-use Rattle.wedge_core.proofs.Memories.{shown_is}
+use Rattle.wedge_step.specs.declared.running.Running.{Running}
+use Rattle.wedge_step.proofs.AfterTry.{After, any_script, after, few_after}
+use Rattle.wedge_step.proofs.Memories.{shown_is}
 use Rattle.wedge_core.proofs.Nexts.{next_from, starts}
-use Rattle.wedge_core.proofs.Opening.{same_open}
+use Rattle.wedge_step.proofs.Opening.{same_open}
 
 module _ {S : Type 0} (stands : S → List ℕ → Type 0) (frames : S → List ℕ → List ℕ) (slots : S → List ℕ → ℕ → Option Slot) (asides : S → List ℕ → List Aside) where
   -- the state before it, in the words of a run with a script

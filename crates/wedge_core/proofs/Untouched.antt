@@ -16,11 +16,11 @@ use Rattle.machine_model.specs.State.{Setting}
 use Rattle.native_steps.specs.Lends.{IsUnlent}
 use Rattle.native_steps.specs.Mirrors.{IsWedge, IsHost, shown}
 use Rattle.native_steps.proofs.Shown.{shown_length}
-use Rattle.wedge_core.specs.Ready.{AreReady, IsReady}
-use Rattle.wedge_core.proofs.Bools.{both, none_some, clash}
-use Rattle.wedge_core.proofs.Behind.{found_on}
-use Rattle.wedge_core.proofs.Readying.{all_rules}
-use Rattle.wedge_core.proofs.Shedding.{same_shed, all_ready_shed}
+use Rattle.wedge_step.specs.Ready.{AreReady, IsReady}
+use Rattle.wedge_step.proofs.Bools.{both, none_some, clash}
+use Rattle.wedge_core.proofs.HostWrites.{found_on}
+use Rattle.wedge_step.proofs.Readying.{all_rules}
+use Rattle.wedge_step.proofs.Shedding.{same_shed, all_ready_shed}
 
 -- ---- the frame to which a slot lets a write pass
 

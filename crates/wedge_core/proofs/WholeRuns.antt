@@ -30,10 +30,10 @@ use Rattle.native_steps.specs.Mirrors.{IsHost, shown}
 use Rattle.wedge_core.specs.Promises.{HasMemory, Promise, HasFills, WedgeAnswers, with_patches}
 use Rattle.run_trace.specs.Pauses.{end_of, IfReached}
 use Rattle.wedge_core.specs.Slices.{Counts, PausesAs, SliceAs}
-use Rattle.wedge_core.specs.Standing.{IsHeld, ground}
-use Rattle.wedge_core.specs.Filled.{FillsOn}
-use Rattle.wedge_core.specs.declared.running.Running.{Running}
-use Rattle.wedge_core.proofs.Memories.{text_within, part_front}
+use Rattle.wedge_step.specs.Standing.{IsHeld, ground}
+use Rattle.wedge_step.specs.Filled.{FillsOn}
+use Rattle.wedge_step.specs.declared.running.Running.{Running}
+use Rattle.wedge_step.proofs.Memories.{text_within, part_front}
 use Rattle.wedge_core.proofs.RunPieces.{run_join, seen_join, lines_both, put_both, put_front, put_none}
 
 -- the host's first frames are the guest's memory with the text patched

@@ -6,9 +6,10 @@ use Rattle.machine_step.specs.declared.worked.Seen.{Seen}
 use Rattle.machine_model.specs.State.{Setting, State, wedge_mode}
 use Rattle.machine_model.specs.Fit.{IsLevel}
 use Rattle.wedge_core.specs.Slices.{Counts}
-use Rattle.wedge_core.specs.Stepping.{AloneAs, StepAs}
+use Rattle.wedge_core.specs.Stepping.{StepAs}
+use Rattle.wedge_step.specs.Alone.{AloneAs}
 use Rattle.wedge_core.specs.Views.{may_run}
-use Rattle.wedge_core.specs.declared.running.Lost.{Lost}
+use Rattle.wedge_step.specs.declared.running.Lost.{Lost}
 
 abbrev pub AlonesGo : Type 0
 AlonesGo =

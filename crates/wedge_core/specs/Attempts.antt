@@ -8,10 +8,10 @@ use Rattle.machine_model.specs.State.{Setting, State}
 use Rattle.machine_model.specs.Step.{Report, Went, Halts, stepped}
 use Rattle.machine_model.specs.Counts.{direct_in}
 use Rattle.native_steps.specs.Backward.{Completes}
-use Rattle.wedge_core.specs.Parts.{left_of}
+use Rattle.wedge_step.specs.Parts.{left_of}
 use Rattle.machine_model.specs.Run.{with_set}
-use Rattle.wedge_core.specs.Stepping.{Alone}
-use Rattle.wedge_core.specs.declared.running.Lost.{Lost}
+use Rattle.wedge_step.specs.Alone.{Alone}
+use Rattle.wedge_step.specs.declared.running.Lost.{Lost}
 use Rattle.wedge_core.specs.declared.native.Attempt.{Attempt}
 use Rattle.wedge_core.specs.declared.native.Attempt.TheVariants as attempt
 

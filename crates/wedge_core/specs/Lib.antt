@@ -1,8 +1,4 @@
 pub mod Noted
-pub mod Opened
-pub mod Parts
-pub mod Pools
-pub mod Standing
 pub mod Views
 pub mod ViewLaws
 pub mod Slices
@@ -10,14 +6,7 @@ pub mod Stepping
 pub mod Starts
 pub mod Promises
 pub mod AloneLaws
-pub mod Clashing
-pub mod Closed
 pub mod Attempts
 pub mod Ran
 pub mod Tries
 pub mod Prepared
-pub mod Filled
-pub mod Ready
-pub mod Leaving
-pub mod Carried
-pub mod CarryLaws

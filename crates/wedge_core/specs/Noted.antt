@@ -8,7 +8,7 @@ use Rattle.machine_model.specs.State.{Setting, State}
 use Rattle.machine_model.specs.Step.{Halts, step_of}
 use Rattle.machine_model.specs.Run.{Set}
 use Rattle.machine_model.specs.Notes.{AreTold, AreNotes, set_told}
-use Rattle.wedge_core.specs.declared.running.Lost.{Lost}
+use Rattle.wedge_step.specs.declared.running.Lost.{Lost}
 
 -- What is kept at the end, or what the step that stops goes by: what the last step left, but for what the notes tell.
 abbrev pub EndsTold : Setting → State → State → List Note → Result Pause Failed → Type 0

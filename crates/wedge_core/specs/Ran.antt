@@ -6,7 +6,7 @@ use Rattle.host_cpl3.specs.declared.view.View.{View}
 use Rattle.host_cpl3.specs.declared.exit.Exit.{Exit}
 use Rattle.host_cpl3.specs.declared.exit.Exit.TheVariants as exits
 use Rattle.host_cpl3.specs.HostRun.{Standing, host_run}
-use Rattle.wedge_core.specs.declared.running.Running.{Running}
+use Rattle.wedge_step.specs.declared.running.Running.{Running}
 
 -- The guest's registers behind an exit: a jump into the window is taken back, so that EIP is the site's.
 abbrev pub landed : Exit → Regs → Regs

@@ -12,7 +12,7 @@ use Rattle.machine_model.specs.Step.{Report, Halts, step_of}
 use Rattle.machine_model.specs.Run.{Set, Steps, trace_of, with_set}
 use Rattle.machine_model.specs.Counts.{direct_count, passed_digest}
 use Rattle.machine_model.specs.Keeping.{Kept}
-use Rattle.wedge_core.specs.Filled.{FillsOn}
+use Rattle.wedge_step.specs.Filled.{FillsOn}
 use Rattle.wedge_core.specs.Noted.{IsNoted}
 use Rattle.run_trace.specs.Pauses.{PutsAs}
 

@@ -10,10 +10,10 @@ use Rattle.image_load.specs.declared.fault.StartFault.TheVariants as start
 use Rattle.shadow_tables.specs.Aside.{Aside}
 use Rattle.shadow_tables.specs.Slots.{Slot}
 use Rattle.machine_model.specs.State.{Setting, boot, wedge}
-use Rattle.wedge_core.specs.Standing.{IsHeld, IsAble, state_of}
+use Rattle.wedge_step.specs.Standing.{IsHeld, IsAble, state_of}
 use Rattle.shadow_cache.specs.declared.roots.Roots.{Roots}
 use Rattle.wedge_core.specs.declared.guest.Guest.{Guest}
-use Rattle.wedge_core.specs.declared.running.Running.{Running}
+use Rattle.wedge_step.specs.declared.running.Running.{Running}
 
 module _ {S : Type 0} (stands : S → List ℕ → Type 0) (frames : S → List ℕ → List ℕ) (slots : S → List ℕ → ℕ → Option Slot) where
   -- The guest stands where every run begins, over this pool and memory. The frames that it holds and those that are free

@@ -10,9 +10,9 @@ use Rattle.machine_model.specs.Run.{Set, Steps, trace_of, with_set}
 use Rattle.machine_model.specs.Taken.{steps_by}
 use Rattle.machine_model.specs.Notes.{AreLeft}
 use Rattle.native_steps.specs.Stretch.{IsQuiet}
-use Rattle.wedge_core.specs.Parts.{left_of, IsLeft}
+use Rattle.wedge_step.specs.Parts.{left_of, IsLeft}
 use Rattle.wedge_core.specs.Slices.{Counts, CountsOn}
-use Rattle.wedge_core.specs.declared.running.Lost.{Lost}
+use Rattle.wedge_step.specs.declared.running.Lost.{Lost}
 
 -- A step whose events were given went, by the translations that were kept, or by none where all were dropped before it,
 -- and let these things be seen. What it left of them is kept, or nothing where all were dropped after it, or what came
@@ -32,20 +32,6 @@ pub record StepHalts (m : Setting) (b : State) (lost : Lost) (stop : Stop) : Typ
 abbrev pub StepAs : Setting → State → Lost → Result Seen Stop → State → Counts → Counts → Type 0
 StepAs m b lost (Ok seen) new before after = Goes m b lost seen new before after
 StepAs m b lost (Err stop) new before after = StepHalts m b lost stop
-
--- A step of which the host did nothing went, by all that was kept. What it left is kept, or nothing where all was dropped
--- after it, or what came back.
-pub record Alone (m : Setting) (b : State) (lost : Lost) (seen : Seen) (new : State) : Type 0 where
-  pub report : Report
-  pub whole : Set
-  pub went : stepped m b ≡ Went report (with_set new whole)
-  pub kept : IsLeft m new whole lost
-  pub items : report.items ≡ items_at b.step (whats seen)
-
--- or it stops
-abbrev pub AloneAs : Setting → State → Lost → Result Seen Stop → State → Type 0
-AloneAs m b lost (Ok seen) new = Alone m b lost seen new
-AloneAs m b lost (Err stop) new = stepped m b ≡ Halts stop
 
 -- Some steps in which nothing is seen lead from one state to another. Each goes by the same translations, which the one
 -- before left. None loads CR3, or changes another control register.

@@ -12,8 +12,8 @@ use Rattle.machine_model.specs.State.{Setting}
 use Rattle.machine_model.specs.Run.{Set}
 use Rattle.native_steps.specs.Lends.{Lends}
 use Rattle.native_steps.specs.Mirrors.{Sees}
-use Rattle.wedge_core.specs.Parts.{IsPartOf}
-use Rattle.wedge_core.specs.Standing.{is_kernel, AreOpen, IsAble}
+use Rattle.wedge_step.specs.Parts.{IsPartOf}
+use Rattle.wedge_step.specs.Standing.{is_kernel, AreOpen, IsAble}
 use Rattle.wedge_core.specs.Views.{view_by}
 
 -- where a view leads by its tables is what is kept, so it lends no more than a set that has all that is kept

@@ -10,7 +10,7 @@ use Rattle.descriptors.specs.Segments.{seg_of}
 use Rattle.shadow_tables.specs.declared.words.Side.{Side}
 use Rattle.host_cpl3.specs.declared.view.View.{View}
 use Rattle.machine_model.specs.Step.{interrupt_of}
-use Rattle.wedge_core.specs.Standing.{side_of}
+use Rattle.wedge_step.specs.Standing.{side_of}
 
 abbrev pub is_outside : AtOffset → Bool
 is_outside NotAStart = false

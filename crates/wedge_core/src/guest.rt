@@ -12,18 +12,16 @@ ghost use Rattle.pv_io.specs.Causes.{Rose};
 ghost use Rattle.shadow_cache.specs.Views as roots;
 ghost use Rattle.shadow_tables.specs.Entries.{entries_of};
 ghost use Rattle.machine_model.specs.State.{Setting, wedge};
-ghost use Rattle.wedge_core.specs.Filled.{FillsOn, IsFilled, pages_kept};
+ghost use Rattle.wedge_step.specs.Filled.{FillsOn, IsFilled, pages_kept};
 ghost use Rattle.wedge_core.specs.Noted.{NotesOn};
-ghost use Rattle.wedge_core.specs.Pools.{Keeps};
+ghost use Rattle.wedge_step.specs.Pools.{Keeps};
 ghost use Rattle.wedge_core.specs.Promises.{with_patches};
-ghost use Rattle.wedge_core.specs.Ready.{IsReady};
+ghost use Rattle.wedge_step.specs.Ready.{IsReady};
 ghost use Rattle.wedge_core.specs.Slices.{BeginsEmpty, SliceAs};
 ghost use Rattle.run_trace.specs.Pauses.{IfPaused, IfReached};
-ghost use Rattle.wedge_core.specs.Standing.{IsHeld, IsAble, ground, state_of};
+ghost use Rattle.wedge_step.specs.Standing.{IsHeld, IsAble, ground, state_of};
 ghost use Rattle.wedge_core.specs.Starts.{IsAsNew, StartedAs};
 
-use crate::carrying::carry_laws;
-use crate::running::{Lost, Running};
 use crate::slice::steps_to;
 use board::{Board, Script};
 use descriptors::Cpu;
@@ -40,6 +38,7 @@ use shadow_cache::{Reloads, Roots, roots_alone_keep_nothing};
 use shadow_tables::Shadows;
 use sites::patch;
 use std::alloc::{AllocError, Global};
+use wedge_step::{Lost, Running, carry_laws};
 
 /// Where the text stands in the guest's memory.
 const TEXT_AT: u32 = 0x10_0000;

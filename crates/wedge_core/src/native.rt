@@ -12,12 +12,12 @@ ghost use Rattle.board.specs.Scripts.{Events};
 ghost use Rattle.machine_model.specs.State.{wedge};
 ghost use Rattle.machine_model.specs.Alone.{is_native};
 ghost use Rattle.wedge_core.specs.Attempts.{AttemptAs, WhereAsked, WhereStepped};
-ghost use Rattle.wedge_core.specs.Clashing.{IsClear};
-ghost use Rattle.wedge_core.specs.Filled.{FillsOn, pages_kept};
-ghost use Rattle.wedge_core.specs.Ready.{IsReady};
-ghost use Rattle.wedge_core.specs.Parts.{left_of};
-ghost use Rattle.wedge_core.specs.Pools.{Keeps};
-ghost use Rattle.wedge_core.specs.Standing.{IsHeld, IsAble, ground, set_of, state_of};
+ghost use Rattle.wedge_step.specs.Clashing.{IsClear};
+ghost use Rattle.wedge_step.specs.Filled.{FillsOn, pages_kept};
+ghost use Rattle.wedge_step.specs.Ready.{IsReady};
+ghost use Rattle.wedge_step.specs.Parts.{left_of};
+ghost use Rattle.wedge_step.specs.Pools.{Keeps};
+ghost use Rattle.wedge_step.specs.Standing.{IsHeld, IsAble, ground, set_of, state_of};
 ghost use Rattle.wedge_core.specs.Views.{may_run, view_by};
 ghost use Rattle.wedge_core.specs.Tries.{TriesAs};
 ghost use Rattle.wedge_core.specs.Prepared.{PreparesAs, prepared};
@@ -40,14 +40,9 @@ ghost use Rattle.kept_laws.specs.Known.{StayAside};
 ghost use Rattle.machine_model.specs.Taken.{Taken};
 ghost use Rattle.machine_model.specs.Keeping.{Roomy};
 ghost use Rattle.machine_model.specs.Run.{Set};
-ghost use Rattle.wedge_core.specs.Carried.{IsCarried, IsCarriedBy, IsTakenFrom};
+ghost use Rattle.wedge_step.specs.Carried.{IsCarried, IsCarriedBy, IsTakenFrom};
 
-use crate::carrying::known_laws;
-use crate::clash::clashes;
 use crate::laws::native_laws;
-use crate::running::Running;
-use crate::sight::are_bytes;
-use crate::single::{NOT_YET, go, keep, original, text_frames};
 use board::Board;
 use descriptors::Cpu;
 use frame_pool::Pool;
@@ -64,6 +59,9 @@ use step_exec::{reach_both, user_outcome};
 use step_mem::{Guard, Kept, StepState};
 use sys_exec::Refusal;
 use wedge_mem::Lent;
+use wedge_step::{
+    NOT_YET, Running, are_bytes, clashes, go, keep, known_laws, original, text_frames,
+};
 
 /// Such a step went, or the host is to do it: its pages are filled, and nothing else is done.
 #[derive(Clone, Copy)]

@@ -3,8 +3,8 @@
 ghost use Rattle.std.specs.Prelude.{◌≡◌, ◌<◌, ◌^◌, false};
 ghost use Rattle.wedge_core.specs.Noted.{NotesOn, emptied_if, notes_then};
 
-use crate::running::Lost;
 use run_trace::Notes;
+use wedge_step::Lost;
 
 /// Tells, where notes are wanted, that all translations were dropped before a step, if they were.
 pub fn tell<L: Notes>(notes: &mut L, dropped: bool, step: u64)

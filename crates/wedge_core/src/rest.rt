@@ -7,16 +7,16 @@ ghost use Rattle.board.specs.declared.devices.Board.{Board as Devices};
 ghost use Rattle.board.specs.Boards.{given};
 ghost use Rattle.board.specs.Scripts.{Events, is_script};
 ghost use Rattle.machine_model.specs.State.{wedge};
-ghost use Rattle.wedge_core.specs.Standing.{IsHeld, IsAble, ground, set_of, state_of};
+ghost use Rattle.wedge_step.specs.Standing.{IsHeld, IsAble, ground, set_of, state_of};
 ghost use Rattle.image_check.specs.Image.{Image};
 ghost use Rattle.std.specs.Prelude.{List};
 ghost use Rattle.wedge_core.specs.Slices.{Counts};
 ghost use Rattle.wedge_core.specs.Stepping.{Passes};
 
-use crate::running::Running;
 use board::Script;
 use machine_step::{is_resting, quiet_steps};
 use shadow_tables::Shadows;
+use wedge_step::Running;
 
 /// Passes the steps in which a halted processor has nothing to do and nothing can come to the board, up to the bound, in one go.
 pub fn rest<S: Shadows + Drop>(running: &mut Running<S>, script: &Script, bound: u64)

@@ -6,11 +6,11 @@ ghost use Rattle.frame_pool.specs.Pool.{free_list};
 ghost use Rattle.image_load.specs.Boot.{need};
 ghost use Rattle.shadow_cache.specs.Views as roots;
 ghost use Rattle.machine_model.specs.State.{boot, wedge};
-ghost use Rattle.wedge_core.specs.Filled.{pages_kept};
+ghost use Rattle.wedge_step.specs.Filled.{pages_kept};
 ghost use Rattle.wedge_core.specs.Promises.{WedgeAnswers};
 ghost use Rattle.run_trace.specs.Pauses.{end_of};
-ghost use Rattle.wedge_core.specs.Ready.{IsReady};
-ghost use Rattle.wedge_core.specs.Standing.{IsHeld, IsAble, ground, state_of};
+ghost use Rattle.wedge_step.specs.Ready.{IsReady};
+ghost use Rattle.wedge_step.specs.Standing.{IsHeld, IsAble, ground, state_of};
 
 use crate::guest::Guest;
 use board::Script;

@@ -8,18 +8,16 @@ ghost use Rattle.board.specs.declared.devices.Board.{Board as Devices};
 ghost use Rattle.board.specs.Boards.{given, comes_within};
 ghost use Rattle.board.specs.Scripts.{Events, is_script};
 ghost use Rattle.machine_model.specs.State.{wedge};
-ghost use Rattle.wedge_core.specs.Filled.{FillsOn, pages_kept};
-ghost use Rattle.wedge_core.specs.Ready.{IsReady};
-ghost use Rattle.wedge_core.specs.Standing.{IsHeld, IsAble, ground, state_of};
+ghost use Rattle.wedge_step.specs.Filled.{FillsOn, pages_kept};
+ghost use Rattle.wedge_step.specs.Ready.{IsReady};
+ghost use Rattle.wedge_step.specs.Standing.{IsHeld, IsAble, ground, state_of};
 ghost use Rattle.wedge_core.specs.Views.{may_run, view_by};
-ghost use Rattle.wedge_core.specs.Pools.{Keeps};
+ghost use Rattle.wedge_step.specs.Pools.{Keeps};
 ghost use Rattle.wedge_core.specs.Stepping.{Passes};
 ghost use Rattle.wedge_core.specs.Ran.{Ran, LeadsLow, landed};
 ghost use Rattle.host_cpl3.specs.Hosts.{standing};
 
 use crate::laws::views_lend;
-use crate::running::Running;
-use crate::single::side_of;
 use board::{Board, Script};
 use descriptors::Cpu;
 use host_cpl3::{Exit, Host, View, borders, each_is_run};
@@ -28,6 +26,7 @@ use image_check::{AtOffset, Checked};
 use machine_step::interrupt;
 use native_steps::advances;
 use shadow_tables::{Shadows, Side};
+use wedge_step::{Running, side_of};
 
 /// What a site's address in the window adds to the site's own.
 const WINDOW_BELOW: u32 = 0x0B0B_0B07;

@@ -16,12 +16,12 @@ use Rattle.shadow_cache.specs.declared.roots.Roots.{Roots}
 use Rattle.machine_model.specs.Run.{Set}
 use Rattle.machine_model.specs.State.{wedge}
 use Rattle.native_steps.specs.Mirrors.{shown}
-use Rattle.wedge_core.specs.Standing.{ground}
+use Rattle.wedge_step.specs.Standing.{ground}
 use Rattle.wedge_core.proofs.Adopted.{IsNew, started, new_behind, new_frames, new_empty, new_ready, new_pages}
-use Rattle.wedge_core.proofs.Bools.{none_some}
-use Rattle.wedge_core.proofs.Keeping.{keeps_join, keeps_above, keeps_moves}
-use Rattle.wedge_core.proofs.Memories.{front_same, text_within, part_front}
-use Rattle.wedge_core.proofs.Opening.{none_open}
+use Rattle.wedge_step.proofs.Bools.{none_some}
+use Rattle.wedge_step.proofs.Keeping.{keeps_join, keeps_above, keeps_moves}
+use Rattle.wedge_step.proofs.Memories.{front_same, text_within, part_front}
+use Rattle.wedge_step.proofs.Opening.{none_open}
 use Rattle.wedge_core.proofs.Patches.{inside_moved, drop_behind, unpatched}
 use Rattle.wedge_core.proofs.guest.adopt_in.Goals as goal
 

@@ -5,7 +5,7 @@ use Rattle.image_load.specs.declared.boot.Boot.{Boot}
 use Rattle.image_load.specs.Boot.{boot_cpu, boot_ram}
 use Rattle.board.specs.Boards.{at_reset}
 use Rattle.machine_model.specs.State.{State, wedge}
-use Rattle.wedge_core.specs.Standing.{IsAble}
+use Rattle.wedge_step.specs.Standing.{IsAble}
 use Rattle.wedge_core.proofs.Booted.{front_stands, text_stands, begun_is, held_with}
 use Rattle.wedge_core.proofs.guest.start_in.Goals as goal
 

@@ -11,23 +11,23 @@ use Rattle.machine_model.specs.Run.{Set, with_set}
 use Rattle.machine_model.specs.Step.{stepped}
 use Rattle.machine_model.specs.Taken.{Taken, is_load}
 use Rattle.kept_laws.specs.Carried.{indices_in}
-use Rattle.wedge_core.specs.Carried.{IsCarried, IsCarriedBy, IsTakenFrom}
+use Rattle.wedge_step.specs.Carried.{IsCarried, IsCarriedBy, IsTakenFrom}
 use Rattle.wedge_core.specs.declared.native.Attempt.{Attempt}
 use Rattle.wedge_core.specs.declared.native.Attempt.TheVariants as attempt
 use Rattle.wedge_core.proofs.native.begin_native.Given.{Over}
 use Rattle.machine_model.specs.State.{Setting, State, wedge}
 use Rattle.wedge_core.specs.Attempts.{AttemptAs, WhereAsked, WhereStepped}
-use Rattle.wedge_core.specs.Parts.{left_of}
-use Rattle.wedge_core.specs.Standing.{ground, set_of, state_of}
+use Rattle.wedge_step.specs.Parts.{left_of}
+use Rattle.wedge_step.specs.Standing.{ground, set_of, state_of}
 use Rattle.wedge_core.specs.Views.{view_by}
-use Rattle.wedge_core.specs.declared.running.Running.{Running}
+use Rattle.wedge_step.specs.declared.running.Running.{Running}
 use Rattle.std.specs.Prelude.{OnOk}
-use Rattle.wedge_core.specs.Filled.{FillsOn, pages_kept}
-use Rattle.wedge_core.specs.Ready.{IsReady}
+use Rattle.wedge_step.specs.Filled.{FillsOn, pages_kept}
+use Rattle.wedge_step.specs.Ready.{IsReady}
 use Rattle.wedge_core.proofs.Before.{attempt_before}
-use Rattle.wedge_core.proofs.Filling.{fills_join, fills_fewer}
-use Rattle.wedge_core.proofs.Keeping.{keeps_join, keeps_moves}
-use Rattle.wedge_core.proofs.Memories.{shown_same}
+use Rattle.wedge_step.proofs.Filling.{fills_join, fills_fewer}
+use Rattle.wedge_step.proofs.Keeping.{keeps_join, keeps_moves}
+use Rattle.wedge_step.proofs.Memories.{shown_same}
 use Rattle.wedge_core.proofs.native.begin_native.Goals as goal
 
 pub returns-clause-step : goal.returns-clause-step

@@ -1,11 +1,11 @@
 use Rattle.std.proofs.Common.{ℕ, ◌%◌, false, sym, ap, ◌∙◌, arith}
 use Rattle.std.specs.FinMap.{empty}
 use Rattle.descriptors.specs.Controls.{wp_of}
-use Rattle.wedge_core.specs.Standing.{ground}
-use Rattle.wedge_core.proofs.Memories.{text_within, front_same, host_same}
-use Rattle.wedge_core.proofs.Opening.{none_open}
-use Rattle.wedge_core.proofs.Parts.{part_within, part_empty}
-use Rattle.wedge_core.proofs.Readying.{none_ready, none_pages}
+use Rattle.wedge_step.specs.Standing.{ground}
+use Rattle.wedge_step.proofs.Memories.{text_within, front_same, host_same}
+use Rattle.wedge_step.proofs.Opening.{none_open}
+use Rattle.wedge_step.proofs.Parts.{part_within, part_empty}
+use Rattle.wedge_step.proofs.Readying.{none_ready, none_pages}
 use Rattle.wedge_core.proofs.native.drop_kept.Goals as goal
 
 pub returns-clause-ready : goal.returns-clause-ready
@@ -47,6 +47,6 @@ returns-clause-held g c = λ image held.
       counted = omega (arith, counted, before, after, lengths);
       few = omega (arith, few, lengths);
       fills = held.fills;
-      within = part_within n _ empty (part_empty _ empty c.drop_all.ensures.entries) (λ page e is. absurd (Rattle.wedge_core.proofs.Bools.none_some e (sym (Rattle.std.specs.FinMap.get-empty Rattle.std.specs.Ordering.nat_cmp page) ∙ is)));
+      within = part_within n _ empty (part_empty _ empty c.drop_all.ensures.entries) (λ page e is. absurd (Rattle.wedge_step.proofs.Bools.none_some e (sym (Rattle.std.specs.FinMap.get-empty Rattle.std.specs.Ordering.nat_cmp page) ∙ is)));
       open_to = none_open image (wp_of c.args.running.now.cpu) _ c.drop_all.ensures.none;
     }

@@ -2,13 +2,13 @@ use Rattle.std.proofs.Common.{ℕ, ◌%◌, false, length, sym, ap, ◌∙◌, i
 use Rattle.std.specs.FinMap.{empty}
 use Rattle.descriptors.specs.Controls.{wp_of}
 use Rattle.frame_pool.proofs.Held.{Owns-moves}
-use Rattle.wedge_core.specs.Standing.{ground}
-use Rattle.wedge_core.proofs.Memories.{text_within, front_same, host_same, shown_same}
-use Rattle.wedge_core.proofs.Opening.{none_open}
-use Rattle.wedge_core.proofs.Parts.{part_within, part_empty}
-use Rattle.wedge_core.proofs.Readying.{fewer_ready}
-use Rattle.wedge_core.proofs.Returning.{fewer_pages}
-use Rattle.wedge_core.proofs.Shedding.{same_shed}
+use Rattle.wedge_step.specs.Standing.{ground}
+use Rattle.wedge_step.proofs.Memories.{text_within, front_same, host_same, shown_same}
+use Rattle.wedge_step.proofs.Opening.{none_open}
+use Rattle.wedge_step.proofs.Parts.{part_within, part_empty}
+use Rattle.wedge_step.proofs.Readying.{fewer_ready}
+use Rattle.wedge_step.proofs.Returning.{fewer_pages}
+use Rattle.wedge_step.proofs.Shedding.{same_shed}
 use Rattle.wedge_core.proofs.native.drop_present.Goals as goal
 
 pub drop_dirs-requires : goal.drop_dirs-requires
@@ -66,6 +66,6 @@ returns-clause-held g c = λ image pool held.
       counted = held.counted ∙ ap length (sym d.ensures.frames);
       few = omega (arith, few, lengths);
       fills = held.fills;
-      within = part_within n _ empty (part_empty _ empty d.ensures.entries) (λ page e is. absurd (Rattle.wedge_core.proofs.Bools.none_some e (sym (Rattle.std.specs.FinMap.get-empty Rattle.std.specs.Ordering.nat_cmp page) ∙ is)));
+      within = part_within n _ empty (part_empty _ empty d.ensures.entries) (λ page e is. absurd (Rattle.wedge_step.proofs.Bools.none_some e (sym (Rattle.std.specs.FinMap.get-empty Rattle.std.specs.Ordering.nat_cmp page) ∙ is)));
       open_to = none_open image (wp_of c.args.running.now.cpu) _ d.ensures.none;
     }

@@ -1,10 +1,10 @@
 use Rattle.std.proofs.Common.{Bool, refl, sym, ap, ◌∙◌}
 use Rattle.machine_model.specs.State.{wedge}
 use Rattle.shadow_tables.specs.Entries.{entries_of}
-use Rattle.wedge_core.specs.Parts.{left_of}
-use Rattle.wedge_core.specs.Standing.{state_of}
+use Rattle.wedge_step.specs.Parts.{left_of}
+use Rattle.wedge_step.specs.Standing.{state_of}
 use Rattle.wedge_core.proofs.Clashless.{empty_clear}
-use Rattle.wedge_core.proofs.AfterTry.{any_script}
+use Rattle.wedge_step.proofs.AfterTry.{any_script}
 use Rattle.wedge_core.proofs.native.make_room.Goals as goal
 
 pub returns-then-free-lt-ROOM-clause-left : goal.returns-then-free-lt-ROOM-clause-left

@@ -27,26 +27,27 @@ use Rattle.machine_step.specs.Worked.{dropping, went_as}
 use Rattle.native_steps.specs.Again as again
 use Rattle.native_steps.specs.Lends.{Lends}
 use Rattle.native_steps.specs.Mirrors.{IsHost, Sees, shown}
-use Rattle.wedge_core.specs.Closed.{MayClose, Closes}
-use Rattle.wedge_core.specs.Filled.{FillsOn, pages_kept}
-use Rattle.wedge_core.specs.Ready.{AllOpen, AreFound, IsReady}
-use Rattle.wedge_core.specs.Standing.{IsHeld, AreOpen, ground, state_of, side_of}
+use Rattle.wedge_step.specs.Closed.{MayClose, Closes}
+use Rattle.wedge_step.specs.Filled.{FillsOn, pages_kept}
+use Rattle.wedge_step.specs.Ready.{AllOpen, AreFound, IsReady}
+use Rattle.wedge_step.specs.Standing.{IsHeld, AreOpen, ground, state_of, side_of}
 use Rattle.wedge_core.specs.Tries.{IsPrepared, OthersAreUsers}
 use Rattle.wedge_core.specs.Views.{view_by}
-use Rattle.wedge_core.specs.declared.running.Running.{Running}
-use Rattle.wedge_core.proofs.AfterTry.{any_script, held_then, keeps_then, keeps_still}
+use Rattle.wedge_step.specs.declared.running.Running.{Running}
+use Rattle.wedge_step.proofs.AfterTry.{any_script, held_then, keeps_then, keeps_still}
 use Rattle.wedge_core.proofs.Asking.{may_close, asks, reports}
-use Rattle.wedge_core.proofs.CarriedOver.{Widens}
-use Rattle.wedge_core.proofs.CarriedStep.{went_on, asked_on}
-use Rattle.wedge_core.proofs.Filling.{fills_same, fills_join}
-use Rattle.wedge_core.proofs.Memories.{shown_same, front_same, host_same, host_left, text_within}
+use Rattle.wedge_step.proofs.Widening.{Widens}
+use Rattle.wedge_step.proofs.CarriedStep.{went_on, asked_on}
+use Rattle.wedge_step.proofs.Filling.{fills_same, fills_join}
+use Rattle.wedge_step.proofs.Memories.{shown_same, front_same, host_same, host_left, text_within}
 use Rattle.wedge_core.proofs.Nexts.{others_users, step_is, idle}
-use Rattle.wedge_core.proofs.Parts.{part_same, part_left, part_within}
-use Rattle.wedge_core.proofs.Returning.{is_left, all_loosened, all_within, within_left}
+use Rattle.wedge_step.proofs.Parts.{part_same, part_left, part_within}
+use Rattle.wedge_step.proofs.Returning.{is_left, all_loosened, all_within, within_left}
 use Rattle.wedge_core.proofs.Seeing.{side_is}
-use Rattle.wedge_core.proofs.Shedding.{open_shed, same_shed, ready_open}
-use Rattle.wedge_core.proofs.Stays.{kept_same}
-use Rattle.wedge_core.proofs.StepReady.{Steps, went_ready, prepared_ready}
+use Rattle.wedge_step.proofs.Shedding.{open_shed, same_shed, ready_open}
+use Rattle.wedge_step.proofs.Stays.{kept_same}
+use Rattle.wedge_step.proofs.StepReady.{Steps, went_ready, followed_ready}
+use Rattle.wedge_core.proofs.PreparedFollows.{prepared_follows}
 use Rattle.wedge_core.proofs.Tried.{Begun, Tried, tried_from}
 use Rattle.wedge_core.proofs.native.try_once.Given.{Over}
 use Rattle.wedge_core.proofs.native.try_once.Goals as goal
@@ -58,7 +59,7 @@ module _ (g : Over) where
   abbrev space : Running g.row.S.Denot → List ℕ → kept_state.StepState → Space
   space r ram s = space_at (λ x. entries_of (g.S.Shadows.slots r.shadows x)) ram s
 
-  widens : Widens g.S.Shadows.stands g.S.Shadows.frames g.S.Shadows.slots g.S.Shadows.noted g.S.Shadows.marked g.S.Shadows.asides g.S.Shadows.opened
+  widens : Widens g.S.Shadows.stands g.S.Shadows.frames g.S.Shadows.asides g.S.Shadows.opened
   widens = record { same_asides = g.met.S.Shadows.same_asides; same_opened = g.met.S.Shadows.same_opened; wider = g.met.S.Shadows.wider; sized = g.met.S.Reloads.sized }
 
   steps_from : (image : Image) (r : Running g.row.S.Denot) (pool : Pool) (ram0 ram1 : List ℕ) (s0 s1 : kept_state.StepState) → IsHeld g.S.Shadows.stands g.S.Shadows.frames g.S.Shadows.slots (ground image r.frames) r pool ram0
@@ -340,9 +341,9 @@ returns-in-None-clause-ready g c =
     let image = c.args.image.now in
     let m0 = ground image running.frames in
     let k = asked g c.before in
-    let behind1 = prepared_ready g.S.Shadows.slots g.S.Shadows.noted g.S.Shadows.marked g.S.Shadows.value g.S.Shadows.asides image running.frames (b g c []) running.shadows c.args.ram.now c.try_native.new.ram
-    (steps_from g image running c.args.pool.now c.args.ram.now c.try_native.new.ram c.begin-state.result c.try_native.new.state c.requires.held k) c.requires.ready c.native_laws.ensures.on c.native_laws.ensures.fetched c.native_laws.ensures.ranges (λ page. false) (unheld (b g c [])) (last g c) (last g c).set (p g c [])
-    (k.ram1_is []) refl in
+    let behind1 = followed_ready g.S.Shadows.slots g.S.Shadows.noted g.S.Shadows.marked g.S.Shadows.value g.S.Shadows.asides image running.frames (b g c []) running.shadows c.args.ram.now c.try_native.new.ram
+    (steps_from g image running c.args.pool.now c.args.ram.now c.try_native.new.ram c.begin-state.result c.try_native.new.state c.requires.held k) c.requires.ready (λ page. false) (last g c) (last g c).set
+    (prepared_follows c.native_laws.ensures.on c.native_laws.ensures.fetched c.native_laws.ensures.ranges (unheld (b g c [])) _ (last g c) (p g c [])) (k.ram1_is []) refl in
     subst (λ (x : Cpu). IsReady g.S.Shadows.slots g.S.Shadows.noted g.S.Shadows.marked g.S.Shadows.value g.S.Shadows.asides m0 x c.keep.new.running.shadows c.keep.new.ram) (sym (cpu_is g c)) (c.keep.ensures.ready (λ page. false) m0 running.cpu (sym k.frames1) behind1)
 
 pub returns-in-None-clause-step : goal.returns-in-None-clause-step

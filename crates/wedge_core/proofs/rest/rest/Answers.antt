@@ -1,5 +1,5 @@
 use Rattle.machine_model.specs.State.{wedge}
-use Rattle.wedge_core.specs.Standing.{state_of}
+use Rattle.wedge_step.specs.Standing.{state_of}
 use Rattle.wedge_core.proofs.Resting.{rests_none, rests_some}
 use Rattle.wedge_core.proofs.rest.rest.Goals as goal
 

@@ -4,8 +4,8 @@ use Rattle.shadow_cache.specs.Views as roots
 use Rattle.machine_model.specs.State.{boot, wedge}
 use Rattle.wedge_core.specs.Promises.{WedgeAnswers}
 use Rattle.wedge_core.specs.Slices.{Counts}
-use Rattle.wedge_core.specs.Ready.{IsReady}
-use Rattle.wedge_core.specs.Standing.{IsHeld, ground, state_of}
+use Rattle.wedge_step.specs.Ready.{IsReady}
+use Rattle.wedge_step.specs.Standing.{IsHeld, ground, state_of}
 use Rattle.wedge_core.proofs.run.run_wedge.Goals as goal
 
 pub whole-requires-clause-held : goal.whole-requires-clause-held

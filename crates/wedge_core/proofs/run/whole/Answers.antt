@@ -9,13 +9,13 @@ use Rattle.shadow_tables.specs.Entries.{entries_of}
 use Rattle.shadow_cache.specs.Views as roots
 use Rattle.shadow_cache.specs.declared.roots.Roots.{Roots}
 use Rattle.machine_model.specs.State.{Setting, State, boot, wedge}
-use Rattle.wedge_core.specs.Filled.{pages_kept}
+use Rattle.wedge_step.specs.Filled.{pages_kept}
 use Rattle.wedge_core.specs.Noted.{NotesOn}
 use Rattle.wedge_core.specs.Promises.{WedgeAnswers}
 use Rattle.run_trace.specs.Pauses.{end_of}
 use Rattle.wedge_core.specs.Slices.{BeginsEmpty, Counts, SliceAs}
-use Rattle.wedge_core.specs.Standing.{state_of}
-use Rattle.wedge_core.specs.declared.running.Running.{Running}
+use Rattle.wedge_step.specs.Standing.{state_of}
+use Rattle.wedge_step.specs.declared.running.Running.{Running}
 use Rattle.wedge_core.proofs.WholeRuns.{whole_put, whole_unput, whole_front, front_held}
 use Rattle.wedge_core.proofs.run.whole.Given.{Over}
 use Rattle.wedge_core.proofs.run.whole.Goals as goal

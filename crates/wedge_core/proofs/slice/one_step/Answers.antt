@@ -13,28 +13,28 @@ use Rattle.native_steps.specs.Mirrors.{shown}
 use Rattle.native_steps.proofs.Shown.{shown_length}
 use Rattle.kept_laws.specs.Carried.{indices_in}
 use Rattle.kept_laws.specs.Known.{IsKnown}
-use Rattle.wedge_core.specs.Carried.{IsCarried, IsTakenFrom}
-use Rattle.wedge_core.specs.Parts.{left_of}
-use Rattle.wedge_core.specs.declared.running.Lost.{Lost}
+use Rattle.wedge_step.specs.Carried.{IsCarried, IsTakenFrom}
+use Rattle.wedge_step.specs.Parts.{left_of}
+use Rattle.wedge_step.specs.declared.running.Lost.{Lost}
 use Rattle.wedge_core.proofs.Instructed.{clashes_by}
 use Rattle.frame_pool.specs.Held.{Owns}
 use Rattle.frame_pool.specs.Pool.{base_of, free_list}
 use Rattle.host_cpl3.specs.Hosts.{standing}
 use Rattle.machine_model.specs.State.{Setting, State, wedge}
 use Rattle.wedge_core.specs.Attempts.{Asks, Idle}
-use Rattle.wedge_core.specs.Pools.{Keeps}
+use Rattle.wedge_step.specs.Pools.{Keeps}
 use Rattle.wedge_core.specs.Ran.{Ran}
 use Rattle.wedge_core.specs.Slices.{Counts}
-use Rattle.wedge_core.specs.Standing.{IsHeld, ground, set_of, side_of, state_of}
+use Rattle.wedge_step.specs.Standing.{IsHeld, ground, set_of, side_of, state_of}
 use Rattle.wedge_core.specs.Stepping.{StepAs}
 use Rattle.wedge_core.specs.Views.{view_by}
-use Rattle.wedge_core.specs.declared.running.Running.{Running}
+use Rattle.wedge_step.specs.declared.running.Running.{Running}
 use Rattle.descriptors.specs.declared.cpu.Cpu.{Cpu}
 use Rattle.shadow_tables.specs.Aside.{AreSame}
 use Rattle.guest_ram.specs.Among.{is_among}
-use Rattle.wedge_core.specs.Filled.{FillsOn, pages_kept}
-use Rattle.wedge_core.specs.Ready.{IsReady}
-use Rattle.wedge_core.proofs.Stays.{kept_same}
+use Rattle.wedge_step.specs.Filled.{FillsOn, pages_kept}
+use Rattle.wedge_step.specs.Ready.{IsReady}
+use Rattle.wedge_step.proofs.Stays.{kept_same}
 use Rattle.wedge_core.proofs.Untouched.{Tracks, unlent, ready_on}
 use Rattle.wedge_core.proofs.Going.{counted, counts_same}
 use Rattle.wedge_core.proofs.OnceRan.{SameKept, IsOnce, cpu_is, behind_is, size_is, kept as once_kept, shadows_are, once_goes_on, once_counts, once_stands, once_able, once_held, once_keeps, once_fills, once_untouched, once_rules, once_back, once_taken, once_few, lost_is, alone_able, idle_able, idle_goes}

@@ -16,23 +16,25 @@ use Rattle.machine_model.specs.State.{Setting, State, wedge}
 use Rattle.machine_model.specs.Run.{Set}
 use Rattle.machine_model.specs.Taken.{Taken}
 use Rattle.kept_laws.specs.Known.{IsOfPages}
-use Rattle.wedge_core.specs.Carried.{IsCarried}
-use Rattle.wedge_core.specs.CarryLaws.{CarryLaws}
+use Rattle.wedge_step.specs.Carried.{IsCarried}
+use Rattle.wedge_step.specs.CarryLaws.{CarryLaws}
 use Rattle.machine_model.specs.Step.{items_at}
 use Rattle.machine_step.specs.Worked.{whats}
-use Rattle.wedge_core.specs.declared.running.Running.{Running}
+use Rattle.wedge_step.specs.declared.running.Running.{Running}
 use Rattle.wedge_core.specs.Noted.{NotesOn, emptied_if, notes_then}
-use Rattle.wedge_core.specs.Pools.{Keeps}
+use Rattle.wedge_step.specs.Pools.{Keeps}
 use Rattle.wedge_core.specs.Slices.{Counts, SliceAs}
-use Rattle.wedge_core.specs.Ready.{IsReady}
-use Rattle.wedge_core.specs.Standing.{IsHeld, IsAble, ground, state_of}
+use Rattle.wedge_step.specs.Ready.{IsReady}
+use Rattle.wedge_step.specs.Standing.{IsHeld, IsAble, ground, state_of}
 use Rattle.wedge_core.specs.Stepping.{Passes, StepAs}
-use Rattle.wedge_core.proofs.CarriedOver.{CarriedWith, Widens, with_kept, carries_past, carried_there, room_at, whole_then, step_carries}
+use Rattle.wedge_core.proofs.CarriedOver.{CarriedWith, with_kept, carries_past, carried_there, room_at, whole_then, step_carries}
 use Rattle.wedge_core.proofs.Passed.{CarriesPast}
 use Rattle.wedge_core.proofs.Going.{StepCarries, going_none, going_past, going_turned, going_on, stepped_put, reached, stopped, failed, counted, counts_same, turned, notes_on_more, notes_on_none}
-use Rattle.wedge_core.specs.Filled.{FillsOn, pages_kept}
-use Rattle.wedge_core.proofs.Filling.{fills_same, fills_join, fills_within}
-use Rattle.wedge_core.proofs.Keeping.{keeps_same, keeps_join, held_later, held_given, held_at, enough_then}
+use Rattle.wedge_step.specs.Filled.{FillsOn, pages_kept}
+use Rattle.wedge_step.proofs.Filling.{fills_same, fills_join, fills_within}
+use Rattle.wedge_step.proofs.Keeping.{keeps_same, keeps_join}
+use Rattle.wedge_step.proofs.Widening.{Widens}
+use Rattle.wedge_core.proofs.Holding.{held_later, held_given, held_at, enough_then}
 use Rattle.wedge_core.proofs.slice.steps_to.Given.{Over}
 use Rattle.wedge_core.proofs.slice.steps_to.Goals as goal
 
@@ -50,7 +52,7 @@ module _ (g : Over) where
   abbrev Knows : Setting → Running g.row.S.Denot → List ℕ → Set → List Taken → State → Type 0
   Knows m r memory kept steps b = CarriedWith g.S.Shadows.stands g.S.Shadows.frames g.S.Shadows.slots g.S.Shadows.noted g.S.Shadows.marked g.S.Shadows.asides g.S.Shadows.opened m r.shadows memory kept steps b
 
-  widens : Widens g.S.Shadows.stands g.S.Shadows.frames g.S.Shadows.slots g.S.Shadows.noted g.S.Shadows.marked g.S.Shadows.asides g.S.Shadows.opened
+  widens : Widens g.S.Shadows.stands g.S.Shadows.frames g.S.Shadows.asides g.S.Shadows.opened
   widens = record { same_asides = g.met.S.Shadows.same_asides; same_opened = g.met.S.Shadows.same_opened; wider = g.met.S.Shadows.wider; sized = g.met.S.Reloads.sized }
 
   known_past : CarryLaws → (m : Setting) (r : Running g.row.S.Denot) (memory : List ℕ) → CarriesPast m (Knows m r memory)

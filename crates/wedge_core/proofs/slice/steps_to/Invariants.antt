@@ -1,12 +1,12 @@
 use Rattle.std.proofs.Common.{◌≡◌, ◌+◌, ◌-◌, ◌≤◌, ◌<◌, ◌^◌, true, false, [], length}
 use Rattle.machine_model.specs.State.{wedge}
-use Rattle.wedge_core.specs.Filled.{FillsOn, pages_kept}
+use Rattle.wedge_step.specs.Filled.{FillsOn, pages_kept}
 use Rattle.wedge_core.specs.Noted.{NotesOn}
-use Rattle.wedge_core.specs.Pools.{Keeps}
-use Rattle.wedge_core.specs.Ready.{IsReady}
-use Rattle.wedge_core.specs.Standing.{IsHeld, IsAble, ground, state_of}
+use Rattle.wedge_step.specs.Pools.{Keeps}
+use Rattle.wedge_step.specs.Ready.{IsReady}
+use Rattle.wedge_step.specs.Standing.{IsHeld, IsAble, ground, state_of}
 use Rattle.frame_pool.specs.Pool.{free_list}
-use Rattle.wedge_core.specs.Carried.{IsCarried}
+use Rattle.wedge_step.specs.Carried.{IsCarried}
 use Rattle.wedge_core.proofs.CarriedOver.{CarriedWith}
 use Rattle.wedge_core.proofs.Going.{Going}
 use Rattle.wedge_core.proofs.slice.steps_to.Given as goal

@@ -2,7 +2,7 @@ use Rattle.std.proofs.Common.{◌≡◌, ◌*◌, ◌<◌, ◌==◌, length, ref
 use Rattle.host_cpl3.specs.declared.view.View.{View}
 use Rattle.host_cpl3.specs.HostRun.{host_run}
 use Rattle.host_cpl3.specs.Hosts.{standing}
-use Rattle.wedge_core.specs.Standing.{side_of}
+use Rattle.wedge_step.specs.Standing.{side_of}
 use Rattle.wedge_core.specs.Views.{view_by}
 use Rattle.wedge_core.proofs.HostRuns.{by_view, counts_of, leads_low, root_lies}
 use Rattle.wedge_core.proofs.stretch.run_on.Goals as goal

@@ -1,15 +1,15 @@
 use Rattle.std.proofs.Common.{◌≡◌, ℕ, ◌+◌, ◌==◌, true, refl, sym, subst, arith}
 use Rattle.host_cpl3.specs.Hosts.{standing}
 use Rattle.guest_ram.specs.Among.{is_among}
-use Rattle.wedge_core.specs.Filled.{FillsOn, pages_kept}
-use Rattle.wedge_core.specs.Ready.{IsReady}
-use Rattle.wedge_core.specs.Standing.{ground, set_of, side_of}
+use Rattle.wedge_step.specs.Filled.{FillsOn, pages_kept}
+use Rattle.wedge_step.specs.Ready.{IsReady}
+use Rattle.wedge_step.specs.Standing.{ground, set_of, side_of}
 use Rattle.wedge_core.specs.Views.{view_by}
-use Rattle.wedge_core.proofs.Parts.{part_same}
+use Rattle.wedge_step.proofs.Parts.{part_same}
 use Rattle.wedge_core.proofs.Landing.{may_runs}
 use Rattle.wedge_core.proofs.Stretched.{Laws, passes_on, stays_on, passed_on, held_then, keeps_then, able_then, frames_then, fills_then, step_then, rules_then, shadows_is, same_there, host_there, untouched_then, same_in, stand, whole_new, set_same}
-use Rattle.wedge_core.proofs.Filling.{fills_same}
-use Rattle.wedge_core.proofs.Stays.{kept_same}
+use Rattle.wedge_step.proofs.Filling.{fills_same}
+use Rattle.wedge_step.proofs.Stays.{kept_same}
 use Rattle.wedge_core.proofs.Untouched.{Tracks, unlent, ready_on}
 use Rattle.wedge_core.proofs.stretch.stretch.Goals as goal
 

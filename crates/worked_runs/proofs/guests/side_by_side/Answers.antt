@@ -1,8 +1,8 @@
 use Rattle.std.proofs.Common.{ℕ, [], sym, subst, arith}
 use Rattle.host_cpl3.specs.Hosts.{held}
 use Rattle.shadow_cache.specs.Views as roots
-use Rattle.wedge_core.specs.Ready.{IsReady}
-use Rattle.wedge_core.specs.Standing.{IsHeld, ground}
+use Rattle.wedge_step.specs.Ready.{IsReady}
+use Rattle.wedge_step.specs.Standing.{IsHeld, ground}
 use Rattle.worked_runs.proofs.guests.side_by_side.Goals as goal
 
 pub loop-step-init : goal.loop-step-init

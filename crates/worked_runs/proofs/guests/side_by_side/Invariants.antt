@@ -3,8 +3,8 @@ use Rattle.std.specs.Prelude.{is_some}
 use Rattle.bare_machine.specs.Machine.{state_of, IsKept}
 use Rattle.host_cpl3.specs.Hosts.{held}
 use Rattle.shadow_cache.specs.Views as roots
-use Rattle.wedge_core.specs.Ready.{IsReady}
-use Rattle.wedge_core.specs.Standing.{IsHeld, IsAble, ground}
+use Rattle.wedge_step.specs.Ready.{IsReady}
+use Rattle.wedge_step.specs.Standing.{IsHeld, IsAble, ground}
 use Rattle.worked_runs.proofs.guests.side_by_side.Given as goal
 
 abbrev pub invariant-loop-step : goal.invariant-loop-step

@@ -2,8 +2,8 @@ use Rattle.std.proofs.Common.{ℕ, [], sym, subst, ap, arith}
 use Rattle.host_cpl3.specs.Hosts.{held}
 use Rattle.shadow_cache.specs.Views as roots
 use Rattle.machine_model.specs.State.{State}
-use Rattle.wedge_core.specs.Ready.{IsReady}
-use Rattle.wedge_core.specs.Standing.{IsHeld, ground}
+use Rattle.wedge_step.specs.Ready.{IsReady}
+use Rattle.wedge_step.specs.Standing.{IsHeld, ground}
 use Rattle.worked_runs.proofs.patched.memory_after.Goals as goal
 
 pub slice-requires-clause-held : goal.slice-requires-clause-held

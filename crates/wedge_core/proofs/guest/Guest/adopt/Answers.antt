@@ -2,10 +2,10 @@ use Rattle.std.proofs.Common.{ℕ, ◌*◌, List, [], take, sym, subst, ap, ◌�
 use Rattle.std.specs.FinMap.{empty}
 use Rattle.shadow_cache.specs.Views as roots
 use Rattle.machine_model.specs.State.{wedge}
-use Rattle.wedge_core.specs.Pools.{Keeps}
-use Rattle.wedge_core.specs.Filled.{IsFilled, pages_kept}
-use Rattle.wedge_core.specs.Ready.{IsReady}
-use Rattle.wedge_core.specs.Standing.{IsHeld, ground, state_of}
+use Rattle.wedge_step.specs.Pools.{Keeps}
+use Rattle.wedge_step.specs.Filled.{IsFilled, pages_kept}
+use Rattle.wedge_step.specs.Ready.{IsReady}
+use Rattle.wedge_step.specs.Standing.{IsHeld, ground, state_of}
 use Rattle.wedge_core.proofs.Guests.{none_kept}
 use Rattle.wedge_core.proofs.guest.Guest.adopt.Goals as goal
 

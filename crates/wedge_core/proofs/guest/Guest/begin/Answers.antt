@@ -3,13 +3,13 @@ use Rattle.std.specs.FinMap.{empty}
 use Rattle.frame_pool.specs.Held.{Moves}
 use Rattle.shadow_tables.specs.Entries.{entries_of}
 use Rattle.shadow_cache.specs.Views as roots
-use Rattle.wedge_core.specs.Filled.{pages_kept}
-use Rattle.wedge_core.specs.Pools.{Keeps}
-use Rattle.wedge_core.specs.Ready.{IsReady}
-use Rattle.wedge_core.specs.Standing.{IsHeld, ground, state_of}
+use Rattle.wedge_step.specs.Filled.{pages_kept}
+use Rattle.wedge_step.specs.Pools.{Keeps}
+use Rattle.wedge_step.specs.Ready.{IsReady}
+use Rattle.wedge_step.specs.Standing.{IsHeld, ground, state_of}
 use Rattle.wedge_core.specs.Starts.{IsAsNew}
-use Rattle.wedge_core.proofs.Keeping.{keeps_moves}
-use Rattle.wedge_core.proofs.Readying.{none_ready, none_pages}
+use Rattle.wedge_step.proofs.Keeping.{keeps_moves}
+use Rattle.wedge_step.proofs.Readying.{none_ready, none_pages}
 use Rattle.wedge_core.proofs.Renewed.{held_anew, state_anew}
 use Rattle.wedge_core.proofs.guest.Guest.begin.Goals as goal
 

@@ -1,12 +1,12 @@
 use Rattle.std.proofs.Common.{ℕ, List, false, sym, subst, ◌∙◌}
 use Rattle.frame_pool.specs.Pool.{base_of, count_of, SameOutside}
 use Rattle.frame_pool.specs.Held.{Moves}
-use Rattle.wedge_core.specs.Filled.{IsFilled, pages_kept}
-use Rattle.wedge_core.specs.Ready.{IsReady}
+use Rattle.wedge_step.specs.Filled.{IsFilled, pages_kept}
+use Rattle.wedge_step.specs.Ready.{IsReady}
 use Rattle.wedge_core.proofs.Guests.{none_kept, outside_of}
 use Rattle.shadow_cache.specs.Views as roots
-use Rattle.wedge_core.specs.Standing.{IsHeld, ground}
-use Rattle.wedge_core.proofs.Readying.{none_ready, none_pages}
+use Rattle.wedge_step.specs.Standing.{IsHeld, ground}
+use Rattle.wedge_step.proofs.Readying.{none_ready, none_pages}
 use Rattle.wedge_core.proofs.Released.{held_on}
 use Rattle.wedge_core.proofs.guest.Guest.release.Goals as goal
 

@@ -6,17 +6,17 @@ use Rattle.shadow_cache.specs.Views as roots
 use Rattle.shadow_cache.specs.declared.roots.Roots.{Roots}
 use Rattle.machine_model.specs.State.{State, wedge}
 use Rattle.native_steps.specs.Mirrors.{shown}
-use Rattle.wedge_core.specs.Carried.{IsCarried}
-use Rattle.wedge_core.specs.Filled.{FillsOn, pages_kept}
+use Rattle.wedge_step.specs.Carried.{IsCarried}
+use Rattle.wedge_step.specs.Filled.{FillsOn, pages_kept}
 use Rattle.wedge_core.specs.Noted.{NotesOn}
-use Rattle.wedge_core.specs.Pools.{Keeps}
+use Rattle.wedge_step.specs.Pools.{Keeps}
 use Rattle.wedge_core.specs.Promises.{with_patches}
-use Rattle.wedge_core.specs.Ready.{IsReady}
+use Rattle.wedge_step.specs.Ready.{IsReady}
 use Rattle.wedge_core.specs.Slices.{BeginsEmpty, Counts, SliceAs}
 use Rattle.run_trace.specs.Pauses.{IfReached}
-use Rattle.wedge_core.specs.Standing.{IsHeld, ground, state_of}
-use Rattle.wedge_core.specs.declared.running.Running.{Running}
-use Rattle.wedge_core.proofs.Keeping.{keeps_join}
+use Rattle.wedge_step.specs.Standing.{IsHeld, ground, state_of}
+use Rattle.wedge_step.specs.declared.running.Running.{Running}
+use Rattle.wedge_step.proofs.Keeping.{keeps_join}
 use Rattle.wedge_core.proofs.Owning.{owns_after}
 use Rattle.wedge_core.proofs.Guests.{still_filled, front_after}
 use Rattle.wedge_core.proofs.SliceStarts.{more_first, slice_begun, pauses_more, anew_carries}

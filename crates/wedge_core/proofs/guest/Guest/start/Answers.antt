@@ -1,8 +1,8 @@
 use Rattle.std.proofs.Common.{ℕ, List, IfOk, sym, subst}
 use Rattle.shadow_cache.specs.Views as roots
-use Rattle.wedge_core.specs.Filled.{IsFilled, pages_kept}
-use Rattle.wedge_core.specs.Ready.{IsReady}
-use Rattle.wedge_core.specs.Standing.{ground}
+use Rattle.wedge_step.specs.Filled.{IsFilled, pages_kept}
+use Rattle.wedge_step.specs.Ready.{IsReady}
+use Rattle.wedge_step.specs.Standing.{ground}
 use Rattle.wedge_core.proofs.Guests.{none_kept_ok}
 use Rattle.wedge_core.proofs.guest.Guest.start.Goals as goal
 

@@ -1,9 +1,0 @@
-use Rattle.std.proofs.Common.{arith}
-use Rattle.wedge_core.specs.Standing.{ground}
-use Rattle.wedge_core.proofs.Sights.{shown_long}
-use Rattle.wedge_core.proofs.sight.walk.Goals as goal
-
-pub walk-requires-clause-frames : goal.walk-requires-clause-frames
-walk-requires-clause-frames c =
-    let e = shown_long (ground c.args.image.now c.args.frames) c.args.ram.now c.requires.frames c.requires.laid in
-    omega (arith, e)

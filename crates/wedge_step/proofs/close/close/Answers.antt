@@ -1,0 +1,132 @@
+use Rattle.std.proofs.Common.{◌≡◌, ℕ, ◌≤◌, List, length, true, false, Option, sym, subst, ◌∙◌, arith}
+use Rattle.frame_pool.specs.Pool.{base_of, free_list}
+use Rattle.machine_model.specs.Run.{Set}
+use Rattle.shadow_tables.specs.Slots.{Slot}
+use Rattle.step_mem.specs.Changes.{changed}
+use Rattle.shadow_tables.specs.Entries.{entries_of}
+use Rattle.wedge_mem.specs.Owned.{first, owns}
+use Rattle.wedge_mem.specs.Settled.{pages_of}
+use Rattle.wedge_step.proofs.Closing.{settled_left, settled_shows, settled_whole, settled_few, settled_filled}
+use Rattle.wedge_step.proofs.Opening.{none_open}
+use Rattle.wedge_step.proofs.Memories.{front_same, shown_same}
+use Rattle.wedge_step.proofs.Readying.{none_ready, none_pages}
+use Rattle.wedge_step.proofs.Resettling.{Settled, closed_opens, closed_none, closed_filled, closed_ready}
+use Rattle.wedge_step.specs.Ready.{AllOpen}
+use Rattle.wedge_step.proofs.close.close.Given.{Over}
+use Rattle.wedge_step.proofs.Leaving.{tells_by}
+use Rattle.wedge_step.proofs.close.close.Goals as goal
+
+pub are_open-requires-clause-few : goal.are_open-requires-clause-few
+are_open-requires-clause-few g c = omega (arith, c.requires.sound.noted, c.requires.sound.counted, c.requires.sound.few)
+
+pub are_open-requires-clause-stands : goal.are_open-requires-clause-stands
+are_open-requires-clause-stands g c = first c.requires.sound.stands_now
+
+pub drop_all-requires-clause-stands : goal.drop_all-requires-clause-stands
+drop_all-requires-clause-stands g c = first c.requires.sound.stands_now
+
+pub drop_all-requires-clause-owns : goal.drop_all-requires-clause-owns
+drop_all-requires-clause-owns g c = owns c.requires.sound.stands_now
+
+pub returns-then-not-are_open-clause-left : goal.returns-then-not-are_open-clause-left
+returns-then-not-are_open-clause-left g c = c.drop_all.ensures.entries
+
+pub returns-then-not-are_open-clause-shows : goal.returns-then-not-are_open-clause-shows
+returns-then-not-are_open-clause-shows g c = λ image is h. none_open image _ _ c.drop_all.ensures.none
+
+pub returns-then-not-are_open-clause-whole : goal.returns-then-not-are_open-clause-whole
+returns-then-not-are_open-clause-whole g c = λ may.
+    let page = c.are_open.ensures.barred c.if-not-are_open.true in
+    absurd (let f : true ≡ false = sym (may.open_to page.0 page.1) ∙ page.2 in cc)
+
+-- what was kept, what is kept, the set that the step left, and its pages
+module _ (g : Over) (c : goal.After-settle g) where
+  abbrev old : ℕ → Option Slot
+  old = g.S.Shadows.slots c.args.shadows.now c.args.ram.now
+
+  abbrev new : ℕ → Option Slot
+  new = g.S.Shadows.slots c.settle.new.shadows c.settle.new.ram
+
+  abbrev set : Set
+  set = changed (entries_of (g.S.Shadows.slots c.args.shadows.now c.args.ram.now)) c.args.state.now.changes
+
+  abbrev pages : List ℕ
+  pages = pages_of c.args.state.now.visited c.args.state.now.changes
+
+  abbrev free : ℕ
+  free = length (free_list c.args.pool.now c.args.ram.now)
+
+pub returns-clause-left : goal.returns-clause-left
+returns-clause-left g c = settled_left (entries_of (new g c)) (set g c) c.settle.result c.settle.ensures.entries
+
+pub returns-clause-shows : goal.returns-clause-shows
+returns-clause-shows g c = λ image is h.
+    settled_shows (old g c) (new g c) (set g c) (pages g c) c.args.side c.args.state.now.control.wp (g.S.Shadows.tracked c.settle.new.shadows) image c.args.count c.settle.result c.settle.ensures.entries c.settle.ensures.kept
+    (λ page lt. g.met.S.Shadows.entry_at c.settle.new.shadows c.settle.new.ram page lt) (c.are_open.ensures.opened c.if-not-are_open.false) is h
+
+pub returns-clause-whole : goal.returns-clause-whole
+returns-clause-whole g c = λ may.
+    settled_whole (old g c) (new g c) (set g c) (pages g c) c.args.side c.args.state.now.control.wp (g.S.Shadows.tracked c.settle.new.shadows) c.args.count (free g c) c.args.state.now.wrote c.settle.result c.settle.ensures.count c.settle.ensures.entries c.settle.ensures.kept
+    c.settle.ensures.untracked may
+
+pub returns-clause-few : goal.returns-clause-few
+returns-clause-few g c = settled_few (set g c) c.args.state.now.visited c.args.state.now.changes (free g c) c.settle.result c.settle.ensures.count (omega (arith, c.requires.sound.noted, c.requires.sound.counted, c.requires.sound.few))
+
+-- what the end of the step makes of what is kept
+module _ (g : Over) (c : goal.After-settle g) where
+  settled : Settled g.S.Shadows.slots g.S.Shadows.noted g.S.Shadows.marked g.S.Shadows.value g.S.Shadows.asides c.args.shadows.now c.settle.new.shadows c.args.ram.now c.settle.new.ram (set g c) c.args.state.now.tables c.args.state.now.wrote c.settle.result
+  settled = record {
+    entries = c.settle.ensures.entries;
+    at = λ page lt. g.met.S.Shadows.entry_at c.settle.new.shadows c.settle.new.ram page lt;
+    noted_is = c.settle.ensures.noted;
+    marked_is = c.settle.ensures.marked;
+    value_is = c.settle.ensures.value;
+    asides_are = c.settle.ensures.asides;
+  }
+
+pub returns-clause-opens : goal.returns-clause-opens
+returns-clause-opens g c = λ image wp h.
+    closed_opens image wp c.settle.result c.args.state.now.tables c.args.state.now.wrote (g.S.Shadows.asides c.args.shadows.now c.args.ram.now) (g.S.Shadows.asides c.settle.new.shadows c.settle.new.ram) c.settle.ensures.asides h
+
+pub returns-clause-fewer : goal.returns-clause-fewer
+returns-clause-fewer g c = λ e.
+    closed_none g.S.Shadows.slots g.S.Shadows.noted g.S.Shadows.marked g.S.Shadows.value g.S.Shadows.asides c.args.shadows.now c.settle.new.shadows c.args.ram.now c.settle.new.ram (set g c) c.args.state.now.tables c.args.state.now.wrote c.settle.result (settled g c) e
+
+pub returns-clause-filled : goal.returns-clause-filled
+returns-clause-filled g c =
+    closed_filled c.settle.result c.args.state.now.tables c.args.state.now.wrote (entries_of (old g c)) (entries_of (new g c)) (g.S.Shadows.asides c.args.shadows.now c.args.ram.now) (g.S.Shadows.asides c.settle.new.shadows c.settle.new.ram) c.settle.ensures.asides
+    (settled_filled (entries_of (old g c)) (entries_of (new g c)) c.args.state.now.visited c.args.state.now.changes (free g c) c.settle.result c.settle.ensures.count c.settle.ensures.entries)
+
+pub returns-clause-ready : goal.returns-clause-ready
+returns-clause-ready g c = λ out m cpu frames h.
+    let below = c.requires.sound.below in
+    let low : m.frames ≤ base_of c.args.pool.now = omega (arith, below, frames) in
+    let front = front_same m.frames c.args.pool.now c.settle.new.pool c.args.ram.now c.settle.new.ram _ _ low (owns c.requires.sound.stands_now) c.settle.ensures.moves in
+    closed_ready g.S.Shadows.slots g.S.Shadows.noted g.S.Shadows.marked g.S.Shadows.value g.S.Shadows.asides out m cpu c.args.shadows.now c.settle.new.shadows c.args.ram.now c.settle.new.ram (set g c) c.args.state.now.tables c.args.state.now.wrote c.settle.result (settled g c)
+    (shown_same m c.args.ram.now c.settle.new.ram front) h
+
+pub returns-then-not-are_open-clause-opens : goal.returns-then-not-are_open-clause-opens
+returns-then-not-are_open-clause-opens g c = λ image wp h. subst (AllOpen image wp) (sym c.drop_all.ensures.asides) tt
+
+pub returns-then-not-are_open-clause-fewer : goal.returns-then-not-are_open-clause-fewer
+returns-then-not-are_open-clause-fewer g c = λ e.
+    none_pages g.S.Shadows.slots g.S.Shadows.noted g.S.Shadows.marked g.S.Shadows.value g.S.Shadows.asides c.drop_all.new.self c.drop_all.new.ram c.drop_all.ensures.entries c.drop_all.ensures.asides
+
+pub returns-then-not-are_open-clause-ready : goal.returns-then-not-are_open-clause-ready
+returns-then-not-are_open-clause-ready g c = λ out m cpu frames h.
+    none_ready g.S.Shadows.slots g.S.Shadows.noted g.S.Shadows.marked g.S.Shadows.value g.S.Shadows.asides out m cpu c.drop_all.new.self c.drop_all.new.ram (c.drop_all.ensures.value ∙ h.value_is) c.drop_all.ensures.none c.drop_all.ensures.asides
+
+pub returns-clause-told : goal.returns-clause-told
+returns-clause-told g c = λ e.
+    let s = c.settle.ensures in
+    tells_by (g.S.Shadows.noted c.args.shadows.now) (g.S.Shadows.noted c.settle.new.shadows) (g.S.Shadows.marked c.args.shadows.now) (g.S.Shadows.marked c.settle.new.shadows) (g.S.Shadows.asides c.args.shadows.now c.args.ram.now)
+    (g.S.Shadows.asides c.settle.new.shadows c.settle.new.ram) c.args.state.now.tables c.args.state.now.wrote c.settle.result s.noted_only s.marked s.asides e
+
+pub returns-clause-opened : goal.returns-clause-opened
+returns-clause-opened g c = λ indices all o. c.settle.ensures.opened indices all o
+
+pub returns-then-not-are_open-clause-told : goal.returns-then-not-are_open-clause-told
+returns-then-not-are_open-clause-told g c = λ e. absurd (let f : true ≡ false = e in cc)
+
+pub returns-then-not-are_open-clause-opened : goal.returns-then-not-are_open-clause-opened
+returns-then-not-are_open-clause-opened g c = λ indices all o. c.drop_all.ensures.opened indices o

@@ -1,0 +1,94 @@
+use Rattle.frame_pool.proofs.Held.{Owns-moves, Moves-refl}
+use Rattle.std.proofs.Common.{◌≡◌, ℕ, ◌/◌, false, None, inl, inr, sym, subst, ◌∙◌}
+use Rattle.std.proofs.lemmas.Bool.Decides.{eqb_tells}
+use Rattle.shadow_tables.proofs.Lists.{within-same}
+use Rattle.machine_step.specs.declared.worked.Dropped.{Dropped}
+use Rattle.machine_step.specs.declared.worked.Dropped.TheVariants as dropped
+use Rattle.wedge_step.specs.Ready.{AllOpen, IsReadyBut, leaving}
+use Rattle.wedge_step.proofs.Memories.{front_same, shown_same}
+use Rattle.wedge_step.proofs.Opening.{none_open, turned_open, lost_open}
+use Rattle.wedge_step.proofs.Parts.{part_join, part_same, dropped_part}
+use Rattle.wedge_step.proofs.Readying.{fewer_ready, none_pages}
+use Rattle.wedge_step.proofs.Returning.{fewer_pages}
+use Rattle.wedge_step.proofs.Shedding.{same_shed, open_shed}
+use Rattle.std.proofs.Common.{arith}
+use Rattle.wedge_step.proofs.Leaving.{stays_by, stays_same}
+use Rattle.wedge_step.proofs.close.drop_from.Goals as goal
+
+pub returns-in-Page-clause-owns : goal.returns-in-Page-clause-owns
+returns-in-Page-clause-owns g c = Owns-moves _ _ _ _ _ _ c.requires.owns (c.drop_page.ensures.moves c.args.pool.now c.requires.owns)
+
+pub returns-in-Page-clause-moves : goal.returns-in-Page-clause-moves
+returns-in-Page-clause-moves g c = c.drop_page.ensures.moves c.args.pool.now c.requires.owns
+
+pub returns-in-Page-clause-shows : goal.returns-in-Page-clause-shows
+returns-in-Page-clause-shows g c = λ image wp h. turned_open image wp _ _ c.in-Page.page c.drop_page.ensures.turns h
+
+pub returns-in-Dir-clause-owns : goal.returns-in-Dir-clause-owns
+returns-in-Dir-clause-owns g c = Owns-moves _ _ _ _ _ _ c.requires.owns (c.drop_dir.ensures.moves c.args.pool.now c.requires.owns)
+
+pub returns-in-Dir-clause-moves : goal.returns-in-Dir-clause-moves
+returns-in-Dir-clause-moves g c = c.drop_dir.ensures.moves c.args.pool.now c.requires.owns
+
+pub returns-in-Dir-clause-shows : goal.returns-in-Dir-clause-shows
+returns-in-Dir-clause-shows g c = λ image wp h. lost_open image wp _ _ c.in-Dir.index c.drop_dir.ensures.loses h
+
+pub returns-in-All-clause-shows : goal.returns-in-All-clause-shows
+returns-in-All-clause-shows g c = λ image wp h. none_open image wp _ c.drop_all.ensures.none
+
+pub returns-in-Nothing-clause-moves : goal.returns-in-Nothing-clause-moves
+returns-in-Nothing-clause-moves g c = Moves-refl _ _ _ c.requires.owns.stands
+
+pub returns-in-Page-clause-opens : goal.returns-in-Page-clause-opens
+returns-in-Page-clause-opens g c = λ image wp h. open_shed image wp _ _ (same_shed _ _ c.drop_page.ensures.asides) h
+
+pub returns-in-Page-clause-fewer : goal.returns-in-Page-clause-fewer
+returns-in-Page-clause-fewer g c = fewer_pages _ _ _ _ (part_join _ _ _ (part_same _ _ c.drop_page.ensures.entries) (dropped_part (dropped.Page c.in-Page.page) _)) (same_shed _ _ c.drop_page.ensures.asides)
+
+pub returns-in-Dir-clause-opens : goal.returns-in-Dir-clause-opens
+returns-in-Dir-clause-opens g c = λ image wp h. open_shed image wp _ _ (same_shed _ _ c.drop_dir.ensures.asides) h
+
+pub returns-in-Dir-clause-fewer : goal.returns-in-Dir-clause-fewer
+returns-in-Dir-clause-fewer g c = fewer_pages _ _ _ _ (part_join _ _ _ (part_same _ _ c.drop_dir.ensures.entries) (dropped_part (dropped.Dir c.in-Dir.index) _)) (same_shed _ _ c.drop_dir.ensures.asides)
+
+pub returns-in-Page-clause-ready : goal.returns-in-Page-clause-ready
+returns-in-Page-clause-ready g c = λ m cpu pages low all h.
+    let moves = c.drop_page.ensures.moves c.args.pool.now c.requires.owns in
+    let front = front_same m.frames c.args.pool.now c.args.pool.now c.args.ram.now c.drop_page.new.ram _ _ low c.requires.owns moves in
+    fewer_ready g.S.Shadows.slots g.S.Shadows.noted g.S.Shadows.marked g.S.Shadows.value g.S.Shadows.asides (leaving (dropped.Page c.in-Page.page) pages) (λ page. false) m cpu c.args.shadows.now c.drop_page.new.self c.args.ram.now c.drop_page.new.ram c.drop_page.ensures.value
+    (λ un. sym c.drop_page.ensures.marked ∙ un) (λ f n. c.drop_page.ensures.noted f ∙ n)
+    (λ page lt o. elim (eqb_tells page c.in-Page.page) [
+      | inl e ↦ inl (subst (λ (k : ℕ). g.S.Shadows.slots c.drop_page.new.self c.drop_page.new.ram k ≡ None) (sym e.1) c.drop_page.ensures.turns.there)
+      | inr n ↦ inr (n.0, within-same _ _ (c.drop_page.ensures.turns.others page lt n.1))
+    ])
+    (same_shed _ _ c.drop_page.ensures.asides) (shown_same m c.args.ram.now c.drop_page.new.ram front)
+    (subst (λ (d : Dropped). IsReadyBut g.S.Shadows.slots g.S.Shadows.noted g.S.Shadows.marked g.S.Shadows.value g.S.Shadows.asides (leaving d pages) m cpu c.args.shadows.now c.args.ram.now) c.in-Page.is h)
+
+pub returns-in-Dir-clause-ready : goal.returns-in-Dir-clause-ready
+returns-in-Dir-clause-ready g c = λ m cpu pages low all h.
+    let moves = c.drop_dir.ensures.moves c.args.pool.now c.requires.owns in
+    let front = front_same m.frames c.args.pool.now c.args.pool.now c.args.ram.now c.drop_dir.new.ram _ _ low c.requires.owns moves in
+    fewer_ready g.S.Shadows.slots g.S.Shadows.noted g.S.Shadows.marked g.S.Shadows.value g.S.Shadows.asides (leaving (dropped.Dir c.in-Dir.index) pages) (λ page. false) m cpu c.args.shadows.now c.drop_dir.new.self c.args.ram.now c.drop_dir.new.ram c.drop_dir.ensures.value
+    (λ un. sym c.drop_dir.ensures.marked ∙ un) (λ f n. c.drop_dir.ensures.noted f ∙ n)
+    (λ page lt o. elim (eqb_tells (page / 1024) c.in-Dir.index) [
+      | inl e ↦ inl (c.drop_dir.ensures.loses.gone page lt e.1)
+      | inr n ↦ inr (n.0, within-same _ _ (c.drop_dir.ensures.loses.others page lt n.1))
+    ])
+    (same_shed _ _ c.drop_dir.ensures.asides) (shown_same m c.args.ram.now c.drop_dir.new.ram front)
+    (subst (λ (d : Dropped). IsReadyBut g.S.Shadows.slots g.S.Shadows.noted g.S.Shadows.marked g.S.Shadows.value g.S.Shadows.asides (leaving d pages) m cpu c.args.shadows.now c.args.ram.now) c.in-Dir.is h)
+
+pub returns-in-All-clause-opens : goal.returns-in-All-clause-opens
+returns-in-All-clause-opens g c = λ image wp h. subst (AllOpen image wp) (sym c.drop_all.ensures.asides) tt
+
+pub returns-in-All-clause-fewer : goal.returns-in-All-clause-fewer
+returns-in-All-clause-fewer g c =
+    let none = none_pages g.S.Shadows.slots g.S.Shadows.noted g.S.Shadows.marked g.S.Shadows.value g.S.Shadows.asides c.drop_all.new.self c.drop_all.new.ram c.drop_all.ensures.entries c.drop_all.ensures.asides in omega (arith, none)
+
+pub returns-in-Nothing-clause-stay : goal.returns-in-Nothing-clause-stay
+returns-in-Nothing-clause-stay g c = λ all. stays_same _ _ _
+
+pub returns-in-Page-clause-stay : goal.returns-in-Page-clause-stay
+returns-in-Page-clause-stay g c = λ all. let e = c.drop_page.ensures in stays_by _ _ _ _ _ _ e.noted e.marked e.asides
+
+pub returns-in-Dir-clause-stay : goal.returns-in-Dir-clause-stay
+returns-in-Dir-clause-stay g c = λ all. let e = c.drop_dir.ensures in stays_by _ _ _ _ _ _ e.noted e.marked e.asides

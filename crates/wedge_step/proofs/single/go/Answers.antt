@@ -1,0 +1,80 @@
+use Rattle.std.proofs.Common.{◌≡◌, ℕ, ◌≤◌, Bool, List, length, ap, sym, subst, ◌∙◌, arith}
+use Rattle.descriptors.specs.Controls.{wp_of}
+use Rattle.frame_pool.specs.Pool.{base_of, free_list}
+use Rattle.frame_pool.proofs.Held.{Moves-trans}
+use Rattle.wedge_mem.specs.Settled.{pages_of}
+use Rattle.wedge_step.specs.Ready.{IsReadyBut, leaving}
+use Rattle.wedge_step.specs.Standing.{AreOpen}
+use Rattle.wedge_step.specs.declared.running.Running.{Running}
+use Rattle.wedge_step.proofs.Parts.{left_twice}
+use Rattle.wedge_step.proofs.Boards.{one_step}
+use Rattle.wedge_step.proofs.Filling.{fills_join, fills_fewer}
+use Rattle.shadow_tables.specs.Entries.{entries_of}
+use Rattle.step_mem.specs.Changes.{changed}
+use Rattle.wedge_step.specs.Parts.{left_of}
+use Rattle.wedge_step.proofs.Leaving.{ended}
+use Rattle.wedge_step.proofs.single.go.Goals as goal
+
+pub leave-left-requires-clause-enough : goal.leave-left-requires-clause-enough
+leave-left-requires-clause-enough g c = let e = c.requires.enough in let l = c.keep.ensures.moves.lengths in omega (arith, e, l)
+
+pub returns-clause-moves : goal.returns-clause-moves
+returns-clause-moves g c = Moves-trans _ _ _ _ _ _ _ _ _ c.keep.ensures.moves c.leave-left.ensures.moves
+
+pub returns-clause-left : goal.returns-clause-left
+returns-clause-left g c = λ back. left_twice c.args.worked.now.dropped _ _ _ _ _ c.keep.ensures.left (c.leave-left.ensures.left back)
+
+pub returns-clause-shows : goal.returns-clause-shows
+returns-clause-shows g c = λ image is h a.
+    let mid = c.keep.new.running in
+    let wp : wp_of mid.cpu ≡ c.args.state.now.control.wp = ap (λ (r : Running g.row.S.Denot). wp_of r.cpu) c.keep.ensures.same ∙ sym c.requires.rules in
+    c.leave-left.ensures.shows image (subst (λ (b : Bool). AreOpen image b (g.S.Shadows.slots mid.shadows c.keep.new.ram)) (sym wp) (c.keep.ensures.shows image is h))
+    (subst (λ (b : Bool). Rattle.wedge_step.specs.Ready.AllOpen image b (g.S.Shadows.asides mid.shadows c.keep.new.ram)) (sym wp) (c.keep.ensures.opens image _ a))
+
+pub returns-clause-board : goal.returns-clause-board
+returns-clause-board g c = c.advance.ensures ∙ (one_step _ ∙ ap (λ (r : _). Rattle.board.specs.Boards.board_step r.board) c.keep.ensures.same)
+
+pub returns-clause-filled : goal.returns-clause-filled
+returns-clause-filled g c = fills_join _ _ _ _ _ _ c.keep.ensures.filled (fills_fewer _ _ _ c.leave-left.ensures.fewer)
+
+pub returns-clause-ready : goal.returns-clause-ready
+returns-clause-ready g c = λ m frames is opened h.
+    let mid = c.keep.new.running in
+    let old = c.args.running.now in
+    let state = c.args.state.now in
+    let d = c.args.worked.now.dropped in
+    let pages = pages_of state.visited state.changes in
+    let cpu_is = ap (λ (r : Running g.row.S.Denot). r.cpu) c.keep.ensures.same in
+    let wp : wp_of mid.cpu ≡ state.control.wp = ap wp_of cpu_is ∙ sym c.requires.rules in
+    let below = c.requires.sound.below in
+    let same = c.keep.ensures.moves.same.0 in
+    let low : m.frames ≤ base_of c.keep.new.pool = omega (arith, below, same, frames) in
+    let opened_mid = subst (λ (b : Bool). AreOpen m.image b (g.S.Shadows.slots mid.shadows c.keep.new.ram)) (sym wp) (c.keep.ensures.shows m.image is opened) in
+    let ready = c.keep.ensures.ready (leaving d pages) m old.cpu frames h in
+    let pages_are : pages ≡ _ = sym c.pages_of-pages.ensures.all ∙ sym c.as_slice.ensures in
+    let ready_mid = subst (λ (l : List ℕ). IsReadyBut g.S.Shadows.slots g.S.Shadows.noted g.S.Shadows.marked g.S.Shadows.value g.S.Shadows.asides (leaving d l) m mid.cpu mid.shadows c.keep.new.ram) pages_are
+    (subst (λ (x : Rattle.descriptors.specs.declared.cpu.Cpu.Cpu). IsReadyBut g.S.Shadows.slots g.S.Shadows.noted g.S.Shadows.marked g.S.Shadows.value g.S.Shadows.asides (leaving d pages) m x mid.shadows c.keep.new.ram) (sym cpu_is) ready) in
+    c.leave-left.ensures.ready m low opened_mid ready_mid
+
+pub returns-clause-opened : goal.returns-clause-opened
+returns-clause-opened g c = λ indices all o. c.leave-left.ensures.opened indices (c.keep.ensures.opened indices all o)
+
+pub returns-clause-ends : goal.returns-clause-ends
+returns-clause-ends g c = λ w may indices all o room.
+    let k = c.keep.ensures in
+    let mid = c.keep.new.running in
+    let new = c.leave-left.new in
+    let old = c.args.running.now in
+    let state = c.args.state.now in
+    let pages = pages_of state.visited state.changes in
+    let slots = g.S.Shadows.slots in
+    let asides = g.S.Shadows.asides in
+    let set = changed (entries_of (slots old.shadows c.args.ram.now)) state.changes in
+    let unlost = (k.whole may).0 in
+    let pages_are : _ ≡ pages = c.as_slice.ensures ∙ c.pages_of-pages.ensures.all in
+    let enough : 2 ≤ length (free_list c.keep.new.pool c.keep.new.ram) = (let l = k.moves.lengths in let r = room mid.shadows c.keep.new.ram k.stands (k.opened indices all o) in omega (arith, l, r)) in
+    ended c.args.worked.now.dropped old.cpu mid.cpu c.args.worked.now.cpu (g.S.Shadows.value old.shadows) (g.S.Shadows.value mid.shadows) pages _ state.tables state.wrote set
+    (g.S.Shadows.noted old.shadows) (g.S.Shadows.noted mid.shadows) (g.S.Shadows.noted new.shadows) (g.S.Shadows.marked old.shadows) (g.S.Shadows.marked mid.shadows) (g.S.Shadows.marked new.shadows)
+    (slots mid.shadows c.keep.new.ram) (slots new.shadows new.ram) (asides old.shadows c.args.ram.now) (asides mid.shadows c.keep.new.ram) (asides new.shadows new.ram)
+    (ap (λ (r : Running g.row.S.Denot). r.cpu) k.same) k.value pages_are (k.left ∙ ap (λ (b : Bool). left_of b set) unlost) (k.told unlost)
+    c.leave-left.ensures.stay c.leave-left.ensures.lost (λ rules out. c.leave-left.ensures.loads rules out w enough)

@@ -1,0 +1,305 @@
+use Rattle.std.proofs.Common.{◌≡◌, ℕ, ◌*◌, ◌≤◌, Bool, true, List, [], length, refl, sym, ap, subst, ◌∙◌, arith}
+use Rattle.guest_ram.specs.Bytes.{AreBytes}
+use Rattle.wedge_step.proofs.Widening.{Widens}
+use Rattle.wedge_step.proofs.CarriedStep.{went_on}
+use Rattle.descriptors.specs.declared.cpu.Cpu.{Cpu}
+use Rattle.descriptors.specs.Controls.{wp_of}
+use Rattle.frame_pool.specs.Pool.{base_of}
+use Rattle.paging.specs.Space.{Mode, Wedge, Space}
+use Rattle.shadow_tables.specs.Entries.{entries_of}
+use Rattle.step_mem.specs.Changes.{AreWithin, changed}
+use Rattle.step_mem.specs.Shown as laying
+use Rattle.step_mem.specs.declared.guard.Guard.{Guard}
+use Rattle.step_mem.specs.declared.walking.Control.{Control}
+use Rattle.wedge_mem.specs.Owned.{first, owns}
+use Rattle.step_mem.specs.Sound.{space_at}
+use Rattle.machine_model.specs.State.{wedge, wedge_mode}
+use Rattle.native_steps.specs.Mirrors.{shown}
+use Rattle.wedge_step.specs.Standing.{AreOpen, state_of, ground}
+use Rattle.wedge_step.proofs.Alones.{alone_from, began}
+use Rattle.wedge_step.proofs.Opening.{same_open}
+use Rattle.wedge_step.proofs.Keeping.{keeps_above}
+use Rattle.wedge_step.proofs.Memories.{step_leaves, shown_is, front_same, shown_same}
+use Rattle.wedge_step.proofs.Filling.{fills_same, fills_join}
+use Rattle.board.specs.Scripts.{Events}
+use Rattle.image_check.specs.Image.{Image}
+use Rattle.shadow_tables.specs.Aside.{AreSame}
+use Rattle.step_mem.specs.declared.state.StepState as kept_state
+use Rattle.machine_model.specs.State.{Setting, State}
+use Rattle.machine_model.specs.Step.{stepped}
+use Rattle.machine_step.specs.Worked.{dropping, went_as}
+use Rattle.wedge_mem.specs.Settled.{pages_of}
+use Rattle.machine_model.specs.Run.{with_set}
+use Rattle.wedge_step.specs.Ready.{AllOpen, AreFound, IsReady, IsReadyBehind, leaving}
+use Rattle.wedge_step.specs.declared.running.Running.{Running}
+use Rattle.wedge_step.proofs.AfterTry.{After, after, few_after, held_then, keeps_then, any_script}
+use Rattle.wedge_step.proofs.Returning.{is_left, all_loosened, all_within, within_left}
+use Rattle.wedge_step.proofs.Shedding.{open_shed, same_shed, ready_open}
+use Rattle.wedge_step.proofs.Stays.{kept_same}
+use Rattle.wedge_step.proofs.StepReady.{Steps, went_ready}
+use Rattle.wedge_step.proofs.single.step_alone.Given.{Over}
+use Rattle.wedge_step.proofs.single.step_alone.Goals as goal
+
+pub returns-in-Err-clause-step : goal.returns-in-Err-clause-step
+returns-in-Err-clause-step g c = λ script.
+    let running = c.args.running.now in
+    let image = c.args.image.now in
+    let n = running.frames in
+    let ram0 = c.args.ram.now in
+    let ram1 = c.step_in-outcome.new.ram in
+    let state1 = c.step_in-outcome.new.state in
+    let o = c.original in
+    let held = c.requires.held in
+    let m = wedge image script n in
+    let b = state_of g.S.Shadows.stands g.S.Shadows.frames g.S.Shadows.slots m running ram0 in
+    let mode : Mode = Wedge o.result.first o.result.count (record { front = 0; front_len = 0; back = 0; back_len = 0 }) in
+    let mode_is : wedge_mode image ≡ mode = λ i. Wedge (sym o.ensures.first i) (sym o.ensures.count i) (record { front = 0; front_len = 0; back = 0; back_len = 0 }) in
+    let laid = shown_is m o.result.bytes.now o.result.first ram0 o.ensures.bytes o.ensures.first in
+    let start = began m b mode (space_at (λ r. entries_of (g.S.Shadows.slots running.shadows r)) ram0 c.begin-state.result) mode_is (laying.laid o.result.bytes.now o.result.first n ram0) laid c.begin-state.ensures.space in
+    let raw = rw c.in-Err.is at (c.step_in-outcome.ensures.step m b (record { has = refl; over = refl })) in
+    sym start ∙ raw
+
+pub returns-in-Err-clause-stands : goal.returns-in-Err-clause-stands
+returns-in-Err-clause-stands g c = first c.step_in-outcome.ensures.sound.stands_now
+
+pub returns-in-Err-clause-pool : goal.returns-in-Err-clause-pool
+returns-in-Err-clause-pool g c =
+    let running = c.args.running.now in
+    let image = c.args.image.now in
+    let n = running.frames in
+    let ram0 = c.args.ram.now in
+    let ram1 = c.step_in-outcome.new.ram in
+    let state1 = c.step_in-outcome.new.state in
+    let o = c.original in
+    let held = c.requires.held in
+    let frames1 : state1.control.frames ≡ n = ap (λ (k : Control). k.frames) c.step_in-outcome.ensures.control ∙ c.begin-state.ensures.frames in
+    let hid = subst (λ (x : Guard). laying.hidden x n ram1 ≡ laying.hidden x n ram0) c.begin-state.ensures.guard
+    (subst (λ (k : ℕ). laying.hidden c.begin-state.result.guard k ram1 ≡ laying.hidden c.begin-state.result.guard k ram0) c.begin-state.ensures.frames c.step_in-outcome.ensures.hidden) in
+    let fits1 : 4096 * n ≤ length ram1 = (let q = c.step_in-outcome.ensures.sound.frames_in in omega (arith, q, frames1)) in
+    let left = step_leaves image n o.result.first o.result.count ram0 ram1 held.wedge.room held.host.room fits1 o.ensures.first o.ensures.count hid in
+    let behind : 4096 * n ≤ 4096 * base_of c.args.pool.now = (let h = held.behind in omega (arith, h)) in
+    let samein = g.met.S.Shadows.above running.shadows c.args.pool.now ram0 ram1 (4096 * n) held.owns behind left.above left.size in
+    let frames_same = g.met.S.Shadows.same_frames running.shadows ram0 ram1 held.stand samein in
+    let fs = g.S.Shadows.frames running.shadows ram0 in
+    let gs = g.S.Shadows.frames running.shadows ram1 in
+    keeps_above c.args.pool.now ram0 ram1 (4096 * n) fs gs held.owns.stands behind left.above left.size frames_same
+
+pub returns-in-Err-clause-counted : goal.returns-in-Err-clause-counted
+returns-in-Err-clause-counted g c =
+    let running = c.args.running.now in
+    let image = c.args.image.now in
+    let n = running.frames in
+    let ram0 = c.args.ram.now in
+    let ram1 = c.step_in-outcome.new.ram in
+    let state1 = c.step_in-outcome.new.state in
+    let o = c.original in
+    let held = c.requires.held in
+    let frames1 : state1.control.frames ≡ n = ap (λ (k : Control). k.frames) c.step_in-outcome.ensures.control ∙ c.begin-state.ensures.frames in
+    let hid = subst (λ (x : Guard). laying.hidden x n ram1 ≡ laying.hidden x n ram0) c.begin-state.ensures.guard
+    (subst (λ (k : ℕ). laying.hidden c.begin-state.result.guard k ram1 ≡ laying.hidden c.begin-state.result.guard k ram0) c.begin-state.ensures.frames c.step_in-outcome.ensures.hidden) in
+    let fits1 : 4096 * n ≤ length ram1 = (let q = c.step_in-outcome.ensures.sound.frames_in in omega (arith, q, frames1)) in
+    let left = step_leaves image n o.result.first o.result.count ram0 ram1 held.wedge.room held.host.room fits1 o.ensures.first o.ensures.count hid in
+    let behind : 4096 * n ≤ 4096 * base_of c.args.pool.now = (let h = held.behind in omega (arith, h)) in
+    let samein = g.met.S.Shadows.above running.shadows c.args.pool.now ram0 ram1 (4096 * n) held.owns behind left.above left.size in
+    let frames_same = g.met.S.Shadows.same_frames running.shadows ram0 ram1 held.stand samein in
+    held.counted ∙ ap length (sym frames_same)
+
+-- the accesses that were done
+module _ (g : Over) (c : goal.After-worked-1 g) where
+  abbrev running : Running g.row.S.Denot
+  running = c.args.running.now
+
+  abbrev n : ℕ
+  n = running.frames
+
+  abbrev image : Image
+  image = c.args.image.now
+
+  abbrev ram0 : List ℕ
+  ram0 = c.args.ram.now
+
+  abbrev ram1 : List ℕ
+  ram1 = c.step_in-outcome.new.ram
+
+  abbrev state1 : kept_state.StepState
+  state1 = c.step_in-outcome.new.state
+
+  frames1 : state1.control.frames ≡ n
+  frames1 = ap (λ (k : Control). k.frames) c.step_in-outcome.ensures.control ∙ c.begin-state.ensures.frames
+
+  a : After g.S.Shadows.stands g.S.Shadows.frames g.S.Shadows.slots image n running.shadows c.args.pool.now ram0 ram1
+  a =
+      let o = c.original in
+      let hid = subst (λ (x : Guard). laying.hidden x n ram1 ≡ laying.hidden x n ram0) c.begin-state.ensures.guard
+      (subst (λ (k : ℕ). laying.hidden c.begin-state.result.guard k ram1 ≡ laying.hidden c.begin-state.result.guard k ram0) c.begin-state.ensures.frames c.step_in-outcome.ensures.hidden) in
+      let fits1 : 4096 * n ≤ length ram1 = (let q = c.step_in-outcome.ensures.sound.frames_in in omega (arith, q, frames1)) in
+      after g.S.Shadows.stands g.S.Shadows.frames g.S.Shadows.slots g.met.S.Shadows.above g.met.S.Shadows.same_frames g.met.S.Shadows.same_slots g.met.S.Shadows.same_entries image running c.args.pool.now ram0 ram1 o.result.first o.result.count c.requires.held fits1
+      o.ensures.first o.ensures.count hid
+
+  asides1 : AreSame (g.S.Shadows.asides running.shadows ram0) (g.S.Shadows.asides running.shadows ram1)
+  asides1 = g.met.S.Shadows.same_asides running.shadows ram0 ram1 c.requires.held.stand a.same
+
+  wp1 : state1.control.wp ≡ wp_of running.cpu
+  wp1 = ap (λ (k : Control). k.wp) c.step_in-outcome.ensures.control ∙ ap (λ (x : Space). x.wp) c.begin-state.ensures.space
+
+  open1 : AreOpen image state1.control.wp (g.S.Shadows.slots running.shadows ram1)
+  open1 = subst (λ (x : Bool). AreOpen image x (g.S.Shadows.slots running.shadows ram1)) (sym wp1) (same_open image (wp_of running.cpu) (g.S.Shadows.slots running.shadows ram0) (g.S.Shadows.slots running.shadows ram1) a.slots_same c.requires.held.open_to)
+
+  opens1 : AllOpen image state1.control.wp (g.S.Shadows.asides running.shadows ram1)
+  opens1 =
+      subst (λ (x : Bool). AllOpen image x (g.S.Shadows.asides running.shadows ram1)) (sym wp1)
+      (open_shed image (wp_of running.cpu) (g.S.Shadows.asides running.shadows ram0) (g.S.Shadows.asides running.shadows ram1) (same_shed _ _ asides1)
+      (ready_open (ground image n) running.cpu (shown (ground image n) ram0) (g.S.Shadows.asides running.shadows ram0) c.requires.ready.others))
+
+  module _ (script : Events) where
+    abbrev m : Setting
+    m = wedge image script n
+
+    abbrev b : State
+    b = state_of g.S.Shadows.stands g.S.Shadows.frames g.S.Shadows.slots m running ram0
+
+    abbrev s1 : Space
+    s1 = space_at (λ r. entries_of (g.S.Shadows.slots running.shadows r)) ram1 state1
+
+    went : stepped m b ≡ went_as b c.in-Ok.worked c.step_in-outcome.new.board s1
+    went =
+        let r = c.args.running.now in
+        let im = c.args.image.now in
+        let k = r.frames in
+        let old = c.args.ram.now in
+        let o = c.original in
+        let m1 = wedge im script k in
+        let b1 = state_of g.S.Shadows.stands g.S.Shadows.frames g.S.Shadows.slots m1 r old in
+        let mode : Mode = Wedge o.result.first o.result.count (record { front = 0; front_len = 0; back = 0; back_len = 0 }) in
+        let mode_is : wedge_mode im ≡ mode = λ i. Wedge (sym o.ensures.first i) (sym o.ensures.count i) (record { front = 0; front_len = 0; back = 0; back_len = 0 }) in
+        let laid = shown_is m1 o.result.bytes.now o.result.first old o.ensures.bytes o.ensures.first in
+        let start = began m1 b1 mode (space_at (λ x. entries_of (g.S.Shadows.slots r.shadows x)) old c.begin-state.result) mode_is (laying.laid o.result.bytes.now o.result.first k old) laid c.begin-state.ensures.space in
+        let raw = rw c.in-Ok.is at (c.step_in-outcome.ensures.step m1 b1 (record { has = refl; over = refl })) in
+        sym start ∙ raw
+
+    ram1_is : s1.ram ≡ shown m ram1
+    ram1_is =
+        let o = c.original in
+        let text1 = c.step_in-outcome.ensures.text ∙ ap (λ (x : Guard). x.text) c.begin-state.ensures.guard in
+        let here : laying.laid o.result.bytes.now o.result.first n ram1 ≡ s1.ram = λ i. laying.shown_by (sym text1 i).now (sym frames1 i) ram1 in
+        sym here ∙ shown_is m o.result.bytes.now o.result.first ram1 o.ensures.bytes o.ensures.first
+
+  behind1 : IsReadyBehind g.S.Shadows.slots g.S.Shadows.noted g.S.Shadows.marked g.S.Shadows.value g.S.Shadows.asides (leaving c.in-Ok.worked.dropped (pages_of state1.visited state1.changes)) (ground image n) running.cpu running.shadows ram1
+      (changed (entries_of (g.S.Shadows.slots running.shadows ram1)) state1.changes) state1.tables state1.wrote
+  behind1 =
+      let held = c.requires.held in
+      let k : Steps g.S.Shadows.slots g.S.Shadows.noted g.S.Shadows.marked g.S.Shadows.value g.S.Shadows.asides image n (b []) running.shadows ram0 ram1 = record {
+        wedge = held.wedge;
+        host = held.host;
+        small = held.size.1;
+        ram = refl;
+        set = refl;
+        at = λ page lt. g.met.S.Shadows.entry_at running.shadows ram0 page lt;
+        entries = a.entries_same;
+        same = asides1;
+      } in
+      went_ready g.S.Shadows.slots g.S.Shadows.noted g.S.Shadows.marked g.S.Shadows.value g.S.Shadows.asides image n (b []) running.shadows ram0 ram1 k c.requires.ready c.steps_follow.ensures c.in-Ok.worked c.step_in-outcome.new.board (s1 []) state1.changes (went []) (ram1_is []) refl
+
+pub go-requires-clause-counted : goal.go-requires-clause-counted
+go-requires-clause-counted g c = c.requires.held.counted ∙ ap length (sym (a g c).frames_same)
+
+pub go-requires-clause-few : goal.go-requires-clause-few
+go-requires-clause-few g c = few_after g.S.Shadows.stands g.S.Shadows.frames g.S.Shadows.slots (image g c) (running g c) c.args.pool.now (ram0 g c) (ram1 g c) c.requires.held (a g c)
+
+pub go-requires-clause-enough : goal.go-requires-clause-enough
+go-requires-clause-enough g c =
+    let free = ap length (a g c).free_same in
+    let same = ap length (a g c).frames_same in
+    let counted = c.requires.held.counted in
+    let enough = c.requires.enough in
+    omega (arith, free, same, counted, enough)
+
+pub go-requires-clause-rules : goal.go-requires-clause-rules
+go-requires-clause-rules g c = wp1 g c
+
+module _ (g : Over) (c : goal.After-go g) where
+  abbrev d : goal.After-worked-1 g
+  d = c.before
+
+  ready1 : IsReady g.S.Shadows.slots g.S.Shadows.noted g.S.Shadows.marked g.S.Shadows.value g.S.Shadows.asides (ground (image g d) (n g d)) c.go.new.running.cpu c.go.new.running.shadows c.go.new.ram
+      × (c.go.new.running.lost.back ≡ true → AreFound (ground (image g d) (n g d)) c.go.new.running.cpu (shown (ground (image g d) (n g d)) c.go.new.ram) c.go.new.running.cpu.cr3 (g.S.Shadows.noted c.go.new.running.shadows) (g.S.Shadows.slots c.go.new.running.shadows c.go.new.ram))
+  ready1 = c.go.ensures.ready (ground (image g d) (n g d)) (sym (frames1 g d)) c.text_frames-count.ensures (open1 g d) (behind1 g d)
+
+pub returns-in-Ok-clause-ready : goal.returns-in-Ok-clause-ready
+returns-in-Ok-clause-ready g c = (ready1 g c).0
+
+pub returns-in-Ok-clause-filled : goal.returns-in-Ok-clause-filled
+returns-in-Ok-clause-filled g c =
+    let d = c.before in
+    fills_join _ _ _ _ _ _ (fills_same _ _ (running g d).fills (kept_same g.S.Shadows.slots g.S.Shadows.asides (running g d).shadows (ram0 g d) (ram1 g d) (a g d).entries_same (asides1 g d))) c.go.ensures.filled
+
+pub returns-in-Ok-clause-pool : goal.returns-in-Ok-clause-pool
+returns-in-Ok-clause-pool g c =
+    let d = c.before in
+    keeps_then g.S.Shadows.stands g.S.Shadows.frames g.S.Shadows.slots (image g d) (running g d) c.go.new.running c.args.pool.now c.go.new.pool (ram0 g d) (ram1 g d) c.go.new.ram c.requires.held (a g d) c.go.ensures.moves
+
+pub returns-in-Ok-clause-step : goal.returns-in-Ok-clause-step
+returns-in-Ok-clause-step g c = λ script.
+    let d = c.before in
+    let m = wedge (image g d) script (n g d) in
+    let front = front_same (n g d) c.args.pool.now c.go.new.pool (ram1 g d) c.go.new.ram (g.S.Shadows.frames (running g d).shadows (ram1 g d)) (g.S.Shadows.frames c.go.new.running.shadows c.go.new.ram) c.requires.held.behind (owns c.step_in-outcome.ensures.sound.stands_now) c.go.ensures.moves in
+    let ram_is : shown m c.go.new.ram ≡ (s1 g d script).ram = shown_same m (ram1 g d) c.go.new.ram front ∙ sym (ram1_is g d script) in
+    let new = state_of g.S.Shadows.stands g.S.Shadows.frames g.S.Shadows.slots m c.go.new.running c.go.new.ram in
+    let whole = dropping c.in-Ok.worked.dropped (s1 g d script).set in
+    let left = is_left m new whole c.go.new.running.lost c.go.ensures.left
+    (λ back. all_loosened (ground (image g d) (n g d)) c.go.new.running.cpu (shown (ground (image g d) (n g d)) c.go.new.ram) c.go.new.running.cpu.cr3 (g.S.Shadows.noted c.go.new.running.shadows) (g.S.Shadows.slots c.go.new.running.shadows c.go.new.ram)
+    ((ready1 g c).1 back) m (with_set new whole) refl (any_script (image g d) script (n g d) c.go.new.ram) refl refl) in
+    alone_from m (b g d script) c.go.new.running.lost c.in-Ok.worked c.step_in-outcome.new.board (s1 g d script) new (went g d script) c.go.ensures.cpu ram_is c.go.ensures.board c.go.ensures.step left
+
+pub returns-in-Ok-clause-held : goal.returns-in-Ok-clause-held
+returns-in-Ok-clause-held g c =
+    let d = c.before in
+    let m = ground (image g d) (n g d) in
+    let whole1 = changed (entries_of (g.S.Shadows.slots (running g d).shadows (ram1 g d))) (state1 g d).changes in
+    let within1 = subst (λ (k : ℕ). AreWithin k whole1) (frames1 g d) c.step_in-outcome.ensures.sound.within in
+    let slots2 = g.S.Shadows.slots c.go.new.running.shadows c.go.new.ram in
+    let within2 = within_left (n g d) slots2 c.in-Ok.worked.dropped c.go.new.running.lost whole1 c.go.ensures.left within1
+    (λ back. all_within m c.go.new.running.cpu (shown m c.go.new.ram) c.go.new.running.cpu.cr3 (g.S.Shadows.noted c.go.new.running.shadows) slots2 ((ready1 g c).1 back)) in
+    let open2 = c.go.ensures.shows (image g d) c.text_frames-count.ensures (open1 g d) (opens1 g d) in
+    held_then g.S.Shadows.stands g.S.Shadows.frames g.S.Shadows.slots (image g d) (running g d) c.go.new.running c.args.pool.now c.go.new.pool (ram0 g d) (ram1 g d) c.go.new.ram c.requires.held (a g d) (owns c.step_in-outcome.ensures.sound.stands_now) c.go.ensures.moves
+    c.go.ensures.stands c.go.ensures.owns c.go.ensures.counted c.go.ensures.fills c.go.ensures.frames within2
+    (subst (λ (x : Cpu). AreOpen (image g d) (wp_of x) slots2) (sym c.go.ensures.cpu) open2)
+
+pub returns-in-Err-clause-filled : goal.returns-in-Err-clause-filled
+returns-in-Err-clause-filled g c =
+    let running = c.args.running.now in
+    let n = running.frames in
+    let ram0 = c.args.ram.now in
+    let ram1 = c.step_in-outcome.new.ram in
+    let state1 = c.step_in-outcome.new.state in
+    let o = c.original in
+    let held = c.requires.held in
+    let frames1 : state1.control.frames ≡ n = ap (λ (k : Control). k.frames) c.step_in-outcome.ensures.control ∙ c.begin-state.ensures.frames in
+    let hid = subst (λ (x : Guard). laying.hidden x n ram1 ≡ laying.hidden x n ram0) c.begin-state.ensures.guard
+    (subst (λ (k : ℕ). laying.hidden c.begin-state.result.guard k ram1 ≡ laying.hidden c.begin-state.result.guard k ram0) c.begin-state.ensures.frames c.step_in-outcome.ensures.hidden) in
+    let fits1 : 4096 * n ≤ length ram1 = (let q = c.step_in-outcome.ensures.sound.frames_in in omega (arith, q, frames1)) in
+    let left = step_leaves c.args.image.now n o.result.first o.result.count ram0 ram1 held.wedge.room held.host.room fits1 o.ensures.first o.ensures.count hid in
+    let behind : 4096 * n ≤ 4096 * base_of c.args.pool.now = (let h = held.behind in omega (arith, h)) in
+    let same = g.met.S.Shadows.above running.shadows c.args.pool.now ram0 ram1 (4096 * n) held.owns behind left.above left.size in
+    fills_same _ _ running.fills
+    (kept_same g.S.Shadows.slots g.S.Shadows.asides running.shadows ram0 ram1 (g.met.S.Shadows.same_entries running.shadows ram0 ram1 held.stand same) (g.met.S.Shadows.same_asides running.shadows ram0 ram1 held.stand same))
+
+-- what the run carries goes on
+pub returns-in-Ok-clause-carried : goal.returns-in-Ok-clause-carried
+returns-in-Ok-clause-carried g c = λ script steps t unwanted free roomy taken by carried.
+    let d = c.before in
+    let o = c.original in
+    let last = s1 g d script in
+    let begun = space_at (λ r. entries_of (g.S.Shadows.slots (running g d).shadows r)) (ram0 g d) c.begin-state.result in
+    let mode_is : wedge_mode (image g d) ≡ Wedge o.result.first o.result.count (record { front = 0; front_len = 0; back = 0; back_len = 0 }) = λ i. Wedge (sym o.ensures.first i) (sym o.ensures.count i) (record { front = 0; front_len = 0; back = 0; back_len = 0 }) in
+    let widens : Widens g.S.Shadows.stands g.S.Shadows.frames g.S.Shadows.asides g.S.Shadows.opened = record { same_asides = g.met.S.Shadows.same_asides; same_opened = g.met.S.Shadows.same_opened; wider = g.met.S.Shadows.wider; sized = g.met.S.Reloads.sized } in
+    let sound = c.step_in-outcome.ensures.sound in
+    let pages = sound.noted in
+    let most = sound.few in
+    let ram_is : last.ram ≡ shown (ground (image g d) (n g d)) (ram1 g d) = ram1_is g d script ∙ any_script (image g d) script (n g d) (ram1 g d) in
+    let long = c.are_bytes.ensures.length in
+    let same = ap length ram_is in
+    went_on g.S.Shadows.stands g.S.Shadows.frames g.S.Shadows.slots g.S.Shadows.noted g.S.Shadows.marked g.S.Shadows.value g.S.Shadows.asides g.S.Shadows.opened widens c.known_laws.ensures (image g d) script (running g d) c.args.pool.now (ram0 g d) (ram1 g d)
+    c.requires.held (a g d) steps t (entries_of (g.S.Shadows.slots (running g d).shadows (ram0 g d))) free roomy taken by (record { known = carried.known; opened_to = carried.opened_to }) last (state1 g d).changes refl sound.told c.go.new.running.shadows c.go.new.ram c.go.ensures.opened
+    c.in-Ok.worked c.step_in-outcome.new.board (went g d script) (rw c.in-Ok.is at c.step_in-outcome.ensures.roots) c.requires.ready (omega (arith, long, same)) (subst AreBytes (sym ram_is) c.are_bytes.ensures.bytes) begun c.text_frames-count.result (state1 g d).control.frames c.text_frames-count.ensures
+    (rw c.in-Ok.is at c.step_in-outcome.ensures.uses) (ap (λ (x : Space). x.visited) c.begin-state.ensures.space) (ap (λ (x : Space). x.mode) c.begin-state.ensures.space ∙ sym mode_is) sound.within (omega (arith, pages, most)) (c.go.ensures.ends unwanted)

@@ -1,0 +1,12 @@
+pub mod Opened
+pub mod Parts
+pub mod Pools
+pub mod Standing
+pub mod Clashing
+pub mod Closed
+pub mod Filled
+pub mod Ready
+pub mod Leaving
+pub mod Carried
+pub mod CarryLaws
+pub mod Alone

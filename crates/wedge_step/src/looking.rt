@@ -1,0 +1,277 @@
+//! What a fetch would read, found without doing its step: by what is kept, and by walks that set nothing. Where the
+//! monitor's rules stop the fetch, nothing is found.
+
+ghost use Rattle.std.specs.Prelude.{◌≡◌, ℕ, ◌+◌, ◌*◌, ◌/◌, ◌%◌, ◌≤◌, ◌<◌, ◌^◌, ◌==◌, ◌&&◌, ◌||◌, ◌++◌, length, true, not, Bool, List, IfSome, bit_or, if◌then◌else◌};
+ghost use Rattle.guest_ram.specs.Among.{is_among};
+ghost use Rattle.guest_ram.specs.Bytes.{byte, part};
+ghost use Rattle.shadow_tables.specs.Entries.{entries_of};
+ghost use Rattle.machine_model.specs.Run.{Set};
+ghost use Rattle.machine_model.specs.State.{wedge_mode};
+ghost use Rattle.paging.specs.Fresh.{has};
+ghost use Rattle.paging.specs.Uses.{is_barred, is_text as holds_text};
+ghost use Rattle.native_steps.specs.Looking.{is_front, is_stopped, marked, marks_front, next_seen, seen};
+ghost use Rattle.step_mem.specs.Changes.{AreWithin};
+ghost use Rattle.native_steps.specs.Mirrors.{shown};
+ghost use Rattle.wedge_step.specs.Standing.{ground};
+ghost use Rattle.wedge_step.specs.Clashing.{AreIn, looked, marks_of, map_seen, seen_of};
+
+use crate::opened::{is_given, is_text};
+use crate::sight::{are_bytes, byte, walk};
+use crate::single::text_frames;
+use arrayvec::ArrayVec;
+use descriptors::{Cpu, by_level};
+use guest_ram::Ram;
+use ia32_decode::front_len;
+use image_check::Checked;
+use native_steps::uses_are_seen;
+use paging::{Access, Walk, allows, grants};
+use shadow_tables::Shadows;
+
+/// The bytes that a fetch finds.
+pub type Bytes = ArrayVec<u8, 32>;
+
+/// The places of the two bytes in which a walk sets the accessed flag.
+#[derive(Clone, Copy)]
+pub struct Marks {
+    pub dir: u32,
+    pub word: u32,
+}
+
+/// Where a fetch finds its page, and what its walk would mark.
+#[derive(Clone, Copy)]
+pub struct Seen {
+    pub frame: u32,
+    pub marks: Option<Marks>,
+}
+
+/// Code may not be fetched from the frame, at this level.
+fn is_barred(image: &Checked, user: bool, page: u32, frame: u32) -> bool
+    ensures { result ≡ is_barred (wedge_mode image.now) true user page frame }
+{
+    let count = text_frames(image);
+    if user {
+        is_text(count, frame)
+    } else {
+        !is_given(count, page, frame)
+    }
+}
+
+/// One of the two words of a walk lies in a frame that holds text.
+fn reads_text(image: &Checked, dir_at: u32, word_at: u32) -> bool
+    ensures { result ≡ (holds_text (wedge_mode image.now) (dir_at / 4096) || holds_text (wedge_mode image.now) (word_at / 4096)) }
+{
+    let count = text_frames(image);
+    is_text(count, dir_at / 4096) || is_text(count, word_at / 4096)
+}
+
+/// The monitor's rules stop a fetch by such a walk.
+fn is_stopped(
+    image: &Checked,
+    access: Access,
+    page: u32,
+    frame: u32,
+    dir_at: u32,
+    word_at: u32,
+) -> bool
+    ensures { result ≡ is_stopped (wedge_mode image.now) access page frame dir_at word_at }
+{
+    is_barred(image, access.user, page, frame) || reads_text(image, dir_at, word_at)
+}
+
+/// Where a fetch of the page leads.
+pub fn fetched<S: Shadows>(
+    cpu: &Cpu,
+    shadows: &S,
+    ram: &Ram,
+    image: &Checked,
+    frames: u32,
+    page: u32,
+) -> Option<Seen>
+    requires frames { 4096 * frames ≤ length ram.now }
+    requires laid { 0x100000 + length image.now.text ≤ 4096 * frames }
+    requires stands { ∥ S.stands shadows.now ram.now ∥₁ }
+    requires kept { AreWithin frames (entries_of (S.slots shadows.now ram.now)) }
+    requires page { page < 2 ^ 20 }
+    ensures seen { map_seen result ≡ seen (ground image.now frames) (looked cpu.now (shown (ground image.now frames) ram.now) (entries_of (S.slots shadows.now ram.now))) page }
+    ensures marks { IfSome result (λ s. AreIn frames (marks_of s.marks)) }
+    ensures frame { IfSome result (λ s. s.frame < frames) }
+{
+    let access = by_level(cpu, false);
+    let wp = cpu.wp();
+    if let Some(entry) = shadows.kept(ram, page)
+        && allows(&entry, access, wp)
+    {
+        if is_barred(image, access.user, page, entry.frame) {
+            return None;
+        }
+        return Some(Seen {
+            frame: entry.frame,
+            marks: None,
+        });
+    }
+    match walk(ram, image, frames, cpu.cr3, cpu.pse(), page) {
+        Walk::Absent => None,
+        Walk::Beyond => None,
+        Walk::Reserved => None,
+        Walk::Found {
+            entry,
+            dir_at,
+            word_at,
+        } => {
+            if !grants(&entry, access, wp) {
+                return None;
+            }
+            if is_stopped(image, access, page, entry.frame, dir_at, word_at) {
+                return None;
+            }
+            let marks = Marks {
+                dir: dir_at,
+                word: word_at,
+            };
+            Some(Seen {
+                frame: entry.frame,
+                marks: Some(marks),
+            })
+        }
+    }
+}
+
+/// The place is one of these.
+fn is_marked(marks: Option<Marks>, place: u32) -> bool
+    ensures { result ≡ is_among place (marks_of marks) }
+{
+    match marks {
+        None => false,
+        Some(marks) => place == marks.dir || place == marks.word,
+    }
+}
+
+/// The byte with the accessed flag, where it is marked.
+fn flag(byte: u8, is: bool) -> u8
+    ensures { result ≡ (if is then bit_or byte 32 else byte) }
+{
+    if is { byte | 32 } else { byte }
+}
+
+/// The byte at a place, once walks have set their flags.
+fn byte_seen(
+    ram: &Ram,
+    image: &Checked,
+    frames: u32,
+    earlier: Option<Marks>,
+    marks: Option<Marks>,
+    place: u32,
+) -> u8
+    requires frames { 4096 * frames ≤ length ram.now }
+    requires laid { 0x100000 + length image.now.text ≤ 4096 * frames }
+    requires earlier { AreIn frames (marks_of earlier) }
+    requires marks { AreIn frames (marks_of marks) }
+    requires within { place < 4096 * frames }
+    ensures { result ≡ byte (marked (marked (shown (ground image.now frames) ram.now) (marks_of earlier)) (marks_of marks)) place }
+{
+    uses_are_seen();
+    are_bytes(ram, image, frames);
+    let first = flag(byte(ram, image, frames, place), is_marked(earlier, place));
+    flag(first, is_marked(marks, place))
+}
+
+/// Bytes of a page as a fetch reads them, whose walks have set their flags by then.
+pub fn read(
+    ram: &Ram,
+    image: &Checked,
+    frames: u32,
+    earlier: Option<Marks>,
+    seen: Seen,
+    at: u32,
+    len: u32,
+    into: &mut Bytes,
+)
+    requires frames { 4096 * frames ≤ length ram.now }
+    requires laid { 0x100000 + length image.now.text ≤ 4096 * frames }
+    requires earlier { AreIn frames (marks_of earlier) }
+    requires marks { AreIn frames (marks_of seen.marks) }
+    requires frame { seen.frame < frames }
+    requires one { at % 4096 + len ≤ 4096 }
+    requires few { len ≤ 11 }
+    requires room { length into.old.items ≤ 11 }
+    ensures { into.new.items ≡ into.old.items ++ part (marked (marked (shown (ground image.now frames) ram.now) (marks_of earlier)) (marks_of seen.marks)) (4096 * seen.frame + at % 4096) len }
+{
+    let _len = ram.len();
+    let start = seen.frame * 4096 + at % 4096;
+    for i in 0..len {
+        into.push(byte_seen(ram, image, frames, earlier, seen.marks, start + i));
+    }
+}
+
+/// The byte is one of those that the fetch reads in its first page, and its accessed flag is clear.
+fn marks_byte(cpu: &Cpu, ram: &Ram, image: &Checked, frames: u32, first: Seen, place: u32) -> bool
+    requires frames { 4096 * frames ≤ length ram.now }
+    requires laid { 0x100000 + length image.now.text ≤ 4096 * frames }
+    requires marks { AreIn frames (marks_of first.marks) }
+    requires frame { first.frame < frames }
+    requires within { place < 4096 * frames }
+    ensures { (set : Set) → result ≡ (is_front (looked cpu.now (shown (ground image.now frames) ram.now) set) (seen_of first) place && not (has (byte (marked (shown (ground image.now frames) ram.now) (marks_of first.marks)) place) 32)) }
+{
+    let _len = ram.len();
+    let start = first.frame * 4096 + cpu.regs.eip % 4096;
+    if place < start || place >= start + front_len(cpu.regs.eip) {
+        return false;
+    }
+    byte_seen(ram, image, frames, first.marks, None, place) / 32 % 2 != 1
+}
+
+/// The walk of the second page would mark a byte that was read of the first.
+fn marks_front(
+    cpu: &Cpu,
+    ram: &Ram,
+    image: &Checked,
+    frames: u32,
+    first: Seen,
+    marks: Option<Marks>,
+) -> bool
+    requires frames { 4096 * frames ≤ length ram.now }
+    requires laid { 0x100000 + length image.now.text ≤ 4096 * frames }
+    requires marks { AreIn frames (marks_of first.marks) }
+    requires frame { first.frame < frames }
+    requires places { AreIn frames (marks_of marks) }
+    ensures { (set : Set) → result ≡ marks_front (looked cpu.now (shown (ground image.now frames) ram.now) set) (seen_of first) (marks_of marks) }
+{
+    match marks {
+        None => false,
+        Some(marks) => {
+            marks_byte(cpu, ram, image, frames, first, marks.dir)
+                || marks_byte(cpu, ram, image, frames, first, marks.word)
+        }
+    }
+}
+
+/// Where the fetch of the next instruction leads in its second page.
+pub fn fetched_next<S: Shadows>(
+    cpu: &Cpu,
+    shadows: &S,
+    ram: &Ram,
+    image: &Checked,
+    frames: u32,
+    first: Seen,
+) -> Option<Seen>
+    requires frames { 4096 * frames ≤ length ram.now }
+    requires laid { 0x100000 + length image.now.text ≤ 4096 * frames }
+    requires stands { ∥ S.stands shadows.now ram.now ∥₁ }
+    requires kept { AreWithin frames (entries_of (S.slots shadows.now ram.now)) }
+    requires marks { AreIn frames (marks_of first.marks) }
+    requires frame { first.frame < frames }
+    requires page { cpu.now.regs.eip / 4096 < 1048575 }
+    ensures seen { map_seen result ≡ next_seen (ground image.now frames) (looked cpu.now (shown (ground image.now frames) ram.now) (entries_of (S.slots shadows.now ram.now))) (seen_of first) }
+    ensures marks { IfSome result (λ s. AreIn frames (marks_of s.marks)) }
+    ensures frame { IfSome result (λ s. s.frame < frames) }
+{
+    match fetched(cpu, shadows, ram, image, frames, cpu.regs.eip / 4096 + 1) {
+        None => None,
+        Some(second) => {
+            if marks_front(cpu, ram, image, frames, first, second.marks) {
+                return None;
+            }
+            Some(second)
+        }
+    }
+}
