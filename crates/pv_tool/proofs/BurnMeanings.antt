@@ -1,7 +1,6 @@
 -- The meaning of `burn`.
-use Rattle.std.proofs.Common.{◌≡◌, inl, inr, ℕ, Bool, List, Option, Some, Result, Ok, Err, sym, ap, subst, ◌∙◌, arith}
-use Rattle.std.specs.Prelude.{IfOk, IfErr}
-use Rattle.pv_io.specs.Files.{FileMap, Holds}
+use Rattle.std.proofs.Common.{◌≡◌, inl, inr, ℕ, List, Option, Some, Result, Ok, Err, sym, ap, subst, ◌∙◌, arith}
+use Rattle.pv_io.specs.Files.{FileMap}
 use Rattle.asm_lex.specs.declared.fault.SourceCause.{SourceCause}
 use Rattle.asm_source.specs.declared.tree.SourceItem.{SourceItem}
 use Rattle.asm_parse.specs.Source.{SourceAs}
@@ -9,25 +8,13 @@ use Rattle.asm_parse.proofs.Sources.{is_read}
 use Rattle.elf_form.specs.ObjectParts.{ObjectParts}
 use Rattle.elf_form.specs.ObjectLayout.{object_bytes}
 use Rattle.afterburner.specs.Burnt.{Fault, burnt}
+use Rattle.pv_build.specs.Sources.{IsNoSource, SaysSource, HasSource, HasNoSource, source_line}
+use Rattle.pv_build.specs.Objects.{burn_line, object_made_line}
 use Rattle.pv_tool.specs.Outcome.{Outcome, refused, stored_as}
-use Rattle.pv_tool.specs.Burning.{IsNoSource, SaysSource, HasSource, HasNoSource, HasBurnt, source_line, burn_line, object_made_line, written, burned, Burns}
-use Rattle.pv_tool.specs.declared.halt.Halt.{Halt}
-use Rattle.pv_tool.specs.Delivery.{HaltsAs, RefusesAs}
+use Rattle.pv_tool.specs.Burning.{HasBurnt, written, burned, Burns}
 use Rattle.pv_tool.proofs.SameFiles.{same_file}
-use Rattle.pv_tool.proofs.Deliveries.{refused_here, refuses_as}
 
 -- what the text of a file comes to
-
-pub held_source : (files : Option FileMap) (name text : List ℕ) (r : Result (List SourceItem) Halt) → Holds files name text → IfOk r (λ s. SourceAs text s) → IfOk r (λ s. HasSource files name s)
-held_source files name text (Ok s) holds is = (text, holds, is)
-held_source files name text (Err h) holds is = is
-
-pub held_no_source : (files : Option FileMap) (name text : List ℕ) (found : Type 0) (sure : Bool) (before now : ℕ) (r : Result (List SourceItem) Halt) → Holds files name text
-    → IfErr r (RefusesAs (λ line. (at : ℕ) × (cause : SourceCause) × IsNoSource text (at, cause) × (line ≡ source_line at cause)))
-    → IfErr r (HaltsAs (λ line. (at : ℕ) × (cause : SourceCause) × HasNoSource files name (at, cause) × (line ≡ source_line at cause)) found sure before now)
-held_no_source files name text found sure before now (Ok s) holds is = is
-held_no_source files name text found sure before now (Err h) holds is =
-    refused_here _ found sure before now h (refuses_as _ _ h (λ line told. (told.0, told.1, (text, holds, told.2), told.3)) is)
 
 pub no_source : (files : Option FileMap) (name object line : List ℕ) → (at : ℕ) × (cause : SourceCause) × HasNoSource files name (at, cause) × (line ≡ source_line at cause) → Burns files name object (refused line)
 no_source files name object line h = record { text = h.2.0; holds = h.2.1; said = Err (h.0, h.1); says = h.2.2; comes = ap refused h.3 }

@@ -1,28 +1,19 @@
 -- The meaning of `check`.
-use Rattle.std.proofs.Common.{◌≡◌, ℕ, List, Option, Result, Err, sym, ap, ◌∙◌}
+use Rattle.std.proofs.Common.{◌≡◌, ℕ, List, Option, sym, ap, ◌∙◌}
 use Rattle.pv_io.specs.Files.{FileMap}
-use Rattle.elf_form.specs.declared.cause.ElfFault.TheVariants as elf
-use Rattle.image_check.specs.declared.fault.CheckFault.{CheckFault}
-use Rattle.image_check.specs.declared.fault.CheckFault.TheVariants as faults
 use Rattle.image_check.specs.Image.{Image}
-use Rattle.image_check.specs.Refusals.{Refusal, Refuses, Fails}
+use Rattle.image_check.specs.Refusals.{Refusal}
+use Rattle.pv_build.specs.Lines.{image_line}
+use Rattle.pv_build.specs.Telling.{Says}
+use Rattle.pv_build.specs.Images.{HasImage, HasNoImage, accepted_line}
+use Rattle.pv_build.specs.declared.status.Status.{Status}
+use Rattle.pv_build.specs.declared.status.Status.TheVariants as status
 use Rattle.pv_tool.specs.Words.{Check}
-use Rattle.pv_tool.specs.Lines.{image_line}
 use Rattle.pv_tool.specs.Outside.{Outside}
 use Rattle.pv_tool.specs.Outcome.{refused, printed}
-use Rattle.pv_tool.specs.Delivery.{Says}
-use Rattle.pv_tool.specs.Checking.{HasImage, HasNoImage, Checks, checked, accepted_line}
+use Rattle.pv_tool.specs.Checking.{Checks, checked}
 use Rattle.pv_tool.specs.Meaning.{Means}
-use Rattle.pv_tool.specs.declared.status.Status.{Status}
-use Rattle.pv_tool.specs.declared.status.Status.TheVariants as status
 use Rattle.pv_tool.proofs.Deliveries.{says}
-
--- the refusal that a fault tells is that of the file
-pub refusal_is : (fault : CheckFault) (refusal : Refusal) (r : Result Image Refusal) → Fails fault r → Refuses fault refusal → r ≡ Err refusal
-refusal_is (faults.Elf (elf.At at cause)) refusal r fails refuses = fails ∙ ap (λ (x : Refusal). Err x) (sym refuses)
-refusal_is (faults.Elf elf.Memory) refusal r fails refuses = absurd fails
-refusal_is (faults.At at cause) refusal r fails refuses = fails ∙ ap (λ (x : Refusal). Err x) (sym refuses)
-refusal_is faults.Memory refusal r fails refuses = absurd refuses
 
 -- a file that is not accepted
 pub refuses_image : (files : Option FileMap) (name line : List ℕ) → (refusal : Refusal) × HasNoImage files name refusal × (line ≡ image_line refusal) → Checks files name (refused line)

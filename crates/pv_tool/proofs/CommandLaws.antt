@@ -26,19 +26,23 @@ use Rattle.image_load.specs.Boot.{need}
 use Rattle.board.specs.Texts.{script_of}
 use Rattle.run_trace.specs.declared.items.End.{End}
 use Rattle.run_trace.specs.declared.items.End.TheVariants.{Bound, Stopped}
+use Rattle.pv_build.specs.Telling.{Says, Whole, Cut, Ends, status_of}
+use Rattle.pv_build.specs.Objects.{HasObjects, object_made_line}
+use Rattle.pv_build.specs.Images.{HasImage, ImageReadsBack, accepted_line, image_made_line}
+use Rattle.pv_build.specs.Scripts.{HasScript, FindsRun}
+use Rattle.pv_build.specs.declared.halt.Halt.{Halt}
+use Rattle.pv_build.specs.declared.halt.Halt.TheVariants as halt
+use Rattle.pv_build.specs.declared.status.Status.{Status}
+use Rattle.pv_build.specs.declared.status.Status.TheVariants as status
 use Rattle.pv_tool.specs.Words.{Command, Burn, Link, Check, RunBare, RunWedge, Work}
 use Rattle.pv_tool.specs.Outside.{Outside}
-use Rattle.pv_tool.specs.Outcome.{Outcome, printed, stored_as, status_of}
-use Rattle.pv_tool.specs.Burning.{HasBurnt, object_made_line, written, burned}
-use Rattle.pv_tool.specs.Linking.{HasObjects, HoldObjects, ImageReadsBack, image_made_line, linked, Links, AllRead, NoObject}
-use Rattle.pv_tool.specs.Checking.{HasImage, accepted_line, Checks, checked}
-use Rattle.pv_tool.specs.Running.{HasScript, FindsRun, RunsOn, RunsBare, RunsPatched, Ran, Small, RunsScript, RunsImage, Runs}
+use Rattle.pv_tool.specs.Outcome.{Outcome, printed, stored_as}
+use Rattle.pv_tool.specs.Delivery.{Delivers, Stored, NotStored, NoMemory}
+use Rattle.pv_tool.specs.Burning.{HasBurnt, written, burned}
+use Rattle.pv_tool.specs.Linking.{HoldObjects, linked, Links, AllRead, NoObject}
+use Rattle.pv_tool.specs.Checking.{Checks, checked}
+use Rattle.pv_tool.specs.Running.{RunsOn, RunsBare, RunsPatched, Ran, Small, RunsScript, RunsImage, Runs}
 use Rattle.pv_tool.specs.Meaning.{Gives, Finds, saved, Keeps, Counts, NoLoadFault, NoStoreFault, NoFault, ComesTo, PrintsRun, Leaves, IsStored, NoStore, NoPut, Means}
-use Rattle.pv_tool.specs.Delivery.{Says, Whole, Cut, Ends, Delivers, Stored, NotStored, NoMemory}
-use Rattle.pv_tool.specs.declared.halt.Halt.{Halt}
-use Rattle.pv_tool.specs.declared.halt.Halt.TheVariants as halt
-use Rattle.pv_tool.specs.declared.status.Status.{Status}
-use Rattle.pv_tool.specs.declared.status.Status.TheVariants as status
 use Rattle.pv_tool.proofs.SameFiles.{same_file}
 use Rattle.pv_tool.proofs.BurnMeanings.{is_burnt, burns_once}
 use Rattle.pv_tool.proofs.LinkMeanings.{links_once, links_found}

@@ -1,5 +1,6 @@
 -- What `work` promises, where it is done.
-use Rattle.std.proofs.Common.{◌≡◌, ◌≢◌, ℕ, ◌≤◌, false, List, Option, Some, Result, Ok, Err, refl, sym, ap, subst, ◌∙◌, arith}
+use Rattle.std.proofs.Common.{◌≡◌, ◌≢◌, ℕ, zero, suc, ◌+◌, ◌≤◌, false, List, [], ◌∷◌, Option, Some, Result, Ok, Err, refl, sym, ap, subst, ◌∙◌, arith}
+use Rattle.std.specs.Prelude.{◌↔◌}
 use Rattle.pv_io.specs.Causes.{Rose}
 use Rattle.pv_io.specs.Sink.{Appends}
 use Rattle.kernel_gen.specs.Kernels.{kernel_text}
@@ -7,17 +8,35 @@ use Rattle.image_check.specs.Image.{Image}
 use Rattle.image_load.specs.Boot.{need}
 use Rattle.machine_model.specs.State.{boot}
 use Rattle.machine_model.specs.Agreement.{RunsAgree}
+use Rattle.pv_build.specs.Lines.{same_line, differ_line}
+use Rattle.pv_build.specs.Texts.{lines, DifferBehind, Compares, Same, Differ}
+use Rattle.pv_build.specs.Building.{Builds}
+use Rattle.pv_build.specs.declared.status.Status.{Status}
+use Rattle.pv_build.specs.declared.status.Status.TheVariants as status
 use Rattle.pv_tool.specs.Words.{Command, Work}
 use Rattle.pv_tool.specs.Outside.{Outside}
 use Rattle.pv_tool.specs.Outcome.{Outcome}
 use Rattle.pv_tool.specs.Running.{Ran, Small}
-use Rattle.pv_tool.specs.Working.{Builds, RunsTwice, WorksOn, Works, first_text, second_setting}
+use Rattle.pv_tool.specs.Working.{RunsTwice, WorksOn, Works, first_text, second_setting}
 use Rattle.pv_tool.specs.Comparison.{IsComparison, HasComparison}
 use Rattle.pv_tool.specs.Meaning.{Means, ComesTo, NoStore, NoPut, reads_files}
-use Rattle.pv_tool.specs.declared.status.Status.{Status}
-use Rattle.pv_tool.specs.declared.status.Status.TheVariants as status
-use Rattle.pv_tool.proofs.LineTexts.{same_exactly}
 use Rattle.pv_tool.proofs.WorkMeanings.{builds_once, works_none, works_once}
+
+no_difference : (xs : List (List ℕ)) (n : ℕ) → DifferBehind xs xs n → ⊥
+no_difference [] n h = h
+no_difference (x ∷ xs) zero h = h refl
+no_difference (x ∷ xs) (suc n) h = no_difference xs n h.1
+
+differ_is_not_same : (n : ℕ) → differ_line n ≡ same_line → ⊥
+differ_is_not_same n is = cc
+
+-- texts are told to be the same exactly where they are
+pub same_exactly : (first second told : List ℕ) → Compares first second told → (told ≡ same_line) ↔ (first ≡ second)
+same_exactly first second told (Same same is) = (λ line. same, λ again. is)
+same_exactly first second told (Differ n differ is) = (
+  λ line. absurd (differ_is_not_same (n + 1) (sym is ∙ line)),
+  λ same. absurd (no_difference (lines second) n (subst (λ (t : List ℕ). DifferBehind (lines t) (lines second) n) same differ)),
+)
 
 -- both lines of two runs were printed
 is_comparison : RunsAgree → (number : ℕ) (program : Image) (o : Outside) (st : Status) (w : Outcome) → RunsTwice number program w → ComesTo w o st → IsComparison number program o

@@ -12,15 +12,16 @@ use Rattle.run_trace.specs.Text.{text_of}
 use Rattle.machine_model.specs.State.{boot, wedge}
 use Rattle.machine_model.specs.Run.{trace_of}
 use Rattle.machine_model.specs.Agreement.{RunsAgree}
+use Rattle.pv_build.specs.Images.{HasImage}
+use Rattle.pv_build.specs.Scripts.{HasScript}
+use Rattle.pv_build.specs.declared.status.Status.{Status}
+use Rattle.pv_build.specs.declared.status.Status.TheVariants as status
 use Rattle.pv_tool.specs.Words.{RunWedge}
 use Rattle.pv_tool.specs.Outside.{Outside}
 use Rattle.pv_tool.specs.Outcome.{Outcome, HasEnded}
-use Rattle.pv_tool.specs.Checking.{HasImage}
-use Rattle.pv_tool.specs.Running.{HasScript, RunsPatched, Ran, Small, RunsScript, RunsImage, Runs}
+use Rattle.pv_tool.specs.Running.{RunsPatched, Ran, Small, RunsScript, RunsImage, Runs}
 use Rattle.pv_tool.specs.Meaning.{Means, NoFault, Prints, ComesTo}
 use Rattle.pv_tool.specs.Headline.{IsHeadline, HasHeadline}
-use Rattle.pv_tool.specs.declared.status.Status.{Status}
-use Rattle.pv_tool.specs.declared.status.Status.TheVariants as status
 use Rattle.pv_tool.proofs.CommandLaws.{came_to, runs_both, ran}
 
 -- a run of the patched image that was printed

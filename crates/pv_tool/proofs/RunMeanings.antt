@@ -21,20 +21,21 @@ use Rattle.machine_model.specs.Run.{trace_of}
 use Rattle.bare_machine.specs.Answers.{RunAnswers}
 use Rattle.wedge_core.specs.Slices.{Counts}
 use Rattle.wedge_core.specs.Promises.{WedgeAnswers}
+use Rattle.pv_build.specs.Lines.{small_line}
+use Rattle.pv_build.specs.Telling.{Says, Whole, Cut, status_of, ToldAs}
+use Rattle.pv_build.specs.Images.{HasImage}
+use Rattle.pv_build.specs.Scripts.{HasScript, NoRun, NoImage, NoScript, FindsRun}
+use Rattle.pv_build.specs.declared.status.Status.{Status}
+use Rattle.pv_build.specs.declared.status.Status.TheVariants as status
 use Rattle.pv_tool.specs.Words.{Command}
-use Rattle.pv_tool.specs.Lines.{small_line}
 use Rattle.pv_tool.specs.Outside.{Outside}
-use Rattle.pv_tool.specs.Outcome.{Outcome, HostedRun, refused, ended, ended_on_host, status_of}
-use Rattle.pv_tool.specs.Delivery.{Says, Whole, Cut}
-use Rattle.pv_tool.specs.Checking.{HasImage}
-use Rattle.pv_tool.specs.Running.{HasScript, NoRun, NoImage, NoScript, RunsBare, RunsPatched, RunsOn, Ran, Small, RunsScript, RunsImage, Runs, FindsRun, AnswersOn, ToldAs, RanAs}
+use Rattle.pv_tool.specs.Outcome.{Outcome, HostedRun, refused, ended, ended_on_host}
+use Rattle.pv_tool.specs.Running.{RunsBare, RunsPatched, RunsOn, Ran, Small, RunsScript, RunsImage, Runs, AnswersOn, RanAs}
 use Rattle.pv_tool.specs.Meaning.{Means, Gives, Finds, IsStored}
 use Rattle.pv_tool.specs.View.{run_command}
 use Rattle.pv_tool.specs.declared.words.RunWords.{RunWords}
 use Rattle.pv_tool.specs.declared.run.RunMode.{RunMode}
 use Rattle.pv_tool.specs.declared.run.RunMode.TheVariants as mode
-use Rattle.pv_tool.specs.declared.status.Status.{Status}
-use Rattle.pv_tool.specs.declared.status.Status.TheVariants as status
 use Rattle.pv_tool.proofs.Deliveries.{IsEnd, says, idle}
 
 -- ---- one run

@@ -10,10 +10,12 @@ use Rattle.machine_model.specs.Keeping.{Kept}
 use Rattle.machine_model.specs.Agreement.{bound_on_bare, end_on_bare}
 use Rattle.bare_machine.specs.Machine.{bare}
 use Rattle.wedge_core.specs.Promises.{Promise, HasFills}
-use Rattle.pv_tool.specs.Lines.{same_line}
+use Rattle.pv_build.specs.Lines.{same_line}
+use Rattle.pv_build.specs.Texts.{Compares}
+use Rattle.pv_build.specs.Building.{Builds}
+use Rattle.pv_build.specs.Comparing.{told_line}
 use Rattle.pv_tool.specs.Outside.{Outside}
-use Rattle.pv_tool.specs.Texts.{Compares}
-use Rattle.pv_tool.specs.Working.{Builds, first_text, second_setting, told_line}
+use Rattle.pv_tool.specs.Working.{first_text, second_setting}
 
 -- of an image that is made of this number
 pub record IsComparison (number : ℕ) (program : Image) (o : Outside) : Type 0 where

@@ -12,11 +12,11 @@ use Rattle.machine_model.specs.Keeping.{Kept}
 use Rattle.machine_model.specs.Agreement.{bound_on_bare, end_on_bare}
 use Rattle.bare_machine.specs.Machine.{bare}
 use Rattle.wedge_core.specs.Promises.{Promise}
+use Rattle.pv_build.specs.Telling.{status_of}
+use Rattle.pv_build.specs.Images.{HasImage}
+use Rattle.pv_build.specs.Scripts.{HasScript}
+use Rattle.pv_build.specs.declared.status.Status.{Status}
 use Rattle.pv_tool.specs.Outside.{Outside}
-use Rattle.pv_tool.specs.Outcome.{status_of}
-use Rattle.pv_tool.specs.Checking.{HasImage}
-use Rattle.pv_tool.specs.Running.{HasScript}
-use Rattle.pv_tool.specs.declared.status.Status.{Status}
 
 -- of this image, under these events
 pub record IsHeadline (program : Image) (events : Events) (frames n : ℕ) (o : Outside) (status : Status) : Type 0 where

@@ -14,13 +14,15 @@ use Rattle.image_check.specs.Image.{Image}
 use Rattle.board.specs.Scripts.{Events}
 use Rattle.run_trace.specs.declared.items.End.{End}
 use Rattle.bare_machine.specs.Answers.{HasRun}
-use Rattle.pv_tool.specs.Burning.{Burns, HasBurnt, ReadsBack}
-use Rattle.pv_tool.specs.Linking.{Links, HasLinked, FindsObjects}
+use Rattle.pv_build.specs.Objects.{ReadsBack, FindsObjects}
+use Rattle.pv_build.specs.Scripts.{FindsRun}
+use Rattle.pv_build.specs.declared.status.Status.{Status}
+use Rattle.pv_build.specs.declared.status.Status.TheVariants as status
+use Rattle.pv_tool.specs.Burning.{Burns, HasBurnt}
+use Rattle.pv_tool.specs.Linking.{Links, HasLinked}
 use Rattle.pv_tool.specs.Checking.{Checks}
-use Rattle.pv_tool.specs.Running.{Runs, RunsBare, RunsPatched, FindsRun, HostDid}
+use Rattle.pv_tool.specs.Running.{Runs, RunsBare, RunsPatched, HostDid}
 use Rattle.pv_tool.specs.Working.{Works}
-use Rattle.pv_tool.specs.declared.status.Status.{Status}
-use Rattle.pv_tool.specs.declared.status.Status.TheVariants as status
 
 -- what the work of a command may come to over these files
 abbrev pub Gives : Command → Option FileMap → Outcome → Type 0

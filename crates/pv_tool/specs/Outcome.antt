@@ -1,13 +1,13 @@
 -- What the work of a command comes to over the files that it reads.
 use Rattle.std.specs.Prelude.{ℕ, List, Option, Some, None}
 use Rattle.run_trace.specs.declared.items.End.{End}
-use Rattle.run_trace.specs.declared.items.End.TheVariants.{Bound, Stopped}
 use Rattle.run_trace.specs.Text.{text_of}
 use Rattle.machine_model.specs.State.{Setting, State}
 use Rattle.machine_model.specs.Step.{Report}
 use Rattle.machine_model.specs.Run.{Set, trace_of}
-use Rattle.pv_tool.specs.declared.status.Status.{Status}
-use Rattle.pv_tool.specs.declared.status.Status.TheVariants as status
+use Rattle.pv_build.specs.Telling.{status_of}
+use Rattle.pv_build.specs.declared.status.Status.{Status}
+use Rattle.pv_build.specs.declared.status.Status.TheVariants as status
 
 -- A run whose direct instructions are the host's: what it runs with, the translations that its steps went by, what they report,
 -- its last state, and its end.
@@ -35,11 +35,7 @@ printed line = record { status = status.Done; stored = None; text = line; hosted
 abbrev pub stored_as : List ℕ → List ℕ → List ℕ → Outcome
 stored_as name bytes line = record { status = status.Done; stored = Some (name, bytes); text = line; hosted = None }
 
--- a run is done, or a stop ends it
-abbrev pub status_of : End → Status
-status_of Bound = status.Done
-status_of (Stopped stop) = status.Stopped
-
+-- a run with this text
 abbrev pub ended : End → List ℕ → Outcome
 ended end text = record { status = status_of end; stored = None; text = text; hosted = None }
 

@@ -60,14 +60,6 @@ Untouched o =
     (o.taken_after ≡ o.taken) × (o.puts_after ≡ o.puts)
     × (o.loads_after ≡ o.loads) × (o.stores_after ≡ o.stores) × (o.files_after ≡ o.files) × (o.completed_after ≡ o.completed)
 
--- Files that were only read. Over sure files that hold what was read no count rose.
-pub record OnlyRead {F : Type 0} (f : disk.Ghosts F) (found : Type 0) (old new : F) : Type 0 where
-  pub held : f.held new ≡ f.held old
-  pub same_sure : f.sure new ≡ f.sure old
-  pub same_stores : f.store_faults new ≡ f.store_faults old
-  pub later : f.load_faults old ≤ f.load_faults new
-  pub no_fault : f.sure old ≡ true → found → f.load_faults new ≡ f.load_faults old
-
 -- Files that were not read. Over sure files no count rose.
 pub record NotRead {F : Type 0} (f : disk.Ghosts F) (old new : F) : Type 0 where
   pub same_sure : f.sure new ≡ f.sure old

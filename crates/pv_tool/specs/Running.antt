@@ -1,6 +1,6 @@
 -- The work of `run`: the image, then the script, then the run of both.
 use Rattle.std.specs.Prelude.{◌≡◌, ◌⊎◌, ℕ, ◌<◌, ◌≤◌, List, Option, Some, None, Result, Ok, Err}
-use Rattle.pv_io.specs.Files.{FileMap, Holds, IsHeld}
+use Rattle.pv_io.specs.Files.{FileMap, Holds}
 use Rattle.board.specs.Scripts.{Events}
 use Rattle.board.specs.Texts.{script_of}
 use Rattle.board.specs.declared.fault.ScriptCause.{ScriptCause}
@@ -9,7 +9,6 @@ use Rattle.image_check.specs.Refusals.{Refusal}
 use Rattle.image_check.specs.Checking.{image_of}
 use Rattle.image_load.specs.Boot.{need}
 use Rattle.image_load.specs.declared.fault.RunFault.{RunFault}
-use Rattle.image_load.specs.declared.fault.RunFault.TheVariants as fault
 use Rattle.run_trace.specs.declared.items.End.{End}
 use Rattle.run_trace.specs.declared.items.Ended.{Ended}
 use Rattle.machine_model.specs.State.{State, boot, wedge}
@@ -19,30 +18,13 @@ use Rattle.machine_model.specs.Keeping.{Kept}
 use Rattle.bare_machine.specs.Answers.{HasRun, RunAnswers}
 use Rattle.wedge_core.specs.Slices.{Counts, CountsOn}
 use Rattle.wedge_core.specs.Promises.{HasMemory, WedgeAnswers}
-use Rattle.pv_tool.specs.Lines.{image_line, script_line, small_line}
-use Rattle.pv_tool.specs.Outcome.{Outcome, HostedRun, refused, ended, ended_on_host, status_of}
-use Rattle.pv_tool.specs.Delivery.{Says}
-use Rattle.pv_tool.specs.Checking.{HasImage, HasNoImage}
+use Rattle.pv_build.specs.Lines.{image_line, script_line, small_line}
+use Rattle.pv_build.specs.Telling.{Says}
+use Rattle.pv_build.specs.declared.status.Status.{Status}
+use Rattle.pv_build.specs.declared.status.Status.TheVariants as status
+use Rattle.pv_tool.specs.Outcome.{Outcome, HostedRun, refused, ended, ended_on_host}
 use Rattle.pv_tool.specs.declared.run.RunMode.{RunMode}
 use Rattle.pv_tool.specs.declared.run.RunMode.TheVariants as mode
-use Rattle.pv_tool.specs.declared.status.Status.{Status}
-use Rattle.pv_tool.specs.declared.status.Status.TheVariants as status
-
-abbrev pub HasScript : Option FileMap → List ℕ → Events → Type 0
-HasScript files name script = (file : List ℕ) × Holds files name file × (script_of file ≡ Ok script)
-
-abbrev pub HasNoScript : Option FileMap → List ℕ → ℕ × ScriptCause → Type 0
-HasNoScript files name fault = (file : List ℕ) × Holds files name file × (script_of file ≡ Err fault)
-
--- Each name that is reached is held: the script is reached where the image is accepted.
-abbrev pub FindsRun : Option FileMap → List ℕ → List ℕ → Type 0
-FindsRun files image script = IsHeld files image × ((program : Image) → HasImage files image program → IsHeld files script)
-
--- why there is nothing to run: the file of the image, or of the script of an image that is accepted
-pub data NoRun (files : Option FileMap) (image script line : List ℕ) : Type 0 where
-  NoImage : (refusal : Refusal) → HasNoImage files image refusal → line ≡ image_line refusal → NoRun files image script line
-  NoScript : (program : Image) (at : ℕ) (cause : ScriptCause) → HasImage files image program → HasNoScript files script (at, cause)
-      → line ≡ script_line at cause → NoRun files image script line
 
 -- a run of the bare machine, with its text
 pub record RunsBare (frames n : ℕ) (image : Image) (events : Events) (w : Outcome) : Type 0 where
@@ -92,14 +74,6 @@ AnswersOn mode.Bare frames n image events old new before now completed completed
     RunAnswers image events frames n old new before now result × (completed2 ≡ completed)
 AnswersOn mode.Wedge frames n image events old new before now completed completed2 memory2 result =
     WedgeAnswers image events frames n 512 old new before now completed completed2 memory2 result
-
--- How a run's answer is told: its text was put before, or a refusal's line is, unless no memory is found for it.
-abbrev pub ToldAs : Result Ended RunFault → Option (List ℕ) → Option (List ℕ) → ℕ → ℕ → Status → Type 0
-ToldAs (Ok ended) old new before now result = (result ≡ status_of ended.end) × (new ≡ old) × (now ≡ before)
-ToldAs (Err fault.Write) old new before now result = (result ≡ status.WriteFault) × (new ≡ old) × (now ≡ before)
-ToldAs (Err (fault.TooSmall small)) old new before now result =
-    Says (small_line small.need small.have) status.Refused old new before now result ⊎ ((result ≡ status.Memory) × (new ≡ old))
-ToldAs (Err fault.Memory) old new before now result = (result ≡ status.Memory) × (new ≡ old)
 
 -- A run's text was put, or a refusal's line, and the host has done what is its part, unless no memory was found.
 abbrev pub RanAs : (Outcome → Type 0) → Option (List ℕ) → Option (List ℕ) → ℕ → ℕ → Counts → Counts → List ℕ → Status → Type 0

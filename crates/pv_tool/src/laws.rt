@@ -7,10 +7,11 @@ ghost use Rattle.elf_form.specs.ImageParts.{ImageParts};
 ghost use Rattle.elf_form.specs.ImageLayout.{image_bytes};
 ghost use Rattle.image_check.specs.Image.{Image};
 ghost use Rattle.image_check.specs.Checking.{image_from};
+ghost use Rattle.pv_build.specs.Objects.{HasObjects};
+ghost use Rattle.pv_build.specs.Images.{HasImage, ImageReadsBack};
 ghost use Rattle.pv_tool.specs.Words.{Command};
 ghost use Rattle.pv_tool.specs.Outcome.{Outcome};
-ghost use Rattle.pv_tool.specs.Linking.{HasObjects, HoldObjects, ImageReadsBack};
-ghost use Rattle.pv_tool.specs.Checking.{HasImage};
+ghost use Rattle.pv_tool.specs.Linking.{HoldObjects};
 ghost use Rattle.pv_tool.specs.Meaning.{Gives, Finds};
 
 /// Where the work of a command comes to something over the files, each file that it reaches is held. After a store the name

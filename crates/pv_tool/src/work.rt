@@ -1,31 +1,25 @@
 //! The command `work`.
 
-ghost use Rattle.std.specs.Prelude.{◌≡◌, ◌≤◌, ◌<◌, ◌^◌, ℕ, [], ◌++◌, IfOk, IfErr};
+ghost use Rattle.std.specs.Prelude.{◌≡◌, ◌≤◌, ◌<◌, ◌^◌, ℕ, [], IfOk, IfErr};
 ghost use Rattle.image_load.specs.Boot.{need};
 ghost use Rattle.image_load.specs.declared.boot.TooSmall.{TooSmall};
 ghost use Rattle.wedge_core.specs.Promises.{Promise, HasFills};
 ghost use Rattle.run_trace.specs.declared.items.End.{End};
-ghost use Rattle.pv_tool.specs.Lines.{small_line};
-ghost use Rattle.pv_tool.specs.Texts.{Compares};
+ghost use Rattle.pv_build.specs.Lines.{small_line};
+ghost use Rattle.pv_build.specs.Telling.{RefusesAs};
 ghost use Rattle.pv_tool.specs.Outside.{completed_by};
-ghost use Rattle.pv_tool.specs.Delivery.{RefusesAs, Says};
-ghost use Rattle.pv_tool.specs.Working.{first_text, second_setting, told_line, HasTexts, IsTooLarge, TellsBoth, WorkedAs};
+ghost use Rattle.pv_tool.specs.Working.{first_text, second_setting, HasTexts, IsTooLarge, WorkedAs};
 
-use crate::build::built;
-use crate::delivery::{end, refused};
-use crate::halt::{Halt, Line};
 use crate::keeping::Kept;
-use crate::lines::{Told, differ_line, same_line, small_line, work_line};
 use crate::patched::patched_run;
-use crate::status::Status;
-use crate::texts::{count_lines, difference};
 use bare_machine::run_fresh;
 use board::Script;
 use host_cpl3::Host;
 use image_check::Checked;
 use image_load::RunFault;
+use pv_build::{Halt, Status, Texts, built, end, refused, small_line, tell_both};
 use pv_io::Sink;
-use std::alloc::{AllocError, Global};
+use std::alloc::Global;
 
 /// How many frames of memory each run has.
 const FRAMES: u32 = 4096;
@@ -42,17 +36,9 @@ pub fn work<S: Sink, H: Host>(alloc: Global, number: u32, out: &mut S, host: &mu
         Err(halt) => end(&halt, out),
         Ok(image) => match both(alloc, &image, host) {
             Err(halt) => end(&halt, out),
-            Ok(texts) => tell(alloc, number, &image, &texts, out),
+            Ok(texts) => tell_both(alloc, number, &image, &texts, out),
         },
     }
-}
-
-/// What two runs have printed, and how many pages were filled in the second.
-#[derive(Drop)]
-struct Texts {
-    first: Vec<u8>,
-    second: Vec<u8>,
-    fills: u64,
 }
 
 // Runs an image on the bare machine with nothing cached, and then patched on a host, each under an empty script.
@@ -114,47 +100,5 @@ fn halt_of(alloc: Global, fault: RunFault) -> Halt
         RunFault::TooSmall(small) => refused(small_line(alloc, small)),
         RunFault::Write => Halt::Memory,
         RunFault::Memory => Halt::Memory,
-    }
-}
-
-// Puts both lines, once there is memory for them.
-fn tell<S: Sink>(alloc: Global, number: u32, image: &Checked, texts: &Texts, out: &mut S) -> Status
-    ensures { TellsBoth (told_line number image.now texts.now.second.items texts.now.fills) texts.now.first.items texts.now.second.items (S.taken out.old) (S.taken out.new) (S.faults out.old) (S.faults out.new) result }
-{
-    let told = Told {
-        number,
-        text: image.text().len(),
-        sites: image.sites().list.len(),
-        items: count_lines(&texts.second).saturating_sub(1),
-        fills: texts.fills,
-    };
-    match work_line(alloc, told) {
-        Err(_) => Status::Memory,
-        Ok(line) => match compared(alloc, &texts.first, &texts.second) {
-            Err(_) => Status::Memory,
-            Ok(compared) => put_both(&line, &compared, out),
-        },
-    }
-}
-
-// The second line.
-fn compared(alloc: Global, first: &[u8], second: &[u8]) -> Result<Line, AllocError>
-    ensures { IfOk result (λ line. Compares first.now second.now line) }
-{
-    match difference(first, second) {
-        None => same_line(alloc),
-        Some(line) => differ_line(alloc, line),
-    }
-}
-
-fn put_both<S: Sink>(first: &Line, second: &Line, out: &mut S) -> Status
-    ensures { Says (first.now ++ second.now) Status.Done (S.taken out.old) (S.taken out.new) (S.faults out.old) (S.faults out.new) result }
-{
-    match out.put(&first.bytes) {
-        Err(_) => Status::WriteFault,
-        Ok(()) => match out.put(&second.bytes) {
-            Err(_) => Status::WriteFault,
-            Ok(()) => Status::Done,
-        },
     }
 }

@@ -1,7 +1,7 @@
 use Rattle.std.proofs.Common.{ℕ, ap, ◌∙◌}
 use Rattle.std.proofs.lemmas.Result.{err_from_is_err_and}
-use Rattle.pv_tool.specs.Lines.{line_line}
-use Rattle.pv_tool.proofs.Deliveries.{halts_as, refused_here, refuses_as, line_is}
+use Rattle.pv_build.specs.Lines.{line_line}
+use Rattle.pv_build.proofs.Halts.{halts_as, refused_here, refuses_as, line_is}
 use Rattle.pv_tool.proofs.BurnMeanings.{no_source, not_burnt}
 use Rattle.pv_tool.proofs.burn.made.Goals as goal
 

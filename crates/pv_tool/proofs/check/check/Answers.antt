@@ -11,7 +11,7 @@ returns-in-Err-clause-meaning g c = λ completed memory.
 
 pub returns-clause-meaning : goal.returns-clause-meaning
 returns-clause-meaning g c = λ completed memory.
-    tells_image c.args.name.now c.in-Ok-line_of.line c.in-Ok.image _ c.print.result c.in-Ok.ensures.image c.in-Ok-line_of.ensures c.in-Ok.ensures.read.held refl c.print.ensures
+    tells_image c.args.name.now c.in-Ok-accepted_line.line c.in-Ok.image _ c.print.result c.in-Ok.ensures.image c.in-Ok-accepted_line.ensures c.in-Ok.ensures.read.held refl c.print.ensures
 
 pub returns-in-Err-clause-counts : goal.returns-in-Err-clause-counts
 returns-in-Err-clause-counts g c = λ completed memory. counts_read g.F.Files g.S.Sink (Check c.args.name.now) c.args.files.now c.accepted.new.files c.args.out.now c.end.new.out completed memory c.in-Err.ensures.read

@@ -1,6 +1,6 @@
 use Rattle.std.proofs.Common.{map, string_bytes}
 use Rattle.std.proofs.lemmas.Result.{err_from_is_err_and}
-use Rattle.pv_tool.proofs.Deliveries.{halts_as, refused_here, refuses_as, line_is}
+use Rattle.pv_build.proofs.Halts.{halts_as, refused_here, refuses_as, line_is}
 use Rattle.pv_tool.proofs.LinkMeanings.{no_object, not_linked}
 use Rattle.pv_tool.proofs.link.made.Goals as goal
 

@@ -1,9 +1,10 @@
 use Rattle.std.proofs.Common.{refl}
+use Rattle.pv_build.specs.Scripts.{FindsRun}
+use Rattle.pv_build.proofs.Readings.{read_for}
 use Rattle.pv_tool.specs.Meaning.{Finds}
 use Rattle.pv_tool.specs.Outcome.{refused}
-use Rattle.pv_tool.specs.Running.{FindsRun}
 use Rattle.pv_tool.specs.View.{run_command}
-use Rattle.pv_tool.proofs.Deliveries.{halts, counts_host, read_for}
+use Rattle.pv_tool.proofs.Deliveries.{halts, counts_host}
 use Rattle.pv_tool.proofs.RunMeanings.{runs_of, ran_on, ends_of, gives_run, finds_run, no_run, run_means}
 use Rattle.pv_tool.proofs.run.run.Goals as goal
 
@@ -20,20 +21,20 @@ pub returns-in-Ok-clause-meaning : goal.returns-in-Ok-clause-meaning
 returns-in-Ok-clause-meaning g c =
     let words = c.args.words in
     let found = c.in-Ok.found in
-    run_means (run_command c.args.mode words) (runs_of c.args.mode words.frames words.n) words.image.now words.script.now words.frames _ c.told.result
+    run_means (run_command c.args.mode words) (runs_of c.args.mode words.frames words.n) words.image.now words.script.now words.frames _ c.tell_run.result
     found.image found.script.list (ends_of c.args.mode words.frames words.n) (gives_run c.args.mode words (g.F.Files.held c.args.files.now)) c.in-Ok.ensures.image c.in-Ok.ensures.script c.in-Ok.ensures.read.held
-    (ran_on c.args.mode found.image found.script.list words.frames words.n _ _ _ _ _ _ c.run_found-ran.result _ _ _ c.told.result c.run_found-ran.ensures.answers c.told.ensures)
+    (ran_on c.args.mode found.image found.script.list words.frames words.n _ _ _ _ _ _ c.run_found-ran.result _ _ _ c.tell_run.result c.run_found-ran.ensures.answers c.tell_run.ensures)
 
 pub returns-in-Err-clause-counts : goal.returns-in-Err-clause-counts
 returns-in-Err-clause-counts g c =
     let words = c.args.words in
     let held = g.F.Files.held c.args.files.now in
-    counts_host g.F.Files g.S.Sink g.H.Host (run_command c.args.mode words) c.args.files.now c.found.new.files c.args.out.now c.end.new.out c.args.host.now c.args.host.now
-    (read_for g.F.Files (Finds (run_command c.args.mode words) held) (FindsRun held words.image.now words.script.now) c.args.files.now c.found.new.files c.in-Err.ensures.read (finds_run c.args.mode words held))
+    counts_host g.F.Files g.S.Sink g.H.Host (run_command c.args.mode words) c.args.files.now c.runnable_in_files.new.files c.args.out.now c.end.new.out c.args.host.now c.args.host.now
+    (read_for g.F.Files (Finds (run_command c.args.mode words) held) (FindsRun held words.image.now words.script.now) c.args.files.now c.runnable_in_files.new.files c.in-Err.ensures.read (finds_run c.args.mode words held))
 
 pub returns-in-Ok-clause-counts : goal.returns-in-Ok-clause-counts
 returns-in-Ok-clause-counts g c =
     let words = c.args.words in
     let held = g.F.Files.held c.args.files.now in
-    counts_host g.F.Files g.S.Sink g.H.Host (run_command c.args.mode words) c.args.files.now c.found.new.files c.args.out.now c.told.new.out c.args.host.now c.run_found-ran.new.host
-    (read_for g.F.Files (Finds (run_command c.args.mode words) held) (FindsRun held words.image.now words.script.now) c.args.files.now c.found.new.files c.in-Ok.ensures.read (finds_run c.args.mode words held))
+    counts_host g.F.Files g.S.Sink g.H.Host (run_command c.args.mode words) c.args.files.now c.runnable_in_files.new.files c.args.out.now c.tell_run.new.out c.args.host.now c.run_found-ran.new.host
+    (read_for g.F.Files (Finds (run_command c.args.mode words) held) (FindsRun held words.image.now words.script.now) c.args.files.now c.runnable_in_files.new.files c.in-Ok.ensures.read (finds_run c.args.mode words held))

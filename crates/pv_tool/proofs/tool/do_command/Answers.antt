@@ -1,7 +1,8 @@
 use Rattle.pv_tool.specs.Outside.{completed_by}
 use Rattle.std.proofs.Common.{refl}
 use Rattle.pv_tool.specs.Words.{Work}
-use Rattle.pv_tool.proofs.Deliveries.{counts_host, read_none}
+use Rattle.pv_build.proofs.Readings.{read_none}
+use Rattle.pv_tool.proofs.Deliveries.{counts_host}
 use Rattle.pv_tool.proofs.WorkMeanings.{work_means, work_no_read}
 use Rattle.pv_tool.proofs.tool.do_command.Goals as goal
 

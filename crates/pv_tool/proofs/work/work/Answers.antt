@@ -13,4 +13,4 @@ returns-in-Err-both g c =
 
 pub returns : goal.returns
 returns g c =
-    work_tells c.args.number _ c.in-Ok-both.texts.first.items c.in-Ok-both.texts.second.items c.in-Ok-both.texts.fills _ _ _ _ _ _ _ c.tell.result c.in-Ok.ensures.image c.in-Ok-both.ensures.texts c.tell.ensures
+    work_tells c.args.number _ c.in-Ok-both.texts.first.items c.in-Ok-both.texts.second.items c.in-Ok-both.texts.fills _ _ _ _ _ _ _ c.tell_both.result c.in-Ok.ensures.image c.in-Ok-both.ensures.texts c.tell_both.ensures

@@ -1,0 +1,7 @@
+pub mod Halts
+pub mod Readings
+mod Sources
+mod Objects
+mod Builds
+mod LineTexts
+mod WorkLines

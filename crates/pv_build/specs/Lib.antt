@@ -1,0 +1,12 @@
+pub mod Numbers
+pub mod NumberWords
+pub mod Lines
+pub mod Texts
+pub mod Readings
+pub mod Telling
+pub mod Sources
+pub mod Objects
+pub mod Images
+pub mod Scripts
+pub mod Building
+pub mod Comparing

@@ -1,0 +1,29 @@
+-- The source that a text is, or that a file holds.
+use Rattle.std.specs.Prelude.{◌≡◌, ◌⊎◌, ℕ, ◌≤◌, ◌<◌, List, Option, Result, Ok, Err, length}
+use Rattle.pv_io.specs.Files.{FileMap, Holds}
+use Rattle.asm_lex.specs.declared.fault.SourceCause.{SourceCause}
+use Rattle.asm_lex.specs.declared.fault.SourceCause.TheVariants as source
+use Rattle.asm_lex.specs.declared.lexing.TheConstants.{LIMIT}
+use Rattle.asm_lex.specs.Causes.{cause_number as source_number}
+use Rattle.asm_source.specs.declared.tree.SourceItem.{SourceItem}
+use Rattle.asm_parse.specs.Source.{SourceAs}
+use Rattle.asm_statement.specs.Running.{read}
+use Rattle.pv_build.specs.Lines.{line_line}
+
+-- a text that is no source: too long, or refused at a line as it is read
+abbrev pub IsNoSource : List ℕ → ℕ × SourceCause → Type 0
+IsNoSource text fault = ((LIMIT < length text) × (fault ≡ (1, source.TooLong))) ⊎ ((length text ≤ LIMIT) × (read text ≡ Err fault))
+
+-- the items of a text, or why it is no source
+abbrev pub SaysSource : List ℕ → Result (List SourceItem) (ℕ × SourceCause) → Type 0
+SaysSource text (Ok items) = SourceAs text items
+SaysSource text (Err fault) = IsNoSource text fault
+
+abbrev pub HasSource : Option FileMap → List ℕ → List SourceItem → Type 0
+HasSource files name items = (text : List ℕ) × Holds files name text × SourceAs text items
+
+abbrev pub HasNoSource : Option FileMap → List ℕ → ℕ × SourceCause → Type 0
+HasNoSource files name fault = (text : List ℕ) × Holds files name text × IsNoSource text fault
+
+abbrev pub source_line : ℕ → SourceCause → List ℕ
+source_line line cause = line_line (source_number cause) line

@@ -1,0 +1,29 @@
+//! What a command does without a machine: files are read, objects and images are built of what they hold, and lines are told.
+#![tactic(auto)]
+
+mod build;
+mod comparing;
+mod halt;
+mod image;
+mod lines;
+mod made;
+mod number_words;
+mod object;
+mod script;
+mod source;
+mod status;
+mod telling;
+mod texts;
+
+pub use build::built;
+pub use comparing::{Texts, tell_both};
+pub use halt::{Halt, Line};
+pub use image::{accepted, accepted_line, image_file};
+pub use lines::{line_line, link_line, small_line};
+pub use made::Made;
+pub use number_words::number;
+pub use object::{object_file, objects_in};
+pub use script::{Runnable, runnable_in_files};
+pub use source::source_in_file;
+pub use status::Status;
+pub use telling::{end, print, refused, tell_run};
